@@ -1,0 +1,3 @@
+pub mod ReadClusters
+pub mod Steps
+pub mod Values

@@ -1,0 +1,13 @@
+//! The cluster: its machines and groups, as one line of JSON describes them. What is read is tested against
+//! the limits, and never changes afterwards.
+#![tactic(auto)]
+
+mod cluster;
+mod fault;
+mod read;
+#[cfg(test)]
+mod tests;
+
+pub use cluster::{Cluster, Group, Machine};
+pub use fault::ClusterFault;
+pub use read::read_cluster;

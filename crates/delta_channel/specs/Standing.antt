@@ -1,0 +1,31 @@
+-- What a sender stands for: a history, which is the list of its ledgers from the one with no entry on.
+use Rattle.std.specs.Prelude.{◌≡◌, ℕ, ◌+◌, ◌-◌, ◌≤◌, List, length, min, Some, Result, Ok, slice_get}
+use Rattle.ledger_law.specs.declared.ledger.LedgerFault.{LedgerFault}
+
+-- its incarnation, its last index, its present ledger, and the changes that it keeps, the latest last
+pub record Sending (V D : Type 0) : Type 0 where
+  pub own : ℕ
+  pub last : ℕ
+  pub present : V
+  pub kept : List D
+
+-- the change takes the entry at an index to the entry behind it
+abbrev pub IsChangeAt : {V D : Type 0} → (V → D → Result V LedgerFault) → D → ℕ → List V → Type 0
+IsChangeAt {V} {D} patched change index history =
+    (old new : V) → slice_get history index ≡ Some old → slice_get history (index + 1) ≡ Some new → patched old change ≡ Ok new
+
+-- the index of the entry that the first kept change starts from
+abbrev pub first_kept : {V D : Type 0} → Sending V D → ℕ
+first_kept s = s.last - length s.kept
+
+-- enough changes are kept that whoever lacks at most 256 of them can be sent those
+abbrev pub KeepsEnough : {V D : Type 0} → Sending V D → Type 0
+KeepsEnough s = (min 256 s.last ≤ length s.kept) × (length s.kept ≤ s.last)
+
+-- the history begins with nothing and ends with the present ledger, and each kept change takes the entry before it to its own
+pub record StandsFor {V D : Type 0} (nothing : V) (patched : V → D → Result V LedgerFault) (s : Sending V D) (history : List V) : Type 0 where
+  pub first : slice_get history 0 ≡ Some nothing
+  pub long : length history ≡ s.last + 1
+  pub at_last : slice_get history s.last ≡ Some s.present
+  pub few : length s.kept ≤ s.last
+  pub leads : (i : ℕ) (change : D) → slice_get s.kept i ≡ Some change → IsChangeAt patched change (first_kept s + i) history

@@ -1,0 +1,266 @@
+ghost use Rattle.std.specs.Prelude.{◌≡◌, ◌+◌, ◌-◌, ◌<◌, ◌≤◌, ◌^◌, ◌↔◌, IsTrue, List, [], ◌∷◌, ◌++◌, length, map, Ok, IfOk, IfErr, OnOk, OnErr, is_ok, false, Some, slice_get, if◌then◌else◌};
+ghost use Rattle.std.specs.List.{AllByRecursion};
+ghost use Rattle.ledger_law.specs.Applying.{Applies, IsRefusal};
+ghost use Rattle.delta_channel.specs.Standing.{StandsFor, IsChangeAt};
+ghost use Rattle.delta_channel.specs.Hearing.{verdict_of, HasEntry};
+ghost use Rattle.full_sync.specs.Turns.{Brings, MarkDelta, mark_of, numbers_from, turn_of, acked_after};
+
+use delta_channel::{Place, Receiver, Sender, Stamp, Verdict};
+use ledger_law::{Ledger, LedgerFault, OutOfMemory};
+use std::alloc::Global;
+use std::marker::Model;
+
+/// One thing that a turn sends.
+#[derive(Drop)]
+pub enum Note<A: Ledger> {
+    /// The change that leads to this index.
+    Delta(u64, A::Delta),
+    /// The whole ledger of this index.
+    Full(u64, A),
+    /// How far what came the other way has come.
+    Ack(Place),
+}
+
+/// What a turn sends, in order.
+#[derive(Drop)]
+pub struct Notes<A: Ledger> {
+    notes: Vec<Note<A>>,
+}
+
+impl<A: Ledger> Model for Notes<A> {
+    ghost use Rattle.std.specs.Prelude.{List};
+    ghost use Rattle.full_sync.specs.declared.duplex.Note.{Note};
+
+    ghost Value = { List (Note A A.Delta) };
+
+    ghost view = { λ n. n.notes.items };
+}
+
+impl<A: Ledger> Notes<A> {
+    /// The notes, as a list of their own.
+    pub fn into_vec(self) -> Vec<Note<A>>
+        ensures { result.items ≡ self }
+    {
+        let Notes { notes } = self;
+        notes
+    }
+
+    /// The notes.
+    pub fn as_slice(&self) -> &[Note<A>]
+        ensures { result.now ≡ self.now }
+    {
+        &self.notes
+    }
+}
+
+/// Both directions between a party and a peer: sends a ledger `A` and receives a ledger `B`.
+#[derive(Drop)]
+pub struct Duplex<A: Ledger, B: Ledger> {
+    sender: Sender<A>,
+    receiver: Receiver<B>,
+    acked: u64,
+}
+
+impl<A: Ledger, B: Ledger> Model for Duplex<A, B> {
+    ghost use Rattle.std.specs.Prelude.{◌≤◌};
+    ghost use Rattle.full_sync.specs.Turns.{Both};
+
+    ghost Value = { Both A A.Delta B };
+
+    ghost view = { λ d. record { sent = d.sender; got = d.receiver; acked = d.acked } };
+
+    ghost invariant = { λ d. d.acked ≤ d.sender.last };
+}
+
+impl<A: Ledger, B: Ledger> Duplex<A, B> {
+    /// A party of incarnation `own` that has posted nothing and knows no peer.
+    pub fn start(alloc: Global, own: u64) -> Result<Duplex<A, B>, OutOfMemory>
+        ensures value { IfOk result (λ d. d ≡ record { sent = record { own = own; last = 0; present = A.nothing; kept = [] }; got = record { own = own; place = record { inc = 0; seq = 0 }; got = B.nothing }; acked = 0 }) }
+        ensures stands { IfOk result (λ d. StandsFor A.nothing A.patched d.sent (A.nothing ∷ [])) }
+    {
+        Ok(Duplex {
+            sender: Sender::start(alloc, own)?,
+            receiver: Receiver::start(alloc, own),
+            acked: 0,
+        })
+    }
+
+    /// Makes a change to the ledger that is sent. Answers the new last index; a fault leaves all as it was.
+    pub fn post(&mut self, alloc: Global, change: A::Delta) -> Result<u64, LedgerFault>
+        requires { self.old.sent.last < 2 ^ 62 }
+        ensures stands { OnOk result ((history : List A) → StandsFor A.nothing A.patched self.old.sent history → StandsFor A.nothing A.patched self.new.sent (history ++ self.new.sent.present ∷ [])) }
+        ensures patched { OnOk result (A.patched self.old.sent.present change ≡ Ok self.new.sent.present) }
+        ensures last { IfOk result (λ index. (index ≡ self.new.sent.last) × (self.new.sent.last ≡ self.old.sent.last + 1)) }
+        ensures own { self.new.sent.own ≡ self.old.sent.own }
+        ensures got { self.new.got ≡ self.old.got }
+        ensures acked { self.new.acked ≡ self.old.acked }
+        ensures fault { IfErr result (λ e. IsRefusal (A.patched self.old.sent.present change) e) }
+        ensures err { OnErr result (self.new ≡ self.old) }
+    {
+        self.sender.post(alloc, change)
+    }
+
+    /// Hears of an incarnation of the peer. A greater one than the known one is new: what came of the earlier
+    /// one is dropped, and nothing counts as acknowledged. Answers whether it is.
+    pub fn hear(&mut self, alloc: Global, from: u64) -> bool
+        ensures fresh { IsTrue result ↔ (self.old.got.place.inc < from) }
+        ensures after { self.new ≡ (if result then (record { sent = self.old.sent; got = record { own = self.old.got.own; place = record { inc = from; seq = 0 }; got = B.nothing }; acked = 0 }) else self.old) }
+    {
+        let fresh = self.receiver.hear(alloc, from);
+        if fresh {
+            self.acked = 0;
+        }
+        fresh
+    }
+
+    /// Hears the known peer acknowledge a place. It counts where it is one of this party's own incarnation,
+    /// above the acknowledged index and not above the last.
+    pub fn on_ack(&mut self, from: u64, place: Place)
+        requires { from ≡ self.old.got.place.inc }
+        ensures { self.new ≡ record { sent = self.old.sent; got = self.old.got; acked = acked_after self.old.sent.own self.old.sent.last self.old.acked place } }
+    {
+        let _peer = from;
+        if place.inc == self.sender.own() && self.acked < place.seq && place.seq <= self.sender.last() {
+            self.acked = place.seq;
+        }
+    }
+
+    /// What to make of a packet of a peer that was heard of.
+    pub fn verdict(&self, stamp: &Stamp) -> Verdict
+        requires from { stamp.now.from ≤ self.now.got.place.inc }
+        requires place { stamp.now.place.inc ≡ stamp.now.from }
+        ensures { result ≡ verdict_of self.now.got.own self.now.got.place stamp.now }
+    {
+        self.receiver.verdict(stamp)
+    }
+
+    /// Makes a change that is to be taken. A fault of the ledger leaves all as it was.
+    pub fn take_delta(
+        &mut self,
+        alloc: Global,
+        stamp: &Stamp,
+        change: &B::Delta,
+    ) -> Result<(), LedgerFault>
+        requires { verdict_of self.old.got.own self.old.got.place stamp.now ≡ Verdict.Take }
+        ensures applies { Applies (B.patched self.old.got.got change.now) self.old.got.got self.new.got.got result }
+        ensures place { self.new.got.place ≡ (if is_ok result then stamp.now.place else self.old.got.place) }
+        ensures own { self.new.got.own ≡ self.old.got.own }
+        ensures sent { self.new.sent ≡ self.old.sent }
+        ensures acked { self.new.acked ≡ self.old.acked }
+        ensures stands { OnOk result (stamp.now.full ≡ false → (history : List B) → HasEntry self.old.got history → IsChangeAt B.patched change.now self.old.got.place.seq history
+            → stamp.now.place.seq < length history → HasEntry self.new.got history) }
+    {
+        self.receiver.take_delta(alloc, stamp, change)
+    }
+
+    /// Takes a whole ledger that is to be taken.
+    pub fn take_full(&mut self, stamp: &Stamp, ledger: B)
+        requires { verdict_of self.old.got.own self.old.got.place stamp.now ≡ Verdict.Take }
+        ensures after { self.new ≡ record { sent = self.old.sent; got = record { own = self.old.got.own; place = stamp.now.place; got = ledger }; acked = self.old.acked } }
+        ensures stands { (history : List B) → slice_get history stamp.now.place.seq ≡ Some ledger → HasEntry self.new.got history }
+    {
+        self.receiver.take_full(stamp, ledger);
+    }
+
+    /// Forgets what the peer has acknowledged, so that the next turn sends the whole ledger.
+    pub fn resync(&mut self)
+        ensures { self.new ≡ record { sent = self.old.sent; got = self.old.got; acked = 0 } }
+    {
+        self.acked = 0;
+    }
+
+    /// What one turn sends: what the peer lacks, and then an acknowledgement. It changes nothing.
+    pub fn turn(&self, alloc: Global) -> Result<Notes<A>, OutOfMemory>
+        ensures marks { IfOk result (λ notes. map mark_of notes ≡ turn_of self.now.sent.last self.now.acked self.now.got.place) }
+        ensures brings { IfOk result (λ notes. (history : List A) → StandsFor A.nothing A.patched self.now.sent history → AllByRecursion (Brings A.patched history) notes) }
+    {
+        let mut notes = Vec::new(alloc);
+        let last = self.sender.last();
+        let place = self.receiver.place();
+        if place.inc == 0 || last == 0 || self.acked == last {
+        } else if self.acked == 0 || last - self.acked > 256 {
+            let copy = self.sender.ledger().copy(alloc)?;
+            push_note(&mut notes, Note::Full(last, copy))?;
+        } else {
+            let count = (last - self.acked).min(64);
+            push_changes(alloc, &self.sender, self.acked + 1, count, &mut notes)?;
+        }
+        push_note(&mut notes, Note::Ack(place))?;
+        Ok(Notes { notes })
+    }
+
+    /// The known incarnation of the peer, 0 where none is known.
+    pub fn peer(&self) -> u64
+        ensures { result ≡ self.now.got.place.inc }
+    {
+        self.receiver.place().inc
+    }
+
+    /// The last index that the peer has acknowledged.
+    pub fn acked(&self) -> u64
+        ensures acked { result ≡ self.now.acked }
+        ensures posted { self.now.acked ≤ self.now.sent.last }
+    {
+        self.acked
+    }
+
+    /// The last index of what is sent.
+    pub fn last(&self) -> u64
+        ensures { result ≡ self.now.sent.last }
+    {
+        self.sender.last()
+    }
+
+    /// The place in the peer's history.
+    pub fn place(&self) -> Place
+        ensures { result ≡ self.now.got.place }
+    {
+        self.receiver.place()
+    }
+
+    /// The ledger that is sent.
+    pub fn sent(&self) -> &A
+        ensures { result.now ≡ self.now.sent.present }
+    {
+        self.sender.ledger()
+    }
+
+    /// What came of the peer's ledger.
+    pub fn got(&self) -> &B
+        ensures { result.now ≡ self.now.got.got }
+    {
+        self.receiver.ledger()
+    }
+}
+
+fn push_note<A: Ledger>(notes: &mut Vec<Note<A>>, note: Note<A>) -> Result<(), OutOfMemory>
+    ensures { OnOk result (notes.new.items ≡ notes.old.items ++ note ∷ []) }
+{
+    match notes.push(note) {
+        Ok(()) => Ok(()),
+        Err(_) => Err(OutOfMemory),
+    }
+}
+
+// Copies of so many changes from the first index on, behind what is there.
+fn push_changes<A: Ledger>(
+    alloc: Global,
+    sender: &Sender<A>,
+    first: u64,
+    count: u64,
+    notes: &mut Vec<Note<A>>,
+) -> Result<(), OutOfMemory>
+    requires posted { 1 ≤ first }
+    requires last { first + count ≤ sender.now.last + 1 }
+    requires near { sender.now.last < first + 256 }
+    requires range { sender.now.last < 2 ^ 64 }
+    ensures marks { OnOk result (map mark_of notes.new.items ≡ map mark_of notes.old.items ++ map MarkDelta (numbers_from first count)) }
+    ensures brings { OnOk result ((history : List A) → StandsFor A.nothing A.patched sender.now history → AllByRecursion (Brings A.patched history) notes.old.items → AllByRecursion (Brings A.patched history) notes.new.items) }
+{
+    for offset in 0..count {
+        let index = first + offset;
+        let copy = A::copy_delta(alloc, sender.kept(index))?;
+        push_note(notes, Note::Delta(index, copy))?;
+    }
+    Ok(())
+}

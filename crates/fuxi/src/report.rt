@@ -1,0 +1,100 @@
+ghost use Rattle.std.specs.Prelude.{◌≡◌, ◌++◌, ◌+◌, ◌≤◌, OnOk, OnErr, List, ℕ, codes, decimal, map};
+ghost use Rattle.std.specs.List.{concat};
+ghost use Rattle.std.specs.Io.KnownBytes.{Appends};
+ghost use Rattle.fuxi_io.specs.Causes.{HasCause, TakesPart};
+ghost use Rattle.fuxi.specs.Reports.{fault_name, fault_value, limit_word, report_line, TakesReport};
+
+use fuxi_io::{InputFault, LimitOf, Sink, Status, WriteFault, write_all_of};
+use itoa::Buffer;
+
+// Writes pieces one after another.
+fn write_pieces<E: Sink>(err: &mut E, pieces: &[&[u8]]) -> Result<(), WriteFault>
+    ensures ok { OnOk result (Appends (E.took err.old) (E.took err.new) (concat (map (λ piece. piece.now) pieces.now))) }
+    ensures err { OnErr result (TakesPart (E.took err.old) (E.took err.new) (concat (map (λ piece. piece.now) pieces.now))) }
+    ensures cause { HasCause (E.faults err.old) (E.faults err.new) result }
+{
+    for piece in pieces {
+        match write_all_of(err, piece) {
+            Ok(()) => {}
+            Err(fault) => return Err(fault),
+        }
+    }
+    Ok(())
+}
+
+fn fault_name(fault: &InputFault) -> &'static str
+    ensures { result.now ≡ fault_name fault.now }
+{
+    match fault {
+        InputFault::BadLine => "BadLine",
+        InputFault::LineTooLong => "LineTooLong",
+        InputFault::NoCluster => "NoCluster",
+        InputFault::NotJson => "NotJson",
+        InputFault::WrongKind(_) => "WrongKind",
+        InputFault::UnknownKey => "UnknownKey",
+        InputFault::MissingKey(_) => "MissingKey",
+        InputFault::Count(_) => "Count",
+        InputFault::LengthDiffers => "LengthDiffers",
+        InputFault::QuantityRange => "QuantityRange",
+        InputFault::QuotaOverLimit(_) => "QuotaOverLimit",
+    }
+}
+
+// The value behind a fault's name, which may be written into the buffer.
+fn fault_value<'a>(fault: &InputFault, buffer: &'a mut Buffer) -> (&'static str, &'a str)
+    ensures { result.0.now ++ result.1.now ≡ fault_value fault.now }
+{
+    match fault {
+        InputFault::WrongKind(key) | InputFault::MissingKey(key) | InputFault::Count(key) => (" ", key.word()),
+        InputFault::QuotaOverLimit(group) => (" ", buffer.format(*group)),
+        _ => ("", ""),
+    }
+}
+
+/// Writes the line that tells of an outcome, in pieces; `Done` has none. It takes no memory.
+pub fn report<E: Sink>(err: &mut E, status: &Status) -> Result<(), WriteFault>
+    ensures ok { OnOk result (Appends (E.took err.old) (E.took err.new) (report_line status.now)) }
+    ensures err { OnErr result (TakesPart (E.took err.old) (E.took err.new) (report_line status.now)) }
+    ensures cause { HasCause (E.faults err.old) (E.faults err.new) result }
+{
+    match status {
+        Status::Done => Ok(()),
+        Status::Usage => write_all_of(err, b"usage: fuxi replay\n"),
+        Status::BadInput { line, fault } => {
+            let mut number = Buffer::new();
+            let mut buffer = Buffer::new();
+            let (blank, value) = fault_value(fault, &mut buffer);
+            write_pieces(
+                err,
+                &[
+                    b"line ",
+                    number.format(*line).as_bytes(),
+                    b": ",
+                    fault_name(fault).as_bytes(),
+                    blank.as_bytes(),
+                    value.as_bytes(),
+                    b"\n",
+                ],
+            )
+        }
+        Status::ReadFault => write_all_of(err, b"read fault\n"),
+        Status::WriteFault => write_all_of(err, b"write fault\n"),
+        Status::Limit { what, kept } => {
+            let word = match what {
+                LimitOf::Lines => "lines",
+            };
+            let mut number = Buffer::new();
+            write_pieces(
+                err,
+                &[
+                    b"limit ",
+                    word.as_bytes(),
+                    b" ",
+                    number.format(*kept).as_bytes(),
+                    b"\n",
+                ],
+            )
+        }
+        Status::OutOfMemory => write_all_of(err, b"out of memory\n"),
+    }
+}

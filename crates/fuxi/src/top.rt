@@ -1,0 +1,100 @@
+ghost use Rattle.std.specs.Prelude.{◌≡◌, ◌≢◌, ◌+◌, ◌≤◌, ◌⊎◌, ◌↔◌, ℕ, List, [], Option, Some, None, IfSome, true, false, map, string_bytes};
+ghost use Rattle.std.specs.List.{concat};
+ghost use Rattle.std.specs.Io.KnownBytes.{Appends};
+ghost use Rattle.fuxi_io.specs.Causes.{Rose};
+ghost use Rattle.fuxi_io.specs.Lines.{lines_of};
+ghost use Rattle.schedule_replay.specs.Channel.{new_channel};
+ghost use Rattle.schedule_replay.specs.Runs.{run_of, pieces, AtEnd, AtBadLine, AtLimit, WritesSome, WritesPart, Ended};
+ghost use Rattle.fuxi.specs.Words.{is_command};
+ghost use Rattle.fuxi.specs.Reports.{report_line, TakesReport};
+
+use crate::report::report;
+use fuxi_io::{InputFault, LimitOf, LineReader, Sink, Source, Status};
+use schedule_replay::run_first;
+use std::alloc::Global;
+
+fn is_command(words: &[String]) -> bool
+    ensures { result ≡ is_command (map string_bytes words.now) }
+{
+    match words {
+        [word] => word.as_str() == "replay",
+        _ => false,
+    }
+}
+
+// Runs the command of the words.
+fn run_command<S: Source, O: Sink>(
+    alloc: Global,
+    words: &[String],
+    input: &mut S,
+    out: &mut O,
+) -> Status
+    ensures usage { result ≡ Status.Usage ↔ (is_command (map string_bytes words.now) ≡ false) }
+    ensures unused { result ≡ Status.Usage → (out.new ≡ out.old) × (input.new ≡ input.old) }
+    ensures ended { result ≢ Status.Usage → IfSome (S.left input.old) (λ bytes. Ended (run_of bytes) result (O.took out.old) (O.took out.new)) }
+    ensures end { result ≡ Status.Done → IfSome (S.left input.old) (λ bytes. S.left input.new ≡ Some []) }
+    ensures read { result ≡ Status.ReadFault → Rose (S.faults input.old) (S.faults input.new) }
+    ensures write { result ≡ Status.WriteFault → Rose (O.faults out.old) (O.faults out.new) }
+    ensures limit { (what : LimitOf) (kept : ℕ) → result ≡ Status.Limit what kept → kept ≡ 1000000 }
+{
+    if !is_command(words) {
+        return Status::Usage;
+    }
+    match LineReader::new(alloc) {
+        Ok(mut lines) => run_first(alloc, &mut lines, input, out),
+        Err(_) => Status::OutOfMemory,
+    }
+}
+
+/// The program: runs the command of the words (those behind the program's name) over an input, an output
+/// and an error stream, and answers how it ended. The error stream takes the line that tells of it; a
+/// failure of that stream changes nothing else.
+///
+/// `replay` runs the lines of the input and writes the text of each event after it, and at the end of the
+/// input the state. What is said of the output holds of an input that tells its bytes.
+pub fn fuxi<S: Source, O: Sink, E: Sink>(
+    alloc: Global,
+    words: &[String],
+    input: &mut S,
+    out: &mut O,
+    err: &mut E,
+) -> Status
+    // The words are no command, and nothing was read or written.
+    ensures usage { result ≡ Status.Usage ↔ (is_command (map string_bytes words.now) ≡ false) }
+    ensures unused { result ≡ Status.Usage → (out.new ≡ out.old) × (input.new ≡ input.old) }
+
+    // The input was read to its end, and its whole text was written.
+    ensures done { result ≡ Status.Done → IfSome (S.left input.old) (λ bytes. (S.left input.new ≡ Some [])
+        × ((run_of bytes).ending ≡ AtEnd) × Appends (O.took out.old) (O.took out.new) (concat (pieces (run_of bytes)))) }
+
+    // This line is the first bad one, with this fault, and the outputs of the events before it were written.
+    ensures bad { (line : ℕ) (fault : InputFault) → result ≡ Status.BadInput line fault → IfSome (S.left input.old) (λ bytes.
+        ((run_of bytes).ending ≡ AtBadLine line fault) × Appends (O.took out.old) (O.took out.new) (concat (run_of bytes).outputs)) }
+
+    // A line begins after 1,000,000, and the outputs of all lines before it were written.
+    ensures limit { (what : LimitOf) (kept : ℕ) → result ≡ Status.Limit what kept → kept ≡ 1000000 }
+    ensures limited { (what : LimitOf) (kept : ℕ) → result ≡ Status.Limit what kept → IfSome (S.left input.old) (λ bytes.
+        ((run_of bytes).ending ≡ AtLimit) × Appends (O.took out.old) (O.took out.new) (concat (run_of bytes).outputs)) }
+
+    // The input failed in this call, and the outputs of the events taken, the first ones, were written.
+    ensures read { result ≡ Status.ReadFault → Rose (S.faults input.old) (S.faults input.new) }
+    ensures read_so_far { result ≡ Status.ReadFault → IfSome (S.left input.old) (λ bytes. WritesSome (run_of bytes).outputs (O.took out.old) (O.took out.new)) }
+
+    // The output failed in this call: all but the last of what was to be written is out whole, and of that a part.
+    ensures write { result ≡ Status.WriteFault → Rose (O.faults out.old) (O.faults out.new) }
+    ensures written_so_far { result ≡ Status.WriteFault → IfSome (S.left input.old) (λ bytes. WritesPart (pieces (run_of bytes)) (O.took out.old) (O.took out.new)) }
+
+    // The same where memory was refused, which has no other cause.
+    ensures memory { result ≡ Status.OutOfMemory → IfSome (S.left input.old) (λ bytes. WritesPart (pieces (run_of bytes)) (O.took out.old) (O.took out.new)) }
+
+    // The error stream took the line of the status, or, where it failed in this call, a part of it.
+    ensures report { TakesReport (report_line result) (E.took err.old) (E.took err.new) (E.faults err.old) (E.faults err.new) }
+
+    // A command over an input without a bad line, within the limits, with no fault of input or output, is done, but for want of memory.
+    ensures complete { is_command (map string_bytes words.now) ≡ true → (bytes : List ℕ) → S.left input.old ≡ Some bytes → (run_of bytes).ending ≡ AtEnd
+        → (Rose (S.faults input.old) (S.faults input.new) → ⊥) → (Rose (O.faults out.old) (O.faults out.new) → ⊥) → (result ≡ Status.Done) ⊎ (result ≡ Status.OutOfMemory) }
+{
+    let status = run_command(alloc, words, input, out);
+    let _told = report(err, &status);
+    status
+}

@@ -1,0 +1,17 @@
+use Rattle.std.proofs.Common.{◌≤◌, ◌<◌, ◌-◌, ◌≡◌, [], length, vec_capacity}
+use Rattle.std.specs.Io.KnownBytes.{prepend_known, Consumes, IsAtEnd}
+use Rattle.fuxi_io.specs.Pieces.{NoNewline}
+use Rattle.fuxi_io.proofs.lines.read_line.Given as goal
+
+abbrev pub invariant-loop-piece : goal.invariant-loop-piece
+invariant-loop-piece g l = record {
+  room : 65536 ≤ vec_capacity l.line;
+  plain : NoNewline l.line.items;
+  short : length l.line.items ≤ 65536;
+  read : Consumes (prepend_known l.fn.piece (g.S.Source.left l.fn.source)) (prepend_known l.piece (g.S.Source.left l.source)) l.line.items;
+  end : l.piece ≡ [] → IsAtEnd (g.S.Source.left l.source) × (0 < length l.line.items);
+  later : g.S.Source.faults l.fn.source ≤ g.S.Source.faults l.source;
+}
+
+abbrev pub decreases-loop-piece : goal.decreases-loop-piece
+decreases-loop-piece g l = 65537 - length l.line.items

@@ -1,0 +1,20 @@
+//! The outside of the scheduler: where bytes come from and go to, the lines of an input, and the outcomes
+//! with which a command ends.
+#![tactic(auto)]
+
+mod lines;
+mod memory;
+mod outside;
+mod piece;
+mod standard;
+mod status;
+
+pub use fuxi_terms::OutOfMemory;
+pub use lines::{Got, LineReader, LineStop};
+pub use memory::{MemSink, MemSource};
+pub use outside::{Failed, Sink, Source, WriteFault, write_all_of};
+pub use standard::{StdSink, StdSource};
+pub use status::{ClusterKey, InputFault, LimitOf, Status};
+
+#[cfg(test)]
+mod tests;

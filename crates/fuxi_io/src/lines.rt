@@ -1,0 +1,178 @@
+ghost use Rattle.std.specs.Prelude.{◌≡◌, ◌≢◌, ℕ, ◌+◌, ◌<◌, ◌≤◌, ◌⊎◌, ◌↔◌, List, [], ◌∷◌, ◌++◌, length, IfOk, IfErr, OnOk, OnErr, IsTrue, Option, Some, None, vec_capacity};
+ghost use Rattle.std.specs.Io.KnownBytes.{prepend_known};
+ghost use Rattle.fuxi_io.specs.Causes.{Rose};
+ghost use Rattle.fuxi_io.specs.Lines.{GivesKnown, FirstTooLongKnown, MoreKnown};
+ghost use Rattle.fuxi_io.specs.Reading.{number_after, rest_of, stop_of};
+
+use crate::outside::Source;
+use crate::piece::{LINE_BYTES, Piece};
+use fuxi_terms::OutOfMemory;
+use std::alloc::Global;
+use std::marker::Model;
+
+// How many lines are given.
+const LINES: u64 = 1000000;
+
+/// What `next` gave.
+#[derive(Clone, Copy, Debug, Drop, PartialEq, Eq)]
+pub enum Got {
+    /// A line; `line` has its bytes.
+    Line,
+    /// The input is at its end.
+    End,
+}
+
+/// Why no line came.
+#[derive(Clone, Copy, Debug, Drop, PartialEq, Eq)]
+pub enum LineStop {
+    /// The source failed.
+    ReadFault,
+    /// More than 65,536 bytes stand before the next newline or the end.
+    LineTooLong,
+    /// A line begins after 1,000,000 lines.
+    TooManyLines,
+}
+
+/// Reads a source line by line. It keeps what it has read behind the line, so all calls of `next` are to
+/// be given the same source. After an error it answers that error from then on and reads no more.
+#[derive(Drop)]
+pub struct LineReader {
+    piece: Piece,
+    line: Vec<u8>,
+    number: u64,
+    stop: Option<LineStop>,
+}
+
+impl Model for LineReader {
+    ghost use Rattle.std.specs.Prelude.{◌≤◌, vec_capacity};
+    ghost use Rattle.fuxi_io.specs.Reading.{Reading};
+
+    ghost Value = { Reading };
+
+    ghost view = { λ r. record { pending = r.piece; line = r.line.items; number = r.number; stop = r.stop } };
+
+    ghost invariant = { λ r. (65536 ≤ vec_capacity r.line) × (r.number ≤ 1000000) };
+}
+
+// Makes `line` the next line, of which at least one byte or newline waits in the piece.
+fn read_line<S: Source>(
+    source: &mut S,
+    piece: &mut Piece,
+    line: &mut Vec<u8>,
+) -> Result<(), LineStop>
+    requires begun { piece.old ≢ [] }
+    requires room { 65536 ≤ vec_capacity line.old }
+    ensures room { 65536 ≤ vec_capacity line.new }
+    ensures gives { OnOk result (GivesKnown Got.Line (prepend_known piece.old (S.left source.old)) line.new.items (prepend_known piece.new (S.left source.new))) }
+    ensures later { S.faults source.old ≤ S.faults source.new }
+    ensures fault { result ≡ Err LineStop.ReadFault → Rose (S.faults source.old) (S.faults source.new) }
+    ensures long { result ≡ Err LineStop.LineTooLong → FirstTooLongKnown (prepend_known piece.old (S.left source.old)) }
+    ensures few { result ≢ Err LineStop.TooManyLines }
+{
+    line.clear();
+    while !piece.is_empty() {
+        if piece.move_line(line)? {
+            return Ok(());
+        }
+        piece.fill(source)?;
+    }
+    Ok(())
+}
+
+impl LineReader {
+    /// A reader that has read nothing. It takes all the memory that `next` needs.
+    pub fn new(alloc: Global) -> Result<LineReader, OutOfMemory>
+        ensures { IfOk result (λ reader. reader ≡ record { pending = []; line = []; number = 0; stop = None }) }
+    {
+        let piece = Piece::new(alloc)?;
+        let line = Vec::with_capacity(alloc, LINE_BYTES).map_err(|_| OutOfMemory)?;
+        Ok(LineReader {
+            piece,
+            line,
+            number: 0,
+            stop: None,
+        })
+    }
+
+    /// The next line of the source, without its newline, or the end. It takes no memory.
+    ///
+    /// `ReadFault` comes only where the source's count of faults rose in this call. The limit on lines is
+    /// tested where a further byte has come, and before the length of its line. Each error is answered
+    /// again by all later calls, which read nothing.
+    pub fn next<S: Source>(&mut self, source: &mut S) -> Result<Got, LineStop>
+        // After an error it answers the same, and nothing changes.
+        ensures again { (s : LineStop) → self.old.stop ≡ Some s → (result ≡ Err s) × (self.new ≡ self.old) × (source.new ≡ source.old) }
+        ensures running { OnOk result (self.old.stop ≡ None) }
+        ensures stop { self.new.stop ≡ stop_of result }
+
+        ensures gives { IfOk result (λ got. GivesKnown got (rest_of self.old (S.left source.old)) self.new.line (rest_of self.new (S.left source.new))) }
+        ensures number { self.new.number ≡ number_after self.old.number result }
+        ensures within { result ≡ Ok Got.Line → self.old.number < 1000000 }
+        ensures end { result ≡ Ok Got.End → self.new.line ≡ self.old.line }
+
+        ensures later { S.faults source.old ≤ S.faults source.new }
+        ensures fault { result ≡ Err LineStop.ReadFault → (self.old.stop ≡ Some LineStop.ReadFault) ⊎ Rose (S.faults source.old) (S.faults source.new) }
+        ensures long { result ≡ Err LineStop.LineTooLong → (self.old.stop ≡ Some LineStop.LineTooLong)
+            ⊎ ((self.old.number < 1000000) × FirstTooLongKnown (rest_of self.old (S.left source.old))) }
+        ensures many { result ≡ Err LineStop.TooManyLines → (self.old.stop ≡ Some LineStop.TooManyLines)
+            ⊎ ((self.old.number ≡ 1000000) × MoreKnown (rest_of self.old (S.left source.old))) }
+    {
+        if let Some(stop) = self.stop {
+            return Err(stop);
+        }
+        let answer = self.advance(source);
+        if let Err(stop) = answer {
+            self.stop = Some(stop);
+        }
+        answer
+    }
+
+    // `next` of a reader that has not stopped; it leaves the mark of the stop to its caller.
+    fn advance<S: Source>(&mut self, source: &mut S) -> Result<Got, LineStop>
+        ensures stop { self.new.stop ≡ self.old.stop }
+        ensures gives { IfOk result (λ got. GivesKnown got (rest_of self.old (S.left source.old)) self.new.line (rest_of self.new (S.left source.new))) }
+        ensures number { self.new.number ≡ number_after self.old.number result }
+        ensures within { result ≡ Ok Got.Line → self.old.number < 1000000 }
+        ensures end { result ≡ Ok Got.End → self.new.line ≡ self.old.line }
+        ensures later { S.faults source.old ≤ S.faults source.new }
+        ensures fault { result ≡ Err LineStop.ReadFault → Rose (S.faults source.old) (S.faults source.new) }
+        ensures long { result ≡ Err LineStop.LineTooLong → (self.old.number < 1000000) × FirstTooLongKnown (rest_of self.old (S.left source.old)) }
+        ensures many { result ≡ Err LineStop.TooManyLines → (self.old.number ≡ 1000000) × MoreKnown (rest_of self.old (S.left source.old)) }
+    {
+        if self.piece.is_empty() {
+            self.piece.fill(source)?;
+            if self.piece.is_empty() {
+                return Ok(Got::End);
+            }
+        }
+        if self.number == LINES {
+            return Err(LineStop::TooManyLines);
+        }
+        read_line(source, &mut self.piece, &mut self.line)?;
+        self.number += 1;
+        Ok(Got::Line)
+    }
+
+    /// The bytes of the line that `next` gave last, without its newline; none before the first. After an
+    /// error they are of no use.
+    pub fn line(&self) -> &[u8]
+        ensures { result.now ≡ self.now.line }
+    {
+        &self.line
+    }
+
+    /// How many lines `next` gave so far, at most 1,000,000.
+    pub fn number(&self) -> u64
+        ensures value { result ≡ self.now.number }
+        ensures bound { result ≤ 1000000 }
+    {
+        self.number
+    }
+
+    /// Whether `next` answered `ReadFault`; false after every other answer.
+    pub fn stopped(&self) -> bool
+        ensures { IsTrue result ↔ (self.now.stop ≡ Some LineStop.ReadFault) }
+    {
+        self.stop == Some(LineStop::ReadFault)
+    }
+}

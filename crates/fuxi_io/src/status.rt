@@ -1,0 +1,103 @@
+ghost use Rattle.std.specs.Prelude.{◌≡◌};
+ghost use Rattle.fuxi_io.specs.Statuses.{code_of, word_of};
+
+/// How a command ended.
+#[derive(Clone, Copy, Debug, Drop, PartialEq, Eq)]
+pub enum Status {
+    /// The command ran and, where it reads an input, that was read to its end.
+    Done,
+    /// The words are no command.
+    Usage,
+    /// The line with this number, from 1, is no line of the input's form.
+    BadInput { line: u64, fault: InputFault },
+    /// The source of the input failed.
+    ReadFault,
+    /// The sink of the output failed.
+    WriteFault,
+    /// A limit was reached. `kept` is the number that stands so far.
+    Limit { what: LimitOf, kept: u64 },
+    /// Memory was refused.
+    OutOfMemory,
+}
+
+/// What a limit counts.
+#[derive(Clone, Copy, Debug, Drop, PartialEq, Eq)]
+pub enum LimitOf {
+    /// The lines of the input, at most 1,000,000.
+    Lines,
+}
+
+/// A key of the line that describes the cluster; `Cluster` is the whole of it.
+#[derive(Clone, Copy, Debug, Drop, PartialEq, Eq)]
+pub enum ClusterKey {
+    Cluster,
+    Resources,
+    Machines,
+    Groups,
+    Rack,
+    Has,
+    Quota,
+    Limit,
+}
+
+/// Why a line of the input was refused.
+#[derive(Clone, Copy, Debug, Drop, PartialEq, Eq)]
+pub enum InputFault {
+    /// It is no line of the form that is read here.
+    BadLine,
+    /// It has more than 65,536 bytes.
+    LineTooLong,
+    /// The input ended before the line that describes the cluster.
+    NoCluster,
+    /// The line that describes the cluster is no JSON.
+    NotJson,
+    /// The value at this key is of another kind.
+    WrongKind(ClusterKey),
+    /// There is a key that has no meaning there.
+    UnknownKey,
+    /// This key is absent.
+    MissingKey(ClusterKey),
+    /// The number at this key, or the length of the list there, is out of its range.
+    Count(ClusterKey),
+    /// A list of quantities has another length than there are resources.
+    LengthDiffers,
+    /// A quantity is above 1,000,000,000,000.
+    QuantityRange,
+    /// The quota of the group with this number is above its limit.
+    QuotaOverLimit(u32),
+}
+
+impl Status {
+    /// The number with which a program ends.
+    pub fn code(&self) -> u8
+        ensures { result ≡ code_of self.now }
+    {
+        match self {
+            Status::Done => 0,
+            Status::Usage => 2,
+            Status::BadInput { .. } => 3,
+            Status::ReadFault => 4,
+            Status::WriteFault => 5,
+            Status::Limit { .. } => 6,
+            Status::OutOfMemory => 7,
+        }
+    }
+}
+
+impl ClusterKey {
+    /// The key as it is written.
+    pub fn word(&self) -> &'static str
+        ensures { result.now ≡ word_of self.now }
+    {
+        match self {
+            ClusterKey::Cluster => "cluster",
+            ClusterKey::Resources => "resources",
+            ClusterKey::Machines => "machines",
+            ClusterKey::Groups => "groups",
+            ClusterKey::Rack => "rack",
+            ClusterKey::Has => "has",
+            ClusterKey::Quota => "quota",
+            ClusterKey::Limit => "limit",
+        }
+    }
+}

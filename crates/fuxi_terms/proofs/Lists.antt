@@ -1,0 +1,32 @@
+-- Lists that grow at their end, and loops that write the items of a list.
+use Rattle.std.proofs.Common.{◌≡◌, ℕ, zero, suc, ◌+◌, ◌<◌, List, [], ◌∷◌, ◌++◌, length, get_or, drop, append_assoc, drop-cons, refl, sym, ◌∙◌, ap, subst, arith, add-one, Some, slice_get}
+use Rattle.std.specs.List.{AllByRecursion, flat_map}
+use Rattle.fuxi_terms.specs.Lists.{numbers_from}
+
+pub one_more : (first n : ℕ) → numbers_from first (n + 1) ≡ numbers_from first n ++ (first + n) ∷ []
+one_more first zero = ap (λ k. k ∷ []) (omega arith)
+one_more first (suc n) = ap (λ k. numbers_from first k) (add-one (suc n)) ∙ ap (λ ks. first ∷ ks) (ap (λ k. numbers_from (first + 1) k) (sym (add-one n)) ∙ one_more (first + 1) n ∙ ap (λ k. numbers_from (first + 1) n ++ k ∷ []) (omega arith))
+
+pub all_append : {A : Type 0} (P : A → Type 0) (xs : List A) (x : A) → AllByRecursion P xs → P x → AllByRecursion P (xs ++ x ∷ [])
+all_append P [] x all here = (here, tt)
+all_append P (y ∷ ys) x all here = (all.0, all_append P ys x all.1 here)
+
+pub all_changed : {A : Type 0} (P Q : A → Type 0) (xs : List A) → ((x : A) → P x → Q x) → AllByRecursion P xs → AllByRecursion Q xs
+all_changed P Q [] f all = tt
+all_changed P Q (x ∷ xs) f all = (f x all.0, all_changed P Q xs f all.1)
+
+pub all_at : {A : Type 0} (P : A → Type 0) (xs : List A) (i : ℕ) (x : A) → AllByRecursion P xs → slice_get xs i ≡ Some x → P x
+all_at P [] i x all is = cc
+all_at P (y ∷ ys) zero x all is = let e : y ≡ x = cc in subst P e all.0
+all_at P (y ∷ ys) (suc i) x all is = all_at P ys i x all.1 is
+
+-- what stands in a list stands there still when it has grown, and nothing else does
+pub got_grown : {A : Type 0} (xs ys : List A) (i : ℕ) → i < length xs → slice_get (xs ++ ys) i ≡ slice_get xs i
+got_grown [] ys i lt = absurd (omega (arith, lt))
+got_grown (x ∷ xs) ys zero lt = refl
+got_grown (x ∷ xs) ys (suc i) lt = got_grown xs ys i (omega (arith, lt))
+
+-- from what is written and what is left to what is written with one more and the rest
+pub written_more : {A B : Type 0} (f : A → List B) (es : List A) (i : ℕ) (d : A) (front new all : List B) → i < length es → new ≡ front ++ f (get_or es i d) → front ++ flat_map f (drop i es) ≡ all → new ++ flat_map f (drop (i + 1) es) ≡ all
+written_more f es i d front new all lt is h =
+    rw (is, append_assoc) (subst (λ xs. front ++ flat_map f xs ≡ all) (drop-cons es i d lt ∙ ap (λ n. get_or es i d ∷ drop n es) (sym (add-one i))) h)

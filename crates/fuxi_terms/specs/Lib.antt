@@ -1,0 +1,6 @@
+pub mod Vectors
+pub mod Cluster
+pub mod Keys
+pub mod Counts
+pub mod Tallies
+pub mod Lists

@@ -1,0 +1,34 @@
+//! The terms that every crate of the scheduler speaks in: vectors of resources, the records of clusters
+//! and jobs, keys with their order, and finite maps of counts with signed changes to them. They stand in
+//! `specs/`, as definitions that compute.
+#![tactic(auto)]
+
+use std::alloc::{AllocError, AllocFailed};
+
+/// What an entry of a ledger is about: its kind, a unit and a number, as of a machine or a rack.
+#[derive(Clone, Copy, Debug, PartialEq, Eq, PartialOrd, Ord)]
+pub struct Key {
+    pub what: u8,
+    pub unit: u8,
+    pub number: u32,
+}
+
+/// Memory was refused. Whatever the call that answers it says, it says of no other cause.
+#[derive(Clone, Copy, Debug, Drop, PartialEq, Eq)]
+pub struct OutOfMemory;
+
+impl From<AllocError> for OutOfMemory {
+    ghost from_gives = { λ _ _. Unit {0} };
+
+    fn from(_error: AllocError) -> OutOfMemory {
+        OutOfMemory
+    }
+}
+
+impl<T: Drop> From<AllocFailed<T>> for OutOfMemory {
+    ghost from_gives = { λ _ _. Unit {0} };
+
+    fn from(_error: AllocFailed<T>) -> OutOfMemory {
+        OutOfMemory
+    }
+}

@@ -1,0 +1,10 @@
+pub mod Searching
+pub mod Placing
+pub mod Counting
+pub mod Testing
+pub mod Keeping
+pub mod Changing
+pub mod Making
+pub mod Numbering
+pub mod Rising
+pub mod Refusing

@@ -1,0 +1,8 @@
+use Rattle.ledger_law.specs.declared.ledger.LedgerFault.TheVariants.{Below, TooGreat}
+use Rattle.ledger_law.specs.Orders.{key_total, same_key}
+use Rattle.ledger_law.specs.Shapes.{kept_under}
+use Rattle.ledger_law.proofs.Testing.{IsTestedTo}
+use Rattle.ledger_law.proofs.tally.test_changes.Given as goal
+
+abbrev pub invariant-loop-key : goal.invariant-loop-key
+invariant-loop-key g l = IsTestedTo key_total same_key Below TooGreat g.S.Shape.greatest_of (kept_under l.same l.dropped l.entries) l.changes l.key-index

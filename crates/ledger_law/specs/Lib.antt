@@ -1,0 +1,7 @@
+pub mod Applying
+pub mod Reading
+pub mod Orders
+pub mod Places
+pub mod Shapes
+pub mod Forms
+pub mod OneForm

@@ -1,0 +1,93 @@
+//! Entries in the order of their keys: what stands at a key, and what a change there makes.
+
+ghost use Rattle.std.specs.Prelude.{◌≡◌, ◌+◌, ◌<◌, ◌≤◌, ◌^◌, vec_len, vec_capacity, T, Ok, Err, Some, None};
+ghost use Rattle.std.specs.FinMap.Entries.{is_sorted};
+ghost use Rattle.fuxi_terms.specs.Counts.{count, set_count, moved};
+ghost use Rattle.ledger_law.specs.Places.{IsPlace};
+
+use fuxi_terms::Key;
+
+/// A key of entries, whose order tells any two apart.
+pub trait EntryKey: Ord + Copy {
+    ghost use Rattle.std.specs.Prelude.{◌≡◌};
+    ghost use Rattle.std.specs.declared.cmp.Ordering.TheVariants.{Equal};
+
+    /// Keys that tie are one.
+    ghost exact: { (a b : Self) → Self.cmp a b ≡ Equal → a ≡ b };
+}
+
+impl EntryKey for Key {
+    ghost use Rattle.ledger_law.specs.Orders.{same_key};
+
+    ghost exact = { same_key };
+}
+
+// Where the key stands, or where it would.
+fn place_of<K: EntryKey>(entries: &[(K, u64)], key: &K) -> Result<usize, usize>
+    requires { T (is_sorted K.cmp entries.now) }
+    ensures { IsPlace K.cmp entries.now key.now result }
+{
+    entries.binary_search_by(|entry| entry.0.cmp(key))
+}
+
+/// The number at a key, and 0 where it has no entry.
+pub fn count_of<K: EntryKey>(entries: &[(K, u64)], key: &K) -> u64
+    requires { T (is_sorted K.cmp entries.now) }
+    ensures { result ≡ count K.cmp entries.now key.now }
+{
+    match place_of(entries, key) {
+        Ok(at) => entries[at].1,
+        Err(_) => 0,
+    }
+}
+
+/// A number moved by a change, where it stays at least 0.
+pub fn moved(n: u64, change: i64) -> Option<u64>
+    requires { n < 2 ^ 62 }
+    ensures { result ≡ moved n change }
+{
+    if change < 0 {
+        n.checked_sub(change.unsigned_abs())
+    } else {
+        Some(n + change as u64)
+    }
+}
+
+/// Sets the number at a key. A number 0 has no entry. It takes no memory.
+pub fn set_entry<K: EntryKey>(entries: &mut Vec<(K, u64)>, key: K, n: u64)
+    requires sorted { T (is_sorted K.cmp entries.old.items) }
+    requires room { vec_len entries.old < vec_capacity entries.old }
+    ensures items { entries.new.items ≡ set_count K.cmp entries.old.items key n }
+    ensures len { vec_len entries.new ≤ vec_len entries.old + 1 }
+    ensures capacity { vec_capacity entries.old ≤ vec_capacity entries.new }
+{
+    match place_of(entries, &key) {
+        Ok(at) => {
+            if n == 0 {
+                entries.remove(at);
+            } else {
+                entries[at] = (key, n);
+            }
+        }
+        Err(at) => {
+            if n > 0 {
+                match entries.insert(at, (key, n)) {
+                    Ok(()) => {}
+                    Err(_) => unreachable!(),
+                }
+            }
+        }
+    }
+}
+
+/// Whether the keys rise.
+pub fn keys_rise<K: EntryKey, X: Copy>(entries: &[(K, X)]) -> bool
+    ensures { result ≡ is_sorted K.cmp entries.now }
+{
+    for i in 1..entries.len() {
+        if !entries[i - 1].0.cmp(&entries[i].0).is_lt() {
+            return false;
+        }
+    }
+    true
+}

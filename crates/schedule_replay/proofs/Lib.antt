@@ -1,0 +1,3 @@
+pub mod Words
+pub mod Standing
+pub mod Going

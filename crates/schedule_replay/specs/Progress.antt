@@ -1,0 +1,64 @@
+-- How far a run has come, and what taking one line does.
+use Rattle.std.specs.Prelude.{◌≡◌, ℕ, ◌+◌, List, [], ◌++◌, Option, Some, None, Result, Ok, Err}
+use Rattle.std.specs.Io.KnownBytes.{Appends}
+use Rattle.std.specs.List.{concat}
+use Rattle.fuxi_io.specs.Causes.{TakesPart}
+use Rattle.fuxi_io.specs.Lines.{lines_of}
+use Rattle.fuxi_io.specs.declared.lines.LineStop.{LineStop}
+use Rattle.fuxi_io.specs.declared.lines.LineStop.TheVariants.{ReadFault as ReadStop, LineTooLong as LongStop, TooManyLines as ManyStop}
+use Rattle.fuxi_io.specs.declared.status.InputFault.TheVariants.{BadLine, LineTooLong}
+use Rattle.fuxi_io.specs.declared.status.LimitOf.TheVariants.{Lines}
+use Rattle.fuxi_io.specs.declared.status.Status.{Status}
+use Rattle.fuxi_io.specs.declared.status.Status.TheVariants.{Done, Usage, BadInput, ReadFault, WriteFault, Limit, OutOfMemory}
+use Rattle.schedule_replay.specs.declared.grammar.Event.{Event}
+use Rattle.schedule_replay.specs.Grammar.{event_of}
+use Rattle.schedule_replay.specs.Channel.{Channel, new_channel}
+use Rattle.schedule_replay.specs.Texts.{printed, state_text}
+use Rattle.schedule_replay.specs.Standing.{Replaying, Stands}
+use Rattle.schedule_replay.specs.Runs.{Run, run_from}
+
+-- the status that a reader's stop means, after so many lines
+abbrev pub status_of : LineStop → ℕ → Status
+status_of ReadStop number = ReadFault
+status_of LongStop number = BadInput (number + 1) LineTooLong
+status_of ManyStop number = Limit Lines number
+
+-- the line is an event's, and what it prints at the channel is this
+pub record Prints (line : List ℕ) (c : Channel) (output : List ℕ) : Type 0 where
+  pub event : Event
+  pub is : event_of line ≡ Some event
+  pub prints : output ≡ printed c event
+
+-- what taking the line with this number wrote
+abbrev pub TakesLine : List ℕ → ℕ → Channel → Result (Unit {0}) Status → Option (List ℕ) → Option (List ℕ) → Type 0
+TakesLine line number c (Ok done) before after = (output : List ℕ) × Prints line c output × Appends before after output
+TakesLine line number c (Err (BadInput n fault)) before after = (event_of line ≡ None) × (n ≡ number) × (fault ≡ BadLine) × (after ≡ before)
+TakesLine line number c (Err WriteFault) before after = (output : List ℕ) × Prints line c output × TakesPart before after output
+TakesLine line number c (Err OutOfMemory) before after = after ≡ before
+TakesLine line number c (Err Done) before after = ⊥
+TakesLine line number c (Err Usage) before after = ⊥
+TakesLine line number c (Err ReadFault) before after = ⊥
+TakesLine line number c (Err (Limit what kept)) before after = ⊥
+
+-- what ending a run with this status wrote behind its last line
+abbrev pub WritesState : Channel → Status → Option (List ℕ) → Option (List ℕ) → Type 0
+WritesState c Done before after = Appends before after (state_text c)
+WritesState c WriteFault before after = TakesPart before after (state_text c)
+WritesState c OutOfMemory before after = after ≡ before
+WritesState c Usage before after = ⊥
+WritesState c (BadInput n fault) before after = ⊥
+WritesState c ReadFault before after = ⊥
+WritesState c (Limit what kept) before after = ⊥
+
+abbrev pub behind_all : List (List ℕ) → Run → Run
+behind_all front r = record { outputs = front ++ r.outputs; channel = r.channel; ending = r.ending }
+
+-- of a run over the bytes of an input, so many lines having gone before it: the bytes that are left, what was printed, and the channel now
+pub record Along (bytes : List ℕ) (first number : ℕ) (replay : Replaying) (rest written_before written : Option (List ℕ)) : Type 0 where
+  pub left : List ℕ
+  pub is_left : rest ≡ Some left
+  pub front : List (List ℕ)
+  pub writes : Appends written_before written (concat front)
+  pub channel : Channel
+  pub stands : Stands replay channel
+  pub same : run_from first new_channel (lines_of bytes) ≡ behind_all front (run_from number channel (lines_of left))

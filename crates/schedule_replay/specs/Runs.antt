@@ -1,0 +1,78 @@
+-- How a run over the lines of an input goes, and what is known of it by the status that it ends with.
+use Rattle.std.specs.Prelude.{◌≡◌, ℕ, ◌+◌, ◌≤◌, not, nat_lt, if◌then◌else◌, List, [], ◌∷◌, ◌++◌, length, take, Option, Some, None, slice_get}
+use Rattle.std.specs.Option.{unwrap_or}
+use Rattle.std.specs.List.{concat}
+use Rattle.std.specs.Io.KnownBytes.{Appends}
+use Rattle.fuxi_io.specs.Lines.{lines_of}
+use Rattle.fuxi_io.specs.declared.status.InputFault.{InputFault}
+use Rattle.fuxi_io.specs.declared.status.InputFault.TheVariants.{BadLine, LineTooLong}
+use Rattle.fuxi_io.specs.declared.status.LimitOf.TheVariants.{Lines}
+use Rattle.fuxi_io.specs.declared.status.Status.{Status}
+use Rattle.fuxi_io.specs.declared.status.Status.TheVariants.{Done, Usage, BadInput, ReadFault, WriteFault, Limit, OutOfMemory}
+use Rattle.schedule_replay.specs.declared.grammar.Event.{Event}
+use Rattle.schedule_replay.specs.Grammar.{event_of}
+use Rattle.schedule_replay.specs.Channel.{Channel, new_channel, after}
+use Rattle.schedule_replay.specs.Texts.{printed, state_text}
+
+-- where a run ends: at the end of the input, at a bad line, or at a line past the greatest number of lines
+pub data Ending : Type 0 where
+  AtEnd : Ending
+  AtBadLine : (line : ℕ) → (fault : InputFault) → Ending
+  AtLimit : Ending
+
+-- what each event printed, one after another; the channel then; and where it ended
+pub record Run : Type 0 where
+  pub outputs : List (List ℕ)
+  pub channel : Channel
+  pub ending : Ending
+
+abbrev pub ended : Channel → Ending → Run
+ended c ending = record { outputs = []; channel = c; ending = ending }
+
+abbrev pub behind : List ℕ → Run → Run
+behind output r = record { outputs = output ∷ r.outputs; channel = r.channel; ending = r.ending }
+
+-- the run over these lines, so many lines having gone before
+abbrev pub run_from : ℕ → Channel → List (List ℕ) → Run
+run_from before c [] = ended c AtEnd
+run_from before c (line ∷ lines) =
+    if not (nat_lt before 1000000) then ended c AtLimit
+    else (if nat_lt 65536 (length line) then ended c (AtBadLine (before + 1) LineTooLong)
+    else elim (event_of line) [
+      | None ↦ ended c (AtBadLine (before + 1) BadLine)
+      | Some event ↦ behind (printed c event) (run_from (before + 1) (after c event) lines)
+    ])
+
+-- the run over the bytes of a whole input
+abbrev pub run_of : List ℕ → Run
+run_of bytes = run_from 0 new_channel (lines_of bytes)
+
+-- what is written in the end: the outputs, and behind a whole input the state
+abbrev pub final_text : Channel → Ending → List (List ℕ)
+final_text c AtEnd = state_text c ∷ []
+final_text c (AtBadLine line fault) = []
+final_text c AtLimit = []
+
+abbrev pub pieces : Run → List (List ℕ)
+pieces r = r.outputs ++ final_text r.channel r.ending
+
+-- some of the pieces from the front were written, whole, and nothing else
+pub record WritesSome (all : List (List ℕ)) (before after : Option (List ℕ)) : Type 0 where
+  pub whole : ℕ
+  pub writes : Appends before after (concat (take whole all))
+
+-- some of the pieces from the front were written whole, and of the next one a part from its front
+pub record WritesPart (all : List (List ℕ)) (before after : Option (List ℕ)) : Type 0 where
+  pub whole : ℕ
+  pub part : ℕ
+  pub writes : Appends before after (concat (take whole all) ++ take part (unwrap_or (slice_get all whole) []))
+
+-- what was written by a run that ended with a status
+abbrev pub Ended : Run → Status → Option (List ℕ) → Option (List ℕ) → Type 0
+Ended r Done before after = (r.ending ≡ AtEnd) × Appends before after (concat (pieces r))
+Ended r (BadInput line fault) before after = (r.ending ≡ AtBadLine line fault) × Appends before after (concat r.outputs)
+Ended r (Limit Lines kept) before after = (r.ending ≡ AtLimit) × (kept ≡ 1000000) × Appends before after (concat r.outputs)
+Ended r ReadFault before after = WritesSome r.outputs before after
+Ended r WriteFault before after = WritesPart (pieces r) before after
+Ended r OutOfMemory before after = WritesPart (pieces r) before after
+Ended r Usage before after = ⊥

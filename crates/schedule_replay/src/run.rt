@@ -1,0 +1,124 @@
+ghost use Rattle.std.specs.Prelude.{[], ◌≡◌, ◌+◌, ◌<◌, ◌≤◌, ◌^◌, ◌≢◌, Option, Some, None, IfSome, OnOk, OnErr, Ok, Err, ℕ};
+ghost use Rattle.fuxi_io.specs.Causes.{Rose};
+ghost use Rattle.fuxi_io.specs.Lines.{lines_of};
+ghost use Rattle.fuxi_io.specs.Reading.{rest_of};
+ghost use Rattle.schedule_replay.specs.Channel.{Channel, new_channel, after};
+ghost use Rattle.schedule_replay.specs.Grammar.{event_of};
+ghost use Rattle.schedule_replay.specs.declared.grammar.Event.{Event};
+ghost use Rattle.schedule_replay.specs.Standing.{IsKept, Stands};
+ghost use Rattle.schedule_replay.specs.Runs.{run_from, Ended};
+ghost use Rattle.schedule_replay.specs.Progress.{TakesLine, WritesState, status_of};
+
+use crate::grammar::read_event;
+use crate::replay::Replay;
+use fuxi_io::{Got, InputFault, LimitOf, LineReader, LineStop, Sink, Source, Status, write_all_of};
+use fuxi_terms::OutOfMemory;
+use std::alloc::Global;
+
+// Takes a line: makes its event and writes what that prints. `text` is room for it.
+fn take_line<O: Sink>(
+    alloc: Global,
+    replay: &mut Replay,
+    line: &[u8],
+    number: u64,
+    text: &mut Vec<u8>,
+    out: &mut O,
+) -> Result<(), Status>
+    requires events { replay.old.events < 2 ^ 62 }
+    requires kept { IsKept replay.old }
+    ensures takes { (c : Channel) → Stands replay.old c → TakesLine line.now number c result (O.took out.old) (O.took out.new) }
+    ensures stands { OnOk result ((c : Channel) (event : Event) → Stands replay.old c → event_of line.now ≡ Some event → Stands replay.new (after c event)) }
+    ensures events { OnOk result (replay.new.events ≡ replay.old.events + 1) }
+    ensures later { O.faults out.old ≤ O.faults out.new }
+    ensures fault { result ≡ Err Status.WriteFault → Rose (O.faults out.old) (O.faults out.new) }
+{
+    let Some(event) = read_event(line) else {
+        return Err(Status::BadInput {
+            line: number,
+            fault: InputFault::BadLine,
+        });
+    };
+    text.clear();
+    match replay.step(alloc, &event, text) {
+        Ok(()) => {}
+        Err(OutOfMemory) => return Err(Status::OutOfMemory),
+    }
+    match write_all_of(out, text) {
+        Ok(()) => Ok(()),
+        Err(_) => Err(Status::WriteFault),
+    }
+}
+
+// Writes the state behind a whole input.
+fn write_state<O: Sink>(replay: &Replay, text: &mut Vec<u8>, out: &mut O) -> Status
+    ensures writes { (c : Channel) → Stands replay.now c → WritesState c result (O.took out.old) (O.took out.new) }
+    ensures fault { result ≡ Status.WriteFault → Rose (O.faults out.old) (O.faults out.new) }
+    ensures read { result ≢ Status.ReadFault }
+    ensures usage { result ≢ Status.Usage }
+    ensures limit { (what : LimitOf) (kept : ℕ) → result ≢ Status.Limit what kept }
+{
+    text.clear();
+    match replay.push_state(text) {
+        Ok(()) => {}
+        Err(OutOfMemory) => return Status::OutOfMemory,
+    }
+    match write_all_of(out, text) {
+        Ok(()) => Status::Done,
+        Err(_) => Status::WriteFault,
+    }
+}
+
+// The status that a reader's stop means.
+fn status_of(stop: LineStop, number: u64) -> Status
+    requires { number ≤ 1000000 }
+    ensures { result ≡ status_of stop number }
+{
+    match stop {
+        LineStop::ReadFault => Status::ReadFault,
+        LineStop::LineTooLong => Status::BadInput {
+            line: number + 1,
+            fault: InputFault::LineTooLong,
+        },
+        LineStop::TooManyLines => Status::Limit {
+            what: LimitOf::Lines,
+            kept: number,
+        },
+    }
+}
+
+/// Runs the lines that the reader has not given yet, from a channel on which nothing was posted, and
+/// writes what they print, each event's text before the next line is read; behind the last line the
+/// state. The reader has not stopped by a fault of the source.
+pub fn run_first<S: Source, O: Sink>(
+    alloc: Global,
+    lines: &mut LineReader,
+    source: &mut S,
+    out: &mut O,
+) -> Status
+    requires { lines.old.stop ≢ Some LineStop.ReadFault }
+    // What was written, by the status. It is said of a reader that has not stopped over bytes that are known.
+    ensures ended { lines.old.stop ≡ None → IfSome (rest_of lines.old (S.left source.old)) (λ bytes. Ended (run_from lines.old.number new_channel (lines_of bytes)) result (O.took out.old) (O.took out.new)) }
+    ensures end { lines.old.stop ≡ None → result ≡ Status.Done → IfSome (rest_of lines.old (S.left source.old)) (λ bytes. S.left source.new ≡ Some []) }
+    ensures read { result ≡ Status.ReadFault → Rose (S.faults source.old) (S.faults source.new) }
+    ensures write { result ≡ Status.WriteFault → Rose (O.faults out.old) (O.faults out.new) }
+    ensures limit { lines.old.stop ≡ None → (what : LimitOf) (kept : ℕ) → result ≡ Status.Limit what kept → kept ≡ 1000000 }
+    ensures usage { result ≢ Status.Usage }
+{
+    let Ok(mut replay) = Replay::start(alloc) else {
+        return Status::OutOfMemory;
+    };
+    let mut text = Vec::new(alloc);
+    for turn in 0..1_000_001u64 {
+        match lines.next(source) {
+            Ok(Got::Line) => {}
+            Ok(Got::End) => return write_state(&replay, &mut text, out),
+            Err(stop) => return status_of(stop, lines.number()),
+        }
+        let number = lines.number();
+        match take_line(alloc, &mut replay, lines.line(), number, &mut text, out) {
+            Ok(()) => {}
+            Err(status) => return status,
+        }
+    }
+    unreachable!()
+}

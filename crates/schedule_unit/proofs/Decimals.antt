@@ -1,0 +1,136 @@
+-- The words of numbers, and the decimals that are written.
+use Rattle.std.proofs.Common.{◌≡◌, ℕ, ◌+◌, ◌<◌, ◌≤◌, ◌^◌, true, false, not, nat_eq, nat_lt, ◌&&◌, ◌||◌, List, [], ◌∷◌, length, get_or, Some, None, Result, Ok, Err, take, drop, set, ◌++◌, ◌-◌, ◌/◌, ◌%◌, append_assoc, inl, inr, refl, sym, ap, ◌∙◌, subst, arith}
+use Rattle.std.specs.Char.{is_ascii_digit}
+use Rattle.std.specs.List.{list_all}
+use Rattle.std.specs.Fmt.{decimal}
+use Rattle.std.specs.Str.{all_ascii_digits, IsUtf8}
+use Rattle.std.specs.Result.{MatchResult, OkIff, result_ok}
+use Rattle.std.specs.Str.Parse.{digits_value, ParsesUnsigned}
+use Rattle.std.proofs.lemmas.Str.{IsUtf8-from_ascii}
+use Rattle.std.proofs.lemmas.List.{drop-set, take_all, length-drop, length-set, length_push}
+use Rattle.std.proofs.lemmas.Bool.{and_parts, and_from, or_left, or_right, or_cases, not-true, not_from_false, eq-eqb, eqb-true, eqb-false, ne_eqb, lt-ltb, le-ltb, ltb-false, cases_eq, cases_lt, cond-true, cond-false, cases_Bool, and_left, and_right}
+use Rattle.std.proofs.lemmas.Str.Parse.{IsNumeralModel, numerals_by_value, parse_digits, tells_all_ascii_digits}
+use Rattle.std.proofs.lemmas.Fmt.{IsAscii-from_digits, decimal_step, digits_decimal, digits_value-decimal, decimal_nonempty, length-decimal-le, first_decimal, decimal_digit, decimal-digits_value}
+use Rattle.fuxi_terms.specs.Cluster.{is_between}
+use Rattle.schedule_unit.specs.Numbers.{is_numeral, number_of}
+
+pub digits : IsNumeralModel (λ ds. all_ascii_digits ds ≡ true) (digits_value 10)
+digits = numerals_by_value (λ ds. all_ascii_digits ds ≡ true) tells_all_ascii_digits
+
+pub all_digits : (ds : List ℕ) → all_ascii_digits ds ≡ list_all is_ascii_digit ds
+all_digits [] = refl
+all_digits (c ∷ cs) = ap (λ b. is_ascii_digit c && b) (all_digits cs)
+
+-- what the test of a word says
+pub record IsNumeral (word : List ℕ) : Type 0 where
+  pub all : all_ascii_digits word ≡ true
+  pub least : 1 ≤ length word
+  pub most : length word ≤ 20
+  pub lead : get_or word 0 0 ≡ 48 → length word ≡ 1
+
+pub IsNumeral-from : (word : List ℕ) → is_numeral word ≡ true → IsNumeral word
+IsNumeral-from word h =
+    let a = and_parts (all_ascii_digits word) (is_between 1 20 (length word) && (nat_eq (length word) 1 || not (nat_eq (get_or word 0 0) 48))) h in
+    let b = and_parts (is_between 1 20 (length word)) (nat_eq (length word) 1 || not (nat_eq (get_or word 0 0) 48)) a.1 in
+    let d = and_parts (not (nat_lt (length word) 1)) (not (nat_lt 20 (length word))) b.0 in
+    record {
+      all = a.0;
+      least = ltb-false (length word) 1 (not-true (nat_lt (length word) 1) d.0);
+      most = ltb-false 20 (length word) (not-true (nat_lt 20 (length word)) d.1);
+      lead = λ e. elim (or_cases (nat_eq (length word) 1) (not (nat_eq (get_or word 0 0) 48)) b.1) [
+        | inl k ↦ eqb-true (length word) 1 k
+        | inr k ↦ absurd (eqb-false (get_or word 0 0) 48 (not-true (nat_eq (get_or word 0 0) 48) k) e)
+      ];
+    }
+
+pub is_numeral-true : (word : List ℕ) → IsNumeral word → is_numeral word ≡ true
+is_numeral-true word w =
+    and_from (all_ascii_digits word) (is_between 1 20 (length word) && (nat_eq (length word) 1 || not (nat_eq (get_or word 0 0) 48))) w.all
+    (and_from (is_between 1 20 (length word)) (nat_eq (length word) 1 || not (nat_eq (get_or word 0 0) 48))
+    (and_from (not (nat_lt (length word) 1)) (not (nat_lt 20 (length word)))
+    (not_from_false (nat_lt (length word) 1) (le-ltb (length word) 1 w.least))
+    (not_from_false (nat_lt 20 (length word)) (le-ltb 20 (length word) w.most)))
+    (elim (cases_eq (get_or word 0 0) 48) [
+      | inl e ↦ or_left (nat_eq (length word) 1) (not (nat_eq (get_or word 0 0) 48)) (eq-eqb (length word) 1 (w.lead e))
+      | inr n ↦ or_right (nat_eq (length word) 1) (not (nat_eq (get_or word 0 0) 48)) (not_from_false (nat_eq (get_or word 0 0) 48) (ne_eqb (get_or word 0 0) 48 n))
+    ]))
+
+pub number_of-some : (word : List ℕ) → is_numeral word ≡ true → digits_value 10 word < 2 ^ 64 → number_of word ≡ Some (digits_value 10 word)
+number_of-some word h l = cond-true (is_numeral word && nat_lt (digits_value 10 word) (2 ^ 64)) (Some (digits_value 10 word)) None
+    (and_from (is_numeral word) (nat_lt (digits_value 10 word) (2 ^ 64)) h (lt-ltb (digits_value 10 word) (2 ^ 64) l))
+
+pub number_of-other : (word : List ℕ) → is_numeral word ≡ false → number_of word ≡ None
+number_of-other word h = cond-false (is_numeral word && nat_lt (digits_value 10 word) (2 ^ 64)) (Some (digits_value 10 word)) None
+    (and_left (is_numeral word) (nat_lt (digits_value 10 word) (2 ^ 64)) h)
+
+pub number_of-great : (word : List ℕ) → 2 ^ 64 ≤ digits_value 10 word → number_of word ≡ None
+number_of-great word h = cond-false (is_numeral word && nat_lt (digits_value 10 word) (2 ^ 64)) (Some (digits_value 10 word)) None
+    (and_right (is_numeral word) (nat_lt (digits_value 10 word) (2 ^ 64)) (le-ltb (digits_value 10 word) (2 ^ 64) h))
+
+-- a number that is written is read back
+pub number_of-decimal : (n : ℕ) → n < 2 ^ 64 → number_of (decimal n) ≡ Some n
+number_of-decimal n h =
+    let v = digits_value-decimal digits n h in
+    let w : IsNumeral (decimal n) = record {
+      all = digits_decimal digits n h;
+      least = decimal_nonempty n h;
+      most = length-decimal-le 20 n (omega arith) (omega arith) h;
+      lead = λ e. elim (cases_lt 0 n) [
+        | inl p ↦ absurd (let f : ⊥ = omega (arith, first_decimal n p h) in f)
+        | inr z ↦ let d = decimal_digit 0 (omega arith) in let k : n ≡ 0 = omega arith in ap (λ m. length (decimal m)) k ∙ ap length d
+      ];
+    } in
+    number_of-some (decimal n) (is_numeral-true (decimal n) w) (omega arith) ∙ ap Some v
+
+-- and each word that is read is the one that is written
+pub decimal-number_of : (word : List ℕ) (n : ℕ) → number_of word ≡ Some n → (n < 2 ^ 64) × (word ≡ decimal n)
+decimal-number_of word n e = elim (cases_Bool (is_numeral word)) [
+  | inr f ↦ absurd (let x = number_of-other word f in let y : ⊥ = cc in y)
+  | inl t ↦ elim (cases_lt (digits_value 10 word) (2 ^ 64)) [
+    | inr g ↦ absurd (let x = number_of-great word g in let y : ⊥ = cc in y)
+    | inl l ↦
+        let w = IsNumeral-from word t in
+        let x : digits_value 10 word ≡ n = let y = number_of-some word t l in cc in
+        (omega arith, sym (decimal-digits_value digits word w.all w.least w.lead l) ∙ ap decimal x)
+  ]
+]
+
+-- one digit more is written, from the last on
+pub decimal_shorter : (left : ℕ) → 10 ≤ left → left < 2 ^ 64 → (length (decimal left) ≡ length (decimal (left / 10)) + 1) × (0 < length (decimal (left / 10)))
+decimal_shorter left h f =
+    let e = ap length (decimal_step left h f) ∙ length_push (decimal (left / 10)) (48 + left % 10) in
+    (e, decimal_nonempty (left / 10) (omega arith))
+
+pub digit_written : (left start n : ℕ) (ds : List ℕ) → 10 ≤ left → left < 2 ^ 64 → start < length ds → decimal left ++ drop (start + 1) ds ≡ decimal n → decimal (left / 10) ++ drop start (set ds start (48 + left % 10)) ≡ decimal n
+digit_written left start n ds h f l e =
+    let s = decimal_step left h f in
+    let d = drop-set ds start (48 + left % 10) l in
+    let a = append_assoc (decimal (left / 10)) ((48 + left % 10) ∷ []) (drop (start + 1) ds) in
+    cc
+
+pub last_digits_written : (left start n : ℕ) (ds : List ℕ) → left < 10 → length ds ≡ 20 → start < 20 → decimal left ++ drop (start + 1) ds ≡ decimal n → take (20 - start) (drop start (set ds start (48 + left))) ≡ decimal n
+last_digits_written left start n ds h k l e =
+    let s = decimal_digit left h in
+    let d = drop-set ds start (48 + left) (omega arith) in
+    let t = take_all (20 - start) (drop start (set ds start (48 + left))) (omega (arith, length-drop start (set ds start (48 + left)), length-set ds start (48 + left))) in
+    cc
+
+-- digits are text
+pub not_text : {T E : Type 0} (word : List ℕ) (r : Result T E) (P : T → Type 0) (Q : E → Type 0) → is_numeral word ≡ true → MatchResult r P (λ e. ¬ IsUtf8 word × Q e) → result_ok r ≡ None → ⊥
+not_text word (Ok s) P Q n m e = cc
+not_text word (Err f) P Q n m e = m.0 (IsUtf8-from_ascii word (IsAscii-from_digits word (digits.to word (IsNumeral-from word n).all)))
+
+pub the_text : {T E : Type 0} (r : Result T E) (t : T) (P : T → Type 0) (Q : E → Type 0) → Some t ≡ result_ok r → MatchResult r P Q → P t
+the_text (Ok s) t P Q e m = let f : s ≡ t = cc in subst P f m
+the_text (Err f) t P Q e m = absurd (let g : ⊥ = cc in g)
+
+parsed_of : {E : Type 0} (word : List ℕ) (r : Result ℕ E) → is_numeral word ≡ true → OkIff r ((0 < length word) × (digits_value 10 word < 2 ^ 64)) (digits_value 10 word) → result_ok r ≡ number_of word
+parsed_of word (Ok m) n o = ap Some o.1 ∙ sym (number_of-some word n o.0.1)
+parsed_of word (Err f) n o = elim (cases_lt (digits_value 10 word) (2 ^ 64)) [
+  | inl l ↦ absurd (o ((IsNumeral-from word n).least, l))
+  | inr g ↦ sym (number_of-great word g)
+]
+
+-- what is parsed of a numeral is its number
+pub parsed : {E : Type 0} (word text : List ℕ) (r : Result ℕ E) → text ≡ word → is_numeral word ≡ true → ParsesUnsigned 64 10 text r → result_ok r ≡ number_of word
+parsed {E} word text r e n p = parsed_of word r n (parse_digits digits 64 word r (subst (λ (t : List ℕ). ParsesUnsigned 64 10 t r) e p) (IsNumeral-from word n).all)

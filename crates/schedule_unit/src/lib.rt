@@ -1,0 +1,15 @@
+//! Jobs and their units, the parties that schedule them, and the numbers by which they are named. A job is
+//! made from what was asked for it, tested against the limits, and never changes afterwards.
+#![tactic(auto)]
+
+mod asks;
+mod job;
+mod number;
+mod party;
+#[cfg(test)]
+mod tests;
+
+pub use asks::{Ask, Asks, Quantities};
+pub use job::{Job, JobFault, Unit};
+pub use number::{numbers, read_number, write_number};
+pub use party::{AppNo, GroupNo, MachineNo, Party, RackNo, Role, UnitNo};

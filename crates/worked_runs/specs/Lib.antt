@@ -1,0 +1,13 @@
+pub mod Reading
+pub mod FirstGrants
+pub mod Deltas
+pub mod Failover
+pub mod Refusals
+pub mod Preemptions
+pub mod Realistic
+pub mod Limits
+pub mod HardChanges
+pub mod Again
+pub mod Taking
+pub mod Carrying
+pub mod Contents

@@ -1,0 +1,255 @@
+-- In every state each running master rests: nothing is placeable.
+use Rattle.std.proofs.Common.{◌≡◌, ℕ, zero, suc, ◌+◌, ◌-◌, Bool, true, false, cond, not, nat_eq, nat_lt, List, [], ◌∷◌, ◌++◌, length, map, Option, Some, None, refl, sym, ◌∙◌, ap, subst, arith}
+use Rattle.std.specs.Prelude.{◌&&◌, ◌||◌, min}
+use Rattle.std.specs.Option.{unwrap_or, option_map}
+use Rattle.std.specs.Ordering.{nat_cmp, eq_by_cmp}
+use Rattle.std.specs.Cmp.{nat_cmp_total}
+use Rattle.std.specs.FinMap.Entries.{find, put, where_key, find-put, find-where_key}
+use Rattle.std.proofs.lemmas.Bool.Decides.{nat_tests}
+use Rattle.fuxi_terms.specs.declared.Key.{Key}
+use Rattle.fuxi_terms.specs.Cluster.{ClusterRecord, JobRecord}
+use Rattle.fuxi_terms.specs.Keys.{key_cmp}
+use Rattle.written_world.specs.Net.{Net, Id, Packet, Heard, comes, heard_of}
+use Rattle.written_world.specs.Ledgers.{Ledger, nothing, at_key, want_key}
+use Rattle.written_world.specs.Channels.{is_agent, is_app, content}
+use Rattle.written_world.specs.Jobs.{KnownJob, job_of, is_known, is_live, unit_count, has_machine, has_number, with_number}
+use Rattle.written_world.specs.Masters.{Master}
+use Rattle.written_world.specs.Placing.{placeable}
+use Rattle.written_world.specs.HardState.{with_job, with_ended}
+use Rattle.written_world.specs.MasterSteps.{talks, ready, end_step, is_there, counted, take_report, take_demand, meet_app, is_taken, adopts, told, received, adopted_now, master_hears}
+use Rattle.written_world.proofs.Choosing.{either}
+use Rattle.written_world.proofs.Places.{number_is}
+use Rattle.written_world.proofs.Keys.{same_key}
+use Rattle.written_world.proofs.Resting.{IsRangedMaster, IsResting, ranged_same, ready_rests}
+use Rattle.written_world.proofs.Steps.{found_has}
+use Rattle.written_world.specs.Net.{Party, Starts, move}
+use Rattle.written_world.specs.Ledgers.{near_key, rack_key, avoid_key, back_key}
+use Rattle.written_world.specs.Channels.{master_id, agent_id, app_id, party, is_master}
+use Rattle.written_world.specs.Jobs.{job_numbers, without_number}
+use Rattle.written_world.specs.HardState.{raised, submitted, finished, banned, unbanned}
+use Rattle.written_world.specs.Preemption.{plan_of, preempted}
+use Rattle.written_world.specs.Refusals.{Refusal}
+use Rattle.written_world.specs.World.{World, Agent, App, Step, empty_world, prints_nothing, refused, with_found, master_party}
+use Rattle.written_world.specs.Agents.{agent_hears, app_hears}
+use Rattle.written_world.specs.Events.{Event, StartMaster, StopMaster, StartAgent, StartApp, Submit, Finish, Ban, Unban, Begin, Preempt, Want, Near, Rack, Avoid, GiveBack, TurnMaster, TurnAgent, TurnApp, ResyncMaster, ResyncAgent, ResyncApp, Deliver, DeliverRange, Dump, ShowState, at_master, at_agent, at_app, demanded, turned, turn_to_master, addressed, packet_of, deliver_one, deliver_all, given_back, new_master, agent_started, app_started, ended_in, banned_in, act, counted_in, world_step}
+use Rattle.written_world.specs.Runs.{run_from, run}
+use Rattle.std.proofs.lemmas.Map.Lookups.{exact_unsigned}
+
+-- an entry of a map after a put is the new one or an old one
+record Found {A : Type 0} (P : A → Type 0) (o : Option A) : Type 0 where
+  has : (x : A) → o ≡ Some x → P x
+
+put_found : {A : Type 0} (P : A → Type 0) (k : ℕ) (v : A) (es : List (ℕ × A)) (q : ℕ) → P v → Found P (find nat_cmp q es) → Found P (find nat_cmp q (put nat_cmp k v es))
+put_found P k v es q new old = subst (Found P) (sym (find-put nat_cmp nat_cmp_total q k v es)) (elim (eq_by_cmp nat_cmp q k) as (λ b. Found P (cond b (Some v) (find nat_cmp q es))) [
+  | true ↦ record { has = λ x e. let same : v ≡ x = cc in subst P same new }
+  | false ↦ old
+])
+
+-- of a unit that is not there nothing is wanted
+more_units : (jobs : List KnownJob) (j : JobRecord) (a u : ℕ) → nat_lt u (unit_count (with_job j jobs) a) ≡ false → nat_lt u (unit_count jobs a) ≡ false
+more_units [] j a u h = grind (arith, nat_tests)
+more_units (k ∷ ks) j a u h = elim (nat_eq k.job.number a) as (λ b. nat_lt u (length (unwrap_or (option_map (λ j. j.job.units) (cond b (Some k) (job_of (with_job j ks) a))) [])) ≡ false
+    → nat_lt u (length (unwrap_or (option_map (λ j. j.job.units) (cond b (Some k) (job_of ks a))) [])) ≡ false) [
+      | true ↦ λ h. h
+      | false ↦ λ h. more_units ks j a u h
+    ] h
+
+ended_units : (jobs : List KnownJob) (a b : ℕ) → unit_count (with_ended a jobs) b ≡ unit_count jobs b
+ended_units [] a b = refl
+ended_units (k ∷ ks) a b = elim (nat_eq k.job.number a) as (λ t. length (unwrap_or (option_map (λ j. j.job.units) (let k' : KnownJob = cond t (record { job = k.job; ended = true }) k in cond (nat_eq k'.job.number b) (Some k') (job_of (with_ended a ks) b))) []) ≡ unit_count (k ∷ ks) b) [
+  | true ↦ elim (nat_eq k.job.number b) as (λ s. length (unwrap_or (option_map (λ (j : KnownJob). j.job.units) (cond s (Some (record { job = k.job; ended = true })) (job_of (with_ended a ks) b))) []) ≡ length (unwrap_or (option_map (λ (j : KnownJob). j.job.units) (cond s (Some k) (job_of ks b))) [])) [ true ↦ refl | false ↦ ended_units ks a b ]
+  | false ↦ elim (nat_eq k.job.number b) as (λ s. length (unwrap_or (option_map (λ (j : KnownJob). j.job.units) (cond s (Some k) (job_of (with_ended a ks) b))) []) ≡ length (unwrap_or (option_map (λ (j : KnownJob). j.job.units) (cond s (Some k) (job_of ks b))) [])) [ true ↦ refl | false ↦ ended_units ks a b ]
+]
+
+-- what a demand after a put wants
+put_wanted : (a b : ℕ) (d : Ledger) (demands : List (ℕ × Ledger)) (k : Key) → (nat_eq b a ≡ true → at_key d k ≡ 0) → at_key (unwrap_or (find nat_cmp b demands) nothing) k ≡ 0 → at_key (unwrap_or (find nat_cmp b (put nat_cmp a d demands)) nothing) k ≡ 0
+put_wanted a b d demands k new old = ap (λ o. at_key (unwrap_or o nothing) k) (find-put nat_cmp nat_cmp_total b a d demands) ∙ elim (eq_by_cmp nat_cmp b a) as (λ t. eq_by_cmp nat_cmp b a ≡ t → at_key (unwrap_or (cond t (Some d) (find nat_cmp b demands)) nothing) k ≡ 0) [
+  | true ↦ λ t. new (tie b a t)
+  | false ↦ λ _. old
+] refl
+  where
+    tie : (b a : ℕ) → eq_by_cmp nat_cmp b a ≡ true → nat_eq b a ≡ true
+    tie b a t = grind (arith, nat_tests, t)
+
+-- what is counted of a demand wants nothing of a unit that is not there
+counted_wants : (c : ClusterRecord) (jobs : List KnownJob) (a u : ℕ) (d : Ledger) → nat_lt u (unit_count jobs a) ≡ false → at_key (counted c jobs a d) (want_key u) ≡ 0
+counted_wants c jobs a u d h =
+    let p = is_there c (unit_count jobs a) in
+    ap (λ o. unwrap_or o 0) (find-where_key key_cmp p (want_key u) (λ x t. ap p (sym (same_key (want_key u) x t))) d.entries)
+    ∙ ap (λ b. unwrap_or (cond b (find key_cmp (want_key u) d.entries) None) 0) (ap (λ b. b && (nat_eq 1 1 || cond (nat_eq 1 3) (is_there c 0 (want_key u)) (has_machine c 0))) h)
+
+with_back : (n m : ℕ) (ms : List ℕ) → has_number n (with_number m ms) ≡ true → nat_eq n m ≡ false → has_number n ms ≡ true
+with_back n m [] h e = let no : (nat_eq n m || false) ≡ false = ap (λ b. b || false) e in cc
+with_back n m (k ∷ ks) h e = elim (nat_lt m k) as (λ b. has_number n (cond b (m ∷ k ∷ ks) (cond (nat_eq m k) (k ∷ ks) (k ∷ with_number m ks))) ≡ true → (nat_eq n k || has_number n ks) ≡ true) [
+  | true ↦ λ h. sym (ap (λ b. b || (nat_eq n k || has_number n ks)) e) ∙ h
+  | false ↦ elim (nat_eq m k) as (λ b. has_number n (cond b (k ∷ ks) (k ∷ with_number m ks)) ≡ true → (nat_eq n k || has_number n ks) ≡ true) [
+    | true ↦ λ h. h
+    | false ↦ elim (nat_eq n k) as (λ b. (b || has_number n (with_number m ks)) ≡ true → (b || has_number n ks) ≡ true) [ true ↦ λ h. h | false ↦ λ h. with_back n m ks h e ]
+  ]
+] h
+
+-- a master that takes a report or a demand
+reported_ranged : (c : ClusterRecord) (M : Master) (m : ℕ) (l : Ledger) → has_machine c m ≡ true → IsRangedMaster c M → IsRangedMaster c (take_report M m l)
+reported_ranged c M m l there r = either (IsRangedMaster c) (adopts M m l) _ M
+    (λ _. record {
+      reported = λ k h. elim (nat_eq k m) as (λ b. nat_eq k m ≡ b → has_machine c k ≡ true) [
+        | true ↦ λ e. subst (λ x. has_machine c x ≡ true) (sym (number_is k m e)) there
+        | false ↦ λ e. r.reported k (with_back k m M.reported h e)
+      ] refl;
+      wanted = r.wanted;
+    })
+    (λ _. r)
+
+demand_ranged : (c : ClusterRecord) (M : Master) (a : ℕ) (d : Ledger) → ((u : ℕ) → nat_lt u (unit_count M.jobs a) ≡ false → at_key d (want_key u) ≡ 0) → IsRangedMaster c M → IsRangedMaster c (take_demand M a d)
+demand_ranged c M a d few r = either (IsRangedMaster c) (nat_eq d.head M.epoch && is_live M.jobs a) _ _
+    (λ _. record { reported = r.reported; wanted = λ b u h. put_wanted a b d M.demands (want_key u) (λ e. few u (subst (λ x. nat_lt u (unit_count M.jobs x) ≡ false) (number_is b a e) h)) (r.wanted b u h) })
+    (λ _. record { reported = r.reported; wanted = λ b u h. put_wanted a b nothing M.demands (want_key u) (λ _. refl) (r.wanted b u h) })
+
+meet_ranged : (c : ClusterRecord) (fresh : Bool) (M : Master) (a : ℕ) → IsRangedMaster c M → IsRangedMaster c (meet_app fresh M a)
+meet_ranged c true M a r = record { reported = r.reported; wanted = λ b u h. put_wanted a b nothing M.demands (want_key u) (λ _. refl) (r.wanted b u h) }
+meet_ranged c false M a r = r
+
+meet_jobs : (fresh : Bool) (M : Master) (a : ℕ) → (meet_app fresh M a).jobs ≡ M.jobs
+meet_jobs true M a = refl
+meet_jobs false M a = refl
+
+talks_machine : (c : ClusterRecord) (M : Master) (q : Id) → talks c M q ≡ true → is_agent q ≡ true → has_machine c q.number ≡ true
+talks_machine c M q t e =
+    let role : q.role ≡ 2 = number_is q.role 2 e in
+    let no : is_app q ≡ false = grind (arith, nat_tests, role) in
+    let known = is_known M.jobs q.number in
+    elim (has_machine c q.number) as (λ b. ((is_agent q && b) || (is_app q && known)) ≡ true → b ≡ true) [
+      | true ↦ λ _. refl
+      | false ↦ λ t. let f : ((is_agent q && false) || (is_app q && known)) ≡ false = ap (λ x. (x && false) || (is_app q && known)) e ∙ ap (λ y. y && known) no in cc
+    ] t
+
+told_ranged : (c : ClusterRecord) (net : Net Ledger) (M : Master) (h : Heard) (x : Packet) → talks c M x.from.id ≡ true → IsRangedMaster c M → IsRangedMaster c (told M h x.from.id (received c M net x))
+told_ranged c net M h x t r =
+    let n = x.from.id.number in
+    let C = content net x in
+    let D = counted c M.jobs n C in
+    let M1 = meet_app h.fresh M n in
+    elim (is_agent x.from.id) as (λ b. is_agent x.from.id ≡ b → IsRangedMaster c (cond b (cond (is_taken h.what) (take_report M n (cond b C D)) M) (cond (is_taken h.what) (take_demand M1 n (cond b C D)) M1))) [
+      | true ↦ λ e. either (IsRangedMaster c) (is_taken h.what) (take_report M n C) M (λ _. reported_ranged c M n C (talks_machine c M x.from.id t e) r) (λ _. r)
+      | false ↦ λ e.
+          let r1 = meet_ranged c h.fresh M n r in
+          let few : (u : ℕ) → nat_lt u (unit_count M1.jobs n) ≡ false → at_key D (want_key u) ≡ 0 = λ u k. counted_wants c M.jobs n u C (subst (λ js. nat_lt u (unit_count js n) ≡ false) (meet_jobs h.fresh M n) k) in
+          either (IsRangedMaster c) (is_taken h.what) (take_demand M1 n D) M1 (λ _. demand_ranged c M1 n D few r1) (λ _. r1)
+    ] refl
+
+-- all running masters rest
+record AllRest (c : ClusterRecord) (masters : List (ℕ × Master)) : Type 0 where
+  rests : (e : ℕ) → Found (IsResting c) (find nat_cmp e masters)
+
+record Rests (w : World) : Type 0 where
+  all : AllRest w.cluster w.masters
+
+record StepRests (s : Step) : Type 0 where
+  all : AllRest s.world.cluster s.world.masters
+
+end_rests : (w : World) (net : Net Ledger) (M : Master) (forced : List Id) → AllRest w.cluster w.masters → IsRangedMaster w.cluster M → Rests (end_step w net M forced)
+end_rests w net M forced s r = let R = ready w.cluster M in record { all = record { rests = λ e. put_found (IsResting w.cluster) R.epoch R w.masters e (ready_rests w.cluster M r) (s.rests e) } }
+
+step_rests : (w : World) (net : Net Ledger) (M : Master) (forced : List Id) → AllRest w.cluster w.masters → IsRangedMaster w.cluster M → StepRests (prints_nothing (end_step w net M forced))
+step_rests w net M forced s r = record { all = (end_rests w net M forced s r).all }
+
+checked : (w : World) (o : Option Refusal) (s : Step) → AllRest w.cluster w.masters → StepRests s → StepRests (elim o as (λ _. Step) [ None ↦ s | Some r ↦ refused w r ])
+checked w None s b k = k
+checked w (Some r) s b k = record { all = b }
+
+master_runs : (w : World) (e : ℕ) (f : Master → Step) → AllRest w.cluster w.masters → ((M : Master) → IsRangedMaster w.cluster M → StepRests (f M)) → StepRests (at_master w e f)
+master_runs w e f b k = found_has StepRests (find nat_cmp e w.masters) _ f (record { all = b }) (λ M found. k M ((b.rests e).has M found).ranged)
+
+agent_runs : (w : World) (m : ℕ) (f : Agent → Step) → AllRest w.cluster w.masters → ((g : Agent) → StepRests (f g)) → StepRests (at_agent w m f)
+agent_runs w m f b k = found_has StepRests (find nat_cmp m w.agents) _ f (record { all = b }) (λ g _. k g)
+
+app_runs : (w : World) (a : ℕ) (f : App → Step) → AllRest w.cluster w.masters → ((g : App) → StepRests (f g)) → StepRests (at_app w a f)
+app_runs w a f b k = found_has StepRests (find nat_cmp a w.apps) _ f (record { all = b }) (λ g _. k g)
+
+hears_rests : (w : World) (M : Master) (x : Packet) → AllRest w.cluster w.masters → IsRangedMaster w.cluster M → Rests (master_hears w M x)
+hears_rests w M x b r =
+    let h = heard_of w.net (master_party M) (talks w.cluster M) x in
+    let l = received w.cluster M w.net x in
+    let n = comes w.net (master_party M) (talks w.cluster M) (Some x) in
+    either Rests (talks w.cluster M x.from.id) (end_step w n (told M h x.from.id l) (adopted_now M h x.from.id l)) w
+    (λ t. end_rests w n (told M h x.from.id l) (adopted_now M h x.from.id l) b (told_ranged w.cluster w.net M h x t r)) (λ _. record { all = b })
+
+addressed_rests : (w : World) (x : Packet) → AllRest w.cluster w.masters → Rests (addressed w x)
+addressed_rests w x b =
+    let same : Rests w = record { all = b } in
+    let to_master = with_found (find nat_cmp x.to.inc w.masters) w (λ M. master_hears w M x) in
+    let to_agent = with_found (find nat_cmp x.to.id.number w.agents) w (λ g. agent_hears w x.to.id.number g x) in
+    let to_app = with_found (find nat_cmp x.to.id.number w.apps) w (λ g. app_hears w x.to.id.number g x) in
+    let master : Rests to_master = found_has Rests (find nat_cmp x.to.inc w.masters) w (λ M. master_hears w M x) same (λ M e. hears_rests w M x b ((b.rests x.to.inc).has M e).ranged) in
+    let agent : Rests to_agent = found_has Rests (find nat_cmp x.to.id.number w.agents) w (λ g. agent_hears w x.to.id.number g x) same (λ g _. record { all = b }) in
+    let app : Rests to_app = found_has Rests (find nat_cmp x.to.id.number w.apps) w (λ g. app_hears w x.to.id.number g x) same (λ g _. record { all = b }) in
+    either Rests (is_master x.to.id) to_master (cond (is_agent x.to.id) to_agent (cond (is_app x.to.id) to_app w)) (λ _. master)
+    (λ _. either Rests (is_agent x.to.id) to_agent (cond (is_app x.to.id) to_app w) (λ _. agent)
+    (λ _. either Rests (is_app x.to.id) to_app w (λ _. app) (λ _. same)))
+
+deliver_rests : (k : ℕ) (w : World) → AllRest w.cluster w.masters → StepRests (deliver_one k w)
+deliver_rests k w b = found_has StepRests (packet_of w k) _ _ (record { all = b }) (λ x _. record { all = (addressed_rests w x b).all })
+
+deliver_all_rests : (n k : ℕ) (w : World) → AllRest w.cluster w.masters → StepRests (deliver_all n k w)
+deliver_all_rests zero k w b = record { all = b }
+deliver_all_rests (suc n) k w b = record { all = (deliver_all_rests n (k + 1) (deliver_one k w).world (deliver_rests k w b).all).all }
+
+stopped_rests : (c : ClusterRecord) (masters : List (ℕ × Master)) (e : ℕ) → AllRest c masters → AllRest c (where_key nat_cmp (λ k. not (nat_eq k e)) masters)
+stopped_rests c masters e b = record {
+  rests = λ q.
+      subst (Found (IsResting c)) (sym (find-where_key nat_cmp (λ k. not (nat_eq k e)) q (λ x t. ap (λ k. not (nat_eq k e)) (sym (exact_unsigned q x t))) masters))
+      (elim (not (nat_eq q e)) as (λ t. Found (IsResting c) (cond t (find nat_cmp q masters) None)) [ true ↦ b.rests q | false ↦ record { has = λ x none. cc } ]);
+}
+
+to_master_rests : (w : World) (p : Party) → AllRest w.cluster w.masters → StepRests (turn_to_master w p)
+to_master_rests w p b = either StepRests (nat_eq (w.net.links p master_id).known 0) (prints_nothing w) (turned w p (master_id ∷ [])) (λ _. record { all = b }) (λ _. record { all = b })
+
+new_ranged : (w : World) (e : ℕ) → IsRangedMaster w.cluster (new_master w e)
+new_ranged w e = record { reported = λ m h. cc; wanted = λ a u h. refl }
+
+job_ranged : (c : ClusterRecord) (M : Master) (j : JobRecord) → IsRangedMaster c M → IsRangedMaster c (record M { jobs = with_job j M.jobs })
+job_ranged c M j r = record { reported = r.reported; wanted = λ a u h. r.wanted a u (more_units M.jobs j a u h) }
+
+ended_ranged : (c : ClusterRecord) (M : Master) (a : ℕ) → IsRangedMaster c M → IsRangedMaster c (ended_in M a)
+ended_ranged c M a r = record {
+  reported = r.reported;
+  wanted = λ b u h. put_wanted a b nothing M.demands (want_key u) (λ _. refl) (r.wanted b u (sym (ap (λ n. nat_lt u n) (ended_units M.jobs a b)) ∙ h));
+}
+
+same_ranged : (c : ClusterRecord) (M N : Master) → N.jobs ≡ M.jobs → N.demands ≡ M.demands → N.reported ≡ M.reported → IsRangedMaster c M → IsRangedMaster c N
+same_ranged c M N jobs demands reported r = ranged_same c M N (record { jobs = jobs; demands = demands; reported = reported }) r
+
+act_rests : (w : World) (e : Event) → AllRest w.cluster w.masters → StepRests (act w e)
+act_rests w (StartMaster e) b = checked w _ _ b (step_rests (record w { hard = raised w.hard e; ran = w.ran ++ party master_id e ∷ [] }) (move w.net (Starts (party master_id e))) (new_master w e) (map app_id (job_numbers w.hard.jobs)) b (new_ranged w e))
+act_rests w (StopMaster e) b = master_runs w e _ b (λ M r. record { all = stopped_rests w.cluster w.masters e b })
+act_rests w (StartAgent m n) b = checked w _ (prints_nothing (agent_started w m n)) b (record { all = b })
+act_rests w (StartApp a n) b = checked w _ (prints_nothing (app_started w a n)) b (record { all = b })
+act_rests w (Submit e j) b = master_runs w e _ b (λ M r. checked w _ _ b (step_rests (record w { hard = submitted w.hard j }) w.net (record M { jobs = with_job j M.jobs }) (app_id j.number ∷ []) b (job_ranged w.cluster M j r)))
+act_rests w (Finish e a) b = master_runs w e _ b (λ M r. checked w _ _ b (step_rests (record w { hard = finished w.hard a }) w.net (ended_in M a) [] b (ended_ranged w.cluster M a r)))
+act_rests w (Ban e m) b = master_runs w e _ b (λ M r. checked w _ _ b (step_rests (record w { hard = banned w.hard m }) w.net (banned_in M m) [] b (same_ranged w.cluster M (banned_in M m) refl refl refl r)))
+act_rests w (Unban e m) b = master_runs w e _ b (λ M r. checked w _ _ b (step_rests (record w { hard = unbanned w.hard m }) w.net (record M { bans = without_number m M.bans }) [] b (same_ranged w.cluster M (record M { bans = without_number m M.bans }) refl refl refl r)))
+act_rests w (Begin e) b = master_runs w e _ b (λ M r. checked w _ _ b (step_rests w w.net (record M { serving = true }) [] b (same_ranged w.cluster M (record M { serving = true }) refl refl refl r)))
+act_rests w (Preempt e) b = master_runs w e _ b (λ M r. checked w _ _ b (found_has StepRests (plan_of w.cluster M) _ _ (record { all = b }) (λ p _. step_rests w w.net (preempted M p) [] b (same_ranged w.cluster M (preempted M p) refl refl refl r))))
+act_rests w (Want a u n) b = app_runs w a _ b (λ g. checked w _ (demanded w a g (want_key u) n) b (record { all = b }))
+act_rests w (Near a u m n) b = app_runs w a _ b (λ g. checked w _ (demanded w a g (near_key u m) n) b (record { all = b }))
+act_rests w (Rack a u r n) b = app_runs w a _ b (λ g. checked w _ (demanded w a g (rack_key u r) n) b (record { all = b }))
+act_rests w (Avoid a u m on) b = app_runs w a _ b (λ g. checked w _ (demanded w a g (avoid_key u m) (min on 1)) b (record { all = b }))
+act_rests w (GiveBack a u m n) b = app_runs w a _ b (λ g. checked w _ (demanded w a g (back_key u m) (given_back w a g u m + n)) b (record { all = b }))
+act_rests w (TurnMaster e) b = master_runs w e _ b (λ M r. record { all = b })
+act_rests w (TurnAgent m) b = agent_runs w m _ b (λ g. to_master_rests w (party (agent_id m) g.boot) b)
+act_rests w (TurnApp a) b = app_runs w a _ b (λ g. to_master_rests w (party (app_id a) g.boot) b)
+act_rests w (ResyncMaster e) b = master_runs w e _ b (λ M r. record { all = b })
+act_rests w (ResyncAgent m) b = agent_runs w m _ b (λ g. record { all = b })
+act_rests w (ResyncApp a) b = app_runs w a _ b (λ g. record { all = b })
+act_rests w (Deliver k) b = checked w _ _ b (deliver_rests k w b)
+act_rests w (DeliverRange k l) b = checked w _ _ b (deliver_all_rests (l + 1 - k) k w b)
+act_rests w (Dump k) b = checked w _ _ b (found_has StepRests (packet_of w k) _ _ (record { all = b }) (λ x _. record { all = b }))
+act_rests w ShowState b = record { all = b }
+
+run_rests : (es : List Event) (w : World) → AllRest w.cluster w.masters → Rests (run_from es w).world
+run_rests [] w b = record { all = b }
+run_rests (e ∷ es) w b = record { all = (run_rests es (world_step w e).world (act_rests (counted_in w) e b).all).all }
+
+-- in every state nothing is placeable in any running master
+pub nothing_placeable : (c : ClusterRecord) (es : List Event) (e : ℕ) (M : Master) → find nat_cmp e (run c es).masters ≡ Some M → (a u m : ℕ) → placeable (run c es).cluster M a u m ≡ false
+nothing_placeable c es e M found = (((run_rests es (empty_world c) (record { rests = λ q. record { has = λ x none. cc } })).all.rests e).has M found).settled

@@ -1,0 +1,15 @@
+mod Keys
+mod Choosing
+mod Counting
+mod OnlyDifference
+mod Placed
+mod Capacity
+mod Patched
+mod Places
+mod Bounds
+mod Steps
+mod Start
+mod Sounds
+mod Viewing
+mod Resting
+mod AlwaysResting

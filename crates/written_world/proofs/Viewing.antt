@@ -1,0 +1,19 @@
+-- Places within their histories, and receivers that have caught up.
+use Rattle.std.proofs.Common.{◌≡◌, true, nat_eq}
+use Rattle.written_world.specs.Net.{Net, Party, last}
+use Rattle.written_world.specs.Ledgers.{Ledger, nothing}
+use Rattle.written_world.specs.Channels.{at_index, party, view, present, is_caught_up}
+use Rattle.written_world.specs.Sound.{Bounded}
+use Rattle.written_world.specs.Safe.{Views}
+use Rattle.written_world.proofs.Choosing.{both_true}
+use Rattle.written_world.proofs.Places.{number_is}
+
+caught_up : (net : Net Ledger) (s r : Party) → is_caught_up net s r ≡ true → view net r s.id ≡ present net s r.id
+caught_up net s r e =
+    let parts = both_true (nat_eq (net.links r s.id).known s.inc) (nat_eq (net.links r s.id).seq (last net s r.id)) e in
+    let known = number_is (net.links r s.id).known s.inc parts.0 in
+    let seq = number_is (net.links r s.id).seq (last net s r.id) parts.1 in
+    λ i. at_index nothing (net.histories (party s.id (known i)) r.id) (seq i)
+
+pub views_of : (net : Net Ledger) → Bounded net → Views net
+views_of net b = record { there = λ p q. (b.links p q).place; current = caught_up net }

@@ -1,0 +1,7 @@
+use Rattle.written_world.specs.Sound.{Bounded}
+use Rattle.written_world.proofs.Bounds.{move_bounded, silent_bounded}
+use Rattle.written_world.proofs.Steps.{run_keeps}
+use Rattle.written_world.proofs.nothing_is_past_its_end.Goals as goal
+
+pub returns : goal.returns
+returns c = λ cluster events. run_keeps Bounded move_bounded cluster events silent_bounded

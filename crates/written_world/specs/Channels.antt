@@ -1,0 +1,79 @@
+-- The channels between a master, the agents and the applications: views of histories, publishing, and what packets hold.
+use Rattle.std.specs.Prelude.{ℕ, zero, suc, ◌+◌, ◌-◌, Bool, false, cond, not, nat_eq, ◌&&◌, ◌||◌, List, [], ◌∷◌, slice_get}
+use Rattle.std.specs.Option.{unwrap_or}
+use Rattle.written_world.specs.Net.{Net, Party, Id, Packet, Kind, Ack, Delta, Full, last, move, Posts}
+use Rattle.written_world.specs.Ledgers.{Ledger, nothing, same_ledger, Body, Empty, whole_body, change_body, body_length, credited_what, back_what}
+
+abbrev pub master_id : Id
+master_id = record { role = 1; number = 0 }
+
+abbrev pub agent_id : ℕ → Id
+agent_id m = record { role = 2; number = m }
+
+abbrev pub app_id : ℕ → Id
+app_id a = record { role = 3; number = a }
+
+abbrev pub is_agent : Id → Bool
+is_agent d = nat_eq d.role 2
+
+abbrev pub is_app : Id → Bool
+is_app d = nat_eq d.role 3
+
+abbrev pub party : Id → ℕ → Party
+party id inc = record { id = id; inc = inc }
+
+-- an agent and an application talk to masters alone
+abbrev pub is_master : Id → Bool
+is_master d = nat_eq d.role 1 && nat_eq d.number 0
+
+-- the entry at an index of a history; at index 0 the empty value
+abbrev pub at_index : {L : Type 0} → L → List L → ℕ → L
+at_index d h zero = d
+at_index d h (suc n) = unwrap_or (slice_get h n) d
+
+-- what a party has received of a peer: the entry at its place in the peer's history
+abbrev pub view : Net Ledger → Party → Id → Ledger
+view net p q = at_index nothing (net.histories (party q (net.links p q).known) p.id) (net.links p q).seq
+
+-- a party's own ledger towards a peer: the last entry of its history, and it stands nowhere else
+abbrev pub present : Net Ledger → Party → Id → Ledger
+present net p q = at_index nothing (net.histories p q) (last net p q)
+
+-- what a party would have a peer see. forced: it is appended also where it equals the last entry
+pub record Offer : Type 0 where
+  pub to : Id
+  pub forced : Bool
+  pub ledger : Ledger
+
+abbrev pub publish_one : Net Ledger → Party → Offer → Net Ledger
+publish_one net p o = cond (o.forced || not (same_ledger (present net p o.to) o.ledger)) (move net (Posts p o.to o.ledger)) net
+
+-- each ledger that differs from the last entry of its history is appended once
+abbrev pub publish : Net Ledger → Party → List Offer → Net Ledger
+publish net p [] = net
+publish net p (o ∷ os) = publish (publish_one net p o) p os
+
+-- what an agent or an application would have its master see
+abbrev pub to_master : Ledger → List Offer
+to_master ledger = record { to = master_id; forced = false; ledger = ledger } ∷ []
+
+-- a receiver has caught up where its place is the last of the sender's history
+abbrev pub is_caught_up : Net Ledger → Party → Party → Bool
+is_caught_up net s r = nat_eq (net.links r s.id).known s.inc && nat_eq (net.links r s.id).seq (last net s r.id)
+
+-- the entry that a packet names
+abbrev pub content : Net Ledger → Packet → Ledger
+content net x = at_index nothing (net.histories x.from x.to.id) x.seq
+
+-- what numbers a new head drops: of grants the credited ones, of a demand those given back
+abbrev pub dropped_by : Id → ℕ
+dropped_by sender = cond (is_master sender) credited_what back_what
+
+abbrev pub body_of : Net Ledger → Kind → Packet → Body
+body_of net Ack x = Empty
+body_of net Full x = whole_body (is_agent x.to.id) (is_agent x.from.id) (content net x)
+body_of net Delta x = change_body (is_agent x.to.id) (is_agent x.from.id) (dropped_by x.from.id) (at_index nothing (net.histories x.from x.to.id) (x.seq - 1)) (content net x)
+
+-- a frame is a length of 4 bytes, 44 bytes of header, and the body
+abbrev pub frame_length : Net Ledger → Packet → ℕ
+frame_length net x = 48 + body_length (body_of net x.kind x)

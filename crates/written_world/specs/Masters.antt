@@ -1,0 +1,67 @@
+-- A master's state: its table of grants, the demands that it has taken, and its line.
+use Rattle.std.specs.Prelude.{ℕ, ◌-◌, ◌*◌, Bool, cond, nat_eq, nat_lt, ◌&&◌, List, []}
+use Rattle.std.specs.Option.{unwrap_or}
+use Rattle.std.specs.List.{sum_by}
+use Rattle.std.specs.Ordering.{nat_cmp}
+use Rattle.std.specs.FinMap.Entries.{find}
+use Rattle.fuxi_terms.specs.declared.Key.{Key}
+use Rattle.fuxi_terms.specs.Cluster.{ClusterRecord}
+use Rattle.fuxi_terms.specs.Keys.{Spot, spot_cmp}
+use Rattle.fuxi_terms.specs.Counts.{count}
+use Rattle.written_world.specs.Ledgers.{Ledger, nothing, at_key, want_key, near_key, rack_key, avoid_key}
+use Rattle.written_world.specs.Jobs.{KnownJob, size_at, group_of, rack_of}
+
+-- reported and bans rise; the table is a finite map from (job, unit, machine) to a positive number; demands and credited are by job;
+-- the line is a list of pairs (job, unit) without repeats. What the master knows of its peers stands in the net
+pub record Master : Type 0 where
+  pub epoch : ℕ
+  pub jobs : List KnownJob
+  pub bans : List ℕ
+  pub serving : Bool
+  pub reported : List ℕ
+  pub table : List (Spot × ℕ)
+  pub demands : List (ℕ × Ledger)
+  pub credited : List (ℕ × List (Key × ℕ))
+  pub line : List (ℕ × ℕ)
+
+abbrev pub spot : ℕ → ℕ → ℕ → Spot
+spot a u m = record { job = a; unit = u; machine = m }
+
+-- Sums over a table: what a unit holds in all, on a machine and in a rack
+abbrev pub held : List (Spot × ℕ) → ℕ → ℕ → ℕ
+held table a u = sum_by (λ e. cond (nat_eq e.0.job a && nat_eq e.0.unit u) e.1 0) table
+
+abbrev pub held_on : List (Spot × ℕ) → ℕ → ℕ → ℕ → ℕ
+held_on table a u m = count spot_cmp table (spot a u m)
+
+abbrev pub held_in : ClusterRecord → List (Spot × ℕ) → ℕ → ℕ → ℕ → ℕ
+held_in c table a u r = sum_by (λ e. cond (nat_eq e.0.job a && (nat_eq e.0.unit u && nat_eq (rack_of c e.0.machine) r)) e.1 0) table
+
+-- count times size, in one resource: on a machine, and over the jobs of a group
+abbrev pub total_at : List KnownJob → ℕ → ℕ → List (Spot × ℕ) → ℕ
+total_at jobs m i table = sum_by (λ e. cond (nat_eq e.0.machine m) (e.1 * size_at jobs e.0.job e.0.unit i) 0) table
+
+abbrev pub usage_at : List KnownJob → ℕ → ℕ → List (Spot × ℕ) → ℕ
+usage_at jobs g i table = sum_by (λ e. cond (nat_eq (group_of jobs e.0.job) g) (e.1 * size_at jobs e.0.job e.0.unit i) 0) table
+
+-- The demand of a job, and what of it the table does not meet
+abbrev pub demand_of : Master → ℕ → Ledger
+demand_of M a = unwrap_or (find nat_cmp a M.demands) nothing
+
+abbrev pub asked : Master → ℕ → Key → ℕ
+asked M a k = at_key (demand_of M a) k
+
+abbrev pub out : Master → ℕ → ℕ → ℕ
+out M a u = asked M a (want_key u) - held M.table a u
+
+-- the level of a unit on a machine: 0 where it wants more there, else 1 where it wants more in that rack, else 2
+abbrev pub level : ClusterRecord → Master → ℕ → ℕ → ℕ → ℕ
+level c M a u m =
+    cond (nat_lt (held_on M.table a u m) (asked M a (near_key u m))) 0
+    (cond (nat_lt (held_in c M.table a u (rack_of c m)) (asked M a (rack_key u (rack_of c m)))) 1 2)
+
+abbrev pub avoids : Master → ℕ → ℕ → ℕ → Bool
+avoids M a u m = nat_lt 0 (asked M a (avoid_key u m))
+
+abbrev pub credited_of : Master → ℕ → List (Key × ℕ)
+credited_of M a = unwrap_or (find nat_cmp a M.credited) []

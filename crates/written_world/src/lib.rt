@@ -1,0 +1,68 @@
+//! The written world: what the scheduler does, as definitions that compute. They stand in `specs/`. No
+//! change is ever applied in them and no receiver keeps a ledger: a sender has its history, a receiver is a
+//! place in it, and placing and preempting search through all pairs. Each function here does nothing; its
+//! contract is a law of the definitions.
+#![tactic(auto)]
+
+ghost use Rattle.std.specs.Prelude.{◌≡◌, ℕ, List};
+ghost use Rattle.fuxi_terms.specs.declared.Key.{Key};
+ghost use Rattle.fuxi_terms.specs.Cluster.{ClusterRecord};
+ghost use Rattle.fuxi_terms.specs.Keys.{key_cmp, RowKey, row_cmp, Spot, spot_cmp};
+ghost use Rattle.written_world.specs.Masters.{Master};
+ghost use Rattle.written_world.specs.Placing.{settled};
+ghost use Rattle.written_world.specs.Patching.{PatchedByDifference, TalliesByDifference};
+ghost use Rattle.written_world.specs.Settling.{NothingPlaceable, Picks, IsWithin};
+ghost use Rattle.written_world.specs.Net.{Net, Move, move};
+ghost use Rattle.written_world.specs.Ledgers.{Ledger};
+ghost use Rattle.written_world.specs.Sound.{Bounded, Sound, Allowed};
+ghost use Rattle.written_world.specs.World.{empty_world};
+ghost use Rattle.written_world.specs.Good.{Good, shape};
+ghost use Rattle.written_world.specs.Safe.{AllSettled, Views};
+ghost use Rattle.written_world.specs.Events.{Event};
+ghost use Rattle.written_world.specs.Runs.{run};
+
+/// Patching with the difference gives the second value, and only the difference does: for entries by key,
+/// for rows, for tables, and for tallies with a head and a kind of entry that a new head drops.
+pub fn patched_by_difference()
+    ensures entries { (greatest : Key → ℕ) → PatchedByDifference key_cmp greatest }
+    ensures rows { (greatest : RowKey → ℕ) → PatchedByDifference row_cmp greatest }
+    ensures tables { (greatest : Spot → ℕ) → PatchedByDifference spot_cmp greatest }
+    ensures tallies { (greatest : Key → ℕ) (dropped : ℕ) → TalliesByDifference greatest dropped }
+{}
+
+/// Settling ends, and leaves nothing placeable; whoever grants the placeable pair of least rank until there
+/// is none has settled; and settling keeps each machine's grants within what the machine has.
+pub fn settling()
+    ensures ends { (c : ClusterRecord) (M : Master) → NothingPlaceable c (settled c M) }
+    ensures runs { (c : ClusterRecord) (picks : List Spot) (M N : Master) → Picks c M picks N → N ≡ settled c M }
+    ensures fits { (c : ClusterRecord) (M : Master) → IsWithin c M → IsWithin c (settled c M) }
+{}
+
+/// Whatever the parties do, lose, repeat and reorder: no place, no acknowledged index and no packet is past
+/// the end of the history that it names.
+pub fn nothing_is_past_its_end()
+    ensures { (c : ClusterRecord) (events : List Event) → Bounded (run c events).net }
+{}
+
+/// In every state each place names an entry that is there, and where a channel is caught up, that entry is the
+/// sender's present ledger.
+pub fn views_hold()
+    ensures { (c : ClusterRecord) (events : List Event) → Views (run c events).net }
+{}
+
+/// The empty world is good.
+pub fn good_at_start()
+    ensures { (c : ClusterRecord) → Good (empty_world c) }
+{}
+
+/// In every state no pair is placeable in any running master: a serving master leaves no allowed unit waiting
+/// that fits.
+pub fn all_settled()
+    ensures { (c : ClusterRecord) (events : List Event) → AllSettled (run c events) }
+{}
+
+/// Each move that is allowed keeps a net sound: places, acknowledged indices and packets name entries that are
+/// there, with heads that are the incarnation of the other side, and heads never fall.
+pub fn moves_keep_nets_sound()
+    ensures { (net : Net Ledger) (m : Move Ledger) → Allowed shape net m → Sound shape net → Sound shape (move net m) }
+{}
