@@ -1,5 +1,5 @@
 -- A change that is taken leads to the next index.
-use Rattle.std.proofs.Common.{◌≡◌, ℕ, ◌+◌, ◌<◌, length, List, Result, Ok, Some, false, nat_lt, nat_eq, slice_get, get_or, subst, arith}
+use Rattle.std.proofs.Common.{◌≡◌, ℕ, ◌+◌, ◌<◌, length, List, Result, Ok, Some, false, slice_get, get_or, subst, arith}
 use Rattle.std.proofs.lemmas.Bool.Decides.{nat_tests}
 use Rattle.std.proofs.lemmas.Option.{slice_get-get_or}
 use Rattle.std.proofs.lemmas.Grind.{common_steps}

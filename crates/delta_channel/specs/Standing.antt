@@ -1,5 +1,5 @@
 -- What a sender stands for: a history, which is the list of its ledgers from the one with no entry on.
-use Rattle.std.specs.Prelude.{◌≡◌, ℕ, ◌+◌, ◌-◌, ◌≤◌, List, length, min, Some, Result, Ok, slice_get}
+use Rattle.std.specs.Prelude.{◌≡◌, ℕ, ◌+◌, ◌-◌, ◌≤◌, List, [], ◌∷◌, ◌++◌, length, drop, min, Some, Result, Ok, slice_get}
 use Rattle.ledger_law.specs.declared.ledger.LedgerFault.{LedgerFault}
 
 -- its incarnation, its last index, its present ledger, and the changes that it keeps, the latest last
@@ -29,3 +29,11 @@ pub record StandsFor {V D : Type 0} (nothing : V) (patched : V → D → Result 
   pub at_last : slice_get history s.last ≡ Some s.present
   pub few : length s.kept ≤ s.last
   pub leads : (i : ℕ) (change : D) → slice_get s.kept i ≡ Some change → IsChangeAt patched change (first_kept s + i) history
+
+-- the last so many items of a list, or all where there are fewer
+abbrev pub latest : {D : Type 0} → ℕ → List D → List D
+latest n xs = drop (length xs - n) xs
+
+-- a further change is kept behind the earlier ones, of which the oldest may be let go
+abbrev pub KeepsFurther : {V D : Type 0} → Sending V D → D → Sending V D → Type 0
+KeepsFurther old change new = new.kept ≡ latest (length new.kept) (old.kept ++ change ∷ [])

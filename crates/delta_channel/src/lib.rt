@@ -4,6 +4,8 @@
 
 mod receiver;
 mod sender;
+#[cfg(test)]
+mod tests;
 
 pub use receiver::{Place, Receiver, Stamp, Verdict};
 pub use sender::Sender;

@@ -1,4 +1,4 @@
-ghost use Rattle.std.specs.Prelude.{◌≡◌, ◌<◌, ◌≤◌, ◌↔◌, IsTrue, List, length, OnOk, is_ok, false, true, slice_get, Some, if◌then◌else◌};
+ghost use Rattle.std.specs.Prelude.{◌≡◌, ◌+◌, ◌<◌, ◌≤◌, ◌↔◌, IsTrue, List, length, OnOk, OnErr, is_ok, false, true, slice_get, Some, if◌then◌else◌};
 ghost use Rattle.delta_channel.specs.Standing.{IsChangeAt};
 ghost use Rattle.delta_channel.specs.Hearing.{verdict_of, HasEntry};
 ghost use Rattle.ledger_law.specs.Applying.{Applies};
@@ -48,17 +48,21 @@ pub struct Receiver<L: Ledger> {
 }
 
 impl<L: Ledger> Model for Receiver<L> {
+    ghost use Rattle.std.specs.Prelude.{◌≡◌};
     ghost use Rattle.delta_channel.specs.Hearing.{Receiving};
 
     ghost Value = { Receiving L };
 
     ghost view = { λ r. record { own = r.own; place = r.place; got = r.got } };
+
+    ghost invariant = { λ r. r.place.seq ≡ 0 → r.got ≡ L.nothing };
 }
 
 impl<L: Ledger> Receiver<L> {
     /// A receiver of incarnation `own` that knows no sender.
     pub fn start(alloc: Global, own: u64) -> Receiver<L>
-        ensures { result ≡ record { own = own; place = record { inc = 0; seq = 0 }; got = L.nothing } }
+        ensures value { result ≡ record { own = own; place = record { inc = 0; seq = 0 }; got = L.nothing } }
+        ensures stands { (history : List L) → slice_get history 0 ≡ Some L.nothing → HasEntry result history }
     {
         Receiver {
             own,
@@ -72,6 +76,7 @@ impl<L: Ledger> Receiver<L> {
     pub fn hear(&mut self, alloc: Global, from: u64) -> bool
         ensures fresh { IsTrue result ↔ (self.old.place.inc < from) }
         ensures after { self.new ≡ (if result then (record { own = self.old.own; place = record { inc = from; seq = 0 }; got = L.nothing }) else self.old) }
+        ensures stands { IsTrue result → (history : List L) → slice_get history 0 ≡ Some L.nothing → HasEntry self.new history }
     {
         if self.place.inc < from {
             self.place = Place { inc: from, seq: 0 };
@@ -82,7 +87,8 @@ impl<L: Ledger> Receiver<L> {
         }
     }
 
-    /// What to make of a packet of a sender that was heard of.
+    /// What to make of a packet of a sender that was heard of: its incarnation is not above the known one, and
+    /// is that of its place.
     pub fn verdict(&self, stamp: &Stamp) -> Verdict
         requires from { stamp.now.from ≤ self.now.place.inc }
         requires place { stamp.now.place.inc ≡ stamp.now.from }
@@ -112,7 +118,9 @@ impl<L: Ledger> Receiver<L> {
         }
     }
 
-    /// Makes a change that is to be taken. A fault of the ledger leaves all as it was.
+    /// Makes a change of which the verdict is to take it.
+    ///
+    /// The fault is the ledger's refusal of the change, or want of memory. It leaves all as it was.
     pub fn take_delta(
         &mut self,
         alloc: Global,
@@ -120,9 +128,11 @@ impl<L: Ledger> Receiver<L> {
         change: &L::Delta,
     ) -> Result<(), LedgerFault>
         requires { verdict_of self.old.own self.old.place stamp.now ≡ Verdict.Take }
+        ensures next { stamp.now.full ≡ false → stamp.now.place.seq ≡ self.old.place.seq + 1 }
         ensures applies { Applies (L.patched self.old.got change.now) self.old.got self.new.got result }
         ensures place { self.new.place ≡ (if is_ok result then stamp.now.place else self.old.place) }
         ensures own { self.new.own ≡ self.old.own }
+        ensures err { OnErr result (self.new ≡ self.old) }
         ensures stands { OnOk result (stamp.now.full ≡ false → (history : List L) → HasEntry self.old history → IsChangeAt L.patched change.now self.old.place.seq history
             → stamp.now.place.seq < length history → HasEntry self.new history) }
     {
@@ -131,7 +141,7 @@ impl<L: Ledger> Receiver<L> {
         Ok(())
     }
 
-    /// Takes a whole ledger that is to be taken.
+    /// Takes a whole ledger of which the verdict is to take it. It takes no memory.
     pub fn take_full(&mut self, stamp: &Stamp, ledger: L)
         requires { verdict_of self.old.own self.old.place stamp.now ≡ Verdict.Take }
         ensures after { self.new ≡ record { own = self.old.own; place = stamp.now.place; got = ledger } }
@@ -149,9 +159,10 @@ impl<L: Ledger> Receiver<L> {
         self.place
     }
 
-    /// What came of the sender's ledger.
+    /// What came of the sender's ledger: the one with no entry where nothing came.
     pub fn ledger(&self) -> &L
-        ensures { result.now ≡ self.now.got }
+        ensures got { result.now ≡ self.now.got }
+        ensures nothing { self.now.place.seq ≡ 0 → self.now.got ≡ L.nothing }
     {
         &self.got
     }

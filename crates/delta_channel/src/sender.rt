@@ -1,5 +1,5 @@
 ghost use Rattle.std.specs.Prelude.{◌≡◌, ◌+◌, ◌-◌, ◌<◌, ◌≤◌, ◌^◌, List, [], ◌∷◌, ◌++◌, length, Ok, IfOk, OnOk, OnErr, IfErr, slice_get, Some};
-ghost use Rattle.delta_channel.specs.Standing.{StandsFor, IsChangeAt, KeepsEnough};
+ghost use Rattle.delta_channel.specs.Standing.{StandsFor, IsChangeAt, KeepsEnough, KeepsFurther};
 ghost use Rattle.ledger_law.specs.Applying.{IsRefusal};
 
 use ledger_law::{Ledger, LedgerFault, OutOfMemory};
@@ -26,27 +26,27 @@ impl<L: Ledger> Model for Sender<L> {
 }
 
 impl<L: Ledger> Sender<L> {
-    /// A sender of incarnation `own`, whose history is the ledger with no entry alone.
+    /// A sender of incarnation `own`, whose history is the ledger with no entry alone. It takes room for 256 changes.
     pub fn start(alloc: Global, own: u64) -> Result<Sender<L>, OutOfMemory>
         ensures value { IfOk result (λ s. s ≡ record { own = own; last = 0; present = L.nothing; kept = [] }) }
         ensures stands { IfOk result (λ s. StandsFor L.nothing L.patched s (L.nothing ∷ [])) }
     {
-        match Vec::with_capacity(alloc, 256) {
-            Ok(kept) => Ok(Sender {
-                own,
-                present: L::empty(alloc),
-                kept,
-            }),
-            Err(_) => Err(OutOfMemory),
-        }
+        Ok(Sender {
+            own,
+            present: L::empty(alloc),
+            kept: Vec::with_capacity(alloc, 256)?,
+        })
     }
 
-    /// Makes a change to the ledger and keeps it. Answers the new last index; a fault leaves all as it was.
+    /// Makes a change to the ledger and keeps it, where the last index is below 2^62. Answers the new last index.
+    ///
+    /// The fault is the ledger's refusal of the change, or want of memory. It leaves all as it was.
     pub fn post(&mut self, alloc: Global, change: L::Delta) -> Result<u64, LedgerFault>
         requires { self.old.last < 2 ^ 62 }
         ensures stands { OnOk result ((history : List L) → StandsFor L.nothing L.patched self.old history → StandsFor L.nothing L.patched self.new (history ++ self.new.present ∷ [])) }
         ensures patched { OnOk result (L.patched self.old.present change ≡ Ok self.new.present) }
         ensures last { IfOk result (λ index. (index ≡ self.new.last) × (self.new.last ≡ self.old.last + 1)) }
+        ensures kept { OnOk result (KeepsFurther self.old change self.new) }
         ensures own { self.new.own ≡ self.old.own }
         ensures fault { IfErr result (λ e. IsRefusal (L.patched self.old.present change) e) }
         ensures err { OnErr result (self.new ≡ self.old) }

@@ -1,5 +1,6 @@
 -- Both directions between two parties, and what one turn sends.
-use Rattle.std.specs.Prelude.{◌≡◌, ℕ, zero, suc, ◌+◌, ◌-◌, ◌≤◌, min, not, nat_eq, nat_lt, ◌||◌, ◌&&◌, cond, List, [], ◌∷◌, ◌++◌, map, Result, Ok, Some, slice_get}
+use Rattle.std.specs.Prelude.{◌≡◌, ℕ, ◌+◌, ◌-◌, min, not, nat_eq, nat_lt, ◌||◌, ◌&&◌, cond, List, [], ◌∷◌, ◌++◌, length, map, Result, Some, slice_get}
+use Rattle.fuxi_terms.specs.Lists.{numbers_from}
 use Rattle.ledger_law.specs.declared.ledger.LedgerFault.{LedgerFault}
 use Rattle.delta_channel.specs.Standing.{Sending, IsChangeAt}
 use Rattle.delta_channel.specs.Hearing.{Receiving}
@@ -24,11 +25,6 @@ mark_of (Full n ledger) = MarkFull n
 mark_of (Delta n change) = MarkDelta n
 mark_of (Ack place) = MarkAck place
 
--- so many numbers from the first on
-abbrev pub numbers_from : ℕ → ℕ → List ℕ
-numbers_from first zero = []
-numbers_from first (suc n) = first ∷ numbers_from (first + 1) n
-
 -- nothing where no peer is known, nothing was posted or all is acknowledged; the whole ledger where nothing is acknowledged or more than 256 changes are not; else the next changes, at most 64
 abbrev pub news : ℕ → ℕ → ℕ → List Mark
 news peer last acked =
@@ -39,6 +35,12 @@ news peer last acked =
 -- then an acknowledgement of what came the other way
 abbrev pub turn_of : ℕ → ℕ → Place → List Mark
 turn_of last acked place = news place.inc last acked ++ MarkAck place ∷ []
+
+-- a note has what the sender has: its present ledger, or the change that it keeps for the index
+abbrev pub IsNoteOf : {V D : Type 0} → Sending V D → Note V D → Type 0
+IsNoteOf s (Full n ledger) = ledger ≡ s.present
+IsNoteOf s (Delta n change) = slice_get s.kept (n - 1 + length s.kept - s.last) ≡ Some change
+IsNoteOf s (Ack place) = Unit {0}
 
 -- a note brings what the history has at its index
 abbrev pub Brings : {V D : Type 0} → (V → D → Result V LedgerFault) → List V → Note V D → Type 0

@@ -1,9 +1,10 @@
 ghost use Rattle.std.specs.Prelude.{◌≡◌, ◌+◌, ◌-◌, ◌<◌, ◌≤◌, ◌^◌, ◌↔◌, IsTrue, List, [], ◌∷◌, ◌++◌, length, map, Ok, IfOk, IfErr, OnOk, OnErr, is_ok, false, Some, slice_get, if◌then◌else◌};
 ghost use Rattle.std.specs.List.{AllByRecursion};
 ghost use Rattle.ledger_law.specs.Applying.{Applies, IsRefusal};
-ghost use Rattle.delta_channel.specs.Standing.{StandsFor, IsChangeAt};
+ghost use Rattle.delta_channel.specs.Standing.{StandsFor, IsChangeAt, KeepsFurther};
 ghost use Rattle.delta_channel.specs.Hearing.{verdict_of, HasEntry};
-ghost use Rattle.full_sync.specs.Turns.{Brings, MarkDelta, mark_of, numbers_from, turn_of, acked_after};
+ghost use Rattle.full_sync.specs.Turns.{Brings, IsNoteOf, MarkDelta, mark_of, news, turn_of, acked_after};
+ghost use Rattle.fuxi_terms.specs.Lists.{numbers_from};
 
 use delta_channel::{Place, Receiver, Sender, Stamp, Verdict};
 use ledger_law::{Ledger, LedgerFault, OutOfMemory};
@@ -41,8 +42,7 @@ impl<A: Ledger> Notes<A> {
     pub fn into_vec(self) -> Vec<Note<A>>
         ensures { result.items ≡ self }
     {
-        let Notes { notes } = self;
-        notes
+        self.notes
     }
 
     /// The notes.
@@ -62,14 +62,14 @@ pub struct Duplex<A: Ledger, B: Ledger> {
 }
 
 impl<A: Ledger, B: Ledger> Model for Duplex<A, B> {
-    ghost use Rattle.std.specs.Prelude.{◌≤◌};
+    ghost use Rattle.std.specs.Prelude.{◌≡◌, ◌≤◌};
     ghost use Rattle.full_sync.specs.Turns.{Both};
 
     ghost Value = { Both A A.Delta B };
 
     ghost view = { λ d. record { sent = d.sender; got = d.receiver; acked = d.acked } };
 
-    ghost invariant = { λ d. d.acked ≤ d.sender.last };
+    ghost invariant = { λ d. (d.acked ≤ d.sender.last) × (d.receiver.own ≡ d.sender.own) };
 }
 
 impl<A: Ledger, B: Ledger> Duplex<A, B> {
@@ -77,6 +77,7 @@ impl<A: Ledger, B: Ledger> Duplex<A, B> {
     pub fn start(alloc: Global, own: u64) -> Result<Duplex<A, B>, OutOfMemory>
         ensures value { IfOk result (λ d. d ≡ record { sent = record { own = own; last = 0; present = A.nothing; kept = [] }; got = record { own = own; place = record { inc = 0; seq = 0 }; got = B.nothing }; acked = 0 }) }
         ensures stands { IfOk result (λ d. StandsFor A.nothing A.patched d.sent (A.nothing ∷ [])) }
+        ensures has_entry { IfOk result (λ d. (history : List B) → slice_get history 0 ≡ Some B.nothing → HasEntry d.got history) }
     {
         Ok(Duplex {
             sender: Sender::start(alloc, own)?,
@@ -85,12 +86,15 @@ impl<A: Ledger, B: Ledger> Duplex<A, B> {
         })
     }
 
-    /// Makes a change to the ledger that is sent. Answers the new last index; a fault leaves all as it was.
+    /// Makes a change to the ledger that is sent, where the last index is below 2^62. Answers the new last index.
+    ///
+    /// The fault is the ledger's refusal of the change, or want of memory. It leaves all as it was.
     pub fn post(&mut self, alloc: Global, change: A::Delta) -> Result<u64, LedgerFault>
         requires { self.old.sent.last < 2 ^ 62 }
         ensures stands { OnOk result ((history : List A) → StandsFor A.nothing A.patched self.old.sent history → StandsFor A.nothing A.patched self.new.sent (history ++ self.new.sent.present ∷ [])) }
         ensures patched { OnOk result (A.patched self.old.sent.present change ≡ Ok self.new.sent.present) }
         ensures last { IfOk result (λ index. (index ≡ self.new.sent.last) × (self.new.sent.last ≡ self.old.sent.last + 1)) }
+        ensures kept { OnOk result (KeepsFurther self.old.sent change self.new.sent) }
         ensures own { self.new.sent.own ≡ self.old.sent.own }
         ensures got { self.new.got ≡ self.old.got }
         ensures acked { self.new.acked ≡ self.old.acked }
@@ -105,10 +109,11 @@ impl<A: Ledger, B: Ledger> Duplex<A, B> {
     pub fn hear(&mut self, alloc: Global, from: u64) -> bool
         ensures fresh { IsTrue result ↔ (self.old.got.place.inc < from) }
         ensures after { self.new ≡ (if result then (record { sent = self.old.sent; got = record { own = self.old.got.own; place = record { inc = from; seq = 0 }; got = B.nothing }; acked = 0 }) else self.old) }
+        ensures stands { IsTrue result → (history : List B) → slice_get history 0 ≡ Some B.nothing → HasEntry self.new.got history }
     {
         let fresh = self.receiver.hear(alloc, from);
         if fresh {
-            self.acked = 0;
+            self.resync();
         }
         fresh
     }
@@ -119,13 +124,18 @@ impl<A: Ledger, B: Ledger> Duplex<A, B> {
         requires { from ≡ self.old.got.place.inc }
         ensures { self.new ≡ record { sent = self.old.sent; got = self.old.got; acked = acked_after self.old.sent.own self.old.sent.last self.old.acked place } }
     {
-        let _peer = from;
-        if place.inc == self.sender.own() && self.acked < place.seq && place.seq <= self.sender.last() {
+        let peer = self.peer();
+        prove!(from == peer);
+        if place.inc == self.sender.own()
+            && self.acked < place.seq
+            && place.seq <= self.sender.last()
+        {
             self.acked = place.seq;
         }
     }
 
-    /// What to make of a packet of a peer that was heard of.
+    /// What to make of a packet of a peer that was heard of: its incarnation is not above the known one, and
+    /// is that of its place.
     pub fn verdict(&self, stamp: &Stamp) -> Verdict
         requires from { stamp.now.from ≤ self.now.got.place.inc }
         requires place { stamp.now.place.inc ≡ stamp.now.from }
@@ -134,7 +144,9 @@ impl<A: Ledger, B: Ledger> Duplex<A, B> {
         self.receiver.verdict(stamp)
     }
 
-    /// Makes a change that is to be taken. A fault of the ledger leaves all as it was.
+    /// Makes a change of which the verdict is to take it.
+    ///
+    /// The fault is the ledger's refusal of the change, or want of memory. It leaves all as it was.
     pub fn take_delta(
         &mut self,
         alloc: Global,
@@ -142,18 +154,20 @@ impl<A: Ledger, B: Ledger> Duplex<A, B> {
         change: &B::Delta,
     ) -> Result<(), LedgerFault>
         requires { verdict_of self.old.got.own self.old.got.place stamp.now ≡ Verdict.Take }
+        ensures next { stamp.now.full ≡ false → stamp.now.place.seq ≡ self.old.got.place.seq + 1 }
         ensures applies { Applies (B.patched self.old.got.got change.now) self.old.got.got self.new.got.got result }
         ensures place { self.new.got.place ≡ (if is_ok result then stamp.now.place else self.old.got.place) }
         ensures own { self.new.got.own ≡ self.old.got.own }
         ensures sent { self.new.sent ≡ self.old.sent }
         ensures acked { self.new.acked ≡ self.old.acked }
+        ensures err { OnErr result (self.new ≡ self.old) }
         ensures stands { OnOk result (stamp.now.full ≡ false → (history : List B) → HasEntry self.old.got history → IsChangeAt B.patched change.now self.old.got.place.seq history
             → stamp.now.place.seq < length history → HasEntry self.new.got history) }
     {
         self.receiver.take_delta(alloc, stamp, change)
     }
 
-    /// Takes a whole ledger that is to be taken.
+    /// Takes a whole ledger of which the verdict is to take it. It takes no memory.
     pub fn take_full(&mut self, stamp: &Stamp, ledger: B)
         requires { verdict_of self.old.got.own self.old.got.place stamp.now ≡ Verdict.Take }
         ensures after { self.new ≡ record { sent = self.old.sent; got = record { own = self.old.got.own; place = stamp.now.place; got = ledger }; acked = self.old.acked } }
@@ -170,23 +184,44 @@ impl<A: Ledger, B: Ledger> Duplex<A, B> {
     }
 
     /// What one turn sends: what the peer lacks, and then an acknowledgement. It changes nothing.
+    ///
+    /// Nothing is lacking where no peer is known, nothing was posted or all is acknowledged. The whole ledger
+    /// goes where nothing is acknowledged or more than 256 changes are not, and else the next changes, at most 64.
     pub fn turn(&self, alloc: Global) -> Result<Notes<A>, OutOfMemory>
         ensures marks { IfOk result (λ notes. map mark_of notes ≡ turn_of self.now.sent.last self.now.acked self.now.got.place) }
+        ensures sends { IfOk result (AllByRecursion (IsNoteOf self.now.sent)) }
         ensures brings { IfOk result (λ notes. (history : List A) → StandsFor A.nothing A.patched self.now.sent history → AllByRecursion (Brings A.patched history) notes) }
     {
-        let mut notes = Vec::new(alloc);
-        let last = self.sender.last();
-        let place = self.receiver.place();
-        if place.inc == 0 || last == 0 || self.acked == last {
-        } else if self.acked == 0 || last - self.acked > 256 {
-            let copy = self.sender.ledger().copy(alloc)?;
-            push_note(&mut notes, Note::Full(last, copy))?;
-        } else {
-            let count = (last - self.acked).min(64);
-            push_changes(alloc, &self.sender, self.acked + 1, count, &mut notes)?;
-        }
-        push_note(&mut notes, Note::Ack(place))?;
+        let mut notes = self.news(alloc)?;
+        notes.push(Note::Ack(self.receiver.place()))?;
         Ok(Notes { notes })
+    }
+
+    // What the peer lacks.
+    fn news(&self, alloc: Global) -> Result<Vec<Note<A>>, OutOfMemory>
+        ensures marks { IfOk result (λ notes. map mark_of notes.items ≡ news self.now.got.place.inc self.now.sent.last self.now.acked) }
+        ensures sends { IfOk result (λ notes. AllByRecursion (IsNoteOf self.now.sent) notes.items) }
+        ensures brings { IfOk result (λ notes. (history : List A) → StandsFor A.nothing A.patched self.now.sent history → AllByRecursion (Brings A.patched history) notes.items) }
+    {
+        let last = self.sender.last();
+        if self.receiver.place().inc == 0 || last == 0 || self.acked == last {
+            return Ok(Vec::new(alloc));
+        }
+        let lacking = last - self.acked;
+        if self.acked == 0 || lacking > 256 {
+            let mut notes = Vec::new(alloc);
+            notes.push(Note::Full(last, self.sender.ledger().copy(alloc)?))?;
+            return Ok(notes);
+        }
+        changes_from(alloc, &self.sender, self.acked + 1, lacking.min(64))
+    }
+
+    /// The incarnation of this party, the same in both directions.
+    pub fn own(&self) -> u64
+        ensures sent { result ≡ self.now.sent.own }
+        ensures got { result ≡ self.now.got.own }
+    {
+        self.sender.own()
     }
 
     /// The known incarnation of the peer, 0 where none is known.
@@ -225,42 +260,35 @@ impl<A: Ledger, B: Ledger> Duplex<A, B> {
         self.sender.ledger()
     }
 
-    /// What came of the peer's ledger.
+    /// What came of the peer's ledger: the one with no entry where nothing came.
     pub fn got(&self) -> &B
-        ensures { result.now ≡ self.now.got.got }
+        ensures got { result.now ≡ self.now.got.got }
+        ensures nothing { self.now.got.place.seq ≡ 0 → self.now.got.got ≡ B.nothing }
     {
         self.receiver.ledger()
     }
 }
 
-fn push_note<A: Ledger>(notes: &mut Vec<Note<A>>, note: Note<A>) -> Result<(), OutOfMemory>
-    ensures { OnOk result (notes.new.items ≡ notes.old.items ++ note ∷ []) }
-{
-    match notes.push(note) {
-        Ok(()) => Ok(()),
-        Err(_) => Err(OutOfMemory),
-    }
-}
-
-// Copies of so many changes from the first index on, behind what is there.
-fn push_changes<A: Ledger>(
+// Copies of so many kept changes from the one that led to the first index on.
+fn changes_from<A: Ledger>(
     alloc: Global,
     sender: &Sender<A>,
     first: u64,
     count: u64,
-    notes: &mut Vec<Note<A>>,
-) -> Result<(), OutOfMemory>
+) -> Result<Vec<Note<A>>, OutOfMemory>
     requires posted { 1 ≤ first }
     requires last { first + count ≤ sender.now.last + 1 }
     requires near { sender.now.last < first + 256 }
     requires range { sender.now.last < 2 ^ 64 }
-    ensures marks { OnOk result (map mark_of notes.new.items ≡ map mark_of notes.old.items ++ map MarkDelta (numbers_from first count)) }
-    ensures brings { OnOk result ((history : List A) → StandsFor A.nothing A.patched sender.now history → AllByRecursion (Brings A.patched history) notes.old.items → AllByRecursion (Brings A.patched history) notes.new.items) }
+    ensures marks { IfOk result (λ notes. map mark_of notes.items ≡ map MarkDelta (numbers_from first count)) }
+    ensures sends { IfOk result (λ notes. AllByRecursion (IsNoteOf sender.now) notes.items) }
+    ensures brings { IfOk result (λ notes. (history : List A) → StandsFor A.nothing A.patched sender.now history → AllByRecursion (Brings A.patched history) notes.items) }
 {
+    let mut notes = Vec::new(alloc);
     for offset in 0..count {
         let index = first + offset;
-        let copy = A::copy_delta(alloc, sender.kept(index))?;
-        push_note(notes, Note::Delta(index, copy))?;
+        let change = A::copy_delta(alloc, sender.kept(index))?;
+        notes.push(Note::Delta(index, change))?;
     }
-    Ok(())
+    Ok(notes)
 }

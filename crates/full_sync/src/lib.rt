@@ -2,5 +2,7 @@
 #![tactic(auto)]
 
 mod duplex;
+#[cfg(test)]
+mod tests;
 
 pub use duplex::{Duplex, Note, Notes};

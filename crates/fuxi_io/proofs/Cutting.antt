@@ -1,31 +1,31 @@
 -- What stands before the first newline is the first line.
-use Rattle.std.proofs.Common.{◌≡◌, ◌≢◌, ℕ, zero, suc, ◌+◌, ◌-◌, ◌<◌, ◌≤◌, false, cond, nat_eq, List, [], ◌∷◌, ◌++◌, length, get_or, take, drop, slice_range, refl, ap, sym, subst, ◌∙◌, arith, append_assoc, take-append-drop, length-append, length-take}
+use Rattle.std.proofs.Common.{◌≡◌, ◌≢◌, ℕ, zero, suc, ◌+◌, ◌-◌, ◌<◌, ◌≤◌, true, false, cond, nat_eq, List, [], ◌∷◌, ◌++◌, length, get_or, take, drop, slice_range, refl, ap, sym, subst, ◌∙◌, arith, append_assoc, take-append-drop, length-append, length-take}
 use Rattle.std.proofs.lemmas.Bool.Decides.{nat_tests}
 use Rattle.std.proofs.lemmas.List.{drop_more, drop-drop, drop-take}
 use Rattle.std.proofs.lemmas.List.Elements.{All-head, All-tail, All-append}
-use Rattle.fuxi_io.specs.Lines.{lines_of, onto_first, FirstLonger}
+use Rattle.fuxi_io.specs.Lines.{InputLine, lines_of, onto_first, FirstLonger}
 use Rattle.fuxi_io.specs.Pieces.{NoNewline}
 
 -- a byte that is no newline goes on with the line
 goes_on : (b : ℕ) (bytes : List ℕ) → b ≢ 10 → lines_of (b ∷ bytes) ≡ onto_first b (lines_of bytes)
-goes_on b bytes other = let t : nat_eq b 10 ≡ false = grind (arith, nat_tests, other) in ap (λ t. cond t ([] ∷ lines_of bytes) (onto_first b (lines_of bytes))) t
+goes_on b bytes other = let t : nat_eq b 10 ≡ false = grind (arith, nat_tests, other) in ap (λ t. cond t ((record { bytes = []; ended = true }) ∷ lines_of bytes) (onto_first b (lines_of bytes))) t
 
-pub lines_of-cut : (xs ys : List ℕ) → NoNewline xs → lines_of (xs ++ 10 ∷ ys) ≡ xs ∷ lines_of ys
+pub lines_of-cut : (xs ys : List ℕ) → NoNewline xs → lines_of (xs ++ 10 ∷ ys) ≡ (record { bytes = xs; ended = true }) ∷ lines_of ys
 lines_of-cut [] ys none = refl
 lines_of-cut (x ∷ xs) ys none =
     goes_on x (xs ++ 10 ∷ ys) (All-head (λ b. b ≢ 10) x xs none) ∙ ap (onto_first x) (lines_of-cut xs ys (All-tail (λ b. b ≢ 10) x xs none))
 
-pub lines_of-last : (xs : List ℕ) → NoNewline xs → 0 < length xs → lines_of xs ≡ xs ∷ []
+pub lines_of-last : (xs : List ℕ) → NoNewline xs → 0 < length xs → lines_of xs ≡ (record { bytes = xs; ended = false }) ∷ []
 lines_of-last [] none some = absurd (omega (arith, some))
 lines_of-last (x ∷ []) none some = goes_on x [] (All-head (λ b. b ≢ 10) x [] none)
 lines_of-last (x ∷ y ∷ xs) none some =
     goes_on x (y ∷ xs) (All-head (λ b. b ≢ 10) x (y ∷ xs) none) ∙ ap (onto_first x) (lines_of-last (y ∷ xs) (All-tail (λ b. b ≢ 10) x (y ∷ xs) none) (omega arith))
 
-longer_zero : (b : ℕ) (lines : List (List ℕ)) → FirstLonger 0 (onto_first b lines)
+longer_zero : (b : ℕ) (lines : List InputLine) → FirstLonger 0 (onto_first b lines)
 longer_zero b [] = omega arith
 longer_zero b (line ∷ lines) = omega arith
 
-longer_suc : (b n : ℕ) (lines : List (List ℕ)) → FirstLonger n lines → FirstLonger (suc n) (onto_first b lines)
+longer_suc : (b n : ℕ) (lines : List InputLine) → FirstLonger n lines → FirstLonger (suc n) (onto_first b lines)
 longer_suc b n [] h = absurd h
 longer_suc b n (line ∷ lines) h = omega (arith, h)
 

@@ -1,12 +1,12 @@
 -- What `next` gives, where the bytes that are left are known.
-use Rattle.std.proofs.Common.{◌≡◌, ◌≢◌, ℕ, ◌<◌, ◌≤◌, List, [], ◌∷◌, ◌++◌, length, Option, None, Some, refl, ap, sym, ◌∙◌, append_assoc, append-nil}
+use Rattle.std.proofs.Common.{◌≡◌, ◌≢◌, ℕ, ◌<◌, ◌≤◌, true, false, List, [], ◌∷◌, ◌++◌, length, Option, None, Some, refl, ap, sym, ◌∙◌, append_assoc, append-nil}
 use Rattle.std.specs.Io.KnownBytes.{prepend_known, Consumes, IsAtEnd}
 use Rattle.fuxi_io.specs.Lines.{lines_of, GivesKnown, MoreKnown}
 use Rattle.fuxi_io.specs.Pieces.{NoNewline}
 use Rattle.fuxi_io.specs.declared.lines.Got.TheVariants.{Line}
 use Rattle.fuxi_io.proofs.Cutting.{lines_of-cut, lines_of-last}
 
-pub gives_cut : (old left : Option (List ℕ)) (line piece made rest : List ℕ) → Consumes old (prepend_known piece left) line → line ++ piece ≡ made ++ 10 ∷ rest → NoNewline made → length made ≤ 65536 → GivesKnown Line old made (prepend_known rest left)
+pub gives_cut : (old left : Option (List ℕ)) (line piece made rest : List ℕ) → Consumes old (prepend_known piece left) line → line ++ piece ≡ made ++ 10 ∷ rest → NoNewline made → length made ≤ 65536 → GivesKnown Line old (record { bytes = made; ended = true }) (prepend_known rest left)
 gives_cut None left line piece made rest read split none short = tt
 gives_cut (Some old) None line piece made rest read split none short = absurd read
 gives_cut (Some old) (Some left) line piece made rest read split none short = (
@@ -14,12 +14,12 @@ gives_cut (Some old) (Some left) line piece made rest read split none short = (
   short,
 )
 
-pub gives_last : (old left : Option (List ℕ)) (line piece : List ℕ) → Consumes old (prepend_known piece left) line → piece ≡ [] → IsAtEnd left → NoNewline line → 0 < length line → length line ≤ 65536 → GivesKnown Line old line (prepend_known piece left)
+pub gives_last : (old left : Option (List ℕ)) (line piece : List ℕ) → Consumes old (prepend_known piece left) line → piece ≡ [] → IsAtEnd left → NoNewline line → 0 < length line → length line ≤ 65536 → GivesKnown Line old (record { bytes = line; ended = false }) (prepend_known piece left)
 gives_last None left line piece read empty end none some short = tt
 gives_last (Some old) None line piece read empty end none some short = absurd read
 gives_last (Some old) (Some left) line piece read empty end none some short =
     let rest : piece ++ left ≡ [] = ap (λ l. l ++ left) empty ∙ end in (
-      ap lines_of (read ∙ ap (λ l. line ++ l) rest ∙ append-nil line) ∙ lines_of-last line none some ∙ ap (λ l. line ∷ lines_of l) (sym rest),
+      ap lines_of (read ∙ ap (λ l. line ++ l) rest ∙ append-nil line) ∙ lines_of-last line none some ∙ ap (λ l. (record { bytes = line; ended = false }) ∷ lines_of l) (sym rest),
       short,
     )
 

@@ -1,30 +1,35 @@
 -- The lines of an input. A line ends with a newline or with the input.
-use Rattle.std.specs.Prelude.{◌≡◌, ◌≢◌, ℕ, ◌<◌, ◌≤◌, ◌==◌, if◌then◌else◌, List, [], ◌∷◌, length, Option, Some, None, ⊤}
+use Rattle.std.specs.Prelude.{◌≡◌, ◌≢◌, ℕ, Bool, true, false, ◌<◌, ◌≤◌, ◌==◌, if◌then◌else◌, List, [], ◌∷◌, length, Option, Some, None, ⊤}
 use Rattle.fuxi_io.specs.declared.lines.Got.{Got}
 use Rattle.fuxi_io.specs.declared.lines.Got.TheVariants.{Line, End}
 
+-- the bytes of a line, and whether a newline ended it
+pub record InputLine : Type 0 where
+  pub bytes : List ℕ
+  pub ended : Bool
+
 -- a byte before the first line
-abbrev pub onto_first : ℕ → List (List ℕ) → List (List ℕ)
-onto_first b [] = (b ∷ []) ∷ []
-onto_first b (line ∷ lines) = (b ∷ line) ∷ lines
+abbrev pub onto_first : ℕ → List InputLine → List InputLine
+onto_first b [] = (record { bytes = b ∷ []; ended = false }) ∷ []
+onto_first b (line ∷ lines) = (record { bytes = b ∷ line.bytes; ended = line.ended }) ∷ lines
 
 -- the lines, without their newlines
-abbrev pub lines_of : List ℕ → List (List ℕ)
+abbrev pub lines_of : List ℕ → List InputLine
 lines_of [] = []
-lines_of (b ∷ bytes) = if b == 10 then [] ∷ lines_of bytes else onto_first b (lines_of bytes)
+lines_of (b ∷ bytes) = if b == 10 then (record { bytes = []; ended = true }) ∷ lines_of bytes else onto_first b (lines_of bytes)
 
 -- there is a first line, and it has more than so many bytes
-abbrev pub FirstLonger : ℕ → List (List ℕ) → Type 0
+abbrev pub FirstLonger : ℕ → List InputLine → Type 0
 FirstLonger limit [] = ⊥
-FirstLonger limit (line ∷ lines) = limit < length line
+FirstLonger limit (line ∷ lines) = limit < length line.bytes
 
 -- what came of the bytes that were left, and what is left then
-abbrev pub Gives : Got → List ℕ → List ℕ → List ℕ → Type 0
-Gives Line old line new = (lines_of old ≡ line ∷ lines_of new) × (length line ≤ 65536)
+abbrev pub Gives : Got → List ℕ → InputLine → List ℕ → Type 0
+Gives Line old line new = (lines_of old ≡ line ∷ lines_of new) × (length line.bytes ≤ 65536)
 Gives End old line new = (old ≡ []) × (new ≡ [])
 
 -- the same where the bytes are known; what was known stays known
-abbrev pub GivesKnown : Got → Option (List ℕ) → List ℕ → Option (List ℕ) → Type 0
+abbrev pub GivesKnown : Got → Option (List ℕ) → InputLine → Option (List ℕ) → Type 0
 GivesKnown got None line new = ⊤
 GivesKnown got (Some old) line None = ⊥
 GivesKnown got (Some old) line (Some new) = Gives got old line new

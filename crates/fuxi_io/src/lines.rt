@@ -1,8 +1,8 @@
-ghost use Rattle.std.specs.Prelude.{◌≡◌, ◌≢◌, ℕ, ◌+◌, ◌<◌, ◌≤◌, ◌⊎◌, ◌↔◌, List, [], ◌∷◌, ◌++◌, length, IfOk, IfErr, OnOk, OnErr, IsTrue, Option, Some, None, vec_capacity};
+ghost use Rattle.std.specs.Prelude.{◌≡◌, ◌≢◌, ℕ, ◌+◌, ◌<◌, ◌≤◌, ◌⊎◌, ◌↔◌, List, [], ◌∷◌, ◌++◌, length, IfOk, IfErr, OnOk, OnErr, IsTrue, Option, Some, None, true, false, vec_capacity};
 ghost use Rattle.std.specs.Io.KnownBytes.{prepend_known};
 ghost use Rattle.fuxi_io.specs.Causes.{Rose};
 ghost use Rattle.fuxi_io.specs.Lines.{GivesKnown, FirstTooLongKnown, MoreKnown};
-ghost use Rattle.fuxi_io.specs.Reading.{number_after, rest_of, stop_of};
+ghost use Rattle.fuxi_io.specs.Reading.{line_of, number_after, rest_of, stop_of};
 
 use crate::outside::Source;
 use crate::piece::{LINE_BYTES, Piece};
@@ -39,6 +39,7 @@ pub enum LineStop {
 pub struct LineReader {
     piece: Piece,
     line: Vec<u8>,
+    ended: bool,
     number: u64,
     stop: Option<LineStop>,
 }
@@ -49,21 +50,22 @@ impl Model for LineReader {
 
     ghost Value = { Reading };
 
-    ghost view = { λ r. record { pending = r.piece; line = r.line.items; number = r.number; stop = r.stop } };
+    ghost view = { λ r. record { pending = r.piece; line = r.line.items; ended = r.ended; number = r.number; stop = r.stop } };
 
     ghost invariant = { λ r. (65536 ≤ vec_capacity r.line) × (r.number ≤ 1000000) };
 }
 
-// Makes `line` the next line, of which at least one byte or newline waits in the piece.
+// Makes `line` the next line, of which at least one byte or newline waits in the piece. Answers whether
+// a newline ended it.
 fn read_line<S: Source>(
     source: &mut S,
     piece: &mut Piece,
     line: &mut Vec<u8>,
-) -> Result<(), LineStop>
+) -> Result<bool, LineStop>
     requires begun { piece.old ≢ [] }
     requires room { 65536 ≤ vec_capacity line.old }
     ensures room { 65536 ≤ vec_capacity line.new }
-    ensures gives { OnOk result (GivesKnown Got.Line (prepend_known piece.old (S.left source.old)) line.new.items (prepend_known piece.new (S.left source.new))) }
+    ensures gives { IfOk result (λ ended. GivesKnown Got.Line (prepend_known piece.old (S.left source.old)) (record { bytes = line.new.items; ended = ended }) (prepend_known piece.new (S.left source.new))) }
     ensures later { S.faults source.old ≤ S.faults source.new }
     ensures fault { result ≡ Err LineStop.ReadFault → Rose (S.faults source.old) (S.faults source.new) }
     ensures long { result ≡ Err LineStop.LineTooLong → FirstTooLongKnown (prepend_known piece.old (S.left source.old)) }
@@ -72,23 +74,24 @@ fn read_line<S: Source>(
     line.clear();
     while !piece.is_empty() {
         if piece.move_line(line)? {
-            return Ok(());
+            return Ok(true);
         }
         piece.fill(source)?;
     }
-    Ok(())
+    Ok(false)
 }
 
 impl LineReader {
     /// A reader that has read nothing. It takes all the memory that `next` needs.
     pub fn new(alloc: Global) -> Result<LineReader, OutOfMemory>
-        ensures { IfOk result (λ reader. reader ≡ record { pending = []; line = []; number = 0; stop = None }) }
+        ensures { IfOk result (λ reader. reader ≡ record { pending = []; line = []; ended = false; number = 0; stop = None }) }
     {
         let piece = Piece::new(alloc)?;
         let line = Vec::with_capacity(alloc, LINE_BYTES).map_err(|_| OutOfMemory)?;
         Ok(LineReader {
             piece,
             line,
+            ended: false,
             number: 0,
             stop: None,
         })
@@ -105,7 +108,7 @@ impl LineReader {
         ensures running { OnOk result (self.old.stop ≡ None) }
         ensures stop { self.new.stop ≡ stop_of result }
 
-        ensures gives { IfOk result (λ got. GivesKnown got (rest_of self.old (S.left source.old)) self.new.line (rest_of self.new (S.left source.new))) }
+        ensures gives { IfOk result (λ got. GivesKnown got (rest_of self.old (S.left source.old)) (line_of self.new) (rest_of self.new (S.left source.new))) }
         ensures number { self.new.number ≡ number_after self.old.number result }
         ensures within { result ≡ Ok Got.Line → self.old.number < 1000000 }
         ensures end { result ≡ Ok Got.End → self.new.line ≡ self.old.line }
@@ -130,7 +133,7 @@ impl LineReader {
     // `next` of a reader that has not stopped; it leaves the mark of the stop to its caller.
     fn advance<S: Source>(&mut self, source: &mut S) -> Result<Got, LineStop>
         ensures stop { self.new.stop ≡ self.old.stop }
-        ensures gives { IfOk result (λ got. GivesKnown got (rest_of self.old (S.left source.old)) self.new.line (rest_of self.new (S.left source.new))) }
+        ensures gives { IfOk result (λ got. GivesKnown got (rest_of self.old (S.left source.old)) (line_of self.new) (rest_of self.new (S.left source.new))) }
         ensures number { self.new.number ≡ number_after self.old.number result }
         ensures within { result ≡ Ok Got.Line → self.old.number < 1000000 }
         ensures end { result ≡ Ok Got.End → self.new.line ≡ self.old.line }
@@ -148,7 +151,7 @@ impl LineReader {
         if self.number == LINES {
             return Err(LineStop::TooManyLines);
         }
-        read_line(source, &mut self.piece, &mut self.line)?;
+        self.ended = read_line(source, &mut self.piece, &mut self.line)?;
         self.number += 1;
         Ok(Got::Line)
     }
@@ -159,6 +162,13 @@ impl LineReader {
         ensures { result.now ≡ self.now.line }
     {
         &self.line
+    }
+
+    /// Whether a newline ended the line that `next` gave last. The last line of an input may end without one.
+    pub fn ended(&self) -> bool
+        ensures { result ≡ self.now.ended }
+    {
+        self.ended
     }
 
     /// How many lines `next` gave so far, at most 1,000,000.

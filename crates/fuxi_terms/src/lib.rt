@@ -3,7 +3,11 @@
 //! `specs/`, as definitions that compute.
 #![tactic(auto)]
 
+ghost use Rattle.std.specs.Prelude.{◌≡◌};
+ghost use Rattle.fuxi_terms.specs.Keys.{key_cmp};
+
 use std::alloc::{AllocError, AllocFailed};
+use std::cmp::Ordering;
 
 /// What an entry of a ledger is about: its kind, a unit and a number, as of a machine or a rack.
 #[derive(Clone, Copy, Debug, PartialEq, Eq, PartialOrd, Ord)]
@@ -11,6 +15,15 @@ pub struct Key {
     pub what: u8,
     pub unit: u8,
     pub number: u32,
+}
+
+impl Key {
+    /// The order of keys: by kind, then by unit, then by number. It is that of `<` and `cmp`.
+    pub fn order(&self, other: &Key) -> Ordering
+        ensures { result ≡ key_cmp self.now other.now }
+    {
+        self.cmp(other)
+    }
 }
 
 /// Memory was refused. Whatever the call that answers it says, it says of no other cause.

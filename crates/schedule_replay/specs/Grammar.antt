@@ -1,23 +1,58 @@
 -- The words of a line, and the event that they name.
-use Rattle.std.specs.Prelude.{◌==◌, ℕ, ◌<◌, ◌≤◌, Bool, not, nat_lt, nat_eq, ◌&&◌, if◌then◌else◌, cond, List, [], ◌∷◌, Option, Some, None, codes}
+use Rattle.std.specs.Prelude.{◌==◌, ℕ, Bool, true, false, not, filter, ◌||◌, nat_lt, nat_eq, ◌&&◌, if◌then◌else◌, cond, List, [], ◌∷◌, Option, Some, None, codes}
 use Rattle.std.specs.Str.{bytes_eq}
 use Rattle.std.specs.Borrow.{Bor}
-use Rattle.fuxi_io.specs.Lines.{onto_first}
+use Rattle.fuxi_io.specs.Lines.{InputLine}
 use Rattle.schedule_unit.specs.Numbers.{number_of}
 use Rattle.schedule_replay.specs.declared.grammar.Word.{Word}
 use Rattle.schedule_replay.specs.declared.grammar.Word.TheVariants.{PostWord, TurnWord, DeliverWord, ShowWord}
 use Rattle.schedule_replay.specs.declared.grammar.Event.{Event}
 use Rattle.schedule_replay.specs.declared.grammar.Event.TheVariants.{Post, Turn, Deliver, Show}
 
--- the words of a line, which stand between its blanks
-abbrev pub words_of : List ℕ → List (List ℕ)
-words_of [] = [] ∷ []
-words_of (b ∷ bytes) = if b == 32 then [] ∷ words_of bytes else onto_first b (words_of bytes)
+-- a byte before the first part
+abbrev pub onto_part : ℕ → List (List ℕ) → List (List ℕ)
+onto_part b [] = (b ∷ []) ∷ []
+onto_part b (part ∷ parts) = (b ∷ part) ∷ parts
 
--- the words behind the first blank, if there is one
-abbrev pub rest_words : Option (Bor (List ℕ)) → List (List ℕ)
-rest_words None = []
-rest_words (Some rest) = words_of rest.now
+-- what stands between the blanks of a line; between two blanks in a row there is an empty part
+abbrev pub parts_of : List ℕ → List (List ℕ)
+parts_of [] = [] ∷ []
+parts_of (b ∷ bytes) = if b == 32 then [] ∷ parts_of bytes else onto_part b (parts_of bytes)
+
+abbrev pub is_word : List ℕ → Bool
+is_word [] = false
+is_word (b ∷ bytes) = true
+
+-- the words of a line are separated by one blank or more
+abbrev pub words_of : List ℕ → List (List ℕ)
+words_of line = filter is_word (parts_of line)
+
+-- the first word and what stands behind it, where there is one
+abbrev pub words_from : Option (Bor (List ℕ) × Bor (List ℕ)) → List (List ℕ)
+words_from None = []
+words_from (Some cut) = cut.0.now ∷ words_of cut.1.now
+
+abbrev pub is_comment : List ℕ → Bool
+is_comment [] = false
+is_comment (b ∷ bytes) = nat_eq b 35
+
+abbrev pub has_no_word : List (List ℕ) → Bool
+has_no_word [] = true
+has_no_word (word ∷ words) = false
+
+-- a comment, or a line of blanks
+abbrev pub is_skipped : List ℕ → Bool
+is_skipped line = is_comment line || has_no_word (words_of line)
+
+-- the bytes before a carriage return at the end
+abbrev pub without_return : List ℕ → List ℕ
+without_return [] = []
+without_return (b ∷ []) = if b == 13 then [] else b ∷ []
+without_return (b ∷ c ∷ bytes) = b ∷ without_return (c ∷ bytes)
+
+-- what a line says: a carriage return before its newline is none of it
+abbrev pub content : InputLine → List ℕ
+content line = if line.ended then without_return line.bytes else line.bytes
 
 -- a number of the tally, 0 to 7, and its value, 0 to 100,000
 abbrev pub post_of : Option ℕ → Option ℕ → Option Event

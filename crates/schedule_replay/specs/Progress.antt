@@ -1,21 +1,23 @@
 -- How far a run has come, and what taking one line does.
-use Rattle.std.specs.Prelude.{◌≡◌, ℕ, ◌+◌, List, [], ◌++◌, Option, Some, None, Result, Ok, Err}
+use Rattle.std.specs.Prelude.{◌≡◌, ◌⊎◌, ℕ, true, false, ◌+◌, List, [], ◌++◌, Option, Some, None, Result, Ok, Err}
 use Rattle.std.specs.Io.KnownBytes.{Appends}
 use Rattle.std.specs.List.{concat}
 use Rattle.fuxi_io.specs.Causes.{TakesPart}
 use Rattle.fuxi_io.specs.Lines.{lines_of}
 use Rattle.fuxi_io.specs.declared.lines.LineStop.{LineStop}
 use Rattle.fuxi_io.specs.declared.lines.LineStop.TheVariants.{ReadFault as ReadStop, LineTooLong as LongStop, TooManyLines as ManyStop}
-use Rattle.fuxi_io.specs.declared.status.InputFault.TheVariants.{BadLine, LineTooLong}
+use Rattle.fuxi_io.specs.declared.status.InputFault.TheVariants.{BadLine, LineTooLong, NotJson, WrongKind, UnknownKey, MissingKey, Count, LengthDiffers, QuantityRange, QuotaOverLimit}
 use Rattle.fuxi_io.specs.declared.status.LimitOf.TheVariants.{Lines}
 use Rattle.fuxi_io.specs.declared.status.Status.{Status}
 use Rattle.fuxi_io.specs.declared.status.Status.TheVariants.{Done, Usage, BadInput, ReadFault, WriteFault, Limit, OutOfMemory}
 use Rattle.schedule_replay.specs.declared.grammar.Event.{Event}
-use Rattle.schedule_replay.specs.Grammar.{event_of}
-use Rattle.schedule_replay.specs.Channel.{Channel, new_channel}
+use Rattle.schedule_replay.specs.Grammar.{is_skipped, event_of}
+use Rattle.schedule_replay.specs.Channel.{Channel, new_channel, after}
 use Rattle.schedule_replay.specs.Texts.{printed, state_text}
 use Rattle.schedule_replay.specs.Standing.{Replaying, Stands}
-use Rattle.schedule_replay.specs.Runs.{Run, run_from}
+use Rattle.schedule_replay.specs.Runs.{Run, run_from, read_from}
+use Rattle.cluster_desc.specs.declared.fault.ClusterFault.{ClusterFault}
+use Rattle.cluster_desc.specs.declared.fault.ClusterFault.TheVariants.{NotJson as ClusterNotJson, WrongKind as ClusterWrongKind, UnknownKey as ClusterUnknownKey, MissingKey as ClusterMissingKey, Count as ClusterCount, LengthDiffers as ClusterLengthDiffers, QuantityRange as ClusterQuantityRange, QuotaOverLimit as ClusterQuotaOverLimit, OutOfMemory as ClusterOutOfMemory}
 
 -- the status that a reader's stop means, after so many lines
 abbrev pub status_of : LineStop → ℕ → Status
@@ -29,11 +31,19 @@ pub record Prints (line : List ℕ) (c : Channel) (output : List ℕ) : Type 0 w
   pub is : event_of line ≡ Some event
   pub prints : output ≡ printed c event
 
+-- what a line does to the channel
+abbrev pub after_line : Channel → List ℕ → Channel
+after_line c line = elim (is_skipped line) [
+  | true ↦ c
+  | false ↦ elim (event_of line) [ None ↦ c | Some event ↦ after c event ]
+]
+
 -- what taking the line with this number wrote
 abbrev pub TakesLine : List ℕ → ℕ → Channel → Result (Unit {0}) Status → Option (List ℕ) → Option (List ℕ) → Type 0
-TakesLine line number c (Ok done) before after = (output : List ℕ) × Prints line c output × Appends before after output
-TakesLine line number c (Err (BadInput n fault)) before after = (event_of line ≡ None) × (n ≡ number) × (fault ≡ BadLine) × (after ≡ before)
-TakesLine line number c (Err WriteFault) before after = (output : List ℕ) × Prints line c output × TakesPart before after output
+TakesLine line number c (Ok done) before after =
+    ((is_skipped line ≡ true) × (after ≡ before)) ⊎ ((is_skipped line ≡ false) × ((output : List ℕ) × Prints line c output × Appends before after output))
+TakesLine line number c (Err (BadInput n fault)) before after = (is_skipped line ≡ false) × (event_of line ≡ None) × (n ≡ number) × (fault ≡ BadLine) × (after ≡ before)
+TakesLine line number c (Err WriteFault) before after = (is_skipped line ≡ false) × ((output : List ℕ) × Prints line c output × TakesPart before after output)
 TakesLine line number c (Err OutOfMemory) before after = after ≡ before
 TakesLine line number c (Err Done) before after = ⊥
 TakesLine line number c (Err Usage) before after = ⊥
@@ -62,3 +72,27 @@ pub record Along (bytes : List ℕ) (first number : ℕ) (replay : Replaying) (r
   pub channel : Channel
   pub stands : Stands replay channel
   pub same : run_from first new_channel (lines_of bytes) ≡ behind_all front (run_from number channel (lines_of left))
+
+-- of an input before the line that describes the cluster: the bytes that are left
+pub record Seeking (bytes : List ℕ) (first number : ℕ) (rest : Option (List ℕ)) : Type 0 where
+  pub left : List ℕ
+  pub is_left : rest ≡ Some left
+  pub same : read_from first (lines_of bytes) ≡ read_from number (lines_of left)
+
+-- the cluster was read: the run goes on with the lines that are left
+pub record HasCluster (bytes : List ℕ) (first number : ℕ) (rest : Option (List ℕ)) : Type 0 where
+  pub left : List ℕ
+  pub is_left : rest ≡ Some left
+  pub same : read_from first (lines_of bytes) ≡ run_from number new_channel (lines_of left)
+
+-- the status that a fault of the line that describes the cluster means
+abbrev pub cluster_status : ClusterFault → ℕ → Status
+cluster_status ClusterNotJson number = BadInput number NotJson
+cluster_status (ClusterWrongKind key) number = BadInput number (WrongKind key)
+cluster_status ClusterUnknownKey number = BadInput number UnknownKey
+cluster_status (ClusterMissingKey key) number = BadInput number (MissingKey key)
+cluster_status (ClusterCount key) number = BadInput number (Count key)
+cluster_status ClusterLengthDiffers number = BadInput number LengthDiffers
+cluster_status ClusterQuantityRange number = BadInput number QuantityRange
+cluster_status (ClusterQuotaOverLimit group) number = BadInput number (QuotaOverLimit group.0)
+cluster_status ClusterOutOfMemory number = OutOfMemory

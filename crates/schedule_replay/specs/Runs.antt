@@ -1,18 +1,34 @@
 -- How a run over the lines of an input goes, and what is known of it by the status that it ends with.
-use Rattle.std.specs.Prelude.{◌≡◌, ℕ, ◌+◌, ◌≤◌, not, nat_lt, if◌then◌else◌, List, [], ◌∷◌, ◌++◌, length, take, Option, Some, None, slice_get}
+use Rattle.std.specs.Prelude.{◌≡◌, ℕ, ◌+◌, ◌≤◌, not, nat_lt, if◌then◌else◌, true, false, Result, Ok, Err, List, [], ◌∷◌, ◌++◌, length, take, Option, Some, None, slice_get}
 use Rattle.std.specs.Option.{unwrap_or}
 use Rattle.std.specs.List.{concat}
 use Rattle.std.specs.Io.KnownBytes.{Appends}
-use Rattle.fuxi_io.specs.Lines.{lines_of}
+use Rattle.fuxi_io.specs.Lines.{InputLine, lines_of}
+use Rattle.fuxi_terms.specs.Cluster.{ClusterRecord}
+use Rattle.cluster_desc.specs.declared.fault.ClusterFault.{ClusterFault}
+use Rattle.cluster_desc.specs.declared.fault.ClusterFault.TheVariants.{NotJson as ClusterNotJson, WrongKind as ClusterWrongKind, UnknownKey as ClusterUnknownKey, MissingKey as ClusterMissingKey, Count as ClusterCount, LengthDiffers as ClusterLengthDiffers, QuantityRange as ClusterQuantityRange, QuotaOverLimit as ClusterQuotaOverLimit, OutOfMemory as ClusterOutOfMemory}
+use Rattle.cluster_desc.specs.ClusterLine.{cluster_of}
 use Rattle.fuxi_io.specs.declared.status.InputFault.{InputFault}
-use Rattle.fuxi_io.specs.declared.status.InputFault.TheVariants.{BadLine, LineTooLong}
+use Rattle.fuxi_io.specs.declared.status.InputFault.TheVariants.{BadLine, LineTooLong, NoCluster, NotJson, WrongKind, UnknownKey, MissingKey, Count, LengthDiffers, QuantityRange, QuotaOverLimit}
 use Rattle.fuxi_io.specs.declared.status.LimitOf.TheVariants.{Lines}
 use Rattle.fuxi_io.specs.declared.status.Status.{Status}
 use Rattle.fuxi_io.specs.declared.status.Status.TheVariants.{Done, Usage, BadInput, ReadFault, WriteFault, Limit, OutOfMemory}
 use Rattle.schedule_replay.specs.declared.grammar.Event.{Event}
-use Rattle.schedule_replay.specs.Grammar.{event_of}
+use Rattle.schedule_replay.specs.Grammar.{content, is_skipped, event_of}
 use Rattle.schedule_replay.specs.Channel.{Channel, new_channel, after}
 use Rattle.schedule_replay.specs.Texts.{printed, state_text}
+
+-- why a line that describes no cluster is bad; no line wants memory
+abbrev pub input_fault : ClusterFault → InputFault
+input_fault ClusterNotJson = NotJson
+input_fault (ClusterWrongKind key) = WrongKind key
+input_fault ClusterUnknownKey = UnknownKey
+input_fault (ClusterMissingKey key) = MissingKey key
+input_fault (ClusterCount key) = Count key
+input_fault ClusterLengthDiffers = LengthDiffers
+input_fault ClusterQuantityRange = QuantityRange
+input_fault (ClusterQuotaOverLimit group) = QuotaOverLimit group.0
+input_fault ClusterOutOfMemory = NotJson
 
 -- where a run ends: at the end of the input, at a bad line, or at a line past the greatest number of lines
 pub data Ending : Type 0 where
@@ -32,20 +48,39 @@ ended c ending = record { outputs = []; channel = c; ending = ending }
 abbrev pub behind : List ℕ → Run → Run
 behind output r = record { outputs = output ∷ r.outputs; channel = r.channel; ending = r.ending }
 
--- the run over these lines, so many lines having gone before
-abbrev pub run_from : ℕ → Channel → List (List ℕ) → Run
-run_from before c [] = ended c AtEnd
-run_from before c (line ∷ lines) =
+-- the line begins past the greatest number of lines, or is too long; else what it says decides
+abbrev pub within_limits : ℕ → Channel → InputLine → Run → Run
+within_limits before c line run =
     if not (nat_lt before 1000000) then ended c AtLimit
-    else (if nat_lt 65536 (length line) then ended c (AtBadLine (before + 1) LineTooLong)
-    else elim (event_of line) [
-      | None ↦ ended c (AtBadLine (before + 1) BadLine)
-      | Some event ↦ behind (printed c event) (run_from (before + 1) (after c event) lines)
-    ])
+    else (if nat_lt 65536 (length line.bytes) then ended c (AtBadLine (before + 1) LineTooLong) else run)
+
+-- the run over these lines, so many lines having gone before
+abbrev pub run_from : ℕ → Channel → List InputLine → Run
+run_from before c [] = ended c AtEnd
+run_from before c (line ∷ lines) = within_limits before c line (elim (is_skipped (content line)) [
+    | true ↦ run_from (before + 1) c lines
+    | false ↦ elim (event_of (content line)) [
+        | None ↦ ended c (AtBadLine (before + 1) BadLine)
+        | Some event ↦ behind (printed c event) (run_from (before + 1) (after c event) lines)
+      ]
+  ])
+
+-- the run behind the line that describes the cluster, where it does
+abbrev pub behind_cluster : ℕ → Result ClusterRecord ClusterFault → Run → Run
+behind_cluster number (Ok cluster) run = run
+behind_cluster number (Err fault) run = ended new_channel (AtBadLine number (input_fault fault))
+
+-- the run over these lines, of which the first that is not skipped describes the cluster
+abbrev pub read_from : ℕ → List InputLine → Run
+read_from before [] = ended new_channel (AtBadLine (before + 1) NoCluster)
+read_from before (line ∷ lines) = within_limits before new_channel line (elim (is_skipped (content line)) [
+    | true ↦ read_from (before + 1) lines
+    | false ↦ behind_cluster (before + 1) (cluster_of (content line)) (run_from (before + 1) new_channel lines)
+  ])
 
 -- the run over the bytes of a whole input
 abbrev pub run_of : List ℕ → Run
-run_of bytes = run_from 0 new_channel (lines_of bytes)
+run_of bytes = read_from 0 (lines_of bytes)
 
 -- what is written in the end: the outputs, and behind a whole input the state
 abbrev pub final_text : Channel → Ending → List (List ℕ)

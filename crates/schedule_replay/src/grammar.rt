@@ -1,7 +1,5 @@
 ghost use Rattle.std.specs.Prelude.{◌≡◌, ◌≢◌, ◌<◌, ℕ, ◌∷◌, [], length, slice_index, IfSome, IfNone, Some};
-ghost use Rattle.schedule_replay.specs.Grammar.{words_of, event_of, event_named, word_named, post_of, deliver_of, rest_words};
-ghost use Rattle.schedule_unit.specs.Numbers.{number_of};
-
+ghost use Rattle.schedule_replay.specs.Grammar.{words_of, words_from, is_skipped, content, event_of, event_named, word_named, post_of, deliver_of};
 
 use schedule_unit::read_number;
 
@@ -51,17 +49,65 @@ fn blank(bytes: &[u8]) -> Option<usize>
     bytes.iter().position(|byte| *byte == b' ')
 }
 
-// The first word of a line, and what stands behind the blank after it.
-fn first_word(line: &[u8]) -> (&[u8], Option<&[u8]>)
-    ensures { words_of line.now ≡ result.0.now ∷ rest_words result.1 }
+// Where the first byte that is no blank stands.
+fn word_start(bytes: &[u8]) -> Option<usize>
+    ensures found { IfSome result (λ i. (i < length bytes.now) × (slice_index bytes.now i ≢ 32) × ((k : ℕ) → k < i → slice_index bytes.now k ≡ 32)) }
+    ensures none { IfNone result ((k : ℕ) → k < length bytes.now → slice_index bytes.now k ≡ 32) }
 {
-    match blank(line) {
-        Some(at) => {
-            let (_, rest) = line.split_at(at + 1);
-            (&line[..at], Some(rest))
-        }
-        None => (line, None),
+    bytes.iter().position(|byte| *byte != b' ')
+}
+
+// The word that the bytes begin with, which is no blank, and what stands behind it.
+fn cut_word(bytes: &[u8]) -> (&[u8], &[u8])
+    requires some { 0 < length bytes.now }
+    requires word { slice_index bytes.now 0 ≢ 32 }
+    ensures { words_of bytes.now ≡ result.0.now ∷ words_of result.1.now }
+{
+    match blank(bytes) {
+        Some(at) => bytes.split_at(at),
+        None => bytes.split_at(bytes.len()),
     }
+}
+
+// The first word of a line, and what stands behind it.
+fn next_word(line: &[u8]) -> Option<(&[u8], &[u8])>
+    ensures { words_of line.now ≡ words_from result }
+{
+    match word_start(line) {
+        Some(at) => {
+            let (_, rest) = line.split_at(at);
+            Some(cut_word(rest))
+        }
+        None => None,
+    }
+}
+
+/// Whether a line is a comment, which begins with `#`, or has no word.
+pub fn is_skipped(line: &[u8]) -> bool
+    ensures { result ≡ is_skipped line.now }
+{
+    match line {
+        [b'#', ..] => true,
+        _ => next_word(line).is_none(),
+    }
+}
+
+/// What a line says: a carriage return before the newline that ended it is none of it.
+pub fn content(line: &[u8], ended: bool) -> &[u8]
+    ensures { result.now ≡ content (record { bytes = line.now; ended = ended }) }
+{
+    if !ended {
+        return line;
+    }
+    let length = line.len();
+    if length == 0 {
+        return line;
+    }
+    if line[length - 1] != b'\r' {
+        return line;
+    }
+    let (front, _) = line.split_at(length - 1);
+    front
 }
 
 fn post(number: Option<u64>, value: Option<u64>) -> Option<Event>
@@ -91,9 +137,9 @@ fn deliver(packet: Option<u64>) -> Option<Event>
 fn read_post(line: &[u8]) -> Option<Event>
     ensures { result ≡ event_named (Some Word.PostWord) (words_of line.now) }
 {
-    let (number, rest) = first_word(line);
-    let (value, more) = first_word(rest?);
-    match more {
+    let (number, rest) = next_word(line)?;
+    let (value, rest) = next_word(rest)?;
+    match next_word(rest) {
         None => post(read_number(number), read_number(value)),
         Some(_) => None,
     }
@@ -103,25 +149,28 @@ fn read_post(line: &[u8]) -> Option<Event>
 fn read_deliver(line: &[u8]) -> Option<Event>
     ensures { result ≡ event_named (Some Word.DeliverWord) (words_of line.now) }
 {
-    let (packet, more) = first_word(line);
-    match more {
+    let (packet, rest) = next_word(line)?;
+    match next_word(rest) {
         None => deliver(read_number(packet)),
         Some(_) => None,
     }
 }
 
-/// The event of a line, if it is one. Words are separated by single blanks.
+/// The event of a line, if it is one. Words are separated by one blank or more.
 pub fn read_event(line: &[u8]) -> Option<Event>
     ensures { result ≡ event_of line.now }
 {
-    let (word, rest) = first_word(line);
-    match (read_word(word)?, rest) {
-        (Word::PostWord, Some(rest)) => read_post(rest),
-        (Word::TurnWord, None) => Some(Event::Turn),
-        (Word::DeliverWord, Some(rest)) => read_deliver(rest),
-        (Word::ShowWord, None) => Some(Event::Show),
-        (Word::TurnWord, Some(_)) => None,
-        (Word::ShowWord, Some(_)) => None,
-        (Word::PostWord | Word::DeliverWord, None) => None,
+    let (word, rest) = next_word(line)?;
+    match read_word(word)? {
+        Word::PostWord => read_post(rest),
+        Word::DeliverWord => read_deliver(rest),
+        Word::TurnWord => match next_word(rest) {
+            None => Some(Event::Turn),
+            Some(_) => None,
+        },
+        Word::ShowWord => match next_word(rest) {
+            None => Some(Event::Show),
+            Some(_) => None,
+        },
     }
 }

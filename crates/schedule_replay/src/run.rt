@@ -1,21 +1,21 @@
-ghost use Rattle.std.specs.Prelude.{[], ◌≡◌, ◌+◌, ◌<◌, ◌≤◌, ◌^◌, ◌≢◌, Option, Some, None, IfSome, OnOk, OnErr, Ok, Err, ℕ};
+ghost use Rattle.std.specs.Prelude.{[], List, IfErr, ◌≡◌, ◌+◌, ◌<◌, ◌≤◌, ◌^◌, ◌≢◌, Option, Some, None, IfSome, OnOk, OnErr, Ok, Err, ℕ};
 ghost use Rattle.fuxi_io.specs.Causes.{Rose};
 ghost use Rattle.fuxi_io.specs.Lines.{lines_of};
 ghost use Rattle.fuxi_io.specs.Reading.{rest_of};
-ghost use Rattle.schedule_replay.specs.Channel.{Channel, new_channel, after};
-ghost use Rattle.schedule_replay.specs.Grammar.{event_of};
-ghost use Rattle.schedule_replay.specs.declared.grammar.Event.{Event};
+ghost use Rattle.schedule_replay.specs.Channel.{Channel, new_channel};
 ghost use Rattle.schedule_replay.specs.Standing.{IsKept, Stands};
-ghost use Rattle.schedule_replay.specs.Runs.{run_from, Ended};
-ghost use Rattle.schedule_replay.specs.Progress.{TakesLine, WritesState, status_of};
+ghost use Rattle.schedule_replay.specs.Runs.{run_from, read_from, Ended};
+ghost use Rattle.schedule_replay.specs.Progress.{TakesLine, WritesState, HasCluster, after_line, status_of, cluster_status};
 
-use crate::grammar::read_event;
+use crate::grammar::{content, is_skipped, read_event};
 use crate::replay::Replay;
 use fuxi_io::{Got, InputFault, LimitOf, LineReader, LineStop, Sink, Source, Status, write_all_of};
+use cluster_desc::{Cluster, ClusterFault, read_cluster};
 use fuxi_terms::OutOfMemory;
+use schedule_unit::GroupNo;
 use std::alloc::Global;
 
-// Takes a line: makes its event and writes what that prints. `text` is room for it.
+// Takes a line: makes its event and writes what that prints, where it is not skipped. `text` is room for it.
 fn take_line<O: Sink>(
     alloc: Global,
     replay: &mut Replay,
@@ -27,11 +27,14 @@ fn take_line<O: Sink>(
     requires events { replay.old.events < 2 ^ 62 }
     requires kept { IsKept replay.old }
     ensures takes { (c : Channel) → Stands replay.old c → TakesLine line.now number c result (O.took out.old) (O.took out.new) }
-    ensures stands { OnOk result ((c : Channel) (event : Event) → Stands replay.old c → event_of line.now ≡ Some event → Stands replay.new (after c event)) }
-    ensures events { OnOk result (replay.new.events ≡ replay.old.events + 1) }
+    ensures stands { OnOk result ((c : Channel) → Stands replay.old c → Stands replay.new (after_line c line.now)) }
+    ensures events { OnOk result (replay.new.events ≤ replay.old.events + 1) }
     ensures later { O.faults out.old ≤ O.faults out.new }
     ensures fault { result ≡ Err Status.WriteFault → Rose (O.faults out.old) (O.faults out.new) }
 {
+    if is_skipped(line) {
+        return Ok(());
+    }
     let Some(event) = read_event(line) else {
         return Err(Status::BadInput {
             line: number,
@@ -86,17 +89,75 @@ fn status_of(stop: LineStop, number: u64) -> Status
     }
 }
 
-/// Runs the lines that the reader has not given yet, from a channel on which nothing was posted, and
-/// writes what they print, each event's text before the next line is read; behind the last line the
-/// state. The reader has not stopped by a fault of the source.
-pub fn run_first<S: Source, O: Sink>(
+// The status that a fault of the line with this number, which describes no cluster, means.
+fn cluster_status(fault: ClusterFault, number: u64) -> Status
+    ensures { result ≡ cluster_status fault number }
+{
+    let fault = match fault {
+        ClusterFault::NotJson => InputFault::NotJson,
+        ClusterFault::WrongKind(key) => InputFault::WrongKind(key),
+        ClusterFault::UnknownKey => InputFault::UnknownKey,
+        ClusterFault::MissingKey(key) => InputFault::MissingKey(key),
+        ClusterFault::Count(key) => InputFault::Count(key),
+        ClusterFault::LengthDiffers => InputFault::LengthDiffers,
+        ClusterFault::QuantityRange => InputFault::QuantityRange,
+        ClusterFault::QuotaOverLimit(GroupNo(group)) => InputFault::QuotaOverLimit(group),
+        ClusterFault::OutOfMemory => return Status::OutOfMemory,
+    };
+    Status::BadInput {
+        line: number,
+        fault,
+    }
+}
+
+// Reads the line that describes the cluster, the first that is not skipped.
+fn read_cluster_line<S: Source>(
+    alloc: Global,
+    lines: &mut LineReader,
+    source: &mut S,
+) -> Result<Cluster, Status>
+    requires { lines.old.stop ≢ Some LineStop.ReadFault }
+    ensures cluster { OnOk result (lines.old.stop ≡ None → IfSome (rest_of lines.old (S.left source.old)) (λ bytes. HasCluster bytes lines.old.number lines.new.number (rest_of lines.new (S.left source.new)))) }
+    ensures running { OnOk result (lines.new.stop ≡ None) }
+    ensures ended { IfErr result (λ status. lines.old.stop ≡ None → IfSome (rest_of lines.old (S.left source.old)) (λ bytes. (took : Option (List ℕ)) → Ended (read_from lines.old.number (lines_of bytes)) status took took)) }
+    ensures done { result ≢ Err Status.Done }
+    ensures usage { result ≢ Err Status.Usage }
+    ensures write { result ≢ Err Status.WriteFault }
+    ensures read { result ≡ Err Status.ReadFault → Rose (S.faults source.old) (S.faults source.new) }
+    ensures limit { lines.old.stop ≡ None → (what : LimitOf) (kept : ℕ) → result ≡ Err (Status.Limit what kept) → kept ≡ 1000000 }
+    ensures later { S.faults source.old ≤ S.faults source.new }
+{
+    for turn in 0..1_000_001u64 {
+        match lines.next(source) {
+            Ok(Got::Line) => {}
+            Ok(Got::End) => {
+                return Err(Status::BadInput {
+                    line: lines.number() + 1,
+                    fault: InputFault::NoCluster,
+                });
+            }
+            Err(stop) => return Err(status_of(stop, lines.number())),
+        }
+        let number = lines.number();
+        let line = content(lines.line(), lines.ended());
+        if !is_skipped(line) {
+            return match read_cluster(alloc, line) {
+                Ok(cluster) => Ok(cluster),
+                Err(fault) => Err(cluster_status(fault, number)),
+            };
+        }
+    }
+    unreachable!()
+}
+
+// Runs the lines behind the one that describes the cluster.
+fn run_lines<S: Source, O: Sink>(
     alloc: Global,
     lines: &mut LineReader,
     source: &mut S,
     out: &mut O,
 ) -> Status
     requires { lines.old.stop ≢ Some LineStop.ReadFault }
-    // What was written, by the status. It is said of a reader that has not stopped over bytes that are known.
     ensures ended { lines.old.stop ≡ None → IfSome (rest_of lines.old (S.left source.old)) (λ bytes. Ended (run_from lines.old.number new_channel (lines_of bytes)) result (O.took out.old) (O.took out.new)) }
     ensures end { lines.old.stop ≡ None → result ≡ Status.Done → IfSome (rest_of lines.old (S.left source.old)) (λ bytes. S.left source.new ≡ Some []) }
     ensures read { result ≡ Status.ReadFault → Rose (S.faults source.old) (S.faults source.new) }
@@ -115,10 +176,36 @@ pub fn run_first<S: Source, O: Sink>(
             Err(stop) => return status_of(stop, lines.number()),
         }
         let number = lines.number();
-        match take_line(alloc, &mut replay, lines.line(), number, &mut text, out) {
+        let line = content(lines.line(), lines.ended());
+        match take_line(alloc, &mut replay, line, number, &mut text, out) {
             Ok(()) => {}
             Err(status) => return status,
         }
     }
     unreachable!()
+}
+
+/// Runs the lines that the reader has not given yet: the first that is not skipped describes the cluster,
+/// and the others are events of a channel on which nothing was posted. What an event prints is written
+/// before the next line is read, and behind the last line the state. The reader has not stopped by a
+/// fault of the source.
+pub fn run_first<S: Source, O: Sink>(
+    alloc: Global,
+    lines: &mut LineReader,
+    source: &mut S,
+    out: &mut O,
+) -> Status
+    requires { lines.old.stop ≢ Some LineStop.ReadFault }
+    // What was written, by the status. It is said of a reader that has not stopped over bytes that are known.
+    ensures ended { lines.old.stop ≡ None → IfSome (rest_of lines.old (S.left source.old)) (λ bytes. Ended (read_from lines.old.number (lines_of bytes)) result (O.took out.old) (O.took out.new)) }
+    ensures end { lines.old.stop ≡ None → result ≡ Status.Done → IfSome (rest_of lines.old (S.left source.old)) (λ bytes. S.left source.new ≡ Some []) }
+    ensures read { result ≡ Status.ReadFault → Rose (S.faults source.old) (S.faults source.new) }
+    ensures write { result ≡ Status.WriteFault → Rose (O.faults out.old) (O.faults out.new) }
+    ensures limit { lines.old.stop ≡ None → (what : LimitOf) (kept : ℕ) → result ≡ Status.Limit what kept → kept ≡ 1000000 }
+    ensures usage { result ≢ Status.Usage }
+{
+    match read_cluster_line(alloc, lines, source) {
+        Ok(_cluster) => run_lines(alloc, lines, source, out),
+        Err(status) => status,
+    }
 }

@@ -3,7 +3,8 @@ use Rattle.std.proofs.Common.{◌≡◌, ℕ, zero, suc, ◌+◌, ◌-◌, ◌<�
 use Rattle.std.specs.Prelude.{◌&&◌, ◌||◌}
 use Rattle.std.specs.List.{AllByRecursion}
 use Rattle.std.proofs.lemmas.Bool.Decides.{nat_tests}
-use Rattle.written_world.specs.Net.{Net, Party, Id, Link, Packet, Kind, Ack, Delta, Full, Heard, What, Stranger, NotMine, Taken, Old, Gap, Stale, Acked, last, set_at, unknown, silent, same_id, same_party, met, place_moved, unmoved, hear, hear_peer, heard_of, word_of, link_after, numbers_from, kept_changes, turn_deltas, notes, turn, Move, Starts, Posts, Turns, Hears, Resyncs, comes, move}
+use Rattle.fuxi_terms.specs.Lists.{numbers_from}
+use Rattle.written_world.specs.Net.{Net, Party, Id, Link, Packet, Kind, Ack, Delta, Full, Heard, What, Stranger, NotMine, Taken, Old, Gap, Stale, Acked, last, set_at, unknown, silent, same_id, same_party, met, place_moved, unmoved, hear, hear_peer, heard_of, word_of, link_after, kept_changes, turn_deltas, notes, turn, Move, Starts, Posts, Turns, Hears, Resyncs, comes, move}
 use Rattle.written_world.specs.Sound.{Bounded, IsLinkWithin, PacketWithin}
 use Rattle.written_world.proofs.Choosing.{both_true, either, either_case}
 use Rattle.written_world.proofs.Places.{id_is, set_at_all}

@@ -1,5 +1,6 @@
 -- Parties, what they know of one another, the histories that they send, and packets without content. Ledgers are of any type here.
 use Rattle.std.specs.Prelude.{ℕ, zero, suc, ◌+◌, ◌-◌, Bool, true, false, cond, not, nat_eq, nat_lt, ◌&&◌, ◌||◌, min, List, [], ◌∷◌, ◌++◌, length, map, Option, Some, None, slice_get}
+use Rattle.fuxi_terms.specs.Lists.{numbers_from}
 
 -- a role and a number. Role 1 is the master, whose number is 0; role 2 an agent, by its machine; role 3 an application, by its job
 pub record Id : Type 0 where
@@ -115,11 +116,6 @@ abbrev pub hear : Party → Bool → ℕ → Link → Packet → Heard
 hear p talks top l x =
     cond (not (same_id x.to.id p.id && talks)) (unmoved Stranger l)
     (cond (nat_lt x.from.inc l.known) (unmoved Stale l) (hear_peer p.inc top l x))
-
--- Turns. The numbers from a on, n of them
-abbrev pub numbers_from : ℕ → ℕ → List ℕ
-numbers_from a zero = []
-numbers_from a (suc n) = a ∷ numbers_from (a + 1) n
 
 -- so many changes are kept for Deltas, and so many Deltas go out in one turn
 abbrev pub kept_changes : ℕ

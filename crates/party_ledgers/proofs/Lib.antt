@@ -1,0 +1,4 @@
+pub mod Patching
+pub mod Sizes
+pub mod RowReading
+pub mod Totals

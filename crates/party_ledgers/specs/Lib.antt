@@ -1,0 +1,7 @@
+pub mod Shapes
+pub mod Orders
+pub mod Rows
+pub mod RowForms
+pub mod RowOneForm
+pub mod Entries
+pub mod Joins

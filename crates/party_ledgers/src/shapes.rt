@@ -1,0 +1,78 @@
+//! The two tallies: what a master grants an application, and what an application demands.
+
+ghost use Rattle.std.specs.Prelude.{◌≡◌};
+ghost use Rattle.party_ledgers.specs.Shapes.{greatest_grant, greatest_demand};
+
+use ledger_law::{Key, Shape, Tally};
+
+/// The keys of [`Grants`].
+#[derive(Clone, Copy, Debug, Drop)]
+pub struct GrantShape;
+
+impl Shape for GrantShape {
+    ghost use Rattle.party_ledgers.specs.Shapes.{greatest_grant, grant_bounded, grant_writable};
+
+    ghost DROPPED = { 3 };
+
+    ghost greatest_of = { greatest_grant };
+
+    ghost bounded = { grant_bounded };
+
+    ghost writable = { grant_writable };
+
+    const DROPPED: u8 = 3;
+
+    fn greatest(key: &Key) -> u64 {
+        if key.unit > 7 || key.number > 255 {
+            return 0;
+        }
+        match key.what {
+            1 if key.unit == 0 => 1,
+            2 => 100_000,
+            3 => 1_000_000_000_000,
+            _ => 0,
+        }
+    }
+}
+
+/// The keys of [`Demand`].
+#[derive(Clone, Copy, Debug, Drop)]
+pub struct DemandShape;
+
+impl Shape for DemandShape {
+    ghost use Rattle.party_ledgers.specs.Shapes.{greatest_demand, demand_bounded, demand_writable};
+
+    ghost DROPPED = { 5 };
+
+    ghost greatest_of = { greatest_demand };
+
+    ghost bounded = { demand_bounded };
+
+    ghost writable = { demand_writable };
+
+    const DROPPED: u8 = 5;
+
+    fn greatest(key: &Key) -> u64 {
+        if key.unit > 7 || key.number > 255 {
+            return 0;
+        }
+        match key.what {
+            1 if key.number == 0 => 100_000,
+            2 => 100_000,
+            3 if key.number < 64 => 100_000,
+            4 => 1,
+            5 => 1_000_000_000_000,
+            _ => 0,
+        }
+    }
+}
+
+/// What a master grants an application. The head is the boot of the application; its entries are by kind
+/// 1, that a machine is reported (unit 0, the machine, value 1); 2, the grants of a unit on a machine; 3,
+/// what was credited of a unit on a machine, which goes with a new boot.
+pub type Grants = Tally<GrantShape>;
+
+/// What an application demands. The head is the epoch; its entries are by kind 1, the grants of a unit that
+/// are wanted (number 0); 2, on which machine they are wanted near; 3, in which rack; 4, the machines that a
+/// unit avoids (value 1); 5, what was given back of a unit on a machine, which goes with a new epoch.
+pub type Demand = Tally<DemandShape>;
