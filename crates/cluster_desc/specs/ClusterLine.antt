@@ -1,29 +1,19 @@
 -- What a cluster line is: the outcome of the tests on the value that its JSON has.
 use Rattle.std.specs.Prelude.{ℕ, ◌+◌, Bool, true, false, ◌&&◌, nat_eq, List, [], ◌∷◌, length, Option, None, option_and_then, Result, Ok, codes, if◌then◌else◌}
 use Rattle.std.specs.List.{list_any}
-use Rattle.std.specs.Str.{is_utf8}
+use Rattle.std.specs.Str.{bytes_eq, is_utf8}
 use Rattle.serde_json.specs.Data.{Data, Items, no_items, item, Members, no_members, member}
 use Rattle.serde_json.specs.Find.{get, as_u64, as_number, as_array, as_object}
 use Rattle.serde_json.specs.Read.{read}
 use Rattle.fuxi_terms.specs.Vectors.{fits}
 use Rattle.fuxi_terms.specs.Cluster.{MachineRecord, GroupRecord, ClusterRecord, are_quantities, is_between}
+use Rattle.fuxi_io.specs.Statuses.{word_of}
 use Rattle.fuxi_io.specs.declared.status.ClusterKey.{ClusterKey}
 use Rattle.fuxi_io.specs.declared.status.ClusterKey.TheVariants.{Cluster, Resources, Machines, Groups, Rack, Has, Quota, Limit}
 use Rattle.schedule_unit.specs.declared.party.GroupNo.{GroupNo}
 use Rattle.cluster_desc.specs.declared.fault.ClusterFault.{ClusterFault}
 use Rattle.cluster_desc.specs.declared.fault.ClusterFault.TheVariants.{NotJson, WrongKind, UnknownKey, MissingKey, Count, LengthDiffers, QuantityRange, QuotaOverLimit}
 use Rattle.cluster_desc.specs.Faults.{◌>>=◌, holds, given}
-
--- the word of a key
-abbrev pub word_of : ClusterKey → List ℕ
-word_of Cluster = codes "cluster"
-word_of Resources = codes "resources"
-word_of Machines = codes "machines"
-word_of Groups = codes "groups"
-word_of Rack = codes "rack"
-word_of Has = codes "has"
-word_of Quota = codes "quota"
-word_of Limit = codes "limit"
 
 -- ---- values
 
@@ -63,15 +53,10 @@ array_between key least most d = do
 
 -- ---- objects
 
-abbrev pub same_text : List ℕ → List ℕ → Bool
-same_text [] [] = true
-same_text (x ∷ xs) (y ∷ ys) = nat_eq x y && same_text xs ys
-same_text _ _ = false
-
 -- each key is the word of one of these
 abbrev pub has_only : List ClusterKey → Members → Bool
 has_only keys no_members = true
-has_only keys (member k d ms) = list_any (λ key. same_text (word_of key) k) keys && has_only keys ms
+has_only keys (member k d ms) = list_any (λ key. bytes_eq (word_of key) k) keys && has_only keys ms
 
 -- an object with no other key
 unfoldable pub object_of : ClusterKey → List ClusterKey → Data → Result (Unit {0}) ClusterFault

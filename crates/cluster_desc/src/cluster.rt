@@ -6,17 +6,21 @@ use schedule_unit::{GroupNo, MachineNo, RackNo};
 use std::alloc::Global;
 use std::marker::Model;
 
-/// A machine: the rack that it stands in, and what it has of each resource.
+/// A machine.
 #[derive(Clone, Copy, Debug, PartialEq, Eq)]
 pub struct Machine {
+    /// The rack that it stands in, 0 to 63.
     pub rack: RackNo,
+    /// What it has of each resource, at most 1,000,000,000,000.
     pub has: Res,
 }
 
-/// A group of jobs: what it is promised of each resource, and what it may use at most.
+/// A group of jobs that share a part of the cluster.
 #[derive(Clone, Copy, Debug, PartialEq, Eq)]
 pub struct Group {
+    /// What it is promised of each resource, at most its limit.
     pub quota: Res,
+    /// What it may use of each resource, at most 1,000,000,000,000.
     pub limit: Res,
 }
 
@@ -58,19 +62,14 @@ impl Cluster {
         }
     }
 
+    /// The same cluster once more.
     pub fn copy(&self, alloc: Global) -> Result<Cluster, OutOfMemory>
         ensures { IfOk result (λ copy. copy ≡ self.now) }
     {
-        let Ok(machines) = Vec::from_slice(alloc, &self.machines) else {
-            return Err(OutOfMemory);
-        };
-        let Ok(groups) = Vec::from_slice(alloc, &self.groups) else {
-            return Err(OutOfMemory);
-        };
         Ok(Cluster {
             resources: self.resources,
-            machines,
-            groups,
+            machines: Vec::from_slice(alloc, &self.machines)?,
+            groups: Vec::from_slice(alloc, &self.groups)?,
         })
     }
 
@@ -90,6 +89,7 @@ impl Cluster {
         self.machines.len() as u32
     }
 
+    /// The machine of this number, which the cluster must have.
     pub fn machine(&self, machine: MachineNo) -> &Machine
         requires { machine.0 < length self.now.machines }
         ensures { option_map machine_of (slice_get self.now.machines machine.0) ≡ Some result.now }
@@ -105,6 +105,7 @@ impl Cluster {
         self.groups.len() as u32
     }
 
+    /// The group of this number, which the cluster must have.
     pub fn group(&self, group: GroupNo) -> &Group
         requires { group.0 < length self.now.groups }
         ensures { option_map group_of (slice_get self.now.groups group.0) ≡ Some result.now }

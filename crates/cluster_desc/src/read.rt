@@ -3,16 +3,17 @@
 ghost use Rattle.std.specs.Prelude.{◌≡◌, ◌≤◌, IfOk, IfErr, MatchResult, Some, Ok, Err, length, map, take};
 ghost use Rattle.serde_json.specs.View.{view, items_view, members_view};
 ghost use Rattle.std.specs.List.{list_any};
-ghost use Rattle.fuxi_terms.specs.Cluster.{are_quantities};
+ghost use Rattle.std.specs.Str.{bytes_eq};
+ghost use Rattle.fuxi_io.specs.Statuses.{word_of};
 ghost use Rattle.res_vector.specs.Padded.{padded};
-ghost use Rattle.cluster_desc.specs.ClusterLine.{array_between, cluster_at, cluster_of, each, group_at, has_only, machine_at, number_between, numbers_of, object_of, quantities, same_text, value_at, value_of, whole_number, word_of};
+ghost use Rattle.cluster_desc.specs.ClusterLine.{array_between, cluster_at, cluster_of, each, group_at, has_only, machine_at, number_between, numbers_of, object_of, quantities, value_at, value_of, whole_number};
 ghost use Rattle.cluster_desc.specs.Faults.{IsFault, given};
 ghost use Rattle.cluster_desc.specs.Records.{group_of, group_record, machine_of, machine_record};
 
 use crate::cluster::{Cluster, Group, Machine};
 use crate::fault::ClusterFault;
 use fuxi_io::ClusterKey;
-use res_vector::{GREATEST_QUANTITY, Res, fits, from_quantities};
+use res_vector::{Res, are_quantities, fits, from_quantities};
 use schedule_unit::{GroupNo, RackNo};
 use serde_json::{Category, Map, Value};
 use std::alloc::Global;
@@ -195,14 +196,6 @@ fn whole_numbers(alloc: Global, key: ClusterKey, values: &[Value]) -> Result<Vec
     Ok(numbers)
 }
 
-fn are_quantities(quantities: &[u64]) -> bool
-    ensures { result ≡ are_quantities quantities.now }
-{
-    quantities
-        .iter()
-        .all(|quantity| *quantity <= GREATEST_QUANTITY)
-}
-
 #[tactic(auto, unfolding(crate::specs::ClusterLine::number_between))]
 fn number_between(
     key: ClusterKey,
@@ -266,9 +259,9 @@ fn has_only(keys: &[ClusterKey], members: &Map<String, Value>) -> bool
 }
 
 fn is_one_of(keys: &[ClusterKey], name: &str) -> bool
-    ensures { result ≡ list_any (λ key. same_text (word_of key) name.now) keys.now }
+    ensures { result ≡ list_any (λ key. bytes_eq (word_of key) name.now) keys.now }
 {
-    keys.iter().any(|key| word_of(*key) == name)
+    keys.iter().any(|key| key.word() == name)
 }
 
 #[tactic(auto, unfolding(crate::specs::ClusterLine::value_at))]
@@ -276,23 +269,8 @@ fn value_at<'v>(key: ClusterKey, value: &'v Value) -> Result<&'v Value, ClusterF
     ensures { MatchResult result (λ v. value_at key (view value.now) ≡ Ok (view v.now))
         (λ fault. value_at key (view value.now) ≡ Err fault) }
 {
-    match value.get(word_of(key)) {
+    match value.get(key.word()) {
         Some(found) => Ok(found),
         None => Err(ClusterFault::MissingKey(key)),
-    }
-}
-
-fn word_of(key: ClusterKey) -> &'static str
-    ensures { result.now ≡ word_of key }
-{
-    match key {
-        ClusterKey::Cluster => "cluster",
-        ClusterKey::Resources => "resources",
-        ClusterKey::Machines => "machines",
-        ClusterKey::Groups => "groups",
-        ClusterKey::Rack => "rack",
-        ClusterKey::Has => "has",
-        ClusterKey::Quota => "quota",
-        ClusterKey::Limit => "limit",
     }
 }

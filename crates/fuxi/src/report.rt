@@ -45,7 +45,10 @@ fn fault_value<'a>(fault: &InputFault, buffer: &'a mut Buffer) -> (&'static str,
     ensures { result.0.now ++ result.1.now ≡ fault_value fault.now }
 {
     match fault {
-        InputFault::WrongKind(key) | InputFault::MissingKey(key) | InputFault::Count(key) => (" ", key.word()),
+        InputFault::WrongKind(key) | InputFault::MissingKey(key) | InputFault::Count(key) => (
+            " ",
+            key.word(),
+        ),
         InputFault::QuotaOverLimit(group) => (" ", buffer.format(*group)),
         _ => ("", ""),
     }

@@ -1,6 +1,5 @@
 pub mod Searching
 pub mod Placing
-pub mod Counting
 pub mod Testing
 pub mod Keeping
 pub mod Changing

@@ -9,16 +9,8 @@ use Rattle.std.specs.FinMap.Entries.{below_all, is_sorted}
 use Rattle.std.specs.List.Sorted.{IsSearchInRange, IsBinarySearchResult, IsNonDecreasingBy}
 use Rattle.std.proofs.lemmas.List.Sorted.{searchable_from_sorted}
 use Rattle.std.proofs.lemmas.Option.{get_or_from_slice_get, slice_get_within}
+use Rattle.fuxi_terms.proofs.Counting.{both_true, lesser}
 use Rattle.ledger_law.specs.Places.{IsPlace}
-
-pub both_true : (a b : Bool) → T (a && b) → T a × T b
-both_true true b p = (tt, p)
-both_true false b p = absurd p
-
-pub lesser : (r : Ordering) → T (is_lt r) → r ≡ Less
-lesser Less p = refl
-lesser Equal p = absurd p
-lesser Greater p = absurd p
 
 module _ {K X : Type 0} (R : K → K → Ordering) where
   -- a key is below the next one

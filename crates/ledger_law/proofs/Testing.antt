@@ -10,8 +10,7 @@ use Rattle.std.specs.FinMap.Entries.{below_all, find, is_sorted}
 use Rattle.std.proofs.lemmas.List.{drop_all}
 use Rattle.fuxi_terms.specs.Counts.{moved, count, set_count, set_moved, change_one, change_all, then_do}
 use Rattle.ledger_law.specs.Shapes.{moved_within, in_bounds}
-use Rattle.ledger_law.proofs.Searching.{both_true, lesser}
-use Rattle.ledger_law.proofs.Counting.{count-set_count}
+use Rattle.fuxi_terms.proofs.Counting.{both_true, lesser, count-set_count}
 
 abbrev pub done : {A E : Type 0} → Result A E → Result (Unit {0}) E
 done (Ok x) = Ok tt

@@ -13,8 +13,7 @@ use Rattle.fuxi_terms.specs.Keys.{RowKey, row_cmp}
 use Rattle.fuxi_terms.specs.Counts.{moved, count, set_count, change_one, then_do, AreCounts}
 use Rattle.ledger_law.specs.declared.ledger.LedgerFault.{LedgerFault}
 use Rattle.ledger_law.specs.Shapes.{moved_within, in_bounds}
-use Rattle.ledger_law.proofs.Searching.{both_true, lesser}
-use Rattle.ledger_law.proofs.Counting.{count_le, count-set_count, counts-set_count, length-set_count}
+use Rattle.fuxi_terms.proofs.Counting.{both_true, lesser, count_le, count-set_count, counts-set_count, length-set_count}
 use Rattle.ledger_law.proofs.Making.{made_one}
 use Rattle.ledger_law.proofs.Testing.{change_one_is}
 use Rattle.party_ledgers.specs.Orders.{row_total, same_row_key}

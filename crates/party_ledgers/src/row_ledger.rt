@@ -112,7 +112,7 @@ impl RowChange {
 
     /// Whether there is no change.
     pub fn is_empty(&self) -> bool
-        ensures { IsTrue result → self.now ≡ [] }
+        ensures { result ≡ nat_eq (length self.now) 0 }
     {
         self.entries.is_empty()
     }

@@ -4,7 +4,8 @@
 
 ghost use Rattle.std.specs.Prelude.{◌≡◌, ◌<◌, ◌≤◌, ◌^◌, IsTrue, List, ℕ, length, replicate};
 ghost use Rattle.std.specs.List.{All};
-ghost use Rattle.fuxi_terms.specs.Vectors.{fits, plus as sum_of, minus as difference_of, times as multiple_of};
+ghost use Rattle.fuxi_terms.specs.Cluster.{are_quantities};
+ghost use Rattle.fuxi_terms.specs.Vectors.{fits, is_zero, plus as sum_of, minus as difference_of, times as multiple_of};
 ghost use Rattle.res_vector.specs.Padded.{padded};
 
 mod laws;
@@ -22,12 +23,14 @@ pub const GREATEST_QUANTITY: u64 = 1_000_000_000_000;
 /// A quantity of each resource, as of one grant or one machine.
 #[derive(Clone, Copy, Debug, PartialEq, Eq)]
 pub struct Res {
+    /// By the number of the resource, with 0 at those that the cluster does not have.
     pub q: [u64; 8],
 }
 
 /// A total of many vectors.
 #[derive(Clone, Copy, Debug, PartialEq, Eq)]
 pub struct Sum {
+    /// By the number of the resource.
     pub q: [u128; 8],
 }
 
@@ -36,6 +39,22 @@ pub fn zero() -> Res
     ensures { result.q ≡ replicate 8 0 }
 {
     Res { q: [0; 8] }
+}
+
+/// Whether each of these is at most the greatest quantity.
+pub fn are_quantities(quantities: &[u64]) -> bool
+    ensures { result ≡ are_quantities quantities.now }
+{
+    quantities
+        .iter()
+        .all(|quantity| *quantity <= GREATEST_QUANTITY)
+}
+
+/// Whether each of these is 0.
+pub fn is_zero(quantities: &[u64]) -> bool
+    ensures { result ≡ is_zero quantities.now }
+{
+    quantities.iter().all(|quantity| *quantity == 0)
 }
 
 /// The vector that begins with these quantities, with zeros behind.

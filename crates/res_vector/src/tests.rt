@@ -43,3 +43,11 @@ fn each_place_counts(rt: HostRuntime) -> Result<(), Fail> {
     assert_eq!(rt; greatest.q[7], u64::MAX as u128 * u32::MAX as u128);
     Ok(())
 }
+
+#[test]
+fn quantities_have_a_greatest(rt: HostRuntime) -> Result<(), Fail> {
+    assert!(rt; are_quantities(&[]) && are_quantities(&[0, GREATEST_QUANTITY]));
+    assert!(rt; !are_quantities(&[0, GREATEST_QUANTITY + 1]));
+    assert!(rt; is_zero(&[]) && is_zero(&[0, 0]) && !is_zero(&[0, 1]));
+    Ok(())
+}

@@ -57,18 +57,19 @@ run_is : (before : ℕ) (c : Channel) (line : InputLine) (lines : List InputLine
 run_is before c line lines skipped event more short is_skip is_event =
     within before c line _ more short
     ∙ ap (λ b. elim b as (λ _. Run) [
-        | true ↦ run_from (before + 1) c lines
-        | false ↦ elim (event_of (content line)) as (λ _. Run) [ None ↦ ended c (AtBadLine (before + 1) BadLine) | Some event ↦ behind (printed c event) (run_from (before + 1) (after c event) lines) ]
-      ]) is_skip
+      | true ↦ run_from (before + 1) c lines
+      | false ↦ elim (event_of (content line)) as (λ _. Run) [ None ↦ ended c (AtBadLine (before + 1) BadLine) | Some event ↦ behind (printed c event) (run_from (before + 1) (after c event) lines) ]
+    ]) is_skip
     ∙ by_skip skipped
   where
     by_event : (o : Option Event) → (elim o as (λ _. Run) [ None ↦ ended c (AtBadLine (before + 1) BadLine) | Some event ↦ behind (printed c event) (run_from (before + 1) (after c event) lines) ]) ≡ of_event before c lines o
     by_event None = refl
     by_event (Some event) = refl
+
     by_skip : (b : Bool) → (elim b as (λ _. Run) [
-        | true ↦ run_from (before + 1) c lines
-        | false ↦ elim (event_of (content line)) as (λ _. Run) [ None ↦ ended c (AtBadLine (before + 1) BadLine) | Some event ↦ behind (printed c event) (run_from (before + 1) (after c event) lines) ]
-      ]) ≡ of_line before c lines event b
+      | true ↦ run_from (before + 1) c lines
+      | false ↦ elim (event_of (content line)) as (λ _. Run) [ None ↦ ended c (AtBadLine (before + 1) BadLine) | Some event ↦ behind (printed c event) (run_from (before + 1) (after c event) lines) ]
+    ]) ≡ of_line before c lines event b
     by_skip true = refl
     by_skip false = by_event (event_of (content line)) ∙ ap (of_event before c lines) is_event
 
@@ -95,6 +96,7 @@ some_line (b ∷ bytes) some = λ e. split (lines_of bytes) (nat_eq b 10) e
     onto : (ls : List InputLine) → onto_first b ls ≡ [] → ⊥
     onto [] e = cc
     onto (l ∷ ls) e = cc
+
     split : (ls : List InputLine) (t : Bool) → cond t ((record { bytes = []; ended = true }) ∷ ls) (onto_first b ls) ≡ [] → ⊥
     split ls true e = cc
     split ls false e = onto ls e
@@ -177,8 +179,10 @@ module _ (bytes : List ℕ) (first number : ℕ) (replay : Replaying) (rest w0 w
     where
       text : List ℕ
       text = content line
+
       n : Next a.left line rest'
       n = next_line a.left line rest' (subst (λ r. GivesKnown Line r line rest') a.is_left gives)
+
       by_line : TakesLine (content line) (number + 1) a.channel (Ok (record {})) w w' → Along bytes first (number + 1) replay' rest' w0 w'
       by_line (inl h) =
           let n = next_line a.left line rest' (subst (λ r. GivesKnown Line r line rest') a.is_left gives) in
@@ -220,6 +224,7 @@ module _ (bytes : List ℕ) (first number : ℕ) (replay : Replaying) (rest w0 w
     where
       now : Run
       now = record { outputs = a.front; channel = a.channel; ending = AtEnd }
+
       by_status : (status : Status) → WritesState a.channel status w w' → Ended (record { outputs = a.front; channel = a.channel; ending = AtEnd }) status w0 w'
       by_status Done h = (refl, rw concat_one (appends_both w0 w w' (concat a.front) (state_text a.channel) a.writes h))
       by_status WriteFault h = part_of a.front (state_text a.channel) [] w0 w w' a.writes h
@@ -251,7 +256,7 @@ module _ (bytes : List ℕ) (first number : ℕ) (replay : Replaying) (rest w0 w
       by_status (BadInput m fault) h =
           let n = next_line a.left line rest' (subst (λ r. GivesKnown Line r line rest') a.is_left gives) in
           let same : run_from first new_channel (lines_of bytes) ≡ record { outputs = a.front; channel = a.channel; ending = AtBadLine m fault } =
-              known_end a.left a.channel (AtBadLine m fault) (ap (run_from number a.channel) n.lines ∙ run_is number a.channel line (lines_of n.left') false None more n.short h.0 h.1 ∙ ap (λ k. ended a.channel (AtBadLine k BadLine)) (sym h.2) ∙ ap (λ f. ended a.channel (AtBadLine m f)) (sym h.3)) in
+          known_end a.left a.channel (AtBadLine m fault) (ap (run_from number a.channel) n.lines ∙ run_is number a.channel line (lines_of n.left') false None more n.short h.0 h.1 ∙ ap (λ k. ended a.channel (AtBadLine k BadLine)) (sym h.2) ∙ ap (λ f. ended a.channel (AtBadLine m f)) (sym h.3)) in
           (ap (λ (r : Run). r.ending) same, subst (λ (r : Run). Appends w0 w' (concat r.outputs)) (sym same) (subst (λ t. Appends w0 t (concat a.front)) (sym h.4) a.writes))
       by_status WriteFault h =
           let n = next_line a.left line rest' (subst (λ r. GivesKnown Line r line rest') a.is_left gives) in
@@ -259,9 +264,9 @@ module _ (bytes : List ℕ) (first number : ℕ) (replay : Replaying) (rest w0 w
           let x = printed a.channel t.1.event in
           let later = run_from (number + 1) (after a.channel t.1.event) (lines_of n.left') in
           let same : run_from first new_channel (lines_of bytes) ≡ behind_all a.front (behind x later) =
-              a.same ∙ ap (behind_all a.front) (ap (run_from number a.channel) n.lines ∙ run_is number a.channel line (lines_of n.left') false (Some t.1.event) more n.short h.0 t.1.is) in
+          a.same ∙ ap (behind_all a.front) (ap (run_from number a.channel) n.lines ∙ run_is number a.channel line (lines_of n.left') false (Some t.1.event) more n.short h.0 t.1.is) in
           subst (λ (r : Run). WritesPart (pieces r) w0 w') (sym same)
-              (rw (append_assoc a.front (x ∷ later.outputs)) (part_of a.front x (later.outputs ++ final_text later.channel later.ending) w0 w w' a.writes (subst (λ o. TakesPart w w' o) t.1.prints t.2)))
+          (rw (append_assoc a.front (x ∷ later.outputs)) (part_of a.front x (later.outputs ++ final_text later.channel later.ending) w0 w w' a.writes (subst (λ o. TakesPart w w' o) t.1.prints t.2)))
       by_status OutOfMemory h =
           let r = run_from number a.channel (lines_of a.left) in
           subst (λ (q : Run). WritesPart (pieces q) w0 w') (sym a.same) (none_of _ a.front (r.outputs ++ final_text r.channel r.ending) w0 w w' (append_assoc a.front r.outputs (final_text r.channel r.ending)) a.writes h)
@@ -316,15 +321,15 @@ read_is : (before : ℕ) (line : InputLine) (lines : List InputLine) (skipped : 
 read_is before line lines skipped more short is_skip =
     within before new_channel line _ more short
     ∙ ap (λ b. elim b as (λ _. Run) [
-        | true ↦ read_from (before + 1) lines
-        | false ↦ behind_cluster (before + 1) (cluster_of (content line)) (run_from (before + 1) new_channel lines)
-      ]) is_skip
+      | true ↦ read_from (before + 1) lines
+      | false ↦ behind_cluster (before + 1) (cluster_of (content line)) (run_from (before + 1) new_channel lines)
+    ]) is_skip
     ∙ by_skip skipped
   where
     by_skip : (b : Bool) → (elim b as (λ _. Run) [
-        | true ↦ read_from (before + 1) lines
-        | false ↦ behind_cluster (before + 1) (cluster_of (content line)) (run_from (before + 1) new_channel lines)
-      ]) ≡ of_cluster before lines (cluster_of (content line)) b
+      | true ↦ read_from (before + 1) lines
+      | false ↦ behind_cluster (before + 1) (cluster_of (content line)) (run_from (before + 1) new_channel lines)
+    ]) ≡ of_cluster before lines (cluster_of (content line)) b
     by_skip true = refl
     by_skip false = refl
 
@@ -346,8 +351,11 @@ module _ (input : Option (List ℕ)) (first number : ℕ) (rest : Option (List �
       → IfSome input (λ bytes. HasCluster bytes first number' rest')
   seek_cluster rest' line number' cluster next more gives skipped is = weaker input _ _ (λ bytes (s : Seeking bytes first number rest).
       let n = next_line s.left line rest' (subst (λ r. GivesKnown Line r line rest') s.is_left gives) in
-      subst (λ k. HasCluster bytes first k rest') (sym next) (record { left = n.left'; is_left = n.is_left;
-        same = s.same ∙ ap (read_from number) n.lines ∙ read_is number line (lines_of n.left') false more n.short skipped ∙ ap (λ o. behind_cluster (number + 1) o (run_from (number + 1) new_channel (lines_of n.left'))) is })) a
+      subst (λ k. HasCluster bytes first k rest') (sym next) (record {
+        left = n.left';
+        is_left = n.is_left;
+        same = s.same ∙ ap (read_from number) n.lines ∙ read_is number line (lines_of n.left') false more n.short skipped ∙ ap (λ o. behind_cluster (number + 1) o (run_from (number + 1) new_channel (lines_of n.left'))) is;
+      })) a
 
   pub seek_fault : (rest' : Option (List ℕ)) (line : InputLine) (fault : ClusterFault) → number < 1000000 → GivesKnown Line rest line rest' → is_skipped (content line) ≡ false → IsFault (cluster_of (content line)) fault
       → IfSome input (λ bytes. (took : Option (List ℕ)) → Ended (read_from first (lines_of bytes)) (cluster_status fault (number + 1)) took took)
@@ -358,8 +366,9 @@ module _ (input : Option (List ℕ)) (first number : ℕ) (rest : Option (List �
       bad bytes s took fault is =
           let n = next_line s.left line rest' (subst (λ r. GivesKnown Line r line rest') s.is_left gives) in
           let same : read_from first (lines_of bytes) ≡ ended new_channel (AtBadLine (number + 1) (input_fault fault)) =
-              s.same ∙ ap (read_from number) n.lines ∙ read_is number line (lines_of n.left') false more n.short skipped ∙ ap (λ o. behind_cluster (number + 1) o (run_from (number + 1) new_channel (lines_of n.left'))) is in
+          s.same ∙ ap (read_from number) n.lines ∙ read_is number line (lines_of n.left') false more n.short skipped ∙ ap (λ o. behind_cluster (number + 1) o (run_from (number + 1) new_channel (lines_of n.left'))) is in
           (ap (λ (r : Run). r.ending) same, subst (λ (r : Run). Appends took took (concat r.outputs)) (sym same) (appends_none took))
+
       by_fault : (bytes : List ℕ) (s : Seeking bytes first number rest) (took : Option (List ℕ)) (fault : ClusterFault) → IsFault (cluster_of (content line)) fault → Ended (read_from first (lines_of bytes)) (cluster_status fault (number + 1)) took took
       by_fault bytes s took ClusterNotJson is = bad bytes s took ClusterNotJson is
       by_fault bytes s took (ClusterWrongKind key) is = bad bytes s took (ClusterWrongKind key) is

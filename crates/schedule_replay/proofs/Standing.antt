@@ -151,7 +151,11 @@ heard_text r c number p verdict is verdict_is s =
 pub missing_stands : (r : Replaying) (c : Channel) (number : ℕ) → slice_get r.packets (number - 1) ≡ None
     → Stands r c → Stands (record { sender = r.sender; receiver = r.receiver; packets = r.packets; told = r.told; events = r.events + 1 }) (after c (Deliver number))
 missing_stands r c number is s = record {
-  sender = s.sender; receiver = s.receiver; marks = s.marks; packets = s.packets; told = s.told;
+  sender = s.sender;
+  receiver = s.receiver;
+  marks = s.marks;
+  packets = s.packets;
+  told = s.told;
   place = s.place ∙ sym (ap (heard_by c.place) (marked r c (number - 1) None s is));
   events = ap (λ n. n + 1) s.events;
 }

@@ -58,12 +58,12 @@ within_limits before c line run =
 abbrev pub run_from : ℕ → Channel → List InputLine → Run
 run_from before c [] = ended c AtEnd
 run_from before c (line ∷ lines) = within_limits before c line (elim (is_skipped (content line)) [
-    | true ↦ run_from (before + 1) c lines
-    | false ↦ elim (event_of (content line)) [
-        | None ↦ ended c (AtBadLine (before + 1) BadLine)
-        | Some event ↦ behind (printed c event) (run_from (before + 1) (after c event) lines)
-      ]
-  ])
+  | true ↦ run_from (before + 1) c lines
+  | false ↦ elim (event_of (content line)) [
+    | None ↦ ended c (AtBadLine (before + 1) BadLine)
+    | Some event ↦ behind (printed c event) (run_from (before + 1) (after c event) lines)
+  ]
+])
 
 -- the run behind the line that describes the cluster, where it does
 abbrev pub behind_cluster : ℕ → Result ClusterRecord ClusterFault → Run → Run
@@ -74,9 +74,9 @@ behind_cluster number (Err fault) run = ended new_channel (AtBadLine number (inp
 abbrev pub read_from : ℕ → List InputLine → Run
 read_from before [] = ended new_channel (AtBadLine (before + 1) NoCluster)
 read_from before (line ∷ lines) = within_limits before new_channel line (elim (is_skipped (content line)) [
-    | true ↦ read_from (before + 1) lines
-    | false ↦ behind_cluster (before + 1) (cluster_of (content line)) (run_from (before + 1) new_channel lines)
-  ])
+  | true ↦ read_from (before + 1) lines
+  | false ↦ behind_cluster (before + 1) (cluster_of (content line)) (run_from (before + 1) new_channel lines)
+])
 
 -- the run over the bytes of a whole input
 abbrev pub run_of : List ℕ → Run

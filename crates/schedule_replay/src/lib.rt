@@ -5,6 +5,11 @@ mod grammar;
 mod numbers;
 mod replay;
 mod run;
+#[cfg(test)]
+mod tests;
 mod texts;
 
+pub use grammar::Event;
+pub use numbers::Numbers;
+pub use replay::{Packet, Replay};
 pub use run::run_first;

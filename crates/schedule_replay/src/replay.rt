@@ -5,7 +5,7 @@ ghost use Rattle.fuxi_terms.specs.Counts.{moved, count, set_count, is_no_change}
 ghost use Rattle.fuxi_terms.specs.Keys.{key_cmp};
 ghost use Rattle.delta_channel.specs.Standing.{StandsFor, IsChangeAt};
 ghost use Rattle.delta_channel.specs.Hearing.{HasEntry, verdict_at};
-ghost use Rattle.schedule_replay.specs.Channel.{Channel, new_channel, after, news, IsEvent, mark_at, place_after};
+ghost use Rattle.schedule_replay.specs.Channel.{Channel, new_channel, after, entry, news, IsEvent, mark_at, place_after};
 ghost use Rattle.fuxi_terms.specs.Lists.{numbers_from};
 ghost use Rattle.schedule_replay.specs.Numbers.{number_key};
 ghost use Rattle.schedule_replay.specs.Texts.{printed, sent_line, sent_lines, verdict_word, state_text};
@@ -269,12 +269,7 @@ impl Replay {
     }
 
     // Hands a packet to the receiver, late, again or out of order.
-    fn deliver(
-        &mut self,
-        alloc: Global,
-        number: u64,
-        text: &mut Vec<u8>,
-    ) -> Result<(), LedgerFault>
+    fn deliver(&mut self, alloc: Global, number: u64, text: &mut Vec<u8>) -> Result<(), LedgerFault>
         requires events { self.old.events < 2 ^ 62 }
         ensures events { OnOk result (self.new.events ≡ self.old.events + 1) }
         ensures stands { OnOk result ((c : Channel) → Stands self.old c → Stands self.new (after c (Event.Deliver number))) }
@@ -290,12 +285,17 @@ impl Replay {
                 };
                 Ok(push_heard(text, number, verdict)?)
             }
-            None => Ok(push_number_line(
-                text,
-                "refused NoPacket ",
-                self.packets.len() as u64,
-            )?),
+            None => Ok(push_number_line(text, "refused NoPacket ", self.packets.len() as u64)?),
         }
+    }
+
+    /// What the receiver has got. At every moment it is the ledger that stands at the receiver's place in the
+    /// history of what was posted, whatever was lost, repeated or came out of order.
+    pub fn received(&self) -> &Tally<Numbers>
+        ensures got { result.now ≡ self.now.receiver.got }
+        ensures entry { (c : Channel) → Stands self.now c → result.now ≡ entry c c.place }
+    {
+        self.receiver.ledger()
     }
 
     /// Appends the state.
@@ -305,7 +305,7 @@ impl Replay {
         push_number_line(text, "state ", self.events)?;
         push_number_line(text, "sender ", self.sender.last())?;
         push_number_line(text, "place ", self.receiver.place().seq)?;
-        push_entries(text, self.receiver.ledger().entries())?;
+        push_entries(text, self.received().entries())?;
         push_number_line(text, "packets ", self.packets.len() as u64)
     }
 
@@ -331,12 +331,7 @@ impl Replay {
     }
 
     // Makes an event. Of a channel that stands for a written one it fails for want of memory alone.
-    fn make(
-        &mut self,
-        alloc: Global,
-        event: &Event,
-        text: &mut Vec<u8>,
-    ) -> Result<(), LedgerFault>
+    fn make(&mut self, alloc: Global, event: &Event, text: &mut Vec<u8>) -> Result<(), LedgerFault>
         requires event { IsEvent event.now }
         requires events { self.old.events < 2 ^ 62 }
         ensures events { OnOk result (self.new.events ≡ self.old.events + 1) }

@@ -9,8 +9,8 @@ ghost use Rattle.schedule_replay.specs.Progress.{TakesLine, WritesState, HasClus
 
 use crate::grammar::{content, is_skipped, read_event};
 use crate::replay::Replay;
-use fuxi_io::{Got, InputFault, LimitOf, LineReader, LineStop, Sink, Source, Status, write_all_of};
 use cluster_desc::{Cluster, ClusterFault, read_cluster};
+use fuxi_io::{Got, InputFault, LimitOf, LineReader, LineStop, Sink, Source, Status, write_all_of};
 use fuxi_terms::OutOfMemory;
 use schedule_unit::GroupNo;
 use std::alloc::Global;

@@ -1,5 +1,5 @@
 -- The words of numbers, and the decimals that are written.
-use Rattle.std.proofs.Common.{◌≡◌, ℕ, ◌+◌, ◌<◌, ◌≤◌, ◌^◌, true, false, not, nat_eq, nat_lt, ◌&&◌, ◌||◌, List, [], ◌∷◌, length, get_or, Some, None, Result, Ok, Err, take, drop, set, ◌++◌, ◌-◌, ◌/◌, ◌%◌, append_assoc, inl, inr, refl, sym, ap, ◌∙◌, subst, arith}
+use Rattle.std.proofs.Common.{◌≡◌, ℕ, ◌<◌, ◌≤◌, ◌^◌, true, false, not, nat_eq, nat_lt, ◌&&◌, ◌||◌, List, [], ◌∷◌, length, get_or, Some, None, Result, Ok, Err, inl, inr, refl, sym, ap, ◌∙◌, subst, arith}
 use Rattle.std.specs.Char.{is_ascii_digit}
 use Rattle.std.specs.List.{list_all}
 use Rattle.std.specs.Fmt.{decimal}
@@ -7,10 +7,9 @@ use Rattle.std.specs.Str.{all_ascii_digits, IsUtf8}
 use Rattle.std.specs.Result.{MatchResult, OkIff, result_ok}
 use Rattle.std.specs.Str.Parse.{digits_value, ParsesUnsigned}
 use Rattle.std.proofs.lemmas.Str.{IsUtf8-from_ascii}
-use Rattle.std.proofs.lemmas.List.{drop-set, take_all, length-drop, length-set, length_push}
 use Rattle.std.proofs.lemmas.Bool.{and_parts, and_from, or_left, or_right, or_cases, not-true, not_from_false, eq-eqb, eqb-true, eqb-false, ne_eqb, lt-ltb, le-ltb, ltb-false, cases_eq, cases_lt, cond-true, cond-false, cases_Bool, and_left, and_right}
 use Rattle.std.proofs.lemmas.Str.Parse.{IsNumeralModel, numerals_by_value, parse_digits, tells_all_ascii_digits}
-use Rattle.std.proofs.lemmas.Fmt.{IsAscii-from_digits, decimal_step, digits_decimal, digits_value-decimal, decimal_nonempty, length-decimal-le, first_decimal, decimal_digit, decimal-digits_value}
+use Rattle.std.proofs.lemmas.Fmt.{IsAscii-from_digits, digits_decimal, digits_value-decimal, decimal_nonempty, length-decimal-le, first_decimal, decimal_digit, decimal-digits_value}
 use Rattle.fuxi_terms.specs.Cluster.{is_between}
 use Rattle.schedule_unit.specs.Numbers.{is_numeral, number_of}
 
@@ -94,26 +93,6 @@ decimal-number_of word n e = elim (cases_Bool (is_numeral word)) [
         (omega arith, sym (decimal-digits_value digits word w.all w.least w.lead l) ∙ ap decimal x)
   ]
 ]
-
--- one digit more is written, from the last on
-pub decimal_shorter : (left : ℕ) → 10 ≤ left → left < 2 ^ 64 → (length (decimal left) ≡ length (decimal (left / 10)) + 1) × (0 < length (decimal (left / 10)))
-decimal_shorter left h f =
-    let e = ap length (decimal_step left h f) ∙ length_push (decimal (left / 10)) (48 + left % 10) in
-    (e, decimal_nonempty (left / 10) (omega arith))
-
-pub digit_written : (left start n : ℕ) (ds : List ℕ) → 10 ≤ left → left < 2 ^ 64 → start < length ds → decimal left ++ drop (start + 1) ds ≡ decimal n → decimal (left / 10) ++ drop start (set ds start (48 + left % 10)) ≡ decimal n
-digit_written left start n ds h f l e =
-    let s = decimal_step left h f in
-    let d = drop-set ds start (48 + left % 10) l in
-    let a = append_assoc (decimal (left / 10)) ((48 + left % 10) ∷ []) (drop (start + 1) ds) in
-    cc
-
-pub last_digits_written : (left start n : ℕ) (ds : List ℕ) → left < 10 → length ds ≡ 20 → start < 20 → decimal left ++ drop (start + 1) ds ≡ decimal n → take (20 - start) (drop start (set ds start (48 + left))) ≡ decimal n
-last_digits_written left start n ds h k l e =
-    let s = decimal_digit left h in
-    let d = drop-set ds start (48 + left) (omega arith) in
-    let t = take_all (20 - start) (drop start (set ds start (48 + left))) (omega (arith, length-drop start (set ds start (48 + left)), length-set ds start (48 + left))) in
-    cc
 
 -- digits are text
 pub not_text : {T E : Type 0} (word : List ℕ) (r : Result T E) (P : T → Type 0) (Q : E → Type 0) → is_numeral word ≡ true → MatchResult r P (λ e. ¬ IsUtf8 word × Q e) → result_ok r ≡ None → ⊥

@@ -34,12 +34,11 @@ impl Quantities {
     pub fn push(&mut self, quantity: u64) -> Result<(), OutOfMemory>
         ensures { self.new ≡ (if is_ok result then self.old ++ quantity ∷ [] else self.old) }
     {
-        match self.quantities.push(quantity) {
-            Ok(()) => Ok(()),
-            Err(_) => Err(OutOfMemory),
-        }
+        self.quantities.push(quantity)?;
+        Ok(())
     }
 
+    /// The quantities, in their order.
     pub fn as_slice(&self) -> &[u64]
         ensures { result.now ≡ self.now }
     {
@@ -47,10 +46,12 @@ impl Quantities {
     }
 }
 
-/// What is asked for one unit: its priority, greater ones first, and the size of one grant.
+/// What is asked for one unit.
 #[derive(Debug, Drop)]
 pub struct Ask {
+    /// Any number: whether it is in range is tested when the job is made.
     pub priority: u64,
+    /// One for each resource, likewise untested.
     pub quantities: Quantities,
 }
 
@@ -83,12 +84,11 @@ impl Asks {
     pub fn push(&mut self, ask: Ask) -> Result<(), OutOfMemory>
         ensures { self.new ≡ (if is_ok result then self.old ++ ask ∷ [] else self.old) }
     {
-        match self.asks.push(ask) {
-            Ok(()) => Ok(()),
-            Err(_) => Err(OutOfMemory),
-        }
+        self.asks.push(ask)?;
+        Ok(())
     }
 
+    /// What is asked for each unit, in their order.
     pub fn as_slice(&self) -> &[Ask]
         ensures { result.now ≡ self.now }
     {

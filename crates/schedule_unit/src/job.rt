@@ -1,15 +1,13 @@
 //! A job: its number, its group, and the units that it asks grants of.
 
 ghost use Rattle.std.specs.Prelude.{◌≡◌, ◌≤◌, IfOk, IfErr, None, Some, length, map};
-ghost use Rattle.fuxi_terms.specs.Cluster.{are_quantities};
-ghost use Rattle.fuxi_terms.specs.Vectors.{is_zero};
 ghost use Rattle.schedule_unit.specs.JobFaults.{IsFault, first_unit_fault, unit_asked, unit_fault};
 ghost use Rattle.schedule_unit.specs.Units.{unit_record};
 
 use crate::asks::Ask;
 use crate::party::{AppNo, GroupNo, UnitNo};
 use fuxi_terms::OutOfMemory;
-use res_vector::{GREATEST_QUANTITY, Res, from_quantities};
+use res_vector::{Res, are_quantities, from_quantities, is_zero};
 use std::alloc::Global;
 use std::marker::Model;
 use thiserror::Error;
@@ -19,7 +17,7 @@ use thiserror::Error;
 pub struct Unit {
     /// 0 to 9, greater ones first.
     pub priority: u8,
-    /// What one grant takes.
+    /// What one grant takes: at most 1,000,000,000,000 of each resource, and something of one.
     pub size: Res,
 }
 
@@ -27,8 +25,10 @@ pub struct Unit {
 /// fails is the answer.
 #[derive(Clone, Copy, Debug, Drop, Error, PartialEq, Eq)]
 pub enum JobFault {
+    /// No unit is asked for.
     #[error("a job has a unit")]
     NoUnits,
+    /// More than 8 units are asked for.
     #[error("a job has at most 8 units")]
     TooManyUnits,
     /// Not as many quantities as the cluster has resources.
@@ -43,6 +43,7 @@ pub enum JobFault {
     /// Each quantity is 0.
     #[error("unit {number} has a size of zero", number = .0.0)]
     ZeroSize(UnitNo),
+    /// Memory was refused.
     #[error("out of memory")]
     OutOfMemory,
 }
@@ -57,20 +58,20 @@ pub struct Job {
 }
 
 impl Model for Job {
-    ghost use Rattle.std.specs.Prelude.{IsTrue, map};
+    ghost use Rattle.std.specs.Prelude.{IsTrue};
     ghost use Rattle.fuxi_terms.specs.Cluster.{JobRecord, is_valid_job};
 
     ghost Value = { JobRecord };
 
-    ghost use Rattle.schedule_unit.specs.Units.{unit_record};
+    ghost use Rattle.schedule_unit.specs.Units.{job_record};
 
-    ghost view = { λ j. record { number = j.app.0; group = j.group.0; units = map unit_record j.units.items } };
+    ghost view = { λ j. job_record j.app j.group j.units.items };
 
-    ghost invariant = { λ j. IsTrue (is_valid_job 8 (record { number = j.app.0; group = j.group.0; units = map unit_record j.units.items })) };
+    ghost invariant = { λ j. IsTrue (is_valid_job 8 (job_record j.app j.group j.units.items)) };
 }
 
 impl Job {
-    ghost use Rattle.schedule_unit.specs.JobFaults.{IsMade, unit_no};
+    ghost use Rattle.schedule_unit.specs.JobFaults.{IsMade};
     ghost use Rattle.std.specs.Prelude.{◌≡◌, ◌≤◌, ◌<◌, IsTrue, IfOk, Some, length, slice_get};
     ghost use Rattle.fuxi_terms.specs.Cluster.{is_valid_job, is_valid_unit};
     ghost use Rattle.schedule_unit.specs.Units.{unit_record};
@@ -124,6 +125,7 @@ impl Job {
         self.units.len() as u8
     }
 
+    /// The unit of this number, which the job must have.
     pub fn unit(&self, unit: UnitNo) -> &Unit
         requires { unit.0 < length self.now.units }
         ensures found { slice_get self.now.units unit.0 ≡ Some (unit_record result.now) }
@@ -132,17 +134,15 @@ impl Job {
         &self.units[unit.0 as usize]
     }
 
+    /// The same job once more.
     pub fn copy(&self, alloc: Global) -> Result<Job, OutOfMemory>
         ensures { IfOk result (λ copy. copy ≡ self.now) }
     {
-        match Vec::from_slice(alloc, &self.units) {
-            Ok(units) => Ok(Job {
-                app: self.app,
-                group: self.group,
-                units,
-            }),
-            Err(_) => Err(OutOfMemory),
-        }
+        Ok(Job {
+            app: self.app,
+            group: self.group,
+            units: Vec::from_slice(alloc, &self.units)?,
+        })
     }
 }
 
@@ -186,18 +186,4 @@ fn make_unit(number: UnitNo, resources: u8, ask: &Ask) -> Result<Unit, JobFault>
         priority: ask.priority as u8,
         size: from_quantities(quantities),
     })
-}
-
-fn are_quantities(quantities: &[u64]) -> bool
-    ensures { result ≡ are_quantities quantities.now }
-{
-    quantities
-        .iter()
-        .all(|quantity| *quantity <= GREATEST_QUANTITY)
-}
-
-fn is_zero(quantities: &[u64]) -> bool
-    ensures { result ≡ is_zero quantities.now }
-{
-    quantities.iter().all(|quantity| *quantity == 0)
 }

@@ -1,10 +1,11 @@
 //! Numbers as text: decimals of at most 20 digits, with no sign and no leading zero, below 2^64.
 
-ghost use Rattle.std.specs.Prelude.{◌≡◌, ◌↔◌, ◌<◌, ◌^◌, ◌++◌, List, ℕ, Some, OnOk, OnErr, decimal};
+ghost use Rattle.std.specs.Prelude.{◌≡◌, ◌<◌, ◌^◌, ◌++◌, List, ℕ, Some, OnOk, OnErr, decimal};
 ghost use Rattle.std.specs.Str.{all_ascii_digits};
 ghost use Rattle.schedule_unit.specs.Numbers.{is_numeral, number_of};
 
 use fuxi_terms::OutOfMemory;
+use itoa::Buffer;
 
 /// The number that the word is; None exactly where it is none.
 pub fn read_number(word: &[u8]) -> Option<u64>
@@ -35,19 +36,7 @@ pub fn write_number(n: u64, out: &mut Vec<u8>) -> Result<(), OutOfMemory>
     ensures ok { OnOk result (out.new.items ≡ out.old.items ++ decimal n) }
     ensures err { OnErr result (out.new.items ≡ out.old.items) }
 {
-    let mut digits = [0; 20];
-    let mut start = 19;
-    let mut left = n;
-    while left >= 10 {
-        digits[start] = b'0' + (left % 10) as u8;
-        left /= 10;
-        start -= 1;
-    }
-    digits[start] = b'0' + left as u8;
-    match out.extend_from_slice(&digits[start..]) {
-        Ok(()) => Ok(()),
-        Err(_) => Err(OutOfMemory),
-    }
+    Ok(out.extend_from_slice(Buffer::new().format(n).as_bytes())?)
 }
 
 /// Each number is read back from its word, and no other word is read as it.

@@ -20,18 +20,21 @@ pub struct RackNo(pub u32);
 #[derive(Clone, Copy, Debug, PartialEq, Eq, PartialOrd, Ord)]
 pub struct GroupNo(pub u32);
 
-/// What a party does: a master schedules, an agent runs what its machine was granted, an application asks
-/// for one job.
+/// What a party does.
 #[derive(Clone, Copy, Debug, PartialEq, Eq, PartialOrd, Ord)]
 pub enum Role {
+    /// It schedules: it grants units of the jobs on the machines.
     Master,
+    /// It runs what its machine was granted.
     Agent,
+    /// It asks grants for one job.
     App,
 }
 
 /// A party in one of its incarnations.
 #[derive(Clone, Copy, Debug, PartialEq, Eq)]
 pub struct Party {
+    /// What it does.
     pub role: Role,
     /// The machine of an agent, the job of an application, 0 of a master.
     pub number: u32,

@@ -1,7 +1,5 @@
 mod Keys
 mod Choosing
-mod Counting
-mod OnlyDifference
 mod Placed
 mod Capacity
 mod Patched

@@ -10,8 +10,8 @@ use Rattle.fuxi_terms.specs.Counts.{AreCounts, change_all, then_do}
 use Rattle.fuxi_terms.specs.Tallies.{TallyRecord, ChangeRecord, staying}
 use Rattle.written_world.specs.Patching.{PatchFault, Below, TooGreat, PatchedByDifference, TalliesByDifference}
 use Rattle.written_world.proofs.Keys.{key_total, same_key}
-use Rattle.written_world.proofs.Counting.{counts-where_key, difference_law}
-use Rattle.written_world.proofs.OnlyDifference.{only_difference}
+use Rattle.fuxi_terms.proofs.Counting.{counts-where_key, difference_law}
+use Rattle.fuxi_terms.proofs.OnlyDifference.{only_difference}
 
 pub patched_by_difference : {K : Type 0} {R : K → K → Ordering} → IsTotalOrder R → ((x y : K) → R x y ≡ Equal → x ≡ y) → (greatest : K → ℕ) → PatchedByDifference R greatest
 patched_by_difference {R = R} o same greatest = record {

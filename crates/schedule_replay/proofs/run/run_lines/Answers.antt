@@ -37,7 +37,7 @@ returns-in-Err-clause-ended g c none =
     let i = c.loop-turn.invariant.along none in
     let r = c.loop-turn.invariant.running none in
     rw (c.status_of.ensures, c.number.ensures.value, c.in-Err.ensures.number)
-        (stop_along _ _ c.loop-turn.lines.number c.loop-turn.replay _ _ _ i c.in-Err.stop (λ e. running_alone r (c.in-Err.ensures.long (ap (λ s. Err s) e))) (λ e. running_alone r (c.in-Err.ensures.many (ap (λ s. Err s) e))))
+    (stop_along _ _ c.loop-turn.lines.number c.loop-turn.replay _ _ _ i c.in-Err.stop (λ e. running_alone r (c.in-Err.ensures.long (ap (λ s. Err s) e))) (λ e. running_alone r (c.in-Err.ensures.many (ap (λ s. Err s) e))))
 
 pub returns-in-Err-take_line-clause-ended : goal.returns-in-Err-take_line-clause-ended
 returns-in-Err-take_line-clause-ended g c none =
@@ -45,8 +45,8 @@ returns-in-Err-take_line-clause-ended g c none =
     let next : c.number-number.result ≡ c.loop-turn.lines.number + 1 = c.number-number.ensures.value ∙ (rw c.in-Ok-Line.field-0-is at c.in-Ok-Line.ensures.number) in
     let line : c.content-line.result.now ≡ content (line_of c.next.new.self) = c.content-line.ensures ∙ ap (λ b. content (record { bytes = b; ended = c.ended.result })) c.line.ensures ∙ ap (λ b. content (record { bytes = c.next.new.self.line; ended = b })) c.ended.ensures in
     line_along _ _ c.loop-turn.lines.number c.loop-turn.replay _ _ _ i _ _ (line_of c.next.new.self) c.in-Err-take_line.status (c.in-Ok-Line.ensures.within (ap (λ l. Ok l) c.in-Ok-Line.field-0-is)) (rw c.in-Ok-Line.field-0-is at c.in-Ok-Line.ensures.gives)
-        (subst (λ n. (w : Channel) → Stands c.loop-turn.replay w → TakesLine (content (line_of c.next.new.self)) n w (Err c.in-Err-take_line.status) (g.O.Sink.took c.loop-turn.out) (g.O.Sink.took c.take_line.new.out)) next
-            (subst (λ l. (w : Channel) → Stands c.loop-turn.replay w → TakesLine l c.number-number.result w (Err c.in-Err-take_line.status) (g.O.Sink.took c.loop-turn.out) (g.O.Sink.took c.take_line.new.out)) line c.in-Err-take_line.ensures.takes))
+    (subst (λ n. (w : Channel) → Stands c.loop-turn.replay w → TakesLine (content (line_of c.next.new.self)) n w (Err c.in-Err-take_line.status) (g.O.Sink.took c.loop-turn.out) (g.O.Sink.took c.take_line.new.out)) next
+    (subst (λ l. (w : Channel) → Stands c.loop-turn.replay w → TakesLine l c.number-number.result w (Err c.in-Err-take_line.status) (g.O.Sink.took c.loop-turn.out) (g.O.Sink.took c.take_line.new.out)) line c.in-Err-take_line.ensures.takes))
 
 pub loop-turn-preserved : goal.loop-turn-preserved
 loop-turn-preserved g c =
@@ -55,7 +55,7 @@ loop-turn-preserved g c =
     let line : c.content-line.result.now ≡ content (line_of c.next.new.self) = c.content-line.ensures ∙ ap (λ b. content (record { bytes = b; ended = c.ended.result })) c.line.ensures ∙ ap (λ b. content (record { bytes = c.next.new.self.line; ended = b })) c.ended.ensures in
     let stands : (w : Channel) → Stands c.loop-turn.replay w → Stands c.take_line.new.replay (after_line w (content (line_of c.next.new.self))) = subst (λ l. (w : Channel) → Stands c.loop-turn.replay w → Stands c.take_line.new.replay (after_line w l)) line c.in-Ok-take_line.ensures.stands in
     let takes : (w : Channel) → Stands c.loop-turn.replay w → TakesLine (content (line_of c.next.new.self)) (c.loop-turn.lines.number + 1) w (Ok (record {})) (g.O.Sink.took c.loop-turn.out) (g.O.Sink.took c.take_line.new.out) =
-        subst (λ l. (w : Channel) → Stands c.loop-turn.replay w → TakesLine l (c.loop-turn.lines.number + 1) w (Ok (record {})) (g.O.Sink.took c.loop-turn.out) (g.O.Sink.took c.take_line.new.out)) line c.in-Ok-take_line.ensures.takes in
+    subst (λ l. (w : Channel) → Stands c.loop-turn.replay w → TakesLine l (c.loop-turn.lines.number + 1) w (Ok (record {})) (g.O.Sink.took c.loop-turn.out) (g.O.Sink.took c.take_line.new.out)) line c.in-Ok-take_line.ensures.takes in
     let k = c.loop-turn.invariant.kept in
     record {
       along = λ none. step_along _ _ c.loop-turn.lines.number c.loop-turn.replay _ _ _ (c.loop-turn.invariant.along none) _ _ (line_of c.next.new.self) c.take_line.new.replay _ (sym c.number-number.ensures.value ∙ next) more (rw c.in-Ok-Line.field-0-is at c.in-Ok-Line.ensures.gives) takes stands;

@@ -19,11 +19,11 @@ returns-in_ok-push_number_line-in-None-clause-text c w s =
 pub returns-in_ok-push_heard-in-Some-clause-stands : goal.returns-in_ok-push_heard-in-Some-clause-stands
 returns-in_ok-push_heard-in-Some-clause-stands c w s =
     let found : slice_get c.self.inside.packets.items (c.args.number - 1) ≡ Some c.in-Some.packet.now =
-        rw (← c.saturating_sub.ensures, ← c.deref.ensures.value) (found_at _ _ _ c.in-Some.ensures.lookup.3.0 (c.in-Some.ensures.lookup.3.1 c.in-Some.packet.now)) in
+    rw (← c.saturating_sub.ensures, ← c.deref.ensures.value) (found_at _ _ _ c.in-Some.ensures.lookup.3.0 (c.in-Some.ensures.lookup.3.1 c.in-Some.packet.now)) in
     heard_stands _ w c.args.number c.in-Some.packet.now c.hear.new.receiver c.in-Ok.verdict found c.in-Ok.ensures.verdict (ap (λ p. p.seq) c.in-Ok.ensures.place) c.in-Ok.ensures.entry (rw (← c.self.view_is) at s)
 
 pub returns-in_ok-push_heard-in-Some-clause-text : goal.returns-in_ok-push_heard-in-Some-clause-text
 returns-in_ok-push_heard-in-Some-clause-text c w s =
     let found : slice_get c.self.inside.packets.items (c.args.number - 1) ≡ Some c.in-Some.packet.now =
-        rw (← c.saturating_sub.ensures, ← c.deref.ensures.value) (found_at _ _ _ c.in-Some.ensures.lookup.3.0 (c.in-Some.ensures.lookup.3.1 c.in-Some.packet.now)) in
+    rw (← c.saturating_sub.ensures, ← c.deref.ensures.value) (found_at _ _ _ c.in-Some.ensures.lookup.3.0 (c.in-Some.ensures.lookup.3.1 c.in-Some.packet.now)) in
     c.in_ok-push_heard-in-Some.ensures ∙ ap (λ l. c.args.text.now.items ++ l) (heard_text _ w c.args.number c.in-Some.packet.now c.in-Ok.verdict found c.in-Ok.ensures.verdict (rw (← c.self.view_is) at s))
