@@ -6,8 +6,8 @@ use Rattle.std.proofs.lemmas.Str.{IsUtf8-from_is_utf8, is_utf8-from_IsUtf8}
 use Rattle.serde_json.specs.Data.{Data}
 use Rattle.serde_json.specs.Read.{read}
 use Rattle.fuxi_terms.specs.Vectors.{fits}
-use Rattle.res_vector.specs.Padded.{padded}
-use Rattle.res_vector.proofs.VectorLaws.{fits-padded}
+use Rattle.fuxi_terms.specs.Padded.{padded}
+use Rattle.fuxi_terms.proofs.VectorLaws.{fits-padded}
 use Rattle.cluster_desc.specs.ClusterLine.{value_of}
 
 pub value_of-some : (line : List ℕ) (d : Data) → IsUtf8 line → read line ≡ Some d → value_of line ≡ Some d

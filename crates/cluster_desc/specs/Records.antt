@@ -1,7 +1,7 @@
 -- Machines and groups with their eight places, against the shared records, which have as many as the cluster has resources.
 use Rattle.std.specs.Prelude.{◌≡◌, ℕ, IsTrue, List, map, take}
 use Rattle.fuxi_terms.specs.Cluster.{MachineRecord, GroupRecord, ClusterRecord, is_valid_cluster}
-use Rattle.res_vector.specs.Padded.{padded}
+use Rattle.fuxi_terms.specs.Padded.{padded}
 use Rattle.cluster_desc.specs.declared.cluster.Machine.{Machine}
 use Rattle.cluster_desc.specs.declared.cluster.Group.{Group}
 

@@ -5,7 +5,7 @@ ghost use Rattle.serde_json.specs.View.{view, items_view, members_view};
 ghost use Rattle.std.specs.List.{list_any};
 ghost use Rattle.std.specs.Str.{bytes_eq};
 ghost use Rattle.fuxi_io.specs.Statuses.{word_of};
-ghost use Rattle.res_vector.specs.Padded.{padded};
+ghost use Rattle.fuxi_terms.specs.Padded.{padded};
 ghost use Rattle.cluster_desc.specs.ClusterLine.{array_between, cluster_at, cluster_of, each, group_at, has_only, machine_at, number_between, numbers_of, object_of, quantities, value_at, value_of, whole_number};
 ghost use Rattle.cluster_desc.specs.Faults.{IsFault, given};
 ghost use Rattle.cluster_desc.specs.Records.{group_of, group_record, machine_of, machine_record};

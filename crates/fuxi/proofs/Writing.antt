@@ -5,21 +5,12 @@ use Rattle.std.specs.Io.KnownBytes.{Appends}
 use Rattle.std.proofs.lemmas.List.{length-append, take-append-le}
 use Rattle.std.proofs.Math.Seq.{take-append-add}
 use Rattle.fuxi_io.specs.Causes.{TakesPart}
+use Rattle.fuxi_terms.proofs.Appending.{appends_both, appends_none}
 use Rattle.std.specs.Prelude.{codes, decimal}
 use Rattle.fuxi_io.specs.declared.status.InputFault.{InputFault}
 use Rattle.fuxi_io.specs.declared.status.Status.TheVariants.{BadInput}
 use Rattle.fuxi.specs.Reports.{fault_name, fault_value, report_line}
 use Rattle.fuxi.specs.Pieces.{Written}
-
-appends_both : (a b c : Option (List ℕ)) (x y : List ℕ) → Appends a b x → Appends b c y → Appends a c (x ++ y)
-appends_both None b c x y h k = tt
-appends_both (Some p) None c x y h k = absurd h
-appends_both (Some p) (Some q) None x y h k = absurd k
-appends_both (Some p) (Some q) (Some r) x y h k = k ∙ ap (λ l. l ++ y) h ∙ append_assoc p x y
-
-appends_none : (t : Option (List ℕ)) → Appends t t []
-appends_none None = tt
-appends_none (Some x) = sym (append-nil x)
 
 module _ {A : Type 0} (f : A → List ℕ) where
   next_piece : (ps : List A) (i : ℕ) (d : A) → i < length ps → concat (map f (drop i ps)) ≡ f (get_or ps i d) ++ concat (map f (drop (i + 1) ps))

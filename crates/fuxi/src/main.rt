@@ -1,6 +1,8 @@
 //! The program: standard input, output and error, and the words of the command line.
 #![tactic(auto)]
 
+ghost use Rattle.std.specs.Prelude.{◌≡◌, ◌⊎◌, IfErr};
+
 mod report;
 #[cfg(test)]
 mod tests;
@@ -14,7 +16,9 @@ use top::fuxi;
 
 // The words behind the program's name, or the status where they cannot be had: a word that is no text is no
 // command.
-fn words_of(rt: &HostRuntime) -> Result<Vec<String>, Status> {
+fn words_of(rt: &HostRuntime) -> Result<Vec<String>, Status>
+    ensures { IfErr result (λ status. (status ≡ Status.Usage) ⊎ (status ≡ Status.OutOfMemory)) }
+{
     let args = match env::args(rt) {
         Ok(args) => args,
         Err(error) if error.kind() == io::ErrorKind::OutOfMemory => return Err(Status::OutOfMemory),

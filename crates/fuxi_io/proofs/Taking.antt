@@ -1,15 +1,12 @@
 -- What was written, with what is written next, and what was read, with what is left.
-use Rattle.std.proofs.Common.{◌≡◌, ℕ, ◌+◌, ◌<◌, ◌≤◌, List, [], ◌∷◌, ◌++◌, length, min, take, drop, append_assoc, add-zero, length-append, refl, take-append-drop, length-take, length-drop, Option, None, Some, ap, sym, ◌∙◌, arith}
+use Rattle.std.proofs.Common.{◌≡◌, ℕ, ◌+◌, ◌<◌, ◌≤◌, List, [], ◌∷◌, ◌++◌, length, min, take, drop, append_assoc, add-zero, length-append, refl, take-append-drop, length-take, length-drop, Option, None, Some, ap, subst, sym, ◌∙◌, arith}
 use Rattle.std.proofs.Math.Seq.{take-add}
 use Rattle.std.proofs.lemmas.List.{take_at, drop-drop}
 use Rattle.std.specs.Io.KnownBytes.{Appends}
+use Rattle.fuxi_terms.proofs.Appending.{appends_both}
 
 pub appends_more : (a b c : Option (List ℕ)) (bytes : List ℕ) (i n : ℕ) → Appends a b (take i bytes) → Appends b c (take n (drop i bytes)) → Appends a c (take (i + n) bytes)
-appends_more None b c bytes i n h k = tt
-appends_more (Some x) None c bytes i n h k = absurd h
-appends_more (Some x) (Some y) None bytes i n h k = absurd k
-appends_more (Some x) (Some y) (Some z) bytes i n h k =
-    k ∙ ap (λ l. l ++ take n (drop i bytes)) h ∙ append_assoc x (take i bytes) (take n (drop i bytes)) ∙ ap (λ l. x ++ l) (sym (take-add i n bytes))
+appends_more a b c bytes i n h k = subst (Appends a c) (sym (take-add i n bytes)) (appends_both a b c (take i bytes) (take n (drop i bytes)) h k)
 
 pub read_front : (n : ℕ) (left rest : List ℕ) → n ≤ length left → left ≡ take n (take n left ++ rest) ++ drop n left
 read_front n left rest le = sym (ap (λ l. l ++ drop n left) (take_at (take n left) rest n (omega (arith, length-take n left, le))) ∙ take-append-drop n left)

@@ -44,6 +44,26 @@ turned : (b : Bool) (r : Option ℕ) → unwrap_or (cond (not b) r None) 0 ≡ c
 turned true r = refl
 turned false r = refl
 
+-- a key below all is not found
+pub below_none : {K X : Type 0} (R : K → K → Ordering) (q : K) (es : List (K × X)) → T (below_all R q es) → find R q es ≡ None
+below_none R q [] h = refl
+below_none R q (e ∷ es) h = let b = both_true (is_lt (R q e.0)) _ h in ap (λ r. cond (is_eq r) (Some e.1) (find R q es)) (lesser _ b.0) ∙ below_none R q es b.1
+
+-- nor one that is below the first of keys that rise
+pub find_below_head : {K X : Type 0} {R : K → K → Ordering} (o : IsTotalOrder R) (k : K) (e : K × X) (es : List (K × X)) → R k e.0 ≡ Less → T (below_all R e.0 es) → find R k es ≡ None
+find_below_head o k e [] lt h = refl
+find_below_head {R = R} o k e (f ∷ es) lt h =
+    let b = both_true (is_lt (R e.0 f.0)) _ h in
+    ap (λ r. cond (is_eq r) (Some f.1) (find R k es)) (o.trans k e.0 f.0 lt (lesser _ b.0)) ∙ find_below_head o k e es lt b.1
+
+-- a number that is found is not 0
+found : {K : Type 0} (R : K → K → Ordering) (es : List (K × ℕ)) (q : K) → AllByRecursion (λ e. 0 < e.1) es → find R q es ≡ cond (nat_eq (count R es q) 0) None (Some (count R es q))
+found R [] q h = refl
+found R (e ∷ es) q h = elim (eq_by_cmp R q e.0) as (λ b. cond b (Some e.1) (find R q es) ≡ cond (nat_eq (unwrap_or (cond b (Some e.1) (find R q es)) 0) 0) None (Some (unwrap_or (cond b (Some e.1) (find R q es)) 0))) [
+  | true ↦ let t : nat_eq e.1 0 ≡ false = grind (arith, nat_tests, h.0) in rw t
+  | false ↦ found R es q h.1
+]
+
 module _ {K : Type 0} {R : K → K → Ordering} (o : IsTotalOrder R) where
   count-set_some : (es : List (K × ℕ)) (k : K) (n : ℕ) (q : K) (b : Bool) → nat_eq n 0 ≡ b → count R (cond b (where_key R (λ x. not (eq_by_cmp R k x)) es) (put R k n es)) q ≡ cond (eq_by_cmp R q k) n (count R es q)
   count-set_some es k n q true e =
@@ -84,26 +104,13 @@ module _ {K : Type 0} {R : K → K → Ordering} (o : IsTotalOrder R) where
         }
   ] refl
 
-  -- a key below all is not found
-  pub below_none : (q : K) (es : List (K × ℕ)) → T (below_all R q es) → find R q es ≡ None
-  below_none q [] h = refl
-  below_none q (e ∷ es) h = let b = both_true (is_lt (R q e.0)) _ h in ap (λ r. cond (is_eq r) (Some e.1) (find R q es)) (lesser _ b.0) ∙ below_none q es b.1
-
-  -- a number that is found is not 0
-  found : (es : List (K × ℕ)) (q : K) → AllByRecursion (λ e. 0 < e.1) es → find R q es ≡ cond (nat_eq (count R es q) 0) None (Some (count R es q))
-  found [] q h = refl
-  found (e ∷ es) q h = elim (eq_by_cmp R q e.0) as (λ b. cond b (Some e.1) (find R q es) ≡ cond (nat_eq (unwrap_or (cond b (Some e.1) (find R q es)) 0) 0) None (Some (unwrap_or (cond b (Some e.1) (find R q es)) 0))) [
-    | true ↦ let t : nat_eq e.1 0 ≡ false = grind (arith, nat_tests, h.0) in rw t
-    | false ↦ found es q h.1
-  ]
-
   module _ (greatest : K → ℕ) where
     is_some_cond : (b : Bool) (n : ℕ) → is_some (cond b None (Some n)) ≡ not b
     is_some_cond true n = refl
     is_some_cond false n = refl
 
     there : (es : List (K × ℕ)) (q : K) → AllByRecursion (λ e. 0 < e.1) es → is_some (find R q es) ≡ not (nat_eq (count R es q) 0)
-    there es q h = ap is_some (found es q h) ∙ is_some_cond (nat_eq (count R es q) 0) (count R es q)
+    there es q h = ap is_some (found R es q h) ∙ is_some_cond (nat_eq (count R es q) 0) (count R es q)
 
     -- an entry more where there was none, and one less where there was one
     pub length-set_count : (es : List (K × ℕ)) (k : K) (n : ℕ) → AreCounts R greatest es → length (set_count R es k n) + cond (nat_eq (count R es k) 0) 0 1 ≡ length es + cond (nat_eq n 0) 0 1
@@ -132,7 +139,7 @@ module _ {K : Type 0} {R : K → K → Ordering} (o : IsTotalOrder R) where
 
     -- two lists with the same counts are one
     pub same_counts : (es fs : List (K × ℕ)) → AreCounts R greatest es → AreCounts R greatest fs → ((q : K) → count R es q ≡ count R fs q) → es ≡ fs
-    same_counts es fs g h is = same_entries R o same es fs g.sorted h.sorted (λ q. found es q g.positive ∙ ap (λ n. cond (nat_eq n 0) None (Some n)) (is q) ∙ sym (found fs q h.positive))
+    same_counts es fs g h is = same_entries R o same es fs g.sorted h.sorted (λ q. found R es q g.positive ∙ ap (λ n. cond (nat_eq n 0) None (Some n)) (is q) ∙ sym (found R fs q h.positive))
 
     module _ {E : Type 0} (low : K → ℕ → ℤ → E) (high : K → E) (old new : List (K × ℕ)) (new_is : AreCounts R greatest new) where
       record Reaches (es js : List (K × ℕ)) : Type 0 where
@@ -154,7 +161,7 @@ module _ {K : Type 0} {R : K → K → Ordering} (o : IsTotalOrder R) where
       reaches [] es s c is = record { end = es; made = refl; counts = c; values = λ q. refl }
       reaches (j ∷ js) es s c is =
           let parts = both_true (below_all R j.0 js) (is_sorted R js) s in
-          let absent = below_none j.0 js parts.0 in
+          let absent = below_none R j.0 js parts.0 in
           let itself : eq_by_cmp R j.0 j.0 ≡ true = ap is_eq (tied_itself o j.0) in
           let here : count R es j.0 ≡ count R old j.0 = is j.0 (ap (λ b. is_some (cond b (Some j.1) (find R j.0 js))) itself) in
           let other : (q : K) → is_some (find R q js) ≡ true → eq_by_cmp R q j.0 ≡ false = λ q in_js. elim (eq_by_cmp R q j.0) as (λ b. eq_by_cmp R q j.0 ≡ b → b ≡ false) [

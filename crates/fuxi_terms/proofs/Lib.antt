@@ -1,3 +1,9 @@
 pub mod Lists
 pub mod Counting
 pub mod OnlyDifference
+pub mod Changing
+pub mod Making
+pub mod Testing
+pub mod ByPlace
+pub mod VectorLaws
+pub mod Appending

@@ -2,7 +2,7 @@
 use Rattle.std.proofs.Common.{◌≡◌, ℕ, ◌+◌, ◌-◌, ◌<◌, Bool, true, false, cond, nat_lt, nat_eq, List, [], ◌∷◌, Option, Some, None, Result, Ok, Err, refl, sym, ◌∙◌, ap, subst, arith}
 use Rattle.std.specs.Prelude.{ℤ, pos, negsuc, T, ◌||◌, ◌&&◌}
 use Rattle.std.specs.Option.{unwrap_or, is_some}
-use Rattle.std.specs.Ordering.{eq_by_cmp, is_eq, is_lt}
+use Rattle.std.specs.Ordering.{eq_by_cmp, is_lt}
 use Rattle.std.specs.Cmp.{IsTotalOrder}
 use Rattle.std.specs.declared.cmp.Ordering.{Ordering}
 use Rattle.std.specs.declared.cmp.Ordering.TheVariants.{Equal}
@@ -10,7 +10,7 @@ use Rattle.std.specs.List.{AllByRecursion}
 use Rattle.std.proofs.lemmas.Bool.Decides.{nat_tests}
 use Rattle.std.specs.FinMap.Entries.{below_all, find, is_sorted, is_sorted-put, find-put, same_entries}
 use Rattle.fuxi_terms.specs.Counts.{moved, change_between, is_no_change, count, set_count, set_moved, change_one, then_do, change_all, joined, differences, difference, AreChanges}
-use Rattle.fuxi_terms.proofs.Counting.{both_true, tied, lesser, count-set_count}
+use Rattle.fuxi_terms.proofs.Counting.{both_true, tied, below_none, count-set_count}
 
 -- what one change says of a number before and after
 abbrev Moves : Option ℤ → ℕ → ℕ → Type 0
@@ -60,10 +60,6 @@ module _ {K : Type 0} {R : K → K → Ordering} (o : IsTotalOrder R) (same : (x
   find_real q [] h = tt
   find_real q (c ∷ cs) h = elim (eq_by_cmp R q c.0) as (λ b. IsReal (cond b (Some c.1) (find R q cs))) [ true ↦ h.0 | false ↦ find_real q cs h.1 ]
 
-  none_below : (q : K) (cs : List (K × ℤ)) → T (below_all R q cs) → find R q cs ≡ None
-  none_below q [] h = refl
-  none_below q (c ∷ cs) h = let b = both_true (is_lt (R q c.0)) _ h in ap (λ r. cond (is_eq r) (Some c.1) (find R q cs)) (lesser _ b.0) ∙ none_below q cs b.1
-
   module _ {E : Type 0} (low : K → ℕ → ℤ → E) (high : K → E) (greatest : K → ℕ) where
     -- one change that is made
     record Made (es : List (K × ℕ)) (k : K) (change : ℤ) (fs : List (K × ℕ)) : Type 0 where
@@ -92,7 +88,7 @@ module _ {K : Type 0} {R : K → K → Ordering} (o : IsTotalOrder R) (same : (x
           each = λ q. elim (eq_by_cmp R q k) as (λ b. eq_by_cmp R q k ≡ b → Moves (cond b (Some change) (find R q cs)) (count R es q) (count R end q)) [
             | true ↦ λ t.
                 let is_k = key_is q k t in
-                let nothing_more : find R q cs ≡ None = subst (λ x. find R x cs ≡ None) (sym is_k) (none_below k cs below) in
+                let nothing_more : find R q cs ≡ None = subst (λ x. find R x cs ≡ None) (sym is_k) (below_none R k cs below) in
                 let after : count R fs q ≡ count R end q = subst (λ o. Moves o (count R fs q) (count R end q)) nothing_more (ends.each q) in
                 let there : count R end q ≡ made.to = sym after ∙ value q ∙ ap (λ b. cond b made.to (count R es q)) t in
                 subst (λ x. moved (count R es x) change ≡ Some (count R end q)) (sym is_k) (made.moves ∙ ap (λ n. Some n) (sym there))
@@ -142,7 +138,7 @@ module _ {K : Type 0} {R : K → K → Ordering} (o : IsTotalOrder R) (same : (x
           elim (eq_by_cmp R q j.0) as (λ t. eq_by_cmp R q j.0 ≡ t → find R q (differences R old new (j ∷ js)) ≡ cond (is_some (cond t (Some j.1) (find R q js))) (change_of q) None) [
             | true ↦ λ t.
                 let is_j = key_is q j.0 t in
-                let gone : find R q (differences R old new js) ≡ None = subst (λ x. find R x (differences R old new js) ≡ None) (sym is_j) (none_below j.0 _ (below_differences j.0 js b.0)) in
+                let gone : find R q (differences R old new js) ≡ None = subst (λ x. find R x (differences R old new js) ≡ None) (sym is_j) (below_none R j.0 _ (below_differences j.0 js b.0)) in
                 let here : find R q (differences R old new (j ∷ js)) ≡ change_of j.0 =
                 elim (nat_eq (count R old j.0) (count R new j.0)) as (λ s. find R q (cond s (differences R old new js) ((j.0, change_between (count R old j.0) (count R new j.0)) ∷ differences R old new js)) ≡ change_at s (count R old j.0) (count R new j.0)) [
                   | true ↦ gone

@@ -1,5 +1,5 @@
 -- The records of a cluster and of its jobs, and when they are valid.
-use Rattle.std.specs.Prelude.{ℕ, ◌*◌, ◌^◌, Bool, true, not, nat_eq, nat_lt, ◌&&◌, ◌||◌, List, [], ◌∷◌, length, Option, Some, None, slice_get}
+use Rattle.std.specs.Prelude.{ℕ, Bool, not, nat_eq, nat_lt, ◌&&◌, List, length}
 use Rattle.std.specs.List.{list_any, list_all}
 use Rattle.fuxi_terms.specs.Vectors.{fits, is_zero}
 

@@ -19,6 +19,15 @@ abbrev pub is_no_change : ℤ → Bool
 is_no_change (pos n) = nat_eq n 0
 is_no_change (negsuc n) = false
 
+-- a number moved by a change of its key, or the refusal: low where it would fall below 0, high where it would rise above the greatest of its key
+module _ {K E : Type 0} (low : K → ℕ → ℤ → E) (high : K → E) (greatest : K → ℕ) where
+  abbrev pub in_bounds : K → ℕ → ℤ → Option ℕ → Result ℕ E
+  in_bounds k kept change None = Err (low k kept change)
+  in_bounds k kept change (Some n) = cond (nat_lt (greatest k) n) (Err (high k)) (Ok n)
+
+  abbrev pub moved_within : K → ℕ → ℤ → Result ℕ E
+  moved_within k kept change = in_bounds k kept change (moved kept change)
+
 -- goes on with the value, and stays at a refusal
 abbrev pub then_do : {A B E : Type 0} → Result A E → (A → Result B E) → Result B E
 then_do (Ok x) f = f x

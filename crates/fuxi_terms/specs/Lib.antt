@@ -4,3 +4,5 @@ pub mod Keys
 pub mod Counts
 pub mod Tallies
 pub mod Lists
+pub mod Padded
+pub mod Totals

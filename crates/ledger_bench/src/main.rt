@@ -2,6 +2,8 @@
 //! from outside: `ledger_bench WORK TIMES`. The ledger has 2,048 entries, as many as it may have.
 #![tactic(auto)]
 
+mod start;
+mod times;
 mod work;
 
 use std::process::ExitCode;
@@ -24,12 +26,12 @@ fn main(rt: HostRuntime) -> io::Result<ExitCode> {
         return Ok(ExitCode::from(2));
     };
     match run(rt.alloc(), todo, number) {
-        Ok(()) => {
-            println!(rt; "{work}: {number} times")?;
+        Ok(size) => {
+            println!(rt; "{work}: {number} times, {size} at the end")?;
             Ok(ExitCode::SUCCESS)
         }
-        Err(stop) => {
-            eprintln!(rt; "ledger_bench: {stop:?}")?;
+        Err(fault) => {
+            eprintln!(rt; "ledger_bench: {fault:?}")?;
             Ok(ExitCode::FAILURE)
         }
     }

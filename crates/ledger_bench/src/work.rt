@@ -1,9 +1,13 @@
-use delta_channel::Place;
-use full_sync::Duplex;
-use ledger_law::{BodyFault, Ledger, LedgerFault, OutOfMemory};
-use party_ledgers::RowLedger;
+ghost use Rattle.std.specs.Prelude.{◌≡◌, ◌<◌, ◌≤◌, ℕ, List, length, Ok, IfOk, IfErr};
+ghost use Rattle.fuxi_terms.specs.Keys.{RowKey};
+ghost use Rattle.ledger_law.specs.Applying.{IsRefusal};
+ghost use Rattle.party_ledgers.specs.RowForms.{row_form};
+ghost use Rattle.ledger_bench.specs.Words.{work_named};
+ghost use Rattle.ledger_bench.specs.Works.{applied, granted, posted, IsSize};
+
+use crate::{start, times};
+use ledger_law::{BodyFault, LedgerFault};
 use std::alloc::Global;
-use std::mem;
 
 /// What is done.
 #[derive(Clone, Copy, Debug, PartialEq, Eq)]
@@ -24,7 +28,9 @@ pub enum Work {
 
 impl Work {
     /// The work with this name.
-    pub fn named(word: &str) -> Option<Work> {
+    pub fn named(word: &str) -> Option<Work>
+        ensures { result ≡ work_named word.now }
+    {
         match word {
             "apply-1" => Some(Work::ApplyOne),
             "apply-64" => Some(Work::ApplyMany),
@@ -37,121 +43,75 @@ impl Work {
     }
 }
 
-/// Why the work was not done.
-#[derive(Clone, Copy, Debug, Drop, PartialEq, Eq)]
-pub enum Stop {
-    Body(BodyFault),
-    Change(LedgerFault),
+// Changes a row of 2,048 entries, or of one less, so often: up at each key whose place the step divides, and
+// down, in turn.
+#[tactic(auto, unfolding(crate::specs::Works::applied))]
+fn apply(alloc: Global, first: u32, step: u32, times: u32) -> Result<usize, LedgerFault>
+    requires first { first ≤ 2048 }
+    requires step { 0 < step }
+    ensures ok { IfOk result (λ size. (row : List (RowKey × ℕ)) → applied first step times ≡ Ok row → size ≡ length row) }
+    ensures fault { IfErr result (λ e. IsRefusal (applied first step times) e) }
+{
+    let mut row = start::row(alloc, first)?;
+    let more = start::changes(alloc, 0, step, 1)?;
+    let less = start::changes(alloc, 0, step, -1)?;
+    times::apply(alloc, &mut row, more, less, times)?;
+    Ok(row.len())
 }
 
-impl From<BodyFault> for Stop {
-    fn from(fault: BodyFault) -> Stop {
-        Stop::Body(fault)
+// Writes a row so often.
+fn write(alloc: Global, times: u32) -> Result<usize, LedgerFault>
+    ensures ok { IfOk result (λ size. 0 < times → (row : List (RowKey × ℕ)) → granted 0 ≡ Ok row → size ≡ length (row_form row)) }
+    ensures fault { IfErr result (λ e. IsRefusal (granted 0) e) }
+{
+    let row = start::row(alloc, 0)?;
+    let mut bytes = Vec::new(alloc);
+    times::write(&row, &mut bytes, times)?;
+    Ok(bytes.len())
+}
+
+// Reads a row so often.
+fn read(alloc: Global, times: u32) -> Result<usize, LedgerFault>
+    ensures ok { IfOk result (λ size. 0 < times → (row : List (RowKey × ℕ)) → granted 0 ≡ Ok row → size ≡ length row) }
+    ensures fault { IfErr result (λ e. IsRefusal (granted 0) e) }
+{
+    let row = start::row(alloc, 0)?;
+    let mut bytes = Vec::new(alloc);
+    times::write(&row, &mut bytes, 1)?;
+    match times::read(alloc, &bytes, times) {
+        Ok(Some(last)) => Ok(last.len()),
+        Ok(None) => Ok(0),
+        Err(BodyFault::OutOfMemory) => Err(LedgerFault::OutOfMemory),
+        Err(BodyFault::NotBody) => unreachable!(),
     }
 }
 
-impl From<LedgerFault> for Stop {
-    fn from(fault: LedgerFault) -> Stop {
-        Stop::Change(fault)
+// Makes a turn so often.
+fn turn(alloc: Global, times: u32) -> Result<usize, LedgerFault>
+    ensures ok { IfOk result (λ size. 0 < times → size ≡ 65) }
+    ensures fault { IfErr result (λ e. IsRefusal posted e) }
+{
+    let party = start::party(alloc)?;
+    match times::turn(alloc, &party, times)? {
+        Some(notes) => Ok(notes.as_slice().len()),
+        None => Ok(0),
     }
 }
 
-impl From<OutOfMemory> for Stop {
-    fn from(_error: OutOfMemory) -> Stop {
-        Stop::Body(BodyFault::OutOfMemory)
-    }
-}
-
-// The form of so many entries with one value from a place on, each `step` places behind the last. Jobs have
-// 8 units.
-fn body(
-    alloc: Global,
-    first: u32,
-    entries: u32,
-    step: u32,
-    value: i32,
-) -> Result<Vec<u8>, OutOfMemory> {
-    let mut body = Vec::from_slice(alloc, &entries.to_be_bytes())?;
-    for i in 0..entries {
-        let place = first.wrapping_add(i.wrapping_mul(step));
-        body.extend_from_slice(&(place / 8).to_be_bytes())?;
-        body.push((place % 8) as u8)?;
-        body.extend_from_slice(&[0, 0, 0, 0, 0, 0, 0, 1])?;
-        body.extend_from_slice(&[0; 56])?;
-        body.extend_from_slice(&value.to_be_bytes())?;
-    }
-    Ok(body)
-}
-
-// Changes so many entries by one grant, each `step` places behind the last: up, and down, in turn.
-fn apply(
-    alloc: Global,
-    row: &mut RowLedger,
-    entries: u32,
-    step: u32,
-    times: u32,
-) -> Result<(), Stop> {
-    let mut next = RowLedger::read_delta(alloc, &body(alloc, 0, entries, step, 1)?)?;
-    let mut other = RowLedger::read_delta(alloc, &body(alloc, 0, entries, step, -1)?)?;
-    for _ in 0..times {
-        row.apply(alloc, &next)?;
-        mem::swap(&mut next, &mut other);
-    }
-    Ok(())
-}
-
-// A party that has posted 65 changes, of which one is acknowledged.
-fn party(alloc: Global) -> Result<Duplex<RowLedger, RowLedger>, Stop> {
-    let mut party = Duplex::start(alloc, 1)?;
-    party.hear(alloc, 1);
-    let change = RowLedger::read_delta(alloc, &body(alloc, 0, 1, 1, 1)?)?;
-    for _ in 0..65 {
-        if party.last() < 65 {
-            party.post(alloc, RowLedger::copy_delta(alloc, &change)?)?;
-        }
-    }
-    let peer = party.peer();
-    party.on_ack(peer, Place { inc: 1, seq: 1 });
-    Ok(party)
-}
-
-fn turn(alloc: Global, times: u32) -> Result<(), Stop> {
-    let party = party(alloc)?;
-    for _ in 0..times {
-        party.turn(alloc)?;
-    }
-    Ok(())
-}
-
-fn write_full(alloc: Global, row: &RowLedger, times: u32) -> Result<(), Stop> {
-    let mut out = Vec::new(alloc);
-    for _ in 0..times {
-        out.clear();
-        row.write_full(&mut out)?;
-    }
-    Ok(())
-}
-
-fn read_full(alloc: Global, bytes: &[u8], times: u32) -> Result<(), Stop> {
-    for _ in 0..times {
-        RowLedger::read_full(alloc, bytes)?;
-    }
-    Ok(())
-}
-
-/// Does the work so often on a ledger of 2,048 entries, each of 2 grants. An entry that comes in front of the
-/// others makes them 2,048.
-pub fn run(alloc: Global, work: Work, times: u32) -> Result<(), Stop> {
-    let bytes = match work {
-        Work::InsertOne => body(alloc, 1, 2047, 1, 2)?,
-        _ => body(alloc, 0, 2048, 1, 2)?,
-    };
-    let mut row = RowLedger::read_full(alloc, &bytes)?;
+/// Does the work so often, and answers how much there is at its end: entries of the row, bytes of its form, or
+/// what a turn sends. The row has 2 grants at each of its 2,048 keys, and at all but the first where an entry
+/// comes in front of all others.
+///
+/// The fault is a refused change, or want of memory.
+pub fn run(alloc: Global, work: Work, times: u32) -> Result<usize, LedgerFault>
+    ensures { IfOk result (λ size. IsSize work times size) }
+{
     match work {
-        Work::ApplyOne | Work::InsertOne => apply(alloc, &mut row, 1, 1, times),
-        Work::ApplyMany => apply(alloc, &mut row, 64, 32, times),
-        Work::WriteFull => write_full(alloc, &row, times),
-        Work::ReadFull => read_full(alloc, &bytes, times),
+        Work::ApplyOne => apply(alloc, 0, 2048, times),
+        Work::ApplyMany => apply(alloc, 0, 32, times),
+        Work::InsertOne => apply(alloc, 1, 2048, times),
+        Work::WriteFull => write(alloc, times),
+        Work::ReadFull => read(alloc, times),
         Work::Turn => turn(alloc, times),
     }
 }

@@ -1,9 +1,6 @@
 pub mod Searching
 pub mod Placing
-pub mod Testing
 pub mod Keeping
-pub mod Changing
-pub mod Making
 pub mod Numbering
 pub mod Rising
 pub mod Refusing

@@ -1,5 +1,5 @@
 -- What stands at the place of a key, and what an edit at that place makes.
-use Rattle.std.proofs.Common.{◌≡◌, ℕ, zero, suc, ◌<◌, ◌≤◌, true, false, cond, not, nat_eq, List, [], ◌∷◌, length, slice_get, get_or, set, Some, None, refl, sym, ◌∙◌, ap, subst, arith}
+use Rattle.std.proofs.Common.{◌≡◌, ℕ, zero, suc, ◌<◌, ◌≤◌, true, false, cond, not, nat_eq, List, [], ◌∷◌, length, slice_get, get_or, set, Some, refl, sym, ◌∙◌, ap, subst, arith}
 use Rattle.std.specs.Prelude.{T}
 use Rattle.std.specs.List.{insert, remove}
 use Rattle.std.specs.Option.{unwrap_or}
@@ -12,7 +12,7 @@ use Rattle.std.specs.FinMap.Entries.{by_order, below_all, put, where_key, find, 
 use Rattle.std.proofs.lemmas.Bool.Decides.{nat_tests}
 use Rattle.fuxi_terms.specs.Counts.{count, set_count}
 use Rattle.ledger_law.specs.Places.{IsHere, IsGap}
-use Rattle.fuxi_terms.proofs.Counting.{both_true, lesser}
+use Rattle.fuxi_terms.proofs.Counting.{both_true, lesser, find_below_head}
 
 module _ {K : Type 0} {R : K → K → Ordering} (o : IsTotalOrder R) where
   abbrev Below : List (K × ℕ) → K → ℕ → Type 0
@@ -26,13 +26,6 @@ module _ {K : Type 0} {R : K → K → Ordering} (o : IsTotalOrder R) where
   below_at x [] i d lt h = absurd (omega (arith, lt))
   below_at x (e ∷ es) zero d lt h = lesser _ (both_true (is_lt (R x e.0)) _ h).0
   below_at x (e ∷ es) (suc i) d lt h = below_at x es i d (omega (arith, lt)) (both_true (is_lt (R x e.0)) _ h).1
-
-  -- below a key in order nothing ties
-  find_below_head : (k : K) (e : K × ℕ) (es : List (K × ℕ)) → R k e.0 ≡ Less → T (below_all R e.0 es) → find R k es ≡ None
-  find_below_head k e [] lt h = refl
-  find_below_head k e (f ∷ es) lt h =
-      let b = both_true (is_lt (R e.0 f.0)) _ h in
-      ap (λ r. cond (is_eq r) (Some f.1) (find R k es)) (o.trans k e.0 f.0 lt (lesser _ b.0)) ∙ find_below_head k e es lt b.1
 
   keep_above : (k : K) (e : K × ℕ) (es : List (K × ℕ)) → R k e.0 ≡ Less → T (below_all R e.0 es) → where_key R (λ x. not (eq_by_cmp R k x)) es ≡ es
   keep_above k e [] lt h = refl
@@ -69,7 +62,7 @@ module _ {K : Type 0} {R : K → K → Ordering} (o : IsTotalOrder R) where
 
     absent_at : (es : List (K × ℕ)) (i : ℕ) → T (is_sorted R es) → Below es k i → ((e : K × ℕ) → slice_get es i ≡ Some e → R k e.0 ≡ Less) → count R es k ≡ 0
     absent_at [] i s below above = refl
-    absent_at (e ∷ es) zero s below above = ap (λ r. unwrap_or (cond (is_eq r) (Some e.1) (find R k es)) 0) (above e refl) ∙ ap (λ r. unwrap_or r 0) (find_below_head k e es (above e refl) (both_true (below_all R e.0 es) _ s).0)
+    absent_at (e ∷ es) zero s below above = ap (λ r. unwrap_or (cond (is_eq r) (Some e.1) (find R k es)) 0) (above e refl) ∙ ap (λ r. unwrap_or r 0) (find_below_head o k e es (above e refl) (both_true (below_all R e.0 es) _ s).0)
     absent_at (e ∷ es) (suc i) s below above = ap (λ r. unwrap_or (cond (is_eq r) (Some e.1) (find R k es)) 0) (below 0 e (omega arith) refl) ∙ absent_at es i (both_true (below_all R e.0 es) _ s).1 (shorter e es k i below) above
 
     pub count_gap : (es : List (K × ℕ)) (i : ℕ) → T (is_sorted R es) → IsGap R es k i → count R es k ≡ 0

@@ -1,5 +1,5 @@
 -- Why bytes are the form of no tally, and of no change.
-use Rattle.std.proofs.Common.{◌≡◌, ℕ, ◌<◌, ◌≤◌, ◌^◌, List, [], ◌++◌, length, drop, Err, refl, sym, ◌∙◌, ap, subst}
+use Rattle.std.proofs.Common.{◌≡◌, ℕ, ◌<◌, ◌≤◌, ◌^◌, List, [], ◌++◌, length, drop, sym, ◌∙◌, ap, subst}
 use Rattle.std.specs.Prelude.{ℤ}
 use Rattle.std.specs.List.{All}
 use Rattle.std.proofs.lemmas.List.Elements.{recursion_from_All}
@@ -7,16 +7,9 @@ use Rattle.fuxi_terms.specs.declared.Key.{Key}
 use Rattle.fuxi_terms.specs.Keys.{key_cmp}
 use Rattle.fuxi_terms.specs.Counts.{AreCounts}
 use Rattle.fuxi_terms.specs.Tallies.{TallyRecord, ChangeRecord}
-use Rattle.ledger_law.specs.declared.ledger.BodyFault.{BodyFault}
-use Rattle.ledger_law.specs.declared.ledger.BodyFault.TheVariants.{NotBody, OutOfMemory}
 use Rattle.ledger_law.specs.Forms.{headed, number_entry, change_entry, IsNumberEntry, IsChangeEntry, tally_form, change_form}
 use Rattle.ledger_law.specs.OneForm.{counted_one, number_wide, number_one, change_wide, change_one, number_entries, change_entries, few_counts, few_changes}
-use Rattle.ledger_law.specs.Reading.{Reads}
 use Rattle.ledger_law.specs.Shapes.{IsWritable, IsTally, IsChange, AreChangesWithin}
-
-pub refused : {V : Type 0} (has_form : V → Type 0) (form : V → List ℕ) (bytes : List ℕ) (fault : BodyFault) → (fault ≡ NotBody → (value : V) → has_form value → bytes ≡ form value → ⊥) → Reads has_form form bytes (Err fault)
-refused has_form form bytes NotBody none = none refl
-refused has_form form bytes OutOfMemory none = tt
 
 module _ (greatest : Key → ℕ) (bounded : (k : Key) → greatest k ≤ 1000000000000) (writable : (k : Key) → 0 < greatest k → IsWritable k) (bytes : List ℕ) (head : ℕ) where
   pub not_counts : (es : List (Key × ℕ)) → All IsNumberEntry es → length es < 2 ^ 32 → bytes ≡ headed number_entry head es → (AreCounts key_cmp greatest es → ⊥) → (t : TallyRecord) → IsTally greatest t → bytes ≡ tally_form t → ⊥

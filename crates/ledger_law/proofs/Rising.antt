@@ -8,7 +8,7 @@ use Rattle.std.specs.declared.cmp.Ordering.TheVariants.{Less, Equal, Greater}
 use Rattle.std.specs.FinMap.Entries.{below_all, is_sorted}
 use Rattle.std.proofs.lemmas.List.{length-drop}
 use Rattle.fuxi_terms.proofs.Counting.{both_true, lesser}
-use Rattle.ledger_law.proofs.Changing.{both}
+use Rattle.fuxi_terms.proofs.Changing.{both}
 
 pub is_less : (r : Ordering) → is_lt r ≡ true → r ≡ Less
 is_less r e = lesser r (subst T (sym e) tt)

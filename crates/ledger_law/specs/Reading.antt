@@ -7,3 +7,8 @@ abbrev pub Reads : {V : Type 0} → (V → Type 0) → (V → List ℕ) → List
 Reads has_form form bytes (Ok value) = has_form value × (bytes ≡ form value)
 Reads {V} has_form form bytes (Err NotBody) = (value : V) → has_form value → bytes ≡ form value → ⊥
 Reads has_form form bytes (Err OutOfMemory) = Unit {0}
+
+-- a refusal, from what no form is
+pub refused : {V : Type 0} (has_form : V → Type 0) (form : V → List ℕ) (bytes : List ℕ) (fault : BodyFault) → (fault ≡ NotBody → (value : V) → has_form value → bytes ≡ form value → ⊥) → Reads has_form form bytes (Err fault)
+refused has_form form bytes NotBody none = none (λ i. NotBody)
+refused has_form form bytes OutOfMemory none = tt

@@ -1,10 +1,10 @@
 -- The keys that a tally may have, each with its greatest number, and the tallies and changes that have a written form.
-use Rattle.std.specs.Prelude.{ℕ, ℤ, ◌<◌, ◌≤◌, ◌^◌, Bool, cond, not, nat_eq, nat_lt, unsigned_abs, List, Option, Some, None, Result, Ok, Err}
+use Rattle.std.specs.Prelude.{ℕ, ℤ, ◌<◌, ◌≤◌, ◌^◌, Bool, cond, not, nat_eq, unsigned_abs, List}
 use Rattle.std.specs.List.{AllByRecursion}
 use Rattle.std.specs.FinMap.Entries.{where_key}
 use Rattle.fuxi_terms.specs.declared.Key.{Key}
 use Rattle.fuxi_terms.specs.Keys.{key_cmp}
-use Rattle.fuxi_terms.specs.Counts.{moved, AreCounts, AreChanges}
+use Rattle.fuxi_terms.specs.Counts.{AreCounts, AreChanges}
 use Rattle.fuxi_terms.specs.Tallies.{TallyRecord, ChangeRecord}
 
 -- what and unit take one byte and the number two; the kind 0 is none
@@ -17,15 +17,6 @@ pub record IsWritable (key : Key) : Type 0 where
 -- the entries that stay where the head stays, or is a new one
 abbrev pub kept_under : Bool → ℕ → List (Key × ℕ) → List (Key × ℕ)
 kept_under same dropped es = cond same es (where_key key_cmp (λ k. not (nat_eq k.what dropped)) es)
-
-module _ {K E : Type 0} (low : K → ℕ → ℤ → E) (high : K → E) (greatest : K → ℕ) where
-  abbrev pub in_bounds : K → ℕ → ℤ → Option ℕ → Result ℕ E
-  in_bounds k kept change None = Err (low k kept change)
-  in_bounds k kept change (Some n) = cond (nat_lt (greatest k) n) (Err (high k)) (Ok n)
-
-  -- a number moved by a change of its key, or the refusal
-  abbrev pub moved_within : K → ℕ → ℤ → Result ℕ E
-  moved_within k kept change = in_bounds k kept change (moved kept change)
 
 module _ (greatest : Key → ℕ) where
   pub record IsTally (t : TallyRecord) : Type 0 where

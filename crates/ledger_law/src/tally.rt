@@ -4,10 +4,10 @@ ghost use Rattle.std.specs.FinMap.Entries.{where_key, is_sorted};
 ghost use Rattle.std.specs.List.{AllByRecursion};
 ghost use Rattle.fuxi_terms.specs.declared.Key.{Key};
 ghost use Rattle.fuxi_terms.specs.Keys.{key_cmp};
-ghost use Rattle.fuxi_terms.specs.Counts.{AreCounts, AreChanges, count, change_one, change_all, is_no_change};
+ghost use Rattle.fuxi_terms.specs.Counts.{AreCounts, AreChanges, count, moved_within, change_one, change_all, is_no_change};
 ghost use Rattle.ledger_law.specs.declared.ledger.LedgerFault.TheVariants.{Below, TooGreat};
 ghost use Rattle.ledger_law.specs.Applying.{Applies, IsRefusal};
-ghost use Rattle.ledger_law.specs.Shapes.{kept_under, moved_within, AreChangesWithin};
+ghost use Rattle.ledger_law.specs.Shapes.{kept_under, AreChangesWithin};
 
 use crate::entries::{count_of, keys_rise, moved, set_entry};
 use crate::forms::{Changes, Numbers, read_headed, write_headed};

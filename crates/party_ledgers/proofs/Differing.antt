@@ -1,19 +1,15 @@
 -- The difference of two rows takes the one to the other, where the keys of both are not too many together.
-use Rattle.std.proofs.Common.{◌≡◌, ℕ, ◌+◌, ◌-◌, ◌<◌, ◌≤◌, Bool, true, false, cond, nat_lt, nat_eq, List, [], ◌∷◌, length, Some, None, Result, Ok, Err, refl, sym, ◌∙◌, ap, subst, arith, inl, inr}
+use Rattle.std.proofs.Common.{◌≡◌, ℕ, ◌+◌, ◌<◌, ◌≤◌, Bool, true, false, cond, nat_lt, nat_eq, List, [], ◌∷◌, length, Some, None, Result, Ok, Err, refl, sym, ◌∙◌, ap, subst, arith}
 use Rattle.std.specs.Prelude.{ℤ, T}
 use Rattle.std.specs.Option.{is_some, unwrap_or}
 use Rattle.std.specs.Ordering.{eq_by_cmp, is_eq}
 use Rattle.std.specs.Cmp.{tied_itself}
-use Rattle.std.specs.declared.cmp.Ordering.{Ordering}
-use Rattle.std.specs.declared.cmp.Ordering.TheVariants.{Less, Equal, Greater}
-use Rattle.std.specs.List.{AllByRecursion}
-use Rattle.std.specs.FinMap.Entries.{below_all, put, find, is_sorted, is_sorted-put, find-put, same_entries}
-use Rattle.std.proofs.lemmas.Bool.{cases_lt}
+use Rattle.std.specs.FinMap.Entries.{put, find, is_sorted, is_sorted-put, find-put}
 use Rattle.std.proofs.lemmas.Bool.Decides.{nat_tests}
 use Rattle.fuxi_terms.specs.Keys.{RowKey, row_cmp}
 use Rattle.fuxi_terms.specs.Counts.{moved, change_between, count, set_count, set_moved, change_one, then_do, change_all, joined, differences, difference, AreCounts, AreChanges}
 use Rattle.ledger_law.specs.declared.ledger.LedgerFault.{LedgerFault}
-use Rattle.fuxi_terms.proofs.Counting.{both_true, lesser, moved_between, tied, count_le, count-set_count, counts-set_count, length-set_count}
+use Rattle.fuxi_terms.proofs.Counting.{both_true, below_none, moved_between, tied, same_counts, count_le, count-set_count, counts-set_count, length-set_count}
 use Rattle.fuxi_terms.proofs.OnlyDifference.{only_difference}
 use Rattle.party_ledgers.specs.Orders.{row_total, same_row_key}
 use Rattle.party_ledgers.specs.Rows.{IsRow, most_entries, greatest_row, patched_row, change_row_once, within_row, row_below, row_too_great}
@@ -86,21 +82,6 @@ counted_has es q h = elim (find row_cmp q es) as (λ r. 0 < unwrap_or r 0 → is
 none_counted : (es : Entries) (q : RowKey) → has es q ≡ false → number es q ≡ 0
 none_counted es q h = elim (find row_cmp q es) as (λ r. is_some r ≡ false → unwrap_or r 0 ≡ 0) [ None ↦ λ _. refl | Some n ↦ λ e. cc ] h
 
--- two rows with the same numbers are one
-found : (es : Entries) (q : RowKey) → AllByRecursion (λ e. 0 < e.1) es → find row_cmp q es ≡ cond (nat_eq (number es q) 0) None (Some (number es q))
-found [] q h = refl
-found (e ∷ es) q h = elim (eq_by_cmp row_cmp q e.0) as (λ b. cond b (Some e.1) (find row_cmp q es) ≡ cond (nat_eq (unwrap_or (cond b (Some e.1) (find row_cmp q es)) 0) 0) None (Some (unwrap_or (cond b (Some e.1) (find row_cmp q es)) 0))) [
-  | true ↦ let t : nat_eq e.1 0 ≡ false = grind (arith, nat_tests, h.0) in rw t
-  | false ↦ found es q h.1
-]
-
-same_numbers : (es fs : Entries) → AreCounts row_cmp greatest_row es → AreCounts row_cmp greatest_row fs → ((q : RowKey) → number es q ≡ number fs q) → es ≡ fs
-same_numbers es fs g h is = same_entries row_cmp row_total same_row_key es fs g.sorted h.sorted (λ q. found es q g.positive ∙ ap (λ n. cond (nat_eq n 0) None (Some n)) (is q) ∙ sym (found fs q h.positive))
-
-below_none : (q : RowKey) (es : Entries) → T (below_all row_cmp q es) → find row_cmp q es ≡ None
-below_none q [] h = refl
-below_none q (e ∷ es) h = let b = both_true _ _ h in ap (λ r. cond (is_eq r) (Some e.1) (find row_cmp q es)) (lesser _ b.0) ∙ below_none q es b.1
-
 module _ (old new keys : Entries) (new_is : AreCounts row_cmp greatest_row new) (few : length keys ≤ most_entries) where
   abbrev changes_of : Entries → List (RowKey × ℤ)
   changes_of js = differences row_cmp old new js
@@ -131,7 +112,7 @@ module _ (old new keys : Entries) (new_is : AreCounts row_cmp greatest_row new) 
   reaches [] es s in_keys c among is = record { end = es; made = refl; counts = c; values = λ q. refl }
   reaches (j ∷ js) es s in_keys c among is =
       let parts = both_true _ (is_sorted row_cmp js) s in
-      let absent = below_none j.0 js parts.0 in
+      let absent = below_none row_cmp j.0 js parts.0 in
       let here : number es j.0 ≡ number old j.0 = is j.0 (ap (λ b. is_some (cond b (Some j.1) (find row_cmp j.0 js))) (itself j.0)) in
       let other : (q : RowKey) → has js q ≡ true → eq_by_cmp row_cmp q j.0 ≡ false = λ q in_js. elim (eq_by_cmp row_cmp q j.0) as (λ b. eq_by_cmp row_cmp q j.0 ≡ b → b ≡ false) [
         | true ↦ λ t. let none : has js q ≡ false = subst (λ x. has js x ≡ false) (sym (is_key q j.0 t)) (ap is_some absent) in cc
@@ -182,7 +163,7 @@ pub row_by_difference : (old new : Entries) → IsRow old → IsRow new → leng
 row_by_difference old new old_is new_is few =
     let js : Entries = joined row_cmp old new in
     let r = reaches old new js new_is.counts few js old (joined_sorted old new new_is.counts.sorted) (λ q h. h) old_is.counts (λ q more. in_first old new q (counted_has old q more)) (λ q _. refl) in
-    let ends : r.end ≡ new = same_numbers r.end new r.counts new_is.counts (λ q. r.values q ∙ elim (has js q) as (λ b. has js q ≡ b → cond b (number new q) (number old q) ≡ number new q) [
+    let ends : r.end ≡ new = same_counts row_total same_row_key greatest_row r.end new r.counts new_is.counts (λ q. r.values q ∙ elim (has js q) as (λ b. has js q ≡ b → cond b (number new q) (number old q) ≡ number new q) [
       | true ↦ λ _. refl
       | false ↦ λ t. none_counted old q (absent_in (has old q) (has js q) (in_first old new q) t) ∙ sym (none_counted new q (absent_in (has new q) (has js q) (in_second old new q) t))
     ] refl) in

@@ -4,18 +4,15 @@ use Rattle.std.specs.Prelude.{ℤ, T, IsOk}
 use Rattle.std.specs.Option.{is_some}
 use Rattle.std.specs.Ordering.{eq_by_cmp, is_eq}
 use Rattle.std.specs.Cmp.{tied_itself}
-use Rattle.std.specs.declared.cmp.Ordering.{Ordering}
-use Rattle.std.specs.declared.cmp.Ordering.TheVariants.{Less, Equal, Greater}
 use Rattle.std.specs.FinMap.Entries.{below_all, find, is_sorted}
 use Rattle.std.proofs.lemmas.Bool.Decides.{nat_tests}
 use Rattle.std.proofs.lemmas.List.{drop_all}
 use Rattle.fuxi_terms.specs.Keys.{RowKey, row_cmp}
-use Rattle.fuxi_terms.specs.Counts.{moved, count, set_count, change_one, then_do, AreCounts}
+use Rattle.fuxi_terms.specs.Counts.{moved, in_bounds, moved_within, count, set_count, change_one, then_do, AreCounts}
 use Rattle.ledger_law.specs.declared.ledger.LedgerFault.{LedgerFault}
-use Rattle.ledger_law.specs.Shapes.{moved_within, in_bounds}
-use Rattle.fuxi_terms.proofs.Counting.{both_true, lesser, count_le, count-set_count, counts-set_count, length-set_count}
-use Rattle.ledger_law.proofs.Making.{made_one}
-use Rattle.ledger_law.proofs.Testing.{change_one_is}
+use Rattle.fuxi_terms.proofs.Counting.{both_true, tied, below_none, count_le, count-set_count, counts-set_count, length-set_count}
+use Rattle.fuxi_terms.proofs.Making.{made_one}
+use Rattle.fuxi_terms.proofs.Testing.{change_one_is}
 use Rattle.party_ledgers.specs.Orders.{row_total, same_row_key}
 use Rattle.party_ledgers.specs.Rows.{IsRow, most_entries, is_row_key, greatest_row, patched_row, change_row_once, within_row, row_below, row_too_great}
 
@@ -31,19 +28,10 @@ pub record IsTestedTo (es : Entries) (cs : List (RowKey × ℤ)) (i len : ℕ) :
   pub made : patched_row mid (drop i cs) ≡ patched_row es cs
   pub untouched : (q : RowKey) → is_some (find row_cmp q (drop i cs)) ≡ true → count row_cmp mid q ≡ count row_cmp es q
 
-tied : (r : Ordering) → is_eq r ≡ true → r ≡ Equal
-tied Less p = cc
-tied Equal p = refl
-tied Greater p = cc
-
-below_none : (q : RowKey) (cs : List (RowKey × ℤ)) → T (below_all row_cmp q cs) → find row_cmp q cs ≡ None
-below_none q [] h = refl
-below_none q (c ∷ cs) h = let b = both_true _ _ h in ap (λ r. cond (is_eq r) (Some c.1) (find row_cmp q cs)) (lesser _ b.0) ∙ below_none q cs b.1
-
 -- a key that stands above is another
 differs : (k q : RowKey) (cs : List (RowKey × ℤ)) → T (below_all row_cmp k cs) → is_some (find row_cmp q cs) ≡ true → eq_by_cmp row_cmp q k ≡ false
 differs k q cs below found = elim (eq_by_cmp row_cmp q k) as (λ b. eq_by_cmp row_cmp q k ≡ b → b ≡ false) [
-  | true ↦ λ t. let none : is_some (find row_cmp q cs) ≡ false = subst (λ x. is_some (find row_cmp x cs) ≡ false) (sym (same_row_key q k (tied _ t))) (ap is_some (below_none k cs below)) in cc
+  | true ↦ λ t. let none : is_some (find row_cmp q cs) ≡ false = subst (λ x. is_some (find row_cmp x cs) ≡ false) (sym (same_row_key q k (tied _ t))) (ap is_some (below_none row_cmp k cs below)) in cc
   | false ↦ λ t. refl
 ] refl
 

@@ -8,9 +8,9 @@ use Rattle.std.proofs.lemmas.List.{drop_all}
 use Rattle.fuxi_terms.specs.Keys.{RowKey}
 use Rattle.fuxi_terms.specs.Cluster.{are_quantities, is_vector_of}
 use Rattle.fuxi_terms.specs.Vectors.{plus, times, fits, is_zero}
-use Rattle.res_vector.specs.Totals.{total_of}
-use Rattle.res_vector.proofs.ByPlace.{length-times}
-use Rattle.res_vector.proofs.VectorLaws.{plus_assoc, fits-plus_left, All-fits, All-total}
+use Rattle.fuxi_terms.specs.Totals.{total_of}
+use Rattle.fuxi_terms.proofs.ByPlace.{length-times}
+use Rattle.fuxi_terms.proofs.VectorLaws.{plus_assoc, fits-plus_left, All-fits, All-total}
 use Rattle.party_ledgers.specs.Rows.{IsRow, greatest_row, row_total}
 use Rattle.party_ledgers.specs.RowForms.{IsRowEntry}
 use Rattle.party_ledgers.specs.RowOneForm.{row_entries, greatest_small, is_key}

@@ -6,8 +6,8 @@ use Rattle.fuxi_terms.specs.Keys.{RowKey, row_cmp}
 use Rattle.fuxi_terms.specs.Cluster.{greatest_count, is_vector_of}
 use Rattle.fuxi_terms.specs.Vectors.{is_zero}
 use Rattle.fuxi_terms.specs.Counts.{AreCounts, AreChanges, change_one, then_do}
-use Rattle.res_vector.specs.Padded.{padded}
-use Rattle.res_vector.specs.Totals.{total_of}
+use Rattle.fuxi_terms.specs.Padded.{padded}
+use Rattle.fuxi_terms.specs.Totals.{total_of}
 use Rattle.ledger_law.specs.declared.ledger.LedgerFault.{LedgerFault}
 use Rattle.ledger_law.specs.declared.ledger.LedgerFault.TheVariants.{Below, TooGreat}
 

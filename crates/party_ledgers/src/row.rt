@@ -6,9 +6,8 @@ ghost use Rattle.std.specs.FinMap.Entries.{is_sorted};
 ghost use Rattle.fuxi_terms.specs.Keys.{RowKey as RowKeyRecord, row_cmp};
 ghost use Rattle.fuxi_terms.specs.Cluster.{are_quantities};
 ghost use Rattle.fuxi_terms.specs.Vectors.{is_zero};
-ghost use Rattle.fuxi_terms.specs.Counts.{AreCounts, AreChanges, count, set_count, is_no_change};
+ghost use Rattle.fuxi_terms.specs.Counts.{AreCounts, AreChanges, count, moved_within, set_count, is_no_change};
 ghost use Rattle.ledger_law.specs.Applying.{IsRefusal};
-ghost use Rattle.ledger_law.specs.Shapes.{moved_within};
 ghost use Rattle.party_ledgers.specs.Rows.{IsRow, AreRowChanges, greatest_row, patched_row, change_row_once, row_below, row_too_great, fault_key};
 
 use ledger_law::entries::{EntryKey, count_of, moved, set_entry};

@@ -4,8 +4,8 @@ ghost use Rattle.std.specs.Prelude.{◌≡◌, ◌↔◌, ◌+◌, ◌-◌, ◌*
 ghost use Rattle.std.specs.List.{All, AllByRecursion, sum_by};
 ghost use Rattle.fuxi_terms.specs.Vectors.{at_place, fits, minus, plus, times};
 ghost use Rattle.fuxi_terms.specs.Cluster.{are_quantities};
-ghost use Rattle.res_vector.specs.Padded.{padded};
-ghost use Rattle.res_vector.specs.Totals.{total_of};
+ghost use Rattle.fuxi_terms.specs.Padded.{padded};
+ghost use Rattle.fuxi_terms.specs.Totals.{total_of};
 
 /// What a vector is made of, is at each place. A place that it does not have is 0.
 pub fn places()

@@ -6,7 +6,7 @@ ghost use Rattle.std.specs.Prelude.{◌≡◌, ◌<◌, ◌≤◌, ◌^◌, IsTr
 ghost use Rattle.std.specs.List.{All};
 ghost use Rattle.fuxi_terms.specs.Cluster.{are_quantities};
 ghost use Rattle.fuxi_terms.specs.Vectors.{fits, is_zero, plus as sum_of, minus as difference_of, times as multiple_of};
-ghost use Rattle.res_vector.specs.Padded.{padded};
+ghost use Rattle.fuxi_terms.specs.Padded.{padded};
 
 mod laws;
 #[cfg(test)]

@@ -15,6 +15,7 @@ use Rattle.fuxi_io.specs.declared.status.InputFault.TheVariants.{BadLine, LineTo
 use Rattle.fuxi_io.specs.declared.status.Status.{Status}
 use Rattle.fuxi_io.specs.declared.status.Status.TheVariants.{Done, Usage, BadInput, ReadFault, WriteFault, Limit, OutOfMemory}
 use Rattle.fuxi_terms.specs.Cluster.{ClusterRecord}
+use Rattle.fuxi_terms.proofs.Appending.{appends_both, appends_none}
 use Rattle.cluster_desc.specs.declared.fault.ClusterFault.{ClusterFault}
 use Rattle.cluster_desc.specs.declared.fault.ClusterFault.TheVariants.{NotJson as ClusterNotJson, WrongKind as ClusterWrongKind, UnknownKey as ClusterUnknownKey, MissingKey as ClusterMissingKey, Count as ClusterCount, LengthDiffers as ClusterLengthDiffers, QuantityRange as ClusterQuantityRange, QuotaOverLimit as ClusterQuotaOverLimit, OutOfMemory as ClusterOutOfMemory}
 use Rattle.cluster_desc.specs.ClusterLine.{cluster_of}
@@ -24,8 +25,8 @@ use Rattle.schedule_replay.specs.Grammar.{content, is_skipped, event_of}
 use Rattle.schedule_replay.specs.Channel.{Channel, new_channel, after}
 use Rattle.schedule_replay.specs.Texts.{printed, state_text}
 use Rattle.schedule_replay.specs.Standing.{Replaying, Stands}
-use Rattle.schedule_replay.specs.Runs.{Run, Ending, AtEnd, AtBadLine, AtLimit, ended, behind, within_limits, run_from, read_from, behind_cluster, input_fault, final_text, pieces, WritesSome, WritesPart, Ended}
-use Rattle.schedule_replay.specs.Progress.{Prints, TakesLine, WritesState, after_line, behind_all, status_of, cluster_status, Along, Seeking, HasCluster}
+use Rattle.schedule_replay.specs.Runs.{Run, Ending, AtEnd, AtBadLine, AtLimit, ended, behind, within_limits, run_from, read_from, behind_cluster, input_fault, final_text, pieces, WritesPart, Ended}
+use Rattle.schedule_replay.specs.Progress.{TakesLine, WritesState, after_line, behind_all, status_of, cluster_status, Along, Seeking, HasCluster}
 
 -- one line of a run
 within : (before : ℕ) (c : Channel) (line : InputLine) (run : Run) → before < 1000000 → length line.bytes ≤ 65536 → within_limits before c line run ≡ run
@@ -102,16 +103,6 @@ some_line (b ∷ bytes) some = λ e. split (lines_of bytes) (nat_eq b 10) e
     split ls false e = onto ls e
 
 -- what is written one after another
-appends_both : (a b c : Option (List ℕ)) (x y : List ℕ) → Appends a b x → Appends b c y → Appends a c (x ++ y)
-appends_both None b c x y h k = tt
-appends_both (Some p) None c x y h k = absurd h
-appends_both (Some p) (Some q) None x y h k = absurd k
-appends_both (Some p) (Some q) (Some r) x y h k = k ∙ ap (λ l. l ++ y) h ∙ append_assoc p x y
-
-appends_none : (t : Option (List ℕ)) → Appends t t []
-appends_none None = tt
-appends_none (Some x) = sym (append-nil x)
-
 concat_one : (front : List (List ℕ)) (x : List ℕ) → concat (front ++ x ∷ []) ≡ concat front ++ x
 concat_one front x = concat-append front (x ∷ []) ∙ ap (λ l. concat front ++ l) (append-nil x)
 

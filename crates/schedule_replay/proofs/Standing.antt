@@ -1,5 +1,5 @@
 -- What is kept of a channel stands for the written one through each event.
-use Rattle.std.proofs.Common.{◌≡◌, ℕ, ◌+◌, ◌-◌, ◌<◌, ◌≤◌, Bool, true, false, cond, nat_eq, nat_lt, List, [], ◌∷◌, ◌++◌, length, map, get_or, Option, Some, None, Result, Ok, Err, refl, sym, ◌∙◌, ap, subst, arith, append_assoc, append-nil, slice_get, lit≤}
+use Rattle.std.proofs.Common.{◌≡◌, ℕ, ◌+◌, ◌-◌, ◌<◌, ◌≤◌, Bool, true, false, cond, nat_eq, nat_lt, List, [], ◌∷◌, ◌++◌, length, map, get_or, Option, Some, None, Result, Ok, refl, sym, ◌∙◌, ap, subst, arith, append_assoc, append-nil, slice_get, lit≤}
 use Rattle.std.specs.Prelude.{ℤ, codes, decimal}
 use Rattle.std.specs.Option.{unwrap_or, option_map}
 use Rattle.std.specs.List.{AllByRecursion}
@@ -11,8 +11,8 @@ use Rattle.std.specs.Ordering.{eq_by_cmp}
 use Rattle.std.specs.FinMap.Entries.{find}
 use Rattle.fuxi_terms.specs.declared.Key.{Key}
 use Rattle.fuxi_terms.specs.Keys.{key_cmp}
-use Rattle.fuxi_terms.specs.Counts.{moved, count, set_count, set_moved, then_do}
-use Rattle.fuxi_terms.specs.Tallies.{TallyRecord, ChangeRecord, empty_tally, staying}
+use Rattle.fuxi_terms.specs.Counts.{moved, count, set_count}
+use Rattle.fuxi_terms.specs.Tallies.{TallyRecord, ChangeRecord, empty_tally}
 use Rattle.fuxi_terms.specs.Lists.{numbers_from}
 use Rattle.fuxi_terms.proofs.Lists.{one_more, all_append, all_changed, all_at, got_grown}
 use Rattle.ledger_law.specs.declared.ledger.LedgerFault.{LedgerFault}
@@ -28,7 +28,7 @@ use Rattle.schedule_replay.specs.declared.replay.Packet.TheVariants.{Full, Delta
 use Rattle.schedule_replay.specs.Numbers.{number_key, numbers_greatest, is_number_key}
 use Rattle.schedule_replay.specs.Channel.{Channel, Mark, last, entry, value_now, with_value, posted, after, news, turn_of, mark_at, packet, heard_by, place_after}
 use Rattle.schedule_replay.specs.Texts.{number_line, sent_line, sent_lines, heard_line, verdict_word}
-use Rattle.schedule_replay.specs.Standing.{Replaying, Stands, Sends, Brings, IsPacket, mark_of, stamp_of, patched}
+use Rattle.schedule_replay.specs.Standing.{Replaying, Stands, Sends, IsPacket, mark_of, stamp_of, patched}
 
 -- a change of one number that leads to a value in range is made
 pub one_change : (p : TallyRecord) (number value : ℕ) (d : ℤ) → number < 8 → value ≤ 100000 → moved (count key_cmp p.entries (number_key number)) d ≡ Some value

@@ -1,5 +1,5 @@
 -- The words of a line, and the event that they name.
-use Rattle.std.specs.Prelude.{◌==◌, ℕ, Bool, true, false, not, filter, ◌||◌, nat_lt, nat_eq, ◌&&◌, if◌then◌else◌, cond, List, [], ◌∷◌, Option, Some, None, codes}
+use Rattle.std.specs.Prelude.{◌==◌, ℕ, Bool, true, false, not, filter, ◌||◌, nat_lt, nat_eq, ◌&&◌, if◌then◌else◌, List, [], ◌∷◌, Option, Some, None, codes}
 use Rattle.std.specs.Str.{bytes_eq}
 use Rattle.std.specs.Borrow.{Bor}
 use Rattle.fuxi_io.specs.Lines.{InputLine}

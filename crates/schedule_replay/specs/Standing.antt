@@ -1,5 +1,5 @@
 -- What the program keeps of a channel, and the written channel that it stands for.
-use Rattle.std.specs.Prelude.{◌≡◌, ℕ, ◌+◌, ◌-◌, ◌≤◌, ◌<◌, ◌++◌, true, false, List, length, map, Some, slice_get, Result}
+use Rattle.std.specs.Prelude.{◌≡◌, ℕ, ◌-◌, ◌≤◌, ◌<◌, ◌++◌, true, false, List, length, map, Some, slice_get, Result}
 use Rattle.std.specs.List.{AllByRecursion}
 use Rattle.fuxi_terms.specs.Tallies.{TallyRecord, ChangeRecord, empty_tally, patched_tally}
 use Rattle.ledger_law.specs.declared.ledger.LedgerFault.{LedgerFault}
@@ -9,7 +9,7 @@ use Rattle.delta_channel.specs.Hearing.{Receiving, HasEntry}
 use Rattle.schedule_replay.specs.declared.replay.Packet.{Packet}
 use Rattle.schedule_replay.specs.declared.replay.Packet.TheVariants.{Full, Delta}
 use Rattle.schedule_replay.specs.Numbers.{numbers_greatest}
-use Rattle.schedule_replay.specs.Channel.{Channel, Mark, last}
+use Rattle.schedule_replay.specs.Channel.{Channel, Mark}
 use Rattle.schedule_replay.specs.Texts.{sent_lines}
 use Rattle.delta_channel.specs.declared.receiver.Stamp.{Stamp}
 

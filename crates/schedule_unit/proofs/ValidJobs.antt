@@ -6,8 +6,8 @@ use Rattle.std.proofs.lemmas.List.{length-map}
 use Rattle.std.proofs.lemmas.Bool.{and_parts, and_from, not-false, not_from_false, eq-eqb, eqb-true, eqb-false, lt-ltb, le-ltb}
 use Rattle.fuxi_terms.specs.Vectors.{is_zero}
 use Rattle.fuxi_terms.specs.Cluster.{UnitRecord, are_quantities, is_between, is_priority, is_valid_job, is_valid_unit, is_vector_of}
-use Rattle.res_vector.specs.Padded.{padded}
-use Rattle.res_vector.proofs.VectorLaws.{length-padded, quantities-padded}
+use Rattle.fuxi_terms.specs.Padded.{padded}
+use Rattle.fuxi_terms.proofs.VectorLaws.{length-padded, quantities-padded}
 use Rattle.schedule_unit.specs.declared.asks.Ask.{Ask}
 use Rattle.schedule_unit.specs.declared.job.JobFault.{JobFault}
 use Rattle.schedule_unit.specs.declared.job.JobFault.TheVariants.{Dimensions, PriorityRange, QuantityRange, ZeroSize}

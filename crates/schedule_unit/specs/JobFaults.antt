@@ -3,7 +3,7 @@ use Rattle.std.specs.Prelude.{◌≡◌, ℕ, ◌+◌, not, nat_eq, nat_lt, List
 use Rattle.std.specs.Option.{option_or}
 use Rattle.fuxi_terms.specs.Vectors.{is_zero}
 use Rattle.fuxi_terms.specs.Cluster.{JobRecord, UnitRecord, are_quantities, is_priority}
-use Rattle.res_vector.specs.Padded.{padded}
+use Rattle.fuxi_terms.specs.Padded.{padded}
 use Rattle.schedule_unit.specs.declared.asks.Ask.{Ask}
 use Rattle.schedule_unit.specs.declared.party.UnitNo.{UnitNo}
 use Rattle.schedule_unit.specs.declared.job.JobFault.{JobFault}

@@ -17,24 +17,12 @@ use Rattle.written_world.specs.Jobs.{size_at, has_at, below_each}
 use Rattle.written_world.specs.Masters.{Master, total_at}
 use Rattle.written_world.specs.Placing.{first_placeable, granted, settle, settled, placeable, may_grow, is_usable, has_room}
 use Rattle.written_world.specs.Settling.{IsWithin}
+use Rattle.fuxi_terms.proofs.Counting.{both_true as both, find_below_head}
 use Rattle.written_world.proofs.Choosing.{both_true}
 use Rattle.written_world.proofs.Keys.{spot_total, same_spot}
 use Rattle.written_world.proofs.Placed.{one_count, is_placeable}
 
 module _ {K : Type 0} {R : K → K → Ordering} (o : IsTotalOrder R) (same : (x y : K) → R x y ≡ Equal → x ≡ y) (g : K → ℕ → ℕ) (nothing : (k : K) → g k 0 ≡ 0) where
-  both : (a b : Bool) → T (a && b) → T a × T b
-  both true b p = (tt, p)
-  both false b p = absurd p
-
-  lesser : (r : Ordering) → T (is_lt r) → r ≡ Less
-  lesser Less p = refl
-  lesser Equal p = absurd p
-  lesser Greater p = absurd p
-
-  none_below : (k : K) (e : K × ℕ) (es : List (K × ℕ)) → R k e.0 ≡ Less → T (below_all R e.0 es) → find R k es ≡ None
-  none_below k e [] lt h = refl
-  none_below k e (f ∷ es) lt h = let b = both (is_lt (R e.0 f.0)) _ h in ap (λ r. cond (is_eq r) (Some f.1) (find R k es)) (o.trans k e.0 f.0 lt (lesser _ b.0)) ∙ none_below k e es lt b.1
-
   abbrev w : K × ℕ → ℕ
   w e = g e.0 e.1
 
@@ -42,7 +30,7 @@ module _ {K : Type 0} {R : K → K → Ordering} (o : IsTotalOrder R) (same : (x
   sum_put_exact k v [] s = let z = nothing k in omega (arith, z)
   sum_put_exact k v (e ∷ es) s = elim (R k e.0) as (λ r. R k e.0 ≡ r → sum_by w (by_order r ((k, v) ∷ e ∷ es) ((e.0, v) ∷ es) (e ∷ put R k v es)) + g k (unwrap_or (cond (is_eq r) (Some e.1) (find R k es)) 0) ≡ sum_by w (e ∷ es) + g k v) [
     | Less ↦ λ is.
-        let z : g k (unwrap_or (find R k es) 0) ≡ 0 = ap (λ r. g k (unwrap_or r 0)) (none_below k e es is (both (below_all R e.0 es) _ s).0) ∙ nothing k in
+        let z : g k (unwrap_or (find R k es) 0) ≡ 0 = ap (λ r. g k (unwrap_or r 0)) (find_below_head o k e es is (both (below_all R e.0 es) _ s).0) ∙ nothing k in
         rw (sum_by-cons w (k, v) (e ∷ es)) (omega (arith, z))
     | Equal ↦ λ is.
         let a : g e.0 v ≡ g k v = ap (λ x. g x v) (sym (same k e.0 is)) in

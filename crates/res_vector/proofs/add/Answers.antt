@@ -1,5 +1,5 @@
 use Rattle.std.proofs.Common.{◌^◌, arith}
-use Rattle.res_vector.proofs.ByPlace.{plus_below, plus_written}
+use Rattle.fuxi_terms.proofs.ByPlace.{plus_below, plus_written}
 use Rattle.res_vector.proofs.add.Goals as goal
 
 pub overflow_add-q : goal.overflow_add-q

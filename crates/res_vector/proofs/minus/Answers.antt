@@ -1,5 +1,5 @@
 use Rattle.std.proofs.Common.{arith}
-use Rattle.res_vector.proofs.ByPlace.{fits_at, minus_written}
+use Rattle.fuxi_terms.proofs.ByPlace.{fits_at, minus_written}
 use Rattle.res_vector.proofs.minus.Goals as goal
 
 pub overflow_sub-q : goal.overflow_sub-q

@@ -1,5 +1,5 @@
 use Rattle.std.proofs.Common.{sym, arith}
-use Rattle.res_vector.proofs.ByPlace.{fits_not, fits_from}
+use Rattle.fuxi_terms.proofs.ByPlace.{fits_not, fits_from}
 use Rattle.res_vector.proofs.sum_fits.Goals as goal
 
 pub returns-then-total-i : goal.returns-then-total-i

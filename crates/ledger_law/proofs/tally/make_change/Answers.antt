@@ -6,7 +6,7 @@ use Rattle.fuxi_terms.specs.Counts.{AreCounts, count, moved}
 use Rattle.ledger_law.specs.declared.ledger.LedgerFault.TheVariants.{Below, TooGreat}
 use Rattle.ledger_law.specs.Orders.{key_total, same_key}
 use Rattle.fuxi_terms.proofs.Counting.{count_le, counts-set_count}
-use Rattle.ledger_law.proofs.Making.{made_one}
+use Rattle.fuxi_terms.proofs.Making.{made_one}
 use Rattle.ledger_law.proofs.tally.make_change.Goals as goal
 
 pub moved-requires : goal.moved-requires

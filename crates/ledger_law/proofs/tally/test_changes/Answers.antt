@@ -8,7 +8,7 @@ use Rattle.ledger_law.specs.declared.ledger.LedgerFault.TheVariants.{Below, TooG
 use Rattle.ledger_law.specs.Orders.{key_total, same_key}
 use Rattle.ledger_law.specs.Shapes.{kept_under}
 use Rattle.ledger_law.proofs.Keeping.{kept_bound}
-use Rattle.ledger_law.proofs.Testing.{refused_at, one_more, all_pass}
+use Rattle.fuxi_terms.proofs.Testing.{refused_at, one_more, all_pass}
 use Rattle.ledger_law.proofs.tally.test_changes.Goals as goal
 
 pub moved_within-requires : goal.moved_within-requires

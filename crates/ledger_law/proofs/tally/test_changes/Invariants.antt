@@ -1,7 +1,7 @@
 use Rattle.ledger_law.specs.declared.ledger.LedgerFault.TheVariants.{Below, TooGreat}
 use Rattle.ledger_law.specs.Orders.{key_total, same_key}
 use Rattle.ledger_law.specs.Shapes.{kept_under}
-use Rattle.ledger_law.proofs.Testing.{IsTestedTo}
+use Rattle.fuxi_terms.proofs.Testing.{IsTestedTo}
 use Rattle.ledger_law.proofs.tally.test_changes.Given as goal
 
 abbrev pub invariant-loop-key : goal.invariant-loop-key

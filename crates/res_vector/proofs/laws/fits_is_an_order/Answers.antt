@@ -1,4 +1,4 @@
-use Rattle.res_vector.proofs.VectorLaws.{fits-refl, fits-trans, fits-antisym, fits-zeros}
+use Rattle.fuxi_terms.proofs.VectorLaws.{fits-refl, fits-trans, fits-antisym, fits-zeros}
 use Rattle.res_vector.proofs.laws.fits_is_an_order.Goals as goal
 
 pub returns-clause-reflexive : goal.returns-clause-reflexive

@@ -1,4 +1,4 @@
-use Rattle.res_vector.proofs.VectorLaws.{fits-plus_left, fits-minus_left, fits-plus-plus, fits-minus-minus, fits-free}
+use Rattle.fuxi_terms.proofs.VectorLaws.{fits-plus_left, fits-minus_left, fits-plus-plus, fits-minus-minus, fits-free}
 use Rattle.res_vector.proofs.laws.fits_of_sums.Goals as goal
 
 pub returns-clause-addend : goal.returns-clause-addend

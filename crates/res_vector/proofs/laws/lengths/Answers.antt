@@ -1,4 +1,4 @@
-use Rattle.res_vector.proofs.ByPlace.{length-plus, length-minus, length-times}
+use Rattle.fuxi_terms.proofs.ByPlace.{length-plus, length-minus, length-times}
 use Rattle.res_vector.proofs.laws.lengths.Goals as goal
 
 pub returns-clause-plus : goal.returns-clause-plus

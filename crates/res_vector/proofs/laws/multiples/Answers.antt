@@ -1,4 +1,4 @@
-use Rattle.res_vector.proofs.VectorLaws.{times-zero, times-one, times-add, times-sub, times-plus, fits-times}
+use Rattle.fuxi_terms.proofs.VectorLaws.{times-zero, times-one, times-add, times-sub, times-plus, fits-times}
 use Rattle.res_vector.proofs.laws.multiples.Goals as goal
 
 pub returns-clause-none : goal.returns-clause-none

@@ -1,4 +1,4 @@
-use Rattle.res_vector.proofs.VectorLaws.{length-padded, take-padded, at_place-padded, fits-padded, plus-padded, minus-padded, times-padded, quantities-padded}
+use Rattle.fuxi_terms.proofs.VectorLaws.{length-padded, take-padded, at_place-padded, fits-padded, plus-padded, minus-padded, times-padded, quantities-padded}
 use Rattle.res_vector.proofs.laws.paddings.Goals as goal
 
 pub returns-clause-length : goal.returns-clause-length

@@ -1,4 +1,4 @@
-use Rattle.res_vector.proofs.VectorLaws.{fits_places, at_place-plus, at_place-minus, at_place-times, same_at_places}
+use Rattle.fuxi_terms.proofs.VectorLaws.{fits_places, at_place-plus, at_place-minus, at_place-times, same_at_places}
 use Rattle.res_vector.proofs.laws.places.Goals as goal
 
 pub returns-clause-fits : goal.returns-clause-fits

@@ -1,4 +1,4 @@
-use Rattle.res_vector.proofs.VectorLaws.{All-fits, All-plus, All-times, All-total}
+use Rattle.fuxi_terms.proofs.VectorLaws.{All-fits, All-plus, All-times, All-total}
 use Rattle.res_vector.proofs.laws.ranges.Goals as goal
 
 pub returns-clause-fits : goal.returns-clause-fits

@@ -1,4 +1,4 @@
-use Rattle.res_vector.proofs.VectorLaws.{plus_comm, plus_assoc, plus-zeros, minus-plus, plus-minus}
+use Rattle.fuxi_terms.proofs.VectorLaws.{plus_comm, plus_assoc, plus-zeros, minus-plus, plus-minus}
 use Rattle.res_vector.proofs.laws.sums_and_differences.Goals as goal
 
 pub returns-clause-plus_commutes : goal.returns-clause-plus_commutes

@@ -1,5 +1,4 @@
-use Rattle.std.proofs.Common.{◌≡◌, ◌+◌, ◌-◌, length, sym, ◌∙◌, ap, subst, arith, get_or}
-use Rattle.schedule_replay.specs.Grammar.{without_return}
+use Rattle.std.proofs.Common.{◌≡◌, ◌+◌, ◌-◌, length, sym, arith}
 use Rattle.schedule_replay.proofs.Words.{return_dropped, return_absent}
 use Rattle.schedule_replay.proofs.grammar.content.Goals as goal
 

@@ -1,5 +1,4 @@
-use Rattle.std.proofs.Common.{◌≡◌, ◌∙◌, ap}
-use Rattle.schedule_replay.specs.Grammar.{words_of}
+use Rattle.std.proofs.Common.{◌∙◌}
 use Rattle.schedule_replay.proofs.Words.{blanks_before, blanks_alone}
 use Rattle.schedule_replay.proofs.grammar.next_word.Goals as goal
 

@@ -1,5 +1,5 @@
-use Rattle.std.proofs.Common.{rules, ◌≡◌, ◌+◌, ◌<◌, length, true, false, refl, sym, ap, ◌∙◌, subst, arith}
-use Rattle.delta_channel.specs.Hearing.{verdict_at, verdict_of}
+use Rattle.std.proofs.Common.{rules, ◌≡◌, ◌+◌, ◌<◌, length, sym, ap, ◌∙◌, subst}
+use Rattle.delta_channel.specs.Hearing.{verdict_of}
 use Rattle.delta_channel.specs.declared.receiver.Verdict.TheVariants.{Take}
 use Rattle.schedule_replay.specs.declared.replay.Packet.TheVariants.{Delta}
 use Rattle.schedule_replay.specs.Standing.{IsPacket, mark_of, stamp_of}

@@ -1,4 +1,4 @@
-use Rattle.std.proofs.Common.{◌≡◌, ◌+◌, ◌<◌, length, arith}
+use Rattle.std.proofs.Common.{◌+◌, ◌<◌, length, arith}
 use Rattle.schedule_replay.proofs.Standing.{change_leads, only_memory, at_index}
 use Rattle.schedule_replay.proofs.replay.packet_at.Goals as goal
 

@@ -1,5 +1,3 @@
-use Rattle.std.proofs.Common.{◌≡◌, sym, subst}
-use Rattle.schedule_replay.specs.Standing.{Sends}
 use Rattle.schedule_replay.proofs.Standing.{sends_none, sends_more, next_marks}
 use Rattle.schedule_replay.proofs.replay.push_news.Goals as goal
 

@@ -1,9 +1,9 @@
-use Rattle.std.proofs.Common.{◌≡◌, ◌+◌, ◌<◌, true, false, Ok, Err, Some, None, refl, sym, ◌∙◌, ap, subst, arith}
+use Rattle.std.proofs.Common.{◌≡◌, ◌+◌, Ok, Err, sym, ◌∙◌, ap, subst}
 use Rattle.fuxi_io.specs.Reading.{line_of}
 use Rattle.cluster_desc.specs.ClusterLine.{cluster_of}
 use Rattle.cluster_desc.specs.Faults.{IsFault}
 use Rattle.schedule_replay.specs.Grammar.{content, is_skipped}
-use Rattle.schedule_replay.proofs.Going.{seek_start, seek_more, seek_cluster, seek_fault, seek_end, seek_stop, running_alone}
+use Rattle.schedule_replay.proofs.Going.{seek_fault, seek_stop, running_alone}
 use Rattle.schedule_replay.proofs.run.read_cluster_line.Goals as goal
 
 pub returns-in-Err-clause-ended : goal.returns-in-Err-clause-ended

@@ -1,7 +1,5 @@
-use Rattle.std.proofs.Common.{◌≡◌, ◌≢◌, ◌+◌, ◌<◌, Some, None, Ok, Err, IfSome, refl, sym, ◌∙◌, ap, subst, arith}
-use Rattle.fuxi_io.specs.Lines.{GivesKnown}
-use Rattle.fuxi_io.specs.Reading.{rest_of, line_of}
-use Rattle.fuxi_io.specs.declared.lines.Got.TheVariants.{Line, End}
+use Rattle.std.proofs.Common.{◌≡◌, ◌+◌, ◌<◌, Ok, Err, sym, ◌∙◌, ap, subst, arith}
+use Rattle.fuxi_io.specs.Reading.{line_of}
 use Rattle.schedule_replay.specs.Grammar.{content}
 use Rattle.schedule_replay.specs.Channel.{Channel, new_channel}
 use Rattle.schedule_replay.specs.Standing.{Stands}

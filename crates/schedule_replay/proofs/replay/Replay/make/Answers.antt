@@ -1,4 +1,4 @@
-use Rattle.std.proofs.Common.{◌≡◌, ◌++◌, sym, ap, ◌∙◌}
+use Rattle.std.proofs.Common.{◌++◌, sym, ap, ◌∙◌}
 use Rattle.schedule_replay.specs.Channel.{after}
 use Rattle.schedule_replay.specs.Texts.{printed}
 use Rattle.schedule_replay.specs.declared.grammar.Event.TheVariants.{Show}

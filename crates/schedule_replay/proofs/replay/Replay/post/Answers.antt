@@ -1,7 +1,6 @@
 use Rattle.std.proofs.Common.{rules, ◌≡◌, ◌∷◌, [], sym, ap, ◌∙◌, Ok}
 use Rattle.fuxi_terms.specs.Keys.{key_cmp}
 use Rattle.fuxi_terms.specs.Counts.{count, set_count}
-use Rattle.fuxi_terms.specs.Tallies.{TallyRecord}
 use Rattle.schedule_replay.specs.Numbers.{number_key}
 use Rattle.schedule_replay.specs.Standing.{patched}
 use Rattle.schedule_replay.proofs.Standing.{one_change, post_stands, same_stands}

@@ -5,12 +5,11 @@ use Rattle.std.specs.Option.{is_some}
 use Rattle.std.specs.Ordering.{eq_by_cmp, is_eq}
 use Rattle.std.specs.Cmp.{IsTotalOrder, tied_itself}
 use Rattle.std.specs.declared.cmp.Ordering.{Ordering}
-use Rattle.std.specs.declared.cmp.Ordering.TheVariants.{Less, Equal, Greater}
+use Rattle.std.specs.declared.cmp.Ordering.TheVariants.{Equal}
 use Rattle.std.specs.FinMap.Entries.{below_all, find, is_sorted}
 use Rattle.std.proofs.lemmas.List.{drop_all}
-use Rattle.fuxi_terms.specs.Counts.{moved, count, set_count, set_moved, change_one, change_all, then_do}
-use Rattle.ledger_law.specs.Shapes.{moved_within, in_bounds}
-use Rattle.fuxi_terms.proofs.Counting.{both_true, lesser, count-set_count}
+use Rattle.fuxi_terms.specs.Counts.{moved, in_bounds, moved_within, count, set_count, set_moved, change_one, change_all, then_do}
+use Rattle.fuxi_terms.proofs.Counting.{both_true, tied, below_none, count-set_count}
 
 abbrev pub done : {A E : Type 0} → Result A E → Result (Unit {0}) E
 done (Ok x) = Ok tt
@@ -30,15 +29,6 @@ module _ {K : Type 0} (R : K → K → Ordering) {E : Type 0} (low : K → ℕ �
   change_one_is es k change = set_moved_is es k (count R es k) change (moved (count R es k) change)
 
 module _ {K : Type 0} {R : K → K → Ordering} (o : IsTotalOrder R) (same : (x y : K) → R x y ≡ Equal → x ≡ y) {E : Type 0} (low : K → ℕ → ℤ → E) (high : K → E) (greatest : K → ℕ) where
-  tied : (r : Ordering) → is_eq r ≡ true → r ≡ Equal
-  tied Less p = cc
-  tied Equal p = refl
-  tied Greater p = cc
-
-  below_none : (q : K) (cs : List (K × ℤ)) → T (below_all R q cs) → find R q cs ≡ None
-  below_none q [] h = refl
-  below_none q (c ∷ cs) h = let b = both_true _ _ h in ap (λ r. cond (is_eq r) (Some c.1) (find R q cs)) (lesser _ b.0) ∙ below_none q cs b.1
-
   pub all_tested : (cs : List (K × ℤ)) (es fs : List (K × ℕ)) → T (is_sorted R cs) → ((q : K) → is_some (find R q cs) ≡ true → count R es q ≡ count R fs q) → done (change_all R low high greatest es cs) ≡ tested R low high greatest fs cs
   all_tested [] es fs s is = refl
   all_tested (c ∷ cs) es fs s is =
@@ -46,7 +36,7 @@ module _ {K : Type 0} {R : K → K → Ordering} (o : IsTotalOrder R) (same : (x
       let itself : eq_by_cmp R c.0 c.0 ≡ true = ap is_eq (tied_itself o c.0) in
       let here : count R es c.0 ≡ count R fs c.0 = is c.0 (ap (λ b. is_some (cond b (Some c.1) (find R c.0 cs))) itself) in
       let other : (q : K) → is_some (find R q cs) ≡ true → eq_by_cmp R q c.0 ≡ false = λ q in_cs. elim (eq_by_cmp R q c.0) as (λ b. eq_by_cmp R q c.0 ≡ b → b ≡ false) [
-        | true ↦ λ t. let none : is_some (find R q cs) ≡ false = subst (λ x. is_some (find R x cs) ≡ false) (sym (same q c.0 (tied _ t))) (ap is_some (below_none c.0 cs parts.0)) in cc
+        | true ↦ λ t. let none : is_some (find R q cs) ≡ false = subst (λ x. is_some (find R x cs) ≡ false) (sym (same q c.0 (tied _ t))) (ap is_some (below_none R c.0 cs parts.0)) in cc
         | false ↦ λ t. refl
       ] refl in
       let rest : (q : K) → is_some (find R q cs) ≡ true → count R es q ≡ count R fs q = λ q in_cs. is q (ap (λ b. is_some (cond b (Some c.1) (find R q cs))) (other q in_cs) ∙ in_cs) in

@@ -7,9 +7,9 @@ use Rattle.std.proofs.lemmas.List.Sums.{sum_by-cons}
 use Rattle.std.proofs.lemmas.Bool.{and_parts, ltb-false, not-true, cases_lt}
 use Rattle.fuxi_terms.specs.Vectors.{fits, plus, minus, times, at_place}
 use Rattle.fuxi_terms.specs.Cluster.{is_at_most, are_quantities, greatest_quantity}
-use Rattle.res_vector.specs.Padded.{padded}
-use Rattle.res_vector.specs.Totals.{total_of}
-use Rattle.res_vector.proofs.ByPlace.{at_place-get_or, get_or-plus, get_or-minus, get_or-times, length-plus, length-minus, length-times, fits_at, fits_from, same_places}
+use Rattle.fuxi_terms.specs.Padded.{padded}
+use Rattle.fuxi_terms.specs.Totals.{total_of}
+use Rattle.fuxi_terms.proofs.ByPlace.{at_place-get_or, get_or-plus, get_or-minus, get_or-times, length-plus, length-minus, length-times, fits_at, fits_from, same_places}
 
 -- ---- places
 

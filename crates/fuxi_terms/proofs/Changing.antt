@@ -9,6 +9,7 @@ use Rattle.std.specs.FinMap.Entries.{below_all, is_sorted}
 use Rattle.std.proofs.lemmas.List.Elements.{recursion_from_All}
 use Rattle.fuxi_terms.specs.Counts.{AreChanges, is_no_change}
 use Rattle.fuxi_terms.proofs.Counting.{both_true}
+use Rattle.fuxi_terms.proofs.Lists.{all_append}
 
 pub both : (a b : Bool) → T a → T b → T (a && b)
 both true b p q = q
@@ -24,12 +25,8 @@ module _ {K X : Type 0} (R : K → K → Ordering) where
   sorted_push [] k v s h = tt
   sorted_push (e ∷ es) k v s h = let b = both_true (below_all R e.0 es) _ s in both (below_all R e.0 (es ++ (k, v) ∷ [])) _ (below_push e.0 es k v b.0 h.0) (sorted_push es k v b.1 h.1)
 
-pub all_push : {X : Type 0} (P : X → Type 0) (xs : List X) (x : X) → AllByRecursion P xs → P x → AllByRecursion P (xs ++ x ∷ [])
-all_push P [] x h p = (p, tt)
-all_push P (y ∷ ys) x h p = (h.0, all_push P ys x h.1 p)
-
 pub changes_push : {K : Type 0} (R : K → K → Ordering) (cs : List (K × ℤ)) (k : K) (change : ℤ) → AreChanges R cs → is_no_change change ≡ false → All (λ e. R e.0 k ≡ Less) cs → AreChanges R (cs ++ (k, change) ∷ [])
 changes_push R cs k change h real rises = record {
   sorted = sorted_push R cs k change h.sorted (recursion_from_All _ cs rises);
-  real = all_push _ cs (k, change) h.real real;
+  real = all_append _ cs (k, change) h.real real;
 }

@@ -1,0 +1,9 @@
+use Rattle.std.proofs.Common.{◌≡◌, ◌<◌, map, IfSome, IsSome}
+use Rattle.full_sync.specs.Turns.{mark_of, turn_of}
+use Rattle.ledger_bench.proofs.times.turn.Given as goal
+
+abbrev pub invariant-loop-turn : goal.invariant-loop-turn
+invariant-loop-turn l = record {
+  marks : IfSome l.last (λ notes. map mark_of notes ≡ turn_of l.party.sent.last l.party.acked l.party.got.place);
+  some : 0 < l.turn → IsSome l.last;
+}

@@ -1,0 +1,44 @@
+-- What the works do, so often as is said.
+use Rattle.std.specs.Prelude.{◌≡◌, ℕ, ℤ, pos, negsuc, zero, suc, ◌-◌, ◌<◌, ◌/◌, ◌%◌, nat_eq, filter, List, [], ◌∷◌, length, Result, Ok, map}
+use Rattle.fuxi_terms.specs.Keys.{RowKey}
+use Rattle.fuxi_terms.specs.Counts.{then_do}
+use Rattle.fuxi_terms.specs.Lists.{numbers_from}
+use Rattle.ledger_law.specs.declared.ledger.LedgerFault.{LedgerFault}
+use Rattle.party_ledgers.specs.Rows.{row_key, patched_row}
+use Rattle.party_ledgers.specs.RowForms.{row_form}
+use Rattle.ledger_bench.specs.declared.work.Work.{Work}
+use Rattle.ledger_bench.specs.declared.work.Work.TheVariants.{ApplyOne, ApplyMany, InsertOne, WriteFull, ReadFull, Turn}
+
+-- the first change, then the second, then the first again
+abbrev pub by_turns : {V D E : Type 0} → (V → D → Result V E) → D → D → V → ℕ → Result V E
+by_turns patched first second value zero = Ok value
+by_turns patched first second value (suc n) = then_do (patched value first) (λ v. by_turns patched second first v n)
+
+-- the key with this place among all 2,048: jobs have 8 units, and a grant takes one of the first resource
+abbrev pub key_at : ℕ → RowKey
+key_at place = row_key (place / 8) (place % 8) (1 ∷ 0 ∷ 0 ∷ 0 ∷ 0 ∷ 0 ∷ 0 ∷ 0 ∷ [])
+
+-- the same change at each key whose place the step divides, among so many from the first on
+unfoldable pub changes_at : ℕ → ℕ → ℕ → ℤ → List (RowKey × ℤ)
+changes_at first many step change = map (λ place. (key_at place, change)) (filter (λ place. nat_eq (place % step) 0) (numbers_from first many))
+
+-- two grants at each key from a place on
+unfoldable pub granted : ℕ → Result (List (RowKey × ℕ)) LedgerFault
+granted first = patched_row [] (changes_at first (2048 - first) 1 (pos 2))
+
+-- then one grant more at each key whose place the step divides, one less, and so on
+unfoldable pub applied : ℕ → ℕ → ℕ → Result (List (RowKey × ℕ)) LedgerFault
+applied first step times = then_do (granted first) (λ row. by_turns patched_row (changes_at 0 2048 step (pos 1)) (changes_at 0 2048 step (negsuc 0)) row times)
+
+-- a row that is sent 65 times with one grant more
+unfoldable pub posted : Result (List (RowKey × ℕ)) LedgerFault
+posted = by_turns patched_row (changes_at 0 2048 2048 (pos 1)) (changes_at 0 2048 2048 (pos 1)) [] 65
+
+-- how much there is at the end of a work: entries, bytes, or notes of a turn
+abbrev pub IsSize : Work → ℕ → ℕ → Type 0
+IsSize ApplyOne times size = (row : List (RowKey × ℕ)) → applied 0 2048 times ≡ Ok row → size ≡ length row
+IsSize ApplyMany times size = (row : List (RowKey × ℕ)) → applied 0 32 times ≡ Ok row → size ≡ length row
+IsSize InsertOne times size = (row : List (RowKey × ℕ)) → applied 1 2048 times ≡ Ok row → size ≡ length row
+IsSize WriteFull times size = 0 < times → (row : List (RowKey × ℕ)) → granted 0 ≡ Ok row → size ≡ length (row_form row)
+IsSize ReadFull times size = 0 < times → (row : List (RowKey × ℕ)) → granted 0 ≡ Ok row → size ≡ length row
+IsSize Turn times size = 0 < times → size ≡ 65

@@ -1,0 +1,81 @@
+//! Calls of a ledger and of a channel, each as often as is said.
+
+ghost use Rattle.std.specs.Prelude.{◌≡◌, ◌<◌, ◌≢◌, map, OnOk, IfOk, IfErr, IfSome, Ok, Err, None, IsSome};
+ghost use Rattle.ledger_law.specs.Applying.{IsRefusal};
+ghost use Rattle.ledger_law.specs.declared.ledger.BodyFault.TheVariants.{NotBody};
+ghost use Rattle.full_sync.specs.Turns.{mark_of, turn_of};
+ghost use Rattle.party_ledgers.specs.Rows.{IsRow, patched_row};
+ghost use Rattle.party_ledgers.specs.RowForms.{row_form};
+ghost use Rattle.ledger_bench.specs.Works.{by_turns};
+
+use full_sync::{Duplex, Notes};
+use ledger_law::{BodyFault, Ledger, LedgerFault, OutOfMemory};
+use party_ledgers::{RowChange, RowLedger};
+use std::alloc::Global;
+use std::mem;
+
+/// Makes the first change, then the second, then the first again, so often.
+///
+/// The fault is the first refusal, or want of memory; the changes before it are made.
+pub fn apply(
+    alloc: Global,
+    row: &mut RowLedger,
+    first: RowChange,
+    second: RowChange,
+    times: u32,
+) -> Result<(), LedgerFault>
+    ensures ok { OnOk result (by_turns patched_row first second row.old times ≡ Ok row.new) }
+    ensures fault { IfErr result (λ e. IsRefusal (by_turns patched_row first second row.old times) e) }
+{
+    let mut next = first;
+    let mut other = second;
+    for turn in 0..times {
+        match row.apply(alloc, &next) {
+            Ok(()) => {}
+            Err(fault) => return Err(fault),
+        }
+        mem::swap(&mut next, &mut other);
+    }
+    Ok(())
+}
+
+/// Writes the form of a row so often, each over the one before.
+pub fn write(row: &RowLedger, out: &mut Vec<u8>, times: u32) -> Result<(), OutOfMemory>
+    ensures { OnOk result (0 < times → out.new.items ≡ row_form row.now) }
+{
+    for turn in 0..times {
+        out.clear();
+        row.write_full(out)?;
+    }
+    Ok(())
+}
+
+/// Reads a row so often. Answers the last, where there is one; `NotBody` comes only where the bytes are the
+/// form of none.
+pub fn read(alloc: Global, bytes: &[u8], times: u32) -> Result<Option<RowLedger>, BodyFault>
+    ensures row { IfOk result (λ last. IfSome last (λ row. bytes.now ≡ row_form row)) }
+    ensures some { IfOk result (λ last. 0 < times → IsSome last) }
+    ensures none { result ≡ Err NotBody → (row : RowLedger) → IsRow row → bytes.now ≢ row_form row }
+{
+    let mut last = None;
+    for turn in 0..times {
+        last = Some(RowLedger::read_full(alloc, bytes)?);
+    }
+    Ok(last)
+}
+
+/// Makes a turn so often. Answers what the last one sends, where there is one.
+pub fn turn(
+    alloc: Global,
+    party: &Duplex<RowLedger, RowLedger>,
+    times: u32,
+) -> Result<Option<Notes<RowLedger>>, OutOfMemory>
+    ensures marks { IfOk result (λ last. IfSome last (λ notes. map mark_of notes ≡ turn_of party.now.sent.last party.now.acked party.now.got.place)) }
+    ensures some { IfOk result (λ last. 0 < times → IsSome last) }
+{
+    let mut last = None;
+    for turn in 0..times {
+        last = Some(party.turn(alloc)?);
+    }
+    Ok(last)
+}
