@@ -6,12 +6,9 @@ use Rattle.std.proofs.lemmas.Bool.Decides.{nat_tests}
 use Rattle.fuxi_terms.specs.Lists.{numbers_from}
 use Rattle.written_world.specs.Net.{Net, Party, Id, Link, Packet, Kind, Ack, Delta, Full, Heard, What, Stranger, NotMine, Taken, Old, Gap, Stale, Acked, last, set_at, unknown, silent, same_id, same_party, met, place_moved, unmoved, hear, hear_peer, heard_of, word_of, link_after, kept_changes, turn_deltas, notes, turn, Move, Starts, Posts, Turns, Hears, Resyncs, comes, move}
 use Rattle.written_world.specs.Sound.{Bounded, IsLinkWithin, PacketWithin}
+use Rattle.written_world.proofs.Alls.{all_append}
 use Rattle.written_world.proofs.Choosing.{both_true, either, either_case}
 use Rattle.written_world.proofs.Places.{id_is, set_at_all}
-
-pub all_append : (P : Packet → Type 0) (xs ys : List Packet) → AllByRecursion P xs → AllByRecursion P ys → AllByRecursion P (xs ++ ys)
-all_append P [] ys h k = k
-all_append P (x ∷ xs) ys h k = (h.0, all_append P xs ys h.1 k)
 
 pub met_known : (l : Link) (inc : ℕ) → nat_lt inc l.known ≡ false → (met l inc).known ≡ inc
 met_known l inc e = either (λ (m : Link). m.known ≡ inc) (nat_lt l.known inc) (record { known = inc; seq = 0; acked = 0 }) l (λ _. refl) (λ t. grind (arith, nat_tests))

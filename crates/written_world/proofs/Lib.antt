@@ -1,3 +1,4 @@
+mod Alls
 mod Keys
 mod Choosing
 mod Placed
@@ -8,6 +9,16 @@ mod Bounds
 mod Steps
 mod Start
 mod Sounds
+mod Acts
+mod Writing
+mod Crediting
+mod Tabling
+mod Standing
+mod Carrying
+mod Joining
+mod Agreeing
+mod KnownJobs
+mod AlwaysStanding
 mod Viewing
 mod Resting
 mod AlwaysResting

@@ -8,13 +8,10 @@ use Rattle.fuxi_terms.specs.Lists.{numbers_from}
 use Rattle.written_world.specs.Net.{Net, Party, Id, Link, Packet, Kind, Ack, Delta, Full, Heard, What, Stranger, NotMine, Taken, Old, Gap, Stale, Acked, last, set_at, unknown, same_id, same_party, met, acknowledge, place_moved, unmoved, hear, hear_peer, heard_of, word_of, link_after, kept_changes, turn_deltas, notes, turn, Move, Starts, Posts, Turns, Hears, Resyncs, comes, with_links, move}
 use Rattle.written_world.specs.Channels.{at_index}
 use Rattle.written_world.specs.Sound.{Shape, Names, NamesAt, PacketNames, LinkNames, Rising, Sound, Current, Allowed}
+use Rattle.written_world.proofs.Alls.{all_append, all_more}
 use Rattle.written_world.proofs.Choosing.{both_true, either, either_case}
 use Rattle.written_world.proofs.Places.{id_is, party_is, number_is, set_at_all}
-use Rattle.written_world.proofs.Bounds.{all_append, met_known, in_numbers, found_within, twice_not}
-
-pub all_more : (P Q : Packet → Type 0) → ((x : Packet) → P x → Q x) → (xs : List Packet) → AllByRecursion P xs → AllByRecursion Q xs
-all_more P Q f [] h = tt
-all_more P Q f (x ∷ xs) h = (f x h.0, all_more P Q f xs h.1)
+use Rattle.written_world.proofs.Bounds.{met_known, in_numbers, found_within, twice_not}
 
 -- a history with more entries behind it
 pub record Longer {L : Type 0} (d : L) (h h' : List L) : Type 0 where

@@ -31,7 +31,7 @@ no_entry has own = record { there = omega arith; head = λ _ first. absurd (omeg
 no_head : (n : ℕ) → (at_index nothing [] n).head ≡ 0
 no_head n = ap (λ (l : Ledger). l.head) (empty_at n)
 
-sound_at_start : Sound shape silent
+pub sound_at_start : Sound shape silent
 sound_at_start = record {
   links = λ p q. record { place = no_entry _ _; acked = no_entry _ _ };
   packets = tt;
@@ -47,7 +47,7 @@ no_number n k = ap (λ (l : Ledger). at_key l k) (empty_at n)
 tidy_nothing : IsTidy nothing
 tidy_nothing = record { sorted = tt; positive = tt; within = tt }
 
-written_at_start : (c : ClusterRecord) → Written (empty_world c)
+pub written_at_start : (c : ClusterRecord) → Written (empty_world c)
 written_at_start c = record {
   backs = λ a b n within. absurd (omega (arith, within));
   tidy = λ a b n. subst IsTidy (sym (empty_at n)) tidy_nothing;

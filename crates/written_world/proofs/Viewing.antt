@@ -8,7 +8,7 @@ use Rattle.written_world.specs.Safe.{Views}
 use Rattle.written_world.proofs.Choosing.{both_true}
 use Rattle.written_world.proofs.Places.{number_is}
 
-caught_up : (net : Net Ledger) (s r : Party) → is_caught_up net s r ≡ true → view net r s.id ≡ present net s r.id
+pub caught_up : (net : Net Ledger) (s r : Party) → is_caught_up net s r ≡ true → view net r s.id ≡ present net s r.id
 caught_up net s r e =
     let parts = both_true (nat_eq (net.links r s.id).known s.inc) (nat_eq (net.links r s.id).seq (last net s r.id)) e in
     let known = number_is (net.links r s.id).known s.inc parts.0 in

@@ -18,5 +18,6 @@ pub mod Quiet
 pub mod Safe
 pub mod Sound
 pub mod Good
+pub mod Shown
 pub mod Patching
 pub mod Settling

@@ -1,5 +1,5 @@
 -- Parties, what they know of one another, the histories that they send, and packets without content. Ledgers are of any type here.
-use Rattle.std.specs.Prelude.{ℕ, zero, suc, ◌+◌, ◌-◌, Bool, true, false, cond, not, nat_eq, nat_lt, ◌&&◌, ◌||◌, min, List, [], ◌∷◌, ◌++◌, length, map, Option, Some, None, slice_get}
+use Rattle.std.specs.Prelude.{ℕ, ◌+◌, ◌-◌, Bool, true, false, cond, not, nat_eq, nat_lt, ◌&&◌, ◌||◌, min, List, [], ◌∷◌, ◌++◌, length, map, Option, Some, None, slice_get}
 use Rattle.fuxi_terms.specs.Lists.{numbers_from}
 
 -- a role and a number. Role 1 is the master, whose number is 0; role 2 an agent, by its machine; role 3 an application, by its job

@@ -37,10 +37,17 @@ grants_at net a place = at_index nothing (net.histories (party master_id place.0
 abbrev pub units_total_at : List KnownJob → ℕ → ℕ → (ℕ → ℕ) → ℕ → ℕ
 units_total_at jobs a units number i = sum_by (λ u. number u * size_at jobs a u i) (below units)
 
--- no grant counts twice: each held number is at most the count at one place, and 0 without a place; and together they fit the machine
+-- no grant counts twice: each held number is at most the count at one place, and 0 without a place
+pub record HeldOnce (net : Net Ledger) (a : ℕ) (g : App) (m : ℕ) : Type 0 where
+  pub nowhere : place_for net (party (app_id a) g.boot) g m ≡ None → (u : ℕ) → app_held net (party (app_id a) g.boot) g u m ≡ 0
+  pub counts : (place : ℕ × ℕ) → place_for net (party (app_id a) g.boot) g m ≡ Some place → (u : ℕ) → app_held net (party (app_id a) g.boot) g u m ≤ at_key (grants_at net a place) (count_key u m)
+
+abbrev pub AllHeldOnce : World → Type 0
+AllHeldOnce w = (a : ℕ) (g : App) → find nat_cmp a w.apps ≡ Some g → (m : ℕ) → HeldOnce w.net a g m
+
+-- and together they fit the machine
 pub record CountsOnce (w : World) (a : ℕ) (g : App) (m : ℕ) : Type 0 where
-  pub nowhere : place_for w.net (party (app_id a) g.boot) g m ≡ None → (u : ℕ) → app_held w.net (party (app_id a) g.boot) g u m ≡ 0
-  pub counts : (place : ℕ × ℕ) → place_for w.net (party (app_id a) g.boot) g m ≡ Some place → (u : ℕ) → app_held w.net (party (app_id a) g.boot) g u m ≤ at_key (grants_at w.net a place) (count_key u m)
+  pub once : HeldOnce w.net a g m
   pub fits : (i : ℕ) → i < w.cluster.resources → units_total_at w.hard.jobs a g.units (λ u. app_held w.net (party (app_id a) g.boot) g u m) i ≤ has_at w.cluster m i
 
 -- Agreement. What an agent's table says of a unit
@@ -52,6 +59,10 @@ pub record Agrees (w : World) (M : Master) : Type 0 where
   pub agents : (m : ℕ) (g : Agent) → find nat_cmp m w.agents ≡ Some g → (a u : ℕ) → row_count (agent_table w.net (party (agent_id m) g.boot)) a u ≡ held_on M.table a u m
   pub apps : (a : ℕ) (g : App) → find nat_cmp a w.apps ≡ Some g → is_known M.jobs a ≡ true → (u m : ℕ) → has_machine w.cluster m ≡ true
       → app_held w.net (party (app_id a) g.boot) g u m ≡ held_on M.table a u m
+
+-- in a quiet world a running master, the agents and the applications of its jobs agree
+abbrev pub AllAgree : World → Type 0
+AllAgree w = (e : ℕ) (M : Master) → find nat_cmp e w.masters ≡ Some M → is_quiet w e ≡ true → Agrees w M
 
 -- each place names an entry that is there, and where a channel is caught up, the sender's present ledger
 pub record Views (net : Net Ledger) : Type 0 where
@@ -66,5 +77,5 @@ pub record Safe (w : World) : Type 0 where
   pub capacity : (m : ℕ) (g : Agent) → find nat_cmp m w.agents ≡ Some g → RowsFit w.cluster m (agent_table w.net (party (agent_id m) g.boot))
   pub once : (a : ℕ) (g : App) → find nat_cmp a w.apps ≡ Some g → (m : ℕ) → CountsOnce w a g m
   pub views : Views w.net
-  pub agreement : (e : ℕ) (M : Master) → find nat_cmp e w.masters ≡ Some M → is_quiet w e ≡ true → Agrees w M
+  pub agreement : AllAgree w
   pub settled : AllSettled w

@@ -17,7 +17,8 @@ ghost use Rattle.written_world.specs.Ledgers.{Ledger};
 ghost use Rattle.written_world.specs.Sound.{Bounded, Sound, Allowed};
 ghost use Rattle.written_world.specs.World.{empty_world};
 ghost use Rattle.written_world.specs.Good.{Good, shape};
-ghost use Rattle.written_world.specs.Safe.{AllSettled, Views};
+ghost use Rattle.written_world.specs.Shown.{AllShown, AllCredited};
+ghost use Rattle.written_world.specs.Safe.{AllSettled, AllAgree, AllHeldOnce, Views};
 ghost use Rattle.written_world.specs.Events.{Event};
 ghost use Rattle.written_world.specs.Runs.{run};
 
@@ -65,4 +66,31 @@ pub fn all_settled()
 /// there, with heads that are the incarnation of the other side, and heads never fall.
 pub fn moves_keep_nets_sound()
     ensures { (net : Net Ledger) (m : Move Ledger) → Allowed shape net m → Sound shape net → Sound shape (move net m) }
+{}
+
+/// In every state the net is sound: each place, acknowledged index and packet names an entry that is there, made
+/// for the incarnation of the receiver that is meant, and heads never fall. And what a running master would have
+/// each of its peers hold is the last entry that it sent there; the last that an agent or an application sent has
+/// the epoch that it knows.
+pub fn channels_hold()
+    ensures sound { (c : ClusterRecord) (events : List Event) → Sound shape (run c events).net }
+    ensures shown { (c : ClusterRecord) (events : List Event) → AllShown (run c events) }
+{}
+
+/// In every state, where a running master and its peers have nothing left to tell one another, the master, each
+/// agent and each application of a job that it knows have the same numbers of each unit on each machine.
+pub fn agreement()
+    ensures { (c : ClusterRecord) (events : List Event) → AllAgree (run c events) }
+{}
+
+/// In every state no grant counts twice: what an application holds of a unit on a machine is at most the count at
+/// one place in what one master sent it, and nothing where it has no such place.
+pub fn grants_count_once()
+    ensures { (c : ClusterRecord) (events : List Event) → AllHeldOnce (run c events) }
+{}
+
+/// In every state what a running master has credited to an application that has not ended is exactly what is given
+/// back at its place in that application's demands. So no give-back is credited twice under one epoch.
+pub fn credited_is_given_back()
+    ensures { (c : ClusterRecord) (events : List Event) → AllCredited (run c events) }
 {}

@@ -1,0 +1,422 @@
+-- Each event leaves the world standing.
+use Rattle.std.proofs.Common.{◌≡◌, ◌⊎◌, inl, inr, ℕ, zero, suc, ◌+◌, ◌-◌, ◌<◌, ◌≤◌, Bool, true, false, cond, not, nat_eq, nat_lt, List, [], ◌∷◌, ◌++◌, length, map, Option, Some, None, slice_get, refl, sym, ◌∙◌, ap, subst, arith}
+use Rattle.std.specs.Prelude.{◌&&◌, min}
+use Rattle.std.specs.List.{AllByRecursion}
+use Rattle.std.specs.Ordering.{nat_cmp}
+use Rattle.std.specs.FinMap.Entries.{find, where_key, find-where_key}
+use Rattle.std.proofs.lemmas.Bool.Decides.{nat_tests}
+use Rattle.std.proofs.lemmas.Map.Lookups.{exact_unsigned}
+use Rattle.fuxi_terms.specs.declared.Key.{Key}
+use Rattle.fuxi_terms.specs.Cluster.{ClusterRecord, has_rack, greatest_count}
+use Rattle.written_world.specs.Net.{Net, Party, Id, Link, Packet, Heard, Starts, unknown, last, move, same_party, comes, heard_of}
+use Rattle.written_world.specs.Ledgers.{Ledger, nothing, at_key, is_back, greatest_back, greatest_in_demand, report_ledger, want_key, near_key, rack_key, avoid_key, back_key}
+use Rattle.written_world.specs.Channels.{master_id, agent_id, app_id, party, is_master, is_agent, is_app, at_index, present}
+use Rattle.written_world.specs.Jobs.{job_numbers, unit_count, has_group, is_known, is_live, has_ended, has_machine, without_number, below}
+use Rattle.written_world.specs.Masters.{Master}
+use Rattle.written_world.specs.HardState.{HardState, is_full, submit_tests, raised, submitted, finished, banned, unbanned, with_job}
+use Rattle.written_world.specs.Preemption.{plan_of, preempted}
+use Rattle.written_world.specs.Refusals.{Refusal, NotRising, TooManyMasters, Fenced, Known, NoGroup, NoMachine, NoRack, NoUnit, NoJob, Ended, WantRange, NotUsable, BackRange, job_tests, first_refusal}
+use Rattle.written_world.specs.World.{World, Agent, App, Step, empty_world, prints_nothing, refused, with_found, master_party}
+use Rattle.written_world.specs.MasterSteps.{is_there, talks, peers, projection, end_step, master_hears, told, received, adopted_now, adopts, take_report, take_demand, meet_app, is_taken, row, grants}
+use Rattle.written_world.specs.Agents.{joined, agent_table, agent_hears, app_hears, carry, joined_demand}
+use Rattle.written_world.specs.Events.{Event, StartMaster, StopMaster, StartAgent, StartApp, Submit, Finish, Ban, Unban, Begin, Preempt, Want, Near, Rack, Avoid, GiveBack, TurnMaster, TurnAgent, TurnApp, ResyncMaster, ResyncAgent, ResyncApp, Deliver, DeliverRange, Dump, ShowState, at_master, at_agent, at_app, changed_demand, demanded, send_all, turned, turn_to_master, resync_all, addressed, packet_of, deliver_one, deliver_all, given_back, usable_now, most_masters, new_master, ended_in, banned_in, act, counted_in, world_step}
+use Rattle.written_world.specs.Runs.{run_from, run}
+use Rattle.written_world.specs.Sound.{Sound, Current, PacketNames}
+use Rattle.written_world.specs.Good.{shape, HasJoined, IsCredited}
+use Rattle.written_world.specs.Shown.{AllShown, AllCredited}
+use Rattle.written_world.specs.Safe.{AllAgree, AllHeldOnce}
+use Rattle.written_world.proofs.Bounds.{found_within}
+use Rattle.written_world.proofs.Choosing.{either, and_true}
+use Rattle.written_world.proofs.Sounds.{Grows, comes_sound, move_sound}
+use Rattle.written_world.proofs.Start.{sound_at_start, written_at_start}
+use Rattle.written_world.proofs.Steps.{found_has}
+use Rattle.written_world.proofs.Acts.{Acted, same_party_itself, grows_itself, Leaves, leaves_nothing, start_leaves, comes_leaves, send_all_acted, resync_all_acted}
+use Rattle.written_world.proofs.Tabling.{IsTabled, new_tabled, same_tabled, added_tabled, told_tabled, ended_tabled, banned_tabled, preempted_tabled}
+use Rattle.written_world.proofs.Standing.{Standing, Origins, origins_grow, IsShowing, stepped, finish_standing, projection_head}
+use Rattle.written_world.proofs.Writing.{DemandsHold, KnowsMore, knows_itself, changed_follows, published_demands}
+use Rattle.written_world.proofs.Crediting.{credited_view, credited_like, heard_credited}
+use Rattle.written_world.proofs.KnownJobs.{job_added, both_added, added_credited, ended_knows, both_ended, ended_credited}
+use Rattle.written_world.proofs.Agreeing.{agent_agrees, app_agrees}
+use Rattle.written_world.proofs.Carrying.{carry_origins, held_once}
+use Rattle.written_world.proofs.Joining.{joins, joined_written, demands, acted, agent_standing, app_standing, app_put_standing, agent_starts, app_starts}
+
+record Stands (w : World) : Type 0 where
+  it : Standing w
+
+record StepStands (s : Step) : Type 0 where
+  it : Standing s.world
+
+-- A master that heard something has its epoch
+told_jobs : (M : Master) (h : Heard) (from : Id) (l : Ledger) → (told M h from l).jobs ≡ M.jobs
+told_jobs M h from l =
+    let N = meet_app h.fresh M from.number in
+    either (λ (R : Master). R.jobs ≡ M.jobs) (is_agent from) (cond (is_taken h.what) (take_report M from.number l) M) (cond (is_taken h.what) (take_demand N from.number l) N)
+    (λ _. either (λ (R : Master). R.jobs ≡ M.jobs) (is_taken h.what) (take_report M from.number l) M (λ _. reported M from.number l) (λ _. refl))
+    (λ _. either (λ (R : Master). R.jobs ≡ M.jobs) (is_taken h.what) (take_demand N from.number l) N (λ _. demanded_jobs N from.number l ∙ met h.fresh) (λ _. met h.fresh))
+  where
+    reported : (M : Master) (m : ℕ) (l : Ledger) → (take_report M m l).jobs ≡ M.jobs
+    reported M m l = either (λ (R : Master). R.jobs ≡ M.jobs) (adopts M m l) _ M (λ _. refl) (λ _. refl)
+
+    demanded_jobs : (M : Master) (a : ℕ) (d : Ledger) → (take_demand M a d).jobs ≡ M.jobs
+    demanded_jobs M a d = either (λ (R : Master). R.jobs ≡ M.jobs) (nat_eq d.head M.epoch && is_live M.jobs a) _ _ (λ _. refl) (λ _. refl)
+
+    met : (fresh : Bool) → (meet_app fresh M from.number).jobs ≡ M.jobs
+    met true = refl
+    met false = refl
+
+told_epoch : (M : Master) (h : Heard) (from : Id) (l : Ledger) → (told M h from l).epoch ≡ M.epoch
+told_epoch M h from l =
+    let N = meet_app h.fresh M from.number in
+    either (λ (R : Master). R.epoch ≡ M.epoch) (is_agent from) (cond (is_taken h.what) (take_report M from.number l) M) (cond (is_taken h.what) (take_demand N from.number l) N)
+    (λ _. either (λ (R : Master). R.epoch ≡ M.epoch) (is_taken h.what) (take_report M from.number l) M (λ _. reported M from.number l) (λ _. refl))
+    (λ _. either (λ (R : Master). R.epoch ≡ M.epoch) (is_taken h.what) (take_demand N from.number l) N (λ _. demanded_epoch N from.number l ∙ met h.fresh) (λ _. met h.fresh))
+  where
+    reported : (M : Master) (m : ℕ) (l : Ledger) → (take_report M m l).epoch ≡ M.epoch
+    reported M m l = either (λ (R : Master). R.epoch ≡ M.epoch) (adopts M m l) _ M (λ _. refl) (λ _. refl)
+
+    demanded_epoch : (M : Master) (a : ℕ) (d : Ledger) → (take_demand M a d).epoch ≡ M.epoch
+    demanded_epoch M a d = either (λ (R : Master). R.epoch ≡ M.epoch) (nat_eq d.head M.epoch && is_live M.jobs a) _ _ (λ _. refl) (λ _. refl)
+
+    met : (fresh : Bool) → (meet_app fresh M from.number).epoch ≡ M.epoch
+    met true = refl
+    met false = refl
+
+-- A running master that takes a step on the net as it is
+runs : (w : World) (e : ℕ) (M : Master) → Standing w → find nat_cmp e w.masters ≡ Some M → M.epoch ≤ w.hard.fence
+runs w e M h found = let k = h.masters e M found in omega (arith, k.epoch, k.ran)
+
+master_acts : (w : World) (hard : HardState) (e : ℕ) (M N : Master) (forced : List Id) → Standing w → find nat_cmp e w.masters ≡ Some M → w.hard.fence ≤ hard.fence → KnowsMore w.hard.jobs hard.jobs
+    → N.epoch ≡ M.epoch → KnowsMore N.jobs hard.jobs → (IsTabled M → IsTabled N) → (IsCredited w.net M → IsCredited w.net N) → StepStands (prints_nothing (end_step (record w { hard = hard }) w.net N forced))
+master_acts w hard e M N forced h found up more same knows t cr = let k = h.masters e M found in
+    record { it = finish_standing w hard w.ran w.net N forced h up more (omega (arith, same, up, runs w e M h found)) knows (t k.tabled) (cr k.credited) h.sound (leaves_nothing (master_party N) w.net) (grows_itself w.net) }
+
+-- the same where no job changes
+master_changes : (w : World) (hard : HardState) (e : ℕ) (M N : Master) (forced : List Id) → Standing w → find nat_cmp e w.masters ≡ Some M → w.hard.fence ≤ hard.fence → hard.jobs ≡ w.hard.jobs
+    → N.epoch ≡ M.epoch → N.jobs ≡ M.jobs → N.credited ≡ M.credited → (IsTabled M → IsTabled N) → StepStands (prints_nothing (end_step (record w { hard = hard }) w.net N forced))
+master_changes w hard e M N forced h found up jobs same mine credited t =
+    master_acts w hard e M N forced h found up (subst (KnowsMore w.hard.jobs) (sym jobs) (knows_itself w.hard.jobs)) same
+    (subst (KnowsMore N.jobs) (sym jobs) (subst (λ js. KnowsMore js w.hard.jobs) (sym mine) (h.masters e M found).knows)) t (credited_like w.net M N same mine credited)
+
+-- Refusals, and parties that do not run
+checked : (w : World) (o : Option Refusal) (s : Step) → Standing w → (o ≡ None → StepStands s) → StepStands (elim o as (λ _. Step) [ None ↦ s | Some r ↦ refused w r ])
+checked w None s b k = k refl
+checked w (Some r) s b k = record { it = b }
+
+not_refused : (b : Bool) (r : Refusal) (ts : List (Bool × Refusal)) → first_refusal ((b, r) ∷ ts) ≡ None → (b ≡ false) × (first_refusal ts ≡ None)
+not_refused true r ts e = cc
+not_refused false r ts e = (refl, e)
+
+behind : (xs ys : List (Bool × Refusal)) → first_refusal (xs ++ ys) ≡ None → first_refusal ys ≡ None
+behind [] ys e = e
+behind (x ∷ xs) ys e = behind xs ys (not_refused x.0 x.1 (xs ++ ys) e).1
+
+twice : (b : Bool) → not b ≡ false → b ≡ true
+twice true e = refl
+twice false e = cc
+
+rising : {a b : ℕ} → not (nat_lt a b) ≡ false → a < b
+rising {a} {b} t = grind (arith, nat_tests, t)
+
+master_runs : (w : World) (e : ℕ) (f : Master → Step) → Standing w → ((M : Master) → find nat_cmp e w.masters ≡ Some M → StepStands (f M)) → StepStands (at_master w e f)
+master_runs w e f b k = found_has StepStands (find nat_cmp e w.masters) _ f (record { it = b }) k
+
+agent_runs : (w : World) (m : ℕ) (f : Agent → Step) → Standing w → ((g : Agent) → find nat_cmp m w.agents ≡ Some g → StepStands (f g)) → StepStands (at_agent w m f)
+agent_runs w m f b k = found_has StepStands (find nat_cmp m w.agents) _ f (record { it = b }) k
+
+app_runs : (w : World) (a : ℕ) (f : App → Step) → Standing w → ((g : App) → find nat_cmp a w.apps ≡ Some g → StepStands (f g)) → StepStands (at_app w a f)
+app_runs w a f b k = found_has StepStands (find nat_cmp a w.apps) _ f (record { it = b }) k
+
+-- Turns and resyncs of a master
+currents : (net : Net Ledger) (M : Master) (qs : List Id) → AllByRecursion (λ q. present net (master_party M) q ≡ projection net M q) qs → AllByRecursion (λ q. Current shape net (master_party M) q) qs
+currents net M [] h = tt
+currents net M (q ∷ qs) h = (record { head = λ hd some. ap (λ (l : Ledger). l.head) h.0 ∙ projection_head net M q hd }, currents net M qs h.1)
+
+master_acted : (w : World) (e : ℕ) (M : Master) (net' : Net Ledger) → Standing w → find nat_cmp e w.masters ≡ Some M → Acted (master_party M) w.net net' → Standing (record w { net = net' })
+master_acted w e M net' h found a =
+    let k = h.masters e M found in
+    stepped w (record w { net = net' }) (master_party M) h (record {
+      cluster = refl;
+      sound = a.sound;
+      leaves = a.leaves;
+      grows = subst (λ hs. Grows shape w.net.histories hs) (sym a.histories) (grows_itself w.net);
+      fence = omega arith;
+      more = knows_itself w.hard.jobs;
+      boots = λ d. omega arith;
+      own = runs w e M h found;
+      masters = λ e' N f. by e' N f (nat_eq e e') refl;
+      agents = λ m g f. inl (refl, f);
+      apps = λ b g f. inl (refl, f);
+      machines = h.machines;
+      origins = λ b g f. inl f;
+      written = λ b n. inl refl;
+    })
+  where
+    shows : (qs : List Id) → AllByRecursion (λ q. present w.net (master_party M) q ≡ projection w.net M q) qs → AllByRecursion (λ q. present net' (master_party M) q ≡ projection net' M q) qs
+    shows [] s = tt
+    shows (q ∷ qs) s = (
+      ap (λ (hs : Party → Id → List Ledger). at_index nothing (hs (master_party M) q) (length (hs (master_party M) q))) a.histories ∙ s.0 ∙ ap (λ n. cond (is_agent q) (row M q.number) (grants M n q.number)) (sym (a.known q)),
+      shows qs s.1,
+    )
+
+    by : (e' : ℕ) (N : Master) → find nat_cmp e' w.masters ≡ Some N → (b : Bool) → nat_eq e e' ≡ b → ((same_party (master_party M) (party master_id e') ≡ false) × (find nat_cmp e' w.masters ≡ Some N)) ⊎ IsShowing w.cluster w.hard net' e' N
+    by e' N f false t = inl (ap (λ n. nat_eq n e') (h.masters e M found).epoch ∙ t, f)
+    by e' N f true t =
+        let same : e ≡ e' = grind (arith, nat_tests, t) in
+        let some : Some M ≡ Some N = sym found ∙ ap (λ n. find nat_cmp n w.masters) same ∙ f in
+        let one : M ≡ N = cc in
+        let k = h.masters e M found in
+        inr (subst (λ (R : Master). IsShowing w.cluster w.hard net' e' R) one (record {
+          epoch = k.epoch ∙ same;
+          ran = omega (arith, same, k.ran);
+          knows = k.knows;
+          tabled = k.tabled;
+          waits = k.waits;
+          credited = credited_view w.net net' M (λ b i. at_index nothing (a.histories i (party (app_id b) (a.known (app_id b) i)) master_id) (a.seq (app_id b) i)) (λ b. a.seq (app_id b)) k.credited;
+          shows = shows (peers w.cluster M) k.shows;
+        }))
+
+-- of an agent or an application
+current_of : (net : Net Ledger) (p : Party) → HasJoined net p → AllByRecursion (λ q. Current shape net p q) (master_id ∷ [])
+current_of net p h = (record { head = λ hd some. h.head }, tt)
+
+agent_turns : (w : World) (m : ℕ) (g : Agent) → Standing w → find nat_cmp m w.agents ≡ Some g → StepStands (turn_to_master w (party (agent_id m) g.boot))
+agent_turns w m g h found =
+    let p = party (agent_id m) g.boot in
+    let j = (h.agents m g found).joined in
+    either StepStands (nat_eq (w.net.links p master_id).known 0) (prints_nothing w) (turned w p (master_id ∷ [])) (λ _. record { it = h })
+    (λ _. record { it = agent_standing w m g (send_all w.net p (master_id ∷ [])) h found (acted w.net (send_all w.net p (master_id ∷ [])) p (send_all_acted w.net p (master_id ∷ []) (current_of w.net p j) h.sound) j) })
+
+same_demands : (w : World) (a : ℕ) (g : App) (hs : Party → Id → List Ledger) → Standing w → hs ≡ w.net.histories → DemandsHold w.cluster (unit_count w.hard.jobs a) (hs (party (app_id a) g.boot) master_id)
+same_demands w a g hs h same = subst (λ (hs : Party → Id → List Ledger). DemandsHold w.cluster (unit_count w.hard.jobs a) (hs (party (app_id a) g.boot) master_id)) (sym same) (h.written a g.boot)
+
+app_turns : (w : World) (a : ℕ) (g : App) → Standing w → find nat_cmp a w.apps ≡ Some g → StepStands (turn_to_master w (party (app_id a) g.boot))
+app_turns w a g h found =
+    let p = party (app_id a) g.boot in
+    let j = (h.apps a g found).joined in
+    either StepStands (nat_eq (w.net.links p master_id).known 0) (prints_nothing w) (turned w p (master_id ∷ [])) (λ _. record { it = h })
+    (λ _. let r = send_all_acted w.net p (master_id ∷ []) (current_of w.net p j) h.sound in record { it = app_standing w a g (send_all w.net p (master_id ∷ [])) h found (acted w.net (send_all w.net p (master_id ∷ [])) p r j) (same_demands w a g _ h r.histories) })
+
+demanded_stands : (w : World) (a : ℕ) (g : App) (k : Key) (n : ℕ) → Standing w → find nat_cmp a w.apps ≡ Some g → n ≤ greatest_in_demand k → is_there w.cluster g.units k ≡ true
+    → (is_back k ≡ true → at_key (present w.net (party (app_id a) g.boot) master_id) k ≤ n) → StepStands (demanded w a g k n)
+demanded_stands w a g k n h found le there rises =
+    let p = party (app_id a) g.boot in
+    let d = h.written a g.boot in
+    let u = subst (λ i. is_there w.cluster i k ≡ true) (h.units a g found).units there in
+    record {
+      it = app_standing w a g _ h found (demands w.net p (changed_demand (present w.net p master_id) k n) refl h.sound (h.apps a g found).joined)
+          (published_demands w.cluster (unit_count w.hard.jobs a) w.net p (changed_demand (present w.net p master_id) k n)
+          (changed_follows w.cluster (unit_count w.hard.jobs a) (present w.net p master_id) k n le u rises (d.tidy (last w.net p master_id)) (d.ranged (last w.net p master_id))) d);
+    }
+
+-- Deliveries
+master_hears_stands : (w : World) (e which : ℕ) (M : Master) (x : Packet) → Standing w → find nat_cmp e w.masters ≡ Some M → slice_get w.net.packets which ≡ Some x → Stands (master_hears w M x)
+master_hears_stands w e which M x h found sent =
+    let hd = heard_of w.net (master_party M) (talks w.cluster M) x in
+    let l = received w.cluster M w.net x in
+    let n = comes w.net (master_party M) (talks w.cluster M) (Some x) in
+    let N = told M hd x.from.id l in
+    let same : N.epoch ≡ M.epoch = told_epoch M hd x.from.id l in
+    let k = h.masters e M found in
+    either Stands (talks w.cluster M x.from.id) (end_step w n N (adopted_now M hd x.from.id l)) w
+    (λ t. record {
+      it = finish_standing w w.hard w.ran n N (adopted_now M hd x.from.id l) h (omega arith) (knows_itself w.hard.jobs) (omega (arith, same, runs w e M h found)) (subst (λ js. KnowsMore js w.hard.jobs) (sym (told_jobs M hd x.from.id l)) k.knows) (told_tabled M hd x.from.id l k.tabled)
+          (heard_credited w.cluster w.hard.jobs w.net M x h.sound (found_within (λ y. PacketNames shape w.net.histories y.kind y) w.net.packets which x h.sound.packets sent) k.credited t k.knows h.written)
+          (comes_sound shape w.net (master_party M) (talks w.cluster M) (Some x) (λ y t. found_within (λ y. PacketNames shape w.net.histories y.kind y) w.net.packets which y h.sound.packets (sent ∙ t)) h.sound)
+          (subst (λ b. Leaves (party master_id b) w.net n) (sym same) (comes_leaves w.net (master_party M) (talks w.cluster M) x)) (grows_itself w.net);
+    })
+    (λ _. record { it = h })
+
+agent_hears_stands : (w : World) (m which : ℕ) (g : Agent) (x : Packet) → Standing w → find nat_cmp m w.agents ≡ Some g → slice_get w.net.packets which ≡ Some x → Stands (agent_hears w m g x)
+agent_hears_stands w m which g x h found sent = let p = party (agent_id m) g.boot in
+    record { it = agent_standing w m g _ h found (joins w.net p which x (report_ledger x.from.inc (agent_table w.net p)) sent refl h.sound (h.agents m g found).joined) }
+
+app_hears_stands : (w : World) (a which : ℕ) (g : App) (x : Packet) → Standing w → find nat_cmp a w.apps ≡ Some g → slice_get w.net.packets which ≡ Some x → Stands (app_hears w a g x)
+app_hears_stands w a which g x h found sent =
+    let p = party (app_id a) g.boot in
+    let fresh = (heard_of w.net p is_master x).fresh in
+    let carried = carry w.net p g.units (below (length w.cluster.machines)) g.carried in
+    let j = joins w.net p which x (joined_demand x.from.inc (present w.net p master_id)) sent refl h.sound (h.apps a g found).joined in
+    let o : Origins w.net a (cond fresh carried g.carried) = either (Origins w.net a) fresh carried g.carried (λ _. carry_origins w.net a g.boot g.units (below (length w.cluster.machines)) g.carried h.sound (h.origins a g found)) (λ _. h.origins a g found) in
+    record {
+      it = app_put_standing w a g (record g { carried = cond fresh carried g.carried }) _ refl h found j (origins_grow w.net (joined w.net p x (joined_demand x.from.inc (present w.net p master_id))) a (cond fresh carried g.carried) j.grows o)
+          (let u = h.units a g found in record { known = u.known; units = u.units }) (joined_written w.cluster (unit_count w.hard.jobs a) w.net p x (h.apps a g found).joined (h.written a g.boot));
+    }
+
+addressed_stands : (w : World) (which : ℕ) (x : Packet) → Standing w → slice_get w.net.packets which ≡ Some x → Stands (addressed w x)
+addressed_stands w which x h sent =
+    let same : Stands w = record { it = h } in
+    let to_master = with_found (find nat_cmp x.to.inc w.masters) w (λ M. master_hears w M x) in
+    let to_agent = with_found (find nat_cmp x.to.id.number w.agents) w (λ g. agent_hears w x.to.id.number g x) in
+    let to_app = with_found (find nat_cmp x.to.id.number w.apps) w (λ g. app_hears w x.to.id.number g x) in
+    let master : Stands to_master = found_has Stands (find nat_cmp x.to.inc w.masters) w (λ M. master_hears w M x) same (λ M e. master_hears_stands w x.to.inc which M x h e sent) in
+    let agent : Stands to_agent = found_has Stands (find nat_cmp x.to.id.number w.agents) w (λ g. agent_hears w x.to.id.number g x) same (λ g e. agent_hears_stands w x.to.id.number which g x h e sent) in
+    let app : Stands to_app = found_has Stands (find nat_cmp x.to.id.number w.apps) w (λ g. app_hears w x.to.id.number g x) same (λ g e. app_hears_stands w x.to.id.number which g x h e sent) in
+    either Stands (is_master x.to.id) to_master (cond (is_agent x.to.id) to_agent (cond (is_app x.to.id) to_app w)) (λ _. master)
+    (λ _. either Stands (is_agent x.to.id) to_agent (cond (is_app x.to.id) to_app w) (λ _. agent)
+    (λ _. either Stands (is_app x.to.id) to_app w (λ _. app) (λ _. same)))
+
+deliver_stands : (k : ℕ) (w : World) → Standing w → StepStands (deliver_one k w)
+deliver_stands k w h = found_has StepStands (packet_of w k) _ _ (record { it = h }) (λ x e. record { it = (addressed_stands w (k - 1) x h e).it })
+
+deliver_all_stands : (n k : ℕ) (w : World) → Standing w → StepStands (deliver_all n k w)
+deliver_all_stands zero k w h = record { it = h }
+deliver_all_stands (suc n) k w h = record { it = (deliver_all_stands n (k + 1) (deliver_one k w).world (deliver_stands k w h).it).it }
+
+-- Starts and stops
+new_stands : (w : World) (e : ℕ) → Standing w → w.hard.fence < e
+    → StepStands (prints_nothing (end_step (record w { hard = raised w.hard e; ran = w.ran ++ party master_id e ∷ [] }) (move w.net (Starts (party master_id e))) (new_master w e) (map app_id (job_numbers w.hard.jobs))))
+new_stands w e h lt = record {
+  it = finish_standing w (raised w.hard e) (w.ran ++ party master_id e ∷ []) (move w.net (Starts (party master_id e))) (new_master w e) (map app_id (job_numbers w.hard.jobs)) h (omega (arith, lt)) (knows_itself w.hard.jobs) (omega arith) (knows_itself w.hard.jobs) (new_tabled (new_master w e) refl refl refl) credited
+      (move_sound shape w.net (Starts (party master_id e)) refl (λ q. h.unstarted (party master_id e) q lt) h.sound) (start_leaves w.net (party master_id e)) (grows_itself w.net);
+}
+  where
+    link : (a : ℕ) → (move w.net (Starts (party master_id e))).links (party master_id e) (app_id a) ≡ unknown
+    link a = ap (λ b. elim b as (λ _. Link) [ true ↦ unknown | false ↦ w.net.links (party master_id e) (app_id a) ]) (same_party_itself (party master_id e))
+
+    credited : IsCredited (move w.net (Starts (party master_id e))) (new_master w e)
+    credited = record {
+      credits = λ a alive u m. sym (ap (λ (l : Link). at_key (at_index nothing (w.net.histories (party (app_id a) l.known) master_id) l.seq) (back_key u m)) (link a));
+      stranger = λ a none. ap (λ (l : Link). l.seq) (link a);
+      uncredited = λ a none. refl;
+    }
+
+stopped_stands : (w : World) (e : ℕ) → Standing w → Standing (record w { masters = where_key nat_cmp (λ k. not (nat_eq k e)) w.masters })
+stopped_stands w e h = record {
+  sound = h.sound;
+  unstarted = h.unstarted;
+  masters = λ q M found. h.masters q M (kept (not (nat_eq q e)) (find nat_cmp q w.masters) M (sym (find-where_key nat_cmp (λ k. not (nat_eq k e)) q (λ x t. ap (λ k. not (nat_eq k e)) (sym (exact_unsigned q x t))) w.masters) ∙ found));
+  agents = h.agents;
+  apps = h.apps;
+  machines = h.machines;
+  origins = h.origins;
+  units = h.units;
+  written = h.written;
+}
+  where
+    kept : (b : Bool) (o : Option Master) (M : Master) → cond b o None ≡ Some M → o ≡ Some M
+    kept true o M f = f
+    kept false o M f = cc
+
+-- What applications ask for, and give back
+unit_there : (w : World) (g : App) (u : ℕ) (rest : Bool) → nat_lt u g.units ≡ true → rest ≡ true → (nat_lt u g.units && rest) ≡ true
+unit_there w g u rest e f = and_true (nat_lt u g.units) rest e f
+
+within : {a b : ℕ} → nat_lt a b ≡ false → b ≤ a
+within {a} {b} t = grind (arith, nat_tests, t)
+
+want_stands : (w : World) (a u n : ℕ) → Standing w → StepStands (act w (Want a u n))
+want_stands w a u n h = app_runs w a _ h (λ g f. checked w _ _ h (λ t.
+    let range = nat_lt greatest_count n in
+    let x = not_refused (not (nat_lt u g.units)) NoUnit ((range, WantRange greatest_count) ∷ []) t in
+    let y = not_refused range (WantRange greatest_count) [] x.1 in
+    demanded_stands w a g (want_key u) n h f (within y.0) (unit_there w g u true (twice (nat_lt u g.units) x.0) refl) (λ e. cc)))
+
+near_stands : (w : World) (a u m n : ℕ) → Standing w → StepStands (act w (Near a u m n))
+near_stands w a u m n h = app_runs w a _ h (λ g f. checked w _ _ h (λ t.
+    let range = nat_lt greatest_count n in
+    let machine = not (has_machine w.cluster m) in
+    let x = not_refused (not (nat_lt u g.units)) NoUnit ((machine, NoMachine) ∷ (range, WantRange greatest_count) ∷ []) t in
+    let y = not_refused machine NoMachine ((range, WantRange greatest_count) ∷ []) x.1 in
+    let z = not_refused range (WantRange greatest_count) [] y.1 in
+    demanded_stands w a g (near_key u m) n h f (within z.0) (unit_there w g u (has_machine w.cluster m) (twice (nat_lt u g.units) x.0) (twice (has_machine w.cluster m) y.0)) (λ e. cc)))
+
+rack_stands : (w : World) (a u r n : ℕ) → Standing w → StepStands (act w (Rack a u r n))
+rack_stands w a u r n h = app_runs w a _ h (λ g f. checked w _ _ h (λ t.
+    let range = nat_lt greatest_count n in
+    let there = not (has_rack w.cluster r) in
+    let x = not_refused (not (nat_lt u g.units)) NoUnit ((there, NoRack) ∷ (range, WantRange greatest_count) ∷ []) t in
+    let y = not_refused there NoRack ((range, WantRange greatest_count) ∷ []) x.1 in
+    let z = not_refused range (WantRange greatest_count) [] y.1 in
+    demanded_stands w a g (rack_key u r) n h f (within z.0) (unit_there w g u (has_rack w.cluster r) (twice (nat_lt u g.units) x.0) (twice (has_rack w.cluster r) y.0)) (λ e. cc)))
+
+avoid_stands : (w : World) (a u m on : ℕ) → Standing w → StepStands (act w (Avoid a u m on))
+avoid_stands w a u m on h = app_runs w a _ h (λ g f. checked w _ _ h (λ t.
+    let machine = not (has_machine w.cluster m) in
+    let x = not_refused (not (nat_lt u g.units)) NoUnit ((machine, NoMachine) ∷ []) t in
+    let y = not_refused machine NoMachine [] x.1 in
+    demanded_stands w a g (avoid_key u m) (min on 1) h f (omega arith) (unit_there w g u (has_machine w.cluster m) (twice (nat_lt u g.units) x.0) (twice (has_machine w.cluster m) y.0)) (λ e. cc)))
+
+give_back_stands : (w : World) (a u m n : ℕ) → Standing w → StepStands (act w (GiveBack a u m n))
+give_back_stands w a u m n h = app_runs w a _ h (λ g f. checked w _ _ h (λ t.
+    let machine = not (has_machine w.cluster m) in
+    let usable = nat_lt (usable_now w a g u m) n in
+    let range = nat_lt greatest_back (given_back w a g u m + n) in
+    let x = not_refused (not (nat_lt u g.units)) NoUnit ((machine, NoMachine) ∷ (usable, NotUsable (usable_now w a g u m)) ∷ (range, BackRange) ∷ []) t in
+    let y = not_refused machine NoMachine ((usable, NotUsable (usable_now w a g u m)) ∷ (range, BackRange) ∷ []) x.1 in
+    let z = not_refused range BackRange [] (not_refused usable (NotUsable (usable_now w a g u m)) ((range, BackRange) ∷ []) y.1).1 in
+    demanded_stands w a g (back_key u m) (given_back w a g u m + n) h f (within z.0) (unit_there w g u (has_machine w.cluster m) (twice (nat_lt u g.units) x.0) (twice (has_machine w.cluster m) y.0)) (λ _. omega arith)))
+
+-- Each event
+act_stands : (w : World) (e : Event) → Standing w → StepStands (act w e)
+act_stands w (StartMaster e) h = checked w _ _ h (λ n. new_stands w e h (rising (not_refused (not (nat_lt w.hard.fence e)) (NotRising w.hard.fence) ((not (nat_lt (length w.masters) most_masters), TooManyMasters most_masters) ∷ is_full w.hard ∷ []) n).0))
+act_stands w (StopMaster e) h = master_runs w e _ h (λ M f. record { it = stopped_stands w e h })
+act_stands w (StartAgent m b) h = checked w _ _ h (λ n.
+    let rest = not (nat_lt (w.boots (agent_id m)) b) in
+    let first = not_refused (not (has_machine w.cluster m)) NoMachine ((rest, NotRising (w.boots (agent_id m))) ∷ []) n in
+    record { it = agent_starts w (w.ran ++ party (agent_id m) b ∷ []) m b h (twice (has_machine w.cluster m) first.0) (rising (not_refused rest (NotRising (w.boots (agent_id m))) [] first.1).0) })
+act_stands w (StartApp a b) h = checked w _ _ h (λ n.
+    let last : Bool × Refusal = (not (nat_lt (w.boots (app_id a)) b), NotRising (w.boots (app_id a))) in
+    let x = not_refused (not (is_known w.hard.jobs a)) NoJob ((has_ended w.hard.jobs a, Ended) ∷ last ∷ []) n in
+    let y = not_refused (has_ended w.hard.jobs a) Ended (last ∷ []) x.1 in
+    let z = not_refused last.0 last.1 [] y.1 in
+    record { it = app_starts w (w.ran ++ party (app_id a) b ∷ []) a b _ refl h (rising z.0) (record { has = λ m r none. cc }) (record { known = twice (is_known w.hard.jobs a) x.0; units = refl }) })
+act_stands w (Submit e j) h = master_runs w e _ h (λ M f. checked w _ _ h (λ n.
+    let k = h.masters e M f in
+    let tests = behind (job_tests w.cluster.resources j) (submit_tests w.hard e j) (not_refused (not (has_group w.cluster j.group)) NoGroup (job_tests w.cluster.resources j ++ submit_tests w.hard e j) n).1 in
+    let new : is_known w.hard.jobs j.number ≡ false = (not_refused (is_known w.hard.jobs j.number) Known (is_full w.hard ∷ []) (not_refused (nat_lt e w.hard.fence) (Fenced w.hard.fence) ((is_known w.hard.jobs j.number, Known) ∷ is_full w.hard ∷ []) tests).1).0 in
+    master_acts w (submitted w.hard j) e M (record M { jobs = with_job j M.jobs }) (app_id j.number ∷ []) h f (omega arith) (job_added w.hard.jobs j) refl (both_added M.jobs w.hard.jobs j new k.knows) (added_tabled M j) (added_credited w.net M j)))
+act_stands w (Finish e a) h = master_runs w e _ h (λ M f. checked w _ _ h (λ _. master_acts w (finished w.hard a) e M (ended_in M a) [] h f (omega arith) (ended_knows a w.hard.jobs w.hard.jobs (knows_itself w.hard.jobs)) refl (both_ended a M.jobs w.hard.jobs (h.masters e M f).knows) (ended_tabled M a) (ended_credited w.net M a)))
+act_stands w (Ban e m) h = master_runs w e _ h (λ M f. checked w _ _ h (λ _. master_changes w (banned w.hard m) e M (banned_in M m) [] h f (omega arith) refl refl refl refl (banned_tabled M m)))
+act_stands w (Unban e m) h = master_runs w e _ h (λ M f. checked w _ _ h (λ _. master_changes w (unbanned w.hard m) e M (record M { bans = without_number m M.bans }) [] h f (omega arith) refl refl refl refl (same_tabled M (record M { bans = without_number m M.bans }) refl refl refl refl)))
+act_stands w (Begin e) h = master_runs w e _ h (λ M f. checked w _ _ h (λ _. master_changes w w.hard e M (record M { serving = true }) [] h f (omega arith) refl refl refl refl (same_tabled M (record M { serving = true }) refl refl refl refl)))
+act_stands w (Preempt e) h = master_runs w e _ h (λ M f. checked w _ _ h (λ _. found_has StepStands (plan_of w.cluster M) _ _ (record { it = h }) (λ p planned. master_changes w w.hard e M (preempted M p) [] h f (omega arith) refl refl refl refl (preempted_tabled w.cluster M p planned (h.masters e M f).waits))))
+act_stands w (Want a u n) h = want_stands w a u n h
+act_stands w (Near a u m n) h = near_stands w a u m n h
+act_stands w (Rack a u r n) h = rack_stands w a u r n h
+act_stands w (Avoid a u m on) h = avoid_stands w a u m on h
+act_stands w (GiveBack a u m n) h = give_back_stands w a u m n h
+act_stands w (TurnMaster e) h = master_runs w e _ h (λ M f. record { it = master_acted w e M _ h f (send_all_acted w.net (master_party M) (peers w.cluster M) (currents w.net M (peers w.cluster M) (h.masters e M f).shows) h.sound) })
+act_stands w (TurnAgent m) h = agent_runs w m _ h (λ g f. agent_turns w m g h f)
+act_stands w (TurnApp a) h = app_runs w a _ h (λ g f. app_turns w a g h f)
+act_stands w (ResyncMaster e) h = master_runs w e _ h (λ M f. record { it = master_acted w e M _ h f (resync_all_acted w.net (master_party M) (peers w.cluster M) h.sound) })
+act_stands w (ResyncAgent m) h = agent_runs w m _ h (λ g f. let p = party (agent_id m) g.boot in record { it = agent_standing w m g _ h f (acted w.net (resync_all w.net p (master_id ∷ [])) p (resync_all_acted w.net p (master_id ∷ []) h.sound) (h.agents m g f).joined) })
+act_stands w (ResyncApp a) h = app_runs w a _ h (λ g f. let p = party (app_id a) g.boot in record { it = app_standing w a g _ h f (acted w.net (resync_all w.net p (master_id ∷ [])) p (resync_all_acted w.net p (master_id ∷ []) h.sound) (h.apps a g f).joined) (same_demands w a g _ h (resync_all_acted w.net p (master_id ∷ []) h.sound).histories) })
+act_stands w (Deliver k) h = checked w _ _ h (λ _. deliver_stands k w h)
+act_stands w (DeliverRange k l) h = checked w _ _ h (λ _. deliver_all_stands (l + 1 - k) k w h)
+act_stands w (Dump k) h = checked w _ _ h (λ _. found_has StepStands (packet_of w k) _ _ (record { it = h }) (λ x _. record { it = h }))
+act_stands w ShowState h = record { it = h }
+
+counted_stands : (w : World) → Standing w → Standing (counted_in w)
+counted_stands w h = record { sound = h.sound; unstarted = h.unstarted; masters = h.masters; agents = h.agents; apps = h.apps; machines = h.machines; origins = h.origins; units = h.units; written = h.written }
+
+run_stands : (es : List Event) (w : World) → Standing w → Stands (run_from es w).world
+run_stands [] w h = record { it = h }
+run_stands (e ∷ es) w h = record { it = (run_stands es (world_step w e).world (act_stands (counted_in w) e (counted_stands w h)).it).it }
+
+at_start : (c : ClusterRecord) → Standing (empty_world c)
+at_start c = record { sound = sound_at_start; unstarted = λ p q above. refl; masters = λ e M found. cc; agents = λ m g found. cc; apps = λ a g found. cc; machines = λ m g found. cc; origins = λ a g found. cc; units = λ a g found. cc; written = λ a b. let t = written_at_start c in record { backs = t.backs a b; tidy = t.tidy a b; ranged = t.ranged a b } }
+
+always : (c : ClusterRecord) (es : List Event) → Standing (run c es)
+always c es = (run_stands es (empty_world c) (at_start c)).it
+
+pub always_sound : (c : ClusterRecord) (es : List Event) → Sound shape (run c es).net
+always_sound c es = (always c es).sound
+
+pub always_shown : (c : ClusterRecord) (es : List Event) → AllShown (run c es)
+always_shown c es = let h = always c es in record {
+  masters = λ e M found. (h.masters e M found).shows;
+  agents = λ m g found. (h.agents m g found).joined;
+  apps = λ a g found. (h.apps a g found).joined;
+}
+
+pub always_credited : (c : ClusterRecord) (es : List Event) → AllCredited (run c es)
+always_credited c es e M found = ((always c es).masters e M found).credited
+
+pub always_once : (c : ClusterRecord) (es : List Event) → AllHeldOnce (run c es)
+always_once c es a g found m = held_once (run c es).net a g m ((always c es).origins a g found)
+
+pub always_agree : (c : ClusterRecord) (es : List Event) → AllAgree (run c es)
+always_agree c es e M found quiet = let h = always c es in record {
+  agents = λ m g runs a u. agent_agrees (run c es) e M m g h found quiet runs a u;
+  apps = λ a g runs known u m there. app_agrees (run c es) e M a g h found quiet runs known u m there;
+}

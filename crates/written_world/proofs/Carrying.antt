@@ -1,0 +1,126 @@
+-- What an application carries has an origin, and what it holds is counted at one place.
+use Rattle.std.proofs.Common.{◌≡◌, ℕ, ◌⊎◌, inl, inr, zero, suc, ◌≤◌, Bool, true, false, cond, nat_eq, List, [], ◌∷◌, ◌++◌, length, length-append, map, Option, Some, None, slice_get, refl, sym, ◌∙◌, ap, subst, arith}
+use Rattle.std.specs.Option.{option_map, unwrap_or}
+use Rattle.std.specs.Ordering.{nat_cmp}
+use Rattle.std.specs.FinMap.Entries.{find, put}
+use Rattle.std.proofs.lemmas.List.{map-append}
+use Rattle.fuxi_terms.specs.Vectors.{at_place}
+use Rattle.written_world.specs.Net.{Net, Party, Link}
+use Rattle.written_world.specs.Ledgers.{Ledger, nothing, at_key, count_key}
+use Rattle.written_world.specs.Channels.{master_id, app_id, party, at_index, view}
+use Rattle.written_world.specs.Jobs.{below}
+use Rattle.written_world.specs.World.{App, Carried}
+use Rattle.written_world.specs.Agents.{names, usable, carry_one, carry, app_held}
+use Rattle.written_world.specs.Sound.{Sound}
+use Rattle.written_world.specs.Good.{shape, HasOrigin}
+use Rattle.written_world.specs.Safe.{grants_at, HeldOnce}
+use Rattle.written_world.proofs.Choosing.{either}
+use Rattle.written_world.proofs.Standing.{Origins, put_found}
+
+-- a ledger that names a machine is not the one at index 0
+named_first : (h : List Ledger) (n m : ℕ) → names (at_index nothing h n) m ≡ true → 1 ≤ n
+named_first h zero m e = cc
+named_first h (suc n) m e = omega arith
+
+usable_within : (net : Net Ledger) (p : Party) (u m : ℕ) → usable net p u m ≤ at_key (view net p master_id) (count_key u m)
+usable_within net p u m = omega arith
+
+-- a value for each number below n
+length-below : (n : ℕ) → length (below n) ≡ n
+length-below zero = refl
+length-below (suc n) = let e = length-append (below n) (n ∷ []) in omega (arith, e, length-below n)
+
+got_append : {A : Type 0} (xs : List A) (y : A) (i : ℕ) (x : A) → slice_get (xs ++ y ∷ []) i ≡ Some x → (slice_get xs i ≡ Some x) ⊎ ((i ≡ length xs) × (y ≡ x))
+got_append [] y zero x e = inr (refl, cc)
+got_append [] y (suc i) x e = cc
+got_append (z ∷ xs) y zero x e = inl e
+got_append (z ∷ xs) y (suc i) x e = by (got_append xs y i x e)
+  where
+    by : (slice_get xs i ≡ Some x) ⊎ ((i ≡ length xs) × (y ≡ x)) → (slice_get xs i ≡ Some x) ⊎ ((suc i ≡ suc (length xs)) × (y ≡ x))
+    by (inl k) = inl k
+    by (inr k) = inr (ap suc k.0, k.1)
+
+got_below : (f : ℕ → ℕ) (n u x : ℕ) → slice_get (map f (below n)) u ≡ Some x → f u ≡ x
+got_below f zero u x e = cc
+got_below f (suc n) u x e = by (λ k. got_below f n u x k) (got_append (map f (below n)) (f n) u x (subst (λ xs. slice_get xs u ≡ Some x) (map-append f (below n) (n ∷ [])) e))
+  where
+    long : (xs : List ℕ) → length (map f xs) ≡ length xs
+    long [] = refl
+    long (y ∷ xs) = ap suc (long xs)
+
+    by : (slice_get (map f (below n)) u ≡ Some x → f u ≡ x) → (slice_get (map f (below n)) u ≡ Some x) ⊎ ((u ≡ length (map f (below n))) × (f n ≡ x)) → f u ≡ x
+    by before (inl k) = before k
+    by before (inr k) = ap f (k.0 ∙ long (below n) ∙ length-below n) ∙ k.1
+
+-- where its view names a machine, what an application held there is carried with the place of the view
+pub carry_origins : (net : Net Ledger) (a b units : ℕ) (ms : List ℕ) (carried : List (ℕ × Carried)) → Sound shape net → Origins net a carried → Origins net a (carry net (party (app_id a) b) units ms carried)
+carry_origins net a b units [] carried s h = h
+carry_origins net a b units (m ∷ ms) carried s h =
+    let p = party (app_id a) b in
+    let r = carry_one net p units m in
+    carry_origins net a b units ms (cond (names (view net p master_id) m) (put nat_cmp m r carried) carried) s
+    (either (Origins net a) (names (view net p master_id) m) (put nat_cmp m r carried) carried (λ e. record { has = λ k x f. by_put e k x (put_found k m r x carried f) }) (λ _. h))
+  where
+    here : names (view net (party (app_id a) b) master_id) m ≡ true → HasOrigin net a m (carry_one net (party (app_id a) b) units m)
+    here e = let l = net.links (party (app_id a) b) master_id in record {
+      first = named_first (net.histories (party master_id l.known) (app_id a)) l.seq m e;
+      there = (s.links (party (app_id a) b) master_id).place.there;
+      counts = λ u held got. let is = got_below (λ u. usable net (party (app_id a) b) u m) units u held got in omega (arith, is, usable_within net (party (app_id a) b) u m);
+    }
+
+    by_put : names (view net (party (app_id a) b) master_id) m ≡ true → (k : ℕ) (x : Carried) → ((nat_eq m k ≡ false) × (find nat_cmp k carried ≡ Some x)) ⊎ ((k ≡ m) × (carry_one net (party (app_id a) b) units m ≡ x)) → HasOrigin net a k x
+    by_put e k x (inl o) = h.has k x o.1
+    by_put e k x (inr n) = subst (λ i. HasOrigin net a i x) (sym n.0) (subst (HasOrigin net a m) n.1 (here e))
+
+-- no grant counts twice
+pub held_once : (net : Net Ledger) (a : ℕ) (g : App) (m : ℕ) → Origins net a g.carried → HeldOnce net a g m
+held_once net a g m h = by_name (names (view net p master_id) m) refl
+  where
+    p : Party
+    p = party (app_id a) g.boot
+
+    l : Link
+    l = net.links p master_id
+
+    origin : Carried → ℕ × ℕ
+    origin r = (r.inc, r.seq)
+
+    here : ℕ × ℕ
+    here = (l.known, l.seq)
+
+    place_by : Bool → Option Carried → Option (ℕ × ℕ)
+    place_by b o = cond b (Some here) (option_map origin o)
+
+    held_by : Bool → Option Carried → ℕ → ℕ
+    held_by b o u = cond b (usable net p u m) (elim o as (λ _. ℕ) [ None ↦ 0 | Some r ↦ at_place r.held u ])
+
+    by_carried : (o : Option Carried) → find nat_cmp m g.carried ≡ o → (place : ℕ × ℕ) → option_map origin o ≡ Some place → (u : ℕ) → (elim o as (λ _. ℕ) [ None ↦ 0 | Some r ↦ at_place r.held u ]) ≤ at_key (grants_at net a place) (count_key u m)
+    by_carried None f place e u = cc
+    by_carried (Some r) f place e u =
+        let same : origin r ≡ place = cc in
+        subst (λ (q : ℕ × ℕ). at_place r.held u ≤ at_key (grants_at net a q) (count_key u m)) same (at (slice_get r.held u) refl)
+      where
+        at : (o : Option ℕ) → slice_get r.held u ≡ o → unwrap_or o 0 ≤ at_key (grants_at net a (r.inc, r.seq)) (count_key u m)
+        at None t = omega arith
+        at (Some held) t = (h.has m r f).counts u held t
+
+    none_carried : (o : Option Carried) → option_map origin o ≡ None → (u : ℕ) → (elim o as (λ _. ℕ) [ None ↦ 0 | Some r ↦ at_place r.held u ]) ≡ 0
+    none_carried None e u = refl
+    none_carried (Some r) e u = cc
+
+    by_name : (b : Bool) → names (view net p master_id) m ≡ b → HeldOnce net a g m
+    by_name true t = record {
+      nowhere = λ none u. let f : place_by true (find nat_cmp m g.carried) ≡ None = ap (λ b. place_by b (find nat_cmp m g.carried)) (sym t) ∙ none in cc;
+      counts = λ place some u.
+          let e : Some here ≡ Some place = ap (λ b. place_by b (find nat_cmp m g.carried)) (sym t) ∙ some in
+          let same : here ≡ place = cc in
+          let held : app_held net p g u m ≡ usable net p u m = ap (λ b. held_by b (find nat_cmp m g.carried) u) t in
+          subst (λ (q : ℕ × ℕ). app_held net p g u m ≤ at_key (grants_at net a q) (count_key u m)) same (omega (arith, held, usable_within net p u m));
+    }
+    by_name false t = record {
+      nowhere = λ none u. ap (λ b. held_by b (find nat_cmp m g.carried) u) t ∙ none_carried (find nat_cmp m g.carried) (ap (λ b. place_by b (find nat_cmp m g.carried)) (sym t) ∙ none) u;
+      counts = λ place some u.
+          let held : app_held net p g u m ≡ held_by false (find nat_cmp m g.carried) u = ap (λ b. held_by b (find nat_cmp m g.carried) u) t in
+          let within = by_carried (find nat_cmp m g.carried) refl place (ap (λ b. place_by b (find nat_cmp m g.carried)) (sym t) ∙ some) u in
+          omega (arith, held, within);
+    }

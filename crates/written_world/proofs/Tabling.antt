@@ -1,0 +1,324 @@
+-- A master's table is in order and has grants of jobs that have not ended alone, whatever the master does.
+use Rattle.std.proofs.Common.{◌≡◌, ℕ, zero, suc, ◌-◌, ◌<◌, Bool, true, false, cond, not, nat_eq, nat_lt, List, [], ◌∷◌, length, map, filter, Option, Some, None, refl, sym, ◌∙◌, ap, subst, arith, min}
+use Rattle.std.specs.Prelude.{◌&&◌, ◌||◌, T}
+use Rattle.std.specs.Option.{option_map, unwrap_or}
+use Rattle.std.specs.List.{AllByRecursion, flat_map}
+use Rattle.std.specs.Ordering.{nat_cmp, eq_by_cmp}
+use Rattle.std.specs.declared.cmp.Ordering.TheVariants.{Less, Equal, Greater}
+use Rattle.std.specs.FinMap.Entries.{by_order, find, put, where_key, is_sorted, is_sorted-put, is_sorted-where_key, find-put}
+use Rattle.std.proofs.lemmas.Bool.Decides.{nat_tests}
+use Rattle.fuxi_terms.specs.declared.Key.{Key}
+use Rattle.fuxi_terms.specs.Cluster.{ClusterRecord, JobRecord}
+use Rattle.fuxi_terms.specs.Keys.{key_cmp, RowKey, Spot, spot_cmp}
+use Rattle.fuxi_terms.specs.Counts.{count, set_count}
+use Rattle.fuxi_terms.proofs.Counting.{tied}
+use Rattle.written_world.specs.Net.{Id, Heard}
+use Rattle.written_world.specs.Ledgers.{Ledger, nothing, at_key, count_key, want_key, credited_key, is_back}
+use Rattle.written_world.specs.Channels.{is_agent}
+use Rattle.written_world.specs.Jobs.{KnownJob, job_of, is_live, unit_count, priority_of, below, has_number, job_numbers}
+use Rattle.written_world.specs.Masters.{Master, spot, demand_of, asked, out, credited_of}
+use Rattle.written_world.specs.Placing.{first_placeable, granted, settle, settled, all_out, waiting_pairs, has_pair, line_up, is_usable, is_allowed, has_room, may_grow, placeable}
+use Rattle.written_world.specs.Preemption.{Plan, victims, priorities, by_priority, tried, first_plan, plan_of, preempted, without_grants}
+use Rattle.written_world.specs.HardState.{with_job, with_ended}
+use Rattle.written_world.specs.MasterSteps.{phased, ready, is_kept, adopted, adopts, take_report, credit, raise_credited, take_demand, meet_app, is_taken, told}
+use Rattle.written_world.specs.Events.{ended_in, banned_in}
+use Rattle.written_world.proofs.Alls.{all_append, all_mapped, all_flat, all_passed, all_filter}
+use Rattle.written_world.proofs.Choosing.{both_true, either}
+use Rattle.written_world.proofs.Keys.{key_total, spot_total, same_spot}
+use Rattle.written_world.proofs.Places.{number_is}
+use Rattle.written_world.proofs.Placed.{is_placeable}
+use Rattle.written_world.proofs.Crediting.{found_put, put_beside}
+
+abbrev IsSorted : List (Spot × ℕ) → Type 0
+IsSorted table = T (is_sorted spot_cmp table)
+
+abbrev IsLive : List KnownJob → List (Spot × ℕ) → Type 0
+IsLive jobs table = AllByRecursion (λ e. is_live jobs e.0.job ≡ true) table
+
+pub record IsTabled (M : Master) : Type 0 where
+  pub sorted : T (is_sorted spot_cmp M.table)
+  pub alive : AllByRecursion (λ e. is_live M.jobs e.0.job ≡ true) M.table
+  pub empty : (a : ℕ) → is_live M.jobs a ≡ false → demand_of M a ≡ nothing
+  pub plain : (a u m : ℕ) → find key_cmp (count_key u m) (credited_of M a) ≡ None
+
+-- each pair of the line has something out
+abbrev pub AllWait : Master → List (ℕ × ℕ) → Type 0
+AllWait M line = AllByRecursion (λ p. nat_lt 0 (out M p.0 p.1) ≡ true) line
+
+clash : (b : Bool) → b ≡ true → b ≡ false → ⊥
+clash true e f = cc
+clash false e f = cc
+
+-- Entries of a table
+live_put : (jobs : List KnownJob) (s : Spot) (n : ℕ) (es : List (Spot × ℕ)) → is_live jobs s.job ≡ true → IsLive jobs es → IsLive jobs (put spot_cmp s n es)
+live_put jobs s n [] l h = (l, tt)
+live_put jobs s n (e ∷ es) l h = elim (spot_cmp s e.0) as (λ r. IsLive jobs (by_order r ((s, n) ∷ e ∷ es) ((e.0, n) ∷ es) (e ∷ put spot_cmp s n es))) [
+  | Less ↦ (l, (h.0, h.1))
+  | Equal ↦ (h.0, h.1)
+  | Greater ↦ (h.0, live_put jobs s n es l h.1)
+]
+
+live_where : (jobs : List KnownJob) (p : Spot → Bool) (es : List (Spot × ℕ)) → IsLive jobs es → IsLive jobs (where_key spot_cmp p es)
+live_where jobs p [] h = tt
+live_where jobs p (e ∷ es) h = elim (p e.0) as (λ b. IsLive jobs (cond b (e ∷ where_key spot_cmp p es) (where_key spot_cmp p es))) [ true ↦ (h.0, live_where jobs p es h.1) | false ↦ live_where jobs p es h.1 ]
+
+pub live_found : (jobs : List KnownJob) (s : Spot) (es : List (Spot × ℕ)) → 0 < count spot_cmp es s → IsLive jobs es → is_live jobs s.job ≡ true
+live_found jobs s [] some h = absurd (omega (arith, some))
+live_found jobs s (e ∷ es) some h = elim (eq_by_cmp spot_cmp s e.0) as (λ b. eq_by_cmp spot_cmp s e.0 ≡ b → 0 < unwrap_or (cond b (Some e.1) (find spot_cmp s es)) 0 → is_live jobs s.job ≡ true) [
+  | true ↦ λ t _. subst (λ (k : Spot). is_live jobs k.job ≡ true) (sym (same_spot s e.0 (tied _ t))) h.0
+  | false ↦ λ _ some. live_found jobs s es some h.1
+] refl some
+
+-- a number is set: of a job that has not ended, or lowered
+live_set : (jobs : List KnownJob) (s : Spot) (n : ℕ) (es : List (Spot × ℕ)) → (nat_eq n 0 ≡ false → is_live jobs s.job ≡ true) → IsLive jobs es → IsLive jobs (set_count spot_cmp es s n)
+live_set jobs s n es l h = either (IsLive jobs) (nat_eq n 0) (where_key spot_cmp (λ x. not (eq_by_cmp spot_cmp s x)) es) (put spot_cmp s n es) (λ _. live_where jobs (λ x. not (eq_by_cmp spot_cmp s x)) es h) (λ e. live_put jobs s n es (l e) h)
+
+sorted_set : (table : List (Spot × ℕ)) (s : Spot) (n : ℕ) → IsSorted table → IsSorted (set_count spot_cmp table s n)
+sorted_set table s n h = either IsSorted (nat_eq n 0) (where_key spot_cmp (λ x. not (eq_by_cmp spot_cmp s x)) table) (put spot_cmp s n table) (λ _. is_sorted-where_key spot_cmp _ table h) (λ _. is_sorted-put spot_cmp spot_total s n table h)
+
+-- what is out is asked for, so its job has not ended
+out_live : (M : Master) (a u : ℕ) → IsTabled M → nat_lt 0 (out M a u) ≡ true → is_live M.jobs a ≡ true
+out_live M a u h e = by (is_live M.jobs a) refl
+  where
+    by : (b : Bool) → is_live M.jobs a ≡ b → is_live M.jobs a ≡ true
+    by true t = t
+    by false t =
+        let none : asked M a (want_key u) ≡ 0 = ap (λ (d : Ledger). at_key d (want_key u)) (h.empty a t) in
+        let some : 0 < out M a u = grind (arith, nat_tests, e) in
+        absurd (omega (arith, none, some))
+
+placeable_out : (c : ClusterRecord) (M : Master) (a u m : ℕ) → placeable c M a u m ≡ true → nat_lt 0 (out M a u) ≡ true
+placeable_out c M a u m e =
+    (both_true (nat_lt 0 (out M a u)) (is_allowed c M a u) (both_true M.serving (nat_lt 0 (out M a u) && is_allowed c M a u) (both_true (may_grow c M a u) (is_usable M a u m && has_room c M a u m) e).0).1).0
+
+-- Placing
+settle_tabled : (c : ClusterRecord) (fuel : ℕ) (M : Master) → IsTabled M → IsTabled (settle c fuel M)
+settle_tabled c zero M h = h
+settle_tabled c (suc fuel) M h = elim (first_placeable c M) as (λ o. first_placeable c M ≡ o → IsTabled (elim o as (λ _. Master) [ None ↦ M | Some s ↦ settle c fuel (granted M s) ])) [
+  | None ↦ λ _. h
+  | Some s ↦ λ e. settle_tabled c fuel (granted M s) (record {
+    sorted = sorted_set M.table s _ h.sorted;
+    alive = live_set M.jobs s _ M.table (λ _. out_live M s.job s.unit h (placeable_out c M s.job s.unit s.machine (is_placeable c M s e))) h.alive;
+    empty = h.empty;
+    plain = h.plain;
+  })
+] refl
+
+pub ready_tabled : (c : ClusterRecord) (M : Master) → IsTabled M → IsTabled (ready c M)
+ready_tabled c M h = let N = line_up (phased c M) in let k : IsTabled N = record { sorted = h.sorted; alive = h.alive; empty = h.empty; plain = h.plain } in
+    elim N.serving as (λ b. IsTabled (elim b as (λ _. Master) [ true ↦ settled c N | false ↦ N ])) [ true ↦ settle_tabled c (all_out N) N k | false ↦ k ]
+
+-- The line of a master that is ready
+waiting : (M : Master) → AllWait M (waiting_pairs M)
+waiting M = all_flat (λ p. nat_lt 0 (out M p.0 p.1) ≡ true) _ (job_numbers M.jobs)
+    (λ a. all_mapped (λ (p : ℕ × ℕ). nat_lt 0 (out M p.0 p.1) ≡ true) (λ u. (a, u)) _ (all_passed (λ u. nat_lt 0 (out M a u) ≡ true) (λ u. nat_lt 0 (out M a u)) (below (unit_count M.jobs a)) (λ u e. e)))
+
+-- a pair that is one of those that wait waits
+waits_too : (M : Master) (p : ℕ × ℕ) (pairs : List (ℕ × ℕ)) → AllWait M pairs → has_pair p pairs ≡ true → nat_lt 0 (out M p.0 p.1) ≡ true
+waits_too M p [] h e = cc
+waits_too M p (q ∷ qs) h e = elim (nat_eq p.0 q.0 && nat_eq p.1 q.1) as (λ b. (nat_eq p.0 q.0 && nat_eq p.1 q.1) ≡ b → (b || has_pair p qs) ≡ true → nat_lt 0 (out M p.0 p.1) ≡ true) [
+  | true ↦ λ t _. let b = both_true (nat_eq p.0 q.0) (nat_eq p.1 q.1) t in let x = number_is p.0 q.0 b.0 in let y = number_is p.1 q.1 b.1 in (λ i. nat_lt 0 (out M (x i) (y i))) ∙ h.0
+  | false ↦ λ _ e. waits_too M p qs h.1 e
+] refl e
+
+lined_waits : (M : Master) → AllWait M (line_up M).line
+lined_waits M = all_append (λ p. nat_lt 0 (out M p.0 p.1) ≡ true) (filter (λ p. has_pair p (waiting_pairs M)) M.line) (filter (λ p. not (has_pair p M.line)) (waiting_pairs M))
+    (all_passed (λ p. nat_lt 0 (out M p.0 p.1) ≡ true) (λ p. has_pair p (waiting_pairs M)) M.line (λ p e. waits_too M p (waiting_pairs M) (waiting M) e))
+    (all_filter (λ p. nat_lt 0 (out M p.0 p.1) ≡ true) (λ p. not (has_pair p M.line)) (waiting_pairs M) (waiting M))
+
+record Waits (M : Master) : Type 0 where
+  all : AllWait M M.line
+
+settle_waits : (c : ClusterRecord) (fuel : ℕ) (M : Master) → Waits M → Waits (settle c fuel M)
+settle_waits c zero M h = h
+settle_waits c (suc fuel) M h = elim (first_placeable c M) as (λ o. Waits (elim o as (λ _. Master) [ None ↦ M | Some s ↦ settle c fuel (granted M s) ])) [
+  | None ↦ h
+  | Some s ↦ settle_waits c fuel (granted M s) (record { all = all_passed (λ p. nat_lt 0 (out (granted M s) p.0 p.1) ≡ true) (λ p. nat_lt 0 (out (granted M s) p.0 p.1)) M.line (λ p e. e) })
+]
+
+pub ready_waits : (c : ClusterRecord) (M : Master) → AllWait (ready c M) (ready c M).line
+ready_waits c M =
+    let N = line_up (phased c M) in
+    let k : Waits N = record { all = lined_waits (phased c M) } in
+    (elim N.serving as (λ b. Waits (elim b as (λ _. Master) [ true ↦ settled c N | false ↦ N ])) [ true ↦ settle_waits c (all_out N) N k | false ↦ k ]).all
+
+-- Preempting
+without_tabled : (jobs : List KnownJob) (table : List (Spot × ℕ)) (ss : List Spot) → IsSorted table × IsLive jobs table → IsSorted (without_grants table ss) × IsLive jobs (without_grants table ss)
+without_tabled jobs table [] h = h
+without_tabled jobs table (s ∷ ss) h =
+    let n = count spot_cmp table s - 1 in
+    without_tabled jobs (set_count spot_cmp table s n) ss (sorted_set table s n h.0, live_set jobs s n table (λ e. live_found jobs s table (let some : 0 < n = grind (arith, nat_tests, e) in omega (arith, some)) h.1) h.1)
+
+planned : (P : Spot → Type 0) (ss : List Spot) (c : ClusterRecord) (M : Master) (p : Plan) → AllByRecursion P ss → first_plan ss c M ≡ Some p → P p.served
+planned P [] c M p h e = cc
+planned P (s ∷ ss) c M p h e = elim (victims c M s) as (λ o. (elim o as (λ _. Option Plan) [ None ↦ first_plan ss c M | Some vs ↦ Some (record { served = s; losers = vs }) ]) ≡ Some p → P p.served) [
+  | None ↦ λ e. planned P ss c M p h.1 e
+  | Some vs ↦ λ e. served vs e
+] e
+  where
+    plan : List Spot → Plan
+    plan vs = record { served = s; losers = vs }
+
+    served : (vs : List Spot) → Some (plan vs) ≡ Some p → P p.served
+    served vs e = let same : plan vs ≡ p = cc in subst (λ (q : Plan). P q.served) same h.0
+
+pub preempted_tabled : (c : ClusterRecord) (M : Master) (p : Plan) → plan_of c M ≡ Some p → AllWait M M.line → IsTabled M → IsTabled (preempted M p)
+preempted_tabled c M p e w h =
+    let live : is_live M.jobs p.served.job ≡ true = planned (λ s. is_live M.jobs s.job ≡ true) (tried c M) c M p
+    (all_spots (by_priority M) (all_flat (λ q. nat_lt 0 (out M q.0 q.1) ≡ true) (λ n. filter (λ q. nat_eq (priority_of M.jobs q.0 q.1) n) M.line) priorities (λ n. all_filter (λ q. nat_lt 0 (out M q.0 q.1) ≡ true) (λ q. nat_eq (priority_of M.jobs q.0 q.1) n) M.line w))) e in
+    let t = without_tabled M.jobs M.table p.losers (h.sorted, h.alive) in
+    record {
+      sorted = sorted_set (without_grants M.table p.losers) p.served _ t.0;
+      alive = live_set M.jobs p.served _ (without_grants M.table p.losers) (λ _. live) t.1;
+      empty = h.empty;
+      plain = h.plain;
+    }
+  where
+    all_spots : (qs : List (ℕ × ℕ)) → AllWait M qs → AllByRecursion (λ (s : Spot). is_live M.jobs s.job ≡ true) (flat_map (λ q. map (spot q.0 q.1) (filter (is_usable M q.0 q.1) (below (length c.machines)))) qs)
+    all_spots [] k = tt
+    all_spots (q ∷ qs) k = all_append (λ (s : Spot). is_live M.jobs s.job ≡ true) (map (spot q.0 q.1) (filter (is_usable M q.0 q.1) (below (length c.machines)))) _
+        (each (filter (is_usable M q.0 q.1) (below (length c.machines))) (out_live M q.0 q.1 h k.0)) (all_spots qs k.1)
+      where
+        each : (ms : List ℕ) → is_live M.jobs q.0 ≡ true → AllByRecursion (λ (s : Spot). is_live M.jobs s.job ≡ true) (map (spot q.0 q.1) ms)
+        each [] l = tt
+        each (m ∷ ms) l = (l, each ms l)
+
+-- Ends of jobs, new jobs, bans, and a change of the phase
+pub banned_tabled : (M : Master) (m : ℕ) → IsTabled M → IsTabled (banned_in M m)
+banned_tabled M m h = record { sorted = is_sorted-where_key spot_cmp _ M.table h.sorted; alive = live_where M.jobs _ M.table h.alive; empty = h.empty; plain = h.plain }
+
+pub same_tabled : (M N : Master) → N.table ≡ M.table → N.jobs ≡ M.jobs → N.demands ≡ M.demands → N.credited ≡ M.credited → IsTabled M → IsTabled N
+same_tabled M N t j d c h = record {
+  sorted = subst IsSorted (sym t) h.sorted;
+  alive = subst (λ js. IsLive js N.table) (sym j) (subst (IsLive M.jobs) (sym t) h.alive);
+  empty = λ a e. ap (λ ds. unwrap_or (find nat_cmp a ds) nothing) d ∙ h.empty a (subst (λ js. is_live js a ≡ false) j e);
+  plain = λ a u m. ap (λ cs. find key_cmp (count_key u m) (unwrap_or (find nat_cmp a cs) [])) c ∙ h.plain a u m;
+}
+
+pub new_tabled : (M : Master) → M.table ≡ [] → M.demands ≡ [] → M.credited ≡ [] → IsTabled M
+new_tabled M t d c = record {
+  sorted = subst IsSorted (sym t) tt;
+  alive = subst (IsLive M.jobs) (sym t) tt;
+  empty = λ a e. ap (λ ds. unwrap_or (find nat_cmp a ds) nothing) d;
+  plain = λ a u m. ap (λ cs. find key_cmp (count_key u m) (unwrap_or (find nat_cmp a cs) [])) c;
+}
+
+all_live : (jobs jobs' : List KnownJob) → ((a : ℕ) → is_live jobs a ≡ true → is_live jobs' a ≡ true) → (es : List (Spot × ℕ)) → IsLive jobs es → IsLive jobs' es
+all_live jobs jobs' f [] h = tt
+all_live jobs jobs' f (e ∷ es) h = (f e.0.job h.0, all_live jobs jobs' f es h.1)
+
+not_live : (b d : Bool) → (b ≡ true → d ≡ true) → d ≡ false → b ≡ false
+not_live true d f e = let t = f refl in cc
+not_live false d f e = refl
+
+added_live : (jobs : List KnownJob) (j : JobRecord) (a : ℕ) → is_live jobs a ≡ true → is_live (with_job j jobs) a ≡ true
+added_live [] j a e = cc
+added_live (k ∷ ks) j a e = elim (nat_eq k.job.number a) as (λ b. unwrap_or (option_map (λ (i : KnownJob). not i.ended) (cond b (Some k) (job_of ks a))) false ≡ true → unwrap_or (option_map (λ (i : KnownJob). not i.ended) (cond b (Some k) (job_of (with_job j ks) a))) false ≡ true) [ true ↦ λ e. e | false ↦ λ e. added_live ks j a e ] e
+
+pub added_tabled : (M : Master) (j : JobRecord) → IsTabled M → IsTabled (record M { jobs = with_job j M.jobs })
+added_tabled M j h = record {
+  sorted = h.sorted;
+  alive = all_live M.jobs (with_job j M.jobs) (added_live M.jobs j) M.table h.alive;
+  empty = λ a e. h.empty a (not_live (is_live M.jobs a) (is_live (with_job j M.jobs) a) (added_live M.jobs j a) e);
+  plain = h.plain;
+}
+
+-- another job than the one that ends stays as it is
+other_live : (a : ℕ) (jobs : List KnownJob) (b : ℕ) → nat_eq b a ≡ false → is_live (with_ended a jobs) b ≡ is_live jobs b
+other_live a [] b n = refl
+other_live a (k ∷ ks) b n = elim (nat_eq k.job.number a) as (λ t. nat_eq k.job.number a ≡ t → unwrap_or (option_map (λ (j : KnownJob). not j.ended) (let k' : KnownJob = cond t (record { job = k.job; ended = true }) k in cond (nat_eq k'.job.number b) (Some k') (job_of (with_ended a ks) b))) false
+    ≡ unwrap_or (option_map (λ (j : KnownJob). not j.ended) (cond (nat_eq k.job.number b) (Some k) (job_of ks b))) false) [
+      | true ↦ λ t. let other : nat_eq k.job.number b ≡ false = grind (arith, nat_tests, t, n) in
+          ap (λ s. unwrap_or (option_map (λ (j : KnownJob). not j.ended) (cond s (Some (record { job = k.job; ended = true })) (job_of (with_ended a ks) b))) false) other ∙ other_live a ks b n
+          ∙ sym (ap (λ s. unwrap_or (option_map (λ (j : KnownJob). not j.ended) (cond s (Some k) (job_of ks b))) false) other)
+      | false ↦ λ _. one (other_live a ks b n) (nat_eq k.job.number b)
+    ] refl
+  where
+    one : is_live (with_ended a ks) b ≡ is_live ks b → (s : Bool) → unwrap_or (option_map (λ (j : KnownJob). not j.ended) (cond s (Some k) (job_of (with_ended a ks) b))) false ≡ unwrap_or (option_map (λ (j : KnownJob). not j.ended) (cond s (Some k) (job_of ks b))) false
+    one before true = refl
+    one before false = before
+
+-- a demand that is put for a job that has not ended, or an empty one
+put_demand : (jobs : List KnownJob) (a : ℕ) (d : Ledger) (ds : List (ℕ × Ledger)) → (is_live jobs a ≡ false → d ≡ nothing) → (b : ℕ) → is_live jobs b ≡ false → (nat_eq b a ≡ false → unwrap_or (find nat_cmp b ds) nothing ≡ nothing) → unwrap_or (find nat_cmp b (put nat_cmp a d ds)) nothing ≡ nothing
+put_demand jobs a d ds f b e h = elim (nat_eq b a) as (λ t. nat_eq b a ≡ t → unwrap_or (find nat_cmp b (put nat_cmp a d ds)) nothing ≡ nothing) [
+  | true ↦ λ t. let same = number_is b a t in ap (λ n. unwrap_or (find nat_cmp n (put nat_cmp a d ds)) nothing) same ∙ found_put a d nothing ds ∙ f (ap (is_live jobs) (sym same) ∙ e)
+  | false ↦ λ t. ap (λ o. unwrap_or o nothing) (put_beside a b d ds t) ∙ h t
+] refl
+
+pub ended_tabled : (M : Master) (a : ℕ) → IsTabled M → IsTabled (ended_in M a)
+ended_tabled M a h = record {
+  sorted = is_sorted-where_key spot_cmp _ M.table h.sorted;
+  alive = kept M.table h.alive;
+  empty = λ b e. put_demand (with_ended a M.jobs) a nothing M.demands (λ _. refl) b e (λ n. h.empty b (sym (other_live a M.jobs b n) ∙ e));
+  plain = h.plain;
+}
+  where
+    kept : (es : List (Spot × ℕ)) → IsLive M.jobs es → IsLive (with_ended a M.jobs) (where_key spot_cmp (λ s. not (nat_eq s.job a)) es)
+    kept [] k = tt
+    kept (e ∷ es) k = elim (nat_eq e.0.job a) as (λ b. nat_eq e.0.job a ≡ b → IsLive (with_ended a M.jobs) (cond (not b) (e ∷ where_key spot_cmp (λ s. not (nat_eq s.job a)) es) (where_key spot_cmp (λ s. not (nat_eq s.job a)) es))) [
+      | true ↦ λ _. kept es k.1
+      | false ↦ λ n. (other_live a M.jobs e.0.job n ∙ k.0, kept es k.1)
+    ] refl
+
+-- Reports and demands
+kept_live : (jobs : List KnownJob) (k : RowKey) → is_kept jobs k ≡ true → is_live jobs k.job ≡ true
+kept_live jobs k e = (both_true (is_live jobs k.job) _ e).0
+
+adopted_tabled : (jobs : List KnownJob) (m : ℕ) (es : List (RowKey × ℕ)) (table : List (Spot × ℕ)) → IsSorted table × IsLive jobs table → IsSorted (adopted jobs m es table) × IsLive jobs (adopted jobs m es table)
+adopted_tabled jobs m [] table h = h
+adopted_tabled jobs m (e ∷ es) table h = adopted_tabled jobs m es _ (either (λ t. IsSorted t × IsLive jobs t) (is_kept jobs e.0) (put spot_cmp (spot e.0.job e.0.unit m) e.1 table) table
+    (λ k. (is_sorted-put spot_cmp spot_total _ e.1 table h.0, live_put jobs (spot e.0.job e.0.unit m) e.1 table (kept_live jobs e.0 k) h.1)) (λ _. h))
+
+credit_tabled : (jobs : List KnownJob) (a : ℕ) (credited es : List (Key × ℕ)) (table : List (Spot × ℕ)) → is_live jobs a ≡ true → IsSorted table × IsLive jobs table → IsSorted (credit a credited es table) × IsLive jobs (credit a credited es table)
+credit_tabled jobs a credited [] table l h = h
+credit_tabled jobs a credited (e ∷ es) table l h =
+    let s = spot a e.0.unit e.0.number in
+    let here = count spot_cmp table s in
+    let more = e.1 - count key_cmp credited (credited_key e.0.unit e.0.number) in
+    credit_tabled jobs a credited es _ l (either (λ t. IsSorted t × IsLive jobs t) (is_back e.0) (set_count spot_cmp table s (here - min more here)) table (λ _. (sorted_set table s _ h.0, live_set jobs s _ table (λ _. l) h.1)) (λ _. h))
+
+-- what is credited has keys of its own
+raised_plain : (cs es : List (Key × ℕ)) (u m : ℕ) → find key_cmp (count_key u m) cs ≡ None → find key_cmp (count_key u m) (raise_credited cs es) ≡ None
+raised_plain cs [] u m h = h
+raised_plain cs (e ∷ es) u m h = let k = credited_key e.0.unit e.0.number in
+    raised_plain (cond (is_back e.0 && nat_lt (count key_cmp cs k) e.1) (put key_cmp k e.1 cs) cs) es u m (either (λ t. find key_cmp (count_key u m) t ≡ None) (is_back e.0 && nat_lt (count key_cmp cs k) e.1) (put key_cmp k e.1 cs) cs (λ _. find-put key_cmp key_total (count_key u m) k e.1 cs ∙ h) (λ _. h))
+
+plain_put : (a : ℕ) (cs : List (Key × ℕ)) (all : List (ℕ × List (Key × ℕ))) (b u m : ℕ) → find key_cmp (count_key u m) cs ≡ None → find key_cmp (count_key u m) (unwrap_or (find nat_cmp b all) []) ≡ None → find key_cmp (count_key u m) (unwrap_or (find nat_cmp b (put nat_cmp a cs all)) []) ≡ None
+plain_put a cs all b u m new old = elim (nat_eq b a) as (λ t. nat_eq b a ≡ t → find key_cmp (count_key u m) (unwrap_or (find nat_cmp b (put nat_cmp a cs all)) []) ≡ None) [
+  | true ↦ λ t. ap (λ n. find key_cmp (count_key u m) (unwrap_or (find nat_cmp n (put nat_cmp a cs all)) [])) (number_is b a t) ∙ ap (find key_cmp (count_key u m)) (found_put a cs [] all) ∙ new
+  | false ↦ λ t. ap (λ o. find key_cmp (count_key u m) (unwrap_or o [])) (put_beside a b cs all t) ∙ old
+] refl
+
+pub told_tabled : (M : Master) (h : Heard) (from : Id) (l : Ledger) → IsTabled M → IsTabled (told M h from l)
+told_tabled M h from l t =
+    let N = meet_app h.fresh M from.number in
+    either IsTabled (is_agent from) (cond (is_taken h.what) (take_report M from.number l) M) (cond (is_taken h.what) (take_demand N from.number l) N)
+    (λ _. either IsTabled (is_taken h.what) (take_report M from.number l) M (λ _. reported from.number l) (λ _. t))
+    (λ _. either IsTabled (is_taken h.what) (take_demand N from.number l) N (λ _. demanded N from.number l (met h.fresh)) (λ _. met h.fresh))
+  where
+    reported : (m : ℕ) (report : Ledger) → IsTabled (take_report M m report)
+    reported m report = either IsTabled (adopts M m report) _ M
+        (λ _. let k = either (λ t. IsSorted t × IsLive M.jobs t) (has_number m M.bans) M.table (adopted M.jobs m report.rows M.table) (λ _. (t.sorted, t.alive)) (λ _. adopted_tabled M.jobs m report.rows M.table (t.sorted, t.alive)) in record { sorted = k.0; alive = k.1; empty = t.empty; plain = t.plain })
+        (λ _. t)
+
+    demanded : (N : Master) (a : ℕ) (d : Ledger) → IsTabled N → IsTabled (take_demand N a d)
+    demanded N a d k = either IsTabled (nat_eq d.head N.epoch && is_live N.jobs a) _ _
+        (λ e.
+        let live = (both_true (nat_eq d.head N.epoch) (is_live N.jobs a) e).1 in
+        let c = credit_tabled N.jobs a (credited_of N a) d.entries N.table live (k.sorted, k.alive) in
+        record {
+          sorted = c.0;
+          alive = c.1;
+          empty = λ b f. put_demand N.jobs a d N.demands (λ dead. absurd (clash (is_live N.jobs a) live dead)) b f (λ _. k.empty b f);
+          plain = λ b u m. plain_put a (raise_credited (credited_of N a) d.entries) N.credited b u m (raised_plain (credited_of N a) d.entries u m (k.plain a u m)) (k.plain b u m);
+        })
+        (λ _. record { sorted = k.sorted; alive = k.alive; empty = λ b f. put_demand N.jobs a nothing N.demands (λ _. refl) b f (λ _. k.empty b f); plain = k.plain })
+
+    met : (fresh : Bool) → IsTabled (meet_app fresh M from.number)
+    met true = record {
+      sorted = t.sorted;
+      alive = t.alive;
+      empty = λ b f. put_demand M.jobs from.number nothing M.demands (λ _. refl) b f (λ _. t.empty b f);
+      plain = λ b u m. plain_put from.number [] M.credited b u m refl (t.plain b u m);
+    }
+    met false = t
