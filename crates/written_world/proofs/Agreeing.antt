@@ -5,7 +5,6 @@ use Rattle.std.specs.Option.{unwrap_or}
 use Rattle.std.specs.List.{AllByRecursion, list_all, sum_by}
 use Rattle.std.specs.Ordering.{nat_cmp, eq_by_cmp, is_eq}
 use Rattle.std.specs.Cmp.{tied_itself}
-use Rattle.std.specs.declared.cmp.Ordering.{Ordering}
 use Rattle.std.proofs.lemmas.Map.Lookups.{exact_unsigned}
 use Rattle.fuxi_terms.specs.declared.Key.{Key}
 use Rattle.fuxi_terms.specs.Counts.{count}
@@ -26,11 +25,11 @@ use Rattle.written_world.specs.Quiet.{has_all, is_at_rest, is_agent_quiet, is_ap
 use Rattle.written_world.specs.Safe.{row_count}
 use Rattle.written_world.proofs.Alls.{all_front, all_back, all_map}
 use Rattle.written_world.proofs.Choosing.{both_true}
-use Rattle.written_world.proofs.Keys.{key_total, spot_total, same_key, same_spot}
+use Rattle.written_world.proofs.Keys.{key_total, spot_total, same_spot}
 use Rattle.written_world.proofs.Places.{number_is}
 use Rattle.written_world.proofs.Viewing.{caught_up}
 use Rattle.written_world.proofs.Standing.{Standing, IsShowing}
-use Rattle.written_world.proofs.Tabling.{IsTabled, live_found}
+use Rattle.written_world.proofs.Granted.{reported_entries, grants_counts, grants_credits, nothing_held}
 
 -- Sums over a row are counts of the table
 module _ (jobs : List KnownJob) (a u m : ℕ) where
@@ -138,74 +137,7 @@ agent_agrees w e M m g h found quiet runs a u =
     ap (λ rows. row_count rows a u) (caught_table w.net (master_party M) p all refl ∙ ap (λ (l : Ledger). l.rows) shown)
     ∙ row_counts M.jobs a u m M.table k.tabled.sorted
 
--- Applications: what grants say. A key is looked up in lists one behind the other
-find_behind : {K : Type 0} (R : K → K → Ordering) (k : K) (xs ys : List (K × ℕ)) → find R k xs ≡ None → find R k (xs ++ ys) ≡ find R k ys
-find_behind R k [] ys e = refl
-find_behind R k (x ∷ xs) ys e = elim (eq_by_cmp R k x.0) as (λ b. cond b (Some x.1) (find R k xs) ≡ None → cond b (Some x.1) (find R k (xs ++ ys)) ≡ find R k ys) [ true ↦ λ e. cc | false ↦ λ e. find_behind R k xs ys e ] e
-
-find_front : {K : Type 0} (R : K → K → Ordering) (k : K) (xs ys : List (K × ℕ)) → find R k ys ≡ None → find R k (xs ++ ys) ≡ find R k xs
-find_front R k [] ys e = e
-find_front R k (x ∷ xs) ys e = ap (cond (eq_by_cmp R k x.0) (Some x.1)) (find_front R k xs ys e)
-
-not_tied : (q k : Key) → (q ≡ k → ⊥) → eq_by_cmp key_cmp q k ≡ false
-not_tied q k differs = by (eq_by_cmp key_cmp q k) refl
-  where
-    by : (b : Bool) → eq_by_cmp key_cmp q k ≡ b → eq_by_cmp key_cmp q k ≡ false
-    by false e = e
-    by true e = absurd (differs (same_key q k (tied _ e)))
-
-kind_differs : (q k : Key) → nat_eq q.what k.what ≡ false → q ≡ k → ⊥
-kind_differs q k e same = let s : q.what ≡ k.what = ap (λ (x : Key). x.what) same in let t : nat_eq q.what k.what ≡ true = grind (arith, nat_tests, s) in cc
-
-abbrev reported_entries : List ℕ → List (Key × ℕ)
-reported_entries ms = map (λ m. (reported_key m, 1)) ms
-
-no_reported : (q : Key) → nat_eq q.what 1 ≡ false → (ms : List ℕ) → find key_cmp q (reported_entries ms) ≡ None
-no_reported q e [] = refl
-no_reported q e (m ∷ ms) = ap (λ b. cond {A = Option ℕ} b (Some 1) (find key_cmp q (reported_entries ms))) (not_tied q (reported_key m) (kind_differs q (reported_key m) e)) ∙ no_reported q e ms
-
-no_counts : (q : Key) → nat_eq q.what 2 ≡ false → (a : ℕ) (es : List (Spot × ℕ)) → find key_cmp q (count_entries a es) ≡ None
-no_counts q e a [] = refl
-no_counts q e a (x ∷ es) = elim (nat_eq x.0.job a) as (λ b. find key_cmp q (map (λ e. (count_key e.0.unit e.0.machine, e.1)) (cond b (x ∷ filter (λ e. nat_eq e.0.job a) es) (filter (λ e. nat_eq e.0.job a) es))) ≡ None) [
-  | true ↦ ap (λ b. cond b (Some x.1) (find key_cmp q (count_entries a es))) (not_tied q (count_key x.0.unit x.0.machine) (kind_differs q (count_key x.0.unit x.0.machine) e)) ∙ no_counts q e a es
-  | false ↦ no_counts q e a es
-]
-
-same_tests : (p q : Bool) → (p ≡ true → q ≡ true) → (q ≡ true → p ≡ true) → p ≡ q
-same_tests true q f g = sym (f refl)
-same_tests false true f g = g refl
-same_tests false false f g = refl
-
--- a count of the grants is the count of the table
-one_count : (a u m : ℕ) (e : Spot × ℕ) (es : List (Spot × ℕ)) → find key_cmp (count_key u m) (count_entries a es) ≡ find spot_cmp (spot a u m) es
-    → find key_cmp (count_key u m) (count_entries a (e ∷ es)) ≡ cond (eq_by_cmp spot_cmp (spot a u m) e.0) (Some e.1) (find spot_cmp (spot a u m) es)
-one_count a u m e es rest = by (nat_eq e.0.job a) refl
-  where
-    apart : (d : Bool) → eq_by_cmp spot_cmp (spot a u m) e.0 ≡ d → nat_eq e.0.job a ≡ false → eq_by_cmp spot_cmp (spot a u m) e.0 ≡ false
-    apart false d t = d
-    apart true d t = let same : a ≡ e.0.job = ap (λ (s : Spot). s.job) (same_spot (spot a u m) e.0 (tied _ d)) in let yes : nat_eq e.0.job a ≡ true = grind (arith, nat_tests, same) in cc
-
-    tests : nat_eq e.0.job a ≡ true → eq_by_cmp key_cmp (count_key u m) (count_key e.0.unit e.0.machine) ≡ eq_by_cmp spot_cmp (spot a u m) e.0
-    tests t = same_tests _ _
-        (λ k.
-        let same : count_key u m ≡ count_key e.0.unit e.0.machine = same_key _ _ (tied _ k) in
-        let j = number_is e.0.job a t in
-        let x : u ≡ e.0.unit = ap (λ (q : Key). q.unit) same in
-        let y : m ≡ e.0.machine = ap (λ (q : Key). q.number) same in
-        let here : spot a u m ≡ e.0 = (λ i. record { job = sym j i; unit = x i; machine = y i }) in
-        ap (λ s. eq_by_cmp spot_cmp (spot a u m) s) (sym here) ∙ ap is_eq (tied_itself spot_total (spot a u m)))
-        (λ k.
-        let here : spot a u m ≡ e.0 = same_spot (spot a u m) e.0 (tied _ k) in
-        ap (λ (s : Spot). eq_by_cmp key_cmp (count_key u m) (count_key s.unit s.machine)) (sym here) ∙ ap is_eq (tied_itself key_total (count_key u m)))
-
-    by : (b : Bool) → nat_eq e.0.job a ≡ b → find key_cmp (count_key u m) (map (λ e. (count_key e.0.unit e.0.machine, e.1)) (cond b (e ∷ filter (λ e. nat_eq e.0.job a) es) (filter (λ e. nat_eq e.0.job a) es))) ≡ cond (eq_by_cmp spot_cmp (spot a u m) e.0) (Some e.1) (find spot_cmp (spot a u m) es)
-    by true t = ap (cond (eq_by_cmp key_cmp (count_key u m) (count_key e.0.unit e.0.machine)) (Some e.1)) rest ∙ ap (λ b. cond b (Some e.1) (find spot_cmp (spot a u m) es)) (tests t)
-    by false t = rest ∙ sym (ap (λ b. cond b (Some e.1) (find spot_cmp (spot a u m) es)) (apart (eq_by_cmp spot_cmp (spot a u m) e.0) refl t))
-
-counts_found : (a u m : ℕ) (es : List (Spot × ℕ)) → find key_cmp (count_key u m) (count_entries a es) ≡ find spot_cmp (spot a u m) es
-counts_found a u m [] = refl
-counts_found a u m (e ∷ es) = one_count a u m e es (counts_found a u m es)
-
+-- Applications: what grants say
 reported_found : (m : ℕ) (ms : List ℕ) (rest : List (Key × ℕ)) → has_number m ms ≡ true → count key_cmp (reported_entries ms ++ rest) (reported_key m) ≡ 1
 reported_found m [] rest e = cc
 reported_found m (k ∷ ms) rest e = elim (nat_eq m k) as (λ b. nat_eq m k ≡ b → (b || has_number m ms) ≡ true → count key_cmp (reported_entries (k ∷ ms) ++ rest) (reported_key m) ≡ 1) [
@@ -215,18 +147,6 @@ reported_found m (k ∷ ms) rest e = elim (nat_eq m k) as (λ b. nat_eq m k ≡ 
       (ap (λ n. eq_by_cmp key_cmp (reported_key m) (reported_key n)) (sym same) ∙ ap is_eq (tied_itself key_total (reported_key m)))
   | false ↦ λ t f. elim (eq_by_cmp key_cmp (reported_key m) (reported_key k)) as (λ b. unwrap_or (cond b (Some 1) (find key_cmp (reported_key m) (reported_entries ms ++ rest))) 0 ≡ 1) [ true ↦ refl | false ↦ reported_found m ms rest f ]
 ] refl e
-
--- what the grants of a job say
-module _ (M : Master) (boot a : ℕ) (h : IsTabled M) where
-  grants_counts : (u m : ℕ) → at_key (grants M boot a) (count_key u m) ≡ held_on M.table a u m
-  grants_counts u m = ap (λ o. unwrap_or o 0)
-      (find_behind key_cmp (count_key u m) (reported_entries M.reported) (count_entries a M.table ++ credited_of M a) (no_reported (count_key u m) refl M.reported)
-      ∙ find_front key_cmp (count_key u m) (count_entries a M.table) (credited_of M a) (h.plain a u m) ∙ counts_found a u m M.table)
-
-  grants_credits : (u m : ℕ) → at_key (grants M boot a) (credited_key u m) ≡ count key_cmp (credited_of M a) (credited_key u m)
-  grants_credits u m = ap (λ o. unwrap_or o 0)
-      (find_behind key_cmp (credited_key u m) (reported_entries M.reported) (count_entries a M.table ++ credited_of M a) (no_reported (credited_key u m) refl M.reported)
-      ∙ find_behind key_cmp (credited_key u m) (count_entries a M.table) (credited_of M a) (no_counts (credited_key u m) refl a M.table))
 
 -- The numbers of known jobs
 all_with : (P : ℕ → Type 0) (n : ℕ) (ns : List ℕ) → AllByRecursion P (with_number n ns) → P n × AllByRecursion P ns
@@ -268,14 +188,6 @@ quiet_reported w M m quiet = by (find nat_cmp m w.agents) quiet
     by : (o : Option Agent) → with_found o false (λ g. has_number m M.reported && is_at_rest w.net M (party (agent_id m) g.boot)) ≡ true → has_number m M.reported ≡ true
     by None e = cc
     by (Some g) e = (both_true (has_number m M.reported) (is_at_rest w.net M (party (agent_id m) g.boot)) e).0
-
--- a job that has ended has nothing on any machine
-nothing_held : (M : Master) (a u m : ℕ) → IsTabled M → is_live M.jobs a ≡ false → held_on M.table a u m ≡ 0
-nothing_held M a u m h dead = by (nat_lt 0 (held_on M.table a u m)) refl
-  where
-    by : (b : Bool) → nat_lt 0 (held_on M.table a u m) ≡ b → held_on M.table a u m ≡ 0
-    by false t = grind (arith, nat_tests, t)
-    by true t = let some : 0 < held_on M.table a u m = grind (arith, nat_tests, t) in let yes : is_live M.jobs a ≡ true = live_found M.jobs (spot a u m) M.table some h.alive in absurd (let f : ⊥ = cc in f)
 
 -- what is usable where the view is these grants, and nothing is given back that was not credited
 usable_is : (net : Net Ledger) (p : Party) (G : Ledger) (u m n : ℕ) → view net p master_id ≡ G → at_key G (count_key u m) ≡ n → (n ≡ 0) ⊎ ((nat_eq G.head p.inc ≡ true) × (at_key G (credited_key u m) ≡ at_key (present net p master_id) (back_key u m))) → usable net p u m ≡ n

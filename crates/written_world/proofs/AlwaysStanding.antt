@@ -10,35 +10,39 @@ use Rattle.fuxi_terms.specs.declared.Key.{Key}
 use Rattle.fuxi_terms.specs.Cluster.{ClusterRecord, has_rack, greatest_count}
 use Rattle.written_world.specs.Net.{Net, Party, Id, Link, Packet, Heard, Starts, unknown, last, move, same_party, comes, heard_of}
 use Rattle.written_world.specs.Ledgers.{Ledger, nothing, at_key, is_back, greatest_back, greatest_in_demand, report_ledger, want_key, near_key, rack_key, avoid_key, back_key}
-use Rattle.written_world.specs.Channels.{master_id, agent_id, app_id, party, is_master, is_agent, is_app, at_index, present}
+use Rattle.written_world.specs.Channels.{content, view, master_id, agent_id, app_id, party, is_master, is_agent, is_app, at_index, present}
 use Rattle.written_world.specs.Jobs.{job_numbers, unit_count, has_group, is_known, is_live, has_ended, has_machine, without_number, below}
 use Rattle.written_world.specs.Masters.{Master}
 use Rattle.written_world.specs.HardState.{HardState, is_full, submit_tests, raised, submitted, finished, banned, unbanned, with_job}
 use Rattle.written_world.specs.Preemption.{plan_of, preempted}
 use Rattle.written_world.specs.Refusals.{Refusal, NotRising, TooManyMasters, Fenced, Known, NoGroup, NoMachine, NoRack, NoUnit, NoJob, Ended, WantRange, NotUsable, BackRange, job_tests, first_refusal}
 use Rattle.written_world.specs.World.{World, Agent, App, Step, empty_world, prints_nothing, refused, with_found, master_party}
-use Rattle.written_world.specs.MasterSteps.{is_there, talks, peers, projection, end_step, master_hears, told, received, adopted_now, adopts, take_report, take_demand, meet_app, is_taken, row, grants}
+use Rattle.written_world.specs.MasterSteps.{is_there, talks, peers, projection, end_step, master_hears, told, received, adopted_now, adopts, take_report, take_demand, meet_app, is_taken, row, grants, counted}
 use Rattle.written_world.specs.Agents.{joined, agent_table, agent_hears, app_hears, carry, joined_demand}
 use Rattle.written_world.specs.Events.{Event, StartMaster, StopMaster, StartAgent, StartApp, Submit, Finish, Ban, Unban, Begin, Preempt, Want, Near, Rack, Avoid, GiveBack, TurnMaster, TurnAgent, TurnApp, ResyncMaster, ResyncAgent, ResyncApp, Deliver, DeliverRange, Dump, ShowState, at_master, at_agent, at_app, changed_demand, demanded, send_all, turned, turn_to_master, resync_all, addressed, packet_of, deliver_one, deliver_all, given_back, usable_now, most_masters, new_master, ended_in, banned_in, act, counted_in, world_step}
 use Rattle.written_world.specs.Runs.{run_from, run}
 use Rattle.written_world.specs.Sound.{Sound, Current, PacketNames}
 use Rattle.written_world.specs.Good.{shape, HasJoined, IsCredited}
-use Rattle.written_world.specs.Shown.{AllShown, AllCredited}
-use Rattle.written_world.specs.Safe.{AllAgree, AllHeldOnce}
+use Rattle.written_world.specs.Shown.{AllShown, AllCredited, AllGiveBacks}
+use Rattle.written_world.specs.Safe.{AllAgree, AllFit, CountsOnce, RowsFit}
 use Rattle.written_world.proofs.Bounds.{found_within}
 use Rattle.written_world.proofs.Choosing.{either, and_true}
 use Rattle.written_world.proofs.Sounds.{Grows, comes_sound, move_sound}
-use Rattle.written_world.proofs.Start.{sound_at_start, written_at_start}
+use Rattle.written_world.proofs.Start.{empty_at, fit_at_start, sound_at_start, written_at_start}
 use Rattle.written_world.proofs.Steps.{found_has}
 use Rattle.written_world.proofs.Acts.{Acted, same_party_itself, grows_itself, Leaves, leaves_nothing, start_leaves, comes_leaves, send_all_acted, resync_all_acted}
-use Rattle.written_world.proofs.Tabling.{IsTabled, new_tabled, same_tabled, added_tabled, told_tabled, ended_tabled, banned_tabled, preempted_tabled}
+use Rattle.written_world.specs.Safe.{RowsFit, AllFit}
+use Rattle.written_world.proofs.Places.{id_is, number_is}
+use Rattle.written_world.proofs.Granting.{GrantHolds, nothing_granted}
+use Rattle.written_world.proofs.Housing.{IsHoused, new_housed, same_housed, added_housed, ended_housed, banned_housed, told_housed, preempted_housed}
+use Rattle.written_world.proofs.Tabling.{IsTabled, met_tabled, new_tabled, same_tabled, added_tabled, told_tabled, ended_tabled, banned_tabled, preempted_tabled}
 use Rattle.written_world.proofs.Standing.{Standing, Origins, origins_grow, IsShowing, stepped, finish_standing, projection_head}
 use Rattle.written_world.proofs.Writing.{DemandsHold, KnowsMore, knows_itself, changed_follows, published_demands}
 use Rattle.written_world.proofs.Crediting.{credited_view, credited_like, heard_credited}
 use Rattle.written_world.proofs.KnownJobs.{job_added, both_added, added_credited, ended_knows, both_ended, ended_credited}
 use Rattle.written_world.proofs.Agreeing.{agent_agrees, app_agrees}
-use Rattle.written_world.proofs.Carrying.{carry_origins, held_once}
-use Rattle.written_world.proofs.Joining.{joins, joined_written, demands, acted, agent_standing, app_standing, app_put_standing, agent_starts, app_starts}
+use Rattle.written_world.proofs.Carrying.{carry_origins, counts_once}
+use Rattle.written_world.proofs.Joining.{joined_reports, joins, joined_written, demands, acted, agent_standing, app_standing, app_put_standing, agent_starts, app_starts}
 
 record Stands (w : World) : Type 0 where
   it : Standing w
@@ -86,16 +90,16 @@ runs : (w : World) (e : ℕ) (M : Master) → Standing w → find nat_cmp e w.ma
 runs w e M h found = let k = h.masters e M found in omega (arith, k.epoch, k.ran)
 
 master_acts : (w : World) (hard : HardState) (e : ℕ) (M N : Master) (forced : List Id) → Standing w → find nat_cmp e w.masters ≡ Some M → w.hard.fence ≤ hard.fence → KnowsMore w.hard.jobs hard.jobs
-    → N.epoch ≡ M.epoch → KnowsMore N.jobs hard.jobs → (IsTabled M → IsTabled N) → (IsCredited w.net M → IsCredited w.net N) → StepStands (prints_nothing (end_step (record w { hard = hard }) w.net N forced))
-master_acts w hard e M N forced h found up more same knows t cr = let k = h.masters e M found in
-    record { it = finish_standing w hard w.ran w.net N forced h up more (omega (arith, same, up, runs w e M h found)) knows (t k.tabled) (cr k.credited) h.sound (leaves_nothing (master_party N) w.net) (grows_itself w.net) }
+    → N.epoch ≡ M.epoch → KnowsMore N.jobs hard.jobs → (IsTabled M → IsTabled N) → (IsTabled M → IsHoused w.cluster M → IsHoused w.cluster N) → (IsCredited w.net M → IsCredited w.net N) → StepStands (prints_nothing (end_step (record w { hard = hard }) w.net N forced))
+master_acts w hard e M N forced h found up more same knows t hs cr = let k = h.masters e M found in
+    record { it = finish_standing w hard w.ran w.net N forced h up more (omega (arith, same, up, runs w e M h found)) knows (t k.tabled) (hs k.tabled k.housed) (cr k.credited) h.sound (leaves_nothing (master_party N) w.net) (grows_itself w.net) refl }
 
 -- the same where no job changes
 master_changes : (w : World) (hard : HardState) (e : ℕ) (M N : Master) (forced : List Id) → Standing w → find nat_cmp e w.masters ≡ Some M → w.hard.fence ≤ hard.fence → hard.jobs ≡ w.hard.jobs
-    → N.epoch ≡ M.epoch → N.jobs ≡ M.jobs → N.credited ≡ M.credited → (IsTabled M → IsTabled N) → StepStands (prints_nothing (end_step (record w { hard = hard }) w.net N forced))
-master_changes w hard e M N forced h found up jobs same mine credited t =
+    → N.epoch ≡ M.epoch → N.jobs ≡ M.jobs → N.credited ≡ M.credited → (IsTabled M → IsTabled N) → (IsTabled M → IsHoused w.cluster M → IsHoused w.cluster N) → StepStands (prints_nothing (end_step (record w { hard = hard }) w.net N forced))
+master_changes w hard e M N forced h found up jobs same mine credited t hs =
     master_acts w hard e M N forced h found up (subst (KnowsMore w.hard.jobs) (sym jobs) (knows_itself w.hard.jobs)) same
-    (subst (KnowsMore N.jobs) (sym jobs) (subst (λ js. KnowsMore js w.hard.jobs) (sym mine) (h.masters e M found).knows)) t (credited_like w.net M N same mine credited)
+    (subst (KnowsMore N.jobs) (sym jobs) (subst (λ js. KnowsMore js w.hard.jobs) (sym mine) (h.masters e M found).knows)) t hs (credited_like w.net M N same mine credited)
 
 -- Refusals, and parties that do not run
 checked : (w : World) (o : Option Refusal) (s : Step) → Standing w → (o ≡ None → StepStands s) → StepStands (elim o as (λ _. Step) [ None ↦ s | Some r ↦ refused w r ])
@@ -149,6 +153,9 @@ master_acted w e M net' h found a =
       machines = h.machines;
       origins = λ b g f. inl f;
       written = λ b n. inl refl;
+      rows = λ k m. inr (λ n. subst (λ (hs : Party → Id → List Ledger). RowsFit w.cluster m (at_index nothing (hs (party master_id k) (agent_id m)) n).rows) (sym a.histories) (h.rows k m n));
+      reports = λ m b. inl refl;
+      grants = λ k b. inr (λ n. subst (λ (hs : Party → Id → List Ledger). GrantHolds w.cluster w.hard.jobs b (at_index nothing (hs (party master_id k) (app_id b)) n)) (sym a.histories) (h.grants k b n));
     })
   where
     shows : (qs : List Id) → AllByRecursion (λ q. present w.net (master_party M) q ≡ projection w.net M q) qs → AllByRecursion (λ q. present net' (master_party M) q ≡ projection net' M q) qs
@@ -170,6 +177,7 @@ master_acted w e M net' h found a =
           ran = omega (arith, same, k.ran);
           knows = k.knows;
           tabled = k.tabled;
+          housed = k.housed;
           waits = k.waits;
           credited = credited_view w.net net' M (λ b i. at_index nothing (a.histories i (party (app_id b) (a.known (app_id b) i)) master_id) (a.seq (app_id b) i)) (λ b. a.seq (app_id b)) k.credited;
           shows = shows (peers w.cluster M) k.shows;
@@ -179,12 +187,15 @@ master_acted w e M net' h found a =
 current_of : (net : Net Ledger) (p : Party) → HasJoined net p → AllByRecursion (λ q. Current shape net p q) (master_id ∷ [])
 current_of net p h = (record { head = λ hd some. h.head }, tt)
 
+same_reports : (w : World) (m : ℕ) (g : Agent) (hs : Party → Id → List Ledger) → Standing w → hs ≡ w.net.histories → (n : ℕ) → RowsFit w.cluster m (at_index nothing (hs (party (agent_id m) g.boot) master_id) n).rows
+same_reports w m g hs h same n = subst (λ (hs : Party → Id → List Ledger). RowsFit w.cluster m (at_index nothing (hs (party (agent_id m) g.boot) master_id) n).rows) (sym same) (h.reports m g.boot n)
+
 agent_turns : (w : World) (m : ℕ) (g : Agent) → Standing w → find nat_cmp m w.agents ≡ Some g → StepStands (turn_to_master w (party (agent_id m) g.boot))
 agent_turns w m g h found =
     let p = party (agent_id m) g.boot in
     let j = (h.agents m g found).joined in
     either StepStands (nat_eq (w.net.links p master_id).known 0) (prints_nothing w) (turned w p (master_id ∷ [])) (λ _. record { it = h })
-    (λ _. record { it = agent_standing w m g (send_all w.net p (master_id ∷ [])) h found (acted w.net (send_all w.net p (master_id ∷ [])) p (send_all_acted w.net p (master_id ∷ []) (current_of w.net p j) h.sound) j) })
+    (λ _. let r = send_all_acted w.net p (master_id ∷ []) (current_of w.net p j) h.sound in record { it = agent_standing w m g (send_all w.net p (master_id ∷ [])) h found (acted w.net (send_all w.net p (master_id ∷ [])) p r j) (same_reports w m g _ h r.histories) })
 
 same_demands : (w : World) (a : ℕ) (g : App) (hs : Party → Id → List Ledger) → Standing w → hs ≡ w.net.histories → DemandsHold w.cluster (unit_count w.hard.jobs a) (hs (party (app_id a) g.boot) master_id)
 same_demands w a g hs h same = subst (λ (hs : Party → Id → List Ledger). DemandsHold w.cluster (unit_count w.hard.jobs a) (hs (party (app_id a) g.boot) master_id)) (sym same) (h.written a g.boot)
@@ -209,8 +220,8 @@ demanded_stands w a g k n h found le there rises =
     }
 
 -- Deliveries
-master_hears_stands : (w : World) (e which : ℕ) (M : Master) (x : Packet) → Standing w → find nat_cmp e w.masters ≡ Some M → slice_get w.net.packets which ≡ Some x → Stands (master_hears w M x)
-master_hears_stands w e which M x h found sent =
+master_hears_stands : (w : World) (e which : ℕ) (M : Master) (x : Packet) → Standing w → is_master x.to.id ≡ true → find nat_cmp e w.masters ≡ Some M → slice_get w.net.packets which ≡ Some x → Stands (master_hears w M x)
+master_hears_stands w e which M x h to found sent =
     let hd = heard_of w.net (master_party M) (talks w.cluster M) x in
     let l = received w.cluster M w.net x in
     let n = comes w.net (master_party M) (talks w.cluster M) (Some x) in
@@ -220,15 +231,33 @@ master_hears_stands w e which M x h found sent =
     either Stands (talks w.cluster M x.from.id) (end_step w n N (adopted_now M hd x.from.id l)) w
     (λ t. record {
       it = finish_standing w w.hard w.ran n N (adopted_now M hd x.from.id l) h (omega arith) (knows_itself w.hard.jobs) (omega (arith, same, runs w e M h found)) (subst (λ js. KnowsMore js w.hard.jobs) (sym (told_jobs M hd x.from.id l)) k.knows) (told_tabled M hd x.from.id l k.tabled)
+          (told_housed w.cluster M hd x.from.id l (λ agent _. reported agent) (k.tabled, met_tabled M hd.fresh x.from.id.number k.tabled) k.housed)
           (heard_credited w.cluster w.hard.jobs w.net M x h.sound (found_within (λ y. PacketNames shape w.net.histories y.kind y) w.net.packets which x h.sound.packets sent) k.credited t k.knows h.written)
           (comes_sound shape w.net (master_party M) (talks w.cluster M) (Some x) (λ y t. found_within (λ y. PacketNames shape w.net.histories y.kind y) w.net.packets which y h.sound.packets (sent ∙ t)) h.sound)
-          (subst (λ b. Leaves (party master_id b) w.net n) (sym same) (comes_leaves w.net (master_party M) (talks w.cluster M) x)) (grows_itself w.net);
+          (subst (λ b. Leaves (party master_id b) w.net n) (sym same) (comes_leaves w.net (master_party M) (talks w.cluster M) x)) (grows_itself w.net) refl;
     })
     (λ _. record { it = h })
+  where
+    -- what an agent reported fits its machine
+    reported : is_agent x.from.id ≡ true → RowsFit w.cluster x.from.id.number (received w.cluster M w.net x).rows
+    reported e =
+        let from : x.from ≡ party (agent_id x.from.id.number) x.from.inc = (let r = number_is x.from.id.role 2 e in λ i. record { id = record { role = r i; number = x.from.id.number }; inc = x.from.inc }) in
+        let here : x.to.id ≡ master_id = id_is x.to.id master_id to in
+        subst (λ b. RowsFit w.cluster x.from.id.number (cond b (content w.net x) (counted w.cluster M.jobs x.from.id.number (content w.net x))).rows) (sym e)
+        (subst (λ (r : Party). RowsFit w.cluster x.from.id.number (at_index nothing (w.net.histories r x.to.id) x.seq).rows) (sym from)
+        (subst (λ d. RowsFit w.cluster x.from.id.number (at_index nothing (w.net.histories (party (agent_id x.from.id.number) x.from.inc) d) x.seq).rows) (sym here) (h.reports x.from.id.number x.from.inc x.seq)))
+
+-- an agent's table is a row that a master sent, or one that it reported
+table_fits : (w : World) (m : ℕ) (g : Agent) → Standing w → RowsFit w.cluster m (agent_table w.net (party (agent_id m) g.boot))
+table_fits w m g h = let p = party (agent_id m) g.boot in
+    either (RowsFit w.cluster m) (nat_eq (w.net.links p master_id).seq 0) (present w.net p master_id).rows (view w.net p master_id).rows
+    (λ _. h.reports m g.boot (last w.net p master_id)) (λ _. h.rows (w.net.links p master_id).known m (w.net.links p master_id).seq)
 
 agent_hears_stands : (w : World) (m which : ℕ) (g : Agent) (x : Packet) → Standing w → find nat_cmp m w.agents ≡ Some g → slice_get w.net.packets which ≡ Some x → Stands (agent_hears w m g x)
-agent_hears_stands w m which g x h found sent = let p = party (agent_id m) g.boot in
-    record { it = agent_standing w m g _ h found (joins w.net p which x (report_ledger x.from.inc (agent_table w.net p)) sent refl h.sound (h.agents m g found).joined) }
+agent_hears_stands w m which g x h found sent =
+    let p = party (agent_id m) g.boot in
+    let report = report_ledger x.from.inc (agent_table w.net p) in
+    record { it = agent_standing w m g _ h found (joins w.net p which x report sent refl h.sound (h.agents m g found).joined) (joined_reports w.cluster w.net p m x report (table_fits w m g h) (h.reports m g.boot)) }
 
 app_hears_stands : (w : World) (a which : ℕ) (g : App) (x : Packet) → Standing w → find nat_cmp a w.apps ≡ Some g → slice_get w.net.packets which ≡ Some x → Stands (app_hears w a g x)
 app_hears_stands w a which g x h found sent =
@@ -248,10 +277,10 @@ addressed_stands w which x h sent =
     let to_master = with_found (find nat_cmp x.to.inc w.masters) w (λ M. master_hears w M x) in
     let to_agent = with_found (find nat_cmp x.to.id.number w.agents) w (λ g. agent_hears w x.to.id.number g x) in
     let to_app = with_found (find nat_cmp x.to.id.number w.apps) w (λ g. app_hears w x.to.id.number g x) in
-    let master : Stands to_master = found_has Stands (find nat_cmp x.to.inc w.masters) w (λ M. master_hears w M x) same (λ M e. master_hears_stands w x.to.inc which M x h e sent) in
+    let master : is_master x.to.id ≡ true → Stands to_master = λ to. found_has Stands (find nat_cmp x.to.inc w.masters) w (λ M. master_hears w M x) same (λ M e. master_hears_stands w x.to.inc which M x h to e sent) in
     let agent : Stands to_agent = found_has Stands (find nat_cmp x.to.id.number w.agents) w (λ g. agent_hears w x.to.id.number g x) same (λ g e. agent_hears_stands w x.to.id.number which g x h e sent) in
     let app : Stands to_app = found_has Stands (find nat_cmp x.to.id.number w.apps) w (λ g. app_hears w x.to.id.number g x) same (λ g e. app_hears_stands w x.to.id.number which g x h e sent) in
-    either Stands (is_master x.to.id) to_master (cond (is_agent x.to.id) to_agent (cond (is_app x.to.id) to_app w)) (λ _. master)
+    either Stands (is_master x.to.id) to_master (cond (is_agent x.to.id) to_agent (cond (is_app x.to.id) to_app w)) master
     (λ _. either Stands (is_agent x.to.id) to_agent (cond (is_app x.to.id) to_app w) (λ _. agent)
     (λ _. either Stands (is_app x.to.id) to_app w (λ _. app) (λ _. same)))
 
@@ -266,8 +295,8 @@ deliver_all_stands (suc n) k w h = record { it = (deliver_all_stands n (k + 1) (
 new_stands : (w : World) (e : ℕ) → Standing w → w.hard.fence < e
     → StepStands (prints_nothing (end_step (record w { hard = raised w.hard e; ran = w.ran ++ party master_id e ∷ [] }) (move w.net (Starts (party master_id e))) (new_master w e) (map app_id (job_numbers w.hard.jobs))))
 new_stands w e h lt = record {
-  it = finish_standing w (raised w.hard e) (w.ran ++ party master_id e ∷ []) (move w.net (Starts (party master_id e))) (new_master w e) (map app_id (job_numbers w.hard.jobs)) h (omega (arith, lt)) (knows_itself w.hard.jobs) (omega arith) (knows_itself w.hard.jobs) (new_tabled (new_master w e) refl refl refl) credited
-      (move_sound shape w.net (Starts (party master_id e)) refl (λ q. h.unstarted (party master_id e) q lt) h.sound) (start_leaves w.net (party master_id e)) (grows_itself w.net);
+  it = finish_standing w (raised w.hard e) (w.ran ++ party master_id e ∷ []) (move w.net (Starts (party master_id e))) (new_master w e) (map app_id (job_numbers w.hard.jobs)) h (omega (arith, lt)) (knows_itself w.hard.jobs) (omega arith) (knows_itself w.hard.jobs) (new_tabled (new_master w e) refl refl refl) (new_housed w.cluster (new_master w e) refl) credited
+      (move_sound shape w.net (Starts (party master_id e)) refl (λ q. h.unstarted (party master_id e) q lt) h.sound) (start_leaves w.net (party master_id e)) (grows_itself w.net) refl;
 }
   where
     link : (a : ℕ) → (move w.net (Starts (party master_id e))).links (party master_id e) (app_id a) ≡ unknown
@@ -291,6 +320,9 @@ stopped_stands w e h = record {
   origins = h.origins;
   units = h.units;
   written = h.written;
+  rows = h.rows;
+  reports = h.reports;
+  grants = h.grants;
 }
   where
     kept : (b : Bool) (o : Option Master) (M : Master) → cond b o None ≡ Some M → o ≡ Some M
@@ -364,12 +396,12 @@ act_stands w (Submit e j) h = master_runs w e _ h (λ M f. checked w _ _ h (λ n
     let k = h.masters e M f in
     let tests = behind (job_tests w.cluster.resources j) (submit_tests w.hard e j) (not_refused (not (has_group w.cluster j.group)) NoGroup (job_tests w.cluster.resources j ++ submit_tests w.hard e j) n).1 in
     let new : is_known w.hard.jobs j.number ≡ false = (not_refused (is_known w.hard.jobs j.number) Known (is_full w.hard ∷ []) (not_refused (nat_lt e w.hard.fence) (Fenced w.hard.fence) ((is_known w.hard.jobs j.number, Known) ∷ is_full w.hard ∷ []) tests).1).0 in
-    master_acts w (submitted w.hard j) e M (record M { jobs = with_job j M.jobs }) (app_id j.number ∷ []) h f (omega arith) (job_added w.hard.jobs j) refl (both_added M.jobs w.hard.jobs j new k.knows) (added_tabled M j) (added_credited w.net M j)))
-act_stands w (Finish e a) h = master_runs w e _ h (λ M f. checked w _ _ h (λ _. master_acts w (finished w.hard a) e M (ended_in M a) [] h f (omega arith) (ended_knows a w.hard.jobs w.hard.jobs (knows_itself w.hard.jobs)) refl (both_ended a M.jobs w.hard.jobs (h.masters e M f).knows) (ended_tabled M a) (ended_credited w.net M a)))
-act_stands w (Ban e m) h = master_runs w e _ h (λ M f. checked w _ _ h (λ _. master_changes w (banned w.hard m) e M (banned_in M m) [] h f (omega arith) refl refl refl refl (banned_tabled M m)))
-act_stands w (Unban e m) h = master_runs w e _ h (λ M f. checked w _ _ h (λ _. master_changes w (unbanned w.hard m) e M (record M { bans = without_number m M.bans }) [] h f (omega arith) refl refl refl refl (same_tabled M (record M { bans = without_number m M.bans }) refl refl refl refl)))
-act_stands w (Begin e) h = master_runs w e _ h (λ M f. checked w _ _ h (λ _. master_changes w w.hard e M (record M { serving = true }) [] h f (omega arith) refl refl refl refl (same_tabled M (record M { serving = true }) refl refl refl refl)))
-act_stands w (Preempt e) h = master_runs w e _ h (λ M f. checked w _ _ h (λ _. found_has StepStands (plan_of w.cluster M) _ _ (record { it = h }) (λ p planned. master_changes w w.hard e M (preempted M p) [] h f (omega arith) refl refl refl refl (preempted_tabled w.cluster M p planned (h.masters e M f).waits))))
+    master_acts w (submitted w.hard j) e M (record M { jobs = with_job j M.jobs }) (app_id j.number ∷ []) h f (omega arith) (job_added w.hard.jobs j) refl (both_added M.jobs w.hard.jobs j new k.knows) (added_tabled M j) (added_housed w.cluster M j) (added_credited w.net M j)))
+act_stands w (Finish e a) h = master_runs w e _ h (λ M f. checked w _ _ h (λ _. master_acts w (finished w.hard a) e M (ended_in M a) [] h f (omega arith) (ended_knows a w.hard.jobs w.hard.jobs (knows_itself w.hard.jobs)) refl (both_ended a M.jobs w.hard.jobs (h.masters e M f).knows) (ended_tabled M a) (λ _. ended_housed w.cluster M a) (ended_credited w.net M a)))
+act_stands w (Ban e m) h = master_runs w e _ h (λ M f. checked w _ _ h (λ _. master_changes w (banned w.hard m) e M (banned_in M m) [] h f (omega arith) refl refl refl refl (banned_tabled M m) (λ _. banned_housed w.cluster M m)))
+act_stands w (Unban e m) h = master_runs w e _ h (λ M f. checked w _ _ h (λ _. master_changes w (unbanned w.hard m) e M (record M { bans = without_number m M.bans }) [] h f (omega arith) refl refl refl refl (same_tabled M (record M { bans = without_number m M.bans }) refl refl refl refl) (λ _. same_housed w.cluster M (record M { bans = without_number m M.bans }) refl refl refl)))
+act_stands w (Begin e) h = master_runs w e _ h (λ M f. checked w _ _ h (λ _. master_changes w w.hard e M (record M { serving = true }) [] h f (omega arith) refl refl refl refl (same_tabled M (record M { serving = true }) refl refl refl refl) (λ _. same_housed w.cluster M (record M { serving = true }) refl refl refl)))
+act_stands w (Preempt e) h = master_runs w e _ h (λ M f. checked w _ _ h (λ _. found_has StepStands (plan_of w.cluster M) _ _ (record { it = h }) (λ p planned. master_changes w w.hard e M (preempted M p) [] h f (omega arith) refl refl refl refl (preempted_tabled w.cluster M p planned (h.masters e M f).waits) (preempted_housed w.cluster M p planned))))
 act_stands w (Want a u n) h = want_stands w a u n h
 act_stands w (Near a u m n) h = near_stands w a u m n h
 act_stands w (Rack a u r n) h = rack_stands w a u r n h
@@ -379,7 +411,7 @@ act_stands w (TurnMaster e) h = master_runs w e _ h (λ M f. record { it = maste
 act_stands w (TurnAgent m) h = agent_runs w m _ h (λ g f. agent_turns w m g h f)
 act_stands w (TurnApp a) h = app_runs w a _ h (λ g f. app_turns w a g h f)
 act_stands w (ResyncMaster e) h = master_runs w e _ h (λ M f. record { it = master_acted w e M _ h f (resync_all_acted w.net (master_party M) (peers w.cluster M) h.sound) })
-act_stands w (ResyncAgent m) h = agent_runs w m _ h (λ g f. let p = party (agent_id m) g.boot in record { it = agent_standing w m g _ h f (acted w.net (resync_all w.net p (master_id ∷ [])) p (resync_all_acted w.net p (master_id ∷ []) h.sound) (h.agents m g f).joined) })
+act_stands w (ResyncAgent m) h = agent_runs w m _ h (λ g f. let p = party (agent_id m) g.boot in record { it = agent_standing w m g _ h f (acted w.net (resync_all w.net p (master_id ∷ [])) p (resync_all_acted w.net p (master_id ∷ []) h.sound) (h.agents m g f).joined) (same_reports w m g _ h (resync_all_acted w.net p (master_id ∷ []) h.sound).histories) })
 act_stands w (ResyncApp a) h = app_runs w a _ h (λ g f. let p = party (app_id a) g.boot in record { it = app_standing w a g _ h f (acted w.net (resync_all w.net p (master_id ∷ [])) p (resync_all_acted w.net p (master_id ∷ []) h.sound) (h.apps a g f).joined) (same_demands w a g _ h (resync_all_acted w.net p (master_id ∷ []) h.sound).histories) })
 act_stands w (Deliver k) h = checked w _ _ h (λ _. deliver_stands k w h)
 act_stands w (DeliverRange k l) h = checked w _ _ h (λ _. deliver_all_stands (l + 1 - k) k w h)
@@ -387,14 +419,14 @@ act_stands w (Dump k) h = checked w _ _ h (λ _. found_has StepStands (packet_of
 act_stands w ShowState h = record { it = h }
 
 counted_stands : (w : World) → Standing w → Standing (counted_in w)
-counted_stands w h = record { sound = h.sound; unstarted = h.unstarted; masters = h.masters; agents = h.agents; apps = h.apps; machines = h.machines; origins = h.origins; units = h.units; written = h.written }
+counted_stands w h = record { sound = h.sound; unstarted = h.unstarted; masters = h.masters; agents = h.agents; apps = h.apps; machines = h.machines; origins = h.origins; units = h.units; written = h.written; rows = h.rows; reports = h.reports; grants = h.grants }
 
 run_stands : (es : List Event) (w : World) → Standing w → Stands (run_from es w).world
 run_stands [] w h = record { it = h }
 run_stands (e ∷ es) w h = record { it = (run_stands es (world_step w e).world (act_stands (counted_in w) e (counted_stands w h)).it).it }
 
 at_start : (c : ClusterRecord) → Standing (empty_world c)
-at_start c = record { sound = sound_at_start; unstarted = λ p q above. refl; masters = λ e M found. cc; agents = λ m g found. cc; apps = λ a g found. cc; machines = λ m g found. cc; origins = λ a g found. cc; units = λ a g found. cc; written = λ a b. let t = written_at_start c in record { backs = t.backs a b; tidy = t.tidy a b; ranged = t.ranged a b } }
+at_start c = record { sound = sound_at_start; unstarted = λ p q above. refl; masters = λ e M found. cc; agents = λ m g found. cc; apps = λ a g found. cc; machines = λ m g found. cc; origins = λ a g found. cc; units = λ a g found. cc; written = λ a b. let t = written_at_start c in record { backs = t.backs a b; anew = λ n within. absurd (omega (arith, within)); tidy = t.tidy a b; ranged = t.ranged a b }; rows = (fit_at_start c).rows; reports = (fit_at_start c).reports; grants = λ e a n. subst (GrantHolds c [] a) (sym (empty_at n)) (nothing_granted c [] a) }
 
 always : (c : ClusterRecord) (es : List Event) → Standing (run c es)
 always c es = (run_stands es (empty_world c) (at_start c)).it
@@ -412,8 +444,14 @@ always_shown c es = let h = always c es in record {
 pub always_credited : (c : ClusterRecord) (es : List Event) → AllCredited (run c es)
 always_credited c es e M found = ((always c es).masters e M found).credited
 
-pub always_once : (c : ClusterRecord) (es : List Event) → AllHeldOnce (run c es)
-always_once c es a g found m = held_once (run c es).net a g m ((always c es).origins a g found)
+pub always_backs : (c : ClusterRecord) (es : List Event) → AllGiveBacks (run c es).net
+always_backs c es = record { rise = λ a b. ((always c es).written a b).backs; anew = λ a b. ((always c es).written a b).anew }
+
+pub always_counts : (c : ClusterRecord) (es : List Event) (a : ℕ) (g : App) → find nat_cmp a (run c es).apps ≡ Some g → (m : ℕ) → CountsOnce (run c es) a g m
+always_counts c es a g found m = counts_once (run c es) a g m (always c es) found
+
+pub always_fit : (c : ClusterRecord) (es : List Event) → AllFit (run c es)
+always_fit c es m g found = table_fits (run c es) m g (always c es)
 
 pub always_agree : (c : ClusterRecord) (es : List Event) → AllAgree (run c es)
 always_agree c es e M found quiet = let h = always c es in record {

@@ -41,7 +41,7 @@ module _ {K : Type 0} {R : K → K → Ordering} (o : IsTotalOrder R) (same : (x
         rw (sum_by-cons w e (put R k v es), sum_by-cons w e es) (omega (arith, r))
   ] refl
 
-each_place : (n : ℕ) (test : ℕ → Bool) (i : ℕ) → below_each n test ≡ true → i < n → test i ≡ true
+pub each_place : (n : ℕ) (test : ℕ → Bool) (i : ℕ) → below_each n test ≡ true → i < n → test i ≡ true
 each_place zero test i h lt = absurd (omega (arith, lt))
 each_place (suc n) test i h lt = let b = both_true (below_each n test) (test n) h in elim (nat_eq i n) as (λ t. nat_eq i n ≡ t → test i ≡ true) [
   | true ↦ λ e. let same : i ≡ n = grind (arith, nat_tests) in subst (λ k. test k ≡ true) (sym same) b.1

@@ -1,5 +1,5 @@
 -- What an application carries has an origin, and what it holds is counted at one place.
-use Rattle.std.proofs.Common.{◌≡◌, ℕ, ◌⊎◌, inl, inr, zero, suc, ◌≤◌, Bool, true, false, cond, nat_eq, List, [], ◌∷◌, ◌++◌, length, length-append, map, Option, Some, None, slice_get, refl, sym, ◌∙◌, ap, subst, arith}
+use Rattle.std.proofs.Common.{◌≡◌, ℕ, ◌⊎◌, inl, inr, zero, suc, ◌*◌, ◌<◌, ◌≤◌, Bool, true, false, cond, nat_eq, List, [], ◌∷◌, ◌++◌, length, length-append, map, Option, Some, None, slice_get, refl, sym, ◌∙◌, ap, subst, arith, mul-le-mul_right}
 use Rattle.std.specs.Option.{option_map, unwrap_or}
 use Rattle.std.specs.Ordering.{nat_cmp}
 use Rattle.std.specs.FinMap.Entries.{find, put}
@@ -8,14 +8,15 @@ use Rattle.fuxi_terms.specs.Vectors.{at_place}
 use Rattle.written_world.specs.Net.{Net, Party, Link}
 use Rattle.written_world.specs.Ledgers.{Ledger, nothing, at_key, count_key}
 use Rattle.written_world.specs.Channels.{master_id, app_id, party, at_index, view}
-use Rattle.written_world.specs.Jobs.{below}
-use Rattle.written_world.specs.World.{App, Carried}
+use Rattle.written_world.specs.Jobs.{below, size_at, has_at}
+use Rattle.written_world.specs.World.{World, App, Carried}
 use Rattle.written_world.specs.Agents.{names, usable, carry_one, carry, app_held}
 use Rattle.written_world.specs.Sound.{Sound}
 use Rattle.written_world.specs.Good.{shape, HasOrigin}
-use Rattle.written_world.specs.Safe.{grants_at, HeldOnce}
+use Rattle.written_world.specs.Safe.{place_for, grants_at, units_total_at, HeldOnce, CountsOnce}
 use Rattle.written_world.proofs.Choosing.{either}
-use Rattle.written_world.proofs.Standing.{Origins, put_found}
+use Rattle.written_world.proofs.Granting.{no_share, sum_le}
+use Rattle.written_world.proofs.Standing.{Standing, Origins, put_found}
 
 -- a ledger that names a machine is not the one at index 0
 named_first : (h : List Ledger) (n m : ℕ) → names (at_index nothing h n) m ≡ true → 1 ≤ n
@@ -124,3 +125,24 @@ held_once net a g m h = by_name (names (view net p master_id) m) refl
           let within = by_carried (find nat_cmp m g.carried) refl place (ap (λ b. place_by b (find nat_cmp m g.carried)) (sym t) ∙ some) u in
           omega (arith, held, within);
     }
+
+-- and together it fits the machine
+pub counts_once : (w : World) (a : ℕ) (g : App) (m : ℕ) → Standing w → find nat_cmp a w.apps ≡ Some g → CountsOnce w a g m
+counts_once w a g m h found = record { once = once; fits = λ i lt. by i lt (place_for w.net p g m) refl }
+  where
+    p : Party
+    p = party (app_id a) g.boot
+
+    once : HeldOnce w.net a g m
+    once = held_once w.net a g m (h.origins a g found)
+
+    held : ℕ → ℕ
+    held u = app_held w.net p g u m
+
+    by : (i : ℕ) → i < w.cluster.resources → (o : Option (ℕ × ℕ)) → place_for w.net p g m ≡ o → units_total_at w.hard.jobs a g.units held i ≤ has_at w.cluster m i
+    by i lt None none = let z = no_share w.hard.jobs a g.units i held (once.nowhere none) in omega (arith, z)
+    by i lt (Some place) some =
+        let number : ℕ → ℕ = λ u. at_key (grants_at w.net a place) (count_key u m) in
+        let s = sum_le (λ u. held u * size_at w.hard.jobs a u i) (λ u. number u * size_at w.hard.jobs a u i) g.units (λ u. let e = once.counts place some u in mul-le-mul_right {m = held u} {n = number u} (size_at w.hard.jobs a u i) e) in
+        let f = (h.grants place.0 a place.1).fits g.units m i lt in
+        omega (arith, s, f)

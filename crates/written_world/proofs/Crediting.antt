@@ -356,7 +356,7 @@ module _ (c : ClusterRecord) (jobs : List KnownJob) (net : Net Ledger) (M : Mast
       holds = subst (λ r. DemandsHold c (unit_count jobs a) (net.histories r master_id)) (sym sender) (written x.from.inc)
 
       same_units : unit_count jobs a ≡ unit_count M.jobs a
-      same_units = (more.known a known).1
+      same_units = ap length (more.known a known).1
 
       before : CreditsAt net.histories M a (net.links p x.from.id)
       before = record { credits = λ alive u m. h.credits a alive u m ∙ ap (λ i. at_key (seen net.histories a (net.links p i)) (back_key u m)) (sym from) }

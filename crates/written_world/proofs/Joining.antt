@@ -10,7 +10,7 @@ use Rattle.written_world.specs.Channels.{master_id, agent_id, app_id, party, is_
 use Rattle.written_world.specs.World.{World, Agent, App, top, set_boot}
 use Rattle.fuxi_terms.specs.Cluster.{ClusterRecord}
 use Rattle.written_world.specs.Jobs.{KnownJob, has_machine, unit_count}
-use Rattle.written_world.proofs.Writing.{DemandsHold, knows_itself, published_demands, joined_follows}
+use Rattle.written_world.proofs.Writing.{DemandsHold, knows_itself, publish_each, published_demands, joined_follows}
 use Rattle.written_world.specs.Agents.{joined, joined_demand}
 use Rattle.written_world.specs.Sound.{Sound, PacketNames}
 use Rattle.written_world.specs.Good.{shape, HasJoined}
@@ -19,6 +19,7 @@ use Rattle.written_world.proofs.Choosing.{both_true, either}
 use Rattle.written_world.proofs.Places.{id_is, number_is, set_at_all}
 use Rattle.written_world.proofs.Sounds.{Grows, comes_sound, move_sound}
 use Rattle.written_world.proofs.Acts.{Leaves, leaves_then, start_leaves, comes_leaves, grows_itself, publish_grows, publish_links, publish_leaves, publish_sound, publish_presents, set_here, same_id_itself, same_party_itself, Acted}
+use Rattle.written_world.specs.Safe.{RowsFit}
 use Rattle.written_world.proofs.Standing.{Standing, IsJoined, Origins, HasUnits, stepped, put_found}
 
 -- Hearing: what is known afterwards
@@ -189,9 +190,29 @@ written_of c jobs net' a b k n d = by (nat_eq a k) refl (nat_eq b n) refl
     by true e false f = inl (none (nat_eq a k) (nat_eq b n) e f)
     by true e true f = inr (subst (λ i. DemandsHold c (unit_count jobs i) (net'.histories (party (app_id i) n) master_id)) (number_is a k e) (subst (λ i. DemandsHold c (unit_count jobs a) (net'.histories (party (app_id a) i) master_id)) (number_is b n f) d))
 
+-- the reports of the agent that acts, and of every other
+reports_of : (c : ClusterRecord) (net' : Net Ledger) (m b k n : ℕ) → ((i : ℕ) → RowsFit c m (at_index nothing (net'.histories (party (agent_id m) b) master_id) i).rows)
+    → (same_party (party (agent_id m) b) (party (agent_id k) n) ≡ false) ⊎ ((i : ℕ) → RowsFit c k (at_index nothing (net'.histories (party (agent_id k) n) master_id) i).rows)
+reports_of c net' m b k n r = by (nat_eq m k) refl (nat_eq b n) refl
+  where
+    none : (x y : Bool) → x ≡ true → y ≡ false → (x && y) ≡ false
+    none true y e f = f
+    none false y e f = refl
+
+    by : (x : Bool) → nat_eq m k ≡ x → (y : Bool) → nat_eq b n ≡ y → (same_party (party (agent_id m) b) (party (agent_id k) n) ≡ false) ⊎ ((i : ℕ) → RowsFit c k (at_index nothing (net'.histories (party (agent_id k) n) master_id) i).rows)
+    by false e y f = inl (other_number 2 m k b n e)
+    by true e false f = inl (none (nat_eq m k) (nat_eq b n) e f)
+    by true e true f = inr (subst (λ a. (i : ℕ) → RowsFit c a (at_index nothing (net'.histories (party (agent_id a) n) master_id) i).rows) (number_is m k e) (subst (λ a. (i : ℕ) → RowsFit c m (at_index nothing (net'.histories (party (agent_id m) a) master_id) i).rows) (number_is b n f) r))
+
+-- what an agent reports where it meets a new master
+pub joined_reports : (c : ClusterRecord) (net : Net Ledger) (p : Party) (m : ℕ) (x : Packet) (ledger : Ledger) → RowsFit c m ledger.rows → ((n : ℕ) → RowsFit c m (at_index nothing (net.histories p master_id) n).rows) → (n : ℕ) → RowsFit c m (at_index nothing ((joined net p x ledger).histories p master_id) n).rows
+joined_reports c net p m x ledger fit old n =
+    either (λ (k : Net Ledger). RowsFit c m (at_index nothing (k.histories p master_id) n).rows) (heard_of net p is_master x).fresh (publish (comes net p is_master (Some x)) p (to_master ledger)) (comes net p is_master (Some x))
+    (λ _. publish_each (λ q l. q ≡ master_id → RowsFit c m l.rows) (comes net p is_master (Some x)) p (to_master ledger) ((λ _. fit), tt) (λ q k e. subst (λ d. RowsFit c m (at_index nothing (net.histories p d) k).rows) (sym e) (old k)) master_id n refl) (λ _. old n)
+
 -- a running agent or application acts
-pub agent_standing : (w : World) (m : ℕ) (g : Agent) (net' : Net Ledger) → Standing w → find nat_cmp m w.agents ≡ Some g → Joins (party (agent_id m) g.boot) w.net net' → Standing (record w { net = net' })
-agent_standing w m g net' h found j =
+pub agent_standing : (w : World) (m : ℕ) (g : Agent) (net' : Net Ledger) → Standing w → find nat_cmp m w.agents ≡ Some g → Joins (party (agent_id m) g.boot) w.net net' → ((n : ℕ) → RowsFit w.cluster m (at_index nothing (net'.histories (party (agent_id m) g.boot) master_id) n).rows) → Standing (record w { net = net' })
+agent_standing w m g net' h found j r =
     let ran = (h.agents m g found).ran in
     stepped w (record w { net = net' }) (party (agent_id m) g.boot) h (record {
       cluster = refl;
@@ -208,6 +229,9 @@ agent_standing w m g net' h found j =
       machines = h.machines;
       origins = λ a b f. inl f;
       written = λ a b. inl refl;
+      rows = λ e k. inl refl;
+      reports = λ k b. reports_of w.cluster net' m g.boot k b r;
+      grants = λ e k. inl refl;
     })
 
 pub app_standing : (w : World) (a : ℕ) (g : App) (net' : Net Ledger) → Standing w → find nat_cmp a w.apps ≡ Some g → Joins (party (app_id a) g.boot) w.net net' → DemandsHold w.cluster (unit_count w.hard.jobs a) (net'.histories (party (app_id a) g.boot) master_id) → Standing (record w { net = net' })
@@ -228,6 +252,9 @@ app_standing w a g net' h found j d =
       machines = h.machines;
       origins = λ b x f. inl f;
       written = λ k n. written_of w.cluster w.hard.jobs net' a g.boot k n d;
+      rows = λ e k. inl refl;
+      reports = λ k b. inl refl;
+      grants = λ e k. inl refl;
     })
 
 -- and an application whose record changes
@@ -250,6 +277,9 @@ app_put_standing w a g g' net' same h found j o u d =
       machines = h.machines;
       origins = λ b x f. put_origins w.hard.jobs net' a g' w.apps o u b x f;
       written = λ k n. written_of w.cluster w.hard.jobs net' a g'.boot k n (subst (λ b. DemandsHold w.cluster (unit_count w.hard.jobs a) (net'.histories (party (app_id a) b) master_id)) (sym same) d);
+      rows = λ e k. inl refl;
+      reports = λ k b. inl refl;
+      grants = λ e k. inl refl;
     })
 
 -- Starts. What starts has sent nothing and knows nobody
@@ -291,6 +321,9 @@ agent_starts w ran m b h there lt =
       machines = λ k g f. started k g (put_found k m (record { boot = b }) g w.agents f);
       origins = λ a g f. inl f;
       written = λ a n. inl refl;
+      rows = λ e k. inl refl;
+      reports = λ k n. inr (h.reports k n);
+      grants = λ e k. inl refl;
     })
   where
     new : Agent
@@ -322,4 +355,7 @@ app_starts w ran a b g same h lt o u =
       machines = h.machines;
       origins = λ k x f. put_origins w.hard.jobs (move w.net (Starts p)) a g w.apps o u k x f;
       written = λ k n. inr (h.written k n);
+      rows = λ e k. inl refl;
+      reports = λ k b. inl refl;
+      grants = λ e k. inl refl;
     })

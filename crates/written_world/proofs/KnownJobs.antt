@@ -1,5 +1,5 @@
 -- Jobs that are submitted or end stay known, with their units.
-use Rattle.std.proofs.Common.{◌≡◌, ℕ, Bool, true, false, cond, not, nat_eq, List, [], ◌∷◌, length, Some, None, refl, sym, ◌∙◌, ap, subst}
+use Rattle.std.proofs.Common.{◌≡◌, ℕ, Bool, true, false, cond, not, nat_eq, List, [], ◌∷◌, Some, None, refl, sym, ◌∙◌, ap, subst}
 use Rattle.std.specs.Prelude.{is_some}
 use Rattle.std.specs.Option.{option_map, unwrap_or}
 use Rattle.fuxi_terms.specs.Cluster.{JobRecord}
@@ -8,18 +8,17 @@ use Rattle.fuxi_terms.specs.Counts.{count}
 use Rattle.written_world.specs.Net.{Net}
 use Rattle.written_world.specs.Ledgers.{Ledger, nothing, at_key, credited_key, back_key}
 use Rattle.written_world.specs.Channels.{master_id, app_id, party, at_index}
-use Rattle.written_world.specs.Jobs.{KnownJob, job_of, is_known, is_live, unit_count}
+use Rattle.written_world.specs.Jobs.{KnownJob, job_of, is_known, is_live, units_of}
 use Rattle.written_world.specs.Masters.{Master, credited_of}
 use Rattle.written_world.specs.HardState.{with_job, with_ended}
 use Rattle.written_world.specs.World.{master_party}
 use Rattle.written_world.specs.Events.{ended_in}
 use Rattle.written_world.specs.Good.{IsCredited}
 use Rattle.written_world.proofs.Places.{number_is}
-use Rattle.written_world.proofs.AlwaysResting.{ended_units}
 use Rattle.written_world.proofs.Writing.{KnowsMore}
 
 -- A job behind the others
-old_job : (jobs : List KnownJob) (j : JobRecord) (a : ℕ) → is_known jobs a ≡ true → job_of (with_job j jobs) a ≡ job_of jobs a
+pub old_job : (jobs : List KnownJob) (j : JobRecord) (a : ℕ) → is_known jobs a ≡ true → job_of (with_job j jobs) a ≡ job_of jobs a
 old_job [] j a e = cc
 old_job (k ∷ ks) j a e = elim (nat_eq k.job.number a) as (λ b. is_some (cond b (Some k) (job_of ks a)) ≡ true → cond b (Some k) (job_of (with_job j ks) a) ≡ cond b (Some k) (job_of ks a)) [ true ↦ λ _. refl | false ↦ λ e. old_job ks j a e ] e
 
@@ -31,23 +30,23 @@ new_job [] j a e = refl
 new_job (k ∷ ks) j a e = elim (nat_eq k.job.number a) as (λ b. is_some (cond b (Some k) (job_of ks a)) ≡ false → cond b (Some k) (job_of (with_job j ks) a) ≡ cond (nat_eq j.number a) (Some (record { job = j; ended = false })) None) [ true ↦ λ e. cc | false ↦ λ e. new_job ks j a e ] e
 
 pub job_added : (jobs : List KnownJob) (j : JobRecord) → KnowsMore jobs (with_job j jobs)
-job_added jobs j = record { known = λ a k. let same = old_job jobs j a k in (ap is_some same ∙ k, ap (λ o. length (unwrap_or (option_map (λ (j : KnownJob). j.job.units) o) [])) same) }
+job_added jobs j = record { known = λ a k. let same = old_job jobs j a k in (ap is_some same ∙ k, ap (λ o. unwrap_or (option_map (λ (j : KnownJob). j.job.units) o) []) same) }
 
 -- the same new job behind both
 pub both_added : (jobs jobs' : List KnownJob) (j : JobRecord) → is_known jobs' j.number ≡ false → KnowsMore jobs jobs' → KnowsMore (with_job j jobs) (with_job j jobs')
 both_added jobs jobs' j new more = record { known = λ a k. by a (is_known jobs a) refl k }
   where
-    by : (a : ℕ) (b : Bool) → is_known jobs a ≡ b → is_known (with_job j jobs) a ≡ true → (is_known (with_job j jobs') a ≡ true) × (unit_count (with_job j jobs') a ≡ unit_count (with_job j jobs) a)
+    by : (a : ℕ) (b : Bool) → is_known jobs a ≡ b → is_known (with_job j jobs) a ≡ true → (is_known (with_job j jobs') a ≡ true) × (units_of (with_job j jobs') a ≡ units_of (with_job j jobs) a)
     by a true e k =
         let m = more.known a e in
         let here = old_job jobs j a e in
         let there = old_job jobs' j a m.0 in
-        (ap is_some there ∙ m.0, ap (λ o. length (unwrap_or (option_map (λ (j : KnownJob). j.job.units) o) [])) there ∙ m.1 ∙ sym (ap (λ o. length (unwrap_or (option_map (λ (j : KnownJob). j.job.units) o) [])) here))
+        (ap is_some there ∙ m.0, ap (λ o. unwrap_or (option_map (λ (j : KnownJob). j.job.units) o) []) there ∙ m.1 ∙ sym (ap (λ o. unwrap_or (option_map (λ (j : KnownJob). j.job.units) o) []) here))
     by a false e k =
         let here = new_job jobs j a e in
         let same : j.number ≡ a = number_of (nat_eq j.number a) refl (sym (ap is_some here) ∙ k) in
         let there = new_job jobs' j a (subst (λ n. is_known jobs' n ≡ false) same new) in
-        (ap is_some there ∙ sym (ap is_some here) ∙ k, ap (λ o. length (unwrap_or (option_map (λ (j : KnownJob). j.job.units) o) [])) (there ∙ sym here))
+        (ap is_some there ∙ sym (ap is_some here) ∙ k, ap (λ o. unwrap_or (option_map (λ (j : KnownJob). j.job.units) o) []) (there ∙ sym here))
       where
         number_of : (b : Bool) → nat_eq j.number a ≡ b → is_some (cond b (Some (new_of j)) None) ≡ true → j.number ≡ a
         number_of true t s = number_is j.number a t
@@ -102,11 +101,22 @@ ended_live a (k ∷ ks) b e = elim (nat_eq k.job.number a) as (λ t. unwrap_or (
     other before true e = e
     other before false e = before e
 
+pub ended_units_of : (a : ℕ) (jobs : List KnownJob) (b : ℕ) → units_of (with_ended a jobs) b ≡ units_of jobs b
+ended_units_of a [] b = refl
+ended_units_of a (k ∷ ks) b = elim (nat_eq k.job.number a) as (λ t. unwrap_or (option_map (λ (j : KnownJob). j.job.units) (let k' : KnownJob = cond t (record { job = k.job; ended = true }) k in cond (nat_eq k'.job.number b) (Some k') (job_of (with_ended a ks) b))) [] ≡ units_of (k ∷ ks) b) [
+  | true ↦ one (ended_units_of a ks b) (nat_eq k.job.number b) (record { job = k.job; ended = true }) refl
+  | false ↦ one (ended_units_of a ks b) (nat_eq k.job.number b) k refl
+]
+  where
+    one : units_of (with_ended a ks) b ≡ units_of ks b → (s : Bool) (x : KnownJob) → x.job.units ≡ k.job.units → unwrap_or (option_map (λ (j : KnownJob). j.job.units) (cond s (Some x) (job_of (with_ended a ks) b))) [] ≡ unwrap_or (option_map (λ (j : KnownJob). j.job.units) (cond s (Some k) (job_of ks b))) []
+    one before true x e = e
+    one before false x e = before
+
 pub ended_knows : (a : ℕ) (jobs jobs' : List KnownJob) → KnowsMore jobs jobs' → KnowsMore jobs (with_ended a jobs')
-ended_knows a jobs jobs' more = record { known = λ b k. let m = more.known b k in (ended_known a jobs' b ∙ m.0, ended_units jobs' a b ∙ m.1) }
+ended_knows a jobs jobs' more = record { known = λ b k. let m = more.known b k in (ended_known a jobs' b ∙ m.0, ended_units_of a jobs' b ∙ m.1) }
 
 pub both_ended : (a : ℕ) (jobs jobs' : List KnownJob) → KnowsMore jobs jobs' → KnowsMore (with_ended a jobs) (with_ended a jobs')
-both_ended a jobs jobs' more = record { known = λ b k. let m = more.known b (sym (ended_known a jobs b) ∙ k) in (ended_known a jobs' b ∙ m.0, ended_units jobs' a b ∙ m.1 ∙ sym (ended_units jobs a b)) }
+both_ended a jobs jobs' more = record { known = λ b k. let m = more.known b (sym (ended_known a jobs b) ∙ k) in (ended_known a jobs' b ∙ m.0, ended_units_of a jobs' b ∙ m.1 ∙ sym (ended_units_of a jobs b)) }
 
 pub ended_credited : (net : Net Ledger) (M : Master) (a : ℕ) → IsCredited net M → IsCredited net (ended_in M a)
 ended_credited net M a h = record {

@@ -10,6 +10,7 @@ mod Steps
 mod Start
 mod Sounds
 mod Acts
+mod Spots
 mod Writing
 mod Crediting
 mod Tabling
@@ -18,6 +19,11 @@ mod Carrying
 mod Joining
 mod Agreeing
 mod KnownJobs
+mod Loads
+mod Drawing
+mod Housing
+mod Granted
+mod Granting
 mod AlwaysStanding
 mod Viewing
 mod Resting

@@ -8,7 +8,7 @@ use Rattle.std.proofs.lemmas.Bool.Decides.{nat_tests}
 use Rattle.fuxi_terms.specs.Cluster.{ClusterRecord}
 use Rattle.written_world.specs.Net.{Net, Party, Id, Link, same_id, same_party}
 use Rattle.written_world.specs.Ledgers.{Ledger, nothing, at_key, count_key}
-use Rattle.written_world.specs.Channels.{master_id, agent_id, app_id, party, is_agent, at_index, present, Offer, publish}
+use Rattle.written_world.specs.Channels.{master_id, agent_id, app_id, party, is_agent, is_app, at_index, present, Offer, publish}
 use Rattle.written_world.specs.Masters.{Master}
 use Rattle.written_world.specs.Placing.{first_placeable, granted, settle, settled, all_out, line_up}
 use Rattle.written_world.specs.HardState.{HardState}
@@ -16,10 +16,13 @@ use Rattle.written_world.specs.World.{World, Agent, App, Carried, top, master_pa
 use Rattle.written_world.specs.MasterSteps.{peers, offers, projection, row, grants, is_one_of, phased, ready, end_step}
 use Rattle.written_world.specs.Sound.{Sound}
 use Rattle.written_world.specs.Good.{has_heads, shape, HasJoined, HasOrigin, IsCredited}
-use Rattle.written_world.proofs.Places.{party_is}
+use Rattle.written_world.proofs.Places.{party_is, number_is}
 use Rattle.written_world.specs.Jobs.{KnownJob, has_machine, is_known, unit_count}
-use Rattle.written_world.proofs.Writing.{DemandsHold, KnowsMore, knows_then, wider}
+use Rattle.written_world.proofs.Writing.{DemandsHold, KnowsMore, knows_then, wider, publish_each}
 use Rattle.written_world.proofs.Crediting.{credited_view, view_grows, credited_like}
+use Rattle.written_world.specs.Safe.{RowsFit}
+use Rattle.written_world.proofs.Granting.{GrantHolds, grant_wider, grants_hold}
+use Rattle.written_world.proofs.Housing.{IsHoused, ready_housed, row_fits}
 use Rattle.written_world.proofs.Tabling.{IsTabled, AllWait, ready_tabled, ready_waits}
 use Rattle.written_world.proofs.Sounds.{Grows}
 use Rattle.written_world.proofs.Acts.{Leaves, leaves_then, grows_then, publish_grows, HeadIsKnown, IsWanted, publish_links, publish_leaves, publish_sound, publish_presents}
@@ -30,6 +33,7 @@ pub record IsShowing (c : ClusterRecord) (hard : HardState) (net : Net Ledger) (
   pub ran : e ≤ hard.fence
   pub knows : KnowsMore M.jobs hard.jobs
   pub tabled : IsTabled M
+  pub housed : IsHoused c M
   pub waits : AllWait M M.line
   pub credited : IsCredited net M
   pub shows : AllByRecursion (λ q. present net (master_party M) q ≡ projection net M q) (peers c M)
@@ -57,6 +61,9 @@ pub record Standing (w : World) : Type 0 where
   pub origins : (a : ℕ) (g : App) → find nat_cmp a w.apps ≡ Some g → Origins w.net a g.carried
   pub units : (a : ℕ) (g : App) → find nat_cmp a w.apps ≡ Some g → HasUnits w.hard.jobs a g
   pub written : (a b : ℕ) → DemandsHold w.cluster (unit_count w.hard.jobs a) (w.net.histories (party (app_id a) b) master_id)
+  pub rows : (e m n : ℕ) → RowsFit w.cluster m (at_index nothing (w.net.histories (party master_id e) (agent_id m)) n).rows
+  pub reports : (m b n : ℕ) → RowsFit w.cluster m (at_index nothing (w.net.histories (party (agent_id m) b) master_id) n).rows
+  pub grants : (e a n : ℕ) → GrantHolds w.cluster w.hard.jobs a (at_index nothing (w.net.histories (party master_id e) (app_id a)) n)
 
 -- an entry of a table after one was put is an old one at another key, or the new one
 pub put_found : {A : Type 0} (k a : ℕ) (x y : A) (es : List (ℕ × A)) → find nat_cmp k (put nat_cmp a x es) ≡ Some y → ((nat_eq a k ≡ false) × (find nat_cmp k es ≡ Some y)) ⊎ ((k ≡ a) × (x ≡ y))
@@ -75,6 +82,7 @@ master_stays c hard hard' p net net' e M up more s g l apart h =
       ran = omega (arith, h.ran, up);
       knows = knows_then M.jobs hard.jobs hard'.jobs h.knows more;
       tabled = h.tabled;
+      housed = h.housed;
       waits = h.waits;
       credited = credited_view net net' M (λ a. view_grows net net' (master_party M) (app_id a) s (l.links (master_party M) (app_id a) own) g) (λ a. ap (λ (k : Link). k.seq) (l.links (master_party M) (app_id a) own)) h.credited;
       shows = all own (peers c M) h.shows;
@@ -122,6 +130,9 @@ pub record Stepped (w w' : World) (p : Party) : Type 0 where
   pub machines : (m : ℕ) (g : Agent) → find nat_cmp m w'.agents ≡ Some g → has_machine w'.cluster m ≡ true
   pub origins : (a : ℕ) (g : App) → find nat_cmp a w'.apps ≡ Some g → (find nat_cmp a w.apps ≡ Some g) ⊎ (Origins w'.net a g.carried × HasUnits w'.hard.jobs a g)
   pub written : (a b : ℕ) → (same_party p (party (app_id a) b) ≡ false) ⊎ DemandsHold w'.cluster (unit_count w'.hard.jobs a) (w'.net.histories (party (app_id a) b) master_id)
+  pub rows : (e m : ℕ) → (same_party p (party master_id e) ≡ false) ⊎ ((n : ℕ) → RowsFit w'.cluster m (at_index nothing (w'.net.histories (party master_id e) (agent_id m)) n).rows)
+  pub reports : (m b : ℕ) → (same_party p (party (agent_id m) b) ≡ false) ⊎ ((n : ℕ) → RowsFit w'.cluster m (at_index nothing (w'.net.histories (party (agent_id m) b) master_id) n).rows)
+  pub grants : (e a : ℕ) → (same_party p (party master_id e) ≡ false) ⊎ ((n : ℕ) → GrantHolds w'.cluster w'.hard.jobs a (at_index nothing (w'.net.histories (party master_id e) (app_id a)) n))
 
 pub stepped : (w w' : World) (p : Party) → Standing w → Stepped w w' p → Standing w'
 stepped w w' p h s = record {
@@ -134,15 +145,28 @@ stepped w w' p h s = record {
   origins = λ a g f. origin a g (s.origins a g f);
   units = λ a g f. unit a g (s.origins a g f);
   written = λ a b. demands a b (s.written a b);
+  rows = λ e m. kept m (party master_id e) (agent_id m) (h.rows e m) (s.rows e m);
+  reports = λ m b. kept m (party (agent_id m) b) master_id (h.reports m b) (s.reports m b);
+  grants = λ e a. granted_then a e (s.grants e a);
 }
   where
+    granted_then : (a e : ℕ) → (same_party p (party master_id e) ≡ false) ⊎ ((n : ℕ) → GrantHolds w'.cluster w'.hard.jobs a (at_index nothing (w'.net.histories (party master_id e) (app_id a)) n)) → (n : ℕ) → GrantHolds w'.cluster w'.hard.jobs a (at_index nothing (w'.net.histories (party master_id e) (app_id a)) n)
+    granted_then a e (inl apart) n = subst (λ c. GrantHolds c w'.hard.jobs a (at_index nothing (w'.net.histories (party master_id e) (app_id a)) n)) (sym s.cluster)
+        (subst (λ (hs : List Ledger). GrantHolds w.cluster w'.hard.jobs a (at_index nothing hs n)) (sym (s.leaves.histories (party master_id e) (app_id a) apart))
+        (grant_wider w.cluster w.hard.jobs w'.hard.jobs a (at_index nothing (w.net.histories (party master_id e) (app_id a)) n) s.more (h.grants e a n)))
+    granted_then a e (inr new) n = new n
+
     origin : (a : ℕ) (g : App) → (find nat_cmp a w.apps ≡ Some g) ⊎ (Origins w'.net a g.carried × HasUnits w'.hard.jobs a g) → Origins w'.net a g.carried
     origin a g (inl f) = origins_grow w.net w'.net a g.carried s.grows (h.origins a g f)
     origin a g (inr n) = n.0
 
     unit : (a : ℕ) (g : App) → (find nat_cmp a w.apps ≡ Some g) ⊎ (Origins w'.net a g.carried × HasUnits w'.hard.jobs a g) → HasUnits w'.hard.jobs a g
-    unit a g (inl f) = let u = h.units a g f in let k = s.more.known a u.known in record { known = k.0; units = u.units ∙ sym k.1 }
+    unit a g (inl f) = let u = h.units a g f in let k = s.more.known a u.known in record { known = k.0; units = u.units ∙ sym (ap length k.1) }
     unit a g (inr n) = n.1
+
+    kept : (m : ℕ) (r : Party) (q : Id) → ((n : ℕ) → RowsFit w.cluster m (at_index nothing (w.net.histories r q) n).rows) → (same_party p r ≡ false) ⊎ ((n : ℕ) → RowsFit w'.cluster m (at_index nothing (w'.net.histories r q) n).rows) → (n : ℕ) → RowsFit w'.cluster m (at_index nothing (w'.net.histories r q) n).rows
+    kept m r q old (inl apart) n = subst (λ c. RowsFit c m (at_index nothing (w'.net.histories r q) n).rows) (sym s.cluster) (subst (λ (hs : List Ledger). RowsFit w.cluster m (at_index nothing hs n).rows) (sym (s.leaves.histories r q apart)) (old n))
+    kept m r q old (inr new) n = new n
 
     demands : (a b : ℕ) → (same_party p (party (app_id a) b) ≡ false) ⊎ DemandsHold w'.cluster (unit_count w'.hard.jobs a) (w'.net.histories (party (app_id a) b) master_id) → DemandsHold w'.cluster (unit_count w'.hard.jobs a) (w'.net.histories (party (app_id a) b) master_id)
     demands a b (inl apart) = subst (λ c. DemandsHold c (unit_count w'.hard.jobs a) (w'.net.histories (party (app_id a) b) master_id)) (sym s.cluster)
@@ -231,9 +255,9 @@ finished c net R forced s = record {
     shows [] h = tt
     shows (q ∷ qs) h = (h.0 ∙ ap (λ (l : Party → Id → Link). cond (is_agent q) (row R q.number) (grants R (l (master_party R) q).known q.number)) (sym (publish_links net (master_party R) (offers c net R forced))), shows qs h.1)
 
-pub finish_standing : (w : World) (hard : HardState) (ran : List Party) (net : Net Ledger) (M : Master) (forced : List Id) → Standing w → w.hard.fence ≤ hard.fence → KnowsMore w.hard.jobs hard.jobs → M.epoch ≤ hard.fence → KnowsMore M.jobs hard.jobs → IsTabled M → IsCredited net M
-    → Sound shape net → Leaves (master_party M) w.net net → Grows shape w.net.histories net.histories → Standing (end_step (record w { hard = hard; ran = ran }) net M forced)
-finish_standing w hard ran net M forced h up more own knows t cr s l gr =
+pub finish_standing : (w : World) (hard : HardState) (ran : List Party) (net : Net Ledger) (M : Master) (forced : List Id) → Standing w → w.hard.fence ≤ hard.fence → KnowsMore w.hard.jobs hard.jobs → M.epoch ≤ hard.fence → KnowsMore M.jobs hard.jobs → IsTabled M → IsHoused w.cluster M → IsCredited net M
+    → Sound shape net → Leaves (master_party M) w.net net → Grows shape w.net.histories net.histories → net.histories ≡ w.net.histories → Standing (end_step (record w { hard = hard; ran = ran }) net M forced)
+finish_standing w hard ran net M forced h up more own knows t hs cr s l gr kept =
     let R = ready w.cluster M in
     let f = finished w.cluster net R forced s in
     let same : R.epoch ≡ M.epoch = ready_epoch w.cluster M in
@@ -253,8 +277,50 @@ finish_standing w hard ran net M forced h up more own knows t cr s l gr =
       machines = h.machines;
       origins = λ a g found. inl found;
       written = λ a b. inl refl;
+      rows = λ e m. sent e m (nat_eq R.epoch e) refl;
+      reports = λ m b. inl refl;
+      grants = λ e a. granted_at e a (nat_eq R.epoch e) refl;
     })
   where
+    -- each entry of grants that the master ever sent holds
+    offered_grants : (qs : List Id) → AllByRecursion (λ (o : Offer). is_app o.to ≡ true → GrantHolds w.cluster hard.jobs o.to.number o.ledger) (map (λ q. record { to = q; forced = is_one_of q forced; ledger = projection net (ready w.cluster M) q }) qs)
+    offered_grants [] = tt
+    offered_grants (q ∷ qs) = (
+      (λ e. subst (λ b. GrantHolds w.cluster hard.jobs q.number (cond b (row (ready w.cluster M) q.number) (grants (ready w.cluster M) (net.links (master_party (ready w.cluster M)) q).known q.number))) (sym (ap (λ r. nat_eq r 2) (number_is q.role 3 e)))
+          (grants_hold w.cluster hard.jobs (ready w.cluster M) (net.links (master_party (ready w.cluster M)) q).known q.number (ready_tabled w.cluster M t) (subst (λ js. KnowsMore js hard.jobs) (sym (ready_keeps w.cluster M).jobs) knows) (ready_housed w.cluster M t hs))),
+      offered_grants qs,
+    )
+
+    grants_before : (q : Id) (n : ℕ) → is_app q ≡ true → GrantHolds w.cluster hard.jobs q.number (at_index nothing (net.histories (master_party (ready w.cluster M)) q) n)
+    grants_before q n e =
+        let is : q ≡ app_id q.number = (let r = number_is q.role 3 e in λ i. record { role = r i; number = q.number }) in
+        subst (λ (hs : Party → Id → List Ledger). GrantHolds w.cluster hard.jobs q.number (at_index nothing (hs (master_party (ready w.cluster M)) q) n)) (sym kept)
+        (subst (λ (d : Id). GrantHolds w.cluster hard.jobs q.number (at_index nothing (w.net.histories (master_party (ready w.cluster M)) d) n)) (sym is)
+        (grant_wider w.cluster w.hard.jobs hard.jobs q.number (at_index nothing (w.net.histories (master_party (ready w.cluster M)) (app_id q.number)) n) more (h.grants (ready w.cluster M).epoch q.number n)))
+
+    granted_at : (e a : ℕ) (b : Bool) → nat_eq (ready w.cluster M).epoch e ≡ b
+        → (same_party (master_party (ready w.cluster M)) (party master_id e) ≡ false) ⊎ ((n : ℕ) → GrantHolds w.cluster hard.jobs a (at_index nothing ((end_step (record w { hard = hard; ran = ran }) net M forced).net.histories (party master_id e) (app_id a)) n))
+    granted_at e a false t = inl t
+    granted_at e a true t = inr (subst (λ k. (n : ℕ) → GrantHolds w.cluster hard.jobs a (at_index nothing ((end_step (record w { hard = hard; ran = ran }) net M forced).net.histories (party master_id k) (app_id a)) n)) (number_is (ready w.cluster M).epoch e t)
+        (λ n. publish_each (λ q l. is_app q ≡ true → GrantHolds w.cluster hard.jobs q.number l) net (master_party (ready w.cluster M)) (offers w.cluster net (ready w.cluster M) forced) (offered_grants (peers w.cluster (ready w.cluster M))) grants_before (app_id a) n refl))
+
+    -- each row that the master ever sent fits its machine
+    offered : (qs : List Id) → AllByRecursion (λ (o : Offer). is_agent o.to ≡ true → RowsFit w.cluster o.to.number o.ledger.rows) (map (λ q. record { to = q; forced = is_one_of q forced; ledger = projection net (ready w.cluster M) q }) qs)
+    offered [] = tt
+    offered (q ∷ qs) = ((λ e. subst (λ b. RowsFit w.cluster q.number (cond b (row (ready w.cluster M) q.number) (grants (ready w.cluster M) (net.links (master_party (ready w.cluster M)) q).known q.number)).rows) (sym e) (row_fits w.cluster (ready w.cluster M) q.number (ready_housed w.cluster M t hs))), offered qs)
+
+    before : (q : Id) (n : ℕ) → is_agent q ≡ true → RowsFit w.cluster q.number (at_index nothing (net.histories (master_party (ready w.cluster M)) q) n).rows
+    before q n e =
+        let is : q ≡ agent_id q.number = (let r = number_is q.role 2 e in λ i. record { role = r i; number = q.number }) in
+        subst (λ (hs : Party → Id → List Ledger). RowsFit w.cluster q.number (at_index nothing (hs (master_party (ready w.cluster M)) q) n).rows) (sym kept)
+        (subst (λ (d : Id). RowsFit w.cluster q.number (at_index nothing (w.net.histories (master_party (ready w.cluster M)) d) n).rows) (sym is) (h.rows (ready w.cluster M).epoch q.number n))
+
+    sent : (e m : ℕ) (b : Bool) → nat_eq (ready w.cluster M).epoch e ≡ b
+        → (same_party (master_party (ready w.cluster M)) (party master_id e) ≡ false) ⊎ ((n : ℕ) → RowsFit w.cluster m (at_index nothing ((end_step (record w { hard = hard; ran = ran }) net M forced).net.histories (party master_id e) (agent_id m)) n).rows)
+    sent e m false t = inl t
+    sent e m true t = inr (subst (λ k. (n : ℕ) → RowsFit w.cluster m (at_index nothing ((end_step (record w { hard = hard; ran = ran }) net M forced).net.histories (party master_id k) (agent_id m)) n).rows) (number_is (ready w.cluster M).epoch e t)
+        (λ n. publish_each (λ q l. is_agent q ≡ true → RowsFit w.cluster q.number l.rows) net (master_party (ready w.cluster M)) (offers w.cluster net (ready w.cluster M) forced) (offered (peers w.cluster (ready w.cluster M))) before (agent_id m) n refl))
+
     by_put : (e : ℕ) (N : Master) → ((nat_eq (ready w.cluster M).epoch e ≡ false) × (find nat_cmp e w.masters ≡ Some N)) ⊎ ((e ≡ (ready w.cluster M).epoch) × (ready w.cluster M ≡ N))
         → ((same_party (master_party (ready w.cluster M)) (party master_id e) ≡ false) × (find nat_cmp e w.masters ≡ Some N)) ⊎ IsShowing w.cluster hard (end_step (record w { hard = hard; ran = ran }) net M forced).net e N
     by_put e N (inl o) = inl (o.0, o.1)
@@ -263,6 +329,7 @@ finish_standing w hard ran net M forced h up more own knows t cr s l gr =
       ran = omega (arith, n.0, ready_epoch w.cluster M, own);
       knows = subst (λ js. KnowsMore js hard.jobs) (sym (ready_keeps w.cluster M).jobs) knows;
       tabled = ready_tabled w.cluster M t;
+      housed = ready_housed w.cluster M t hs;
       waits = ready_waits w.cluster M;
       credited =
           let R = ready w.cluster M in

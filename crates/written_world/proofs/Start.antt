@@ -11,14 +11,14 @@ use Rattle.written_world.specs.Safe.{RowsFit}
 use Rattle.written_world.specs.Sound.{Sound, Names}
 use Rattle.written_world.specs.Good.{EntriesFit, shape, AllRan, IsTidy, IsOfJob, Written, Good}
 
-empty_at : (n : ℕ) → at_index nothing [] n ≡ nothing
+pub empty_at : (n : ℕ) → at_index nothing [] n ≡ nothing
 empty_at zero = refl
 empty_at (suc n) = refl
 
 no_rows : (c : ClusterRecord) (m n : ℕ) → RowsFit c m (at_index nothing [] n).rows
 no_rows c m n = subst (λ (l : Ledger). RowsFit c m l.rows) (sym (empty_at n)) (λ i lt. omega arith)
 
-fit_at_start : (c : ClusterRecord) → EntriesFit (empty_world c)
+pub fit_at_start : (c : ClusterRecord) → EntriesFit (empty_world c)
 fit_at_start c = record {
   rows = λ e m n. no_rows c m n;
   reports = λ m b n. no_rows c m n;

@@ -4,14 +4,12 @@ use Rattle.std.specs.Prelude.{◌&&◌, ◌||◌, T}
 use Rattle.std.specs.Option.{option_map, unwrap_or}
 use Rattle.std.specs.List.{AllByRecursion, flat_map}
 use Rattle.std.specs.Ordering.{nat_cmp, eq_by_cmp}
-use Rattle.std.specs.declared.cmp.Ordering.TheVariants.{Less, Equal, Greater}
-use Rattle.std.specs.FinMap.Entries.{by_order, find, put, where_key, is_sorted, is_sorted-put, is_sorted-where_key, find-put}
+use Rattle.std.specs.FinMap.Entries.{find, put, where_key, is_sorted, is_sorted-put, is_sorted-where_key, find-put}
 use Rattle.std.proofs.lemmas.Bool.Decides.{nat_tests}
 use Rattle.fuxi_terms.specs.declared.Key.{Key}
 use Rattle.fuxi_terms.specs.Cluster.{ClusterRecord, JobRecord}
 use Rattle.fuxi_terms.specs.Keys.{key_cmp, RowKey, Spot, spot_cmp}
 use Rattle.fuxi_terms.specs.Counts.{count, set_count}
-use Rattle.fuxi_terms.proofs.Counting.{tied}
 use Rattle.written_world.specs.Net.{Id, Heard}
 use Rattle.written_world.specs.Ledgers.{Ledger, nothing, at_key, count_key, want_key, credited_key, is_back}
 use Rattle.written_world.specs.Channels.{is_agent}
@@ -22,9 +20,10 @@ use Rattle.written_world.specs.Preemption.{Plan, victims, priorities, by_priorit
 use Rattle.written_world.specs.HardState.{with_job, with_ended}
 use Rattle.written_world.specs.MasterSteps.{phased, ready, is_kept, adopted, adopts, take_report, credit, raise_credited, take_demand, meet_app, is_taken, told}
 use Rattle.written_world.specs.Events.{ended_in, banned_in}
+use Rattle.written_world.proofs.Spots.{each_put, each_where, each_found, each_set}
 use Rattle.written_world.proofs.Alls.{all_append, all_mapped, all_flat, all_passed, all_filter}
 use Rattle.written_world.proofs.Choosing.{both_true, either}
-use Rattle.written_world.proofs.Keys.{key_total, spot_total, same_spot}
+use Rattle.written_world.proofs.Keys.{key_total, spot_total}
 use Rattle.written_world.proofs.Places.{number_is}
 use Rattle.written_world.proofs.Placed.{is_placeable}
 use Rattle.written_world.proofs.Crediting.{found_put, put_beside}
@@ -50,30 +49,13 @@ clash true e f = cc
 clash false e f = cc
 
 -- Entries of a table
-live_put : (jobs : List KnownJob) (s : Spot) (n : ℕ) (es : List (Spot × ℕ)) → is_live jobs s.job ≡ true → IsLive jobs es → IsLive jobs (put spot_cmp s n es)
-live_put jobs s n [] l h = (l, tt)
-live_put jobs s n (e ∷ es) l h = elim (spot_cmp s e.0) as (λ r. IsLive jobs (by_order r ((s, n) ∷ e ∷ es) ((e.0, n) ∷ es) (e ∷ put spot_cmp s n es))) [
-  | Less ↦ (l, (h.0, h.1))
-  | Equal ↦ (h.0, h.1)
-  | Greater ↦ (h.0, live_put jobs s n es l h.1)
-]
-
-live_where : (jobs : List KnownJob) (p : Spot → Bool) (es : List (Spot × ℕ)) → IsLive jobs es → IsLive jobs (where_key spot_cmp p es)
-live_where jobs p [] h = tt
-live_where jobs p (e ∷ es) h = elim (p e.0) as (λ b. IsLive jobs (cond b (e ∷ where_key spot_cmp p es) (where_key spot_cmp p es))) [ true ↦ (h.0, live_where jobs p es h.1) | false ↦ live_where jobs p es h.1 ]
+abbrev IsOfLive : List KnownJob → Spot → Type 0
+IsOfLive jobs s = is_live jobs s.job ≡ true
 
 pub live_found : (jobs : List KnownJob) (s : Spot) (es : List (Spot × ℕ)) → 0 < count spot_cmp es s → IsLive jobs es → is_live jobs s.job ≡ true
-live_found jobs s [] some h = absurd (omega (arith, some))
-live_found jobs s (e ∷ es) some h = elim (eq_by_cmp spot_cmp s e.0) as (λ b. eq_by_cmp spot_cmp s e.0 ≡ b → 0 < unwrap_or (cond b (Some e.1) (find spot_cmp s es)) 0 → is_live jobs s.job ≡ true) [
-  | true ↦ λ t _. subst (λ (k : Spot). is_live jobs k.job ≡ true) (sym (same_spot s e.0 (tied _ t))) h.0
-  | false ↦ λ _ some. live_found jobs s es some h.1
-] refl some
+live_found jobs s es some h = each_found (IsOfLive jobs) s es some h
 
--- a number is set: of a job that has not ended, or lowered
-live_set : (jobs : List KnownJob) (s : Spot) (n : ℕ) (es : List (Spot × ℕ)) → (nat_eq n 0 ≡ false → is_live jobs s.job ≡ true) → IsLive jobs es → IsLive jobs (set_count spot_cmp es s n)
-live_set jobs s n es l h = either (IsLive jobs) (nat_eq n 0) (where_key spot_cmp (λ x. not (eq_by_cmp spot_cmp s x)) es) (put spot_cmp s n es) (λ _. live_where jobs (λ x. not (eq_by_cmp spot_cmp s x)) es h) (λ e. live_put jobs s n es (l e) h)
-
-sorted_set : (table : List (Spot × ℕ)) (s : Spot) (n : ℕ) → IsSorted table → IsSorted (set_count spot_cmp table s n)
+pub sorted_set : (table : List (Spot × ℕ)) (s : Spot) (n : ℕ) → IsSorted table → IsSorted (set_count spot_cmp table s n)
 sorted_set table s n h = either IsSorted (nat_eq n 0) (where_key spot_cmp (λ x. not (eq_by_cmp spot_cmp s x)) table) (put spot_cmp s n table) (λ _. is_sorted-where_key spot_cmp _ table h) (λ _. is_sorted-put spot_cmp spot_total s n table h)
 
 -- what is out is asked for, so its job has not ended
@@ -98,7 +80,7 @@ settle_tabled c (suc fuel) M h = elim (first_placeable c M) as (λ o. first_plac
   | None ↦ λ _. h
   | Some s ↦ λ e. settle_tabled c fuel (granted M s) (record {
     sorted = sorted_set M.table s _ h.sorted;
-    alive = live_set M.jobs s _ M.table (λ _. out_live M s.job s.unit h (placeable_out c M s.job s.unit s.machine (is_placeable c M s e))) h.alive;
+    alive = each_set (IsOfLive M.jobs) s _ M.table (λ _. out_live M s.job s.unit h (placeable_out c M s.job s.unit s.machine (is_placeable c M s e))) h.alive;
     empty = h.empty;
     plain = h.plain;
   })
@@ -147,9 +129,9 @@ without_tabled : (jobs : List KnownJob) (table : List (Spot × ℕ)) (ss : List 
 without_tabled jobs table [] h = h
 without_tabled jobs table (s ∷ ss) h =
     let n = count spot_cmp table s - 1 in
-    without_tabled jobs (set_count spot_cmp table s n) ss (sorted_set table s n h.0, live_set jobs s n table (λ e. live_found jobs s table (let some : 0 < n = grind (arith, nat_tests, e) in omega (arith, some)) h.1) h.1)
+    without_tabled jobs (set_count spot_cmp table s n) ss (sorted_set table s n h.0, each_set (IsOfLive jobs) s n table (λ e. live_found jobs s table (let some : 0 < n = grind (arith, nat_tests, e) in omega (arith, some)) h.1) h.1)
 
-planned : (P : Spot → Type 0) (ss : List Spot) (c : ClusterRecord) (M : Master) (p : Plan) → AllByRecursion P ss → first_plan ss c M ≡ Some p → P p.served
+pub planned : (P : Spot → Type 0) (ss : List Spot) (c : ClusterRecord) (M : Master) (p : Plan) → AllByRecursion P ss → first_plan ss c M ≡ Some p → P p.served
 planned P [] c M p h e = cc
 planned P (s ∷ ss) c M p h e = elim (victims c M s) as (λ o. (elim o as (λ _. Option Plan) [ None ↦ first_plan ss c M | Some vs ↦ Some (record { served = s; losers = vs }) ]) ≡ Some p → P p.served) [
   | None ↦ λ e. planned P ss c M p h.1 e
@@ -169,7 +151,7 @@ preempted_tabled c M p e w h =
     let t = without_tabled M.jobs M.table p.losers (h.sorted, h.alive) in
     record {
       sorted = sorted_set (without_grants M.table p.losers) p.served _ t.0;
-      alive = live_set M.jobs p.served _ (without_grants M.table p.losers) (λ _. live) t.1;
+      alive = each_set (IsOfLive M.jobs) p.served _ (without_grants M.table p.losers) (λ _. live) t.1;
       empty = h.empty;
       plain = h.plain;
     }
@@ -185,7 +167,7 @@ preempted_tabled c M p e w h =
 
 -- Ends of jobs, new jobs, bans, and a change of the phase
 pub banned_tabled : (M : Master) (m : ℕ) → IsTabled M → IsTabled (banned_in M m)
-banned_tabled M m h = record { sorted = is_sorted-where_key spot_cmp _ M.table h.sorted; alive = live_where M.jobs _ M.table h.alive; empty = h.empty; plain = h.plain }
+banned_tabled M m h = record { sorted = is_sorted-where_key spot_cmp _ M.table h.sorted; alive = each_where (IsOfLive M.jobs) _ M.table h.alive; empty = h.empty; plain = h.plain }
 
 pub same_tabled : (M N : Master) → N.table ≡ M.table → N.jobs ≡ M.jobs → N.demands ≡ M.demands → N.credited ≡ M.credited → IsTabled M → IsTabled N
 same_tabled M N t j d c h = record {
@@ -267,7 +249,7 @@ kept_live jobs k e = (both_true (is_live jobs k.job) _ e).0
 adopted_tabled : (jobs : List KnownJob) (m : ℕ) (es : List (RowKey × ℕ)) (table : List (Spot × ℕ)) → IsSorted table × IsLive jobs table → IsSorted (adopted jobs m es table) × IsLive jobs (adopted jobs m es table)
 adopted_tabled jobs m [] table h = h
 adopted_tabled jobs m (e ∷ es) table h = adopted_tabled jobs m es _ (either (λ t. IsSorted t × IsLive jobs t) (is_kept jobs e.0) (put spot_cmp (spot e.0.job e.0.unit m) e.1 table) table
-    (λ k. (is_sorted-put spot_cmp spot_total _ e.1 table h.0, live_put jobs (spot e.0.job e.0.unit m) e.1 table (kept_live jobs e.0 k) h.1)) (λ _. h))
+    (λ k. (is_sorted-put spot_cmp spot_total _ e.1 table h.0, each_put (IsOfLive jobs) (spot e.0.job e.0.unit m) e.1 table (kept_live jobs e.0 k) h.1)) (λ _. h))
 
 credit_tabled : (jobs : List KnownJob) (a : ℕ) (credited es : List (Key × ℕ)) (table : List (Spot × ℕ)) → is_live jobs a ≡ true → IsSorted table × IsLive jobs table → IsSorted (credit a credited es table) × IsLive jobs (credit a credited es table)
 credit_tabled jobs a credited [] table l h = h
@@ -275,7 +257,7 @@ credit_tabled jobs a credited (e ∷ es) table l h =
     let s = spot a e.0.unit e.0.number in
     let here = count spot_cmp table s in
     let more = e.1 - count key_cmp credited (credited_key e.0.unit e.0.number) in
-    credit_tabled jobs a credited es _ l (either (λ t. IsSorted t × IsLive jobs t) (is_back e.0) (set_count spot_cmp table s (here - min more here)) table (λ _. (sorted_set table s _ h.0, live_set jobs s _ table (λ _. l) h.1)) (λ _. h))
+    credit_tabled jobs a credited es _ l (either (λ t. IsSorted t × IsLive jobs t) (is_back e.0) (set_count spot_cmp table s (here - min more here)) table (λ _. (sorted_set table s _ h.0, each_set (IsOfLive jobs) s _ table (λ _. l) h.1)) (λ _. h))
 
 -- what is credited has keys of its own
 raised_plain : (cs es : List (Key × ℕ)) (u m : ℕ) → find key_cmp (count_key u m) cs ≡ None → find key_cmp (count_key u m) (raise_credited cs es) ≡ None
@@ -288,6 +270,15 @@ plain_put a cs all b u m new old = elim (nat_eq b a) as (λ t. nat_eq b a ≡ t 
   | true ↦ λ t. ap (λ n. find key_cmp (count_key u m) (unwrap_or (find nat_cmp n (put nat_cmp a cs all)) [])) (number_is b a t) ∙ ap (find key_cmp (count_key u m)) (found_put a cs [] all) ∙ new
   | false ↦ λ t. ap (λ o. find key_cmp (count_key u m) (unwrap_or o [])) (put_beside a b cs all t) ∙ old
 ] refl
+
+pub met_tabled : (M : Master) (fresh : Bool) (a : ℕ) → IsTabled M → IsTabled (meet_app fresh M a)
+met_tabled M true a t = record {
+  sorted = t.sorted;
+  alive = t.alive;
+  empty = λ b f. put_demand M.jobs a nothing M.demands (λ _. refl) b f (λ _. t.empty b f);
+  plain = λ b u m. plain_put a [] M.credited b u m refl (t.plain b u m);
+}
+met_tabled M false a t = t
 
 pub told_tabled : (M : Master) (h : Heard) (from : Id) (l : Ledger) → IsTabled M → IsTabled (told M h from l)
 told_tabled M h from l t =
@@ -315,10 +306,4 @@ told_tabled M h from l t =
         (λ _. record { sorted = k.sorted; alive = k.alive; empty = λ b f. put_demand N.jobs a nothing N.demands (λ _. refl) b f (λ _. k.empty b f); plain = k.plain })
 
     met : (fresh : Bool) → IsTabled (meet_app fresh M from.number)
-    met true = record {
-      sorted = t.sorted;
-      alive = t.alive;
-      empty = λ b f. put_demand M.jobs from.number nothing M.demands (λ _. refl) b f (λ _. t.empty b f);
-      plain = λ b u m. plain_put from.number [] M.credited b u m refl (t.plain b u m);
-    }
-    met false = t
+    met fresh = met_tabled M fresh from.number t

@@ -9,29 +9,34 @@ use Rattle.fuxi_terms.specs.declared.Key.{Key}
 use Rattle.fuxi_terms.specs.Cluster.{ClusterRecord, has_rack}
 use Rattle.fuxi_terms.specs.Keys.{key_cmp}
 use Rattle.fuxi_terms.proofs.Counting.{tied, count-set_count, counts-set_count, counts-where_key}
-use Rattle.written_world.specs.Net.{Net, Party, Posts, move}
+use Rattle.written_world.specs.Net.{Net, Party, Id, set_at, same_id, Posts, move}
 use Rattle.written_world.specs.Ledgers.{Ledger, nothing, same_ledger, at_key, back_key, is_back, greatest_in_demand}
-use Rattle.written_world.specs.Channels.{master_id, at_index, present, to_master, publish}
-use Rattle.written_world.specs.Jobs.{KnownJob, job_of, is_known, unit_count, has_machine}
+use Rattle.written_world.specs.Channels.{Offer, publish_one, publish, master_id, at_index, present, to_master, publish}
+use Rattle.written_world.specs.Jobs.{units_of, KnownJob, job_of, is_known, unit_count, has_machine}
 use Rattle.written_world.specs.Agents.{joined_demand}
 use Rattle.written_world.specs.MasterSteps.{is_there}
 use Rattle.written_world.specs.Events.{changed_demand}
 use Rattle.written_world.specs.Sound.{Rising}
 use Rattle.written_world.specs.Good.{shape, BacksRise, IsRanged, IsTidy}
+use Rattle.written_world.specs.Shown.{StartsAnew}
 use Rattle.written_world.proofs.Choosing.{either}
 use Rattle.written_world.proofs.Keys.{key_total, same_key}
 use Rattle.written_world.proofs.Sounds.{at_front, at_end}
-use Rattle.written_world.proofs.Acts.{set_here}
+use Rattle.written_world.proofs.Acts.{set_here, set_beside}
+use Rattle.written_world.proofs.Places.{id_is}
+use Rattle.std.specs.List.{AllByRecursion}
 
 -- a history of demands
 pub record DemandsHold (c : ClusterRecord) (units : ℕ) (h : List Ledger) : Type 0 where
   pub backs : (n : ℕ) → n + 1 ≤ length h → BacksRise (at_index nothing h n) (at_index nothing h (n + 1))
+  pub anew : (n : ℕ) → n + 1 ≤ length h → StartsAnew (at_index nothing h n) (at_index nothing h (n + 1))
   pub tidy : (n : ℕ) → IsTidy (at_index nothing h n)
   pub ranged : (n : ℕ) → IsRanged c units (at_index nothing h n)
 
 -- what a demand has to show behind another
 pub record MayFollow (c : ClusterRecord) (units : ℕ) (a b : Ledger) : Type 0 where
   pub backs : BacksRise a b
+  pub anew : StartsAnew a b
   pub tidy : IsTidy b
   pub ranged : IsRanged c units b
 
@@ -41,30 +46,55 @@ past_end [] (suc n) lt = refl
 past_end (x ∷ h) (suc zero) lt = absurd (omega (arith, lt))
 past_end (x ∷ h) (suc (suc n)) lt = past_end h (suc n) (omega (arith, lt))
 
-demands_append : (c : ClusterRecord) (units : ℕ) (h : List Ledger) (x : Ledger) → MayFollow c units (at_index nothing h (length h)) x → DemandsHold c units h → DemandsHold c units (h ++ x ∷ [])
-demands_append c units h x f w = record { backs = backs; tidy = each IsTidy f.tidy w.tidy; ranged = each (IsRanged c units) f.ranged w.ranged }
+-- what holds of each entry and of the new one
+pub at_append : (P : Ledger → Type 0) (h : List Ledger) (x : Ledger) → P x → ((n : ℕ) → P (at_index nothing h n)) → (n : ℕ) → P (at_index nothing (h ++ x ∷ []) n)
+at_append P h x here old n = by (nat_lt (length h) n) refl (nat_lt (length h + 1) n) refl
   where
     long : length (h ++ x ∷ []) ≡ length h + 1
     long = simp length-append (omega arith)
 
-    -- what holds of each entry and of the new one
-    each : (P : Ledger → Type 0) → P x → ((n : ℕ) → P (at_index nothing h n)) → (n : ℕ) → P (at_index nothing (h ++ x ∷ []) n)
-    each P here old n = by (nat_lt (length h) n) refl (nat_lt (length h + 1) n) refl
-      where
-        by : (b : Bool) → nat_lt (length h) n ≡ b → (d : Bool) → nat_lt (length h + 1) n ≡ d → P (at_index nothing (h ++ x ∷ []) n)
-        by false t d s = let within : n ≤ length h = grind (arith, nat_tests, t) in subst P (sym (at_front nothing h (x ∷ []) n within)) (old n)
-        by true t false s = let is : n ≡ length h + 1 = (let above : length h < n = grind (arith, nat_tests, t) in let most : n ≤ length h + 1 = grind (arith, nat_tests, s) in omega (arith, above, most)) in subst P (sym (at_end nothing h x n is)) here
-        by true t true s = let past : length (h ++ x ∷ []) < n = (let more : length h + 1 < n = grind (arith, nat_tests, s) in omega (arith, more, long)) in
-            let before : length h < n = grind (arith, nat_tests, t) in
-            subst P (past_end h n before ∙ sym (past_end (h ++ x ∷ []) n past)) (old n)
+    by : (b : Bool) → nat_lt (length h) n ≡ b → (d : Bool) → nat_lt (length h + 1) n ≡ d → P (at_index nothing (h ++ x ∷ []) n)
+    by false t d s = let within : n ≤ length h = grind (arith, nat_tests, t) in subst P (sym (at_front nothing h (x ∷ []) n within)) (old n)
+    by true t false s = let is : n ≡ length h + 1 = (let above : length h < n = grind (arith, nat_tests, t) in let most : n ≤ length h + 1 = grind (arith, nat_tests, s) in omega (arith, above, most)) in subst P (sym (at_end nothing h x n is)) here
+    by true t true s =
+        let past : length (h ++ x ∷ []) < n = (let more : length h + 1 < n = grind (arith, nat_tests, s) in omega (arith, more, long)) in
+        let before : length h < n = grind (arith, nat_tests, t) in
+        subst P (past_end h n before ∙ sym (past_end (h ++ x ∷ []) n past)) (old n)
 
-    backs : (n : ℕ) → n + 1 ≤ length (h ++ x ∷ []) → BacksRise (at_index nothing (h ++ x ∷ []) n) (at_index nothing (h ++ x ∷ []) (n + 1))
-    backs n le = elim (nat_lt n (length h)) as (λ b. nat_lt n (length h) ≡ b → BacksRise (at_index nothing (h ++ x ∷ []) n) (at_index nothing (h ++ x ∷ []) (n + 1))) [
-      | true ↦ λ t. let within : n < length h = grind (arith, nat_tests) in
-          subst (λ (e : Ledger × Ledger). BacksRise e.0 e.1) (λ i. (sym (at_front nothing h (x ∷ []) n (omega (arith, within))) i, sym (at_front nothing h (x ∷ []) (n + 1) (omega (arith, within))) i)) (w.backs n (omega (arith, within)))
-      | false ↦ λ t. let same : n ≡ length h = (let most : n ≤ length h = omega (arith, long, le) in let least : length h ≤ n = grind (arith, nat_tests) in omega (arith, most, least)) in
-          subst (λ (e : Ledger × Ledger). BacksRise e.0 e.1) (λ i. (sym (at_front nothing h (x ∷ []) n (omega (arith, same)) ∙ ap (at_index nothing h) same) i, sym (at_end nothing h x (n + 1) (omega (arith, same))) i)) f.backs
-    ] refl
+-- what holds of each two neighbours and of the last entry and the new one
+next_append : (P : Ledger → Ledger → Type 0) (h : List Ledger) (x : Ledger) → P (at_index nothing h (length h)) x → ((n : ℕ) → n + 1 ≤ length h → P (at_index nothing h n) (at_index nothing h (n + 1)))
+    → (n : ℕ) → n + 1 ≤ length (h ++ x ∷ []) → P (at_index nothing (h ++ x ∷ []) n) (at_index nothing (h ++ x ∷ []) (n + 1))
+next_append P h x here old n le = elim (nat_lt n (length h)) as (λ b. nat_lt n (length h) ≡ b → P (at_index nothing (h ++ x ∷ []) n) (at_index nothing (h ++ x ∷ []) (n + 1))) [
+  | true ↦ λ t. let within : n < length h = grind (arith, nat_tests) in
+      subst (λ (e : Ledger × Ledger). P e.0 e.1) (λ i. (sym (at_front nothing h (x ∷ []) n (omega (arith, within))) i, sym (at_front nothing h (x ∷ []) (n + 1) (omega (arith, within))) i)) (old n (omega (arith, within)))
+  | false ↦ λ t. let same : n ≡ length h = (let most : n ≤ length h = omega (arith, long, le) in let least : length h ≤ n = grind (arith, nat_tests) in omega (arith, most, least)) in
+      subst (λ (e : Ledger × Ledger). P e.0 e.1) (λ i. (sym (at_front nothing h (x ∷ []) n (omega (arith, same)) ∙ ap (at_index nothing h) same) i, sym (at_end nothing h x (n + 1) (omega (arith, same))) i)) here
+] refl
+  where
+    long : length (h ++ x ∷ []) ≡ length h + 1
+    long = simp length-append (omega arith)
+
+demands_append : (c : ClusterRecord) (units : ℕ) (h : List Ledger) (x : Ledger) → MayFollow c units (at_index nothing h (length h)) x → DemandsHold c units h → DemandsHold c units (h ++ x ∷ [])
+demands_append c units h x f w = record {
+  backs = next_append BacksRise h x f.backs w.backs;
+  anew = next_append StartsAnew h x f.anew w.anew;
+  tidy = at_append IsTidy h x f.tidy w.tidy;
+  ranged = at_append (IsRanged c units) h x f.ranged w.ranged;
+}
+
+-- what holds of each entry of each history of a party, and of what it publishes
+publish_one_each : (P : Id → Ledger → Type 0) (net : Net Ledger) (p : Party) (o : Offer) → P o.to o.ledger → ((q : Id) (n : ℕ) → P q (at_index nothing (net.histories p q) n)) → (q : Id) (n : ℕ) → P q (at_index nothing ((publish_one net p o).histories p q) n)
+publish_one_each P net p o here old q n =
+    either (λ (m : Net Ledger). P q (at_index nothing (m.histories p q) n)) (o.forced || not (same_ledger (present net p o.to) o.ledger)) (move net (Posts p o.to o.ledger)) net (λ _. by (same_id o.to q) refl) (λ _. old q n)
+  where
+    by : (b : Bool) → same_id o.to q ≡ b → P q (at_index nothing (set_at net.histories p o.to (net.histories p o.to ++ o.ledger ∷ []) p q) n)
+    by true e = subst (λ d. P d (at_index nothing (set_at net.histories p o.to (net.histories p o.to ++ o.ledger ∷ []) p d) n)) (id_is o.to q e)
+        (subst (λ h. P o.to (at_index nothing h n)) (sym (set_here net.histories p o.to (net.histories p o.to ++ o.ledger ∷ []))) (at_append (P o.to) (net.histories p o.to) o.ledger here (old o.to) n))
+    by false e = subst (λ h. P q (at_index nothing h n)) (sym (set_beside net.histories p o.to (net.histories p o.to ++ o.ledger ∷ []) q e)) (old q n)
+
+pub publish_each : (P : Id → Ledger → Type 0) (net : Net Ledger) (p : Party) (os : List Offer) → AllByRecursion (λ o. P o.to o.ledger) os → ((q : Id) (n : ℕ) → P q (at_index nothing (net.histories p q) n)) → (q : Id) (n : ℕ) → P q (at_index nothing ((publish net p os).histories p q) n)
+publish_each P net p [] h old = old
+publish_each P net p (o ∷ os) h old = publish_each P (publish_one net p o) p os h.1 (publish_one_each P net p o h.0 old)
 
 -- a demand that is published
 pub published_demands : (c : ClusterRecord) (units : ℕ) (net : Net Ledger) (p : Party) (ledger : Ledger) → MayFollow c units (present net p master_id) ledger → DemandsHold c units (net.histories p master_id) → DemandsHold c units ((publish net p (to_master ledger)).histories p master_id)
@@ -73,7 +103,7 @@ published_demands c units net p ledger f w =
     (λ _. subst (DemandsHold c units) (sym (set_here net.histories p master_id (net.histories p master_id ++ ledger ∷ []))) (demands_append c units (net.histories p master_id) ledger f w)) (λ _. w)
 
 pub record KnowsMore (jobs jobs' : List KnownJob) : Type 0 where
-  pub known : (a : ℕ) → is_known jobs a ≡ true → (is_known jobs' a ≡ true) × (unit_count jobs' a ≡ unit_count jobs a)
+  pub known : (a : ℕ) → is_known jobs a ≡ true → (is_known jobs' a ≡ true) × (units_of jobs' a ≡ units_of jobs a)
 
 pub knows_itself : (jobs : List KnownJob) → KnowsMore jobs jobs
 knows_itself jobs = record { known = λ a k. (k, refl) }
@@ -87,10 +117,10 @@ more_units jobs jobs' k a = by (job_of jobs a) refl
   where
     by : (o : Option KnownJob) → job_of jobs a ≡ o → unit_count jobs a ≤ unit_count jobs' a
     by None e = let z : unit_count jobs a ≡ 0 = ap (λ o. length (unwrap_or (option_map (λ (j : KnownJob). j.job.units) o) [])) e in omega (arith, z)
-    by (Some j) e = let s = (k.known a (ap is_some e)).1 in omega (arith, s)
+    by (Some j) e = let s : unit_count jobs' a ≡ unit_count jobs a = ap length (k.known a (ap is_some e)).1 in omega (arith, s)
 
 pub wider : (c : ClusterRecord) (jobs jobs' : List KnownJob) (a : ℕ) (h : List Ledger) → KnowsMore jobs jobs' → DemandsHold c (unit_count jobs a) h → DemandsHold c (unit_count jobs' a) h
-wider c jobs jobs' a h k w = record { backs = w.backs; tidy = w.tidy; ranged = λ n q out. w.ranged n q (narrow q (unit_count jobs a) (unit_count jobs' a) (more_units jobs jobs' k a) out) }
+wider c jobs jobs' a h k w = record { backs = w.backs; anew = w.anew; tidy = w.tidy; ranged = λ n q out. w.ranged n q (narrow q (unit_count jobs a) (unit_count jobs' a) (more_units jobs jobs' k a) out) }
   where
     narrow : (q : Key) (m n : ℕ) → m ≤ n → is_there c n q ≡ false → is_there c m q ≡ false
     narrow q m n le out = by (nat_lt q.unit m) refl
@@ -126,6 +156,7 @@ at_changed d k n q = count-set_count key_total d.entries k n q
 pub changed_follows : (c : ClusterRecord) (units : ℕ) (d : Ledger) (k : Key) (n : ℕ) → n ≤ greatest_in_demand k → is_there c units k ≡ true → (is_back k ≡ true → at_key d k ≤ n) → IsTidy d → IsRanged c units d → MayFollow c units d (changed_demand d k n)
 changed_follows c units d k n le there rises t r = record {
   backs = λ e u m. backs u m (eq_by_cmp key_cmp (back_key u m) k) refl;
+  anew = λ differs. absurd (differs refl);
   tidy = counts-set_count key_total greatest_in_demand same_key d.entries k n le t;
   ranged = λ q out. ranged q out (eq_by_cmp key_cmp q k) refl;
 }
@@ -147,6 +178,7 @@ changed_follows c units d k n le there rises t r = record {
 pub joined_follows : (c : ClusterRecord) (units epoch : ℕ) (d : Ledger) → d.head < epoch → IsTidy d → IsRanged c units d → MayFollow c units d (joined_demand epoch d)
 joined_follows c units epoch d above t r = record {
   backs = λ e u m. absurd (omega (arith, e, above));
+  anew = λ _ u m. ap (λ o. unwrap_or o 0) (find-where_key key_cmp (λ k. not (is_back k)) (back_key u m) (λ x e. ap (λ k. not (is_back k)) (sym (same_key (back_key u m) x e))) d.entries);
   tidy = counts-where_key key_total greatest_in_demand _ d.entries t;
   ranged = λ q out. ap (λ o. unwrap_or o 0) (find-where_key key_cmp (λ k. not (is_back k)) q (λ x e. ap (λ k. not (is_back k)) (sym (same_key q x e))) d.entries) ∙ kept (not (is_back q)) q (r q out);
 }

@@ -24,6 +24,10 @@ row_total_at i rows = sum_by (λ e. e.1 * at_place e.0.size i) rows
 abbrev pub RowsFit : ClusterRecord → ℕ → List (RowKey × ℕ) → Type 0
 RowsFit c m rows = (i : ℕ) → i < c.resources → row_total_at i rows ≤ has_at c m i
 
+-- each agent's table fits its machine
+abbrev pub AllFit : World → Type 0
+AllFit w = (m : ℕ) (g : Agent) → find nat_cmp m w.agents ≡ Some g → RowsFit w.cluster m (agent_table w.net (party (agent_id m) g.boot))
+
 -- Once. The place that an application has for a machine: its own where its view names the machine, else the origin of what it carries
 abbrev pub place_for : Net Ledger → Party → App → ℕ → Option (ℕ × ℕ)
 place_for net p g m = let l = net.links p master_id in
@@ -41,9 +45,6 @@ units_total_at jobs a units number i = sum_by (λ u. number u * size_at jobs a u
 pub record HeldOnce (net : Net Ledger) (a : ℕ) (g : App) (m : ℕ) : Type 0 where
   pub nowhere : place_for net (party (app_id a) g.boot) g m ≡ None → (u : ℕ) → app_held net (party (app_id a) g.boot) g u m ≡ 0
   pub counts : (place : ℕ × ℕ) → place_for net (party (app_id a) g.boot) g m ≡ Some place → (u : ℕ) → app_held net (party (app_id a) g.boot) g u m ≤ at_key (grants_at net a place) (count_key u m)
-
-abbrev pub AllHeldOnce : World → Type 0
-AllHeldOnce w = (a : ℕ) (g : App) → find nat_cmp a w.apps ≡ Some g → (m : ℕ) → HeldOnce w.net a g m
 
 -- and together they fit the machine
 pub record CountsOnce (w : World) (a : ℕ) (g : App) (m : ℕ) : Type 0 where
@@ -74,7 +75,7 @@ abbrev pub AllSettled : World → Type 0
 AllSettled w = (e : ℕ) (M : Master) → find nat_cmp e w.masters ≡ Some M → (a u m : ℕ) → placeable w.cluster M a u m ≡ false
 
 pub record Safe (w : World) : Type 0 where
-  pub capacity : (m : ℕ) (g : Agent) → find nat_cmp m w.agents ≡ Some g → RowsFit w.cluster m (agent_table w.net (party (agent_id m) g.boot))
+  pub capacity : AllFit w
   pub once : (a : ℕ) (g : App) → find nat_cmp a w.apps ≡ Some g → (m : ℕ) → CountsOnce w a g m
   pub views : Views w.net
   pub agreement : AllAgree w

@@ -1,13 +1,15 @@
 -- What the running parties would have the others see is what they sent last.
-use Rattle.std.specs.Prelude.{◌≡◌, ℕ, Some}
+use Rattle.std.specs.Prelude.{◌≡◌, ℕ, ◌+◌, ◌≤◌, Some}
 use Rattle.std.specs.List.{AllByRecursion}
 use Rattle.std.specs.Ordering.{nat_cmp}
 use Rattle.std.specs.FinMap.Entries.{find}
-use Rattle.written_world.specs.Channels.{agent_id, app_id, party, present}
+use Rattle.written_world.specs.Net.{Net, last}
+use Rattle.written_world.specs.Ledgers.{Ledger, nothing, at_key, back_key}
+use Rattle.written_world.specs.Channels.{master_id, agent_id, app_id, party, at_index, present}
 use Rattle.written_world.specs.Masters.{Master}
 use Rattle.written_world.specs.World.{World, Agent, App, master_party}
 use Rattle.written_world.specs.MasterSteps.{peers, projection}
-use Rattle.written_world.specs.Good.{HasJoined, IsCredited}
+use Rattle.written_world.specs.Good.{BacksRise, HasJoined, IsCredited}
 
 -- of a running master what each of its peers should hold, and of an agent and an application a ledger with the epoch that it knows
 pub record AllShown (w : World) : Type 0 where
@@ -18,3 +20,14 @@ pub record AllShown (w : World) : Type 0 where
 -- what each running master credited is what is given back at its places
 abbrev pub AllCredited : World → Type 0
 AllCredited w = (e : ℕ) (M : Master) → find nat_cmp e w.masters ≡ Some M → IsCredited w.net M
+
+-- Demands one after the other. Where the head is another, nothing is given back
+abbrev pub StartsAnew : Ledger → Ledger → Type 0
+StartsAnew a b = (a.head ≡ b.head → ⊥) → (u m : ℕ) → at_key b (back_key u m) ≡ 0
+
+-- in all that any application ever sent the master
+pub record AllGiveBacks (net : Net Ledger) : Type 0 where
+  pub rise : (a b n : ℕ) → n + 1 ≤ last net (party (app_id a) b) master_id
+      → BacksRise (at_index nothing (net.histories (party (app_id a) b) master_id) n) (at_index nothing (net.histories (party (app_id a) b) master_id) (n + 1))
+  pub anew : (a b n : ℕ) → n + 1 ≤ last net (party (app_id a) b) master_id
+      → StartsAnew (at_index nothing (net.histories (party (app_id a) b) master_id) n) (at_index nothing (net.histories (party (app_id a) b) master_id) (n + 1))

@@ -17,8 +17,8 @@ ghost use Rattle.written_world.specs.Ledgers.{Ledger};
 ghost use Rattle.written_world.specs.Sound.{Bounded, Sound, Allowed};
 ghost use Rattle.written_world.specs.World.{empty_world};
 ghost use Rattle.written_world.specs.Good.{Good, shape};
-ghost use Rattle.written_world.specs.Shown.{AllShown, AllCredited};
-ghost use Rattle.written_world.specs.Safe.{AllSettled, AllAgree, AllHeldOnce, Views};
+ghost use Rattle.written_world.specs.Shown.{AllShown, AllCredited, AllGiveBacks};
+ghost use Rattle.written_world.specs.Safe.{Safe};
 ghost use Rattle.written_world.specs.Events.{Event};
 ghost use Rattle.written_world.specs.Runs.{run};
 
@@ -39,27 +39,25 @@ pub fn settling()
     ensures fits { (c : ClusterRecord) (M : Master) → IsWithin c M → IsWithin c (settled c M) }
 {}
 
+/// In every state, whatever masters have failed over, whatever was lost, repeated or reordered, and whatever was
+/// preempted: each agent's table fits its machine (`capacity`). What an application holds on a machine counts once,
+/// as part of one entry of what one master sent it, and together it fits the machine (`once`). A receiver that has
+/// caught up has the sender's present ledger (`views`). Where a running master and its peers have nothing left to
+/// tell one another, the master, each agent and each application of a job that it knows have the same numbers of
+/// each unit on each machine (`agreement`). And no allowed unit waits that fits (`settled`).
+pub fn always_safe()
+    ensures { (c : ClusterRecord) (events : List Event) → Safe (run c events) }
+{}
+
 /// Whatever the parties do, lose, repeat and reorder: no place, no acknowledged index and no packet is past
 /// the end of the history that it names.
 pub fn nothing_is_past_its_end()
     ensures { (c : ClusterRecord) (events : List Event) → Bounded (run c events).net }
 {}
 
-/// In every state each place names an entry that is there, and where a channel is caught up, that entry is the
-/// sender's present ledger.
-pub fn views_hold()
-    ensures { (c : ClusterRecord) (events : List Event) → Views (run c events).net }
-{}
-
 /// The empty world is good.
 pub fn good_at_start()
     ensures { (c : ClusterRecord) → Good (empty_world c) }
-{}
-
-/// In every state no pair is placeable in any running master: a serving master leaves no allowed unit waiting
-/// that fits.
-pub fn all_settled()
-    ensures { (c : ClusterRecord) (events : List Event) → AllSettled (run c events) }
 {}
 
 /// Each move that is allowed keeps a net sound: places, acknowledged indices and packets name entries that are
@@ -77,20 +75,15 @@ pub fn channels_hold()
     ensures shown { (c : ClusterRecord) (events : List Event) → AllShown (run c events) }
 {}
 
-/// In every state, where a running master and its peers have nothing left to tell one another, the master, each
-/// agent and each application of a job that it knows have the same numbers of each unit on each machine.
-pub fn agreement()
-    ensures { (c : ClusterRecord) (events : List Event) → AllAgree (run c events) }
-{}
-
-/// In every state no grant counts twice: what an application holds of a unit on a machine is at most the count at
-/// one place in what one master sent it, and nothing where it has no such place.
-pub fn grants_count_once()
-    ensures { (c : ClusterRecord) (events : List Event) → AllHeldOnce (run c events) }
-{}
-
 /// In every state what a running master has credited to an application that has not ended is exactly what is given
 /// back at its place in that application's demands. So no give-back is credited twice under one epoch.
 pub fn credited_is_given_back()
     ensures { (c : ClusterRecord) (events : List Event) → AllCredited (run c events) }
+{}
+
+/// In every state, in all that any application ever sent the master: no number given back falls among demands for one
+/// epoch (`rise`), and a demand for another epoch than the one before gives nothing back (`anew`). Since heads never
+/// fall, a give-back stands in demands for one epoch only, and no master of another credits it.
+pub fn give_backs_stand_in_one_epoch()
+    ensures { (c : ClusterRecord) (events : List Event) → AllGiveBacks (run c events).net }
 {}
