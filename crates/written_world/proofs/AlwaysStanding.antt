@@ -36,7 +36,7 @@ use Rattle.written_world.proofs.Places.{id_is, number_is}
 use Rattle.written_world.proofs.Granting.{GrantHolds, nothing_granted}
 use Rattle.written_world.proofs.Housing.{IsHoused, new_housed, same_housed, added_housed, ended_housed, banned_housed, told_housed, preempted_housed}
 use Rattle.written_world.proofs.Tabling.{IsTabled, met_tabled, new_tabled, same_tabled, added_tabled, told_tabled, ended_tabled, banned_tabled, preempted_tabled}
-use Rattle.written_world.proofs.Standing.{Standing, Origins, origins_grow, IsShowing, stepped, finish_standing, projection_head}
+use Rattle.written_world.proofs.Standing.{EntryHolds, Standing, Origins, origins_grow, IsShowing, stepped, finish_standing, projection_head}
 use Rattle.written_world.proofs.Writing.{DemandsHold, KnowsMore, knows_itself, changed_follows, published_demands}
 use Rattle.written_world.proofs.Crediting.{credited_view, credited_like, heard_credited}
 use Rattle.written_world.proofs.KnownJobs.{job_added, both_added, added_credited, ended_knows, both_ended, ended_credited}
@@ -50,40 +50,27 @@ record Stands (w : World) : Type 0 where
 record StepStands (s : Step) : Type 0 where
   it : Standing s.world
 
--- A master that heard something has its epoch
-told_jobs : (M : Master) (h : Heard) (from : Id) (l : Ledger) → (told M h from l).jobs ≡ M.jobs
-told_jobs M h from l =
+-- A master that heard something has its epoch and its jobs
+record SameMaster (M N : Master) : Type 0 where
+  epoch : N.epoch ≡ M.epoch
+  jobs : N.jobs ≡ M.jobs
+
+told_same : (M : Master) (h : Heard) (from : Id) (l : Ledger) → SameMaster M (told M h from l)
+told_same M h from l =
     let N = meet_app h.fresh M from.number in
-    either (λ (R : Master). R.jobs ≡ M.jobs) (is_agent from) (cond (is_taken h.what) (take_report M from.number l) M) (cond (is_taken h.what) (take_demand N from.number l) N)
-    (λ _. either (λ (R : Master). R.jobs ≡ M.jobs) (is_taken h.what) (take_report M from.number l) M (λ _. reported M from.number l) (λ _. refl))
-    (λ _. either (λ (R : Master). R.jobs ≡ M.jobs) (is_taken h.what) (take_demand N from.number l) N (λ _. demanded_jobs N from.number l ∙ met h.fresh) (λ _. met h.fresh))
+    either (SameMaster M) (is_agent from) (cond (is_taken h.what) (take_report M from.number l) M) (cond (is_taken h.what) (take_demand N from.number l) N)
+    (λ _. either (SameMaster M) (is_taken h.what) (take_report M from.number l) M (λ _. reported from.number) (λ _. record { epoch = refl; jobs = refl }))
+    (λ _. either (SameMaster M) (is_taken h.what) (take_demand N from.number l) N (λ _. demanded N from.number (met h.fresh)) (λ _. met h.fresh))
   where
-    reported : (M : Master) (m : ℕ) (l : Ledger) → (take_report M m l).jobs ≡ M.jobs
-    reported M m l = either (λ (R : Master). R.jobs ≡ M.jobs) (adopts M m l) _ M (λ _. refl) (λ _. refl)
+    reported : (m : ℕ) → SameMaster M (take_report M m l)
+    reported m = either (SameMaster M) (adopts M m l) _ M (λ _. record { epoch = refl; jobs = refl }) (λ _. record { epoch = refl; jobs = refl })
 
-    demanded_jobs : (M : Master) (a : ℕ) (d : Ledger) → (take_demand M a d).jobs ≡ M.jobs
-    demanded_jobs M a d = either (λ (R : Master). R.jobs ≡ M.jobs) (nat_eq d.head M.epoch && is_live M.jobs a) _ _ (λ _. refl) (λ _. refl)
+    demanded : (N : Master) (a : ℕ) → SameMaster M N → SameMaster M (take_demand N a l)
+    demanded N a s = either (SameMaster M) (nat_eq l.head N.epoch && is_live N.jobs a) _ _ (λ _. record { epoch = s.epoch; jobs = s.jobs }) (λ _. record { epoch = s.epoch; jobs = s.jobs })
 
-    met : (fresh : Bool) → (meet_app fresh M from.number).jobs ≡ M.jobs
-    met true = refl
-    met false = refl
-
-told_epoch : (M : Master) (h : Heard) (from : Id) (l : Ledger) → (told M h from l).epoch ≡ M.epoch
-told_epoch M h from l =
-    let N = meet_app h.fresh M from.number in
-    either (λ (R : Master). R.epoch ≡ M.epoch) (is_agent from) (cond (is_taken h.what) (take_report M from.number l) M) (cond (is_taken h.what) (take_demand N from.number l) N)
-    (λ _. either (λ (R : Master). R.epoch ≡ M.epoch) (is_taken h.what) (take_report M from.number l) M (λ _. reported M from.number l) (λ _. refl))
-    (λ _. either (λ (R : Master). R.epoch ≡ M.epoch) (is_taken h.what) (take_demand N from.number l) N (λ _. demanded_epoch N from.number l ∙ met h.fresh) (λ _. met h.fresh))
-  where
-    reported : (M : Master) (m : ℕ) (l : Ledger) → (take_report M m l).epoch ≡ M.epoch
-    reported M m l = either (λ (R : Master). R.epoch ≡ M.epoch) (adopts M m l) _ M (λ _. refl) (λ _. refl)
-
-    demanded_epoch : (M : Master) (a : ℕ) (d : Ledger) → (take_demand M a d).epoch ≡ M.epoch
-    demanded_epoch M a d = either (λ (R : Master). R.epoch ≡ M.epoch) (nat_eq d.head M.epoch && is_live M.jobs a) _ _ (λ _. refl) (λ _. refl)
-
-    met : (fresh : Bool) → (meet_app fresh M from.number).epoch ≡ M.epoch
-    met true = refl
-    met false = refl
+    met : (fresh : Bool) → SameMaster M (meet_app fresh M from.number)
+    met true = record { epoch = refl; jobs = refl }
+    met false = record { epoch = refl; jobs = refl }
 
 -- A running master that takes a step on the net as it is
 runs : (w : World) (e : ℕ) (M : Master) → Standing w → find nat_cmp e w.masters ≡ Some M → M.epoch ≤ w.hard.fence
@@ -153,9 +140,8 @@ master_acted w e M net' h found a =
       machines = h.machines;
       origins = λ b g f. inl f;
       written = λ b n. inl refl;
-      rows = λ k m. inr (λ n. subst (λ (hs : Party → Id → List Ledger). RowsFit w.cluster m (at_index nothing (hs (party master_id k) (agent_id m)) n).rows) (sym a.histories) (h.rows k m n));
+      entries = λ k. inr (λ q n. subst (λ (hs : Party → Id → List Ledger). EntryHolds w.cluster w.hard.jobs q (at_index nothing (hs (party master_id k) q) n)) (sym a.histories) (h.entries k q n));
       reports = λ m b. inl refl;
-      grants = λ k b. inr (λ n. subst (λ (hs : Party → Id → List Ledger). GrantHolds w.cluster w.hard.jobs b (at_index nothing (hs (party master_id k) (app_id b)) n)) (sym a.histories) (h.grants k b n));
     })
   where
     shows : (qs : List Id) → AllByRecursion (λ q. present w.net (master_party M) q ≡ projection w.net M q) qs → AllByRecursion (λ q. present net' (master_party M) q ≡ projection net' M q) qs
@@ -226,11 +212,11 @@ master_hears_stands w e which M x h to found sent =
     let l = received w.cluster M w.net x in
     let n = comes w.net (master_party M) (talks w.cluster M) (Some x) in
     let N = told M hd x.from.id l in
-    let same : N.epoch ≡ M.epoch = told_epoch M hd x.from.id l in
+    let same : N.epoch ≡ M.epoch = (told_same M hd x.from.id l).epoch in
     let k = h.masters e M found in
     either Stands (talks w.cluster M x.from.id) (end_step w n N (adopted_now M hd x.from.id l)) w
     (λ t. record {
-      it = finish_standing w w.hard w.ran n N (adopted_now M hd x.from.id l) h (omega arith) (knows_itself w.hard.jobs) (omega (arith, same, runs w e M h found)) (subst (λ js. KnowsMore js w.hard.jobs) (sym (told_jobs M hd x.from.id l)) k.knows) (told_tabled M hd x.from.id l k.tabled)
+      it = finish_standing w w.hard w.ran n N (adopted_now M hd x.from.id l) h (omega arith) (knows_itself w.hard.jobs) (omega (arith, same, runs w e M h found)) (subst (λ js. KnowsMore js w.hard.jobs) (sym ((told_same M hd x.from.id l).jobs)) k.knows) (told_tabled M hd x.from.id l k.tabled)
           (told_housed w.cluster M hd x.from.id l (λ agent _. reported agent) (k.tabled, met_tabled M hd.fresh x.from.id.number k.tabled) k.housed)
           (heard_credited w.cluster w.hard.jobs w.net M x h.sound (found_within (λ y. PacketNames shape w.net.histories y.kind y) w.net.packets which x h.sound.packets sent) k.credited t k.knows h.written)
           (comes_sound shape w.net (master_party M) (talks w.cluster M) (Some x) (λ y t. found_within (λ y. PacketNames shape w.net.histories y.kind y) w.net.packets which y h.sound.packets (sent ∙ t)) h.sound)
@@ -251,7 +237,7 @@ master_hears_stands w e which M x h to found sent =
 table_fits : (w : World) (m : ℕ) (g : Agent) → Standing w → RowsFit w.cluster m (agent_table w.net (party (agent_id m) g.boot))
 table_fits w m g h = let p = party (agent_id m) g.boot in
     either (RowsFit w.cluster m) (nat_eq (w.net.links p master_id).seq 0) (present w.net p master_id).rows (view w.net p master_id).rows
-    (λ _. h.reports m g.boot (last w.net p master_id)) (λ _. h.rows (w.net.links p master_id).known m (w.net.links p master_id).seq)
+    (λ _. h.reports m g.boot (last w.net p master_id)) (λ _. (h.entries (w.net.links p master_id).known (agent_id m) (w.net.links p master_id).seq).rows refl)
 
 agent_hears_stands : (w : World) (m which : ℕ) (g : Agent) (x : Packet) → Standing w → find nat_cmp m w.agents ≡ Some g → slice_get w.net.packets which ≡ Some x → Stands (agent_hears w m g x)
 agent_hears_stands w m which g x h found sent =
@@ -320,9 +306,8 @@ stopped_stands w e h = record {
   origins = h.origins;
   units = h.units;
   written = h.written;
-  rows = h.rows;
+  entries = h.entries;
   reports = h.reports;
-  grants = h.grants;
 }
   where
     kept : (b : Bool) (o : Option Master) (M : Master) → cond b o None ≡ Some M → o ≡ Some M
@@ -419,14 +404,14 @@ act_stands w (Dump k) h = checked w _ _ h (λ _. found_has StepStands (packet_of
 act_stands w ShowState h = record { it = h }
 
 counted_stands : (w : World) → Standing w → Standing (counted_in w)
-counted_stands w h = record { sound = h.sound; unstarted = h.unstarted; masters = h.masters; agents = h.agents; apps = h.apps; machines = h.machines; origins = h.origins; units = h.units; written = h.written; rows = h.rows; reports = h.reports; grants = h.grants }
+counted_stands w h = record { sound = h.sound; unstarted = h.unstarted; masters = h.masters; agents = h.agents; apps = h.apps; machines = h.machines; origins = h.origins; units = h.units; written = h.written; entries = h.entries; reports = h.reports }
 
 run_stands : (es : List Event) (w : World) → Standing w → Stands (run_from es w).world
 run_stands [] w h = record { it = h }
 run_stands (e ∷ es) w h = record { it = (run_stands es (world_step w e).world (act_stands (counted_in w) e (counted_stands w h)).it).it }
 
 at_start : (c : ClusterRecord) → Standing (empty_world c)
-at_start c = record { sound = sound_at_start; unstarted = λ p q above. refl; masters = λ e M found. cc; agents = λ m g found. cc; apps = λ a g found. cc; machines = λ m g found. cc; origins = λ a g found. cc; units = λ a g found. cc; written = λ a b. let t = written_at_start c in record { backs = t.backs a b; anew = λ n within. absurd (omega (arith, within)); tidy = t.tidy a b; ranged = t.ranged a b }; rows = (fit_at_start c).rows; reports = (fit_at_start c).reports; grants = λ e a n. subst (GrantHolds c [] a) (sym (empty_at n)) (nothing_granted c [] a) }
+at_start c = record { sound = sound_at_start; unstarted = λ p q above. refl; masters = λ e M found. cc; agents = λ m g found. cc; apps = λ a g found. cc; machines = λ m g found. cc; origins = λ a g found. cc; units = λ a g found. cc; written = λ a b. let t = written_at_start c in record { backs = t.backs a b; anew = λ n within. absurd (omega (arith, within)); tidy = t.tidy a b; ranged = t.ranged a b }; entries = λ e q n. record { rows = λ _. (fit_at_start c).rows e q.number n; grants = λ _. subst (GrantHolds c [] q.number) (sym (empty_at n)) (nothing_granted c [] q.number) }; reports = (fit_at_start c).reports }
 
 always : (c : ClusterRecord) (es : List Event) → Standing (run c es)
 always c es = (run_stands es (empty_world c) (at_start c)).it

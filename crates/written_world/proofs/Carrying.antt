@@ -144,5 +144,5 @@ counts_once w a g m h found = record { once = once; fits = λ i lt. by i lt (pla
     by i lt (Some place) some =
         let number : ℕ → ℕ = λ u. at_key (grants_at w.net a place) (count_key u m) in
         let s = sum_le (λ u. held u * size_at w.hard.jobs a u i) (λ u. number u * size_at w.hard.jobs a u i) g.units (λ u. let e = once.counts place some u in mul-le-mul_right {m = held u} {n = number u} (size_at w.hard.jobs a u i) e) in
-        let f = (h.grants place.0 a place.1).fits g.units m i lt in
+        let f = ((h.entries place.0 (app_id a) place.1).grants refl).fits g.units m i lt in
         omega (arith, s, f)

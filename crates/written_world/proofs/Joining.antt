@@ -176,33 +176,19 @@ put_origins jobs net' a g es o u b x f = by (put_found b a g x es f)
       subst (λ k. HasUnits jobs k x) (sym n.0) (subst (HasUnits jobs a) n.1 u),
     )
 
--- the demands of the application that acts, and of every other
-written_of : (c : ClusterRecord) (jobs : List KnownJob) (net' : Net Ledger) (a b k n : ℕ) → DemandsHold c (unit_count jobs a) (net'.histories (party (app_id a) b) master_id)
-    → (same_party (party (app_id a) b) (party (app_id k) n) ≡ false) ⊎ DemandsHold c (unit_count jobs k) (net'.histories (party (app_id k) n) master_id)
-written_of c jobs net' a b k n d = by (nat_eq a k) refl (nat_eq b n) refl
+-- what is said of a party that acts, and of every other of its role
+own_or_apart : (r k b : ℕ) (P : ℕ → ℕ → Type 0) → P k b → (k' b' : ℕ) → (same_party (party (id_of r k) b) (party (id_of r k') b') ≡ false) ⊎ P k' b'
+own_or_apart r k b P own k' b' = by (nat_eq k k') refl (nat_eq b b') refl
   where
-    none : (x y : Bool) → x ≡ true → y ≡ false → (x && y) ≡ false
-    none true y e f = f
-    none false y e f = refl
+    none : (x y z : Bool) → z ≡ false → ((x && y) && z) ≡ false
+    none true true z e = e
+    none true false z e = refl
+    none false y z e = refl
 
-    by : (x : Bool) → nat_eq a k ≡ x → (y : Bool) → nat_eq b n ≡ y → (same_party (party (app_id a) b) (party (app_id k) n) ≡ false) ⊎ DemandsHold c (unit_count jobs k) (net'.histories (party (app_id k) n) master_id)
-    by false e y f = inl (other_number 3 a k b n e)
-    by true e false f = inl (none (nat_eq a k) (nat_eq b n) e f)
-    by true e true f = inr (subst (λ i. DemandsHold c (unit_count jobs i) (net'.histories (party (app_id i) n) master_id)) (number_is a k e) (subst (λ i. DemandsHold c (unit_count jobs a) (net'.histories (party (app_id a) i) master_id)) (number_is b n f) d))
-
--- the reports of the agent that acts, and of every other
-reports_of : (c : ClusterRecord) (net' : Net Ledger) (m b k n : ℕ) → ((i : ℕ) → RowsFit c m (at_index nothing (net'.histories (party (agent_id m) b) master_id) i).rows)
-    → (same_party (party (agent_id m) b) (party (agent_id k) n) ≡ false) ⊎ ((i : ℕ) → RowsFit c k (at_index nothing (net'.histories (party (agent_id k) n) master_id) i).rows)
-reports_of c net' m b k n r = by (nat_eq m k) refl (nat_eq b n) refl
-  where
-    none : (x y : Bool) → x ≡ true → y ≡ false → (x && y) ≡ false
-    none true y e f = f
-    none false y e f = refl
-
-    by : (x : Bool) → nat_eq m k ≡ x → (y : Bool) → nat_eq b n ≡ y → (same_party (party (agent_id m) b) (party (agent_id k) n) ≡ false) ⊎ ((i : ℕ) → RowsFit c k (at_index nothing (net'.histories (party (agent_id k) n) master_id) i).rows)
-    by false e y f = inl (other_number 2 m k b n e)
-    by true e false f = inl (none (nat_eq m k) (nat_eq b n) e f)
-    by true e true f = inr (subst (λ a. (i : ℕ) → RowsFit c a (at_index nothing (net'.histories (party (agent_id a) n) master_id) i).rows) (number_is m k e) (subst (λ a. (i : ℕ) → RowsFit c m (at_index nothing (net'.histories (party (agent_id m) a) master_id) i).rows) (number_is b n f) r))
+    by : (x : Bool) → nat_eq k k' ≡ x → (y : Bool) → nat_eq b b' ≡ y → (same_party (party (id_of r k) b) (party (id_of r k') b') ≡ false) ⊎ P k' b'
+    by false e y f = inl (other_number r k k' b b' e)
+    by true e false f = inl (none (nat_eq r r) (nat_eq k k') (nat_eq b b') f)
+    by true e true f = inr (subst (λ i. P i b') (number_is k k' e) (subst (P k) (number_is b b' f) own))
 
 -- what an agent reports where it meets a new master
 pub joined_reports : (c : ClusterRecord) (net : Net Ledger) (p : Party) (m : ℕ) (x : Packet) (ledger : Ledger) → RowsFit c m ledger.rows → ((n : ℕ) → RowsFit c m (at_index nothing (net.histories p master_id) n).rows) → (n : ℕ) → RowsFit c m (at_index nothing ((joined net p x ledger).histories p master_id) n).rows
@@ -229,9 +215,8 @@ agent_standing w m g net' h found j r =
       machines = h.machines;
       origins = λ a b f. inl f;
       written = λ a b. inl refl;
-      rows = λ e k. inl refl;
-      reports = λ k b. reports_of w.cluster net' m g.boot k b r;
-      grants = λ e k. inl refl;
+      reports = own_or_apart 2 m g.boot (λ k b. (n : ℕ) → RowsFit w.cluster k (at_index nothing (net'.histories (party (agent_id k) b) master_id) n).rows) r;
+      entries = λ e. inl refl;
     })
 
 pub app_standing : (w : World) (a : ℕ) (g : App) (net' : Net Ledger) → Standing w → find nat_cmp a w.apps ≡ Some g → Joins (party (app_id a) g.boot) w.net net' → DemandsHold w.cluster (unit_count w.hard.jobs a) (net'.histories (party (app_id a) g.boot) master_id) → Standing (record w { net = net' })
@@ -251,10 +236,9 @@ app_standing w a g net' h found j d =
       apps = own_of (λ (x : App). x.boot) 3 w.boots net' a g w.apps found (record { ran = ran; joined = j.joined });
       machines = h.machines;
       origins = λ b x f. inl f;
-      written = λ k n. written_of w.cluster w.hard.jobs net' a g.boot k n d;
-      rows = λ e k. inl refl;
+      written = own_or_apart 3 a g.boot (λ k n. DemandsHold w.cluster (unit_count w.hard.jobs k) (net'.histories (party (app_id k) n) master_id)) d;
       reports = λ k b. inl refl;
-      grants = λ e k. inl refl;
+      entries = λ e. inl refl;
     })
 
 -- and an application whose record changes
@@ -276,10 +260,9 @@ app_put_standing w a g g' net' same h found j o u d =
       apps = put_of (λ (x : App). x.boot) 3 w.boots net' a g' w.apps (record { ran = ran; joined = k.joined });
       machines = h.machines;
       origins = λ b x f. put_origins w.hard.jobs net' a g' w.apps o u b x f;
-      written = λ k n. written_of w.cluster w.hard.jobs net' a g'.boot k n (subst (λ b. DemandsHold w.cluster (unit_count w.hard.jobs a) (net'.histories (party (app_id a) b) master_id)) (sym same) d);
-      rows = λ e k. inl refl;
+      written = own_or_apart 3 a g'.boot (λ k n. DemandsHold w.cluster (unit_count w.hard.jobs k) (net'.histories (party (app_id k) n) master_id)) (subst (λ b. DemandsHold w.cluster (unit_count w.hard.jobs a) (net'.histories (party (app_id a) b) master_id)) (sym same) d);
       reports = λ k b. inl refl;
-      grants = λ e k. inl refl;
+      entries = λ e. inl refl;
     })
 
 -- Starts. What starts has sent nothing and knows nobody
@@ -321,9 +304,8 @@ agent_starts w ran m b h there lt =
       machines = λ k g f. started k g (put_found k m (record { boot = b }) g w.agents f);
       origins = λ a g f. inl f;
       written = λ a n. inl refl;
-      rows = λ e k. inl refl;
       reports = λ k n. inr (h.reports k n);
-      grants = λ e k. inl refl;
+      entries = λ e. inl refl;
     })
   where
     new : Agent
@@ -355,7 +337,6 @@ app_starts w ran a b g same h lt o u =
       machines = h.machines;
       origins = λ k x f. put_origins w.hard.jobs (move w.net (Starts p)) a g w.apps o u k x f;
       written = λ k n. inr (h.written k n);
-      rows = λ e k. inl refl;
       reports = λ k b. inl refl;
-      grants = λ e k. inl refl;
+      entries = λ e. inl refl;
     })

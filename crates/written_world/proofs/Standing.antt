@@ -51,6 +51,11 @@ pub record HasUnits (jobs : List KnownJob) (a : ℕ) (g : App) : Type 0 where
   pub known : is_known jobs a ≡ true
   pub units : g.units ≡ unit_count jobs a
 
+-- what a master sends: a row fits the machine, and grants fit each machine
+pub record EntryHolds (c : ClusterRecord) (jobs : List KnownJob) (q : Id) (l : Ledger) : Type 0 where
+  pub rows : is_agent q ≡ true → RowsFit c q.number l.rows
+  pub grants : is_app q ≡ true → GrantHolds c jobs q.number l
+
 pub record Standing (w : World) : Type 0 where
   pub sound : Sound shape w.net
   pub unstarted : (p : Party) (q : Id) → top w p.id < p.inc → w.net.histories p q ≡ []
@@ -61,9 +66,11 @@ pub record Standing (w : World) : Type 0 where
   pub origins : (a : ℕ) (g : App) → find nat_cmp a w.apps ≡ Some g → Origins w.net a g.carried
   pub units : (a : ℕ) (g : App) → find nat_cmp a w.apps ≡ Some g → HasUnits w.hard.jobs a g
   pub written : (a b : ℕ) → DemandsHold w.cluster (unit_count w.hard.jobs a) (w.net.histories (party (app_id a) b) master_id)
-  pub rows : (e m n : ℕ) → RowsFit w.cluster m (at_index nothing (w.net.histories (party master_id e) (agent_id m)) n).rows
+  pub entries : (e : ℕ) (q : Id) (n : ℕ) → EntryHolds w.cluster w.hard.jobs q (at_index nothing (w.net.histories (party master_id e) q) n)
   pub reports : (m b n : ℕ) → RowsFit w.cluster m (at_index nothing (w.net.histories (party (agent_id m) b) master_id) n).rows
-  pub grants : (e a n : ℕ) → GrantHolds w.cluster w.hard.jobs a (at_index nothing (w.net.histories (party master_id e) (app_id a)) n)
+
+entry_wider : (c : ClusterRecord) (jobs jobs' : List KnownJob) (q : Id) (l : Ledger) → KnowsMore jobs jobs' → EntryHolds c jobs q l → EntryHolds c jobs' q l
+entry_wider c jobs jobs' q l more h = record { rows = h.rows; grants = λ e. grant_wider c jobs jobs' q.number l more (h.grants e) }
 
 -- an entry of a table after one was put is an old one at another key, or the new one
 pub put_found : {A : Type 0} (k a : ℕ) (x y : A) (es : List (ℕ × A)) → find nat_cmp k (put nat_cmp a x es) ≡ Some y → ((nat_eq a k ≡ false) × (find nat_cmp k es ≡ Some y)) ⊎ ((k ≡ a) × (x ≡ y))
@@ -130,9 +137,8 @@ pub record Stepped (w w' : World) (p : Party) : Type 0 where
   pub machines : (m : ℕ) (g : Agent) → find nat_cmp m w'.agents ≡ Some g → has_machine w'.cluster m ≡ true
   pub origins : (a : ℕ) (g : App) → find nat_cmp a w'.apps ≡ Some g → (find nat_cmp a w.apps ≡ Some g) ⊎ (Origins w'.net a g.carried × HasUnits w'.hard.jobs a g)
   pub written : (a b : ℕ) → (same_party p (party (app_id a) b) ≡ false) ⊎ DemandsHold w'.cluster (unit_count w'.hard.jobs a) (w'.net.histories (party (app_id a) b) master_id)
-  pub rows : (e m : ℕ) → (same_party p (party master_id e) ≡ false) ⊎ ((n : ℕ) → RowsFit w'.cluster m (at_index nothing (w'.net.histories (party master_id e) (agent_id m)) n).rows)
+  pub entries : (e : ℕ) → (same_party p (party master_id e) ≡ false) ⊎ ((q : Id) (n : ℕ) → EntryHolds w'.cluster w'.hard.jobs q (at_index nothing (w'.net.histories (party master_id e) q) n))
   pub reports : (m b : ℕ) → (same_party p (party (agent_id m) b) ≡ false) ⊎ ((n : ℕ) → RowsFit w'.cluster m (at_index nothing (w'.net.histories (party (agent_id m) b) master_id) n).rows)
-  pub grants : (e a : ℕ) → (same_party p (party master_id e) ≡ false) ⊎ ((n : ℕ) → GrantHolds w'.cluster w'.hard.jobs a (at_index nothing (w'.net.histories (party master_id e) (app_id a)) n))
 
 pub stepped : (w w' : World) (p : Party) → Standing w → Stepped w w' p → Standing w'
 stepped w w' p h s = record {
@@ -145,16 +151,16 @@ stepped w w' p h s = record {
   origins = λ a g f. origin a g (s.origins a g f);
   units = λ a g f. unit a g (s.origins a g f);
   written = λ a b. demands a b (s.written a b);
-  rows = λ e m. kept m (party master_id e) (agent_id m) (h.rows e m) (s.rows e m);
+  entries = λ e. sent e (s.entries e);
   reports = λ m b. kept m (party (agent_id m) b) master_id (h.reports m b) (s.reports m b);
-  grants = λ e a. granted_then a e (s.grants e a);
 }
   where
-    granted_then : (a e : ℕ) → (same_party p (party master_id e) ≡ false) ⊎ ((n : ℕ) → GrantHolds w'.cluster w'.hard.jobs a (at_index nothing (w'.net.histories (party master_id e) (app_id a)) n)) → (n : ℕ) → GrantHolds w'.cluster w'.hard.jobs a (at_index nothing (w'.net.histories (party master_id e) (app_id a)) n)
-    granted_then a e (inl apart) n = subst (λ c. GrantHolds c w'.hard.jobs a (at_index nothing (w'.net.histories (party master_id e) (app_id a)) n)) (sym s.cluster)
-        (subst (λ (hs : List Ledger). GrantHolds w.cluster w'.hard.jobs a (at_index nothing hs n)) (sym (s.leaves.histories (party master_id e) (app_id a) apart))
-        (grant_wider w.cluster w.hard.jobs w'.hard.jobs a (at_index nothing (w.net.histories (party master_id e) (app_id a)) n) s.more (h.grants e a n)))
-    granted_then a e (inr new) n = new n
+    sent : (e : ℕ) → (same_party p (party master_id e) ≡ false) ⊎ ((q : Id) (n : ℕ) → EntryHolds w'.cluster w'.hard.jobs q (at_index nothing (w'.net.histories (party master_id e) q) n))
+        → (q : Id) (n : ℕ) → EntryHolds w'.cluster w'.hard.jobs q (at_index nothing (w'.net.histories (party master_id e) q) n)
+    sent e (inl apart) q n = subst (λ c. EntryHolds c w'.hard.jobs q (at_index nothing (w'.net.histories (party master_id e) q) n)) (sym s.cluster)
+        (subst (λ (hs : List Ledger). EntryHolds w.cluster w'.hard.jobs q (at_index nothing hs n)) (sym (s.leaves.histories (party master_id e) q apart))
+        (entry_wider w.cluster w.hard.jobs w'.hard.jobs q (at_index nothing (w.net.histories (party master_id e) q) n) s.more (h.entries e q n)))
+    sent e (inr new) q n = new q n
 
     origin : (a : ℕ) (g : App) → (find nat_cmp a w.apps ≡ Some g) ⊎ (Origins w'.net a g.carried × HasUnits w'.hard.jobs a g) → Origins w'.net a g.carried
     origin a g (inl f) = origins_grow w.net w'.net a g.carried s.grows (h.origins a g f)
@@ -277,49 +283,34 @@ finish_standing w hard ran net M forced h up more own knows t hs cr s l gr kept 
       machines = h.machines;
       origins = λ a g found. inl found;
       written = λ a b. inl refl;
-      rows = λ e m. sent e m (nat_eq R.epoch e) refl;
+      entries = λ e. sent e (nat_eq R.epoch e) refl;
       reports = λ m b. inl refl;
-      grants = λ e a. granted_at e a (nat_eq R.epoch e) refl;
     })
   where
-    -- each entry of grants that the master ever sent holds
-    offered_grants : (qs : List Id) → AllByRecursion (λ (o : Offer). is_app o.to ≡ true → GrantHolds w.cluster hard.jobs o.to.number o.ledger) (map (λ q. record { to = q; forced = is_one_of q forced; ledger = projection net (ready w.cluster M) q }) qs)
-    offered_grants [] = tt
-    offered_grants (q ∷ qs) = (
-      (λ e. subst (λ b. GrantHolds w.cluster hard.jobs q.number (cond b (row (ready w.cluster M) q.number) (grants (ready w.cluster M) (net.links (master_party (ready w.cluster M)) q).known q.number))) (sym (ap (λ r. nat_eq r 2) (number_is q.role 3 e)))
-          (grants_hold w.cluster hard.jobs (ready w.cluster M) (net.links (master_party (ready w.cluster M)) q).known q.number (ready_tabled w.cluster M t) (subst (λ js. KnowsMore js hard.jobs) (sym (ready_keeps w.cluster M).jobs) knows) (ready_housed w.cluster M t hs))),
-      offered_grants qs,
-    )
+    -- each entry that the master ever sent holds
+    projected : (q : Id) → EntryHolds w.cluster hard.jobs q (projection net (ready w.cluster M) q)
+    projected q =
+        let R = ready w.cluster M in
+        let boot = (net.links (master_party R) q).known in
+        record {
+          rows = λ e. subst (λ b. RowsFit w.cluster q.number (cond b (row R q.number) (grants R boot q.number)).rows) (sym e) (row_fits w.cluster R q.number (ready_housed w.cluster M t hs));
+          grants = λ e. subst (λ b. GrantHolds w.cluster hard.jobs q.number (cond b (row R q.number) (grants R boot q.number))) (sym (ap (λ r. nat_eq r 2) (number_is q.role 3 e)))
+              (grants_hold w.cluster hard.jobs R boot q.number (ready_tabled w.cluster M t) (subst (λ js. KnowsMore js hard.jobs) (sym (ready_keeps w.cluster M).jobs) knows) (ready_housed w.cluster M t hs));
+        }
 
-    grants_before : (q : Id) (n : ℕ) → is_app q ≡ true → GrantHolds w.cluster hard.jobs q.number (at_index nothing (net.histories (master_party (ready w.cluster M)) q) n)
-    grants_before q n e =
-        let is : q ≡ app_id q.number = (let r = number_is q.role 3 e in λ i. record { role = r i; number = q.number }) in
-        subst (λ (hs : Party → Id → List Ledger). GrantHolds w.cluster hard.jobs q.number (at_index nothing (hs (master_party (ready w.cluster M)) q) n)) (sym kept)
-        (subst (λ (d : Id). GrantHolds w.cluster hard.jobs q.number (at_index nothing (w.net.histories (master_party (ready w.cluster M)) d) n)) (sym is)
-        (grant_wider w.cluster w.hard.jobs hard.jobs q.number (at_index nothing (w.net.histories (master_party (ready w.cluster M)) (app_id q.number)) n) more (h.grants (ready w.cluster M).epoch q.number n)))
-
-    granted_at : (e a : ℕ) (b : Bool) → nat_eq (ready w.cluster M).epoch e ≡ b
-        → (same_party (master_party (ready w.cluster M)) (party master_id e) ≡ false) ⊎ ((n : ℕ) → GrantHolds w.cluster hard.jobs a (at_index nothing ((end_step (record w { hard = hard; ran = ran }) net M forced).net.histories (party master_id e) (app_id a)) n))
-    granted_at e a false t = inl t
-    granted_at e a true t = inr (subst (λ k. (n : ℕ) → GrantHolds w.cluster hard.jobs a (at_index nothing ((end_step (record w { hard = hard; ran = ran }) net M forced).net.histories (party master_id k) (app_id a)) n)) (number_is (ready w.cluster M).epoch e t)
-        (λ n. publish_each (λ q l. is_app q ≡ true → GrantHolds w.cluster hard.jobs q.number l) net (master_party (ready w.cluster M)) (offers w.cluster net (ready w.cluster M) forced) (offered_grants (peers w.cluster (ready w.cluster M))) grants_before (app_id a) n refl))
-
-    -- each row that the master ever sent fits its machine
-    offered : (qs : List Id) → AllByRecursion (λ (o : Offer). is_agent o.to ≡ true → RowsFit w.cluster o.to.number o.ledger.rows) (map (λ q. record { to = q; forced = is_one_of q forced; ledger = projection net (ready w.cluster M) q }) qs)
+    offered : (qs : List Id) → AllByRecursion (λ (o : Offer). EntryHolds w.cluster hard.jobs o.to o.ledger) (map (λ q. record { to = q; forced = is_one_of q forced; ledger = projection net (ready w.cluster M) q }) qs)
     offered [] = tt
-    offered (q ∷ qs) = ((λ e. subst (λ b. RowsFit w.cluster q.number (cond b (row (ready w.cluster M) q.number) (grants (ready w.cluster M) (net.links (master_party (ready w.cluster M)) q).known q.number)).rows) (sym e) (row_fits w.cluster (ready w.cluster M) q.number (ready_housed w.cluster M t hs))), offered qs)
+    offered (q ∷ qs) = (projected q, offered qs)
 
-    before : (q : Id) (n : ℕ) → is_agent q ≡ true → RowsFit w.cluster q.number (at_index nothing (net.histories (master_party (ready w.cluster M)) q) n).rows
-    before q n e =
-        let is : q ≡ agent_id q.number = (let r = number_is q.role 2 e in λ i. record { role = r i; number = q.number }) in
-        subst (λ (hs : Party → Id → List Ledger). RowsFit w.cluster q.number (at_index nothing (hs (master_party (ready w.cluster M)) q) n).rows) (sym kept)
-        (subst (λ (d : Id). RowsFit w.cluster q.number (at_index nothing (w.net.histories (master_party (ready w.cluster M)) d) n).rows) (sym is) (h.rows (ready w.cluster M).epoch q.number n))
+    before : (q : Id) (n : ℕ) → EntryHolds w.cluster hard.jobs q (at_index nothing (net.histories (master_party (ready w.cluster M)) q) n)
+    before q n = subst (λ (hs : Party → Id → List Ledger). EntryHolds w.cluster hard.jobs q (at_index nothing (hs (master_party (ready w.cluster M)) q) n)) (sym kept)
+        (entry_wider w.cluster w.hard.jobs hard.jobs q (at_index nothing (w.net.histories (master_party (ready w.cluster M)) q) n) more (h.entries (ready w.cluster M).epoch q n))
 
-    sent : (e m : ℕ) (b : Bool) → nat_eq (ready w.cluster M).epoch e ≡ b
-        → (same_party (master_party (ready w.cluster M)) (party master_id e) ≡ false) ⊎ ((n : ℕ) → RowsFit w.cluster m (at_index nothing ((end_step (record w { hard = hard; ran = ran }) net M forced).net.histories (party master_id e) (agent_id m)) n).rows)
-    sent e m false t = inl t
-    sent e m true t = inr (subst (λ k. (n : ℕ) → RowsFit w.cluster m (at_index nothing ((end_step (record w { hard = hard; ran = ran }) net M forced).net.histories (party master_id k) (agent_id m)) n).rows) (number_is (ready w.cluster M).epoch e t)
-        (λ n. publish_each (λ q l. is_agent q ≡ true → RowsFit w.cluster q.number l.rows) net (master_party (ready w.cluster M)) (offers w.cluster net (ready w.cluster M) forced) (offered (peers w.cluster (ready w.cluster M))) before (agent_id m) n refl))
+    sent : (e : ℕ) (b : Bool) → nat_eq (ready w.cluster M).epoch e ≡ b
+        → (same_party (master_party (ready w.cluster M)) (party master_id e) ≡ false) ⊎ ((q : Id) (n : ℕ) → EntryHolds w.cluster hard.jobs q (at_index nothing ((end_step (record w { hard = hard; ran = ran }) net M forced).net.histories (party master_id e) q) n))
+    sent e false t = inl t
+    sent e true t = inr (subst (λ k. (q : Id) (n : ℕ) → EntryHolds w.cluster hard.jobs q (at_index nothing ((end_step (record w { hard = hard; ran = ran }) net M forced).net.histories (party master_id k) q) n)) (number_is (ready w.cluster M).epoch e t)
+        (publish_each (EntryHolds w.cluster hard.jobs) net (master_party (ready w.cluster M)) (offers w.cluster net (ready w.cluster M) forced) (offered (peers w.cluster (ready w.cluster M))) before))
 
     by_put : (e : ℕ) (N : Master) → ((nat_eq (ready w.cluster M).epoch e ≡ false) × (find nat_cmp e w.masters ≡ Some N)) ⊎ ((e ≡ (ready w.cluster M).epoch) × (ready w.cluster M ≡ N))
         → ((same_party (master_party (ready w.cluster M)) (party master_id e) ≡ false) × (find nat_cmp e w.masters ≡ Some N)) ⊎ IsShowing w.cluster hard (end_step (record w { hard = hard; ran = ran }) net M forced).net e N
