@@ -24,6 +24,7 @@ use Rattle.written_world.specs.Runs.{run_from, run}
 use Rattle.written_world.specs.Sound.{Sound, Current, PacketNames}
 use Rattle.written_world.specs.Good.{shape, HasJoined, IsCredited}
 use Rattle.written_world.specs.Shown.{AllShown, AllCredited, AllGiveBacks}
+use Rattle.written_world.specs.Credits.{AllCreditedOnce}
 use Rattle.written_world.specs.Safe.{AllAgree, AllFit, CountsOnce, RowsFit}
 use Rattle.written_world.proofs.Bounds.{found_within}
 use Rattle.written_world.proofs.Choosing.{either, and_true}
@@ -40,6 +41,7 @@ use Rattle.written_world.proofs.Standing.{EntryHolds, Standing, Origins, origins
 use Rattle.written_world.proofs.Writing.{DemandsHold, KnowsMore, knows_itself, changed_follows, published_demands}
 use Rattle.written_world.proofs.Crediting.{credited_view, credited_like, heard_credited}
 use Rattle.written_world.proofs.KnownJobs.{job_added, both_added, added_credited, ended_knows, both_ended, ended_credited}
+use Rattle.written_world.proofs.CreditedOnce.{credited_once}
 use Rattle.written_world.proofs.Agreeing.{agent_agrees, app_agrees}
 use Rattle.written_world.proofs.Carrying.{carry_origins, counts_once}
 use Rattle.written_world.proofs.Joining.{joined_reports, joins, joined_written, demands, acted, agent_standing, app_standing, app_put_standing, agent_starts, app_starts}
@@ -431,6 +433,9 @@ always_credited c es e M found = ((always c es).masters e M found).credited
 
 pub always_backs : (c : ClusterRecord) (es : List Event) → AllGiveBacks (run c es).net
 always_backs c es = record { rise = λ a b. ((always c es).written a b).backs; anew = λ a b. ((always c es).written a b).anew }
+
+pub always_credited_once : (c : ClusterRecord) (es : List Event) → AllCreditedOnce c es
+always_credited_once c es = credited_once c es (always c)
 
 pub always_counts : (c : ClusterRecord) (es : List Event) (a : ℕ) (g : App) → find nat_cmp a (run c es).apps ≡ Some g → (m : ℕ) → CountsOnce (run c es) a g m
 always_counts c es a g found m = counts_once (run c es) a g m (always c es) found

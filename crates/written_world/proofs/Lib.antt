@@ -24,6 +24,7 @@ mod Drawing
 mod Housing
 mod Granted
 mod Granting
+mod CreditedOnce
 mod AlwaysStanding
 mod Viewing
 mod Resting

@@ -155,7 +155,7 @@ module _ (I : Net Ledger → Type 0) (keeps : (net : Net Ledger) (m : Move Ledge
   act_keeps w (Dump k) b = checked w _ _ b (found_has StepKeeps (packet_of w k) _ _ (record { net = b }) (λ x _. record { net = b }))
   act_keeps w ShowState b = record { net = b }
 
-  run_from_keeps : (es : List Event) (w : World) → I w.net → I (run_from es w).world.net
+  pub run_from_keeps : (es : List Event) (w : World) → I w.net → I (run_from es w).world.net
   run_from_keeps [] w b = b
   run_from_keeps (e ∷ es) w b = run_from_keeps es (world_step w e).world (act_keeps (counted_in w) e b).net
 

@@ -19,5 +19,6 @@ pub mod Safe
 pub mod Sound
 pub mod Good
 pub mod Shown
+pub mod Credits
 pub mod Patching
 pub mod Settling

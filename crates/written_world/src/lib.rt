@@ -18,6 +18,7 @@ ghost use Rattle.written_world.specs.Sound.{Bounded, Sound, Allowed};
 ghost use Rattle.written_world.specs.World.{empty_world};
 ghost use Rattle.written_world.specs.Good.{Good, shape};
 ghost use Rattle.written_world.specs.Shown.{AllShown, AllCredited, AllGiveBacks};
+ghost use Rattle.written_world.specs.Credits.{AllCreditedOnce};
 ghost use Rattle.written_world.specs.Safe.{Safe};
 ghost use Rattle.written_world.specs.Events.{Event};
 ghost use Rattle.written_world.specs.Runs.{run};
@@ -81,9 +82,11 @@ pub fn credited_is_given_back()
     ensures { (c : ClusterRecord) (events : List Event) → AllCredited (run c events) }
 {}
 
-/// In every state, in all that any application ever sent the master: no number given back falls among demands for one
-/// epoch (`rise`), and a demand for another epoch than the one before gives nothing back (`anew`). Since heads never
-/// fall, a give-back stands in demands for one epoch only, and no master of another credits it.
-pub fn give_backs_stand_in_one_epoch()
-    ensures { (c : ClusterRecord) (events : List Event) → AllGiveBacks (run c events).net }
+/// A give-back is credited at most once, over all masters and epochs, also where one has stopped: what masters of
+/// several epochs credited, each at a moment of the run, is together at most what the application gave back
+/// (`once`). And of all that any application ever sent: no number given back falls among demands for one epoch, and a
+/// demand for another epoch than the one before gives nothing back (`demands`).
+pub fn give_backs_are_credited_once()
+    ensures once { (c : ClusterRecord) (events : List Event) → AllCreditedOnce c events }
+    ensures demands { (c : ClusterRecord) (events : List Event) → AllGiveBacks (run c events).net }
 {}
