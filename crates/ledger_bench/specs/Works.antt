@@ -42,3 +42,12 @@ IsSize InsertOne times size = (row : List (RowKey × ℕ)) → applied 1 2048 ti
 IsSize WriteFull times size = 0 < times → (row : List (RowKey × ℕ)) → granted 0 ≡ Ok row → size ≡ length (row_form row)
 IsSize ReadFull times size = 0 < times → (row : List (RowKey × ℕ)) → granted 0 ≡ Ok row → size ≡ length row
 IsSize Turn times size = 0 < times → size ≡ 65
+
+-- the changes that a work makes, which may be refused
+abbrev pub changed_by : Work → ℕ → Result (List (RowKey × ℕ)) LedgerFault
+changed_by ApplyOne times = applied 0 2048 times
+changed_by ApplyMany times = applied 0 32 times
+changed_by InsertOne times = applied 1 2048 times
+changed_by WriteFull times = granted 0
+changed_by ReadFull times = granted 0
+changed_by Turn times = posted

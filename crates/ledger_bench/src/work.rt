@@ -3,7 +3,7 @@ ghost use Rattle.fuxi_terms.specs.Keys.{RowKey};
 ghost use Rattle.ledger_law.specs.Applying.{IsRefusal};
 ghost use Rattle.party_ledgers.specs.RowForms.{row_form};
 ghost use Rattle.ledger_bench.specs.Words.{work_named};
-ghost use Rattle.ledger_bench.specs.Works.{applied, granted, posted, IsSize};
+ghost use Rattle.ledger_bench.specs.Works.{applied, changed_by, granted, posted, IsSize};
 
 use crate::{start, times};
 use ledger_law::{BodyFault, LedgerFault};
@@ -102,9 +102,10 @@ fn turn(alloc: Global, times: u32) -> Result<usize, LedgerFault>
 /// what a turn sends. The row has 2 grants at each of its 2,048 keys, and at all but the first where an entry
 /// comes in front of all others.
 ///
-/// The fault is a refused change, or want of memory.
+/// The fault is the first refusal of the changes of the work, or want of memory.
 pub fn run(alloc: Global, work: Work, times: u32) -> Result<usize, LedgerFault>
-    ensures { IfOk result (λ size. IsSize work times size) }
+    ensures size { IfOk result (λ size. IsSize work times size) }
+    ensures fault { IfErr result (λ e. IsRefusal (changed_by work times) e) }
 {
     match work {
         Work::ApplyOne => apply(alloc, 0, 2048, times),
