@@ -22,7 +22,7 @@ what_packets_hold_run = record {
       frame 1 (master 1) (agent 0 0) Ack 0 0 Empty ∷
       frame 3 (agent 0 1) (master 1) Full 1 1 (Report 1 []) ∷
       frame 5 (app 0 1) (master 1) Full 1 2 (Tally 1 ((want_key 0, 5) ∷ [])) ∷
-      frame 7 (master 1) (agent 0 1) Full 1 2 (Rows ((record { job = 0; unit = 0; size = 100 ∷ 250 ∷ [] }, 4) ∷ [])) ∷
+      frame 7 (master 1) (agent 0 1) Full 1 2 (Rows ((record { job = 0; unit = 0; size = 100 ∷ 250 ∷ 0 ∷ 0 ∷ 0 ∷ 0 ∷ 0 ∷ 0 ∷ [] }, 4) ∷ [])) ∷
       frame 9 (master 1) (app 0 1) Full 1 3 (Tally 1 ((reported_key 0, 1) ∷ (count_key 0 0, 4) ∷ [])) ∷
       frame 11 (app 0 1) (master 1) Delta 1 3 (TallyChange (record { head = 1; entries = (want_key 0, pos 1) ∷ [] })) ∷
       Refused (NoPacket 12) ∷ []);

@@ -30,7 +30,7 @@ same_id_itself q = rw (nat_itself q.role, nat_itself q.number) refl
 pub same_party_itself : (p : Party) → same_party p p ≡ true
 same_party_itself p = rw (nat_itself p.id.role, nat_itself p.id.number, nat_itself p.inc) refl
 
-false_and : (a b : Bool) → a ≡ false → (a && b) ≡ false
+pub false_and : (a b : Bool) → a ≡ false → (a && b) ≡ false
 false_and true b e = cc
 false_and false b e = refl
 
@@ -43,7 +43,7 @@ not_false true e = refl
 not_false false e = cc
 
 -- ledgers that a test finds the same are the same
-same_entries : {K : Type 0} (R : K → K → Ordering) → ((x y : K) → R x y ≡ Equal → x ≡ y) → (es fs : List (K × ℕ)) → is_same R es fs ≡ true → es ≡ fs
+pub same_entries : {K : Type 0} (R : K → K → Ordering) → ((x y : K) → R x y ≡ Equal → x ≡ y) → (es fs : List (K × ℕ)) → is_same R es fs ≡ true → es ≡ fs
 same_entries R exact [] [] t = refl
 same_entries R exact [] (f ∷ fs) t = cc
 same_entries R exact (e ∷ es) [] t = cc
@@ -65,7 +65,7 @@ same_ledger_is a b t =
     λ i. record { head = x i; rows = y i; entries = z i }
 
 -- one value of a table of parties and peers
-set_other : {A : Type 0} (f : Party → Id → A) (p : Party) (q : Id) (a : A) (p' : Party) (q' : Id) → same_party p p' ≡ false → set_at f p q a p' q' ≡ f p' q'
+pub set_other : {A : Type 0} (f : Party → Id → A) (p : Party) (q : Id) (a : A) (p' : Party) (q' : Id) → same_party p p' ≡ false → set_at f p q a p' q' ≡ f p' q'
 set_other {A = A} f p q a p' q' e = ap (λ b. elim b as (λ _. A) [ true ↦ a | false ↦ f p' q' ]) (false_and _ (same_id q q') e)
 
 pub set_here : {A : Type 0} (f : Party → Id → A) (p : Party) (q : Id) (a : A) → set_at f p q a p q ≡ a

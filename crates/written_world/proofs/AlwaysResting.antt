@@ -31,7 +31,7 @@ use Rattle.written_world.specs.Preemption.{plan_of, preempted}
 use Rattle.written_world.specs.Refusals.{Refusal}
 use Rattle.written_world.specs.World.{World, Agent, App, Step, empty_world, prints_nothing, refused, with_found, master_party}
 use Rattle.written_world.specs.Agents.{agent_hears, app_hears}
-use Rattle.written_world.specs.Events.{Event, StartMaster, StopMaster, StartAgent, StartApp, Submit, Finish, Ban, Unban, Begin, Preempt, Want, Near, Rack, Avoid, GiveBack, TurnMaster, TurnAgent, TurnApp, ResyncMaster, ResyncAgent, ResyncApp, Deliver, DeliverRange, Dump, ShowState, at_master, at_agent, at_app, demanded, turned, turn_to_master, addressed, packet_of, deliver_one, deliver_all, given_back, new_master, agent_started, app_started, ended_in, banned_in, act, counted_in, world_step}
+use Rattle.written_world.specs.Events.{eight_places, Event, StartMaster, StopMaster, StartAgent, StartApp, Submit, Finish, Ban, Unban, Begin, Preempt, Want, Near, Rack, Avoid, GiveBack, TurnMaster, TurnAgent, TurnApp, ResyncMaster, ResyncAgent, ResyncApp, Deliver, DeliverRange, Dump, ShowState, at_master, at_agent, at_app, demanded, turned, turn_to_master, addressed, packet_of, deliver_one, deliver_all, given_back, new_master, agent_started, app_started, ended_in, banned_in, act, counted_in, world_step}
 use Rattle.written_world.specs.Runs.{run_from, run}
 use Rattle.std.proofs.lemmas.Map.Lookups.{exact_unsigned}
 
@@ -224,7 +224,7 @@ act_rests w (StartMaster e) b = checked w _ _ b (step_rests (record w { hard = r
 act_rests w (StopMaster e) b = master_runs w e _ b (λ M r. record { all = stopped_rests w.cluster w.masters e b })
 act_rests w (StartAgent m n) b = checked w _ (prints_nothing (agent_started w m n)) b (record { all = b })
 act_rests w (StartApp a n) b = checked w _ (prints_nothing (app_started w a n)) b (record { all = b })
-act_rests w (Submit e j) b = master_runs w e _ b (λ M r. checked w _ _ b (step_rests (record w { hard = submitted w.hard j }) w.net (record M { jobs = with_job j M.jobs }) (app_id j.number ∷ []) b (job_ranged w.cluster M j r)))
+act_rests w (Submit e j) b = master_runs w e _ b (λ M r. checked w _ _ b (step_rests (record w { hard = submitted w.hard (eight_places j) }) w.net (record M { jobs = with_job (eight_places j) M.jobs }) (app_id j.number ∷ []) b (job_ranged w.cluster M (eight_places j) r)))
 act_rests w (Finish e a) b = master_runs w e _ b (λ M r. checked w _ _ b (step_rests (record w { hard = finished w.hard a }) w.net (ended_in M a) [] b (ended_ranged w.cluster M a r)))
 act_rests w (Ban e m) b = master_runs w e _ b (λ M r. checked w _ _ b (step_rests (record w { hard = banned w.hard m }) w.net (banned_in M m) [] b (same_ranged w.cluster M (banned_in M m) refl refl refl r)))
 act_rests w (Unban e m) b = master_runs w e _ b (λ M r. checked w _ _ b (step_rests (record w { hard = unbanned w.hard m }) w.net (record M { bans = without_number m M.bans }) [] b (same_ranged w.cluster M (record M { bans = without_number m M.bans }) refl refl refl r)))

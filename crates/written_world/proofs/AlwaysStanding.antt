@@ -19,7 +19,7 @@ use Rattle.written_world.specs.Refusals.{Refusal, NotRising, TooManyMasters, Fen
 use Rattle.written_world.specs.World.{World, Agent, App, Step, empty_world, prints_nothing, refused, with_found, master_party}
 use Rattle.written_world.specs.MasterSteps.{is_there, talks, peers, projection, end_step, master_hears, told, received, adopted_now, adopts, take_report, take_demand, meet_app, is_taken, row, grants, counted}
 use Rattle.written_world.specs.Agents.{joined, agent_table, agent_hears, app_hears, carry, joined_demand}
-use Rattle.written_world.specs.Events.{Event, StartMaster, StopMaster, StartAgent, StartApp, Submit, Finish, Ban, Unban, Begin, Preempt, Want, Near, Rack, Avoid, GiveBack, TurnMaster, TurnAgent, TurnApp, ResyncMaster, ResyncAgent, ResyncApp, Deliver, DeliverRange, Dump, ShowState, at_master, at_agent, at_app, changed_demand, demanded, send_all, turned, turn_to_master, resync_all, addressed, packet_of, deliver_one, deliver_all, given_back, usable_now, most_masters, new_master, ended_in, banned_in, act, counted_in, world_step}
+use Rattle.written_world.specs.Events.{eight_places, Event, StartMaster, StopMaster, StartAgent, StartApp, Submit, Finish, Ban, Unban, Begin, Preempt, Want, Near, Rack, Avoid, GiveBack, TurnMaster, TurnAgent, TurnApp, ResyncMaster, ResyncAgent, ResyncApp, Deliver, DeliverRange, Dump, ShowState, at_master, at_agent, at_app, changed_demand, demanded, send_all, turned, turn_to_master, resync_all, addressed, packet_of, deliver_one, deliver_all, given_back, usable_now, most_masters, new_master, ended_in, banned_in, act, counted_in, world_step}
 use Rattle.written_world.specs.Runs.{run_from, run}
 use Rattle.written_world.specs.Sound.{Sound, Current, PacketNames}
 use Rattle.written_world.specs.Good.{shape, HasJoined, IsCredited}
@@ -383,7 +383,7 @@ act_stands w (Submit e j) h = master_runs w e _ h (λ M f. checked w _ _ h (λ n
     let k = h.masters e M f in
     let tests = behind (job_tests w.cluster.resources j) (submit_tests w.hard e j) (not_refused (not (has_group w.cluster j.group)) NoGroup (job_tests w.cluster.resources j ++ submit_tests w.hard e j) n).1 in
     let new : is_known w.hard.jobs j.number ≡ false = (not_refused (is_known w.hard.jobs j.number) Known (is_full w.hard ∷ []) (not_refused (nat_lt e w.hard.fence) (Fenced w.hard.fence) ((is_known w.hard.jobs j.number, Known) ∷ is_full w.hard ∷ []) tests).1).0 in
-    master_acts w (submitted w.hard j) e M (record M { jobs = with_job j M.jobs }) (app_id j.number ∷ []) h f (omega arith) (job_added w.hard.jobs j) refl (both_added M.jobs w.hard.jobs j new k.knows) (added_tabled M j) (added_housed w.cluster M j) (added_credited w.net M j)))
+    master_acts w (submitted w.hard (eight_places j)) e M (record M { jobs = with_job (eight_places j) M.jobs }) (app_id j.number ∷ []) h f (omega arith) (job_added w.hard.jobs (eight_places j)) refl (both_added M.jobs w.hard.jobs (eight_places j) new k.knows) (added_tabled M (eight_places j)) (added_housed w.cluster M (eight_places j)) (added_credited w.net M (eight_places j))))
 act_stands w (Finish e a) h = master_runs w e _ h (λ M f. checked w _ _ h (λ _. master_acts w (finished w.hard a) e M (ended_in M a) [] h f (omega arith) (ended_knows a w.hard.jobs w.hard.jobs (knows_itself w.hard.jobs)) refl (both_ended a M.jobs w.hard.jobs (h.masters e M f).knows) (ended_tabled M a) (λ _. ended_housed w.cluster M a) (ended_credited w.net M a)))
 act_stands w (Ban e m) h = master_runs w e _ h (λ M f. checked w _ _ h (λ _. master_changes w (banned w.hard m) e M (banned_in M m) [] h f (omega arith) refl refl refl refl (banned_tabled M m) (λ _. banned_housed w.cluster M m)))
 act_stands w (Unban e m) h = master_runs w e _ h (λ M f. checked w _ _ h (λ _. master_changes w (unbanned w.hard m) e M (record M { bans = without_number m M.bans }) [] h f (omega arith) refl refl refl refl (same_tabled M (record M { bans = without_number m M.bans }) refl refl refl refl) (λ _. same_housed w.cluster M (record M { bans = without_number m M.bans }) refl refl refl)))

@@ -1,31 +1,31 @@
-mod Alls
-mod Keys
-mod Choosing
-mod Placed
-mod Capacity
-mod Patched
-mod Places
-mod Bounds
-mod Steps
-mod Start
-mod Sounds
-mod Acts
-mod Spots
-mod Writing
-mod Crediting
-mod Tabling
-mod Standing
-mod Carrying
-mod Joining
-mod Agreeing
-mod KnownJobs
-mod Loads
-mod Drawing
-mod Housing
-mod Granted
-mod Granting
-mod CreditedOnce
-mod AlwaysStanding
-mod Viewing
-mod Resting
-mod AlwaysResting
+pub mod Alls
+pub mod Keys
+pub mod Choosing
+pub mod Placed
+pub mod Capacity
+pub mod Patched
+pub mod Places
+pub mod Bounds
+pub mod Steps
+pub mod Start
+pub mod Sounds
+pub mod Acts
+pub mod Spots
+pub mod Writing
+pub mod Crediting
+pub mod Tabling
+pub mod Standing
+pub mod Carrying
+pub mod Joining
+pub mod Agreeing
+pub mod KnownJobs
+pub mod Loads
+pub mod Drawing
+pub mod Housing
+pub mod Granted
+pub mod Granting
+pub mod CreditedOnce
+pub mod AlwaysStanding
+pub mod Viewing
+pub mod Resting
+pub mod AlwaysResting

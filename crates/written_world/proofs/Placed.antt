@@ -50,19 +50,19 @@ module _ {K : Type 0} {R : K → K → Ordering} (same : (x y : K) → R x y ≡
   ] refl h
 
 -- a member
-abbrev In : {A : Type 0} → A → List A → Type 0
+abbrev pub In : {A : Type 0} → A → List A → Type 0
 In x [] = ⊥
 In x (y ∷ ys) = (x ≡ y) ⊎ In x ys
 
 sum_le : {A : Type 0} (f g : A → ℕ) (xs : List A) → ((y : A) → f y ≤ g y) → sum_by f xs ≤ sum_by g xs
 sum_le f g xs h = sum_by-le-sum_by f g xs h
 
-sum_lt : {A : Type 0} (f g : A → ℕ) (x : A) (xs : List A) → ((y : A) → f y ≤ g y) → In x xs → f x < g x → sum_by f xs < sum_by g xs
+pub sum_lt : {A : Type 0} (f g : A → ℕ) (x : A) (xs : List A) → ((y : A) → f y ≤ g y) → In x xs → f x < g x → sum_by f xs < sum_by g xs
 sum_lt f g x [] h i lt = absurd i
 sum_lt f g x (y ∷ ys) h (inl e) lt = let r = sum_le f g ys h in let l : f y < g y = subst (λ z. f z < g z) e lt in rw (sum_by-cons f y ys, sum_by-cons g y ys) (omega (arith, r, l))
 sum_lt f g x (y ∷ ys) h (inr i) lt = let r = sum_lt f g x ys h i lt in rw (sum_by-cons f y ys, sum_by-cons g y ys) (omega (arith, r, h y))
 
-sum_filter : {A : Type 0} (f : A → ℕ) (q : A → Bool) (xs : List A) → sum_by f (filter q xs) ≤ sum_by f xs
+pub sum_filter : {A : Type 0} (f : A → ℕ) (q : A → Bool) (xs : List A) → sum_by f (filter q xs) ≤ sum_by f xs
 sum_filter f q [] = omega arith
 sum_filter f q (x ∷ xs) = let r = sum_filter f q xs in elim (q x) as (λ b. sum_by f (cond b (x ∷ filter q xs) (filter q xs)) ≤ sum_by f (x ∷ xs)) [
   | true ↦ rw (sum_by-cons f x (filter q xs), sum_by-cons f x xs) (omega (arith, r))
@@ -70,15 +70,15 @@ sum_filter f q (x ∷ xs) = let r = sum_filter f q xs in elim (q x) as (λ b. su
 ]
 
 -- the first of the candidates is one of them
-least_has : (P : Ranked → Type 0) (r : Ranked) (rs : List Ranked) → P r → AllByRecursion P rs → P (least r rs)
+pub least_has : (P : Ranked → Type 0) (r : Ranked) (rs : List Ranked) → P r → AllByRecursion P rs → P (least r rs)
 least_has P r [] h k = h
 least_has P r (s ∷ ss) h k = least_has P (cond (is_lt (slice_cmp nat_cmp s.rank r.rank)) s r) ss (either P (is_lt (slice_cmp nat_cmp s.rank r.rank)) s r (λ _. k.0) (λ _. h)) k.1
 
-all_mapped : (P : Ranked → Type 0) (f : ℕ → Ranked) (q : ℕ → Bool) (ms : List ℕ) → ((m : ℕ) → q m ≡ true → P (f m)) → AllByRecursion P (map f (filter q ms))
+pub all_mapped : (P : Ranked → Type 0) (f : ℕ → Ranked) (q : ℕ → Bool) (ms : List ℕ) → ((m : ℕ) → q m ≡ true → P (f m)) → AllByRecursion P (map f (filter q ms))
 all_mapped P f q [] h = tt
 all_mapped P f q (m ∷ ms) h = elim (q m) as (λ b. q m ≡ b → AllByRecursion P (map f (cond b (m ∷ filter q ms) (filter q ms)))) [ true ↦ λ e. (h m e, all_mapped P f q ms h) | false ↦ λ e. all_mapped P f q ms h ] refl
 
-all_joined : (P : Ranked → Type 0) (xs ys : List Ranked) → AllByRecursion P xs → AllByRecursion P ys → AllByRecursion P (xs ++ ys)
+pub all_joined : (P : Ranked → Type 0) (xs ys : List Ranked) → AllByRecursion P xs → AllByRecursion P ys → AllByRecursion P (xs ++ ys)
 all_joined P [] ys h k = k
 all_joined P (x ∷ xs) ys h k = (h.0, all_joined P xs ys h.1 k)
 
@@ -113,7 +113,7 @@ one_count t s = let e : nat_eq (count spot_cmp t s + 1) 0 ≡ false = grind (ari
 pub held_more : (t : List (Spot × ℕ)) (s : Spot) (a u : ℕ) → held t a u ≤ held (set_count spot_cmp t s (count spot_cmp t s + 1)) a u
 held_more t s a u = subst (λ t'. held t a u ≤ held t' a u) (sym (one_count t s)) (sum_put same_spot (λ k. nat_eq k.job a && nat_eq k.unit u) s (count spot_cmp t s + 1) t (omega arith))
 
-held_one : (t : List (Spot × ℕ)) (s : Spot) → held t s.job s.unit < held (set_count spot_cmp t s (count spot_cmp t s + 1)) s.job s.unit
+pub held_one : (t : List (Spot × ℕ)) (s : Spot) → held t s.job s.unit < held (set_count spot_cmp t s (count spot_cmp t s + 1)) s.job s.unit
 held_one t s = subst (λ t'. held t s.job s.unit < held t' s.job s.unit) (sym (one_count t s))
     (sum_put_more same_spot (λ k. nat_eq k.job s.job && nat_eq k.unit s.unit) s (count spot_cmp t s + 1) t (itself s.job s.unit) (omega arith))
   where

@@ -17,7 +17,7 @@ use Rattle.written_world.specs.Refusals.{Refusal}
 use Rattle.written_world.specs.World.{World, Agent, App, Step, empty_world, prints_nothing, refused, with_found, master_party}
 use Rattle.written_world.specs.MasterSteps.{talks, peers, offers, ready, end_step, master_hears, told, received, adopted_now}
 use Rattle.written_world.specs.Agents.{joined, agent_table, agent_hears, app_hears, joined_demand}
-use Rattle.written_world.specs.Events.{Event, StartMaster, StopMaster, StartAgent, StartApp, Submit, Finish, Ban, Unban, Begin, Preempt, Want, Near, Rack, Avoid, GiveBack, TurnMaster, TurnAgent, TurnApp, ResyncMaster, ResyncAgent, ResyncApp, Deliver, DeliverRange, Dump, ShowState, at_master, at_agent, at_app, changed_demand, demanded, send_all, turned, turn_to_master, resync_all, resynced, addressed, packet_of, deliver_one, deliver_all, given_back, new_master, agent_started, app_started, ended_in, banned_in, act, counted_in, world_step}
+use Rattle.written_world.specs.Events.{eight_places, Event, StartMaster, StopMaster, StartAgent, StartApp, Submit, Finish, Ban, Unban, Begin, Preempt, Want, Near, Rack, Avoid, GiveBack, TurnMaster, TurnAgent, TurnApp, ResyncMaster, ResyncAgent, ResyncApp, Deliver, DeliverRange, Dump, ShowState, at_master, at_agent, at_app, changed_demand, demanded, send_all, turned, turn_to_master, resync_all, resynced, addressed, packet_of, deliver_one, deliver_all, given_back, new_master, agent_started, app_started, ended_in, banned_in, act, counted_in, world_step}
 use Rattle.written_world.specs.Runs.{run_from, run}
 use Rattle.written_world.proofs.Choosing.{either}
 
@@ -133,7 +133,7 @@ module _ (I : Net Ledger → Type 0) (keeps : (net : Net Ledger) (m : Move Ledge
   act_keeps w (StopMaster e) b = master_runs w e _ b (λ M. record { net = b })
   act_keeps w (StartAgent m n) b = checked w _ (prints_nothing (agent_started w m n)) b (record { net = keeps w.net (Starts (party (agent_id m) n)) b })
   act_keeps w (StartApp a n) b = checked w _ (prints_nothing (app_started w a n)) b (record { net = keeps w.net (Starts (party (app_id a) n)) b })
-  act_keeps w (Submit e j) b = master_runs w e _ b (λ M. checked w _ _ b (end_step_keeps (record w { hard = submitted w.hard j }) w.net (record M { jobs = with_job j M.jobs }) (app_id j.number ∷ []) b))
+  act_keeps w (Submit e j) b = master_runs w e _ b (λ M. checked w _ _ b (end_step_keeps (record w { hard = submitted w.hard (eight_places j) }) w.net (record M { jobs = with_job (eight_places j) M.jobs }) (app_id j.number ∷ []) b))
   act_keeps w (Finish e a) b = master_runs w e _ b (λ M. checked w _ _ b (end_step_keeps (record w { hard = finished w.hard a }) w.net (ended_in M a) [] b))
   act_keeps w (Ban e m) b = master_runs w e _ b (λ M. checked w _ _ b (end_step_keeps (record w { hard = banned w.hard m }) w.net (banned_in M m) [] b))
   act_keeps w (Unban e m) b = master_runs w e _ b (λ M. checked w _ _ b (end_step_keeps (record w { hard = unbanned w.hard m }) w.net (record M { bans = without_number m M.bans }) [] b))

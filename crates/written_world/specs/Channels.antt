@@ -69,10 +69,14 @@ content net x = at_index nothing (net.histories x.from x.to.id) x.seq
 abbrev pub dropped_by : Id → ℕ
 dropped_by sender = cond (is_master sender) credited_what back_what
 
+-- what a packet of a kind and index holds, of a sender's history towards a receiver
+abbrev pub body_in : Id → Id → List Ledger → Kind → ℕ → Body
+body_in from to h Ack n = Empty
+body_in from to h Full n = whole_body (is_agent to) (is_agent from) (at_index nothing h n)
+body_in from to h Delta n = change_body (is_agent to) (is_agent from) (dropped_by from) (at_index nothing h (n - 1)) (at_index nothing h n)
+
 abbrev pub body_of : Net Ledger → Kind → Packet → Body
-body_of net Ack x = Empty
-body_of net Full x = whole_body (is_agent x.to.id) (is_agent x.from.id) (content net x)
-body_of net Delta x = change_body (is_agent x.to.id) (is_agent x.from.id) (dropped_by x.from.id) (at_index nothing (net.histories x.from x.to.id) (x.seq - 1)) (content net x)
+body_of net k x = body_in x.from.id x.to.id (net.histories x.from x.to.id) k x.seq
 
 -- a frame is a length of 4 bytes, 44 bytes of header, and the body
 abbrev pub frame_length : Net Ledger → Packet → ℕ

@@ -3,7 +3,8 @@ use Rattle.std.specs.Prelude.{ℕ, zero, suc, ◌+◌, ◌-◌, Bool, true, fals
 use Rattle.std.specs.Ordering.{nat_cmp}
 use Rattle.std.specs.FinMap.Entries.{put, where_key, find}
 use Rattle.fuxi_terms.specs.declared.Key.{Key}
-use Rattle.fuxi_terms.specs.Cluster.{JobRecord, has_rack, greatest_count}
+use Rattle.fuxi_terms.specs.Cluster.{ClusterRecord, JobRecord, UnitRecord, has_rack, greatest_count}
+use Rattle.fuxi_terms.specs.Padded.{padded}
 use Rattle.fuxi_terms.specs.Keys.{key_cmp, spot_cmp}
 use Rattle.fuxi_terms.specs.Counts.{set_count}
 use Rattle.written_world.specs.Net.{Net, Party, Id, Packet, Heard, move, Starts, Turns, Resyncs, heard_of}
@@ -91,10 +92,14 @@ abbrev pub start_app : World → ℕ → ℕ → Step
 start_app w a b = unless_refused w ((not (is_known w.hard.jobs a), NoJob) ∷ (has_ended w.hard.jobs a, Ended) ∷ (not (nat_lt (w.boots (app_id a)) b), NotRising (w.boots (app_id a))) ∷ [])
     (λ w. prints_nothing (app_started w a b))
 
+-- a job is known with its sizes in eight places, zeros behind those of the cluster
+abbrev pub eight_places : JobRecord → JobRecord
+eight_places j = record j { units = map (λ (u : UnitRecord). record u { size = padded u.size }) j.units }
+
 -- What is written to the hard state through a master. An admitted job has its grants appended
 abbrev pub submit : World → ℕ → JobRecord → Step
 submit w e j = at_master w e (λ M. unless_refused w ((not (has_group w.cluster j.group), NoGroup) ∷ job_tests w.cluster.resources j ++ submit_tests w.hard e j)
-    (λ w. prints_nothing (end_step (record w { hard = submitted w.hard j }) w.net (record M { jobs = with_job j M.jobs }) (app_id j.number ∷ []))))
+    (λ w. prints_nothing (end_step (record w { hard = submitted w.hard (eight_places j) }) w.net (record M { jobs = with_job (eight_places j) M.jobs }) (app_id j.number ∷ []))))
 
 -- a job that ends loses its grants, and its demand counts as empty from then on
 abbrev pub ended_in : Master → ℕ → Master
@@ -133,26 +138,42 @@ abbrev pub demanded : World → ℕ → App → Key → ℕ → Step
 demanded w a g k n = let p = party (app_id a) g.boot in
     prints_nothing (record w { net = publish w.net p (to_master (changed_demand (present w.net p master_id) k n)) })
 
-abbrev pub has_no_unit : App → ℕ → Bool × Refusal
-has_no_unit g u = (not (nat_lt u g.units), NoUnit)
+-- the tests of a command in their order, of an application with so many units; of a give-back also what is usable there, and what is given back already
+abbrev pub has_no_unit : ℕ → ℕ → Bool × Refusal
+has_no_unit units u = (not (nat_lt u units), NoUnit)
 
-abbrev pub has_no_machine : World → ℕ → Bool × Refusal
-has_no_machine w m = (not (has_machine w.cluster m), NoMachine)
+abbrev pub has_no_machine : ClusterRecord → ℕ → Bool × Refusal
+has_no_machine c m = (not (has_machine c m), NoMachine)
 
 abbrev pub is_out_of_range : ℕ → Bool × Refusal
 is_out_of_range n = (nat_lt greatest_count n, WantRange greatest_count)
 
+abbrev pub want_tests : ℕ → ℕ → ℕ → List (Bool × Refusal)
+want_tests units u n = has_no_unit units u ∷ is_out_of_range n ∷ []
+
+abbrev pub near_tests : ClusterRecord → ℕ → ℕ → ℕ → ℕ → List (Bool × Refusal)
+near_tests c units u m n = has_no_unit units u ∷ has_no_machine c m ∷ is_out_of_range n ∷ []
+
+abbrev pub rack_tests : ClusterRecord → ℕ → ℕ → ℕ → ℕ → List (Bool × Refusal)
+rack_tests c units u r n = has_no_unit units u ∷ (not (has_rack c r), NoRack) ∷ is_out_of_range n ∷ []
+
+abbrev pub avoid_tests : ClusterRecord → ℕ → ℕ → ℕ → List (Bool × Refusal)
+avoid_tests c units u m = has_no_unit units u ∷ has_no_machine c m ∷ []
+
+abbrev pub give_back_tests : ClusterRecord → ℕ → ℕ → ℕ → ℕ → ℕ → ℕ → List (Bool × Refusal)
+give_back_tests c units usable given u m n = has_no_unit units u ∷ has_no_machine c m ∷ (nat_lt usable n, NotUsable usable) ∷ (nat_lt greatest_back (given + n), BackRange) ∷ []
+
 abbrev pub want : World → ℕ → ℕ → ℕ → Step
-want w a u n = at_app w a (λ g. unless_refused w (has_no_unit g u ∷ is_out_of_range n ∷ []) (λ w. demanded w a g (want_key u) n))
+want w a u n = at_app w a (λ g. unless_refused w (want_tests g.units u n) (λ w. demanded w a g (want_key u) n))
 
 abbrev pub near : World → ℕ → ℕ → ℕ → ℕ → Step
-near w a u m n = at_app w a (λ g. unless_refused w (has_no_unit g u ∷ has_no_machine w m ∷ is_out_of_range n ∷ []) (λ w. demanded w a g (near_key u m) n))
+near w a u m n = at_app w a (λ g. unless_refused w (near_tests w.cluster g.units u m n) (λ w. demanded w a g (near_key u m) n))
 
 abbrev pub rack : World → ℕ → ℕ → ℕ → ℕ → Step
-rack w a u r n = at_app w a (λ g. unless_refused w (has_no_unit g u ∷ (not (has_rack w.cluster r), NoRack) ∷ is_out_of_range n ∷ []) (λ w. demanded w a g (rack_key u r) n))
+rack w a u r n = at_app w a (λ g. unless_refused w (rack_tests w.cluster g.units u r n) (λ w. demanded w a g (rack_key u r) n))
 
 abbrev pub avoid : World → ℕ → ℕ → ℕ → ℕ → Step
-avoid w a u m on = at_app w a (λ g. unless_refused w (has_no_unit g u ∷ has_no_machine w m ∷ []) (λ w. demanded w a g (avoid_key u m) (min on 1)))
+avoid w a u m on = at_app w a (λ g. unless_refused w (avoid_tests w.cluster g.units u m) (λ w. demanded w a g (avoid_key u m) (min on 1)))
 
 -- a number given back is added to those of this epoch. Only grants on machines that the view names may be given back
 abbrev pub usable_now : World → ℕ → App → ℕ → ℕ → ℕ
@@ -162,8 +183,7 @@ abbrev pub given_back : World → ℕ → App → ℕ → ℕ → ℕ
 given_back w a g u m = at_key (present w.net (party (app_id a) g.boot) master_id) (back_key u m)
 
 abbrev pub give_back : World → ℕ → ℕ → ℕ → ℕ → Step
-give_back w a u m n = at_app w a (λ g. unless_refused w (has_no_unit g u ∷ has_no_machine w m
-    ∷ (nat_lt (usable_now w a g u m) n, NotUsable (usable_now w a g u m)) ∷ (nat_lt greatest_back (given_back w a g u m + n), BackRange) ∷ [])
+give_back w a u m n = at_app w a (λ g. unless_refused w (give_back_tests w.cluster g.units (usable_now w a g u m) (given_back w a g u m) u m n)
     (λ w. demanded w a g (back_key u m) (given_back w a g u m + n)))
 
 -- Turns and resyncs

@@ -30,9 +30,12 @@ count_entries a table = map (λ e. (count_key e.0.unit e.0.machine, e.1)) (filte
 abbrev pub grants : Master → ℕ → ℕ → Ledger
 grants M boot a = tally_ledger boot (map (λ m. (reported_key m, 1)) M.reported ++ (count_entries a M.table ++ credited_of M a))
 
--- the boot in the grants is the incarnation that the master knows
+-- what a peer should hold, where the master knows it by this incarnation: the boot in the grants is that one
+abbrev pub projected : Master → Id → ℕ → Ledger
+projected M q known = cond (is_agent q) (row M q.number) (grants M known q.number)
+
 abbrev pub projection : Net Ledger → Master → Id → Ledger
-projection net M q = cond (is_agent q) (row M q.number) (grants M (net.links (master_party M) q).known q.number)
+projection net M q = projected M q (net.links (master_party M) q).known
 
 -- a master talks to the agents of its cluster and to the applications of the jobs that it knows, ended ones too
 abbrev pub talks : ClusterRecord → Master → Id → Bool
@@ -91,7 +94,7 @@ abbrev pub is_there : ClusterRecord → ℕ → Key → Bool
 is_there c units k = nat_lt k.unit units && (nat_eq k.what 1 || cond (nat_eq k.what 3) (has_rack c k.number) (has_machine c k.number))
 
 abbrev pub counted : ClusterRecord → List KnownJob → ℕ → Ledger → Ledger
-counted c jobs a d = record d { entries = where_key key_cmp (is_there c (unit_count jobs a)) d.entries }
+counted c jobs a d = tally_ledger d.head (where_key key_cmp (is_there c (unit_count jobs a)) d.entries)
 
 -- of what is given back and not yet credited the table loses what it has
 abbrev pub credit : ℕ → List (Key × ℕ) → List (Key × ℕ) → List (Spot × ℕ) → List (Spot × ℕ)
@@ -136,15 +139,21 @@ is_taken Gap = false
 abbrev pub received : ClusterRecord → Master → Net Ledger → Packet → Ledger
 received c M net x = cond (is_agent x.from.id) (content net x) (counted c M.jobs x.from.id.number (content net x))
 
--- a master that heard something of a party
+-- a master that heard something of a party: whether that is a new incarnation, and whether a ledger of it is taken
+abbrev pub told_of : Master → Bool → Bool → Id → Ledger → Master
+told_of M fresh taken from l = cond (is_agent from)
+    (cond taken (take_report M from.number l) M)
+    (let M1 = meet_app fresh M from.number in cond taken (take_demand M1 from.number l) M1)
+
 abbrev pub told : Master → Heard → Id → Ledger → Master
-told M h from l = cond (is_agent from)
-    (cond (is_taken h.what) (take_report M from.number l) M)
-    (let M1 = meet_app h.fresh M from.number in cond (is_taken h.what) (take_demand M1 from.number l) M1)
+told M h from l = told_of M h.fresh (is_taken h.what) from l
 
 -- the machine whose report is adopted has its row appended in any case
+abbrev pub adopted_of : Master → Bool → Id → Ledger → List Id
+adopted_of M taken from l = cond (is_agent from && (taken && adopts M from.number l)) (from ∷ []) []
+
 abbrev pub adopted_now : Master → Heard → Id → Ledger → List Id
-adopted_now M h from l = cond (is_agent from && (is_taken h.what && adopts M from.number l)) (from ∷ []) []
+adopted_now M h from l = adopted_of M (is_taken h.what) from l
 
 abbrev pub master_hears : World → Master → Packet → World
 master_hears w M x =

@@ -38,11 +38,17 @@ abbrev pub held_in : ClusterRecord → List (Spot × ℕ) → ℕ → ℕ → �
 held_in c table a u r = sum_by (λ e. cond (nat_eq e.0.job a && (nat_eq e.0.unit u && nat_eq (rack_of c e.0.machine) r)) e.1 0) table
 
 -- count times size, in one resource: on a machine, and over the jobs of a group
+abbrev pub total_by : (ℕ → ℕ → ℕ → ℕ) → ℕ → ℕ → List (Spot × ℕ) → ℕ
+total_by sizes m i table = sum_by (λ e. cond (nat_eq e.0.machine m) (e.1 * sizes e.0.job e.0.unit i) 0) table
+
 abbrev pub total_at : List KnownJob → ℕ → ℕ → List (Spot × ℕ) → ℕ
-total_at jobs m i table = sum_by (λ e. cond (nat_eq e.0.machine m) (e.1 * size_at jobs e.0.job e.0.unit i) 0) table
+total_at jobs m i table = total_by (size_at jobs) m i table
+
+abbrev pub usage_by : (ℕ → ℕ) → (ℕ → ℕ → ℕ → ℕ) → ℕ → ℕ → List (Spot × ℕ) → ℕ
+usage_by groups sizes g i table = sum_by (λ e. cond (nat_eq (groups e.0.job) g) (e.1 * sizes e.0.job e.0.unit i) 0) table
 
 abbrev pub usage_at : List KnownJob → ℕ → ℕ → List (Spot × ℕ) → ℕ
-usage_at jobs g i table = sum_by (λ e. cond (nat_eq (group_of jobs e.0.job) g) (e.1 * size_at jobs e.0.job e.0.unit i) 0) table
+usage_at jobs g i table = usage_by (group_of jobs) (size_at jobs) g i table
 
 -- The demand of a job, and what of it the table does not meet
 abbrev pub demand_of : Master → ℕ → Ledger
@@ -51,14 +57,20 @@ demand_of M a = unwrap_or (find nat_cmp a M.demands) nothing
 abbrev pub asked : Master → ℕ → Key → ℕ
 asked M a k = at_key (demand_of M a) k
 
+abbrev pub out_of : (ℕ → Key → ℕ) → List (Spot × ℕ) → ℕ → ℕ → ℕ
+out_of asks table a u = asks a (want_key u) - held table a u
+
 abbrev pub out : Master → ℕ → ℕ → ℕ
-out M a u = asked M a (want_key u) - held M.table a u
+out M a u = out_of (asked M) M.table a u
 
 -- the level of a unit on a machine: 0 where it wants more there, else 1 where it wants more in that rack, else 2
+abbrev pub level_of : ClusterRecord → (ℕ → Key → ℕ) → List (Spot × ℕ) → ℕ → ℕ → ℕ → ℕ
+level_of c asks table a u m =
+    cond (nat_lt (held_on table a u m) (asks a (near_key u m))) 0
+    (cond (nat_lt (held_in c table a u (rack_of c m)) (asks a (rack_key u (rack_of c m)))) 1 2)
+
 abbrev pub level : ClusterRecord → Master → ℕ → ℕ → ℕ → ℕ
-level c M a u m =
-    cond (nat_lt (held_on M.table a u m) (asked M a (near_key u m))) 0
-    (cond (nat_lt (held_in c M.table a u (rack_of c m)) (asked M a (rack_key u (rack_of c m)))) 1 2)
+level c M a u m = level_of c (asked M) M.table a u m
 
 abbrev pub avoids : Master → ℕ → ℕ → ℕ → Bool
 avoids M a u m = nat_lt 0 (asked M a (avoid_key u m))
