@@ -3,7 +3,7 @@ use Rattle.std.proofs.Common.{◌≡◌, ℕ, ◌+◌, ◌<◌, length, List, Re
 use Rattle.std.proofs.lemmas.Bool.Decides.{nat_tests}
 use Rattle.std.proofs.lemmas.Option.{slice_get-get_or}
 use Rattle.std.proofs.lemmas.Grind.{common_steps}
-use Rattle.ledger_law.specs.declared.ledger.LedgerFault.{LedgerFault}
+use Rattle.fuxi_terms.specs.declared.answers.LedgerFault.{LedgerFault}
 use Rattle.delta_channel.specs.declared.receiver.Stamp.{Stamp}
 use Rattle.delta_channel.specs.declared.receiver.Place.{Place}
 use Rattle.delta_channel.specs.declared.receiver.Verdict.TheVariants.{Take}

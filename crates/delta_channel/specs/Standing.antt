@@ -1,6 +1,6 @@
 -- What a sender stands for: a history, which is the list of its ledgers from the one with no entry on.
 use Rattle.std.specs.Prelude.{◌≡◌, ℕ, ◌+◌, ◌-◌, ◌≤◌, List, [], ◌∷◌, ◌++◌, length, drop, min, Some, Result, Ok, slice_get}
-use Rattle.ledger_law.specs.declared.ledger.LedgerFault.{LedgerFault}
+use Rattle.fuxi_terms.specs.declared.answers.LedgerFault.{LedgerFault}
 
 -- its incarnation, its last index, its present ledger, and the changes that it keeps, the latest last
 pub record Sending (V D : Type 0) : Type 0 where

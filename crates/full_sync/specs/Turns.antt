@@ -1,7 +1,7 @@
 -- Both directions between two parties, and what one turn sends.
 use Rattle.std.specs.Prelude.{◌≡◌, ℕ, ◌+◌, ◌-◌, min, not, nat_eq, nat_lt, ◌||◌, ◌&&◌, cond, List, [], ◌∷◌, ◌++◌, length, map, Result, Some, slice_get}
 use Rattle.fuxi_terms.specs.Lists.{numbers_from}
-use Rattle.ledger_law.specs.declared.ledger.LedgerFault.{LedgerFault}
+use Rattle.fuxi_terms.specs.declared.answers.LedgerFault.{LedgerFault}
 use Rattle.delta_channel.specs.Standing.{Sending, IsChangeAt}
 use Rattle.delta_channel.specs.Hearing.{Receiving}
 use Rattle.delta_channel.specs.declared.receiver.Place.{Place}

@@ -9,7 +9,7 @@ use Rattle.std.specs.FinMap.Entries.{below_all, is_sorted}
 use Rattle.std.proofs.lemmas.List.Elements.{recursion_from_All}
 use Rattle.fuxi_terms.specs.Counts.{AreChanges, is_no_change}
 use Rattle.fuxi_terms.proofs.Counting.{both_true}
-use Rattle.fuxi_terms.proofs.Lists.{all_append}
+use Rattle.fuxi_terms.proofs.Lists.{all_push}
 
 pub both : (a b : Bool) → T a → T b → T (a && b)
 both true b p q = q
@@ -28,5 +28,5 @@ module _ {K X : Type 0} (R : K → K → Ordering) where
 pub changes_push : {K : Type 0} (R : K → K → Ordering) (cs : List (K × ℤ)) (k : K) (change : ℤ) → AreChanges R cs → is_no_change change ≡ false → All (λ e. R e.0 k ≡ Less) cs → AreChanges R (cs ++ (k, change) ∷ [])
 changes_push R cs k change h real rises = record {
   sorted = sorted_push R cs k change h.sorted (recursion_from_All _ cs rises);
-  real = all_append _ cs (k, change) h.real real;
+  real = all_push _ cs (k, change) h.real real;
 }

@@ -11,6 +11,7 @@ use Rattle.std.proofs.lemmas.Bool.{cases_lt}
 use Rattle.std.proofs.lemmas.Bool.Decides.{nat_tests}
 use Rattle.std.specs.FinMap.Entries.{by_order, below_all, put, where_key, find, is_sorted, is_sorted-put, is_sorted-where_key, find-put, find-where_key, length-put, length_without, same_entries}
 use Rattle.fuxi_terms.specs.Counts.{moved, change_between, count, set_count, set_moved, change_one, then_do, change_all, joined, differences, difference, AreCounts}
+use Rattle.fuxi_terms.proofs.Booleans.{both_false}
 
 -- the change between two numbers moves the one to the other
 down : (a b : ℕ) → b < a → cond (nat_lt (a - b - 1) a) (Some (a - (a - b - 1 + 1))) None ≡ Some b
@@ -212,10 +213,6 @@ module _ {K : Type 0} {R : K → K → Ordering} (o : IsTotalOrder R) where
       pub none_count : (es : List (K × ℕ)) (q : K) → is_some (find R q es) ≡ false → count R es q ≡ 0
       none_count es q h = elim (find R q es) as (λ r. is_some r ≡ false → unwrap_or r 0 ≡ 0) [ None ↦ λ _. refl | Some n ↦ λ e. cc ] h
 
-      pub or_false : (a b : Bool) → (a || b) ≡ false → (a ≡ false) × (b ≡ false)
-      or_false true b e = cc
-      or_false false b e = (refl, e)
-
       -- the difference takes the old list to the new one
       pub difference_law : AreCounts R greatest old → change_all R low high greatest old (difference R old new) ≡ Ok new
       difference_law old_is =
@@ -223,6 +220,6 @@ module _ {K : Type 0} {R : K → K → Ordering} (o : IsTotalOrder R) where
           let r = reaches js old (joined_sorted old new new_is.sorted) old_is (λ q _. refl) in
           let ends : r.end ≡ new = same_counts r.end new r.counts new_is (λ q. r.values q ∙ elim (is_some (find R q js)) as (λ b. is_some (find R q js) ≡ b → cond b (count R new q) (count R old q) ≡ count R new q) [
             | true ↦ λ _. refl
-            | false ↦ λ t. let none = or_false _ _ (sym (in_joined old new q) ∙ t) in none_count old q none.0 ∙ sym (none_count new q none.1)
+            | false ↦ λ t. let none = both_false _ _ (sym (in_joined old new q) ∙ t) in none_count old q none.0 ∙ sym (none_count new q none.1)
           ] refl) in
           r.made ∙ ap (λ es. Ok es) ends

@@ -1,4 +1,6 @@
+pub mod Booleans
 pub mod Lists
+pub mod Alls
 pub mod Counting
 pub mod OnlyDifference
 pub mod Changing
@@ -7,3 +9,10 @@ pub mod Testing
 pub mod ByPlace
 pub mod VectorLaws
 pub mod Appending
+pub mod KeyOrders
+pub mod Patched
+pub mod Members
+pub mod Sums
+pub mod Spots
+pub mod RowDifferences
+pub mod SameEntries

@@ -7,13 +7,9 @@ pub one_more : (first n : ℕ) → numbers_from first (n + 1) ≡ numbers_from f
 one_more first zero = ap (λ k. k ∷ []) (omega arith)
 one_more first (suc n) = ap (λ k. numbers_from first k) (add-one (suc n)) ∙ ap (λ ks. first ∷ ks) (ap (λ k. numbers_from (first + 1) k) (sym (add-one n)) ∙ one_more (first + 1) n ∙ ap (λ k. numbers_from (first + 1) n ++ k ∷ []) (omega arith))
 
-pub all_append : {A : Type 0} (P : A → Type 0) (xs : List A) (x : A) → AllByRecursion P xs → P x → AllByRecursion P (xs ++ x ∷ [])
-all_append P [] x all here = (here, tt)
-all_append P (y ∷ ys) x all here = (all.0, all_append P ys x all.1 here)
-
-pub all_changed : {A : Type 0} (P Q : A → Type 0) (xs : List A) → ((x : A) → P x → Q x) → AllByRecursion P xs → AllByRecursion Q xs
-all_changed P Q [] f all = tt
-all_changed P Q (x ∷ xs) f all = (f x all.0, all_changed P Q xs f all.1)
+pub all_push : {A : Type 0} (P : A → Type 0) (xs : List A) (x : A) → AllByRecursion P xs → P x → AllByRecursion P (xs ++ x ∷ [])
+all_push P [] x all here = (here, tt)
+all_push P (y ∷ ys) x all here = (all.0, all_push P ys x all.1 here)
 
 pub all_at : {A : Type 0} (P : A → Type 0) (xs : List A) (i : ℕ) (x : A) → AllByRecursion P xs → slice_get xs i ≡ Some x → P x
 all_at P [] i x all is = cc

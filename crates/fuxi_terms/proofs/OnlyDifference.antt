@@ -11,6 +11,7 @@ use Rattle.std.proofs.lemmas.Bool.Decides.{nat_tests}
 use Rattle.std.specs.FinMap.Entries.{below_all, find, is_sorted, is_sorted-put, find-put, same_entries}
 use Rattle.fuxi_terms.specs.Counts.{moved, change_between, is_no_change, count, set_count, set_moved, change_one, then_do, change_all, joined, differences, difference, AreChanges}
 use Rattle.fuxi_terms.proofs.Counting.{both_true, tied, below_none, count-set_count}
+use Rattle.fuxi_terms.proofs.Booleans.{both_false}
 
 -- what one change says of a number before and after
 abbrev Moves : Option ℤ → ℕ → ℕ → Type 0
@@ -162,7 +163,7 @@ module _ {K : Type 0} {R : K → K → Ordering} (o : IsTotalOrder R) (same : (x
           move_is (find R q cs) (count R old q) (count R new q) (find_real q cs are.real) (ends.each q)
           ∙ elim (is_some (find R q js)) as (λ b. is_some (find R q js) ≡ b → change_of q ≡ cond b (change_of q) None) [
             | true ↦ λ _. refl
-            | false ↦ λ t. let none = both_absent _ _ (sym (is_joined old new q) ∙ t) in
+            | false ↦ λ t. let none = both_false _ _ (sym (is_joined old new q) ∙ t) in
                 ap (λ b. change_at b (count R old q) (count R new q)) (let a = no_count old q none.0 in let b = no_count new q none.1 in let r : nat_eq (count R old q) (count R new q) ≡ true = grind (arith, nat_tests, a, b) in r)
           ] refl
           ∙ sym (found_difference q js in_order))
@@ -177,10 +178,6 @@ module _ {K : Type 0} {R : K → K → Ordering} (o : IsTotalOrder R) (same : (x
             | true ↦ refl
             | false ↦ is_joined es fs q
           ]
-
-          both_absent : (a b : Bool) → (a || b) ≡ false → (a ≡ false) × (b ≡ false)
-          both_absent true b e = cc
-          both_absent false b e = (refl, e)
 
           no_count : (es : List (K × ℕ)) (q : K) → is_some (find R q es) ≡ false → count R es q ≡ 0
           no_count es q h = elim (find R q es) as (λ r. is_some r ≡ false → unwrap_or r 0 ≡ 0) [ None ↦ λ _. refl | Some n ↦ λ e. cc ] h

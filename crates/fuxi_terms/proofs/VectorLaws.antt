@@ -1,14 +1,16 @@
 -- The laws of vectors, from what they are at each place.
-use Rattle.std.proofs.Common.{◌≡◌, inl, inr, ℕ, zero, suc, ◌+◌, ◌-◌, ◌*◌, ◌<◌, ◌≤◌, ◌^◌, Bool, true, false, nat_lt, ◌↔◌, List, [], ◌∷◌, length, replicate, get_or, ◌++◌, take, ◌&&◌, sum_by, refl, sym, ap, ◌∙◌, arith}
+use Rattle.std.proofs.Common.{◌≡◌, inl, inr, ℕ, zero, suc, ◌+◌, ◌-◌, ◌*◌, ◌<◌, ◌≤◌, ◌^◌, true, nat_lt, ◌↔◌, List, [], ◌∷◌, length, replicate, get_or, ◌++◌, take, ◌&&◌, sum_by, refl, sym, ap, ◌∙◌, arith}
 use Rattle.std.specs.List.{All, AllByRecursion, list_all}
 use Rattle.std.proofs.Math.Nat.{mul-le-mul_left, mul-le-mul_right}
 use Rattle.std.proofs.lemmas.List.{take_at, length-append, length-replicate, get_or_past, get_or_default}
 use Rattle.std.proofs.lemmas.List.Sums.{sum_by-cons}
 use Rattle.std.proofs.lemmas.Bool.{and_parts, ltb-false, not-true, cases_lt}
 use Rattle.fuxi_terms.specs.Vectors.{fits, plus, minus, times, at_place}
-use Rattle.fuxi_terms.specs.Cluster.{is_at_most, are_quantities, greatest_quantity}
+use Rattle.fuxi_terms.specs.Cluster.{is_at_most, are_quantities}
+use Rattle.fuxi_terms.specs.Limits.{greatest_quantity}
 use Rattle.fuxi_terms.specs.Padded.{padded}
 use Rattle.fuxi_terms.specs.Totals.{total_of}
+use Rattle.fuxi_terms.proofs.Booleans.{same_tests}
 use Rattle.fuxi_terms.proofs.ByPlace.{at_place-get_or, get_or-plus, get_or-minus, get_or-times, length-plus, length-minus, length-times, fits_at, fits_from, same_places}
 
 -- ---- places
@@ -89,11 +91,6 @@ pub fits-minus-minus : (a b c d : List ℕ) → fits a b ≡ true → fits d c �
 fits-minus-minus a b c d h k = fits_from (minus a c) (minus b d) (λ i l. omega (arith, get_or-minus a c i, get_or-minus b d i, fits_at a b h i, fits_at d c k i))
 
 -- two tests that hold at the same time are one test
-same_tests : (p q : Bool) → (p ≡ true → q ≡ true) → (q ≡ true → p ≡ true) → p ≡ q
-same_tests true q f g = sym (f refl)
-same_tests false true f g = g refl
-same_tests false false f g = refl
-
 pub fits-free : (size used has : List ℕ) → fits used has ≡ true → fits size (minus has used) ≡ fits (plus used size) has
 fits-free size used has u = same_tests (fits size (minus has used)) (fits (plus used size) has)
     (λ e. fits_from (plus used size) has (λ i l. omega (arith, get_or-plus used size i, get_or-minus has used i, fits_at size (minus has used) e i, fits_at used has u i)))

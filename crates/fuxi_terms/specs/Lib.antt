@@ -1,8 +1,15 @@
+pub mod Limits
 pub mod Vectors
 pub mod Cluster
 pub mod Keys
 pub mod Counts
 pub mod Tallies
+pub mod TallyKeys
 pub mod Lists
+pub mod Numbers
 pub mod Padded
 pub mod Totals
+pub mod Jobs
+pub mod Tables
+pub mod Rows
+pub mod Patching

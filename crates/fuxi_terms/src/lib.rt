@@ -1,13 +1,20 @@
 //! The terms that every crate of the scheduler speaks in: vectors of resources, the records of clusters
-//! and jobs, keys with their order, and finite maps of counts with signed changes to them. They stand in
-//! `specs/`, as definitions that compute.
+//! and jobs, keys with their order, tables, and finite maps of counts with signed changes to them. They stand
+//! in `specs/`, as definitions that compute. Beside them stand the few types of the program that definitions
+//! name, and the limits of the product.
 #![tactic(auto)]
 
 ghost use Rattle.std.specs.Prelude.{◌≡◌};
 ghost use Rattle.fuxi_terms.specs.Keys.{key_cmp};
 
+mod answers;
+pub mod limits;
+mod vectors;
+
+pub use answers::{LedgerFault, What};
 use std::alloc::{AllocError, AllocFailed};
 use std::cmp::Ordering;
+pub use vectors::{Res, Sum};
 
 /// What an entry of a ledger is about: its kind, a unit and a number, as of a machine or a rack.
 #[derive(Clone, Copy, Debug, PartialEq, Eq, PartialOrd, Ord)]

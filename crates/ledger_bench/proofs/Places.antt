@@ -12,7 +12,8 @@ use Rattle.std.proofs.lemmas.List.{map-append}
 use Rattle.std.proofs.lemmas.List.Elements.{filter-append}
 use Rattle.fuxi_terms.specs.Keys.{RowKey, row_cmp}
 use Rattle.fuxi_terms.specs.Lists.{numbers_from}
-use Rattle.fuxi_terms.proofs.Lists.{one_more, all_append, all_changed}
+use Rattle.fuxi_terms.proofs.Lists.{one_more, all_push}
+use Rattle.fuxi_terms.proofs.Alls.{all_more}
 use Rattle.ledger_bench.specs.Works.{key_at, changes_at}
 
 -- a change of a key before this place
@@ -31,10 +32,10 @@ key_rises a b lt = elim (cases_lt (a / 8) (b / 8)) [
 ]
 
 pub all_rise : (place : ℕ) (cs : List (RowKey × ℤ)) → AllByRecursion (IsBefore place) cs → AllByRecursion (λ c. row_cmp c.0 (key_at place) ≡ Less) cs
-all_rise place cs before = all_changed (IsBefore place) (λ c. row_cmp c.0 (key_at place) ≡ Less) cs (λ c b. ap (λ k. row_cmp k (key_at place)) b.is ∙ key_rises b.at place b.before) before
+all_rise place cs before = all_more (IsBefore place) (λ c. row_cmp c.0 (key_at place) ≡ Less) cs (λ c b. ap (λ k. row_cmp k (key_at place)) b.is ∙ key_rises b.at place b.before) before
 
 pub all_later : (place : ℕ) (cs : List (RowKey × ℤ)) → AllByRecursion (IsBefore place) cs → AllByRecursion (IsBefore (place + 1)) cs
-all_later place cs before = all_changed (IsBefore place) (IsBefore (place + 1)) cs (λ c b. record { at = b.at; before = omega (arith, b.before); is = b.is }) before
+all_later place cs before = all_more (IsBefore place) (IsBefore (place + 1)) cs (λ c b. record { at = b.at; before = omega (arith, b.before); is = b.is }) before
 
 -- one place more
 abbrev one_at : ℕ → ℤ → Bool → List (RowKey × ℤ)
@@ -71,4 +72,4 @@ made_skip first place step change old le is not_divides =
 
 pub rises_put : (place : ℕ) (change : ℤ) (old new : List (RowKey × ℤ)) → AllByRecursion (IsBefore place) old → new ≡ old ++ (key_at place, change) ∷ [] → AllByRecursion (IsBefore (place + 1)) new
 rises_put place change old new before put =
-    subst (AllByRecursion (IsBefore (place + 1))) (sym put) (all_append (IsBefore (place + 1)) old (key_at place, change) (all_later place old before) (record { at = place; before = omega arith; is = refl }))
+    subst (AllByRecursion (IsBefore (place + 1))) (sym put) (all_push (IsBefore (place + 1)) old (key_at place, change) (all_later place old before) (record { at = place; before = omega arith; is = refl }))

@@ -3,8 +3,8 @@ use Rattle.std.specs.Prelude.{◌≡◌, ℕ, ℤ, pos, negsuc, zero, suc, ◌-�
 use Rattle.fuxi_terms.specs.Keys.{RowKey}
 use Rattle.fuxi_terms.specs.Counts.{then_do}
 use Rattle.fuxi_terms.specs.Lists.{numbers_from}
-use Rattle.ledger_law.specs.declared.ledger.LedgerFault.{LedgerFault}
-use Rattle.party_ledgers.specs.Rows.{row_key, patched_row}
+use Rattle.fuxi_terms.specs.declared.answers.LedgerFault.{LedgerFault}
+use Rattle.fuxi_terms.specs.Rows.{row_key, patched_row}
 use Rattle.party_ledgers.specs.RowForms.{row_form}
 use Rattle.ledger_bench.specs.declared.work.Work.{Work}
 use Rattle.ledger_bench.specs.declared.work.Work.TheVariants.{ApplyOne, ApplyMany, InsertOne, WriteFull, ReadFull, Turn}

@@ -3,7 +3,7 @@
 ghost use Rattle.std.specs.Prelude.{◌≡◌, ◌≤◌, ◌<◌, ◌-◌, false, unsigned_abs, OnOk, IfOk, IfErr, Ok};
 ghost use Rattle.fuxi_terms.specs.Counts.{is_no_change};
 ghost use Rattle.ledger_law.specs.Applying.{IsRefusal};
-ghost use Rattle.party_ledgers.specs.Rows.{patched_row};
+ghost use Rattle.fuxi_terms.specs.Rows.{patched_row};
 ghost use Rattle.ledger_bench.specs.Works.{by_turns, changes_at, granted, posted};
 
 use delta_channel::Place;

@@ -4,7 +4,7 @@ ghost use Rattle.std.specs.Prelude.{◌≡◌, ◌<◌, ◌≢◌, map, OnOk, If
 ghost use Rattle.ledger_law.specs.Applying.{IsRefusal};
 ghost use Rattle.ledger_law.specs.declared.ledger.BodyFault.TheVariants.{NotBody};
 ghost use Rattle.full_sync.specs.Turns.{mark_of, turn_of};
-ghost use Rattle.party_ledgers.specs.Rows.{IsRow, patched_row};
+ghost use Rattle.fuxi_terms.specs.Rows.{IsRow, patched_row};
 ghost use Rattle.party_ledgers.specs.RowForms.{row_form};
 ghost use Rattle.ledger_bench.specs.Works.{by_turns};
 

@@ -1,7 +1,7 @@
 -- What a change does to a ledger: it becomes what the change makes of it, or stays where the change is refused.
 use Rattle.std.specs.Prelude.{◌≡◌, Result, Ok, Err}
-use Rattle.ledger_law.specs.declared.ledger.LedgerFault.{LedgerFault}
-use Rattle.ledger_law.specs.declared.ledger.LedgerFault.TheVariants.{Below, TooGreat, OutOfMemory}
+use Rattle.fuxi_terms.specs.declared.answers.LedgerFault.{LedgerFault}
+use Rattle.fuxi_terms.specs.declared.answers.LedgerFault.TheVariants.{Below, TooGreat, OutOfMemory}
 
 -- a fault is the one that the outcome has; want of memory may come at any time
 abbrev pub IsRefusal : {V : Type 0} → Result V LedgerFault → LedgerFault → Type 0

@@ -1,16 +1,5 @@
-pub use fuxi_terms::{Key, OutOfMemory};
+pub use fuxi_terms::{Key, LedgerFault, OutOfMemory};
 use std::alloc::Global;
-
-/// Why a change was not made. The ledger is as it was after each.
-#[derive(Clone, Copy, Debug, Drop, PartialEq, Eq)]
-pub enum LedgerFault {
-    /// The number `kept` at the key would fall below 0 by `change`.
-    Below { key: Key, kept: u64, change: i64 },
-    /// The number at the key would rise above its greatest, or the ledger would have too many entries.
-    TooGreat { key: Key },
-    /// Memory was refused.
-    OutOfMemory,
-}
 
 /// Why no value was read.
 #[derive(Clone, Copy, Debug, Drop, PartialEq, Eq)]
@@ -19,17 +8,6 @@ pub enum BodyFault {
     NotBody,
     /// Memory was refused.
     OutOfMemory,
-}
-
-impl From<OutOfMemory> for LedgerFault {
-    ghost use Rattle.ledger_law.specs.declared.ledger.LedgerFault.TheVariants.{OutOfMemory as WantOfMemory};
-    ghost use Rattle.std.specs.Prelude.{◌≡◌};
-
-    ghost from_gives = { λ _ fault. fault ≡ WantOfMemory };
-
-    fn from(_error: OutOfMemory) -> LedgerFault {
-        LedgerFault::OutOfMemory
-    }
 }
 
 impl From<OutOfMemory> for BodyFault {
@@ -49,7 +27,7 @@ impl From<OutOfMemory> for BodyFault {
 /// forms; a form is read back as its value, and none begins another.
 pub trait Ledger: Sized + Drop {
     ghost use Rattle.std.specs.Prelude.{◌≡◌, ◌++◌, ℕ, List, Result, IfOk, OnOk, OnErr};
-    ghost use Rattle.ledger_law.specs.declared.ledger.LedgerFault.{LedgerFault};
+    ghost use Rattle.fuxi_terms.specs.declared.answers.LedgerFault.{LedgerFault};
     ghost use Rattle.ledger_law.specs.Applying.{Applies};
     ghost use Rattle.ledger_law.specs.Reading.{Reads};
 

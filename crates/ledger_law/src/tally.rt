@@ -5,7 +5,7 @@ ghost use Rattle.std.specs.List.{AllByRecursion};
 ghost use Rattle.fuxi_terms.specs.declared.Key.{Key};
 ghost use Rattle.fuxi_terms.specs.Keys.{key_cmp};
 ghost use Rattle.fuxi_terms.specs.Counts.{AreCounts, AreChanges, count, moved_within, change_one, change_all, is_no_change};
-ghost use Rattle.ledger_law.specs.declared.ledger.LedgerFault.TheVariants.{Below, TooGreat};
+ghost use Rattle.fuxi_terms.specs.declared.answers.LedgerFault.TheVariants.{Below, TooGreat};
 ghost use Rattle.ledger_law.specs.Applying.{Applies, IsRefusal};
 ghost use Rattle.ledger_law.specs.Shapes.{kept_under, AreChangesWithin};
 
@@ -304,7 +304,7 @@ impl<S: Shape> Ledger for Tally<S> {
     type Delta = Change;
 
     ghost use Rattle.fuxi_terms.specs.Tallies.{empty_tally, patched_tally};
-    ghost use Rattle.ledger_law.specs.declared.ledger.LedgerFault.TheVariants.{Below, TooGreat};
+    ghost use Rattle.fuxi_terms.specs.declared.answers.LedgerFault.TheVariants.{Below, TooGreat};
     ghost use Rattle.ledger_law.specs.Forms.{tally_form, change_form};
     ghost use Rattle.ledger_law.specs.Shapes.{IsTally, IsChange};
     ghost use Rattle.ledger_law.specs.OneForm.{tally_one, change_form_one};

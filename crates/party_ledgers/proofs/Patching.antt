@@ -9,12 +9,13 @@ use Rattle.std.proofs.lemmas.Bool.Decides.{nat_tests}
 use Rattle.std.proofs.lemmas.List.{drop_all}
 use Rattle.fuxi_terms.specs.Keys.{RowKey, row_cmp}
 use Rattle.fuxi_terms.specs.Counts.{moved, in_bounds, moved_within, count, set_count, change_one, then_do, AreCounts}
-use Rattle.ledger_law.specs.declared.ledger.LedgerFault.{LedgerFault}
+use Rattle.fuxi_terms.specs.declared.answers.LedgerFault.{LedgerFault}
 use Rattle.fuxi_terms.proofs.Counting.{both_true, tied, below_none, count_le, count-set_count, counts-set_count, length-set_count}
 use Rattle.fuxi_terms.proofs.Making.{made_one}
 use Rattle.fuxi_terms.proofs.Testing.{change_one_is}
 use Rattle.party_ledgers.specs.Orders.{row_total, same_row_key}
-use Rattle.party_ledgers.specs.Rows.{IsRow, most_entries, is_row_key, greatest_row, patched_row, change_row_once, within_row, row_below, row_too_great}
+use Rattle.fuxi_terms.specs.Rows.{IsRow, is_row_key, greatest_row, patched_row, change_row_once, within_row, row_below, row_too_great}
+use Rattle.fuxi_terms.specs.Limits.{most_entries}
 
 abbrev Entries : Type 0
 Entries = List (RowKey × ℕ)

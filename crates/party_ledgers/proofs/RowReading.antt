@@ -5,13 +5,13 @@ use Rattle.std.specs.List.{All}
 use Rattle.std.specs.declared.cmp.Ordering.TheVariants.{Less}
 use Rattle.std.proofs.lemmas.List.Elements.{recursion_from_All}
 use Rattle.fuxi_terms.specs.Keys.{RowKey, row_cmp}
-use Rattle.fuxi_terms.specs.Cluster.{greatest_count}
+use Rattle.fuxi_terms.specs.Limits.{greatest_count}
 use Rattle.fuxi_terms.specs.Counts.{is_no_change}
 use Rattle.ledger_law.specs.Forms.{counted}
 use Rattle.ledger_law.specs.OneForm.{counted_one}
 use Rattle.fuxi_terms.proofs.Changing.{changes_push}
-use Rattle.fuxi_terms.proofs.Lists.{all_append}
-use Rattle.party_ledgers.specs.Rows.{IsRow, AreRowChanges, IsRowChange, is_row_key, greatest_row}
+use Rattle.fuxi_terms.proofs.Lists.{all_push}
+use Rattle.fuxi_terms.specs.Rows.{IsRow, AreRowChanges, IsRowChange, is_row_key, greatest_row}
 use Rattle.party_ledgers.specs.RowForms.{row_entry, row_change_entry, row_form, row_change_form, IsRowEntry, IsRowChangeEntry}
 use Rattle.party_ledgers.specs.RowOneForm.{row_wide, row_one, row_change_wide, row_change_one, row_entries, row_changes, few_entries, few_row_changes}
 
@@ -35,5 +35,5 @@ greatest_of_key k h = by (is_row_key k) h
 pub row_changes_push : (cs : List (RowKey × ℤ)) (k : RowKey) (change : ℤ) → AreRowChanges cs → T (is_row_key k) → is_no_change change ≡ false → unsigned_abs change ≤ 100000 → All (λ c. row_cmp c.0 k ≡ Less) cs → AreRowChanges (cs ++ (k, change) ∷ [])
 row_changes_push cs k change h key real small rises = record {
   changes = changes_push row_cmp cs k change h.changes real rises;
-  within = all_append (λ c. unsigned_abs c.1 ≤ greatest_row c.0) cs (k, change) h.within (omega (arith, greatest_of_key k key));
+  within = all_push (λ c. unsigned_abs c.1 ≤ greatest_row c.0) cs (k, change) h.within (omega (arith, greatest_of_key k key));
 }

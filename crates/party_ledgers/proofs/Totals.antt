@@ -11,7 +11,7 @@ use Rattle.fuxi_terms.specs.Vectors.{plus, times, fits, is_zero}
 use Rattle.fuxi_terms.specs.Totals.{total_of}
 use Rattle.fuxi_terms.proofs.ByPlace.{length-times}
 use Rattle.fuxi_terms.proofs.VectorLaws.{plus_assoc, fits-plus_left, All-fits, All-total}
-use Rattle.party_ledgers.specs.Rows.{IsRow, greatest_row, row_total}
+use Rattle.fuxi_terms.specs.Rows.{IsRow, greatest_row, row_total}
 use Rattle.party_ledgers.specs.RowForms.{IsRowEntry}
 use Rattle.party_ledgers.specs.RowOneForm.{row_entries, greatest_small, is_key}
 

@@ -1,7 +1,7 @@
 -- An entry of a row, as it is handed out.
 use Rattle.std.specs.Prelude.{ℕ}
 use Rattle.fuxi_terms.specs.Keys.{RowKey}
-use Rattle.party_ledgers.specs.Rows.{row_key}
+use Rattle.fuxi_terms.specs.Rows.{row_key}
 use Rattle.party_ledgers.specs.declared.row_ledger.RowEntry.{RowEntry}
 
 abbrev pub entry_of : RowEntry → RowKey × ℕ

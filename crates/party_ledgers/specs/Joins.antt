@@ -4,7 +4,7 @@ use Rattle.std.proofs.Common.{ap}
 use Rattle.fuxi_terms.specs.Keys.{RowKey}
 use Rattle.ledger_law.specs.Forms.{headed}
 use Rattle.ledger_law.specs.OneForm.{same_number}
-use Rattle.party_ledgers.specs.Rows.{IsRow}
+use Rattle.fuxi_terms.specs.Rows.{IsRow}
 use Rattle.party_ledgers.specs.RowForms.{row_entry}
 use Rattle.party_ledgers.specs.RowOneForm.{row_form_one}
 

@@ -1,6 +1,5 @@
 pub mod Shapes
 pub mod Orders
-pub mod Rows
 pub mod RowForms
 pub mod RowOneForm
 pub mod Entries

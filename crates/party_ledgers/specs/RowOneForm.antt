@@ -9,11 +9,12 @@ use Rattle.std.proofs.lemmas.Int.{to_z-of_z}
 use Rattle.std.proofs.lemmas.List.{drop_at, length-append}
 use Rattle.fuxi_terms.specs.Keys.{RowKey}
 use Rattle.std.proofs.lemmas.Bool.Decides.{nat_tests}
-use Rattle.fuxi_terms.specs.Cluster.{are_quantities, is_vector_of, greatest_quantity}
+use Rattle.fuxi_terms.specs.Cluster.{are_quantities, is_vector_of}
+use Rattle.fuxi_terms.specs.Limits.{greatest_quantity}
 use Rattle.fuxi_terms.specs.Vectors.{is_zero}
 use Rattle.fuxi_terms.specs.Counts.{is_no_change}
 use Rattle.ledger_law.specs.OneForm.{list_one, same_number, counted_one}
-use Rattle.party_ledgers.specs.Rows.{IsRow, AreRowChanges, IsRowChange, is_row_key, greatest_row}
+use Rattle.fuxi_terms.specs.Rows.{IsRow, AreRowChanges, IsRowChange, is_row_key, greatest_row}
 use Rattle.party_ledgers.specs.RowForms.{row_key_bytes, row_entry, row_change_entry, row_form, row_change_form, IsWholeKey, IsRowEntry, IsRowChangeEntry}
 
 size_long : (qs : List ℕ) → length (flat_map (to_be_bytes w64) qs) ≡ length qs * 8

@@ -1,7 +1,7 @@
 //! What an agent joins an epoch with.
 
 ghost use Rattle.std.specs.Prelude.{◌≡◌, IsTrue};
-ghost use Rattle.party_ledgers.specs.Rows.{IsRow};
+ghost use Rattle.fuxi_terms.specs.Rows.{IsRow};
 
 use crate::row_forms::RowNumbers;
 use crate::row_ledger::{RowLedger, is_row};

@@ -5,7 +5,8 @@
 ghost use Rattle.std.specs.Prelude.{◌≡◌, ◌≤◌, ℕ, ℤ, List, length, Ok};
 ghost use Rattle.fuxi_terms.specs.Keys.{RowKey, row_cmp};
 ghost use Rattle.fuxi_terms.specs.Counts.{joined, difference, AreChanges};
-ghost use Rattle.party_ledgers.specs.Rows.{IsRow, most_entries, patched_row};
+ghost use Rattle.fuxi_terms.specs.Rows.{IsRow, patched_row};
+ghost use Rattle.fuxi_terms.specs.Limits.{most_entries};
 
 #[cfg(test)]
 mod body_tests;

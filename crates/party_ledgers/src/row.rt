@@ -8,7 +8,7 @@ ghost use Rattle.fuxi_terms.specs.Cluster.{are_quantities};
 ghost use Rattle.fuxi_terms.specs.Vectors.{is_zero};
 ghost use Rattle.fuxi_terms.specs.Counts.{AreCounts, AreChanges, count, moved_within, set_count, is_no_change};
 ghost use Rattle.ledger_law.specs.Applying.{IsRefusal};
-ghost use Rattle.party_ledgers.specs.Rows.{IsRow, AreRowChanges, greatest_row, patched_row, change_row_once, row_below, row_too_great, fault_key};
+ghost use Rattle.fuxi_terms.specs.Rows.{IsRow, AreRowChanges, greatest_row, patched_row, change_row_once, row_below, row_too_great, fault_key};
 
 use ledger_law::entries::{EntryKey, count_of, moved, set_entry};
 use ledger_law::{Key, LedgerFault, OutOfMemory};

@@ -5,7 +5,7 @@ ghost use Rattle.std.specs.declared.cmp.Ordering.TheVariants.{Less};
 ghost use Rattle.std.specs.List.{All, AllByRecursion};
 ghost use Rattle.fuxi_terms.specs.Keys.{RowKey as RowKeyRecord, row_cmp};
 ghost use Rattle.fuxi_terms.specs.Counts.{AreCounts, count, is_no_change};
-ghost use Rattle.party_ledgers.specs.Rows.{IsRow, AreRowChanges, IsRowChange, is_row_key, row_key, greatest_row, row_total};
+ghost use Rattle.fuxi_terms.specs.Rows.{IsRow, AreRowChanges, IsRowChange, is_row_key, row_key, greatest_row, row_total};
 ghost use Rattle.party_ledgers.specs.Entries.{entry_of};
 
 use crate::row::{MOST_ENTRIES, RowKey, change_all, greatest};
@@ -28,7 +28,7 @@ pub struct RowLedger {
 impl Model for RowLedger {
     ghost use Rattle.std.specs.Prelude.{ℕ, List};
     ghost use Rattle.fuxi_terms.specs.Keys.{RowKey};
-    ghost use Rattle.party_ledgers.specs.Rows.{IsRow};
+    ghost use Rattle.fuxi_terms.specs.Rows.{IsRow};
 
     ghost Value = { List (RowKey × ℕ) };
 
@@ -46,7 +46,7 @@ pub struct RowChange {
 impl Model for RowChange {
     ghost use Rattle.std.specs.Prelude.{ℤ, List};
     ghost use Rattle.fuxi_terms.specs.Keys.{RowKey};
-    ghost use Rattle.party_ledgers.specs.Rows.{AreRowChanges};
+    ghost use Rattle.fuxi_terms.specs.Rows.{AreRowChanges};
 
     ghost Value = { List (RowKey × ℤ) };
 
@@ -245,7 +245,7 @@ impl Ledger for RowLedger {
     type Delta = RowChange;
 
     ghost use Rattle.std.specs.Prelude.{[]};
-    ghost use Rattle.party_ledgers.specs.Rows.{IsRow, IsRowChange, patched_row};
+    ghost use Rattle.fuxi_terms.specs.Rows.{IsRow, IsRowChange, patched_row};
     ghost use Rattle.party_ledgers.specs.RowForms.{row_form, row_change_form};
     ghost use Rattle.party_ledgers.specs.RowOneForm.{row_form_one, row_change_form_one};
 

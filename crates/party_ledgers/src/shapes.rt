@@ -1,7 +1,7 @@
 //! The two tallies: what a master grants an application, and what an application demands.
 
 ghost use Rattle.std.specs.Prelude.{◌≡◌};
-ghost use Rattle.party_ledgers.specs.Shapes.{greatest_grant, greatest_demand};
+ghost use Rattle.fuxi_terms.specs.TallyKeys.{greatest_grant, greatest_demand};
 
 use ledger_law::{Key, Shape, Tally};
 
@@ -10,7 +10,8 @@ use ledger_law::{Key, Shape, Tally};
 pub struct GrantShape;
 
 impl Shape for GrantShape {
-    ghost use Rattle.party_ledgers.specs.Shapes.{greatest_grant, grant_bounded, grant_writable};
+    ghost use Rattle.fuxi_terms.specs.TallyKeys.{greatest_grant};
+    ghost use Rattle.party_ledgers.specs.Shapes.{grant_bounded, grant_writable};
 
     ghost DROPPED = { 3 };
 
@@ -40,7 +41,8 @@ impl Shape for GrantShape {
 pub struct DemandShape;
 
 impl Shape for DemandShape {
-    ghost use Rattle.party_ledgers.specs.Shapes.{greatest_demand, demand_bounded, demand_writable};
+    ghost use Rattle.fuxi_terms.specs.TallyKeys.{greatest_demand};
+    ghost use Rattle.party_ledgers.specs.Shapes.{demand_bounded, demand_writable};
 
     ghost DROPPED = { 5 };
 

@@ -12,27 +12,12 @@ mod laws;
 #[cfg(test)]
 mod tests;
 
+pub use fuxi_terms::limits::GREATEST_QUANTITY;
+pub use fuxi_terms::{Res, Sum};
 pub use laws::{
     fits_is_an_order, fits_of_sums, lengths, multiples, paddings, places, ranges,
     sums_and_differences,
 };
-
-/// The greatest quantity of one resource.
-pub const GREATEST_QUANTITY: u64 = 1_000_000_000_000;
-
-/// A quantity of each resource, as of one grant or one machine.
-#[derive(Clone, Copy, Debug, PartialEq, Eq)]
-pub struct Res {
-    /// By the number of the resource, with 0 at those that the cluster does not have.
-    pub q: [u64; 8],
-}
-
-/// A total of many vectors.
-#[derive(Clone, Copy, Debug, PartialEq, Eq)]
-pub struct Sum {
-    /// By the number of the resource.
-    pub q: [u128; 8],
-}
 
 /// Nothing of any resource.
 pub fn zero() -> Res

@@ -14,9 +14,10 @@ use Rattle.fuxi_terms.specs.Keys.{key_cmp}
 use Rattle.fuxi_terms.specs.Counts.{moved, count, set_count}
 use Rattle.fuxi_terms.specs.Tallies.{TallyRecord, ChangeRecord, empty_tally}
 use Rattle.fuxi_terms.specs.Lists.{numbers_from}
-use Rattle.fuxi_terms.proofs.Lists.{one_more, all_append, all_changed, all_at, got_grown}
-use Rattle.ledger_law.specs.declared.ledger.LedgerFault.{LedgerFault}
-use Rattle.ledger_law.specs.declared.ledger.LedgerFault.TheVariants.{Below, TooGreat, OutOfMemory}
+use Rattle.fuxi_terms.proofs.Lists.{one_more, all_push, all_at, got_grown}
+use Rattle.fuxi_terms.proofs.Alls.{all_more}
+use Rattle.fuxi_terms.specs.declared.answers.LedgerFault.{LedgerFault}
+use Rattle.fuxi_terms.specs.declared.answers.LedgerFault.TheVariants.{Below, TooGreat, OutOfMemory}
 use Rattle.ledger_law.specs.Applying.{IsRefusal}
 use Rattle.delta_channel.specs.Standing.{Sending, StandsFor, IsChangeAt}
 use Rattle.delta_channel.specs.Hearing.{Receiving, HasEntry, verdict_at, verdict_of}
@@ -83,7 +84,7 @@ post_stands r c sender number value grows differs is s =
       receiver = entry_grown c.history sender.present r.receiver s.receiver;
       place = s.place;
       marks = s.marks;
-      packets = all_changed (IsPacket c.history) (IsPacket (c.history ++ sender.present ∷ [])) r.packets (packet_grown c.history sender.present) s.packets;
+      packets = all_more (IsPacket c.history) (IsPacket (c.history ++ sender.present ∷ [])) r.packets (packet_grown c.history sender.present) s.packets;
       told = s.told;
       events = ap (λ n. n + 1) s.events;
     })
@@ -184,7 +185,7 @@ sends_more sender ms m old now new p t0 t1 t2 sends is text mark brings =
       text = text ∙ ap (λ (l : List ℕ). l ++ sent_line (length now + 1) (mark_of p)) sends.text ∙ append_assoc t0 (sent_lines (length old) ms) (sent_line (length now + 1) (mark_of p))
           ∙ ap (λ l. t0 ++ (sent_lines (length old) ms ++ l)) (ap (λ n. sent_line (n + 1) (mark_of p)) long ∙ ap (sent_line (length old + length ms + 1)) mark)
           ∙ ap (λ l. t0 ++ l) (sym (sent_more (length old) ms m));
-      packets = λ h stands all. rw is (all_append (IsPacket h) now p (sends.packets h stands all) (brings h stands));
+      packets = λ h stands all. rw is (all_push (IsPacket h) now p (sends.packets h stands all) (brings h stands));
     }
 
 pub next_marks : (first n : ℕ) → map mark_at (numbers_from first (n + 1)) ≡ map mark_at (numbers_from first n) ++ mark_at (first + n) ∷ []
@@ -217,7 +218,7 @@ pub sends_one : (sender : Sending TallyRecord ChangeRecord) (old new : List Pack
 sends_one sender old new p t0 t1 is text brings = record {
   marks = ap (map mark_of) is ∙ map-append mark_of old (p ∷ []);
   text = text ∙ ap (λ l. t0 ++ l) (sym (append-nil (sent_line (length old + 1) (mark_of p))));
-  packets = λ h stands all. rw is (all_append (IsPacket h) old p all (brings h stands));
+  packets = λ h stands all. rw is (all_push (IsPacket h) old p all (brings h stands));
 }
 
 -- the last ledger whole is a packet of the history

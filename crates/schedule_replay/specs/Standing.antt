@@ -2,8 +2,8 @@
 use Rattle.std.specs.Prelude.{◌≡◌, ℕ, ◌-◌, ◌≤◌, ◌<◌, ◌++◌, true, false, List, length, map, Some, slice_get, Result}
 use Rattle.std.specs.List.{AllByRecursion}
 use Rattle.fuxi_terms.specs.Tallies.{TallyRecord, ChangeRecord, empty_tally, patched_tally}
-use Rattle.ledger_law.specs.declared.ledger.LedgerFault.{LedgerFault}
-use Rattle.ledger_law.specs.declared.ledger.LedgerFault.TheVariants.{Below, TooGreat}
+use Rattle.fuxi_terms.specs.declared.answers.LedgerFault.{LedgerFault}
+use Rattle.fuxi_terms.specs.declared.answers.LedgerFault.TheVariants.{Below, TooGreat}
 use Rattle.delta_channel.specs.Standing.{Sending, StandsFor, IsChangeAt}
 use Rattle.delta_channel.specs.Hearing.{Receiving, HasEntry}
 use Rattle.schedule_replay.specs.declared.replay.Packet.{Packet}

@@ -5,7 +5,6 @@ use Rattle.std.specs.List.{AllByRecursion}
 use Rattle.std.specs.Ordering.{eq_by_cmp}
 use Rattle.std.specs.declared.cmp.Ordering.{Ordering}
 use Rattle.std.specs.declared.cmp.Ordering.TheVariants.{Equal}
-use Rattle.std.proofs.lemmas.Bool.Decides.{nat_tests}
 use Rattle.fuxi_terms.specs.Keys.{key_cmp, row_cmp}
 use Rattle.fuxi_terms.specs.Counts.{is_same}
 use Rattle.fuxi_terms.proofs.Counting.{tied}
@@ -15,14 +14,12 @@ use Rattle.written_world.specs.Channels.{at_index, present, Offer, publish_one, 
 use Rattle.written_world.specs.Sound.{Sound, Current}
 use Rattle.written_world.specs.Good.{has_heads, shape}
 use Rattle.written_world.specs.Events.{send_all, resync_all}
-use Rattle.written_world.proofs.Alls.{all_more}
-use Rattle.written_world.proofs.Choosing.{both_true, either}
-use Rattle.written_world.proofs.Keys.{same_key, same_row}
-use Rattle.written_world.proofs.Places.{id_is, number_is, set_at_all}
+use Rattle.fuxi_terms.proofs.Alls.{all_more}
+use Rattle.fuxi_terms.proofs.Booleans.{both_true, either, number_is, both_false, not_false, nat_itself, false_and}
+use Rattle.fuxi_terms.proofs.KeyOrders.{same_key, same_row_key}
+use Rattle.written_world.proofs.Places.{id_is, set_at_all}
 use Rattle.written_world.proofs.Sounds.{Grows, Longer, longer_itself, at_end, posted_longer, posted_sound, move_sound}
-
-pub nat_itself : (n : ℕ) → nat_eq n n ≡ true
-nat_itself n = grind (arith, nat_tests)
+use Rattle.fuxi_terms.proofs.SameEntries.{same_entries}
 
 pub same_id_itself : (q : Id) → same_id q q ≡ true
 same_id_itself q = rw (nat_itself q.role, nat_itself q.number) refl
@@ -30,37 +27,13 @@ same_id_itself q = rw (nat_itself q.role, nat_itself q.number) refl
 pub same_party_itself : (p : Party) → same_party p p ≡ true
 same_party_itself p = rw (nat_itself p.id.role, nat_itself p.id.number, nat_itself p.inc) refl
 
-pub false_and : (a b : Bool) → a ≡ false → (a && b) ≡ false
-false_and true b e = cc
-false_and false b e = refl
-
-or_false : (a b : Bool) → (a || b) ≡ false → b ≡ false
-or_false true b e = cc
-or_false false b e = e
-
-not_false : (b : Bool) → not b ≡ false → b ≡ true
-not_false true e = refl
-not_false false e = cc
-
 -- ledgers that a test finds the same are the same
-pub same_entries : {K : Type 0} (R : K → K → Ordering) → ((x y : K) → R x y ≡ Equal → x ≡ y) → (es fs : List (K × ℕ)) → is_same R es fs ≡ true → es ≡ fs
-same_entries R exact [] [] t = refl
-same_entries R exact [] (f ∷ fs) t = cc
-same_entries R exact (e ∷ es) [] t = cc
-same_entries R exact (e ∷ es) (f ∷ fs) t =
-    let h = both_true (eq_by_cmp R e.0 f.0) (nat_eq e.1 f.1 && is_same R es fs) t in
-    let k = both_true (nat_eq e.1 f.1) (is_same R es fs) h.1 in
-    let a = exact e.0 f.0 (tied _ h.0) in
-    let b = number_is e.1 f.1 k.0 in
-    let c = same_entries R exact es fs k.1 in
-    λ i. (a i, b i) ∷ c i
-
 same_ledger_is : (a b : Ledger) → same_ledger a b ≡ true → a ≡ b
 same_ledger_is a b t =
     let h = both_true (nat_eq a.head b.head) _ t in
     let k = both_true (is_same row_cmp a.rows b.rows) _ h.1 in
     let x = number_is a.head b.head h.0 in
-    let y = same_entries row_cmp same_row a.rows b.rows k.0 in
+    let y = same_entries row_cmp same_row_key a.rows b.rows k.0 in
     let z = same_entries key_cmp same_key a.entries b.entries k.1 in
     λ i. record { head = x i; rows = y i; entries = z i }
 
@@ -149,7 +122,7 @@ posted_present h x = at_end nothing h x (length (h ++ x ∷ [])) (simp length-ap
 publish_one_presents : (net : Net Ledger) (p : Party) (o : Offer) → Presents (publish_one net p o) p o.to o.ledger
 publish_one_presents net p o = either (λ n. Presents n p o.to o.ledger) (o.forced || not (same_ledger (present net p o.to) o.ledger)) (move net (Posts p o.to o.ledger)) net
     (λ _. record { last = ap (λ (h : List Ledger). at_index nothing h (length h)) (set_here net.histories p o.to (net.histories p o.to ++ o.ledger ∷ [])) ∙ posted_present (net.histories p o.to) o.ledger })
-    (λ e. record { last = same_ledger_is _ _ (not_false _ (or_false o.forced _ e)) })
+    (λ e. record { last = same_ledger_is _ _ (not_false _ (both_false o.forced _ e).1) })
 
 publish_one_beside : (net : Net Ledger) (p : Party) (o : Offer) (q : Id) → same_id o.to q ≡ false → Presents (publish_one net p o) p q (present net p q)
 publish_one_beside net p o q e = either (λ n. Presents n p q (present net p q)) (o.forced || not (same_ledger (present net p o.to) o.ledger)) (move net (Posts p o.to o.ledger)) net

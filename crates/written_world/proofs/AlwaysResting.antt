@@ -7,31 +7,27 @@ use Rattle.std.specs.Cmp.{nat_cmp_total}
 use Rattle.std.specs.FinMap.Entries.{find, put, where_key, find-put, find-where_key}
 use Rattle.std.proofs.lemmas.Bool.Decides.{nat_tests}
 use Rattle.fuxi_terms.specs.declared.Key.{Key}
-use Rattle.fuxi_terms.specs.Cluster.{ClusterRecord, JobRecord}
+use Rattle.fuxi_terms.specs.Cluster.{ClusterRecord, JobRecord, has_machine}
 use Rattle.fuxi_terms.specs.Keys.{key_cmp}
-use Rattle.written_world.specs.Net.{Net, Id, Packet, Heard, comes, heard_of}
-use Rattle.written_world.specs.Ledgers.{Ledger, nothing, at_key, want_key}
-use Rattle.written_world.specs.Channels.{is_agent, is_app, content}
-use Rattle.written_world.specs.Jobs.{KnownJob, job_of, is_known, is_live, unit_count, has_machine, has_number, with_number}
+use Rattle.written_world.specs.Net.{Net, Id, Packet, Heard, comes, heard_of, Party, Starts, move}
+use Rattle.written_world.specs.Ledgers.{Ledger, nothing, at_key}
+use Rattle.fuxi_terms.specs.TallyKeys.{want_key, near_key, rack_key, avoid_key, back_key}
+use Rattle.written_world.specs.Channels.{is_agent, is_app, content, master_id, agent_id, app_id, party, is_master}
+use Rattle.fuxi_terms.specs.Jobs.{KnownJob, job_of, is_known, is_live, unit_count, job_numbers, eight_places}
+use Rattle.fuxi_terms.specs.Numbers.{has_number, with_number, without_number}
 use Rattle.written_world.specs.Masters.{Master}
 use Rattle.written_world.specs.Placing.{placeable}
-use Rattle.written_world.specs.HardState.{with_job, with_ended}
+use Rattle.written_world.specs.HardState.{with_job, with_ended, raised, submitted, finished, banned, unbanned}
 use Rattle.written_world.specs.MasterSteps.{talks, ready, end_step, is_there, counted, take_report, take_demand, meet_app, is_taken, adopts, told, received, adopted_now, master_hears}
-use Rattle.written_world.proofs.Choosing.{either}
-use Rattle.written_world.proofs.Places.{number_is}
-use Rattle.written_world.proofs.Keys.{same_key}
+use Rattle.fuxi_terms.proofs.Booleans.{either, number_is}
+use Rattle.fuxi_terms.proofs.KeyOrders.{same_key}
 use Rattle.written_world.proofs.Resting.{IsRangedMaster, IsResting, ranged_same, ready_rests}
 use Rattle.written_world.proofs.Steps.{found_has}
-use Rattle.written_world.specs.Net.{Party, Starts, move}
-use Rattle.written_world.specs.Ledgers.{near_key, rack_key, avoid_key, back_key}
-use Rattle.written_world.specs.Channels.{master_id, agent_id, app_id, party, is_master}
-use Rattle.written_world.specs.Jobs.{job_numbers, without_number}
-use Rattle.written_world.specs.HardState.{raised, submitted, finished, banned, unbanned}
 use Rattle.written_world.specs.Preemption.{plan_of, preempted}
 use Rattle.written_world.specs.Refusals.{Refusal}
 use Rattle.written_world.specs.World.{World, Agent, App, Step, empty_world, prints_nothing, refused, with_found, master_party}
 use Rattle.written_world.specs.Agents.{agent_hears, app_hears}
-use Rattle.written_world.specs.Events.{eight_places, Event, StartMaster, StopMaster, StartAgent, StartApp, Submit, Finish, Ban, Unban, Begin, Preempt, Want, Near, Rack, Avoid, GiveBack, TurnMaster, TurnAgent, TurnApp, ResyncMaster, ResyncAgent, ResyncApp, Deliver, DeliverRange, Dump, ShowState, at_master, at_agent, at_app, demanded, turned, turn_to_master, addressed, packet_of, deliver_one, deliver_all, given_back, new_master, agent_started, app_started, ended_in, banned_in, act, counted_in, world_step}
+use Rattle.written_world.specs.Events.{Event, StartMaster, StopMaster, StartAgent, StartApp, Submit, Finish, Ban, Unban, Begin, Preempt, Want, Near, Rack, Avoid, GiveBack, TurnMaster, TurnAgent, TurnApp, ResyncMaster, ResyncAgent, ResyncApp, Deliver, DeliverRange, Dump, ShowState, at_master, at_agent, at_app, demanded, turned, turn_to_master, addressed, packet_of, deliver_one, deliver_all, given_back, new_master, agent_started, app_started, ended_in, banned_in, act, counted_in, world_step}
 use Rattle.written_world.specs.Runs.{run_from, run}
 use Rattle.std.proofs.lemmas.Map.Lookups.{exact_unsigned}
 

@@ -7,11 +7,15 @@ use Rattle.std.specs.FinMap.Entries.{find, where_key, find-where_key}
 use Rattle.std.proofs.lemmas.Bool.Decides.{nat_tests}
 use Rattle.std.proofs.lemmas.Map.Lookups.{exact_unsigned}
 use Rattle.fuxi_terms.specs.declared.Key.{Key}
-use Rattle.fuxi_terms.specs.Cluster.{ClusterRecord, has_rack, greatest_count}
+use Rattle.fuxi_terms.specs.Cluster.{ClusterRecord, has_rack, has_group, has_machine}
+use Rattle.fuxi_terms.specs.Limits.{greatest_count, greatest_back, most_masters}
 use Rattle.written_world.specs.Net.{Net, Party, Id, Link, Packet, Heard, Starts, unknown, last, move, same_party, comes, heard_of}
-use Rattle.written_world.specs.Ledgers.{Ledger, nothing, at_key, is_back, greatest_back, greatest_in_demand, report_ledger, want_key, near_key, rack_key, avoid_key, back_key}
+use Rattle.written_world.specs.Ledgers.{Ledger, nothing, at_key, greatest_in_demand, report_ledger}
+use Rattle.fuxi_terms.specs.TallyKeys.{is_back, want_key, near_key, rack_key, avoid_key, back_key}
 use Rattle.written_world.specs.Channels.{content, view, master_id, agent_id, app_id, party, is_master, is_agent, is_app, at_index, present}
-use Rattle.written_world.specs.Jobs.{job_numbers, unit_count, has_group, is_known, is_live, has_ended, has_machine, without_number, below}
+use Rattle.fuxi_terms.specs.Jobs.{job_numbers, unit_count, is_known, is_live, has_ended, eight_places}
+use Rattle.fuxi_terms.specs.Numbers.{without_number}
+use Rattle.fuxi_terms.specs.Lists.{below}
 use Rattle.written_world.specs.Masters.{Master}
 use Rattle.written_world.specs.HardState.{HardState, is_full, submit_tests, raised, submitted, finished, banned, unbanned, with_job}
 use Rattle.written_world.specs.Preemption.{plan_of, preempted}
@@ -19,7 +23,7 @@ use Rattle.written_world.specs.Refusals.{Refusal, NotRising, TooManyMasters, Fen
 use Rattle.written_world.specs.World.{World, Agent, App, Step, empty_world, prints_nothing, refused, with_found, master_party}
 use Rattle.written_world.specs.MasterSteps.{is_there, talks, peers, projection, end_step, master_hears, told, received, adopted_now, adopts, take_report, take_demand, meet_app, is_taken, row, grants, counted}
 use Rattle.written_world.specs.Agents.{joined, agent_table, agent_hears, app_hears, carry, joined_demand}
-use Rattle.written_world.specs.Events.{eight_places, Event, StartMaster, StopMaster, StartAgent, StartApp, Submit, Finish, Ban, Unban, Begin, Preempt, Want, Near, Rack, Avoid, GiveBack, TurnMaster, TurnAgent, TurnApp, ResyncMaster, ResyncAgent, ResyncApp, Deliver, DeliverRange, Dump, ShowState, at_master, at_agent, at_app, changed_demand, demanded, send_all, turned, turn_to_master, resync_all, addressed, packet_of, deliver_one, deliver_all, given_back, usable_now, most_masters, new_master, ended_in, banned_in, act, counted_in, world_step}
+use Rattle.written_world.specs.Events.{Event, StartMaster, StopMaster, StartAgent, StartApp, Submit, Finish, Ban, Unban, Begin, Preempt, Want, Near, Rack, Avoid, GiveBack, TurnMaster, TurnAgent, TurnApp, ResyncMaster, ResyncAgent, ResyncApp, Deliver, DeliverRange, Dump, ShowState, at_master, at_agent, at_app, changed_demand, demanded, send_all, turned, turn_to_master, resync_all, addressed, packet_of, deliver_one, deliver_all, given_back, usable_now, new_master, ended_in, banned_in, act, counted_in, world_step}
 use Rattle.written_world.specs.Runs.{run_from, run}
 use Rattle.written_world.specs.Sound.{Sound, Current, PacketNames}
 use Rattle.written_world.specs.Good.{shape, HasJoined, IsCredited}
@@ -27,13 +31,12 @@ use Rattle.written_world.specs.Shown.{AllShown, AllCredited, AllGiveBacks}
 use Rattle.written_world.specs.Credits.{AllCreditedOnce}
 use Rattle.written_world.specs.Safe.{AllAgree, AllFit, CountsOnce, RowsFit}
 use Rattle.written_world.proofs.Bounds.{found_within}
-use Rattle.written_world.proofs.Choosing.{either, and_true}
+use Rattle.fuxi_terms.proofs.Booleans.{either, and_true, number_is, not_false}
 use Rattle.written_world.proofs.Sounds.{Grows, comes_sound, move_sound}
 use Rattle.written_world.proofs.Start.{empty_at, fit_at_start, sound_at_start, written_at_start}
 use Rattle.written_world.proofs.Steps.{found_has}
 use Rattle.written_world.proofs.Acts.{Acted, same_party_itself, grows_itself, Leaves, leaves_nothing, start_leaves, comes_leaves, send_all_acted, resync_all_acted}
-use Rattle.written_world.specs.Safe.{RowsFit, AllFit}
-use Rattle.written_world.proofs.Places.{id_is, number_is}
+use Rattle.written_world.proofs.Places.{id_is}
 use Rattle.written_world.proofs.Granting.{GrantHolds, nothing_granted}
 use Rattle.written_world.proofs.Housing.{IsHoused, new_housed, same_housed, added_housed, ended_housed, banned_housed, told_housed, preempted_housed}
 use Rattle.written_world.proofs.Tabling.{IsTabled, met_tabled, new_tabled, same_tabled, added_tabled, told_tabled, ended_tabled, banned_tabled, preempted_tabled}
@@ -102,10 +105,6 @@ not_refused false r ts e = (refl, e)
 behind : (xs ys : List (Bool × Refusal)) → first_refusal (xs ++ ys) ≡ None → first_refusal ys ≡ None
 behind [] ys e = e
 behind (x ∷ xs) ys e = behind xs ys (not_refused x.0 x.1 (xs ++ ys) e).1
-
-twice : (b : Bool) → not b ≡ false → b ≡ true
-twice true e = refl
-twice false e = cc
 
 rising : {a b : ℕ} → not (nat_lt a b) ≡ false → a < b
 rising {a} {b} t = grind (arith, nat_tests, t)
@@ -328,7 +327,7 @@ want_stands w a u n h = app_runs w a _ h (λ g f. checked w _ _ h (λ t.
     let range = nat_lt greatest_count n in
     let x = not_refused (not (nat_lt u g.units)) NoUnit ((range, WantRange greatest_count) ∷ []) t in
     let y = not_refused range (WantRange greatest_count) [] x.1 in
-    demanded_stands w a g (want_key u) n h f (within y.0) (unit_there w g u true (twice (nat_lt u g.units) x.0) refl) (λ e. cc)))
+    demanded_stands w a g (want_key u) n h f (within y.0) (unit_there w g u true (not_false (nat_lt u g.units) x.0) refl) (λ e. cc)))
 
 near_stands : (w : World) (a u m n : ℕ) → Standing w → StepStands (act w (Near a u m n))
 near_stands w a u m n h = app_runs w a _ h (λ g f. checked w _ _ h (λ t.
@@ -337,7 +336,7 @@ near_stands w a u m n h = app_runs w a _ h (λ g f. checked w _ _ h (λ t.
     let x = not_refused (not (nat_lt u g.units)) NoUnit ((machine, NoMachine) ∷ (range, WantRange greatest_count) ∷ []) t in
     let y = not_refused machine NoMachine ((range, WantRange greatest_count) ∷ []) x.1 in
     let z = not_refused range (WantRange greatest_count) [] y.1 in
-    demanded_stands w a g (near_key u m) n h f (within z.0) (unit_there w g u (has_machine w.cluster m) (twice (nat_lt u g.units) x.0) (twice (has_machine w.cluster m) y.0)) (λ e. cc)))
+    demanded_stands w a g (near_key u m) n h f (within z.0) (unit_there w g u (has_machine w.cluster m) (not_false (nat_lt u g.units) x.0) (not_false (has_machine w.cluster m) y.0)) (λ e. cc)))
 
 rack_stands : (w : World) (a u r n : ℕ) → Standing w → StepStands (act w (Rack a u r n))
 rack_stands w a u r n h = app_runs w a _ h (λ g f. checked w _ _ h (λ t.
@@ -346,14 +345,14 @@ rack_stands w a u r n h = app_runs w a _ h (λ g f. checked w _ _ h (λ t.
     let x = not_refused (not (nat_lt u g.units)) NoUnit ((there, NoRack) ∷ (range, WantRange greatest_count) ∷ []) t in
     let y = not_refused there NoRack ((range, WantRange greatest_count) ∷ []) x.1 in
     let z = not_refused range (WantRange greatest_count) [] y.1 in
-    demanded_stands w a g (rack_key u r) n h f (within z.0) (unit_there w g u (has_rack w.cluster r) (twice (nat_lt u g.units) x.0) (twice (has_rack w.cluster r) y.0)) (λ e. cc)))
+    demanded_stands w a g (rack_key u r) n h f (within z.0) (unit_there w g u (has_rack w.cluster r) (not_false (nat_lt u g.units) x.0) (not_false (has_rack w.cluster r) y.0)) (λ e. cc)))
 
 avoid_stands : (w : World) (a u m on : ℕ) → Standing w → StepStands (act w (Avoid a u m on))
 avoid_stands w a u m on h = app_runs w a _ h (λ g f. checked w _ _ h (λ t.
     let machine = not (has_machine w.cluster m) in
     let x = not_refused (not (nat_lt u g.units)) NoUnit ((machine, NoMachine) ∷ []) t in
     let y = not_refused machine NoMachine [] x.1 in
-    demanded_stands w a g (avoid_key u m) (min on 1) h f (omega arith) (unit_there w g u (has_machine w.cluster m) (twice (nat_lt u g.units) x.0) (twice (has_machine w.cluster m) y.0)) (λ e. cc)))
+    demanded_stands w a g (avoid_key u m) (min on 1) h f (omega arith) (unit_there w g u (has_machine w.cluster m) (not_false (nat_lt u g.units) x.0) (not_false (has_machine w.cluster m) y.0)) (λ e. cc)))
 
 give_back_stands : (w : World) (a u m n : ℕ) → Standing w → StepStands (act w (GiveBack a u m n))
 give_back_stands w a u m n h = app_runs w a _ h (λ g f. checked w _ _ h (λ t.
@@ -363,7 +362,7 @@ give_back_stands w a u m n h = app_runs w a _ h (λ g f. checked w _ _ h (λ t.
     let x = not_refused (not (nat_lt u g.units)) NoUnit ((machine, NoMachine) ∷ (usable, NotUsable (usable_now w a g u m)) ∷ (range, BackRange) ∷ []) t in
     let y = not_refused machine NoMachine ((usable, NotUsable (usable_now w a g u m)) ∷ (range, BackRange) ∷ []) x.1 in
     let z = not_refused range BackRange [] (not_refused usable (NotUsable (usable_now w a g u m)) ((range, BackRange) ∷ []) y.1).1 in
-    demanded_stands w a g (back_key u m) (given_back w a g u m + n) h f (within z.0) (unit_there w g u (has_machine w.cluster m) (twice (nat_lt u g.units) x.0) (twice (has_machine w.cluster m) y.0)) (λ _. omega arith)))
+    demanded_stands w a g (back_key u m) (given_back w a g u m + n) h f (within z.0) (unit_there w g u (has_machine w.cluster m) (not_false (nat_lt u g.units) x.0) (not_false (has_machine w.cluster m) y.0)) (λ _. omega arith)))
 
 -- Each event
 act_stands : (w : World) (e : Event) → Standing w → StepStands (act w e)
@@ -372,13 +371,13 @@ act_stands w (StopMaster e) h = master_runs w e _ h (λ M f. record { it = stopp
 act_stands w (StartAgent m b) h = checked w _ _ h (λ n.
     let rest = not (nat_lt (w.boots (agent_id m)) b) in
     let first = not_refused (not (has_machine w.cluster m)) NoMachine ((rest, NotRising (w.boots (agent_id m))) ∷ []) n in
-    record { it = agent_starts w (w.ran ++ party (agent_id m) b ∷ []) m b h (twice (has_machine w.cluster m) first.0) (rising (not_refused rest (NotRising (w.boots (agent_id m))) [] first.1).0) })
+    record { it = agent_starts w (w.ran ++ party (agent_id m) b ∷ []) m b h (not_false (has_machine w.cluster m) first.0) (rising (not_refused rest (NotRising (w.boots (agent_id m))) [] first.1).0) })
 act_stands w (StartApp a b) h = checked w _ _ h (λ n.
     let last : Bool × Refusal = (not (nat_lt (w.boots (app_id a)) b), NotRising (w.boots (app_id a))) in
     let x = not_refused (not (is_known w.hard.jobs a)) NoJob ((has_ended w.hard.jobs a, Ended) ∷ last ∷ []) n in
     let y = not_refused (has_ended w.hard.jobs a) Ended (last ∷ []) x.1 in
     let z = not_refused last.0 last.1 [] y.1 in
-    record { it = app_starts w (w.ran ++ party (app_id a) b ∷ []) a b _ refl h (rising z.0) (record { has = λ m r none. cc }) (record { known = twice (is_known w.hard.jobs a) x.0; units = refl }) })
+    record { it = app_starts w (w.ran ++ party (app_id a) b ∷ []) a b _ refl h (rising z.0) (record { has = λ m r none. cc }) (record { known = not_false (is_known w.hard.jobs a) x.0; units = refl }) })
 act_stands w (Submit e j) h = master_runs w e _ h (λ M f. checked w _ _ h (λ n.
     let k = h.masters e M f in
     let tests = behind (job_tests w.cluster.resources j) (submit_tests w.hard e j) (not_refused (not (has_group w.cluster j.group)) NoGroup (job_tests w.cluster.resources j ++ submit_tests w.hard e j) n).1 in

@@ -1,13 +1,14 @@
 -- Each move keeps places, acknowledged indices and packets within their histories.
-use Rattle.std.proofs.Common.{◌≡◌, ℕ, zero, suc, ◌+◌, ◌-◌, ◌<◌, ◌≤◌, Bool, true, false, cond, not, nat_eq, nat_lt, List, [], ◌∷◌, ◌++◌, length, length-append, map, Option, Some, None, slice_get, refl, sym, subst, arith, min}
+use Rattle.std.proofs.Common.{◌≡◌, ℕ, zero, suc, ◌+◌, ◌-◌, ◌<◌, ◌≤◌, Bool, false, cond, not, nat_eq, nat_lt, List, [], ◌∷◌, ◌++◌, length, length-append, map, Option, Some, None, slice_get, refl, sym, subst, arith, min}
 use Rattle.std.specs.Prelude.{◌&&◌, ◌||◌}
 use Rattle.std.specs.List.{AllByRecursion}
 use Rattle.std.proofs.lemmas.Bool.Decides.{nat_tests}
 use Rattle.fuxi_terms.specs.Lists.{numbers_from}
-use Rattle.written_world.specs.Net.{Net, Party, Id, Link, Packet, Kind, Ack, Delta, Full, Heard, What, Stranger, NotMine, Taken, Old, Gap, Stale, Acked, last, set_at, unknown, silent, same_id, same_party, met, place_moved, unmoved, hear, hear_peer, heard_of, word_of, link_after, kept_changes, turn_deltas, notes, turn, Move, Starts, Posts, Turns, Hears, Resyncs, comes, move}
+use Rattle.written_world.specs.Net.{Net, Party, Id, Link, Packet, Kind, Ack, Delta, Full, Heard, What, Stranger, NotMine, Taken, Old, Gap, Stale, Acked, last, set_at, unknown, silent, same_id, same_party, met, place_moved, unmoved, hear, hear_peer, heard_of, word_of, link_after, notes, turn, Move, Starts, Posts, Turns, Hears, Resyncs, comes, move}
+use Rattle.fuxi_terms.specs.Limits.{kept_changes, turn_deltas}
 use Rattle.written_world.specs.Sound.{Bounded, IsLinkWithin, PacketWithin}
-use Rattle.written_world.proofs.Alls.{all_append}
-use Rattle.written_world.proofs.Choosing.{both_true, either, either_case}
+use Rattle.fuxi_terms.proofs.Alls.{all_append}
+use Rattle.fuxi_terms.proofs.Booleans.{both_true, either, either_case, not_false}
 use Rattle.written_world.proofs.Places.{id_is, set_at_all}
 
 pub met_known : (l : Link) (inc : ℕ) → nat_lt inc l.known ≡ false → (met l inc).known ≡ inc
@@ -22,10 +23,6 @@ pub found_within : (P : Packet → Type 0) (xs : List Packet) (i : ℕ) (x : Pac
 found_within P [] i x h e = cc
 found_within P (y ∷ ys) zero x h e = let same : y ≡ x = cc in subst P same h.0
 found_within P (y ∷ ys) (suc i) x h e = found_within P ys i x h.1 e
-
-pub twice_not : (b : Bool) → not b ≡ false → b ≡ true
-twice_not true e = refl
-twice_not false e = cc
 
 module _ {L : Type 0} where
   -- histories only grow
@@ -86,7 +83,7 @@ module _ {L : Type 0} where
       (λ _. record { link = h })
       (λ ours. either (HeardWithin hs p x.from.id) (nat_lt x.from.inc l.known) (unmoved Stale l) peer
       (λ _. record { link = h })
-      (λ t. peer_within hs p l x (id_is x.to.id p.id (both_true _ _ (twice_not _ ours)).0) t bound h))
+      (λ t. peer_within hs p l x (id_is x.to.id p.id (both_true _ _ (not_false _ ours)).0) t bound h))
 
   -- what a turn sends is within
   notes_within : (hs : Party → Id → List L) (p : Party) (to : Party) (l : Link) → l.acked ≤ length (hs p to.id) → AllByRecursion (λ x. PacketWithin hs x.kind x) (notes p to (length (hs p to.id)) l)

@@ -1,52 +1,21 @@
 -- Placing keeps each machine's grants within what it has.
-use Rattle.std.proofs.Common.{◌≡◌, ℕ, zero, suc, ◌+◌, ◌*◌, ◌<◌, ◌≤◌, Bool, true, false, cond, not, nat_eq, nat_lt, List, [], ◌∷◌, Some, None, refl, sym, ◌∙◌, ap, subst, arith}
+use Rattle.std.proofs.Common.{◌≡◌, ℕ, zero, suc, ◌+◌, ◌*◌, ◌<◌, ◌≤◌, Bool, true, false, cond, not, nat_eq, nat_lt, Some, None, refl, sym, subst, arith}
 use Rattle.std.specs.Prelude.{◌&&◌, T}
-use Rattle.std.specs.Option.{unwrap_or}
-use Rattle.std.specs.List.{sum_by}
-use Rattle.std.specs.Ordering.{is_eq}
-use Rattle.std.specs.Cmp.{IsTotalOrder}
-use Rattle.std.specs.declared.cmp.Ordering.{Ordering}
-use Rattle.std.specs.declared.cmp.Ordering.TheVariants.{Less, Equal, Greater}
-use Rattle.std.specs.FinMap.Entries.{by_order, below_all, is_sorted, is_sorted-put, put, find}
-use Rattle.std.proofs.lemmas.List.Sums.{sum_by-cons}
+use Rattle.std.specs.FinMap.Entries.{is_sorted, is_sorted-put, put}
 use Rattle.std.proofs.lemmas.Bool.Decides.{nat_tests}
-use Rattle.fuxi_terms.specs.Cluster.{ClusterRecord}
+use Rattle.fuxi_terms.specs.Cluster.{ClusterRecord, has_at}
 use Rattle.fuxi_terms.specs.Keys.{Spot, spot_cmp}
 use Rattle.fuxi_terms.specs.Counts.{count}
-use Rattle.written_world.specs.Jobs.{size_at, has_at, below_each}
-use Rattle.written_world.specs.Masters.{Master, total_at}
+use Rattle.fuxi_terms.specs.Jobs.{size_at}
+use Rattle.written_world.specs.Masters.{Master}
+use Rattle.fuxi_terms.specs.Tables.{total_at}
 use Rattle.written_world.specs.Placing.{first_placeable, granted, settle, settled, placeable, may_grow, is_usable, has_room}
 use Rattle.written_world.specs.Settling.{IsWithin}
-use Rattle.fuxi_terms.proofs.Counting.{both_true as both, find_below_head}
-use Rattle.written_world.proofs.Choosing.{both_true}
-use Rattle.written_world.proofs.Keys.{spot_total, same_spot}
-use Rattle.written_world.proofs.Placed.{one_count, is_placeable}
-
-module _ {K : Type 0} {R : K → K → Ordering} (o : IsTotalOrder R) (same : (x y : K) → R x y ≡ Equal → x ≡ y) (g : K → ℕ → ℕ) (nothing : (k : K) → g k 0 ≡ 0) where
-  abbrev w : K × ℕ → ℕ
-  w e = g e.0 e.1
-
-  pub sum_put_exact : (k : K) (v : ℕ) (es : List (K × ℕ)) → T (is_sorted R es) → sum_by w (put R k v es) + g k (unwrap_or (find R k es) 0) ≡ sum_by w es + g k v
-  sum_put_exact k v [] s = let z = nothing k in omega (arith, z)
-  sum_put_exact k v (e ∷ es) s = elim (R k e.0) as (λ r. R k e.0 ≡ r → sum_by w (by_order r ((k, v) ∷ e ∷ es) ((e.0, v) ∷ es) (e ∷ put R k v es)) + g k (unwrap_or (cond (is_eq r) (Some e.1) (find R k es)) 0) ≡ sum_by w (e ∷ es) + g k v) [
-    | Less ↦ λ is.
-        let z : g k (unwrap_or (find R k es) 0) ≡ 0 = ap (λ r. g k (unwrap_or r 0)) (find_below_head o k e es is (both (below_all R e.0 es) _ s).0) ∙ nothing k in
-        rw (sum_by-cons w (k, v) (e ∷ es)) (omega (arith, z))
-    | Equal ↦ λ is.
-        let a : g e.0 v ≡ g k v = ap (λ x. g x v) (sym (same k e.0 is)) in
-        let b : g k e.1 ≡ g e.0 e.1 = ap (λ x. g x e.1) (same k e.0 is) in
-        rw (sum_by-cons w (e.0, v) es, sum_by-cons w e es) (omega (arith, a, b))
-    | Greater ↦ λ is.
-        let r = sum_put_exact k v es (both (below_all R e.0 es) _ s).1 in
-        rw (sum_by-cons w e (put R k v es), sum_by-cons w e es) (omega (arith, r))
-  ] refl
-
-pub each_place : (n : ℕ) (test : ℕ → Bool) (i : ℕ) → below_each n test ≡ true → i < n → test i ≡ true
-each_place zero test i h lt = absurd (omega (arith, lt))
-each_place (suc n) test i h lt = let b = both_true (below_each n test) (test n) h in elim (nat_eq i n) as (λ t. nat_eq i n ≡ t → test i ≡ true) [
-  | true ↦ λ e. let same : i ≡ n = grind (arith, nat_tests) in subst (λ k. test k ≡ true) (sym same) b.1
-  | false ↦ λ e. each_place n test i b.0 (grind (arith, nat_tests))
-] refl
+use Rattle.fuxi_terms.proofs.Booleans.{both_true}
+use Rattle.fuxi_terms.proofs.KeyOrders.{spot_total, same_spot}
+use Rattle.fuxi_terms.proofs.Sums.{one_count, sum_put_exact}
+use Rattle.written_world.proofs.Placed.{is_placeable}
+use Rattle.fuxi_terms.proofs.Members.{each_place}
 
 fits_one : (c : ClusterRecord) (M : Master) (s : Spot) → placeable c M s.job s.unit s.machine ≡ true → (i : ℕ) → i < c.resources → total_at M.jobs s.machine i M.table + size_at M.jobs s.job s.unit i ≤ has_at c s.machine i
 fits_one c M s p i lt =

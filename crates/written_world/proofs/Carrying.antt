@@ -6,15 +6,18 @@ use Rattle.std.specs.FinMap.Entries.{find, put}
 use Rattle.std.proofs.lemmas.List.{map-append}
 use Rattle.fuxi_terms.specs.Vectors.{at_place}
 use Rattle.written_world.specs.Net.{Net, Party, Link}
-use Rattle.written_world.specs.Ledgers.{Ledger, nothing, at_key, count_key}
+use Rattle.written_world.specs.Ledgers.{Ledger, nothing, at_key}
+use Rattle.fuxi_terms.specs.TallyKeys.{count_key}
 use Rattle.written_world.specs.Channels.{master_id, app_id, party, at_index, view}
-use Rattle.written_world.specs.Jobs.{below, size_at, has_at}
+use Rattle.fuxi_terms.specs.Lists.{below}
+use Rattle.fuxi_terms.specs.Jobs.{size_at}
+use Rattle.fuxi_terms.specs.Cluster.{has_at}
 use Rattle.written_world.specs.World.{World, App, Carried}
 use Rattle.written_world.specs.Agents.{names, usable, carry_one, carry, app_held}
 use Rattle.written_world.specs.Sound.{Sound}
 use Rattle.written_world.specs.Good.{shape, HasOrigin}
 use Rattle.written_world.specs.Safe.{place_for, grants_at, units_total_at, HeldOnce, CountsOnce}
-use Rattle.written_world.proofs.Choosing.{either}
+use Rattle.fuxi_terms.proofs.Booleans.{either}
 use Rattle.written_world.proofs.Granting.{no_share, sum_le}
 use Rattle.written_world.proofs.Standing.{Standing, Origins, put_found}
 

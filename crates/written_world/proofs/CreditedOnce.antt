@@ -10,9 +10,10 @@ use Rattle.fuxi_terms.specs.Cluster.{ClusterRecord}
 use Rattle.fuxi_terms.specs.Keys.{key_cmp}
 use Rattle.fuxi_terms.specs.Counts.{count}
 use Rattle.written_world.specs.Net.{Net, Link, Move, Starts, Posts, Turns, Hears, Resyncs, move, comes}
-use Rattle.written_world.specs.Ledgers.{Ledger, nothing, at_key, credited_key, back_key}
+use Rattle.written_world.specs.Ledgers.{Ledger, nothing, at_key}
+use Rattle.fuxi_terms.specs.TallyKeys.{credited_key, back_key}
 use Rattle.written_world.specs.Channels.{master_id, app_id, party, at_index}
-use Rattle.written_world.specs.Jobs.{is_live}
+use Rattle.fuxi_terms.specs.Jobs.{is_live}
 use Rattle.written_world.specs.Masters.{Master, credited_of}
 use Rattle.written_world.specs.World.{World, empty_world, master_party, with_found}
 use Rattle.written_world.specs.Sound.{Rising}
@@ -21,8 +22,7 @@ use Rattle.written_world.specs.Shown.{StartsAnew}
 use Rattle.written_world.specs.Credits.{AllCreditedOnce, credited_in, given_back_by, rises_from}
 use Rattle.written_world.specs.Events.{Event, world_step}
 use Rattle.written_world.specs.Runs.{run_from, run}
-use Rattle.written_world.proofs.Choosing.{both_true}
-use Rattle.written_world.proofs.Places.{number_is}
+use Rattle.fuxi_terms.proofs.Booleans.{both_true, number_is}
 use Rattle.written_world.proofs.Sounds.{Grows, Longer, posted_longer}
 use Rattle.written_world.proofs.Acts.{grows_itself, grows_then}
 use Rattle.written_world.proofs.Steps.{run_from_keeps}

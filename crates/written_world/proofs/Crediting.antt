@@ -8,25 +8,26 @@ use Rattle.std.specs.FinMap.Entries.{below_all, find, put, where_key, is_sorted,
 use Rattle.std.proofs.lemmas.Bool.Decides.{nat_tests}
 use Rattle.std.proofs.lemmas.Map.Lookups.{exact_unsigned}
 use Rattle.fuxi_terms.specs.declared.Key.{Key}
-use Rattle.fuxi_terms.specs.Cluster.{ClusterRecord}
+use Rattle.fuxi_terms.specs.Cluster.{ClusterRecord, has_machine}
 use Rattle.fuxi_terms.specs.Keys.{key_cmp}
 use Rattle.fuxi_terms.specs.Counts.{count}
 use Rattle.fuxi_terms.proofs.Counting.{both_true as both, tied, below_none}
 use Rattle.written_world.specs.Net.{Net, Party, Id, Link, Packet, Kind, Ack, Delta, Full, Heard, What, Stranger, Stale, Acked, NotMine, Old, Gap, Taken, last, met, place_moved, word_of, link_after, unmoved, hear, hear_peer, heard_of, comes, same_id}
-use Rattle.written_world.specs.Ledgers.{Ledger, nothing, at_key, credited_key, back_key, is_back}
+use Rattle.written_world.specs.Ledgers.{Ledger, nothing, at_key}
+use Rattle.fuxi_terms.specs.TallyKeys.{credited_key, back_key, is_back}
 use Rattle.written_world.specs.Channels.{master_id, agent_id, app_id, party, is_agent, is_app, at_index, view, content}
-use Rattle.written_world.specs.Jobs.{KnownJob, is_known, is_live, unit_count, has_machine}
+use Rattle.fuxi_terms.specs.Jobs.{KnownJob, is_known, is_live, unit_count}
 use Rattle.written_world.specs.Masters.{Master, credited_of}
 use Rattle.written_world.specs.World.{master_party}
 use Rattle.written_world.specs.MasterSteps.{talks, is_there, counted, credit, raise_credited, take_report, take_demand, adopts, meet_app, is_taken, received, told}
 use Rattle.written_world.specs.Sound.{Sound, PacketNames, NamesAt, LinkNames, Rising}
 use Rattle.written_world.specs.Good.{shape, has_heads, BacksRise, IsCredited, IsRanged}
-use Rattle.written_world.proofs.Choosing.{both_true, either}
-use Rattle.written_world.proofs.Keys.{key_total, same_key}
-use Rattle.written_world.proofs.Places.{id_is, number_is}
+use Rattle.fuxi_terms.proofs.Booleans.{both_true, either, number_is, nat_itself, not_false}
+use Rattle.fuxi_terms.proofs.KeyOrders.{key_total, same_key}
+use Rattle.written_world.proofs.Places.{id_is}
 use Rattle.written_world.proofs.Bounds.{met_known}
 use Rattle.written_world.proofs.Sounds.{Grows, taken_names, met_names}
-use Rattle.written_world.proofs.Acts.{nat_itself, set_here, set_beside}
+use Rattle.written_world.proofs.Acts.{set_here, set_beside}
 use Rattle.written_world.proofs.Writing.{DemandsHold, KnowsMore, backs_between}
 
 -- A master whose views stay
@@ -195,12 +196,8 @@ heard_credits hs M talk a top above l x from n ln r w d dh tidy df h =
     (λ _. record { it = h })
     (λ ours. either (ToldCredits hs M a d) (nat_lt x.from.inc l.known) (unmoved Stale l) peer
     (λ _. record { it = h })
-    (λ t. record { it = by_word (id_is x.to.id master_id (both_true (same_id x.to.id master_id) talk (twice (same_id x.to.id master_id && talk) ours)).0) (word_of x.kind M.epoch (met l x.from.inc) x) refl (met_known l x.from.inc t) }))
+    (λ t. record { it = by_word (id_is x.to.id master_id (both_true (same_id x.to.id master_id) talk (not_false (same_id x.to.id master_id && talk) ours)).0) (word_of x.kind M.epoch (met l x.from.inc) x) refl (met_known l x.from.inc t) }))
   where
-    twice : (b : Bool) → not b ≡ false → b ≡ true
-    twice true e = refl
-    twice false e = cc
-
     k : Link
     k = met l x.from.inc
 

@@ -10,13 +10,12 @@ use Rattle.fuxi_terms.specs.Cluster.{ClusterRecord}
 use Rattle.fuxi_terms.specs.Keys.{Spot, spot_cmp}
 use Rattle.fuxi_terms.specs.Counts.{count}
 use Rattle.fuxi_terms.proofs.Counting.{both_true as both, tied, below_none}
-use Rattle.written_world.specs.Jobs.{KnownJob}
+use Rattle.fuxi_terms.specs.Jobs.{KnownJob}
 use Rattle.written_world.specs.Masters.{Master}
 use Rattle.written_world.specs.Preemption.{goes_before, put_grant, in_walk_order, so_many, walk, is_enough, may_take, taken_of, without_one, needed_of, is_some_set, victims, Plan, first_plan}
-use Rattle.written_world.proofs.Alls.{all_append, all_passed}
-use Rattle.written_world.proofs.Choosing.{both_true, either}
-use Rattle.written_world.proofs.Keys.{same_spot}
-use Rattle.written_world.proofs.Places.{number_is}
+use Rattle.fuxi_terms.proofs.Alls.{all_append, all_passed}
+use Rattle.fuxi_terms.proofs.Booleans.{both_true, either, number_is}
+use Rattle.fuxi_terms.proofs.KeyOrders.{same_spot}
 
 -- how often a spot stands in a set of single grants
 abbrev pub one_if : Spot → Spot → ℕ

@@ -10,12 +10,14 @@ use Rattle.std.specs.FinMap.Entries.{find}
 use Rattle.std.proofs.lemmas.Bool.Decides.{nat_tests}
 use Rattle.fuxi_terms.specs.Keys.{key_cmp, Spot, spot_cmp}
 use Rattle.fuxi_terms.proofs.Counting.{tied}
-use Rattle.written_world.specs.Ledgers.{at_key, reported_key, count_key, credited_key}
-use Rattle.written_world.specs.Jobs.{is_live}
-use Rattle.written_world.specs.Masters.{Master, spot, held_on, credited_of}
+use Rattle.written_world.specs.Ledgers.{at_key}
+use Rattle.fuxi_terms.specs.TallyKeys.{reported_key, count_key, credited_key}
+use Rattle.fuxi_terms.specs.Jobs.{is_live}
+use Rattle.written_world.specs.Masters.{Master, credited_of}
+use Rattle.fuxi_terms.specs.Tables.{spot, held_on}
 use Rattle.written_world.specs.MasterSteps.{count_entries, grants}
-use Rattle.written_world.proofs.Keys.{key_total, spot_total, same_key, same_spot}
-use Rattle.written_world.proofs.Places.{number_is}
+use Rattle.fuxi_terms.proofs.KeyOrders.{key_total, spot_total, same_key, same_spot}
+use Rattle.fuxi_terms.proofs.Booleans.{number_is, same_tests}
 use Rattle.written_world.proofs.Tabling.{IsTabled, live_found}
 
 -- A key is looked up in lists one behind the other
@@ -50,11 +52,6 @@ no_counts q e a (x ∷ es) = elim (nat_eq x.0.job a) as (λ b. find key_cmp q (m
   | true ↦ ap (λ b. cond b (Some x.1) (find key_cmp q (count_entries a es))) (not_tied q (count_key x.0.unit x.0.machine) (kind_differs q (count_key x.0.unit x.0.machine) e)) ∙ no_counts q e a es
   | false ↦ no_counts q e a es
 ]
-
-same_tests : (p q : Bool) → (p ≡ true → q ≡ true) → (q ≡ true → p ≡ true) → p ≡ q
-same_tests true q f g = sym (f refl)
-same_tests false true f g = g refl
-same_tests false false f g = refl
 
 -- a count of the grants is the count of the table
 one_count : (a u m : ℕ) (e : Spot × ℕ) (es : List (Spot × ℕ)) → find key_cmp (count_key u m) (count_entries a es) ≡ find spot_cmp (spot a u m) es

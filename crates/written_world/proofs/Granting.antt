@@ -7,17 +7,20 @@ use Rattle.std.specs.Ordering.{eq_by_cmp}
 use Rattle.std.specs.FinMap.Entries.{find}
 use Rattle.std.proofs.lemmas.Bool.Decides.{nat_tests}
 use Rattle.std.proofs.lemmas.List.Sums.{sum_by-cons, sum_by-append}
-use Rattle.fuxi_terms.specs.Cluster.{ClusterRecord}
+use Rattle.fuxi_terms.specs.Cluster.{ClusterRecord, has_at}
 use Rattle.fuxi_terms.specs.Vectors.{at_place}
 use Rattle.fuxi_terms.specs.Keys.{Spot, spot_cmp}
 use Rattle.fuxi_terms.proofs.Counting.{tied}
-use Rattle.written_world.specs.Ledgers.{Ledger, nothing, at_key, count_key}
-use Rattle.written_world.specs.Jobs.{KnownJob, job_of, is_known, is_live, no_unit, units_of, size_at, has_at, below}
-use Rattle.written_world.specs.Masters.{Master, spot, held_on, total_at}
+use Rattle.written_world.specs.Ledgers.{Ledger, nothing, at_key}
+use Rattle.fuxi_terms.specs.TallyKeys.{count_key}
+use Rattle.fuxi_terms.specs.Jobs.{KnownJob, job_of, is_known, is_live, no_unit, units_of, size_at}
+use Rattle.fuxi_terms.specs.Lists.{below}
+use Rattle.written_world.specs.Masters.{Master}
+use Rattle.fuxi_terms.specs.Tables.{spot, held_on, total_at}
 use Rattle.written_world.specs.MasterSteps.{grants}
 use Rattle.written_world.specs.Safe.{units_total_at}
-use Rattle.written_world.proofs.Keys.{same_spot}
-use Rattle.written_world.proofs.Places.{number_is}
+use Rattle.fuxi_terms.proofs.KeyOrders.{same_spot}
+use Rattle.fuxi_terms.proofs.Booleans.{number_is}
 use Rattle.written_world.proofs.Loads.{load}
 use Rattle.written_world.proofs.Granted.{grants_counts, nothing_held}
 use Rattle.written_world.proofs.Tabling.{IsTabled}

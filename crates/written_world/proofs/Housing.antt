@@ -8,29 +8,33 @@ use Rattle.std.specs.FinMap.Entries.{put, where_key, is_sorted}
 use Rattle.std.proofs.lemmas.Bool.Decides.{nat_tests}
 use Rattle.std.proofs.lemmas.List.Sums.{sum_by-cons}
 use Rattle.fuxi_terms.specs.declared.Key.{Key}
-use Rattle.fuxi_terms.specs.Cluster.{ClusterRecord, JobRecord}
+use Rattle.fuxi_terms.specs.Cluster.{ClusterRecord, JobRecord, has_at, in_each}
 use Rattle.fuxi_terms.specs.Keys.{key_cmp, RowKey, Spot, spot_cmp}
 use Rattle.fuxi_terms.specs.Counts.{count, set_count}
 use Rattle.fuxi_terms.proofs.Counting.{tied, count-set_count}
 use Rattle.written_world.specs.Net.{Id, Heard}
-use Rattle.written_world.specs.Ledgers.{Ledger, credited_key, is_back}
+use Rattle.written_world.specs.Ledgers.{Ledger}
+use Rattle.fuxi_terms.specs.TallyKeys.{credited_key, is_back}
 use Rattle.written_world.specs.Channels.{is_agent}
-use Rattle.written_world.specs.Jobs.{KnownJob, is_live, size_at, has_at, in_each, below, has_number, with_number}
-use Rattle.written_world.specs.Masters.{Master, spot, total_at, credited_of}
-use Rattle.written_world.specs.Placing.{first_placeable, granted, with_grant, settle, settled, all_out, line_up, is_usable, has_room, may_grow, placeable}
-use Rattle.written_world.specs.Preemption.{Plan, set_at_place, tried, plan_of, by_priority, preempted, without_grants}
+use Rattle.fuxi_terms.specs.Jobs.{KnownJob, is_live, size_at}
+use Rattle.fuxi_terms.specs.Lists.{below}
+use Rattle.fuxi_terms.specs.Numbers.{has_number, with_number}
+use Rattle.written_world.specs.Masters.{Master, credited_of}
+use Rattle.fuxi_terms.specs.Tables.{spot, total_at, with_grant, without_grants}
+use Rattle.written_world.specs.Placing.{first_placeable, granted, settle, settled, all_out, line_up, is_usable, has_room, may_grow, placeable}
+use Rattle.written_world.specs.Preemption.{Plan, set_at_place, tried, plan_of, by_priority, preempted}
 use Rattle.written_world.specs.HardState.{with_job}
 use Rattle.written_world.specs.MasterSteps.{phased, ready, row, is_kept, adopted, adopts, take_report, credit, take_demand, meet_app, is_taken, told}
 use Rattle.written_world.specs.Events.{ended_in, banned_in}
 use Rattle.written_world.specs.Safe.{RowsFit, row_total_at}
 use Rattle.written_world.specs.Settling.{IsWithin}
-use Rattle.written_world.proofs.Alls.{all_append}
-use Rattle.written_world.proofs.Capacity.{each_place, settled_fits}
-use Rattle.written_world.proofs.Choosing.{both_true, either}
-use Rattle.written_world.proofs.Keys.{spot_total, same_spot}
+use Rattle.fuxi_terms.proofs.Alls.{all_append}
+use Rattle.fuxi_terms.proofs.Members.{each_place}
+use Rattle.written_world.proofs.Capacity.{settled_fits}
+use Rattle.fuxi_terms.proofs.Booleans.{both_true, either, number_is}
+use Rattle.fuxi_terms.proofs.KeyOrders.{spot_total, same_spot}
 use Rattle.written_world.proofs.Placed.{is_placeable}
-use Rattle.written_world.proofs.Places.{number_is}
-use Rattle.written_world.proofs.Spots.{Each, each_put, each_where, each_found, each_set}
+use Rattle.fuxi_terms.proofs.Spots.{Each, each_put, each_where, each_found, each_set}
 use Rattle.written_world.proofs.Loads.{load, load_more, set_exact, where_less, nothing_there, added_loads, ended_loads, adopted_loads, row_loads}
 use Rattle.written_world.proofs.Drawing.{often, one_if, IsDrawn, IsLoss, plan_loss}
 use Rattle.written_world.proofs.Tabling.{IsTabled, planned, sorted_set}

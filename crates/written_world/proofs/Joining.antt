@@ -8,15 +8,15 @@ use Rattle.written_world.specs.Net.{Net, Party, Id, Link, Packet, Heard, What, T
 use Rattle.written_world.specs.Ledgers.{Ledger, nothing}
 use Rattle.written_world.specs.Channels.{master_id, agent_id, app_id, party, is_master, at_index, present, to_master, publish}
 use Rattle.written_world.specs.World.{World, Agent, App, top, set_boot}
-use Rattle.fuxi_terms.specs.Cluster.{ClusterRecord}
-use Rattle.written_world.specs.Jobs.{KnownJob, has_machine, unit_count}
+use Rattle.fuxi_terms.specs.Cluster.{ClusterRecord, has_machine}
+use Rattle.fuxi_terms.specs.Jobs.{KnownJob, unit_count}
 use Rattle.written_world.proofs.Writing.{DemandsHold, knows_itself, publish_each, published_demands, joined_follows}
 use Rattle.written_world.specs.Agents.{joined, joined_demand}
 use Rattle.written_world.specs.Sound.{Sound, PacketNames}
 use Rattle.written_world.specs.Good.{shape, HasJoined}
 use Rattle.written_world.proofs.Bounds.{found_within}
-use Rattle.written_world.proofs.Choosing.{both_true, either}
-use Rattle.written_world.proofs.Places.{id_is, number_is, set_at_all}
+use Rattle.fuxi_terms.proofs.Booleans.{both_true, either, number_is, not_false}
+use Rattle.written_world.proofs.Places.{id_is, set_at_all}
 use Rattle.written_world.proofs.Sounds.{Grows, comes_sound, move_sound}
 use Rattle.written_world.proofs.Acts.{Leaves, leaves_then, start_leaves, comes_leaves, grows_itself, publish_grows, publish_links, publish_leaves, publish_sound, publish_presents, set_here, same_id_itself, same_party_itself, Acted}
 use Rattle.written_world.specs.Safe.{RowsFit}
@@ -46,14 +46,10 @@ knows_sender p talks top l x =
     (λ ours. either (KnowsSender talks l x) (nat_lt x.from.inc l.known) (unmoved Stale l) peer
     (λ _. record { met = λ f. cc; rises = λ f. cc; stays = λ _. refl })
     (λ _. let m = met l x.from.inc in let same = after_known (word_of x.kind p.inc m x) p.inc top m x in record {
-      met = λ f. (same ∙ ap (λ b. (cond b (record { known = x.from.inc; seq = 0; acked = 0 }) l).known) f, (both_true (same_id x.to.id p.id) talks (twice (same_id x.to.id p.id && talks) ours)).1);
+      met = λ f. (same ∙ ap (λ b. (cond b (record { known = x.from.inc; seq = 0; acked = 0 }) l).known) f, (both_true (same_id x.to.id p.id) talks (not_false (same_id x.to.id p.id && talks) ours)).1);
       rises = λ f. grind (arith, nat_tests, f);
       stays = λ f. same ∙ ap (λ b. (cond b (record { known = x.from.inc; seq = 0; acked = 0 }) l).known) f;
     }))
-  where
-    twice : (b : Bool) → not b ≡ false → b ≡ true
-    twice true e = refl
-    twice false e = cc
 
 -- An agent or an application hears: where it meets a new master, it answers with a ledger of that epoch
 pub record Joins (p : Party) (net net' : Net Ledger) : Type 0 where

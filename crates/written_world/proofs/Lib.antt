@@ -1,16 +1,11 @@
-pub mod Alls
-pub mod Keys
-pub mod Choosing
 pub mod Placed
 pub mod Capacity
-pub mod Patched
 pub mod Places
 pub mod Bounds
 pub mod Steps
 pub mod Start
 pub mod Sounds
 pub mod Acts
-pub mod Spots
 pub mod Writing
 pub mod Crediting
 pub mod Tabling

@@ -13,15 +13,15 @@ use Rattle.fuxi_terms.specs.Keys.{RowKey, Spot, spot_cmp}
 use Rattle.fuxi_terms.specs.Counts.{count, set_count}
 use Rattle.fuxi_terms.proofs.Counting.{both_true as both, tied, below_none}
 use Rattle.fuxi_terms.proofs.VectorLaws.{fits_places}
-use Rattle.written_world.specs.Jobs.{KnownJob, job_of, is_known, is_live, no_unit, unit_of, unit_count, size_at, has_number}
-use Rattle.written_world.specs.Masters.{spot, total_at}
+use Rattle.fuxi_terms.specs.Jobs.{KnownJob, job_of, is_known, is_live, no_unit, unit_of, unit_count, size_at}
+use Rattle.fuxi_terms.specs.Numbers.{has_number}
+use Rattle.fuxi_terms.specs.Tables.{spot, total_at}
 use Rattle.written_world.specs.HardState.{with_job, with_ended}
 use Rattle.written_world.specs.MasterSteps.{row_key, is_kept, same_size, adopted}
 use Rattle.written_world.specs.Safe.{row_total_at}
-use Rattle.written_world.proofs.Choosing.{both_true, either}
-use Rattle.written_world.proofs.Keys.{spot_total, same_spot}
-use Rattle.written_world.proofs.Places.{number_is}
-use Rattle.written_world.proofs.Capacity.{sum_put_exact}
+use Rattle.fuxi_terms.proofs.Booleans.{both_true, either, number_is}
+use Rattle.fuxi_terms.proofs.KeyOrders.{spot_total, same_spot}
+use Rattle.fuxi_terms.proofs.Sums.{sum_put_exact}
 use Rattle.written_world.proofs.KnownJobs.{old_job, ended_units_of}
 
 -- what so many grants at a spot take of a machine, in one resource

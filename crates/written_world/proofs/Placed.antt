@@ -1,73 +1,19 @@
 -- Placing ends with nothing placeable.
-use Rattle.std.proofs.Common.{◌≡◌, ℕ, zero, suc, ◌+◌, ◌<◌, ◌≤◌, Bool, true, false, cond, not, nat_eq, nat_lt, List, [], ◌∷◌, ◌++◌, length, Some, None, refl, sym, ◌∙◌, ap, subst, arith, ◌⊎◌, inl, inr}
+use Rattle.std.proofs.Common.{◌≡◌, ℕ, zero, suc, ◌+◌, ◌<◌, ◌≤◌, Bool, true, false, cond, nat_eq, nat_lt, List, [], ◌∷◌, ◌++◌, length, Some, None, refl, sym, ◌∙◌, ap, subst, arith, inl, inr}
 use Rattle.std.specs.Prelude.{◌&&◌, ◌||◌, map, filter}
-use Rattle.std.specs.Option.{unwrap_or}
-use Rattle.std.specs.List.{AllByRecursion, sum_by}
-use Rattle.std.specs.Ordering.{eq_by_cmp, is_eq, is_lt, nat_cmp}
+use Rattle.std.specs.List.{AllByRecursion}
+use Rattle.std.specs.Ordering.{is_lt, nat_cmp}
 use Rattle.std.specs.Cmp.Lexicographic.{slice_cmp}
-use Rattle.std.specs.declared.cmp.Ordering.{Ordering}
-use Rattle.std.specs.declared.cmp.Ordering.TheVariants.{Less, Equal, Greater}
-use Rattle.std.specs.FinMap.Entries.{by_order, put, where_key, find}
-use Rattle.std.proofs.lemmas.List.Sums.{sum_by-cons, sum_by-le-sum_by}
 use Rattle.std.proofs.lemmas.Bool.Decides.{nat_tests}
-use Rattle.fuxi_terms.specs.Cluster.{ClusterRecord}
-use Rattle.fuxi_terms.specs.Keys.{Spot, spot_cmp}
-use Rattle.fuxi_terms.specs.Counts.{count, set_count}
-use Rattle.written_world.specs.Jobs.{below, has_machine}
-use Rattle.written_world.specs.Masters.{Master, held, out}
+use Rattle.fuxi_terms.specs.Cluster.{ClusterRecord, has_machine}
+use Rattle.fuxi_terms.specs.Keys.{Spot}
+use Rattle.fuxi_terms.specs.Lists.{below}
+use Rattle.written_world.specs.Masters.{Master, out}
 use Rattle.written_world.specs.Placing.{Ranked, ranked, candidates, places_for, may_grow, is_usable, has_room, least, first_of, first_placeable, granted, settle, settled, all_out, placeable, has_pair}
 use Rattle.written_world.specs.Settling.{NothingPlaceable, Picks}
-use Rattle.written_world.proofs.Choosing.{both_true, and_true, either}
-use Rattle.written_world.proofs.Keys.{same_spot}
-
--- what the counts of some keys add up to, after one count is raised
-module _ {K : Type 0} {R : K → K → Ordering} (same : (x y : K) → R x y ≡ Equal → x ≡ y) (test : K → Bool) where
-  abbrev weigh : K × ℕ → ℕ
-  weigh e = cond (test e.0) e.1 0
-
-  heavier : (b : Bool) (m n : ℕ) → m ≤ n → cond b m 0 ≤ cond b n 0
-  heavier true m n h = h
-  heavier false m n h = omega arith
-
-  sum_put : (k : K) (v : ℕ) (es : List (K × ℕ)) → unwrap_or (find R k es) 0 ≤ v → sum_by weigh es ≤ sum_by weigh (put R k v es)
-  sum_put k v [] h = omega arith
-  sum_put k v (e ∷ es) h = elim (R k e.0) as (λ r. R k e.0 ≡ r → unwrap_or (cond (is_eq r) (Some e.1) (find R k es)) 0 ≤ v → sum_by weigh (e ∷ es) ≤ sum_by weigh (by_order r ((k, v) ∷ e ∷ es) ((e.0, v) ∷ es) (e ∷ put R k v es))) [
-    | Less ↦ λ _ h. rw (sum_by-cons weigh (k, v) (e ∷ es)) (omega arith)
-    | Equal ↦ λ _ h. let w = heavier (test e.0) e.1 v h in rw (sum_by-cons weigh (e.0, v) es, sum_by-cons weigh e es) (omega (arith, w))
-    | Greater ↦ λ _ h. let r = sum_put k v es h in rw (sum_by-cons weigh e (put R k v es), sum_by-cons weigh e es) (omega (arith, r))
-  ] refl h
-
-  sum_put_more : (k : K) (v : ℕ) (es : List (K × ℕ)) → test k ≡ true → unwrap_or (find R k es) 0 < v → sum_by weigh es < sum_by weigh (put R k v es)
-  sum_put_more k v [] t h = let w : cond (test k) v 0 ≡ v = ap (λ b. cond b v 0) t in omega (arith, w, h)
-  sum_put_more k v (e ∷ es) t h = elim (R k e.0) as (λ r. R k e.0 ≡ r → unwrap_or (cond (is_eq r) (Some e.1) (find R k es)) 0 < v → sum_by weigh (e ∷ es) < sum_by weigh (by_order r ((k, v) ∷ e ∷ es) ((e.0, v) ∷ es) (e ∷ put R k v es))) [
-    | Less ↦ λ _ h. let w : cond (test k) v 0 ≡ v = ap (λ b. cond b v 0) t in rw (sum_by-cons weigh (k, v) (e ∷ es)) (omega (arith, w, h))
-    | Equal ↦ λ is h.
-        let te : test e.0 ≡ true = subst (λ x. test x ≡ true) (same k e.0 is) t in
-        let w : cond (test e.0) v 0 ≡ v = ap (λ b. cond b v 0) te in
-        let u : cond (test e.0) e.1 0 ≡ e.1 = ap (λ b. cond b e.1 0) te in
-        rw (sum_by-cons weigh (e.0, v) es, sum_by-cons weigh e es) (omega (arith, w, u, h))
-    | Greater ↦ λ _ h. let r = sum_put_more k v es t h in rw (sum_by-cons weigh e (put R k v es), sum_by-cons weigh e es) (omega (arith, r))
-  ] refl h
-
--- a member
-abbrev pub In : {A : Type 0} → A → List A → Type 0
-In x [] = ⊥
-In x (y ∷ ys) = (x ≡ y) ⊎ In x ys
-
-sum_le : {A : Type 0} (f g : A → ℕ) (xs : List A) → ((y : A) → f y ≤ g y) → sum_by f xs ≤ sum_by g xs
-sum_le f g xs h = sum_by-le-sum_by f g xs h
-
-pub sum_lt : {A : Type 0} (f g : A → ℕ) (x : A) (xs : List A) → ((y : A) → f y ≤ g y) → In x xs → f x < g x → sum_by f xs < sum_by g xs
-sum_lt f g x [] h i lt = absurd i
-sum_lt f g x (y ∷ ys) h (inl e) lt = let r = sum_le f g ys h in let l : f y < g y = subst (λ z. f z < g z) e lt in rw (sum_by-cons f y ys, sum_by-cons g y ys) (omega (arith, r, l))
-sum_lt f g x (y ∷ ys) h (inr i) lt = let r = sum_lt f g x ys h i lt in rw (sum_by-cons f y ys, sum_by-cons g y ys) (omega (arith, r, h y))
-
-pub sum_filter : {A : Type 0} (f : A → ℕ) (q : A → Bool) (xs : List A) → sum_by f (filter q xs) ≤ sum_by f xs
-sum_filter f q [] = omega arith
-sum_filter f q (x ∷ xs) = let r = sum_filter f q xs in elim (q x) as (λ b. sum_by f (cond b (x ∷ filter q xs) (filter q xs)) ≤ sum_by f (x ∷ xs)) [
-  | true ↦ rw (sum_by-cons f x (filter q xs), sum_by-cons f x xs) (omega (arith, r))
-  | false ↦ rw (sum_by-cons f x xs) (omega (arith, r))
-]
+use Rattle.fuxi_terms.proofs.Booleans.{both_true, and_true, either}
+use Rattle.fuxi_terms.proofs.Members.{In, sum_filter, both_empty, none_passes, mapped_empty, sum_lt, in_below}
+use Rattle.fuxi_terms.proofs.Sums.{held_more, held_one}
 
 -- the first of the candidates is one of them
 pub least_has : (P : Ranked → Type 0) (r : Ranked) (rs : List Ranked) → P r → AllByRecursion P rs → P (least r rs)
@@ -106,19 +52,6 @@ first_found M (r ∷ rs) s h e = let same : (least r rs).spot ≡ s = cc in subs
 first_good : (c : ClusterRecord) (M : Master) (s : Spot) → first_placeable c M ≡ Some s → Good M s
 first_good c M s e = first_found M (candidates c M 0 M.line) s
     (all_candidates (GoodRank M) c M 0 M.line (λ p place m i t. record { spot = record { pair = i; out = (both_true _ _ (both_true _ _ (both_true _ _ t).0).1).0 } })) e
-
-pub one_count : (t : List (Spot × ℕ)) (s : Spot) → set_count spot_cmp t s (count spot_cmp t s + 1) ≡ put spot_cmp s (count spot_cmp t s + 1) t
-one_count t s = let e : nat_eq (count spot_cmp t s + 1) 0 ≡ false = grind (arith, nat_tests) in ap (λ b. cond b (where_key spot_cmp (λ x. not (eq_by_cmp spot_cmp s x)) t) (put spot_cmp s (count spot_cmp t s + 1) t)) e
-
-pub held_more : (t : List (Spot × ℕ)) (s : Spot) (a u : ℕ) → held t a u ≤ held (set_count spot_cmp t s (count spot_cmp t s + 1)) a u
-held_more t s a u = subst (λ t'. held t a u ≤ held t' a u) (sym (one_count t s)) (sum_put same_spot (λ k. nat_eq k.job a && nat_eq k.unit u) s (count spot_cmp t s + 1) t (omega arith))
-
-pub held_one : (t : List (Spot × ℕ)) (s : Spot) → held t s.job s.unit < held (set_count spot_cmp t s (count spot_cmp t s + 1)) s.job s.unit
-held_one t s = subst (λ t'. held t s.job s.unit < held t' s.job s.unit) (sym (one_count t s))
-    (sum_put_more same_spot (λ k. nat_eq k.job s.job && nat_eq k.unit s.unit) s (count spot_cmp t s + 1) t (itself s.job s.unit) (omega arith))
-  where
-    itself : (a u : ℕ) → (nat_eq a a && nat_eq u u) ≡ true
-    itself a u = let x : nat_eq a a ≡ true = grind (arith, nat_tests) in let y : nat_eq u u ≡ true = grind (arith, nat_tests) in rw (x, y)
 
 falls : (M : Master) (s : Spot) → Good M s → all_out (granted M s) < all_out M
 falls M s g =
@@ -172,37 +105,6 @@ settled_run c ss M M' p = settle_run c ss (all_out M) M M' (omega arith) p
 no_candidates : (rs : List Ranked) → first_of rs ≡ None → rs ≡ []
 no_candidates [] e = refl
 no_candidates (r ∷ rs) e = cc
-
-both_empty : {A : Type 0} (xs ys : List A) → xs ++ ys ≡ [] → (xs ≡ []) × (ys ≡ [])
-both_empty [] ys e = (refl, e)
-both_empty (x ∷ xs) ys e = cc
-
-mapped_empty : {A B : Type 0} (f : A → B) (xs : List A) → map f xs ≡ [] → xs ≡ []
-mapped_empty f [] e = refl
-mapped_empty f (x ∷ xs) e = cc
-
-none_passes : (q : ℕ → Bool) (m : ℕ) (ms : List ℕ) → filter q ms ≡ [] → In m ms → q m ≡ false
-none_passes q m [] e i = absurd i
-none_passes q m (n ∷ ms) e i = elim (q n) as (λ b. q n ≡ b → cond b (n ∷ filter q ms) (filter q ms) ≡ [] → q m ≡ false) [
-  | true ↦ λ t e. cc
-  | false ↦ λ t e. elim i [ inl same ↦ ap q same ∙ t | inr later ↦ none_passes q m ms e later ]
-] refl e
-
-in_front : (x : ℕ) (xs ys : List ℕ) → In x xs → In x (xs ++ ys)
-in_front x [] ys i = absurd i
-in_front x (z ∷ xs) ys (inl e) = inl e
-in_front x (z ∷ xs) ys (inr i) = inr (in_front x xs ys i)
-
-at_last : (x : ℕ) (xs : List ℕ) → In x (xs ++ x ∷ [])
-at_last x [] = inl refl
-at_last x (z ∷ xs) = inr (at_last x xs)
-
-in_below : (n m : ℕ) → nat_lt m n ≡ true → In m (below n)
-in_below zero m lt = absurd (let f : m < 0 = grind (arith, nat_tests, lt) in omega (arith, f))
-in_below (suc n) m lt = elim (nat_lt m n) as (λ b. nat_lt m n ≡ b → In m (below n ++ n ∷ [])) [
-  | true ↦ λ t. in_front m (below n) (n ∷ []) (in_below n m t)
-  | false ↦ λ t. let same : m ≡ n = grind (arith, nat_tests, lt, t) in subst (λ k. In k (below n ++ n ∷ [])) (sym same) (at_last n (below n))
-] refl
 
 none_of_line : (c : ClusterRecord) (M : Master) (place : ℕ) (ps : List (ℕ × ℕ)) → candidates c M place ps ≡ [] → (a u m : ℕ) → has_pair (a, u) ps ≡ true → has_machine c m ≡ true → placeable c M a u m ≡ false
 none_of_line c M place [] e a u m has there = cc

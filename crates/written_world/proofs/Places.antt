@@ -1,12 +1,8 @@
 -- One place of a table of parties and peers is changed.
-use Rattle.std.proofs.Common.{◌≡◌, ℕ, true, nat_eq, subst, arith}
+use Rattle.std.proofs.Common.{◌≡◌, true, nat_eq, subst}
 use Rattle.std.specs.Prelude.{◌&&◌}
-use Rattle.std.proofs.lemmas.Bool.Decides.{nat_tests}
 use Rattle.written_world.specs.Net.{Party, Id, same_id, same_party, set_at}
-use Rattle.written_world.proofs.Choosing.{both_true, either_case}
-
-pub number_is : (a b : ℕ) → nat_eq a b ≡ true → a ≡ b
-number_is a b e = grind (arith, nat_tests)
+use Rattle.fuxi_terms.proofs.Booleans.{both_true, either_case, number_is}
 
 pub id_is : (a b : Id) → same_id a b ≡ true → a ≡ b
 id_is a b e =

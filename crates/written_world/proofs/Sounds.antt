@@ -5,13 +5,14 @@ use Rattle.std.specs.List.{AllByRecursion}
 use Rattle.std.specs.Option.{unwrap_or}
 use Rattle.std.proofs.lemmas.Bool.Decides.{nat_tests}
 use Rattle.fuxi_terms.specs.Lists.{numbers_from}
-use Rattle.written_world.specs.Net.{Net, Party, Id, Link, Packet, Kind, Ack, Delta, Full, Heard, What, Stranger, NotMine, Taken, Old, Gap, Stale, Acked, last, set_at, unknown, same_id, same_party, met, acknowledge, place_moved, unmoved, hear, hear_peer, heard_of, word_of, link_after, kept_changes, turn_deltas, notes, turn, Move, Starts, Posts, Turns, Hears, Resyncs, comes, with_links, move}
+use Rattle.written_world.specs.Net.{Net, Party, Id, Link, Packet, Kind, Ack, Delta, Full, Heard, What, Stranger, NotMine, Taken, Old, Gap, Stale, Acked, last, set_at, unknown, same_id, same_party, met, acknowledge, place_moved, unmoved, hear, hear_peer, heard_of, word_of, link_after, notes, turn, Move, Starts, Posts, Turns, Hears, Resyncs, comes, with_links, move}
+use Rattle.fuxi_terms.specs.Limits.{kept_changes, turn_deltas}
 use Rattle.written_world.specs.Channels.{at_index}
 use Rattle.written_world.specs.Sound.{Shape, Names, NamesAt, PacketNames, LinkNames, Rising, Sound, Current, Allowed}
-use Rattle.written_world.proofs.Alls.{all_append, all_more}
-use Rattle.written_world.proofs.Choosing.{both_true, either, either_case}
-use Rattle.written_world.proofs.Places.{id_is, party_is, number_is, set_at_all}
-use Rattle.written_world.proofs.Bounds.{met_known, in_numbers, found_within, twice_not}
+use Rattle.fuxi_terms.proofs.Alls.{all_append, all_more}
+use Rattle.fuxi_terms.proofs.Booleans.{both_true, either, either_case, number_is, not_false, both_false}
+use Rattle.written_world.proofs.Places.{id_is, party_is, set_at_all}
+use Rattle.written_world.proofs.Bounds.{met_known, in_numbers, found_within}
 
 -- a history with more entries behind it
 pub record Longer {L : Type 0} (d : L) (h h' : List L) : Type 0 where
@@ -141,7 +142,7 @@ module _ {L : Type 0} (S : Shape L) where
       (λ _. record { link = h })
       (λ ours. either (HeardNames hs p x.from.id) (nat_lt x.from.inc l.known) (unmoved Stale l) peer
       (λ _. record { link = h })
-      (λ t. peer_names hs p l x (id_is x.to.id p.id (both_true _ _ (twice_not _ ours)).0) t n h))
+      (λ t. peer_names hs p l x (id_is x.to.id p.id (both_true _ _ (not_false _ ours)).0) t n h))
 
   -- between an index that has the known head and the last, which has it too, each entry has it
   pub between : (net : Net L) (p : Party) (q : Id) (a n : ℕ) → Rising S (net.histories p q) (net.links p q).known → 1 ≤ n → a ≤ n → n ≤ last net p q
@@ -161,9 +162,9 @@ module _ {L : Type 0} (S : Shape L) where
       let within = (s.links p q).acked.there in
       either P (nat_eq l.known 0 || (nat_eq top 0 || nat_eq l.acked top)) [] (cond (nat_eq l.acked 0 || nat_lt kept_changes (top - l.acked)) (full ∷ []) (map delta (numbers_from (l.acked + 1) few)))
       (λ _. tt) (λ some. either P (nat_eq l.acked 0 || nat_lt kept_changes (top - l.acked)) (full ∷ []) (map delta (numbers_from (l.acked + 1) few))
-      (λ _. let pos : 1 ≤ top = grind (arith, nat_tests, (or_false (nat_eq top 0) (nat_eq l.acked top) (or_false (nat_eq l.known 0) (nat_eq top 0 || nat_eq l.acked top) some).1).0) in
+      (λ _. let pos : 1 ≤ top = grind (arith, nat_tests, (both_false (nat_eq top 0) (nat_eq l.acked top) (both_false (nat_eq l.known 0) (nat_eq top 0 || nat_eq l.acked top) some).1).0) in
       (record { own = refl; first = pos; names = record { there = omega arith; head = λ hd pos. c.head hd pos } }, tt))
-      (λ no. let apos : 1 ≤ l.acked = grind (arith, nat_tests, or_false (nat_eq l.acked 0) (nat_lt kept_changes (top - l.acked)) no) in
+      (λ no. let apos : 1 ≤ l.acked = grind (arith, nat_tests, both_false (nat_eq l.acked 0) (nat_lt kept_changes (top - l.acked)) no) in
       in_numbers (λ x. PacketNames S net.histories x.kind x) delta (l.acked + 1) few (λ i le lt. record {
         own = refl;
         first = omega arith;
@@ -172,10 +173,6 @@ module _ {L : Type 0} (S : Shape L) where
           head = λ hd pos. between net p q l.acked i (s.heads p q hd) pos (omega arith) (omega (arith, within)) (λ a. (s.links p q).acked.head hd a) apos;
         };
       })))
-    where
-      or_false : (a b : Bool) → (a || b) ≡ false → (a ≡ false) × (b ≡ false)
-      or_false true b e = cc
-      or_false false b e = (refl, e)
 
   turned_sound : (net : Net L) (p : Party) (q : Id) → Sound S net → Current S net p q → Sound S (move net (Turns p q))
   turned_sound net p q s c = record {

@@ -5,9 +5,10 @@ use Rattle.std.specs.Ordering.{nat_cmp, eq_by_cmp}
 use Rattle.std.specs.Cmp.{nat_cmp_total}
 use Rattle.std.specs.FinMap.Entries.{find, put, find-put}
 use Rattle.std.proofs.lemmas.Bool.Decides.{nat_tests}
-use Rattle.fuxi_terms.specs.Cluster.{ClusterRecord}
+use Rattle.fuxi_terms.specs.Cluster.{ClusterRecord, has_machine}
 use Rattle.written_world.specs.Net.{Net, Party, Id, Link, same_id, same_party}
-use Rattle.written_world.specs.Ledgers.{Ledger, nothing, at_key, count_key}
+use Rattle.written_world.specs.Ledgers.{Ledger, nothing, at_key}
+use Rattle.fuxi_terms.specs.TallyKeys.{count_key}
 use Rattle.written_world.specs.Channels.{master_id, agent_id, app_id, party, is_agent, is_app, at_index, present, Offer, publish}
 use Rattle.written_world.specs.Masters.{Master}
 use Rattle.written_world.specs.Placing.{first_placeable, granted, settle, settled, all_out, line_up}
@@ -16,8 +17,9 @@ use Rattle.written_world.specs.World.{World, Agent, App, Carried, top, master_pa
 use Rattle.written_world.specs.MasterSteps.{peers, offers, projection, row, grants, is_one_of, phased, ready, end_step}
 use Rattle.written_world.specs.Sound.{Sound}
 use Rattle.written_world.specs.Good.{has_heads, shape, HasJoined, HasOrigin, IsCredited}
-use Rattle.written_world.proofs.Places.{party_is, number_is}
-use Rattle.written_world.specs.Jobs.{KnownJob, has_machine, is_known, unit_count}
+use Rattle.written_world.proofs.Places.{party_is}
+use Rattle.fuxi_terms.proofs.Booleans.{number_is}
+use Rattle.fuxi_terms.specs.Jobs.{KnownJob, is_known, unit_count}
 use Rattle.written_world.proofs.Writing.{DemandsHold, KnowsMore, knows_then, wider, publish_each}
 use Rattle.written_world.proofs.Crediting.{credited_view, view_grows, credited_like}
 use Rattle.written_world.specs.Safe.{RowsFit}

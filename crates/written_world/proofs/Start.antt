@@ -4,7 +4,8 @@ use Rattle.std.specs.List.{AllByRecursion}
 use Rattle.fuxi_terms.specs.declared.Key.{Key}
 use Rattle.fuxi_terms.specs.Cluster.{ClusterRecord}
 use Rattle.written_world.specs.Net.{silent}
-use Rattle.written_world.specs.Ledgers.{Ledger, nothing, at_key, count_key}
+use Rattle.written_world.specs.Ledgers.{Ledger, nothing, at_key}
+use Rattle.fuxi_terms.specs.TallyKeys.{count_key}
 use Rattle.written_world.specs.Channels.{at_index}
 use Rattle.written_world.specs.World.{empty_world}
 use Rattle.written_world.specs.Safe.{RowsFit}

@@ -6,20 +6,21 @@ use Rattle.std.specs.FinMap.Entries.{find}
 use Rattle.fuxi_terms.specs.declared.Key.{Key}
 use Rattle.fuxi_terms.specs.Cluster.{ClusterRecord}
 use Rattle.written_world.specs.Net.{Net, Party, Id, Packet, Move, Posts, Turns, Starts, Hears, Resyncs, move, comes, silent, heard_of}
-use Rattle.written_world.specs.Ledgers.{Ledger}
+use Rattle.written_world.specs.Ledgers.{Ledger, same_ledger, report_ledger}
 use Rattle.written_world.specs.Channels.{master_id, agent_id, app_id, party, is_master, is_agent, is_app, present, Offer, to_master, publish_one, publish}
 use Rattle.written_world.specs.Masters.{Master}
-use Rattle.written_world.specs.Ledgers.{same_ledger, report_ledger, want_key, near_key, rack_key, avoid_key, back_key}
-use Rattle.written_world.specs.Jobs.{job_numbers, without_number}
+use Rattle.fuxi_terms.specs.TallyKeys.{want_key, near_key, rack_key, avoid_key, back_key}
+use Rattle.fuxi_terms.specs.Jobs.{job_numbers, eight_places}
+use Rattle.fuxi_terms.specs.Numbers.{without_number}
 use Rattle.written_world.specs.HardState.{raised, submitted, finished, banned, unbanned, with_job}
 use Rattle.written_world.specs.Preemption.{plan_of, preempted}
 use Rattle.written_world.specs.Refusals.{Refusal}
 use Rattle.written_world.specs.World.{World, Agent, App, Step, empty_world, prints_nothing, refused, with_found, master_party}
 use Rattle.written_world.specs.MasterSteps.{talks, peers, offers, ready, end_step, master_hears, told, received, adopted_now}
 use Rattle.written_world.specs.Agents.{joined, agent_table, agent_hears, app_hears, joined_demand}
-use Rattle.written_world.specs.Events.{eight_places, Event, StartMaster, StopMaster, StartAgent, StartApp, Submit, Finish, Ban, Unban, Begin, Preempt, Want, Near, Rack, Avoid, GiveBack, TurnMaster, TurnAgent, TurnApp, ResyncMaster, ResyncAgent, ResyncApp, Deliver, DeliverRange, Dump, ShowState, at_master, at_agent, at_app, changed_demand, demanded, send_all, turned, turn_to_master, resync_all, resynced, addressed, packet_of, deliver_one, deliver_all, given_back, new_master, agent_started, app_started, ended_in, banned_in, act, counted_in, world_step}
+use Rattle.written_world.specs.Events.{Event, StartMaster, StopMaster, StartAgent, StartApp, Submit, Finish, Ban, Unban, Begin, Preempt, Want, Near, Rack, Avoid, GiveBack, TurnMaster, TurnAgent, TurnApp, ResyncMaster, ResyncAgent, ResyncApp, Deliver, DeliverRange, Dump, ShowState, at_master, at_agent, at_app, changed_demand, demanded, send_all, turned, turn_to_master, resync_all, resynced, addressed, packet_of, deliver_one, deliver_all, given_back, new_master, agent_started, app_started, ended_in, banned_in, act, counted_in, world_step}
 use Rattle.written_world.specs.Runs.{run_from, run}
-use Rattle.written_world.proofs.Choosing.{either}
+use Rattle.fuxi_terms.proofs.Booleans.{either}
 
 pub found_has : {A B : Type 0} (P : B → Type 0) (o : Option A) (b : B) (f : A → B) → P b → ((x : A) → o ≡ Some x → P (f x)) → P (with_found o b f)
 found_has P None b f h k = h

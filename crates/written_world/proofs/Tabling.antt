@@ -11,20 +11,23 @@ use Rattle.fuxi_terms.specs.Cluster.{ClusterRecord, JobRecord}
 use Rattle.fuxi_terms.specs.Keys.{key_cmp, RowKey, Spot, spot_cmp}
 use Rattle.fuxi_terms.specs.Counts.{count, set_count}
 use Rattle.written_world.specs.Net.{Id, Heard}
-use Rattle.written_world.specs.Ledgers.{Ledger, nothing, at_key, count_key, want_key, credited_key, is_back}
+use Rattle.written_world.specs.Ledgers.{Ledger, nothing, at_key}
+use Rattle.fuxi_terms.specs.TallyKeys.{count_key, want_key, credited_key, is_back}
 use Rattle.written_world.specs.Channels.{is_agent}
-use Rattle.written_world.specs.Jobs.{KnownJob, job_of, is_live, unit_count, priority_of, below, has_number, job_numbers}
-use Rattle.written_world.specs.Masters.{Master, spot, demand_of, asked, out, credited_of}
+use Rattle.fuxi_terms.specs.Jobs.{KnownJob, job_of, is_live, unit_count, priority_of, job_numbers}
+use Rattle.fuxi_terms.specs.Lists.{below}
+use Rattle.fuxi_terms.specs.Numbers.{has_number}
+use Rattle.written_world.specs.Masters.{Master, demand_of, asked, out, credited_of}
+use Rattle.fuxi_terms.specs.Tables.{spot, without_grants}
 use Rattle.written_world.specs.Placing.{first_placeable, granted, settle, settled, all_out, waiting_pairs, has_pair, line_up, is_usable, is_allowed, has_room, may_grow, placeable}
-use Rattle.written_world.specs.Preemption.{Plan, victims, priorities, by_priority, tried, first_plan, plan_of, preempted, without_grants}
+use Rattle.written_world.specs.Preemption.{Plan, victims, priorities, by_priority, tried, first_plan, plan_of, preempted}
 use Rattle.written_world.specs.HardState.{with_job, with_ended}
 use Rattle.written_world.specs.MasterSteps.{phased, ready, is_kept, adopted, adopts, take_report, credit, raise_credited, take_demand, meet_app, is_taken, told}
 use Rattle.written_world.specs.Events.{ended_in, banned_in}
-use Rattle.written_world.proofs.Spots.{each_put, each_where, each_found, each_set}
-use Rattle.written_world.proofs.Alls.{all_append, all_mapped, all_flat, all_passed, all_filter}
-use Rattle.written_world.proofs.Choosing.{both_true, either}
-use Rattle.written_world.proofs.Keys.{key_total, spot_total}
-use Rattle.written_world.proofs.Places.{number_is}
+use Rattle.fuxi_terms.proofs.Spots.{each_put, each_where, each_found, each_set}
+use Rattle.fuxi_terms.proofs.Alls.{all_append, all_mapped, all_flat, all_passed, all_filter}
+use Rattle.fuxi_terms.proofs.Booleans.{both_true, either, number_is}
+use Rattle.fuxi_terms.proofs.KeyOrders.{key_total, spot_total}
 use Rattle.written_world.proofs.Placed.{is_placeable}
 use Rattle.written_world.proofs.Crediting.{found_put, put_beside}
 

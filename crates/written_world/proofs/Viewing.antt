@@ -5,8 +5,7 @@ use Rattle.written_world.specs.Ledgers.{Ledger, nothing}
 use Rattle.written_world.specs.Channels.{at_index, party, view, present, is_caught_up}
 use Rattle.written_world.specs.Sound.{Bounded}
 use Rattle.written_world.specs.Safe.{Views}
-use Rattle.written_world.proofs.Choosing.{both_true}
-use Rattle.written_world.proofs.Places.{number_is}
+use Rattle.fuxi_terms.proofs.Booleans.{both_true, number_is}
 
 pub caught_up : (net : Net Ledger) (s r : Party) → is_caught_up net s r ≡ true → view net r s.id ≡ present net s r.id
 caught_up net s r e =

@@ -5,9 +5,10 @@ use Rattle.std.specs.FinMap.Entries.{put, where_key, find}
 use Rattle.fuxi_terms.specs.Vectors.{at_place}
 use Rattle.fuxi_terms.specs.Keys.{key_cmp, RowKey}
 use Rattle.written_world.specs.Net.{Net, Party, Link, Packet, comes, heard_of}
-use Rattle.written_world.specs.Ledgers.{Ledger, report_ledger, tally_ledger, at_key, reported_key, count_key, credited_key, back_key, is_back}
+use Rattle.written_world.specs.Ledgers.{Ledger, report_ledger, tally_ledger, at_key}
+use Rattle.fuxi_terms.specs.TallyKeys.{reported_key, count_key, credited_key, back_key, is_back}
 use Rattle.written_world.specs.Channels.{master_id, agent_id, app_id, party, is_master, view, present, to_master, publish}
-use Rattle.written_world.specs.Jobs.{below}
+use Rattle.fuxi_terms.specs.Lists.{below}
 use Rattle.written_world.specs.World.{World, Agent, App, Carried}
 
 -- a party hears a packet of a master; where it meets a new one, it answers with this ledger

@@ -2,7 +2,8 @@
 use Rattle.std.specs.Prelude.{ℕ, zero, suc, ◌+◌, ◌-◌, Bool, false, cond, not, nat_eq, ◌&&◌, ◌||◌, List, [], ◌∷◌, slice_get}
 use Rattle.std.specs.Option.{unwrap_or}
 use Rattle.written_world.specs.Net.{Net, Party, Id, Packet, Kind, Ack, Delta, Full, last, move, Posts}
-use Rattle.written_world.specs.Ledgers.{Ledger, nothing, same_ledger, Body, Empty, whole_body, change_body, body_length, credited_what, back_what}
+use Rattle.written_world.specs.Ledgers.{Ledger, nothing, same_ledger, Body, Empty, whole_body, change_body, body_length}
+use Rattle.fuxi_terms.specs.TallyKeys.{credited_what, back_what}
 
 abbrev pub master_id : Id
 master_id = record { role = 1; number = 0 }

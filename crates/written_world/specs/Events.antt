@@ -3,14 +3,16 @@ use Rattle.std.specs.Prelude.{ℕ, zero, suc, ◌+◌, ◌-◌, Bool, true, fals
 use Rattle.std.specs.Ordering.{nat_cmp}
 use Rattle.std.specs.FinMap.Entries.{put, where_key, find}
 use Rattle.fuxi_terms.specs.declared.Key.{Key}
-use Rattle.fuxi_terms.specs.Cluster.{ClusterRecord, JobRecord, UnitRecord, has_rack, greatest_count}
-use Rattle.fuxi_terms.specs.Padded.{padded}
+use Rattle.fuxi_terms.specs.Cluster.{ClusterRecord, JobRecord, has_rack, has_machine, has_group}
+use Rattle.fuxi_terms.specs.Limits.{greatest_count, greatest_back, most_masters}
 use Rattle.fuxi_terms.specs.Keys.{key_cmp, spot_cmp}
 use Rattle.fuxi_terms.specs.Counts.{set_count}
 use Rattle.written_world.specs.Net.{Net, Party, Id, Packet, Heard, move, Starts, Turns, Resyncs, heard_of}
-use Rattle.written_world.specs.Ledgers.{Ledger, nothing, at_key, want_key, near_key, rack_key, avoid_key, back_key, greatest_back}
+use Rattle.written_world.specs.Ledgers.{Ledger, nothing, at_key}
+use Rattle.fuxi_terms.specs.TallyKeys.{want_key, near_key, rack_key, avoid_key, back_key}
 use Rattle.written_world.specs.Channels.{master_id, agent_id, app_id, party, is_master, is_agent, is_app, view, present, to_master, publish, body_of}
-use Rattle.written_world.specs.Jobs.{is_known, has_ended, unit_count, has_machine, has_group, job_numbers, with_number, without_number}
+use Rattle.fuxi_terms.specs.Jobs.{is_known, has_ended, unit_count, job_numbers, eight_places}
+use Rattle.fuxi_terms.specs.Numbers.{with_number, without_number}
 use Rattle.written_world.specs.Masters.{Master}
 use Rattle.written_world.specs.Preemption.{plan_of, preempted}
 use Rattle.written_world.specs.Refusals.{Refusal, NotRunning, NotRising, TooManyMasters, NoMachine, NoRack, NoGroup, NoJob, NoUnit, Ended, AlreadyServing, NotServing, NothingToPreempt, WantRange, NotUsable, BackRange, NoPacket, job_tests}
@@ -59,10 +61,6 @@ at_agent w m f = with_found (find nat_cmp m w.agents) (refused w NotRunning) f
 abbrev pub at_app : World → ℕ → (App → Step) → Step
 at_app w a f = with_found (find nat_cmp a w.apps) (refused w NotRunning) f
 
--- Starts and stops. A master starts with the jobs and bans of the hard state, and each of its jobs has its grants appended
-abbrev pub most_masters : ℕ
-most_masters = 16
-
 abbrev pub new_master : World → ℕ → Master
 new_master w e = record { epoch = e; jobs = w.hard.jobs; bans = w.hard.bans; serving = false; reported = []; table = []; demands = []; credited = []; line = [] }
 
@@ -91,10 +89,6 @@ app_started w a b = record (started w (app_id a) b) { apps = put nat_cmp a (reco
 abbrev pub start_app : World → ℕ → ℕ → Step
 start_app w a b = unless_refused w ((not (is_known w.hard.jobs a), NoJob) ∷ (has_ended w.hard.jobs a, Ended) ∷ (not (nat_lt (w.boots (app_id a)) b), NotRising (w.boots (app_id a))) ∷ [])
     (λ w. prints_nothing (app_started w a b))
-
--- a job is known with its sizes in eight places, zeros behind those of the cluster
-abbrev pub eight_places : JobRecord → JobRecord
-eight_places j = record j { units = map (λ (u : UnitRecord). record u { size = padded u.size }) j.units }
 
 -- What is written to the hard state through a master. An admitted job has its grants appended
 abbrev pub submit : World → ℕ → JobRecord → Step

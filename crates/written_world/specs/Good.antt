@@ -4,14 +4,18 @@ use Rattle.std.specs.List.{AllByRecursion, list_any}
 use Rattle.std.specs.Ordering.{nat_cmp}
 use Rattle.std.specs.FinMap.Entries.{find}
 use Rattle.fuxi_terms.specs.declared.Key.{Key}
-use Rattle.fuxi_terms.specs.Cluster.{ClusterRecord, greatest_count}
+use Rattle.fuxi_terms.specs.Cluster.{ClusterRecord, has_at}
+use Rattle.fuxi_terms.specs.Limits.{greatest_count}
 use Rattle.fuxi_terms.specs.Keys.{key_cmp, RowKey, spot_cmp}
 use Rattle.fuxi_terms.specs.Counts.{count, AreCounts}
 use Rattle.written_world.specs.Net.{Net, Party, Id, same_party, last}
-use Rattle.written_world.specs.Ledgers.{Ledger, nothing, at_key, count_key, credited_key, back_key, greatest_in_demand}
+use Rattle.written_world.specs.Ledgers.{Ledger, nothing, at_key, greatest_in_demand}
+use Rattle.fuxi_terms.specs.TallyKeys.{count_key, credited_key, back_key}
 use Rattle.written_world.specs.Channels.{master_id, agent_id, app_id, party, at_index, view, present}
-use Rattle.written_world.specs.Jobs.{KnownJob, is_known, is_live, unit_count, unit_of, has_at, has_number}
-use Rattle.written_world.specs.Masters.{Master, total_at, out, demand_of, credited_of}
+use Rattle.fuxi_terms.specs.Jobs.{KnownJob, is_known, is_live, unit_count, unit_of}
+use Rattle.fuxi_terms.specs.Numbers.{has_number}
+use Rattle.written_world.specs.Masters.{Master, out, demand_of, credited_of}
+use Rattle.fuxi_terms.specs.Tables.{total_at}
 use Rattle.written_world.specs.Placing.{has_pair, placeable}
 use Rattle.written_world.specs.HardState.{HardState}
 use Rattle.written_world.specs.World.{World, Agent, App, Carried, top, master_party}

@@ -1,8 +1,10 @@
 -- Hard state: what is written before it is answered, and survives every master.
 use Rattle.std.specs.Prelude.{ℕ, ◌+◌, Bool, true, false, cond, not, nat_eq, nat_lt, List, [], ◌∷◌, ◌++◌, map, Some, None, Result, Ok, Err}
 use Rattle.fuxi_terms.specs.Cluster.{JobRecord}
-use Rattle.written_world.specs.Jobs.{KnownJob, is_known, has_ended, has_number, with_number, without_number}
+use Rattle.fuxi_terms.specs.Jobs.{KnownJob, is_known, has_ended}
+use Rattle.fuxi_terms.specs.Numbers.{has_number, with_number, without_number}
 use Rattle.written_world.specs.Refusals.{Refusal, NotRising, HardFull, Fenced, Known, NoJob, Ended, AlreadyBanned, NotBanned, first_refusal}
+use Rattle.fuxi_terms.specs.Limits.{most_records}
 
 -- jobs in the order of their submission, the machines that are banned, the fence, which is the greatest epoch that ever started, and
 -- the number of records written
@@ -14,9 +16,6 @@ pub record HardState : Type 0 where
 
 abbrev pub empty_hard : HardState
 empty_hard = record { jobs = []; bans = []; fence = 0; records = 0 }
-
-abbrev pub most_records : ℕ
-most_records = 65536
 
 abbrev pub is_full : HardState → Bool × Refusal
 is_full h = (not (nat_lt h.records most_records), HardFull most_records)

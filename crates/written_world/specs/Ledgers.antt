@@ -1,10 +1,11 @@
 -- The four kinds of ledger as one record, and what packets hold of them.
 use Rattle.std.specs.Prelude.{ℕ, ◌+◌, ◌*◌, ℤ, Bool, cond, nat_eq, ◌&&◌, List, [], length}
 use Rattle.fuxi_terms.specs.declared.Key.{Key}
-use Rattle.fuxi_terms.specs.Cluster.{greatest_count}
+use Rattle.fuxi_terms.specs.Limits.{greatest_count, greatest_back}
 use Rattle.fuxi_terms.specs.Keys.{key_cmp, RowKey, row_cmp}
 use Rattle.fuxi_terms.specs.Counts.{count, is_same, difference}
 use Rattle.fuxi_terms.specs.Tallies.{ChangeRecord, tally_difference}
+use Rattle.fuxi_terms.specs.TallyKeys.{is_back}
 
 -- a row has rows alone; a report of an agent that joins has the epoch as head, and rows; grants have the application's
 -- boot as head, and entries; a demand has the epoch as head, and entries
@@ -27,48 +28,6 @@ tally_ledger head entries = record { head = head; rows = []; entries = entries }
 
 abbrev pub same_ledger : Ledger → Ledger → Bool
 same_ledger a b = nat_eq a.head b.head && (is_same row_cmp a.rows b.rows && is_same key_cmp a.entries b.entries)
-
-abbrev pub key : ℕ → ℕ → ℕ → Key
-key what unit number = record { what = what; unit = unit; number = number }
-
--- the keys of grants: a machine that is reported, a count, and what is credited of numbers given back
-abbrev pub reported_key : ℕ → Key
-reported_key m = key 1 0 m
-
-abbrev pub count_key : ℕ → ℕ → Key
-count_key u m = key 2 u m
-
-abbrev pub credited_what : ℕ
-credited_what = 3
-
-abbrev pub credited_key : ℕ → ℕ → Key
-credited_key u m = key credited_what u m
-
--- the keys of a demand: how many are wanted in all, on a machine and in a rack, a machine that is avoided, and how many are given back
-abbrev pub want_key : ℕ → Key
-want_key u = key 1 u 0
-
-abbrev pub near_key : ℕ → ℕ → Key
-near_key u m = key 2 u m
-
-abbrev pub rack_key : ℕ → ℕ → Key
-rack_key u r = key 3 u r
-
-abbrev pub avoid_key : ℕ → ℕ → Key
-avoid_key u m = key 4 u m
-
-abbrev pub back_what : ℕ
-back_what = 5
-
-abbrev pub back_key : ℕ → ℕ → Key
-back_key u m = key back_what u m
-
-abbrev pub is_back : Key → Bool
-is_back k = nat_eq k.what back_what
-
--- the greatest number in a demand
-abbrev pub greatest_back : ℕ
-greatest_back = 1000000000000
 
 abbrev pub greatest_in_demand : Key → ℕ
 greatest_in_demand k = cond (is_back k) greatest_back (cond (nat_eq k.what 4) 1 greatest_count)

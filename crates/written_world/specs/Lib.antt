@@ -1,7 +1,6 @@
 pub mod Net
 pub mod Ledgers
 pub mod Channels
-pub mod Jobs
 pub mod Masters
 pub mod Placing
 pub mod Preemption
@@ -20,5 +19,4 @@ pub mod Sound
 pub mod Good
 pub mod Shown
 pub mod Credits
-pub mod Patching
 pub mod Settling

@@ -5,14 +5,18 @@ use Rattle.std.specs.Ordering.{nat_cmp}
 use Rattle.std.specs.FinMap.Entries.{put, where_key}
 use Rattle.fuxi_terms.specs.declared.Key.{Key}
 use Rattle.fuxi_terms.specs.Vectors.{fits}
-use Rattle.fuxi_terms.specs.Cluster.{ClusterRecord, has_rack}
+use Rattle.fuxi_terms.specs.Cluster.{ClusterRecord, has_rack, has_machine}
 use Rattle.fuxi_terms.specs.Keys.{key_cmp, RowKey, Spot, spot_cmp}
 use Rattle.fuxi_terms.specs.Counts.{count, set_count}
 use Rattle.written_world.specs.Net.{Net, Id, Packet, Heard, What, Taken, Stranger, Stale, Acked, NotMine, Old, Gap, comes, heard_of}
-use Rattle.written_world.specs.Ledgers.{Ledger, nothing, row_ledger, tally_ledger, reported_key, count_key, credited_key, is_back}
+use Rattle.written_world.specs.Ledgers.{Ledger, nothing, row_ledger, tally_ledger}
+use Rattle.fuxi_terms.specs.TallyKeys.{reported_key, count_key, credited_key, is_back}
 use Rattle.written_world.specs.Channels.{agent_id, app_id, is_agent, is_app, Offer, publish, content}
-use Rattle.written_world.specs.Jobs.{KnownJob, is_known, is_live, unit_of, unit_count, has_machine, below, has_number, with_number, job_numbers}
-use Rattle.written_world.specs.Masters.{Master, spot, credited_of}
+use Rattle.fuxi_terms.specs.Jobs.{KnownJob, is_known, is_live, unit_of, unit_count, job_numbers}
+use Rattle.fuxi_terms.specs.Lists.{below}
+use Rattle.fuxi_terms.specs.Numbers.{has_number, with_number}
+use Rattle.written_world.specs.Masters.{Master, credited_of}
+use Rattle.fuxi_terms.specs.Tables.{spot}
 use Rattle.written_world.specs.Placing.{line_up, settled}
 use Rattle.written_world.specs.World.{World, master_party}
 

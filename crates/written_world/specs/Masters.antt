@@ -1,15 +1,15 @@
 -- A master's state: its table of grants, the demands that it has taken, and its line.
-use Rattle.std.specs.Prelude.{ℕ, ◌-◌, ◌*◌, Bool, cond, nat_eq, nat_lt, ◌&&◌, List, []}
+use Rattle.std.specs.Prelude.{ℕ, ◌-◌, Bool, cond, nat_lt, List, []}
 use Rattle.std.specs.Option.{unwrap_or}
-use Rattle.std.specs.List.{sum_by}
 use Rattle.std.specs.Ordering.{nat_cmp}
 use Rattle.std.specs.FinMap.Entries.{find}
 use Rattle.fuxi_terms.specs.declared.Key.{Key}
-use Rattle.fuxi_terms.specs.Cluster.{ClusterRecord}
-use Rattle.fuxi_terms.specs.Keys.{Spot, spot_cmp}
-use Rattle.fuxi_terms.specs.Counts.{count}
-use Rattle.written_world.specs.Ledgers.{Ledger, nothing, at_key, want_key, near_key, rack_key, avoid_key}
-use Rattle.written_world.specs.Jobs.{KnownJob, size_at, group_of, rack_of}
+use Rattle.fuxi_terms.specs.Cluster.{ClusterRecord, rack_of}
+use Rattle.fuxi_terms.specs.Keys.{Spot}
+use Rattle.written_world.specs.Ledgers.{Ledger, nothing, at_key}
+use Rattle.fuxi_terms.specs.TallyKeys.{want_key, near_key, rack_key, avoid_key}
+use Rattle.fuxi_terms.specs.Jobs.{KnownJob}
+use Rattle.fuxi_terms.specs.Tables.{held_on, held_in, held}
 
 -- reported and bans rise; the table is a finite map from (job, unit, machine) to a positive number; demands and credited are by job;
 -- the line is a list of pairs (job, unit) without repeats. What the master knows of its peers stands in the net
@@ -23,32 +23,6 @@ pub record Master : Type 0 where
   pub demands : List (ℕ × Ledger)
   pub credited : List (ℕ × List (Key × ℕ))
   pub line : List (ℕ × ℕ)
-
-abbrev pub spot : ℕ → ℕ → ℕ → Spot
-spot a u m = record { job = a; unit = u; machine = m }
-
--- Sums over a table: what a unit holds in all, on a machine and in a rack
-abbrev pub held : List (Spot × ℕ) → ℕ → ℕ → ℕ
-held table a u = sum_by (λ e. cond (nat_eq e.0.job a && nat_eq e.0.unit u) e.1 0) table
-
-abbrev pub held_on : List (Spot × ℕ) → ℕ → ℕ → ℕ → ℕ
-held_on table a u m = count spot_cmp table (spot a u m)
-
-abbrev pub held_in : ClusterRecord → List (Spot × ℕ) → ℕ → ℕ → ℕ → ℕ
-held_in c table a u r = sum_by (λ e. cond (nat_eq e.0.job a && (nat_eq e.0.unit u && nat_eq (rack_of c e.0.machine) r)) e.1 0) table
-
--- count times size, in one resource: on a machine, and over the jobs of a group
-abbrev pub total_by : (ℕ → ℕ → ℕ → ℕ) → ℕ → ℕ → List (Spot × ℕ) → ℕ
-total_by sizes m i table = sum_by (λ e. cond (nat_eq e.0.machine m) (e.1 * sizes e.0.job e.0.unit i) 0) table
-
-abbrev pub total_at : List KnownJob → ℕ → ℕ → List (Spot × ℕ) → ℕ
-total_at jobs m i table = total_by (size_at jobs) m i table
-
-abbrev pub usage_by : (ℕ → ℕ) → (ℕ → ℕ → ℕ → ℕ) → ℕ → ℕ → List (Spot × ℕ) → ℕ
-usage_by groups sizes g i table = sum_by (λ e. cond (nat_eq (groups e.0.job) g) (e.1 * sizes e.0.job e.0.unit i) 0) table
-
-abbrev pub usage_at : List KnownJob → ℕ → ℕ → List (Spot × ℕ) → ℕ
-usage_at jobs g i table = usage_by (group_of jobs) (size_at jobs) g i table
 
 -- The demand of a job, and what of it the table does not meet
 abbrev pub demand_of : Master → ℕ → Ledger

@@ -1,6 +1,7 @@
 -- Parties, what they know of one another, the histories that they send, and packets without content. Ledgers are of any type here.
 use Rattle.std.specs.Prelude.{ℕ, ◌+◌, ◌-◌, Bool, true, false, cond, not, nat_eq, nat_lt, ◌&&◌, ◌||◌, min, List, [], ◌∷◌, ◌++◌, length, map, Option, Some, None, slice_get}
 use Rattle.fuxi_terms.specs.Lists.{numbers_from}
+use Rattle.fuxi_terms.specs.Limits.{kept_changes, turn_deltas}
 
 -- a role and a number. Role 1 is the master, whose number is 0; role 2 an agent, by its machine; role 3 an application, by its job
 pub record Id : Type 0 where
@@ -116,13 +117,6 @@ abbrev pub hear : Party → Bool → ℕ → Link → Packet → Heard
 hear p talks top l x =
     cond (not (same_id x.to.id p.id && talks)) (unmoved Stranger l)
     (cond (nat_lt x.from.inc l.known) (unmoved Stale l) (hear_peer p.inc top l x))
-
--- so many changes are kept for Deltas, and so many Deltas go out in one turn
-abbrev pub kept_changes : ℕ
-kept_changes = 256
-
-abbrev pub turn_deltas : ℕ
-turn_deltas = 64
 
 -- what one turn sends of the history: nothing where the peer is unknown, nothing is there or all is acknowledged; the whole
 -- last entry where nothing is acknowledged or more changes are open than are kept; else the next open changes

@@ -3,12 +3,14 @@ use Rattle.std.specs.Prelude.{ℕ, zero, suc, ◌+◌, ◌-◌, Bool, true, fals
 use Rattle.std.specs.List.{sum_by, list_any, flat_map}
 use Rattle.std.specs.Ordering.{nat_cmp, is_lt}
 use Rattle.std.specs.Cmp.Lexicographic.{slice_cmp}
-use Rattle.fuxi_terms.specs.Cluster.{ClusterRecord}
+use Rattle.fuxi_terms.specs.Cluster.{ClusterRecord, has_at, limit_at, in_each}
 use Rattle.fuxi_terms.specs.declared.Key.{Key}
-use Rattle.fuxi_terms.specs.Keys.{Spot, spot_cmp}
-use Rattle.fuxi_terms.specs.Counts.{count, set_count}
-use Rattle.written_world.specs.Jobs.{unit_count, priority_of, group_of, size_at, has_at, limit_at, in_each, below, has_number, job_numbers}
-use Rattle.written_world.specs.Masters.{Master, spot, asked, out, out_of, level_of, avoids, total_by, usage_by}
+use Rattle.fuxi_terms.specs.Keys.{Spot}
+use Rattle.fuxi_terms.specs.Jobs.{unit_count, priority_of, group_of, size_at, job_numbers}
+use Rattle.fuxi_terms.specs.Lists.{below}
+use Rattle.fuxi_terms.specs.Numbers.{has_number}
+use Rattle.written_world.specs.Masters.{Master, asked, out, out_of, level_of, avoids}
+use Rattle.fuxi_terms.specs.Tables.{spot, total_by, usage_by, with_grant}
 
 -- What placing reads beside a table and a line: the cluster, of each unit its priority and size, of each job its group, what is asked at
 -- each key, and where a unit may be granted
@@ -116,10 +118,6 @@ first_in b table line = first_of (candidates_in b table 0 line)
 
 abbrev pub first_placeable : ClusterRecord → Master → Option Spot
 first_placeable c M = first_in (board c M) M.table M.line
-
--- one grant more
-abbrev pub with_grant : List (Spot × ℕ) → Spot → List (Spot × ℕ)
-with_grant table s = set_count spot_cmp table s (count spot_cmp table s + 1)
 
 -- a unit with nothing out any more leaves the line
 abbrev pub line_after : (ℕ → Key → ℕ) → List (Spot × ℕ) → List (ℕ × ℕ) → List (ℕ × ℕ)

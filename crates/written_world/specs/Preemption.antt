@@ -1,12 +1,13 @@
 -- Preemption: which grants on a machine are taken for a unit that waits.
-use Rattle.std.specs.Prelude.{ℕ, zero, suc, ◌+◌, ◌-◌, Bool, true, false, cond, not, nat_eq, nat_lt, ◌&&◌, ◌||◌, List, [], ◌∷◌, ◌++◌, length, map, filter, Option, Some, None}
+use Rattle.std.specs.Prelude.{ℕ, zero, suc, ◌+◌, Bool, true, false, cond, not, nat_eq, nat_lt, ◌&&◌, ◌||◌, List, [], ◌∷◌, ◌++◌, length, map, filter, Option, Some, None}
 use Rattle.std.specs.List.{sum_by, flat_map}
-use Rattle.fuxi_terms.specs.Cluster.{ClusterRecord}
-use Rattle.fuxi_terms.specs.Keys.{Spot, spot_cmp}
-use Rattle.fuxi_terms.specs.Counts.{count, set_count}
-use Rattle.written_world.specs.Jobs.{KnownJob, priority_of, group_of, size_at, has_at, limit_at, quota_at, in_each, below}
-use Rattle.written_world.specs.Masters.{Master, spot, total_at, usage_at}
-use Rattle.written_world.specs.Placing.{is_usable, with_grant}
+use Rattle.fuxi_terms.specs.Cluster.{ClusterRecord, has_at, limit_at, quota_at, in_each}
+use Rattle.fuxi_terms.specs.Keys.{Spot}
+use Rattle.fuxi_terms.specs.Jobs.{KnownJob, priority_of, group_of, size_at}
+use Rattle.fuxi_terms.specs.Lists.{below}
+use Rattle.written_world.specs.Masters.{Master}
+use Rattle.fuxi_terms.specs.Tables.{spot, total_at, usage_at, with_grant, without_grants}
+use Rattle.written_world.specs.Placing.{is_usable}
 
 -- Walk. A grant goes before another by lower priority, then greater job, then greater unit
 abbrev pub goes_before : List KnownJob → Spot → Spot → Bool
@@ -106,10 +107,6 @@ first_plan (s ∷ ss) c M = elim (victims c M s) [ None ↦ first_plan ss c M | 
 
 abbrev pub plan_of : ClusterRecord → Master → Option Plan
 plan_of c M = first_plan (tried c M) c M
-
-abbrev pub without_grants : List (Spot × ℕ) → List Spot → List (Spot × ℕ)
-without_grants table [] = table
-without_grants table (s ∷ ss) = without_grants (set_count spot_cmp table s (count spot_cmp table s - 1)) ss
 
 -- the victims go and one grant is made. The line is brought up to date, and the master settles, at the end of the step
 abbrev pub preempted : Master → Plan → Master

@@ -6,7 +6,9 @@ use Rattle.std.specs.FinMap.Entries.{find}
 use Rattle.written_world.specs.Net.{Net, Party, last}
 use Rattle.written_world.specs.Ledgers.{Ledger}
 use Rattle.written_world.specs.Channels.{master_id, agent_id, app_id, party, is_caught_up}
-use Rattle.written_world.specs.Jobs.{is_known, below, has_number}
+use Rattle.fuxi_terms.specs.Jobs.{is_known}
+use Rattle.fuxi_terms.specs.Lists.{below}
+use Rattle.fuxi_terms.specs.Numbers.{has_number}
 use Rattle.written_world.specs.Masters.{Master}
 use Rattle.written_world.specs.World.{World, App, master_party, with_found}
 

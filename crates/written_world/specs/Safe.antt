@@ -5,13 +5,16 @@ use Rattle.std.specs.List.{sum_by}
 use Rattle.std.specs.Ordering.{nat_cmp}
 use Rattle.std.specs.FinMap.Entries.{find}
 use Rattle.fuxi_terms.specs.Vectors.{at_place}
-use Rattle.fuxi_terms.specs.Cluster.{ClusterRecord}
+use Rattle.fuxi_terms.specs.Cluster.{ClusterRecord, has_at, has_machine}
 use Rattle.fuxi_terms.specs.Keys.{RowKey}
 use Rattle.written_world.specs.Net.{Net, Party, Id, last}
-use Rattle.written_world.specs.Ledgers.{Ledger, nothing, at_key, count_key}
+use Rattle.written_world.specs.Ledgers.{Ledger, nothing, at_key}
+use Rattle.fuxi_terms.specs.TallyKeys.{count_key}
 use Rattle.written_world.specs.Channels.{master_id, agent_id, app_id, party, at_index, view, present, is_caught_up}
-use Rattle.written_world.specs.Jobs.{KnownJob, is_known, size_at, has_at, has_machine, below}
-use Rattle.written_world.specs.Masters.{Master, held_on}
+use Rattle.fuxi_terms.specs.Jobs.{KnownJob, is_known, size_at}
+use Rattle.fuxi_terms.specs.Lists.{below}
+use Rattle.written_world.specs.Masters.{Master}
+use Rattle.fuxi_terms.specs.Tables.{held_on}
 use Rattle.written_world.specs.Placing.{placeable}
 use Rattle.written_world.specs.World.{World, Agent, App}
 use Rattle.written_world.specs.Agents.{agent_table, app_held, names}

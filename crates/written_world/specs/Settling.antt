@@ -1,10 +1,10 @@
 -- What settling does, said without its recursion.
 use Rattle.std.specs.Prelude.{◌≡◌, ℕ, ◌<◌, ◌≤◌, true, false, T, List, [], ◌∷◌, Some, None}
 use Rattle.std.specs.FinMap.Entries.{is_sorted}
-use Rattle.fuxi_terms.specs.Cluster.{ClusterRecord}
+use Rattle.fuxi_terms.specs.Cluster.{ClusterRecord, has_at, has_machine}
 use Rattle.fuxi_terms.specs.Keys.{Spot, spot_cmp}
-use Rattle.written_world.specs.Jobs.{has_at, has_machine}
-use Rattle.written_world.specs.Masters.{Master, total_at}
+use Rattle.written_world.specs.Masters.{Master}
+use Rattle.fuxi_terms.specs.Tables.{total_at}
 use Rattle.written_world.specs.Placing.{has_pair, placeable, first_placeable, granted}
 
 -- no pair of the line is placeable on any machine

@@ -4,7 +4,8 @@ use Rattle.std.specs.List.{flat_map}
 use Rattle.written_world.specs.Net.{Net, Party}
 use Rattle.written_world.specs.Ledgers.{Ledger}
 use Rattle.written_world.specs.Channels.{master_id, agent_id, app_id, party, view}
-use Rattle.written_world.specs.Jobs.{KnownJob, group_of, has_ended, below, job_numbers}
+use Rattle.fuxi_terms.specs.Jobs.{KnownJob, group_of, has_ended, job_numbers}
+use Rattle.fuxi_terms.specs.Lists.{below}
 use Rattle.written_world.specs.Masters.{Master, out}
 use Rattle.written_world.specs.World.{World, Agent, App}
 use Rattle.written_world.specs.Agents.{agent_table, app_held, names}

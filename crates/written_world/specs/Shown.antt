@@ -4,7 +4,8 @@ use Rattle.std.specs.List.{AllByRecursion}
 use Rattle.std.specs.Ordering.{nat_cmp}
 use Rattle.std.specs.FinMap.Entries.{find}
 use Rattle.written_world.specs.Net.{Net, last}
-use Rattle.written_world.specs.Ledgers.{Ledger, nothing, at_key, back_key}
+use Rattle.written_world.specs.Ledgers.{Ledger, nothing, at_key}
+use Rattle.fuxi_terms.specs.TallyKeys.{back_key}
 use Rattle.written_world.specs.Channels.{master_id, agent_id, app_id, party, at_index, present}
 use Rattle.written_world.specs.Masters.{Master}
 use Rattle.written_world.specs.World.{World, Agent, App, master_party}

@@ -10,7 +10,7 @@ ghost use Rattle.fuxi_terms.specs.Cluster.{ClusterRecord};
 ghost use Rattle.fuxi_terms.specs.Keys.{key_cmp, RowKey, row_cmp, Spot, spot_cmp};
 ghost use Rattle.written_world.specs.Masters.{Master};
 ghost use Rattle.written_world.specs.Placing.{settled};
-ghost use Rattle.written_world.specs.Patching.{PatchedByDifference, TalliesByDifference};
+ghost use Rattle.fuxi_terms.specs.Patching.{PatchedByDifference, TalliesByDifference};
 ghost use Rattle.written_world.specs.Settling.{NothingPlaceable, Picks, IsWithin};
 ghost use Rattle.written_world.specs.Net.{Net, Move, move};
 ghost use Rattle.written_world.specs.Ledgers.{Ledger};

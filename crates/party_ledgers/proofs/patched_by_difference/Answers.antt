@@ -1,4 +1,4 @@
-use Rattle.party_ledgers.proofs.Differing.{row_by_difference, row_difference_alone}
+use Rattle.fuxi_terms.proofs.RowDifferences.{row_by_difference, row_difference_alone}
 use Rattle.party_ledgers.proofs.patched_by_difference.Goals as goal
 
 pub returns-clause-patched : goal.returns-clause-patched

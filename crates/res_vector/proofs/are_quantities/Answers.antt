@@ -1,7 +1,8 @@
 use Rattle.std.proofs.Common.{rules, tests}
 use Rattle.std.proofs.lemmas.Iterator.{YieldsList-from_slice}
 use Rattle.std.proofs.lemmas.Iterator.Search.{all_from_yields_List}
-use Rattle.fuxi_terms.specs.Cluster.{is_at_most, greatest_quantity}
+use Rattle.fuxi_terms.specs.Cluster.{is_at_most}
+use Rattle.fuxi_terms.specs.Limits.{greatest_quantity}
 use Rattle.res_vector.proofs.are_quantities.Goals as goal
 
 pub returns : goal.returns

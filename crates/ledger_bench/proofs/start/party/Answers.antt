@@ -1,6 +1,6 @@
 use Rattle.std.proofs.Common.{[], ap, subst}
 use Rattle.ledger_law.specs.Applying.{IsRefusal}
-use Rattle.party_ledgers.specs.Rows.{patched_row}
+use Rattle.fuxi_terms.specs.Rows.{patched_row}
 use Rattle.ledger_bench.specs.Works.{by_turns, posted}
 use Rattle.ledger_bench.proofs.start.party.Goals as goal
 

@@ -1,5 +1,5 @@
 use Rattle.std.proofs.Common.{sym, ◌∙◌, ap, arith}
-use Rattle.party_ledgers.specs.Rows.{patched_row}
+use Rattle.fuxi_terms.specs.Rows.{patched_row}
 use Rattle.ledger_bench.proofs.Turns.{turned}
 use Rattle.ledger_bench.proofs.start.post_often.Goals as goal
 

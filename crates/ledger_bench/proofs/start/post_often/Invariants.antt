@@ -1,5 +1,5 @@
 use Rattle.std.proofs.Common.{◌≡◌, ◌-◌}
-use Rattle.party_ledgers.specs.Rows.{patched_row}
+use Rattle.fuxi_terms.specs.Rows.{patched_row}
 use Rattle.ledger_bench.specs.Works.{by_turns}
 use Rattle.ledger_bench.proofs.start.post_often.Given as goal
 

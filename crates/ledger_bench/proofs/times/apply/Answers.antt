@@ -1,4 +1,4 @@
-use Rattle.party_ledgers.specs.Rows.{patched_row}
+use Rattle.fuxi_terms.specs.Rows.{patched_row}
 use Rattle.ledger_bench.proofs.Turns.{turned}
 use Rattle.ledger_bench.proofs.times.apply.Goals as goal
 

@@ -1,4 +1,4 @@
-use Rattle.ledger_law.specs.declared.ledger.LedgerFault.TheVariants.{Below, TooGreat}
+use Rattle.fuxi_terms.specs.declared.answers.LedgerFault.TheVariants.{Below, TooGreat}
 use Rattle.ledger_law.specs.Orders.{key_total, same_key}
 use Rattle.ledger_law.specs.Shapes.{kept_under}
 use Rattle.fuxi_terms.proofs.Testing.{IsTestedTo}

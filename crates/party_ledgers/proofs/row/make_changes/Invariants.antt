@@ -1,5 +1,5 @@
 use Rattle.std.proofs.Common.{◌≡◌, ◌+◌, ◌-◌, ◌≤◌, length, drop, vec_len, vec_capacity}
-use Rattle.party_ledgers.specs.Rows.{IsRow, patched_row}
+use Rattle.fuxi_terms.specs.Rows.{IsRow, patched_row}
 use Rattle.party_ledgers.proofs.row.make_changes.Given as goal
 
 abbrev pub invariant-loop-key : goal.invariant-loop-key

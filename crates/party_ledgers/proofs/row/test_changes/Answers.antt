@@ -3,7 +3,7 @@ use Rattle.std.specs.Int.{w64}
 use Rattle.std.specs.Int.RustNames.{FitsSigned}
 use Rattle.std.proofs.lemmas.Int.{to_z-of_z}
 use Rattle.std.proofs.lemmas.Result.{err_from_is_err_and}
-use Rattle.ledger_law.specs.declared.ledger.LedgerFault.TheVariants.{TooGreat}
+use Rattle.fuxi_terms.specs.declared.answers.LedgerFault.TheVariants.{TooGreat}
 use Rattle.party_ledgers.proofs.Patching.{count_small, row_some, row_refused, row_too_long, row_more}
 use Rattle.party_ledgers.proofs.row.test_changes.Goals as goal
 

@@ -1,4 +1,4 @@
-use Rattle.party_ledgers.specs.Rows.{greatest_row}
+use Rattle.fuxi_terms.specs.Rows.{greatest_row}
 use Rattle.std.proofs.Common.{◌≡◌, false, ◌≤◌, drop}
 use Rattle.std.specs.Prelude.{unsigned_abs}
 use Rattle.std.specs.List.{AllByRecursion}

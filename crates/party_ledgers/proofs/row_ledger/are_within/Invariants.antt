@@ -1,4 +1,4 @@
-use Rattle.party_ledgers.specs.Rows.{greatest_row}
+use Rattle.fuxi_terms.specs.Rows.{greatest_row}
 use Rattle.std.proofs.Common.{◌<◌, ◌≤◌, drop}
 use Rattle.std.specs.List.{AllByRecursion}
 use Rattle.party_ledgers.proofs.row_ledger.are_within.Given as goal

@@ -3,7 +3,7 @@ use Rattle.std.proofs.lemmas.List.Elements.{All-from_recursion}
 use Rattle.std.proofs.lemmas.Result.{err_from_is_err_and}
 use Rattle.ledger_law.specs.Reading.{refused}
 use Rattle.party_ledgers.specs.Joins.{IsJoin, join_form}
-use Rattle.party_ledgers.specs.Rows.{IsRow}
+use Rattle.fuxi_terms.specs.Rows.{IsRow}
 use Rattle.party_ledgers.specs.RowOneForm.{row_entries, few_entries}
 use Rattle.party_ledgers.proofs.RowReading.{not_row}
 use Rattle.party_ledgers.proofs.join.JoinLedgerLedger.read_full.Goals as goal

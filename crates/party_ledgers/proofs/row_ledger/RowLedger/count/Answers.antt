@@ -1,7 +1,7 @@
 use Rattle.std.proofs.Common.{◌≡◌, arith, subst}
 use Rattle.fuxi_terms.specs.Keys.{row_cmp}
 use Rattle.fuxi_terms.specs.Counts.{count}
-use Rattle.party_ledgers.specs.Rows.{row_key}
+use Rattle.fuxi_terms.specs.Rows.{row_key}
 use Rattle.party_ledgers.proofs.Patching.{count_small}
 use Rattle.party_ledgers.proofs.row_ledger.RowLedger.count.Goals as goal
 

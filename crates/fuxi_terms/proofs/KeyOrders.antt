@@ -16,8 +16,8 @@ key_total = then_total (on_total (λ k. k.what) nat_cmp_total) (then_total (on_t
 pub spot_total : IsTotalOrder spot_cmp
 spot_total = then_total (on_total (λ k. k.job) nat_cmp_total) (then_total (on_total (λ k. k.unit) nat_cmp_total) (on_total (λ k. k.machine) nat_cmp_total))
 
-pub row_total : IsTotalOrder row_cmp
-row_total = then_total (on_total (λ k. k.job) nat_cmp_total) (then_total (on_total (λ k. k.unit) nat_cmp_total) (on_total (λ k. k.size) (lists_total nat_cmp_total)))
+pub row_key_total : IsTotalOrder row_cmp
+row_key_total = then_total (on_total (λ k. k.job) nat_cmp_total) (then_total (on_total (λ k. k.unit) nat_cmp_total) (on_total (λ k. k.size) (lists_total nat_cmp_total)))
 
 exact_three : (p q : ℕ × (ℕ × ℕ)) → ordering_then (nat_cmp p.0 q.0) (ordering_then (nat_cmp p.1.0 q.1.0) (nat_cmp p.1.1 q.1.1)) ≡ Equal → p ≡ q
 exact_three p q h = exact_pairs nat_cmp (λ p q. ordering_then (nat_cmp p.0 q.0) (nat_cmp p.1 q.1)) exact_unsigned (exact_pairs nat_cmp nat_cmp exact_unsigned exact_unsigned) p q h
@@ -40,6 +40,6 @@ exact_lists (x ∷ xs) [] e = cc
 exact_lists (x ∷ xs) (y ∷ ys) e = let p = parts (nat_cmp x y) _ e in
     let head = exact_unsigned x y p.0 in let tail = exact_lists xs ys p.1 in λ i. head i ∷ tail i
 
-pub same_row : (a b : RowKey) → row_cmp a b ≡ Equal → a ≡ b
-same_row a b h = ap (λ (p : ℕ × (ℕ × List ℕ)). record { job = p.0; unit = p.1.0; size = p.1.1 })
+pub same_row_key : (a b : RowKey) → row_cmp a b ≡ Equal → a ≡ b
+same_row_key a b h = ap (λ (p : ℕ × (ℕ × List ℕ)). record { job = p.0; unit = p.1.0; size = p.1.1 })
     (exact_pairs nat_cmp (λ (p : ℕ × List ℕ) (q : ℕ × List ℕ). ordering_then (nat_cmp p.0 q.0) (slice_cmp nat_cmp p.1 q.1)) exact_unsigned (exact_pairs nat_cmp (slice_cmp nat_cmp) exact_unsigned exact_lists) (a.job, (a.unit, a.size)) (b.job, (b.unit, b.size)) h)

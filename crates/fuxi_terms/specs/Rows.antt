@@ -3,21 +3,18 @@ use Rattle.std.specs.Prelude.{ℕ, ℤ, ◌≤◌, Bool, cond, not, nat_lt, ◌&
 use Rattle.std.specs.List.{AllByRecursion}
 use Rattle.fuxi_terms.specs.declared.Key.{Key}
 use Rattle.fuxi_terms.specs.Keys.{RowKey, row_cmp}
-use Rattle.fuxi_terms.specs.Cluster.{greatest_count, is_vector_of}
+use Rattle.fuxi_terms.specs.Limits.{most_resources, most_jobs, most_units, greatest_count, most_entries}
+use Rattle.fuxi_terms.specs.Cluster.{is_vector_of}
 use Rattle.fuxi_terms.specs.Vectors.{is_zero}
 use Rattle.fuxi_terms.specs.Counts.{AreCounts, AreChanges, change_one, then_do}
 use Rattle.fuxi_terms.specs.Padded.{padded}
 use Rattle.fuxi_terms.specs.Totals.{total_of}
-use Rattle.ledger_law.specs.declared.ledger.LedgerFault.{LedgerFault}
-use Rattle.ledger_law.specs.declared.ledger.LedgerFault.TheVariants.{Below, TooGreat}
-
--- the greatest number of entries
-abbrev pub most_entries : ℕ
-most_entries = 2048
+use Rattle.fuxi_terms.specs.declared.answers.LedgerFault.{LedgerFault}
+use Rattle.fuxi_terms.specs.declared.answers.LedgerFault.TheVariants.{Below, TooGreat}
 
 -- sizes have eight places
 abbrev pub is_row_key : RowKey → Bool
-is_row_key k = nat_lt k.job 256 && (nat_lt k.unit 8 && (is_vector_of 8 k.size && not (is_zero k.size)))
+is_row_key k = nat_lt k.job most_jobs && (nat_lt k.unit most_units && (is_vector_of most_resources k.size && not (is_zero k.size)))
 
 abbrev pub greatest_row : RowKey → ℕ
 greatest_row k = cond (is_row_key k) greatest_count 0

@@ -8,11 +8,12 @@ use Rattle.std.specs.FinMap.Entries.{put, find, is_sorted, is_sorted-put, find-p
 use Rattle.std.proofs.lemmas.Bool.Decides.{nat_tests}
 use Rattle.fuxi_terms.specs.Keys.{RowKey, row_cmp}
 use Rattle.fuxi_terms.specs.Counts.{moved, change_between, count, set_count, set_moved, change_one, then_do, change_all, joined, differences, difference, AreCounts, AreChanges}
-use Rattle.ledger_law.specs.declared.ledger.LedgerFault.{LedgerFault}
+use Rattle.fuxi_terms.specs.declared.answers.LedgerFault.{LedgerFault}
 use Rattle.fuxi_terms.proofs.Counting.{both_true, below_none, moved_between, tied, same_counts, count_le, count-set_count, counts-set_count, length-set_count}
 use Rattle.fuxi_terms.proofs.OnlyDifference.{only_difference}
-use Rattle.party_ledgers.specs.Orders.{row_total, same_row_key}
-use Rattle.party_ledgers.specs.Rows.{IsRow, most_entries, greatest_row, patched_row, change_row_once, within_row, row_below, row_too_great}
+use Rattle.fuxi_terms.proofs.KeyOrders.{row_key_total, same_row_key}
+use Rattle.fuxi_terms.specs.Rows.{IsRow, greatest_row, patched_row, change_row_once, within_row, row_below, row_too_great}
+use Rattle.fuxi_terms.specs.Limits.{most_entries}
 
 abbrev Entries : Type 0
 Entries = List (RowKey × ℕ)
@@ -27,11 +28,11 @@ is_key : (q k : RowKey) → eq_by_cmp row_cmp q k ≡ true → q ≡ k
 is_key q k e = same_row_key q k (tied _ e)
 
 itself : (k : RowKey) → eq_by_cmp row_cmp k k ≡ true
-itself k = ap is_eq (tied_itself row_total k)
+itself k = ap is_eq (tied_itself row_key_total k)
 
 -- a row whose keys are among others has not more of them
 without_key : (es : Entries) (k : RowKey) → AreCounts row_cmp greatest_row es → length es ≤ length (set_count row_cmp es k 0) + 1
-without_key es k h = by (nat_eq (number es k) 0) (length-set_count row_total greatest_row es k 0 h)
+without_key es k h = by (nat_eq (number es k) 0) (length-set_count row_key_total greatest_row es k 0 h)
   where
     by : (b : Bool) → length (set_count row_cmp es k 0) + cond b 0 1 ≡ length es + 0 → length es ≤ length (set_count row_cmp es k 0) + 1
     by true e = omega (arith, e)
@@ -45,8 +46,8 @@ few_of [] (e ∷ es) h among =
     absurd (let f : ⊥ = cc in f)
 few_of (j ∷ js) es h among =
     let fewer : Entries = set_count row_cmp es j.0 0 in
-    let fewer_is : (q : RowKey) → number fewer q ≡ cond (eq_by_cmp row_cmp q j.0) 0 (number es q) = λ q. count-set_count row_total es j.0 0 q in
-    let counts : AreCounts row_cmp greatest_row fewer = counts-set_count row_total greatest_row same_row_key es j.0 0 (omega arith) h in
+    let fewer_is : (q : RowKey) → number fewer q ≡ cond (eq_by_cmp row_cmp q j.0) 0 (number es q) = λ q. count-set_count row_key_total es j.0 0 q in
+    let counts : AreCounts row_cmp greatest_row fewer = counts-set_count row_key_total greatest_row same_row_key es j.0 0 (omega arith) h in
     let rest : (q : RowKey) → 0 < number fewer q → has js q ≡ true = λ q more. elim (eq_by_cmp row_cmp q j.0) as (λ b. number fewer q ≡ cond b 0 (number es q) → (0 < number es q → is_some (cond b (Some j.1) (find row_cmp q js)) ≡ true) → has js q ≡ true) [
       | true ↦ λ e a. absurd (omega (arith, e, more))
       | false ↦ λ e a. a (omega (arith, e, more))
@@ -56,7 +57,7 @@ few_of (j ∷ js) es h among =
 
 -- the keys of both
 has_put : (es : Entries) (k : RowKey) (n : ℕ) (q : RowKey) → has (put row_cmp k n es) q ≡ is_some (cond (eq_by_cmp row_cmp q k) (Some n) (find row_cmp q es))
-has_put es k n q = ap is_some (find-put row_cmp row_total q k n es)
+has_put es k n q = ap is_some (find-put row_cmp row_key_total q k n es)
 
 in_first : (es fs : Entries) (q : RowKey) → has es q ≡ true → has (joined row_cmp es fs) q ≡ true
 in_first [] fs q h = cc
@@ -74,7 +75,7 @@ in_second (e ∷ es) fs q h = has_put (joined row_cmp es fs) e.0 e.1 q ∙ elim 
 
 joined_sorted : (es fs : Entries) → T (is_sorted row_cmp fs) → T (is_sorted row_cmp (joined row_cmp es fs))
 joined_sorted [] fs h = h
-joined_sorted (e ∷ es) fs h = is_sorted-put row_cmp row_total e.0 e.1 (joined row_cmp es fs) (joined_sorted es fs h)
+joined_sorted (e ∷ es) fs h = is_sorted-put row_cmp row_key_total e.0 e.1 (joined row_cmp es fs) (joined_sorted es fs h)
 
 counted_has : (es : Entries) (q : RowKey) → 0 < number es q → has es q ≡ true
 counted_has es q h = elim (find row_cmp q es) as (λ r. 0 < unwrap_or r 0 → is_some r ≡ true) [ None ↦ λ m. absurd (omega (arith, m)) | Some n ↦ λ _. refl ] h
@@ -98,7 +99,7 @@ module _ (old new keys : Entries) (new_is : AreCounts row_cmp greatest_row new) 
   -- one change, where the row that it makes is not too long
   first_made : (es : Entries) (k : RowKey) → number es k ≡ number old k → length (set_count row_cmp es k (number new k)) ≤ most_entries → change_row_once es k (change_between (number old k) (number new k)) ≡ Ok (set_count row_cmp es k (number new k))
   first_made es k e short =
-      let within : nat_lt (greatest_row k) (number new k) ≡ false = let le = count_le row_total same_row_key greatest_row new k new_is.within in grind (arith, nat_tests) in
+      let within : nat_lt (greatest_row k) (number new k) ≡ false = let le = count_le row_key_total same_row_key greatest_row new k new_is.within in grind (arith, nat_tests) in
       let there : moved (number es k) (change_between (number old k) (number new k)) ≡ Some (number new k) = subst (λ n. moved n (change_between (number old k) (number new k)) ≡ Some (number new k)) (sym e) (moved_between (number old k) (number new k)) in
       let one : change_one row_cmp row_below row_too_great greatest_row es k (change_between (number old k) (number new k)) ≡ Ok (set_count row_cmp es k (number new k)) =
       ap (set_moved row_cmp row_below row_too_great greatest_row es k (number es k) (change_between (number old k) (number new k))) there ∙ ap (λ b. cond b (Err (row_too_great k)) (Ok (set_count row_cmp es k (number new k)))) within in
@@ -135,8 +136,8 @@ module _ (old new keys : Entries) (new_is : AreCounts row_cmp greatest_row new) 
             }
         | false ↦ λ e.
             let set = set_count row_cmp es j.0 (number new j.0) in
-            let set_is : (q : RowKey) → number set q ≡ cond (eq_by_cmp row_cmp q j.0) (number new j.0) (number es q) = λ q. count-set_count row_total es j.0 (number new j.0) q in
-            let kept : AreCounts row_cmp greatest_row set = counts-set_count row_total greatest_row same_row_key es j.0 (number new j.0) (count_le row_total same_row_key greatest_row new j.0 new_is.within) c in
+            let set_is : (q : RowKey) → number set q ≡ cond (eq_by_cmp row_cmp q j.0) (number new j.0) (number es q) = λ q. count-set_count row_key_total es j.0 (number new j.0) q in
+            let kept : AreCounts row_cmp greatest_row set = counts-set_count row_key_total greatest_row same_row_key es j.0 (number new j.0) (count_le row_key_total same_row_key greatest_row new j.0 new_is.within) c in
             let set_among : is_among set = λ q more. elim (eq_by_cmp row_cmp q j.0) as (λ b. eq_by_cmp row_cmp q j.0 ≡ b → number set q ≡ cond b (number new j.0) (number es q) → has keys q ≡ true) [
               | true ↦ λ t _. in_keys q (ap (λ b. is_some (cond b (Some j.1) (find row_cmp q js))) t)
               | false ↦ λ t n. among q (omega (arith, n, more))
@@ -163,7 +164,7 @@ pub row_by_difference : (old new : Entries) → IsRow old → IsRow new → leng
 row_by_difference old new old_is new_is few =
     let js : Entries = joined row_cmp old new in
     let r = reaches old new js new_is.counts few js old (joined_sorted old new new_is.counts.sorted) (λ q h. h) old_is.counts (λ q more. in_first old new q (counted_has old q more)) (λ q _. refl) in
-    let ends : r.end ≡ new = same_counts row_total same_row_key greatest_row r.end new r.counts new_is.counts (λ q. r.values q ∙ elim (has js q) as (λ b. has js q ≡ b → cond b (number new q) (number old q) ≡ number new q) [
+    let ends : r.end ≡ new = same_counts row_key_total same_row_key greatest_row r.end new r.counts new_is.counts (λ q. r.values q ∙ elim (has js q) as (λ b. has js q ≡ b → cond b (number new q) (number old q) ≡ number new q) [
       | true ↦ λ _. refl
       | false ↦ λ t. none_counted old q (absent_in (has old q) (has js q) (in_first old new q) t) ∙ sym (none_counted new q (absent_in (has new q) (has js q) (in_second old new q) t))
     ] refl) in
@@ -186,4 +187,4 @@ unbounded [] es end e = e
 unbounded (c ∷ cs) es end e = once_then c.0 cs end (change_one row_cmp row_below row_too_great greatest_row es c.0 c.1) (λ fs. unbounded cs fs end) e
 
 pub row_difference_alone : (old new : Entries) (cs : List (RowKey × ℤ)) → IsRow new → AreChanges row_cmp cs → patched_row old cs ≡ Ok new → cs ≡ difference row_cmp old new
-row_difference_alone old new cs new_is are e = only_difference row_total same_row_key row_below row_too_great greatest_row old new cs are new_is.counts.sorted (unbounded cs old new e)
+row_difference_alone old new cs new_is are e = only_difference row_key_total same_row_key row_below row_too_great greatest_row old new cs are new_is.counts.sorted (unbounded cs old new e)

@@ -8,8 +8,8 @@ use Rattle.std.specs.FinMap.Entries.{by_order, find, put, where_key}
 use Rattle.fuxi_terms.specs.Keys.{Spot, spot_cmp}
 use Rattle.fuxi_terms.specs.Counts.{count, set_count}
 use Rattle.fuxi_terms.proofs.Counting.{tied}
-use Rattle.written_world.proofs.Choosing.{either}
-use Rattle.written_world.proofs.Keys.{same_spot}
+use Rattle.fuxi_terms.proofs.Booleans.{either}
+use Rattle.fuxi_terms.proofs.KeyOrders.{same_spot}
 
 abbrev pub Each : (Spot → Type 0) → List (Spot × ℕ) → Type 0
 Each P table = AllByRecursion (λ e. P e.0) table

@@ -1,0 +1,52 @@
+-- Tests, and choices by a test.
+use Rattle.std.proofs.Common.{◌≡◌, ℕ, ◌≤◌, Bool, true, false, cond, not, nat_eq, refl, sym, arith}
+use Rattle.std.specs.Prelude.{◌&&◌, ◌||◌}
+use Rattle.std.proofs.lemmas.Bool.Decides.{nat_tests}
+
+pub both_true : (a b : Bool) → (a && b) ≡ true → (a ≡ true) × (b ≡ true)
+both_true true b e = (refl, e)
+both_true false b e = cc
+
+pub and_true : (a b : Bool) → a ≡ true → b ≡ true → (a && b) ≡ true
+and_true true b e f = f
+and_true false b e f = cc
+
+pub false_and : (a b : Bool) → a ≡ false → (a && b) ≡ false
+false_and true b e = cc
+false_and false b e = refl
+
+pub both_false : (a b : Bool) → (a || b) ≡ false → (a ≡ false) × (b ≡ false)
+both_false true b e = cc
+both_false false b e = (refl, e)
+
+pub not_false : (b : Bool) → not b ≡ false → b ≡ true
+not_false true e = refl
+not_false false e = cc
+
+-- two tests that imply one another are one
+pub same_tests : (p q : Bool) → (p ≡ true → q ≡ true) → (q ≡ true → p ≡ true) → p ≡ q
+same_tests true q f g = sym (f refl)
+same_tests false true f g = g refl
+same_tests false false f g = refl
+
+-- numbers that a test finds the same are the same
+pub number_is : (a b : ℕ) → nat_eq a b ≡ true → a ≡ b
+number_is a b e = grind (arith, nat_tests)
+
+pub nat_itself : (n : ℕ) → nat_eq n n ≡ true
+nat_itself n = grind (arith, nat_tests)
+
+-- a choice has what both of its values have
+pub either : {A : Type 0} (P : A → Type 0) (b : Bool) (x y : A) → (b ≡ true → P x) → (b ≡ false → P y) → P (cond b x y)
+either P true x y f g = f refl
+either P false x y f g = g refl
+
+-- the same of a choice whose values wait
+pub either_case : {A : Type 0} (P : A → Type 0) (b : Bool) (x y : A) → (b ≡ true → P x) → (b ≡ false → P y) → P (elim b as (λ _. A) [ true ↦ x | false ↦ y ])
+either_case P true x y f g = f refl
+either_case P false x y f g = g refl
+
+-- a number where a test holds, else 0
+pub where_le : (b : Bool) (n : ℕ) → cond b n 0 ≤ n
+where_le true n = omega arith
+where_le false n = omega arith
