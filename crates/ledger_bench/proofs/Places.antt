@@ -32,10 +32,10 @@ key_rises a b lt = elim (cases_lt (a / 8) (b / 8)) [
 ]
 
 pub all_rise : (place : ℕ) (cs : List (RowKey × ℤ)) → AllByRecursion (IsBefore place) cs → AllByRecursion (λ c. row_cmp c.0 (key_at place) ≡ Less) cs
-all_rise place cs before = all_more (IsBefore place) (λ c. row_cmp c.0 (key_at place) ≡ Less) cs (λ c b. ap (λ k. row_cmp k (key_at place)) b.is ∙ key_rises b.at place b.before) before
+all_rise place cs before = all_more (IsBefore place) (λ c. row_cmp c.0 (key_at place) ≡ Less) (λ c b. ap (λ k. row_cmp k (key_at place)) b.is ∙ key_rises b.at place b.before) cs before
 
 pub all_later : (place : ℕ) (cs : List (RowKey × ℤ)) → AllByRecursion (IsBefore place) cs → AllByRecursion (IsBefore (place + 1)) cs
-all_later place cs before = all_more (IsBefore place) (IsBefore (place + 1)) cs (λ c b. record { at = b.at; before = omega (arith, b.before); is = b.is }) before
+all_later place cs before = all_more (IsBefore place) (IsBefore (place + 1)) (λ c b. record { at = b.at; before = omega (arith, b.before); is = b.is }) cs before
 
 -- one place more
 abbrev one_at : ℕ → ℤ → Bool → List (RowKey × ℤ)

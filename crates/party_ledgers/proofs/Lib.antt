@@ -2,4 +2,3 @@ pub mod Patching
 pub mod Sizes
 pub mod RowReading
 pub mod Totals
-pub mod Differing

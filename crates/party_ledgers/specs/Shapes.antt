@@ -1,8 +1,9 @@
--- The keys of grants and demands, each with its greatest value: by what, unit, and the number of a machine or rack.
-use Rattle.std.specs.Prelude.{ℕ, ◌<◌, ◌≤◌, Bool, cond, nat_eq, nat_lt, ◌&&◌}
+-- Of the keys of grants and demands, what forms need to know: their numbers are bounded, and each key has a form.
+use Rattle.std.specs.Prelude.{◌<◌, ◌≤◌}
 use Rattle.std.proofs.Common.{arith}
 use Rattle.std.proofs.lemmas.Bool.Decides.{nat_tests}
 use Rattle.fuxi_terms.specs.declared.Key.{Key}
+use Rattle.fuxi_terms.specs.TallyKeys.{greatest_grant, greatest_demand}
 use Rattle.ledger_law.specs.Shapes.{IsWritable}
 
 pub grant_bounded : (k : Key) → greatest_grant k ≤ 1000000000000

@@ -84,7 +84,7 @@ post_stands r c sender number value grows differs is s =
       receiver = entry_grown c.history sender.present r.receiver s.receiver;
       place = s.place;
       marks = s.marks;
-      packets = all_more (IsPacket c.history) (IsPacket (c.history ++ sender.present ∷ [])) r.packets (packet_grown c.history sender.present) s.packets;
+      packets = all_more (IsPacket c.history) (IsPacket (c.history ++ sender.present ∷ [])) (packet_grown c.history sender.present) r.packets s.packets;
       told = s.told;
       events = ap (λ n. n + 1) s.events;
     })
