@@ -1,6 +1,7 @@
 -- Ledgers, boots and acknowledgements that come again.
 use Rattle.std.specs.Prelude.{true, false, [], ◌∷◌}
-use Rattle.written_world.specs.Net.{Ack, Delta, Full, Acked, NotMine, Old, Taken}
+use Rattle.written_net.specs.Net.{Ack, Delta, Full}
+use Rattle.fuxi_terms.specs.declared.answers.What.TheVariants.{Ack as Acked, NotMine, Old, Taken}
 use Rattle.written_world.specs.Outputs.{State, Fence, Job, MasterIs, Reported, Grant, AgentAt, Row, AppAt, Hold, Packets}
 use Rattle.written_world.specs.Events.{StartMaster, StartAgent, StartApp, Submit, Want, GiveBack, TurnMaster, TurnAgent, TurnApp, ResyncMaster, ResyncAgent, ResyncApp, Deliver, DeliverRange, ShowState}
 use Rattle.worked_runs.specs.Reading.{machine, group, cluster, unit, job, master, agent, app, sent, heard, heard_new, Run}

@@ -1,7 +1,8 @@
 -- What is carried from epoch to epoch, and what is given back.
 use Rattle.std.specs.Prelude.{true, false, [], ◌∷◌}
-use Rattle.written_world.specs.Net.{Ack, Delta, Full, Acked, Old, Taken}
-use Rattle.written_world.specs.Refusals.{NotUsable}
+use Rattle.written_net.specs.Net.{Ack, Delta, Full}
+use Rattle.fuxi_terms.specs.declared.answers.What.TheVariants.{Ack as Acked, Old, Taken}
+use Rattle.written_roles.specs.Refusals.{NotUsable}
 use Rattle.written_world.specs.Outputs.{Lost, Refused, State, Fence, Job, MasterIs, Reported, Grant, Wait, AgentAt, Row, AppAt, Hold, Carry, Packets}
 use Rattle.written_world.specs.Events.{StartMaster, StopMaster, StartAgent, StartApp, Submit, Begin, Want, GiveBack, TurnMaster, TurnAgent, TurnApp, Deliver, DeliverRange, ShowState}
 use Rattle.worked_runs.specs.Reading.{machine, group, cluster, unit, job, master, agent, app, sent, heard, heard_new, Run}

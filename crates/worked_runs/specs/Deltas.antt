@@ -1,7 +1,8 @@
 -- Deltas, whole ledgers and deliveries in every order.
 use Rattle.std.specs.Prelude.{true, false, [], ◌∷◌, ◌++◌}
-use Rattle.written_world.specs.Net.{Ack, Delta, Full, Acked, Old, Gap, Taken}
-use Rattle.written_world.specs.Refusals.{NoPacket}
+use Rattle.written_net.specs.Net.{Ack, Delta, Full}
+use Rattle.fuxi_terms.specs.declared.answers.What.TheVariants.{Ack as Acked, Old, Gap, Taken}
+use Rattle.written_roles.specs.Refusals.{NoPacket}
 use Rattle.written_world.specs.Outputs.{Lost, Refused, State, Fence, Job, MasterIs, Reported, Grant, Wait, AgentAt, Row, AppAt, Hold, Packets}
 use Rattle.written_world.specs.Events.{StopMaster, Want, TurnApp, Deliver}
 use Rattle.worked_runs.specs.Reading.{master, app, sent, heard, repeated, Run}

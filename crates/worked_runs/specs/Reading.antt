@@ -1,8 +1,9 @@
 -- Short words, so that a run of events and its text read like the lines that they stand for.
 use Rattle.std.specs.Prelude.{◌≡◌, ℕ, zero, suc, true, false, List, [], ◌++◌}
 use Rattle.fuxi_terms.specs.Cluster.{MachineRecord, GroupRecord, ClusterRecord, UnitRecord, JobRecord}
-use Rattle.written_world.specs.Net.{Party, Kind, What}
-use Rattle.written_world.specs.Channels.{master_id, agent_id, app_id, party}
+use Rattle.written_net.specs.Net.{Party, Kind}
+use Rattle.fuxi_terms.specs.declared.answers.What.{What}
+use Rattle.written_net.specs.Channels.{master_id, agent_id, app_id, party}
 use Rattle.written_world.specs.Outputs.{Line, Sent, Came}
 use Rattle.written_world.specs.Events.{Event}
 use Rattle.written_world.specs.Runs.{text}

@@ -1,6 +1,6 @@
 -- Events that are refused.
 use Rattle.std.specs.Prelude.{true, false, [], ◌∷◌, ◌++◌}
-use Rattle.written_world.specs.Refusals.{NotRunning, NotRising, Fenced, NoMachine, NoRack, NoGroup, NoJob, NoUnit, Known, NothingToPreempt, WantRange, NotUsable, Dimensions}
+use Rattle.written_roles.specs.Refusals.{NotRunning, NotRising, Fenced, NoMachine, NoRack, NoGroup, NoJob, NoUnit, Known, NothingToPreempt, WantRange, NotUsable, Dimensions}
 use Rattle.written_world.specs.Outputs.{Refused, State, Fence, Job, MasterIs, Reported, Grant, Wait, AgentAt, Row, AppAt, Hold, Packets}
 use Rattle.written_world.specs.Events.{StartMaster, Submit, Finish, Preempt, Want, Near, Rack, GiveBack}
 use Rattle.worked_runs.specs.Reading.{unit, job, Run}

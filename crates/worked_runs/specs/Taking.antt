@@ -1,7 +1,8 @@
 -- Whose grants are taken first.
 use Rattle.std.specs.Prelude.{true, false, [], ◌∷◌}
-use Rattle.written_world.specs.Net.{Ack, Full, Acked, Taken}
-use Rattle.written_world.specs.Refusals.{NothingToPreempt}
+use Rattle.written_net.specs.Net.{Ack, Full}
+use Rattle.fuxi_terms.specs.declared.answers.What.TheVariants.{Ack as Acked, Taken}
+use Rattle.written_roles.specs.Refusals.{NothingToPreempt}
 use Rattle.written_world.specs.Outputs.{Refused, State, Fence, Job, MasterIs, Reported, Grant, Wait, AgentAt, Row, AppAt, Hold, Packets}
 use Rattle.written_world.specs.Events.{StartMaster, StartAgent, StartApp, Submit, Preempt, Want, TurnMaster, TurnAgent, TurnApp, DeliverRange}
 use Rattle.worked_runs.specs.Reading.{machine, group, cluster, unit, job, master, agent, app, sent, heard, heard_new, Run}

@@ -13,19 +13,21 @@ use Rattle.std.proofs.lemmas.Bool.Decides.{nat_tests}
 use Rattle.std.proofs.lemmas.List.Sums.{sum_by-cons}
 use Rattle.fuxi_terms.specs.Keys.{key_cmp, RowKey, Spot, spot_cmp}
 use Rattle.fuxi_terms.proofs.Counting.{both_true as both, tied, below_none}
-use Rattle.written_world.specs.Net.{Net, Party, last}
-use Rattle.written_world.specs.Ledgers.{Ledger, at_key}
+use Rattle.written_net.specs.Net.{Net, Party, last}
+use Rattle.written_net.specs.Ledgers.{Ledger, at_key}
 use Rattle.fuxi_terms.specs.TallyKeys.{reported_key, count_key, credited_key, back_key}
-use Rattle.written_world.specs.Channels.{master_id, agent_id, app_id, party, is_caught_up, view, present}
+use Rattle.written_net.specs.Channels.{master_id, agent_id, app_id, party, is_caught_up, view, present}
 use Rattle.fuxi_terms.specs.Jobs.{KnownJob, job_of, is_known, is_live, job_numbers}
 use Rattle.fuxi_terms.specs.Cluster.{has_machine}
 use Rattle.fuxi_terms.specs.Lists.{below}
 use Rattle.fuxi_terms.specs.Numbers.{has_number, with_number}
-use Rattle.written_world.specs.Masters.{Master, credited_of}
+use Rattle.written_roles.specs.Masters.{Master, credited_of}
 use Rattle.fuxi_terms.specs.Tables.{spot, held_on}
-use Rattle.written_world.specs.World.{World, Agent, App, master_party, with_found}
-use Rattle.written_world.specs.MasterSteps.{projection, row_key, count_entries, grants}
-use Rattle.written_world.specs.Agents.{agent_table, names, uncredited, usable, carried_at, app_held}
+use Rattle.written_world.specs.World.{World, Agent, App}
+use Rattle.written_roles.specs.MasterSteps.{master_party, row_key, count_entries, grants}
+use Rattle.written_roles.specs.Refusals.{with_found}
+use Rattle.written_world.specs.Parties.{projection, agent_table, usable, carried_at, app_held}
+use Rattle.written_roles.specs.Apps.{names, uncredited}
 use Rattle.written_world.specs.Quiet.{has_all, is_at_rest, is_agent_quiet, is_app_quiet, is_quiet}
 use Rattle.written_world.specs.Safe.{row_count}
 use Rattle.fuxi_terms.proofs.Alls.{all_front, all_back, all_map}

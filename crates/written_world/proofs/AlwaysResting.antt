@@ -9,27 +9,28 @@ use Rattle.std.proofs.lemmas.Bool.Decides.{nat_tests}
 use Rattle.fuxi_terms.specs.declared.Key.{Key}
 use Rattle.fuxi_terms.specs.Cluster.{ClusterRecord, JobRecord, has_machine}
 use Rattle.fuxi_terms.specs.Keys.{key_cmp}
-use Rattle.written_world.specs.Net.{Net, Id, Packet, Heard, comes, heard_of, Party, Starts, move}
-use Rattle.written_world.specs.Ledgers.{Ledger, nothing, at_key}
+use Rattle.written_net.specs.Net.{Net, Id, Packet, Heard, comes, heard_of, Party, Starts, move, is_taken}
+use Rattle.written_net.specs.Ledgers.{Ledger, nothing, at_key}
 use Rattle.fuxi_terms.specs.TallyKeys.{want_key, near_key, rack_key, avoid_key, back_key}
-use Rattle.written_world.specs.Channels.{is_agent, is_app, content, master_id, agent_id, app_id, party, is_master}
+use Rattle.written_net.specs.Channels.{is_agent, is_app, content, master_id, agent_id, app_id, party, is_master}
 use Rattle.fuxi_terms.specs.Jobs.{KnownJob, job_of, is_known, is_live, unit_count, job_numbers, eight_places}
 use Rattle.fuxi_terms.specs.Numbers.{has_number, with_number, without_number}
-use Rattle.written_world.specs.Masters.{Master}
-use Rattle.written_world.specs.Placing.{placeable}
-use Rattle.written_world.specs.HardState.{with_job, with_ended, raised, submitted, finished, banned, unbanned}
-use Rattle.written_world.specs.MasterSteps.{talks, ready, end_step, is_there, counted, take_report, take_demand, meet_app, is_taken, adopts, told, received, adopted_now, master_hears}
+use Rattle.written_roles.specs.Masters.{Master}
+use Rattle.written_roles.specs.Placing.{placeable}
+use Rattle.written_roles.specs.HardState.{with_job, with_ended, raised, submitted, finished, banned, unbanned, HardState, Raise}
+use Rattle.written_roles.specs.MasterSteps.{talks, ready, is_there, counted, take_report, take_demand, meet_app, adopts, master_party, ended_in, banned_in, new_master}
+use Rattle.written_world.specs.Parties.{end_step, told, received, adopted_now, master_hears, agent_hears, app_hears}
 use Rattle.fuxi_terms.proofs.Booleans.{either, number_is}
 use Rattle.fuxi_terms.proofs.KeyOrders.{same_key}
 use Rattle.written_world.proofs.Resting.{IsRangedMaster, IsResting, ranged_same, ready_rests}
 use Rattle.written_world.proofs.Steps.{found_has}
-use Rattle.written_world.specs.Preemption.{plan_of, preempted}
-use Rattle.written_world.specs.Refusals.{Refusal}
-use Rattle.written_world.specs.World.{World, Agent, App, Step, empty_world, prints_nothing, refused, with_found, master_party}
-use Rattle.written_world.specs.Agents.{agent_hears, app_hears}
-use Rattle.written_world.specs.Events.{Event, StartMaster, StopMaster, StartAgent, StartApp, Submit, Finish, Ban, Unban, Begin, Preempt, Want, Near, Rack, Avoid, GiveBack, TurnMaster, TurnAgent, TurnApp, ResyncMaster, ResyncAgent, ResyncApp, Deliver, DeliverRange, Dump, ShowState, at_master, at_agent, at_app, demanded, turned, turn_to_master, addressed, packet_of, deliver_one, deliver_all, given_back, new_master, agent_started, app_started, ended_in, banned_in, act, counted_in, world_step}
+use Rattle.written_roles.specs.Preemption.{plan_of, preempted}
+use Rattle.written_roles.specs.Refusals.{Refusal, with_found}
+use Rattle.written_world.specs.World.{World, Agent, App, Step, empty_world, prints_nothing, refused}
+use Rattle.written_world.specs.Events.{Event, StartMaster, StopMaster, StartAgent, StartApp, Submit, Finish, Ban, Unban, Begin, Preempt, Want, Near, Rack, Avoid, GiveBack, TurnMaster, TurnAgent, TurnApp, ResyncMaster, ResyncAgent, ResyncApp, Deliver, DeliverRange, Dump, ShowState, at_master, at_agent, at_app, demanded, turned, turn_to_master, addressed, packet_of, deliver_one, deliver_all, given_back, agent_started, app_started, act, counted_in, world_step}
 use Rattle.written_world.specs.Runs.{run_from, run}
 use Rattle.std.proofs.lemmas.Map.Lookups.{exact_unsigned}
+use Rattle.written_world.proofs.CommandLemmas.{hard_has, submits_has, finishes_has, bans_has, unbans_has, begins_has, makes_room_has}
 
 -- an entry of a map after a put is the new one or an old one
 record Found {A : Type 0} (P : A → Type 0) (o : Option A) : Type 0 where
@@ -200,8 +201,8 @@ stopped_rests c masters e b = record {
 to_master_rests : (w : World) (p : Party) → AllRest w.cluster w.masters → StepRests (turn_to_master w p)
 to_master_rests w p b = either StepRests (nat_eq (w.net.links p master_id).known 0) (prints_nothing w) (turned w p (master_id ∷ [])) (λ _. record { all = b }) (λ _. record { all = b })
 
-new_ranged : (w : World) (e : ℕ) → IsRangedMaster w.cluster (new_master w e)
-new_ranged w e = record { reported = λ m h. cc; wanted = λ a u h. refl }
+new_ranged : (c : ClusterRecord) (h : HardState) (e : ℕ) → IsRangedMaster c (new_master h e)
+new_ranged c h e = record { reported = λ m h. cc; wanted = λ a u h. refl }
 
 job_ranged : (c : ClusterRecord) (M : Master) (j : JobRecord) → IsRangedMaster c M → IsRangedMaster c (record M { jobs = with_job j M.jobs })
 job_ranged c M j r = record { reported = r.reported; wanted = λ a u h. r.wanted a u (more_units M.jobs j a u h) }
@@ -216,16 +217,17 @@ same_ranged : (c : ClusterRecord) (M N : Master) → N.jobs ≡ M.jobs → N.dem
 same_ranged c M N jobs demands reported r = ranged_same c M N (record { jobs = jobs; demands = demands; reported = reported }) r
 
 act_rests : (w : World) (e : Event) → AllRest w.cluster w.masters → StepRests (act w e)
-act_rests w (StartMaster e) b = checked w _ _ b (step_rests (record w { hard = raised w.hard e; ran = w.ran ++ party master_id e ∷ [] }) (move w.net (Starts (party master_id e))) (new_master w e) (map app_id (job_numbers w.hard.jobs)) b (new_ranged w e))
+act_rests w (StartMaster e) b = checked w _ _ b (hard_has StepRests w (λ r. record { all = b }) w.hard e Raise _ (λ _.
+    step_rests (record w { hard = raised w.hard e; ran = w.ran ++ party master_id e ∷ [] }) (move w.net (Starts (party master_id e))) (new_master (raised w.hard e) e) (map app_id (job_numbers w.hard.jobs)) b (new_ranged w.cluster (raised w.hard e) e)))
 act_rests w (StopMaster e) b = master_runs w e _ b (λ M r. record { all = stopped_rests w.cluster w.masters e b })
 act_rests w (StartAgent m n) b = checked w _ (prints_nothing (agent_started w m n)) b (record { all = b })
 act_rests w (StartApp a n) b = checked w _ (prints_nothing (app_started w a n)) b (record { all = b })
-act_rests w (Submit e j) b = master_runs w e _ b (λ M r. checked w _ _ b (step_rests (record w { hard = submitted w.hard (eight_places j) }) w.net (record M { jobs = with_job (eight_places j) M.jobs }) (app_id j.number ∷ []) b (job_ranged w.cluster M (eight_places j) r)))
-act_rests w (Finish e a) b = master_runs w e _ b (λ M r. checked w _ _ b (step_rests (record w { hard = finished w.hard a }) w.net (ended_in M a) [] b (ended_ranged w.cluster M a r)))
-act_rests w (Ban e m) b = master_runs w e _ b (λ M r. checked w _ _ b (step_rests (record w { hard = banned w.hard m }) w.net (banned_in M m) [] b (same_ranged w.cluster M (banned_in M m) refl refl refl r)))
-act_rests w (Unban e m) b = master_runs w e _ b (λ M r. checked w _ _ b (step_rests (record w { hard = unbanned w.hard m }) w.net (record M { bans = without_number m M.bans }) [] b (same_ranged w.cluster M (record M { bans = without_number m M.bans }) refl refl refl r)))
-act_rests w (Begin e) b = master_runs w e _ b (λ M r. checked w _ _ b (step_rests w w.net (record M { serving = true }) [] b (same_ranged w.cluster M (record M { serving = true }) refl refl refl r)))
-act_rests w (Preempt e) b = master_runs w e _ b (λ M r. checked w _ _ b (found_has StepRests (plan_of w.cluster M) _ _ (record { all = b }) (λ p _. step_rests w w.net (preempted M p) [] b (same_ranged w.cluster M (preempted M p) refl refl refl r))))
+act_rests w (Submit e j) b = master_runs w e _ b (λ M r. submits_has StepRests w (λ r. record { all = b }) M _ j (λ _. step_rests (record w { hard = submitted w.hard (eight_places j) }) w.net (record M { jobs = with_job (eight_places j) M.jobs }) (app_id j.number ∷ []) b (job_ranged w.cluster M (eight_places j) r)))
+act_rests w (Finish e a) b = master_runs w e _ b (λ M r. finishes_has StepRests w (λ r. record { all = b }) M _ a (step_rests (record w { hard = finished w.hard a }) w.net (ended_in M a) [] b (ended_ranged w.cluster M a r)))
+act_rests w (Ban e m) b = master_runs w e _ b (λ M r. bans_has StepRests w (λ r. record { all = b }) M _ m (step_rests (record w { hard = banned w.hard m }) w.net (banned_in M m) [] b (same_ranged w.cluster M (banned_in M m) refl refl refl r)))
+act_rests w (Unban e m) b = master_runs w e _ b (λ M r. unbans_has StepRests w (λ r. record { all = b }) M _ m (step_rests (record w { hard = unbanned w.hard m }) w.net (record M { bans = without_number m M.bans }) [] b (same_ranged w.cluster M (record M { bans = without_number m M.bans }) refl refl refl r)))
+act_rests w (Begin e) b = master_runs w e _ b (λ M r. begins_has StepRests w (λ r. record { all = b }) M _ (step_rests w w.net (record M { serving = true }) [] b (same_ranged w.cluster M (record M { serving = true }) refl refl refl r)))
+act_rests w (Preempt e) b = master_runs w e _ b (λ M r. makes_room_has StepRests w (λ r. record { all = b }) M _ (λ p _. step_rests w w.net (preempted M p) [] b (same_ranged w.cluster M (preempted M p) refl refl refl r)))
 act_rests w (Want a u n) b = app_runs w a _ b (λ g. checked w _ (demanded w a g (want_key u) n) b (record { all = b }))
 act_rests w (Near a u m n) b = app_runs w a _ b (λ g. checked w _ (demanded w a g (near_key u m) n) b (record { all = b }))
 act_rests w (Rack a u r n) b = app_runs w a _ b (λ g. checked w _ (demanded w a g (rack_key u r) n) b (record { all = b }))

@@ -9,34 +9,35 @@ use Rattle.std.proofs.lemmas.Map.Lookups.{exact_unsigned}
 use Rattle.fuxi_terms.specs.declared.Key.{Key}
 use Rattle.fuxi_terms.specs.Cluster.{ClusterRecord, has_rack, has_group, has_machine}
 use Rattle.fuxi_terms.specs.Limits.{greatest_count, greatest_back, most_masters}
-use Rattle.written_world.specs.Net.{Net, Party, Id, Link, Packet, Heard, Starts, unknown, last, move, same_party, comes, heard_of}
-use Rattle.written_world.specs.Ledgers.{Ledger, nothing, at_key, greatest_in_demand, report_ledger}
+use Rattle.written_net.specs.Net.{Net, Party, Id, Link, Packet, Heard, Starts, unknown, last, move, same_party, comes, heard_of, at_index, is_taken}
+use Rattle.written_net.specs.Ledgers.{Ledger, nothing, at_key, report_ledger}
+use Rattle.written_world.specs.Good.{greatest_in_demand, IsCredited}
 use Rattle.fuxi_terms.specs.TallyKeys.{is_back, want_key, near_key, rack_key, avoid_key, back_key}
-use Rattle.written_world.specs.Channels.{content, view, master_id, agent_id, app_id, party, is_master, is_agent, is_app, at_index, present}
+use Rattle.written_net.specs.Channels.{content, view, master_id, agent_id, app_id, party, is_master, is_agent, is_app, present, send_all, resync_all, shape, HasJoined}
 use Rattle.fuxi_terms.specs.Jobs.{job_numbers, unit_count, is_known, is_live, has_ended, eight_places}
 use Rattle.fuxi_terms.specs.Numbers.{without_number}
 use Rattle.fuxi_terms.specs.Lists.{below}
-use Rattle.written_world.specs.Masters.{Master}
-use Rattle.written_world.specs.HardState.{HardState, is_full, submit_tests, raised, submitted, finished, banned, unbanned, with_job}
-use Rattle.written_world.specs.Preemption.{plan_of, preempted}
-use Rattle.written_world.specs.Refusals.{Refusal, NotRising, TooManyMasters, Fenced, Known, NoGroup, NoMachine, NoRack, NoUnit, NoJob, Ended, WantRange, NotUsable, BackRange, job_tests, first_refusal}
-use Rattle.written_world.specs.World.{World, Agent, App, Step, empty_world, prints_nothing, refused, with_found, master_party}
-use Rattle.written_world.specs.MasterSteps.{is_there, talks, peers, projection, end_step, master_hears, told, received, adopted_now, adopts, take_report, take_demand, meet_app, is_taken, row, grants, counted}
-use Rattle.written_world.specs.Agents.{joined, agent_table, agent_hears, app_hears, carry, joined_demand}
-use Rattle.written_world.specs.Events.{Event, StartMaster, StopMaster, StartAgent, StartApp, Submit, Finish, Ban, Unban, Begin, Preempt, Want, Near, Rack, Avoid, GiveBack, TurnMaster, TurnAgent, TurnApp, ResyncMaster, ResyncAgent, ResyncApp, Deliver, DeliverRange, Dump, ShowState, at_master, at_agent, at_app, changed_demand, demanded, send_all, turned, turn_to_master, resync_all, addressed, packet_of, deliver_one, deliver_all, given_back, usable_now, new_master, ended_in, banned_in, act, counted_in, world_step}
+use Rattle.written_roles.specs.Masters.{Master}
+use Rattle.written_roles.specs.HardState.{HardState, is_full, submit_tests, raised, submitted, finished, banned, unbanned, with_job, Raise}
+use Rattle.written_roles.specs.Preemption.{plan_of, preempted}
+use Rattle.written_roles.specs.Refusals.{Refusal, NotRising, TooManyMasters, Fenced, Known, NoGroup, NoMachine, NoRack, NoUnit, NoJob, Ended, WantRange, NotUsable, BackRange, job_tests, first_refusal, with_found}
+use Rattle.written_world.specs.World.{World, Agent, App, Step, empty_world, prints_nothing, refused}
+use Rattle.written_roles.specs.MasterSteps.{master_party, is_there, talks, peers, adopts, take_report, take_demand, meet_app, row, grants, counted, ended_in, banned_in, new_master}
+use Rattle.written_world.specs.Parties.{projection, end_step, master_hears, told, received, adopted_now, joined, agent_table, agent_hears, app_hears, carry}
+use Rattle.written_roles.specs.Apps.{joined_demand, changed_demand}
+use Rattle.written_world.specs.Events.{Event, StartMaster, StopMaster, StartAgent, StartApp, Submit, Finish, Ban, Unban, Begin, Preempt, Want, Near, Rack, Avoid, GiveBack, TurnMaster, TurnAgent, TurnApp, ResyncMaster, ResyncAgent, ResyncApp, Deliver, DeliverRange, Dump, ShowState, at_master, at_agent, at_app, demanded, turned, turn_to_master, addressed, packet_of, deliver_one, deliver_all, given_back, usable_now, act, counted_in, world_step}
 use Rattle.written_world.specs.Runs.{run_from, run}
-use Rattle.written_world.specs.Sound.{Sound, Current, PacketNames}
-use Rattle.written_world.specs.Good.{shape, HasJoined, IsCredited}
+use Rattle.written_net.specs.Sound.{Sound, Current, PacketNames}
 use Rattle.written_world.specs.Shown.{AllShown, AllCredited, AllGiveBacks}
 use Rattle.written_world.specs.Credits.{AllCreditedOnce}
 use Rattle.written_world.specs.Safe.{AllAgree, AllFit, CountsOnce, RowsFit}
-use Rattle.written_world.proofs.Bounds.{found_within}
+use Rattle.written_net.proofs.BoundedLemmas.{found_within}
 use Rattle.fuxi_terms.proofs.Booleans.{either, and_true, number_is, not_false}
-use Rattle.written_world.proofs.Sounds.{Grows, comes_sound, move_sound}
+use Rattle.written_net.proofs.SoundLemmas.{Grows, comes_sound, move_sound}
 use Rattle.written_world.proofs.Start.{empty_at, fit_at_start, sound_at_start, written_at_start}
 use Rattle.written_world.proofs.Steps.{found_has}
-use Rattle.written_world.proofs.Acts.{Acted, same_party_itself, grows_itself, Leaves, leaves_nothing, start_leaves, comes_leaves, send_all_acted, resync_all_acted}
-use Rattle.written_world.proofs.Places.{id_is}
+use Rattle.written_net.proofs.PublishLemmas.{Acted, same_party_itself, grows_itself, Leaves, leaves_nothing, start_leaves, comes_leaves, send_all_acted, resync_all_acted}
+use Rattle.written_net.proofs.NetLemmas.{id_is}
 use Rattle.written_world.proofs.Granting.{GrantHolds, nothing_granted}
 use Rattle.written_world.proofs.Housing.{IsHoused, new_housed, same_housed, added_housed, ended_housed, banned_housed, told_housed, preempted_housed}
 use Rattle.written_world.proofs.Tabling.{IsTabled, met_tabled, new_tabled, same_tabled, added_tabled, told_tabled, ended_tabled, banned_tabled, preempted_tabled}
@@ -48,6 +49,7 @@ use Rattle.written_world.proofs.CreditedOnce.{credited_once}
 use Rattle.written_world.proofs.Agreeing.{agent_agrees, app_agrees}
 use Rattle.written_world.proofs.Carrying.{carry_origins, counts_once}
 use Rattle.written_world.proofs.Joining.{joined_reports, joins, joined_written, demands, acted, agent_standing, app_standing, app_put_standing, agent_starts, app_starts}
+use Rattle.written_world.proofs.CommandLemmas.{hard_has, submits_has, finishes_has, bans_has, unbans_has, begins_has, makes_room_has}
 
 record Stands (w : World) : Type 0 where
   it : Standing w
@@ -280,16 +282,16 @@ deliver_all_stands (suc n) k w h = record { it = (deliver_all_stands n (k + 1) (
 
 -- Starts and stops
 new_stands : (w : World) (e : ℕ) → Standing w → w.hard.fence < e
-    → StepStands (prints_nothing (end_step (record w { hard = raised w.hard e; ran = w.ran ++ party master_id e ∷ [] }) (move w.net (Starts (party master_id e))) (new_master w e) (map app_id (job_numbers w.hard.jobs))))
+    → StepStands (prints_nothing (end_step (record w { hard = raised w.hard e; ran = w.ran ++ party master_id e ∷ [] }) (move w.net (Starts (party master_id e))) (new_master (raised w.hard e) e) (map app_id (job_numbers w.hard.jobs))))
 new_stands w e h lt = record {
-  it = finish_standing w (raised w.hard e) (w.ran ++ party master_id e ∷ []) (move w.net (Starts (party master_id e))) (new_master w e) (map app_id (job_numbers w.hard.jobs)) h (omega (arith, lt)) (knows_itself w.hard.jobs) (omega arith) (knows_itself w.hard.jobs) (new_tabled (new_master w e) refl refl refl) (new_housed w.cluster (new_master w e) refl) credited
+  it = finish_standing w (raised w.hard e) (w.ran ++ party master_id e ∷ []) (move w.net (Starts (party master_id e))) (new_master (raised w.hard e) e) (map app_id (job_numbers w.hard.jobs)) h (omega (arith, lt)) (knows_itself w.hard.jobs) (omega arith) (knows_itself w.hard.jobs) (new_tabled (new_master (raised w.hard e) e) refl refl refl) (new_housed w.cluster (new_master (raised w.hard e) e) refl) credited
       (move_sound shape w.net (Starts (party master_id e)) refl (λ q. h.unstarted (party master_id e) q lt) h.sound) (start_leaves w.net (party master_id e)) (grows_itself w.net) refl;
 }
   where
     link : (a : ℕ) → (move w.net (Starts (party master_id e))).links (party master_id e) (app_id a) ≡ unknown
     link a = ap (λ b. elim b as (λ _. Link) [ true ↦ unknown | false ↦ w.net.links (party master_id e) (app_id a) ]) (same_party_itself (party master_id e))
 
-    credited : IsCredited (move w.net (Starts (party master_id e))) (new_master w e)
+    credited : IsCredited (move w.net (Starts (party master_id e))) (new_master (raised w.hard e) e)
     credited = record {
       credits = λ a alive u m. sym (ap (λ (l : Link). at_key (at_index nothing (w.net.histories (party (app_id a) l.known) master_id) l.seq) (back_key u m)) (link a));
       stranger = λ a none. ap (λ (l : Link). l.seq) (link a);
@@ -366,7 +368,8 @@ give_back_stands w a u m n h = app_runs w a _ h (λ g f. checked w _ _ h (λ t.
 
 -- Each event
 act_stands : (w : World) (e : Event) → Standing w → StepStands (act w e)
-act_stands w (StartMaster e) h = checked w _ _ h (λ n. new_stands w e h (rising (not_refused (not (nat_lt w.hard.fence e)) (NotRising w.hard.fence) ((not (nat_lt (length w.masters) most_masters), TooManyMasters most_masters) ∷ is_full w.hard ∷ []) n).0))
+act_stands w (StartMaster e) h = checked w _ _ h (λ n. hard_has StepStands w (λ r. record { it = h }) w.hard e Raise _ (λ _.
+    new_stands w e h (rising (not_refused (not (nat_lt w.hard.fence e)) (NotRising w.hard.fence) ((not (nat_lt (length w.masters) most_masters), TooManyMasters most_masters) ∷ []) n).0)))
 act_stands w (StopMaster e) h = master_runs w e _ h (λ M f. record { it = stopped_stands w e h })
 act_stands w (StartAgent m b) h = checked w _ _ h (λ n.
     let rest = not (nat_lt (w.boots (agent_id m)) b) in
@@ -378,16 +381,15 @@ act_stands w (StartApp a b) h = checked w _ _ h (λ n.
     let y = not_refused (has_ended w.hard.jobs a) Ended (last ∷ []) x.1 in
     let z = not_refused last.0 last.1 [] y.1 in
     record { it = app_starts w (w.ran ++ party (app_id a) b ∷ []) a b _ refl h (rising z.0) (record { has = λ m r none. cc }) (record { known = not_false (is_known w.hard.jobs a) x.0; units = refl }) })
-act_stands w (Submit e j) h = master_runs w e _ h (λ M f. checked w _ _ h (λ n.
+act_stands w (Submit e j) h = master_runs w e _ h (λ M f. submits_has StepStands w (λ r. record { it = h }) M _ j (λ tests.
     let k = h.masters e M f in
-    let tests = behind (job_tests w.cluster.resources j) (submit_tests w.hard e j) (not_refused (not (has_group w.cluster j.group)) NoGroup (job_tests w.cluster.resources j ++ submit_tests w.hard e j) n).1 in
-    let new : is_known w.hard.jobs j.number ≡ false = (not_refused (is_known w.hard.jobs j.number) Known (is_full w.hard ∷ []) (not_refused (nat_lt e w.hard.fence) (Fenced w.hard.fence) ((is_known w.hard.jobs j.number, Known) ∷ is_full w.hard ∷ []) tests).1).0 in
+    let new : is_known w.hard.jobs j.number ≡ false = (not_refused (is_known w.hard.jobs j.number) Known (is_full w.hard ∷ []) (not_refused (nat_lt M.epoch w.hard.fence) (Fenced w.hard.fence) ((is_known w.hard.jobs j.number, Known) ∷ is_full w.hard ∷ []) tests).1).0 in
     master_acts w (submitted w.hard (eight_places j)) e M (record M { jobs = with_job (eight_places j) M.jobs }) (app_id j.number ∷ []) h f (omega arith) (job_added w.hard.jobs (eight_places j)) refl (both_added M.jobs w.hard.jobs (eight_places j) new k.knows) (added_tabled M (eight_places j)) (added_housed w.cluster M (eight_places j)) (added_credited w.net M (eight_places j))))
-act_stands w (Finish e a) h = master_runs w e _ h (λ M f. checked w _ _ h (λ _. master_acts w (finished w.hard a) e M (ended_in M a) [] h f (omega arith) (ended_knows a w.hard.jobs w.hard.jobs (knows_itself w.hard.jobs)) refl (both_ended a M.jobs w.hard.jobs (h.masters e M f).knows) (ended_tabled M a) (λ _. ended_housed w.cluster M a) (ended_credited w.net M a)))
-act_stands w (Ban e m) h = master_runs w e _ h (λ M f. checked w _ _ h (λ _. master_changes w (banned w.hard m) e M (banned_in M m) [] h f (omega arith) refl refl refl refl (banned_tabled M m) (λ _. banned_housed w.cluster M m)))
-act_stands w (Unban e m) h = master_runs w e _ h (λ M f. checked w _ _ h (λ _. master_changes w (unbanned w.hard m) e M (record M { bans = without_number m M.bans }) [] h f (omega arith) refl refl refl refl (same_tabled M (record M { bans = without_number m M.bans }) refl refl refl refl) (λ _. same_housed w.cluster M (record M { bans = without_number m M.bans }) refl refl refl)))
-act_stands w (Begin e) h = master_runs w e _ h (λ M f. checked w _ _ h (λ _. master_changes w w.hard e M (record M { serving = true }) [] h f (omega arith) refl refl refl refl (same_tabled M (record M { serving = true }) refl refl refl refl) (λ _. same_housed w.cluster M (record M { serving = true }) refl refl refl)))
-act_stands w (Preempt e) h = master_runs w e _ h (λ M f. checked w _ _ h (λ _. found_has StepStands (plan_of w.cluster M) _ _ (record { it = h }) (λ p planned. master_changes w w.hard e M (preempted M p) [] h f (omega arith) refl refl refl refl (preempted_tabled w.cluster M p planned (h.masters e M f).waits) (preempted_housed w.cluster M p planned))))
+act_stands w (Finish e a) h = master_runs w e _ h (λ M f. finishes_has StepStands w (λ r. record { it = h }) M _ a (master_acts w (finished w.hard a) e M (ended_in M a) [] h f (omega arith) (ended_knows a w.hard.jobs w.hard.jobs (knows_itself w.hard.jobs)) refl (both_ended a M.jobs w.hard.jobs (h.masters e M f).knows) (ended_tabled M a) (λ _. ended_housed w.cluster M a) (ended_credited w.net M a)))
+act_stands w (Ban e m) h = master_runs w e _ h (λ M f. bans_has StepStands w (λ r. record { it = h }) M _ m (master_changes w (banned w.hard m) e M (banned_in M m) [] h f (omega arith) refl refl refl refl (banned_tabled M m) (λ _. banned_housed w.cluster M m)))
+act_stands w (Unban e m) h = master_runs w e _ h (λ M f. unbans_has StepStands w (λ r. record { it = h }) M _ m (master_changes w (unbanned w.hard m) e M (record M { bans = without_number m M.bans }) [] h f (omega arith) refl refl refl refl (same_tabled M (record M { bans = without_number m M.bans }) refl refl refl refl) (λ _. same_housed w.cluster M (record M { bans = without_number m M.bans }) refl refl refl)))
+act_stands w (Begin e) h = master_runs w e _ h (λ M f. begins_has StepStands w (λ r. record { it = h }) M _ (master_changes w w.hard e M (record M { serving = true }) [] h f (omega arith) refl refl refl refl (same_tabled M (record M { serving = true }) refl refl refl refl) (λ _. same_housed w.cluster M (record M { serving = true }) refl refl refl)))
+act_stands w (Preempt e) h = master_runs w e _ h (λ M f. makes_room_has StepStands w (λ r. record { it = h }) M _ (λ p planned. master_changes w w.hard e M (preempted M p) [] h f (omega arith) refl refl refl refl (preempted_tabled w.cluster M p planned (h.masters e M f).waits) (preempted_housed w.cluster M p planned)))
 act_stands w (Want a u n) h = want_stands w a u n h
 act_stands w (Near a u m n) h = near_stands w a u m n h
 act_stands w (Rack a u r n) h = rack_stands w a u r n h

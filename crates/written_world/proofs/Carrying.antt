@@ -5,17 +5,18 @@ use Rattle.std.specs.Ordering.{nat_cmp}
 use Rattle.std.specs.FinMap.Entries.{find, put}
 use Rattle.std.proofs.lemmas.List.{map-append}
 use Rattle.fuxi_terms.specs.Vectors.{at_place}
-use Rattle.written_world.specs.Net.{Net, Party, Link}
-use Rattle.written_world.specs.Ledgers.{Ledger, nothing, at_key}
+use Rattle.written_net.specs.Net.{Net, Party, Link, at_index}
+use Rattle.written_net.specs.Ledgers.{Ledger, nothing, at_key}
 use Rattle.fuxi_terms.specs.TallyKeys.{count_key}
-use Rattle.written_world.specs.Channels.{master_id, app_id, party, at_index, view}
+use Rattle.written_net.specs.Channels.{master_id, app_id, party, view, shape}
 use Rattle.fuxi_terms.specs.Lists.{below}
 use Rattle.fuxi_terms.specs.Jobs.{size_at}
 use Rattle.fuxi_terms.specs.Cluster.{has_at}
-use Rattle.written_world.specs.World.{World, App, Carried}
-use Rattle.written_world.specs.Agents.{names, usable, carry_one, carry, app_held}
-use Rattle.written_world.specs.Sound.{Sound}
-use Rattle.written_world.specs.Good.{shape, HasOrigin}
+use Rattle.written_world.specs.World.{World, App}
+use Rattle.written_roles.specs.Apps.{Carried, names}
+use Rattle.written_world.specs.Parties.{usable, carry_one, carry, app_held}
+use Rattle.written_net.specs.Sound.{Sound}
+use Rattle.written_world.specs.Good.{HasOrigin}
 use Rattle.written_world.specs.Safe.{place_for, grants_at, units_total_at, HeldOnce, CountsOnce}
 use Rattle.fuxi_terms.proofs.Booleans.{either}
 use Rattle.written_world.proofs.Granting.{no_share, sum_le}

@@ -9,22 +9,23 @@ use Rattle.std.proofs.lemmas.List.Sums.{sum_by-cons}
 use Rattle.fuxi_terms.specs.Cluster.{ClusterRecord}
 use Rattle.fuxi_terms.specs.Keys.{key_cmp}
 use Rattle.fuxi_terms.specs.Counts.{count}
-use Rattle.written_world.specs.Net.{Net, Link, Move, Starts, Posts, Turns, Hears, Resyncs, move, comes}
-use Rattle.written_world.specs.Ledgers.{Ledger, nothing, at_key}
+use Rattle.written_net.specs.Net.{Net, Link, Move, Starts, Posts, Turns, Hears, Resyncs, move, comes, at_index}
+use Rattle.written_net.specs.Ledgers.{Ledger, nothing, at_key}
 use Rattle.fuxi_terms.specs.TallyKeys.{credited_key, back_key}
-use Rattle.written_world.specs.Channels.{master_id, app_id, party, at_index}
+use Rattle.written_net.specs.Channels.{master_id, app_id, party, shape}
 use Rattle.fuxi_terms.specs.Jobs.{is_live}
-use Rattle.written_world.specs.Masters.{Master, credited_of}
-use Rattle.written_world.specs.World.{World, empty_world, master_party, with_found}
-use Rattle.written_world.specs.Sound.{Rising}
-use Rattle.written_world.specs.Good.{shape}
+use Rattle.written_roles.specs.Masters.{Master, credited_of}
+use Rattle.written_world.specs.World.{World, empty_world}
+use Rattle.written_roles.specs.MasterSteps.{master_party}
+use Rattle.written_roles.specs.Refusals.{with_found}
+use Rattle.written_net.specs.Sound.{Rising}
 use Rattle.written_world.specs.Shown.{StartsAnew}
 use Rattle.written_world.specs.Credits.{AllCreditedOnce, credited_in, given_back_by, rises_from}
 use Rattle.written_world.specs.Events.{Event, world_step}
 use Rattle.written_world.specs.Runs.{run_from, run}
 use Rattle.fuxi_terms.proofs.Booleans.{both_true, number_is}
-use Rattle.written_world.proofs.Sounds.{Grows, Longer, posted_longer}
-use Rattle.written_world.proofs.Acts.{grows_itself, grows_then}
+use Rattle.written_net.proofs.SoundLemmas.{Grows, Longer, posted_longer}
+use Rattle.written_net.proofs.PublishLemmas.{grows_itself, grows_then}
 use Rattle.written_world.proofs.Steps.{run_from_keeps}
 use Rattle.written_world.proofs.Standing.{Standing}
 

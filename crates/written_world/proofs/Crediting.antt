@@ -12,22 +12,24 @@ use Rattle.fuxi_terms.specs.Cluster.{ClusterRecord, has_machine}
 use Rattle.fuxi_terms.specs.Keys.{key_cmp}
 use Rattle.fuxi_terms.specs.Counts.{count}
 use Rattle.fuxi_terms.proofs.Counting.{both_true as both, tied, below_none}
-use Rattle.written_world.specs.Net.{Net, Party, Id, Link, Packet, Kind, Ack, Delta, Full, Heard, What, Stranger, Stale, Acked, NotMine, Old, Gap, Taken, last, met, place_moved, word_of, link_after, unmoved, hear, hear_peer, heard_of, comes, same_id}
-use Rattle.written_world.specs.Ledgers.{Ledger, nothing, at_key}
+use Rattle.written_net.specs.Net.{Net, Party, Id, Link, Packet, Kind, Ack, Delta, Full, Heard, last, met, place_moved, word_of, link_after, unmoved, hear, hear_peer, heard_of, comes, same_id, at_index, is_taken}
+use Rattle.fuxi_terms.specs.declared.answers.What.{What}
+use Rattle.fuxi_terms.specs.declared.answers.What.TheVariants.{Stranger, Stale, Ack as Acked, NotMine, Old, Gap, Taken, Ledger as SaysLedger, Exceeds as SaysExceeds}
+use Rattle.written_net.specs.Ledgers.{Ledger, nothing, at_key}
 use Rattle.fuxi_terms.specs.TallyKeys.{credited_key, back_key, is_back}
-use Rattle.written_world.specs.Channels.{master_id, agent_id, app_id, party, is_agent, is_app, at_index, view, content}
+use Rattle.written_net.specs.Channels.{master_id, agent_id, app_id, party, is_agent, is_app, view, content, shape, has_heads}
 use Rattle.fuxi_terms.specs.Jobs.{KnownJob, is_known, is_live, unit_count}
-use Rattle.written_world.specs.Masters.{Master, credited_of}
-use Rattle.written_world.specs.World.{master_party}
-use Rattle.written_world.specs.MasterSteps.{talks, is_there, counted, credit, raise_credited, take_report, take_demand, adopts, meet_app, is_taken, received, told}
-use Rattle.written_world.specs.Sound.{Sound, PacketNames, NamesAt, LinkNames, Rising}
-use Rattle.written_world.specs.Good.{shape, has_heads, BacksRise, IsCredited, IsRanged}
+use Rattle.written_roles.specs.Masters.{Master, credited_of}
+use Rattle.written_roles.specs.MasterSteps.{master_party, talks, is_there, counted, credit, raise_credited, take_report, take_demand, adopts, meet_app}
+use Rattle.written_world.specs.Parties.{received, told}
+use Rattle.written_net.specs.Sound.{Sound, PacketNames, NamesAt, LinkNames, Rising}
+use Rattle.written_world.specs.Good.{BacksRise, IsCredited, IsRanged}
 use Rattle.fuxi_terms.proofs.Booleans.{both_true, either, number_is, nat_itself, not_false}
 use Rattle.fuxi_terms.proofs.KeyOrders.{key_total, same_key}
-use Rattle.written_world.proofs.Places.{id_is}
-use Rattle.written_world.proofs.Bounds.{met_known}
-use Rattle.written_world.proofs.Sounds.{Grows, taken_names, met_names}
-use Rattle.written_world.proofs.Acts.{set_here, set_beside}
+use Rattle.written_net.proofs.NetLemmas.{id_is}
+use Rattle.written_net.proofs.BoundedLemmas.{met_known}
+use Rattle.written_net.proofs.SoundLemmas.{Grows, taken_names, met_names}
+use Rattle.written_net.proofs.PublishLemmas.{set_here, set_beside}
 use Rattle.written_world.proofs.Writing.{DemandsHold, KnowsMore, backs_between}
 
 -- A master whose views stay
@@ -38,10 +40,6 @@ credited_view net net' M views seqs h = record {
   stranger = λ a none. seqs a ∙ h.stranger a none;
   uncredited = h.uncredited;
 }
-
-pub view_grows : (net net' : Net Ledger) (p : Party) (q : Id) → Sound shape net → net'.links p q ≡ net.links p q → Grows shape net.histories net'.histories → view net' p q ≡ view net p q
-view_grows net net' p q s same g = ap (λ (l : Link). at_index nothing (net'.histories (party q l.known) p.id) l.seq) same
-    ∙ (g.longer (party q (net.links p q).known) p.id).same (net.links p q).seq (s.links p q).place.there
 
 pub credited_like : (net : Net Ledger) (M N : Master) → N.epoch ≡ M.epoch → N.jobs ≡ M.jobs → N.credited ≡ M.credited → IsCredited net M → IsCredited net N
 credited_like net M N epoch jobs credited h = record {
@@ -138,6 +136,8 @@ stayed own top x Stale m e = (refl, refl)
 stayed own top x NotMine m e = (refl, refl)
 stayed own top x Old m e = (refl, refl)
 stayed own top x Gap m e = (refl, refl)
+stayed own top x (SaysLedger fault) m e = (refl, refl)
+stayed own top x (SaysExceeds total has) m e = (refl, refl)
 
 -- Crediting at one link
 abbrev seen : (Party → Id → List Ledger) → ℕ → Link → Ledger
@@ -253,6 +253,8 @@ heard_credits hs M talk a top above l x from n ln r w d dh tidy df h =
     by_word to NotMine e known = stay NotMine refl
     by_word to Old e known = stay Old refl
     by_word to Gap e known = stay Gap refl
+    by_word to (SaysLedger fault) e known = stay (SaysLedger fault) refl
+    by_word to (SaysExceeds total has) e known = stay (SaysExceeds total has) refl
 
 -- What hearing leaves of a master
 record Beside (M N : Master) (a : ℕ) : Type 0 where

@@ -10,12 +10,12 @@ use Rattle.std.specs.FinMap.Entries.{find}
 use Rattle.std.proofs.lemmas.Bool.Decides.{nat_tests}
 use Rattle.fuxi_terms.specs.Keys.{key_cmp, Spot, spot_cmp}
 use Rattle.fuxi_terms.proofs.Counting.{tied}
-use Rattle.written_world.specs.Ledgers.{at_key}
+use Rattle.written_net.specs.Ledgers.{at_key}
 use Rattle.fuxi_terms.specs.TallyKeys.{reported_key, count_key, credited_key}
 use Rattle.fuxi_terms.specs.Jobs.{is_live}
-use Rattle.written_world.specs.Masters.{Master, credited_of}
+use Rattle.written_roles.specs.Masters.{Master, credited_of}
 use Rattle.fuxi_terms.specs.Tables.{spot, held_on}
-use Rattle.written_world.specs.MasterSteps.{count_entries, grants}
+use Rattle.written_roles.specs.MasterSteps.{count_entries, grants}
 use Rattle.fuxi_terms.proofs.KeyOrders.{key_total, spot_total, same_key, same_spot}
 use Rattle.fuxi_terms.proofs.Booleans.{number_is, same_tests}
 use Rattle.written_world.proofs.Tabling.{IsTabled, live_found}

@@ -11,13 +11,13 @@ use Rattle.fuxi_terms.specs.Cluster.{ClusterRecord, has_at}
 use Rattle.fuxi_terms.specs.Vectors.{at_place}
 use Rattle.fuxi_terms.specs.Keys.{Spot, spot_cmp}
 use Rattle.fuxi_terms.proofs.Counting.{tied}
-use Rattle.written_world.specs.Ledgers.{Ledger, nothing, at_key}
+use Rattle.written_net.specs.Ledgers.{Ledger, nothing, at_key}
 use Rattle.fuxi_terms.specs.TallyKeys.{count_key}
 use Rattle.fuxi_terms.specs.Jobs.{KnownJob, job_of, is_known, is_live, no_unit, units_of, size_at}
 use Rattle.fuxi_terms.specs.Lists.{below}
-use Rattle.written_world.specs.Masters.{Master}
+use Rattle.written_roles.specs.Masters.{Master}
 use Rattle.fuxi_terms.specs.Tables.{spot, held_on, total_at}
-use Rattle.written_world.specs.MasterSteps.{grants}
+use Rattle.written_roles.specs.MasterSteps.{grants}
 use Rattle.written_world.specs.Safe.{units_total_at}
 use Rattle.fuxi_terms.proofs.KeyOrders.{same_spot}
 use Rattle.fuxi_terms.proofs.Booleans.{number_is}

@@ -8,35 +8,36 @@ use Rattle.std.specs.FinMap.Entries.{put, where_key, is_sorted}
 use Rattle.std.proofs.lemmas.Bool.Decides.{nat_tests}
 use Rattle.std.proofs.lemmas.List.Sums.{sum_by-cons}
 use Rattle.fuxi_terms.specs.declared.Key.{Key}
-use Rattle.fuxi_terms.specs.Cluster.{ClusterRecord, JobRecord, has_at, in_each}
+use Rattle.fuxi_terms.specs.Cluster.{ClusterRecord, JobRecord, has_at, in_each_place}
 use Rattle.fuxi_terms.specs.Keys.{key_cmp, RowKey, Spot, spot_cmp}
 use Rattle.fuxi_terms.specs.Counts.{count, set_count}
 use Rattle.fuxi_terms.proofs.Counting.{tied, count-set_count}
-use Rattle.written_world.specs.Net.{Id, Heard}
-use Rattle.written_world.specs.Ledgers.{Ledger}
+use Rattle.written_net.specs.Net.{Id, Heard, is_taken}
+use Rattle.written_net.specs.Ledgers.{Ledger}
 use Rattle.fuxi_terms.specs.TallyKeys.{credited_key, is_back}
-use Rattle.written_world.specs.Channels.{is_agent}
+use Rattle.written_net.specs.Channels.{is_agent}
 use Rattle.fuxi_terms.specs.Jobs.{KnownJob, is_live, size_at}
 use Rattle.fuxi_terms.specs.Lists.{below}
 use Rattle.fuxi_terms.specs.Numbers.{has_number, with_number}
-use Rattle.written_world.specs.Masters.{Master, credited_of}
+use Rattle.written_roles.specs.Masters.{Master, credited_of}
 use Rattle.fuxi_terms.specs.Tables.{spot, total_at, with_grant, without_grants}
-use Rattle.written_world.specs.Placing.{first_placeable, granted, settle, settled, all_out, line_up, is_usable, has_room, may_grow, placeable}
-use Rattle.written_world.specs.Preemption.{Plan, set_at_place, tried, plan_of, by_priority, preempted}
-use Rattle.written_world.specs.HardState.{with_job}
-use Rattle.written_world.specs.MasterSteps.{phased, ready, row, is_kept, adopted, adopts, take_report, credit, take_demand, meet_app, is_taken, told}
-use Rattle.written_world.specs.Events.{ended_in, banned_in}
+use Rattle.written_roles.specs.Placing.{first_placeable, granted, settle, settled, all_out, line_up, is_usable, has_room, may_grow, placeable}
+use Rattle.written_roles.specs.Preemption.{Plan, set_at_place, tried, plan_of, by_priority, preempted}
+use Rattle.written_roles.specs.HardState.{with_job}
+use Rattle.written_roles.specs.MasterSteps.{phased, ready, row, is_kept, adopted, adopts, take_report, credit, take_demand, meet_app, ended_in, banned_in}
+use Rattle.written_world.specs.Parties.{told}
 use Rattle.written_world.specs.Safe.{RowsFit, row_total_at}
-use Rattle.written_world.specs.Settling.{IsWithin}
+use Rattle.written_roles.specs.Settling.{IsWithin}
 use Rattle.fuxi_terms.proofs.Alls.{all_append}
-use Rattle.fuxi_terms.proofs.Members.{each_place}
-use Rattle.written_world.proofs.Capacity.{settled_fits}
+use Rattle.fuxi_terms.proofs.Members.{in_each_is}
+use Rattle.written_roles.proofs.Capacity.{settled_fits}
 use Rattle.fuxi_terms.proofs.Booleans.{both_true, either, number_is}
 use Rattle.fuxi_terms.proofs.KeyOrders.{spot_total, same_spot}
-use Rattle.written_world.proofs.Placed.{is_placeable}
+use Rattle.written_roles.proofs.Placed.{is_placeable}
 use Rattle.fuxi_terms.proofs.Spots.{Each, each_put, each_where, each_found, each_set}
 use Rattle.written_world.proofs.Loads.{load, load_more, set_exact, where_less, nothing_there, added_loads, ended_loads, adopted_loads, row_loads}
-use Rattle.written_world.proofs.Drawing.{often, one_if, IsDrawn, IsLoss, plan_loss}
+use Rattle.written_roles.proofs.Drawing.{plan_loss}
+use Rattle.written_roles.specs.Losses.{often, one_if, IsDrawn, IsLoss}
 use Rattle.written_world.proofs.Tabling.{IsTabled, planned, sorted_set}
 
 abbrev IsReported : List ℕ → Spot → Type 0
@@ -308,8 +309,8 @@ preempted_housed c M p e t h = record {
 
     room : (i : ℕ) → i < c.resources → total_at M.jobs p.served.machine i (without_grants M.table p.losers) + size_at M.jobs p.served.job p.served.unit i ≤ has_at c p.served.machine i
     room i lt =
-        let test = each_place c.resources (λ i. not (nat_lt (has_at c p.served.machine i + set_at_place M.jobs i p.losers) (total_at M.jobs p.served.machine i M.table + size_at M.jobs p.served.job p.served.unit i))) i
-        (both_true (in_each c (λ i. not (nat_lt (has_at c p.served.machine i + set_at_place M.jobs i p.losers) (total_at M.jobs p.served.machine i M.table + size_at M.jobs p.served.job p.served.unit i)))) _ loss.enough).0 lt in
+        let test = in_each_is c (size_at M.jobs p.served.job p.served.unit) (λ i. not (nat_lt (has_at c p.served.machine i + set_at_place M.jobs i p.losers) (total_at M.jobs p.served.machine i M.table + size_at M.jobs p.served.job p.served.unit i))) i
+        (both_true (in_each_place c (size_at M.jobs p.served.job p.served.unit) (λ i. not (nat_lt (has_at c p.served.machine i + set_at_place M.jobs i p.losers) (total_at M.jobs p.served.machine i M.table + size_at M.jobs p.served.job p.served.unit i)))) _ loss.enough).0 lt in
         let enough : total_at M.jobs p.served.machine i M.table + size_at M.jobs p.served.job p.served.unit i ≤ has_at c p.served.machine i + set_at_place M.jobs i p.losers = grind (arith, nat_tests, test) in
         let gone = loads_without M.jobs p.served.machine i p.losers M.table t.sorted loss.drawn in
         omega (arith, enough, gone)

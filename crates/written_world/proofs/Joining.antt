@@ -4,21 +4,23 @@ use Rattle.std.specs.Prelude.{◌&&◌}
 use Rattle.std.specs.Ordering.{nat_cmp}
 use Rattle.std.specs.FinMap.Entries.{find, put}
 use Rattle.std.proofs.lemmas.Bool.Decides.{nat_tests}
-use Rattle.written_world.specs.Net.{Net, Party, Id, Link, Packet, Heard, What, Taken, Acked, Stranger, Stale, NotMine, Old, Gap, Starts, last, set_at, unknown, move, same_id, same_party, met, word_of, link_after, unmoved, hear, hear_peer, heard_of, comes}
-use Rattle.written_world.specs.Ledgers.{Ledger, nothing}
-use Rattle.written_world.specs.Channels.{master_id, agent_id, app_id, party, is_master, at_index, present, to_master, publish}
+use Rattle.written_net.specs.Net.{Net, Party, Id, Link, Packet, Heard, Starts, last, set_at, unknown, move, same_id, same_party, met, word_of, link_after, unmoved, hear, hear_peer, heard_of, comes, at_index}
+use Rattle.fuxi_terms.specs.declared.answers.What.{What}
+use Rattle.fuxi_terms.specs.declared.answers.What.TheVariants.{Taken, Ack as Acked, Stranger, Stale, NotMine, Old, Gap, Ledger as SaysLedger, Exceeds as SaysExceeds}
+use Rattle.written_net.specs.Ledgers.{Ledger, nothing}
+use Rattle.written_net.specs.Channels.{master_id, agent_id, app_id, party, is_master, present, to_master, publish, shape, HasJoined}
 use Rattle.written_world.specs.World.{World, Agent, App, top, set_boot}
 use Rattle.fuxi_terms.specs.Cluster.{ClusterRecord, has_machine}
 use Rattle.fuxi_terms.specs.Jobs.{KnownJob, unit_count}
 use Rattle.written_world.proofs.Writing.{DemandsHold, knows_itself, publish_each, published_demands, joined_follows}
-use Rattle.written_world.specs.Agents.{joined, joined_demand}
-use Rattle.written_world.specs.Sound.{Sound, PacketNames}
-use Rattle.written_world.specs.Good.{shape, HasJoined}
-use Rattle.written_world.proofs.Bounds.{found_within}
+use Rattle.written_world.specs.Parties.{joined}
+use Rattle.written_roles.specs.Apps.{joined_demand}
+use Rattle.written_net.specs.Sound.{Sound, PacketNames}
+use Rattle.written_net.proofs.BoundedLemmas.{found_within}
 use Rattle.fuxi_terms.proofs.Booleans.{both_true, either, number_is, not_false}
-use Rattle.written_world.proofs.Places.{id_is, set_at_all}
-use Rattle.written_world.proofs.Sounds.{Grows, comes_sound, move_sound}
-use Rattle.written_world.proofs.Acts.{Leaves, leaves_then, start_leaves, comes_leaves, grows_itself, publish_grows, publish_links, publish_leaves, publish_sound, publish_presents, set_here, same_id_itself, same_party_itself, Acted}
+use Rattle.written_net.proofs.NetLemmas.{id_is, set_at_all}
+use Rattle.written_net.proofs.SoundLemmas.{Grows, comes_sound, move_sound}
+use Rattle.written_net.proofs.PublishLemmas.{Leaves, leaves_then, start_leaves, comes_leaves, grows_itself, publish_grows, publish_links, publish_leaves, publish_sound, publish_presents, set_here, same_id_itself, same_party_itself, Acted}
 use Rattle.written_world.specs.Safe.{RowsFit}
 use Rattle.written_world.proofs.Standing.{Standing, IsJoined, Origins, HasUnits, stepped, put_found}
 
@@ -31,6 +33,8 @@ after_known Stale own top m x = refl
 after_known NotMine own top m x = refl
 after_known Old own top m x = refl
 after_known Gap own top m x = refl
+after_known (SaysLedger fault) own top m x = refl
+after_known (SaysExceeds total has) own top m x = refl
 
 -- what a party knows of the sender of what it heard
 record KnowsSender (talks : Bool) (l : Link) (x : Packet) (h : Heard) : Type 0 where

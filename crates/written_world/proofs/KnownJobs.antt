@@ -5,15 +5,14 @@ use Rattle.std.specs.Option.{option_map, unwrap_or}
 use Rattle.fuxi_terms.specs.Cluster.{JobRecord}
 use Rattle.fuxi_terms.specs.Keys.{key_cmp}
 use Rattle.fuxi_terms.specs.Counts.{count}
-use Rattle.written_world.specs.Net.{Net}
-use Rattle.written_world.specs.Ledgers.{Ledger, nothing, at_key}
+use Rattle.written_net.specs.Net.{Net, at_index}
+use Rattle.written_net.specs.Ledgers.{Ledger, nothing, at_key}
 use Rattle.fuxi_terms.specs.TallyKeys.{credited_key, back_key}
-use Rattle.written_world.specs.Channels.{master_id, app_id, party, at_index}
+use Rattle.written_net.specs.Channels.{master_id, app_id, party}
 use Rattle.fuxi_terms.specs.Jobs.{KnownJob, job_of, is_known, is_live, units_of}
-use Rattle.written_world.specs.Masters.{Master, credited_of}
-use Rattle.written_world.specs.HardState.{with_job, with_ended}
-use Rattle.written_world.specs.World.{master_party}
-use Rattle.written_world.specs.Events.{ended_in}
+use Rattle.written_roles.specs.Masters.{Master, credited_of}
+use Rattle.written_roles.specs.HardState.{with_job, with_ended}
+use Rattle.written_roles.specs.MasterSteps.{master_party, ended_in}
 use Rattle.written_world.specs.Good.{IsCredited}
 use Rattle.fuxi_terms.proofs.Booleans.{number_is}
 use Rattle.written_world.proofs.Writing.{KnowsMore}

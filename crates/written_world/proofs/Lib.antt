@@ -1,11 +1,6 @@
-pub mod Placed
-pub mod Capacity
-pub mod Places
-pub mod Bounds
+pub mod CommandLemmas
 pub mod Steps
 pub mod Start
-pub mod Sounds
-pub mod Acts
 pub mod Writing
 pub mod Crediting
 pub mod Tabling
@@ -15,7 +10,6 @@ pub mod Joining
 pub mod Agreeing
 pub mod KnownJobs
 pub mod Loads
-pub mod Drawing
 pub mod Housing
 pub mod Granted
 pub mod Granting

@@ -16,8 +16,8 @@ use Rattle.fuxi_terms.proofs.VectorLaws.{fits_places}
 use Rattle.fuxi_terms.specs.Jobs.{KnownJob, job_of, is_known, is_live, no_unit, unit_of, unit_count, size_at}
 use Rattle.fuxi_terms.specs.Numbers.{has_number}
 use Rattle.fuxi_terms.specs.Tables.{spot, total_at}
-use Rattle.written_world.specs.HardState.{with_job, with_ended}
-use Rattle.written_world.specs.MasterSteps.{row_key, is_kept, same_size, adopted}
+use Rattle.written_roles.specs.HardState.{with_job, with_ended}
+use Rattle.written_roles.specs.MasterSteps.{row_key, is_kept, same_size, adopted}
 use Rattle.written_world.specs.Safe.{row_total_at}
 use Rattle.fuxi_terms.proofs.Booleans.{both_true, either, number_is}
 use Rattle.fuxi_terms.proofs.KeyOrders.{spot_total, same_spot}

@@ -8,19 +8,19 @@ use Rattle.std.specs.FinMap.Entries.{find}
 use Rattle.std.proofs.lemmas.Bool.Decides.{nat_tests}
 use Rattle.fuxi_terms.specs.Cluster.{ClusterRecord, has_machine}
 use Rattle.fuxi_terms.specs.Keys.{Spot}
-use Rattle.written_world.specs.Ledgers.{nothing, at_key}
+use Rattle.written_net.specs.Ledgers.{nothing, at_key}
 use Rattle.fuxi_terms.specs.TallyKeys.{want_key}
 use Rattle.fuxi_terms.specs.Jobs.{KnownJob, job_of, unit_count, job_numbers}
 use Rattle.fuxi_terms.specs.Numbers.{has_number, with_number}
 use Rattle.fuxi_terms.specs.Lists.{below}
-use Rattle.written_world.specs.Masters.{Master, asked, out}
-use Rattle.written_world.specs.Placing.{waiting_pairs, has_pair, lined, line_up, is_usable, may_grow, has_room, is_allowed, placeable, first_placeable, granted, settle, settled, all_out}
+use Rattle.written_roles.specs.Masters.{Master, asked, out}
+use Rattle.written_roles.specs.Placing.{waiting_pairs, has_pair, lined, line_up, is_usable, may_grow, has_room, is_allowed, placeable, first_placeable, granted, settle, settled, all_out}
 use Rattle.fuxi_terms.specs.Tables.{with_grant}
-use Rattle.written_world.specs.Settling.{NothingPlaceable}
-use Rattle.written_world.specs.MasterSteps.{phased, ready}
+use Rattle.written_roles.specs.Settling.{NothingPlaceable}
+use Rattle.written_roles.specs.MasterSteps.{phased, ready}
 use Rattle.fuxi_terms.proofs.Booleans.{both_true, number_is}
 use Rattle.fuxi_terms.proofs.Sums.{held_more}
-use Rattle.written_world.proofs.Placed.{settled_nothing}
+use Rattle.written_roles.proofs.Placed.{settled_nothing}
 
 either_true : (a b : Bool) → b ≡ true → (a || b) ≡ true
 either_true true b e = refl

@@ -6,28 +6,30 @@ use Rattle.std.specs.Cmp.{nat_cmp_total}
 use Rattle.std.specs.FinMap.Entries.{find, put, find-put}
 use Rattle.std.proofs.lemmas.Bool.Decides.{nat_tests}
 use Rattle.fuxi_terms.specs.Cluster.{ClusterRecord, has_machine}
-use Rattle.written_world.specs.Net.{Net, Party, Id, Link, same_id, same_party}
-use Rattle.written_world.specs.Ledgers.{Ledger, nothing, at_key}
+use Rattle.written_net.specs.Net.{Net, Party, Id, Link, same_id, same_party, at_index}
+use Rattle.written_net.specs.Ledgers.{Ledger, nothing, at_key}
 use Rattle.fuxi_terms.specs.TallyKeys.{count_key}
-use Rattle.written_world.specs.Channels.{master_id, agent_id, app_id, party, is_agent, is_app, at_index, present, Offer, publish}
-use Rattle.written_world.specs.Masters.{Master}
-use Rattle.written_world.specs.Placing.{first_placeable, granted, settle, settled, all_out, line_up}
-use Rattle.written_world.specs.HardState.{HardState}
-use Rattle.written_world.specs.World.{World, Agent, App, Carried, top, master_party}
-use Rattle.written_world.specs.MasterSteps.{peers, offers, projection, row, grants, is_one_of, phased, ready, end_step}
-use Rattle.written_world.specs.Sound.{Sound}
-use Rattle.written_world.specs.Good.{has_heads, shape, HasJoined, HasOrigin, IsCredited}
-use Rattle.written_world.proofs.Places.{party_is}
+use Rattle.written_net.specs.Channels.{master_id, agent_id, app_id, party, is_agent, is_app, present, Offer, publish, has_heads, shape, HasJoined}
+use Rattle.written_roles.specs.Masters.{Master}
+use Rattle.written_roles.specs.Placing.{first_placeable, granted, settle, settled, all_out, line_up}
+use Rattle.written_roles.specs.HardState.{HardState}
+use Rattle.written_world.specs.World.{World, Agent, App, top}
+use Rattle.written_roles.specs.Apps.{Carried}
+use Rattle.written_roles.specs.MasterSteps.{master_party, peers, row, grants, is_one_of, phased, ready}
+use Rattle.written_world.specs.Parties.{offers, projection, end_step}
+use Rattle.written_net.specs.Sound.{Sound}
+use Rattle.written_world.specs.Good.{HasOrigin, IsCredited}
+use Rattle.written_net.proofs.NetLemmas.{party_is}
 use Rattle.fuxi_terms.proofs.Booleans.{number_is}
 use Rattle.fuxi_terms.specs.Jobs.{KnownJob, is_known, unit_count}
 use Rattle.written_world.proofs.Writing.{DemandsHold, KnowsMore, knows_then, wider, publish_each}
-use Rattle.written_world.proofs.Crediting.{credited_view, view_grows, credited_like}
+use Rattle.written_world.proofs.Crediting.{credited_view, credited_like}
+use Rattle.written_net.proofs.PublishLemmas.{view_grows, Leaves, leaves_then, grows_then, publish_grows, HeadIsKnown, IsWanted, publish_links, publish_leaves, publish_sound, publish_presents}
 use Rattle.written_world.specs.Safe.{RowsFit}
 use Rattle.written_world.proofs.Granting.{GrantHolds, grant_wider, grants_hold}
 use Rattle.written_world.proofs.Housing.{IsHoused, ready_housed, row_fits}
 use Rattle.written_world.proofs.Tabling.{IsTabled, AllWait, ready_tabled, ready_waits}
-use Rattle.written_world.proofs.Sounds.{Grows}
-use Rattle.written_world.proofs.Acts.{Leaves, leaves_then, grows_then, publish_grows, HeadIsKnown, IsWanted, publish_links, publish_leaves, publish_sound, publish_presents}
+use Rattle.written_net.proofs.SoundLemmas.{Grows}
 
 -- a running master of an epoch, and a running agent or application with its boot
 pub record IsShowing (c : ClusterRecord) (hard : HardState) (net : Net Ledger) (e : ℕ) (M : Master) : Type 0 where

@@ -3,14 +3,14 @@ use Rattle.std.proofs.Common.{◌≡◌, ℕ, zero, suc, Bool, [], refl, sym, ap
 use Rattle.std.specs.List.{AllByRecursion}
 use Rattle.fuxi_terms.specs.declared.Key.{Key}
 use Rattle.fuxi_terms.specs.Cluster.{ClusterRecord}
-use Rattle.written_world.specs.Net.{silent}
-use Rattle.written_world.specs.Ledgers.{Ledger, nothing, at_key}
+use Rattle.written_net.specs.Net.{silent, at_index}
+use Rattle.written_net.specs.Ledgers.{Ledger, nothing, at_key}
 use Rattle.fuxi_terms.specs.TallyKeys.{count_key}
-use Rattle.written_world.specs.Channels.{at_index}
 use Rattle.written_world.specs.World.{empty_world}
 use Rattle.written_world.specs.Safe.{RowsFit}
-use Rattle.written_world.specs.Sound.{Sound, Names}
-use Rattle.written_world.specs.Good.{EntriesFit, shape, AllRan, IsTidy, IsOfJob, Written, Good}
+use Rattle.written_net.specs.Sound.{Sound, Names}
+use Rattle.written_world.specs.Good.{EntriesFit, AllRan, IsTidy, IsOfJob, Written, Good}
+use Rattle.written_net.specs.Channels.{shape}
 
 pub empty_at : (n : ℕ) → at_index nothing [] n ≡ nothing
 empty_at zero = refl

@@ -5,22 +5,24 @@ use Rattle.std.specs.Ordering.{nat_cmp}
 use Rattle.std.specs.FinMap.Entries.{find}
 use Rattle.fuxi_terms.specs.declared.Key.{Key}
 use Rattle.fuxi_terms.specs.Cluster.{ClusterRecord}
-use Rattle.written_world.specs.Net.{Net, Party, Id, Packet, Move, Posts, Turns, Starts, Hears, Resyncs, move, comes, silent, heard_of}
-use Rattle.written_world.specs.Ledgers.{Ledger, same_ledger, report_ledger}
-use Rattle.written_world.specs.Channels.{master_id, agent_id, app_id, party, is_master, is_agent, is_app, present, Offer, to_master, publish_one, publish}
-use Rattle.written_world.specs.Masters.{Master}
+use Rattle.written_net.specs.Net.{Net, Party, Id, Packet, Move, Posts, Turns, Starts, Hears, Resyncs, move, comes, silent, heard_of}
+use Rattle.written_net.specs.Ledgers.{Ledger, same_ledger, report_ledger}
+use Rattle.written_net.specs.Channels.{master_id, agent_id, app_id, party, is_master, is_agent, is_app, present, Offer, to_master, publish_one, publish, send_all, resync_all}
+use Rattle.written_roles.specs.Masters.{Master}
 use Rattle.fuxi_terms.specs.TallyKeys.{want_key, near_key, rack_key, avoid_key, back_key}
 use Rattle.fuxi_terms.specs.Jobs.{job_numbers, eight_places}
 use Rattle.fuxi_terms.specs.Numbers.{without_number}
-use Rattle.written_world.specs.HardState.{raised, submitted, finished, banned, unbanned, with_job}
-use Rattle.written_world.specs.Preemption.{plan_of, preempted}
-use Rattle.written_world.specs.Refusals.{Refusal}
-use Rattle.written_world.specs.World.{World, Agent, App, Step, empty_world, prints_nothing, refused, with_found, master_party}
-use Rattle.written_world.specs.MasterSteps.{talks, peers, offers, ready, end_step, master_hears, told, received, adopted_now}
-use Rattle.written_world.specs.Agents.{joined, agent_table, agent_hears, app_hears, joined_demand}
-use Rattle.written_world.specs.Events.{Event, StartMaster, StopMaster, StartAgent, StartApp, Submit, Finish, Ban, Unban, Begin, Preempt, Want, Near, Rack, Avoid, GiveBack, TurnMaster, TurnAgent, TurnApp, ResyncMaster, ResyncAgent, ResyncApp, Deliver, DeliverRange, Dump, ShowState, at_master, at_agent, at_app, changed_demand, demanded, send_all, turned, turn_to_master, resync_all, resynced, addressed, packet_of, deliver_one, deliver_all, given_back, new_master, agent_started, app_started, ended_in, banned_in, act, counted_in, world_step}
+use Rattle.written_roles.specs.HardState.{raised, submitted, finished, banned, unbanned, with_job, Raise}
+use Rattle.written_roles.specs.Preemption.{plan_of, preempted}
+use Rattle.written_roles.specs.Refusals.{Refusal, with_found}
+use Rattle.written_world.specs.World.{World, Agent, App, Step, empty_world, prints_nothing, refused}
+use Rattle.written_roles.specs.MasterSteps.{master_party, talks, peers, ready, ended_in, banned_in, new_master}
+use Rattle.written_world.specs.Parties.{offers, end_step, master_hears, told, received, adopted_now, joined, agent_table, agent_hears, app_hears}
+use Rattle.written_roles.specs.Apps.{joined_demand, changed_demand}
+use Rattle.written_world.specs.Events.{Event, StartMaster, StopMaster, StartAgent, StartApp, Submit, Finish, Ban, Unban, Begin, Preempt, Want, Near, Rack, Avoid, GiveBack, TurnMaster, TurnAgent, TurnApp, ResyncMaster, ResyncAgent, ResyncApp, Deliver, DeliverRange, Dump, ShowState, at_master, at_agent, at_app, demanded, turned, turn_to_master, resynced, addressed, packet_of, deliver_one, deliver_all, given_back, agent_started, app_started, act, counted_in, world_step}
 use Rattle.written_world.specs.Runs.{run_from, run}
 use Rattle.fuxi_terms.proofs.Booleans.{either}
+use Rattle.written_world.proofs.CommandLemmas.{hard_has, submits_has, finishes_has, bans_has, unbans_has, begins_has, makes_room_has}
 
 pub found_has : {A B : Type 0} (P : B → Type 0) (o : Option A) (b : B) (f : A → B) → P b → ((x : A) → o ≡ Some x → P (f x)) → P (with_found o b f)
 found_has P None b f h k = h
@@ -130,16 +132,18 @@ module _ (I : Net Ledger → Type 0) (keeps : (net : Net Ledger) (m : Move Ledge
 
   -- each event
   act_keeps : (w : World) (e : Event) → I w.net → StepKeeps (act w e)
-  act_keeps w (StartMaster e) b = checked w _ _ b (end_step_keeps (record w { hard = raised w.hard e; ran = w.ran ++ party master_id e ∷ [] }) (move w.net (Starts (party master_id e))) (new_master w e) (map app_id (job_numbers w.hard.jobs)) (keeps w.net (Starts (party master_id e)) b))
+  act_keeps w (StartMaster e) b = checked w _ _ b (hard_has StepKeeps w (λ r. record { net = b }) w.hard e Raise _ (λ _.
+      end_step_keeps (record w { hard = raised w.hard e; ran = w.ran ++ party master_id e ∷ [] }) (move w.net (Starts (party master_id e))) (new_master (raised w.hard e) e) (map app_id (job_numbers w.hard.jobs)) (keeps w.net (Starts (party master_id e)) b)))
   act_keeps w (StopMaster e) b = master_runs w e _ b (λ M. record { net = b })
   act_keeps w (StartAgent m n) b = checked w _ (prints_nothing (agent_started w m n)) b (record { net = keeps w.net (Starts (party (agent_id m) n)) b })
   act_keeps w (StartApp a n) b = checked w _ (prints_nothing (app_started w a n)) b (record { net = keeps w.net (Starts (party (app_id a) n)) b })
-  act_keeps w (Submit e j) b = master_runs w e _ b (λ M. checked w _ _ b (end_step_keeps (record w { hard = submitted w.hard (eight_places j) }) w.net (record M { jobs = with_job (eight_places j) M.jobs }) (app_id j.number ∷ []) b))
-  act_keeps w (Finish e a) b = master_runs w e _ b (λ M. checked w _ _ b (end_step_keeps (record w { hard = finished w.hard a }) w.net (ended_in M a) [] b))
-  act_keeps w (Ban e m) b = master_runs w e _ b (λ M. checked w _ _ b (end_step_keeps (record w { hard = banned w.hard m }) w.net (banned_in M m) [] b))
-  act_keeps w (Unban e m) b = master_runs w e _ b (λ M. checked w _ _ b (end_step_keeps (record w { hard = unbanned w.hard m }) w.net (record M { bans = without_number m M.bans }) [] b))
-  act_keeps w (Begin e) b = master_runs w e _ b (λ M. checked w _ _ b (end_step_keeps w w.net (record M { serving = true }) [] b))
-  act_keeps w (Preempt e) b = master_runs w e _ b (λ M. checked w _ _ b (found_has StepKeeps (plan_of w.cluster M) _ _ (record { net = b }) (λ p _. end_step_keeps w w.net (preempted M p) [] b)))
+  act_keeps w (Submit e j) b = master_runs w e _ b (λ M. submits_has StepKeeps w (λ r. record { net = b }) M _ j (λ _.
+      end_step_keeps (record w { hard = submitted w.hard (eight_places j) }) w.net (record M { jobs = with_job (eight_places j) M.jobs }) (app_id j.number ∷ []) b))
+  act_keeps w (Finish e a) b = master_runs w e _ b (λ M. finishes_has StepKeeps w (λ r. record { net = b }) M _ a (end_step_keeps (record w { hard = finished w.hard a }) w.net (ended_in M a) [] b))
+  act_keeps w (Ban e m) b = master_runs w e _ b (λ M. bans_has StepKeeps w (λ r. record { net = b }) M _ m (end_step_keeps (record w { hard = banned w.hard m }) w.net (banned_in M m) [] b))
+  act_keeps w (Unban e m) b = master_runs w e _ b (λ M. unbans_has StepKeeps w (λ r. record { net = b }) M _ m (end_step_keeps (record w { hard = unbanned w.hard m }) w.net (record M { bans = without_number m M.bans }) [] b))
+  act_keeps w (Begin e) b = master_runs w e _ b (λ M. begins_has StepKeeps w (λ r. record { net = b }) M _ (end_step_keeps w w.net (record M { serving = true }) [] b))
+  act_keeps w (Preempt e) b = master_runs w e _ b (λ M. makes_room_has StepKeeps w (λ r. record { net = b }) M _ (λ p _. end_step_keeps w w.net (preempted M p) [] b))
   act_keeps w (Want a u n) b = app_runs w a _ b (λ g. checked w _ _ b (demanded_keeps w a g (want_key u) n b))
   act_keeps w (Near a u m n) b = app_runs w a _ b (λ g. checked w _ _ b (demanded_keeps w a g (near_key u m) n b))
   act_keeps w (Rack a u r n) b = app_runs w a _ b (λ g. checked w _ _ b (demanded_keeps w a g (rack_key u r) n b))

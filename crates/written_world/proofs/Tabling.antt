@@ -10,25 +10,25 @@ use Rattle.fuxi_terms.specs.declared.Key.{Key}
 use Rattle.fuxi_terms.specs.Cluster.{ClusterRecord, JobRecord}
 use Rattle.fuxi_terms.specs.Keys.{key_cmp, RowKey, Spot, spot_cmp}
 use Rattle.fuxi_terms.specs.Counts.{count, set_count}
-use Rattle.written_world.specs.Net.{Id, Heard}
-use Rattle.written_world.specs.Ledgers.{Ledger, nothing, at_key}
+use Rattle.written_net.specs.Net.{Id, Heard, is_taken}
+use Rattle.written_net.specs.Ledgers.{Ledger, nothing, at_key}
 use Rattle.fuxi_terms.specs.TallyKeys.{count_key, want_key, credited_key, is_back}
-use Rattle.written_world.specs.Channels.{is_agent}
+use Rattle.written_net.specs.Channels.{is_agent}
 use Rattle.fuxi_terms.specs.Jobs.{KnownJob, job_of, is_live, unit_count, priority_of, job_numbers}
 use Rattle.fuxi_terms.specs.Lists.{below}
 use Rattle.fuxi_terms.specs.Numbers.{has_number}
-use Rattle.written_world.specs.Masters.{Master, demand_of, asked, out, credited_of}
+use Rattle.written_roles.specs.Masters.{Master, demand_of, asked, out, credited_of}
 use Rattle.fuxi_terms.specs.Tables.{spot, without_grants}
-use Rattle.written_world.specs.Placing.{first_placeable, granted, settle, settled, all_out, waiting_pairs, has_pair, line_up, is_usable, is_allowed, has_room, may_grow, placeable}
-use Rattle.written_world.specs.Preemption.{Plan, victims, priorities, by_priority, tried, first_plan, plan_of, preempted}
-use Rattle.written_world.specs.HardState.{with_job, with_ended}
-use Rattle.written_world.specs.MasterSteps.{phased, ready, is_kept, adopted, adopts, take_report, credit, raise_credited, take_demand, meet_app, is_taken, told}
-use Rattle.written_world.specs.Events.{ended_in, banned_in}
+use Rattle.written_roles.specs.Placing.{first_placeable, granted, settle, settled, all_out, waiting_pairs, has_pair, line_up, is_usable, is_allowed, has_room, may_grow, placeable}
+use Rattle.written_roles.specs.Preemption.{Plan, victims, falling_priorities, by_priority, tried, first_plan, plan_of, preempted}
+use Rattle.written_roles.specs.HardState.{with_job, with_ended}
+use Rattle.written_roles.specs.MasterSteps.{phased, ready, is_kept, adopted, adopts, take_report, credit, raise_credited, take_demand, meet_app, ended_in, banned_in}
+use Rattle.written_world.specs.Parties.{told}
 use Rattle.fuxi_terms.proofs.Spots.{each_put, each_where, each_found, each_set}
 use Rattle.fuxi_terms.proofs.Alls.{all_append, all_mapped, all_flat, all_passed, all_filter}
 use Rattle.fuxi_terms.proofs.Booleans.{both_true, either, number_is}
 use Rattle.fuxi_terms.proofs.KeyOrders.{key_total, spot_total}
-use Rattle.written_world.proofs.Placed.{is_placeable}
+use Rattle.written_roles.proofs.Placed.{is_placeable}
 use Rattle.written_world.proofs.Crediting.{found_put, put_beside}
 
 abbrev IsSorted : List (Spot × ℕ) → Type 0
@@ -150,7 +150,7 @@ planned P (s ∷ ss) c M p h e = elim (victims c M s) as (λ o. (elim o as (λ _
 pub preempted_tabled : (c : ClusterRecord) (M : Master) (p : Plan) → plan_of c M ≡ Some p → AllWait M M.line → IsTabled M → IsTabled (preempted M p)
 preempted_tabled c M p e w h =
     let live : is_live M.jobs p.served.job ≡ true = planned (λ s. is_live M.jobs s.job ≡ true) (tried c M) c M p
-    (all_spots (by_priority M) (all_flat (λ q. nat_lt 0 (out M q.0 q.1) ≡ true) (λ n. filter (λ q. nat_eq (priority_of M.jobs q.0 q.1) n) M.line) priorities (λ n. all_filter (λ q. nat_lt 0 (out M q.0 q.1) ≡ true) (λ q. nat_eq (priority_of M.jobs q.0 q.1) n) M.line w))) e in
+    (all_spots (by_priority M) (all_flat (λ q. nat_lt 0 (out M q.0 q.1) ≡ true) (λ n. filter (λ q. nat_eq (priority_of M.jobs q.0 q.1) n) M.line) falling_priorities (λ n. all_filter (λ q. nat_lt 0 (out M q.0 q.1) ≡ true) (λ q. nat_eq (priority_of M.jobs q.0 q.1) n) M.line w))) e in
     let t = without_tabled M.jobs M.table p.losers (h.sorted, h.alive) in
     record {
       sorted = sorted_set (without_grants M.table p.losers) p.served _ t.0;

@@ -1,9 +1,9 @@
 -- Places within their histories, and receivers that have caught up.
 use Rattle.std.proofs.Common.{◌≡◌, true, nat_eq}
-use Rattle.written_world.specs.Net.{Net, Party, last}
-use Rattle.written_world.specs.Ledgers.{Ledger, nothing}
-use Rattle.written_world.specs.Channels.{at_index, party, view, present, is_caught_up}
-use Rattle.written_world.specs.Sound.{Bounded}
+use Rattle.written_net.specs.Net.{Net, Party, last, at_index}
+use Rattle.written_net.specs.Ledgers.{Ledger, nothing}
+use Rattle.written_net.specs.Channels.{party, view, present, is_caught_up}
+use Rattle.written_net.specs.Sound.{Bounded}
 use Rattle.written_world.specs.Safe.{Views}
 use Rattle.fuxi_terms.proofs.Booleans.{both_true, number_is}
 

@@ -9,22 +9,21 @@ use Rattle.fuxi_terms.specs.declared.Key.{Key}
 use Rattle.fuxi_terms.specs.Cluster.{ClusterRecord, has_rack, has_machine}
 use Rattle.fuxi_terms.specs.Keys.{key_cmp}
 use Rattle.fuxi_terms.proofs.Counting.{tied, count-set_count, counts-set_count, counts-where_key}
-use Rattle.written_world.specs.Net.{Net, Party, Id, set_at, same_id, Posts, move}
-use Rattle.written_world.specs.Ledgers.{Ledger, nothing, same_ledger, at_key, greatest_in_demand}
+use Rattle.written_net.specs.Net.{Net, Party, Id, set_at, same_id, Posts, move, at_index}
+use Rattle.written_net.specs.Ledgers.{Ledger, nothing, same_ledger, at_key}
+use Rattle.written_world.specs.Good.{greatest_in_demand, BacksRise, IsRanged, IsTidy}
 use Rattle.fuxi_terms.specs.TallyKeys.{back_key, is_back}
-use Rattle.written_world.specs.Channels.{Offer, publish_one, publish, master_id, at_index, present, to_master, publish}
+use Rattle.written_net.specs.Channels.{Offer, publish_one, publish, master_id, present, to_master, publish, shape}
 use Rattle.fuxi_terms.specs.Jobs.{units_of, KnownJob, job_of, is_known, unit_count}
-use Rattle.written_world.specs.Agents.{joined_demand}
-use Rattle.written_world.specs.MasterSteps.{is_there}
-use Rattle.written_world.specs.Events.{changed_demand}
-use Rattle.written_world.specs.Sound.{Rising}
-use Rattle.written_world.specs.Good.{shape, BacksRise, IsRanged, IsTidy}
+use Rattle.written_roles.specs.Apps.{joined_demand, changed_demand}
+use Rattle.written_roles.specs.MasterSteps.{is_there}
+use Rattle.written_net.specs.Sound.{Rising}
 use Rattle.written_world.specs.Shown.{StartsAnew}
 use Rattle.fuxi_terms.proofs.Booleans.{either}
 use Rattle.fuxi_terms.proofs.KeyOrders.{key_total, same_key}
-use Rattle.written_world.proofs.Sounds.{at_front, at_end}
-use Rattle.written_world.proofs.Acts.{set_here, set_beside}
-use Rattle.written_world.proofs.Places.{id_is}
+use Rattle.written_net.proofs.SoundLemmas.{at_front, at_end}
+use Rattle.written_net.proofs.PublishLemmas.{set_here, set_beside}
+use Rattle.written_net.proofs.NetLemmas.{id_is}
 use Rattle.std.specs.List.{AllByRecursion}
 
 -- a history of demands

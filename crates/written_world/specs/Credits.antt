@@ -6,12 +6,15 @@ use Rattle.std.specs.FinMap.Entries.{find}
 use Rattle.fuxi_terms.specs.Cluster.{ClusterRecord}
 use Rattle.fuxi_terms.specs.Keys.{key_cmp}
 use Rattle.fuxi_terms.specs.Counts.{count}
-use Rattle.written_world.specs.Ledgers.{Ledger, nothing, at_key}
+use Rattle.written_net.specs.Ledgers.{Ledger, nothing, at_key}
 use Rattle.fuxi_terms.specs.TallyKeys.{credited_key, back_key}
-use Rattle.written_world.specs.Channels.{master_id, app_id, party, at_index}
+use Rattle.written_net.specs.Channels.{master_id, app_id, party}
+use Rattle.written_net.specs.Net.{at_index}
 use Rattle.fuxi_terms.specs.Jobs.{is_live}
-use Rattle.written_world.specs.Masters.{credited_of}
-use Rattle.written_world.specs.World.{World, master_party, with_found}
+use Rattle.written_roles.specs.Masters.{credited_of}
+use Rattle.written_world.specs.World.{World}
+use Rattle.written_roles.specs.MasterSteps.{master_party}
+use Rattle.written_roles.specs.Refusals.{with_found}
 use Rattle.written_world.specs.Events.{Event}
 use Rattle.written_world.specs.Runs.{run}
 

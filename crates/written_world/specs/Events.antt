@@ -7,19 +7,20 @@ use Rattle.fuxi_terms.specs.Cluster.{ClusterRecord, JobRecord, has_rack, has_mac
 use Rattle.fuxi_terms.specs.Limits.{greatest_count, greatest_back, most_masters}
 use Rattle.fuxi_terms.specs.Keys.{key_cmp, spot_cmp}
 use Rattle.fuxi_terms.specs.Counts.{set_count}
-use Rattle.written_world.specs.Net.{Net, Party, Id, Packet, Heard, move, Starts, Turns, Resyncs, heard_of}
-use Rattle.written_world.specs.Ledgers.{Ledger, nothing, at_key}
+use Rattle.written_net.specs.Net.{Net, Party, Id, Packet, Heard, move, Starts, Turns, Resyncs, heard_of}
+use Rattle.written_net.specs.Ledgers.{Ledger, nothing, at_key}
 use Rattle.fuxi_terms.specs.TallyKeys.{want_key, near_key, rack_key, avoid_key, back_key}
-use Rattle.written_world.specs.Channels.{master_id, agent_id, app_id, party, is_master, is_agent, is_app, view, present, to_master, publish, body_of}
+use Rattle.written_net.specs.Channels.{master_id, agent_id, app_id, party, is_master, is_agent, is_app, view, present, to_master, publish, body_of, send_all, resync_all}
 use Rattle.fuxi_terms.specs.Jobs.{is_known, has_ended, unit_count, job_numbers, eight_places}
 use Rattle.fuxi_terms.specs.Numbers.{with_number, without_number}
-use Rattle.written_world.specs.Masters.{Master}
-use Rattle.written_world.specs.Preemption.{plan_of, preempted}
-use Rattle.written_world.specs.Refusals.{Refusal, NotRunning, NotRising, TooManyMasters, NoMachine, NoRack, NoGroup, NoJob, NoUnit, Ended, AlreadyServing, NotServing, NothingToPreempt, WantRange, NotUsable, BackRange, NoPacket, job_tests}
-use Rattle.written_world.specs.HardState.{is_not_rising, is_full, submit_tests, finish_tests, ban_tests, unban_tests, raised, submitted, finished, banned, unbanned, with_job, with_ended}
-use Rattle.written_world.specs.World.{World, Agent, App, set_boot, master_party, Step, prints_nothing, refused, then_step, with_found, unless_refused}
-use Rattle.written_world.specs.MasterSteps.{talks, peers, end_step, master_hears}
-use Rattle.written_world.specs.Agents.{agent_hears, app_hears, names, usable}
+use Rattle.written_roles.specs.Masters.{Master}
+use Rattle.written_roles.specs.Preemption.{plan_of, preempted}
+use Rattle.written_roles.specs.Refusals.{Refusal, NotRunning, NotRising, TooManyMasters, NoMachine, NoRack, NoGroup, NoJob, NoUnit, Ended, AlreadyServing, NotServing, NothingToPreempt, WantRange, NotUsable, BackRange, NoPacket, job_tests, with_found}
+use Rattle.written_roles.specs.HardState.{is_not_rising, is_full, submit_tests, finish_tests, ban_tests, unban_tests, raised, submitted, finished, banned, unbanned, with_job, with_ended, hard_step, Raise}
+use Rattle.written_world.specs.World.{World, Agent, App, set_boot, Step, prints_nothing, refused, then_step, unless_refused, on_result}
+use Rattle.written_roles.specs.MasterSteps.{master_party, talks, peers, MasterCommand, Submits, command_of, Finishes, BansMachine, new_master, UnbansMachine, StartsServing, MakesRoom}
+use Rattle.written_world.specs.Parties.{end_step, master_hears, agent_hears, app_hears, usable}
+use Rattle.written_roles.specs.Apps.{names, changed_demand, usable_at, given_at, AppCommand, command_tests, command_key, command_number, Wants, WantsNear, WantsInRack, Avoids, GivesBack}
 use Rattle.written_world.specs.Outputs.{Line, Came, Lost, Frame, sent_lines}
 use Rattle.written_world.specs.Show.{show}
 
@@ -61,12 +62,9 @@ at_agent w m f = with_found (find nat_cmp m w.agents) (refused w NotRunning) f
 abbrev pub at_app : World → ℕ → (App → Step) → Step
 at_app w a f = with_found (find nat_cmp a w.apps) (refused w NotRunning) f
 
-abbrev pub new_master : World → ℕ → Master
-new_master w e = record { epoch = e; jobs = w.hard.jobs; bans = w.hard.bans; serving = false; reported = []; table = []; demands = []; credited = []; line = [] }
-
 abbrev pub start_master : World → ℕ → Step
-start_master w e = unless_refused w (is_not_rising w.hard e ∷ (not (nat_lt (length w.masters) most_masters), TooManyMasters most_masters) ∷ is_full w.hard ∷ [])
-    (λ w. prints_nothing (end_step (record w { hard = raised w.hard e; ran = w.ran ++ party master_id e ∷ [] }) (move w.net (Starts (party master_id e))) (new_master w e) (map app_id (job_numbers w.hard.jobs))))
+start_master w e = unless_refused w (is_not_rising w.hard e ∷ (not (nat_lt (length w.masters) most_masters), TooManyMasters most_masters) ∷ []) (λ w. on_result w (hard_step w.hard e Raise)
+    (λ h. prints_nothing (end_step (record w { hard = h; ran = w.ran ++ party master_id e ∷ [] }) (move w.net (Starts (party master_id e))) (new_master h e) (map app_id (job_numbers h.jobs)))))
 
 -- a stopped master's histories stay
 abbrev pub stop_master : World → ℕ → Step
@@ -90,101 +88,25 @@ abbrev pub start_app : World → ℕ → ℕ → Step
 start_app w a b = unless_refused w ((not (is_known w.hard.jobs a), NoJob) ∷ (has_ended w.hard.jobs a, Ended) ∷ (not (nat_lt (w.boots (app_id a)) b), NotRising (w.boots (app_id a))) ∷ [])
     (λ w. prints_nothing (app_started w a b))
 
--- What is written to the hard state through a master. An admitted job has its grants appended
-abbrev pub submit : World → ℕ → JobRecord → Step
-submit w e j = at_master w e (λ M. unless_refused w ((not (has_group w.cluster j.group), NoGroup) ∷ job_tests w.cluster.resources j ++ submit_tests w.hard e j)
-    (λ w. prints_nothing (end_step (record w { hard = submitted w.hard (eight_places j) }) w.net (record M { jobs = with_job (eight_places j) M.jobs }) (app_id j.number ∷ []))))
-
--- a job that ends loses its grants, and its demand counts as empty from then on
-abbrev pub ended_in : Master → ℕ → Master
-ended_in M a = record M { jobs = with_ended a M.jobs; demands = put nat_cmp a nothing M.demands; table = where_key spot_cmp (λ s. not (nat_eq s.job a)) M.table }
-
-abbrev pub finish : World → ℕ → ℕ → Step
-finish w e a = at_master w e (λ M. unless_refused w (finish_tests w.hard e a)
-    (λ w. prints_nothing (end_step (record w { hard = finished w.hard a }) w.net (ended_in M a) [])))
-
--- a ban takes all grants on the machine
-abbrev pub banned_in : Master → ℕ → Master
-banned_in M m = record M { bans = with_number m M.bans; table = where_key spot_cmp (λ s. not (nat_eq s.machine m)) M.table }
-
-abbrev pub ban : World → ℕ → ℕ → Step
-ban w e m = at_master w e (λ M. unless_refused w ((not (has_machine w.cluster m), NoMachine) ∷ ban_tests w.hard e m)
-    (λ w. prints_nothing (end_step (record w { hard = banned w.hard m }) w.net (banned_in M m) [])))
-
-abbrev pub unban : World → ℕ → ℕ → Step
-unban w e m = at_master w e (λ M. unless_refused w ((not (has_machine w.cluster m), NoMachine) ∷ unban_tests w.hard e m)
-    (λ w. prints_nothing (end_step (record w { hard = unbanned w.hard m }) w.net (record M { bans = without_number m M.bans }) [])))
-
--- a master serves from here on, though machines are not reported
-abbrev pub begin : World → ℕ → Step
-begin w e = at_master w e (λ M. unless_refused w ((M.serving, AlreadyServing) ∷ [])
-    (λ w. prints_nothing (end_step w w.net (record M { serving = true }) [])))
-
-abbrev pub preempt : World → ℕ → Step
-preempt w e = at_master w e (λ M. unless_refused w ((not M.serving, NotServing) ∷ [])
-    (λ w. with_found (plan_of w.cluster M) (refused w NothingToPreempt) (λ p. prints_nothing (end_step w w.net (preempted M p) []))))
+-- Commands of a master: what is written to the hard state is written first
+abbrev pub commanded : World → ℕ → MasterCommand → Step
+commanded w e x = at_master w e (λ M. on_result w (command_of w.cluster w.hard M x) (λ k. prints_nothing (end_step (record w { hard = k.hard }) w.net k.change.state k.change.forced)))
 
 -- What an application asks for. A demand that does not change is not appended
-abbrev pub changed_demand : Ledger → Key → ℕ → Ledger
-changed_demand d k n = record d { entries = set_count key_cmp d.entries k n }
-
 abbrev pub demanded : World → ℕ → App → Key → ℕ → Step
 demanded w a g k n = let p = party (app_id a) g.boot in
     prints_nothing (record w { net = publish w.net p (to_master (changed_demand (present w.net p master_id) k n)) })
 
--- the tests of a command in their order, of an application with so many units; of a give-back also what is usable there, and what is given back already
-abbrev pub has_no_unit : ℕ → ℕ → Bool × Refusal
-has_no_unit units u = (not (nat_lt u units), NoUnit)
-
-abbrev pub has_no_machine : ClusterRecord → ℕ → Bool × Refusal
-has_no_machine c m = (not (has_machine c m), NoMachine)
-
-abbrev pub is_out_of_range : ℕ → Bool × Refusal
-is_out_of_range n = (nat_lt greatest_count n, WantRange greatest_count)
-
-abbrev pub want_tests : ℕ → ℕ → ℕ → List (Bool × Refusal)
-want_tests units u n = has_no_unit units u ∷ is_out_of_range n ∷ []
-
-abbrev pub near_tests : ClusterRecord → ℕ → ℕ → ℕ → ℕ → List (Bool × Refusal)
-near_tests c units u m n = has_no_unit units u ∷ has_no_machine c m ∷ is_out_of_range n ∷ []
-
-abbrev pub rack_tests : ClusterRecord → ℕ → ℕ → ℕ → ℕ → List (Bool × Refusal)
-rack_tests c units u r n = has_no_unit units u ∷ (not (has_rack c r), NoRack) ∷ is_out_of_range n ∷ []
-
-abbrev pub avoid_tests : ClusterRecord → ℕ → ℕ → ℕ → List (Bool × Refusal)
-avoid_tests c units u m = has_no_unit units u ∷ has_no_machine c m ∷ []
-
-abbrev pub give_back_tests : ClusterRecord → ℕ → ℕ → ℕ → ℕ → ℕ → ℕ → List (Bool × Refusal)
-give_back_tests c units usable given u m n = has_no_unit units u ∷ has_no_machine c m ∷ (nat_lt usable n, NotUsable usable) ∷ (nat_lt greatest_back (given + n), BackRange) ∷ []
-
-abbrev pub want : World → ℕ → ℕ → ℕ → Step
-want w a u n = at_app w a (λ g. unless_refused w (want_tests g.units u n) (λ w. demanded w a g (want_key u) n))
-
-abbrev pub near : World → ℕ → ℕ → ℕ → ℕ → Step
-near w a u m n = at_app w a (λ g. unless_refused w (near_tests w.cluster g.units u m n) (λ w. demanded w a g (near_key u m) n))
-
-abbrev pub rack : World → ℕ → ℕ → ℕ → ℕ → Step
-rack w a u r n = at_app w a (λ g. unless_refused w (rack_tests w.cluster g.units u r n) (λ w. demanded w a g (rack_key u r) n))
-
-abbrev pub avoid : World → ℕ → ℕ → ℕ → ℕ → Step
-avoid w a u m on = at_app w a (λ g. unless_refused w (avoid_tests w.cluster g.units u m) (λ w. demanded w a g (avoid_key u m) (min on 1)))
-
--- a number given back is added to those of this epoch. Only grants on machines that the view names may be given back
 abbrev pub usable_now : World → ℕ → App → ℕ → ℕ → ℕ
-usable_now w a g u m = let p = party (app_id a) g.boot in cond (names (view w.net p master_id) m) (usable w.net p u m) 0
+usable_now w a g u m = let p = party (app_id a) g.boot in usable_at (view w.net p master_id) (present w.net p master_id) g.boot u m
 
 abbrev pub given_back : World → ℕ → App → ℕ → ℕ → ℕ
-given_back w a g u m = at_key (present w.net (party (app_id a) g.boot) master_id) (back_key u m)
+given_back w a g u m = given_at (present w.net (party (app_id a) g.boot) master_id) u m
 
-abbrev pub give_back : World → ℕ → ℕ → ℕ → ℕ → Step
-give_back w a u m n = at_app w a (λ g. unless_refused w (give_back_tests w.cluster g.units (usable_now w a g u m) (given_back w a g u m) u m n)
-    (λ w. demanded w a g (back_key u m) (given_back w a g u m + n)))
+abbrev pub asks : World → ℕ → AppCommand → Step
+asks w a x = at_app w a (λ g. unless_refused w (command_tests w.cluster g.units (usable_now w a g) (given_back w a g) x) (λ w. demanded w a g (command_key x) (command_number (given_back w a g) x)))
 
 -- Turns and resyncs
-abbrev pub send_all : Net Ledger → Party → List Id → Net Ledger
-send_all net p [] = net
-send_all net p (q ∷ qs) = send_all (move net (Turns p q)) p qs
-
 abbrev pub turned : World → Party → List Id → Step
 turned w p qs = let net = send_all w.net p qs in
     record { world = record w { net = net }; lines = sent_lines net (length w.net.packets + 1) (drop (length w.net.packets) net.packets) }
@@ -201,10 +123,6 @@ turn_agent w m = at_agent w m (λ g. turn_to_master w (party (agent_id m) g.boot
 
 abbrev pub turn_app : World → ℕ → Step
 turn_app w a = at_app w a (λ g. turn_to_master w (party (app_id a) g.boot))
-
-abbrev pub resync_all : Net Ledger → Party → List Id → Net Ledger
-resync_all net p [] = net
-resync_all net p (q ∷ qs) = resync_all (move net (Resyncs p q)) p qs
 
 abbrev pub resynced : World → Party → List Id → Step
 resynced w p qs = prints_nothing (record w { net = resync_all w.net p qs })
@@ -271,17 +189,17 @@ act w (StartMaster e) = start_master w e
 act w (StopMaster e) = stop_master w e
 act w (StartAgent m b) = start_agent w m b
 act w (StartApp a b) = start_app w a b
-act w (Submit e j) = submit w e j
-act w (Finish e a) = finish w e a
-act w (Ban e m) = ban w e m
-act w (Unban e m) = unban w e m
-act w (Begin e) = begin w e
-act w (Preempt e) = preempt w e
-act w (Want a u n) = want w a u n
-act w (Near a u m n) = near w a u m n
-act w (Rack a u r n) = rack w a u r n
-act w (Avoid a u m on) = avoid w a u m on
-act w (GiveBack a u m n) = give_back w a u m n
+act w (Submit e j) = commanded w e (Submits j)
+act w (Finish e a) = commanded w e (Finishes a)
+act w (Ban e m) = commanded w e (BansMachine m)
+act w (Unban e m) = commanded w e (UnbansMachine m)
+act w (Begin e) = commanded w e StartsServing
+act w (Preempt e) = commanded w e MakesRoom
+act w (Want a u n) = asks w a (Wants u n)
+act w (Near a u m n) = asks w a (WantsNear u m n)
+act w (Rack a u r n) = asks w a (WantsInRack u r n)
+act w (Avoid a u m on) = asks w a (Avoids u m on)
+act w (GiveBack a u m n) = asks w a (GivesBack u m n)
 act w (TurnMaster e) = turn_master w e
 act w (TurnAgent m) = turn_agent w m
 act w (TurnApp a) = turn_app w a

@@ -1,27 +1,29 @@
 -- The invariant that every step keeps.
-use Rattle.std.specs.Prelude.{◌≡◌, ℕ, ◌+◌, ◌<◌, ◌≤◌, Bool, true, false, not, nat_eq, nat_lt, ◌&&◌, ◌||◌, List, [], length, map, take, Some, slice_get}
+use Rattle.std.specs.Prelude.{cond, ◌≡◌, ℕ, ◌+◌, ◌<◌, ◌≤◌, Bool, true, false, not, nat_eq, nat_lt, ◌&&◌, ◌||◌, List, [], length, map, take, Some, slice_get}
 use Rattle.std.specs.List.{AllByRecursion, list_any}
 use Rattle.std.specs.Ordering.{nat_cmp}
 use Rattle.std.specs.FinMap.Entries.{find}
 use Rattle.fuxi_terms.specs.declared.Key.{Key}
 use Rattle.fuxi_terms.specs.Cluster.{ClusterRecord, has_at}
-use Rattle.fuxi_terms.specs.Limits.{greatest_count}
+use Rattle.fuxi_terms.specs.Limits.{greatest_count, greatest_back}
 use Rattle.fuxi_terms.specs.Keys.{key_cmp, RowKey, spot_cmp}
 use Rattle.fuxi_terms.specs.Counts.{count, AreCounts}
-use Rattle.written_world.specs.Net.{Net, Party, Id, same_party, last}
-use Rattle.written_world.specs.Ledgers.{Ledger, nothing, at_key, greatest_in_demand}
-use Rattle.fuxi_terms.specs.TallyKeys.{count_key, credited_key, back_key}
-use Rattle.written_world.specs.Channels.{master_id, agent_id, app_id, party, at_index, view, present}
+use Rattle.written_net.specs.Net.{Net, Party, Id, same_party, last, at_index}
+use Rattle.written_net.specs.Ledgers.{Ledger, nothing, at_key}
+use Rattle.fuxi_terms.specs.TallyKeys.{count_key, credited_key, back_key, is_back}
+use Rattle.written_net.specs.Channels.{master_id, agent_id, app_id, party, view, present, HasJoined, shape}
 use Rattle.fuxi_terms.specs.Jobs.{KnownJob, is_known, is_live, unit_count, unit_of}
 use Rattle.fuxi_terms.specs.Numbers.{has_number}
-use Rattle.written_world.specs.Masters.{Master, out, demand_of, credited_of}
+use Rattle.written_roles.specs.Masters.{Master, out, demand_of, credited_of}
 use Rattle.fuxi_terms.specs.Tables.{total_at}
-use Rattle.written_world.specs.Placing.{has_pair, placeable}
-use Rattle.written_world.specs.HardState.{HardState}
-use Rattle.written_world.specs.World.{World, Agent, App, Carried, top, master_party}
-use Rattle.written_world.specs.MasterSteps.{talks, projection, is_there}
+use Rattle.written_roles.specs.Placing.{has_pair, placeable}
+use Rattle.written_roles.specs.HardState.{HardState}
+use Rattle.written_world.specs.World.{World, Agent, App, top}
+use Rattle.written_roles.specs.Apps.{Carried}
+use Rattle.written_roles.specs.MasterSteps.{master_party, talks, is_there}
+use Rattle.written_world.specs.Parties.{projection}
 use Rattle.written_world.specs.Safe.{RowsFit, units_total_at}
-use Rattle.written_world.specs.Sound.{Shape, Sound}
+use Rattle.written_net.specs.Sound.{Shape, Sound}
 
 -- Sizes. Each row entry and each report fits its machine, and each grants entry fits each machine
 pub record EntriesFit (w : World) : Type 0 where
@@ -29,14 +31,6 @@ pub record EntriesFit (w : World) : Type 0 where
   pub reports : (m b n : ℕ) → RowsFit w.cluster m (at_index nothing (w.net.histories (party (agent_id m) b) master_id) n).rows
   pub grants : (e a n m i : ℕ) → i < w.cluster.resources
       → units_total_at w.hard.jobs a (unit_count w.hard.jobs a) (λ u. at_key (at_index nothing (w.net.histories (party master_id e) (app_id a)) n) (count_key u m)) i ≤ has_at w.cluster m i
-
--- Places. Rows alone have no head. Places, acknowledged indices and packets name entries that are there, whose heads are the
--- incarnation of the other side; and heads never fall
-abbrev pub has_heads : Id → Id → Bool
-has_heads s r = not (nat_eq s.role 1 && nat_eq r.role 2)
-
-abbrev pub shape : Shape Ledger
-shape = record { nothing = nothing; head = λ l. l.head; headed = has_heads }
 
 -- each incarnation that a party knows or a packet names ran at some time, or is 0
 abbrev pub has_run : List Party → Party → Bool
@@ -46,6 +40,10 @@ pub record AllRan (ran : List Party) (net : Net Ledger) : Type 0 where
   pub known : (p : Party) (q : Id) → has_run ran (party q (net.links p q).known) ≡ true
   pub senders : AllByRecursion (λ x. has_run ran x.from ≡ true) net.packets
   pub receivers : AllByRecursion (λ x. has_run ran x.to ≡ true) net.packets
+
+-- the greatest number in a demand
+abbrev pub greatest_in_demand : Key → ℕ
+greatest_in_demand k = cond (is_back k) greatest_back (cond (nat_eq k.what 4) 1 greatest_count)
 
 -- Written. Among demands with one head no number given back falls; said of each entry and the next
 abbrev pub BacksRise : Ledger → Ledger → Type 0
@@ -108,10 +106,6 @@ pub record IsGoodMaster (w : World) (M : Master) : Type 0 where
   pub shows : Shows w.cluster w.net M
   pub credited : IsCredited w.net M
   pub jobs : KnowsJobs w.hard M
-
--- the last entry of the party's own history has the epoch that the party knows
-pub record HasJoined (net : Net Ledger) (p : Party) : Type 0 where
-  pub head : (present net p master_id).head ≡ (net.links p master_id).known
 
 pub record IsGoodAgent (w : World) (m : ℕ) (g : Agent) : Type 0 where
   pub joined : HasJoined w.net (party (agent_id m) g.boot)

@@ -1,9 +1,10 @@
 -- What is printed, line by line.
 use Rattle.std.specs.Prelude.{ℕ, ◌+◌, Bool, List, [], ◌∷◌}
-use Rattle.written_world.specs.Net.{Net, Packet, What}
-use Rattle.written_world.specs.Ledgers.{Ledger, Body}
-use Rattle.written_world.specs.Channels.{frame_length}
-use Rattle.written_world.specs.Refusals.{Refusal}
+use Rattle.written_net.specs.Net.{Net, Packet}
+use Rattle.fuxi_terms.specs.declared.answers.What.{What}
+use Rattle.written_net.specs.Ledgers.{Ledger, Body}
+use Rattle.written_net.specs.Channels.{frame_length}
+use Rattle.written_roles.specs.Refusals.{Refusal}
 
 pub data Line : Type 0 where
   -- a packet of a turn, with the length of its frame in bytes

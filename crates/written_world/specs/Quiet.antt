@@ -3,14 +3,16 @@ use Rattle.std.specs.Prelude.{ℕ, Bool, false, not, nat_eq, nat_lt, ◌&&◌, �
 use Rattle.std.specs.List.{list_all}
 use Rattle.std.specs.Ordering.{nat_cmp}
 use Rattle.std.specs.FinMap.Entries.{find}
-use Rattle.written_world.specs.Net.{Net, Party, last}
-use Rattle.written_world.specs.Ledgers.{Ledger}
-use Rattle.written_world.specs.Channels.{master_id, agent_id, app_id, party, is_caught_up}
+use Rattle.written_net.specs.Net.{Net, Party, last}
+use Rattle.written_net.specs.Ledgers.{Ledger}
+use Rattle.written_net.specs.Channels.{master_id, agent_id, app_id, party, is_caught_up}
 use Rattle.fuxi_terms.specs.Jobs.{is_known}
 use Rattle.fuxi_terms.specs.Lists.{below}
 use Rattle.fuxi_terms.specs.Numbers.{has_number}
-use Rattle.written_world.specs.Masters.{Master}
-use Rattle.written_world.specs.World.{World, App, master_party, with_found}
+use Rattle.written_roles.specs.Masters.{Master}
+use Rattle.written_world.specs.World.{World, App}
+use Rattle.written_roles.specs.MasterSteps.{master_party}
+use Rattle.written_roles.specs.Refusals.{with_found}
 
 -- the receiver has caught up with a history that has an entry
 abbrev pub has_all : Net Ledger → Party → Party → Bool

@@ -7,17 +7,18 @@ use Rattle.std.specs.FinMap.Entries.{find}
 use Rattle.fuxi_terms.specs.Vectors.{at_place}
 use Rattle.fuxi_terms.specs.Cluster.{ClusterRecord, has_at, has_machine}
 use Rattle.fuxi_terms.specs.Keys.{RowKey}
-use Rattle.written_world.specs.Net.{Net, Party, Id, last}
-use Rattle.written_world.specs.Ledgers.{Ledger, nothing, at_key}
+use Rattle.written_net.specs.Net.{Net, Party, Id, last, at_index}
+use Rattle.written_net.specs.Ledgers.{Ledger, nothing, at_key}
 use Rattle.fuxi_terms.specs.TallyKeys.{count_key}
-use Rattle.written_world.specs.Channels.{master_id, agent_id, app_id, party, at_index, view, present, is_caught_up}
+use Rattle.written_net.specs.Channels.{master_id, agent_id, app_id, party, view, present, is_caught_up}
 use Rattle.fuxi_terms.specs.Jobs.{KnownJob, is_known, size_at}
 use Rattle.fuxi_terms.specs.Lists.{below}
-use Rattle.written_world.specs.Masters.{Master}
+use Rattle.written_roles.specs.Masters.{Master}
 use Rattle.fuxi_terms.specs.Tables.{held_on}
-use Rattle.written_world.specs.Placing.{placeable}
+use Rattle.written_roles.specs.Placing.{placeable}
 use Rattle.written_world.specs.World.{World, Agent, App}
-use Rattle.written_world.specs.Agents.{agent_table, app_held, names}
+use Rattle.written_world.specs.Parties.{agent_table, app_held}
+use Rattle.written_roles.specs.Apps.{names}
 use Rattle.written_world.specs.Quiet.{is_quiet}
 
 -- Capacity. Count times size over rows, in one resource

@@ -1,14 +1,15 @@
 -- The state, printed.
 use Rattle.std.specs.Prelude.{ℕ, cond, not, nat_eq, List, [], ◌∷◌, ◌++◌, length, map, filter}
 use Rattle.std.specs.List.{flat_map}
-use Rattle.written_world.specs.Net.{Net, Party}
-use Rattle.written_world.specs.Ledgers.{Ledger}
-use Rattle.written_world.specs.Channels.{master_id, agent_id, app_id, party, view}
+use Rattle.written_net.specs.Net.{Net, Party}
+use Rattle.written_net.specs.Ledgers.{Ledger}
+use Rattle.written_net.specs.Channels.{master_id, agent_id, app_id, party, view}
 use Rattle.fuxi_terms.specs.Jobs.{KnownJob, group_of, has_ended, job_numbers}
 use Rattle.fuxi_terms.specs.Lists.{below}
-use Rattle.written_world.specs.Masters.{Master, out}
+use Rattle.written_roles.specs.Masters.{Master, out}
 use Rattle.written_world.specs.World.{World, Agent, App}
-use Rattle.written_world.specs.Agents.{agent_table, app_held, names}
+use Rattle.written_world.specs.Parties.{agent_table, app_held}
+use Rattle.written_roles.specs.Apps.{names}
 use Rattle.written_world.specs.Outputs.{Line, State, Fence, Job, Banned, MasterIs, Reported, Grant, Wait, AgentAt, Row, AppAt, Hold, Carry, Packets}
 
 abbrev pub show_jobs : List KnownJob → List Line

@@ -3,14 +3,15 @@ use Rattle.std.specs.Prelude.{◌≡◌, ℕ, ◌+◌, ◌≤◌, Some}
 use Rattle.std.specs.List.{AllByRecursion}
 use Rattle.std.specs.Ordering.{nat_cmp}
 use Rattle.std.specs.FinMap.Entries.{find}
-use Rattle.written_world.specs.Net.{Net, last}
-use Rattle.written_world.specs.Ledgers.{Ledger, nothing, at_key}
+use Rattle.written_net.specs.Net.{Net, last, at_index}
+use Rattle.written_net.specs.Ledgers.{Ledger, nothing, at_key}
 use Rattle.fuxi_terms.specs.TallyKeys.{back_key}
-use Rattle.written_world.specs.Channels.{master_id, agent_id, app_id, party, at_index, present}
-use Rattle.written_world.specs.Masters.{Master}
-use Rattle.written_world.specs.World.{World, Agent, App, master_party}
-use Rattle.written_world.specs.MasterSteps.{peers, projection}
-use Rattle.written_world.specs.Good.{BacksRise, HasJoined, IsCredited}
+use Rattle.written_net.specs.Channels.{master_id, agent_id, app_id, party, present, HasJoined}
+use Rattle.written_roles.specs.Masters.{Master}
+use Rattle.written_world.specs.World.{World, Agent, App}
+use Rattle.written_roles.specs.MasterSteps.{master_party, peers}
+use Rattle.written_world.specs.Parties.{projection}
+use Rattle.written_world.specs.Good.{BacksRise, IsCredited}
 
 -- of a running master what each of its peers should hold, and of an agent and an application a ledger with the epoch that it knows
 pub record AllShown (w : World) : Type 0 where

@@ -1,23 +1,18 @@
 -- The written world: all parties, the hard state, and all that was ever sent.
-use Rattle.std.specs.Prelude.{ℕ, Bool, cond, List, [], ◌∷◌, ◌++◌, Option, Some, None}
+use Rattle.std.specs.Prelude.{ℕ, Bool, cond, List, [], ◌∷◌, ◌++◌, Option, Some, None, Result, Ok, Err}
 use Rattle.fuxi_terms.specs.Cluster.{ClusterRecord}
-use Rattle.written_world.specs.Net.{Net, Party, Id, silent, same_id}
-use Rattle.written_world.specs.Ledgers.{Ledger}
-use Rattle.written_world.specs.Channels.{master_id, party}
-use Rattle.written_world.specs.Masters.{Master}
-use Rattle.written_world.specs.HardState.{HardState, empty_hard}
-use Rattle.written_world.specs.Refusals.{Refusal, first_refusal}
+use Rattle.written_net.specs.Net.{Net, Party, Id, silent, same_id}
+use Rattle.written_net.specs.Ledgers.{Ledger}
+use Rattle.written_net.specs.Channels.{master_id, party}
+use Rattle.written_roles.specs.Masters.{Master}
+use Rattle.written_roles.specs.HardState.{HardState, empty_hard}
+use Rattle.written_roles.specs.Refusals.{Refusal, first_refusal}
 use Rattle.written_world.specs.Outputs.{Line, Refused}
+use Rattle.written_roles.specs.Apps.{Carried}
 
 -- An agent. Its carried row is the row of its last report, and its place stands in the net
 pub record Agent : Type 0 where
   pub boot : ℕ
-
--- what an application carried over from an earlier epoch: the place in its grants where it held it, and a count for each unit
-pub record Carried : Type 0 where
-  pub inc : ℕ
-  pub seq : ℕ
-  pub held : List ℕ
 
 -- An application. Its demand is the last entry of its history; carried is by machine
 pub record App : Type 0 where
@@ -48,9 +43,6 @@ top w d = cond (same_id master_id d) w.hard.fence (w.boots d)
 abbrev pub set_boot : (Id → ℕ) → Id → ℕ → Id → ℕ
 set_boot boots id n d = cond (same_id id d) n (boots d)
 
-abbrev pub master_party : Master → Party
-master_party M = party master_id M.epoch
-
 -- what an event makes of the world, and what it prints
 pub record Step : Type 0 where
   pub world : World
@@ -67,11 +59,11 @@ refused w r = record { world = w; lines = Refused r ∷ [] }
 abbrev pub then_step : Step → (World → Step) → Step
 then_step s f = let t = f s.world in record { world = t.world; lines = s.lines ++ t.lines }
 
--- with the value, where there is one
-abbrev pub with_found : {A B : Type 0} → Option A → B → (A → B) → B
-with_found None b f = b
-with_found (Some x) b f = f x
-
 -- the first refusal of these tests, else the step
 abbrev pub unless_refused : World → List (Bool × Refusal) → (World → Step) → Step
 unless_refused w tests f = elim (first_refusal tests) [ None ↦ f w | Some r ↦ refused w r ]
+
+-- a refused result, or the step that it leads to
+abbrev pub on_result : {A : Type 0} → World → Result A Refusal → (A → Step) → Step
+on_result w (Ok x) f = f x
+on_result w (Err r) f = refused w r

@@ -8,15 +8,14 @@ ghost use Rattle.std.specs.Prelude.{◌≡◌, ℕ, List};
 ghost use Rattle.fuxi_terms.specs.declared.Key.{Key};
 ghost use Rattle.fuxi_terms.specs.Cluster.{ClusterRecord};
 ghost use Rattle.fuxi_terms.specs.Keys.{key_cmp, RowKey, row_cmp, Spot, spot_cmp};
-ghost use Rattle.written_world.specs.Masters.{Master};
-ghost use Rattle.written_world.specs.Placing.{settled};
+ghost use Rattle.written_roles.specs.Masters.{Master};
 ghost use Rattle.fuxi_terms.specs.Patching.{PatchedByDifference, TalliesByDifference};
-ghost use Rattle.written_world.specs.Settling.{NothingPlaceable, Picks, IsWithin};
-ghost use Rattle.written_world.specs.Net.{Net, Move, move};
-ghost use Rattle.written_world.specs.Ledgers.{Ledger};
-ghost use Rattle.written_world.specs.Sound.{Bounded, Sound, Allowed};
+ghost use Rattle.written_net.specs.Net.{Net, Move, move};
+ghost use Rattle.written_net.specs.Ledgers.{Ledger};
+ghost use Rattle.written_net.specs.Sound.{Bounded, Sound, Allowed};
 ghost use Rattle.written_world.specs.World.{empty_world};
-ghost use Rattle.written_world.specs.Good.{Good, shape};
+ghost use Rattle.written_world.specs.Good.{Good};
+ghost use Rattle.written_net.specs.Channels.{shape};
 ghost use Rattle.written_world.specs.Shown.{AllShown, AllCredited, AllGiveBacks};
 ghost use Rattle.written_world.specs.Credits.{AllCreditedOnce};
 ghost use Rattle.written_world.specs.Safe.{Safe};
@@ -30,14 +29,6 @@ pub fn patched_by_difference()
     ensures rows { (greatest : RowKey → ℕ) → PatchedByDifference row_cmp greatest }
     ensures tables { (greatest : Spot → ℕ) → PatchedByDifference spot_cmp greatest }
     ensures tallies { (greatest : Key → ℕ) (dropped : ℕ) → TalliesByDifference greatest dropped }
-{}
-
-/// Settling ends, and leaves nothing placeable; whoever grants the placeable pair of least rank until there
-/// is none has settled; and settling keeps each machine's grants within what the machine has.
-pub fn settling()
-    ensures ends { (c : ClusterRecord) (M : Master) → NothingPlaceable c (settled c M) }
-    ensures runs { (c : ClusterRecord) (picks : List Spot) (M N : Master) → Picks c M picks N → N ≡ settled c M }
-    ensures fits { (c : ClusterRecord) (M : Master) → IsWithin c M → IsWithin c (settled c M) }
 {}
 
 /// In every state, whatever masters have failed over, whatever was lost, repeated or reordered, and whatever was
@@ -59,12 +50,6 @@ pub fn nothing_is_past_its_end()
 /// The empty world is good.
 pub fn good_at_start()
     ensures { (c : ClusterRecord) → Good (empty_world c) }
-{}
-
-/// Each move that is allowed keeps a net sound: places, acknowledged indices and packets name entries that are
-/// there, with heads that are the incarnation of the other side, and heads never fall.
-pub fn moves_keep_nets_sound()
-    ensures { (net : Net Ledger) (m : Move Ledger) → Allowed shape net m → Sound shape net → Sound shape (move net m) }
 {}
 
 /// In every state the net is sound: each place, acknowledged index and packet names an entry that is there, made

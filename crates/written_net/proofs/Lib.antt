@@ -1,0 +1,4 @@
+pub mod NetLemmas
+pub mod BoundedLemmas
+pub mod SoundLemmas
+pub mod PublishLemmas

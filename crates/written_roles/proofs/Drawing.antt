@@ -1,0 +1,180 @@
+-- The losers of a preemption are single grants of the table, and what they leave has room for what is served.
+use Rattle.std.proofs.Common.{◌≡◌, ℕ, zero, suc, ◌+◌, ◌≤◌, Bool, true, false, cond, nat_eq, List, [], ◌∷◌, ◌++◌, filter, Option, Some, None, refl, ◌∙◌, ap, subst, arith}
+use Rattle.std.specs.Prelude.{◌&&◌, T}
+use Rattle.std.specs.Option.{unwrap_or}
+use Rattle.std.specs.List.{AllByRecursion, flat_map, sum_by}
+use Rattle.std.specs.Ordering.{eq_by_cmp}
+use Rattle.std.specs.FinMap.Entries.{below_all, find, is_sorted}
+use Rattle.std.proofs.lemmas.List.Sums.{sum_by-cons, sum_by-append}
+use Rattle.fuxi_terms.specs.Cluster.{ClusterRecord}
+use Rattle.fuxi_terms.specs.Keys.{Spot, spot_cmp}
+use Rattle.fuxi_terms.specs.Counts.{count}
+use Rattle.fuxi_terms.proofs.Counting.{both_true as both, tied, below_none}
+use Rattle.fuxi_terms.specs.Jobs.{KnownJob}
+use Rattle.written_roles.specs.Masters.{Master}
+use Rattle.written_roles.specs.Preemption.{goes_before, put_grant, in_walk_order, so_many, walk, is_enough, may_take, taken_of, without_one, needed_of, is_some_set, victims, Plan, first_plan}
+use Rattle.fuxi_terms.proofs.Alls.{all_append, all_passed}
+use Rattle.fuxi_terms.proofs.Booleans.{both_true, either, number_is}
+use Rattle.fuxi_terms.proofs.KeyOrders.{same_spot}
+use Rattle.written_roles.specs.Losses.{often, IsDrawn, IsLoss, one_if}
+
+-- what entries say of a spot
+abbrev amount : Spot → List (Spot × ℕ) → ℕ
+amount s es = sum_by (λ e. cond (eq_by_cmp spot_cmp s e.0) e.1 0) es
+
+often_many : (s : Spot) (n : ℕ) (t : Spot) → often s (so_many n t) ≡ cond (eq_by_cmp spot_cmp s t) n 0
+often_many s zero t = let none : ℕ = 0 in elim (eq_by_cmp spot_cmp s t) as (λ b. none ≡ cond b none 0) [ true ↦ refl | false ↦ refl ]
+often_many s (suc n) t =
+    let rest = often_many s n t in
+    rw (sum_by-cons (one_if s) t (so_many n t)) (elim (eq_by_cmp spot_cmp s t) as (λ b. often s (so_many n t) ≡ cond b n 0 → cond b 1 0 + often s (so_many n t) ≡ cond b (suc n) 0) [ true ↦ λ r. omega (arith, r) | false ↦ λ r. omega (arith, r) ] rest)
+
+often_flat : (s : Spot) (es : List (Spot × ℕ)) → often s (flat_map (λ e. so_many e.1 e.0) es) ≡ amount s es
+often_flat s [] = refl
+often_flat s (e ∷ es) =
+    let rest = often_flat s es in
+    let here = often_many s e.1 e.0 in
+    let a = sum_by-append (one_if s) (so_many e.1 e.0) (flat_map (λ e. so_many e.1 e.0) es) in
+    rw (sum_by-cons (λ (e : Spot × ℕ). cond (eq_by_cmp spot_cmp s e.0) e.1 0) e es) (omega (arith, rest, here, a))
+
+put_amount : (jobs : List KnownJob) (s : Spot) (e : Spot × ℕ) (es : List (Spot × ℕ)) → amount s (put_grant jobs e es) ≡ amount s (e ∷ es)
+put_amount jobs s e [] = refl
+put_amount jobs s e (f ∷ fs) =
+    let g : Spot × ℕ → ℕ = λ e. cond (eq_by_cmp spot_cmp s e.0) e.1 0 in
+    let rest = put_amount jobs s e fs in
+    elim (goes_before jobs e.0 f.0) as (λ b. amount s (cond b (e ∷ f ∷ fs) (f ∷ put_grant jobs e fs)) ≡ amount s (e ∷ f ∷ fs)) [
+      | true ↦ refl
+      | false ↦
+          let a = sum_by-cons g f (put_grant jobs e fs) in
+          let b = sum_by-cons g e (f ∷ fs) in
+          let c = sum_by-cons g f fs in
+          let d = sum_by-cons g e fs in
+          omega (arith, rest, a, b, c, d)
+    ]
+
+walk_amount : (jobs : List KnownJob) (s : Spot) (es : List (Spot × ℕ)) → amount s (in_walk_order jobs es) ≡ amount s es
+walk_amount jobs s [] = refl
+walk_amount jobs s (e ∷ es) =
+    let g : Spot × ℕ → ℕ = λ e. cond (eq_by_cmp spot_cmp s e.0) e.1 0 in
+    let rest = walk_amount jobs s es in
+    let here = put_amount jobs s e (in_walk_order jobs es) in
+    let a = sum_by-cons g e (in_walk_order jobs es) in
+    let b = sum_by-cons g e es in
+    omega (arith, rest, here, a, b)
+
+filter_amount : (s : Spot) (p : Spot × ℕ → Bool) (es : List (Spot × ℕ)) → amount s (filter p es) ≤ amount s es
+filter_amount s p [] = omega arith
+filter_amount s p (e ∷ es) =
+    let g : Spot × ℕ → ℕ = λ e. cond (eq_by_cmp spot_cmp s e.0) e.1 0 in
+    let rest = filter_amount s p es in
+    let b = sum_by-cons g e es in
+    elim (p e) as (λ t. amount s (cond t (e ∷ filter p es) (filter p es)) ≤ amount s (e ∷ es)) [
+      | true ↦ let a = sum_by-cons g e (filter p es) in omega (arith, rest, a, b)
+      | false ↦ omega (arith, rest, b)
+    ]
+
+-- keys that rise stand once
+table_amount : (s : Spot) (es : List (Spot × ℕ)) → T (is_sorted spot_cmp es) → amount s es ≡ count spot_cmp es s
+table_amount s [] k = refl
+table_amount s (e ∷ es) k =
+    let parts = both (below_all spot_cmp e.0 es) (is_sorted spot_cmp es) k in
+    let rest = table_amount s es parts.1 in
+    rw (sum_by-cons (λ (e : Spot × ℕ). cond (eq_by_cmp spot_cmp s e.0) e.1 0) e es)
+    (elim (eq_by_cmp spot_cmp s e.0) as (λ b. eq_by_cmp spot_cmp s e.0 ≡ b → cond b e.1 0 + amount s es ≡ unwrap_or (cond b (Some e.1) (find spot_cmp s es)) 0) [
+      | true ↦ λ t. let gone : count spot_cmp es s ≡ 0 = ap (λ q. count spot_cmp es q) (same_spot s e.0 (tied _ t)) ∙ ap (λ o. unwrap_or o 0) (below_none spot_cmp e.0 es parts.0) in omega (arith, rest, gone)
+      | false ↦ λ _. omega (arith, rest)
+    ] refl)
+
+walk_on : (jobs : List KnownJob) (m : ℕ) (es : List (Spot × ℕ)) → AllByRecursion (λ e. e.0.machine ≡ m) es → AllByRecursion (λ s. s.machine ≡ m) (flat_map (λ e. so_many e.1 e.0) (in_walk_order jobs es))
+walk_on jobs m es h = flat (in_walk_order jobs es) (ordered es h)
+  where
+    put_on : (e : Spot × ℕ) (fs : List (Spot × ℕ)) → e.0.machine ≡ m → AllByRecursion (λ e. e.0.machine ≡ m) fs → AllByRecursion (λ e. e.0.machine ≡ m) (put_grant jobs e fs)
+    put_on e [] x k = (x, tt)
+    put_on e (f ∷ fs) x k = elim (goes_before jobs e.0 f.0) as (λ b. AllByRecursion (λ e. e.0.machine ≡ m) (cond b (e ∷ f ∷ fs) (f ∷ put_grant jobs e fs))) [ true ↦ (x, k) | false ↦ (k.0, put_on e fs x k.1) ]
+
+    ordered : (es : List (Spot × ℕ)) → AllByRecursion (λ e. e.0.machine ≡ m) es → AllByRecursion (λ e. e.0.machine ≡ m) (in_walk_order jobs es)
+    ordered [] k = tt
+    ordered (e ∷ es) k = put_on e (in_walk_order jobs es) k.0 (ordered es k.1)
+
+    many : (n : ℕ) (s : Spot) → s.machine ≡ m → AllByRecursion (λ (s : Spot). s.machine ≡ m) (so_many n s)
+    many zero s x = tt
+    many (suc n) s x = (x, many n s x)
+
+    flat : (es : List (Spot × ℕ)) → AllByRecursion (λ e. e.0.machine ≡ m) es → AllByRecursion (λ (s : Spot). s.machine ≡ m) (flat_map (λ e. so_many e.1 e.0) es)
+    flat [] k = tt
+    flat (e ∷ es) k = all_append (λ (s : Spot). s.machine ≡ m) (so_many e.1 e.0) (flat_map (λ e. so_many e.1 e.0) es) (many e.1 e.0 k.0) (flat es k.1)
+
+walk_drawn : (M : Master) (m : ℕ) → T (is_sorted spot_cmp M.table) → IsDrawn M.table m (walk M m)
+walk_drawn M m k = record {
+  few = λ s.
+      let here = filter (λ (e : Spot × ℕ). nat_eq e.0.machine m) M.table in
+      let a = often_flat s (in_walk_order M.jobs here) in
+      let b = walk_amount M.jobs s here in
+      let c = filter_amount s (λ e. nat_eq e.0.machine m) M.table in
+      let d = table_amount s M.table k in
+      omega (arith, a, b, c, d);
+  on = walk_on M.jobs m (filter (λ e. nat_eq e.0.machine m) M.table) (all_passed (λ (e : Spot × ℕ). e.0.machine ≡ m) (λ e. nat_eq e.0.machine m) M.table (λ e t. number_is e.0.machine m t));
+}
+
+nothing_in : (s : Spot) → often s [] ≡ 0
+nothing_in s = refl
+
+-- what is taken of a walk is drawn where the walk is
+taken_drawn : (ss : List Spot) (c : ClusterRecord) (M : Master) (t : Spot) (m : ℕ) (set : List Spot) → ((s : Spot) → often s set + often s ss ≤ count spot_cmp M.table s) → AllByRecursion (λ s. s.machine ≡ m) set → AllByRecursion (λ s. s.machine ≡ m) ss → IsDrawn M.table m (taken_of ss c M t set)
+taken_drawn [] c M t m set few on more = record { few = λ s. let f = few s in let z = nothing_in s in omega (arith, f, z); on = on }
+taken_drawn (x ∷ xs) c M t m set few on more = elim (is_enough c M t set) as (λ b. IsDrawn M.table m (elim b as (λ _. List Spot) [ true ↦ set | false ↦ taken_of xs c M t (cond (may_take c M t set x) (set ++ x ∷ []) set) ])) [
+  | true ↦ record { few = λ s. let f = few s in let n : ℕ = often s (x ∷ xs) in omega (arith, f); on = on }
+  | false ↦ elim (may_take c M t set x) as (λ d. IsDrawn M.table m (taken_of xs c M t (cond d (set ++ x ∷ []) set))) [
+    | true ↦ taken_drawn xs c M t m (set ++ x ∷ []) (λ s. let f = few s in let a = sum_by-append (one_if s) set (x ∷ []) in let b = sum_by-cons (one_if s) x [] in let d = sum_by-cons (one_if s) x xs in let z = nothing_in s in omega (arith, f, a, b, d, z))
+        (all_append (λ (s : Spot). s.machine ≡ m) set (x ∷ []) on (more.0, tt)) more.1
+    | false ↦ taken_drawn xs c M t m set (λ s. let f = few s in let d = sum_by-cons (one_if s) x xs in omega (arith, f, d)) on more.1
+  ]
+]
+
+-- leaving one out leaves fewer
+fewer : (s t : Spot) (set : List Spot) → often s (without_one t set) ≤ often s set
+fewer s t [] = omega arith
+fewer s t (x ∷ xs) =
+    let rest = fewer s t xs in
+    let a = sum_by-cons (one_if s) x xs in
+    elim (nat_eq t.job x.job && nat_eq t.unit x.unit) as (λ b. often s (cond b xs (x ∷ without_one t xs)) ≤ often s (x ∷ xs)) [
+      | true ↦ omega (arith, a)
+      | false ↦ let d = sum_by-cons (one_if s) x (without_one t xs) in omega (arith, a, d, rest)
+    ]
+
+fewer_on : (m : ℕ) (t : Spot) (set : List Spot) → AllByRecursion (λ s. s.machine ≡ m) set → AllByRecursion (λ s. s.machine ≡ m) (without_one t set)
+fewer_on m t [] h = tt
+fewer_on m t (x ∷ xs) h = elim (nat_eq t.job x.job && nat_eq t.unit x.unit) as (λ b. AllByRecursion (λ (s : Spot). s.machine ≡ m) (cond b xs (x ∷ without_one t xs))) [ true ↦ h.1 | false ↦ (h.0, fewer_on m t xs h.1) ]
+
+-- a drawn set that is enough
+
+needed_loss : (ss : List Spot) (c : ClusterRecord) (M : Master) (t : Spot) (set : List Spot) → IsLoss c M t set → IsLoss c M t (needed_of ss c M t set)
+needed_loss [] c M t set h = h
+needed_loss (s ∷ ss) c M t set h = needed_loss ss c M t (cond (is_enough c M t (without_one s set)) (without_one s set) set)
+    (either (IsLoss c M t) (is_enough c M t (without_one s set)) (without_one s set) set
+    (λ e. record { drawn = record { few = λ q. let f = h.drawn.few q in let l = fewer q s set in omega (arith, f, l); on = fewer_on t.machine s set h.drawn.on }; enough = e }) (λ _. h))
+
+victims_loss : (c : ClusterRecord) (M : Master) (t : Spot) (vs : List Spot) → T (is_sorted spot_cmp M.table) → victims c M t ≡ Some vs → IsLoss c M t vs
+victims_loss c M t vs k e = by (is_enough c M t set && is_some_set set) refl e
+  where
+    set : List Spot
+    set = taken_of (walk M t.machine) c M t []
+
+    drawn : IsDrawn M.table t.machine set
+    drawn = let w = walk_drawn M t.machine k in taken_drawn (walk M t.machine) c M t t.machine [] (λ s. let f = w.few s in omega (arith, f)) tt w.on
+
+    by : (b : Bool) → (is_enough c M t set && is_some_set set) ≡ b → (elim b as (λ _. Option (List Spot)) [ true ↦ Some (needed_of set c M t set) | false ↦ None ]) ≡ Some vs → IsLoss c M t vs
+    by true b e = let same : needed_of set c M t set ≡ vs = cc in subst (IsLoss c M t) same (needed_loss set c M t set (record { drawn = drawn; enough = (both_true (is_enough c M t set) (is_some_set set) b).0 }))
+    by false b e = cc
+
+pub plan_loss : (ss : List Spot) (c : ClusterRecord) (M : Master) (p : Plan) → T (is_sorted spot_cmp M.table) → first_plan ss c M ≡ Some p → IsLoss c M p.served p.losers
+plan_loss [] c M p k e = cc
+plan_loss (s ∷ ss) c M p k e = elim (victims c M s) as (λ o. victims c M s ≡ o → (elim o as (λ _. Option Plan) [ None ↦ first_plan ss c M | Some vs ↦ Some (record { served = s; losers = vs }) ]) ≡ Some p → IsLoss c M p.served p.losers) [
+  | None ↦ λ _ e. plan_loss ss c M p k e
+  | Some vs ↦ λ v e. served vs v e
+] refl e
+  where
+    plan : List Spot → Plan
+    plan vs = record { served = s; losers = vs }
+
+    served : (vs : List Spot) → victims c M s ≡ Some vs → Some (plan vs) ≡ Some p → IsLoss c M p.served p.losers
+    served vs v e = let same : plan vs ≡ p = cc in subst (λ (q : Plan). IsLoss c M q.served q.losers) same (victims_loss c M s vs k v)

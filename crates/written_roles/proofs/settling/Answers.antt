@@ -1,0 +1,10 @@
+use Rattle.written_roles.proofs.Placed.{settled_nothing, settled_run}
+use Rattle.written_roles.proofs.Capacity.{settled_fits}
+use Rattle.written_roles.proofs.settling.Goals as goal
+
+pub returns : goal.returns
+returns c = record {
+  ends = λ c M. settled_nothing c M;
+  runs = λ c picks M N p. settled_run c picks M N p;
+  fits = λ c M w. settled_fits c M w;
+}

@@ -1,0 +1,11 @@
+pub mod Refusals
+pub mod HardState
+pub mod Masters
+pub mod Placing
+pub mod Settling
+pub mod Preemption
+pub mod Losses
+pub mod MasterSteps
+pub mod Agents
+pub mod Apps
+pub mod MasterRoles

@@ -1,0 +1,26 @@
+-- What the losers of a preemption are, said without its walk.
+use Rattle.std.specs.Prelude.{◌≡◌, ℕ, ◌≤◌, true, cond, List, Some}
+use Rattle.std.specs.List.{AllByRecursion, sum_by}
+use Rattle.std.specs.Ordering.{eq_by_cmp}
+use Rattle.fuxi_terms.specs.Cluster.{ClusterRecord}
+use Rattle.fuxi_terms.specs.Keys.{Spot, spot_cmp}
+use Rattle.fuxi_terms.specs.Counts.{count}
+use Rattle.written_roles.specs.Masters.{Master}
+use Rattle.written_roles.specs.Preemption.{is_enough}
+
+-- how often a spot stands in a set of single grants
+abbrev pub one_if : Spot → Spot → ℕ
+one_if s t = cond (eq_by_cmp spot_cmp s t) 1 0
+
+abbrev pub often : Spot → List Spot → ℕ
+often s ss = sum_by (one_if s) ss
+
+-- single grants of a table, all on one machine
+pub record IsDrawn (table : List (Spot × ℕ)) (m : ℕ) (set : List Spot) : Type 0 where
+  pub few : (s : Spot) → often s set ≤ count spot_cmp table s
+  pub on : AllByRecursion (λ s. s.machine ≡ m) set
+
+-- grants of the table on the machine that is served, which are enough for what is served
+pub record IsLoss (c : ClusterRecord) (M : Master) (t : Spot) (set : List Spot) : Type 0 where
+  pub drawn : IsDrawn M.table t.machine set
+  pub enough : is_enough c M t set ≡ true

@@ -1,0 +1,29 @@
+//! What one party of the scheduler is and does, with what it received as ledgers and with its own histories, and
+//! with no world around it: agents, applications, masters, what masters do at the end of a step, placing,
+//! preemption, and the hard state. They stand in `specs/`, as definitions that compute; the written world puts
+//! them into the world. Each function here does nothing; its contract is a law of the definitions.
+#![tactic(auto)]
+
+ghost use Rattle.std.specs.Prelude.{◌≡◌, List, Some, T};
+ghost use Rattle.fuxi_terms.specs.Cluster.{ClusterRecord};
+ghost use Rattle.fuxi_terms.specs.Keys.{Spot, spot_cmp};
+ghost use Rattle.written_roles.specs.Masters.{Master};
+ghost use Rattle.written_roles.specs.Placing.{settled};
+ghost use Rattle.std.specs.FinMap.Entries.{is_sorted};
+ghost use Rattle.written_roles.specs.Preemption.{Plan, plan_of};
+ghost use Rattle.written_roles.specs.Losses.{IsLoss};
+ghost use Rattle.written_roles.specs.Settling.{NothingPlaceable, Picks, IsWithin};
+
+/// Settling ends, and leaves nothing placeable; whoever grants the placeable pair of least rank until there
+/// is none has settled; and settling keeps each machine's grants within what the machine has.
+pub fn settling()
+    ensures ends { (c : ClusterRecord) (M : Master) → NothingPlaceable c (settled c M) }
+    ensures runs { (c : ClusterRecord) (picks : List Spot) (M N : Master) → Picks c M picks N → N ≡ settled c M }
+    ensures fits { (c : ClusterRecord) (M : Master) → IsWithin c M → IsWithin c (settled c M) }
+{}
+
+/// The losers of a plan are single grants of the table, all on the machine that is served, and with what they
+/// leave there is room for one more of what is served.
+pub fn preempting()
+    ensures { (c : ClusterRecord) (M : Master) (p : Plan) → T (is_sorted spot_cmp M.table) → plan_of c M ≡ Some p → IsLoss c M p.served p.losers }
+{}
