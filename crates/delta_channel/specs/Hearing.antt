@@ -5,11 +5,11 @@ use Rattle.delta_channel.specs.declared.receiver.Place.{Place}
 use Rattle.delta_channel.specs.declared.receiver.Verdict.{Verdict}
 use Rattle.delta_channel.specs.declared.receiver.Verdict.TheVariants.{Take, Old, Gap, NotMine, Stale}
 
--- its own incarnation, its place in the sender's history, and the ledger that it has
+-- its own incarnation, its place in the sender's history, and the ledger that it received
 pub record Receiving (V : Type 0) : Type 0 where
   pub own : ℕ
   pub place : Place
-  pub got : V
+  pub received : V
 
 -- a whole ledger brings any later index; a change brings the next index alone, and none from index 0 on
 abbrev pub verdict_at : Bool → ℕ → ℕ → Verdict
@@ -26,4 +26,4 @@ verdict_of own place stamp =
 
 -- the receiver's ledger is the history's entry at its place
 abbrev pub HasEntry : {V : Type 0} → Receiving V → List V → Type 0
-HasEntry r history = slice_get history r.place.seq ≡ Some r.got
+HasEntry r history = slice_get history r.place.seq ≡ Some r.received

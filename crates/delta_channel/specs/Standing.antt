@@ -1,6 +1,7 @@
--- What a sender stands for: a history, which is the list of its ledgers from the one with no entry on.
-use Rattle.std.specs.Prelude.{◌≡◌, ℕ, ◌+◌, ◌-◌, ◌≤◌, List, [], ◌∷◌, ◌++◌, length, drop, min, Some, Result, Ok, slice_get}
+-- What a sender stands for: a history, which is the list of its ledgers from the one with no entry on; and the changes that it keeps.
+use Rattle.std.specs.Prelude.{◌≡◌, ℕ, ◌+◌, ◌-◌, ◌≤◌, List, length, drop, Some, Result, Ok, slice_get}
 use Rattle.fuxi_terms.specs.declared.answers.LedgerFault.{LedgerFault}
+use Rattle.fuxi_terms.specs.Limits.{kept_changes}
 
 -- its incarnation, its last index, its present ledger, and the changes that it keeps, the latest last
 pub record Sending (V D : Type 0) : Type 0 where
@@ -18,10 +19,6 @@ IsChangeAt {V} {D} patched change index history =
 abbrev pub first_kept : {V D : Type 0} → Sending V D → ℕ
 first_kept s = s.last - length s.kept
 
--- enough changes are kept that whoever lacks at most 256 of them can be sent those
-abbrev pub KeepsEnough : {V D : Type 0} → Sending V D → Type 0
-KeepsEnough s = (min 256 s.last ≤ length s.kept) × (length s.kept ≤ s.last)
-
 -- the history begins with nothing and ends with the present ledger, and each kept change takes the entry before it to its own
 pub record StandsFor {V D : Type 0} (nothing : V) (patched : V → D → Result V LedgerFault) (s : Sending V D) (history : List V) : Type 0 where
   pub first : slice_get history 0 ≡ Some nothing
@@ -34,6 +31,6 @@ pub record StandsFor {V D : Type 0} (nothing : V) (patched : V → D → Result 
 abbrev pub latest : {D : Type 0} → ℕ → List D → List D
 latest n xs = drop (length xs - n) xs
 
--- a further change is kept behind the earlier ones, of which the oldest may be let go
-abbrev pub KeepsFurther : {V D : Type 0} → Sending V D → D → Sending V D → Type 0
-KeepsFurther old change new = new.kept ≡ latest (length new.kept) (old.kept ++ change ∷ [])
+-- of all changes that were posted the latest are kept, or all where there are fewer
+abbrev pub KeepsLatest : {V D : Type 0} → Sending V D → List D → Type 0
+KeepsLatest s changes = s.kept ≡ latest kept_changes changes

@@ -1,7 +1,6 @@
-ghost use Rattle.std.specs.Prelude.{◌≡◌, ◌+◌, ◌<◌, ◌≤◌, ◌↔◌, IsTrue, List, length, OnOk, OnErr, is_ok, false, true, slice_get, Some, if◌then◌else◌};
-ghost use Rattle.delta_channel.specs.Standing.{IsChangeAt};
-ghost use Rattle.delta_channel.specs.Hearing.{verdict_of, HasEntry};
-ghost use Rattle.ledger_law.specs.Applying.{Applies};
+ghost use Rattle.std.specs.Prelude.{◌≡◌, ◌+◌, ◌≤◌, false};
+ghost use Rattle.delta_channel.specs.Hearing.{verdict_of};
+ghost use Rattle.delta_channel.specs.Calls.{new_receiving, Meets, TakesDelta, TakesFull};
 
 use ledger_law::{Ledger, LedgerFault};
 use std::alloc::Global;
@@ -44,7 +43,7 @@ pub enum Verdict {
 pub struct Receiver<L: Ledger> {
     own: u64,
     place: Place,
-    got: L,
+    received: L,
 }
 
 impl<L: Ledger> Model for Receiver<L> {
@@ -53,34 +52,31 @@ impl<L: Ledger> Model for Receiver<L> {
 
     ghost Value = { Receiving L };
 
-    ghost view = { λ r. record { own = r.own; place = r.place; got = r.got } };
+    ghost view = { λ r. record { own = r.own; place = r.place; received = r.received } };
 
-    ghost invariant = { λ r. r.place.seq ≡ 0 → r.got ≡ L.nothing };
+    ghost invariant = { λ r. r.place.seq ≡ 0 → r.received ≡ L.nothing };
 }
 
 impl<L: Ledger> Receiver<L> {
     /// A receiver of incarnation `own` that knows no sender.
     pub fn start(alloc: Global, own: u64) -> Receiver<L>
-        ensures value { result ≡ record { own = own; place = record { inc = 0; seq = 0 }; got = L.nothing } }
-        ensures stands { (history : List L) → slice_get history 0 ≡ Some L.nothing → HasEntry result history }
+        ensures { result ≡ new_receiving L.nothing own }
     {
         Receiver {
             own,
             place: Place { inc: 0, seq: 0 },
-            got: L::empty(alloc),
+            received: L::empty(alloc),
         }
     }
 
     /// Hears of an incarnation of the sender. A greater one than the known one is new: what came of the
     /// earlier one is dropped. Answers whether it is.
     pub fn hear(&mut self, alloc: Global, from: u64) -> bool
-        ensures fresh { IsTrue result ↔ (self.old.place.inc < from) }
-        ensures after { self.new ≡ (if result then (record { own = self.old.own; place = record { inc = from; seq = 0 }; got = L.nothing }) else self.old) }
-        ensures stands { IsTrue result → (history : List L) → slice_get history 0 ≡ Some L.nothing → HasEntry self.new history }
+        ensures { Meets L.nothing from self.old result self.new }
     {
         if self.place.inc < from {
             self.place = Place { inc: from, seq: 0 };
-            self.got = L::empty(alloc);
+            self.received = L::empty(alloc);
             true
         } else {
             false
@@ -129,14 +125,9 @@ impl<L: Ledger> Receiver<L> {
     ) -> Result<(), LedgerFault>
         requires { verdict_of self.old.own self.old.place stamp.now ≡ Verdict.Take }
         ensures next { stamp.now.full ≡ false → stamp.now.place.seq ≡ self.old.place.seq + 1 }
-        ensures applies { Applies (L.patched self.old.got change.now) self.old.got self.new.got result }
-        ensures place { self.new.place ≡ (if is_ok result then stamp.now.place else self.old.place) }
-        ensures own { self.new.own ≡ self.old.own }
-        ensures err { OnErr result (self.new ≡ self.old) }
-        ensures stands { OnOk result (stamp.now.full ≡ false → (history : List L) → HasEntry self.old history → IsChangeAt L.patched change.now self.old.place.seq history
-            → stamp.now.place.seq < length history → HasEntry self.new history) }
+        ensures takes { TakesDelta L.patched stamp.now change.now self.old result self.new }
     {
-        self.got.apply(alloc, change)?;
+        self.received.apply(alloc, change)?;
         self.place = stamp.place;
         Ok(())
     }
@@ -144,10 +135,9 @@ impl<L: Ledger> Receiver<L> {
     /// Takes a whole ledger of which the verdict is to take it. It takes no memory.
     pub fn take_full(&mut self, stamp: &Stamp, ledger: L)
         requires { verdict_of self.old.own self.old.place stamp.now ≡ Verdict.Take }
-        ensures after { self.new ≡ record { own = self.old.own; place = stamp.now.place; got = ledger } }
-        ensures stands { (history : List L) → slice_get history stamp.now.place.seq ≡ Some ledger → HasEntry self.new history }
+        ensures { TakesFull stamp.now ledger self.old self.new }
     {
-        self.got = ledger;
+        self.received = ledger;
         let here = stamp.place;
         self.place = here;
     }
@@ -161,10 +151,10 @@ impl<L: Ledger> Receiver<L> {
 
     /// What came of the sender's ledger: the one with no entry where nothing came.
     pub fn ledger(&self) -> &L
-        ensures got { result.now ≡ self.now.got }
-        ensures nothing { self.now.place.seq ≡ 0 → self.now.got ≡ L.nothing }
+        ensures received { result.now ≡ self.now.received }
+        ensures nothing { self.now.place.seq ≡ 0 → self.now.received ≡ L.nothing }
     {
-        &self.got
+        &self.received
     }
 
     /// The incarnation.

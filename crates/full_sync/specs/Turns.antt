@@ -1,18 +1,24 @@
 -- Both directions between two parties, and what one turn sends.
 use Rattle.std.specs.Prelude.{◌≡◌, ℕ, ◌+◌, ◌-◌, min, not, nat_eq, nat_lt, ◌||◌, ◌&&◌, cond, List, [], ◌∷◌, ◌++◌, length, map, Result, Some, slice_get}
+use Rattle.fuxi_terms.specs.Limits.{kept_changes, turn_deltas}
 use Rattle.fuxi_terms.specs.Lists.{numbers_from}
 use Rattle.fuxi_terms.specs.declared.answers.LedgerFault.{LedgerFault}
 use Rattle.delta_channel.specs.Standing.{Sending, IsChangeAt}
 use Rattle.delta_channel.specs.Hearing.{Receiving}
+use Rattle.delta_channel.specs.Calls.{new_sending, new_receiving}
 use Rattle.delta_channel.specs.declared.receiver.Place.{Place}
 use Rattle.full_sync.specs.declared.duplex.Note.{Note}
 use Rattle.full_sync.specs.declared.duplex.Note.TheVariants.{Delta, Full, Ack}
 
--- what is sent, what is received, and the last index of what is sent that the peer has said it has
-pub record Both (V D W : Type 0) : Type 0 where
-  pub sent : Sending V D
-  pub got : Receiving W
+-- a party's end of a channel in both directions: what it sends, what it receives, and the last index of what it sends that the peer has said it has
+pub record Endpoint (V D W : Type 0) : Type 0 where
+  pub outgoing : Sending V D
+  pub incoming : Receiving W
   pub acked : ℕ
+
+-- an end that has posted nothing and knows no peer
+abbrev pub new_endpoint : {V D W : Type 0} → V → W → ℕ → Endpoint V D W
+new_endpoint none_sent none_received own = record { outgoing = new_sending none_sent own; incoming = new_receiving none_received own; acked = 0 }
 
 -- what a turn sends, without its content: a whole ledger or a change with the index that it leads to, or an acknowledgement
 pub data Mark : Type 0 where
@@ -29,8 +35,8 @@ mark_of (Ack place) = MarkAck place
 abbrev pub news : ℕ → ℕ → ℕ → List Mark
 news peer last acked =
     cond (nat_eq peer 0 || nat_eq last 0 || nat_eq acked last) []
-    (cond (nat_eq acked 0 || nat_lt 256 (last - acked)) (MarkFull last ∷ [])
-    (map MarkDelta (numbers_from (acked + 1) (min 64 (last - acked)))))
+    (cond (nat_eq acked 0 || nat_lt kept_changes (last - acked)) (MarkFull last ∷ [])
+    (map MarkDelta (numbers_from (acked + 1) (min turn_deltas (last - acked)))))
 
 -- then an acknowledgement of what came the other way
 abbrev pub turn_of : ℕ → ℕ → Place → List Mark

@@ -1,12 +1,14 @@
-ghost use Rattle.std.specs.Prelude.{◌≡◌, ◌+◌, ◌-◌, ◌<◌, ◌≤◌, ◌^◌, ◌↔◌, IsTrue, List, [], ◌∷◌, ◌++◌, length, map, Ok, IfOk, IfErr, OnOk, OnErr, is_ok, false, Some, slice_get, if◌then◌else◌};
+ghost use Rattle.std.specs.Prelude.{◌≡◌, ◌+◌, ◌<◌, ◌≤◌, ◌^◌, List, [], ◌∷◌, map, IfOk, false, if◌then◌else◌};
 ghost use Rattle.std.specs.List.{AllByRecursion};
-ghost use Rattle.ledger_law.specs.Applying.{Applies, IsRefusal};
-ghost use Rattle.delta_channel.specs.Standing.{StandsFor, IsChangeAt, KeepsFurther};
-ghost use Rattle.delta_channel.specs.Hearing.{verdict_of, HasEntry};
-ghost use Rattle.full_sync.specs.Turns.{Brings, IsNoteOf, MarkDelta, mark_of, news, turn_of, acked_after};
+ghost use Rattle.delta_channel.specs.Standing.{StandsFor};
+ghost use Rattle.fuxi_terms.specs.Limits.{kept_changes};
+ghost use Rattle.delta_channel.specs.Hearing.{verdict_of};
+ghost use Rattle.delta_channel.specs.Calls.{Posts, Meets, TakesDelta, TakesFull};
+ghost use Rattle.full_sync.specs.Turns.{new_endpoint, Brings, IsNoteOf, MarkDelta, mark_of, news, turn_of, acked_after};
 ghost use Rattle.fuxi_terms.specs.Lists.{numbers_from};
 
 use delta_channel::{Place, Receiver, Sender, Stamp, Verdict};
+use fuxi_terms::limits::{KEPT_CHANGES, TURN_DELTAS};
 use ledger_law::{Ledger, LedgerFault, OutOfMemory};
 use std::alloc::Global;
 use std::marker::Model;
@@ -63,11 +65,11 @@ pub struct Duplex<A: Ledger, B: Ledger> {
 
 impl<A: Ledger, B: Ledger> Model for Duplex<A, B> {
     ghost use Rattle.std.specs.Prelude.{◌≡◌, ◌≤◌};
-    ghost use Rattle.full_sync.specs.Turns.{Both};
+    ghost use Rattle.full_sync.specs.Turns.{Endpoint};
 
-    ghost Value = { Both A A.Delta B };
+    ghost Value = { Endpoint A A.Delta B };
 
-    ghost view = { λ d. record { sent = d.sender; got = d.receiver; acked = d.acked } };
+    ghost view = { λ d. record { outgoing = d.sender; incoming = d.receiver; acked = d.acked } };
 
     ghost invariant = { λ d. (d.acked ≤ d.sender.last) × (d.receiver.own ≡ d.sender.own) };
 }
@@ -75,9 +77,8 @@ impl<A: Ledger, B: Ledger> Model for Duplex<A, B> {
 impl<A: Ledger, B: Ledger> Duplex<A, B> {
     /// A party of incarnation `own` that has posted nothing and knows no peer.
     pub fn start(alloc: Global, own: u64) -> Result<Duplex<A, B>, OutOfMemory>
-        ensures value { IfOk result (λ d. d ≡ record { sent = record { own = own; last = 0; present = A.nothing; kept = [] }; got = record { own = own; place = record { inc = 0; seq = 0 }; got = B.nothing }; acked = 0 }) }
-        ensures stands { IfOk result (λ d. StandsFor A.nothing A.patched d.sent (A.nothing ∷ [])) }
-        ensures has_entry { IfOk result (λ d. (history : List B) → slice_get history 0 ≡ Some B.nothing → HasEntry d.got history) }
+        ensures value { IfOk result (λ d. d ≡ new_endpoint A.nothing B.nothing own) }
+        ensures stands { IfOk result (λ d. StandsFor A.nothing A.patched d.outgoing (A.nothing ∷ [])) }
     {
         Ok(Duplex {
             sender: Sender::start(alloc, own)?,
@@ -90,16 +91,9 @@ impl<A: Ledger, B: Ledger> Duplex<A, B> {
     ///
     /// The fault is the ledger's refusal of the change, or want of memory. It leaves all as it was.
     pub fn post(&mut self, alloc: Global, change: A::Delta) -> Result<u64, LedgerFault>
-        requires { self.old.sent.last < 2 ^ 62 }
-        ensures stands { OnOk result ((history : List A) → StandsFor A.nothing A.patched self.old.sent history → StandsFor A.nothing A.patched self.new.sent (history ++ self.new.sent.present ∷ [])) }
-        ensures patched { OnOk result (A.patched self.old.sent.present change ≡ Ok self.new.sent.present) }
-        ensures last { IfOk result (λ index. (index ≡ self.new.sent.last) × (self.new.sent.last ≡ self.old.sent.last + 1)) }
-        ensures kept { OnOk result (KeepsFurther self.old.sent change self.new.sent) }
-        ensures own { self.new.sent.own ≡ self.old.sent.own }
-        ensures got { self.new.got ≡ self.old.got }
-        ensures acked { self.new.acked ≡ self.old.acked }
-        ensures fault { IfErr result (λ e. IsRefusal (A.patched self.old.sent.present change) e) }
-        ensures err { OnErr result (self.new ≡ self.old) }
+        requires { self.old.outgoing.last < 2 ^ 62 }
+        ensures posts { Posts A.nothing A.patched change self.old.outgoing result self.new.outgoing }
+        ensures rest { self.new ≡ record self.old { outgoing = self.new.outgoing } }
     {
         self.sender.post(alloc, change)
     }
@@ -107,9 +101,8 @@ impl<A: Ledger, B: Ledger> Duplex<A, B> {
     /// Hears of an incarnation of the peer. A greater one than the known one is new: what came of the earlier
     /// one is dropped, and nothing counts as acknowledged. Answers whether it is.
     pub fn hear(&mut self, alloc: Global, from: u64) -> bool
-        ensures fresh { IsTrue result ↔ (self.old.got.place.inc < from) }
-        ensures after { self.new ≡ (if result then (record { sent = self.old.sent; got = record { own = self.old.got.own; place = record { inc = from; seq = 0 }; got = B.nothing }; acked = 0 }) else self.old) }
-        ensures stands { IsTrue result → (history : List B) → slice_get history 0 ≡ Some B.nothing → HasEntry self.new.got history }
+        ensures meets { Meets B.nothing from self.old.incoming result self.new.incoming }
+        ensures rest { self.new ≡ record self.old { incoming = self.new.incoming; acked = if result then 0 else self.old.acked } }
     {
         let fresh = self.receiver.hear(alloc, from);
         if fresh {
@@ -121,8 +114,8 @@ impl<A: Ledger, B: Ledger> Duplex<A, B> {
     /// Hears the known peer acknowledge a place. It counts where it is one of this party's own incarnation,
     /// above the acknowledged index and not above the last.
     pub fn on_ack(&mut self, from: u64, place: Place)
-        requires { from ≡ self.old.got.place.inc }
-        ensures { self.new ≡ record { sent = self.old.sent; got = self.old.got; acked = acked_after self.old.sent.own self.old.sent.last self.old.acked place } }
+        requires { from ≡ self.old.incoming.place.inc }
+        ensures { self.new ≡ record self.old { acked = acked_after self.old.outgoing.own self.old.outgoing.last self.old.acked place } }
     {
         let peer = self.peer();
         prove!(from == peer);
@@ -137,9 +130,9 @@ impl<A: Ledger, B: Ledger> Duplex<A, B> {
     /// What to make of a packet of a peer that was heard of: its incarnation is not above the known one, and
     /// is that of its place.
     pub fn verdict(&self, stamp: &Stamp) -> Verdict
-        requires from { stamp.now.from ≤ self.now.got.place.inc }
+        requires from { stamp.now.from ≤ self.now.incoming.place.inc }
         requires place { stamp.now.place.inc ≡ stamp.now.from }
-        ensures { result ≡ verdict_of self.now.got.own self.now.got.place stamp.now }
+        ensures { result ≡ verdict_of self.now.incoming.own self.now.incoming.place stamp.now }
     {
         self.receiver.verdict(stamp)
     }
@@ -153,32 +146,26 @@ impl<A: Ledger, B: Ledger> Duplex<A, B> {
         stamp: &Stamp,
         change: &B::Delta,
     ) -> Result<(), LedgerFault>
-        requires { verdict_of self.old.got.own self.old.got.place stamp.now ≡ Verdict.Take }
-        ensures next { stamp.now.full ≡ false → stamp.now.place.seq ≡ self.old.got.place.seq + 1 }
-        ensures applies { Applies (B.patched self.old.got.got change.now) self.old.got.got self.new.got.got result }
-        ensures place { self.new.got.place ≡ (if is_ok result then stamp.now.place else self.old.got.place) }
-        ensures own { self.new.got.own ≡ self.old.got.own }
-        ensures sent { self.new.sent ≡ self.old.sent }
-        ensures acked { self.new.acked ≡ self.old.acked }
-        ensures err { OnErr result (self.new ≡ self.old) }
-        ensures stands { OnOk result (stamp.now.full ≡ false → (history : List B) → HasEntry self.old.got history → IsChangeAt B.patched change.now self.old.got.place.seq history
-            → stamp.now.place.seq < length history → HasEntry self.new.got history) }
+        requires { verdict_of self.old.incoming.own self.old.incoming.place stamp.now ≡ Verdict.Take }
+        ensures next { stamp.now.full ≡ false → stamp.now.place.seq ≡ self.old.incoming.place.seq + 1 }
+        ensures takes { TakesDelta B.patched stamp.now change.now self.old.incoming result self.new.incoming }
+        ensures rest { self.new ≡ record self.old { incoming = self.new.incoming } }
     {
         self.receiver.take_delta(alloc, stamp, change)
     }
 
     /// Takes a whole ledger of which the verdict is to take it. It takes no memory.
     pub fn take_full(&mut self, stamp: &Stamp, ledger: B)
-        requires { verdict_of self.old.got.own self.old.got.place stamp.now ≡ Verdict.Take }
-        ensures after { self.new ≡ record { sent = self.old.sent; got = record { own = self.old.got.own; place = stamp.now.place; got = ledger }; acked = self.old.acked } }
-        ensures stands { (history : List B) → slice_get history stamp.now.place.seq ≡ Some ledger → HasEntry self.new.got history }
+        requires { verdict_of self.old.incoming.own self.old.incoming.place stamp.now ≡ Verdict.Take }
+        ensures takes { TakesFull stamp.now ledger self.old.incoming self.new.incoming }
+        ensures rest { self.new ≡ record self.old { incoming = self.new.incoming } }
     {
         self.receiver.take_full(stamp, ledger);
     }
 
     /// Forgets what the peer has acknowledged, so that the next turn sends the whole ledger.
     pub fn resync(&mut self)
-        ensures { self.new ≡ record { sent = self.old.sent; got = self.old.got; acked = 0 } }
+        ensures { self.new ≡ record self.old { acked = 0 } }
     {
         self.acked = 0;
     }
@@ -188,9 +175,9 @@ impl<A: Ledger, B: Ledger> Duplex<A, B> {
     /// Nothing is lacking where no peer is known, nothing was posted or all is acknowledged. The whole ledger
     /// goes where nothing is acknowledged or more than 256 changes are not, and else the next changes, at most 64.
     pub fn turn(&self, alloc: Global) -> Result<Notes<A>, OutOfMemory>
-        ensures marks { IfOk result (λ notes. map mark_of notes ≡ turn_of self.now.sent.last self.now.acked self.now.got.place) }
-        ensures sends { IfOk result (AllByRecursion (IsNoteOf self.now.sent)) }
-        ensures brings { IfOk result (λ notes. (history : List A) → StandsFor A.nothing A.patched self.now.sent history → AllByRecursion (Brings A.patched history) notes) }
+        ensures marks { IfOk result (λ notes. map mark_of notes ≡ turn_of self.now.outgoing.last self.now.acked self.now.incoming.place) }
+        ensures sends { IfOk result (AllByRecursion (IsNoteOf self.now.outgoing)) }
+        ensures brings { IfOk result (λ notes. (history : List A) → StandsFor A.nothing A.patched self.now.outgoing history → AllByRecursion (Brings A.patched history) notes) }
     {
         let mut notes = self.news(alloc)?;
         notes.push(Note::Ack(self.receiver.place()))?;
@@ -199,34 +186,34 @@ impl<A: Ledger, B: Ledger> Duplex<A, B> {
 
     // What the peer lacks.
     fn news(&self, alloc: Global) -> Result<Vec<Note<A>>, OutOfMemory>
-        ensures marks { IfOk result (λ notes. map mark_of notes.items ≡ news self.now.got.place.inc self.now.sent.last self.now.acked) }
-        ensures sends { IfOk result (λ notes. AllByRecursion (IsNoteOf self.now.sent) notes.items) }
-        ensures brings { IfOk result (λ notes. (history : List A) → StandsFor A.nothing A.patched self.now.sent history → AllByRecursion (Brings A.patched history) notes.items) }
+        ensures marks { IfOk result (λ notes. map mark_of notes.items ≡ news self.now.incoming.place.inc self.now.outgoing.last self.now.acked) }
+        ensures sends { IfOk result (λ notes. AllByRecursion (IsNoteOf self.now.outgoing) notes.items) }
+        ensures brings { IfOk result (λ notes. (history : List A) → StandsFor A.nothing A.patched self.now.outgoing history → AllByRecursion (Brings A.patched history) notes.items) }
     {
         let last = self.sender.last();
         if self.receiver.place().inc == 0 || last == 0 || self.acked == last {
             return Ok(Vec::new(alloc));
         }
         let lacking = last - self.acked;
-        if self.acked == 0 || lacking > 256 {
+        if self.acked == 0 || lacking > KEPT_CHANGES as u64 {
             let mut notes = Vec::new(alloc);
             notes.push(Note::Full(last, self.sender.ledger().copy(alloc)?))?;
             return Ok(notes);
         }
-        changes_from(alloc, &self.sender, self.acked + 1, lacking.min(64))
+        changes_from(alloc, &self.sender, self.acked + 1, lacking.min(TURN_DELTAS as u64))
     }
 
     /// The incarnation of this party, the same in both directions.
     pub fn own(&self) -> u64
-        ensures sent { result ≡ self.now.sent.own }
-        ensures got { result ≡ self.now.got.own }
+        ensures outgoing { result ≡ self.now.outgoing.own }
+        ensures incoming { result ≡ self.now.incoming.own }
     {
         self.sender.own()
     }
 
     /// The known incarnation of the peer, 0 where none is known.
     pub fn peer(&self) -> u64
-        ensures { result ≡ self.now.got.place.inc }
+        ensures { result ≡ self.now.incoming.place.inc }
     {
         self.receiver.place().inc
     }
@@ -234,36 +221,36 @@ impl<A: Ledger, B: Ledger> Duplex<A, B> {
     /// The last index that the peer has acknowledged.
     pub fn acked(&self) -> u64
         ensures acked { result ≡ self.now.acked }
-        ensures posted { self.now.acked ≤ self.now.sent.last }
+        ensures posted { self.now.acked ≤ self.now.outgoing.last }
     {
         self.acked
     }
 
     /// The last index of what is sent.
     pub fn last(&self) -> u64
-        ensures { result ≡ self.now.sent.last }
+        ensures { result ≡ self.now.outgoing.last }
     {
         self.sender.last()
     }
 
     /// The place in the peer's history.
     pub fn place(&self) -> Place
-        ensures { result ≡ self.now.got.place }
+        ensures { result ≡ self.now.incoming.place }
     {
         self.receiver.place()
     }
 
     /// The ledger that is sent.
     pub fn sent(&self) -> &A
-        ensures { result.now ≡ self.now.sent.present }
+        ensures { result.now ≡ self.now.outgoing.present }
     {
         self.sender.ledger()
     }
 
     /// What came of the peer's ledger: the one with no entry where nothing came.
     pub fn got(&self) -> &B
-        ensures got { result.now ≡ self.now.got.got }
-        ensures nothing { self.now.got.place.seq ≡ 0 → self.now.got.got ≡ B.nothing }
+        ensures received { result.now ≡ self.now.incoming.received }
+        ensures nothing { self.now.incoming.place.seq ≡ 0 → self.now.incoming.received ≡ B.nothing }
     {
         self.receiver.ledger()
     }
@@ -278,7 +265,7 @@ fn changes_from<A: Ledger>(
 ) -> Result<Vec<Note<A>>, OutOfMemory>
     requires posted { 1 ≤ first }
     requires last { first + count ≤ sender.now.last + 1 }
-    requires near { sender.now.last < first + 256 }
+    requires near { sender.now.last < first + kept_changes }
     requires range { sender.now.last < 2 ^ 64 }
     ensures marks { IfOk result (λ notes. map mark_of notes.items ≡ map MarkDelta (numbers_from first count)) }
     ensures sends { IfOk result (λ notes. AllByRecursion (IsNoteOf sender.now) notes.items) }

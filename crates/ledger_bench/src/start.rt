@@ -57,12 +57,11 @@ fn post_often(
     change: &RowChange,
     times: u32,
 ) -> Result<(), LedgerFault>
-    requires { party.old.sent.last ≡ 0 }
-    ensures last { OnOk result (party.new.sent.last ≡ times) }
-    ensures own { party.new.sent.own ≡ party.old.sent.own }
-    ensures acked { party.new.acked ≡ party.old.acked }
-    ensures got { party.new.got ≡ party.old.got }
-    ensures fault { IfErr result (λ e. IsRefusal (by_turns patched_row change.now change.now party.old.sent.present times) e) }
+    requires { party.old.outgoing.last ≡ 0 }
+    ensures last { OnOk result (party.new.outgoing.last ≡ times) }
+    ensures own { party.new.outgoing.own ≡ party.old.outgoing.own }
+    ensures incoming { party.new.incoming ≡ party.old.incoming }
+    ensures fault { IfErr result (λ e. IsRefusal (by_turns patched_row change.now change.now party.old.outgoing.present times) e) }
 {
     for turn in 0..times {
         let more = RowLedger::copy_delta(alloc, change)?;
@@ -76,9 +75,9 @@ fn post_often(
 /// The fault is the refusal of a change, or want of memory.
 #[tactic(auto, unfolding(crate::specs::Works::posted))]
 pub fn party(alloc: Global) -> Result<Duplex<RowLedger, RowLedger>, LedgerFault>
-    ensures last { IfOk result (λ party. party.sent.last ≡ 65) }
+    ensures last { IfOk result (λ party. party.outgoing.last ≡ 65) }
     ensures acked { IfOk result (λ party. party.acked ≡ 1) }
-    ensures peer { IfOk result (λ party. party.got.place.inc ≡ 1) }
+    ensures peer { IfOk result (λ party. party.incoming.place.inc ≡ 1) }
     ensures fault { IfErr result (λ e. IsRefusal posted e) }
 {
     let grant = changes(alloc, 0, 2048, 1)?;

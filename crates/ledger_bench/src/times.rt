@@ -70,7 +70,7 @@ pub fn turn(
     party: &Duplex<RowLedger, RowLedger>,
     times: u32,
 ) -> Result<Option<Notes<RowLedger>>, OutOfMemory>
-    ensures marks { IfOk result (λ last. IfSome last (λ notes. map mark_of notes ≡ turn_of party.now.sent.last party.now.acked party.now.got.place)) }
+    ensures marks { IfOk result (λ last. IfSome last (λ notes. map mark_of notes ≡ turn_of party.now.outgoing.last party.now.acked party.now.incoming.place)) }
     ensures some { IfOk result (λ last. 0 < times → IsSome last) }
 {
     let mut last = None;

@@ -65,7 +65,7 @@ not_same : (m n : ℕ) → (m ≡ n → ⊥) → nat_eq m n ≡ false
 not_same m n differs = grind (arith, nat_tests, differs)
 
 entry_grown : (h : List TallyRecord) (x : TallyRecord) (receiver : Receiving TallyRecord) → HasEntry receiver h → HasEntry receiver (h ++ x ∷ [])
-entry_grown h x receiver has = got_grown h (x ∷ []) receiver.place.seq (slice_get_within h receiver.place.seq receiver.got has) ∙ has
+entry_grown h x receiver has = got_grown h (x ∷ []) receiver.place.seq (slice_get_within h receiver.place.seq receiver.received has) ∙ has
 
 -- posting what differs
 pub post_stands : (r : Replaying) (c : Channel) (sender : Sending TallyRecord ChangeRecord) (number value : ℕ)

@@ -292,7 +292,7 @@ impl Replay {
     /// What the receiver has got. At every moment it is the ledger that stands at the receiver's place in the
     /// history of what was posted, whatever was lost, repeated or came out of order.
     pub fn received(&self) -> &Tally<Numbers>
-        ensures got { result.now ≡ self.now.receiver.got }
+        ensures got { result.now ≡ self.now.receiver.received }
         ensures entry { (c : Channel) → Stands self.now c → result.now ≡ entry c c.place }
     {
         self.receiver.ledger()

@@ -8,4 +8,4 @@ pub returns-in-Err-clause-fault : goal.returns-in-Err-clause-fault
 unfolding posted
 returns-in-Err-clause-fault c =
     subst (λ grant. IsRefusal (by_turns patched_row grant grant [] 65) c.in-Err.fault) c.in_ok-grant.ensures
-    (subst (λ present. IsRefusal (by_turns patched_row c.in_ok-grant.grant c.in_ok-grant.grant present 65) c.in-Err.fault) (ap (λ d. d.sent.present) c.in_ok-party.ensures.value) c.in-Err.ensures.fault)
+    (subst (λ present. IsRefusal (by_turns patched_row c.in_ok-grant.grant c.in_ok-grant.grant present 65) c.in-Err.fault) (ap (λ d. d.outgoing.present) c.in_ok-party.ensures.value) c.in-Err.ensures.fault)

@@ -15,8 +15,8 @@ returns-in-Err-clause-fault c h has is =
     let next = taken_next r.place.seq c.in-Delta.field-0
     (sym (stamp_verdict r (mark_of (Delta c.in-Delta.field-0 c.in-Delta.change)) c.requires.own c.requires.inc) ∙ ap (verdict_of r.own r.place) (sym stamped) ∙ sym c.verdict-verdict.ensures ∙ taken) in
     let there : r.place.seq + 1 < length h = subst (λ n. n < length h) next d.there in
-    let leads = change_leads h r.got c.in-Delta.change r.place.seq has there (at_index h c.in-Delta.field-0 r.place.seq c.in-Delta.change next d.brings) in
-    only_memory _ leads.to c.in-Err.fault leads.made c.in-Err.ensures.applies.1
+    let leads = change_leads h r.received c.in-Delta.change r.place.seq has there (at_index h c.in-Delta.field-0 r.place.seq c.in-Delta.change next d.brings) in
+    only_memory _ leads.to c.in-Err.fault leads.made c.in-Err.ensures.takes.1
 
 pub returns-in-Ok-clause-entry : goal.returns-in-Ok-clause-entry
 returns-in-Ok-clause-entry c h has is =
@@ -26,5 +26,5 @@ returns-in-Ok-clause-entry c h has is =
     let taken : c.verdict-verdict.result ≡ Take = search rules in
     let next = taken_next r.place.seq c.in-Delta.field-0
     (sym (stamp_verdict r (mark_of (Delta c.in-Delta.field-0 c.in-Delta.change)) c.requires.own c.requires.inc) ∙ ap (verdict_of r.own r.place) (sym stamped) ∙ sym c.verdict-verdict.ensures ∙ taken) in
-    c.in-Ok.ensures.stands (ap (λ s. s.full) stamped) h has (at_index h c.in-Delta.field-0 r.place.seq c.in-Delta.change next d.brings)
+    c.in-Ok.ensures.takes.stands (ap (λ s. s.full) stamped) h has (at_index h c.in-Delta.field-0 r.place.seq c.in-Delta.change next d.brings)
     (subst (λ n. n < length h) (sym (ap (λ s. s.place.seq) stamped)) d.there)

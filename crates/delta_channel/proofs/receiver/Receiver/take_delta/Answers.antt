@@ -1,8 +1,15 @@
-use Rattle.std.proofs.Common.{◌≡◌, Ok, sym, ap, ◌∙◌}
-use Rattle.delta_channel.proofs.Taking.{next_entry}
+use Rattle.std.proofs.Common.{◌≡◌, subst}
+use Rattle.delta_channel.specs.Hearing.{Receiving, verdict_of}
+use Rattle.delta_channel.specs.declared.receiver.Verdict.TheVariants.{Take}
+use Rattle.delta_channel.specs.Calls.{IsTaken}
+use Rattle.delta_channel.proofs.Taking.{is_taken}
 use Rattle.delta_channel.proofs.receiver.Receiver.take_delta.Goals as goal
 
-pub returns-clause-stands : goal.returns-clause-stands
-returns-clause-stands g c delta history has is_change long =
-    let made : g.L.Ledger.patched c.args.self.now.got c.args.change.now ≡ Ok c.apply.new.self = ap (λ v. g.L.Ledger.patched v.got c.args.change.now) (sym c.self.view_is) ∙ c.in_ok-apply.ensures in
-    next_entry g.L.Ledger.patched c.args.stamp.now c.args.change.now history c.args.self.now c.apply.new.self c.requires delta has is_change long made
+pub returns-clause-takes : goal.returns-clause-takes
+returns-clause-takes g c =
+    let v = c.self.inside in
+    let stamp = c.args.stamp.now in
+    let before : Receiving g.row.L.Denot = record { own = v.own; place = v.place; received = v.received } in
+    let after : Receiving g.row.L.Denot = record { own = v.own; place = stamp.place; received = c.apply.new.self } in
+    subst (λ r. verdict_of r.own r.place stamp ≡ Take → IsTaken g.L.Ledger.patched stamp c.args.change.now r after) c.self.view_is
+    (λ taken. is_taken g.L.Ledger.patched stamp c.args.change.now before c.apply.new.self taken c.in_ok-apply.ensures) c.requires

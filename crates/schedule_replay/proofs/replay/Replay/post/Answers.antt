@@ -14,8 +14,8 @@ returns-in_ok-post-clause-stands c w s =
     let change : c.put.new.self ≡ record { head = p.head; entries = (number_key c.args.number, c.change_between.result) ∷ [] } = search rules in
     let after : patched p c.put.new.self ≡ Ok (record p { entries = set_count key_cmp p.entries (number_key c.args.number) c.args.value }) =
     ap (patched p) change ∙ one_change p c.args.number c.args.value c.change_between.result c.requires.number c.requires.value (rw (← before) at c.change_between.ensures.moved) in
-    let k = c.in_ok-post.ensures.patched in
-    post_stands _ w c.post.new.self c.args.number c.args.value c.in_ok-post.ensures.stands (λ same. c.if-before-value.true (sym before ∙ same)) (cc (after, k)) (rw (← c.self.view_is) at s)
+    let k = c.in_ok-post.ensures.1.made in
+    post_stands _ w c.post.new.self c.args.number c.args.value c.in_ok-post.ensures.1.stands (λ same. c.if-before-value.true (sym before ∙ same)) (cc (after, k)) (rw (← c.self.view_is) at s)
 
 pub returns-else-before-value-clause-stands : goal.returns-else-before-value-clause-stands
 returns-else-before-value-clause-stands c w s =
