@@ -30,6 +30,7 @@ pub trait Ledger: Sized + Drop {
     ghost use Rattle.fuxi_terms.specs.declared.answers.LedgerFault.{LedgerFault};
     ghost use Rattle.ledger_law.specs.Applying.{Applies};
     ghost use Rattle.ledger_law.specs.Reading.{Reads};
+    ghost use Rattle.ledger_law.specs.Differing.{ByDifference};
 
     /// A change of a value.
     type Delta: Drop;
@@ -39,6 +40,15 @@ pub trait Ledger: Sized + Drop {
 
     /// The value after a change, or the first refusal.
     ghost patched: { Self → Self.Delta → Result Self LedgerFault };
+
+    /// The changes that there are.
+    ghost is_change: { Self.Delta → Type 0 };
+
+    /// The change from one value to another.
+    ghost difference: { Self → Self → Self.Delta };
+
+    /// The difference of two values can be made on its way.
+    ghost reaches: { Self → Self → Type 0 };
 
     /// The values that there are, each of which has a written form.
     ghost has_form: { Self → Type 0 };
@@ -87,6 +97,9 @@ pub trait Ledger: Sized + Drop {
     /// Reads a change. `NotBody` comes exactly where the bytes are the form of none.
     fn read_delta(alloc: Global, body: &[u8]) -> Result<Self::Delta, BodyFault>
         ensures { Reads has_delta_form delta_form body.now result };
+
+    /// The difference of two values leads from the one to the other, and no other change does.
+    ghost by_difference: { ByDifference has_form is_change reaches patched difference };
 
     /// A form is read back as its value, and none begins another.
     ghost one_form: { (a b : Self) (x y : List ℕ) → has_form a → has_form b → form a ++ x ≡ form b ++ y → a ≡ b };

@@ -303,15 +303,22 @@ fn change_all<S: Shape>(
 impl<S: Shape> Ledger for Tally<S> {
     type Delta = Change;
 
-    ghost use Rattle.fuxi_terms.specs.Tallies.{empty_tally, patched_tally};
+    ghost use Rattle.fuxi_terms.specs.Tallies.{empty_tally, patched_tally, tally_difference};
     ghost use Rattle.fuxi_terms.specs.declared.answers.LedgerFault.TheVariants.{Below, TooGreat};
     ghost use Rattle.ledger_law.specs.Forms.{tally_form, change_form};
     ghost use Rattle.ledger_law.specs.Shapes.{IsTally, IsChange};
     ghost use Rattle.ledger_law.specs.OneForm.{tally_one, change_form_one};
+    ghost use Rattle.ledger_law.specs.Differing.{always, is_tally_change, tally_by_difference};
 
     ghost nothing = { empty_tally };
 
     ghost patched = { patched_tally Below TooGreat S.greatest_of S.DROPPED };
+
+    ghost is_change = { is_tally_change };
+
+    ghost difference = { tally_difference S.DROPPED };
+
+    ghost reaches = { always };
 
     ghost has_form = { IsTally S.greatest_of };
 
@@ -320,6 +327,8 @@ impl<S: Shape> Ledger for Tally<S> {
     ghost has_delta_form = { IsChange S.greatest_of };
 
     ghost delta_form = { change_form };
+
+    ghost by_difference = { tally_by_difference S.greatest_of S.DROPPED };
 
     ghost one_form = { tally_one S.greatest_of S.bounded S.writable };
 

@@ -4,3 +4,4 @@ pub mod RowForms
 pub mod RowOneForm
 pub mod Entries
 pub mod Joins
+pub mod Differing

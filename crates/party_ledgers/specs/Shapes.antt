@@ -1,4 +1,4 @@
--- Of the keys of grants and demands, what forms need to know: their numbers are bounded, and each key has a form.
+-- What every shape of a tally has to promise, of grants and of demands.
 use Rattle.std.specs.Prelude.{◌<◌, ◌≤◌}
 use Rattle.std.proofs.Common.{arith}
 use Rattle.std.proofs.lemmas.Bool.Decides.{nat_tests}

@@ -52,12 +52,19 @@ impl JoinLedger {
 impl Ledger for JoinLedger {
     type Delta = JoinLedger;
 
-    ghost use Rattle.std.specs.Prelude.{Ok};
     ghost use Rattle.party_ledgers.specs.Joins.{no_join, IsJoin, join_form, join_form_one};
+    ghost use Rattle.ledger_law.specs.Differing.{always};
+    ghost use Rattle.party_ledgers.specs.Differing.{replaced, is_replacement, replacement, by_replacement};
 
     ghost nothing = { no_join };
 
-    ghost patched = { λ old change. Ok change };
+    ghost patched = { replaced };
+
+    ghost is_change = { is_replacement };
+
+    ghost difference = { replacement };
+
+    ghost reaches = { always };
 
     ghost has_form = { IsJoin };
 
@@ -66,6 +73,8 @@ impl Ledger for JoinLedger {
     ghost has_delta_form = { IsJoin };
 
     ghost delta_form = { join_form };
+
+    ghost by_difference = { by_replacement };
 
     ghost one_form = { join_form_one };
 

@@ -2,11 +2,16 @@
 //! application demands, and what an agent joins an epoch with.
 #![tactic(auto)]
 
-ghost use Rattle.std.specs.Prelude.{◌≡◌, ◌≤◌, ℕ, ℤ, List, length, Ok};
-ghost use Rattle.fuxi_terms.specs.Keys.{RowKey, row_cmp};
-ghost use Rattle.fuxi_terms.specs.Counts.{joined, difference, AreChanges};
+ghost use Rattle.fuxi_terms.specs.declared.answers.LedgerFault.TheVariants.{Below, TooGreat};
+ghost use Rattle.fuxi_terms.specs.Keys.{row_cmp};
+ghost use Rattle.fuxi_terms.specs.Counts.{difference, AreChanges};
 ghost use Rattle.fuxi_terms.specs.Rows.{IsRow, patched_row};
-ghost use Rattle.fuxi_terms.specs.Limits.{most_entries};
+ghost use Rattle.fuxi_terms.specs.Tallies.{patched_tally, tally_difference};
+ghost use Rattle.fuxi_terms.specs.TallyKeys.{greatest_grant, greatest_demand, credited_what, back_what};
+ghost use Rattle.ledger_law.specs.Shapes.{IsTally};
+ghost use Rattle.ledger_law.specs.Differing.{ByDifference, always, is_tally_change};
+ghost use Rattle.party_ledgers.specs.Joins.{IsJoin};
+ghost use Rattle.party_ledgers.specs.Differing.{few_together, is_replacement, replaced, replacement};
 
 #[cfg(test)]
 mod body_tests;
@@ -22,9 +27,17 @@ pub use join::JoinLedger;
 pub use row_ledger::{RowChange, RowEntry, RowLedger};
 pub use shapes::{Demand, DemandShape, GrantShape, Grants};
 
-/// Changing a row by the difference to another gives the other, where the keys of both are not too many
-/// together; and only the difference does. It does nothing; its contract is this law.
+/// The law of differences at each of the four ledgers. Changing a value by its difference to another gives the
+/// other; of rows where the keys of both are not too many together. Only the difference does, and that of a
+/// report is the new report. It does nothing; its contract is this law.
 pub fn patched_by_difference()
-    ensures patched { (old new : List (RowKey × ℕ)) → IsRow old → IsRow new → length (joined row_cmp old new) ≤ most_entries → patched_row old (difference row_cmp old new) ≡ Ok new }
-    ensures alone { (old new : List (RowKey × ℕ)) (changes : List (RowKey × ℤ)) → IsRow old → IsRow new → AreChanges row_cmp changes → patched_row old changes ≡ Ok new → changes ≡ difference row_cmp old new }
-{}
+    ensures rows { ByDifference IsRow (AreChanges row_cmp) few_together patched_row (difference row_cmp) }
+    ensures reports { ByDifference IsJoin is_replacement always replaced replacement }
+    ensures grants { ByDifference (IsTally greatest_grant) is_tally_change always (patched_tally Below TooGreat greatest_grant credited_what) (tally_difference credited_what) }
+    ensures demands { ByDifference (IsTally greatest_demand) is_tally_change always (patched_tally Below TooGreat greatest_demand back_what) (tally_difference back_what) }
+{
+    ledger_law::patched_by_difference::<RowLedger>();
+    ledger_law::patched_by_difference::<JoinLedger>();
+    ledger_law::patched_by_difference::<Grants>();
+    ledger_law::patched_by_difference::<Demand>();
+}

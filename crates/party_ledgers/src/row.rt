@@ -10,18 +10,13 @@ ghost use Rattle.fuxi_terms.specs.Counts.{AreCounts, AreChanges, count, moved_wi
 ghost use Rattle.ledger_law.specs.Applying.{IsRefusal};
 ghost use Rattle.fuxi_terms.specs.Rows.{IsRow, AreRowChanges, greatest_row, patched_row, change_row_once, row_below, row_too_great, fault_key};
 
+use fuxi_terms::limits::{GREATEST_COUNT, GREATEST_QUANTITY, MOST_ENTRIES, MOST_JOBS, MOST_UNITS};
 use ledger_law::entries::{EntryKey, count_of, moved, set_entry};
 use ledger_law::{Key, LedgerFault, OutOfMemory};
 use res_vector::Res;
 use schedule_unit::{AppNo, UnitNo};
 use std::alloc::Global;
 use std::marker::Model;
-
-/// The greatest number of entries of a row.
-pub(crate) const MOST_ENTRIES: usize = 2048;
-
-/// The greatest number of grants of one unit on one machine.
-pub(crate) const GREATEST_COUNT: u64 = 100_000;
 
 // What the entry of a row is about: a job, a unit of it, and the size of one grant.
 #[derive(Clone, Copy, Debug, PartialEq, Eq, PartialOrd, Ord)]
@@ -59,7 +54,7 @@ fn fault_key(key: &RowKey) -> Key
 fn are_quantities(size: &[u64; 8]) -> bool
     ensures { result ≡ are_quantities size.now }
 {
-    size.iter().all(|quantity| *quantity <= 1_000_000_000_000)
+    size.iter().all(|quantity| *quantity <= GREATEST_QUANTITY)
 }
 
 fn is_zero(size: &[u64; 8]) -> bool
@@ -72,7 +67,7 @@ fn is_zero(size: &[u64; 8]) -> bool
 pub(crate) fn greatest(key: &RowKey) -> u64
     ensures { result ≡ greatest_row key.now }
 {
-    if key.job > 255 || key.unit > 7 || !are_quantities(&key.size) || is_zero(&key.size) {
+    if key.job >= MOST_JOBS || key.unit as usize >= MOST_UNITS || !are_quantities(&key.size) || is_zero(&key.size) {
         0
     } else {
         GREATEST_COUNT

@@ -4,12 +4,14 @@ ghost use Rattle.std.specs.Prelude.{◌≡◌, ◌≤◌, ◌<◌, ◌++◌, ◌
 ghost use Rattle.std.specs.declared.cmp.Ordering.TheVariants.{Less};
 ghost use Rattle.std.specs.List.{All, AllByRecursion};
 ghost use Rattle.fuxi_terms.specs.Keys.{RowKey as RowKeyRecord, row_cmp};
+ghost use Rattle.fuxi_terms.specs.Limits.{greatest_count};
 ghost use Rattle.fuxi_terms.specs.Counts.{AreCounts, count, is_no_change};
 ghost use Rattle.fuxi_terms.specs.Rows.{IsRow, AreRowChanges, IsRowChange, is_row_key, row_key, greatest_row, row_total};
 ghost use Rattle.party_ledgers.specs.Entries.{entry_of};
 
-use crate::row::{MOST_ENTRIES, RowKey, change_all, greatest};
+use crate::row::{RowKey, change_all, greatest};
 use crate::row_forms::{RowChanges, RowNumbers};
+use fuxi_terms::limits::MOST_ENTRIES;
 use ledger_law::entries::{count_of, keys_rise};
 use ledger_law::forms::{read_counted, write_counted};
 use ledger_law::{BodyFault, Ledger, LedgerFault, OutOfMemory};
@@ -86,7 +88,7 @@ impl RowChange {
     ) -> Result<(), OutOfMemory>
         requires key { IsTrue (is_row_key (row_key app.0 unit.0 size.now.q)) }
         requires real { is_no_change change ≡ false }
-        requires range { unsigned_abs change ≤ 100000 }
+        requires range { unsigned_abs change ≤ greatest_count }
         requires rises { All (λ c. row_cmp c.0 (row_key app.0 unit.0 size.now.q) ≡ Less) self.old }
         ensures ok { OnOk result (self.new ≡ self.old ++ (row_key app.0 unit.0 size.now.q, change) ∷ []) }
         ensures err { OnErr result (self.new ≡ self.old) }
@@ -248,10 +250,17 @@ impl Ledger for RowLedger {
     ghost use Rattle.fuxi_terms.specs.Rows.{IsRow, IsRowChange, patched_row};
     ghost use Rattle.party_ledgers.specs.RowForms.{row_form, row_change_form};
     ghost use Rattle.party_ledgers.specs.RowOneForm.{row_form_one, row_change_form_one};
+    ghost use Rattle.party_ledgers.specs.Differing.{row_difference, is_row_difference, few_together, row_by_difference};
 
     ghost nothing = { [] };
 
     ghost patched = { patched_row };
+
+    ghost is_change = { is_row_difference };
+
+    ghost difference = { row_difference };
+
+    ghost reaches = { few_together };
 
     ghost has_form = { IsRow };
 
@@ -260,6 +269,8 @@ impl Ledger for RowLedger {
     ghost has_delta_form = { IsRowChange };
 
     ghost delta_form = { row_change_form };
+
+    ghost by_difference = { row_by_difference };
 
     ghost one_form = { row_form_one };
 

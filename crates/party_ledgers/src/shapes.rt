@@ -1,19 +1,27 @@
 //! The two tallies: what a master grants an application, and what an application demands.
 
 ghost use Rattle.std.specs.Prelude.{◌≡◌};
-ghost use Rattle.fuxi_terms.specs.TallyKeys.{greatest_grant, greatest_demand};
+ghost use Rattle.fuxi_terms.specs.TallyKeys.{is_place, greatest_grant, greatest_demand};
 
+use fuxi_terms::limits::{GREATEST_BACK, GREATEST_COUNT, MOST_MACHINES, MOST_RACKS, MOST_UNITS};
 use ledger_law::{Key, Shape, Tally};
+
+// Whether a key names a unit and a machine.
+fn is_place(key: &Key) -> bool
+    ensures { result ≡ is_place key.now }
+{
+    (key.unit as usize) < MOST_UNITS && (key.number as usize) < MOST_MACHINES
+}
 
 /// The keys of [`Grants`].
 #[derive(Clone, Copy, Debug, Drop)]
 pub struct GrantShape;
 
 impl Shape for GrantShape {
-    ghost use Rattle.fuxi_terms.specs.TallyKeys.{greatest_grant};
+    ghost use Rattle.fuxi_terms.specs.TallyKeys.{greatest_grant, credited_what};
     ghost use Rattle.party_ledgers.specs.Shapes.{grant_bounded, grant_writable};
 
-    ghost DROPPED = { 3 };
+    ghost DROPPED = { credited_what };
 
     ghost greatest_of = { greatest_grant };
 
@@ -24,13 +32,13 @@ impl Shape for GrantShape {
     const DROPPED: u8 = 3;
 
     fn greatest(key: &Key) -> u64 {
-        if key.unit > 7 || key.number > 255 {
+        if !is_place(key) {
             return 0;
         }
         match key.what {
             1 if key.unit == 0 => 1,
-            2 => 100_000,
-            3 => 1_000_000_000_000,
+            2 => GREATEST_COUNT,
+            3 => GREATEST_BACK,
             _ => 0,
         }
     }
@@ -41,10 +49,10 @@ impl Shape for GrantShape {
 pub struct DemandShape;
 
 impl Shape for DemandShape {
-    ghost use Rattle.fuxi_terms.specs.TallyKeys.{greatest_demand};
+    ghost use Rattle.fuxi_terms.specs.TallyKeys.{greatest_demand, back_what};
     ghost use Rattle.party_ledgers.specs.Shapes.{demand_bounded, demand_writable};
 
-    ghost DROPPED = { 5 };
+    ghost DROPPED = { back_what };
 
     ghost greatest_of = { greatest_demand };
 
@@ -55,15 +63,15 @@ impl Shape for DemandShape {
     const DROPPED: u8 = 5;
 
     fn greatest(key: &Key) -> u64 {
-        if key.unit > 7 || key.number > 255 {
+        if !is_place(key) {
             return 0;
         }
         match key.what {
-            1 if key.number == 0 => 100_000,
-            2 => 100_000,
-            3 if key.number < 64 => 100_000,
+            1 if key.number == 0 => GREATEST_COUNT,
+            2 => GREATEST_COUNT,
+            3 if key.number < MOST_RACKS => GREATEST_COUNT,
             4 => 1,
-            5 => 1_000_000_000_000,
+            5 => GREATEST_BACK,
             _ => 0,
         }
     }
