@@ -1,13 +1,9 @@
 -- What one party does to the net: what it leaves, and that what it publishes is then the last entry.
-use Rattle.std.proofs.Common.{◌≡◌, ℕ, Bool, true, false, not, nat_eq, List, [], ◌∷◌, ◌++◌, length, length-append, Some, refl, sym, ◌∙◌, ap, subst, arith}
+use Rattle.std.proofs.Common.{◌≡◌, Bool, true, false, not, nat_eq, List, [], ◌∷◌, ◌++◌, length, length-append, Some, refl, sym, ◌∙◌, ap, subst, arith}
 use Rattle.std.specs.Prelude.{◌&&◌, ◌||◌}
 use Rattle.std.specs.List.{AllByRecursion}
-use Rattle.std.specs.Ordering.{eq_by_cmp}
-use Rattle.std.specs.declared.cmp.Ordering.{Ordering}
-use Rattle.std.specs.declared.cmp.Ordering.TheVariants.{Equal}
 use Rattle.fuxi_terms.specs.Keys.{key_cmp, row_cmp}
 use Rattle.fuxi_terms.specs.Counts.{is_same}
-use Rattle.fuxi_terms.proofs.Counting.{tied}
 use Rattle.written_net.specs.Net.{Net, Party, Id, Link, Packet, set_at, unknown, same_id, same_party, Starts, Posts, Turns, Resyncs, comes, heard_of, move, at_index}
 use Rattle.written_net.specs.Ledgers.{Ledger, nothing, same_ledger}
 use Rattle.written_net.specs.Channels.{present, Offer, publish_one, publish, has_heads, shape, send_all, resync_all, view, party}

@@ -1,6 +1,5 @@
 -- The channels between a master, the agents and the applications: views of histories, publishing, and what packets hold.
-use Rattle.std.specs.Prelude.{◌≡◌, ℕ, zero, suc, ◌+◌, ◌-◌, Bool, false, cond, not, nat_eq, ◌&&◌, ◌||◌, List, [], ◌∷◌, slice_get}
-use Rattle.std.specs.Option.{unwrap_or}
+use Rattle.std.specs.Prelude.{◌≡◌, ℕ, ◌+◌, ◌-◌, Bool, false, cond, not, nat_eq, ◌&&◌, ◌||◌, List, [], ◌∷◌}
 use Rattle.written_net.specs.Sound.{Shape}
 use Rattle.written_net.specs.Net.{at_index, Turns, Resyncs, Net, Party, Id, Packet, Kind, Ack, Delta, Full, last, move, Posts}
 use Rattle.written_net.specs.Ledgers.{Ledger, nothing, same_ledger, Body, Empty, whole_body, change_body, body_length}

@@ -1,11 +1,9 @@
 -- The four kinds of ledger as one record, and what packets hold of them.
 use Rattle.std.specs.Prelude.{ℕ, ◌+◌, ◌*◌, ℤ, Bool, cond, nat_eq, ◌&&◌, List, [], length}
 use Rattle.fuxi_terms.specs.declared.Key.{Key}
-use Rattle.fuxi_terms.specs.Limits.{greatest_count, greatest_back}
 use Rattle.fuxi_terms.specs.Keys.{key_cmp, RowKey, row_cmp}
 use Rattle.fuxi_terms.specs.Counts.{count, is_same, difference}
 use Rattle.fuxi_terms.specs.Tallies.{ChangeRecord, tally_difference}
-use Rattle.fuxi_terms.specs.TallyKeys.{is_back}
 
 -- a row has rows alone; a report of an agent that joins has the epoch as head, and rows; grants have the application's
 -- boot as head, and entries; a demand has the epoch as head, and entries

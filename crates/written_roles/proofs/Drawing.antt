@@ -1,22 +1,25 @@
 -- The losers of a preemption are single grants of the table, and what they leave has room for what is served.
-use Rattle.std.proofs.Common.{◌≡◌, ℕ, zero, suc, ◌+◌, ◌≤◌, Bool, true, false, cond, nat_eq, List, [], ◌∷◌, ◌++◌, filter, Option, Some, None, refl, ◌∙◌, ap, subst, arith}
+use Rattle.std.proofs.Common.{◌≡◌, ℕ, zero, suc, ◌+◌, ◌≤◌, Bool, true, false, cond, nat_eq, List, [], ◌∷◌, ◌++◌, filter, Option, Some, None, refl, ◌∙◌, ap, subst, arith, not, nat_lt}
 use Rattle.std.specs.Prelude.{◌&&◌, T}
+use Rattle.std.proofs.lemmas.Bool.Decides.{nat_tests}
 use Rattle.std.specs.Option.{unwrap_or}
 use Rattle.std.specs.List.{AllByRecursion, flat_map, sum_by}
 use Rattle.std.specs.Ordering.{eq_by_cmp}
 use Rattle.std.specs.FinMap.Entries.{below_all, find, is_sorted}
 use Rattle.std.proofs.lemmas.List.Sums.{sum_by-cons, sum_by-append}
-use Rattle.fuxi_terms.specs.Cluster.{ClusterRecord}
+use Rattle.fuxi_terms.specs.Cluster.{ClusterRecord, has_at, in_each_place}
 use Rattle.fuxi_terms.specs.Keys.{Spot, spot_cmp}
 use Rattle.fuxi_terms.specs.Counts.{count}
 use Rattle.fuxi_terms.proofs.Counting.{both_true as both, tied, below_none}
-use Rattle.fuxi_terms.specs.Jobs.{KnownJob}
+use Rattle.fuxi_terms.specs.Jobs.{KnownJob, size_at}
 use Rattle.written_roles.specs.Masters.{Master}
-use Rattle.written_roles.specs.Preemption.{goes_before, put_grant, in_walk_order, so_many, walk, is_enough, may_take, taken_of, without_one, needed_of, is_some_set, victims, Plan, first_plan}
+use Rattle.written_roles.specs.Preemption.{goes_before, put_grant, in_walk_order, so_many, walk, is_enough, may_take, taken_of, without_one, needed_of, is_some_set, victims, Plan, first_plan, set_at_place}
 use Rattle.fuxi_terms.proofs.Alls.{all_append, all_passed}
 use Rattle.fuxi_terms.proofs.Booleans.{both_true, either, number_is}
 use Rattle.fuxi_terms.proofs.KeyOrders.{same_spot}
-use Rattle.written_roles.specs.Losses.{often, IsDrawn, IsLoss, one_if}
+use Rattle.written_roles.specs.Losses.{often, IsDrawn, IsLoss, one_if, LeavesRoom}
+use Rattle.fuxi_terms.specs.Tables.{total_at}
+use Rattle.fuxi_terms.proofs.Members.{in_each_is}
 
 -- what entries say of a spot
 abbrev amount : Spot → List (Spot × ℕ) → ℕ
@@ -178,3 +181,12 @@ plan_loss (s ∷ ss) c M p k e = elim (victims c M s) as (λ o. victims c M s �
 
     served : (vs : List Spot) → victims c M s ≡ Some vs → Some (plan vs) ≡ Some p → IsLoss c M p.served p.losers
     served vs v e = let same : plan vs ≡ p = cc in subst (λ (q : Plan). IsLoss c M q.served q.losers) same (victims_loss c M s vs k v)
+
+-- and so there is room
+pub loss_room : (c : ClusterRecord) (M : Master) (t : Spot) (set : List Spot) → IsLoss c M t set → LeavesRoom c M t set
+loss_room c M t set l = record {
+  room = λ i lt.
+      let fits : ℕ → Bool = λ i. not (nat_lt (has_at c t.machine i + set_at_place M.jobs i set) (total_at M.jobs t.machine i M.table + size_at M.jobs t.job t.unit i)) in
+      let e = in_each_is c (size_at M.jobs t.job t.unit) fits i (both_true (in_each_place c (size_at M.jobs t.job t.unit) fits) _ l.enough).0 lt in
+      grind (arith, nat_tests, e);
+}

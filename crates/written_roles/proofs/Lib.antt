@@ -1,3 +1,4 @@
 pub mod Placed
 pub mod Capacity
 pub mod Drawing
+pub mod StepEnds

@@ -1,5 +1,5 @@
 -- An agent by itself: what it is, and what it does with what it received.
-use Rattle.std.specs.Prelude.{ℕ, Bool, true, false, cond, nat_eq, List, [], Option, Some, None}
+use Rattle.std.specs.Prelude.{ℕ, Bool, false, cond, nat_eq, List, [], Option, Some, None}
 use Rattle.fuxi_terms.specs.declared.answers.What.{What}
 use Rattle.fuxi_terms.specs.declared.vectors.Res.{Res}
 use Rattle.fuxi_terms.specs.declared.vectors.Sum.{Sum}

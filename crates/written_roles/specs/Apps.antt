@@ -1,5 +1,5 @@
 -- An application by itself: what it is, and what it does with what it received.
-use Rattle.std.specs.Prelude.{ℕ, ◌+◌, ◌-◌, Bool, true, false, cond, not, nat_eq, nat_lt, min, List, [], ◌∷◌, length, map, Option, Some, None, Result, Ok, Err}
+use Rattle.std.specs.Prelude.{ℕ, ◌+◌, ◌-◌, Bool, false, cond, not, nat_eq, nat_lt, min, List, [], ◌∷◌, length, map, Option, Some, None, Result, Ok}
 use Rattle.std.specs.Ordering.{nat_cmp}
 use Rattle.std.specs.FinMap.Entries.{put, where_key, find}
 use Rattle.fuxi_terms.specs.declared.Key.{Key}

@@ -1,12 +1,14 @@
 -- What the losers of a preemption are, said without its walk.
-use Rattle.std.specs.Prelude.{◌≡◌, ℕ, ◌≤◌, true, cond, List, Some}
+use Rattle.std.specs.Prelude.{◌<◌, ◌+◌, ◌≡◌, ℕ, ◌≤◌, true, cond, List}
 use Rattle.std.specs.List.{AllByRecursion, sum_by}
 use Rattle.std.specs.Ordering.{eq_by_cmp}
-use Rattle.fuxi_terms.specs.Cluster.{ClusterRecord}
+use Rattle.fuxi_terms.specs.Cluster.{ClusterRecord, has_at}
 use Rattle.fuxi_terms.specs.Keys.{Spot, spot_cmp}
 use Rattle.fuxi_terms.specs.Counts.{count}
 use Rattle.written_roles.specs.Masters.{Master}
-use Rattle.written_roles.specs.Preemption.{is_enough}
+use Rattle.written_roles.specs.Preemption.{is_enough, set_at_place}
+use Rattle.fuxi_terms.specs.Tables.{total_at}
+use Rattle.fuxi_terms.specs.Jobs.{size_at}
 
 -- how often a spot stands in a set of single grants
 abbrev pub one_if : Spot → Spot → ℕ
@@ -24,3 +26,7 @@ pub record IsDrawn (table : List (Spot × ℕ)) (m : ℕ) (set : List Spot) : Ty
 pub record IsLoss (c : ClusterRecord) (M : Master) (t : Spot) (set : List Spot) : Type 0 where
   pub drawn : IsDrawn M.table t.machine set
   pub enough : is_enough c M t set ≡ true
+
+-- with what these leave there is room on the machine that is served, in each resource
+pub record LeavesRoom (c : ClusterRecord) (M : Master) (t : Spot) (set : List Spot) : Type 0 where
+  pub room : (i : ℕ) → i < c.resources → total_at M.jobs t.machine i M.table + size_at M.jobs t.job t.unit i ≤ has_at c t.machine i + set_at_place M.jobs i set

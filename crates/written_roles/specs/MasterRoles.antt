@@ -19,7 +19,7 @@ use Rattle.written_net.specs.Sides.{Side, new_side, appended, resynced_side, Par
 use Rattle.written_roles.specs.Refusals.{Refusal}
 use Rattle.written_roles.specs.HardState.{HardState}
 use Rattle.written_roles.specs.Masters.{Master}
-use Rattle.written_roles.specs.MasterSteps.{master_party, projected, talks, peers, is_one_of, offers_of, ready, told_of, adopted_of, adopts, is_kept, said, new_master, MasterChange, Changed, change_of, MasterCommand, Commanded, command_of}
+use Rattle.written_roles.specs.MasterSteps.{master_party, projected, talks, peers, is_one_of, offers_of, ready, told_of, adopted_of, adopts, is_kept, said, new_master, MasterChange, Changed, change_of, MasterCommand, command_of}
 
 -- its cluster, its state, and its side of the channel with each peer
 pub record MasterRole : Type 0 where

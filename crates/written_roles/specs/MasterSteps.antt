@@ -1,5 +1,5 @@
 -- What a master does: its projections, the end of each of its steps, and what it makes of reports, demands and commands.
-use Rattle.std.specs.Prelude.{ℕ, ◌-◌, Bool, true, false, cond, not, nat_eq, nat_lt, ◌&&◌, ◌||◌, min, List, [], ◌∷◌, ◌++◌, length, map, filter, Option, Some, None, Result, Ok, Err}
+use Rattle.std.specs.Prelude.{ℕ, ◌-◌, Bool, true, false, cond, not, nat_eq, nat_lt, ◌&&◌, ◌||◌, min, List, [], ◌∷◌, ◌++◌, length, map, filter, Result, Ok, Err}
 use Rattle.std.specs.List.{list_any, list_all}
 use Rattle.std.specs.Ordering.{nat_cmp}
 use Rattle.std.specs.FinMap.Entries.{put, where_key}

@@ -7,11 +7,14 @@
 ghost use Rattle.std.specs.Prelude.{◌≡◌, List, Some, T};
 ghost use Rattle.fuxi_terms.specs.Cluster.{ClusterRecord};
 ghost use Rattle.fuxi_terms.specs.Keys.{Spot, spot_cmp};
+ghost use Rattle.written_net.specs.Net.{Id};
+ghost use Rattle.written_net.specs.Sides.{Side};
+ghost use Rattle.written_roles.specs.MasterRoles.{publish_alone, offers_alone, side_after};
 ghost use Rattle.written_roles.specs.Masters.{Master};
 ghost use Rattle.written_roles.specs.Placing.{settled};
 ghost use Rattle.std.specs.FinMap.Entries.{is_sorted};
 ghost use Rattle.written_roles.specs.Preemption.{Plan, plan_of};
-ghost use Rattle.written_roles.specs.Losses.{IsLoss};
+ghost use Rattle.written_roles.specs.Losses.{IsLoss, LeavesRoom};
 ghost use Rattle.written_roles.specs.Settling.{NothingPlaceable, Picks, IsWithin};
 
 /// Settling ends, and leaves nothing placeable; whoever grants the placeable pair of least rank until there
@@ -25,5 +28,12 @@ pub fn settling()
 /// The losers of a plan are single grants of the table, all on the machine that is served, and with what they
 /// leave there is room for one more of what is served.
 pub fn preempting()
-    ensures { (c : ClusterRecord) (M : Master) (p : Plan) → T (is_sorted spot_cmp M.table) → plan_of c M ≡ Some p → IsLoss c M p.served p.losers }
+    ensures grants { (c : ClusterRecord) (M : Master) (p : Plan) → T (is_sorted spot_cmp M.table) → plan_of c M ≡ Some p → IsLoss c M p.served p.losers }
+    ensures room { (c : ClusterRecord) (M : Master) (p : Plan) → T (is_sorted spot_cmp M.table) → plan_of c M ≡ Some p → LeavesRoom c M p.served p.losers }
+{}
+
+/// The end of a master's step, said of each peer: one with whom it talks has what it should hold appended where that
+/// is due, and all others stay.
+pub fn step_ends()
+    ensures { (c : ClusterRecord) (sides : Id → Side) (M : Master) (forced : List Id) (q : Id) → publish_alone sides (offers_alone c sides M forced) q ≡ side_after c sides M forced q }
 {}

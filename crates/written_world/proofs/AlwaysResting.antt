@@ -24,7 +24,7 @@ use Rattle.fuxi_terms.proofs.Booleans.{either, number_is}
 use Rattle.fuxi_terms.proofs.KeyOrders.{same_key}
 use Rattle.written_world.proofs.Resting.{IsRangedMaster, IsResting, ranged_same, ready_rests}
 use Rattle.written_world.proofs.Steps.{found_has}
-use Rattle.written_roles.specs.Preemption.{plan_of, preempted}
+use Rattle.written_roles.specs.Preemption.{preempted}
 use Rattle.written_roles.specs.Refusals.{Refusal, with_found}
 use Rattle.written_world.specs.World.{World, Agent, App, Step, empty_world, prints_nothing, refused}
 use Rattle.written_world.specs.Events.{Event, StartMaster, StopMaster, StartAgent, StartApp, Submit, Finish, Ban, Unban, Begin, Preempt, Want, Near, Rack, Avoid, GiveBack, TurnMaster, TurnAgent, TurnApp, ResyncMaster, ResyncAgent, ResyncApp, Deliver, DeliverRange, Dump, ShowState, at_master, at_agent, at_app, demanded, turned, turn_to_master, addressed, packet_of, deliver_one, deliver_all, given_back, agent_started, app_started, act, counted_in, world_step}

@@ -7,7 +7,7 @@ use Rattle.std.specs.FinMap.Entries.{find, where_key, find-where_key}
 use Rattle.std.proofs.lemmas.Bool.Decides.{nat_tests}
 use Rattle.std.proofs.lemmas.Map.Lookups.{exact_unsigned}
 use Rattle.fuxi_terms.specs.declared.Key.{Key}
-use Rattle.fuxi_terms.specs.Cluster.{ClusterRecord, has_rack, has_group, has_machine}
+use Rattle.fuxi_terms.specs.Cluster.{ClusterRecord, has_rack, has_machine}
 use Rattle.fuxi_terms.specs.Limits.{greatest_count, greatest_back, most_masters}
 use Rattle.written_net.specs.Net.{Net, Party, Id, Link, Packet, Heard, Starts, unknown, last, move, same_party, comes, heard_of, at_index, is_taken}
 use Rattle.written_net.specs.Ledgers.{Ledger, nothing, at_key, report_ledger}
@@ -18,9 +18,9 @@ use Rattle.fuxi_terms.specs.Jobs.{job_numbers, unit_count, is_known, is_live, ha
 use Rattle.fuxi_terms.specs.Numbers.{without_number}
 use Rattle.fuxi_terms.specs.Lists.{below}
 use Rattle.written_roles.specs.Masters.{Master}
-use Rattle.written_roles.specs.HardState.{HardState, is_full, submit_tests, raised, submitted, finished, banned, unbanned, with_job, Raise}
-use Rattle.written_roles.specs.Preemption.{plan_of, preempted}
-use Rattle.written_roles.specs.Refusals.{Refusal, NotRising, TooManyMasters, Fenced, Known, NoGroup, NoMachine, NoRack, NoUnit, NoJob, Ended, WantRange, NotUsable, BackRange, job_tests, first_refusal, with_found}
+use Rattle.written_roles.specs.HardState.{HardState, is_full, raised, submitted, finished, banned, unbanned, with_job, Raise}
+use Rattle.written_roles.specs.Preemption.{preempted}
+use Rattle.written_roles.specs.Refusals.{Refusal, NotRising, TooManyMasters, Fenced, Known, NoMachine, NoRack, NoUnit, NoJob, Ended, WantRange, NotUsable, BackRange, first_refusal, with_found}
 use Rattle.written_world.specs.World.{World, Agent, App, Step, empty_world, prints_nothing, refused}
 use Rattle.written_roles.specs.MasterSteps.{master_party, is_there, talks, peers, adopts, take_report, take_demand, meet_app, row, grants, counted, ended_in, banned_in, new_master}
 use Rattle.written_world.specs.Parties.{projection, end_step, master_hears, told, received, adopted_now, joined, agent_table, agent_hears, app_hears, carry}

@@ -28,7 +28,7 @@ use Rattle.fuxi_terms.proofs.Booleans.{both_true, either, number_is, nat_itself,
 use Rattle.fuxi_terms.proofs.KeyOrders.{key_total, same_key}
 use Rattle.written_net.proofs.NetLemmas.{id_is}
 use Rattle.written_net.proofs.BoundedLemmas.{met_known}
-use Rattle.written_net.proofs.SoundLemmas.{Grows, taken_names, met_names}
+use Rattle.written_net.proofs.SoundLemmas.{taken_names, met_names}
 use Rattle.written_net.proofs.PublishLemmas.{set_here, set_beside}
 use Rattle.written_world.proofs.Writing.{DemandsHold, KnowsMore, backs_between}
 

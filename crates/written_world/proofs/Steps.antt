@@ -13,7 +13,7 @@ use Rattle.fuxi_terms.specs.TallyKeys.{want_key, near_key, rack_key, avoid_key, 
 use Rattle.fuxi_terms.specs.Jobs.{job_numbers, eight_places}
 use Rattle.fuxi_terms.specs.Numbers.{without_number}
 use Rattle.written_roles.specs.HardState.{raised, submitted, finished, banned, unbanned, with_job, Raise}
-use Rattle.written_roles.specs.Preemption.{plan_of, preempted}
+use Rattle.written_roles.specs.Preemption.{preempted}
 use Rattle.written_roles.specs.Refusals.{Refusal, with_found}
 use Rattle.written_world.specs.World.{World, Agent, App, Step, empty_world, prints_nothing, refused}
 use Rattle.written_roles.specs.MasterSteps.{master_party, talks, peers, ready, ended_in, banned_in, new_master}

@@ -1,26 +1,20 @@
 -- The events, and one function for each.
-use Rattle.std.specs.Prelude.{ℕ, zero, suc, ◌+◌, ◌-◌, Bool, true, false, cond, not, nat_eq, nat_lt, List, [], ◌∷◌, ◌++◌, length, map, drop, min, Option, Some, None, slice_get}
+use Rattle.std.specs.Prelude.{ℕ, zero, suc, ◌+◌, ◌-◌, Bool, cond, not, nat_eq, nat_lt, List, [], ◌∷◌, ◌++◌, length, map, drop, Option, Some, None, slice_get}
 use Rattle.std.specs.Ordering.{nat_cmp}
 use Rattle.std.specs.FinMap.Entries.{put, where_key, find}
 use Rattle.fuxi_terms.specs.declared.Key.{Key}
-use Rattle.fuxi_terms.specs.Cluster.{ClusterRecord, JobRecord, has_rack, has_machine, has_group}
-use Rattle.fuxi_terms.specs.Limits.{greatest_count, greatest_back, most_masters}
-use Rattle.fuxi_terms.specs.Keys.{key_cmp, spot_cmp}
-use Rattle.fuxi_terms.specs.Counts.{set_count}
-use Rattle.written_net.specs.Net.{Net, Party, Id, Packet, Heard, move, Starts, Turns, Resyncs, heard_of}
-use Rattle.written_net.specs.Ledgers.{Ledger, nothing, at_key}
-use Rattle.fuxi_terms.specs.TallyKeys.{want_key, near_key, rack_key, avoid_key, back_key}
+use Rattle.fuxi_terms.specs.Cluster.{JobRecord, has_machine}
+use Rattle.fuxi_terms.specs.Limits.{most_masters}
+use Rattle.written_net.specs.Net.{Party, Id, Packet, Heard, move, Starts, heard_of}
 use Rattle.written_net.specs.Channels.{master_id, agent_id, app_id, party, is_master, is_agent, is_app, view, present, to_master, publish, body_of, send_all, resync_all}
-use Rattle.fuxi_terms.specs.Jobs.{is_known, has_ended, unit_count, job_numbers, eight_places}
-use Rattle.fuxi_terms.specs.Numbers.{with_number, without_number}
+use Rattle.fuxi_terms.specs.Jobs.{is_known, has_ended, unit_count, job_numbers}
 use Rattle.written_roles.specs.Masters.{Master}
-use Rattle.written_roles.specs.Preemption.{plan_of, preempted}
-use Rattle.written_roles.specs.Refusals.{Refusal, NotRunning, NotRising, TooManyMasters, NoMachine, NoRack, NoGroup, NoJob, NoUnit, Ended, AlreadyServing, NotServing, NothingToPreempt, WantRange, NotUsable, BackRange, NoPacket, job_tests, with_found}
-use Rattle.written_roles.specs.HardState.{is_not_rising, is_full, submit_tests, finish_tests, ban_tests, unban_tests, raised, submitted, finished, banned, unbanned, with_job, with_ended, hard_step, Raise}
+use Rattle.written_roles.specs.Refusals.{Refusal, NotRunning, NotRising, TooManyMasters, NoMachine, NoJob, Ended, NoPacket, with_found}
+use Rattle.written_roles.specs.HardState.{is_not_rising, hard_step, Raise}
 use Rattle.written_world.specs.World.{World, Agent, App, set_boot, Step, prints_nothing, refused, then_step, unless_refused, on_result}
 use Rattle.written_roles.specs.MasterSteps.{master_party, talks, peers, MasterCommand, Submits, command_of, Finishes, BansMachine, new_master, UnbansMachine, StartsServing, MakesRoom}
-use Rattle.written_world.specs.Parties.{end_step, master_hears, agent_hears, app_hears, usable}
-use Rattle.written_roles.specs.Apps.{names, changed_demand, usable_at, given_at, AppCommand, command_tests, command_key, command_number, Wants, WantsNear, WantsInRack, Avoids, GivesBack}
+use Rattle.written_world.specs.Parties.{end_step, master_hears, agent_hears, app_hears}
+use Rattle.written_roles.specs.Apps.{changed_demand, usable_at, given_at, AppCommand, command_tests, command_key, command_number, Wants, WantsNear, WantsInRack, Avoids, GivesBack}
 use Rattle.written_world.specs.Outputs.{Line, Came, Lost, Frame, sent_lines}
 use Rattle.written_world.specs.Show.{show}
 

@@ -1,5 +1,5 @@
 -- The invariant that every step keeps.
-use Rattle.std.specs.Prelude.{cond, ◌≡◌, ℕ, ◌+◌, ◌<◌, ◌≤◌, Bool, true, false, not, nat_eq, nat_lt, ◌&&◌, ◌||◌, List, [], length, map, take, Some, slice_get}
+use Rattle.std.specs.Prelude.{cond, ◌≡◌, ℕ, ◌+◌, ◌<◌, ◌≤◌, Bool, true, false, nat_eq, nat_lt, ◌||◌, List, [], length, map, take, Some, slice_get}
 use Rattle.std.specs.List.{AllByRecursion, list_any}
 use Rattle.std.specs.Ordering.{nat_cmp}
 use Rattle.std.specs.FinMap.Entries.{find}
@@ -23,7 +23,7 @@ use Rattle.written_roles.specs.Apps.{Carried}
 use Rattle.written_roles.specs.MasterSteps.{master_party, talks, is_there}
 use Rattle.written_world.specs.Parties.{projection}
 use Rattle.written_world.specs.Safe.{RowsFit, units_total_at}
-use Rattle.written_net.specs.Sound.{Shape, Sound}
+use Rattle.written_net.specs.Sound.{Sound}
 
 -- Sizes. Each row entry and each report fits its machine, and each grants entry fits each machine
 pub record EntriesFit (w : World) : Type 0 where

@@ -1,6 +1,6 @@
 -- What the parties make of packets and what masters do at the end of a step, put into the world: each rule is that of the party by itself, with
 -- what it received seen in the net.
-use Rattle.std.specs.Prelude.{ℕ, Bool, cond, List, length, Some}
+use Rattle.std.specs.Prelude.{ℕ, cond, List, length, Some}
 use Rattle.std.specs.Ordering.{nat_cmp}
 use Rattle.std.specs.FinMap.Entries.{put}
 use Rattle.fuxi_terms.specs.Cluster.{ClusterRecord}

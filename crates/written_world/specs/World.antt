@@ -1,9 +1,9 @@
 -- The written world: all parties, the hard state, and all that was ever sent.
-use Rattle.std.specs.Prelude.{ℕ, Bool, cond, List, [], ◌∷◌, ◌++◌, Option, Some, None, Result, Ok, Err}
+use Rattle.std.specs.Prelude.{ℕ, Bool, cond, List, [], ◌∷◌, ◌++◌, Some, None, Result, Ok, Err}
 use Rattle.fuxi_terms.specs.Cluster.{ClusterRecord}
 use Rattle.written_net.specs.Net.{Net, Party, Id, silent, same_id}
 use Rattle.written_net.specs.Ledgers.{Ledger}
-use Rattle.written_net.specs.Channels.{master_id, party}
+use Rattle.written_net.specs.Channels.{master_id}
 use Rattle.written_roles.specs.Masters.{Master}
 use Rattle.written_roles.specs.HardState.{HardState, empty_hard}
 use Rattle.written_roles.specs.Refusals.{Refusal, first_refusal}

@@ -1,6 +1,9 @@
 use Rattle.written_roles.specs.Preemption.{tried}
-use Rattle.written_roles.proofs.Drawing.{plan_loss}
+use Rattle.written_roles.proofs.Drawing.{plan_loss, loss_room}
 use Rattle.written_roles.proofs.preempting.Goals as goal
 
 pub returns : goal.returns
-returns c = λ c M p sorted planned. plan_loss (tried c M) c M p sorted planned
+returns c = record {
+  grants = λ c M p sorted planned. plan_loss (tried c M) c M p sorted planned;
+  room = λ c M p sorted planned. loss_room c M p.served p.losers (plan_loss (tried c M) c M p sorted planned);
+}
