@@ -11,3 +11,4 @@ pub mod Again
 pub mod Taking
 pub mod Carrying
 pub mod Contents
+pub mod Alone

@@ -1,14 +1,21 @@
 -- A realistic cluster: machine M stands in rack M div 5 and has hundredths of a core and megabytes.
-use Rattle.std.specs.Prelude.{true, false, [], ◌∷◌}
-use Rattle.fuxi_terms.specs.Cluster.{ClusterRecord}
+use Rattle.std.specs.Prelude.{ℕ, true, false, List, [], ◌∷◌, ◌++◌}
+use Rattle.fuxi_terms.specs.Cluster.{ClusterRecord, MachineRecord}
 use Rattle.written_net.specs.Net.{Ack, Full}
 use Rattle.fuxi_terms.specs.declared.answers.What.TheVariants.{Ack as Acked, Taken}
 use Rattle.written_world.specs.Outputs.{State, Fence, Job, MasterIs, Reported, Grant, Wait, AgentAt, Row, AppAt, Hold, Packets}
 use Rattle.written_world.specs.Events.{StartMaster, StopMaster, StartAgent, StartApp, Submit, Preempt, Want, TurnMaster, TurnAgent, TurnApp, DeliverRange, ShowState}
 use Rattle.worked_runs.specs.Reading.{machine, group, cluster, unit, job, master, agent, app, sent, heard, heard_new, Run}
 
+abbrev pub in_rack : ℕ → MachineRecord
+in_rack r = machine r (2400 ∷ 98304 ∷ [])
+
+abbrev pub five_in_rack : ℕ → List MachineRecord
+five_in_rack r = in_rack r ∷ in_rack r ∷ in_rack r ∷ in_rack r ∷ in_rack r ∷ []
+
 abbrev pub twenty_machines : ClusterRecord
-twenty_machines = cluster 2 (machine 0 (2400 ∷ 98304 ∷ []) ∷ machine 0 (2400 ∷ 98304 ∷ []) ∷ machine 0 (2400 ∷ 98304 ∷ []) ∷ machine 0 (2400 ∷ 98304 ∷ []) ∷ machine 0 (2400 ∷ 98304 ∷ []) ∷ machine 1 (2400 ∷ 98304 ∷ []) ∷ machine 1 (2400 ∷ 98304 ∷ []) ∷ machine 1 (2400 ∷ 98304 ∷ []) ∷ machine 1 (2400 ∷ 98304 ∷ []) ∷ machine 1 (2400 ∷ 98304 ∷ []) ∷ machine 2 (2400 ∷ 98304 ∷ []) ∷ machine 2 (2400 ∷ 98304 ∷ []) ∷ machine 2 (2400 ∷ 98304 ∷ []) ∷ machine 2 (2400 ∷ 98304 ∷ []) ∷ machine 2 (2400 ∷ 98304 ∷ []) ∷ machine 3 (2400 ∷ 98304 ∷ []) ∷ machine 3 (2400 ∷ 98304 ∷ []) ∷ machine 3 (2400 ∷ 98304 ∷ []) ∷ machine 3 (2400 ∷ 98304 ∷ []) ∷ machine 3 (2400 ∷ 98304 ∷ []) ∷ []) (group (24000 ∷ 983040 ∷ []) (48000 ∷ 1966080 ∷ []) ∷ group (14400 ∷ 589824 ∷ []) (48000 ∷ 1966080 ∷ []) ∷ group (9600 ∷ 393216 ∷ []) (9600 ∷ 393216 ∷ []) ∷ [])
+twenty_machines = cluster 2 (five_in_rack 0 ++ (five_in_rack 1 ++ (five_in_rack 2 ++ five_in_rack 3)))
+    (group (24000 ∷ 983040 ∷ []) (48000 ∷ 1966080 ∷ []) ∷ group (14400 ∷ 589824 ∷ []) (48000 ∷ 1966080 ∷ []) ∷ group (9600 ∷ 393216 ∷ []) (9600 ∷ 393216 ∷ []) ∷ [])
 
 -- twenty machines, five jobs, a preemption that is lost with its master, and a failover that keeps every grant
 abbrev pub twenty_machines_and_a_failover_run : Run

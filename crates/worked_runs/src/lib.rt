@@ -15,6 +15,7 @@ ghost use Rattle.worked_runs.specs.HardChanges.{a_report_of_a_banned_machine_run
 ghost use Rattle.worked_runs.specs.Again.{a_new_boot_counts_again_run, an_ack_of_an_older_index_run, resync_sends_the_whole_again_run};
 ghost use Rattle.worked_runs.specs.Taking.{quota_takes_from_a_group_above_its_own_run, the_greater_job_loses_first_run};
 ghost use Rattle.worked_runs.specs.Carrying.{a_give_back_of_what_is_not_wanted_run, carried_over_two_epochs_run};
+ghost use Rattle.worked_runs.specs.Alone.{AgentAlone, AppAlone, MasterAlone};
 ghost use Rattle.worked_runs.specs.Contents.{what_packets_hold_run};
 
 /// A cluster without an event has the empty state.
@@ -195,4 +196,20 @@ pub fn stops_and_starts_that_are_refused()
 /// What is printed of packets: an Ack holds nothing, a Delta what changed, and the others whole ledgers.
 pub fn what_packets_hold()
     ensures { Computes what_packets_hold_run }
+{}
+
+/// An agent by itself: it takes a row and a change, refuses a row that is too much and a change that falls below 0,
+/// and carries its table to the next master.
+pub fn an_agent_by_itself()
+    ensures { AgentAlone }
+{}
+
+/// An application by itself: it gives back what is usable, and carries the rest to the next master.
+pub fn an_application_by_itself()
+    ensures { AppAlone }
+{}
+
+/// A master by itself: it adopts one report, finds another too much, and meets a demand.
+pub fn a_master_by_itself()
+    ensures { MasterAlone }
 {}

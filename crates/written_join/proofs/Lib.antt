@@ -1,7 +1,7 @@
-pub mod Hearing
-pub mod Joined
-pub mod Contents
-pub mod AgentActing
-pub mod AppActing
-pub mod MasterActing
-pub mod Leading
+pub mod HearingJoin
+pub mod SidesLemmas
+pub mod ParcelsLemmas
+pub mod AgentsJoin
+pub mod AppsJoin
+pub mod MastersJoin
+pub mod LeadingLemmas

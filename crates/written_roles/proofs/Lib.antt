@@ -1,4 +1,4 @@
-pub mod Placed
-pub mod Capacity
-pub mod Drawing
+pub mod PlacingEnds
+pub mod PlacingFits
+pub mod LossesLemmas
 pub mod StepEnds

@@ -18,13 +18,13 @@ abbrev pub often : Spot → List Spot → ℕ
 often s ss = sum_by (one_if s) ss
 
 -- single grants of a table, all on one machine
-pub record IsDrawn (table : List (Spot × ℕ)) (m : ℕ) (set : List Spot) : Type 0 where
+pub record AreGrantsOn (table : List (Spot × ℕ)) (m : ℕ) (set : List Spot) : Type 0 where
   pub few : (s : Spot) → often s set ≤ count spot_cmp table s
   pub on : AllByRecursion (λ s. s.machine ≡ m) set
 
 -- grants of the table on the machine that is served, which are enough for what is served
 pub record IsLoss (c : ClusterRecord) (M : Master) (t : Spot) (set : List Spot) : Type 0 where
-  pub drawn : IsDrawn M.table t.machine set
+  pub drawn : AreGrantsOn M.table t.machine set
   pub enough : is_enough c M t set ≡ true
 
 -- with what these leave there is room on the machine that is served, in each resource

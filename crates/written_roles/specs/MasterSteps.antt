@@ -26,11 +26,11 @@ abbrev pub master_party : Master → Party
 master_party M = party master_id M.epoch
 
 -- Projections. What the agent of a machine should hold
-abbrev pub row_key : List KnownJob → Spot → RowKey
-row_key jobs s = record { job = s.job; unit = s.unit; size = (unit_of jobs s.job s.unit).size }
+abbrev pub spot_row_key : List KnownJob → Spot → RowKey
+spot_row_key jobs s = record { job = s.job; unit = s.unit; size = (unit_of jobs s.job s.unit).size }
 
 abbrev pub row : Master → ℕ → Ledger
-row M m = row_ledger (map (λ e. (row_key M.jobs e.0, e.1)) (filter (λ e. nat_eq e.0.machine m) M.table))
+row M m = row_ledger (map (λ e. (spot_row_key M.jobs e.0, e.1)) (filter (λ e. nat_eq e.0.machine m) M.table))
 
 -- what the application of a job should hold: its boot, the reported machines, its counts, and what is credited
 abbrev pub count_entries : ℕ → List (Spot × ℕ) → List (Key × ℕ)

@@ -26,8 +26,8 @@ use Rattle.written_world.specs.Runs.{run_from, run}
 use Rattle.fuxi_terms.proofs.Booleans.{both_true, number_is}
 use Rattle.written_net.proofs.SoundLemmas.{Grows, Longer, posted_longer}
 use Rattle.written_net.proofs.PublishLemmas.{grows_itself, grows_then}
-use Rattle.written_world.proofs.Steps.{run_from_keeps}
-use Rattle.written_world.proofs.Standing.{Standing}
+use Rattle.written_world.proofs.MovesWalk.{run_from_keeps}
+use Rattle.written_world.proofs.Invariant.{Invariant}
 
 module _ (h : List Ledger) (u m : ℕ) where
   -- what was given back only grows
@@ -115,7 +115,7 @@ module _ (h : List Ledger) (u m : ℕ) where
           omega (arith, here, rest, s, is)
 
 -- what a running master credited stands in a demand for its epoch
-credited_there : (w : World) (a b u m e : ℕ) → Standing w → (credited_in w a b u m e ≡ 0) ⊎ IsBackAt (w.net.histories (party (app_id a) b) master_id) u m e (credited_in w a b u m e)
+credited_there : (w : World) (a b u m e : ℕ) → Invariant w → (credited_in w a b u m e ≡ 0) ⊎ IsBackAt (w.net.histories (party (app_id a) b) master_id) u m e (credited_in w a b u m e)
 credited_there w a b u m e s = by (find nat_cmp e w.masters) refl
   where
     h : List Ledger
@@ -174,7 +174,7 @@ stays_back h h' u m e v l k = record {
   is = k.is ∙ sym (ap (λ (x : Ledger). at_key x (back_key u m)) (l.same k.place k.there));
 }
 
-pub credited_once : (c : ClusterRecord) (es : List Event) → ((es : List Event) → Standing (run c es)) → AllCreditedOnce c es
+pub credited_once : (c : ClusterRecord) (es : List Event) → ((es : List Event) → Invariant (run c es)) → AllCreditedOnce c es
 credited_once c es always a b u m moment epochs rise =
     let p = party (app_id a) b in
     let net = (run c es).net in

@@ -1,4 +1,4 @@
-use Rattle.written_join.proofs.AgentActing.{agent_hears_alike, agent_turn_alike, agent_resync_alike, agent_start_alike}
+use Rattle.written_join.proofs.AgentsJoin.{agent_hears_alike, agent_turn_alike, agent_resync_alike, agent_start_alike}
 use Rattle.written_join.proofs.agents_join.Goals as goal
 
 pub returns : goal.returns

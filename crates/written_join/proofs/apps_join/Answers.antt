@@ -1,4 +1,4 @@
-use Rattle.written_join.proofs.AppActing.{app_hears_alike, asks_alike, app_turn_alike, app_resync_alike, app_start_alike}
+use Rattle.written_join.proofs.AppsJoin.{app_hears_alike, asks_alike, app_turn_alike, app_resync_alike, app_start_alike}
 use Rattle.written_join.proofs.apps_join.Goals as goal
 
 pub returns : goal.returns

@@ -1,4 +1,4 @@
-use Rattle.written_join.proofs.MasterActing.{master_hears_alike, master_commands_alike, master_turn_alike, master_resync_alike, master_start_alike}
+use Rattle.written_join.proofs.MastersJoin.{master_hears_alike, master_commands_alike, master_turn_alike, master_resync_alike, master_start_alike}
 use Rattle.written_join.proofs.masters_join.Goals as goal
 
 pub returns : goal.returns

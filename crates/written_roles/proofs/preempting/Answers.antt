@@ -1,5 +1,5 @@
 use Rattle.written_roles.specs.Preemption.{tried}
-use Rattle.written_roles.proofs.Drawing.{plan_loss, loss_room}
+use Rattle.written_roles.proofs.LossesLemmas.{plan_loss, loss_room}
 use Rattle.written_roles.proofs.preempting.Goals as goal
 
 pub returns : goal.returns

@@ -1,5 +1,5 @@
-use Rattle.written_roles.proofs.Placed.{settled_nothing, settled_run}
-use Rattle.written_roles.proofs.Capacity.{settled_fits}
+use Rattle.written_roles.proofs.PlacingEnds.{settled_nothing, settled_run}
+use Rattle.written_roles.proofs.PlacingFits.{settled_fits}
 use Rattle.written_roles.proofs.settling.Goals as goal
 
 pub returns : goal.returns

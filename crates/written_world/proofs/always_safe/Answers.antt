@@ -1,10 +1,10 @@
 use Rattle.written_world.specs.Runs.{run}
 use Rattle.written_net.specs.Sound.{Bounded}
-use Rattle.written_world.proofs.AlwaysResting.{nothing_placeable}
-use Rattle.written_world.proofs.AlwaysStanding.{always_agree, always_counts, always_fit}
+use Rattle.written_world.proofs.SettledKept.{nothing_placeable}
+use Rattle.written_world.proofs.InvariantKept.{always_agree, always_counts, always_fit}
 use Rattle.written_net.proofs.BoundedLemmas.{move_bounded, silent_bounded}
-use Rattle.written_world.proofs.Steps.{run_keeps}
-use Rattle.written_world.proofs.Viewing.{views_of}
+use Rattle.written_world.proofs.MovesWalk.{run_keeps}
+use Rattle.written_world.proofs.ViewsLemmas.{views_of}
 use Rattle.written_world.proofs.always_safe.Goals as goal
 
 pub returns : goal.returns

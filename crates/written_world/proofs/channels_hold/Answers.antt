@@ -1,4 +1,4 @@
-use Rattle.written_world.proofs.AlwaysStanding.{always_sound, always_shown}
+use Rattle.written_world.proofs.InvariantKept.{always_sound, always_shown}
 use Rattle.written_world.proofs.channels_hold.Goals as goal
 
 pub returns-clause-sound : goal.returns-clause-sound

@@ -1,4 +1,4 @@
-use Rattle.written_world.proofs.AlwaysStanding.{always_credited}
+use Rattle.written_world.proofs.InvariantKept.{always_credited}
 use Rattle.written_world.proofs.credited_is_given_back.Goals as goal
 
 pub returns : goal.returns

@@ -1,4 +1,4 @@
-use Rattle.written_world.proofs.AlwaysStanding.{always_backs, always_credited_once}
+use Rattle.written_world.proofs.InvariantKept.{always_backs, always_credited_once}
 use Rattle.written_world.proofs.give_backs_are_credited_once.Goals as goal
 
 pub returns-clause-once : goal.returns-clause-once

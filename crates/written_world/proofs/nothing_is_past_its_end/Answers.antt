@@ -1,6 +1,6 @@
 use Rattle.written_net.specs.Sound.{Bounded}
 use Rattle.written_net.proofs.BoundedLemmas.{move_bounded, silent_bounded}
-use Rattle.written_world.proofs.Steps.{run_keeps}
+use Rattle.written_world.proofs.MovesWalk.{run_keeps}
 use Rattle.written_world.proofs.nothing_is_past_its_end.Goals as goal
 
 pub returns : goal.returns

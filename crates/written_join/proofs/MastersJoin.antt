@@ -19,8 +19,8 @@ use Rattle.fuxi_terms.specs.Numbers.{has_number, with_number, without_number}
 use Rattle.written_roles.specs.Masters.{Master, credited_of}
 use Rattle.written_roles.specs.HardState.{HardState, with_job, hard_step, Submission, Finishing, Banning, Unbanning}
 use Rattle.written_world.specs.Events.{turned, resynced, commanded}
-use Rattle.written_join.proofs.Contents.{turn_parcels_alike}
-use Rattle.written_join.proofs.AgentActing.{quiet_acts}
+use Rattle.written_join.proofs.ParcelsLemmas.{turn_parcels_alike}
+use Rattle.written_join.proofs.AgentsJoin.{quiet_acts}
 use Rattle.written_net.specs.Sides.{turn_parcels, resynced_side, Side, appended, hears_side, new_side}
 use Rattle.written_world.specs.World.{World, Step, prints_nothing, on_result, refused}
 use Rattle.written_roles.specs.MasterSteps.{Admits, Ends, Bans, Unbans, Begins, Preempts, Submits, Finishes, BansMachine, UnbansMachine, StartsServing, MakesRoom, master_party, projected, talks, peers, is_one_of, ready, told_of, adopted_of, adopts, adopted, credit, raise_credited, take_report, take_demand, meet_app, counted, said, MasterChange, MasterCommand, Changed, Commanded, new_master, change_of, command_of, changes, ended_in, banned_in}
@@ -31,12 +31,12 @@ use Rattle.written_net.proofs.NetLemmas.{id_is}
 use Rattle.written_net.proofs.BoundedLemmas.{found_within}
 use Rattle.written_net.proofs.SoundLemmas.{Grows}
 use Rattle.written_net.proofs.PublishLemmas.{Leaves, set_here, publish_leaves, publish_grows, leaves_then, leaves_nothing, grows_then, grows_itself, comes_leaves, resync_all_acted, same_party_itself, start_leaves}
-use Rattle.written_world.proofs.Standing.{ready_epoch}
+use Rattle.written_world.proofs.Invariant.{ready_epoch}
 use Rattle.written_roles.specs.MasterRoles.{MasterRole, set_side, publish_alone, offers_alone, ends_alone, MasterHeard, master_told, master_turn, resync_alone, master_commanded, master_changed}
 use Rattle.written_join.specs.Seen.{received_as, side_at, side_of, sides_of, parcel_of, master_seen}
 use Rattle.written_join.specs.Joins.{OneActs, MasterActs, Leads, MasterHearsAlike, MasterStarts, MasterCommanded}
-use Rattle.written_join.proofs.Hearing.{HeardAlike, hears_alike}
-use Rattle.written_join.proofs.Joined.{published_side, strange}
+use Rattle.written_join.proofs.HearingJoin.{HeardAlike, hears_alike}
+use Rattle.written_join.proofs.SidesLemmas.{published_side, strange}
 use Rattle.fuxi_terms.proofs.Alls.{all_append}
 use Rattle.written_roles.specs.Refusals.{Refusal, with_found, NotRunning, first_refusal, NoGroup, AlreadyServing, job_tests, NothingToPreempt, NotServing, NoMachine}
 use Rattle.fuxi_terms.specs.Counts.{then_do}

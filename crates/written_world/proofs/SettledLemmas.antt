@@ -20,7 +20,7 @@ use Rattle.written_roles.specs.Settling.{NothingPlaceable}
 use Rattle.written_roles.specs.MasterSteps.{phased, ready}
 use Rattle.fuxi_terms.proofs.Booleans.{both_true, number_is}
 use Rattle.fuxi_terms.proofs.Sums.{held_more}
-use Rattle.written_roles.proofs.Placed.{settled_nothing}
+use Rattle.written_roles.proofs.PlacingEnds.{settled_nothing}
 
 either_true : (a b : Bool) → b ≡ true → (a || b) ≡ true
 either_true true b e = refl

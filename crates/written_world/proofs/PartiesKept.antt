@@ -1,4 +1,4 @@
--- What an agent or an application does leaves the world standing.
+-- What an agent or an application does keeps the invariant.
 use Rattle.std.proofs.Common.{◌≡◌, ◌⊎◌, inl, inr, ℕ, ◌<◌, ◌≤◌, Bool, true, false, cond, not, nat_eq, nat_lt, List, [], length, Some, slice_get, refl, sym, ◌∙◌, ap, subst, arith}
 use Rattle.std.specs.Prelude.{◌&&◌}
 use Rattle.std.specs.Ordering.{nat_cmp}
@@ -12,7 +12,7 @@ use Rattle.written_net.specs.Channels.{master_id, agent_id, app_id, party, is_ma
 use Rattle.written_world.specs.World.{World, Agent, App, top, set_boot}
 use Rattle.fuxi_terms.specs.Cluster.{ClusterRecord, has_machine}
 use Rattle.fuxi_terms.specs.Jobs.{KnownJob, unit_count}
-use Rattle.written_world.proofs.Writing.{DemandsHold, knows_itself, publish_each, published_demands, joined_follows}
+use Rattle.written_world.proofs.DemandsLemmas.{DemandsHold, knows_itself, publish_each, published_demands, joined_follows}
 use Rattle.written_world.specs.Parties.{joined}
 use Rattle.written_roles.specs.Apps.{joined_demand}
 use Rattle.written_net.specs.Sound.{Sound, PacketNames}
@@ -22,7 +22,7 @@ use Rattle.written_net.proofs.NetLemmas.{id_is, set_at_all}
 use Rattle.written_net.proofs.SoundLemmas.{Grows, comes_sound, move_sound}
 use Rattle.written_net.proofs.PublishLemmas.{Leaves, leaves_then, start_leaves, comes_leaves, grows_itself, publish_grows, publish_links, publish_leaves, publish_sound, publish_presents, set_here, same_id_itself, same_party_itself, Acted}
 use Rattle.written_world.specs.Safe.{RowsFit}
-use Rattle.written_world.proofs.Standing.{Standing, IsJoined, Origins, HasUnits, stepped, put_found}
+use Rattle.written_world.proofs.Invariant.{Invariant, IsJoined, Origins, HasUnits, stepped, put_found}
 
 -- Hearing: what is known afterwards
 after_known : (w : What) (own top : ℕ) (m : Link) (x : Packet) → (link_after w own top m x).known ≡ m.known
@@ -197,8 +197,8 @@ joined_reports c net p m x ledger fit old n =
     (λ _. publish_each (λ q l. q ≡ master_id → RowsFit c m l.rows) (comes net p is_master (Some x)) p (to_master ledger) ((λ _. fit), tt) (λ q k e. subst (λ d. RowsFit c m (at_index nothing (net.histories p d) k).rows) (sym e) (old k)) master_id n refl) (λ _. old n)
 
 -- a running agent or application acts
-pub agent_standing : (w : World) (m : ℕ) (g : Agent) (net' : Net Ledger) → Standing w → find nat_cmp m w.agents ≡ Some g → Joins (party (agent_id m) g.boot) w.net net' → ((n : ℕ) → RowsFit w.cluster m (at_index nothing (net'.histories (party (agent_id m) g.boot) master_id) n).rows) → Standing (record w { net = net' })
-agent_standing w m g net' h found j r =
+pub agent_invariant : (w : World) (m : ℕ) (g : Agent) (net' : Net Ledger) → Invariant w → find nat_cmp m w.agents ≡ Some g → Joins (party (agent_id m) g.boot) w.net net' → ((n : ℕ) → RowsFit w.cluster m (at_index nothing (net'.histories (party (agent_id m) g.boot) master_id) n).rows) → Invariant (record w { net = net' })
+agent_invariant w m g net' h found j r =
     let ran = (h.agents m g found).ran in
     stepped w (record w { net = net' }) (party (agent_id m) g.boot) h (record {
       cluster = refl;
@@ -219,8 +219,8 @@ agent_standing w m g net' h found j r =
       entries = λ e. inl refl;
     })
 
-pub app_standing : (w : World) (a : ℕ) (g : App) (net' : Net Ledger) → Standing w → find nat_cmp a w.apps ≡ Some g → Joins (party (app_id a) g.boot) w.net net' → DemandsHold w.cluster (unit_count w.hard.jobs a) (net'.histories (party (app_id a) g.boot) master_id) → Standing (record w { net = net' })
-app_standing w a g net' h found j d =
+pub app_invariant : (w : World) (a : ℕ) (g : App) (net' : Net Ledger) → Invariant w → find nat_cmp a w.apps ≡ Some g → Joins (party (app_id a) g.boot) w.net net' → DemandsHold w.cluster (unit_count w.hard.jobs a) (net'.histories (party (app_id a) g.boot) master_id) → Invariant (record w { net = net' })
+app_invariant w a g net' h found j d =
     let ran = (h.apps a g found).ran in
     stepped w (record w { net = net' }) (party (app_id a) g.boot) h (record {
       cluster = refl;
@@ -242,8 +242,8 @@ app_standing w a g net' h found j d =
     })
 
 -- and an application whose record changes
-pub app_put_standing : (w : World) (a : ℕ) (g g' : App) (net' : Net Ledger) → g'.boot ≡ g.boot → Standing w → find nat_cmp a w.apps ≡ Some g → Joins (party (app_id a) g.boot) w.net net' → Origins net' a g'.carried → HasUnits w.hard.jobs a g' → DemandsHold w.cluster (unit_count w.hard.jobs a) (net'.histories (party (app_id a) g.boot) master_id) → Standing (record w { apps = put nat_cmp a g' w.apps; net = net' })
-app_put_standing w a g g' net' same h found j o u d =
+pub app_put_invariant : (w : World) (a : ℕ) (g g' : App) (net' : Net Ledger) → g'.boot ≡ g.boot → Invariant w → find nat_cmp a w.apps ≡ Some g → Joins (party (app_id a) g.boot) w.net net' → Origins net' a g'.carried → HasUnits w.hard.jobs a g' → DemandsHold w.cluster (unit_count w.hard.jobs a) (net'.histories (party (app_id a) g.boot) master_id) → Invariant (record w { apps = put nat_cmp a g' w.apps; net = net' })
+app_put_invariant w a g g' net' same h found j o u d =
     let k : Joins (party (app_id a) g'.boot) w.net net' = subst (λ b. Joins (party (app_id a) b) w.net net') (sym same) j in
     let ran : g'.boot ≤ w.boots (app_id a) = omega (arith, same, (h.apps a g found).ran) in
     stepped w (record w { apps = put nat_cmp a g' w.apps; net = net' }) (party (app_id a) g'.boot) h (record {
@@ -283,8 +283,8 @@ boots_rise boots d b lt q = elim (same_id d q) as (λ t. same_id d q ≡ t → b
 boot_here : (boots : Id → ℕ) (d : Id) (b : ℕ) → b ≤ set_boot boots d b d
 boot_here boots d b = let e : set_boot boots d b d ≡ b = ap (λ t. cond t b (boots d)) (same_id_itself d) in omega (arith, e)
 
-pub agent_starts : (w : World) (ran : List Party) (m b : ℕ) → Standing w → has_machine w.cluster m ≡ true → w.boots (agent_id m) < b
-    → Standing (record w { boots = set_boot w.boots (agent_id m) b; ran = ran; net = move w.net (Starts (party (agent_id m) b)); agents = put nat_cmp m (record { boot = b }) w.agents })
+pub agent_starts : (w : World) (ran : List Party) (m b : ℕ) → Invariant w → has_machine w.cluster m ≡ true → w.boots (agent_id m) < b
+    → Invariant (record w { boots = set_boot w.boots (agent_id m) b; ran = ran; net = move w.net (Starts (party (agent_id m) b)); agents = put nat_cmp m (record { boot = b }) w.agents })
 agent_starts w ran m b h there lt =
     let p = party (agent_id m) b in
     let j = start_joins w.net p (λ q. h.unstarted p q lt) h.sound in
@@ -315,8 +315,8 @@ agent_starts w ran m b h there lt =
     started k g (inl o) = h.machines k g o.1
     started k g (inr n) = subst (λ i. has_machine w.cluster i ≡ true) (sym n.0) there
 
-pub app_starts : (w : World) (ran : List Party) (a b : ℕ) (g : App) → g.boot ≡ b → Standing w → w.boots (app_id a) < b → Origins (move w.net (Starts (party (app_id a) b))) a g.carried → HasUnits w.hard.jobs a g
-    → Standing (record w { boots = set_boot w.boots (app_id a) b; ran = ran; net = move w.net (Starts (party (app_id a) b)); apps = put nat_cmp a g w.apps })
+pub app_starts : (w : World) (ran : List Party) (a b : ℕ) (g : App) → g.boot ≡ b → Invariant w → w.boots (app_id a) < b → Origins (move w.net (Starts (party (app_id a) b))) a g.carried → HasUnits w.hard.jobs a g
+    → Invariant (record w { boots = set_boot w.boots (app_id a) b; ran = ran; net = move w.net (Starts (party (app_id a) b)); apps = put nat_cmp a g w.apps })
 app_starts w ran a b g same h lt o u =
     let p = party (app_id a) b in
     let j = start_joins w.net p (λ q. h.unstarted p q lt) h.sound in

@@ -18,9 +18,9 @@ use Rattle.fuxi_terms.proofs.Booleans.{either}
 use Rattle.written_net.proofs.BoundedLemmas.{found_within}
 use Rattle.written_net.proofs.SoundLemmas.{Grows}
 use Rattle.written_net.proofs.PublishLemmas.{Leaves, grows_itself, leaves_nothing, start_leaves, same_party_itself, resync_all_acted}
-use Rattle.written_world.proofs.Joining.{joins}
-use Rattle.written_join.proofs.Joined.{joined_alike, unmoved_side, resynced_alike}
-use Rattle.written_join.proofs.Contents.{parcels_stay, turn_parcels_alike}
+use Rattle.written_world.proofs.PartiesKept.{joins}
+use Rattle.written_join.proofs.SidesLemmas.{joined_alike, unmoved_side, resynced_alike}
+use Rattle.written_join.proofs.ParcelsLemmas.{parcels_stay, turn_parcels_alike}
 
 -- hearing and answering send nothing
 pub joined_packets : (net : Net Ledger) (p : Party) (x : Packet) (l : Ledger) → (joined net p x l).packets ≡ net.packets

@@ -30,7 +30,7 @@ use Rattle.written_net.proofs.NetLemmas.{id_is}
 use Rattle.written_net.proofs.BoundedLemmas.{met_known}
 use Rattle.written_net.proofs.SoundLemmas.{taken_names, met_names}
 use Rattle.written_net.proofs.PublishLemmas.{set_here, set_beside}
-use Rattle.written_world.proofs.Writing.{DemandsHold, KnowsMore, backs_between}
+use Rattle.written_world.proofs.DemandsLemmas.{DemandsHold, KnowsMore, backs_between}
 
 -- A master whose views stay
 pub credited_view : (net net' : Net Ledger) (M : Master) → ((a : ℕ) → view net' (master_party M) (app_id a) ≡ view net (master_party M) (app_id a))

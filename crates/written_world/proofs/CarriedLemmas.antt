@@ -19,8 +19,8 @@ use Rattle.written_net.specs.Sound.{Sound}
 use Rattle.written_world.specs.Good.{HasOrigin}
 use Rattle.written_world.specs.Safe.{place_for, grants_at, units_total_at, HeldOnce, CountsOnce}
 use Rattle.fuxi_terms.proofs.Booleans.{either}
-use Rattle.written_world.proofs.Granting.{no_share, sum_le}
-use Rattle.written_world.proofs.Standing.{Standing, Origins, put_found}
+use Rattle.written_world.proofs.GrantsFit.{no_share, sum_le}
+use Rattle.written_world.proofs.Invariant.{Invariant, Origins, put_found}
 
 -- a ledger that names a machine is not the one at index 0
 named_first : (h : List Ledger) (n m : ℕ) → names (at_index nothing h n) m ≡ true → 1 ≤ n
@@ -131,7 +131,7 @@ held_once net a g m h = by_name (names (view net p master_id) m) refl
     }
 
 -- and together it fits the machine
-pub counts_once : (w : World) (a : ℕ) (g : App) (m : ℕ) → Standing w → find nat_cmp a w.apps ≡ Some g → CountsOnce w a g m
+pub counts_once : (w : World) (a : ℕ) (g : App) (m : ℕ) → Invariant w → find nat_cmp a w.apps ≡ Some g → CountsOnce w a g m
 counts_once w a g m h found = record { once = once; fits = λ i lt. by i lt (place_for w.net p g m) refl }
   where
     p : Party

@@ -30,25 +30,25 @@ use Rattle.written_world.specs.Safe.{RowsFit, row_total_at}
 use Rattle.written_roles.specs.Settling.{IsWithin}
 use Rattle.fuxi_terms.proofs.Alls.{all_append}
 use Rattle.fuxi_terms.proofs.Members.{in_each_is}
-use Rattle.written_roles.proofs.Capacity.{settled_fits}
+use Rattle.written_roles.proofs.PlacingFits.{settled_fits}
 use Rattle.fuxi_terms.proofs.Booleans.{both_true, either, number_is}
 use Rattle.fuxi_terms.proofs.KeyOrders.{spot_total, same_spot}
-use Rattle.written_roles.proofs.Placed.{is_placeable}
+use Rattle.written_roles.proofs.PlacingEnds.{is_placeable}
 use Rattle.fuxi_terms.proofs.Spots.{Each, each_put, each_where, each_found, each_set}
-use Rattle.written_world.proofs.Loads.{load, load_more, set_exact, where_less, nothing_there, added_loads, ended_loads, adopted_loads, row_loads}
-use Rattle.written_roles.proofs.Drawing.{plan_loss}
-use Rattle.written_roles.specs.Losses.{often, one_if, IsDrawn, IsLoss}
-use Rattle.written_world.proofs.Tabling.{IsTabled, planned, sorted_set}
+use Rattle.written_world.proofs.TotalsLemmas.{load, load_more, set_exact, where_less, nothing_there, added_loads, ended_loads, adopted_loads, row_loads}
+use Rattle.written_roles.proofs.LossesLemmas.{plan_loss}
+use Rattle.written_roles.specs.Losses.{often, one_if, AreGrantsOn, IsLoss}
+use Rattle.written_world.proofs.TablesInOrder.{IsInOrder, planned, sorted_set}
 
 abbrev IsReported : List ℕ → Spot → Type 0
 IsReported rs s = has_number s.machine rs ≡ true
 
-pub record IsHoused (c : ClusterRecord) (M : Master) : Type 0 where
+pub record FitsMachines (c : ClusterRecord) (M : Master) : Type 0 where
   pub fits : (m i : ℕ) → i < c.resources → total_at M.jobs m i M.table ≤ has_at c m i
   pub reported : AllByRecursion (λ e. has_number e.0.machine M.reported ≡ true) M.table
 
 -- The row of each machine fits it
-pub row_fits : (c : ClusterRecord) (M : Master) (m : ℕ) → IsHoused c M → RowsFit c m (row M m).rows
+pub row_fits : (c : ClusterRecord) (M : Master) (m : ℕ) → FitsMachines c M → RowsFit c m (row M m).rows
 row_fits c M m h i lt = let e = row_loads M.jobs m i M.table in let f = h.fits m i lt in omega (arith, e, f)
 
 -- Placing
@@ -65,39 +65,39 @@ settle_reported c (suc fuel) M h = elim (first_placeable c M) as (λ o. first_pl
     usable : (s : Spot) → placeable c M s.job s.unit s.machine ≡ true → has_number s.machine M.reported ≡ true
     usable s p = (both_true (has_number s.machine M.reported) _ (both_true (is_usable M s.job s.unit s.machine) (has_room c M s.job s.unit s.machine) (both_true (may_grow c M s.job s.unit) (is_usable M s.job s.unit s.machine && has_room c M s.job s.unit s.machine) p).1).0).0
 
-record Housed (c : ClusterRecord) (M : Master) : Type 0 where
-  it : IsHoused c M
+record ReadyFits (c : ClusterRecord) (M : Master) : Type 0 where
+  it : FitsMachines c M
 
-pub ready_housed : (c : ClusterRecord) (M : Master) → IsTabled M → IsHoused c M → IsHoused c (ready c M)
-ready_housed c M t h =
+pub ready_fits_machines : (c : ClusterRecord) (M : Master) → IsInOrder M → FitsMachines c M → FitsMachines c (ready c M)
+ready_fits_machines c M t h =
     let N = line_up (phased c M) in
     let within : IsWithin c N = record { sorted = t.sorted; fits = h.fits } in
-    (elim N.serving as (λ b. Housed c (elim b as (λ _. Master) [ true ↦ settled c N | false ↦ N ])) [
+    (elim N.serving as (λ b. ReadyFits c (elim b as (λ _. Master) [ true ↦ settled c N | false ↦ N ])) [
       | true ↦ record { it = record { fits = (settled_fits c N within).fits; reported = (settle_reported c (all_out N) N (record { all = h.reported })).all } }
       | false ↦ record { it = record { fits = h.fits; reported = h.reported } }
     ]).it
 
 -- A new master, a change of bans or of the phase, new jobs, ended jobs and bans
-pub new_housed : (c : ClusterRecord) (M : Master) → M.table ≡ [] → IsHoused c M
-new_housed c M t = record {
+pub new_fits_machines : (c : ClusterRecord) (M : Master) → M.table ≡ [] → FitsMachines c M
+new_fits_machines c M t = record {
   fits = λ m i lt. let z : total_at M.jobs m i M.table ≡ 0 = ap (total_at M.jobs m i) t in omega (arith, z);
   reported = subst (Each (IsReported M.reported)) (sym t) tt;
 }
 
-pub same_housed : (c : ClusterRecord) (M N : Master) → N.table ≡ M.table → N.jobs ≡ M.jobs → N.reported ≡ M.reported → IsHoused c M → IsHoused c N
-same_housed c M N t j r h = record {
+pub same_fits_machines : (c : ClusterRecord) (M N : Master) → N.table ≡ M.table → N.jobs ≡ M.jobs → N.reported ≡ M.reported → FitsMachines c M → FitsMachines c N
+same_fits_machines c M N t j r h = record {
   fits = λ m i lt. let e : total_at N.jobs m i N.table ≡ total_at M.jobs m i M.table = (λ k. total_at (j k) m i (t k)) in let f = h.fits m i lt in omega (arith, e, f);
   reported = subst (λ rs. Each (IsReported rs) N.table) (sym r) (subst (Each (IsReported M.reported)) (sym t) h.reported);
 }
 
-pub added_housed : (c : ClusterRecord) (M : Master) (j : JobRecord) → IsTabled M → IsHoused c M → IsHoused c (record M { jobs = with_job j M.jobs })
-added_housed c M j t h = record {
+pub added_fits_machines : (c : ClusterRecord) (M : Master) (j : JobRecord) → IsInOrder M → FitsMachines c M → FitsMachines c (record M { jobs = with_job j M.jobs })
+added_fits_machines c M j t h = record {
   fits = λ m i lt. let e = added_loads M.jobs j m i M.table t.alive in let f = h.fits m i lt in omega (arith, e, f);
   reported = h.reported;
 }
 
-pub ended_housed : (c : ClusterRecord) (M : Master) (a : ℕ) → IsHoused c M → IsHoused c (ended_in M a)
-ended_housed c M a h = record {
+pub ended_fits_machines : (c : ClusterRecord) (M : Master) (a : ℕ) → FitsMachines c M → FitsMachines c (ended_in M a)
+ended_fits_machines c M a h = record {
   fits = λ m i lt.
       let e = ended_loads M.jobs a m i (where_key spot_cmp (λ s. not (nat_eq s.job a)) M.table) in
       let l = where_less M.jobs m i (λ s. not (nat_eq s.job a)) M.table in
@@ -106,8 +106,8 @@ ended_housed c M a h = record {
   reported = each_where (IsReported M.reported) (λ s. not (nat_eq s.job a)) M.table h.reported;
 }
 
-pub banned_housed : (c : ClusterRecord) (M : Master) (k : ℕ) → IsHoused c M → IsHoused c (banned_in M k)
-banned_housed c M k h = record {
+pub banned_fits_machines : (c : ClusterRecord) (M : Master) (k : ℕ) → FitsMachines c M → FitsMachines c (banned_in M k)
+banned_fits_machines c M k h = record {
   fits = λ m i lt. let l = where_less M.jobs m i (λ s. not (nat_eq s.machine k)) M.table in let f = h.fits m i lt in omega (arith, l, f);
   reported = each_where (IsReported M.reported) (λ s. not (nat_eq s.machine k)) M.table h.reported;
 }
@@ -154,8 +154,8 @@ more_reported : (m : ℕ) (rs : List ℕ) (es : List (Spot × ℕ)) → Each (Is
 more_reported m rs [] h = tt
 more_reported m rs (e ∷ es) h = (with_keeps e.0.machine m rs h.0, more_reported m rs es h.1)
 
-report_housed : (c : ClusterRecord) (M : Master) (m : ℕ) (l : Ledger) → IsTabled M → RowsFit c m l.rows → IsHoused c M → IsHoused c (take_report M m l)
-report_housed c M m l t rows h = either (IsHoused c) (adopts M m l) (record M { reported = with_number m M.reported; table = cond (has_number m M.bans) M.table (adopted M.jobs m l.rows M.table) }) M
+report_fits_machines : (c : ClusterRecord) (M : Master) (m : ℕ) (l : Ledger) → IsInOrder M → RowsFit c m l.rows → FitsMachines c M → FitsMachines c (take_report M m l)
+report_fits_machines c M m l t rows h = either (FitsMachines c) (adopts M m l) (record M { reported = with_number m M.reported; table = cond (has_number m M.bans) M.table (adopted M.jobs m l.rows M.table) }) M
     (λ a. record {
       fits = λ n i lt. either (λ table. total_at M.jobs n i table ≤ has_at c n i) (has_number m M.bans) M.table (adopted M.jobs m l.rows M.table) (λ _. h.fits n i lt) (λ _. fits (both_true (nat_eq l.head M.epoch) (not (has_number m M.reported)) a).1 n i lt);
       reported = either (Each (IsReported (with_number m M.reported))) (has_number m M.bans) M.table (adopted M.jobs m l.rows M.table) (λ _. more_reported m M.reported M.table h.reported)
@@ -204,27 +204,27 @@ credit_reported a rs credited (e ∷ es) table h =
     (either (Each (IsReported rs)) (is_back e.0) (set_count spot_cmp table s (here - min more here)) table
     (λ _. each_set (IsReported rs) s (here - min more here) table (λ some. each_found (IsReported rs) s table (let n : 0 < here - min more here = grind (arith, nat_tests, some) in omega (arith, n)) h) h) (λ _. h))
 
-demand_housed : (c : ClusterRecord) (M : Master) (a : ℕ) (d : Ledger) → IsTabled M → IsHoused c M → IsHoused c (take_demand M a d)
-demand_housed c M a d t h = either (IsHoused c) (nat_eq d.head M.epoch && is_live M.jobs a) _ _
+demand_fits_machines : (c : ClusterRecord) (M : Master) (a : ℕ) (d : Ledger) → IsInOrder M → FitsMachines c M → FitsMachines c (take_demand M a d)
+demand_fits_machines c M a d t h = either (FitsMachines c) (nat_eq d.head M.epoch && is_live M.jobs a) _ _
     (λ _. record {
       fits = λ m i lt. let l = credit_loads M.jobs a (credited_of M a) d.entries M.table m i t.sorted in let f = h.fits m i lt in omega (arith, l, f);
       reported = credit_reported a M.reported (credited_of M a) d.entries M.table h.reported;
     })
     (λ _. record { fits = h.fits; reported = h.reported })
 
-pub told_housed : (c : ClusterRecord) (M : Master) (h : Heard) (from : Id) (l : Ledger) → (is_agent from ≡ true → is_taken h.what ≡ true → RowsFit c from.number l.rows) → (IsTabled M × IsTabled (meet_app h.fresh M from.number)) → IsHoused c M → IsHoused c (told M h from l)
-told_housed c M h from l rows t k =
+pub told_fits_machines : (c : ClusterRecord) (M : Master) (h : Heard) (from : Id) (l : Ledger) → (is_agent from ≡ true → is_taken h.what ≡ true → RowsFit c from.number l.rows) → (IsInOrder M × IsInOrder (meet_app h.fresh M from.number)) → FitsMachines c M → FitsMachines c (told M h from l)
+told_fits_machines c M h from l rows t k =
     let N = meet_app h.fresh M from.number in
-    either (IsHoused c) (is_agent from) (cond (is_taken h.what) (take_report M from.number l) M) (cond (is_taken h.what) (take_demand N from.number l) N)
-    (λ agent. either (IsHoused c) (is_taken h.what) (take_report M from.number l) M (λ taken. report_housed c M from.number l t.0 (rows agent taken) k) (λ _. k))
-    (λ _. either (IsHoused c) (is_taken h.what) (take_demand N from.number l) N (λ _. demand_housed c N from.number l t.1 (met h.fresh)) (λ _. met h.fresh))
+    either (FitsMachines c) (is_agent from) (cond (is_taken h.what) (take_report M from.number l) M) (cond (is_taken h.what) (take_demand N from.number l) N)
+    (λ agent. either (FitsMachines c) (is_taken h.what) (take_report M from.number l) M (λ taken. report_fits_machines c M from.number l t.0 (rows agent taken) k) (λ _. k))
+    (λ _. either (FitsMachines c) (is_taken h.what) (take_demand N from.number l) N (λ _. demand_fits_machines c N from.number l t.1 (met h.fresh)) (λ _. met h.fresh))
   where
-    met : (fresh : Bool) → IsHoused c (meet_app fresh M from.number)
+    met : (fresh : Bool) → FitsMachines c (meet_app fresh M from.number)
     met true = record { fits = k.fits; reported = k.reported }
     met false = k
 
 -- Preempting: what the losers took goes, and there is room for what is served
-loads_without : (jobs : List KnownJob) (m i : ℕ) (ss : List Spot) (table : List (Spot × ℕ)) → T (is_sorted spot_cmp table) → IsDrawn table m ss → total_at jobs m i (without_grants table ss) + set_at_place jobs i ss ≡ total_at jobs m i table
+loads_without : (jobs : List KnownJob) (m i : ℕ) (ss : List Spot) (table : List (Spot × ℕ)) → T (is_sorted spot_cmp table) → AreGrantsOn table m ss → total_at jobs m i (without_grants table ss) + set_at_place jobs i ss ≡ total_at jobs m i table
 loads_without jobs m i [] table k d = omega arith
 loads_without jobs m i (s ∷ ss) table k d =
     let n = count spot_cmp table s in
@@ -287,8 +287,8 @@ one_load jobs m i s table k =
     by true n new old size e = omega (arith, e)
     by false n new old size e = omega (arith, e)
 
-pub preempted_housed : (c : ClusterRecord) (M : Master) (p : Plan) → plan_of c M ≡ Some p → IsTabled M → IsHoused c M → IsHoused c (preempted M p)
-preempted_housed c M p e t h = record {
+pub preempted_fits_machines : (c : ClusterRecord) (M : Master) (p : Plan) → plan_of c M ≡ Some p → IsInOrder M → FitsMachines c M → FitsMachines c (preempted M p)
+preempted_fits_machines c M p e t h = record {
   fits = λ m i lt.
       let one = one_load M.jobs m i p.served W (sorted_without p.losers M.table t.sorted) in
       let fall = loads_fall M.jobs m i p.losers M.table t.sorted in

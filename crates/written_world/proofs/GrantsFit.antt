@@ -21,11 +21,11 @@ use Rattle.written_roles.specs.MasterSteps.{grants}
 use Rattle.written_world.specs.Safe.{units_total_at}
 use Rattle.fuxi_terms.proofs.KeyOrders.{same_spot}
 use Rattle.fuxi_terms.proofs.Booleans.{number_is}
-use Rattle.written_world.proofs.Loads.{load}
-use Rattle.written_world.proofs.Granted.{grants_counts, nothing_held}
-use Rattle.written_world.proofs.Tabling.{IsTabled}
-use Rattle.written_world.proofs.Housing.{IsHoused}
-use Rattle.written_world.proofs.Writing.{KnowsMore}
+use Rattle.written_world.proofs.TotalsLemmas.{load}
+use Rattle.written_world.proofs.GrantsLemmas.{grants_counts, nothing_held}
+use Rattle.written_world.proofs.TablesInOrder.{IsInOrder}
+use Rattle.written_world.proofs.TablesFit.{FitsMachines}
+use Rattle.written_world.proofs.DemandsLemmas.{KnowsMore}
 
 -- Sums over the units of a job
 pub sum_le : (f g : ℕ → ℕ) (n : ℕ) → ((u : ℕ) → f u ≤ g u) → sum_by f (below n) ≤ sum_by g (below n)
@@ -201,7 +201,7 @@ not_live jobs a e = by (job_of jobs a) e
     by (Some j) e = cc
 
 -- what a master grants to a job: of one that it does not know its table has nothing
-pub grants_hold : (c : ClusterRecord) (jobs : List KnownJob) (M : Master) (boot a : ℕ) → IsTabled M → KnowsMore M.jobs jobs → IsHoused c M → GrantHolds c jobs a (grants M boot a)
+pub grants_hold : (c : ClusterRecord) (jobs : List KnownJob) (M : Master) (boot a : ℕ) → IsInOrder M → KnowsMore M.jobs jobs → FitsMachines c M → GrantHolds c jobs a (grants M boot a)
 grants_hold c jobs M boot a tabled more h = by (is_known M.jobs a) refl
   where
     counts : (u m : ℕ) → at_key (grants M boot a) (count_key u m) ≡ held_on M.table a u m

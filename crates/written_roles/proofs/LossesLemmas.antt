@@ -17,7 +17,7 @@ use Rattle.written_roles.specs.Preemption.{goes_before, put_grant, in_walk_order
 use Rattle.fuxi_terms.proofs.Alls.{all_append, all_passed}
 use Rattle.fuxi_terms.proofs.Booleans.{both_true, either, number_is}
 use Rattle.fuxi_terms.proofs.KeyOrders.{same_spot}
-use Rattle.written_roles.specs.Losses.{often, IsDrawn, IsLoss, one_if, LeavesRoom}
+use Rattle.written_roles.specs.Losses.{often, AreGrantsOn, IsLoss, one_if, LeavesRoom}
 use Rattle.fuxi_terms.specs.Tables.{total_at}
 use Rattle.fuxi_terms.proofs.Members.{in_each_is}
 
@@ -106,7 +106,7 @@ walk_on jobs m es h = flat (in_walk_order jobs es) (ordered es h)
     flat [] k = tt
     flat (e ∷ es) k = all_append (λ (s : Spot). s.machine ≡ m) (so_many e.1 e.0) (flat_map (λ e. so_many e.1 e.0) es) (many e.1 e.0 k.0) (flat es k.1)
 
-walk_drawn : (M : Master) (m : ℕ) → T (is_sorted spot_cmp M.table) → IsDrawn M.table m (walk M m)
+walk_drawn : (M : Master) (m : ℕ) → T (is_sorted spot_cmp M.table) → AreGrantsOn M.table m (walk M m)
 walk_drawn M m k = record {
   few = λ s.
       let here = filter (λ (e : Spot × ℕ). nat_eq e.0.machine m) M.table in
@@ -122,11 +122,11 @@ nothing_in : (s : Spot) → often s [] ≡ 0
 nothing_in s = refl
 
 -- what is taken of a walk is drawn where the walk is
-taken_drawn : (ss : List Spot) (c : ClusterRecord) (M : Master) (t : Spot) (m : ℕ) (set : List Spot) → ((s : Spot) → often s set + often s ss ≤ count spot_cmp M.table s) → AllByRecursion (λ s. s.machine ≡ m) set → AllByRecursion (λ s. s.machine ≡ m) ss → IsDrawn M.table m (taken_of ss c M t set)
+taken_drawn : (ss : List Spot) (c : ClusterRecord) (M : Master) (t : Spot) (m : ℕ) (set : List Spot) → ((s : Spot) → often s set + often s ss ≤ count spot_cmp M.table s) → AllByRecursion (λ s. s.machine ≡ m) set → AllByRecursion (λ s. s.machine ≡ m) ss → AreGrantsOn M.table m (taken_of ss c M t set)
 taken_drawn [] c M t m set few on more = record { few = λ s. let f = few s in let z = nothing_in s in omega (arith, f, z); on = on }
-taken_drawn (x ∷ xs) c M t m set few on more = elim (is_enough c M t set) as (λ b. IsDrawn M.table m (elim b as (λ _. List Spot) [ true ↦ set | false ↦ taken_of xs c M t (cond (may_take c M t set x) (set ++ x ∷ []) set) ])) [
+taken_drawn (x ∷ xs) c M t m set few on more = elim (is_enough c M t set) as (λ b. AreGrantsOn M.table m (elim b as (λ _. List Spot) [ true ↦ set | false ↦ taken_of xs c M t (cond (may_take c M t set x) (set ++ x ∷ []) set) ])) [
   | true ↦ record { few = λ s. let f = few s in let n : ℕ = often s (x ∷ xs) in omega (arith, f); on = on }
-  | false ↦ elim (may_take c M t set x) as (λ d. IsDrawn M.table m (taken_of xs c M t (cond d (set ++ x ∷ []) set))) [
+  | false ↦ elim (may_take c M t set x) as (λ d. AreGrantsOn M.table m (taken_of xs c M t (cond d (set ++ x ∷ []) set))) [
     | true ↦ taken_drawn xs c M t m (set ++ x ∷ []) (λ s. let f = few s in let a = sum_by-append (one_if s) set (x ∷ []) in let b = sum_by-cons (one_if s) x [] in let d = sum_by-cons (one_if s) x xs in let z = nothing_in s in omega (arith, f, a, b, d, z))
         (all_append (λ (s : Spot). s.machine ≡ m) set (x ∷ []) on (more.0, tt)) more.1
     | false ↦ taken_drawn xs c M t m set (λ s. let f = few s in let d = sum_by-cons (one_if s) x xs in omega (arith, f, d)) on more.1
@@ -162,7 +162,7 @@ victims_loss c M t vs k e = by (is_enough c M t set && is_some_set set) refl e
     set : List Spot
     set = taken_of (walk M t.machine) c M t []
 
-    drawn : IsDrawn M.table t.machine set
+    drawn : AreGrantsOn M.table t.machine set
     drawn = let w = walk_drawn M t.machine k in taken_drawn (walk M t.machine) c M t t.machine [] (λ s. let f = w.few s in omega (arith, f)) tt w.on
 
     by : (b : Bool) → (is_enough c M t set && is_some_set set) ≡ b → (elim b as (λ _. Option (List Spot)) [ true ↦ Some (needed_of set c M t set) | false ↦ None ]) ≡ Some vs → IsLoss c M t vs

@@ -28,8 +28,8 @@ use Rattle.fuxi_terms.proofs.Spots.{each_put, each_where, each_found, each_set}
 use Rattle.fuxi_terms.proofs.Alls.{all_append, all_mapped, all_flat, all_passed, all_filter}
 use Rattle.fuxi_terms.proofs.Booleans.{both_true, either, number_is}
 use Rattle.fuxi_terms.proofs.KeyOrders.{key_total, spot_total}
-use Rattle.written_roles.proofs.Placed.{is_placeable}
-use Rattle.written_world.proofs.Crediting.{found_put, put_beside}
+use Rattle.written_roles.proofs.PlacingEnds.{is_placeable}
+use Rattle.written_world.proofs.CreditsLemmas.{found_put, put_beside}
 
 abbrev IsSorted : List (Spot × ℕ) → Type 0
 IsSorted table = T (is_sorted spot_cmp table)
@@ -37,7 +37,7 @@ IsSorted table = T (is_sorted spot_cmp table)
 abbrev IsLive : List KnownJob → List (Spot × ℕ) → Type 0
 IsLive jobs table = AllByRecursion (λ e. is_live jobs e.0.job ≡ true) table
 
-pub record IsTabled (M : Master) : Type 0 where
+pub record IsInOrder (M : Master) : Type 0 where
   pub sorted : T (is_sorted spot_cmp M.table)
   pub alive : AllByRecursion (λ e. is_live M.jobs e.0.job ≡ true) M.table
   pub empty : (a : ℕ) → is_live M.jobs a ≡ false → demand_of M a ≡ nothing
@@ -62,7 +62,7 @@ pub sorted_set : (table : List (Spot × ℕ)) (s : Spot) (n : ℕ) → IsSorted 
 sorted_set table s n h = either IsSorted (nat_eq n 0) (where_key spot_cmp (λ x. not (eq_by_cmp spot_cmp s x)) table) (put spot_cmp s n table) (λ _. is_sorted-where_key spot_cmp _ table h) (λ _. is_sorted-put spot_cmp spot_total s n table h)
 
 -- what is out is asked for, so its job has not ended
-out_live : (M : Master) (a u : ℕ) → IsTabled M → nat_lt 0 (out M a u) ≡ true → is_live M.jobs a ≡ true
+out_live : (M : Master) (a u : ℕ) → IsInOrder M → nat_lt 0 (out M a u) ≡ true → is_live M.jobs a ≡ true
 out_live M a u h e = by (is_live M.jobs a) refl
   where
     by : (b : Bool) → is_live M.jobs a ≡ b → is_live M.jobs a ≡ true
@@ -77,11 +77,11 @@ placeable_out c M a u m e =
     (both_true (nat_lt 0 (out M a u)) (is_allowed c M a u) (both_true M.serving (nat_lt 0 (out M a u) && is_allowed c M a u) (both_true (may_grow c M a u) (is_usable M a u m && has_room c M a u m) e).0).1).0
 
 -- Placing
-settle_tabled : (c : ClusterRecord) (fuel : ℕ) (M : Master) → IsTabled M → IsTabled (settle c fuel M)
-settle_tabled c zero M h = h
-settle_tabled c (suc fuel) M h = elim (first_placeable c M) as (λ o. first_placeable c M ≡ o → IsTabled (elim o as (λ _. Master) [ None ↦ M | Some s ↦ settle c fuel (granted M s) ])) [
+settle_in_order : (c : ClusterRecord) (fuel : ℕ) (M : Master) → IsInOrder M → IsInOrder (settle c fuel M)
+settle_in_order c zero M h = h
+settle_in_order c (suc fuel) M h = elim (first_placeable c M) as (λ o. first_placeable c M ≡ o → IsInOrder (elim o as (λ _. Master) [ None ↦ M | Some s ↦ settle c fuel (granted M s) ])) [
   | None ↦ λ _. h
-  | Some s ↦ λ e. settle_tabled c fuel (granted M s) (record {
+  | Some s ↦ λ e. settle_in_order c fuel (granted M s) (record {
     sorted = sorted_set M.table s _ h.sorted;
     alive = each_set (IsOfLive M.jobs) s _ M.table (λ _. out_live M s.job s.unit h (placeable_out c M s.job s.unit s.machine (is_placeable c M s e))) h.alive;
     empty = h.empty;
@@ -89,9 +89,9 @@ settle_tabled c (suc fuel) M h = elim (first_placeable c M) as (λ o. first_plac
   })
 ] refl
 
-pub ready_tabled : (c : ClusterRecord) (M : Master) → IsTabled M → IsTabled (ready c M)
-ready_tabled c M h = let N = line_up (phased c M) in let k : IsTabled N = record { sorted = h.sorted; alive = h.alive; empty = h.empty; plain = h.plain } in
-    elim N.serving as (λ b. IsTabled (elim b as (λ _. Master) [ true ↦ settled c N | false ↦ N ])) [ true ↦ settle_tabled c (all_out N) N k | false ↦ k ]
+pub ready_in_order : (c : ClusterRecord) (M : Master) → IsInOrder M → IsInOrder (ready c M)
+ready_in_order c M h = let N = line_up (phased c M) in let k : IsInOrder N = record { sorted = h.sorted; alive = h.alive; empty = h.empty; plain = h.plain } in
+    elim N.serving as (λ b. IsInOrder (elim b as (λ _. Master) [ true ↦ settled c N | false ↦ N ])) [ true ↦ settle_in_order c (all_out N) N k | false ↦ k ]
 
 -- The line of a master that is ready
 waiting : (M : Master) → AllWait M (waiting_pairs M)
@@ -128,11 +128,11 @@ ready_waits c M =
     (elim N.serving as (λ b. Waits (elim b as (λ _. Master) [ true ↦ settled c N | false ↦ N ])) [ true ↦ settle_waits c (all_out N) N k | false ↦ k ]).all
 
 -- Preempting
-without_tabled : (jobs : List KnownJob) (table : List (Spot × ℕ)) (ss : List Spot) → IsSorted table × IsLive jobs table → IsSorted (without_grants table ss) × IsLive jobs (without_grants table ss)
-without_tabled jobs table [] h = h
-without_tabled jobs table (s ∷ ss) h =
+without_in_order : (jobs : List KnownJob) (table : List (Spot × ℕ)) (ss : List Spot) → IsSorted table × IsLive jobs table → IsSorted (without_grants table ss) × IsLive jobs (without_grants table ss)
+without_in_order jobs table [] h = h
+without_in_order jobs table (s ∷ ss) h =
     let n = count spot_cmp table s - 1 in
-    without_tabled jobs (set_count spot_cmp table s n) ss (sorted_set table s n h.0, each_set (IsOfLive jobs) s n table (λ e. live_found jobs s table (let some : 0 < n = grind (arith, nat_tests, e) in omega (arith, some)) h.1) h.1)
+    without_in_order jobs (set_count spot_cmp table s n) ss (sorted_set table s n h.0, each_set (IsOfLive jobs) s n table (λ e. live_found jobs s table (let some : 0 < n = grind (arith, nat_tests, e) in omega (arith, some)) h.1) h.1)
 
 pub planned : (P : Spot → Type 0) (ss : List Spot) (c : ClusterRecord) (M : Master) (p : Plan) → AllByRecursion P ss → first_plan ss c M ≡ Some p → P p.served
 planned P [] c M p h e = cc
@@ -147,11 +147,11 @@ planned P (s ∷ ss) c M p h e = elim (victims c M s) as (λ o. (elim o as (λ _
     served : (vs : List Spot) → Some (plan vs) ≡ Some p → P p.served
     served vs e = let same : plan vs ≡ p = cc in subst (λ (q : Plan). P q.served) same h.0
 
-pub preempted_tabled : (c : ClusterRecord) (M : Master) (p : Plan) → plan_of c M ≡ Some p → AllWait M M.line → IsTabled M → IsTabled (preempted M p)
-preempted_tabled c M p e w h =
+pub preempted_in_order : (c : ClusterRecord) (M : Master) (p : Plan) → plan_of c M ≡ Some p → AllWait M M.line → IsInOrder M → IsInOrder (preempted M p)
+preempted_in_order c M p e w h =
     let live : is_live M.jobs p.served.job ≡ true = planned (λ s. is_live M.jobs s.job ≡ true) (tried c M) c M p
     (all_spots (by_priority M) (all_flat (λ q. nat_lt 0 (out M q.0 q.1) ≡ true) (λ n. filter (λ q. nat_eq (priority_of M.jobs q.0 q.1) n) M.line) falling_priorities (λ n. all_filter (λ q. nat_lt 0 (out M q.0 q.1) ≡ true) (λ q. nat_eq (priority_of M.jobs q.0 q.1) n) M.line w))) e in
-    let t = without_tabled M.jobs M.table p.losers (h.sorted, h.alive) in
+    let t = without_in_order M.jobs M.table p.losers (h.sorted, h.alive) in
     record {
       sorted = sorted_set (without_grants M.table p.losers) p.served _ t.0;
       alive = each_set (IsOfLive M.jobs) p.served _ (without_grants M.table p.losers) (λ _. live) t.1;
@@ -169,19 +169,19 @@ preempted_tabled c M p e w h =
         each (m ∷ ms) l = (l, each ms l)
 
 -- Ends of jobs, new jobs, bans, and a change of the phase
-pub banned_tabled : (M : Master) (m : ℕ) → IsTabled M → IsTabled (banned_in M m)
-banned_tabled M m h = record { sorted = is_sorted-where_key spot_cmp _ M.table h.sorted; alive = each_where (IsOfLive M.jobs) _ M.table h.alive; empty = h.empty; plain = h.plain }
+pub banned_in_order : (M : Master) (m : ℕ) → IsInOrder M → IsInOrder (banned_in M m)
+banned_in_order M m h = record { sorted = is_sorted-where_key spot_cmp _ M.table h.sorted; alive = each_where (IsOfLive M.jobs) _ M.table h.alive; empty = h.empty; plain = h.plain }
 
-pub same_tabled : (M N : Master) → N.table ≡ M.table → N.jobs ≡ M.jobs → N.demands ≡ M.demands → N.credited ≡ M.credited → IsTabled M → IsTabled N
-same_tabled M N t j d c h = record {
+pub same_in_order : (M N : Master) → N.table ≡ M.table → N.jobs ≡ M.jobs → N.demands ≡ M.demands → N.credited ≡ M.credited → IsInOrder M → IsInOrder N
+same_in_order M N t j d c h = record {
   sorted = subst IsSorted (sym t) h.sorted;
   alive = subst (λ js. IsLive js N.table) (sym j) (subst (IsLive M.jobs) (sym t) h.alive);
   empty = λ a e. ap (λ ds. unwrap_or (find nat_cmp a ds) nothing) d ∙ h.empty a (subst (λ js. is_live js a ≡ false) j e);
   plain = λ a u m. ap (λ cs. find key_cmp (count_key u m) (unwrap_or (find nat_cmp a cs) [])) c ∙ h.plain a u m;
 }
 
-pub new_tabled : (M : Master) → M.table ≡ [] → M.demands ≡ [] → M.credited ≡ [] → IsTabled M
-new_tabled M t d c = record {
+pub new_in_order : (M : Master) → M.table ≡ [] → M.demands ≡ [] → M.credited ≡ [] → IsInOrder M
+new_in_order M t d c = record {
   sorted = subst IsSorted (sym t) tt;
   alive = subst (IsLive M.jobs) (sym t) tt;
   empty = λ a e. ap (λ ds. unwrap_or (find nat_cmp a ds) nothing) d;
@@ -200,8 +200,8 @@ added_live : (jobs : List KnownJob) (j : JobRecord) (a : ℕ) → is_live jobs a
 added_live [] j a e = cc
 added_live (k ∷ ks) j a e = elim (nat_eq k.job.number a) as (λ b. unwrap_or (option_map (λ (i : KnownJob). not i.ended) (cond b (Some k) (job_of ks a))) false ≡ true → unwrap_or (option_map (λ (i : KnownJob). not i.ended) (cond b (Some k) (job_of (with_job j ks) a))) false ≡ true) [ true ↦ λ e. e | false ↦ λ e. added_live ks j a e ] e
 
-pub added_tabled : (M : Master) (j : JobRecord) → IsTabled M → IsTabled (record M { jobs = with_job j M.jobs })
-added_tabled M j h = record {
+pub added_in_order : (M : Master) (j : JobRecord) → IsInOrder M → IsInOrder (record M { jobs = with_job j M.jobs })
+added_in_order M j h = record {
   sorted = h.sorted;
   alive = all_live M.jobs (with_job j M.jobs) (added_live M.jobs j) M.table h.alive;
   empty = λ a e. h.empty a (not_live (is_live M.jobs a) (is_live (with_job j M.jobs) a) (added_live M.jobs j a) e);
@@ -230,8 +230,8 @@ put_demand jobs a d ds f b e h = elim (nat_eq b a) as (λ t. nat_eq b a ≡ t �
   | false ↦ λ t. ap (λ o. unwrap_or o nothing) (put_beside a b d ds t) ∙ h t
 ] refl
 
-pub ended_tabled : (M : Master) (a : ℕ) → IsTabled M → IsTabled (ended_in M a)
-ended_tabled M a h = record {
+pub ended_in_order : (M : Master) (a : ℕ) → IsInOrder M → IsInOrder (ended_in M a)
+ended_in_order M a h = record {
   sorted = is_sorted-where_key spot_cmp _ M.table h.sorted;
   alive = kept M.table h.alive;
   empty = λ b e. put_demand (with_ended a M.jobs) a nothing M.demands (λ _. refl) b e (λ n. h.empty b (sym (other_live a M.jobs b n) ∙ e));
@@ -249,18 +249,18 @@ ended_tabled M a h = record {
 kept_live : (jobs : List KnownJob) (k : RowKey) → is_kept jobs k ≡ true → is_live jobs k.job ≡ true
 kept_live jobs k e = (both_true (is_live jobs k.job) _ e).0
 
-adopted_tabled : (jobs : List KnownJob) (m : ℕ) (es : List (RowKey × ℕ)) (table : List (Spot × ℕ)) → IsSorted table × IsLive jobs table → IsSorted (adopted jobs m es table) × IsLive jobs (adopted jobs m es table)
-adopted_tabled jobs m [] table h = h
-adopted_tabled jobs m (e ∷ es) table h = adopted_tabled jobs m es _ (either (λ t. IsSorted t × IsLive jobs t) (is_kept jobs e.0) (put spot_cmp (spot e.0.job e.0.unit m) e.1 table) table
+adopted_in_order : (jobs : List KnownJob) (m : ℕ) (es : List (RowKey × ℕ)) (table : List (Spot × ℕ)) → IsSorted table × IsLive jobs table → IsSorted (adopted jobs m es table) × IsLive jobs (adopted jobs m es table)
+adopted_in_order jobs m [] table h = h
+adopted_in_order jobs m (e ∷ es) table h = adopted_in_order jobs m es _ (either (λ t. IsSorted t × IsLive jobs t) (is_kept jobs e.0) (put spot_cmp (spot e.0.job e.0.unit m) e.1 table) table
     (λ k. (is_sorted-put spot_cmp spot_total _ e.1 table h.0, each_put (IsOfLive jobs) (spot e.0.job e.0.unit m) e.1 table (kept_live jobs e.0 k) h.1)) (λ _. h))
 
-credit_tabled : (jobs : List KnownJob) (a : ℕ) (credited es : List (Key × ℕ)) (table : List (Spot × ℕ)) → is_live jobs a ≡ true → IsSorted table × IsLive jobs table → IsSorted (credit a credited es table) × IsLive jobs (credit a credited es table)
-credit_tabled jobs a credited [] table l h = h
-credit_tabled jobs a credited (e ∷ es) table l h =
+credit_in_order : (jobs : List KnownJob) (a : ℕ) (credited es : List (Key × ℕ)) (table : List (Spot × ℕ)) → is_live jobs a ≡ true → IsSorted table × IsLive jobs table → IsSorted (credit a credited es table) × IsLive jobs (credit a credited es table)
+credit_in_order jobs a credited [] table l h = h
+credit_in_order jobs a credited (e ∷ es) table l h =
     let s = spot a e.0.unit e.0.number in
     let here = count spot_cmp table s in
     let more = e.1 - count key_cmp credited (credited_key e.0.unit e.0.number) in
-    credit_tabled jobs a credited es _ l (either (λ t. IsSorted t × IsLive jobs t) (is_back e.0) (set_count spot_cmp table s (here - min more here)) table (λ _. (sorted_set table s _ h.0, each_set (IsOfLive jobs) s _ table (λ _. l) h.1)) (λ _. h))
+    credit_in_order jobs a credited es _ l (either (λ t. IsSorted t × IsLive jobs t) (is_back e.0) (set_count spot_cmp table s (here - min more here)) table (λ _. (sorted_set table s _ h.0, each_set (IsOfLive jobs) s _ table (λ _. l) h.1)) (λ _. h))
 
 -- what is credited has keys of its own
 raised_plain : (cs es : List (Key × ℕ)) (u m : ℕ) → find key_cmp (count_key u m) cs ≡ None → find key_cmp (count_key u m) (raise_credited cs es) ≡ None
@@ -274,32 +274,32 @@ plain_put a cs all b u m new old = elim (nat_eq b a) as (λ t. nat_eq b a ≡ t 
   | false ↦ λ t. ap (λ o. find key_cmp (count_key u m) (unwrap_or o [])) (put_beside a b cs all t) ∙ old
 ] refl
 
-pub met_tabled : (M : Master) (fresh : Bool) (a : ℕ) → IsTabled M → IsTabled (meet_app fresh M a)
-met_tabled M true a t = record {
+pub met_in_order : (M : Master) (fresh : Bool) (a : ℕ) → IsInOrder M → IsInOrder (meet_app fresh M a)
+met_in_order M true a t = record {
   sorted = t.sorted;
   alive = t.alive;
   empty = λ b f. put_demand M.jobs a nothing M.demands (λ _. refl) b f (λ _. t.empty b f);
   plain = λ b u m. plain_put a [] M.credited b u m refl (t.plain b u m);
 }
-met_tabled M false a t = t
+met_in_order M false a t = t
 
-pub told_tabled : (M : Master) (h : Heard) (from : Id) (l : Ledger) → IsTabled M → IsTabled (told M h from l)
-told_tabled M h from l t =
+pub told_in_order : (M : Master) (h : Heard) (from : Id) (l : Ledger) → IsInOrder M → IsInOrder (told M h from l)
+told_in_order M h from l t =
     let N = meet_app h.fresh M from.number in
-    either IsTabled (is_agent from) (cond (is_taken h.what) (take_report M from.number l) M) (cond (is_taken h.what) (take_demand N from.number l) N)
-    (λ _. either IsTabled (is_taken h.what) (take_report M from.number l) M (λ _. reported from.number l) (λ _. t))
-    (λ _. either IsTabled (is_taken h.what) (take_demand N from.number l) N (λ _. demanded N from.number l (met h.fresh)) (λ _. met h.fresh))
+    either IsInOrder (is_agent from) (cond (is_taken h.what) (take_report M from.number l) M) (cond (is_taken h.what) (take_demand N from.number l) N)
+    (λ _. either IsInOrder (is_taken h.what) (take_report M from.number l) M (λ _. reported from.number l) (λ _. t))
+    (λ _. either IsInOrder (is_taken h.what) (take_demand N from.number l) N (λ _. demanded N from.number l (met h.fresh)) (λ _. met h.fresh))
   where
-    reported : (m : ℕ) (report : Ledger) → IsTabled (take_report M m report)
-    reported m report = either IsTabled (adopts M m report) _ M
-        (λ _. let k = either (λ t. IsSorted t × IsLive M.jobs t) (has_number m M.bans) M.table (adopted M.jobs m report.rows M.table) (λ _. (t.sorted, t.alive)) (λ _. adopted_tabled M.jobs m report.rows M.table (t.sorted, t.alive)) in record { sorted = k.0; alive = k.1; empty = t.empty; plain = t.plain })
+    reported : (m : ℕ) (report : Ledger) → IsInOrder (take_report M m report)
+    reported m report = either IsInOrder (adopts M m report) _ M
+        (λ _. let k = either (λ t. IsSorted t × IsLive M.jobs t) (has_number m M.bans) M.table (adopted M.jobs m report.rows M.table) (λ _. (t.sorted, t.alive)) (λ _. adopted_in_order M.jobs m report.rows M.table (t.sorted, t.alive)) in record { sorted = k.0; alive = k.1; empty = t.empty; plain = t.plain })
         (λ _. t)
 
-    demanded : (N : Master) (a : ℕ) (d : Ledger) → IsTabled N → IsTabled (take_demand N a d)
-    demanded N a d k = either IsTabled (nat_eq d.head N.epoch && is_live N.jobs a) _ _
+    demanded : (N : Master) (a : ℕ) (d : Ledger) → IsInOrder N → IsInOrder (take_demand N a d)
+    demanded N a d k = either IsInOrder (nat_eq d.head N.epoch && is_live N.jobs a) _ _
         (λ e.
         let live = (both_true (nat_eq d.head N.epoch) (is_live N.jobs a) e).1 in
-        let c = credit_tabled N.jobs a (credited_of N a) d.entries N.table live (k.sorted, k.alive) in
+        let c = credit_in_order N.jobs a (credited_of N a) d.entries N.table live (k.sorted, k.alive) in
         record {
           sorted = c.0;
           alive = c.1;
@@ -308,5 +308,5 @@ told_tabled M h from l t =
         })
         (λ _. record { sorted = k.sorted; alive = k.alive; empty = λ b f. put_demand N.jobs a nothing N.demands (λ _. refl) b f (λ _. k.empty b f); plain = k.plain })
 
-    met : (fresh : Bool) → IsTabled (meet_app fresh M from.number)
-    met fresh = met_tabled M fresh from.number t
+    met : (fresh : Bool) → IsInOrder (meet_app fresh M from.number)
+    met fresh = met_in_order M fresh from.number t

@@ -14,7 +14,7 @@ use Rattle.written_roles.specs.Settling.{IsWithin}
 use Rattle.fuxi_terms.proofs.Booleans.{both_true}
 use Rattle.fuxi_terms.proofs.KeyOrders.{spot_total, same_spot}
 use Rattle.fuxi_terms.proofs.Sums.{one_count, sum_put_exact}
-use Rattle.written_roles.proofs.Placed.{is_placeable}
+use Rattle.written_roles.proofs.PlacingEnds.{is_placeable}
 use Rattle.fuxi_terms.proofs.Members.{in_each_is}
 
 fits_one : (c : ClusterRecord) (M : Master) (s : Spot) → placeable c M s.job s.unit s.machine ≡ true → (i : ℕ) → i < c.resources → total_at M.jobs s.machine i M.table + size_at M.jobs s.job s.unit i ≤ has_at c s.machine i

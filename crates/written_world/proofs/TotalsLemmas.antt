@@ -17,12 +17,12 @@ use Rattle.fuxi_terms.specs.Jobs.{KnownJob, job_of, is_known, is_live, no_unit, 
 use Rattle.fuxi_terms.specs.Numbers.{has_number}
 use Rattle.fuxi_terms.specs.Tables.{spot, total_at}
 use Rattle.written_roles.specs.HardState.{with_job, with_ended}
-use Rattle.written_roles.specs.MasterSteps.{row_key, is_kept, same_size, adopted}
+use Rattle.written_roles.specs.MasterSteps.{spot_row_key, is_kept, same_size, adopted}
 use Rattle.written_world.specs.Safe.{row_total_at}
 use Rattle.fuxi_terms.proofs.Booleans.{both_true, either, number_is}
 use Rattle.fuxi_terms.proofs.KeyOrders.{spot_total, same_spot}
 use Rattle.fuxi_terms.proofs.Sums.{sum_put_exact}
-use Rattle.written_world.proofs.KnownJobs.{old_job, ended_units_of}
+use Rattle.written_world.proofs.KnownJobsLemmas.{old_job, ended_units_of}
 
 -- what so many grants at a spot take of a machine, in one resource
 abbrev pub load : List KnownJob → ℕ → ℕ → Spot → ℕ → ℕ
@@ -133,12 +133,12 @@ adopted_loads jobs m n i (r ∷ rows) es s =
     → total_at jobs n i (adopted jobs m rows next) ≤ total_at jobs n i es + cond b (r.1 * at_place r.0.size i + row_total_at i rows) 0) [ true ↦ λ x y. omega (arith, x, y) | false ↦ λ x y. omega (arith, x, y) ] rest step)
 
 -- The row of a machine takes what the table takes
-pub row_loads : (jobs : List KnownJob) (m i : ℕ) (es : List (Spot × ℕ)) → row_total_at i (map (λ e. (row_key jobs e.0, e.1)) (filter (λ e. nat_eq e.0.machine m) es)) ≡ total_at jobs m i es
+pub row_loads : (jobs : List KnownJob) (m i : ℕ) (es : List (Spot × ℕ)) → row_total_at i (map (λ e. (spot_row_key jobs e.0, e.1)) (filter (λ e. nat_eq e.0.machine m) es)) ≡ total_at jobs m i es
 row_loads jobs m i [] = refl
 row_loads jobs m i (e ∷ es) =
     let rest = row_loads jobs m i es in
     rw (sum_by-cons (w jobs m i) e es)
-    (elim (nat_eq e.0.machine m) as (λ b. row_total_at i (map (λ e. (row_key jobs e.0, e.1)) (cond b (e ∷ filter (λ e. nat_eq e.0.machine m) es) (filter (λ e. nat_eq e.0.machine m) es))) ≡ cond b (e.1 * size_at jobs e.0.job e.0.unit i) 0 + total_at jobs m i es) [
-      | true ↦ sum_by-cons (λ (r : RowKey × ℕ). r.1 * at_place r.0.size i) (row_key jobs e.0, e.1) (map (λ e. (row_key jobs e.0, e.1)) (filter (λ e. nat_eq e.0.machine m) es)) ∙ ap (λ n. e.1 * size_at jobs e.0.job e.0.unit i + n) rest
+    (elim (nat_eq e.0.machine m) as (λ b. row_total_at i (map (λ e. (spot_row_key jobs e.0, e.1)) (cond b (e ∷ filter (λ e. nat_eq e.0.machine m) es) (filter (λ e. nat_eq e.0.machine m) es))) ≡ cond b (e.1 * size_at jobs e.0.job e.0.unit i) 0 + total_at jobs m i es) [
+      | true ↦ sum_by-cons (λ (r : RowKey × ℕ). r.1 * at_place r.0.size i) (spot_row_key jobs e.0, e.1) (map (λ e. (spot_row_key jobs e.0, e.1)) (filter (λ e. nat_eq e.0.machine m) es)) ∙ ap (λ n. e.1 * size_at jobs e.0.job e.0.unit i + n) rest
       | false ↦ omega (arith, rest)
     ])

@@ -18,7 +18,7 @@ use Rattle.fuxi_terms.specs.Tables.{spot, held_on}
 use Rattle.written_roles.specs.MasterSteps.{count_entries, grants}
 use Rattle.fuxi_terms.proofs.KeyOrders.{key_total, spot_total, same_key, same_spot}
 use Rattle.fuxi_terms.proofs.Booleans.{number_is, same_tests}
-use Rattle.written_world.proofs.Tabling.{IsTabled, live_found}
+use Rattle.written_world.proofs.TablesInOrder.{IsInOrder, live_found}
 
 -- A key is looked up in lists one behind the other
 find_behind : {K : Type 0} (R : K → K → Ordering) (k : K) (xs ys : List (K × ℕ)) → find R k xs ≡ None → find R k (xs ++ ys) ≡ find R k ys
@@ -84,7 +84,7 @@ counts_found a u m [] = refl
 counts_found a u m (e ∷ es) = one_count a u m e es (counts_found a u m es)
 
 -- what the grants of a job say
-module _ (M : Master) (boot a : ℕ) (h : IsTabled M) where
+module _ (M : Master) (boot a : ℕ) (h : IsInOrder M) where
   pub grants_counts : (u m : ℕ) → at_key (grants M boot a) (count_key u m) ≡ held_on M.table a u m
   grants_counts u m = ap (λ o. unwrap_or o 0)
       (find_behind key_cmp (count_key u m) (reported_entries M.reported) (count_entries a M.table ++ credited_of M a) (no_reported (count_key u m) refl M.reported)
@@ -96,7 +96,7 @@ module _ (M : Master) (boot a : ℕ) (h : IsTabled M) where
       ∙ find_behind key_cmp (credited_key u m) (count_entries a M.table) (credited_of M a) (no_counts (credited_key u m) refl a M.table))
 
 -- a job that has ended has nothing on any machine
-pub nothing_held : (M : Master) (a u m : ℕ) → IsTabled M → is_live M.jobs a ≡ false → held_on M.table a u m ≡ 0
+pub nothing_held : (M : Master) (a u m : ℕ) → IsInOrder M → is_live M.jobs a ≡ false → held_on M.table a u m ≡ 0
 nothing_held M a u m h dead = by (nat_lt 0 (held_on M.table a u m)) refl
   where
     by : (b : Bool) → nat_lt 0 (held_on M.table a u m) ≡ b → held_on M.table a u m ≡ 0

@@ -24,7 +24,7 @@ use Rattle.fuxi_terms.specs.Numbers.{has_number, with_number}
 use Rattle.written_roles.specs.Masters.{Master, credited_of}
 use Rattle.fuxi_terms.specs.Tables.{spot, held_on}
 use Rattle.written_world.specs.World.{World, Agent, App}
-use Rattle.written_roles.specs.MasterSteps.{master_party, row_key, count_entries, grants}
+use Rattle.written_roles.specs.MasterSteps.{master_party, spot_row_key, count_entries, grants}
 use Rattle.written_roles.specs.Refusals.{with_found}
 use Rattle.written_world.specs.Parties.{projection, agent_table, usable, carried_at, app_held}
 use Rattle.written_roles.specs.Apps.{names, uncredited}
@@ -33,9 +33,9 @@ use Rattle.written_world.specs.Safe.{row_count}
 use Rattle.fuxi_terms.proofs.Alls.{all_front, all_back, all_map}
 use Rattle.fuxi_terms.proofs.Booleans.{both_true, number_is}
 use Rattle.fuxi_terms.proofs.KeyOrders.{key_total, spot_total, same_spot}
-use Rattle.written_world.proofs.Viewing.{caught_up}
-use Rattle.written_world.proofs.Standing.{Standing, IsShowing}
-use Rattle.written_world.proofs.Granted.{reported_entries, grants_counts, grants_credits, nothing_held}
+use Rattle.written_world.proofs.ViewsLemmas.{caught_up}
+use Rattle.written_world.proofs.Invariant.{Invariant, IsShowing}
+use Rattle.written_world.proofs.GrantsLemmas.{reported_entries, grants_counts, grants_credits, nothing_held}
 
 -- Sums over a row are counts of the table
 module _ (jobs : List KnownJob) (a u m : ℕ) where
@@ -43,7 +43,7 @@ module _ (jobs : List KnownJob) (a u m : ℕ) where
   counted e = cond (nat_eq e.0.job a && nat_eq e.0.unit u) e.1 0
 
   abbrev row_of : List (Spot × ℕ) → List (RowKey × ℕ)
-  row_of table = map (λ e. (row_key jobs e.0, e.1)) (filter (λ e. nat_eq e.0.machine m) table)
+  row_of table = map (λ e. (spot_row_key jobs e.0, e.1)) (filter (λ e. nat_eq e.0.machine m) table)
 
   zero_more : (n : ℕ) → 0 + n ≡ n
   zero_more n = omega arith
@@ -63,9 +63,9 @@ module _ (jobs : List KnownJob) (a u m : ℕ) where
           let yes : eq_by_cmp spot_cmp (spot a u m) e.0 ≡ true = ap (λ s. eq_by_cmp spot_cmp (spot a u m) s) (sym same) ∙ ap is_eq (tied_itself spot_total (spot a u m)) in
           absurd (let f : ⊥ = cc in f)
 
-      by_machine : (b : Bool) → nat_eq e.0.machine m ≡ b → sum_by counted (map (λ e. (row_key jobs e.0, e.1)) (cond b (e ∷ filter (λ e. nat_eq e.0.machine m) es) (filter (λ e. nat_eq e.0.machine m) es))) ≡ sum_by counted (row_of es)
+      by_machine : (b : Bool) → nat_eq e.0.machine m ≡ b → sum_by counted (map (λ e. (spot_row_key jobs e.0, e.1)) (cond b (e ∷ filter (λ e. nat_eq e.0.machine m) es) (filter (λ e. nat_eq e.0.machine m) es))) ≡ sum_by counted (row_of es)
       by_machine false k = refl
-      by_machine true k = sum_by-cons counted (row_key jobs e.0, e.1) (row_of es) ∙ ap (λ n. n + sum_by counted (row_of es)) (by_pair (nat_eq e.0.job a && nat_eq e.0.unit u) refl k) ∙ zero_more (sum_by counted (row_of es))
+      by_machine true k = sum_by-cons counted (spot_row_key jobs e.0, e.1) (row_of es) ∙ ap (λ n. n + sum_by counted (row_of es)) (by_pair (nat_eq e.0.job a && nat_eq e.0.unit u) refl k) ∙ zero_more (sum_by counted (row_of es))
 
   own_entry : (e : Spot × ℕ) (es : List (Spot × ℕ)) → spot a u m ≡ e.0 → sum_by counted (row_of (e ∷ es)) ≡ e.1 + sum_by counted (row_of es)
   own_entry e es same =
@@ -73,8 +73,8 @@ module _ (jobs : List KnownJob) (a u m : ℕ) where
       let pair : (nat_eq e.0.job a && nat_eq e.0.unit u) ≡ true =
       let j : a ≡ e.0.job = ap (λ (s : Spot). s.job) same in let n : u ≡ e.0.unit = ap (λ (s : Spot). s.unit) same in
       let x : nat_eq e.0.job a ≡ true = grind (arith, nat_tests, j) in let y : nat_eq e.0.unit u ≡ true = grind (arith, nat_tests, n) in ap (λ b. b && nat_eq e.0.unit u) x ∙ y in
-      ap (λ b. sum_by counted (map (λ e. (row_key jobs e.0, e.1)) (cond b (e ∷ filter (λ e. nat_eq e.0.machine m) es) (filter (λ e. nat_eq e.0.machine m) es)))) here
-      ∙ sum_by-cons counted (row_key jobs e.0, e.1) (row_of es)
+      ap (λ b. sum_by counted (map (λ e. (spot_row_key jobs e.0, e.1)) (cond b (e ∷ filter (λ e. nat_eq e.0.machine m) es) (filter (λ e. nat_eq e.0.machine m) es)))) here
+      ∙ sum_by-cons counted (spot_row_key jobs e.0, e.1) (row_of es)
       ∙ ap (λ b. cond b e.1 0 + sum_by counted (row_of es)) pair
 
   row_counts : (table : List (Spot × ℕ)) → T (is_sorted spot_cmp table) → sum_by counted (row_of table) ≡ unwrap_or (find spot_cmp (spot a u m) table) 0
@@ -129,7 +129,7 @@ caught_table net s p all is_master_id =
     subst (λ d. cond (nat_eq (net.links p d).seq 0) (present net p d).rows (view net p d).rows ≡ (present net s p.id).rows) is_master_id
     (ap (λ b. cond b (present net p s.id).rows (view net p s.id).rows) some ∙ ap (λ (l : Ledger). l.rows) (caught_up net s p parts.0))
 
-pub agent_agrees : (w : World) (e : ℕ) (M : Master) (m : ℕ) (g : Agent) → Standing w → find nat_cmp e w.masters ≡ Some M → is_quiet w e ≡ true → find nat_cmp m w.agents ≡ Some g
+pub agent_agrees : (w : World) (e : ℕ) (M : Master) (m : ℕ) (g : Agent) → Invariant w → find nat_cmp e w.masters ≡ Some M → is_quiet w e ≡ true → find nat_cmp m w.agents ≡ Some g
     → (a u : ℕ) → row_count (agent_table w.net (party (agent_id m) g.boot)) a u ≡ held_on M.table a u m
 agent_agrees w e M m g h found quiet runs a u =
     let there : has_machine w.cluster m ≡ true = h.machines m g runs in
@@ -205,7 +205,7 @@ usable_is net p G u m n seen counts free = subst (λ (l : Ledger). at_key l (cou
         let z : uncredited G (present net p master_id) p.inc u m ≡ 0 = ap (λ b. at_key (present net p master_id) (back_key u m) - cond b (at_key G (credited_key u m)) 0) same.0 ∙ (let e = same.1 in omega (arith, e)) in
         omega (arith, counts, z)
 
-pub app_agrees : (w : World) (e : ℕ) (M : Master) (a : ℕ) (g : App) → Standing w → find nat_cmp e w.masters ≡ Some M → is_quiet w e ≡ true → find nat_cmp a w.apps ≡ Some g → is_known M.jobs a ≡ true
+pub app_agrees : (w : World) (e : ℕ) (M : Master) (a : ℕ) (g : App) → Invariant w → find nat_cmp e w.masters ≡ Some M → is_quiet w e ≡ true → find nat_cmp a w.apps ≡ Some g → is_known M.jobs a ≡ true
     → (u m : ℕ) → has_machine w.cluster m ≡ true → app_held w.net (party (app_id a) g.boot) g u m ≡ held_on M.table a u m
 app_agrees w e M a g h found quiet runs known u m there =
     ap (λ b. cond b (usable w.net p u m) (carried_at g u m)) named ∙ usable_is w.net p G u m (held_on M.table a u m) seen (grants_counts M boot a k.tabled u m) (free (is_live M.jobs a) refl)

@@ -22,8 +22,8 @@ use Rattle.written_roles.specs.MasterSteps.{talks, ready, is_there, counted, tak
 use Rattle.written_world.specs.Parties.{end_step, told, received, adopted_now, master_hears, agent_hears, app_hears}
 use Rattle.fuxi_terms.proofs.Booleans.{either, number_is}
 use Rattle.fuxi_terms.proofs.KeyOrders.{same_key}
-use Rattle.written_world.proofs.Resting.{IsRangedMaster, IsResting, ranged_same, ready_rests}
-use Rattle.written_world.proofs.Steps.{found_has}
+use Rattle.written_world.proofs.SettledLemmas.{IsRangedMaster, IsResting, ranged_same, ready_rests}
+use Rattle.written_world.proofs.MovesWalk.{found_has}
 use Rattle.written_roles.specs.Preemption.{preempted}
 use Rattle.written_roles.specs.Refusals.{Refusal, with_found}
 use Rattle.written_world.specs.World.{World, Agent, App, Step, empty_world, prints_nothing, refused}

@@ -22,13 +22,13 @@ use Rattle.written_world.specs.Good.{HasOrigin, IsCredited}
 use Rattle.written_net.proofs.NetLemmas.{party_is}
 use Rattle.fuxi_terms.proofs.Booleans.{number_is}
 use Rattle.fuxi_terms.specs.Jobs.{KnownJob, is_known, unit_count}
-use Rattle.written_world.proofs.Writing.{DemandsHold, KnowsMore, knows_then, wider, publish_each}
-use Rattle.written_world.proofs.Crediting.{credited_view, credited_like}
+use Rattle.written_world.proofs.DemandsLemmas.{DemandsHold, KnowsMore, knows_then, wider, publish_each}
+use Rattle.written_world.proofs.CreditsLemmas.{credited_view, credited_like}
 use Rattle.written_net.proofs.PublishLemmas.{view_grows, Leaves, leaves_then, grows_then, publish_grows, HeadIsKnown, IsWanted, publish_links, publish_leaves, publish_sound, publish_presents}
 use Rattle.written_world.specs.Safe.{RowsFit}
-use Rattle.written_world.proofs.Granting.{GrantHolds, grant_wider, grants_hold}
-use Rattle.written_world.proofs.Housing.{IsHoused, ready_housed, row_fits}
-use Rattle.written_world.proofs.Tabling.{IsTabled, AllWait, ready_tabled, ready_waits}
+use Rattle.written_world.proofs.GrantsFit.{GrantHolds, grant_wider, grants_hold}
+use Rattle.written_world.proofs.TablesFit.{FitsMachines, ready_fits_machines, row_fits}
+use Rattle.written_world.proofs.TablesInOrder.{IsInOrder, AllWait, ready_in_order, ready_waits}
 use Rattle.written_net.proofs.SoundLemmas.{Grows}
 
 -- a running master of an epoch, and a running agent or application with its boot
@@ -36,8 +36,8 @@ pub record IsShowing (c : ClusterRecord) (hard : HardState) (net : Net Ledger) (
   pub epoch : M.epoch ≡ e
   pub ran : e ≤ hard.fence
   pub knows : KnowsMore M.jobs hard.jobs
-  pub tabled : IsTabled M
-  pub housed : IsHoused c M
+  pub tabled : IsInOrder M
+  pub housed : FitsMachines c M
   pub waits : AllWait M M.line
   pub credited : IsCredited net M
   pub shows : AllByRecursion (λ q. present net (master_party M) q ≡ projection net M q) (peers c M)
@@ -60,7 +60,7 @@ pub record EntryHolds (c : ClusterRecord) (jobs : List KnownJob) (q : Id) (l : L
   pub rows : is_agent q ≡ true → RowsFit c q.number l.rows
   pub grants : is_app q ≡ true → GrantHolds c jobs q.number l
 
-pub record Standing (w : World) : Type 0 where
+pub record Invariant (w : World) : Type 0 where
   pub sound : Sound shape w.net
   pub unstarted : (p : Party) (q : Id) → top w p.id < p.inc → w.net.histories p q ≡ []
   pub masters : (e : ℕ) (M : Master) → find nat_cmp e w.masters ≡ Some M → IsShowing w.cluster w.hard w.net e M
@@ -144,7 +144,7 @@ pub record Stepped (w w' : World) (p : Party) : Type 0 where
   pub entries : (e : ℕ) → (same_party p (party master_id e) ≡ false) ⊎ ((q : Id) (n : ℕ) → EntryHolds w'.cluster w'.hard.jobs q (at_index nothing (w'.net.histories (party master_id e) q) n))
   pub reports : (m b : ℕ) → (same_party p (party (agent_id m) b) ≡ false) ⊎ ((n : ℕ) → RowsFit w'.cluster m (at_index nothing (w'.net.histories (party (agent_id m) b) master_id) n).rows)
 
-pub stepped : (w w' : World) (p : Party) → Standing w → Stepped w w' p → Standing w'
+pub stepped : (w w' : World) (p : Party) → Invariant w → Stepped w w' p → Invariant w'
 stepped w w' p h s = record {
   sound = s.sound;
   unstarted = λ p' q above. s.leaves.histories p' q (other p' above) ∙ h.unstarted p' q (omega (arith, above, tops p'.id));
@@ -265,9 +265,9 @@ finished c net R forced s = record {
     shows [] h = tt
     shows (q ∷ qs) h = (h.0 ∙ ap (λ (l : Party → Id → Link). cond (is_agent q) (row R q.number) (grants R (l (master_party R) q).known q.number)) (sym (publish_links net (master_party R) (offers c net R forced))), shows qs h.1)
 
-pub finish_standing : (w : World) (hard : HardState) (ran : List Party) (net : Net Ledger) (M : Master) (forced : List Id) → Standing w → w.hard.fence ≤ hard.fence → KnowsMore w.hard.jobs hard.jobs → M.epoch ≤ hard.fence → KnowsMore M.jobs hard.jobs → IsTabled M → IsHoused w.cluster M → IsCredited net M
-    → Sound shape net → Leaves (master_party M) w.net net → Grows shape w.net.histories net.histories → net.histories ≡ w.net.histories → Standing (end_step (record w { hard = hard; ran = ran }) net M forced)
-finish_standing w hard ran net M forced h up more own knows t hs cr s l gr kept =
+pub finish_invariant : (w : World) (hard : HardState) (ran : List Party) (net : Net Ledger) (M : Master) (forced : List Id) → Invariant w → w.hard.fence ≤ hard.fence → KnowsMore w.hard.jobs hard.jobs → M.epoch ≤ hard.fence → KnowsMore M.jobs hard.jobs → IsInOrder M → FitsMachines w.cluster M → IsCredited net M
+    → Sound shape net → Leaves (master_party M) w.net net → Grows shape w.net.histories net.histories → net.histories ≡ w.net.histories → Invariant (end_step (record w { hard = hard; ran = ran }) net M forced)
+finish_invariant w hard ran net M forced h up more own knows t hs cr s l gr kept =
     let R = ready w.cluster M in
     let f = finished w.cluster net R forced s in
     let same : R.epoch ≡ M.epoch = ready_epoch w.cluster M in
@@ -297,9 +297,9 @@ finish_standing w hard ran net M forced h up more own knows t hs cr s l gr kept 
         let R = ready w.cluster M in
         let boot = (net.links (master_party R) q).known in
         record {
-          rows = λ e. subst (λ b. RowsFit w.cluster q.number (cond b (row R q.number) (grants R boot q.number)).rows) (sym e) (row_fits w.cluster R q.number (ready_housed w.cluster M t hs));
+          rows = λ e. subst (λ b. RowsFit w.cluster q.number (cond b (row R q.number) (grants R boot q.number)).rows) (sym e) (row_fits w.cluster R q.number (ready_fits_machines w.cluster M t hs));
           grants = λ e. subst (λ b. GrantHolds w.cluster hard.jobs q.number (cond b (row R q.number) (grants R boot q.number))) (sym (ap (λ r. nat_eq r 2) (number_is q.role 3 e)))
-              (grants_hold w.cluster hard.jobs R boot q.number (ready_tabled w.cluster M t) (subst (λ js. KnowsMore js hard.jobs) (sym (ready_keeps w.cluster M).jobs) knows) (ready_housed w.cluster M t hs));
+              (grants_hold w.cluster hard.jobs R boot q.number (ready_in_order w.cluster M t) (subst (λ js. KnowsMore js hard.jobs) (sym (ready_keeps w.cluster M).jobs) knows) (ready_fits_machines w.cluster M t hs));
         }
 
     offered : (qs : List Id) → AllByRecursion (λ (o : Offer). EntryHolds w.cluster hard.jobs o.to o.ledger) (map (λ q. record { to = q; forced = is_one_of q forced; ledger = projection net (ready w.cluster M) q }) qs)
@@ -323,8 +323,8 @@ finish_standing w hard ran net M forced h up more own knows t hs cr s l gr kept 
       epoch = sym n.0;
       ran = omega (arith, n.0, ready_epoch w.cluster M, own);
       knows = subst (λ js. KnowsMore js hard.jobs) (sym (ready_keeps w.cluster M).jobs) knows;
-      tabled = ready_tabled w.cluster M t;
-      housed = ready_housed w.cluster M t hs;
+      tabled = ready_in_order w.cluster M t;
+      housed = ready_fits_machines w.cluster M t hs;
       waits = ready_waits w.cluster M;
       credited =
           let R = ready w.cluster M in
