@@ -27,12 +27,14 @@ pub joined_packets : (net : Net Ledger) (p : Party) (x : Packet) (l : Ledger) �
 joined_packets net p x l = either (λ (n : Net Ledger). n.packets ≡ net.packets) (heard_of net p is_master x).fresh (publish (comes net p is_master (Some x)) p (to_master l)) (comes net p is_master (Some x))
     (λ _. either (λ (n : Net Ledger). n.packets ≡ net.packets) _ _ _ (λ _. refl) (λ _. refl)) (λ _. refl)
 
+-- an act that sends nothing
 pub quiet_acts : (net net' : Net Ledger) (p : Party) → Sound shape net → Leaves p net net' → Grows shape net.histories net'.histories → net'.packets ≡ net.packets → OneActs net net' p []
 quiet_acts net net' p s l g same = record {
   others = λ p' q e. unmoved_side net net' p p' q s l g e;
   packets = ap (map (parcel_of net')) same ∙ parcels_stay net net' g net.packets s.packets ∙ sym (append-nil (map (parcel_of net) net.packets));
 }
 
+-- hearing
 pub agent_hears_alike : (w : World) (m : ℕ) (g : Agent) (which : ℕ) (x : Packet) → slice_get w.net.packets which ≡ Some x → Sound shape w.net → HasJoined w.net (party (agent_id m) g.boot)
     → (x.from.id ≡ master_id → Leads (row_excess (has_of w m)) x.from.id x.to.id (w.net.histories x.from x.to.id)) → AgentHearsAlike w m g x
 agent_hears_alike w m g which x there s h leads =
@@ -55,11 +57,13 @@ agent_hears_alike w m g which x there s h leads =
 pub resync_acts : (net : Net Ledger) (p : Party) → Sound shape net → OneActs net (resync_all net p (master_id ∷ [])) p []
 resync_acts net p s = let r = resync_all_acted net p (master_id ∷ []) s in quiet_acts net (move net (Resyncs p master_id)) p s r.leaves (record { longer = (grows_itself net).longer }) refl
 
+-- what a turn to the master does
 pub record TurnActs (w w' : World) (p : Party) (sent : List Parcel) : Type 0 where
   pub acts : OneActs w.net w'.net p sent
   pub side : side_of w'.net p master_id ≡ side_of w.net p master_id
   pub rest : w' ≡ record w { net = w'.net }
 
+-- a turn of any party that talks to its master
 pub turn_acts : (w : World) (p : Party) → Sound shape w.net → TurnActs w (turn_to_master w p).world p (cond (nat_eq (w.net.links p master_id).known 0) [] (turn_parcels p master_id (side_of w.net p master_id)))
 turn_acts w p s = by (nat_eq (w.net.links p master_id).known 0)
   where
@@ -74,6 +78,7 @@ turn_acts w p s = by (nat_eq (w.net.links p master_id).known 0)
       rest = refl;
     }
 
+-- resync
 pub agent_resync_alike : (w : World) (m : ℕ) (g : Agent) → Sound shape w.net → AgentActs w (resynced w (party (agent_id m) g.boot) (master_id ∷ [])).world m g (agent_resynced (agent_seen w m g)) []
 agent_resync_alike w m g s =
     let p = party (agent_id m) g.boot in
@@ -83,6 +88,7 @@ agent_resync_alike w m g s =
       rest = refl;
     }
 
+-- turn
 pub agent_turn_alike : (w : World) (m : ℕ) (g : Agent) → Sound shape w.net → AgentActs w (turn_to_master w (party (agent_id m) g.boot)).world m g (agent_seen w m g) (agent_turn (agent_seen w m g))
 agent_turn_alike w m g s =
     let t = turn_acts w (party (agent_id m) g.boot) s in

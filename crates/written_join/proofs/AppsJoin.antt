@@ -32,6 +32,7 @@ use Rattle.fuxi_terms.specs.Jobs.{unit_count}
 pub held_alike : (w : World) (a : ℕ) (g : App) (u m : ℕ) → app_held w.net (party (app_id a) g.boot) g u m ≡ held_by (app_seen w a g) u m
 held_alike w a g u m = refl
 
+-- hearing
 pub app_hears_alike : (w : World) (a : ℕ) (g : App) (which : ℕ) (x : Packet) → slice_get w.net.packets which ≡ Some x → Sound shape w.net → HasJoined w.net (party (app_id a) g.boot)
     → (x.from.id ≡ master_id → Leads no_excess x.from.id x.to.id (w.net.histories x.from x.to.id)) → AppHearsAlike w a g x
 app_hears_alike w a g which x there s h leads =
@@ -76,6 +77,7 @@ commanded w a g k n tests s = by (first_refusal tests)
 along : (w : World) (a : ℕ) (g : App) (f : App → Step) (r : Result AppRole Refusal) → find nat_cmp a w.apps ≡ Some g → AppCommanded w a g (f g) r → AppCommanded w a g (at_app w a f) r
 along w a g f r found h = subst (λ o. AppCommanded w a g (with_found o (refused w NotRunning) f) r) (sym found) h
 
+-- each command
 pub asks_alike : (w : World) (a : ℕ) (g : App) (x : AppCommand) → Sound shape w.net → find nat_cmp a w.apps ≡ Some g → AppCommanded w a g (asks w a x) (commands_alone (app_seen w a g) x)
 asks_alike w a g x s found = along w a g _ (commands_alone (app_seen w a g) x) found
     (commanded w a g (command_key x) (command_number (given_back w a g) x) (command_tests w.cluster g.units (usable_now w a g) (given_back w a g) x) s)
@@ -86,6 +88,7 @@ app_resync_alike w a g s =
     let p = party (app_id a) g.boot in
     record { acts = resync_acts w.net p s; role = ap (with_app_up (app_seen w a g)) (resynced_alike w.net p master_id); rest = refl }
 
+-- turn
 pub app_turn_alike : (w : World) (a : ℕ) (g : App) → Sound shape w.net → AppActs w (turn_to_master w (party (app_id a) g.boot)).world a g g (app_seen w a g) (app_turn (app_seen w a g))
 app_turn_alike w a g s =
     let t = turn_acts w (party (app_id a) g.boot) s in

@@ -18,6 +18,7 @@ use Rattle.written_join.specs.Joins.{Leads}
 use Rattle.written_join.specs.Leading.{RowsLead, TalliesLead, ReportsFit}
 use Rattle.fuxi_terms.proofs.Patched.{tally_reaches}
 
+-- rows
 pub rows_lead : (has : List ℕ) (m : ℕ) (h : List Ledger) → RowsLead has h → Leads (row_excess has) master_id (agent_id m) h
 rows_lead has m h r = record {
   next = λ n k one next le.
@@ -30,15 +31,18 @@ rows_lead has m h r = record {
 abbrev tally_of : Ledger → TallyRecord
 tally_of l = record { head = l.head; entries = l.entries }
 
+-- a change from one entry to the next is made
 pub tallies_lead : (from : Id) (excess : Ledger → Option (Sum × Res)) (h : List Ledger) → ((n : ℕ) → n ≤ length h → AreCounts key_cmp (greatest_from from) (at_index nothing h n).entries)
     → (n k : ℕ) → k ≡ n + 1 → k ≤ length h → then_do (patched_tally Below TooGreat (greatest_from from) (dropped_by from) (tally_of (at_index nothing h n)) (tally_difference (dropped_by from) (tally_of (at_index nothing h n)) (tally_of (at_index nothing h k)))) (λ t. Ok (tally_ledger t.head t.entries))
     ≡ Ok (tally_ledger (at_index nothing h k).head (at_index nothing h k).entries)
 tallies_lead from excess h counts n k next le =
     ap (λ o. then_do o (λ t. Ok (tally_ledger t.head t.entries))) (tally_reaches Below TooGreat (greatest_from from) (dropped_by from) (tally_of (at_index nothing h n)) (tally_of (at_index nothing h k)) (counts n (omega (arith, next, le))) (counts k le))
 
+-- grants
 pub grants_lead : (a : ℕ) (h : List Ledger) → TalliesLead master_id h → Leads no_excess master_id (app_id a) h
 grants_lead a h t = record { next = λ n k one next le. tallies_lead master_id no_excess h t.counts n k next le; fit = λ n le. refl }
 
+-- demands
 pub demands_lead : (a : ℕ) (excess : Ledger → Option (Sum × Res)) (h : List Ledger) → TalliesLead (app_id a) h → ReportsFit (app_id a) excess h → Leads excess (app_id a) master_id h
 demands_lead a excess h t r = record { next = λ n k one next le. tallies_lead (app_id a) excess h t.counts n k next le; fit = r.fit }
 

@@ -74,6 +74,7 @@ published_one net p o other q = elim (same_id o.to q) as (λ b. same_id o.to q �
   | false ↦ λ e. beside net p o q other.to e
 ] refl
 
+-- publishing to peers of another role is publishing to the sides
 pub published_alike : (net : Net Ledger) (p : Party) (os : List Offer) → AllByRecursion (IsOther p) os → sides_of (publish net p os) p ≡ publish_alone (sides_of net p) os
 published_alike net p [] h = refl
 published_alike net p (o ∷ os) h =
@@ -93,6 +94,7 @@ apps_peers : (ns : List ℕ) → AllByRecursion IsPeer (map app_id ns)
 apps_peers [] = tt
 apps_peers (n ∷ ns) = (record { to = refl; from = refl }, apps_peers ns)
 
+-- all peers of a master are of other roles
 pub peers_are : (c : ClusterRecord) (M : Master) → AllByRecursion IsPeer (peers c M)
 peers_are c M = all_append IsPeer (map agent_id (below (length c.machines))) (map app_id (job_numbers M.jobs)) (agents_peers _) (apps_peers _)
 
@@ -113,6 +115,7 @@ publish_packets : (net : Net Ledger) (p : Party) (os : List Offer) → (publish 
 publish_packets net p [] = refl
 publish_packets net p (o ∷ os) = publish_packets (publish_one net p o) p os ∙ either (λ (n : Net Ledger). n.packets ≡ net.packets) _ _ _ (λ _. refl) (λ _. refl)
 
+-- and the others see what they saw
 pub ends_acts : (w w0 : World) (net : Net Ledger) (M : Master) (forced : List Id) → Sound shape w.net → Leaves (master_party M) w.net net → Grows shape w.net.histories net.histories → net.packets ≡ w.net.packets → OneActs w.net (end_step w0 net M forced).net (master_party M) []
 ends_acts w w0 net M forced s l g same =
     let R = ready w0.cluster M in
@@ -135,6 +138,7 @@ is_taken_is (SaysExceeds total has) e = cc
 
 -- what is received of a ledger tells a master the same as the ledger
 module _ (c : ClusterRecord) (M : Master) (fresh : Bool) (from : Id) where
+  -- two ledgers tell the master the same
   pub record TellsAlike (taken : Bool) (k l : Ledger) : Type 0 where
     pub state : told_of M fresh taken from (cond (is_agent from) k (counted c M.jobs from.number k)) ≡ told_of M fresh taken from (cond (is_agent from) l (counted c M.jobs from.number l))
     pub adopted : adopted_of M taken from (cond (is_agent from) k (counted c M.jobs from.number k)) ≡ adopted_of M taken from (cond (is_agent from) l (counted c M.jobs from.number l))
@@ -201,6 +205,7 @@ heard_sides net p talks x e is = λ i q. one q i
       | false ↦ λ t. ap (side_at net p q) (elsewhere net.links p x.from.id (heard_of net p talks x).link p q t)
     ] refl
 
+-- hearing a packet
 pub master_hears_alike : (excess : Id → Ledger → Option (Sum × Res)) (w : World) (M : Master) (which : ℕ) (x : Packet) → slice_get w.net.packets which ≡ Some x → Sound shape w.net → x.to.id ≡ master_id
     → (talks w.cluster M x.from.id ≡ true → Leads (excess x.from.id) x.from.id x.to.id (w.net.histories x.from x.to.id)) → MasterHearsAlike excess w M x
 master_hears_alike excess w M which x there s to leads = by (talks w.cluster M x.from.id) refl
@@ -336,6 +341,7 @@ turned_parcels net net' p (q ∷ qs) same =
     one : map (parcel_of net') (turn net p q) ≡ turn_parcels p q (side_of net p q)
     one = (λ i. map (parcel_of (record { links = net'.links; histories = same i; packets = net'.packets })) (turn net p q)) ∙ turn_parcels_alike net p q
 
+-- the turn to all peers
 pub master_turn_alike : (w : World) (M : Master) → Sound shape w.net → MasterActs w (turned w (master_party M) (peers w.cluster M)).world M M (master_seen w M) (master_turn (master_seen w M))
 master_turn_alike w M s =
     let p = master_party M in
@@ -372,6 +378,7 @@ resync_histories : (net : Net Ledger) (p : Party) (qs : List Id) → (resync_all
 resync_histories net p [] = refl
 resync_histories net p (a ∷ qs) = resync_histories (move net (Resyncs p a)) p qs
 
+-- the resync of all peers
 pub master_resync_alike : (w : World) (M : Master) → Sound shape w.net
     → MasterActs w (resynced w (master_party M) (peers w.cluster M)).world M M (record { cluster = w.cluster; state = M; sides = resync_alone (sides_of w.net (master_party M)) (peers w.cluster M) }) []
 master_resync_alike w M s =
@@ -402,6 +409,7 @@ nothing_received q = by (is_agent q)
     by true = refl
     by false = refl
 
+-- the start of a master, with the end of its first step
 pub master_start_alike : (w : World) (h : HardState) (ran : List Party) (e : ℕ) → Sound shape w.net → ((q : Id) → w.net.histories (party master_id e) q ≡ []) → MasterStarts w h ran e
 master_start_alike w h ran e s none =
     let p = party master_id e in

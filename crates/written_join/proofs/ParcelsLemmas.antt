@@ -22,6 +22,7 @@ body_stays net net' g Delta x h =
     let here = l.same x.seq h.names.there in
     λ i. change_body (is_agent x.to.id) (is_agent x.from.id) (dropped_by x.from.id) (before i) (here i)
 
+-- old packets hold what they held
 pub parcels_stay : (net net' : Net Ledger) → Grows shape net.histories net'.histories → (xs : List Packet) → AllByRecursion (λ x. PacketNames shape net.histories x.kind x) xs → map (parcel_of net') xs ≡ map (parcel_of net) xs
 parcels_stay net net' g [] h = refl
 parcels_stay net net' g (x ∷ xs) h =
@@ -33,6 +34,7 @@ map_both : {A B C : Type 0} (f g : B → C) (h : A → B) → ((a : A) → f (h 
 map_both f g h same [] = refl
 map_both f g h same (x ∷ xs) = let r = map_both f g h same xs in λ i. same x i ∷ r i
 
+-- the packets of a turn hold what the side's do
 pub turn_parcels_alike : (net : Net Ledger) (p : Party) (q : Id) → map (parcel_of net) (turn net p q) ≡ turn_parcels p q (side_of net p q)
 turn_parcels_alike net p q =
     let e = side_of net p q in

@@ -5,7 +5,7 @@ use Rattle.fuxi_terms.specs.declared.vectors.Res.{Res}
 use Rattle.fuxi_terms.specs.declared.vectors.Sum.{Sum}
 use Rattle.fuxi_terms.specs.declared.answers.What.TheVariants.{Stranger}
 use Rattle.written_net.specs.Sides.{appended, resynced_side, HeardSide, heard_with, hears_side}
-use Rattle.written_net.specs.Net.{Net, Party, Id, Link, Packet, Heard, same_id, same_party, set_at, unmoved, hear, heard_of, comes, move, Posts, Turns, Resyncs, turn, last, at_index}
+use Rattle.written_net.specs.Net.{Net, Party, Id, Link, Packet, Heard, same_id, same_party, set_at, unmoved, hear, heard_of, comes, move, Posts, Turns, Resyncs, last, at_index}
 use Rattle.written_join.specs.Seen.{received_as, got_at, side_at, side_of, parcel_of}
 use Rattle.written_join.specs.Joins.{Leads}
 use Rattle.written_net.specs.Ledgers.{Ledger, nothing, same_ledger}
@@ -30,6 +30,7 @@ posted_side net p q l e =
     let other = set_other net.histories p q (net.histories p q ++ l ∷ []) (party q k.known) p.id (apart p q k.known e) in
     λ i. record { link = k; got = received_as p.id q (at_index nothing (other i) k.seq); sent = own i }
 
+-- what is published to a peer is appended to the side
 pub published_side : (net : Net Ledger) (p : Party) (o : Offer) → nat_eq p.id.role o.to.role ≡ false → side_of (publish_one net p o) p o.to ≡ appended o.forced o.ledger (side_of net p o.to)
 published_side net p o e = cases (o.forced || not (same_ledger (present net p o.to) o.ledger))
   where
@@ -41,11 +42,9 @@ published_side net p o e = cases (o.forced || not (same_ledger (present net p o.
 pub resynced_alike : (net : Net Ledger) (p : Party) (q : Id) → side_of (move net (Resyncs p q)) p q ≡ resynced_side (side_of net p q)
 resynced_alike net p q = ap (side_at net p q) (set_here net.links p q (record { known = (net.links p q).known; seq = (net.links p q).seq; acked = 0 }))
 
+-- a turn changes no side
 pub turned_alike : (net : Net Ledger) (p : Party) (q : Id) → side_of (move net (Turns p q)) p q ≡ side_of net p q
 turned_alike net p q = refl
-
-pub turn_alike : (net : Net Ledger) (p : Party) (q : Id) → turn net p q ≡ turn net p q
-turn_alike net p q = refl
 
 -- A party that did not act sees what it saw
 pub unmoved_side : (net net' : Net Ledger) (p p' : Party) (q : Id) → Sound shape net → Leaves p net net' → Grows shape net.histories net'.histories → same_party p p' ≡ false → side_of net' p' q ≡ side_of net p' q
@@ -67,6 +66,7 @@ hearing : (net : Net Ledger) (p : Party) (x : Packet) (ledger : Ledger) (n : Net
 hearing net p x ledger n true e = published_side n p (record { to = master_id; forced = false; ledger = ledger }) e
 hearing net p x ledger n false e = refl
 
+-- a packet for which the party has no ear
 pub strange : (a : Bool) (y z : Heard) → cond (not (a && false)) y z ≡ y
 strange true y z = refl
 strange false y z = refl

@@ -13,6 +13,7 @@ use Rattle.fuxi_terms.proofs.Alls.{all_append}
 use Rattle.fuxi_terms.proofs.Booleans.{both_true, either, either_case, not_false}
 use Rattle.written_net.proofs.NetLemmas.{id_is, set_at_all}
 
+-- after meeting the packet's sender its incarnation is the known one
 pub met_known : (l : Link) (inc : ℕ) → nat_lt inc l.known ≡ false → (met l inc).known ≡ inc
 met_known l inc e = either (λ (m : Link). m.known ≡ inc) (nat_lt l.known inc) (record { known = inc; seq = 0; acked = 0 }) l (λ _. refl) (λ t. grind (arith, nat_tests))
 
@@ -21,6 +22,7 @@ pub in_numbers : (P : Packet → Type 0) (f : ℕ → Packet) (a n : ℕ) → ((
 in_numbers P f a zero h = tt
 in_numbers P f a (suc n) h = (h a (omega arith) (omega arith), in_numbers P f (a + 1) n (λ i le lt. h i (omega arith) (omega arith)))
 
+-- a packet of the list has what all have
 pub found_within : (P : Packet → Type 0) (xs : List Packet) (i : ℕ) (x : Packet) → AllByRecursion P xs → slice_get xs i ≡ Some x → P x
 found_within P [] i x h e = cc
 found_within P (y ∷ ys) zero x h e = let same : y ≡ x = cc in subst P same h.0
@@ -116,6 +118,7 @@ module _ {L : Type 0} where
   link_more : (hs hs' : Party → Id → List L) → Grows hs hs' → (p : Party) (q : Id) (l : Link) → IsLinkWithin hs p q l → IsLinkWithin hs' p q l
   link_more hs hs' grows p q l h = record { place = omega (arith, h.place, grows (record { id = q; inc = l.known }) p.id); acked = omega (arith, h.acked, grows p q) }
 
+  -- each move keeps everything within its history
   pub move_bounded : (net : Net L) (m : Move L) → Bounded net → Bounded (move net m)
   move_bounded net (Starts p) b = record {
     links = λ p' q'. either_case (IsLinkWithin net.histories p' q') (same_party p p') unknown (net.links p' q') (λ _. fresh_within net.histories p' q' 0) (λ _. b.links p' q');
@@ -137,5 +140,6 @@ module _ {L : Type 0} where
     packets = b.packets;
   }
 
+  -- the silent net has nothing past its end
   pub silent_bounded : Bounded (silent {L = L})
   silent_bounded = record { links = λ p q. record { place = omega arith; acked = omega arith }; packets = tt }

@@ -4,6 +4,7 @@ use Rattle.std.specs.Prelude.{◌&&◌}
 use Rattle.written_net.specs.Net.{Party, Id, same_id, same_party, set_at}
 use Rattle.fuxi_terms.proofs.Booleans.{both_true, either_case, number_is}
 
+-- identities that a test finds the same are the same
 pub id_is : (a b : Id) → same_id a b ≡ true → a ≡ b
 id_is a b e =
     let h = both_true (nat_eq a.role b.role) _ e in
@@ -11,6 +12,7 @@ id_is a b e =
     let n = number_is _ _ h.1 in
     λ i. record { role = r i; number = n i }
 
+-- and parties
 pub party_is : (a b : Party) → same_party a b ≡ true → a ≡ b
 party_is a b e =
     let h = both_true (same_id a.id b.id) _ e in

@@ -15,9 +15,11 @@ use Rattle.written_net.proofs.NetLemmas.{id_is, set_at_all}
 use Rattle.written_net.proofs.SoundLemmas.{Grows, Longer, longer_itself, at_end, posted_longer, posted_sound, move_sound}
 use Rattle.fuxi_terms.proofs.SameEntries.{same_entries}
 
+-- the tests find each the same as itself
 pub same_id_itself : (q : Id) → same_id q q ≡ true
 same_id_itself q = rw (nat_itself q.role, nat_itself q.number) refl
 
+-- and each party
 pub same_party_itself : (p : Party) → same_party p p ≡ true
 same_party_itself p = rw (nat_itself p.id.role, nat_itself p.id.number, nat_itself p.inc) refl
 
@@ -35,9 +37,11 @@ same_ledger_is a b t =
 pub set_other : {A : Type 0} (f : Party → Id → A) (p : Party) (q : Id) (a : A) (p' : Party) (q' : Id) → same_party p p' ≡ false → set_at f p q a p' q' ≡ f p' q'
 set_other {A = A} f p q a p' q' e = ap (λ b. elim b as (λ _. A) [ true ↦ a | false ↦ f p' q' ]) (false_and _ (same_id q q') e)
 
+-- the changed place of a table of parties and peers
 pub set_here : {A : Type 0} (f : Party → Id → A) (p : Party) (q : Id) (a : A) → set_at f p q a p q ≡ a
 set_here {A = A} f p q a = ap (λ b. elim (b && same_id q q) as (λ _. A) [ true ↦ a | false ↦ f p q ]) (same_party_itself p) ∙ ap (λ b. elim b as (λ _. A) [ true ↦ a | false ↦ f p q ]) (same_id_itself q)
 
+-- another peer of the same party
 pub set_beside : {A : Type 0} (f : Party → Id → A) (p : Party) (q : Id) (a : A) (q' : Id) → same_id q q' ≡ false → set_at f p q a p q' ≡ f p q'
 set_beside {A = A} f p q a q' e = ap (λ b. elim (b && same_id q q') as (λ _. A) [ true ↦ a | false ↦ f p q' ]) (same_party_itself p) ∙ ap (λ b. elim b as (λ _. A) [ true ↦ a | false ↦ f p q' ]) e
 
@@ -46,18 +50,22 @@ pub record Leaves (p : Party) (net net' : Net Ledger) : Type 0 where
   pub histories : (p' : Party) (q : Id) → same_party p p' ≡ false → net'.histories p' q ≡ net.histories p' q
   pub links : (p' : Party) (q : Id) → same_party p p' ≡ false → net'.links p' q ≡ net.links p' q
 
+-- nothing is changed
 pub leaves_nothing : (p : Party) (net : Net Ledger) → Leaves p net net
 leaves_nothing p net = record { histories = λ p' q' e. refl; links = λ p' q' e. refl }
 
+-- one act after another
 pub leaves_then : (p : Party) (a b c : Net Ledger) → Leaves p a b → Leaves p b c → Leaves p a c
 leaves_then p a b c f g = record { histories = λ p' q' e. g.histories p' q' e ∙ f.histories p' q' e; links = λ p' q' e. g.links p' q' e ∙ f.links p' q' e }
 
+-- a start
 pub start_leaves : (net : Net Ledger) (p : Party) → Leaves p net (move net (Starts p))
 start_leaves net p = record { histories = λ p' q' e. refl; links = λ p' q' e. ap (λ b. elim b as (λ _. Link) [ true ↦ unknown | false ↦ net.links p' q' ]) e }
 
 post_leaves : (net : Net Ledger) (p : Party) (q : Id) (entry : Ledger) → Leaves p net (move net (Posts p q entry))
 post_leaves net p q entry = record { histories = λ p' q' e. set_other net.histories p q _ p' q' e; links = λ p' q' e. refl }
 
+-- hearing
 pub comes_leaves : (net : Net Ledger) (p : Party) (talks : Id → Bool) (x : Packet) → Leaves p net (comes net p talks (Some x))
 comes_leaves net p talks x = record { histories = λ p' q' e. refl; links = λ p' q' e. set_other net.links p x.from.id (heard_of net p talks x).link p' q' e }
 
@@ -65,6 +73,7 @@ comes_leaves net p talks x = record { histories = λ p' q' e. refl; links = λ p
 publish_one_links : (net : Net Ledger) (p : Party) (o : Offer) → (publish_one net p o).links ≡ net.links
 publish_one_links net p o = either (λ (n : Net Ledger). n.links ≡ net.links) _ _ _ (λ _. refl) (λ _. refl)
 
+-- publishing changes no link
 pub publish_links : (net : Net Ledger) (p : Party) (os : List Offer) → (publish net p os).links ≡ net.links
 publish_links net p [] = refl
 publish_links net p (o ∷ os) = publish_links (publish_one net p o) p os ∙ publish_one_links net p o
@@ -72,6 +81,7 @@ publish_links net p (o ∷ os) = publish_links (publish_one net p o) p os ∙ pu
 publish_one_leaves : (net : Net Ledger) (p : Party) (o : Offer) → Leaves p net (publish_one net p o)
 publish_one_leaves net p o = either (Leaves p net) _ _ _ (λ _. post_leaves net p o.to o.ledger) (λ _. leaves_nothing p net)
 
+-- and leaves the others
 pub publish_leaves : (net : Net Ledger) (p : Party) (os : List Offer) → Leaves p net (publish net p os)
 publish_leaves net p [] = leaves_nothing p net
 publish_leaves net p (o ∷ os) = leaves_then p net (publish_one net p o) (publish (publish_one net p o) p os) (publish_one_leaves net p o) (publish_leaves (publish_one net p o) p os)
@@ -83,12 +93,14 @@ grows_itself net = record { longer = λ p q. longer_itself nothing (net.historie
 longer_then : (h i j : List Ledger) → Longer nothing h i → Longer nothing i j → Longer nothing h j
 longer_then h i j a b = record { long = omega (arith, a.long, b.long); same = λ n le. b.same n (omega (arith, le, a.long)) ∙ a.same n le }
 
+-- one growth after another
 pub grows_then : (a b c : Net Ledger) → Grows shape a.histories b.histories → Grows shape b.histories c.histories → Grows shape a.histories c.histories
 grows_then a b c f g = record { longer = λ p q. longer_then _ _ _ (f.longer p q) (g.longer p q) }
 
 publish_one_grows : (net : Net Ledger) (p : Party) (o : Offer) → Grows shape net.histories (publish_one net p o).histories
 publish_one_grows net p o = either (λ (n : Net Ledger). Grows shape net.histories n.histories) _ _ _ (λ _. posted_longer shape net p o.to o.ledger) (λ _. grows_itself net)
 
+-- publishing lets histories grow
 pub publish_grows : (net : Net Ledger) (p : Party) (os : List Offer) → Grows shape net.histories (publish net p os).histories
 publish_grows net p [] = grows_itself net
 publish_grows net p (o ∷ os) = grows_then net (publish_one net p o) (publish (publish_one net p o) p os) (publish_one_grows net p o) (publish_grows (publish_one net p o) p os)
@@ -105,6 +117,7 @@ pub record HeadIsKnown (net : Net Ledger) (p : Party) (o : Offer) : Type 0 where
 publish_one_sound : (net : Net Ledger) (p : Party) (o : Offer) → HeadIsKnown net p o → Sound shape net → Sound shape (publish_one net p o)
 publish_one_sound net p o h s = either (Sound shape) _ _ _ (λ _. posted_sound shape net p o.to o.ledger h.head s) (λ _. s)
 
+-- publishing keeps a net sound, where each ledger has the head that is known
 pub publish_sound : (net : Net Ledger) (p : Party) (os : List Offer) → AllByRecursion (HeadIsKnown net p) os → Sound shape net → Sound shape (publish net p os)
 publish_sound net p [] h s = s
 publish_sound net p (o ∷ os) h s = publish_sound (publish_one net p o) p os
@@ -143,6 +156,7 @@ publish_keeps : (W : Id → Ledger) (net : Net Ledger) (p : Party) (os : List Of
 publish_keeps W net p [] q h before = before
 publish_keeps W net p (o ∷ os) q h before = publish_keeps W (publish_one net p o) p os q h.1 (publish_one_wanted W net p o q h.0 (λ _. before)).last
 
+-- after publishing, each offer's ledger is the last entry
 pub publish_presents : (W : Id → Ledger) (net : Net Ledger) (p : Party) (os : List Offer) → AllByRecursion (IsWanted W) os → AllByRecursion (λ o. present (publish net p os) p o.to ≡ W o.to) os
 publish_presents W net p [] h = tt
 publish_presents W net p (o ∷ os) h = (
@@ -158,6 +172,7 @@ pub record Acted (p : Party) (net net' : Net Ledger) : Type 0 where
   pub seq : (q : Id) → (net'.links p q).seq ≡ (net.links p q).seq
   pub leaves : Leaves p net net'
 
+-- turns to many peers
 pub send_all_acted : (net : Net Ledger) (p : Party) (qs : List Id) → AllByRecursion (λ q. Current shape net p q) qs → Sound shape net → Acted p net (send_all net p qs)
 send_all_acted net p [] h s = record { sound = s; histories = refl; known = λ q. refl; seq = λ q. refl; leaves = leaves_nothing p net }
 send_all_acted net p (q ∷ qs) h s =
@@ -169,6 +184,7 @@ send_all_acted net p (q ∷ qs) h s =
     same [] h = tt
     same (r ∷ rs) h = (record { head = h.0.head }, same rs h.1)
 
+-- resyncs of many peers
 pub resync_all_acted : (net : Net Ledger) (p : Party) (qs : List Id) → Sound shape net → Acted p net (resync_all net p qs)
 resync_all_acted net p [] s = record { sound = s; histories = refl; known = λ q. refl; seq = λ q. refl; leaves = leaves_nothing p net }
 resync_all_acted net p (q ∷ qs) s =

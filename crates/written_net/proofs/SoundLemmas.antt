@@ -20,6 +20,7 @@ pub record Longer {L : Type 0} (d : L) (h h' : List L) : Type 0 where
   pub long : length h ≤ length h'
   pub same : (i : ℕ) → i ≤ length h → at_index d h' i ≡ at_index d h i
 
+-- an entry of the first part of a longer history
 pub at_front : {L : Type 0} (d : L) (h ks : List L) (i : ℕ) → i ≤ length h → at_index d (h ++ ks) i ≡ at_index d h i
 at_front {L = L} d h ks zero le = refl
 at_front {L = L} d h ks (suc i) le = ap (λ o. unwrap_or o d) (there h i (omega arith))
@@ -29,6 +30,7 @@ at_front {L = L} d h ks (suc i) le = ap (λ o. unwrap_or o d) (there h i (omega 
     there (x ∷ xs) zero lt = refl
     there (x ∷ xs) (suc i) lt = there xs i (omega arith)
 
+-- the entry behind it
 pub at_end : {L : Type 0} (d : L) (h : List L) (x : L) (n : ℕ) → n ≡ length h + 1 → at_index d (h ++ x ∷ []) n ≡ x
 at_end {L = L} d h x zero e = absurd (omega arith)
 at_end {L = L} d h x (suc n) e = ap (λ k. unwrap_or (slice_get (h ++ x ∷ []) k) d) same ∙ ap (λ o. unwrap_or o d) (there h)
@@ -40,16 +42,20 @@ at_end {L = L} d h x (suc n) e = ap (λ k. unwrap_or (slice_get (h ++ x ∷ []) 
     there [] = refl
     there (y ∷ h) = there h
 
+-- a history begins with itself
 pub longer_itself : {L : Type 0} (d : L) (h : List L) → Longer d h h
 longer_itself d h = record { long = omega arith; same = λ i le. refl }
 
+-- and with more behind it
 pub longer_append : {L : Type 0} (d : L) (h ks : List L) → Longer d h (h ++ ks)
 longer_append d h ks = record { long = simp length-append (omega arith); same = at_front d h ks }
 
 module _ {L : Type 0} (S : Shape L) where
+  -- all histories begin with what they were
   pub record Grows (hs hs' : Party → Id → List L) : Type 0 where
     pub longer : (p : Party) (q : Id) → Longer S.nothing (hs p q) (hs' p q)
 
+  -- what was named stays named
   pub names_longer : (on : Bool) (h h' : List L) (n own : ℕ) → Longer S.nothing h h' → Names S on h n own → Names S on h' n own
   names_longer on h h' n own g k = record {
     there = omega (arith, g.long, k.there);
@@ -73,6 +79,7 @@ module _ {L : Type 0} (S : Shape L) where
   fresh_names : (hs : Party → Id → List L) (p : Party) (q : Id) (n : ℕ) → LinkNames S hs p q (record { known = n; seq = 0; acked = 0 })
   fresh_names hs p q n = record { place = names_none hs _ _ _; acked = names_none hs _ _ _ }
 
+  -- meeting a new incarnation keeps what a link names
   pub met_names : (hs : Party → Id → List L) (p : Party) (q : Id) (l : Link) (inc : ℕ) → LinkNames S hs p q l → LinkNames S hs p q (met l inc)
   met_names hs p q l inc h = either (LinkNames S hs p q) _ _ _ (λ _. fresh_names hs p q inc) (λ _. h)
 
@@ -130,6 +137,7 @@ module _ {L : Type 0} (S : Shape L) where
   after_names hs p (Ledger fault) l x known to t a h = h
   after_names hs p (Exceeds total has) l x known to t a h = h
 
+  -- a link after hearing names what is there
   pub record HeardNames (hs : Party → Id → List L) (p : Party) (q : Id) (r : Heard) : Type 0 where
     pub link : LinkNames S hs p q r.link
 
@@ -138,6 +146,7 @@ module _ {L : Type 0} (S : Shape L) where
     link = after_names hs p (word_of x.kind p.inc m x) m x (met_known l x.from.inc t) to (λ e. taken_names hs x.kind p.inc m x e n) (λ e. acked_names hs x.kind p.inc m x e n) (met_names hs p x.from.id l x.from.inc h);
   }
 
+  -- the rules of hearing name what is there
   pub hear_names : (hs : Party → Id → List L) (p : Party) (talks : Bool) (l : Link) (x : Packet) → PacketNames S hs x.kind x → LinkNames S hs p x.from.id l → HeardNames hs p x.from.id (hear p talks (length (hs p x.from.id)) l x)
   hear_names hs p talks l x n h =
       let peer = hear_peer p.inc (length (hs p x.from.id)) l x in
@@ -217,6 +226,7 @@ module _ {L : Type 0} (S : Shape L) where
       after (Ledger fault) m = omega arith
       after (Exceeds total has) m = omega arith
 
+  -- hearing keeps a net sound
   pub comes_sound : (net : Net L) (p : Party) (talks : Id → Bool) (o : Option Packet) → ((x : Packet) → o ≡ Some x → PacketNames S net.histories x.kind x) → Sound S net → Sound S (comes net p talks o)
   comes_sound net p talks None f s = s
   comes_sound net p talks (Some x) f s =
@@ -254,6 +264,7 @@ module _ {L : Type 0} (S : Shape L) where
         | false ↦ λ t. let within : j ≤ length h = grind (arith, nat_tests) in omega (arith, head_at j within, head_at i (omega (arith, ij, within)), r.rises i j ij within)
       ] refl
 
+  -- posting an entry with the known head keeps a net sound
   pub posted_sound : (net : Net L) (p : Party) (q : Id) (entry : L) → (S.headed p.id q ≡ true → S.head entry ≡ (net.links p q).known) → Sound S net → Sound S (move net (Posts p q entry))
   posted_sound net p q entry ok s =
       let net' = move net (Posts p q entry) in

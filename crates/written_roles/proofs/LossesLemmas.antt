@@ -169,6 +169,7 @@ victims_loss c M t vs k e = by (is_enough c M t set && is_some_set set) refl e
     by true b e = let same : needed_of set c M t set ≡ vs = cc in subst (IsLoss c M t) same (needed_loss set c M t set (record { drawn = drawn; enough = (both_true (is_enough c M t set) (is_some_set set) b).0 }))
     by false b e = cc
 
+-- the losers of the first plan
 pub plan_loss : (ss : List Spot) (c : ClusterRecord) (M : Master) (p : Plan) → T (is_sorted spot_cmp M.table) → first_plan ss c M ≡ Some p → IsLoss c M p.served p.losers
 plan_loss [] c M p k e = cc
 plan_loss (s ∷ ss) c M p k e = elim (victims c M s) as (λ o. victims c M s ≡ o → (elim o as (λ _. Option Plan) [ None ↦ first_plan ss c M | Some vs ↦ Some (record { served = s; losers = vs }) ]) ≡ Some p → IsLoss c M p.served p.losers) [

@@ -20,10 +20,12 @@ pub least_has : (P : Ranked → Type 0) (r : Ranked) (rs : List Ranked) → P r 
 least_has P r [] h k = h
 least_has P r (s ∷ ss) h k = least_has P (cond (is_lt (slice_cmp nat_cmp s.rank r.rank)) s r) ss (either P (is_lt (slice_cmp nat_cmp s.rank r.rank)) s r (λ _. k.0) (λ _. h)) k.1
 
+-- what holds of each number that passes holds of what is made of them
 pub all_mapped : (P : Ranked → Type 0) (f : ℕ → Ranked) (q : ℕ → Bool) (ms : List ℕ) → ((m : ℕ) → q m ≡ true → P (f m)) → AllByRecursion P (map f (filter q ms))
 all_mapped P f q [] h = tt
 all_mapped P f q (m ∷ ms) h = elim (q m) as (λ b. q m ≡ b → AllByRecursion P (map f (cond b (m ∷ filter q ms) (filter q ms)))) [ true ↦ λ e. (h m e, all_mapped P f q ms h) | false ↦ λ e. all_mapped P f q ms h ] refl
 
+-- of two lists together
 pub all_joined : (P : Ranked → Type 0) (xs ys : List Ranked) → AllByRecursion P xs → AllByRecursion P ys → AllByRecursion P (xs ++ ys)
 all_joined P [] ys h k = k
 all_joined P (x ∷ xs) ys h k = (h.0, all_joined P xs ys h.1 k)
@@ -123,8 +125,10 @@ none_of_line c M place (p ∷ ps) e a u m has there =
       | false ↦ λ t has. none_of_line c M (place + 1) ps parts.1 a u m has there
     ] refl has
 
+-- where no pair is found, none is placeable
 pub nothing_placeable : (c : ClusterRecord) (M : Master) → first_placeable c M ≡ None → NothingPlaceable c M
 nothing_placeable c M e a u m has there = none_of_line c M 0 M.line (no_candidates _ e) a u m has there
 
+-- after settling nothing is placeable
 pub settled_nothing : (c : ClusterRecord) (M : Master) → NothingPlaceable c (settled c M)
 settled_nothing c M = nothing_placeable c (settled c M) (settled_none c M)

@@ -19,6 +19,7 @@ use Rattle.fuxi_terms.proofs.Booleans.{number_is}
 use Rattle.written_net.specs.Sides.{Side, shown, appended}
 use Rattle.written_roles.specs.MasterRoles.{set_side, publish_alone, offers_alone, side_after}
 
+-- no peer stands twice in the list
 pub AreDistinct : List Id → Type 0
 AreDistinct [] = Unit {0}
 AreDistinct (q ∷ qs) = (is_one_of q qs ≡ false) × AreDistinct qs
@@ -83,6 +84,7 @@ none_below r k = by (nat_eq r 2) (nat_lt k 0) (grind (arith, nat_tests))
     by true b e = sym e
     by false b e = refl
 
+-- the agents of the cluster
 pub agents_listed : (n : ℕ) (q : Id) → is_one_of q (map agent_id (below n)) ≡ (is_agent q && nat_lt q.number n)
 agents_listed zero q = none_below q.role q.number
 agents_listed (suc n) q =
@@ -108,6 +110,7 @@ known_more r a n j o = by (nat_eq 3 r) (nat_eq r 3) (nat_eq n a) (grind (arith, 
     by false true z e = cc
     by false false z e = refl
 
+-- the applications of known jobs
 pub apps_listed : (jobs : List KnownJob) (q : Id) → is_one_of q (map app_id (job_numbers jobs)) ≡ (is_app q && is_known jobs q.number)
 apps_listed [] q = by (nat_eq q.role 3)
   where
@@ -184,6 +187,7 @@ apart (n ∷ ns) ms = (one ms, apart ns ms)
     one [] = refl
     one (m ∷ ms) = one ms
 
+-- no peer of a master stands twice
 pub peers_distinct : (c : ClusterRecord) (M : Master) → AreDistinct (peers c M)
 peers_distinct c M = distinct_both (map agent_id (below (length c.machines))) (map app_id (job_numbers M.jobs)) (agents_distinct (length c.machines)) (rising_distinct 0 (job_numbers M.jobs) (numbers_rise M.jobs)) (apart (below (length c.machines)) (job_numbers M.jobs))
 

@@ -129,6 +129,7 @@ caught_table net s p all is_master_id =
     subst (λ d. cond (nat_eq (net.links p d).seq 0) (present net p d).rows (view net p d).rows ≡ (present net s p.id).rows) is_master_id
     (ap (λ b. cond b (present net p s.id).rows (view net p s.id).rows) some ∙ ap (λ (l : Ledger). l.rows) (caught_up net s p parts.0))
 
+-- an agent that has heard all has the master's counts
 pub agent_agrees : (w : World) (e : ℕ) (M : Master) (m : ℕ) (g : Agent) → Invariant w → find nat_cmp e w.masters ≡ Some M → is_quiet w e ≡ true → find nat_cmp m w.agents ≡ Some g
     → (a u : ℕ) → row_count (agent_table w.net (party (agent_id m) g.boot)) a u ≡ held_on M.table a u m
 agent_agrees w e M m g h found quiet runs a u =
@@ -205,6 +206,7 @@ usable_is net p G u m n seen counts free = subst (λ (l : Ledger). at_key l (cou
         let z : uncredited G (present net p master_id) p.inc u m ≡ 0 = ap (λ b. at_key (present net p master_id) (back_key u m) - cond b (at_key G (credited_key u m)) 0) same.0 ∙ (let e = same.1 in omega (arith, e)) in
         omega (arith, counts, z)
 
+-- and so has an application
 pub app_agrees : (w : World) (e : ℕ) (M : Master) (a : ℕ) (g : App) → Invariant w → find nat_cmp e w.masters ≡ Some M → is_quiet w e ≡ true → find nat_cmp a w.apps ≡ Some g → is_known M.jobs a ≡ true
     → (u m : ℕ) → has_machine w.cluster m ≡ true → app_held w.net (party (app_id a) g.boot) g u m ≡ held_on M.table a u m
 app_agrees w e M a g h found quiet runs known u m there =

@@ -57,17 +57,22 @@ module _ (P : Step → Type 0) (w : World) (stays : (r : Refusal) → P (refused
   submits_has j made = wrote_has P w stays ((not (has_group w.cluster j.group), NoGroup) ∷ job_tests w.cluster.resources j) w.hard M.epoch (Submission (eight_places j))
       (λ k. record { hard = k; change = record { state = record M { jobs = with_job (eight_places j) M.jobs }; forced = app_id j.number ∷ [] } }) f (λ _ t. made t)
 
+  -- a job that ends
   pub finishes_has : (a : ℕ) → P (f (record { hard = finished w.hard a; change = record { state = ended_in M a; forced = [] } })) → P (on_result w (command_of w.cluster w.hard M (Finishes a)) f)
   finishes_has a made = wrote_has P w stays [] w.hard M.epoch (Finishing a) (λ k. record { hard = k; change = record { state = ended_in M a; forced = [] } }) f (λ _ _. made)
 
+  -- a ban
   pub bans_has : (m : ℕ) → P (f (record { hard = banned w.hard m; change = record { state = banned_in M m; forced = [] } })) → P (on_result w (command_of w.cluster w.hard M (BansMachine m)) f)
   bans_has m made = wrote_has P w stays ((not (has_machine w.cluster m), NoMachine) ∷ []) w.hard M.epoch (Banning m) (λ k. record { hard = k; change = record { state = banned_in M m; forced = [] } }) f (λ _ _. made)
 
+  -- a ban lifted
   pub unbans_has : (m : ℕ) → P (f (record { hard = unbanned w.hard m; change = record { state = record M { bans = without_number m M.bans }; forced = [] } })) → P (on_result w (command_of w.cluster w.hard M (UnbansMachine m)) f)
   unbans_has m made = wrote_has P w stays ((not (has_machine w.cluster m), NoMachine) ∷ []) w.hard M.epoch (Unbanning m) (λ k. record { hard = k; change = record { state = record M { bans = without_number m M.bans }; forced = [] } }) f (λ _ _. made)
 
+  -- serving from here on
   pub begins_has : P (f (record { hard = w.hard; change = record { state = record M { serving = true }; forced = [] } })) → P (on_result w (command_of w.cluster w.hard M StartsServing) f)
   begins_has made = changed_has P w stays ((M.serving, AlreadyServing) ∷ []) w.hard (record { state = record M { serving = true }; forced = [] }) f made
 
+  -- a preemption
   pub makes_room_has : ((p : Plan) → plan_of w.cluster M ≡ Some p → P (f (record { hard = w.hard; change = record { state = preempted M p; forced = [] } }))) → P (on_result w (command_of w.cluster w.hard M MakesRoom) f)
   makes_room_has made = found_changed_has P w stays ((not M.serving, NotServing) ∷ []) w.hard (plan_of w.cluster M) NothingToPreempt (λ p. record { state = preempted M p; forced = [] }) f made

@@ -174,6 +174,7 @@ stays_back h h' u m e v l k = record {
   is = k.is ∙ sym (ap (λ (x : Ledger). at_key x (back_key u m)) (l.same k.place k.there));
 }
 
+-- over all masters and epochs
 pub credited_once : (c : ClusterRecord) (es : List Event) → ((es : List Event) → Invariant (run c es)) → AllCreditedOnce c es
 credited_once c es always a b u m moment epochs rise =
     let p = party (app_id a) b in

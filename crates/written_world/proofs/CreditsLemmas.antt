@@ -41,6 +41,7 @@ credited_view net net' M views seqs h = record {
   uncredited = h.uncredited;
 }
 
+-- a master with the same credits
 pub credited_like : (net : Net Ledger) (M N : Master) → N.epoch ≡ M.epoch → N.jobs ≡ M.jobs → N.credited ≡ M.credited → IsCredited net M → IsCredited net N
 credited_like net M N epoch jobs credited h = record {
   credits = λ a alive u m. ap (λ cs. count key_cmp (unwrap_or (find nat_cmp a cs) []) (credited_key u m)) credited ∙ h.credits a (subst (λ js. is_live js a ≡ true) jobs alive) u m
@@ -53,6 +54,7 @@ credited_like net M N epoch jobs credited h = record {
 pub found_put : {A : Type 0} (a : ℕ) (x d : A) (es : List (ℕ × A)) → unwrap_or (find nat_cmp a (put nat_cmp a x es)) d ≡ x
 found_put a x d es = ap (λ o. unwrap_or o d) (find-put nat_cmp nat_cmp_total a a x es ∙ ap (λ r. cond (is_eq r) (Some x) (find nat_cmp a es)) (tied_itself nat_cmp_total a))
 
+-- another entry of the map
 pub put_beside : {A : Type 0} (a b : ℕ) (x : A) (es : List (ℕ × A)) → nat_eq b a ≡ false → find nat_cmp b (put nat_cmp a x es) ≡ find nat_cmp b es
 put_beside a b x es e = find-put nat_cmp nat_cmp_total b a x es ∙ ap (λ t. cond t (Some x) (find nat_cmp b es)) (apart (eq_by_cmp nat_cmp b a) refl)
   where

@@ -92,6 +92,7 @@ publish_one_each P net p o here old q n =
         (subst (λ h. P o.to (at_index nothing h n)) (sym (set_here net.histories p o.to (net.histories p o.to ++ o.ledger ∷ []))) (at_append (P o.to) (net.histories p o.to) o.ledger here (old o.to) n))
     by false e = subst (λ h. P q (at_index nothing h n)) (sym (set_beside net.histories p o.to (net.histories p o.to ++ o.ledger ∷ []) q e)) (old q n)
 
+-- a fact of each offer is one of each entry
 pub publish_each : (P : Id → Ledger → Type 0) (net : Net Ledger) (p : Party) (os : List Offer) → AllByRecursion (λ o. P o.to o.ledger) os → ((q : Id) (n : ℕ) → P q (at_index nothing (net.histories p q) n)) → (q : Id) (n : ℕ) → P q (at_index nothing ((publish net p os).histories p q) n)
 publish_each P net p [] h old = old
 publish_each P net p (o ∷ os) h old = publish_each P (publish_one net p o) p os h.1 (publish_one_each P net p o h.0 old)
@@ -102,12 +103,15 @@ published_demands c units net p ledger f w =
     either (λ (n : Net Ledger). DemandsHold c units (n.histories p master_id)) (false || not (same_ledger (present net p master_id) ledger)) (move net (Posts p master_id ledger)) net
     (λ _. subst (DemandsHold c units) (sym (set_here net.histories p master_id (net.histories p master_id ++ ledger ∷ []))) (demands_append c units (net.histories p master_id) ledger f w)) (λ _. w)
 
+-- the jobs that are known stay, with their units
 pub record KnowsMore (jobs jobs' : List KnownJob) : Type 0 where
   pub known : (a : ℕ) → is_known jobs a ≡ true → (is_known jobs' a ≡ true) × (units_of jobs' a ≡ units_of jobs a)
 
+-- nothing is added
 pub knows_itself : (jobs : List KnownJob) → KnowsMore jobs jobs
 knows_itself jobs = record { known = λ a k. (k, refl) }
 
+-- one addition after another
 pub knows_then : (a b c : List KnownJob) → KnowsMore a b → KnowsMore b c → KnowsMore a c
 knows_then a b c f g = record { known = λ j k. let x = f.known j k in let y = g.known j x.0 in (y.0, y.1 ∙ x.1) }
 
@@ -119,6 +123,7 @@ more_units jobs jobs' k a = by (job_of jobs a) refl
     by None e = let z : unit_count jobs a ≡ 0 = ap (λ o. length (unwrap_or (option_map (λ (j : KnownJob). j.job.units) o) [])) e in omega (arith, z)
     by (Some j) e = let s : unit_count jobs' a ≡ unit_count jobs a = ap length (k.known a (ap is_some e)).1 in omega (arith, s)
 
+-- demands hold for more jobs
 pub wider : (c : ClusterRecord) (jobs jobs' : List KnownJob) (a : ℕ) (h : List Ledger) → KnowsMore jobs jobs' → DemandsHold c (unit_count jobs a) h → DemandsHold c (unit_count jobs' a) h
 wider c jobs jobs' a h k w = record { backs = w.backs; anew = w.anew; tidy = w.tidy; ranged = λ n q out. w.ranged n q (narrow q (unit_count jobs a) (unit_count jobs' a) (more_units jobs jobs' k a) out) }
   where
@@ -153,6 +158,7 @@ backs_between h known r w i (suc j) le top e u m = elim (nat_lt j i) as (λ b. n
 at_changed : (d : Ledger) (k : Key) (n : ℕ) (q : Key) → at_key (changed_demand d k n) q ≡ cond (eq_by_cmp key_cmp q k) n (at_key d q)
 at_changed d k n q = count-set_count key_total d.entries k n q
 
+-- a changed demand may follow on the one before
 pub changed_follows : (c : ClusterRecord) (units : ℕ) (d : Ledger) (k : Key) (n : ℕ) → n ≤ greatest_in_demand k → is_there c units k ≡ true → (is_back k ≡ true → at_key d k ≤ n) → IsTidy d → IsRanged c units d → MayFollow c units d (changed_demand d k n)
 changed_follows c units d k n le there rises t r = record {
   backs = λ e u m. backs u m (eq_by_cmp key_cmp (back_key u m) k) refl;

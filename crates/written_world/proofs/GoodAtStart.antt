@@ -12,6 +12,7 @@ use Rattle.written_net.specs.Sound.{Sound, Names}
 use Rattle.written_world.specs.Good.{EntriesFit, AllRan, IsTidy, IsOfJob, Written, Good}
 use Rattle.written_net.specs.Channels.{shape}
 
+-- an empty history
 pub empty_at : (n : ℕ) → at_index nothing [] n ≡ nothing
 empty_at zero = refl
 empty_at (suc n) = refl
@@ -19,6 +20,7 @@ empty_at (suc n) = refl
 no_rows : (c : ClusterRecord) (m n : ℕ) → RowsFit c m (at_index nothing [] n).rows
 no_rows c m n = subst (λ (l : Ledger). RowsFit c m l.rows) (sym (empty_at n)) (λ i lt. omega arith)
 
+-- sizes
 pub fit_at_start : (c : ClusterRecord) → EntriesFit (empty_world c)
 fit_at_start c = record {
   rows = λ e m n. no_rows c m n;
@@ -32,6 +34,7 @@ no_entry has own = record { there = omega arith; head = λ _ first. absurd (omeg
 no_head : (n : ℕ) → (at_index nothing [] n).head ≡ 0
 no_head n = ap (λ (l : Ledger). l.head) (empty_at n)
 
+-- the silent net is sound
 pub sound_at_start : Sound shape silent
 sound_at_start = record {
   links = λ p q. record { place = no_entry _ _; acked = no_entry _ _ };
@@ -48,6 +51,7 @@ no_number n k = ap (λ (l : Ledger). at_key l k) (empty_at n)
 tidy_nothing : IsTidy nothing
 tidy_nothing = record { sorted = tt; positive = tt; within = tt }
 
+-- demands
 pub written_at_start : (c : ClusterRecord) → Written (empty_world c)
 written_at_start c = record {
   backs = λ a b n within. absurd (omega (arith, within));
@@ -57,6 +61,7 @@ written_at_start c = record {
   sizes = λ e m n. subst (λ (l : Ledger). AllByRecursion (λ r. IsOfJob [] r.0) l.rows) (sym (empty_at n)) tt;
 }
 
+-- all of it
 pub good_at_start : (c : ClusterRecord) → Good (empty_world c)
 good_at_start c = record {
   sizes = fit_at_start c;

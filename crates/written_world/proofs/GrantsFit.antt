@@ -160,10 +160,12 @@ GrantsFit c jobs a l = (n m i : ℕ) → i < c.resources → units_total_at jobs
 abbrev pub NoGrants : List KnownJob → ℕ → Ledger → Type 0
 NoGrants jobs a l = is_known jobs a ≡ false → (u m : ℕ) → at_key l (count_key u m) ≡ 0
 
+-- grants of a job fit each machine, and an unknown job has none
 pub record GrantHolds (c : ClusterRecord) (jobs : List KnownJob) (a : ℕ) (l : Ledger) : Type 0 where
   pub fits : GrantsFit c jobs a l
   pub none : NoGrants jobs a l
 
+-- no number, no share
 pub no_share : (jobs : List KnownJob) (a n i : ℕ) (number : ℕ → ℕ) → ((u : ℕ) → number u ≡ 0) → units_total_at jobs a n number i ≡ 0
 no_share jobs a n i number h =
     let z = one_unit (λ u. number u * size_at jobs a u i) 0 n (λ u _. gone u) in
@@ -180,6 +182,7 @@ no_share jobs a n i number h =
 units_alike : (jobs jobs' : List KnownJob) (a n i : ℕ) (number : ℕ → ℕ) → units_of jobs' a ≡ units_of jobs a → units_total_at jobs' a n number i ≡ units_total_at jobs a n number i
 units_alike jobs jobs' a n i number same = ap (λ us. sum_by (λ u. number u * at_place (unwrap_or (slice_get us u) no_unit).size i) (below n)) same
 
+-- grants hold for more jobs
 pub grant_wider : (c : ClusterRecord) (jobs jobs' : List KnownJob) (a : ℕ) (l : Ledger) → KnowsMore jobs jobs' → GrantHolds c jobs a l → GrantHolds c jobs' a l
 grant_wider c jobs jobs' a l more h = by (is_known jobs a) refl
   where
@@ -225,5 +228,6 @@ grants_hold c jobs M boot a tabled more h = by (is_known M.jobs a) refl
           none = λ _. zero_at;
         }
 
+-- the empty grants
 pub nothing_granted : (c : ClusterRecord) (jobs : List KnownJob) (a : ℕ) → GrantHolds c jobs a nothing
 nothing_granted c jobs a = record { fits = λ n m i lt. let z = no_share jobs a n i (λ u. 0) (λ u. refl) in omega (arith, z); none = λ _ u m. refl }

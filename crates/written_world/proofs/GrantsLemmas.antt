@@ -39,6 +39,7 @@ not_tied q k differs = by (eq_by_cmp key_cmp q k) refl
 kind_differs : (q k : Key) → nat_eq q.what k.what ≡ false → q ≡ k → ⊥
 kind_differs q k e same = let s : q.what ≡ k.what = ap (λ (x : Key). x.what) same in let t : nat_eq q.what k.what ≡ true = grind (arith, nat_tests, s) in cc
 
+-- the entries that say which machines are reported
 abbrev pub reported_entries : List ℕ → List (Key × ℕ)
 reported_entries ms = map (λ m. (reported_key m, 1)) ms
 
@@ -90,6 +91,7 @@ module _ (M : Master) (boot a : ℕ) (h : IsInOrder M) where
       (find_behind key_cmp (count_key u m) (reported_entries M.reported) (count_entries a M.table ++ credited_of M a) (no_reported (count_key u m) refl M.reported)
       ∙ find_front key_cmp (count_key u m) (count_entries a M.table) (credited_of M a) (h.plain a u m) ∙ counts_found a u m M.table)
 
+  -- the credits of the grants are those of the master
   pub grants_credits : (u m : ℕ) → at_key (grants M boot a) (credited_key u m) ≡ count key_cmp (credited_of M a) (credited_key u m)
   grants_credits u m = ap (λ o. unwrap_or o 0)
       (find_behind key_cmp (credited_key u m) (reported_entries M.reported) (count_entries a M.table ++ credited_of M a) (no_reported (credited_key u m) refl M.reported)

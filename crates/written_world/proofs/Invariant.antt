@@ -42,6 +42,7 @@ pub record IsShowing (c : ClusterRecord) (hard : HardState) (net : Net Ledger) (
   pub credited : IsCredited net M
   pub shows : AllByRecursion (λ q. present net (master_party M) q ≡ projection net M q) (peers c M)
 
+-- a running party has joined, and is not above the last boot
 pub record IsJoined (last_boot : ℕ) (net : Net Ledger) (p : Party) : Type 0 where
   pub ran : p.inc ≤ last_boot
   pub joined : HasJoined net p
@@ -60,6 +61,7 @@ pub record EntryHolds (c : ClusterRecord) (jobs : List KnownJob) (q : Id) (l : L
   pub rows : is_agent q ≡ true → RowsFit c q.number l.rows
   pub grants : is_app q ≡ true → GrantHolds c jobs q.number l
 
+-- the invariant: what holds of the net, of each running party and of all that was ever sent
 pub record Invariant (w : World) : Type 0 where
   pub sound : Sound shape w.net
   pub unstarted : (p : Party) (q : Id) → top w p.id < p.inc → w.net.histories p q ≡ []
@@ -144,6 +146,7 @@ pub record Stepped (w w' : World) (p : Party) : Type 0 where
   pub entries : (e : ℕ) → (same_party p (party master_id e) ≡ false) ⊎ ((q : Id) (n : ℕ) → EntryHolds w'.cluster w'.hard.jobs q (at_index nothing (w'.net.histories (party master_id e) q) n))
   pub reports : (m b : ℕ) → (same_party p (party (agent_id m) b) ≡ false) ⊎ ((n : ℕ) → RowsFit w'.cluster m (at_index nothing (w'.net.histories (party (agent_id m) b) master_id) n).rows)
 
+-- a step of one party keeps it
 pub stepped : (w w' : World) (p : Party) → Invariant w → Stepped w w' p → Invariant w'
 stepped w w' p h s = record {
   sound = s.sound;
@@ -224,6 +227,7 @@ ready_keeps c M = let N = line_up (phased c M) in
       | false ↦ record { epoch = refl; jobs = refl; credited = refl }
     ]
 
+-- the epoch stays
 pub ready_epoch : (c : ClusterRecord) (M : Master) → (ready c M).epoch ≡ M.epoch
 ready_epoch c M = (ready_keeps c M).epoch
 
@@ -265,6 +269,7 @@ finished c net R forced s = record {
     shows [] h = tt
     shows (q ∷ qs) h = (h.0 ∙ ap (λ (l : Party → Id → Link). cond (is_agent q) (row R q.number) (grants R (l (master_party R) q).known q.number)) (sym (publish_links net (master_party R) (offers c net R forced))), shows qs h.1)
 
+-- the end of a master's step keeps it
 pub finish_invariant : (w : World) (hard : HardState) (ran : List Party) (net : Net Ledger) (M : Master) (forced : List Id) → Invariant w → w.hard.fence ≤ hard.fence → KnowsMore w.hard.jobs hard.jobs → M.epoch ≤ hard.fence → KnowsMore M.jobs hard.jobs → IsInOrder M → FitsMachines w.cluster M → IsCredited net M
     → Sound shape net → Leaves (master_party M) w.net net → Grows shape w.net.histories net.histories → net.histories ≡ w.net.histories → Invariant (end_step (record w { hard = hard; ran = ran }) net M forced)
 finish_invariant w hard ran net M forced h up more own knows t hs cr s l gr kept =

@@ -431,9 +431,11 @@ at_start c = record {
 always : (c : ClusterRecord) (es : List Event) → Invariant (run c es)
 always c es = (run_holds es (empty_world c) (at_start c)).it
 
+-- in every state: the net is sound
 pub always_sound : (c : ClusterRecord) (es : List Event) → Sound shape (run c es).net
 always_sound c es = (always c es).sound
 
+-- what is shown
 pub always_shown : (c : ClusterRecord) (es : List Event) → AllShown (run c es)
 always_shown c es = let h = always c es in record {
   masters = λ e M found. (h.masters e M found).shows;
@@ -441,21 +443,27 @@ always_shown c es = let h = always c es in record {
   apps = λ a g found. (h.apps a g found).joined;
 }
 
+-- what is credited
 pub always_credited : (c : ClusterRecord) (es : List Event) → AllCredited (run c es)
 always_credited c es e M found = ((always c es).masters e M found).credited
 
+-- numbers given back
 pub always_backs : (c : ClusterRecord) (es : List Event) → AllGiveBacks (run c es).net
 always_backs c es = record { rise = λ a b. ((always c es).written a b).backs; anew = λ a b. ((always c es).written a b).anew }
 
+-- credited once
 pub always_credited_once : (c : ClusterRecord) (es : List Event) → AllCreditedOnce c es
 always_credited_once c es = credited_once c es (always c)
 
+-- counted once
 pub always_counts : (c : ClusterRecord) (es : List Event) (a : ℕ) (g : App) → find nat_cmp a (run c es).apps ≡ Some g → (m : ℕ) → CountsOnce (run c es) a g m
 always_counts c es a g found m = counts_once (run c es) a g m (always c es) found
 
+-- agents' tables fit
 pub always_fit : (c : ClusterRecord) (es : List Event) → AllFit (run c es)
 always_fit c es m g found = table_fits (run c es) m g (always c es)
 
+-- agreement
 pub always_agree : (c : ClusterRecord) (es : List Event) → AllAgree (run c es)
 always_agree c es e M found quiet = let h = always c es in record {
   agents = λ m g runs a u. agent_agrees (run c es) e M m g h found quiet runs a u;

@@ -29,6 +29,7 @@ new_job : (jobs : List KnownJob) (j : JobRecord) (a : ℕ) → is_known jobs a �
 new_job [] j a e = refl
 new_job (k ∷ ks) j a e = elim (nat_eq k.job.number a) as (λ b. is_some (cond b (Some k) (job_of ks a)) ≡ false → cond b (Some k) (job_of (with_job j ks) a) ≡ cond (nat_eq j.number a) (Some (record { job = j; ended = false })) None) [ true ↦ λ e. cc | false ↦ λ e. new_job ks j a e ] e
 
+-- a submitted job
 pub job_added : (jobs : List KnownJob) (j : JobRecord) → KnowsMore jobs (with_job j jobs)
 job_added jobs j = record { known = λ a k. let same = old_job jobs j a k in (ap is_some same ∙ k, ap (λ o. unwrap_or (option_map (λ (j : KnownJob). j.job.units) o) []) same) }
 
@@ -101,6 +102,7 @@ ended_live a (k ∷ ks) b e = elim (nat_eq k.job.number a) as (λ t. unwrap_or (
     other before true e = e
     other before false e = before e
 
+-- a job that ends keeps its units
 pub ended_units_of : (a : ℕ) (jobs : List KnownJob) (b : ℕ) → units_of (with_ended a jobs) b ≡ units_of jobs b
 ended_units_of a [] b = refl
 ended_units_of a (k ∷ ks) b = elim (nat_eq k.job.number a) as (λ t. unwrap_or (option_map (λ (j : KnownJob). j.job.units) (let k' : KnownJob = cond t (record { job = k.job; ended = true }) k in cond (nat_eq k'.job.number b) (Some k') (job_of (with_ended a ks) b))) [] ≡ units_of (k ∷ ks) b) [
@@ -112,12 +114,15 @@ ended_units_of a (k ∷ ks) b = elim (nat_eq k.job.number a) as (λ t. unwrap_or
     one before true x e = e
     one before false x e = before
 
+-- and stays known
 pub ended_knows : (a : ℕ) (jobs jobs' : List KnownJob) → KnowsMore jobs jobs' → KnowsMore jobs (with_ended a jobs')
 ended_knows a jobs jobs' more = record { known = λ b k. let m = more.known b k in (ended_known a jobs' b ∙ m.0, ended_units_of a jobs' b ∙ m.1) }
 
+-- in two lists
 pub both_ended : (a : ℕ) (jobs jobs' : List KnownJob) → KnowsMore jobs jobs' → KnowsMore (with_ended a jobs) (with_ended a jobs')
 both_ended a jobs jobs' more = record { known = λ b k. let m = more.known b (sym (ended_known a jobs b) ∙ k) in (ended_known a jobs' b ∙ m.0, ended_units_of a jobs' b ∙ m.1 ∙ sym (ended_units_of a jobs b)) }
 
+-- and what was credited to it
 pub ended_credited : (net : Net Ledger) (M : Master) (a : ℕ) → IsCredited net M → IsCredited net (ended_in M a)
 ended_credited net M a h = record {
   credits = λ b alive u m. h.credits b (ended_live a M.jobs b alive) u m;

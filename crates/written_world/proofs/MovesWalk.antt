@@ -24,6 +24,7 @@ use Rattle.written_world.specs.Runs.{run_from, run}
 use Rattle.fuxi_terms.proofs.Booleans.{either}
 use Rattle.written_world.proofs.CommandLemmas.{hard_has, submits_has, finishes_has, bans_has, unbans_has, begins_has, makes_room_has}
 
+-- what holds of what is found, and where nothing is
 pub found_has : {A B : Type 0} (P : B → Type 0) (o : Option A) (b : B) (f : A → B) → P b → ((x : A) → o ≡ Some x → P (f x)) → P (with_found o b f)
 found_has P None b f h k = h
 found_has P (Some x) b f h k = k x refl
@@ -160,9 +161,11 @@ module _ (I : Net Ledger → Type 0) (keeps : (net : Net Ledger) (m : Move Ledge
   act_keeps w (Dump k) b = checked w _ _ b (found_has StepKeeps (packet_of w k) _ _ (record { net = b }) (λ x _. record { net = b }))
   act_keeps w ShowState b = record { net = b }
 
+  -- every list of events
   pub run_from_keeps : (es : List Event) (w : World) → I w.net → I (run_from es w).world.net
   run_from_keeps [] w b = b
   run_from_keeps (e ∷ es) w b = run_from_keeps es (world_step w e).world (act_keeps (counted_in w) e b).net
 
+  -- from the empty world on
   pub run_keeps : (c : ClusterRecord) (es : List Event) → I silent → I (run c es).net
   run_keeps c es b = run_from_keeps es (empty_world c) b

@@ -62,6 +62,7 @@ pub record Joins (p : Party) (net net' : Net Ledger) : Type 0 where
   pub grows : Grows shape net.histories net'.histories
   pub joined : HasJoined net' p
 
+-- hearing and answering a new master
 pub joins : (net : Net Ledger) (p : Party) (which : ℕ) (x : Packet) (ledger : Ledger) → slice_get net.packets which ≡ Some x → ledger.head ≡ x.from.inc → Sound shape net → HasJoined net p → Joins p net (joined net p x ledger)
 joins net p which x ledger there head s h = by (heard_of net p is_master x).fresh refl
   where
@@ -219,6 +220,7 @@ agent_invariant w m g net' h found j r =
       entries = λ e. inl refl;
     })
 
+-- what an application does keeps the invariant
 pub app_invariant : (w : World) (a : ℕ) (g : App) (net' : Net Ledger) → Invariant w → find nat_cmp a w.apps ≡ Some g → Joins (party (app_id a) g.boot) w.net net' → DemandsHold w.cluster (unit_count w.hard.jobs a) (net'.histories (party (app_id a) g.boot) master_id) → Invariant (record w { net = net' })
 app_invariant w a g net' h found j d =
     let ran = (h.apps a g found).ran in
@@ -283,6 +285,7 @@ boots_rise boots d b lt q = elim (same_id d q) as (λ t. same_id d q ≡ t → b
 boot_here : (boots : Id → ℕ) (d : Id) (b : ℕ) → b ≤ set_boot boots d b d
 boot_here boots d b = let e : set_boot boots d b d ≡ b = ap (λ t. cond t b (boots d)) (same_id_itself d) in omega (arith, e)
 
+-- the start of an agent
 pub agent_starts : (w : World) (ran : List Party) (m b : ℕ) → Invariant w → has_machine w.cluster m ≡ true → w.boots (agent_id m) < b
     → Invariant (record w { boots = set_boot w.boots (agent_id m) b; ran = ran; net = move w.net (Starts (party (agent_id m) b)); agents = put nat_cmp m (record { boot = b }) w.agents })
 agent_starts w ran m b h there lt =
@@ -315,6 +318,7 @@ agent_starts w ran m b h there lt =
     started k g (inl o) = h.machines k g o.1
     started k g (inr n) = subst (λ i. has_machine w.cluster i ≡ true) (sym n.0) there
 
+-- the start of an application
 pub app_starts : (w : World) (ran : List Party) (a b : ℕ) (g : App) → g.boot ≡ b → Invariant w → w.boots (app_id a) < b → Origins (move w.net (Starts (party (app_id a) b))) a g.carried → HasUnits w.hard.jobs a g
     → Invariant (record w { boots = set_boot w.boots (app_id a) b; ran = ran; net = move w.net (Starts (party (app_id a) b)); apps = put nat_cmp a g w.apps })
 app_starts w ran a b g same h lt o u =

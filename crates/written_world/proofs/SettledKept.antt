@@ -51,6 +51,7 @@ more_units (k ∷ ks) j a u h = elim (nat_eq k.job.number a) as (λ b. nat_lt u 
       | false ↦ λ h. more_units ks j a u h
     ] h
 
+-- a job that ends keeps its number of units
 pub ended_units : (jobs : List KnownJob) (a b : ℕ) → unit_count (with_ended a jobs) b ≡ unit_count jobs b
 ended_units [] a b = refl
 ended_units (k ∷ ks) a b = elim (nat_eq k.job.number a) as (λ t. length (unwrap_or (option_map (λ j. j.job.units) (let k' : KnownJob = cond t (record { job = k.job; ended = true }) k in cond (nat_eq k'.job.number b) (Some k') (job_of (with_ended a ks) b))) []) ≡ unit_count (k ∷ ks) b) [

@@ -18,7 +18,7 @@ use Rattle.written_roles.specs.Placing.{waiting_pairs, has_pair, lined, line_up,
 use Rattle.fuxi_terms.specs.Tables.{with_grant}
 use Rattle.written_roles.specs.Settling.{NothingPlaceable}
 use Rattle.written_roles.specs.MasterSteps.{phased, ready}
-use Rattle.fuxi_terms.proofs.Booleans.{both_true, number_is}
+use Rattle.fuxi_terms.proofs.Booleans.{both_true, number_is, nat_itself}
 use Rattle.fuxi_terms.proofs.Sums.{held_more}
 use Rattle.written_roles.proofs.PlacingEnds.{settled_nothing}
 
@@ -29,9 +29,6 @@ either_true false b e = e
 first_true : (a b : Bool) → a ≡ true → (a || b) ≡ true
 first_true true b e = refl
 first_true false b e = cc
-
-equal_true : (n : ℕ) → nat_eq n n ≡ true
-equal_true n = grind (arith, nat_tests)
 
 -- numbers in lists
 number_filter : (n : ℕ) (test : ℕ → Bool) (ns : List ℕ) → test n ≡ true → has_number n ns ≡ true → has_number n (filter test ns) ≡ true
@@ -77,7 +74,7 @@ number_with n m (k ∷ ks) h = elim (nat_lt m k) as (λ b. has_number n (cond b 
 job_listed : (jobs : List KnownJob) (a u : ℕ) → nat_lt u (unit_count jobs a) ≡ true → has_number a (job_numbers jobs) ≡ true
 job_listed [] a u h = absurd (let f : u < 0 = grind (arith, nat_tests, h) in omega (arith, f))
 job_listed (j ∷ js) a u h = elim (nat_eq j.job.number a) as (λ b. nat_eq j.job.number a ≡ b → nat_lt u (length (unwrap_or (option_map (λ j. j.job.units) (cond b (Some j) (job_of js a))) [])) ≡ true → has_number a (with_number j.job.number (job_numbers js)) ≡ true) [
-  | true ↦ λ e _. let same : j.job.number ≡ a = number_is _ _ e in number_with a j.job.number (job_numbers js) (first_true (nat_eq a j.job.number) _ (subst (λ x. nat_eq a x ≡ true) (sym same) (equal_true a)))
+  | true ↦ λ e _. let same : j.job.number ≡ a = number_is _ _ e in number_with a j.job.number (job_numbers js) (first_true (nat_eq a j.job.number) _ (subst (λ x. nat_eq a x ≡ true) (sym same) (nat_itself a)))
   | false ↦ λ e h. number_with a j.job.number (job_numbers js) (either_true (nat_eq a j.job.number) _ (job_listed js a u h))
 ] refl h
 
@@ -103,7 +100,7 @@ pair_filter p test (q ∷ qs) t h = elim (nat_eq p.0 q.0 && nat_eq p.1 q.1) as (
 pair_mapped : (a u : ℕ) (us : List ℕ) → has_number u us ≡ true → has_pair (a, u) (map (λ u. (a, u)) us) ≡ true
 pair_mapped a u [] h = cc
 pair_mapped a u (v ∷ vs) h = elim (nat_eq u v) as (λ b. nat_eq u v ≡ b → (b || has_number u vs) ≡ true → has_pair (a, u) ((a, v) ∷ map (λ u. (a, u)) vs) ≡ true) [
-  | true ↦ λ e _. first_true (nat_eq a a && nat_eq u v) _ (ap (λ b. b && nat_eq u v) (equal_true a) ∙ e)
+  | true ↦ λ e _. first_true (nat_eq a a && nat_eq u v) _ (ap (λ b. b && nat_eq u v) (nat_itself a) ∙ e)
   | false ↦ λ e h. either_true (nat_eq a a && nat_eq u v) _ (pair_mapped a u vs h)
 ] refl h
 
@@ -170,6 +167,7 @@ settle_parts c (suc fuel) M = elim (first_placeable c M) as (λ o. SameParts M (
   | Some s ↦ let p = settle_parts c fuel (granted M s) in record { jobs = p.jobs; demands = p.demands; reported = p.reported }
 ]
 
+-- a master with the same parts
 pub ranged_same : (c : ClusterRecord) (M N : Master) → SameParts M N → IsRangedMaster c M → IsRangedMaster c N
 ranged_same c M N same r = record {
   reported = λ m h. r.reported m (subst (λ ms. has_number m ms ≡ true) same.reported h);

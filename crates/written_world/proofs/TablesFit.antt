@@ -31,7 +31,7 @@ use Rattle.written_roles.specs.Settling.{IsWithin}
 use Rattle.fuxi_terms.proofs.Alls.{all_append}
 use Rattle.fuxi_terms.proofs.Members.{in_each_is}
 use Rattle.written_roles.proofs.PlacingFits.{settled_fits}
-use Rattle.fuxi_terms.proofs.Booleans.{both_true, either, number_is}
+use Rattle.fuxi_terms.proofs.Booleans.{both_true, either, number_is, nat_itself}
 use Rattle.fuxi_terms.proofs.KeyOrders.{spot_total, same_spot}
 use Rattle.written_roles.proofs.PlacingEnds.{is_placeable}
 use Rattle.fuxi_terms.proofs.Spots.{Each, each_put, each_where, each_found, each_set}
@@ -43,6 +43,7 @@ use Rattle.written_world.proofs.TablesInOrder.{IsInOrder, planned, sorted_set}
 abbrev IsReported : List ℕ → Spot → Type 0
 IsReported rs s = has_number s.machine rs ≡ true
 
+-- a table whose grants are on reported machines and within what each has
 pub record FitsMachines (c : ClusterRecord) (M : Master) : Type 0 where
   pub fits : (m i : ℕ) → i < c.resources → total_at M.jobs m i M.table ≤ has_at c m i
   pub reported : AllByRecursion (λ e. has_number e.0.machine M.reported ≡ true) M.table
@@ -68,6 +69,7 @@ settle_reported c (suc fuel) M h = elim (first_placeable c M) as (λ o. first_pl
 record ReadyFits (c : ClusterRecord) (M : Master) : Type 0 where
   it : FitsMachines c M
 
+-- the end of a step
 pub ready_fits_machines : (c : ClusterRecord) (M : Master) → IsInOrder M → FitsMachines c M → FitsMachines c (ready c M)
 ready_fits_machines c M t h =
     let N = line_up (phased c M) in
@@ -84,18 +86,21 @@ new_fits_machines c M t = record {
   reported = subst (Each (IsReported M.reported)) (sym t) tt;
 }
 
+-- a master with the same table
 pub same_fits_machines : (c : ClusterRecord) (M N : Master) → N.table ≡ M.table → N.jobs ≡ M.jobs → N.reported ≡ M.reported → FitsMachines c M → FitsMachines c N
 same_fits_machines c M N t j r h = record {
   fits = λ m i lt. let e : total_at N.jobs m i N.table ≡ total_at M.jobs m i M.table = (λ k. total_at (j k) m i (t k)) in let f = h.fits m i lt in omega (arith, e, f);
   reported = subst (λ rs. Each (IsReported rs) N.table) (sym r) (subst (Each (IsReported M.reported)) (sym t) h.reported);
 }
 
+-- a job more
 pub added_fits_machines : (c : ClusterRecord) (M : Master) (j : JobRecord) → IsInOrder M → FitsMachines c M → FitsMachines c (record M { jobs = with_job j M.jobs })
 added_fits_machines c M j t h = record {
   fits = λ m i lt. let e = added_loads M.jobs j m i M.table t.alive in let f = h.fits m i lt in omega (arith, e, f);
   reported = h.reported;
 }
 
+-- a job that ends
 pub ended_fits_machines : (c : ClusterRecord) (M : Master) (a : ℕ) → FitsMachines c M → FitsMachines c (ended_in M a)
 ended_fits_machines c M a h = record {
   fits = λ m i lt.
@@ -106,6 +111,7 @@ ended_fits_machines c M a h = record {
   reported = each_where (IsReported M.reported) (λ s. not (nat_eq s.job a)) M.table h.reported;
 }
 
+-- a ban
 pub banned_fits_machines : (c : ClusterRecord) (M : Master) (k : ℕ) → FitsMachines c M → FitsMachines c (banned_in M k)
 banned_fits_machines c M k h = record {
   fits = λ m i lt. let l = where_less M.jobs m i (λ s. not (nat_eq s.machine k)) M.table in let f = h.fits m i lt in omega (arith, l, f);
@@ -114,21 +120,15 @@ banned_fits_machines c M k h = record {
 
 -- Reports
 with_here : (m : ℕ) (ms : List ℕ) → has_number m (with_number m ms) ≡ true
-with_here m [] = ap (λ b. b || false) (itself m)
-  where
-    itself : (n : ℕ) → nat_eq n n ≡ true
-    itself n = grind (arith, nat_tests)
+with_here m [] = ap (λ b. b || false) (nat_itself m)
 with_here m (k ∷ ks) = by (with_here m ks) (nat_lt m k) (nat_eq m k) refl
   where
-    itself : (n : ℕ) → nat_eq n n ≡ true
-    itself n = grind (arith, nat_tests)
-
     or_true : (b : Bool) → (b || true) ≡ true
     or_true true = refl
     or_true false = refl
 
     by : has_number m (with_number m ks) ≡ true → (b d : Bool) → nat_eq m k ≡ d → has_number m (cond b (m ∷ k ∷ ks) (cond d (k ∷ ks) (k ∷ with_number m ks))) ≡ true
-    by rest true d e = ap (λ b. b || has_number m (k ∷ ks)) (itself m)
+    by rest true d e = ap (λ b. b || has_number m (k ∷ ks)) (nat_itself m)
     by rest false true e = ap (λ b. b || has_number m ks) e
     by rest false false e = ap (λ b. nat_eq m k || b) rest ∙ or_true (nat_eq m k)
 
@@ -212,6 +212,7 @@ demand_fits_machines c M a d t h = either (FitsMachines c) (nat_eq d.head M.epoc
     })
     (λ _. record { fits = h.fits; reported = h.reported })
 
+-- a report or a demand
 pub told_fits_machines : (c : ClusterRecord) (M : Master) (h : Heard) (from : Id) (l : Ledger) → (is_agent from ≡ true → is_taken h.what ≡ true → RowsFit c from.number l.rows) → (IsInOrder M × IsInOrder (meet_app h.fresh M from.number)) → FitsMachines c M → FitsMachines c (told M h from l)
 told_fits_machines c M h from l rows t k =
     let N = meet_app h.fresh M from.number in
@@ -287,6 +288,7 @@ one_load jobs m i s table k =
     by true n new old size e = omega (arith, e)
     by false n new old size e = omega (arith, e)
 
+-- a preemption
 pub preempted_fits_machines : (c : ClusterRecord) (M : Master) (p : Plan) → plan_of c M ≡ Some p → IsInOrder M → FitsMachines c M → FitsMachines c (preempted M p)
 preempted_fits_machines c M p e t h = record {
   fits = λ m i lt.

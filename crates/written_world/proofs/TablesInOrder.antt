@@ -37,6 +37,7 @@ IsSorted table = T (is_sorted spot_cmp table)
 abbrev IsLive : List KnownJob → List (Spot × ℕ) → Type 0
 IsLive jobs table = AllByRecursion (λ e. is_live jobs e.0.job ≡ true) table
 
+-- a table in order with grants of live jobs alone, and no demand and no count among the credits that is not one
 pub record IsInOrder (M : Master) : Type 0 where
   pub sorted : T (is_sorted spot_cmp M.table)
   pub alive : AllByRecursion (λ e. is_live M.jobs e.0.job ≡ true) M.table
@@ -55,9 +56,11 @@ clash false e f = cc
 abbrev IsOfLive : List KnownJob → Spot → Type 0
 IsOfLive jobs s = is_live jobs s.job ≡ true
 
+-- what is found is of a live job
 pub live_found : (jobs : List KnownJob) (s : Spot) (es : List (Spot × ℕ)) → 0 < count spot_cmp es s → IsLive jobs es → is_live jobs s.job ≡ true
 live_found jobs s es some h = each_found (IsOfLive jobs) s es some h
 
+-- a number set keeps the order
 pub sorted_set : (table : List (Spot × ℕ)) (s : Spot) (n : ℕ) → IsSorted table → IsSorted (set_count spot_cmp table s n)
 sorted_set table s n h = either IsSorted (nat_eq n 0) (where_key spot_cmp (λ x. not (eq_by_cmp spot_cmp s x)) table) (put spot_cmp s n table) (λ _. is_sorted-where_key spot_cmp _ table h) (λ _. is_sorted-put spot_cmp spot_total s n table h)
 
@@ -89,6 +92,7 @@ settle_in_order c (suc fuel) M h = elim (first_placeable c M) as (λ o. first_pl
   })
 ] refl
 
+-- the end of a step
 pub ready_in_order : (c : ClusterRecord) (M : Master) → IsInOrder M → IsInOrder (ready c M)
 ready_in_order c M h = let N = line_up (phased c M) in let k : IsInOrder N = record { sorted = h.sorted; alive = h.alive; empty = h.empty; plain = h.plain } in
     elim N.serving as (λ b. IsInOrder (elim b as (λ _. Master) [ true ↦ settled c N | false ↦ N ])) [ true ↦ settle_in_order c (all_out N) N k | false ↦ k ]
@@ -121,6 +125,7 @@ settle_waits c (suc fuel) M h = elim (first_placeable c M) as (λ o. Waits (elim
   | Some s ↦ settle_waits c fuel (granted M s) (record { all = all_passed (λ p. nat_lt 0 (out (granted M s) p.0 p.1) ≡ true) (λ p. nat_lt 0 (out (granted M s) p.0 p.1)) M.line (λ p e. e) })
 ]
 
+-- each pair of the line then waits
 pub ready_waits : (c : ClusterRecord) (M : Master) → AllWait (ready c M) (ready c M).line
 ready_waits c M =
     let N = line_up (phased c M) in
@@ -134,6 +139,7 @@ without_in_order jobs table (s ∷ ss) h =
     let n = count spot_cmp table s - 1 in
     without_in_order jobs (set_count spot_cmp table s n) ss (sorted_set table s n h.0, each_set (IsOfLive jobs) s n table (λ e. live_found jobs s table (let some : 0 < n = grind (arith, nat_tests, e) in omega (arith, some)) h.1) h.1)
 
+-- what holds of all that are tried holds of what is served
 pub planned : (P : Spot → Type 0) (ss : List Spot) (c : ClusterRecord) (M : Master) (p : Plan) → AllByRecursion P ss → first_plan ss c M ≡ Some p → P p.served
 planned P [] c M p h e = cc
 planned P (s ∷ ss) c M p h e = elim (victims c M s) as (λ o. (elim o as (λ _. Option Plan) [ None ↦ first_plan ss c M | Some vs ↦ Some (record { served = s; losers = vs }) ]) ≡ Some p → P p.served) [
@@ -147,6 +153,7 @@ planned P (s ∷ ss) c M p h e = elim (victims c M s) as (λ o. (elim o as (λ _
     served : (vs : List Spot) → Some (plan vs) ≡ Some p → P p.served
     served vs e = let same : plan vs ≡ p = cc in subst (λ (q : Plan). P q.served) same h.0
 
+-- a preemption
 pub preempted_in_order : (c : ClusterRecord) (M : Master) (p : Plan) → plan_of c M ≡ Some p → AllWait M M.line → IsInOrder M → IsInOrder (preempted M p)
 preempted_in_order c M p e w h =
     let live : is_live M.jobs p.served.job ≡ true = planned (λ s. is_live M.jobs s.job ≡ true) (tried c M) c M p
@@ -172,6 +179,7 @@ preempted_in_order c M p e w h =
 pub banned_in_order : (M : Master) (m : ℕ) → IsInOrder M → IsInOrder (banned_in M m)
 banned_in_order M m h = record { sorted = is_sorted-where_key spot_cmp _ M.table h.sorted; alive = each_where (IsOfLive M.jobs) _ M.table h.alive; empty = h.empty; plain = h.plain }
 
+-- a master with the same table
 pub same_in_order : (M N : Master) → N.table ≡ M.table → N.jobs ≡ M.jobs → N.demands ≡ M.demands → N.credited ≡ M.credited → IsInOrder M → IsInOrder N
 same_in_order M N t j d c h = record {
   sorted = subst IsSorted (sym t) h.sorted;
@@ -180,6 +188,7 @@ same_in_order M N t j d c h = record {
   plain = λ a u m. ap (λ cs. find key_cmp (count_key u m) (unwrap_or (find nat_cmp a cs) [])) c ∙ h.plain a u m;
 }
 
+-- a new master
 pub new_in_order : (M : Master) → M.table ≡ [] → M.demands ≡ [] → M.credited ≡ [] → IsInOrder M
 new_in_order M t d c = record {
   sorted = subst IsSorted (sym t) tt;
@@ -200,6 +209,7 @@ added_live : (jobs : List KnownJob) (j : JobRecord) (a : ℕ) → is_live jobs a
 added_live [] j a e = cc
 added_live (k ∷ ks) j a e = elim (nat_eq k.job.number a) as (λ b. unwrap_or (option_map (λ (i : KnownJob). not i.ended) (cond b (Some k) (job_of ks a))) false ≡ true → unwrap_or (option_map (λ (i : KnownJob). not i.ended) (cond b (Some k) (job_of (with_job j ks) a))) false ≡ true) [ true ↦ λ e. e | false ↦ λ e. added_live ks j a e ] e
 
+-- a job more
 pub added_in_order : (M : Master) (j : JobRecord) → IsInOrder M → IsInOrder (record M { jobs = with_job j M.jobs })
 added_in_order M j h = record {
   sorted = h.sorted;
@@ -230,6 +240,7 @@ put_demand jobs a d ds f b e h = elim (nat_eq b a) as (λ t. nat_eq b a ≡ t �
   | false ↦ λ t. ap (λ o. unwrap_or o nothing) (put_beside a b d ds t) ∙ h t
 ] refl
 
+-- a job that ends
 pub ended_in_order : (M : Master) (a : ℕ) → IsInOrder M → IsInOrder (ended_in M a)
 ended_in_order M a h = record {
   sorted = is_sorted-where_key spot_cmp _ M.table h.sorted;
@@ -274,6 +285,7 @@ plain_put a cs all b u m new old = elim (nat_eq b a) as (λ t. nat_eq b a ≡ t 
   | false ↦ λ t. ap (λ o. find key_cmp (count_key u m) (unwrap_or o [])) (put_beside a b cs all t) ∙ old
 ] refl
 
+-- a new boot
 pub met_in_order : (M : Master) (fresh : Bool) (a : ℕ) → IsInOrder M → IsInOrder (meet_app fresh M a)
 met_in_order M true a t = record {
   sorted = t.sorted;
@@ -283,6 +295,7 @@ met_in_order M true a t = record {
 }
 met_in_order M false a t = t
 
+-- a report or a demand
 pub told_in_order : (M : Master) (h : Heard) (from : Id) (l : Ledger) → IsInOrder M → IsInOrder (told M h from l)
 told_in_order M h from l t =
     let N = meet_app h.fresh M from.number in

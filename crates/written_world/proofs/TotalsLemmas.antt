@@ -28,9 +28,11 @@ use Rattle.written_world.proofs.KnownJobsLemmas.{old_job, ended_units_of}
 abbrev pub load : List KnownJob → ℕ → ℕ → Spot → ℕ → ℕ
 load jobs m i s n = cond (nat_eq s.machine m) (n * size_at jobs s.job s.unit i) 0
 
+-- no count, no load
 pub no_load : (jobs : List KnownJob) (m i : ℕ) (s : Spot) → load jobs m i s 0 ≡ 0
 no_load jobs m i s = elim (nat_eq s.machine m) as (λ b. cond b (0 * size_at jobs s.job s.unit i) 0 ≡ 0) [ true ↦ omega arith | false ↦ refl ]
 
+-- a greater count, a greater load
 pub load_more : (jobs : List KnownJob) (m i : ℕ) (s : Spot) (a b : ℕ) → a ≤ b → load jobs m i s a ≤ load jobs m i s b
 load_more jobs m i s a b le = elim (nat_eq s.machine m) as (λ t. cond t (a * size_at jobs s.job s.unit i) 0 ≤ cond t (b * size_at jobs s.job s.unit i) 0) [ true ↦ mul-le-mul_right (size_at jobs s.job s.unit i) le | false ↦ omega arith ]
 
@@ -61,9 +63,11 @@ module _ (jobs : List KnownJob) (m i : ℕ) where
     | false ↦ λ _. sum_put_exact spot_total same_spot (load jobs m i) (λ q. no_load jobs m i q) s n es k
   ] refl
 
+  -- a number put in
   pub put_exact : (s : Spot) (n : ℕ) (es : List (Spot × ℕ)) → T (is_sorted spot_cmp es) → total_at jobs m i (put spot_cmp s n es) + load jobs m i s (count spot_cmp es s) ≡ total_at jobs m i es + load jobs m i s n
   put_exact s n es k = sum_put_exact spot_total same_spot (load jobs m i) (λ q. no_load jobs m i q) s n es k
 
+  -- some left out
   pub where_less : (p : Spot → Bool) (es : List (Spot × ℕ)) → total_at jobs m i (where_key spot_cmp p es) ≤ total_at jobs m i es
   where_less p [] = omega arith
   where_less p (e ∷ es) = let rest = where_less p es in elim (p e.0) as (λ b. total_at jobs m i (cond b (e ∷ where_key spot_cmp p es) (where_key spot_cmp p es)) ≤ total_at jobs m i (e ∷ es)) [
@@ -92,6 +96,7 @@ same_loads jobs jobs' m i (e ∷ es) h =
     let here : load jobs' m i e.0 e.1 ≡ load jobs m i e.0 e.1 = ap (λ n. cond (nat_eq e.0.machine m) (e.1 * n) 0) h.0 in
     rw (sum_by-cons (w jobs' m i) e es, sum_by-cons (w jobs m i) e es) (omega (arith, rest, here))
 
+-- a job more changes no load
 pub added_loads : (jobs : List KnownJob) (j : JobRecord) (m i : ℕ) (es : List (Spot × ℕ)) → AllByRecursion (λ e. is_live jobs e.0.job ≡ true) es → total_at (with_job j jobs) m i es ≡ total_at jobs m i es
 added_loads jobs j m i es h = same_loads jobs (with_job j jobs) m i es (each es h)
   where
@@ -99,6 +104,7 @@ added_loads jobs j m i es h = same_loads jobs (with_job j jobs) m i es (each es 
     each [] k = tt
     each (e ∷ es) k = (ap (λ o. at_place (unwrap_or (slice_get (unwrap_or (option_map (λ (x : KnownJob). x.job.units) o) []) e.0.unit) no_unit).size i) (old_job jobs j e.0.job (live_known jobs e.0.job k.0)), each es k.1)
 
+-- nor does a job that ends
 pub ended_loads : (jobs : List KnownJob) (a m i : ℕ) (es : List (Spot × ℕ)) → total_at (with_ended a jobs) m i es ≡ total_at jobs m i es
 ended_loads jobs a m i es = same_loads jobs (with_ended a jobs) m i es (each es)
   where
@@ -115,6 +121,7 @@ kept_size jobs k i e =
     let b = (fits_places k.size size).0 same.1 i in
     omega (arith, a, b)
 
+-- what a report adds
 pub adopted_loads : (jobs : List KnownJob) (m n i : ℕ) (rows : List (RowKey × ℕ)) (es : List (Spot × ℕ)) → T (is_sorted spot_cmp es) → total_at jobs n i (adopted jobs m rows es) ≤ total_at jobs n i es + cond (nat_eq m n) (row_total_at i rows) 0
 adopted_loads jobs m n i [] es s = omega arith
 adopted_loads jobs m n i (r ∷ rows) es s =
