@@ -9,19 +9,27 @@ use Rattle.fuxi_io.proofs.Cutting.{lines_of-cut, lines_of-last}
 pub gives_cut : (old left : Option (List ℕ)) (line piece made rest : List ℕ) → Consumes old (prepend_known piece left) line → line ++ piece ≡ made ++ 10 ∷ rest → NoNewline made → length made ≤ 65536 → GivesKnown Line old (record { bytes = made; ended = true }) (prepend_known rest left)
 gives_cut None left line piece made rest read split none short = tt
 gives_cut (Some old) None line piece made rest read split none short = absurd read
-gives_cut (Some old) (Some left) line piece made rest read split none short = (
-  ap lines_of (read ∙ sym (append_assoc line piece left) ∙ ap (λ l. l ++ left) split ∙ append_assoc made (10 ∷ rest) left) ∙ lines_of-cut made (rest ++ left) none,
-  short,
-)
+gives_cut (Some old) (Some left) line piece made rest read split none short =
+    let is : old ≡ made ++ 10 ∷ (rest ++ left) = read ∙ sym (append_assoc line piece left) ∙ ap (λ l. l ++ left) split ∙ append_assoc made (10 ∷ rest) left in
+    record {
+      cut = is ∙ sym (append_assoc made (10 ∷ []) (rest ++ left));
+      first = ap lines_of is ∙ lines_of-cut made (rest ++ left) none;
+      short = short;
+      alone = λ e more. ap lines_of (append_assoc made (10 ∷ []) more) ∙ lines_of-cut made more none;
+      last = λ e. cc;
+    }
 
 pub gives_last : (old left : Option (List ℕ)) (line piece : List ℕ) → Consumes old (prepend_known piece left) line → piece ≡ [] → IsAtEnd left → NoNewline line → 0 < length line → length line ≤ 65536 → GivesKnown Line old (record { bytes = line; ended = false }) (prepend_known piece left)
 gives_last None left line piece read empty end none some short = tt
 gives_last (Some old) None line piece read empty end none some short = absurd read
 gives_last (Some old) (Some left) line piece read empty end none some short =
-    let rest : piece ++ left ≡ [] = ap (λ l. l ++ left) empty ∙ end in (
-      ap lines_of (read ∙ ap (λ l. line ++ l) rest ∙ append-nil line) ∙ lines_of-last line none some ∙ ap (λ l. (record { bytes = line; ended = false }) ∷ lines_of l) (sym rest),
-      short,
-    )
+    let rest : piece ++ left ≡ [] = ap (λ l. l ++ left) empty ∙ end in record {
+      cut = read;
+      first = ap lines_of (read ∙ ap (λ l. line ++ l) rest ∙ append-nil line) ∙ lines_of-last line none some ∙ ap (λ l. (record { bytes = line; ended = false }) ∷ lines_of l) (sym rest);
+      short = short;
+      alone = λ e more. cc;
+      last = λ e. rest;
+    }
 
 pub MoreKnown-pending : (piece : List ℕ) (left : Option (List ℕ)) → piece ≢ [] → MoreKnown (prepend_known piece left)
 MoreKnown-pending piece None some = tt

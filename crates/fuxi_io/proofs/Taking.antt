@@ -1,5 +1,5 @@
 -- What was written, with what is written next, and what was read, with what is left.
-use Rattle.std.proofs.Common.{◌≡◌, ℕ, ◌+◌, ◌<◌, ◌≤◌, List, [], ◌∷◌, ◌++◌, length, min, take, drop, append_assoc, add-zero, length-append, refl, take-append-drop, length-take, length-drop, Option, None, Some, ap, subst, sym, ◌∙◌, arith}
+use Rattle.std.proofs.Common.{◌≡◌, ℕ, ◌+◌, ◌<◌, ◌≤◌, List, [], ◌∷◌, ◌++◌, length, min, take, drop, add-zero, length-append, refl, take-append-drop, length-take, length-drop, Option, ap, subst, sym, ◌∙◌, arith}
 use Rattle.std.proofs.Math.Seq.{take-add}
 use Rattle.std.proofs.lemmas.List.{take_at, drop-drop}
 use Rattle.std.specs.Io.KnownBytes.{Appends}

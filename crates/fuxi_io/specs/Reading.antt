@@ -14,6 +14,10 @@ pub record Reading : Type 0 where
   pub number : ℕ
   pub stop : Option LineStop
 
+-- how many bytes are read before they are needed, at most
+abbrev pub read_ahead : ℕ
+read_ahead = 16384
+
 -- the last line as one of the input's
 abbrev pub line_of : Reading → InputLine
 line_of reading = record { bytes = reading.line; ended = reading.ended }

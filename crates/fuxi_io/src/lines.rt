@@ -1,8 +1,8 @@
 ghost use Rattle.std.specs.Prelude.{◌≡◌, ◌≢◌, ℕ, ◌+◌, ◌<◌, ◌≤◌, ◌⊎◌, ◌↔◌, List, [], ◌∷◌, ◌++◌, length, IfOk, IfErr, OnOk, OnErr, IsTrue, Option, Some, None, true, false, vec_capacity};
 ghost use Rattle.std.specs.Io.KnownBytes.{prepend_known};
 ghost use Rattle.fuxi_io.specs.Causes.{Rose};
-ghost use Rattle.fuxi_io.specs.Lines.{GivesKnown, FirstTooLongKnown, MoreKnown};
-ghost use Rattle.fuxi_io.specs.Reading.{line_of, number_after, rest_of, stop_of};
+ghost use Rattle.fuxi_io.specs.Lines.{GivesKnown, BreaksOff, FirstTooLongKnown, MoreKnown};
+ghost use Rattle.fuxi_io.specs.Reading.{line_of, number_after, rest_of, stop_of, read_ahead};
 
 use crate::outside::Source;
 use crate::piece::{LINE_BYTES, Piece};
@@ -45,14 +45,14 @@ pub struct LineReader {
 }
 
 impl Model for LineReader {
-    ghost use Rattle.std.specs.Prelude.{◌≤◌, vec_capacity};
-    ghost use Rattle.fuxi_io.specs.Reading.{Reading};
+    ghost use Rattle.std.specs.Prelude.{◌≤◌, length, vec_capacity};
+    ghost use Rattle.fuxi_io.specs.Reading.{Reading, read_ahead};
 
     ghost Value = { Reading };
 
     ghost view = { λ r. record { pending = r.piece; line = r.line.items; ended = r.ended; number = r.number; stop = r.stop } };
 
-    ghost invariant = { λ r. (65536 ≤ vec_capacity r.line) × (r.number ≤ 1000000) };
+    ghost invariant = { λ r. (65536 ≤ vec_capacity r.line) × (r.number ≤ 1000000) × (length r.piece ≤ read_ahead) };
 }
 
 // Makes `line` the next line, of which at least one byte or newline waits in the piece. Answers whether
@@ -64,10 +64,13 @@ fn read_line<S: Source>(
 ) -> Result<bool, LineStop>
     requires begun { piece.old ≢ [] }
     requires room { 65536 ≤ vec_capacity line.old }
+    requires ahead { length piece.old ≤ read_ahead }
     ensures room { 65536 ≤ vec_capacity line.new }
+    ensures ahead { length piece.new ≤ read_ahead }
     ensures gives { IfOk result (λ ended. GivesKnown Got.Line (prepend_known piece.old (S.left source.old)) (record { bytes = line.new.items; ended = ended }) (prepend_known piece.new (S.left source.new))) }
     ensures later { S.faults source.old ≤ S.faults source.new }
     ensures fault { result ≡ Err LineStop.ReadFault → Rose (S.faults source.old) (S.faults source.new) }
+    ensures broke { result ≡ Err LineStop.ReadFault → BreaksOff (prepend_known piece.old (S.left source.old)) (S.left source.new) }
     ensures long { result ≡ Err LineStop.LineTooLong → FirstTooLongKnown (prepend_known piece.old (S.left source.old)) }
     ensures few { result ≢ Err LineStop.TooManyLines }
 {
@@ -99,9 +102,9 @@ impl LineReader {
 
     /// The next line of the source, without its newline, or the end. It takes no memory.
     ///
-    /// `ReadFault` comes only where the source's count of faults rose in this call. The limit on lines is
-    /// tested where a further byte has come, and before the length of its line. Each error is answered
-    /// again by all later calls, which read nothing.
+    /// `ReadFault` comes only where the source's count of faults rose in this call; what the source gave
+    /// before it ends within the next line. The limit on lines is tested where a further byte has come, and
+    /// before the length of its line. Each error is answered again by all later calls, which read nothing.
     pub fn next<S: Source>(&mut self, source: &mut S) -> Result<Got, LineStop>
         // After an error it answers the same, and nothing changes.
         ensures again { (s : LineStop) → self.old.stop ≡ Some s → (result ≡ Err s) × (self.new ≡ self.old) × (source.new ≡ source.old) }
@@ -115,6 +118,8 @@ impl LineReader {
 
         ensures later { S.faults source.old ≤ S.faults source.new }
         ensures fault { result ≡ Err LineStop.ReadFault → (self.old.stop ≡ Some LineStop.ReadFault) ⊎ Rose (S.faults source.old) (S.faults source.new) }
+        ensures broke { result ≡ Err LineStop.ReadFault → (self.old.stop ≡ Some LineStop.ReadFault) ⊎ BreaksOff (rest_of self.old (S.left source.old)) (S.left source.new) }
+        ensures ahead { length self.new.pending ≤ read_ahead }
         ensures long { result ≡ Err LineStop.LineTooLong → (self.old.stop ≡ Some LineStop.LineTooLong)
             ⊎ ((self.old.number < 1000000) × FirstTooLongKnown (rest_of self.old (S.left source.old))) }
         ensures many { result ≡ Err LineStop.TooManyLines → (self.old.stop ≡ Some LineStop.TooManyLines)
@@ -139,6 +144,7 @@ impl LineReader {
         ensures end { result ≡ Ok Got.End → self.new.line ≡ self.old.line }
         ensures later { S.faults source.old ≤ S.faults source.new }
         ensures fault { result ≡ Err LineStop.ReadFault → Rose (S.faults source.old) (S.faults source.new) }
+        ensures broke { result ≡ Err LineStop.ReadFault → BreaksOff (rest_of self.old (S.left source.old)) (S.left source.new) }
         ensures long { result ≡ Err LineStop.LineTooLong → (self.old.number < 1000000) × FirstTooLongKnown (rest_of self.old (S.left source.old)) }
         ensures many { result ≡ Err LineStop.TooManyLines → (self.old.number ≡ 1000000) × MoreKnown (rest_of self.old (S.left source.old)) }
     {

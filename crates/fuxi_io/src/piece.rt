@@ -1,8 +1,9 @@
 ghost use Rattle.std.specs.Prelude.{◌≡◌, ◌≢◌, ℕ, ◌+◌, ◌<◌, ◌≤◌, ◌↔◌, List, [], ◌++◌, length, take, slice_index, IfOk, IfErr, OnErr, Ok, false, IfSome, IfNone, IsTrue, OnOk, vec_capacity};
-ghost use Rattle.std.specs.Io.KnownBytes.{Consumes, IsAtEnd};
+ghost use Rattle.std.specs.Io.KnownBytes.{Consumes, IsAtEnd, Keeps};
 ghost use Rattle.fuxi_io.specs.Causes.{Rose};
 ghost use Rattle.fuxi_io.specs.Lines.{FirstLonger, lines_of};
 ghost use Rattle.fuxi_io.specs.Pieces.{Moved, NoNewline};
+ghost use Rattle.fuxi_io.specs.Reading.{read_ahead};
 
 use crate::lines::LineStop;
 use crate::outside::{Failed, Source};
@@ -88,6 +89,8 @@ impl Piece {
         ensures later { S.faults source.old ≤ S.faults source.new }
         ensures cause { OnErr result (Rose (S.faults source.old) (S.faults source.new)) }
         ensures stop { IfErr result (λ stop. stop ≡ LineStop.ReadFault) }
+        ensures kept { OnErr result (Keeps (S.left source.old) (S.left source.new)) }
+        ensures few { length self.new ≤ read_ahead }
     {
         let Ok(n) = source.read(&mut self.bytes) else {
             return Err(LineStop::ReadFault);
@@ -106,6 +109,7 @@ impl Piece {
         ensures room { 65536 ≤ vec_capacity line.new }
         ensures plain { OnOk result (NoNewline line.new.items) }
         ensures short { OnOk result (length line.new.items ≤ 65536) }
+        ensures few { length self.new ≤ length self.old }
         ensures moved { IfOk result (λ found. Moved found (line.old.items ++ self.old) line.new.items self.new) }
         ensures more { result ≡ Ok false → self.old ≢ [] → length line.old.items < length line.new.items }
         ensures long { (more : List ℕ) → OnErr result (FirstLonger 65536 (lines_of (line.old.items ++ self.old ++ more))) }

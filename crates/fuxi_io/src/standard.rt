@@ -4,38 +4,36 @@ use crate::outside::{Failed, Sink, Source};
 use std::io::{Read, Write};
 use std::marker::Model;
 
-/// A source over a reader of the system, as standard input. It tells nothing of its bytes, and each read
-/// is one call of the reader. Its count rises at each error of the reader.
+/// A source over a reader of std, as standard input. Each read is one call of the reader. It tells the bytes
+/// that the reader tells: a reader over memory tells all, one of the system none. Its count rises at each
+/// error of the reader.
 #[derive(Drop)]
 pub struct StdSource<R> {
     reader: R,
     faults: u64,
 }
 
-// Seen as how often it has failed.
 impl<R> Model for StdSource<R> {
-    ghost use Rattle.std.specs.Prelude.{ℕ};
+    ghost use Rattle.fuxi_io.specs.Adapters.{Adapter};
 
-    ghost Value = { ℕ };
+    ghost Value = { Adapter R };
 
-    ghost view = { λ s. s.faults };
+    ghost view = { λ s. record { inner = s.reader; faults = s.faults } };
 }
 
 impl<R: Read> StdSource<R> {
     /// A source over this reader that has not failed yet.
     pub fn of(reader: R) -> StdSource<R>
-        ensures { result ≡ 0 }
+        ensures { result ≡ record { inner = reader; faults = 0 } }
     {
         StdSource { reader, faults: 0 }
     }
 }
 
 impl<R: Read> Source for StdSource<R> {
-    ghost use Rattle.std.specs.Prelude.{None};
+    ghost left = { λ s. R.remaining s.inner };
 
-    ghost left = { λ s. None };
-
-    ghost faults = { λ s. s };
+    ghost faults = { λ s. s.faults };
 
     fn read(&mut self, buf: &mut [u8]) -> Result<usize, Failed> {
         match self.reader.read(buf) {
@@ -48,39 +46,36 @@ impl<R: Read> Source for StdSource<R> {
     }
 }
 
-/// A sink over a writer of the system, as standard output or standard error. It tells nothing of its
-/// bytes, keeps nothing back, and each write is one call of the writer, so hand it whole lines. Its count
-/// rises at each error of the writer, and where the writer takes nothing.
+/// A sink over a writer of std, as standard output or standard error. It keeps nothing back, and each write is
+/// one call of the writer, so hand it whole lines. It tells the bytes that the writer tells: one over memory
+/// all, one of the system none. Its count rises at each error of the writer, and where the writer takes nothing.
 #[derive(Drop)]
 pub struct StdSink<W> {
     writer: W,
     faults: u64,
 }
 
-// Seen as how often it has failed.
 impl<W> Model for StdSink<W> {
-    ghost use Rattle.std.specs.Prelude.{ℕ};
+    ghost use Rattle.fuxi_io.specs.Adapters.{Adapter};
 
-    ghost Value = { ℕ };
+    ghost Value = { Adapter W };
 
-    ghost view = { λ s. s.faults };
+    ghost view = { λ s. record { inner = s.writer; faults = s.faults } };
 }
 
 impl<W: Write> StdSink<W> {
     /// A sink over this writer that has not failed yet.
     pub fn of(writer: W) -> StdSink<W>
-        ensures { result ≡ 0 }
+        ensures { result ≡ record { inner = writer; faults = 0 } }
     {
         StdSink { writer, faults: 0 }
     }
 }
 
 impl<W: Write> Sink for StdSink<W> {
-    ghost use Rattle.std.specs.Prelude.{None};
+    ghost took = { λ s. W.contents s.inner };
 
-    ghost took = { λ s. None };
-
-    ghost faults = { λ s. s };
+    ghost faults = { λ s. s.faults };
 
     /// A writer that takes nothing has failed.
     fn write(&mut self, bytes: &[u8]) -> Result<usize, Failed> {

@@ -1,3 +1,5 @@
 pub mod Words
 pub mod Standing
+pub mod Taking
 pub mod Going
+pub mod Seeking

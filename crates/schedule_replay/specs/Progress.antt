@@ -1,9 +1,10 @@
 -- How far a run has come, and what taking one line does.
-use Rattle.std.specs.Prelude.{◌≡◌, ◌⊎◌, ℕ, true, false, ◌+◌, List, ◌++◌, Option, Some, None, Result, Ok, Err}
-use Rattle.std.specs.Io.KnownBytes.{Appends}
+use Rattle.std.specs.Prelude.{◌≡◌, ◌⊎◌, ℕ, Bool, true, false, ◌+◌, List, [], ◌++◌, Option, Some, None, Result, Ok, Err}
+use Rattle.std.specs.Io.KnownBytes.{Appends, IsAtEnd}
 use Rattle.std.specs.List.{concat}
 use Rattle.fuxi_io.specs.Causes.{TakesPart}
-use Rattle.fuxi_io.specs.Lines.{lines_of}
+use Rattle.fuxi_io.specs.Lines.{InputLine, lines_of}
+use Rattle.fuxi_io.specs.Reading.{Reading, rest_of}
 use Rattle.fuxi_io.specs.declared.lines.LineStop.{LineStop}
 use Rattle.fuxi_io.specs.declared.lines.LineStop.TheVariants.{ReadFault as ReadStop, LineTooLong as LongStop, TooManyLines as ManyStop}
 use Rattle.fuxi_io.specs.declared.status.InputFault.TheVariants.{BadLine, LineTooLong, NotJson, WrongKind, UnknownKey, MissingKey, Count, LengthDiffers, QuantityRange, QuotaOverLimit}
@@ -15,7 +16,7 @@ use Rattle.schedule_replay.specs.Grammar.{is_skipped, event_of}
 use Rattle.schedule_replay.specs.Channel.{Channel, new_channel, after}
 use Rattle.schedule_replay.specs.Texts.{printed, state_text}
 use Rattle.schedule_replay.specs.Standing.{Replaying, Stands}
-use Rattle.schedule_replay.specs.Runs.{Run, run_from, read_from}
+use Rattle.schedule_replay.specs.Runs.{Run, run_from, read_from, whole_lines}
 use Rattle.cluster_desc.specs.declared.fault.ClusterFault.{ClusterFault}
 use Rattle.cluster_desc.specs.declared.fault.ClusterFault.TheVariants.{NotJson as ClusterNotJson, WrongKind as ClusterWrongKind, UnknownKey as ClusterUnknownKey, MissingKey as ClusterMissingKey, Count as ClusterCount, LengthDiffers as ClusterLengthDiffers, QuantityRange as ClusterQuantityRange, QuotaOverLimit as ClusterQuotaOverLimit, OutOfMemory as ClusterOutOfMemory}
 
@@ -44,7 +45,7 @@ TakesLine line number c (Ok done) before after =
     ((is_skipped line ≡ true) × (after ≡ before)) ⊎ ((is_skipped line ≡ false) × ((output : List ℕ) × Prints line c output × Appends before after output))
 TakesLine line number c (Err (BadInput n fault)) before after = (is_skipped line ≡ false) × (event_of line ≡ None) × (n ≡ number) × (fault ≡ BadLine) × (after ≡ before)
 TakesLine line number c (Err WriteFault) before after = (is_skipped line ≡ false) × ((output : List ℕ) × Prints line c output × TakesPart before after output)
-TakesLine line number c (Err OutOfMemory) before after = after ≡ before
+TakesLine line number c (Err OutOfMemory) before after = (is_skipped line ≡ false) × ((output : List ℕ) × Prints line c output) × (after ≡ before)
 TakesLine line number c (Err Done) before after = ⊥
 TakesLine line number c (Err Usage) before after = ⊥
 TakesLine line number c (Err ReadFault) before after = ⊥
@@ -63,27 +64,53 @@ WritesState c (Limit what kept) before after = ⊥
 abbrev pub behind_all : List (List ℕ) → Run → Run
 behind_all front r = record { outputs = front ++ r.outputs; channel = r.channel; ending = r.ending }
 
--- of a run over the bytes of an input, so many lines having gone before it: the bytes that are left, what was printed, and the channel now
-pub record Along (bytes : List ℕ) (first number : ℕ) (replay : Replaying) (rest written_before written : Option (List ℕ)) : Type 0 where
+-- the lines that were taken from the front of an input all end with a newline, so whatever stands behind them is cut alike
+pub record AreWhole (bytes left : List ℕ) (lines : List InputLine) : Type 0 where
+  pub given : List ℕ
+  pub is : bytes ≡ given ++ left
+  pub alone : (more : List ℕ) → lines_of (given ++ more) ≡ lines ++ lines_of more
+  pub whole : whole_lines lines ≡ lines
+
+-- the same unless the last of them ended the input
+pub record AreTaken (ended : Bool) (bytes left : List ℕ) (lines : List InputLine) : Type 0 where
+  pub whole : ended ≡ true → AreWhole bytes left lines
+  pub last : ended ≡ false → left ≡ []
+
+-- of a run over the bytes of an input, so many lines having gone before it: the lines taken and the bytes that are left, what was printed, and the channel now
+pub record Along (bytes : List ℕ) (first number : ℕ) (ended : Bool) (replay : Replaying) (rest written_before written : Option (List ℕ)) : Type 0 where
+  pub lines : List InputLine
   pub left : List ℕ
   pub is_left : rest ≡ Some left
+  pub cut : lines_of bytes ≡ lines ++ lines_of left
+  pub taken : AreTaken ended bytes left lines
   pub front : List (List ℕ)
   pub writes : Appends written_before written (concat front)
   pub channel : Channel
   pub stands : Stands replay channel
-  pub same : run_from first new_channel (lines_of bytes) ≡ behind_all front (run_from number channel (lines_of left))
+  pub through : (more : List InputLine) → run_from first new_channel (lines ++ more) ≡ behind_all front (run_from number channel more)
 
--- of an input before the line that describes the cluster: the bytes that are left
+-- of an input before the line that describes the cluster: the lines taken, and the bytes that are left
 pub record Seeking (bytes : List ℕ) (first number : ℕ) (rest : Option (List ℕ)) : Type 0 where
+  pub lines : List InputLine
   pub left : List ℕ
   pub is_left : rest ≡ Some left
-  pub same : read_from first (lines_of bytes) ≡ read_from number (lines_of left)
+  pub cut : lines_of bytes ≡ lines ++ lines_of left
+  pub whole : AreWhole bytes left lines
+  pub through : (more : List InputLine) → read_from first (lines ++ more) ≡ read_from number more
 
 -- the cluster was read: the run goes on with the lines that are left
-pub record HasCluster (bytes : List ℕ) (first number : ℕ) (rest : Option (List ℕ)) : Type 0 where
+pub record HasCluster (bytes : List ℕ) (first number : ℕ) (ended : Bool) (rest : Option (List ℕ)) : Type 0 where
+  pub lines : List InputLine
   pub left : List ℕ
   pub is_left : rest ≡ Some left
-  pub same : read_from first (lines_of bytes) ≡ run_from number new_channel (lines_of left)
+  pub cut : lines_of bytes ≡ lines ++ lines_of left
+  pub taken : AreTaken ended bytes left lines
+  pub through : (more : List InputLine) → read_from first (lines ++ more) ≡ run_from number new_channel more
+
+-- a reader that has not stopped, and is at the end where its last line ended the input
+pub record IsReady (reading : Reading) (left : Option (List ℕ)) : Type 0 where
+  pub running : reading.stop ≡ None
+  pub last : reading.ended ≡ false → IsAtEnd (rest_of reading left)
 
 -- the status that a fault of the line that describes the cluster means
 abbrev pub cluster_status : ClusterFault → ℕ → Status

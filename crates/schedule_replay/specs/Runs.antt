@@ -1,9 +1,10 @@
 -- How a run over the lines of an input goes, and what is known of it by the status that it ends with.
-use Rattle.std.specs.Prelude.{◌≡◌, ℕ, ◌+◌, not, nat_lt, if◌then◌else◌, true, false, Result, Ok, Err, List, [], ◌∷◌, ◌++◌, length, take, Option, Some, None, slice_get}
+use Rattle.std.specs.Prelude.{◌≡◌, ◌⊎◌, ℕ, ◌+◌, ◌-◌, ◌≤◌, not, nat_lt, if◌then◌else◌, true, false, Result, Ok, Err, List, [], ◌∷◌, ◌++◌, length, take, filter, Option, Some, None, slice_get}
 use Rattle.std.specs.Option.{unwrap_or}
 use Rattle.std.specs.List.{concat}
-use Rattle.std.specs.Io.KnownBytes.{Appends}
+use Rattle.std.specs.Io.KnownBytes.{Appends, Consumes}
 use Rattle.fuxi_io.specs.Lines.{InputLine, lines_of}
+use Rattle.fuxi_io.specs.Reading.{read_ahead}
 use Rattle.fuxi_terms.specs.Cluster.{ClusterRecord}
 use Rattle.cluster_desc.specs.declared.fault.ClusterFault.{ClusterFault}
 use Rattle.cluster_desc.specs.declared.fault.ClusterFault.TheVariants.{NotJson as ClusterNotJson, WrongKind as ClusterWrongKind, UnknownKey as ClusterUnknownKey, MissingKey as ClusterMissingKey, Count as ClusterCount, LengthDiffers as ClusterLengthDiffers, QuantityRange as ClusterQuantityRange, QuotaOverLimit as ClusterQuotaOverLimit, OutOfMemory as ClusterOutOfMemory}
@@ -90,23 +91,43 @@ final_text c AtLimit = []
 abbrev pub pieces : Run → List (List ℕ)
 pieces r = r.outputs ++ final_text r.channel r.ending
 
--- some of the pieces from the front were written, whole, and nothing else
-pub record WritesSome (all : List (List ℕ)) (before after : Option (List ℕ)) : Type 0 where
-  pub whole : ℕ
-  pub writes : Appends before after (concat (take whole all))
+-- the lines that a newline ends
+abbrev pub whole_lines : List InputLine → List InputLine
+whole_lines lines = filter (λ line. line.ended) lines
 
--- some of the pieces from the front were written whole, and of the next one a part from its front
-pub record WritesPart (all : List (List ℕ)) (before after : Option (List ℕ)) : Type 0 where
-  pub whole : ℕ
+-- no line that was read ended the run
+abbrev pub IsOpen : Ending → Type 0
+IsOpen ending = (ending ≡ AtEnd) ⊎ ((line : ℕ) × (ending ≡ AtBadLine line NoCluster))
+
+-- a source failed: the outputs of all whole lines that it gave before are written, and nothing else
+pub record ReadsWhole (run : List InputLine → Run) (bytes : List ℕ) (left before after : Option (List ℕ)) : Type 0 where
+  pub given : List ℕ
+  pub gave : Consumes (Some bytes) left given
+  pub unended : IsOpen (run (whole_lines (lines_of given))).ending
+  pub writes : Appends before after (concat (run (whole_lines (lines_of given))).outputs)
+
+-- all of these but the last are written whole, and of the last a part from its front
+pub record WritesLast (all : List (List ℕ)) (before after : Option (List ℕ)) : Type 0 where
   pub part : ℕ
-  pub writes : Appends before after (concat (take whole all) ++ take part (unwrap_or (slice_get all whole) []))
+  pub writes : Appends before after (concat (take (length all - 1) all) ++ take part (unwrap_or (slice_get all (length all - 1)) []))
 
--- what was written by a run that ended with a status
-abbrev pub Ended : Run → Status → Option (List ℕ) → Option (List ℕ) → Type 0
-Ended r Done before after = (r.ending ≡ AtEnd) × Appends before after (concat (pieces r))
-Ended r (BadInput line fault) before after = (r.ending ≡ AtBadLine line fault) × Appends before after (concat r.outputs)
-Ended r (Limit Lines kept) before after = (r.ending ≡ AtLimit) × (kept ≡ 1000000) × Appends before after (concat r.outputs)
-Ended r ReadFault before after = WritesSome r.outputs before after
-Ended r WriteFault before after = WritesPart (pieces r) before after
-Ended r OutOfMemory before after = WritesPart (pieces r) before after
-Ended r Usage before after = ⊥
+-- a run stopped within the output of the last of the lines that it took, or behind a whole input within the state;
+-- the source gave these lines and a few bytes ahead
+pub record StopsWithin (run : List InputLine → Run) (bytes : List ℕ) (left before after : Option (List ℕ)) : Type 0 where
+  pub lines : List InputLine
+  pub behind : List ℕ
+  pub cut : lines_of bytes ≡ lines ++ lines_of behind
+  pub ahead : List ℕ
+  pub gave : Consumes (Some behind) left ahead
+  pub few : length ahead ≤ read_ahead
+  pub writes : WritesLast (run lines).outputs before after ⊎ ((behind ≡ []) × WritesLast (pieces (run lines)) before after)
+
+-- what a run over an input wrote that ended with a status, and what its source has left then
+abbrev pub Ended : (List InputLine → Run) → List ℕ → Status → Option (List ℕ) → Option (List ℕ) → Option (List ℕ) → Type 0
+Ended run bytes Done left before after = (left ≡ Some []) × ((run (lines_of bytes)).ending ≡ AtEnd) × Appends before after (concat (pieces (run (lines_of bytes))))
+Ended run bytes (BadInput line fault) left before after = ((run (lines_of bytes)).ending ≡ AtBadLine line fault) × Appends before after (concat (run (lines_of bytes)).outputs)
+Ended run bytes (Limit Lines kept) left before after = ((run (lines_of bytes)).ending ≡ AtLimit) × (kept ≡ 1000000) × Appends before after (concat (run (lines_of bytes)).outputs)
+Ended run bytes ReadFault left before after = ReadsWhole run bytes left before after
+Ended run bytes WriteFault left before after = StopsWithin run bytes left before after
+Ended run bytes OutOfMemory left before after = StopsWithin run bytes left before after
+Ended run bytes Usage left before after = ⊥

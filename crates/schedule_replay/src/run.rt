@@ -1,11 +1,10 @@
-ghost use Rattle.std.specs.Prelude.{[], List, IfErr, ◌≡◌, ◌+◌, ◌<◌, ◌≤◌, ◌^◌, ◌≢◌, Option, Some, None, IfSome, OnOk, OnErr, Ok, Err, ℕ};
+ghost use Rattle.std.specs.Prelude.{false, List, IfErr, length, ◌≡◌, ◌+◌, ◌<◌, ◌≤◌, ◌^◌, ◌≢◌, Option, Some, None, IfSome, OnOk, OnErr, Ok, Err, ℕ};
 ghost use Rattle.fuxi_io.specs.Causes.{Rose};
-ghost use Rattle.fuxi_io.specs.Lines.{lines_of};
-ghost use Rattle.fuxi_io.specs.Reading.{rest_of};
+ghost use Rattle.fuxi_io.specs.Reading.{rest_of, read_ahead};
 ghost use Rattle.schedule_replay.specs.Channel.{Channel, new_channel};
 ghost use Rattle.schedule_replay.specs.Standing.{IsKept, Stands};
 ghost use Rattle.schedule_replay.specs.Runs.{run_from, read_from, Ended};
-ghost use Rattle.schedule_replay.specs.Progress.{TakesLine, WritesState, HasCluster, after_line, status_of, cluster_status};
+ghost use Rattle.schedule_replay.specs.Progress.{TakesLine, WritesState, HasCluster, IsReady, after_line, status_of, cluster_status};
 
 use crate::grammar::{content, is_skipped, read_event};
 use crate::replay::Replay;
@@ -110,6 +109,17 @@ fn cluster_status(fault: ClusterFault, number: u64) -> Status
     }
 }
 
+// The status of an input that ended behind so many lines, none of which describes the cluster.
+fn no_cluster(number: u64) -> Status
+    requires { number ≤ 1000000 }
+    ensures { result ≡ Status.BadInput (number + 1) InputFault.NoCluster }
+{
+    Status::BadInput {
+        line: number + 1,
+        fault: InputFault::NoCluster,
+    }
+}
+
 // Reads the line that describes the cluster, the first that is not skipped.
 fn read_cluster_line<S: Source>(
     alloc: Global,
@@ -117,9 +127,10 @@ fn read_cluster_line<S: Source>(
     source: &mut S,
 ) -> Result<Cluster, Status>
     requires { lines.old.stop ≢ Some LineStop.ReadFault }
-    ensures cluster { OnOk result (lines.old.stop ≡ None → IfSome (rest_of lines.old (S.left source.old)) (λ bytes. HasCluster bytes lines.old.number lines.new.number (rest_of lines.new (S.left source.new)))) }
+    ensures cluster { OnOk result (lines.old.stop ≡ None → IfSome (rest_of lines.old (S.left source.old)) (λ bytes. HasCluster bytes lines.old.number lines.new.number lines.new.ended (rest_of lines.new (S.left source.new)))) }
     ensures running { OnOk result (lines.new.stop ≡ None) }
-    ensures ended { IfErr result (λ status. lines.old.stop ≡ None → IfSome (rest_of lines.old (S.left source.old)) (λ bytes. (took : Option (List ℕ)) → Ended (read_from lines.old.number (lines_of bytes)) status took took)) }
+    ensures ahead { length lines.new.pending ≤ read_ahead }
+    ensures ended { IfErr result (λ status. lines.old.stop ≡ None → IfSome (rest_of lines.old (S.left source.old)) (λ bytes. (took : Option (List ℕ)) → Ended (read_from lines.old.number) bytes status (S.left source.new) took took)) }
     ensures done { result ≢ Err Status.Done }
     ensures usage { result ≢ Err Status.Usage }
     ensures write { result ≢ Err Status.WriteFault }
@@ -130,12 +141,7 @@ fn read_cluster_line<S: Source>(
     for turn in 0..1_000_001u64 {
         match lines.next(source) {
             Ok(Got::Line) => {}
-            Ok(Got::End) => {
-                return Err(Status::BadInput {
-                    line: lines.number() + 1,
-                    fault: InputFault::NoCluster,
-                });
-            }
+            Ok(Got::End) => return Err(no_cluster(lines.number())),
             Err(stop) => return Err(status_of(stop, lines.number())),
         }
         let number = lines.number();
@@ -146,20 +152,24 @@ fn read_cluster_line<S: Source>(
                 Err(fault) => Err(cluster_status(fault, number)),
             };
         }
+        if !lines.ended() {
+            return Err(no_cluster(number));
+        }
     }
     unreachable!()
 }
 
-// Runs the lines behind the one that describes the cluster.
+// Runs the lines behind the one that describes the cluster. Behind a line that ended the input nothing is read.
 fn run_lines<S: Source, O: Sink>(
     alloc: Global,
     lines: &mut LineReader,
     source: &mut S,
     out: &mut O,
 ) -> Status
-    requires { lines.old.stop ≢ Some LineStop.ReadFault }
-    ensures ended { lines.old.stop ≡ None → IfSome (rest_of lines.old (S.left source.old)) (λ bytes. Ended (run_from lines.old.number new_channel (lines_of bytes)) result (O.took out.old) (O.took out.new)) }
-    ensures end { lines.old.stop ≡ None → result ≡ Status.Done → IfSome (rest_of lines.old (S.left source.old)) (λ bytes. S.left source.new ≡ Some []) }
+    requires stop { lines.old.stop ≢ Some LineStop.ReadFault }
+    requires ahead { length lines.old.pending ≤ read_ahead }
+    ensures ended { IsReady lines.old (S.left source.old) → IfSome (rest_of lines.old (S.left source.old)) (λ bytes. Ended (run_from lines.old.number new_channel) bytes result (S.left source.new) (O.took out.old) (O.took out.new)) }
+    ensures unread { lines.old.ended ≡ false → result ≢ Status.ReadFault }
     ensures read { result ≡ Status.ReadFault → Rose (S.faults source.old) (S.faults source.new) }
     ensures write { result ≡ Status.WriteFault → Rose (O.faults out.old) (O.faults out.new) }
     ensures limit { lines.old.stop ≡ None → (what : LimitOf) (kept : ℕ) → result ≡ Status.Limit what kept → kept ≡ 1000000 }
@@ -170,6 +180,9 @@ fn run_lines<S: Source, O: Sink>(
     };
     let mut text = Vec::new(alloc);
     for turn in 0..1_000_001u64 {
+        if !lines.ended() {
+            return write_state(&replay, &mut text, out);
+        }
         match lines.next(source) {
             Ok(Got::Line) => {}
             Ok(Got::End) => return write_state(&replay, &mut text, out),
@@ -197,8 +210,7 @@ pub fn run_first<S: Source, O: Sink>(
 ) -> Status
     requires { lines.old.stop ≢ Some LineStop.ReadFault }
     // What was written, by the status. It is said of a reader that has not stopped over bytes that are known.
-    ensures ended { lines.old.stop ≡ None → IfSome (rest_of lines.old (S.left source.old)) (λ bytes. Ended (read_from lines.old.number (lines_of bytes)) result (O.took out.old) (O.took out.new)) }
-    ensures end { lines.old.stop ≡ None → result ≡ Status.Done → IfSome (rest_of lines.old (S.left source.old)) (λ bytes. S.left source.new ≡ Some []) }
+    ensures ended { lines.old.stop ≡ None → IfSome (rest_of lines.old (S.left source.old)) (λ bytes. Ended (read_from lines.old.number) bytes result (S.left source.new) (O.took out.old) (O.took out.new)) }
     ensures read { result ≡ Status.ReadFault → Rose (S.faults source.old) (S.faults source.new) }
     ensures write { result ≡ Status.WriteFault → Rose (O.faults out.old) (O.faults out.new) }
     ensures limit { lines.old.stop ≡ None → (what : LimitOf) (kept : ℕ) → result ≡ Status.Limit what kept → kept ≡ 1000000 }

@@ -1,11 +1,13 @@
 use Rattle.std.proofs.Common.{◌≤◌, ◌<◌, ◌-◌, ◌≡◌, [], length, vec_capacity}
 use Rattle.std.specs.Io.KnownBytes.{prepend_known, Consumes, IsAtEnd}
 use Rattle.fuxi_io.specs.Pieces.{NoNewline}
+use Rattle.fuxi_io.specs.Reading.{read_ahead}
 use Rattle.fuxi_io.proofs.lines.read_line.Given as goal
 
 abbrev pub invariant-loop-piece : goal.invariant-loop-piece
 invariant-loop-piece g l = record {
   room : 65536 ≤ vec_capacity l.line;
+  ahead : length l.piece ≤ read_ahead;
   plain : NoNewline l.line.items;
   short : length l.line.items ≤ 65536;
   read : Consumes (prepend_known l.fn.piece (g.S.Source.left l.fn.source)) (prepend_known l.piece (g.S.Source.left l.source)) l.line.items;

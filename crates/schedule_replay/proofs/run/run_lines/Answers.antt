@@ -1,48 +1,55 @@
-use Rattle.std.proofs.Common.{◌≡◌, ◌+◌, ◌<◌, Ok, Err, sym, ◌∙◌, ap, subst, arith}
+use Rattle.std.proofs.Common.{◌≡◌, ◌+◌, ◌<◌, false, true, Ok, Err, sym, ◌∙◌, ap, subst, arith, refl}
+use Rattle.std.proofs.lemmas.Bool.{false≢true}
 use Rattle.fuxi_io.specs.Reading.{line_of}
 use Rattle.schedule_replay.specs.Grammar.{content}
 use Rattle.schedule_replay.specs.Channel.{Channel, new_channel}
 use Rattle.schedule_replay.specs.Standing.{Stands}
 use Rattle.schedule_replay.specs.Progress.{TakesLine, after_line}
-use Rattle.schedule_replay.proofs.Going.{start, step_along, end_along, stop_along, line_along, end_left, running_alone}
+use Rattle.schedule_replay.proofs.Going.{start, nothing_taken, step_along, end_along, last_along, stop_along, line_along, running_alone}
 use Rattle.schedule_replay.proofs.run.run_lines.Goals as goal
+
+pub returns-in_default-clause-ended : goal.returns-in_default-clause-ended
+returns-in_default-clause-ended g c ready = nothing_taken c.args.lines.now.number c.args.lines.now.pending (g.S.Source.left c.args.source.now) (g.O.Sink.took c.args.out.now) c.requires.ahead
 
 pub loop-turn-init : goal.loop-turn-init
 loop-turn-init g c = record {
-  along = λ none. start _ _ c.args.lines.now.number c.in-Ok.replay c.in-Ok.ensures.stands;
+  along = λ ready. start _ _ c.args.lines.now.number c.args.lines.now.ended c.in-Ok.replay c.in-Ok.ensures.stands ready.last;
   kept = record { channel = new_channel; stands = c.in-Ok.ensures.stands };
   events = omega (arith, c.in-Ok.ensures.events);
   number = omega arith;
   small = λ h. absurd (omega (arith, h));
+  ahead = c.requires.ahead;
+  last = λ e. e;
   running = λ e. e;
-  unstopped = c.requires;
+  unstopped = c.requires.stop;
   read = omega arith;
   wrote = omega arith;
 }
 
-pub returns-in-Ok-End-clause-ended : goal.returns-in-Ok-End-clause-ended
-returns-in-Ok-End-clause-ended g c none =
-    let i = c.loop-turn.invariant.along none in
-    end_along _ _ c.loop-turn.lines.number c.loop-turn.replay _ _ _ i _ _ _ c.write_state.result (rw c.in-Ok-End.field-0-is at c.in-Ok-End.ensures.gives) c.write_state.ensures.writes
+pub returns-then-not-ended-clause-ended : goal.returns-then-not-ended-clause-ended
+returns-then-not-ended-clause-ended g c ready =
+    let i = c.loop-turn.invariant.along ready in
+    last_along _ _ c.loop-turn.lines.number c.loop-turn.lines.ended c.loop-turn.replay _ _ _ i c.loop-turn.lines.pending (g.S.Source.left c.loop-turn.source) _ c.write_state.result refl (sym c.if-not-ended.ensures) c.write_state.ensures.writes
 
-pub returns-in-Ok-End-clause-end : goal.returns-in-Ok-End-clause-end
-returns-in-Ok-End-clause-end g c none done =
-    let i = c.loop-turn.invariant.along none in
-    end_left _ _ c.loop-turn.lines.number c.loop-turn.replay _ _ _ i c.next.new.self.pending _ (g.S.Source.left c.next.new.source) (rw c.in-Ok-End.field-0-is at c.in-Ok-End.ensures.gives)
+pub returns-in-Ok-End-clause-ended : goal.returns-in-Ok-End-clause-ended
+returns-in-Ok-End-clause-ended g c ready =
+    let i = c.loop-turn.invariant.along ready in
+    end_along _ _ c.loop-turn.lines.number c.loop-turn.lines.ended c.loop-turn.replay _ _ _ i c.next.new.self.pending (g.S.Source.left c.next.new.source) _ _ c.write_state-in-Ok-End.result (rw c.in-Ok-End.field-0-is at c.in-Ok-End.ensures.gives) c.write_state-in-Ok-End.ensures.writes
 
 pub returns-in-Err-clause-ended : goal.returns-in-Err-clause-ended
-returns-in-Err-clause-ended g c none =
-    let i = c.loop-turn.invariant.along none in
-    let r = c.loop-turn.invariant.running none in
+returns-in-Err-clause-ended g c ready =
+    let i = c.loop-turn.invariant.along ready in
+    let r = c.loop-turn.invariant.running ready.running in
     rw (c.status_of.ensures, c.number.ensures.value, c.in-Err.ensures.number)
-    (stop_along _ _ c.loop-turn.lines.number c.loop-turn.replay _ _ _ i c.in-Err.stop (λ e. running_alone r (c.in-Err.ensures.long (ap (λ s. Err s) e))) (λ e. running_alone r (c.in-Err.ensures.many (ap (λ s. Err s) e))))
+    (stop_along _ _ c.loop-turn.lines.number c.loop-turn.lines.ended c.loop-turn.replay _ _ _ i (g.S.Source.left c.next.new.source) c.in-Err.stop (sym c.if-not-ended.ensures)
+    (λ e. running_alone r (c.in-Err.ensures.broke (ap (λ s. Err s) e))) (λ e. running_alone r (c.in-Err.ensures.long (ap (λ s. Err s) e))) (λ e. running_alone r (c.in-Err.ensures.many (ap (λ s. Err s) e))))
 
 pub returns-in-Err-take_line-clause-ended : goal.returns-in-Err-take_line-clause-ended
-returns-in-Err-take_line-clause-ended g c none =
-    let i = c.loop-turn.invariant.along none in
+returns-in-Err-take_line-clause-ended g c ready =
+    let i = c.loop-turn.invariant.along ready in
     let next : c.number-number.result ≡ c.loop-turn.lines.number + 1 = c.number-number.ensures.value ∙ (rw c.in-Ok-Line.field-0-is at c.in-Ok-Line.ensures.number) in
-    let line : c.content-line.result.now ≡ content (line_of c.next.new.self) = c.content-line.ensures ∙ ap (λ b. content (record { bytes = b; ended = c.ended.result })) c.line.ensures ∙ ap (λ b. content (record { bytes = c.next.new.self.line; ended = b })) c.ended.ensures in
-    line_along _ _ c.loop-turn.lines.number c.loop-turn.replay _ _ _ i _ _ (line_of c.next.new.self) c.in-Err-take_line.status (c.in-Ok-Line.ensures.within (ap (λ l. Ok l) c.in-Ok-Line.field-0-is)) (rw c.in-Ok-Line.field-0-is at c.in-Ok-Line.ensures.gives)
+    let line : c.content-line.result.now ≡ content (line_of c.next.new.self) = c.content-line.ensures ∙ ap (λ b. content (record { bytes = b; ended = c.ended-in-loop-turn.result })) c.line.ensures ∙ ap (λ b. content (record { bytes = c.next.new.self.line; ended = b })) c.ended-in-loop-turn.ensures in
+    line_along _ _ c.loop-turn.lines.number c.loop-turn.lines.ended c.loop-turn.replay _ _ _ i c.next.new.self.pending (g.S.Source.left c.next.new.source) _ (line_of c.next.new.self) c.in-Err-take_line.status (c.in-Ok-Line.ensures.within (ap (λ l. Ok l) c.in-Ok-Line.field-0-is)) c.in-Ok-Line.ensures.ahead (rw c.in-Ok-Line.field-0-is at c.in-Ok-Line.ensures.gives)
     (subst (λ n. (w : Channel) → Stands c.loop-turn.replay w → TakesLine (content (line_of c.next.new.self)) n w (Err c.in-Err-take_line.status) (g.O.Sink.took c.loop-turn.out) (g.O.Sink.took c.take_line.new.out)) next
     (subst (λ l. (w : Channel) → Stands c.loop-turn.replay w → TakesLine l c.number-number.result w (Err c.in-Err-take_line.status) (g.O.Sink.took c.loop-turn.out) (g.O.Sink.took c.take_line.new.out)) line c.in-Err-take_line.ensures.takes))
 
@@ -50,17 +57,19 @@ pub loop-turn-preserved : goal.loop-turn-preserved
 loop-turn-preserved g c =
     let next : c.number-number.result ≡ c.loop-turn.lines.number + 1 = c.number-number.ensures.value ∙ (rw c.in-Ok-Line.field-0-is at c.in-Ok-Line.ensures.number) in
     let more : c.loop-turn.lines.number < 1000000 = c.in-Ok-Line.ensures.within (ap (λ l. Ok l) c.in-Ok-Line.field-0-is) in
-    let line : c.content-line.result.now ≡ content (line_of c.next.new.self) = c.content-line.ensures ∙ ap (λ b. content (record { bytes = b; ended = c.ended.result })) c.line.ensures ∙ ap (λ b. content (record { bytes = c.next.new.self.line; ended = b })) c.ended.ensures in
+    let line : c.content-line.result.now ≡ content (line_of c.next.new.self) = c.content-line.ensures ∙ ap (λ b. content (record { bytes = b; ended = c.ended-in-loop-turn.result })) c.line.ensures ∙ ap (λ b. content (record { bytes = c.next.new.self.line; ended = b })) c.ended-in-loop-turn.ensures in
     let stands : (w : Channel) → Stands c.loop-turn.replay w → Stands c.take_line.new.replay (after_line w (content (line_of c.next.new.self))) = subst (λ l. (w : Channel) → Stands c.loop-turn.replay w → Stands c.take_line.new.replay (after_line w l)) line c.in-Ok-take_line.ensures.stands in
     let takes : (w : Channel) → Stands c.loop-turn.replay w → TakesLine (content (line_of c.next.new.self)) (c.loop-turn.lines.number + 1) w (Ok (record {})) (g.O.Sink.took c.loop-turn.out) (g.O.Sink.took c.take_line.new.out) =
     subst (λ l. (w : Channel) → Stands c.loop-turn.replay w → TakesLine l (c.loop-turn.lines.number + 1) w (Ok (record {})) (g.O.Sink.took c.loop-turn.out) (g.O.Sink.took c.take_line.new.out)) line c.in-Ok-take_line.ensures.takes in
     let k = c.loop-turn.invariant.kept in
     record {
-      along = λ none. step_along _ _ c.loop-turn.lines.number c.loop-turn.replay _ _ _ (c.loop-turn.invariant.along none) _ _ (line_of c.next.new.self) c.take_line.new.replay _ (sym c.number-number.ensures.value ∙ next) more (rw c.in-Ok-Line.field-0-is at c.in-Ok-Line.ensures.gives) takes stands;
+      along = λ ready. step_along _ _ c.loop-turn.lines.number c.loop-turn.lines.ended c.loop-turn.replay _ _ _ (c.loop-turn.invariant.along ready) _ _ (line_of c.next.new.self) c.take_line.new.replay _ (sym c.if-not-ended.ensures) (sym c.number-number.ensures.value ∙ next) more (rw c.in-Ok-Line.field-0-is at c.in-Ok-Line.ensures.gives) takes stands;
       kept = record { channel = after_line k.channel (content (line_of c.next.new.self)); stands = stands k.channel k.stands };
       events = omega (arith, c.in-Ok-take_line.ensures.events, c.loop-turn.invariant.events);
       number = omega (arith, next, c.number-number.ensures.value, c.loop-turn.invariant.number);
       small = λ h. omega (arith, next, c.number-number.ensures.value, more);
+      ahead = c.in-Ok-Line.ensures.ahead;
+      last = λ e. absurd (false≢true (sym (c.loop-turn.invariant.last e) ∙ sym c.if-not-ended.ensures));
       running = λ none. c.in-Ok-Line.ensures.stop;
       unstopped = λ e. let f = sym c.in-Ok-Line.ensures.stop ∙ e in cc;
       read = omega (arith, c.loop-turn.invariant.read, c.in-Ok-Line.ensures.later);

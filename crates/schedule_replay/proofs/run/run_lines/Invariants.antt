@@ -1,17 +1,19 @@
-use Rattle.std.proofs.Common.{◌≡◌, ◌≢◌, ◌≤◌, Some, None, IfSome}
-use Rattle.fuxi_io.specs.Reading.{rest_of}
+use Rattle.std.proofs.Common.{◌≡◌, ◌≢◌, ◌≤◌, false, length, Some, None, IfSome}
+use Rattle.fuxi_io.specs.Reading.{rest_of, read_ahead}
 use Rattle.fuxi_io.specs.declared.lines.LineStop.TheVariants.{ReadFault}
 use Rattle.schedule_replay.specs.Standing.{IsKept}
-use Rattle.schedule_replay.specs.Progress.{Along}
+use Rattle.schedule_replay.specs.Progress.{Along, IsReady}
 use Rattle.schedule_replay.proofs.run.run_lines.Given as goal
 
 abbrev pub invariant-loop-turn : goal.invariant-loop-turn
 invariant-loop-turn g l = record {
-  along : l.fn.lines.stop ≡ None → IfSome (rest_of l.fn.lines (g.S.Source.left l.fn.source)) (λ bytes. Along bytes l.fn.lines.number l.lines.number l.replay (rest_of l.lines (g.S.Source.left l.source)) (g.O.Sink.took l.fn.out) (g.O.Sink.took l.out));
+  along : IsReady l.fn.lines (g.S.Source.left l.fn.source) → IfSome (rest_of l.fn.lines (g.S.Source.left l.fn.source)) (λ bytes. Along bytes l.fn.lines.number l.lines.number l.lines.ended l.replay (rest_of l.lines (g.S.Source.left l.source)) (g.O.Sink.took l.fn.out) (g.O.Sink.took l.out));
   kept : IsKept l.replay;
   events : l.replay.events ≤ l.turn;
   number : l.turn ≤ l.lines.number;
   small : 1 ≤ l.turn → l.lines.number ≤ 1000000;
+  ahead : length l.lines.pending ≤ read_ahead;
+  last : l.fn.lines.ended ≡ false → l.lines.ended ≡ false;
   running : l.fn.lines.stop ≡ None → l.lines.stop ≡ None;
   unstopped : l.lines.stop ≢ Some ReadFault;
   read : g.S.Source.faults l.fn.source ≤ g.S.Source.faults l.source;

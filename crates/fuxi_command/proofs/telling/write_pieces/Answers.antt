@@ -1,6 +1,6 @@
 use Rattle.std.proofs.Common.{◌+◌, arith, ℕ, List, Bor}
-use Rattle.fuxi.proofs.Writing.{more_written, part_written}
-use Rattle.fuxi.proofs.report.write_pieces.Goals as goal
+use Rattle.fuxi_command.proofs.Writing.{more_written, part_written}
+use Rattle.fuxi_command.proofs.telling.write_pieces.Goals as goal
 
 pub loop-piece-preserved : goal.loop-piece-preserved
 loop-piece-preserved g c = record {

@@ -1,7 +1,7 @@
 use Rattle.std.proofs.Common.{◌≤◌, drop, map}
 use Rattle.std.specs.List.{concat}
-use Rattle.fuxi.specs.Pieces.{Written}
-use Rattle.fuxi.proofs.report.write_pieces.Given as goal
+use Rattle.fuxi_command.specs.Pieces.{Written}
+use Rattle.fuxi_command.proofs.telling.write_pieces.Given as goal
 
 abbrev pub invariant-loop-piece : goal.invariant-loop-piece
 invariant-loop-piece g l = record {

@@ -1,7 +1,7 @@
 use Rattle.std.proofs.Common.{◌≡◌, ◌∙◌, ◌++◌, ap, subst, OnErr, List, ℕ}
 use Rattle.fuxi_io.specs.Causes.{TakesPart}
-use Rattle.fuxi.proofs.Writing.{bad_input_line}
-use Rattle.fuxi.proofs.report.report.Goals as goal
+use Rattle.fuxi_command.proofs.Writing.{bad_input_line}
+use Rattle.fuxi_command.proofs.telling.report.Goals as goal
 
 pub returns-in-Usage-clause-err : goal.returns-in-Usage-clause-err
 returns-in-Usage-clause-err g c = rw c.in-Usage.is c.write_all_of.ensures.err

@@ -2,13 +2,11 @@ ghost use Rattle.std.specs.Prelude.{◌≡◌, ◌≢◌, ◌+◌, ◌≤◌, �
 ghost use Rattle.std.specs.List.{concat};
 ghost use Rattle.std.specs.Io.KnownBytes.{Appends};
 ghost use Rattle.fuxi_io.specs.Causes.{Rose};
-ghost use Rattle.fuxi_io.specs.Lines.{lines_of};
-ghost use Rattle.schedule_replay.specs.Channel.{new_channel};
-ghost use Rattle.schedule_replay.specs.Runs.{run_of, pieces, AtEnd, AtBadLine, AtLimit, WritesSome, WritesPart, Ended};
-ghost use Rattle.fuxi.specs.Words.{is_command};
-ghost use Rattle.fuxi.specs.Reports.{report_line, TakesReport};
+ghost use Rattle.schedule_replay.specs.Runs.{run_of, read_from, pieces, AtEnd, AtBadLine, AtLimit, ReadsWhole, StopsWithin, Ended};
+ghost use Rattle.fuxi_command.specs.Words.{is_command};
+ghost use Rattle.fuxi_command.specs.Reports.{report_line, TakesReport};
 
-use crate::report::report;
+use crate::telling::report;
 use fuxi_io::{InputFault, LimitOf, LineReader, Sink, Source, Status};
 use schedule_replay::run_first;
 use std::alloc::Global;
@@ -31,8 +29,7 @@ fn run_command<S: Source, O: Sink>(
 ) -> Status
     ensures usage { result ≡ Status.Usage ↔ (is_command (map string_bytes words.now) ≡ false) }
     ensures unused { result ≡ Status.Usage → (out.new ≡ out.old) × (input.new ≡ input.old) }
-    ensures ended { result ≢ Status.Usage → IfSome (S.left input.old) (λ bytes. Ended (run_of bytes) result (O.took out.old) (O.took out.new)) }
-    ensures end { result ≡ Status.Done → IfSome (S.left input.old) (λ bytes. S.left input.new ≡ Some []) }
+    ensures ended { result ≢ Status.Usage → IfSome (S.left input.old) (λ bytes. Ended (read_from 0) bytes result (S.left input.new) (O.took out.old) (O.took out.new)) }
     ensures read { result ≡ Status.ReadFault → Rose (S.faults input.old) (S.faults input.new) }
     ensures write { result ≡ Status.WriteFault → Rose (O.faults out.old) (O.faults out.new) }
     ensures limit { (what : LimitOf) (kept : ℕ) → result ≡ Status.Limit what kept → kept ≡ 1000000 }
@@ -76,16 +73,19 @@ pub fn fuxi<S: Source, O: Sink, E: Sink>(
     ensures limited { (what : LimitOf) (kept : ℕ) → result ≡ Status.Limit what kept → IfSome (S.left input.old) (λ bytes.
         ((run_of bytes).ending ≡ AtLimit) × Appends (O.took out.old) (O.took out.new) (concat (run_of bytes).outputs)) }
 
-    // The input failed in this call, and the outputs of the events taken, the first ones, were written.
+    // The input failed in this call, and the outputs of all whole lines that it gave before were written.
     ensures read { result ≡ Status.ReadFault → Rose (S.faults input.old) (S.faults input.new) }
-    ensures read_so_far { result ≡ Status.ReadFault → IfSome (S.left input.old) (λ bytes. WritesSome (run_of bytes).outputs (O.took out.old) (O.took out.new)) }
+    ensures read_so_far { result ≡ Status.ReadFault → IfSome (S.left input.old) (λ bytes. ReadsWhole (read_from 0) bytes (S.left input.new) (O.took out.old) (O.took out.new)) }
 
-    // The output failed in this call: all but the last of what was to be written is out whole, and of that a part.
+    // The output failed in this call: all outputs but the last of the lines taken are out whole, and of that a part.
     ensures write { result ≡ Status.WriteFault → Rose (O.faults out.old) (O.faults out.new) }
-    ensures written_so_far { result ≡ Status.WriteFault → IfSome (S.left input.old) (λ bytes. WritesPart (pieces (run_of bytes)) (O.took out.old) (O.took out.new)) }
+    ensures written_so_far { result ≡ Status.WriteFault → IfSome (S.left input.old) (λ bytes. StopsWithin (read_from 0) bytes (S.left input.new) (O.took out.old) (O.took out.new)) }
 
     // The same where memory was refused, which has no other cause.
-    ensures memory { result ≡ Status.OutOfMemory → IfSome (S.left input.old) (λ bytes. WritesPart (pieces (run_of bytes)) (O.took out.old) (O.took out.new)) }
+    ensures memory { result ≡ Status.OutOfMemory → IfSome (S.left input.old) (λ bytes. StopsWithin (read_from 0) bytes (S.left input.new) (O.took out.old) (O.took out.new)) }
+
+    // All of this by the status, for callers.
+    ensures ended { result ≢ Status.Usage → IfSome (S.left input.old) (λ bytes. Ended (read_from 0) bytes result (S.left input.new) (O.took out.old) (O.took out.new)) }
 
     // The error stream took the line of the status, or, where it failed in this call, a part of it.
     ensures report { TakesReport (report_line result) (E.took err.old) (E.took err.new) (E.faults err.old) (E.faults err.new) }

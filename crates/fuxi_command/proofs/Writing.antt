@@ -9,8 +9,8 @@ use Rattle.fuxi_terms.proofs.Appending.{appends_both, appends_none}
 use Rattle.std.specs.Prelude.{codes, decimal}
 use Rattle.fuxi_io.specs.declared.status.InputFault.{InputFault}
 use Rattle.fuxi_io.specs.declared.status.Status.TheVariants.{BadInput}
-use Rattle.fuxi.specs.Reports.{fault_name, fault_value, report_line}
-use Rattle.fuxi.specs.Pieces.{Written}
+use Rattle.fuxi_command.specs.Reports.{fault_name, fault_value, report_line}
+use Rattle.fuxi_command.specs.Pieces.{Written}
 
 module _ {A : Type 0} (f : A → List ℕ) where
   next_piece : (ps : List A) (i : ℕ) (d : A) → i < length ps → concat (map f (drop i ps)) ≡ f (get_or ps i d) ++ concat (map f (drop (i + 1) ps))

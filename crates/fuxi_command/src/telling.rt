@@ -2,7 +2,7 @@ ghost use Rattle.std.specs.Prelude.{◌≡◌, ◌++◌, ◌+◌, ◌≤◌, OnO
 ghost use Rattle.std.specs.List.{concat};
 ghost use Rattle.std.specs.Io.KnownBytes.{Appends};
 ghost use Rattle.fuxi_io.specs.Causes.{HasCause, TakesPart};
-ghost use Rattle.fuxi.specs.Reports.{fault_name, fault_value, limit_word, report_line, TakesReport};
+ghost use Rattle.fuxi_command.specs.Reports.{fault_name, fault_value, limit_word, report_line, TakesReport};
 
 use fuxi_io::{InputFault, LimitOf, Sink, Status, WriteFault, write_all_of};
 use itoa::Buffer;

@@ -1,0 +1,78 @@
+ghost use Rattle.std.specs.Prelude.{◌≡◌, ◌≢◌, ◌↔◌, ◌++◌, IfOk, IfErr, IfSome, true, false, map, string_bytes};
+ghost use Rattle.std.specs.Process.{exit_status};
+ghost use Rattle.std.specs.IoError.{error_kind};
+ghost use Rattle.fuxi_io.specs.Statuses.{code_of};
+ghost use Rattle.schedule_replay.specs.Runs.{read_from, Ended};
+ghost use Rattle.fuxi_command.specs.Words.{is_command, HasWords, NoWords, WhyNoWords};
+ghost use Rattle.fuxi_command.specs.Reports.{report_line, TakesReport};
+
+use crate::telling::report;
+use crate::top::fuxi;
+use fuxi_io::{Sink, Source, Status};
+use std::alloc::Global;
+use std::env::Args;
+use std::io;
+use std::io::ErrorKind;
+use std::process::ExitCode;
+
+// The status where the arguments of a program cannot be read: one that is no text is no command.
+fn unread(kind: ErrorKind) -> Status
+    ensures { NoWords kind result }
+{
+    if kind == ErrorKind::OutOfMemory {
+        Status::OutOfMemory
+    } else {
+        Status::Usage
+    }
+}
+
+/// The words of a program's arguments, which are those behind its name, or the status where they cannot be
+/// had: `Usage` where a word is no text, and else `OutOfMemory`.
+pub fn words_of(alloc: Global, args: io::Result<Args>) -> Result<Vec<String>, Status>
+    ensures ok { IfOk result (λ words. HasWords args words.items) }
+    ensures err { IfErr result (λ status. WhyNoWords args status) }
+{
+    let mut args = match args {
+        Ok(args) => args,
+        Err(error) => return Err(unread(error.kind())),
+    };
+    let _name = args.next();
+    let mut words = Vec::new(alloc);
+    while let Some(word) = args.next() {
+        if words.push(word).is_err() {
+            return Err(Status::OutOfMemory);
+        }
+    }
+    Ok(words)
+}
+
+/// Runs the command of the words, or tells on the error stream why there are none.
+pub fn run<S: Source, O: Sink, E: Sink>(
+    alloc: Global,
+    words: Result<Vec<String>, Status>,
+    input: &mut S,
+    out: &mut O,
+    err: &mut E,
+) -> Status
+    // Without words the status is that of their want, and nothing was read or written but the line that tells it.
+    ensures none { IfErr words (λ status. (result ≡ status) × (input.new ≡ input.old) × (out.new ≡ out.old)) }
+    // With words it is what `fuxi` makes of them.
+    ensures usage { IfOk words (λ words. result ≡ Status.Usage ↔ (is_command (map string_bytes words.items) ≡ false)) }
+    ensures ended { IfOk words (λ words. result ≢ Status.Usage → IfSome (S.left input.old) (λ bytes. Ended (read_from 0) bytes result (S.left input.new) (O.took out.old) (O.took out.new))) }
+    ensures report { TakesReport (report_line result) (E.took err.old) (E.took err.new) (E.faults err.old) (E.faults err.new) }
+{
+    match words {
+        Ok(words) => fuxi(alloc, &words, input, out, err),
+        Err(status) => {
+            let _told = report(err, &status);
+            status
+        }
+    }
+}
+
+/// The number with which the program ends.
+pub fn exit_of(status: &Status) -> ExitCode
+    ensures { exit_status result ≡ code_of status.now }
+{
+    ExitCode::from(status.code())
+}
