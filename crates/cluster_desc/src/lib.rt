@@ -5,8 +5,6 @@
 mod cluster;
 mod fault;
 mod read;
-#[cfg(test)]
-mod tests;
 
 pub use cluster::{Cluster, Group, Machine};
 pub use fault::ClusterFault;

@@ -5,6 +5,7 @@ ghost use Rattle.fuxi_io.specs.Causes.{Rose};
 ghost use Rattle.schedule_replay.specs.Runs.{run_of, read_from, pieces, AtEnd, AtBadLine, AtLimit, ReadsWhole, StopsWithin, Ended};
 ghost use Rattle.fuxi_command.specs.Words.{is_command};
 ghost use Rattle.fuxi_command.specs.Reports.{report_line, TakesReport};
+ghost use Rattle.fuxi_terms.specs.Limits.{most_lines};
 
 use crate::telling::report;
 use fuxi_io::{InputFault, LimitOf, LineReader, Sink, Source, Status};
@@ -32,7 +33,7 @@ fn run_command<S: Source, O: Sink>(
     ensures ended { result ≢ Status.Usage → IfSome (S.left input.old) (λ bytes. Ended (read_from 0) bytes result (S.left input.new) (O.took out.old) (O.took out.new)) }
     ensures read { result ≡ Status.ReadFault → Rose (S.faults input.old) (S.faults input.new) }
     ensures write { result ≡ Status.WriteFault → Rose (O.faults out.old) (O.faults out.new) }
-    ensures limit { (what : LimitOf) (kept : ℕ) → result ≡ Status.Limit what kept → kept ≡ 1000000 }
+    ensures limit { (what : LimitOf) (kept : ℕ) → result ≡ Status.Limit what kept → kept ≡ most_lines }
 {
     if !is_command(words) {
         return Status::Usage;
@@ -69,7 +70,7 @@ pub fn fuxi<S: Source, O: Sink, E: Sink>(
         ((run_of bytes).ending ≡ AtBadLine line fault) × Appends (O.took out.old) (O.took out.new) (concat (run_of bytes).outputs)) }
 
     // A line begins after 1,000,000, and the outputs of all lines before it were written.
-    ensures limit { (what : LimitOf) (kept : ℕ) → result ≡ Status.Limit what kept → kept ≡ 1000000 }
+    ensures limit { (what : LimitOf) (kept : ℕ) → result ≡ Status.Limit what kept → kept ≡ most_lines }
     ensures limited { (what : LimitOf) (kept : ℕ) → result ≡ Status.Limit what kept → IfSome (S.left input.old) (λ bytes.
         ((run_of bytes).ending ≡ AtLimit) × Appends (O.took out.old) (O.took out.new) (concat (run_of bytes).outputs)) }
 

@@ -5,8 +5,9 @@ use Rattle.fuxi_io.specs.Lines.{lines_of, GivesKnown, MoreKnown}
 use Rattle.fuxi_io.specs.Pieces.{NoNewline}
 use Rattle.fuxi_io.specs.declared.lines.Got.TheVariants.{Line}
 use Rattle.fuxi_io.proofs.Cutting.{lines_of-cut, lines_of-last}
+use Rattle.fuxi_terms.specs.Limits.{most_line_bytes}
 
-pub gives_cut : (old left : Option (List ℕ)) (line piece made rest : List ℕ) → Consumes old (prepend_known piece left) line → line ++ piece ≡ made ++ 10 ∷ rest → NoNewline made → length made ≤ 65536 → GivesKnown Line old (record { bytes = made; ended = true }) (prepend_known rest left)
+pub gives_cut : (old left : Option (List ℕ)) (line piece made rest : List ℕ) → Consumes old (prepend_known piece left) line → line ++ piece ≡ made ++ 10 ∷ rest → NoNewline made → length made ≤ most_line_bytes → GivesKnown Line old (record { bytes = made; ended = true }) (prepend_known rest left)
 gives_cut None left line piece made rest read split none short = tt
 gives_cut (Some old) None line piece made rest read split none short = absurd read
 gives_cut (Some old) (Some left) line piece made rest read split none short =
@@ -19,7 +20,7 @@ gives_cut (Some old) (Some left) line piece made rest read split none short =
       last = λ e. cc;
     }
 
-pub gives_last : (old left : Option (List ℕ)) (line piece : List ℕ) → Consumes old (prepend_known piece left) line → piece ≡ [] → IsAtEnd left → NoNewline line → 0 < length line → length line ≤ 65536 → GivesKnown Line old (record { bytes = line; ended = false }) (prepend_known piece left)
+pub gives_last : (old left : Option (List ℕ)) (line piece : List ℕ) → Consumes old (prepend_known piece left) line → piece ≡ [] → IsAtEnd left → NoNewline line → 0 < length line → length line ≤ most_line_bytes → GivesKnown Line old (record { bytes = line; ended = false }) (prepend_known piece left)
 gives_last None left line piece read empty end none some short = tt
 gives_last (Some old) None line piece read empty end none some short = absurd read
 gives_last (Some old) (Some left) line piece read empty end none some short =

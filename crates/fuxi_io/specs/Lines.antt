@@ -4,6 +4,7 @@ use Rattle.std.specs.Io.KnownBytes.{Consumes}
 use Rattle.fuxi_io.specs.Pieces.{NoNewline}
 use Rattle.fuxi_io.specs.declared.lines.Got.{Got}
 use Rattle.fuxi_io.specs.declared.lines.Got.TheVariants.{Line, End}
+use Rattle.fuxi_terms.specs.Limits.{most_line_bytes}
 
 -- the bytes of a line, and whether a newline ended it
 pub record InputLine : Type 0 where
@@ -33,7 +34,7 @@ bytes_of line = if line.ended then line.bytes ++ 10 ∷ [] else line.bytes
 pub record IsFirst (old : List ℕ) (line : InputLine) (new : List ℕ) : Type 0 where
   pub cut : old ≡ bytes_of line ++ new
   pub first : lines_of old ≡ line ∷ lines_of new
-  pub short : length line.bytes ≤ 65536
+  pub short : length line.bytes ≤ most_line_bytes
   -- a line that a newline ends is the first, whatever stands behind it; nothing stands behind another one
   pub alone : line.ended ≡ true → (more : List ℕ) → lines_of (bytes_of line ++ more) ≡ line ∷ lines_of more
   pub last : line.ended ≡ false → new ≡ []
@@ -58,7 +59,7 @@ pub record BreaksOff (old new : Option (List ℕ)) : Type 0 where
 -- where the bytes that are left are known, their first line is too long
 abbrev pub FirstTooLongKnown : Option (List ℕ) → Type 0
 FirstTooLongKnown None = ⊤
-FirstTooLongKnown (Some old) = FirstLonger 65536 (lines_of old)
+FirstTooLongKnown (Some old) = FirstLonger most_line_bytes (lines_of old)
 
 -- where the bytes that are left are known, there are some
 abbrev pub MoreKnown : Option (List ℕ) → Type 0

@@ -15,6 +15,3 @@ pub use memory::{MemSink, MemSource};
 pub use outside::{Failed, Sink, Source, WriteFault, write_all_of};
 pub use standard::{StdSink, StdSource};
 pub use status::{ClusterKey, InputFault, LimitOf, Status};
-
-#[cfg(test)]
-mod tests;

@@ -3,15 +3,14 @@ ghost use Rattle.std.specs.Io.KnownBytes.{prepend_known};
 ghost use Rattle.fuxi_io.specs.Causes.{Rose};
 ghost use Rattle.fuxi_io.specs.Lines.{GivesKnown, BreaksOff, FirstTooLongKnown, MoreKnown};
 ghost use Rattle.fuxi_io.specs.Reading.{line_of, number_after, rest_of, stop_of, read_ahead};
+ghost use Rattle.fuxi_terms.specs.Limits.{most_line_bytes, most_lines};
 
 use crate::outside::Source;
-use crate::piece::{LINE_BYTES, Piece};
+use crate::piece::Piece;
 use fuxi_terms::OutOfMemory;
+use fuxi_terms::limits::{MOST_LINE_BYTES, MOST_LINES};
 use std::alloc::Global;
 use std::marker::Model;
-
-// How many lines are given.
-const LINES: u64 = 1000000;
 
 /// What `next` gave.
 #[derive(Clone, Copy, Debug, Drop, PartialEq, Eq)]
@@ -46,13 +45,14 @@ pub struct LineReader {
 
 impl Model for LineReader {
     ghost use Rattle.std.specs.Prelude.{◌≤◌, length, vec_capacity};
+    ghost use Rattle.fuxi_terms.specs.Limits.{most_lines, most_line_bytes};
     ghost use Rattle.fuxi_io.specs.Reading.{Reading, read_ahead};
 
     ghost Value = { Reading };
 
     ghost view = { λ r. record { pending = r.piece; line = r.line.items; ended = r.ended; number = r.number; stop = r.stop } };
 
-    ghost invariant = { λ r. (65536 ≤ vec_capacity r.line) × (r.number ≤ 1000000) × (length r.piece ≤ read_ahead) };
+    ghost invariant = { λ r. (most_line_bytes ≤ vec_capacity r.line) × (r.number ≤ most_lines) × (length r.piece ≤ read_ahead) };
 }
 
 // Makes `line` the next line, of which at least one byte or newline waits in the piece. Answers whether
@@ -63,9 +63,9 @@ fn read_line<S: Source>(
     line: &mut Vec<u8>,
 ) -> Result<bool, LineStop>
     requires begun { piece.old ≢ [] }
-    requires room { 65536 ≤ vec_capacity line.old }
+    requires room { most_line_bytes ≤ vec_capacity line.old }
     requires ahead { length piece.old ≤ read_ahead }
-    ensures room { 65536 ≤ vec_capacity line.new }
+    ensures room { most_line_bytes ≤ vec_capacity line.new }
     ensures ahead { length piece.new ≤ read_ahead }
     ensures gives { IfOk result (λ ended. GivesKnown Got.Line (prepend_known piece.old (S.left source.old)) (record { bytes = line.new.items; ended = ended }) (prepend_known piece.new (S.left source.new))) }
     ensures later { S.faults source.old ≤ S.faults source.new }
@@ -90,7 +90,7 @@ impl LineReader {
         ensures { IfOk result (λ reader. reader ≡ record { pending = []; line = []; ended = false; number = 0; stop = None }) }
     {
         let piece = Piece::new(alloc)?;
-        let line = Vec::with_capacity(alloc, LINE_BYTES).map_err(|_| OutOfMemory)?;
+        let line = Vec::with_capacity(alloc, MOST_LINE_BYTES).map_err(|_| OutOfMemory)?;
         Ok(LineReader {
             piece,
             line,
@@ -113,7 +113,7 @@ impl LineReader {
 
         ensures gives { IfOk result (λ got. GivesKnown got (rest_of self.old (S.left source.old)) (line_of self.new) (rest_of self.new (S.left source.new))) }
         ensures number { self.new.number ≡ number_after self.old.number result }
-        ensures within { result ≡ Ok Got.Line → self.old.number < 1000000 }
+        ensures within { result ≡ Ok Got.Line → self.old.number < most_lines }
         ensures end { result ≡ Ok Got.End → self.new.line ≡ self.old.line }
 
         ensures later { S.faults source.old ≤ S.faults source.new }
@@ -121,9 +121,9 @@ impl LineReader {
         ensures broke { result ≡ Err LineStop.ReadFault → (self.old.stop ≡ Some LineStop.ReadFault) ⊎ BreaksOff (rest_of self.old (S.left source.old)) (S.left source.new) }
         ensures ahead { length self.new.pending ≤ read_ahead }
         ensures long { result ≡ Err LineStop.LineTooLong → (self.old.stop ≡ Some LineStop.LineTooLong)
-            ⊎ ((self.old.number < 1000000) × FirstTooLongKnown (rest_of self.old (S.left source.old))) }
+            ⊎ ((self.old.number < most_lines) × FirstTooLongKnown (rest_of self.old (S.left source.old))) }
         ensures many { result ≡ Err LineStop.TooManyLines → (self.old.stop ≡ Some LineStop.TooManyLines)
-            ⊎ ((self.old.number ≡ 1000000) × MoreKnown (rest_of self.old (S.left source.old))) }
+            ⊎ ((self.old.number ≡ most_lines) × MoreKnown (rest_of self.old (S.left source.old))) }
     {
         if let Some(stop) = self.stop {
             return Err(stop);
@@ -140,13 +140,13 @@ impl LineReader {
         ensures stop { self.new.stop ≡ self.old.stop }
         ensures gives { IfOk result (λ got. GivesKnown got (rest_of self.old (S.left source.old)) (line_of self.new) (rest_of self.new (S.left source.new))) }
         ensures number { self.new.number ≡ number_after self.old.number result }
-        ensures within { result ≡ Ok Got.Line → self.old.number < 1000000 }
+        ensures within { result ≡ Ok Got.Line → self.old.number < most_lines }
         ensures end { result ≡ Ok Got.End → self.new.line ≡ self.old.line }
         ensures later { S.faults source.old ≤ S.faults source.new }
         ensures fault { result ≡ Err LineStop.ReadFault → Rose (S.faults source.old) (S.faults source.new) }
         ensures broke { result ≡ Err LineStop.ReadFault → BreaksOff (rest_of self.old (S.left source.old)) (S.left source.new) }
-        ensures long { result ≡ Err LineStop.LineTooLong → (self.old.number < 1000000) × FirstTooLongKnown (rest_of self.old (S.left source.old)) }
-        ensures many { result ≡ Err LineStop.TooManyLines → (self.old.number ≡ 1000000) × MoreKnown (rest_of self.old (S.left source.old)) }
+        ensures long { result ≡ Err LineStop.LineTooLong → (self.old.number < most_lines) × FirstTooLongKnown (rest_of self.old (S.left source.old)) }
+        ensures many { result ≡ Err LineStop.TooManyLines → (self.old.number ≡ most_lines) × MoreKnown (rest_of self.old (S.left source.old)) }
     {
         if self.piece.is_empty() {
             self.piece.fill(source)?;
@@ -154,7 +154,7 @@ impl LineReader {
                 return Ok(Got::End);
             }
         }
-        if self.number == LINES {
+        if self.number == MOST_LINES {
             return Err(LineStop::TooManyLines);
         }
         self.ended = read_line(source, &mut self.piece, &mut self.line)?;
@@ -180,7 +180,7 @@ impl LineReader {
     /// How many lines `next` gave so far, at most 1,000,000.
     pub fn number(&self) -> u64
         ensures value { result ≡ self.now.number }
-        ensures bound { result ≤ 1000000 }
+        ensures bound { result ≤ most_lines }
     {
         self.number
     }

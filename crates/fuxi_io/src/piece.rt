@@ -4,15 +4,14 @@ ghost use Rattle.fuxi_io.specs.Causes.{Rose};
 ghost use Rattle.fuxi_io.specs.Lines.{FirstLonger, lines_of};
 ghost use Rattle.fuxi_io.specs.Pieces.{Moved, NoNewline};
 ghost use Rattle.fuxi_io.specs.Reading.{read_ahead};
+ghost use Rattle.fuxi_terms.specs.Limits.{most_line_bytes};
 
 use crate::lines::LineStop;
 use crate::outside::{Failed, Source};
 use fuxi_terms::OutOfMemory;
+use fuxi_terms::limits::MOST_LINE_BYTES;
 use std::alloc::Global;
 use std::marker::Model;
-
-// How many bytes a line may have before its newline.
-pub const LINE_BYTES: usize = 65536;
 
 // How many bytes are asked for in one read.
 const PIECE_BYTES: usize = 16384;
@@ -45,15 +44,15 @@ fn newline(bytes: &[u8]) -> Option<usize>
 
 // The line with these bytes behind it, where it is not too long.
 fn append(line: &mut Vec<u8>, bytes: &[u8]) -> Result<(), LineStop>
-    requires room { 65536 ≤ vec_capacity line.old }
-    requires short { length line.old.items ≤ 65536 }
-    ensures room { 65536 ≤ vec_capacity line.new }
+    requires room { most_line_bytes ≤ vec_capacity line.old }
+    requires short { length line.old.items ≤ most_line_bytes }
+    ensures room { most_line_bytes ≤ vec_capacity line.new }
     ensures ok { OnOk result (line.new.items ≡ line.old.items ++ bytes.now) }
-    ensures short { OnOk result (length line.new.items ≤ 65536) }
-    ensures long { OnErr result (65536 < length line.old.items + length bytes.now) }
+    ensures short { OnOk result (length line.new.items ≤ most_line_bytes) }
+    ensures long { OnErr result (most_line_bytes < length line.old.items + length bytes.now) }
     ensures stop { IfErr result (λ stop. stop ≡ LineStop.LineTooLong) }
 {
-    if bytes.len() > LINE_BYTES - line.len() {
+    if bytes.len() > MOST_LINE_BYTES - line.len() {
         return Err(LineStop::LineTooLong);
     }
     match line.extend_from_slice(bytes) {
@@ -103,16 +102,16 @@ impl Piece {
     // Moves the bytes before the first newline, and all where there is none, behind the line, and drops
     // that newline. Answers whether there was one.
     pub fn move_line(&mut self, line: &mut Vec<u8>) -> Result<bool, LineStop>
-        requires room { 65536 ≤ vec_capacity line.old }
+        requires room { most_line_bytes ≤ vec_capacity line.old }
         requires plain { NoNewline line.old.items }
-        requires short { length line.old.items ≤ 65536 }
-        ensures room { 65536 ≤ vec_capacity line.new }
+        requires short { length line.old.items ≤ most_line_bytes }
+        ensures room { most_line_bytes ≤ vec_capacity line.new }
         ensures plain { OnOk result (NoNewline line.new.items) }
-        ensures short { OnOk result (length line.new.items ≤ 65536) }
+        ensures short { OnOk result (length line.new.items ≤ most_line_bytes) }
         ensures few { length self.new ≤ length self.old }
         ensures moved { IfOk result (λ found. Moved found (line.old.items ++ self.old) line.new.items self.new) }
         ensures more { result ≡ Ok false → self.old ≢ [] → length line.old.items < length line.new.items }
-        ensures long { (more : List ℕ) → OnErr result (FirstLonger 65536 (lines_of (line.old.items ++ self.old ++ more))) }
+        ensures long { (more : List ℕ) → OnErr result (FirstLonger most_line_bytes (lines_of (line.old.items ++ self.old ++ more))) }
         ensures stop { IfErr result (λ stop. stop ≡ LineStop.LineTooLong) }
     {
         let bytes = &self.bytes[self.from..self.to];

@@ -9,8 +9,6 @@ ghost use Rattle.fuxi_terms.specs.Vectors.{fits, is_zero, plus as sum_of, minus 
 ghost use Rattle.fuxi_terms.specs.Padded.{padded};
 
 mod laws;
-#[cfg(test)]
-mod tests;
 
 pub use fuxi_terms::limits::GREATEST_QUANTITY;
 pub use fuxi_terms::{Res, Sum};

@@ -1,5 +1,5 @@
 -- A run over the lines of an input goes on by one line, or ends.
-use Rattle.std.proofs.Common.{◌⊎◌, inl, inr, ◌≡◌, ◌≢◌, ℕ, ◌+◌, ◌-◌, ◌<◌, ◌≤◌, Bool, true, false, cond, nat_eq, nat_lt, List, [], ◌∷◌, ◌++◌, length, take, Option, None, Some, IfSome, Result, Ok, Err, refl, sym, ◌∙◌, ap, subst, arith, append_assoc, append-nil, length-append, slice_get}
+use Rattle.std.proofs.Common.{◌⊎◌, inl, inr, ◌≡◌, ◌≢◌, ℕ, ◌+◌, ◌-◌, ◌<◌, ◌≤◌, Bool, true, false, cond, nat_eq, nat_lt, List, [], ◌∷◌, ◌++◌, length, take, Option, None, Some, IfSome, Ok, Err, refl, sym, ◌∙◌, ap, subst, arith, append_assoc, append-nil, length-append, slice_get}
 use Rattle.std.specs.Option.{unwrap_or}
 use Rattle.std.specs.List.{concat}
 use Rattle.std.specs.Io.KnownBytes.{Appends, Consumes, IsAtEnd, prepend_known}
@@ -12,7 +12,7 @@ use Rattle.fuxi_io.specs.Reading.{read_ahead}
 use Rattle.fuxi_io.specs.declared.lines.Got.TheVariants.{Line, End}
 use Rattle.fuxi_io.specs.declared.lines.LineStop.{LineStop}
 use Rattle.fuxi_io.specs.declared.lines.LineStop.TheVariants.{ReadFault as ReadStop, LineTooLong as LongStop, TooManyLines as ManyStop}
-use Rattle.fuxi_io.specs.declared.status.InputFault.TheVariants.{BadLine, LineTooLong, NoCluster}
+use Rattle.fuxi_io.specs.declared.status.InputFault.TheVariants.{BadLine, LineTooLong}
 use Rattle.fuxi_io.specs.declared.status.Status.{Status}
 use Rattle.fuxi_io.specs.declared.status.Status.TheVariants.{Done, Usage, BadInput, ReadFault, WriteFault, Limit, OutOfMemory}
 use Rattle.fuxi_terms.proofs.Appending.{appends_both, appends_none}
@@ -21,25 +21,26 @@ use Rattle.schedule_replay.specs.Grammar.{content, is_skipped, event_of}
 use Rattle.schedule_replay.specs.Channel.{Channel, new_channel, after}
 use Rattle.schedule_replay.specs.Texts.{printed, state_text}
 use Rattle.schedule_replay.specs.Standing.{Replaying, Stands}
-use Rattle.schedule_replay.specs.Runs.{Run, Ending, AtEnd, AtBadLine, AtLimit, ended, behind, within_limits, run_from, read_from, final_text, pieces, WritesLast, StopsWithin, Ended}
-use Rattle.schedule_replay.specs.Progress.{TakesLine, WritesState, after_line, behind_all, status_of, AreWhole, AreTaken, Along}
+use Rattle.schedule_replay.specs.Runs.{Run, Ending, AtEnd, AtBadLine, AtLimit, ended, behind, within_limits, run_from, read_from, pieces, WritesLast, StopsWithin, Ended}
+use Rattle.schedule_replay.specs.Progress.{TakesLine, WritesState, after_line, behind_all, status_of, Along}
 use Rattle.schedule_replay.proofs.Taking.{taken_none, taken_more, broken, reads_whole, read_of, no_more}
+use Rattle.fuxi_terms.specs.Limits.{most_line_bytes, most_lines}
 
 -- one line of a run
-pub within : (before : ℕ) (c : Channel) (line : InputLine) (run : Run) → before < 1000000 → length line.bytes ≤ 65536 → within_limits before c line run ≡ run
+pub within : (before : ℕ) (c : Channel) (line : InputLine) (run : Run) → before < most_lines → length line.bytes ≤ most_line_bytes → within_limits before c line run ≡ run
 within before c line run more short =
-    let m : nat_lt before 1000000 ≡ true = grind (arith, nat_tests) in
-    let s : nat_lt 65536 (length line.bytes) ≡ false = grind (arith, nat_tests) in
+    let m : nat_lt before most_lines ≡ true = grind (arith, nat_tests) in
+    let s : nat_lt most_line_bytes (length line.bytes) ≡ false = grind (arith, nat_tests) in
     rw (m, s) refl
 
-too_long : (before : ℕ) (c : Channel) (line : InputLine) (run : Run) → before < 1000000 → 65536 < length line.bytes → within_limits before c line run ≡ ended c (AtBadLine (before + 1) LineTooLong)
+too_long : (before : ℕ) (c : Channel) (line : InputLine) (run : Run) → before < most_lines → most_line_bytes < length line.bytes → within_limits before c line run ≡ ended c (AtBadLine (before + 1) LineTooLong)
 too_long before c line run more long =
-    let m : nat_lt before 1000000 ≡ true = grind (arith, nat_tests) in
-    let s : nat_lt 65536 (length line.bytes) ≡ true = grind (arith, nat_tests) in
+    let m : nat_lt before most_lines ≡ true = grind (arith, nat_tests) in
+    let s : nat_lt most_line_bytes (length line.bytes) ≡ true = grind (arith, nat_tests) in
     rw (m, s) refl
 
-too_many : (before : ℕ) (c : Channel) (line : InputLine) (run : Run) → before ≡ 1000000 → within_limits before c line run ≡ ended c AtLimit
-too_many before c line run many = let m : nat_lt before 1000000 ≡ false = grind (arith, nat_tests) in rw m refl
+too_many : (before : ℕ) (c : Channel) (line : InputLine) (run : Run) → before ≡ most_lines → within_limits before c line run ≡ ended c AtLimit
+too_many before c line run many = let m : nat_lt before most_lines ≡ false = grind (arith, nat_tests) in rw m refl
 
 -- what an event's line makes of a run, by whether it is skipped and by its event
 abbrev of_event : ℕ → Channel → List InputLine → Option Event → Run
@@ -50,7 +51,7 @@ abbrev of_line : ℕ → Channel → List InputLine → Option Event → Bool �
 of_line before c lines event true = run_from (before + 1) c lines
 of_line before c lines event false = of_event before c lines event
 
-run_is : (before : ℕ) (c : Channel) (line : InputLine) (lines : List InputLine) (skipped : Bool) (event : Option Event) → before < 1000000 → length line.bytes ≤ 65536
+run_is : (before : ℕ) (c : Channel) (line : InputLine) (lines : List InputLine) (skipped : Bool) (event : Option Event) → before < most_lines → length line.bytes ≤ most_line_bytes
     → is_skipped (content line) ≡ skipped → event_of (content line) ≡ event → run_from before c (line ∷ lines) ≡ of_line before c lines event skipped
 run_is before c line lines skipped event more short is_skip is_event =
     within before c line _ more short
@@ -71,19 +72,19 @@ run_is before c line lines skipped event more short is_skip is_event =
     by_skip true = refl
     by_skip false = by_event (event_of (content line)) ∙ ap (of_event before c lines) is_event
 
-run_long : (before : ℕ) (c : Channel) (lines : List InputLine) → before < 1000000 → FirstLonger 65536 lines → run_from before c lines ≡ ended c (AtBadLine (before + 1) LineTooLong)
+run_long : (before : ℕ) (c : Channel) (lines : List InputLine) → before < most_lines → FirstLonger most_line_bytes lines → run_from before c lines ≡ ended c (AtBadLine (before + 1) LineTooLong)
 run_long before c [] more long = absurd long
 run_long before c (line ∷ lines) more long = too_long before c line _ more long
 
-run_many : (before : ℕ) (c : Channel) (lines : List InputLine) → before ≡ 1000000 → lines ≢ [] → run_from before c lines ≡ ended c AtLimit
+run_many : (before : ℕ) (c : Channel) (lines : List InputLine) → before ≡ most_lines → lines ≢ [] → run_from before c lines ≡ ended c AtLimit
 run_many before c [] many some = absurd (some refl)
 run_many before c (line ∷ lines) many some = too_many before c line _ many
 
-pub read_long : (before : ℕ) (lines : List InputLine) → before < 1000000 → FirstLonger 65536 lines → read_from before lines ≡ ended new_channel (AtBadLine (before + 1) LineTooLong)
+pub read_long : (before : ℕ) (lines : List InputLine) → before < most_lines → FirstLonger most_line_bytes lines → read_from before lines ≡ ended new_channel (AtBadLine (before + 1) LineTooLong)
 read_long before [] more long = absurd long
 read_long before (line ∷ lines) more long = too_long before new_channel line _ more long
 
-pub read_many : (before : ℕ) (lines : List InputLine) → before ≡ 1000000 → lines ≢ [] → read_from before lines ≡ ended new_channel AtLimit
+pub read_many : (before : ℕ) (lines : List InputLine) → before ≡ most_lines → lines ≢ [] → read_from before lines ≡ ended new_channel AtLimit
 read_many before [] many some = absurd (some refl)
 read_many before (line ∷ lines) many some = too_many before new_channel line _ many
 
@@ -172,7 +173,7 @@ module _ (bytes : List ℕ) (first number : ℕ) (ends : Bool) (replay : Replayi
   through_more : (line : InputLine) (more : List InputLine) → run_from first new_channel ((a.lines ++ line ∷ []) ++ more) ≡ behind_all a.front (run_from number a.channel (line ∷ more))
   through_more line more = ap (run_from first new_channel) (append_assoc a.lines (line ∷ []) more) ∙ a.through (line ∷ more)
 
-  step : (rest' w' : Option (List ℕ)) (line : InputLine) (replay' : Replaying) → ends ≡ true → number < 1000000 → GivesKnown Line rest line rest'
+  step : (rest' w' : Option (List ℕ)) (line : InputLine) (replay' : Replaying) → ends ≡ true → number < most_lines → GivesKnown Line rest line rest'
       → ((c : Channel) → Stands replay c → TakesLine (content line) (number + 1) c (Ok (record {})) w w')
       → ((c : Channel) → Stands replay c → Stands replay' (after_line c (content line)))
       → Along bytes first (number + 1) line.ended replay' rest' w0 w'
@@ -250,7 +251,7 @@ module _ (bytes : List ℕ) (first number : ℕ) (ends : Bool) (replay : Replayi
       by_status ReadFault h = absurd h
       by_status (Limit what kept) h = absurd h
 
-  stop_ended : (source : Option (List ℕ)) (stop : LineStop) → ends ≡ true → (stop ≡ ReadStop → BreaksOff rest source) → (stop ≡ LongStop → (number < 1000000) × FirstTooLongKnown rest) → (stop ≡ ManyStop → (number ≡ 1000000) × MoreKnown rest)
+  stop_ended : (source : Option (List ℕ)) (stop : LineStop) → ends ≡ true → (stop ≡ ReadStop → BreaksOff rest source) → (stop ≡ LongStop → (number < most_lines) × FirstTooLongKnown rest) → (stop ≡ ManyStop → (number ≡ most_lines) × MoreKnown rest)
       → Ended (run_from first new_channel) bytes (status_of stop number) source w0 w
   stop_ended source ReadStop before broke long many =
       reads_whole (run_from first new_channel) bytes source w0 w a.lines (broken bytes a.left source a.lines (a.taken.whole before) (subst (λ r. BreaksOff r source) a.is_left (broke refl)))
@@ -264,7 +265,7 @@ module _ (bytes : List ℕ) (first number : ℕ) (ends : Bool) (replay : Replayi
       let same = known_end a.channel AtLimit (run_many number a.channel (lines_of a.left) m.0 (some_line a.left (subst MoreKnown a.is_left m.1))) in
       (ap (λ (r : Run). r.ending) same, m.0, subst (λ (r : Run). Appends w0 w (concat r.outputs)) (sym same) a.writes)
 
-  line_ended : (pending : List ℕ) (source w' : Option (List ℕ)) (line : InputLine) (status : Status) → number < 1000000 → length pending ≤ read_ahead → GivesKnown Line rest line (prepend_known pending source)
+  line_ended : (pending : List ℕ) (source w' : Option (List ℕ)) (line : InputLine) (status : Status) → number < most_lines → length pending ≤ read_ahead → GivesKnown Line rest line (prepend_known pending source)
       → ((c : Channel) → Stands replay c → TakesLine (content line) (number + 1) c (Err status) w w') → Ended (run_from first new_channel) bytes status source w0 w'
   line_ended pending source w' line status more few gives takes = by_status status (takes a.channel a.stands)
     where
@@ -302,7 +303,7 @@ module _ (bytes : List ℕ) (first number : ℕ) (ends : Bool) (replay : Replayi
 
 -- the same of an input that may be known
 module _ (input : Option (List ℕ)) (first number : ℕ) (ends : Bool) (replay : Replaying) (rest w0 w : Option (List ℕ)) (a : IfSome input (λ bytes. Along bytes first number ends replay rest w0 w)) where
-  pub step_along : (rest' w' : Option (List ℕ)) (line : InputLine) (replay' : Replaying) (number' : ℕ) → ends ≡ true → number' ≡ number + 1 → number < 1000000 → GivesKnown Line rest line rest'
+  pub step_along : (rest' w' : Option (List ℕ)) (line : InputLine) (replay' : Replaying) (number' : ℕ) → ends ≡ true → number' ≡ number + 1 → number < most_lines → GivesKnown Line rest line rest'
       → ((c : Channel) → Stands replay c → TakesLine (content line) (number + 1) c (Ok (record {})) w w')
       → ((c : Channel) → Stands replay c → Stands replay' (after_line c (content line)))
       → IfSome input (λ bytes. Along bytes first number' line.ended replay' rest' w0 w')
@@ -322,11 +323,11 @@ module _ (input : Option (List ℕ)) (first number : ℕ) (ends : Bool) (replay 
       let end = along.taken.last before in
       state_ended bytes first number ends replay rest w0 w along source w' status end (no_more pending source (sym is ∙ along.is_left ∙ ap (λ l. Some l) end)) (writes along.channel along.stands)) a
 
-  pub stop_along : (source : Option (List ℕ)) (stop : LineStop) → ends ≡ true → (stop ≡ ReadStop → BreaksOff rest source) → (stop ≡ LongStop → (number < 1000000) × FirstTooLongKnown rest) → (stop ≡ ManyStop → (number ≡ 1000000) × MoreKnown rest)
+  pub stop_along : (source : Option (List ℕ)) (stop : LineStop) → ends ≡ true → (stop ≡ ReadStop → BreaksOff rest source) → (stop ≡ LongStop → (number < most_lines) × FirstTooLongKnown rest) → (stop ≡ ManyStop → (number ≡ most_lines) × MoreKnown rest)
       → IfSome input (λ bytes. Ended (run_from first new_channel) bytes (status_of stop number) source w0 w)
   stop_along source stop before broke long many = weaker input _ _ (λ bytes along. stop_ended bytes first number ends replay rest w0 w along source stop before broke long many) a
 
-  pub line_along : (pending : List ℕ) (source w' : Option (List ℕ)) (line : InputLine) (status : Status) → number < 1000000 → length pending ≤ read_ahead → GivesKnown Line rest line (prepend_known pending source)
+  pub line_along : (pending : List ℕ) (source w' : Option (List ℕ)) (line : InputLine) (status : Status) → number < most_lines → length pending ≤ read_ahead → GivesKnown Line rest line (prepend_known pending source)
       → ((c : Channel) → Stands replay c → TakesLine (content line) (number + 1) c (Err status) w w')
       → IfSome input (λ bytes. Ended (run_from first new_channel) bytes status source w0 w')
   line_along pending source w' line status more few gives takes = weaker input _ _ (λ bytes along. line_ended bytes first number ends replay rest w0 w along pending source w' line status more few gives takes) a

@@ -23,14 +23,15 @@ use Rattle.schedule_replay.specs.Grammar.{content, is_skipped}
 use Rattle.schedule_replay.specs.Channel.{new_channel}
 use Rattle.schedule_replay.specs.Runs.{Run, AtEnd, AtBadLine, AtLimit, ended, run_from, read_from, behind_cluster, input_fault, pieces, whole_lines, IsOpen, WritesLast, StopsWithin, Ended}
 use Rattle.schedule_replay.specs.Progress.{status_of, cluster_status, AreWhole, AreTaken, Seeking, HasCluster}
-use Rattle.schedule_replay.proofs.Taking.{taken_none, taken_more, broken, reads_whole, read_of, no_more}
+use Rattle.schedule_replay.proofs.Taking.{taken_none, taken_more, broken, reads_whole, read_of}
 use Rattle.schedule_replay.proofs.Going.{within, read_long, read_many, some_line, weaker, next_line, at_end}
+use Rattle.fuxi_terms.specs.Limits.{most_line_bytes, most_lines}
 
 abbrev of_cluster : ℕ → List InputLine → Result ClusterRecord ClusterFault → Bool → Run
 of_cluster before lines outcome true = read_from (before + 1) lines
 of_cluster before lines outcome false = behind_cluster (before + 1) outcome (run_from (before + 1) new_channel lines)
 
-read_is : (before : ℕ) (line : InputLine) (lines : List InputLine) (skipped : Bool) → before < 1000000 → length line.bytes ≤ 65536
+read_is : (before : ℕ) (line : InputLine) (lines : List InputLine) (skipped : Bool) → before < most_lines → length line.bytes ≤ most_line_bytes
     → is_skipped (content line) ≡ skipped → read_from before (line ∷ lines) ≡ of_cluster before lines (cluster_of (content line)) skipped
 read_is before line lines skipped more short is_skip =
     within before new_channel line _ more short
@@ -63,7 +64,7 @@ module _ (bytes : List ℕ) (first number : ℕ) (rest : Option (List ℕ)) (s :
   through_more : (line : InputLine) (more : List InputLine) → read_from first ((s.lines ++ line ∷ []) ++ more) ≡ read_from number (line ∷ more)
   through_more line more = ap (read_from first) (append_assoc s.lines (line ∷ []) more) ∙ s.through (line ∷ more)
 
-  seek_step : (rest' : Option (List ℕ)) (line : InputLine) → line.ended ≡ true → number < 1000000 → GivesKnown Line rest line rest' → is_skipped (content line) ≡ true → Seeking bytes first (number + 1) rest'
+  seek_step : (rest' : Option (List ℕ)) (line : InputLine) → line.ended ≡ true → number < most_lines → GivesKnown Line rest line rest' → is_skipped (content line) ≡ true → Seeking bytes first (number + 1) rest'
   seek_step rest' line ends more gives skipped =
       let n = next_line s.left line rest rest' s.is_left gives in
       record {
@@ -75,7 +76,7 @@ module _ (bytes : List ℕ) (first number : ℕ) (rest : Option (List ℕ)) (s :
         through = λ ls. through_more line ls ∙ read_is number line ls true more n.first.short skipped;
       }
 
-  seek_found : (rest' : Option (List ℕ)) (line : InputLine) (cluster : ClusterRecord) → number < 1000000 → GivesKnown Line rest line rest' → is_skipped (content line) ≡ false → cluster_of (content line) ≡ Ok cluster
+  seek_found : (rest' : Option (List ℕ)) (line : InputLine) (cluster : ClusterRecord) → number < most_lines → GivesKnown Line rest line rest' → is_skipped (content line) ≡ false → cluster_of (content line) ≡ Ok cluster
       → HasCluster bytes first (number + 1) line.ended rest'
   seek_found rest' line cluster more gives skipped is =
       let n = next_line s.left line rest rest' s.is_left gives in
@@ -94,12 +95,12 @@ module _ (bytes : List ℕ) (first number : ℕ) (rest : Option (List ℕ)) (s :
       let same : read_from first (lines_of bytes) ≡ ended new_channel (AtBadLine line fault) = ap (read_from first) s.cut ∙ s.through (lines_of s.left) ∙ is in
       (ap (λ (r : Run). r.ending) same, subst (λ (r : Run). Appends took took (concat r.outputs)) (sym same) (appends_none took))
 
-  too_many : (source took : Option (List ℕ)) → number ≡ 1000000 → read_from number (lines_of s.left) ≡ ended new_channel AtLimit → Ended (read_from first) bytes (Limit Lines number) source took took
+  too_many : (source took : Option (List ℕ)) → number ≡ most_lines → read_from number (lines_of s.left) ≡ ended new_channel AtLimit → Ended (read_from first) bytes (Limit Lines number) source took took
   too_many source took many is =
       let same : read_from first (lines_of bytes) ≡ ended new_channel AtLimit = ap (read_from first) s.cut ∙ s.through (lines_of s.left) ∙ is in
       (ap (λ (r : Run). r.ending) same, many, subst (λ (r : Run). Appends took took (concat r.outputs)) (sym same) (appends_none took))
 
-  bad_cluster : (pending : List ℕ) (source took : Option (List ℕ)) (line : InputLine) (fault : ClusterFault) → number < 1000000 → length pending ≤ read_ahead → GivesKnown Line rest line (prepend_known pending source) → is_skipped (content line) ≡ false → IsFault (cluster_of (content line)) fault
+  bad_cluster : (pending : List ℕ) (source took : Option (List ℕ)) (line : InputLine) (fault : ClusterFault) → number < most_lines → length pending ≤ read_ahead → GivesKnown Line rest line (prepend_known pending source) → is_skipped (content line) ≡ false → IsFault (cluster_of (content line)) fault
       → Ended (read_from first) bytes (cluster_status fault (number + 1)) source took took
   bad_cluster pending source took line fault more few gives skipped is = by_fault fault is
     where
@@ -135,7 +136,7 @@ module _ (bytes : List ℕ) (first number : ℕ) (rest : Option (List ℕ)) (s :
       by_fault (ClusterQuotaOverLimit group) is = bad (ClusterQuotaOverLimit group) is
       by_fault ClusterOutOfMemory is = stops
 
-  stop_seek : (source took : Option (List ℕ)) (stop : LineStop) → (stop ≡ ReadStop → BreaksOff rest source) → (stop ≡ LongStop → (number < 1000000) × FirstTooLongKnown rest) → (stop ≡ ManyStop → (number ≡ 1000000) × MoreKnown rest)
+  stop_seek : (source took : Option (List ℕ)) (stop : LineStop) → (stop ≡ ReadStop → BreaksOff rest source) → (stop ≡ LongStop → (number < most_lines) × FirstTooLongKnown rest) → (stop ≡ ManyStop → (number ≡ most_lines) × MoreKnown rest)
       → Ended (read_from first) bytes (status_of stop number) source took took
   stop_seek source took ReadStop broke long many =
       let so_far : read_from first s.lines ≡ ended new_channel (AtBadLine (number + 1) NoCluster) = ap (read_from first) (sym (append-nil s.lines)) ∙ s.through [] in
@@ -150,16 +151,16 @@ module _ (bytes : List ℕ) (first number : ℕ) (rest : Option (List ℕ)) (s :
 
 -- the same of an input that may be known
 module _ (input : Option (List ℕ)) (first number : ℕ) (rest : Option (List ℕ)) (a : IfSome input (λ bytes. Seeking bytes first number rest)) where
-  pub seek_more : (rest' : Option (List ℕ)) (line : InputLine) (number' : ℕ) → number' ≡ number + 1 → line.ended ≡ true → number < 1000000 → GivesKnown Line rest line rest' → is_skipped (content line) ≡ true → IfSome input (λ bytes. Seeking bytes first number' rest')
+  pub seek_more : (rest' : Option (List ℕ)) (line : InputLine) (number' : ℕ) → number' ≡ number + 1 → line.ended ≡ true → number < most_lines → GivesKnown Line rest line rest' → is_skipped (content line) ≡ true → IfSome input (λ bytes. Seeking bytes first number' rest')
   seek_more rest' line number' next ends more gives skipped =
       weaker input _ _ (λ bytes (s : Seeking bytes first number rest). subst (λ k. Seeking bytes first k rest') (sym next) (seek_step bytes first number rest s rest' line ends more gives skipped)) a
 
-  pub seek_cluster : (rest' : Option (List ℕ)) (line : InputLine) (number' : ℕ) (cluster : ClusterRecord) → number' ≡ number + 1 → number < 1000000 → GivesKnown Line rest line rest' → is_skipped (content line) ≡ false → cluster_of (content line) ≡ Ok cluster
+  pub seek_cluster : (rest' : Option (List ℕ)) (line : InputLine) (number' : ℕ) (cluster : ClusterRecord) → number' ≡ number + 1 → number < most_lines → GivesKnown Line rest line rest' → is_skipped (content line) ≡ false → cluster_of (content line) ≡ Ok cluster
       → IfSome input (λ bytes. HasCluster bytes first number' line.ended rest')
   seek_cluster rest' line number' cluster next more gives skipped is =
       weaker input _ _ (λ bytes (s : Seeking bytes first number rest). subst (λ k. HasCluster bytes first k line.ended rest') (sym next) (seek_found bytes first number rest s rest' line cluster more gives skipped is)) a
 
-  pub seek_fault : (pending : List ℕ) (source : Option (List ℕ)) (line : InputLine) (fault : ClusterFault) → number < 1000000 → length pending ≤ read_ahead → GivesKnown Line rest line (prepend_known pending source) → is_skipped (content line) ≡ false → IsFault (cluster_of (content line)) fault
+  pub seek_fault : (pending : List ℕ) (source : Option (List ℕ)) (line : InputLine) (fault : ClusterFault) → number < most_lines → length pending ≤ read_ahead → GivesKnown Line rest line (prepend_known pending source) → is_skipped (content line) ≡ false → IsFault (cluster_of (content line)) fault
       → IfSome input (λ bytes. (took : Option (List ℕ)) → Ended (read_from first) bytes (cluster_status fault (number + 1)) source took took)
   seek_fault pending source line fault more few gives skipped is =
       weaker input _ _ (λ bytes (s : Seeking bytes first number rest) took. bad_cluster bytes first number rest s pending source took line fault more few gives skipped is) a
@@ -170,14 +171,14 @@ module _ (input : Option (List ℕ)) (first number : ℕ) (rest : Option (List �
       let e = at_end s.left line rest rest' s.is_left gives in
       bad_line bytes first number rest s source took (number + 1) NoCluster (ap (λ xs. read_from number (lines_of xs)) e.0)) a
 
-  pub seek_last : (source rest' : Option (List ℕ)) (line : InputLine) → line.ended ≡ false → number < 1000000 → GivesKnown Line rest line rest' → is_skipped (content line) ≡ true
+  pub seek_last : (source rest' : Option (List ℕ)) (line : InputLine) → line.ended ≡ false → number < most_lines → GivesKnown Line rest line rest' → is_skipped (content line) ≡ true
       → IfSome input (λ bytes. (took : Option (List ℕ)) → Ended (read_from first) bytes (BadInput ((number + 1) + 1) NoCluster) source took took)
   seek_last source rest' line ends more gives skipped = weaker input _ _ (λ bytes (s : Seeking bytes first number rest) took.
       let n = next_line s.left line rest rest' s.is_left gives in
       bad_line bytes first number rest s source took ((number + 1) + 1) NoCluster
       (ap (read_from number) n.first.first ∙ read_is number line (lines_of n.behind) true more n.first.short skipped ∙ ap (λ xs. read_from (number + 1) (lines_of xs)) (n.first.last ends))) a
 
-  pub seek_stop : (source : Option (List ℕ)) (stop : LineStop) → (stop ≡ ReadStop → BreaksOff rest source) → (stop ≡ LongStop → (number < 1000000) × FirstTooLongKnown rest) → (stop ≡ ManyStop → (number ≡ 1000000) × MoreKnown rest)
+  pub seek_stop : (source : Option (List ℕ)) (stop : LineStop) → (stop ≡ ReadStop → BreaksOff rest source) → (stop ≡ LongStop → (number < most_lines) × FirstTooLongKnown rest) → (stop ≡ ManyStop → (number ≡ most_lines) × MoreKnown rest)
       → IfSome input (λ bytes. (took : Option (List ℕ)) → Ended (read_from first) bytes (status_of stop number) source took took)
   seek_stop source stop broke long many = weaker input _ _ (λ bytes (s : Seeking bytes first number rest) took. stop_seek bytes first number rest s source took stop broke long many) a
 
@@ -200,7 +201,7 @@ module _ (bytes : List ℕ) (first number : ℕ) (ends : Bool) (rest : Option (L
   behind_ended : (status : Status) (source w0 w : Option (List ℕ)) → (ends ≡ false → status ≢ ReadFault) → Ended (run_from number new_channel) h.left status source w0 w → Ended (read_from first) bytes status source w0 w
   behind_ended Done source w0 w read e = (e.0, subst (λ (r : Run). r.ending ≡ AtEnd) (sym all) e.1, subst (λ (r : Run). Appends w0 w (concat (pieces r))) (sym all) e.2)
   behind_ended (BadInput line fault) source w0 w read e = subst (λ (r : Run). (r.ending ≡ AtBadLine line fault) × Appends w0 w (concat r.outputs)) (sym all) e
-  behind_ended (Limit Lines kept) source w0 w read e = subst (λ (r : Run). (r.ending ≡ AtLimit) × (kept ≡ 1000000) × Appends w0 w (concat r.outputs)) (sym all) e
+  behind_ended (Limit Lines kept) source w0 w read e = subst (λ (r : Run). (r.ending ≡ AtLimit) × (kept ≡ most_lines) × Appends w0 w (concat r.outputs)) (sym all) e
   behind_ended Usage source w0 w read e = e
   behind_ended ReadFault source w0 w read e = by_end ends h.taken read
     where

@@ -30,14 +30,15 @@ use Rattle.schedule_replay.specs.Numbers.{number_key, numbers_greatest, is_numbe
 use Rattle.schedule_replay.specs.Channel.{Channel, Mark, last, entry, value_now, with_value, posted, after, news, turn_of, mark_at, packet, heard_by, place_after}
 use Rattle.schedule_replay.specs.Texts.{number_line, sent_line, sent_lines, heard_line, verdict_word}
 use Rattle.schedule_replay.specs.Standing.{Replaying, Stands, Sends, IsPacket, mark_of, stamp_of, patched}
+use Rattle.fuxi_terms.specs.Limits.{greatest_count}
 
 -- a change of one number that leads to a value in range is made
-pub one_change : (p : TallyRecord) (number value : ℕ) (d : ℤ) → number < 8 → value ≤ 100000 → moved (count key_cmp p.entries (number_key number)) d ≡ Some value
+pub one_change : (p : TallyRecord) (number value : ℕ) (d : ℤ) → number < 8 → value ≤ greatest_count → moved (count key_cmp p.entries (number_key number)) d ≡ Some value
     → patched p (record { head = p.head; entries = (number_key number, d) ∷ [] }) ≡ Ok (record p { entries = set_count key_cmp p.entries (number_key number) value })
 one_change p number value d small within leads =
     let t : nat_eq p.head p.head ≡ true = grind (arith, nat_tests) in
     let l : nat_lt number 8 ≡ true = grind (arith, nat_tests) in
-    let v : nat_lt 100000 value ≡ false = grind (arith, nat_tests) in
+    let v : nat_lt greatest_count value ≡ false = grind (arith, nat_tests) in
     rw (t, leads, l, v) refl
 
 last_is : (r : Replaying) (c : Channel) → Stands r c → last c ≡ r.sender.last
@@ -197,19 +198,19 @@ shown_stands r c s = record { sender = s.sender; receiver = s.receiver; place = 
 pub found_at : {A : Type 0} (xs : List A) (i : ℕ) (x : A) → i < length xs → x ≡ get_or xs i x → slice_get xs i ≡ Some x
 found_at xs i x lt is = slice_get-get_or xs i x lt ∙ ap (λ y. Some y) (sym is)
 
-at_most : (b : Bool) → cond b 100000 0 ≤ 100000
+at_most : (b : Bool) → cond b greatest_count 0 ≤ greatest_count
 at_most true = lit≤ tt
 at_most false = lit≤ tt
 
 -- no value is above the greatest of all
-pub value_within : (es : List (Key × ℕ)) (k : Key) → AllByRecursion (λ e. e.1 ≤ numbers_greatest e.0) es → count key_cmp es k ≤ 100000
+pub value_within : (es : List (Key × ℕ)) (k : Key) → AllByRecursion (λ e. e.1 ≤ numbers_greatest e.0) es → count key_cmp es k ≤ greatest_count
 value_within [] k h = lit≤ tt
-value_within (e ∷ es) k h = elim (eq_by_cmp key_cmp k e.0) as (λ b. unwrap_or (cond b (Some e.1) (find key_cmp k es)) 0 ≤ 100000) [
+value_within (e ∷ es) k h = elim (eq_by_cmp key_cmp k e.0) as (λ b. unwrap_or (cond b (Some e.1) (find key_cmp k es)) 0 ≤ greatest_count) [
   | true ↦ le_trans h.0 (at_most (is_number_key e.0))
   | false ↦ value_within es k h.1
 ]
   where
-    le_trans : {a b : ℕ} → a ≤ b → b ≤ 100000 → a ≤ 100000
+    le_trans : {a b : ℕ} → a ≤ b → b ≤ greatest_count → a ≤ greatest_count
     le_trans h k = omega (arith, h, k)
 
 -- one packet that is sent

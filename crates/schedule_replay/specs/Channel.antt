@@ -11,6 +11,7 @@ use Rattle.delta_channel.specs.declared.receiver.Verdict.{Verdict}
 use Rattle.delta_channel.specs.declared.receiver.Verdict.TheVariants.{Take, Old, Gap, NotMine, Stale}
 use Rattle.schedule_replay.specs.declared.grammar.Event.{Event}
 use Rattle.schedule_replay.specs.declared.grammar.Event.TheVariants.{Post, Turn, Deliver, Show}
+use Rattle.fuxi_terms.specs.Limits.{greatest_count}
 
 -- what a packet brings: the whole ledger of an index, or the change that leads to it. It has no content
 pub record Mark : Type 0 where
@@ -79,7 +80,7 @@ heard_by place (Some m) = place_after place m (verdict_at m.full place m.index)
 
 -- the numbers of an event are in range
 abbrev pub IsEvent : Event → Type 0
-IsEvent (Post number value) = (number < 8) × (value ≤ 100000)
+IsEvent (Post number value) = (number < 8) × (value ≤ greatest_count)
 IsEvent Turn = Unit {0}
 IsEvent (Deliver number) = Unit {0}
 IsEvent Show = Unit {0}

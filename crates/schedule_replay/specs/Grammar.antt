@@ -8,6 +8,7 @@ use Rattle.schedule_replay.specs.declared.grammar.Word.{Word}
 use Rattle.schedule_replay.specs.declared.grammar.Word.TheVariants.{PostWord, TurnWord, DeliverWord, ShowWord}
 use Rattle.schedule_replay.specs.declared.grammar.Event.{Event}
 use Rattle.schedule_replay.specs.declared.grammar.Event.TheVariants.{Post, Turn, Deliver, Show}
+use Rattle.fuxi_terms.specs.Limits.{greatest_count}
 
 -- a byte before the first part
 abbrev pub onto_part : ℕ → List (List ℕ) → List (List ℕ)
@@ -58,7 +59,7 @@ content line = if line.ended then without_return line.bytes else line.bytes
 abbrev pub post_of : Option ℕ → Option ℕ → Option Event
 post_of None value = None
 post_of (Some number) None = None
-post_of (Some number) (Some value) = if nat_lt number 8 && not (nat_lt 100000 value) then Some (Post number value) else None
+post_of (Some number) (Some value) = if nat_lt number 8 && not (nat_lt greatest_count value) then Some (Post number value) else None
 
 -- the number of a packet, from 1
 abbrev pub deliver_of : Option ℕ → Option Event

@@ -4,6 +4,7 @@ use Rattle.std.proofs.Common.{lit≤, arith, refl}
 use Rattle.std.proofs.lemmas.Bool.Decides.{nat_tests}
 use Rattle.fuxi_terms.specs.declared.Key.{Key}
 use Rattle.ledger_law.specs.Shapes.{IsWritable}
+use Rattle.fuxi_terms.specs.Limits.{greatest_count, greatest_quantity}
 
 abbrev pub number_key : ℕ → Key
 number_key number = record { what = 1; unit = 0; number = number }
@@ -12,16 +13,16 @@ abbrev pub is_number_key : Key → Bool
 is_number_key key = nat_eq key.what 1 && (nat_eq key.unit 0 && nat_lt key.number 8)
 
 abbrev pub numbers_greatest : Key → ℕ
-numbers_greatest key = cond (is_number_key key) 100000 0
+numbers_greatest key = cond (is_number_key key) greatest_count 0
 
-within : (b : Bool) → cond b 100000 0 ≤ 1000000000000
+within : (b : Bool) → cond b greatest_count 0 ≤ greatest_quantity
 within true = lit≤ tt
 within false = lit≤ tt
 
-pub numbers_bounded : (key : Key) → numbers_greatest key ≤ 1000000000000
+pub numbers_bounded : (key : Key) → numbers_greatest key ≤ greatest_quantity
 numbers_bounded key = within (is_number_key key)
 
-is_key : (a b c : Bool) → 0 < cond (a && (b && c)) 100000 0 → (a ≡ true) × (b ≡ true) × (c ≡ true)
+is_key : (a b c : Bool) → 0 < cond (a && (b && c)) greatest_count 0 → (a ≡ true) × (b ≡ true) × (c ≡ true)
 is_key true true true h = (refl, refl, refl)
 is_key true true false h = absurd (omega arith)
 is_key true false c h = absurd (omega arith)

@@ -17,6 +17,7 @@ use Rattle.fuxi_io.specs.declared.status.Status.TheVariants.{Done, Usage, BadInp
 use Rattle.schedule_replay.specs.Grammar.{content, is_skipped, event_of}
 use Rattle.schedule_replay.specs.Channel.{Channel, new_channel, after}
 use Rattle.schedule_replay.specs.Texts.{printed, state_text}
+use Rattle.fuxi_terms.specs.Limits.{most_line_bytes, most_lines}
 
 -- why a line that describes no cluster is bad; no line wants memory
 abbrev pub input_fault : ClusterFault → InputFault
@@ -51,8 +52,8 @@ behind output r = record { outputs = output ∷ r.outputs; channel = r.channel; 
 -- the line begins past the greatest number of lines, or is too long; else what it says decides
 abbrev pub within_limits : ℕ → Channel → InputLine → Run → Run
 within_limits before c line run =
-    if not (nat_lt before 1000000) then ended c AtLimit
-    else (if nat_lt 65536 (length line.bytes) then ended c (AtBadLine (before + 1) LineTooLong) else run)
+    if not (nat_lt before most_lines) then ended c AtLimit
+    else (if nat_lt most_line_bytes (length line.bytes) then ended c (AtBadLine (before + 1) LineTooLong) else run)
 
 -- the run over these lines, so many lines having gone before
 abbrev pub run_from : ℕ → Channel → List InputLine → Run
@@ -126,7 +127,7 @@ pub record StopsWithin (run : List InputLine → Run) (bytes : List ℕ) (left b
 abbrev pub Ended : (List InputLine → Run) → List ℕ → Status → Option (List ℕ) → Option (List ℕ) → Option (List ℕ) → Type 0
 Ended run bytes Done left before after = (left ≡ Some []) × ((run (lines_of bytes)).ending ≡ AtEnd) × Appends before after (concat (pieces (run (lines_of bytes))))
 Ended run bytes (BadInput line fault) left before after = ((run (lines_of bytes)).ending ≡ AtBadLine line fault) × Appends before after (concat (run (lines_of bytes)).outputs)
-Ended run bytes (Limit Lines kept) left before after = ((run (lines_of bytes)).ending ≡ AtLimit) × (kept ≡ 1000000) × Appends before after (concat (run (lines_of bytes)).outputs)
+Ended run bytes (Limit Lines kept) left before after = ((run (lines_of bytes)).ending ≡ AtLimit) × (kept ≡ most_lines) × Appends before after (concat (run (lines_of bytes)).outputs)
 Ended run bytes ReadFault left before after = ReadsWhole run bytes left before after
 Ended run bytes WriteFault left before after = StopsWithin run bytes left before after
 Ended run bytes OutOfMemory left before after = StopsWithin run bytes left before after

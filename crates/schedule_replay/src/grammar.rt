@@ -1,6 +1,7 @@
 ghost use Rattle.std.specs.Prelude.{◌≡◌, ◌≢◌, ◌<◌, ℕ, ◌∷◌, [], length, slice_index, IfSome, IfNone, Some};
 ghost use Rattle.schedule_replay.specs.Grammar.{words_of, words_from, is_skipped, content, event_of, event_named, word_named, post_of, deliver_of};
 
+use fuxi_terms::limits::GREATEST_COUNT;
 use schedule_unit::read_number;
 
 /// An event of a schedule.
@@ -115,7 +116,7 @@ fn post(number: Option<u64>, value: Option<u64>) -> Option<Event>
 {
     let number = number?;
     let value = value?;
-    if number < 8 && value <= 100_000 {
+    if number < 8 && value <= GREATEST_COUNT {
         Some(Event::Post(number as u32, value))
     } else {
         None

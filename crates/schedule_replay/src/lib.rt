@@ -5,8 +5,6 @@ mod grammar;
 mod numbers;
 mod replay;
 mod run;
-#[cfg(test)]
-mod tests;
 mod texts;
 
 pub use grammar::Event;

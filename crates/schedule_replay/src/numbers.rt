@@ -1,6 +1,7 @@
 ghost use Rattle.std.specs.Prelude.{◌≡◌};
 ghost use Rattle.schedule_replay.specs.Numbers.{number_key};
 
+use fuxi_terms::limits::GREATEST_COUNT;
 use ledger_law::{Key, Shape};
 
 /// The shape of the small grammar's tally: values up to 100,000 at the numbers 0 to 7, and no entry that goes
@@ -34,7 +35,7 @@ impl Shape for Numbers {
 
     fn greatest(key: &Key) -> u64 {
         if key.what == 1 && key.unit == 0 && key.number < 8 {
-            100_000
+            GREATEST_COUNT
         } else {
             0
         }

@@ -10,6 +10,7 @@ ghost use Rattle.fuxi_terms.specs.Lists.{numbers_from};
 ghost use Rattle.schedule_replay.specs.Numbers.{number_key};
 ghost use Rattle.schedule_replay.specs.Texts.{printed, sent_line, sent_lines, verdict_word, state_text};
 ghost use Rattle.schedule_replay.specs.Standing.{IsKept, Stands, Sends, Brings, IsPacket, mark_of, stamp_of, patched};
+ghost use Rattle.fuxi_terms.specs.Limits.{greatest_count};
 
 use crate::grammar::Event;
 use crate::numbers::{Numbers, number_key};
@@ -71,7 +72,7 @@ impl Packet {
 // The value at a key, which has its greatest.
 fn value_at(ledger: &Tally<Numbers>, key: &Key) -> u64
     ensures value { result ≡ count key_cmp ledger.now.entries key.now }
-    ensures within { result ≤ 100000 }
+    ensures within { result ≤ greatest_count }
 {
     // What is known of all entries bounds the one that is read.
     let _entries = ledger.entries();
@@ -80,8 +81,8 @@ fn value_at(ledger: &Tally<Numbers>, key: &Key) -> u64
 
 // The change from one value to another.
 fn change_between(before: u64, value: u64) -> i64
-    requires before { before ≤ 100000 }
-    requires value { value ≤ 100000 }
+    requires before { before ≤ greatest_count }
+    requires value { value ≤ greatest_count }
     ensures moved { moved before result ≡ Some value }
     ensures real { (before ≡ value → ⊥) → is_no_change result ≡ false }
 {
@@ -233,7 +234,7 @@ impl Replay {
     // Posts the last ledger with this value at a number, where that differs.
     fn post(&mut self, alloc: Global, number: u32, value: u64) -> Result<(), LedgerFault>
         requires number { number < 8 }
-        requires value { value ≤ 100000 }
+        requires value { value ≤ greatest_count }
         requires events { self.old.events < 2 ^ 62 }
         ensures events { OnOk result (self.new.events ≡ self.old.events + 1) }
         ensures stands { OnOk result ((c : Channel) → Stands self.old c → Stands self.new (after c (Event.Post number value))) }

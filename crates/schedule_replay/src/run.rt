@@ -5,6 +5,7 @@ ghost use Rattle.schedule_replay.specs.Channel.{Channel, new_channel};
 ghost use Rattle.schedule_replay.specs.Standing.{IsKept, Stands};
 ghost use Rattle.schedule_replay.specs.Runs.{run_from, read_from, Ended};
 ghost use Rattle.schedule_replay.specs.Progress.{TakesLine, WritesState, HasCluster, IsReady, after_line, status_of, cluster_status};
+ghost use Rattle.fuxi_terms.specs.Limits.{most_lines};
 
 use crate::grammar::{content, is_skipped, read_event};
 use crate::replay::Replay;
@@ -72,7 +73,7 @@ fn write_state<O: Sink>(replay: &Replay, text: &mut Vec<u8>, out: &mut O) -> Sta
 
 // The status that a reader's stop means.
 fn status_of(stop: LineStop, number: u64) -> Status
-    requires { number ≤ 1000000 }
+    requires { number ≤ most_lines }
     ensures { result ≡ status_of stop number }
 {
     match stop {
@@ -111,7 +112,7 @@ fn cluster_status(fault: ClusterFault, number: u64) -> Status
 
 // The status of an input that ended behind so many lines, none of which describes the cluster.
 fn no_cluster(number: u64) -> Status
-    requires { number ≤ 1000000 }
+    requires { number ≤ most_lines }
     ensures { result ≡ Status.BadInput (number + 1) InputFault.NoCluster }
 {
     Status::BadInput {
@@ -135,7 +136,7 @@ fn read_cluster_line<S: Source>(
     ensures usage { result ≢ Err Status.Usage }
     ensures write { result ≢ Err Status.WriteFault }
     ensures read { result ≡ Err Status.ReadFault → Rose (S.faults source.old) (S.faults source.new) }
-    ensures limit { lines.old.stop ≡ None → (what : LimitOf) (kept : ℕ) → result ≡ Err (Status.Limit what kept) → kept ≡ 1000000 }
+    ensures limit { lines.old.stop ≡ None → (what : LimitOf) (kept : ℕ) → result ≡ Err (Status.Limit what kept) → kept ≡ most_lines }
     ensures later { S.faults source.old ≤ S.faults source.new }
 {
     for turn in 0..1_000_001u64 {
@@ -172,7 +173,7 @@ fn run_lines<S: Source, O: Sink>(
     ensures unread { lines.old.ended ≡ false → result ≢ Status.ReadFault }
     ensures read { result ≡ Status.ReadFault → Rose (S.faults source.old) (S.faults source.new) }
     ensures write { result ≡ Status.WriteFault → Rose (O.faults out.old) (O.faults out.new) }
-    ensures limit { lines.old.stop ≡ None → (what : LimitOf) (kept : ℕ) → result ≡ Status.Limit what kept → kept ≡ 1000000 }
+    ensures limit { lines.old.stop ≡ None → (what : LimitOf) (kept : ℕ) → result ≡ Status.Limit what kept → kept ≡ most_lines }
     ensures usage { result ≢ Status.Usage }
 {
     let Ok(mut replay) = Replay::start(alloc) else {
@@ -213,7 +214,7 @@ pub fn run_first<S: Source, O: Sink>(
     ensures ended { lines.old.stop ≡ None → IfSome (rest_of lines.old (S.left source.old)) (λ bytes. Ended (read_from lines.old.number) bytes result (S.left source.new) (O.took out.old) (O.took out.new)) }
     ensures read { result ≡ Status.ReadFault → Rose (S.faults source.old) (S.faults source.new) }
     ensures write { result ≡ Status.WriteFault → Rose (O.faults out.old) (O.faults out.new) }
-    ensures limit { lines.old.stop ≡ None → (what : LimitOf) (kept : ℕ) → result ≡ Status.Limit what kept → kept ≡ 1000000 }
+    ensures limit { lines.old.stop ≡ None → (what : LimitOf) (kept : ℕ) → result ≡ Status.Limit what kept → kept ≡ most_lines }
     ensures usage { result ≢ Status.Usage }
 {
     match read_cluster_line(alloc, lines, source) {

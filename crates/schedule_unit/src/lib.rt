@@ -6,8 +6,6 @@ mod asks;
 mod job;
 mod number;
 mod party;
-#[cfg(test)]
-mod tests;
 
 pub use asks::{Ask, Asks, Quantities};
 pub use job::{Job, JobFault, Unit};

@@ -1,4 +1,4 @@
-use Rattle.std.proofs.Common.{◌≡◌, ◌∙◌, ◌++◌, ap, subst, OnErr, List, ℕ}
+use Rattle.std.proofs.Common.{◌∙◌, ◌++◌, ap, subst, OnErr, List, ℕ}
 use Rattle.fuxi_io.specs.Causes.{TakesPart}
 use Rattle.fuxi_command.proofs.Writing.{bad_input_line}
 use Rattle.fuxi_command.proofs.telling.report.Goals as goal

@@ -1,4 +1,4 @@
-use Rattle.std.proofs.Common.{◌+◌, arith, ℕ, List, Bor}
+use Rattle.std.proofs.Common.{arith, ℕ, List, Bor}
 use Rattle.fuxi_command.proofs.Writing.{more_written, part_written}
 use Rattle.fuxi_command.proofs.telling.write_pieces.Goals as goal
 

@@ -3,13 +3,14 @@ use Rattle.std.specs.Io.KnownBytes.{prepend_known, Consumes, IsAtEnd}
 use Rattle.fuxi_io.specs.Pieces.{NoNewline}
 use Rattle.fuxi_io.specs.Reading.{read_ahead}
 use Rattle.fuxi_io.proofs.lines.read_line.Given as goal
+use Rattle.fuxi_terms.specs.Limits.{most_line_bytes}
 
 abbrev pub invariant-loop-piece : goal.invariant-loop-piece
 invariant-loop-piece g l = record {
-  room : 65536 ≤ vec_capacity l.line;
+  room : most_line_bytes ≤ vec_capacity l.line;
   ahead : length l.piece ≤ read_ahead;
   plain : NoNewline l.line.items;
-  short : length l.line.items ≤ 65536;
+  short : length l.line.items ≤ most_line_bytes;
   read : Consumes (prepend_known l.fn.piece (g.S.Source.left l.fn.source)) (prepend_known l.piece (g.S.Source.left l.source)) l.line.items;
   end : l.piece ≡ [] → IsAtEnd (g.S.Source.left l.source) × (0 < length l.line.items);
   later : g.S.Source.faults l.fn.source ≤ g.S.Source.faults l.source;

@@ -1,4 +1,4 @@
-use Rattle.std.proofs.Common.{◌≡◌, ◌+◌, ◌<◌, false, true, Ok, Err, sym, ◌∙◌, ap, subst, arith, refl}
+use Rattle.std.proofs.Common.{◌≡◌, ◌+◌, ◌<◌, Ok, Err, sym, ◌∙◌, ap, subst, arith, refl}
 use Rattle.std.proofs.lemmas.Bool.{false≢true}
 use Rattle.fuxi_io.specs.Reading.{line_of}
 use Rattle.schedule_replay.specs.Grammar.{content}
@@ -7,6 +7,7 @@ use Rattle.schedule_replay.specs.Standing.{Stands}
 use Rattle.schedule_replay.specs.Progress.{TakesLine, after_line}
 use Rattle.schedule_replay.proofs.Going.{start, nothing_taken, step_along, end_along, last_along, stop_along, line_along, running_alone}
 use Rattle.schedule_replay.proofs.run.run_lines.Goals as goal
+use Rattle.fuxi_terms.specs.Limits.{most_lines}
 
 pub returns-in_default-clause-ended : goal.returns-in_default-clause-ended
 returns-in_default-clause-ended g c ready = nothing_taken c.args.lines.now.number c.args.lines.now.pending (g.S.Source.left c.args.source.now) (g.O.Sink.took c.args.out.now) c.requires.ahead
@@ -56,7 +57,7 @@ returns-in-Err-take_line-clause-ended g c ready =
 pub loop-turn-preserved : goal.loop-turn-preserved
 loop-turn-preserved g c =
     let next : c.number-number.result ≡ c.loop-turn.lines.number + 1 = c.number-number.ensures.value ∙ (rw c.in-Ok-Line.field-0-is at c.in-Ok-Line.ensures.number) in
-    let more : c.loop-turn.lines.number < 1000000 = c.in-Ok-Line.ensures.within (ap (λ l. Ok l) c.in-Ok-Line.field-0-is) in
+    let more : c.loop-turn.lines.number < most_lines = c.in-Ok-Line.ensures.within (ap (λ l. Ok l) c.in-Ok-Line.field-0-is) in
     let line : c.content-line.result.now ≡ content (line_of c.next.new.self) = c.content-line.ensures ∙ ap (λ b. content (record { bytes = b; ended = c.ended-in-loop-turn.result })) c.line.ensures ∙ ap (λ b. content (record { bytes = c.next.new.self.line; ended = b })) c.ended-in-loop-turn.ensures in
     let stands : (w : Channel) → Stands c.loop-turn.replay w → Stands c.take_line.new.replay (after_line w (content (line_of c.next.new.self))) = subst (λ l. (w : Channel) → Stands c.loop-turn.replay w → Stands c.take_line.new.replay (after_line w l)) line c.in-Ok-take_line.ensures.stands in
     let takes : (w : Channel) → Stands c.loop-turn.replay w → TakesLine (content (line_of c.next.new.self)) (c.loop-turn.lines.number + 1) w (Ok (record {})) (g.O.Sink.took c.loop-turn.out) (g.O.Sink.took c.take_line.new.out) =

@@ -4,6 +4,7 @@ use Rattle.fuxi_io.specs.declared.lines.LineStop.TheVariants.{ReadFault}
 use Rattle.schedule_replay.specs.Standing.{IsKept}
 use Rattle.schedule_replay.specs.Progress.{Along, IsReady}
 use Rattle.schedule_replay.proofs.run.run_lines.Given as goal
+use Rattle.fuxi_terms.specs.Limits.{most_lines}
 
 abbrev pub invariant-loop-turn : goal.invariant-loop-turn
 invariant-loop-turn g l = record {
@@ -11,7 +12,7 @@ invariant-loop-turn g l = record {
   kept : IsKept l.replay;
   events : l.replay.events ≤ l.turn;
   number : l.turn ≤ l.lines.number;
-  small : 1 ≤ l.turn → l.lines.number ≤ 1000000;
+  small : 1 ≤ l.turn → l.lines.number ≤ most_lines;
   ahead : length l.lines.pending ≤ read_ahead;
   last : l.fn.lines.ended ≡ false → l.lines.ended ≡ false;
   running : l.fn.lines.stop ≡ None → l.lines.stop ≡ None;

@@ -2,6 +2,7 @@ use Rattle.std.proofs.Common.{◌≡◌, ◌++◌, ap, subst, ◌∙◌, Result,
 use Rattle.fuxi_io.specs.Lines.{FirstLonger, lines_of}
 use Rattle.fuxi_io.proofs.Cutting.{moved_line, FirstLonger-append, FirstLonger-whole}
 use Rattle.fuxi_io.proofs.piece.Piece.move_line.Goals as goal
+use Rattle.fuxi_terms.specs.Limits.{most_line_bytes}
 
 on_err : {T E P : Type 0} (r : Result T E) → P → OnErr r P
 on_err (Ok v) p = tt
@@ -13,7 +14,7 @@ returns-in_err-append-in-Some-clause-long c more =
     let part = slice_range c.deref.result.now c.self.inside.from c.self.inside.to in
     let is : part ≡ c.args.self.now = ap (λ l. slice_range l c.self.inside.from c.self.inside.to) c.deref.ensures.value ∙ c.self.view_is in
     let long = c.in_err-append-in-Some.ensures.long in
-    on_err c.from_residual.result (subst (λ l. FirstLonger 65536 (lines_of (line ++ l ++ more))) is (FirstLonger-append 65536 c.in-Some.n line part more c.requires.plain c.in-Some.ensures.found.2 long))
+    on_err c.from_residual.result (subst (λ l. FirstLonger most_line_bytes (lines_of (line ++ l ++ more))) is (FirstLonger-append most_line_bytes c.in-Some.n line part more c.requires.plain c.in-Some.ensures.found.2 long))
 
 pub returns-in_err-append-in-None-clause-long : goal.returns-in_err-append-in-None-clause-long
 returns-in_err-append-in-None-clause-long c more =
@@ -21,7 +22,7 @@ returns-in_err-append-in-None-clause-long c more =
     let part = slice_range c.deref.result.now c.self.inside.from c.self.inside.to in
     let is : part ≡ c.args.self.now = ap (λ l. slice_range l c.self.inside.from c.self.inside.to) c.deref.ensures.value ∙ c.self.view_is in
     let long = c.in_err-append-in-None.ensures.long in
-    on_err c.from_residual-in_err-append-in-None.result (subst (λ l. FirstLonger 65536 (lines_of (line ++ l ++ more))) is (FirstLonger-whole 65536 line part more c.requires.plain c.in-None.ensures.none long))
+    on_err c.from_residual-in_err-append-in-None.result (subst (λ l. FirstLonger most_line_bytes (lines_of (line ++ l ++ more))) is (FirstLonger-whole most_line_bytes line part more c.requires.plain c.in-None.ensures.none long))
 
 pub returns-in_ok-append-in-Some-clause-moved : goal.returns-in_ok-append-in-Some-clause-moved
 returns-in_ok-append-in-Some-clause-moved c =
