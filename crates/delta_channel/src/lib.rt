@@ -4,8 +4,6 @@
 
 mod receiver;
 mod sender;
-#[cfg(test)]
-mod tests;
 
 pub use receiver::{Place, Receiver, Stamp, Verdict};
 pub use sender::Sender;

@@ -200,7 +200,12 @@ impl<A: Ledger, B: Ledger> Duplex<A, B> {
             notes.push(Note::Full(last, self.sender.ledger().copy(alloc)?))?;
             return Ok(notes);
         }
-        changes_from(alloc, &self.sender, self.acked + 1, lacking.min(TURN_DELTAS as u64))
+        changes_from(
+            alloc,
+            &self.sender,
+            self.acked + 1,
+            lacking.min(TURN_DELTAS as u64),
+        )
     }
 
     /// The incarnation of this party, the same in both directions.

@@ -2,7 +2,5 @@
 #![tactic(auto)]
 
 mod duplex;
-#[cfg(test)]
-mod tests;
 
 pub use duplex::{Duplex, Note, Notes};

@@ -7,8 +7,6 @@ pub mod entries;
 pub mod forms;
 mod ledger;
 mod tally;
-#[cfg(test)]
-mod tests;
 
 pub use ledger::{BodyFault, Key, Ledger, LedgerFault, OutOfMemory};
 pub use tally::{Change, Shape, Tally};

@@ -13,15 +13,11 @@ ghost use Rattle.ledger_law.specs.Differing.{ByDifference, always, is_tally_chan
 ghost use Rattle.party_ledgers.specs.Joins.{IsJoin};
 ghost use Rattle.party_ledgers.specs.Differing.{few_together, is_replacement, replaced, replacement};
 
-#[cfg(test)]
-mod body_tests;
 mod join;
 mod row;
 mod row_forms;
 mod row_ledger;
 mod shapes;
-#[cfg(test)]
-mod tests;
 
 pub use join::JoinLedger;
 pub use row_ledger::{RowChange, RowEntry, RowLedger};

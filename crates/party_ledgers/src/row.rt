@@ -67,7 +67,11 @@ fn is_zero(size: &[u64; 8]) -> bool
 pub(crate) fn greatest(key: &RowKey) -> u64
     ensures { result ≡ greatest_row key.now }
 {
-    if key.job >= MOST_JOBS || key.unit as usize >= MOST_UNITS || !are_quantities(&key.size) || is_zero(&key.size) {
+    if key.job >= MOST_JOBS
+        || key.unit as usize >= MOST_UNITS
+        || !are_quantities(&key.size)
+        || is_zero(&key.size)
+    {
         0
     } else {
         GREATEST_COUNT

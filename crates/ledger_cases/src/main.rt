@@ -1,0 +1,57 @@
+//! Reads lines that name calls of the ledgers and of the channels with their arguments, and prints the answers.
+//!
+//! A body stands as words `WIDTH:NUMBER`, each a number in so many bytes. An empty line and one that begins
+//! with `#` are printed as they are.
+#![tactic(auto)]
+
+mod body;
+mod ledgers;
+mod parties;
+mod relay;
+mod stop;
+
+use ledgers::Ledgers;
+use parties::Parties;
+use std::alloc::Global;
+use std::io::{BufRead, BufReader};
+use std::process::ExitCode;
+use stop::Stop;
+
+// What a line names.
+fn answer<P: Print>(
+    rt: &P,
+    alloc: Global,
+    ledgers: &mut Ledgers,
+    parties: &mut Parties,
+    line: &str,
+) -> Result<(), Stop> {
+    let words: Vec<&str> = line.split_whitespace().collect(alloc)?;
+    match words.as_slice() {
+        ["near" | "far", ..] => parties.answer(rt, alloc, &words),
+        ["relay", kind, rest @ ..] => relay::answer(rt, alloc, kind, rest),
+        [kind, call, rest @ ..] => ledgers.answer(rt, alloc, kind, call, rest),
+        _ => Ok(println!(rt; "?")?),
+    }
+}
+
+fn run(rt: &HostRuntime) -> Result<(), Stop> {
+    let alloc = rt.alloc();
+    let mut ledgers = Ledgers::new(alloc);
+    let mut parties = Parties::new(alloc)?;
+    for line in BufReader::new(alloc, rt.reader())?.lines(alloc) {
+        let line = line?;
+        if line.is_empty() || line.starts_with('#') {
+            println!(rt; "{line}")?;
+        } else {
+            answer(rt, alloc, &mut ledgers, &mut parties, &line)?;
+        }
+    }
+    Ok(())
+}
+
+fn main(rt: HostRuntime) -> ExitCode {
+    match run(&rt) {
+        Ok(()) => ExitCode::SUCCESS,
+        Err(_) => ExitCode::FAILURE,
+    }
+}
