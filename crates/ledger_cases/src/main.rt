@@ -6,6 +6,7 @@
 
 mod body;
 mod ledgers;
+mod packets;
 mod parties;
 mod relay;
 mod stop;
@@ -28,6 +29,7 @@ fn answer<P: Print>(
     let words: Vec<&str> = line.split_whitespace().collect(alloc)?;
     match words.as_slice() {
         ["near" | "far", ..] => parties.answer(rt, alloc, &words),
+        ["packet", rest @ ..] => packets::answer(rt, alloc, rest),
         ["relay", kind, rest @ ..] => relay::answer(rt, alloc, kind, rest),
         [kind, call, rest @ ..] => ledgers.answer(rt, alloc, kind, call, rest),
         _ => Ok(println!(rt; "?")?),

@@ -1,4 +1,4 @@
-ghost use Rattle.std.specs.Prelude.{◌≡◌, ◌+◌, ◌<◌, ◌≤◌, ◌^◌, ◌++◌, ◌∷◌, [], T, Bool, not, false, nat_eq, List, ℕ, length, vec_len, vec_capacity, OnOk, OnErr, IfOk, IfErr, IsOk, IsTrue, Ok, Err, All, unsigned_abs};
+ghost use Rattle.std.specs.Prelude.{◌≡◌, ◌↔◌, ◌+◌, ◌<◌, ◌≤◌, ◌^◌, ◌++◌, ◌∷◌, [], T, Bool, not, false, nat_eq, List, ℕ, length, vec_len, vec_capacity, OnOk, OnErr, IfOk, IfErr, IsOk, IsTrue, Ok, Err, All, unsigned_abs};
 ghost use Rattle.std.specs.declared.cmp.Ordering.TheVariants.{Less};
 ghost use Rattle.std.specs.FinMap.Entries.{where_key, is_sorted};
 ghost use Rattle.std.specs.List.{AllByRecursion};
@@ -7,7 +7,7 @@ ghost use Rattle.fuxi_terms.specs.Keys.{key_cmp};
 ghost use Rattle.fuxi_terms.specs.Counts.{AreCounts, AreChanges, count, moved_within, change_one, change_all, is_no_change};
 ghost use Rattle.fuxi_terms.specs.declared.answers.LedgerFault.TheVariants.{Below, TooGreat};
 ghost use Rattle.ledger_law.specs.Applying.{Applies, IsRefusal};
-ghost use Rattle.ledger_law.specs.Shapes.{kept_under, AreChangesWithin};
+ghost use Rattle.ledger_law.specs.Shapes.{kept_under, AreChangesWithin, IsChange};
 
 use crate::entries::{count_of, keys_rise, moved, set_entry};
 use crate::forms::{Changes, Numbers, read_headed, write_headed};
@@ -17,7 +17,7 @@ use std::marker::{Model, PhantomData};
 
 /// Which keys a tally may have, each with its greatest number, and which of them go with a new head.
 pub trait Shape {
-    ghost use Rattle.std.specs.Prelude.{◌≡◌, ◌≤◌, ◌<◌, ℕ};
+    ghost use Rattle.std.specs.Prelude.{◌≡◌, ◌↔◌, ◌≤◌, ◌<◌, ℕ};
     ghost use Rattle.fuxi_terms.specs.declared.Key.{Key};
     ghost use Rattle.ledger_law.specs.Shapes.{IsWritable};
 
@@ -108,6 +108,16 @@ impl Change {
         ensures { result ≡ self.now.head }
     {
         self.head
+    }
+
+    /// Whether it has a written form as a change of a tally of this shape: no change is greater than its key's
+    /// greatest number. It takes no memory.
+    pub fn has_form<S: Shape>(&self) -> bool
+        ensures { IsTrue result ↔ IsChange S.greatest_of self.now }
+    {
+        // What is known of the head is known once it is read.
+        let _head = self.head;
+        are_changes::<S>(&self.entries)
     }
 
     /// The changes in the order of their keys.

@@ -5,3 +5,4 @@ pub mod RowOneForm
 pub mod Entries
 pub mod Joins
 pub mod Differing
+pub mod Packets

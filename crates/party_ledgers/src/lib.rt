@@ -14,12 +14,14 @@ ghost use Rattle.party_ledgers.specs.Joins.{IsJoin};
 ghost use Rattle.party_ledgers.specs.Differing.{few_together, is_replacement, replaced, replacement};
 
 mod join;
+mod packets;
 mod row;
 mod row_forms;
 mod row_ledger;
 mod shapes;
 
 pub use join::JoinLedger;
+pub use packets::{Body, Heard, Kind, Packet, Packets, What};
 pub use row_ledger::{RowChange, RowEntry, RowLedger};
 pub use shapes::{Demand, DemandShape, GrantShape, Grants};
 

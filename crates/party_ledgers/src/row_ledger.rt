@@ -1,6 +1,6 @@
 //! The ledger of a machine's grants, and the changes to it.
 
-ghost use Rattle.std.specs.Prelude.{◌≡◌, ◌≤◌, ◌<◌, ◌++◌, ◌∷◌, [], T, IsTrue, false, nat_eq, ℕ, List, length, unsigned_abs, OnOk, OnErr, Some, slice_get};
+ghost use Rattle.std.specs.Prelude.{◌≡◌, ◌↔◌, ◌≤◌, ◌<◌, ◌++◌, ◌∷◌, [], T, IsTrue, false, nat_eq, ℕ, List, length, unsigned_abs, OnOk, OnErr, Some, slice_get};
 ghost use Rattle.std.specs.declared.cmp.Ordering.TheVariants.{Less};
 ghost use Rattle.std.specs.List.{All, AllByRecursion};
 ghost use Rattle.fuxi_terms.specs.Keys.{RowKey as RowKeyRecord, row_cmp};
@@ -117,6 +117,14 @@ impl RowChange {
         ensures { result ≡ nat_eq (length self.now) 0 }
     {
         self.entries.is_empty()
+    }
+
+    /// Whether the changes have a written form: there are not more of them than a row may have entries. It takes
+    /// no memory.
+    pub fn has_form(&self) -> bool
+        ensures { IsTrue result ↔ IsRowChange self.now }
+    {
+        self.entries.len() <= MOST_ENTRIES
     }
 }
 
