@@ -1,2 +1,3 @@
 pub mod Works
 pub mod Words
+pub mod Outcomes

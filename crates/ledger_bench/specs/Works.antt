@@ -7,7 +7,7 @@ use Rattle.fuxi_terms.specs.declared.answers.LedgerFault.{LedgerFault}
 use Rattle.fuxi_terms.specs.Rows.{row_key, patched_row}
 use Rattle.party_ledgers.specs.RowForms.{row_form}
 use Rattle.ledger_bench.specs.declared.work.Work.{Work}
-use Rattle.ledger_bench.specs.declared.work.Work.TheVariants.{ApplyOne, ApplyMany, InsertOne, WriteFull, ReadFull, Turn}
+use Rattle.ledger_bench.specs.declared.work.Work.TheVariants.{ApplyOne, ApplyMany, InsertOne, WriteFull, ReadFull, Turn, Post, Start}
 
 -- the first change, then the second, then the first again
 abbrev pub by_turns : {V D E : Type 0} → (V → D → Result V E) → D → D → V → ℕ → Result V E
@@ -34,7 +34,11 @@ applied first step times = then_do (granted first) (λ row. by_turns patched_row
 unfoldable pub posted : Result (List (RowKey × ℕ)) LedgerFault
 posted = by_turns patched_row (changes_at 0 2048 2048 (pos 1)) (changes_at 0 2048 2048 (pos 1)) [] 65
 
--- how much there is at the end of a work: entries, bytes, or notes of a turn
+-- a row that is sent so often, with one grant more and one less by turns
+unfoldable pub reposted : ℕ → Result (List (RowKey × ℕ)) LedgerFault
+reposted times = by_turns patched_row (changes_at 0 2048 2048 (pos 1)) (changes_at 0 2048 2048 (negsuc 0)) [] times
+
+-- how much there is at the end of a work: entries, bytes, notes of a turn, the last index, or senders
 abbrev pub IsSize : Work → ℕ → ℕ → Type 0
 IsSize ApplyOne times size = (row : List (RowKey × ℕ)) → applied 0 2048 times ≡ Ok row → size ≡ length row
 IsSize ApplyMany times size = (row : List (RowKey × ℕ)) → applied 0 32 times ≡ Ok row → size ≡ length row
@@ -42,6 +46,8 @@ IsSize InsertOne times size = (row : List (RowKey × ℕ)) → applied 1 2048 ti
 IsSize WriteFull times size = 0 < times → (row : List (RowKey × ℕ)) → granted 0 ≡ Ok row → size ≡ length (row_form row)
 IsSize ReadFull times size = 0 < times → (row : List (RowKey × ℕ)) → granted 0 ≡ Ok row → size ≡ length row
 IsSize Turn times size = 0 < times → size ≡ 65
+IsSize Post times size = size ≡ times
+IsSize Start times size = size ≡ times
 
 -- the changes that a work makes, which may be refused
 abbrev pub changed_by : Work → ℕ → Result (List (RowKey × ℕ)) LedgerFault
@@ -51,3 +57,5 @@ changed_by InsertOne times = applied 1 2048 times
 changed_by WriteFull times = granted 0
 changed_by ReadFull times = granted 0
 changed_by Turn times = posted
+changed_by Post times = reposted times
+changed_by Start times = Ok []

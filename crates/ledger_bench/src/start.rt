@@ -6,6 +6,8 @@ ghost use Rattle.ledger_law.specs.Applying.{IsRefusal};
 ghost use Rattle.fuxi_terms.specs.Rows.{patched_row};
 ghost use Rattle.ledger_bench.specs.Works.{by_turns, changes_at, granted, posted};
 
+use crate::meter::Meter;
+use crate::times;
 use delta_channel::Place;
 use full_sync::Duplex;
 use ledger_law::{Ledger, LedgerFault, OutOfMemory};
@@ -50,26 +52,6 @@ pub fn row(alloc: Global, first: u32) -> Result<RowLedger, LedgerFault>
     Ok(row)
 }
 
-// Posts the same change so often.
-fn post_often(
-    alloc: Global,
-    party: &mut Duplex<RowLedger, RowLedger>,
-    change: &RowChange,
-    times: u32,
-) -> Result<(), LedgerFault>
-    requires { party.old.outgoing.last ≡ 0 }
-    ensures last { OnOk result (party.new.outgoing.last ≡ times) }
-    ensures own { party.new.outgoing.own ≡ party.old.outgoing.own }
-    ensures incoming { party.new.incoming ≡ party.old.incoming }
-    ensures fault { IfErr result (λ e. IsRefusal (by_turns patched_row change.now change.now party.old.outgoing.present times) e) }
-{
-    for turn in 0..times {
-        let more = RowLedger::copy_delta(alloc, change)?;
-        party.post(alloc, more)?;
-    }
-    Ok(())
-}
-
 /// A party that has posted 65 changes, of which its peer has acknowledged the first.
 ///
 /// The fault is the refusal of a change, or want of memory.
@@ -82,7 +64,7 @@ pub fn party(alloc: Global) -> Result<Duplex<RowLedger, RowLedger>, LedgerFault>
 {
     let grant = changes(alloc, 0, 2048, 1)?;
     let mut party = Duplex::start(alloc, 1)?;
-    match post_often(alloc, &mut party, &grant, 65) {
+    match times::post(&mut Meter::new(), alloc, &mut party, &grant, &grant, 65) {
         Ok(()) => {}
         Err(fault) => return Err(fault),
     }
