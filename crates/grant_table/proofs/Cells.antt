@@ -1,0 +1,76 @@
+-- Cells by job and unit: what is read after one is written.
+use Rattle.std.proofs.Common.{◌≡◌, ◌≢◌, ℕ, ◌<◌, true, false, cond, nat_eq, List, [], length, get_or, set, map, refl, sym, ◌∙◌, ap, subst, arith, inl, inr, length-set}
+use Rattle.std.specs.Prelude.{◌&&◌}
+use Rattle.std.specs.Global.{Vec}
+use Rattle.std.proofs.lemmas.Bool.{cases_lt}
+use Rattle.std.proofs.lemmas.Bool.Decides.{nat_tests}
+use Rattle.std.proofs.lemmas.List.{get_or-set_same, get_or-set_other, get_or-map, map-set, length-map}
+use Rattle.std.proofs.Math.ListN.{get_or-eq_default}
+use Rattle.grant_table.specs.declared.holding.Holding.{Holding}
+use Rattle.grant_table.specs.Nested.{count_at}
+use Rattle.grant_table.specs.Tables.{Cell, cell_of, cells_in, cells_of, cell_at, with_cell, no_cell, counts_in, rows_of}
+use Rattle.fuxi_terms.proofs.Booleans.{number_is}
+
+-- one written place
+pub one_set : {X : Type 0} (xs : List X) (a b : ℕ) (y d : X) → a < length xs → get_or (set xs a y) b d ≡ cond (nat_eq a b) y (get_or xs b d)
+one_set xs a b y d lt = elim (nat_eq a b) as (λ t. nat_eq a b ≡ t → get_or (set xs a y) b d ≡ cond t y (get_or xs b d)) [
+  | true ↦ λ t. subst (λ z. get_or (set xs a y) z d ≡ y) (number_is a b t) (get_or-set_same xs a y d lt)
+  | false ↦ λ f. let o : b ≢ a = grind (arith, nat_tests) in get_or-set_other xs a b y d o
+] refl
+
+-- one written place in a list of lists
+pub two_set : {X : Type 0} (xs : List (List X)) (a u b v : ℕ) (y d : X) → a < length xs → u < length (get_or xs a []) → get_or (get_or (set xs a (set (get_or xs a []) u y)) b []) v d ≡ cond (nat_eq a b && nat_eq u v) y (get_or (get_or xs b []) v d)
+two_set xs a u b v y d la lu = ap (λ z. get_or z v d) (one_set xs a b (set (get_or xs a []) u y) [] la)
+    ∙ elim (nat_eq a b) as (λ t. nat_eq a b ≡ t → get_or (cond t (set (get_or xs a []) u y) (get_or xs b [])) v d ≡ cond (t && nat_eq u v) y (get_or (get_or xs b []) v d)) [
+      | true ↦ λ t. one_set (get_or xs a []) u v y d lu ∙ ap (λ z. cond (nat_eq u v) y (get_or (get_or xs z []) v d)) (number_is a b t)
+      | false ↦ λ f. refl
+    ] refl
+
+pub lengths_set : {X : Type 0} (xs : List (List X)) (a u b : ℕ) (y : X) → a < length xs → length (get_or (set xs a (set (get_or xs a []) u y)) b []) ≡ length (get_or xs b [])
+lengths_set xs a u b y la = ap length (one_set xs a b (set (get_or xs a []) u y) [] la)
+    ∙ elim (nat_eq a b) as (λ t. nat_eq a b ≡ t → length (cond t (set (get_or xs a []) u y) (get_or xs b [])) ≡ length (get_or xs b [])) [
+      | true ↦ λ t. length-set (get_or xs a []) u y ∙ ap (λ z. length (get_or xs z [])) (number_is a b t)
+      | false ↦ λ f. refl
+    ] refl
+
+-- an index into a row that is there
+pub slot_within : {X : Type 0} (rows : List (List X)) (a u : ℕ) → u < length (get_or rows a []) → a < length rows
+slot_within rows a u lt = elim (cases_lt a (length rows)) [
+  | inl l ↦ l
+  | inr le ↦ let none : u < 0 = subst (λ xs. u < length xs) (get_or-eq_default rows [] le) lt in absurd (omega (arith, none))
+]
+
+-- a mapped place, also past the end where the defaults agree
+pub mapped_at : {X Y : Type 0} (f : X → Y) (xs : List X) (i : ℕ) (d : X) (e : Y) → f d ≡ e → get_or (map f xs) i e ≡ f (get_or xs i d)
+mapped_at f xs i d e same = elim (cases_lt i (length xs)) [
+  | inl l ↦ get_or-map f xs i d e l
+  | inr le ↦ get_or-eq_default (map f xs) e (let n = length-map xs f in omega (arith, n, le)) ∙ sym same ∙ ap f (sym (get_or-eq_default xs d le))
+]
+
+-- the counts of a cell are those of the rows
+pub row_of_cell : (cells : List (List Cell)) (a u : ℕ) → get_or (get_or (rows_of cells) a []) u [] ≡ (cell_at cells a u).counts
+row_of_cell cells a u = ap (λ z. get_or z u []) (mapped_at counts_in cells a [] [] refl) ∙ mapped_at (λ (x : Cell). x.counts) (get_or cells a []) u no_cell [] refl
+
+pub count_of_cell : (cells : List (List Cell)) (a u m : ℕ) → count_at (rows_of cells) a u m ≡ get_or (cell_at cells a u).counts m 0
+count_of_cell cells a u m = ap (λ z. get_or z m 0) (row_of_cell cells a u)
+
+pub row_written : (cells : List (List Cell)) (a u : ℕ) (x : Cell) → rows_of (with_cell cells a u x) ≡ set (rows_of cells) a (set (get_or (rows_of cells) a []) u x.counts)
+row_written cells a u x =
+    map-set counts_in cells a (set (get_or cells a []) u x) ∙ ap (λ z. set (rows_of cells) a z) (map-set (λ (x : Cell). x.counts) (get_or cells a []) u x ∙ ap (λ z. set z u x.counts) (sym (mapped_at counts_in cells a [] [] refl)))
+
+-- what the program reads
+pub units_of_slot : (slots : List (Vec Holding)) (a : ℕ) (v : Vec Holding) → a < length slots → v ≡ get_or slots a v → get_or (cells_of slots) a [] ≡ cells_in v
+units_of_slot slots a v lt e = get_or-map cells_in slots a v [] lt ∙ ap cells_in (sym e)
+
+pub slot_there : (slots : List (Vec Holding)) (a u : ℕ) → u < length (get_or (cells_of slots) a []) → a < length slots
+slot_there slots a u lt = let l = slot_within (cells_of slots) a u lt in let n = length-map slots cells_in in omega (arith, l, n)
+
+pub unit_there : (slots : List (Vec Holding)) (a u : ℕ) (v : Vec Holding) → a < length slots → v ≡ get_or slots a v → u < length (get_or (cells_of slots) a []) → u < length v.items
+unit_there slots a u v la e lt = subst (λ n. u < n) (ap length (units_of_slot slots a v la e) ∙ length-map v.items cell_of) lt
+
+pub cell_read : (slots : List (Vec Holding)) (a u : ℕ) (v : Vec Holding) (h : Holding) → a < length slots → v ≡ get_or slots a v → u < length v.items → h ≡ get_or v.items u h → cell_at (cells_of slots) a u ≡ cell_of h
+cell_read slots a u v h la e lu f = ap (λ xs. get_or xs u no_cell) (units_of_slot slots a v la e) ∙ get_or-map cell_of v.items u h no_cell lu ∙ ap cell_of (sym f)
+
+pub cell_written : (slots : List (Vec Holding)) (a u : ℕ) (v w : Vec Holding) (k : Holding) → a < length slots → v ≡ get_or slots a v → w.items ≡ set v.items u k → cells_of (set slots a w) ≡ with_cell (cells_of slots) a u (cell_of k)
+cell_written slots a u v w k la e is =
+    map-set cells_in slots a w ∙ ap (λ x. set (cells_of slots) a x) (ap (map cell_of) is ∙ map-set cell_of v.items u k ∙ ap (λ xs. set xs u (cell_of k)) (sym (units_of_slot slots a v la e)))

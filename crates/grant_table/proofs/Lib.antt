@@ -1,0 +1,9 @@
+pub mod Nesting
+pub mod Cells
+pub mod Totals
+pub mod Setting
+pub mod Entries
+pub mod Bounds
+pub mod Admitting
+pub mod Changing
+pub mod Starting

@@ -1,0 +1,145 @@
+//! What the units of admitted jobs hold, by job number and unit.
+
+ghost use Rattle.std.specs.Prelude.{◌≡◌, ℕ, ◌+◌, ◌<◌, ◌≤◌, ◌^◌, List, [], length, map, replicate, IfOk};
+ghost use Rattle.std.proofs.Common.{get_or};
+ghost use Rattle.fuxi_terms.specs.Cluster.{UnitRecord};
+ghost use Rattle.grant_table.specs.Tables.{Cell, cell_of, cells_in, cells_of, cell_at, with_cell, no_cell, raised, lowered, fresh_cells};
+
+use fuxi_terms::OutOfMemory;
+use res_vector::Res;
+use schedule_unit::{GroupNo, Job, UnitNo};
+use std::alloc::Global;
+
+/// What one unit holds.
+#[derive(Drop)]
+pub(crate) struct Holding {
+    pub(crate) size: Res,
+    pub(crate) group: GroupNo,
+    pub(crate) held: u32,
+    /// By machine.
+    pub(crate) counts: Vec<u32>,
+    /// By rack.
+    pub(crate) racks: Vec<u32>,
+}
+
+impl Holding {
+    ghost use Rattle.std.specs.Prelude.{◌≡◌, ◌+◌, ◌<◌, ◌≤◌, ◌^◌, length};
+    ghost use Rattle.std.proofs.Common.{get_or};
+    ghost use Rattle.grant_table.specs.Tables.{cell_of, raised, lowered};
+
+    // One grant more on a machine of a rack.
+    fn raise(&mut self, machine: usize, rack: usize)
+        requires machine { machine < length self.old.counts.items }
+        requires rack { rack < length self.old.racks.items }
+        requires count { get_or self.old.counts.items machine 0 + 1 < 2 ^ 32 }
+        requires held { self.old.held + 1 < 2 ^ 32 }
+        requires in_rack { get_or self.old.racks.items rack 0 + 1 < 2 ^ 32 }
+        ensures { cell_of self.new ≡ raised (cell_of self.old) machine rack }
+    {
+        self.held += 1;
+        self.counts[machine] += 1;
+        self.racks[rack] += 1;
+    }
+
+    // So many fewer.
+    fn lower(&mut self, machine: usize, rack: usize, count: u32)
+        requires machine { machine < length self.old.counts.items }
+        requires rack { rack < length self.old.racks.items }
+        requires count { count ≤ get_or self.old.counts.items machine 0 }
+        requires held { count ≤ self.old.held }
+        requires in_rack { count ≤ get_or self.old.racks.items rack 0 }
+        ensures { cell_of self.new ≡ lowered (cell_of self.old) machine rack count }
+    {
+        self.held -= count;
+        self.counts[machine] -= count;
+        self.racks[rack] -= count;
+    }
+}
+
+/// The holding of a unit.
+pub(crate) fn holding_at(slots: &[Vec<Holding>], app: usize, unit: usize) -> &Holding
+    requires { unit < length (get_or (cells_of slots.now) app []) }
+    ensures { cell_of result.now ≡ cell_at (cells_of slots.now) app unit }
+{
+    let units = &slots[app];
+    &units[unit]
+}
+
+/// One grant more of a unit.
+pub(crate) fn raise_at(
+    slots: &mut Vec<Vec<Holding>>,
+    app: usize,
+    unit: usize,
+    machine: usize,
+    rack: usize,
+)
+    requires unit { unit < length (get_or (cells_of slots.old.items) app []) }
+    requires machine { machine < length (cell_at (cells_of slots.old.items) app unit).counts }
+    requires rack { rack < length (cell_at (cells_of slots.old.items) app unit).racks }
+    requires count { get_or (cell_at (cells_of slots.old.items) app unit).counts machine 0 + 1 < 2 ^ 32 }
+    requires held { (cell_at (cells_of slots.old.items) app unit).held + 1 < 2 ^ 32 }
+    requires in_rack { get_or (cell_at (cells_of slots.old.items) app unit).racks rack 0 + 1 < 2 ^ 32 }
+    ensures { cells_of slots.new.items ≡ with_cell (cells_of slots.old.items) app unit (raised (cell_at (cells_of slots.old.items) app unit) machine rack) }
+{
+    let units = &mut slots[app];
+    let holding = &mut units[unit];
+    holding.raise(machine, rack);
+}
+
+/// So many grants of a unit fewer.
+pub(crate) fn lower_at(
+    slots: &mut Vec<Vec<Holding>>,
+    app: usize,
+    unit: usize,
+    machine: usize,
+    rack: usize,
+    count: u32,
+)
+    requires unit { unit < length (get_or (cells_of slots.old.items) app []) }
+    requires machine { machine < length (cell_at (cells_of slots.old.items) app unit).counts }
+    requires rack { rack < length (cell_at (cells_of slots.old.items) app unit).racks }
+    requires count { count ≤ get_or (cell_at (cells_of slots.old.items) app unit).counts machine 0 }
+    requires held { count ≤ (cell_at (cells_of slots.old.items) app unit).held }
+    requires in_rack { count ≤ get_or (cell_at (cells_of slots.old.items) app unit).racks rack 0 }
+    ensures { cells_of slots.new.items ≡ with_cell (cells_of slots.old.items) app unit (lowered (cell_at (cells_of slots.old.items) app unit) machine rack count) }
+{
+    let units = &mut slots[app];
+    let holding = &mut units[unit];
+    holding.lower(machine, rack, count);
+}
+
+/// The units of a new job, each with nothing on each of so many machines.
+pub(crate) fn fresh_units(
+    alloc: Global,
+    job: &Job,
+    machines: usize,
+) -> Result<Vec<Holding>, OutOfMemory>
+    ensures { IfOk result (λ units. cells_in units ≡ fresh_cells job.now.group machines job.now.units) }
+{
+    let group = job.group();
+    let mut units = Vec::new(alloc);
+    for number in 0..job.units() {
+        let size = job.unit(UnitNo(number)).size;
+        let counts = Vec::from_elem(alloc, 0, machines)?;
+        let racks = Vec::from_elem(alloc, 0, 64)?;
+        units.push(Holding {
+            size,
+            group,
+            held: 0,
+            counts,
+            racks,
+        })?;
+    }
+    Ok(units)
+}
+
+/// A place for each job number, with no unit at any.
+pub(crate) fn empty_slots(alloc: Global) -> Result<Vec<Vec<Holding>>, OutOfMemory>
+    ensures { IfOk result (λ slots. cells_of slots.items ≡ replicate 256 []) }
+{
+    let mut slots = Vec::new(alloc);
+    for _ in 0..256_usize {
+        slots.push(Vec::new(alloc))?;
+    }
+    Ok(slots)
+}
