@@ -1,0 +1,342 @@
+-- What is written of an event is read as that event.
+use Rattle.std.proofs.Common.{◌≡◌, ℕ, suc, ◌+◌, ◌<◌, ◌≤◌, ◌^◌, ◌==◌, Bool, true, false, not, cond, nat_eq, nat_lt, ◌&&◌, List, [], ◌∷◌, ◌++◌, length, drop, map, filter, codes, decimal, Some, None, Result, Ok, Err, refl, ap, sym, ◌∙◌, subst, arith, append_assoc}
+use Rattle.std.proofs.lemmas.Bool.Decides.{nat_tests}
+use Rattle.std.proofs.lemmas.List.{length-map, length-append, append-nil, drop_at}
+use Rattle.std.specs.List.{list_all, flat_map, slice_split, onto_first, AllByRecursion}
+use Rattle.std.specs.Char.{is_ascii_digit}
+use Rattle.std.specs.Str.{all_ascii_digits, bytes_eq}
+use Rattle.std.specs.Str.Parse.{digits_value}
+use Rattle.fuxi_terms.specs.Counts.{then_do}
+use Rattle.schedule_unit.specs.Numbers.{is_numeral, number_of}
+use Rattle.schedule_unit.specs.declared.asks.Ask.{Ask}
+use Rattle.schedule_text.specs.declared.event.Event.{Event}
+use Rattle.schedule_text.specs.declared.event.Event.TheVariants.{Master as MasterEvent, Stop as StopEvent, Agent as AgentEvent, App as AppEvent, Submit as SubmitEvent, Finish as FinishEvent, Ban as BanEvent, Unban as UnbanEvent, Begin as BeginEvent, Preempt as PreemptEvent, Want as WantEvent, Near as NearEvent, Rack as RackEvent, Avoid as AvoidEvent, Back as BackEvent, TurnMaster as TurnMasterEvent, TurnAgent as TurnAgentEvent, TurnApp as TurnAppEvent, ResyncMaster as ResyncMasterEvent, ResyncAgent as ResyncAgentEvent, ResyncApp as ResyncAppEvent, Deliver as DeliverEvent, DeliverRange as DeliverRangeEvent, Dump as DumpEvent, Show as ShowEvent}
+use Rattle.schedule_text.specs.declared.event.LineFault.{LineFault}
+use Rattle.schedule_text.specs.declared.event.LineFault.TheVariants.{BadNumber, Range}
+use Rattle.schedule_text.specs.declared.form.Head.{Head}
+use Rattle.schedule_text.specs.declared.form.Head.TheVariants.{Master, Stop, Agent, App, Submit, Finish, Ban, Unban, Begin, Preempt, Want, Near, Rack, Avoid, Back, TurnMaster, TurnAgent, TurnApp, ResyncMaster, ResyncAgent, ResyncApp, Deliver, DeliverRange, Dump, Show}
+use Rattle.schedule_text.specs.declared.form.Place.{Place}
+use Rattle.schedule_text.specs.declared.form.Place.TheVariants.{Count}
+use Rattle.schedule_text.specs.Words.{is_word, words_of}
+use Rattle.schedule_text.specs.Forms.{shape_of, is_within}
+use Rattle.schedule_text.specs.Reading.{front, units_of, is_unit, number_at, numbers_at, counts_at, ask_of, asks_at, asks_of, event_at, event_behind, event_of_words, event_of}
+use Rattle.schedule_text.specs.Writing.{Saying, saying_of, saying_words, ask_words, asks_words, spaced, event_text, AreWithin, IsAsk, AreAsks, IsLineEvent}
+
+-- Splitting what was joined. The elements at which nothing is split
+abbrev Lacks : {A : Type 0} → (A → Bool) → List A → Type 0
+Lacks p xs = AllByRecursion (λ x. p x ≡ false) xs
+
+split_lacking : {A : Type 0} (p : A → Bool) (xs : List A) → Lacks p xs → slice_split p xs ≡ xs ∷ []
+split_lacking p [] h = refl
+split_lacking p (x ∷ xs) h = ap (λ b. cond b ([] ∷ slice_split p xs) (onto_first x (slice_split p xs))) h.0 ∙ ap (onto_first x) (split_lacking p xs h.1)
+
+split_behind : {A : Type 0} (p : A → Bool) (xs : List A) (y : A) (ys : List A) → p y ≡ true → Lacks p xs → slice_split p (xs ++ y ∷ ys) ≡ xs ∷ slice_split p ys
+split_behind p [] y ys at h = ap (λ b. cond b ([] ∷ slice_split p ys) (onto_first y (slice_split p ys))) at
+split_behind p (x ∷ xs) y ys at h =
+    ap (λ b. cond b ([] ∷ slice_split p (xs ++ y ∷ ys)) (onto_first x (slice_split p (xs ++ y ∷ ys)))) h.0 ∙ ap (onto_first x) (split_behind p xs y ys at h.1)
+
+split_joined : {A : Type 0} (p : A → Bool) (y : A) (w : List A) (ws : List (List A)) → p y ≡ true → Lacks p w → AllByRecursion (Lacks p) ws → slice_split p (w ++ flat_map (λ v. y ∷ v) ws) ≡ w ∷ ws
+split_joined p y w [] at h hs = ap (slice_split p) (append-nil w) ∙ split_lacking p w h
+split_joined p y w (v ∷ ws) at h hs = split_behind p w y (v ++ flat_map (λ v. y ∷ v) ws) at h ∙ ap (λ l. w ∷ l) (split_joined p y v ws at hs.0 hs.1)
+
+-- Words. A word has a byte and no blank
+abbrev pub is_blank : ℕ → Bool
+is_blank b = b == 32
+
+pub record IsPlain (w : List ℕ) : Type 0 where
+  pub some : is_word w ≡ true
+  pub lacks : AllByRecursion (λ b. is_blank b ≡ false) w
+
+lacking : (ws : List (List ℕ)) → AllByRecursion IsPlain ws → AllByRecursion (λ w. AllByRecursion (λ b. is_blank b ≡ false) w) ws
+lacking [] h = tt
+lacking (w ∷ ws) h = (h.0.lacks, lacking ws h.1)
+
+all_words : (ws : List (List ℕ)) → AllByRecursion IsPlain ws → filter is_word ws ≡ ws
+all_words [] h = refl
+all_words (w ∷ ws) h = ap (λ b. cond b (w ∷ filter is_word ws) (filter is_word ws)) h.0.some ∙ ap (λ l. w ∷ l) (all_words ws h.1)
+
+pub spaced_words : (ws : List (List ℕ)) → AllByRecursion IsPlain ws → words_of (spaced ws) ≡ ws
+spaced_words [] h = refl
+spaced_words (w ∷ ws) h = ap (filter is_word) (split_joined is_blank 32 w ws refl h.0.lacks (lacking ws h.1)) ∙ all_words (w ∷ ws) h
+
+-- Numbers. A word that is a number is digits
+if_true : (b : Bool) (v n : ℕ) → cond (b && nat_lt v (2 ^ 64)) (Some v) None ≡ Some n → b ≡ true
+if_true true v n e = refl
+if_true false v n e = cc
+
+first_true : (a b : Bool) → (a && b) ≡ true → a ≡ true
+first_true true b e = refl
+first_true false b e = cc
+
+digits_of : (word : List ℕ) (n : ℕ) → number_of word ≡ Some n → all_ascii_digits word ≡ true
+digits_of word n e = first_true (all_ascii_digits word) _ (if_true (is_numeral word) (digits_value 10 word) n e)
+
+no_blank : (b : ℕ) → is_ascii_digit b ≡ true → is_blank b ≡ false
+no_blank b h = grind (arith, nat_tests, h)
+
+no_slash : (b : ℕ) → is_ascii_digit b ≡ true → nat_eq b 47 ≡ false
+no_slash b h = grind (arith, nat_tests, h)
+
+digits_lack : (word : List ℕ) → all_ascii_digits word ≡ true → AllByRecursion (λ b. is_blank b ≡ false) word
+digits_lack [] h = tt
+digits_lack (b ∷ bs) h = (no_blank b (first_true (is_ascii_digit b) (all_ascii_digits bs) h), digits_lack bs (second_true (is_ascii_digit b) (all_ascii_digits bs) h))
+  where
+    second_true : (a b : Bool) → (a && b) ≡ true → b ≡ true
+    second_true true b e = e
+    second_true false b e = cc
+
+plain_number : (word : List ℕ) (n : ℕ) → number_of word ≡ Some n → IsPlain word
+plain_number [] n e = cc
+plain_number (b ∷ bs) n e = record { some = refl; lacks = digits_lack (b ∷ bs) (digits_of (b ∷ bs) n e) }
+
+number_no_slash : (word : List ℕ) (n : ℕ) → number_of word ≡ Some n → bytes_eq word (codes "/") ≡ false
+number_no_slash [] n e = refl
+number_no_slash (b ∷ bs) n e = ap (λ t. t && bytes_eq bs []) (no_slash b (first_true (is_ascii_digit b) (all_ascii_digits bs) (digits_of (b ∷ bs) n e)))
+
+-- what is known of numbers: each is read back from its word
+abbrev pub Written : Type 0
+Written = (n : ℕ) → n < 2 ^ 64 → number_of (decimal n) ≡ Some n
+
+plain_numbers : Written → (ns : List ℕ) → AllByRecursion (λ n. n < 2 ^ 64) ns → AllByRecursion IsPlain (map decimal ns)
+plain_numbers w [] h = tt
+plain_numbers w (n ∷ ns) h = (plain_number (decimal n) n (w n h.0), plain_numbers w ns h.1)
+
+numbers_lack : Written → (ns : List ℕ) → AllByRecursion (λ n. n < 2 ^ 64) ns → AllByRecursion (λ word. bytes_eq word (codes "/") ≡ false) (map decimal ns)
+numbers_lack w [] h = tt
+numbers_lack w (n ∷ ns) h = (number_no_slash (decimal n) n (w n h.0), numbers_lack w ns h.1)
+
+-- a number that is in the range of its place
+number_back : Written → (p : Place) (place before n : ℕ) → n < 2 ^ 64 → is_within p before n ≡ true → number_at p place before (decimal n) ≡ Ok n
+number_back w p place before n lt h =
+    ap (λ o. elim o as (λ _. Result ℕ LineFault) [ None ↦ Err (BadNumber place) | Some m ↦ cond (is_within p before m) (Ok m) (Err (Range place)) ]) (w n lt)
+    ∙ ap (λ b. cond b (Ok n) (Err (Range place))) h
+
+pub numbers_back : Written → (ps : List Place) (place before : ℕ) (ns : List ℕ) (more : List (List ℕ)) → AreWithin before ps ns → numbers_at ps place before (map decimal ns ++ more) ≡ Ok ns
+numbers_back w [] place before [] more h = refl
+numbers_back w [] place before (n ∷ ns) more h = absurd h
+numbers_back w (p ∷ ps) place before [] more h = absurd h
+numbers_back w (p ∷ ps) place before (n ∷ ns) more h =
+    ap (λ r. then_do r (λ m. then_do (numbers_at ps (place + 1) m (map decimal ns ++ more)) (λ ms. Ok (m ∷ ms)))) (number_back w p place before n h.0 h.1)
+    ∙ ap (λ r. then_do r (λ ms. Ok (n ∷ ms))) (numbers_back w ps (place + 1) n ns more h.2)
+
+pub within_length : (ps : List Place) (before : ℕ) (ns : List ℕ) → AreWithin before ps ns → length ns ≡ length ps
+within_length [] before [] h = refl
+within_length [] before (n ∷ ns) h = absurd h
+within_length (p ∷ ps) before [] h = absurd h
+within_length (p ∷ ps) before (n ∷ ns) h = ap (λ k. suc k) (within_length ps n ns h.2)
+
+pub within_range : (ps : List Place) (before : ℕ) (ns : List ℕ) → AreWithin before ps ns → AllByRecursion (λ n. n < 2 ^ 64) ns
+within_range [] before [] h = tt
+within_range [] before (n ∷ ns) h = absurd h
+within_range (p ∷ ps) before [] h = absurd h
+within_range (p ∷ ps) before (n ∷ ns) h = (h.0, within_range ps n ns h.2)
+
+-- Units
+counts_back : Written → (place : ℕ) (ns : List ℕ) → AllByRecursion (λ n. n < 2 ^ 64) ns → counts_at place (map decimal ns) ≡ Ok ns
+counts_back w place [] h = refl
+counts_back w place (n ∷ ns) h =
+    ap (λ r. then_do r (λ m. then_do (counts_at (place + 1) (map decimal ns)) (λ ms. Ok (m ∷ ms)))) (number_back w Count place 0 n h.0 refl)
+    ∙ ap (λ r. then_do r (λ ms. Ok (n ∷ ms))) (counts_back w (place + 1) ns h.1)
+
+abbrev ask_numbers : Ask → List ℕ
+ask_numbers a = a.priority ∷ a.quantities
+
+ask_range : (a : Ask) → IsAsk a → AllByRecursion (λ n. n < 2 ^ 64) (ask_numbers a)
+ask_range a h = (h.priority, h.quantities)
+
+asks_back : Written → (place : ℕ) (asks : List Ask) → AllByRecursion IsAsk asks → asks_at place (map ask_words asks) ≡ Ok asks
+asks_back w place [] h = refl
+asks_back w place (a ∷ as_) h =
+    ap (λ r. then_do r (λ ns. then_do (asks_at (place + length (ask_words a) + 1) (map ask_words as_)) (λ asks. Ok (ask_of ns ∷ asks)))) (counts_back w place (ask_numbers a) (ask_range a h.0))
+    ∙ ap (λ r. then_do r (λ asks. Ok (a ∷ asks))) (asks_back w (place + length (ask_words a) + 1) as_ h.1)
+
+slashed : (as_ : List Ask) → flat_map (λ b. codes "/" ∷ ask_words b) as_ ≡ flat_map (λ v. codes "/" ∷ v) (map ask_words as_)
+slashed [] = refl
+slashed (a ∷ as_) = ap (λ l. codes "/" ∷ ask_words a ++ l) (slashed as_)
+
+asks_lack : Written → (as_ : List Ask) → AllByRecursion IsAsk as_ → AllByRecursion (λ u. AllByRecursion (λ word. bytes_eq word (codes "/") ≡ false) u) (map ask_words as_)
+asks_lack w [] h = tt
+asks_lack w (a ∷ as_) h = (numbers_lack w (ask_numbers a) (ask_range a h.0), asks_lack w as_ h.1)
+
+pub units_back : Written → (asks : List Ask) → 1 ≤ length asks → AllByRecursion IsAsk asks → units_of (asks_words asks) ≡ map ask_words asks
+units_back w [] some h = absurd (omega (arith, some))
+units_back w (a ∷ as_) some h =
+    ap (λ l. units_of (ask_words a ++ l)) (slashed as_)
+    ∙ split_joined (λ word. bytes_eq word (codes "/")) (codes "/") (ask_words a) (map ask_words as_) refl (numbers_lack w (ask_numbers a) (ask_range a h.0)) (asks_lack w as_ h.1)
+
+pub asks_read : Written → (place : ℕ) (asks : List Ask) → 1 ≤ length asks → AllByRecursion IsAsk asks → asks_at place (units_of (asks_words asks)) ≡ Ok asks
+asks_read w place asks some h = ap (asks_at place) (units_back w asks some h) ∙ asks_back w place asks h
+
+unit_sized : (a : Ask) → IsAsk a → is_unit (ask_words a) ≡ true
+unit_sized a h = let n = length-map a.quantities decimal in let some = h.some in let few = h.few in grind (arith, nat_tests, n, some, few)
+
+units_sized : (asks : List Ask) → AllByRecursion IsAsk asks → list_all is_unit (map ask_words asks) ≡ true
+units_sized [] h = refl
+units_sized (a ∷ as_) h = ap (λ b. b && list_all is_unit (map ask_words as_)) (unit_sized a h.0) ∙ units_sized as_ h.1
+
+pub units_counted : Written → (asks : List Ask) → 1 ≤ length asks → AllByRecursion IsAsk asks → list_all is_unit (units_of (asks_words asks)) ≡ true
+units_counted w asks some h = ap (list_all is_unit) (units_back w asks some h) ∙ units_sized asks h
+
+plain_append : (vs ws : List (List ℕ)) → AllByRecursion IsPlain vs → AllByRecursion IsPlain ws → AllByRecursion IsPlain (vs ++ ws)
+plain_append [] ws h k = k
+plain_append (v ∷ vs) ws h k = (h.0, plain_append vs ws h.1 k)
+
+plain_slash : IsPlain (codes "/")
+plain_slash = record { some = refl; lacks = (refl, tt) }
+
+plain_more : Written → (as_ : List Ask) → AllByRecursion IsAsk as_ → AllByRecursion IsPlain (flat_map (λ b. codes "/" ∷ ask_words b) as_)
+plain_more w [] h = tt
+plain_more w (a ∷ as_) h = (plain_slash, plain_append (ask_words a) (flat_map (λ b. codes "/" ∷ ask_words b) as_) (plain_numbers w (ask_numbers a) (ask_range a h.0)) (plain_more w as_ h.1))
+
+plain_asks : Written → (asks : List Ask) → AllByRecursion IsAsk asks → AllByRecursion IsPlain (asks_words asks)
+plain_asks w [] h = tt
+plain_asks w (a ∷ as_) h = plain_append (ask_words a) (flat_map (λ b. codes "/" ∷ ask_words b) as_) (plain_numbers w (ask_numbers a) (ask_range a h.0)) (plain_more w as_ h.1)
+
+-- The first words of each line are plain
+is_plain : List ℕ → Bool
+is_plain w = is_word w && list_all (λ b. not (is_blank b)) w
+
+plain_test : (w : List ℕ) → is_plain w ≡ true → IsPlain w
+unfolding is_plain
+plain_test w h = record { some = first_true (is_word w) _ h; lacks = no_blanks w (then_true (is_word w) _ h) }
+  where
+    then_true : (a b : Bool) → (a && b) ≡ true → b ≡ true
+    then_true true b e = e
+    then_true false b e = cc
+
+    negated : (b : Bool) → not b ≡ true → b ≡ false
+    negated true e = cc
+    negated false e = refl
+
+    no_blanks : (w : List ℕ) → list_all (λ b. not (is_blank b)) w ≡ true → AllByRecursion (λ b. is_blank b ≡ false) w
+    no_blanks [] e = tt
+    no_blanks (b ∷ bs) e = (negated (is_blank b) (first_true (not (is_blank b)) _ e), no_blanks bs (then_true (not (is_blank b)) _ e))
+
+plain_tests : (ws : List (List ℕ)) → list_all is_plain ws ≡ true → AllByRecursion IsPlain ws
+plain_tests [] h = tt
+plain_tests (w ∷ ws) h = (plain_test w (first_true (is_plain w) _ h), plain_tests ws (then_true (is_plain w) _ h))
+  where
+    then_true : (a b : Bool) → (a && b) ≡ true → b ≡ true
+    then_true true b e = e
+    then_true false b e = cc
+
+heads_plain : (h : Head) → list_all is_plain (shape_of h).words ≡ true
+unfolding is_plain
+heads_plain Master = refl
+heads_plain Stop = refl
+heads_plain Agent = refl
+heads_plain App = refl
+heads_plain Submit = refl
+heads_plain Finish = refl
+heads_plain Ban = refl
+heads_plain Unban = refl
+heads_plain Begin = refl
+heads_plain Preempt = refl
+heads_plain Want = refl
+heads_plain Near = refl
+heads_plain Rack = refl
+heads_plain Avoid = refl
+heads_plain Back = refl
+heads_plain TurnMaster = refl
+heads_plain TurnAgent = refl
+heads_plain TurnApp = refl
+heads_plain ResyncMaster = refl
+heads_plain ResyncAgent = refl
+heads_plain ResyncApp = refl
+heads_plain Deliver = refl
+heads_plain DeliverRange = refl
+heads_plain Dump = refl
+heads_plain Show = refl
+
+asks_range : (b : Bool) (asks : List Ask) → AreAsks b asks → AllByRecursion IsAsk asks
+asks_range true asks h = h.1
+asks_range false asks h = subst (AllByRecursion IsAsk) (sym h) tt
+
+saying_plain : Written → (s : Saying) → AreWithin 0 (shape_of s.head).places s.numbers → AreAsks (shape_of s.head).units s.asks → AllByRecursion IsPlain (saying_words s)
+saying_plain w s within asks =
+    plain_append (shape_of s.head).words (map decimal s.numbers ++ asks_words s.asks) (plain_tests (shape_of s.head).words (heads_plain s.head))
+    (plain_append (map decimal s.numbers) (asks_words s.asks) (plain_numbers w s.numbers (within_range (shape_of s.head).places 0 s.numbers within)) (plain_asks w s.asks (asks_range (shape_of s.head).units s.asks asks)))
+
+-- behind its front a line has its units
+front_dropped : (vs ms as_ : List (List ℕ)) (n : ℕ) → length ms ≡ n → drop (length vs + n) (vs ++ (ms ++ as_)) ≡ as_
+front_dropped vs ms as_ n e =
+    let long : length (vs ++ ms) ≡ length vs + n = length-append vs ms ∙ ap (λ k. length vs + k) e in
+    ap (drop (length vs + n)) (sym (append_assoc vs ms as_)) ∙ drop_at (vs ++ ms) as_ (length vs + n) long
+
+asks_case : Written → (b : Bool) (place : ℕ) (asks : List Ask) → AreAsks b asks
+    → elim b as (λ _. Result (List Ask) LineFault) [ true ↦ asks_at place (units_of (asks_words asks)) | false ↦ Ok [] ] ≡ Ok asks
+asks_case w true place asks h = asks_read w place asks h.0 h.1
+asks_case w false place asks h = ap (λ l. Ok l) (sym h)
+
+saying_behind : Written → (s : Saying) → AreWithin 0 (shape_of s.head).places s.numbers → AreAsks (shape_of s.head).units s.asks
+    → event_behind s.head (saying_words s) ≡ Ok (event_at s.head s.numbers s.asks)
+saying_behind w s within asks =
+    let f = shape_of s.head in
+    let ms = map decimal s.numbers in
+    let counted : length ms ≡ length f.places = length-map s.numbers decimal ∙ within_length f.places 0 s.numbers within in
+    ap (λ l. then_do (numbers_at f.places (length f.words) 0 l) (λ ns. then_do (asks_of f (saying_words s)) (λ as_. Ok (event_at s.head ns as_)))) (drop_at f.words (ms ++ asks_words s.asks) (length f.words) refl)
+    ∙ ap (λ r. then_do r (λ ns. then_do (asks_of f (saying_words s)) (λ as_. Ok (event_at s.head ns as_)))) (numbers_back w f.places (length f.words) 0 s.numbers (asks_words s.asks) within)
+    ∙ ap (λ l. then_do (elim f.units as (λ _. Result (List Ask) LineFault) [ true ↦ asks_at (front f) (units_of l) | false ↦ Ok [] ]) (λ as_. Ok (event_at s.head s.numbers as_)))
+    (front_dropped f.words ms (asks_words s.asks) (length f.places) counted)
+    ∙ ap (λ r. then_do r (λ as_. Ok (event_at s.head s.numbers as_))) (asks_case w f.units (front f) s.asks asks)
+
+-- its first words and the number of its words tell which line it is
+head_found : Written → (e : Event) → IsLineEvent e → event_of_words (saying_words (saying_of e)) ≡ event_behind (saying_of e).head (saying_words (saying_of e))
+head_found w (MasterEvent e) h = refl
+head_found w (StopEvent e) h = refl
+head_found w (AgentEvent m b) h = refl
+head_found w (AppEvent a b) h = refl
+head_found w (SubmitEvent e a g asks) h = rw (units_counted w asks h.asks.0 h.asks.1) refl
+head_found w (FinishEvent e a) h = refl
+head_found w (BanEvent e m) h = refl
+head_found w (UnbanEvent e m) h = refl
+head_found w (BeginEvent e) h = refl
+head_found w (PreemptEvent e) h = refl
+head_found w (WantEvent a u n) h = refl
+head_found w (NearEvent a u m n) h = refl
+head_found w (RackEvent a u r n) h = refl
+head_found w (AvoidEvent a u m on) h = refl
+head_found w (BackEvent a u m n) h = refl
+head_found w (TurnMasterEvent e) h = refl
+head_found w (TurnAgentEvent m) h = refl
+head_found w (TurnAppEvent a) h = refl
+head_found w (ResyncMasterEvent e) h = refl
+head_found w (ResyncAgentEvent m) h = refl
+head_found w (ResyncAppEvent a) h = refl
+head_found w (DeliverEvent k) h = refl
+head_found w (DeliverRangeEvent k l) h = refl
+head_found w (DumpEvent k) h = refl
+head_found w ShowEvent h = refl
+
+same_event : (e : Event) → event_at (saying_of e).head (saying_of e).numbers (saying_of e).asks ≡ e
+same_event (MasterEvent e) = refl
+same_event (StopEvent e) = refl
+same_event (AgentEvent m b) = refl
+same_event (AppEvent a b) = refl
+same_event (SubmitEvent e a g asks) = refl
+same_event (FinishEvent e a) = refl
+same_event (BanEvent e m) = refl
+same_event (UnbanEvent e m) = refl
+same_event (BeginEvent e) = refl
+same_event (PreemptEvent e) = refl
+same_event (WantEvent a u n) = refl
+same_event (NearEvent a u m n) = refl
+same_event (RackEvent a u r n) = refl
+same_event (AvoidEvent a u m true) = refl
+same_event (AvoidEvent a u m false) = refl
+same_event (BackEvent a u m n) = refl
+same_event (TurnMasterEvent e) = refl
+same_event (TurnAgentEvent m) = refl
+same_event (TurnAppEvent a) = refl
+same_event (ResyncMasterEvent e) = refl
+same_event (ResyncAgentEvent m) = refl
+same_event (ResyncAppEvent a) = refl
+same_event (DeliverEvent k) = refl
+same_event (DeliverRangeEvent k l) = refl
+same_event (DumpEvent k) = refl
+same_event ShowEvent = refl
+
+pub event_back : Written → (e : Event) → IsLineEvent e → event_of (event_text e) ≡ Ok e
+event_back w e h =
+    ap event_of_words (spaced_words (saying_words (saying_of e)) (saying_plain w (saying_of e) h.numbers h.asks))
+    ∙ head_found w e h ∙ saying_behind w (saying_of e) h.numbers h.asks ∙ ap (λ e. Ok e) (same_event e)

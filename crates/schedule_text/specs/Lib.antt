@@ -1,0 +1,6 @@
+pub mod Words
+pub mod Forms
+pub mod Reading
+pub mod Writing
+pub mod Lines
+pub mod Printing

@@ -1,0 +1,348 @@
+//! The lines that are printed.
+
+ghost use Rattle.std.specs.Prelude.{◌≡◌, ◌++◌, ◌∷◌, [], true, Bool, List, ℕ, cond, codes, map, OnOk, OnErr, decimal};
+ghost use Rattle.hex.specs.Hex.{encode_lower};
+ghost use Rattle.schedule_text.specs.Lines.{party_word, place_word, kind_word, what_word, frame_words, ended};
+ghost use Rattle.schedule_text.specs.Printing.{as_party, as_kind, is_entry, output_words, output_text};
+ghost use Rattle.schedule_text.specs.Writing.{blanked, spaced, Begins};
+
+use crate::refusal::{Refusal, push_refusal};
+use crate::write::{push_blanked, push_numbers};
+use fuxi_terms::{OutOfMemory, What};
+use schedule_unit::{AppNo, GroupNo, MachineNo, Party, Role, UnitNo, write_number};
+use std::alloc::Global;
+
+/// What a packet of a turn is.
+#[derive(Clone, Copy, Debug, PartialEq, Eq)]
+pub enum Kind {
+    /// How far what came the other way has come.
+    Ack,
+    /// The change that leads to an index.
+    Delta,
+    /// The whole ledger of an index.
+    Full,
+}
+
+/// A line that is printed. Packets count from 1, and a place is an incarnation and an index.
+#[derive(Clone, Copy, Debug, Drop)]
+pub enum Output {
+    /// A packet of a turn, and the length of its frame in bytes.
+    Sent {
+        number: u64,
+        from: Party,
+        to: Party,
+        kind: Kind,
+        inc: u64,
+        seq: u64,
+        bytes: u64,
+    },
+    /// A packet that was heard, whether its sender is a new incarnation, and as what.
+    Heard(u64, bool, What),
+    /// A packet that was delivered where nobody runs.
+    Lost(u64),
+    /// Why an event was refused.
+    Refused(Refusal),
+    /// The number of events.
+    State(u64),
+    /// The greatest epoch that ever started.
+    Fence(u64),
+    /// A job, its group, and whether it has ended.
+    Job(AppNo, GroupNo, bool),
+    /// A machine that is banned.
+    Banned(MachineNo),
+    /// A master by its epoch, and whether it serves.
+    Master(u64, bool),
+    /// A machine that is reported to the master of this epoch.
+    Reported(u64, MachineNo),
+    /// Grants in the table of the master of this epoch.
+    Grant(u64, AppNo, UnitNo, MachineNo, u32),
+    /// A unit that waits at the master of this epoch, and for how many.
+    Wait(u64, AppNo, UnitNo, u32),
+    /// An agent with its boot and its place.
+    Agent(MachineNo, u64, u64, u64),
+    /// Grants in an agent's table.
+    Row(MachineNo, AppNo, UnitNo, u32),
+    /// An application with its boot and its place.
+    App(AppNo, u64, u64, u64),
+    /// Grants that an application holds on a machine that is named as reported.
+    Hold(AppNo, UnitNo, MachineNo, u32),
+    /// Grants that an application carries on another machine.
+    Carry(AppNo, UnitNo, MachineNo, u32),
+    /// How many packets were sent.
+    Packets(u64),
+}
+
+/// Appends the line and a newline. Leaves `out` as it was where memory was refused.
+pub fn write_output(line: &Output, out: &mut Vec<u8>) -> Result<(), OutOfMemory>
+    ensures ok { OnOk result (out.new.items ≡ out.old.items ++ output_text line.now) }
+    ensures err { OnErr result (out.new.items ≡ out.old.items) }
+{
+    let length = out.len();
+    match push_ended(line, out) {
+        Ok(()) => Ok(()),
+        Err(refusal) => {
+            out.truncate(length);
+            Err(refusal)
+        }
+    }
+}
+
+/// Appends the line of a packet's frame, in hexadecimal digits, and a newline. Leaves `out` as it was where
+/// memory was refused.
+pub fn write_frame(
+    alloc: Global,
+    number: u64,
+    bytes: &[u8],
+    out: &mut Vec<u8>,
+) -> Result<(), OutOfMemory>
+    ensures ok { OnOk result (out.new.items ≡ out.old.items ++ ended (frame_words number bytes.now)) }
+    ensures err { OnErr result (out.new.items ≡ out.old.items) }
+{
+    let digits = hex::encode(alloc, bytes)?;
+    let length = out.len();
+    match push_frame(number, digits.as_bytes(), out) {
+        Ok(()) => Ok(()),
+        Err(refusal) => {
+            out.truncate(length);
+            Err(refusal)
+        }
+    }
+}
+
+fn push_frame(number: u64, digits: &[u8], out: &mut Vec<u8>) -> Result<(), OutOfMemory>
+    ensures ok { OnOk result (out.new.items ≡ out.old.items ++ ended (codes "frame" ∷ decimal number ∷ digits.now ∷ [])) }
+    ensures err { OnErr result (Begins out.old.items out.new.items) }
+{
+    push_word(out, b"frame", &[number], digits)?;
+    Ok(out.push(b'\n')?)
+}
+
+fn push_ended(line: &Output, out: &mut Vec<u8>) -> Result<(), OutOfMemory>
+    ensures ok { OnOk result (out.new.items ≡ out.old.items ++ output_text line.now) }
+    ensures err { OnErr result (Begins out.old.items out.new.items) }
+{
+    push_output(line, out)?;
+    Ok(out.push(b'\n')?)
+}
+
+fn push_output(line: &Output, out: &mut Vec<u8>) -> Result<(), OutOfMemory>
+    ensures ok { OnOk result (out.new.items ≡ out.old.items ++ spaced (output_words line.now)) }
+    ensures err { OnErr result (Begins out.old.items out.new.items) }
+{
+    match line {
+        Output::Sent {
+            number,
+            from,
+            to,
+            kind,
+            inc,
+            seq,
+            bytes,
+        } => {
+            push_numbered(out, b"sent", &[*number])?;
+            push_sent(out, from, to, *kind, *inc, *seq)?;
+            push_numbers(out, &[*bytes])
+        }
+        Output::Heard(number, fresh, what) => {
+            push_numbered(out, b"heard", &[*number])?;
+            push_heard(out, *fresh, what)
+        }
+        Output::Lost(number) => push_word(out, b"heard", &[*number], b"lost"),
+        Output::Refused(refusal) => {
+            push_numbered(out, b"refused", &[])?;
+            push_refusal(out, refusal)
+        }
+        Output::State(events) => push_numbered(out, b"state", &[*events]),
+        Output::Fence(epoch) => push_numbered(out, b"fence", &[*epoch]),
+        Output::Job(app, group, ended) => push_word(
+            out,
+            b"job",
+            &[app.0 as u64, group.0 as u64],
+            if *ended {
+                b"ended".as_slice()
+            } else {
+                b"live".as_slice()
+            },
+        ),
+        Output::Banned(machine) => push_numbered(out, b"ban", &[machine.0 as u64]),
+        Output::Master(epoch, serving) => push_word(
+            out,
+            b"master",
+            &[*epoch],
+            if *serving {
+                b"serving".as_slice()
+            } else {
+                b"rebuilding".as_slice()
+            },
+        ),
+        Output::Packets(number) => push_numbered(out, b"packets", &[*number]),
+        _ => push_entry(line, out),
+    }
+}
+
+// What a master, an agent and an application have.
+fn push_entry(line: &Output, out: &mut Vec<u8>) -> Result<(), OutOfMemory>
+    requires { is_entry line.now ≡ true }
+    ensures ok { OnOk result (out.new.items ≡ out.old.items ++ spaced (output_words line.now)) }
+    ensures err { OnErr result (Begins out.old.items out.new.items) }
+{
+    match line {
+        Output::Reported(epoch, machine) => {
+            push_numbered(out, b"reported", &[*epoch, machine.0 as u64])
+        }
+        Output::Grant(epoch, app, unit, machine, count) => push_numbered(
+            out,
+            b"grant",
+            &[
+                *epoch,
+                app.0 as u64,
+                unit.0 as u64,
+                machine.0 as u64,
+                *count as u64,
+            ],
+        ),
+        Output::Wait(epoch, app, unit, count) => push_numbered(
+            out,
+            b"wait",
+            &[*epoch, app.0 as u64, unit.0 as u64, *count as u64],
+        ),
+        Output::Agent(machine, boot, inc, seq) => {
+            push_numbered(out, b"agent", &[machine.0 as u64, *boot])?;
+            push_place(out, *inc, *seq)
+        }
+        Output::Row(machine, app, unit, count) => push_numbered(
+            out,
+            b"row",
+            &[machine.0 as u64, app.0 as u64, unit.0 as u64, *count as u64],
+        ),
+        Output::App(app, boot, inc, seq) => {
+            push_numbered(out, b"app", &[app.0 as u64, *boot])?;
+            push_place(out, *inc, *seq)
+        }
+        Output::Hold(app, unit, machine, count) => push_numbered(
+            out,
+            b"hold",
+            &[app.0 as u64, unit.0 as u64, machine.0 as u64, *count as u64],
+        ),
+        Output::Carry(app, unit, machine, count) => push_numbered(
+            out,
+            b"carry",
+            &[app.0 as u64, unit.0 as u64, machine.0 as u64, *count as u64],
+        ),
+        _ => unreachable!(),
+    }
+}
+
+// A first word and numbers.
+fn push_numbered(out: &mut Vec<u8>, word: &[u8], numbers: &[u64]) -> Result<(), OutOfMemory>
+    ensures ok { OnOk result (out.new.items ≡ out.old.items ++ spaced (word.now ∷ map decimal numbers.now)) }
+    ensures err { OnErr result (Begins out.old.items out.new.items) }
+{
+    out.extend_from_slice(word)?;
+    match push_numbers(out, numbers) {
+        Ok(()) => Ok(()),
+        Err(refusal) => Err(refusal),
+    }
+}
+
+// A first word, numbers, and a last word.
+fn push_word(
+    out: &mut Vec<u8>,
+    word: &[u8],
+    numbers: &[u64],
+    last: &[u8],
+) -> Result<(), OutOfMemory>
+    ensures ok { OnOk result (out.new.items ≡ out.old.items ++ spaced (word.now ∷ (map decimal numbers.now ++ last.now ∷ []))) }
+    ensures err { OnErr result (Begins out.old.items out.new.items) }
+{
+    push_numbered(out, word, numbers)?;
+    match push_blanked(out, last) {
+        Ok(()) => Ok(()),
+        Err(refusal) => Err(refusal),
+    }
+}
+
+// What a packet of a turn is, behind its number.
+fn push_sent(
+    out: &mut Vec<u8>,
+    from: &Party,
+    to: &Party,
+    kind: Kind,
+    inc: u64,
+    seq: u64,
+) -> Result<(), OutOfMemory>
+    ensures ok { OnOk result (out.new.items ≡ out.old.items ++ blanked (party_word (as_party from.now) ∷ party_word (as_party to.now) ∷ kind_word (as_kind kind) ∷ place_word inc seq ∷ [])) }
+    ensures err { OnErr result (Begins out.old.items out.new.items) }
+{
+    push_party(out, from)?;
+    push_party(out, to)?;
+    push_blanked(out, kind_name(kind))?;
+    push_place(out, inc, seq)
+}
+
+fn push_heard(out: &mut Vec<u8>, fresh: bool, what: &What) -> Result<(), OutOfMemory>
+    ensures ok { OnOk result (out.new.items ≡ out.old.items ++ blanked (cond fresh (codes "new" ∷ what_word what.now ∷ []) (what_word what.now ∷ []))) }
+    ensures err { OnErr result (Begins out.old.items out.new.items) }
+{
+    if fresh {
+        push_blanked(out, b"new")?;
+    }
+    push_blanked(out, what_name(what))
+}
+
+fn kind_name(kind: Kind) -> &'static [u8]
+    ensures { result.now ≡ kind_word (as_kind kind) }
+{
+    match kind {
+        Kind::Ack => b"ack",
+        Kind::Delta => b"delta",
+        Kind::Full => b"full",
+    }
+}
+
+fn what_name(what: &What) -> &'static [u8]
+    ensures { result.now ≡ what_word what.now }
+{
+    match what {
+        What::Stranger => b"stranger",
+        What::Stale => b"stale",
+        What::Ack => b"ack",
+        What::NotMine => b"not-mine",
+        What::Old => b"old",
+        What::Gap => b"gap",
+        What::Taken => b"taken",
+        What::Ledger(_) => b"ledger",
+        What::Exceeds { .. } => b"exceeds",
+    }
+}
+
+fn push_party(out: &mut Vec<u8>, party: &Party) -> Result<(), OutOfMemory>
+    ensures ok { OnOk result (out.new.items ≡ out.old.items ++ blanked (party_word (as_party party.now) ∷ [])) }
+    ensures err { OnErr result (Begins out.old.items out.new.items) }
+{
+    match party.role {
+        Role::Master => push_blanked(out, b"master/")?,
+        Role::Agent => push_named(out, b"agent/", party.number)?,
+        Role::App => push_named(out, b"app/", party.number)?,
+    }
+    write_number(party.inc, out)
+}
+
+// The name and the number of a party, up to its incarnation.
+fn push_named(out: &mut Vec<u8>, name: &[u8], number: u32) -> Result<(), OutOfMemory>
+    ensures ok { OnOk result (out.new.items ≡ out.old.items ++ blanked ((name.now ++ (decimal number ++ codes "/")) ∷ [])) }
+    ensures err { OnErr result (Begins out.old.items out.new.items) }
+{
+    push_blanked(out, name)?;
+    write_number(number as u64, out)?;
+    Ok(out.push(b'/')?)
+}
+
+fn push_place(out: &mut Vec<u8>, inc: u64, seq: u64) -> Result<(), OutOfMemory>
+    ensures ok { OnOk result (out.new.items ≡ out.old.items ++ blanked (place_word inc seq ∷ [])) }
+    ensures err { OnErr result (Begins out.old.items out.new.items) }
+{
+    push_numbers(out, &[inc])?;
+    out.push(b'.')?;
+    write_number(seq, out)
+}

@@ -1,0 +1,221 @@
+//! Event lines are read.
+
+ghost use Rattle.std.specs.Prelude.{◌≡◌, true, ℕ, ◌+◌, ◌^◌, ◌<◌, ◌≤◌, List, IfOk, IfErr, IfSome, Ok, Err, map, length, take, drop, slice_index, slice_get, get_or, Some};
+ghost use Rattle.std.specs.List.{find, list_all, list_any};
+ghost use Rattle.fuxi_terms.specs.Counts.{then_do};
+ghost use Rattle.schedule_text.specs.Forms.{Shape, shape_of, heads, as_shape, IsNarrow};
+ghost use Rattle.schedule_text.specs.Reading.{begins, is_head, has_count, is_unit, units_of, head_of, number_at, numbers_at, counts_at, ask_of, asks_at, asks_of, event_at, event_behind, event_of, front, IsFault};
+ghost use Rattle.schedule_text.specs.declared.form.Place.TheVariants.{Incarnation as IncarnationPlace};
+
+use crate::event::{Event, LineFault};
+use crate::form::{Form, HEADS, Head, Place, form_of, is_within};
+use crate::make::make_event;
+use crate::word::words_of;
+use fuxi_terms::OutOfMemory;
+use schedule_unit::{Ask, Asks, Quantities, read_number};
+use std::alloc::Global;
+
+/// The event of a line, which has no newline. The first test that fails decides: the first word, and the
+/// second of a turn or a resync, is known; the line has as many words as its event; and place by place the word
+/// is a number, and within its range.
+pub fn read_event(alloc: Global, line: &[u8]) -> Result<Event, LineFault>
+    ensures ok { IfOk result (λ event. event_of line.now ≡ Ok event) }
+    ensures fault { IfErr result (IsFault (event_of line.now)) }
+{
+    let words = words_of(alloc, line)?;
+    let words = words.as_slice();
+    if words.is_empty() {
+        return Err(LineFault::UnknownWord);
+    }
+    let head = head_of(words)?;
+    event_behind(alloc, head, words)
+}
+
+// Which event line it is.
+fn head_of(words: &[&[u8]]) -> Result<Head, LineFault>
+    ensures value { result ≡ head_of (map (λ w. w.now) words.now) }
+    ensures count { IfOk result (λ head. has_count (shape_of head) (map (λ w. w.now) words.now) ≡ true) }
+{
+    match find_head(words) {
+        Some(head) => Ok(head),
+        None if is_begun(words) => Err(LineFault::WrongCount),
+        None => Err(LineFault::UnknownWord),
+    }
+}
+
+fn find_head(words: &[&[u8]]) -> Option<Head>
+    ensures value { result ≡ find (is_head (map (λ w. w.now) words.now)) heads }
+    ensures count { IfSome result (λ head. has_count (shape_of head) (map (λ w. w.now) words.now) ≡ true) }
+{
+    HEADS.iter().copied().find(|head| is_head(*head, words))
+}
+
+// Whether some event line begins with these words.
+fn is_begun(words: &[&[u8]]) -> bool
+    ensures { result ≡ list_any (λ head. begins (shape_of head) (map (λ w. w.now) words.now)) heads }
+{
+    HEADS.iter().any(|head| begins(&form_of(*head), words))
+}
+
+fn is_head(head: Head, words: &[&[u8]]) -> bool
+    ensures { result ≡ is_head (map (λ w. w.now) words.now) head }
+{
+    let form = form_of(head);
+    begins(&form, words) && has_count(&form, words)
+}
+
+fn begins(form: &Form, words: &[&[u8]]) -> bool
+    ensures { result ≡ begins (as_shape form.now) (map (λ w. w.now) words.now) }
+{
+    form.words.iter().zip(words).all(|(a, b)| *a == *b)
+}
+
+fn has_count(form: &Form, words: &[&[u8]]) -> bool
+    ensures { result ≡ has_count (as_shape form.now) (map (λ w. w.now) words.now) }
+{
+    let front = form.words.len() + form.places.len();
+    if !form.units {
+        return words.len() == front;
+    }
+    if words.len() <= front {
+        return false;
+    }
+    let (_, behind) = words.split_at(front);
+    are_units(behind)
+}
+
+fn are_units(words: &[&[u8]]) -> bool
+    ensures { result ≡ list_all is_unit (units_of (map (λ w. w.now) words.now)) }
+{
+    words
+        .split(|word| *word == b"/".as_slice())
+        .all(|unit| (2..=9).contains(&unit.len()))
+}
+
+// The number at a place of the line, with the number before it.
+fn number_at(kind: Place, place: usize, before: u64, word: &[u8]) -> Result<u64, LineFault>
+    ensures value { result ≡ number_at kind place before word.now }
+    ensures narrow { IfOk result (IsNarrow kind) }
+{
+    match read_number(word) {
+        None => Err(LineFault::BadNumber(place as u64)),
+        Some(number) if is_within(kind, before, number) => Ok(number),
+        Some(_) => Err(LineFault::Range(place as u64)),
+    }
+}
+
+// The numbers of these places, which stand from a place of the line on. Behind them stand zeros.
+fn numbers_at(places: &[Place], first: usize, words: &[&[u8]]) -> Result<[u64; 4], LineFault>
+    requires few { length places.now ≤ 4 }
+    requires there { length places.now ≤ length words.now }
+    requires range { first + length places.now < 2 ^ 63 }
+    ensures ok { IfOk result (λ numbers. numbers_at places.now first 0 (map (λ w. w.now) words.now) ≡ Ok (take (length places.now) numbers)) }
+    ensures within { IfOk result (λ numbers. (i : ℕ) → i < length places.now → IsNarrow (get_or places.now i IncarnationPlace) (slice_index numbers i)) }
+    ensures fault { IfErr result (λ fault. numbers_at places.now first 0 (map (λ w. w.now) words.now) ≡ Err fault) }
+{
+    let mut numbers = [0; 4];
+    let mut before = 0;
+    for (index, place) in places.iter().enumerate() {
+        match number_at(*place, first + index, before, words[index]) {
+            Ok(number) => before = number,
+            Err(fault) => return Err(fault),
+        }
+        numbers[index] = before;
+    }
+    Ok(numbers)
+}
+
+// The event with the numbers and units of the line, which has as many words as it must.
+fn event_behind(alloc: Global, head: Head, words: &[&[u8]]) -> Result<Event, LineFault>
+    requires count { has_count (shape_of head) (map (λ w. w.now) words.now) ≡ true }
+    requires range { length words.now < 2 ^ 61 }
+    ensures ok { IfOk result (λ event. event_behind head (map (λ w. w.now) words.now) ≡ Ok event) }
+    ensures fault { IfErr result (IsFault (event_behind head (map (λ w. w.now) words.now))) }
+{
+    let form = form_of(head);
+    let (_, behind) = words.split_at(form.words.len());
+    let count = form.places.len();
+    let numbers = numbers_at(form.places, form.words.len(), behind)?;
+    let (numbers, _) = numbers.as_slice().split_at(count);
+    if !form.units {
+        return Ok(make_event(head, numbers, Asks::new(alloc)));
+    }
+    let front = form.words.len() + count;
+    let (_, units) = words.split_at(front);
+    match asks_at(alloc, front, units) {
+        Ok(asks) => Ok(make_event(head, numbers, asks)),
+        Err(fault) => Err(fault),
+    }
+}
+
+// Any numbers, which stand from a place of the line on.
+fn quantities_at(alloc: Global, first: usize, words: &[&[u8]]) -> Result<Quantities, LineFault>
+    requires { first + length words.now < 2 ^ 63 }
+    ensures ok { IfOk result (λ quantities. counts_at first (map (λ w. w.now) words.now) ≡ Ok quantities) }
+    ensures fault { IfErr result (IsFault (counts_at first (map (λ w. w.now) words.now))) }
+{
+    let mut quantities = Quantities::new(alloc);
+    for (index, word) in words.iter().enumerate() {
+        let quantity = match number_at(Place::Count, first + index, 0, word) {
+            Ok(quantity) => quantity,
+            Err(fault) => return Err(fault),
+        };
+        match quantities.push(quantity) {
+            Ok(()) => {}
+            Err(_) => return Err(LineFault::OutOfMemory),
+        }
+    }
+    Ok(quantities)
+}
+
+// A priority and quantities, which stand from a place of the line on.
+fn ask_at(alloc: Global, first: usize, words: &[&[u8]]) -> Result<Ask, LineFault>
+    requires range { first + length words.now < 2 ^ 63 }
+    requires some { 1 ≤ length words.now }
+    ensures ok { IfOk result (λ ask. then_do (counts_at first (map (λ w. w.now) words.now)) (λ ns. Ok (ask_of ns)) ≡ Ok ask) }
+    ensures fault { IfErr result (IsFault (counts_at first (map (λ w. w.now) words.now))) }
+{
+    let [word, others @ ..] = words else {
+        unreachable!()
+    };
+    let priority = number_at(Place::Count, first, 0, word)?;
+    let quantities = quantities_at(alloc, first + 1, others)?;
+    Ok(Ask {
+        priority,
+        quantities,
+    })
+}
+
+// The words of each unit.
+fn units_of<'a, 'b>(
+    alloc: Global,
+    words: &'a [&'b [u8]],
+) -> Result<Vec<&'a [&'b [u8]]>, OutOfMemory>
+    ensures { IfOk result (λ units. map (λ u. map (λ w. w.now) u.now) units.items ≡ units_of (map (λ w. w.now) words.now)) }
+{
+    Ok(words.split(|word| *word == b"/".as_slice()).collect(alloc)?)
+}
+
+// Units, which stand from a place of the line on.
+fn asks_at(alloc: Global, first: usize, words: &[&[u8]]) -> Result<Asks, LineFault>
+    requires range { first + length words.now < 2 ^ 62 }
+    requires units { list_all is_unit (units_of (map (λ w. w.now) words.now)) ≡ true }
+    ensures ok { IfOk result (λ asks. asks_at first (units_of (map (λ w. w.now) words.now)) ≡ Ok asks) }
+    ensures fault { IfErr result (IsFault (asks_at first (units_of (map (λ w. w.now) words.now)))) }
+{
+    let units = units_of(alloc, words)?;
+    let mut asks = Asks::new(alloc);
+    let mut place = first;
+    for unit in &units {
+        let ask = match ask_at(alloc, place, unit) {
+            Ok(ask) => ask,
+            Err(fault) => return Err(fault),
+        };
+        match asks.push(ask) {
+            Ok(()) => {}
+            Err(_) => return Err(LineFault::OutOfMemory),
+        }
+        place += unit.len() + 1;
+    }
+    Ok(asks)
+}
