@@ -116,26 +116,27 @@ pub knows_then : (a b c : List KnownJob) → KnowsMore a b → KnowsMore b c →
 knows_then a b c f g = record { known = λ j k. let x = f.known j k in let y = g.known j x.0 in (y.0, y.1 ∙ x.1) }
 
 -- with more jobs the range is wider
-more_units : (jobs jobs' : List KnownJob) → KnowsMore jobs jobs' → (a : ℕ) → unit_count jobs a ≤ unit_count jobs' a
+pub more_units : (jobs jobs' : List KnownJob) → KnowsMore jobs jobs' → (a : ℕ) → unit_count jobs a ≤ unit_count jobs' a
 more_units jobs jobs' k a = by (job_of jobs a) refl
   where
     by : (o : Option KnownJob) → job_of jobs a ≡ o → unit_count jobs a ≤ unit_count jobs' a
     by None e = let z : unit_count jobs a ≡ 0 = ap (λ o. length (unwrap_or (option_map (λ (j : KnownJob). j.job.units) o) [])) e in omega (arith, z)
     by (Some j) e = let s : unit_count jobs' a ≡ unit_count jobs a = ap length (k.known a (ap is_some e)).1 in omega (arith, s)
 
+-- what is in a smaller range is in a wider one
+pub ranged_wider : (c : ClusterRecord) (m n : ℕ) (d : Ledger) → m ≤ n → IsRanged c m d → IsRanged c n d
+ranged_wider c m n d le r q out = r q (by (nat_lt q.unit m) refl)
+  where
+    rest : Bool
+    rest = nat_eq q.what 1 || cond (nat_eq q.what 3) (has_rack c q.number) (has_machine c q.number)
+
+    by : (b : Bool) → nat_lt q.unit m ≡ b → (b && rest) ≡ false
+    by true t = let more : nat_lt q.unit n ≡ true = grind (arith, nat_tests, t, le) in ap (λ b. b && rest) (sym more) ∙ out
+    by false t = refl
+
 -- demands hold for more jobs
 pub wider : (c : ClusterRecord) (jobs jobs' : List KnownJob) (a : ℕ) (h : List Ledger) → KnowsMore jobs jobs' → DemandsHold c (unit_count jobs a) h → DemandsHold c (unit_count jobs' a) h
-wider c jobs jobs' a h k w = record { backs = w.backs; anew = w.anew; tidy = w.tidy; ranged = λ n q out. w.ranged n q (narrow q (unit_count jobs a) (unit_count jobs' a) (more_units jobs jobs' k a) out) }
-  where
-    narrow : (q : Key) (m n : ℕ) → m ≤ n → is_there c n q ≡ false → is_there c m q ≡ false
-    narrow q m n le out = by (nat_lt q.unit m) refl
-      where
-        rest : Bool
-        rest = nat_eq q.what 1 || cond (nat_eq q.what 3) (has_rack c q.number) (has_machine c q.number)
-
-        by : (b : Bool) → nat_lt q.unit m ≡ b → (b && rest) ≡ false
-        by true t = let more : nat_lt q.unit n ≡ true = grind (arith, nat_tests, t, le) in ap (λ b. b && rest) (sym more) ∙ out
-        by false t = refl
+wider c jobs jobs' a h k w = record { backs = w.backs; anew = w.anew; tidy = w.tidy; ranged = λ n. ranged_wider c (unit_count jobs a) (unit_count jobs' a) (at_index nothing h n) (more_units jobs jobs' k a) (w.ranged n) }
 
 -- between two entries with one head
 pub backs_between : (h : List Ledger) (known : ℕ) → Rising shape h known → ((n : ℕ) → n + 1 ≤ length h → BacksRise (at_index nothing h n) (at_index nothing h (n + 1)))

@@ -18,16 +18,20 @@ use Rattle.written_roles.specs.Apps.{Carried}
 use Rattle.written_roles.specs.MasterSteps.{master_party, peers, row, grants, is_one_of, phased, ready}
 use Rattle.written_world.specs.Parties.{offers, projection, end_step}
 use Rattle.written_net.specs.Sound.{Sound}
-use Rattle.written_world.specs.Good.{HasOrigin, IsCredited}
+use Rattle.written_world.specs.Good.{greatest_in_grants, NamesJobs, HasOrigin, IsCredited}
 use Rattle.written_net.proofs.NetLemmas.{party_is}
 use Rattle.fuxi_terms.proofs.Booleans.{number_is}
 use Rattle.fuxi_terms.specs.Jobs.{KnownJob, is_known, unit_count}
-use Rattle.written_world.proofs.DemandsLemmas.{DemandsHold, KnowsMore, knows_then, wider, publish_each}
+use Rattle.written_world.proofs.DemandsLemmas.{DemandsHold, KnowsMore, knows_then, more_units, wider, publish_each}
 use Rattle.written_world.proofs.CreditsLemmas.{credited_view, credited_like}
 use Rattle.written_net.proofs.PublishLemmas.{view_grows, Leaves, leaves_then, grows_then, publish_grows, HeadIsKnown, IsWanted, publish_links, publish_leaves, publish_sound, publish_presents}
 use Rattle.written_world.specs.Safe.{RowsFit}
 use Rattle.written_world.proofs.GrantsFit.{GrantHolds, grant_wider, grants_hold}
 use Rattle.written_world.proofs.TablesFit.{FitsMachines, ready_fits_machines, row_fits}
+use Rattle.written_world.proofs.TablesBounded.{IsBounded, ready_bounded}
+use Rattle.written_world.proofs.EntriesBounded.{row_named, named_wider, grants_counted, grants_in_range}
+use Rattle.fuxi_terms.specs.Keys.{key_cmp, RowKey}
+use Rattle.fuxi_terms.specs.Counts.{AreCounts}
 use Rattle.written_world.proofs.TablesInOrder.{IsInOrder, AllWait, ready_in_order, ready_waits}
 use Rattle.written_net.proofs.SoundLemmas.{Grows}
 
@@ -38,6 +42,7 @@ pub record IsShowing (c : ClusterRecord) (hard : HardState) (net : Net Ledger) (
   pub knows : KnowsMore M.jobs hard.jobs
   pub tabled : IsInOrder M
   pub housed : FitsMachines c M
+  pub bounded : IsBounded c M
   pub waits : AllWait M M.line
   pub credited : IsCredited net M
   pub shows : AllByRecursion (λ q. present net (master_party M) q ≡ projection net M q) (peers c M)
@@ -56,10 +61,17 @@ pub record HasUnits (jobs : List KnownJob) (a : ℕ) (g : App) : Type 0 where
   pub known : is_known jobs a ≡ true
   pub units : g.units ≡ unit_count jobs a
 
--- what a master sends: a row fits the machine, and grants fit each machine
+-- what an agent reports fits its machine, and is a row of known jobs
+pub record ReportHolds (c : ClusterRecord) (jobs : List KnownJob) (m : ℕ) (rows : List (RowKey × ℕ)) : Type 0 where
+  pub fits : RowsFit c m rows
+  pub named : NamesJobs jobs rows
+
+-- what a master sends: a row fits the machine and is one of known jobs, and grants fit each machine and are in range
 pub record EntryHolds (c : ClusterRecord) (jobs : List KnownJob) (q : Id) (l : Ledger) : Type 0 where
   pub rows : is_agent q ≡ true → RowsFit c q.number l.rows
+  pub named : is_agent q ≡ true → NamesJobs jobs l.rows
   pub grants : is_app q ≡ true → GrantHolds c jobs q.number l
+  pub tally : is_app q ≡ true → AreCounts key_cmp (greatest_in_grants c (unit_count jobs q.number)) l.entries
 
 -- the invariant: what holds of the net, of each running party and of all that was ever sent
 pub record Invariant (w : World) : Type 0 where
@@ -73,10 +85,18 @@ pub record Invariant (w : World) : Type 0 where
   pub units : (a : ℕ) (g : App) → find nat_cmp a w.apps ≡ Some g → HasUnits w.hard.jobs a g
   pub written : (a b : ℕ) → DemandsHold w.cluster (unit_count w.hard.jobs a) (w.net.histories (party (app_id a) b) master_id)
   pub entries : (e : ℕ) (q : Id) (n : ℕ) → EntryHolds w.cluster w.hard.jobs q (at_index nothing (w.net.histories (party master_id e) q) n)
-  pub reports : (m b n : ℕ) → RowsFit w.cluster m (at_index nothing (w.net.histories (party (agent_id m) b) master_id) n).rows
+  pub reports : (m b n : ℕ) → ReportHolds w.cluster w.hard.jobs m (at_index nothing (w.net.histories (party (agent_id m) b) master_id) n).rows
 
 entry_wider : (c : ClusterRecord) (jobs jobs' : List KnownJob) (q : Id) (l : Ledger) → KnowsMore jobs jobs' → EntryHolds c jobs q l → EntryHolds c jobs' q l
-entry_wider c jobs jobs' q l more h = record { rows = h.rows; grants = λ e. grant_wider c jobs jobs' q.number l more (h.grants e) }
+entry_wider c jobs jobs' q l more h = record {
+  rows = h.rows;
+  named = λ e. named_wider jobs jobs' l.rows more (h.named e);
+  grants = λ e. grant_wider c jobs jobs' q.number l more (h.grants e);
+  tally = λ e. grants_in_range c (unit_count jobs q.number) (unit_count jobs' q.number) l.entries (more_units jobs jobs' more q.number) (h.tally e);
+}
+
+report_wider : (c : ClusterRecord) (jobs jobs' : List KnownJob) (m : ℕ) (rows : List (RowKey × ℕ)) → KnowsMore jobs jobs' → ReportHolds c jobs m rows → ReportHolds c jobs' m rows
+report_wider c jobs jobs' m rows more h = record { fits = h.fits; named = named_wider jobs jobs' rows more h.named }
 
 -- an entry of a table after one was put is an old one at another key, or the new one
 pub put_found : {A : Type 0} (k a : ℕ) (x y : A) (es : List (ℕ × A)) → find nat_cmp k (put nat_cmp a x es) ≡ Some y → ((nat_eq a k ≡ false) × (find nat_cmp k es ≡ Some y)) ⊎ ((k ≡ a) × (x ≡ y))
@@ -96,6 +116,7 @@ master_stays c hard hard' p net net' e M up more s g l apart h =
       knows = knows_then M.jobs hard.jobs hard'.jobs h.knows more;
       tabled = h.tabled;
       housed = h.housed;
+      bounded = h.bounded;
       waits = h.waits;
       credited = credited_view net net' M (λ a. view_grows net net' (master_party M) (app_id a) s (l.links (master_party M) (app_id a) own) g) (λ a. ap (λ (k : Link). k.seq) (l.links (master_party M) (app_id a) own)) h.credited;
       shows = all own (peers c M) h.shows;
@@ -144,7 +165,7 @@ pub record Stepped (w w' : World) (p : Party) : Type 0 where
   pub origins : (a : ℕ) (g : App) → find nat_cmp a w'.apps ≡ Some g → (find nat_cmp a w.apps ≡ Some g) ⊎ (Origins w'.net a g.carried × HasUnits w'.hard.jobs a g)
   pub written : (a b : ℕ) → (same_party p (party (app_id a) b) ≡ false) ⊎ DemandsHold w'.cluster (unit_count w'.hard.jobs a) (w'.net.histories (party (app_id a) b) master_id)
   pub entries : (e : ℕ) → (same_party p (party master_id e) ≡ false) ⊎ ((q : Id) (n : ℕ) → EntryHolds w'.cluster w'.hard.jobs q (at_index nothing (w'.net.histories (party master_id e) q) n))
-  pub reports : (m b : ℕ) → (same_party p (party (agent_id m) b) ≡ false) ⊎ ((n : ℕ) → RowsFit w'.cluster m (at_index nothing (w'.net.histories (party (agent_id m) b) master_id) n).rows)
+  pub reports : (m b : ℕ) → (same_party p (party (agent_id m) b) ≡ false) ⊎ ((n : ℕ) → ReportHolds w'.cluster w'.hard.jobs m (at_index nothing (w'.net.histories (party (agent_id m) b) master_id) n).rows)
 
 -- a step of one party keeps it
 pub stepped : (w w' : World) (p : Party) → Invariant w → Stepped w w' p → Invariant w'
@@ -177,8 +198,10 @@ stepped w w' p h s = record {
     unit a g (inl f) = let u = h.units a g f in let k = s.more.known a u.known in record { known = k.0; units = u.units ∙ sym (ap length k.1) }
     unit a g (inr n) = n.1
 
-    kept : (m : ℕ) (r : Party) (q : Id) → ((n : ℕ) → RowsFit w.cluster m (at_index nothing (w.net.histories r q) n).rows) → (same_party p r ≡ false) ⊎ ((n : ℕ) → RowsFit w'.cluster m (at_index nothing (w'.net.histories r q) n).rows) → (n : ℕ) → RowsFit w'.cluster m (at_index nothing (w'.net.histories r q) n).rows
-    kept m r q old (inl apart) n = subst (λ c. RowsFit c m (at_index nothing (w'.net.histories r q) n).rows) (sym s.cluster) (subst (λ (hs : List Ledger). RowsFit w.cluster m (at_index nothing hs n).rows) (sym (s.leaves.histories r q apart)) (old n))
+    kept : (m : ℕ) (r : Party) (q : Id) → ((n : ℕ) → ReportHolds w.cluster w.hard.jobs m (at_index nothing (w.net.histories r q) n).rows) → (same_party p r ≡ false) ⊎ ((n : ℕ) → ReportHolds w'.cluster w'.hard.jobs m (at_index nothing (w'.net.histories r q) n).rows)
+        → (n : ℕ) → ReportHolds w'.cluster w'.hard.jobs m (at_index nothing (w'.net.histories r q) n).rows
+    kept m r q old (inl apart) n = subst (λ c. ReportHolds c w'.hard.jobs m (at_index nothing (w'.net.histories r q) n).rows) (sym s.cluster)
+        (subst (λ (hs : List Ledger). ReportHolds w.cluster w'.hard.jobs m (at_index nothing hs n).rows) (sym (s.leaves.histories r q apart)) (report_wider w.cluster w.hard.jobs w'.hard.jobs m (at_index nothing (w.net.histories r q) n).rows s.more (old n)))
     kept m r q old (inr new) n = new n
 
     demands : (a b : ℕ) → (same_party p (party (app_id a) b) ≡ false) ⊎ DemandsHold w'.cluster (unit_count w'.hard.jobs a) (w'.net.histories (party (app_id a) b) master_id) → DemandsHold w'.cluster (unit_count w'.hard.jobs a) (w'.net.histories (party (app_id a) b) master_id)
@@ -270,9 +293,9 @@ finished c net R forced s = record {
     shows (q ∷ qs) h = (h.0 ∙ ap (λ (l : Party → Id → Link). cond (is_agent q) (row R q.number) (grants R (l (master_party R) q).known q.number)) (sym (publish_links net (master_party R) (offers c net R forced))), shows qs h.1)
 
 -- the end of a master's step keeps it
-pub finish_invariant : (w : World) (hard : HardState) (ran : List Party) (net : Net Ledger) (M : Master) (forced : List Id) → Invariant w → w.hard.fence ≤ hard.fence → KnowsMore w.hard.jobs hard.jobs → M.epoch ≤ hard.fence → KnowsMore M.jobs hard.jobs → IsInOrder M → FitsMachines w.cluster M → IsCredited net M
+pub finish_invariant : (w : World) (hard : HardState) (ran : List Party) (net : Net Ledger) (M : Master) (forced : List Id) → Invariant w → w.hard.fence ≤ hard.fence → KnowsMore w.hard.jobs hard.jobs → M.epoch ≤ hard.fence → KnowsMore M.jobs hard.jobs → IsInOrder M → FitsMachines w.cluster M → IsBounded w.cluster M → IsCredited net M
     → Sound shape net → Leaves (master_party M) w.net net → Grows shape w.net.histories net.histories → net.histories ≡ w.net.histories → Invariant (end_step (record w { hard = hard; ran = ran }) net M forced)
-finish_invariant w hard ran net M forced h up more own knows t hs cr s l gr kept =
+finish_invariant w hard ran net M forced h up more own knows t hs bs cr s l gr kept =
     let R = ready w.cluster M in
     let f = finished w.cluster net R forced s in
     let same : R.epoch ≡ M.epoch = ready_epoch w.cluster M in
@@ -301,10 +324,17 @@ finish_invariant w hard ran net M forced h up more own knows t hs cr s l gr kept
     projected q =
         let R = ready w.cluster M in
         let boot = (net.links (master_party R) q).known in
+        let fits = ready_fits_machines w.cluster M t hs in
+        let tabled = ready_in_order w.cluster M t in
+        let bounded = ready_bounded w.cluster M bs in
+        let more : KnowsMore R.jobs hard.jobs = subst (λ js. KnowsMore js hard.jobs) (sym (ready_keeps w.cluster M).jobs) knows in
         record {
-          rows = λ e. subst (λ b. RowsFit w.cluster q.number (cond b (row R q.number) (grants R boot q.number)).rows) (sym e) (row_fits w.cluster R q.number (ready_fits_machines w.cluster M t hs));
+          rows = λ e. subst (λ b. RowsFit w.cluster q.number (cond b (row R q.number) (grants R boot q.number)).rows) (sym e) (row_fits w.cluster R q.number fits);
+          named = λ e. subst (λ b. NamesJobs hard.jobs (cond b (row R q.number) (grants R boot q.number)).rows) (sym e) (row_named w.cluster R hard.jobs q.number tabled fits bounded more);
           grants = λ e. subst (λ b. GrantHolds w.cluster hard.jobs q.number (cond b (row R q.number) (grants R boot q.number))) (sym (ap (λ r. nat_eq r 2) (number_is q.role 3 e)))
-              (grants_hold w.cluster hard.jobs R boot q.number (ready_in_order w.cluster M t) (subst (λ js. KnowsMore js hard.jobs) (sym (ready_keeps w.cluster M).jobs) knows) (ready_fits_machines w.cluster M t hs));
+              (grants_hold w.cluster hard.jobs R boot q.number tabled more fits);
+          tally = λ e. subst (λ b. AreCounts key_cmp (greatest_in_grants w.cluster (unit_count hard.jobs q.number)) (cond b (row R q.number) (grants R boot q.number)).entries) (sym (ap (λ r. nat_eq r 2) (number_is q.role 3 e)))
+              (grants_in_range w.cluster (unit_count R.jobs q.number) (unit_count hard.jobs q.number) (grants R boot q.number).entries (more_units R.jobs hard.jobs more q.number) (grants_counted w.cluster R boot q.number tabled fits bounded));
         }
 
     offered : (qs : List Id) → AllByRecursion (λ (o : Offer). EntryHolds w.cluster hard.jobs o.to o.ledger) (map (λ q. record { to = q; forced = is_one_of q forced; ledger = projection net (ready w.cluster M) q }) qs)
@@ -330,6 +360,7 @@ finish_invariant w hard ran net M forced h up more own knows t hs cr s l gr kept
       knows = subst (λ js. KnowsMore js hard.jobs) (sym (ready_keeps w.cluster M).jobs) knows;
       tabled = ready_in_order w.cluster M t;
       housed = ready_fits_machines w.cluster M t hs;
+      bounded = ready_bounded w.cluster M bs;
       waits = ready_waits w.cluster M;
       credited =
           let R = ready w.cluster M in

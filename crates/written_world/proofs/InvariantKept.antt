@@ -11,7 +11,7 @@ use Rattle.fuxi_terms.specs.Cluster.{ClusterRecord, has_rack, has_machine}
 use Rattle.fuxi_terms.specs.Limits.{greatest_count, greatest_back, most_masters}
 use Rattle.written_net.specs.Net.{Net, Party, Id, Link, Packet, Heard, Starts, unknown, last, move, same_party, comes, heard_of, at_index, is_taken}
 use Rattle.written_net.specs.Ledgers.{Ledger, nothing, at_key, report_ledger}
-use Rattle.written_world.specs.Good.{greatest_in_demand, IsCredited}
+use Rattle.written_world.specs.Good.{greatest_in_demand, greatest_in_grants, IsTidy, IsRanged, NamesJobs, IsCredited}
 use Rattle.fuxi_terms.specs.TallyKeys.{is_back, want_key, near_key, rack_key, avoid_key, back_key}
 use Rattle.written_net.specs.Channels.{content, view, master_id, agent_id, app_id, party, is_master, is_agent, is_app, present, send_all, resync_all, shape, HasJoined}
 use Rattle.fuxi_terms.specs.Jobs.{job_numbers, unit_count, is_known, is_live, has_ended, eight_places}
@@ -30,7 +30,7 @@ use Rattle.written_world.specs.Runs.{run_from, run}
 use Rattle.written_net.specs.Sound.{Sound, Current, PacketNames}
 use Rattle.written_world.specs.Shown.{AllShown, AllCredited, AllGiveBacks}
 use Rattle.written_world.specs.Credits.{AllCreditedOnce}
-use Rattle.written_world.specs.Safe.{AllAgree, AllFit, CountsOnce, RowsFit}
+use Rattle.written_world.specs.Safe.{AllAgree, AllFit, CountsOnce}
 use Rattle.written_net.proofs.BoundedLemmas.{found_within}
 use Rattle.fuxi_terms.proofs.Booleans.{either, and_true, number_is, not_false}
 use Rattle.written_net.proofs.SoundLemmas.{Grows, comes_sound, move_sound}
@@ -40,8 +40,14 @@ use Rattle.written_net.proofs.PublishLemmas.{Acted, same_party_itself, grows_its
 use Rattle.written_net.proofs.NetLemmas.{id_is}
 use Rattle.written_world.proofs.GrantsFit.{GrantHolds, nothing_granted}
 use Rattle.written_world.proofs.TablesFit.{FitsMachines, new_fits_machines, same_fits_machines, added_fits_machines, ended_fits_machines, banned_fits_machines, told_fits_machines, preempted_fits_machines}
+use Rattle.fuxi_terms.specs.Keys.{key_cmp}
+use Rattle.fuxi_terms.specs.Counts.{AreCounts}
+use Rattle.fuxi_terms.proofs.Counting.{counts-where_key}
+use Rattle.fuxi_terms.proofs.KeyOrders.{key_total}
+use Rattle.written_world.proofs.TablesBounded.{IsBounded, new_bounded, same_bounded, added_bounded, ended_bounded, banned_bounded, preempted_bounded, told_bounded, counted_ranged}
+use Rattle.written_world.proofs.SettledKept.{talks_machine, talks_app}
 use Rattle.written_world.proofs.TablesInOrder.{IsInOrder, met_in_order, new_in_order, same_in_order, added_in_order, told_in_order, ended_in_order, banned_in_order, preempted_in_order}
-use Rattle.written_world.proofs.Invariant.{EntryHolds, Invariant, Origins, origins_grow, IsShowing, stepped, finish_invariant, projection_head}
+use Rattle.written_world.proofs.Invariant.{EntryHolds, ReportHolds, Invariant, Origins, origins_grow, IsShowing, stepped, finish_invariant, projection_head}
 use Rattle.written_world.proofs.DemandsLemmas.{DemandsHold, KnowsMore, knows_itself, changed_follows, published_demands}
 use Rattle.written_world.proofs.CreditsLemmas.{credited_view, credited_like, heard_credited}
 use Rattle.written_world.proofs.KnownJobsLemmas.{job_added, both_added, added_credited, ended_knows, both_ended, ended_credited}
@@ -84,16 +90,16 @@ runs : (w : World) (e : ℕ) (M : Master) → Invariant w → find nat_cmp e w.m
 runs w e M h found = let k = h.masters e M found in omega (arith, k.epoch, k.ran)
 
 master_acts : (w : World) (hard : HardState) (e : ℕ) (M N : Master) (forced : List Id) → Invariant w → find nat_cmp e w.masters ≡ Some M → w.hard.fence ≤ hard.fence → KnowsMore w.hard.jobs hard.jobs
-    → N.epoch ≡ M.epoch → KnowsMore N.jobs hard.jobs → (IsInOrder M → IsInOrder N) → (IsInOrder M → FitsMachines w.cluster M → FitsMachines w.cluster N) → (IsCredited w.net M → IsCredited w.net N) → StepHolds (prints_nothing (end_step (record w { hard = hard }) w.net N forced))
-master_acts w hard e M N forced h found up more same knows t hs cr = let k = h.masters e M found in
-    record { it = finish_invariant w hard w.ran w.net N forced h up more (omega (arith, same, up, runs w e M h found)) knows (t k.tabled) (hs k.tabled k.housed) (cr k.credited) h.sound (leaves_nothing (master_party N) w.net) (grows_itself w.net) refl }
+    → N.epoch ≡ M.epoch → KnowsMore N.jobs hard.jobs → (IsInOrder M → IsInOrder N) → (IsInOrder M → FitsMachines w.cluster M → FitsMachines w.cluster N) → (IsBounded w.cluster M → IsBounded w.cluster N) → (IsCredited w.net M → IsCredited w.net N) → StepHolds (prints_nothing (end_step (record w { hard = hard }) w.net N forced))
+master_acts w hard e M N forced h found up more same knows t hs bs cr = let k = h.masters e M found in
+    record { it = finish_invariant w hard w.ran w.net N forced h up more (omega (arith, same, up, runs w e M h found)) knows (t k.tabled) (hs k.tabled k.housed) (bs k.bounded) (cr k.credited) h.sound (leaves_nothing (master_party N) w.net) (grows_itself w.net) refl }
 
 -- the same where no job changes
 master_changes : (w : World) (hard : HardState) (e : ℕ) (M N : Master) (forced : List Id) → Invariant w → find nat_cmp e w.masters ≡ Some M → w.hard.fence ≤ hard.fence → hard.jobs ≡ w.hard.jobs
-    → N.epoch ≡ M.epoch → N.jobs ≡ M.jobs → N.credited ≡ M.credited → (IsInOrder M → IsInOrder N) → (IsInOrder M → FitsMachines w.cluster M → FitsMachines w.cluster N) → StepHolds (prints_nothing (end_step (record w { hard = hard }) w.net N forced))
-master_changes w hard e M N forced h found up jobs same mine credited t hs =
+    → N.epoch ≡ M.epoch → N.jobs ≡ M.jobs → N.credited ≡ M.credited → (IsInOrder M → IsInOrder N) → (IsInOrder M → FitsMachines w.cluster M → FitsMachines w.cluster N) → (IsBounded w.cluster M → IsBounded w.cluster N) → StepHolds (prints_nothing (end_step (record w { hard = hard }) w.net N forced))
+master_changes w hard e M N forced h found up jobs same mine credited t hs bs =
     master_acts w hard e M N forced h found up (subst (KnowsMore w.hard.jobs) (sym jobs) (knows_itself w.hard.jobs)) same
-    (subst (KnowsMore N.jobs) (sym jobs) (subst (λ js. KnowsMore js w.hard.jobs) (sym mine) (h.masters e M found).knows)) t hs (credited_like w.net M N same mine credited)
+    (subst (KnowsMore N.jobs) (sym jobs) (subst (λ js. KnowsMore js w.hard.jobs) (sym mine) (h.masters e M found).knows)) t hs bs (credited_like w.net M N same mine credited)
 
 -- Refusals, and parties that do not run
 checked : (w : World) (o : Option Refusal) (s : Step) → Invariant w → (o ≡ None → StepHolds s) → StepHolds (elim o as (λ _. Step) [ None ↦ s | Some r ↦ refused w r ])
@@ -167,6 +173,7 @@ master_acted w e M net' h found a =
           knows = k.knows;
           tabled = k.tabled;
           housed = k.housed;
+          bounded = k.bounded;
           waits = k.waits;
           credited = credited_view w.net net' M (λ b i. at_index nothing (a.histories i (party (app_id b) (a.known (app_id b) i)) master_id) (a.seq (app_id b) i)) (λ b. a.seq (app_id b)) k.credited;
           shows = shows (peers w.cluster M) k.shows;
@@ -176,8 +183,8 @@ master_acted w e M net' h found a =
 current_of : (net : Net Ledger) (p : Party) → HasJoined net p → AllByRecursion (λ q. Current shape net p q) (master_id ∷ [])
 current_of net p h = (record { head = λ hd some. h.head }, tt)
 
-same_reports : (w : World) (m : ℕ) (g : Agent) (hs : Party → Id → List Ledger) → Invariant w → hs ≡ w.net.histories → (n : ℕ) → RowsFit w.cluster m (at_index nothing (hs (party (agent_id m) g.boot) master_id) n).rows
-same_reports w m g hs h same n = subst (λ (hs : Party → Id → List Ledger). RowsFit w.cluster m (at_index nothing (hs (party (agent_id m) g.boot) master_id) n).rows) (sym same) (h.reports m g.boot n)
+same_reports : (w : World) (m : ℕ) (g : Agent) (hs : Party → Id → List Ledger) → Invariant w → hs ≡ w.net.histories → (n : ℕ) → ReportHolds w.cluster w.hard.jobs m (at_index nothing (hs (party (agent_id m) g.boot) master_id) n).rows
+same_reports w m g hs h same n = subst (λ (hs : Party → Id → List Ledger). ReportHolds w.cluster w.hard.jobs m (at_index nothing (hs (party (agent_id m) g.boot) master_id) n).rows) (sym same) (h.reports m g.boot n)
 
 agent_turns : (w : World) (m : ℕ) (g : Agent) → Invariant w → find nat_cmp m w.agents ≡ Some g → StepHolds (turn_to_master w (party (agent_id m) g.boot))
 agent_turns w m g h found =
@@ -220,7 +227,8 @@ master_hears_holds w e which M x h to found sent =
     either Holds (talks w.cluster M x.from.id) (end_step w n N (adopted_now M hd x.from.id l)) w
     (λ t. record {
       it = finish_invariant w w.hard w.ran n N (adopted_now M hd x.from.id l) h (omega arith) (knows_itself w.hard.jobs) (omega (arith, same, runs w e M h found)) (subst (λ js. KnowsMore js w.hard.jobs) (sym ((told_same M hd x.from.id l).jobs)) k.knows) (told_in_order M hd x.from.id l k.tabled)
-          (told_fits_machines w.cluster M hd x.from.id l (λ agent _. reported agent) (k.tabled, met_in_order M hd.fresh x.from.id.number k.tabled) k.housed)
+          (told_fits_machines w.cluster M hd x.from.id l (λ agent _. (reported agent).fits) (k.tabled, met_in_order M hd.fresh x.from.id.number k.tabled) k.housed)
+          (told_bounded w.cluster M hd x.from.id l (λ agent. (talks_machine w.cluster M x.from.id t agent, (reported agent).named.counts)) (λ other. asked other (talks_app w.cluster M x.from.id t other)) k.bounded)
           (heard_credited w.cluster w.hard.jobs w.net M x h.sound (found_within (λ y. PacketNames shape w.net.histories y.kind y) w.net.packets which x h.sound.packets sent) k.credited t k.knows h.written)
           (comes_sound shape w.net (master_party M) (talks w.cluster M) (Some x) (λ y t. found_within (λ y. PacketNames shape w.net.histories y.kind y) w.net.packets which y h.sound.packets (sent ∙ t)) h.sound)
           (subst (λ b. Leaves (party master_id b) w.net n) (sym same) (comes_leaves w.net (master_party M) (talks w.cluster M) x)) (grows_itself w.net) refl;
@@ -228,25 +236,37 @@ master_hears_holds w e which M x h to found sent =
     (λ _. record { it = h })
   where
     -- what an agent reported fits its machine
-    reported : is_agent x.from.id ≡ true → RowsFit w.cluster x.from.id.number (received w.cluster M w.net x).rows
+    reported : is_agent x.from.id ≡ true → ReportHolds w.cluster w.hard.jobs x.from.id.number (received w.cluster M w.net x).rows
     reported e =
         let from : x.from ≡ party (agent_id x.from.id.number) x.from.inc = (let r = number_is x.from.id.role 2 e in λ i. record { id = record { role = r i; number = x.from.id.number }; inc = x.from.inc }) in
         let here : x.to.id ≡ master_id = id_is x.to.id master_id to in
-        subst (λ b. RowsFit w.cluster x.from.id.number (cond b (content w.net x) (counted w.cluster M.jobs x.from.id.number (content w.net x))).rows) (sym e)
-        (subst (λ (r : Party). RowsFit w.cluster x.from.id.number (at_index nothing (w.net.histories r x.to.id) x.seq).rows) (sym from)
-        (subst (λ d. RowsFit w.cluster x.from.id.number (at_index nothing (w.net.histories (party (agent_id x.from.id.number) x.from.inc) d) x.seq).rows) (sym here) (h.reports x.from.id.number x.from.inc x.seq)))
+        subst (λ b. ReportHolds w.cluster w.hard.jobs x.from.id.number (cond b (content w.net x) (counted w.cluster M.jobs x.from.id.number (content w.net x))).rows) (sym e)
+        (subst (λ (r : Party). ReportHolds w.cluster w.hard.jobs x.from.id.number (at_index nothing (w.net.histories r x.to.id) x.seq).rows) (sym from)
+        (subst (λ d. ReportHolds w.cluster w.hard.jobs x.from.id.number (at_index nothing (w.net.histories (party (agent_id x.from.id.number) x.from.inc) d) x.seq).rows) (sym here) (h.reports x.from.id.number x.from.inc x.seq)))
+
+    -- what an application asks for is in range
+    asked : is_agent x.from.id ≡ false → is_app x.from.id ≡ true → IsTidy (received w.cluster M w.net x) × IsRanged w.cluster (unit_count M.jobs x.from.id.number) (received w.cluster M w.net x)
+    asked other e =
+        let n = x.from.id.number in
+        let units = unit_count M.jobs n in
+        let from : x.from ≡ party (app_id n) x.from.inc = (let r = number_is x.from.id.role 3 e in λ i. record { id = record { role = r i; number = x.from.id.number }; inc = x.from.inc }) in
+        let here : x.to.id ≡ master_id = id_is x.to.id master_id to in
+        let C = content w.net x in
+        let tidy : IsTidy C = subst (λ (r : Party). IsTidy (at_index nothing (w.net.histories r x.to.id) x.seq)) (sym from) (subst (λ d. IsTidy (at_index nothing (w.net.histories (party (app_id n) x.from.inc) d) x.seq)) (sym here) ((h.written n x.from.inc).tidy x.seq)) in
+        subst (λ b. IsTidy (cond b C (counted w.cluster M.jobs n C)) × IsRanged w.cluster units (cond b C (counted w.cluster M.jobs n C))) (sym other)
+        (counts-where_key key_total greatest_in_demand (is_there w.cluster units) C.entries tidy, counted_ranged w.cluster M.jobs n C)
 
 -- an agent's table is a row that a master sent, or one that it reported
-table_fits : (w : World) (m : ℕ) (g : Agent) → Invariant w → RowsFit w.cluster m (agent_table w.net (party (agent_id m) g.boot))
+table_fits : (w : World) (m : ℕ) (g : Agent) → Invariant w → ReportHolds w.cluster w.hard.jobs m (agent_table w.net (party (agent_id m) g.boot))
 table_fits w m g h = let p = party (agent_id m) g.boot in
-    either (RowsFit w.cluster m) (nat_eq (w.net.links p master_id).seq 0) (present w.net p master_id).rows (view w.net p master_id).rows
-    (λ _. h.reports m g.boot (last w.net p master_id)) (λ _. (h.entries (w.net.links p master_id).known (agent_id m) (w.net.links p master_id).seq).rows refl)
+    either (ReportHolds w.cluster w.hard.jobs m) (nat_eq (w.net.links p master_id).seq 0) (present w.net p master_id).rows (view w.net p master_id).rows
+    (λ _. h.reports m g.boot (last w.net p master_id)) (λ _. let e = h.entries (w.net.links p master_id).known (agent_id m) (w.net.links p master_id).seq in record { fits = e.rows refl; named = e.named refl })
 
 agent_hears_holds : (w : World) (m which : ℕ) (g : Agent) (x : Packet) → Invariant w → find nat_cmp m w.agents ≡ Some g → slice_get w.net.packets which ≡ Some x → Holds (agent_hears w m g x)
 agent_hears_holds w m which g x h found sent =
     let p = party (agent_id m) g.boot in
     let report = report_ledger x.from.inc (agent_table w.net p) in
-    record { it = agent_invariant w m g _ h found (joins w.net p which x report sent refl h.sound (h.agents m g found).joined) (joined_reports w.cluster w.net p m x report (table_fits w m g h) (h.reports m g.boot)) }
+    record { it = agent_invariant w m g _ h found (joins w.net p which x report sent refl h.sound (h.agents m g found).joined) (joined_reports w.cluster w.hard.jobs w.net p m x report (table_fits w m g h) (h.reports m g.boot)) }
 
 app_hears_holds : (w : World) (a which : ℕ) (g : App) (x : Packet) → Invariant w → find nat_cmp a w.apps ≡ Some g → slice_get w.net.packets which ≡ Some x → Holds (app_hears w a g x)
 app_hears_holds w a which g x h found sent =
@@ -284,7 +304,7 @@ deliver_all_holds (suc n) k w h = record { it = (deliver_all_holds n (k + 1) (de
 new_holds : (w : World) (e : ℕ) → Invariant w → w.hard.fence < e
     → StepHolds (prints_nothing (end_step (record w { hard = raised w.hard e; ran = w.ran ++ party master_id e ∷ [] }) (move w.net (Starts (party master_id e))) (new_master (raised w.hard e) e) (map app_id (job_numbers w.hard.jobs))))
 new_holds w e h lt = record {
-  it = finish_invariant w (raised w.hard e) (w.ran ++ party master_id e ∷ []) (move w.net (Starts (party master_id e))) (new_master (raised w.hard e) e) (map app_id (job_numbers w.hard.jobs)) h (omega (arith, lt)) (knows_itself w.hard.jobs) (omega arith) (knows_itself w.hard.jobs) (new_in_order (new_master (raised w.hard e) e) refl refl refl) (new_fits_machines w.cluster (new_master (raised w.hard e) e) refl) credited
+  it = finish_invariant w (raised w.hard e) (w.ran ++ party master_id e ∷ []) (move w.net (Starts (party master_id e))) (new_master (raised w.hard e) e) (map app_id (job_numbers w.hard.jobs)) h (omega (arith, lt)) (knows_itself w.hard.jobs) (omega arith) (knows_itself w.hard.jobs) (new_in_order (new_master (raised w.hard e) e) refl refl refl) (new_fits_machines w.cluster (new_master (raised w.hard e) e) refl) (new_bounded w.cluster (new_master (raised w.hard e) e) refl refl refl refl) credited
       (move_sound shape w.net (Starts (party master_id e)) refl (λ q. h.unstarted (party master_id e) q lt) h.sound) (start_leaves w.net (party master_id e)) (grows_itself w.net) refl;
 }
   where
@@ -384,12 +404,12 @@ act_holds w (StartApp a b) h = checked w _ _ h (λ n.
 act_holds w (Submit e j) h = master_runs w e _ h (λ M f. submits_has StepHolds w (λ r. record { it = h }) M _ j (λ tests.
     let k = h.masters e M f in
     let new : is_known w.hard.jobs j.number ≡ false = (not_refused (is_known w.hard.jobs j.number) Known (is_full w.hard ∷ []) (not_refused (nat_lt M.epoch w.hard.fence) (Fenced w.hard.fence) ((is_known w.hard.jobs j.number, Known) ∷ is_full w.hard ∷ []) tests).1).0 in
-    master_acts w (submitted w.hard (eight_places j)) e M (record M { jobs = with_job (eight_places j) M.jobs }) (app_id j.number ∷ []) h f (omega arith) (job_added w.hard.jobs (eight_places j)) refl (both_added M.jobs w.hard.jobs (eight_places j) new k.knows) (added_in_order M (eight_places j)) (added_fits_machines w.cluster M (eight_places j)) (added_credited w.net M (eight_places j))))
-act_holds w (Finish e a) h = master_runs w e _ h (λ M f. finishes_has StepHolds w (λ r. record { it = h }) M _ a (master_acts w (finished w.hard a) e M (ended_in M a) [] h f (omega arith) (ended_knows a w.hard.jobs w.hard.jobs (knows_itself w.hard.jobs)) refl (both_ended a M.jobs w.hard.jobs (h.masters e M f).knows) (ended_in_order M a) (λ _. ended_fits_machines w.cluster M a) (ended_credited w.net M a)))
-act_holds w (Ban e m) h = master_runs w e _ h (λ M f. bans_has StepHolds w (λ r. record { it = h }) M _ m (master_changes w (banned w.hard m) e M (banned_in M m) [] h f (omega arith) refl refl refl refl (banned_in_order M m) (λ _. banned_fits_machines w.cluster M m)))
-act_holds w (Unban e m) h = master_runs w e _ h (λ M f. unbans_has StepHolds w (λ r. record { it = h }) M _ m (master_changes w (unbanned w.hard m) e M (record M { bans = without_number m M.bans }) [] h f (omega arith) refl refl refl refl (same_in_order M (record M { bans = without_number m M.bans }) refl refl refl refl) (λ _. same_fits_machines w.cluster M (record M { bans = without_number m M.bans }) refl refl refl)))
-act_holds w (Begin e) h = master_runs w e _ h (λ M f. begins_has StepHolds w (λ r. record { it = h }) M _ (master_changes w w.hard e M (record M { serving = true }) [] h f (omega arith) refl refl refl refl (same_in_order M (record M { serving = true }) refl refl refl refl) (λ _. same_fits_machines w.cluster M (record M { serving = true }) refl refl refl)))
-act_holds w (Preempt e) h = master_runs w e _ h (λ M f. makes_room_has StepHolds w (λ r. record { it = h }) M _ (λ p planned. master_changes w w.hard e M (preempted M p) [] h f (omega arith) refl refl refl refl (preempted_in_order w.cluster M p planned (h.masters e M f).waits) (preempted_fits_machines w.cluster M p planned)))
+    master_acts w (submitted w.hard (eight_places j)) e M (record M { jobs = with_job (eight_places j) M.jobs }) (app_id j.number ∷ []) h f (omega arith) (job_added w.hard.jobs (eight_places j)) refl (both_added M.jobs w.hard.jobs (eight_places j) new k.knows) (added_in_order M (eight_places j)) (added_fits_machines w.cluster M (eight_places j)) (added_bounded w.cluster M (eight_places j)) (added_credited w.net M (eight_places j))))
+act_holds w (Finish e a) h = master_runs w e _ h (λ M f. finishes_has StepHolds w (λ r. record { it = h }) M _ a (master_acts w (finished w.hard a) e M (ended_in M a) [] h f (omega arith) (ended_knows a w.hard.jobs w.hard.jobs (knows_itself w.hard.jobs)) refl (both_ended a M.jobs w.hard.jobs (h.masters e M f).knows) (ended_in_order M a) (λ _. ended_fits_machines w.cluster M a) (ended_bounded w.cluster M a) (ended_credited w.net M a)))
+act_holds w (Ban e m) h = master_runs w e _ h (λ M f. bans_has StepHolds w (λ r. record { it = h }) M _ m (master_changes w (banned w.hard m) e M (banned_in M m) [] h f (omega arith) refl refl refl refl (banned_in_order M m) (λ _. banned_fits_machines w.cluster M m) (banned_bounded w.cluster M m)))
+act_holds w (Unban e m) h = master_runs w e _ h (λ M f. unbans_has StepHolds w (λ r. record { it = h }) M _ m (master_changes w (unbanned w.hard m) e M (record M { bans = without_number m M.bans }) [] h f (omega arith) refl refl refl refl (same_in_order M (record M { bans = without_number m M.bans }) refl refl refl refl) (λ _. same_fits_machines w.cluster M (record M { bans = without_number m M.bans }) refl refl refl) (same_bounded w.cluster M (record M { bans = without_number m M.bans }) refl refl refl refl refl)))
+act_holds w (Begin e) h = master_runs w e _ h (λ M f. begins_has StepHolds w (λ r. record { it = h }) M _ (master_changes w w.hard e M (record M { serving = true }) [] h f (omega arith) refl refl refl refl (same_in_order M (record M { serving = true }) refl refl refl refl) (λ _. same_fits_machines w.cluster M (record M { serving = true }) refl refl refl) (same_bounded w.cluster M (record M { serving = true }) refl refl refl refl refl)))
+act_holds w (Preempt e) h = master_runs w e _ h (λ M f. makes_room_has StepHolds w (λ r. record { it = h }) M _ (λ p planned. master_changes w w.hard e M (preempted M p) [] h f (omega arith) refl refl refl refl (preempted_in_order w.cluster M p planned (h.masters e M f).waits) (preempted_fits_machines w.cluster M p planned) (preempted_bounded w.cluster M p planned (h.masters e M f).waits)))
 act_holds w (Want a u n) h = want_holds w a u n h
 act_holds w (Near a u m n) h = near_holds w a u m n h
 act_holds w (Rack a u r n) h = rack_holds w a u r n h
@@ -424,8 +444,13 @@ at_start c = record {
   origins = λ a g found. cc;
   units = λ a g found. cc;
   written = λ a b. let t = written_at_start c in record { backs = t.backs a b; anew = λ n within. absurd (omega (arith, within)); tidy = t.tidy a b; ranged = t.ranged a b };
-  entries = λ e q n. record { rows = λ _. (fit_at_start c).rows e q.number n; grants = λ _. subst (GrantHolds c [] q.number) (sym (empty_at n)) (nothing_granted c [] q.number) };
-  reports = (fit_at_start c).reports;
+  entries = λ e q n. record {
+    rows = λ _. (fit_at_start c).rows e q.number n;
+    named = λ _. subst (λ (l : Ledger). NamesJobs [] l.rows) (sym (empty_at n)) (record { counts = record { sorted = tt; positive = tt; within = tt }; named = tt });
+    grants = λ _. subst (GrantHolds c [] q.number) (sym (empty_at n)) (nothing_granted c [] q.number);
+    tally = λ _. subst (λ (l : Ledger). AreCounts key_cmp (greatest_in_grants c 0) l.entries) (sym (empty_at n)) (record { sorted = tt; positive = tt; within = tt });
+  };
+  reports = λ m b n. record { fits = (fit_at_start c).reports m b n; named = subst (λ (l : Ledger). NamesJobs [] l.rows) (sym (empty_at n)) (record { counts = record { sorted = tt; positive = tt; within = tt }; named = tt }) };
 }
 
 always : (c : ClusterRecord) (es : List Event) → Invariant (run c es)
@@ -461,7 +486,7 @@ always_counts c es a g found m = counts_once (run c es) a g m (always c es) foun
 
 -- agents' tables fit
 pub always_fit : (c : ClusterRecord) (es : List Event) → AllFit (run c es)
-always_fit c es m g found = table_fits (run c es) m g (always c es)
+always_fit c es m g found = (table_fits (run c es) m g (always c es)).fits
 
 -- agreement
 pub always_agree : (c : ClusterRecord) (es : List Event) → AllAgree (run c es)

@@ -11,6 +11,9 @@ pub mod AgreementLemmas
 pub mod KnownJobsLemmas
 pub mod TotalsLemmas
 pub mod TablesFit
+pub mod CountsLemmas
+pub mod TablesBounded
+pub mod EntriesBounded
 pub mod GrantsLemmas
 pub mod GrantsFit
 pub mod CreditedOnce

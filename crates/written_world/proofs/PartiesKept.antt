@@ -21,8 +21,7 @@ use Rattle.fuxi_terms.proofs.Booleans.{both_true, either, number_is, not_false}
 use Rattle.written_net.proofs.NetLemmas.{id_is, set_at_all}
 use Rattle.written_net.proofs.SoundLemmas.{Grows, comes_sound, move_sound}
 use Rattle.written_net.proofs.PublishLemmas.{Leaves, leaves_then, start_leaves, comes_leaves, grows_itself, publish_grows, publish_links, publish_leaves, publish_sound, publish_presents, set_here, same_id_itself, same_party_itself, Acted}
-use Rattle.written_world.specs.Safe.{RowsFit}
-use Rattle.written_world.proofs.Invariant.{Invariant, IsJoined, Origins, HasUnits, stepped, put_found}
+use Rattle.written_world.proofs.Invariant.{Invariant, ReportHolds, IsJoined, Origins, HasUnits, stepped, put_found}
 
 -- Hearing: what is known afterwards
 after_known : (w : What) (own top : ℕ) (m : Link) (x : Packet) → (link_after w own top m x).known ≡ m.known
@@ -192,13 +191,13 @@ own_or_apart r k b P own k' b' = by (nat_eq k k') refl (nat_eq b b') refl
     by true e true f = inr (subst (λ i. P i b') (number_is k k' e) (subst (P k) (number_is b b' f) own))
 
 -- what an agent reports where it meets a new master
-pub joined_reports : (c : ClusterRecord) (net : Net Ledger) (p : Party) (m : ℕ) (x : Packet) (ledger : Ledger) → RowsFit c m ledger.rows → ((n : ℕ) → RowsFit c m (at_index nothing (net.histories p master_id) n).rows) → (n : ℕ) → RowsFit c m (at_index nothing ((joined net p x ledger).histories p master_id) n).rows
-joined_reports c net p m x ledger fit old n =
-    either (λ (k : Net Ledger). RowsFit c m (at_index nothing (k.histories p master_id) n).rows) (heard_of net p is_master x).fresh (publish (comes net p is_master (Some x)) p (to_master ledger)) (comes net p is_master (Some x))
-    (λ _. publish_each (λ q l. q ≡ master_id → RowsFit c m l.rows) (comes net p is_master (Some x)) p (to_master ledger) ((λ _. fit), tt) (λ q k e. subst (λ d. RowsFit c m (at_index nothing (net.histories p d) k).rows) (sym e) (old k)) master_id n refl) (λ _. old n)
+pub joined_reports : (c : ClusterRecord) (jobs : List KnownJob) (net : Net Ledger) (p : Party) (m : ℕ) (x : Packet) (ledger : Ledger) → ReportHolds c jobs m ledger.rows → ((n : ℕ) → ReportHolds c jobs m (at_index nothing (net.histories p master_id) n).rows) → (n : ℕ) → ReportHolds c jobs m (at_index nothing ((joined net p x ledger).histories p master_id) n).rows
+joined_reports c jobs net p m x ledger fit old n =
+    either (λ (k : Net Ledger). ReportHolds c jobs m (at_index nothing (k.histories p master_id) n).rows) (heard_of net p is_master x).fresh (publish (comes net p is_master (Some x)) p (to_master ledger)) (comes net p is_master (Some x))
+    (λ _. publish_each (λ q l. q ≡ master_id → ReportHolds c jobs m l.rows) (comes net p is_master (Some x)) p (to_master ledger) ((λ _. fit), tt) (λ q k e. subst (λ d. ReportHolds c jobs m (at_index nothing (net.histories p d) k).rows) (sym e) (old k)) master_id n refl) (λ _. old n)
 
 -- a running agent or application acts
-pub agent_invariant : (w : World) (m : ℕ) (g : Agent) (net' : Net Ledger) → Invariant w → find nat_cmp m w.agents ≡ Some g → Joins (party (agent_id m) g.boot) w.net net' → ((n : ℕ) → RowsFit w.cluster m (at_index nothing (net'.histories (party (agent_id m) g.boot) master_id) n).rows) → Invariant (record w { net = net' })
+pub agent_invariant : (w : World) (m : ℕ) (g : Agent) (net' : Net Ledger) → Invariant w → find nat_cmp m w.agents ≡ Some g → Joins (party (agent_id m) g.boot) w.net net' → ((n : ℕ) → ReportHolds w.cluster w.hard.jobs m (at_index nothing (net'.histories (party (agent_id m) g.boot) master_id) n).rows) → Invariant (record w { net = net' })
 agent_invariant w m g net' h found j r =
     let ran = (h.agents m g found).ran in
     stepped w (record w { net = net' }) (party (agent_id m) g.boot) h (record {
@@ -216,7 +215,7 @@ agent_invariant w m g net' h found j r =
       machines = h.machines;
       origins = λ a b f. inl f;
       written = λ a b. inl refl;
-      reports = own_or_apart 2 m g.boot (λ k b. (n : ℕ) → RowsFit w.cluster k (at_index nothing (net'.histories (party (agent_id k) b) master_id) n).rows) r;
+      reports = own_or_apart 2 m g.boot (λ k b. (n : ℕ) → ReportHolds w.cluster w.hard.jobs k (at_index nothing (net'.histories (party (agent_id k) b) master_id) n).rows) r;
       entries = λ e. inl refl;
     })
 

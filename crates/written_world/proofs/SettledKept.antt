@@ -76,7 +76,8 @@ counted_wants c jobs a u d h =
     ap (λ o. unwrap_or o 0) (find-where_key key_cmp p (want_key u) (λ x t. ap p (sym (same_key (want_key u) x t))) d.entries)
     ∙ ap (λ b. unwrap_or (cond b (find key_cmp (want_key u) d.entries) None) 0) (ap (λ b. b && (nat_eq 1 1 || cond (nat_eq 1 3) (is_there c 0 (want_key u)) (has_machine c 0))) h)
 
-with_back : (n m : ℕ) (ms : List ℕ) → has_number n (with_number m ms) ≡ true → nat_eq n m ≡ false → has_number n ms ≡ true
+-- a number that was not added was there
+pub with_back : (n m : ℕ) (ms : List ℕ) → has_number n (with_number m ms) ≡ true → nat_eq n m ≡ false → has_number n ms ≡ true
 with_back n m [] h e = let no : (nat_eq n m || false) ≡ false = ap (λ b. b || false) e in cc
 with_back n m (k ∷ ks) h e = elim (nat_lt m k) as (λ b. has_number n (cond b (m ∷ k ∷ ks) (cond (nat_eq m k) (k ∷ ks) (k ∷ with_number m ks))) ≡ true → (nat_eq n k || has_number n ks) ≡ true) [
   | true ↦ λ h. sym (ap (λ b. b || (nat_eq n k || has_number n ks)) e) ∙ h
@@ -111,7 +112,8 @@ meet_jobs : (fresh : Bool) (M : Master) (a : ℕ) → (meet_app fresh M a).jobs 
 meet_jobs true M a = refl
 meet_jobs false M a = refl
 
-talks_machine : (c : ClusterRecord) (M : Master) (q : Id) → talks c M q ≡ true → is_agent q ≡ true → has_machine c q.number ≡ true
+-- a master talks to agents of its machines
+pub talks_machine : (c : ClusterRecord) (M : Master) (q : Id) → talks c M q ≡ true → is_agent q ≡ true → has_machine c q.number ≡ true
 talks_machine c M q t e =
     let role : q.role ≡ 2 = number_is q.role 2 e in
     let no : is_app q ≡ false = grind (arith, nat_tests, role) in
@@ -120,6 +122,14 @@ talks_machine c M q t e =
       | true ↦ λ _. refl
       | false ↦ λ t. let f : ((is_agent q && false) || (is_app q && known)) ≡ false = ap (λ x. (x && false) || (is_app q && known)) e ∙ ap (λ y. y && known) no in cc
     ] t
+
+-- and else to applications
+pub talks_app : (c : ClusterRecord) (M : Master) (q : Id) → talks c M q ≡ true → is_agent q ≡ false → is_app q ≡ true
+talks_app c M q t other = by (is_app q) (sym (ap (λ b. (b && has_machine c q.number) || (is_app q && is_known M.jobs q.number)) other) ∙ t)
+  where
+    by : (b : Bool) → ((false && has_machine c q.number) || (b && is_known M.jobs q.number)) ≡ true → b ≡ true
+    by true e = refl
+    by false e = cc
 
 told_ranged : (c : ClusterRecord) (net : Net Ledger) (M : Master) (h : Heard) (x : Packet) → talks c M x.from.id ≡ true → IsRangedMaster c M → IsRangedMaster c (told M h x.from.id (received c M net x))
 told_ranged c net M h x t r =

@@ -75,7 +75,8 @@ out_live M a u h e = by (is_live M.jobs a) refl
         let some : 0 < out M a u = grind (arith, nat_tests, e) in
         absurd (omega (arith, none, some))
 
-placeable_out : (c : ClusterRecord) (M : Master) (a u m : ℕ) → placeable c M a u m ≡ true → nat_lt 0 (out M a u) ≡ true
+-- what is placeable is out
+pub placeable_out : (c : ClusterRecord) (M : Master) (a u m : ℕ) → placeable c M a u m ≡ true → nat_lt 0 (out M a u) ≡ true
 placeable_out c M a u m e =
     (both_true (nat_lt 0 (out M a u)) (is_allowed c M a u) (both_true M.serving (nat_lt 0 (out M a u) && is_allowed c M a u) (both_true (may_grow c M a u) (is_usable M a u m && has_room c M a u m) e).0).1).0
 

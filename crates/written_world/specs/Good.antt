@@ -1,16 +1,16 @@
 -- The invariant that every step keeps.
-use Rattle.std.specs.Prelude.{cond, ◌≡◌, ℕ, ◌+◌, ◌<◌, ◌≤◌, Bool, true, false, nat_eq, nat_lt, ◌||◌, List, [], length, map, take, Some, slice_get}
+use Rattle.std.specs.Prelude.{cond, ◌≡◌, ℕ, ◌+◌, ◌<◌, ◌≤◌, Bool, true, false, nat_eq, nat_lt, ◌&&◌, ◌||◌, List, [], length, map, take, Some, slice_get}
 use Rattle.std.specs.List.{AllByRecursion, list_any}
 use Rattle.std.specs.Ordering.{nat_cmp}
 use Rattle.std.specs.FinMap.Entries.{find}
 use Rattle.fuxi_terms.specs.declared.Key.{Key}
-use Rattle.fuxi_terms.specs.Cluster.{ClusterRecord, has_at}
+use Rattle.fuxi_terms.specs.Cluster.{ClusterRecord, has_at, has_machine}
 use Rattle.fuxi_terms.specs.Limits.{greatest_count, greatest_back}
-use Rattle.fuxi_terms.specs.Keys.{key_cmp, RowKey, spot_cmp}
+use Rattle.fuxi_terms.specs.Keys.{key_cmp, RowKey, row_cmp, Spot, spot_cmp}
 use Rattle.fuxi_terms.specs.Counts.{count, AreCounts}
 use Rattle.written_net.specs.Net.{Net, Party, Id, same_party, last, at_index}
 use Rattle.written_net.specs.Ledgers.{Ledger, nothing, at_key}
-use Rattle.fuxi_terms.specs.TallyKeys.{count_key, credited_key, back_key, is_back}
+use Rattle.fuxi_terms.specs.TallyKeys.{count_key, credited_what, credited_key, back_key, is_back, where_holds}
 use Rattle.written_net.specs.Channels.{master_id, agent_id, app_id, party, view, present, HasJoined, shape}
 use Rattle.fuxi_terms.specs.Jobs.{KnownJob, is_known, is_live, unit_count, unit_of}
 use Rattle.fuxi_terms.specs.Numbers.{has_number}
@@ -41,9 +41,27 @@ pub record AllRan (ran : List Party) (net : Net Ledger) : Type 0 where
   pub senders : AllByRecursion (λ x. has_run ran x.from ≡ true) net.packets
   pub receivers : AllByRecursion (λ x. has_run ran x.to ≡ true) net.packets
 
--- the greatest number in a demand
+-- the greatest number in a demand, by the kind of its key; 0 where it is none
 abbrev pub greatest_in_demand : Key → ℕ
-greatest_in_demand k = cond (is_back k) greatest_back (cond (nat_eq k.what 4) 1 greatest_count)
+greatest_in_demand k =
+    cond (nat_eq k.what 1) (where_holds (nat_eq k.number 0) greatest_count)
+    (cond (nat_eq k.what 2) greatest_count
+    (cond (nat_eq k.what 3) greatest_count
+    (cond (nat_eq k.what 4) 1
+    (where_holds (is_back k) greatest_back))))
+
+-- the greatest number among what is credited to a job of so many units, and in its grants
+abbrev pub greatest_in_credits : ClusterRecord → ℕ → Key → ℕ
+greatest_in_credits c units k = where_holds (nat_lt k.unit units && has_machine c k.number) (where_holds (nat_eq k.what credited_what) greatest_back)
+
+abbrev pub greatest_in_grants : ClusterRecord → ℕ → Key → ℕ
+greatest_in_grants c units k =
+    cond (nat_eq k.what 1) (where_holds (nat_eq k.unit 0 && has_machine c k.number) 1)
+    (where_holds (nat_lt k.unit units && has_machine c k.number) (cond (nat_eq k.what 2) greatest_count (where_holds (nat_eq k.what credited_what) greatest_back)))
+
+-- the greatest number in a table of grants: a spot names a unit of its job
+abbrev pub greatest_in_table : List KnownJob → Spot → ℕ
+greatest_in_table jobs s = where_holds (nat_lt s.unit (unit_count jobs s.job)) greatest_count
 
 -- Written. Among demands with one head no number given back falls; said of each entry and the next
 abbrev pub BacksRise : Ledger → Ledger → Type 0
@@ -64,6 +82,11 @@ NamesUnits units l = (u m : ℕ) → nat_lt u units ≡ false → at_key l (coun
 -- a row names units of known jobs with their sizes
 abbrev pub IsOfJob : List KnownJob → RowKey → Type 0
 IsOfJob jobs k = (is_known jobs k.job ≡ true) × (k.unit < unit_count jobs k.job) × (k.size ≡ (unit_of jobs k.job k.unit).size)
+
+-- a row is in order, with counts in range, and names units of known jobs with their sizes
+pub record NamesJobs (jobs : List KnownJob) (rows : List (RowKey × ℕ)) : Type 0 where
+  pub counts : AreCounts row_cmp (λ k. greatest_count) rows
+  pub named : AllByRecursion (λ r. IsOfJob jobs r.0) rows
 
 pub record Written (w : World) : Type 0 where
   pub backs : (a b n : ℕ) → n + 1 ≤ last w.net (party (app_id a) b) master_id
