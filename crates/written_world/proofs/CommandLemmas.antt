@@ -52,10 +52,10 @@ module _ (P : Step → Type 0) (w : World) (stays : (r : Refusal) → P (refused
 
 -- each command of a master
 module _ (P : Step → Type 0) (w : World) (stays : (r : Refusal) → P (refused w r)) (M : Master) (f : Commanded → Step) where
-  pub submits_has : (j : JobRecord) → (first_refusal (submit_tests w.hard M.epoch (eight_places j)) ≡ None → P (f (record { hard = submitted w.hard (eight_places j); change = record { state = record M { jobs = with_job (eight_places j) M.jobs }; forced = app_id j.number ∷ [] } })))
+  pub submits_has : (j : JobRecord) → (first_refusal ((not (has_group w.cluster j.group), NoGroup) ∷ job_tests w.cluster.resources j) ≡ None → first_refusal (submit_tests w.hard M.epoch (eight_places j)) ≡ None → P (f (record { hard = submitted w.hard (eight_places j); change = record { state = record M { jobs = with_job (eight_places j) M.jobs }; forced = app_id j.number ∷ [] } })))
       → P (on_result w (command_of w.cluster w.hard M (Submits j)) f)
   submits_has j made = wrote_has P w stays ((not (has_group w.cluster j.group), NoGroup) ∷ job_tests w.cluster.resources j) w.hard M.epoch (Submission (eight_places j))
-      (λ k. record { hard = k; change = record { state = record M { jobs = with_job (eight_places j) M.jobs }; forced = app_id j.number ∷ [] } }) f (λ _ t. made t)
+      (λ k. record { hard = k; change = record { state = record M { jobs = with_job (eight_places j) M.jobs }; forced = app_id j.number ∷ [] } }) f made
 
   -- a job that ends
   pub finishes_has : (a : ℕ) → P (f (record { hard = finished w.hard a; change = record { state = ended_in M a; forced = [] } })) → P (on_result w (command_of w.cluster w.hard M (Finishes a)) f)

@@ -401,7 +401,7 @@ act_holds w (StartApp a b) h = checked w _ _ h (λ n.
     let y = not_refused (has_ended w.hard.jobs a) Ended (last ∷ []) x.1 in
     let z = not_refused last.0 last.1 [] y.1 in
     record { it = app_starts w (w.ran ++ party (app_id a) b ∷ []) a b _ refl h (rising z.0) (record { has = λ m r none. cc }) (record { known = not_false (is_known w.hard.jobs a) x.0; units = refl }) })
-act_holds w (Submit e j) h = master_runs w e _ h (λ M f. submits_has StepHolds w (λ r. record { it = h }) M _ j (λ tests.
+act_holds w (Submit e j) h = master_runs w e _ h (λ M f. submits_has StepHolds w (λ r. record { it = h }) M _ j (λ _ tests.
     let k = h.masters e M f in
     let new : is_known w.hard.jobs j.number ≡ false = (not_refused (is_known w.hard.jobs j.number) Known (is_full w.hard ∷ []) (not_refused (nat_lt M.epoch w.hard.fence) (Fenced w.hard.fence) ((is_known w.hard.jobs j.number, Known) ∷ is_full w.hard ∷ []) tests).1).0 in
     master_acts w (submitted w.hard (eight_places j)) e M (record M { jobs = with_job (eight_places j) M.jobs }) (app_id j.number ∷ []) h f (omega arith) (job_added w.hard.jobs (eight_places j)) refl (both_added M.jobs w.hard.jobs (eight_places j) new k.knows) (added_in_order M (eight_places j)) (added_fits_machines w.cluster M (eight_places j)) (added_bounded w.cluster M (eight_places j)) (added_credited w.net M (eight_places j))))
@@ -453,7 +453,8 @@ at_start c = record {
   reports = λ m b n. record { fits = (fit_at_start c).reports m b n; named = subst (λ (l : Ledger). NamesJobs [] l.rows) (sym (empty_at n)) (record { counts = record { sorted = tt; positive = tt; within = tt }; named = tt }) };
 }
 
-always : (c : ClusterRecord) (es : List Event) → Invariant (run c es)
+-- the invariant holds in every state
+pub always : (c : ClusterRecord) (es : List Event) → Invariant (run c es)
 always c es = (run_holds es (empty_world c) (at_start c)).it
 
 -- in every state: the net is sound

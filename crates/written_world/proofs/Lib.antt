@@ -18,6 +18,7 @@ pub mod GrantsLemmas
 pub mod GrantsFit
 pub mod CreditedOnce
 pub mod InvariantKept
+pub mod JobsKept
 pub mod ViewsLemmas
 pub mod SettledLemmas
 pub mod SettledKept

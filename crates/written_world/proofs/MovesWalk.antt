@@ -138,7 +138,7 @@ module _ (I : Net Ledger → Type 0) (keeps : (net : Net Ledger) (m : Move Ledge
   act_keeps w (StopMaster e) b = master_runs w e _ b (λ M. record { net = b })
   act_keeps w (StartAgent m n) b = checked w _ (prints_nothing (agent_started w m n)) b (record { net = keeps w.net (Starts (party (agent_id m) n)) b })
   act_keeps w (StartApp a n) b = checked w _ (prints_nothing (app_started w a n)) b (record { net = keeps w.net (Starts (party (app_id a) n)) b })
-  act_keeps w (Submit e j) b = master_runs w e _ b (λ M. submits_has StepKeeps w (λ r. record { net = b }) M _ j (λ _.
+  act_keeps w (Submit e j) b = master_runs w e _ b (λ M. submits_has StepKeeps w (λ r. record { net = b }) M _ j (λ _ _.
       end_step_keeps (record w { hard = submitted w.hard (eight_places j) }) w.net (record M { jobs = with_job (eight_places j) M.jobs }) (app_id j.number ∷ []) b))
   act_keeps w (Finish e a) b = master_runs w e _ b (λ M. finishes_has StepKeeps w (λ r. record { net = b }) M _ a (end_step_keeps (record w { hard = finished w.hard a }) w.net (ended_in M a) [] b))
   act_keeps w (Ban e m) b = master_runs w e _ b (λ M. bans_has StepKeeps w (λ r. record { net = b }) M _ m (end_step_keeps (record w { hard = banned w.hard m }) w.net (banned_in M m) [] b))

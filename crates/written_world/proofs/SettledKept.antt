@@ -233,7 +233,7 @@ act_rests w (StartMaster e) b = checked w _ _ b (hard_has StepRests w (λ r. rec
 act_rests w (StopMaster e) b = master_runs w e _ b (λ M r. record { all = stopped_rests w.cluster w.masters e b })
 act_rests w (StartAgent m n) b = checked w _ (prints_nothing (agent_started w m n)) b (record { all = b })
 act_rests w (StartApp a n) b = checked w _ (prints_nothing (app_started w a n)) b (record { all = b })
-act_rests w (Submit e j) b = master_runs w e _ b (λ M r. submits_has StepRests w (λ r. record { all = b }) M _ j (λ _. step_rests (record w { hard = submitted w.hard (eight_places j) }) w.net (record M { jobs = with_job (eight_places j) M.jobs }) (app_id j.number ∷ []) b (job_ranged w.cluster M (eight_places j) r)))
+act_rests w (Submit e j) b = master_runs w e _ b (λ M r. submits_has StepRests w (λ r. record { all = b }) M _ j (λ _ _. step_rests (record w { hard = submitted w.hard (eight_places j) }) w.net (record M { jobs = with_job (eight_places j) M.jobs }) (app_id j.number ∷ []) b (job_ranged w.cluster M (eight_places j) r)))
 act_rests w (Finish e a) b = master_runs w e _ b (λ M r. finishes_has StepRests w (λ r. record { all = b }) M _ a (step_rests (record w { hard = finished w.hard a }) w.net (ended_in M a) [] b (ended_ranged w.cluster M a r)))
 act_rests w (Ban e m) b = master_runs w e _ b (λ M r. bans_has StepRests w (λ r. record { all = b }) M _ m (step_rests (record w { hard = banned w.hard m }) w.net (banned_in M m) [] b (same_ranged w.cluster M (banned_in M m) refl refl refl r)))
 act_rests w (Unban e m) b = master_runs w e _ b (λ M r. unbans_has StepRests w (λ r. record { all = b }) M _ m (step_rests (record w { hard = unbanned w.hard m }) w.net (record M { bans = without_number m M.bans }) [] b (same_ranged w.cluster M (record M { bans = without_number m M.bans }) refl refl refl r)))

@@ -4,8 +4,9 @@ use Rattle.std.specs.List.{AllByRecursion, list_any}
 use Rattle.std.specs.Ordering.{nat_cmp}
 use Rattle.std.specs.FinMap.Entries.{find}
 use Rattle.fuxi_terms.specs.declared.Key.{Key}
-use Rattle.fuxi_terms.specs.Cluster.{ClusterRecord, has_at, has_machine}
-use Rattle.fuxi_terms.specs.Limits.{greatest_count, greatest_back}
+use Rattle.fuxi_terms.specs.Vectors.{at_place}
+use Rattle.fuxi_terms.specs.Cluster.{ClusterRecord, JobRecord, UnitRecord, is_valid_job, has_at, has_machine}
+use Rattle.fuxi_terms.specs.Limits.{most_resources, greatest_count, greatest_back}
 use Rattle.fuxi_terms.specs.Keys.{key_cmp, RowKey, row_cmp, Spot, spot_cmp}
 use Rattle.fuxi_terms.specs.Counts.{count, AreCounts}
 use Rattle.written_net.specs.Net.{Net, Party, Id, same_party, last, at_index}
@@ -87,6 +88,17 @@ IsOfJob jobs k = (is_known jobs k.job ≡ true) × (k.unit < unit_count jobs k.j
 pub record NamesJobs (jobs : List KnownJob) (rows : List (RowKey × ℕ)) : Type 0 where
   pub counts : AreCounts row_cmp (λ k. greatest_count) rows
   pub named : AllByRecursion (λ r. IsOfJob jobs r.0) rows
+
+-- A job of the hard state: it is valid with its sizes in eight places, and these are 0 in each place that the cluster does not have
+pub record IsNarrow (c : ClusterRecord) (u : UnitRecord) : Type 0 where
+  pub zeros : (i : ℕ) → c.resources ≤ i → at_place u.size i ≡ 0
+
+pub record IsJob (c : ClusterRecord) (j : JobRecord) : Type 0 where
+  pub valid : is_valid_job most_resources j ≡ true
+  pub narrow : AllByRecursion (IsNarrow c) j.units
+
+abbrev pub AreJobs : ClusterRecord → List KnownJob → Type 0
+AreJobs c jobs = AllByRecursion (λ k. IsJob c k.job) jobs
 
 pub record Written (w : World) : Type 0 where
   pub backs : (a b n : ℕ) → n + 1 ≤ last w.net (party (app_id a) b) master_id

@@ -9,3 +9,4 @@ pub mod Safe
 pub mod Good
 pub mod Shown
 pub mod Credits
+pub mod Lines
