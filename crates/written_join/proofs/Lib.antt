@@ -5,3 +5,4 @@ pub mod AgentsJoin
 pub mod AppsJoin
 pub mod MastersJoin
 pub mod LeadingLemmas
+pub mod EntriesLead

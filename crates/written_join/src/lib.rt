@@ -22,7 +22,11 @@ ghost use Rattle.written_world.specs.World.{World, Agent, App};
 ghost use Rattle.written_world.specs.Events.{asks, commanded, turned, turn_to_master, resynced};
 ghost use Rattle.written_join.specs.Seen.{has_of, agent_seen, app_seen, master_seen};
 ghost use Rattle.written_join.specs.Joins.{AgentActs, AppActs, MasterActs, AgentHearsAlike, AppHearsAlike, MasterHearsAlike, AgentStarts, AppStarts, MasterStarts, AppCommanded, MasterCommanded, Leads};
-ghost use Rattle.written_join.specs.Leading.{RowsLead, TalliesLead, ReportsFit};
+ghost use Rattle.written_join.specs.Leading.{RowsLead, TalliesLead, ReportsFit, AllLead};
+ghost use Rattle.fuxi_terms.specs.Cluster.{ClusterRecord};
+ghost use Rattle.written_world.specs.Events.{Event};
+ghost use Rattle.written_world.specs.Lines.{IsInput};
+ghost use Rattle.written_world.specs.Runs.{run};
 
 /// An agent, in a sound net: it hears each packet, also of a stranger or an earlier master, as the agent by itself
 /// hears it with what it holds (`hears`); it sends what that sends (`turns`); a resync (`resyncs`); a start (`starts`).
@@ -62,4 +66,11 @@ pub fn histories_lead()
     ensures grants { (a : ℕ) (h : List Ledger) → TalliesLead master_id h → Leads no_excess master_id (app_id a) h }
     ensures demands { (a : ℕ) (excess : Ledger → Option (Sum × Res)) (h : List Ledger) → TalliesLead (app_id a) h → ReportsFit (app_id a) excess h → Leads excess (app_id a) master_id h }
     ensures reports { (m : ℕ) (excess : Ledger → Option (Sum × Res)) (h : List Ledger) → ReportsFit (agent_id m) excess h → Leads excess (agent_id m) master_id h }
+{}
+
+/// In every state to which event lines lead on a valid cluster, each entry of each history follows on the one before
+/// by the change between them, and none is too much: of rows, grants, demands and reports, of every epoch and boot that
+/// ever ran, also of those that have stopped. So no change is ever refused and nothing ever exceeds.
+pub fn every_change_is_taken()
+    ensures { (c : ClusterRecord) (events : List Event) → IsInput c events → AllLead (run c events) }
 {}
