@@ -34,8 +34,8 @@ use Rattle.fuxi_terms.proofs.Alls.{all_front, all_back, all_map}
 use Rattle.fuxi_terms.proofs.Booleans.{both_true, number_is}
 use Rattle.fuxi_terms.proofs.KeyOrders.{key_total, spot_total, same_spot}
 use Rattle.written_world.proofs.ViewsLemmas.{caught_up}
-use Rattle.written_world.proofs.Invariant.{Invariant, IsShowing}
-use Rattle.written_world.proofs.GrantsLemmas.{reported_entries, grants_counts, grants_credits, nothing_held}
+use Rattle.written_world.proofs.GrantsLemmas.{grants_counts, grants_credits, nothing_held}
+use Rattle.written_world.specs.Good.{Invariant, IsShowing, reported_entries}
 
 -- Sums over a row are counts of the table
 module _ (jobs : List KnownJob) (a u m : ℕ) where

@@ -16,11 +16,11 @@ use Rattle.written_world.specs.World.{World, App}
 use Rattle.written_roles.specs.Apps.{Carried, names}
 use Rattle.written_world.specs.Parties.{usable, carry_one, carry, app_held}
 use Rattle.written_net.specs.Sound.{Sound}
-use Rattle.written_world.specs.Good.{HasOrigin}
+use Rattle.written_world.specs.Good.{HasOrigin, Invariant, Origins}
 use Rattle.written_world.specs.Safe.{place_for, grants_at, units_total_at, HeldOnce, CountsOnce}
 use Rattle.fuxi_terms.proofs.Booleans.{either}
 use Rattle.written_world.proofs.GrantsFit.{no_share, sum_le}
-use Rattle.written_world.proofs.Invariant.{Invariant, Origins, put_found}
+use Rattle.written_world.proofs.Invariant.{put_found}
 
 -- a ledger that names a machine is not the one at index 0
 named_first : (h : List Ledger) (n m : ℕ) → names (at_index nothing h n) m ≡ true → 1 ≤ n

@@ -19,7 +19,6 @@ use Rattle.written_world.specs.World.{World, empty_world}
 use Rattle.written_roles.specs.MasterSteps.{master_party}
 use Rattle.written_roles.specs.Refusals.{with_found}
 use Rattle.written_net.specs.Sound.{Rising}
-use Rattle.written_world.specs.Shown.{StartsAnew}
 use Rattle.written_world.specs.Credits.{AllCreditedOnce, credited_in, given_back_by, rises_from}
 use Rattle.written_world.specs.Events.{Event, world_step}
 use Rattle.written_world.specs.Runs.{run_from, run}
@@ -27,7 +26,7 @@ use Rattle.fuxi_terms.proofs.Booleans.{both_true, number_is}
 use Rattle.written_net.proofs.SoundLemmas.{Grows, Longer, posted_longer}
 use Rattle.written_net.proofs.PublishLemmas.{grows_itself, grows_then}
 use Rattle.written_world.proofs.MovesWalk.{run_from_keeps}
-use Rattle.written_world.proofs.Invariant.{Invariant}
+use Rattle.written_world.specs.Good.{Invariant, StartsAnew}
 
 module _ (h : List Ledger) (u m : ℕ) where
   -- what was given back only grows

@@ -23,14 +23,14 @@ use Rattle.written_roles.specs.Masters.{Master, credited_of}
 use Rattle.written_roles.specs.MasterSteps.{master_party, talks, is_there, counted, credit, raise_credited, take_report, take_demand, adopts, meet_app}
 use Rattle.written_world.specs.Parties.{received, told}
 use Rattle.written_net.specs.Sound.{Sound, PacketNames, NamesAt, LinkNames, Rising}
-use Rattle.written_world.specs.Good.{BacksRise, IsCredited, IsRanged}
+use Rattle.written_world.specs.Good.{BacksRise, IsCredited, IsRanged, DemandsHold, KnowsMore}
 use Rattle.fuxi_terms.proofs.Booleans.{both_true, either, number_is, nat_itself, not_false}
 use Rattle.fuxi_terms.proofs.KeyOrders.{key_total, same_key}
 use Rattle.written_net.proofs.NetLemmas.{id_is}
 use Rattle.written_net.proofs.BoundedLemmas.{met_known}
 use Rattle.written_net.proofs.SoundLemmas.{taken_names, met_names}
 use Rattle.written_net.proofs.PublishLemmas.{set_here, set_beside}
-use Rattle.written_world.proofs.DemandsLemmas.{DemandsHold, KnowsMore, backs_between}
+use Rattle.written_world.proofs.DemandsLemmas.{backs_between}
 
 -- A master whose views stay
 pub credited_view : (net net' : Net Ledger) (M : Master) → ((a : ℕ) → view net' (master_party M) (app_id a) ≡ view net (master_party M) (app_id a))

@@ -11,27 +11,19 @@ use Rattle.fuxi_terms.specs.Keys.{key_cmp}
 use Rattle.fuxi_terms.proofs.Counting.{tied, count-set_count, counts-set_count, counts-where_key}
 use Rattle.written_net.specs.Net.{Net, Party, Id, set_at, same_id, Posts, move, at_index}
 use Rattle.written_net.specs.Ledgers.{Ledger, nothing, same_ledger, at_key}
-use Rattle.written_world.specs.Good.{greatest_in_demand, BacksRise, IsRanged, IsTidy}
+use Rattle.written_world.specs.Good.{greatest_in_demand, BacksRise, IsRanged, IsTidy, DemandsHold, KnowsMore, StartsAnew}
 use Rattle.fuxi_terms.specs.TallyKeys.{back_key, is_back}
 use Rattle.written_net.specs.Channels.{Offer, publish_one, publish, master_id, present, to_master, publish, shape}
-use Rattle.fuxi_terms.specs.Jobs.{units_of, KnownJob, job_of, is_known, unit_count}
+use Rattle.fuxi_terms.specs.Jobs.{KnownJob, job_of, unit_count}
 use Rattle.written_roles.specs.Apps.{joined_demand, changed_demand}
 use Rattle.written_roles.specs.MasterSteps.{is_there}
 use Rattle.written_net.specs.Sound.{Rising}
-use Rattle.written_world.specs.Shown.{StartsAnew}
 use Rattle.fuxi_terms.proofs.Booleans.{either}
 use Rattle.fuxi_terms.proofs.KeyOrders.{key_total, same_key}
 use Rattle.written_net.proofs.SoundLemmas.{at_front, at_end}
 use Rattle.written_net.proofs.PublishLemmas.{set_here, set_beside}
 use Rattle.written_net.proofs.NetLemmas.{id_is}
 use Rattle.std.specs.List.{AllByRecursion}
-
--- a history of demands
-pub record DemandsHold (c : ClusterRecord) (units : ℕ) (h : List Ledger) : Type 0 where
-  pub backs : (n : ℕ) → n + 1 ≤ length h → BacksRise (at_index nothing h n) (at_index nothing h (n + 1))
-  pub anew : (n : ℕ) → n + 1 ≤ length h → StartsAnew (at_index nothing h n) (at_index nothing h (n + 1))
-  pub tidy : (n : ℕ) → IsTidy (at_index nothing h n)
-  pub ranged : (n : ℕ) → IsRanged c units (at_index nothing h n)
 
 -- what a demand has to show behind another
 pub record MayFollow (c : ClusterRecord) (units : ℕ) (a b : Ledger) : Type 0 where
@@ -102,10 +94,6 @@ pub published_demands : (c : ClusterRecord) (units : ℕ) (net : Net Ledger) (p 
 published_demands c units net p ledger f w =
     either (λ (n : Net Ledger). DemandsHold c units (n.histories p master_id)) (false || not (same_ledger (present net p master_id) ledger)) (move net (Posts p master_id ledger)) net
     (λ _. subst (DemandsHold c units) (sym (set_here net.histories p master_id (net.histories p master_id ++ ledger ∷ []))) (demands_append c units (net.histories p master_id) ledger f w)) (λ _. w)
-
--- the jobs that are known stay, with their units
-pub record KnowsMore (jobs jobs' : List KnownJob) : Type 0 where
-  pub known : (a : ℕ) → is_known jobs a ≡ true → (is_known jobs' a ≡ true) × (units_of jobs' a ≡ units_of jobs a)
 
 -- nothing is added
 pub knows_itself : (jobs : List KnownJob) → KnowsMore jobs jobs

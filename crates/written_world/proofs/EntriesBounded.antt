@@ -20,15 +20,11 @@ use Rattle.fuxi_terms.specs.Jobs.{KnownJob, job_of, is_known, is_live, unit_of, 
 use Rattle.fuxi_terms.specs.Numbers.{has_number}
 use Rattle.written_roles.specs.Masters.{Master, credited_of}
 use Rattle.written_roles.specs.MasterSteps.{spot_row_key, row, count_entries, grants}
-use Rattle.written_world.specs.Good.{greatest_in_credits, greatest_in_grants, greatest_in_table, NamesJobs, IsOfJob}
+use Rattle.written_world.specs.Good.{greatest_in_credits, greatest_in_grants, greatest_in_table, NamesJobs, IsOfJob, FitsMachines, IsBounded, IsInOrder, KnowsMore, reported_entries}
 use Rattle.fuxi_terms.proofs.Booleans.{number_is, nat_itself, where_le}
 use Rattle.fuxi_terms.proofs.Alls.{all_more}
 use Rattle.written_world.proofs.CountsLemmas.{and_both, below_append, counts_append, counts_mapped, counts_wider, all_kept}
-use Rattle.written_world.proofs.DemandsLemmas.{KnowsMore}
-use Rattle.written_world.proofs.GrantsLemmas.{reported_entries}
-use Rattle.written_world.proofs.TablesBounded.{IsBounded, holds_more}
-use Rattle.written_world.proofs.TablesFit.{FitsMachines}
-use Rattle.written_world.proofs.TablesInOrder.{IsInOrder}
+use Rattle.written_world.proofs.TablesBounded.{holds_more}
 
 -- one grant of a table: of a job that has not ended and a unit of it, on a machine of the cluster
 record IsGrant (c : ClusterRecord) (jobs : List KnownJob) (e : Spot × ℕ) : Type 0 where

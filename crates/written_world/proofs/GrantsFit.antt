@@ -1,5 +1,5 @@
 -- What grants say of a job's units fits each machine.
-use Rattle.std.proofs.Common.{◌≡◌, ℕ, zero, suc, ◌+◌, ◌*◌, ◌<◌, ◌≤◌, Bool, true, false, cond, not, nat_eq, nat_lt, List, [], ◌∷◌, ◌++◌, Option, Some, None, slice_get, refl, sym, ◌∙◌, ap, arith}
+use Rattle.std.proofs.Common.{◌≡◌, ℕ, zero, suc, ◌+◌, ◌*◌, ◌≤◌, Bool, true, false, cond, not, nat_eq, nat_lt, List, [], ◌∷◌, ◌++◌, Option, Some, None, slice_get, refl, sym, ◌∙◌, ap, arith}
 use Rattle.std.specs.Prelude.{is_some}
 use Rattle.std.specs.Option.{option_map, unwrap_or}
 use Rattle.std.specs.List.{sum_by}
@@ -7,7 +7,7 @@ use Rattle.std.specs.Ordering.{eq_by_cmp}
 use Rattle.std.specs.FinMap.Entries.{find}
 use Rattle.std.proofs.lemmas.Bool.Decides.{nat_tests}
 use Rattle.std.proofs.lemmas.List.Sums.{sum_by-cons, sum_by-append}
-use Rattle.fuxi_terms.specs.Cluster.{ClusterRecord, has_at}
+use Rattle.fuxi_terms.specs.Cluster.{ClusterRecord}
 use Rattle.fuxi_terms.specs.Vectors.{at_place}
 use Rattle.fuxi_terms.specs.Keys.{Spot, spot_cmp}
 use Rattle.fuxi_terms.proofs.Counting.{tied}
@@ -23,9 +23,7 @@ use Rattle.fuxi_terms.proofs.KeyOrders.{same_spot}
 use Rattle.fuxi_terms.proofs.Booleans.{number_is}
 use Rattle.written_world.proofs.TotalsLemmas.{load}
 use Rattle.written_world.proofs.GrantsLemmas.{grants_counts, nothing_held}
-use Rattle.written_world.proofs.TablesInOrder.{IsInOrder}
-use Rattle.written_world.proofs.TablesFit.{FitsMachines}
-use Rattle.written_world.proofs.DemandsLemmas.{KnowsMore}
+use Rattle.written_world.specs.Good.{FitsMachines, GrantHolds, IsInOrder, KnowsMore}
 
 -- Sums over the units of a job
 pub sum_le : (f g : ℕ → ℕ) (n : ℕ) → ((u : ℕ) → f u ≤ g u) → sum_by f (below n) ≤ sum_by g (below n)
@@ -151,19 +149,6 @@ units_share jobs a m i n (e ∷ es) =
     term : (u : ℕ) (b : Bool) → unwrap_or (cond b (Some e.1) (find spot_cmp (spot a u m) es)) 0 * size_at jobs a u i ≤ cond b e.1 0 * size_at jobs a u i + held_on es a u m * size_at jobs a u i
     term u true = omega arith
     term u false = omega arith
-
--- Histories of grants
-abbrev pub GrantsFit : ClusterRecord → List KnownJob → ℕ → Ledger → Type 0
-GrantsFit c jobs a l = (n m i : ℕ) → i < c.resources → units_total_at jobs a n (λ u. at_key l (count_key u m)) i ≤ has_at c m i
-
--- of a job that is not known there is nothing
-abbrev pub NoGrants : List KnownJob → ℕ → Ledger → Type 0
-NoGrants jobs a l = is_known jobs a ≡ false → (u m : ℕ) → at_key l (count_key u m) ≡ 0
-
--- grants of a job fit each machine, and an unknown job has none
-pub record GrantHolds (c : ClusterRecord) (jobs : List KnownJob) (a : ℕ) (l : Ledger) : Type 0 where
-  pub fits : GrantsFit c jobs a l
-  pub none : NoGrants jobs a l
 
 -- no number, no share
 pub no_share : (jobs : List KnownJob) (a n i : ℕ) (number : ℕ → ℕ) → ((u : ℕ) → number u ≡ 0) → units_total_at jobs a n number i ≡ 0

@@ -18,7 +18,8 @@ use Rattle.fuxi_terms.specs.Tables.{spot, held_on}
 use Rattle.written_roles.specs.MasterSteps.{count_entries, grants}
 use Rattle.fuxi_terms.proofs.KeyOrders.{key_total, spot_total, same_key, same_spot}
 use Rattle.fuxi_terms.proofs.Booleans.{number_is, same_tests}
-use Rattle.written_world.proofs.TablesInOrder.{IsInOrder, live_found}
+use Rattle.written_world.proofs.TablesInOrder.{live_found}
+use Rattle.written_world.specs.Good.{IsInOrder, reported_entries}
 
 -- A key is looked up in lists one behind the other
 find_behind : {K : Type 0} (R : K → K → Ordering) (k : K) (xs ys : List (K × ℕ)) → find R k xs ≡ None → find R k (xs ++ ys) ≡ find R k ys
@@ -38,10 +39,6 @@ not_tied q k differs = by (eq_by_cmp key_cmp q k) refl
 
 kind_differs : (q k : Key) → nat_eq q.what k.what ≡ false → q ≡ k → ⊥
 kind_differs q k e same = let s : q.what ≡ k.what = ap (λ (x : Key). x.what) same in let t : nat_eq q.what k.what ≡ true = grind (arith, nat_tests, s) in cc
-
--- the entries that say which machines are reported
-abbrev pub reported_entries : List ℕ → List (Key × ℕ)
-reported_entries ms = map (λ m. (reported_key m, 1)) ms
 
 no_reported : (q : Key) → nat_eq q.what 1 ≡ false → (ms : List ℕ) → find key_cmp q (reported_entries ms) ≡ None
 no_reported q e [] = refl

@@ -9,7 +9,7 @@ use Rattle.fuxi_terms.specs.Cluster.{ClusterRecord, has_machine}
 use Rattle.written_net.specs.Net.{Net, Party, Id, Link, same_id, same_party, at_index}
 use Rattle.written_net.specs.Ledgers.{Ledger, nothing, at_key}
 use Rattle.fuxi_terms.specs.TallyKeys.{count_key}
-use Rattle.written_net.specs.Channels.{master_id, agent_id, app_id, party, is_agent, is_app, present, Offer, publish, has_heads, shape, HasJoined}
+use Rattle.written_net.specs.Channels.{master_id, agent_id, app_id, party, is_agent, present, Offer, publish, has_heads, shape}
 use Rattle.written_roles.specs.Masters.{Master}
 use Rattle.written_roles.specs.Placing.{first_placeable, granted, settle, settled, all_out, line_up}
 use Rattle.written_roles.specs.HardState.{HardState}
@@ -18,74 +18,22 @@ use Rattle.written_roles.specs.Apps.{Carried}
 use Rattle.written_roles.specs.MasterSteps.{master_party, peers, row, grants, is_one_of, phased, ready}
 use Rattle.written_world.specs.Parties.{offers, projection, end_step}
 use Rattle.written_net.specs.Sound.{Sound}
-use Rattle.written_world.specs.Good.{greatest_in_grants, NamesJobs, HasOrigin, IsCredited}
+use Rattle.written_world.specs.Good.{greatest_in_grants, NamesJobs, IsCredited, DemandsHold, EntryHolds, FitsMachines, GrantHolds, HasUnits, Invariant, IsBounded, IsInOrder, IsJoined, IsShowing, KnowsMore, Origins, ReportHolds}
 use Rattle.written_net.proofs.NetLemmas.{party_is}
 use Rattle.fuxi_terms.proofs.Booleans.{number_is}
-use Rattle.fuxi_terms.specs.Jobs.{KnownJob, is_known, unit_count}
-use Rattle.written_world.proofs.DemandsLemmas.{DemandsHold, KnowsMore, knows_then, more_units, wider, publish_each}
+use Rattle.fuxi_terms.specs.Jobs.{KnownJob, unit_count}
+use Rattle.written_world.proofs.DemandsLemmas.{knows_then, more_units, wider, publish_each}
 use Rattle.written_world.proofs.CreditsLemmas.{credited_view, credited_like}
 use Rattle.written_net.proofs.PublishLemmas.{view_grows, Leaves, leaves_then, grows_then, publish_grows, HeadIsKnown, IsWanted, publish_links, publish_leaves, publish_sound, publish_presents}
 use Rattle.written_world.specs.Safe.{RowsFit}
-use Rattle.written_world.proofs.GrantsFit.{GrantHolds, grant_wider, grants_hold}
-use Rattle.written_world.proofs.TablesFit.{FitsMachines, ready_fits_machines, row_fits}
-use Rattle.written_world.proofs.TablesBounded.{IsBounded, ready_bounded}
+use Rattle.written_world.proofs.GrantsFit.{grant_wider, grants_hold}
+use Rattle.written_world.proofs.TablesFit.{ready_fits_machines, row_fits}
+use Rattle.written_world.proofs.TablesBounded.{ready_bounded}
 use Rattle.written_world.proofs.EntriesBounded.{row_named, named_wider, grants_counted, grants_in_range}
 use Rattle.fuxi_terms.specs.Keys.{key_cmp, RowKey}
 use Rattle.fuxi_terms.specs.Counts.{AreCounts}
-use Rattle.written_world.proofs.TablesInOrder.{IsInOrder, AllWait, ready_in_order, ready_waits}
+use Rattle.written_world.proofs.TablesInOrder.{ready_in_order, ready_waits}
 use Rattle.written_net.proofs.SoundLemmas.{Grows}
-
--- a running master of an epoch, and a running agent or application with its boot
-pub record IsShowing (c : ClusterRecord) (hard : HardState) (net : Net Ledger) (e : ℕ) (M : Master) : Type 0 where
-  pub epoch : M.epoch ≡ e
-  pub ran : e ≤ hard.fence
-  pub knows : KnowsMore M.jobs hard.jobs
-  pub tabled : IsInOrder M
-  pub housed : FitsMachines c M
-  pub bounded : IsBounded c M
-  pub waits : AllWait M M.line
-  pub credited : IsCredited net M
-  pub shows : AllByRecursion (λ q. present net (master_party M) q ≡ projection net M q) (peers c M)
-
--- a running party has joined, and is not above the last boot
-pub record IsJoined (last_boot : ℕ) (net : Net Ledger) (p : Party) : Type 0 where
-  pub ran : p.inc ≤ last_boot
-  pub joined : HasJoined net p
-
--- each carried record has an origin
-pub record Origins (net : Net Ledger) (a : ℕ) (carried : List (ℕ × Carried)) : Type 0 where
-  pub has : (m : ℕ) (r : Carried) → find nat_cmp m carried ≡ Some r → HasOrigin net a m r
-
--- a running application is one of a known job, and knows its units
-pub record HasUnits (jobs : List KnownJob) (a : ℕ) (g : App) : Type 0 where
-  pub known : is_known jobs a ≡ true
-  pub units : g.units ≡ unit_count jobs a
-
--- what an agent reports fits its machine, and is a row of known jobs
-pub record ReportHolds (c : ClusterRecord) (jobs : List KnownJob) (m : ℕ) (rows : List (RowKey × ℕ)) : Type 0 where
-  pub fits : RowsFit c m rows
-  pub named : NamesJobs jobs rows
-
--- what a master sends: a row fits the machine and is one of known jobs, and grants fit each machine and are in range
-pub record EntryHolds (c : ClusterRecord) (jobs : List KnownJob) (q : Id) (l : Ledger) : Type 0 where
-  pub rows : is_agent q ≡ true → RowsFit c q.number l.rows
-  pub named : is_agent q ≡ true → NamesJobs jobs l.rows
-  pub grants : is_app q ≡ true → GrantHolds c jobs q.number l
-  pub tally : is_app q ≡ true → AreCounts key_cmp (greatest_in_grants c (unit_count jobs q.number)) l.entries
-
--- the invariant: what holds of the net, of each running party and of all that was ever sent
-pub record Invariant (w : World) : Type 0 where
-  pub sound : Sound shape w.net
-  pub unstarted : (p : Party) (q : Id) → top w p.id < p.inc → w.net.histories p q ≡ []
-  pub masters : (e : ℕ) (M : Master) → find nat_cmp e w.masters ≡ Some M → IsShowing w.cluster w.hard w.net e M
-  pub agents : (m : ℕ) (g : Agent) → find nat_cmp m w.agents ≡ Some g → IsJoined (w.boots (agent_id m)) w.net (party (agent_id m) g.boot)
-  pub apps : (a : ℕ) (g : App) → find nat_cmp a w.apps ≡ Some g → IsJoined (w.boots (app_id a)) w.net (party (app_id a) g.boot)
-  pub machines : (m : ℕ) (g : Agent) → find nat_cmp m w.agents ≡ Some g → has_machine w.cluster m ≡ true
-  pub origins : (a : ℕ) (g : App) → find nat_cmp a w.apps ≡ Some g → Origins w.net a g.carried
-  pub units : (a : ℕ) (g : App) → find nat_cmp a w.apps ≡ Some g → HasUnits w.hard.jobs a g
-  pub written : (a b : ℕ) → DemandsHold w.cluster (unit_count w.hard.jobs a) (w.net.histories (party (app_id a) b) master_id)
-  pub entries : (e : ℕ) (q : Id) (n : ℕ) → EntryHolds w.cluster w.hard.jobs q (at_index nothing (w.net.histories (party master_id e) q) n)
-  pub reports : (m b n : ℕ) → ReportHolds w.cluster w.hard.jobs m (at_index nothing (w.net.histories (party (agent_id m) b) master_id) n).rows
 
 entry_wider : (c : ClusterRecord) (jobs jobs' : List KnownJob) (q : Id) (l : Ledger) → KnowsMore jobs jobs' → EntryHolds c jobs q l → EntryHolds c jobs' q l
 entry_wider c jobs jobs' q l more h = record {

@@ -11,7 +11,7 @@ use Rattle.fuxi_terms.specs.Cluster.{ClusterRecord, has_rack, has_machine}
 use Rattle.fuxi_terms.specs.Limits.{greatest_count, greatest_back, most_masters}
 use Rattle.written_net.specs.Net.{Net, Party, Id, Link, Packet, Heard, Starts, unknown, last, move, same_party, comes, heard_of, at_index, is_taken}
 use Rattle.written_net.specs.Ledgers.{Ledger, nothing, at_key, report_ledger}
-use Rattle.written_world.specs.Good.{greatest_in_demand, greatest_in_grants, IsTidy, IsRanged, NamesJobs, IsCredited}
+use Rattle.written_world.specs.Good.{greatest_in_demand, greatest_in_grants, IsTidy, IsRanged, NamesJobs, IsCredited, DemandsHold, EntryHolds, FitsMachines, GrantHolds, Invariant, IsBounded, IsInOrder, IsShowing, KnowsMore, Origins, ReportHolds}
 use Rattle.fuxi_terms.specs.TallyKeys.{is_back, want_key, near_key, rack_key, avoid_key, back_key}
 use Rattle.written_net.specs.Channels.{content, view, master_id, agent_id, app_id, party, is_master, is_agent, is_app, present, send_all, resync_all, shape, HasJoined}
 use Rattle.fuxi_terms.specs.Jobs.{job_numbers, unit_count, is_known, is_live, has_ended, eight_places}
@@ -34,21 +34,21 @@ use Rattle.written_world.specs.Safe.{AllAgree, AllFit, CountsOnce}
 use Rattle.written_net.proofs.BoundedLemmas.{found_within}
 use Rattle.fuxi_terms.proofs.Booleans.{either, and_true, number_is, not_false}
 use Rattle.written_net.proofs.SoundLemmas.{Grows, comes_sound, move_sound}
-use Rattle.written_world.proofs.GoodAtStart.{empty_at, fit_at_start, sound_at_start, written_at_start}
+use Rattle.written_world.proofs.GoodAtStart.{empty_at, no_rows, sound_at_start}
 use Rattle.written_world.proofs.MovesWalk.{found_has}
 use Rattle.written_net.proofs.PublishLemmas.{Acted, same_party_itself, grows_itself, Leaves, leaves_nothing, start_leaves, comes_leaves, send_all_acted, resync_all_acted}
 use Rattle.written_net.proofs.NetLemmas.{id_is}
-use Rattle.written_world.proofs.GrantsFit.{GrantHolds, nothing_granted}
-use Rattle.written_world.proofs.TablesFit.{FitsMachines, new_fits_machines, same_fits_machines, added_fits_machines, ended_fits_machines, banned_fits_machines, told_fits_machines, preempted_fits_machines}
+use Rattle.written_world.proofs.GrantsFit.{nothing_granted}
+use Rattle.written_world.proofs.TablesFit.{new_fits_machines, same_fits_machines, added_fits_machines, ended_fits_machines, banned_fits_machines, told_fits_machines, preempted_fits_machines}
 use Rattle.fuxi_terms.specs.Keys.{key_cmp}
 use Rattle.fuxi_terms.specs.Counts.{AreCounts}
 use Rattle.fuxi_terms.proofs.Counting.{counts-where_key}
 use Rattle.fuxi_terms.proofs.KeyOrders.{key_total}
-use Rattle.written_world.proofs.TablesBounded.{IsBounded, new_bounded, same_bounded, added_bounded, ended_bounded, banned_bounded, preempted_bounded, told_bounded, counted_ranged}
+use Rattle.written_world.proofs.TablesBounded.{new_bounded, same_bounded, added_bounded, ended_bounded, banned_bounded, preempted_bounded, told_bounded, counted_ranged}
 use Rattle.written_world.proofs.SettledKept.{talks_machine, talks_app}
-use Rattle.written_world.proofs.TablesInOrder.{IsInOrder, met_in_order, new_in_order, same_in_order, added_in_order, told_in_order, ended_in_order, banned_in_order, preempted_in_order}
-use Rattle.written_world.proofs.Invariant.{EntryHolds, ReportHolds, Invariant, Origins, origins_grow, IsShowing, stepped, finish_invariant, projection_head}
-use Rattle.written_world.proofs.DemandsLemmas.{DemandsHold, KnowsMore, knows_itself, changed_follows, published_demands}
+use Rattle.written_world.proofs.TablesInOrder.{met_in_order, new_in_order, same_in_order, added_in_order, told_in_order, ended_in_order, banned_in_order, preempted_in_order}
+use Rattle.written_world.proofs.Invariant.{origins_grow, stepped, finish_invariant, projection_head}
+use Rattle.written_world.proofs.DemandsLemmas.{knows_itself, changed_follows, published_demands}
 use Rattle.written_world.proofs.CreditsLemmas.{credited_view, credited_like, heard_credited}
 use Rattle.written_world.proofs.KnownJobsLemmas.{job_added, both_added, added_credited, ended_knows, both_ended, ended_credited}
 use Rattle.written_world.proofs.CreditedOnce.{credited_once}
@@ -60,8 +60,8 @@ use Rattle.written_world.proofs.CommandLemmas.{hard_has, submits_has, finishes_h
 record Holds (w : World) : Type 0 where
   it : Invariant w
 
-record StepHolds (s : Step) : Type 0 where
-  it : Invariant s.world
+pub record StepHolds (s : Step) : Type 0 where
+  pub it : Invariant s.world
 
 -- A master that heard something has its epoch and its jobs
 record SameMaster (M N : Master) : Type 0 where
@@ -257,7 +257,7 @@ master_hears_holds w e which M x h to found sent =
         (counts-where_key key_total greatest_in_demand (is_there w.cluster units) C.entries tidy, counted_ranged w.cluster M.jobs n C)
 
 -- an agent's table is a row that a master sent, or one that it reported
-table_fits : (w : World) (m : ℕ) (g : Agent) → Invariant w → ReportHolds w.cluster w.hard.jobs m (agent_table w.net (party (agent_id m) g.boot))
+pub table_fits : (w : World) (m : ℕ) (g : Agent) → Invariant w → ReportHolds w.cluster w.hard.jobs m (agent_table w.net (party (agent_id m) g.boot))
 table_fits w m g h = let p = party (agent_id m) g.boot in
     either (ReportHolds w.cluster w.hard.jobs m) (nat_eq (w.net.links p master_id).seq 0) (present w.net p master_id).rows (view w.net p master_id).rows
     (λ _. h.reports m g.boot (last w.net p master_id)) (λ _. let e = h.entries (w.net.links p master_id).known (agent_id m) (w.net.links p master_id).seq in record { fits = e.rows refl; named = e.named refl })
@@ -387,7 +387,7 @@ give_back_holds w a u m n h = app_runs w a _ h (λ g f. checked w _ _ h (λ t.
     demanded_holds w a g (back_key u m) (given_back w a g u m + n) h f (within z.0) (unit_there w g u (has_machine w.cluster m) (not_false (nat_lt u g.units) x.0) (not_false (has_machine w.cluster m) y.0)) (λ _. omega arith)))
 
 -- Each event
-act_holds : (w : World) (e : Event) → Invariant w → StepHolds (act w e)
+pub act_holds : (w : World) (e : Event) → Invariant w → StepHolds (act w e)
 act_holds w (StartMaster e) h = checked w _ _ h (λ n. hard_has StepHolds w (λ r. record { it = h }) w.hard e Raise _ (λ _.
     new_holds w e h (rising (not_refused (not (nat_lt w.hard.fence e)) (NotRising w.hard.fence) ((not (nat_lt (length w.masters) most_masters), TooManyMasters most_masters) ∷ []) n).0)))
 act_holds w (StopMaster e) h = master_runs w e _ h (λ M f. record { it = stopped_holds w e h })
@@ -426,14 +426,16 @@ act_holds w (DeliverRange k l) h = checked w _ _ h (λ _. deliver_all_holds (l +
 act_holds w (Dump k) h = checked w _ _ h (λ _. found_has StepHolds (packet_of w k) _ _ (record { it = h }) (λ x _. record { it = h }))
 act_holds w ShowState h = record { it = h }
 
-counted_holds : (w : World) → Invariant w → Invariant (counted_in w)
+-- an event that is counted
+pub counted_holds : (w : World) → Invariant w → Invariant (counted_in w)
 counted_holds w h = record { sound = h.sound; unstarted = h.unstarted; masters = h.masters; agents = h.agents; apps = h.apps; machines = h.machines; origins = h.origins; units = h.units; written = h.written; entries = h.entries; reports = h.reports }
 
 run_holds : (es : List Event) (w : World) → Invariant w → Holds (run_from es w).world
 run_holds [] w h = record { it = h }
 run_holds (e ∷ es) w h = record { it = (run_holds es (world_step w e).world (act_holds (counted_in w) e (counted_holds w h)).it).it }
 
-at_start : (c : ClusterRecord) → Invariant (empty_world c)
+-- the empty world
+pub at_start : (c : ClusterRecord) → Invariant (empty_world c)
 at_start c = record {
   sound = sound_at_start;
   unstarted = λ p q above. refl;
@@ -443,14 +445,14 @@ at_start c = record {
   machines = λ m g found. cc;
   origins = λ a g found. cc;
   units = λ a g found. cc;
-  written = λ a b. let t = written_at_start c in record { backs = t.backs a b; anew = λ n within. absurd (omega (arith, within)); tidy = t.tidy a b; ranged = t.ranged a b };
+  written = λ a b. record { backs = λ n within. absurd (omega (arith, within)); anew = λ n within. absurd (omega (arith, within)); tidy = λ n. subst IsTidy (sym (empty_at n)) (record { sorted = tt; positive = tt; within = tt }); ranged = λ n k _. ap (λ (l : Ledger). at_key l k) (empty_at n) };
   entries = λ e q n. record {
-    rows = λ _. (fit_at_start c).rows e q.number n;
+    rows = λ _. no_rows c q.number n;
     named = λ _. subst (λ (l : Ledger). NamesJobs [] l.rows) (sym (empty_at n)) (record { counts = record { sorted = tt; positive = tt; within = tt }; named = tt });
     grants = λ _. subst (GrantHolds c [] q.number) (sym (empty_at n)) (nothing_granted c [] q.number);
     tally = λ _. subst (λ (l : Ledger). AreCounts key_cmp (greatest_in_grants c 0) l.entries) (sym (empty_at n)) (record { sorted = tt; positive = tt; within = tt });
   };
-  reports = λ m b n. record { fits = (fit_at_start c).reports m b n; named = subst (λ (l : Ledger). NamesJobs [] l.rows) (sym (empty_at n)) (record { counts = record { sorted = tt; positive = tt; within = tt }; named = tt }) };
+  reports = λ m b n. record { fits = no_rows c m n; named = subst (λ (l : Ledger). NamesJobs [] l.rows) (sym (empty_at n)) (record { counts = record { sorted = tt; positive = tt; within = tt }; named = tt }) };
 }
 
 -- the invariant holds in every state

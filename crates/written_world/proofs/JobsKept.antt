@@ -116,12 +116,13 @@ jobs_ended c a [] h = tt
 jobs_ended c a (k ∷ ks) h = (either (λ (k : KnownJob). IsJob c k.job) (nat_eq k.job.number a) (record { job = k.job; ended = true }) k (λ _. h.0) (λ _. h.0), jobs_ended c a ks h.1)
 
 -- The walk
-record HasJobs (c : ClusterRecord) (w : World) : Type 0 where
-  same : w.cluster ≡ c
-  jobs : AreJobs c w.hard.jobs
+pub record HasJobs (c : ClusterRecord) (w : World) : Type 0 where
+  pub same : w.cluster ≡ c
+  pub jobs : AreJobs c w.hard.jobs
 
-record StepHasJobs (c : ClusterRecord) (s : Step) : Type 0 where
-  it : HasJobs c s.world
+-- and after a step
+pub record StepHasJobs (c : ClusterRecord) (s : Step) : Type 0 where
+  pub it : HasJobs c s.world
 
 module _ (c : ClusterRecord) (few : c.resources ≤ most_resources) where
   has : (w w' : World) → w'.cluster ≡ w.cluster → w'.hard ≡ w.hard → HasJobs c w → HasJobs c w'
@@ -172,7 +173,8 @@ module _ (c : ClusterRecord) (few : c.resources ≤ most_resources) where
   to_master_has : (w : World) (p : Party) → HasJobs c w → StepHasJobs c (turn_to_master w p)
   to_master_has w p b = either (StepHasJobs c) (nat_eq (w.net.links p master_id).known 0) (prints_nothing w) (turned w p (master_id ∷ [])) (λ _. record { it = b }) (λ _. record { it = record { same = b.same; jobs = b.jobs } })
 
-  act_has : (w : World) (e : Event) → is_from_line e ≡ true → HasJobs c w → StepHasJobs c (act w e)
+  -- each event
+  pub act_has : (w : World) (e : Event) → is_from_line e ≡ true → HasJobs c w → StepHasJobs c (act w e)
   act_has w (StartMaster e) t b = checked w _ _ b (hard_has (StepHasJobs c) w (λ r. record { it = b }) w.hard e Raise _ (λ _. record { it = record { same = b.same; jobs = b.jobs } }))
   act_has w (StopMaster e) t b = master_runs w e _ b (λ M. record { it = record { same = b.same; jobs = b.jobs } })
   act_has w (StartAgent m n) t b = checked w _ (prints_nothing (agent_started w m n)) b (record { it = record { same = b.same; jobs = b.jobs } })
@@ -208,7 +210,7 @@ module _ (c : ClusterRecord) (few : c.resources ≤ most_resources) where
   run_has (e ∷ es) w t b = run_has es (world_step w e).world t.1 (act_has (counted_in w) e t.0 (record { same = b.same; jobs = b.jobs })).it
 
 -- a valid cluster has at most eight resources
-few_resources : (c : ClusterRecord) → is_valid_cluster c ≡ true → c.resources ≤ most_resources
+pub few_resources : (c : ClusterRecord) → is_valid_cluster c ≡ true → c.resources ≤ most_resources
 few_resources c e = let b = both_true (not (nat_lt c.resources 1)) (not (nat_lt most_resources c.resources)) (both_true (is_between 1 most_resources c.resources) _ e).0 in let t = b.1 in grind (arith, nat_tests, t)
 
 -- the cluster stays

@@ -13,9 +13,8 @@ use Rattle.fuxi_terms.specs.Jobs.{KnownJob, job_of, is_known, is_live, units_of}
 use Rattle.written_roles.specs.Masters.{Master, credited_of}
 use Rattle.written_roles.specs.HardState.{with_job, with_ended}
 use Rattle.written_roles.specs.MasterSteps.{master_party, ended_in}
-use Rattle.written_world.specs.Good.{IsCredited}
+use Rattle.written_world.specs.Good.{IsCredited, KnowsMore}
 use Rattle.fuxi_terms.proofs.Booleans.{number_is}
-use Rattle.written_world.proofs.DemandsLemmas.{KnowsMore}
 
 -- A job behind the others
 pub old_job : (jobs : List KnownJob) (j : JobRecord) (a : ℕ) → is_known jobs a ≡ true → job_of (with_job j jobs) a ≡ job_of jobs a

@@ -12,7 +12,7 @@ use Rattle.written_net.specs.Channels.{master_id, agent_id, app_id, party, is_ma
 use Rattle.written_world.specs.World.{World, Agent, App, top, set_boot}
 use Rattle.fuxi_terms.specs.Cluster.{ClusterRecord, has_machine}
 use Rattle.fuxi_terms.specs.Jobs.{KnownJob, unit_count}
-use Rattle.written_world.proofs.DemandsLemmas.{DemandsHold, knows_itself, publish_each, published_demands, joined_follows}
+use Rattle.written_world.proofs.DemandsLemmas.{knows_itself, publish_each, published_demands, joined_follows}
 use Rattle.written_world.specs.Parties.{joined}
 use Rattle.written_roles.specs.Apps.{joined_demand}
 use Rattle.written_net.specs.Sound.{Sound, PacketNames}
@@ -21,7 +21,8 @@ use Rattle.fuxi_terms.proofs.Booleans.{both_true, either, number_is, not_false}
 use Rattle.written_net.proofs.NetLemmas.{id_is, set_at_all}
 use Rattle.written_net.proofs.SoundLemmas.{Grows, comes_sound, move_sound}
 use Rattle.written_net.proofs.PublishLemmas.{Leaves, leaves_then, start_leaves, comes_leaves, grows_itself, publish_grows, publish_links, publish_leaves, publish_sound, publish_presents, set_here, same_id_itself, same_party_itself, Acted}
-use Rattle.written_world.proofs.Invariant.{Invariant, ReportHolds, IsJoined, Origins, HasUnits, stepped, put_found}
+use Rattle.written_world.proofs.Invariant.{stepped, put_found}
+use Rattle.written_world.specs.Good.{DemandsHold, HasUnits, Invariant, IsJoined, Origins, ReportHolds}
 
 -- Hearing: what is known afterwards
 after_known : (w : What) (own top : ℕ) (m : Link) (x : Packet) → (link_after w own top m x).known ≡ m.known

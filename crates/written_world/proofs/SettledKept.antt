@@ -22,7 +22,7 @@ use Rattle.written_roles.specs.MasterSteps.{talks, ready, is_there, counted, tak
 use Rattle.written_world.specs.Parties.{end_step, told, received, adopted_now, master_hears, agent_hears, app_hears}
 use Rattle.fuxi_terms.proofs.Booleans.{either, number_is}
 use Rattle.fuxi_terms.proofs.KeyOrders.{same_key}
-use Rattle.written_world.proofs.SettledLemmas.{IsRangedMaster, IsResting, ranged_same, ready_rests}
+use Rattle.written_world.proofs.SettledLemmas.{ranged_same, ready_rests}
 use Rattle.written_world.proofs.MovesWalk.{found_has}
 use Rattle.written_roles.specs.Preemption.{preempted}
 use Rattle.written_roles.specs.Refusals.{Refusal, with_found}
@@ -31,10 +31,11 @@ use Rattle.written_world.specs.Events.{Event, StartMaster, StopMaster, StartAgen
 use Rattle.written_world.specs.Runs.{run_from, run}
 use Rattle.std.proofs.lemmas.Map.Lookups.{exact_unsigned}
 use Rattle.written_world.proofs.CommandLemmas.{hard_has, submits_has, finishes_has, bans_has, unbans_has, begins_has, makes_room_has}
+use Rattle.written_world.specs.Good.{IsRangedMaster, IsResting}
 
 -- an entry of a map after a put is the new one or an old one
-record Found {A : Type 0} (P : A → Type 0) (o : Option A) : Type 0 where
-  has : (x : A) → o ≡ Some x → P x
+pub record Found {A : Type 0} (P : A → Type 0) (o : Option A) : Type 0 where
+  pub has : (x : A) → o ≡ Some x → P x
 
 put_found : {A : Type 0} (P : A → Type 0) (k : ℕ) (v : A) (es : List (ℕ × A)) (q : ℕ) → P v → Found P (find nat_cmp q es) → Found P (find nat_cmp q (put nat_cmp k v es))
 put_found P k v es q new old = subst (Found P) (sym (find-put nat_cmp nat_cmp_total q k v es)) (elim (eq_by_cmp nat_cmp q k) as (λ b. Found P (cond b (Some v) (find nat_cmp q es))) [
@@ -146,14 +147,15 @@ told_ranged c net M h x t r =
     ] refl
 
 -- all running masters rest
-record AllRest (c : ClusterRecord) (masters : List (ℕ × Master)) : Type 0 where
-  rests : (e : ℕ) → Found (IsResting c) (find nat_cmp e masters)
+pub record AllRest (c : ClusterRecord) (masters : List (ℕ × Master)) : Type 0 where
+  pub rests : (e : ℕ) → Found (IsResting c) (find nat_cmp e masters)
 
 record Rests (w : World) : Type 0 where
   all : AllRest w.cluster w.masters
 
-record StepRests (s : Step) : Type 0 where
-  all : AllRest s.world.cluster s.world.masters
+-- and those of a step
+pub record StepRests (s : Step) : Type 0 where
+  pub all : AllRest s.world.cluster s.world.masters
 
 end_rests : (w : World) (net : Net Ledger) (M : Master) (forced : List Id) → AllRest w.cluster w.masters → IsRangedMaster w.cluster M → Rests (end_step w net M forced)
 end_rests w net M forced s r = let R = ready w.cluster M in record { all = record { rests = λ e. put_found (IsResting w.cluster) R.epoch R w.masters e (ready_rests w.cluster M r) (s.rests e) } }
@@ -227,7 +229,8 @@ ended_ranged c M a r = record {
 same_ranged : (c : ClusterRecord) (M N : Master) → N.jobs ≡ M.jobs → N.demands ≡ M.demands → N.reported ≡ M.reported → IsRangedMaster c M → IsRangedMaster c N
 same_ranged c M N jobs demands reported r = ranged_same c M N (record { jobs = jobs; demands = demands; reported = reported }) r
 
-act_rests : (w : World) (e : Event) → AllRest w.cluster w.masters → StepRests (act w e)
+-- each event
+pub act_rests : (w : World) (e : Event) → AllRest w.cluster w.masters → StepRests (act w e)
 act_rests w (StartMaster e) b = checked w _ _ b (hard_has StepRests w (λ r. record { all = b }) w.hard e Raise _ (λ _.
     step_rests (record w { hard = raised w.hard e; ran = w.ran ++ party master_id e ∷ [] }) (move w.net (Starts (party master_id e))) (new_master (raised w.hard e) e) (map app_id (job_numbers w.hard.jobs)) b (new_ranged w.cluster (raised w.hard e) e)))
 act_rests w (StopMaster e) b = master_runs w e _ b (λ M r. record { all = stopped_rests w.cluster w.masters e b })

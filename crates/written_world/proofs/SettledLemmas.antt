@@ -6,21 +6,23 @@ use Rattle.std.specs.List.{flat_map}
 use Rattle.std.specs.Ordering.{nat_cmp}
 use Rattle.std.specs.FinMap.Entries.{find}
 use Rattle.std.proofs.lemmas.Bool.Decides.{nat_tests}
-use Rattle.fuxi_terms.specs.Cluster.{ClusterRecord, has_machine}
+use Rattle.fuxi_terms.specs.Cluster.{ClusterRecord}
 use Rattle.fuxi_terms.specs.Keys.{Spot}
 use Rattle.written_net.specs.Ledgers.{nothing, at_key}
 use Rattle.fuxi_terms.specs.TallyKeys.{want_key}
 use Rattle.fuxi_terms.specs.Jobs.{KnownJob, job_of, unit_count, job_numbers}
 use Rattle.fuxi_terms.specs.Numbers.{has_number, with_number}
 use Rattle.fuxi_terms.specs.Lists.{below}
-use Rattle.written_roles.specs.Masters.{Master, asked, out}
+use Rattle.written_roles.specs.Masters.{Master, out}
 use Rattle.written_roles.specs.Placing.{waiting_pairs, has_pair, lined, line_up, is_usable, may_grow, has_room, is_allowed, placeable, first_placeable, granted, settle, settled, all_out}
 use Rattle.fuxi_terms.specs.Tables.{with_grant}
 use Rattle.written_roles.specs.Settling.{NothingPlaceable}
 use Rattle.written_roles.specs.MasterSteps.{phased, ready}
-use Rattle.fuxi_terms.proofs.Booleans.{both_true, number_is, nat_itself}
+use Rattle.fuxi_terms.proofs.Booleans.{both_true, number_is, nat_itself, same_tests}
 use Rattle.fuxi_terms.proofs.Sums.{held_more}
 use Rattle.written_roles.proofs.PlacingEnds.{settled_nothing}
+use Rattle.written_world.specs.Good.{AllWait, IsRangedMaster, IsResting}
+use Rattle.written_world.proofs.TablesInOrder.{ready_waits, waits_too}
 
 either_true : (a b : Bool) → b ≡ true → (a || b) ≡ true
 either_true true b e = refl
@@ -111,16 +113,6 @@ pair_flat a u f (n ∷ ns) h k = pair_append (a, u) (f n) (flat_map f ns) ∙ el
   | false ↦ λ e h. either_true (has_pair (a, u) (f n)) _ (pair_flat a u f ns h k)
 ] refl h
 
--- what is reported are machines of the cluster, and of a unit that a job does not have nothing is wanted
-pub record IsRangedMaster (c : ClusterRecord) (M : Master) : Type 0 where
-  pub reported : (m : ℕ) → has_number m M.reported ≡ true → has_machine c m ≡ true
-  pub wanted : (a u : ℕ) → nat_lt u (unit_count M.jobs a) ≡ false → asked M a (want_key u) ≡ 0
-
--- a master that rests
-pub record IsResting (c : ClusterRecord) (M : Master) : Type 0 where
-  pub ranged : IsRangedMaster c M
-  pub settled : (a u m : ℕ) → placeable c M a u m ≡ false
-
 -- each pair with something out stands in the line
 record IsFullLine (M : Master) : Type 0 where
   full : (a u : ℕ) → nat_lt 0 (out M a u) ≡ true → has_pair (a, u) M.line ≡ true
@@ -197,13 +189,18 @@ lined_ranged c M r = record { reported = r.reported; wanted = r.wanted }
 phased_ranged : (c : ClusterRecord) (M : Master) → IsRangedMaster c M → IsRangedMaster c (phased c M)
 phased_ranged c M r = record { reported = r.reported; wanted = r.wanted }
 
+-- a pair stands in the line exactly where something is out
+lined_out : (M : Master) → IsFullLine M → AllWait M M.line → (a u : ℕ) → has_pair (a, u) M.line ≡ nat_lt 0 (out M a u)
+lined_out M f w a u = same_tests (has_pair (a, u) M.line) (nat_lt 0 (out M a u)) (λ e. waits_too M (a, u) M.line w e) (λ e. f.full a u e)
+
 -- at the end of each step
 pub ready_rests : (c : ClusterRecord) (M : Master) → IsRangedMaster c M → IsResting c (ready c M)
 ready_rests c M r =
     let N = line_up (phased c M) in
-    elim N.serving as (λ b. N.serving ≡ b → IsResting c (elim b as (λ _. Master) [ true ↦ settled c N | false ↦ N ])) [
-      | true ↦ λ e.
+    elim N.serving as (λ b. N.serving ≡ b → AllWait (elim b as (λ _. Master) [ true ↦ settled c N | false ↦ N ]) (elim b as (λ _. Master) [ true ↦ settled c N | false ↦ N ]).line → IsResting c (elim b as (λ _. Master) [ true ↦ settled c N | false ↦ N ])) [
+      | true ↦ λ e w.
           let rs = ranged_same c N (settled c N) (settle_parts c (all_out N) N) (lined_ranged c M r) in
-          record { ranged = rs; settled = none_anywhere c (settled c N) rs (settle_full c (all_out N) N (lined_full c (phased c M) (phased_ranged c M r))) (settled_nothing c N) }
-      | false ↦ λ e. record { ranged = lined_ranged c M r; settled = rests_unserved c N e }
-    ] refl
+          let f = settle_full c (all_out N) N (lined_full c (phased c M) (phased_ranged c M r)) in
+          record { ranged = rs; line = lined_out (settled c N) f w; settled = none_anywhere c (settled c N) rs f (settled_nothing c N) }
+      | false ↦ λ e w. record { ranged = lined_ranged c M r; line = lined_out N (lined_full c (phased c M) (phased_ranged c M r)) w; settled = rests_unserved c N e }
+    ] refl (ready_waits c M)

@@ -28,7 +28,7 @@ use Rattle.written_roles.specs.Preemption.{Plan, falling_priorities, by_priority
 use Rattle.written_roles.specs.HardState.{with_job, with_ended}
 use Rattle.written_roles.specs.MasterSteps.{phased, ready, counted, is_kept, is_there, adopted, adopts, take_report, credit, raise_credited, take_demand, meet_app, ended_in, banned_in}
 use Rattle.written_world.specs.Parties.{told}
-use Rattle.written_world.specs.Good.{greatest_in_demand, greatest_in_credits, greatest_in_table, IsTidy, IsRanged}
+use Rattle.written_world.specs.Good.{greatest_in_demand, greatest_in_credits, greatest_in_table, IsTidy, IsRanged, AllWait, IsBounded, reported_entries}
 use Rattle.fuxi_terms.proofs.Alls.{all_append, all_flat, all_filter}
 use Rattle.fuxi_terms.proofs.Counting.{both_true as both, below_none, tied, count_le, count-set_count, counts-set_count, counts-where_key}
 use Rattle.fuxi_terms.proofs.Booleans.{both_true, either, number_is}
@@ -38,17 +38,8 @@ use Rattle.written_world.proofs.CreditsLemmas.{found_put, put_beside}
 use Rattle.written_world.proofs.DemandsLemmas.{more_units, ranged_wider}
 use Rattle.written_world.proofs.KnownJobsLemmas.{job_added}
 use Rattle.written_world.proofs.SettledKept.{with_back, ended_units}
-use Rattle.written_world.proofs.TablesInOrder.{AllWait, planned, placeable_out}
+use Rattle.written_world.proofs.TablesInOrder.{planned, placeable_out}
 use Rattle.written_world.proofs.CountsLemmas.{counts_wider, counts_put}
-use Rattle.written_world.proofs.GrantsLemmas.{reported_entries}
-
--- a table with counts in range, machines that are reported in order and of the cluster, demands in range, and credits in range
-pub record IsBounded (c : ClusterRecord) (M : Master) : Type 0 where
-  pub counts : AreCounts spot_cmp (greatest_in_table M.jobs) M.table
-  pub reported : (m : ℕ) → has_number m M.reported ≡ true → has_machine c m ≡ true
-  pub rising : T (is_sorted key_cmp (reported_entries M.reported))
-  pub demands : (a : ℕ) → IsTidy (demand_of M a) × IsRanged c (unit_count M.jobs a) (demand_of M a)
-  pub credits : (a : ℕ) → AreCounts key_cmp (greatest_in_credits c (unit_count M.jobs a)) (credited_of M a)
 
 -- Placing
 count_held : (es : List (Spot × ℕ)) (s : Spot) → count spot_cmp es s ≤ held es s.job s.unit

@@ -38,15 +38,11 @@ use Rattle.fuxi_terms.proofs.Spots.{Each, each_put, each_where, each_found, each
 use Rattle.written_world.proofs.TotalsLemmas.{load, load_more, set_exact, where_less, nothing_there, added_loads, ended_loads, adopted_loads, row_loads}
 use Rattle.written_roles.proofs.LossesLemmas.{plan_loss}
 use Rattle.written_roles.specs.Losses.{often, one_if, AreGrantsOn, IsLoss}
-use Rattle.written_world.proofs.TablesInOrder.{IsInOrder, planned, sorted_set}
+use Rattle.written_world.proofs.TablesInOrder.{planned, sorted_set}
+use Rattle.written_world.specs.Good.{FitsMachines, IsInOrder}
 
 abbrev IsReported : List ℕ → Spot → Type 0
 IsReported rs s = has_number s.machine rs ≡ true
-
--- a table whose grants are on reported machines and within what each has
-pub record FitsMachines (c : ClusterRecord) (M : Master) : Type 0 where
-  pub fits : (m i : ℕ) → i < c.resources → total_at M.jobs m i M.table ≤ has_at c m i
-  pub reported : AllByRecursion (λ e. has_number e.0.machine M.reported ≡ true) M.table
 
 -- The row of each machine fits it
 pub row_fits : (c : ClusterRecord) (M : Master) (m : ℕ) → FitsMachines c M → RowsFit c m (row M m).rows

@@ -17,7 +17,7 @@ use Rattle.written_net.specs.Channels.{is_agent}
 use Rattle.fuxi_terms.specs.Jobs.{KnownJob, job_of, is_live, unit_count, priority_of, job_numbers}
 use Rattle.fuxi_terms.specs.Lists.{below}
 use Rattle.fuxi_terms.specs.Numbers.{has_number}
-use Rattle.written_roles.specs.Masters.{Master, demand_of, asked, out, credited_of}
+use Rattle.written_roles.specs.Masters.{Master, asked, out, credited_of}
 use Rattle.fuxi_terms.specs.Tables.{spot, without_grants}
 use Rattle.written_roles.specs.Placing.{first_placeable, granted, settle, settled, all_out, waiting_pairs, has_pair, line_up, is_usable, is_allowed, has_room, may_grow, placeable}
 use Rattle.written_roles.specs.Preemption.{Plan, victims, falling_priorities, by_priority, tried, first_plan, plan_of, preempted}
@@ -30,23 +30,13 @@ use Rattle.fuxi_terms.proofs.Booleans.{both_true, either, number_is}
 use Rattle.fuxi_terms.proofs.KeyOrders.{key_total, spot_total}
 use Rattle.written_roles.proofs.PlacingEnds.{is_placeable}
 use Rattle.written_world.proofs.CreditsLemmas.{found_put, put_beside}
+use Rattle.written_world.specs.Good.{AllWait, IsInOrder}
 
 abbrev IsSorted : List (Spot × ℕ) → Type 0
 IsSorted table = T (is_sorted spot_cmp table)
 
 abbrev IsLive : List KnownJob → List (Spot × ℕ) → Type 0
 IsLive jobs table = AllByRecursion (λ e. is_live jobs e.0.job ≡ true) table
-
--- a table in order with grants of live jobs alone, and no demand and no count among the credits that is not one
-pub record IsInOrder (M : Master) : Type 0 where
-  pub sorted : T (is_sorted spot_cmp M.table)
-  pub alive : AllByRecursion (λ e. is_live M.jobs e.0.job ≡ true) M.table
-  pub empty : (a : ℕ) → is_live M.jobs a ≡ false → demand_of M a ≡ nothing
-  pub plain : (a u m : ℕ) → find key_cmp (count_key u m) (credited_of M a) ≡ None
-
--- each pair of the line has something out
-abbrev pub AllWait : Master → List (ℕ × ℕ) → Type 0
-AllWait M line = AllByRecursion (λ p. nat_lt 0 (out M p.0 p.1) ≡ true) line
 
 clash : (b : Bool) → b ≡ true → b ≡ false → ⊥
 clash true e f = cc
@@ -104,7 +94,7 @@ waiting M = all_flat (λ p. nat_lt 0 (out M p.0 p.1) ≡ true) _ (job_numbers M.
     (λ a. all_mapped (λ (p : ℕ × ℕ). nat_lt 0 (out M p.0 p.1) ≡ true) (λ u. (a, u)) _ (all_passed (λ u. nat_lt 0 (out M a u) ≡ true) (λ u. nat_lt 0 (out M a u)) (below (unit_count M.jobs a)) (λ u e. e)))
 
 -- a pair that is one of those that wait waits
-waits_too : (M : Master) (p : ℕ × ℕ) (pairs : List (ℕ × ℕ)) → AllWait M pairs → has_pair p pairs ≡ true → nat_lt 0 (out M p.0 p.1) ≡ true
+pub waits_too : (M : Master) (p : ℕ × ℕ) (pairs : List (ℕ × ℕ)) → AllWait M pairs → has_pair p pairs ≡ true → nat_lt 0 (out M p.0 p.1) ≡ true
 waits_too M p [] h e = cc
 waits_too M p (q ∷ qs) h e = elim (nat_eq p.0 q.0 && nat_eq p.1 q.1) as (λ b. (nat_eq p.0 q.0 && nat_eq p.1 q.1) ≡ b → (b || has_pair p qs) ≡ true → nat_lt 0 (out M p.0 p.1) ≡ true) [
   | true ↦ λ t _. let b = both_true (nat_eq p.0 q.0) (nat_eq p.1 q.1) t in let x = number_is p.0 q.0 b.0 in let y = number_is p.1 q.1 b.1 in (λ i. nat_lt 0 (out M (x i) (y i))) ∙ h.0

@@ -1,46 +1,30 @@
 -- The invariant that every step keeps.
-use Rattle.std.specs.Prelude.{cond, ◌≡◌, ℕ, ◌+◌, ◌<◌, ◌≤◌, Bool, true, false, nat_eq, nat_lt, ◌&&◌, ◌||◌, List, [], length, map, take, Some, slice_get}
-use Rattle.std.specs.List.{AllByRecursion, list_any}
+use Rattle.std.specs.Prelude.{cond, ◌≡◌, ℕ, ◌+◌, ◌<◌, ◌≤◌, true, false, nat_eq, nat_lt, ◌&&◌, List, [], length, map, Some, None, slice_get, T}
+use Rattle.std.specs.List.{AllByRecursion}
 use Rattle.std.specs.Ordering.{nat_cmp}
-use Rattle.std.specs.FinMap.Entries.{find}
+use Rattle.std.specs.FinMap.Entries.{find, is_sorted}
 use Rattle.fuxi_terms.specs.declared.Key.{Key}
 use Rattle.fuxi_terms.specs.Vectors.{at_place}
 use Rattle.fuxi_terms.specs.Cluster.{ClusterRecord, JobRecord, UnitRecord, is_valid_job, has_at, has_machine}
 use Rattle.fuxi_terms.specs.Limits.{most_resources, greatest_count, greatest_back}
 use Rattle.fuxi_terms.specs.Keys.{key_cmp, RowKey, row_cmp, Spot, spot_cmp}
 use Rattle.fuxi_terms.specs.Counts.{count, AreCounts}
-use Rattle.written_net.specs.Net.{Net, Party, Id, same_party, last, at_index}
+use Rattle.written_net.specs.Net.{Net, Party, Id, last, at_index}
 use Rattle.written_net.specs.Ledgers.{Ledger, nothing, at_key}
-use Rattle.fuxi_terms.specs.TallyKeys.{count_key, credited_what, credited_key, back_key, is_back, where_holds}
-use Rattle.written_net.specs.Channels.{master_id, agent_id, app_id, party, view, present, HasJoined, shape}
-use Rattle.fuxi_terms.specs.Jobs.{KnownJob, is_known, is_live, unit_count, unit_of}
+use Rattle.fuxi_terms.specs.TallyKeys.{reported_key, count_key, want_key, credited_what, credited_key, back_key, is_back, where_holds}
+use Rattle.written_net.specs.Channels.{master_id, agent_id, app_id, party, is_agent, is_app, view, present, HasJoined, shape}
+use Rattle.fuxi_terms.specs.Jobs.{KnownJob, is_known, is_live, units_of, unit_count, unit_of}
 use Rattle.fuxi_terms.specs.Numbers.{has_number}
-use Rattle.written_roles.specs.Masters.{Master, out, demand_of, credited_of}
+use Rattle.written_roles.specs.Masters.{Master, out, asked, demand_of, credited_of}
 use Rattle.fuxi_terms.specs.Tables.{total_at}
 use Rattle.written_roles.specs.Placing.{has_pair, placeable}
 use Rattle.written_roles.specs.HardState.{HardState}
 use Rattle.written_world.specs.World.{World, Agent, App, top}
 use Rattle.written_roles.specs.Apps.{Carried}
-use Rattle.written_roles.specs.MasterSteps.{master_party, talks, is_there}
+use Rattle.written_roles.specs.MasterSteps.{master_party, peers, is_there}
 use Rattle.written_world.specs.Parties.{projection}
 use Rattle.written_world.specs.Safe.{RowsFit, units_total_at}
 use Rattle.written_net.specs.Sound.{Sound}
-
--- Sizes. Each row entry and each report fits its machine, and each grants entry fits each machine
-pub record EntriesFit (w : World) : Type 0 where
-  pub rows : (e m n : ℕ) → RowsFit w.cluster m (at_index nothing (w.net.histories (party master_id e) (agent_id m)) n).rows
-  pub reports : (m b n : ℕ) → RowsFit w.cluster m (at_index nothing (w.net.histories (party (agent_id m) b) master_id) n).rows
-  pub grants : (e a n m i : ℕ) → i < w.cluster.resources
-      → units_total_at w.hard.jobs a (unit_count w.hard.jobs a) (λ u. at_key (at_index nothing (w.net.histories (party master_id e) (app_id a)) n) (count_key u m)) i ≤ has_at w.cluster m i
-
--- each incarnation that a party knows or a packet names ran at some time, or is 0
-abbrev pub has_run : List Party → Party → Bool
-has_run ran p = nat_eq p.inc 0 || list_any (same_party p) ran
-
-pub record AllRan (ran : List Party) (net : Net Ledger) : Type 0 where
-  pub known : (p : Party) (q : Id) → has_run ran (party q (net.links p q).known) ≡ true
-  pub senders : AllByRecursion (λ x. has_run ran x.from ≡ true) net.packets
-  pub receivers : AllByRecursion (λ x. has_run ran x.to ≡ true) net.packets
 
 -- the greatest number in a demand, by the kind of its key; 0 where it is none
 abbrev pub greatest_in_demand : Key → ℕ
@@ -76,10 +60,6 @@ IsRanged c units d = (k : Key) → is_there c units k ≡ false → at_key d k �
 abbrev pub IsTidy : Ledger → Type 0
 IsTidy d = AreCounts key_cmp greatest_in_demand d.entries
 
--- grants name units of the job
-abbrev pub NamesUnits : ℕ → Ledger → Type 0
-NamesUnits units l = (u m : ℕ) → nat_lt u units ≡ false → at_key l (count_key u m) ≡ 0
-
 -- a row names units of known jobs with their sizes
 abbrev pub IsOfJob : List KnownJob → RowKey → Type 0
 IsOfJob jobs k = (is_known jobs k.job ≡ true) × (k.unit < unit_count jobs k.job) × (k.size ≡ (unit_of jobs k.job k.unit).size)
@@ -100,28 +80,73 @@ pub record IsJob (c : ClusterRecord) (j : JobRecord) : Type 0 where
 abbrev pub AreJobs : ClusterRecord → List KnownJob → Type 0
 AreJobs c jobs = AllByRecursion (λ k. IsJob c k.job) jobs
 
-pub record Written (w : World) : Type 0 where
-  pub backs : (a b n : ℕ) → n + 1 ≤ last w.net (party (app_id a) b) master_id
-      → BacksRise (at_index nothing (w.net.histories (party (app_id a) b) master_id) n) (at_index nothing (w.net.histories (party (app_id a) b) master_id) (n + 1))
-  pub tidy : (a b n : ℕ) → IsTidy (at_index nothing (w.net.histories (party (app_id a) b) master_id) n)
-  pub ranged : (a b n : ℕ) → IsRanged w.cluster (unit_count w.hard.jobs a) (at_index nothing (w.net.histories (party (app_id a) b) master_id) n)
-  pub units : (e a n : ℕ) → NamesUnits (unit_count w.hard.jobs a) (at_index nothing (w.net.histories (party master_id e) (app_id a)) n)
-  pub sizes : (e m n : ℕ) → AllByRecursion (λ r. IsOfJob w.hard.jobs r.0) (at_index nothing (w.net.histories (party master_id e) (agent_id m)) n).rows
+-- Demands one after the other. Where the head is another, nothing is given back
+abbrev pub StartsAnew : Ledger → Ledger → Type 0
+StartsAnew a b = (a.head ≡ b.head → ⊥) → (u m : ℕ) → at_key b (back_key u m) ≡ 0
 
--- A running master's own state
-pub record IsGoodState (c : ClusterRecord) (M : Master) : Type 0 where
-  pub table : AreCounts spot_cmp (λ s. greatest_count) M.table
+-- a history of demands
+pub record DemandsHold (c : ClusterRecord) (units : ℕ) (h : List Ledger) : Type 0 where
+  pub backs : (n : ℕ) → n + 1 ≤ length h → BacksRise (at_index nothing h n) (at_index nothing h (n + 1))
+  pub anew : (n : ℕ) → n + 1 ≤ length h → StartsAnew (at_index nothing h n) (at_index nothing h (n + 1))
+  pub tidy : (n : ℕ) → IsTidy (at_index nothing h n)
+  pub ranged : (n : ℕ) → IsRanged c units (at_index nothing h n)
+
+-- the jobs that are known stay, with their units
+pub record KnowsMore (jobs jobs' : List KnownJob) : Type 0 where
+  pub known : (a : ℕ) → is_known jobs a ≡ true → (is_known jobs' a ≡ true) × (units_of jobs' a ≡ units_of jobs a)
+
+-- Histories of grants
+abbrev pub GrantsFit : ClusterRecord → List KnownJob → ℕ → Ledger → Type 0
+GrantsFit c jobs a l = (n m i : ℕ) → i < c.resources → units_total_at jobs a n (λ u. at_key l (count_key u m)) i ≤ has_at c m i
+
+-- of a job that is not known there is nothing
+abbrev pub NoGrants : List KnownJob → ℕ → Ledger → Type 0
+NoGrants jobs a l = is_known jobs a ≡ false → (u m : ℕ) → at_key l (count_key u m) ≡ 0
+
+-- grants of a job fit each machine, and an unknown job has none
+pub record GrantHolds (c : ClusterRecord) (jobs : List KnownJob) (a : ℕ) (l : Ledger) : Type 0 where
+  pub fits : GrantsFit c jobs a l
+  pub none : NoGrants jobs a l
+
+-- what a master sends: a row fits the machine and is one of known jobs, and grants fit each machine and are in range
+pub record EntryHolds (c : ClusterRecord) (jobs : List KnownJob) (q : Id) (l : Ledger) : Type 0 where
+  pub rows : is_agent q ≡ true → RowsFit c q.number l.rows
+  pub named : is_agent q ≡ true → NamesJobs jobs l.rows
+  pub grants : is_app q ≡ true → GrantHolds c jobs q.number l
+  pub tally : is_app q ≡ true → AreCounts key_cmp (greatest_in_grants c (unit_count jobs q.number)) l.entries
+
+-- what an agent reports fits its machine, and is a row of known jobs
+pub record ReportHolds (c : ClusterRecord) (jobs : List KnownJob) (m : ℕ) (rows : List (RowKey × ℕ)) : Type 0 where
+  pub fits : RowsFit c m rows
+  pub named : NamesJobs jobs rows
+
+-- a table in order with grants of live jobs alone, and no demand and no count among the credits that is not one
+pub record IsInOrder (M : Master) : Type 0 where
+  pub sorted : T (is_sorted spot_cmp M.table)
+  pub alive : AllByRecursion (λ e. is_live M.jobs e.0.job ≡ true) M.table
+  pub empty : (a : ℕ) → is_live M.jobs a ≡ false → demand_of M a ≡ nothing
+  pub plain : (a u m : ℕ) → find key_cmp (count_key u m) (credited_of M a) ≡ None
+
+-- a table whose grants are on reported machines and within what each has
+pub record FitsMachines (c : ClusterRecord) (M : Master) : Type 0 where
   pub fits : (m i : ℕ) → i < c.resources → total_at M.jobs m i M.table ≤ has_at c m i
   pub reported : AllByRecursion (λ e. has_number e.0.machine M.reported ≡ true) M.table
-  pub alive : AllByRecursion (λ e. is_live M.jobs e.0.job ≡ true) M.table
-  pub line : (a u : ℕ) → has_pair (a, u) M.line ≡ nat_lt 0 (out M a u)
-  pub settled : (a u m : ℕ) → placeable c M a u m ≡ false
-  pub empty : (a : ℕ) → is_live M.jobs a ≡ false → demand_of M a ≡ nothing
 
--- what a peer should hold is the last entry of its history, and an agent has a row exactly where its machine is reported
-pub record Shows (c : ClusterRecord) (net : Net Ledger) (M : Master) : Type 0 where
-  pub peers : (q : Id) → talks c M q ≡ true → present net (master_party M) q ≡ projection net M q
-  pub rows : (m : ℕ) → nat_lt 0 (last net (master_party M) (agent_id m)) ≡ has_number m M.reported
+-- the entries that say which machines are reported
+abbrev pub reported_entries : List ℕ → List (Key × ℕ)
+reported_entries ms = map (λ m. (reported_key m, 1)) ms
+
+-- a table with counts in range, machines that are reported in order and of the cluster, demands in range, and credits in range
+pub record IsBounded (c : ClusterRecord) (M : Master) : Type 0 where
+  pub counts : AreCounts spot_cmp (greatest_in_table M.jobs) M.table
+  pub reported : (m : ℕ) → has_number m M.reported ≡ true → has_machine c m ≡ true
+  pub rising : T (is_sorted key_cmp (reported_entries M.reported))
+  pub demands : (a : ℕ) → IsTidy (demand_of M a) × IsRanged c (unit_count M.jobs a) (demand_of M a)
+  pub credits : (a : ℕ) → AreCounts key_cmp (greatest_in_credits c (unit_count M.jobs a)) (credited_of M a)
+
+-- each pair of the line has something out
+abbrev pub AllWait : Master → List (ℕ × ℕ) → Type 0
+AllWait M line = AllByRecursion (λ p. nat_lt 0 (out M p.0 p.1) ≡ true) line
 
 -- what was credited is what is given back at the master's place; with a job that it does not know a master has no place
 pub record IsCredited (net : Net Ledger) (M : Master) : Type 0 where
@@ -129,22 +154,22 @@ pub record IsCredited (net : Net Ledger) (M : Master) : Type 0 where
   pub stranger : (a : ℕ) → is_known M.jobs a ≡ false → (net.links (master_party M) (app_id a)).seq ≡ 0
   pub uncredited : (a : ℕ) → is_known M.jobs a ≡ false → credited_of M a ≡ []
 
--- a master's jobs are the first ones of the hard state, and that of the fence has its jobs, marks and bans
-pub record KnowsJobs (h : HardState) (M : Master) : Type 0 where
-  pub epoch : M.epoch ≤ h.fence
-  pub first : map (λ j. j.job) M.jobs ≡ take (length M.jobs) (map (λ j. j.job) h.jobs)
-  pub marks : M.epoch ≡ h.fence → M.jobs ≡ h.jobs
-  pub bans : M.epoch ≡ h.fence → M.bans ≡ h.bans
+-- a running master of an epoch
+pub record IsShowing (c : ClusterRecord) (hard : HardState) (net : Net Ledger) (e : ℕ) (M : Master) : Type 0 where
+  pub epoch : M.epoch ≡ e
+  pub ran : e ≤ hard.fence
+  pub knows : KnowsMore M.jobs hard.jobs
+  pub tabled : IsInOrder M
+  pub housed : FitsMachines c M
+  pub bounded : IsBounded c M
+  pub waits : AllWait M M.line
+  pub credited : IsCredited net M
+  pub shows : AllByRecursion (λ q. present net (master_party M) q ≡ projection net M q) (peers c M)
 
-pub record IsGoodMaster (w : World) (M : Master) : Type 0 where
-  pub state : IsGoodState w.cluster M
-  pub shows : Shows w.cluster w.net M
-  pub credited : IsCredited w.net M
-  pub jobs : KnowsJobs w.hard M
-
-pub record IsGoodAgent (w : World) (m : ℕ) (g : Agent) : Type 0 where
-  pub joined : HasJoined w.net (party (agent_id m) g.boot)
-  pub boot : g.boot ≡ w.boots (agent_id m)
+-- a running party has joined, and is not above the last boot
+pub record IsJoined (last_boot : ℕ) (net : Net Ledger) (p : Party) : Type 0 where
+  pub ran : p.inc ≤ last_boot
+  pub joined : HasJoined net p
 
 -- a carried record has an origin that is there, with counts at least its own
 pub record HasOrigin (net : Net Ledger) (a m : ℕ) (r : Carried) : Type 0 where
@@ -152,25 +177,42 @@ pub record HasOrigin (net : Net Ledger) (a m : ℕ) (r : Carried) : Type 0 where
   pub there : r.seq ≤ last net (party master_id r.inc) (app_id a)
   pub counts : (u held : ℕ) → slice_get r.held u ≡ Some held → held ≤ at_key (at_index nothing (net.histories (party master_id r.inc) (app_id a)) r.seq) (count_key u m)
 
-pub record IsGoodApp (w : World) (a : ℕ) (g : App) : Type 0 where
-  pub joined : HasJoined w.net (party (app_id a) g.boot)
-  pub boot : g.boot ≡ w.boots (app_id a)
-  pub job : is_known w.hard.jobs a ≡ true
-  pub units : g.units ≡ unit_count w.hard.jobs a
-  pub origins : (m : ℕ) (r : Carried) → find nat_cmp m g.carried ≡ Some r → HasOrigin w.net a m r
+-- each carried record has an origin
+pub record Origins (net : Net Ledger) (a : ℕ) (carried : List (ℕ × Carried)) : Type 0 where
+  pub has : (m : ℕ) (r : Carried) → find nat_cmp m carried ≡ Some r → HasOrigin net a m r
 
--- what ran is not above the last boot or the fence, and what is above has sent nothing
-pub record IsFresh (w : World) : Type 0 where
-  pub ran : AllByRecursion (λ p. p.inc ≤ top w p.id) w.ran
-  pub unstarted : (p : Party) (q : Id) → top w p.id < p.inc → w.net.histories p q ≡ []
+-- a running application is one of a known job, and knows its units
+pub record HasUnits (jobs : List KnownJob) (a : ℕ) (g : App) : Type 0 where
+  pub known : is_known jobs a ≡ true
+  pub units : g.units ≡ unit_count jobs a
 
-pub record Good (w : World) : Type 0 where
-  pub sizes : EntriesFit w
+-- the invariant: what holds of the net, of each running party and of all that was ever sent
+pub record Invariant (w : World) : Type 0 where
   pub sound : Sound shape w.net
-  pub all_ran : AllRan w.ran w.net
-  pub written : Written w
-  pub fresh : IsFresh w
-  pub epochs : (e : ℕ) (M : Master) → find nat_cmp e w.masters ≡ Some M → M.epoch ≡ e
-  pub masters : (e : ℕ) (M : Master) → find nat_cmp e w.masters ≡ Some M → IsGoodMaster w M
-  pub agents : (m : ℕ) (g : Agent) → find nat_cmp m w.agents ≡ Some g → IsGoodAgent w m g
-  pub apps : (a : ℕ) (g : App) → find nat_cmp a w.apps ≡ Some g → IsGoodApp w a g
+  pub unstarted : (p : Party) (q : Id) → top w p.id < p.inc → w.net.histories p q ≡ []
+  pub masters : (e : ℕ) (M : Master) → find nat_cmp e w.masters ≡ Some M → IsShowing w.cluster w.hard w.net e M
+  pub agents : (m : ℕ) (g : Agent) → find nat_cmp m w.agents ≡ Some g → IsJoined (w.boots (agent_id m)) w.net (party (agent_id m) g.boot)
+  pub apps : (a : ℕ) (g : App) → find nat_cmp a w.apps ≡ Some g → IsJoined (w.boots (app_id a)) w.net (party (app_id a) g.boot)
+  pub machines : (m : ℕ) (g : Agent) → find nat_cmp m w.agents ≡ Some g → has_machine w.cluster m ≡ true
+  pub origins : (a : ℕ) (g : App) → find nat_cmp a w.apps ≡ Some g → Origins w.net a g.carried
+  pub units : (a : ℕ) (g : App) → find nat_cmp a w.apps ≡ Some g → HasUnits w.hard.jobs a g
+  pub written : (a b : ℕ) → DemandsHold w.cluster (unit_count w.hard.jobs a) (w.net.histories (party (app_id a) b) master_id)
+  pub entries : (e : ℕ) (q : Id) (n : ℕ) → EntryHolds w.cluster w.hard.jobs q (at_index nothing (w.net.histories (party master_id e) q) n)
+  pub reports : (m b n : ℕ) → ReportHolds w.cluster w.hard.jobs m (at_index nothing (w.net.histories (party (agent_id m) b) master_id) n).rows
+
+-- what is reported are machines of the cluster, and of a unit that a job does not have nothing is wanted
+pub record IsRangedMaster (c : ClusterRecord) (M : Master) : Type 0 where
+  pub reported : (m : ℕ) → has_number m M.reported ≡ true → has_machine c m ≡ true
+  pub wanted : (a u : ℕ) → nat_lt u (unit_count M.jobs a) ≡ false → asked M a (want_key u) ≡ 0
+
+-- a master that rests: its line is exactly the pairs with something out, and nothing is placeable
+pub record IsResting (c : ClusterRecord) (M : Master) : Type 0 where
+  pub ranged : IsRangedMaster c M
+  pub line : (a u : ℕ) → has_pair (a, u) M.line ≡ nat_lt 0 (out M a u)
+  pub settled : (a u m : ℕ) → placeable c M a u m ≡ false
+
+-- Good: what each step keeps
+pub record Good (w : World) : Type 0 where
+  pub jobs : AreJobs w.cluster w.hard.jobs
+  pub stands : Invariant w
+  pub rests : (e : ℕ) (M : Master) → find nat_cmp e w.masters ≡ Some M → IsResting w.cluster M

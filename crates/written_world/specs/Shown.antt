@@ -4,14 +4,13 @@ use Rattle.std.specs.List.{AllByRecursion}
 use Rattle.std.specs.Ordering.{nat_cmp}
 use Rattle.std.specs.FinMap.Entries.{find}
 use Rattle.written_net.specs.Net.{Net, last, at_index}
-use Rattle.written_net.specs.Ledgers.{Ledger, nothing, at_key}
-use Rattle.fuxi_terms.specs.TallyKeys.{back_key}
+use Rattle.written_net.specs.Ledgers.{Ledger, nothing}
 use Rattle.written_net.specs.Channels.{master_id, agent_id, app_id, party, present, HasJoined}
 use Rattle.written_roles.specs.Masters.{Master}
 use Rattle.written_world.specs.World.{World, Agent, App}
 use Rattle.written_roles.specs.MasterSteps.{master_party, peers}
 use Rattle.written_world.specs.Parties.{projection}
-use Rattle.written_world.specs.Good.{BacksRise, IsCredited}
+use Rattle.written_world.specs.Good.{BacksRise, IsCredited, StartsAnew}
 
 -- of a running master what each of its peers should hold, and of an agent and an application a ledger with the epoch that it knows
 pub record AllShown (w : World) : Type 0 where
@@ -22,10 +21,6 @@ pub record AllShown (w : World) : Type 0 where
 -- what each running master credited is what is given back at its places
 abbrev pub AllCredited : World → Type 0
 AllCredited w = (e : ℕ) (M : Master) → find nat_cmp e w.masters ≡ Some M → IsCredited w.net M
-
--- Demands one after the other. Where the head is another, nothing is given back
-abbrev pub StartsAnew : Ledger → Ledger → Type 0
-StartsAnew a b = (a.head ≡ b.head → ⊥) → (u m : ℕ) → at_key b (back_key u m) ≡ 0
 
 -- in all that any application ever sent the master
 pub record AllGiveBacks (net : Net Ledger) : Type 0 where

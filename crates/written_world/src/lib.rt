@@ -4,22 +4,23 @@
 //! contract is a law of the definitions.
 #![tactic(auto)]
 
-ghost use Rattle.std.specs.Prelude.{◌≡◌, ℕ, List};
+ghost use Rattle.std.specs.Prelude.{◌≡◌, ℕ, true, List};
 ghost use Rattle.fuxi_terms.specs.declared.Key.{Key};
-ghost use Rattle.fuxi_terms.specs.Cluster.{ClusterRecord};
+ghost use Rattle.fuxi_terms.specs.Cluster.{ClusterRecord, is_valid_cluster};
 ghost use Rattle.fuxi_terms.specs.Keys.{key_cmp, RowKey, row_cmp, Spot, spot_cmp};
 ghost use Rattle.written_roles.specs.Masters.{Master};
 ghost use Rattle.fuxi_terms.specs.Patching.{PatchedByDifference, TalliesByDifference};
 ghost use Rattle.written_net.specs.Net.{Net, Move, move};
 ghost use Rattle.written_net.specs.Ledgers.{Ledger};
 ghost use Rattle.written_net.specs.Sound.{Bounded, Sound, Allowed};
-ghost use Rattle.written_world.specs.World.{empty_world};
+ghost use Rattle.written_world.specs.World.{World, empty_world};
 ghost use Rattle.written_world.specs.Good.{Good};
 ghost use Rattle.written_net.specs.Channels.{shape};
 ghost use Rattle.written_world.specs.Shown.{AllShown, AllCredited, AllGiveBacks};
 ghost use Rattle.written_world.specs.Credits.{AllCreditedOnce};
 ghost use Rattle.written_world.specs.Safe.{Safe};
-ghost use Rattle.written_world.specs.Events.{Event};
+ghost use Rattle.written_world.specs.Events.{Event, world_step};
+ghost use Rattle.written_world.specs.Lines.{IsInput, is_from_line};
 ghost use Rattle.written_world.specs.Runs.{run};
 
 /// Patching with the difference gives the second value, and only the difference does: for entries by key,
@@ -50,6 +51,14 @@ pub fn nothing_is_past_its_end()
 /// The empty world is good.
 pub fn good_at_start()
     ensures { (c : ClusterRecord) → Good (empty_world c) }
+{}
+
+/// Good is the invariant: each event that a line can give keeps it, on a valid cluster (`kept`), so it holds in every
+/// state to which an input leads (`always`), and whatever is good is safe (`safe`).
+pub fn every_event_keeps_good()
+    ensures kept { (w : World) (e : Event) → is_valid_cluster w.cluster ≡ true → is_from_line e ≡ true → Good w → Good (world_step w e).world }
+    ensures always { (c : ClusterRecord) (events : List Event) → IsInput c events → Good (run c events) }
+    ensures safe { (w : World) → Good w → Safe w }
 {}
 
 /// In every state the net is sound: each place, acknowledged index and packet names an entry that is there, made

@@ -1,4 +1,4 @@
-use Rattle.written_world.proofs.GoodAtStart.{good_at_start}
+use Rattle.written_world.proofs.GoodKept.{good_at_start}
 use Rattle.written_world.proofs.good_at_start.Goals as goal
 
 pub returns : goal.returns
