@@ -2,12 +2,13 @@
 
 ghost use Rattle.std.specs.Prelude.{◌≡◌, IfOk, Ok};
 ghost use Rattle.fuxi_terms.specs.Counts.{then_do};
+ghost use Rattle.ledger_cases.specs.Histories.{HaveHistory};
 
 use crate::body::body_of;
 use crate::ledgers::Told;
 use crate::stop::Stop;
-use delta_channel::{Place, Receiver, Sender, Stamp, Verdict};
-use ledger_law::{BodyFault, LedgerFault};
+use delta_channel::{Place, Receiver, Sender, Stamp};
+use ledger_law::{Ledger, LedgerFault};
 use party_ledgers::{Demand, Grants, JoinLedger, RowLedger};
 use std::alloc::Global;
 
@@ -23,10 +24,16 @@ fn stamp_of(full: bool, seq: u64) -> Stamp
     }
 }
 
-// What a receiver has after two changes were posted, of which the first came as the whole ledger and the second
-// as a change: what both make of the ledger with no entry.
-fn relay<L: Told>(alloc: Global, first: L::Delta, second: L::Delta) -> Result<L, LedgerFault>
-    ensures { IfOk result (λ received. then_do (L.patched L.nothing first) (λ one. L.patched one second) ≡ Ok received) }
+// Both ends after two changes were posted, of which the first came as the whole ledger and the second as a
+// change. Both stand for one history, and the receiver has come to its end.
+fn carry<L: Ledger>(
+    alloc: Global,
+    first: L::Delta,
+    second: L::Delta,
+) -> Result<(Sender<L>, Receiver<L>), LedgerFault>
+    ensures present { IfOk result (λ ends. then_do (L.patched L.nothing first) (λ one. L.patched one second) ≡ Ok ends.0.present) }
+    ensures place { IfOk result (λ ends. ends.1.place.seq ≡ ends.0.last) }
+    ensures history { IfOk result (λ ends. HaveHistory L.nothing L.patched ends.0 ends.1) }
 {
     let mut sender = Sender::<L>::start(alloc, 1)?;
     let mut receiver = Receiver::<L>::start(alloc, 2);
@@ -37,6 +44,14 @@ fn relay<L: Told>(alloc: Global, first: L::Delta, second: L::Delta) -> Result<L,
     sender.post(alloc, second)?;
     let change = sender.kept(2);
     receiver.take_delta(alloc, &stamp_of(false, 2), change)?;
+    Ok((sender, receiver))
+}
+
+// What the receiver has then: what both changes make of the ledger with no entry.
+fn relay<L: Ledger>(alloc: Global, first: L::Delta, second: L::Delta) -> Result<L, LedgerFault>
+    ensures { IfOk result (λ received. then_do (L.patched L.nothing first) (λ one. L.patched one second) ≡ Ok received) }
+{
+    let (_sender, receiver) = carry::<L>(alloc, first, second)?;
     Ok(receiver.ledger().copy(alloc)?)
 }
 
