@@ -1,0 +1,121 @@
+-- What a placer keeps of a unit is what a table that is level with it has.
+use Rattle.std.proofs.Common.{◌≡◌, ℕ, zero, suc, ◌<◌, ◌≤◌, Bool, true, false, cond, not, nat_eq, nat_lt, List, [], ◌∷◌, length, get_or, map, refl, sym, ◌∙◌, ap, subst, arith}
+use Rattle.std.specs.Prelude.{Option, Some, None, slice_get, IsTrue, ◌&&◌}
+use Rattle.std.specs.Option.{option_map, unwrap_or}
+use Rattle.std.specs.List.{list_all}
+use Rattle.std.proofs.lemmas.Bool.Decides.{nat_tests}
+use Rattle.std.proofs.lemmas.List.{length-map, get_or-map, get_or_default}
+use Rattle.fuxi_terms.specs.Cluster.{ClusterRecord, MachineRecord, GroupRecord, is_vector_of, JobRecord, UnitRecord, is_valid_cluster, is_valid_machine, is_valid_group, is_between, limit_at, no_group, no_machine, rack_of}
+use Rattle.fuxi_terms.specs.Vectors.{at_place}
+use Rattle.std.proofs.Math.ListN.{get_or-eq_default}
+use Rattle.fuxi_terms.proofs.ByPlace.{at_place-get_or}
+use Rattle.place_pass.specs.declared.wishes.Wish.{Wish}
+use Rattle.cluster_desc.specs.declared.cluster.Machine.{Machine}
+use Rattle.cluster_desc.specs.Records.{machine_of as padded_machine}
+use Rattle.fuxi_terms.specs.Jobs.{KnownJob, job_of, units_of, unit_of, unit_count, group_of, no_unit}
+use Rattle.grant_table.specs.Tables.{TableRecord, as_known, AreJobs}
+use Rattle.place_pass.specs.Cells.{Cell, cell_of, cell_at, no_cell, job_in, job_at, AreWishes}
+use Rattle.place_pass.specs.Placers.{AreLevel}
+use Rattle.fuxi_terms.proofs.Booleans.{both_true, number_is}
+
+units_of_cells : (a : ℕ) (xs : List Cell) → unwrap_or (option_map (λ (j : JobRecord). j.units) (job_in a xs)) [] ≡ map (λ (x : Cell). x.unit) xs
+units_of_cells a [] = refl
+units_of_cells a (x ∷ xs) = refl
+
+units_by : (o : Option KnownJob) → unwrap_or (option_map (λ (j : JobRecord). j.units) (option_map (λ (k : KnownJob). k.job) o)) [] ≡ unwrap_or (option_map (λ (k : KnownJob). k.job.units) o) []
+units_by None = refl
+units_by (Some k) = refl
+
+group_by : (o : Option KnownJob) → unwrap_or (option_map (λ (j : JobRecord). j.group) (option_map (λ (k : KnownJob). k.job) o)) 0 ≡ unwrap_or (option_map (λ (k : KnownJob). k.job.group) o) 0
+group_by None = refl
+group_by (Some k) = refl
+
+module _ (c : ClusterRecord) (cells : List (List Cell)) (t : TableRecord) (l : AreLevel c (job_at cells) t) where
+  pub units_are : (a : ℕ) → map (λ (x : Cell). x.unit) (get_or cells a []) ≡ units_of (as_known t.jobs) a
+  units_are a = sym (units_of_cells a (get_or cells a [])) ∙ ap (λ o. unwrap_or (option_map (λ (j : JobRecord). j.units) o) []) (l.jobs_are a) ∙ units_by (job_of (as_known t.jobs) a)
+
+  pub count_is : (a : ℕ) → length (get_or cells a []) ≡ unit_count (as_known t.jobs) a
+  count_is a = sym (length-map (get_or cells a []) (λ (x : Cell). x.unit)) ∙ ap length (units_are a)
+
+  pub unit_is : (a u : ℕ) → u < length (get_or cells a []) → (cell_at cells a u).unit ≡ unit_of (as_known t.jobs) a u
+  unit_is a u lt = sym (get_or-map (λ (x : Cell). x.unit) (get_or cells a []) u no_cell no_unit lt) ∙ ap (λ us. get_or us u no_unit) (units_are a) ∙ got (units_of (as_known t.jobs) a) u
+    where
+      got : (us : List UnitRecord) (u : ℕ) → get_or us u no_unit ≡ unwrap_or (slice_get us u) no_unit
+      got [] u = refl
+      got (x ∷ xs) zero = refl
+      got (x ∷ xs) (suc u) = got xs u
+
+  pub group_is : (o : List Bool) → AreWishes c cells o → (a u : ℕ) → u < length (get_or cells a []) → (cell_at cells a u).group ≡ group_of (as_known t.jobs) a
+  group_is o w a u lt = (w.unit a u lt).group ∙ first (get_or cells a []) (omega (arith, lt)) ∙ ap (λ o. unwrap_or (option_map (λ (j : JobRecord). j.group) o) 0) (l.jobs_are a) ∙ group_by (job_of (as_known t.jobs) a)
+    where
+      first : (xs : List Cell) → 0 < length xs → (get_or xs 0 no_cell).group ≡ unwrap_or (option_map (λ (j : JobRecord). j.group) (job_in a xs)) 0
+      first [] s = absurd (omega (arith, s))
+      first (x ∷ xs) s = refl
+
+-- ---- what a valid cluster and valid jobs say
+pub few_machines : (c : ClusterRecord) → IsTrue (is_valid_cluster c) → length c.machines ≤ 256
+few_machines c v =
+    let rest : (is_between 1 256 (length c.machines) && (list_all (is_valid_machine c.resources) c.machines && (is_between 1 32 (length c.groups) && list_all (is_valid_group c.resources) c.groups))) ≡ true = (both_true (is_between 1 8 c.resources) _ v).1 in
+    let b : is_between 1 256 (length c.machines) ≡ true = (both_true (is_between 1 256 (length c.machines)) _ rest).0 in
+    let most : not (nat_lt 256 (length c.machines)) ≡ true = (both_true (not (nat_lt (length c.machines) 1)) _ b).1 in
+    grind (arith, nat_tests, most)
+
+pub rack_small : (c : ClusterRecord) → IsTrue (is_valid_cluster c) → (m : ℕ) → m < length c.machines → rack_of c m < 64
+rack_small c v m lt =
+    let rest : (is_between 1 256 (length c.machines) && (list_all (is_valid_machine c.resources) c.machines && (is_between 1 32 (length c.groups) && list_all (is_valid_group c.resources) c.groups))) ≡ true = (both_true (is_between 1 8 c.resources) _ v).1 in
+    let all : list_all (is_valid_machine c.resources) c.machines ≡ true = (both_true (list_all (is_valid_machine c.resources) c.machines) _ (both_true (is_between 1 256 (length c.machines)) _ rest).1).0 in
+    let t : nat_lt (rack_of c m) 64 ≡ true = (both_true (nat_lt (rack_of c m) 64) _ (at c.machines m all lt)).0 in
+    grind (arith, nat_tests, t)
+  where
+    at : (ms : List MachineRecord) (m : ℕ) → list_all (is_valid_machine c.resources) ms ≡ true → m < length ms → is_valid_machine c.resources (unwrap_or (slice_get ms m) no_machine) ≡ true
+    at [] m h lt = absurd (omega (arith, lt))
+    at (x ∷ xs) zero h lt = (both_true (is_valid_machine c.resources x) (list_all (is_valid_machine c.resources) xs) h).0
+    at (x ∷ xs) (suc m) h lt = at xs m (both_true (is_valid_machine c.resources x) (list_all (is_valid_machine c.resources) xs) h).1 (omega (arith, lt))
+
+-- the group of a job that is there is below 32
+pub group_small : (js : List JobRecord) → AreJobs js → (a : ℕ) → group_of (as_known js) a < 32
+group_small [] h a = omega arith
+group_small (j ∷ js) h a =
+    let t : nat_lt j.group 32 ≡ true = (both_true (nat_lt j.group 32) _ (both_true (nat_lt j.number 256) _ h.0).1).0 in
+    let here : j.group < 32 = grind (arith, nat_tests, t) in
+    by (nat_eq j.number a) here (group_small js h.1.1 a)
+  where
+    by : (b : Bool) → j.group < 32 → group_of (as_known js) a < 32 → unwrap_or (option_map (λ (k : KnownJob). k.job.group) (cond b (Some (record { job = j; ended = false })) (job_of (as_known js) a))) 0 < 32
+    by true x y = x
+    by false x y = y
+
+-- a group may have nothing of a resource that the cluster does not have
+pub limit_past : (c : ClusterRecord) → IsTrue (is_valid_cluster c) → (g i : ℕ) → c.resources ≤ i → limit_at c g i ≡ 0
+limit_past c v g i le =
+    let rest : (is_between 1 256 (length c.machines) && (list_all (is_valid_machine c.resources) c.machines && (is_between 1 32 (length c.groups) && list_all (is_valid_group c.resources) c.groups))) ≡ true = (both_true (is_between 1 8 c.resources) _ v).1 in
+    let two : (is_between 1 32 (length c.groups) && list_all (is_valid_group c.resources) c.groups) ≡ true = (both_true (list_all (is_valid_machine c.resources) c.machines) _ (both_true (is_between 1 256 (length c.machines)) _ rest).1).1 in
+    by c.groups g (both_true (is_between 1 32 (length c.groups)) _ two).1
+  where
+    none : (qs : List ℕ) → is_vector_of c.resources qs ≡ true → at_place qs i ≡ 0
+    none qs h =
+        let t : nat_eq (length qs) c.resources ≡ true = (both_true (nat_eq (length qs) c.resources) _ h).0 in
+        let n : length qs ≡ c.resources = number_is _ _ t in
+        at_place-get_or qs i ∙ get_or-eq_default qs 0 (omega (arith, n, le))
+
+    by : (gs : List GroupRecord) (g : ℕ) → list_all (is_valid_group c.resources) gs ≡ true → at_place (unwrap_or (slice_get gs g) no_group).limit i ≡ 0
+    by [] g h = refl
+    by (x ∷ xs) zero h = none x.limit (both_true (is_vector_of c.resources x.limit) _ (both_true (is_vector_of c.resources x.quota) _ (both_true (is_valid_group c.resources x) _ h).0).1).0
+    by (x ∷ xs) (suc g) h = by xs g (both_true (is_valid_group c.resources x) _ h).1
+
+-- ---- what is read of a unit
+module _ (w : Wish) (x : Cell) (cell : cell_of w ≡ x) (i y : ℕ) where
+  pub near_read : i < length w.near.items → y ≡ get_or w.near.items i y → y ≡ get_or x.near i 0
+  near_read lt e = e ∙ get_or_default w.near.items i y 0 lt ∙ ap (λ (z : Cell). get_or z.near i 0) cell
+
+  pub rack_read : i < length w.racks.items → y ≡ get_or w.racks.items i y → y ≡ get_or x.racks i 0
+  rack_read lt e = e ∙ get_or_default w.racks.items i y 0 lt ∙ ap (λ (z : Cell). get_or z.racks i 0) cell
+
+  pub avoided_read : i < length w.avoided.items → y ≡ get_or w.avoided.items i y → y ≡ get_or x.avoided i 0
+  avoided_read lt e = e ∙ get_or_default w.avoided.items i y 0 lt ∙ ap (λ (z : Cell). get_or z.avoided i 0) cell
+
+pub rack_is : (ms : List MachineRecord) (m : ℕ) (x : Machine) → option_map padded_machine (slice_get ms m) ≡ Some x → x.rack.0 ≡ (unwrap_or (slice_get ms m) no_machine).rack
+rack_is ms m x e = by (slice_get ms m) e
+  where
+    by : (o : Option MachineRecord) → option_map padded_machine o ≡ Some x → x.rack.0 ≡ (unwrap_or o no_machine).rack
+    by None e = cc
+    by (Some r) e = let same : padded_machine r ≡ x = cc in subst (λ (y : Machine). y.rack.0 ≡ r.rack) same refl

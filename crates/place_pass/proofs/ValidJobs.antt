@@ -1,0 +1,31 @@
+-- What a valid job says of its numbers.
+use Rattle.std.proofs.Common.{◌≡◌, ℕ, zero, suc, ◌<◌, ◌≤◌, true, not, nat_lt, nat_eq, List, [], ◌∷◌, length, get_or, arith}
+use Rattle.std.specs.Prelude.{IsTrue}
+use Rattle.std.specs.List.{list_all}
+use Rattle.std.proofs.lemmas.Bool.Decides.{nat_tests}
+use Rattle.fuxi_terms.specs.Cluster.{JobRecord, UnitRecord, is_valid_job, is_valid_unit, is_between, is_vector_of, is_priority}
+use Rattle.fuxi_terms.specs.Jobs.{no_unit}
+use Rattle.fuxi_terms.proofs.Booleans.{both_true, number_is}
+
+pub job_small : (j : JobRecord) → IsTrue (is_valid_job 8 j) → j.number < 256
+job_small j v = let t : nat_lt j.number 256 ≡ true = (both_true (nat_lt j.number 256) _ v).0 in grind (arith, nat_tests, t)
+
+units_between : (j : JobRecord) → IsTrue (is_valid_job 8 j) → is_between 1 8 (length j.units) ≡ true
+units_between j v = (both_true (is_between 1 8 (length j.units)) _ (both_true (nat_lt j.group 32) _ (both_true (nat_lt j.number 256) _ v).1).1).0
+
+pub units_few : (j : JobRecord) → IsTrue (is_valid_job 8 j) → length j.units ≤ 8
+units_few j v = let t : not (nat_lt 8 (length j.units)) ≡ true = (both_true (not (nat_lt (length j.units) 1)) _ (units_between j v)).1 in grind (arith, nat_tests, t)
+
+pub units_some : (j : JobRecord) → IsTrue (is_valid_job 8 j) → 1 ≤ length j.units
+units_some j v = let t : not (nat_lt (length j.units) 1) ≡ true = (both_true (not (nat_lt (length j.units) 1)) _ (units_between j v)).0 in grind (arith, nat_tests, t)
+
+pub sizes_eight : (j : JobRecord) → IsTrue (is_valid_job 8 j) → (u : ℕ) → u < length j.units → length (get_or j.units u no_unit).size ≡ 8
+sizes_eight j v u lt = at j.units u (both_true (is_between 1 8 (length j.units)) _ (both_true (nat_lt j.group 32) _ (both_true (nat_lt j.number 256) _ v).1).1).1 lt
+  where
+    at : (us : List UnitRecord) (u : ℕ) → list_all (is_valid_unit 8) us ≡ true → u < length us → length (get_or us u no_unit).size ≡ 8
+    at [] u h lt = absurd (omega (arith, lt))
+    at (x ∷ xs) zero h lt =
+        let b = both_true (is_valid_unit 8 x) (list_all (is_valid_unit 8) xs) h in
+        let w = (both_true (is_vector_of 8 x.size) _ (both_true (is_priority x.priority) _ b.0).1).0 in
+        number_is _ _ (both_true (nat_eq (length x.size) 8) _ w).0
+    at (x ∷ xs) (suc u) h lt = at xs u (both_true (is_valid_unit 8 x) (list_all (is_valid_unit 8) xs) h).1 (omega (arith, lt))

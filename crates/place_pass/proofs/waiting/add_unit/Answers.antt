@@ -1,0 +1,9 @@
+use Rattle.std.proofs.Common.{arith}
+use Rattle.place_pass.proofs.Lining.{room_left}
+use Rattle.place_pass.proofs.waiting.add_unit.Goals as goal
+
+pub push-requires-clause-room : goal.push-requires-clause-room
+push-requires-clause-room c =
+    let r = room_left c.args.wishes.now.cells c.args.next.now.pairs c.args.app.0 c.args.unit.0 c.requires.admitted c.distinct.ensures c.requires.new c.requires.unit in
+    let m = c.requires.room in
+    omega (arith, r, m)

@@ -1,0 +1,73 @@
+use Rattle.std.proofs.Common.{◌≡◌, ℕ, ◌-◌, Bool, true, false, not, nat_lt, [], length, get_or, refl, sym, ◌∙◌, ap, arith}
+use Rattle.std.specs.Prelude.{◌&&◌}
+use Rattle.std.proofs.lemmas.Bool.Decides.{nat_tests}
+use Rattle.fuxi_terms.specs.Cluster.{ClusterRecord, UnitRecord}
+use Rattle.fuxi_terms.specs.Jobs.{size_at}
+use Rattle.written_roles.specs.Placing.{has_room_in}
+use Rattle.grant_table.specs.Tables.{as_known}
+use Rattle.fuxi_terms.specs.Vectors.{at_place}
+use Rattle.fuxi_terms.proofs.ByPlace.{at_place-get_or}
+use Rattle.fuxi_terms.specs.declared.vectors.Res.{Res}
+use Rattle.place_pass.specs.Best.{parts_of}
+use Rattle.fuxi_terms.specs.Cluster.{has_at}
+use Rattle.fuxi_terms.specs.Tables.{total_at}
+use Rattle.place_pass.specs.Cells.{Cell, cell_at}
+use Rattle.place_pass.proofs.Levels.{avoided_read, unit_is}
+use Rattle.place_pass.proofs.Rooms.{room_is}
+use Rattle.place_pass.proofs.Places.{mapped_at}
+use Rattle.place_pass.proofs.wishes.Wishes.takes.Goals as goal
+
+pub index-requires : goal.index-requires
+index-requires c =
+    let w = (c.wish-wish.ensures.sound.unit c.args.app.0 c.args.unit.0 c.requires.unit).avoided in
+    let n = ap (λ (x : Cell). length x.avoided) c.wish-wish.ensures.cell in
+    let m = ap (λ (x : ClusterRecord). length x.machines) c.requires.level.cluster_is in
+    let v = c.wish-wish.result.now.avoided in
+    let l = c.requires.machine in
+    omega (arith, w, n, m, l)
+
+pub returns-then-index-gt0 : goal.returns-then-index-gt0
+returns-then-index-gt0 c =
+    let t = c.args.table.now in
+    let a = c.args.app.0 in let u = c.args.unit.0 in let m = c.args.machine.0 in
+    let w = (c.wish-wish.ensures.sound.unit a u c.requires.unit).avoided in
+    let n = ap (λ (x : Cell). length x.avoided) c.wish-wish.ensures.cell in
+    let k = ap (λ (x : ClusterRecord). length x.machines) c.requires.level.cluster_is in
+    let l = c.requires.machine in
+    let read = avoided_read c.wish-wish.result.now (cell_at c.args.self.now.cells a u) c.wish-wish.ensures.cell m c.index.result.now (omega (arith, w, n, k, l)) c.index.ensures in
+    let some = c.if-index-gt0.true in
+    let test : nat_lt 0 (get_or (cell_at c.args.self.now.cells a u).avoided m 0) ≡ true = grind (arith, nat_tests, read, some) in
+    none (get_or c.args.self.now.opened m false) (nat_lt 0 (get_or (cell_at c.args.self.now.cells a u).avoided m 0)) (has_room_in t.cluster (size_at (as_known t.jobs)) t.entries a u m) test
+  where
+    none : (o b r : Bool) → b ≡ true → false ≡ ((o && not b) && r)
+    none true true r e = refl
+    none false true r e = refl
+    none o false r e = cc
+
+pub returns : goal.returns
+returns c =
+    let t = c.args.table.now in
+    let a = c.args.app.0 in let u = c.args.unit.0 in let m = c.args.machine.0 in
+    let w = (c.wish-wish.ensures.sound.unit a u c.requires.unit).avoided in
+    let n = ap (λ (x : Cell). length x.avoided) c.wish-wish.ensures.cell in
+    let k = ap (λ (x : ClusterRecord). length x.machines) c.requires.level.cluster_is in
+    let l = c.requires.machine in
+    let read = avoided_read c.wish-wish.result.now (cell_at c.args.self.now.cells a u) c.wish-wish.ensures.cell m c.index.result.now (omega (arith, w, n, k, l)) c.index.ensures in
+    let le = c.if-index-gt0.false in
+    let test : nat_lt 0 (get_or (cell_at c.args.self.now.cells a u).avoided m 0) ≡ false = grind (arith, nat_tests, read, le) in
+    let opened : get_or c.args.self.now.opened m false ≡ true = sym c.is_open.ensures ∙ c.if-not-is_open.false in
+    let is = ap (λ (x : Cell). x.unit.size) c.wish-wish.ensures.cell ∙ ap (λ (x : UnitRecord). x.size) (unit_is c.args.self.now.cluster c.args.self.now.cells t c.requires.level a u c.requires.unit) in
+    let eight = (c.wish-wish.ensures.sound.unit a u c.requires.unit).size in
+    let long = ap (λ (x : Cell). length x.unit.size) c.wish-wish.ensures.cell in
+    let part = λ (i : ℕ). c.requires.free m i c.requires.machine opened in
+    let d : Res = record { q = [] } in
+    let free = (get_or c.args.parts.now m d).q in
+    let mapped : get_or (parts_of c.args.parts.now) m [] ≡ free = mapped_at (λ (r : Res). r.q) c.args.parts.now m d [] refl in
+    let left : (i : ℕ) → at_place free i ≡ has_at t.cluster m i - total_at (as_known t.jobs) m i t.entries = λ i. at_place-get_or free i ∙ ap (λ xs. get_or xs i 0) (sym mapped) ∙ (part i).free in
+    c.fits.ensures ∙ room_is t a u c.wish-wish.result.now.size.q is (omega (arith, eight, long)) m free c.requires.narrow left (λ i. (part i).fits)
+    ∙ both (get_or c.args.self.now.opened m false) (nat_lt 0 (get_or (cell_at c.args.self.now.cells a u).avoided m 0)) (has_room_in t.cluster (size_at (as_known t.jobs)) t.entries a u m) opened test
+  where
+    both : (o b r : Bool) → o ≡ true → b ≡ false → r ≡ ((o && not b) && r)
+    both true false r e f = refl
+    both true true r e f = cc
+    both false b r e f = cc

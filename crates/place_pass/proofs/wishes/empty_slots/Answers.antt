@@ -1,0 +1,10 @@
+use Rattle.std.proofs.Common.{[], ◌∷◌, ◌++◌, map, sym, ◌∙◌, ap}
+use Rattle.std.proofs.lemmas.List.{map-append}
+use Rattle.place_pass.specs.Cells.{cell_of, cells_in}
+use Rattle.place_pass.proofs.Places.{repeated_last}
+use Rattle.place_pass.proofs.wishes.empty_slots.Goals as goal
+
+pub loop-preserved : goal.loop-preserved
+loop-preserved c =
+    ap (map cells_in) c.in_ok-push.ensures.items ∙ map-append cells_in c.loop.slots.items _
+    ∙ (λ i. c.loop.invariant i ++ map cell_of (c.new.ensures.items i) ∷ []) ∙ sym (repeated_last c.loop.counter [])

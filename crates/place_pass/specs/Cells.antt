@@ -1,0 +1,109 @@
+-- What the program keeps of one unit, and what is asked at a key.
+use Rattle.std.specs.Prelude.{◌≡◌, ℕ, ◌+◌, ◌<◌, ◌≤◌, Bool, cond, nat_eq, List, [], ◌∷◌, length, map, replicate, Option, Some, None}
+use Rattle.std.specs.Global.{Vec}
+use Rattle.std.proofs.Common.{get_or}
+use Rattle.fuxi_terms.specs.Cluster.{ClusterRecord, JobRecord, UnitRecord, has_rack}
+use Rattle.fuxi_terms.specs.declared.Key.{Key}
+use Rattle.fuxi_terms.specs.Keys.{key_cmp}
+use Rattle.fuxi_terms.specs.Counts.{count}
+use Rattle.fuxi_terms.specs.TallyKeys.{key, want_key, rack_key}
+use Rattle.fuxi_terms.specs.Lists.{below}
+use Rattle.fuxi_terms.specs.Jobs.{no_unit}
+use Rattle.place_pass.specs.declared.wishes.Wish.{Wish}
+
+-- the unit and its group; how many grants are wanted in all, by machine and by rack; and by machine, 1 where it is avoided
+pub record Cell : Type 0 where
+  pub unit : UnitRecord
+  pub group : ℕ
+  pub want : ℕ
+  pub near : List ℕ
+  pub racks : List ℕ
+  pub avoided : List ℕ
+
+abbrev pub cell_of : Wish → Cell
+cell_of w = record { unit = record { priority = w.priority; size = w.size.q }; group = w.group.0; want = w.want; near = w.near.items; racks = w.racks.items; avoided = w.avoided.items }
+
+abbrev pub cells_in : Vec Wish → List Cell
+cells_in v = map cell_of v.items
+
+abbrev pub cells_of : List (Vec Wish) → List (List Cell)
+cells_of slots = map cells_in slots
+
+abbrev pub no_cell : Cell
+no_cell = record { unit = no_unit; group = 0; want = 0; near = []; racks = []; avoided = [] }
+
+abbrev pub cell_at : List (List Cell) → ℕ → ℕ → Cell
+cell_at cells a u = get_or (get_or cells a []) u no_cell
+
+-- what is asked at a key of this unit
+abbrev pub asks_at : Cell → Key → ℕ
+asks_at x k =
+    cond (nat_eq k.what 1) (cond (nat_eq k.number 0) x.want 0)
+    (cond (nat_eq k.what 2) (get_or x.near k.number 0)
+    (cond (nat_eq k.what 3) (get_or x.racks k.number 0)
+    (cond (nat_eq k.what 4) (get_or x.avoided k.number 0) 0)))
+
+-- the job that cells stand for: none where there is no unit
+abbrev pub job_in : ℕ → List Cell → Option JobRecord
+job_in a [] = None
+job_in a (x ∷ xs) = Some (record { number = a; group = x.group; units = map (λ (x : Cell). x.unit) (x ∷ xs) })
+
+-- a unit of which nothing is asked
+abbrev pub fresh_cell : ℕ → ℕ → UnitRecord → Cell
+fresh_cell g machines u = record { unit = u; group = g; want = 0; near = replicate machines 0; racks = replicate 64 0; avoided = replicate machines 0 }
+
+abbrev pub fresh_cells : ℕ → ℕ → List UnitRecord → List Cell
+fresh_cells g machines us = map (fresh_cell g machines) us
+
+-- the numbers of a demand at the machines, and at the racks in which a machine stands
+abbrev pub numbers_at : List (Key × ℕ) → ℕ → ℕ → ℕ → List ℕ
+numbers_at es what u machines = map (λ m. count key_cmp es (key what u m)) (below machines)
+
+abbrev pub racks_at : ClusterRecord → List (Key × ℕ) → ℕ → List ℕ
+racks_at c es u = map (λ r. cond (has_rack c r) (count key_cmp es (rack_key u r)) 0) (below 64)
+
+-- a unit that a demand is taken over for
+abbrev pub taken : ClusterRecord → List (Key × ℕ) → ℕ → Cell → Cell
+taken c es u x = record {
+  unit = x.unit;
+  group = x.group;
+  want = count key_cmp es (want_key u);
+  near = numbers_at es 2 u (length c.machines);
+  racks = racks_at c es u;
+  avoided = numbers_at es 4 u (length c.machines);
+}
+
+-- each unit of a job, from a number on
+abbrev pub taken_all : ClusterRecord → List (Key × ℕ) → ℕ → List Cell → List Cell
+taken_all c es u [] = []
+taken_all c es u (x ∷ xs) = taken c es u x ∷ taken_all c es (u + 1) xs
+
+-- what is asked at each key of each job, and the job of each number, where there is one
+abbrev pub asks_in : List (List Cell) → ℕ → Key → ℕ
+asks_in cells a k = asks_at (cell_at cells a k.unit) k
+
+abbrev pub job_at : List (List Cell) → ℕ → Option JobRecord
+job_at cells a = job_in a (get_or cells a [])
+
+-- what the wishes stand for: the cluster, the units by job number and unit, and whether each machine is open
+pub record WishesRecord : Type 0 where
+  pub cluster : ClusterRecord
+  pub cells : List (List Cell)
+  pub opened : List Bool
+
+abbrev pub wishes_record : ClusterRecord → List (Vec Wish) → List Bool → WishesRecord
+wishes_record c slots open_machines = record { cluster = c; cells = cells_of slots; opened = open_machines }
+
+-- a unit has a place for each machine and rack, and is of the group of its job
+pub record IsWish (c : ClusterRecord) (first : Cell) (x : Cell) : Type 0 where
+  pub group : x.group ≡ first.group
+  pub size : length x.unit.size ≡ 8
+  pub near : length x.near ≡ length c.machines
+  pub racks : length x.racks ≡ 64
+  pub avoided : length x.avoided ≡ length c.machines
+
+pub record AreWishes (c : ClusterRecord) (cells : List (List Cell)) (open_machines : List Bool) : Type 0 where
+  pub places : length cells ≡ 256
+  pub few : (a : ℕ) → length (get_or cells a []) ≤ 8
+  pub unit : (a u : ℕ) → u < length (get_or cells a []) → IsWish c (cell_at cells a 0) (cell_at cells a u)
+  pub opened : length open_machines ≡ length c.machines

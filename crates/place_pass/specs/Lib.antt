@@ -1,0 +1,4 @@
+pub mod Cells
+pub mod Placers
+pub mod Lines
+pub mod Best

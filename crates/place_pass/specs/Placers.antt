@@ -1,0 +1,118 @@
+-- What a placer stands for, and when it is level with a table.
+use Rattle.std.specs.Prelude.{◌≡◌, ℕ, ◌≤◌, ◌<◌, Bool, true, false, cond, not, nat_eq, nat_lt, ◌&&◌, List, [], length, filter, Option}
+use Rattle.std.specs.Option.{option_map}
+use Rattle.std.proofs.Common.{get_or}
+use Rattle.fuxi_terms.specs.Cluster.{ClusterRecord, JobRecord, has_rack}
+use Rattle.fuxi_terms.specs.declared.Key.{Key}
+use Rattle.fuxi_terms.specs.Keys.{Spot, key_cmp, spot_cmp}
+use Rattle.fuxi_terms.specs.Counts.{count, set_count}
+use Rattle.fuxi_terms.specs.TallyKeys.{avoid_key}
+use Rattle.fuxi_terms.specs.Jobs.{KnownJob, job_of, job_numbers, unit_count, priority_of, size_at, group_of}
+use Rattle.written_roles.specs.Masters.{out_of}
+use Rattle.written_roles.specs.Placing.{Board, waiting_in, has_pair}
+use Rattle.std.specs.List.{AllByRecursion}
+use Rattle.grant_table.specs.Tables.{TableRecord, IsSound, as_known}
+use Rattle.place_pass.specs.Lines.{LineRecord, units_in_all}
+use Rattle.place_pass.specs.Cells.{Cell, WishesRecord, asks_in, job_at}
+
+-- what a placer was told: the cluster, the admitted units with what is asked of each, by job number and unit, whether each machine is
+-- open, the line of waiting pairs, and the number that the next pair of the line gets
+pub record SeenRecord : Type 0 where
+  pub cluster : ClusterRecord
+  pub cells : List (List Cell)
+  pub opened : List Bool
+  pub line : List (ℕ × ℕ)
+  pub turns : ℕ
+
+pub record PlacerRecord : Type 0 where
+  pub seen : SeenRecord
+
+-- of what was told: the admitted job of a number, where there is one, what is asked at each key of a job, and whether a machine is open
+abbrev pub job_seen : SeenRecord → ℕ → Option JobRecord
+job_seen s a = job_at s.cells a
+
+abbrev pub asks_seen : SeenRecord → ℕ → Key → ℕ
+asks_seen s a k = asks_in s.cells a k
+
+abbrev pub is_open : SeenRecord → ℕ → Bool
+is_open s m = get_or s.opened m false
+
+-- how many units of a job are admitted
+abbrev pub units_seen : SeenRecord → ℕ → ℕ
+units_seen s a = length (get_or s.cells a [])
+
+-- a placer and a table have the same cluster and jobs. What a placer keeps beside may grow, and callers need not look into this
+pub record AreLevel (cluster : ClusterRecord) (job : ℕ → Option JobRecord) (t : TableRecord) : Type 0 where
+  pub cluster_is : cluster ≡ t.cluster
+  pub jobs_are : (a : ℕ) → job a ≡ option_map (λ (k : KnownJob). k.job) (job_of (as_known t.jobs) a)
+
+unfoldable pub IsLevelWith : PlacerRecord → TableRecord → Type 0
+IsLevelWith p t = AreLevel p.seen.cluster (job_seen p.seen) t
+
+-- a machine takes new grants of a unit: it is open, and the unit does not avoid it
+abbrev pub is_open_to : List (List Cell) → List Bool → ℕ → ℕ → ℕ → Bool
+is_open_to cells machines a u m = get_or machines m false && not (nat_lt 0 (asks_in cells a (avoid_key u m)))
+
+-- and there is such a unit
+abbrev pub usable_in : SeenRecord → ℕ → ℕ → ℕ → Bool
+usable_in s a u m = nat_lt u (units_seen s a) && is_open_to s.cells s.opened a u m
+
+-- a size needs nothing of a resource that the cluster does not have
+abbrev pub IsNarrow : TableRecord → ℕ → ℕ → Type 0
+IsNarrow t a u = (i : ℕ) → t.cluster.resources ≤ i → size_at (as_known t.jobs) a u i ≡ 0
+
+-- what placing reads beside the table and the line, taken as serving
+abbrev pub board_over : List (List Cell) → List Bool → TableRecord → Board
+board_over cells machines t = record {
+  cluster = t.cluster;
+  priorities = priority_of (as_known t.jobs);
+  sizes = size_at (as_known t.jobs);
+  groups = group_of (as_known t.jobs);
+  asks = asks_in cells;
+  may_use = is_open_to cells machines;
+  serving = true;
+}
+
+abbrev pub board_with : SeenRecord → TableRecord → Board
+board_with s t = board_over s.cells s.opened t
+
+-- the pairs with something out, in the order of job and unit
+abbrev pub waiting_with : SeenRecord → TableRecord → List (ℕ × ℕ)
+waiting_with s t = waiting_in (job_numbers (as_known t.jobs)) (unit_count (as_known t.jobs)) (asks_seen s) t.entries
+
+-- the line has exactly the units with something out
+abbrev pub IsUpToDate : SeenRecord → TableRecord → Type 0
+IsUpToDate s t = (a u : ℕ) → has_pair (a, u) s.line ≡ (nat_lt u (unit_count (as_known t.jobs) a) && nat_lt 0 (out_of (asks_seen s) t.entries a u))
+
+-- a demand counts at keys of units, machines and racks that are there
+abbrev pub is_there : ClusterRecord → ℕ → Key → Bool
+is_there c units k =
+    nat_lt k.unit units
+    && (cond (nat_eq k.what 1) (nat_eq k.number 0)
+    (cond (nat_eq k.what 2) (nat_lt k.number (length c.machines))
+    (cond (nat_eq k.what 3) (has_rack c k.number)
+    (nat_eq k.what 4 && nat_lt k.number (length c.machines)))))
+
+abbrev pub asks_after : SeenRecord → ℕ → List (Key × ℕ) → ℕ → Key → ℕ
+asks_after s a es b k = cond (nat_eq a b) (cond (is_there s.cluster (units_seen s a) k) (count key_cmp es k) 0) (asks_seen s b k)
+
+-- what stays of the line when a unit with nothing out leaves it
+abbrev pub line_told : SeenRecord → TableRecord → ℕ → ℕ → List (ℕ × ℕ)
+line_told s t a u = cond (nat_lt 0 (out_of (asks_seen s) t.entries a u)) s.line (filter (λ p. not (nat_eq p.0 a && nat_eq p.1 u)) s.line)
+
+-- a table after the number at one spot was set
+pub record IsSetFrom (before after : TableRecord) (s : Spot) : Type 0 where
+  pub sound : IsSound before
+  pub number : ℕ
+  pub is : after ≡ record before { entries = set_count spot_cmp before.entries s number }
+
+-- what the fields of a placer show, and what they keep: the line has admitted units alone, and both lines have room for all of them
+abbrev pub placer_record : WishesRecord → LineRecord → ℕ → PlacerRecord
+placer_record w line turns = record { seen = record { cluster = w.cluster; cells = w.cells; opened = w.opened; line = line.pairs; turns = turns } }
+
+pub record IsPlacer (w : WishesRecord) (line other : LineRecord) (units : ℕ) : Type 0 where
+  pub admitted : AllByRecursion (λ (p : ℕ × ℕ). p.1 < length (get_or w.cells p.0 [])) line.pairs
+  pub places : length w.cells ≡ 256
+  pub counted : units ≡ units_in_all w.cells
+  pub room : units_in_all w.cells ≤ line.room
+  pub other_room : units_in_all w.cells ≤ other.room

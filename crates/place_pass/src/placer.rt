@@ -1,0 +1,198 @@
+//! The placer.
+
+use crate::line::Line;
+use crate::search::first;
+use crate::waiting::{join, keep, keep_others};
+use crate::wishes::Wishes;
+use cluster_desc::Cluster;
+use fuxi_terms::OutOfMemory;
+use grant_table::{Asking, GrantTable, Pick, Steps, admitted_jobs};
+use party_ledgers::Demand;
+use schedule_unit::{AppNo, Job, MachineNo, UnitNo};
+use std::alloc::Global;
+use std::marker::Model;
+use std::mem;
+use std::sync::ledger::Ledger;
+
+/// What placing knows beside a table of grants: the admitted units, what is asked of each, which machines are
+/// open, and the line of those that wait. It is seen as what it was told (`seen`). After `admit` no call takes
+/// memory.
+#[derive(Drop)]
+pub struct Placer {
+    wishes: Wishes,
+    line: Line,
+    /// Where the next line is written.
+    other: Line,
+    /// How many units are admitted.
+    units: usize,
+    turns: u64,
+}
+
+impl Model for Placer {
+    ghost use Rattle.place_pass.specs.Placers.{PlacerRecord, placer_record, IsPlacer};
+
+    ghost Value = { PlacerRecord };
+
+    ghost view = { λ p. placer_record p.wishes p.line p.turns };
+
+    ghost invariant = { λ p. IsPlacer p.wishes p.line p.other p.units };
+}
+
+impl Placer {
+    ghost use Rattle.std.specs.Prelude.{◌≡◌, ◌↔◌, ℕ, ◌+◌, ◌<◌, ◌≤◌, ◌^◌, Bool, true, false, not, nat_eq, nat_lt, cond, List, [], length, filter, map, replicate, Some, None, IfOk, OnOk, OnErr};
+    ghost use Rattle.std.specs.Option.{option_map};
+    ghost use Rattle.fuxi_terms.specs.declared.Key.{Key};
+    ghost use Rattle.fuxi_terms.specs.Keys.{spot_cmp};
+    ghost use Rattle.fuxi_terms.specs.Counts.{count};
+    ghost use Rattle.fuxi_terms.specs.Jobs.{is_known, unit_count};
+    ghost use Rattle.fuxi_terms.specs.Tables.{spot};
+    ghost use Rattle.written_roles.specs.Placing.{first_in, lined, has_pair};
+    ghost use Rattle.grant_table.specs.Tables.{TableRecord, as_known, with_admitted};
+    ghost use Rattle.place_pass.specs.Best.{spot_of};
+    ghost use Rattle.place_pass.specs.Placers.{SeenRecord, job_seen, asks_seen, asks_after, is_open, units_seen, IsLevelWith, IsUpToDate, IsSetFrom, board_with, waiting_with, line_told};
+
+    /// A placer of a cluster, with no job, and with no machine open. It is level with the empty table.
+    pub fn start(alloc: Global, cluster: &Cluster) -> Result<Placer, OutOfMemory>
+        ensures seen { IfOk result (λ placer. placer.seen ≡ record { cluster = cluster.now; cells = replicate 256 []; opened = replicate (length cluster.now.machines) false; line = []; turns = 0 }) }
+        ensures level { IfOk result (λ placer. IsLevelWith placer (record { cluster = cluster.now; jobs = []; entries = [] })) }
+    {
+        let wishes = Wishes::start(alloc, cluster)?;
+        Ok(Placer {
+            wishes,
+            line: Line::new(alloc),
+            other: Line::new(alloc),
+            units: 0,
+            turns: 0,
+        })
+    }
+
+    /// Admits a job, of which nothing is asked yet, and reserves what its units can need. What the placer was
+    /// told is as before after the refusal.
+    pub fn admit(&mut self, alloc: Global, job: &Job) -> Result<(), OutOfMemory>
+        requires new { job_seen self.old.seen job.now.number ≡ None }
+        ensures jobs { OnOk result ((a : ℕ) → job_seen self.new.seen a ≡ cond (nat_eq job.now.number a) (Some job.now) (job_seen self.old.seen a)) }
+        ensures asks { OnOk result ((a : ℕ) (k : Key) → asks_seen self.new.seen a k ≡ asks_seen self.old.seen a k) }
+        ensures rest { OnOk result (self.new.seen ≡ record self.old.seen { cells = self.new.seen.cells }) }
+        ensures level { OnOk result ((t : TableRecord) → IsLevelWith self.old t → IsLevelWith self.new (record t { jobs = with_admitted job.now t.jobs })) }
+        ensures err { OnErr result (self.new.seen ≡ self.old.seen) }
+        ensures err_level { OnErr result ((t : TableRecord) → IsLevelWith self.old t → IsLevelWith self.new t) }
+    {
+        admitted_jobs();
+        let _cluster = self.wishes.cluster();
+        let units = self.units + job.units() as usize;
+        self.line.reserve(units)?;
+        self.other.reserve(units)?;
+        self.wishes.admit(alloc, job)?;
+        self.units = units;
+        Ok(())
+    }
+
+    /// The demand of an admitted job is now this one. Its entries for a unit, machine or rack that is not there
+    /// count as absent.
+    pub fn asked(&mut self, table: &GrantTable, app: AppNo, demand: &Demand)
+        requires cluster { self.old.seen.cluster ≡ table.now.cluster }
+        requires here { 0 < units_seen self.old.seen app.0 }
+        requires there { is_known (as_known table.now.jobs) app.0 ≡ true }
+        ensures asks { (a : ℕ) (k : Key) → asks_seen self.new.seen a k ≡ asks_after self.old.seen app.0 demand.now.entries a k }
+        ensures jobs { (a : ℕ) → job_seen self.new.seen a ≡ job_seen self.old.seen a }
+        ensures rest { self.new.seen ≡ record self.old.seen { cells = self.new.seen.cells } }
+        ensures level { IsLevelWith self.old table.now → IsLevelWith self.new table.now }
+    {
+        let counts = demand.entries();
+        self.wishes.asked(app, demand);
+    }
+
+    /// Told after each grant or taking: the number of grants of the unit on the machine is now another one.
+    /// A unit with nothing out any more leaves the line.
+    pub fn changed(&mut self, table: &GrantTable, app: AppNo, unit: UnitNo, machine: MachineNo)
+        requires cluster { self.old.seen.cluster ≡ table.now.cluster }
+        requires here { unit.0 < units_seen self.old.seen app.0 }
+        requires there { unit.0 < unit_count (as_known table.now.jobs) app.0 }
+        requires machine { machine.0 < length table.now.cluster.machines }
+        ensures seen { self.new.seen ≡ record self.old.seen { line = line_told self.old.seen table.now app.0 unit.0 } }
+        ensures level { (before : TableRecord) → IsLevelWith self.old before → IsSetFrom before table.now (spot app.0 unit.0 machine.0) → IsLevelWith self.new table.now }
+        ensures up { (before : TableRecord) → IsUpToDate self.old.seen before → (is : IsSetFrom before table.now (spot app.0 unit.0 machine.0)) → count spot_cmp before.entries (spot app.0 unit.0 machine.0) ≤ is.number → IsUpToDate self.new.seen table.now }
+    {
+        if self.wishes.out(table, app, unit) == 0 {
+            self.other.clear();
+            keep_others(&mut self.other, &self.line, &self.wishes, app, unit);
+            mem::swap(&mut self.line, &mut self.other);
+        }
+    }
+
+    /// The machine is reported and not banned, or it is not.
+    pub fn open(&mut self, machine: MachineNo, usable: bool)
+        requires { machine.0 < length self.old.seen.cluster.machines }
+        ensures opened { (m : ℕ) → is_open self.new.seen m ≡ cond (nat_eq machine.0 m) usable (is_open self.old.seen m) }
+        ensures rest { self.new.seen ≡ record self.old.seen { opened = self.new.seen.opened } }
+        ensures level { (t : TableRecord) → IsLevelWith self.old t → IsLevelWith self.new t }
+    {
+        let _cluster = self.wishes.cluster();
+        self.wishes.open(machine, usable);
+    }
+
+    /// Brings the line up to date: the pairs with nothing out leave it, and the others that have something out
+    /// go behind it in the order of job and unit.
+    pub fn line_up(&mut self, table: &GrantTable)
+        requires level { IsLevelWith self.old table.now }
+        requires turns { self.old.seen.turns < 2 ^ 63 }
+        ensures seen { self.new.seen ≡ record self.old.seen { line = lined self.old.seen.line (waiting_with self.old.seen table.now); turns = self.old.seen.turns + length (filter (λ p. not (has_pair p self.old.seen.line)) (waiting_with self.old.seen table.now)) } }
+        ensures level { IsLevelWith self.new table.now }
+        ensures up { IsUpToDate self.new.seen table.now }
+    {
+        admitted_jobs();
+        let _cluster = table.cluster();
+        self.other.clear();
+        keep(&mut self.other, &self.line, &self.wishes, table);
+        let stayed = self.other.len();
+        join(&mut self.other, &self.line, &self.wishes, table);
+        self.turns += (self.other.len() - stayed) as u64;
+        mem::swap(&mut self.line, &mut self.other);
+    }
+
+    /// The number that the next unit gets that begins to wait.
+    pub fn turns(&self) -> u64
+        ensures { result ≡ self.now.seen.turns }
+    {
+        self.turns
+    }
+
+    /// The waiting pairs in order.
+    pub fn waiting(&self) -> &Line
+        ensures { result.now.pairs ≡ self.now.seen.line }
+    {
+        &self.line
+    }
+
+    /// The placeable pair of first rank, taken as serving, and `None` exactly where none is placeable. The line
+    /// is up to date.
+    pub fn next<L: Ledger>(&mut self, table: &GrantTable, steps: &mut Steps<L>) -> Option<Pick>
+        requires level { IsLevelWith self.old table.now }
+        requires up { IsUpToDate self.old.seen table.now }
+        ensures first { option_map spot_of result ≡ first_in (board_with self.old.seen table.now) table.now.entries self.old.seen.line }
+        ensures seen { self.new.seen ≡ self.old.seen }
+        ensures level { IsLevelWith self.new table.now }
+    {
+        first(&self.wishes, &self.line, table, steps)
+    }
+}
+
+impl Asking for Placer {
+    ghost use Rattle.place_pass.specs.Placers.{usable_in};
+
+    ghost line = { λ p. p.seen.line };
+
+    ghost usable = { λ p. usable_in p.seen };
+
+    fn waiting_len(&self) -> usize {
+        self.line.len()
+    }
+
+    fn waiting_at(&self, index: usize) -> (AppNo, UnitNo) {
+        self.line.at(index)
+    }
+
+    fn may_use(&self, app: AppNo, unit: UnitNo, machine: MachineNo) -> bool {
+        self.wishes.may_use(app, unit, machine)
+    }
+}

@@ -1,0 +1,259 @@
+//! What the admitted units are and what is asked of them, by job number and unit, and the machines that are open.
+
+ghost use Rattle.std.specs.Prelude.{◌≡◌, ℕ, ◌+◌, ◌<◌, ◌≤◌, cond, List, [], length, map, replicate, IfOk};
+ghost use Rattle.std.proofs.Common.{get_or};
+ghost use Rattle.fuxi_terms.specs.Keys.{key_cmp};
+ghost use Rattle.fuxi_terms.specs.Counts.{count};
+ghost use Rattle.fuxi_terms.specs.Cluster.{has_rack};
+ghost use Rattle.fuxi_terms.specs.TallyKeys.{key, rack_key};
+ghost use Rattle.place_pass.specs.Cells.{Cell, cell_of, cells_in, cells_of, cell_at, no_cell, fresh_cells, numbers_at, racks_at, taken, taken_all};
+
+use cluster_desc::Cluster;
+use fuxi_terms::{Key, OutOfMemory};
+use party_ledgers::Demand;
+use res_vector::Res;
+use schedule_unit::{AppNo, GroupNo, Job, MachineNo, RackNo, UnitNo};
+use std::alloc::Global;
+use std::marker::Model;
+
+/// A unit, and what is asked of it.
+#[derive(Drop)]
+pub(crate) struct Wish {
+    pub(crate) priority: u8,
+    pub(crate) size: Res,
+    pub(crate) group: GroupNo,
+    pub(crate) want: u32,
+    /// By machine.
+    pub(crate) near: Vec<u32>,
+    /// By rack.
+    pub(crate) racks: Vec<u32>,
+    /// By machine, 1 where it is avoided.
+    pub(crate) avoided: Vec<u32>,
+}
+
+/// The admitted units with what is asked of them, and the open machines.
+#[derive(Drop)]
+pub(crate) struct Wishes {
+    cluster: Cluster,
+    /// By job number, with no unit where no such job is admitted.
+    slots: Vec<Vec<Wish>>,
+    /// By machine.
+    opened: Vec<bool>,
+}
+
+impl Model for Wishes {
+    ghost use Rattle.place_pass.specs.Cells.{WishesRecord, wishes_record, AreWishes, cells_of};
+
+    ghost Value = { WishesRecord };
+
+    ghost view = { λ w. wishes_record w.cluster w.slots.items w.opened.items };
+
+    ghost invariant = { λ w. AreWishes w.cluster (cells_of w.slots.items) w.opened.items };
+}
+
+impl Wishes {
+    ghost use Rattle.std.specs.Prelude.{◌≡◌, ℕ, ◌<◌, ◌≤◌, ◌&&◌, nat_lt, false, List, [], length, set, replicate, IfOk, OnOk, OnErr};
+    ghost use Rattle.std.proofs.Common.{get_or};
+    ghost use Rattle.place_pass.specs.Cells.{WishesRecord, AreWishes, cell_of, cell_at, fresh_cells, taken_all};
+    ghost use Rattle.place_pass.specs.Placers.{is_open_to};
+
+    /// No unit, and no open machine.
+    pub(crate) fn start(alloc: Global, cluster: &Cluster) -> Result<Wishes, OutOfMemory>
+        ensures { IfOk result (λ wishes. wishes ≡ record { cluster = cluster.now; cells = replicate 256 []; opened = replicate (length cluster.now.machines) false }) }
+    {
+        let machines = cluster.machines() as usize;
+        Ok(Wishes {
+            cluster: cluster.copy(alloc)?,
+            slots: empty_slots(alloc)?,
+            opened: Vec::from_elem(alloc, false, machines)?,
+        })
+    }
+
+    /// The cluster.
+    pub(crate) fn cluster(&self) -> &Cluster
+        ensures cluster { result.now ≡ self.now.cluster }
+        ensures sound { AreWishes self.now.cluster self.now.cells self.now.opened }
+    {
+        &self.cluster
+    }
+
+    /// A job more, of which nothing is asked.
+    pub(crate) fn admit(&mut self, alloc: Global, job: &Job) -> Result<(), OutOfMemory>
+        ensures ok { OnOk result (self.new ≡ record self.old { cells = set self.old.cells job.now.number (fresh_cells job.now.group (length self.old.cluster.machines) job.now.units) }) }
+        ensures err { OnErr result (self.new ≡ self.old) }
+    {
+        let machines = self.cluster.machines() as usize;
+        let units = fresh_units(alloc, job, machines)?;
+        self.slots[job.app().0 as usize] = units;
+        Ok(())
+    }
+
+    /// The demand of a job is now this one.
+    pub(crate) fn asked(&mut self, app: AppNo, demand: &Demand)
+        requires { app.0 < 256 }
+        ensures { self.new ≡ record self.old { cells = set self.old.cells app.0 (taken_all self.old.cluster demand.now.entries 0 (get_or self.old.cells app.0 [])) } }
+    {
+        let units = &mut self.slots[app.0 as usize];
+        take_over(units, &self.cluster, demand);
+    }
+
+    /// The machine is open, or not.
+    pub(crate) fn open(&mut self, machine: MachineNo, usable: bool)
+        requires { machine.0 < length self.old.cluster.machines }
+        ensures { self.new ≡ record self.old { opened = set self.old.opened machine.0 usable } }
+    {
+        self.opened[machine.0 as usize] = usable;
+    }
+
+    /// Whether the machine is open. False where the cluster does not have it.
+    pub(crate) fn is_open(&self, machine: MachineNo) -> bool
+        ensures { result ≡ get_or self.now.opened machine.0 false }
+    {
+        let number = machine.0 as usize;
+        number < self.opened.len() && self.opened[number]
+    }
+
+    /// How many units of the job are admitted, at most 8.
+    pub(crate) fn units(&self, app: AppNo) -> usize
+        ensures number { result ≡ length (get_or self.now.cells app.0 []) }
+        ensures few { result ≤ 8 }
+    {
+        let number = app.0 as usize;
+        if number < self.slots.len() {
+            self.slots[number].len()
+        } else {
+            0
+        }
+    }
+
+    /// Whether there is such a unit and machine, the machine is open, and the unit does not avoid it.
+    pub(crate) fn may_use(&self, app: AppNo, unit: UnitNo, machine: MachineNo) -> bool
+        ensures { result ≡ (nat_lt unit.0 (length (get_or self.now.cells app.0 [])) && is_open_to self.now.cells self.now.opened app.0 unit.0 machine.0) }
+    {
+        if unit.0 as usize >= self.units(app) {
+            return false;
+        }
+        if !self.is_open(machine) {
+            return false;
+        }
+        self.wish(app, unit).avoided[machine.0 as usize] == 0
+    }
+
+    /// An admitted unit.
+    pub(crate) fn wish(&self, app: AppNo, unit: UnitNo) -> &Wish
+        requires { unit.0 < length (get_or self.now.cells app.0 []) }
+        ensures cell { cell_of result.now ≡ cell_at self.now.cells app.0 unit.0 }
+        ensures sound { AreWishes self.now.cluster self.now.cells self.now.opened }
+    {
+        wish_at(&self.slots, app.0 as usize, unit.0 as usize)
+    }
+}
+
+// A unit by job number and unit.
+fn wish_at(slots: &[Vec<Wish>], app: usize, unit: usize) -> &Wish
+    requires { unit < length (get_or (cells_of slots.now) app []) }
+    ensures { cell_of result.now ≡ cell_at (cells_of slots.now) app unit }
+{
+    let units = &slots[app];
+    &units[unit]
+}
+
+// The units of a new job, of which nothing is asked.
+fn fresh_units(alloc: Global, job: &Job, machines: usize) -> Result<Vec<Wish>, OutOfMemory>
+    ensures { IfOk result (λ units. cells_in units ≡ fresh_cells job.now.group machines job.now.units) }
+{
+    let group = job.group();
+    let mut units = Vec::new(alloc);
+    for number in 0..job.units() {
+        let unit = job.unit(UnitNo(number));
+        let priority = unit.priority;
+        let size = unit.size;
+        let near = Vec::from_elem(alloc, 0, machines)?;
+        let racks = Vec::from_elem(alloc, 0, 64)?;
+        let avoided = Vec::from_elem(alloc, 0, machines)?;
+        units.push(Wish {
+            priority,
+            size,
+            group,
+            want: 0,
+            near,
+            racks,
+            avoided,
+        })?;
+    }
+    Ok(units)
+}
+
+// A place for each job number, with no unit at any.
+fn empty_slots(alloc: Global) -> Result<Vec<Vec<Wish>>, OutOfMemory>
+    ensures { IfOk result (λ slots. cells_of slots.items ≡ replicate 256 []) }
+{
+    let mut slots = Vec::new(alloc);
+    for _ in 0..256_usize {
+        slots.push(Vec::new(alloc))?;
+    }
+    Ok(slots)
+}
+
+// Each unit of a job takes its part of the demand.
+fn take_over(units: &mut Vec<Wish>, cluster: &Cluster, demand: &Demand)
+    requires few { length units.old.items ≤ 8 }
+    requires near { (u : ℕ) → u < length units.old.items → length (get_or (cells_in units.old) u no_cell).near ≡ length cluster.now.machines }
+    requires racks { (u : ℕ) → u < length units.old.items → length (get_or (cells_in units.old) u no_cell).racks ≡ 64 }
+    requires avoided { (u : ℕ) → u < length units.old.items → length (get_or (cells_in units.old) u no_cell).avoided ≡ length cluster.now.machines }
+    ensures { cells_in units.new ≡ taken_all cluster.now demand.now.entries 0 (cells_in units.old) }
+{
+    for number in 0..units.len() {
+        let wish = &mut units[number];
+        take_one(wish, number as u8, cluster, demand);
+    }
+}
+
+// A unit takes its part of the demand.
+fn take_one(wish: &mut Wish, unit: u8, cluster: &Cluster, demand: &Demand)
+    requires near { length wish.old.near.items ≡ length cluster.now.machines }
+    requires racks { length wish.old.racks.items ≡ 64 }
+    requires avoided { length wish.old.avoided.items ≡ length cluster.now.machines }
+    ensures { cell_of wish.new ≡ taken cluster.now demand.now.entries unit (cell_of wish.old) }
+{
+    let machines = cluster.machines();
+    wish.want = number_at(demand, 1, unit, 0);
+    read_numbers(&mut wish.near, machines, demand, 2, unit);
+    read_racks(&mut wish.racks, cluster, demand, unit);
+    read_numbers(&mut wish.avoided, machines, demand, 4, unit);
+}
+
+// What a demand has at a key that is not given back.
+fn number_at(demand: &Demand, what: u8, unit: u8, number: u32) -> u32
+    requires { what < 5 }
+    ensures { result ≡ count key_cmp demand.now.entries (key what unit number) }
+{
+    let counts = demand.entries();
+    demand.get(&Key { what, unit, number }) as u32
+}
+
+// What a demand has of a kind at each machine.
+fn read_numbers(numbers: &mut Vec<u32>, machines: u32, demand: &Demand, what: u8, unit: u8)
+    requires what { what < 5 }
+    requires long { length numbers.old.items ≡ machines }
+    ensures { numbers.new.items ≡ numbers_at demand.now.entries what unit machines }
+{
+    for machine in 0..machines {
+        numbers[machine as usize] = number_at(demand, what, unit, machine);
+    }
+}
+
+// What a demand has at each rack in which a machine stands.
+fn read_racks(racks: &mut Vec<u32>, cluster: &Cluster, demand: &Demand, unit: u8)
+    requires { length racks.old.items ≡ 64 }
+    ensures { racks.new.items ≡ racks_at cluster.now demand.now.entries unit }
+{
+    for number in 0..64_u32 {
+        let there = cluster.has_rack(RackNo(number));
+        racks[number as usize] = if there {
+            number_at(demand, 3, unit, number)
+        } else {
+            0
+        };
+    }
+}
