@@ -1,8 +1,8 @@
 -- How great the running totals can be, and what every table keeps.
-use Rattle.std.proofs.Common.{◌≡◌, ℕ, zero, suc, ◌+◌, ◌*◌, ◌<◌, ◌≤◌, true, false, not, nat_eq, nat_lt, List, [], ◌∷◌, length, get_or, ◌∙◌, ap, arith, inl, inr}
-use Rattle.std.specs.Prelude.{◌&&◌, IsTrue, slice_get}
-use Rattle.std.specs.Option.{unwrap_or}
-use Rattle.std.specs.List.{AllByRecursion, list_all, sum_by}
+use Rattle.std.proofs.Common.{◌≡◌, ℕ, zero, suc, ◌+◌, ◌*◌, ◌<◌, ◌≤◌, Bool, true, false, cond, not, nat_eq, nat_lt, List, [], ◌∷◌, length, get_or, sym, ◌∙◌, ap, arith, inl, inr}
+use Rattle.std.specs.Prelude.{◌&&◌, IsTrue, slice_get, is_some, Some}
+use Rattle.std.specs.Option.{unwrap_or, option_map}
+use Rattle.std.specs.List.{AllByRecursion, list_all}
 use Rattle.std.proofs.lemmas.Bool.{cases_lt}
 use Rattle.std.proofs.lemmas.Bool.Decides.{nat_tests}
 use Rattle.std.proofs.lemmas.List.Elements.{All-from_get_or}
@@ -13,7 +13,7 @@ use Rattle.fuxi_terms.specs.Limits.{greatest_count, greatest_quantity}
 use Rattle.fuxi_terms.specs.Vectors.{at_place}
 use Rattle.fuxi_terms.specs.Keys.{Spot}
 use Rattle.fuxi_terms.proofs.ByPlace.{at_place-get_or}
-use Rattle.fuxi_terms.specs.Jobs.{unit_count}
+use Rattle.fuxi_terms.specs.Jobs.{KnownJob, job_of, is_known, unit_count}
 use Rattle.fuxi_terms.specs.Tables.{usage_at}
 use Rattle.grant_table.specs.Nested.{count_at}
 use Rattle.grant_table.specs.Tables.{Cell, cell_at, rows_of, entries_in, as_known, AreJobs, IsUnit, IsLevel, IsSound}
@@ -26,7 +26,7 @@ use Rattle.grant_table.proofs.Setting.{cell_past, counts_all}
 use Rattle.grant_table.proofs.Totals.{usage_bound}
 
 -- ---- what a valid cluster says of its machines
-all_at : (p : MachineRecord → Rattle.std.specs.Prelude.Bool) (ms : List MachineRecord) (m : ℕ) → list_all p ms ≡ true → m < length ms → p (unwrap_or (slice_get ms m) no_machine) ≡ true
+all_at : (p : MachineRecord → Bool) (ms : List MachineRecord) (m : ℕ) → list_all p ms ≡ true → m < length ms → p (unwrap_or (slice_get ms m) no_machine) ≡ true
 all_at p [] m h lt = absurd (omega (arith, lt))
 all_at p (x ∷ xs) zero h lt = (both_true (p x) (list_all p xs) h).0
 all_at p (x ∷ xs) (suc m) h lt = all_at p xs m (both_true (p x) (list_all p xs) h).1 (omega (arith, lt))
@@ -135,3 +135,21 @@ jobs_few js h = let f = few_jobs js 0 (omega arith) (from_zero js) h in omega (a
     from_zero : (js : List JobRecord) → AllByRecursion (λ (k : JobRecord). 0 ≤ k.number) js
     from_zero [] = tt
     from_zero (j ∷ js) = (omega arith, from_zero js)
+
+-- a job is known exactly where it has a unit
+pub known_is : (js : List JobRecord) → AreJobs js → (a : ℕ) → is_known (as_known js) a ≡ nat_lt 0 (unit_count (as_known js) a)
+known_is [] h a = sym none
+  where
+    none : nat_lt 0 0 ≡ false
+    none = grind (arith, nat_tests)
+known_is (j ∷ js) h a = by (nat_eq j.number a) (known_is js h.1.1 a)
+  where
+    some : nat_lt 0 (length j.units) ≡ true
+    some =
+        let b : is_between 1 8 (length j.units) ≡ true = (both_true (is_between 1 8 (length j.units)) _ (both_true (nat_lt j.group 32) _ (both_true (nat_lt j.number 256) _ h.0).1).1).0 in
+        let t : not (nat_lt (length j.units) 1) ≡ true = (both_true (not (nat_lt (length j.units) 1)) _ b).0 in
+        grind (arith, nat_tests, t)
+
+    by : (b : Bool) → is_known (as_known js) a ≡ nat_lt 0 (unit_count (as_known js) a) → is_some (cond b (Some (record { job = j; ended = false })) (job_of (as_known js) a)) ≡ nat_lt 0 (length (unwrap_or (option_map (λ (k : KnownJob). k.job.units) (cond b (Some (record { job = j; ended = false })) (job_of (as_known js) a))) []))
+    by true r = sym some
+    by false r = r

@@ -65,6 +65,17 @@ pub(crate) fn holding_at(slots: &[Vec<Holding>], app: usize, unit: usize) -> &Ho
     &units[unit]
 }
 
+/// How many units there are of a job, 0 where there is no such job.
+pub(crate) fn units_at(slots: &[Vec<Holding>], app: usize) -> usize
+    ensures { result ≡ length (get_or (cells_of slots.now) app []) }
+{
+    if app < slots.len() {
+        slots[app].len()
+    } else {
+        0
+    }
+}
+
 /// One grant more of a unit.
 pub(crate) fn raise_at(
     slots: &mut Vec<Vec<Holding>>,

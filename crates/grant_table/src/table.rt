@@ -5,7 +5,7 @@ ghost use Rattle.std.proofs.Common.{get_or};
 ghost use Rattle.fuxi_terms.specs.Cluster.{JobRecord};
 ghost use Rattle.grant_table.specs.Tables.{with_admitted};
 
-use crate::holding::{Holding, empty_slots, fresh_units, holding_at, lower_at, raise_at};
+use crate::holding::{Holding, empty_slots, fresh_units, holding_at, lower_at, raise_at, units_at};
 use crate::steps::Steps;
 use cluster_desc::Cluster;
 use fuxi_terms::OutOfMemory;
@@ -40,7 +40,7 @@ impl Model for GrantTable {
 }
 
 impl GrantTable {
-    ghost use Rattle.std.specs.Prelude.{◌≡◌, ℕ, ◌+◌, ◌-◌, ◌<◌, ◌≤◌, List, [], length, slice_get, Some, IfOk, OnOk, OnErr, false};
+    ghost use Rattle.std.specs.Prelude.{◌≡◌, ℕ, ◌+◌, ◌-◌, ◌<◌, ◌≤◌, List, [], length, slice_get, Some, IfOk, OnOk, OnErr, false, nat_lt};
     ghost use Rattle.fuxi_terms.specs.Vectors.{at_place};
     ghost use Rattle.fuxi_terms.specs.Jobs.{is_known, unit_count, size_at};
     ghost use Rattle.fuxi_terms.specs.Cluster.{has_at};
@@ -121,6 +121,14 @@ impl GrantTable {
         *used = without(used, &size, count);
         let usage = &mut self.usages[group];
         *usage = without(usage, &size, count);
+    }
+
+    /// How many units of the job are admitted: 0 exactly where the job is not.
+    pub fn units(&self, app: AppNo) -> usize
+        ensures number { result ≡ unit_count (as_known self.now.jobs) app.0 }
+        ensures known { is_known (as_known self.now.jobs) app.0 ≡ nat_lt 0 result }
+    {
+        units_at(&self.slots, app.0 as usize)
     }
 
     /// How many grants the unit has in all.
