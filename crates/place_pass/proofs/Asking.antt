@@ -58,9 +58,9 @@ wishes_set c cells o a xs h lt few each = record {
     by_unit true b u l = each u l
     by_unit false b u l = h.unit b u l
 
-pub taken_wishes : (c : ClusterRecord) (es : List (Key × ℕ)) (xs : List Cell) → ((u : ℕ) → u < length xs → IsWish c (get_or xs 0 no_cell) (get_or xs u no_cell))
+pub taken_wishes : (c : ClusterRecord) (es : List (Key × ℕ)) (xs : List Cell) → AreCounts key_cmp greatest_demand es → ((u : ℕ) → u < length xs → IsWish c (get_or xs 0 no_cell) (get_or xs u no_cell))
     → (u : ℕ) → u < length (taken_all c es 0 xs) → IsWish c (get_or (taken_all c es 0 xs) 0 no_cell) (get_or (taken_all c es 0 xs) u no_cell)
-taken_wishes c es xs h u l =
+taken_wishes c es xs counts h u l =
     let n = length-taken_all c es 0 xs in
     let lt : u < length xs = omega (arith, n, l) in
     let some : 0 < length xs = omega (arith, lt) in
@@ -69,6 +69,7 @@ taken_wishes c es xs h u l =
     (subst (IsWish c (taken c es 0 (get_or xs 0 no_cell))) (sym (get_or-taken_all c es 0 u u xs (omega arith) lt)) (record {
       group = x.group;
       size = x.size;
+      want = asked_small es 1 u 0 (omega arith) counts;
       near = counted_long (λ m. count key_cmp es (key 2 u m)) (length c.machines);
       racks = counted_long (λ r. cond (has_rack c r) (count key_cmp es (key 3 u r)) 0) 64;
       avoided = counted_long (λ m. count key_cmp es (key 4 u m)) (length c.machines);
@@ -82,6 +83,7 @@ fresh_wishes c g us eight u l =
     (subst (IsWish c (fresh_cell g (length c.machines) (get_or us 0 no_unit))) (sym (get_or-map (fresh_cell g (length c.machines)) us u no_unit no_cell lt)) (record {
       group = refl;
       size = eight u lt;
+      want = omega arith;
       near = length-replicate {A = ℕ} (length c.machines) 0;
       racks = length-replicate {A = ℕ} 64 0;
       avoided = length-replicate {A = ℕ} (length c.machines) 0;

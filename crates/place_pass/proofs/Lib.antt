@@ -1,8 +1,9 @@
 pub mod Places
 pub mod Asking
 pub mod ValidJobs
-pub mod Levels
+pub mod Matching
 pub mod Rooms
 pub mod Searching
 pub mod Lining
 pub mod Telling
+pub mod Picking

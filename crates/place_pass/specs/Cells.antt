@@ -4,6 +4,7 @@ use Rattle.std.specs.Global.{Vec}
 use Rattle.std.proofs.Common.{get_or}
 use Rattle.fuxi_terms.specs.Cluster.{ClusterRecord, JobRecord, UnitRecord, has_rack}
 use Rattle.fuxi_terms.specs.declared.Key.{Key}
+use Rattle.fuxi_terms.specs.Limits.{greatest_count}
 use Rattle.fuxi_terms.specs.Keys.{key_cmp}
 use Rattle.fuxi_terms.specs.Counts.{count}
 use Rattle.fuxi_terms.specs.TallyKeys.{key, want_key, rack_key}
@@ -98,6 +99,7 @@ wishes_record c slots open_machines = record { cluster = c; cells = cells_of slo
 pub record IsWish (c : ClusterRecord) (first : Cell) (x : Cell) : Type 0 where
   pub group : x.group ≡ first.group
   pub size : length x.unit.size ≡ 8
+  pub want : x.want ≤ greatest_count
   pub near : length x.near ≡ length c.machines
   pub racks : length x.racks ≡ 64
   pub avoided : length x.avoided ≡ length c.machines

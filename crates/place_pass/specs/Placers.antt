@@ -1,8 +1,10 @@
 -- What a placer stands for, and when it is level with a table.
-use Rattle.std.specs.Prelude.{◌≡◌, ℕ, ◌≤◌, ◌<◌, Bool, true, false, cond, not, nat_eq, nat_lt, ◌&&◌, List, [], length, filter, Option}
+use Rattle.std.specs.Prelude.{◌≡◌, ℕ, ◌+◌, ◌≤◌, ◌<◌, Bool, true, false, cond, not, nat_eq, nat_lt, ◌&&◌, List, [], length, filter, Option}
 use Rattle.std.specs.Option.{option_map}
 use Rattle.std.proofs.Common.{get_or}
-use Rattle.fuxi_terms.specs.Cluster.{ClusterRecord, JobRecord, has_rack}
+use Rattle.fuxi_terms.specs.Cluster.{ClusterRecord, JobRecord, has_rack, has_at}
+use Rattle.fuxi_terms.specs.Limits.{greatest_count}
+use Rattle.fuxi_terms.specs.Tables.{held_on, total_at}
 use Rattle.fuxi_terms.specs.declared.Key.{Key}
 use Rattle.fuxi_terms.specs.Keys.{Spot, key_cmp, spot_cmp}
 use Rattle.fuxi_terms.specs.Counts.{count, set_count}
@@ -116,3 +118,10 @@ pub record IsPlacer (w : WishesRecord) (line other : LineRecord) (units : ℕ) :
   pub counted : units ≡ units_in_all w.cells
   pub room : units_in_all w.cells ≤ line.room
   pub other_room : units_in_all w.cells ≤ other.room
+
+-- one more grant may be made at a spot: the unit is admitted, the machine is there, has room for it, and has fewer than the greatest count
+pub record IsGrantable (t : TableRecord) (s : Spot) : Type 0 where
+  pub unit : s.unit < unit_count (as_known t.jobs) s.job
+  pub machine : s.machine < length t.cluster.machines
+  pub few : held_on t.entries s.job s.unit s.machine < greatest_count
+  pub room : (i : ℕ) → total_at (as_known t.jobs) s.machine i t.entries + size_at (as_known t.jobs) s.job s.unit i ≤ has_at t.cluster s.machine i

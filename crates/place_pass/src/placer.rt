@@ -39,7 +39,7 @@ impl Model for Placer {
 }
 
 impl Placer {
-    ghost use Rattle.std.specs.Prelude.{◌≡◌, ◌↔◌, ℕ, ◌+◌, ◌<◌, ◌≤◌, ◌^◌, Bool, true, false, not, nat_eq, nat_lt, cond, List, [], length, filter, map, replicate, Some, None, IfOk, OnOk, OnErr};
+    ghost use Rattle.std.specs.Prelude.{◌≡◌, ◌↔◌, ℕ, ◌+◌, ◌<◌, ◌≤◌, ◌^◌, Bool, true, false, not, nat_eq, nat_lt, cond, List, [], length, filter, map, replicate, Some, None, IfOk, IfSome, OnOk, OnErr};
     ghost use Rattle.std.specs.Option.{option_map};
     ghost use Rattle.fuxi_terms.specs.declared.Key.{Key};
     ghost use Rattle.fuxi_terms.specs.Keys.{spot_cmp};
@@ -49,7 +49,7 @@ impl Placer {
     ghost use Rattle.written_roles.specs.Placing.{first_in, lined, has_pair};
     ghost use Rattle.grant_table.specs.Tables.{TableRecord, as_known, with_admitted};
     ghost use Rattle.place_pass.specs.Best.{spot_of};
-    ghost use Rattle.place_pass.specs.Placers.{SeenRecord, job_seen, asks_seen, asks_after, is_open, units_seen, IsLevelWith, IsUpToDate, IsSetFrom, board_with, waiting_with, line_told};
+    ghost use Rattle.place_pass.specs.Placers.{SeenRecord, job_seen, asks_seen, asks_after, is_open, units_seen, IsLevelWith, IsUpToDate, IsSetFrom, IsGrantable, board_with, waiting_with, line_told};
 
     /// A placer of a cluster, with no job, and with no machine open. It is level with the empty table.
     pub fn start(alloc: Global, cluster: &Cluster) -> Result<Placer, OutOfMemory>
@@ -165,14 +165,17 @@ impl Placer {
     }
 
     /// The placeable pair of first rank, taken as serving, and `None` exactly where none is placeable. The line
-    /// is up to date.
+    /// is up to date. The table may make that grant.
     pub fn next<L: Ledger>(&mut self, table: &GrantTable, steps: &mut Steps<L>) -> Option<Pick>
         requires level { IsLevelWith self.old table.now }
         requires up { IsUpToDate self.old.seen table.now }
         ensures first { option_map spot_of result ≡ first_in (board_with self.old.seen table.now) table.now.entries self.old.seen.line }
+        ensures grantable { IfSome result (λ pick. IsGrantable table.now (spot_of pick)) }
         ensures seen { self.new.seen ≡ self.old.seen }
         ensures level { IsLevelWith self.new table.now }
     {
+        let _table = table.cluster();
+        let _wishes = self.wishes.cluster();
         first(&self.wishes, &self.line, table, steps)
     }
 }

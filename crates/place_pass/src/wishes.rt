@@ -93,6 +93,7 @@ impl Wishes {
         requires { app.0 < 256 }
         ensures { self.new ≡ record self.old { cells = set self.old.cells app.0 (taken_all self.old.cluster demand.now.entries 0 (get_or self.old.cells app.0 [])) } }
     {
+        let counts = demand.entries();
         let units = &mut self.slots[app.0 as usize];
         take_over(units, &self.cluster, demand);
     }

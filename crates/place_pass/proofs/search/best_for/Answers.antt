@@ -8,7 +8,7 @@ use Rattle.grant_table.specs.Tables.{as_known}
 use Rattle.place_pass.specs.Cells.{Cell}
 use Rattle.place_pass.specs.Placers.{board_over}
 use Rattle.place_pass.specs.Best.{best_in, places_to, ranked_as}
-use Rattle.place_pass.proofs.Levels.{unit_is}
+use Rattle.place_pass.proofs.Matching.{unit_is}
 use Rattle.place_pass.proofs.Searching.{places_more}
 use Rattle.place_pass.proofs.search.best_for.Goals as goal
 use Rattle.place_pass.proofs.search.best_for.Goals.{then-takes, else-takes}

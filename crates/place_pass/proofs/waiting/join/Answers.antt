@@ -8,7 +8,7 @@ use Rattle.written_roles.specs.Placing.{has_pair, waiting_in}
 use Rattle.grant_table.specs.Tables.{as_known}
 use Rattle.place_pass.specs.Cells.{asks_in}
 use Rattle.place_pass.specs.Lines.{same_pair, waiting_of}
-use Rattle.place_pass.proofs.Levels.{count_is}
+use Rattle.place_pass.proofs.Matching.{count_is}
 use Rattle.place_pass.proofs.Lining.{any_append, or_none, none_filter, append_nil, has_flat, flat_append, filter_append, rising_apart, numbers_more}
 use Rattle.place_pass.proofs.waiting.join.Goals as goal
 

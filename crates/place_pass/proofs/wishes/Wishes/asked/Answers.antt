@@ -53,7 +53,7 @@ invariant_of-self c =
     let few = c.self.invariant.few c.args.app.0 in
     let lt = c.requires in
     subst (λ x. AreWishes v.cluster x v.opened.items) (sym set_is)
-    (wishes_set v.cluster (cells_of v.slots.items) v.opened.items c.args.app.0 (taken_all v.cluster es 0 xs) c.self.invariant (omega (arith, lt, places)) (omega (arith, n, few)) (taken_wishes v.cluster es xs (c.self.invariant.unit c.args.app.0)))
+    (wishes_set v.cluster (cells_of v.slots.items) v.opened.items c.args.app.0 (taken_all v.cluster es 0 xs) c.self.invariant (omega (arith, lt, places)) (omega (arith, n, few)) (taken_wishes v.cluster es xs c.entries-counts.ensures.counts (c.self.invariant.unit c.args.app.0)))
 
 pub returns : goal.returns
 returns c =

@@ -9,7 +9,7 @@ use Rattle.fuxi_terms.specs.Tables.{usage_at}
 use Rattle.written_roles.specs.Placing.{is_allowed_in}
 use Rattle.grant_table.specs.Tables.{as_known}
 use Rattle.place_pass.specs.Cells.{Cell, asks_in}
-use Rattle.place_pass.proofs.Levels.{group_is, group_small, unit_is, limit_past}
+use Rattle.place_pass.proofs.Matching.{group_is, group_small, unit_is, limit_past}
 use Rattle.place_pass.proofs.Rooms.{allowed_is, allowed_narrow}
 use Rattle.place_pass.proofs.wishes.Wishes.may_grow.Goals as goal
 

@@ -12,7 +12,7 @@ use Rattle.place_pass.specs.Best.{parts_of}
 use Rattle.fuxi_terms.specs.Cluster.{has_at}
 use Rattle.fuxi_terms.specs.Tables.{total_at}
 use Rattle.place_pass.specs.Cells.{Cell, cell_at}
-use Rattle.place_pass.proofs.Levels.{avoided_read, unit_is}
+use Rattle.place_pass.proofs.Matching.{avoided_read, unit_is}
 use Rattle.place_pass.proofs.Rooms.{room_is}
 use Rattle.place_pass.proofs.Places.{mapped_at}
 use Rattle.place_pass.proofs.wishes.Wishes.takes.Goals as goal
