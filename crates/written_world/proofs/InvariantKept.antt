@@ -64,11 +64,12 @@ pub record StepHolds (s : Step) : Type 0 where
   pub it : Invariant s.world
 
 -- A master that heard something has its epoch and its jobs
-record SameMaster (M N : Master) : Type 0 where
-  epoch : N.epoch ≡ M.epoch
-  jobs : N.jobs ≡ M.jobs
+pub record SameMaster (M N : Master) : Type 0 where
+  pub epoch : N.epoch ≡ M.epoch
+  pub jobs : N.jobs ≡ M.jobs
 
-told_same : (M : Master) (h : Heard) (from : Id) (l : Ledger) → SameMaster M (told M h from l)
+-- whatever it heard
+pub told_same : (M : Master) (h : Heard) (from : Id) (l : Ledger) → SameMaster M (told M h from l)
 told_same M h from l =
     let N = meet_app h.fresh M from.number in
     either (SameMaster M) (is_agent from) (cond (is_taken h.what) (take_report M from.number l) M) (cond (is_taken h.what) (take_demand N from.number l) N)
@@ -106,7 +107,8 @@ checked : (w : World) (o : Option Refusal) (s : Step) → Invariant w → (o ≡
 checked w None s b k = k refl
 checked w (Some r) s b k = record { it = b }
 
-not_refused : (b : Bool) (r : Refusal) (ts : List (Bool × Refusal)) → first_refusal ((b, r) ∷ ts) ≡ None → (b ≡ false) × (first_refusal ts ≡ None)
+-- a test that did not refuse
+pub not_refused : (b : Bool) (r : Refusal) (ts : List (Bool × Refusal)) → first_refusal ((b, r) ∷ ts) ≡ None → (b ≡ false) × (first_refusal ts ≡ None)
 not_refused true r ts e = cc
 not_refused false r ts e = (refl, e)
 
@@ -114,7 +116,7 @@ behind : (xs ys : List (Bool × Refusal)) → first_refusal (xs ++ ys) ≡ None 
 behind [] ys e = e
 behind (x ∷ xs) ys e = behind xs ys (not_refused x.0 x.1 (xs ++ ys) e).1
 
-rising : {a b : ℕ} → not (nat_lt a b) ≡ false → a < b
+pub rising : {a b : ℕ} → not (nat_lt a b) ≡ false → a < b
 rising {a} {b} t = grind (arith, nat_tests, t)
 
 master_runs : (w : World) (e : ℕ) (f : Master → Step) → Invariant w → ((M : Master) → find nat_cmp e w.masters ≡ Some M → StepHolds (f M)) → StepHolds (at_master w e f)

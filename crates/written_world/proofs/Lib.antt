@@ -19,6 +19,7 @@ pub mod GrantsFit
 pub mod CreditedOnce
 pub mod InvariantKept
 pub mod JobsKept
+pub mod RecordsKept
 pub mod GoodKept
 pub mod ViewsLemmas
 pub mod SettledLemmas

@@ -37,12 +37,13 @@ after_known (SaysLedger fault) own top m x = refl
 after_known (SaysExceeds total has) own top m x = refl
 
 -- what a party knows of the sender of what it heard
-record KnowsSender (talks : Bool) (l : Link) (x : Packet) (h : Heard) : Type 0 where
-  met : h.fresh ≡ true → (h.link.known ≡ x.from.inc) × (talks ≡ true)
-  rises : h.fresh ≡ true → l.known < x.from.inc
-  stays : h.fresh ≡ false → h.link.known ≡ l.known
+pub record KnowsSender (talks : Bool) (l : Link) (x : Packet) (h : Heard) : Type 0 where
+  pub met : h.fresh ≡ true → (h.link.known ≡ x.from.inc) × (talks ≡ true)
+  pub rises : h.fresh ≡ true → l.known < x.from.inc
+  pub stays : h.fresh ≡ false → h.link.known ≡ l.known
 
-knows_sender : (p : Party) (talks : Bool) (top : ℕ) (l : Link) (x : Packet) → KnowsSender talks l x (hear p talks top l x)
+-- of each packet
+pub knows_sender : (p : Party) (talks : Bool) (top : ℕ) (l : Link) (x : Packet) → KnowsSender talks l x (hear p talks top l x)
 knows_sender p talks top l x =
     let peer = hear_peer p.inc top l x in
     either (KnowsSender talks l x) (not (same_id x.to.id p.id && talks)) (unmoved Stranger l) (cond (nat_lt x.from.inc l.known) (unmoved Stale l) peer)
@@ -276,13 +277,14 @@ start_joins net p empty s = record {
   joined = record { head = ap (λ (h : List Ledger). (at_index nothing h (length h)).head) (empty master_id) ∙ ap (λ b. (elim b as (λ _. Link) [ true ↦ unknown | false ↦ net.links p master_id ]).known) (sym (same_party_itself p)) };
 }
 
-boots_rise : (boots : Id → ℕ) (d : Id) (b : ℕ) → boots d < b → (q : Id) → boots q ≤ set_boot boots d b q
+-- a boot that rises
+pub boots_rise : (boots : Id → ℕ) (d : Id) (b : ℕ) → boots d < b → (q : Id) → boots q ≤ set_boot boots d b q
 boots_rise boots d b lt q = elim (same_id d q) as (λ t. same_id d q ≡ t → boots q ≤ cond t b (boots q)) [
   | true ↦ λ e. let same : boots d ≡ boots q = ap boots (id_is d q e) in omega (arith, lt, same)
   | false ↦ λ _. omega arith
 ] refl
 
-boot_here : (boots : Id → ℕ) (d : Id) (b : ℕ) → b ≤ set_boot boots d b d
+pub boot_here : (boots : Id → ℕ) (d : Id) (b : ℕ) → b ≤ set_boot boots d b d
 boot_here boots d b = let e : set_boot boots d b d ≡ b = ap (λ t. cond t b (boots d)) (same_id_itself d) in omega (arith, e)
 
 -- the start of an agent

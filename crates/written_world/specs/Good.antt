@@ -1,6 +1,6 @@
 -- The invariant that every step keeps.
-use Rattle.std.specs.Prelude.{cond, ◌≡◌, ℕ, ◌+◌, ◌<◌, ◌≤◌, true, false, nat_eq, nat_lt, ◌&&◌, List, [], length, map, Some, None, slice_get, T}
-use Rattle.std.specs.List.{AllByRecursion}
+use Rattle.std.specs.Prelude.{cond, ◌≡◌, ℕ, ◌+◌, ◌<◌, ◌≤◌, true, false, nat_eq, nat_lt, ◌&&◌, ◌||◌, List, [], length, map, Some, None, slice_get, T, Bool}
+use Rattle.std.specs.List.{AllByRecursion, list_any}
 use Rattle.std.specs.Ordering.{nat_cmp}
 use Rattle.std.specs.FinMap.Entries.{find, is_sorted}
 use Rattle.fuxi_terms.specs.declared.Key.{Key}
@@ -9,7 +9,7 @@ use Rattle.fuxi_terms.specs.Cluster.{ClusterRecord, JobRecord, UnitRecord, is_va
 use Rattle.fuxi_terms.specs.Limits.{most_resources, greatest_count, greatest_back}
 use Rattle.fuxi_terms.specs.Keys.{key_cmp, RowKey, row_cmp, Spot, spot_cmp}
 use Rattle.fuxi_terms.specs.Counts.{count, AreCounts}
-use Rattle.written_net.specs.Net.{Net, Party, Id, last, at_index}
+use Rattle.written_net.specs.Net.{Net, Party, Id, Packet, Kind, Ack, Delta, Full, same_party, last, at_index}
 use Rattle.written_net.specs.Ledgers.{Ledger, nothing, at_key}
 use Rattle.fuxi_terms.specs.TallyKeys.{reported_key, count_key, want_key, credited_what, credited_key, back_key, is_back, where_holds}
 use Rattle.written_net.specs.Channels.{master_id, agent_id, app_id, party, is_agent, is_app, view, present, HasJoined, shape}
@@ -211,8 +211,42 @@ pub record IsResting (c : ClusterRecord) (M : Master) : Type 0 where
   pub line : (a u : ℕ) → has_pair (a, u) M.line ≡ nat_lt 0 (out M a u)
   pub settled : (a u m : ℕ) → placeable c M a u m ≡ false
 
+-- Runs. An incarnation is 0, or ran at some time
+abbrev pub has_run : List Party → Party → Bool
+has_run ran p = nat_eq p.inc 0 || list_any (same_party p) ran
+
+-- whose incarnation the place of a packet names: an Ack its receiver's, else its sender's
+abbrev pub placed : Kind → Packet → Party
+placed Ack x = party x.to.id x.inc
+placed Delta x = party x.from.id x.inc
+placed Full x = party x.from.id x.inc
+
+pub record HasRunPacket (ran : List Party) (x : Packet) : Type 0 where
+  pub from : has_run ran x.from ≡ true
+  pub to : has_run ran x.to ≡ true
+  pub place : has_run ran (placed x.kind x) ≡ true
+
+-- each incarnation that a party knows or a packet names
+pub record AllRan (ran : List Party) (net : Net Ledger) : Type 0 where
+  pub links : (p : Party) (q : Id) → has_run ran (party q (net.links p q).known) ≡ true
+  pub packets : AllByRecursion (HasRunPacket ran) net.packets
+
+-- what runs has run, and with the last boot
+pub record IsBooted (last_boot : ℕ) (ran : List Party) (p : Party) : Type 0 where
+  pub last : p.inc ≡ last_boot
+  pub recorded : has_run ran p ≡ true
+
+-- what runs has run, with its last boot; what ran is not above the last boot or the fence; and all that is named has run
+pub record IsRecorded (w : World) : Type 0 where
+  pub masters : (e : ℕ) (M : Master) → find nat_cmp e w.masters ≡ Some M → (M.epoch ≡ e) × (has_run w.ran (party master_id e) ≡ true)
+  pub agents : (m : ℕ) (g : Agent) → find nat_cmp m w.agents ≡ Some g → IsBooted (w.boots (agent_id m)) w.ran (party (agent_id m) g.boot)
+  pub apps : (a : ℕ) (g : App) → find nat_cmp a w.apps ≡ Some g → IsBooted (w.boots (app_id a)) w.ran (party (app_id a) g.boot)
+  pub below : AllByRecursion (λ p. p.inc ≤ top w p.id) w.ran
+  pub net : AllRan w.ran w.net
+
 -- Good: what each step keeps
 pub record Good (w : World) : Type 0 where
   pub jobs : AreJobs w.cluster w.hard.jobs
   pub stands : Invariant w
   pub rests : (e : ℕ) (M : Master) → find nat_cmp e w.masters ≡ Some M → IsResting w.cluster M
+  pub recorded : IsRecorded w
