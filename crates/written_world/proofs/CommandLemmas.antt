@@ -2,7 +2,7 @@
 use Rattle.std.proofs.Common.{◌≡◌, ℕ, Bool, true, not, List, [], ◌∷◌, Option, Some, None, Result, Ok, Err, refl}
 use Rattle.fuxi_terms.specs.Counts.{then_do}
 use Rattle.written_roles.specs.Refusals.{Refusal, first_refusal, unless_fault, with_found, AlreadyServing, NotServing, NoGroup, NoMachine, NothingToPreempt, job_tests}
-use Rattle.written_roles.specs.HardState.{HardState, HardEvent, hard_tests, hard_after, hard_step, finished, banned, unbanned, submit_tests, submitted, with_job, Finishing, Banning, Unbanning, Submission}
+use Rattle.written_roles.specs.HardState.{HardState, HardEvent, hard_tests, hard_after, hard_step, finished, banned, unbanned, submit_tests, submitted, with_job, Finishing, Banning, Unbanning, Submission, finish_tests, ban_tests, unban_tests}
 use Rattle.written_roles.specs.MasterSteps.{Changed, Commanded, ended_in, banned_in, command_of, Submits, Finishes, BansMachine, UnbansMachine, StartsServing, MakesRoom}
 use Rattle.written_world.specs.World.{World, Step, refused, on_result}
 use Rattle.written_roles.specs.Masters.{Master}
@@ -58,16 +58,16 @@ module _ (P : Step → Type 0) (w : World) (stays : (r : Refusal) → P (refused
       (λ k. record { hard = k; change = record { state = record M { jobs = with_job (eight_places j) M.jobs }; forced = app_id j.number ∷ [] } }) f made
 
   -- a job that ends
-  pub finishes_has : (a : ℕ) → P (f (record { hard = finished w.hard a; change = record { state = ended_in M a; forced = [] } })) → P (on_result w (command_of w.cluster w.hard M (Finishes a)) f)
-  finishes_has a made = wrote_has P w stays [] w.hard M.epoch (Finishing a) (λ k. record { hard = k; change = record { state = ended_in M a; forced = [] } }) f (λ _ _. made)
+  pub finishes_has : (a : ℕ) → (first_refusal (finish_tests w.hard M.epoch a) ≡ None → P (f (record { hard = finished w.hard a; change = record { state = ended_in M a; forced = [] } }))) → P (on_result w (command_of w.cluster w.hard M (Finishes a)) f)
+  finishes_has a made = wrote_has P w stays [] w.hard M.epoch (Finishing a) (λ k. record { hard = k; change = record { state = ended_in M a; forced = [] } }) f (λ _ t. made t)
 
   -- a ban
-  pub bans_has : (m : ℕ) → P (f (record { hard = banned w.hard m; change = record { state = banned_in M m; forced = [] } })) → P (on_result w (command_of w.cluster w.hard M (BansMachine m)) f)
-  bans_has m made = wrote_has P w stays ((not (has_machine w.cluster m), NoMachine) ∷ []) w.hard M.epoch (Banning m) (λ k. record { hard = k; change = record { state = banned_in M m; forced = [] } }) f (λ _ _. made)
+  pub bans_has : (m : ℕ) → (first_refusal (ban_tests w.hard M.epoch m) ≡ None → P (f (record { hard = banned w.hard m; change = record { state = banned_in M m; forced = [] } }))) → P (on_result w (command_of w.cluster w.hard M (BansMachine m)) f)
+  bans_has m made = wrote_has P w stays ((not (has_machine w.cluster m), NoMachine) ∷ []) w.hard M.epoch (Banning m) (λ k. record { hard = k; change = record { state = banned_in M m; forced = [] } }) f (λ _ t. made t)
 
   -- a ban lifted
-  pub unbans_has : (m : ℕ) → P (f (record { hard = unbanned w.hard m; change = record { state = record M { bans = without_number m M.bans }; forced = [] } })) → P (on_result w (command_of w.cluster w.hard M (UnbansMachine m)) f)
-  unbans_has m made = wrote_has P w stays ((not (has_machine w.cluster m), NoMachine) ∷ []) w.hard M.epoch (Unbanning m) (λ k. record { hard = k; change = record { state = record M { bans = without_number m M.bans }; forced = [] } }) f (λ _ _. made)
+  pub unbans_has : (m : ℕ) → (first_refusal (unban_tests w.hard M.epoch m) ≡ None → P (f (record { hard = unbanned w.hard m; change = record { state = record M { bans = without_number m M.bans }; forced = [] } }))) → P (on_result w (command_of w.cluster w.hard M (UnbansMachine m)) f)
+  unbans_has m made = wrote_has P w stays ((not (has_machine w.cluster m), NoMachine) ∷ []) w.hard M.epoch (Unbanning m) (λ k. record { hard = k; change = record { state = record M { bans = without_number m M.bans }; forced = [] } }) f (λ _ t. made t)
 
   -- serving from here on
   pub begins_has : P (f (record { hard = w.hard; change = record { state = record M { serving = true }; forced = [] } })) → P (on_result w (command_of w.cluster w.hard M StartsServing) f)

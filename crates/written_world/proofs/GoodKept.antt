@@ -17,6 +17,7 @@ use Rattle.written_world.proofs.CarriedLemmas.{counts_once}
 use Rattle.written_world.proofs.InvariantKept.{act_holds, counted_holds, at_start, table_fits}
 use Rattle.written_world.proofs.JobsKept.{act_has, few_resources}
 use Rattle.written_world.proofs.SettledKept.{act_rests}
+use Rattle.written_world.proofs.KnowledgeKept.{act_known}
 use Rattle.written_world.proofs.RecordsKept.{act_recorded, empty_recorded}
 use Rattle.written_world.proofs.ViewsLemmas.{views_of}
 
@@ -29,11 +30,13 @@ step_good : (w : World) (e : Event) → is_valid_cluster w.cluster ≡ true → 
 step_good w e valid line h =
     let j = (act_has w.cluster (few_resources w.cluster valid) (counted_in w) e line (record { same = refl; jobs = h.jobs })).it in
     let r = (act_rests (counted_in w) e (record { rests = λ k. record { has = λ M f. h.rests k M f } })).all in
+    let k = (act_known (counted_in w) e (record { all = λ n M f. let s = h.stands.masters n M f in record { epoch = s.epoch; ran = s.ran; knows = h.knows n M f } })).it in
     record {
       good = record {
         jobs = subst (λ c. AreJobs c (world_step w e).world.hard.jobs) (sym j.same) j.jobs;
         stands = (act_holds (counted_in w) e (counted_holds w h.stands)).it;
         rests = λ k M f. (r.rests k).has M f;
+        knows = λ n M f. (k.all n M f).knows;
         recorded = (act_recorded (counted_in w) e (record { masters = h.recorded.masters; agents = h.recorded.agents; apps = h.recorded.apps; below = h.recorded.below; net = h.recorded.net })).it;
       };
       same = j.same;
@@ -45,7 +48,7 @@ good_kept w e valid line h = (step_good w e valid line h).good
 
 -- the empty world
 pub good_at_start : (c : ClusterRecord) → Good (empty_world c)
-good_at_start c = record { jobs = tt; stands = at_start c; rests = λ e M found. cc; recorded = empty_recorded c }
+good_at_start c = record { jobs = tt; stands = at_start c; rests = λ e M found. cc; recorded = empty_recorded c; knows = λ e M found. cc }
 
 -- every run
 run_good : (es : List Event) (w : World) → is_valid_cluster w.cluster ≡ true → AllByRecursion (λ e. is_from_line e ≡ true) es → Good w → Good (run_from es w).world

@@ -407,9 +407,9 @@ act_holds w (Submit e j) h = master_runs w e _ h (λ M f. submits_has StepHolds 
     let k = h.masters e M f in
     let new : is_known w.hard.jobs j.number ≡ false = (not_refused (is_known w.hard.jobs j.number) Known (is_full w.hard ∷ []) (not_refused (nat_lt M.epoch w.hard.fence) (Fenced w.hard.fence) ((is_known w.hard.jobs j.number, Known) ∷ is_full w.hard ∷ []) tests).1).0 in
     master_acts w (submitted w.hard (eight_places j)) e M (record M { jobs = with_job (eight_places j) M.jobs }) (app_id j.number ∷ []) h f (omega arith) (job_added w.hard.jobs (eight_places j)) refl (both_added M.jobs w.hard.jobs (eight_places j) new k.knows) (added_in_order M (eight_places j)) (added_fits_machines w.cluster M (eight_places j)) (added_bounded w.cluster M (eight_places j)) (added_credited w.net M (eight_places j))))
-act_holds w (Finish e a) h = master_runs w e _ h (λ M f. finishes_has StepHolds w (λ r. record { it = h }) M _ a (master_acts w (finished w.hard a) e M (ended_in M a) [] h f (omega arith) (ended_knows a w.hard.jobs w.hard.jobs (knows_itself w.hard.jobs)) refl (both_ended a M.jobs w.hard.jobs (h.masters e M f).knows) (ended_in_order M a) (λ _. ended_fits_machines w.cluster M a) (ended_bounded w.cluster M a) (ended_credited w.net M a)))
-act_holds w (Ban e m) h = master_runs w e _ h (λ M f. bans_has StepHolds w (λ r. record { it = h }) M _ m (master_changes w (banned w.hard m) e M (banned_in M m) [] h f (omega arith) refl refl refl refl (banned_in_order M m) (λ _. banned_fits_machines w.cluster M m) (banned_bounded w.cluster M m)))
-act_holds w (Unban e m) h = master_runs w e _ h (λ M f. unbans_has StepHolds w (λ r. record { it = h }) M _ m (master_changes w (unbanned w.hard m) e M (record M { bans = without_number m M.bans }) [] h f (omega arith) refl refl refl refl (same_in_order M (record M { bans = without_number m M.bans }) refl refl refl refl) (λ _. same_fits_machines w.cluster M (record M { bans = without_number m M.bans }) refl refl refl) (same_bounded w.cluster M (record M { bans = without_number m M.bans }) refl refl refl refl refl)))
+act_holds w (Finish e a) h = master_runs w e _ h (λ M f. finishes_has StepHolds w (λ r. record { it = h }) M _ a (λ _. master_acts w (finished w.hard a) e M (ended_in M a) [] h f (omega arith) (ended_knows a w.hard.jobs w.hard.jobs (knows_itself w.hard.jobs)) refl (both_ended a M.jobs w.hard.jobs (h.masters e M f).knows) (ended_in_order M a) (λ _. ended_fits_machines w.cluster M a) (ended_bounded w.cluster M a) (ended_credited w.net M a)))
+act_holds w (Ban e m) h = master_runs w e _ h (λ M f. bans_has StepHolds w (λ r. record { it = h }) M _ m (λ _. master_changes w (banned w.hard m) e M (banned_in M m) [] h f (omega arith) refl refl refl refl (banned_in_order M m) (λ _. banned_fits_machines w.cluster M m) (banned_bounded w.cluster M m)))
+act_holds w (Unban e m) h = master_runs w e _ h (λ M f. unbans_has StepHolds w (λ r. record { it = h }) M _ m (λ _. master_changes w (unbanned w.hard m) e M (record M { bans = without_number m M.bans }) [] h f (omega arith) refl refl refl refl (same_in_order M (record M { bans = without_number m M.bans }) refl refl refl refl) (λ _. same_fits_machines w.cluster M (record M { bans = without_number m M.bans }) refl refl refl) (same_bounded w.cluster M (record M { bans = without_number m M.bans }) refl refl refl refl refl)))
 act_holds w (Begin e) h = master_runs w e _ h (λ M f. begins_has StepHolds w (λ r. record { it = h }) M _ (master_changes w w.hard e M (record M { serving = true }) [] h f (omega arith) refl refl refl refl (same_in_order M (record M { serving = true }) refl refl refl refl) (λ _. same_fits_machines w.cluster M (record M { serving = true }) refl refl refl) (same_bounded w.cluster M (record M { serving = true }) refl refl refl refl refl)))
 act_holds w (Preempt e) h = master_runs w e _ h (λ M f. makes_room_has StepHolds w (λ r. record { it = h }) M _ (λ p planned. master_changes w w.hard e M (preempted M p) [] h f (omega arith) refl refl refl refl (preempted_in_order w.cluster M p planned (h.masters e M f).waits) (preempted_fits_machines w.cluster M p planned) (preempted_bounded w.cluster M p planned (h.masters e M f).waits)))
 act_holds w (Want a u n) h = want_holds w a u n h

@@ -184,9 +184,9 @@ module _ (c : ClusterRecord) (few : c.resources ≤ most_resources) where
       master_runs w e _ b (λ M. submits_has (StepHasJobs c) w (λ r. record { it = b }) M _ j (λ tests _.
       let job : IsJob c (eight_places j) = wide_job c j few parts.0 parts.1 (subst (λ (d : ClusterRecord). first_refusal ((not (has_group d j.group), NoGroup) ∷ job_tests d.resources j) ≡ None) b.same tests) in
       record { it = record { same = b.same; jobs = jobs_added c w.hard.jobs (eight_places j) job b.jobs } }))
-  act_has w (Finish e a) t b = master_runs w e _ b (λ M. finishes_has (StepHasJobs c) w (λ r. record { it = b }) M _ a (record { it = record { same = b.same; jobs = jobs_ended c a w.hard.jobs b.jobs } }))
-  act_has w (Ban e m) t b = master_runs w e _ b (λ M. bans_has (StepHasJobs c) w (λ r. record { it = b }) M _ m (record { it = record { same = b.same; jobs = b.jobs } }))
-  act_has w (Unban e m) t b = master_runs w e _ b (λ M. unbans_has (StepHasJobs c) w (λ r. record { it = b }) M _ m (record { it = record { same = b.same; jobs = b.jobs } }))
+  act_has w (Finish e a) t b = master_runs w e _ b (λ M. finishes_has (StepHasJobs c) w (λ r. record { it = b }) M _ a (λ _. record { it = record { same = b.same; jobs = jobs_ended c a w.hard.jobs b.jobs } }))
+  act_has w (Ban e m) t b = master_runs w e _ b (λ M. bans_has (StepHasJobs c) w (λ r. record { it = b }) M _ m (λ _. record { it = record { same = b.same; jobs = b.jobs } }))
+  act_has w (Unban e m) t b = master_runs w e _ b (λ M. unbans_has (StepHasJobs c) w (λ r. record { it = b }) M _ m (λ _. record { it = record { same = b.same; jobs = b.jobs } }))
   act_has w (Begin e) t b = master_runs w e _ b (λ M. begins_has (StepHasJobs c) w (λ r. record { it = b }) M _ (record { it = record { same = b.same; jobs = b.jobs } }))
   act_has w (Preempt e) t b = master_runs w e _ b (λ M. makes_room_has (StepHasJobs c) w (λ r. record { it = b }) M _ (λ p _. record { it = record { same = b.same; jobs = b.jobs } }))
   act_has w (Want a u n) t b = app_runs w a _ b (λ g. checked w _ (demanded w a g (want_key u) n) b (record { it = record { same = b.same; jobs = b.jobs } }))

@@ -20,6 +20,7 @@ pub mod CreditedOnce
 pub mod InvariantKept
 pub mod JobsKept
 pub mod RecordsKept
+pub mod KnowledgeKept
 pub mod GoodKept
 pub mod ViewsLemmas
 pub mod SettledLemmas

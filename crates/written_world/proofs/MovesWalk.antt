@@ -140,9 +140,9 @@ module _ (I : Net Ledger → Type 0) (keeps : (net : Net Ledger) (m : Move Ledge
   act_keeps w (StartApp a n) b = checked w _ (prints_nothing (app_started w a n)) b (record { net = keeps w.net (Starts (party (app_id a) n)) b })
   act_keeps w (Submit e j) b = master_runs w e _ b (λ M. submits_has StepKeeps w (λ r. record { net = b }) M _ j (λ _ _.
       end_step_keeps (record w { hard = submitted w.hard (eight_places j) }) w.net (record M { jobs = with_job (eight_places j) M.jobs }) (app_id j.number ∷ []) b))
-  act_keeps w (Finish e a) b = master_runs w e _ b (λ M. finishes_has StepKeeps w (λ r. record { net = b }) M _ a (end_step_keeps (record w { hard = finished w.hard a }) w.net (ended_in M a) [] b))
-  act_keeps w (Ban e m) b = master_runs w e _ b (λ M. bans_has StepKeeps w (λ r. record { net = b }) M _ m (end_step_keeps (record w { hard = banned w.hard m }) w.net (banned_in M m) [] b))
-  act_keeps w (Unban e m) b = master_runs w e _ b (λ M. unbans_has StepKeeps w (λ r. record { net = b }) M _ m (end_step_keeps (record w { hard = unbanned w.hard m }) w.net (record M { bans = without_number m M.bans }) [] b))
+  act_keeps w (Finish e a) b = master_runs w e _ b (λ M. finishes_has StepKeeps w (λ r. record { net = b }) M _ a (λ _. end_step_keeps (record w { hard = finished w.hard a }) w.net (ended_in M a) [] b))
+  act_keeps w (Ban e m) b = master_runs w e _ b (λ M. bans_has StepKeeps w (λ r. record { net = b }) M _ m (λ _. end_step_keeps (record w { hard = banned w.hard m }) w.net (banned_in M m) [] b))
+  act_keeps w (Unban e m) b = master_runs w e _ b (λ M. unbans_has StepKeeps w (λ r. record { net = b }) M _ m (λ _. end_step_keeps (record w { hard = unbanned w.hard m }) w.net (record M { bans = without_number m M.bans }) [] b))
   act_keeps w (Begin e) b = master_runs w e _ b (λ M. begins_has StepKeeps w (λ r. record { net = b }) M _ (end_step_keeps w w.net (record M { serving = true }) [] b))
   act_keeps w (Preempt e) b = master_runs w e _ b (λ M. makes_room_has StepKeeps w (λ r. record { net = b }) M _ (λ p _. end_step_keeps w w.net (preempted M p) [] b))
   act_keeps w (Want a u n) b = app_runs w a _ b (λ g. checked w _ _ b (demanded_keeps w a g (want_key u) n b))

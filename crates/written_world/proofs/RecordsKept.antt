@@ -322,9 +322,9 @@ act_recorded w (StartApp a b) h = checked w _ _ h (λ n.
     let z = not_refused last.0 last.1 [] y.1 in
     record { it = app_starts_recorded w a b h (rising z.0) })
 act_recorded w (Submit e j) h = master_runs w e _ h (λ M f. submits_has StepRecords w (λ r. record { it = h }) M _ j (λ _ _. acts w (submitted w.hard (eight_places j)) e M (record M { jobs = with_job (eight_places j) M.jobs }) (app_id j.number ∷ []) h f refl refl))
-act_recorded w (Finish e a) h = master_runs w e _ h (λ M f. finishes_has StepRecords w (λ r. record { it = h }) M _ a (acts w (finished w.hard a) e M (ended_in M a) [] h f refl refl))
-act_recorded w (Ban e m) h = master_runs w e _ h (λ M f. bans_has StepRecords w (λ r. record { it = h }) M _ m (acts w (banned w.hard m) e M (banned_in M m) [] h f refl refl))
-act_recorded w (Unban e m) h = master_runs w e _ h (λ M f. unbans_has StepRecords w (λ r. record { it = h }) M _ m (acts w (unbanned w.hard m) e M (record M { bans = without_number m M.bans }) [] h f refl refl))
+act_recorded w (Finish e a) h = master_runs w e _ h (λ M f. finishes_has StepRecords w (λ r. record { it = h }) M _ a (λ _. acts w (finished w.hard a) e M (ended_in M a) [] h f refl refl))
+act_recorded w (Ban e m) h = master_runs w e _ h (λ M f. bans_has StepRecords w (λ r. record { it = h }) M _ m (λ _. acts w (banned w.hard m) e M (banned_in M m) [] h f refl refl))
+act_recorded w (Unban e m) h = master_runs w e _ h (λ M f. unbans_has StepRecords w (λ r. record { it = h }) M _ m (λ _. acts w (unbanned w.hard m) e M (record M { bans = without_number m M.bans }) [] h f refl refl))
 act_recorded w (Begin e) h = master_runs w e _ h (λ M f. begins_has StepRecords w (λ r. record { it = h }) M _ (acts w w.hard e M (record M { serving = true }) [] h f refl refl))
 act_recorded w (Preempt e) h = master_runs w e _ h (λ M f. makes_room_has StepRecords w (λ r. record { it = h }) M _ (λ p _. acts w w.hard e M (preempted M p) [] h f refl refl))
 act_recorded w (Want a u n) h = app_runs w a _ h (λ g f. checked w _ _ h (λ _. demands_recorded w a g (want_key u) n h))

@@ -1,5 +1,5 @@
 -- The invariant that every step keeps.
-use Rattle.std.specs.Prelude.{cond, ◌≡◌, ℕ, ◌+◌, ◌<◌, ◌≤◌, true, false, nat_eq, nat_lt, ◌&&◌, ◌||◌, List, [], length, map, Some, None, slice_get, T, Bool}
+use Rattle.std.specs.Prelude.{cond, ◌≡◌, ℕ, ◌+◌, ◌<◌, ◌≤◌, true, false, nat_eq, nat_lt, ◌&&◌, ◌||◌, List, [], length, map, Some, None, slice_get, T, Bool, ◌++◌}
 use Rattle.std.specs.List.{AllByRecursion, list_any}
 use Rattle.std.specs.Ordering.{nat_cmp}
 use Rattle.std.specs.FinMap.Entries.{find, is_sorted}
@@ -244,9 +244,17 @@ pub record IsRecorded (w : World) : Type 0 where
   pub below : AllByRecursion (λ p. p.inc ≤ top w p.id) w.ran
   pub net : AllRan w.ran w.net
 
+-- What a master knows of the hard state: its jobs are the first ones there, and that of the fence has its jobs, marks and bans
+pub record KnowsHard (h : HardState) (M : Master) : Type 0 where
+  pub later : List JobRecord
+  pub first : map (λ (k : KnownJob). k.job) h.jobs ≡ map (λ (k : KnownJob). k.job) M.jobs ++ later
+  pub marks : M.epoch ≡ h.fence → M.jobs ≡ h.jobs
+  pub bans : M.epoch ≡ h.fence → M.bans ≡ h.bans
+
 -- Good: what each step keeps
 pub record Good (w : World) : Type 0 where
   pub jobs : AreJobs w.cluster w.hard.jobs
   pub stands : Invariant w
   pub rests : (e : ℕ) (M : Master) → find nat_cmp e w.masters ≡ Some M → IsResting w.cluster M
   pub recorded : IsRecorded w
+  pub knows : (e : ℕ) (M : Master) → find nat_cmp e w.masters ≡ Some M → KnowsHard w.hard M
