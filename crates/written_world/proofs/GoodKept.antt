@@ -1,5 +1,5 @@
 -- Each event that a line can give keeps Good, and Safe follows from it.
-use Rattle.std.proofs.Common.{◌≡◌, true, List, [], ◌∷◌, refl, sym, ◌∙◌, ap, subst}
+use Rattle.std.proofs.Common.{◌≡◌, true, List, [], ◌∷◌, refl, sym, ◌∙◌, ap, subst, arith}
 use Rattle.std.specs.List.{AllByRecursion}
 use Rattle.fuxi_terms.specs.Cluster.{ClusterRecord, is_valid_cluster}
 use Rattle.written_net.specs.Net.{Net, Packet, Kind, Ack, Delta, Full, Party, Id}
@@ -10,7 +10,7 @@ use Rattle.written_world.specs.World.{World, empty_world}
 use Rattle.written_world.specs.Events.{Event, counted_in, world_step}
 use Rattle.written_world.specs.Runs.{run_from, run}
 use Rattle.written_world.specs.Lines.{IsInput, is_from_line}
-use Rattle.written_world.specs.Good.{AreJobs, Good}
+use Rattle.written_world.specs.Good.{IsHard, Good}
 use Rattle.written_world.specs.Safe.{Safe}
 use Rattle.written_world.proofs.AgreementLemmas.{agent_agrees, app_agrees}
 use Rattle.written_world.proofs.CarriedLemmas.{counts_once}
@@ -28,12 +28,12 @@ record StepIsGood (w w' : World) : Type 0 where
 
 step_good : (w : World) (e : Event) → is_valid_cluster w.cluster ≡ true → is_from_line e ≡ true → Good w → StepIsGood w (world_step w e).world
 step_good w e valid line h =
-    let j = (act_has w.cluster (few_resources w.cluster valid) (counted_in w) e line (record { same = refl; jobs = h.jobs })).it in
+    let j = (act_has w.cluster (few_resources w.cluster valid) (counted_in w) e line (record { same = refl; hard = h.hard })).it in
     let r = (act_rests (counted_in w) e (record { rests = λ k. record { has = λ M f. h.rests k M f } })).all in
     let k = (act_known (counted_in w) e (record { all = λ n M f. let s = h.stands.masters n M f in record { epoch = s.epoch; ran = s.ran; knows = h.knows n M f } })).it in
     record {
       good = record {
-        jobs = subst (λ c. AreJobs c (world_step w e).world.hard.jobs) (sym j.same) j.jobs;
+        hard = subst (λ c. IsHard c (world_step w e).world.hard) (sym j.same) j.hard;
         stands = (act_holds (counted_in w) e (counted_holds w h.stands)).it;
         rests = λ k M f. (r.rests k).has M f;
         knows = λ n M f. (k.all n M f).knows;
@@ -48,7 +48,7 @@ good_kept w e valid line h = (step_good w e valid line h).good
 
 -- the empty world
 pub good_at_start : (c : ClusterRecord) → Good (empty_world c)
-good_at_start c = record { jobs = tt; stands = at_start c; rests = λ e M found. cc; recorded = empty_recorded c; knows = λ e M found. cc }
+good_at_start c = record { hard = record { jobs = tt; distinct = tt; few = omega arith }; stands = at_start c; rests = λ e M found. cc; recorded = empty_recorded c; knows = λ e M found. cc }
 
 -- every run
 run_good : (es : List Event) (w : World) → is_valid_cluster w.cluster ≡ true → AllByRecursion (λ e. is_from_line e ≡ true) es → Good w → Good (run_from es w).world

@@ -1,12 +1,12 @@
 -- The invariant that every step keeps.
-use Rattle.std.specs.Prelude.{cond, ◌≡◌, ℕ, ◌+◌, ◌<◌, ◌≤◌, true, false, nat_eq, nat_lt, ◌&&◌, ◌||◌, List, [], length, map, Some, None, slice_get, T, Bool, ◌++◌}
+use Rattle.std.specs.Prelude.{cond, ◌≡◌, ℕ, ◌+◌, ◌<◌, ◌≤◌, true, false, nat_eq, nat_lt, ◌&&◌, ◌||◌, List, [], length, map, Some, None, slice_get, T, Bool, ◌++◌, ◌∷◌}
 use Rattle.std.specs.List.{AllByRecursion, list_any}
 use Rattle.std.specs.Ordering.{nat_cmp}
 use Rattle.std.specs.FinMap.Entries.{find, is_sorted}
 use Rattle.fuxi_terms.specs.declared.Key.{Key}
 use Rattle.fuxi_terms.specs.Vectors.{at_place}
 use Rattle.fuxi_terms.specs.Cluster.{ClusterRecord, JobRecord, UnitRecord, is_valid_job, has_at, has_machine}
-use Rattle.fuxi_terms.specs.Limits.{most_resources, greatest_count, greatest_back}
+use Rattle.fuxi_terms.specs.Limits.{most_resources, most_records, greatest_count, greatest_back}
 use Rattle.fuxi_terms.specs.Keys.{key_cmp, RowKey, row_cmp, Spot, spot_cmp}
 use Rattle.fuxi_terms.specs.Counts.{count, AreCounts}
 use Rattle.written_net.specs.Net.{Net, Party, Id, Packet, Kind, Ack, Delta, Full, same_party, last, at_index}
@@ -79,6 +79,17 @@ pub record IsJob (c : ClusterRecord) (j : JobRecord) : Type 0 where
 
 abbrev pub AreJobs : ClusterRecord → List KnownJob → Type 0
 AreJobs c jobs = AllByRecursion (λ k. IsJob c k.job) jobs
+
+-- the numbers of the jobs are distinct
+abbrev pub AreDistinct : List KnownJob → Type 0
+AreDistinct [] = Unit {0}
+AreDistinct (k ∷ ks) = (is_known ks k.job.number ≡ false) × AreDistinct ks
+
+-- the hard state: its jobs are valid, each with a number of its own, and there are not more records than there may be
+pub record IsHard (c : ClusterRecord) (h : HardState) : Type 0 where
+  pub jobs : AreJobs c h.jobs
+  pub distinct : AreDistinct h.jobs
+  pub few : h.records ≤ most_records
 
 -- Demands one after the other. Where the head is another, nothing is given back
 abbrev pub StartsAnew : Ledger → Ledger → Type 0
@@ -253,7 +264,7 @@ pub record KnowsHard (h : HardState) (M : Master) : Type 0 where
 
 -- Good: what each step keeps
 pub record Good (w : World) : Type 0 where
-  pub jobs : AreJobs w.cluster w.hard.jobs
+  pub hard : IsHard w.cluster w.hard
   pub stands : Invariant w
   pub rests : (e : ℕ) (M : Master) → find nat_cmp e w.masters ≡ Some M → IsResting w.cluster M
   pub recorded : IsRecorded w
