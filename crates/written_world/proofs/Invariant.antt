@@ -1,12 +1,13 @@
 -- In every state the net is sound, and what the running parties would have the others see is what they sent last.
-use Rattle.std.proofs.Common.{◌≡◌, ◌⊎◌, inl, inr, ℕ, zero, suc, ◌<◌, ◌≤◌, Bool, true, false, cond, not, nat_eq, List, [], ◌∷◌, length, map, Some, None, refl, sym, ◌∙◌, ap, subst, arith}
+use Rattle.std.proofs.Common.{◌≡◌, ◌⊎◌, inl, inr, ℕ, zero, suc, ◌<◌, ◌≤◌, Bool, true, false, cond, not, nat_eq, List, [], ◌∷◌, length, map, Some, None, refl, sym, ◌∙◌, ap, subst, arith, nat_lt}
+use Rattle.std.specs.Prelude.{◌||◌}
 use Rattle.std.specs.List.{AllByRecursion}
 use Rattle.std.specs.Ordering.{nat_cmp, eq_by_cmp}
 use Rattle.std.specs.Cmp.{nat_cmp_total}
 use Rattle.std.specs.FinMap.Entries.{find, put, find-put}
 use Rattle.std.proofs.lemmas.Bool.Decides.{nat_tests}
 use Rattle.fuxi_terms.specs.Cluster.{ClusterRecord, has_machine}
-use Rattle.written_net.specs.Net.{Net, Party, Id, Link, same_id, same_party, at_index}
+use Rattle.written_net.specs.Net.{Net, Party, Id, Link, same_id, same_party, at_index, last}
 use Rattle.written_net.specs.Ledgers.{Ledger, nothing, at_key}
 use Rattle.fuxi_terms.specs.TallyKeys.{count_key}
 use Rattle.written_net.specs.Channels.{master_id, agent_id, app_id, party, is_agent, present, Offer, publish, has_heads, shape}
@@ -29,6 +30,8 @@ use Rattle.written_world.specs.Safe.{RowsFit}
 use Rattle.written_world.proofs.GrantsFit.{grant_wider, grants_hold}
 use Rattle.written_world.proofs.TablesFit.{ready_fits_machines, row_fits}
 use Rattle.written_world.proofs.TablesBounded.{ready_bounded}
+use Rattle.written_world.proofs.RowsShown.{shown_after}
+use Rattle.fuxi_terms.specs.Numbers.{has_number}
 use Rattle.written_world.proofs.EntriesBounded.{row_named, named_wider, grants_counted, grants_in_range}
 use Rattle.fuxi_terms.specs.Keys.{key_cmp, RowKey}
 use Rattle.fuxi_terms.specs.Counts.{AreCounts}
@@ -68,6 +71,7 @@ master_stays c hard hard' p net net' e M up more s g l apart h =
       waits = h.waits;
       credited = credited_view net net' M (λ a. view_grows net net' (master_party M) (app_id a) s (l.links (master_party M) (app_id a) own) g) (λ a. ap (λ (k : Link). k.seq) (l.links (master_party M) (app_id a) own)) h.credited;
       shows = all own (peers c M) h.shows;
+      rows = λ m. ap (λ (hs : List Ledger). nat_lt 0 (length hs)) (l.histories (master_party M) (agent_id m) own) ∙ h.rows m;
     }
   where
     all : same_party p (master_party M) ≡ false → (qs : List Id) → AllByRecursion (λ q. present net (master_party M) q ≡ projection net M q) qs → AllByRecursion (λ q. present net' (master_party M) q ≡ projection net' M q) qs
@@ -183,19 +187,20 @@ record Kept (M N : Master) : Type 0 where
   epoch : N.epoch ≡ M.epoch
   jobs : N.jobs ≡ M.jobs
   credited : N.credited ≡ M.credited
+  reported : N.reported ≡ M.reported
 
 settle_keeps : (c : ClusterRecord) (fuel : ℕ) (M : Master) → Kept M (settle c fuel M)
-settle_keeps c zero M = record { epoch = refl; jobs = refl; credited = refl }
+settle_keeps c zero M = record { epoch = refl; jobs = refl; credited = refl; reported = refl }
 settle_keeps c (suc fuel) M = elim (first_placeable c M) as (λ o. Kept M (elim o as (λ _. Master) [ None ↦ M | Some s ↦ settle c fuel (granted M s) ])) [
-  | None ↦ record { epoch = refl; jobs = refl; credited = refl }
-  | Some s ↦ let k = settle_keeps c fuel (granted M s) in record { epoch = k.epoch; jobs = k.jobs; credited = k.credited }
+  | None ↦ record { epoch = refl; jobs = refl; credited = refl; reported = refl }
+  | Some s ↦ let k = settle_keeps c fuel (granted M s) in record { epoch = k.epoch; jobs = k.jobs; credited = k.credited; reported = k.reported }
 ]
 
 ready_keeps : (c : ClusterRecord) (M : Master) → Kept M (ready c M)
 ready_keeps c M = let N = line_up (phased c M) in
     elim N.serving as (λ b. Kept M (elim b as (λ _. Master) [ true ↦ settled c N | false ↦ N ])) [
-      | true ↦ let k = settle_keeps c (all_out N) N in record { epoch = k.epoch; jobs = k.jobs; credited = k.credited }
-      | false ↦ record { epoch = refl; jobs = refl; credited = refl }
+      | true ↦ let k = settle_keeps c (all_out N) N in record { epoch = k.epoch; jobs = k.jobs; credited = k.credited; reported = k.reported }
+      | false ↦ record { epoch = refl; jobs = refl; credited = refl; reported = refl }
     ]
 
 -- the epoch stays
@@ -241,9 +246,9 @@ finished c net R forced s = record {
     shows (q ∷ qs) h = (h.0 ∙ ap (λ (l : Party → Id → Link). cond (is_agent q) (row R q.number) (grants R (l (master_party R) q).known q.number)) (sym (publish_links net (master_party R) (offers c net R forced))), shows qs h.1)
 
 -- the end of a master's step keeps it
-pub finish_invariant : (w : World) (hard : HardState) (ran : List Party) (net : Net Ledger) (M : Master) (forced : List Id) → Invariant w → w.hard.fence ≤ hard.fence → KnowsMore w.hard.jobs hard.jobs → M.epoch ≤ hard.fence → KnowsMore M.jobs hard.jobs → IsInOrder M → FitsMachines w.cluster M → IsBounded w.cluster M → IsCredited net M
+pub finish_invariant : (w : World) (hard : HardState) (ran : List Party) (net : Net Ledger) (M : Master) (forced : List Id) → Invariant w → w.hard.fence ≤ hard.fence → KnowsMore w.hard.jobs hard.jobs → M.epoch ≤ hard.fence → KnowsMore M.jobs hard.jobs → IsInOrder M → FitsMachines w.cluster M → IsBounded w.cluster M → ((m : ℕ) → (nat_lt 0 (last net (master_party M) (agent_id m)) || is_one_of (agent_id m) forced) ≡ has_number m M.reported) → IsCredited net M
     → Sound shape net → Leaves (master_party M) w.net net → Grows shape w.net.histories net.histories → net.histories ≡ w.net.histories → Invariant (end_step (record w { hard = hard; ran = ran }) net M forced)
-finish_invariant w hard ran net M forced h up more own knows t hs bs cr s l gr kept =
+finish_invariant w hard ran net M forced h up more own knows t hs bs sh cr s l gr kept =
     let R = ready w.cluster M in
     let f = finished w.cluster net R forced s in
     let same : R.epoch ≡ M.epoch = ready_epoch w.cluster M in
@@ -322,4 +327,6 @@ finish_invariant w hard ran net M forced h up more own knows t hs bs cr s l gr k
           (λ a. ap (λ (ls : Party → Id → Link). (ls (master_party R) (app_id a)).seq) links)
           (credited_like net M R k.epoch k.jobs k.credited cr);
       shows = (finished w.cluster net (ready w.cluster M) forced s).shows;
+      rows = shown_after w.cluster net (ready w.cluster M) forced (ready_fits_machines w.cluster M t hs) (ready_bounded w.cluster M bs).reported
+          (λ m. ap (λ n. nat_lt 0 (last net (party master_id n) (agent_id m)) || is_one_of (agent_id m) forced) (ready_keeps w.cluster M).epoch ∙ sh m ∙ ap (has_number m) (sym (ready_keeps w.cluster M).reported));
     }))

@@ -22,7 +22,7 @@ use Rattle.written_roles.specs.HardState.{HardState, is_full, raised, submitted,
 use Rattle.written_roles.specs.Preemption.{preempted}
 use Rattle.written_roles.specs.Refusals.{Refusal, NotRising, TooManyMasters, Fenced, Known, NoMachine, NoRack, NoUnit, NoJob, Ended, WantRange, NotUsable, BackRange, first_refusal, with_found}
 use Rattle.written_world.specs.World.{World, Agent, App, Step, empty_world, prints_nothing, refused}
-use Rattle.written_roles.specs.MasterSteps.{master_party, is_there, talks, peers, adopts, take_report, take_demand, meet_app, row, grants, counted, ended_in, banned_in, new_master}
+use Rattle.written_roles.specs.MasterSteps.{master_party, is_there, talks, peers, adopts, take_report, take_demand, meet_app, row, grants, counted, ended_in, banned_in, new_master, is_one_of}
 use Rattle.written_world.specs.Parties.{projection, end_step, master_hears, told, received, adopted_now, joined, agent_table, agent_hears, app_hears, carry}
 use Rattle.written_roles.specs.Apps.{joined_demand, changed_demand}
 use Rattle.written_world.specs.Events.{Event, StartMaster, StopMaster, StartAgent, StartApp, Submit, Finish, Ban, Unban, Begin, Preempt, Want, Near, Rack, Avoid, GiveBack, TurnMaster, TurnAgent, TurnApp, ResyncMaster, ResyncAgent, ResyncApp, Deliver, DeliverRange, Dump, ShowState, at_master, at_agent, at_app, demanded, turned, turn_to_master, addressed, packet_of, deliver_one, deliver_all, given_back, usable_now, act, counted_in, world_step}
@@ -45,6 +45,7 @@ use Rattle.fuxi_terms.specs.Counts.{AreCounts}
 use Rattle.fuxi_terms.proofs.Counting.{counts-where_key}
 use Rattle.fuxi_terms.proofs.KeyOrders.{key_total}
 use Rattle.written_world.proofs.TablesBounded.{new_bounded, same_bounded, added_bounded, ended_bounded, banned_bounded, preempted_bounded, told_bounded, counted_ranged}
+use Rattle.written_world.proofs.RowsShown.{rows_same, rows_told, no_agents}
 use Rattle.written_world.proofs.SettledKept.{talks_machine, talks_app}
 use Rattle.written_world.proofs.TablesInOrder.{met_in_order, new_in_order, same_in_order, added_in_order, told_in_order, ended_in_order, banned_in_order, preempted_in_order}
 use Rattle.written_world.proofs.Invariant.{origins_grow, stepped, finish_invariant, projection_head}
@@ -91,16 +92,16 @@ runs : (w : World) (e : ℕ) (M : Master) → Invariant w → find nat_cmp e w.m
 runs w e M h found = let k = h.masters e M found in omega (arith, k.epoch, k.ran)
 
 master_acts : (w : World) (hard : HardState) (e : ℕ) (M N : Master) (forced : List Id) → Invariant w → find nat_cmp e w.masters ≡ Some M → w.hard.fence ≤ hard.fence → KnowsMore w.hard.jobs hard.jobs
-    → N.epoch ≡ M.epoch → KnowsMore N.jobs hard.jobs → (IsInOrder M → IsInOrder N) → (IsInOrder M → FitsMachines w.cluster M → FitsMachines w.cluster N) → (IsBounded w.cluster M → IsBounded w.cluster N) → (IsCredited w.net M → IsCredited w.net N) → StepHolds (prints_nothing (end_step (record w { hard = hard }) w.net N forced))
-master_acts w hard e M N forced h found up more same knows t hs bs cr = let k = h.masters e M found in
-    record { it = finish_invariant w hard w.ran w.net N forced h up more (omega (arith, same, up, runs w e M h found)) knows (t k.tabled) (hs k.tabled k.housed) (bs k.bounded) (cr k.credited) h.sound (leaves_nothing (master_party N) w.net) (grows_itself w.net) refl }
+    → N.epoch ≡ M.epoch → KnowsMore N.jobs hard.jobs → (IsInOrder M → IsInOrder N) → (IsInOrder M → FitsMachines w.cluster M → FitsMachines w.cluster N) → (IsBounded w.cluster M → IsBounded w.cluster N) → N.reported ≡ M.reported → ((m : ℕ) → is_one_of (agent_id m) forced ≡ false) → (IsCredited w.net M → IsCredited w.net N) → StepHolds (prints_nothing (end_step (record w { hard = hard }) w.net N forced))
+master_acts w hard e M N forced h found up more same knows t hs bs sr nf cr = let k = h.masters e M found in
+    record { it = finish_invariant w hard w.ran w.net N forced h up more (omega (arith, same, up, runs w e M h found)) knows (t k.tabled) (hs k.tabled k.housed) (bs k.bounded) (λ m. rows_same m (nat_lt 0 (last w.net (master_party N) (agent_id m))) forced M.reported N.reported (nf m) sr (ap (λ n. nat_lt 0 (last w.net (party master_id n) (agent_id m))) same ∙ k.rows m)) (cr k.credited) h.sound (leaves_nothing (master_party N) w.net) (grows_itself w.net) refl }
 
 -- the same where no job changes
 master_changes : (w : World) (hard : HardState) (e : ℕ) (M N : Master) (forced : List Id) → Invariant w → find nat_cmp e w.masters ≡ Some M → w.hard.fence ≤ hard.fence → hard.jobs ≡ w.hard.jobs
-    → N.epoch ≡ M.epoch → N.jobs ≡ M.jobs → N.credited ≡ M.credited → (IsInOrder M → IsInOrder N) → (IsInOrder M → FitsMachines w.cluster M → FitsMachines w.cluster N) → (IsBounded w.cluster M → IsBounded w.cluster N) → StepHolds (prints_nothing (end_step (record w { hard = hard }) w.net N forced))
-master_changes w hard e M N forced h found up jobs same mine credited t hs bs =
+    → N.epoch ≡ M.epoch → N.jobs ≡ M.jobs → N.credited ≡ M.credited → (IsInOrder M → IsInOrder N) → (IsInOrder M → FitsMachines w.cluster M → FitsMachines w.cluster N) → (IsBounded w.cluster M → IsBounded w.cluster N) → N.reported ≡ M.reported → ((m : ℕ) → is_one_of (agent_id m) forced ≡ false) → StepHolds (prints_nothing (end_step (record w { hard = hard }) w.net N forced))
+master_changes w hard e M N forced h found up jobs same mine credited t hs bs sr nf =
     master_acts w hard e M N forced h found up (subst (KnowsMore w.hard.jobs) (sym jobs) (knows_itself w.hard.jobs)) same
-    (subst (KnowsMore N.jobs) (sym jobs) (subst (λ js. KnowsMore js w.hard.jobs) (sym mine) (h.masters e M found).knows)) t hs bs (credited_like w.net M N same mine credited)
+    (subst (KnowsMore N.jobs) (sym jobs) (subst (λ js. KnowsMore js w.hard.jobs) (sym mine) (h.masters e M found).knows)) t hs bs sr nf (credited_like w.net M N same mine credited)
 
 -- Refusals, and parties that do not run
 checked : (w : World) (o : Option Refusal) (s : Step) → Invariant w → (o ≡ None → StepHolds s) → StepHolds (elim o as (λ _. Step) [ None ↦ s | Some r ↦ refused w r ])
@@ -179,6 +180,7 @@ master_acted w e M net' h found a =
           waits = k.waits;
           credited = credited_view w.net net' M (λ b i. at_index nothing (a.histories i (party (app_id b) (a.known (app_id b) i)) master_id) (a.seq (app_id b) i)) (λ b. a.seq (app_id b)) k.credited;
           shows = shows (peers w.cluster M) k.shows;
+          rows = λ m. ap (λ (hs : Party → Id → List Ledger). nat_lt 0 (length (hs (master_party M) (agent_id m)))) a.histories ∙ k.rows m;
         }))
 
 -- of an agent or an application
@@ -231,6 +233,7 @@ master_hears_holds w e which M x h to found sent =
       it = finish_invariant w w.hard w.ran n N (adopted_now M hd x.from.id l) h (omega arith) (knows_itself w.hard.jobs) (omega (arith, same, runs w e M h found)) (subst (λ js. KnowsMore js w.hard.jobs) (sym ((told_same M hd x.from.id l).jobs)) k.knows) (told_in_order M hd x.from.id l k.tabled)
           (told_fits_machines w.cluster M hd x.from.id l (λ agent _. (reported agent).fits) (k.tabled, met_in_order M hd.fresh x.from.id.number k.tabled) k.housed)
           (told_bounded w.cluster M hd x.from.id l (λ agent. (talks_machine w.cluster M x.from.id t agent, (reported agent).named.counts)) (λ other. asked other (talks_app w.cluster M x.from.id t other)) k.bounded)
+          (λ m. rows_told M hd x.from.id l m (nat_lt 0 (last n (master_party N) (agent_id m))) (ap (λ i. nat_lt 0 (last w.net (party master_id i) (agent_id m))) same ∙ k.rows m))
           (heard_credited w.cluster w.hard.jobs w.net M x h.sound (found_within (λ y. PacketNames shape w.net.histories y.kind y) w.net.packets which x h.sound.packets sent) k.credited t k.knows h.written)
           (comes_sound shape w.net (master_party M) (talks w.cluster M) (Some x) (λ y t. found_within (λ y. PacketNames shape w.net.histories y.kind y) w.net.packets which y h.sound.packets (sent ∙ t)) h.sound)
           (subst (λ b. Leaves (party master_id b) w.net n) (sym same) (comes_leaves w.net (master_party M) (talks w.cluster M) x)) (grows_itself w.net) refl;
@@ -306,7 +309,7 @@ deliver_all_holds (suc n) k w h = record { it = (deliver_all_holds n (k + 1) (de
 new_holds : (w : World) (e : ℕ) → Invariant w → w.hard.fence < e
     → StepHolds (prints_nothing (end_step (record w { hard = raised w.hard e; ran = w.ran ++ party master_id e ∷ [] }) (move w.net (Starts (party master_id e))) (new_master (raised w.hard e) e) (map app_id (job_numbers w.hard.jobs))))
 new_holds w e h lt = record {
-  it = finish_invariant w (raised w.hard e) (w.ran ++ party master_id e ∷ []) (move w.net (Starts (party master_id e))) (new_master (raised w.hard e) e) (map app_id (job_numbers w.hard.jobs)) h (omega (arith, lt)) (knows_itself w.hard.jobs) (omega arith) (knows_itself w.hard.jobs) (new_in_order (new_master (raised w.hard e) e) refl refl refl) (new_fits_machines w.cluster (new_master (raised w.hard e) e) refl) (new_bounded w.cluster (new_master (raised w.hard e) e) refl refl refl refl) credited
+  it = finish_invariant w (raised w.hard e) (w.ran ++ party master_id e ∷ []) (move w.net (Starts (party master_id e))) (new_master (raised w.hard e) e) (map app_id (job_numbers w.hard.jobs)) h (omega (arith, lt)) (knows_itself w.hard.jobs) (omega arith) (knows_itself w.hard.jobs) (new_in_order (new_master (raised w.hard e) e) refl refl refl) (new_fits_machines w.cluster (new_master (raised w.hard e) e) refl) (new_bounded w.cluster (new_master (raised w.hard e) e) refl refl refl refl) (λ m. rows_same m (nat_lt 0 (last w.net (party master_id e) (agent_id m))) (map app_id (job_numbers w.hard.jobs)) [] [] (no_agents m (job_numbers w.hard.jobs)) refl (ap (λ (hs : List Ledger). nat_lt 0 (length hs)) (h.unstarted (party master_id e) (agent_id m) lt))) credited
       (move_sound shape w.net (Starts (party master_id e)) refl (λ q. h.unstarted (party master_id e) q lt) h.sound) (start_leaves w.net (party master_id e)) (grows_itself w.net) refl;
 }
   where
@@ -406,12 +409,12 @@ act_holds w (StartApp a b) h = checked w _ _ h (λ n.
 act_holds w (Submit e j) h = master_runs w e _ h (λ M f. submits_has StepHolds w (λ r. record { it = h }) M _ j (λ _ tests.
     let k = h.masters e M f in
     let new : is_known w.hard.jobs j.number ≡ false = (not_refused (is_known w.hard.jobs j.number) Known (is_full w.hard ∷ []) (not_refused (nat_lt M.epoch w.hard.fence) (Fenced w.hard.fence) ((is_known w.hard.jobs j.number, Known) ∷ is_full w.hard ∷ []) tests).1).0 in
-    master_acts w (submitted w.hard (eight_places j)) e M (record M { jobs = with_job (eight_places j) M.jobs }) (app_id j.number ∷ []) h f (omega arith) (job_added w.hard.jobs (eight_places j)) refl (both_added M.jobs w.hard.jobs (eight_places j) new k.knows) (added_in_order M (eight_places j)) (added_fits_machines w.cluster M (eight_places j)) (added_bounded w.cluster M (eight_places j)) (added_credited w.net M (eight_places j))))
-act_holds w (Finish e a) h = master_runs w e _ h (λ M f. finishes_has StepHolds w (λ r. record { it = h }) M _ a (λ _. master_acts w (finished w.hard a) e M (ended_in M a) [] h f (omega arith) (ended_knows a w.hard.jobs w.hard.jobs (knows_itself w.hard.jobs)) refl (both_ended a M.jobs w.hard.jobs (h.masters e M f).knows) (ended_in_order M a) (λ _. ended_fits_machines w.cluster M a) (ended_bounded w.cluster M a) (ended_credited w.net M a)))
-act_holds w (Ban e m) h = master_runs w e _ h (λ M f. bans_has StepHolds w (λ r. record { it = h }) M _ m (λ _. master_changes w (banned w.hard m) e M (banned_in M m) [] h f (omega arith) refl refl refl refl (banned_in_order M m) (λ _. banned_fits_machines w.cluster M m) (banned_bounded w.cluster M m)))
-act_holds w (Unban e m) h = master_runs w e _ h (λ M f. unbans_has StepHolds w (λ r. record { it = h }) M _ m (λ _. master_changes w (unbanned w.hard m) e M (record M { bans = without_number m M.bans }) [] h f (omega arith) refl refl refl refl (same_in_order M (record M { bans = without_number m M.bans }) refl refl refl refl) (λ _. same_fits_machines w.cluster M (record M { bans = without_number m M.bans }) refl refl refl) (same_bounded w.cluster M (record M { bans = without_number m M.bans }) refl refl refl refl refl)))
-act_holds w (Begin e) h = master_runs w e _ h (λ M f. begins_has StepHolds w (λ r. record { it = h }) M _ (master_changes w w.hard e M (record M { serving = true }) [] h f (omega arith) refl refl refl refl (same_in_order M (record M { serving = true }) refl refl refl refl) (λ _. same_fits_machines w.cluster M (record M { serving = true }) refl refl refl) (same_bounded w.cluster M (record M { serving = true }) refl refl refl refl refl)))
-act_holds w (Preempt e) h = master_runs w e _ h (λ M f. makes_room_has StepHolds w (λ r. record { it = h }) M _ (λ p planned. master_changes w w.hard e M (preempted M p) [] h f (omega arith) refl refl refl refl (preempted_in_order w.cluster M p planned (h.masters e M f).waits) (preempted_fits_machines w.cluster M p planned) (preempted_bounded w.cluster M p planned (h.masters e M f).waits)))
+    master_acts w (submitted w.hard (eight_places j)) e M (record M { jobs = with_job (eight_places j) M.jobs }) (app_id j.number ∷ []) h f (omega arith) (job_added w.hard.jobs (eight_places j)) refl (both_added M.jobs w.hard.jobs (eight_places j) new k.knows) (added_in_order M (eight_places j)) (added_fits_machines w.cluster M (eight_places j)) (added_bounded w.cluster M (eight_places j)) refl (λ m. refl) (added_credited w.net M (eight_places j))))
+act_holds w (Finish e a) h = master_runs w e _ h (λ M f. finishes_has StepHolds w (λ r. record { it = h }) M _ a (λ _. master_acts w (finished w.hard a) e M (ended_in M a) [] h f (omega arith) (ended_knows a w.hard.jobs w.hard.jobs (knows_itself w.hard.jobs)) refl (both_ended a M.jobs w.hard.jobs (h.masters e M f).knows) (ended_in_order M a) (λ _. ended_fits_machines w.cluster M a) (ended_bounded w.cluster M a) refl (λ m. refl) (ended_credited w.net M a)))
+act_holds w (Ban e m) h = master_runs w e _ h (λ M f. bans_has StepHolds w (λ r. record { it = h }) M _ m (λ _. master_changes w (banned w.hard m) e M (banned_in M m) [] h f (omega arith) refl refl refl refl (banned_in_order M m) (λ _. banned_fits_machines w.cluster M m) (banned_bounded w.cluster M m) refl (λ m. refl)))
+act_holds w (Unban e m) h = master_runs w e _ h (λ M f. unbans_has StepHolds w (λ r. record { it = h }) M _ m (λ _. master_changes w (unbanned w.hard m) e M (record M { bans = without_number m M.bans }) [] h f (omega arith) refl refl refl refl (same_in_order M (record M { bans = without_number m M.bans }) refl refl refl refl) (λ _. same_fits_machines w.cluster M (record M { bans = without_number m M.bans }) refl refl refl) (same_bounded w.cluster M (record M { bans = without_number m M.bans }) refl refl refl refl refl) refl (λ m. refl)))
+act_holds w (Begin e) h = master_runs w e _ h (λ M f. begins_has StepHolds w (λ r. record { it = h }) M _ (master_changes w w.hard e M (record M { serving = true }) [] h f (omega arith) refl refl refl refl (same_in_order M (record M { serving = true }) refl refl refl refl) (λ _. same_fits_machines w.cluster M (record M { serving = true }) refl refl refl) (same_bounded w.cluster M (record M { serving = true }) refl refl refl refl refl) refl (λ m. refl)))
+act_holds w (Preempt e) h = master_runs w e _ h (λ M f. makes_room_has StepHolds w (λ r. record { it = h }) M _ (λ p planned. master_changes w w.hard e M (preempted M p) [] h f (omega arith) refl refl refl refl (preempted_in_order w.cluster M p planned (h.masters e M f).waits) (preempted_fits_machines w.cluster M p planned) (preempted_bounded w.cluster M p planned (h.masters e M f).waits) refl (λ m. refl)))
 act_holds w (Want a u n) h = want_holds w a u n h
 act_holds w (Near a u m n) h = near_holds w a u m n h
 act_holds w (Rack a u r n) h = rack_holds w a u r n h

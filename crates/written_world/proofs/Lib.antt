@@ -24,4 +24,5 @@ pub mod KnowledgeKept
 pub mod GoodKept
 pub mod ViewsLemmas
 pub mod SettledLemmas
+pub mod RowsShown
 pub mod SettledKept

@@ -49,14 +49,17 @@ number_append : (n : ℕ) (xs ys : List ℕ) → has_number n (xs ++ ys) ≡ (ha
 number_append n [] ys = refl
 number_append n (x ∷ xs) ys = elim (nat_eq n x) as (λ b. (b || has_number n (xs ++ ys)) ≡ ((b || has_number n xs) || has_number n ys)) [ true ↦ refl | false ↦ number_append n xs ys ]
 
-number_below : (n m : ℕ) → nat_lt m n ≡ true → has_number m (below n) ≡ true
+
+-- a number below another is one of those
+pub number_below : (n m : ℕ) → nat_lt m n ≡ true → has_number m (below n) ≡ true
 number_below zero m lt = absurd (let f : m < 0 = grind (arith, nat_tests, lt) in omega (arith, f))
 number_below (suc n) m lt = number_append m (below n) (n ∷ []) ∙ elim (nat_lt m n) as (λ b. nat_lt m n ≡ b → (has_number m (below n) || has_number m (n ∷ [])) ≡ true) [
   | true ↦ λ t. first_true (has_number m (below n)) _ (number_below n m t)
   | false ↦ λ t. let same : nat_eq m n ≡ true = grind (arith, nat_tests, lt, t) in either_true (has_number m (below n)) _ (first_true (nat_eq m n) false same)
 ] refl
 
-number_with : (n m : ℕ) (ms : List ℕ) → (nat_eq n m || has_number n ms) ≡ true → has_number n (with_number m ms) ≡ true
+-- a number that is added is there
+pub number_with : (n m : ℕ) (ms : List ℕ) → (nat_eq n m || has_number n ms) ≡ true → has_number n (with_number m ms) ≡ true
 number_with n m [] h = h
 number_with n m (k ∷ ks) h = elim (nat_lt m k) as (λ b. has_number n (cond b (m ∷ k ∷ ks) (cond (nat_eq m k) (k ∷ ks) (k ∷ with_number m ks))) ≡ true) [
   | true ↦ h

@@ -176,6 +176,7 @@ pub record IsShowing (c : ClusterRecord) (hard : HardState) (net : Net Ledger) (
   pub waits : AllWait M M.line
   pub credited : IsCredited net M
   pub shows : AllByRecursion (λ q. present net (master_party M) q ≡ projection net M q) (peers c M)
+  pub rows : (m : ℕ) → nat_lt 0 (last net (master_party M) (agent_id m)) ≡ has_number m M.reported
 
 -- a running party has joined, and is not above the last boot
 pub record IsJoined (last_boot : ℕ) (net : Net Ledger) (p : Party) : Type 0 where
