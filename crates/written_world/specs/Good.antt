@@ -86,6 +86,7 @@ AreDistinct [] = Unit {0}
 AreDistinct (k ∷ ks) = (is_known ks k.job.number ≡ false) × AreDistinct ks
 
 -- the hard state: its jobs are valid, each with a number of its own, and there are not more records than there may be
+-- Asked by cores: the rows that a master sends are rows of the program, and a checkpoint has room. No other part rests on it
 pub record IsHard (c : ClusterRecord) (h : HardState) : Type 0 where
   pub jobs : AreJobs c h.jobs
   pub distinct : AreDistinct h.jobs
@@ -96,6 +97,8 @@ abbrev pub StartsAnew : Ledger → Ledger → Type 0
 StartsAnew a b = (a.head ≡ b.head → ⊥) → (u m : ℕ) → at_key b (back_key u m) ≡ 0
 
 -- a history of demands
+-- A step out of the rest: a number given back that falls, or one at a key that is not there, makes the next demand taken lead out of `credited`;
+-- a want of 200,000 leads out of `bounded.demands`. That a new head gives nothing back is asked by the law on crediting once
 pub record DemandsHold (c : ClusterRecord) (units : ℕ) (h : List Ledger) : Type 0 where
   pub backs : (n : ℕ) → n + 1 ≤ length h → BacksRise (at_index nothing h n) (at_index nothing h (n + 1))
   pub anew : (n : ℕ) → n + 1 ≤ length h → StartsAnew (at_index nothing h n) (at_index nothing h (n + 1))
@@ -120,6 +123,8 @@ pub record GrantHolds (c : ClusterRecord) (jobs : List KnownJob) (a : ℕ) (l : 
   pub none : NoGrants jobs a l
 
 -- what a master sends: a row fits the machine and is one of known jobs, and grants fit each machine and are in range
+-- Steps out of the rest: an agent that took a row too great, or of no known job, reports it at its next epoch, out of `reports`; grants too great
+-- are counted in `Safe`. Asked by cores: that grants are in range
 pub record EntryHolds (c : ClusterRecord) (jobs : List KnownJob) (q : Id) (l : Ledger) : Type 0 where
   pub rows : is_agent q ≡ true → RowsFit c q.number l.rows
   pub named : is_agent q ≡ true → NamesJobs jobs l.rows
@@ -127,11 +132,14 @@ pub record EntryHolds (c : ClusterRecord) (jobs : List KnownJob) (q : Id) (l : L
   pub tally : is_app q ≡ true → AreCounts key_cmp (greatest_in_grants c (unit_count jobs q.number)) l.entries
 
 -- what an agent reports fits its machine, and is a row of known jobs
+-- Steps out of the rest: a report too great that is adopted leads out of `housed`, and one that counts 200,000 out of `bounded.counts`
 pub record ReportHolds (c : ClusterRecord) (jobs : List KnownJob) (m : ℕ) (rows : List (RowKey × ℕ)) : Type 0 where
   pub fits : RowsFit c m rows
   pub named : NamesJobs jobs rows
 
 -- a table in order with grants of live jobs alone, and no demand and no count among the credits that is not one
+-- Steps out of the rest: two entries at one spot are credited as one, out of `housed`; an ended job with a demand is granted something, out of `alive`, and one with
+-- grants has them in its next grants, out of `entries`; a count among the credits comes after that of the table, out of `entries`
 pub record IsInOrder (M : Master) : Type 0 where
   pub sorted : T (is_sorted spot_cmp M.table)
   pub alive : AllByRecursion (λ e. is_live M.jobs e.0.job ≡ true) M.table
@@ -139,6 +147,7 @@ pub record IsInOrder (M : Master) : Type 0 where
   pub plain : (a u m : ℕ) → find key_cmp (count_key u m) (credited_of M a) ≡ None
 
 -- a table whose grants are on reported machines and within what each has
+-- Steps out of the rest: the next row does not fit, out of `entries`; a grant on a machine that reports later is counted twice, out of `fits`
 pub record FitsMachines (c : ClusterRecord) (M : Master) : Type 0 where
   pub fits : (m i : ℕ) → i < c.resources → total_at M.jobs m i M.table ≤ has_at c m i
   pub reported : AllByRecursion (λ e. has_number e.0.machine M.reported ≡ true) M.table
@@ -148,6 +157,8 @@ abbrev pub reported_entries : List ℕ → List (Key × ℕ)
 reported_entries ms = map (λ m. (reported_key m, 1)) ms
 
 -- a table with counts in range, machines that are reported in order and of the cluster, demands in range, and credits in range
+-- Steps out of the rest: the next row or grants are out of range, out of `entries`; a want of 200,000 is met, out of `counts`; a unit that the job does not
+-- have is granted, out of `counts`; what is given back of it is credited, out of `credits`
 pub record IsBounded (c : ClusterRecord) (M : Master) : Type 0 where
   pub counts : AreCounts spot_cmp (greatest_in_table M.jobs) M.table
   pub reported : (m : ℕ) → has_number m M.reported ≡ true → has_machine c m ≡ true
@@ -156,16 +167,21 @@ pub record IsBounded (c : ClusterRecord) (M : Master) : Type 0 where
   pub credits : (a : ℕ) → AreCounts key_cmp (greatest_in_credits c (unit_count M.jobs a)) (credited_of M a)
 
 -- each pair of the line has something out
+-- A step out of the rest: a preemption serves a pair of an ended job, out of `alive`
 abbrev pub AllWait : Master → List (ℕ × ℕ) → Type 0
 AllWait M line = AllByRecursion (λ p. nat_lt 0 (out M p.0 p.1) ≡ true) line
 
 -- what was credited is what is given back at the master's place; with a job that it does not know a master has no place
+-- A step out of the rest: what is credited too much is not credited again when it is given back, so quiet parties do not agree
 pub record IsCredited (net : Net Ledger) (M : Master) : Type 0 where
   pub credits : (a : ℕ) → is_live M.jobs a ≡ true → (u m : ℕ) → count key_cmp (credited_of M a) (credited_key u m) ≡ at_key (view net (master_party M) (app_id a)) (back_key u m)
   pub stranger : (a : ℕ) → is_known M.jobs a ≡ false → (net.links (master_party M) (app_id a)).seq ≡ 0
   pub uncredited : (a : ℕ) → is_known M.jobs a ≡ false → credited_of M a ≡ []
 
 -- a running master of an epoch
+-- Steps out of the rest: a master above the fence, or of another epoch than its key, loses its history to a start, out of `shows`; one whose jobs have more
+-- units than the hard state's sends a row of them, out of `entries`; one that shows another ledger than it should has a turn that names another boot, out of
+-- `sound`. Asked by cores: rows
 pub record IsShowing (c : ClusterRecord) (hard : HardState) (net : Net Ledger) (e : ℕ) (M : Master) : Type 0 where
   pub epoch : M.epoch ≡ e
   pub ran : e ≤ hard.fence
@@ -179,6 +195,7 @@ pub record IsShowing (c : ClusterRecord) (hard : HardState) (net : Net Ledger) (
   pub rows : (m : ℕ) → nat_lt 0 (last net (master_party M) (agent_id m)) ≡ has_number m M.reported
 
 -- a running party has joined, and is not above the last boot
+-- Steps out of the rest: a start takes a boot that runs, out of `unstarted`; a turn with a ledger of another epoch leads out of `sound`
 pub record IsJoined (last_boot : ℕ) (net : Net Ledger) (p : Party) : Type 0 where
   pub ran : p.inc ≤ last_boot
   pub joined : HasJoined net p
@@ -194,11 +211,14 @@ pub record Origins (net : Net Ledger) (a : ℕ) (carried : List (ℕ × Carried)
   pub has : (m : ℕ) (r : Carried) → find nat_cmp m carried ≡ Some r → HasOrigin net a m r
 
 -- a running application is one of a known job, and knows its units
+-- A step out of the rest: a want of a unit that the job does not have leads out of `written`
 pub record HasUnits (jobs : List KnownJob) (a : ℕ) (g : App) : Type 0 where
   pub known : is_known jobs a ≡ true
   pub units : g.units ≡ unit_count jobs a
 
 -- the invariant: what holds of the net, of each running party and of all that was ever sent
+-- Steps out of the rest: a packet of an entry that is not there is taken, out of `Safe`; a start takes over a history of its number, out of `sound`. Asked by
+-- `Safe`: origins, and that agents are of machines of the cluster
 pub record Invariant (w : World) : Type 0 where
   pub sound : Sound shape w.net
   pub unstarted : (p : Party) (q : Id) → top w p.id < p.inc → w.net.histories p q ≡ []
@@ -218,6 +238,7 @@ pub record IsRangedMaster (c : ClusterRecord) (M : Master) : Type 0 where
   pub wanted : (a u : ℕ) → nat_lt u (unit_count M.jobs a) ≡ false → asked M a (want_key u) ≡ 0
 
 -- a master that rests: its line is exactly the pairs with something out, and nothing is placeable
+-- A step out of the rest: a pair that the line lacks is placed by no step, out of `settled`. Asked by `Safe`: settled
 pub record IsResting (c : ClusterRecord) (M : Master) : Type 0 where
   pub ranged : IsRangedMaster c M
   pub line : (a u : ℕ) → has_pair (a, u) M.line ≡ nat_lt 0 (out M a u)
@@ -249,6 +270,7 @@ pub record IsBooted (last_boot : ℕ) (ran : List Party) (p : Party) : Type 0 wh
   pub recorded : has_run ran p ≡ true
 
 -- what runs has run, with its last boot; what ran is not above the last boot or the fence; and all that is named has run
+-- Steps out of the rest: the turn of a party that never ran names it, out of `net`; a start below what ran reuses its number, out of `below`
 pub record IsRecorded (w : World) : Type 0 where
   pub masters : (e : ℕ) (M : Master) → find nat_cmp e w.masters ≡ Some M → (M.epoch ≡ e) × (has_run w.ran (party master_id e) ≡ true)
   pub agents : (m : ℕ) (g : Agent) → find nat_cmp m w.agents ≡ Some g → IsBooted (w.boots (agent_id m)) w.ran (party (agent_id m) g.boot)
@@ -257,6 +279,7 @@ pub record IsRecorded (w : World) : Type 0 where
   pub net : AllRan w.ran w.net
 
 -- What a master knows of the hard state: its jobs are the first ones there, and that of the fence has its jobs, marks and bans
+-- A step out of the rest: a submit by the master of the fence that lacks a job or a mark leaves it without, out of `marks`. Asked by cores, for a restart: first
 pub record KnowsHard (h : HardState) (M : Master) : Type 0 where
   pub later : List JobRecord
   pub first : map (λ (k : KnownJob). k.job) h.jobs ≡ map (λ (k : KnownJob). k.job) M.jobs ++ later
