@@ -6,7 +6,7 @@ use Rattle.std.proofs.lemmas.Bool.Decides.{nat_tests}
 use Rattle.fuxi_terms.specs.declared.Key.{Key}
 use Rattle.fuxi_terms.specs.Keys.{key_cmp}
 use Rattle.fuxi_terms.specs.Counts.{count, AreCounts}
-use Rattle.ledger_law.specs.Orders.{key_total, same_key}
+use Rattle.fuxi_terms.proofs.KeyOrders.{key_total, same_key}
 use Rattle.ledger_law.specs.Shapes.{kept_under}
 use Rattle.fuxi_terms.proofs.Counting.{counts-where_key, count_le}
 

@@ -18,11 +18,11 @@ pub record ByDifference {V D : Type 0} (has_form : V → Type 0) (is_change : D 
   pub alone : (old new : V) (change : D) → has_form old → has_form new → is_change change → patched old change ≡ Ok new → change ≡ difference old new
 
 -- where every change can be made on its way
-abbrev pub always : {V : Type 0} → V → V → Type 0
-always old new = Unit {0}
+abbrev pub AlwaysReaches : {V : Type 0} → V → V → Type 0
+AlwaysReaches old new = Unit {0}
 
-abbrev pub is_tally_change : ChangeRecord → Type 0
-is_tally_change c = AreChanges key_cmp c.entries
+abbrev pub IsTallyChange : ChangeRecord → Type 0
+IsTallyChange c = AreChanges key_cmp c.entries
 
 module _ (greatest : Key → ℕ) (dropped : ℕ) where
   -- a change that was made has the head and the entries of what it made
@@ -37,7 +37,7 @@ module _ (greatest : Key → ℕ) (dropped : ℕ) where
       let same : record { head = change.head; entries = es } ≡ new = cc in
       record { head = ap (λ (t : TallyRecord). t.head) same; entries = e ∙ ap (λ (t : TallyRecord). Ok t.entries) same }
 
-  only_tally_difference : (old new : TallyRecord) (change : ChangeRecord) → IsTally greatest new → is_tally_change change → patched_tally Below TooGreat greatest dropped old change ≡ Ok new
+  only_tally_difference : (old new : TallyRecord) (change : ChangeRecord) → IsTally greatest new → IsTallyChange change → patched_tally Below TooGreat greatest dropped old change ≡ Ok new
       → change ≡ tally_difference dropped old new
   only_tally_difference old new change b c e =
       let m = made old new change _ refl e in
@@ -45,7 +45,7 @@ module _ (greatest : Key → ℕ) (dropped : ℕ) where
       let only = only_difference key_total same_key Below TooGreat greatest (staying dropped old new.head) new.entries change.entries c b.counts.sorted to in
       λ i. record { head = m.head i; entries = only i }
 
-  pub tally_by_difference : ByDifference (IsTally greatest) is_tally_change always (patched_tally Below TooGreat greatest dropped) (tally_difference dropped)
+  pub tally_by_difference : ByDifference (IsTally greatest) IsTallyChange AlwaysReaches (patched_tally Below TooGreat greatest dropped) (tally_difference dropped)
   tally_by_difference = record {
     gives = λ old new a b _. tally_reaches Below TooGreat greatest dropped old new a.counts b.counts;
     alone = λ old new change a b c e. only_tally_difference old new change b c e;

@@ -1,6 +1,5 @@
 pub mod Applying
 pub mod Reading
-pub mod Orders
 pub mod Places
 pub mod Shapes
 pub mod Forms

@@ -1,5 +1,5 @@
 -- No written form begins another: the bytes of an entry, of a counted list of entries, and of a tally.
-use Rattle.std.specs.Prelude.{◌≡◌, ℕ, zero, suc, ℤ, pos, negsuc, Bool, true, ◌⊎◌, ◌+◌, ◌*◌, ◌<◌, ◌≤◌, ◌^◌, List, [], ◌∷◌, ◌++◌, length, take, drop, false, T, ◌&&◌, unsigned_abs}
+use Rattle.std.specs.Prelude.{◌≡◌, ℕ, zero, suc, ℤ, pos, negsuc, ◌⊎◌, ◌+◌, ◌*◌, ◌<◌, ◌≤◌, ◌^◌, List, [], ◌∷◌, ◌++◌, length, take, drop, false, T, unsigned_abs}
 use Rattle.std.proofs.Common.{refl, sym, ◌∙◌, ap, subst, slice_index, arith, append_assoc, inl, inr, lit<}
 use Rattle.std.specs.List.{AllByRecursion, flat_map}
 use Rattle.std.specs.Ordering.{is_lt, nat_cmp, ordering_then}
@@ -16,6 +16,7 @@ use Rattle.std.specs.FinMap.Entries.{below_all, is_sorted}
 use Rattle.fuxi_terms.specs.declared.Key.{Key}
 use Rattle.fuxi_terms.specs.Keys.{key_cmp}
 use Rattle.fuxi_terms.specs.Counts.{AreCounts, is_no_change}
+use Rattle.fuxi_terms.proofs.Counting.{both_true, lesser}
 use Rattle.fuxi_terms.specs.Tallies.{TallyRecord, ChangeRecord}
 use Rattle.ledger_law.specs.Forms.{counted, number_entry, change_entry, IsNumberEntry, IsChangeEntry, tally_form, change_form}
 use Rattle.ledger_law.specs.Shapes.{IsWritable, IsTally, IsChange, AreChangesWithin}
@@ -108,15 +109,6 @@ place_below a h = omega (arith, h.what, h.unit, h.number)
 first_place : (k : Key) → IsWritable k → 1 ≤ place k
 unfolding place
 first_place k h = omega (arith, h.kind)
-
-both_true : (a b : Bool) → T (a && b) → T a × T b
-both_true true b p = (tt, p)
-both_true false b p = absurd p
-
-lesser : (r : Ordering) → T (is_lt r) → r ≡ Less
-lesser Less p = refl
-lesser Equal p = absurd p
-lesser Greater p = absurd p
 
 module _ {X : Type 0} where
   few_above : (least : ℕ) (k : Key) (es : List (Key × X)) → IsWritable k → AllByRecursion (λ e. IsWritable e.0) es → least ≤ place k → T (below_all key_cmp k es) → T (is_sorted key_cmp es) → length es + least < 2 ^ 32

@@ -17,7 +17,7 @@ pub trait EntryKey: Ord + Copy {
 }
 
 impl EntryKey for Key {
-    ghost use Rattle.ledger_law.specs.Orders.{same_key};
+    ghost use Rattle.fuxi_terms.proofs.KeyOrders.{same_key};
 
     ghost exact = { same_key };
 }

@@ -318,17 +318,17 @@ impl<S: Shape> Ledger for Tally<S> {
     ghost use Rattle.ledger_law.specs.Forms.{tally_form, change_form};
     ghost use Rattle.ledger_law.specs.Shapes.{IsTally, IsChange};
     ghost use Rattle.ledger_law.specs.OneForm.{tally_one, change_form_one};
-    ghost use Rattle.ledger_law.specs.Differing.{always, is_tally_change, tally_by_difference};
+    ghost use Rattle.ledger_law.specs.Differing.{AlwaysReaches, IsTallyChange, tally_by_difference};
 
     ghost nothing = { empty_tally };
 
     ghost patched = { patched_tally Below TooGreat S.greatest_of S.DROPPED };
 
-    ghost is_change = { is_tally_change };
+    ghost is_change = { IsTallyChange };
 
     ghost difference = { tally_difference S.DROPPED };
 
-    ghost reaches = { always };
+    ghost reaches = { AlwaysReaches };
 
     ghost has_form = { IsTally S.greatest_of };
 

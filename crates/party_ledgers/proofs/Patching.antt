@@ -13,7 +13,7 @@ use Rattle.fuxi_terms.specs.declared.answers.LedgerFault.{LedgerFault}
 use Rattle.fuxi_terms.proofs.Counting.{both_true, tied, below_none, count_le, count-set_count, counts-set_count, length-set_count}
 use Rattle.fuxi_terms.proofs.Making.{made_one}
 use Rattle.fuxi_terms.proofs.Testing.{change_one_is}
-use Rattle.party_ledgers.specs.Orders.{row_total, same_row_key}
+use Rattle.fuxi_terms.proofs.KeyOrders.{row_key_total, same_row_key}
 use Rattle.fuxi_terms.specs.Rows.{IsRow, is_row_key, greatest_row, patched_row, change_row_once, within_row, row_below, row_too_great}
 use Rattle.fuxi_terms.specs.Limits.{most_entries}
 
@@ -59,7 +59,7 @@ module _ (es : Entries) (cs : List (RowKey × ℤ)) (i len : ℕ) (c : RowKey ×
 
   kept_mid : count row_cmp t.mid c.0 ≡ kept
   kept_mid =
-      let first : is_some (find row_cmp c.0 (drop i cs)) ≡ true = ap (λ l. is_some (find row_cmp c.0 l)) here ∙ ap (λ r. is_some (cond (is_eq r) (Some c.1) (find row_cmp c.0 (drop (i + 1) cs)))) (tied_itself row_total c.0) in
+      let first : is_some (find row_cmp c.0 (drop i cs)) ≡ true = ap (λ l. is_some (find row_cmp c.0 l)) here ∙ ap (λ r. is_some (cond (is_eq r) (Some c.1) (find row_cmp c.0 (drop (i + 1) cs)))) (tied_itself row_key_total c.0) in
       t.untouched c.0 first ∙ sym kept_is
 
   -- what the change makes of the row so far
@@ -79,7 +79,7 @@ module _ (es : Entries) (cs : List (RowKey × ℤ)) (i len : ℕ) (c : RowKey ×
   module _ (n after : ℕ) (is : Ok n ≡ moved_within row_below row_too_great greatest_row c.0 kept c.1) (len_is : after + cond (nat_eq kept 0) 0 1 ≡ len + cond (nat_eq n 0) 0 1) where
     after_is : length (set_count row_cmp t.mid c.0 n) ≡ after
     after_is =
-        let by_count : length (set_count row_cmp t.mid c.0 n) + cond (nat_eq kept 0) 0 1 ≡ length t.mid + cond (nat_eq n 0) 0 1 = subst (λ m. length (set_count row_cmp t.mid c.0 n) + cond (nat_eq m 0) 0 1 ≡ length t.mid + cond (nat_eq n 0) 0 1) kept_mid (length-set_count row_total greatest_row t.mid c.0 n t.row.counts) in
+        let by_count : length (set_count row_cmp t.mid c.0 n) + cond (nat_eq kept 0) 0 1 ≡ length t.mid + cond (nat_eq n 0) 0 1 = subst (λ m. length (set_count row_cmp t.mid c.0 n) + cond (nat_eq m 0) 0 1 ≡ length t.mid + cond (nat_eq n 0) 0 1) kept_mid (length-set_count row_key_total greatest_row t.mid c.0 n t.row.counts) in
         omega (arith, by_count, len_is, t.long)
 
     pub row_too_long : most_entries < after → patched_row es cs ≡ Err (row_too_great c.0)
@@ -94,12 +94,12 @@ module _ (es : Entries) (cs : List (RowKey × ℤ)) (i len : ℕ) (c : RowKey ×
         let other : (q : RowKey) → is_some (find row_cmp q (drop (i + 1) cs)) ≡ true → eq_by_cmp row_cmp q c.0 ≡ false = λ q found. differs c.0 q (drop (i + 1) cs) rest_rises.0 found in
         record {
           mid = set_count row_cmp t.mid k n;
-          row = record { counts = counts-set_count row_total greatest_row same_row_key t.mid k n (made_within k kept c.1 n (sym is)) t.row.counts; few = omega (arith, after_is) };
+          row = record { counts = counts-set_count row_key_total greatest_row same_row_key t.mid k n (made_within k kept c.1 n (sym is)) t.row.counts; few = omega (arith, after_is) };
           long = after_is;
           rising = rest_rises.1;
           made = sym (patched_here (Ok n) (sym is) ∙ ap (λ b. then_do (cond b (Err (row_too_great c.0)) (Ok (set_count row_cmp t.mid c.0 n))) (λ fs. patched_row fs (drop (i + 1) cs))) test);
           untouched = λ q found.
-              count-set_count row_total t.mid k n q ∙ ap (λ b. cond b n (count row_cmp t.mid q)) (other q found)
+              count-set_count row_key_total t.mid k n q ∙ ap (λ b. cond b n (count row_cmp t.mid q)) (other q found)
               ∙ t.untouched q (ap (λ l. is_some (find row_cmp q l)) here ∙ ap (λ b. is_some (cond b (Some c.1) (find row_cmp q (drop (i + 1) cs)))) (other q found) ∙ found);
         }
 
@@ -114,7 +114,7 @@ greatest_small k = by (is_row_key k)
     by false = lit≤ tt
 
 pub count_small : (es : Entries) (k : RowKey) → AreCounts row_cmp greatest_row es → count row_cmp es k ≤ 100000
-count_small es k h = omega (arith, count_le row_total same_row_key greatest_row es k h.within, greatest_small k)
+count_small es k h = omega (arith, count_le row_key_total same_row_key greatest_row es k h.within, greatest_small k)
 
 nonempty : (es : Entries) (q : RowKey) → 0 < count row_cmp es q → 0 < length es
 nonempty [] q h = absurd (omega (arith, h))
@@ -142,4 +142,4 @@ pub row_made_once : (es : Entries) (k : RowKey) (change : ℤ) (n : ℕ) → Are
 row_made_once es k change n h ok is =
     let one = made_one row_cmp row_below row_too_great greatest_row es k change n (first_ok k (change_one row_cmp row_below row_too_great greatest_row es k change) ok) is in
     let row = made_row es k (change_one row_cmp row_below row_too_great greatest_row es k change) (set_count row_cmp es k n) one.0 ok in
-    (row.0, record { counts = counts-set_count row_total greatest_row same_row_key es k n one.1 h; few = row.1 })
+    (row.0, record { counts = counts-set_count row_key_total greatest_row same_row_key es k n one.1 h; few = row.1 })

@@ -7,20 +7,20 @@ use Rattle.fuxi_terms.specs.Limits.{most_entries}
 use Rattle.fuxi_terms.specs.Counts.{joined, difference, AreChanges}
 use Rattle.fuxi_terms.specs.Rows.{IsRow, patched_row}
 use Rattle.fuxi_terms.proofs.RowDifferences.{row_by_difference as row_gives, row_difference_alone}
-use Rattle.ledger_law.specs.Differing.{ByDifference, always}
+use Rattle.ledger_law.specs.Differing.{ByDifference, AlwaysReaches}
 use Rattle.party_ledgers.specs.Joins.{JoinRecord, IsJoin}
 
 abbrev pub row_difference : List (RowKey × ℕ) → List (RowKey × ℕ) → List (RowKey × ℤ)
 row_difference = difference row_cmp
 
-abbrev pub is_row_difference : List (RowKey × ℤ) → Type 0
-is_row_difference = AreChanges row_cmp
+abbrev pub AreRowDifferences : List (RowKey × ℤ) → Type 0
+AreRowDifferences = AreChanges row_cmp
 
 -- the keys of both rows together are not more than a row may have
-abbrev pub few_together : List (RowKey × ℕ) → List (RowKey × ℕ) → Type 0
-few_together old new = length (joined row_cmp old new) ≤ most_entries
+abbrev pub AreFewTogether : List (RowKey × ℕ) → List (RowKey × ℕ) → Type 0
+AreFewTogether old new = length (joined row_cmp old new) ≤ most_entries
 
-pub row_by_difference : ByDifference IsRow is_row_difference few_together patched_row row_difference
+pub row_by_difference : ByDifference IsRow AreRowDifferences AreFewTogether patched_row row_difference
 row_by_difference = record {
   gives = row_gives;
   alone = λ old new changes old_is new_is are is. row_difference_alone old new changes new_is are is;
@@ -30,13 +30,13 @@ row_by_difference = record {
 abbrev pub replaced : JoinRecord → JoinRecord → Result JoinRecord LedgerFault
 replaced old change = Ok change
 
-abbrev pub is_replacement : JoinRecord → Type 0
-is_replacement change = Unit {0}
+abbrev pub IsReplacement : JoinRecord → Type 0
+IsReplacement change = Unit {0}
 
 abbrev pub replacement : JoinRecord → JoinRecord → JoinRecord
 replacement old new = new
 
-pub by_replacement : ByDifference IsJoin is_replacement always replaced replacement
+pub by_replacement : ByDifference IsJoin IsReplacement AlwaysReaches replaced replacement
 by_replacement = record {
   gives = λ old new a b r. refl;
   alone = λ old new change a b c is. cc;

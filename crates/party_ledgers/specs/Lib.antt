@@ -1,5 +1,4 @@
 pub mod Shapes
-pub mod Orders
 pub mod RowForms
 pub mod RowOneForm
 pub mod Entries

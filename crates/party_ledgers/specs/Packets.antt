@@ -1,5 +1,5 @@
 -- Which packets can be sent: the rules of their parties, places and bodies.
-use Rattle.std.specs.Prelude.{ℕ, Bool, true, false, not, nat_eq, nat_lt, ◌&&◌, ◌||◌, IsTrue}
+use Rattle.std.specs.Prelude.{ℕ, Bool, true, false, nat_eq, nat_lt, ◌&&◌, ◌||◌, IsTrue}
 use Rattle.fuxi_terms.specs.Limits.{most_machines}
 use Rattle.fuxi_terms.specs.Rows.{IsRowChange}
 use Rattle.fuxi_terms.specs.TallyKeys.{greatest_grant, greatest_demand}

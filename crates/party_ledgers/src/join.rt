@@ -53,18 +53,18 @@ impl Ledger for JoinLedger {
     type Delta = JoinLedger;
 
     ghost use Rattle.party_ledgers.specs.Joins.{no_join, IsJoin, join_form, join_form_one};
-    ghost use Rattle.ledger_law.specs.Differing.{always};
-    ghost use Rattle.party_ledgers.specs.Differing.{replaced, is_replacement, replacement, by_replacement};
+    ghost use Rattle.ledger_law.specs.Differing.{AlwaysReaches};
+    ghost use Rattle.party_ledgers.specs.Differing.{replaced, IsReplacement, replacement, by_replacement};
 
     ghost nothing = { no_join };
 
     ghost patched = { replaced };
 
-    ghost is_change = { is_replacement };
+    ghost is_change = { IsReplacement };
 
     ghost difference = { replacement };
 
-    ghost reaches = { always };
+    ghost reaches = { AlwaysReaches };
 
     ghost has_form = { IsJoin };
 

@@ -9,9 +9,9 @@ ghost use Rattle.fuxi_terms.specs.Rows.{IsRow, patched_row};
 ghost use Rattle.fuxi_terms.specs.Tallies.{patched_tally, tally_difference};
 ghost use Rattle.fuxi_terms.specs.TallyKeys.{greatest_grant, greatest_demand, credited_what, back_what};
 ghost use Rattle.ledger_law.specs.Shapes.{IsTally};
-ghost use Rattle.ledger_law.specs.Differing.{ByDifference, always, is_tally_change};
+ghost use Rattle.ledger_law.specs.Differing.{ByDifference, AlwaysReaches, IsTallyChange};
 ghost use Rattle.party_ledgers.specs.Joins.{IsJoin};
-ghost use Rattle.party_ledgers.specs.Differing.{few_together, is_replacement, replaced, replacement};
+ghost use Rattle.party_ledgers.specs.Differing.{AreFewTogether, IsReplacement, replaced, replacement};
 
 mod join;
 mod packets;
@@ -29,10 +29,10 @@ pub use shapes::{Demand, DemandShape, GrantShape, Grants};
 /// other; of rows where the keys of both are not too many together. Only the difference does, and that of a
 /// report is the new report. It does nothing; its contract is this law.
 pub fn patched_by_difference()
-    ensures rows { ByDifference IsRow (AreChanges row_cmp) few_together patched_row (difference row_cmp) }
-    ensures reports { ByDifference IsJoin is_replacement always replaced replacement }
-    ensures grants { ByDifference (IsTally greatest_grant) is_tally_change always (patched_tally Below TooGreat greatest_grant credited_what) (tally_difference credited_what) }
-    ensures demands { ByDifference (IsTally greatest_demand) is_tally_change always (patched_tally Below TooGreat greatest_demand back_what) (tally_difference back_what) }
+    ensures rows { ByDifference IsRow (AreChanges row_cmp) AreFewTogether patched_row (difference row_cmp) }
+    ensures reports { ByDifference IsJoin IsReplacement AlwaysReaches replaced replacement }
+    ensures grants { ByDifference (IsTally greatest_grant) IsTallyChange AlwaysReaches (patched_tally Below TooGreat greatest_grant credited_what) (tally_difference credited_what) }
+    ensures demands { ByDifference (IsTally greatest_demand) IsTallyChange AlwaysReaches (patched_tally Below TooGreat greatest_demand back_what) (tally_difference back_what) }
 {
     ledger_law::patched_by_difference::<RowLedger>();
     ledger_law::patched_by_difference::<JoinLedger>();

@@ -35,7 +35,7 @@ impl Model for RowKey {
 }
 
 impl EntryKey for RowKey {
-    ghost use Rattle.party_ledgers.specs.Orders.{same_row_key};
+    ghost use Rattle.fuxi_terms.proofs.KeyOrders.{same_row_key};
 
     ghost exact = { same_row_key };
 }

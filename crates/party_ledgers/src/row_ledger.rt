@@ -258,17 +258,17 @@ impl Ledger for RowLedger {
     ghost use Rattle.fuxi_terms.specs.Rows.{IsRow, IsRowChange, patched_row};
     ghost use Rattle.party_ledgers.specs.RowForms.{row_form, row_change_form};
     ghost use Rattle.party_ledgers.specs.RowOneForm.{row_form_one, row_change_form_one};
-    ghost use Rattle.party_ledgers.specs.Differing.{row_difference, is_row_difference, few_together, row_by_difference};
+    ghost use Rattle.party_ledgers.specs.Differing.{row_difference, AreRowDifferences, AreFewTogether, row_by_difference};
 
     ghost nothing = { [] };
 
     ghost patched = { patched_row };
 
-    ghost is_change = { is_row_difference };
+    ghost is_change = { AreRowDifferences };
 
     ghost difference = { row_difference };
 
-    ghost reaches = { few_together };
+    ghost reaches = { AreFewTogether };
 
     ghost has_form = { IsRow };
 

@@ -4,7 +4,7 @@ use Rattle.std.proofs.lemmas.Int.{to_z-of_z}
 use Rattle.fuxi_terms.specs.Keys.{key_cmp}
 use Rattle.fuxi_terms.specs.Counts.{AreCounts, count, moved}
 use Rattle.fuxi_terms.specs.declared.answers.LedgerFault.TheVariants.{Below, TooGreat}
-use Rattle.ledger_law.specs.Orders.{key_total, same_key}
+use Rattle.fuxi_terms.proofs.KeyOrders.{key_total, same_key}
 use Rattle.fuxi_terms.proofs.Counting.{count_le, counts-set_count}
 use Rattle.fuxi_terms.proofs.Making.{made_one}
 use Rattle.ledger_law.proofs.tally.make_change.Goals as goal

@@ -5,7 +5,7 @@ use Rattle.std.specs.Int.RustNames.{FitsSigned}
 use Rattle.std.proofs.lemmas.Int.{to_z-of_z}
 use Rattle.std.proofs.lemmas.Result.{err_from_is_err_and}
 use Rattle.fuxi_terms.specs.declared.answers.LedgerFault.TheVariants.{Below, TooGreat}
-use Rattle.ledger_law.specs.Orders.{key_total, same_key}
+use Rattle.fuxi_terms.proofs.KeyOrders.{key_total, same_key}
 use Rattle.ledger_law.specs.Shapes.{kept_under}
 use Rattle.ledger_law.proofs.Keeping.{kept_bound}
 use Rattle.fuxi_terms.proofs.Testing.{refused_at, one_more, all_pass}
