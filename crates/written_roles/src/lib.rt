@@ -11,18 +11,20 @@ ghost use Rattle.written_net.specs.Net.{Id};
 ghost use Rattle.written_net.specs.Sides.{Side};
 ghost use Rattle.written_roles.specs.MasterRoles.{publish_alone, offers_alone, side_after};
 ghost use Rattle.written_roles.specs.Masters.{Master};
-ghost use Rattle.written_roles.specs.Placing.{settled};
+ghost use Rattle.written_roles.specs.Placing.{settled, first_placeable};
 ghost use Rattle.std.specs.FinMap.Entries.{is_sorted};
 ghost use Rattle.written_roles.specs.Preemption.{Plan, plan_of};
 ghost use Rattle.written_roles.specs.Losses.{IsLoss, LeavesRoom};
-ghost use Rattle.written_roles.specs.Settling.{NothingPlaceable, Picks, IsWithin};
+ghost use Rattle.written_roles.specs.Settling.{NothingPlaceable, Picks, IsWithin, IsFirst};
 
 /// Settling ends, and leaves nothing placeable; whoever grants the placeable pair of least rank until there
-/// is none has settled; and settling keeps each machine's grants within what the machine has.
+/// is none has settled; settling keeps each machine's grants within what the machine has; and the pair that is placed
+/// has the least rank of all placeable pairs of the line (`first`).
 pub fn settling()
     ensures ends { (c : ClusterRecord) (M : Master) → NothingPlaceable c (settled c M) }
     ensures runs { (c : ClusterRecord) (picks : List Spot) (M N : Master) → Picks c M picks N → N ≡ settled c M }
     ensures fits { (c : ClusterRecord) (M : Master) → IsWithin c M → IsWithin c (settled c M) }
+    ensures first { (c : ClusterRecord) (M : Master) (s : Spot) → first_placeable c M ≡ Some s → IsFirst c M s }
 {}
 
 /// The losers of a plan are single grants of the table, all on the machine that is served, and with what they
