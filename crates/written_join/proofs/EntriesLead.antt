@@ -290,7 +290,7 @@ asked_within c units k v valid few machines some le =
     by : k.unit < most_units → (a d : Bool) → (a || cond d (has_rack c k.number) (has_machine c k.number)) ≡ true
         → v ≤ cond a (where_holds (nat_eq k.number 0) greatest_count) (cond (nat_eq k.what 2) greatest_count (cond d greatest_count (cond (nat_eq k.what 4) 1 (where_holds (nat_eq k.what 5) greatest_back))))
         → v ≤ where_holds (nat_lt k.unit most_units && nat_lt k.number most_machines)
-            (cond a (where_holds (nat_eq k.number 0) greatest_count) (cond (nat_eq k.what 2) greatest_count (cond d (where_holds (nat_lt k.number most_racks) greatest_count) (cond (nat_eq k.what 4) 1 (where_holds (nat_eq k.what 5) greatest_back)))))
+        (cond a (where_holds (nat_eq k.number 0) greatest_count) (cond (nat_eq k.what 2) greatest_count (cond d (where_holds (nat_lt k.number most_racks) greatest_count) (cond (nat_eq k.what 4) 1 (where_holds (nat_eq k.what 5) greatest_back)))))
     by unit true d t le =
         let h = held_test (nat_eq k.number 0) greatest_count v some le in
         let first = number_is k.number 0 h.0 in

@@ -144,14 +144,14 @@ grants_counted c M boot a t f h =
     let kinds = credited_kinds c units cs (h.credits a).positive (h.credits a).within in
     let counts = count_entries a M.table in
     let of_table : (P : Spot × ℕ → Type 0) (Q : Key × ℕ → Type 0) → ((e : Spot × ℕ) → nat_eq e.0.job a ≡ true → P e → Q (count_key e.0.unit e.0.machine, e.1)) → AllByRecursion P M.table → AllByRecursion Q counts
-        = λ P Q q. all_kept spot_cmp key_cmp (λ s. count_key s.unit s.machine) (λ s. nat_eq s.job a) (count_keeps a) P Q q M.table in
+    = λ P Q q. all_kept spot_cmp key_cmp (λ s. count_key s.unit s.machine) (λ s. nat_eq s.job a) (count_keeps a) P Q q M.table in
     let loose = counts_mapped spot_cmp key_cmp (λ s. count_key s.unit s.machine) (λ s. nat_eq s.job a) (count_keeps a) (greatest_in_table M.jobs) (λ k. greatest_count)
-        (λ s n _ _ w. let le = where_le (nat_lt s.unit (unit_count M.jobs s.job)) greatest_count in omega (arith, w, le)) M.table h.counts in
+    (λ s n _ _ w. let le = where_le (nat_lt s.unit (unit_count M.jobs s.job)) greatest_count in omega (arith, w, le)) M.table h.counts in
     let count_kinds = of_table (λ e. 0 < e.1) (λ e. e.0.what ≡ 2) (λ e _ _. refl) h.counts.positive in
     let behind = counts_append key_cmp g counts cs
-        (record { sorted = loose.sorted; positive = loose.positive; within = of_table (IsGrant c M.jobs) (λ e. e.1 ≤ g e.0) (λ e s k. granted e s k) (table_grants c M t f h) })
-        (record { sorted = (h.credits a).sorted; positive = (h.credits a).positive; within = credits_granted c units cs kinds (h.credits a).within })
-        (all_below counts cs 2 3 refl count_kinds kinds) in
+    (record { sorted = loose.sorted; positive = loose.positive; within = of_table (IsGrant c M.jobs) (λ e. e.1 ≤ g e.0) (λ e s k. granted e s k) (table_grants c M t f h) })
+    (record { sorted = (h.credits a).sorted; positive = (h.credits a).positive; within = credits_granted c units cs kinds (h.credits a).within })
+    (all_below counts cs 2 3 refl count_kinds kinds) in
     counts_append key_cmp g (reported_entries M.reported) (counts ++ cs)
     (record { sorted = h.rising; positive = all_more _ (λ e. 0 < e.1) (λ e p. p.0) (reported_entries M.reported) r; within = all_more _ (λ e. e.1 ≤ g e.0) (λ e p. p.1) (reported_entries M.reported) r })
     behind

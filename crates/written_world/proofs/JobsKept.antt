@@ -76,12 +76,14 @@ wide_unit c n u ts few e =
     let same = turned_test (nat_eq (length u.size) c.resources) a.0 in
     let long : length u.size ≡ c.resources = grind (arith, nat_tests, same) in
     let eight = length-padded u.size (omega (arith, long, few)) in
-    let is_eight : nat_eq (length (padded u.size)) most_resources ≡ true = grind (arith, nat_tests, eight) in
-    (record {
-      valid = and_true (is_priority u.priority) _ (turned_test _ b.0) (and_true (is_vector_of most_resources (padded u.size)) (not (is_zero (padded u.size)))
-          (and_true (nat_eq (length (padded u.size)) most_resources) (are_quantities (padded u.size)) is_eight (quantities-padded u.size ∙ turned_test _ q.0)) (ap not (zero_padded u.size z.0)));
-      narrow = record { zeros = λ i le. at_place-padded u.size i ∙ past u.size i (omega (arith, le, long)) };
-    }, z.1)
+    let is_eight : nat_eq (length (padded u.size)) most_resources ≡ true = grind (arith, nat_tests, eight) in (
+      record {
+        valid = and_true (is_priority u.priority) _ (turned_test _ b.0) (and_true (is_vector_of most_resources (padded u.size)) (not (is_zero (padded u.size)))
+            (and_true (nat_eq (length (padded u.size)) most_resources) (are_quantities (padded u.size)) is_eight (quantities-padded u.size ∙ turned_test _ q.0)) (ap not (zero_padded u.size z.0)));
+        narrow = record { zeros = λ i le. at_place-padded u.size i ∙ past u.size i (omega (arith, le, long)) };
+      },
+      z.1,
+    )
 
 wide_units : (c : ClusterRecord) (n : ℕ) (us : List UnitRecord) → c.resources ≤ most_resources → first_refusal (units_tests c.resources n us) ≡ None
     → (list_all (is_valid_unit most_resources) (map (λ (u : UnitRecord). record u { size = padded u.size }) us) ≡ true) × AllByRecursion (IsNarrow c) (map (λ (u : UnitRecord). record u { size = padded u.size }) us)

@@ -87,9 +87,6 @@ shown_after c net R forced fits there before m = by (has_number m R.reported) re
     p : Party
     p = master_party R
 
-
-
-
     by : (b : Bool) → has_number m R.reported ≡ b → nat_lt 0 (last (publish net (master_party R) (offers c net R forced)) (master_party R) (agent_id m)) ≡ has_number m R.reported
     by true t = again (nat_lt 0 (last net (master_party R) (agent_id m))) refl (before m ∙ t) ∙ sym t
       where

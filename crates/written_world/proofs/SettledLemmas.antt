@@ -49,7 +49,6 @@ number_append : (n : ℕ) (xs ys : List ℕ) → has_number n (xs ++ ys) ≡ (ha
 number_append n [] ys = refl
 number_append n (x ∷ xs) ys = elim (nat_eq n x) as (λ b. (b || has_number n (xs ++ ys)) ≡ ((b || has_number n xs) || has_number n ys)) [ true ↦ refl | false ↦ number_append n xs ys ]
 
-
 -- a number below another is one of those
 pub number_below : (n m : ℕ) → nat_lt m n ≡ true → has_number m (below n) ≡ true
 number_below zero m lt = absurd (let f : m < 0 = grind (arith, nat_tests, lt) in omega (arith, f))
