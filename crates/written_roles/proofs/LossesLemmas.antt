@@ -133,55 +133,64 @@ taken_drawn (x ∷ xs) c M t m set few on more = elim (is_enough c M t set) as (
   ]
 ]
 
--- leaving one out leaves fewer
-fewer : (s t : Spot) (set : List Spot) → often s (without_one t set) ≤ often s set
-fewer s t [] = omega arith
-fewer s t (x ∷ xs) =
-    let rest = fewer s t xs in
-    let a = sum_by-cons (one_if s) x xs in
-    elim (nat_eq t.job x.job && nat_eq t.unit x.unit) as (λ b. often s (cond b xs (x ∷ without_one t xs)) ≤ often s (x ∷ xs)) [
+-- leaving one out makes no sum greater, and leaves none that was not there
+pub fewer : (f : Spot → ℕ) (t : Spot) (set : List Spot) → sum_by f (without_one t set) ≤ sum_by f set
+fewer f t [] = omega arith
+fewer f t (x ∷ xs) =
+    let rest = fewer f t xs in
+    let a = sum_by-cons f x xs in
+    elim (nat_eq t.job x.job && nat_eq t.unit x.unit) as (λ b. sum_by f (cond b xs (x ∷ without_one t xs)) ≤ sum_by f (x ∷ xs)) [
       | true ↦ omega (arith, a)
-      | false ↦ let d = sum_by-cons (one_if s) x (without_one t xs) in omega (arith, a, d, rest)
+      | false ↦ let d = sum_by-cons f x (without_one t xs) in omega (arith, a, d, rest)
     ]
 
-fewer_on : (m : ℕ) (t : Spot) (set : List Spot) → AllByRecursion (λ s. s.machine ≡ m) set → AllByRecursion (λ s. s.machine ≡ m) (without_one t set)
-fewer_on m t [] h = tt
-fewer_on m t (x ∷ xs) h = elim (nat_eq t.job x.job && nat_eq t.unit x.unit) as (λ b. AllByRecursion (λ (s : Spot). s.machine ≡ m) (cond b xs (x ∷ without_one t xs))) [ true ↦ h.1 | false ↦ (h.0, fewer_on m t xs h.1) ]
+pub all_fewer : (P : Spot → Type 0) (t : Spot) (set : List Spot) → AllByRecursion P set → AllByRecursion P (without_one t set)
+all_fewer P t [] h = tt
+all_fewer P t (x ∷ xs) h = elim (nat_eq t.job x.job && nat_eq t.unit x.unit) as (λ b. AllByRecursion P (cond b xs (x ∷ without_one t xs))) [ true ↦ h.1 | false ↦ (h.0, all_fewer P t xs h.1) ]
 
--- a drawn set that is enough
+-- what a set has, and keeps where one is left out and the rest is enough, is left at the end
+pub needed_has : (P : List Spot → Type 0) (ss : List Spot) (c : ClusterRecord) (M : Master) (t : Spot) (set : List Spot) → ((s : Spot) (set : List Spot) → P set → is_enough c M t (without_one s set) ≡ true → P (without_one s set)) → P set → P (needed_of ss c M t set)
+needed_has P [] c M t set f h = h
+needed_has P (s ∷ ss) c M t set f h = needed_has P ss c M t (cond (is_enough c M t (without_one s set)) (without_one s set) set) f
+    (either P (is_enough c M t (without_one s set)) (without_one s set) set (f s set h) (λ _. h))
 
-needed_loss : (ss : List Spot) (c : ClusterRecord) (M : Master) (t : Spot) (set : List Spot) → IsLoss c M t set → IsLoss c M t (needed_of ss c M t set)
-needed_loss [] c M t set h = h
-needed_loss (s ∷ ss) c M t set h = needed_loss ss c M t (cond (is_enough c M t (without_one s set)) (without_one s set) set)
-    (either (IsLoss c M t) (is_enough c M t (without_one s set)) (without_one s set) set
-    (λ e. record { drawn = record { few = λ q. let f = h.drawn.few q in let l = fewer q s set in omega (arith, f, l); on = fewer_on t.machine s set h.drawn.on }; enough = e }) (λ _. h))
+fewer_loss : (c : ClusterRecord) (M : Master) (t s : Spot) (set : List Spot) → IsLoss c M t set → is_enough c M t (without_one s set) ≡ true → IsLoss c M t (without_one s set)
+fewer_loss c M t s set h e = record {
+  drawn = record { few = λ q. let f = h.drawn.few q in let l = fewer (one_if q) s set in omega (arith, f, l); on = all_fewer (λ (s : Spot). s.machine ≡ t.machine) s set h.drawn.on };
+  enough = e;
+}
 
-victims_loss : (c : ClusterRecord) (M : Master) (t : Spot) (vs : List Spot) → T (is_sorted spot_cmp M.table) → victims c M t ≡ Some vs → IsLoss c M t vs
-victims_loss c M t vs k e = by (is_enough c M t set && is_some_set set) refl e
-  where
-    set : List Spot
-    set = taken_of (walk M t.machine) c M t []
+-- what is taken for a pair, before any is left out
+abbrev pub taken : ClusterRecord → Master → Spot → List Spot
+taken c M t = taken_of (walk M t.machine) c M t []
 
-    drawn : AreGrantsOn M.table t.machine set
-    drawn = let w = walk_drawn M t.machine k in taken_drawn (walk M t.machine) c M t t.machine [] (λ s. let f = w.few s in omega (arith, f)) tt w.on
-
-    by : (b : Bool) → (is_enough c M t set && is_some_set set) ≡ b → (elim b as (λ _. Option (List Spot)) [ true ↦ Some (needed_of set c M t set) | false ↦ None ]) ≡ Some vs → IsLoss c M t vs
-    by true b e = let same : needed_of set c M t set ≡ vs = cc in subst (IsLoss c M t) same (needed_loss set c M t set (record { drawn = drawn; enough = (both_true (is_enough c M t set) (is_some_set set) b).0 }))
-    by false b e = cc
-
--- the losers of the first plan
-pub plan_loss : (ss : List Spot) (c : ClusterRecord) (M : Master) (p : Plan) → T (is_sorted spot_cmp M.table) → first_plan ss c M ≡ Some p → IsLoss c M p.served p.losers
-plan_loss [] c M p k e = cc
-plan_loss (s ∷ ss) c M p k e = elim (victims c M s) as (λ o. victims c M s ≡ o → (elim o as (λ _. Option Plan) [ None ↦ first_plan ss c M | Some vs ↦ Some (record { served = s; losers = vs }) ]) ≡ Some p → IsLoss c M p.served p.losers) [
-  | None ↦ λ _ e. plan_loss ss c M p k e
+-- the losers of the first plan have what is left of a taken set that is enough
+pub plan_has : (P : Spot → List Spot → Type 0) (ss : List Spot) (c : ClusterRecord) (M : Master) (p : Plan) → ((t : Spot) → is_enough c M t (taken c M t) ≡ true → P t (needed_of (taken c M t) c M t (taken c M t))) → first_plan ss c M ≡ Some p → P p.served p.losers
+plan_has P [] c M p h e = cc
+plan_has P (s ∷ ss) c M p h e = elim (victims c M s) as (λ o. victims c M s ≡ o → (elim o as (λ _. Option Plan) [ None ↦ first_plan ss c M | Some vs ↦ Some (record { served = s; losers = vs }) ]) ≡ Some p → P p.served p.losers) [
+  | None ↦ λ _ e. plan_has P ss c M p h e
   | Some vs ↦ λ v e. served vs v e
 ] refl e
   where
     plan : List Spot → Plan
     plan vs = record { served = s; losers = vs }
 
-    served : (vs : List Spot) → victims c M s ≡ Some vs → Some (plan vs) ≡ Some p → IsLoss c M p.served p.losers
-    served vs v e = let same : plan vs ≡ p = cc in subst (λ (q : Plan). IsLoss c M q.served q.losers) same (victims_loss c M s vs k v)
+    set : List Spot
+    set = taken c M s
+
+    by : (vs : List Spot) (b : Bool) → (is_enough c M s set && is_some_set set) ≡ b → (elim b as (λ _. Option (List Spot)) [ true ↦ Some (needed_of set c M s set) | false ↦ None ]) ≡ Some vs → P s vs
+    by vs true b e = let same : needed_of set c M s set ≡ vs = cc in subst (P s) same (h s (both_true (is_enough c M s set) (is_some_set set) b).0)
+    by vs false b e = cc
+
+    served : (vs : List Spot) → victims c M s ≡ Some vs → Some (plan vs) ≡ Some p → P p.served p.losers
+    served vs v e = let same : plan vs ≡ p = cc in subst (λ (q : Plan). P q.served q.losers) same (by vs (is_enough c M s set && is_some_set set) refl v)
+
+-- they are grants of the table, and enough
+pub plan_loss : (ss : List Spot) (c : ClusterRecord) (M : Master) (p : Plan) → T (is_sorted spot_cmp M.table) → first_plan ss c M ≡ Some p → IsLoss c M p.served p.losers
+plan_loss ss c M p k e = plan_has (IsLoss c M) ss c M p (λ t enough. needed_has (IsLoss c M t) (taken c M t) c M t (taken c M t) (λ s set. fewer_loss c M t s set) (record { drawn = drawn t; enough = enough })) e
+  where
+    drawn : (t : Spot) → AreGrantsOn M.table t.machine (taken c M t)
+    drawn t = let w = walk_drawn M t.machine k in taken_drawn (walk M t.machine) c M t t.machine [] (λ s. let f = w.few s in omega (arith, f)) tt w.on
 
 -- and so there is room
 pub loss_room : (c : ClusterRecord) (M : Master) (t : Spot) (set : List Spot) → IsLoss c M t set → LeavesRoom c M t set

@@ -14,7 +14,7 @@ ghost use Rattle.written_roles.specs.Masters.{Master};
 ghost use Rattle.written_roles.specs.Placing.{settled, first_placeable};
 ghost use Rattle.std.specs.FinMap.Entries.{is_sorted};
 ghost use Rattle.written_roles.specs.Preemption.{Plan, plan_of};
-ghost use Rattle.written_roles.specs.Losses.{IsLoss, LeavesRoom};
+ghost use Rattle.written_roles.specs.Losses.{IsLoss, LeavesRoom, IsNeeded, KeepsQuotas};
 ghost use Rattle.written_roles.specs.Settling.{NothingPlaceable, Picks, IsWithin, IsFirst};
 
 /// Settling ends, and leaves nothing placeable; whoever grants the placeable pair of least rank until there
@@ -28,10 +28,13 @@ pub fn settling()
 {}
 
 /// The losers of a plan are single grants of the table, all on the machine that is served, and with what they
-/// leave there is room for one more of what is served.
+/// leave there is room for one more of what is served. Each of them is needed: without it the others are not enough
+/// (`needed`). A group that loses some and is not the one that is served keeps its quota in each resource (`spared`).
 pub fn preempting()
     ensures grants { (c : ClusterRecord) (M : Master) (p : Plan) → T (is_sorted spot_cmp M.table) → plan_of c M ≡ Some p → IsLoss c M p.served p.losers }
     ensures room { (c : ClusterRecord) (M : Master) (p : Plan) → T (is_sorted spot_cmp M.table) → plan_of c M ≡ Some p → LeavesRoom c M p.served p.losers }
+    ensures needed { (c : ClusterRecord) (M : Master) (p : Plan) → plan_of c M ≡ Some p → IsNeeded c M p.served p.losers }
+    ensures spared { (c : ClusterRecord) (M : Master) (p : Plan) → plan_of c M ≡ Some p → KeepsQuotas c M p.served p.losers }
 {}
 
 /// The end of a master's step, said of each peer: one with whom it talks has what it should hold appended where that
