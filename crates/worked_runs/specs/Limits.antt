@@ -27,6 +27,27 @@ a_limit_stops_placing_run = record {
       Wait 1 1 0 3 ∷ AgentAt 0 1 1 3 ∷ Row 0 0 0 3 ∷ Row 0 1 0 2 ∷ AppAt 0 1 1 3 ∷ Hold 0 0 0 3 ∷ AppAt 1 1 1 3 ∷ Hold 1 0 0 2 ∷ Packets 15 ∷ [];
 }
 
+-- where a group has room for one grant alone, the unit that waits first gets it, on the machine that it may use, and not the unit
+-- behind it on a smaller machine
+abbrev pub the_line_goes_before_the_machine_run : Run
+the_line_goes_before_the_machine_run = record {
+  on = cluster 1 (machine 0 (10 ∷ []) ∷ machine 0 (10 ∷ []) ∷ []) (group (10 ∷ []) (10 ∷ []) ∷ []);
+  events =
+      StartMaster 1 ∷ StartAgent 0 1 ∷ StartAgent 1 1 ∷ Submit 1 (job 0 0 (unit 5 (10 ∷ []) ∷ [])) ∷ Submit 1 (job 1 0 (unit 5 (10 ∷ []) ∷ [])) ∷
+      StartApp 0 1 ∷ StartApp 1 1 ∷ Want 0 0 1 ∷ Avoid 0 0 0 1 ∷ Want 1 0 1 ∷ TurnMaster 1 ∷ DeliverRange 1 4 ∷ TurnApp 0 ∷ TurnApp 1 ∷
+      TurnAgent 0 ∷ TurnAgent 1 ∷ DeliverRange 5 12 ∷ [];
+  lines =
+      sent 1 (master 1) (agent 0 0) Ack 0 0 48 ∷ sent 2 (master 1) (agent 1 0) Ack 0 0 48 ∷ sent 3 (master 1) (app 0 0) Ack 0 0 48 ∷
+      sent 4 (master 1) (app 1 0) Ack 0 0 48 ∷ heard_new 1 Acked ∷ heard_new 2 Acked ∷ heard_new 3 Acked ∷ heard_new 4 Acked ∷
+      sent 5 (app 0 1) (master 1) Full 1 3 84 ∷ sent 6 (app 0 1) (master 1) Ack 1 0 48 ∷ sent 7 (app 1 1) (master 1) Full 1 2 72 ∷
+      sent 8 (app 1 1) (master 1) Ack 1 0 48 ∷ sent 9 (agent 0 1) (master 1) Full 1 1 60 ∷ sent 10 (agent 0 1) (master 1) Ack 1 0 48 ∷
+      sent 11 (agent 1 1) (master 1) Full 1 1 60 ∷ sent 12 (agent 1 1) (master 1) Ack 1 0 48 ∷ heard_new 5 Taken ∷ heard 6 Acked ∷ heard_new 7 Taken ∷
+      heard 8 Acked ∷ heard_new 9 Taken ∷ heard 10 Acked ∷ heard_new 11 Taken ∷ heard 12 Acked ∷ [];
+  state =
+      State 17 ∷ Fence 1 ∷ Job 0 0 false ∷ Job 1 0 false ∷ MasterIs 1 true ∷ Reported 1 0 ∷ Reported 1 1 ∷ Grant 1 0 0 1 1 ∷ Wait 1 1 0 1 ∷
+      AgentAt 0 1 1 0 ∷ AgentAt 1 1 1 0 ∷ AppAt 0 1 1 0 ∷ AppAt 1 1 1 0 ∷ Packets 12 ∷ [];
+}
+
 -- a unit that wants a rack gets machines of that rack first, and the others once the rack has as many as it wants
 abbrev pub a_rack_goes_before_the_rest_run : Run
 a_rack_goes_before_the_rest_run = record {
