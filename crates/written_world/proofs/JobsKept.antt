@@ -1,35 +1,26 @@
 -- In every state to which lines lead on a valid cluster, the jobs of the hard state are valid in eight places.
-use Rattle.std.proofs.Common.{◌≡◌, ℕ, zero, suc, ◌+◌, ◌-◌, ◌≤◌, Bool, true, false, cond, not, nat_eq, nat_lt, List, [], ◌∷◌, ◌++◌, length, map, Option, Some, None, refl, sym, ◌∙◌, ap, subst, arith}
-use Rattle.std.specs.Prelude.{min}
+use Rattle.std.proofs.Common.{◌≡◌, ℕ, zero, suc, ◌+◌, ◌≤◌, Bool, true, false, cond, not, nat_eq, nat_lt, List, [], ◌∷◌, ◌++◌, length, map, Some, None, refl, sym, ◌∙◌, ap, subst, arith}
 use Rattle.std.specs.Prelude.{is_some}
 use Rattle.std.specs.List.{AllByRecursion, list_all}
-use Rattle.std.specs.Ordering.{nat_cmp}
-use Rattle.std.specs.FinMap.Entries.{find}
 use Rattle.std.proofs.lemmas.Bool.Decides.{nat_tests}
 use Rattle.fuxi_terms.specs.Padded.{padded}
 use Rattle.fuxi_terms.specs.Vectors.{at_place, is_zero}
 use Rattle.fuxi_terms.specs.Limits.{most_records, most_resources, most_units, most_jobs, most_groups}
 use Rattle.fuxi_terms.specs.Cluster.{ClusterRecord, JobRecord, UnitRecord, is_valid_cluster, is_valid_unit, is_priority, is_vector_of, are_quantities, is_between, has_group}
-use Rattle.written_net.specs.Net.{Party, Packet, comes, heard_of}
-use Rattle.fuxi_terms.specs.TallyKeys.{want_key, near_key, rack_key, avoid_key, back_key}
-use Rattle.written_net.specs.Channels.{is_agent, is_app, is_master, master_id, agent_id, app_id, party}
 use Rattle.fuxi_terms.specs.Jobs.{KnownJob, job_of, is_known, has_ended, eight_places}
 use Rattle.fuxi_terms.specs.Numbers.{has_number}
 use Rattle.written_roles.specs.Masters.{Master}
-use Rattle.written_roles.specs.HardState.{HardState, with_job, with_ended, submitted, finished, Raise, is_full, is_not_rising}
-use Rattle.written_roles.specs.MasterSteps.{talks, master_party}
-use Rattle.written_roles.specs.Refusals.{Refusal, HardFull, Fenced, Known, NoJob, Ended, AlreadyBanned, NotBanned, NoGroup, NoUnits, TooManyUnits, Dimensions, PriorityRange, QuantityRange, ZeroSize, first_refusal, job_tests, units_tests, with_found}
-use Rattle.written_world.specs.World.{World, Agent, App, Step, empty_world, prints_nothing, refused}
-use Rattle.written_world.specs.Parties.{end_step, told, received, adopted_now, master_hears, agent_hears, app_hears}
-use Rattle.written_world.specs.Events.{Event, StartMaster, StopMaster, StartAgent, StartApp, Submit, Finish, Ban, Unban, Begin, Preempt, Want, Near, Rack, Avoid, GiveBack, TurnMaster, TurnAgent, TurnApp, ResyncMaster, ResyncAgent, ResyncApp, Deliver, DeliverRange, Dump, ShowState, at_master, at_agent, at_app, demanded, turned, turn_to_master, addressed, packet_of, deliver_one, deliver_all, given_back, agent_started, app_started, act, counted_in, world_step}
-use Rattle.written_world.specs.Runs.{run_from, run}
+use Rattle.written_roles.specs.HardState.{HardState, with_job, with_ended, submitted, finished, is_full, is_not_rising}
+use Rattle.written_roles.specs.Refusals.{Refusal, HardFull, Fenced, Known, NoJob, Ended, AlreadyBanned, NotBanned, NoGroup, NoUnits, TooManyUnits, Dimensions, PriorityRange, QuantityRange, ZeroSize, first_refusal, job_tests, units_tests}
+use Rattle.written_world.specs.World.{World, Step, empty_world}
+use Rattle.written_world.specs.Events.{Event, act}
+use Rattle.written_world.specs.Runs.{run}
 use Rattle.written_world.specs.Lines.{IsInput, is_from_line, is_counted}
 use Rattle.written_world.specs.Good.{IsNarrow, IsJob, AreJobs, AreDistinct, IsHard}
 use Rattle.fuxi_terms.proofs.Booleans.{both_true, and_true, either}
 use Rattle.fuxi_terms.proofs.Alls.{all_append}
 use Rattle.fuxi_terms.proofs.VectorLaws.{fits_places, length-padded, at_place-padded, quantities-padded}
-use Rattle.written_world.proofs.MovesWalk.{found_has}
-use Rattle.written_world.proofs.CommandLemmas.{hard_has, submits_has, finishes_has, bans_has, unbans_has, begins_has, makes_room_has}
+use Rattle.written_world.proofs.EventsWalk.{KeptBy, act_keeps, run_keeps}
 
 -- A job that passes the tests is valid in eight places
 passed : (b : Bool) (r : Refusal) (ts : List (Bool × Refusal)) → first_refusal ((b, r) ∷ ts) ≡ None → (b ≡ false) × (first_refusal ts ≡ None)
@@ -168,90 +159,38 @@ pub record HasJobs (c : ClusterRecord) (w : World) : Type 0 where
 pub record StepHasJobs (c : ClusterRecord) (s : Step) : Type 0 where
   pub it : HasJobs c s.world
 
+-- the cluster is this one, and the hard state is valid on it
+abbrev has_jobs : ClusterRecord → ClusterRecord → HardState → List (ℕ × Master) → Type 0
+has_jobs c = λ d h _. (d ≡ c) × IsHard c h
+
+abbrev of_line : Event → Type 0
+of_line e = is_from_line e ≡ true
+
 module _ (c : ClusterRecord) (few : c.resources ≤ most_resources) where
-  has : (w w' : World) → w'.cluster ≡ w.cluster → w'.hard ≡ w.hard → HasJobs c w → HasJobs c w'
-  has w w' cluster hard b = record { same = cluster ∙ b.same; hard = subst (IsHard c) (sym hard) b.hard }
-
-  step_has : (w w' : World) → w'.cluster ≡ w.cluster → w'.hard ≡ w.hard → HasJobs c w → StepHasJobs c (prints_nothing w')
-  step_has w w' cluster hard b = record { it = has w w' cluster hard b }
-
-  checked : (w : World) (o : Option Refusal) (s : Step) → HasJobs c w → StepHasJobs c s → StepHasJobs c (elim o as (λ _. Step) [ None ↦ s | Some r ↦ refused w r ])
-  checked w None s b k = k
-  checked w (Some r) s b k = record { it = b }
-
-  master_runs : (w : World) (e : ℕ) (f : Master → Step) → HasJobs c w → ((M : Master) → StepHasJobs c (f M)) → StepHasJobs c (at_master w e f)
-  master_runs w e f b k = found_has (StepHasJobs c) (find nat_cmp e w.masters) _ f (record { it = b }) (λ M _. k M)
-
-  agent_runs : (w : World) (m : ℕ) (f : Agent → Step) → HasJobs c w → ((g : Agent) → StepHasJobs c (f g)) → StepHasJobs c (at_agent w m f)
-  agent_runs w m f b k = found_has (StepHasJobs c) (find nat_cmp m w.agents) _ f (record { it = b }) (λ g _. k g)
-
-  app_runs : (w : World) (a : ℕ) (f : App → Step) → HasJobs c w → ((g : App) → StepHasJobs c (f g)) → StepHasJobs c (at_app w a f)
-  app_runs w a f b k = found_has (StepHasJobs c) (find nat_cmp a w.apps) _ f (record { it = b }) (λ g _. k g)
-
-  hears_has : (w : World) (M : Master) (x : Packet) → HasJobs c w → HasJobs c (master_hears w M x)
-  hears_has w M x b =
-      let h = heard_of w.net (master_party M) (talks w.cluster M) x in
-      let l = received w.cluster M w.net x in
-      let n = comes w.net (master_party M) (talks w.cluster M) (Some x) in
-      either (HasJobs c) (talks w.cluster M x.from.id) (end_step w n (told M h x.from.id l) (adopted_now M h x.from.id l)) w (λ _. record { same = b.same; hard = b.hard }) (λ _. b)
-
-  addressed_has : (w : World) (x : Packet) → HasJobs c w → HasJobs c (addressed w x)
-  addressed_has w x b =
-      let to_master = with_found (find nat_cmp x.to.inc w.masters) w (λ M. master_hears w M x) in
-      let to_agent = with_found (find nat_cmp x.to.id.number w.agents) w (λ g. agent_hears w x.to.id.number g x) in
-      let to_app = with_found (find nat_cmp x.to.id.number w.apps) w (λ g. app_hears w x.to.id.number g x) in
-      let master : HasJobs c to_master = found_has (HasJobs c) (find nat_cmp x.to.inc w.masters) w (λ M. master_hears w M x) b (λ M _. hears_has w M x b) in
-      let agent : HasJobs c to_agent = found_has (HasJobs c) (find nat_cmp x.to.id.number w.agents) w (λ g. agent_hears w x.to.id.number g x) b (λ g _. record { same = b.same; hard = b.hard }) in
-      let app : HasJobs c to_app = found_has (HasJobs c) (find nat_cmp x.to.id.number w.apps) w (λ g. app_hears w x.to.id.number g x) b (λ g _. record { same = b.same; hard = b.hard }) in
-      either (HasJobs c) (is_master x.to.id) to_master (cond (is_agent x.to.id) to_agent (cond (is_app x.to.id) to_app w)) (λ _. master)
-      (λ _. either (HasJobs c) (is_agent x.to.id) to_agent (cond (is_app x.to.id) to_app w) (λ _. agent)
-      (λ _. either (HasJobs c) (is_app x.to.id) to_app w (λ _. app) (λ _. b)))
-
-  deliver_has : (k : ℕ) (w : World) → HasJobs c w → StepHasJobs c (deliver_one k w)
-  deliver_has k w b = found_has (StepHasJobs c) (packet_of w k) _ _ (record { it = b }) (λ x _. record { it = addressed_has w x b })
-
-  deliver_all_has : (n k : ℕ) (w : World) → HasJobs c w → StepHasJobs c (deliver_all n k w)
-  deliver_all_has zero k w b = record { it = b }
-  deliver_all_has (suc n) k w b = record { it = (deliver_all_has n (k + 1) (deliver_one k w).world (deliver_has k w b).it).it }
-
-  to_master_has : (w : World) (p : Party) → HasJobs c w → StepHasJobs c (turn_to_master w p)
-  to_master_has w p b = either (StepHasJobs c) (nat_eq (w.net.links p master_id).known 0) (prints_nothing w) (turned w p (master_id ∷ [])) (λ _. record { it = b }) (λ _. record { it = record { same = b.same; hard = b.hard } })
+  jobs_kept : (d : ClusterRecord) (h : HardState) (masters : List (ℕ × Master)) → (d ≡ c) × IsHard c h → KeptBy (has_jobs c) of_line d h masters
+  jobs_kept d h masters b =
+      let jobs = b.1.jobs in
+      let distinct = b.1.distinct in record {
+        starts = λ e _ t. (b.0, record { jobs = jobs; distinct = distinct; few = room h (behind (is_not_rising h e ∷ []) (is_full h ∷ []) t) });
+        stops = λ _. b;
+        submits = λ e M j _ line own t.
+            let parts = both_true (nat_lt j.number most_jobs) (nat_lt j.group most_groups) (both_true (is_counted e) _ line).1 in
+            let job : IsJob c (eight_places j) = wide_job c j few parts.0 parts.1 (subst (λ (d : ClusterRecord). first_refusal ((not (has_group d j.group), NoGroup) ∷ job_tests d.resources j) ≡ None) b.0 own) in
+            (b.0, hard_added c h (eight_places j) job (passed _ _ ((is_known h.jobs j.number, Known) ∷ is_full h ∷ []) t).1 b.1);
+        finishes = λ e M a _ t. (b.0, hard_ended c a h (behind ((nat_lt M.epoch h.fence, Fenced h.fence) ∷ (not (is_known h.jobs a), NoJob) ∷ (has_ended h.jobs a, Ended) ∷ []) (is_full h ∷ []) t) b.1);
+        bans = λ e M m _ t. (b.0, record { jobs = jobs; distinct = distinct; few = room h (behind ((nat_lt M.epoch h.fence, Fenced h.fence) ∷ (has_number m h.bans, AlreadyBanned) ∷ []) (is_full h ∷ []) t) });
+        unbans = λ e M m _ t. (b.0, record { jobs = jobs; distinct = distinct; few = room h (behind ((nat_lt M.epoch h.fence, Fenced h.fence) ∷ (not (has_number m h.bans), NotBanned) ∷ []) (is_full h ∷ []) t) });
+        begins = λ _ _ _. b;
+        preempts = λ _ _ _ _ _. b;
+        hears = λ _ _ _ _ _ _. b;
+      }
 
   -- each event
   pub act_has : (w : World) (e : Event) → is_from_line e ≡ true → HasJobs c w → StepHasJobs c (act w e)
-  act_has w (StartMaster e) t b = checked w _ _ b (hard_has (StepHasJobs c) w (λ r. record { it = b }) w.hard e Raise _ (λ t. record { it = record { same = b.same; hard = record { jobs = b.hard.jobs; distinct = b.hard.distinct; few = room w.hard (behind (is_not_rising w.hard e ∷ []) (is_full w.hard ∷ []) t) } } }))
-  act_has w (StopMaster e) t b = master_runs w e _ b (λ M. record { it = record { same = b.same; hard = b.hard } })
-  act_has w (StartAgent m n) t b = checked w _ (prints_nothing (agent_started w m n)) b (record { it = record { same = b.same; hard = b.hard } })
-  act_has w (StartApp a n) t b = checked w _ (prints_nothing (app_started w a n)) b (record { it = record { same = b.same; hard = b.hard } })
-  act_has w (Submit e j) t b =
-      let parts = both_true (nat_lt j.number most_jobs) (nat_lt j.group most_groups) (both_true (is_counted e) _ t).1 in
-      master_runs w e _ b (λ M. submits_has (StepHasJobs c) w (λ r. record { it = b }) M _ j (λ tests t.
-      let job : IsJob c (eight_places j) = wide_job c j few parts.0 parts.1 (subst (λ (d : ClusterRecord). first_refusal ((not (has_group d j.group), NoGroup) ∷ job_tests d.resources j) ≡ None) b.same tests) in
-      record { it = record { same = b.same; hard = hard_added c w.hard (eight_places j) job (passed _ _ ((is_known w.hard.jobs j.number, Known) ∷ is_full w.hard ∷ []) t).1 b.hard } }))
-  act_has w (Finish e a) t b = master_runs w e _ b (λ M. finishes_has (StepHasJobs c) w (λ r. record { it = b }) M _ a (λ t. record { it = record { same = b.same; hard = hard_ended c a w.hard (behind ((nat_lt M.epoch w.hard.fence, Fenced w.hard.fence) ∷ (not (is_known w.hard.jobs a), NoJob) ∷ (has_ended w.hard.jobs a, Ended) ∷ []) (is_full w.hard ∷ []) t) b.hard } }))
-  act_has w (Ban e m) t b = master_runs w e _ b (λ M. bans_has (StepHasJobs c) w (λ r. record { it = b }) M _ m (λ t. record { it = record { same = b.same; hard = record { jobs = b.hard.jobs; distinct = b.hard.distinct; few = room w.hard (behind ((nat_lt M.epoch w.hard.fence, Fenced w.hard.fence) ∷ (has_number m w.hard.bans, AlreadyBanned) ∷ []) (is_full w.hard ∷ []) t) } } }))
-  act_has w (Unban e m) t b = master_runs w e _ b (λ M. unbans_has (StepHasJobs c) w (λ r. record { it = b }) M _ m (λ t. record { it = record { same = b.same; hard = record { jobs = b.hard.jobs; distinct = b.hard.distinct; few = room w.hard (behind ((nat_lt M.epoch w.hard.fence, Fenced w.hard.fence) ∷ (not (has_number m w.hard.bans), NotBanned) ∷ []) (is_full w.hard ∷ []) t) } } }))
-  act_has w (Begin e) t b = master_runs w e _ b (λ M. begins_has (StepHasJobs c) w (λ r. record { it = b }) M _ (record { it = record { same = b.same; hard = b.hard } }))
-  act_has w (Preempt e) t b = master_runs w e _ b (λ M. makes_room_has (StepHasJobs c) w (λ r. record { it = b }) M _ (λ p _. record { it = record { same = b.same; hard = b.hard } }))
-  act_has w (Want a u n) t b = app_runs w a _ b (λ g. checked w _ (demanded w a g (want_key u) n) b (record { it = record { same = b.same; hard = b.hard } }))
-  act_has w (Near a u m n) t b = app_runs w a _ b (λ g. checked w _ (demanded w a g (near_key u m) n) b (record { it = record { same = b.same; hard = b.hard } }))
-  act_has w (Rack a u r n) t b = app_runs w a _ b (λ g. checked w _ (demanded w a g (rack_key u r) n) b (record { it = record { same = b.same; hard = b.hard } }))
-  act_has w (Avoid a u m on) t b = app_runs w a _ b (λ g. checked w _ (demanded w a g (avoid_key u m) (min on 1)) b (record { it = record { same = b.same; hard = b.hard } }))
-  act_has w (GiveBack a u m n) t b = app_runs w a _ b (λ g. checked w _ (demanded w a g (back_key u m) (given_back w a g u m + n)) b (record { it = record { same = b.same; hard = b.hard } }))
-  act_has w (TurnMaster e) t b = master_runs w e _ b (λ M. record { it = record { same = b.same; hard = b.hard } })
-  act_has w (TurnAgent m) t b = agent_runs w m _ b (λ g. to_master_has w (party (agent_id m) g.boot) b)
-  act_has w (TurnApp a) t b = app_runs w a _ b (λ g. to_master_has w (party (app_id a) g.boot) b)
-  act_has w (ResyncMaster e) t b = master_runs w e _ b (λ M. record { it = record { same = b.same; hard = b.hard } })
-  act_has w (ResyncAgent m) t b = agent_runs w m _ b (λ g. record { it = record { same = b.same; hard = b.hard } })
-  act_has w (ResyncApp a) t b = app_runs w a _ b (λ g. record { it = record { same = b.same; hard = b.hard } })
-  act_has w (Deliver k) t b = checked w _ _ b (deliver_has k w b)
-  act_has w (DeliverRange k l) t b = checked w _ _ b (deliver_all_has (l + 1 - k) k w b)
-  act_has w (Dump k) t b = checked w _ _ b (found_has (StepHasJobs c) (packet_of w k) _ _ (record { it = b }) (λ x _. record { it = b }))
-  act_has w ShowState t b = record { it = b }
+  act_has w e t b = let k = (act_keeps (has_jobs c) of_line jobs_kept w e t (b.same, b.hard)).it in record { it = record { same = k.0; hard = k.1 } }
 
-  run_has : (es : List Event) (w : World) → AllByRecursion (λ e. is_from_line e ≡ true) es → HasJobs c w → HasJobs c (run_from es w).world
-  run_has [] w t b = b
-  run_has (e ∷ es) w t b = run_has es (world_step w e).world t.1 (act_has (counted_in w) e t.0 (record { same = b.same; hard = b.hard })).it
+  run_has : (es : List Event) → AllByRecursion (λ e. is_from_line e ≡ true) es → HasJobs c (run c es)
+  run_has es lines = let k = (run_keeps (has_jobs c) of_line jobs_kept es (empty_world c) lines (refl, record { jobs = tt; distinct = tt; few = omega arith })).it in record { same = k.0; hard = k.1 }
 
 -- a valid cluster has at most eight resources
 pub few_resources : (c : ClusterRecord) → is_valid_cluster c ≡ true → c.resources ≤ most_resources
@@ -259,8 +198,8 @@ few_resources c e = let b = both_true (not (nat_lt c.resources 1)) (not (nat_lt 
 
 -- the cluster stays
 pub run_cluster : (c : ClusterRecord) (es : List Event) → IsInput c es → (run c es).cluster ≡ c
-run_cluster c es i = (run_has c (few_resources c i.cluster) es (empty_world c) i.lines (record { same = refl; hard = record { jobs = tt; distinct = tt; few = omega arith } })).same
+run_cluster c es i = (run_has c (few_resources c i.cluster) es i.lines).same
 
 -- and the jobs of the hard state are valid
 pub run_jobs : (c : ClusterRecord) (es : List Event) → IsInput c es → AreJobs c (run c es).hard.jobs
-run_jobs c es i = (run_has c (few_resources c i.cluster) es (empty_world c) i.lines (record { same = refl; hard = record { jobs = tt; distinct = tt; few = omega arith } })).hard.jobs
+run_jobs c es i = (run_has c (few_resources c i.cluster) es i.lines).hard.jobs

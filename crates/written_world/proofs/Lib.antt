@@ -1,5 +1,6 @@
 pub mod CommandLemmas
 pub mod MovesWalk
+pub mod EventsWalk
 pub mod GoodAtStart
 pub mod DemandsLemmas
 pub mod CreditsLemmas
