@@ -1,6 +1,6 @@
 -- In every state each running master rests: nothing is placeable.
-use Rattle.std.proofs.Common.{◌≡◌, ℕ, zero, suc, ◌+◌, ◌-◌, Bool, true, false, cond, not, nat_eq, nat_lt, List, [], ◌∷◌, ◌++◌, length, map, Option, Some, None, refl, sym, ◌∙◌, ap, subst, arith}
-use Rattle.std.specs.Prelude.{◌&&◌, ◌||◌, min}
+use Rattle.std.proofs.Common.{◌≡◌, ℕ, Bool, true, false, cond, not, nat_eq, nat_lt, List, [], ◌∷◌, length, Option, Some, None, refl, sym, ◌∙◌, ap, subst, arith}
+use Rattle.std.specs.Prelude.{⊤, ◌&&◌, ◌||◌}
 use Rattle.std.specs.Option.{unwrap_or, option_map}
 use Rattle.std.specs.Ordering.{nat_cmp, eq_by_cmp}
 use Rattle.std.specs.Cmp.{nat_cmp_total}
@@ -9,28 +9,27 @@ use Rattle.std.proofs.lemmas.Bool.Decides.{nat_tests}
 use Rattle.fuxi_terms.specs.declared.Key.{Key}
 use Rattle.fuxi_terms.specs.Cluster.{ClusterRecord, JobRecord, has_machine}
 use Rattle.fuxi_terms.specs.Keys.{key_cmp}
-use Rattle.written_net.specs.Net.{Net, Id, Packet, Heard, comes, heard_of, Party, Starts, move, is_taken}
+use Rattle.written_net.specs.Net.{Net, Id, Packet, Heard, heard_of, is_taken}
 use Rattle.written_net.specs.Ledgers.{Ledger, nothing, at_key}
-use Rattle.fuxi_terms.specs.TallyKeys.{want_key, near_key, rack_key, avoid_key, back_key}
-use Rattle.written_net.specs.Channels.{is_agent, is_app, content, master_id, agent_id, app_id, party, is_master}
-use Rattle.fuxi_terms.specs.Jobs.{KnownJob, job_of, is_known, is_live, unit_count, job_numbers, eight_places}
+use Rattle.fuxi_terms.specs.TallyKeys.{want_key}
+use Rattle.written_net.specs.Channels.{is_agent, is_app, content}
+use Rattle.fuxi_terms.specs.Jobs.{KnownJob, job_of, is_known, is_live, unit_count, eight_places}
 use Rattle.fuxi_terms.specs.Numbers.{has_number, with_number, without_number}
 use Rattle.written_roles.specs.Masters.{Master}
 use Rattle.written_roles.specs.Placing.{placeable}
-use Rattle.written_roles.specs.HardState.{with_job, with_ended, raised, submitted, finished, banned, unbanned, HardState, Raise}
+use Rattle.written_roles.specs.HardState.{with_job, with_ended, raised, HardState}
 use Rattle.written_roles.specs.MasterSteps.{talks, ready, is_there, counted, take_report, take_demand, meet_app, adopts, master_party, ended_in, banned_in, new_master}
-use Rattle.written_world.specs.Parties.{end_step, told, received, adopted_now, master_hears, agent_hears, app_hears}
+use Rattle.written_world.specs.Parties.{told, received}
 use Rattle.fuxi_terms.proofs.Booleans.{either, number_is}
 use Rattle.fuxi_terms.proofs.KeyOrders.{same_key}
 use Rattle.written_world.proofs.SettledLemmas.{ranged_same, ready_rests}
-use Rattle.written_world.proofs.MovesWalk.{found_has}
+use Rattle.written_world.proofs.EventsWalk.{KeptBy, with_ready, act_keeps, run_keeps}
+use Rattle.std.specs.List.{AllByRecursion}
 use Rattle.written_roles.specs.Preemption.{preempted}
-use Rattle.written_roles.specs.Refusals.{Refusal, with_found}
-use Rattle.written_world.specs.World.{World, Agent, App, Step, empty_world, prints_nothing, refused}
-use Rattle.written_world.specs.Events.{Event, StartMaster, StopMaster, StartAgent, StartApp, Submit, Finish, Ban, Unban, Begin, Preempt, Want, Near, Rack, Avoid, GiveBack, TurnMaster, TurnAgent, TurnApp, ResyncMaster, ResyncAgent, ResyncApp, Deliver, DeliverRange, Dump, ShowState, at_master, at_agent, at_app, demanded, turned, turn_to_master, addressed, packet_of, deliver_one, deliver_all, given_back, agent_started, app_started, act, counted_in, world_step}
-use Rattle.written_world.specs.Runs.{run_from, run}
+use Rattle.written_world.specs.World.{World, Step, empty_world}
+use Rattle.written_world.specs.Events.{Event, act}
+use Rattle.written_world.specs.Runs.{run}
 use Rattle.std.proofs.lemmas.Map.Lookups.{exact_unsigned}
-use Rattle.written_world.proofs.CommandLemmas.{hard_has, submits_has, finishes_has, bans_has, unbans_has, begins_has, makes_room_has}
 use Rattle.written_world.specs.Good.{IsRangedMaster, IsResting}
 
 -- an entry of a map after a put is the new one or an old one
@@ -150,59 +149,12 @@ told_ranged c net M h x t r =
 pub record AllRest (c : ClusterRecord) (masters : List (ℕ × Master)) : Type 0 where
   pub rests : (e : ℕ) → Found (IsResting c) (find nat_cmp e masters)
 
-record Rests (w : World) : Type 0 where
-  all : AllRest w.cluster w.masters
-
--- and those of a step
+-- those of a step
 pub record StepRests (s : Step) : Type 0 where
   pub all : AllRest s.world.cluster s.world.masters
 
-end_rests : (w : World) (net : Net Ledger) (M : Master) (forced : List Id) → AllRest w.cluster w.masters → IsRangedMaster w.cluster M → Rests (end_step w net M forced)
-end_rests w net M forced s r = let R = ready w.cluster M in record { all = record { rests = λ e. put_found (IsResting w.cluster) R.epoch R w.masters e (ready_rests w.cluster M r) (s.rests e) } }
-
-step_rests : (w : World) (net : Net Ledger) (M : Master) (forced : List Id) → AllRest w.cluster w.masters → IsRangedMaster w.cluster M → StepRests (prints_nothing (end_step w net M forced))
-step_rests w net M forced s r = record { all = (end_rests w net M forced s r).all }
-
-checked : (w : World) (o : Option Refusal) (s : Step) → AllRest w.cluster w.masters → StepRests s → StepRests (elim o as (λ _. Step) [ None ↦ s | Some r ↦ refused w r ])
-checked w None s b k = k
-checked w (Some r) s b k = record { all = b }
-
-master_runs : (w : World) (e : ℕ) (f : Master → Step) → AllRest w.cluster w.masters → ((M : Master) → IsRangedMaster w.cluster M → StepRests (f M)) → StepRests (at_master w e f)
-master_runs w e f b k = found_has StepRests (find nat_cmp e w.masters) _ f (record { all = b }) (λ M found. k M ((b.rests e).has M found).ranged)
-
-agent_runs : (w : World) (m : ℕ) (f : Agent → Step) → AllRest w.cluster w.masters → ((g : Agent) → StepRests (f g)) → StepRests (at_agent w m f)
-agent_runs w m f b k = found_has StepRests (find nat_cmp m w.agents) _ f (record { all = b }) (λ g _. k g)
-
-app_runs : (w : World) (a : ℕ) (f : App → Step) → AllRest w.cluster w.masters → ((g : App) → StepRests (f g)) → StepRests (at_app w a f)
-app_runs w a f b k = found_has StepRests (find nat_cmp a w.apps) _ f (record { all = b }) (λ g _. k g)
-
-hears_rests : (w : World) (M : Master) (x : Packet) → AllRest w.cluster w.masters → IsRangedMaster w.cluster M → Rests (master_hears w M x)
-hears_rests w M x b r =
-    let h = heard_of w.net (master_party M) (talks w.cluster M) x in
-    let l = received w.cluster M w.net x in
-    let n = comes w.net (master_party M) (talks w.cluster M) (Some x) in
-    either Rests (talks w.cluster M x.from.id) (end_step w n (told M h x.from.id l) (adopted_now M h x.from.id l)) w
-    (λ t. end_rests w n (told M h x.from.id l) (adopted_now M h x.from.id l) b (told_ranged w.cluster w.net M h x t r)) (λ _. record { all = b })
-
-addressed_rests : (w : World) (x : Packet) → AllRest w.cluster w.masters → Rests (addressed w x)
-addressed_rests w x b =
-    let same : Rests w = record { all = b } in
-    let to_master = with_found (find nat_cmp x.to.inc w.masters) w (λ M. master_hears w M x) in
-    let to_agent = with_found (find nat_cmp x.to.id.number w.agents) w (λ g. agent_hears w x.to.id.number g x) in
-    let to_app = with_found (find nat_cmp x.to.id.number w.apps) w (λ g. app_hears w x.to.id.number g x) in
-    let master : Rests to_master = found_has Rests (find nat_cmp x.to.inc w.masters) w (λ M. master_hears w M x) same (λ M e. hears_rests w M x b ((b.rests x.to.inc).has M e).ranged) in
-    let agent : Rests to_agent = found_has Rests (find nat_cmp x.to.id.number w.agents) w (λ g. agent_hears w x.to.id.number g x) same (λ g _. record { all = b }) in
-    let app : Rests to_app = found_has Rests (find nat_cmp x.to.id.number w.apps) w (λ g. app_hears w x.to.id.number g x) same (λ g _. record { all = b }) in
-    either Rests (is_master x.to.id) to_master (cond (is_agent x.to.id) to_agent (cond (is_app x.to.id) to_app w)) (λ _. master)
-    (λ _. either Rests (is_agent x.to.id) to_agent (cond (is_app x.to.id) to_app w) (λ _. agent)
-    (λ _. either Rests (is_app x.to.id) to_app w (λ _. app) (λ _. same)))
-
-deliver_rests : (k : ℕ) (w : World) → AllRest w.cluster w.masters → StepRests (deliver_one k w)
-deliver_rests k w b = found_has StepRests (packet_of w k) _ _ (record { all = b }) (λ x _. record { all = (addressed_rests w x b).all })
-
-deliver_all_rests : (n k : ℕ) (w : World) → AllRest w.cluster w.masters → StepRests (deliver_all n k w)
-deliver_all_rests zero k w b = record { all = b }
-deliver_all_rests (suc n) k w b = record { all = (deliver_all_rests n (k + 1) (deliver_one k w).world (deliver_rests k w b).all).all }
+end_rests : (c : ClusterRecord) (masters : List (ℕ × Master)) (N : Master) → AllRest c masters → IsRangedMaster c N → AllRest c (with_ready c N masters)
+end_rests c masters N s r = let R = ready c N in record { rests = λ e. put_found (IsResting c) R.epoch R masters e (ready_rests c N r) (s.rests e) }
 
 stopped_rests : (c : ClusterRecord) (masters : List (ℕ × Master)) (e : ℕ) → AllRest c masters → AllRest c (where_key nat_cmp (λ k. not (nat_eq k e)) masters)
 stopped_rests c masters e b = record {
@@ -210,9 +162,6 @@ stopped_rests c masters e b = record {
       subst (Found (IsResting c)) (sym (find-where_key nat_cmp (λ k. not (nat_eq k e)) q (λ x t. ap (λ k. not (nat_eq k e)) (sym (exact_unsigned q x t))) masters))
       (elim (not (nat_eq q e)) as (λ t. Found (IsResting c) (cond t (find nat_cmp q masters) None)) [ true ↦ b.rests q | false ↦ record { has = λ x none. cc } ]);
 }
-
-to_master_rests : (w : World) (p : Party) → AllRest w.cluster w.masters → StepRests (turn_to_master w p)
-to_master_rests w p b = either StepRests (nat_eq (w.net.links p master_id).known 0) (prints_nothing w) (turned w p (master_id ∷ [])) (λ _. record { all = b }) (λ _. record { all = b })
 
 new_ranged : (c : ClusterRecord) (h : HardState) (e : ℕ) → IsRangedMaster c (new_master h e)
 new_ranged c h e = record { reported = λ m h. cc; wanted = λ a u h. refl }
@@ -229,39 +178,35 @@ ended_ranged c M a r = record {
 same_ranged : (c : ClusterRecord) (M N : Master) → N.jobs ≡ M.jobs → N.demands ≡ M.demands → N.reported ≡ M.reported → IsRangedMaster c M → IsRangedMaster c N
 same_ranged c M N jobs demands reported r = ranged_same c M N (record { jobs = jobs; demands = demands; reported = reported }) r
 
+-- of a world
+abbrev all_rest : ClusterRecord → HardState → List (ℕ × Master) → Type 0
+all_rest = λ c _ masters. AllRest c masters
+
+masters_rest : (c : ClusterRecord) (h : HardState) (masters : List (ℕ × Master)) → AllRest c masters → KeptBy all_rest (λ _. ⊤) c h masters
+masters_rest c h masters b = record {
+  starts = λ e _ _. end_rests c masters (new_master (raised h e) e) b (new_ranged c (raised h e) e);
+  stops = λ e. stopped_rests c masters e b;
+  submits = λ e M j f _ _ _. end_rests c masters (record M { jobs = with_job (eight_places j) M.jobs }) b (job_ranged c M (eight_places j) (ranged e M f));
+  finishes = λ e M a f _. end_rests c masters (ended_in M a) b (ended_ranged c M a (ranged e M f));
+  bans = λ e M m f _. end_rests c masters (banned_in M m) b (same_ranged c M (banned_in M m) refl refl refl (ranged e M f));
+  unbans = λ e M m f _. end_rests c masters (record M { bans = without_number m M.bans }) b (same_ranged c M (record M { bans = without_number m M.bans }) refl refl refl (ranged e M f));
+  begins = λ e M f. end_rests c masters (record M { serving = true }) b (same_ranged c M (record M { serving = true }) refl refl refl (ranged e M f));
+  preempts = λ e M p f _. end_rests c masters (preempted M p) b (same_ranged c M (preempted M p) refl refl refl (ranged e M f));
+  hears = λ e M net x f t. let k = heard_of net (master_party M) (talks c M) x in end_rests c masters (told M k x.from.id (received c M net x)) b (told_ranged c net M k x t (ranged e M f));
+}
+  where
+    ranged : (e : ℕ) (M : Master) → find nat_cmp e masters ≡ Some M → IsRangedMaster c M
+    ranged e M f = ((b.rests e).has M f).ranged
+
 -- each event
 pub act_rests : (w : World) (e : Event) → AllRest w.cluster w.masters → StepRests (act w e)
-act_rests w (StartMaster e) b = checked w _ _ b (hard_has StepRests w (λ r. record { all = b }) w.hard e Raise _ (λ _.
-    step_rests (record w { hard = raised w.hard e; ran = w.ran ++ party master_id e ∷ [] }) (move w.net (Starts (party master_id e))) (new_master (raised w.hard e) e) (map app_id (job_numbers w.hard.jobs)) b (new_ranged w.cluster (raised w.hard e) e)))
-act_rests w (StopMaster e) b = master_runs w e _ b (λ M r. record { all = stopped_rests w.cluster w.masters e b })
-act_rests w (StartAgent m n) b = checked w _ (prints_nothing (agent_started w m n)) b (record { all = b })
-act_rests w (StartApp a n) b = checked w _ (prints_nothing (app_started w a n)) b (record { all = b })
-act_rests w (Submit e j) b = master_runs w e _ b (λ M r. submits_has StepRests w (λ r. record { all = b }) M _ j (λ _ _. step_rests (record w { hard = submitted w.hard (eight_places j) }) w.net (record M { jobs = with_job (eight_places j) M.jobs }) (app_id j.number ∷ []) b (job_ranged w.cluster M (eight_places j) r)))
-act_rests w (Finish e a) b = master_runs w e _ b (λ M r. finishes_has StepRests w (λ r. record { all = b }) M _ a (λ _. step_rests (record w { hard = finished w.hard a }) w.net (ended_in M a) [] b (ended_ranged w.cluster M a r)))
-act_rests w (Ban e m) b = master_runs w e _ b (λ M r. bans_has StepRests w (λ r. record { all = b }) M _ m (λ _. step_rests (record w { hard = banned w.hard m }) w.net (banned_in M m) [] b (same_ranged w.cluster M (banned_in M m) refl refl refl r)))
-act_rests w (Unban e m) b = master_runs w e _ b (λ M r. unbans_has StepRests w (λ r. record { all = b }) M _ m (λ _. step_rests (record w { hard = unbanned w.hard m }) w.net (record M { bans = without_number m M.bans }) [] b (same_ranged w.cluster M (record M { bans = without_number m M.bans }) refl refl refl r)))
-act_rests w (Begin e) b = master_runs w e _ b (λ M r. begins_has StepRests w (λ r. record { all = b }) M _ (step_rests w w.net (record M { serving = true }) [] b (same_ranged w.cluster M (record M { serving = true }) refl refl refl r)))
-act_rests w (Preempt e) b = master_runs w e _ b (λ M r. makes_room_has StepRests w (λ r. record { all = b }) M _ (λ p _. step_rests w w.net (preempted M p) [] b (same_ranged w.cluster M (preempted M p) refl refl refl r)))
-act_rests w (Want a u n) b = app_runs w a _ b (λ g. checked w _ (demanded w a g (want_key u) n) b (record { all = b }))
-act_rests w (Near a u m n) b = app_runs w a _ b (λ g. checked w _ (demanded w a g (near_key u m) n) b (record { all = b }))
-act_rests w (Rack a u r n) b = app_runs w a _ b (λ g. checked w _ (demanded w a g (rack_key u r) n) b (record { all = b }))
-act_rests w (Avoid a u m on) b = app_runs w a _ b (λ g. checked w _ (demanded w a g (avoid_key u m) (min on 1)) b (record { all = b }))
-act_rests w (GiveBack a u m n) b = app_runs w a _ b (λ g. checked w _ (demanded w a g (back_key u m) (given_back w a g u m + n)) b (record { all = b }))
-act_rests w (TurnMaster e) b = master_runs w e _ b (λ M r. record { all = b })
-act_rests w (TurnAgent m) b = agent_runs w m _ b (λ g. to_master_rests w (party (agent_id m) g.boot) b)
-act_rests w (TurnApp a) b = app_runs w a _ b (λ g. to_master_rests w (party (app_id a) g.boot) b)
-act_rests w (ResyncMaster e) b = master_runs w e _ b (λ M r. record { all = b })
-act_rests w (ResyncAgent m) b = agent_runs w m _ b (λ g. record { all = b })
-act_rests w (ResyncApp a) b = app_runs w a _ b (λ g. record { all = b })
-act_rests w (Deliver k) b = checked w _ _ b (deliver_rests k w b)
-act_rests w (DeliverRange k l) b = checked w _ _ b (deliver_all_rests (l + 1 - k) k w b)
-act_rests w (Dump k) b = checked w _ _ b (found_has StepRests (packet_of w k) _ _ (record { all = b }) (λ x _. record { all = b }))
-act_rests w ShowState b = record { all = b }
+act_rests w e b = record { all = (act_keeps all_rest (λ _. ⊤) masters_rest w e tt b).it }
 
-run_rests : (es : List Event) (w : World) → AllRest w.cluster w.masters → Rests (run_from es w).world
-run_rests [] w b = record { all = b }
-run_rests (e ∷ es) w b = record { all = (run_rests es (world_step w e).world (act_rests (counted_in w) e b).all).all }
+-- nothing more is known of any event
+unasked : (es : List Event) → AllByRecursion (λ (_ : Event). ⊤) es
+unasked [] = tt
+unasked (e ∷ es) = (tt, unasked es)
 
 -- in every state nothing is placeable in any running master
 pub nothing_placeable : (c : ClusterRecord) (es : List Event) (e : ℕ) (M : Master) → find nat_cmp e (run c es).masters ≡ Some M → (a u m : ℕ) → placeable (run c es).cluster M a u m ≡ false
-nothing_placeable c es e M found = (((run_rests es (empty_world c) (record { rests = λ q. record { has = λ x none. cc } })).all.rests e).has M found).settled
+nothing_placeable c es e M found = (((run_keeps all_rest (λ _. ⊤) masters_rest es (empty_world c) (unasked es) (record { rests = λ q. record { has = λ x none. cc } })).it.rests e).has M found).settled
