@@ -1,39 +1,36 @@
 -- What runs has run, and so has all that a party knows or a packet names.
-use Rattle.std.proofs.Common.{◌≡◌, ◌⊎◌, inl, inr, ℕ, zero, suc, ◌+◌, ◌-◌, ◌<◌, ◌≤◌, Bool, true, false, cond, not, nat_eq, nat_lt, List, [], ◌∷◌, ◌++◌, length, map, Option, Some, None, refl, sym, ◌∙◌, ap, subst, arith}
-use Rattle.std.specs.Prelude.{◌||◌, min}
+use Rattle.std.proofs.Common.{◌≡◌, ◌⊎◌, inl, inr, ℕ, ◌+◌, ◌-◌, ◌<◌, ◌≤◌, Bool, true, false, cond, not, nat_eq, nat_lt, List, [], ◌∷◌, ◌++◌, length, map, Option, Some, None, refl, sym, ◌∙◌, ap, subst, arith}
+use Rattle.std.specs.Prelude.{⊤, ◌||◌, min}
 use Rattle.std.specs.List.{AllByRecursion, list_any}
 use Rattle.std.specs.Ordering.{nat_cmp}
 use Rattle.std.specs.FinMap.Entries.{find, put, where_key, find-where_key}
 use Rattle.std.proofs.lemmas.Map.Lookups.{exact_unsigned}
-use Rattle.fuxi_terms.specs.declared.Key.{Key}
 use Rattle.fuxi_terms.specs.Cluster.{ClusterRecord, has_machine}
 use Rattle.fuxi_terms.specs.Limits.{most_masters, kept_changes, turn_deltas}
 use Rattle.fuxi_terms.specs.Lists.{numbers_from}
 use Rattle.fuxi_terms.specs.Jobs.{is_known, has_ended, eight_places, job_numbers, unit_count}
 use Rattle.fuxi_terms.specs.Numbers.{without_number}
-use Rattle.fuxi_terms.specs.TallyKeys.{want_key, near_key, rack_key, avoid_key, back_key}
 use Rattle.written_net.specs.Net.{Net, Party, Id, Link, Packet, Ack, Delta, Full, Starts, Turns, Resyncs, Posts, move, comes, heard_of, last, unknown, same_id, same_party, unacknowledged, turn, notes}
 use Rattle.written_net.specs.Ledgers.{Ledger, same_ledger}
-use Rattle.written_net.specs.Channels.{master_id, agent_id, app_id, party, is_master, is_agent, is_app, present, Offer, publish_one, publish, to_master, send_all, resync_all}
+use Rattle.written_net.specs.Channels.{master_id, agent_id, app_id, party, is_master, present, Offer, publish_one, publish, to_master, send_all, resync_all}
 use Rattle.written_roles.specs.Masters.{Master}
-use Rattle.written_roles.specs.HardState.{HardState, raised, submitted, finished, banned, unbanned, with_job, Raise}
+use Rattle.written_roles.specs.HardState.{HardState, raised, submitted, finished, banned, unbanned, with_job}
 use Rattle.written_roles.specs.MasterSteps.{master_party, talks, peers, ready, ended_in, banned_in, new_master}
 use Rattle.written_roles.specs.Preemption.{preempted}
-use Rattle.written_roles.specs.Refusals.{Refusal, NotRising, TooManyMasters, NoMachine, NoJob, Ended, with_found}
-use Rattle.written_roles.specs.Apps.{changed_demand}
-use Rattle.written_world.specs.World.{World, Agent, App, Step, top, set_boot, empty_world, prints_nothing, refused}
-use Rattle.written_world.specs.Parties.{offers, end_step, told, received, adopted_now, master_hears, joined, agent_hears, app_hears}
-use Rattle.written_world.specs.Events.{Event, StartMaster, StopMaster, StartAgent, StartApp, Submit, Finish, Ban, Unban, Begin, Preempt, Want, Near, Rack, Avoid, GiveBack, TurnMaster, TurnAgent, TurnApp, ResyncMaster, ResyncAgent, ResyncApp, Deliver, DeliverRange, Dump, ShowState, at_master, at_agent, at_app, demanded, turned, turn_to_master, addressed, packet_of, deliver_one, deliver_all, given_back, agent_started, app_started, act}
+use Rattle.written_roles.specs.Refusals.{Refusal, NotRising, TooManyMasters, NoMachine, NoJob, Ended}
+use Rattle.written_roles.specs.Apps.{changed_demand, command_key, command_number}
+use Rattle.written_world.specs.World.{World, Agent, App, Step, top, set_boot, empty_world}
+use Rattle.written_world.specs.Parties.{offers, end_step, told, received, adopted_now, joined, app_hears}
+use Rattle.written_world.specs.Events.{Event, packet_of, given_back, agent_started, app_started, act}
 use Rattle.written_world.specs.Good.{has_run, placed, HasRunPacket, AllRan, IsBooted, IsRecorded}
 use Rattle.fuxi_terms.proofs.Booleans.{either, either_case}
 use Rattle.fuxi_terms.proofs.Alls.{all_append, all_more}
 use Rattle.written_net.proofs.BoundedLemmas.{found_within, in_numbers}
 use Rattle.written_net.proofs.NetLemmas.{set_at_all}
 use Rattle.written_net.proofs.PublishLemmas.{same_party_itself, same_id_itself}
-use Rattle.written_world.proofs.CommandLemmas.{hard_has, submits_has, finishes_has, bans_has, unbans_has, begins_has, makes_room_has}
 use Rattle.written_world.proofs.Invariant.{put_found, ready_epoch}
 use Rattle.written_world.proofs.InvariantKept.{told_same, not_refused, rising}
-use Rattle.written_world.proofs.MovesWalk.{found_has}
+use Rattle.written_world.proofs.EventsWalk.{WorldKept, act_keeps_world}
 use Rattle.written_world.proofs.PartiesKept.{knows_sender, boots_rise}
 
 -- What ran at some time
@@ -130,11 +127,7 @@ module _ (ran : List Party) where
       let k = comes_ran net p is_master x r h in
       either (AllRan ran) (heard_of net p is_master x).fresh (publish n p (to_master ledger)) n (λ _. publish_ran n p (to_master ledger) k) (λ _. k)
 
--- The walk
-record Records (w : World) : Type 0 where
-  it : IsRecorded w
-
--- a step that is recorded
+-- The walk: a step that is recorded
 pub record StepRecords (s : Step) : Type 0 where
   pub it : IsRecorded s.world
 
@@ -163,27 +156,8 @@ ends w hard ran net N forced h more own below n =
 own_ran : (w : World) (e : ℕ) (M N : Master) → IsRecorded w → find nat_cmp e w.masters ≡ Some M → N.epoch ≡ M.epoch → has_run w.ran (party master_id N.epoch) ≡ true
 own_ran w e M N h found same = let k = h.masters e M found in subst (λ n. has_run w.ran (party master_id n) ≡ true) (sym (same ∙ k.0)) k.1
 
-acts : (w : World) (hard : HardState) (e : ℕ) (M N : Master) (forced : List Id) → IsRecorded w → find nat_cmp e w.masters ≡ Some M → N.epoch ≡ M.epoch → hard.fence ≡ w.hard.fence → StepRecords (prints_nothing (end_step (record w { hard = hard }) w.net N forced))
-acts w hard e M N forced h found same fence = record { it = ends w hard w.ran w.net N forced h (runs_itself w.ran) (own_ran w e M N h found same) (subst (λ f. AllByRecursion (λ (p : Party). p.inc ≤ top (record w { hard = record hard { fence = f } }) p.id) w.ran) (sym fence) h.below) h.net }
-
-checked : (w : World) (o : Option Refusal) (s : Step) → IsRecorded w → (o ≡ None → StepRecords s) → StepRecords (elim o as (λ _. Step) [ None ↦ s | Some r ↦ refused w r ])
-checked w None s b k = k refl
-checked w (Some r) s b k = record { it = b }
-
-master_runs : (w : World) (e : ℕ) (f : Master → Step) → IsRecorded w → ((M : Master) → find nat_cmp e w.masters ≡ Some M → StepRecords (f M)) → StepRecords (at_master w e f)
-master_runs w e f b k = found_has StepRecords (find nat_cmp e w.masters) _ f (record { it = b }) k
-
-agent_runs : (w : World) (m : ℕ) (f : Agent → Step) → IsRecorded w → ((g : Agent) → find nat_cmp m w.agents ≡ Some g → StepRecords (f g)) → StepRecords (at_agent w m f)
-agent_runs w m f b k = found_has StepRecords (find nat_cmp m w.agents) _ f (record { it = b }) k
-
-app_runs : (w : World) (a : ℕ) (f : App → Step) → IsRecorded w → ((g : App) → find nat_cmp a w.apps ≡ Some g → StepRecords (f g)) → StepRecords (at_app w a f)
-app_runs w a f b k = found_has StepRecords (find nat_cmp a w.apps) _ f (record { it = b }) k
-
-demands_recorded : (w : World) (a : ℕ) (g : App) (k : Key) (n : ℕ) → IsRecorded w → StepRecords (demanded w a g k n)
-demands_recorded w a g k n h = record { it = netted w _ h (publish_ran w.ran w.net (party (app_id a) g.boot) (to_master (changed_demand (present w.net (party (app_id a) g.boot) master_id) k n)) h.net) }
-
-to_master_recorded : (w : World) (p : Party) → has_run w.ran p ≡ true → IsRecorded w → StepRecords (turn_to_master w p)
-to_master_recorded w p r h = either StepRecords (nat_eq (w.net.links p master_id).known 0) (prints_nothing w) (turned w p (master_id ∷ [])) (λ _. record { it = h }) (λ _. record { it = netted w _ h (send_all_ran w.ran w.net p (master_id ∷ []) r h.net) })
+acts : (w : World) (hard : HardState) (e : ℕ) (M N : Master) (forced : List Id) → IsRecorded w → find nat_cmp e w.masters ≡ Some M → N.epoch ≡ M.epoch → hard.fence ≡ w.hard.fence → IsRecorded (end_step (record w { hard = hard }) w.net N forced)
+acts w hard e M N forced h found same fence = ends w hard w.ran w.net N forced h (runs_itself w.ran) (own_ran w e M N h found same) (subst (λ f. AllByRecursion (λ (p : Party). p.inc ≤ top (record w { hard = record hard { fence = f } }) p.id) w.ran) (sym fence) h.below) h.net
 
 -- an entry of a table after one was put
 put_each : {A : Type 0} (P : ℕ → A → Type 0) (a : ℕ) (x : A) (es : List (ℕ × A)) → P a x → ((b : ℕ) (y : A) → nat_eq a b ≡ false → find nat_cmp b es ≡ Some y → P b y) → (b : ℕ) (y : A) → find nat_cmp b (put nat_cmp a x es) ≡ Some y → P b y
@@ -193,46 +167,26 @@ put_each {A} P a x es new old b y f = by (put_found b a x y es f)
     by (inl o) = old b y o.0 o.1
     by (inr n) = subst (λ k. P k y) (sym n.0) (subst (P a) n.1 new)
 
--- Deliveries
-hears_recorded : (w : World) (e : ℕ) (M : Master) (x : Packet) → IsRecorded w → find nat_cmp e w.masters ≡ Some M → HasRunPacket w.ran x → Records (master_hears w M x)
+-- a packet that was sent
+packet_ran : (w : World) (k : ℕ) (x : Packet) → IsRecorded w → packet_of w k ≡ Some x → HasRunPacket w.ran x
+packet_ran w k x h e = found_within (HasRunPacket w.ran) w.net.packets (k - 1) x h.net.packets e
+
+hears_recorded : (w : World) (e : ℕ) (M : Master) (x : Packet) → IsRecorded w → find nat_cmp e w.masters ≡ Some M → HasRunPacket w.ran x
+    → IsRecorded (let hd = heard_of w.net (master_party M) (talks w.cluster M) x in let l = received w.cluster M w.net x in end_step w (comes w.net (master_party M) (talks w.cluster M) (Some x)) (told M hd x.from.id l) (adopted_now M hd x.from.id l))
 hears_recorded w e M x h found r =
     let hd = heard_of w.net (master_party M) (talks w.cluster M) x in
     let l = received w.cluster M w.net x in
     let n = comes w.net (master_party M) (talks w.cluster M) (Some x) in
-    either Records (talks w.cluster M x.from.id) (end_step w n (told M hd x.from.id l) (adopted_now M hd x.from.id l)) w
-    (λ _. record { it = ends w w.hard w.ran n (told M hd x.from.id l) (adopted_now M hd x.from.id l) h (runs_itself w.ran) (own_ran w e M (told M hd x.from.id l) h found (told_same M hd x.from.id l).epoch) h.below (comes_ran w.ran w.net (master_party M) (talks w.cluster M) x r h.net) })
-    (λ _. record { it = h })
+    ends w w.hard w.ran n (told M hd x.from.id l) (adopted_now M hd x.from.id l) h (runs_itself w.ran) (own_ran w e M (told M hd x.from.id l) h found (told_same M hd x.from.id l).epoch) h.below (comes_ran w.ran w.net (master_party M) (talks w.cluster M) x r h.net)
 
-app_hears_recorded : (w : World) (a : ℕ) (g : App) (x : Packet) → IsRecorded w → find nat_cmp a w.apps ≡ Some g → HasRunPacket w.ran x → Records (app_hears w a g x)
+app_hears_recorded : (w : World) (a : ℕ) (g : App) (x : Packet) → IsRecorded w → find nat_cmp a w.apps ≡ Some g → HasRunPacket w.ran x → IsRecorded (app_hears w a g x)
 app_hears_recorded w a g x h found r = record {
-  it = record {
-    masters = h.masters;
-    agents = h.agents;
-    apps = put_each (λ k (y : App). IsBooted (w.boots (app_id k)) w.ran (party (app_id k) y.boot)) a _ w.apps (h.apps a g found) (λ k y _ f. h.apps k y f);
-    below = h.below;
-    net = joined_ran w.ran w.net (party (app_id a) g.boot) x _ r h.net;
-  };
+  masters = h.masters;
+  agents = h.agents;
+  apps = put_each (λ k (y : App). IsBooted (w.boots (app_id k)) w.ran (party (app_id k) y.boot)) a _ w.apps (h.apps a g found) (λ k y _ f. h.apps k y f);
+  below = h.below;
+  net = joined_ran w.ran w.net (party (app_id a) g.boot) x _ r h.net;
 }
-
-addressed_recorded : (w : World) (x : Packet) → IsRecorded w → HasRunPacket w.ran x → Records (addressed w x)
-addressed_recorded w x h r =
-    let same : Records w = record { it = h } in
-    let to_master = with_found (find nat_cmp x.to.inc w.masters) w (λ M. master_hears w M x) in
-    let to_agent = with_found (find nat_cmp x.to.id.number w.agents) w (λ g. agent_hears w x.to.id.number g x) in
-    let to_app = with_found (find nat_cmp x.to.id.number w.apps) w (λ g. app_hears w x.to.id.number g x) in
-    let master : Records to_master = found_has Records (find nat_cmp x.to.inc w.masters) w (λ M. master_hears w M x) same (λ M e. hears_recorded w x.to.inc M x h e r) in
-    let agent : Records to_agent = found_has Records (find nat_cmp x.to.id.number w.agents) w (λ g. agent_hears w x.to.id.number g x) same (λ g e. record { it = netted w _ h (joined_ran w.ran w.net (party (agent_id x.to.id.number) g.boot) x _ r h.net) }) in
-    let app : Records to_app = found_has Records (find nat_cmp x.to.id.number w.apps) w (λ g. app_hears w x.to.id.number g x) same (λ g e. app_hears_recorded w x.to.id.number g x h e r) in
-    either Records (is_master x.to.id) to_master (cond (is_agent x.to.id) to_agent (cond (is_app x.to.id) to_app w)) (λ _. master)
-    (λ _. either Records (is_agent x.to.id) to_agent (cond (is_app x.to.id) to_app w) (λ _. agent)
-    (λ _. either Records (is_app x.to.id) to_app w (λ _. app) (λ _. same)))
-
-deliver_recorded : (k : ℕ) (w : World) → IsRecorded w → StepRecords (deliver_one k w)
-deliver_recorded k w h = found_has StepRecords (packet_of w k) _ _ (record { it = h }) (λ x e. record { it = (addressed_recorded w x h (found_within (HasRunPacket w.ran) w.net.packets (k - 1) x h.net.packets e)).it })
-
-deliver_all_recorded : (n k : ℕ) (w : World) → IsRecorded w → StepRecords (deliver_all n k w)
-deliver_all_recorded zero k w h = record { it = h }
-deliver_all_recorded (suc n) k w h = record { it = (deliver_all_recorded n (k + 1) (deliver_one k w).world (deliver_recorded k w h).it).it }
 
 -- Starts
 below_more : (w w' : World) (ps : List Party) → ((d : Id) → top w d ≤ top w' d) → AllByRecursion (λ p. p.inc ≤ top w p.id) ps → AllByRecursion (λ p. p.inc ≤ top w' p.id) ps
@@ -280,18 +234,16 @@ app_starts_recorded w a b h lt =
     }
 
 master_starts_recorded : (w : World) (e : ℕ) → IsRecorded w → w.hard.fence < e
-    → StepRecords (prints_nothing (end_step (record w { hard = raised w.hard e; ran = w.ran ++ party master_id e ∷ [] }) (move w.net (Starts (party master_id e))) (new_master (raised w.hard e) e) (map app_id (job_numbers w.hard.jobs))))
+    → IsRecorded (end_step (record w { hard = raised w.hard e; ran = w.ran ++ party master_id e ∷ [] }) (move w.net (Starts (party master_id e))) (new_master (raised w.hard e) e) (map app_id (job_numbers w.hard.jobs)))
 master_starts_recorded w e h lt =
     let p = party master_id e in
     let ran = w.ran ++ p ∷ [] in
     let more = runs_one w.ran p in
     let w' = record w { hard = raised w.hard e } in
     let up : (d : Id) → top w d ≤ top w' d = λ d. elim (same_id master_id d) as (λ t. cond t w.hard.fence (w.boots d) ≤ cond t e (w.boots d)) [ true ↦ omega (arith, lt) | false ↦ omega arith ] in
-    record {
-      it = ends w (raised w.hard e) ran (move w.net (Starts p)) (new_master (raised w.hard e) e) (map app_id (job_numbers w.hard.jobs)) h more (runs_here w.ran p)
-          (all_append (λ (p : Party). p.inc ≤ top (record w { hard = raised w.hard e }) p.id) w.ran (p ∷ []) (below_more w (record w { hard = raised w.hard e }) w.ran up h.below) (omega arith, tt))
-          (start_ran ran w.net p (all_more_ran w.ran ran w.net more h.net));
-    }
+    ends w (raised w.hard e) ran (move w.net (Starts p)) (new_master (raised w.hard e) e) (map app_id (job_numbers w.hard.jobs)) h more (runs_here w.ran p)
+    (all_append (λ (p : Party). p.inc ≤ top (record w { hard = raised w.hard e }) p.id) w.ran (p ∷ []) (below_more w (record w { hard = raised w.hard e }) w.ran up h.below) (omega arith, tt))
+    (start_ran ran w.net p (all_more_ran w.ran ran w.net more h.net))
 
 stopped_recorded : (w : World) (e : ℕ) → IsRecorded w → IsRecorded (record w { masters = where_key nat_cmp (λ k. not (nat_eq k e)) w.masters })
 stopped_recorded w e h = record {
@@ -306,42 +258,42 @@ stopped_recorded w e h = record {
     kept true o M f = f
     kept false o M f = cc
 
+recorded_kept : (w : World) → IsRecorded w → WorldKept IsRecorded (λ _. ⊤) w
+recorded_kept w h = record {
+  counted = record { masters = h.masters; agents = h.agents; apps = h.apps; below = h.below; net = h.net };
+  starts = λ e n _. master_starts_recorded w e h (rising (not_refused (not (nat_lt w.hard.fence e)) (NotRising w.hard.fence) ((not (nat_lt (length w.masters) most_masters), TooManyMasters most_masters) ∷ []) n).0);
+  stops = λ e. stopped_recorded w e h;
+  starts_agent = λ m b n.
+      let rest = not (nat_lt (w.boots (agent_id m)) b) in
+      let first = not_refused (not (has_machine w.cluster m)) NoMachine ((rest, NotRising (w.boots (agent_id m))) ∷ []) n in
+      agent_starts_recorded w m b h (rising (not_refused rest (NotRising (w.boots (agent_id m))) [] first.1).0);
+  starts_app = λ a b n.
+      let last : Bool × Refusal = (not (nat_lt (w.boots (app_id a)) b), NotRising (w.boots (app_id a))) in
+      let x = not_refused (not (is_known w.hard.jobs a)) NoJob ((has_ended w.hard.jobs a, Ended) ∷ last ∷ []) n in
+      let y = not_refused (has_ended w.hard.jobs a) Ended (last ∷ []) x.1 in
+      let z = not_refused last.0 last.1 [] y.1 in
+      app_starts_recorded w a b h (rising z.0);
+  submits = λ e M j f _ _ _. acts w (submitted w.hard (eight_places j)) e M (record M { jobs = with_job (eight_places j) M.jobs }) (app_id j.number ∷ []) h f refl refl;
+  finishes = λ e M a f _. acts w (finished w.hard a) e M (ended_in M a) [] h f refl refl;
+  bans = λ e M m f _. acts w (banned w.hard m) e M (banned_in M m) [] h f refl refl;
+  unbans = λ e M m f _. acts w (unbanned w.hard m) e M (record M { bans = without_number m M.bans }) [] h f refl refl;
+  begins = λ e M f. acts w w.hard e M (record M { serving = true }) [] h f refl refl;
+  preempts = λ e M p f _. acts w w.hard e M (preempted M p) [] h f refl refl;
+  asks = λ a g x _ _. netted w _ h (publish_ran w.ran w.net (party (app_id a) g.boot) (to_master (changed_demand (present w.net (party (app_id a) g.boot) master_id) (command_key x) (command_number (given_back w a g) x))) h.net);
+  master_turns = λ e M f. netted w _ h (send_all_ran w.ran w.net (master_party M) (peers w.cluster M) (own_ran w e M M h f refl) h.net);
+  agent_turns = λ m g f. netted w _ h (send_all_ran w.ran w.net (party (agent_id m) g.boot) (master_id ∷ []) (h.agents m g f).recorded h.net);
+  app_turns = λ a g f. netted w _ h (send_all_ran w.ran w.net (party (app_id a) g.boot) (master_id ∷ []) (h.apps a g f).recorded h.net);
+  master_resyncs = λ e M f. netted w _ h (resync_all_ran w.ran w.net (master_party M) (peers w.cluster M) h.net);
+  agent_resyncs = λ m g f. netted w _ h (resync_all_ran w.ran w.net (party (agent_id m) g.boot) (master_id ∷ []) h.net);
+  app_resyncs = λ a g f. netted w _ h (resync_all_ran w.ran w.net (party (app_id a) g.boot) (master_id ∷ []) h.net);
+  hears = λ e M k x f sent _. hears_recorded w e M x h f (packet_ran w k x h sent);
+  agent_hears = λ m g k x f sent. netted w _ h (joined_ran w.ran w.net (party (agent_id m) g.boot) x _ (packet_ran w k x h sent) h.net);
+  app_hears = λ a g k x f sent. app_hears_recorded w a g x h f (packet_ran w k x h sent);
+}
+
 -- each event
 pub act_recorded : (w : World) (e : Event) → IsRecorded w → StepRecords (act w e)
-act_recorded w (StartMaster e) h = checked w _ _ h (λ n. hard_has StepRecords w (λ r. record { it = h }) w.hard e Raise _ (λ _.
-    master_starts_recorded w e h (rising (not_refused (not (nat_lt w.hard.fence e)) (NotRising w.hard.fence) ((not (nat_lt (length w.masters) most_masters), TooManyMasters most_masters) ∷ []) n).0)))
-act_recorded w (StopMaster e) h = master_runs w e _ h (λ M f. record { it = stopped_recorded w e h })
-act_recorded w (StartAgent m b) h = checked w _ _ h (λ n.
-    let rest = not (nat_lt (w.boots (agent_id m)) b) in
-    let first = not_refused (not (has_machine w.cluster m)) NoMachine ((rest, NotRising (w.boots (agent_id m))) ∷ []) n in
-    record { it = agent_starts_recorded w m b h (rising (not_refused rest (NotRising (w.boots (agent_id m))) [] first.1).0) })
-act_recorded w (StartApp a b) h = checked w _ _ h (λ n.
-    let last : Bool × Refusal = (not (nat_lt (w.boots (app_id a)) b), NotRising (w.boots (app_id a))) in
-    let x = not_refused (not (is_known w.hard.jobs a)) NoJob ((has_ended w.hard.jobs a, Ended) ∷ last ∷ []) n in
-    let y = not_refused (has_ended w.hard.jobs a) Ended (last ∷ []) x.1 in
-    let z = not_refused last.0 last.1 [] y.1 in
-    record { it = app_starts_recorded w a b h (rising z.0) })
-act_recorded w (Submit e j) h = master_runs w e _ h (λ M f. submits_has StepRecords w (λ r. record { it = h }) M _ j (λ _ _. acts w (submitted w.hard (eight_places j)) e M (record M { jobs = with_job (eight_places j) M.jobs }) (app_id j.number ∷ []) h f refl refl))
-act_recorded w (Finish e a) h = master_runs w e _ h (λ M f. finishes_has StepRecords w (λ r. record { it = h }) M _ a (λ _. acts w (finished w.hard a) e M (ended_in M a) [] h f refl refl))
-act_recorded w (Ban e m) h = master_runs w e _ h (λ M f. bans_has StepRecords w (λ r. record { it = h }) M _ m (λ _. acts w (banned w.hard m) e M (banned_in M m) [] h f refl refl))
-act_recorded w (Unban e m) h = master_runs w e _ h (λ M f. unbans_has StepRecords w (λ r. record { it = h }) M _ m (λ _. acts w (unbanned w.hard m) e M (record M { bans = without_number m M.bans }) [] h f refl refl))
-act_recorded w (Begin e) h = master_runs w e _ h (λ M f. begins_has StepRecords w (λ r. record { it = h }) M _ (acts w w.hard e M (record M { serving = true }) [] h f refl refl))
-act_recorded w (Preempt e) h = master_runs w e _ h (λ M f. makes_room_has StepRecords w (λ r. record { it = h }) M _ (λ p _. acts w w.hard e M (preempted M p) [] h f refl refl))
-act_recorded w (Want a u n) h = app_runs w a _ h (λ g f. checked w _ _ h (λ _. demands_recorded w a g (want_key u) n h))
-act_recorded w (Near a u m n) h = app_runs w a _ h (λ g f. checked w _ _ h (λ _. demands_recorded w a g (near_key u m) n h))
-act_recorded w (Rack a u r n) h = app_runs w a _ h (λ g f. checked w _ _ h (λ _. demands_recorded w a g (rack_key u r) n h))
-act_recorded w (Avoid a u m on) h = app_runs w a _ h (λ g f. checked w _ _ h (λ _. demands_recorded w a g (avoid_key u m) (min on 1) h))
-act_recorded w (GiveBack a u m n) h = app_runs w a _ h (λ g f. checked w _ _ h (λ _. demands_recorded w a g (back_key u m) (given_back w a g u m + n) h))
-act_recorded w (TurnMaster e) h = master_runs w e _ h (λ M f. record { it = netted w _ h (send_all_ran w.ran w.net (master_party M) (peers w.cluster M) (own_ran w e M M h f refl) h.net) })
-act_recorded w (TurnAgent m) h = agent_runs w m _ h (λ g f. to_master_recorded w (party (agent_id m) g.boot) (h.agents m g f).recorded h)
-act_recorded w (TurnApp a) h = app_runs w a _ h (λ g f. to_master_recorded w (party (app_id a) g.boot) (h.apps a g f).recorded h)
-act_recorded w (ResyncMaster e) h = master_runs w e _ h (λ M f. record { it = netted w _ h (resync_all_ran w.ran w.net (master_party M) (peers w.cluster M) h.net) })
-act_recorded w (ResyncAgent m) h = agent_runs w m _ h (λ g f. record { it = netted w _ h (resync_all_ran w.ran w.net (party (agent_id m) g.boot) (master_id ∷ []) h.net) })
-act_recorded w (ResyncApp a) h = app_runs w a _ h (λ g f. record { it = netted w _ h (resync_all_ran w.ran w.net (party (app_id a) g.boot) (master_id ∷ []) h.net) })
-act_recorded w (Deliver k) h = checked w _ _ h (λ _. deliver_recorded k w h)
-act_recorded w (DeliverRange k l) h = checked w _ _ h (λ _. deliver_all_recorded (l + 1 - k) k w h)
-act_recorded w (Dump k) h = checked w _ _ h (λ _. found_has StepRecords (packet_of w k) _ _ (record { it = h }) (λ x _. record { it = h }))
-act_recorded w ShowState h = record { it = h }
+act_recorded w e h = record { it = (act_keeps_world IsRecorded (λ _. ⊤) recorded_kept w e tt h).it }
 
 -- the empty world
 pub empty_recorded : (c : ClusterRecord) → IsRecorded (empty_world c)
