@@ -1,6 +1,7 @@
 -- What each thing that changes a world keeps, every event keeps. Of the cluster, the hard state and the running masters, which few things change,
 -- only these few are to be shown.
 use Rattle.std.proofs.Common.{◌≡◌, ℕ, zero, suc, ◌+◌, ◌-◌, true, cond, not, nat_eq, nat_lt, List, [], ◌∷◌, length, Option, Some, None, refl, ◌++◌, map}
+use Rattle.std.specs.Prelude.{⊤}
 use Rattle.std.specs.List.{AllByRecursion}
 use Rattle.std.specs.Ordering.{nat_cmp}
 use Rattle.std.specs.FinMap.Entries.{find, put, where_key}
@@ -24,6 +25,11 @@ use Rattle.fuxi_terms.proofs.Booleans.{either}
 use Rattle.written_world.proofs.MovesWalk.{found_has}
 use Rattle.written_world.proofs.CommandLemmas.{hard_has, submits_has, finishes_has, bans_has, unbans_has, begins_has, makes_room_has}
 use Rattle.written_roles.specs.Apps.{AppCommand, command_tests, command_key, command_number, Wants, WantsNear, WantsInRack, Avoids, GivesBack}
+
+-- events of which no more need be known
+pub unasked : (es : List Event) → AllByRecursion (λ (_ : Event). ⊤) es
+unasked [] = tt
+unasked (e ∷ es) = (tt, unasked es)
 
 -- P of a world
 pub record Holds (P : World → Type 0) (w : World) : Type 0 where
@@ -55,7 +61,7 @@ pub record WorldKept (P : World → Type 0) (Allowed : Event → Type 0) (w : Wo
   pub master_resyncs : (e : ℕ) (M : Master) → find nat_cmp e w.masters ≡ Some M → P (resynced w (master_party M) (peers w.cluster M)).world
   pub agent_resyncs : (m : ℕ) (g : Agent) → find nat_cmp m w.agents ≡ Some g → P (resynced w (party (agent_id m) g.boot) (master_id ∷ [])).world
   pub app_resyncs : (a : ℕ) (g : App) → find nat_cmp a w.apps ≡ Some g → P (resynced w (party (app_id a) g.boot) (master_id ∷ [])).world
-  pub hears : (e : ℕ) (M : Master) (k : ℕ) (x : Packet) → find nat_cmp e w.masters ≡ Some M → packet_of w k ≡ Some x → talks w.cluster M x.from.id ≡ true
+  pub hears : (e : ℕ) (M : Master) (k : ℕ) (x : Packet) → find nat_cmp e w.masters ≡ Some M → packet_of w k ≡ Some x → is_master x.to.id ≡ true → talks w.cluster M x.from.id ≡ true
       → P (let h = heard_of w.net (master_party M) (talks w.cluster M) x in let l = received w.cluster M w.net x in end_step w (comes w.net (master_party M) (talks w.cluster M) (Some x)) (told M h x.from.id l) (adopted_now M h x.from.id l))
   pub agent_hears : (m : ℕ) (g : Agent) (k : ℕ) (x : Packet) → find nat_cmp m w.agents ≡ Some g → packet_of w k ≡ Some x → P (agent_hears w m g x)
   pub app_hears : (a : ℕ) (g : App) (k : ℕ) (x : Packet) → find nat_cmp a w.apps ≡ Some g → packet_of w k ≡ Some x → P (app_hears w a g x)
@@ -75,13 +81,13 @@ module _ (P : World → Type 0) (Allowed : Event → Type 0) (kept : (w : World)
   app_runs w a f b k = found_has (StepHolds P) (find nat_cmp a w.apps) _ f (record { it = b }) k
 
   -- a packet
-  hears_kept : (w : World) (e : ℕ) (M : Master) (k : ℕ) (x : Packet) → P w → find nat_cmp e w.masters ≡ Some M → packet_of w k ≡ Some x → Holds P (master_hears w M x)
-  hears_kept w e M k x b found sent =
+  hears_kept : (w : World) (e : ℕ) (M : Master) (k : ℕ) (x : Packet) → P w → find nat_cmp e w.masters ≡ Some M → packet_of w k ≡ Some x → is_master x.to.id ≡ true → Holds P (master_hears w M x)
+  hears_kept w e M k x b found sent to =
       let h = heard_of w.net (master_party M) (talks w.cluster M) x in
       let l = received w.cluster M w.net x in
       let n = comes w.net (master_party M) (talks w.cluster M) (Some x) in
       either (Holds P) (talks w.cluster M x.from.id) (end_step w n (told M h x.from.id l) (adopted_now M h x.from.id l)) w
-      (λ t. record { it = (kept w b).hears e M k x found sent t }) (λ _. record { it = b })
+      (λ t. record { it = (kept w b).hears e M k x found sent to t }) (λ _. record { it = b })
 
   addressed_kept : (w : World) (k : ℕ) (x : Packet) → P w → packet_of w k ≡ Some x → Holds P (addressed w x)
   addressed_kept w k x b sent =
@@ -89,10 +95,10 @@ module _ (P : World → Type 0) (Allowed : Event → Type 0) (kept : (w : World)
       let to_master = with_found (find nat_cmp x.to.inc w.masters) w (λ M. master_hears w M x) in
       let to_agent = with_found (find nat_cmp x.to.id.number w.agents) w (λ g. agent_hears w x.to.id.number g x) in
       let to_app = with_found (find nat_cmp x.to.id.number w.apps) w (λ g. app_hears w x.to.id.number g x) in
-      let master : Holds P to_master = found_has (Holds P) (find nat_cmp x.to.inc w.masters) w (λ M. master_hears w M x) same (λ M e. hears_kept w x.to.inc M k x b e sent) in
+      let master : is_master x.to.id ≡ true → Holds P to_master = λ to. found_has (Holds P) (find nat_cmp x.to.inc w.masters) w (λ M. master_hears w M x) same (λ M e. hears_kept w x.to.inc M k x b e sent to) in
       let agent : Holds P to_agent = found_has (Holds P) (find nat_cmp x.to.id.number w.agents) w (λ g. agent_hears w x.to.id.number g x) same (λ g e. record { it = (kept w b).agent_hears x.to.id.number g k x e sent }) in
       let app : Holds P to_app = found_has (Holds P) (find nat_cmp x.to.id.number w.apps) w (λ g. app_hears w x.to.id.number g x) same (λ g e. record { it = (kept w b).app_hears x.to.id.number g k x e sent }) in
-      either (Holds P) (is_master x.to.id) to_master (cond (is_agent x.to.id) to_agent (cond (is_app x.to.id) to_app w)) (λ _. master)
+      either (Holds P) (is_master x.to.id) to_master (cond (is_agent x.to.id) to_agent (cond (is_app x.to.id) to_app w)) master
       (λ _. either (Holds P) (is_agent x.to.id) to_agent (cond (is_app x.to.id) to_app w) (λ _. agent)
       (λ _. either (Holds P) (is_app x.to.id) to_app w (λ _. app) (λ _. same)))
 
@@ -186,7 +192,7 @@ module _ (P : ClusterRecord → HardState → List (ℕ × Master) → Type 0) (
     master_resyncs = λ _ _ _. b;
     agent_resyncs = λ _ _ _. b;
     app_resyncs = λ _ _ _. b;
-    hears = λ e M _ x f _ t. k.hears e M w.net x f t;
+    hears = λ e M _ x f _ _ t. k.hears e M w.net x f t;
     agent_hears = λ _ _ _ _ _ _. b;
     app_hears = λ _ _ _ _ _ _. b;
   }

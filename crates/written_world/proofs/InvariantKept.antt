@@ -1,6 +1,6 @@
 -- Each event keeps the invariant.
-use Rattle.std.proofs.Common.{◌≡◌, ◌⊎◌, inl, inr, ℕ, zero, suc, ◌+◌, ◌-◌, ◌<◌, ◌≤◌, Bool, true, false, cond, not, nat_eq, nat_lt, List, [], ◌∷◌, ◌++◌, length, map, Option, Some, None, slice_get, refl, sym, ◌∙◌, ap, subst, arith}
-use Rattle.std.specs.Prelude.{◌&&◌, min}
+use Rattle.std.proofs.Common.{◌≡◌, ◌⊎◌, inl, inr, ℕ, ◌+◌, ◌-◌, ◌<◌, ◌≤◌, Bool, true, false, cond, not, nat_eq, nat_lt, List, [], ◌∷◌, ◌++◌, length, map, Option, Some, None, slice_get, refl, sym, ◌∙◌, ap, subst, arith}
+use Rattle.std.specs.Prelude.{⊤, ◌&&◌, min}
 use Rattle.std.specs.List.{AllByRecursion}
 use Rattle.std.specs.Ordering.{nat_cmp}
 use Rattle.std.specs.FinMap.Entries.{find, where_key, find-where_key}
@@ -18,15 +18,15 @@ use Rattle.fuxi_terms.specs.Jobs.{job_numbers, unit_count, is_known, is_live, ha
 use Rattle.fuxi_terms.specs.Numbers.{without_number}
 use Rattle.fuxi_terms.specs.Lists.{below}
 use Rattle.written_roles.specs.Masters.{Master}
-use Rattle.written_roles.specs.HardState.{HardState, is_full, raised, submitted, finished, banned, unbanned, with_job, Raise}
+use Rattle.written_roles.specs.HardState.{HardState, is_full, raised, submitted, finished, banned, unbanned, with_job}
 use Rattle.written_roles.specs.Preemption.{preempted}
-use Rattle.written_roles.specs.Refusals.{Refusal, NotRising, TooManyMasters, Fenced, Known, NoMachine, NoRack, NoUnit, NoJob, Ended, WantRange, NotUsable, BackRange, first_refusal, with_found}
-use Rattle.written_world.specs.World.{World, Agent, App, Step, empty_world, prints_nothing, refused}
+use Rattle.written_roles.specs.Refusals.{Refusal, NotRising, TooManyMasters, Fenced, Known, NoMachine, NoRack, NoUnit, NoJob, Ended, WantRange, NotUsable, BackRange, first_refusal}
+use Rattle.written_world.specs.World.{World, Agent, App, Step, empty_world}
 use Rattle.written_roles.specs.MasterSteps.{master_party, is_there, talks, peers, adopts, take_report, take_demand, meet_app, row, grants, counted, ended_in, banned_in, new_master, is_one_of}
-use Rattle.written_world.specs.Parties.{projection, end_step, master_hears, told, received, adopted_now, joined, agent_table, agent_hears, app_hears, carry}
-use Rattle.written_roles.specs.Apps.{joined_demand, changed_demand}
-use Rattle.written_world.specs.Events.{Event, StartMaster, StopMaster, StartAgent, StartApp, Submit, Finish, Ban, Unban, Begin, Preempt, Want, Near, Rack, Avoid, GiveBack, TurnMaster, TurnAgent, TurnApp, ResyncMaster, ResyncAgent, ResyncApp, Deliver, DeliverRange, Dump, ShowState, at_master, at_agent, at_app, demanded, turned, turn_to_master, addressed, packet_of, deliver_one, deliver_all, given_back, usable_now, act, counted_in, world_step}
-use Rattle.written_world.specs.Runs.{run_from, run}
+use Rattle.written_world.specs.Parties.{projection, end_step, told, received, adopted_now, joined, agent_table, agent_hears, app_hears, carry}
+use Rattle.written_roles.specs.Apps.{joined_demand, changed_demand, AppCommand, command_tests, command_key, command_number, Wants, WantsNear, WantsInRack, Avoids, GivesBack}
+use Rattle.written_world.specs.Events.{Event, demanded, turned, given_back, usable_now, act, counted_in}
+use Rattle.written_world.specs.Runs.{run}
 use Rattle.written_net.specs.Sound.{Sound, Current, PacketNames}
 use Rattle.written_world.specs.Shown.{AllShown, AllCredited, AllGiveBacks}
 use Rattle.written_world.specs.Credits.{AllCreditedOnce}
@@ -35,7 +35,6 @@ use Rattle.written_net.proofs.BoundedLemmas.{found_within}
 use Rattle.fuxi_terms.proofs.Booleans.{either, and_true, number_is, not_false}
 use Rattle.written_net.proofs.SoundLemmas.{Grows, comes_sound, move_sound}
 use Rattle.written_world.proofs.GoodAtStart.{empty_at, no_rows, sound_at_start}
-use Rattle.written_world.proofs.MovesWalk.{found_has}
 use Rattle.written_net.proofs.PublishLemmas.{Acted, same_party_itself, grows_itself, Leaves, leaves_nothing, start_leaves, comes_leaves, send_all_acted, resync_all_acted}
 use Rattle.written_net.proofs.NetLemmas.{id_is}
 use Rattle.written_world.proofs.GrantsFit.{nothing_granted}
@@ -56,10 +55,7 @@ use Rattle.written_world.proofs.CreditedOnce.{credited_once}
 use Rattle.written_world.proofs.AgreementLemmas.{agent_agrees, app_agrees}
 use Rattle.written_world.proofs.CarriedLemmas.{carry_origins, counts_once}
 use Rattle.written_world.proofs.PartiesKept.{joined_reports, joins, joined_written, demands, acted, agent_invariant, app_invariant, app_put_invariant, agent_starts, app_starts}
-use Rattle.written_world.proofs.CommandLemmas.{hard_has, submits_has, finishes_has, bans_has, unbans_has, begins_has, makes_room_has}
-
-record Holds (w : World) : Type 0 where
-  it : Invariant w
+use Rattle.written_world.proofs.EventsWalk.{WorldKept, act_keeps_world, run_keeps_world, unasked}
 
 pub record StepHolds (s : Step) : Type 0 where
   pub it : Invariant s.world
@@ -92,42 +88,24 @@ runs : (w : World) (e : ℕ) (M : Master) → Invariant w → find nat_cmp e w.m
 runs w e M h found = let k = h.masters e M found in omega (arith, k.epoch, k.ran)
 
 master_acts : (w : World) (hard : HardState) (e : ℕ) (M N : Master) (forced : List Id) → Invariant w → find nat_cmp e w.masters ≡ Some M → w.hard.fence ≤ hard.fence → KnowsMore w.hard.jobs hard.jobs
-    → N.epoch ≡ M.epoch → KnowsMore N.jobs hard.jobs → (IsInOrder M → IsInOrder N) → (IsInOrder M → FitsMachines w.cluster M → FitsMachines w.cluster N) → (IsBounded w.cluster M → IsBounded w.cluster N) → N.reported ≡ M.reported → ((m : ℕ) → is_one_of (agent_id m) forced ≡ false) → (IsCredited w.net M → IsCredited w.net N) → StepHolds (prints_nothing (end_step (record w { hard = hard }) w.net N forced))
+    → N.epoch ≡ M.epoch → KnowsMore N.jobs hard.jobs → (IsInOrder M → IsInOrder N) → (IsInOrder M → FitsMachines w.cluster M → FitsMachines w.cluster N) → (IsBounded w.cluster M → IsBounded w.cluster N) → N.reported ≡ M.reported → ((m : ℕ) → is_one_of (agent_id m) forced ≡ false) → (IsCredited w.net M → IsCredited w.net N) → Invariant (end_step (record w { hard = hard }) w.net N forced)
 master_acts w hard e M N forced h found up more same knows t hs bs sr nf cr = let k = h.masters e M found in
-    record { it = finish_invariant w hard w.ran w.net N forced h up more (omega (arith, same, up, runs w e M h found)) knows (t k.tabled) (hs k.tabled k.housed) (bs k.bounded) (λ m. rows_same m (nat_lt 0 (last w.net (master_party N) (agent_id m))) forced M.reported N.reported (nf m) sr (ap (λ n. nat_lt 0 (last w.net (party master_id n) (agent_id m))) same ∙ k.rows m)) (cr k.credited) h.sound (leaves_nothing (master_party N) w.net) (grows_itself w.net) refl }
+    finish_invariant w hard w.ran w.net N forced h up more (omega (arith, same, up, runs w e M h found)) knows (t k.tabled) (hs k.tabled k.housed) (bs k.bounded) (λ m. rows_same m (nat_lt 0 (last w.net (master_party N) (agent_id m))) forced M.reported N.reported (nf m) sr (ap (λ n. nat_lt 0 (last w.net (party master_id n) (agent_id m))) same ∙ k.rows m)) (cr k.credited) h.sound (leaves_nothing (master_party N) w.net) (grows_itself w.net) refl
 
 -- the same where no job changes
 master_changes : (w : World) (hard : HardState) (e : ℕ) (M N : Master) (forced : List Id) → Invariant w → find nat_cmp e w.masters ≡ Some M → w.hard.fence ≤ hard.fence → hard.jobs ≡ w.hard.jobs
-    → N.epoch ≡ M.epoch → N.jobs ≡ M.jobs → N.credited ≡ M.credited → (IsInOrder M → IsInOrder N) → (IsInOrder M → FitsMachines w.cluster M → FitsMachines w.cluster N) → (IsBounded w.cluster M → IsBounded w.cluster N) → N.reported ≡ M.reported → ((m : ℕ) → is_one_of (agent_id m) forced ≡ false) → StepHolds (prints_nothing (end_step (record w { hard = hard }) w.net N forced))
+    → N.epoch ≡ M.epoch → N.jobs ≡ M.jobs → N.credited ≡ M.credited → (IsInOrder M → IsInOrder N) → (IsInOrder M → FitsMachines w.cluster M → FitsMachines w.cluster N) → (IsBounded w.cluster M → IsBounded w.cluster N) → N.reported ≡ M.reported → ((m : ℕ) → is_one_of (agent_id m) forced ≡ false) → Invariant (end_step (record w { hard = hard }) w.net N forced)
 master_changes w hard e M N forced h found up jobs same mine credited t hs bs sr nf =
     master_acts w hard e M N forced h found up (subst (KnowsMore w.hard.jobs) (sym jobs) (knows_itself w.hard.jobs)) same
     (subst (KnowsMore N.jobs) (sym jobs) (subst (λ js. KnowsMore js w.hard.jobs) (sym mine) (h.masters e M found).knows)) t hs bs sr nf (credited_like w.net M N same mine credited)
-
--- Refusals, and parties that do not run
-checked : (w : World) (o : Option Refusal) (s : Step) → Invariant w → (o ≡ None → StepHolds s) → StepHolds (elim o as (λ _. Step) [ None ↦ s | Some r ↦ refused w r ])
-checked w None s b k = k refl
-checked w (Some r) s b k = record { it = b }
 
 -- a test that did not refuse
 pub not_refused : (b : Bool) (r : Refusal) (ts : List (Bool × Refusal)) → first_refusal ((b, r) ∷ ts) ≡ None → (b ≡ false) × (first_refusal ts ≡ None)
 not_refused true r ts e = cc
 not_refused false r ts e = (refl, e)
 
-behind : (xs ys : List (Bool × Refusal)) → first_refusal (xs ++ ys) ≡ None → first_refusal ys ≡ None
-behind [] ys e = e
-behind (x ∷ xs) ys e = behind xs ys (not_refused x.0 x.1 (xs ++ ys) e).1
-
 pub rising : {a b : ℕ} → not (nat_lt a b) ≡ false → a < b
 rising {a} {b} t = grind (arith, nat_tests, t)
-
-master_runs : (w : World) (e : ℕ) (f : Master → Step) → Invariant w → ((M : Master) → find nat_cmp e w.masters ≡ Some M → StepHolds (f M)) → StepHolds (at_master w e f)
-master_runs w e f b k = found_has StepHolds (find nat_cmp e w.masters) _ f (record { it = b }) k
-
-agent_runs : (w : World) (m : ℕ) (f : Agent → Step) → Invariant w → ((g : Agent) → find nat_cmp m w.agents ≡ Some g → StepHolds (f g)) → StepHolds (at_agent w m f)
-agent_runs w m f b k = found_has StepHolds (find nat_cmp m w.agents) _ f (record { it = b }) k
-
-app_runs : (w : World) (a : ℕ) (f : App → Step) → Invariant w → ((g : App) → find nat_cmp a w.apps ≡ Some g → StepHolds (f g)) → StepHolds (at_app w a f)
-app_runs w a f b k = found_has StepHolds (find nat_cmp a w.apps) _ f (record { it = b }) k
 
 -- Turns and resyncs of a master
 currents : (net : Net Ledger) (M : Master) (qs : List Id) → AllByRecursion (λ q. present net (master_party M) q ≡ projection net M q) qs → AllByRecursion (λ q. Current shape net (master_party M) q) qs
@@ -190,55 +168,50 @@ current_of net p h = (record { head = λ hd some. h.head }, tt)
 same_reports : (w : World) (m : ℕ) (g : Agent) (hs : Party → Id → List Ledger) → Invariant w → hs ≡ w.net.histories → (n : ℕ) → ReportHolds w.cluster w.hard.jobs m (at_index nothing (hs (party (agent_id m) g.boot) master_id) n).rows
 same_reports w m g hs h same n = subst (λ (hs : Party → Id → List Ledger). ReportHolds w.cluster w.hard.jobs m (at_index nothing (hs (party (agent_id m) g.boot) master_id) n).rows) (sym same) (h.reports m g.boot n)
 
-agent_turns : (w : World) (m : ℕ) (g : Agent) → Invariant w → find nat_cmp m w.agents ≡ Some g → StepHolds (turn_to_master w (party (agent_id m) g.boot))
+agent_turns : (w : World) (m : ℕ) (g : Agent) → Invariant w → find nat_cmp m w.agents ≡ Some g → Invariant (turned w (party (agent_id m) g.boot) (master_id ∷ [])).world
 agent_turns w m g h found =
     let p = party (agent_id m) g.boot in
     let j = (h.agents m g found).joined in
-    either StepHolds (nat_eq (w.net.links p master_id).known 0) (prints_nothing w) (turned w p (master_id ∷ [])) (λ _. record { it = h })
-    (λ _. let r = send_all_acted w.net p (master_id ∷ []) (current_of w.net p j) h.sound in record { it = agent_invariant w m g (send_all w.net p (master_id ∷ [])) h found (acted w.net (send_all w.net p (master_id ∷ [])) p r j) (same_reports w m g _ h r.histories) })
+    let r = send_all_acted w.net p (master_id ∷ []) (current_of w.net p j) h.sound in
+    agent_invariant w m g (send_all w.net p (master_id ∷ [])) h found (acted w.net (send_all w.net p (master_id ∷ [])) p r j) (same_reports w m g _ h r.histories)
 
 same_demands : (w : World) (a : ℕ) (g : App) (hs : Party → Id → List Ledger) → Invariant w → hs ≡ w.net.histories → DemandsHold w.cluster (unit_count w.hard.jobs a) (hs (party (app_id a) g.boot) master_id)
 same_demands w a g hs h same = subst (λ (hs : Party → Id → List Ledger). DemandsHold w.cluster (unit_count w.hard.jobs a) (hs (party (app_id a) g.boot) master_id)) (sym same) (h.written a g.boot)
 
-app_turns : (w : World) (a : ℕ) (g : App) → Invariant w → find nat_cmp a w.apps ≡ Some g → StepHolds (turn_to_master w (party (app_id a) g.boot))
+app_turns : (w : World) (a : ℕ) (g : App) → Invariant w → find nat_cmp a w.apps ≡ Some g → Invariant (turned w (party (app_id a) g.boot) (master_id ∷ [])).world
 app_turns w a g h found =
     let p = party (app_id a) g.boot in
     let j = (h.apps a g found).joined in
-    either StepHolds (nat_eq (w.net.links p master_id).known 0) (prints_nothing w) (turned w p (master_id ∷ [])) (λ _. record { it = h })
-    (λ _. let r = send_all_acted w.net p (master_id ∷ []) (current_of w.net p j) h.sound in record { it = app_invariant w a g (send_all w.net p (master_id ∷ [])) h found (acted w.net (send_all w.net p (master_id ∷ [])) p r j) (same_demands w a g _ h r.histories) })
+    let r = send_all_acted w.net p (master_id ∷ []) (current_of w.net p j) h.sound in
+    app_invariant w a g (send_all w.net p (master_id ∷ [])) h found (acted w.net (send_all w.net p (master_id ∷ [])) p r j) (same_demands w a g _ h r.histories)
 
 demanded_holds : (w : World) (a : ℕ) (g : App) (k : Key) (n : ℕ) → Invariant w → find nat_cmp a w.apps ≡ Some g → n ≤ greatest_in_demand k → is_there w.cluster g.units k ≡ true
-    → (is_back k ≡ true → at_key (present w.net (party (app_id a) g.boot) master_id) k ≤ n) → StepHolds (demanded w a g k n)
+    → (is_back k ≡ true → at_key (present w.net (party (app_id a) g.boot) master_id) k ≤ n) → Invariant (demanded w a g k n).world
 demanded_holds w a g k n h found le there rises =
     let p = party (app_id a) g.boot in
     let d = h.written a g.boot in
     let u = subst (λ i. is_there w.cluster i k ≡ true) (h.units a g found).units there in
-    record {
-      it = app_invariant w a g _ h found (demands w.net p (changed_demand (present w.net p master_id) k n) refl h.sound (h.apps a g found).joined)
-          (published_demands w.cluster (unit_count w.hard.jobs a) w.net p (changed_demand (present w.net p master_id) k n)
-          (changed_follows w.cluster (unit_count w.hard.jobs a) (present w.net p master_id) k n le u rises (d.tidy (last w.net p master_id)) (d.ranged (last w.net p master_id))) d);
-    }
+    app_invariant w a g _ h found (demands w.net p (changed_demand (present w.net p master_id) k n) refl h.sound (h.apps a g found).joined)
+    (published_demands w.cluster (unit_count w.hard.jobs a) w.net p (changed_demand (present w.net p master_id) k n)
+    (changed_follows w.cluster (unit_count w.hard.jobs a) (present w.net p master_id) k n le u rises (d.tidy (last w.net p master_id)) (d.ranged (last w.net p master_id))) d)
 
 -- Deliveries
-master_hears_holds : (w : World) (e which : ℕ) (M : Master) (x : Packet) → Invariant w → is_master x.to.id ≡ true → find nat_cmp e w.masters ≡ Some M → slice_get w.net.packets which ≡ Some x → Holds (master_hears w M x)
-master_hears_holds w e which M x h to found sent =
+master_hears_holds : (w : World) (e which : ℕ) (M : Master) (x : Packet) → Invariant w → is_master x.to.id ≡ true → find nat_cmp e w.masters ≡ Some M → slice_get w.net.packets which ≡ Some x → talks w.cluster M x.from.id ≡ true
+    → Invariant (let h = heard_of w.net (master_party M) (talks w.cluster M) x in let l = received w.cluster M w.net x in end_step w (comes w.net (master_party M) (talks w.cluster M) (Some x)) (told M h x.from.id l) (adopted_now M h x.from.id l))
+master_hears_holds w e which M x h to found sent t =
     let hd = heard_of w.net (master_party M) (talks w.cluster M) x in
     let l = received w.cluster M w.net x in
     let n = comes w.net (master_party M) (talks w.cluster M) (Some x) in
     let N = told M hd x.from.id l in
     let same : N.epoch ≡ M.epoch = (told_same M hd x.from.id l).epoch in
     let k = h.masters e M found in
-    either Holds (talks w.cluster M x.from.id) (end_step w n N (adopted_now M hd x.from.id l)) w
-    (λ t. record {
-      it = finish_invariant w w.hard w.ran n N (adopted_now M hd x.from.id l) h (omega arith) (knows_itself w.hard.jobs) (omega (arith, same, runs w e M h found)) (subst (λ js. KnowsMore js w.hard.jobs) (sym ((told_same M hd x.from.id l).jobs)) k.knows) (told_in_order M hd x.from.id l k.tabled)
-          (told_fits_machines w.cluster M hd x.from.id l (λ agent _. (reported agent).fits) (k.tabled, met_in_order M hd.fresh x.from.id.number k.tabled) k.housed)
-          (told_bounded w.cluster M hd x.from.id l (λ agent. (talks_machine w.cluster M x.from.id t agent, (reported agent).named.counts)) (λ other. asked other (talks_app w.cluster M x.from.id t other)) k.bounded)
-          (λ m. rows_told M hd x.from.id l m (nat_lt 0 (last n (master_party N) (agent_id m))) (ap (λ i. nat_lt 0 (last w.net (party master_id i) (agent_id m))) same ∙ k.rows m))
-          (heard_credited w.cluster w.hard.jobs w.net M x h.sound (found_within (λ y. PacketNames shape w.net.histories y.kind y) w.net.packets which x h.sound.packets sent) k.credited t k.knows h.written)
-          (comes_sound shape w.net (master_party M) (talks w.cluster M) (Some x) (λ y t. found_within (λ y. PacketNames shape w.net.histories y.kind y) w.net.packets which y h.sound.packets (sent ∙ t)) h.sound)
-          (subst (λ b. Leaves (party master_id b) w.net n) (sym same) (comes_leaves w.net (master_party M) (talks w.cluster M) x)) (grows_itself w.net) refl;
-    })
-    (λ _. record { it = h })
+    finish_invariant w w.hard w.ran n N (adopted_now M hd x.from.id l) h (omega arith) (knows_itself w.hard.jobs) (omega (arith, same, runs w e M h found)) (subst (λ js. KnowsMore js w.hard.jobs) (sym ((told_same M hd x.from.id l).jobs)) k.knows) (told_in_order M hd x.from.id l k.tabled)
+    (told_fits_machines w.cluster M hd x.from.id l (λ agent _. (reported agent).fits) (k.tabled, met_in_order M hd.fresh x.from.id.number k.tabled) k.housed)
+    (told_bounded w.cluster M hd x.from.id l (λ agent. (talks_machine w.cluster M x.from.id t agent, (reported agent).named.counts)) (λ other. asked other (talks_app w.cluster M x.from.id t other)) k.bounded)
+    (λ m. rows_told M hd x.from.id l m (nat_lt 0 (last n (master_party N) (agent_id m))) (ap (λ i. nat_lt 0 (last w.net (party master_id i) (agent_id m))) same ∙ k.rows m))
+    (heard_credited w.cluster w.hard.jobs w.net M x h.sound (found_within (λ y. PacketNames shape w.net.histories y.kind y) w.net.packets which x h.sound.packets sent) k.credited t k.knows h.written)
+    (comes_sound shape w.net (master_party M) (talks w.cluster M) (Some x) (λ y t. found_within (λ y. PacketNames shape w.net.histories y.kind y) w.net.packets which y h.sound.packets (sent ∙ t)) h.sound)
+    (subst (λ b. Leaves (party master_id b) w.net n) (sym same) (comes_leaves w.net (master_party M) (talks w.cluster M) x)) (grows_itself w.net) refl
   where
     -- what an agent reported fits its machine
     reported : is_agent x.from.id ≡ true → ReportHolds w.cluster w.hard.jobs x.from.id.number (received w.cluster M w.net x).rows
@@ -267,51 +240,27 @@ table_fits w m g h = let p = party (agent_id m) g.boot in
     either (ReportHolds w.cluster w.hard.jobs m) (nat_eq (w.net.links p master_id).seq 0) (present w.net p master_id).rows (view w.net p master_id).rows
     (λ _. h.reports m g.boot (last w.net p master_id)) (λ _. let e = h.entries (w.net.links p master_id).known (agent_id m) (w.net.links p master_id).seq in record { fits = e.rows refl; named = e.named refl })
 
-agent_hears_holds : (w : World) (m which : ℕ) (g : Agent) (x : Packet) → Invariant w → find nat_cmp m w.agents ≡ Some g → slice_get w.net.packets which ≡ Some x → Holds (agent_hears w m g x)
+agent_hears_holds : (w : World) (m which : ℕ) (g : Agent) (x : Packet) → Invariant w → find nat_cmp m w.agents ≡ Some g → slice_get w.net.packets which ≡ Some x → Invariant (agent_hears w m g x)
 agent_hears_holds w m which g x h found sent =
     let p = party (agent_id m) g.boot in
     let report = report_ledger x.from.inc (agent_table w.net p) in
-    record { it = agent_invariant w m g _ h found (joins w.net p which x report sent refl h.sound (h.agents m g found).joined) (joined_reports w.cluster w.hard.jobs w.net p m x report (table_fits w m g h) (h.reports m g.boot)) }
+    agent_invariant w m g _ h found (joins w.net p which x report sent refl h.sound (h.agents m g found).joined) (joined_reports w.cluster w.hard.jobs w.net p m x report (table_fits w m g h) (h.reports m g.boot))
 
-app_hears_holds : (w : World) (a which : ℕ) (g : App) (x : Packet) → Invariant w → find nat_cmp a w.apps ≡ Some g → slice_get w.net.packets which ≡ Some x → Holds (app_hears w a g x)
+app_hears_holds : (w : World) (a which : ℕ) (g : App) (x : Packet) → Invariant w → find nat_cmp a w.apps ≡ Some g → slice_get w.net.packets which ≡ Some x → Invariant (app_hears w a g x)
 app_hears_holds w a which g x h found sent =
     let p = party (app_id a) g.boot in
     let fresh = (heard_of w.net p is_master x).fresh in
     let carried = carry w.net p g.units (below (length w.cluster.machines)) g.carried in
     let j = joins w.net p which x (joined_demand x.from.inc (present w.net p master_id)) sent refl h.sound (h.apps a g found).joined in
     let o : Origins w.net a (cond fresh carried g.carried) = either (Origins w.net a) fresh carried g.carried (λ _. carry_origins w.net a g.boot g.units (below (length w.cluster.machines)) g.carried h.sound (h.origins a g found)) (λ _. h.origins a g found) in
-    record {
-      it = app_put_invariant w a g (record g { carried = cond fresh carried g.carried }) _ refl h found j (origins_grow w.net (joined w.net p x (joined_demand x.from.inc (present w.net p master_id))) a (cond fresh carried g.carried) j.grows o)
-          (let u = h.units a g found in record { known = u.known; units = u.units }) (joined_written w.cluster (unit_count w.hard.jobs a) w.net p x (h.apps a g found).joined (h.written a g.boot));
-    }
-
-addressed_holds : (w : World) (which : ℕ) (x : Packet) → Invariant w → slice_get w.net.packets which ≡ Some x → Holds (addressed w x)
-addressed_holds w which x h sent =
-    let same : Holds w = record { it = h } in
-    let to_master = with_found (find nat_cmp x.to.inc w.masters) w (λ M. master_hears w M x) in
-    let to_agent = with_found (find nat_cmp x.to.id.number w.agents) w (λ g. agent_hears w x.to.id.number g x) in
-    let to_app = with_found (find nat_cmp x.to.id.number w.apps) w (λ g. app_hears w x.to.id.number g x) in
-    let master : is_master x.to.id ≡ true → Holds to_master = λ to. found_has Holds (find nat_cmp x.to.inc w.masters) w (λ M. master_hears w M x) same (λ M e. master_hears_holds w x.to.inc which M x h to e sent) in
-    let agent : Holds to_agent = found_has Holds (find nat_cmp x.to.id.number w.agents) w (λ g. agent_hears w x.to.id.number g x) same (λ g e. agent_hears_holds w x.to.id.number which g x h e sent) in
-    let app : Holds to_app = found_has Holds (find nat_cmp x.to.id.number w.apps) w (λ g. app_hears w x.to.id.number g x) same (λ g e. app_hears_holds w x.to.id.number which g x h e sent) in
-    either Holds (is_master x.to.id) to_master (cond (is_agent x.to.id) to_agent (cond (is_app x.to.id) to_app w)) master
-    (λ _. either Holds (is_agent x.to.id) to_agent (cond (is_app x.to.id) to_app w) (λ _. agent)
-    (λ _. either Holds (is_app x.to.id) to_app w (λ _. app) (λ _. same)))
-
-deliver_holds : (k : ℕ) (w : World) → Invariant w → StepHolds (deliver_one k w)
-deliver_holds k w h = found_has StepHolds (packet_of w k) _ _ (record { it = h }) (λ x e. record { it = (addressed_holds w (k - 1) x h e).it })
-
-deliver_all_holds : (n k : ℕ) (w : World) → Invariant w → StepHolds (deliver_all n k w)
-deliver_all_holds zero k w h = record { it = h }
-deliver_all_holds (suc n) k w h = record { it = (deliver_all_holds n (k + 1) (deliver_one k w).world (deliver_holds k w h).it).it }
+    app_put_invariant w a g (record g { carried = cond fresh carried g.carried }) _ refl h found j (origins_grow w.net (joined w.net p x (joined_demand x.from.inc (present w.net p master_id))) a (cond fresh carried g.carried) j.grows o)
+    (let u = h.units a g found in record { known = u.known; units = u.units }) (joined_written w.cluster (unit_count w.hard.jobs a) w.net p x (h.apps a g found).joined (h.written a g.boot))
 
 -- Starts and stops
 new_holds : (w : World) (e : ℕ) → Invariant w → w.hard.fence < e
-    → StepHolds (prints_nothing (end_step (record w { hard = raised w.hard e; ran = w.ran ++ party master_id e ∷ [] }) (move w.net (Starts (party master_id e))) (new_master (raised w.hard e) e) (map app_id (job_numbers w.hard.jobs))))
-new_holds w e h lt = record {
-  it = finish_invariant w (raised w.hard e) (w.ran ++ party master_id e ∷ []) (move w.net (Starts (party master_id e))) (new_master (raised w.hard e) e) (map app_id (job_numbers w.hard.jobs)) h (omega (arith, lt)) (knows_itself w.hard.jobs) (omega arith) (knows_itself w.hard.jobs) (new_in_order (new_master (raised w.hard e) e) refl refl refl) (new_fits_machines w.cluster (new_master (raised w.hard e) e) refl) (new_bounded w.cluster (new_master (raised w.hard e) e) refl refl refl refl) (λ m. rows_same m (nat_lt 0 (last w.net (party master_id e) (agent_id m))) (map app_id (job_numbers w.hard.jobs)) [] [] (no_agents m (job_numbers w.hard.jobs)) refl (ap (λ (hs : List Ledger). nat_lt 0 (length hs)) (h.unstarted (party master_id e) (agent_id m) lt))) credited
-      (move_sound shape w.net (Starts (party master_id e)) refl (λ q. h.unstarted (party master_id e) q lt) h.sound) (start_leaves w.net (party master_id e)) (grows_itself w.net) refl;
-}
+    → Invariant (end_step (record w { hard = raised w.hard e; ran = w.ran ++ party master_id e ∷ [] }) (move w.net (Starts (party master_id e))) (new_master (raised w.hard e) e) (map app_id (job_numbers w.hard.jobs)))
+new_holds w e h lt = finish_invariant w (raised w.hard e) (w.ran ++ party master_id e ∷ []) (move w.net (Starts (party master_id e))) (new_master (raised w.hard e) e) (map app_id (job_numbers w.hard.jobs)) h (omega (arith, lt)) (knows_itself w.hard.jobs) (omega arith) (knows_itself w.hard.jobs) (new_in_order (new_master (raised w.hard e) e) refl refl refl) (new_fits_machines w.cluster (new_master (raised w.hard e) e) refl) (new_bounded w.cluster (new_master (raised w.hard e) e) refl refl refl refl) (λ m. rows_same m (nat_lt 0 (last w.net (party master_id e) (agent_id m))) (map app_id (job_numbers w.hard.jobs)) [] [] (no_agents m (job_numbers w.hard.jobs)) refl (ap (λ (hs : List Ledger). nat_lt 0 (length hs)) (h.unstarted (party master_id e) (agent_id m) lt))) credited
+    (move_sound shape w.net (Starts (party master_id e)) refl (λ q. h.unstarted (party master_id e) q lt) h.sound) (start_leaves w.net (party master_id e)) (grows_itself w.net) refl
   where
     link : (a : ℕ) → (move w.net (Starts (party master_id e))).links (party master_id e) (app_id a) ≡ unknown
     link a = ap (λ b. elim b as (λ _. Link) [ true ↦ unknown | false ↦ w.net.links (party master_id e) (app_id a) ]) (same_party_itself (party master_id e))
@@ -349,95 +298,84 @@ unit_there w g u rest e f = and_true (nat_lt u g.units) rest e f
 within : {a b : ℕ} → nat_lt a b ≡ false → b ≤ a
 within {a} {b} t = grind (arith, nat_tests, t)
 
-want_holds : (w : World) (a u n : ℕ) → Invariant w → StepHolds (act w (Want a u n))
-want_holds w a u n h = app_runs w a _ h (λ g f. checked w _ _ h (λ t.
+asks_hold : (w : World) (a : ℕ) (g : App) (x : AppCommand) → Invariant w → find nat_cmp a w.apps ≡ Some g → first_refusal (command_tests w.cluster g.units (usable_now w a g) (given_back w a g) x) ≡ None → Invariant (demanded w a g (command_key x) (command_number (given_back w a g) x)).world
+asks_hold w a g (Wants u n) h f t =
     let range = nat_lt greatest_count n in
     let x = not_refused (not (nat_lt u g.units)) NoUnit ((range, WantRange greatest_count) ∷ []) t in
     let y = not_refused range (WantRange greatest_count) [] x.1 in
-    demanded_holds w a g (want_key u) n h f (within y.0) (unit_there w g u true (not_false (nat_lt u g.units) x.0) refl) (λ e. cc)))
-
-near_holds : (w : World) (a u m n : ℕ) → Invariant w → StepHolds (act w (Near a u m n))
-near_holds w a u m n h = app_runs w a _ h (λ g f. checked w _ _ h (λ t.
+    demanded_holds w a g (want_key u) n h f (within y.0) (unit_there w g u true (not_false (nat_lt u g.units) x.0) refl) (λ e. cc)
+asks_hold w a g (WantsNear u m n) h f t =
     let range = nat_lt greatest_count n in
     let machine = not (has_machine w.cluster m) in
     let x = not_refused (not (nat_lt u g.units)) NoUnit ((machine, NoMachine) ∷ (range, WantRange greatest_count) ∷ []) t in
     let y = not_refused machine NoMachine ((range, WantRange greatest_count) ∷ []) x.1 in
     let z = not_refused range (WantRange greatest_count) [] y.1 in
-    demanded_holds w a g (near_key u m) n h f (within z.0) (unit_there w g u (has_machine w.cluster m) (not_false (nat_lt u g.units) x.0) (not_false (has_machine w.cluster m) y.0)) (λ e. cc)))
-
-rack_holds : (w : World) (a u r n : ℕ) → Invariant w → StepHolds (act w (Rack a u r n))
-rack_holds w a u r n h = app_runs w a _ h (λ g f. checked w _ _ h (λ t.
+    demanded_holds w a g (near_key u m) n h f (within z.0) (unit_there w g u (has_machine w.cluster m) (not_false (nat_lt u g.units) x.0) (not_false (has_machine w.cluster m) y.0)) (λ e. cc)
+asks_hold w a g (WantsInRack u r n) h f t =
     let range = nat_lt greatest_count n in
     let there = not (has_rack w.cluster r) in
     let x = not_refused (not (nat_lt u g.units)) NoUnit ((there, NoRack) ∷ (range, WantRange greatest_count) ∷ []) t in
     let y = not_refused there NoRack ((range, WantRange greatest_count) ∷ []) x.1 in
     let z = not_refused range (WantRange greatest_count) [] y.1 in
-    demanded_holds w a g (rack_key u r) n h f (within z.0) (unit_there w g u (has_rack w.cluster r) (not_false (nat_lt u g.units) x.0) (not_false (has_rack w.cluster r) y.0)) (λ e. cc)))
-
-avoid_holds : (w : World) (a u m on : ℕ) → Invariant w → StepHolds (act w (Avoid a u m on))
-avoid_holds w a u m on h = app_runs w a _ h (λ g f. checked w _ _ h (λ t.
+    demanded_holds w a g (rack_key u r) n h f (within z.0) (unit_there w g u (has_rack w.cluster r) (not_false (nat_lt u g.units) x.0) (not_false (has_rack w.cluster r) y.0)) (λ e. cc)
+asks_hold w a g (Avoids u m on) h f t =
     let machine = not (has_machine w.cluster m) in
     let x = not_refused (not (nat_lt u g.units)) NoUnit ((machine, NoMachine) ∷ []) t in
     let y = not_refused machine NoMachine [] x.1 in
-    demanded_holds w a g (avoid_key u m) (min on 1) h f (omega arith) (unit_there w g u (has_machine w.cluster m) (not_false (nat_lt u g.units) x.0) (not_false (has_machine w.cluster m) y.0)) (λ e. cc)))
-
-give_back_holds : (w : World) (a u m n : ℕ) → Invariant w → StepHolds (act w (GiveBack a u m n))
-give_back_holds w a u m n h = app_runs w a _ h (λ g f. checked w _ _ h (λ t.
+    demanded_holds w a g (avoid_key u m) (min on 1) h f (omega arith) (unit_there w g u (has_machine w.cluster m) (not_false (nat_lt u g.units) x.0) (not_false (has_machine w.cluster m) y.0)) (λ e. cc)
+asks_hold w a g (GivesBack u m n) h f t =
     let machine = not (has_machine w.cluster m) in
     let usable = nat_lt (usable_now w a g u m) n in
     let range = nat_lt greatest_back (given_back w a g u m + n) in
     let x = not_refused (not (nat_lt u g.units)) NoUnit ((machine, NoMachine) ∷ (usable, NotUsable (usable_now w a g u m)) ∷ (range, BackRange) ∷ []) t in
     let y = not_refused machine NoMachine ((usable, NotUsable (usable_now w a g u m)) ∷ (range, BackRange) ∷ []) x.1 in
     let z = not_refused range BackRange [] (not_refused usable (NotUsable (usable_now w a g u m)) ((range, BackRange) ∷ []) y.1).1 in
-    demanded_holds w a g (back_key u m) (given_back w a g u m + n) h f (within z.0) (unit_there w g u (has_machine w.cluster m) (not_false (nat_lt u g.units) x.0) (not_false (has_machine w.cluster m) y.0)) (λ _. omega arith)))
-
--- Each event
-pub act_holds : (w : World) (e : Event) → Invariant w → StepHolds (act w e)
-act_holds w (StartMaster e) h = checked w _ _ h (λ n. hard_has StepHolds w (λ r. record { it = h }) w.hard e Raise _ (λ _.
-    new_holds w e h (rising (not_refused (not (nat_lt w.hard.fence e)) (NotRising w.hard.fence) ((not (nat_lt (length w.masters) most_masters), TooManyMasters most_masters) ∷ []) n).0)))
-act_holds w (StopMaster e) h = master_runs w e _ h (λ M f. record { it = stopped_holds w e h })
-act_holds w (StartAgent m b) h = checked w _ _ h (λ n.
-    let rest = not (nat_lt (w.boots (agent_id m)) b) in
-    let first = not_refused (not (has_machine w.cluster m)) NoMachine ((rest, NotRising (w.boots (agent_id m))) ∷ []) n in
-    record { it = agent_starts w (w.ran ++ party (agent_id m) b ∷ []) m b h (not_false (has_machine w.cluster m) first.0) (rising (not_refused rest (NotRising (w.boots (agent_id m))) [] first.1).0) })
-act_holds w (StartApp a b) h = checked w _ _ h (λ n.
-    let last : Bool × Refusal = (not (nat_lt (w.boots (app_id a)) b), NotRising (w.boots (app_id a))) in
-    let x = not_refused (not (is_known w.hard.jobs a)) NoJob ((has_ended w.hard.jobs a, Ended) ∷ last ∷ []) n in
-    let y = not_refused (has_ended w.hard.jobs a) Ended (last ∷ []) x.1 in
-    let z = not_refused last.0 last.1 [] y.1 in
-    record { it = app_starts w (w.ran ++ party (app_id a) b ∷ []) a b _ refl h (rising z.0) (record { has = λ m r none. cc }) (record { known = not_false (is_known w.hard.jobs a) x.0; units = refl }) })
-act_holds w (Submit e j) h = master_runs w e _ h (λ M f. submits_has StepHolds w (λ r. record { it = h }) M _ j (λ _ tests.
-    let k = h.masters e M f in
-    let new : is_known w.hard.jobs j.number ≡ false = (not_refused (is_known w.hard.jobs j.number) Known (is_full w.hard ∷ []) (not_refused (nat_lt M.epoch w.hard.fence) (Fenced w.hard.fence) ((is_known w.hard.jobs j.number, Known) ∷ is_full w.hard ∷ []) tests).1).0 in
-    master_acts w (submitted w.hard (eight_places j)) e M (record M { jobs = with_job (eight_places j) M.jobs }) (app_id j.number ∷ []) h f (omega arith) (job_added w.hard.jobs (eight_places j)) refl (both_added M.jobs w.hard.jobs (eight_places j) new k.knows) (added_in_order M (eight_places j)) (added_fits_machines w.cluster M (eight_places j)) (added_bounded w.cluster M (eight_places j)) refl (λ m. refl) (added_credited w.net M (eight_places j))))
-act_holds w (Finish e a) h = master_runs w e _ h (λ M f. finishes_has StepHolds w (λ r. record { it = h }) M _ a (λ _. master_acts w (finished w.hard a) e M (ended_in M a) [] h f (omega arith) (ended_knows a w.hard.jobs w.hard.jobs (knows_itself w.hard.jobs)) refl (both_ended a M.jobs w.hard.jobs (h.masters e M f).knows) (ended_in_order M a) (λ _. ended_fits_machines w.cluster M a) (ended_bounded w.cluster M a) refl (λ m. refl) (ended_credited w.net M a)))
-act_holds w (Ban e m) h = master_runs w e _ h (λ M f. bans_has StepHolds w (λ r. record { it = h }) M _ m (λ _. master_changes w (banned w.hard m) e M (banned_in M m) [] h f (omega arith) refl refl refl refl (banned_in_order M m) (λ _. banned_fits_machines w.cluster M m) (banned_bounded w.cluster M m) refl (λ m. refl)))
-act_holds w (Unban e m) h = master_runs w e _ h (λ M f. unbans_has StepHolds w (λ r. record { it = h }) M _ m (λ _. master_changes w (unbanned w.hard m) e M (record M { bans = without_number m M.bans }) [] h f (omega arith) refl refl refl refl (same_in_order M (record M { bans = without_number m M.bans }) refl refl refl refl) (λ _. same_fits_machines w.cluster M (record M { bans = without_number m M.bans }) refl refl refl) (same_bounded w.cluster M (record M { bans = without_number m M.bans }) refl refl refl refl refl) refl (λ m. refl)))
-act_holds w (Begin e) h = master_runs w e _ h (λ M f. begins_has StepHolds w (λ r. record { it = h }) M _ (master_changes w w.hard e M (record M { serving = true }) [] h f (omega arith) refl refl refl refl (same_in_order M (record M { serving = true }) refl refl refl refl) (λ _. same_fits_machines w.cluster M (record M { serving = true }) refl refl refl) (same_bounded w.cluster M (record M { serving = true }) refl refl refl refl refl) refl (λ m. refl)))
-act_holds w (Preempt e) h = master_runs w e _ h (λ M f. makes_room_has StepHolds w (λ r. record { it = h }) M _ (λ p planned. master_changes w w.hard e M (preempted M p) [] h f (omega arith) refl refl refl refl (preempted_in_order w.cluster M p planned (h.masters e M f).waits) (preempted_fits_machines w.cluster M p planned) (preempted_bounded w.cluster M p planned (h.masters e M f).waits) refl (λ m. refl)))
-act_holds w (Want a u n) h = want_holds w a u n h
-act_holds w (Near a u m n) h = near_holds w a u m n h
-act_holds w (Rack a u r n) h = rack_holds w a u r n h
-act_holds w (Avoid a u m on) h = avoid_holds w a u m on h
-act_holds w (GiveBack a u m n) h = give_back_holds w a u m n h
-act_holds w (TurnMaster e) h = master_runs w e _ h (λ M f. record { it = master_acted w e M _ h f (send_all_acted w.net (master_party M) (peers w.cluster M) (currents w.net M (peers w.cluster M) (h.masters e M f).shows) h.sound) })
-act_holds w (TurnAgent m) h = agent_runs w m _ h (λ g f. agent_turns w m g h f)
-act_holds w (TurnApp a) h = app_runs w a _ h (λ g f. app_turns w a g h f)
-act_holds w (ResyncMaster e) h = master_runs w e _ h (λ M f. record { it = master_acted w e M _ h f (resync_all_acted w.net (master_party M) (peers w.cluster M) h.sound) })
-act_holds w (ResyncAgent m) h = agent_runs w m _ h (λ g f. let p = party (agent_id m) g.boot in record { it = agent_invariant w m g _ h f (acted w.net (resync_all w.net p (master_id ∷ [])) p (resync_all_acted w.net p (master_id ∷ []) h.sound) (h.agents m g f).joined) (same_reports w m g _ h (resync_all_acted w.net p (master_id ∷ []) h.sound).histories) })
-act_holds w (ResyncApp a) h = app_runs w a _ h (λ g f. let p = party (app_id a) g.boot in record { it = app_invariant w a g _ h f (acted w.net (resync_all w.net p (master_id ∷ [])) p (resync_all_acted w.net p (master_id ∷ []) h.sound) (h.apps a g f).joined) (same_demands w a g _ h (resync_all_acted w.net p (master_id ∷ []) h.sound).histories) })
-act_holds w (Deliver k) h = checked w _ _ h (λ _. deliver_holds k w h)
-act_holds w (DeliverRange k l) h = checked w _ _ h (λ _. deliver_all_holds (l + 1 - k) k w h)
-act_holds w (Dump k) h = checked w _ _ h (λ _. found_has StepHolds (packet_of w k) _ _ (record { it = h }) (λ x _. record { it = h }))
-act_holds w ShowState h = record { it = h }
+    demanded_holds w a g (back_key u m) (given_back w a g u m + n) h f (within z.0) (unit_there w g u (has_machine w.cluster m) (not_false (nat_lt u g.units) x.0) (not_false (has_machine w.cluster m) y.0)) (λ _. omega arith)
 
 -- an event that is counted
 pub counted_holds : (w : World) → Invariant w → Invariant (counted_in w)
 counted_holds w h = record { sound = h.sound; unstarted = h.unstarted; masters = h.masters; agents = h.agents; apps = h.apps; machines = h.machines; origins = h.origins; units = h.units; written = h.written; entries = h.entries; reports = h.reports }
 
-run_holds : (es : List Event) (w : World) → Invariant w → Holds (run_from es w).world
-run_holds [] w h = record { it = h }
-run_holds (e ∷ es) w h = record { it = (run_holds es (world_step w e).world (act_holds (counted_in w) e (counted_holds w h)).it).it }
+-- Each event
+events_hold : (w : World) → Invariant w → WorldKept Invariant (λ _. ⊤) w
+events_hold w h = record {
+  counted = counted_holds w h;
+  starts = λ e n _. new_holds w e h (rising (not_refused (not (nat_lt w.hard.fence e)) (NotRising w.hard.fence) ((not (nat_lt (length w.masters) most_masters), TooManyMasters most_masters) ∷ []) n).0);
+  stops = λ e. stopped_holds w e h;
+  starts_agent = λ m b n.
+      let rest = not (nat_lt (w.boots (agent_id m)) b) in
+      let first = not_refused (not (has_machine w.cluster m)) NoMachine ((rest, NotRising (w.boots (agent_id m))) ∷ []) n in
+      agent_starts w (w.ran ++ party (agent_id m) b ∷ []) m b h (not_false (has_machine w.cluster m) first.0) (rising (not_refused rest (NotRising (w.boots (agent_id m))) [] first.1).0);
+  starts_app = λ a b n.
+      let last : Bool × Refusal = (not (nat_lt (w.boots (app_id a)) b), NotRising (w.boots (app_id a))) in
+      let x = not_refused (not (is_known w.hard.jobs a)) NoJob ((has_ended w.hard.jobs a, Ended) ∷ last ∷ []) n in
+      let y = not_refused (has_ended w.hard.jobs a) Ended (last ∷ []) x.1 in
+      let z = not_refused last.0 last.1 [] y.1 in
+      app_starts w (w.ran ++ party (app_id a) b ∷ []) a b _ refl h (rising z.0) (record { has = λ m r none. cc }) (record { known = not_false (is_known w.hard.jobs a) x.0; units = refl });
+  submits = λ e M j f _ _ tests.
+      let k = h.masters e M f in
+      let new : is_known w.hard.jobs j.number ≡ false = (not_refused (is_known w.hard.jobs j.number) Known (is_full w.hard ∷ []) (not_refused (nat_lt M.epoch w.hard.fence) (Fenced w.hard.fence) ((is_known w.hard.jobs j.number, Known) ∷ is_full w.hard ∷ []) tests).1).0 in
+      master_acts w (submitted w.hard (eight_places j)) e M (record M { jobs = with_job (eight_places j) M.jobs }) (app_id j.number ∷ []) h f (omega arith) (job_added w.hard.jobs (eight_places j)) refl (both_added M.jobs w.hard.jobs (eight_places j) new k.knows) (added_in_order M (eight_places j)) (added_fits_machines w.cluster M (eight_places j)) (added_bounded w.cluster M (eight_places j)) refl (λ m. refl) (added_credited w.net M (eight_places j));
+  finishes = λ e M a f _. master_acts w (finished w.hard a) e M (ended_in M a) [] h f (omega arith) (ended_knows a w.hard.jobs w.hard.jobs (knows_itself w.hard.jobs)) refl (both_ended a M.jobs w.hard.jobs (h.masters e M f).knows) (ended_in_order M a) (λ _. ended_fits_machines w.cluster M a) (ended_bounded w.cluster M a) refl (λ m. refl) (ended_credited w.net M a);
+  bans = λ e M m f _. master_changes w (banned w.hard m) e M (banned_in M m) [] h f (omega arith) refl refl refl refl (banned_in_order M m) (λ _. banned_fits_machines w.cluster M m) (banned_bounded w.cluster M m) refl (λ m. refl);
+  unbans = λ e M m f _. master_changes w (unbanned w.hard m) e M (record M { bans = without_number m M.bans }) [] h f (omega arith) refl refl refl refl (same_in_order M (record M { bans = without_number m M.bans }) refl refl refl refl) (λ _. same_fits_machines w.cluster M (record M { bans = without_number m M.bans }) refl refl refl) (same_bounded w.cluster M (record M { bans = without_number m M.bans }) refl refl refl refl refl) refl (λ m. refl);
+  begins = λ e M f. master_changes w w.hard e M (record M { serving = true }) [] h f (omega arith) refl refl refl refl (same_in_order M (record M { serving = true }) refl refl refl refl) (λ _. same_fits_machines w.cluster M (record M { serving = true }) refl refl refl) (same_bounded w.cluster M (record M { serving = true }) refl refl refl refl refl) refl (λ m. refl);
+  preempts = λ e M p f planned. master_changes w w.hard e M (preempted M p) [] h f (omega arith) refl refl refl refl (preempted_in_order w.cluster M p planned (h.masters e M f).waits) (preempted_fits_machines w.cluster M p planned) (preempted_bounded w.cluster M p planned (h.masters e M f).waits) refl (λ m. refl);
+  asks = λ a g x f t. asks_hold w a g x h f t;
+  master_turns = λ e M f. master_acted w e M _ h f (send_all_acted w.net (master_party M) (peers w.cluster M) (currents w.net M (peers w.cluster M) (h.masters e M f).shows) h.sound);
+  agent_turns = λ m g f. agent_turns w m g h f;
+  app_turns = λ a g f. app_turns w a g h f;
+  master_resyncs = λ e M f. master_acted w e M _ h f (resync_all_acted w.net (master_party M) (peers w.cluster M) h.sound);
+  agent_resyncs = λ m g f. let p = party (agent_id m) g.boot in agent_invariant w m g _ h f (acted w.net (resync_all w.net p (master_id ∷ [])) p (resync_all_acted w.net p (master_id ∷ []) h.sound) (h.agents m g f).joined) (same_reports w m g _ h (resync_all_acted w.net p (master_id ∷ []) h.sound).histories);
+  app_resyncs = λ a g f. let p = party (app_id a) g.boot in app_invariant w a g _ h f (acted w.net (resync_all w.net p (master_id ∷ [])) p (resync_all_acted w.net p (master_id ∷ []) h.sound) (h.apps a g f).joined) (same_demands w a g _ h (resync_all_acted w.net p (master_id ∷ []) h.sound).histories);
+  hears = λ e M k x f sent to t. master_hears_holds w e (k - 1) M x h to f sent t;
+  agent_hears = λ m g k x f sent. agent_hears_holds w m (k - 1) g x h f sent;
+  app_hears = λ a g k x f sent. app_hears_holds w a (k - 1) g x h f sent;
+}
+
+-- so that it is kept
+pub act_holds : (w : World) (e : Event) → Invariant w → StepHolds (act w e)
+act_holds w e h = record { it = (act_keeps_world Invariant (λ _. ⊤) events_hold w e tt h).it }
 
 -- the empty world
 pub at_start : (c : ClusterRecord) → Invariant (empty_world c)
@@ -462,7 +400,7 @@ at_start c = record {
 
 -- the invariant holds in every state
 pub always : (c : ClusterRecord) (es : List Event) → Invariant (run c es)
-always c es = (run_holds es (empty_world c) (at_start c)).it
+always c es = (run_keeps_world Invariant (λ _. ⊤) events_hold es (empty_world c) (unasked es) (at_start c)).it
 
 -- in every state: the net is sound
 pub always_sound : (c : ClusterRecord) (es : List Event) → Sound shape (run c es).net

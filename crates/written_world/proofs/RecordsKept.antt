@@ -286,7 +286,7 @@ recorded_kept w h = record {
   master_resyncs = λ e M f. netted w _ h (resync_all_ran w.ran w.net (master_party M) (peers w.cluster M) h.net);
   agent_resyncs = λ m g f. netted w _ h (resync_all_ran w.ran w.net (party (agent_id m) g.boot) (master_id ∷ []) h.net);
   app_resyncs = λ a g f. netted w _ h (resync_all_ran w.ran w.net (party (app_id a) g.boot) (master_id ∷ []) h.net);
-  hears = λ e M k x f sent _. hears_recorded w e M x h f (packet_ran w k x h sent);
+  hears = λ e M k x f sent _ _. hears_recorded w e M x h f (packet_ran w k x h sent);
   agent_hears = λ m g k x f sent. netted w _ h (joined_ran w.ran w.net (party (agent_id m) g.boot) x _ (packet_ran w k x h sent) h.net);
   app_hears = λ a g k x f sent. app_hears_recorded w a g x h f (packet_ran w k x h sent);
 }

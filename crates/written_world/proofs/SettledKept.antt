@@ -23,8 +23,7 @@ use Rattle.written_world.specs.Parties.{told, received}
 use Rattle.fuxi_terms.proofs.Booleans.{either, number_is}
 use Rattle.fuxi_terms.proofs.KeyOrders.{same_key}
 use Rattle.written_world.proofs.SettledLemmas.{ranged_same, ready_rests}
-use Rattle.written_world.proofs.EventsWalk.{KeptBy, with_ready, act_keeps, run_keeps}
-use Rattle.std.specs.List.{AllByRecursion}
+use Rattle.written_world.proofs.EventsWalk.{KeptBy, with_ready, act_keeps, run_keeps, unasked}
 use Rattle.written_roles.specs.Preemption.{preempted}
 use Rattle.written_world.specs.World.{World, Step, empty_world}
 use Rattle.written_world.specs.Events.{Event, act}
@@ -201,11 +200,6 @@ masters_rest c h masters b = record {
 -- each event
 pub act_rests : (w : World) (e : Event) → AllRest w.cluster w.masters → StepRests (act w e)
 act_rests w e b = record { all = (act_keeps all_rest (λ _. ⊤) masters_rest w e tt b).it }
-
--- nothing more is known of any event
-unasked : (es : List Event) → AllByRecursion (λ (_ : Event). ⊤) es
-unasked [] = tt
-unasked (e ∷ es) = (tt, unasked es)
 
 -- in every state nothing is placeable in any running master
 pub nothing_placeable : (c : ClusterRecord) (es : List Event) (e : ℕ) (M : Master) → find nat_cmp e (run c es).masters ≡ Some M → (a u m : ℕ) → placeable (run c es).cluster M a u m ≡ false
