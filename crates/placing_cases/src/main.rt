@@ -1,0 +1,117 @@
+//! Worked cases of the table of grants, of groups and of placing. Each line of the input names a call with its
+//! arguments, and the answer is printed; a line that begins with `#` is printed as it is.
+#![tactic(auto)]
+
+ghost use Rattle.std.specs.Prelude.{◌≡◌, ◌<◌};
+
+mod desk;
+mod groups;
+mod jobs;
+mod stop;
+mod words;
+
+use cluster_desc::read_cluster;
+use desk::Desk;
+use grant_table::Steps;
+use std::alloc::Global;
+use std::io::{BufRead, BufReader};
+use std::marker::Brand;
+use std::process::ExitCode;
+use std::sync::ledger::{Blank, Ledger};
+use stop::Stop;
+use words::four_of;
+
+// The desk of the cluster that a line describes.
+fn opened<P: Print>(rt: &P, alloc: Global, rest: &str) -> Result<Option<Desk>, Stop> {
+    match read_cluster(alloc, rest.as_bytes()) {
+        Ok(cluster) => Ok(Some(Desk::start(alloc, &cluster)?)),
+        Err(fault) => {
+            println!(rt; "{fault}")?;
+            Ok(None)
+        }
+    }
+}
+
+// What a line reads or changes of a desk.
+fn at_desk<L: Ledger, P: Print>(
+    rt: &P,
+    alloc: Global,
+    desk: &mut Desk,
+    steps: &mut Steps<L>,
+    call: &str,
+    rest: &str,
+) -> Result<(), Stop> {
+    match call {
+        "demand" => jobs::ask(rt, alloc, desk, rest),
+        "held" => desk.held(rt, four_of(alloc, rest)?),
+        "room" => desk.room(rt, steps, four_of(alloc, rest)?),
+        _ => desk.change(rt, call, four_of(alloc, rest)?),
+    }
+}
+
+// What a line makes of a desk.
+fn of_desk<L: Ledger, P: Print>(
+    rt: &P,
+    alloc: Global,
+    desk: Desk,
+    steps: &mut Steps<L>,
+    call: &str,
+    rest: &str,
+) -> Result<Desk, Stop> {
+    match call {
+        "job" => jobs::admit(rt, alloc, desk, rest),
+        "settle" => desk.settle(rt, steps, 100),
+        _ => {
+            let mut desk = desk;
+            at_desk(rt, alloc, &mut desk, steps, call, rest)?;
+            Ok(desk)
+        }
+    }
+}
+
+// What a line names.
+fn answer<L: Ledger, P: Print>(
+    rt: &P,
+    alloc: Global,
+    desk: Option<Desk>,
+    steps: &mut Steps<L>,
+    line: &str,
+) -> Result<Option<Desk>, Stop> {
+    let (call, rest) = line.split_once(' ').unwrap_or((line, ""));
+    match call {
+        "cluster" => opened(rt, alloc, rest),
+        "group" => {
+            groups::answer(rt, alloc, rest)?;
+            Ok(desk)
+        }
+        _ => match desk {
+            Some(desk) => Ok(Some(of_desk(rt, alloc, desk, steps, call, rest)?)),
+            None => Ok(None),
+        },
+    }
+}
+
+fn run<L: Ledger>(rt: &HostRuntime, blank: Blank) -> Result<(), Stop>
+    requires name { blank.name ≡ L.name }
+    requires parts { blank.parts ≡ L.parts }
+    requires some { 0 < blank.parts }
+{
+    let alloc = rt.alloc();
+    let mut steps: Steps<L> = Steps::start(blank);
+    let mut desk = None;
+    for line in BufReader::new(alloc, rt.reader())?.lines(alloc) {
+        let line = line?;
+        println!(rt; "{line}")?;
+        if !line.is_empty() && !line.starts_with('#') {
+            desk = answer(rt, alloc, desk, &mut steps, &line)?;
+        }
+    }
+    Ok(())
+}
+
+fn main(rt: HostRuntime) -> ExitCode {
+    match run::<Brand>(&rt, Blank::new(1)) {
+        Ok(()) => ExitCode::SUCCESS,
+        Err(_) => ExitCode::FAILURE,
+    }
+}
