@@ -106,6 +106,30 @@ impl Desk {
         Ok(Desk { table, placer })
     }
 
+    /// Looks so often for the grant that is due first, and makes none.
+    pub fn look<L: Ledger>(self, steps: &mut Steps<L>, times: u64) -> Desk {
+        let Desk { table, placer } = self;
+        let mut placer = placer;
+        if placer.turns() >= 1 << 63 {
+            return Desk { table, placer };
+        }
+        placer.line_up(&table);
+        let mut settling = Settling { table, placer };
+        for _ in 0..times {
+            settling.look(steps);
+        }
+        let Settling { table, placer } = settling;
+        Desk { table, placer }
+    }
+
+    // Takes none of the grants of a unit so often.
+    fn touch(&mut self, app: AppNo, unit: UnitNo, machine: MachineNo, times: u64) -> u32 {
+        for _ in 0..times {
+            self.take(app, unit, machine, 0);
+        }
+        0
+    }
+
     // Takes so many grants, or as many as there are. A unit or machine that is not there is passed over.
     fn take(&mut self, app: AppNo, unit: UnitNo, machine: MachineNo, count: u64) -> u32 {
         levels();
@@ -126,6 +150,12 @@ impl Desk {
             "open" => self.open(machine_of(numbers[0]), true) as u32,
             "close" => self.open(machine_of(numbers[0]), false) as u32,
             "take" => self.take(
+                app_of(numbers[0]),
+                unit_of(numbers[1]),
+                machine_of(numbers[2]),
+                numbers[3],
+            ),
+            "touch" => self.touch(
                 app_of(numbers[0]),
                 unit_of(numbers[1]),
                 machine_of(numbers[2]),
@@ -185,6 +215,12 @@ fn machine_of(number: u64) -> MachineNo {
 }
 
 impl Settling {
+    // Looks for the first grant that is due, and makes none.
+    fn look<L: Ledger>(&mut self, steps: &mut Steps<L>) {
+        let Settling { table, placer } = self;
+        placer.next(table, steps);
+    }
+
     // Makes the first grant that is due.
     fn one<L: Ledger>(&mut self, steps: &mut Steps<L>) -> Option<Pick> {
         levels();

@@ -19,7 +19,7 @@ use std::marker::Brand;
 use std::process::ExitCode;
 use std::sync::ledger::{Blank, Ledger};
 use stop::Stop;
-use words::four_of;
+use words::{four_of, number_of};
 
 // The desk of the cluster that a line describes.
 fn opened<P: Print>(rt: &P, alloc: Global, rest: &str) -> Result<Option<Desk>, Stop> {
@@ -61,6 +61,7 @@ fn of_desk<L: Ledger, P: Print>(
     match call {
         "job" => jobs::admit(rt, alloc, desk, rest),
         "settle" => desk.settle(rt, steps, 100),
+        "next" => Ok(desk.look(steps, number_of(rest))),
         _ => {
             let mut desk = desk;
             at_desk(rt, alloc, &mut desk, steps, call, rest)?;
