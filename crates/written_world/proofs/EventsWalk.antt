@@ -22,9 +22,13 @@ use Rattle.written_world.specs.Parties.{end_step, told, received, adopted_now, m
 use Rattle.written_world.specs.Events.{Event, StartMaster, StopMaster, StartAgent, StartApp, Submit, Finish, Ban, Unban, Begin, Preempt, Want, Near, Rack, Avoid, GiveBack, TurnMaster, TurnAgent, TurnApp, ResyncMaster, ResyncAgent, ResyncApp, Deliver, DeliverRange, Dump, ShowState, at_master, at_agent, at_app, demanded, turned, turn_to_master, addressed, packet_of, deliver_one, deliver_all, given_back, agent_started, app_started, act, counted_in, world_step, asks, usable_now, resynced}
 use Rattle.written_world.specs.Runs.{run_from}
 use Rattle.fuxi_terms.proofs.Booleans.{either}
-use Rattle.written_world.proofs.MovesWalk.{found_has}
 use Rattle.written_world.proofs.CommandLemmas.{hard_has, submits_has, finishes_has, bans_has, unbans_has, begins_has, makes_room_has}
 use Rattle.written_roles.specs.Apps.{AppCommand, command_tests, command_key, command_number, Wants, WantsNear, WantsInRack, Avoids, GivesBack}
+
+-- what holds of what is found, and where nothing is
+pub found_has : {A B : Type 0} (P : B → Type 0) (o : Option A) (b : B) (f : A → B) → P b → ((x : A) → o ≡ Some x → P (f x)) → P (with_found o b f)
+found_has P None b f h k = h
+found_has P (Some x) b f h k = k x refl
 
 -- events of which no more need be known
 pub unasked : (es : List Event) → AllByRecursion (λ (_ : Event). ⊤) es
