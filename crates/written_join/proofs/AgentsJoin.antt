@@ -108,6 +108,8 @@ agent_start_alike w m b s none =
     let link : (agent_started w m b).net.links p master_id ≡ unknown = ap (λ c. elim c as (λ _. Link) [ true ↦ unknown | false ↦ w.net.links p master_id ]) (same_party_itself p) in
     let up : side_of (agent_started w m b).net p master_id ≡ new_side = ap (side_at (agent_started w m b).net p master_id) link ∙ ap (λ (h : List Ledger). record { link = unknown; got = row_ledger []; sent = h }) (none master_id) in
     record {
+      now = record { boot = b };
+      stands = refl;
       acts = quiet_acts w.net (agent_started w m b).net p s (start_leaves w.net p) (record { longer = (grows_itself w.net).longer }) refl;
       role = ap (λ (e : Side). record { machine = m; has = has_of w m; boot = b; up = e }) up;
     }

@@ -107,6 +107,8 @@ app_start_alike w a b s none =
     let link : (app_started w a b).net.links p master_id ≡ unknown = ap (λ c. elim c as (λ _. Link) [ true ↦ unknown | false ↦ w.net.links p master_id ]) (same_party_itself p) in
     let up : side_of (app_started w a b).net p master_id ≡ new_side = ap (side_at (app_started w a b).net p master_id) link ∙ ap (λ (h : List Ledger). record { link = unknown; got = nothing; sent = h }) (none master_id) in
     record {
+      now = record { boot = b; units = unit_count w.hard.jobs a; carried = [] };
+      stands = refl;
       acts = quiet_acts w.net (app_started w a b).net p s (start_leaves w.net p) (record { longer = (grows_itself w.net).longer }) refl;
       role = ap (λ (e : Side). record { job = a; units = unit_count w.hard.jobs a; cluster = w.cluster; boot = b; carried = []; up = e }) up;
     }

@@ -63,13 +63,18 @@ pub record MasterHearsAlike (excess : Id → Ledger → Option (Sum × Res)) (w 
   pub what : (master_hears_alone excess (master_seen w M) (parcel_of w.net x)).what ≡ (heard_of w.net (master_party M) (talks w.cluster M) x).what
 
 -- Starts
+-- the one that then stands in the world is the role as it starts
 pub record AgentStarts (w : World) (m b : ℕ) : Type 0 where
+  pub now : Agent
+  pub stands : (agent_started w m b).agents ≡ put nat_cmp m now w.agents
   pub acts : OneActs w.net (agent_started w m b).net (party (agent_id m) b) []
-  pub role : agent_seen (agent_started w m b) m (record { boot = b }) ≡ new_agent m (has_of w m) b
+  pub role : agent_seen (agent_started w m b) m now ≡ new_agent m (has_of w m) b
 
 pub record AppStarts (w : World) (a b : ℕ) : Type 0 where
+  pub now : App
+  pub stands : (app_started w a b).apps ≡ put nat_cmp a now w.apps
   pub acts : OneActs w.net (app_started w a b).net (party (app_id a) b) []
-  pub role : app_seen (app_started w a b) a (record { boot = b; units = unit_count w.hard.jobs a; carried = [] }) ≡ new_app a (unit_count w.hard.jobs a) w.cluster b
+  pub role : app_seen (app_started w a b) a now ≡ new_app a (unit_count w.hard.jobs a) w.cluster b
 
 -- a master starts with this hard state
 abbrev pub master_starts : World → HardState → List Party → ℕ → World
