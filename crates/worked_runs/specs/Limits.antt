@@ -3,7 +3,7 @@ use Rattle.std.specs.Prelude.{true, false, [], ◌∷◌}
 use Rattle.written_net.specs.Net.{Ack, Delta, Full}
 use Rattle.fuxi_terms.specs.declared.answers.What.TheVariants.{Ack as Acked, Old, Taken}
 use Rattle.written_world.specs.Outputs.{State, Fence, Job, MasterIs, Reported, Grant, Wait, AgentAt, Row, AppAt, Hold, Packets}
-use Rattle.written_world.specs.Events.{StartMaster, StartAgent, StartApp, Submit, Want, Near, Rack, Avoid, TurnMaster, TurnAgent, TurnApp, DeliverRange, ShowState}
+use Rattle.written_world.specs.Events.{StartMaster, StartAgent, StartApp, Submit, Want, Near, Rack, Avoid, Begin, TurnMaster, TurnAgent, TurnApp, Deliver, DeliverRange, ShowState}
 use Rattle.worked_runs.specs.Reading.{machine, group, cluster, unit, job, master, agent, app, sent, heard, heard_new, Run}
 
 -- a group that has reached its limit gets no more, though its machine has room; another group goes on
@@ -46,6 +46,34 @@ the_line_goes_before_the_machine_run = record {
   state =
       State 17 ∷ Fence 1 ∷ Job 0 0 false ∷ Job 1 0 false ∷ MasterIs 1 true ∷ Reported 1 0 ∷ Reported 1 1 ∷ Grant 1 0 0 1 1 ∷ Wait 1 1 0 1 ∷
       AgentAt 0 1 1 0 ∷ AgentAt 1 1 1 0 ∷ AppAt 0 1 1 0 ∷ AppAt 1 1 1 0 ∷ Packets 12 ∷ [];
+}
+
+-- a second master serves before it knows of the first one's grant, so the group gets more of the second resource than its limit. A unit
+-- of that group that needs none of it waits all the same
+abbrev pub a_limit_counts_where_nothing_is_needed_run : Run
+a_limit_counts_where_nothing_is_needed_run = record {
+  on = cluster 2 (machine 0 (100 ∷ 100 ∷ []) ∷ machine 0 (100 ∷ 100 ∷ []) ∷ []) (group (10 ∷ 10 ∷ []) (100 ∷ 10 ∷ []) ∷ []);
+  events =
+      StartMaster 1 ∷ StartAgent 0 1 ∷ StartAgent 1 1 ∷ Submit 1 (job 0 0 (unit 5 (1 ∷ 10 ∷ []) ∷ [])) ∷ Submit 1 (job 1 0 (unit 5 (1 ∷ 0 ∷ []) ∷ [])) ∷
+      StartApp 0 1 ∷ StartApp 1 1 ∷ Want 0 0 1 ∷ Want 1 0 1 ∷ TurnMaster 1 ∷ Deliver 1 ∷ Deliver 3 ∷ TurnAgent 0 ∷ TurnApp 0 ∷ Deliver 5 ∷ Deliver 7 ∷
+      Begin 1 ∷ TurnMaster 1 ∷ Deliver 9 ∷ StartMaster 2 ∷ TurnMaster 2 ∷ Deliver 17 ∷ TurnApp 0 ∷ Deliver 19 ∷ Deliver 16 ∷ TurnAgent 1 ∷ Deliver 21 ∷
+      Begin 2 ∷ Deliver 15 ∷ TurnAgent 0 ∷ Deliver 23 ∷ Deliver 18 ∷ TurnApp 1 ∷ Deliver 25 ∷ [];
+  lines =
+      sent 1 (master 1) (agent 0 0) Ack 0 0 48 ∷ sent 2 (master 1) (agent 1 0) Ack 0 0 48 ∷ sent 3 (master 1) (app 0 0) Ack 0 0 48 ∷
+      sent 4 (master 1) (app 1 0) Ack 0 0 48 ∷ heard_new 1 Acked ∷ heard_new 3 Acked ∷ sent 5 (agent 0 1) (master 1) Full 1 1 60 ∷
+      sent 6 (agent 0 1) (master 1) Ack 1 0 48 ∷ sent 7 (app 0 1) (master 1) Full 1 2 72 ∷ sent 8 (app 0 1) (master 1) Ack 1 0 48 ∷ heard_new 5 Taken ∷
+      heard_new 7 Taken ∷ sent 9 (master 1) (agent 0 1) Full 1 2 125 ∷ sent 10 (master 1) (agent 0 1) Ack 1 1 48 ∷
+      sent 11 (master 1) (agent 1 0) Ack 0 0 48 ∷ sent 12 (master 1) (app 0 1) Full 1 4 84 ∷ sent 13 (master 1) (app 0 1) Ack 1 2 48 ∷
+      sent 14 (master 1) (app 1 0) Ack 0 0 48 ∷ heard 9 Taken ∷ sent 15 (master 2) (agent 0 0) Ack 0 0 48 ∷ sent 16 (master 2) (agent 1 0) Ack 0 0 48 ∷
+      sent 17 (master 2) (app 0 0) Ack 0 0 48 ∷ sent 18 (master 2) (app 1 0) Ack 0 0 48 ∷ heard_new 17 Acked ∷ sent 19 (app 0 1) (master 2) Full 1 3 72 ∷
+      sent 20 (app 0 1) (master 2) Ack 2 0 48 ∷ heard_new 19 Taken ∷ heard_new 16 Acked ∷ sent 21 (agent 1 1) (master 2) Full 1 1 60 ∷
+      sent 22 (agent 1 1) (master 2) Ack 2 0 48 ∷ heard_new 21 Taken ∷ heard_new 15 Acked ∷ sent 23 (agent 0 1) (master 2) Full 1 2 133 ∷
+      sent 24 (agent 0 1) (master 2) Ack 2 0 48 ∷ heard_new 23 Taken ∷ heard_new 18 Acked ∷ sent 25 (app 1 1) (master 2) Full 1 2 72 ∷
+      sent 26 (app 1 1) (master 2) Ack 2 0 48 ∷ heard_new 25 Taken ∷ [];
+  state =
+      State 34 ∷ Fence 2 ∷ Job 0 0 false ∷ Job 1 0 false ∷ MasterIs 1 true ∷ Reported 1 0 ∷ Grant 1 0 0 0 1 ∷ MasterIs 2 true ∷ Reported 2 0 ∷
+      Reported 2 1 ∷ Grant 2 0 0 0 1 ∷ Grant 2 0 0 1 1 ∷ Wait 2 1 0 1 ∷ AgentAt 0 1 2 0 ∷ Row 0 0 0 1 ∷ AgentAt 1 1 2 0 ∷ AppAt 0 1 2 0 ∷ AppAt 1 1 2 0 ∷
+      Packets 26 ∷ [];
 }
 
 -- a unit that wants a rack gets machines of that rack first, and the others once the rack has as many as it wants

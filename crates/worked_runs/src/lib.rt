@@ -10,7 +10,7 @@ ghost use Rattle.worked_runs.specs.Failover.{a_report_of_a_new_boot_run, begin_a
 ghost use Rattle.worked_runs.specs.Refusals.{refusals_of_an_application_run, refusals_of_the_hard_state_run};
 ghost use Rattle.worked_runs.specs.Preemptions.{a_give_back_crosses_a_preemption_run, quota_shields_a_group_run, victims_that_are_not_needed_stay_run};
 ghost use Rattle.worked_runs.specs.Realistic.{twenty_machines_and_a_failover_run};
-ghost use Rattle.worked_runs.specs.Limits.{a_limit_stops_placing_run, a_rack_goes_before_the_rest_run, an_avoided_machine_gets_nothing_new_run, the_line_goes_before_the_machine_run};
+ghost use Rattle.worked_runs.specs.Limits.{a_limit_counts_where_nothing_is_needed_run, a_limit_stops_placing_run, a_rack_goes_before_the_rest_run, an_avoided_machine_gets_nothing_new_run, the_line_goes_before_the_machine_run};
 ghost use Rattle.worked_runs.specs.HardChanges.{a_report_of_a_banned_machine_run, finish_with_grants_out_run, stops_and_starts_that_are_refused_run, unban_settles_run};
 ghost use Rattle.worked_runs.specs.Again.{a_new_boot_counts_again_run, an_ack_of_an_older_index_run, resync_sends_the_whole_again_run};
 ghost use Rattle.worked_runs.specs.Taking.{quota_takes_from_a_group_above_its_own_run, the_greater_job_loses_first_run};
@@ -132,6 +132,11 @@ pub fn a_limit_stops_placing()
 /// smaller machine.
 pub fn the_line_goes_before_the_machine()
     ensures { Computes the_line_goes_before_the_machine_run }
+{}
+
+/// A group above its limit in one resource gets nothing, also where the unit needs none of that resource.
+pub fn a_limit_counts_where_nothing_is_needed()
+    ensures { Computes a_limit_counts_where_nothing_is_needed_run }
 {}
 
 /// A unit that wants a rack gets machines of that rack first, and the others once the rack has as many as it wants.
