@@ -3,8 +3,9 @@ use Rattle.std.proofs.Common.{Result, Ok, Err, ◌≡◌, ℕ, Bool, true, false
 use Rattle.std.specs.Prelude.{◌&&◌, ◌||◌}
 use Rattle.std.proofs.lemmas.List.{map-append, append-nil}
 use Rattle.std.specs.List.{AllByRecursion, flat_map}
-use Rattle.std.specs.Ordering.{nat_cmp}
-use Rattle.std.specs.FinMap.Entries.{put, find}
+use Rattle.std.specs.Ordering.{nat_cmp, is_eq}
+use Rattle.std.specs.Cmp.{nat_cmp_total, tied_itself}
+use Rattle.std.specs.FinMap.Entries.{put, find, find-put}
 use Rattle.fuxi_terms.specs.Cluster.{ClusterRecord, has_machine, has_group}
 use Rattle.fuxi_terms.specs.declared.vectors.Res.{Res}
 use Rattle.fuxi_terms.specs.declared.vectors.Sum.{Sum}
@@ -32,6 +33,7 @@ use Rattle.written_net.proofs.BoundedLemmas.{found_within}
 use Rattle.written_net.proofs.SoundLemmas.{Grows}
 use Rattle.written_net.proofs.PublishLemmas.{Leaves, set_here, publish_leaves, publish_grows, leaves_then, leaves_nothing, grows_then, grows_itself, comes_leaves, resync_all_acted, same_party_itself, start_leaves}
 use Rattle.written_world.proofs.Invariant.{ready_epoch}
+use Rattle.written_world.proofs.CreditsLemmas.{put_beside}
 use Rattle.written_roles.specs.MasterRoles.{MasterRole, set_side, publish_alone, offers_alone, ends_alone, MasterHeard, master_told, master_turn, resync_alone, master_commanded, master_changed}
 use Rattle.written_join.specs.Seen.{received_as, side_at, side_of, sides_of, parcel_of, master_seen}
 use Rattle.written_join.specs.Joins.{OneActs, MasterActs, Leads, MasterHearsAlike, MasterStarts, MasterCommanded}
@@ -101,6 +103,10 @@ peers_are c M = all_append IsPeer (map agent_id (below (length c.machines))) (ma
 offers_other : (e : ℕ) (f : Id → Bool) (g : Id → Ledger) (qs : List Id) → AllByRecursion IsPeer qs → AllByRecursion (IsOther (party master_id e)) (map (λ q. record { to = q; forced = f q; ledger = g q }) qs)
 offers_other e f g [] h = tt
 offers_other e f g (q ∷ qs) h = (record { to = h.0.to; from = h.0.from }, offers_other e f g qs h.1)
+
+-- what is put into a map is found there
+found_here : (k : ℕ) (M : Master) (masters : List (ℕ × Master)) → find nat_cmp k (put nat_cmp k M masters) ≡ Some M
+found_here k M masters = find-put nat_cmp nat_cmp_total k k M masters ∙ ap (λ r. cond (is_eq r) (Some M) (find nat_cmp k masters)) (tied_itself nat_cmp_total k)
 
 -- The end of a step
 pub ends_alike : (w : World) (net : Net Ledger) (M : Master) (forced : List Id) → master_seen (end_step w net M forced) (ready w.cluster M) ≡ ends_alone w.cluster (sides_of net (master_party M)) M forced
@@ -238,7 +244,8 @@ master_hears_alike excess w M which x there s to leads = by (talks w.cluster M x
         let r = master_seen w M in
         record {
           now = ready c now;
-          acts = subst (λ b. MasterActs w (cond b (end_step w net now forced) w) M (ready c now) (cond b (master_told r from k) (record { fresh = false; what = Stranger; role = r })).role []) (sym e) (record { acts = acts; role = role });
+          acts = subst (λ b. MasterActs w (cond b (end_step w net now forced) w) M (ready c now) (cond b (master_told r from k) (record { fresh = false; what = Stranger; role = r })).role []) (sym e) (record { acts = acts; role = role; stands = λ _. found_here (ready c now).epoch (ready c now) w.masters; others = λ e' no. put_beside (ready c now).epoch e' (ready c now) w.masters no; rest = refl });
+          hard = ap (λ b. (cond b (end_step w net now forced) w).hard) e;
           fresh = subst (λ b. (cond b (master_told r from k) (record { fresh = false; what = Stranger; role = r })).fresh ≡ h.fresh) (sym e) a.fresh;
           what = subst (λ b. (cond b (master_told r from k) (record { fresh = false; what = Stranger; role = r })).what ≡ h.what) (sym e) a.what;
         }
@@ -256,7 +263,8 @@ master_hears_alike excess w M which x there s to leads = by (talks w.cluster M x
         let unheard : MasterHeard = record { fresh = false; what = Stranger; role = r } in
         record {
           now = M;
-          acts = subst (λ b. MasterActs w (cond b (end_step w net now forced) w) M M (cond b (master_told r from k) unheard).role []) (sym e) (record { acts = quiet_acts w.net w.net p s (leaves_nothing p w.net) (grows_itself w.net) refl; role = refl });
+          acts = subst (λ b. MasterActs w (cond b (end_step w net now forced) w) M M (cond b (master_told r from k) unheard).role []) (sym e) (record { acts = quiet_acts w.net w.net p s (leaves_nothing p w.net) (grows_itself w.net) refl; role = refl; stands = λ f. f; others = λ _ _. refl; rest = refl });
+          hard = ap (λ b. (cond b (end_step w net now forced) w).hard) e;
           fresh = subst (λ b. (cond b (master_told r from k) unheard).fresh ≡ h.fresh) (sym e) (sym (ap (λ (y : Heard). y.fresh) none));
           what = subst (λ b. (cond b (master_told r from k) unheard).what ≡ h.what) (sym e) (sym (ap (λ (y : Heard). y.what) none));
         }
@@ -266,6 +274,9 @@ pub commanded_alike : (w : World) (hard : HardState) (M N : Master) (forced : Li
     → MasterActs w (end_step (record w { hard = hard }) w.net N forced) M (ready w.cluster N) (ends_alone w.cluster (sides_of w.net (master_party M)) N forced) []
 commanded_alike w hard M N forced epoch s = record {
   acts = subst (λ n. OneActs w.net (end_step (record w { hard = hard }) w.net N forced).net (party master_id n) []) epoch (ends_acts w (record w { hard = hard }) w.net N forced s (leaves_nothing (master_party N) w.net) (grows_itself w.net) refl);
+  stands = λ _. found_here (ready w.cluster N).epoch (ready w.cluster N) w.masters;
+  others = λ e no. put_beside (ready w.cluster N).epoch e (ready w.cluster N) w.masters no;
+  rest = refl;
   role = ends_alike (record w { hard = hard }) w.net N forced ∙ (λ i. ends_alone w.cluster (sides_of w.net (party master_id (epoch i))) N forced);
 }
 
@@ -354,6 +365,9 @@ master_turn_alike w M s =
         packets = ap (map (parcel_of net)) (sent_all w.net p qs) ∙ map-append (parcel_of net) w.net.packets (flat_map (λ q. turn w.net p q) qs)
             ∙ (λ i. map (parcel_of (record { links = net.links; histories = kept.1 i; packets = net.packets })) w.net.packets ++ turned_parcels w.net net p qs kept.1 i);
       };
+      stands = λ f. f;
+      others = λ _ _. refl;
+      rest = refl;
       role = λ i. record { cluster = w.cluster; state = M; sides = λ q. record { link = kept.0 i p q; got = received_as p.id q (at_index nothing (kept.1 i (party q (kept.0 i p q).known) p.id) (kept.0 i p q).seq); sent = kept.1 i p q } };
     }
 
@@ -388,6 +402,9 @@ master_resync_alike w M s =
     let grown : Grows shape w.net.histories (resync_all w.net p qs).histories = subst (Grows shape w.net.histories) (sym (resync_histories w.net p qs)) (record { longer = (grows_itself w.net).longer }) in
     record {
       acts = quiet_acts w.net (resync_all w.net p qs) p s r.leaves grown (resync_packets w.net p qs);
+      stands = λ f. f;
+      others = λ _ _. refl;
+      rest = refl;
       role = λ i. record { cluster = w.cluster; state = M; sides = resynced_sides w.net p qs i };
     }
 
@@ -416,10 +433,15 @@ master_start_alike w h ran e s none =
     let net = move w.net (Starts p) in
     let M = new_master h e in
     let forced = map app_id (job_numbers h.jobs) in
+    let R = ready w.cluster M in
     let sides : sides_of net p ≡ (λ q. new_side) = master_start_sides w.net e none ∙ (λ i q. record { link = unknown; got = nothing_received q i; sent = [] }) in
     record {
       acts = record {
         acts = ends_acts w (record w { hard = h; ran = ran }) net M forced s (start_leaves w.net p) (record { longer = (grows_itself w.net).longer }) refl;
         role = ends_alike (record w { hard = h; ran = ran }) net M forced ∙ ap (λ (z : Id → Side). ends_alone w.cluster z M forced) sides;
+        stands = λ _. found_here R.epoch R w.masters;
+        others = λ e' no. put_beside R.epoch e' R w.masters no;
+        rest = refl;
       };
+      stands = found_here R.epoch R w.masters;
     }

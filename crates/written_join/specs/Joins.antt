@@ -1,7 +1,7 @@
 -- The steps of the parties in the world, and those of the parties by themselves: one equation for each event.
-use Rattle.std.specs.Prelude.{◌≡◌, ℕ, ◌+◌, ◌≤◌, ◌++◌, false, List, [], length, map, Option, None, Result, Ok, Err}
+use Rattle.std.specs.Prelude.{◌≡◌, ℕ, ◌+◌, ◌≤◌, ◌++◌, nat_eq, false, List, [], length, map, Option, Some, None, Result, Ok, Err}
 use Rattle.std.specs.Ordering.{nat_cmp}
-use Rattle.std.specs.FinMap.Entries.{put}
+use Rattle.std.specs.FinMap.Entries.{find, put}
 use Rattle.fuxi_terms.specs.declared.vectors.Res.{Res}
 use Rattle.fuxi_terms.specs.declared.vectors.Sum.{Sum}
 use Rattle.fuxi_terms.specs.Jobs.{unit_count, job_numbers}
@@ -38,10 +38,14 @@ pub record AppActs (w w' : World) (a : ℕ) (g g' : App) (r : AppRole) (sent : L
   pub role : app_seen w' a g' ≡ r
   pub rest : w' ≡ record w { apps = w'.apps; net = w'.net }
 
--- a master acts, and is then this role
+-- a master acts, and is then this role. Where it stood in the world it stands there so; other masters stand as before, and of the rest
+-- only the hard state and what has run may be others
 pub record MasterActs (w w' : World) (M R : Master) (r : MasterRole) (sent : List Parcel) : Type 0 where
   pub acts : OneActs w.net w'.net (master_party M) sent
   pub role : master_seen w' R ≡ r
+  pub stands : find nat_cmp M.epoch w.masters ≡ Some M → find nat_cmp R.epoch w'.masters ≡ Some R
+  pub others : (e : ℕ) → nat_eq e R.epoch ≡ false → find nat_cmp e w'.masters ≡ find nat_cmp e w.masters
+  pub rest : w' ≡ record w { hard = w'.hard; ran = w'.ran; masters = w'.masters; net = w'.net }
 
 -- Hearing: the role's step, whether the sender is new, and the word
 pub record AgentHearsAlike (w : World) (m : ℕ) (g : Agent) (x : Packet) : Type 0 where
@@ -61,6 +65,7 @@ pub record MasterHearsAlike (excess : Id → Ledger → Option (Sum × Res)) (w 
   pub acts : MasterActs w (master_hears w M x) M now (master_hears_alone excess (master_seen w M) (parcel_of w.net x)).role []
   pub fresh : (master_hears_alone excess (master_seen w M) (parcel_of w.net x)).fresh ≡ (heard_of w.net (master_party M) (talks w.cluster M) x).fresh
   pub what : (master_hears_alone excess (master_seen w M) (parcel_of w.net x)).what ≡ (heard_of w.net (master_party M) (talks w.cluster M) x).what
+  pub hard : (master_hears w M x).hard ≡ w.hard
 
 -- Starts
 -- the one that then stands in the world is the role as it starts
@@ -82,6 +87,7 @@ master_starts w h ran e = end_step (record w { hard = h; ran = ran }) (move w.ne
 
 pub record MasterStarts (w : World) (h : HardState) (ran : List Party) (e : ℕ) : Type 0 where
   pub acts : MasterActs w (master_starts w h ran e) (new_master h e) (ready w.cluster (new_master h e)) (master_started w.cluster h e) []
+  pub stands : find nat_cmp (ready w.cluster (new_master h e)).epoch (master_starts w h ran e).masters ≡ Some (ready w.cluster (new_master h e))
 
 -- Commands: what one gives in the world is what it gives by itself
 pub record AppCommanded (w : World) (a : ℕ) (g : App) (s : Step) (r : Result AppRole Refusal) : Type 0 where
