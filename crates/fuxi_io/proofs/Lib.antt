@@ -1,3 +1,4 @@
 pub mod Cutting
 pub mod Known
 pub mod Taking
+pub mod Imaging

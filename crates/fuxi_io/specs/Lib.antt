@@ -5,3 +5,5 @@ pub mod Reading
 pub mod Memory
 pub mod Statuses
 pub mod Adapters
+pub mod Disks
+pub mod MemoryDisks

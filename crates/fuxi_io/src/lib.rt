@@ -2,16 +2,22 @@
 //! with which a command ends.
 #![tactic(auto)]
 
+mod disk;
+mod file_disk;
 mod lines;
 mod memory;
+mod memory_disk;
 mod outside;
 mod piece;
 mod standard;
 mod status;
 
+pub use disk::Disk;
+pub use file_disk::FileDisk;
 pub use fuxi_terms::OutOfMemory;
 pub use lines::{Got, LineReader, LineStop};
 pub use memory::{MemSink, MemSource};
+pub use memory_disk::MemDisk;
 pub use outside::{Failed, Sink, Source, WriteFault, write_all_of};
 pub use standard::{StdSink, StdSource};
 pub use status::{ClusterKey, InputFault, LimitOf, Status};
