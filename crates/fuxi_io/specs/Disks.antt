@@ -56,10 +56,9 @@ abbrev pub Syncs : {E : Type 0} → Result (Unit {0}) E → Told → Told → Ty
 Syncs (Ok done) old new = new ≡ then_told old (after_sync old.now)
 Syncs (Err fault) old new = new ≡ old
 
--- a relation of what is told before and after, where the disk tells it; a disk goes on telling, or not telling
+-- a relation of what is told before and after, where something was told before; then the object goes on telling
 abbrev pub WhereTold : (Told → Told → Type 0) → Option Told → Option Told → Type 0
-WhereTold relation None None = ⊤
-WhereTold relation None (Some new) = ⊥
+WhereTold relation None new = ⊤
 WhereTold relation (Some old) None = ⊥
 WhereTold relation (Some old) (Some new) = relation old new
 
