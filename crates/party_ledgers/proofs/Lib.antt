@@ -2,3 +2,4 @@ pub mod Patching
 pub mod Sizes
 pub mod RowReading
 pub mod Totals
+pub mod TotalAfter

@@ -30,7 +30,7 @@ pub record IsTestedTo (es : Entries) (cs : List (RowKey × ℤ)) (i len : ℕ) :
   pub untouched : (q : RowKey) → is_some (find row_cmp q (drop i cs)) ≡ true → count row_cmp mid q ≡ count row_cmp es q
 
 -- a key that stands above is another
-differs : (k q : RowKey) (cs : List (RowKey × ℤ)) → T (below_all row_cmp k cs) → is_some (find row_cmp q cs) ≡ true → eq_by_cmp row_cmp q k ≡ false
+pub differs : (k q : RowKey) (cs : List (RowKey × ℤ)) → T (below_all row_cmp k cs) → is_some (find row_cmp q cs) ≡ true → eq_by_cmp row_cmp q k ≡ false
 differs k q cs below found = elim (eq_by_cmp row_cmp q k) as (λ b. eq_by_cmp row_cmp q k ≡ b → b ≡ false) [
   | true ↦ λ t. let none : is_some (find row_cmp q cs) ≡ false = subst (λ x. is_some (find row_cmp x cs) ≡ false) (sym (same_row_key q k (tied _ t))) (ap is_some (below_none row_cmp k cs below)) in cc
   | false ↦ λ t. refl

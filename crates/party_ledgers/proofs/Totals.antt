@@ -38,7 +38,7 @@ plus_longer [] (y ∷ ys) le = absurd (omega (arith, le))
 plus_longer (x ∷ xs) [] le = refl
 plus_longer (x ∷ xs) (y ∷ ys) le = ap suc (plus_longer xs ys (omega (arith, le)))
 
-total_long : (es : Entries) → AllByRecursion IsRowEntry es → length (total_of (sized es)) ≤ 8
+pub total_long : (es : Entries) → AllByRecursion IsRowEntry es → length (total_of (sized es)) ≤ 8
 total_long [] h = lit≤ tt
 total_long (e ∷ es) h =
     let size : length (times e.1 e.0.size) ≡ 8 = length-times e.1 e.0.size ∙ h.0.key.places in
@@ -90,7 +90,7 @@ quantities (e ∷ es) p w =
     (is_true (are_quantities e.0.size) fit.1, quantities es p.1 w.1)
 
 -- each place of the total fits 128 bits
-total_fits : (es : Entries) → IsRow es → All (λ n. n < 2 ^ 128) (row_total es)
+pub total_fits : (es : Entries) → IsRow es → All (λ n. n < 2 ^ 128) (row_total es)
 total_fits es h =
     let few : sum_by (λ e. e.0) (sized es) ≤ 2 ^ 40 = omega (arith, sum_small es h.counts.within, h.few) in
     All-append (λ n. n < 2 ^ 128) (total_of (sized es)) (replicate (8 - length (total_of (sized es))) 0)

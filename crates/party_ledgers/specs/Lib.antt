@@ -5,3 +5,4 @@ pub mod Entries
 pub mod Joins
 pub mod Differing
 pub mod Packets
+pub mod Weighing

@@ -18,6 +18,7 @@ mod packets;
 mod row;
 mod row_forms;
 mod row_ledger;
+mod row_totals;
 mod shapes;
 
 pub use join::JoinLedger;

@@ -113,7 +113,10 @@ fn entries_after(len: usize, kept: u64, n: u64) -> usize
 }
 
 // Whether each of the changes can be made. Their keys differ, so each is tested on the entries as they are.
-fn test_changes(entries: &[(RowKey, u64)], changes: &[(RowKey, i64)]) -> Result<(), LedgerFault>
+pub(crate) fn test_changes(
+    entries: &[(RowKey, u64)],
+    changes: &[(RowKey, i64)],
+) -> Result<(), LedgerFault>
     requires row { IsRow entries.now }
     requires sorted { T (is_sorted row_cmp changes.now) }
     ensures ok { OnOk result (IsOk (patched_row entries.now changes.now)) }

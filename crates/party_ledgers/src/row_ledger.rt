@@ -6,11 +6,13 @@ ghost use Rattle.std.specs.List.{All, AllByRecursion};
 ghost use Rattle.fuxi_terms.specs.Keys.{RowKey as RowKeyRecord, row_cmp};
 ghost use Rattle.fuxi_terms.specs.Limits.{greatest_count};
 ghost use Rattle.fuxi_terms.specs.Counts.{AreCounts, count, is_no_change};
-ghost use Rattle.fuxi_terms.specs.Rows.{IsRow, AreRowChanges, IsRowChange, is_row_key, row_key, greatest_row, row_total};
+ghost use Rattle.fuxi_terms.specs.Rows.{IsRow, AreRowChanges, IsRowChange, is_row_key, row_key, greatest_row, row_total, patched_row};
+ghost use Rattle.party_ledgers.specs.Weighing.{TotalsAfter};
 ghost use Rattle.party_ledgers.specs.Entries.{entry_of};
 
 use crate::row::{RowKey, change_all, greatest};
 use crate::row_forms::{RowChanges, RowNumbers};
+use crate::row_totals::total_after;
 use fuxi_terms::limits::MOST_ENTRIES;
 use ledger_law::entries::{count_of, keys_rise};
 use ledger_law::forms::{read_counted, write_counted};
@@ -206,6 +208,17 @@ impl RowLedger {
         ensures { result.q ≡ row_total self.now }
     {
         total_of(&self.entries)
+    }
+
+    /// What all grants of the row that a change makes take together, where the total is that of this row. It makes
+    /// no change, takes no memory and looks at the entries of the change alone.
+    ///
+    /// The fault is the one with which the ledger refuses the change.
+    pub fn total_after(&self, total: &Sum, change: &RowChange) -> Result<Sum, LedgerFault>
+        requires { total.now.q ≡ row_total self.now }
+        ensures { TotalsAfter (patched_row self.now change.now) result }
+    {
+        total_after(&self.entries, total, &change.entries)
     }
 }
 
