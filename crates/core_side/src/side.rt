@@ -1,0 +1,399 @@
+ghost use Rattle.std.specs.Prelude.{◌≡◌, ◌+◌, ◌<◌, ◌^◌, ℕ, List, true, false, if◌then◌else◌, nat_lt, IsTrue, IfOk, OnOk, OnErr, IsOk, Ok, ◌++◌, map};
+ghost use Rattle.std.specs.List.{AllByRecursion};
+ghost use Rattle.full_sync.specs.Turns.{new_endpoint};
+ghost use Rattle.party_ledgers.specs.Packets.{IsFormed, is_number_of, is_bare};
+ghost use Rattle.written_net.specs.Sides.{Side as WrittenSide, new_side};
+ghost use Rattle.core_side.specs.Sides.{IsSide, SaysWord, HearsAlike, PostsAlike, ResyncsAlike, IsShown};
+ghost use Rattle.core_side.specs.Sending.{TurnsAlike, packet_for};
+ghost use Rattle.core_side.specs.Telling.{TellsWhy};
+ghost use Rattle.channel_join.specs.Alike.{told_as, stamp_of};
+ghost use Rattle.core_side.specs.Parcels.{packet_of};
+ghost use Rattle.delta_channel.specs.Hearing.{verdict_of};
+
+use crate::carried::Carried;
+use crate::limit::{Limit, Refusal};
+use channel_join::{links_are_one, words_are_one};
+use delta_channel::{Place, Stamp, Verdict};
+use full_sync::{Duplex, Note};
+use ledger_law::{LedgerFault, OutOfMemory};
+use party_ledgers::{Body, Heard, Kind, Packet, Packets, What};
+use schedule_unit::Party;
+use std::alloc::Global;
+use std::marker::Model;
+
+/// One side of a channel: sends a ledger `A` to a peer and receives a ledger `B` of it.
+///
+/// A contract sees both directions, as of a [`Duplex`]. What its calls do is said of every side of the written net that
+/// it stands for (`IsSide`).
+#[derive(Drop)]
+pub struct Side<A: Carried, B: Carried> {
+    ends: Duplex<A, B>,
+}
+
+impl<A: Carried, B: Carried> Model for Side<A, B> {
+    ghost use Rattle.full_sync.specs.Turns.{Endpoint};
+    ghost use Rattle.core_side.specs.Sending.{HaveForms};
+    ghost use Rattle.std.specs.Prelude.{◌≡◌};
+
+    ghost Value = { Endpoint A A.Delta B };
+
+    ghost view = { λ s. s.ends };
+
+    ghost invariant = { λ s. HaveForms A.has_delta_form s.ends.outgoing × (s.ends.incoming.place.inc ≡ 0 → s.ends.incoming.place.seq ≡ 0) };
+}
+
+impl<A: Carried, B: Carried> Side<A, B> {
+    /// The side of a party of incarnation `own` that has sent nothing and knows no peer.
+    pub fn start(alloc: Global, own: u64) -> Result<Side<A, B>, OutOfMemory>
+        ensures value { IfOk result (λ s. s ≡ new_endpoint A.nothing B.nothing own) }
+        ensures stands { IfOk result (λ s. IsSide A.nothing A.patched A.has_form A.stated B.stated s own new_side) }
+    {
+        Ok(Side {
+            ends: Duplex::start(alloc, own)?,
+        })
+    }
+
+    /// Hears a packet of the peer that is for this party: of an earlier incarnation, of the known one, or of a greater one,
+    /// which becomes the known one. A whole ledger that is taken is copied; a change is made in place.
+    ///
+    /// The measure is that of the ledger that was received, before and after. Where memory is refused the side and the measure
+    /// are lost: what was heard of them is not told.
+    pub fn hear<L: Limit<B>>(
+        &mut self,
+        alloc: Global,
+        packet: &Packet,
+        limit: &L,
+        measure: &mut L::Measure,
+    ) -> Result<Heard, OutOfMemory>
+        requires formed { IsFormed packet.now }
+        requires no_end { packet.now.kind ≡ Kind.End → ⊥ }
+        requires from { packet.now.from.role ≡ B.from_role }
+        requires to { packet.now.to.role ≡ B.to_role }
+        requires measured { L.measures limit.now measure.old self.old.incoming.received }
+        ensures hears { IfOk result (HearsAlike A.nothing A.patched A.has_form A.stated B.stated (L.excess limit.now) packet.now self.old self.new) }
+        ensures measured { OnOk result (L.measures limit.now measure.new self.new.incoming.received) }
+        ensures fresh { IfOk result (λ heard. heard.fresh ≡ nat_lt self.old.incoming.place.inc packet.now.from.inc) }
+        ensures peer { self.new.incoming.place.inc ≡ (if nat_lt self.old.incoming.place.inc packet.now.from.inc then packet.now.from.inc else self.old.incoming.place.inc) }
+        ensures outgoing { self.new.outgoing ≡ self.old.outgoing }
+    {
+        let known = self.ends.peer();
+        if packet.from.inc < known {
+            return Ok(Heard {
+                fresh: false,
+                what: What::Stale,
+            });
+        }
+        let fresh = self.ends.hear(alloc, packet.from.inc);
+        if fresh {
+            *measure = limit.nothing();
+        }
+        let what = self.hear_known(alloc, packet, limit, measure)?;
+        Ok(Heard { fresh, what })
+    }
+
+    // Hears a packet of the known incarnation.
+    fn hear_known<L: Limit<B>>(
+        &mut self,
+        alloc: Global,
+        packet: &Packet,
+        limit: &L,
+        measure: &mut L::Measure,
+    ) -> Result<What, OutOfMemory>
+        requires formed { IsFormed packet.now }
+        requires no_end { packet.now.kind ≡ Kind.End → ⊥ }
+        requires from { packet.now.from.role ≡ B.from_role }
+        requires to { packet.now.to.role ≡ B.to_role }
+        requires known { packet.now.from.inc ≡ self.old.incoming.place.inc }
+        requires measured { L.measures limit.now measure.old self.old.incoming.received }
+        ensures hears { IfOk result (λ what. HearsAlike A.nothing A.patched A.has_form A.stated B.stated (L.excess limit.now) packet.now self.old self.new (record { fresh = false; what = what })) }
+        ensures measured { OnOk result (L.measures limit.now measure.new self.new.incoming.received) }
+        ensures peer { self.new.incoming.place.inc ≡ self.old.incoming.place.inc }
+        ensures outgoing { self.new.outgoing ≡ self.old.outgoing }
+    {
+        match packet.kind {
+            Kind::Ack => {
+                links_are_one();
+                self.ends.on_ack(packet.from.inc, packet.place);
+                Ok(What::Ack)
+            }
+            Kind::Full => self.hear_whole(alloc, packet, limit, measure),
+            Kind::Delta => self.hear_change(alloc, packet, limit, measure),
+            Kind::End => unreachable!(),
+        }
+    }
+
+    // The verdict on a Full or a Delta of the known incarnation.
+    fn judge(&self, packet: &Packet, stamp: &Stamp) -> Verdict
+        requires kind { is_bare packet.now.kind ≡ false }
+        requires known { packet.now.from.inc ≡ self.now.incoming.place.inc }
+        requires place { packet.now.place.inc ≡ packet.now.from.inc }
+        requires stamp { stamp.now ≡ stamp_of (packet_of packet.now) }
+        ensures verdict { result ≡ verdict_of self.now.incoming.own self.now.incoming.place stamp.now }
+        ensures word { SaysWord A.nothing A.patched A.has_form A.stated B.stated packet.now self.now (told_as result) }
+    {
+        words_are_one();
+        let _own = self.ends.own();
+        self.ends.verdict(stamp)
+    }
+
+    // Hears a whole ledger.
+    fn hear_whole<L: Limit<B>>(
+        &mut self,
+        alloc: Global,
+        packet: &Packet,
+        limit: &L,
+        measure: &mut L::Measure,
+    ) -> Result<What, OutOfMemory>
+        requires formed { IsFormed packet.now }
+        requires kind { packet.now.kind ≡ Kind.Full }
+        requires from { packet.now.from.role ≡ B.from_role }
+        requires to { packet.now.to.role ≡ B.to_role }
+        requires known { packet.now.from.inc ≡ self.old.incoming.place.inc }
+        requires measured { L.measures limit.now measure.old self.old.incoming.received }
+        ensures hears { IfOk result (λ what. HearsAlike A.nothing A.patched A.has_form A.stated B.stated (L.excess limit.now) packet.now self.old self.new (record { fresh = false; what = what })) }
+        ensures measured { OnOk result (L.measures limit.now measure.new self.new.incoming.received) }
+        ensures peer { self.new.incoming.place.inc ≡ self.old.incoming.place.inc }
+        ensures outgoing { self.new.outgoing ≡ self.old.outgoing }
+    {
+        let stamp = stamp_of(packet);
+        let verdict = self.judge(packet, &stamp);
+        if verdict != Verdict::Take {
+            return Ok(told_as(verdict));
+        }
+        let ledger = B::whole_in(&packet.body);
+        match limit.whole(ledger) {
+            Ok(next) => *measure = next,
+            Err(excess) => return Ok(What::Exceeds {
+                total: excess.total,
+                has: excess.has,
+            }),
+        }
+        let ledger = ledger.copy(alloc)?;
+        self.ends.take_full(&stamp, ledger);
+        Ok(What::Taken)
+    }
+
+    // Hears a change.
+    fn hear_change<L: Limit<B>>(
+        &mut self,
+        alloc: Global,
+        packet: &Packet,
+        limit: &L,
+        measure: &mut L::Measure,
+    ) -> Result<What, OutOfMemory>
+        requires formed { IsFormed packet.now }
+        requires kind { packet.now.kind ≡ Kind.Delta }
+        requires from { packet.now.from.role ≡ B.from_role }
+        requires to { packet.now.to.role ≡ B.to_role }
+        requires known { packet.now.from.inc ≡ self.old.incoming.place.inc }
+        requires measured { L.measures limit.now measure.old self.old.incoming.received }
+        ensures hears { IfOk result (λ what. HearsAlike A.nothing A.patched A.has_form A.stated B.stated (L.excess limit.now) packet.now self.old self.new (record { fresh = false; what = what })) }
+        ensures measured { OnOk result (L.measures limit.now measure.new self.new.incoming.received) }
+        ensures peer { self.new.incoming.place.inc ≡ self.old.incoming.place.inc }
+        ensures outgoing { self.new.outgoing ≡ self.old.outgoing }
+    {
+        let stamp = stamp_of(packet);
+        let verdict = self.judge(packet, &stamp);
+        if verdict != Verdict::Take {
+            return Ok(told_as(verdict));
+        }
+        let change = B::change_in(&packet.body);
+        let next = match limit.change(measure, self.ends.got(), change) {
+            Ok(next) => next,
+            Err(refusal) => return word_of(refusal),
+        };
+        match self.ends.take_delta(alloc, &stamp, change) {
+            Ok(()) => {}
+            Err(fault) => return word_of(Refusal::Ledger(fault)),
+        }
+        *measure = next;
+        Ok(What::Taken)
+    }
+
+    /// Makes a change to the ledger that is sent, where the last index is below 2^62. The change leads to a ledger, and has
+    /// a written form.
+    ///
+    /// Want of memory leaves all as it was.
+    pub fn post(&mut self, alloc: Global, change: A::Delta) -> Result<(), OutOfMemory>
+        requires last { self.old.outgoing.last < 2 ^ 62 }
+        requires leads { IsOk (A.patched self.old.outgoing.present change) }
+        requires form { A.has_delta_form change }
+        ensures made { OnOk result (A.patched self.old.outgoing.present change ≡ Ok self.new.outgoing.present) }
+        ensures posts { OnOk result (PostsAlike A.nothing A.patched A.has_form A.stated B.stated self.old self.new) }
+        ensures last { OnOk result (self.new.outgoing.last ≡ self.old.outgoing.last + 1) }
+        ensures own { self.new.outgoing.own ≡ self.old.outgoing.own }
+        ensures rest { self.new ≡ record self.old { outgoing = self.new.outgoing } }
+        ensures err { OnErr result (self.new ≡ self.old) }
+    {
+        match self.ends.post(alloc, change) {
+            Ok(_) => {}
+            Err(_) => return Err(OutOfMemory),
+        }
+        self.ends.sent().is_valid();
+        Ok(())
+    }
+
+    /// Appends the packets of one turn from the party with the number `own` to the peer with the number `peer`: what the
+    /// peer lacks, and then an acknowledgement. It changes nothing of the side.
+    ///
+    /// Want of memory may leave some of them appended.
+    pub fn turn(
+        &self,
+        alloc: Global,
+        own: u32,
+        peer: u32,
+        packets: &mut Packets,
+    ) -> Result<(), OutOfMemory>
+        requires own { IsTrue (is_number_of A.from_role own) }
+        requires peer { IsTrue (is_number_of A.to_role peer) }
+        requires started { 0 < self.now.outgoing.own }
+        ensures turns { OnOk result (TurnsAlike A.nothing A.patched A.has_form A.stated B.stated self.now A.from_role own A.to_role peer packets.old packets.new) }
+        ensures formed { AllByRecursion IsFormed packets.old → OnOk result (AllByRecursion IsFormed packets.new) }
+    {
+        let from = Party {
+            role: A::sender(),
+            number: own,
+            inc: self.ends.own(),
+        };
+        let to = Party {
+            role: A::receiver(),
+            number: peer,
+            inc: self.ends.peer(),
+        };
+        let notes = self.ends.turn(alloc)?;
+        append_packets(notes.into_vec(), from, to, packets)
+    }
+
+    /// Forgets what the peer has acknowledged, so that the next turn sends the whole ledger.
+    pub fn resync(&mut self)
+        ensures resyncs { ResyncsAlike A.nothing A.patched A.has_form A.stated B.stated self.old self.new }
+        ensures after { self.new ≡ record self.old { acked = 0 } }
+    {
+        self.ends.resync();
+    }
+
+    /// The ledger that is sent is shown already: where nothing is changed nothing is due. It does nothing.
+    pub fn is_shown(&self)
+        ensures { IsShown A.nothing A.patched A.has_form A.stated B.stated self.now }
+    {}
+
+    /// The incarnation of this party.
+    pub fn own(&self) -> u64
+        ensures { result ≡ self.now.outgoing.own }
+    {
+        self.ends.own()
+    }
+
+    /// The known incarnation of the peer, 0 where none is known.
+    pub fn peer(&self) -> u64
+        ensures { result ≡ self.now.incoming.place.inc }
+    {
+        self.ends.peer()
+    }
+
+    /// The place in the peer's history.
+    pub fn place(&self) -> Place
+        ensures { result ≡ self.now.incoming.place }
+    {
+        self.ends.place()
+    }
+
+    /// The last index of what is sent.
+    pub fn last(&self) -> u64
+        ensures { result ≡ self.now.outgoing.last }
+    {
+        self.ends.last()
+    }
+
+    /// The ledger that is sent.
+    pub fn sent(&self) -> &A
+        ensures { result.now ≡ self.now.outgoing.present }
+    {
+        self.ends.sent()
+    }
+
+    /// What came of the peer's ledger: the one with no entry where nothing came.
+    pub fn got(&self) -> &B
+        ensures received { result.now ≡ self.now.incoming.received }
+        ensures nothing { self.now.incoming.place.seq ≡ 0 → self.now.incoming.received ≡ B.nothing }
+    {
+        self.ends.got()
+    }
+}
+
+// What stands on a packet.
+fn stamp_of(packet: &Packet) -> Stamp
+    ensures { result ≡ stamp_of (packet_of packet.now) }
+{
+    Stamp {
+        from: packet.from.inc,
+        to: packet.to.inc,
+        full: matches!(packet.kind, Kind::Full),
+        place: packet.place,
+    }
+}
+
+// How a verdict is told.
+fn told_as(verdict: Verdict) -> What
+    ensures { result ≡ told_as verdict }
+{
+    match verdict {
+        Verdict::Take => What::Taken,
+        Verdict::Old => What::Old,
+        Verdict::Gap => What::Gap,
+        Verdict::NotMine => What::NotMine,
+        Verdict::Stale => What::Stale,
+    }
+}
+
+// How a refusal is told. Want of memory is none.
+fn word_of(refusal: Refusal) -> Result<What, OutOfMemory>
+    ensures { TellsWhy refusal result }
+{
+    match refusal {
+        Refusal::Ledger(LedgerFault::OutOfMemory) => Err(OutOfMemory),
+        Refusal::Ledger(fault) => Ok(What::Ledger(fault)),
+        Refusal::Exceeds { total, has } => Ok(What::Exceeds { total, has }),
+    }
+}
+
+// Appends the packets of these notes.
+fn append_packets<A: Carried>(
+    notes: Vec<Note<A>>,
+    from: Party,
+    to: Party,
+    packets: &mut Packets,
+) -> Result<(), OutOfMemory>
+    ensures { OnOk result (packets.new ≡ packets.old ++ map (packet_for A.whole A.changed from to) notes.items) }
+{
+    for note in notes {
+        packets.push(packet_for(note, from, to))?;
+    }
+    Ok(())
+}
+
+// The packet of a note.
+fn packet_for<A: Carried>(note: Note<A>, from: Party, to: Party) -> Packet
+    ensures { result ≡ packet_for A.whole A.changed from to note }
+{
+    let (kind, place, body) = match note {
+        Note::Full(seq, ledger) => (
+            Kind::Full,
+            Place { inc: from.inc, seq },
+            ledger.whole_body(),
+        ),
+        Note::Delta(seq, change) => (
+            Kind::Delta,
+            Place { inc: from.inc, seq },
+            A::change_body(change),
+        ),
+        Note::Ack(place) => (Kind::Ack, place, Body::Nothing),
+    };
+    Packet {
+        from,
+        to,
+        kind,
+        place,
+        body,
+    }
+}
