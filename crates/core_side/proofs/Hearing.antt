@@ -1,5 +1,5 @@
 -- Each answer to a packet of the peer is the one of the side that is stood for. For any two kinds of ledger.
-use Rattle.std.proofs.Common.{◌≡◌, ℕ, ◌+◌, ◌<◌, Bool, true, false, cond, not, nat_eq, nat_lt, List, [], ◌∷◌, length, Option, Some, None, Result, Ok, Err, refl, sym, ◌∙◌, ap, subst, arith}
+use Rattle.std.proofs.Common.{◌≡◌, ℕ, ◌<◌, Bool, true, false, cond, not, nat_eq, nat_lt, length, Option, Some, None, Result, Ok, Err, refl, sym, ◌∙◌, ap, subst, arith}
 use Rattle.std.specs.Prelude.{◌&&◌, if◌then◌else◌, IsTrue, IfOk}
 use Rattle.std.proofs.lemmas.Bool.Decides.{nat_tests}
 use Rattle.fuxi_terms.specs.declared.OutOfMemory.{OutOfMemory}
@@ -27,8 +27,8 @@ use Rattle.fuxi_terms.specs.Counts.{then_do}
 use Rattle.party_ledgers.specs.declared.packets.Kind.TheVariants.{Ack as AckHere, Delta as DeltaHere, Full as FullHere, End}
 use Rattle.party_ledgers.specs.declared.packets.Packet.{Packet as PacketHere}
 use Rattle.written_net.specs.Net.{Party, Id, Link, Packet, Kind, Ack, Delta, Full, Heard as HeardThere, same_id, met, acknowledge, place_moved, unmoved, hear, word_of, link_after}
-use Rattle.written_net.specs.Ledgers.{Ledger, nothing, Body}
-use Rattle.written_net.specs.Sides.{Side, Parcel, HeardSide, heard_as, heard_with, hears_side, taken_as, tested, patched_by, Taking, Took, TooMuch, Refused, unless_excess}
+use Rattle.written_net.specs.Ledgers.{Ledger, nothing}
+use Rattle.written_net.specs.Sides.{Side, Parcel, HeardSide, heard_with, hears_side, taken_as, tested, patched_by, Taking, Took, TooMuch, Refused, unless_excess}
 use Rattle.core_side.specs.Parcels.{id_of, party_of, kind_of, content_of, packet_of, parcel_is}
 use Rattle.core_side.specs.Sides.{IsSide, SaysWord, Hears, HearsAlike}
 use Rattle.core_side.specs.Telling.{Tells, TellsWhy}

@@ -1,8 +1,7 @@
 -- What holds of both directions that stand for a side, and the side after each of their calls.
-use Rattle.std.proofs.Common.{◌≡◌, ℕ, zero, suc, ◌+◌, Bool, true, false, cond, not, nat_eq, nat_lt, List, [], ◌∷◌, ◌++◌, length, map, Option, Some, None, Result, slice_get, refl, sym, ◌∙◌, ap, subst, arith, add-one}
+use Rattle.std.proofs.Common.{◌≡◌, ℕ, suc, ◌+◌, true, false, cond, not, nat_eq, List, [], ◌∷◌, ◌++◌, length, Result, slice_get, refl, sym, ◌∙◌, ap, subst, add-one}
 use Rattle.std.specs.Prelude.{◌&&◌}
 use Rattle.std.specs.Option.{unwrap_or}
-use Rattle.std.specs.List.{AllByRecursion}
 use Rattle.std.proofs.lemmas.List.{map-append}
 use Rattle.fuxi_terms.specs.Counts.{is_same}
 use Rattle.fuxi_terms.specs.Keys.{key_cmp, row_cmp}
@@ -17,8 +16,8 @@ use Rattle.full_sync.specs.Turns.{Endpoint}
 use Rattle.channel_join.specs.Alike.{place_at}
 use Rattle.written_net.specs.Net.{Link, at_index}
 use Rattle.written_net.specs.Ledgers.{Ledger, nothing, same_ledger}
-use Rattle.written_net.specs.Sides.{Side, shown, appended}
-use Rattle.core_side.specs.Sides.{IsSide, Posts, PostsAlike, IsShown}
+use Rattle.written_net.specs.Sides.{Side, shown}
+use Rattle.core_side.specs.Sides.{IsSide, PostsAlike, IsShown}
 
 -- ledgers that a test finds the same
 pub ledger_is : (a b : Ledger) → same_ledger a b ≡ true → a ≡ b

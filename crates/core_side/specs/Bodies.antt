@@ -1,9 +1,8 @@
 -- What a change in a body says: it is the difference of the two ledgers, which the law of differences gives.
-use Rattle.std.specs.Prelude.{◌≡◌, ℕ, ℤ, Bool, IsTrue, nat_eq, cond, List, Result, Ok}
-use Rattle.std.proofs.Common.{refl, sym, ◌∙◌, ap}
+use Rattle.std.specs.Prelude.{◌≡◌, ℕ, ℤ, Bool, IsTrue, nat_eq, cond, List, Ok}
+use Rattle.std.proofs.Common.{sym, ◌∙◌, ap}
 use Rattle.fuxi_terms.specs.Keys.{RowKey}
 use Rattle.fuxi_terms.specs.Rows.{IsRow, IsRowChange, patched_row}
-use Rattle.fuxi_terms.specs.declared.Key.{Key}
 use Rattle.fuxi_terms.specs.declared.answers.LedgerFault.TheVariants.{Below, TooGreat}
 use Rattle.fuxi_terms.specs.Tallies.{TallyRecord, ChangeRecord, patched_tally, tally_difference}
 use Rattle.fuxi_terms.specs.Counts.{then_do}
@@ -11,7 +10,7 @@ use Rattle.fuxi_terms.specs.TallyKeys.{greatest_grant, greatest_demand, credited
 use Rattle.ledger_law.specs.Differing.{tally_by_difference}
 use Rattle.ledger_law.specs.Shapes.{IsTally, IsChange}
 use Rattle.party_ledgers.specs.Differing.{row_by_difference, replaced}
-use Rattle.party_ledgers.specs.Joins.{JoinRecord, IsJoin}
+use Rattle.party_ledgers.specs.Joins.{JoinRecord}
 use Rattle.written_net.specs.Ledgers.{Ledger, RowChanges, Report, TallyChange, row_ledger, report_ledger, tally_ledger, change_body}
 use Rattle.written_net.specs.Channels.{is_agent, dropped_by}
 use Rattle.written_net.specs.Sides.{patched_by}

@@ -3,7 +3,6 @@ use Rattle.std.specs.Prelude.{◌≡◌, ℕ, ◌++◌, List, map, Result}
 use Rattle.std.specs.List.{AllByRecursion}
 use Rattle.fuxi_terms.specs.declared.answers.LedgerFault.{LedgerFault}
 use Rattle.delta_channel.specs.Standing.{Sending, KeepsLatest}
-use Rattle.delta_channel.specs.declared.receiver.Place.{Place}
 use Rattle.full_sync.specs.Turns.{Endpoint}
 use Rattle.full_sync.specs.declared.duplex.Note.{Note}
 use Rattle.full_sync.specs.declared.duplex.Note.TheVariants.{Delta, Full, Ack}
@@ -15,7 +14,7 @@ use Rattle.party_ledgers.specs.declared.packets.Body.{Body}
 use Rattle.party_ledgers.specs.declared.packets.Body.TheVariants.{Nothing}
 use Rattle.written_net.specs.Ledgers.{Ledger}
 use Rattle.written_net.specs.Sides.{Side, turn_parcels}
-use Rattle.core_side.specs.Parcels.{party_of, id_of, parcel_is}
+use Rattle.core_side.specs.Parcels.{id_of, parcel_is}
 use Rattle.core_side.specs.Sides.{IsSide}
 
 -- every change that is kept has a written form, as every change that was ever posted

@@ -1,5 +1,5 @@
 -- When both directions between two parties stand for a side of the written net, and what their calls make of every side that they stand for.
-use Rattle.std.specs.Prelude.{◌≡◌, ℕ, ◌+◌, Bool, true, false, List, ◌∷◌, length, map, Option, Result}
+use Rattle.std.specs.Prelude.{◌≡◌, ℕ, true, false, List, ◌∷◌, length, map, Option, Result}
 use Rattle.std.specs.List.{AllByRecursion}
 use Rattle.fuxi_terms.specs.declared.answers.LedgerFault.{LedgerFault}
 use Rattle.fuxi_terms.specs.declared.answers.What.{What}

@@ -261,7 +261,9 @@ impl<A: Carried, B: Carried> Side<A, B> {
             inc: self.ends.peer(),
         };
         let notes = self.ends.turn(alloc)?;
-        append_packets(notes.into_vec(), from, to, packets)
+        let _acked = self.ends.acked();
+        append_packets(notes.into_vec(), from, to, packets)?;
+        Ok(())
     }
 
     /// Forgets what the peer has acknowledged, so that the next turn sends the whole ledger.

@@ -1,4 +1,4 @@
-use Rattle.std.proofs.Common.{◌≡◌, subst}
+use Rattle.std.proofs.Common.{subst}
 use Rattle.core_side.specs.Sides.{HearsAlike}
 use Rattle.core_side.proofs.Hearing.{met_alike}
 use Rattle.core_side.proofs.side.Side.hear.Goals as goal

@@ -1,8 +1,6 @@
 use Rattle.std.proofs.Common.{rules, ◌≡◌, false, Ok, refl, sym, ◌∙◌, ap, subst}
 use Rattle.delta_channel.specs.declared.receiver.Verdict.TheVariants.{Take}
-use Rattle.fuxi_terms.specs.declared.answers.What.TheVariants.{Taken}
 use Rattle.party_ledgers.specs.Packets.{is_bare}
-use Rattle.party_ledgers.specs.declared.packets.Heard.{Heard}
 use Rattle.channel_join.specs.Alike.{told_as}
 use Rattle.written_net.specs.Sides.{patched_by}
 use Rattle.core_side.specs.Parcels.{party_of, content_of}

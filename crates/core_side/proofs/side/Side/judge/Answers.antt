@@ -1,4 +1,4 @@
-use Rattle.std.proofs.Common.{◌≡◌, None, sym, ◌∙◌, ap, subst}
+use Rattle.std.proofs.Common.{None, sym, ◌∙◌, ap, subst}
 use Rattle.delta_channel.specs.Hearing.{verdict_of}
 use Rattle.channel_join.specs.Alike.{told_as}
 use Rattle.core_side.specs.Sides.{SaysWord}

@@ -1,5 +1,4 @@
-use Rattle.std.proofs.Common.{◌≡◌, ap, subst}
-use Rattle.full_sync.specs.Turns.{Endpoint}
+use Rattle.std.proofs.Common.{ap, subst}
 use Rattle.core_side.specs.Sides.{PostsAlike}
 use Rattle.core_side.proofs.Keeping.{posts_alike}
 use Rattle.core_side.proofs.side.Side.post.Goals as goal
