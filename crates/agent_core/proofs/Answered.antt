@@ -1,0 +1,64 @@
+-- An agent's answers to packets of the known and of a new incarnation of its master are those of the agent by itself.
+use Rattle.std.proofs.Common.{◌≡◌, ℕ, ◌<◌, true, false, cond, nat_eq, List, sym, ◌∙◌, ap, subst, arith}
+use Rattle.std.specs.Prelude.{◌&&◌}
+use Rattle.fuxi_terms.specs.Keys.{RowKey}
+use Rattle.fuxi_terms.proofs.Booleans.{both_true, number_is}
+use Rattle.party_ledgers.specs.Joins.{no_join, IsJoin}
+use Rattle.party_ledgers.specs.Differing.{replaced}
+use Rattle.party_ledgers.specs.declared.packets.Heard.{Heard}
+use Rattle.party_ledgers.specs.declared.packets.Packet.{Packet}
+use Rattle.written_net.specs.Net.{Id, same_id}
+use Rattle.written_net.specs.Ledgers.{Ledger, row_ledger, report_ledger}
+use Rattle.written_net.specs.Channels.{agent_id, is_master}
+use Rattle.written_net.specs.Sides.{HeardSide, hears_side, appended}
+use Rattle.written_roles.specs.Agents.{AgentRole, agent_party, table_by, row_excess, agent_told, agent_hears_alone}
+use Rattle.core_side.specs.Bodies.{report_of}
+use Rattle.core_side.specs.Parcels.{packet_of, parcel_is}
+use Rattle.core_side.specs.Sides.{HearsAlike, PostsAlike}
+use Rattle.agent_core.specs.Standing.{AgentCore, Up, IsUp, StandsFor}
+use Rattle.agent_core.specs.Answering.{Answers}
+
+id_is : (a b : Id) → same_id a b ≡ true → a ≡ b
+id_is a b t =
+    let h = both_true (nat_eq a.role b.role) (nat_eq a.number b.number) t in
+    let role = number_is a.role b.role h.0 in
+    let number = number_is a.number b.number h.1 in
+    λ i. record { role = role i; number = number i }
+
+module _ (old : AgentCore) (x : Packet) (mine : (same_id (packet_of x).to.id (agent_id old.machine) && is_master (packet_of x).from.id) ≡ true) (r : AgentRole) (s : StandsFor old r) where
+  abbrev heard_by : HeardSide
+  heard_by = hears_side (agent_party r) true (row_excess old.has) r.up (parcel_is x)
+
+  parts : (same_id (packet_of x).to.id (agent_id old.machine) ≡ true) × (is_master (packet_of x).from.id ≡ true)
+  parts = both_true (same_id (packet_of x).to.id (agent_id old.machine)) (is_master (packet_of x).from.id) mine
+
+  for_me : (packet_of x).to.id ≡ (agent_party r).id
+  for_me = id_is (packet_of x).to.id (agent_id old.machine) parts.0 ∙ ap agent_id s.machine
+
+  told : agent_hears_alone r (parcel_is x) ≡ agent_told r x.from.inc heard_by
+  told = λ i. agent_told r x.from.inc (hears_side (agent_party r) (parts.1 i) (row_excess (sym s.has i)) r.up (parcel_is x))
+
+  answered : (new : AgentCore) (heard : Heard) → new.machine ≡ old.machine → new.has ≡ old.has → heard.fresh ≡ heard_by.fresh → heard.what ≡ heard_by.what
+      → IsUp new.up r.boot (agent_told r x.from.inc heard_by).role.up → Answers new x heard r
+  answered new heard machine has fresh says up = record {
+    role = subst (λ t. StandsFor new t.role) (sym told) (record { machine = machine ∙ s.machine; has = has ∙ s.has; up = up });
+    fresh = fresh ∙ ap (λ t. t.fresh) (sym told);
+    says = says ∙ ap (λ t. t.what) (sym told);
+  }
+
+  pub known_answers : (new : AgentCore) (heard : Heard) → new.machine ≡ old.machine → new.has ≡ old.has → HearsAlike no_join replaced IsJoin report_of row_ledger (row_excess old.has) x old.up new.up heard → heard.fresh ≡ false → Answers new x heard r
+  known_answers new heard machine has hears known =
+      let h = hears (agent_party r) r.up s.up for_me in
+      answered new heard machine has h.fresh h.says
+      (subst (λ b. IsUp new.up r.boot (cond b (appended false (report_ledger x.from.inc (table_by r.up)) heard_by.side) heard_by.side)) (sym known ∙ h.fresh) h.side)
+
+  pub new_answers : (mid : Up) (new : AgentCore) (heard : Heard) (table : List (RowKey × ℕ)) → new.machine ≡ old.machine → new.has ≡ old.has → HearsAlike no_join replaced IsJoin report_of row_ledger (row_excess old.has) x old.up mid heard → heard.fresh ≡ true
+      → PostsAlike no_join replaced IsJoin report_of row_ledger mid new.up → new.up.outgoing.present ≡ record { epoch = x.from.inc; table = table } → mid.outgoing.present.epoch < x.from.inc → table ≡ table_by r.up → Answers new x heard r
+  new_answers mid new heard table machine has hears fresh posts present later is =
+      let h = hears (agent_party r) r.up s.up for_me in
+      let shows : report_of new.up.outgoing.present ≡ report_ledger x.from.inc (table_by r.up) = ap report_of present ∙ ap (report_ledger x.from.inc) is in
+      let differs : report_of mid.outgoing.present ≡ report_of new.up.outgoing.present → ⊥ = λ e. let heads : mid.outgoing.present.epoch ≡ x.from.inc = ap (λ (l : Ledger). l.head) (e ∙ shows) in absurd (omega (arith, later, heads)) in
+      let up = (posts r.boot heard_by.side h.side).differing differs in
+      answered new heard machine has h.fresh h.says
+      (subst (λ b. IsUp new.up r.boot (cond b (appended false (report_ledger x.from.inc (table_by r.up)) heard_by.side) heard_by.side)) (sym fresh ∙ h.fresh)
+      (subst (λ l. IsUp new.up r.boot (appended false l heard_by.side)) shows up))

@@ -1,0 +1,196 @@
+ghost use Rattle.std.specs.Prelude.{◌≡◌, ◌+◌, ◌<◌, ◌≤◌, ◌&&◌, true, nat_eq, IfOk, OnOk, [], map, List, if◌then◌else◌, nat_lt};
+ghost use Rattle.std.specs.List.{AllByRecursion};
+ghost use Rattle.fuxi_terms.specs.Limits.{most_machines, most_steps};
+ghost use Rattle.fuxi_terms.specs.Rows.{row_total};
+ghost use Rattle.fuxi_terms.specs.Vectors.{fits};
+ghost use Rattle.party_ledgers.specs.Packets.{IsFormed};
+ghost use Rattle.written_net.specs.Net.{same_id};
+ghost use Rattle.written_net.specs.Channels.{agent_id, is_master};
+ghost use Rattle.written_roles.specs.Agents.{AgentRole, new_agent, table_by};
+ghost use Rattle.core_side.specs.Parcels.{packet_of, role_number};
+ghost use Rattle.agent_core.specs.Standing.{StandsFor, table_in};
+ghost use Rattle.agent_core.specs.Answering.{AnswersAlike, SendsAlike, ResyncsAlike, Steps};
+
+use crate::limit::RowLimit;
+use core_side::{Limit, Side, strangers_change_nothing};
+use delta_channel::Place;
+use ledger_law::{Ledger, OutOfMemory};
+use party_ledgers::{Heard, JoinLedger, Kind, Packet, Packets, RowLedger, What};
+use res_vector::{Res, Sum};
+use schedule_unit::{MachineNo, Role};
+use std::alloc::Global;
+use std::marker::Model;
+
+/// The agent of one machine, in one boot. Its table fits the machine, whatever packets come.
+///
+/// What its calls do is said of every agent of the definitions that it stands for (`StandsFor`). Each call that changes it is
+/// a step; fewer than 2^50 may be taken.
+#[derive(Drop)]
+pub struct Agent {
+    machine: MachineNo,
+    limit: RowLimit,
+    // What the received row takes.
+    total: Sum,
+    up: Side<JoinLedger, RowLedger>,
+    steps: u64,
+}
+
+impl Model for Agent {
+    ghost use Rattle.std.specs.Prelude.{◌≡◌};
+    ghost use Rattle.fuxi_terms.specs.Rows.{row_total};
+    ghost use Rattle.agent_core.specs.Standing.{AgentCore, IsAgentCore};
+
+    ghost Value = { AgentCore };
+
+    ghost view = { λ a. record { machine = a.machine.0; has = a.limit.has.q; up = a.up; steps = a.steps } };
+
+    ghost invariant = { λ a. IsAgentCore (record { machine = a.machine.0; has = a.limit.has.q; up = a.up; steps = a.steps }) × (a.total.q ≡ row_total a.up.incoming.received) };
+}
+
+impl Agent {
+    /// The agent of a machine that has so much, in a boot. It knows no master and carries nothing. The machine is at most 255 and
+    /// the boot at least 1.
+    pub fn start(
+        alloc: Global,
+        machine: MachineNo,
+        has: Res,
+        boot: u64,
+    ) -> Result<Agent, OutOfMemory>
+        requires machine { machine.0 < most_machines }
+        requires boot { 0 < boot }
+        ensures stands { IfOk result (λ a. StandsFor a (new_agent machine.0 has.q boot)) }
+        ensures steps { IfOk result (λ a. a.steps ≡ 0) }
+    {
+        let limit = RowLimit { has };
+        Ok(Agent {
+            machine,
+            limit,
+            total: limit.nothing(),
+            up: Side::start(alloc, boot)?,
+            steps: 0,
+        })
+    }
+
+    /// Hears a packet that is formed and no End. An agent that hears a new master joins its epoch: it carries the table that it had,
+    /// and reports it. Answers the agent after it, whether the sender is a new master, and the word of the rule that ended it.
+    ///
+    /// Where memory is refused the agent is gone.
+    pub fn on_packet(
+        mut self,
+        alloc: Global,
+        packet: &Packet,
+    ) -> Result<(Agent, Heard), OutOfMemory>
+        requires formed { IsFormed packet.now }
+        requires no_end { packet.now.kind ≡ Kind.End → ⊥ }
+        requires steps { self.steps < most_steps }
+        ensures hears { IfOk result (λ after. AnswersAlike packet.now self after.0 after.1) }
+        ensures steps { IfOk result (λ after. Steps self after.0) }
+    {
+        self.steps += 1;
+        if !is_for(packet, self.machine) {
+            strangers_change_nothing();
+            return Ok((
+                self,
+                Heard {
+                    fresh: false,
+                    what: What::Stranger,
+                },
+            ));
+        }
+        if packet.from.inc <= self.up.peer() {
+            let heard = self.up.hear(alloc, packet, &self.limit, &mut self.total)?;
+            return Ok((self, heard));
+        }
+        let table = self.table().copy(alloc)?;
+        let heard = self.up.hear(alloc, packet, &self.limit, &mut self.total)?;
+        self.up
+            .post(alloc, JoinLedger::make(packet.from.inc, table))?;
+        Ok((self, heard))
+    }
+
+    /// What the next turn sends: nothing where no master is known. It changes nothing.
+    pub fn turn(&self, alloc: Global) -> Result<Packets, OutOfMemory>
+        ensures sends { IfOk result (SendsAlike self.now) }
+        ensures formed { IfOk result (AllByRecursion IsFormed) }
+    {
+        let mut packets = Packets::new(alloc);
+        if self.up.peer() == 0 {
+            return Ok(packets);
+        }
+        self.up.turn(alloc, self.machine.0, 0, &mut packets)?;
+        Ok(packets)
+    }
+
+    /// Forgets what the master has acknowledged, so that the next turn sends the whole report. It is a step.
+    pub fn resync(&mut self)
+        requires { self.old.steps < most_steps }
+        ensures resyncs { ResyncsAlike self.old self.new }
+        ensures steps { Steps self.old self.new }
+    {
+        self.steps += 1;
+        self.up.resync();
+    }
+
+    /// The table that the agent enforces: what came of the master's row, and before that what was carried. It fits the machine.
+    pub fn table(&self) -> &RowLedger
+        ensures value { result.now ≡ table_in self.now.up }
+        ensures table { (r : AgentRole) → StandsFor self.now r → result.now ≡ table_by r.up }
+        ensures fits { fits (row_total result.now) self.now.has ≡ true }
+    {
+        if self.up.place().seq == 0 {
+            self.up.sent().table()
+        } else {
+            self.up.got()
+        }
+    }
+
+    /// The place in the master's history.
+    pub fn place(&self) -> Place
+        ensures { result ≡ self.now.up.incoming.place }
+    {
+        self.up.place()
+    }
+
+    /// The incarnation of this agent.
+    pub fn boot(&self) -> u64
+        ensures { result ≡ self.now.up.outgoing.own }
+    {
+        self.up.own()
+    }
+
+    /// The last index of its own channel.
+    pub fn last(&self) -> u64
+        ensures { result ≡ self.now.up.outgoing.last }
+    {
+        self.up.last()
+    }
+
+    /// The number of its steps.
+    pub fn steps(&self) -> u64
+        ensures { result ≡ self.now.steps }
+    {
+        self.steps
+    }
+}
+
+// Whether a party is an agent.
+fn is_agent(role: Role) -> bool
+    ensures { result ≡ nat_eq (role_number role) 2 }
+{
+    matches!(role, Role::Agent)
+}
+
+// Whether a party is a master.
+fn is_master(role: Role) -> bool
+    ensures { result ≡ nat_eq (role_number role) 1 }
+{
+    matches!(role, Role::Master)
+}
+
+// Whether a packet is for the agent of this machine, and of a master.
+fn is_for(packet: &Packet, machine: MachineNo) -> bool
+    ensures { result ≡ (same_id (packet_of packet.now).to.id (agent_id machine.0) && is_master (packet_of packet.now).from.id) }
+{
+    (is_agent(packet.to.role) && packet.to.number == machine.0)
+        && (is_master(packet.from.role) && packet.from.number == 0)
+}
