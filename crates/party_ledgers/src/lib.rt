@@ -22,7 +22,7 @@ mod row_totals;
 mod shapes;
 
 pub use join::JoinLedger;
-pub use packets::{Body, Heard, Kind, Packet, Packets, What};
+pub use packets::{Body, Heard, Kind, Packet, Packets, What, are_parties, is_place_of};
 pub use row_ledger::{RowChange, RowEntry, RowLedger};
 pub use shapes::{Demand, DemandShape, GrantShape, Grants};
 

@@ -102,8 +102,9 @@ fn is_number_of(role: Role, number: u32) -> bool
     }
 }
 
-// Whether one is the master and the other an agent or an application, and the sender's incarnation is known.
-fn are_parties(from: &Party, to: &Party) -> bool
+/// Whether a packet may go from one party to the other: one is the master and the other an agent or an
+/// application, each has a number of its role, and the sender has an incarnation.
+pub fn are_parties(from: &Party, to: &Party) -> bool
     ensures { result ≡ are_parties from.now to.now }
 {
     let is_channel = to_agent(from.role, to.role)
@@ -116,8 +117,8 @@ fn are_parties(from: &Party, to: &Party) -> bool
         && from.inc > 0
 }
 
-// Whether a packet of a sender of this incarnation may have this place.
-fn is_place_of(kind: Kind, inc: u64, place: &Place) -> bool
+/// Whether a packet of this kind, of a sender of this incarnation, may have this place.
+pub fn is_place_of(kind: Kind, inc: u64, place: &Place) -> bool
     ensures { result ≡ is_place_of kind inc place.now }
 {
     match kind {

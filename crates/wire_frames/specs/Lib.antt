@@ -1,0 +1,4 @@
+pub mod Frames
+pub mod Reading
+pub mod Headers
+pub mod Streams
