@@ -75,16 +75,16 @@ HasForm (Demand tally) = IsTally greatest_demand tally
 HasForm (DemandDelta change) = IsChange greatest_demand change
 
 -- incarnations and the index have room in their eight bytes, as the numbers of a program do
-pub record HasRoom (x : Packet) : Type 0 where
-  pub from : x.from.inc < 2 ^ 64
-  pub to : x.to.inc < 2 ^ 64
-  pub inc : x.place.inc < 2 ^ 64
-  pub seq : x.place.seq < 2 ^ 64
+pub record HaveRoom (from to : Party) (place : Place) : Type 0 where
+  pub sender : from.inc < 2 ^ 64
+  pub receiver : to.inc < 2 ^ 64
+  pub inc : place.inc < 2 ^ 64
+  pub seq : place.seq < 2 ^ 64
 
 -- these bytes are the frame of the packet
 pub record IsFrame (x : Packet) (bytes : List ℕ) : Type 0 where
   pub formed : IsFormed x
-  pub room : HasRoom x
+  pub room : HaveRoom x.from x.to x.place
   pub form : HasForm x.body
   pub written : bytes ≡ frame x
 

@@ -1,8 +1,8 @@
 -- What a header that has no fault says.
-use Rattle.std.specs.Prelude.{◌≡◌, ℕ, ◌+◌, ◌<◌, ◌≤◌, ◌^◌, false, List, length, Some, None, IsTrue}
+use Rattle.std.specs.Prelude.{◌≡◌, ℕ, ◌+◌, ◌≤◌, List, length, Some, None, IsTrue}
 use Rattle.party_ledgers.specs.Packets.{are_parties, is_place_of}
-use Rattle.wire_frames.specs.Frames.{version}
-use Rattle.wire_frames.specs.Reading.{header_fault, is_no_length, length_in, version_in, kind_in, sender_in, receiver_in, place_in}
+use Rattle.wire_frames.specs.Frames.{version, HaveRoom}
+use Rattle.wire_frames.specs.Reading.{header_fault, length_in, version_in, kind_in, sender_in, receiver_in, place_in}
 use Rattle.wire_frames.specs.declared.read.Header.{Header}
 
 pub record IsHeader (bytes : List ℕ) (h : Header) : Type 0 where
@@ -17,3 +17,4 @@ pub record IsHeader (bytes : List ℕ) (h : Header) : Type 0 where
   pub place_is : place_in bytes ≡ h.place
   pub parties : IsTrue (are_parties h.from h.to)
   pub fits : IsTrue (is_place_of h.kind h.from.inc h.place)
+  pub room : HaveRoom h.from h.to h.place

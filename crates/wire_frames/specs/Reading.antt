@@ -1,5 +1,5 @@
 -- What reading bytes gives: the packet whose frame they begin with, or the first fault.
-use Rattle.std.specs.Prelude.{◌≡◌, ◌≢◌, ℕ, ◌+◌, ◌≤◌, Bool, cond, nat_eq, nat_lt, ◌||◌, List, length, take, drop, slice_index, Option, Some, None, Result, Ok, Err}
+use Rattle.std.specs.Prelude.{◌≡◌, ℕ, ◌+◌, ◌≤◌, Bool, cond, nat_eq, nat_lt, ◌||◌, List, length, take, drop, slice_index, Option, Some, None, Result, Ok, Err}
 use Rattle.std.specs.Int.{Width, from_be_bytes, byte_len, w32, w64}
 use Rattle.fuxi_terms.specs.Limits.{most_body_bytes}
 use Rattle.delta_channel.specs.declared.receiver.Place.{Place}

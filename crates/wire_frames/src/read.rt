@@ -5,7 +5,7 @@ ghost use Rattle.std.specs.Int.{w32, w64};
 ghost use Rattle.ledger_law.specs.Reading.{Reads as ReadsForm};
 ghost use Rattle.party_ledgers.specs.Packets.{IsBodyOf};
 ghost use Rattle.wire_frames.specs.Frames.{body_bytes, HasForm};
-ghost use Rattle.wire_frames.specs.Reading.{number_at, kind_of, role_of, party_at, header_fault, Reads};
+ghost use Rattle.wire_frames.specs.Reading.{number_at, kind_of, role_of, party_at, HasFault, Reads};
 ghost use Rattle.wire_frames.specs.Headers.{IsHeader};
 
 use crate::VERSION;
@@ -74,7 +74,8 @@ fn role_of(byte: u8) -> Option<Role>
 
 fn party_at(bytes: &[u8], at: usize) -> Option<Party>
     requires { at + 13 ≤ length bytes.now }
-    ensures { result ≡ party_at at bytes.now }
+    ensures party { result ≡ party_at at bytes.now }
+    ensures room { IfSome result (λ party. party.inc < 2 ^ 64) }
 {
     let role = role_of(bytes[at])?;
     Some(Party {
@@ -88,7 +89,7 @@ fn party_at(bytes: &[u8], at: usize) -> Option<Party>
 #[tactic(auto, unfolding(crate::specs::Reading::header_fault))]
 fn read_header(bytes: &[u8]) -> Result<Header, FrameFault>
     ensures ok { IfOk result (λ header. IsHeader bytes.now header) }
-    ensures err { IfErr result (λ fault. header_fault bytes.now ≡ Some fault) }
+    ensures err { IfErr result (λ fault. HasFault bytes.now fault) }
 {
     if bytes.len() < 4 {
         return Err(FrameFault::Short);

@@ -6,7 +6,7 @@ ghost use Rattle.fuxi_terms.specs.TallyKeys.{greatest_grant, greatest_demand};
 ghost use Rattle.ledger_law.specs.Shapes.{IsTally};
 ghost use Rattle.party_ledgers.specs.Joins.{IsJoin};
 ghost use Rattle.party_ledgers.specs.Packets.{IsFormed};
-ghost use Rattle.wire_frames.specs.Frames.{kind_byte, role_byte, party_bytes, place_bytes, body_bytes, header_bytes, frame, HasForm, HasRoom, IsFrame, body_length};
+ghost use Rattle.wire_frames.specs.Frames.{kind_byte, role_byte, party_bytes, place_bytes, body_bytes, header_bytes, frame, HasForm, HaveRoom, IsFrame, body_length};
 
 use crate::VERSION;
 use delta_channel::Place;
@@ -132,7 +132,7 @@ fn write_body(body: &Body, out: &mut Vec<u8>) -> Result<(), OutOfMemory>
 
 // What is known of the numbers is known once they are read.
 fn read_numbers(packet: &Packet)
-    ensures { HasRoom packet.now }
+    ensures { HaveRoom packet.now.from packet.now.to packet.now.place }
 {
     let _from = packet.from.inc;
     let _to = packet.to.inc;

@@ -1,0 +1,26 @@
+use Rattle.std.proofs.Common.{arith}
+use Rattle.wire_frames.proofs.Found.{frame_in}
+use Rattle.wire_frames.proofs.Refused.{none_begins}
+use Rattle.wire_frames.proofs.read.read_packet.Goals as goal
+
+pub returns-in-Err : goal.returns-in-Err
+returns-in-Err c = c.in-Err.ensures.err
+
+pub returns-in-Ok-read_body : goal.returns-in-Ok-read_body
+returns-in-Ok-read_body c =
+    let h = c.in-Ok.ensures.ok in
+    let read = c.in-Ok-read_body.ensures in
+    record {
+      within = h.whole;
+      frame = record {
+        formed = record { parties = h.parties; place = h.fits; body = read.0.0 };
+        room = h.room;
+        form = read.0.1;
+        written = frame_in c.args.bytes.now c.in-Ok.header c.in-Ok-read_body.body (λ i. omega (arith, c.type_inv.bytes i)) h read.1;
+      };
+    }
+
+pub returns-in-Err-NotBody : goal.returns-in-Err-NotBody
+returns-in-Err-NotBody c =
+    let h = c.in-Ok.ensures.ok in
+    (h.right, none_begins c.args.bytes.now c.in-Ok.header h (rw c.in-Err-NotBody.field-0-is at c.in-Err-NotBody.ensures))
