@@ -5,3 +5,7 @@ pub mod Parts
 pub mod Found
 pub mod Framed
 pub mod Refused
+pub mod OneBody
+pub mod OneReading
+pub mod MoreBytes
+pub mod Splitting

@@ -10,7 +10,7 @@ use Rattle.wire_frames.specs.Headers.{IsHeader}
 use Rattle.wire_frames.specs.declared.read.Header.{Header}
 use Rattle.wire_frames.proofs.Framed.{begins_fields, begins_body}
 
-same_some : {A : Type 0} (a b : A) → Some a ≡ Some b → a ≡ b
+pub same_some : {A : Type 0} (a b : A) → Some a ≡ Some b → a ≡ b
 same_some a b e = cc
 
 pub none_begins : (bytes : List ℕ) (h : Header) → IsHeader bytes h

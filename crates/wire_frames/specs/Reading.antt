@@ -67,20 +67,27 @@ abbrev pub kind_fault : ℕ → Option Kind → Option Party → Option Party �
 kind_fault byte None from to place = Some (NoKind byte)
 kind_fault byte (Some kind) from to place = parties_fault kind from to place
 
--- the first fault of a frame's header, in the order of the tests
+-- the first fault of the fields behind the length, in the order of the tests
+abbrev pub fields_fault : List ℕ → Option FrameFault
+fields_fault bytes =
+    cond (nat_eq (version_in bytes) version)
+    (kind_fault (slice_index bytes 5) (kind_in bytes) (sender_in bytes) (receiver_in bytes) (place_in bytes))
+    (Some (Version (version_in bytes)))
+
+-- the first fault of a frame's header: that of its length, then of the bytes that are there, then of its fields
 unfoldable pub header_fault : List ℕ → Option FrameFault
 header_fault bytes =
     cond (nat_lt (length bytes) 4) (Some Short)
     (cond (is_no_length (length_in bytes)) (Some (Length (length_in bytes)))
-    (cond (nat_lt (length bytes) (4 + length_in bytes)) (Some Short)
-    (cond (nat_eq (version_in bytes) version)
-    (kind_fault (slice_index bytes 5) (kind_in bytes) (sender_in bytes) (receiver_in bytes) (place_in bytes))
-    (Some (Version (version_in bytes))))))
+    (cond (nat_lt (length bytes) (4 + length_in bytes)) (Some Short) (fields_fault bytes)))
 
 -- the first n of the bytes are the frame of the packet
 pub record Begins (bytes : List ℕ) (x : Packet) (n : ℕ) : Type 0 where
   pub within : n ≤ length bytes
   pub frame : IsFrame x (take n bytes)
+
+abbrev pub BeginsNone : List ℕ → Type 0
+BeginsNone bytes = (x : Packet) (n : ℕ) → Begins bytes x n → ⊥
 
 -- bytes have a fault where it is the first of their header, or where the header has none and they begin with no frame
 abbrev pub HasFault : List ℕ → FrameFault → Type 0
@@ -90,7 +97,7 @@ HasFault bytes (Version n) = header_fault bytes ≡ Some (Version n)
 HasFault bytes (NoKind n) = header_fault bytes ≡ Some (NoKind n)
 HasFault bytes NoRole = header_fault bytes ≡ Some NoRole
 HasFault bytes NoPlace = header_fault bytes ≡ Some NoPlace
-HasFault bytes Body = (header_fault bytes ≡ None) × ((x : Packet) (n : ℕ) → Begins bytes x n → ⊥)
+HasFault bytes Body = (header_fault bytes ≡ None) × BeginsNone bytes
 HasFault bytes OutOfMemory = Unit {0}
 
 -- reading gives a packet and the length of its frame, or a fault
