@@ -1,3 +1,6 @@
+ghost use Rattle.std.specs.Prelude.{◌≡◌};
+ghost use Rattle.wire_frames.specs.Names.{name_of, found_of};
+
 use ledger_law::OutOfMemory;
 
 /// Why bytes begin with no frame: the first of these tests that fails, in this order.
@@ -29,5 +32,34 @@ impl From<OutOfMemory> for FrameFault {
 
     fn from(_error: OutOfMemory) -> FrameFault {
         FrameFault::OutOfMemory
+    }
+}
+
+impl FrameFault {
+    /// The name as it is printed.
+    pub fn name(&self) -> &'static str
+        ensures { result.now ≡ name_of self.now }
+    {
+        match self {
+            FrameFault::Short => "Short",
+            FrameFault::Length(_) => "Length",
+            FrameFault::Version(_) => "Version",
+            FrameFault::Kind(_) => "Kind",
+            FrameFault::Role => "Role",
+            FrameFault::Place => "Place",
+            FrameFault::Body => "Body",
+            FrameFault::OutOfMemory => "OutOfMemory",
+        }
+    }
+
+    /// The number that is printed behind the name: the length, the version or the kind that was found.
+    pub fn found(&self) -> Option<u32>
+        ensures { result ≡ found_of self.now }
+    {
+        match self {
+            FrameFault::Length(n) => Some(*n),
+            FrameFault::Version(n) | FrameFault::Kind(n) => Some(u32::from(*n)),
+            _ => None,
+        }
     }
 }

@@ -22,6 +22,14 @@ pub use write::{frame_length, write_packet};
 // The version of the format.
 const VERSION: u8 = 1;
 
+// The bytes of the length, and those of the header behind it.
+const LENGTH_BYTES: usize = 4;
+
+const HEADER_BYTES: usize = 44;
+
+// What stands in front of a body.
+const FRONT_BYTES: usize = LENGTH_BYTES + HEADER_BYTES;
+
 /// Bytes are the frame of one packet, and no frame begins another. It does nothing; its contract is this law.
 pub fn one_frame()
     ensures { (x y : Packet) (a b more rest : List ℕ) → IsFrame x a → IsFrame y b → a ++ more ≡ b ++ rest → (x ≡ y) × (a ≡ b) }

@@ -8,8 +8,8 @@ ghost use Rattle.wire_frames.specs.Frames.{body_bytes, HasForm};
 ghost use Rattle.wire_frames.specs.Reading.{number_at, kind_of, role_of, party_at, HasFault, Reads};
 ghost use Rattle.wire_frames.specs.Headers.{IsHeader};
 
-use crate::VERSION;
 use crate::fault::FrameFault;
+use crate::{FRONT_BYTES, HEADER_BYTES, LENGTH_BYTES, VERSION};
 use delta_channel::Place;
 use fuxi_terms::limits::MOST_BODY_BYTES;
 use ledger_law::{BodyFault, Ledger};
@@ -91,14 +91,14 @@ fn read_header(bytes: &[u8]) -> Result<Header, FrameFault>
     ensures ok { IfOk result (λ header. IsHeader bytes.now header) }
     ensures err { IfErr result (λ fault. HasFault bytes.now fault) }
 {
-    if bytes.len() < 4 {
+    if bytes.len() < LENGTH_BYTES {
         return Err(FrameFault::Short);
     }
     let length = u32_at(bytes, 0);
-    if length < 44 || length as usize > 44 + MOST_BODY_BYTES {
+    if (length as usize) < HEADER_BYTES || length as usize > HEADER_BYTES + MOST_BODY_BYTES {
         return Err(FrameFault::Length(length));
     }
-    let end = 4 + length as usize;
+    let end = LENGTH_BYTES + length as usize;
     if bytes.len() < end {
         return Err(FrameFault::Short);
     }
@@ -185,7 +185,7 @@ pub fn read_packet(alloc: Global, bytes: &[u8]) -> Result<(Packet, usize), Frame
         Ok(header) => header,
         Err(fault) => return Err(fault),
     };
-    let body = &bytes[48..header.end];
+    let body = &bytes[FRONT_BYTES..header.end];
     match read_body(alloc, header.kind, header.from.role, header.to.role, body) {
         Ok(body) => {
             let packet = Packet {

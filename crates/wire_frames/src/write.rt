@@ -8,7 +8,7 @@ ghost use Rattle.party_ledgers.specs.Joins.{IsJoin};
 ghost use Rattle.party_ledgers.specs.Packets.{IsFormed};
 ghost use Rattle.wire_frames.specs.Frames.{kind_byte, role_byte, party_bytes, place_bytes, body_bytes, header_bytes, frame, HasForm, HaveRoom, IsFrame, body_length};
 
-use crate::VERSION;
+use crate::{FRONT_BYTES, LENGTH_BYTES, VERSION};
 use delta_channel::Place;
 use ledger_law::forms::append;
 use ledger_law::{Ledger, OutOfMemory};
@@ -149,7 +149,7 @@ pub fn frame_length(packet: &Packet) -> usize
     ensures within { result ≤ 48 + most_body_bytes }
 {
     read_numbers(packet);
-    48 + body_len(packet)
+    FRONT_BYTES + body_len(packet)
 }
 
 /// Appends the frame of a packet. The bytes are as they were after a refusal. It takes room once, for the whole
@@ -164,7 +164,7 @@ pub fn write_packet(packet: &Packet, out: &mut Vec<u8>) -> Result<(), OutOfMemor
     let length = frame_length(packet);
     let start = out.len();
     out.reserve(length)?;
-    append(&(length as u32 - 4).to_be_bytes(), out);
+    append(&((length - LENGTH_BYTES) as u32).to_be_bytes(), out);
     write_header(packet, out);
     match write_body(&packet.body, out) {
         Ok(()) => Ok(()),
