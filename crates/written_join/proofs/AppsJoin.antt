@@ -112,27 +112,3 @@ app_start_alike w a b s none =
       acts = quiet_acts w.net (app_started w a b).net p s (start_leaves w.net p) (record { longer = (grows_itself w.net).longer }) refl;
       role = ap (λ (e : Side). record { job = a; units = unit_count w.hard.jobs a; cluster = w.cluster; boot = b; carried = []; up = e }) up;
     }
-
--- What is carried, by machine
-pub found_carried : (l : Link) (got own : Ledger) (boot units m : ℕ) (ms : List ℕ) (carried : List (ℕ × Carried))
-    → find nat_cmp m (carry_of l got own boot units ms carried) ≡ cond (has_number m ms && names got m) (Some (carried_one l got own boot units m)) (find nat_cmp m carried)
-found_carried l got own boot units m [] carried = refl
-found_carried l got own boot units m (k ∷ ms) carried =
-    found_carried l got own boot units m ms (cond (names got k) (put nat_cmp k (carried_one l got own boot units k) carried) carried)
-    ∙ by (nat_eq m k) refl (has_number m ms) (names got k) refl
-  where
-    one : (b : Bool) → nat_eq m k ≡ b → find nat_cmp m (put nat_cmp k (carried_one l got own boot units k) carried) ≡ cond b (Some (carried_one l got own boot units k)) (find nat_cmp m carried)
-    one b e = find-put nat_cmp nat_cmp_total m k (carried_one l got own boot units k) carried ∙ ap (λ b. cond b (Some (carried_one l got own boot units k)) (find nat_cmp m carried)) (let t : eq_by_cmp nat_cmp m k ≡ nat_eq m k = grind (arith, nat_tests) in t ∙ e)
-
-    by : (b : Bool) → nat_eq m k ≡ b → (h n : Bool) → names got k ≡ n → cond (h && names got m) (Some (carried_one l got own boot units m)) (find nat_cmp m (cond n (put nat_cmp k (carried_one l got own boot units k) carried) carried))
-        ≡ cond ((b || h) && names got m) (Some (carried_one l got own boot units m)) (find nat_cmp m carried)
-    by true e h n f = let is : m ≡ k = grind (arith, nat_tests, e) in same h n (ap (names got) is ∙ f)
-      where
-        same : (h n : Bool) → names got m ≡ n → cond (h && names got m) (Some (carried_one l got own boot units m)) (find nat_cmp m (cond n (put nat_cmp k (carried_one l got own boot units k) carried) carried))
-            ≡ cond (names got m) (Some (carried_one l got own boot units m)) (find nat_cmp m carried)
-        same true true f = ap (λ b. cond b (Some (carried_one l got own boot units m)) (find nat_cmp m (put nat_cmp k (carried_one l got own boot units k) carried))) f ∙ sym (ap (λ b. cond b (Some (carried_one l got own boot units m)) (find nat_cmp m carried)) f)
-        same true false f = refl
-        same false true f = one true e ∙ (let is : k ≡ m = grind (arith, nat_tests, e) in ap (λ j. Some (carried_one l got own boot units j)) is) ∙ sym (ap (λ b. cond b (Some (carried_one l got own boot units m)) (find nat_cmp m carried)) f)
-        same false false f = sym (ap (λ b. cond b (Some (carried_one l got own boot units m)) (find nat_cmp m carried)) f)
-    by false e h true f = ap (λ o. cond (h && names got m) (Some (carried_one l got own boot units m)) o) (one false e)
-    by false e h false f = refl

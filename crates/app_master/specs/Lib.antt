@@ -1,0 +1,5 @@
+pub mod Usable
+pub mod Apps
+pub mod Asking
+pub mod Commands
+pub mod Hearing

@@ -1,0 +1,402 @@
+//! The application master of one job, in one boot.
+
+ghost use Rattle.std.specs.Prelude.{IfErr, ◌+◌, nat_eq, ◌≡◌, ◌<◌, ◌≤◌, ◌&&◌, ◌++◌, ◌∷◌, [], ℕ, Bool, true, false, not, nat_lt, cond, length, List, IfOk, OnOk, OnErr, IsTrue, is_some, Ok};
+ghost use Rattle.std.specs.List.{AllByRecursion};
+ghost use Rattle.std.proofs.Common.{get_or};
+ghost use Rattle.fuxi_terms.specs.Cluster.{has_rack};
+ghost use Rattle.fuxi_terms.specs.Limits.{most_jobs, most_units, most_machines, most_steps, greatest_count};
+ghost use Rattle.fuxi_terms.specs.TallyKeys.{key, greatest_demand};
+ghost use Rattle.party_ledgers.specs.Packets.{IsFormed};
+ghost use Rattle.party_ledgers.specs.declared.packets.Kind.TheVariants.{End};
+ghost use Rattle.written_roles.specs.Apps.{AppRole, new_app, demands_alone, held_by, usable_by, given_by, app_resynced, names, Wants, WantsNear, WantsInRack, Avoids, GivesBack};
+ghost use Rattle.core_side.specs.Parcels.{role_number};
+ghost use Rattle.app_master.specs.Usable.{is_named};
+ghost use Rattle.app_master.specs.Apps.{StandsFor};
+ghost use Rattle.app_master.specs.Commands.{Commands};
+ghost use Rattle.app_master.specs.Hearing.{is_for, HearsAlike, SendsAlike};
+
+use crate::asking::{join, set_number};
+use crate::carried::Carried;
+use crate::fault::AppFault;
+use crate::tallies::{given, is_named, usable};
+use cluster_desc::Cluster;
+use core_side::{NoLimit, Side, strangers_change_nothing};
+use delta_channel::Place;
+use fuxi_terms::OutOfMemory;
+use fuxi_terms::limits::{GREATEST_BACK, GREATEST_COUNT, MOST_RACKS};
+use ledger_law::Key;
+use party_ledgers::{Demand, Grants, Heard, Packet, Packets, What};
+use schedule_unit::{AppNo, MachineNo, RackNo, Role, UnitNo};
+use std::alloc::Global;
+use std::marker::Model;
+
+/// An application. It asks for grants, holds what its master grants, and gives back.
+///
+/// What its calls do is said of every application by itself that it stands for (`StandsFor`).
+#[derive(Drop)]
+pub struct AppMaster {
+    app: AppNo,
+    units: u8,
+    machines: u32,
+    racks: [bool; MOST_RACKS as usize],
+    carried: Carried,
+    up: Side<Demand, Grants>,
+    steps: u64,
+}
+
+impl Model for AppMaster {
+    ghost use Rattle.app_master.specs.Apps.{AppCore, IsAppCore};
+
+    ghost Value = { AppCore };
+
+    ghost view = { λ a. record { job = a.app.0; units = a.units; machines = a.machines; racks = a.racks; carried = a.carried; up = a.up; steps = a.steps } };
+
+    ghost invariant = { λ a. IsAppCore (record { job = a.app.0; units = a.units; machines = a.machines; racks = a.racks; carried = a.carried; up = a.up; steps = a.steps }) };
+}
+
+impl AppMaster {
+    /// The application of a job, in a boot from 1 on: it knows no master, asks for nothing and holds nothing. The job's number
+    /// is at most 255, and it has 1 to 8 units.
+    pub fn start(
+        alloc: Global,
+        app: AppNo,
+        units: u8,
+        cluster: &Cluster,
+        boot: u64,
+    ) -> Result<AppMaster, OutOfMemory>
+        requires job { app.0 < most_jobs }
+        requires units { units ≤ most_units }
+        requires boot { 0 < boot }
+        ensures stands { IfOk result (λ a. StandsFor a (new_app app.0 units cluster.now boot)) }
+        ensures steps { IfOk result (λ a. a.steps ≡ 0) }
+    {
+        let machines = cluster.machines();
+        Ok(AppMaster {
+            app,
+            units,
+            machines,
+            racks: racks_of(cluster),
+            carried: Carried::nothing(alloc, machines)?,
+            up: Side::start(alloc, boot)?,
+            steps: 0,
+        })
+    }
+
+    /// Wants so many grants of a unit in all.
+    pub fn want(&mut self, alloc: Global, unit: UnitNo, count: u64) -> Result<(), AppFault>
+        requires { self.old.steps < most_steps }
+        ensures answers { Commands (Wants unit.0 count) self.old result self.new }
+        ensures steps { OnOk result (self.new.steps ≡ self.old.steps + 1) }
+    {
+        self.test_unit(unit)?;
+        test_count(count)?;
+        self.ask(alloc, 1, unit, 0, count)
+    }
+
+    /// Wants so many grants of a unit on a machine.
+    pub fn near(
+        &mut self,
+        alloc: Global,
+        unit: UnitNo,
+        machine: MachineNo,
+        count: u64,
+    ) -> Result<(), AppFault>
+        requires { self.old.steps < most_steps }
+        ensures answers { Commands (WantsNear unit.0 machine.0 count) self.old result self.new }
+        ensures steps { OnOk result (self.new.steps ≡ self.old.steps + 1) }
+    {
+        self.test_unit(unit)?;
+        self.test_machine(machine)?;
+        test_count(count)?;
+        self.ask(alloc, 2, unit, machine.0, count)
+    }
+
+    /// Wants so many grants of a unit in a rack.
+    pub fn rack(
+        &mut self,
+        alloc: Global,
+        unit: UnitNo,
+        rack: RackNo,
+        count: u64,
+    ) -> Result<(), AppFault>
+        requires { self.old.steps < most_steps }
+        ensures answers { Commands (WantsInRack unit.0 rack.0 count) self.old result self.new }
+        ensures steps { OnOk result (self.new.steps ≡ self.old.steps + 1) }
+    {
+        self.test_unit(unit)?;
+        if !self.has_rack(rack) {
+            return Err(AppFault::NoRack);
+        }
+        test_count(count)?;
+        self.ask(alloc, 3, unit, rack.0, count)
+    }
+
+    /// Refuses a machine for new grants of a unit, or no longer.
+    pub fn avoid(
+        &mut self,
+        alloc: Global,
+        unit: UnitNo,
+        machine: MachineNo,
+        yes: bool,
+    ) -> Result<(), AppFault>
+        requires { self.old.steps < most_steps }
+        ensures answers { Commands (Avoids unit.0 machine.0 (cond yes 1 0)) self.old result self.new }
+        ensures steps { OnOk result (self.new.steps ≡ self.old.steps + 1) }
+    {
+        self.test_unit(unit)?;
+        self.test_machine(machine)?;
+        let mark = if yes { 1 } else { 0 };
+        self.ask(alloc, 4, unit, machine.0, mark)
+    }
+
+    /// Gives back so many grants of a unit on a machine. Only what is held on a machine that the master names as
+    /// reported may be given back.
+    pub fn give_back(
+        &mut self,
+        alloc: Global,
+        unit: UnitNo,
+        machine: MachineNo,
+        count: u64,
+    ) -> Result<(), AppFault>
+        requires { self.old.steps < most_steps }
+        ensures answers { Commands (GivesBack unit.0 machine.0 count) self.old result self.new }
+        ensures steps { OnOk result (self.new.steps ≡ self.old.steps + 1) }
+    {
+        self.test_unit(unit)?;
+        self.test_machine(machine)?;
+        let usable = self.usable(unit, machine);
+        if count > u64::from(usable) {
+            return Err(AppFault::NotUsable { usable });
+        }
+        let given = given(self.up.sent(), unit, machine);
+        if given + count > GREATEST_BACK {
+            return Err(AppFault::BackRange);
+        }
+        self.ask(alloc, 5, unit, machine.0, given + count)
+    }
+
+    /// Hears a packet. An application that hears a new master joins its epoch: it carries what it held on each machine that
+    /// its grants name, and answers with its demand, whose numbers given back are gone.
+    ///
+    /// Where memory is refused the application is gone.
+    pub fn on_packet(
+        mut self,
+        alloc: Global,
+        packet: &Packet,
+    ) -> Result<(AppMaster, Heard), OutOfMemory>
+        requires formed { IsFormed packet.now }
+        requires no_end { packet.now.kind ≡ End → ⊥ }
+        requires steps { self.steps < most_steps }
+        ensures hears { IfOk result (HearsAlike self packet.now) }
+        ensures steps { IfOk result (λ after. after.0.steps ≡ self.steps + 1) }
+    {
+        strangers_change_nothing();
+        self.steps += 1;
+        if !is_for(packet, self.app) {
+            return Ok((
+                self,
+                Heard {
+                    fresh: false,
+                    what: What::Stranger,
+                },
+            ));
+        }
+        if packet.from.inc <= self.up.peer() {
+            let heard = self.up.hear(alloc, packet, &NoLimit, &mut ())?;
+            return Ok((self, heard));
+        }
+        self.carried
+            .join(self.up.got(), self.up.sent(), self.up.own(), self.units);
+        let heard = self.up.hear(alloc, packet, &NoLimit, &mut ())?;
+        join(&mut self.up, alloc, packet.from.inc)?;
+        Ok((self, heard))
+    }
+
+    /// What the next turn sends. It changes nothing.
+    pub fn turn(&self, alloc: Global) -> Result<Packets, OutOfMemory>
+        ensures sends { IfOk result (SendsAlike self.now) }
+        ensures formed { IfOk result (AllByRecursion IsFormed) }
+    {
+        let mut packets = Packets::new(alloc);
+        if self.up.peer() == 0 {
+            return Ok(packets);
+        }
+        self.up.turn(alloc, self.app.0, 0, &mut packets)?;
+        Ok(packets)
+    }
+
+    /// Forgets what the master has acknowledged.
+    pub fn resync(&mut self)
+        requires { self.old.steps < most_steps }
+        ensures resyncs { (r : AppRole) → StandsFor self.old r → StandsFor self.new (app_resynced r) }
+        ensures steps { self.new.steps ≡ self.old.steps + 1 }
+    {
+        self.up.resync();
+        self.steps += 1;
+    }
+
+    /// How many grants of a unit are held on a machine: of a machine that the master names as reported its count without
+    /// what was given back and is not yet credited, of any other what is carried.
+    pub fn held(&self, unit: UnitNo, machine: MachineNo) -> u32
+        requires unit { unit.0 < self.now.units }
+        requires machine { machine.0 < self.now.machines }
+        ensures { (r : AppRole) → StandsFor self.now r → result ≡ held_by r unit.0 machine.0 }
+    {
+        if self.carried(machine) {
+            self.carried.count(unit, machine)
+        } else {
+            self.usable(unit, machine)
+        }
+    }
+
+    /// Whether what is held on a machine is carried: the master does not name it as reported.
+    pub fn carried(&self, machine: MachineNo) -> bool
+        ensures { (r : AppRole) → StandsFor self.now r → result ≡ not (names r.up.got machine.0) }
+    {
+        !is_named(self.up.got(), machine)
+    }
+
+    /// The place in the master's history to which it has come.
+    pub fn place(&self) -> Place
+        ensures { result ≡ self.now.up.incoming.place }
+    {
+        self.up.place()
+    }
+
+    /// Its boot.
+    pub fn boot(&self) -> u64
+        ensures { result ≡ self.now.up.outgoing.own }
+    {
+        self.up.own()
+    }
+
+    /// The last index of its own history.
+    pub fn last(&self) -> u64
+        ensures { result ≡ self.now.up.outgoing.last }
+    {
+        self.up.last()
+    }
+
+    /// How many steps it took: packets heard, commands done and resyncs.
+    pub fn steps(&self) -> u64
+        ensures { result ≡ self.now.steps }
+    {
+        self.steps
+    }
+
+    // What may be given back of a unit on a machine.
+    fn usable(&self, unit: UnitNo, machine: MachineNo) -> u32
+        ensures number { (r : AppRole) → StandsFor self.now r → result ≡ usable_by r unit.0 machine.0 }
+        ensures within { result ≤ greatest_count }
+    {
+        if self.carried(machine) {
+            0
+        } else {
+            usable(self.up.got(), self.up.sent(), self.up.own(), unit, machine)
+        }
+    }
+
+    // Whether a machine stands in the rack.
+    fn has_rack(&self, rack: RackNo) -> bool
+        ensures is { result ≡ get_or self.now.racks rack.0 false }
+        ensures there { IsTrue result → rack.0 < 64 }
+    {
+        rack.0 < MOST_RACKS && self.racks[rack.0 as usize]
+    }
+
+    fn test_unit(&self, unit: UnitNo) -> Result<(), AppFault>
+        ensures ok { OnOk result (nat_lt unit.0 self.now.units ≡ true) }
+        ensures small { OnOk result (unit.0 < most_units) }
+        ensures err { IfErr result (λ fault. (fault ≡ AppFault.NoUnit) × (nat_lt unit.0 self.now.units ≡ false)) }
+    {
+        if unit.0 < self.units {
+            Ok(())
+        } else {
+            Err(AppFault::NoUnit)
+        }
+    }
+
+    fn test_machine(&self, machine: MachineNo) -> Result<(), AppFault>
+        ensures ok { OnOk result (nat_lt machine.0 self.now.machines ≡ true) }
+        ensures small { OnOk result (machine.0 < most_machines) }
+        ensures err { IfErr result (λ fault. (fault ≡ AppFault.NoMachine) × (nat_lt machine.0 self.now.machines ≡ false)) }
+    {
+        if machine.0 < self.machines {
+            Ok(())
+        } else {
+            Err(AppFault::NoMachine)
+        }
+    }
+
+    // The demand has this number at this key from now on.
+    fn ask(
+        &mut self,
+        alloc: Global,
+        what: u8,
+        unit: UnitNo,
+        place: u32,
+        number: u64,
+    ) -> Result<(), AppFault>
+        requires steps { self.old.steps < most_steps }
+        requires within { number ≤ greatest_demand (key what unit.0 place) }
+        ensures ok { OnOk result ((r : AppRole) → StandsFor self.old r → StandsFor self.new (demands_alone r (key what unit.0 place) number)) }
+        ensures steps { OnOk result (self.new.steps ≡ self.old.steps + 1) }
+        ensures err { IfErr result (λ fault. (fault ≡ AppFault.OutOfMemory) × (self.new ≡ self.old)) }
+    {
+        let key = Key {
+            what,
+            unit: unit.0,
+            number: place,
+        };
+        if set_number(&mut self.up, alloc, key, number).is_err() {
+            return Err(AppFault::OutOfMemory);
+        }
+        self.steps += 1;
+        Ok(())
+    }
+}
+
+// A number that is wanted is at most 100,000.
+fn test_count(count: u64) -> Result<(), AppFault>
+    ensures ok { OnOk result (nat_lt greatest_count count ≡ false) }
+    ensures err { IfErr result (λ fault. (fault ≡ AppFault.WantRange) × (nat_lt greatest_count count ≡ true)) }
+{
+    if count > GREATEST_COUNT {
+        Err(AppFault::WantRange)
+    } else {
+        Ok(())
+    }
+}
+
+// Whether a packet is for the application of this job, of a master.
+fn is_for(packet: &Packet, app: AppNo) -> bool
+    ensures { result ≡ is_for packet.now app.0 }
+{
+    (is_app(packet.to.role) && packet.to.number == app.0)
+        && (is_master(packet.from.role) && packet.from.number == 0)
+}
+
+fn is_app(role: Role) -> bool
+    ensures { result ≡ nat_eq (role_number role) 3 }
+{
+    matches!(role, Role::App)
+}
+
+fn is_master(role: Role) -> bool
+    ensures { result ≡ nat_eq (role_number role) 1 }
+{
+    matches!(role, Role::Master)
+}
+
+// In which racks a machine of the cluster stands.
+fn racks_of(cluster: &Cluster) -> [bool; MOST_RACKS as usize]
+    ensures long { length result ≡ 64 }
+    ensures racks { (n : ℕ) → get_or result n false ≡ has_rack cluster.now n }
+{
+    let machines = cluster.machines();
+    let mut racks = [false; MOST_RACKS as usize];
+    for number in 0..MOST_RACKS {
+        racks[number as usize] = cluster.has_rack(RackNo(number));
+    }
+    racks
+}
