@@ -14,7 +14,7 @@ use std::marker::Model;
 /// Packets out of bytes that come in pieces. A contract sees the bytes that were fed and are in no frame that was
 /// pulled, and the fault that is answered from now on.
 ///
-/// A byte is copied when it is fed, and twice more at most, over all moves. The memory is at most twice the most
+/// A byte is copied when it is fed, and at most four times more on average. The memory is at most twice the most
 /// bytes that stood unpulled at once.
 #[derive(Drop)]
 pub struct Stream {
