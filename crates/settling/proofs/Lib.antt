@@ -1,0 +1,3 @@
+pub mod Boards
+pub mod Granting
+pub mod Settling

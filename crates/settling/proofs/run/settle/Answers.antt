@@ -1,0 +1,36 @@
+use Rattle.std.proofs.Common.{◌≡◌, ◌+◌, None, Some, [], ◌∷◌, ◌++◌, List, map, sym, ◌∙◌, ap, subst}
+use Rattle.std.proofs.lemmas.List.{map-append}
+use Rattle.fuxi_terms.specs.Counts.{count}
+use Rattle.fuxi_terms.specs.Keys.{Spot, spot_cmp}
+use Rattle.written_roles.specs.Placing.{first_in, settled}
+use Rattle.grant_table.specs.Tables.{TableRecord}
+use Rattle.place_pass.specs.Best.{spot_of}
+use Rattle.place_pass.specs.Placers.{board_with}
+use Rattle.settling.specs.Placing.{IsPlacing}
+use Rattle.settling.specs.Runs.{AreTouched}
+use Rattle.settling.proofs.Settling.{settles_on, has_settled, touches_more}
+use Rattle.settling.proofs.run.settle.Goals as goal
+
+pub loop-pick-preserved : goal.loop-pick-preserved
+loop-pick-preserved g c =
+    let t = c.loop-pick.table in
+    let s = c.loop-pick.placer.seen in
+    let x = spot_of c.in-Some.pick in
+    let old = c.args.table.now.entries in
+    let before = map spot_of c.args.picks.now.items in
+    let first : first_in (board_with s t) t.entries s.line ≡ Some x = sym c.in-Some.ensures.first in
+    let more = touches_more old t.entries before (map spot_of c.loop-pick.picks.items) x (count spot_cmp t.entries x + 1) c.loop-pick.invariant.touched in
+    let picks : map spot_of c.push.new.self.items ≡ map spot_of c.loop-pick.picks.items ++ x ∷ [] = ap (map spot_of) c.in_ok-push.ensures.items ∙ map-append spot_of c.loop-pick.picks.items (c.in-Some.pick ∷ []) in
+    record {
+      level = c.grant.ensures.level;
+      up = c.grant.ensures.up;
+      settling = λ k M is serves. settles_on t c.grant.new.table s c.grant.new.placer.seen k M x first (λ N p. c.grant.ensures.grants k N (subst (λ z. IsPlacing t z k N) (sym c.in-Some.ensures.seen) p)) (c.loop-pick.invariant.settling k M is serves);
+      touched = subst (λ (q : List (Spot × _) × List Spot). AreTouched old q.0 before q.1) (λ i. (sym (ap (λ (u : TableRecord). u.entries) c.grant.ensures.table) i, sym picks i)) more;
+    }
+
+pub returns-clause-settles : goal.returns-clause-settles
+returns-clause-settles g c = λ k M is serves.
+    let t = c.loop-pick.table in
+    let s = c.loop-pick.placer.seen in
+    let none : first_in (board_with s t) t.entries s.line ≡ None = sym c.in_default.ensures.first in
+    subst (λ z. IsPlacing t z k (settled k M)) (sym c.in_default.ensures.seen) (has_settled t s k M none (c.loop-pick.invariant.settling k M is serves))

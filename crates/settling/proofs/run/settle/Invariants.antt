@@ -1,0 +1,19 @@
+use Rattle.std.proofs.Common.{◌≡◌, true, map}
+use Rattle.fuxi_terms.specs.Cluster.{ClusterRecord}
+use Rattle.written_roles.specs.Masters.{Master}
+use Rattle.place_pass.specs.Best.{spot_of}
+use Rattle.place_pass.specs.Placers.{IsLevelWith, IsUpToDate}
+use Rattle.settling.specs.Placing.{IsPlacing}
+use Rattle.settling.specs.Runs.{IsSettling, AreTouched, all_out}
+use Rattle.settling.proofs.run.settle.Given as goal
+
+abbrev pub invariant-loop-pick : goal.invariant-loop-pick
+invariant-loop-pick g l = record {
+  level : IsLevelWith l.placer l.table;
+  up : IsUpToDate l.placer.seen l.table;
+  settling : (c : ClusterRecord) (M : Master) → IsPlacing l.initial.table l.initial.placer.seen c M → M.serving ≡ true → IsSettling l.table l.placer.seen c M;
+  touched : AreTouched l.initial.table.entries l.table.entries (map spot_of l.initial.picks.items) (map spot_of l.picks.items);
+}
+
+abbrev pub decreases-loop-pick : goal.decreases-loop-pick
+decreases-loop-pick g l = all_out l.table l.placer.seen
