@@ -1,0 +1,4 @@
+pub mod Front
+pub mod Back
+pub mod Made
+pub mod ByKind

@@ -1,0 +1,114 @@
+ghost use Rattle.std.specs.Prelude.{◌≡◌, ◌++◌, ◌*◌, ◌≤◌, length, map, IfOk, OnOk};
+ghost use Rattle.std.specs.Int.{to_be_bytes, w64};
+ghost use Rattle.std.specs.List.{flat_map};
+ghost use Rattle.schedule_unit.specs.Units.{unit_record};
+ghost use Rattle.hard_records.specs.Bodies.{job_bytes, unit_bytes, quantities_in, unit_in, units_in, job_found};
+ghost use Rattle.hard_records.specs.Asked.{unit_of};
+
+use fuxi_terms::OutOfMemory;
+use fuxi_terms::limits::{MOST_GROUPS, MOST_JOBS};
+use schedule_unit::{AppNo, Ask, Asks, GroupNo, Job, JobFault, Quantities, Unit, UnitNo};
+use std::alloc::Global;
+
+// The number, the group, the number of units, and the units.
+pub fn write_job(job: &Job, out: &mut Vec<u8>) -> Result<(), OutOfMemory>
+    ensures { OnOk result (out.new.items ≡ out.old.items ++ job_bytes job.now) }
+{
+    out.extend_from_slice(&job.app().0.to_be_bytes())?;
+    out.extend_from_slice(&job.group().0.to_be_bytes())?;
+    out.push(job.units())?;
+    write_units(job, out)
+}
+
+fn write_units(job: &Job, out: &mut Vec<u8>) -> Result<(), OutOfMemory>
+    ensures { OnOk result (out.new.items ≡ out.old.items ++ flat_map unit_bytes job.now.units) }
+{
+    for number in 0..job.units() {
+        write_unit(job.unit(UnitNo(number)), out)?;
+    }
+    Ok(())
+}
+
+fn write_unit(unit: &Unit, out: &mut Vec<u8>) -> Result<(), OutOfMemory>
+    ensures { OnOk result (out.new.items ≡ out.old.items ++ unit_bytes (unit_record unit.now)) }
+{
+    out.push(unit.priority)?;
+    write_size(&unit.size.q, out)
+}
+
+fn write_size(size: &[u64; 8], out: &mut Vec<u8>) -> Result<(), OutOfMemory>
+    ensures { OnOk result (out.new.items ≡ out.old.items ++ flat_map (to_be_bytes w64) size.now) }
+{
+    for quantity in size {
+        out.extend_from_slice(&quantity.to_be_bytes())?;
+    }
+    Ok(())
+}
+
+// Numbers of eight bytes; fewer than eight at the end are left out.
+fn read_quantities(alloc: Global, bytes: &[u8]) -> Result<Quantities, OutOfMemory>
+    ensures { IfOk result (λ quantities. quantities ≡ quantities_in bytes.now) }
+{
+    let mut quantities = Quantities::new(alloc);
+    let mut rest = bytes;
+    while let [a, b, c, d, e, f, g, h, behind @ ..] = rest {
+        quantities.push(u64::from_be_bytes([*a, *b, *c, *d, *e, *f, *g, *h]))?;
+        rest = behind;
+    }
+    Ok(quantities)
+}
+
+fn read_unit(alloc: Global, bytes: &[u8]) -> Result<Ask, OutOfMemory>
+    requires { length bytes.now ≡ 65 }
+    ensures { IfOk result (λ ask. unit_of ask ≡ unit_in bytes.now) }
+{
+    let quantities = read_quantities(alloc, &bytes[1..65])?;
+    Ok(Ask {
+        priority: bytes[0] as u64,
+        quantities,
+    })
+}
+
+fn read_units(alloc: Global, units: usize, bytes: &[u8]) -> Result<Asks, OutOfMemory>
+    requires few { units ≤ 255 }
+    requires long { length bytes.now ≡ 65 * units }
+    ensures { IfOk result (λ asks. map unit_of asks ≡ units_in units bytes.now) }
+{
+    let mut asks = Asks::new(alloc);
+    for number in 0..units {
+        let at = 65 * number;
+        asks.push(read_unit(alloc, &bytes[at..at + 65])?)?;
+    }
+    Ok(asks)
+}
+
+// The job of these bytes, where they are exactly one.
+pub fn read_job(alloc: Global, bytes: &[u8]) -> Result<Option<Job>, OutOfMemory>
+    ensures { IfOk result (λ found. found ≡ job_found bytes.now) }
+{
+    if bytes.len() < 9 {
+        return Ok(None);
+    }
+    let units = bytes[8] as usize;
+    if bytes.len() != 9 + 65 * units {
+        return Ok(None);
+    }
+    let number = u32::from_be_bytes([bytes[0], bytes[1], bytes[2], bytes[3]]);
+    let group = u32::from_be_bytes([bytes[4], bytes[5], bytes[6], bytes[7]]);
+    if number >= MOST_JOBS || group >= MOST_GROUPS as u32 {
+        return Ok(None);
+    }
+    let asks = match read_units(alloc, units, &bytes[9..]) {
+        Ok(asks) => asks,
+        Err(OutOfMemory) => return Err(OutOfMemory),
+    };
+    match Job::make(alloc, AppNo(number), GroupNo(group), 8, asks.as_slice()) {
+        Ok(job) => Ok(Some(job)),
+        Err(fault) => {
+            if fault == JobFault::OutOfMemory {
+                return Err(OutOfMemory);
+            }
+            Ok(None)
+        }
+    }
+}

@@ -1,0 +1,8 @@
+//! The records of a checkpoint: what each says, and its body in bytes.
+#![tactic(auto)]
+
+mod job;
+mod records;
+
+pub use fuxi_terms::OutOfMemory;
+pub use records::{Record, read_record, written_is_read, write_record};

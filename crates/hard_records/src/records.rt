@@ -1,0 +1,126 @@
+ghost use Rattle.std.specs.Prelude.{◌≡◌, ◌≤◌, ℕ, List, ◌++◌, ◌∷◌, length, IfOk, OnOk, Some};
+ghost use Rattle.std.specs.Int.{to_be_bytes, w32};
+ghost use Rattle.hard_records.specs.declared.records.Record.{Record as RecordSeen};
+ghost use Rattle.hard_records.specs.Bodies.{body_of, record_in, record_of_kind, epoch_found, number_found, IsWithinLimits};
+
+use crate::job::{read_job, write_job};
+use fuxi_terms::OutOfMemory;
+use fuxi_terms::limits::{MOST_JOBS, MOST_MACHINES};
+use schedule_unit::{AppNo, Job, MachineNo};
+use std::alloc::{AllocError, Global};
+
+/// One change of the hard state, as a checkpoint has it.
+#[derive(Debug, Drop)]
+pub enum Record {
+    /// The fence becomes this epoch.
+    Fence(u64),
+    /// The job is submitted.
+    Submission(Job),
+    /// The job of this number has ended.
+    Finish(AppNo),
+    /// The machine is banned.
+    Ban(MachineNo),
+    /// The machine is no longer banned.
+    Unban(MachineNo),
+}
+
+/// Appends the body of a record: the byte 1 for the version, the byte of its kind, and then for a fence the epoch (8 bytes,
+/// as all numbers with the greatest byte first); for a job its number (4), its group (4), the number of its units (1), and of
+/// each unit the priority (1) and eight quantities (8 each); else the number of the job or machine (4).
+///
+/// After `OutOfMemory` a part may be appended.
+pub fn write_record(written: &Record, out: &mut Vec<u8>) -> Result<(), OutOfMemory>
+    ensures { OnOk result (out.new.items ≡ out.old.items ++ body_of written.now) }
+{
+    match written {
+        Record::Fence(epoch) => {
+            out.extend_from_slice(&[1, 1])?;
+            out.extend_from_slice(&epoch.to_be_bytes())?;
+        }
+        Record::Submission(job) => {
+            out.extend_from_slice(&[1, 2])?;
+            write_job(job, out)?;
+        }
+        Record::Finish(app) => write_number(3, app.0, out)?,
+        Record::Ban(machine) => write_number(4, machine.0, out)?,
+        Record::Unban(machine) => write_number(5, machine.0, out)?,
+    }
+    Ok(())
+}
+
+// The byte 1, a kind and a number.
+fn write_number(kind: u8, number: u32, out: &mut Vec<u8>) -> Result<(), OutOfMemory>
+    ensures { OnOk result (out.new.items ≡ out.old.items ++ 1 ∷ kind ∷ to_be_bytes w32 number) }
+{
+    out.extend_from_slice(&[1, kind])?;
+    out.extend_from_slice(&number.to_be_bytes())?;
+    Ok(())
+}
+
+// An epoch of eight bytes.
+fn read_epoch(bytes: &[u8]) -> Option<u64>
+    ensures { result ≡ epoch_found bytes.now }
+{
+    let [a, b, c, d, e, f, g, h] = bytes else {
+        return None;
+    };
+    Some(u64::from_be_bytes([*a, *b, *c, *d, *e, *f, *g, *h]))
+}
+
+// A number of four bytes that is below this.
+fn read_number(most: u32, bytes: &[u8]) -> Option<u32>
+    ensures { result ≡ number_found most bytes.now }
+{
+    let [a, b, c, d] = bytes else {
+        return None;
+    };
+    let number = u32::from_be_bytes([*a, *b, *c, *d]);
+    if number < most { Some(number) } else { None }
+}
+
+/// The record of this body, or `None` where it is the body of none: where its version, its kind or its length is another, or
+/// one of its numbers is out of the limits.
+#[tactic(auto, unfolding(crate::specs::Bodies::record_in))]
+pub fn read_record(alloc: Global, body: &[u8]) -> Result<Option<Record>, OutOfMemory>
+    ensures { IfOk result (λ found. found ≡ record_in body.now) }
+{
+    let [version, kind, bytes @ ..] = body else {
+        return Ok(None);
+    };
+    if *version != 1 {
+        return Ok(None);
+    }
+    read_kind(alloc, *kind, bytes)
+}
+
+// The record of this kind.
+fn read_kind(alloc: Global, kind: u8, bytes: &[u8]) -> Result<Option<Record>, OutOfMemory>
+    ensures { IfOk result (λ found. found ≡ record_of_kind kind bytes.now) }
+{
+    if kind == 1 {
+        return Ok(read_epoch(bytes).map(|epoch| Record::Fence(epoch)));
+    }
+    if kind == 2 {
+        return Ok(read_job(alloc, bytes)?.map(|job| Record::Submission(job)));
+    }
+    if kind == 3 {
+        let number = read_number(MOST_JOBS, bytes);
+        return Ok(number.map(|number| Record::Finish(AppNo(number))));
+    }
+    if kind == 4 {
+        let number = read_number(MOST_MACHINES as u32, bytes);
+        return Ok(number.map(|number| Record::Ban(MachineNo(number))));
+    }
+    if kind == 5 {
+        let number = read_number(MOST_MACHINES as u32, bytes);
+        return Ok(number.map(|number| Record::Unban(MachineNo(number))));
+    }
+    Ok(None)
+}
+
+/// What is written of a record within the limits is read back as that record, and has at most 531 bytes.
+pub fn written_is_read()
+    ensures read { (r : RecordSeen) → IsWithinLimits r → record_in (body_of r) ≡ Some r }
+    ensures short { (r : RecordSeen) → IsWithinLimits r → length (body_of r) ≤ 531 }
+    ensures only { (body : List ℕ) (r : RecordSeen) → record_in body ≡ Some r → length body ≤ 531 }
+{}
