@@ -1,6 +1,7 @@
-ghost use Rattle.std.specs.Prelude.{◌≡◌, ◌++◌, ◌*◌, ◌≤◌, length, map, IfOk, OnOk};
+ghost use Rattle.std.specs.Prelude.{◌≡◌, ◌++◌, ◌*◌, ◌≤◌, length, map, IfOk, IfSome, OnOk, true};
 ghost use Rattle.std.specs.Int.{to_be_bytes, w64};
 ghost use Rattle.std.specs.List.{flat_map};
+ghost use Rattle.fuxi_terms.specs.Cluster.{is_valid_job};
 ghost use Rattle.schedule_unit.specs.Units.{unit_record};
 ghost use Rattle.hard_records.specs.Bodies.{job_bytes, unit_bytes, quantities_in, unit_in, units_in, job_found};
 ghost use Rattle.hard_records.specs.Asked.{unit_of};
@@ -84,7 +85,8 @@ fn read_units(alloc: Global, units: usize, bytes: &[u8]) -> Result<Asks, OutOfMe
 
 // The job of these bytes, where they are exactly one.
 pub fn read_job(alloc: Global, bytes: &[u8]) -> Result<Option<Job>, OutOfMemory>
-    ensures { IfOk result (λ found. found ≡ job_found bytes.now) }
+    ensures found { IfOk result (λ found. found ≡ job_found bytes.now) }
+    ensures valid { IfOk result (λ found. IfSome found (λ job. is_valid_job 8 job ≡ true)) }
 {
     if bytes.len() < 9 {
         return Ok(None);

@@ -1,4 +1,4 @@
-ghost use Rattle.std.specs.Prelude.{◌≡◌, ◌≤◌, ℕ, List, ◌++◌, ◌∷◌, length, IfOk, OnOk, Some};
+ghost use Rattle.std.specs.Prelude.{◌≡◌, ◌≤◌, ℕ, List, ◌++◌, ◌∷◌, length, IfOk, IfSome, OnOk, Some, ◌<◌, ◌^◌};
 ghost use Rattle.std.specs.Int.{to_be_bytes, w32};
 ghost use Rattle.hard_records.specs.declared.records.Record.{Record as RecordSeen};
 ghost use Rattle.hard_records.specs.Bodies.{body_of, record_in, record_of_kind, epoch_found, number_found, IsWithinLimits};
@@ -59,7 +59,8 @@ fn write_number(kind: u8, number: u32, out: &mut Vec<u8>) -> Result<(), OutOfMem
 
 // An epoch of eight bytes.
 fn read_epoch(bytes: &[u8]) -> Option<u64>
-    ensures { result ≡ epoch_found bytes.now }
+    ensures found { result ≡ epoch_found bytes.now }
+    ensures fits { IfSome result (λ epoch. epoch < 2 ^ 64) }
 {
     let [a, b, c, d, e, f, g, h] = bytes else {
         return None;
@@ -69,7 +70,8 @@ fn read_epoch(bytes: &[u8]) -> Option<u64>
 
 // A number of four bytes that is below this.
 fn read_number(most: u32, bytes: &[u8]) -> Option<u32>
-    ensures { result ≡ number_found most bytes.now }
+    ensures found { result ≡ number_found most bytes.now }
+    ensures below { IfSome result (λ number. number < most) }
 {
     let [a, b, c, d] = bytes else {
         return None;
@@ -82,7 +84,8 @@ fn read_number(most: u32, bytes: &[u8]) -> Option<u32>
 /// one of its numbers is out of the limits.
 #[tactic(auto, unfolding(crate::specs::Bodies::record_in))]
 pub fn read_record(alloc: Global, body: &[u8]) -> Result<Option<Record>, OutOfMemory>
-    ensures { IfOk result (λ found. found ≡ record_in body.now) }
+    ensures found { IfOk result (λ found. found ≡ record_in body.now) }
+    ensures within { IfOk result (λ found. IfSome found IsWithinLimits) }
 {
     let [version, kind, bytes @ ..] = body else {
         return Ok(None);
@@ -95,25 +98,38 @@ pub fn read_record(alloc: Global, body: &[u8]) -> Result<Option<Record>, OutOfMe
 
 // The record of this kind.
 fn read_kind(alloc: Global, kind: u8, bytes: &[u8]) -> Result<Option<Record>, OutOfMemory>
-    ensures { IfOk result (λ found. found ≡ record_of_kind kind bytes.now) }
+    ensures found { IfOk result (λ found. found ≡ record_of_kind kind bytes.now) }
+    ensures within { IfOk result (λ found. IfSome found IsWithinLimits) }
 {
     if kind == 1 {
-        return Ok(read_epoch(bytes).map(|epoch| Record::Fence(epoch)));
+        return match read_epoch(bytes) {
+            Some(epoch) => Ok(Some(Record::Fence(epoch))),
+            None => Ok(None),
+        };
     }
     if kind == 2 {
-        return Ok(read_job(alloc, bytes)?.map(|job| Record::Submission(job)));
+        return match read_job(alloc, bytes)? {
+            Some(job) => Ok(Some(Record::Submission(job))),
+            None => Ok(None),
+        };
     }
     if kind == 3 {
-        let number = read_number(MOST_JOBS, bytes);
-        return Ok(number.map(|number| Record::Finish(AppNo(number))));
+        return match read_number(MOST_JOBS, bytes) {
+            Some(number) => Ok(Some(Record::Finish(AppNo(number)))),
+            None => Ok(None),
+        };
     }
     if kind == 4 {
-        let number = read_number(MOST_MACHINES as u32, bytes);
-        return Ok(number.map(|number| Record::Ban(MachineNo(number))));
+        return match read_number(MOST_MACHINES as u32, bytes) {
+            Some(number) => Ok(Some(Record::Ban(MachineNo(number)))),
+            None => Ok(None),
+        };
     }
     if kind == 5 {
-        let number = read_number(MOST_MACHINES as u32, bytes);
-        return Ok(number.map(|number| Record::Unban(MachineNo(number))));
+        return match read_number(MOST_MACHINES as u32, bytes) {
+            Some(number) => Ok(Some(Record::Unban(MachineNo(number)))),
+            None => Ok(None),
+        };
     }
     Ok(None)
 }

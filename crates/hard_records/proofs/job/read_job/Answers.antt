@@ -8,8 +8,8 @@ use Rattle.hard_records.proofs.Front.{four_at}
 use Rattle.hard_records.proofs.Made.{IsReadOf, job_was_made, job_was_refused}
 use Rattle.hard_records.proofs.job.read_job.Goals as goal
 
-pub returns-in-Ok-make : goal.returns-in-Ok-make
-returns-in-Ok-make c =
+pub returns-in-Ok-make-clause-found : goal.returns-in-Ok-make-clause-found
+returns-in-Ok-make-clause-found c =
     let l = c.args.bytes.now in
     let asks : List Ask = c.as_slice.result.now in
     let read : IsReadOf l c.from_be_bytes-number.result c.from_be_bytes-group.result asks = record {
@@ -20,8 +20,8 @@ returns-in-Ok-make c =
     } in
     job_was_made l _ _ asks read c.in-Ok-make.job c.in-Ok-make.ensures.made c.in-Ok-make.ensures.valid
 
-pub returns : goal.returns
-returns c =
+pub returns-clause-found : goal.returns-clause-found
+returns-clause-found c =
     let l = c.args.bytes.now in
     let asks : List Ask = c.as_slice.result.now in
     let read : IsReadOf l c.from_be_bytes-number.result c.from_be_bytes-group.result asks = record {

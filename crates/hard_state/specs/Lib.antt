@@ -1,0 +1,5 @@
+pub mod Gates
+pub mod Checkpoints
+pub mod Index
+pub mod Bans
+pub mod HardFiles

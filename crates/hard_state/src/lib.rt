@@ -1,0 +1,13 @@
+//! What every master has to find again: the hard state, in a checkpoint on a disk.
+#![tactic(auto)]
+
+mod bans;
+mod fault;
+mod gate;
+mod hard;
+mod jobs;
+mod state;
+
+pub use fault::HardFault;
+pub use fuxi_terms::OutOfMemory;
+pub use hard::Hard;
