@@ -6,7 +6,7 @@ ghost use Rattle.fuxi_terms.specs.Jobs.{job_of, is_known, has_ended};
 ghost use Rattle.fuxi_terms.specs.Numbers.{has_number};
 ghost use Rattle.fuxi_terms.specs.Limits.{most_machines, most_records};
 ghost use Rattle.written_roles.specs.HardState.{Raise, Submission, Finishing, Banning, Unbanning, hard_step};
-ghost use Rattle.hard_records.specs.Bodies.{body_of, IsWithinLimits};
+ghost use Rattle.hard_records.specs.Bodies.{body_of, record_in, IsWithinLimits};
 ghost use Rattle.hard_state.specs.Checkpoints.{behind_gate};
 ghost use Rattle.hard_state.specs.HardFiles.{event_of, IsAskedBy, Refuses, WritesStep, Opens, OpensAs, IsDamagedAt, IsOpeningFault};
 
@@ -58,6 +58,7 @@ fn encode(alloc: Global, change: &Record) -> Result<Vec<u8>, OutOfMemory>
     ensures bytes { IfOk result (λ bytes. bytes.items ≡ behind_gate (body_of change.now)) }
     ensures short { IfOk result (λ bytes. length bytes.items ≤ 536) }
     ensures body { length (body_of change.now) ≤ 531 }
+    ensures back { record_in (body_of change.now) ≡ Some change.now }
 {
     written_is_read();
     let mut body = Vec::new(alloc);
@@ -67,4 +68,206 @@ fn encode(alloc: Global, change: &Record) -> Result<Vec<u8>, OutOfMemory>
     bytes.extend_from_slice(&body)?;
     bytes.push(0)?;
     Ok(bytes)
+}
+
+impl Hard {
+    // Writes a record that a master of this epoch asks for, and makes the state that it leads to.
+    fn write<D: Disk>(
+        &mut self,
+        disk: &mut D,
+        epoch: u64,
+        change: Record,
+    ) -> Result<(), HardFault>
+        requires asked { IsAskedBy epoch change }
+        requires sound { self.old.broken ≡ false }
+        requires long { self.old.gate < D.size disk.old }
+        ensures ok { OnOk result ((hard_step self.old.value epoch (event_of change) ≡ Ok self.new.value) × (self.new.broken ≡ false)) }
+        ensures refused { IfErr result (Refuses (hard_step self.old.value epoch (event_of change))) }
+        ensures unchanged { IfErr result (λ fault. fault ≢ HardFault.DiskFault → (self.new ≡ self.old) × (disk.new ≡ disk.old)) }
+        ensures broken { result ≡ Err HardFault.DiskFault → self.new ≡ record self.old { broken = true } }
+        ensures long { OnOk result (self.new.gate < D.size disk.new) }
+        ensures later { D.faults disk.old ≤ D.faults disk.new }
+        ensures cause { result ≡ Err HardFault.DiskFault → Rose (D.faults disk.old) (D.faults disk.new) }
+        ensures told { WhereTold (WritesStep (hard_step self.old.value epoch (event_of change)) self.old self.new result) (D.told disk.old) (D.told disk.new) }
+    {
+        match self.state.may(epoch, &change) {
+            Ok(()) => {}
+            Err(fault) => return Err(fault),
+        }
+        let bytes = match encode(self.alloc, &change) {
+            Ok(bytes) => bytes,
+            Err(OutOfMemory) => return Err(HardFault::OutOfMemory),
+        };
+        match append(disk, self.gate, &bytes) {
+            Ok(()) => {
+                self.state.make(epoch, change);
+                self.gate += bytes.len() as u64;
+                Ok(())
+            }
+            Err(Failed) => {
+                self.broken = true;
+                Err(HardFault::DiskFault)
+            }
+        }
+    }
+
+    /// Raises the fence to the epoch. `Stale` comes where the fence is at least the epoch, and then `Full`.
+    pub fn raise<D: Disk>(&mut self, disk: &mut D, epoch: u64) -> Result<(), HardFault>
+        requires sound { self.old.broken ≡ false }
+        requires long { self.old.gate < D.size disk.old }
+        ensures ok { OnOk result ((hard_step self.old.value epoch Raise ≡ Ok self.new.value) × (self.new.broken ≡ false)) }
+        ensures refused { IfErr result (Refuses (hard_step self.old.value epoch Raise)) }
+        ensures unchanged { IfErr result (λ fault. fault ≢ HardFault.DiskFault → (self.new ≡ self.old) × (disk.new ≡ disk.old)) }
+        ensures broken { result ≡ Err HardFault.DiskFault → self.new ≡ record self.old { broken = true } }
+        ensures long { OnOk result (self.new.gate < D.size disk.new) }
+        ensures later { D.faults disk.old ≤ D.faults disk.new }
+        ensures cause { result ≡ Err HardFault.DiskFault → Rose (D.faults disk.old) (D.faults disk.new) }
+        ensures told { WhereTold (WritesStep (hard_step self.old.value epoch Raise) self.old self.new result) (D.told disk.old) (D.told disk.new) }
+    {
+        self.write(disk, epoch, Record::Fence(epoch))
+    }
+
+    /// Adds the job, for a master of this epoch. `Fenced` comes where the fence is above the epoch, then `Known` where a job of
+    /// its number was submitted, and then `Full`.
+    pub fn submit<D: Disk>(
+        &mut self,
+        disk: &mut D,
+        epoch: u64,
+        job: &Job,
+    ) -> Result<(), HardFault>
+        requires sound { self.old.broken ≡ false }
+        requires long { self.old.gate < D.size disk.old }
+        ensures ok { OnOk result ((hard_step self.old.value epoch (Submission job.now) ≡ Ok self.new.value) × (self.new.broken ≡ false)) }
+        ensures refused { IfErr result (Refuses (hard_step self.old.value epoch (Submission job.now))) }
+        ensures unchanged { IfErr result (λ fault. fault ≢ HardFault.DiskFault → (self.new ≡ self.old) × (disk.new ≡ disk.old)) }
+        ensures broken { result ≡ Err HardFault.DiskFault → self.new ≡ record self.old { broken = true } }
+        ensures long { OnOk result (self.new.gate < D.size disk.new) }
+        ensures later { D.faults disk.old ≤ D.faults disk.new }
+        ensures cause { result ≡ Err HardFault.DiskFault → Rose (D.faults disk.old) (D.faults disk.new) }
+        ensures told { WhereTold (WritesStep (hard_step self.old.value epoch (Submission job.now)) self.old self.new result) (D.told disk.old) (D.told disk.new) }
+    {
+        job.app();
+        let copy = match job.copy(self.alloc) {
+            Ok(copy) => copy,
+            Err(OutOfMemory) => return Err(HardFault::OutOfMemory),
+        };
+        self.write(disk, epoch, Record::Submission(copy))
+    }
+
+    /// Ends the job, for a master of this epoch. `Fenced` comes where the fence is above the epoch, then `NoJob` where no job of
+    /// this number was submitted, then `Ended`, and then `Full`.
+    pub fn finish<D: Disk>(
+        &mut self,
+        disk: &mut D,
+        epoch: u64,
+        app: AppNo,
+    ) -> Result<(), HardFault>
+        requires sound { self.old.broken ≡ false }
+        requires long { self.old.gate < D.size disk.old }
+        ensures ok { OnOk result ((hard_step self.old.value epoch (Finishing app.0) ≡ Ok self.new.value) × (self.new.broken ≡ false)) }
+        ensures refused { IfErr result (Refuses (hard_step self.old.value epoch (Finishing app.0))) }
+        ensures unchanged { IfErr result (λ fault. fault ≢ HardFault.DiskFault → (self.new ≡ self.old) × (disk.new ≡ disk.old)) }
+        ensures broken { result ≡ Err HardFault.DiskFault → self.new ≡ record self.old { broken = true } }
+        ensures long { OnOk result (self.new.gate < D.size disk.new) }
+        ensures later { D.faults disk.old ≤ D.faults disk.new }
+        ensures cause { result ≡ Err HardFault.DiskFault → Rose (D.faults disk.old) (D.faults disk.new) }
+        ensures told { WhereTold (WritesStep (hard_step self.old.value epoch (Finishing app.0)) self.old self.new result) (D.told disk.old) (D.told disk.new) }
+    {
+        self.write(disk, epoch, Record::Finish(app))
+    }
+
+    /// Bans the machine, for a master of this epoch. `Fenced` comes where the fence is above the epoch, then `AlreadyBanned`, and
+    /// then `Full`.
+    pub fn ban<D: Disk>(
+        &mut self,
+        disk: &mut D,
+        epoch: u64,
+        machine: MachineNo,
+    ) -> Result<(), HardFault>
+        requires machine { machine.0 < most_machines }
+        requires sound { self.old.broken ≡ false }
+        requires long { self.old.gate < D.size disk.old }
+        ensures ok { OnOk result ((hard_step self.old.value epoch (Banning machine.0) ≡ Ok self.new.value) × (self.new.broken ≡ false)) }
+        ensures refused { IfErr result (Refuses (hard_step self.old.value epoch (Banning machine.0))) }
+        ensures unchanged { IfErr result (λ fault. fault ≢ HardFault.DiskFault → (self.new ≡ self.old) × (disk.new ≡ disk.old)) }
+        ensures broken { result ≡ Err HardFault.DiskFault → self.new ≡ record self.old { broken = true } }
+        ensures long { OnOk result (self.new.gate < D.size disk.new) }
+        ensures later { D.faults disk.old ≤ D.faults disk.new }
+        ensures cause { result ≡ Err HardFault.DiskFault → Rose (D.faults disk.old) (D.faults disk.new) }
+        ensures told { WhereTold (WritesStep (hard_step self.old.value epoch (Banning machine.0)) self.old self.new result) (D.told disk.old) (D.told disk.new) }
+    {
+        self.write(disk, epoch, Record::Ban(machine))
+    }
+
+    /// Lifts the ban of the machine, for a master of this epoch. `Fenced` comes where the fence is above the epoch, then
+    /// `NotBanned`, and then `Full`.
+    pub fn unban<D: Disk>(
+        &mut self,
+        disk: &mut D,
+        epoch: u64,
+        machine: MachineNo,
+    ) -> Result<(), HardFault>
+        requires sound { self.old.broken ≡ false }
+        requires long { self.old.gate < D.size disk.old }
+        ensures ok { OnOk result ((hard_step self.old.value epoch (Unbanning machine.0) ≡ Ok self.new.value) × (self.new.broken ≡ false)) }
+        ensures refused { IfErr result (Refuses (hard_step self.old.value epoch (Unbanning machine.0))) }
+        ensures unchanged { IfErr result (λ fault. fault ≢ HardFault.DiskFault → (self.new ≡ self.old) × (disk.new ≡ disk.old)) }
+        ensures broken { result ≡ Err HardFault.DiskFault → self.new ≡ record self.old { broken = true } }
+        ensures long { OnOk result (self.new.gate < D.size disk.new) }
+        ensures later { D.faults disk.old ≤ D.faults disk.new }
+        ensures cause { result ≡ Err HardFault.DiskFault → Rose (D.faults disk.old) (D.faults disk.new) }
+        ensures told { WhereTold (WritesStep (hard_step self.old.value epoch (Unbanning machine.0)) self.old self.new result) (D.told disk.old) (D.told disk.new) }
+    {
+        self.write(disk, epoch, Record::Unban(machine))
+    }
+
+    /// The greatest epoch that ever started; 0 before the first.
+    pub fn fence(&self) -> u64
+        ensures { result ≡ self.now.value.fence }
+    {
+        self.state.fence()
+    }
+
+    /// The job of this number, or `None` where none was submitted.
+    pub fn job(&self, app: AppNo) -> Option<&Job>
+        ensures some { IfSome result (λ job. option_map (λ known. known.job) (job_of self.now.value.jobs app.0) ≡ Some job.now) }
+        ensures none { IsNone result → is_known self.now.value.jobs app.0 ≡ false }
+    {
+        match self.state.find(app) {
+            Some(entry) => Some(&entry.job),
+            None => None,
+        }
+    }
+
+    /// Whether a job of this number was submitted and has ended.
+    pub fn ended(&self, app: AppNo) -> bool
+        ensures { result ≡ has_ended self.now.value.jobs app.0 }
+    {
+        match self.state.find(app) {
+            Some(entry) => entry.ended,
+            None => false,
+        }
+    }
+
+    /// Whether the machine is banned.
+    pub fn banned(&self, machine: MachineNo) -> bool
+        ensures { result ≡ has_number machine.0 self.now.value.bans }
+    {
+        self.state.is_banned(machine)
+    }
+
+    /// How many records the checkpoint has, at most 65,536.
+    pub fn records(&self) -> u32
+        ensures value { result ≡ self.now.value.records }
+        ensures few { result ≤ most_records }
+    {
+        self.state.records()
+    }
+
+    /// Whether a writing call answered `DiskFault`. Then the checkpoint has to be opened again.
+    pub fn broken(&self) -> bool
+        ensures { result ≡ self.now.broken }
+    {
+        self.broken
+    }
 }
