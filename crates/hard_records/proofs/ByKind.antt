@@ -58,12 +58,12 @@ job_short l j is = go (is_job l) refl is
   where
     go : (b : Bool) → is_job l ≡ b → cond b (Some (job_in l)) None ≡ Some j → length l ≤ 529
     go true test is =
-      let both = both_true (nat_eq (length l) (9 + 65 * slice_index l 8)) (is_valid_job 8 (job_in l)) test in
-      let long = both.0 in
-      let few = (sound_of (job_in l) both.1).few in
-      let count = units_count (slice_index l 8) (drop 9 l) in
-      let is_long : length l ≡ 9 + 65 * slice_index l 8 = grind (arith, nat_tests) in
-      omega (arith, is_long, few, count)
+        let both = both_true (nat_eq (length l) (9 + 65 * slice_index l 8)) (is_valid_job 8 (job_in l)) test in
+        let long = both.0 in
+        let few = (sound_of (job_in l) both.1).few in
+        let count = units_count (slice_index l 8) (drop 9 l) in
+        let is_long : length l ≡ 9 + 65 * slice_index l 8 = grind (arith, nat_tests) in
+        omega (arith, is_long, few, count)
     go false test is = absurd (cc)
 
 mapped : {A : Type 0} (f : A → Record) (o : Option A) (r : Record) (P : Type 0) → option_map f o ≡ Some r → ((x : A) → o ≡ Some x → P) → P

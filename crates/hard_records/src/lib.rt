@@ -5,4 +5,4 @@ mod job;
 mod records;
 
 pub use fuxi_terms::OutOfMemory;
-pub use records::{Record, read_record, written_is_read, write_record};
+pub use records::{Record, read_record, write_record, written_is_read};

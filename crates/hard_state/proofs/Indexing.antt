@@ -1,5 +1,5 @@
 -- The places of jobs by their numbers.
-use Rattle.std.proofs.Common.{◌≡◌, ◌≢◌, ◌⊎◌, inl, inr, ℕ, zero, suc, ◌+◌, ◌-◌, ◌<◌, ◌≤◌, Bool, true, false, cond, nat_eq, List, [], ◌∷◌, ◌++◌, length, get_or, set, replicate, map, slice_get, Option, None, Some, is_some, refl, sym, ◌∙◌, ap, subst, arith, length-append}
+use Rattle.std.proofs.Common.{◌≡◌, ◌≢◌, inl, inr, ℕ, zero, suc, ◌+◌, ◌-◌, ◌<◌, ◌≤◌, Bool, true, false, cond, nat_eq, List, [], ◌∷◌, ◌++◌, length, get_or, set, replicate, map, slice_get, Option, None, Some, is_some, refl, sym, ◌∙◌, ap, subst, arith, length-append}
 use Rattle.std.specs.Option.{option_map}
 use Rattle.std.proofs.lemmas.List.{get_or-set_same, get_or-set_other, length-set, length-map}
 use Rattle.std.proofs.lemmas.Bool.{cases_eq, cases_lt}
@@ -9,7 +9,7 @@ use Rattle.std.specs.List.{list_all}
 use Rattle.fuxi_terms.specs.Cluster.{JobRecord, is_valid_job, is_valid_unit, is_between}
 use Rattle.fuxi_terms.proofs.Booleans.{both_true}
 use Rattle.fuxi_terms.specs.Jobs.{KnownJob, job_of, is_known}
-use Rattle.written_roles.specs.HardState.{with_job, with_ended}
+use Rattle.written_roles.specs.HardState.{with_ended}
 use Rattle.hard_state.specs.Index.{job_at, count_used, IsIndex}
 
 -- nothing is submitted
@@ -169,9 +169,9 @@ module _ (places : List ℕ) (jobs : List KnownJob) (job : KnownJob) (index : Is
     within = is_within;
     only = only_one;
     count =
-      let free = free_of places jobs number index none in
-      length-append jobs (job ∷ []) ∙ ap (λ n. n + 1) index.count
-      ∙ sym (ap (λ p. count_used (set places number p)) (let e : length jobs + 1 ≡ suc (length jobs) = omega arith in e) ∙ one_used places number (length jobs) (omega (arith, small, index.numbers)) free);
+        let free = free_of places jobs number index none in
+        length-append jobs (job ∷ []) ∙ ap (λ n. n + 1) index.count
+        ∙ sym (ap (λ p. count_used (set places number p)) (let e : length jobs + 1 ≡ suc (length jobs) = omega arith in e) ∙ one_used places number (length jobs) (omega (arith, small, index.numbers)) free);
   }
 
 -- a job has ended
@@ -215,8 +215,8 @@ index_ended places jobs a index = record {
   leads = λ number. mapped_job (ended_if a) (number_kept a) jobs number ∙ ap (option_map (ended_if a)) (index.leads number) ∙ sym (mapped_place (ended_if a) jobs (get_or places number 0));
   within = λ number. omega (arith, index.within number, length-map jobs (ended_if a));
   only = λ i k at.
-    let w = was (ended_if a) (slice_get jobs i) k (sym (mapped_at (ended_if a) jobs i) ∙ at) in
-    ap (λ n. get_or places n 0) (ap (λ (j : KnownJob). j.job.number) (sym w.2) ∙ number_kept a w.0) ∙ index.only i w.0 w.1;
+      let w = was (ended_if a) (slice_get jobs i) k (sym (mapped_at (ended_if a) jobs i) ∙ at) in
+      ap (λ n. get_or places n 0) (ap (λ (j : KnownJob). j.job.number) (sym w.2) ∙ number_kept a w.0) ∙ index.only i w.0 w.1;
   count = length-map jobs (ended_if a) ∙ index.count;
 }
 

@@ -5,3 +5,4 @@ pub mod Runs
 pub mod Reading
 pub mod Standing
 pub mod Stops
+pub mod Openings

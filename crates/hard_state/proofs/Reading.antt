@@ -166,8 +166,8 @@ module _ {S : Type 0} (taken : S → List ℕ → Option S) where
         fits = omega (arith, w.fits, some, length-append (take size bytes) end, length-take size bytes);
         counts = w.counts ∙ ap (λ m. 5 + m) (sym (size_same size bytes end w.some (omega (arith, w.fits))));
         takes =
-          ap (λ l. taken value (take (size - 5) l)) (rest_same 5 size bytes end w.some (omega (arith, w.fits)))
-          ∙ ap (taken value) (take_at (take (size - 5) (drop 5 bytes)) end (size - 5) (omega (arith, w.fits, w.some, length-take (size - 5) (drop 5 bytes), length-drop 5 bytes))) ∙ w.takes;
+            ap (λ l. taken value (take (size - 5) l)) (rest_same 5 size bytes end w.some (omega (arith, w.fits)))
+            ∙ ap (taken value) (take_at (take (size - 5) (drop 5 bytes)) end (size - 5) (omega (arith, w.fits, w.some, length-take (size - 5) (drop 5 bytes), length-drop 5 bytes))) ∙ w.takes;
       })
 
   -- What is known of a file that was read up to its closed gate: with any other end from that gate on, reading comes there too and goes on.
@@ -215,13 +215,13 @@ module _ {S : Type 0} (taken : S → List ℕ → Option S) where
           within = omega (arith, c.within, length-drop size file, w.fits);
           shut = ap is_open (sym (drop-drop c.size size file)) ∙ c.shut;
           again = λ end some.
-            let tail = take c.size (drop size file) ++ end in
-            let some_tail : 0 < length tail = omega (arith, some, length-append (take c.size (drop size file)) end) in
-            let behind : drop size (take size file ++ tail) ≡ tail = drop_at (take size file) tail size (omega (arith, w.fits, length-take size file)) in
-            ap (λ l. read_on taken (suc left) gate value l) (ap (λ l. l ++ end) (take-add size c.size file) ∙ append_assoc (take size file) (take c.size (drop size file)) end)
-            ∙ ap (read_from (read_on taken left) gate value (take size file ++ tail)) (whole_again value file next size tail w some_tail)
-            ∙ ap (read_on taken left (gate + size) next) behind
-            ∙ c.again end some;
+              let tail = take c.size (drop size file) ++ end in
+              let some_tail : 0 < length tail = omega (arith, some, length-append (take c.size (drop size file)) end) in
+              let behind : drop size (take size file ++ tail) ≡ tail = drop_at (take size file) tail size (omega (arith, w.fits, length-take size file)) in
+              ap (λ l. read_on taken (suc left) gate value l) (ap (λ l. l ++ end) (take-add size c.size file) ∙ append_assoc (take size file) (take c.size (drop size file)) end)
+              ∙ ap (read_from (read_on taken left) gate value (take size file ++ tail)) (whole_again value file next size tail w some_tail)
+              ∙ ap (read_on taken left (gate + size) next) behind
+              ∙ c.again end some;
           counts = omega (arith, c.counts, one_more value (take (size - 5) (drop 5 file)) next w.takes);
         }
 

@@ -2,7 +2,7 @@
 use Rattle.std.proofs.Common.{◌≡◌, inl, inr, ℕ, ◌+◌, ◌<◌, ◌≤◌, List, [], ◌∷◌, length, Option, None, Some, Result, Ok, Err, OnOk, IfSome, refl, sym, ◌∙◌, ap, subst, arith}
 use Rattle.std.specs.Bool.{⊤}
 use Rattle.std.specs.List.{AllByRecursion}
-use Rattle.fuxi_io.specs.Disks.{Moment, Told, IsImage, overwritten, synced_moment, after_write, after_sync, then_told, Writes, Syncs, WhereTold, Leaves, LeavesAlways}
+use Rattle.fuxi_io.specs.Disks.{Moment, Told, overwritten, synced_moment, after_write, after_sync, then_told, Writes, Syncs, WhereTold, Leaves, LeavesAlways}
 use Rattle.hard_state.specs.Gates.{IsAppending, appended, IsSynced, Appends}
 use Rattle.hard_state.proofs.Images.{synced_image, part_image, with_bytes, length-with_bytes, untouched, writing_bytes, bytes_written, writing_gate, all_written}
 
@@ -11,29 +11,24 @@ abbrev pub Then : (Told → Told → Type 0) → (Told → Told → Type 0) → 
 Then R S old new = (mid : Told) × R old mid × S mid new
 
 pub then_where : (R S : Told → Told → Type 0) (a b c : Option Told) → WhereTold R a b → WhereTold S b c → WhereTold (Then R S) a c
-then_where R S None None None r s = tt
-then_where R S None None (Some c) r s = s
-then_where R S None (Some b) c r s = absurd r
+then_where R S None b c r s = tt
 then_where R S (Some a) None c r s = absurd r
 then_where R S (Some a) (Some b) None r s = s
 then_where R S (Some a) (Some b) (Some c) r s = (b, r, s)
 
 pub map_where : {R S : Told → Told → Type 0} (a b : Option Told) → ((old new : Told) → R old new → S old new) → WhereTold R a b → WhereTold S a b
-map_where None None f r = tt
-map_where None (Some b) f r = r
+map_where None b f r = tt
 map_where (Some a) None f r = r
 map_where (Some a) (Some b) f r = f a b r
 
 -- with what is known of the first, or of the second
 pub knowing_first : (K : Told → Type 0) (R : Told → Told → Type 0) (a b : Option Told) → IfSome a K → WhereTold R a b → WhereTold (λ old new. K old × R old new) a b
-knowing_first K R None None k r = tt
-knowing_first K R None (Some b) k r = r
+knowing_first K R None b k r = tt
 knowing_first K R (Some a) None k r = r
 knowing_first K R (Some a) (Some b) k r = (k, r)
 
 pub knowing_second : (R : Told → Told → Type 0) (K : Told → Type 0) (a b : Option Told) → IfSome b K → WhereTold R a b → WhereTold (λ old new. R old new × K new) a b
-knowing_second R K None None k r = tt
-knowing_second R K None (Some b) k r = r
+knowing_second R K None b k r = tt
 knowing_second R K (Some a) None k r = r
 knowing_second R K (Some a) (Some b) k r = (r, k)
 
@@ -155,9 +150,8 @@ module _ {E : Type 0} (gate : ℕ) (bytes : List ℕ) (size : ℕ) (within : gat
   ends_at_4 a b c d e result known w s x y =
       map_where {S = Append result} a e
       (λ old new h rest.
-        let inside = within_bytes gate size old within h.0 in
-        (
-          leaves_4 gate bytes old inside rest h.1.1.1.0 h.1.1.0 h.1.0 new result ((h.1.1.1.1, h.1.1.1.2), h.1.1.2) h.1.2,
-          now_4 gate bytes old inside rest h.1.1.1.0 h.1.1.0 h.1.0 new result ((h.1.1.1.1, h.1.1.1.2), h.1.1.2) h.1.2,
-        ))
+      let inside = within_bytes gate size old within h.0 in (
+        leaves_4 gate bytes old inside rest h.1.1.1.0 h.1.1.0 h.1.0 new result ((h.1.1.1.1, h.1.1.1.2), h.1.1.2) h.1.2,
+        now_4 gate bytes old inside rest h.1.1.1.0 h.1.1.0 h.1.0 new result ((h.1.1.1.1, h.1.1.1.2), h.1.1.2) h.1.2,
+      ))
       (knowing_first (IsLong size) _ a e known (then_where _ _ a d e (then_where _ _ a c d (then_where _ _ a b c w s) x) y))

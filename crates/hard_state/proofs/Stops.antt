@@ -1,8 +1,7 @@
 -- What a crash leaves of a checkpoint while a record is written.
-use Rattle.std.proofs.Common.{cond, Bool, true, false, nat_lt, ◌≡◌, ◌⊎◌, inl, inr, ⊎_elim, ℕ, ◌+◌, ◌^◌, ◌<◌, ◌≤◌, List, [], ◌∷◌, length, not, Option, None, Some, Result, Ok, Err, IfSome, refl, sym, ◌∙◌, ap, subst, arith}
+use Rattle.std.proofs.Common.{Bool, true, false, nat_lt, ◌≡◌, ◌⊎◌, inl, inr, ⊎_elim, ℕ, ◌+◌, ◌^◌, ◌<◌, List, [], ◌∷◌, length, not, Option, None, Some, Result, Ok, Err, IfSome, refl, sym, ◌∙◌, ap, subst, arith}
 use Rattle.std.proofs.lemmas.Bool.Decides.{nat_tests}
 use Rattle.fuxi_io.specs.Disks.{Moment, Told, IsImage, synced_moment, WhereTold, LeavesAlways}
-use Rattle.fuxi_terms.specs.Cluster.{JobRecord}
 use Rattle.fuxi_terms.specs.Jobs.{is_known, has_ended}
 use Rattle.fuxi_terms.specs.Limits.{most_records}
 use Rattle.fuxi_terms.specs.Numbers.{has_number}
@@ -122,12 +121,12 @@ module _ (before : Kept) (next : HardState) (step : Result HardState Refusal) (b
   written_where E F size after a b d e value gate within known appends =
       map_where {S = WritesStep {E = F} step before after (Ok e)} a b
       (λ old new h rest.
-        let inside = within_bytes before.gate size old within h.0 in
-        let all = h.1 rest.synced in (
-          all_stand old new rest.reads inside all.0,
-          record {
-            synced = all.1 ∙ ap (λ (m : Moment). synced_moment m.bytes) (sym all.1);
-            reads = ap (λ (m : Moment). reads_as m.bytes) all.1 ∙ new_reads old.now.bytes rest.reads inside ∙ (λ i. Ok (record { value = sym value i; gate = sym gate i }));
-          },
-        ))
+      let inside = within_bytes before.gate size old within h.0 in
+      let all = h.1 rest.synced in (
+        all_stand old new rest.reads inside all.0,
+        record {
+          synced = all.1 ∙ ap (λ (m : Moment). synced_moment m.bytes) (sym all.1);
+          reads = ap (λ (m : Moment). reads_as m.bytes) all.1 ∙ new_reads old.now.bytes rest.reads inside ∙ (λ i. Ok (record { value = sym value i; gate = sym gate i }));
+        },
+      ))
       (knowing_first (IsLong size) _ a b known appends)

@@ -1,5 +1,5 @@
 -- What a checkpoint stands for, and what the calls on it do.
-use Rattle.std.specs.Prelude.{◌≡◌, ◌⊎◌, ℕ, ◌<◌, Bool, true, false, List, [], ◌∷◌, length, Option, Some, None, Result, Ok, Err, OnOk, IsOk}
+use Rattle.std.specs.Prelude.{◌≡◌, ◌⊎◌, ℕ, ◌<◌, ◌≤◌, Bool, true, false, List, [], ◌∷◌, length, Option, Some, None, Result, Ok, Err, OnOk, IsOk}
 use Rattle.fuxi_io.specs.Disks.{Moment, Told, synced_moment, then_told, after_sync, LeavesAlways}
 use Rattle.fuxi_terms.specs.Cluster.{is_valid_job}
 use Rattle.fuxi_terms.specs.Jobs.{KnownJob, is_known}
@@ -85,6 +85,11 @@ abbrev pub Opens : Told → Told → Type 0
 Opens old new =
     (value : HardState) → records_of old.now.bytes ≡ Ok value
     → (new ≡ old) ⊎ LeavesAlways (λ file. records_of file ≡ Ok value) (then_told old (after_sync old.now)) new
+
+-- A file of at most one byte is made one of a closed gate.
+abbrev pub Begins : {A E : Type 0} → Result A E → Told → Told → Type 0
+Begins result old new =
+    IsSynced old.now → length old.now.bytes ≤ 1 → LeavesAlways (λ file. records_of file ≡ Ok empty_hard) old new × OnOk result (new.now ≡ synced_moment (0 ∷ []))
 
 -- it gave what the file stood for, and left the checkpoint at rest
 abbrev pub OpensAs : Kept → Told → Told → Type 0

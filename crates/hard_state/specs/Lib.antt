@@ -2,4 +2,5 @@ pub mod Gates
 pub mod Checkpoints
 pub mod Index
 pub mod Bans
+pub mod Pieces
 pub mod HardFiles

@@ -5,17 +5,18 @@ ghost use Rattle.fuxi_io.specs.Disks.{WhereTold};
 ghost use Rattle.fuxi_terms.specs.Jobs.{job_of, is_known, has_ended};
 ghost use Rattle.fuxi_terms.specs.Numbers.{has_number};
 ghost use Rattle.fuxi_terms.specs.Limits.{most_machines, most_records};
-ghost use Rattle.written_roles.specs.HardState.{Raise, Submission, Finishing, Banning, Unbanning, hard_step};
+ghost use Rattle.written_roles.specs.HardState.{Raise, Submission, Finishing, Banning, Unbanning, empty_hard, hard_step};
 ghost use Rattle.hard_records.specs.Bodies.{body_of, record_in, IsWithinLimits};
 ghost use Rattle.hard_state.specs.Checkpoints.{behind_gate};
-ghost use Rattle.hard_state.specs.HardFiles.{event_of, IsAskedBy, Refuses, WritesStep, Opens, OpensAs, IsDamagedAt, IsOpeningFault};
+ghost use Rattle.hard_state.specs.HardFiles.{event_of, IsAskedBy, Refuses, WritesStep, Opens, OpensAs, IsDamagedAt, IsOpeningFault, Begins};
 
 use crate::fault::HardFault;
 use crate::gate::append;
+use crate::opening::{begin, read};
 use crate::state::State;
 use fuxi_io::{Disk, Failed};
 use fuxi_terms::OutOfMemory;
-use hard_records::{Record, written_is_read, write_record};
+use hard_records::{Record, write_record, written_is_read};
 use schedule_unit::{AppNo, Job, MachineNo};
 use std::alloc::Global;
 use std::marker::Model;
@@ -71,13 +72,72 @@ fn encode(alloc: Global, change: &Record) -> Result<Vec<u8>, OutOfMemory>
 }
 
 impl Hard {
+    /// What the checkpoint stands for. It begins with a sync, so nothing is pending when it reads; where the file has no damaged
+    /// record, at each moment from then on a crash leaves a file that stands for the same state. A file of at most one byte
+    /// stands for a state in which nothing was written yet, and gets its closed gate.
+    ///
+    /// `NotCheckpoint` tells the offset of the first damaged record: the length of its body runs past the end of the file or no
+    /// byte follows the body, the body is that of no record, or the record is one that no master could have written there.
+    /// It takes memory for a piece of the file and for what it stands for.
+    pub fn open<D: Disk>(alloc: Global, disk: &mut D) -> Result<Hard, HardFault>
+        ensures opened { IfOk result (λ hard. WhereTold (OpensAs hard) (D.told disk.old) (D.told disk.new)) }
+        ensures damaged { (offset : ℕ) → result ≡ Err (HardFault.NotCheckpoint offset) → WhereTold (IsDamagedAt offset) (D.told disk.old) (D.told disk.new) }
+        ensures faults { IfErr result IsOpeningFault }
+        ensures sound { IfOk result (λ hard. hard.broken ≡ false) }
+        ensures long { IfOk result (λ hard. hard.gate < D.size disk.new) }
+        ensures later { D.faults disk.old ≤ D.faults disk.new }
+        ensures cause { result ≡ Err HardFault.DiskFault → Rose (D.faults disk.old) (D.faults disk.new) }
+        ensures told { WhereTold Opens (D.told disk.old) (D.told disk.new) }
+    {
+        match disk.sync() {
+            Ok(()) => {}
+            Err(Failed) => return Err(HardFault::DiskFault),
+        }
+        let len = match disk.len() {
+            Ok(len) => len,
+            Err(Failed) => return Err(HardFault::DiskFault),
+        };
+        if len <= 1 {
+            return Hard::begin(alloc, disk);
+        }
+        match read(alloc, disk, len) {
+            Ok((state, gate)) => Ok(Hard {
+                alloc,
+                state,
+                gate,
+                broken: false,
+            }),
+            Err(fault) => Err(fault),
+        }
+    }
+
+    // A checkpoint of a file of at most one byte, which gets its closed gate.
+    fn begin<D: Disk>(alloc: Global, disk: &mut D) -> Result<Hard, HardFault>
+        ensures told { WhereTold (Begins result) (D.told disk.old) (D.told disk.new) }
+        ensures empty { IfOk result (λ hard. hard ≡ record { value = empty_hard; gate = 0; broken = false }) }
+        ensures faults { IfErr result IsOpeningFault }
+        ensures own { (offset : ℕ) → result ≢ Err (HardFault.NotCheckpoint offset) }
+        ensures long { OnOk result (0 < D.size disk.new) }
+        ensures later { D.faults disk.old ≤ D.faults disk.new }
+        ensures cause { result ≡ Err HardFault.DiskFault → Rose (D.faults disk.old) (D.faults disk.new) }
+    {
+        let state = match State::nothing(alloc) {
+            Ok(state) => state,
+            Err(OutOfMemory) => return Err(HardFault::OutOfMemory),
+        };
+        match begin(disk) {
+            Ok(()) => Ok(Hard {
+                alloc,
+                state,
+                gate: 0,
+                broken: false,
+            }),
+            Err(Failed) => Err(HardFault::DiskFault),
+        }
+    }
+
     // Writes a record that a master of this epoch asks for, and makes the state that it leads to.
-    fn write<D: Disk>(
-        &mut self,
-        disk: &mut D,
-        epoch: u64,
-        change: Record,
-    ) -> Result<(), HardFault>
+    fn write<D: Disk>(&mut self, disk: &mut D, epoch: u64, change: Record) -> Result<(), HardFault>
         requires asked { IsAskedBy epoch change }
         requires sound { self.old.broken ≡ false }
         requires long { self.old.gate < D.size disk.old }
@@ -129,12 +189,7 @@ impl Hard {
 
     /// Adds the job, for a master of this epoch. `Fenced` comes where the fence is above the epoch, then `Known` where a job of
     /// its number was submitted, and then `Full`.
-    pub fn submit<D: Disk>(
-        &mut self,
-        disk: &mut D,
-        epoch: u64,
-        job: &Job,
-    ) -> Result<(), HardFault>
+    pub fn submit<D: Disk>(&mut self, disk: &mut D, epoch: u64, job: &Job) -> Result<(), HardFault>
         requires sound { self.old.broken ≡ false }
         requires long { self.old.gate < D.size disk.old }
         ensures ok { OnOk result ((hard_step self.old.value epoch (Submission job.now) ≡ Ok self.new.value) × (self.new.broken ≡ false)) }
@@ -156,12 +211,7 @@ impl Hard {
 
     /// Ends the job, for a master of this epoch. `Fenced` comes where the fence is above the epoch, then `NoJob` where no job of
     /// this number was submitted, then `Ended`, and then `Full`.
-    pub fn finish<D: Disk>(
-        &mut self,
-        disk: &mut D,
-        epoch: u64,
-        app: AppNo,
-    ) -> Result<(), HardFault>
+    pub fn finish<D: Disk>(&mut self, disk: &mut D, epoch: u64, app: AppNo) -> Result<(), HardFault>
         requires sound { self.old.broken ≡ false }
         requires long { self.old.gate < D.size disk.old }
         ensures ok { OnOk result ((hard_step self.old.value epoch (Finishing app.0) ≡ Ok self.new.value) × (self.new.broken ≡ false)) }

@@ -6,7 +6,9 @@ mod fault;
 mod gate;
 mod hard;
 mod jobs;
+mod opening;
 mod state;
+mod window;
 
 pub use fault::HardFault;
 pub use fuxi_terms::OutOfMemory;

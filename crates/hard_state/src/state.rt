@@ -304,6 +304,7 @@ impl State {
         ensures taken { result ≡ Ok true → taken self.old body.now ≡ Some self.new }
         ensures refused { result ≡ Ok false → taken self.old body.now ≡ None }
         ensures more { result ≡ Ok true → self.new.records ≡ self.old.records + 1 }
+        ensures few { result ≡ Ok true → self.new.records ≤ most_records }
         ensures short { result ≡ Ok true → length body.now ≤ 531 }
     {
         let found = match read_record(alloc, body) {
@@ -329,6 +330,7 @@ impl State {
         ensures within { (size : ℕ) → result ≡ Look.Whole size → size < length bytes.now }
         ensures short { (size : ℕ) → result ≡ Look.Whole size → size ≤ 536 }
         ensures more { (size : ℕ) → result ≡ Look.Whole size → self.new.records ≡ self.old.records + 1 }
+        ensures few { (size : ℕ) → result ≡ Look.Whole size → self.new.records ≤ most_records }
     {
         if bytes.is_empty() || bytes[0] != 1 {
             return Look::Closed;

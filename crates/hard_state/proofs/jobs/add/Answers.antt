@@ -1,4 +1,4 @@
-use Rattle.std.proofs.Common.{◌≡◌, ◌<◌, ◌+◌, ◌++◌, [], ◌∷◌, List, ℕ, map, false, length, rules, sym, ap, ◌∙◌, subst, set, arith}
+use Rattle.std.proofs.Common.{◌≡◌, ◌+◌, ◌++◌, [], ◌∷◌, List, ℕ, map, false, length, rules, sym, ap, ◌∙◌, subst, set}
 use Rattle.std.proofs.lemmas.List.{length-map, map-append}
 use Rattle.fuxi_terms.specs.Jobs.{KnownJob}
 use Rattle.hard_state.specs.HardFiles.{known_job}

@@ -1,6 +1,5 @@
-use Rattle.std.proofs.Common.{◌≡◌, ◌-◌, map, true, set, sym, ap, ◌∙◌, subst, List}
+use Rattle.std.proofs.Common.{◌-◌, map, true, set, sym, ap, ◌∙◌, subst, List}
 use Rattle.fuxi_terms.specs.Jobs.{KnownJob}
-use Rattle.written_roles.specs.HardState.{with_ended}
 use Rattle.hard_state.specs.declared.jobs.Entry.{Entry}
 use Rattle.hard_state.specs.HardFiles.{known_job}
 use Rattle.hard_state.specs.Index.{IsIndex}

@@ -1,4 +1,4 @@
-use Rattle.std.proofs.Common.{◌≡◌, ◌<◌, ◌-◌, map, length, sym, rules}
+use Rattle.std.proofs.Common.{◌-◌, map, sym}
 use Rattle.hard_state.specs.HardFiles.{known_job}
 use Rattle.hard_state.proofs.Indexing.{item_there, mapped_there, found_there, place_within}
 use Rattle.hard_state.proofs.jobs.find.Goals as goal

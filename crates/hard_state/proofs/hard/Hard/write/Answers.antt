@@ -1,4 +1,4 @@
-use Rattle.std.proofs.Common.{◌≡◌, ℕ, ◌+◌, ◌<◌, List, length, Ok, Err, ◌∙◌, ap, rules, subst, arith}
+use Rattle.std.proofs.Common.{◌≡◌, ◌+◌, ◌<◌, length, Ok, Err, ◌∙◌, ap, rules, subst, arith}
 use Rattle.fuxi_io.specs.declared.outside.Failed.{Failed}
 use Rattle.fuxi_io.specs.Disks.{WhereTold}
 use Rattle.fuxi_terms.specs.Limits.{most_records}
@@ -27,12 +27,12 @@ returns-in-Ok-append-clause-told g c =
     let body = body_of c.args.change in
     let value : c.self.inside.state ≡ before.value = ap (λ (k : Kept). k.value) c.self.view_is in
     let steps : hard_step before.value epoch event ≡ Ok (hard_after before.value epoch event) =
-      subst (λ (h : HardState). hard_step h epoch event ≡ Ok (hard_after h epoch event)) value c.in-Ok.ensures.ok in
+    subst (λ (h : HardState). hard_step h epoch event ≡ Ok (hard_after h epoch event)) value c.in-Ok.ensures.ok in
     let room : before.value.records < most_records = subst (λ (h : HardState). h.records < most_records) value c.in-Ok.ensures.room in
     let taken_as = takes before.value _ epoch c.args.change c.requires.asked c.encode.ensures.back steps in
     let bytes : c.deref.result.now ≡ behind_gate body = c.deref.ensures.value ∙ c.in-Ok-encode.ensures.bytes in
     let appends : WhereTold (Appends {E = Failed} before.gate (behind_gate body) (Ok (record {}))) (g.D.Disk.told c.args.disk.now) (g.D.Disk.told c.append.new.disk) =
-      at_same {E = Failed} before.gate (behind_gate body) _ _ (Ok (record {})) _ _ (ap (λ (k : Kept). k.gate) c.self.view_is) bytes c.in-Ok-append.ensures.told in
+    at_same {E = Failed} before.gate (behind_gate body) _ _ (Ok (record {})) _ _ (ap (λ (k : Kept). k.gate) c.self.view_is) bytes c.in-Ok-append.ensures.told in
     let made : length c.in-Ok-encode.bytes.items ≡ 5 + length body = ap length c.in-Ok-encode.ensures.bytes ∙ length-behind body in
     let size : c.len.result ≡ 5 + length body = search (rules, made) in
     written_where before (hard_after before.value epoch event) _ body steps taken_as room (omega (arith, c.encode.ensures.body)) Failed HardFault _ _ _ _ _ _
@@ -47,11 +47,11 @@ returns-in-Err-append-clause-told g c =
     let body = body_of c.args.change in
     let value : c.self.inside.state ≡ before.value = ap (λ (k : Kept). k.value) c.self.view_is in
     let steps : hard_step before.value epoch event ≡ Ok (hard_after before.value epoch event) =
-      subst (λ (h : HardState). hard_step h epoch event ≡ Ok (hard_after h epoch event)) value c.in-Ok.ensures.ok in
+    subst (λ (h : HardState). hard_step h epoch event ≡ Ok (hard_after h epoch event)) value c.in-Ok.ensures.ok in
     let room : before.value.records < most_records = subst (λ (h : HardState). h.records < most_records) value c.in-Ok.ensures.room in
     let taken_as = takes before.value _ epoch c.args.change c.requires.asked c.encode.ensures.back steps in
     let bytes : c.deref.result.now ≡ behind_gate body = c.deref.ensures.value ∙ c.in-Ok-encode.ensures.bytes in
     let appends : WhereTold (Appends {E = Failed} before.gate (behind_gate body) (Err (record {}))) (g.D.Disk.told c.args.disk.now) (g.D.Disk.told c.append.new.disk) =
-      at_same {E = Failed} before.gate (behind_gate body) _ _ (Err (record {})) _ _ (ap (λ (k : Kept). k.gate) c.self.view_is) bytes c.in-Err-append.ensures.told in
+    at_same {E = Failed} before.gate (behind_gate body) _ _ (Err (record {})) _ _ (ap (λ (k : Kept). k.gate) c.self.view_is) bytes c.in-Err-append.ensures.told in
     failed_where before (hard_after before.value epoch event) _ body steps taken_as room (omega (arith, c.encode.ensures.body)) Failed HardFault _ before _ _ (record {}) DiskFault
     c.requires.long (g.met.D.Disk.measured c.args.disk.now) appends
