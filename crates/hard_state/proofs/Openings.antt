@@ -1,5 +1,5 @@
 -- What is read of a checkpoint that is opened, and what a crash leaves meanwhile.
-use Rattle.std.proofs.Common.{◌≡◌, ⊎_elim, inr, ℕ, ◌+◌, ◌-◌, ◌<◌, ◌≤◌, true, false, cond, nat_lt, List, [], ◌∷◌, length, take, drop, Option, None, Some, Result, Ok, Err, OnOk, IfOk, IfSome, refl, sym, ◌∙◌, ap, subst, arith, length-drop}
+use Rattle.std.proofs.Common.{◌⊎◌, ◌≡◌, ⊎_elim, inl, inr, ℕ, ◌+◌, ◌-◌, ◌<◌, ◌≤◌, true, false, cond, nat_lt, List, [], ◌∷◌, length, take, drop, Option, None, Some, Result, Ok, Err, OnOk, IfOk, IfSome, refl, sym, ◌∙◌, ap, subst, arith, length-drop}
 use Rattle.std.proofs.lemmas.List.{take_all, drop_all, drop-drop, drop-take}
 use Rattle.std.proofs.lemmas.Bool.Decides.{nat_tests}
 use Rattle.fuxi_io.specs.Disks.{Moment, Told, synced_moment, after_write, after_sync, then_told, Writes, Syncs, WhereTold, LeavesAlways}
@@ -7,6 +7,7 @@ use Rattle.fuxi_terms.specs.Limits.{most_records}
 use Rattle.written_roles.specs.HardState.{HardState, empty_hard}
 use Rattle.hard_records.specs.Bodies.{record_in}
 use Rattle.hard_records.specs.declared.records.Record.{Record}
+use Rattle.hard_state.specs.Gates.{WritesThrough}
 use Rattle.hard_state.specs.Checkpoints.{Opened, Closed, Damaged, Whole, found_at, read_on}
 use Rattle.hard_state.specs.Pieces.{Piece, IsPieceOf, Reaches, end_of}
 use Rattle.hard_state.specs.HardFiles.{record_taken, taken, reads_as, value_of, records_of, Kept, opened_as, Opens, OpensAs, IsDamagedAt, Begins}
@@ -106,7 +107,7 @@ closed_file : reads_as (0 ∷ []) ≡ Ok (record { value = empty_hard; gate = 0 
 unfolding reads_as
 closed_file = closed_reads taken most_records 0 empty_hard (0 ∷ []) refl
 
--- the two calls that make a short file one of a closed gate
+-- the write with its sync that makes a short file one of a closed gate
 module _ (old : Told) (short : length old.now.bytes ≤ 1) where
   abbrev P : List ℕ → Type 0
   P file = records_of file ≡ Ok empty_hard
@@ -117,27 +118,20 @@ module _ (old : Told) (short : length old.now.bytes ≤ 1) where
   short_mid : length mid.now.bytes ≤ 1
   short_mid = omega (arith, short, length-overwritten old.now.bytes (0 ∷ []) 0 (omega arith))
 
-  begins_1 : {E : Type 0} (new : Told) (result : Result (Unit {0}) E) → Writes 0 (0 ∷ []) result old new → LeavesAlways P old new
-  begins_1 new result writes =
+  begin_writes : {E : Type 0} (new : Told) (result : Result (Unit {0}) E) → Writes 0 (0 ∷ []) result old new → LeavesAlways P old new
+  begin_writes new result writes =
       leaves_write P old old new 0 (0 ∷ []) result (leaves_first P old (λ left image. short_file left (omega (arith, short, image.at_most)))) writes (omega arith)
       (λ left image. short_file left (omega (arith, image.at_most, short_mid)))
 
-  begins_2 : (E : Type 0) (between new : Told) (result : Result (Unit {0}) E) → between ≡ mid → Syncs result between new → LeavesAlways P old new
-  begins_2 E between new result is syncs =
-      leaves_sync P old between new result (begins_1 {E = E} between (Ok (record {})) is) syncs (subst (λ (t : Told). P t.now.bytes) (sym is) (short_file mid.now.bytes short_mid))
+  begin_leaves : {E : Type 0} (new : Told) (result : Result (Unit {0}) E) → WritesThrough 0 (0 ∷ []) result old new → LeavesAlways P old new × OnOk result (new.now ≡ synced_moment (0 ∷ []))
+  begin_leaves {E} new (Ok done) is = (
+    leaves_sync {E = E} P old mid new (Ok done) (begin_writes {E = E} mid (Ok done) refl) is (short_file mid.now.bytes short_mid),
+    ap (λ (t : Told). t.now) is ∙ ap (λ l. synced_moment (0 ∷ l)) (drop_all 1 old.now.bytes short),
+  )
+  begin_leaves new (Err fault) writes = (begin_writes new (Err fault) writes, tt)
 
-  begun_2 : (E : Type 0) (between new : Told) (result : Result (Unit {0}) E) → between ≡ mid → Syncs result between new → OnOk result (new.now ≡ synced_moment (0 ∷ []))
-  begun_2 E between new (Ok done) is syncs =
-      ap (λ (t : Told). t.now) syncs ∙ ap (λ (t : Told). synced_moment t.now.bytes) is ∙ ap (λ l. synced_moment (0 ∷ l)) (drop_all 1 old.now.bytes short)
-  begun_2 E between new (Err fault) is syncs = tt
-
-pub begin_fails : (E : Type 0) (a b : Option Told) (fault : E) → WhereTold (Writes 0 (0 ∷ []) (Err fault)) a b → WhereTold (Begins {A = Unit {0}} (Err fault)) a b
-begin_fails E a b fault w = map_where {S = Begins {A = Unit {0}} (Err fault)} a b (λ old new h rest short. (begins_1 old short new (Err fault) h, tt)) w
-
-pub begin_ends : (E : Type 0) (a b c : Option Told) (d : Unit {0}) (result : Result (Unit {0}) E) → WhereTold (Writes {E = E} 0 (0 ∷ []) (Ok d)) a b → WhereTold (Syncs result) b c → WhereTold (Begins result) a c
-begin_ends E a b c d result w s =
-    map_where {S = Begins result} a c (λ old new h rest short. (begins_2 old short E h.0 new result h.1 h.2, begun_2 old short E h.0 new result h.1 h.2))
-    (then_where (Writes {E = E} 0 (0 ∷ []) (Ok d)) (Syncs result) a b c w s)
+pub begins_where : {E : Type 0} (a b : Option Told) (result : Result (Unit {0}) E) → WhereTold (WritesThrough 0 (0 ∷ []) result) a b → WhereTold (Begins result) a b
+begins_where a b result w = map_where {S = Begins result} a b (λ old new h rest short. begin_leaves old short new result h) w
 
 -- no call was made
 pub begin_rests : (A E : Type 0) (a : Option Told) (fault : E) → WhereTold (Begins {A = A} (Err fault)) a a
@@ -152,6 +146,14 @@ where_some K (Some t) f = f t refl
 both_some : (K L : Told → Type 0) (a : Option Told) → IfSome a K → IfSome a L → IfSome a (λ t. K t × L t)
 both_some K L None k l = tt
 both_some K L (Some t) k l = (k, l)
+
+-- an opening whose sync, or whose asking for the length, failed
+pub settling_fails : (E : Type 0) (d : Unit {0}) (a b : Option Told) → WhereTold (λ old new. (new ≡ old) ⊎ Syncs {E = E} (Ok d) old new) a b → WhereTold Opens a b
+settling_fails E d a b s = map_where {S = Opens} a b
+    (λ old new h value stands. ⊎_elim (λ same. inl same) (λ is.
+    inr (subst (LeavesAlways (λ file. records_of file ≡ Ok value) (then_told old (after_sync old.now))) (sym is)
+    (leaves_first (λ file. records_of file ≡ Ok value) (then_told old (after_sync old.now)) (λ left image. ap records_of (synced_image old.now.bytes left image) ∙ stands)))) h)
+    s
 
 -- an opening, once its sync was served
 module _ (E : Type 0) (a b : Option Told) (d : Unit {0}) (synced : WhereTold (Syncs {E = E} (Ok d)) a b) where

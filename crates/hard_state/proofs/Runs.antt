@@ -3,7 +3,7 @@ use Rattle.std.proofs.Common.{◌≡◌, inl, inr, ℕ, ◌+◌, ◌<◌, ◌≤
 use Rattle.std.specs.Bool.{⊤}
 use Rattle.std.specs.List.{AllByRecursion}
 use Rattle.fuxi_io.specs.Disks.{Moment, Told, overwritten, synced_moment, after_write, after_sync, then_told, Writes, Syncs, WhereTold, Leaves, LeavesAlways}
-use Rattle.hard_state.specs.Gates.{IsAppending, appended, IsSynced, Appends}
+use Rattle.hard_state.specs.Gates.{IsAppending, appended, IsSynced, Appends, WritesThrough}
 use Rattle.hard_state.proofs.Images.{synced_image, part_image, with_bytes, length-with_bytes, untouched, writing_bytes, bytes_written, writing_gate, all_written}
 
 -- one relation of what is told, and then another
@@ -116,13 +116,20 @@ IsLong size told = size ≡ length told.now.bytes
 pub within_bytes : (gate size : ℕ) (t : Told) → gate < size → IsLong size t → gate < length t.now.bytes
 within_bytes gate size t within is = omega (arith, is, within)
 
--- the four ends of an appending, where the disk tells its moments
-module _ {E : Type 0} (gate : ℕ) (bytes : List ℕ) (size : ℕ) (within : gate < size) where
-  abbrev Write : ℕ → List ℕ → Result (Unit {0}) E → Told → Told → Type 0
-  Write at new result a b = Writes at new result a b
+-- a write with a sync behind it, where the sync fails and where it is answered
+pub sync_fails : {E : Type 0} (at : ℕ) (bytes : List ℕ) (a b c : Option Told) (fault : E) → WhereTold (Writes {E = E} at bytes (Ok (record {}))) a b → WhereTold (Syncs (Err fault)) b c → WhereTold (WritesThrough at bytes (Err fault)) a c
+sync_fails {E} at bytes a b c fault w s =
+    map_where {S = WritesThrough at bytes (Err fault)} a c (λ old new h. inr (bytes, omega arith, h.2 ∙ h.1)) (then_where (Writes {E = E} at bytes (Ok (record {}))) (Syncs (Err fault)) a b c w s)
 
-  abbrev Sync : Result (Unit {0}) E → Told → Told → Type 0
-  Sync result a b = Syncs result a b
+pub sync_ends : {E : Type 0} (at : ℕ) (bytes : List ℕ) (a b c : Option Told) (result : Result (Unit {0}) E) → WhereTold (Writes {E = E} at bytes (Ok (record {}))) a b → WhereTold (Syncs result) b c → WhereTold (WritesThrough at bytes result) a c
+sync_ends {E} at bytes a b c (Ok done) w s =
+    map_where {S = WritesThrough {E = E} at bytes (Ok done)} a c (λ old new h. h.2 ∙ ap (λ (t : Told). then_told t (after_sync t.now)) h.1) (then_where (Writes {E = E} at bytes (Ok (record {}))) (Syncs {E = E} (Ok done)) a b c w s)
+sync_ends {E} at bytes a b c (Err fault) w s = sync_fails at bytes a b c fault w s
+
+-- the two ends of an appending, where the disk tells its moments
+module _ {E : Type 0} (gate : ℕ) (bytes : List ℕ) (size : ℕ) (within : gate < size) where
+  abbrev Through : ℕ → List ℕ → Result (Unit {0}) E → Told → Told → Type 0
+  Through at new result a b = WritesThrough at new result a b
 
   abbrev Append : Result (Unit {0}) E → Told → Told → Type 0
   Append result a b = Appends gate bytes result a b
@@ -130,28 +137,24 @@ module _ {E : Type 0} (gate : ℕ) (bytes : List ℕ) (size : ℕ) (within : gat
   abbrev done : Result (Unit {0}) E
   done = Ok (record {})
 
-  pub fails_at_1 : (a b : Option Told) (fault : E) → IfSome a (IsLong size) → WhereTold (Write (gate + 1) bytes (Err fault)) a b → WhereTold (Append (Err fault)) a b
-  fails_at_1 a b fault known w =
+  pub append_fails : (a b : Option Told) (fault : E) → IfSome a (IsLong size) → WhereTold (Through (gate + 1) bytes (Err fault)) a b → WhereTold (Append (Err fault)) a b
+  append_fails a b fault known w =
       map_where {S = Append (Err fault)} a b (λ old new h rest. (leaves_1 gate bytes old (within_bytes gate size old within h.0) rest new (Err fault) h.1, tt)) (knowing_first (IsLong size) _ a b known w)
 
-  pub fails_at_2 : (a b c : Option Told) (fault : E) → IfSome a (IsLong size) → WhereTold (Write (gate + 1) bytes done) a b → WhereTold (Sync (Err fault)) b c → WhereTold (Append (Err fault)) a c
-  fails_at_2 a b c fault known w s =
-      map_where {S = Append (Err fault)} a c (λ old new h rest. (leaves_2 gate bytes old (within_bytes gate size old within h.0) rest h.1.0 new (Err fault) h.1.1 h.1.2, tt))
-      (knowing_first (IsLong size) _ a c known (then_where _ _ a b c w s))
+  ends : (result : Result (Unit {0}) E) (old mid new : Told) → gate < length old.now.bytes → IsSynced old.now → Through (gate + 1) bytes done old mid → Through gate (1 ∷ []) result mid new
+      → LeavesAlways (IsAppending old.now.bytes gate bytes) old new × OnOk result (new.now ≡ synced_moment (appended old.now.bytes gate bytes))
+  ends (Ok d) old mid new inside rest first second =
+      let a = then_told old (after_write (gate + 1) bytes old.now) in
+      let c = then_told mid (after_write gate (1 ∷ []) mid.now) in (
+        leaves_4 gate bytes old inside rest {E = E} a mid c new (Ok d) ((refl, first), refl) second,
+        now_4 gate bytes old inside rest {E = E} a mid c new (Ok d) ((refl, first), refl) second,
+      )
+  ends (Err fault) old mid new inside rest first second =
+      let a = then_told old (after_write (gate + 1) bytes old.now) in
+      (leaves_3 gate bytes old inside rest a mid new (Err fault) (refl, first) second, tt)
 
-  pub fails_at_3 : (a b c d : Option Told) (fault : E) → IfSome a (IsLong size) → WhereTold (Write (gate + 1) bytes done) a b → WhereTold (Sync done) b c → WhereTold (Write gate (1 ∷ []) (Err fault)) c d
-      → WhereTold (Append (Err fault)) a d
-  fails_at_3 a b c d fault known w s x =
-      map_where {S = Append (Err fault)} a d (λ old new h rest. (leaves_3 gate bytes old (within_bytes gate size old within h.0) rest h.1.1.0 h.1.0 new (Err fault) (h.1.1.1, h.1.1.2) h.1.2, tt))
-      (knowing_first (IsLong size) _ a d known (then_where _ _ a c d (then_where _ _ a b c w s) x))
-
-  pub ends_at_4 : (a b c d e : Option Told) (result : Result (Unit {0}) E) → IfSome a (IsLong size) → WhereTold (Write (gate + 1) bytes done) a b → WhereTold (Sync done) b c
-      → WhereTold (Write gate (1 ∷ []) done) c d → WhereTold (Sync result) d e → WhereTold (Append result) a e
-  ends_at_4 a b c d e result known w s x y =
-      map_where {S = Append result} a e
-      (λ old new h rest.
-      let inside = within_bytes gate size old within h.0 in (
-        leaves_4 gate bytes old inside rest h.1.1.1.0 h.1.1.0 h.1.0 new result ((h.1.1.1.1, h.1.1.1.2), h.1.1.2) h.1.2,
-        now_4 gate bytes old inside rest h.1.1.1.0 h.1.1.0 h.1.0 new result ((h.1.1.1.1, h.1.1.1.2), h.1.1.2) h.1.2,
-      ))
-      (knowing_first (IsLong size) _ a e known (then_where _ _ a d e (then_where _ _ a c d (then_where _ _ a b c w s) x) y))
+  pub append_ends : (a b c : Option Told) (result : Result (Unit {0}) E) → IfSome a (IsLong size) → WhereTold (Through (gate + 1) bytes done) a b → WhereTold (Through gate (1 ∷ []) result) b c
+      → WhereTold (Append result) a c
+  append_ends a b c result known w x =
+      map_where {S = Append result} a c (λ old new h rest. ends result old h.1.0 new (within_bytes gate size old within h.0) rest h.1.1 h.1.2)
+      (knowing_first (IsLong size) _ a c known (then_where _ _ a b c w x))

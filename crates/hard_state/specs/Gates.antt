@@ -1,6 +1,6 @@
 -- Bytes that are appended behind a closed gate, which is opened once they are on the disk.
-use Rattle.std.specs.Prelude.{◌≡◌, ◌⊎◌, ℕ, ◌+◌, List, [], ◌∷◌, ◌++◌, length, take, Result, OnOk}
-use Rattle.fuxi_io.specs.Disks.{Moment, Told, synced_moment, overwritten, LeavesAlways}
+use Rattle.std.specs.Prelude.{◌≡◌, ◌⊎◌, ℕ, ◌+◌, List, [], ◌∷◌, ◌++◌, length, take, Result, Ok, Err, OnOk}
+use Rattle.fuxi_io.specs.Disks.{Moment, Told, synced_moment, then_told, after_write, after_sync, overwritten, Writes, LeavesAlways}
 
 -- nothing is pending
 abbrev pub IsSynced : Moment → Type 0
@@ -11,6 +11,11 @@ IsSynced moment = moment ≡ synced_moment moment.bytes
 abbrev pub IsAppending : List ℕ → ℕ → List ℕ → List ℕ → Type 0
 IsAppending file gate bytes left =
     (take (gate + 1) left ≡ take (gate + 1) file) ⊎ ((byte : ℕ) × (take (gate + 1 + length bytes) left ≡ take gate file ++ byte ∷ bytes))
+
+-- What a write with a sync behind it leaves. Where one of the two fails, a part of the bytes may be written, or all of them.
+abbrev pub WritesThrough : {E : Type 0} → ℕ → List ℕ → Result (Unit {0}) E → Told → Told → Type 0
+WritesThrough at bytes (Ok done) old new = let moment = after_write at bytes old.now in new ≡ then_told (then_told old moment) (after_sync moment)
+WritesThrough at bytes (Err fault) old new = Writes at bytes (Err fault) old new
 
 -- the file when they are appended
 abbrev pub appended : List ℕ → ℕ → List ℕ → List ℕ

@@ -86,6 +86,13 @@ Opens old new =
     (value : HardState) → records_of old.now.bytes ≡ Ok value
     → (new ≡ old) ⊎ LeavesAlways (λ file. records_of file ≡ Ok value) (then_told old (after_sync old.now)) new
 
+-- a sync that is served; and a sync, served or not
+abbrev pub SyncsAll : Told → Told → Type 0
+SyncsAll old new = new ≡ then_told old (after_sync old.now)
+
+abbrev pub Settles : Told → Told → Type 0
+Settles old new = (new ≡ old) ⊎ SyncsAll old new
+
 -- A file of at most one byte is made one of a closed gate.
 abbrev pub Begins : {A E : Type 0} → Result A E → Told → Told → Type 0
 Begins result old new =

@@ -12,7 +12,7 @@ ghost use Rattle.hard_state.specs.HardFiles.{event_of, IsAskedBy, Refuses, Write
 
 use crate::fault::HardFault;
 use crate::gate::append;
-use crate::opening::{begin, read};
+use crate::opening::{begin, read, settle};
 use crate::state::State;
 use fuxi_io::{Disk, Failed};
 use fuxi_terms::OutOfMemory;
@@ -89,11 +89,7 @@ impl Hard {
         ensures cause { result ≡ Err HardFault.DiskFault → Rose (D.faults disk.old) (D.faults disk.new) }
         ensures told { WhereTold Opens (D.told disk.old) (D.told disk.new) }
     {
-        match disk.sync() {
-            Ok(()) => {}
-            Err(Failed) => return Err(HardFault::DiskFault),
-        }
-        let len = match disk.len() {
+        let len = match settle(disk) {
             Ok(len) => len,
             Err(Failed) => return Err(HardFault::DiskFault),
         };

@@ -3,9 +3,10 @@ ghost use Rattle.std.specs.Prelude.{◌≡◌, ◌≢◌, ℕ, ◌*◌, ◌<◌,
 ghost use Rattle.fuxi_io.specs.Causes.{HasCause, Rose};
 ghost use Rattle.fuxi_io.specs.Disks.{Told, WhereTold};
 ghost use Rattle.fuxi_terms.specs.Limits.{most_records};
-ghost use Rattle.hard_state.specs.HardFiles.{Begins, IsOpeningFault, reads_as};
+ghost use Rattle.hard_state.specs.HardFiles.{Begins, IsOpeningFault, Settles, SyncsAll, reads_as};
 
 use crate::fault::HardFault;
+use crate::gate::write_through;
 use crate::state::{Look, State};
 use crate::window::Window;
 use fuxi_io::{Disk, Failed};
@@ -14,17 +15,27 @@ use fuxi_terms::limits::MOST_RECORDS;
 use hard_records::written_is_read;
 use std::alloc::Global;
 
+// Brings all that was written onto the disk and answers its length.
+pub fn settle<D: Disk>(disk: &mut D) -> Result<u64, Failed>
+    ensures told { WhereTold Settles (D.told disk.old) (D.told disk.new) }
+    ensures synced { OnOk result (WhereTold SyncsAll (D.told disk.old) (D.told disk.new)) }
+    ensures size { IfOk result (λ len. len ≡ D.size disk.new) }
+    ensures cause { HasCause (D.faults disk.old) (D.faults disk.new) result }
+{
+    match disk.sync() {
+        Ok(()) => {}
+        Err(failed) => return Err(failed),
+    }
+    disk.len()
+}
+
 // Makes a file of at most one byte one of a closed gate.
 pub fn begin<D: Disk>(disk: &mut D) -> Result<(), Failed>
     ensures told { WhereTold (Begins result) (D.told disk.old) (D.told disk.new) }
     ensures long { OnOk result (0 < D.size disk.new) }
     ensures cause { HasCause (D.faults disk.old) (D.faults disk.new) result }
 {
-    match disk.write_at(0, &[0]) {
-        Ok(()) => {}
-        Err(failed) => return Err(failed),
-    }
-    disk.sync()
+    write_through(disk, 0, &[0])
 }
 
 // Reads a file of this length from its first gate on: the state with the place of the closed gate, or the place of the first

@@ -1,36 +1,36 @@
-use Rattle.std.proofs.Common.{◌≡◌, Err, ap, ◌∙◌, arith}
+use Rattle.std.proofs.Common.{◌≡◌, Err, refl, ap, arith}
 use Rattle.fuxi_io.specs.declared.outside.Failed.{Failed}
 use Rattle.hard_state.specs.declared.fault.HardFault.{HardFault}
 use Rattle.hard_state.specs.declared.fault.HardFault.TheVariants.{NotCheckpoint}
-use Rattle.hard_state.proofs.Openings.{opening_rests, opening_begins, opens_begun, opens_read, opens_damaged}
+use Rattle.hard_state.proofs.Openings.{opening_rests, opening_begins, opens_begun, opens_read, opens_damaged, settling_fails}
 use Rattle.hard_state.proofs.hard.Hard.open.Goals as goal
 
-pub returns-in-Err-len-clause-told : goal.returns-in-Err-len-clause-told
-returns-in-Err-len-clause-told g c = opening_rests Failed _ _ (record {}) c.in-Ok.ensures.told _ c.len.ensures.told
+pub returns-in-Err-clause-told : goal.returns-in-Err-clause-told
+returns-in-Err-clause-told g c = settling_fails Failed (record {}) _ _ c.in-Err.ensures.told
 
 pub returns-then-len-le1-clause-opened : goal.returns-then-len-le1-clause-opened
 returns-then-len-le1-clause-opened g c =
-    opens_begun Failed _ _ (record {}) c.in-Ok.ensures.told HardFault _ _ (g.D.Disk.size c.len.new.self) c.begin.result c.len.ensures.told
-    (omega (arith, c.in-Ok-len.ensures.size, c.if-len-le1.true)) (g.met.D.Disk.measured c.len.new.self) c.begin.ensures.told c.begin.ensures.empty
+    opens_begun Failed _ _ (record {}) c.in-Ok.ensures.synced HardFault _ _ (g.D.Disk.size c.settle.new.disk) c.begin.result refl
+    (omega (arith, c.in-Ok.ensures.size, c.if-len-le1.true)) (g.met.D.Disk.measured c.settle.new.disk) c.begin.ensures.told c.begin.ensures.empty
 
 pub returns-then-len-le1-clause-told : goal.returns-then-len-le1-clause-told
 returns-then-len-le1-clause-told g c =
-    opening_begins Failed _ _ (record {}) c.in-Ok.ensures.told _ _ (g.D.Disk.size c.len.new.self) c.begin.result c.len.ensures.told
-    (omega (arith, c.in-Ok-len.ensures.size, c.if-len-le1.true)) (g.met.D.Disk.measured c.len.new.self) c.begin.ensures.told
+    opening_begins Failed _ _ (record {}) c.in-Ok.ensures.synced _ _ (g.D.Disk.size c.settle.new.disk) c.begin.result refl
+    (omega (arith, c.in-Ok.ensures.size, c.if-len-le1.true)) (g.met.D.Disk.measured c.settle.new.disk) c.begin.ensures.told
 
 pub returns-in-Ok-read-clause-opened : goal.returns-in-Ok-read-clause-opened
 returns-in-Ok-read-clause-opened g c =
-    opens_read Failed _ _ (record {}) c.in-Ok.ensures.told _ _ (g.D.Disk.size c.len.new.self) c.len.ensures.told c.read.ensures.told (g.met.D.Disk.measured c.len.new.self)
-    (omega (arith, c.in-Ok-len.ensures.size, c.if-len-le1.false)) _ (λ t is. c.in-Ok-read.ensures.opened t is)
+    opens_read Failed _ _ (record {}) c.in-Ok.ensures.synced _ _ (g.D.Disk.size c.settle.new.disk) refl c.read.ensures.told (g.met.D.Disk.measured c.settle.new.disk)
+    (omega (arith, c.in-Ok.ensures.size, c.if-len-le1.false)) _ (λ t is. c.in-Ok-read.ensures.opened t is)
 
 pub returns-in-Ok-read-clause-told : goal.returns-in-Ok-read-clause-told
-returns-in-Ok-read-clause-told g c = opening_rests Failed _ _ (record {}) c.in-Ok.ensures.told _ (c.read.ensures.told ∙ c.len.ensures.told)
+returns-in-Ok-read-clause-told g c = opening_rests Failed _ _ (record {}) c.in-Ok.ensures.synced _ c.read.ensures.told
 
 pub returns-in-Err-read-clause-damaged : goal.returns-in-Err-read-clause-damaged
 returns-in-Err-read-clause-damaged g c offset at =
     let same : c.in-Err-read.fault ≡ NotCheckpoint offset = cc in
-    opens_damaged Failed _ _ (record {}) c.in-Ok.ensures.told _ _ (g.D.Disk.size c.len.new.self) c.len.ensures.told c.read.ensures.told (g.met.D.Disk.measured c.len.new.self)
-    (omega (arith, c.in-Ok-len.ensures.size, c.if-len-le1.false)) offset (λ t is. c.in-Err-read.ensures.damaged t offset is (ap (λ f. Err f) same))
+    opens_damaged Failed _ _ (record {}) c.in-Ok.ensures.synced _ _ (g.D.Disk.size c.settle.new.disk) refl c.read.ensures.told (g.met.D.Disk.measured c.settle.new.disk)
+    (omega (arith, c.in-Ok.ensures.size, c.if-len-le1.false)) offset (λ t is. c.in-Err-read.ensures.damaged t offset is (ap (λ f. Err f) same))
 
 pub returns-in-Err-read-clause-told : goal.returns-in-Err-read-clause-told
-returns-in-Err-read-clause-told g c = opening_rests Failed _ _ (record {}) c.in-Ok.ensures.told _ (c.read.ensures.told ∙ c.len.ensures.told)
+returns-in-Err-read-clause-told g c = opening_rests Failed _ _ (record {}) c.in-Ok.ensures.synced _ c.read.ensures.told
