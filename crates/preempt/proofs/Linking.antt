@@ -1,0 +1,284 @@
+-- What the code counts is what the definitions count.
+use Rattle.std.proofs.Common.{◌≡◌, ◌≢◌, ◌^◌, set, length-append, get_or-set_same, get_or-set_other, ℕ, zero, suc, ◌+◌, ◌-◌, ◌*◌, ◌<◌, ◌≤◌, Bool, true, false, cond, nat_eq, nat_lt, List, [], ◌∷◌, ◌++◌, map, length, get_or, take, drop, refl, sym, ◌∙◌, ap, subst, arith, min, max}
+use Rattle.std.specs.Prelude.{◌&&◌, slice_index, replicate}
+use Rattle.std.specs.List.{AllByRecursion, sum_by}
+use Rattle.std.proofs.lemmas.Bool.Decides.{nat_tests}
+use Rattle.std.proofs.lemmas.List.{map-append, at_drop_more, length-set, get_or-replicate}
+use Rattle.std.proofs.lemmas.List.Sums.{sum_by-cons, sum_by-append}
+use Rattle.fuxi_terms.specs.Jobs.{KnownJob, group_of, size_at, unit_of}
+use Rattle.fuxi_terms.specs.Keys.{Spot}
+use Rattle.fuxi_terms.specs.Lists.{below_each}
+use Rattle.fuxi_terms.specs.Tables.{spot}
+use Rattle.fuxi_terms.proofs.ByPlace.{at_place-get_or}
+use Rattle.fuxi_terms.proofs.Lists.{all_push}
+use Rattle.written_roles.specs.Preemption.{so_many, set_by, part_by}
+use Rattle.grant_table.specs.Tables.{TableRecord, as_known}
+use Rattle.preempt.specs.Counted.{singles, times_to_reach, times_within, greatest_of, least_of, own_size, enough_at, enough_times, spared_at, may_times, taken_count, counted_taken, counted_kept}
+use Rattle.preempt.specs.declared.entry.Entry.{Entry}
+use Rattle.preempt.specs.declared.entry.Need.{Need}
+use Rattle.preempt.specs.declared.entry.GroupUse.{GroupUse}
+use Rattle.preempt.specs.declared.entry.Sums.{Sums}
+use Rattle.preempt.specs.Given.{board_of, no_group, written, IsEntry, IsNeed, IsGroup, AreGroups, AreGiven, recounted}
+use Rattle.preempt.specs.Numbers.{needed_in_one, spared_in_one, total_in, part_in, needed_number, may_number}
+use Rattle.preempt.specs.Parts.{no_sums, ArePartsOf}
+use Rattle.preempt.proofs.Sums.{sum_many}
+
+pub greatest_same : (n : ℕ) (f g : ℕ → ℕ) → ((i : ℕ) → i < n → f i ≡ g i) → greatest_of n f ≡ greatest_of n g
+greatest_same zero f g h = refl
+greatest_same (suc n) f g h = let a = greatest_same n f g (λ i lt. h i (omega (arith, lt))) in let b = h n (omega arith) in λ k. max (a k) (b k)
+
+pub least_same : (m n : ℕ) (f g : ℕ → ℕ) → ((i : ℕ) → i < n → f i ≡ g i) → least_of m n f ≡ least_of m n g
+least_same m zero f g h = refl
+least_same m (suc n) f g h = let a = least_same m n f g (λ i lt. h i (omega (arith, lt))) in let b = h n (omega arith) in λ k. min (a k) (b k)
+
+pub each_same : (n : ℕ) (f g : ℕ → Bool) → ((i : ℕ) → i < n → f i ≡ g i) → below_each n f ≡ below_each n g
+each_same zero f g h = refl
+each_same (suc n) f g h = let a = each_same n f g (λ i lt. h i (omega (arith, lt))) in let b = h n (omega arith) in λ k. a k && b k
+
+module _ (tab : TableRecord) where
+  -- the size of an entry, in one resource
+  pub size_is : (e : Entry) → IsEntry tab e → (i : ℕ) → slice_index e.size i ≡ size_at (as_known tab.jobs) e.app.0 e.unit.0 i
+  size_is e h i = ap (λ xs. get_or xs i 0) h.size ∙ sym (at_place-get_or (unit_of (as_known tab.jobs) e.app.0 e.unit.0).size i)
+
+  -- Sums
+  pub total_is : (m i : ℕ) (set : List Entry) → i < tab.cluster.resources → AllByRecursion (IsEntry tab) set → total_in i set ≡ set_by (size_at (as_known tab.jobs)) i (singles (map (written m) set))
+  total_is m i [] lt h = refl
+  total_is m i (e ∷ es) lt h =
+      let w : Spot → ℕ = λ s. size_at (as_known tab.jobs) s.job s.unit i in
+      let rest = total_is m i es lt h.1 in
+      let a = sum_by-cons (λ (e : Entry). e.count * slice_index e.size i) e es in
+      let b = sum_by-append w (so_many e.count (spot e.app.0 e.unit.0 m)) (singles (map (written m) es)) in
+      let d = sum_many w e.count (spot e.app.0 e.unit.0 m) in
+      let s : e.count * slice_index e.size i ≡ e.count * size_at (as_known tab.jobs) e.app.0 e.unit.0 i = ap (λ k. e.count * k) (size_is e h.0 i) in
+      omega (arith, rest, a, b, d, s)
+
+  pub part_is : (m g i : ℕ) (set : List Entry) → i < tab.cluster.resources → AllByRecursion (IsEntry tab) set → part_in g i set ≡ part_by (group_of (as_known tab.jobs)) (size_at (as_known tab.jobs)) g i (singles (map (written m) set))
+  part_is m g i [] lt h = refl
+  part_is m g i (e ∷ es) lt h =
+      let w : Spot → ℕ = λ s. own_size (board_of tab) g s i in
+      let rest = part_is m g i es lt h.1 in
+      let a = sum_by-cons (λ (e : Entry). cond (nat_eq e.group g) e.count 0 * slice_index e.size i) e es in
+      let b = sum_by-append w (so_many e.count (spot e.app.0 e.unit.0 m)) (singles (map (written m) es)) in
+      let d = sum_many w e.count (spot e.app.0 e.unit.0 m) in
+      let s : cond (nat_eq e.group g) e.count 0 * slice_index e.size i ≡ cond (nat_eq (group_of (as_known tab.jobs) e.app.0) g) e.count 0 * size_at (as_known tab.jobs) e.app.0 e.unit.0 i = (λ k. cond (nat_eq (h.0.group k) g) e.count 0 * size_is e h.0 i k) in
+      let t = within (nat_eq (group_of (as_known tab.jobs) e.app.0) g) e.count (size_at (as_known tab.jobs) e.app.0 e.unit.0 i) in
+      omega (arith, rest, a, b, d, s, t)
+    where
+      within : (b : Bool) (n k : ℕ) → cond b n 0 * k ≡ n * cond b k 0
+      within true n k = refl
+      within false n k = omega arith
+
+  pub needed_is : (t : Spot) (n : Need) (set : List Spot) (sums own : List ℕ) (e : Entry) (m most : ℕ) → IsNeed tab t n → IsEntry tab e
+      → ((i : ℕ) → i < tab.cluster.resources → slice_index sums i ≡ set_by (size_at (as_known tab.jobs)) i set) → ((i : ℕ) → i < tab.cluster.resources → slice_index own i ≡ part_by (group_of (as_known tab.jobs)) (size_at (as_known tab.jobs)) (group_of (as_known tab.jobs) t.job) i set)
+      → needed_number n sums own e most ≡ enough_times (board_of tab) tab.entries t set (spot e.app.0 e.unit.0 m) most
+  needed_is t n set sums own e m most need entry a o =
+      ap (λ k. greatest_of k (needed_in_one n sums own e most)) need.resources
+      ∙ greatest_same tab.cluster.resources (needed_in_one n sums own e most) (enough_at (board_of tab) tab.entries t set (spot e.app.0 e.unit.0 m) most)
+      (λ i lt. λ k. max (times_to_reach (need.has i lt k + a i lt k) (need.fits i lt k) (size_is e entry i k) most)
+      (times_to_reach (need.limit i lt k + o i lt k) (need.allowed i lt k) (cond (nat_eq (entry.group k) (need.group k)) (size_is e entry i k) 0) most))
+
+  pub may_number_is : (t : Spot) (n : Need) (set : List Spot) (x : GroupUse) (part : List ℕ) (e : Entry) (m : ℕ) → IsNeed tab t n → IsEntry tab e → IsGroup tab (group_of (as_known tab.jobs) e.app.0) x
+      → ((i : ℕ) → i < tab.cluster.resources → slice_index part i ≡ part_by (group_of (as_known tab.jobs)) (size_at (as_known tab.jobs)) (group_of (as_known tab.jobs) e.app.0) i set)
+      → may_number n x part e ≡ may_times (board_of tab) tab.entries t set (spot e.app.0 e.unit.0 m) e.count
+  may_number_is t n set x part e m need entry group p =
+      let l = ap (λ k. least_of e.count k (spared_in_one x part e.size e.count)) need.resources
+      ∙ least_same e.count tab.cluster.resources (spared_in_one x part e.size e.count) (spared_at (board_of tab) tab.entries set (spot e.app.0 e.unit.0 m) e.count)
+      (λ i lt. λ k. times_within (group.quota i lt k + p i lt k) (group.used i lt k) (size_is e entry i k) e.count) in
+      λ k. cond (nat_eq (entry.group k) (need.group k)) (cond (nat_lt (entry.priority k) (need.priority k)) e.count 0) (cond (need.guaranteed k) (l k) 0)
+
+-- Steps
+at_index : (P : Entry → Type 0) (xs : List Entry) (k : ℕ) (d : Entry) → k < length xs → AllByRecursion P xs → P (get_or xs k d)
+at_index P [] k d lt h = absurd (omega (arith, lt))
+at_index P (x ∷ xs) zero d lt h = h.0
+at_index P (x ∷ xs) (suc k) d lt h = at_index P xs k d (omega (arith, lt)) h.1
+
+all_drop : (P : Entry → Type 0) (k : ℕ) (xs : List Entry) → AllByRecursion P xs → AllByRecursion P (drop k xs)
+all_drop P zero xs h = h
+all_drop P (suc k) [] h = tt
+all_drop P (suc k) (x ∷ xs) h = all_drop P k xs h.1
+
+module _ (tab : TableRecord) (t : Spot) where
+  abbrev pub entries_of : List Entry → List (Spot × ℕ)
+  entries_of es = map (written t.machine) es
+
+  -- before the entry at an index: what was taken, and the walk goes on from there
+  pub record AtTaking (entries : List Entry) (k : ℕ) (set : List Entry) : Type 0 where
+    pub each : AllByRecursion (IsEntry tab) set
+    pub counted : counted_taken (entries_of (drop k entries)) (board_of tab) tab.entries t (entries_of set) ≡ counted_taken (entries_of entries) (board_of tab) tab.entries t []
+
+  pub taking_starts : (entries : List Entry) → AtTaking entries 0 []
+  taking_starts entries = record { each = tt; counted = refl }
+
+  taken_number : (entries set : List Entry) (need : Need) (groups : List GroupUse) (e : Entry) (sums own part : List ℕ) (q r : ℕ)
+      → AreGiven tab t entries need groups → AllByRecursion (IsEntry tab) set → IsEntry tab e → need.resources ≤ 8 → e.group < 32
+      → ((i : ℕ) → i < 8 → slice_index sums i ≡ total_in i set)
+      → ((i : ℕ) → i < 8 → slice_index own i ≡ part_in need.group i set)
+      → ((i : ℕ) → i < 8 → slice_index part i ≡ part_in e.group i set)
+      → q ≡ may_number need (get_or groups e.group no_group) part e
+      → r ≡ needed_number need sums own e q
+      → r ≡ taken_count (board_of tab) tab.entries t (singles (entries_of set)) (spot e.app.0 e.unit.0 t.machine) e.count
+  taken_number entries set need groups e sums own part q r given each entry few inside a o p may n =
+      let res = given.need.resources in
+      let g = given.need.group in
+      let x = given.groups_are.each e.group inside in
+      let x' : IsGroup tab (group_of (as_known tab.jobs) e.app.0) (get_or groups e.group no_group) = subst (λ g. IsGroup tab g (get_or groups e.group no_group)) entry.group x in
+      let m = may_number_is tab t need (singles (entries_of set)) (get_or groups e.group no_group) part e t.machine given.need entry x'
+      (λ i lt. p i (omega (arith, lt, few, res)) ∙ (part_is tab t.machine e.group i set lt each ∙ ap (λ g. part_by (group_of (as_known tab.jobs)) (size_at (as_known tab.jobs)) g i (singles (entries_of set))) entry.group)) in
+      n ∙ (needed_is tab t need (singles (entries_of set)) sums own e t.machine q given.need entry
+      (λ i lt. a i (omega (arith, lt, few, res)) ∙ total_is tab t.machine i set lt each)
+      (λ i lt. o i (omega (arith, lt, few, res)) ∙ (part_is tab t.machine need.group i set lt each ∙ ap (λ g. part_by (group_of (as_known tab.jobs)) (size_at (as_known tab.jobs)) g i (singles (entries_of set))) g))
+      ∙ ap (λ q. enough_times (board_of tab) tab.entries t (singles (entries_of set)) (spot e.app.0 e.unit.0 t.machine) q) (may ∙ m))
+
+  pub taking_goes_on : (entries : List Entry) (k : ℕ) (set : List Entry) (need : Need) (groups : List GroupUse) (d : Entry) (sums own part : List ℕ) (q r : ℕ)
+      → AreGiven tab t entries need groups → AtTaking entries k set → k < length entries → need.resources ≤ 8 → (get_or entries k d).group < 32
+      → ((i : ℕ) → i < 8 → slice_index sums i ≡ total_in i set)
+      → ((i : ℕ) → i < 8 → slice_index own i ≡ part_in need.group i set)
+      → ((i : ℕ) → i < 8 → slice_index part i ≡ part_in (get_or entries k d).group i set)
+      → q ≡ may_number need (get_or groups (get_or entries k d).group no_group) part (get_or entries k d)
+      → r ≡ needed_number need sums own (get_or entries k d) q
+      → AtTaking entries (k + 1) (set ++ recounted (get_or entries k d) r ∷ [])
+  taking_goes_on entries k set need groups d sums own part q r given at lt few inside a o p may n =
+      let e = get_or entries k d in
+      let entry = at_index (IsEntry tab) entries k d lt given.each in
+      let same = taken_number entries set need groups e sums own part q r given at.each entry few inside a o p may n in
+      record {
+        each = all_push (IsEntry tab) set (recounted e r) at.each (record { unit = entry.unit; group = entry.group; small = entry.small; priority = entry.priority; size = entry.size });
+        counted =
+            ap (λ x. counted_taken (entries_of (drop (k + 1) entries)) (board_of tab) tab.entries t x) (map-append (written t.machine) set (recounted e r ∷ [])
+            ∙ ap (λ n. entries_of set ++ (spot e.app.0 e.unit.0 t.machine, n) ∷ []) same)
+            ∙ (sym (at_drop_more (λ x. counted_taken (entries_of x) (board_of tab) tab.entries t (entries_of set)) entries k d lt)
+            ∙ at.counted);
+      }
+
+  -- the same of what is kept
+  pub record AtKeeping (set : List Entry) (k : ℕ) (kept : List Entry) : Type 0 where
+    pub each : AllByRecursion (IsEntry tab) kept
+    pub counted : counted_kept (entries_of (drop k set)) (board_of tab) tab.entries t (entries_of kept) ≡ counted_kept (entries_of set) (board_of tab) tab.entries t []
+
+  pub keeping_starts : (set : List Entry) → AtKeeping set 0 []
+  keeping_starts set = record { each = tt; counted = refl }
+
+  both_sums : (w : Spot → ℕ) (a b : List Entry) → sum_by w (singles (entries_of a) ++ singles (entries_of b)) ≡ sum_by w (singles (entries_of a)) + sum_by w (singles (entries_of b))
+  both_sums w a b = sum_by-append w (singles (entries_of a)) (singles (entries_of b))
+
+  pub keeping_goes_on : (set : List Entry) (k : ℕ) (kept : List Entry) (need : Need) (d : Entry) (sums own : List ℕ) (r : ℕ)
+      → IsNeed tab t need → AllByRecursion (IsEntry tab) set → AtKeeping set k kept → k < length set → need.resources ≤ 8
+      → ((i : ℕ) → i < 8 → slice_index sums i ≡ total_in i kept + total_in i (drop (k + 1) set))
+      → ((i : ℕ) → i < 8 → slice_index own i ≡ part_in need.group i kept + part_in need.group i (drop (k + 1) set))
+      → r ≡ needed_number need sums own (get_or set k d) (get_or set k d).count
+      → AtKeeping set (k + 1) (kept ++ recounted (get_or set k d) r ∷ [])
+  keeping_goes_on set k kept need d sums own r is_need each at lt few a o n =
+      let e = get_or set k d in
+      let rest = drop (k + 1) set in
+      let entry = at_index (IsEntry tab) set k d lt each in
+      let later = all_drop (IsEntry tab) (k + 1) set each in
+      let res = is_need.resources in
+      let same : r ≡ enough_times (board_of tab) tab.entries t (singles (entries_of kept) ++ singles (entries_of rest)) (spot e.app.0 e.unit.0 t.machine) e.count =
+      n ∙ needed_is tab t need (singles (entries_of kept) ++ singles (entries_of rest)) sums own e t.machine e.count is_need entry
+      (λ i i_lt.
+      let x = a i (omega (arith, i_lt, few, res)) in
+      let y = total_is tab t.machine i kept i_lt at.each in
+      let z = total_is tab t.machine i rest i_lt later in
+      let s = both_sums (λ s. size_at (as_known tab.jobs) s.job s.unit i) kept rest in
+      x ∙ ((λ j. y j + z j) ∙ sym s))
+      (λ i i_lt.
+      let x = o i (omega (arith, i_lt, few, res)) in
+      let y = part_is tab t.machine need.group i kept i_lt at.each in
+      let z = part_is tab t.machine need.group i rest i_lt later in
+      let s = both_sums (λ s. own_size (board_of tab) need.group s i) kept rest in
+      x ∙ ((λ j. y j + z j) ∙ (sym s ∙ ap (λ g. part_by (group_of (as_known tab.jobs)) (size_at (as_known tab.jobs)) g i (singles (entries_of kept) ++ singles (entries_of rest))) is_need.group))) in
+      record {
+        each = all_push (IsEntry tab) kept (recounted e r) at.each (record { unit = entry.unit; group = entry.group; small = entry.small; priority = entry.priority; size = entry.size });
+        counted =
+            ap (λ x. counted_kept (entries_of rest) (board_of tab) tab.entries t x) (map-append (written t.machine) kept (recounted e r ∷ [])
+            ∙ ap (λ n. entries_of kept ++ (spot e.app.0 e.unit.0 t.machine, n) ∷ []) same)
+            ∙ (sym (at_drop_more (λ x. counted_kept (entries_of x) (board_of tab) tab.entries t (entries_of kept)) set k d lt)
+            ∙ at.counted);
+      }
+
+-- sums with one entry more, and with the first of the rest
+pub total_push : (i : ℕ) (set : List Entry) (x : Entry) → total_in i (set ++ x ∷ []) ≡ total_in i set + x.count * slice_index x.size i
+total_push i set x =
+    let w : Entry → ℕ = λ e. e.count * slice_index e.size i in
+    let a = sum_by-append w set (x ∷ []) in
+    let b = sum_by-cons w x [] in
+    let z : sum_by w [] ≡ 0 = refl in
+    omega (arith, a, b, z)
+
+pub part_push : (g i : ℕ) (set : List Entry) (x : Entry) → part_in g i (set ++ x ∷ []) ≡ part_in g i set + cond (nat_eq x.group g) x.count 0 * slice_index x.size i
+part_push g i set x =
+    let w : Entry → ℕ = λ e. cond (nat_eq e.group g) e.count 0 * slice_index e.size i in
+    let a = sum_by-append w set (x ∷ []) in
+    let b = sum_by-cons w x [] in
+    let z : sum_by w [] ≡ 0 = refl in
+    omega (arith, a, b, z)
+
+pub total_first : (i k : ℕ) (d : Entry) (set : List Entry) → k < length set → total_in i (drop k set) ≡ (get_or set k d).count * slice_index (get_or set k d).size i + total_in i (drop (k + 1) set)
+total_first i k d set lt = at_drop_more (total_in i) set k d lt ∙ sum_by-cons (λ (e : Entry). e.count * slice_index e.size i) (get_or set k d) (drop (k + 1) set)
+
+pub part_first : (g i k : ℕ) (d : Entry) (set : List Entry) → k < length set → part_in g i (drop k set) ≡ cond (nat_eq (get_or set k d).group g) (get_or set k d).count 0 * slice_index (get_or set k d).size i + part_in g i (drop (k + 1) set)
+part_first g i k d set lt = at_drop_more (part_in g i) set k d lt ∙ sum_by-cons (λ (e : Entry). cond (nat_eq e.group g) e.count 0 * slice_index e.size i) (get_or set k d) (drop (k + 1) set)
+
+-- sums by group, with one entry more
+pub parts_more : (parts : List Sums) (es : List Entry) (x : Entry) (y : Sums) → ArePartsOf parts es → x.group < 32
+    → ((i : ℕ) → i < 8 → slice_index y.q i ≡ slice_index (get_or parts x.group no_sums).q i + x.count * slice_index x.size i)
+    → ((i : ℕ) → i < 8 → slice_index y.q i ≤ slice_index (get_or parts x.group no_sums).q i + 2 ^ 96)
+    → ArePartsOf (set parts x.group y) (es ++ x ∷ [])
+parts_more parts es x y h inside is small =
+    let g = x.group in
+    let long = h.long in
+    let lt : g < length parts = omega (arith, inside, long) in
+    let more : length (es ++ x ∷ []) ≡ length es + 1 = length-append es (x ∷ []) in
+    record {
+      long = length-set parts g y ∙ long;
+      is = λ k i k_lt i_lt. by_is k i k_lt i_lt (nat_eq g k) refl lt;
+      small = λ k i k_lt i_lt. by_small k i k_lt i_lt (nat_eq g k) refl lt more;
+    }
+  where
+    by_is : (k i : ℕ) → k < 32 → i < 8 → (b : Bool) → nat_eq x.group k ≡ b → x.group < length parts → slice_index (get_or (set parts x.group y) k no_sums).q i ≡ part_in k i (es ++ x ∷ [])
+    by_is k i k_lt i_lt true e lt =
+        let same : k ≡ x.group = grind (arith, nat_tests) in
+        let p = part_push k i es x in
+        let one : cond (nat_eq x.group k) x.count 0 * slice_index x.size i ≡ x.count * slice_index x.size i = ap (λ b. cond b x.count 0 * slice_index x.size i) e in
+        let a : get_or (set parts x.group y) k no_sums ≡ y = ap (λ j. get_or (set parts x.group y) j no_sums) same ∙ get_or-set_same parts x.group y no_sums lt in
+        let b = ap (λ (z : Sums). slice_index z.q i) a in
+        let d = is i i_lt in
+        let f = ap (λ j. slice_index (get_or parts j no_sums).q i) (sym same) ∙ h.is k i k_lt i_lt in
+        omega (arith, p, one, b, d, f)
+    by_is k i k_lt i_lt false e lt =
+        let other : k ≢ x.group = λ s. let t : nat_eq x.group k ≡ true = grind (arith, nat_tests) in cc in
+        let p = part_push k i es x in
+        let none : cond (nat_eq x.group k) x.count 0 * slice_index x.size i ≡ 0 = ap (λ b. cond b x.count 0 * slice_index x.size i) e ∙ omega arith in
+        let b = ap (λ (z : Sums). slice_index z.q i) (get_or-set_other parts x.group k y no_sums other) in
+        let f = h.is k i k_lt i_lt in
+        omega (arith, p, none, b, f)
+
+    by_small : (k i : ℕ) → k < 32 → i < 8 → (b : Bool) → nat_eq x.group k ≡ b → x.group < length parts → length (es ++ x ∷ []) ≡ length es + 1 → slice_index (get_or (set parts x.group y) k no_sums).q i ≤ length (es ++ x ∷ []) * 2 ^ 96
+    by_small k i k_lt i_lt true e lt more =
+        let same : k ≡ x.group = grind (arith, nat_tests) in
+        let b = ap (λ (z : Sums). slice_index z.q i) (ap (λ j. get_or (set parts x.group y) j no_sums) same ∙ get_or-set_same parts x.group y no_sums lt) in
+        let d = small i i_lt in
+        let f = h.small x.group i inside i_lt in
+        omega (arith, more, b, d, f)
+    by_small k i k_lt i_lt false e lt more =
+        let other : k ≢ x.group = λ s. let t : nat_eq x.group k ≡ true = grind (arith, nat_tests) in cc in
+        let b = ap (λ (z : Sums). slice_index z.q i) (get_or-set_other parts x.group k y no_sums other) in
+        let f = h.small k i k_lt i_lt in
+        omega (arith, more, b, f)
+
+-- sums of nothing
+pub zeros_at : (i : ℕ) → i < 8 → ◌≡◌ {A = ℕ} (get_or (replicate 8 0) i 0) 0
+zeros_at i lt = get_or-replicate 8 i 0 0 lt
+
+pub parts_start : ArePartsOf (replicate 32 (record { q = replicate 8 0 })) []
+parts_start = record {
+  long = refl;
+  is = λ g i g_lt i_lt. at g i g_lt i_lt;
+  small = λ g i g_lt i_lt. let z = at g i g_lt i_lt in omega (arith, z);
+}
+  where
+    none : Sums
+    none = record { q = replicate 8 0 }
+
+    at : (g i : ℕ) → g < 32 → i < 8 → ◌≡◌ {A = ℕ} (get_or (get_or (replicate 32 none) g no_sums).q i 0) 0
+    at g i g_lt i_lt = ap (λ (x : Sums). get_or x.q i 0) (get_or-replicate 32 g none no_sums g_lt) ∙ zeros_at i i_lt

@@ -1,0 +1,9 @@
+use Rattle.std.proofs.Common.{◌≡◌, ℕ, ◌+◌, ◌*◌, ◌^◌, ◌<◌, ◌≤◌, length, get_or}
+use Rattle.preempt.proofs.entry.raised.Given as goal
+
+abbrev pub invariant-loop-i : goal.invariant-loop-i
+invariant-loop-i l = record {
+  long : length l.q ≡ 8;
+  done : (k : ℕ) → k < l.i → get_or l.q k 0 ≡ get_or l.sums k 0 + l.count * get_or l.size k 0;
+  small : (k : ℕ) → k < l.i → get_or l.q k 0 ≤ get_or l.sums k 0 + 2 ^ 96;
+}

@@ -1,0 +1,5 @@
+pub mod Counted
+pub mod Plans
+pub mod Numbers
+pub mod Parts
+pub mod Given

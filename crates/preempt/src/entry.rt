@@ -1,0 +1,123 @@
+//! What the search keeps of units, of groups, and of what a set of grants takes.
+
+ghost use Rattle.std.specs.Prelude.{◌≡◌, ℕ, ◌+◌, ◌*◌, ◌^◌, ◌<◌, ◌≤◌, slice_index, length, cond};
+ghost use Rattle.preempt.specs.Given.{recounted};
+ghost use Rattle.preempt.specs.Numbers.{total_in, part_in};
+
+use schedule_unit::{AppNo, UnitNo};
+
+/// A unit, and how many grants it has or loses on a machine.
+#[derive(Clone, Copy)]
+pub(crate) struct Entry {
+    pub(crate) app: AppNo,
+    pub(crate) unit: UnitNo,
+    pub(crate) group: usize,
+    pub(crate) priority: u8,
+    pub(crate) count: u32,
+    pub(crate) size: [u64; 8],
+}
+
+/// What one more grant of a unit needs on a machine and in its group.
+#[derive(Clone, Copy)]
+pub(crate) struct Need {
+    pub(crate) resources: usize,
+    pub(crate) group: usize,
+    pub(crate) priority: u8,
+    /// Whether the group has quota left for it.
+    pub(crate) guaranteed: bool,
+    /// What the machine has.
+    pub(crate) has: [u64; 8],
+    /// What is granted on the machine, and one more.
+    pub(crate) fits: [u128; 8],
+    /// What the group may use.
+    pub(crate) limit: [u64; 8],
+    /// What the group uses, and one more.
+    pub(crate) allowed: [u128; 8],
+}
+
+/// What a group is promised and may use, and what it uses.
+#[derive(Clone, Copy)]
+pub(crate) struct GroupUse {
+    pub(crate) quota: [u64; 8],
+    pub(crate) limit: [u64; 8],
+    pub(crate) used: [u64; 8],
+}
+
+/// What grants take of each resource.
+#[derive(Clone, Copy)]
+pub(crate) struct Sums {
+    pub(crate) q: [u128; 8],
+}
+
+/// The same unit with another count.
+pub(crate) fn recounted(e: &Entry, count: u32) -> Entry
+    ensures { result ≡ recounted e.now count }
+{
+    Entry { count, ..*e }
+}
+
+// It cannot pass 128 bits.
+fn product(count: u32, size: u64) -> u128
+    ensures is { result ≡ count * size }
+    ensures small { result ≤ 2 ^ 96 }
+{
+    count as u128 * size as u128
+}
+
+/// The count, where it is counted.
+pub(crate) fn count_if(counts: bool, count: u32) -> u32
+    ensures { result ≡ cond counts count 0 }
+{
+    if counts { count } else { 0 }
+}
+
+/// The sums with so many grants of this size more.
+pub(crate) fn raised(sums: &[u128; 8], size: &[u64; 8], count: u32) -> [u128; 8]
+    requires { (i : ℕ) → i < 8 → slice_index sums.now i < 2 ^ 127 }
+    ensures is { (i : ℕ) → i < 8 → slice_index result i ≡ slice_index sums.now i + count * slice_index size.now i }
+    ensures small { (i : ℕ) → i < 8 → slice_index result i ≤ slice_index sums.now i + 2 ^ 96 }
+{
+    let mut q = [0; 8];
+    for i in 0..8 {
+        q[i] = sums[i] + product(count, size[i]);
+    }
+    q
+}
+
+/// The sums without so many grants of this size, which they have.
+pub(crate) fn lowered(sums: &[u128; 8], size: &[u64; 8], count: u32) -> [u128; 8]
+    requires { (i : ℕ) → i < 8 → count * slice_index size.now i ≤ slice_index sums.now i }
+    ensures { (i : ℕ) → i < 8 → slice_index result i + count * slice_index size.now i ≡ slice_index sums.now i }
+{
+    let mut q = [0; 8];
+    for i in 0..8 {
+        q[i] = sums[i] - product(count, size[i]);
+    }
+    q
+}
+
+/// What entries take.
+pub(crate) fn total_of(set: &[Entry]) -> [u128; 8]
+    requires { length set.now ≤ 1000000 }
+    ensures is { (i : ℕ) → i < 8 → slice_index result i ≡ total_in i set.now }
+    ensures small { (i : ℕ) → i < 8 → slice_index result i ≤ length set.now * 2 ^ 96 }
+{
+    let mut sums = [0; 8];
+    for e in set {
+        sums = raised(&sums, &e.size, e.count);
+    }
+    sums
+}
+
+/// What the entries of one group take.
+pub(crate) fn part_of(set: &[Entry], group: usize) -> [u128; 8]
+    requires { length set.now ≤ 1000000 }
+    ensures is { (i : ℕ) → i < 8 → slice_index result i ≡ part_in group i set.now }
+    ensures small { (i : ℕ) → i < 8 → slice_index result i ≤ length set.now * 2 ^ 96 }
+{
+    let mut sums = [0; 8];
+    for e in set {
+        sums = raised(&sums, &e.size, count_if(e.group == group, e.count));
+    }
+    sums
+}

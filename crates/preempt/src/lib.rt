@@ -1,0 +1,10 @@
+//! Preemption: which grants are taken for a unit that waits, and for which. Of equal grants a number is
+//! computed, so that a search is linear in the units that have grants on a machine, whatever their counts.
+#![tactic(auto)]
+
+mod entry;
+mod number;
+mod plan;
+mod victims;
+
+pub use plan::{Plan, Victim, Victims};
