@@ -6,3 +6,7 @@ pub mod Computed
 pub mod Whole
 pub mod Linking
 pub mod Finding
+pub mod Buckets
+pub mod Listing
+pub mod Admitted
+pub mod Walking

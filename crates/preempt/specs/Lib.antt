@@ -3,3 +3,4 @@ pub mod Plans
 pub mod Numbers
 pub mod Parts
 pub mod Given
+pub mod Walks

@@ -6,5 +6,6 @@ mod entry;
 mod number;
 mod plan;
 mod victims;
+mod walk;
 
 pub use plan::{Plan, Victim, Victims};
