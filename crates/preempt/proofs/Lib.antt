@@ -10,3 +10,4 @@ pub mod Buckets
 pub mod Listing
 pub mod Admitted
 pub mod Walking
+pub mod Shelving

@@ -34,7 +34,7 @@ entry_found t s i j at u x is lt e app unit group priority size =
       size = size ∙ ap (λ (y : UnitRecord). y.size) (sym found);
     }
 
-take_last : {A : Type 0} (xs : List A) (i : ℕ) (x : A) → slice_get xs i ≡ Some x → take (i + 1) xs ≡ take i xs ++ x ∷ []
+pub take_last : {A : Type 0} (xs : List A) (i : ℕ) (x : A) → slice_get xs i ≡ Some x → take (i + 1) xs ≡ take i xs ++ x ∷ []
 take_last [] i x e = cc
 take_last (y ∷ ys) zero x e = let same : y ≡ x = cc in ap (λ z. z ∷ []) same
 take_last (y ∷ ys) (suc i) x e = rw add-one (ap (λ zs. y ∷ zs) (sym (ap (λ k. take k ys) (add-one i)) ∙ take_last ys i x e))
@@ -48,7 +48,7 @@ module _ {A : Type 0} (test : A → Bool) where
   backward_last [] x = sym (append-nil (cond (test x) (x ∷ []) []))
   backward_last (y ∷ ys) x = ap (λ zs. zs ++ cond (test y) (y ∷ []) []) (backward_last ys x) ∙ append_assoc (cond (test x) (x ∷ []) []) (backward test ys) (cond (test y) (y ∷ []) [])
 
-  got : (xs : List A) (i : ℕ) (d : A) → i < length xs → slice_get xs i ≡ Some (get_or xs i d)
+  pub got : (xs : List A) (i : ℕ) (d : A) → i < length xs → slice_get xs i ≡ Some (get_or xs i d)
   got [] i d lt = absurd (omega (arith, lt))
   got (x ∷ xs) zero d lt = refl
   got (x ∷ xs) (suc i) d lt = got xs i d (omega (arith, lt))

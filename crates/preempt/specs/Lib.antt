@@ -4,3 +4,4 @@ pub mod Numbers
 pub mod Parts
 pub mod Given
 pub mod Walks
+pub mod Shelves

@@ -5,6 +5,7 @@
 mod entry;
 mod number;
 mod plan;
+mod shelf;
 mod victims;
 mod walk;
 

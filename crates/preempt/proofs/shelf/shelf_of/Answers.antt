@@ -1,0 +1,36 @@
+use Rattle.std.proofs.Common.{◌≡◌, ℕ, ◌-◌, ◌<◌, ◌≤◌, length, get_or, sym, ◌∙◌, ap, subst, arith}
+use Rattle.std.specs.Prelude.{slice_get}
+use Rattle.std.specs.List.{AllByRecursion, flat_map}
+use Rattle.fuxi_terms.specs.Cluster.{ClusterRecord, has_at}
+use Rattle.fuxi_terms.specs.Tables.{total_at}
+use Rattle.fuxi_terms.proofs.ByPlace.{at_place-get_or}
+use Rattle.grant_table.specs.Tables.{as_known}
+use Rattle.preempt.specs.Shelves.{IsLow, IsLoose}
+use Rattle.preempt.specs.Walks.{entry_on}
+use Rattle.preempt.proofs.Admitted.{walk_is}
+use Rattle.preempt.proofs.Shelving.{has_is, resources_few}
+use Rattle.preempt.proofs.shelf.shelf_of.Goals as goal
+
+pub returns-clause-shelf : goal.returns-clause-shelf
+returns-clause-shelf g c =
+    let t = c.args.table.now in
+    let m = c.args.machine.0 in
+    let s = c.cluster-cluster.ensures.sound in
+    let eight = resources_few t.cluster s.valid in
+    let same = c.cluster-cluster.ensures.cluster in
+    let count : c.resources-resources.result ≡ t.cluster.resources = c.resources-resources.ensures.number ∙ ap (λ (x : ClusterRecord). x.resources) same in
+    let has : (i : ℕ) → get_or c.machine.result.now.has.q i 0 ≡ has_at t.cluster m i = λ i. has_is c.cluster-cluster.result.now.machines m c.machine.result.now c.machine.ensures i ∙ ap (λ (x : ClusterRecord). has_at x m i) same in
+    record {
+      walk = c.in_ok-entries.ensures.entries ∙ ap (flat_map (entry_on t.entries m)) c.requires.pairs ∙ sym (walk_is t s m);
+      each = c.in_ok-entries.ensures.each;
+      few = let a = c.in_ok-entries.ensures.few in let b = c.requires.few in omega (arith, a, b);
+      has = λ i lt. has i;
+      used = λ i lt.
+          let u = c.used_of.ensures i (omega (arith, lt, eight)) in
+          let h = has i in
+          let f = sym (at_place-get_or c.free-free.result.q i) ∙ c.free-free.ensures.free i in
+          let w = c.free-free.ensures.fits i in
+          omega (arith, u, h, f, w);
+      low = subst (AllByRecursion (IsLow c.lowest_of-lowest.result)) c.deref.ensures.value c.lowest_of-lowest.ensures;
+      loose_are = subst (λ n. AllByRecursion (IsLoose n c.args.groups.now c.loose_of-loose.result) c.in_ok-entries.entries.items) count (subst (AllByRecursion (IsLoose c.resources-resources.result c.args.groups.now c.loose_of-loose.result)) c.deref-2.ensures.value c.loose_of-loose.ensures);
+    }

@@ -1,0 +1,70 @@
+-- What is kept of each machine, and what of a unit that waits.
+use Rattle.std.specs.Prelude.{◌≡◌, ℕ, ◌+◌, ◌<◌, ◌≤◌, Bool, true, false, not, nat_eq, nat_lt, ◌&&◌, ◌||◌, List, length, map, get_or, slice_index, slice_get, Some}
+use Rattle.std.specs.List.{AllByRecursion}
+use Rattle.fuxi_terms.specs.Cluster.{has_at, limit_at, is_narrow}
+use Rattle.fuxi_terms.specs.Jobs.{priority_of, group_of, size_at}
+use Rattle.fuxi_terms.specs.Lists.{below_each}
+use Rattle.fuxi_terms.specs.Tables.{spot, total_at, usage_at}
+use Rattle.written_roles.specs.Preemption.{is_guaranteed_in}
+use Rattle.grant_table.specs.Tables.{TableRecord, as_known}
+use Rattle.preempt.specs.Counted.{entries_on}
+use Rattle.preempt.specs.declared.entry.Entry.{Entry}
+use Rattle.preempt.specs.declared.entry.Need.{Need}
+use Rattle.preempt.specs.declared.entry.GroupUse.{GroupUse}
+use Rattle.preempt.specs.declared.shelf.Loose.{Loose}
+use Rattle.preempt.specs.declared.shelf.Loose.TheVariants.{Nobody, One, Several}
+use Rattle.preempt.specs.declared.shelf.Shelf.{Shelf}
+use Rattle.preempt.specs.Given.{IsEntry, no_group, written, board_of}
+
+-- whether a group spares one grant of a size, in each of so many resources
+abbrev pub spares_at : GroupUse → List ℕ → ℕ → Bool
+spares_at g size i = not (nat_lt (slice_index g.used i) (slice_index g.quota i + slice_index size i))
+
+abbrev pub spares : ℕ → GroupUse → List ℕ → Bool
+spares resources g size = below_each resources (spares_at g size)
+
+-- whether a group is among those that can lose grants, and whether another one is
+abbrev pub is_loose : Loose → ℕ → Bool
+is_loose Nobody g = false
+is_loose (One h) g = nat_eq h g
+is_loose Several g = true
+
+abbrev pub is_other_loose : Loose → ℕ → Bool
+is_other_loose Nobody g = false
+is_other_loose (One h) g = not (nat_eq h g)
+is_other_loose Several g = true
+
+-- no entry is below the least priority of its group, and the group of each that it spares is loose
+pub record IsLow (lowest : List ℕ) (e : Entry) : Type 0 where
+  pub least : get_or lowest e.group 0 ≤ e.priority
+
+pub record IsLoose (resources : ℕ) (groups : List GroupUse) (loose : Loose) (e : Entry) : Type 0 where
+  pub loosened : spares resources (get_or groups e.group no_group) e.size ≡ true → is_loose loose e.group ≡ true
+
+pub record IsShelf (t : TableRecord) (groups : List GroupUse) (m : ℕ) (s : Shelf) : Type 0 where
+  pub walk : map (written m) s.entries.items ≡ entries_on (board_of t) t.entries m
+  pub each : AllByRecursion (IsEntry t) s.entries.items
+  pub few : length s.entries.items ≤ 1000000
+  pub has : (i : ℕ) → i < t.cluster.resources → slice_index s.has i ≡ has_at t.cluster m i
+  pub used : (i : ℕ) → i < t.cluster.resources → slice_index s.used i ≡ total_at (as_known t.jobs) m i t.entries
+  pub low : AllByRecursion (IsLow s.lowest) s.entries.items
+  pub loose_are : AllByRecursion (IsLoose t.cluster.resources groups s.loose) s.entries.items
+
+pub record AreShelves (t : TableRecord) (groups : List GroupUse) (shelves : List Shelf) : Type 0 where
+  pub long : length shelves ≡ length t.cluster.machines
+  pub each : (m : ℕ) (s : Shelf) → slice_get shelves m ≡ Some s → IsShelf t groups m s
+
+-- whether a unit may take any grant on a machine: of its own group, or of another
+abbrev pub may_take_some : Need → List ℕ → Loose → Bool
+may_take_some n lowest loose = nat_lt (get_or lowest n.group 0) n.priority || (n.guaranteed && is_other_loose loose n.group)
+
+-- what one more grant of a unit needs, wherever it is
+pub record IsWanted (t : TableRecord) (a u : ℕ) (n : Need) : Type 0 where
+  pub resources : n.resources ≡ t.cluster.resources
+  pub narrow : is_narrow t.cluster (size_at (as_known t.jobs) a u) ≡ true
+  pub group : n.group ≡ group_of (as_known t.jobs) a
+  pub small : n.group < 32
+  pub priority : n.priority ≡ priority_of (as_known t.jobs) a u
+  pub guaranteed : n.guaranteed ≡ is_guaranteed_in (board_of t) t.entries (spot a u 0)
+  pub limit : (i : ℕ) → i < t.cluster.resources → slice_index n.limit i ≡ limit_at t.cluster (group_of (as_known t.jobs) a) i
+  pub allowed : (i : ℕ) → i < t.cluster.resources → slice_index n.allowed i ≡ usage_at (as_known t.jobs) (group_of (as_known t.jobs) a) i t.entries + size_at (as_known t.jobs) a u i

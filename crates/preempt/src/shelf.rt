@@ -1,0 +1,230 @@
+//! What is kept of each machine: its grants in the order of the walk, and two bounds by which a unit that can
+//! take none of them is told without a walk.
+
+ghost use Rattle.std.specs.Prelude.{◌≡◌, ℕ, ◌+◌, ◌-◌, ◌<◌, ◌≤◌, true, IfOk, length, map, slice_index};
+ghost use Rattle.std.specs.List.{All, AllByRecursion};
+ghost use Rattle.fuxi_terms.specs.Jobs.{priority_of};
+ghost use Rattle.grant_table.specs.Tables.{IsSound, as_known};
+ghost use Rattle.preempt.specs.Given.{AreGroups, IsEntry, IsGroup, pair_of};
+ghost use Rattle.preempt.specs.Shelves.{IsShelf, AreShelves, IsLow, IsLoose, is_loose, is_other_loose, spares, may_take_some};
+ghost use Rattle.preempt.specs.Walks.{all_units, pairs_by_priority};
+
+use crate::entry::{Entry, GroupUse, Need};
+use crate::walk::{entries_on, units_by_priority};
+use cluster_desc::Cluster;
+use fuxi_terms::OutOfMemory;
+use grant_table::{GrantTable, Steps};
+use schedule_unit::{GroupNo, MachineNo};
+use std::alloc::Global;
+use std::sync::ledger::Ledger;
+
+/// The groups that have a grant on a machine that their quota spares.
+#[derive(Clone, Copy)]
+pub(crate) enum Loose {
+    Nobody,
+    One(usize),
+    Several,
+}
+
+/// A machine.
+#[derive(Drop)]
+pub(crate) struct Shelf {
+    /// Its grants, in the order of the walk.
+    pub(crate) entries: Vec<Entry>,
+    /// By group, a priority that none of its grants here is below.
+    pub(crate) lowest: [u8; 32],
+    pub(crate) loose: Loose,
+    /// What the machine has, and what is granted on it.
+    pub(crate) has: [u64; 8],
+    pub(crate) used: [u64; 8],
+}
+
+// Whether a group is among those that are loose.
+fn is_loose(loose: Loose, group: usize) -> bool
+    ensures { result ≡ is_loose loose group }
+{
+    match loose {
+        Loose::Nobody => false,
+        Loose::One(one) => one == group,
+        Loose::Several => true,
+    }
+}
+
+// Whether another group than this one is loose.
+fn is_other_loose(loose: Loose, group: usize) -> bool
+    ensures { result ≡ is_other_loose loose group }
+{
+    match loose {
+        Loose::Nobody => false,
+        Loose::One(one) => one != group,
+        Loose::Several => true,
+    }
+}
+
+// With this group among those that are loose.
+fn loosened(loose: Loose, group: usize) -> Loose
+    ensures here { is_loose result group ≡ true }
+    ensures others { (g : ℕ) → is_loose loose g ≡ true → is_loose result g ≡ true }
+{
+    if is_loose(loose, group) {
+        return loose;
+    }
+    match loose {
+        Loose::Nobody => Loose::One(group),
+        _ => Loose::Several,
+    }
+}
+
+// Whether a group spares one grant of this size, in each of so many resources.
+fn spares(resources: usize, group: &GroupUse, size: &[u64; 8]) -> bool
+    requires { resources ≤ 8 }
+    ensures { result ≡ spares resources group.now size.now }
+{
+    let mut all = true;
+    for i in 0..resources {
+        let less = (group.used[i] as u128) < group.quota[i] as u128 + size[i] as u128;
+        all = all && !less;
+    }
+    all
+}
+
+// By group the least priority of its entries, or 255.
+fn lowest_of(entries: &[Entry]) -> [u8; 32]
+    requires { All (λ e. e.group < 32) entries.now }
+    ensures { AllByRecursion (IsLow result) entries.now }
+{
+    let mut lowest = [255; 32];
+    for e in entries {
+        lowest[e.group] = e.priority.min(lowest[e.group]);
+    }
+    lowest
+}
+
+// The groups that spare one of their entries.
+fn loose_of(entries: &[Entry], resources: usize, groups: &[GroupUse]) -> Loose
+    requires small { All (λ e. e.group < 32) entries.now }
+    requires resources { resources ≤ 8 }
+    requires long { length groups.now ≡ 32 }
+    ensures { AllByRecursion (IsLoose resources groups.now result) entries.now }
+{
+    let mut loose = Loose::Nobody;
+    for e in entries {
+        if spares(resources, &groups[e.group], &e.size) {
+            loose = loosened(loose, e.group);
+        }
+    }
+    loose
+}
+
+// What a group is promised, may use and uses. One that the cluster does not have has nothing.
+fn group_use(table: &GrantTable, number: GroupNo) -> GroupUse
+    requires { number.0 < 32 }
+    ensures { IsGroup table.now number.0 result }
+{
+    let cluster = table.cluster();
+    let used = table.used_by(number).q;
+    if number.0 < cluster.groups() {
+        let group = cluster.group(number);
+        GroupUse {
+            quota: group.quota.q,
+            limit: group.limit.q,
+            used,
+        }
+    } else {
+        GroupUse {
+            quota: [0; 8],
+            limit: [0; 8],
+            used,
+        }
+    }
+}
+
+/// What each of the 32 groups is promised, may use and uses.
+pub(crate) fn groups_of(alloc: Global, table: &GrantTable) -> Result<Vec<GroupUse>, OutOfMemory>
+    ensures { IfOk result (λ groups. AreGroups table.now groups.items) }
+{
+    let mut groups = Vec::new(alloc);
+    for number in 0..32_u32 {
+        groups.push(group_use(table, GroupNo(number)))?;
+    }
+    Ok(groups)
+}
+
+// What is used of what there is, where so much is free.
+fn used_of(has: &[u64; 8], free: &[u64; 8]) -> [u64; 8]
+    ensures { (i : ℕ) → i < 8 → slice_index result i ≡ slice_index has.now i - slice_index free.now i }
+{
+    let mut used = [0; 8];
+    for i in 0..8 {
+        used[i] = has[i].saturating_sub(free[i]);
+    }
+    used
+}
+
+// What is kept of a machine.
+fn shelf_of<L: Ledger>(
+    alloc: Global,
+    table: &GrantTable,
+    groups: &[GroupUse],
+    units: &[Entry],
+    machine: MachineNo,
+    steps: &mut Steps<L>,
+) -> Result<Shelf, OutOfMemory>
+    requires machine { machine.0 < length table.now.cluster.machines }
+    requires groups { AreGroups table.now groups.now }
+    requires pairs { map pair_of units.now ≡ pairs_by_priority (priority_of (as_known table.now.jobs)) (all_units table.now.jobs) 10 }
+    requires units { AllByRecursion (IsEntry table.now) units.now }
+    requires few { length units.now ≤ 1000000 }
+    ensures shelf { IfOk result (λ shelf. IsShelf table.now groups.now machine.0 shelf) }
+    ensures step { steps.new ≡ steps.old + 1 }
+{
+    let free = table.free(machine, steps);
+    let cluster = table.cluster();
+    let resources = cluster.resources() as usize;
+    let has = cluster.machine(machine).has.q;
+    let entries = entries_on(alloc, table, units, machine)?;
+    let lowest = lowest_of(&entries);
+    let loose = loose_of(&entries, resources, groups);
+    Ok(Shelf {
+        entries,
+        lowest,
+        loose,
+        has,
+        used: used_of(&has, &free.q),
+    })
+}
+
+/// What is kept of each machine. For each what is free is asked once.
+pub(crate) fn shelves_of<L: Ledger>(
+    alloc: Global,
+    table: &GrantTable,
+    groups: &[GroupUse],
+    steps: &mut Steps<L>,
+) -> Result<Vec<Shelf>, OutOfMemory>
+    requires { AreGroups table.now groups.now }
+    ensures shelves { IfOk result (λ shelves. AreShelves table.now groups.now shelves.items) }
+    ensures steps { steps.new ≤ steps.old + length table.now.cluster.machines }
+{
+    let units = units_by_priority(alloc, table)?;
+    let mut shelves = Vec::new(alloc);
+    for number in 0..table.cluster().machines() {
+        shelves.push(shelf_of(
+            alloc,
+            table,
+            groups,
+            &units,
+            MachineNo(number),
+            steps,
+        )?)?;
+    }
+    Ok(shelves)
+}
+
+/// Whether a unit may take any grant on a machine. It is the first test of a pair, and looks at no grant.
+pub(crate) fn may_take_some(need: &Need, shelf: &Shelf) -> bool
+    requires { need.now.group < 32 }
+    ensures { result ≡ may_take_some need.now shelf.now.lowest shelf.now.loose }
+{
+    shelf.lowest[need.group] < need.priority
+        || (need.guaranteed && is_other_loose(shelf.loose, need.group))
+}
