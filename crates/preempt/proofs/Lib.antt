@@ -11,3 +11,6 @@ pub mod Listing
 pub mod Admitted
 pub mod Walking
 pub mod Shelving
+pub mod Taking
+pub mod Wanting
+pub mod Searching

@@ -87,7 +87,7 @@ module _ (tab : TableRecord) where
       λ k. cond (nat_eq (entry.group k) (need.group k)) (cond (nat_lt (entry.priority k) (need.priority k)) e.count 0) (cond (need.guaranteed k) (l k) 0)
 
 -- Steps
-at_index : (P : Entry → Type 0) (xs : List Entry) (k : ℕ) (d : Entry) → k < length xs → AllByRecursion P xs → P (get_or xs k d)
+pub at_index : (P : Entry → Type 0) (xs : List Entry) (k : ℕ) (d : Entry) → k < length xs → AllByRecursion P xs → P (get_or xs k d)
 at_index P [] k d lt h = absurd (omega (arith, lt))
 at_index P (x ∷ xs) zero d lt h = h.0
 at_index P (x ∷ xs) (suc k) d lt h = at_index P xs k d (omega (arith, lt)) h.1

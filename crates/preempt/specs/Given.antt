@@ -9,6 +9,7 @@ use Rattle.written_roles.specs.Placing.{Board}
 use Rattle.written_roles.specs.Preemption.{is_guaranteed_in, is_spared_in}
 use Rattle.grant_table.specs.Tables.{TableRecord, as_known}
 use Rattle.preempt.specs.Counted.{entries_on, counted_taken, counted_kept}
+use Rattle.preempt.specs.declared.plan.Victim.{Victim}
 use Rattle.preempt.specs.declared.entry.Entry.{Entry}
 use Rattle.preempt.specs.declared.entry.Need.{Need}
 use Rattle.preempt.specs.declared.entry.GroupUse.{GroupUse}
@@ -76,6 +77,10 @@ pub record AreGiven (t : TableRecord) (s : Spot) (entries : List Entry) (n : Nee
   pub each : AllByRecursion (IsEntry t) entries
   pub need : IsNeed t s n
   pub groups_are : AreGroups t groups
+
+-- the victim that an entry stands for
+abbrev pub victim_of : Entry → Victim
+victim_of e = record { app = e.app; unit = e.unit; count = e.count }
 
 -- what is taken of entries, and what is kept of that
 pub record IsTaken (t : TableRecord) (s : Spot) (entries set : List Entry) : Type 0 where

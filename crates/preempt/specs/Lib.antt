@@ -5,3 +5,4 @@ pub mod Parts
 pub mod Given
 pub mod Walks
 pub mod Shelves
+pub mod Search

@@ -36,7 +36,7 @@ abbrev pub is_unit : ℕ → ℕ → Victim → Bool
 is_unit a u v = nat_eq v.app.0 a && nat_eq v.unit.0 u
 
 abbrev pub same_unit : Victim → Victim → Bool
-same_unit v w = is_unit w.app.0 w.unit.0 v
+same_unit v w = is_unit v.app.0 v.unit.0 w
 
 -- a table's entries after the victims on a machine are taken, one unit after the other
 abbrev pub without_victims : List (Spot × ℕ) → ℕ → List Victim → List (Spot × ℕ)
@@ -49,13 +49,17 @@ pub record IsTakable (t : TableRecord) (m : ℕ) (v : Victim) : Type 0 where
   pub some : 0 < v.count
   pub held : v.count ≤ held_on t.entries v.app.0 v.unit.0 m
 
--- a plan can be carried out on a table: each victim can be taken, each unit is taken from once and the served one not at all, and
--- after that there is room for the grant
+-- victims on a machine that can be taken, each unit once
+pub record AreTakable (t : TableRecord) (m : ℕ) (vs : List Victim) : Type 0 where
+  pub each : AllByRecursion (IsTakable t m) vs
+  pub once : IsDistinct same_unit vs
+
+-- a plan can be carried out on a table: its victims can be taken, none of them is of the served unit, and after that there is room for the
+-- grant
 pub record CanBeMade (t : TableRecord) (p : Plan) : Type 0 where
   pub unit : p.pick.unit.0 < unit_count (as_known t.jobs) p.pick.app.0
   pub machine : p.pick.machine.0 < length t.cluster.machines
-  pub each : AllByRecursion (IsTakable t p.pick.machine.0) p.victims
-  pub once : IsDistinct same_unit p.victims
+  pub victims : AreTakable t p.pick.machine.0 p.victims
   pub others : AllByRecursion (λ v. is_unit p.pick.app.0 p.pick.unit.0 v ≡ false) p.victims
   pub room : (i : ℕ) → total_at (as_known t.jobs) p.pick.machine.0 i (without_victims t.entries p.pick.machine.0 p.victims) + size_at (as_known t.jobs) p.pick.app.0 p.pick.unit.0 i ≤ has_at t.cluster p.pick.machine.0 i
 

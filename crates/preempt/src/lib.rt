@@ -3,10 +3,13 @@
 #![tactic(auto)]
 
 mod entry;
+mod need;
 mod number;
 mod plan;
+mod search;
 mod shelf;
 mod victims;
 mod walk;
 
 pub use plan::{Plan, Victim, Victims};
+pub use search::find;

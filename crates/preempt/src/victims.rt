@@ -1,16 +1,16 @@
 //! The victims on one machine for one more grant of a unit, by counts.
 
-ghost use Rattle.std.specs.Prelude.{◌≡◌, ℕ, ◌+◌, ◌*◌, ◌^◌, ◌<◌, ◌≤◌, IfOk, OnOk, filter, map, T, Some, None, MatchOption, length};
+ghost use Rattle.std.specs.Prelude.{◌≡◌, ℕ, ◌+◌, ◌*◌, ◌^◌, ◌<◌, ◌≤◌, IfOk, OnOk, IfSome, filter, map, Some, None, MatchOption, length};
 ghost use Rattle.std.specs.List.{All, AllByRecursion, list_any};
-ghost use Rattle.std.specs.FinMap.Entries.{is_sorted};
-ghost use Rattle.fuxi_terms.specs.Keys.{Spot, spot_cmp};
+ghost use Rattle.fuxi_terms.specs.Keys.{Spot};
 ghost use Rattle.written_roles.specs.Preemption.{victims_in};
-ghost use Rattle.grant_table.specs.Tables.{TableRecord};
-ghost use Rattle.preempt.specs.Counted.{singles};
-ghost use Rattle.preempt.specs.Given.{AreGiven, IsTaken, IsKept, IsEntry, IsNeed, board_of, written};
+ghost use Rattle.grant_table.specs.Tables.{TableRecord, IsSound};
+ghost use Rattle.preempt.specs.Given.{AreGiven, IsTaken, IsKept, IsEntry, IsNeed, board_of, victim_of};
+ghost use Rattle.preempt.specs.Plans.{AreTakable, losers_of};
 ghost use Rattle.preempt.specs.Numbers.{has_grants};
 
 use crate::entry::{Entry, GroupUse, Need, Sums, count_if, lowered, part_of, raised, recounted, total_of};
+use crate::plan::Victim;
 use crate::number::{are_enough, may_number, needed_number};
 use fuxi_terms::OutOfMemory;
 use std::alloc::Global;
@@ -67,17 +67,21 @@ fn keep_needed(alloc: Global, set: &[Entry], need: &Need) -> Result<Vec<Entry>, 
     Ok(kept)
 }
 
-// The entries that have grants.
-fn without_empty(alloc: Global, entries: &[Entry]) -> Result<Vec<Entry>, OutOfMemory>
-    ensures { IfOk result (λ some. some.items ≡ filter has_grants entries.now) }
+// The victims that entries stand for: those that have grants.
+fn victims_of(alloc: Global, entries: &[Entry]) -> Result<Vec<Victim>, OutOfMemory>
+    ensures { IfOk result (λ victims. victims.items ≡ map victim_of (filter has_grants entries.now)) }
 {
-    let mut some = Vec::new(alloc);
+    let mut victims = Vec::new(alloc);
     for e in entries {
         if e.count > 0 {
-            some.push(*e)?;
+            victims.push(Victim {
+                app: e.app,
+                unit: e.unit,
+                count: e.count,
+            })?;
         }
     }
-    Ok(some)
+    Ok(victims)
 }
 
 // Whether any entry has grants.
@@ -87,23 +91,24 @@ fn has_any(entries: &[Entry]) -> bool
     entries.iter().any(|e| e.count > 0)
 }
 
-/// The victims on a machine for one more grant of a unit, counted by unit, and `None` exactly where the walk of
-/// single grants finds none. The list is a scratch one: it is written over, so that a machine without victims
-/// costs no memory once it has room.
+/// The victims on a machine for one more grant of a unit, and `None` exactly where the walk of single grants
+/// finds none. The list is a scratch one: it is written over, so that a machine without victims costs no memory
+/// once it has room.
 pub(crate) fn victims_on(
     alloc: Global,
     entries: &[Entry],
     need: &Need,
     groups: &[GroupUse],
     set: &mut Vec<Entry>,
-) -> Result<Option<Vec<Entry>>, OutOfMemory>
+) -> Result<Option<Vec<Victim>>, OutOfMemory>
     requires resources { need.now.resources ≤ 8 }
     requires own { need.now.group < 32 }
     requires few { length entries.now ≤ 1000000 }
     requires groups { All (λ e. e.group < 32) entries.now }
     requires long { length groups.now ≡ 32 }
-    ensures { IfOk result (λ found. (t : TableRecord) (s : Spot) → AreGiven t s entries.now need.now groups.now → T (is_sorted spot_cmp t.entries) →
-        MatchOption found (victims_in (board_of t) t.entries s ≡ None) (λ v. victims_in (board_of t) t.entries s ≡ Some (singles (map (written s.machine) v.items)))) }
+    ensures found { IfOk result (λ found. (t : TableRecord) (s : Spot) → AreGiven t s entries.now need.now groups.now → IsSound t →
+        MatchOption found (victims_in (board_of t) t.entries s ≡ None) (λ vs. victims_in (board_of t) t.entries s ≡ Some (losers_of s.machine vs.items))) }
+    ensures takable { IfOk result (λ found. (t : TableRecord) (s : Spot) → AreGiven t s entries.now need.now groups.now → IsSound t → IfSome found (λ vs. AreTakable t s.machine vs.items)) }
 {
     take_all(set, entries, need, groups)?;
     let all = total_of(set);
@@ -115,6 +120,5 @@ pub(crate) fn victims_on(
         return Ok(None);
     }
     let kept = keep_needed(alloc, set, need)?;
-    let some = without_empty(alloc, &kept)?;
-    Ok(Some(some))
+    Ok(Some(victims_of(alloc, &kept)?))
 }

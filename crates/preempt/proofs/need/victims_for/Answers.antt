@@ -1,0 +1,38 @@
+use Rattle.std.proofs.Common.{◌≡◌, ℕ, ◌≤◌, false, None, Some, sym, ◌∙◌, subst}
+use Rattle.std.specs.Prelude.{IfSome, MatchOption, Option}
+use Rattle.std.specs.Global.{Vec}
+use Rattle.fuxi_terms.specs.Tables.{spot}
+use Rattle.fuxi_terms.specs.Keys.{Spot}
+use Rattle.written_roles.specs.Preemption.{victims_in}
+use Rattle.grant_table.specs.Tables.{TableRecord, IsSound}
+use Rattle.preempt.specs.declared.plan.Victim.{Victim}
+use Rattle.preempt.specs.Given.{board_of, AreGiven, AreGroups, IsEntry}
+use Rattle.preempt.specs.Plans.{AreTakable, losers_of}
+use Rattle.preempt.specs.Shelves.{IsShelf, IsWanted}
+use Rattle.preempt.proofs.Shelving.{none_to_take, resources_few}
+use Rattle.preempt.proofs.Wanting.{if_ok}
+use Rattle.preempt.proofs.need.victims_for.Goals as goal
+
+pub returns-then-not-may_take_some-clause-found : goal.returns-then-not-may_take_some-clause-found
+returns-then-not-may_take_some-clause-found c = λ t m sound groups entry wanted shelf.
+    none_to_take t c.args.groups.now groups (resources_few t.cluster sound.valid) (spot c.args.e.now.app.0 c.args.e.now.unit.0 m) c.args.need.now c.args.shelf.now shelf wanted (sym c.may_take_some.ensures ∙ c.if-not-may_take_some.true)
+
+-- what is given on the machine
+given : (c : goal.After-victims_on) (t : TableRecord) (m : ℕ) → IsSound t → AreGroups t c.args.groups.now → IsEntry t c.args.e.now → IsWanted t c.args.e.now.app.0 c.args.e.now.unit.0 c.args.need.now → IsShelf t c.args.groups.now m c.args.shelf.now
+    → AreGiven t (spot c.args.e.now.app.0 c.args.e.now.unit.0 m) c.args.shelf.now.entries.items c.on_shelf-need.result c.args.groups.now
+given c t m sound groups entry wanted shelf = record {
+  walk = shelf.walk;
+  each = shelf.each;
+  need = c.on_shelf-need.ensures.need t c.args.groups.now m entry wanted shelf (resources_few t.cluster sound.valid);
+  groups_are = groups;
+}
+
+pub returns-clause-found : goal.returns-clause-found
+returns-clause-found c = if_ok {A = Option (Vec Victim)} _ _ (λ found h t m sound groups entry wanted shelf.
+    let s = spot c.args.e.now.app.0 c.args.e.now.unit.0 m in
+    h t s (subst (λ xs. AreGiven t s xs c.on_shelf-need.result c.args.groups.now) (sym c.deref.ensures.value) (given c t m sound groups entry wanted shelf)) sound) c.victims_on.result c.victims_on.ensures.found
+
+pub returns-clause-takable : goal.returns-clause-takable
+returns-clause-takable c = if_ok {A = Option (Vec Victim)} _ _ (λ found h t m sound groups entry wanted shelf.
+    let s = spot c.args.e.now.app.0 c.args.e.now.unit.0 m in
+    h t s (subst (λ xs. AreGiven t s xs c.on_shelf-need.result c.args.groups.now) (sym c.deref.ensures.value) (given c t m sound groups entry wanted shelf)) sound) c.victims_on.result c.victims_on.ensures.takable

@@ -1,0 +1,29 @@
+-- What a search over pairs finds.
+use Rattle.std.specs.Prelude.{◌≡◌, ℕ, Bool, nat_eq, List, length, map, filter, Option, IfSome}
+use Rattle.std.specs.Option.{option_map}
+use Rattle.std.specs.List.{flat_map}
+use Rattle.fuxi_terms.specs.Keys.{Spot}
+use Rattle.fuxi_terms.specs.Jobs.{priority_of}
+use Rattle.fuxi_terms.specs.Lists.{below}
+use Rattle.fuxi_terms.specs.Tables.{spot}
+use Rattle.written_roles.specs.Preemption.{first_plan_in}
+use Rattle.grant_table.specs.Tables.{TableRecord, as_known}
+use Rattle.preempt.specs.declared.plan.Plan.{Plan}
+use Rattle.preempt.specs.Given.{board_at}
+use Rattle.preempt.specs.Plans.{plan_as, CanBeMade}
+
+-- the pairs of a unit with the first machines, and with all machines
+abbrev pub pairs_to : (ℕ → ℕ → ℕ → Bool) → ℕ → ℕ × ℕ → List Spot
+pairs_to usable n p = map (spot p.0 p.1) (filter (usable p.0 p.1) (below n))
+
+abbrev pub pairs_on : TableRecord → (ℕ → ℕ → ℕ → Bool) → ℕ × ℕ → List Spot
+pairs_on t usable p = pairs_to usable (length t.cluster.machines) p
+
+-- and of those units that have a priority
+abbrev pub pairs_at : TableRecord → (ℕ → ℕ → ℕ → Bool) → ℕ → List (ℕ × ℕ) → List Spot
+pairs_at t usable n ps = flat_map (pairs_on t usable) (filter (λ p. nat_eq (priority_of (as_known t.jobs) p.0 p.1) n) ps)
+
+-- the plan of the first of these pairs that has victims, and it can be carried out
+pub record IsFound (t : TableRecord) (usable : ℕ → ℕ → ℕ → Bool) (pairs : List Spot) (found : Option Plan) : Type 0 where
+  pub is : option_map plan_as found ≡ first_plan_in pairs (board_at t usable) t.entries
+  pub made : IfSome found (CanBeMade t)

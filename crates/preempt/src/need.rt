@@ -1,0 +1,141 @@
+//! What a unit that waits needs.
+
+ghost use Rattle.std.specs.Prelude.{◌≡◌, ℕ, ◌+◌, ◌<◌, ◌≤◌, false, Some, None, List, IfOk, IfSome, MatchOption, slice_get, slice_index, length, map};
+ghost use Rattle.std.specs.Option.{option_map};
+ghost use Rattle.std.specs.List.{All, AllByRecursion};
+ghost use Rattle.fuxi_terms.specs.Cluster.{JobRecord, is_narrow};
+ghost use Rattle.fuxi_terms.specs.Jobs.{unit_count, size_at};
+ghost use Rattle.fuxi_terms.specs.Tables.{spot};
+ghost use Rattle.written_roles.specs.Preemption.{victims_in};
+ghost use Rattle.grant_table.specs.Tables.{TableRecord, IsSound, as_known};
+ghost use Rattle.preempt.specs.Given.{AreGroups, IsEntry, IsGroup, IsNeed, board_of, pair_of};
+ghost use Rattle.preempt.specs.declared.entry.GroupUse.{GroupUse};
+ghost use Rattle.preempt.specs.Plans.{AreTakable, losers_of};
+ghost use Rattle.preempt.specs.Shelves.{IsShelf, IsWanted};
+
+use crate::entry::{Entry, GroupUse, Need};
+use crate::number::{is_narrow, reach};
+use crate::plan::Victim;
+use crate::shelf::{Shelf, may_take_some};
+use crate::victims::victims_on;
+use crate::walk::entry_of;
+use fuxi_terms::OutOfMemory;
+use grant_table::{Asking, GrantTable};
+use schedule_unit::{AppNo, UnitNo};
+use std::alloc::Global;
+
+// The place of an admitted job.
+fn place_of(table: &GrantTable, app: AppNo) -> u32
+    requires { 0 < unit_count (as_known table.now.jobs) app.0 }
+    ensures there { result < length table.now.jobs }
+    ensures found { (j : JobRecord) → slice_get table.now.jobs result ≡ Some j → j.number ≡ app.0 }
+{
+    for index in 0..table.jobs() {
+        if table.job(index).app().0 == app.0 {
+            return index;
+        }
+    }
+    unreachable!()
+}
+
+// An admitted unit, with no grants.
+fn unit_of(table: &GrantTable, app: AppNo, unit: UnitNo) -> Entry
+    requires { unit.0 < unit_count (as_known table.now.jobs) app.0 }
+    ensures entry { IsEntry table.now result }
+    ensures pair { pair_of result ≡ (app.0, unit.0) }
+{
+    let _cluster = table.cluster();
+    let job = table.job(place_of(table, app));
+    entry_of(job, unit)
+}
+
+/// The waiting units, in their order.
+pub(crate) fn waiting_of<P: Asking>(
+    alloc: Global,
+    table: &GrantTable,
+    placer: &P,
+) -> Result<Vec<Entry>, OutOfMemory>
+    requires { AllByRecursion (λ p. p.1 < unit_count (as_known table.now.jobs) p.0) (P.line placer.now) }
+    ensures pairs { IfOk result (λ waiting. map pair_of waiting.items ≡ P.line placer.now) }
+    ensures entries { IfOk result (λ waiting. AllByRecursion (IsEntry table.now) waiting.items) }
+{
+    let mut waiting = Vec::new(alloc);
+    for place in 0..placer.waiting_len() {
+        let (app, unit) = placer.waiting_at(place);
+        waiting.push(unit_of(table, app, unit))?;
+    }
+    Ok(waiting)
+}
+
+// Place by place.
+fn sum_of(a: &[u64; 8], b: &[u64; 8]) -> [u128; 8]
+    ensures { (i : ℕ) → i < 8 → slice_index result i ≡ slice_index a.now i + slice_index b.now i }
+{
+    let mut q = [0; 8];
+    for i in 0..8 {
+        q[i] = a[i] as u128 + b[i] as u128;
+    }
+    q
+}
+
+/// What one more grant of a unit needs, wherever it is, and `None` exactly where it fits nowhere, since it needs
+/// a resource that the cluster does not have.
+pub(crate) fn need_of(table: &GrantTable, group: &GroupUse, e: &Entry) -> Option<Need>
+    requires entry { IsEntry table.now e.now }
+    requires group { IsGroup table.now e.now.group group.now }
+    ensures { MatchOption result (is_narrow table.now.cluster (size_at (as_known table.now.jobs) e.now.app.0 e.now.unit.0) ≡ false) (IsWanted table.now e.now.app.0 e.now.unit.0) }
+{
+    let resources = table.cluster().resources() as usize;
+    if !is_narrow(resources, &e.size) {
+        return None;
+    }
+    let allowed = sum_of(&group.used, &e.size);
+    Some(Need {
+        resources,
+        group: e.group,
+        priority: e.priority,
+        guaranteed: reach(resources, &group.quota, &[0; 8], &allowed),
+        has: [0; 8],
+        fits: [0; 8],
+        limit: group.limit,
+        allowed,
+    })
+}
+
+// What it needs on a machine.
+fn on_shelf(need: &Need, e: &Entry, shelf: &Shelf) -> Need
+    ensures need { (t : TableRecord) (groups : List GroupUse) (m : ℕ) → IsEntry t e.now → IsWanted t e.now.app.0 e.now.unit.0 need.now → IsShelf t groups m shelf.now → t.cluster.resources ≤ 8 → IsNeed t (spot e.now.app.0 e.now.unit.0 m) result }
+    ensures group { result.group ≡ need.now.group }
+    ensures resources { result.resources ≡ need.now.resources }
+{
+    Need {
+        has: shelf.has,
+        fits: sum_of(&shelf.used, &e.size),
+        ..*need
+    }
+}
+
+/// The victims on a machine for one more grant of a unit.
+pub(crate) fn victims_for(
+    alloc: Global,
+    need: &Need,
+    e: &Entry,
+    shelf: &Shelf,
+    groups: &[GroupUse],
+    set: &mut Vec<Entry>,
+) -> Result<Option<Vec<Victim>>, OutOfMemory>
+    requires resources { need.now.resources ≤ 8 }
+    requires own { need.now.group < 32 }
+    requires few { length shelf.now.entries.items ≤ 1000000 }
+    requires small { All (λ e. e.group < 32) shelf.now.entries.items }
+    requires long { length groups.now ≡ 32 }
+    ensures found { IfOk result (λ found. (t : TableRecord) (m : ℕ) → IsSound t → AreGroups t groups.now → IsEntry t e.now → IsWanted t e.now.app.0 e.now.unit.0 need.now → IsShelf t groups.now m shelf.now →
+        MatchOption found (victims_in (board_of t) t.entries (spot e.now.app.0 e.now.unit.0 m) ≡ None) (λ vs. victims_in (board_of t) t.entries (spot e.now.app.0 e.now.unit.0 m) ≡ Some (losers_of m vs.items))) }
+    ensures takable { IfOk result (λ found. (t : TableRecord) (m : ℕ) → IsSound t → AreGroups t groups.now → IsEntry t e.now → IsWanted t e.now.app.0 e.now.unit.0 need.now → IsShelf t groups.now m shelf.now → IfSome found (λ vs. AreTakable t m vs.items)) }
+{
+    if !may_take_some(need, shelf) {
+        return Ok(None);
+    }
+    let need = on_shelf(need, e, shelf);
+    victims_on(alloc, &shelf.entries, &need, groups, set)
+}

@@ -1,0 +1,128 @@
+//! The search: pairs of a waiting unit and a machine, by greater priority, place in the line and smaller machine.
+
+ghost use Rattle.std.specs.Prelude.{◌≡◌, ℕ, ◌+◌, ◌<◌, ◌≤◌, IfOk, IfSome, length, map};
+ghost use Rattle.std.specs.List.{AllByRecursion};
+ghost use Rattle.std.specs.Option.{option_map};
+ghost use Rattle.fuxi_terms.specs.Jobs.{unit_count};
+ghost use Rattle.written_roles.specs.Placing.{Board};
+ghost use Rattle.written_roles.specs.Preemption.{plan_in};
+ghost use Rattle.grant_table.specs.Tables.{as_known};
+ghost use Rattle.preempt.specs.Given.{AreGroups, IsEntry, pair_of};
+ghost use Rattle.preempt.specs.Plans.{IsBoardOf, CanBeMade, plan_as};
+ghost use Rattle.preempt.specs.Search.{IsFound, pairs_on, pairs_at};
+ghost use Rattle.preempt.specs.Shelves.{AreShelves};
+
+use crate::entry::{Entry, GroupUse};
+use crate::need::{need_of, victims_for, waiting_of};
+use crate::plan::{Plan, Victims};
+use crate::shelf::{Shelf, groups_of, shelves_of};
+use fuxi_terms::OutOfMemory;
+use grant_table::{Asking, GrantTable, Pick, Steps};
+use schedule_unit::MachineNo;
+use std::alloc::Global;
+use std::sync::ledger::Ledger;
+
+// The plan of the first machine on which a unit has victims.
+fn first_machine<P: Asking>(
+    alloc: Global,
+    table: &GrantTable,
+    placer: &P,
+    groups: &[GroupUse],
+    shelves: &[Shelf],
+    e: &Entry,
+    set: &mut Vec<Entry>,
+) -> Result<Option<Plan>, OutOfMemory>
+    requires entry { IsEntry table.now e.now }
+    requires groups { AreGroups table.now groups.now }
+    requires shelves { AreShelves table.now groups.now shelves.now }
+    ensures { IfOk result (IsFound table.now (P.usable placer.now) (pairs_on table.now (P.usable placer.now) (pair_of e.now))) }
+{
+    let cluster = table.cluster();
+    let need = match need_of(table, &groups[e.group], e) {
+        Some(need) => need,
+        None => return Ok(None),
+    };
+    for number in 0..cluster.machines() {
+        let machine = MachineNo(number);
+        if !placer.may_use(e.app, e.unit, machine) {
+            continue;
+        }
+        let shelf = &shelves[number as usize];
+        match victims_for(alloc, &need, e, shelf, groups, set)? {
+            Some(victims) => {
+                let pick = Pick {
+                    app: e.app,
+                    unit: e.unit,
+                    machine,
+                };
+                let victims = Victims::of(victims);
+                return Ok(Some(Plan { pick, victims }));
+            }
+            None => {}
+        }
+    }
+    Ok(None)
+}
+
+// The plan of the first unit of a priority that has victims.
+fn first_unit<P: Asking>(
+    alloc: Global,
+    table: &GrantTable,
+    placer: &P,
+    groups: &[GroupUse],
+    shelves: &[Shelf],
+    waiting: &[Entry],
+    priority: u8,
+    set: &mut Vec<Entry>,
+) -> Result<Option<Plan>, OutOfMemory>
+    requires entries { AllByRecursion (IsEntry table.now) waiting.now }
+    requires groups { AreGroups table.now groups.now }
+    requires shelves { AreShelves table.now groups.now shelves.now }
+    ensures { IfOk result (IsFound table.now (P.usable placer.now) (pairs_at table.now (P.usable placer.now) priority (map pair_of waiting.now))) }
+{
+    for e in waiting {
+        if e.priority != priority {
+            continue;
+        }
+        match first_machine(alloc, table, placer, groups, shelves, e, set)? {
+            Some(plan) => return Ok(Some(plan)),
+            None => {}
+        }
+    }
+    Ok(None)
+}
+
+/// The plan of the first pair of a waiting unit and a machine that has victims, and `None` exactly where no pair
+/// has any: whatever board says the same as the table and as the one who asks, the plan is that of the board
+/// (`plan`). It can be carried out on the table (`made`). Each unit of the line must be admitted. Only want of
+/// memory is an error, and it leaves all as it was. What is free is asked at most once for each machine (`steps`).
+///
+/// The time is linear in the units that have grants on a machine, whatever their counts, for each pair; a pair of
+/// which nothing may be taken costs one test. Memory is asked once for the units and for what they have on each
+/// machine, and no more for a pair without victims once a list has its room.
+pub fn find<P: Asking, L: Ledger>(
+    alloc: Global,
+    table: &GrantTable,
+    placer: &P,
+    steps: &mut Steps<L>,
+) -> Result<Option<Plan>, OutOfMemory>
+    requires { AllByRecursion (λ p. p.1 < unit_count (as_known table.now.jobs) p.0) (P.line placer.now) }
+    ensures plan { IfOk result (λ found. (B : Board) → IsBoardOf B table.now (P.usable placer.now) → option_map plan_as found ≡ plan_in B table.now.entries (P.line placer.now)) }
+    ensures made { IfOk result (λ found. IfSome found (CanBeMade table.now)) }
+    ensures steps { steps.new ≤ steps.old + length table.now.cluster.machines }
+{
+    let groups = groups_of(alloc, table)?;
+    let shelves = shelves_of(alloc, table, &groups, steps)?;
+    let waiting = waiting_of(alloc, table, placer)?;
+    let mut set = Vec::new(alloc);
+    for late in 0..10_u8 {
+        let priority = 9 - late;
+        match first_unit(
+            alloc, table, placer, &groups, &shelves, &waiting, priority, &mut set,
+        )? {
+            Some(plan) => return Ok(Some(plan)),
+            None => {}
+        }
+    }
+    Ok(None)
+}
