@@ -11,6 +11,8 @@ pub mod Listing
 pub mod Admitted
 pub mod Walking
 pub mod Shelving
-pub mod Taking
+pub mod Takable
 pub mod Wanting
 pub mod Searching
+pub mod Promised
+pub mod Carrying

@@ -22,7 +22,7 @@ use Rattle.preempt.specs.Search.{pairs_to, pairs_on, pairs_at}
 use Rattle.preempt.proofs.Sums.{narrow_enough}
 
 -- ---- the first of some pairs, and of others behind them
-or_else : {A : Type 0} → Option A → Option A → Option A
+abbrev or_else : {A : Type 0} → Option A → Option A → Option A
 or_else None p = p
 or_else (Some q) p = Some q
 

@@ -3,6 +3,7 @@
 #![tactic(auto)]
 
 mod entry;
+mod law;
 mod need;
 mod number;
 mod plan;
@@ -11,5 +12,6 @@ mod shelf;
 mod victims;
 mod walk;
 
+pub use law::{planning, taking};
 pub use plan::{Plan, Victim, Victims};
 pub use search::find;

@@ -7,7 +7,7 @@ use Rattle.preempt.specs.Given.{written, victim_of, AreGiven, IsEntry, IsKept}
 use Rattle.preempt.specs.Numbers.{total_in, part_in, has_grants}
 use Rattle.preempt.specs.Plans.{AreTakable, losers_of}
 use Rattle.preempt.proofs.Finding.{IsReady, not_enough, none_taken, some_found}
-use Rattle.preempt.proofs.Taking.{takable, losers_are}
+use Rattle.preempt.proofs.Takable.{takable, losers_are}
 use Rattle.preempt.proofs.victims.victims_on.Goals as goal
 
 pub returns-then-not-are_enough-clause-found : goal.returns-then-not-are_enough-clause-found
