@@ -1,15 +1,14 @@
 -- What the admitted jobs of a sound table say of their units.
-use Rattle.std.proofs.Common.{◌≡◌, inl, inr, ℕ, zero, suc, ◌+◌, ◌*◌, ◌<◌, ◌≤◌, Bool, true, false, cond, nat_eq, nat_lt, List, [], ◌∷◌, ◌++◌, length, map, Some, None, refl, sym, ◌∙◌, ap, subst, arith}
-use Rattle.std.specs.Prelude.{◌&&◌, ◌||◌, IsTrue, not, slice_get, Option}
+use Rattle.std.proofs.Common.{◌≡◌, inl, inr, ℕ, zero, suc, ◌+◌, ◌*◌, ◌<◌, ◌≤◌, Bool, true, false, cond, nat_eq, nat_lt, List, [], ◌∷◌, ◌++◌, length, Some, refl, sym, ◌∙◌, ap, subst, arith}
+use Rattle.std.specs.Prelude.{◌&&◌, ◌||◌, IsTrue, not, slice_get}
 use Rattle.std.specs.Option.{unwrap_or, option_map}
 use Rattle.std.specs.List.{AllByRecursion, flat_map, list_any, list_all}
 use Rattle.std.proofs.lemmas.Bool.Decides.{nat_tests}
 use Rattle.std.proofs.lemmas.Grind.{flat_map-append}
 use Rattle.std.proofs.lemmas.List.{map-append, length-append, length-map}
 use Rattle.fuxi_terms.specs.Cluster.{JobRecord, UnitRecord, is_valid_job, is_valid_unit, is_between, is_vector_of, is_priority}
-use Rattle.fuxi_terms.specs.Jobs.{KnownJob, unit_count, unit_of, units_of, priority_of, group_of, job_of, no_unit}
-use Rattle.fuxi_terms.specs.Keys.{Spot, spot_cmp}
-use Rattle.fuxi_terms.specs.Counts.{count}
+use Rattle.fuxi_terms.specs.Jobs.{KnownJob, unit_count, unit_of, priority_of, group_of, job_of, no_unit}
+use Rattle.fuxi_terms.specs.Keys.{Spot}
 use Rattle.fuxi_terms.specs.Lists.{below}
 use Rattle.fuxi_terms.proofs.Alls.{all_append, all_more}
 use Rattle.fuxi_terms.proofs.Booleans.{both_true, number_is, nat_itself}

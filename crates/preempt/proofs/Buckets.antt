@@ -1,5 +1,5 @@
 -- Entries on a machine put into the order of the walk are those of lower priority first, each from the last to the first.
-use Rattle.std.proofs.Common.{◌≡◌, ◌⊎◌, inl, inr, ℕ, zero, suc, ◌+◌, ◌<◌, ◌≤◌, Bool, true, false, cond, nat_eq, nat_lt, List, [], ◌∷◌, ◌++◌, refl, sym, ◌∙◌, ap, subst, arith, append_assoc}
+use Rattle.std.proofs.Common.{◌≡◌, ◌⊎◌, inl, inr, ℕ, zero, suc, ◌<◌, ◌≤◌, Bool, true, false, cond, nat_eq, nat_lt, List, [], ◌∷◌, ◌++◌, refl, sym, ◌∙◌, ap, subst, arith}
 use Rattle.std.specs.Prelude.{◌&&◌, ◌||◌}
 use Rattle.std.specs.List.{AllByRecursion, flat_map}
 use Rattle.std.proofs.lemmas.Bool.{cases_lt}
@@ -10,7 +10,6 @@ use Rattle.fuxi_terms.specs.Keys.{Spot}
 use Rattle.fuxi_terms.specs.Lists.{below}
 use Rattle.fuxi_terms.specs.Tables.{spot, held_on}
 use Rattle.fuxi_terms.proofs.Alls.{all_append}
-use Rattle.fuxi_terms.proofs.Booleans.{nat_itself}
 use Rattle.written_roles.specs.Preemption.{goes_before_by, put_grant_by, in_walk_order_by}
 use Rattle.preempt.specs.Walks.{backward, pairs_by_priority, entry_on}
 

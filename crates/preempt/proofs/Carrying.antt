@@ -1,15 +1,14 @@
 -- What taking victims unit by unit leaves.
-use Rattle.std.proofs.Common.{◌≡◌, ℕ, zero, suc, ◌+◌, ◌-◌, ◌*◌, ◌<◌, ◌≤◌, Bool, true, false, cond, nat_eq, nat_lt, List, [], ◌∷◌, ◌++◌, length, get_or, Some, refl, sym, ◌∙◌, ap, subst, arith, inl, inr}
-use Rattle.std.specs.Prelude.{◌&&◌, ◌||◌, T}
-use Rattle.std.specs.List.{AllByRecursion, IsDistinct, sum_by}
+use Rattle.std.proofs.Common.{◌≡◌, ℕ, zero, suc, ◌+◌, ◌-◌, ◌*◌, ◌<◌, ◌≤◌, Bool, true, false, cond, nat_eq, nat_lt, List, [], ◌∷◌, ◌++◌, length, refl, sym, ◌∙◌, ap, arith, inl, inr}
+use Rattle.std.specs.Prelude.{◌&&◌, ◌||◌}
+use Rattle.std.specs.List.{AllByRecursion, IsDistinct}
 use Rattle.std.specs.Ordering.{eq_by_cmp, is_eq}
 use Rattle.std.specs.Cmp.{tied_itself}
-use Rattle.std.specs.FinMap.Entries.{is_sorted}
 use Rattle.std.proofs.lemmas.Bool.{cases_lt}
 use Rattle.std.proofs.lemmas.Bool.Decides.{nat_tests}
 use Rattle.std.proofs.lemmas.List.Sums.{sum_by-append}
 use Rattle.std.proofs.Math.ListN.{get_or-eq_default}
-use Rattle.fuxi_terms.specs.Cluster.{has_at, is_narrow}
+use Rattle.fuxi_terms.specs.Cluster.{has_at}
 use Rattle.fuxi_terms.specs.Counts.{count, set_count, AreCounts}
 use Rattle.fuxi_terms.specs.Jobs.{KnownJob, size_at, unit_of}
 use Rattle.fuxi_terms.specs.Keys.{Spot, spot_cmp}
@@ -22,7 +21,7 @@ use Rattle.fuxi_terms.proofs.Counting.{tied, count-set_count, counts-set_count, 
 use Rattle.fuxi_terms.proofs.KeyOrders.{spot_total, same_spot}
 use Rattle.fuxi_terms.proofs.Members.{each_place}
 use Rattle.fuxi_terms.proofs.Sums.{sum_set}
-use Rattle.written_roles.specs.Preemption.{so_many, set_by, victims_in, is_enough_in}
+use Rattle.written_roles.specs.Preemption.{so_many, set_by, is_enough_in}
 use Rattle.grant_table.specs.Tables.{TableRecord, IsSound, as_known, without_count}
 use Rattle.preempt.specs.declared.plan.Victim.{Victim}
 use Rattle.preempt.specs.Given.{board_of}

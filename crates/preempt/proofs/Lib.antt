@@ -16,3 +16,4 @@ pub mod Wanting
 pub mod Searching
 pub mod Promised
 pub mod Carrying
+pub mod Served

@@ -1,11 +1,11 @@
 -- What the code counts is what the definitions count.
-use Rattle.std.proofs.Common.{◌≡◌, ◌≢◌, ◌^◌, set, length-append, get_or-set_same, get_or-set_other, ℕ, zero, suc, ◌+◌, ◌-◌, ◌*◌, ◌<◌, ◌≤◌, Bool, true, false, cond, nat_eq, nat_lt, List, [], ◌∷◌, ◌++◌, map, length, get_or, take, drop, refl, sym, ◌∙◌, ap, subst, arith, min, max}
+use Rattle.std.proofs.Common.{◌≡◌, ◌≢◌, ◌^◌, set, length-append, get_or-set_same, get_or-set_other, ℕ, zero, suc, ◌+◌, ◌*◌, ◌<◌, ◌≤◌, Bool, true, false, cond, nat_eq, nat_lt, List, [], ◌∷◌, ◌++◌, map, length, get_or, drop, refl, sym, ◌∙◌, ap, subst, arith, min, max}
 use Rattle.std.specs.Prelude.{◌&&◌, slice_index, replicate}
 use Rattle.std.specs.List.{AllByRecursion, sum_by}
 use Rattle.std.proofs.lemmas.Bool.Decides.{nat_tests}
 use Rattle.std.proofs.lemmas.List.{map-append, at_drop_more, length-set, get_or-replicate}
 use Rattle.std.proofs.lemmas.List.Sums.{sum_by-cons, sum_by-append}
-use Rattle.fuxi_terms.specs.Jobs.{KnownJob, group_of, size_at, unit_of}
+use Rattle.fuxi_terms.specs.Jobs.{group_of, size_at, unit_of}
 use Rattle.fuxi_terms.specs.Keys.{Spot}
 use Rattle.fuxi_terms.specs.Lists.{below_each}
 use Rattle.fuxi_terms.specs.Tables.{spot}
@@ -18,7 +18,7 @@ use Rattle.preempt.specs.declared.entry.Entry.{Entry}
 use Rattle.preempt.specs.declared.entry.Need.{Need}
 use Rattle.preempt.specs.declared.entry.GroupUse.{GroupUse}
 use Rattle.preempt.specs.declared.entry.Sums.{Sums}
-use Rattle.preempt.specs.Given.{board_of, no_group, written, IsEntry, IsNeed, IsGroup, AreGroups, AreGiven, recounted}
+use Rattle.preempt.specs.Given.{board_of, no_group, written, IsEntry, IsNeed, IsGroup, AreGiven, recounted}
 use Rattle.preempt.specs.Numbers.{needed_in_one, spared_in_one, total_in, part_in, needed_number, may_number}
 use Rattle.preempt.specs.Parts.{no_sums, ArePartsOf}
 use Rattle.preempt.proofs.Sums.{sum_many}

@@ -1,33 +1,25 @@
 -- The entries of a table on a machine are those of its admitted units, in the order of job and unit.
-use Rattle.std.proofs.Common.{◌≡◌, ◌⊎◌, inl, inr, ℕ, zero, suc, ◌+◌, ◌<◌, ◌≤◌, Bool, true, false, cond, nat_eq, nat_lt, List, [], ◌∷◌, ◌++◌, length, map, filter, refl, sym, ◌∙◌, ap, subst, arith}
-use Rattle.std.specs.Prelude.{◌&&◌, ◌||◌, T, IsTrue, not, Some, None, slice_get}
-use Rattle.std.specs.Option.{unwrap_or, option_map}
-use Rattle.std.specs.List.{AllByRecursion, flat_map, list_any, list_all}
+use Rattle.std.proofs.Common.{◌≡◌, inl, inr, ℕ, ◌<◌, ◌≤◌, Bool, true, false, cond, nat_eq, nat_lt, List, [], ◌∷◌, ◌++◌, filter, refl, sym, ◌∙◌, ap, subst, arith}
+use Rattle.std.specs.Prelude.{◌&&◌, ◌||◌, T, Some, None}
+use Rattle.std.specs.Option.{unwrap_or}
+use Rattle.std.specs.List.{AllByRecursion, flat_map}
 use Rattle.std.specs.Ordering.{nat_cmp, ordering_then, eq_by_cmp, is_eq, is_lt}
 use Rattle.std.specs.Cmp.{nat_cmp_is, tied_itself}
-use Rattle.std.specs.declared.cmp.Ordering.{Ordering}
-use Rattle.std.specs.declared.cmp.Ordering.TheVariants.{Less, Equal, Greater}
+use Rattle.std.specs.declared.cmp.Ordering.TheVariants.{Less, Equal}
 use Rattle.std.specs.FinMap.Entries.{below_all, is_sorted, find, where_key, find-where_key}
 use Rattle.std.proofs.lemmas.Bool.Decides.{nat_tests}
-use Rattle.fuxi_terms.specs.Cluster.{JobRecord, is_valid_job, is_valid_unit, is_between, is_vector_of, is_priority, UnitRecord}
 use Rattle.fuxi_terms.specs.Counts.{count, AreCounts}
-use Rattle.fuxi_terms.specs.Jobs.{KnownJob, unit_count, unit_of, units_of, priority_of, group_of, job_of, no_unit}
 use Rattle.fuxi_terms.specs.Keys.{Spot, spot_cmp}
 use Rattle.fuxi_terms.specs.Limits.{greatest_count}
-use Rattle.fuxi_terms.specs.Lists.{below}
 use Rattle.fuxi_terms.specs.Tables.{spot, held_on}
-use Rattle.fuxi_terms.proofs.Alls.{all_append, all_more}
+use Rattle.fuxi_terms.proofs.Alls.{all_more}
 use Rattle.fuxi_terms.proofs.Booleans.{both_true, and_true, number_is, nat_itself}
 use Rattle.fuxi_terms.proofs.Changing.{both}
 use Rattle.fuxi_terms.proofs.Counting.{tied, same_counts, counts-where_key, count_le}
 use Rattle.fuxi_terms.proofs.KeyOrders.{spot_total, same_spot}
-use Rattle.fuxi_terms.proofs.Spots.{each_found}
 use Rattle.written_roles.specs.Placing.{has_pair}
-use Rattle.grant_table.specs.Tables.{TableRecord, IsSound, AreJobs, as_known}
-use Rattle.preempt.specs.Counted.{entries_on}
-use Rattle.preempt.specs.Given.{board_of}
-use Rattle.preempt.specs.Walks.{units_in, all_units, pairs_by_priority, entry_on}
-use Rattle.preempt.proofs.Buckets.{IsAfter, IsRising, walked}
+use Rattle.preempt.specs.Walks.{entry_on}
+use Rattle.preempt.proofs.Buckets.{IsAfter, IsRising}
 
 -- ---- spots of one machine in the order of their units
 spot_less : (m : ℕ) (p q : ℕ × ℕ) → IsAfter p q → spot_cmp (spot p.0 p.1 m) (spot q.0 q.1 m) ≡ Less

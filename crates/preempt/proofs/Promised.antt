@@ -18,10 +18,12 @@ module _ (B : Board) (table : List (Spot × ℕ)) (t : Spot) where
     pub lower : B.groups s.job ≡ B.groups t.job → B.priorities s.job s.unit < B.priorities t.job t.unit
 
   taken_lower : (set : List Spot) (s : Spot) → may_take_in B table t set s ≡ true → IsLower s
-  taken_lower set s h = record { lower = λ same.
-      let e : nat_eq (B.groups s.job) (B.groups t.job) ≡ true = grind (arith, nat_tests, same) in
-      let k : nat_lt (B.priorities s.job s.unit) (B.priorities t.job t.unit) ≡ true = sym (ap (λ b. cond b (nat_lt (B.priorities s.job s.unit) (B.priorities t.job t.unit)) (is_spared_in B table set s && is_guaranteed_in B table t)) e) ∙ h in
-      grind (arith, nat_tests, k) }
+  taken_lower set s h = record {
+    lower = λ same.
+        let e : nat_eq (B.groups s.job) (B.groups t.job) ≡ true = grind (arith, nat_tests, same) in
+        let k : nat_lt (B.priorities s.job s.unit) (B.priorities t.job t.unit) ≡ true = sym (ap (λ b. cond b (nat_lt (B.priorities s.job s.unit) (B.priorities t.job t.unit)) (is_spared_in B table set s && is_guaranteed_in B table t)) e) ∙ h in
+        grind (arith, nat_tests, k);
+  }
 
   all_taken : (ss set : List Spot) → AllByRecursion IsLower set → AllByRecursion IsLower (taken_in ss B table t set)
   all_taken [] set h = h

@@ -1,24 +1,17 @@
 -- The search through pairs: those without victims are passed by.
-use Rattle.std.proofs.Common.{◌≡◌, ℕ, zero, suc, ◌+◌, ◌<◌, ◌≤◌, Bool, true, false, cond, nat_eq, List, [], ◌∷◌, ◌++◌, length, map, filter, take, get_or, Some, None, refl, sym, ◌∙◌, ap, subst, arith, add-one, append_assoc}
-use Rattle.std.specs.Prelude.{◌&&◌, Option, slice_get}
-use Rattle.std.specs.Option.{option_map}
-use Rattle.std.specs.List.{AllByRecursion, flat_map}
-use Rattle.std.proofs.lemmas.Bool.Decides.{nat_tests}
-use Rattle.std.proofs.lemmas.Grind.{flat_map-append}
-use Rattle.std.proofs.lemmas.List.{append-nil, map-append}
-use Rattle.fuxi_terms.specs.Cluster.{in_each, in_each_place, is_narrow}
-use Rattle.fuxi_terms.specs.Jobs.{unit_count, priority_of, size_at, group_of}
+use Rattle.std.proofs.Common.{◌≡◌, ℕ, zero, suc, ◌+◌, Bool, true, false, cond, List, [], ◌∷◌, ◌++◌, map, filter, Some, None, refl, sym, ◌∙◌, ap, subst, arith, add-one, append_assoc}
+use Rattle.std.specs.Prelude.{◌&&◌, Option}
+use Rattle.std.specs.List.{AllByRecursion}
+use Rattle.std.proofs.lemmas.List.{append-nil}
+use Rattle.fuxi_terms.specs.Cluster.{is_narrow}
 use Rattle.fuxi_terms.specs.Keys.{Spot}
 use Rattle.fuxi_terms.specs.Lists.{below}
 use Rattle.fuxi_terms.specs.Tables.{spot}
-use Rattle.fuxi_terms.proofs.Booleans.{both_true, number_is}
 use Rattle.written_roles.specs.Placing.{Board}
-use Rattle.written_roles.specs.Preemption.{victims_in, is_enough_in, is_some_set, taken_in, needed_in, walk_in, first_plan_in, plan_in, tried_in, by_priority_in, falling_priorities}
+use Rattle.written_roles.specs.Preemption.{victims_in, is_enough_in, is_some_set, taken_in, needed_in, walk_in, first_plan_in}
 use Rattle.written_roles.specs.Preemption.{Plan as WrittenPlan}
-use Rattle.grant_table.specs.Tables.{TableRecord, as_known}
-use Rattle.preempt.specs.Given.{board_at, board_of}
-use Rattle.preempt.specs.Plans.{IsBoardOf, IsFirstPlan}
-use Rattle.preempt.specs.Search.{pairs_to, pairs_on, pairs_at}
+use Rattle.preempt.specs.Plans.{IsFirstPlan}
+use Rattle.preempt.specs.Search.{pairs_to}
 use Rattle.preempt.proofs.Sums.{narrow_enough}
 
 -- ---- the first of some pairs, and of others behind them

@@ -1,13 +1,12 @@
 -- What is kept of a machine is what the table says of it, and its bounds tell when nothing may be taken.
-use Rattle.std.proofs.Common.{◌≡◌, ◌≢◌, ℕ, zero, suc, ◌+◌, ◌-◌, ◌<◌, ◌≤◌, Bool, true, false, cond, not, nat_eq, nat_lt, List, [], ◌∷◌, ◌++◌, length, map, get_or, set, take, min, Some, None, refl, sym, ◌∙◌, ap, subst, arith, get_or-set_same, get_or-set_other, add-one, inl, inr}
-use Rattle.std.specs.Prelude.{◌&&◌, ◌||◌, IsTrue, slice_get, slice_index, Option}
+use Rattle.std.proofs.Common.{◌≡◌, ◌≢◌, ℕ, zero, suc, ◌+◌, ◌<◌, ◌≤◌, Bool, true, false, cond, not, nat_eq, nat_lt, List, [], ◌∷◌, ◌++◌, length, map, get_or, set, take, min, Some, None, refl, sym, ◌∙◌, ap, subst, arith, get_or-set_same, get_or-set_other}
+use Rattle.std.specs.Prelude.{◌&&◌, IsTrue, slice_get, slice_index, Option}
 use Rattle.std.specs.Option.{unwrap_or, option_map}
-use Rattle.std.specs.List.{AllByRecursion, list_all}
+use Rattle.std.specs.List.{AllByRecursion}
 use Rattle.std.proofs.lemmas.Bool.Decides.{nat_tests}
-use Rattle.fuxi_terms.specs.Cluster.{ClusterRecord, MachineRecord, is_valid_cluster, is_valid_machine, is_valid_group, is_between, no_machine, quota_at, in_each}
+use Rattle.fuxi_terms.specs.Cluster.{ClusterRecord, MachineRecord, is_valid_cluster, is_between, no_machine, quota_at}
 use Rattle.fuxi_terms.specs.Jobs.{priority_of, group_of, size_at}
 use Rattle.fuxi_terms.specs.Keys.{Spot}
-use Rattle.fuxi_terms.specs.Lists.{below_each}
 use Rattle.fuxi_terms.specs.Tables.{spot, usage_at}
 use Rattle.fuxi_terms.specs.Vectors.{at_place}
 use Rattle.fuxi_terms.proofs.Alls.{all_append}
@@ -19,7 +18,7 @@ use Rattle.cluster_desc.specs.declared.cluster.Machine.{Machine}
 use Rattle.written_roles.specs.Placing.{Board}
 use Rattle.written_roles.specs.Preemption.{needed_in, so_many, is_enough_in, is_spared_in, is_guaranteed_in, may_take_in, taken_in, walk_in, is_some_set, victims_in}
 use Rattle.grant_table.specs.Tables.{TableRecord, as_known}
-use Rattle.preempt.specs.Counted.{singles, entries_on}
+use Rattle.preempt.specs.Counted.{singles}
 use Rattle.preempt.specs.declared.entry.Entry.{Entry}
 use Rattle.preempt.specs.declared.entry.Need.{Need}
 use Rattle.preempt.specs.declared.entry.GroupUse.{GroupUse}

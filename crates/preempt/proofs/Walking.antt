@@ -1,12 +1,12 @@
 -- One step of each loop that lists units.
-use Rattle.std.proofs.Common.{◌≡◌, ℕ, zero, suc, ◌+◌, ◌*◌, ◌-◌, ◌<◌, ◌≤◌, Bool, true, false, cond, nat_eq, List, [], ◌∷◌, ◌++◌, length, map, get_or, take, Some, None, refl, sym, ◌∙◌, ap, subst, arith, append_assoc, add-one}
+use Rattle.std.proofs.Common.{◌≡◌, ℕ, zero, suc, ◌+◌, ◌-◌, ◌<◌, ◌≤◌, Bool, true, false, cond, nat_eq, List, [], ◌∷◌, ◌++◌, length, map, get_or, take, Some, refl, sym, ◌∙◌, ap, arith, append_assoc, add-one}
 use Rattle.std.specs.Prelude.{slice_get, Option}
 use Rattle.std.specs.Option.{unwrap_or, option_map}
 use Rattle.std.specs.List.{AllByRecursion, flat_map}
 use Rattle.std.proofs.lemmas.Grind.{flat_map-append}
 use Rattle.std.proofs.lemmas.List.{append-nil, map-append, length-map}
 use Rattle.fuxi_terms.specs.Cluster.{JobRecord, UnitRecord}
-use Rattle.fuxi_terms.specs.Jobs.{KnownJob, unit_count, unit_of, priority_of, group_of, job_of, no_unit}
+use Rattle.fuxi_terms.specs.Jobs.{KnownJob, unit_count, unit_of, priority_of, group_of, no_unit}
 use Rattle.fuxi_terms.specs.Lists.{below}
 use Rattle.fuxi_terms.proofs.Alls.{all_append}
 use Rattle.grant_table.specs.Tables.{TableRecord, IsSound, as_known}

@@ -1,8 +1,8 @@
 -- What a unit that waits needs is what the definitions say.
-use Rattle.std.proofs.Common.{◌≡◌, ◌≢◌, ℕ, zero, suc, ◌+◌, ◌<◌, ◌≤◌, Bool, true, false, cond, not, nat_eq, nat_lt, List, [], ◌∷◌, length, get_or, drop, Some, None, refl, sym, ◌∙◌, ap, subst, arith, add-one}
-use Rattle.std.specs.Prelude.{◌&&◌, ◌||◌, IfOk, Result, Ok, Err, replicate, slice_get, slice_index, Option}
+use Rattle.std.proofs.Common.{◌≡◌, ℕ, zero, suc, ◌+◌, ◌<◌, ◌≤◌, Bool, true, false, cond, not, nat_eq, nat_lt, List, [], ◌∷◌, length, get_or, drop, Some, sym, ◌∙◌, ap, arith}
+use Rattle.std.specs.Prelude.{◌&&◌, ◌||◌, IfOk, Result, Ok, Err, slice_get, slice_index, Option}
 use Rattle.std.specs.Option.{unwrap_or, option_map}
-use Rattle.fuxi_terms.specs.Cluster.{JobRecord, is_narrow, quota_at, limit_at, in_each}
+use Rattle.fuxi_terms.specs.Cluster.{JobRecord, is_narrow, quota_at, in_each}
 use Rattle.fuxi_terms.specs.Jobs.{KnownJob, job_of, unit_count, size_at, group_of}
 use Rattle.fuxi_terms.specs.Lists.{below_each}
 use Rattle.fuxi_terms.specs.Tables.{spot, usage_at}
@@ -16,7 +16,7 @@ use Rattle.preempt.specs.Given.{board_of, IsEntry, IsGroup, IsNeed}
 use Rattle.preempt.specs.Numbers.{narrow_at, reach_in}
 use Rattle.preempt.specs.Shelves.{IsWanted, IsShelf}
 use Rattle.preempt.proofs.Admitted.{job_found}
-use Rattle.preempt.proofs.Linking.{each_same, size_is, zeros_at}
+use Rattle.preempt.proofs.Linking.{each_same, size_is}
 
 pub drop_job : (js : List JobRecord) (i : ℕ) (j : JobRecord) (a : ℕ) → slice_get js i ≡ Some j → nat_eq j.number a ≡ false → job_of (as_known (drop i js)) a ≡ job_of (as_known (drop (i + 1) js)) a
 drop_job [] i j a e f = cc

@@ -1,12 +1,12 @@
 -- What the program's entries, needs, groups and shelves stand for.
-use Rattle.std.specs.Prelude.{◌≡◌, ℕ, ◌+◌, ◌<◌, ◌≤◌, Bool, true, false, List, [], length, map, filter, get_or, slice_index, nat_eq}
+use Rattle.std.specs.Prelude.{◌≡◌, ℕ, ◌+◌, ◌<◌, Bool, true, false, List, [], length, map, get_or, slice_index}
 use Rattle.std.specs.List.{AllByRecursion}
 use Rattle.fuxi_terms.specs.Cluster.{has_at, limit_at, quota_at, is_narrow}
 use Rattle.fuxi_terms.specs.Keys.{Spot}
-use Rattle.fuxi_terms.specs.Jobs.{KnownJob, priority_of, group_of, size_at, unit_of, unit_count}
+use Rattle.fuxi_terms.specs.Jobs.{priority_of, group_of, size_at, unit_of, unit_count}
 use Rattle.fuxi_terms.specs.Tables.{spot, total_at, usage_at}
 use Rattle.written_roles.specs.Placing.{Board}
-use Rattle.written_roles.specs.Preemption.{is_guaranteed_in, is_spared_in}
+use Rattle.written_roles.specs.Preemption.{is_guaranteed_in}
 use Rattle.grant_table.specs.Tables.{TableRecord, as_known}
 use Rattle.preempt.specs.Counted.{entries_on, counted_taken, counted_kept}
 use Rattle.preempt.specs.declared.plan.Victim.{Victim}

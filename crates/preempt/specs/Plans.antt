@@ -4,7 +4,7 @@ use Rattle.std.specs.List.{AllByRecursion, IsDistinct}
 use Rattle.fuxi_terms.specs.Cluster.{has_at}
 use Rattle.fuxi_terms.specs.Keys.{Spot}
 use Rattle.fuxi_terms.specs.Jobs.{unit_count, priority_of, size_at, group_of}
-use Rattle.fuxi_terms.specs.Tables.{spot, held_on, total_at, without_grants}
+use Rattle.fuxi_terms.specs.Tables.{spot, held_on, total_at}
 use Rattle.written_roles.specs.Placing.{Board}
 use Rattle.written_roles.specs.Preemption.{victims_in}
 use Rattle.written_roles.specs.Preemption.{Plan as WrittenPlan}

@@ -208,14 +208,7 @@ pub(crate) fn shelves_of<L: Ledger>(
     let units = units_by_priority(alloc, table)?;
     let mut shelves = Vec::new(alloc);
     for number in 0..table.cluster().machines() {
-        shelves.push(shelf_of(
-            alloc,
-            table,
-            groups,
-            &units,
-            MachineNo(number),
-            steps,
-        )?)?;
+        shelves.push(shelf_of(alloc, table, groups, &units, MachineNo(number), steps)?)?;
     }
     Ok(shelves)
 }

@@ -9,9 +9,11 @@ ghost use Rattle.preempt.specs.Given.{AreGiven, IsTaken, IsKept, IsEntry, IsNeed
 ghost use Rattle.preempt.specs.Plans.{AreTakable, losers_of};
 ghost use Rattle.preempt.specs.Numbers.{has_grants};
 
-use crate::entry::{Entry, GroupUse, Need, Sums, count_if, lowered, part_of, raised, recounted, total_of};
-use crate::plan::Victim;
+use crate::entry::{
+    Entry, GroupUse, Need, Sums, count_if, lowered, part_of, raised, recounted, total_of,
+};
 use crate::number::{are_enough, may_number, needed_number};
+use crate::plan::Victim;
 use fuxi_terms::OutOfMemory;
 use std::alloc::Global;
 

@@ -57,11 +57,7 @@ fn all_units(alloc: Global, table: &GrantTable) -> Result<Vec<Entry>, OutOfMemor
 }
 
 // Those of one priority, from the last to the first.
-fn push_priority(
-    sorted: &mut Vec<Entry>,
-    units: &[Entry],
-    priority: u8,
-) -> Result<(), OutOfMemory>
+fn push_priority(sorted: &mut Vec<Entry>, units: &[Entry], priority: u8) -> Result<(), OutOfMemory>
     ensures { OnOk result (sorted.new.items ≡ sorted.old.items ++ backward (of_priority priority) units.now) }
 {
     for back in 0..units.len() {

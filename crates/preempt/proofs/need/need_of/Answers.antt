@@ -1,4 +1,4 @@
-use Rattle.std.proofs.Common.{◌≡◌, ◌+◌, true, sym, ◌∙◌, ap, arith}
+use Rattle.std.proofs.Common.{◌≡◌, true, sym, ◌∙◌, ap, arith}
 use Rattle.std.specs.Prelude.{replicate}
 use Rattle.fuxi_terms.specs.Cluster.{ClusterRecord, is_narrow, limit_at}
 use Rattle.fuxi_terms.specs.Jobs.{size_at}

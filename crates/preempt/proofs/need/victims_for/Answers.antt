@@ -1,13 +1,10 @@
-use Rattle.std.proofs.Common.{◌≡◌, ℕ, ◌≤◌, false, None, Some, sym, ◌∙◌, subst}
-use Rattle.std.specs.Prelude.{IfSome, MatchOption, Option}
+use Rattle.std.proofs.Common.{ℕ, sym, ◌∙◌, subst}
+use Rattle.std.specs.Prelude.{Option}
 use Rattle.std.specs.Global.{Vec}
 use Rattle.fuxi_terms.specs.Tables.{spot}
-use Rattle.fuxi_terms.specs.Keys.{Spot}
-use Rattle.written_roles.specs.Preemption.{victims_in}
 use Rattle.grant_table.specs.Tables.{TableRecord, IsSound}
 use Rattle.preempt.specs.declared.plan.Victim.{Victim}
-use Rattle.preempt.specs.Given.{board_of, AreGiven, AreGroups, IsEntry}
-use Rattle.preempt.specs.Plans.{AreTakable, losers_of}
+use Rattle.preempt.specs.Given.{AreGiven, AreGroups, IsEntry}
 use Rattle.preempt.specs.Shelves.{IsShelf, IsWanted}
 use Rattle.preempt.proofs.Shelving.{none_to_take, resources_few}
 use Rattle.preempt.proofs.Wanting.{if_ok}

@@ -1,4 +1,4 @@
-use Rattle.std.proofs.Common.{◌+◌, ◌<◌, [], length, get_or, set, take, ◌∙◌}
+use Rattle.std.proofs.Common.{◌<◌, [], get_or, set, take, ◌∙◌}
 use Rattle.std.proofs.lemmas.List.{length-set}
 use Rattle.preempt.specs.declared.entry.Entry.{Entry}
 use Rattle.preempt.specs.Shelves.{IsLow}

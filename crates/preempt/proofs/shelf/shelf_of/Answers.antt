@@ -1,10 +1,7 @@
-use Rattle.std.proofs.Common.{◌≡◌, ℕ, ◌-◌, ◌<◌, ◌≤◌, length, get_or, sym, ◌∙◌, ap, subst, arith}
-use Rattle.std.specs.Prelude.{slice_get}
+use Rattle.std.proofs.Common.{◌≡◌, ℕ, get_or, sym, ◌∙◌, ap, subst, arith}
 use Rattle.std.specs.List.{AllByRecursion, flat_map}
 use Rattle.fuxi_terms.specs.Cluster.{ClusterRecord, has_at}
-use Rattle.fuxi_terms.specs.Tables.{total_at}
 use Rattle.fuxi_terms.proofs.ByPlace.{at_place-get_or}
-use Rattle.grant_table.specs.Tables.{as_known}
 use Rattle.preempt.specs.Shelves.{IsLow, IsLoose}
 use Rattle.preempt.specs.Walks.{entry_on}
 use Rattle.preempt.proofs.Admitted.{walk_is}

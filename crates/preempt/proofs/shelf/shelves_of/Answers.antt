@@ -1,8 +1,7 @@
-use Rattle.std.proofs.Common.{◌≡◌, ◌+◌, ℕ, zero, suc, true, false, Bool, [], ◌∷◌, ◌++◌, List, length, Some, refl, sym, ◌∙◌, ap, subst, arith, length-append}
+use Rattle.std.proofs.Common.{◌≡◌, ℕ, zero, suc, [], ◌∷◌, ◌++◌, List, length, Some, sym, ◌∙◌, ap, subst, arith, length-append}
 use Rattle.std.specs.Prelude.{slice_get}
 use Rattle.preempt.specs.declared.shelf.Shelf.{Shelf}
 use Rattle.preempt.specs.Shelves.{IsShelf}
-use Rattle.grant_table.specs.Tables.{TableRecord}
 use Rattle.preempt.proofs.shelf.shelves_of.Goals as goal
 
 one_more : (P : ℕ → Shelf → Type 0) (xs : List Shelf) (x : Shelf) → ((m : ℕ) (s : Shelf) → slice_get xs m ≡ Some s → P m s) → P (length xs) x → (m : ℕ) (s : Shelf) → slice_get (xs ++ x ∷ []) m ≡ Some s → P m s

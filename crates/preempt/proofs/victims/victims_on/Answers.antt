@@ -1,9 +1,8 @@
-use Rattle.std.proofs.Common.{◌≡◌, ℕ, ◌<◌, filter, map, ap, sym, ◌∙◌, subst, Some}
-use Rattle.std.specs.Prelude.{slice_index}
+use Rattle.std.proofs.Common.{filter, map, ap, sym, ◌∙◌, subst, Some}
 use Rattle.std.specs.List.{list_any, AllByRecursion}
 use Rattle.fuxi_terms.specs.Keys.{Spot}
 use Rattle.grant_table.specs.Tables.{TableRecord}
-use Rattle.preempt.specs.Given.{written, victim_of, AreGiven, IsEntry, IsKept}
+use Rattle.preempt.specs.Given.{victim_of, AreGiven, IsEntry, IsKept}
 use Rattle.preempt.specs.Numbers.{total_in, part_in, has_grants}
 use Rattle.preempt.specs.Plans.{AreTakable, losers_of}
 use Rattle.preempt.proofs.Finding.{IsReady, not_enough, none_taken, some_found}

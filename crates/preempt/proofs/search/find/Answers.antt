@@ -1,0 +1,35 @@
+use Rattle.std.proofs.Common.{◌≡◌, ◌-◌, None, Some, map, take, sym, ◌∙◌, ap, subst, arith}
+use Rattle.written_roles.specs.Preemption.{first_plan_in, falling_priorities}
+use Rattle.preempt.specs.Given.{board_at, pair_of}
+use Rattle.preempt.specs.Search.{IsFound, pairs_at}
+use Rattle.preempt.proofs.Served.{down_to, passed_priority, found_priority, same_plan}
+use Rattle.preempt.proofs.search.find.Goals as goal
+
+pub returns-in-Some-clause-plan : goal.returns-in-Some-clause-plan
+returns-in-Some-clause-plan g c = λ B is.
+    let t = c.args.table.now in
+    let usable = g.P.Asking.usable c.args.placer.now in
+    let line = g.P.Asking.line c.args.placer.now in
+    let late = c.loop-late.late in
+    let pairs = ap (map pair_of) c.deref-in-loop-late-3.ensures.value ∙ c.in_ok-waiting.ensures.pairs in
+    let found = subst (λ ps. IsFound t usable (pairs_at t usable (9 - late) ps) (Some c.in-Some.plan)) pairs (subst (IsFound t usable (pairs_at t usable (9 - late) (map pair_of c.deref-in-loop-late-3.result.now))) c.in-Some.is c.in_ok-plan.ensures) in
+    found_priority t usable line late c.in-Some.plan c.loop-late-test.true found c.loop-late.invariant ∙ sym (same_plan B t usable is line c.requires)
+
+pub loop-late-preserved : goal.loop-late-preserved
+loop-late-preserved g c =
+    let t = c.args.table.now in
+    let usable = g.P.Asking.usable c.args.placer.now in
+    let line = g.P.Asking.line c.args.placer.now in
+    let late = c.loop-late.late in
+    let pairs = ap (map pair_of) c.deref-in-loop-late-3.ensures.value ∙ c.in_ok-waiting.ensures.pairs in
+    let found = subst (λ ps. IsFound t usable (pairs_at t usable (9 - late) ps) None) pairs (subst (IsFound t usable (pairs_at t usable (9 - late) (map pair_of c.deref-in-loop-late-3.result.now))) c.in-None.is c.in_ok-plan.ensures) in
+    passed_priority t usable line late c.loop-late-test.true found c.loop-late.invariant
+
+pub returns-clause-plan : goal.returns-clause-plan
+returns-clause-plan g c = λ B is.
+    let t = c.args.table.now in
+    let usable = g.P.Asking.usable c.args.placer.now in
+    let line = g.P.Asking.line c.args.placer.now in
+    let end : c.loop-late.late ≡ 10 = let a = c.loop-late.auto.late-end in let b = c.loop-late-test.false in omega (arith, a, b) in
+    let whole = subst (λ n. first_plan_in (down_to t usable line (take n falling_priorities)) (board_at t usable) t.entries ≡ None) end c.loop-late.invariant in
+    sym (same_plan B t usable is line c.requires ∙ whole)

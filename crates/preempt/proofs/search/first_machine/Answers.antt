@@ -1,0 +1,54 @@
+use Rattle.std.proofs.Common.{◌≡◌, ◌<◌, None, Some, length, sym, ◌∙◌, ap, subst, arith}
+use Rattle.std.specs.Prelude.{MatchOption, IfSome}
+use Rattle.fuxi_terms.specs.Cluster.{ClusterRecord}
+use Rattle.fuxi_terms.specs.Tables.{spot}
+use Rattle.written_roles.specs.Preemption.{victims_in}
+use Rattle.preempt.specs.Given.{board_of, pair_of}
+use Rattle.preempt.specs.Plans.{AreTakable, losers_of}
+use Rattle.preempt.proofs.Linking.{at_index}
+use Rattle.preempt.proofs.Served.{shelf_at, wide_found, passed_closed, passed_without, found_here}
+use Rattle.preempt.proofs.search.first_machine.Goals as goal
+
+pub returns-in-None : goal.returns-in-None
+returns-in-None g c = wide_found c.args.table.now (g.P.Asking.usable c.args.placer.now) (pair_of c.args.e.now) c.in-None.ensures
+
+pub loop-number-preserved-then-not-may_use : goal.loop-number-preserved-then-not-may_use
+loop-number-preserved-then-not-may_use g c = passed_closed c.args.table.now (g.P.Asking.usable c.args.placer.now) (pair_of c.args.e.now) c.loop-number.number (sym c.may_use.ensures ∙ c.if-not-may_use.true) c.loop-number.invariant
+
+pub victims_for-requires-clause-few : goal.victims_for-requires-clause-few
+victims_for-requires-clause-few g c = (c.requires.shelves.each c.loop-number.number c.index-shelves-number.result (shelf_at c.args.shelves.now c.loop-number.number c.index-shelves-number.result
+    (let same = ap (λ (x : ClusterRecord). length x.machines) c.cluster-cluster.ensures.cluster in let a = c.loop-number-test.true in let b = c.machines-number-end.ensures.number in let l = c.requires.shelves.long in omega (arith, a, b, same, l)) c.index-shelves-number.is)).few
+
+pub victims_for-requires-clause-small : goal.victims_for-requires-clause-small
+victims_for-requires-clause-small g c = λ k d lt. (at_index _ c.index-shelves-number.result.entries.items k d lt (c.requires.shelves.each c.loop-number.number c.index-shelves-number.result (shelf_at c.args.shelves.now c.loop-number.number c.index-shelves-number.result
+    (let same = ap (λ (x : ClusterRecord). length x.machines) c.cluster-cluster.ensures.cluster in let a = c.loop-number-test.true in let b = c.machines-number-end.ensures.number in let l = c.requires.shelves.long in omega (arith, a, b, same, l)) c.index-shelves-number.is)).each).small
+
+pub returns-in-Some-2 : goal.returns-in-Some-2
+returns-in-Some-2 g c =
+    let t = c.args.table.now in
+    let e = c.args.e.now in
+    let n = c.loop-number.number in
+    let shelf = c.requires.shelves.each n c.index-shelves-number.result (shelf_at c.args.shelves.now n c.index-shelves-number.result
+    (let same = ap (λ (x : ClusterRecord). length x.machines) c.cluster-cluster.ensures.cluster in let a = c.loop-number-test.true in let b = c.machines-number-end.ensures.number in let l = c.requires.shelves.long in omega (arith, a, b, same, l)) c.index-shelves-number.is) in
+    let sound = c.cluster-cluster.ensures.sound in
+    let vs = c.of-victims.result in
+    let same = ap (λ (x : ClusterRecord). length x.machines) c.cluster-cluster.ensures.cluster in
+    let there : n < length t.cluster.machines = let a = c.loop-number-test.true in let b = c.machines-number-end.ensures.number in omega (arith, a, b, same) in
+    let found : victims_in (board_of t) t.entries (spot e.app.0 e.unit.0 n) ≡ Some (losers_of n vs) =
+    subst (λ o. MatchOption o (victims_in (board_of t) t.entries (spot e.app.0 e.unit.0 n) ≡ None) (λ xs. victims_in (board_of t) t.entries (spot e.app.0 e.unit.0 n) ≡ Some (losers_of n xs.items))) c.in-Some-2.is (c.in_ok-victims.ensures.found t n sound c.requires.groups c.requires.entry c.in-Some.ensures shelf)
+    ∙ ap (λ xs. Some (losers_of n xs)) (sym c.of-victims.ensures) in
+    let takable : AreTakable t n vs =
+    subst (AreTakable t n) (sym c.of-victims.ensures) (subst (λ o. IfSome o (λ xs. AreTakable t n xs.items)) c.in-Some-2.is (c.in_ok-victims.ensures.takable t n sound c.requires.groups c.requires.entry c.in-Some.ensures shelf)) in
+    found_here t (g.P.Asking.usable c.args.placer.now) (record { pick = record { app = e.app; unit = e.unit; machine = record { 0 = n } }; victims = vs }) sound c.requires.entry.unit there
+    (sym c.may_use.ensures ∙ c.if-not-may_use.false) found takable c.loop-number.invariant
+
+pub loop-number-preserved : goal.loop-number-preserved
+loop-number-preserved g c =
+    let t = c.args.table.now in
+    let e = c.args.e.now in
+    let n = c.loop-number.number in
+    let shelf = c.requires.shelves.each n c.index-shelves-number.result (shelf_at c.args.shelves.now n c.index-shelves-number.result
+    (let same = ap (λ (x : ClusterRecord). length x.machines) c.cluster-cluster.ensures.cluster in let a = c.loop-number-test.true in let b = c.machines-number-end.ensures.number in let l = c.requires.shelves.long in omega (arith, a, b, same, l)) c.index-shelves-number.is) in
+    let none : victims_in (board_of t) t.entries (spot e.app.0 e.unit.0 n) ≡ None =
+    subst (λ o. MatchOption o (victims_in (board_of t) t.entries (spot e.app.0 e.unit.0 n) ≡ None) (λ xs. victims_in (board_of t) t.entries (spot e.app.0 e.unit.0 n) ≡ Some (losers_of n xs.items))) c.in-None-2.is (c.in_ok-victims.ensures.found t n c.cluster-cluster.ensures.sound c.requires.groups c.requires.entry c.in-Some.ensures shelf) in
+    passed_without t (g.P.Asking.usable c.args.placer.now) (pair_of e) n (sym c.may_use.ensures ∙ c.if-not-may_use.false) none c.loop-number.invariant
