@@ -1,13 +1,13 @@
 //! Laws of plans. Each function does nothing: its contract is the law.
 
-ghost use Rattle.std.specs.Prelude.{◌≡◌, ℕ, ◌+◌, ◌<◌, ◌≤◌, false, List, Some, None};
+ghost use Rattle.std.specs.Prelude.{◌≡◌, ℕ, ◌+◌, ◌<◌, ◌≤◌, true, false, List, Some, None};
 ghost use Rattle.std.specs.List.{AllByRecursion};
 ghost use Rattle.fuxi_terms.specs.Cluster.{limit_at};
 ghost use Rattle.fuxi_terms.specs.Counts.{AreCounts};
 ghost use Rattle.fuxi_terms.specs.Keys.{Spot, spot_cmp};
 ghost use Rattle.fuxi_terms.specs.Limits.{greatest_count};
 ghost use Rattle.fuxi_terms.specs.Tables.{held_on, usage_by, without_grants};
-ghost use Rattle.written_roles.specs.Placing.{Board};
+ghost use Rattle.written_roles.specs.Placing.{Board, has_pair};
 ghost use Rattle.written_roles.specs.Preemption.{plan_in, tried_in, victims_in, part_by};
 ghost use Rattle.written_roles.specs.Preemption.{Plan as WrittenPlan};
 ghost use Rattle.preempt.specs.declared.plan.Victim.{Victim};
@@ -32,4 +32,10 @@ pub fn planning()
 pub fn taking()
     ensures singly { (es : List (Spot × ℕ)) (m : ℕ) (vs : List Victim) → AreCounts spot_cmp (λ s. greatest_count) es → without_victims es m vs ≡ without_grants es (losers_of m vs) }
     ensures others { (es : List (Spot × ℕ)) (m n a u : ℕ) (vs : List Victim) → AllByRecursion (λ v. is_unit a u v ≡ false) vs → held_on (without_victims es m vs) a u n ≡ held_on es a u n }
+{}
+
+/// Each pair of a line names a unit that is there, if every pair that is found in the line does: what a line
+/// that is up to date says, in the form of the condition of `find`.
+pub fn lines()
+    ensures { (line : List (ℕ × ℕ)) (units : ℕ → ℕ) → ((a u : ℕ) → has_pair (a, u) line ≡ true → u < units a) → AllByRecursion (λ p. p.1 < units p.0) line }
 {}

@@ -12,6 +12,6 @@ mod shelf;
 mod victims;
 mod walk;
 
-pub use law::{planning, taking};
+pub use law::{lines, planning, taking};
 pub use plan::{Plan, Victim, Victims};
 pub use search::find;
