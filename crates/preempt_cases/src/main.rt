@@ -84,7 +84,10 @@ fn print_plan<P: Print>(rt: &P, plan: &Plan) -> Result<(), Stop> {
     println!(rt; "  {} {} on {}", pick.app.0, pick.unit.0, pick.machine.0)?;
     for index in 0..plan.victims.len() {
         let victim = plan.victims.at(index);
-        println!(rt; "    {} {} loses {}", victim.app.0, victim.unit.0, victim.count)?;
+        println!(rt;
+            "    {} {} loses {}",
+            victim.app.0, victim.unit.0, victim.count
+        )?;
     }
     Ok(())
 }
