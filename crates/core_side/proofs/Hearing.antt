@@ -32,7 +32,7 @@ use Rattle.written_net.specs.Sides.{Side, Parcel, HeardSide, heard_with, hears_s
 use Rattle.core_side.specs.Parcels.{id_of, party_of, kind_of, content_of, packet_of, parcel_is}
 use Rattle.core_side.specs.Sides.{IsSide, SaysWord, Hears, HearsAlike}
 use Rattle.core_side.specs.Telling.{Tells, TellsWhy}
-use Rattle.core_side.specs.Testing.{WeighsChange}
+use Rattle.core_side.specs.Testing.{WeighsChange, Takes}
 use Rattle.core_side.specs.declared.limit.Refusal.{Refusal}
 use Rattle.core_side.specs.declared.limit.Refusal.TheVariants.{Ledger as RefusesLedger, Exceeds as RefusesMuch}
 use Rattle.core_side.proofs.Keeping.{kept_side}
@@ -253,6 +253,18 @@ module _ {V D W : Type 0} (first : V) (patched : V → D → Result V LedgerFaul
 
       pub too_much_alike : (v : W) (total : Sum) (has : Res) → Words Taken → patched_by (party_of x.from).id (inward old.incoming.received) (content_of x.body) ≡ Ok (inward v) → excess (inward v) ≡ Some (total, has) → SaysAlike old (SaysExceeds total has)
       too_much_alike v total has words makes much = kept_alike (Ok (inward v)) (TooMuch total has) (SaysExceeds total has) words makes (ap (unless_excess (inward v)) much) (λ e. refl)
+
+      -- a whole ledger is taken where it is not too much
+      pub whole_alike : (new : Endpoint V D W) (v : W) (word : What) → Words Taken → patched_by (party_of x.from).id (inward old.incoming.received) (content_of x.body) ≡ Ok (inward v) → x.place.inc ≡ x.from.inc → Takes (excess (inward v)) x.place v old new word → SaysAlike new word
+      whole_alike new v word words makes place takes = by (excess (inward v)) refl
+        where
+          by : (o : Option (Sum × Res)) → excess (inward v) ≡ o → SaysAlike new word
+          by None is =
+              let t = takes.taken is in
+              subst (SaysAlike new) (sym t.0) (took_alike new v words makes is place (ap (λ d. d.outgoing) t.1) (ap (λ d. d.incoming.place) t.1) (ap (λ d. d.incoming.received) t.1) (ap (λ d. d.acked) t.1))
+          by (Some e) is =
+              let t = takes.left e.0 e.1 is in
+              subst (λ w. SaysAlike new w) (sym t.0) (subst (λ d. SaysAlike d (SaysExceeds e.0 e.1)) (sym t.1) (too_much_alike v e.0 e.1 words makes is))
 
       -- where a refusal is told, it is what the side hears
       told_alike : (made : Result Ledger LedgerFault) (fault : LedgerFault) (r : Result What OutOfMemory) → Words Taken → patched_by (party_of x.from).id (inward old.incoming.received) (content_of x.body) ≡ made → IsRefusal made fault → Tells fault r → IfOk r (SaysAlike old)

@@ -3,6 +3,10 @@ use Rattle.std.specs.Prelude.{◌≡◌, Option, Some, None, Result, Ok, Err}
 use Rattle.fuxi_terms.specs.declared.answers.LedgerFault.{LedgerFault}
 use Rattle.fuxi_terms.specs.declared.vectors.Res.{Res}
 use Rattle.fuxi_terms.specs.declared.vectors.Sum.{Sum}
+use Rattle.fuxi_terms.specs.declared.answers.What.{What}
+use Rattle.fuxi_terms.specs.declared.answers.What.TheVariants.{Taken, Exceeds as SaysExceeds}
+use Rattle.delta_channel.specs.declared.receiver.Place.{Place}
+use Rattle.full_sync.specs.Turns.{Endpoint}
 use Rattle.core_side.specs.declared.limit.Excess.{Excess}
 use Rattle.core_side.specs.declared.limit.Refusal.{Refusal}
 use Rattle.core_side.specs.declared.limit.Refusal.TheVariants.{Ledger as Refuses, Exceeds}
@@ -23,3 +27,8 @@ abbrev pub WeighsChange : {M W : Type 0} → (M → W → Type 0) → (W → Opt
 WeighsChange {M} {W} measures excess outcome (Ok measure) = (ledger : W) → outcome ≡ Ok ledger → (excess ledger ≡ None) × measures measure ledger
 WeighsChange measures excess outcome (Err (Refuses fault)) = outcome ≡ Err fault
 WeighsChange measures excess outcome (Err (Exceeds total has)) = IsTooMuch excess outcome total has
+
+-- a whole ledger that is not too much replaces what was received, at this place
+pub record Takes {V D W : Type 0} (excess : Option (Sum × Res)) (place : Place) (ledger : W) (old new : Endpoint V D W) (word : What) : Type 0 where
+  pub taken : excess ≡ None → (word ≡ Taken) × (new ≡ record { outgoing = old.outgoing; incoming = record { own = old.incoming.own; place = place; received = ledger }; acked = old.acked })
+  pub left : (total : Sum) (has : Res) → excess ≡ Some (total, has) → (word ≡ SaysExceeds total has) × (new ≡ old)

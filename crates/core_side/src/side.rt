@@ -6,6 +6,8 @@ ghost use Rattle.written_net.specs.Sides.{Side as WrittenSide, new_side};
 ghost use Rattle.core_side.specs.Sides.{IsSide, SaysWord, HearsAlike, PostsAlike, ResyncsAlike, IsShown};
 ghost use Rattle.core_side.specs.Sending.{TurnsAlike, packet_for};
 ghost use Rattle.core_side.specs.Telling.{TellsWhy};
+ghost use Rattle.core_side.specs.Testing.{Takes};
+ghost use Rattle.delta_channel.specs.Calls.{Meets};
 ghost use Rattle.channel_join.specs.Alike.{told_as, stamp_of};
 ghost use Rattle.core_side.specs.Parcels.{packet_of};
 ghost use Rattle.delta_channel.specs.Hearing.{verdict_of};
@@ -76,19 +78,62 @@ impl<A: Carried, B: Carried> Side<A, B> {
         ensures peer { self.new.incoming.place.inc ≡ (if nat_lt self.old.incoming.place.inc packet.now.from.inc then packet.now.from.inc else self.old.incoming.place.inc) }
         ensures outgoing { self.new.outgoing ≡ self.old.outgoing }
     {
-        let known = self.ends.peer();
-        if packet.from.inc < known {
+        if packet.from.inc < self.ends.peer() {
             return Ok(Heard {
                 fresh: false,
                 what: What::Stale,
             });
         }
-        let fresh = self.ends.hear(alloc, packet.from.inc);
+        let fresh = self.meet(alloc, packet.from.inc, limit, measure);
+        let what = self.hear_known(alloc, packet, limit, measure)?;
+        Ok(Heard { fresh, what })
+    }
+
+    /// Hears a packet as [`Side::hear`] does. A whole ledger that is taken is moved out of it.
+    pub fn hear_moved<L: Limit<B>>(
+        &mut self,
+        alloc: Global,
+        packet: Packet,
+        limit: &L,
+        measure: &mut L::Measure,
+    ) -> Result<Heard, OutOfMemory>
+        requires formed { IsFormed packet }
+        requires no_end { packet.kind ≡ Kind.End → ⊥ }
+        requires from { packet.from.role ≡ B.from_role }
+        requires to { packet.to.role ≡ B.to_role }
+        requires measured { L.measures limit.now measure.old self.old.incoming.received }
+        ensures hears { IfOk result (HearsAlike A.nothing A.patched A.has_form A.stated B.stated (L.excess limit.now) packet self.old self.new) }
+        ensures measured { OnOk result (L.measures limit.now measure.new self.new.incoming.received) }
+        ensures fresh { IfOk result (λ heard. heard.fresh ≡ nat_lt self.old.incoming.place.inc packet.from.inc) }
+        ensures peer { self.new.incoming.place.inc ≡ (if nat_lt self.old.incoming.place.inc packet.from.inc then packet.from.inc else self.old.incoming.place.inc) }
+        ensures outgoing { self.new.outgoing ≡ self.old.outgoing }
+    {
+        if packet.kind != Kind::Full || packet.from.inc < self.ends.peer() {
+            return self.hear(alloc, &packet, limit, measure);
+        }
+        let fresh = self.meet(alloc, packet.from.inc, limit, measure);
+        let what = self.hear_whole_moved(packet, limit, measure);
+        Ok(Heard { fresh, what })
+    }
+
+    // Hears of an incarnation of the peer. Where it is new, nothing is received of it, and that is measured.
+    fn meet<L: Limit<B>>(
+        &mut self,
+        alloc: Global,
+        from: u64,
+        limit: &L,
+        measure: &mut L::Measure,
+    ) -> bool
+        requires measured { L.measures limit.now measure.old self.old.incoming.received }
+        ensures meets { Meets B.nothing from self.old.incoming result self.new.incoming }
+        ensures rest { self.new ≡ record self.old { incoming = self.new.incoming; acked = if result then 0 else self.old.acked } }
+        ensures measured { L.measures limit.now measure.new self.new.incoming.received }
+    {
+        let fresh = self.ends.hear(alloc, from);
         if fresh {
             *measure = limit.nothing();
         }
-        let what = self.hear_known(alloc, packet, limit, measure)?;
-        Ok(Heard { fresh, what })
+        fresh
     }
 
     // Hears a packet of the known incarnation.
@@ -160,17 +205,64 @@ impl<A: Carried, B: Carried> Side<A, B> {
         if verdict != Verdict::Take {
             return Ok(told_as(verdict));
         }
-        let ledger = B::whole_in(&packet.body);
-        match limit.whole(ledger) {
-            Ok(next) => *measure = next,
-            Err(excess) => return Ok(What::Exceeds {
-                total: excess.total,
-                has: excess.has,
-            }),
+        let ledger = B::whole_in(&packet.body).copy(alloc)?;
+        Ok(self.take_whole(&stamp, ledger, limit, measure))
+    }
+
+    // Hears a whole ledger, and moves it out of the packet.
+    fn hear_whole_moved<L: Limit<B>>(
+        &mut self,
+        packet: Packet,
+        limit: &L,
+        measure: &mut L::Measure,
+    ) -> What
+        requires formed { IsFormed packet }
+        requires kind { packet.kind ≡ Kind.Full }
+        requires from { packet.from.role ≡ B.from_role }
+        requires to { packet.to.role ≡ B.to_role }
+        requires known { packet.from.inc ≡ self.old.incoming.place.inc }
+        requires measured { L.measures limit.now measure.old self.old.incoming.received }
+        ensures hears { HearsAlike A.nothing A.patched A.has_form A.stated B.stated (L.excess limit.now) packet self.old self.new (record { fresh = false; what = result }) }
+        ensures measured { L.measures limit.now measure.new self.new.incoming.received }
+        ensures peer { self.new.incoming.place.inc ≡ self.old.incoming.place.inc }
+        ensures outgoing { self.new.outgoing ≡ self.old.outgoing }
+    {
+        let stamp = stamp_of(&packet);
+        let verdict = self.judge(&packet, &stamp);
+        if verdict != Verdict::Take {
+            return told_as(verdict);
         }
-        let ledger = ledger.copy(alloc)?;
-        self.ends.take_full(&stamp, ledger);
-        Ok(What::Taken)
+        self.take_whole(&stamp, B::whole_of(packet.body), limit, measure)
+    }
+
+    // Takes a whole ledger of which the verdict is to take it, where it is not too much.
+    fn take_whole<L: Limit<B>>(
+        &mut self,
+        stamp: &Stamp,
+        ledger: B,
+        limit: &L,
+        measure: &mut L::Measure,
+    ) -> What
+        requires take { verdict_of self.old.incoming.own self.old.incoming.place stamp.now ≡ Verdict.Take }
+        requires known { stamp.now.place.inc ≡ self.old.incoming.place.inc }
+        requires named { 0 < stamp.now.place.inc }
+        requires measured { L.measures limit.now measure.old self.old.incoming.received }
+        ensures takes { Takes (L.excess limit.now (B.stated ledger)) stamp.now.place ledger self.old self.new result }
+        ensures peer { self.new.incoming.place.inc ≡ self.old.incoming.place.inc }
+        ensures outgoing { self.new.outgoing ≡ self.old.outgoing }
+        ensures measured { L.measures limit.now measure.new self.new.incoming.received }
+    {
+        match limit.whole(&ledger) {
+            Ok(next) => *measure = next,
+            Err(excess) => {
+                return What::Exceeds {
+                    total: excess.total,
+                    has: excess.has,
+                };
+            }
+        }
+        self.ends.take_full(stamp, ledger);
+        What::Taken
     }
 
     // Hears a change.

@@ -5,7 +5,8 @@ use Rattle.channel_join.specs.Alike.{told_as}
 use Rattle.written_net.specs.Sides.{patched_by}
 use Rattle.core_side.specs.Parcels.{party_of, content_of}
 use Rattle.core_side.specs.Sides.{HearsAlike, SaysWord}
-use Rattle.core_side.proofs.Hearing.{own_place, left_alike, took_alike, too_much_alike}
+use Rattle.core_side.specs.Testing.{Takes}
+use Rattle.core_side.proofs.Hearing.{own_place, left_alike, whole_alike}
 use Rattle.core_side.proofs.side.Side.hear_whole.Goals as goal
 
 pub returns-then-ne-clause-hears : goal.returns-then-ne-clause-hears
@@ -17,31 +18,17 @@ returns-then-ne-clause-hears g c =
     subst (λ w. HearsAlike g.A.Ledger.nothing g.A.Ledger.patched g.A.Ledger.has_form g.A.Carried.stated g.B.Carried.stated excess x old old (record { fresh = false; what = w })) (sym c.told_as.ensures)
     (left_alike g.A.Ledger.nothing g.A.Ledger.patched g.A.Ledger.has_form g.A.Carried.stated g.B.Carried.stated old excess x c.requires.known c.judge-verdict.result other c.judge-verdict.ensures.word)
 
-pub returns-in-Err-clause-hears : goal.returns-in-Err-clause-hears
-returns-in-Err-clause-hears g c =
-    let old = c.args.self.now in
-    let x = c.args.packet.now in
-    let excess = g.L.Limit.excess c.args.limit.now in
-    let v = c.whole_in-ledger.result.now in
-    let taken : c.judge-verdict.result ≡ Take = search rules in
-    let word = subst (λ v. SaysWord g.A.Ledger.nothing g.A.Ledger.patched g.A.Ledger.has_form g.A.Carried.stated g.B.Carried.stated x old (told_as v)) taken c.judge-verdict.ensures.word in
-    let makes : patched_by (party_of x.from).id (g.B.Carried.stated old.incoming.received) (content_of x.body) ≡ Ok (g.B.Carried.stated v) =
-    ap (λ b. patched_by (party_of x.from).id (g.B.Carried.stated old.incoming.received) (content_of b)) c.whole_in-ledger.ensures ∙ g.met.B.Carried.whole_makes (party_of x.from).id (g.B.Carried.stated old.incoming.received) v in
-    too_much_alike g.A.Ledger.nothing g.A.Ledger.patched g.A.Ledger.has_form g.A.Carried.stated g.B.Carried.stated old excess x c.requires.known v c.in-Err.excess.total c.in-Err.excess.has word makes c.in-Err.ensures
-
 pub returns-clause-hears : goal.returns-clause-hears
 returns-clause-hears g c =
     let old = c.args.self.now in
-    let new = c.take_full.new.self in
+    let new = c.take_whole.new.self in
     let x = c.args.packet.now in
     let excess = g.L.Limit.excess c.args.limit.now in
-    let v = c.whole_in-ledger.result.now in
+    let v = c.whole_in.result.now in
     let taken : c.judge-verdict.result ≡ Take = search rules in
     let word = subst (λ v. SaysWord g.A.Ledger.nothing g.A.Ledger.patched g.A.Ledger.has_form g.A.Carried.stated g.B.Carried.stated x old (told_as v)) taken c.judge-verdict.ensures.word in
     let makes : patched_by (party_of x.from).id (g.B.Carried.stated old.incoming.received) (content_of x.body) ≡ Ok (g.B.Carried.stated v) =
-    ap (λ b. patched_by (party_of x.from).id (g.B.Carried.stated old.incoming.received) (content_of b)) c.whole_in-ledger.ensures ∙ g.met.B.Carried.whole_makes (party_of x.from).id (g.B.Carried.stated old.incoming.received) v in
-    let place : new.incoming.place ≡ x.place = ap (λ r. r.place) c.take_full.ensures.takes.after ∙ ap (λ s. s.place) c.stamp_of-stamp.ensures in
-    let received : new.incoming.received ≡ v = ap (λ r. r.received) c.take_full.ensures.takes.after ∙ c.in_ok-ledger.ensures in
-    took_alike g.A.Ledger.nothing g.A.Ledger.patched g.A.Ledger.has_form g.A.Carried.stated g.B.Carried.stated old excess x c.requires.known new v word makes c.in-Ok.ensures.0
-    (own_place x (subst (λ k. is_bare k ≡ false) (sym c.requires.kind) refl) c.requires.formed)
-    (ap (λ d. d.outgoing) c.take_full.ensures.rest ∙ ap (λ d. d.outgoing) c.self.view_is) place received (ap (λ d. d.acked) c.take_full.ensures.rest ∙ ap (λ d. d.acked) c.self.view_is)
+    ap (λ b. patched_by (party_of x.from).id (g.B.Carried.stated old.incoming.received) (content_of b)) c.whole_in.ensures ∙ g.met.B.Carried.whole_makes (party_of x.from).id (g.B.Carried.stated old.incoming.received) v in
+    let place = own_place x (subst (λ k. is_bare k ≡ false) (sym c.requires.kind) refl) c.requires.formed in
+    let takes = subst (λ p. Takes (excess (g.B.Carried.stated v)) p v old new c.take_whole.result) (ap (λ s. s.place) c.stamp_of-stamp.ensures) (subst (λ l. Takes (excess (g.B.Carried.stated l)) c.stamp_of-stamp.result.place l old new c.take_whole.result) c.in_ok-ledger.ensures c.take_whole.ensures.takes) in
+    whole_alike g.A.Ledger.nothing g.A.Ledger.patched g.A.Ledger.has_form g.A.Carried.stated g.B.Carried.stated old excess x c.requires.known new v c.take_whole.result word makes place takes
