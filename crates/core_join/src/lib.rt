@@ -8,7 +8,15 @@ ghost use Rattle.fuxi_terms.specs.Limits.{most_machines, most_steps};
 ghost use Rattle.party_ledgers.specs.Packets.{IsFormed};
 ghost use Rattle.core_join.specs.Agents.{HearsInWorld, TurnsInWorld, ResyncsInWorld, StartsInWorld};
 
+mod apps;
+mod frames;
+
 use agent_core::Agent;
+pub use apps::{
+    app_avoids, app_gives_back, app_hears, app_resyncs, app_starts, app_turns, app_wants,
+    app_wants_in_rack, app_wants_near,
+};
+pub use frames::written_frame_lengths;
 use ledger_law::OutOfMemory;
 use party_ledgers::{Heard, Kind, Packet, Packets};
 use res_vector::Res;

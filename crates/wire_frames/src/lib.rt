@@ -1,9 +1,9 @@
 //! Frames: packets as bytes, read from a slice or from a stream of pieces.
 #![tactic(auto)]
 
-ghost use Rattle.std.specs.Prelude.{◌≡◌, ◌≢◌, ◌<◌, ℕ, List, [], ◌++◌, length, take, Result, Err};
+ghost use Rattle.std.specs.Prelude.{◌≡◌, ◌≢◌, ◌+◌, ◌<◌, ℕ, List, [], ◌++◌, length, take, Result, Err};
 ghost use Rattle.party_ledgers.specs.declared.packets.Packet.{Packet};
-ghost use Rattle.wire_frames.specs.Frames.{IsFrame};
+ghost use Rattle.wire_frames.specs.Frames.{IsFrame, body_length};
 ghost use Rattle.wire_frames.specs.Reading.{Reads, HasFault, BeginsNone};
 ghost use Rattle.wire_frames.specs.Streams.{Event, Runs, Splits, bytes_fed, packets_given};
 ghost use Rattle.wire_frames.specs.declared.fault.FrameFault.{FrameFault as Fault};
@@ -33,6 +33,11 @@ const FRONT_BYTES: usize = LENGTH_BYTES + HEADER_BYTES;
 /// Bytes are the frame of one packet, and no frame begins another. It does nothing; its contract is this law.
 pub fn one_frame()
     ensures { (x y : Packet) (a b more rest : List ℕ) → IsFrame x a → IsFrame y b → a ++ more ≡ b ++ rest → (x ≡ y) × (a ≡ b) }
+{}
+
+/// A frame has 48 bytes and those that the entries of its body take. It does nothing; its contract is this law.
+pub fn frame_lengths()
+    ensures { (x : Packet) (bytes : List ℕ) → IsFrame x bytes → length bytes ≡ 48 + body_length x.body }
 {}
 
 /// What reading gives is given by the bytes alone, unless memory lacks. What stands behind them changes it only

@@ -1,0 +1,142 @@
+//! An application's core in the world.
+
+ghost use Rattle.std.specs.Prelude.{◌≡◌, ◌<◌, ◌≤◌, cond, IfOk};
+ghost use Rattle.fuxi_terms.specs.Limits.{most_jobs, most_units, most_steps};
+ghost use Rattle.party_ledgers.specs.Packets.{IsFormed};
+ghost use Rattle.written_roles.specs.Apps.{Wants, WantsNear, WantsInRack, Avoids, GivesBack};
+ghost use Rattle.core_join.specs.Apps.{AppHearsInWorld, AppTurnsInWorld, AppResyncsInWorld, AppStartsInWorld, AsksInWorld};
+
+use app_master::{AppFault, AppMaster};
+use cluster_desc::Cluster;
+use ledger_law::OutOfMemory;
+use party_ledgers::{Heard, Kind, Packet, Packets};
+use schedule_unit::{AppNo, MachineNo, RackNo, UnitNo};
+use std::alloc::Global;
+use written_join::apps_join;
+
+/// [`AppMaster::on_packet`]: a packet of the world that is for the application is heard as the world hears it. The words
+/// for a change that the grants refuse and for a ledger that is too much do not come.
+pub fn app_hears(
+    app: AppMaster,
+    alloc: Global,
+    packet: &Packet,
+) -> Result<(AppMaster, Heard), OutOfMemory>
+    requires formed { IsFormed packet.now }
+    requires no_end { packet.now.kind ≡ Kind.End → ⊥ }
+    requires steps { app.steps < most_steps }
+    ensures { IfOk result (λ after. AppHearsInWorld packet.now app after.0 after.1) }
+{
+    apps_join();
+    let (app, heard) = app.on_packet(alloc, packet)?;
+    Ok((app, heard))
+}
+
+/// [`AppMaster::want`].
+pub fn app_wants(
+    app: &mut AppMaster,
+    alloc: Global,
+    unit: UnitNo,
+    count: u64,
+) -> Result<(), AppFault>
+    requires { app.old.steps < most_steps }
+    ensures { AsksInWorld (Wants unit.0 count) app.old result app.new }
+{
+    apps_join();
+    app.want(alloc, unit, count)
+}
+
+/// [`AppMaster::near`].
+pub fn app_wants_near(
+    app: &mut AppMaster,
+    alloc: Global,
+    unit: UnitNo,
+    machine: MachineNo,
+    count: u64,
+) -> Result<(), AppFault>
+    requires { app.old.steps < most_steps }
+    ensures { AsksInWorld (WantsNear unit.0 machine.0 count) app.old result app.new }
+{
+    apps_join();
+    app.near(alloc, unit, machine, count)
+}
+
+/// [`AppMaster::rack`].
+pub fn app_wants_in_rack(
+    app: &mut AppMaster,
+    alloc: Global,
+    unit: UnitNo,
+    rack: RackNo,
+    count: u64,
+) -> Result<(), AppFault>
+    requires { app.old.steps < most_steps }
+    ensures { AsksInWorld (WantsInRack unit.0 rack.0 count) app.old result app.new }
+{
+    apps_join();
+    app.rack(alloc, unit, rack, count)
+}
+
+/// [`AppMaster::avoid`].
+pub fn app_avoids(
+    app: &mut AppMaster,
+    alloc: Global,
+    unit: UnitNo,
+    machine: MachineNo,
+    yes: bool,
+) -> Result<(), AppFault>
+    requires { app.old.steps < most_steps }
+    ensures { AsksInWorld (Avoids unit.0 machine.0 (cond yes 1 0)) app.old result app.new }
+{
+    apps_join();
+    app.avoid(alloc, unit, machine, yes)
+}
+
+/// [`AppMaster::give_back`].
+pub fn app_gives_back(
+    app: &mut AppMaster,
+    alloc: Global,
+    unit: UnitNo,
+    machine: MachineNo,
+    count: u64,
+) -> Result<(), AppFault>
+    requires { app.old.steps < most_steps }
+    ensures { AsksInWorld (GivesBack unit.0 machine.0 count) app.old result app.new }
+{
+    apps_join();
+    app.give_back(alloc, unit, machine, count)
+}
+
+/// [`AppMaster::turn`]: the packets are those that the world sends.
+pub fn app_turns(app: &AppMaster, alloc: Global) -> Result<Packets, OutOfMemory>
+    ensures { IfOk result (AppTurnsInWorld app.now) }
+{
+    apps_join();
+    let packets = app.turn(alloc)?;
+    Ok(packets)
+}
+
+/// [`AppMaster::resync`].
+pub fn app_resyncs(app: &mut AppMaster)
+    requires { app.old.steps < most_steps }
+    ensures { AppResyncsInWorld app.old app.new }
+{
+    apps_join();
+    app.resync();
+}
+
+/// [`AppMaster::start`]: it stands for the application that the start puts into the world.
+pub fn app_starts(
+    alloc: Global,
+    app: AppNo,
+    units: u8,
+    cluster: &Cluster,
+    boot: u64,
+) -> Result<AppMaster, OutOfMemory>
+    requires job { app.0 < most_jobs }
+    requires units { units ≤ most_units }
+    requires boot { 0 < boot }
+    ensures { IfOk result (AppStartsInWorld app.0 units cluster.now boot) }
+{
+    apps_join();
+    let app = AppMaster::start(alloc, app, units, cluster, boot)?;
+    Ok(app)
+}
