@@ -277,6 +277,20 @@ impl AppMaster {
         self.up.last()
     }
 
+    /// How many units its job has, 1 to 8.
+    pub fn units(&self) -> u8
+        ensures { result ≡ self.now.units }
+    {
+        self.units
+    }
+
+    /// How many machines the cluster has.
+    pub fn machines(&self) -> u32
+        ensures { result ≡ self.now.machines }
+    {
+        self.machines
+    }
+
     /// How many steps it took: packets heard, commands done and resyncs.
     pub fn steps(&self) -> u64
         ensures { result ≡ self.now.steps }
