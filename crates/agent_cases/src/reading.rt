@@ -52,9 +52,12 @@ pub fn quantities_of(word: &str) -> Option<[u64; 8]> {
 // Appends the bytes of an entry.
 fn push_entry(bytes: &mut Vec<u8>, word: &str) -> Result<bool, Stop> {
     let mut parts = word.split('/');
-    let (Some(job), Some(unit), Some(number), Some(size)) =
-        (parts.next(), parts.next(), parts.next(), parts.next())
-    else {
+    let (Some(job), Some(unit), Some(number), Some(size)) = (
+        parts.next(),
+        parts.next(),
+        parts.next(),
+        parts.next(),
+    ) else {
         return Ok(false);
     };
     let (Ok(job), Ok(unit), Ok(number), Some(size)) = (
@@ -77,7 +80,10 @@ fn push_entry(bytes: &mut Vec<u8>, word: &str) -> Result<bool, Stop> {
 // The bytes of entries behind their number.
 fn entries_of(alloc: Global, words: &[&str]) -> Result<Option<Vec<u8>>, Stop> {
     let mut bytes = Vec::new(alloc);
-    bytes.extend_from_slice(&(words.len() as u32).to_be_bytes())?;
+    let Ok(count) = u32::try_from(words.len()) else {
+        return Ok(None);
+    };
+    bytes.extend_from_slice(&count.to_be_bytes())?;
     for word in words {
         if !push_entry(&mut bytes, word)? {
             return Ok(None);
@@ -87,7 +93,13 @@ fn entries_of(alloc: Global, words: &[&str]) -> Result<Option<Vec<u8>>, Stop> {
 }
 
 // The body of a kind for a receiver: of rows the entries, of other ledgers no entry.
-fn read_body(alloc: Global, kind: Kind, from: Role, to: Role, bytes: &[u8]) -> Result<Body, BodyFault> {
+fn read_body(
+    alloc: Global,
+    kind: Kind,
+    from: Role,
+    to: Role,
+    bytes: &[u8],
+) -> Result<Body, BodyFault> {
     match (kind, from, to) {
         (Kind::Full, Role::Master, Role::App) => Ok(Body::Grants(Grants::empty(alloc))),
         (Kind::Delta, Role::Master, Role::App) => Ok(Body::GrantsDelta(Change::new(alloc, 1))),

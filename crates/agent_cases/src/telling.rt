@@ -31,7 +31,11 @@ pub fn tell_heard<P: Print>(rt: &P, heard: &Heard) -> Result<(), Stop> {
         What::Taken => println!(rt; "{fresh}taken")?,
         What::Ledger(fault) => println!(rt; "{fresh}ledger {fault:?}")?,
         What::Exceeds { total, has } => {
-            println!(rt; "{fresh}exceeds {},{} of {},{}", total.q[0], total.q[1], has.q[0], has.q[1])?;
+            let (needs, given) = (total.q, has.q);
+            println!(rt;
+                "{fresh}exceeds {},{} of {},{}",
+                needs[0], needs[1], given[0], given[1]
+            )?;
         }
     }
     Ok(())
