@@ -1,7 +1,7 @@
 -- The places of jobs by their numbers.
-use Rattle.std.proofs.Common.{◌≡◌, ◌≢◌, inl, inr, ℕ, zero, suc, ◌+◌, ◌-◌, ◌<◌, ◌≤◌, Bool, true, false, cond, nat_eq, List, [], ◌∷◌, ◌++◌, length, get_or, set, replicate, map, slice_get, Option, None, Some, is_some, refl, sym, ◌∙◌, ap, subst, arith, length-append}
+use Rattle.std.proofs.Common.{take, ◌≡◌, ◌≢◌, inl, inr, ℕ, zero, suc, ◌+◌, ◌-◌, ◌<◌, ◌≤◌, Bool, true, false, cond, nat_eq, List, [], ◌∷◌, ◌++◌, length, get_or, set, replicate, map, slice_get, Option, None, Some, is_some, refl, sym, ◌∙◌, ap, subst, arith, length-append}
 use Rattle.std.specs.Option.{option_map}
-use Rattle.std.proofs.lemmas.List.{get_or-set_same, get_or-set_other, length-set, length-map}
+use Rattle.std.proofs.lemmas.List.{take_more, map-append, get_or-map, get_or-set_same, get_or-set_other, length-set, length-map}
 use Rattle.std.proofs.lemmas.Bool.{cases_eq, cases_lt}
 use Rattle.std.proofs.lemmas.Bool.Decides.{nat_tests}
 use Rattle.std.specs.Prelude.{◌&&◌, nat_lt}
@@ -300,3 +300,14 @@ place_within f places jobs number (suc i) index is some = omega (arith, index.wi
 
 pub first_index : (places : List ℕ) (jobs : List KnownJob) → places ≡ zeros 256 → jobs ≡ [] → IsIndex places jobs
 first_index places jobs is none = subst (IsIndex places) (sym none) (empty_index places is)
+
+pub most_known : {A : Type 0} (f : A → KnownJob) (places : List ℕ) (jobs : List A) → IsIndex places (map f jobs) → length jobs ≤ 256
+most_known f places jobs index = omega (arith, index.count, index.numbers, used_most places, length-map jobs f)
+
+-- one more that is the same
+pub copied_more : {A : Type 0} (f : A → KnownJob) (jobs copies new : List A) (i : ℕ) (job copy : A) → i < length jobs → new ≡ copies ++ copy ∷ [] → f copy ≡ f job → job ≡ get_or jobs i job → map f copies ≡ take i (map f jobs)
+    → map f new ≡ take (i + 1) (map f jobs)
+copied_more f jobs copies new i job copy within grown same there so_far =
+    ap (map f) grown ∙ map-append f copies (copy ∷ []) ∙ ap (λ l. l ++ f copy ∷ []) so_far
+    ∙ ap (λ k. take i (map f jobs) ++ k ∷ []) (same ∙ ap f there ∙ sym (get_or-map f jobs i job (f job) within))
+    ∙ sym (take_more (map f jobs) i (f job) (omega (arith, within, length-map jobs f)))

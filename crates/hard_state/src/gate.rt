@@ -7,6 +7,7 @@ ghost use Rattle.hard_state.specs.Gates.{Appends, WritesThrough};
 use fuxi_io::{Disk, Failed};
 
 // Writes the bytes at this place and brings them onto the disk.
+#[tactic(auto, using(crate::proofs::Runs::sync_ends))]
 pub fn write_through<D: Disk>(disk: &mut D, at: u64, bytes: &[u8]) -> Result<(), Failed>
     requires begin { at ≤ D.size disk.old }
     requires end { at + length bytes.now < 2 ^ 63 }

@@ -12,6 +12,7 @@ ghost use Rattle.hard_state.specs.HardFiles.{event_of, IsAskedBy, Refuses, Write
 
 use crate::fault::HardFault;
 use crate::gate::append;
+use crate::known::Known;
 use crate::opening::{begin, read, settle};
 use crate::state::State;
 use fuxi_io::{Disk, Failed};
@@ -279,27 +280,28 @@ impl Hard {
         ensures some { IfSome result (λ job. option_map (λ known. known.job) (job_of self.now.value.jobs app.0) ≡ Some job.now) }
         ensures none { IsNone result → is_known self.now.value.jobs app.0 ≡ false }
     {
-        match self.state.find(app) {
-            Some(entry) => Some(&entry.job),
-            None => None,
-        }
+        self.state.known().job(app)
     }
 
     /// Whether a job of this number was submitted and has ended.
     pub fn ended(&self, app: AppNo) -> bool
         ensures { result ≡ has_ended self.now.value.jobs app.0 }
     {
-        match self.state.find(app) {
-            Some(entry) => entry.ended,
-            None => false,
-        }
+        self.state.known().ended(app)
     }
 
     /// Whether the machine is banned.
     pub fn banned(&self, machine: MachineNo) -> bool
         ensures { result ≡ has_number machine.0 self.now.value.bans }
     {
-        self.state.is_banned(machine)
+        self.state.known().banned(machine)
+    }
+
+    /// The jobs and the bans.
+    pub fn known(&self) -> &Known
+        ensures { result.now ≡ record { jobs = self.now.value.jobs; bans = self.now.value.bans } }
+    {
+        self.state.known()
     }
 
     /// How many records the checkpoint has, at most 65,536.

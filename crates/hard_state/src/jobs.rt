@@ -1,12 +1,14 @@
 // Jobs in the order of their submission, with the place of each by its number.
-ghost use Rattle.std.specs.Prelude.{◌≡◌, ◌≤◌, ◌<◌, map, get_or, true, false, Some, None, IfSome, IsNone, vec_capacity};
+ghost use Rattle.std.specs.Prelude.{◌≡◌, ◌≤◌, ◌<◌, map, get_or, true, false, Some, None, IfOk, IfSome, IsNone, vec_capacity};
 ghost use Rattle.fuxi_terms.specs.Cluster.{is_valid_job};
 ghost use Rattle.fuxi_terms.specs.Jobs.{job_of, is_known};
 ghost use Rattle.written_roles.specs.HardState.{with_job, with_ended};
 ghost use Rattle.hard_state.specs.HardFiles.{known_job};
 ghost use Rattle.hard_state.specs.Index.{IsIndex};
 
+use fuxi_terms::OutOfMemory;
 use schedule_unit::Job;
+use std::alloc::Global;
 
 // A job with the mark whether it has ended.
 #[derive(Drop)]
@@ -16,7 +18,8 @@ pub struct Entry {
 }
 
 fn place_of(places: &[u16; 256], number: u32) -> u16
-    ensures { result ≡ get_or places.now number 0 }
+    ensures place { result ≡ get_or places.now number 0 }
+    ensures below { 0 < result → number < 256 }
 {
     match places.get(number as usize) {
         Some(place) => *place,
@@ -28,6 +31,7 @@ pub fn find<'a>(jobs: &'a [Entry], places: &[u16; 256], number: u32) -> Option<&
     requires index { IsIndex places.now (map known_job jobs.now) }
     ensures some { IfSome result (λ entry. job_of (map known_job jobs.now) number ≡ Some (known_job entry.now)) }
     ensures none { IsNone result → job_of (map known_job jobs.now) number ≡ None }
+    ensures below { IfSome result (λ entry. number < 256) }
 {
     let place = place_of(places, number) as usize;
     if place == 0 {
@@ -66,4 +70,19 @@ pub fn end(jobs: &mut [Entry], places: &[u16; 256], number: u32)
         return;
     }
     jobs[place - 1].ended = true;
+}
+
+// The same jobs once more, with room for all that there can be.
+pub fn copies(alloc: Global, jobs: &[Entry]) -> Result<Vec<Entry>, OutOfMemory>
+    ensures same { IfOk result (λ copies. map known_job copies.items ≡ map known_job jobs.now) }
+    ensures room { IfOk result (λ copies. 256 ≤ vec_capacity copies) }
+{
+    let mut copies = Vec::with_capacity(alloc, 256)?;
+    for entry in jobs {
+        copies.push(Entry {
+            job: entry.job.copy(alloc)?,
+            ended: entry.ended,
+        })?;
+    }
+    Ok(copies)
 }

@@ -9,9 +9,8 @@ ghost use Rattle.written_roles.specs.HardState.{Raise, Submission, Finishing, Ba
 ghost use Rattle.hard_records.specs.Bodies.{IsWithinLimits};
 ghost use Rattle.hard_state.specs.HardFiles.{event_of, epoch_of, made, taken, IsAskedBy, IsAllowed, IsFound, Refuses};
 
-use crate::bans::{is_marked, mark, unmark};
 use crate::fault::HardFault;
-use crate::jobs::{Entry, add, end, find};
+use crate::known::Known;
 use fuxi_terms::OutOfMemory;
 use fuxi_terms::limits::MOST_RECORDS;
 use hard_records::{Record, read_record, written_is_read};
@@ -19,30 +18,24 @@ use schedule_unit::{AppNo, Job, MachineNo};
 use std::alloc::Global;
 use std::marker::Model;
 
-// The fence, the jobs with their places by number, a mark for each machine that is banned, and the number of records.
+// The fence, what is known of jobs and machines, and the number of records.
 #[derive(Drop)]
 pub struct State {
     fence: u64,
-    jobs: Vec<Entry>,
-    places: [u16; 256],
-    bans: [bool; 256],
+    known: Known,
     records: u32,
 }
 
 impl Model for State {
-    ghost use Rattle.std.specs.Prelude.{◌≤◌, map, vec_capacity};
+    ghost use Rattle.std.specs.Prelude.{◌≤◌};
     ghost use Rattle.fuxi_terms.specs.Limits.{most_records};
     ghost use Rattle.written_roles.specs.HardState.{HardState};
-    ghost use Rattle.hard_state.specs.HardFiles.{known_job};
-    ghost use Rattle.hard_state.specs.Index.{IsIndex};
-    ghost use Rattle.hard_state.specs.Bans.{marked_from};
 
     ghost Value = { HardState };
 
-    ghost view = { λ s. record { jobs = map known_job s.jobs.items; bans = marked_from 0 s.bans; fence = s.fence; records = s.records } };
+    ghost view = { λ s. record { jobs = s.known.jobs; bans = s.known.bans; fence = s.fence; records = s.records } };
 
-    // There is room for a job of each number.
-    ghost invariant = { λ s. IsIndex s.places (map known_job s.jobs.items) × (256 ≤ vec_capacity s.jobs) × (s.records ≤ most_records) };
+    ghost invariant = { λ s. s.records ≤ most_records };
 }
 
 // What is found at a gate: it is closed; a damaged record; a whole one of this size in bytes; or why this is not known.
@@ -61,9 +54,7 @@ impl State {
     {
         Ok(State {
             fence: 0,
-            jobs: Vec::with_capacity(alloc, 256)?,
-            places: [0; 256],
-            bans: [false; 256],
+            known: Known::nothing(alloc)?,
             records: 0,
         })
     }
@@ -81,18 +72,10 @@ impl State {
         self.records
     }
 
-    pub fn find(&self, app: AppNo) -> Option<&Entry>
-        ensures some { IfSome result (λ entry. job_of self.now.jobs app.0 ≡ Some (record { job = entry.now.job; ended = entry.now.ended })) }
-        ensures none { IsNone result → job_of self.now.jobs app.0 ≡ None }
+    pub fn known(&self) -> &Known
+        ensures { result.now ≡ record { jobs = self.now.jobs; bans = self.now.bans } }
     {
-        find(&self.jobs, &self.places, app.0)
-    }
-
-    pub fn is_banned(&self, machine: MachineNo) -> bool
-        ensures marked { result ≡ has_number machine.0 self.now.bans }
-        ensures below { result ≡ true → machine.0 < most_machines }
-    {
-        is_marked(&self.bans, machine.0)
+        &self.known
     }
 
     fn is_full(&self) -> bool
@@ -130,7 +113,7 @@ impl State {
         if epoch < self.fence {
             return Err(HardFault::Fenced { fence: self.fence });
         }
-        if self.find(job.app()).is_some() {
+        if self.known.job(job.app()).is_some() {
             return Err(HardFault::Known);
         }
         if self.is_full() {
@@ -151,10 +134,10 @@ impl State {
         if epoch < self.fence {
             return Err(HardFault::Fenced { fence: self.fence });
         }
-        let Some(entry) = self.find(app) else {
+        if self.known.job(app).is_none() {
             return Err(HardFault::NoJob);
-        };
-        if entry.ended {
+        }
+        if self.known.ended(app) {
             return Err(HardFault::Ended);
         }
         if self.is_full() {
@@ -173,7 +156,7 @@ impl State {
         if epoch < self.fence {
             return Err(HardFault::Fenced { fence: self.fence });
         }
-        if self.is_banned(machine) {
+        if self.known.banned(machine) {
             return Err(HardFault::AlreadyBanned);
         }
         if self.is_full() {
@@ -193,7 +176,7 @@ impl State {
         if epoch < self.fence {
             return Err(HardFault::Fenced { fence: self.fence });
         }
-        if !self.is_banned(machine) {
+        if !self.known.banned(machine) {
             return Err(HardFault::NotBanned);
         }
         if self.is_full() {
@@ -236,7 +219,7 @@ impl State {
         requires unknown { is_known self.old.jobs job.number ≡ false }
         ensures { self.new ≡ submitted self.old job }
     {
-        add(&mut self.jobs, &mut self.places, job);
+        self.known.add(job);
         self.records += 1;
     }
 
@@ -245,7 +228,7 @@ impl State {
         requires known { is_known self.old.jobs app.0 ≡ true }
         ensures { self.new ≡ finished self.old app.0 }
     {
-        end(&mut self.jobs, &self.places, app.0);
+        self.known.finish(app);
         self.records += 1;
     }
 
@@ -254,7 +237,7 @@ impl State {
         requires below { machine.0 < most_machines }
         ensures { self.new ≡ banned self.old machine.0 }
     {
-        mark(&mut self.bans, machine.0);
+        self.known.ban(machine);
         self.records += 1;
     }
 
@@ -263,7 +246,7 @@ impl State {
         requires below { machine.0 < most_machines }
         ensures { self.new ≡ unbanned self.old machine.0 }
     {
-        unmark(&mut self.bans, machine.0);
+        self.known.unban(machine);
         self.records += 1;
     }
 
