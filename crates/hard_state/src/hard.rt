@@ -319,3 +319,12 @@ impl Hard {
         self.broken
     }
 }
+
+impl Known {
+    /// What the hard state has of jobs and bans.
+    pub fn of(alloc: Global, hard: &Hard) -> Result<Known, OutOfMemory>
+        ensures { IfOk result (λ known. known ≡ record { jobs = hard.now.value.jobs; bans = hard.now.value.bans }) }
+    {
+        hard.known().copy(alloc)
+    }
+}

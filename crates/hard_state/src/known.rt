@@ -9,7 +9,7 @@ ghost use Rattle.fuxi_terms.specs.Numbers.{has_number, with_number, without_numb
 ghost use Rattle.written_roles.specs.HardState.{with_job, with_ended};
 ghost use Rattle.hard_state.specs.HardFiles.{known_job};
 
-use crate::bans::{is_marked, mark, unmark};
+use crate::bans::NumberSet;
 use crate::jobs::{Entry, add, copies, end, find};
 use fuxi_terms::OutOfMemory;
 use schedule_unit::{AppNo, Job, MachineNo};
@@ -23,19 +23,18 @@ use std::marker::Model;
 pub struct Known {
     jobs: Vec<Entry>,
     places: [u16; 256],
-    bans: [bool; 256],
+    bans: NumberSet,
 }
 
 impl Model for Known {
     ghost use Rattle.std.specs.Prelude.{◌≤◌, map, vec_capacity};
     ghost use Rattle.hard_state.specs.HardFiles.{known_job};
     ghost use Rattle.hard_state.specs.Index.{IsIndex};
-    ghost use Rattle.hard_state.specs.Bans.{marked_from};
     ghost use Rattle.hard_state.specs.Knowledge.{Knowledge};
 
     ghost Value = { Knowledge };
 
-    ghost view = { λ k. record { jobs = map known_job k.jobs.items; bans = marked_from 0 k.bans } };
+    ghost view = { λ k. record { jobs = map known_job k.jobs.items; bans = k.bans } };
 
     ghost invariant = { λ k. IsIndex k.places (map known_job k.jobs.items) × (256 ≤ vec_capacity k.jobs) };
 }
@@ -48,7 +47,7 @@ impl Known {
         Ok(Known {
             jobs: Vec::with_capacity(alloc, 256)?,
             places: [0; 256],
-            bans: [false; 256],
+            bans: NumberSet::none(),
         })
     }
 
@@ -59,7 +58,7 @@ impl Known {
         Ok(Known {
             jobs: copies(alloc, &self.jobs)?,
             places: self.places,
-            bans: self.bans,
+            bans: self.bans.copy(),
         })
     }
 
@@ -97,7 +96,7 @@ impl Known {
         requires machine { machine.0 < most_machines }
         ensures { self.new ≡ record self.old { bans = with_number machine.0 self.old.bans } }
     {
-        mark(&mut self.bans, machine.0);
+        self.bans.insert(machine.0);
     }
 
     /// The machine, at most 255, is not banned. It takes no memory.
@@ -105,7 +104,7 @@ impl Known {
         requires machine { machine.0 < most_machines }
         ensures { self.new ≡ record self.old { bans = without_number machine.0 self.old.bans } }
     {
-        unmark(&mut self.bans, machine.0);
+        self.bans.remove(machine.0);
     }
 
     /// The job of this number, or `None` where none is known.
@@ -135,7 +134,7 @@ impl Known {
         ensures banned { result ≡ has_number machine.0 self.now.bans }
         ensures below { result ≡ true → machine.0 < most_machines }
     {
-        is_marked(&self.bans, machine.0)
+        self.bans.has(machine.0)
     }
 
     /// How many jobs are known, at most 256.

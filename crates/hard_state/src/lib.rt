@@ -11,6 +11,7 @@ mod opening;
 mod state;
 mod window;
 
+pub use bans::NumberSet;
 pub use fault::HardFault;
 pub use fuxi_terms::OutOfMemory;
 pub use hard::Hard;

@@ -1,4 +1,4 @@
-use Rattle.std.proofs.Common.{arith, rules}
+use Rattle.std.proofs.Common.{rules}
 use Rattle.hard_state.specs.HardFiles.{known_job}
 use Rattle.hard_state.proofs.Indexing.{most_known}
 use Rattle.hard_state.proofs.known.Known.jobs.Goals as goal

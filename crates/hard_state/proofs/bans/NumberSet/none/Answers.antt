@@ -1,0 +1,5 @@
+use Rattle.hard_state.proofs.Marking.{none_marked}
+use Rattle.hard_state.proofs.bans.NumberSet.none.Goals as goal
+
+pub returns : goal.returns
+returns c = none_marked 0 256
