@@ -1,4 +1,4 @@
-use Rattle.std.proofs.Common.{◌≡◌, ◌<◌, false, sym, ap, ◌∙◌, arith, rules, subst, ℕ}
+use Rattle.std.proofs.Common.{◌≡◌, ◌<◌, false, sym, rules}
 use Rattle.fuxi_terms.specs.Numbers.{has_number}
 use Rattle.failover.proofs.Everyone.{all_below, one_fails}
 use Rattle.failover.proofs.machines.all_reported.Goals as goal
