@@ -110,3 +110,61 @@ pub fn adopt(
     }
     Err(AdoptFault::Exceeds { total, has: *has })
 }
+
+#[cfg(test)]
+mod tests {
+    use super::{AdoptFault, adopt};
+    use hard_state::Known;
+    use ledger_law::Ledger;
+    use party_ledgers::{RowChange, RowLedger};
+    use res_vector::{Res, Sum};
+    use schedule_unit::{AppNo, Ask, Asks, GroupNo, Job, MachineNo, Quantities, UnitNo};
+    use std::test::Fail;
+
+    #[test]
+    fn an_entry_of_a_known_job_is_kept(rt: HostRuntime) -> Result<(), Fail> {
+        let alloc = rt.alloc();
+        let size = Res {
+            q: [3, 0, 0, 0, 0, 0, 0, 0],
+        };
+        let mut quantities = Quantities::new(alloc);
+        assert!(rt; quantities.push(3).is_ok());
+        let mut asks = Asks::new(alloc);
+        assert!(rt;
+            asks.push(Ask {
+                priority: 5,
+                quantities
+            })
+            .is_ok()
+        );
+        let job = Job::make(alloc, AppNo(0), GroupNo(0), 1, asks.as_slice()).expect(&rt, "a job");
+        let mut known = Known::nothing(alloc).expect(&rt, "memory");
+        assert!(rt; known.admit(alloc, &job).is_ok());
+
+        let mut change = RowChange::new(alloc);
+        assert!(rt; change.put(AppNo(0), UnitNo(0), &size, 2).is_ok());
+        let mut report = RowLedger::empty(alloc);
+        assert!(rt; report.apply(alloc, &change).is_ok());
+        let mut change = RowChange::new(alloc);
+        assert!(rt; change.put(AppNo(1), UnitNo(0), &size, 4).is_ok());
+        assert!(rt; report.apply(alloc, &change).is_ok());
+
+        let six = Res {
+            q: [6, 0, 0, 0, 0, 0, 0, 0],
+        };
+        let kept = adopt(alloc, &report, &known, MachineNo(7), &six).expect(&rt, "it fits");
+        assert_eq!(rt; kept.len(), 1);
+        let total = Sum {
+            q: [6, 0, 0, 0, 0, 0, 0, 0],
+        };
+        let has = Res {
+            q: [5, 9, 9, 9, 9, 9, 9, 9],
+        };
+        let fault = adopt(alloc, &report, &known, MachineNo(7), &has).err();
+        assert_eq!(rt; fault, Some(AdoptFault::Exceeds { total, has }));
+        known.ban(MachineNo(7));
+        let kept = adopt(alloc, &report, &known, MachineNo(7), &has).expect(&rt, "nothing");
+        assert_eq!(rt; kept.len(), 0);
+        Ok(())
+    }
+}
