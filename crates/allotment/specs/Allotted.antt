@@ -1,0 +1,38 @@
+-- What a table of grants with its placer stands for, and which spots changed.
+use Rattle.std.specs.Prelude.{◌≡◌, ℕ, ◌<◌, true, List, map}
+use Rattle.fuxi_terms.specs.Cluster.{ClusterRecord}
+use Rattle.fuxi_terms.specs.Keys.{Spot}
+use Rattle.written_roles.specs.Masters.{Master, out_of}
+use Rattle.written_roles.specs.Placing.{has_pair}
+use Rattle.grant_table.specs.Tables.{TableRecord, IsSound}
+use Rattle.grant_table.specs.declared.asking.Pick.{Pick}
+use Rattle.place_pass.specs.Best.{spot_of}
+use Rattle.place_pass.specs.Placers.{PlacerRecord, IsLevelWith, asks_seen}
+use Rattle.settling.specs.Placing.{IsPlacing}
+use Rattle.settling.specs.Runs.{AreTouched}
+
+-- the table, what the placer was told, and the spots that changed
+pub record AllotmentRecord : Type 0 where
+  pub table : TableRecord
+  pub placer : PlacerRecord
+  pub touched : List Spot
+
+abbrev pub allotment_record : TableRecord → PlacerRecord → List Pick → AllotmentRecord
+allotment_record t p touched = record { table = t; placer = p; touched = map spot_of touched }
+
+-- the placer is level with the table
+pub record IsAllotment (t : TableRecord) (p : PlacerRecord) : Type 0 where
+  pub level : IsLevelWith p t
+  pub sound : IsSound t
+
+-- it stands for what placing reads of a master
+pub record Allots (x : AllotmentRecord) (c : ClusterRecord) (M : Master) : Type 0 where
+  pub placing : IsPlacing x.table x.placer.seen c M
+
+-- each pair of the line has something out, as in a line that is up to date
+pub record AllWait (x : AllotmentRecord) : Type 0 where
+  pub each : (a u : ℕ) → has_pair (a, u) x.placer.seen.line ≡ true → 0 < out_of (asks_seen x.placer.seen) x.table.entries a u
+
+-- no spot is forgotten, and one that is not among those that changed has its number still
+abbrev pub Touches : AllotmentRecord → AllotmentRecord → Type 0
+Touches x y = AreTouched x.table.entries y.table.entries x.touched y.touched

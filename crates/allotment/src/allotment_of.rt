@@ -1,0 +1,159 @@
+//! The table with its placer.
+
+use cluster_desc::Cluster;
+use fuxi_terms::OutOfMemory;
+use grant_table::{GrantTable, Pick, Steps, set_numbers};
+use place_pass::{Placer, levels};
+use schedule_unit::{AppNo, MachineNo, UnitNo};
+use std::alloc::Global;
+use settling::{line_up, settle};
+use std::marker::Model;
+use std::sync::ledger::Ledger;
+
+/// A table of grants and a placer that is level with it, and the spots at which grants changed since they were
+/// last cleared.
+#[derive(Drop)]
+pub struct Allotment {
+    table: GrantTable,
+    placer: Placer,
+    touched: Vec<Pick>,
+}
+
+impl Model for Allotment {
+    ghost use Rattle.allotment.specs.Allotted.{AllotmentRecord, allotment_record, IsAllotment};
+
+    ghost Value = { AllotmentRecord };
+
+    ghost view = { λ x. allotment_record x.table x.placer x.touched.items };
+
+    ghost invariant = { λ x. IsAllotment x.table x.placer };
+}
+
+impl Allotment {
+    ghost use Rattle.std.specs.Prelude.{◌≡◌, ℕ, ◌<◌, ◌≤◌, ◌^◌, ◌&&◌, not, nat_eq, cond, true, List, [], length, IfOk};
+    ghost use Rattle.fuxi_terms.specs.Cluster.{ClusterRecord};
+    ghost use Rattle.fuxi_terms.specs.Jobs.{unit_count};
+    ghost use Rattle.fuxi_terms.specs.Numbers.{has_number};
+    ghost use Rattle.fuxi_terms.specs.Tables.{spot, held_on};
+    ghost use Rattle.grant_table.specs.Tables.{as_known, without_count};
+    ghost use Rattle.written_roles.specs.Masters.{Master};
+    ghost use Rattle.written_roles.specs.Placing.{line_up, settled};
+    ghost use Rattle.place_pass.specs.Placers.{IsUpToDate};
+    ghost use Rattle.allotment.specs.Allotted.{Allots, AllWait, Touches};
+
+    /// The allotment of a cluster, with no job, no grant and no open machine. It stands for a master that knows
+    /// of no job and of no machine.
+    pub fn start(alloc: Global, cluster: &Cluster) -> Result<Allotment, OutOfMemory>
+        ensures stands { IfOk result (λ x. (M : Master) → M.jobs ≡ [] → M.table ≡ [] → M.demands ≡ [] → M.line ≡ [] → M.reported ≡ [] → Allots x cluster.now M) }
+        ensures waits { IfOk result AllWait }
+        ensures touched { IfOk result (λ x. x.touched ≡ []) }
+    {
+        let table = GrantTable::start(alloc, cluster)?;
+        let placer = Placer::start(alloc, cluster)?;
+        let _cluster = table.cluster();
+        Ok(Allotment {
+            table,
+            placer,
+            touched: Vec::new(alloc),
+        })
+    }
+
+    /// The machine takes grants from now on, or it takes none: it is reported and not banned, or it is not.
+    pub fn open(&mut self, machine: MachineNo, usable: bool)
+        requires { machine.0 < length self.old.table.cluster.machines }
+        ensures stands { (c : ClusterRecord) (M : Master) (reported bans : List ℕ) → Allots self.old c M
+            → ((m : ℕ) → (has_number m reported && not (has_number m bans)) ≡ cond (nat_eq machine.0 m) usable (has_number m M.reported && not (has_number m M.bans)))
+            → Allots self.new c (record M { reported = reported; bans = bans }) }
+        ensures waits { AllWait self.old → AllWait self.new }
+        ensures table { self.new.table ≡ self.old.table }
+        ensures touched { self.new.touched ≡ self.old.touched }
+    {
+        levels();
+        self.placer.open(machine, usable);
+    }
+
+    /// So many grants fewer. Where the pairs of the line have something out the line stays as it is.
+    pub fn take(
+        self,
+        app: AppNo,
+        unit: UnitNo,
+        machine: MachineNo,
+        count: u32,
+    ) -> Result<Allotment, OutOfMemory>
+        requires waits { AllWait self }
+        requires unit { unit.0 < unit_count (as_known self.table.jobs) app.0 }
+        requires machine { machine.0 < length self.table.cluster.machines }
+        requires held { count ≤ held_on self.table.entries app.0 unit.0 machine.0 }
+        ensures stands { IfOk result (λ x. (c : ClusterRecord) (M : Master) → Allots self c M → Allots x c (record M { table = without_count M.table (spot app.0 unit.0 machine.0) count })) }
+        ensures waits { IfOk result AllWait }
+        ensures touches { IfOk result (Touches self) }
+        ensures table { IfOk result (λ x. x.table ≡ record self.table { entries = without_count self.table.entries (spot app.0 unit.0 machine.0) count }) }
+    {
+        levels();
+        set_numbers();
+        let Allotment {
+            table,
+            placer,
+            touched,
+        } = self;
+        let (mut table, mut placer, mut touched) = (table, placer, touched);
+        touched.push(Pick { app, unit, machine })?;
+        table.take(app, unit, machine, count);
+        placer.changed(&table, app, unit, machine);
+        let _sound = table.cluster();
+        Ok(Allotment {
+            table,
+            placer,
+            touched,
+        })
+    }
+
+    /// Brings the line up to date: the pairs with nothing out leave it, and the others that have something out go
+    /// behind it in the order of job and unit.
+    pub fn line_up(&mut self)
+        requires { self.old.placer.seen.turns < 2 ^ 63 }
+        ensures stands { (c : ClusterRecord) (M : Master) → Allots self.old c M → Allots self.new c (line_up M) }
+        ensures waits { AllWait self.new }
+        ensures up { IsUpToDate self.new.placer.seen self.new.table }
+        ensures table { self.new.table ≡ self.old.table }
+        ensures touched { self.new.touched ≡ self.old.touched }
+    {
+        line_up(&self.table, &mut self.placer);
+    }
+
+    /// Makes grants, always of the placeable pair of first rank, until no pair is placeable. The line is up to date.
+    pub fn settle<L: Ledger>(self, steps: &mut Steps<L>) -> Result<Allotment, OutOfMemory>
+        requires { IsUpToDate self.placer.seen self.table }
+        ensures stands { IfOk result (λ x. (c : ClusterRecord) (M : Master) → Allots self c M → M.serving ≡ true → Allots x c (settled c M)) }
+        ensures waits { IfOk result AllWait }
+        ensures touches { IfOk result (Touches self) }
+    {
+        let Allotment {
+            table,
+            placer,
+            touched,
+        } = self;
+        let (mut table, mut placer, mut touched) = (table, placer, touched);
+        settle(&mut table, &mut placer, steps, &mut touched)?;
+        let _sound = table.cluster();
+        Ok(Allotment {
+            table,
+            placer,
+            touched,
+        })
+    }
+
+    /// The table.
+    pub fn table(&self) -> &GrantTable
+        ensures { result.now ≡ self.now.table }
+    {
+        &self.table
+    }
+
+    /// The placer.
+    pub fn placer(&self) -> &Placer
+        ensures { result.now ≡ self.now.placer }
+    {
+        &self.placer
+    }
+}

@@ -1,0 +1,6 @@
+//! A master's table of grants with its placer, and the spots at which a step changed it.
+#![tactic(auto)]
+
+mod allotment_of;
+
+pub use allotment_of::Allotment;
