@@ -1,2 +1,3 @@
 mod Starting
 mod Fewer
+mod Asking

@@ -3,6 +3,7 @@
 use cluster_desc::Cluster;
 use fuxi_terms::OutOfMemory;
 use grant_table::{GrantTable, Pick, Steps, set_numbers};
+use party_ledgers::Demand;
 use place_pass::{Placer, levels};
 use schedule_unit::{AppNo, MachineNo, UnitNo};
 use std::alloc::Global;
@@ -39,6 +40,10 @@ impl Allotment {
     ghost use Rattle.written_roles.specs.Masters.{Master};
     ghost use Rattle.written_roles.specs.Placing.{line_up, settled};
     ghost use Rattle.place_pass.specs.Placers.{IsUpToDate};
+    ghost use Rattle.std.specs.Ordering.{nat_cmp};
+    ghost use Rattle.std.specs.FinMap.Entries.{put};
+    ghost use Rattle.written_net.specs.Ledgers.{tally_ledger};
+    ghost use Rattle.written_roles.specs.MasterSteps.{counted};
     ghost use Rattle.allotment.specs.Allotted.{Allots, AllWait, Touches};
 
     /// The allotment of a cluster, with no job, no grant and no open machine. It stands for a master that knows
@@ -70,6 +75,19 @@ impl Allotment {
     {
         levels();
         self.placer.open(machine, usable);
+    }
+
+    /// The demand of a job that is there is now this one, of which the entries count that name one of the job's units
+    /// and a machine or rack of the cluster.
+    pub fn asked(&mut self, app: AppNo, demand: &Demand)
+        requires { 0 < unit_count (as_known self.old.table.jobs) app.0 }
+        ensures stands { (c : ClusterRecord) (M : Master) (head : ℕ) → Allots self.old c M
+            → Allots self.new c (record M { demands = put nat_cmp app.0 (counted c M.jobs app.0 (tally_ledger head demand.now.entries)) M.demands }) }
+        ensures table { self.new.table ≡ self.old.table }
+        ensures touched { self.new.touched ≡ self.old.touched }
+    {
+        levels();
+        self.placer.asked(&self.table, app, demand);
     }
 
     /// So many grants fewer. Where the pairs of the line have something out the line stays as it is.
