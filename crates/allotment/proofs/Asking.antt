@@ -74,7 +74,7 @@ pub same_units : (xs ys : List KnownJob) (a : ℕ) → record_of xs a ≡ record
 same_units xs ys a e = units_recorded xs a ∙ ap units_of_record e ∙ sym (units_recorded ys a)
 
 module _ (t : TableRecord) (s new : SeenRecord) (c : ClusterRecord) (M : Master) (a head : ℕ) (es : List (Key × ℕ)) (h : IsPlacing t s c M) (cluster : s.cluster ≡ t.cluster) (units : units_seen s a ≡ unit_count (as_known t.jobs) a)
-  (asks : (b : ℕ) (k : Key) → asks_seen new b k ≡ asks_after s a es b k) (opened : new.opened ≡ s.opened) (line : new.line ≡ s.line) where
+    (asks : (b : ℕ) (k : Key) → asks_seen new b k ≡ asks_after s a es b k) (opened : new.opened ≡ s.opened) (line : new.line ≡ s.line) where
   abbrev after : Master
   after = record M { demands = put nat_cmp a (counted c M.jobs a (tally_ledger head es)) M.demands }
 

@@ -1,3 +1,4 @@
 mod Starting
 mod Fewer
 mod Asking
+mod Admitting

@@ -2,12 +2,12 @@
 
 use cluster_desc::Cluster;
 use fuxi_terms::OutOfMemory;
-use grant_table::{GrantTable, Pick, Steps, set_numbers};
+use grant_table::{GrantTable, Pick, Steps, admitted_jobs, set_numbers};
 use party_ledgers::Demand;
 use place_pass::{Placer, levels};
-use schedule_unit::{AppNo, MachineNo, UnitNo};
-use std::alloc::Global;
+use schedule_unit::{AppNo, Job, MachineNo, UnitNo};
 use settling::{line_up, settle};
+use std::alloc::Global;
 use std::marker::Model;
 use std::sync::ledger::Ledger;
 
@@ -31,12 +31,13 @@ impl Model for Allotment {
 }
 
 impl Allotment {
-    ghost use Rattle.std.specs.Prelude.{◌≡◌, ℕ, ◌<◌, ◌≤◌, ◌^◌, ◌&&◌, not, nat_eq, cond, true, List, [], length, IfOk};
+    ghost use Rattle.std.specs.Prelude.{◌≡◌, ℕ, ◌<◌, ◌≤◌, ◌^◌, ◌&&◌, not, nat_eq, cond, true, false, List, [], length, IfOk};
     ghost use Rattle.fuxi_terms.specs.Cluster.{ClusterRecord};
-    ghost use Rattle.fuxi_terms.specs.Jobs.{unit_count};
+    ghost use Rattle.fuxi_terms.specs.Jobs.{is_known, unit_count};
     ghost use Rattle.fuxi_terms.specs.Numbers.{has_number};
     ghost use Rattle.fuxi_terms.specs.Tables.{spot, held_on};
-    ghost use Rattle.grant_table.specs.Tables.{as_known, without_count};
+    ghost use Rattle.grant_table.specs.Tables.{as_known, with_admitted, without_count};
+    ghost use Rattle.written_roles.specs.HardState.{with_job};
     ghost use Rattle.written_roles.specs.Masters.{Master};
     ghost use Rattle.written_roles.specs.Placing.{line_up, settled};
     ghost use Rattle.place_pass.specs.Placers.{IsUpToDate};
@@ -60,6 +61,32 @@ impl Allotment {
             table,
             placer,
             touched: Vec::new(alloc),
+        })
+    }
+
+    /// Admits a job that is not there yet, with nothing granted or asked.
+    pub fn admit(self, alloc: Global, job: &Job) -> Result<Allotment, OutOfMemory>
+        requires { is_known (as_known self.table.jobs) job.now.number ≡ false }
+        ensures stands { IfOk result (λ x. (c : ClusterRecord) (M : Master) → Allots self c M → Allots x c (record M { jobs = with_job job.now M.jobs })) }
+        ensures waits { IfOk result (λ x. AllWait self → AllWait x) }
+        ensures table { IfOk result (λ x. x.table ≡ record self.table { jobs = with_admitted job.now self.table.jobs }) }
+        ensures touched { IfOk result (λ x. x.touched ≡ self.touched) }
+    {
+        levels();
+        admitted_jobs();
+        let Allotment {
+            table,
+            placer,
+            touched,
+        } = self;
+        let (mut table, mut placer) = (table, placer);
+        table.admit(alloc, job)?;
+        placer.admit(alloc, job)?;
+        let _sound = table.cluster();
+        Ok(Allotment {
+            table,
+            placer,
+            touched,
         })
     }
 

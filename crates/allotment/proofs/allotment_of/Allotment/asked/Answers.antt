@@ -11,5 +11,7 @@ returns-clause-stands c = λ k M head h.
     let p = c.self.inside.placer in
     let level = c.self.invariant.level in
     let old = subst (λ (x : AllotmentRecord). IsPlacing x.table x.placer.seen k M) (sym c.self.view_is) h.placing in
-    record { placing = asked_placing t p.seen c.asked.new.self.seen k M c.args.app.0 head c.args.demand.now.entries old (c.levels.ensures.cluster p t level) (c.levels.ensures.units p t c.args.app.0 level)
-        c.asked.ensures.asks (ap (λ (s : SeenRecord). s.opened) c.asked.ensures.rest) (ap (λ (s : SeenRecord). s.line) c.asked.ensures.rest) }
+    record {
+      placing = asked_placing t p.seen c.asked.new.self.seen k M c.args.app.0 head c.args.demand.now.entries old (c.levels.ensures.cluster p t level) (c.levels.ensures.units p t c.args.app.0 level)
+          c.asked.ensures.asks (ap (λ (s : SeenRecord). s.opened) c.asked.ensures.rest) (ap (λ (s : SeenRecord). s.line) c.asked.ensures.rest);
+    }

@@ -25,8 +25,10 @@ returns-clause-stands c = λ k M h.
     let table : c.take.new.self ≡ after c.set_numbers.ensures.held t s sorted a u m n wait.each = c.take.ensures in
     let seen : c.changed.new.self.seen ≡ told c.set_numbers.ensures.held t s sorted a u m n wait.each = c.changed.ensures.seen ∙ ap (λ (x : TableRecord). record s { line = line_told s x a u }) table in
     let old = subst (λ (x : AllotmentRecord). IsPlacing x.table x.placer.seen k M) (sym c.self.view_is) h.placing in
-    record { placing = subst (λ (x : TableRecord). IsPlacing x c.changed.new.self.seen k N) (sym table)
-        (subst (λ (x : SeenRecord). IsPlacing (after c.set_numbers.ensures.held t s sorted a u m n wait.each) x k N) (sym seen) (fewer_placing c.set_numbers.ensures.held t s sorted a u m n wait.each k M old)) }
+    record {
+      placing = subst (λ (x : TableRecord). IsPlacing x c.changed.new.self.seen k N) (sym table)
+          (subst (λ (x : SeenRecord). IsPlacing (after c.set_numbers.ensures.held t s sorted a u m n wait.each) x k N) (sym seen) (fewer_placing c.set_numbers.ensures.held t s sorted a u m n wait.each k M old));
+    }
 
 pub returns-clause-waits : goal.returns-clause-waits
 returns-clause-waits c =
