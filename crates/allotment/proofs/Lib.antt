@@ -2,3 +2,4 @@ mod Starting
 mod Fewer
 mod Asking
 mod Admitting
+mod Clearing

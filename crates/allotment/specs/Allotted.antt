@@ -1,7 +1,8 @@
 -- What a table of grants with its placer stands for, and which spots changed.
-use Rattle.std.specs.Prelude.{◌≡◌, ℕ, ◌<◌, true, List, map}
+use Rattle.std.specs.Prelude.{◌≡◌, ℕ, ◌<◌, Bool, true, cond, List, map}
 use Rattle.fuxi_terms.specs.Cluster.{ClusterRecord}
-use Rattle.fuxi_terms.specs.Keys.{Spot}
+use Rattle.fuxi_terms.specs.Counts.{count}
+use Rattle.fuxi_terms.specs.Keys.{Spot, spot_cmp}
 use Rattle.written_roles.specs.Masters.{Master, out_of}
 use Rattle.written_roles.specs.Placing.{has_pair}
 use Rattle.grant_table.specs.Tables.{TableRecord, IsSound}
@@ -36,3 +37,11 @@ pub record AllWait (x : AllotmentRecord) : Type 0 where
 -- no spot is forgotten, and one that is not among those that changed has its number still
 abbrev pub Touches : AllotmentRecord → AllotmentRecord → Type 0
 Touches x y = AreTouched x.table.entries y.table.entries x.touched y.touched
+
+-- all grants at these spots are gone, and every other spot has its number still. It stands for the master with that table
+pub record Clears (gone : Spot → Bool) (x y : AllotmentRecord) : Type 0 where
+  pub stands : (c : ClusterRecord) (M : Master) → Allots x c M → Allots y c (record M { table = y.table.entries })
+  pub waits : AllWait y
+  pub touches : Touches x y
+  pub table : y.table ≡ record x.table { entries = y.table.entries }
+  pub counts : (s : Spot) → count spot_cmp y.table.entries s ≡ cond (gone s) 0 (count spot_cmp x.table.entries s)

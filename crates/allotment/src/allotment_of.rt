@@ -31,7 +31,7 @@ impl Model for Allotment {
 }
 
 impl Allotment {
-    ghost use Rattle.std.specs.Prelude.{◌≡◌, ℕ, ◌<◌, ◌≤◌, ◌^◌, ◌&&◌, not, nat_eq, cond, true, false, List, [], length, IfOk};
+    ghost use Rattle.std.specs.Prelude.{◌≡◌, ℕ, ◌<◌, ◌≤◌, ◌^◌, ◌&&◌, not, nat_eq, nat_lt, cond, true, false, List, [], length, IfOk};
     ghost use Rattle.fuxi_terms.specs.Cluster.{ClusterRecord};
     ghost use Rattle.fuxi_terms.specs.Jobs.{is_known, unit_count};
     ghost use Rattle.fuxi_terms.specs.Numbers.{has_number};
@@ -45,7 +45,7 @@ impl Allotment {
     ghost use Rattle.std.specs.FinMap.Entries.{put};
     ghost use Rattle.written_net.specs.Ledgers.{tally_ledger};
     ghost use Rattle.written_roles.specs.MasterSteps.{counted};
-    ghost use Rattle.allotment.specs.Allotted.{Allots, AllWait, Touches};
+    ghost use Rattle.allotment.specs.Allotted.{Allots, AllWait, Clears, Touches};
 
     /// The allotment of a cluster, with no job, no grant and no open machine. It stands for a master that knows
     /// of no job and of no machine.
@@ -151,6 +151,31 @@ impl Allotment {
             placer,
             touched,
         })
+    }
+
+    // All grants of a unit on a machine are gone.
+    fn clear(self, app: AppNo, unit: UnitNo, machine: MachineNo) -> Result<Allotment, OutOfMemory>
+        requires waits { AllWait self }
+        requires unit { unit.0 < unit_count (as_known self.table.jobs) app.0 }
+        requires machine { machine.0 < length self.table.cluster.machines }
+        ensures { IfOk result (Clears (λ s. nat_eq s.job app.0 && (nat_eq s.unit unit.0 && nat_eq s.machine machine.0)) self) }
+    {
+        let held = self.table.held_on(app, unit, machine);
+        self.take(app, unit, machine, held)
+    }
+
+    // All grants of a job on a machine are gone.
+    fn clear_units(self, app: AppNo, machine: MachineNo) -> Result<Allotment, OutOfMemory>
+        requires waits { AllWait self }
+        requires machine { machine.0 < length self.table.cluster.machines }
+        ensures { IfOk result (Clears (λ s. nat_eq s.job app.0 && (nat_lt s.unit (unit_count (as_known self.table.jobs) app.0) && nat_eq s.machine machine.0)) self) }
+    {
+        let units = self.table.units(app);
+        let mut left = self;
+        for number in 0..units.min(255) as u8 {
+            left = left.clear(app, UnitNo(number), machine)?;
+        }
+        Ok(left)
     }
 
     /// Brings the line up to date: the pairs with nothing out leave it, and the others that have something out go
