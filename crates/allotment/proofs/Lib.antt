@@ -3,3 +3,4 @@ mod Fewer
 mod Asking
 mod Admitting
 mod Clearing
+mod Cleared

@@ -42,7 +42,8 @@ impl Allotment {
     ghost use Rattle.written_roles.specs.Placing.{line_up, settled};
     ghost use Rattle.place_pass.specs.Placers.{IsUpToDate};
     ghost use Rattle.std.specs.Ordering.{nat_cmp};
-    ghost use Rattle.std.specs.FinMap.Entries.{put};
+    ghost use Rattle.std.specs.FinMap.Entries.{put, where_key};
+    ghost use Rattle.fuxi_terms.specs.Keys.{spot_cmp};
     ghost use Rattle.written_net.specs.Ledgers.{tally_ledger};
     ghost use Rattle.written_roles.specs.MasterSteps.{counted};
     ghost use Rattle.allotment.specs.Allotted.{Allots, AllWait, Clears, Touches};
@@ -175,6 +176,41 @@ impl Allotment {
         for number in 0..units.min(255) as u8 {
             left = left.clear(app, UnitNo(number), machine)?;
         }
+        Ok(left)
+    }
+
+    /// All grants on a machine are gone. Where the pairs of the line have something out the line stays as it is.
+    pub fn clear_machine(self, machine: MachineNo) -> Result<Allotment, OutOfMemory>
+        requires waits { AllWait self }
+        requires machine { machine.0 < length self.table.cluster.machines }
+        ensures stands { IfOk result (λ x. (c : ClusterRecord) (M : Master) → Allots self c M → Allots x c (record M { table = where_key spot_cmp (λ s. not (nat_eq s.machine machine.0)) M.table })) }
+        ensures waits { IfOk result AllWait }
+        ensures touches { IfOk result (Touches self) }
+        ensures table { IfOk result (λ x. x.table ≡ record self.table { entries = where_key spot_cmp (λ s. not (nat_eq s.machine machine.0)) self.table.entries }) }
+    {
+        let _before = self.table.cluster();
+        let mut left = self;
+        for number in 0..256_u32 {
+            left = left.clear_units(AppNo(number), machine)?;
+        }
+        let _after = left.table.cluster();
+        Ok(left)
+    }
+
+    /// All grants of a job are gone. Where the pairs of the line have something out the line stays as it is.
+    pub fn clear_job(self, app: AppNo) -> Result<Allotment, OutOfMemory>
+        requires { AllWait self }
+        ensures stands { IfOk result (λ x. (c : ClusterRecord) (M : Master) → Allots self c M → Allots x c (record M { table = where_key spot_cmp (λ s. not (nat_eq s.job app.0)) M.table })) }
+        ensures waits { IfOk result AllWait }
+        ensures touches { IfOk result (Touches self) }
+        ensures table { IfOk result (λ x. x.table ≡ record self.table { entries = where_key spot_cmp (λ s. not (nat_eq s.job app.0)) self.table.entries }) }
+    {
+        let machines = self.table.cluster().machines();
+        let mut left = self;
+        for number in 0..machines {
+            left = left.clear_units(app, MachineNo(number))?;
+        }
+        let _after = left.table.cluster();
         Ok(left)
     }
 

@@ -1,0 +1,34 @@
+use Rattle.std.proofs.Common.{◌≡◌, ◌≤◌, nat_eq, nat_lt, List, length, sym, ◌∙◌, ap, subst, arith}
+use Rattle.std.specs.Prelude.{◌&&◌}
+use Rattle.fuxi_terms.specs.Cluster.{ClusterRecord, JobRecord}
+use Rattle.fuxi_terms.specs.Jobs.{unit_count}
+use Rattle.grant_table.specs.Tables.{TableRecord, IsSound, as_known}
+use Rattle.allotment.specs.Allotted.{AllotmentRecord, Clears}
+use Rattle.allotment.proofs.Clearing.{cleared_as, cleared_both}
+use Rattle.allotment.proofs.Cleared.{LeftWithout, is_admitted, machine_more, job_left}
+use Rattle.allotment.proofs.allotment_of.Allotment.clear_job.Goals as goal
+use Rattle.allotment.proofs.allotment_of.Allotment.clear_job.Goals.{After-cluster-after}
+
+pub loop-number-preserved : goal.loop-number-preserved
+loop-number-preserved c =
+    let x = c.args.self in
+    let n = c.loop-number.number in
+    let a = c.args.app.0 in
+    let one = subst (λ (js : List JobRecord). Clears (λ s. nat_eq s.job a && (nat_lt s.unit (unit_count (as_known js) a) && nat_eq s.machine n)) c.loop-number.left c.in_ok-left.left) (ap (λ (t : TableRecord). t.jobs) c.loop-number.invariant.table) c.in_ok-left.ensures in
+    cleared_as _ _ _ _ (machine_more x.table a n) (cleared_both _ _ _ _ _ c.loop-number.invariant one)
+
+left : (c : After-cluster-after) → LeftWithout (λ s. nat_eq s.job c.args.app.0) c.args.self c.loop-number.left
+left c =
+    let x = c.args.self in
+    let a = c.args.app.0 in
+    let same = ap (λ (k : ClusterRecord). length k.machines) c.cluster.ensures.cluster in
+    let here = ap (λ (r : AllotmentRecord). length r.table.cluster.machines) c.self.view_is in
+    let end : c.loop-number.number ≡ length x.table.cluster.machines = let p = c.loop-number-test.false in let q = c.loop-number.auto.number-end in let r = c.machines-machines.ensures.number in omega (arith, p, q, r, same, here) in
+    let all = subst (λ n. Clears (λ s. nat_eq s.job a && (is_admitted x.table a s.unit && nat_lt s.machine n)) x c.loop-number.left) end c.loop-number.invariant in
+    job_left a x c.loop-number.left (subst (λ (r : AllotmentRecord). IsSound r.table) c.self.view_is c.cluster.ensures.sound) (subst (λ (r : AllotmentRecord). IsSound r.table) c.left.view_is c.cluster-after.ensures.sound) all
+
+pub returns-clause-stands : goal.returns-clause-stands
+returns-clause-stands c = (left c).stands
+
+pub returns-clause-table : goal.returns-clause-table
+returns-clause-table c = (left c).table

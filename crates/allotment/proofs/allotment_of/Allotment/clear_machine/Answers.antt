@@ -1,0 +1,32 @@
+use Rattle.std.proofs.Common.{◌≡◌, ◌≤◌, nat_eq, nat_lt, List, sym, ◌∙◌, ap, subst, arith}
+use Rattle.std.specs.Prelude.{◌&&◌}
+use Rattle.fuxi_terms.specs.Cluster.{JobRecord}
+use Rattle.fuxi_terms.specs.Jobs.{unit_count}
+use Rattle.grant_table.specs.Tables.{TableRecord, IsSound, as_known}
+use Rattle.allotment.specs.Allotted.{AllotmentRecord, Clears}
+use Rattle.allotment.proofs.Clearing.{cleared_as, cleared_both}
+use Rattle.allotment.proofs.Cleared.{LeftWithout, is_admitted, job_more, machine_left}
+use Rattle.allotment.proofs.allotment_of.Allotment.clear_machine.Goals as goal
+use Rattle.allotment.proofs.allotment_of.Allotment.clear_machine.Goals.{After-cluster-after}
+
+pub loop-number-preserved : goal.loop-number-preserved
+loop-number-preserved c =
+    let x = c.args.self in
+    let n = c.loop-number.number in
+    let m = c.args.machine.0 in
+    let one = subst (λ (js : List JobRecord). Clears (λ s. nat_eq s.job n && (nat_lt s.unit (unit_count (as_known js) n) && nat_eq s.machine m)) c.loop-number.left c.in_ok-left.left) (ap (λ (t : TableRecord). t.jobs) c.loop-number.invariant.table) c.in_ok-left.ensures in
+    cleared_as _ _ _ _ (job_more x.table n m) (cleared_both _ _ _ _ _ c.loop-number.invariant one)
+
+left : (c : After-cluster-after) → LeftWithout (λ s. nat_eq s.machine c.args.machine.0) c.args.self c.loop-number.left
+left c =
+    let x = c.args.self in
+    let m = c.args.machine.0 in
+    let end : c.loop-number.number ≡ 256 = let a = c.loop-number-test.false in let b = c.loop-number.auto.number-end in omega (arith, a, b) in
+    let all = subst (λ n. Clears (λ s. nat_lt s.job n && (is_admitted x.table s.job s.unit && nat_eq s.machine m)) x c.loop-number.left) end c.loop-number.invariant in
+    machine_left m x c.loop-number.left (subst (λ (r : AllotmentRecord). IsSound r.table) c.self.view_is c.cluster-before.ensures.sound) (subst (λ (r : AllotmentRecord). IsSound r.table) c.left.view_is c.cluster-after.ensures.sound) all
+
+pub returns-clause-stands : goal.returns-clause-stands
+returns-clause-stands c = (left c).stands
+
+pub returns-clause-table : goal.returns-clause-table
+returns-clause-table c = (left c).table
