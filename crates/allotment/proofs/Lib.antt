@@ -4,3 +4,4 @@ mod Asking
 mod Admitting
 mod Clearing
 mod Cleared
+mod Planning

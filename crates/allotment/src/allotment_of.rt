@@ -5,6 +5,7 @@ use fuxi_terms::OutOfMemory;
 use grant_table::{GrantTable, Pick, Steps, admitted_jobs, set_numbers};
 use party_ledgers::Demand;
 use place_pass::{Placer, levels};
+use preempt::{Plan, find, lines};
 use schedule_unit::{AppNo, Job, MachineNo, UnitNo};
 use settling::{line_up, settle};
 use std::alloc::Global;
@@ -41,6 +42,11 @@ impl Allotment {
     ghost use Rattle.written_roles.specs.Masters.{Master};
     ghost use Rattle.written_roles.specs.Placing.{line_up, settled};
     ghost use Rattle.place_pass.specs.Placers.{IsUpToDate};
+    ghost use Rattle.std.specs.Prelude.{IfSome, Some, slice_get};
+    ghost use Rattle.std.specs.Option.{option_map};
+    ghost use Rattle.place_pass.specs.Best.{spot_of};
+    ghost use Rattle.preempt.specs.Plans.{CanBeMade, plan_as};
+    ghost use Rattle.written_roles.specs.Preemption.{plan_of};
     ghost use Rattle.std.specs.Ordering.{nat_cmp};
     ghost use Rattle.std.specs.FinMap.Entries.{put, where_key};
     ghost use Rattle.fuxi_terms.specs.Keys.{spot_cmp};
@@ -247,6 +253,41 @@ impl Allotment {
             placer,
             touched,
         })
+    }
+
+    /// The plan of the first pair that has victims, and `None` exactly where no pair has any. The line is up to date.
+    pub fn plan<L: Ledger>(&self, alloc: Global, steps: &mut Steps<L>) -> Result<Option<Plan>, OutOfMemory>
+        requires { IsUpToDate self.now.placer.seen self.now.table }
+        ensures plan { IfOk result (λ found. (c : ClusterRecord) (M : Master) → Allots self.now c M → option_map plan_as found ≡ plan_of c M) }
+        ensures made { IfOk result (λ found. IfSome found (CanBeMade self.now.table)) }
+    {
+        levels();
+        lines();
+        find(alloc, &self.table, &self.placer, steps)
+    }
+
+    /// How many spots changed since they were last cleared.
+    pub fn touched(&self) -> usize
+        ensures { result ≡ length self.now.touched }
+    {
+        self.touched.len()
+    }
+
+    /// The spot that changed at a place of their list, counted from 0.
+    pub fn touched_at(&self, index: usize) -> Pick
+        requires { index < length self.now.touched }
+        ensures { slice_get self.now.touched index ≡ Some (spot_of result) }
+    {
+        self.touched[index]
+    }
+
+    /// No spot counts as changed any more.
+    pub fn clear_touched(&mut self)
+        ensures touched { self.new.touched ≡ [] }
+        ensures table { self.new.table ≡ self.old.table }
+        ensures placer { self.new.placer ≡ self.old.placer }
+    {
+        self.touched.clear();
     }
 
     /// The table.
