@@ -1,12 +1,12 @@
 -- All grants of a machine, or of a job, are gone.
-use Rattle.std.proofs.Common.{◌≡◌, ℕ, ◌+◌, ◌<◌, ◌≤◌, Bool, true, false, cond, not, nat_eq, nat_lt, List, [], ◌∷◌, length, refl, sym, ◌∙◌, ap, subst, arith}
-use Rattle.std.specs.Prelude.{◌&&◌, ◌||◌, IsTrue, Some, None}
+use Rattle.std.proofs.Common.{◌≡◌, ℕ, ◌+◌, ◌<◌, Bool, true, false, cond, not, nat_eq, nat_lt, List, [], ◌∷◌, length, refl, sym, ◌∙◌, ap, subst, arith}
+use Rattle.std.specs.Prelude.{◌&&◌, ◌||◌, Some, None}
 use Rattle.std.specs.Option.{unwrap_or, option_map}
 use Rattle.std.specs.declared.cmp.Ordering.TheVariants.{Equal}
 use Rattle.std.specs.FinMap.Entries.{where_key, find, find-where_key}
 use Rattle.std.proofs.lemmas.Bool.Decides.{nat_tests}
-use Rattle.fuxi_terms.specs.Cluster.{ClusterRecord, JobRecord, is_valid_job}
-use Rattle.fuxi_terms.specs.Counts.{count, AreCounts}
+use Rattle.fuxi_terms.specs.Cluster.{ClusterRecord, JobRecord}
+use Rattle.fuxi_terms.specs.Counts.{count}
 use Rattle.fuxi_terms.specs.Jobs.{KnownJob, job_of, unit_count}
 use Rattle.fuxi_terms.specs.Keys.{Spot, spot_cmp}
 use Rattle.fuxi_terms.specs.Limits.{greatest_count}
@@ -16,8 +16,7 @@ use Rattle.fuxi_terms.proofs.KeyOrders.{spot_total, same_spot}
 use Rattle.fuxi_terms.proofs.Spots.{each_found}
 use Rattle.written_roles.specs.Masters.{Master}
 use Rattle.grant_table.specs.Tables.{TableRecord, IsSound, AreJobs, as_known}
-use Rattle.allotment.specs.Allotted.{AllotmentRecord, Allots, AllWait, Clears, Touches}
-use Rattle.allotment.proofs.Clearing.{allots_itself}
+use Rattle.allotment.specs.Allotted.{AllotmentRecord, Allots, Clears}
 
 -- a unit that is admitted
 abbrev pub is_admitted : TableRecord → ℕ → ℕ → Bool

@@ -1,13 +1,13 @@
 -- All grants at some spots are gone.
-use Rattle.std.proofs.Common.{◌≡◌, ◌⊎◌, inl, inr, ℕ, suc, ◌+◌, ◌-◌, ◌<◌, ◌≤◌, Bool, true, false, cond, nat_eq, nat_lt, List, refl, sym, ◌∙◌, ap, subst, arith}
-use Rattle.std.specs.Prelude.{◌&&◌, ◌||◌, not, [], ◌∷◌, length, IsTrue, IfOk, Result, Ok, Err, Some, None}
+use Rattle.std.proofs.Common.{◌≡◌, ℕ, ◌+◌, ◌-◌, ◌≤◌, Bool, true, false, cond, nat_eq, nat_lt, List, refl, sym, ◌∙◌, ap, arith}
+use Rattle.std.specs.Prelude.{◌&&◌, ◌||◌, not, [], ◌∷◌, length, IsTrue, IfOk, Result, Ok, Err, Some}
 use Rattle.std.specs.Option.{unwrap_or, option_map}
 use Rattle.std.specs.Ordering.{eq_by_cmp, is_eq}
 use Rattle.std.specs.Cmp.{tied_itself}
 use Rattle.std.proofs.lemmas.Bool.Decides.{nat_tests}
 use Rattle.fuxi_terms.specs.Cluster.{ClusterRecord, JobRecord, is_valid_job, is_between}
 use Rattle.fuxi_terms.specs.Jobs.{KnownJob, job_of, unit_count}
-use Rattle.fuxi_terms.specs.Counts.{count, set_count}
+use Rattle.fuxi_terms.specs.Counts.{count}
 use Rattle.fuxi_terms.specs.Keys.{Spot, spot_cmp}
 use Rattle.fuxi_terms.specs.Tables.{spot, held_on}
 use Rattle.fuxi_terms.proofs.Booleans.{both_true, and_true, number_is, nat_itself, same_tests}
@@ -17,7 +17,6 @@ use Rattle.written_roles.specs.Masters.{Master}
 use Rattle.grant_table.specs.Tables.{TableRecord, AreJobs, as_known, without_count}
 use Rattle.place_pass.specs.Placers.{SeenRecord}
 use Rattle.settling.specs.Placing.{IsPlacing, has_spot}
-use Rattle.settling.specs.Runs.{AreTouched}
 use Rattle.allotment.specs.Allotted.{AllotmentRecord, Allots, AllWait, Clears, Touches}
 
 -- the same table, named by itself

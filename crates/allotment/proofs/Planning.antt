@@ -1,16 +1,16 @@
 -- The board of a master says the same as the table and the placer.
-use Rattle.std.proofs.Common.{◌≡◌, ℕ, ◌<◌, Bool, true, false, not, nat_lt, List, [], length, get_or, refl, sym, ◌∙◌, ap, subst, arith}
+use Rattle.std.proofs.Common.{◌≡◌, ℕ, ◌<◌, Bool, true, false, not, nat_lt, List, [], get_or, refl, sym, ◌∙◌, ap, arith}
 use Rattle.std.specs.Prelude.{◌&&◌, Option, Some, None, Result, Ok, Err, IfOk, slice_get}
 use Rattle.std.specs.Option.{unwrap_or, option_map}
 use Rattle.std.proofs.lemmas.Bool.Decides.{nat_tests}
 use Rattle.fuxi_terms.specs.Cluster.{ClusterRecord, JobRecord, UnitRecord}
-use Rattle.fuxi_terms.specs.Jobs.{KnownJob, job_of, units_of, unit_of, unit_count, priority_of, size_at, group_of, no_unit}
+use Rattle.fuxi_terms.specs.Jobs.{KnownJob, job_of, units_of, unit_count, group_of, no_unit}
 use Rattle.fuxi_terms.specs.Numbers.{has_number}
 use Rattle.fuxi_terms.specs.TallyKeys.{avoid_key}
 use Rattle.fuxi_terms.specs.Vectors.{at_place}
 use Rattle.fuxi_terms.proofs.Booleans.{both_true}
-use Rattle.written_roles.specs.Masters.{Master, asked, avoids, out_of}
-use Rattle.written_roles.specs.Placing.{board, is_usable, has_pair}
+use Rattle.written_roles.specs.Masters.{Master, avoids, out_of}
+use Rattle.written_roles.specs.Placing.{board, has_pair}
 use Rattle.grant_table.specs.Tables.{TableRecord, as_known}
 use Rattle.place_pass.specs.Placers.{SeenRecord, usable_in, units_seen, asks_seen, IsUpToDate}
 use Rattle.preempt.specs.Plans.{IsBoardOf}

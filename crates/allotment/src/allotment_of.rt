@@ -256,7 +256,11 @@ impl Allotment {
     }
 
     /// The plan of the first pair that has victims, and `None` exactly where no pair has any. The line is up to date.
-    pub fn plan<L: Ledger>(&self, alloc: Global, steps: &mut Steps<L>) -> Result<Option<Plan>, OutOfMemory>
+    pub fn plan<L: Ledger>(
+        &self,
+        alloc: Global,
+        steps: &mut Steps<L>,
+    ) -> Result<Option<Plan>, OutOfMemory>
         requires { IsUpToDate self.now.placer.seen self.now.table }
         ensures plan { IfOk result (λ found. (c : ClusterRecord) (M : Master) → Allots self.now c M → option_map plan_as found ≡ plan_of c M) }
         ensures made { IfOk result (λ found. IfSome found (CanBeMade self.now.table)) }

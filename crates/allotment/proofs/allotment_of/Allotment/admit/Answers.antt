@@ -1,11 +1,11 @@
-use Rattle.std.proofs.Common.{◌≡◌, ℕ, ◌-◌, ◌<◌, true, false, List, sym, subst, ap, ◌∙◌}
+use Rattle.std.proofs.Common.{◌≡◌, ◌-◌, ◌<◌, false, sym, subst, ap, ◌∙◌}
 use Rattle.fuxi_terms.specs.Jobs.{is_known}
 use Rattle.fuxi_terms.specs.Tables.{held}
 use Rattle.fuxi_terms.specs.TallyKeys.{want_key}
 use Rattle.written_roles.specs.HardState.{with_job}
 use Rattle.written_roles.specs.Placing.{has_pair}
-use Rattle.grant_table.specs.Tables.{TableRecord, as_known, with_admitted}
-use Rattle.place_pass.specs.Placers.{SeenRecord, asks_seen}
+use Rattle.grant_table.specs.Tables.{TableRecord, as_known}
+use Rattle.place_pass.specs.Placers.{SeenRecord}
 use Rattle.settling.specs.Placing.{IsPlacing}
 use Rattle.allotment.specs.Allotted.{AllotmentRecord, AllWait}
 use Rattle.allotment.proofs.Admitting.{admitted_placing}

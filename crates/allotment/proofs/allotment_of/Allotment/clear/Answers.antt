@@ -1,4 +1,4 @@
-use Rattle.std.proofs.Common.{◌≡◌, sym, ◌∙◌, ap}
+use Rattle.std.proofs.Common.{◌≡◌, ◌∙◌, ap}
 use Rattle.fuxi_terms.specs.Tables.{held_on}
 use Rattle.allotment.specs.Allotted.{AllotmentRecord}
 use Rattle.allotment.proofs.Clearing.{cleared_spot, if_ok_four}

@@ -1,4 +1,4 @@
-use Rattle.std.proofs.Common.{◌≡◌, ◌≤◌, nat_eq, nat_lt, List, sym, ◌∙◌, ap, subst, arith}
+use Rattle.std.proofs.Common.{◌≡◌, nat_eq, nat_lt, List, ap, subst, arith}
 use Rattle.std.specs.Prelude.{◌&&◌}
 use Rattle.fuxi_terms.specs.Cluster.{JobRecord}
 use Rattle.fuxi_terms.specs.Jobs.{unit_count}

@@ -1,4 +1,4 @@
-use Rattle.std.proofs.Common.{◌≡◌, nat_eq, nat_lt}
+use Rattle.std.proofs.Common.{nat_eq, nat_lt}
 use Rattle.std.specs.Prelude.{◌&&◌}
 use Rattle.allotment.specs.Allotted.{Clears}
 use Rattle.allotment.proofs.allotment_of.Allotment.clear_units.Given as goal

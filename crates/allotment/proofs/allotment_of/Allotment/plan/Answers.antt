@@ -1,4 +1,4 @@
-use Rattle.std.proofs.Common.{◌≡◌, sym, ◌∙◌, subst}
+use Rattle.std.proofs.Common.{sym, ◌∙◌, subst}
 use Rattle.std.specs.Prelude.{Option}
 use Rattle.fuxi_terms.specs.Jobs.{unit_count}
 use Rattle.grant_table.specs.Tables.{as_known}

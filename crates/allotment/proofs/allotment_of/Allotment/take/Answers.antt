@@ -1,4 +1,4 @@
-use Rattle.std.proofs.Common.{◌≡◌, ◌++◌, ◌∷◌, [], List, map, sym, subst, ◌∙◌, ap, refl}
+use Rattle.std.proofs.Common.{◌≡◌, ◌++◌, ◌∷◌, [], List, map, sym, subst, ◌∙◌, ap}
 use Rattle.std.proofs.lemmas.List.{map-append}
 use Rattle.fuxi_terms.specs.Keys.{Spot}
 use Rattle.fuxi_terms.specs.Tables.{spot}
@@ -7,7 +7,7 @@ use Rattle.place_pass.specs.Best.{spot_of}
 use Rattle.place_pass.specs.Placers.{SeenRecord, line_told}
 use Rattle.settling.specs.Placing.{IsPlacing}
 use Rattle.settling.specs.Runs.{AreTouched}
-use Rattle.allotment.specs.Allotted.{AllotmentRecord, AllWait, allotment_record}
+use Rattle.allotment.specs.Allotted.{AllotmentRecord, AllWait}
 use Rattle.allotment.proofs.Fewer.{after, told, fewer_placing, fewer_wait, fewer_touched}
 use Rattle.allotment.proofs.allotment_of.Allotment.take.Goals as goal
 
