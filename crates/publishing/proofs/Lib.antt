@@ -1,0 +1,5 @@
+pub mod Setting
+pub mod Rows
+pub mod Walking
+pub mod Tallies
+pub mod Shown

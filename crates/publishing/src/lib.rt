@@ -1,0 +1,8 @@
+//! How a master shows a peer what it should hold, without computing it whole: the numbers that were touched are set, by one change.
+#![tactic(auto)]
+
+mod grants;
+mod row;
+
+pub use grants::show_grants;
+pub use row::{RowNumber, show_row};
