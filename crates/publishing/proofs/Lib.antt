@@ -3,3 +3,4 @@ pub mod Rows
 pub mod Walking
 pub mod Tallies
 pub mod Shown
+pub mod Following

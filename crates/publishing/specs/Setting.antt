@@ -1,8 +1,9 @@
 -- Numbers that are set in a map, one after another, and the change that sets them.
-use Rattle.std.specs.Prelude.{ℕ, ℤ, ◌≤◌, cond, nat_eq, T, List, [], ◌∷◌}
+use Rattle.std.specs.Prelude.{◌≡◌, ℕ, ℤ, ◌≤◌, cond, nat_eq, T, List, [], ◌∷◌}
 use Rattle.std.specs.List.{AllByRecursion}
 use Rattle.std.specs.declared.cmp.Ordering.{Ordering}
-use Rattle.std.specs.FinMap.Entries.{is_sorted}
+use Rattle.std.specs.FinMap.Entries.{is_sorted, find}
+use Rattle.std.specs.Option.{is_some}
 use Rattle.fuxi_terms.specs.Counts.{count, set_count, change_between}
 
 module _ {K : Type 0} (R : K → K → Ordering) where
@@ -19,3 +20,7 @@ module _ {K : Type 0} (R : K → K → Ordering) where
   pub record AreNumbers (greatest : K → ℕ) (ns : List (K × ℕ)) : Type 0 where
     pub sorted : T (is_sorted R ns)
     pub within : AllByRecursion (λ n. n.1 ≤ greatest n.0) ns
+
+  -- another map that has these numbers at their keys, and else what the first one has
+  abbrev pub IsSetTo : List (K × ℕ) → List (K × ℕ) → List (K × ℕ) → Type 0
+  IsSetTo es ns fs = (q : K) → count R fs q ≡ cond (is_some (find R q ns)) (count R ns q) (count R es q)

@@ -2,7 +2,9 @@
 #![tactic(auto)]
 
 mod grants;
+mod laws;
 mod row;
 
 pub use grants::show_grants;
+pub use laws::{rows_follow_tables, set_numbers_make};
 pub use row::{RowNumber, show_row};

@@ -1,0 +1,25 @@
+//! What the numbers that are set have to be, so that a peer is shown what it should hold.
+
+ghost use Rattle.std.specs.Prelude.{◌≡◌, ℕ, List};
+ghost use Rattle.fuxi_terms.specs.Counts.{AreCounts};
+ghost use Rattle.fuxi_terms.specs.Jobs.{KnownJob};
+ghost use Rattle.fuxi_terms.specs.Keys.{RowKey, row_cmp, Spot, key_cmp};
+ghost use Rattle.fuxi_terms.specs.Rows.{greatest_row};
+ghost use Rattle.fuxi_terms.specs.TallyKeys.{greatest_grant};
+ghost use Rattle.fuxi_terms.specs.declared.Key.{Key};
+ghost use Rattle.publishing.specs.Setting.{numbers_set, AreNumbers, IsSetTo};
+ghost use Rattle.publishing.specs.Projecting.{row_of, RowFollows};
+
+/// A map that has the numbers at their keys, and else what another one has, is that one with the numbers set: of rows, and of
+/// the entries of grants.
+pub fn set_numbers_make()
+    ensures rows { (es ns fs : List (RowKey × ℕ)) → AreCounts row_cmp greatest_row es → AreCounts row_cmp greatest_row fs → AreNumbers row_cmp greatest_row ns → IsSetTo row_cmp es ns fs → numbers_set row_cmp es ns ≡ fs }
+    ensures grants { (es ns fs : List (Key × ℕ)) → AreCounts key_cmp greatest_grant es → AreCounts key_cmp greatest_grant fs → AreNumbers key_cmp greatest_grant ns → IsSetTo key_cmp es ns fs → numbers_set key_cmp es ns ≡ fs }
+{}
+
+/// Where the numbers are those of the spots that were touched on a machine, and all other spots there have the count that they had, the
+/// row of the old table with the numbers set is the row of the new one.
+pub fn rows_follow_tables()
+    ensures { (jobs : List KnownJob) (m : ℕ) (old new : List (Spot × ℕ)) (ns : List (RowKey × ℕ)) → AreCounts row_cmp greatest_row (row_of jobs m old) → AreCounts row_cmp greatest_row (row_of jobs m new) → AreNumbers row_cmp greatest_row ns
+        → RowFollows jobs m old new ns → numbers_set row_cmp (row_of jobs m old) ns ≡ row_of jobs m new }
+{}
