@@ -4,3 +4,4 @@ pub mod Walking
 pub mod Tallies
 pub mod Shown
 pub mod Following
+pub mod Granting

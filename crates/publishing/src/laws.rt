@@ -8,7 +8,7 @@ ghost use Rattle.fuxi_terms.specs.Rows.{greatest_row};
 ghost use Rattle.fuxi_terms.specs.TallyKeys.{greatest_grant};
 ghost use Rattle.fuxi_terms.specs.declared.Key.{Key};
 ghost use Rattle.publishing.specs.Setting.{numbers_set, AreNumbers, IsSetTo};
-ghost use Rattle.publishing.specs.Projecting.{row_of, RowFollows};
+ghost use Rattle.publishing.specs.Projecting.{row_of, RowFollows, grant_entries, GrantsFollow};
 
 /// A map that has the numbers at their keys, and else what another one has, is that one with the numbers set: of rows, and of
 /// the entries of grants.
@@ -22,4 +22,11 @@ pub fn set_numbers_make()
 pub fn rows_follow_tables()
     ensures { (jobs : List KnownJob) (m : ℕ) (old new : List (Spot × ℕ)) (ns : List (RowKey × ℕ)) → AreCounts row_cmp greatest_row (row_of jobs m old) → AreCounts row_cmp greatest_row (row_of jobs m new) → AreNumbers row_cmp greatest_row ns
         → RowFollows jobs m old new ns → numbers_set row_cmp (row_of jobs m old) ns ≡ row_of jobs m new }
+{}
+
+/// The same of the entries of grants: where each machine that is reported, each count of the job and each credited number is what it was,
+/// or what is set.
+pub fn grants_follow_tables()
+    ensures { (a : ℕ) (es ns : List (Key × ℕ)) (reported : List ℕ) (table : List (Spot × ℕ)) (credited : List (Key × ℕ)) → AreCounts key_cmp greatest_grant es → AreCounts key_cmp greatest_grant (grant_entries a reported table credited) → AreNumbers key_cmp greatest_grant ns
+        → GrantsFollow a es ns reported table credited → numbers_set key_cmp es ns ≡ grant_entries a reported table credited }
 {}
