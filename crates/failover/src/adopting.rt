@@ -32,8 +32,8 @@ pub enum AdoptFault {
     OutOfMemory,
 }
 
-// Whether an entry is kept: its job is known and has not ended, and has the unit with this size.
-fn is_kept(known: &Known, entry: &RowEntry) -> bool
+/// Whether an entry of a report is kept: its job is known and has not ended, and has the unit with this size. It takes no memory.
+pub fn is_kept(known: &Known, entry: &RowEntry) -> bool
     ensures { result ≡ is_kept known.now.jobs (row_key entry.now.app.0 entry.now.unit.0 entry.now.size.q) }
 {
     let Some(job) = known.job(entry.app) else {
