@@ -26,7 +26,7 @@ retable t s c M h = record { cluster = h.cluster; numbers = h.numbers; jobs = h.
 pub allots_itself : (x : AllotmentRecord) (c : ClusterRecord) (M N : Master) → Allots x c (record M { table = N.table }) → Allots x c (record M { table = x.table.entries })
 allots_itself x c M N h = record { placing = retable x.table x.placer.seen c (record M { table = N.table }) h.placing }
 
-touched_again : (x y z : AllotmentRecord) → Touches x y → Touches y z → Touches x z
+pub touched_again : (x y z : AllotmentRecord) → Touches x y → Touches y z → Touches x z
 touched_again x y z a b = record {
   kept = λ s e. b.kept s (a.kept s e);
   others = λ s f. b.others s f ∙ a.others s (missing s f (has_spot s y.touched) refl);

@@ -99,10 +99,13 @@ spot_behind s x (y ∷ ys) = ap (λ b. eq_by_cmp spot_cmp s y || b) (spot_behind
     grouped true = refl
     grouped false = refl
 
-pub fewer_touched : (es : List (Spot × ℕ)) (x : Spot) (k : ℕ) (ss : List Spot) → AreTouched es (without_count es x k) ss (ss ++ x ∷ [])
-fewer_touched es x k ss = record {
+pub set_touched : (es : List (Spot × ℕ)) (x : Spot) (n : ℕ) (ss : List Spot) → AreTouched es (set_count spot_cmp es x n) ss (ss ++ x ∷ [])
+set_touched es x n ss = record {
   kept = λ s e. spot_behind s x ss ∙ ap (λ b. b || eq_by_cmp spot_cmp s x) e;
   others = λ s f.
       let b = both_false (has_spot s ss) (eq_by_cmp spot_cmp s x) (sym (spot_behind s x ss) ∙ f) in
-      count-set_count spot_total es x (count spot_cmp es x - k) s ∙ ap (λ t. cond t (count spot_cmp es x - k) (count spot_cmp es s)) b.1;
+      count-set_count spot_total es x n s ∙ ap (λ t. cond t n (count spot_cmp es s)) b.1;
 }
+
+pub fewer_touched : (es : List (Spot × ℕ)) (x : Spot) (k : ℕ) (ss : List Spot) → AreTouched es (without_count es x k) ss (ss ++ x ∷ [])
+fewer_touched es x k ss = set_touched es x (count spot_cmp es x - k) ss

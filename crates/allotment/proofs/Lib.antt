@@ -5,3 +5,5 @@ mod Admitting
 mod Clearing
 mod Cleared
 mod Planning
+mod Victims
+mod Granting

@@ -9,6 +9,8 @@ use Rattle.grant_table.specs.Tables.{TableRecord, IsSound}
 use Rattle.grant_table.specs.declared.asking.Pick.{Pick}
 use Rattle.place_pass.specs.Best.{spot_of}
 use Rattle.place_pass.specs.Placers.{PlacerRecord, IsLevelWith, asks_seen}
+use Rattle.preempt.specs.declared.plan.Victim.{Victim}
+use Rattle.preempt.specs.Plans.{without_victims}
 use Rattle.settling.specs.Placing.{IsPlacing}
 use Rattle.settling.specs.Runs.{AreTouched}
 
@@ -45,3 +47,10 @@ pub record Clears (gone : Spot → Bool) (x y : AllotmentRecord) : Type 0 where
   pub touches : Touches x y
   pub table : y.table ≡ record x.table { entries = y.table.entries }
   pub counts : (s : Spot) → count spot_cmp y.table.entries s ≡ cond (gone s) 0 (count spot_cmp x.table.entries s)
+
+-- the victims on a machine are taken, unit by unit
+pub record TakesVictims (m : ℕ) (vs : List Victim) (x y : AllotmentRecord) : Type 0 where
+  pub stands : (c : ClusterRecord) (M : Master) → Allots x c M → Allots y c (record M { table = without_victims M.table m vs })
+  pub waits : AllWait y
+  pub touches : Touches x y
+  pub table : y.table ≡ record x.table { entries = without_victims x.table.entries m vs }

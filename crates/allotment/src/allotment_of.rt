@@ -5,7 +5,7 @@ use fuxi_terms::OutOfMemory;
 use grant_table::{GrantTable, Pick, Steps, admitted_jobs, set_numbers};
 use party_ledgers::Demand;
 use place_pass::{Placer, levels};
-use preempt::{Plan, find, lines};
+use preempt::{Plan, Victims, find, lines, taking};
 use schedule_unit::{AppNo, Job, MachineNo, UnitNo};
 use settling::{line_up, settle};
 use std::alloc::Global;
@@ -32,27 +32,27 @@ impl Model for Allotment {
 }
 
 impl Allotment {
-    ghost use Rattle.std.specs.Prelude.{◌≡◌, ℕ, ◌<◌, ◌≤◌, ◌^◌, ◌&&◌, not, nat_eq, nat_lt, cond, true, false, List, [], length, IfOk};
-    ghost use Rattle.fuxi_terms.specs.Cluster.{ClusterRecord};
-    ghost use Rattle.fuxi_terms.specs.Jobs.{is_known, unit_count};
+    ghost use Rattle.std.specs.Prelude.{◌≡◌, ℕ, ◌+◌, ◌<◌, ◌≤◌, ◌^◌, ◌&&◌, not, nat_eq, nat_lt, cond, true, false, List, [], length, IfOk};
+    ghost use Rattle.fuxi_terms.specs.Cluster.{ClusterRecord, has_at};
+    ghost use Rattle.fuxi_terms.specs.Jobs.{is_known, size_at, unit_count};
     ghost use Rattle.fuxi_terms.specs.Numbers.{has_number};
-    ghost use Rattle.fuxi_terms.specs.Tables.{spot, held_on};
+    ghost use Rattle.fuxi_terms.specs.Tables.{spot, held_on, total_at, with_grant, without_grants};
     ghost use Rattle.grant_table.specs.Tables.{as_known, with_admitted, without_count};
     ghost use Rattle.written_roles.specs.HardState.{with_job};
-    ghost use Rattle.written_roles.specs.Masters.{Master};
-    ghost use Rattle.written_roles.specs.Placing.{line_up, settled};
+    ghost use Rattle.written_roles.specs.Masters.{Master, asked};
+    ghost use Rattle.written_roles.specs.Placing.{granted, line_after, line_up, settled};
     ghost use Rattle.place_pass.specs.Placers.{IsUpToDate};
     ghost use Rattle.std.specs.Prelude.{IfSome, Some, slice_get};
     ghost use Rattle.std.specs.Option.{option_map};
     ghost use Rattle.place_pass.specs.Best.{spot_of};
-    ghost use Rattle.preempt.specs.Plans.{CanBeMade, plan_as};
-    ghost use Rattle.written_roles.specs.Preemption.{plan_of};
+    ghost use Rattle.preempt.specs.Plans.{AreTakable, CanBeMade, plan_as};
+    ghost use Rattle.written_roles.specs.Preemption.{plan_of, preempted};
     ghost use Rattle.std.specs.Ordering.{nat_cmp};
     ghost use Rattle.std.specs.FinMap.Entries.{put, where_key};
     ghost use Rattle.fuxi_terms.specs.Keys.{spot_cmp};
     ghost use Rattle.written_net.specs.Ledgers.{tally_ledger};
     ghost use Rattle.written_roles.specs.MasterSteps.{counted};
-    ghost use Rattle.allotment.specs.Allotted.{Allots, AllWait, Clears, Touches};
+    ghost use Rattle.allotment.specs.Allotted.{Allots, AllWait, Clears, TakesVictims, Touches};
 
     /// The allotment of a cluster, with no job, no grant and no open machine. It stands for a master that knows
     /// of no job and of no machine.
@@ -268,6 +268,72 @@ impl Allotment {
         levels();
         lines();
         find(alloc, &self.table, &self.placer, steps)
+    }
+
+    // The victims on a machine are taken, unit by unit.
+    fn take_victims(self, machine: MachineNo, victims: &Victims) -> Result<Allotment, OutOfMemory>
+        requires waits { AllWait self }
+        requires machine { machine.0 < length self.table.cluster.machines }
+        requires takable { AreTakable self.table machine.0 victims.now }
+        ensures { IfOk result (TakesVictims machine.0 victims.now self) }
+    {
+        taking();
+        let mut left = self;
+        for index in 0..victims.len() {
+            let victim = victims.at(index);
+            left = left.take(victim.app, victim.unit, machine, victim.count)?;
+        }
+        Ok(left)
+    }
+
+    // One grant more. A unit with nothing out any more leaves the line.
+    fn grant(self, pick: Pick) -> Result<Allotment, OutOfMemory>
+        requires waits { AllWait self }
+        requires unit { pick.unit.0 < unit_count (as_known self.table.jobs) pick.app.0 }
+        requires machine { pick.machine.0 < length self.table.cluster.machines }
+        requires few { held_on self.table.entries pick.app.0 pick.unit.0 pick.machine.0 < 100000 }
+        requires room { (i : ℕ) → total_at (as_known self.table.jobs) pick.machine.0 i self.table.entries + size_at (as_known self.table.jobs) pick.app.0 pick.unit.0 i ≤ has_at self.table.cluster pick.machine.0 i }
+        ensures stands { IfOk result (λ x. (c : ClusterRecord) (M : Master) → Allots self c M → Allots x c (granted M (spot_of pick))) }
+        ensures waits { IfOk result AllWait }
+        ensures touches { IfOk result (Touches self) }
+        ensures table { IfOk result (λ x. x.table ≡ record self.table { entries = with_grant self.table.entries (spot_of pick) }) }
+    {
+        levels();
+        set_numbers();
+        let Allotment {
+            table,
+            placer,
+            touched,
+        } = self;
+        let (mut table, mut placer, mut touched) = (table, placer, touched);
+        touched.push(pick)?;
+        table.grant(pick.app, pick.unit, pick.machine);
+        placer.changed(&table, pick.app, pick.unit, pick.machine);
+        let _sound = table.cluster();
+        Ok(Allotment {
+            table,
+            placer,
+            touched,
+        })
+    }
+
+    /// Carries a plan out: its victims are taken, and its grant is made. A unit that has nothing out any more leaves
+    /// the line at once. The plan can be carried out, and the unit that it serves has fewer than 100,000 grants on
+    /// the machine.
+    pub fn carry_out(self, plan: &Plan) -> Result<Allotment, OutOfMemory>
+        requires waits { AllWait self }
+        requires made { CanBeMade self.table plan.now }
+        requires few { held_on self.table.entries plan.now.pick.app.0 plan.now.pick.unit.0 plan.now.pick.machine.0 < 100000 }
+        ensures stands { IfOk result (λ x. (c : ClusterRecord) (M : Master) → Allots self c M
+            → Allots x c (record (preempted M (plan_as plan.now)) { line = line_after (asked M) (with_grant (without_grants M.table (plan_as plan.now).losers) (plan_as plan.now).served) M.line })) }
+        ensures waits { IfOk result AllWait }
+        ensures touches { IfOk result (Touches self) }
+    {
+        taking();
+        let _sound = self.table.cluster();
+        let pick = plan.pick;
+        let left = self.take_victims(pick.machine, &plan.victims)?;
+        left.grant(pick)
     }
 
     /// How many spots changed since they were last cleared.
