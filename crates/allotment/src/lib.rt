@@ -2,5 +2,7 @@
 #![tactic(auto)]
 
 mod allotment_of;
+mod law;
 
 pub use allotment_of::Allotment;
+pub use law::{ends_alike, lines_alike};
