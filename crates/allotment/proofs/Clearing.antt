@@ -126,6 +126,19 @@ cleared_spot x y a u m k all stands waits touches table = record {
   counts = λ s. ap (λ (t : TableRecord). count spot_cmp t.entries s) table ∙ count_cleared x.table.entries a u m k all s;
 }
 
+-- nothing is held there
+pub cleared_already : (x : AllotmentRecord) (a u m : ℕ) → AllWait x → held_on x.table.entries a u m ≡ 0 → Clears (λ s. nat_eq s.job a && (nat_eq s.unit u && nat_eq s.machine m)) x x
+cleared_already x a u m w none = let n = cleared_none x w in record {
+  stands = n.stands;
+  waits = n.waits;
+  touches = n.touches;
+  table = n.table;
+  counts = λ s. elim (eq_by_cmp spot_cmp s (spot a u m)) as (λ b. eq_by_cmp spot_cmp s (spot a u m) ≡ b → count spot_cmp x.table.entries s ≡ cond b 0 (count spot_cmp x.table.entries s)) [
+    | true ↦ λ e. ap (count spot_cmp x.table.entries) (same_spot s (spot a u m) (tied _ e)) ∙ none
+    | false ↦ λ _. refl
+  ] refl ∙ ap (λ b. cond b 0 (count spot_cmp x.table.entries s)) (is_spot s a u m);
+}
+
 -- a job has at most 8 units
 units_of_valid : (j : JobRecord) → IsTrue (is_valid_job 8 j) → length j.units ≤ 8
 units_of_valid j v = let t : not (nat_lt 8 (length j.units)) ≡ true = (both_true (not (nat_lt (length j.units) 1)) _ (both_true (is_between 1 8 (length j.units)) _ (both_true (nat_lt j.group 32) _ (both_true (nat_lt j.number 256) _ v).1).1).0).1 in grind (arith, nat_tests, t)
