@@ -7,3 +7,4 @@ mod Cleared
 mod Planning
 mod Victims
 mod Granting
+mod Crediting

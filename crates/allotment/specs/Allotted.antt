@@ -2,7 +2,11 @@
 use Rattle.std.specs.Prelude.{◌≡◌, ℕ, ◌<◌, Bool, true, cond, List, map}
 use Rattle.fuxi_terms.specs.Cluster.{ClusterRecord}
 use Rattle.fuxi_terms.specs.Counts.{count}
-use Rattle.fuxi_terms.specs.Keys.{Spot, spot_cmp}
+use Rattle.fuxi_terms.specs.Keys.{Spot, spot_cmp, key_cmp}
+use Rattle.fuxi_terms.specs.TallyKeys.{credited_key}
+use Rattle.fuxi_terms.specs.declared.Key.{Key}
+use Rattle.written_net.specs.Ledgers.{tally_ledger}
+use Rattle.written_roles.specs.MasterSteps.{counted, credit}
 use Rattle.written_roles.specs.Masters.{Master, out_of}
 use Rattle.written_roles.specs.Placing.{has_pair}
 use Rattle.grant_table.specs.Tables.{TableRecord, IsSound}
@@ -54,3 +58,12 @@ pub record TakesVictims (m : ℕ) (vs : List Victim) (x y : AllotmentRecord) : T
   pub waits : AllWait y
   pub touches : Touches x y
   pub table : y.table ≡ record x.table { entries = without_victims x.table.entries m vs }
+
+-- Of what these entries of a demand of a job give back and is not yet credited, the table loses what it has: each entry that names a unit and a
+-- machine that are there counts, and what is credited are the numbers of the given grants
+pub record CreditsBack (a : ℕ) (es given : List (Key × ℕ)) (x y : AllotmentRecord) : Type 0 where
+  pub stands : (c : ClusterRecord) (M : Master) (credited : List (Key × ℕ)) → Allots x c M → ((u m : ℕ) → count key_cmp credited (credited_key u m) ≡ count key_cmp given (credited_key u m))
+      → Allots y c (record M { table = credit a credited (counted c M.jobs a (tally_ledger 0 es)).entries M.table })
+  pub waits : AllWait y
+  pub touches : Touches x y
+  pub table : y.table ≡ record x.table { entries = y.table.entries }

@@ -1,9 +1,14 @@
 //! The table with its placer.
 
+ghost use Rattle.std.specs.Prelude.{◌≡◌};
+ghost use Rattle.fuxi_terms.specs.Counts.{count};
+ghost use Rattle.fuxi_terms.specs.Keys.{key_cmp};
+ghost use Rattle.fuxi_terms.specs.TallyKeys.{credited_key};
+
 use cluster_desc::Cluster;
-use fuxi_terms::OutOfMemory;
+use fuxi_terms::{Key, OutOfMemory};
 use grant_table::{GrantTable, Pick, Steps, admitted_jobs, set_numbers};
-use party_ledgers::Demand;
+use party_ledgers::{Demand, Grants};
 use place_pass::{Placer, levels};
 use preempt::{Plan, Victims, find, lines, taking};
 use schedule_unit::{AppNo, Job, MachineNo, UnitNo};
@@ -32,7 +37,7 @@ impl Model for Allotment {
 }
 
 impl Allotment {
-    ghost use Rattle.std.specs.Prelude.{◌≡◌, ℕ, ◌+◌, ◌<◌, ◌≤◌, ◌^◌, ◌&&◌, not, nat_eq, nat_lt, cond, true, false, List, [], length, IfOk};
+    ghost use Rattle.std.specs.Prelude.{◌∷◌, ◌≡◌, ℕ, ◌+◌, ◌<◌, ◌≤◌, ◌^◌, ◌&&◌, not, nat_eq, nat_lt, cond, true, false, List, [], length, IfOk};
     ghost use Rattle.fuxi_terms.specs.Cluster.{ClusterRecord, has_at};
     ghost use Rattle.fuxi_terms.specs.Jobs.{is_known, size_at, unit_count};
     ghost use Rattle.fuxi_terms.specs.Numbers.{has_number};
@@ -52,7 +57,7 @@ impl Allotment {
     ghost use Rattle.fuxi_terms.specs.Keys.{spot_cmp};
     ghost use Rattle.written_net.specs.Ledgers.{tally_ledger};
     ghost use Rattle.written_roles.specs.MasterSteps.{counted};
-    ghost use Rattle.allotment.specs.Allotted.{Allots, AllWait, Clears, TakesVictims, Touches};
+    ghost use Rattle.allotment.specs.Allotted.{Allots, AllWait, Clears, CreditsBack, TakesVictims, Touches};
 
     /// The allotment of a cluster, with no job, no grant and no open machine. It stands for a master that knows
     /// of no job and of no machine.
@@ -184,6 +189,49 @@ impl Allotment {
         let mut left = self;
         for number in 0..units.min(255) as u8 {
             left = left.clear(app, UnitNo(number), machine)?;
+        }
+        Ok(left)
+    }
+
+    // Of what one entry of a demand gives back and is not yet credited, the table loses what it has.
+    fn credit_one(
+        self,
+        app: AppNo,
+        key: Key,
+        back: u64,
+        given: &Grants,
+    ) -> Result<Allotment, OutOfMemory>
+        requires { AllWait self }
+        ensures { IfOk result (CreditsBack app.0 ((key, back) ∷ []) given.now.entries self) }
+    {
+        let units = self.table.units(app);
+        let machines = self.table.cluster().machines();
+        if key.what != 5 || key.unit as usize >= units || key.number >= machines {
+            return Ok(self);
+        }
+        let unit = UnitNo(key.unit);
+        let machine = MachineNo(key.number);
+        let held = self.table.held_on(app, unit, machine);
+        let open = back.saturating_sub(credited(given, key.unit, key.number));
+        self.take(app, unit, machine, open.min(u64::from(held)) as u32)
+    }
+
+    /// Of what a demand of a job gives back and is not yet credited, the table loses what it has. The grants that the job
+    /// was shown say what is credited. Entries count that name one of the job's units and a machine of the cluster.
+    pub fn credit(
+        self,
+        app: AppNo,
+        demand: &Demand,
+        given: &Grants,
+    ) -> Result<Allotment, OutOfMemory>
+        requires { AllWait self }
+        ensures credits { IfOk result (CreditsBack app.0 demand.now.entries given.now.entries self) }
+    {
+        let entries = demand.entries();
+        let mut left = self;
+        for index in 0..entries.len() {
+            let (key, back) = entries[index];
+            left = left.credit_one(app, key, back, given)?;
         }
         Ok(left)
     }
@@ -376,4 +424,15 @@ impl Allotment {
     {
         &self.placer
     }
+}
+
+// What is credited of a unit on a machine.
+fn credited(given: &Grants, unit: u8, machine: u32) -> u64
+    ensures { result ≡ count key_cmp given.now.entries (credited_key unit machine) }
+{
+    given.get(&Key {
+        what: 3,
+        unit,
+        number: machine,
+    })
 }
