@@ -10,7 +10,7 @@ use Rattle.fuxi_terms.specs.Keys.{Spot}
 use Rattle.fuxi_terms.specs.Tables.{spot, usage_at}
 use Rattle.fuxi_terms.specs.Vectors.{at_place}
 use Rattle.fuxi_terms.proofs.Alls.{all_append}
-use Rattle.fuxi_terms.proofs.Booleans.{both_true, number_is, both_false}
+use Rattle.fuxi_terms.proofs.Booleans.{both_true, not_false, number_is, both_false}
 use Rattle.fuxi_terms.proofs.ByPlace.{at_place-get_or}
 use Rattle.fuxi_terms.proofs.VectorLaws.{get_or-padded}
 use Rattle.cluster_desc.specs.Records.{machine_of}
@@ -95,11 +95,7 @@ closed_singles P m (e ∷ es) h = all_append P (so_many e.count (spot e.app.0 e.
 not_both : (loose : Loose) (g h : ℕ) → nat_eq g h ≡ false → is_loose loose g ≡ true → is_other_loose loose h ≡ false → ⊥
 not_both Nobody g h d a b = cc
 not_both Several g h d a b = cc
-not_both (One x) g h d a b = let e = number_is x g a in let f : nat_eq x h ≡ true = negated (nat_eq x h) b in let k = number_is x h f in let t : nat_eq g h ≡ true = grind (arith, nat_tests, e, k) in cc
-  where
-    negated : (b : Bool) → not b ≡ false → b ≡ true
-    negated true e = refl
-    negated false e = cc
+not_both (One x) g h d a b = let e = number_is x g a in let f : nat_eq x h ≡ true = not_false (nat_eq x h) b in let k = number_is x h f in let t : nat_eq g h ≡ true = grind (arith, nat_tests, e, k) in cc
 
 module _ (t : TableRecord) (groups : List GroupUse) (are : AreGroups t groups) (few : t.cluster.resources ≤ 8) where
   -- a group spares one grant beside nothing

@@ -12,6 +12,7 @@ use Rattle.std.proofs.lemmas.List.{append-nil}
 use Rattle.std.proofs.lemmas.Bool.Decides.{nat_tests}
 use Rattle.fuxi_terms.specs.Cluster.{is_narrow}
 use Rattle.fuxi_terms.proofs.Alls.{all_append}
+use Rattle.fuxi_terms.proofs.Booleans.{both_true, number_is}
 use Rattle.fuxi_terms.specs.Keys.{Spot, spot_cmp}
 use Rattle.written_roles.specs.Placing.{Board}
 use Rattle.written_roles.specs.Preemption.{goes_before_by, put_grant_by, in_walk_order_by, so_many, is_enough_in, taken_in, needed_in, is_some_set, victims_in}
@@ -118,23 +119,16 @@ both false b p = absurd p
 differ : (s f : Spot) (m : ℕ) → nat_eq s.machine m ≡ true → nat_eq f.machine m ≡ true → T (is_lt (spot_cmp s f)) → is_same_unit f s ≡ false
 differ s f m a b lt = by (is_same_unit f s) refl
   where
-    parts : (x y : Bool) → (x && y) ≡ true → (x ≡ true) × (y ≡ true)
-    parts true y e = (refl, e)
-    parts false y e = cc
-
-    number : (x y : ℕ) → nat_eq x y ≡ true → x ≡ y
-    number x y e = grind (arith, nat_tests)
-
     tied : (n : ℕ) → nat_cmp n n ≡ Equal
     tied n = tied_itself nat_cmp_total n
 
     by : (d : Bool) → is_same_unit f s ≡ d → is_same_unit f s ≡ false
     by false e = e
     by true e =
-        let p = parts (nat_eq f.job s.job) (nat_eq f.unit s.unit) e in
-        let j = number f.job s.job p.0 in
-        let u = number f.unit s.unit p.1 in
-        let m : f.machine ≡ s.machine = number f.machine m b ∙ sym (number s.machine m a) in
+        let p = both_true (nat_eq f.job s.job) (nat_eq f.unit s.unit) e in
+        let j = number_is f.job s.job p.0 in
+        let u = number_is f.unit s.unit p.1 in
+        let m : f.machine ≡ s.machine = number_is f.machine m b ∙ sym (number_is s.machine m a) in
         let equal : spot_cmp s f ≡ Equal = (λ i. ordering_then (nat_cmp s.job (j i)) (ordering_then (nat_cmp s.unit (u i)) (nat_cmp s.machine (m i)))) ∙ (λ i. ordering_then (tied s.job i) (ordering_then (tied s.unit i) (tied s.machine i))) in
         let no : T (is_lt Equal) = subst (λ r. T (is_lt r)) equal lt in
         absurd no
