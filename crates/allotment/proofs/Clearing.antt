@@ -18,6 +18,7 @@ use Rattle.grant_table.specs.Tables.{TableRecord, AreJobs, as_known, without_cou
 use Rattle.place_pass.specs.Placers.{SeenRecord}
 use Rattle.settling.specs.Placing.{IsPlacing, has_spot}
 use Rattle.allotment.specs.Allotted.{AllotmentRecord, Allots, AllWait, Clears, Touches}
+use Rattle.fuxi_terms.proofs.ValidJobs.{units_few}
 
 -- the same table, named by itself
 retable : (t : TableRecord) (s : SeenRecord) (c : ClusterRecord) (M : Master) → IsPlacing t s c M → IsPlacing t s c (record M { table = t.entries })
@@ -140,12 +141,9 @@ cleared_already x a u m w none = let n = cleared_none x w in record {
 }
 
 -- a job has at most 8 units
-units_of_valid : (j : JobRecord) → IsTrue (is_valid_job 8 j) → length j.units ≤ 8
-units_of_valid j v = let t : not (nat_lt 8 (length j.units)) ≡ true = (both_true (not (nat_lt (length j.units) 1)) _ (both_true (is_between 1 8 (length j.units)) _ (both_true (nat_lt j.group 32) _ (both_true (nat_lt j.number 256) _ v).1).1).0).1 in grind (arith, nat_tests, t)
-
-pub units_few : (js : List JobRecord) → AreJobs js → (a : ℕ) → unit_count (as_known js) a ≤ 8
-units_few [] h a = omega arith
-units_few (j ∷ js) h a = by (nat_eq j.number a) (units_of_valid j h.0) (units_few js h.1.1 a)
+pub table_units_few : (js : List JobRecord) → AreJobs js → (a : ℕ) → unit_count (as_known js) a ≤ 8
+table_units_few [] h a = omega arith
+table_units_few (j ∷ js) h a = by (nat_eq j.number a) (units_few j h.0) (table_units_few js h.1.1 a)
   where
     by : (b : Bool) → length j.units ≤ 8 → unit_count (as_known js) a ≤ 8 → length (unwrap_or (option_map (λ (k : KnownJob). k.job.units) (cond b (Some (record { job = j; ended = false })) (job_of (as_known js) a))) []) ≤ 8
     by true x y = x

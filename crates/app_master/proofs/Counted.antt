@@ -8,21 +8,15 @@ use Rattle.std.proofs.Math.Seq.{get_or-append_seam}
 use Rattle.std.proofs.lemmas.List.Folds.{list_any-append}
 use Rattle.fuxi_terms.specs.Lists.{below}
 use Rattle.fuxi_terms.specs.Numbers.{has_number}
-
-length-below : (n : ℕ) → length (below n) ≡ n
-length-below zero = refl
-length-below (suc n) = let r = length-below n in let a = length-append (below n) (n ∷ []) in omega (arith, r, a)
-
-either : (a b : Bool) → b ≡ true → (a || b) ≡ true
-either true b e = refl
-either false b e = e
+use Rattle.fuxi_terms.proofs.Lists.{length-below}
+use Rattle.fuxi_terms.proofs.Booleans.{or_right}
 
 -- a number below another is one of those
 pub is_below : (n m : ℕ) → m < n → has_number m (below n) ≡ true
 is_below zero m lt = absurd (omega (arith, lt))
 is_below (suc n) m lt = list_any-append (nat_eq m) (below n) (n ∷ []) ∙ elim (cases_lt m n) [
   | inl l ↦ ap (λ b. b || (nat_eq m n || false)) (is_below n m l)
-  | inr le ↦ let same : nat_eq m n ≡ true = grind (arith, nat_tests, lt, le) in either (has_number m (below n)) _ (ap (λ b. b || false) same)
+  | inr le ↦ let same : nat_eq m n ≡ true = grind (arith, nat_tests, lt, le) in or_right (has_number m (below n)) _ (ap (λ b. b || false) same)
 ]
 
 at_below : (n i : ℕ) → i < n → get_or (below n) i 0 ≡ i

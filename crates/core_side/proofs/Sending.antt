@@ -8,7 +8,7 @@ use Rattle.std.proofs.lemmas.List.{map-append}
 use Rattle.fuxi_terms.specs.Limits.{kept_changes, turn_deltas}
 use Rattle.fuxi_terms.specs.Lists.{numbers_from}
 use Rattle.fuxi_terms.specs.declared.answers.LedgerFault.{LedgerFault}
-use Rattle.fuxi_terms.proofs.Booleans.{and_true, both_true, nat_itself, both_false}
+use Rattle.fuxi_terms.proofs.Booleans.{and_true, both_true, nat_itself, both_false, or_left, or_right}
 use Rattle.fuxi_terms.proofs.Lists.{all_at}
 use Rattle.delta_channel.specs.Standing.{Sending, StandsFor}
 use Rattle.delta_channel.specs.declared.receiver.Place.{Place}
@@ -120,13 +120,6 @@ entry_stated {V} out first vs (suc n) v one is = by vs n is
     by [] n is = cc
     by (w ∷ vs) zero is = let same : w ≡ v = cc in ap out same
     by (w ∷ vs) (suc n) is = by vs n is
-
-or_left : (a b : Bool) → a ≡ true → (a || b) ≡ true
-or_left a b h = ap (λ t. t || b) h
-
-or_right : (a b : Bool) → b ≡ true → (a || b) ≡ true
-or_right true b h = refl
-or_right false b h = h
 
 -- the roles of a body's channel
 roles_of : (b : BodyHere) (k : KindHere) (from to : Role) → is_bare k ≡ false → IsBodyOf b k from to → IsTrue (to_agent from to || to_app from to || to_agent to from || to_app to from)

@@ -23,6 +23,22 @@ pub not_false : (b : Bool) → not b ≡ false → b ≡ true
 not_false true e = refl
 not_false false e = cc
 
+pub or_left : (a b : Bool) → a ≡ true → (a || b) ≡ true
+or_left true b e = refl
+or_left false b e = cc
+
+pub or_right : (a b : Bool) → b ≡ true → (a || b) ≡ true
+or_right true b e = refl
+or_right false b e = e
+
+pub or_false : (b : Bool) → (b || false) ≡ b
+or_false true = refl
+or_false false = refl
+
+pub and_false : (b : Bool) → (b && false) ≡ false
+and_false true = refl
+and_false false = refl
+
 -- two tests that imply one another are one
 pub same_tests : (p q : Bool) → (p ≡ true → q ≡ true) → (q ≡ true → p ≡ true) → p ≡ q
 same_tests true q f g = sym (f refl)
@@ -35,6 +51,9 @@ number_is a b e = grind (arith, nat_tests)
 
 pub nat_itself : (n : ℕ) → nat_eq n n ≡ true
 nat_itself n = grind (arith, nat_tests)
+
+pub eq_turned : (a b : ℕ) → nat_eq a b ≡ nat_eq b a
+eq_turned a b = same_tests (nat_eq a b) (nat_eq b a) (λ t. grind (arith, nat_tests, t)) (λ t. grind (arith, nat_tests, t))
 
 -- a choice has what both of its values have
 pub either : {A : Type 0} (P : A → Type 0) (b : Bool) (x y : A) → (b ≡ true → P x) → (b ≡ false → P y) → P (cond b x y)

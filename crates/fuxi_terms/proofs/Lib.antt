@@ -16,3 +16,4 @@ pub mod Sums
 pub mod Spots
 pub mod RowDifferences
 pub mod SameEntries
+pub mod ValidJobs

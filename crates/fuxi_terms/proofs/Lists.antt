@@ -1,11 +1,16 @@
 -- Lists that grow at their end, and loops that write the items of a list.
 use Rattle.std.proofs.Common.{◌≡◌, ℕ, zero, suc, ◌+◌, ◌<◌, List, [], ◌∷◌, ◌++◌, length, get_or, drop, append_assoc, drop-cons, refl, sym, ◌∙◌, ap, subst, arith, add-one, Some, slice_get}
 use Rattle.std.specs.List.{AllByRecursion, flat_map}
-use Rattle.fuxi_terms.specs.Lists.{numbers_from}
+use Rattle.std.proofs.lemmas.List.{length-append}
+use Rattle.fuxi_terms.specs.Lists.{numbers_from, below}
 
 pub one_more : (first n : ℕ) → numbers_from first (n + 1) ≡ numbers_from first n ++ (first + n) ∷ []
 one_more first zero = ap (λ k. k ∷ []) (omega arith)
 one_more first (suc n) = ap (λ k. numbers_from first k) (add-one (suc n)) ∙ ap (λ ks. first ∷ ks) (ap (λ k. numbers_from (first + 1) k) (sym (add-one n)) ∙ one_more (first + 1) n ∙ ap (λ k. numbers_from (first + 1) n ++ k ∷ []) (omega arith))
+
+pub length-below : (n : ℕ) → length (below n) ≡ n
+length-below zero = refl
+length-below (suc n) = let r = length-below n in let a = length-append (below n) (n ∷ []) in omega (arith, r, a)
 
 pub all_push : {A : Type 0} (P : A → Type 0) (xs : List A) (x : A) → AllByRecursion P xs → P x → AllByRecursion P (xs ++ x ∷ [])
 all_push P [] x all here = (here, tt)

@@ -10,17 +10,16 @@ use Rattle.std.proofs.lemmas.Map.Made.{length-le_from_is_member}
 use Rattle.std.specs.Option.{option_map, unwrap_or}
 use Rattle.fuxi_terms.specs.Cluster.{JobRecord}
 use Rattle.fuxi_terms.specs.Jobs.{KnownJob, job_of, unit_count}
-use Rattle.fuxi_terms.proofs.Lists.{all_at}
+use Rattle.fuxi_terms.proofs.Lists.{all_at, length-below}
 use Rattle.grant_table.specs.Tables.{as_known, AreJobs}
 use Rattle.place_pass.proofs.Places.{taken_last}
 use Rattle.fuxi_terms.specs.Lists.{below}
 use Rattle.fuxi_terms.specs.Numbers.{has_number}
-use Rattle.fuxi_terms.proofs.Booleans.{both_true, number_is, nat_itself}
+use Rattle.fuxi_terms.proofs.Booleans.{both_true, number_is, nat_itself, or_right, and_false}
 use Rattle.written_roles.specs.Placing.{has_pair}
 use Rattle.place_pass.specs.Cells.{Cell}
 use Rattle.place_pass.specs.Best.{AreAdmitted}
 use Rattle.place_pass.specs.Lines.{same_pair, units_in_all}
-use Rattle.place_pass.proofs.Places.{length-below}
 
 -- ---- pairs
 pub pair_is : (p q : ℕ × ℕ) → same_pair p q ≡ true → p ≡ q
@@ -54,10 +53,6 @@ pub or_none : (a b : Bool) → a ≡ false → b ≡ false → (a || b) ≡ fals
 or_none true b e f = cc
 or_none false b e f = f
 
-or_right : (a b : Bool) → b ≡ true → (a || b) ≡ true
-or_right true b e = refl
-or_right false b e = e
-
 pub none_filter : {A : Type 0} (f q : A → Bool) (xs : List A) → list_any f xs ≡ false → list_any f (filter q xs) ≡ false
 none_filter f q [] e = refl
 none_filter f q (x ∷ xs) e = let n = neither (f x) (list_any f xs) e in elim (q x) as (λ b. list_any f (cond b (x ∷ filter q xs) (filter q xs)) ≡ false) [
@@ -73,17 +68,13 @@ has_filter q p (x ∷ xs) = elim (same_pair p x) as (λ b. same_pair p x ≡ b �
       let same : q x ≡ q p = ap q (sym (pair_is p x t)) in
       ap (λ b. has_pair p (cond b (x ∷ filter q xs) (filter q xs))) same ∙ elim (q p) as (λ b. q p ≡ b → has_pair p (cond b (x ∷ filter q xs) (filter q xs)) ≡ b) [
         | true ↦ λ _. ap (λ b. b || has_pair p (filter q xs)) t
-        | false ↦ λ f. has_filter q p xs ∙ ap (λ b. has_pair p xs && b) f ∙ and_none (has_pair p xs)
+        | false ↦ λ f. has_filter q p xs ∙ ap (λ b. has_pair p xs && b) f ∙ and_false (has_pair p xs)
       ] refl
   | false ↦ λ f. elim (q x) as (λ b. has_pair p (cond b (x ∷ filter q xs) (filter q xs)) ≡ (has_pair p xs && q p)) [
     | true ↦ ap (λ b. b || has_pair p (filter q xs)) f ∙ has_filter q p xs
     | false ↦ has_filter q p xs
   ]
 ] refl
-  where
-    and_none : (b : Bool) → (b && false) ≡ false
-    and_none true = refl
-    and_none false = refl
 
 filter_last : {A : Type 0} (q : A → Bool) (xs : List A) (x : A) → filter q (xs ++ x ∷ []) ≡ filter q xs ++ cond (q x) (x ∷ []) []
 filter_last q [] x = refl

@@ -7,6 +7,7 @@ use Rattle.std.proofs.lemmas.Bool.Decides.{nat_tests}
 use Rattle.std.proofs.lemmas.List.{get_or-set_same, get_or-set_other, get_or-map, length-map, length-append}
 use Rattle.std.proofs.Math.ListN.{get_or-eq_default}
 use Rattle.fuxi_terms.specs.Lists.{below}
+use Rattle.fuxi_terms.proofs.Lists.{length-below}
 
 pub one_set : {X : Type 0} (xs : List X) (a b : ℕ) (y d : X) → a < length xs → get_or (set xs a y) b d ≡ cond (nat_eq a b) y (get_or xs b d)
 one_set xs a b y d lt = elim (nat_eq a b) as (λ t. nat_eq a b ≡ t → get_or (set xs a y) b d ≡ cond t y (get_or xs b d)) [
@@ -27,10 +28,6 @@ mapped_at f xs i d e same = elim (cases_lt i (length xs)) [
   | inl l ↦ get_or-map f xs i d e l
   | inr le ↦ get_or-eq_default (map f xs) e (let n = length-map xs f in omega (arith, n, le)) ∙ sym same ∙ ap f (sym (get_or-eq_default xs d le))
 ]
-
-pub length-below : (n : ℕ) → length (below n) ≡ n
-length-below zero = refl
-length-below (suc n) = let r = length-below n in let a = length-append (below n) (n ∷ []) in omega (arith, r, a)
 
 get_or-below : (n i : ℕ) → i < n → get_or (below n) i 0 ≡ i
 get_or-below zero i lt = absurd (omega (arith, lt))

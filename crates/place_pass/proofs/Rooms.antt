@@ -15,19 +15,11 @@ use Rattle.grant_table.specs.Tables.{TableRecord, as_known}
 use Rattle.fuxi_terms.specs.Cluster.{is_narrow}
 use Rattle.fuxi_terms.proofs.Members.{each_place, each_from}
 use Rattle.place_pass.specs.Placers.{IsNarrow}
-use Rattle.fuxi_terms.proofs.Booleans.{number_is, both_true, and_true, same_tests}
+use Rattle.fuxi_terms.proofs.Booleans.{number_is, both_true, and_true, same_tests, or_left, or_right}
 
 or_true : (a b : Bool) → (a || b) ≡ true → a ≡ false → b ≡ true
 or_true true b h f = cc
 or_true false b h f = h
-
-or_left : (a b : Bool) → a ≡ true → (a || b) ≡ true
-or_left true b h = refl
-or_left false b h = cc
-
-or_right : (a b : Bool) → b ≡ true → (a || b) ≡ true
-or_right true b h = refl
-or_right false b h = h
 
 module _ (t : TableRecord) (a u : ℕ) (size : List ℕ) (is : size ≡ (unit_of (as_known t.jobs) a u).size) (eight : length size ≤ 8) where
   size_is : (i : ℕ) → at_place size i ≡ size_at (as_known t.jobs) a u i

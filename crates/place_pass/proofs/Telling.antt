@@ -18,7 +18,7 @@ use Rattle.fuxi_terms.specs.Lists.{below}
 use Rattle.fuxi_terms.specs.Numbers.{has_number}
 use Rattle.fuxi_terms.specs.Tables.{spot, held}
 use Rattle.fuxi_terms.proofs.Alls.{all_more}
-use Rattle.fuxi_terms.proofs.Booleans.{number_is, nat_itself, both_true}
+use Rattle.fuxi_terms.proofs.Booleans.{number_is, nat_itself, both_true, eq_turned}
 use Rattle.fuxi_terms.proofs.Counting.{count_le}
 use Rattle.fuxi_terms.proofs.KeyOrders.{key_total, same_key}
 use Rattle.fuxi_terms.proofs.Sums.{sum_set}
@@ -299,10 +299,7 @@ module _ (asks : ℕ → Key → ℕ) (before after : TableRecord) (a u m : ℕ)
   other_out b v f = let h : held after.entries b v + 0 ≡ held before.entries b v + 0 = subst (λ t. held after.entries b v + cond t (count spot_cmp before.entries (spot a u m)) 0 ≡ held before.entries b v + cond t is.number 0) f (held_then b v) in omega (arith, h)
 
   turned : (b v : ℕ) → (nat_eq b a && nat_eq v u) ≡ (nat_eq a b && nat_eq u v)
-  turned b v = λ i. flip b a i && flip v u i
-    where
-      flip : (x y : ℕ) → nat_eq x y ≡ nat_eq y x
-      flip x y = elim (nat_eq x y) as (λ t. nat_eq x y ≡ t → t ≡ nat_eq y x) [ true ↦ λ t. let e = number_is x y t in sym (subst (λ z. nat_eq y z ≡ true) (sym e) (nat_itself y)) | false ↦ λ f. grind (arith, nat_tests, f) ] refl
+  turned b v = λ i. eq_turned b a i && eq_turned v u i
 
   -- the unit itself waits only where it waited
   itself : (nat_eq a a && nat_eq u u) ≡ true

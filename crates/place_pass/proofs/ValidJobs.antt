@@ -7,18 +7,6 @@ use Rattle.fuxi_terms.specs.Cluster.{JobRecord, UnitRecord, is_valid_job, is_val
 use Rattle.fuxi_terms.specs.Jobs.{no_unit}
 use Rattle.fuxi_terms.proofs.Booleans.{both_true, number_is}
 
-pub job_small : (j : JobRecord) → IsTrue (is_valid_job 8 j) → j.number < 256
-job_small j v = let t : nat_lt j.number 256 ≡ true = (both_true (nat_lt j.number 256) _ v).0 in grind (arith, nat_tests, t)
-
-units_between : (j : JobRecord) → IsTrue (is_valid_job 8 j) → is_between 1 8 (length j.units) ≡ true
-units_between j v = (both_true (is_between 1 8 (length j.units)) _ (both_true (nat_lt j.group 32) _ (both_true (nat_lt j.number 256) _ v).1).1).0
-
-pub units_few : (j : JobRecord) → IsTrue (is_valid_job 8 j) → length j.units ≤ 8
-units_few j v = let t : not (nat_lt 8 (length j.units)) ≡ true = (both_true (not (nat_lt (length j.units) 1)) _ (units_between j v)).1 in grind (arith, nat_tests, t)
-
-pub units_some : (j : JobRecord) → IsTrue (is_valid_job 8 j) → 1 ≤ length j.units
-units_some j v = let t : not (nat_lt (length j.units) 1) ≡ true = (both_true (not (nat_lt (length j.units) 1)) _ (units_between j v)).0 in grind (arith, nat_tests, t)
-
 pub sizes_eight : (j : JobRecord) → IsTrue (is_valid_job 8 j) → (u : ℕ) → u < length j.units → length (get_or j.units u no_unit).size ≡ 8
 sizes_eight j v u lt = at j.units u (both_true (is_between 1 8 (length j.units)) _ (both_true (nat_lt j.group 32) _ (both_true (nat_lt j.number 256) _ v).1).1).1 lt
   where

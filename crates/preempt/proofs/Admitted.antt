@@ -21,19 +21,12 @@ use Rattle.preempt.specs.Given.{board_of}
 use Rattle.preempt.specs.Walks.{units_in, all_units, backward, pairs_by_priority, entry_on}
 use Rattle.preempt.proofs.Buckets.{IsAfter, IsRising, walked}
 use Rattle.preempt.proofs.Listing.{listed_all}
+use Rattle.fuxi_terms.proofs.ValidJobs.{group_valid, units_valid, units_few}
+use Rattle.fuxi_terms.proofs.Lists.{length-below}
 
 -- ---- a valid job
 pub job_small : (j : JobRecord) → IsTrue (is_valid_job 8 j) → j.number < 256
 job_small j v = let t : nat_lt j.number 256 ≡ true = (both_true (nat_lt j.number 256) _ v).0 in grind (arith, nat_tests, t)
-
-pub group_valid : (j : JobRecord) → IsTrue (is_valid_job 8 j) → j.group < 32
-group_valid j v = let t : nat_lt j.group 32 ≡ true = (both_true (nat_lt j.group 32) _ (both_true (nat_lt j.number 256) _ v).1).0 in grind (arith, nat_tests, t)
-
-units_valid : (j : JobRecord) → IsTrue (is_valid_job 8 j) → (is_between 1 8 (length j.units) && list_all (is_valid_unit 8) j.units) ≡ true
-units_valid j v = (both_true (nat_lt j.group 32) _ (both_true (nat_lt j.number 256) _ v).1).1
-
-units_few : (j : JobRecord) → IsTrue (is_valid_job 8 j) → length j.units ≤ 8
-units_few j v = let t : not (nat_lt 8 (length j.units)) ≡ true = (both_true (not (nat_lt (length j.units) 1)) _ (both_true (is_between 1 8 (length j.units)) _ (units_valid j v)).0).1 in grind (arith, nat_tests, t)
 
 -- a unit of it, or none
 record IsProper (u : UnitRecord) : Type 0 where
@@ -171,17 +164,13 @@ all_from_zero : (js : List JobRecord) → AllByRecursion (λ (j : JobRecord). 0 
 all_from_zero [] = tt
 all_from_zero (j ∷ js) = (omega arith, all_from_zero js)
 
-length_below : (n : ℕ) → length (below n) ≡ n
-length_below zero = refl
-length_below (suc n) = let r = length_below n in let a = length-append (below n) (n ∷ []) in omega (arith, r, a)
-
 units_length : (js : List JobRecord) → AreJobs js → length (all_units js) ≤ 8 * length js
 units_length [] h = omega arith
 units_length (j ∷ js) h =
     let r = units_length js h.1.1 in
     let a = length-append (units_in j (length j.units)) (all_units js) in
     let m : length (units_in j (length j.units)) ≡ length (below (length j.units)) = length-map (below (length j.units)) (λ u. (j.number, u)) in
-    let b = length_below (length j.units) in
+    let b = length-below (length j.units) in
     let f = units_few j h.0 in
     omega (arith, r, a, m, b, f)
 

@@ -13,7 +13,8 @@ use Rattle.grant_table.specs.Tables.{TableRecord, IsSound, as_known}
 use Rattle.preempt.specs.declared.entry.Entry.{Entry}
 use Rattle.preempt.specs.Given.{IsEntry, pair_of}
 use Rattle.preempt.specs.Walks.{units_in, all_units, backward, of_priority, entries_by_priority, pairs_by_priority}
-use Rattle.preempt.proofs.Admitted.{job_found, valid_at, group_valid, few_units, ordered_length}
+use Rattle.preempt.proofs.Admitted.{job_found, valid_at, few_units, ordered_length}
+use Rattle.fuxi_terms.proofs.ValidJobs.{group_valid}
 
 -- a unit of the job at a place is an entry
 pub entry_found : (t : TableRecord) → IsSound t → (i : ℕ) (j : JobRecord) → slice_get t.jobs i ≡ Some j → (u : ℕ) (x : UnitRecord) → slice_get j.units u ≡ Some x → u < length j.units

@@ -15,7 +15,7 @@ use Rattle.fuxi_terms.specs.Numbers.{with_number}
 use Rattle.written_roles.specs.Masters.{Master}
 use Rattle.written_roles.specs.MasterSteps.{projected, talks, peers, is_one_of}
 use Rattle.written_net.proofs.NetLemmas.{id_is}
-use Rattle.fuxi_terms.proofs.Booleans.{number_is}
+use Rattle.fuxi_terms.proofs.Booleans.{number_is, or_false}
 use Rattle.written_net.specs.Sides.{Side, shown, appended}
 use Rattle.written_roles.specs.MasterRoles.{set_side, publish_alone, offers_alone, side_after}
 
@@ -47,10 +47,6 @@ pub shown_stays : (e : Side) (l : Ledger) → same_ledger (shown e) l ≡ true �
 shown_stays e l same = ap (λ b. cond (not b) (record { link = e.link; got = e.got; sent = e.sent ++ l ∷ [] }) e) same
 
 -- Which peers there are
-or_false : (b : Bool) → (b || false) ≡ b
-or_false true = refl
-or_false false = refl
-
 or_assoc : (a b c : Bool) → (a || (b || c)) ≡ ((a || b) || c)
 or_assoc true b c = refl
 or_assoc false b c = refl

@@ -21,6 +21,7 @@ use Rattle.written_world.specs.Safe.{place_for, grants_at, units_total_at, HeldO
 use Rattle.fuxi_terms.proofs.Booleans.{either}
 use Rattle.written_world.proofs.GrantsFit.{no_share, sum_le}
 use Rattle.written_world.proofs.Invariant.{put_found}
+use Rattle.fuxi_terms.proofs.Lists.{length-below}
 
 -- a ledger that names a machine is not the one at index 0
 named_first : (h : List Ledger) (n m : ℕ) → names (at_index nothing h n) m ≡ true → 1 ≤ n
@@ -31,10 +32,6 @@ usable_within : (net : Net Ledger) (p : Party) (u m : ℕ) → usable net p u m 
 usable_within net p u m = omega arith
 
 -- a value for each number below n
-length-below : (n : ℕ) → length (below n) ≡ n
-length-below zero = refl
-length-below (suc n) = let e = length-append (below n) (n ∷ []) in omega (arith, e, length-below n)
-
 got_append : {A : Type 0} (xs : List A) (y : A) (i : ℕ) (x : A) → slice_get (xs ++ y ∷ []) i ≡ Some x → (slice_get xs i ≡ Some x) ⊎ ((i ≡ length xs) × (y ≡ x))
 got_append [] y zero x e = inr (refl, cc)
 got_append [] y (suc i) x e = cc

@@ -15,7 +15,7 @@ use Rattle.written_roles.specs.Masters.{Master}
 use Rattle.written_roles.specs.MasterSteps.{master_party, peers, spot_row_key, is_one_of, adopts, adopted, take_report, take_demand, meet_app}
 use Rattle.written_world.specs.Parties.{projection, offers, told, adopted_now}
 use Rattle.written_world.specs.Good.{FitsMachines}
-use Rattle.fuxi_terms.proofs.Booleans.{both_false, either, number_is, same_tests}
+use Rattle.fuxi_terms.proofs.Booleans.{both_false, either, number_is, same_tests, or_false, eq_turned}
 use Rattle.written_net.proofs.NetLemmas.{id_is}
 use Rattle.written_net.proofs.PublishLemmas.{set_here, set_beside, publish_grows}
 use Rattle.written_world.proofs.SettledLemmas.{number_below, number_with}
@@ -104,10 +104,6 @@ shown_after c net R forced fits there before m = by (has_number m R.reported) re
         empty [] e = refl
         empty (x ∷ hs) e = absurd (let f : ⊥ = (let g : 0 < length (x ∷ hs) = omega arith in grind (arith, nat_tests, e, g)) in f)
 
-or_false : (b : Bool) → (b || false) ≡ b
-or_false true = refl
-or_false false = refl
-
 -- nothing forced, and the same machines reported
 pub rows_same : (m : ℕ) (sent : Bool) (forced : List Id) (old new : List ℕ) → is_one_of (agent_id m) forced ≡ false → new ≡ old → sent ≡ has_number m old → (sent || is_one_of (agent_id m) forced) ≡ has_number m new
 rows_same m sent forced old new none same e = ap (λ b. sent || b) none ∙ or_false sent ∙ e ∙ ap (has_number m) (sym same)
@@ -138,12 +134,9 @@ rows_told M h from l m sent e = by (is_agent from) refl
 
     adopting : is_agent from ≡ true → (a : Bool) → (sent || is_one_of (agent_id m) (cond a (from ∷ []) [])) ≡ has_number m (cond a (record M { reported = with_number from.number M.reported; table = cond (has_number from.number M.bans) M.table (adopted M.jobs from.number l.rows M.table) }) M).reported
     adopting r true =
-        let one : is_one_of (agent_id m) (from ∷ []) ≡ nat_eq m from.number = or_false _ ∙ ap (λ b. b && nat_eq from.number m) r ∙ flip from.number m in
+        let one : is_one_of (agent_id m) (from ∷ []) ≡ nat_eq m from.number = or_false _ ∙ ap (λ b. b && nat_eq from.number m) r ∙ eq_turned from.number m in
         ap (λ b. sent || b) one ∙ ap (λ b. b || nat_eq m from.number) e ∙ turn (has_number m M.reported) (nat_eq m from.number) ∙ sym (with_is m from.number M.reported)
       where
-        flip : (a b : ℕ) → nat_eq a b ≡ nat_eq b a
-        flip a b = same_tests (nat_eq a b) (nat_eq b a) (λ t. grind (arith, nat_tests, t)) (λ t. grind (arith, nat_tests, t))
-
         turn : (a b : Bool) → (a || b) ≡ (b || a)
         turn true true = refl
         turn true false = refl

@@ -3,7 +3,7 @@ use Rattle.std.specs.Prelude.{◌&&◌}
 use Rattle.fuxi_terms.specs.Jobs.{unit_count}
 use Rattle.grant_table.specs.Tables.{as_known}
 use Rattle.allotment.specs.Allotted.{AllotmentRecord, Clears}
-use Rattle.allotment.proofs.Clearing.{cleared_as, cleared_both, unit_more, units_few}
+use Rattle.allotment.proofs.Clearing.{cleared_as, cleared_both, unit_more, table_units_few}
 use Rattle.allotment.proofs.allotment_of.Allotment.clear_units.Goals as goal
 
 pub loop-number-preserved : goal.loop-number-preserved
@@ -12,7 +12,7 @@ loop-number-preserved c = cleared_as _ _ _ _ (unit_more c.args.app.0 c.loop-numb
 pub returns : goal.returns
 returns c =
     let same = ap (λ (x : AllotmentRecord). unit_count (as_known x.table.jobs) c.args.app.0) c.self.view_is in
-    let few = units_few c.self.inside.table.jobs c.self.invariant.sound.in_order c.args.app.0 in
+    let few = table_units_few c.self.inside.table.jobs c.self.invariant.sound.in_order c.args.app.0 in
     let number = c.units-units.ensures.number in
     let end = c.min-number-end.ensures in
     let over = c.loop-number-test.false in

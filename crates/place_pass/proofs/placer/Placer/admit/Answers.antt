@@ -4,7 +4,7 @@ use Rattle.grant_table.specs.Tables.{with_admitted}
 use Rattle.place_pass.specs.Cells.{WishesRecord, job_at, asks_in, fresh_cell, fresh_cells}
 use Rattle.place_pass.specs.Best.{AreAdmitted}
 use Rattle.place_pass.specs.Placers.{PlacerRecord, AreLevel, IsLevelWith, IsPlacer, job_seen, asks_seen}
-use Rattle.place_pass.proofs.ValidJobs.{job_small, units_few, units_some}
+use Rattle.fuxi_terms.proofs.ValidJobs.{job_small, units_few, units_some}
 use Rattle.place_pass.proofs.Telling.{units_small, units_more, admitted_more, empty_slot, job_admitted, asks_admitted, unknown_there, level_admitted}
 use Rattle.place_pass.proofs.placer.Placer.admit.Goals as goal
 
