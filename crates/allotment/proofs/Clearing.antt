@@ -1,11 +1,11 @@
 -- All grants at some spots are gone.
-use Rattle.std.proofs.Common.{◌≡◌, ℕ, ◌+◌, ◌-◌, ◌≤◌, Bool, true, false, cond, nat_eq, nat_lt, List, refl, sym, ◌∙◌, ap, arith}
-use Rattle.std.specs.Prelude.{◌&&◌, ◌||◌, not, [], ◌∷◌, length, IsTrue, IfOk, Result, Ok, Err, Some}
+use Rattle.std.proofs.Common.{◌≡◌, ℕ, ◌+◌, ◌-◌, ◌≤◌, Bool, true, false, cond, nat_eq, nat_lt, List, refl, sym, ◌∙◌, ap, subst, arith}
+use Rattle.std.specs.Prelude.{◌&&◌, ◌||◌, [], ◌∷◌, length, IfOk, Result, Ok, Err, Some}
 use Rattle.std.specs.Option.{unwrap_or, option_map}
 use Rattle.std.specs.Ordering.{eq_by_cmp, is_eq}
 use Rattle.std.specs.Cmp.{tied_itself}
 use Rattle.std.proofs.lemmas.Bool.Decides.{nat_tests}
-use Rattle.fuxi_terms.specs.Cluster.{ClusterRecord, JobRecord, is_valid_job, is_between}
+use Rattle.fuxi_terms.specs.Cluster.{ClusterRecord, JobRecord}
 use Rattle.fuxi_terms.specs.Jobs.{KnownJob, job_of, unit_count}
 use Rattle.fuxi_terms.specs.Counts.{count}
 use Rattle.fuxi_terms.specs.Keys.{Spot, spot_cmp}
@@ -17,6 +17,7 @@ use Rattle.written_roles.specs.Masters.{Master}
 use Rattle.grant_table.specs.Tables.{TableRecord, AreJobs, as_known, without_count}
 use Rattle.place_pass.specs.Placers.{SeenRecord}
 use Rattle.settling.specs.Placing.{IsPlacing, has_spot}
+use Rattle.settling.specs.Runs.{AreTouched}
 use Rattle.allotment.specs.Allotted.{AllotmentRecord, Allots, AllWait, Clears, Touches}
 use Rattle.fuxi_terms.proofs.ValidJobs.{units_few}
 
@@ -29,20 +30,30 @@ allots_itself x c M N h = record { placing = retable x.table x.placer.seen c (re
 
 pub touched_again : (x y z : AllotmentRecord) → Touches x y → Touches y z → Touches x z
 touched_again x y z a b = record {
-  kept = λ s e. b.kept s (a.kept s e);
-  others = λ s f. b.others s f ∙ a.others s (missing s f (has_spot s y.touched) refl);
+  spots = record {
+    kept = λ s e. b.spots.kept s (a.spots.kept s e);
+    others = λ s f. b.spots.others s f ∙ a.spots.others s (missing s f (has_spot s y.touched) refl);
+  };
+  turns = b.turns ∙ a.turns;
 }
   where
     missing : (s : Spot) → has_spot s z.touched ≡ false → (r : Bool) → has_spot s y.touched ≡ r → r ≡ false
     missing s f false e = refl
-    missing s f true e = let t = b.kept s e in cc
+    missing s f true e = let t = b.spots.kept s e in cc
+
+-- and then the line is brought up to date
+pub touched_still : (x y z : AllotmentRecord) → Touches x y → z.table ≡ y.table → z.touched ≡ y.touched → AreTouched x.table.entries z.table.entries x.touched z.touched
+touched_still x y z a table touched = subst (λ (ss : List Spot). AreTouched x.table.entries z.table.entries x.touched ss) (sym touched) (subst (λ (t : TableRecord). AreTouched x.table.entries t.entries x.touched y.touched) (sym table) a.spots)
+
+pub untouched : (x : AllotmentRecord) → Touches x x
+untouched x = record { spots = record { kept = λ s e. e; others = λ s f. refl }; turns = refl }
 
 -- nothing is gone
 pub cleared_none : (x : AllotmentRecord) → AllWait x → Clears (λ s. false) x x
 cleared_none x w = record {
   stands = λ c M h. record { placing = retable x.table x.placer.seen c M h.placing };
   waits = w;
-  touches = record { kept = λ s e. e; others = λ s f. refl };
+  touches = untouched x;
   table = refl;
   counts = λ s. refl;
 }
@@ -67,7 +78,7 @@ pub cleared_as : (g h : Spot → Bool) (x y : AllotmentRecord) → ((s : Spot) �
 cleared_as g h x y same a = record { stands = a.stands; waits = a.waits; touches = a.touches; table = a.table; counts = λ s. a.counts s ∙ ap (λ b. cond b 0 (count spot_cmp x.table.entries s)) (same s) }
 
 -- one spot
-is_spot : (s : Spot) (a u m : ℕ) → eq_by_cmp spot_cmp s (spot a u m) ≡ (nat_eq s.job a && (nat_eq s.unit u && nat_eq s.machine m))
+pub is_spot : (s : Spot) (a u m : ℕ) → eq_by_cmp spot_cmp s (spot a u m) ≡ (nat_eq s.job a && (nat_eq s.unit u && nat_eq s.machine m))
 is_spot s a u m = same_tests _ _ to from
   where
     to : eq_by_cmp spot_cmp s (spot a u m) ≡ true → (nat_eq s.job a && (nat_eq s.unit u && nat_eq s.machine m)) ≡ true

@@ -1,5 +1,5 @@
 -- What is given back is taken, entry by entry.
-use Rattle.std.proofs.Common.{◌≡◌, ℕ, zero, suc, ◌+◌, ◌-◌, ◌<◌, min, Bool, true, cond, nat_eq, nat_lt, List, [], ◌∷◌, ◌++◌, length, filter, take, Some, slice_get, refl, sym, ◌∙◌, ap, subst, arith, add-one}
+use Rattle.std.proofs.Common.{◌≡◌, ℕ, ◌+◌, ◌-◌, ◌<◌, min, Bool, true, cond, nat_eq, nat_lt, List, [], ◌∷◌, ◌++◌, length, filter, take, Some, slice_get, refl, sym, ◌∙◌, ap, subst, arith}
 use Rattle.std.specs.Prelude.{◌&&◌, ◌||◌}
 use Rattle.std.proofs.lemmas.Bool.Decides.{nat_tests}
 use Rattle.std.proofs.lemmas.List.Elements.{filter-append}
@@ -16,25 +16,21 @@ use Rattle.written_roles.specs.MasterSteps.{credit, is_there}
 use Rattle.grant_table.specs.Tables.{TableRecord, as_known, without_count}
 use Rattle.allotment.specs.Allotted.{AllotmentRecord, Allots, AllWait, Touches, CreditsBack}
 use Rattle.allotment.proofs.Asking.{same_units}
-use Rattle.allotment.proofs.Clearing.{touched_again}
+use Rattle.allotment.proofs.Clearing.{touched_again, untouched}
+use Rattle.allotment.proofs.Victims.{take_last}
 
 credit_behind : (a : ℕ) (cs es fs : List (Key × ℕ)) (t : List (Spot × ℕ)) → credit a cs (es ++ fs) t ≡ credit a cs fs (credit a cs es t)
 credit_behind a cs [] fs t = refl
 credit_behind a cs (e ∷ es) fs t = credit_behind a cs es fs _
 
-entry_more : (es : List (Key × ℕ)) (i : ℕ) (e : Key × ℕ) → slice_get es i ≡ Some e → take (i + 1) es ≡ take i es ++ e ∷ []
-entry_more [] i e h = cc
-entry_more (y ∷ ys) zero e h = let same : y ≡ e = cc in ap (λ z. z ∷ []) same
-entry_more (y ∷ ys) (suc i) e h = rw add-one (ap (λ zs. y ∷ zs) (sym (ap (λ k. take k ys) (add-one i)) ∙ entry_more ys i e h))
-
 pub credits_none : (a : ℕ) (g : List (Key × ℕ)) (x : AllotmentRecord) → AllWait x → CreditsBack a [] g x x
-credits_none a g x w = record { stands = λ c M cs h agree. h; waits = w; touches = record { kept = λ s e. e; others = λ s f. refl }; table = refl }
+credits_none a g x w = record { stands = λ c M cs h agree. h; waits = w; touches = untouched x; table = refl }
 
 pub credits_more : (a : ℕ) (es g : List (Key × ℕ)) (i : ℕ) (e : Key × ℕ) (x y z : AllotmentRecord) → slice_get es i ≡ Some e → CreditsBack a (take i es) g x y → CreditsBack a (e ∷ []) g y z → CreditsBack a (take (i + 1) es) g x z
 credits_more a es g i e x y z at before last = record {
   stands = λ c M cs h agree.
       let p : Key × ℕ → Bool = λ f. is_there c (unit_count M.jobs a) f.0 in
-      let all : filter p (take (i + 1) es) ≡ filter p (take i es) ++ filter p (e ∷ []) = ap (filter p) (entry_more es i e at) ∙ filter-append p (take i es) (e ∷ []) in
+      let all : filter p (take (i + 1) es) ≡ filter p (take i es) ++ filter p (e ∷ []) = ap (filter p) (take_last es i e at) ∙ filter-append p (take i es) (e ∷ []) in
       subst (λ t. Allots z c (record M { table = t })) (sym (ap (λ fs. credit a cs fs M.table) all ∙ credit_behind a cs (filter p (take i es)) (filter p (e ∷ [])) M.table))
       (last.stands c (record M { table = credit a cs (filter p (take i es)) M.table }) cs (before.stands c M cs h agree) agree);
   waits = last.waits;

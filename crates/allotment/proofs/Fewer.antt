@@ -17,6 +17,7 @@ use Rattle.grant_table.specs.Tables.{TableRecord, without_count}
 use Rattle.place_pass.specs.Placers.{SeenRecord, asks_seen, line_told}
 use Rattle.settling.specs.Placing.{IsPlacing, has_spot}
 use Rattle.settling.specs.Runs.{AreTouched}
+use Rattle.allotment.specs.Allotted.{AllotmentRecord, Allots, AllWait, Touches, told_at}
 
 -- ---- what is said of the sums when a number is set
 abbrev pub HeldLaw : Type 0
@@ -109,3 +110,18 @@ set_touched es x n ss = record {
 
 pub fewer_touched : (es : List (Spot × ℕ)) (x : Spot) (k : ℕ) (ss : List Spot) → AreTouched es (without_count es x k) ss (ss ++ x ∷ [])
 fewer_touched es x k ss = set_touched es x (count spot_cmp es x - k) ss
+
+-- so they are taken
+pub record IsFewer (s : Spot) (k : ℕ) (x y : AllotmentRecord) : Type 0 where
+  pub stands : (c : ClusterRecord) (M : Master) → Allots x c M → Allots y c (record M { table = without_count M.table s k })
+  pub waits : AllWait y
+  pub touches : Touches x y
+  pub table : y.table ≡ record x.table { entries = without_count x.table.entries s k }
+
+pub fewer_told : HeldLaw → (x : AllotmentRecord) → T (is_sorted spot_cmp x.table.entries) → AllWait x → (a u m k : ℕ) → IsFewer (spot a u m) k x (told_at (record x.table { entries = without_count x.table.entries (spot a u m) k }) x.placer.seen x.touched (spot a u m))
+fewer_told law x sorted wait a u m k = record {
+  stands = λ c M h. record { placing = fewer_placing law x.table x.placer.seen sorted a u m k wait.each c M h.placing };
+  waits = record { each = fewer_wait law x.table x.placer.seen sorted a u m k wait.each };
+  touches = record { spots = fewer_touched x.table.entries (spot a u m) k x.touched; turns = refl };
+  table = refl;
+}

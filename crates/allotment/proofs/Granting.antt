@@ -1,4 +1,4 @@
--- A grant is made.
+-- Grants are made at one spot.
 use Rattle.std.proofs.Common.{◌≡◌, ℕ, ◌+◌, ◌-◌, ◌<◌, Bool, true, false, cond, not, nat_eq, nat_lt, List, [], ◌∷◌, filter, refl, sym, ◌∙◌, ap, arith}
 use Rattle.std.specs.Prelude.{◌&&◌, ◌||◌, T}
 use Rattle.std.specs.FinMap.Entries.{is_sorted}
@@ -6,14 +6,15 @@ use Rattle.std.proofs.lemmas.Bool.Decides.{nat_tests}
 use Rattle.fuxi_terms.specs.Cluster.{ClusterRecord}
 use Rattle.fuxi_terms.specs.Counts.{count}
 use Rattle.fuxi_terms.specs.Keys.{spot_cmp}
-use Rattle.fuxi_terms.specs.Tables.{spot, held, with_grant}
+use Rattle.fuxi_terms.specs.Tables.{spot, held}
 use Rattle.fuxi_terms.proofs.Booleans.{both_true, and_true, number_is, nat_itself}
-use Rattle.written_roles.specs.Masters.{Master, out_of}
-use Rattle.written_roles.specs.Placing.{has_pair, granted}
-use Rattle.grant_table.specs.Tables.{TableRecord}
+use Rattle.written_roles.specs.Masters.{Master, asked, out_of}
+use Rattle.written_roles.specs.Placing.{has_pair, line_after}
+use Rattle.grant_table.specs.Tables.{TableRecord, with_count}
 use Rattle.place_pass.specs.Placers.{SeenRecord, asks_seen, line_told}
 use Rattle.settling.specs.Placing.{IsPlacing}
-use Rattle.allotment.proofs.Fewer.{HeldLaw}
+use Rattle.allotment.specs.Allotted.{AllotmentRecord, AllWait, Adds, told_at}
+use Rattle.allotment.proofs.Fewer.{HeldLaw, set_touched}
 
 abbrev is_pair : ℕ → ℕ → ℕ × ℕ → Bool
 is_pair a u p = nat_eq p.0 a && nat_eq p.1 u
@@ -67,23 +68,34 @@ same_held : (b : Bool) (x y n k : ℕ) → b ≡ false → x + cond b n 0 ≡ y 
 same_held true x y n k f e = cc
 same_held false x y n k f e = omega (arith, e)
 
-module _ (law : HeldLaw) (t : TableRecord) (s : SeenRecord) (sorted : T (is_sorted spot_cmp t.entries)) (a u m : ℕ) (wait : (a u : ℕ) → has_pair (a, u) s.line ≡ true → 0 < out_of (asks_seen s) t.entries a u) where
-  abbrev pub with_one : TableRecord
-  with_one = record t { entries = with_grant t.entries (spot a u m) }
+-- where all that pass one test pass another, a list that was tested by the other passes the one alike
+pub filter_twice : (q w : ℕ × ℕ → Bool) (line : List (ℕ × ℕ)) → ((p : ℕ × ℕ) → q p ≡ true → w p ≡ true) → filter q (filter w line) ≡ filter q line
+filter_twice q w [] h = refl
+filter_twice q w (p ∷ ps) h = by (filter_twice q w ps h) (w p) refl (q p) refl
+  where
+    by : filter q (filter w ps) ≡ filter q ps → (b : Bool) → w p ≡ b → (d : Bool) → q p ≡ d → filter q (cond (w p) (p ∷ filter w ps) (filter w ps)) ≡ cond (q p) (p ∷ filter q ps) (filter q ps)
+    by r true e true f = ap (λ t. filter q (cond t (p ∷ filter w ps) (filter w ps))) e ∙ ap (λ t. cond t (p ∷ filter q (filter w ps)) (filter q (filter w ps))) f ∙ ap (λ xs. p ∷ xs) r ∙ ap (λ t. cond t (p ∷ filter q ps) (filter q ps)) (sym f)
+    by r true e false f = ap (λ t. filter q (cond t (p ∷ filter w ps) (filter w ps))) e ∙ ap (λ t. cond t (p ∷ filter q (filter w ps)) (filter q (filter w ps))) f ∙ r ∙ ap (λ t. cond t (p ∷ filter q ps) (filter q ps)) (sym f)
+    by r false e true f = let t = h p f in cc
+    by r false e false f = ap (λ t. filter q (cond t (p ∷ filter w ps) (filter w ps))) e ∙ r ∙ ap (λ t. cond t (p ∷ filter q ps) (filter q ps)) (sym f)
+
+module _ (law : HeldLaw) (t : TableRecord) (s : SeenRecord) (sorted : T (is_sorted spot_cmp t.entries)) (a u m n : ℕ) (wait : (a u : ℕ) → has_pair (a, u) s.line ≡ true → 0 < out_of (asks_seen s) t.entries a u) where
+  abbrev pub with_more : TableRecord
+  with_more = record t { entries = with_count t.entries (spot a u m) n }
 
   abbrev pub hears : SeenRecord
-  hears = record s { line = line_told s with_one a u }
+  hears = record s { line = line_told s with_more a u }
 
   abbrev waits : ℕ × ℕ → Bool
-  waits p = nat_lt 0 (out_of (asks_seen s) with_one.entries p.0 p.1)
+  waits p = nat_lt 0 (out_of (asks_seen s) with_more.entries p.0 p.1)
 
   others_wait : (p : ℕ × ℕ) → has_pair p s.line ≡ true → is_pair a u p ≡ false → waits p ≡ true
   others_wait p e f =
       let some = wait p.0 p.1 e in
-      let l = law t.entries (spot a u m) (count spot_cmp t.entries (spot a u m) + 1) p.0 p.1 sorted in
+      let l = law t.entries (spot a u m) (count spot_cmp t.entries (spot a u m) + n) p.0 p.1 sorted in
       let g : (nat_eq a p.0 && nat_eq u p.1) ≡ false = turned in
-      let h : held with_one.entries p.0 p.1 ≡ held t.entries p.0 p.1 = same_held (nat_eq a p.0 && nat_eq u p.1) _ _ (count spot_cmp t.entries (spot a u m)) (count spot_cmp t.entries (spot a u m) + 1) g l in
-      let lt : 0 < out_of (asks_seen s) with_one.entries p.0 p.1 = omega (arith, some, h) in
+      let h : held with_more.entries p.0 p.1 ≡ held t.entries p.0 p.1 = same_held (nat_eq a p.0 && nat_eq u p.1) _ _ (count spot_cmp t.entries (spot a u m)) (count spot_cmp t.entries (spot a u m) + n) g l in
+      let lt : 0 < out_of (asks_seen s) with_more.entries p.0 p.1 = omega (arith, some, h) in
       grind (arith, nat_tests, lt)
     where
       turned : (nat_eq a p.0 && nat_eq u p.1) ≡ false
@@ -97,25 +109,33 @@ module _ (law : HeldLaw) (t : TableRecord) (s : SeenRecord) (sorted : T (is_sort
               let z : is_pair a u p ≡ true = and_true (nat_eq p.0 a) (nat_eq p.1 u) (grind (arith, nat_tests, x)) (grind (arith, nat_tests, y)) in
               absurd (let w : ⊥ = cc in w)
 
-  line_is : line_told s with_one a u ≡ filter waits s.line
+  line_is : line_told s with_more a u ≡ filter waits s.line
   line_is = sym (kept_line waits a u s.line others_wait)
 
-  pub grant_placing : (c : ClusterRecord) (M : Master) → IsPlacing t s c M → IsPlacing with_one hears c (granted M (spot a u m))
-  grant_placing c M h =
+  pub more_placing : (c : ClusterRecord) (M : Master) → IsPlacing t s c M → IsPlacing with_more hears c (record M { table = with_count M.table (spot a u m) n; line = line_after (asked M) (with_count M.table (spot a u m) n) M.line })
+  more_placing c M h =
       let entries = h.entries in
       let line = h.line in
       record {
         cluster = h.cluster;
         numbers = h.numbers;
         jobs = h.jobs;
-        entries = ap (λ es. with_grant es (spot a u m)) entries;
+        entries = ap (λ es. with_count es (spot a u m) n) entries;
         wants = h.wants;
         near = h.near;
         racks = h.racks;
         avoids = h.avoids;
         usable = h.usable;
-        line = line_is ∙ (λ i. filter (λ (p : ℕ × ℕ). nat_lt 0 (h.wants p.0 p.1 i - held (with_grant (entries i) (spot a u m)) p.0 p.1)) (line i));
+        line = line_is ∙ (λ i. filter (λ (p : ℕ × ℕ). nat_lt 0 (h.wants p.0 p.1 i - held (with_count (entries i) (spot a u m) n) p.0 p.1)) (line i));
       }
 
-  pub grant_waits : (b v : ℕ) → has_pair (b, v) hears.line ≡ true → 0 < out_of (asks_seen hears) with_one.entries b v
-  grant_waits b v e = let p = passes waits s.line b v (ap (has_pair (b, v)) (sym line_is) ∙ e) in grind (arith, nat_tests, p)
+  pub more_wait : (b v : ℕ) → has_pair (b, v) hears.line ≡ true → 0 < out_of (asks_seen hears) with_more.entries b v
+  more_wait b v e = let p = passes waits s.line b v (ap (has_pair (b, v)) (sym line_is) ∙ e) in grind (arith, nat_tests, p)
+
+pub adds_told : HeldLaw → (x : AllotmentRecord) → T (is_sorted spot_cmp x.table.entries) → AllWait x → (a u m n : ℕ) → Adds (spot a u m) n x (told_at (record x.table { entries = with_count x.table.entries (spot a u m) n }) x.placer.seen x.touched (spot a u m))
+adds_told law x sorted wait a u m n = record {
+  stands = λ c M h. record { placing = more_placing law x.table x.placer.seen sorted a u m n wait.each c M h.placing };
+  waits = record { each = more_wait law x.table x.placer.seen sorted a u m n wait.each };
+  touches = record { spots = set_touched x.table.entries (spot a u m) (count spot_cmp x.table.entries (spot a u m) + n) x.touched; turns = refl };
+  table = refl;
+}

@@ -8,3 +8,4 @@ mod Planning
 mod Victims
 mod Granting
 mod Crediting
+mod Adopting

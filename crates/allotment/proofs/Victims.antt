@@ -14,19 +14,19 @@ use Rattle.grant_table.specs.Tables.{TableRecord, as_known, without_count}
 use Rattle.preempt.specs.declared.plan.Victim.{Victim}
 use Rattle.preempt.specs.Plans.{without_victims, is_unit, same_unit, IsTakable, AreTakable}
 use Rattle.allotment.specs.Allotted.{AllotmentRecord, Allots, AllWait, Touches, TakesVictims}
-use Rattle.allotment.proofs.Clearing.{touched_again}
+use Rattle.allotment.proofs.Clearing.{touched_again, untouched}
 
-take_more : (vs : List Victim) (i : ℕ) (v : Victim) → slice_get vs i ≡ Some v → take (i + 1) vs ≡ take i vs ++ v ∷ []
-take_more [] i v e = cc
-take_more (y ∷ ys) zero v e = let same : y ≡ v = cc in ap (λ z. z ∷ []) same
-take_more (y ∷ ys) (suc i) v e = rw add-one (ap (λ zs. y ∷ zs) (sym (ap (λ k. take k ys) (add-one i)) ∙ take_more ys i v e))
+pub take_last : {A : Type 0} (xs : List A) (i : ℕ) (x : A) → slice_get xs i ≡ Some x → take (i + 1) xs ≡ take i xs ++ x ∷ []
+take_last [] i x e = cc
+take_last (y ∷ ys) zero x e = let same : y ≡ x = cc in ap (λ z. z ∷ []) same
+take_last (y ∷ ys) (suc i) x e = rw add-one (ap (λ zs. y ∷ zs) (sym (ap (λ k. take k ys) (add-one i)) ∙ take_last ys i x e))
 
 behind : (vs : List Victim) (es : List (Spot × ℕ)) (m : ℕ) (v : Victim) → without_victims es m (vs ++ v ∷ []) ≡ without_count (without_victims es m vs) (spot v.app.0 v.unit.0 m) v.count
 behind [] es m v = refl
 behind (w ∷ ws) es m v = behind ws (without_count es (spot w.app.0 w.unit.0 m) w.count) m v
 
 pub one_more : (vs : List Victim) (es : List (Spot × ℕ)) (m i : ℕ) (v : Victim) → slice_get vs i ≡ Some v → without_victims es m (take (i + 1) vs) ≡ without_count (without_victims es m (take i vs)) (spot v.app.0 v.unit.0 m) v.count
-one_more vs es m i v e = ap (without_victims es m) (take_more vs i v e) ∙ behind (take i vs) es m v
+one_more vs es m i v e = ap (without_victims es m) (take_last vs i v e) ∙ behind (take i vs) es m v
 
 turned : (v w : Victim) → same_unit w v ≡ false → is_unit v.app.0 v.unit.0 w ≡ false
 turned v w f = by (is_unit v.app.0 v.unit.0 w) refl
@@ -47,7 +47,7 @@ apart_before (w ∷ ws) (suc i) v d e = (turned v w (all_at (λ y. same_unit w y
 
 -- nothing is taken yet
 pub takes_none : (m : ℕ) (x : AllotmentRecord) → AllWait x → TakesVictims m [] x x
-takes_none m x w = record { stands = λ c M h. h; waits = w; touches = record { kept = λ s e. e; others = λ s f. refl }; table = refl }
+takes_none m x w = record { stands = λ c M h. h; waits = w; touches = untouched x; table = refl }
 
 abbrev pub OthersLaw : Type 0
 OthersLaw = (es : List (Spot × ℕ)) (m n a u : ℕ) (vs : List Victim) → AllByRecursion (λ v. is_unit a u v ≡ false) vs → held_on (without_victims es m vs) a u n ≡ held_on es a u n

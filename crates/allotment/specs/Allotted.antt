@@ -1,18 +1,20 @@
 -- What a table of grants with its placer stands for, and which spots changed.
-use Rattle.std.specs.Prelude.{◌≡◌, ℕ, ◌<◌, Bool, true, cond, List, map}
+use Rattle.std.specs.Prelude.{◌≡◌, ℕ, ◌<◌, Bool, true, cond, List, [], ◌∷◌, ◌++◌, map}
 use Rattle.fuxi_terms.specs.Cluster.{ClusterRecord}
 use Rattle.fuxi_terms.specs.Counts.{count}
-use Rattle.fuxi_terms.specs.Keys.{Spot, spot_cmp, key_cmp}
+use Rattle.fuxi_terms.specs.Keys.{RowKey, Spot, spot_cmp, key_cmp}
+use Rattle.fuxi_terms.specs.Tables.{spot}
+use Rattle.std.specs.FinMap.Entries.{put}
 use Rattle.fuxi_terms.specs.TallyKeys.{credited_key}
 use Rattle.fuxi_terms.specs.declared.Key.{Key}
 use Rattle.written_net.specs.Ledgers.{tally_ledger}
 use Rattle.written_roles.specs.MasterSteps.{counted, credit}
-use Rattle.written_roles.specs.Masters.{Master, out_of}
-use Rattle.written_roles.specs.Placing.{has_pair}
-use Rattle.grant_table.specs.Tables.{TableRecord, IsSound}
+use Rattle.written_roles.specs.Masters.{Master, asked, out_of}
+use Rattle.written_roles.specs.Placing.{has_pair, line_after}
+use Rattle.grant_table.specs.Tables.{TableRecord, IsSound, with_count}
 use Rattle.grant_table.specs.declared.asking.Pick.{Pick}
 use Rattle.place_pass.specs.Best.{spot_of}
-use Rattle.place_pass.specs.Placers.{PlacerRecord, IsLevelWith, asks_seen}
+use Rattle.place_pass.specs.Placers.{PlacerRecord, SeenRecord, IsLevelWith, IsSetFrom, asks_seen, line_told}
 use Rattle.preempt.specs.declared.plan.Victim.{Victim}
 use Rattle.preempt.specs.Plans.{without_victims}
 use Rattle.settling.specs.Placing.{IsPlacing}
@@ -40,9 +42,28 @@ pub record Allots (x : AllotmentRecord) (c : ClusterRecord) (M : Master) : Type 
 pub record AllWait (x : AllotmentRecord) : Type 0 where
   pub each : (a u : ℕ) → has_pair (a, u) x.placer.seen.line ≡ true → 0 < out_of (asks_seen x.placer.seen) x.table.entries a u
 
--- no spot is forgotten, and one that is not among those that changed has its number still
-abbrev pub Touches : AllotmentRecord → AllotmentRecord → Type 0
-Touches x y = AreTouched x.table.entries y.table.entries x.touched y.touched
+-- no spot is forgotten, one that is not among those that changed has its number still, and the next unit that begins to wait gets the number
+-- that it would have got
+pub record Touches (x y : AllotmentRecord) : Type 0 where
+  pub spots : AreTouched x.table.entries y.table.entries x.touched y.touched
+  pub turns : y.placer.seen.turns ≡ x.placer.seen.turns
+
+-- a table after the number at one spot was set, and a placer that was level with the table before
+pub record IsSetAt (p : PlacerRecord) (t : TableRecord) (s : Spot) : Type 0 where
+  pub before : TableRecord
+  pub level : IsLevelWith p before
+  pub set : IsSetFrom before t s
+
+-- the placer was told of the spot, and it is among those that changed
+abbrev pub told_at : TableRecord → SeenRecord → List Spot → Spot → AllotmentRecord
+told_at t s touched p = record { table = t; placer = record { seen = record s { line = line_told s t p.job p.unit } }; touched = touched ++ p ∷ [] }
+
+-- so many grants more at a spot. The units with nothing out have left the line
+pub record Adds (s : Spot) (n : ℕ) (x y : AllotmentRecord) : Type 0 where
+  pub stands : (c : ClusterRecord) (M : Master) → Allots x c M → Allots y c (record M { table = with_count M.table s n; line = line_after (asked M) (with_count M.table s n) M.line })
+  pub waits : AllWait y
+  pub touches : Touches x y
+  pub table : y.table ≡ record x.table { entries = with_count x.table.entries s n }
 
 -- all grants at these spots are gone, and every other spot has its number still. It stands for the master with that table
 pub record Clears (gone : Spot → Bool) (x y : AllotmentRecord) : Type 0 where
@@ -67,3 +88,15 @@ pub record CreditsBack (a : ℕ) (es given : List (Key × ℕ)) (x y : Allotment
   pub waits : AllWait y
   pub touches : Touches x y
   pub table : y.table ≡ record x.table { entries = y.table.entries }
+
+-- the entries of a machine's row are put into the table
+abbrev pub rows_put : ℕ → List (RowKey × ℕ) → List (Spot × ℕ) → List (Spot × ℕ)
+rows_put m [] table = table
+rows_put m (e ∷ es) table = rows_put m es (put spot_cmp (spot e.0.job e.0.unit m) e.1 table)
+
+-- the entries of a machine's row are in the table. The units with nothing out have left the line
+pub record AddsRow (m : ℕ) (es : List (RowKey × ℕ)) (x y : AllotmentRecord) : Type 0 where
+  pub stands : (c : ClusterRecord) (M : Master) → Allots x c M → Allots y c (record M { table = y.table.entries; line = line_after (asked M) y.table.entries M.line })
+  pub waits : AllWait y
+  pub touches : Touches x y
+  pub table : y.table ≡ record x.table { entries = rows_put m es x.table.entries }

@@ -1,16 +1,21 @@
 //! The table with its placer.
 
-ghost use Rattle.std.specs.Prelude.{◌≡◌};
+ghost use Rattle.std.specs.Prelude.{◌≡◌, ◌<◌, length, map, IfOk};
 ghost use Rattle.fuxi_terms.specs.Counts.{count};
 ghost use Rattle.fuxi_terms.specs.Keys.{key_cmp};
 ghost use Rattle.fuxi_terms.specs.TallyKeys.{credited_key};
+ghost use Rattle.fuxi_terms.specs.Jobs.{unit_count};
+ghost use Rattle.grant_table.specs.Tables.{as_known};
+ghost use Rattle.place_pass.specs.Best.{spot_of};
+ghost use Rattle.allotment.specs.Allotted.{IsSetAt, told_at};
 
+use crate::law::lines_alike;
 use cluster_desc::Cluster;
 use fuxi_terms::{Key, OutOfMemory};
 use grant_table::{GrantTable, Pick, Steps, admitted_jobs, set_numbers};
-use party_ledgers::{Demand, Grants};
+use party_ledgers::{Demand, Grants, RowLedger};
 use place_pass::{Placer, levels};
-use preempt::{Plan, Victims, find, lines, taking};
+use preempt::{Plan, Victims, find, lines, planning, taking};
 use schedule_unit::{AppNo, Job, MachineNo, UnitNo};
 use settling::{line_up, settle};
 use std::alloc::Global;
@@ -37,16 +42,16 @@ impl Model for Allotment {
 }
 
 impl Allotment {
-    ghost use Rattle.std.specs.Prelude.{◌∷◌, ◌≡◌, ℕ, ◌+◌, ◌<◌, ◌≤◌, ◌^◌, ◌&&◌, not, nat_eq, nat_lt, cond, true, false, List, [], length, IfOk};
+    ghost use Rattle.std.specs.Prelude.{◌∷◌, ◌≡◌, ℕ, ◌+◌, ◌*◌, ◌<◌, ◌≤◌, ◌^◌, ◌&&◌, not, nat_eq, nat_lt, cond, true, false, List, [], length, map, IfOk};
     ghost use Rattle.fuxi_terms.specs.Cluster.{ClusterRecord, has_at};
     ghost use Rattle.fuxi_terms.specs.Jobs.{is_known, size_at, unit_count};
     ghost use Rattle.fuxi_terms.specs.Numbers.{has_number};
     ghost use Rattle.fuxi_terms.specs.Tables.{spot, held_on, total_at, with_grant, without_grants};
     ghost use Rattle.grant_table.specs.Tables.{as_known, with_admitted, without_count};
     ghost use Rattle.written_roles.specs.HardState.{with_job};
-    ghost use Rattle.written_roles.specs.Masters.{Master, asked};
+    ghost use Rattle.written_roles.specs.Masters.{Master, asked, out_of};
     ghost use Rattle.written_roles.specs.Placing.{granted, line_after, line_up, settled};
-    ghost use Rattle.place_pass.specs.Placers.{IsUpToDate};
+    ghost use Rattle.place_pass.specs.Placers.{IsUpToDate, asks_seen};
     ghost use Rattle.std.specs.Prelude.{IfSome, Some, slice_get};
     ghost use Rattle.std.specs.Option.{option_map};
     ghost use Rattle.place_pass.specs.Best.{spot_of};
@@ -57,7 +62,11 @@ impl Allotment {
     ghost use Rattle.fuxi_terms.specs.Keys.{spot_cmp};
     ghost use Rattle.written_net.specs.Ledgers.{tally_ledger};
     ghost use Rattle.written_roles.specs.MasterSteps.{counted};
-    ghost use Rattle.allotment.specs.Allotted.{Allots, AllWait, Clears, CreditsBack, TakesVictims, Touches};
+    ghost use Rattle.std.specs.List.{AllByRecursion};
+    ghost use Rattle.fuxi_terms.specs.Vectors.{at_place};
+    ghost use Rattle.fuxi_terms.specs.Rows.{row_total};
+    ghost use Rattle.settling.specs.Runs.{AreTouched};
+    ghost use Rattle.allotment.specs.Allotted.{Adds, AddsRow, Allots, AllWait, Clears, CreditsBack, TakesVictims, Touches, rows_put};
 
     /// The allotment of a cluster, with no job, no grant and no open machine. It stands for a master that knows
     /// of no job and of no machine.
@@ -65,6 +74,7 @@ impl Allotment {
         ensures stands { IfOk result (λ x. (M : Master) → M.jobs ≡ [] → M.table ≡ [] → M.demands ≡ [] → M.line ≡ [] → M.reported ≡ [] → Allots x cluster.now M) }
         ensures waits { IfOk result AllWait }
         ensures touched { IfOk result (λ x. x.touched ≡ []) }
+        ensures turns { IfOk result (λ x. x.placer.seen.turns ≡ 0) }
     {
         let table = GrantTable::start(alloc, cluster)?;
         let placer = Placer::start(alloc, cluster)?;
@@ -83,6 +93,7 @@ impl Allotment {
         ensures waits { IfOk result (λ x. AllWait self → AllWait x) }
         ensures table { IfOk result (λ x. x.table ≡ record self.table { jobs = with_admitted job.now self.table.jobs }) }
         ensures touched { IfOk result (λ x. x.touched ≡ self.touched) }
+        ensures turns { IfOk result (λ x. x.placer.seen.turns ≡ self.placer.seen.turns) }
     {
         levels();
         admitted_jobs();
@@ -111,6 +122,7 @@ impl Allotment {
         ensures waits { AllWait self.old → AllWait self.new }
         ensures table { self.new.table ≡ self.old.table }
         ensures touched { self.new.touched ≡ self.old.touched }
+        ensures turns { self.new.placer.seen.turns ≡ self.old.placer.seen.turns }
     {
         levels();
         self.placer.open(machine, usable);
@@ -124,6 +136,7 @@ impl Allotment {
             → Allots self.new c (record M { demands = put nat_cmp app.0 (counted c M.jobs app.0 (tally_ledger head demand.now.entries)) M.demands }) }
         ensures table { self.new.table ≡ self.old.table }
         ensures touched { self.new.touched ≡ self.old.touched }
+        ensures turns { self.new.placer.seen.turns ≡ self.old.placer.seen.turns }
     {
         levels();
         self.placer.asked(&self.table, app, demand);
@@ -146,23 +159,15 @@ impl Allotment {
         ensures touches { IfOk result (Touches self) }
         ensures table { IfOk result (λ x. x.table ≡ record self.table { entries = without_count self.table.entries (spot app.0 unit.0 machine.0) count }) }
     {
-        levels();
         set_numbers();
         let Allotment {
             table,
             placer,
             touched,
         } = self;
-        let (mut table, mut placer, mut touched) = (table, placer, touched);
-        touched.push(Pick { app, unit, machine })?;
+        let mut table = table;
         table.take(app, unit, machine, count);
-        placer.changed(&table, app, unit, machine);
-        let _sound = table.cluster();
-        Ok(Allotment {
-            table,
-            placer,
-            touched,
-        })
+        told(table, placer, touched, Pick { app, unit, machine })
     }
 
     // All grants of a unit on a machine are gone.
@@ -280,6 +285,7 @@ impl Allotment {
         ensures up { IsUpToDate self.new.placer.seen self.new.table }
         ensures table { self.new.table ≡ self.old.table }
         ensures touched { self.new.touched ≡ self.old.touched }
+        ensures turns { self.new.placer.seen.turns ≤ self.old.placer.seen.turns + 2048 }
     {
         line_up(&self.table, &mut self.placer);
     }
@@ -289,6 +295,8 @@ impl Allotment {
         requires { IsUpToDate self.placer.seen self.table }
         ensures stands { IfOk result (λ x. (c : ClusterRecord) (M : Master) → Allots self c M → M.serving ≡ true → Allots x c (settled c M)) }
         ensures waits { IfOk result AllWait }
+        ensures up { IfOk result (λ x. IsUpToDate x.placer.seen x.table) }
+        ensures table { IfOk result (λ x. x.table ≡ record self.table { entries = x.table.entries }) }
         ensures touches { IfOk result (Touches self) }
     {
         let Allotment {
@@ -315,10 +323,19 @@ impl Allotment {
         requires { IsUpToDate self.now.placer.seen self.now.table }
         ensures plan { IfOk result (λ found. (c : ClusterRecord) (M : Master) → Allots self.now c M → option_map plan_as found ≡ plan_of c M) }
         ensures made { IfOk result (λ found. IfSome found (CanBeMade self.now.table)) }
+        ensures few { IfOk result (λ found. IfSome found (λ plan. held_on self.now.table.entries plan.pick.app.0 plan.pick.unit.0 plan.pick.machine.0 < 100000)) }
     {
         levels();
         lines();
-        find(alloc, &self.table, &self.placer, steps)
+        planning();
+        match find(alloc, &self.table, &self.placer, steps)? {
+            Some(plan) => {
+                let pick = plan.pick;
+                let _out = self.placer.out(&self.table, pick.app, pick.unit);
+                Ok(Some(plan))
+            }
+            None => Ok(None),
+        }
     }
 
     // The victims on a machine are taken, unit by unit.
@@ -337,69 +354,110 @@ impl Allotment {
         Ok(left)
     }
 
-    // One grant more. A unit with nothing out any more leaves the line.
-    fn grant(self, pick: Pick) -> Result<Allotment, OutOfMemory>
+    // So many grants more. A unit with nothing out any more leaves the line.
+    fn add(self, pick: Pick, count: u32) -> Result<Allotment, OutOfMemory>
         requires waits { AllWait self }
         requires unit { pick.unit.0 < unit_count (as_known self.table.jobs) pick.app.0 }
         requires machine { pick.machine.0 < length self.table.cluster.machines }
-        requires few { held_on self.table.entries pick.app.0 pick.unit.0 pick.machine.0 < 100000 }
-        requires room { (i : ℕ) → total_at (as_known self.table.jobs) pick.machine.0 i self.table.entries + size_at (as_known self.table.jobs) pick.app.0 pick.unit.0 i ≤ has_at self.table.cluster pick.machine.0 i }
-        ensures stands { IfOk result (λ x. (c : ClusterRecord) (M : Master) → Allots self c M → Allots x c (granted M (spot_of pick))) }
-        ensures waits { IfOk result AllWait }
-        ensures touches { IfOk result (Touches self) }
-        ensures table { IfOk result (λ x. x.table ≡ record self.table { entries = with_grant self.table.entries (spot_of pick) }) }
+        requires few { held_on self.table.entries pick.app.0 pick.unit.0 pick.machine.0 + count ≤ 100000 }
+        requires room { (i : ℕ) → total_at (as_known self.table.jobs) pick.machine.0 i self.table.entries + count * size_at (as_known self.table.jobs) pick.app.0 pick.unit.0 i ≤ has_at self.table.cluster pick.machine.0 i }
+        ensures { IfOk result (Adds (spot_of pick) count self) }
     {
-        levels();
         set_numbers();
         let Allotment {
             table,
             placer,
             touched,
         } = self;
-        let (mut table, mut placer, mut touched) = (table, placer, touched);
-        touched.push(pick)?;
-        table.grant(pick.app, pick.unit, pick.machine);
-        placer.changed(&table, pick.app, pick.unit, pick.machine);
-        let _sound = table.cluster();
-        Ok(Allotment {
-            table,
-            placer,
-            touched,
-        })
+        let mut table = table;
+        table.add(pick.app, pick.unit, pick.machine, count);
+        told(table, placer, touched, pick)
     }
 
-    /// Carries a plan out: its victims are taken, and its grant is made. A unit that has nothing out any more leaves
-    /// the line at once. The plan can be carried out, and the unit that it serves has fewer than 100,000 grants on
-    /// the machine.
+    // The entries of a row are put into the table, one after the other. A unit with nothing out any more leaves the line.
+    fn add_row(self, machine: MachineNo, kept: &RowLedger) -> Result<Allotment, OutOfMemory>
+        requires waits { AllWait self }
+        requires machine { machine.0 < length self.table.cluster.machines }
+        requires none { (a u : ℕ) → held_on self.table.entries a u machine.0 ≡ 0 }
+        requires units { AllByRecursion (λ e. (e.0.unit < unit_count (as_known self.table.jobs) e.0.job) × ((i : ℕ) → size_at (as_known self.table.jobs) e.0.job e.0.unit i ≡ at_place e.0.size i)) kept.now }
+        requires fits { (i : ℕ) → at_place (row_total kept.now) i ≤ has_at self.table.cluster machine.0 i }
+        ensures { IfOk result (AddsRow machine.0 kept.now self) }
+    {
+        set_numbers();
+        let _sound = self.table.cluster();
+        let mut left = self;
+        for index in 0..kept.len() {
+            let entry = kept.at(index);
+            let pick = Pick {
+                app: entry.app,
+                unit: entry.unit,
+                machine,
+            };
+            left = left.add(pick, entry.count)?;
+        }
+        Ok(left)
+    }
+
+    /// Grants that a machine reports, on a machine that has none yet, enter the table; then the line is brought up to date. The
+    /// entries name units that are there, with their sizes, and fit what the machine has.
+    pub fn adopt(self, machine: MachineNo, kept: &RowLedger) -> Result<Allotment, OutOfMemory>
+        requires waits { AllWait self }
+        requires machine { machine.0 < length self.table.cluster.machines }
+        requires none { (a u : ℕ) → held_on self.table.entries a u machine.0 ≡ 0 }
+        requires units { AllByRecursion (λ e. (e.0.unit < unit_count (as_known self.table.jobs) e.0.job) × ((i : ℕ) → size_at (as_known self.table.jobs) e.0.job e.0.unit i ≡ at_place e.0.size i)) kept.now }
+        requires fits { (i : ℕ) → at_place (row_total kept.now) i ≤ has_at self.table.cluster machine.0 i }
+        requires turns { self.placer.seen.turns < 2 ^ 63 }
+        ensures stands { IfOk result (λ x. (c : ClusterRecord) (M : Master) → Allots self c M → Allots x c (line_up (record M { table = rows_put machine.0 kept.now M.table }))) }
+        ensures waits { IfOk result AllWait }
+        ensures up { IfOk result (λ x. IsUpToDate x.placer.seen x.table) }
+        ensures spots { IfOk result (λ x. AreTouched self.table.entries x.table.entries self.touched x.touched) }
+        ensures table { IfOk result (λ x. x.table ≡ record self.table { entries = rows_put machine.0 kept.now self.table.entries }) }
+        ensures turns { IfOk result (λ x. x.placer.seen.turns ≤ self.placer.seen.turns + 2048) }
+    {
+        lines_alike();
+        let mut left = self.add_row(machine, kept)?;
+        left.line_up();
+        Ok(left)
+    }
+
+    /// Carries a plan out: its victims are taken, and its grant is made; then the line is brought up to date. The plan can be
+    /// carried out, and the unit that it serves has fewer than 100,000 grants on the machine.
     pub fn carry_out(self, plan: &Plan) -> Result<Allotment, OutOfMemory>
         requires waits { AllWait self }
         requires made { CanBeMade self.table plan.now }
         requires few { held_on self.table.entries plan.now.pick.app.0 plan.now.pick.unit.0 plan.now.pick.machine.0 < 100000 }
-        ensures stands { IfOk result (λ x. (c : ClusterRecord) (M : Master) → Allots self c M
-            → Allots x c (record (preempted M (plan_as plan.now)) { line = line_after (asked M) (with_grant (without_grants M.table (plan_as plan.now).losers) (plan_as plan.now).served) M.line })) }
+        requires turns { self.placer.seen.turns < 2 ^ 63 }
+        ensures stands { IfOk result (λ x. (c : ClusterRecord) (M : Master) → Allots self c M → Allots x c (line_up (preempted M (plan_as plan.now)))) }
         ensures waits { IfOk result AllWait }
-        ensures touches { IfOk result (Touches self) }
+        ensures up { IfOk result (λ x. IsUpToDate x.placer.seen x.table) }
+        ensures spots { IfOk result (λ x. AreTouched self.table.entries x.table.entries self.touched x.touched) }
+        ensures table { IfOk result (λ x. x.table ≡ record self.table { entries = x.table.entries }) }
+        ensures turns { IfOk result (λ x. x.placer.seen.turns ≤ self.placer.seen.turns + 2048) }
     {
+        lines_alike();
         taking();
         let _sound = self.table.cluster();
         let pick = plan.pick;
-        let left = self.take_victims(pick.machine, &plan.victims)?;
-        left.grant(pick)
+        let taken = self.take_victims(pick.machine, &plan.victims)?;
+        let mut left = taken.add(pick, 1)?;
+        left.line_up();
+        Ok(left)
     }
 
-    /// How many spots changed since they were last cleared.
-    pub fn touched(&self) -> usize
-        ensures { result ≡ length self.now.touched }
+    /// How many grants of an admitted unit are out: wanted and not held.
+    pub fn out(&self, app: AppNo, unit: UnitNo) -> u32
+        requires { unit.0 < unit_count (as_known self.now.table.jobs) app.0 }
+        ensures { result ≡ out_of (asks_seen self.now.placer.seen) self.now.table.entries app.0 unit.0 }
     {
-        self.touched.len()
+        levels();
+        self.placer.out(&self.table, app, unit)
     }
 
-    /// The spot that changed at a place of their list, counted from 0.
-    pub fn touched_at(&self, index: usize) -> Pick
-        requires { index < length self.now.touched }
-        ensures { slice_get self.now.touched index ≡ Some (spot_of result) }
+    /// The spots that changed since they were last cleared, in the order of the changes.
+    pub fn touched(&self) -> &[Pick]
+        ensures { map spot_of result.now ≡ self.now.touched }
     {
-        self.touched[index]
+        &self.touched
     }
 
     /// No spot counts as changed any more.
@@ -424,6 +482,30 @@ impl Allotment {
     {
         &self.placer
     }
+}
+
+// The number of grants at one spot is another one now. The placer is told, and the spot is among those that changed.
+fn told(
+    table: GrantTable,
+    placer: Placer,
+    touched: Vec<Pick>,
+    pick: Pick,
+) -> Result<Allotment, OutOfMemory>
+    requires unit { pick.unit.0 < unit_count (as_known table.jobs) pick.app.0 }
+    requires machine { pick.machine.0 < length table.cluster.machines }
+    requires before { IsSetAt placer table (spot_of pick) }
+    ensures { IfOk result (λ x. x ≡ told_at table placer.seen (map spot_of touched.items) (spot_of pick)) }
+{
+    levels();
+    let (mut placer, mut touched) = (placer, touched);
+    touched.push(pick)?;
+    placer.changed(&table, pick.app, pick.unit, pick.machine);
+    let _sound = table.cluster();
+    Ok(Allotment {
+        table,
+        placer,
+        touched,
+    })
 }
 
 // What is credited of a unit on a machine.

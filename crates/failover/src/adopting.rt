@@ -16,7 +16,7 @@ use fuxi_terms::OutOfMemory;
 use hard_state::Known;
 use ledger_law::{Ledger, LedgerFault};
 use party_ledgers::{RowChange, RowEntry, RowLedger};
-use res_vector::{Res, Sum, fits, sum_fits};
+use res_vector::{Res, Sum, add, fits, sum_fits, times};
 use schedule_unit::MachineNo;
 use std::alloc::Global;
 use thiserror::Error;
@@ -81,6 +81,20 @@ fn kept_entries(alloc: Global, report: &RowLedger, known: &Known) -> Result<RowL
     Ok(kept)
 }
 
+/// What the entries of a report that are kept take in all. It takes no memory.
+pub fn kept_total(report: &RowLedger, known: &Known) -> Sum
+    ensures { result.q ≡ row_total (kept_entries known.now.jobs report.now) }
+{
+    let mut total = Sum { q: [0; 8] };
+    for index in 0..report.len() {
+        let entry = report.at(index);
+        if is_kept(known, &entry) {
+            total = add(&total, &times(&entry.size, entry.count));
+        }
+    }
+    total
+}
+
 /// What is kept of the first report of a machine in an epoch: the entries of jobs that are known and have not ended, of units that
 /// these have with this size, in their order; none where the machine is banned. `Exceeds` comes exactly where these do not fit
 /// what the machine has.
@@ -113,7 +127,7 @@ pub fn adopt(
 
 #[cfg(test)]
 mod tests {
-    use super::{AdoptFault, adopt};
+    use super::{AdoptFault, adopt, kept_total};
     use hard_state::Known;
     use ledger_law::Ledger;
     use party_ledgers::{RowChange, RowLedger};
@@ -157,6 +171,7 @@ mod tests {
         let total = Sum {
             q: [6, 0, 0, 0, 0, 0, 0, 0],
         };
+        assert_eq!(rt; kept_total(&report, &known), total);
         let has = Res {
             q: [5, 9, 9, 9, 9, 9, 9, 9],
         };

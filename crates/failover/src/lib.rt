@@ -4,7 +4,7 @@
 mod adopting;
 mod machines;
 
-pub use adopting::{AdoptFault, adopt, is_kept};
+pub use adopting::{AdoptFault, adopt, is_kept, kept_total};
 pub use fuxi_terms::OutOfMemory;
 pub use hard_state::Known;
 pub use machines::{Machines, Phase, all_reported};

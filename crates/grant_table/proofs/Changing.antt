@@ -1,10 +1,8 @@
--- What one grant more and so many fewer set, from what the caller and the invariant say.
+-- What so many grants more and so many fewer set, from what the caller and the invariant say.
 use Rattle.std.proofs.Common.{◌≡◌, ℕ, ◌+◌, ◌-◌, ◌*◌, ◌<◌, ◌≤◌, Bool, true, false, cond, nat_eq, List, [], length, get_or, refl, sym, ◌∙◌, ap, subst, arith}
 use Rattle.std.specs.Prelude.{◌&&◌, Some, None, Option, slice_get}
-use Rattle.std.specs.List.{All}
 use Rattle.std.specs.Option.{option_map, unwrap_or}
 use Rattle.std.proofs.lemmas.List.{get_or-map}
-use Rattle.std.proofs.lemmas.List.Elements.{All-from_get_or}
 use Rattle.std.proofs.lemmas.List.Sums.{get_or-le-sum_by}
 use Rattle.fuxi_terms.specs.Cluster.{ClusterRecord, MachineRecord, JobRecord, no_machine, has_at, rack_of}
 use Rattle.fuxi_terms.specs.Vectors.{plus, minus, times, at_place}
@@ -13,11 +11,11 @@ use Rattle.fuxi_terms.specs.Counts.{count, set_count}
 use Rattle.fuxi_terms.proofs.ByPlace.{get_or-plus, get_or-minus, get_or-times, at_place-get_or}
 use Rattle.fuxi_terms.proofs.VectorLaws.{at_place-padded}
 use Rattle.fuxi_terms.specs.Jobs.{unit_count, unit_of, size_at, group_of}
-use Rattle.fuxi_terms.specs.Tables.{spot, held_on, total_at, usage_at, held_in, with_grant}
+use Rattle.fuxi_terms.specs.Tables.{spot, held_on, total_at, usage_at, held_in}
 use Rattle.fuxi_terms.specs.declared.vectors.Res.{Res}
 use Rattle.cluster_desc.specs.declared.cluster.Machine.{Machine}
 use Rattle.cluster_desc.specs.Records.{machine_of}
-use Rattle.grant_table.specs.Tables.{TableRecord, Cell, cell_at, with_cell, raised, lowered, without_count, entries_in, loads_of, as_known, IsUnit, IsLevel}
+use Rattle.grant_table.specs.Tables.{TableRecord, Cell, cell_at, with_cell, raised, lowered, with_count, without_count, entries_in, loads_of, as_known, IsUnit, IsLevel}
 use Rattle.fuxi_terms.proofs.Booleans.{nat_itself}
 use Rattle.grant_table.proofs.Totals.{held_in_set, total_set, usage_set}
 use Rattle.grant_table.proofs.Setting.{MaySet, counts_all, count_in, set_entries}
@@ -40,9 +38,6 @@ rack_is ms m x e = by (slice_get ms m) e
     by : (o : Option MachineRecord) → option_map machine_of o ≡ Some x → x.rack.0 ≡ (unwrap_or o no_machine).rack
     by None e = cc
     by (Some r) e = let same : machine_of r ≡ x = cc in subst (λ (y : Machine). y.rack.0 ≡ r.rack) same refl
-
-pub sum_small : (xs ys : List ℕ) → ((i : ℕ) → get_or xs i 0 + get_or ys i 0 ≤ 1000000000000000) → All (λ n. n < 18446744073709551616) (plus xs ys)
-sum_small xs ys h = All-from_get_or (λ n. n < 18446744073709551616) (plus xs ys) 0 (λ i lt. let e = get_or-plus xs ys i in let b = h i in omega (arith, e, b))
 
 -- ---- a unit and a machine that are there
 pub record IsThere (c : ClusterRecord) (jobs : List JobRecord) (cells : List (List Cell)) (loads spent : List (List ℕ)) (a u m : ℕ) : Type 0 where
@@ -127,39 +122,39 @@ module _ (c : ClusterRecord) (jobs : List JobRecord) (cells : List (List Cell)) 
       let t = h.level.usages (group_of (as_known jobs) a) i group_there in
       subst (λ z. z * size_at (as_known jobs) a u i ≤ get_or (get_or spent (group_of (as_known jobs) a) []) i 0) before (omega (arith, x, t))
 
-  -- ---- one grant more
-  module _ (few : held_on es a u m < 100000) (room : (i : ℕ) → total_at (as_known jobs) m i es + size_at (as_known jobs) a u i ≤ has_at c m i) where
-    pub load_room : (i : ℕ) → get_or (get_or loads m []) i 0 + size_at (as_known jobs) a u i ≤ 1000000000000
+  -- ---- so many more
+  module _ (k : ℕ) (few : held_on es a u m + k ≤ 100000) (room : (i : ℕ) → total_at (as_known jobs) m i es + k * size_at (as_known jobs) a u i ≤ has_at c m i) where
+    pub load_room : (i : ℕ) → get_or (get_or loads m []) i 0 + k * size_at (as_known jobs) a u i ≤ 1000000000000
     load_room i = let t = h.level.totals m i h.machine in let r = room i in let s = has_small c h.level.valid m i h.machine in omega (arith, t, r, s)
 
-    pub usage_room : (i : ℕ) → get_or (get_or spent (group_of (as_known jobs) a) []) i 0 + size_at (as_known jobs) a u i ≤ 1000000000000000
+    pub usage_room : (i : ℕ) → get_or (get_or spent (group_of (as_known jobs) a) []) i 0 + k * size_at (as_known jobs) a u i ≤ 1000000000000000
     usage_room i = let t = h.level.usages (group_of (as_known jobs) a) i group_there in let s = usage_small c jobs cells loads spent h.level (group_of (as_known jobs) a) i in let r = load_room i in omega (arith, t, s, r)
 
-    more : (k s : ℕ) → (k + 1) * s ≡ k * s + s
-    more k s = grind arith
+    more : (x y s : ℕ) → (x + y) * s ≡ x * s + y * s
+    more x y s = grind arith
 
-    pub may_grant : (q p : List ℕ) → ((i : ℕ) → get_or q i 0 ≡ get_or (get_or loads m []) i 0 + size_at (as_known jobs) a u i) → ((i : ℕ) → get_or p i 0 ≡ get_or (get_or spent (group_of (as_known jobs) a) []) i 0 + size_at (as_known jobs) a u i)
-        → MaySet c jobs cells loads spent a u m (n + 1) (old.held + 1) (get_or old.racks (rack_of c m) 0 + 1) q p
-    may_grant q p is_q is_p = record {
+    pub may_add : (q p : List ℕ) → ((i : ℕ) → get_or q i 0 ≡ get_or (get_or loads m []) i 0 + k * size_at (as_known jobs) a u i) → ((i : ℕ) → get_or p i 0 ≡ get_or (get_or spent (group_of (as_known jobs) a) []) i 0 + k * size_at (as_known jobs) a u i)
+        → MaySet c jobs cells loads spent a u m (n + k) (old.held + k) (get_or old.racks (rack_of c m) 0 + k) q p
+    may_add q p is_q is_p = record {
       unit = h.unit;
       machine = h.machine;
       rack = rack_there;
       few = let b = before in let f = few in omega (arith, b, f);
       held = omega arith;
       in_rack = omega arith;
-      load = λ i. let e = is_q i in let s = more n (size_at (as_known jobs) a u i) in omega (arith, e, s);
+      load = λ i. let e = is_q i in let s = more n k (size_at (as_known jobs) a u i) in omega (arith, e, s);
       room = λ i. let e = is_q i in let t = h.level.totals m i h.machine in let r = room i in omega (arith, e, t, r);
-      usage = λ i. let e = is_p i in let s = more n (size_at (as_known jobs) a u i) in omega (arith, e, s);
+      usage = λ i. let e = is_p i in let s = more n k (size_at (as_known jobs) a u i) in omega (arith, e, s);
     }
 
-    -- and it is one grant more in the map
-    pub granted_entries : entries_in (with_cell cells a u (raised old m (rack_of c m))) ≡ with_grant es (spot a u m)
-    granted_entries =
-        set_entries c jobs cells loads spent a u m (n + 1) (old.held + 1) (get_or old.racks (rack_of c m) 0 + 1) _ _ h.level
-        (may_grant (plus (get_or loads m []) old.size) (plus (get_or spent (group_of (as_known jobs) a) []) old.size)
-        (λ i. get_or-plus (get_or loads m []) old.size i ∙ ap (λ x. get_or (get_or loads m []) i 0 + x) (size_is i))
-        (λ i. get_or-plus (get_or spent (group_of (as_known jobs) a) []) old.size i ∙ ap (λ x. get_or (get_or spent (group_of (as_known jobs) a) []) i 0 + x) (size_is i)))
-        ∙ ap (λ x. set_count spot_cmp es (spot a u m) (x + 1)) (sym before)
+    -- and it is so many more in the map
+    pub added_entries : entries_in (with_cell cells a u (raised old m (rack_of c m) k)) ≡ with_count es (spot a u m) k
+    added_entries =
+        set_entries c jobs cells loads spent a u m (n + k) (old.held + k) (get_or old.racks (rack_of c m) 0 + k) _ _ h.level
+        (may_add (plus (get_or loads m []) (times k old.size)) (plus (get_or spent (group_of (as_known jobs) a) []) (times k old.size))
+        (λ i. get_or-plus (get_or loads m []) (times k old.size) i ∙ ap (λ x. get_or (get_or loads m []) i 0 + x) (get_or-times k old.size i ∙ ap (λ x. k * x) (size_is i)))
+        (λ i. get_or-plus (get_or spent (group_of (as_known jobs) a) []) (times k old.size) i ∙ ap (λ x. get_or (get_or spent (group_of (as_known jobs) a) []) i 0 + x) (get_or-times k old.size i ∙ ap (λ x. k * x) (size_is i))))
+        ∙ ap (λ x. set_count spot_cmp es (spot a u m) (x + k)) (sym before)
 
   -- ---- so many fewer
   module _ (k : ℕ) (held : k ≤ held_on es a u m) where

@@ -1,6 +1,6 @@
 -- The map that nested lists of counts stand for: by job number, then by unit, then by machine.
 use Rattle.std.specs.Prelude.{ℕ, ◌+◌, List, [], ◌∷◌}
-use Rattle.std.proofs.Common.{get_or, set}
+use Rattle.std.proofs.Common.{get_or}
 use Rattle.fuxi_terms.specs.Keys.{Spot, spot_cmp}
 use Rattle.fuxi_terms.specs.Counts.{set_count}
 use Rattle.fuxi_terms.specs.Tables.{spot}
@@ -20,10 +20,6 @@ jobs_into a (v ∷ vs) t = units_into a 0 v (jobs_into (a + 1) vs t)
 
 unfoldable pub entries_of : List (List (List ℕ)) → List (Spot × ℕ)
 entries_of rows = jobs_into 0 rows []
-
--- one count written
-abbrev pub with_count : List (List (List ℕ)) → ℕ → ℕ → ℕ → ℕ → List (List (List ℕ))
-with_count rows a u m n = set rows a (set (get_or rows a []) u (set (get_or (get_or rows a []) u []) m n))
 
 -- the count that stands at a job, a unit and a machine, and 0 past the ends
 abbrev pub count_at : List (List (List ℕ)) → ℕ → ℕ → ℕ → ℕ

@@ -33,7 +33,10 @@ abbrev pub AreJobs : List JobRecord → Type 0
 AreJobs [] = ⊤
 AreJobs (j ∷ js) = IsTrue (is_valid_job 8 j) × (AllByRecursion (λ (k : JobRecord). j.number < k.number) js × AreJobs js)
 
--- so many grants fewer
+-- so many grants more, and so many fewer
+abbrev pub with_count : List (Spot × ℕ) → Spot → ℕ → List (Spot × ℕ)
+with_count table s k = set_count spot_cmp table s (count spot_cmp table s + k)
+
 abbrev pub without_count : List (Spot × ℕ) → Spot → ℕ → List (Spot × ℕ)
 without_count table s k = set_count spot_cmp table s (count spot_cmp table s - k)
 
@@ -76,9 +79,9 @@ with_cell cells a u x = set cells a (set (get_or cells a []) u x)
 abbrev pub with_numbers : Cell → ℕ → ℕ → ℕ → ℕ → ℕ → Cell
 with_numbers x m r n held in_rack = record { size = x.size; group = x.group; held = held; counts = set x.counts m n; racks = set x.racks r in_rack }
 
--- one grant more on the machine m of the rack r, and so many fewer
-abbrev pub raised : Cell → ℕ → ℕ → Cell
-raised x m r = with_numbers x m r (get_or x.counts m 0 + 1) (x.held + 1) (get_or x.racks r 0 + 1)
+-- so many grants more on the machine m of the rack r, and so many fewer
+abbrev pub raised : Cell → ℕ → ℕ → ℕ → Cell
+raised x m r k = with_numbers x m r (get_or x.counts m 0 + k) (x.held + k) (get_or x.racks r 0 + k)
 
 abbrev pub lowered : Cell → ℕ → ℕ → ℕ → Cell
 lowered x m r k = with_numbers x m r (get_or x.counts m 0 - k) (x.held - k) (get_or x.racks r 0 - k)

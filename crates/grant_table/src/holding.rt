@@ -27,18 +27,18 @@ impl Holding {
     ghost use Rattle.std.proofs.Common.{get_or};
     ghost use Rattle.grant_table.specs.Tables.{cell_of, raised, lowered};
 
-    // One grant more on a machine of a rack.
-    fn raise(&mut self, machine: usize, rack: usize)
+    // So many grants more on a machine of a rack.
+    fn raise(&mut self, machine: usize, rack: usize, count: u32)
         requires machine { machine < length self.old.counts.items }
         requires rack { rack < length self.old.racks.items }
-        requires count { get_or self.old.counts.items machine 0 + 1 < 2 ^ 32 }
-        requires held { self.old.held + 1 < 2 ^ 32 }
-        requires in_rack { get_or self.old.racks.items rack 0 + 1 < 2 ^ 32 }
-        ensures { cell_of self.new ≡ raised (cell_of self.old) machine rack }
+        requires count { get_or self.old.counts.items machine 0 + count < 2 ^ 32 }
+        requires held { self.old.held + count < 2 ^ 32 }
+        requires in_rack { get_or self.old.racks.items rack 0 + count < 2 ^ 32 }
+        ensures { cell_of self.new ≡ raised (cell_of self.old) machine rack count }
     {
-        self.held += 1;
-        self.counts[machine] += 1;
-        self.racks[rack] += 1;
+        self.held += count;
+        self.counts[machine] += count;
+        self.racks[rack] += count;
     }
 
     // So many fewer.
@@ -76,25 +76,26 @@ pub(crate) fn units_at(slots: &[Vec<Holding>], app: usize) -> usize
     }
 }
 
-/// One grant more of a unit.
+/// So many grants of a unit more.
 pub(crate) fn raise_at(
     slots: &mut Vec<Vec<Holding>>,
     app: usize,
     unit: usize,
     machine: usize,
     rack: usize,
+    count: u32,
 )
     requires unit { unit < length (get_or (cells_of slots.old.items) app []) }
     requires machine { machine < length (cell_at (cells_of slots.old.items) app unit).counts }
     requires rack { rack < length (cell_at (cells_of slots.old.items) app unit).racks }
-    requires count { get_or (cell_at (cells_of slots.old.items) app unit).counts machine 0 + 1 < 2 ^ 32 }
-    requires held { (cell_at (cells_of slots.old.items) app unit).held + 1 < 2 ^ 32 }
-    requires in_rack { get_or (cell_at (cells_of slots.old.items) app unit).racks rack 0 + 1 < 2 ^ 32 }
-    ensures { cells_of slots.new.items ≡ with_cell (cells_of slots.old.items) app unit (raised (cell_at (cells_of slots.old.items) app unit) machine rack) }
+    requires count { get_or (cell_at (cells_of slots.old.items) app unit).counts machine 0 + count < 2 ^ 32 }
+    requires held { (cell_at (cells_of slots.old.items) app unit).held + count < 2 ^ 32 }
+    requires in_rack { get_or (cell_at (cells_of slots.old.items) app unit).racks rack 0 + count < 2 ^ 32 }
+    ensures { cells_of slots.new.items ≡ with_cell (cells_of slots.old.items) app unit (raised (cell_at (cells_of slots.old.items) app unit) machine rack count) }
 {
     let units = &mut slots[app];
     let holding = &mut units[unit];
-    holding.raise(machine, rack);
+    holding.raise(machine, rack, count);
 }
 
 /// So many grants of a unit fewer.

@@ -1,6 +1,6 @@
 //! The table.
 
-ghost use Rattle.std.specs.Prelude.{◌≡◌, ℕ, ◌-◌, ◌*◌, ◌≤◌, length, insert, OnOk, OnErr};
+ghost use Rattle.std.specs.Prelude.{◌≡◌, ℕ, ◌+◌, ◌-◌, ◌*◌, ◌<◌, ◌≤◌, ◌^◌, length, insert, OnOk, OnErr};
 ghost use Rattle.std.proofs.Common.{get_or};
 ghost use Rattle.fuxi_terms.specs.Cluster.{JobRecord};
 ghost use Rattle.grant_table.specs.Tables.{with_admitted};
@@ -9,7 +9,7 @@ use crate::holding::{Holding, empty_slots, fresh_units, holding_at, lower_at, ra
 use crate::steps::Steps;
 use cluster_desc::Cluster;
 use fuxi_terms::OutOfMemory;
-use res_vector::{Res, minus, plus, zero};
+use res_vector::{Res, minus, zero};
 use schedule_unit::{AppNo, GroupNo, Job, MachineNo, RackNo, UnitNo};
 use std::alloc::Global;
 use std::marker::Model;
@@ -40,13 +40,13 @@ impl Model for GrantTable {
 }
 
 impl GrantTable {
-    ghost use Rattle.std.specs.Prelude.{◌≡◌, ℕ, ◌+◌, ◌-◌, ◌<◌, ◌≤◌, List, [], length, slice_get, Some, IfOk, OnOk, OnErr, false, nat_lt};
+    ghost use Rattle.std.specs.Prelude.{◌≡◌, ℕ, ◌+◌, ◌-◌, ◌*◌, ◌<◌, ◌≤◌, List, [], length, slice_get, Some, IfOk, OnOk, OnErr, false, nat_lt};
     ghost use Rattle.fuxi_terms.specs.Vectors.{at_place};
-    ghost use Rattle.fuxi_terms.specs.Jobs.{is_known, unit_count, size_at};
+    ghost use Rattle.fuxi_terms.specs.Jobs.{is_known, unit_count, unit_of, size_at};
     ghost use Rattle.fuxi_terms.specs.Cluster.{has_at};
     ghost use Rattle.fuxi_terms.specs.Tables.{spot, held, held_on, held_in, total_at, usage_at};
     ghost use Rattle.fuxi_terms.specs.Tables.{with_grant};
-    ghost use Rattle.grant_table.specs.Tables.{TableRecord, as_known, without_count, with_admitted, IsSound};
+    ghost use Rattle.grant_table.specs.Tables.{TableRecord, as_known, with_count, without_count, with_admitted, IsSound};
 
     /// The empty table of a cluster, with no job.
     pub fn start(alloc: Global, cluster: &Cluster) -> Result<GrantTable, OutOfMemory>
@@ -85,16 +85,34 @@ impl GrantTable {
         requires room { (i : ℕ) → total_at (as_known self.old.jobs) machine.0 i self.old.entries + size_at (as_known self.old.jobs) app.0 unit.0 i ≤ has_at self.old.cluster machine.0 i }
         ensures { self.new ≡ record self.old { entries = with_grant self.old.entries (spot app.0 unit.0 machine.0) } }
     {
+        self.add(app, unit, machine, 1)
+    }
+
+    /// So many grants more. It takes no memory.
+    pub fn add(&mut self, app: AppNo, unit: UnitNo, machine: MachineNo, count: u32)
+        requires unit { unit.0 < unit_count (as_known self.old.jobs) app.0 }
+        requires machine { machine.0 < length self.old.cluster.machines }
+        requires few { held_on self.old.entries app.0 unit.0 machine.0 + count ≤ 100000 }
+        requires room { (i : ℕ) → total_at (as_known self.old.jobs) machine.0 i self.old.entries + count * size_at (as_known self.old.jobs) app.0 unit.0 i ≤ has_at self.old.cluster machine.0 i }
+        ensures { self.new ≡ record self.old { entries = with_count self.old.entries (spot app.0 unit.0 machine.0) count } }
+    {
         let holding = holding_at(&self.slots, app.0 as usize, unit.0 as usize);
         let size = holding.size;
         let group = holding.group.0 as usize;
         let rack = self.cluster.machine(machine).rack.0 as usize;
         let here = machine.0 as usize;
-        raise_at(&mut self.slots, app.0 as usize, unit.0 as usize, here, rack);
+        raise_at(
+            &mut self.slots,
+            app.0 as usize,
+            unit.0 as usize,
+            here,
+            rack,
+            count,
+        );
         let used = &mut self.used[here];
-        *used = plus(used, &size);
+        *used = with_more(used, &size, count);
         let usage = &mut self.usages[group];
-        *usage = plus(usage, &size);
+        *usage = with_more(usage, &size, count);
     }
 
     /// So many grants fewer. It takes no memory.
@@ -137,6 +155,14 @@ impl GrantTable {
         ensures { result ≡ held self.now.entries app.0 unit.0 }
     {
         holding_at(&self.slots, app.0 as usize, unit.0 as usize).held
+    }
+
+    /// What one grant of the unit takes.
+    pub fn size(&self, app: AppNo, unit: UnitNo) -> &Res
+        requires { unit.0 < unit_count (as_known self.now.jobs) app.0 }
+        ensures { result.now.q ≡ (unit_of (as_known self.now.jobs) app.0 unit.0).size }
+    {
+        &holding_at(&self.slots, app.0 as usize, unit.0 as usize).size
     }
 
     /// How many grants the unit has on the machine.
@@ -204,6 +230,18 @@ impl GrantTable {
     {
         &self.jobs[index as usize]
     }
+}
+
+// What is used with so many of a size more.
+fn with_more(used: &Res, size: &Res, count: u32) -> Res
+    requires { (i : ℕ) → get_or used.now.q i 0 + count * get_or size.now.q i 0 < 2 ^ 64 }
+    ensures { (i : ℕ) → get_or result.q i 0 ≡ get_or used.now.q i 0 + count * get_or size.now.q i 0 }
+{
+    let mut q = used.q;
+    for i in 0..8 {
+        q[i] = used.q[i] + count as u64 * size.q[i];
+    }
+    Res { q }
 }
 
 // What is used without so many of a size.

@@ -90,6 +90,13 @@ number_small places jobs number job index is = go (get_or places number 0) refl
         below : number < 256
         below = elim (cases_lt number 256) [ inl small ↦ small | inr large ↦ absurd (omega (arith, sym (none_beyond places number (omega (arith, large, index.numbers))) ∙ at)) ]
 
+pub known_small : (places : List ℕ) (jobs : List KnownJob) (number : ℕ) → IsIndex places jobs → is_known jobs number ≡ true → number < 256
+known_small places jobs number index known = go (job_of jobs number) refl known
+  where
+    go : (o : Option KnownJob) → job_of jobs number ≡ o → is_some o ≡ true → number < 256
+    go None is some = absurd (cc)
+    go (Some job) is some = number_small places jobs number job index is
+
 -- one job more
 module _ (places : List ℕ) (jobs : List KnownJob) (job : KnownJob) (index : IsIndex places jobs) (small : job.job.number < 256) (none : job_of jobs job.job.number ≡ None) where
   abbrev number : ℕ

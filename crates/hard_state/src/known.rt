@@ -1,6 +1,6 @@
 //! Jobs and bans, looked up by number.
 
-ghost use Rattle.std.specs.Prelude.{◌≡◌, ◌≤◌, ◌<◌, [], length, map, true, false, Some, None, IfOk, IfSome, IsNone, OnOk, OnErr, slice_get, vec_capacity};
+ghost use Rattle.std.specs.Prelude.{ℕ, ◌≡◌, ◌≤◌, ◌<◌, [], length, map, true, false, Some, None, IfOk, IfSome, IsNone, OnOk, OnErr, slice_get, vec_capacity};
 ghost use Rattle.std.specs.Option.{option_map};
 ghost use Rattle.fuxi_terms.specs.Cluster.{is_valid_job};
 ghost use Rattle.fuxi_terms.specs.Jobs.{job_of, is_known, has_ended};
@@ -137,10 +137,11 @@ impl Known {
         self.bans.has(machine.0)
     }
 
-    /// How many jobs are known, at most 256.
+    /// How many jobs are known, at most 256. Each has a number up to 255.
     pub fn jobs(&self) -> usize
         ensures number { result ≡ length self.now.jobs }
         ensures few { result ≤ most_jobs }
+        ensures numbers { (a : ℕ) → is_known self.now.jobs a ≡ true → a < most_jobs }
     {
         self.jobs.len()
     }

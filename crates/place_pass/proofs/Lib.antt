@@ -7,3 +7,4 @@ pub mod Searching
 pub mod Lining
 pub mod Telling
 pub mod Picking
+pub mod Turns

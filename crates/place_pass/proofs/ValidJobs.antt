@@ -1,8 +1,7 @@
 -- What a valid job says of its numbers.
-use Rattle.std.proofs.Common.{◌≡◌, ℕ, zero, suc, ◌<◌, ◌≤◌, true, not, nat_lt, nat_eq, List, [], ◌∷◌, length, get_or, arith}
+use Rattle.std.proofs.Common.{◌≡◌, ℕ, zero, suc, ◌<◌, true, nat_lt, nat_eq, List, [], ◌∷◌, length, get_or, arith}
 use Rattle.std.specs.Prelude.{IsTrue}
 use Rattle.std.specs.List.{list_all}
-use Rattle.std.proofs.lemmas.Bool.Decides.{nat_tests}
 use Rattle.fuxi_terms.specs.Cluster.{JobRecord, UnitRecord, is_valid_job, is_valid_unit, is_between, is_vector_of, is_priority}
 use Rattle.fuxi_terms.specs.Jobs.{no_unit}
 use Rattle.fuxi_terms.proofs.Booleans.{both_true, number_is}

@@ -6,7 +6,7 @@ use crate::waiting::{join, keep, keep_others};
 use crate::wishes::Wishes;
 use cluster_desc::Cluster;
 use fuxi_terms::OutOfMemory;
-use grant_table::{Asking, GrantTable, Pick, Steps, admitted_jobs};
+use grant_table::{Asking, GrantTable, Pick, Steps, admitted_jobs, set_numbers};
 use party_ledgers::Demand;
 use schedule_unit::{AppNo, Job, MachineNo, UnitNo};
 use std::alloc::Global;
@@ -45,7 +45,8 @@ impl Placer {
     ghost use Rattle.fuxi_terms.specs.Keys.{spot_cmp};
     ghost use Rattle.fuxi_terms.specs.Counts.{count};
     ghost use Rattle.fuxi_terms.specs.Jobs.{is_known, unit_count};
-    ghost use Rattle.fuxi_terms.specs.Tables.{spot};
+    ghost use Rattle.fuxi_terms.specs.Tables.{spot, held_on};
+    ghost use Rattle.written_roles.specs.Masters.{out_of};
     ghost use Rattle.written_roles.specs.Placing.{first_in, lined, has_pair};
     ghost use Rattle.grant_table.specs.Tables.{TableRecord, as_known, with_admitted};
     ghost use Rattle.place_pass.specs.Best.{spot_of};
@@ -132,11 +133,12 @@ impl Placer {
     }
 
     /// Brings the line up to date: the pairs with nothing out leave it, and the others that have something out
-    /// go behind it in the order of job and unit.
+    /// go behind it in the order of job and unit. Those are at most 2,048: 8 units of each of 256 jobs.
     pub fn line_up(&mut self, table: &GrantTable)
         requires level { IsLevelWith self.old table.now }
         requires turns { self.old.seen.turns < 2 ^ 63 }
         ensures seen { self.new.seen ≡ record self.old.seen { line = lined self.old.seen.line (waiting_with self.old.seen table.now); turns = self.old.seen.turns + length (filter (λ p. not (has_pair p self.old.seen.line)) (waiting_with self.old.seen table.now)) } }
+        ensures turns { self.new.seen.turns ≤ self.old.seen.turns + 2048 }
         ensures level { IsLevelWith self.new table.now }
         ensures up { IsUpToDate self.new.seen table.now }
     {
@@ -148,6 +150,19 @@ impl Placer {
         join(&mut self.other, &self.line, &self.wishes, table);
         self.turns += (self.other.len() - stayed) as u64;
         mem::swap(&mut self.line, &mut self.other);
+    }
+
+    /// How many grants of an admitted unit are out: wanted and not held.
+    pub fn out(&self, table: &GrantTable, app: AppNo, unit: UnitNo) -> u32
+        requires level { IsLevelWith self.now table.now }
+        requires unit { unit.0 < units_seen self.now.seen app.0 }
+        ensures out { result ≡ out_of (asks_seen self.now.seen) table.now.entries app.0 unit.0 }
+        ensures few { (m : ℕ) → 0 < result → held_on table.now.entries app.0 unit.0 m < 100000 }
+    {
+        set_numbers();
+        let _sound = table.cluster();
+        let _wish = self.wishes.wish(app, unit);
+        self.wishes.out(table, app, unit)
     }
 
     /// The number that the next unit gets that begins to wait.

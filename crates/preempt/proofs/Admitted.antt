@@ -1,6 +1,6 @@
 -- What the admitted jobs of a sound table say of their units.
 use Rattle.std.proofs.Common.{◌≡◌, inl, inr, ℕ, zero, suc, ◌+◌, ◌*◌, ◌<◌, ◌≤◌, Bool, true, false, cond, nat_eq, nat_lt, List, [], ◌∷◌, ◌++◌, length, Some, refl, sym, ◌∙◌, ap, subst, arith}
-use Rattle.std.specs.Prelude.{◌&&◌, ◌||◌, IsTrue, not, slice_get}
+use Rattle.std.specs.Prelude.{◌&&◌, ◌||◌, IsTrue, slice_get}
 use Rattle.std.specs.Option.{unwrap_or, option_map}
 use Rattle.std.specs.List.{AllByRecursion, flat_map, list_any, list_all}
 use Rattle.std.proofs.lemmas.Bool.Decides.{nat_tests}

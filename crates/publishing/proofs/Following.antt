@@ -20,7 +20,7 @@ use Rattle.publishing.specs.Projecting.{row_of, spot_of, RowFollows}
 use Rattle.publishing.proofs.Setting.{set_counts}
 
 module _ {K : Type 0} {R : K → K → Ordering} (o : IsTotalOrder R) (same : (x y : K) → R x y ≡ Equal → x ≡ y) (greatest : K → ℕ) where
-  set_count_is : (es ns : List (K × ℕ)) → T (is_sorted R ns) → (q : K) → count R (numbers_set R es ns) q ≡ cond (is_some (find R q ns)) (count R ns q) (count R es q)
+  pub set_count_is : (es ns : List (K × ℕ)) → T (is_sorted R ns) → (q : K) → count R (numbers_set R es ns) q ≡ cond (is_some (find R q ns)) (count R ns q) (count R es q)
   set_count_is es [] s q = refl
   set_count_is es (n ∷ ns) s q =
       let parts = both_true (below_all R n.0 ns) (is_sorted R ns) s in

@@ -19,7 +19,7 @@ use Rattle.fuxi_terms.proofs.Counting.{tied, count_le}
 use Rattle.fuxi_terms.proofs.KeyOrders.{key_total, same_key, spot_total, same_spot}
 use Rattle.written_roles.specs.MasterSteps.{count_entries}
 use Rattle.publishing.specs.Setting.{numbers_set, AreNumbers}
-use Rattle.publishing.specs.Projecting.{grant_entries, after_setting, GrantsFollow}
+use Rattle.publishing.specs.Projecting.{grant_entries, HasNumbers, after_setting, GrantsFollow}
 use Rattle.publishing.proofs.Following.{numbers_are}
 
 abbrev or_else : {X : Type 0} → Option X → Option X → Option X
@@ -68,16 +68,16 @@ counts_of a (e ∷ t) = by (nat_eq e.0.job a) (counts_of a t)
     by true rest = (refl, rest)
     by false rest = rest
 
-reported_at : (rs : List ℕ) (m : ℕ) → unwrap_or (find key_cmp (reported_key m) (machines rs)) 0 ≡ held (has_number m rs)
-reported_at [] m = refl
-reported_at (r ∷ rs) m = ap (λ b. unwrap_or (cond b (Some 1) (find key_cmp (reported_key m) (machines rs))) 0) same ∙ by (nat_eq m r) (reported_at rs m)
+reported_found : (rs : List ℕ) (m : ℕ) → find key_cmp (reported_key m) (machines rs) ≡ cond (has_number m rs) (Some 1) None
+reported_found [] m = refl
+reported_found (r ∷ rs) m = ap (λ b. cond b (Some 1) (find key_cmp (reported_key m) (machines rs))) same ∙ by (nat_eq m r) (reported_found rs m)
   where
     same : eq_by_cmp key_cmp (reported_key m) (reported_key r) ≡ nat_eq m r
     same = same_tests (eq_by_cmp key_cmp (reported_key m) (reported_key r)) (nat_eq m r)
         (λ t. ap (λ n. nat_eq m n) (sym (ap (λ (k : Key). k.number) (same_key (reported_key m) (reported_key r) (tied _ t)))) ∙ nat_itself m)
         (λ t. ap (λ n. eq_by_cmp key_cmp (reported_key m) (reported_key n)) (sym (number_is m r t)) ∙ ap is_eq (tied_itself key_total (reported_key m)))
 
-    by : (b : Bool) → unwrap_or (find key_cmp (reported_key m) (machines rs)) 0 ≡ held (has_number m rs) → unwrap_or (cond b (Some 1) (find key_cmp (reported_key m) (machines rs))) 0 ≡ held (b || has_number m rs)
+    by : (b : Bool) → find key_cmp (reported_key m) (machines rs) ≡ cond (has_number m rs) (Some 1) None → cond b (Some 1) (find key_cmp (reported_key m) (machines rs)) ≡ cond (b || has_number m rs) (Some 1) None
     by true rest = refl
     by false rest = rest
 
@@ -106,25 +106,35 @@ module _ (a : ℕ) where
     found : (q : Key) → find key_cmp q (grant_entries a rs t cs) ≡ or_else (find key_cmp q (machines rs)) (or_else (find key_cmp q (count_entries a t)) (find key_cmp q cs))
     found q = find_append key_cmp q (machines rs) (count_entries a t ++ cs) ∙ ap (or_else (find key_cmp q (machines rs))) (find_append key_cmp q (count_entries a t) cs)
 
-    machines_at : (m : ℕ) → count key_cmp (grant_entries a rs t cs) (reported_key m) ≡ held (has_number m rs)
-    machines_at m =
+    machine_found : (m : ℕ) → find key_cmp (reported_key m) (grant_entries a rs t cs) ≡ cond (has_number m rs) (Some 1) None
+    machine_found m =
         let b = other_kind 2 (count_entries a t) (reported_key m) (counts_of a t) refl in
         let d = other_kind 3 cs (reported_key m) kinds refl in
-        let all : find key_cmp (reported_key m) (grant_entries a rs t cs) ≡ find key_cmp (reported_key m) (machines rs) =
-        found (reported_key m) ∙ (λ i. or_else (find key_cmp (reported_key m) (machines rs)) (or_else (b i) (d i))) ∙ or_none (find key_cmp (reported_key m) (machines rs)) in
-        ap (λ r. unwrap_or r 0) all ∙ reported_at rs m
+        found (reported_key m) ∙ (λ i. or_else (find key_cmp (reported_key m) (machines rs)) (or_else (b i) (d i))) ∙ or_none (find key_cmp (reported_key m) (machines rs)) ∙ reported_found rs m
 
-    held_at : (u m : ℕ) → count key_cmp (grant_entries a rs t cs) (count_key u m) ≡ count spot_cmp t (spot a u m)
-    held_at u m =
+    count_found : (u m : ℕ) → find key_cmp (count_key u m) (grant_entries a rs t cs) ≡ find spot_cmp (spot a u m) t
+    count_found u m =
         let b = other_kind 1 (machines rs) (count_key u m) (reported_of rs) refl in
         let d = other_kind 3 cs (count_key u m) kinds refl in
-        ap (λ r. unwrap_or r 0) (found (count_key u m) ∙ (λ i. or_else (b i) (or_else (counts_at t u m i) (d i))) ∙ or_none (find spot_cmp (spot a u m) t))
+        found (count_key u m) ∙ (λ i. or_else (b i) (or_else (counts_at t u m i) (d i))) ∙ or_none (find spot_cmp (spot a u m) t)
 
-    credited_at : (u m : ℕ) → count key_cmp (grant_entries a rs t cs) (credited_key u m) ≡ count key_cmp cs (credited_key u m)
-    credited_at u m =
+    credited_found : (u m : ℕ) → find key_cmp (credited_key u m) (grant_entries a rs t cs) ≡ find key_cmp (credited_key u m) cs
+    credited_found u m =
         let b = other_kind 1 (machines rs) (credited_key u m) (reported_of rs) refl in
         let d = other_kind 2 (count_entries a t) (credited_key u m) (counts_of a t) refl in
-        ap (λ r. unwrap_or r 0) (found (credited_key u m) ∙ (λ i. or_else (b i) (or_else (d i) (find key_cmp (credited_key u m) cs))))
+        found (credited_key u m) ∙ (λ i. or_else (b i) (or_else (d i) (find key_cmp (credited_key u m) cs)))
+
+    pub have_numbers : HasNumbers a rs t cs
+    have_numbers = record { machines = machine_found; counts = count_found; given = credited_found }
+
+    machines_at : (m : ℕ) → count key_cmp (grant_entries a rs t cs) (reported_key m) ≡ held (has_number m rs)
+    machines_at m = ap (λ r. unwrap_or r 0) (machine_found m) ∙ elim (has_number m rs) as (λ b. unwrap_or (cond b (Some 1) None) 0 ≡ held b) [ true ↦ refl | false ↦ refl ]
+
+    held_at : (u m : ℕ) → count key_cmp (grant_entries a rs t cs) (count_key u m) ≡ count spot_cmp t (spot a u m)
+    held_at u m = ap (λ r. unwrap_or r 0) (count_found u m)
+
+    credited_at : (u m : ℕ) → count key_cmp (grant_entries a rs t cs) (credited_key u m) ≡ count key_cmp cs (credited_key u m)
+    credited_at u m = ap (λ r. unwrap_or r 0) (credited_found u m)
 
 -- a key that is none of grants has no number
 no_key : (q : Key) → (nat_eq q.what 1 && nat_eq q.unit 0) ≡ false → nat_eq q.what 2 ≡ false → nat_eq q.what 3 ≡ false → greatest_grant q ≡ 0

@@ -1,5 +1,5 @@
 -- When the row of a table is another one with numbers set: the spots that were touched have these numbers, and all others what they had.
-use Rattle.std.specs.Prelude.{◌≡◌, ◌++◌, ℕ, true, cond, nat_eq, List, map, filter}
+use Rattle.std.specs.Prelude.{◌≡◌, ◌++◌, ℕ, true, cond, nat_eq, List, map, filter, Some, None}
 use Rattle.std.specs.Option.{is_some}
 use Rattle.std.specs.FinMap.Entries.{find}
 use Rattle.fuxi_terms.specs.Counts.{count}
@@ -26,6 +26,12 @@ pub record RowFollows (jobs : List KnownJob) (m : ℕ) (old new : List (Spot × 
 -- the entries of the grants of a job: the machines that are reported, its counts, and what is credited
 abbrev pub grant_entries : ℕ → List ℕ → List (Spot × ℕ) → List (Key × ℕ) → List (Key × ℕ)
 grant_entries a reported table credited = map (λ m. (reported_key m, 1)) reported ++ (count_entries a table ++ credited)
+
+-- what is found there at a key of each kind
+pub record HasNumbers (a : ℕ) (reported : List ℕ) (table : List (Spot × ℕ)) (credited : List (Key × ℕ)) : Type 0 where
+  pub machines : (m : ℕ) → find key_cmp (reported_key m) (grant_entries a reported table credited) ≡ cond (has_number m reported) (Some 1) None
+  pub counts : (u m : ℕ) → find key_cmp (count_key u m) (grant_entries a reported table credited) ≡ find spot_cmp (spot a u m) table
+  pub given : (u m : ℕ) → find key_cmp (credited_key u m) (grant_entries a reported table credited) ≡ find key_cmp (credited_key u m) credited
 
 -- what a key has after the numbers were set
 abbrev pub after_setting : List (Key × ℕ) → List (Key × ℕ) → Key → ℕ

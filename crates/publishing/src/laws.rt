@@ -1,14 +1,16 @@
 //! What the numbers that are set have to be, so that a peer is shown what it should hold.
 
-ghost use Rattle.std.specs.Prelude.{◌≡◌, ℕ, List};
-ghost use Rattle.fuxi_terms.specs.Counts.{AreCounts};
+ghost use Rattle.std.specs.Prelude.{◌≡◌, ℕ, true, nat_eq, T, List};
+ghost use Rattle.std.specs.FinMap.Entries.{is_sorted};
+ghost use Rattle.std.specs.List.{AllByRecursion};
+ghost use Rattle.fuxi_terms.specs.Counts.{count, AreCounts};
 ghost use Rattle.fuxi_terms.specs.Jobs.{KnownJob};
 ghost use Rattle.fuxi_terms.specs.Keys.{RowKey, row_cmp, Spot, key_cmp};
 ghost use Rattle.fuxi_terms.specs.Rows.{greatest_row};
-ghost use Rattle.fuxi_terms.specs.TallyKeys.{greatest_grant};
+ghost use Rattle.fuxi_terms.specs.TallyKeys.{greatest_grant, credited_what};
 ghost use Rattle.fuxi_terms.specs.declared.Key.{Key};
 ghost use Rattle.publishing.specs.Setting.{numbers_set, AreNumbers, IsSetTo};
-ghost use Rattle.publishing.specs.Projecting.{row_of, RowFollows, grant_entries, GrantsFollow};
+ghost use Rattle.publishing.specs.Projecting.{row_of, RowFollows, grant_entries, HasNumbers, after_setting, GrantsFollow};
 
 /// A map that has the numbers at their keys, and else what another one has, is that one with the numbers set: of rows, and of
 /// the entries of grants.
@@ -29,4 +31,15 @@ pub fn rows_follow_tables()
 pub fn grants_follow_tables()
     ensures { (a : ℕ) (es ns : List (Key × ℕ)) (reported : List ℕ) (table : List (Spot × ℕ)) (credited : List (Key × ℕ)) → AreCounts key_cmp greatest_grant es → AreCounts key_cmp greatest_grant (grant_entries a reported table credited) → AreNumbers key_cmp greatest_grant ns
         → GrantsFollow a es ns reported table credited → numbers_set key_cmp es ns ≡ grant_entries a reported table credited }
+{}
+
+/// What is found in the entries of grants at a key of each kind, where what is credited is of its kind.
+pub fn grants_have_numbers()
+    ensures { (a : ℕ) (reported : List ℕ) (table : List (Spot × ℕ)) (credited : List (Key × ℕ)) → AllByRecursion (λ e. nat_eq e.0.what credited_what ≡ true) credited → HasNumbers a reported table credited }
+{}
+
+/// What the entries of grants have at each key once numbers are set, and that they are in order still.
+pub fn numbers_are_set()
+    ensures numbers { (es ns : List (Key × ℕ)) → T (is_sorted key_cmp ns) → (q : Key) → count key_cmp (numbers_set key_cmp es ns) q ≡ after_setting es ns q }
+    ensures counts { (es ns : List (Key × ℕ)) → AreCounts key_cmp greatest_grant es → AreNumbers key_cmp greatest_grant ns → AreCounts key_cmp greatest_grant (numbers_set key_cmp es ns) }
 {}

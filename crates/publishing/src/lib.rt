@@ -6,5 +6,8 @@ mod laws;
 mod row;
 
 pub use grants::show_grants;
-pub use laws::{grants_follow_tables, rows_follow_tables, set_numbers_make};
+pub use laws::{
+    grants_follow_tables, grants_have_numbers, numbers_are_set, rows_follow_tables,
+    set_numbers_make,
+};
 pub use row::{RowNumber, show_row};

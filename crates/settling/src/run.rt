@@ -1,6 +1,6 @@
 //! The line is brought up to date, and grants are made until no pair is placeable.
 
-ghost use Rattle.std.specs.Prelude.{◌≡◌, ◌<◌, ◌^◌, true, Some, map, OnOk};
+ghost use Rattle.std.specs.Prelude.{◌≡◌, ◌+◌, ◌<◌, ◌≤◌, ◌^◌, true, Some, map, OnOk};
 ghost use Rattle.fuxi_terms.specs.Cluster.{ClusterRecord};
 ghost use Rattle.fuxi_terms.specs.Tables.{with_grant};
 ghost use Rattle.written_roles.specs.Masters.{Master};
@@ -23,6 +23,7 @@ pub fn line_up(table: &GrantTable, placer: &mut Placer)
     requires turns { placer.old.seen.turns < 2 ^ 63 }
     ensures level { IsLevelWith placer.new table.now }
     ensures up { IsUpToDate placer.new.seen table.now }
+    ensures turns { placer.new.seen.turns ≤ placer.old.seen.turns + 2048 }
     ensures placing { (c : ClusterRecord) (M : Master) → IsPlacing table.now placer.old.seen c M → IsPlacing table.now placer.new.seen c (line_up M) }
 {
     placer.line_up(table);
@@ -43,6 +44,8 @@ pub fn settle<L: Ledger>(
     ensures level { IsLevelWith placer.new table.new }
     ensures up { IsUpToDate placer.new.seen table.new }
     ensures settles { OnOk result ((c : ClusterRecord) (M : Master) → IsPlacing table.old placer.old.seen c M → M.serving ≡ true → IsPlacing table.new placer.new.seen c (settled c M)) }
+    ensures turns { placer.new.seen.turns ≡ placer.old.seen.turns }
+    ensures table { table.new ≡ record table.old { entries = table.new.entries } }
     ensures touched { OnOk result (AreTouched table.old.entries table.new.entries (map spot_of picks.old.items) (map spot_of picks.new.items)) }
 {
     settling();
@@ -62,6 +65,7 @@ fn grant(table: &mut GrantTable, placer: &mut Placer, pick: Pick)
     ensures level { IsLevelWith placer.new table.new }
     ensures up { IsUpToDate placer.new.seen table.new }
     ensures grants { (c : ClusterRecord) (M : Master) → IsPlacing table.old placer.old.seen c M → IsPlacing table.new placer.new.seen c (granted M (spot_of pick)) }
+    ensures turns { placer.new.seen.turns ≡ placer.old.seen.turns }
     ensures fewer { all_out table.new placer.new.seen < all_out table.old placer.old.seen }
     ensures table { table.new ≡ record table.old { entries = with_grant table.old.entries (spot_of pick) } }
 {

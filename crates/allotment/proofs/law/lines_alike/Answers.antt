@@ -9,18 +9,8 @@ use Rattle.fuxi_terms.proofs.Alls.{all_append}
 use Rattle.fuxi_terms.proofs.Booleans.{both_true, number_is}
 use Rattle.written_roles.specs.Masters.{asked, out_of}
 use Rattle.written_roles.specs.Placing.{has_pair, waiting_in, waiting_pairs}
+use Rattle.allotment.proofs.Granting.{filter_twice}
 use Rattle.allotment.proofs.law.lines_alike.Goals as goal
-
--- where all that pass one test pass another, a list that was tested by the other passes the one alike
-filter_twice : (q w : ℕ × ℕ → Bool) (line : List (ℕ × ℕ)) → ((p : ℕ × ℕ) → q p ≡ true → w p ≡ true) → filter q (filter w line) ≡ filter q line
-filter_twice q w [] h = refl
-filter_twice q w (p ∷ ps) h = by (filter_twice q w ps h) (w p) refl (q p) refl
-  where
-    by : filter q (filter w ps) ≡ filter q ps → (b : Bool) → w p ≡ b → (d : Bool) → q p ≡ d → filter q (cond (w p) (p ∷ filter w ps) (filter w ps)) ≡ cond (q p) (p ∷ filter q ps) (filter q ps)
-    by r true e true f = ap (λ t. filter q (cond t (p ∷ filter w ps) (filter w ps))) e ∙ ap (λ t. cond t (p ∷ filter q (filter w ps)) (filter q (filter w ps))) f ∙ ap (λ xs. p ∷ xs) r ∙ ap (λ t. cond t (p ∷ filter q ps) (filter q ps)) (sym f)
-    by r true e false f = ap (λ t. filter q (cond t (p ∷ filter w ps) (filter w ps))) e ∙ ap (λ t. cond t (p ∷ filter q (filter w ps)) (filter q (filter w ps))) f ∙ r ∙ ap (λ t. cond t (p ∷ filter q ps) (filter q ps)) (sym f)
-    by r false e true f = let t = h p f in cc
-    by r false e false f = ap (λ t. filter q (cond t (p ∷ filter w ps) (filter w ps))) e ∙ r ∙ ap (λ t. cond t (p ∷ filter q ps) (filter q ps)) (sym f)
 
 -- a pair that passes the test is found alike
 found_alike : (w : ℕ × ℕ → Bool) (p : ℕ × ℕ) (line : List (ℕ × ℕ)) → w p ≡ true → has_pair p (filter w line) ≡ has_pair p line

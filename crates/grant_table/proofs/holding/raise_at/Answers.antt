@@ -11,4 +11,4 @@ returns c =
     let lu = unit_there slots c.args.app c.args.unit v la c.index_mut-units.ensures.value c.requires.unit in
     let read = cell_read slots c.args.app c.args.unit v c.index_mut-holding.result.now la c.index_mut-units.ensures.value lu c.index_mut-holding.ensures.value in
     cell_written slots c.args.app c.args.unit v _ c.raise.new.self la c.index_mut-units.ensures.value refl
-    ∙ ap (with_cell (cells_of slots) c.args.app c.args.unit) (c.raise.ensures ∙ ap (λ (x : Cell). raised x c.args.machine c.args.rack) (sym read))
+    ∙ ap (with_cell (cells_of slots) c.args.app c.args.unit) (c.raise.ensures ∙ ap (λ (x : Cell). raised x c.args.machine c.args.rack c.args.count) (sym read))

@@ -2,10 +2,11 @@ use Rattle.std.proofs.Common.{◌≡◌, ◌+◌, None, Some, [], ◌∷◌, ◌
 use Rattle.std.proofs.lemmas.List.{map-append}
 use Rattle.fuxi_terms.specs.Counts.{count}
 use Rattle.fuxi_terms.specs.Keys.{Spot, spot_cmp}
+use Rattle.fuxi_terms.specs.Tables.{with_grant}
 use Rattle.written_roles.specs.Placing.{first_in, settled}
 use Rattle.grant_table.specs.Tables.{TableRecord}
 use Rattle.place_pass.specs.Best.{spot_of}
-use Rattle.place_pass.specs.Placers.{board_with}
+use Rattle.place_pass.specs.Placers.{SeenRecord, board_with}
 use Rattle.settling.specs.Placing.{IsPlacing}
 use Rattle.settling.specs.Runs.{AreTouched}
 use Rattle.settling.proofs.Settling.{settles_on, has_settled, touches_more}
@@ -25,6 +26,8 @@ loop-pick-preserved g c =
       level = c.grant.ensures.level;
       up = c.grant.ensures.up;
       settling = λ k M is serves. settles_on t c.grant.new.table s c.grant.new.placer.seen k M x first (λ N p. c.grant.ensures.grants k N (subst (λ z. IsPlacing t z k N) (sym c.in-Some.ensures.seen) p)) (c.loop-pick.invariant.settling k M is serves);
+      turns = c.grant.ensures.turns ∙ ap (λ (z : SeenRecord). z.turns) c.in-Some.ensures.seen ∙ c.loop-pick.invariant.turns;
+      table = c.grant.ensures.table ∙ ap {A = TableRecord} (λ u. record u { entries = with_grant t.entries x }) c.loop-pick.invariant.table ∙ ap (λ es. record c.args.table.now { entries = es }) (sym (ap (λ (u : TableRecord). u.entries) c.grant.ensures.table));
       touched = subst (λ (q : List (Spot × _) × List Spot). AreTouched old q.0 before q.1) (λ i. (sym (ap (λ (u : TableRecord). u.entries) c.grant.ensures.table) i, sym picks i)) more;
     }
 

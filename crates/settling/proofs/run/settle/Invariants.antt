@@ -12,6 +12,8 @@ invariant-loop-pick g l = record {
   level : IsLevelWith l.placer l.table;
   up : IsUpToDate l.placer.seen l.table;
   settling : (c : ClusterRecord) (M : Master) → IsPlacing l.initial.table l.initial.placer.seen c M → M.serving ≡ true → IsSettling l.table l.placer.seen c M;
+  turns : l.placer.seen.turns ≡ l.initial.placer.seen.turns;
+  table : l.table ≡ record l.initial.table { entries = l.table.entries };
   touched : AreTouched l.initial.table.entries l.table.entries (map spot_of l.initial.picks.items) (map spot_of l.picks.items);
 }
 

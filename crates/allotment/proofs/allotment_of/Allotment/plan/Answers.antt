@@ -1,14 +1,17 @@
-use Rattle.std.proofs.Common.{sym, ◌∙◌, subst}
+use Rattle.std.proofs.Common.{◌≡◌, ◌<◌, Some, None, sym, subst}
 use Rattle.std.specs.Prelude.{Option}
+use Rattle.std.specs.Option.{option_map}
 use Rattle.fuxi_terms.specs.Jobs.{unit_count}
+use Rattle.fuxi_terms.specs.Tables.{held_on}
 use Rattle.grant_table.specs.Tables.{as_known}
-use Rattle.written_roles.specs.Placing.{board}
+use Rattle.written_roles.specs.Placing.{Board}
 use Rattle.written_roles.specs.Preemption.{plan_in}
-use Rattle.place_pass.specs.Placers.{IsUpToDate}
+use Rattle.place_pass.specs.Placers.{IsUpToDate, usable_in}
 use Rattle.preempt.specs.declared.plan.Plan.{Plan}
+use Rattle.preempt.specs.Plans.{IsBoardOf, plan_as}
 use Rattle.settling.specs.Placing.{IsPlacing}
 use Rattle.allotment.specs.Allotted.{AllotmentRecord}
-use Rattle.allotment.proofs.Planning.{board_is, line_admitted, if_ok}
+use Rattle.allotment.proofs.Planning.{line_admitted, planned, served_waits}
 use Rattle.allotment.proofs.allotment_of.Allotment.plan.Goals as goal
 
 pub find-requires : goal.find-requires
@@ -18,12 +21,25 @@ find-requires g c =
     let up = subst (λ (x : AllotmentRecord). IsUpToDate x.placer.seen x.table) (sym c.self.view_is) c.requires in
     c.lines.ensures s.line (unit_count (as_known t.jobs)) (line_admitted t s up)
 
-pub returns-clause-plan : goal.returns-clause-plan
-returns-clause-plan g c =
+pub returns-in-Some-clause-plan : goal.returns-in-Some-clause-plan
+returns-in-Some-clause-plan g c k M allots =
     let t = c.self.inside.table in
     let p = c.self.inside.placer in
-    if_ok {A = Option Plan} _ _ (λ found h k M allots.
-    let placing = subst (λ (x : AllotmentRecord). IsPlacing x.table x.placer.seen k M) (sym c.self.view_is) allots.placing in
-    let entries = placing.entries in
-    let line = placing.line in
-    h (board k M) (board_is t p.seen k M placing (λ a. c.levels.ensures.units p t a c.self.invariant.level)) ∙ (λ i. plan_in (board k M) (entries i) (line i))) c.find.result c.find.ensures.plan
+    planned t p.seen (Some c.in-Some.plan) (λ a. c.levels.ensures.units p t a c.self.invariant.level) (subst (λ (o : Option Plan). (B : Board) → IsBoardOf B t (usable_in p.seen) → option_map plan_as o ≡ plan_in B t.entries p.seen.line) c.in-Some.is c.in_ok-plan.ensures.plan) k M
+    (subst (λ (x : AllotmentRecord). IsPlacing x.table x.placer.seen k M) (sym c.self.view_is) allots.placing)
+
+pub returns-in-None-clause-plan : goal.returns-in-None-clause-plan
+returns-in-None-clause-plan g c k M allots =
+    let t = c.self.inside.table in
+    let p = c.self.inside.placer in
+    planned t p.seen None (λ a. c.levels.ensures.units p t a c.self.invariant.level) (subst (λ (o : Option Plan). (B : Board) → IsBoardOf B t (usable_in p.seen) → option_map plan_as o ≡ plan_in B t.entries p.seen.line) c.in-None.is c.in_ok-plan.ensures.plan) k M
+    (subst (λ (x : AllotmentRecord). IsPlacing x.table x.placer.seen k M) (sym c.self.view_is) allots.placing)
+
+pub returns-in-Some-clause-few : goal.returns-in-Some-clause-few
+returns-in-Some-clause-few g c =
+    let t = c.self.inside.table in
+    let s = c.self.inside.placer.seen in
+    let p = c.in-Some.plan in
+    let up = subst (λ (x : AllotmentRecord). IsUpToDate x.placer.seen x.table) (sym c.self.view_is) c.requires in
+    let waits = served_waits c.planning.ensures.first t s p up (subst (λ (o : Option Plan). (B : Board) → IsBoardOf B t (usable_in s) → option_map plan_as o ≡ plan_in B t.entries s.line) c.in-Some.is c.in_ok-plan.ensures.plan) in
+    subst (λ (x : AllotmentRecord). held_on x.table.entries p.pick.app.0 p.pick.unit.0 p.pick.machine.0 < 100000) c.self.view_is (c.out-out.ensures.few p.pick.machine.0 (subst (λ n. 0 < n) (sym c.out-out.ensures.out) waits))

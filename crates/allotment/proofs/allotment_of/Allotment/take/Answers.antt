@@ -1,56 +1,33 @@
-use Rattle.std.proofs.Common.{◌≡◌, ◌++◌, ◌∷◌, [], List, map, sym, subst, ◌∙◌, ap}
-use Rattle.std.proofs.lemmas.List.{map-append}
-use Rattle.fuxi_terms.specs.Keys.{Spot}
+use Rattle.std.proofs.Common.{◌≡◌, map, sym, subst, ◌∙◌, ap}
+use Rattle.std.specs.Prelude.{T}
+use Rattle.std.specs.FinMap.Entries.{is_sorted}
+use Rattle.fuxi_terms.specs.Keys.{spot_cmp}
 use Rattle.fuxi_terms.specs.Tables.{spot}
 use Rattle.grant_table.specs.Tables.{TableRecord, without_count}
 use Rattle.place_pass.specs.Best.{spot_of}
-use Rattle.place_pass.specs.Placers.{SeenRecord, line_told}
-use Rattle.settling.specs.Placing.{IsPlacing}
-use Rattle.settling.specs.Runs.{AreTouched}
-use Rattle.allotment.specs.Allotted.{AllotmentRecord, AllWait}
-use Rattle.allotment.proofs.Fewer.{after, told, fewer_placing, fewer_wait, fewer_touched}
+use Rattle.allotment.specs.Allotted.{AllotmentRecord, told_at}
+use Rattle.allotment.proofs.Fewer.{IsFewer, fewer_told}
+use Rattle.allotment.proofs.Planning.{if_ok}
 use Rattle.allotment.proofs.allotment_of.Allotment.take.Goals as goal
 
-pub returns-clause-stands : goal.returns-clause-stands
-returns-clause-stands c = λ k M h.
-    let t = c.self.inside.table in
-    let s = c.self.inside.placer.seen in
-    let wait = subst AllWait (sym c.self.view_is) c.requires.waits in
-    let a = c.args.app.0 in
-    let u = c.args.unit.0 in
-    let m = c.args.machine.0 in
+fewer : (c : goal.After-told) (y : AllotmentRecord) → y ≡ told_at c.take.new.self c.self.inside.placer.seen (map spot_of c.self.inside.touched.items) (spot c.args.app.0 c.args.unit.0 c.args.machine.0) → IsFewer (spot c.args.app.0 c.args.unit.0 c.args.machine.0) c.args.count c.args.self y
+fewer c y is =
+    let x = c.args.self in
     let n = c.args.count in
-    let sorted = c.self.invariant.sound.counts.sorted in
-    let N = record M { table = without_count M.table (spot a u m) n } in
-    let table : c.take.new.self ≡ after c.set_numbers.ensures.held t s sorted a u m n wait.each = c.take.ensures in
-    let seen : c.changed.new.self.seen ≡ told c.set_numbers.ensures.held t s sorted a u m n wait.each = c.changed.ensures.seen ∙ ap (λ (x : TableRecord). record s { line = line_told s x a u }) table in
-    let old = subst (λ (x : AllotmentRecord). IsPlacing x.table x.placer.seen k M) (sym c.self.view_is) h.placing in
-    record {
-      placing = subst (λ (x : TableRecord). IsPlacing x c.changed.new.self.seen k N) (sym table)
-          (subst (λ (x : SeenRecord). IsPlacing (after c.set_numbers.ensures.held t s sorted a u m n wait.each) x k N) (sym seen) (fewer_placing c.set_numbers.ensures.held t s sorted a u m n wait.each k M old));
-    }
+    let s = spot c.args.app.0 c.args.unit.0 c.args.machine.0 in
+    let sorted = subst (λ (r : AllotmentRecord). T (is_sorted spot_cmp r.table.entries)) c.self.view_is c.self.invariant.sound.counts.sorted in
+    let same = ap (λ (t : TableRecord). told_at t c.self.inside.placer.seen (map spot_of c.self.inside.touched.items) s) c.take.ensures
+    ∙ ap (λ (r : AllotmentRecord). told_at (record r.table { entries = without_count r.table.entries s n }) r.placer.seen r.touched s) c.self.view_is in
+    subst (IsFewer s n x) (sym (is ∙ same)) (fewer_told c.set_numbers.ensures.held x sorted c.requires.waits c.args.app.0 c.args.unit.0 c.args.machine.0 n)
+
+pub returns-clause-stands : goal.returns-clause-stands
+returns-clause-stands c = if_ok {A = AllotmentRecord} _ _ (λ y is. (fewer c y is).stands) c.told.result c.told.ensures
 
 pub returns-clause-waits : goal.returns-clause-waits
-returns-clause-waits c =
-    let t = c.self.inside.table in
-    let s = c.self.inside.placer.seen in
-    let wait = subst AllWait (sym c.self.view_is) c.requires.waits in
-    let a = c.args.app.0 in
-    let u = c.args.unit.0 in
-    let m = c.args.machine.0 in
-    let n = c.args.count in
-    let sorted = c.self.invariant.sound.counts.sorted in
-    let table : c.take.new.self ≡ after c.set_numbers.ensures.held t s sorted a u m n wait.each = c.take.ensures in
-    let seen : c.changed.new.self.seen ≡ told c.set_numbers.ensures.held t s sorted a u m n wait.each = c.changed.ensures.seen ∙ ap (λ (x : TableRecord). record s { line = line_told s x a u }) table in
-    let made : AllWait (record { table = after c.set_numbers.ensures.held t s sorted a u m n wait.each; placer = record { seen = told c.set_numbers.ensures.held t s sorted a u m n wait.each }; touched = [] }) = record { each = fewer_wait c.set_numbers.ensures.held t s sorted a u m n wait.each } in
-    let here = subst (λ (x : TableRecord). AllWait (record { table = x; placer = record { seen = c.changed.new.self.seen }; touched = [] })) (sym table)
-    (subst (λ (x : SeenRecord). AllWait (record { table = after c.set_numbers.ensures.held t s sorted a u m n wait.each; placer = record { seen = x }; touched = [] })) (sym seen) made) in
-    record { each = here.each }
+returns-clause-waits c = if_ok {A = AllotmentRecord} _ _ (λ y is. (fewer c y is).waits) c.told.result c.told.ensures
 
 pub returns-clause-touches : goal.returns-clause-touches
-returns-clause-touches c =
-    let x = spot c.args.app.0 c.args.unit.0 c.args.machine.0 in
-    let pushed : map spot_of c.push.new.self.items ≡ c.args.self.touched ++ x ∷ [] = ap (map spot_of) c.in_ok-push.ensures.items ∙ map-append spot_of c.self.inside.touched.items _ ∙ ap (λ (r : AllotmentRecord). r.touched ++ x ∷ []) c.self.view_is in
-    let table = c.take.ensures ∙ ap (λ (r : AllotmentRecord). record r.table { entries = without_count r.table.entries x c.args.count }) c.self.view_is in
-    subst (λ (ss : List Spot). AreTouched c.args.self.table.entries c.take.new.self.entries c.args.self.touched ss) (sym pushed)
-    (subst (λ (t : TableRecord). AreTouched c.args.self.table.entries t.entries c.args.self.touched (c.args.self.touched ++ x ∷ [])) (sym table) (fewer_touched c.args.self.table.entries x c.args.count c.args.self.touched))
+returns-clause-touches c = if_ok {A = AllotmentRecord} _ _ (λ y is. (fewer c y is).touches) c.told.result c.told.ensures
+
+pub returns-clause-table : goal.returns-clause-table
+returns-clause-table c = if_ok {A = AllotmentRecord} _ _ (λ y is. (fewer c y is).table) c.told.result c.told.ensures

@@ -7,9 +7,10 @@ use Rattle.written_roles.specs.Placing.{has_pair, lined, waiting_in}
 use Rattle.grant_table.specs.Tables.{as_known}
 use Rattle.place_pass.specs.Cells.{asks_in}
 use Rattle.place_pass.specs.Lines.{LineRecord, same_pair}
-use Rattle.place_pass.specs.Placers.{PlacerRecord, SeenRecord, IsLevelWith, waiting_with}
+use Rattle.place_pass.specs.Placers.{PlacerRecord, SeenRecord, IsLevelWith, asks_seen, waiting_with}
 use Rattle.place_pass.proofs.Lining.{none_filter}
 use Rattle.place_pass.proofs.Telling.{kept_is, lined_has}
+use Rattle.place_pass.proofs.Turns.{few_begin}
 use Rattle.place_pass.proofs.placer.Placer.line_up.Goals as goal
 
 pub keep-requires-clause-level : goal.keep-requires-clause-level
@@ -54,6 +55,15 @@ returns-clause-seen c =
     let turns = joined ∙ ap (λ ns. length (filter r (waiting_in ns (unit_count (as_known t.jobs)) (asks_in w.cells) t.entries))) (sym is) in
     subst (λ (p : PlacerRecord). ◌≡◌ {A = SeenRecord} (record { cluster = w.cluster; cells = w.cells; opened = w.opened; line = c.swap.new.x.pairs; turns = c.self.inside.turns + (c.len.result - c.len-stayed.result) }) (record p.seen { line = lined p.seen.line (waiting_with p.seen t); turns = p.seen.turns + length (filter (λ q. not (has_pair q p.seen.line)) (waiting_with p.seen t)) })) c.self.view_is
     (λ i. record { cluster = w.cluster; cells = w.cells; opened = w.opened; line = line_is c i; turns = c.self.inside.turns + turns i })
+
+pub returns-clause-turns : goal.returns-clause-turns
+returns-clause-turns c =
+    let t = c.args.table.now in
+    let s = c.args.self.now.seen in
+    let jobs = c.cluster-cluster.ensures.sound.in_order in
+    let few = few_begin t.jobs (asks_seen s) t.entries (λ p. not (has_pair p s.line)) jobs (c.admitted_jobs.ensures.numbers t.jobs jobs) in
+    let turns = ap (λ (x : SeenRecord). x.turns) (returns-clause-seen c) in
+    omega (arith, few, turns)
 
 pub returns-clause-level : goal.returns-clause-level
 unfolding IsLevelWith

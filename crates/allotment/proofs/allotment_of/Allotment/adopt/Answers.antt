@@ -1,0 +1,19 @@
+use Rattle.std.proofs.Common.{List, ◌≡◌, ◌∙◌, ap, subst}
+use Rattle.written_roles.specs.Placing.{line_up}
+use Rattle.grant_table.specs.Tables.{TableRecord}
+use Rattle.allotment.specs.Allotted.{Allots, rows_put}
+use Rattle.allotment.proofs.Clearing.{touched_still}
+use Rattle.allotment.proofs.allotment_of.Allotment.adopt.Goals as goal
+
+pub returns-clause-stands : goal.returns-clause-stands
+returns-clause-stands c k M allots =
+    let m = c.args.machine.0 in
+    let rows = c.args.kept.now in
+    let left = c.in_ok-left.left in
+    let x = c.line_up.new.self in
+    let up = c.line_up.ensures.stands k _ (c.in_ok-left.ensures.stands k M allots) in
+    let entries : left.table.entries ≡ rows_put m rows M.table = ap (λ (t : TableRecord). t.entries) c.in_ok-left.ensures.table ∙ ap (rows_put m rows) allots.placing.entries in
+    subst (λ (es : List _). Allots x k (line_up (record M { table = es }))) entries (subst (Allots x k) (c.lines_alike.ensures (record M { table = left.table.entries })) up)
+
+pub returns-clause-spots : goal.returns-clause-spots
+returns-clause-spots c = touched_still c.args.self c.in_ok-left.left c.line_up.new.self c.in_ok-left.ensures.touches c.line_up.ensures.table c.line_up.ensures.touched

@@ -1,0 +1,10 @@
+pub mod ByMachine
+pub mod InPlaces
+pub mod RisingKeys
+pub mod ShownRows
+pub mod TouchedRows
+pub mod UnitKeys
+pub mod InOrder
+pub mod Touched
+pub mod Following
+pub mod Slots

@@ -1,0 +1,99 @@
+-- What is set in the grants of one job: machines that are reported, the counts at the spots that were touched, and what is credited.
+use Rattle.std.specs.Prelude.{◌≡◌, ℕ, ◌<◌, ◌≤◌, true, cond, nat_eq, nat_lt, Bool, ◌&&◌, ◌||◌, T, List, [], ◌∷◌, ◌++◌, length, map, filter, Option, Some, None, slice_get}
+use Rattle.std.specs.Global.{Vec}
+use Rattle.std.specs.List.{AllByRecursion}
+use Rattle.std.specs.Ordering.{nat_cmp}
+use Rattle.std.specs.FinMap.Entries.{is_sorted}
+use Rattle.std.proofs.Common.{get_or}
+use Rattle.fuxi_terms.specs.Counts.{count}
+use Rattle.fuxi_terms.specs.Jobs.{unit_count}
+use Rattle.fuxi_terms.specs.Keys.{Spot, spot_cmp, key_cmp}
+use Rattle.fuxi_terms.specs.Numbers.{has_number}
+use Rattle.fuxi_terms.specs.Limits.{most_machines}
+use Rattle.fuxi_terms.specs.TallyKeys.{reported_key, credited_what, greatest_grant}
+use Rattle.fuxi_terms.specs.declared.Key.{Key}
+use Rattle.schedule_unit.specs.declared.party.MachineNo.{MachineNo}
+use Rattle.written_roles.specs.MasterSteps.{count_entries}
+use Rattle.publishing.specs.Setting.{AreNumbers, IsSetTo}
+use Rattle.grant_table.specs.Tables.{TableRecord, as_known, IsSound}
+use Rattle.broadcast.specs.declared.grants.News.{News}
+use Rattle.broadcast.specs.Showing.{App, is_job, ShowsJob, ShowsGrants}
+
+-- the spot is of an admitted unit and of a machine of the cluster
+abbrev pub has_place : TableRecord → Spot → Bool
+has_place t s = nat_lt s.unit (unit_count (as_known t.jobs) s.job) && nat_lt s.machine (length t.cluster.machines)
+
+-- what the table has at these spots
+abbrev pub counts_at : TableRecord → List Spot → List (Spot × ℕ)
+counts_at t spots = map (λ s. (s, count spot_cmp t.entries s)) (filter (has_place t) spots)
+
+-- the same by job: a list for each number below this
+abbrev pub lists_of : List (Vec (Key × ℕ)) → List (List (Key × ℕ))
+lists_of lists = map (λ (l : Vec (Key × ℕ)). l.items) lists
+
+pub record AreByJob (touched : List (Spot × ℕ)) (jobs : ℕ) (lists : List (Vec (Key × ℕ))) : Type 0 where
+  pub wide : length lists ≡ jobs
+  pub each : (a : ℕ) → a < jobs → get_or (lists_of lists) a [] ≡ count_entries a touched
+
+abbrev pub AreOf : ℕ → List (Key × ℕ) → Type 0
+AreOf what es = AllByRecursion (λ e. nat_eq e.0.what what ≡ true) es
+
+-- numbers of one kind
+pub record AreNumbersOf (what : ℕ) (es : List (Key × ℕ)) : Type 0 where
+  pub numbers : AreNumbers key_cmp greatest_grant es
+  pub kinds : AreOf what es
+
+-- what a step brings is in order
+pub record IsNews (news : News) : Type 0 where
+  pub rising : T (is_sorted {X = ℕ} nat_cmp (map (λ (m : MachineNo). (m.0, 0)) news.machines.items))
+  pub below : AllByRecursion (λ (m : MachineNo). m.0 < most_machines) news.machines.items
+  pub given : AreNumbersOf credited_what news.credited.items
+
+-- the machines that are set in the grants of a job: all that are reported where it was admitted, else the one that is reported now
+abbrev pub reported_now : Option MachineNo → List ℕ
+reported_now None = []
+reported_now (Some n) = cond (nat_lt n.0 most_machines) (n.0 ∷ []) []
+
+abbrev pub machines_of : News → ℕ → List ℕ
+machines_of news a = cond (is_job news.admitted a) (map (λ (m : MachineNo). m.0) news.machines.items) (reported_now news.reported)
+
+abbrev pub reported_numbers : List ℕ → List (Key × ℕ)
+reported_numbers ms = map (λ m. (reported_key m, 1)) ms
+
+abbrev pub credited_to : News → ℕ → List (Key × ℕ)
+credited_to news a = cond (is_job news.job a) news.credited.items []
+
+-- all numbers that are set, where these are the counts
+abbrev pub numbers_of : News → ℕ → List (Key × ℕ) → List (Key × ℕ)
+numbers_of news a counts = reported_numbers (machines_of news a) ++ (counts ++ credited_to news a)
+
+-- an application is shown an earlier map, which these counts take to that of the table
+pub record JobIsBefore (t : TableRecord) (news : News) (now : List ℕ) (a : ℕ) (counts : List (Key × ℕ)) (d : App) : Type 0 where
+  pub sound : IsSound t
+  pub touched : List (Spot × ℕ)
+  pub is : counts ≡ count_entries a touched
+  pub before : List (Spot × ℕ)
+  pub follows : IsSetTo spot_cmp before touched t.entries
+  pub reported : List ℕ
+  pub is_now : (m : ℕ) → has_number m now ≡ (has_number m (machines_of news a) || has_number m reported)
+  pub rising : T (is_sorted {X = ℕ} nat_cmp (map (λ (m : ℕ). (m, 0)) now))
+  pub below : AllByRecursion (λ m. m < most_machines) now
+  pub shown : ShowsJob a reported before d.outgoing.present
+
+-- so is the application of a slot
+pub record SlotIsShown (news : News) (a : ℕ) (counts : List (Key × ℕ)) (old : App) (slot : Option App) : Type 0 where
+  pub new : App
+  pub there : slot ≡ Some new
+  pub shows : (t : TableRecord) (now : List ℕ) → JobIsBefore t news now a counts old → ShowsGrants t news now a old new
+
+pub record IsInSlot (touched : List (Spot × ℕ)) (news : News) (a : ℕ) (old : App) (slots : List (Option App)) : Type 0 where
+  pub slot : Option App
+  pub there : slice_get slots a ≡ Some slot
+  pub shown : SlotIsShown news a (count_entries a touched) old slot
+
+-- the applications of the first slots are, and the others are as they were
+pub record AreShown (touched : List (Spot × ℕ)) (news : News) (jobs : ℕ) (old new : List (Option App)) : Type 0 where
+  pub wide : length new ≡ length old
+  pub none : (a : ℕ) → slice_get old a ≡ Some None → slice_get new a ≡ Some None
+  pub some : (a : ℕ) (d : App) → a < jobs → slice_get old a ≡ Some (Some d) → IsInSlot touched news a d new
+  pub rest : (a : ℕ) → jobs ≤ a → slice_get new a ≡ slice_get old a

@@ -1,0 +1,274 @@
+//! Grants, by job.
+
+ghost use Rattle.std.specs.Prelude.{◌≡◌, ◌<◌, ◌^◌, ◌++◌, ◌∷◌, true, false, nat_eq, ℕ, T, IsTrue, List, [], Some, None, length, map, IfOk, OnOk};
+ghost use Rattle.std.specs.Ordering.{nat_cmp};
+ghost use Rattle.std.specs.FinMap.Entries.{is_sorted};
+ghost use Rattle.schedule_unit.specs.declared.party.MachineNo.{MachineNo as MachineSeen};
+ghost use Rattle.std.specs.List.{AllByRecursion};
+ghost use Rattle.std.proofs.Common.{set, get_or};
+ghost use Rattle.fuxi_terms.specs.Counts.{count};
+ghost use Rattle.fuxi_terms.specs.Keys.{key_cmp, spot_cmp};
+ghost use Rattle.fuxi_terms.specs.TallyKeys.{reported_key, count_key, greatest_grant, credited_what};
+ghost use Rattle.publishing.specs.Setting.{AreNumbers};
+ghost use Rattle.grant_table.specs.Tables.{TableRecord};
+ghost use Rattle.broadcast.specs.Showing.{App, spot_of, is_job, AreInOrder, GrantsAreBefore, ShowsGrants, ShowsAllGrants, HaveRoom};
+ghost use Rattle.broadcast.specs.OneJob.{has_place, counts_at, lists_of, AreByJob, AreNumbersOf, IsNews, machines_of, reported_now, reported_numbers, credited_to, numbers_of, JobIsBefore, SlotIsShown};
+
+use core_side::Side;
+use fuxi_terms::limits::MOST_MACHINES;
+use fuxi_terms::{Key, OutOfMemory};
+use grant_table::{GrantTable, Pick};
+use party_ledgers::{Demand, Grants};
+use publishing::{grants_follow_tables, grants_have_numbers, numbers_are_set, show_grants};
+use schedule_unit::{AppNo, MachineNo};
+use std::alloc::Global;
+
+/// What a step brings to applications beside the grants that changed.
+#[derive(Drop)]
+pub struct News {
+    /// The machine that is reported from now on.
+    pub reported: Option<MachineNo>,
+    /// The job that was admitted: nothing was shown to it yet, and its grants are appended in any case.
+    pub admitted: Option<AppNo>,
+    /// The machines that are reported, by numbers that rise, where a job was admitted.
+    pub machines: Vec<MachineNo>,
+    /// The job to which something is credited.
+    pub job: Option<AppNo>,
+    /// What is credited to it, by keys that rise.
+    pub credited: Vec<(Key, u64)>,
+}
+
+/// Shows each application, by the number of its job, its grants: one change of them, where they are others or the job was admitted. The head is the
+/// boot that is known of it; a new boot loses what was credited. The spots are those at which grants changed since, in order; each last
+/// index is below 2^62. It costs the spots and a constant for each job.
+///
+/// Want of memory leaves some of the applications shown.
+pub fn show_all_grants(
+    apps: &mut Vec<Option<Side<Grants, Demand>>>,
+    alloc: Global,
+    table: &GrantTable,
+    spots: &[Pick],
+    news: &News,
+) -> Result<(), OutOfMemory>
+    requires order { AreInOrder (map spot_of spots.now) }
+    requires room { HaveRoom apps.old.items }
+    requires machines { T (is_sorted {X = ℕ} nat_cmp (map (λ (m : MachineSeen). (m.0, 0)) news.now.machines.items)) }
+    requires below { AllByRecursion (λ (m : MachineSeen). m.0 < 256) news.now.machines.items }
+    requires credited { AreNumbers key_cmp greatest_grant news.now.credited.items }
+    requires kinds { AllByRecursion (λ e. nat_eq e.0.what credited_what ≡ true) news.now.credited.items }
+    ensures { OnOk result ((now : List ℕ) → GrantsAreBefore table.now (map spot_of spots.now) news.now now apps.old.items → ShowsAllGrants table.now news.now now apps.old.items apps.new.items) }
+{
+    let _cluster = table.cluster();
+    let counts = counts_by_job(alloc, table, spots, apps.len())?;
+    for app in 0..apps.len() {
+        show_slot(&mut apps[app], alloc, app, &counts[app], news)?;
+    }
+    Ok(())
+}
+
+// Shows the application of a slot its grants, where there is one.
+fn show_slot(
+    slot: &mut Option<Side<Grants, Demand>>,
+    alloc: Global,
+    app: usize,
+    counts: &[(Key, u64)],
+    news: &News,
+) -> Result<(), OutOfMemory>
+    requires last { (d : App) → slot.old ≡ Some d → d.outgoing.last < 2 ^ 62 }
+    requires counts { AreNumbersOf 2 counts.now }
+    requires news { IsNews news.now }
+    ensures none { slot.old ≡ None → slot.new ≡ None }
+    ensures some { OnOk result ((d : App) → slot.old ≡ Some d → SlotIsShown news.now app counts.now d slot.new) }
+{
+    match slot {
+        Some(side) => show_one(side, alloc, app, counts, news),
+        None => Ok(()),
+    }
+}
+
+// Shows an application its grants, under the boot that is known of it.
+fn show_one(
+    side: &mut Side<Grants, Demand>,
+    alloc: Global,
+    app: usize,
+    counts: &[(Key, u64)],
+    news: &News,
+) -> Result<(), OutOfMemory>
+    requires last { side.old.outgoing.last < 2 ^ 62 }
+    requires counts { AreNumbersOf 2 counts.now }
+    requires news { IsNews news.now }
+    ensures { OnOk result ((t : TableRecord) (now : List ℕ) → JobIsBefore t news.now now app counts.now side.old → ShowsGrants t news.now now app side.old side.new) }
+{
+    let boot = side.peer();
+    let _entries = side.sent().entries();
+    grants_follow_tables();
+    grants_have_numbers();
+    numbers_are_set();
+    if is_quiet(news, app, counts, boot, side.sent().head()) {
+        side.is_shown();
+        return Ok(());
+    }
+    let numbers = numbers_of(alloc, news, app, counts)?;
+    show_grants(side, alloc, boot, &numbers, is_job(news.admitted, app))
+}
+
+// Whether nothing is set in the grants of a job, which was not admitted and whose boot is the one that its grants have.
+fn is_quiet(news: &News, app: usize, counts: &[(Key, u64)], boot: u64, head: u64) -> bool
+    ensures boot { IsTrue result → boot ≡ head }
+    ensures admitted { IsTrue result → is_job news.now.admitted app ≡ false }
+    ensures numbers { IsTrue result → numbers_of news.now app counts.now ≡ [] }
+{
+    boot == head
+        && !is_job(news.admitted, app)
+        && news.reported.is_none()
+        && counts.is_empty()
+        && credited_to(news, app).is_empty()
+}
+
+// All numbers that are set in the grants of a job.
+fn numbers_of(
+    alloc: Global,
+    news: &News,
+    app: usize,
+    counts: &[(Key, u64)],
+) -> Result<Vec<(Key, u64)>, OutOfMemory>
+    ensures { IfOk result (λ numbers. numbers.items ≡ numbers_of news.now app counts.now) }
+{
+    let mut numbers = reported_to(alloc, news, app)?;
+    numbers.extend_from_slice(counts)?;
+    numbers.extend_from_slice(credited_to(news, app))?;
+    Ok(numbers)
+}
+
+// The machines that are set in the grants of a job.
+fn reported_to(alloc: Global, news: &News, app: usize) -> Result<Vec<(Key, u64)>, OutOfMemory>
+    ensures { IfOk result (λ numbers. numbers.items ≡ reported_numbers (machines_of news.now app)) }
+{
+    if is_job(news.admitted, app) {
+        reported_all(alloc, &news.machines)
+    } else {
+        reported_now(alloc, news.reported)
+    }
+}
+
+// Each of these machines as reported.
+fn reported_all(alloc: Global, machines: &[MachineNo]) -> Result<Vec<(Key, u64)>, OutOfMemory>
+    ensures { IfOk result (λ numbers. numbers.items ≡ reported_numbers (map (λ (m : MachineSeen). m.0) machines.now)) }
+{
+    let mut numbers = Vec::new(alloc);
+    for machine in machines {
+        numbers.push(reported(*machine))?;
+    }
+    Ok(numbers)
+}
+
+// The machine that is reported now, where it may be one.
+fn reported_now(alloc: Global, machine: Option<MachineNo>) -> Result<Vec<(Key, u64)>, OutOfMemory>
+    ensures { IfOk result (λ numbers. numbers.items ≡ reported_numbers (reported_now machine)) }
+{
+    let mut numbers = Vec::new(alloc);
+    match machine {
+        Some(machine) if (machine.0 as usize) < MOST_MACHINES => {
+            numbers.push(reported(machine))?;
+            Ok(numbers)
+        }
+        _ => Ok(numbers),
+    }
+}
+
+// What says that a machine is reported.
+fn reported(machine: MachineNo) -> (Key, u64)
+    ensures { result ≡ (reported_key machine.0, 1) }
+{
+    let key = Key {
+        what: 1,
+        unit: 0,
+        number: machine.0,
+    };
+    (key, 1)
+}
+
+// What is credited to a job.
+fn credited_to(news: &News, app: usize) -> &[(Key, u64)]
+    ensures { result.now ≡ credited_to news.now app }
+{
+    if is_job(news.job, app) {
+        &news.credited
+    } else {
+        &[]
+    }
+}
+
+// Whether it is the job with this number.
+fn is_job(job: Option<AppNo>, app: usize) -> bool
+    ensures { result ≡ is_job job app }
+{
+    match job {
+        Some(job) => job.0 as usize == app,
+        None => false,
+    }
+}
+
+// What the table has at the spots, in a list for each job. Spots of other jobs are passed over.
+fn counts_by_job(
+    alloc: Global,
+    table: &GrantTable,
+    spots: &[Pick],
+    jobs: usize,
+) -> Result<Vec<Vec<(Key, u64)>>, OutOfMemory>
+    ensures { IfOk result (λ lists. AreByJob (counts_at table.now (map spot_of spots.now)) jobs lists.items) }
+{
+    let mut lists = empty_lists(alloc, jobs)?;
+    for spot in spots {
+        let app = spot.app.0 as usize;
+        if app < jobs && has_place(table, spot) {
+            put_count(&mut lists, app, count_at(table, spot))?;
+        }
+    }
+    Ok(lists)
+}
+
+// So many lists with nothing in them.
+fn empty_lists(alloc: Global, jobs: usize) -> Result<Vec<Vec<(Key, u64)>>, OutOfMemory>
+    ensures { IfOk result (λ lists. AreByJob [] jobs lists.items) }
+{
+    let mut lists = Vec::new(alloc);
+    for _ in 0..jobs {
+        lists.push(Vec::new(alloc))?;
+    }
+    Ok(lists)
+}
+
+// Whether a spot is of an admitted unit and of a machine of the cluster.
+fn has_place(table: &GrantTable, spot: &Pick) -> bool
+    ensures { result ≡ has_place table.now (spot_of spot.now) }
+{
+    (spot.unit.0 as usize) < table.units(spot.app) && spot.machine.0 < table.cluster().machines()
+}
+
+// What the table has at a spot.
+fn count_at(table: &GrantTable, spot: &Pick) -> (Key, u64)
+    requires { has_place table.now (spot_of spot.now) ≡ true }
+    ensures { result ≡ (count_key spot.now.unit.0 spot.now.machine.0, count spot_cmp table.now.entries (spot_of spot.now)) }
+{
+    let key = Key {
+        what: 2,
+        unit: spot.unit.0,
+        number: spot.machine.0,
+    };
+    let count = table.held_on(spot.app, spot.unit, spot.machine);
+    (key, count as u64)
+}
+
+// One count more of a job.
+fn put_count(
+    lists: &mut Vec<Vec<(Key, u64)>>,
+    app: usize,
+    entry: (Key, u64),
+) -> Result<(), OutOfMemory>
+    requires { app < length lists.old.items }
+    ensures { OnOk result (lists_of lists.new.items ≡ set (lists_of lists.old.items) app (get_or (lists_of lists.old.items) app [] ++ entry ∷ [])) }
+{
+    lists[app].push(entry)?;
+    Ok(())
+}
