@@ -331,7 +331,7 @@ impl Allotment {
         match find(alloc, &self.table, &self.placer, steps)? {
             Some(plan) => {
                 let pick = plan.pick;
-                let _out = self.placer.out(&self.table, pick.app, pick.unit);
+                let _outstanding = self.placer.outstanding(&self.table, pick.app, pick.unit);
                 Ok(Some(plan))
             }
             None => Ok(None),
@@ -445,12 +445,12 @@ impl Allotment {
     }
 
     /// How many grants of an admitted unit are out: wanted and not held.
-    pub fn out(&self, app: AppNo, unit: UnitNo) -> u32
+    pub fn outstanding(&self, app: AppNo, unit: UnitNo) -> u32
         requires { unit.0 < unit_count (as_known self.now.table.jobs) app.0 }
         ensures { result ≡ out_of (asks_seen self.now.placer.seen) self.now.table.entries app.0 unit.0 }
     {
         levels();
-        self.placer.out(&self.table, app, unit)
+        self.placer.outstanding(&self.table, app, unit)
     }
 
     /// The spots that changed since they were last cleared, in the order of the changes.

@@ -114,7 +114,7 @@ impl Placer {
         ensures level { (before : TableRecord) → IsLevelWith self.old before → IsSetFrom before table.now (spot app.0 unit.0 machine.0) → IsLevelWith self.new table.now }
         ensures up { (before : TableRecord) → IsUpToDate self.old.seen before → (is : IsSetFrom before table.now (spot app.0 unit.0 machine.0)) → count spot_cmp before.entries (spot app.0 unit.0 machine.0) ≤ is.number → IsUpToDate self.new.seen table.now }
     {
-        if self.wishes.out(table, app, unit) == 0 {
+        if self.wishes.outstanding(table, app, unit) == 0 {
             self.other.clear();
             keep_others(&mut self.other, &self.line, &self.wishes, app, unit);
             mem::swap(&mut self.line, &mut self.other);
@@ -153,16 +153,16 @@ impl Placer {
     }
 
     /// How many grants of an admitted unit are out: wanted and not held.
-    pub fn out(&self, table: &GrantTable, app: AppNo, unit: UnitNo) -> u32
+    pub fn outstanding(&self, table: &GrantTable, app: AppNo, unit: UnitNo) -> u32
         requires level { IsLevelWith self.now table.now }
         requires unit { unit.0 < units_seen self.now.seen app.0 }
-        ensures out { result ≡ out_of (asks_seen self.now.seen) table.now.entries app.0 unit.0 }
+        ensures outstanding { result ≡ out_of (asks_seen self.now.seen) table.now.entries app.0 unit.0 }
         ensures few { (m : ℕ) → 0 < result → held_on table.now.entries app.0 unit.0 m < 100000 }
     {
         set_numbers();
         let _sound = table.cluster();
         let _wish = self.wishes.wish(app, unit);
-        self.wishes.out(table, app, unit)
+        self.wishes.outstanding(table, app, unit)
     }
 
     /// The number that the next unit gets that begins to wait.

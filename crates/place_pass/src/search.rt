@@ -42,7 +42,7 @@ impl Wishes {
     ghost use Rattle.place_pass.specs.Best.{IsFree};
 
     /// What a unit still wants.
-    pub(crate) fn out(&self, table: &GrantTable, app: AppNo, unit: UnitNo) -> u32
+    pub(crate) fn outstanding(&self, table: &GrantTable, app: AppNo, unit: UnitNo) -> u32
         requires here { unit.0 < length (get_or self.now.cells app.0 []) }
         requires there { unit.0 < unit_count (as_known table.now.jobs) app.0 }
         ensures { result ≡ out_of (asks_in self.now.cells) table.now.entries app.0 unit.0 }
@@ -58,7 +58,7 @@ impl Wishes {
         ensures grows { result ≡ may_grow_in (board_over self.now.cells self.now.opened table.now) table.now.entries app.0 unit.0 }
         ensures narrow { IsTrue result → IsNarrow table.now app.0 unit.0 }
     {
-        if self.out(table, app, unit) == 0 {
+        if self.outstanding(table, app, unit) == 0 {
             return false;
         }
         let wish = self.wish(app, unit);

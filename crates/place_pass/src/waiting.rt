@@ -47,7 +47,7 @@ pub(crate) fn keep(next: &mut Line, line: &Line, wishes: &Wishes, table: &GrantT
     line.distinct();
     for place in 0..line.len() {
         let (app, unit) = line.at(place);
-        if wishes.out(table, app, unit) == 0 {
+        if wishes.outstanding(table, app, unit) == 0 {
             continue;
         }
         add_unit(next, wishes, app, unit);
@@ -93,7 +93,7 @@ fn join_units(next: &mut Line, line: &Line, wishes: &Wishes, table: &GrantTable,
     let units = wishes.units(app) as u8;
     for number in 0..units {
         let unit = UnitNo(number);
-        if wishes.out(table, app, unit) == 0 {
+        if wishes.outstanding(table, app, unit) == 0 {
             continue;
         }
         if line.has(app.0, number) {

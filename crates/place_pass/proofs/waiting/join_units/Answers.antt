@@ -12,14 +12,14 @@ and_off : (b : Bool) → (b && false) ≡ false
 and_off true = refl
 and_off false = refl
 
-pub loop-number-preserved-then-out-eq0 : goal.loop-number-preserved-then-out-eq0
-loop-number-preserved-then-out-eq0 c =
+pub loop-number-preserved-then-outstanding-eq0 : goal.loop-number-preserved-then-outstanding-eq0
+loop-number-preserved-then-outstanding-eq0 c =
     let r : ℕ × ℕ → Bool = λ p. not (has_pair p c.args.line.now.pairs) in
     let a = c.args.app.0 in
     let n = c.loop-number.number in
     let w : ℕ → Bool = λ u. nat_lt 0 (out_of (asks_in c.args.wishes.now.cells) c.args.table.now.entries a u) in
     let old = c.args.next.now.pairs in
-    let test : nat_lt 0 (out_of (asks_in c.args.wishes.now.cells) c.args.table.now.entries c.args.app.0 c.loop-number.number) ≡ false = let e = c.out.ensures in let z = c.if-out-eq0.true in grind (arith, nat_tests, e, z) in
+    let test : nat_lt 0 (out_of (asks_in c.args.wishes.now.cells) c.args.table.now.entries c.args.app.0 c.loop-number.number) ≡ false = let e = c.outstanding.ensures in let z = c.if-outstanding-eq0.true in grind (arith, nat_tests, e, z) in
     record {
       pairs = c.loop-number.invariant.pairs ∙ sym (append_nil _) ∙ joined_more old r w a n false (ap (λ b. b && r (a, n)) test);
       admitted = c.loop-number.invariant.admitted;
@@ -58,7 +58,7 @@ loop-number-preserved c =
     let n = c.loop-number.number in
     let w : ℕ → Bool = λ u. nat_lt 0 (out_of (asks_in c.args.wishes.now.cells) c.args.table.now.entries a u) in
     let old = c.args.next.now.pairs in
-    let some : nat_lt 0 (out_of (asks_in c.args.wishes.now.cells) c.args.table.now.entries c.args.app.0 c.loop-number.number) ≡ true = let e = c.out.ensures in let z = c.if-out-eq0.false in grind (arith, nat_tests, e, z) in
+    let some : nat_lt 0 (out_of (asks_in c.args.wishes.now.cells) c.args.table.now.entries c.args.app.0 c.loop-number.number) ≡ true = let e = c.outstanding.ensures in let z = c.if-outstanding-eq0.false in grind (arith, nat_tests, e, z) in
     let test : r (a, n) ≡ true = ap not (sym c.has.ensures ∙ c.if-has.false) in
     record {
       pairs = c.add_unit.ensures.pairs ∙ ap (λ ks. ks ++ (a, n) ∷ []) c.loop-number.invariant.pairs ∙ joined_more old r w a n true (ap (λ b. b && r (a, n)) some ∙ test);

@@ -7,13 +7,13 @@ use Rattle.place_pass.specs.Lines.{same_pair}
 use Rattle.place_pass.proofs.Lining.{none_filter, filter_more, distinct_at, append_nil}
 use Rattle.place_pass.proofs.waiting.keep.Goals as goal
 
-pub loop-place-preserved-then-out-eq0 : goal.loop-place-preserved-then-out-eq0
-loop-place-preserved-then-out-eq0 c =
+pub loop-place-preserved-then-outstanding-eq0 : goal.loop-place-preserved-then-outstanding-eq0
+loop-place-preserved-then-outstanding-eq0 c =
     let q : ℕ × ℕ → Bool = λ p. nat_lt 0 (out_of (asks_in c.args.wishes.now.cells) c.args.table.now.entries p.0 p.1) in
     let line = c.args.line.now.pairs in
     let place = c.loop-place.place in
     let p : ℕ × ℕ = (c.at.result.0.0, c.at.result.1.0) in
-    let test : nat_lt 0 (out_of (asks_in c.args.wishes.now.cells) c.args.table.now.entries c.at.result.0.0 c.at.result.1.0) ≡ false = let e = c.out.ensures in let z = c.if-out-eq0.true in grind (arith, nat_tests, e, z) in
+    let test : nat_lt 0 (out_of (asks_in c.args.wishes.now.cells) c.args.table.now.entries c.at.result.0.0 c.at.result.1.0) ≡ false = let e = c.outstanding.ensures in let z = c.if-outstanding-eq0.true in grind (arith, nat_tests, e, z) in
     record {
       pairs = c.loop-place.invariant.pairs ∙ sym (filter_more q line place p c.at.ensures ∙ ap (λ b. filter q (take place line) ++ cond b (p ∷ []) []) test ∙ append_nil (filter q (take place line)));
       admitted = c.loop-place.invariant.admitted;
@@ -34,7 +34,7 @@ loop-place-preserved c =
     let line = c.args.line.now.pairs in
     let place = c.loop-place.place in
     let p : ℕ × ℕ = (c.at.result.0.0, c.at.result.1.0) in
-    let test : nat_lt 0 (out_of (asks_in c.args.wishes.now.cells) c.args.table.now.entries c.at.result.0.0 c.at.result.1.0) ≡ true = let e = c.out.ensures in let z = c.if-out-eq0.false in grind (arith, nat_tests, e, z) in
+    let test : nat_lt 0 (out_of (asks_in c.args.wishes.now.cells) c.args.table.now.entries c.at.result.0.0 c.at.result.1.0) ≡ true = let e = c.outstanding.ensures in let z = c.if-outstanding-eq0.false in grind (arith, nat_tests, e, z) in
     record {
       pairs = c.add_unit.ensures.pairs ∙ ap (λ ks. ks ++ p ∷ []) c.loop-place.invariant.pairs ∙ sym (filter_more q line place p c.at.ensures ∙ ap (λ b. filter q (take place line) ++ cond b (p ∷ []) []) test);
       admitted = c.add_unit.ensures.admitted;

@@ -42,4 +42,4 @@ returns-in-Some-clause-few g c =
     let p = c.in-Some.plan in
     let up = subst (λ (x : AllotmentRecord). IsUpToDate x.placer.seen x.table) (sym c.self.view_is) c.requires in
     let waits = served_waits c.planning.ensures.first t s p up (subst (λ (o : Option Plan). (B : Board) → IsBoardOf B t (usable_in s) → option_map plan_as o ≡ plan_in B t.entries s.line) c.in-Some.is c.in_ok-plan.ensures.plan) in
-    subst (λ (x : AllotmentRecord). held_on x.table.entries p.pick.app.0 p.pick.unit.0 p.pick.machine.0 < 100000) c.self.view_is (c.out-out.ensures.few p.pick.machine.0 (subst (λ n. 0 < n) (sym c.out-out.ensures.out) waits))
+    subst (λ (x : AllotmentRecord). held_on x.table.entries p.pick.app.0 p.pick.unit.0 p.pick.machine.0 < 100000) c.self.view_is (c.outstanding-outstanding.ensures.few p.pick.machine.0 (subst (λ n. 0 < n) (sym c.outstanding-outstanding.ensures.outstanding) waits))

@@ -38,7 +38,7 @@ allowed c =
 pub returns-clause-grows : goal.returns-clause-grows
 returns-clause-grows c =
     let t = c.args.table.now in
-    let some : nat_lt 0 (out_of (asks_in c.args.self.now.cells) t.entries c.args.app.0 c.args.unit.0) ≡ true = let e = c.out.ensures in let f = c.if-out-eq0.false in grind (arith, nat_tests, e, f) in
+    let some : nat_lt 0 (out_of (asks_in c.args.self.now.cells) t.entries c.args.app.0 c.args.unit.0) ≡ true = let e = c.outstanding.ensures in let f = c.if-outstanding-eq0.false in grind (arith, nat_tests, e, f) in
     allowed c ∙ ap (λ b. b && is_allowed_in t.cluster (group_of (as_known t.jobs)) (size_at (as_known t.jobs)) t.entries c.args.app.0 c.args.unit.0) (sym some)
 
 pub returns-clause-narrow : goal.returns-clause-narrow

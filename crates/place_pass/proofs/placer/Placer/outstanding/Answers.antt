@@ -4,11 +4,11 @@ use Rattle.fuxi_terms.specs.Tables.{spot, held, held_on}
 use Rattle.fuxi_terms.proofs.Booleans.{and_true, nat_itself}
 use Rattle.place_pass.specs.Placers.{PlacerRecord, IsLevelWith, units_seen}
 use Rattle.place_pass.proofs.Matching.{count_is}
-use Rattle.place_pass.proofs.placer.Placer.out.Goals as goal
+use Rattle.place_pass.proofs.placer.Placer.outstanding.Goals as goal
 
-pub out-requires-clause-there : goal.out-requires-clause-there
+pub outstanding-requires-clause-there : goal.outstanding-requires-clause-there
 unfolding IsLevelWith
-out-requires-clause-there c =
+outstanding-requires-clause-there c =
     let p = c.args.self.now in
     let units = count_is p.seen.cluster p.seen.cells c.args.table.now c.requires.level c.args.app.0 in
     let there = c.requires.unit in
@@ -30,5 +30,5 @@ returns-clause-few c m some =
     let here : (nat_eq a a && nat_eq u u) ≡ true = and_true (nat_eq a a) (nat_eq u u) (nat_itself a) (nat_itself u) in
     let rest = c.set_numbers.ensures.held es (spot a u m) 0 a u c.cluster-sound.ensures.sound.counts.sorted in
     let part = is_part (nat_eq a a && nat_eq u u) _ (held es a u) (held_on es a u m) here rest in
-    let out = c.out.ensures in
+    let out = c.outstanding.ensures in
     omega (arith, some, want, part, out)
