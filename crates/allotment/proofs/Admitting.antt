@@ -1,6 +1,6 @@
 -- A job is admitted.
 use Rattle.std.proofs.Common.{◌≡◌, ℕ, ◌<◌, Bool, true, false, cond, nat_eq, nat_lt, List, [], ◌∷◌, get_or, refl, sym, ◌∙◌, ap, arith, inl, inr}
-use Rattle.std.specs.Prelude.{Option, Some, None, is_some}
+use Rattle.std.specs.Prelude.{Option, Some, None}
 use Rattle.std.specs.Option.{option_map}
 use Rattle.std.proofs.lemmas.Bool.{cases_lt}
 use Rattle.std.proofs.lemmas.Bool.Decides.{nat_tests}
@@ -10,6 +10,7 @@ use Rattle.fuxi_terms.specs.Jobs.{KnownJob, job_of, job_numbers, is_known}
 use Rattle.fuxi_terms.specs.Numbers.{with_number}
 use Rattle.fuxi_terms.specs.TallyKeys.{want_key, near_key, rack_key, avoid_key}
 use Rattle.fuxi_terms.proofs.Booleans.{number_is}
+use Rattle.fuxi_terms.proofs.Lookups.{none_is}
 use Rattle.written_roles.specs.HardState.{with_job}
 use Rattle.written_roles.specs.Masters.{Master}
 use Rattle.grant_table.specs.Tables.{TableRecord, as_known, with_admitted}
@@ -105,17 +106,10 @@ recorded false j o = refl
 abbrev pub FoundLaw : Type 0
 FoundLaw = (j : JobRecord) (ks : List JobRecord) (a : ℕ) → is_known (as_known ks) j.number ≡ false → job_of (as_known (with_admitted j ks)) a ≡ cond (nat_eq j.number a) (Some (record { job = j; ended = false })) (job_of (as_known ks) a)
 
-pub unknown : (jobs : List KnownJob) (a : ℕ) → is_known jobs a ≡ false → job_of jobs a ≡ None
-unknown jobs a e = by (job_of jobs a) e
-  where
-    by : (o : Option KnownJob) → is_some o ≡ false → o ≡ None
-    by None e = refl
-    by (Some k) e = cc
-
 module _ (law : FoundLaw) (t : TableRecord) (s new : SeenRecord) (c : ClusterRecord) (M : Master) (j : JobRecord) (h : IsPlacing t s c M) (fresh : is_known (as_known t.jobs) j.number ≡ false)
     (asks : (a : ℕ) (k : Key) → asks_seen new a k ≡ asks_seen s a k) (opened : new.opened ≡ s.opened) (line : new.line ≡ s.line) where
   absent : job_of M.jobs j.number ≡ None
-  absent = no_job (job_of M.jobs j.number) (sym (h.jobs j.number) ∙ ap (option_map (λ (k : KnownJob). k.job)) (unknown (as_known t.jobs) j.number fresh))
+  absent = no_job (job_of M.jobs j.number) (sym (h.jobs j.number) ∙ ap (option_map (λ (k : KnownJob). k.job)) (none_is (job_of (as_known t.jobs) j.number) fresh))
 
   pub admitted_placing : IsPlacing (record t { jobs = with_admitted j t.jobs }) new c (record M { jobs = with_job j M.jobs })
   admitted_placing = record {

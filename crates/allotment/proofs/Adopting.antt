@@ -21,7 +21,7 @@ use Rattle.fuxi_terms.specs.Vectors.{at_place, is_zero, times}
 use Rattle.fuxi_terms.proofs.Booleans.{both_true, number_is, nat_itself, eq_turned, or_right}
 use Rattle.fuxi_terms.proofs.Counting.{both_true as both, lesser, tied, below_none}
 use Rattle.fuxi_terms.proofs.KeyOrders.{spot_total, same_spot, row_key_total}
-use Rattle.fuxi_terms.proofs.Lists.{all_at}
+use Rattle.fuxi_terms.proofs.Lists.{all_at, take_last}
 use Rattle.fuxi_terms.proofs.VectorLaws.{at_place-plus, at_place-times, at_place-padded, same_at_places}
 use Rattle.written_roles.specs.Masters.{Master, asked, out_of}
 use Rattle.written_roles.specs.Placing.{has_pair, line_after}
@@ -30,7 +30,6 @@ use Rattle.allotment.specs.Allotted.{AllotmentRecord, Allots, AllWait, Adds, Add
 use Rattle.allotment.proofs.Clearing.{is_spot, touched_again, untouched}
 use Rattle.allotment.proofs.Fewer.{HeldLaw}
 use Rattle.allotment.proofs.Granting.{filter_twice}
-use Rattle.allotment.proofs.Victims.{take_last}
 
 -- an entry is of this unit
 abbrev is_of : ℕ → ℕ → RowKey × ℕ → Bool

@@ -10,7 +10,7 @@ use Rattle.fuxi_terms.specs.Jobs.{KnownJob, job_of, unit_count}
 use Rattle.fuxi_terms.specs.Counts.{count}
 use Rattle.fuxi_terms.specs.Keys.{Spot, spot_cmp}
 use Rattle.fuxi_terms.specs.Tables.{spot, held_on}
-use Rattle.fuxi_terms.proofs.Booleans.{both_true, and_true, number_is, nat_itself, same_tests}
+use Rattle.fuxi_terms.proofs.Booleans.{both_true, and_true, number_is, nat_itself, same_tests, and_false}
 use Rattle.fuxi_terms.proofs.Counting.{tied, count-set_count}
 use Rattle.fuxi_terms.proofs.KeyOrders.{spot_total, same_spot}
 use Rattle.written_roles.specs.Masters.{Master}
@@ -116,11 +116,7 @@ unit_more a u m s = by (nat_eq s.job a) (nat_eq s.machine m) (nat_lt s.unit u) (
     below = grind (arith, nat_tests)
 
 pub no_unit_yet : (a m : ℕ) (s : Spot) → false ≡ (nat_eq s.job a && (nat_lt s.unit 0 && nat_eq s.machine m))
-no_unit_yet a m s = let f : nat_lt s.unit 0 ≡ false = grind (arith, nat_tests) in sym (ap (λ b. nat_eq s.job a && (b && nat_eq s.machine m)) f ∙ none (nat_eq s.job a))
-  where
-    none : (b : Bool) → (b && false) ≡ false
-    none true = refl
-    none false = refl
+no_unit_yet a m s = let f : nat_lt s.unit 0 ≡ false = grind (arith, nat_tests) in sym (ap (λ b. nat_eq s.job a && (b && nat_eq s.machine m)) f ∙ and_false (nat_eq s.job a))
 
 -- what four clauses of an answer say together
 pub if_ok_four : {A E : Type 0} (P1 P2 P3 P4 Q : A → Type 0) → ((x : A) → P1 x → P2 x → P3 x → P4 x → Q x) → (r : Result A E) → IfOk r P1 → IfOk r P2 → IfOk r P3 → IfOk r P4 → IfOk r Q

@@ -7,7 +7,7 @@ use Rattle.fuxi_terms.specs.Cluster.{ClusterRecord}
 use Rattle.fuxi_terms.specs.Counts.{count}
 use Rattle.fuxi_terms.specs.Keys.{spot_cmp}
 use Rattle.fuxi_terms.specs.Tables.{spot, held}
-use Rattle.fuxi_terms.proofs.Booleans.{both_true, and_true, number_is, nat_itself}
+use Rattle.fuxi_terms.proofs.Booleans.{both_true, and_true, number_is, nat_itself, or_right}
 use Rattle.written_roles.specs.Masters.{Master, asked, out_of}
 use Rattle.written_roles.specs.Placing.{has_pair, line_after}
 use Rattle.grant_table.specs.Tables.{TableRecord, with_count}
@@ -19,15 +19,11 @@ use Rattle.allotment.proofs.Fewer.{HeldLaw, set_touched}
 abbrev is_pair : ℕ → ℕ → ℕ × ℕ → Bool
 is_pair a u p = nat_eq p.0 a && nat_eq p.1 u
 
-or_second : (a b : Bool) → b ≡ true → (a || b) ≡ true
-or_second true b e = refl
-or_second false b e = e
-
 -- where all others pass a test, those that pass it are all of them, or all others
 kept_line : (test : ℕ × ℕ → Bool) (a u : ℕ) (line : List (ℕ × ℕ)) → ((p : ℕ × ℕ) → has_pair p line ≡ true → is_pair a u p ≡ false → test p ≡ true) → filter test line ≡ cond (test (a, u)) line (filter (λ p. not (is_pair a u p)) line)
 kept_line test a u [] h = elim (test (a, u)) as (λ b. ◌≡◌ {A = List (ℕ × ℕ)} [] (cond b [] [])) [ true ↦ refl | false ↦ refl ]
 kept_line test a u (p ∷ ps) h =
-    let rest = kept_line test a u ps (λ q e f. h q (or_second (nat_eq q.0 p.0 && nat_eq q.1 p.1) (has_pair q ps) e) f) in
+    let rest = kept_line test a u ps (λ q e f. h q (or_right (nat_eq q.0 p.0 && nat_eq q.1 p.1) (has_pair q ps) e) f) in
     by (is_pair a u p) refl rest
   where
     here : has_pair p (p ∷ ps) ≡ true

@@ -1,5 +1,5 @@
 -- Victims are taken one after the other.
-use Rattle.std.proofs.Common.{◌≡◌, ℕ, zero, suc, ◌+◌, ◌<◌, ◌≤◌, Bool, true, false, nat_eq, List, [], ◌∷◌, ◌++◌, take, refl, sym, ◌∙◌, ap, subst, arith, add-one}
+use Rattle.std.proofs.Common.{◌≡◌, ℕ, zero, suc, ◌+◌, ◌<◌, ◌≤◌, Bool, true, false, nat_eq, List, [], ◌∷◌, ◌++◌, take, refl, sym, ◌∙◌, ap, subst, arith}
 use Rattle.std.specs.Prelude.{Some, slice_get}
 use Rattle.std.specs.List.{AllByRecursion, IsDistinct}
 use Rattle.std.proofs.lemmas.Bool.Decides.{nat_tests}
@@ -8,18 +8,13 @@ use Rattle.fuxi_terms.specs.Jobs.{unit_count}
 use Rattle.fuxi_terms.specs.Keys.{Spot}
 use Rattle.fuxi_terms.specs.Tables.{spot, held_on}
 use Rattle.fuxi_terms.proofs.Booleans.{both_true, and_true}
-use Rattle.fuxi_terms.proofs.Lists.{all_at}
+use Rattle.fuxi_terms.proofs.Lists.{all_at, take_last}
 use Rattle.written_roles.specs.Masters.{Master}
 use Rattle.grant_table.specs.Tables.{TableRecord, as_known, without_count}
 use Rattle.preempt.specs.declared.plan.Victim.{Victim}
 use Rattle.preempt.specs.Plans.{without_victims, is_unit, same_unit, IsTakable, AreTakable}
 use Rattle.allotment.specs.Allotted.{AllotmentRecord, Allots, AllWait, Touches, TakesVictims}
 use Rattle.allotment.proofs.Clearing.{touched_again, untouched}
-
-pub take_last : {A : Type 0} (xs : List A) (i : ℕ) (x : A) → slice_get xs i ≡ Some x → take (i + 1) xs ≡ take i xs ++ x ∷ []
-take_last [] i x e = cc
-take_last (y ∷ ys) zero x e = let same : y ≡ x = cc in ap (λ z. z ∷ []) same
-take_last (y ∷ ys) (suc i) x e = rw add-one (ap (λ zs. y ∷ zs) (sym (ap (λ k. take k ys) (add-one i)) ∙ take_last ys i x e))
 
 behind : (vs : List Victim) (es : List (Spot × ℕ)) (m : ℕ) (v : Victim) → without_victims es m (vs ++ v ∷ []) ≡ without_count (without_victims es m vs) (spot v.app.0 v.unit.0 m) v.count
 behind [] es m v = refl

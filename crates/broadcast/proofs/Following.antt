@@ -5,7 +5,7 @@ use Rattle.std.specs.Option.{is_some, unwrap_or}
 use Rattle.std.specs.Ordering.{eq_by_cmp, nat_cmp}
 use Rattle.std.specs.List.{AllByRecursion}
 use Rattle.std.specs.declared.cmp.Ordering.TheVariants.{Less, Equal, Greater}
-use Rattle.std.specs.FinMap.Entries.{by_order, put, where_key, find, find-where_key, is_sorted}
+use Rattle.std.specs.FinMap.Entries.{by_order, put, where_key, find, is_sorted}
 use Rattle.std.proofs.lemmas.List.Elements.{filter-append}
 use Rattle.fuxi_terms.specs.declared.Key.{Key}
 use Rattle.fuxi_terms.specs.Counts.{count, set_count, AreCounts}
@@ -18,7 +18,7 @@ use Rattle.fuxi_terms.specs.declared.answers.LedgerFault.TheVariants.{Below, Too
 use Rattle.fuxi_terms.specs.TallyKeys.{reported_key, count_key, credited_key, credited_what, greatest_grant}
 use Rattle.fuxi_terms.proofs.Alls.{all_append, all_mapped, all_filter, all_passed}
 use Rattle.fuxi_terms.proofs.Booleans.{number_is, nat_itself}
-use Rattle.fuxi_terms.proofs.Counting.{counts-where_key}
+use Rattle.fuxi_terms.proofs.Counting.{counts-where_key, count_where}
 use Rattle.fuxi_terms.proofs.KeyOrders.{key_total, same_key}
 use Rattle.written_roles.specs.MasterSteps.{count_entries}
 use Rattle.publishing.specs.Setting.{numbers_set, AreNumbers}
@@ -102,9 +102,6 @@ none_credited : (w : ℕ) (es : List (Key × ℕ)) → nat_eq w credited_what �
 none_credited w [] other h = refl
 none_credited w (e ∷ es) other h = ap (λ b. cond b (e ∷ credited_in es) (credited_in es)) (ap (λ v. nat_eq v credited_what) (number_is e.0.what w h.0) ∙ other) ∙ none_credited w es other h.1
 
-count_where : (p : Key → Bool) (es : List (Key × ℕ)) (k : Key) → count key_cmp (where_key key_cmp p es) k ≡ cond (p k) (count key_cmp es k) 0
-count_where p es k = ap (λ r. unwrap_or r 0) (find-where_key key_cmp p k (λ x t. ap p (sym (same_key k x t))) es) ∙ elim (p k) as (λ b. unwrap_or (cond b (find key_cmp k es) None) 0 ≡ cond b (count key_cmp es k) 0) [ true ↦ refl | false ↦ refl ]
-
 -- what stays under a boot
 module _ (present : TallyRecord) (boot : ℕ) where
   -- of another kind
@@ -113,15 +110,15 @@ module _ (present : TallyRecord) (boot : ℕ) where
     where
       by : (b : Bool) → count key_cmp (cond b present.entries (where_key key_cmp (λ k. not (nat_eq k.what credited_what)) present.entries)) q ≡ count key_cmp present.entries q
       by true = refl
-      by false = count_where (λ k. not (nat_eq k.what credited_what)) present.entries q ∙ ap (λ b. cond (not b) (count key_cmp present.entries q) 0) is
+      by false = count_where key_cmp same_key (λ k. not (nat_eq k.what credited_what)) present.entries q ∙ ap (λ b. cond (not b) (count key_cmp present.entries q) 0) is
 
   -- of what is credited
   credited_stays : (u m : ℕ) → count key_cmp (cond (nat_eq boot present.head) (credited_in present.entries) []) (credited_key u m) ≡ count key_cmp (staying credited_what present boot) (credited_key u m)
   credited_stays u m = by (nat_eq boot present.head)
     where
       by : (b : Bool) → count key_cmp (cond b (credited_in present.entries) []) (credited_key u m) ≡ count key_cmp (cond b present.entries (where_key key_cmp (λ k. not (nat_eq k.what credited_what)) present.entries)) (credited_key u m)
-      by true = count_where (λ k. nat_eq k.what credited_what) present.entries (credited_key u m)
-      by false = sym (count_where (λ k. not (nat_eq k.what credited_what)) present.entries (credited_key u m))
+      by true = count_where key_cmp same_key (λ k. nat_eq k.what credited_what) present.entries (credited_key u m)
+      by false = sym (count_where key_cmp same_key (λ k. not (nat_eq k.what credited_what)) present.entries (credited_key u m))
 
   stays_counts : AreCounts key_cmp greatest_grant present.entries → AreCounts key_cmp greatest_grant (staying credited_what present boot)
   stays_counts h = by (nat_eq boot present.head)

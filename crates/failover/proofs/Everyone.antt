@@ -4,6 +4,7 @@ use Rattle.std.specs.Prelude.{◌&&◌}
 use Rattle.std.specs.List.{list_all}
 use Rattle.std.proofs.lemmas.Bool.{cases_lt}
 use Rattle.fuxi_terms.specs.Lists.{below}
+use Rattle.fuxi_terms.proofs.Booleans.{and_true, false_and, false_right}
 
 all_push : (f : ℕ → Bool) (xs : List ℕ) (n : ℕ) → list_all f (xs ++ n ∷ []) ≡ (list_all f xs && f n)
 all_push f [] n = last (f n)
@@ -17,25 +18,13 @@ all_push f (x ∷ xs) n = ap (λ b. f x && b) (all_push f xs n) ∙ assoc (f x) 
     assoc true b c = refl
     assoc false b c = refl
 
-and_true : (a b : Bool) → a ≡ true → b ≡ true → (a && b) ≡ true
-and_true true b e f = f
-and_true false b e f = cc
-
 pub all_below : (f : ℕ → Bool) (n : ℕ) → ((m : ℕ) → m < n → f m ≡ true) → list_all f (below n) ≡ true
 all_below f zero each = refl
 all_below f (suc n) each = all_push f (below n) n ∙ and_true (list_all f (below n)) (f n) (all_below f n (λ m lt. each m (omega (arith, lt)))) (each n (omega arith))
 
-false_left : (a b : Bool) → a ≡ false → (a && b) ≡ false
-false_left true b e = cc
-false_left false b e = refl
-
-false_right : (a b : Bool) → b ≡ false → (a && b) ≡ false
-false_right true b e = e
-false_right false b e = refl
-
 pub one_fails : (f : ℕ → Bool) (n m : ℕ) → m < n → f m ≡ false → list_all f (below n) ≡ false
 one_fails f zero m within fails = absurd (omega (arith, within))
 one_fails f (suc n) m within fails = all_push f (below n) n ∙ elim (cases_lt m n) [
-  | inl before ↦ false_left (list_all f (below n)) (f n) (one_fails f n m before fails)
+  | inl before ↦ false_and (list_all f (below n)) (f n) (one_fails f n m before fails)
   | inr from ↦ false_right (list_all f (below n)) (f n) (ap f (let e : n ≡ m = omega (arith, within, from) in e) ∙ fails)
 ]

@@ -1,5 +1,5 @@
 -- An entry behind the others of a row.
-use Rattle.std.proofs.Common.{◌≡◌, ℕ, zero, suc, ◌+◌, ◌<◌, ◌≤◌, Bool, true, false, cond, not, nat_lt, nat_eq, List, [], ◌∷◌, ◌++◌, length, take, drop, filter, slice_get, None, Some, Result, Ok, Err, refl, sym, ◌∙◌, ap, subst, arith, length-append, take-append-drop, append-nil}
+use Rattle.std.proofs.Common.{◌≡◌, ℕ, suc, ◌+◌, ◌<◌, ◌≤◌, Bool, true, false, cond, not, nat_lt, nat_eq, List, [], ◌∷◌, ◌++◌, length, take, drop, filter, slice_get, None, Some, Result, Ok, Err, refl, sym, ◌∙◌, ap, subst, arith, length-append, take-append-drop, append-nil}
 use Rattle.std.specs.Prelude.{pos, T, ◌&&◌}
 use Rattle.std.specs.Option.{unwrap_or}
 use Rattle.std.specs.List.{AllByRecursion}
@@ -19,6 +19,7 @@ use Rattle.fuxi_terms.specs.Rows.{IsRow, is_row_key, greatest_row, patched_row, 
 use Rattle.fuxi_terms.proofs.Alls.{all_front, all_back, all_filter}
 use Rattle.fuxi_terms.proofs.Counting.{both_true}
 use Rattle.fuxi_terms.proofs.KeyOrders.{row_key_total}
+use Rattle.fuxi_terms.proofs.Lists.{take_last}
 
 abbrev Entries : Type 0
 Entries = List (RowKey × ℕ)
@@ -106,15 +107,10 @@ row_filtered p es row = record {
   few = omega (arith, row.few, fewer (λ e. p e.0) es);
 }
 
-at_index : (es : Entries) (i : ℕ) (e : RowKey × ℕ) → slice_get es i ≡ Some e → take (i + 1) es ≡ take i es ++ e ∷ []
-at_index [] i e is = absurd (cc)
-at_index (f ∷ es) zero e is = let same : f ≡ e = cc in ap (λ g. g ∷ []) same
-at_index (f ∷ es) (suc i) e is = ap (λ n. take n (f ∷ es)) (let a : suc i + 1 ≡ suc (i + 1) = omega arith in a) ∙ ap (λ l. f ∷ l) (at_index es i e is)
-
 -- one entry more, that passes or not
 passes : (p : RowKey → Bool) (es : Entries) (i : ℕ) (e : RowKey × ℕ) → slice_get es i ≡ Some e → (b : Bool) → p e.0 ≡ b → filter (λ e. p e.0) (take (i + 1) es) ≡ filter (λ e. p e.0) (take i es) ++ cond b (e ∷ []) []
 passes p es i e is b test =
-    ap (filter (λ e. p e.0)) (at_index es i e is) ∙ filter-append (λ e. p e.0) (take i es) (e ∷ []) ∙ ap (λ b. filter (λ e. p e.0) (take i es) ++ cond b (e ∷ []) []) test
+    ap (filter (λ e. p e.0)) (take_last es i e is) ∙ filter-append (λ e. p e.0) (take i es) (e ∷ []) ∙ ap (λ b. filter (λ e. p e.0) (take i es) ++ cond b (e ∷ []) []) test
 
 pub more_kept : (p : RowKey → Bool) (es kept new : Entries) (i : ℕ) (e : RowKey × ℕ) → slice_get es i ≡ Some e → p e.0 ≡ true → kept ≡ filter (λ e. p e.0) (take i es) → new ≡ kept ++ e ∷ [] → new ≡ filter (λ e. p e.0) (take (i + 1) es)
 more_kept p es kept new i e is test so_far grown = grown ∙ ap (λ l. l ++ e ∷ []) so_far ∙ sym (passes p es i e is true test)

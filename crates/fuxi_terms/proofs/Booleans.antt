@@ -39,6 +39,10 @@ pub and_false : (b : Bool) → (b && false) ≡ false
 and_false true = refl
 and_false false = refl
 
+pub false_right : (a b : Bool) → b ≡ false → (a && b) ≡ false
+false_right true b e = e
+false_right false b e = refl
+
 -- two tests that imply one another are one
 pub same_tests : (p q : Bool) → (p ≡ true → q ≡ true) → (q ≡ true → p ≡ true) → p ≡ q
 same_tests true q f g = sym (f refl)

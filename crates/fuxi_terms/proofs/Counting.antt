@@ -65,6 +65,10 @@ found R (e ∷ es) q h = elim (eq_by_cmp R q e.0) as (λ b. cond b (Some e.1) (f
   | false ↦ found R es q h.1
 ]
 
+-- among the entries whose keys pass a test, a key that passes has its count, and any other none
+pub count_where : {K : Type 0} (R : K → K → Ordering) → ((x y : K) → R x y ≡ Equal → x ≡ y) → (p : K → Bool) (es : List (K × ℕ)) (k : K) → count R (where_key R p es) k ≡ cond (p k) (count R es k) 0
+count_where R same p es k = ap (λ r. unwrap_or r 0) (find-where_key R p k (λ x t. ap p (sym (same k x t))) es) ∙ elim (p k) as (λ b. unwrap_or (cond b (find R k es) None) 0 ≡ cond b (count R es k) 0) [ true ↦ refl | false ↦ refl ]
+
 module _ {K : Type 0} {R : K → K → Ordering} (o : IsTotalOrder R) where
   count-set_some : (es : List (K × ℕ)) (k : K) (n : ℕ) (q : K) (b : Bool) → nat_eq n 0 ≡ b → count R (cond b (where_key R (λ x. not (eq_by_cmp R k x)) es) (put R k n es)) q ≡ cond (eq_by_cmp R q k) n (count R es q)
   count-set_some es k n q true e =

@@ -17,3 +17,4 @@ pub mod Spots
 pub mod RowDifferences
 pub mod SameEntries
 pub mod ValidJobs
+pub mod Lookups

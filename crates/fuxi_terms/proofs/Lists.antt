@@ -1,5 +1,5 @@
 -- Lists that grow at their end, and loops that write the items of a list.
-use Rattle.std.proofs.Common.{◌≡◌, ℕ, zero, suc, ◌+◌, ◌<◌, List, [], ◌∷◌, ◌++◌, length, get_or, drop, append_assoc, drop-cons, refl, sym, ◌∙◌, ap, subst, arith, add-one, Some, slice_get}
+use Rattle.std.proofs.Common.{◌≡◌, ℕ, zero, suc, ◌+◌, ◌<◌, List, [], ◌∷◌, ◌++◌, length, get_or, drop, append_assoc, take, drop-cons, refl, sym, ◌∙◌, ap, subst, arith, add-one, Some, slice_get}
 use Rattle.std.specs.List.{AllByRecursion, flat_map}
 use Rattle.std.proofs.lemmas.List.{length-append}
 use Rattle.fuxi_terms.specs.Lists.{numbers_from, below}
@@ -26,6 +26,12 @@ pub got_grown : {A : Type 0} (xs ys : List A) (i : ℕ) → i < length xs → sl
 got_grown [] ys i lt = absurd (omega (arith, lt))
 got_grown (x ∷ xs) ys zero lt = refl
 got_grown (x ∷ xs) ys (suc i) lt = got_grown xs ys i (omega (arith, lt))
+
+-- the first items with one more are those with the next behind them
+pub take_last : {A : Type 0} (xs : List A) (i : ℕ) (x : A) → slice_get xs i ≡ Some x → take (i + 1) xs ≡ take i xs ++ x ∷ []
+take_last [] i x e = cc
+take_last (y ∷ ys) zero x e = let same : y ≡ x = cc in ap (λ z. z ∷ []) same
+take_last (y ∷ ys) (suc i) x e = rw add-one (ap (λ zs. y ∷ zs) (sym (ap (λ k. take k ys) (add-one i)) ∙ take_last ys i x e))
 
 -- from what is written and what is left to what is written with one more and the rest
 pub written_more : {A B : Type 0} (f : A → List B) (es : List A) (i : ℕ) (d : A) (front new all : List B) → i < length es → new ≡ front ++ f (get_or es i d) → front ++ flat_map f (drop i es) ≡ all → new ++ flat_map f (drop (i + 1) es) ≡ all

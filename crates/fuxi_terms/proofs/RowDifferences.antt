@@ -30,7 +30,6 @@ is_key q k e = same_row_key q k (tied _ e)
 itself : (k : RowKey) → eq_by_cmp row_cmp k k ≡ true
 itself k = ap is_eq (tied_itself row_key_total k)
 
--- a row whose keys are among others has not more of them
 without_key : (es : Entries) (k : RowKey) → AreCounts row_cmp greatest_row es → length es ≤ length (set_count row_cmp es k 0) + 1
 without_key es k h = by (nat_eq (number es k) 0) (length-set_count row_key_total greatest_row es k 0 h)
   where
@@ -38,7 +37,8 @@ without_key es k h = by (nat_eq (number es k) 0) (length-set_count row_key_total
     by true e = omega (arith, e)
     by false e = omega (arith, e)
 
-few_of : (js es : Entries) → AreCounts row_cmp greatest_row es → ((q : RowKey) → 0 < number es q → has js q ≡ true) → length es ≤ length js
+-- a row whose keys are among others has not more of them
+pub few_of : (js es : Entries) → AreCounts row_cmp greatest_row es → ((q : RowKey) → 0 < number es q → has js q ≡ true) → length es ≤ length js
 few_of [] [] h among = omega arith
 few_of [] (e ∷ es) h among =
     let here : number (e ∷ es) e.0 ≡ e.1 = ap (λ b. unwrap_or (cond b (Some e.1) (find row_cmp e.0 es)) 0) (itself e.0) in
@@ -77,7 +77,7 @@ joined_sorted : (es fs : Entries) → T (is_sorted row_cmp fs) → T (is_sorted 
 joined_sorted [] fs h = h
 joined_sorted (e ∷ es) fs h = is_sorted-put row_cmp row_key_total e.0 e.1 (joined row_cmp es fs) (joined_sorted es fs h)
 
-counted_has : (es : Entries) (q : RowKey) → 0 < number es q → has es q ≡ true
+pub counted_has : (es : Entries) (q : RowKey) → 0 < number es q → has es q ≡ true
 counted_has es q h = elim (find row_cmp q es) as (λ r. 0 < unwrap_or r 0 → is_some r ≡ true) [ None ↦ λ m. absurd (omega (arith, m)) | Some n ↦ λ _. refl ] h
 
 none_counted : (es : Entries) (q : RowKey) → has es q ≡ false → number es q ≡ 0

@@ -1,5 +1,5 @@
 -- A job that is admitted has nothing yet: the map stays, and so does each total.
-use Rattle.std.proofs.Common.{◌≡◌, ℕ, zero, suc, ◌+◌, ◌*◌, ◌<◌, ◌≤◌, true, false, cond, nat_eq, nat_lt, List, [], ◌∷◌, ◌++◌, length, get_or, set, map, take, refl, sym, ◌∙◌, ap, subst, arith, add-one, inl, inr, length-set}
+use Rattle.std.proofs.Common.{◌≡◌, ℕ, zero, suc, ◌+◌, ◌*◌, ◌<◌, ◌≤◌, true, false, cond, nat_eq, nat_lt, List, [], ◌∷◌, ◌++◌, length, get_or, set, map, refl, sym, ◌∙◌, ap, subst, arith, add-one, inl, inr, length-set}
 use Rattle.std.specs.Prelude.{replicate, ◌&&◌, IsTrue, is_some, Some, None, Option, slice_get}
 use Rattle.std.specs.Option.{option_map, unwrap_or}
 use Rattle.std.specs.List.{AllByRecursion}
@@ -26,6 +26,7 @@ use Rattle.grant_table.proofs.Cells.{one_set, count_of_cell}
 use Rattle.grant_table.proofs.Setting.{cell_past, within_all}
 use Rattle.fuxi_terms.proofs.Spots.{Each}
 use Rattle.fuxi_terms.proofs.Alls.{all_more}
+use Rattle.fuxi_terms.proofs.Lookups.{none_is}
 use Rattle.grant_table.proofs.Entries.{entries_each}
 
 -- ---- the jobs
@@ -129,11 +130,7 @@ module _ (c : ClusterRecord) (jobs : List JobRecord) (cells : List (List Cell)) 
   found b = found_admitted j jobs b new
 
   unknown : job_of (as_known jobs) a ≡ None
-  unknown = by (job_of (as_known jobs) a) new
-    where
-      by : (o : Option KnownJob) → is_some o ≡ false → o ≡ None
-      by None h = refl
-      by (Some k) h = cc
+  unknown = none_is (job_of (as_known jobs) a) new
 
   none_before : unit_count (as_known jobs) a ≡ 0
   none_before = ap (λ (o : Option KnownJob). length (unwrap_or (option_map (λ (k : KnownJob). k.job.units) o) [])) unknown
@@ -253,11 +250,6 @@ repeated_last n x = ap (λ k. replicate k x) (add-one n) ∙ by n
     by : (n : ℕ) → replicate (suc n) x ≡ replicate n x ++ x ∷ []
     by zero = refl
     by (suc n) = ap (λ xs. x ∷ xs) (by n)
-
-pub taken_last : {A : Type 0} (xs : List A) (i : ℕ) (x : A) → slice_get xs i ≡ Some x → take (i + 1) xs ≡ take i xs ++ x ∷ []
-taken_last [] i x e = cc
-taken_last (y ∷ ys) zero x e = let same : y ≡ x = cc in ap (λ z. z ∷ []) same
-taken_last (y ∷ ys) (suc i) x e = rw add-one (ap (λ zs. y ∷ zs) (sym (ap (λ k. take k ys) (add-one i)) ∙ taken_last ys i x e))
 
 -- the numbers of jobs that stand in order
 pub numbers_rise : (js : List JobRecord) → AreJobs js → job_numbers (as_known js) ≡ map (λ (j : JobRecord). j.number) js

@@ -284,13 +284,6 @@ pub ended_there : (places : List ℕ) (jobs : List KnownJob) (number place : ℕ
     → with_ended number jobs ≡ set jobs (place - 1) (ended job)
 ended_there places jobs number place job index is some at = ended_at places jobs number (place - 1) job index (sym is ∙ suc_of place some) at
 
-pub unknown_of : (jobs : List KnownJob) (a : ℕ) → is_known jobs a ≡ false → job_of jobs a ≡ None
-unknown_of jobs a not = go (job_of jobs a) not
-  where
-    go : (o : Option KnownJob) → is_some o ≡ false → o ≡ None
-    go None is = refl
-    go (Some k) is = absurd (cc)
-
 pub item_there : {A : Type 0} (xs : List A) (i : ℕ) (x : A) → i < length xs → get_or xs i x ≡ x → slice_get xs i ≡ Some x
 item_there [] i x within is = absurd (omega (arith, within))
 item_there (y ∷ xs) zero x within is = ap Some is

@@ -9,6 +9,7 @@ use Rattle.std.specs.FinMap.Entries.{below_all, is_sorted}
 use Rattle.std.proofs.lemmas.List.{length-drop}
 use Rattle.fuxi_terms.proofs.Counting.{both_true, lesser}
 use Rattle.fuxi_terms.proofs.Changing.{both}
+use Rattle.fuxi_terms.proofs.Booleans.{and_false}
 
 pub is_less : (r : Ordering) → is_lt r ≡ true → r ≡ Less
 is_less r e = lesser r (subst T (sym e) tt)
@@ -21,10 +22,6 @@ not_risen Greater e h = cc
 is_true : (b : Bool) → T b → b ≡ true
 is_true true p = refl
 is_true false p = absurd p
-
-and_false : (a : Bool) → (a && false) ≡ false
-and_false true = refl
-and_false false = refl
 
 module _ {K X : Type 0} {R : K → K → Ordering} (o : IsTotalOrder R) where
   below_through : (x y : K) (es : List (K × X)) → R x y ≡ Less → T (below_all R y es) → T (below_all R x es)

@@ -10,9 +10,8 @@ use Rattle.std.proofs.lemmas.Map.Made.{length-le_from_is_member}
 use Rattle.std.specs.Option.{option_map, unwrap_or}
 use Rattle.fuxi_terms.specs.Cluster.{JobRecord}
 use Rattle.fuxi_terms.specs.Jobs.{KnownJob, job_of, unit_count}
-use Rattle.fuxi_terms.proofs.Lists.{all_at, length-below}
+use Rattle.fuxi_terms.proofs.Lists.{all_at, length-below, take_last}
 use Rattle.grant_table.specs.Tables.{as_known, AreJobs}
-use Rattle.place_pass.proofs.Places.{taken_last}
 use Rattle.fuxi_terms.specs.Lists.{below}
 use Rattle.fuxi_terms.specs.Numbers.{has_number}
 use Rattle.fuxi_terms.proofs.Booleans.{both_true, number_is, nat_itself, or_right, and_false}
@@ -89,12 +88,7 @@ filter_append q (x ∷ xs) ys = elim (q x) as (λ b. cond b (x ∷ filter q (xs 
 
 -- one more that passes, or not
 pub filter_more : (q : ℕ × ℕ → Bool) (xs : List (ℕ × ℕ)) (i : ℕ) (p : ℕ × ℕ) → slice_get xs i ≡ Some p → filter q (take (i + 1) xs) ≡ filter q (take i xs) ++ cond (q p) (p ∷ []) []
-filter_more q xs i p e = ap (filter q) (last xs i p e) ∙ filter_last q (take i xs) p
-  where
-    last : (xs : List (ℕ × ℕ)) (i : ℕ) (x : ℕ × ℕ) → slice_get xs i ≡ Some x → take (i + 1) xs ≡ take i xs ++ x ∷ []
-    last [] i x e = cc
-    last (y ∷ ys) zero x e = let same : y ≡ x = cc in ap (λ z. z ∷ []) same
-    last (y ∷ ys) (suc i) x e = rw add-one (ap (λ zs. y ∷ zs) (sym (ap (λ k. take k ys) (add-one i)) ∙ last ys i x e))
+filter_more q xs i p e = ap (filter q) (take_last xs i p e) ∙ filter_last q (take i xs) p
 
 pub taken_whole : {A : Type 0} (xs : List A) (n : ℕ) → length xs ≤ n → take n xs ≡ xs
 taken_whole [] zero h = refl
@@ -284,7 +278,7 @@ rising_apart (k ∷ ks) (suc i) j h e =
     ap (λ b. b || has_number j.number (map (λ (k : JobRecord). k.number) (take i ks))) f ∙ rising_apart ks i j h.1.1 e
 
 pub numbers_more : (js : List JobRecord) (i : ℕ) (j : JobRecord) → slice_get js i ≡ Some j → map (λ (k : JobRecord). k.number) (take (i + 1) js) ≡ map (λ (k : JobRecord). k.number) (take i js) ++ j.number ∷ []
-numbers_more js i j e = ap (map (λ (k : JobRecord). k.number)) (taken_last js i j e) ∙ map-append (λ (k : JobRecord). k.number) (take i js) (j ∷ [])
+numbers_more js i j e = ap (map (λ (k : JobRecord). k.number)) (take_last js i j e) ∙ map-append (λ (k : JobRecord). k.number) (take i js) (j ∷ [])
 
 -- a job with a unit is among the numbers
 pub known_number : (js : List JobRecord) (a : ℕ) → 0 < unit_count (as_known js) a → has_number a (map (λ (k : JobRecord). k.number) js) ≡ true

@@ -17,22 +17,15 @@ use Rattle.grant_table.specs.Tables.{TableRecord, as_known, AreJobs}
 use Rattle.place_pass.specs.Cells.{Cell, cell_of, cell_at, no_cell, job_in, job_at, AreWishes}
 use Rattle.place_pass.specs.Placers.{AreLevel}
 use Rattle.fuxi_terms.proofs.Booleans.{both_true, number_is}
+use Rattle.fuxi_terms.proofs.Lookups.{by_record}
 
 units_of_cells : (a : ℕ) (xs : List Cell) → unwrap_or (option_map (λ (j : JobRecord). j.units) (job_in a xs)) [] ≡ map (λ (x : Cell). x.unit) xs
 units_of_cells a [] = refl
 units_of_cells a (x ∷ xs) = refl
 
-units_by : (o : Option KnownJob) → unwrap_or (option_map (λ (j : JobRecord). j.units) (option_map (λ (k : KnownJob). k.job) o)) [] ≡ unwrap_or (option_map (λ (k : KnownJob). k.job.units) o) []
-units_by None = refl
-units_by (Some k) = refl
-
-group_by : (o : Option KnownJob) → unwrap_or (option_map (λ (j : JobRecord). j.group) (option_map (λ (k : KnownJob). k.job) o)) 0 ≡ unwrap_or (option_map (λ (k : KnownJob). k.job.group) o) 0
-group_by None = refl
-group_by (Some k) = refl
-
 module _ (c : ClusterRecord) (cells : List (List Cell)) (t : TableRecord) (l : AreLevel c (job_at cells) t) where
   pub units_are : (a : ℕ) → map (λ (x : Cell). x.unit) (get_or cells a []) ≡ units_of (as_known t.jobs) a
-  units_are a = sym (units_of_cells a (get_or cells a [])) ∙ ap (λ o. unwrap_or (option_map (λ (j : JobRecord). j.units) o) []) (l.jobs_are a) ∙ units_by (job_of (as_known t.jobs) a)
+  units_are a = sym (units_of_cells a (get_or cells a [])) ∙ ap (λ o. unwrap_or (option_map (λ (j : JobRecord). j.units) o) []) (l.jobs_are a) ∙ sym (by_record (λ (j : JobRecord). j.units) [] (job_of (as_known t.jobs) a))
 
   pub count_is : (a : ℕ) → length (get_or cells a []) ≡ unit_count (as_known t.jobs) a
   count_is a = sym (length-map (get_or cells a []) (λ (x : Cell). x.unit)) ∙ ap length (units_are a)
@@ -46,7 +39,7 @@ module _ (c : ClusterRecord) (cells : List (List Cell)) (t : TableRecord) (l : A
       got (x ∷ xs) (suc u) = got xs u
 
   pub group_is : (o : List Bool) → AreWishes c cells o → (a u : ℕ) → u < length (get_or cells a []) → (cell_at cells a u).group ≡ group_of (as_known t.jobs) a
-  group_is o w a u lt = (w.unit a u lt).group ∙ first (get_or cells a []) (omega (arith, lt)) ∙ ap (λ o. unwrap_or (option_map (λ (j : JobRecord). j.group) o) 0) (l.jobs_are a) ∙ group_by (job_of (as_known t.jobs) a)
+  group_is o w a u lt = (w.unit a u lt).group ∙ first (get_or cells a []) (omega (arith, lt)) ∙ ap (λ o. unwrap_or (option_map (λ (j : JobRecord). j.group) o) 0) (l.jobs_are a) ∙ sym (by_record (λ (j : JobRecord). j.group) 0 (job_of (as_known t.jobs) a))
     where
       first : (xs : List Cell) → 0 < length xs → (get_or xs 0 no_cell).group ≡ unwrap_or (option_map (λ (j : JobRecord). j.group) (job_in a xs)) 0
       first [] s = absurd (omega (arith, s))

@@ -4,6 +4,7 @@ use Rattle.std.specs.Prelude.{◌&&◌}
 use Rattle.std.specs.Option.{option_map}
 use Rattle.fuxi_terms.specs.Keys.{Spot}
 use Rattle.fuxi_terms.specs.Lists.{below}
+use Rattle.fuxi_terms.proofs.Lists.{take_last}
 use Rattle.written_roles.specs.Placing.{Board, Ranked, ranked_in, has_room_in, may_grow_in, places_in, candidates_in, least, first_of, first_in}
 use Rattle.place_pass.specs.declared.search.Found.{Found}
 use Rattle.place_pass.specs.Best.{better, best_in, places_to, ranked_as, spot_of}
@@ -59,11 +60,6 @@ candidates_more b table line at p e =
     ∙ ap (best_in None) (candidates_last b table 0 (take at line) p at (let l = length_taken line at p e in omega (arith, l)))
     ∙ best_append None (candidates_in b table 0 (take at line)) _
   where
-    take_last : (xs : List (ℕ × ℕ)) (i : ℕ) (x : ℕ × ℕ) → slice_get xs i ≡ Some x → take (i + 1) xs ≡ take i xs ++ x ∷ []
-    take_last [] i x e = cc
-    take_last (y ∷ ys) zero x e = let same : y ≡ x = cc in ap (λ z. z ∷ []) same
-    take_last (y ∷ ys) (suc i) x e = rw add-one (ap (λ zs. y ∷ zs) (sym (ap (λ k. take k ys) (add-one i)) ∙ take_last ys i x e))
-
     length_taken : (xs : List (ℕ × ℕ)) (i : ℕ) (x : ℕ × ℕ) → slice_get xs i ≡ Some x → length (take i xs) ≡ i
     length_taken [] i x e = cc
     length_taken (y ∷ ys) zero x e = refl

@@ -18,7 +18,7 @@ use Rattle.fuxi_terms.specs.Lists.{below}
 use Rattle.fuxi_terms.specs.Numbers.{has_number}
 use Rattle.fuxi_terms.specs.Tables.{spot, held}
 use Rattle.fuxi_terms.proofs.Alls.{all_more}
-use Rattle.fuxi_terms.proofs.Booleans.{number_is, nat_itself, both_true, eq_turned}
+use Rattle.fuxi_terms.proofs.Booleans.{number_is, nat_itself, both_true, eq_turned, and_false}
 use Rattle.fuxi_terms.proofs.Counting.{count_le}
 use Rattle.fuxi_terms.proofs.KeyOrders.{key_total, same_key}
 use Rattle.fuxi_terms.proofs.Sums.{sum_set}
@@ -249,15 +249,11 @@ module _ (c : ClusterRecord) (cells : List (List Cell)) (t : TableRecord) (l : A
   waits_is a u = has_flat (unit_count (as_known t.jobs)) waits a u numbers ∙ ap (λ ns. has_number a ns && (nat_lt u (unit_count (as_known t.jobs) a) && waits a u)) is
       ∙ elim (nat_lt u (unit_count (as_known t.jobs) a)) as (λ b. nat_lt u (unit_count (as_known t.jobs) a) ≡ b → (has_number a (map (λ (j : JobRecord). j.number) t.jobs) && (b && waits a u)) ≡ (b && waits a u)) [
         | true ↦ λ b. ap (λ k. k && waits a u) (known_number t.jobs a (some b))
-        | false ↦ λ _. none (has_number a (map (λ (j : JobRecord). j.number) t.jobs))
+        | false ↦ λ _. and_false (has_number a (map (λ (j : JobRecord). j.number) t.jobs))
       ] refl
     where
       some : nat_lt u (unit_count (as_known t.jobs) a) ≡ true → 0 < unit_count (as_known t.jobs) a
       some b = grind (arith, nat_tests, b)
-
-      none : (b : Bool) → (b && false) ≡ false
-      none true = refl
-      none false = refl
 
   pub kept_is : (line : List (ℕ × ℕ)) → AreAdmitted cells line → filter (λ p. waits p.0 p.1) line ≡ filter (λ p. has_pair p pairs) line
   kept_is line h = filter_same (λ p. waits p.0 p.1) (λ p. has_pair p pairs) line (all_more (λ (p : ℕ × ℕ). p.1 < length (get_or cells p.0 [])) (λ (p : ℕ × ℕ). waits p.0 p.1 ≡ has_pair p pairs) (λ p lt. sym (waits_is p.0 p.1 ∙ ap (λ b. b && waits p.0 p.1) (there p lt))) line h)
@@ -327,15 +323,11 @@ module _ (asks : ℕ → Key → ℕ) (before after : TableRecord) (a u m : ℕ)
           | true ↦ λ s.
               let e = both_true (nat_eq a b) (nat_eq u v) s in
               let eb = number_is a b e.0 in let ev = number_is u v e.1 in
-              off (has_pair (b, v) line) ∙ sym (ap (λ t. nat_lt v (unit_count (as_known after.jobs) b) && t) (subst (λ x. nat_lt 0 (out_of asks after.entries x v) ≡ false) eb (subst (λ x. nat_lt 0 (out_of asks after.entries a x) ≡ false) ev w)) ∙ off (nat_lt v (unit_count (as_known after.jobs) b)))
+              and_false (has_pair (b, v) line) ∙ sym (ap (λ t. nat_lt v (unit_count (as_known after.jobs) b) && t) (subst (λ x. nat_lt 0 (out_of asks after.entries x v) ≡ false) eb (subst (λ x. nat_lt 0 (out_of asks after.entries a x) ≡ false) ev w)) ∙ and_false (nat_lt v (unit_count (as_known after.jobs) b)))
           | false ↦ λ f. on (has_pair (b, v) line) ∙ up b v ∙ (λ i. nat_lt v (sym (units_then b) i) && nat_lt 0 (sym (other_out b v f) i))
         ] refl
   ] refl
     where
-      off : (t : Bool) → (t && false) ≡ false
-      off true = refl
-      off false = refl
-
       on : (t : Bool) → (t && true) ≡ t
       on true = refl
       on false = refl

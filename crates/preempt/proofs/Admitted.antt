@@ -11,7 +11,7 @@ use Rattle.fuxi_terms.specs.Jobs.{KnownJob, unit_count, unit_of, priority_of, gr
 use Rattle.fuxi_terms.specs.Keys.{Spot}
 use Rattle.fuxi_terms.specs.Lists.{below}
 use Rattle.fuxi_terms.proofs.Alls.{all_append, all_more}
-use Rattle.fuxi_terms.proofs.Booleans.{both_true, number_is, nat_itself}
+use Rattle.fuxi_terms.proofs.Booleans.{both_true, number_is, nat_itself, or_left, or_right}
 use Rattle.fuxi_terms.proofs.Spots.{each_found}
 use Rattle.written_roles.specs.Placing.{has_pair}
 use Rattle.grant_table.specs.Tables.{TableRecord, IsSound, AreJobs, as_known}
@@ -123,14 +123,6 @@ any_append : (f : ℕ × ℕ → Bool) (xs ys : List (ℕ × ℕ)) → list_any 
 any_append f [] ys = refl
 any_append f (x ∷ xs) ys = elim (f x) as (λ b. (b || list_any f (xs ++ ys)) ≡ ((b || list_any f xs) || list_any f ys)) [ true ↦ refl | false ↦ any_append f xs ys ]
 
-or_second : (a b : Bool) → b ≡ true → (a || b) ≡ true
-or_second true b h = refl
-or_second false b h = h
-
-or_first : (a b : Bool) → a ≡ true → (a || b) ≡ true
-or_first true b h = refl
-or_first false b h = cc
-
 has_unit : (j : JobRecord) (u n : ℕ) → u < n → has_pair (j.number, u) (units_in j n) ≡ true
 has_unit j u zero lt = absurd (omega (arith, lt))
 has_unit j u (suc n) lt =
@@ -139,8 +131,8 @@ has_unit j u (suc n) lt =
     ∙ by (nat_eq u n) refl (has_unit j u n)
   where
     by : (b : Bool) → nat_eq u n ≡ b → (u < n → has_pair (j.number, u) (units_in j n) ≡ true) → (has_pair (j.number, u) (units_in j n) || ((nat_eq j.number j.number && nat_eq u n) || false)) ≡ true
-    by true e _ = let t = nat_itself j.number in or_second (has_pair (j.number, u) (units_in j n)) _ (λ i. (t i && e i) || false)
-    by false e r = let other : u < n = grind (arith, nat_tests, e, lt) in or_first (has_pair (j.number, u) (units_in j n)) _ (r other)
+    by true e _ = let t = nat_itself j.number in or_right (has_pair (j.number, u) (units_in j n)) _ (λ i. (t i && e i) || false)
+    by false e r = let other : u < n = grind (arith, nat_tests, e, lt) in or_left (has_pair (j.number, u) (units_in j n)) _ (r other)
 
 pub has_all : (js : List JobRecord) (a u : ℕ) → u < unit_count (as_known js) a → has_pair (a, u) (all_units js) ≡ true
 has_all [] a u lt = absurd (omega (arith, lt))
@@ -148,8 +140,8 @@ has_all (j ∷ js) a u lt = any_append (λ q. nat_eq a q.0 && nat_eq u q.1) (uni
   where
     by : (b : Bool) → nat_eq j.number a ≡ b → u < length (unwrap_or (option_map (λ (k : KnownJob). k.job.units) (cond b (Some (record { job = j; ended = false })) (job_of (as_known js) a))) [])
         → (u < unit_count (as_known js) a → has_pair (a, u) (all_units js) ≡ true) → (has_pair (a, u) (units_in j (length j.units)) || has_pair (a, u) (all_units js)) ≡ true
-    by true e lt _ = let same = number_is j.number a e in or_first _ (has_pair (a, u) (all_units js)) (subst (λ x. has_pair (x, u) (units_in j (length j.units)) ≡ true) same (has_unit j u (length j.units) lt))
-    by false e lt r = or_second (has_pair (a, u) (units_in j (length j.units))) _ (r lt)
+    by true e lt _ = let same = number_is j.number a e in or_left _ (has_pair (a, u) (all_units js)) (subst (λ x. has_pair (x, u) (units_in j (length j.units)) ≡ true) same (has_unit j u (length j.units) lt))
+    by false e lt r = or_right (has_pair (a, u) (units_in j (length j.units))) _ (r lt)
 
 -- ---- there are at most 256 jobs, so at most 2,048 units
 jobs_from : (js : List JobRecord) (k : ℕ) → AreJobs js → AllByRecursion (λ (j : JobRecord). k ≤ j.number) js → k ≤ 256 → length js + k ≤ 256

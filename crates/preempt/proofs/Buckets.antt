@@ -10,6 +10,7 @@ use Rattle.fuxi_terms.specs.Keys.{Spot}
 use Rattle.fuxi_terms.specs.Lists.{below}
 use Rattle.fuxi_terms.specs.Tables.{spot, held_on}
 use Rattle.fuxi_terms.proofs.Alls.{all_append}
+use Rattle.fuxi_terms.proofs.Booleans.{and_false}
 use Rattle.written_roles.specs.Preemption.{goes_before_by, put_grant_by, in_walk_order_by}
 use Rattle.preempt.specs.Walks.{backward, pairs_by_priority, entry_on}
 
@@ -108,13 +109,9 @@ module _ (es : List (Spot × ℕ)) (m : ℕ) (priorities : ℕ → ℕ → ℕ) 
       let f : nat_lt (priorities p.0 p.1) (priorities x.0.job x.0.unit) ≡ false = grind (arith, nat_tests, le, e) in
       let g : (nat_lt x.0.job p.0 || (nat_eq x.0.job p.0 && nat_lt x.0.unit p.1)) ≡ false = elim h.after [
         | inl lt ↦ let a : nat_lt x.0.job p.0 ≡ false = grind (arith, nat_tests, lt) in let b : nat_eq x.0.job p.0 ≡ false = grind (arith, nat_tests, lt) in λ i. a i || (b i && nat_lt x.0.unit p.1)
-        | inr s ↦ let j = s.0 in let u = s.1 in let a : nat_lt x.0.job p.0 ≡ false = grind (arith, nat_tests, j) in let b : nat_lt x.0.unit p.1 ≡ false = grind (arith, nat_tests, u) in (λ i. a i || (nat_eq x.0.job p.0 && b i)) ∙ none (nat_eq x.0.job p.0)
+        | inr s ↦ let j = s.0 in let u = s.1 in let a : nat_lt x.0.job p.0 ≡ false = grind (arith, nat_tests, j) in let b : nat_lt x.0.unit p.1 ≡ false = grind (arith, nat_tests, u) in (λ i. a i || (nat_eq x.0.job p.0 && b i)) ∙ and_false (nat_eq x.0.job p.0)
       ] in
-      (λ i. f i || (nat_eq (priorities p.0 p.1) (priorities x.0.job x.0.unit) && g i)) ∙ none (nat_eq (priorities p.0 p.1) (priorities x.0.job x.0.unit))
-    where
-      none : (b : Bool) → (b && false) ≡ false
-      none true = refl
-      none false = refl
+      (λ i. f i || (nat_eq (priorities p.0 p.1) (priorities x.0.job x.0.unit) && g i)) ∙ and_false (nat_eq (priorities p.0 p.1) (priorities x.0.job x.0.unit))
 
   all_before : (p : ℕ × ℕ) (k : ℕ) (xs : List (Spot × ℕ)) → priorities p.0 p.1 < k → AllByRecursion (IsIn p k) xs → AllByRecursion (λ x. goes_before_by priorities (spot p.0 p.1 m) x.0 ≡ true) xs
   all_before p k [] lt h = tt

@@ -7,6 +7,7 @@ use Rattle.fuxi_terms.specs.Keys.{Spot}
 use Rattle.fuxi_terms.specs.Cluster.{has_at, limit_at, quota_at, is_narrow}
 use Rattle.fuxi_terms.specs.Tables.{total_by, usage_by}
 use Rattle.fuxi_terms.proofs.Members.{each_from}
+use Rattle.fuxi_terms.proofs.Booleans.{and_false}
 use Rattle.written_roles.specs.Placing.{Board}
 use Rattle.written_roles.specs.Preemption.{so_many, set_by, part_by, is_enough_in, is_guaranteed_in, is_spared_in, may_take_in}
 use Rattle.preempt.specs.Counted.{times_to_reach, least_of, own_size, enough_at, enough_times, spared_at, may_times, taken_count}
@@ -146,10 +147,6 @@ module _ (B : Board) (table : List (Spot × ℕ)) (t : Spot) where
       and_true true e = refl
       and_true false e = cc
 
-      and_false : (x : Bool) → (x && false) ≡ false
-      and_false true = refl
-      and_false false = refl
-
       made : (x : List Spot) (a b d : Bool) → nat_eq (B.groups s.job) (B.groups t.job) ≡ a → nat_lt (B.priorities s.job s.unit) (B.priorities t.job t.unit) ≡ b → is_guaranteed_in B table t ≡ d → may_take_in B table t x s ≡ cond a b (is_spared_in B table x s && d)
       made x a b d ea eb ed = λ i. cond (ea i) (eb i) (is_spared_in B table x s && ed i)
 
@@ -200,10 +197,6 @@ module _ (B : Board) (table : List (Spot × ℕ)) (t : Spot) where
 
       opens : (x : List Spot) → is_enough_in B table t x ≡ false → may_take_in B table t x s ≡ true → is_open B table t x s ≡ true
       opens x e f = λ i. not (e i) && f i
-
-      and_false : (x : Bool) → (x && false) ≡ false
-      and_false true = refl
-      and_false false = refl
 
       by : (b : Bool) → nat_lt r q ≡ b → r < k → is_open B table t (set ++ so_many r s) s ≡ false
       by true e lt =

@@ -9,6 +9,7 @@ use Rattle.fuxi_terms.specs.Jobs.{group_of, size_at}
 use Rattle.fuxi_terms.specs.Keys.{Spot, spot_cmp}
 use Rattle.fuxi_terms.specs.Lists.{below_each}
 use Rattle.fuxi_terms.specs.Tables.{spot}
+use Rattle.fuxi_terms.proofs.Booleans.{and_false}
 use Rattle.written_roles.specs.Preemption.{so_many, is_enough_in, is_some_set, victims_in, part_by}
 use Rattle.grant_table.specs.Tables.{TableRecord, as_known}
 use Rattle.preempt.specs.Counted.{singles, counted_taken, counted_kept}
@@ -65,10 +66,6 @@ module _ (tab : TableRecord) (t : Spot) where
 
   at_test : (b : Bool) (set : List (Spot × ℕ)) → (is_enough_in (board_of tab) tab.entries t (singles set) && is_some_set (singles set)) ≡ b → by_set set ≡ option_map singles (elim b as (λ _. Option (List (Spot × ℕ))) [ true ↦ Some (counted_kept set (board_of tab) tab.entries t []) | false ↦ None ])
   at_test b set e = ap (λ b. option_map singles (elim b as (λ _. Option (List (Spot × ℕ))) [ true ↦ Some (counted_kept set (board_of tab) tab.entries t []) | false ↦ None ])) e
-
-  and_false : (b : Bool) → (b && false) ≡ false
-  and_false true = refl
-  and_false false = refl
 
   module _ (entries set : List Entry) (n : Need) (groups : List GroupUse) (sums own : List ℕ) where
     -- what is known once all is taken

@@ -11,6 +11,7 @@ use Rattle.fuxi_terms.specs.Keys.{Spot}
 use Rattle.fuxi_terms.specs.Lists.{below}
 use Rattle.fuxi_terms.specs.Tables.{spot}
 use Rattle.fuxi_terms.proofs.Alls.{all_append, all_more, all_filter}
+use Rattle.fuxi_terms.proofs.Lists.{take_last}
 use Rattle.written_roles.specs.Placing.{Board}
 use Rattle.written_roles.specs.Preemption.{Plan as WrittenPlan}
 use Rattle.written_roles.specs.Preemption.{victims_in, taken_in, needed_in, without_one, walk_in, may_take_in, is_enough_in, is_some_set, first_plan_in, plan_in, tried_in, by_priority_in, falling_priorities}
@@ -25,7 +26,7 @@ use Rattle.preempt.specs.Search.{pairs_to, pairs_on, pairs_at, IsFound}
 use Rattle.preempt.proofs.Carrying.{room_after}
 use Rattle.preempt.proofs.Promised.{promised, other_units}
 use Rattle.preempt.proofs.Searching.{first_behind, first_before, one_without, one_with, none_from, wide_none, pairs_more, pairs_begin}
-use Rattle.preempt.proofs.Walking.{take_last, got}
+use Rattle.preempt.proofs.Walking.{got}
 
 -- ---- the victims of a pair read neither what is asked nor where a unit may be granted
 module _ (B : Board) (asks : ℕ → Key → ℕ) (may_use : ℕ → ℕ → ℕ → Bool) (serving : Bool) (table : List (Spot × ℕ)) (t : Spot) where

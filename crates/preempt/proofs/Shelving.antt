@@ -10,9 +10,10 @@ use Rattle.fuxi_terms.specs.Keys.{Spot}
 use Rattle.fuxi_terms.specs.Tables.{spot, usage_at}
 use Rattle.fuxi_terms.specs.Vectors.{at_place}
 use Rattle.fuxi_terms.proofs.Alls.{all_append}
-use Rattle.fuxi_terms.proofs.Booleans.{both_true, not_false, number_is, both_false}
+use Rattle.fuxi_terms.proofs.Booleans.{both_true, not_false, number_is, both_false, and_false}
 use Rattle.fuxi_terms.proofs.ByPlace.{at_place-get_or}
 use Rattle.fuxi_terms.proofs.VectorLaws.{get_or-padded}
+use Rattle.fuxi_terms.proofs.Lists.{take_last}
 use Rattle.cluster_desc.specs.Records.{machine_of}
 use Rattle.cluster_desc.specs.declared.cluster.Machine.{Machine}
 use Rattle.written_roles.specs.Placing.{Board}
@@ -28,7 +29,7 @@ use Rattle.preempt.specs.declared.shelf.Shelf.{Shelf}
 use Rattle.preempt.specs.Given.{board_of, no_group, written, IsEntry, AreGroups}
 use Rattle.preempt.specs.Shelves.{spares, spares_at, is_loose, is_other_loose, IsLow, IsLoose, IsShelf, IsWanted, may_take_some}
 use Rattle.preempt.proofs.Linking.{each_same, size_is}
-use Rattle.preempt.proofs.Walking.{take_last, got}
+use Rattle.preempt.proofs.Walking.{got}
 
 -- ---- one entry more
 pub all_more_one : (P : Entry → Type 0) (es : List Entry) (k : ℕ) (d : Entry) → k < length es → AllByRecursion P (take k es) → P (get_or es k d) → AllByRecursion P (take (k + 1) es)
@@ -78,11 +79,7 @@ module _ (B : Board) (table : List (Spot × ℕ)) (t : Spot) where
   ]
 
   closed_none : AllByRecursion IsClosed (walk_in B.priorities table t.machine) → victims_in B table t ≡ None
-  closed_none h = ap (λ set. elim (is_enough_in B table t set && is_some_set set) as (λ _. Option (List Spot)) [ true ↦ Some (needed_in set B table t set) | false ↦ None ]) (nothing_taken (walk_in B.priorities table t.machine) h) ∙ ap (λ b. elim b as (λ _. Option (List Spot)) [ true ↦ Some [] | false ↦ None ]) (none (is_enough_in B table t []))
-    where
-      none : (b : Bool) → (b && false) ≡ false
-      none true = refl
-      none false = refl
+  closed_none h = ap (λ set. elim (is_enough_in B table t set && is_some_set set) as (λ _. Option (List Spot)) [ true ↦ Some (needed_in set B table t set) | false ↦ None ]) (nothing_taken (walk_in B.priorities table t.machine) h) ∙ ap (λ b. elim b as (λ _. Option (List Spot)) [ true ↦ Some [] | false ↦ None ]) (and_false (is_enough_in B table t []))
 
 closed_run : (P : Spot → Type 0) (n : ℕ) (s : Spot) → P s → AllByRecursion P (so_many n s)
 closed_run P zero s h = tt

@@ -1,12 +1,11 @@
 -- What a set takes with so many equal grants more, and what makes it enough, by numbers.
-use Rattle.std.proofs.Common.{◌≡◌, ℕ, zero, suc, ◌+◌, ◌*◌, ◌<◌, ◌≤◌, Bool, true, false, not, nat_lt, List, ◌++◌, refl, sym, arith}
-use Rattle.std.specs.Prelude.{◌&&◌}
+use Rattle.std.proofs.Common.{◌≡◌, ℕ, zero, suc, ◌+◌, ◌*◌, ◌<◌, ◌≤◌, Bool, true, false, not, nat_lt, List, ◌++◌, sym, arith}
 use Rattle.std.specs.List.{sum_by}
 use Rattle.std.proofs.lemmas.List.Sums.{sum_by-cons, sum_by-append}
 use Rattle.fuxi_terms.specs.Cluster.{has_at, limit_at, in_each, in_each_place, is_narrow}
 use Rattle.fuxi_terms.specs.Keys.{Spot}
 use Rattle.fuxi_terms.specs.Tables.{total_by, usage_by}
-use Rattle.fuxi_terms.proofs.Booleans.{both_true, and_true, false_and}
+use Rattle.fuxi_terms.proofs.Booleans.{both_true, and_true, false_and, false_right}
 use Rattle.fuxi_terms.proofs.Members.{each_place, each_from}
 use Rattle.written_roles.specs.Placing.{Board}
 use Rattle.written_roles.specs.Preemption.{so_many, set_by, part_by, is_enough_in}
@@ -30,10 +29,6 @@ set_run B i j s a b = sum_run (λ s. B.sizes s.job s.unit i) j s a b
 
 pub part_run : (B : Board) (g i j : ℕ) (s : Spot) (a b : List Spot) → part_by B.groups B.sizes g i (a ++ (so_many j s ++ b)) ≡ part_by B.groups B.sizes g i (a ++ b) + j * own_size B g s i
 part_run B g i j s a b = sum_run (λ s. own_size B g s i) j s a b
-
-last_false : (a b : Bool) → b ≡ false → (a && b) ≡ false
-last_false true b e = e
-last_false false b e = refl
 
 -- a set is enough where it frees what is wanted on the machine and in the group, of a size that needs nothing beyond the resources
 pub record IsEnoughBy (B : Board) (table : List (Spot × ℕ)) (t : Spot) (set : List Spot) : Type 0 where
@@ -69,7 +64,7 @@ module _ (B : Board) (table : List (Spot × ℕ)) (t : Spot) where
 
   pub not_fit : (set : List Spot) (i : ℕ) → i < B.cluster.resources → has_at B.cluster t.machine i + set_by B.sizes i set < total_by B.sizes t.machine i table + B.sizes t.job t.unit i → is_enough_in B table t set ≡ false
   not_fit set i lt h = false_and (in_each_place B.cluster (B.sizes t.job t.unit) (fit_test set)) (in_each B.cluster (limit_test set))
-      (last_false (is_narrow B.cluster (B.sizes t.job t.unit)) (in_each B.cluster (fit_test set)) (each_false B.cluster.resources (fit_test set) i lt (too_small _ _ h)))
+      (false_right (is_narrow B.cluster (B.sizes t.job t.unit)) (in_each B.cluster (fit_test set)) (each_false B.cluster.resources (fit_test set) i lt (too_small _ _ h)))
 
   pub not_allowed : (set : List Spot) (i : ℕ) → i < B.cluster.resources → limit_at B.cluster (B.groups t.job) i + part_by B.groups B.sizes (B.groups t.job) i set < usage_by B.groups B.sizes (B.groups t.job) i table + B.sizes t.job t.unit i → is_enough_in B table t set ≡ false
-  not_allowed set i lt h = last_false (in_each_place B.cluster (B.sizes t.job t.unit) (fit_test set)) (in_each B.cluster (limit_test set)) (each_false B.cluster.resources (limit_test set) i lt (too_small _ _ h))
+  not_allowed set i lt h = false_right (in_each_place B.cluster (B.sizes t.job t.unit) (fit_test set)) (in_each B.cluster (limit_test set)) (each_false B.cluster.resources (limit_test set) i lt (too_small _ _ h))

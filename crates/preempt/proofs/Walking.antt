@@ -1,5 +1,5 @@
 -- One step of each loop that lists units.
-use Rattle.std.proofs.Common.{◌≡◌, ℕ, zero, suc, ◌+◌, ◌-◌, ◌<◌, ◌≤◌, Bool, true, false, cond, nat_eq, List, [], ◌∷◌, ◌++◌, length, map, get_or, take, Some, refl, sym, ◌∙◌, ap, arith, append_assoc, add-one}
+use Rattle.std.proofs.Common.{◌≡◌, ℕ, zero, suc, ◌+◌, ◌-◌, ◌<◌, ◌≤◌, Bool, true, false, cond, nat_eq, List, [], ◌∷◌, ◌++◌, length, map, get_or, take, Some, refl, sym, ◌∙◌, ap, arith, append_assoc}
 use Rattle.std.specs.Prelude.{slice_get, Option}
 use Rattle.std.specs.Option.{unwrap_or, option_map}
 use Rattle.std.specs.List.{AllByRecursion, flat_map}
@@ -15,6 +15,7 @@ use Rattle.preempt.specs.Given.{IsEntry, pair_of}
 use Rattle.preempt.specs.Walks.{units_in, all_units, backward, of_priority, entries_by_priority, pairs_by_priority}
 use Rattle.preempt.proofs.Admitted.{job_found, valid_at, few_units, ordered_length}
 use Rattle.fuxi_terms.proofs.ValidJobs.{group_valid}
+use Rattle.fuxi_terms.proofs.Lists.{take_last}
 
 -- a unit of the job at a place is an entry
 pub entry_found : (t : TableRecord) → IsSound t → (i : ℕ) (j : JobRecord) → slice_get t.jobs i ≡ Some j → (u : ℕ) (x : UnitRecord) → slice_get j.units u ≡ Some x → u < length j.units
@@ -34,11 +35,6 @@ entry_found t s i j at u x is lt e app unit group priority size =
       priority = priority ∙ ap (λ (y : UnitRecord). y.priority) (sym found);
       size = size ∙ ap (λ (y : UnitRecord). y.size) (sym found);
     }
-
-pub take_last : {A : Type 0} (xs : List A) (i : ℕ) (x : A) → slice_get xs i ≡ Some x → take (i + 1) xs ≡ take i xs ++ x ∷ []
-take_last [] i x e = cc
-take_last (y ∷ ys) zero x e = let same : y ≡ x = cc in ap (λ z. z ∷ []) same
-take_last (y ∷ ys) (suc i) x e = rw add-one (ap (λ zs. y ∷ zs) (sym (ap (λ k. take k ys) (add-one i)) ∙ take_last ys i x e))
 
 pub units_more : (js : List JobRecord) (i : ℕ) (j : JobRecord) → slice_get js i ≡ Some j → all_units (take (i + 1) js) ≡ all_units (take i js) ++ units_in j (length j.units)
 units_more js i j e = ap all_units (take_last js i j e) ∙ flat_map-append (λ (j : JobRecord). units_in j (length j.units)) (take i js) (j ∷ []) ∙ ap (λ xs. all_units (take i js) ++ xs) (append-nil (units_in j (length j.units)))

@@ -1,7 +1,7 @@
 -- The change that sets numbers in a row: it is not too long on its way.
-use Rattle.std.proofs.Common.{◌≡◌, ℕ, ◌+◌, ◌<◌, ◌≤◌, Bool, true, false, cond, nat_eq, nat_lt, List, [], ◌∷◌, length, Some, None, Ok, Err, refl, sym, ◌∙◌, ap, arith, lit≤}
+use Rattle.std.proofs.Common.{◌≡◌, ℕ, ◌<◌, ◌≤◌, Bool, true, false, cond, nat_eq, nat_lt, List, [], ◌∷◌, length, Some, Ok, Err, refl, sym, ◌∙◌, ap, arith, lit≤}
 use Rattle.std.specs.Prelude.{ℤ, T, ◌||◌}
-use Rattle.std.specs.Option.{is_some, unwrap_or}
+use Rattle.std.specs.Option.{is_some}
 use Rattle.std.specs.Ordering.{eq_by_cmp}
 use Rattle.std.specs.List.{AllByRecursion}
 use Rattle.std.specs.FinMap.Entries.{below_all, find, is_sorted}
@@ -10,13 +10,14 @@ use Rattle.fuxi_terms.specs.Keys.{RowKey, row_cmp}
 use Rattle.fuxi_terms.specs.Limits.{most_entries}
 use Rattle.fuxi_terms.specs.Counts.{change_between, count, set_count, then_do, joined, AreCounts}
 use Rattle.fuxi_terms.specs.Rows.{IsRow, AreRowChanges, is_row_key, greatest_row, patched_row, change_row_once, within_row, row_below, row_too_great}
-use Rattle.fuxi_terms.proofs.Booleans.{number_is}
-use Rattle.fuxi_terms.proofs.Counting.{both_true, count_le, count-set_count, counts-set_count, length-set_count, in_joined}
+use Rattle.fuxi_terms.proofs.Booleans.{number_is, or_right}
+use Rattle.fuxi_terms.proofs.Counting.{both_true, count_le, count-set_count, counts-set_count, in_joined}
 use Rattle.fuxi_terms.proofs.KeyOrders.{row_key_total, same_row_key}
+use Rattle.fuxi_terms.proofs.RowDifferences.{few_of, counted_has}
 use Rattle.party_ledgers.specs.Differing.{row_by_difference}
 use Rattle.written_net.specs.Ledgers.{Ledger, row_ledger}
 use Rattle.publishing.specs.Setting.{numbers_set, moves, AreNumbers}
-use Rattle.publishing.proofs.Setting.{no_difference, itself, set_same, later, first_in, untouched, one_made}
+use Rattle.publishing.proofs.Setting.{no_difference, set_same, later, first_in, untouched, one_made}
 
 abbrev Entries : Type 0
 Entries = List (RowKey × ℕ)
@@ -26,31 +27,6 @@ number es q = count row_cmp es q
 
 abbrev has : Entries → RowKey → Bool
 has es q = is_some (find row_cmp q es)
-
--- a row whose keys are among others has not more of them
-without_key : (es : Entries) (k : RowKey) → AreCounts row_cmp greatest_row es → length es ≤ length (set_count row_cmp es k 0) + 1
-without_key es k h = by (nat_eq (number es k) 0) (length-set_count row_key_total greatest_row es k 0 h)
-  where
-    by : (b : Bool) → length (set_count row_cmp es k 0) + cond b 0 1 ≡ length es + 0 → length es ≤ length (set_count row_cmp es k 0) + 1
-    by true e = omega (arith, e)
-    by false e = omega (arith, e)
-
-few_of : (js es : Entries) → AreCounts row_cmp greatest_row es → ((q : RowKey) → 0 < number es q → has js q ≡ true) → length es ≤ length js
-few_of [] [] h among = omega arith
-few_of [] (e ∷ es) h among =
-    let here : number (e ∷ es) e.0 ≡ e.1 = ap (λ b. unwrap_or (cond b (Some e.1) (find row_cmp e.0 es)) 0) (itself row_key_total same_row_key greatest_row e.0) in
-    let none : false ≡ true = among e.0 (omega (arith, here, h.positive.0)) in
-    absurd (let f : ⊥ = cc in f)
-few_of (j ∷ js) es h among =
-    let fewer : Entries = set_count row_cmp es j.0 0 in
-    let fewer_is : (q : RowKey) → number fewer q ≡ cond (eq_by_cmp row_cmp q j.0) 0 (number es q) = λ q. count-set_count row_key_total es j.0 0 q in
-    let counts : AreCounts row_cmp greatest_row fewer = counts-set_count row_key_total greatest_row same_row_key es j.0 0 (omega arith) h in
-    let rest : (q : RowKey) → 0 < number fewer q → has js q ≡ true = λ q more. elim (eq_by_cmp row_cmp q j.0) as (λ b. number fewer q ≡ cond b 0 (number es q) → (0 < number es q → is_some (cond b (Some j.1) (find row_cmp q js)) ≡ true) → has js q ≡ true) [
-      | true ↦ λ e a. absurd (omega (arith, e, more))
-      | false ↦ λ e a. a (omega (arith, e, more))
-    ] (fewer_is q) (λ m. among q m) in
-    let ih = few_of js fewer counts rest in
-    omega (arith, ih, without_key es j.0 h)
 
 module _ (keys : Entries) (few : length keys ≤ most_entries) where
   moves_make_row : (old es ns : Entries) → AreCounts row_cmp greatest_row es → T (is_sorted row_cmp ns) → AllByRecursion (λ n. n.1 ≤ greatest_row n.0) ns → ((q : RowKey) → has ns q ≡ true → number es q ≡ number old q)
@@ -80,20 +56,13 @@ module _ (keys : Entries) (few : length keys ≤ most_entries) where
             ∙ moves_make_row old set ns counts parts.1 within.1 (untouched row_key_total same_row_key greatest_row old es n ns parts.0 is) (λ q in_ns. in_keys q (next q in_ns)) set_among
       ] refl
 
-counted_has : (es : Entries) (q : RowKey) → 0 < number es q → has es q ≡ true
-counted_has es q h = elim (find row_cmp q es) as (λ r. 0 < unwrap_or r 0 → is_some r ≡ true) [ None ↦ λ m. absurd (omega (arith, m)) | Some n ↦ λ _. refl ] h
-
-or_true : (a b : Bool) → b ≡ true → (a || b) ≡ true
-or_true true b h = refl
-or_true false b h = h
-
 -- the row with the numbers set is what the change makes
 pub row_is_set : (es ns : Entries) → IsRow es → AreNumbers row_cmp greatest_row ns → length (joined row_cmp es ns) ≤ most_entries → patched_row es (moves row_cmp es ns) ≡ Ok (numbers_set row_cmp es ns)
 row_is_set es ns row numbers few =
     let keys : Entries = joined row_cmp es ns in
     let none : AreCounts row_cmp greatest_row [] = record { sorted = tt; positive = tt; within = tt } in
     let both : (q : RowKey) → has keys q ≡ (has es q || has ns q) = λ q. in_joined row_key_total same_row_key greatest_row row_below row_too_great [] [] none es ns q in
-    moves_make_row keys few es es ns row.counts numbers.sorted numbers.within (λ q _. refl) (λ q in_ns. both q ∙ or_true (has es q) (has ns q) in_ns) (λ q more. both q ∙ ap (λ b. b || has ns q) (counted_has es q more))
+    moves_make_row keys few es es ns row.counts numbers.sorted numbers.within (λ q _. refl) (λ q in_ns. both q ∙ or_right (has es q) (has ns q) in_ns) (λ q more. both q ∙ ap (λ b. b || has ns q) (counted_has es q more))
 
 pub greatest_small : (k : RowKey) → greatest_row k ≤ 100000
 greatest_small k = by (is_row_key k)

@@ -1,7 +1,6 @@
 -- The grants that stay under a boot, and the change that sets numbers in them.
-use Rattle.std.proofs.Common.{◌≡◌, ℕ, ◌<◌, ◌≤◌, ◌^◌, Bool, true, false, cond, not, nat_eq, List, [], None, Ok, refl, sym, ◌∙◌, ap, arith}
-use Rattle.std.specs.Option.{unwrap_or}
-use Rattle.std.specs.FinMap.Entries.{find, where_key, find-where_key}
+use Rattle.std.proofs.Common.{◌≡◌, ℕ, ◌<◌, ◌≤◌, ◌^◌, Bool, true, false, cond, not, nat_eq, List, [], Ok, refl, sym, ◌∙◌, ap, arith}
+use Rattle.std.specs.FinMap.Entries.{where_key}
 use Rattle.std.proofs.lemmas.Bool.Decides.{nat_tests}
 use Rattle.fuxi_terms.specs.declared.Key.{Key}
 use Rattle.fuxi_terms.specs.declared.answers.LedgerFault.TheVariants.{Below, TooGreat}
@@ -10,7 +9,7 @@ use Rattle.fuxi_terms.specs.Counts.{count, then_do, difference, AreCounts, AreCh
 use Rattle.fuxi_terms.specs.Tallies.{TallyRecord, ChangeRecord, patched_tally, tally_difference, staying}
 use Rattle.fuxi_terms.specs.TallyKeys.{greatest_grant, credited_what}
 use Rattle.fuxi_terms.proofs.Booleans.{nat_itself}
-use Rattle.fuxi_terms.proofs.Counting.{counts-where_key, count_le}
+use Rattle.fuxi_terms.proofs.Counting.{counts-where_key, count_le, count_where}
 use Rattle.fuxi_terms.proofs.KeyOrders.{key_total, same_key}
 use Rattle.ledger_law.specs.Differing.{tally_by_difference}
 use Rattle.ledger_law.specs.Shapes.{IsTally, IsChange}
@@ -21,13 +20,10 @@ use Rattle.publishing.specs.Showing.{grants_set}
 use Rattle.publishing.proofs.Setting.{moves_make, moves_within, no_difference}
 use Rattle.publishing.proofs.Walking.{are_others}
 
-count_where : (p : Key → Bool) (es : List (Key × ℕ)) (k : Key) → count key_cmp (where_key key_cmp p es) k ≡ cond (p k) (count key_cmp es k) 0
-count_where p es k = ap (λ r. unwrap_or r 0) (find-where_key key_cmp p k (λ x t. ap p (sym (same_key k x t))) es) ∙ elim (p k) as (λ b. unwrap_or (cond b (find key_cmp k es) None) 0 ≡ cond b (count key_cmp es k) 0) [ true ↦ refl | false ↦ refl ]
-
 other_head : (t : TallyRecord) (boot : ℕ) (k : Key) → (boot ≡ t.head → ⊥) → count key_cmp (staying credited_what t boot) k ≡ cond (not (nat_eq k.what credited_what)) (count key_cmp t.entries k) 0
 other_head t boot k differs =
     ap (λ b. count key_cmp (cond b t.entries (where_key key_cmp (λ k. not (nat_eq k.what credited_what)) t.entries)) k) (are_others boot boot t.head refl differs)
-    ∙ count_where (λ k. not (nat_eq k.what credited_what)) t.entries k
+    ∙ count_where key_cmp same_key (λ k. not (nat_eq k.what credited_what)) t.entries k
 
 pub gone : (t : TallyRecord) (boot : ℕ) (k : Key) → (boot ≡ t.head → ⊥) → k.what ≡ credited_what → 0 ≡ count key_cmp (staying credited_what t boot) k
 gone t boot k differs is = let c : nat_eq k.what credited_what ≡ true = grind (arith, nat_tests, is) in sym (other_head t boot k differs ∙ ap (λ b. cond (not b) (count key_cmp t.entries k) 0) c)

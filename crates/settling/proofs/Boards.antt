@@ -1,5 +1,5 @@
 -- What a placer and a table read of a board is what the master reads of its own.
-use Rattle.std.proofs.Common.{◌≡◌, ℕ, ◌+◌, ◌-◌, Bool, true, false, cond, not, nat_eq, nat_lt, List, [], ◌∷◌, ◌++◌, Option, None, Some, map, filter, length, slice_get, refl, sym, ◌∙◌, ap}
+use Rattle.std.proofs.Common.{◌≡◌, ℕ, ◌+◌, ◌-◌, Bool, true, false, cond, not, nat_eq, nat_lt, List, [], ◌∷◌, ◌++◌, map, filter, length, slice_get, refl, sym, ◌∙◌, ap}
 use Rattle.std.specs.Prelude.{◌&&◌}
 use Rattle.std.specs.Option.{unwrap_or, option_map}
 use Rattle.std.specs.List.{flat_map}
@@ -12,6 +12,7 @@ use Rattle.fuxi_terms.specs.declared.Key.{Key}
 use Rattle.fuxi_terms.specs.Keys.{Spot}
 use Rattle.fuxi_terms.specs.Jobs.{KnownJob, job_of, units_of, no_unit, group_of}
 use Rattle.fuxi_terms.specs.TallyKeys.{want_key, near_key, rack_key, avoid_key}
+use Rattle.fuxi_terms.proofs.Lookups.{by_record}
 use Rattle.written_roles.specs.Masters.{Master, asked}
 use Rattle.written_roles.specs.Placing.{Board, board, first_in, first_of, candidates_in, places_in, may_grow_in, first_placeable, waiting_pairs, is_usable}
 use Rattle.grant_table.specs.Tables.{TableRecord, as_known}
@@ -20,19 +21,11 @@ use Rattle.settling.specs.Placing.{record_of, IsPlacing}
 
 -- ---- jobs with the same records have the same units, priorities, groups and sizes
 module _ (js ks : List KnownJob) (same : (a : ℕ) → record_of js a ≡ record_of ks a) where
-  units_by : (o : Option KnownJob) → unwrap_or (option_map (λ (j : KnownJob). j.job.units) o) [] ≡ unwrap_or (option_map (λ (j : JobRecord). j.units) (option_map (λ (k : KnownJob). k.job) o)) []
-  units_by None = refl
-  units_by (Some j) = refl
-
-  group_by : (o : Option KnownJob) → ◌≡◌ {A = ℕ} (unwrap_or (option_map (λ (j : KnownJob). j.job.group) o) 0) (unwrap_or (option_map (λ (j : JobRecord). j.group) (option_map (λ (k : KnownJob). k.job) o)) 0)
-  group_by None = refl
-  group_by (Some j) = refl
-
   pub units_same : (a : ℕ) → units_of js a ≡ units_of ks a
-  units_same a = units_by (job_of js a) ∙ ap (λ o. unwrap_or (option_map (λ (j : JobRecord). j.units) o) []) (same a) ∙ sym (units_by (job_of ks a))
+  units_same a = by_record (λ (j : JobRecord). j.units) [] (job_of js a) ∙ ap (λ o. unwrap_or (option_map (λ (j : JobRecord). j.units) o) []) (same a) ∙ sym (by_record (λ (j : JobRecord). j.units) [] (job_of ks a))
 
   pub groups_same : (a : ℕ) → group_of js a ≡ group_of ks a
-  groups_same a = group_by (job_of js a) ∙ ap (λ o. unwrap_or (option_map (λ (j : JobRecord). j.group) o) 0) (same a) ∙ sym (group_by (job_of ks a))
+  groups_same a = by_record (λ (j : JobRecord). j.group) 0 (job_of js a) ∙ ap (λ o. unwrap_or (option_map (λ (j : JobRecord). j.group) o) 0) (same a) ∙ sym (by_record (λ (j : JobRecord). j.group) 0 (job_of ks a))
 
 -- ---- placing reads of what is asked these keys alone
 abbrev pub wishes_of : (ℕ → Key → ℕ) → ℕ → Key → ℕ

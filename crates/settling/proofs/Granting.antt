@@ -9,7 +9,7 @@ use Rattle.fuxi_terms.specs.declared.Key.{Key}
 use Rattle.fuxi_terms.specs.Keys.{Spot}
 use Rattle.fuxi_terms.specs.Lists.{below}
 use Rattle.fuxi_terms.proofs.Alls.{all_append, all_more, all_mapped, all_passed}
-use Rattle.fuxi_terms.proofs.Booleans.{both_true, number_is, nat_itself}
+use Rattle.fuxi_terms.proofs.Booleans.{both_true, number_is, nat_itself, or_right}
 use Rattle.fuxi_terms.proofs.Members.{In, sum_lt, sum_filter}
 use Rattle.written_roles.specs.Masters.{out_of}
 use Rattle.written_roles.specs.Placing.{Board, Ranked, ranked_in, places_in, candidates_in, may_grow_in, has_room_in, least, first_of, first_in, has_pair, line_after}
@@ -60,11 +60,7 @@ module _ (asks : ℕ → Key → ℕ) (old new : List (Spot × ℕ)) (a u : ℕ)
 
   each_waits : (line : List (ℕ × ℕ)) → ((b v : ℕ) → has_pair (b, v) line ≡ true → nat_lt 0 (out_of asks old b v) ≡ true) → AllByRecursion (λ (p : ℕ × ℕ). nat_lt 0 (out_of asks old p.0 p.1) ≡ true) line
   each_waits [] h = tt
-  each_waits (p ∷ ps) h = (h p.0 p.1 (λ i. (nat_itself p.0 i && nat_itself p.1 i) || has_pair p ps), each_waits ps (λ b v t. h b v (later (nat_eq b p.0 && nat_eq v p.1) _ t)))
-    where
-      later : (x y : Bool) → y ≡ true → (x || y) ≡ true
-      later true y e = refl
-      later false y e = e
+  each_waits (p ∷ ps) h = (h p.0 p.1 (λ i. (nat_itself p.0 i && nat_itself p.1 i) || has_pair p ps), each_waits ps (λ b v t. h b v (or_right (nat_eq b p.0 && nat_eq v p.1) _ t)))
 
   -- only at this pair may nothing be out any more
   out_is : (p : ℕ × ℕ) → nat_lt 0 (out_of asks old p.0 p.1) ≡ true → nat_lt 0 (out_of asks new p.0 p.1) ≡ cond (is_it p) (nat_lt 0 (out_of asks new a u)) true

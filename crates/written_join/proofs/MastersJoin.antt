@@ -27,7 +27,7 @@ use Rattle.written_world.specs.World.{World, Step, prints_nothing, on_result, re
 use Rattle.written_roles.specs.MasterSteps.{Admits, Ends, Bans, Unbans, Begins, Preempts, Submits, Finishes, BansMachine, UnbansMachine, StartsServing, MakesRoom, master_party, projected, talks, peers, is_one_of, ready, told_of, adopted_of, adopts, adopted, credit, raise_credited, take_report, take_demand, meet_app, counted, said, MasterChange, MasterCommand, Changed, Commanded, new_master, change_of, command_of, changes, ended_in, banned_in}
 use Rattle.written_world.specs.Parties.{offers, end_step, told, adopted_now, received}
 use Rattle.written_net.specs.Sound.{Sound, PacketNames}
-use Rattle.fuxi_terms.proofs.Booleans.{either, false_and}
+use Rattle.fuxi_terms.proofs.Booleans.{either, false_and, false_right}
 use Rattle.written_net.proofs.NetLemmas.{id_is}
 use Rattle.written_net.proofs.BoundedLemmas.{found_within}
 use Rattle.written_net.proofs.SoundLemmas.{Grows}
@@ -44,13 +44,9 @@ use Rattle.written_roles.specs.Refusals.{Refusal, with_found, NotRunning, first_
 use Rattle.fuxi_terms.specs.Counts.{then_do}
 use Rattle.written_roles.specs.Preemption.{Plan, preempted, plan_of}
 
-and_false : (a b : Bool) → b ≡ false → (a && b) ≡ false
-and_false true b e = e
-and_false false b e = refl
-
 -- another peer's value stays, whoever's it is
 elsewhere : {A : Type 0} (f : Party → Id → A) (p : Party) (q : Id) (a : A) (p' : Party) (q' : Id) → same_id q q' ≡ false → set_at f p q a p' q' ≡ f p' q'
-elsewhere {A = A} f p q a p' q' e = ap (λ b. elim b as (λ _. A) [ true ↦ a | false ↦ f p' q' ]) (and_false (same_party p p') (same_id q q') e)
+elsewhere {A = A} f p q a p' q' e = ap (λ b. elim b as (λ _. A) [ true ↦ a | false ↦ f p' q' ]) (false_right (same_party p p') (same_id q q') e)
 
 -- what is posted to one peer leaves the sides of the others
 beside : (net : Net Ledger) (p : Party) (o : Offer) (q : Id) → nat_eq o.to.role p.id.role ≡ false → same_id o.to q ≡ false → side_of (publish_one net p o) p q ≡ side_of net p q

@@ -23,7 +23,7 @@ use Rattle.written_world.specs.World.{World, Agent, App, Step, top, set_boot, em
 use Rattle.written_world.specs.Parties.{offers, end_step, told, received, adopted_now, joined, app_hears}
 use Rattle.written_world.specs.Events.{Event, packet_of, given_back, agent_started, app_started, act}
 use Rattle.written_world.specs.Good.{has_run, placed, HasRunPacket, AllRan, IsBooted, IsRecorded}
-use Rattle.fuxi_terms.proofs.Booleans.{either, either_case}
+use Rattle.fuxi_terms.proofs.Booleans.{either, either_case, or_right}
 use Rattle.fuxi_terms.proofs.Alls.{all_append, all_more}
 use Rattle.written_net.proofs.BoundedLemmas.{found_within, in_numbers}
 use Rattle.written_net.proofs.NetLemmas.{set_at_all}
@@ -42,10 +42,6 @@ any_last : (p : Party) (ps : List Party) → list_any (same_party p) (ps ++ p �
 any_last p [] = ap (λ b. b || false) (same_party_itself p)
 any_last p (x ∷ ps) = elim (same_party p x) as (λ b. (b || list_any (same_party p) (ps ++ p ∷ [])) ≡ true) [ true ↦ refl | false ↦ any_last p ps ]
 
-or_true : (b c : Bool) → c ≡ true → (b || c) ≡ true
-or_true true c e = refl
-or_true false c e = e
-
 -- more has run
 record RunsMore (ran ran' : List Party) : Type 0 where
   more : (p : Party) → has_run ran p ≡ true → has_run ran' p ≡ true
@@ -57,7 +53,7 @@ runs_one : (ran : List Party) (q : Party) → RunsMore ran (ran ++ q ∷ [])
 runs_one ran q = record { more = λ p e. elim (nat_eq p.inc 0) as (λ b. (b || list_any (same_party p) ran) ≡ true → (b || list_any (same_party p) (ran ++ q ∷ [])) ≡ true) [ true ↦ λ _. refl | false ↦ λ e. any_front p ran (q ∷ []) e ] e }
 
 runs_here : (ran : List Party) (p : Party) → has_run (ran ++ p ∷ []) p ≡ true
-runs_here ran p = or_true (nat_eq p.inc 0) _ (any_last p ran)
+runs_here ran p = or_right (nat_eq p.inc 0) _ (any_last p ran)
 
 packet_more : (ran ran' : List Party) → RunsMore ran ran' → (x : Packet) → HasRunPacket ran x → HasRunPacket ran' x
 packet_more ran ran' r x h = record { from = r.more x.from h.from; to = r.more x.to h.to; place = r.more (placed x.kind x) h.place }

@@ -15,7 +15,7 @@ use Rattle.written_roles.specs.Masters.{Master}
 use Rattle.written_roles.specs.MasterSteps.{master_party, peers, spot_row_key, is_one_of, adopts, adopted, take_report, take_demand, meet_app}
 use Rattle.written_world.specs.Parties.{projection, offers, told, adopted_now}
 use Rattle.written_world.specs.Good.{FitsMachines}
-use Rattle.fuxi_terms.proofs.Booleans.{both_false, either, number_is, same_tests, or_false, eq_turned}
+use Rattle.fuxi_terms.proofs.Booleans.{both_false, either, number_is, same_tests, or_false, eq_turned, or_right}
 use Rattle.written_net.proofs.NetLemmas.{id_is}
 use Rattle.written_net.proofs.PublishLemmas.{set_here, set_beside, publish_grows}
 use Rattle.written_world.proofs.SettledLemmas.{number_below, number_with}
@@ -60,15 +60,11 @@ module _ (p : Party) (q : Id) where
           | false ↦ λ _ i. is_sent rs (publish_one net p o) f i
         ] refl i
 
-or_true : (b c : Bool) → c ≡ true → (b || c) ≡ true
-or_true true c e = refl
-or_true false c e = e
-
 is_peer : (m : ℕ) (ms : List ℕ) (ys : List Id) → has_number m ms ≡ true → is_one_of (agent_id m) (map agent_id ms ++ ys) ≡ true
 is_peer m [] ys h = cc
 is_peer m (k ∷ ks) ys h = elim (nat_eq m k) as (λ b. nat_eq m k ≡ b → (b || has_number m ks) ≡ true → (nat_eq k m || is_one_of (agent_id m) (map agent_id ks ++ ys)) ≡ true) [
   | true ↦ λ e _. let t : nat_eq k m ≡ true = grind (arith, nat_tests, e) in ap (λ b. b || is_one_of (agent_id m) (map agent_id ks ++ ys)) t
-  | false ↦ λ _ h. or_true (nat_eq k m) _ (is_peer m ks ys h)
+  | false ↦ λ _ h. or_right (nat_eq k m) _ (is_peer m ks ys h)
 ] refl h
 
 no_row : (jobs : List KnownJob) (m : ℕ) (rs : List ℕ) (es : List (Spot × ℕ)) → has_number m rs ≡ false → AllByRecursion (λ e. has_number e.0.machine rs ≡ true) es → map {B = RowKey × ℕ} (λ (e : Spot × ℕ). (spot_row_key jobs e.0, e.1)) (filter (λ e. nat_eq e.0.machine m) es) ≡ []

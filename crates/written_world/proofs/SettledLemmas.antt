@@ -18,19 +18,11 @@ use Rattle.written_roles.specs.Placing.{waiting_pairs, has_pair, lined, line_up,
 use Rattle.fuxi_terms.specs.Tables.{with_grant}
 use Rattle.written_roles.specs.Settling.{NothingPlaceable}
 use Rattle.written_roles.specs.MasterSteps.{phased, ready}
-use Rattle.fuxi_terms.proofs.Booleans.{both_true, number_is, nat_itself, same_tests}
+use Rattle.fuxi_terms.proofs.Booleans.{both_true, number_is, nat_itself, same_tests, or_left, or_right}
 use Rattle.fuxi_terms.proofs.Sums.{held_more}
 use Rattle.written_roles.proofs.PlacingEnds.{settled_nothing}
 use Rattle.written_world.specs.Good.{AllWait, IsRangedMaster, IsResting}
 use Rattle.written_world.proofs.TablesInOrder.{ready_waits, waits_too}
-
-either_true : (a b : Bool) → b ≡ true → (a || b) ≡ true
-either_true true b e = refl
-either_true false b e = e
-
-first_true : (a b : Bool) → a ≡ true → (a || b) ≡ true
-first_true true b e = refl
-first_true false b e = cc
 
 -- numbers in lists
 number_filter : (n : ℕ) (test : ℕ → Bool) (ns : List ℕ) → test n ≡ true → has_number n ns ≡ true → has_number n (filter test ns) ≡ true
@@ -39,10 +31,10 @@ number_filter n test (m ∷ ms) t h = elim (nat_eq n m) as (λ b. nat_eq n m ≡
   | true ↦ λ e _.
       let same : n ≡ m = number_is n m e in
       let passes : test m ≡ true = subst (λ k. test k ≡ true) same t in
-      ap (λ b. has_number n (cond b (m ∷ filter test ms) (filter test ms))) passes ∙ first_true (nat_eq n m) (has_number n (filter test ms)) e
+      ap (λ b. has_number n (cond b (m ∷ filter test ms) (filter test ms))) passes ∙ or_left (nat_eq n m) (has_number n (filter test ms)) e
   | false ↦ λ e h.
       let rest = number_filter n test ms t h in
-      elim (test m) as (λ b. has_number n (cond b (m ∷ filter test ms) (filter test ms)) ≡ true) [ true ↦ either_true (nat_eq n m) _ rest | false ↦ rest ]
+      elim (test m) as (λ b. has_number n (cond b (m ∷ filter test ms) (filter test ms)) ≡ true) [ true ↦ or_right (nat_eq n m) _ rest | false ↦ rest ]
 ] refl h
 
 number_append : (n : ℕ) (xs ys : List ℕ) → has_number n (xs ++ ys) ≡ (has_number n xs || has_number n ys)
@@ -53,8 +45,8 @@ number_append n (x ∷ xs) ys = elim (nat_eq n x) as (λ b. (b || has_number n (
 pub number_below : (n m : ℕ) → nat_lt m n ≡ true → has_number m (below n) ≡ true
 number_below zero m lt = absurd (let f : m < 0 = grind (arith, nat_tests, lt) in omega (arith, f))
 number_below (suc n) m lt = number_append m (below n) (n ∷ []) ∙ elim (nat_lt m n) as (λ b. nat_lt m n ≡ b → (has_number m (below n) || has_number m (n ∷ [])) ≡ true) [
-  | true ↦ λ t. first_true (has_number m (below n)) _ (number_below n m t)
-  | false ↦ λ t. let same : nat_eq m n ≡ true = grind (arith, nat_tests, lt, t) in either_true (has_number m (below n)) _ (first_true (nat_eq m n) false same)
+  | true ↦ λ t. or_left (has_number m (below n)) _ (number_below n m t)
+  | false ↦ λ t. let same : nat_eq m n ≡ true = grind (arith, nat_tests, lt, t) in or_right (has_number m (below n)) _ (or_left (nat_eq m n) false same)
 ] refl
 
 -- a number that is added is there
@@ -64,7 +56,7 @@ number_with n m (k ∷ ks) h = elim (nat_lt m k) as (λ b. has_number n (cond b 
   | true ↦ h
   | false ↦ elim (nat_eq m k) as (λ b. nat_eq m k ≡ b → has_number n (cond b (k ∷ ks) (k ∷ with_number m ks)) ≡ true) [
     | true ↦ λ e. let same : m ≡ k = number_is m k e in elim (nat_eq n m) as (λ b. nat_eq n m ≡ b → (b || (nat_eq n k || has_number n ks)) ≡ true → (nat_eq n k || has_number n ks) ≡ true) [
-      | true ↦ λ t _. first_true (nat_eq n k) _ (subst (λ x. nat_eq n x ≡ true) same t)
+      | true ↦ λ t _. or_left (nat_eq n k) _ (subst (λ x. nat_eq n x ≡ true) same t)
       | false ↦ λ _ h. h
     ] refl h
     | false ↦ λ _. elim (nat_eq n k) as (λ b. (nat_eq n m || (b || has_number n ks)) ≡ true → (b || has_number n (with_number m ks)) ≡ true) [
@@ -78,8 +70,8 @@ number_with n m (k ∷ ks) h = elim (nat_lt m k) as (λ b. has_number n (cond b 
 job_listed : (jobs : List KnownJob) (a u : ℕ) → nat_lt u (unit_count jobs a) ≡ true → has_number a (job_numbers jobs) ≡ true
 job_listed [] a u h = absurd (let f : u < 0 = grind (arith, nat_tests, h) in omega (arith, f))
 job_listed (j ∷ js) a u h = elim (nat_eq j.job.number a) as (λ b. nat_eq j.job.number a ≡ b → nat_lt u (length (unwrap_or (option_map (λ j. j.job.units) (cond b (Some j) (job_of js a))) [])) ≡ true → has_number a (with_number j.job.number (job_numbers js)) ≡ true) [
-  | true ↦ λ e _. let same : j.job.number ≡ a = number_is _ _ e in number_with a j.job.number (job_numbers js) (first_true (nat_eq a j.job.number) _ (subst (λ x. nat_eq a x ≡ true) (sym same) (nat_itself a)))
-  | false ↦ λ e h. number_with a j.job.number (job_numbers js) (either_true (nat_eq a j.job.number) _ (job_listed js a u h))
+  | true ↦ λ e _. let same : j.job.number ≡ a = number_is _ _ e in number_with a j.job.number (job_numbers js) (or_left (nat_eq a j.job.number) _ (subst (λ x. nat_eq a x ≡ true) (sym same) (nat_itself a)))
+  | false ↦ λ e h. number_with a j.job.number (job_numbers js) (or_right (nat_eq a j.job.number) _ (job_listed js a u h))
 ] refl h
 
 -- pairs in lists
@@ -95,24 +87,24 @@ pair_filter p test [] t h = cc
 pair_filter p test (q ∷ qs) t h = elim (nat_eq p.0 q.0 && nat_eq p.1 q.1) as (λ b. (nat_eq p.0 q.0 && nat_eq p.1 q.1) ≡ b → (b || has_pair p qs) ≡ true → has_pair p (cond (test q) (q ∷ filter test qs) (filter test qs)) ≡ true) [
   | true ↦ λ e _.
       let passes : test q ≡ true = subst (λ x. test x ≡ true) (same_pair p q e) t in
-      ap (λ b. has_pair p (cond b (q ∷ filter test qs) (filter test qs))) passes ∙ first_true (nat_eq p.0 q.0 && nat_eq p.1 q.1) (has_pair p (filter test qs)) e
+      ap (λ b. has_pair p (cond b (q ∷ filter test qs) (filter test qs))) passes ∙ or_left (nat_eq p.0 q.0 && nat_eq p.1 q.1) (has_pair p (filter test qs)) e
   | false ↦ λ e h.
       let rest = pair_filter p test qs t h in
-      elim (test q) as (λ b. has_pair p (cond b (q ∷ filter test qs) (filter test qs)) ≡ true) [ true ↦ either_true (nat_eq p.0 q.0 && nat_eq p.1 q.1) _ rest | false ↦ rest ]
+      elim (test q) as (λ b. has_pair p (cond b (q ∷ filter test qs) (filter test qs)) ≡ true) [ true ↦ or_right (nat_eq p.0 q.0 && nat_eq p.1 q.1) _ rest | false ↦ rest ]
 ] refl h
 
 pair_mapped : (a u : ℕ) (us : List ℕ) → has_number u us ≡ true → has_pair (a, u) (map (λ u. (a, u)) us) ≡ true
 pair_mapped a u [] h = cc
 pair_mapped a u (v ∷ vs) h = elim (nat_eq u v) as (λ b. nat_eq u v ≡ b → (b || has_number u vs) ≡ true → has_pair (a, u) ((a, v) ∷ map (λ u. (a, u)) vs) ≡ true) [
-  | true ↦ λ e _. first_true (nat_eq a a && nat_eq u v) _ (ap (λ b. b && nat_eq u v) (nat_itself a) ∙ e)
-  | false ↦ λ e h. either_true (nat_eq a a && nat_eq u v) _ (pair_mapped a u vs h)
+  | true ↦ λ e _. or_left (nat_eq a a && nat_eq u v) _ (ap (λ b. b && nat_eq u v) (nat_itself a) ∙ e)
+  | false ↦ λ e h. or_right (nat_eq a a && nat_eq u v) _ (pair_mapped a u vs h)
 ] refl h
 
 pair_flat : (a u : ℕ) (f : ℕ → List (ℕ × ℕ)) (ns : List ℕ) → has_number a ns ≡ true → has_pair (a, u) (f a) ≡ true → has_pair (a, u) (flat_map f ns) ≡ true
 pair_flat a u f [] h k = cc
 pair_flat a u f (n ∷ ns) h k = pair_append (a, u) (f n) (flat_map f ns) ∙ elim (nat_eq a n) as (λ b. nat_eq a n ≡ b → (b || has_number a ns) ≡ true → (has_pair (a, u) (f n) || has_pair (a, u) (flat_map f ns)) ≡ true) [
-  | true ↦ λ e _. first_true (has_pair (a, u) (f n)) _ (subst (λ x. has_pair (a, u) (f x) ≡ true) (number_is a n e) k)
-  | false ↦ λ e h. either_true (has_pair (a, u) (f n)) _ (pair_flat a u f ns h k)
+  | true ↦ λ e _. or_left (has_pair (a, u) (f n)) _ (subst (λ x. has_pair (a, u) (f x) ≡ true) (number_is a n e) k)
+  | false ↦ λ e h. or_right (has_pair (a, u) (f n)) _ (pair_flat a u f ns h k)
 ] refl h
 
 -- each pair with something out stands in the line
@@ -130,8 +122,8 @@ waits c M r a u h =
 
 lined_has : (p : ℕ × ℕ) (line pairs : List (ℕ × ℕ)) → has_pair p pairs ≡ true → has_pair p (lined line pairs) ≡ true
 lined_has p line pairs h = pair_append p (filter (λ q. has_pair q pairs) line) (filter (λ q. not (has_pair q line)) pairs) ∙ elim (has_pair p line) as (λ b. has_pair p line ≡ b → (has_pair p (filter (λ q. has_pair q pairs) line) || has_pair p (filter (λ q. not (has_pair q line)) pairs)) ≡ true) [
-  | true ↦ λ e. first_true (has_pair p (filter (λ q. has_pair q pairs) line)) _ (pair_filter p (λ q. has_pair q pairs) line h e)
-  | false ↦ λ e. either_true (has_pair p (filter (λ q. has_pair q pairs) line)) _ (pair_filter p (λ q. not (has_pair q line)) pairs (ap not e) h)
+  | true ↦ λ e. or_left (has_pair p (filter (λ q. has_pair q pairs) line)) _ (pair_filter p (λ q. has_pair q pairs) line h e)
+  | false ↦ λ e. or_right (has_pair p (filter (λ q. has_pair q pairs) line)) _ (pair_filter p (λ q. not (has_pair q line)) pairs (ap not e) h)
 ] refl
 
 lined_full : (c : ClusterRecord) (M : Master) → IsRangedMaster c M → IsFullLine (line_up M)

@@ -1,9 +1,9 @@
 use Rattle.std.proofs.Common.{◌≡◌, [], ◌∷◌, ◌++◌, map, take, sym, ◌∙◌, ap, rules}
 use Rattle.std.proofs.lemmas.List.{map-append}
 use Rattle.fuxi_terms.specs.Cluster.{UnitRecord}
+use Rattle.fuxi_terms.proofs.Lists.{take_last}
 use Rattle.schedule_unit.specs.Units.{unit_record}
 use Rattle.grant_table.specs.Tables.{cell_of, fresh_cell}
-use Rattle.grant_table.proofs.Admitting.{taken_last}
 use Rattle.grant_table.proofs.holding.fresh_units.Goals as goal
 
 pub loop-number-preserved : goal.loop-number-preserved
@@ -15,4 +15,4 @@ loop-number-preserved c =
     λ i. record { size = u.size; group = sym c.group-group.ensures.number i; held = 0; counts = sym zeros i; racks = sym none i } in
     ap (map cell_of) c.in_ok-push.ensures.items ∙ map-append cell_of c.loop-number.units.items _
     ∙ (λ i. c.loop-number.invariant i ++ sym fresh i ∷ [])
-    ∙ sym (ap (map (fresh_cell c.args.job.now.group c.args.machines)) (taken_last c.args.job.now.units c.loop-number.number _ c.unit.ensures.found) ∙ map-append (fresh_cell c.args.job.now.group c.args.machines) (take c.loop-number.number c.args.job.now.units) _)
+    ∙ sym (ap (map (fresh_cell c.args.job.now.group c.args.machines)) (take_last c.args.job.now.units c.loop-number.number _ c.unit.ensures.found) ∙ map-append (fresh_cell c.args.job.now.group c.args.machines) (take c.loop-number.number c.args.job.now.units) _)

@@ -1,16 +1,13 @@
-use Rattle.std.proofs.Common.{◌≡◌, ℕ, Bool, true, false, not, nat_lt, [], ◌∷◌, ◌++◌, filter, refl, sym, ◌∙◌, ap, subst, arith}
+use Rattle.std.proofs.Common.{◌≡◌, ℕ, Bool, true, false, not, nat_lt, [], ◌∷◌, ◌++◌, filter, sym, ◌∙◌, ap, subst, arith}
 use Rattle.std.specs.Prelude.{◌&&◌}
 use Rattle.std.proofs.lemmas.Bool.Decides.{nat_tests}
+use Rattle.fuxi_terms.proofs.Booleans.{and_false}
 use Rattle.written_roles.specs.Masters.{out_of}
 use Rattle.written_roles.specs.Placing.{has_pair}
 use Rattle.place_pass.specs.Cells.{asks_in}
 use Rattle.place_pass.specs.Lines.{same_pair, waiting_of}
 use Rattle.place_pass.proofs.Lining.{any_append, or_none, none_filter, append_nil, joined_more, none_yet}
 use Rattle.place_pass.proofs.waiting.join_units.Goals as goal
-
-and_off : (b : Bool) → (b && false) ≡ false
-and_off true = refl
-and_off false = refl
 
 pub loop-number-preserved-then-outstanding-eq0 : goal.loop-number-preserved-then-outstanding-eq0
 loop-number-preserved-then-outstanding-eq0 c =
@@ -35,7 +32,7 @@ loop-number-preserved-then-has c =
     let old = c.args.next.now.pairs in
     let test : r (a, n) ≡ false = ap not (sym c.has.ensures ∙ c.if-has.true) in
     record {
-      pairs = c.loop-number.invariant.pairs ∙ sym (append_nil _) ∙ joined_more old r w a n false (ap (λ b. w n && b) test ∙ and_off (w n));
+      pairs = c.loop-number.invariant.pairs ∙ sym (append_nil _) ∙ joined_more old r w a n false (ap (λ b. w n && b) test ∙ and_false (w n));
       admitted = c.loop-number.invariant.admitted;
       room = c.loop-number.invariant.room;
     }

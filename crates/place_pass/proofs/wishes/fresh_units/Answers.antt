@@ -1,9 +1,9 @@
 use Rattle.std.proofs.Common.{◌≡◌, [], ◌∷◌, ◌++◌, map, take, sym, ◌∙◌, ap, rules}
 use Rattle.std.proofs.lemmas.List.{map-append}
 use Rattle.fuxi_terms.specs.Cluster.{UnitRecord}
+use Rattle.fuxi_terms.proofs.Lists.{take_last}
 use Rattle.schedule_unit.specs.Units.{unit_record}
 use Rattle.place_pass.specs.Cells.{cell_of, fresh_cell}
-use Rattle.place_pass.proofs.Places.{taken_last}
 use Rattle.place_pass.proofs.wishes.fresh_units.Goals as goal
 
 pub loop-number-preserved : goal.loop-number-preserved
@@ -16,4 +16,4 @@ loop-number-preserved c =
     λ i. record { unit = u; group = sym c.group-group.ensures.number i; want = 0; near = sym near i; racks = sym racks i; avoided = sym avoided i } in
     ap (map cell_of) c.in_ok-push.ensures.items ∙ map-append cell_of c.loop-number.units.items _
     ∙ (λ i. c.loop-number.invariant i ++ sym fresh i ∷ [])
-    ∙ sym (ap (map (fresh_cell c.args.job.now.group c.args.machines)) (taken_last c.args.job.now.units c.loop-number.number _ c.unit-unit.ensures.found) ∙ map-append (fresh_cell c.args.job.now.group c.args.machines) (take c.loop-number.number c.args.job.now.units) _)
+    ∙ sym (ap (map (fresh_cell c.args.job.now.group c.args.machines)) (take_last c.args.job.now.units c.loop-number.number _ c.unit-unit.ensures.found) ∙ map-append (fresh_cell c.args.job.now.group c.args.machines) (take c.loop-number.number c.args.job.now.units) _)

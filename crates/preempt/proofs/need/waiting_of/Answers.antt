@@ -1,9 +1,8 @@
 use Rattle.std.proofs.Common.{◌++◌, ◌∷◌, [], map, subst, sym, ◌∙◌, ap}
 use Rattle.std.specs.List.{AllByRecursion}
 use Rattle.std.proofs.lemmas.List.{map-append}
-use Rattle.fuxi_terms.proofs.Lists.{all_push}
+use Rattle.fuxi_terms.proofs.Lists.{all_push, take_last}
 use Rattle.preempt.specs.Given.{IsEntry, pair_of}
-use Rattle.preempt.proofs.Walking.{take_last}
 use Rattle.preempt.proofs.need.waiting_of.Goals as goal
 
 pub loop-place-preserved : goal.loop-place-preserved
