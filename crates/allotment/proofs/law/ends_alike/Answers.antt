@@ -30,7 +30,13 @@ same_record a (x ∷ xs) b = by (nat_eq x.job.number a) (same_record a xs b)
         (λ i. option_map (λ (k : KnownJob). k.job) (cond (nat_eq (m i).number b) (Some (cond d (record { job = x.job; ended = true }) x)) (job_of (with_ended a xs) b)))
         ∙ inner (nat_eq x.job.number b) (cond d (record { job = x.job; ended = true }) x) m r
 
-pub returns : goal.returns
-returns c = λ x k M a h.
+pub returns-clause-numbers : goal.returns-clause-numbers
+returns-clause-numbers c = same_numbers
+
+pub returns-clause-records : goal.returns-clause-records
+returns-clause-records c = same_record
+
+pub returns-clause-alike : goal.returns-clause-alike
+returns-clause-alike c = λ x k M a h.
     let p = h.placing in
     record { placing = record { cluster = p.cluster; numbers = p.numbers ∙ sym (same_numbers a M.jobs); jobs = λ b. p.jobs b ∙ sym (same_record a M.jobs b); entries = p.entries; wants = p.wants; near = p.near; racks = p.racks; avoids = p.avoids; usable = p.usable; line = p.line } }
