@@ -1,0 +1,70 @@
+use Rattle.std.proofs.Common.{◌≡◌, ℕ, ◌<◌, cond, not, nat_eq, List, length, sym, ◌∙◌, ap, subst, arith}
+use Rattle.std.specs.Prelude.{◌&&◌}
+use Rattle.std.specs.List.{AllByRecursion}
+use Rattle.fuxi_terms.specs.Counts.{count}
+use Rattle.fuxi_terms.specs.Keys.{Spot, spot_cmp}
+use Rattle.fuxi_terms.specs.Numbers.{has_number}
+use Rattle.fuxi_terms.specs.Padded.{padded}
+use Rattle.fuxi_terms.specs.Cluster.{ClusterRecord, machine_of}
+use Rattle.fuxi_terms.specs.Rows.{row_total}
+use Rattle.failover.specs.Adopting.{kept_of}
+use Rattle.failover.specs.Reported.{Reported}
+use Rattle.grant_table.specs.Tables.{TableRecord, IsSound, as_known}
+use Rattle.party_ledgers.specs.Joins.{JoinRecord}
+use Rattle.settling.specs.Placing.{has_spot}
+use Rattle.fuxi_master.specs.Hearing.{Changes, adopting_role}
+use Rattle.fuxi_master.specs.Seen.{core_of}
+use Rattle.fuxi_master.proofs.Adopted.{IsEntered, adopted_changes, adopted_lined}
+use Rattle.fuxi_master.proofs.Adopting.{IsUnitOf, kept_units, kept_fits}
+use Rattle.fuxi_master.proofs.AgentHeard.{has_is}
+use Rattle.fuxi_master.proofs.Indexed.{got_from}
+use Rattle.fuxi_master.proofs.state.Core.adopt_report.Goals as goal
+
+pub adopt-requires-2-clause-units : goal.adopt-requires-2-clause-units
+adopt-requires-2-clause-units c =
+    let x = core_of c.args.self in
+    let m = c.args.machine.0 in
+    let rows : c.table-report.result.now ≡ c.index.result.now.incoming.received.table = c.table-report.ensures ∙ ap (λ (j : JoinRecord). j.table) c.got.ensures.received in
+    let kept : c.in-Ok.kept ≡ kept_of x.known m c.index.result.now.incoming.received.table = c.in-Ok.ensures.kept ∙ ap (kept_of x.known m) rows in
+    subst (AllByRecursion (IsUnitOf (as_known x.allotment.table.jobs))) (sym kept) (kept_units x.known (as_known x.allotment.table.jobs) c.requires.core.near.kept.jobs m c.index.result.now.incoming.received.table)
+
+pub adopt-requires-2-clause-fits : goal.adopt-requires-2-clause-fits
+adopt-requires-2-clause-fits c =
+    let x = core_of c.args.self in
+    let m = c.args.machine.0 in
+    let cluster : c.cluster.result.now ≡ x.allotment.table.cluster = c.cluster.ensures.cluster ∙ ap (λ (t : TableRecord). t.cluster) c.table.ensures in
+    let has = has_is c.cluster.result.now.machines m c.machine.result.now c.machine.ensures ∙ ap (λ (k : ClusterRecord). padded (machine_of k m).has) cluster in
+    kept_fits x.allotment.table.cluster m (row_total c.in-Ok.kept) c.machine.result.now.has.q has c.in-Ok.ensures.fits
+
+pub returns : goal.returns
+returns c =
+    let x = core_of c.args.self in
+    let m = c.args.machine.0 in
+    let d = c.index.result.now in
+    let n = c.requires.core.near.kept.agents in
+    let machine = c.requires.machine in
+    let lt : m < length x.agents = omega (arith, n, machine) in
+    let at = got_from x.agents m d lt c.index.ensures in
+    let sound = subst IsSound c.table.ensures c.cluster.ensures.sound in
+    let rows : c.table-report.result.now ≡ c.index.result.now.incoming.received.table = c.table-report.ensures ∙ ap (λ (j : JoinRecord). j.table) c.got.ensures.received in
+    let kept : c.in-Ok.kept ≡ kept_of x.known m c.index.result.now.incoming.received.table = c.in-Ok.ensures.kept ∙ ap (kept_of x.known m) rows in
+    let y = c.in_ok-allotment.allotment in
+    let z = c.open.new.self in
+    let a = c.in_ok-allotment.ensures in
+    let o = c.open.ensures in
+    let done : IsEntered m (not (has_number m x.known.bans)) c.in-Ok.kept x.allotment y z = record {
+      entered = a.stands;
+      opened = λ k M reported bans h f. o.stands k M reported bans h (λ i. f i ∙ ap (λ b. cond (nat_eq m i) (not b) (has_number i M.reported && not (has_number i M.bans))) (sym c.banned.ensures.banned));
+      spots = record {
+        kept = λ s e. ap (has_spot s) o.touched ∙ a.spots.kept s e;
+        others = λ s e. ap (λ (t : TableRecord). count spot_cmp t.entries s) o.table ∙ a.spots.others s (sym (ap (has_spot s) o.touched) ∙ e);
+      };
+      table = o.table ∙ a.table ∙ ap {A = List (Spot × ℕ)} (λ es. record x.allotment.table { entries = es }) (sym (ap (λ (t : TableRecord). t.entries) (o.table ∙ a.table)));
+      turns = let t = a.turns in let s = o.turns in omega (arith, t, s);
+    } in
+    record {
+      named = c.news.ensures;
+      changes = subst (λ (reported : Reported). Changes c.news.result (adopting_role m) x (record x { reported = reported; allotment = z })) (sym c.add.ensures)
+          (adopted_changes x c.requires.core sound c.args.machine machine d at c.in-Ok.kept kept y z done c.news.result c.news.ensures);
+      lined = adopted_lined x c.requires.core sound c.args.machine machine d at c.in-Ok.kept kept y z done c.news.result c.news.ensures a.up;
+    }

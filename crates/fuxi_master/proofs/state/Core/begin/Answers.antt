@@ -1,0 +1,8 @@
+use Rattle.std.proofs.Common.{subst}
+use Rattle.grant_table.specs.Tables.{IsSound}
+use Rattle.fuxi_master.specs.Seen.{core_of}
+use Rattle.fuxi_master.proofs.Commanding.{begun}
+use Rattle.fuxi_master.proofs.state.Core.begin.Goals as goal
+
+pub returns-clause-changes : goal.returns-clause-changes
+returns-clause-changes c = begun (core_of c.args.self) c.requires.core (subst IsSound c.table.ensures c.cluster-sound.ensures.sound) c.news.result c.news.ensures

@@ -1,0 +1,8 @@
+use Rattle.std.proofs.Common.{subst}
+use Rattle.grant_table.specs.Tables.{IsSound}
+use Rattle.fuxi_master.specs.Seen.{core_of}
+use Rattle.fuxi_master.proofs.Preempting.{preempts}
+use Rattle.fuxi_master.proofs.state.Core.preempt.Goals as goal
+
+pub returns : goal.returns
+returns c = preempts (core_of c.args.self) c.requires.core (subst IsSound c.table.ensures c.cluster-sound.ensures.sound) c.in_ok-allotment.allotment c.in_ok-allotment.found c.in_ok-allotment.ensures

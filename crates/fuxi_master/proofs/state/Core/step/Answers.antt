@@ -1,0 +1,41 @@
+use Rattle.std.proofs.Common.{refl, sym, subst}
+use Rattle.fuxi_master.specs.Seen.{core_of}
+use Rattle.fuxi_master.specs.Steps.{IsStep}
+use Rattle.fuxi_master.specs.declared.event.MasterEvent.{MasterEvent}
+use Rattle.fuxi_master.specs.declared.event.Outcome.TheVariants.{Done, Sent, Heard as HeardOne}
+use Rattle.fuxi_master.proofs.Stepping.{wider}
+use Rattle.fuxi_master.proofs.Answering.{heard_one, sent_all, sent_one}
+use Rattle.fuxi_master.proofs.state.Core.step.Goals as goal
+
+pub returns-in_ok-core-in-Packet : goal.returns-in_ok-core-in-Packet
+returns-in_ok-core-in-Packet c =
+    let x = core_of c.args.self in
+    let y = core_of c.in_ok-core-in-Packet.core in
+    let heard = c.in_ok-core-in-Packet.heard in
+    subst (λ (event : MasterEvent). IsStep event c.args.steps x y (HeardOne heard)) (sym c.in-Packet.is) (heard_one c.in-Packet.packet c.args.steps x y heard c.in_ok-core-in-Packet.ensures)
+
+pub returns-in_ok-packets-in-Turn : goal.returns-in_ok-packets-in-Turn
+returns-in_ok-packets-in-Turn c =
+    let x = core_of c.args.self in
+    let packets = c.in_ok-packets-in-Turn.packets in
+    let sent = c.in_ok-packets-in-Turn.ensures in
+    subst (λ (event : MasterEvent). IsStep event c.args.steps x x (Sent packets)) (sym c.in-Turn.is) (sent_all c.args.steps x packets c.requires.core c.requires.within sent.sends sent.formed)
+
+pub returns-in_ok-packets-in-TurnTo : goal.returns-in_ok-packets-in-TurnTo
+returns-in_ok-packets-in-TurnTo c =
+    let x = core_of c.args.self in
+    let packets = c.in_ok-packets-in-TurnTo.packets in
+    let sent = c.in_ok-packets-in-TurnTo.ensures in
+    subst (λ (event : MasterEvent). IsStep event c.args.steps x x (Sent packets)) (sym c.in-TurnTo.is) (sent_one c.args.steps x c.in-TurnTo.peer packets c.requires.core c.requires.within sent.sends sent.formed)
+
+pub returns-in-Resync : goal.returns-in-Resync
+returns-in-Resync c =
+    let x = core_of c.args.self in
+    let y = core_of c.resync.new.self in
+    let forgets = c.resync.ensures in
+    subst (λ (event : MasterEvent). IsStep event c.args.steps x y Done) (sym c.in-Resync.is) (record {
+      core = forgets.core;
+      within = wider c.args.steps y (forgets.within c.args.steps c.requires.within);
+      answers = λ r h. record { role = forgets.stands r h; says = refl };
+      formed = tt;
+    })

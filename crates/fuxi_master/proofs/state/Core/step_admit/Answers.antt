@@ -1,0 +1,25 @@
+use Rattle.std.proofs.Common.{[], ◌∷◌, Some, None, refl}
+use Rattle.written_roles.specs.MasterSteps.{Admits}
+use Rattle.written_net.specs.Channels.{app_id}
+use Rattle.fuxi_master.specs.Commands.{admitting}
+use Rattle.fuxi_master.specs.Seen.{core_of}
+use Rattle.fuxi_master.proofs.Stepping.{has_role}
+use Rattle.fuxi_master.proofs.Answering.{commanded, named_by}
+use Rattle.fuxi_master.proofs.state.Core.step_admit.Goals as goal
+
+pub finished-requires-clause-role : goal.finished-requires-clause-role
+finished-requires-clause-role c = has_role c.in_ok-core.news _ (core_of c.args.self) (core_of c.in_ok-core.core) c.requires.core.near c.in_ok-core.ensures.changes
+
+pub finished-requires-clause-within : goal.finished-requires-clause-within
+finished-requires-clause-within c = c.in_ok-core.ensures.changes.within c.args.steps c.requires.within
+
+pub returns : goal.returns
+returns c =
+    let d = c.in_ok-core.ensures in
+    record {
+      core = c.in_ok-after.ensures.core;
+      within = c.in_ok-after.ensures.within;
+      answers = commanded c.in_ok-core.news (admitting c.args.job.now) (app_id c.args.job.now.number ∷ []) (core_of c.args.self) (core_of c.in_ok-core.core) (core_of c.in_ok-after.after) (Admits c.args.job.now) d.changes c.in_ok-after.ensures.ends
+          (named_by None (Some (record { 0 = c.args.job.now.number })) c.in_ok-core.news d.none d.admitted) (λ r h. refl);
+      formed = tt;
+    }

@@ -1,0 +1,34 @@
+use Rattle.std.proofs.Common.{[], None, refl}
+use Rattle.written_roles.specs.MasterSteps.{Begins}
+use Rattle.fuxi_master.specs.Commands.{beginning}
+use Rattle.fuxi_master.specs.Seen.{core_of}
+use Rattle.fuxi_master.specs.declared.event.MasterEvent.TheVariants.{Begin}
+use Rattle.fuxi_master.specs.declared.event.Outcome.TheVariants.{Refused}
+use Rattle.fuxi_master.specs.declared.event.MasterRefusal.TheVariants.{AlreadyServing}
+use Rattle.fuxi_master.proofs.Stepping.{has_role}
+use Rattle.fuxi_master.proofs.Answering.{commanded, named_by, begins, begins_refused, stays}
+use Rattle.fuxi_master.proofs.state.Core.step_begin.Goals as goal
+
+pub returns-then-self : goal.returns-then-self
+returns-then-self c =
+    let x = core_of c.args.self in
+    stays Begin c.args.steps x x (Refused AlreadyServing) c.requires.core c.requires.within refl (begins_refused x c.if-self.true) tt
+
+pub finished-requires-clause-role : goal.finished-requires-clause-role
+finished-requires-clause-role c = has_role c.begin-core.result.1 _ (core_of c.args.self) (core_of c.begin-core.result.0) c.requires.core.near c.begin-core.ensures.changes
+
+pub finished-requires-clause-within : goal.finished-requires-clause-within
+finished-requires-clause-within c = c.begin-core.ensures.changes.within c.args.steps c.requires.within
+
+pub returns : goal.returns
+returns c =
+    let x = core_of c.args.self in
+    let d = c.begin-core.ensures in
+    let news = c.begin-core.result.1 in
+    record {
+      core = c.in_ok-after.ensures.core;
+      within = c.in_ok-after.ensures.within;
+      answers = commanded news beginning [] x (core_of c.begin-core.result.0) (core_of c.in_ok-after.after) Begins d.changes c.in_ok-after.ensures.ends
+          (named_by None None news d.news.reported_is d.news.admitted_is) (begins x c.if-self.false);
+      formed = tt;
+    }

@@ -1,0 +1,9 @@
+pub mod Cores
+pub mod Steps
+pub mod Seen
+pub mod Ends
+pub mod Hearing
+pub mod Commands
+pub mod Starts
+pub mod Resyncs
+pub mod Readers

@@ -1,0 +1,295 @@
+//! What a master is told.
+
+ghost use Rattle.std.specs.Prelude.{◌≡◌, ◌<◌, ◌≤◌, ◌^◌, ℕ, true, false, length, map, filter, Some, None, IfOk};
+ghost use Rattle.fuxi_terms.specs.Jobs.{is_known};
+ghost use Rattle.fuxi_terms.specs.Limits.{most_machines};
+ghost use Rattle.written_roles.specs.MasterSteps.{ended_in, banned_in};
+ghost use Rattle.written_roles.specs.MasterRoles.{MasterRole};
+ghost use Rattle.fuxi_master.specs.Cores.{IsCore, StandsFor};
+ghost use Rattle.fuxi_master.specs.Commands.{changed_by, admitting, unbanned_in, beginning, IsClosed, IsOpened, IsPreempted, Preempts};
+ghost use Rattle.fuxi_terms.specs.Lists.{below};
+ghost use Rattle.fuxi_terms.specs.Numbers.{has_number};
+ghost use Rattle.schedule_unit.specs.declared.party.MachineNo.{MachineNo as MachineSeen};
+ghost use Rattle.allotment.specs.Allotted.{AllWait};
+ghost use Rattle.place_pass.specs.Placers.{IsUpToDate};
+ghost use Rattle.fuxi_master.specs.Hearing.{Changes, IsNews};
+ghost use Rattle.fuxi_master.specs.Seen.{core_of};
+
+use crate::state::{Core, news};
+use allotment::{Allotment, ends_alike};
+use broadcast::News;
+use core_side::Side;
+use failover::Machines;
+use fuxi_terms::OutOfMemory;
+use grant_table::Steps;
+use ledger_law::Ledger as _;
+use party_ledgers::Demand;
+use schedule_unit::{AppNo, Job, MachineNo};
+use std::alloc::Global;
+use std::marker::Brand;
+use std::sync::ledger::{Blank, Ledger};
+
+impl Core {
+    // A job is known from now on.
+    pub(crate) fn admit(self, alloc: Global, job: &Job) -> Result<(Core, News), OutOfMemory>
+        requires core { IsCore (core_of self) }
+        requires unknown { is_known self.known.jobs job.now.number ≡ false }
+        ensures none { IfOk result (λ after. after.1.reported ≡ None) }
+        ensures admitted { IfOk result (λ after. after.1.admitted ≡ Some (record { 0 = job.now.number })) }
+        ensures changes { IfOk result (λ after. Changes after.1 (changed_by (admitting job.now)) (core_of self) (core_of after.0)) }
+    {
+        let Core {
+            epoch,
+            known,
+            serving,
+            reported,
+            allotment,
+            agents,
+            apps,
+        } = self;
+        let (mut known, mut apps) = (known, apps);
+        let app = job.app();
+        let machines = allotment.table().cluster().machines();
+        known.admit(alloc, job)?;
+        let allotment = allotment.admit(alloc, job)?;
+        apps[app.0 as usize] = Some(Side::start(alloc, epoch)?);
+        let news = News {
+            reported: None,
+            admitted: Some(app),
+            machines: machines_in(alloc, &reported, machines)?,
+            job: None,
+            credited: Vec::new(alloc),
+        };
+        Ok((
+            Core {
+                epoch,
+                known,
+                serving,
+                reported,
+                allotment,
+                agents,
+                apps,
+            },
+            news,
+        ))
+    }
+
+    // A job has ended: its grants are gone, and its demand counts as empty.
+    pub(crate) fn end_job(self, alloc: Global, app: AppNo) -> Result<(Core, News), OutOfMemory>
+        requires core { IsCore (core_of self) }
+        requires known { is_known self.known.jobs app.0 ≡ true }
+        ensures news { IfOk result (λ after. IsNews None None after.1) }
+        ensures changes { IfOk result (λ after. Changes after.1 (changed_by (λ M. ended_in M app.0)) (core_of self) (core_of after.0)) }
+    {
+        let Core {
+            epoch,
+            known,
+            serving,
+            reported,
+            allotment,
+            agents,
+            apps,
+        } = self;
+        ends_alike();
+        let mut known = known;
+        let _sound = allotment.table().cluster();
+        let _units = allotment.table().units(app);
+        let mut allotment = allotment.clear_job(app)?;
+        allotment.asked(app, &Demand::empty(alloc));
+        known.finish(app);
+        Ok((
+            Core {
+                epoch,
+                known,
+                serving,
+                reported,
+                allotment,
+                agents,
+                apps,
+            },
+            news(alloc, None, None),
+        ))
+    }
+
+    // A machine is banned: its grants are gone, and it takes no new ones.
+    pub(crate) fn ban(self, alloc: Global, machine: MachineNo) -> Result<(Core, News), OutOfMemory>
+        requires core { IsCore (core_of self) }
+        requires machine { machine.0 < most_machines }
+        ensures news { IfOk result (λ after. IsNews None None after.1) }
+        ensures changes { IfOk result (λ after. Changes after.1 (changed_by (λ M. banned_in M machine.0)) (core_of self) (core_of after.0)) }
+    {
+        let Core {
+            epoch,
+            known,
+            serving,
+            reported,
+            allotment,
+            agents,
+            apps,
+        } = self;
+        let mut known = known;
+        let _sound = allotment.table().cluster();
+        let allotment = closed(allotment, machine)?;
+        known.ban(machine);
+        Ok((
+            Core {
+                epoch,
+                known,
+                serving,
+                reported,
+                allotment,
+                agents,
+                apps,
+            },
+            news(alloc, None, None),
+        ))
+    }
+
+    // A machine is banned no more.
+    pub(crate) fn unban(
+        self,
+        alloc: Global,
+        machine: MachineNo,
+    ) -> Result<(Core, News), OutOfMemory>
+        requires core { IsCore (core_of self) }
+        requires machine { machine.0 < most_machines }
+        ensures news { IfOk result (λ after. IsNews None None after.1) }
+        ensures changes { IfOk result (λ after. Changes after.1 (changed_by (λ M. unbanned_in M machine.0)) (core_of self) (core_of after.0)) }
+    {
+        let Core {
+            epoch,
+            known,
+            serving,
+            reported,
+            allotment,
+            agents,
+            apps,
+        } = self;
+        let mut known = known;
+        let _sound = allotment.table().cluster();
+        let allotment = opened(allotment, machine, &reported);
+        known.unban(machine);
+        Ok((
+            Core {
+                epoch,
+                known,
+                serving,
+                reported,
+                allotment,
+                agents,
+                apps,
+            },
+            news(alloc, None, None),
+        ))
+    }
+
+    // Makes room for a unit that waits. Whether there were victims; where there are none nothing has changed.
+    pub(crate) fn preempt(self, alloc: Global) -> Result<(Core, bool), OutOfMemory>
+        requires core { IsCore (core_of self) }
+        requires turns { self.allotment.placer.seen.turns < 2 ^ 63 }
+        ensures { IfOk result (λ after. Preempts after.1 (core_of self) (core_of after.0)) }
+    {
+        let Core {
+            epoch,
+            known,
+            serving,
+            reported,
+            allotment,
+            agents,
+            apps,
+        } = self;
+        let _sound = allotment.table().cluster();
+        let (allotment, found) = preempted::<Brand>(alloc, allotment, Blank::new(1))?;
+        Ok((
+            Core {
+                epoch,
+                known,
+                serving,
+                reported,
+                allotment,
+                agents,
+                apps,
+            },
+            found,
+        ))
+    }
+
+    // It serves, though machines are not reported.
+    pub(crate) fn begin(mut self, alloc: Global) -> (Core, News)
+        requires core { IsCore (core_of self) }
+        ensures news { IsNews None None result.1 }
+        ensures changes { Changes result.1 (changed_by beginning) (core_of self) (core_of result.0) }
+    {
+        let _sound = self.allotment.table().cluster();
+        self.serving = true;
+        (self, news(alloc, None, None))
+    }
+}
+
+// The machines that are reported.
+fn machines_in(
+    alloc: Global,
+    reported: &Machines,
+    machines: u32,
+) -> Result<Vec<MachineNo>, OutOfMemory>
+    requires { machines ≡ reported.now.size }
+    ensures { IfOk result (λ found. map (λ (m : MachineSeen). m.0) found.items ≡ filter (λ m. has_number m reported.now.numbers) (below machines)) }
+{
+    let mut found = Vec::new(alloc);
+    for number in 0..machines {
+        let machine = MachineNo(number);
+        if reported.has(machine) {
+            found.push(machine)?;
+        }
+    }
+    Ok(found)
+}
+
+// A machine has no grant and takes none.
+fn closed(allotment: Allotment, machine: MachineNo) -> Result<Allotment, OutOfMemory>
+    requires { AllWait allotment }
+    ensures { IfOk result (IsClosed machine.0 allotment) }
+{
+    let machines = allotment.table().cluster().machines();
+    if machine.0 >= machines {
+        return Ok(allotment);
+    }
+    let mut left = allotment.clear_machine(machine)?;
+    left.open(machine, false);
+    Ok(left)
+}
+
+// A machine takes grants where it is reported.
+fn opened(allotment: Allotment, machine: MachineNo, reported: &Machines) -> Allotment
+    ensures { IsOpened machine.0 reported.now.numbers allotment result }
+{
+    let machines = allotment.table().cluster().machines();
+    if machine.0 >= machines {
+        return allotment;
+    }
+    let mut left = allotment;
+    left.open(machine, reported.has(machine));
+    left
+}
+
+// Makes room for a unit that waits, where there are victims. The line is brought up to date.
+fn preempted<L: Ledger>(
+    alloc: Global,
+    allotment: Allotment,
+    blank: Blank,
+) -> Result<(Allotment, bool), OutOfMemory>
+    requires name { blank.name ≡ L.name }
+    requires parts { blank.parts ≡ L.parts }
+    requires some { 0 < blank.parts }
+    requires waits { AllWait allotment }
+    requires up { IsUpToDate allotment.placer.seen allotment.table }
+    requires turns { allotment.placer.seen.turns < 2 ^ 63 }
+    ensures { IfOk result (λ after. IsPreempted after.1 allotment after.0) }
+{
+    let mut steps: Steps<L> = Steps::start(blank);
+    let Some(plan) = allotment.plan(alloc, &mut steps)? else {
+        return Ok((allotment, false));
+    };
+    let left = allotment.carry_out(&plan)?;
+    Ok((left, true))
+}

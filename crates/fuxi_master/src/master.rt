@@ -1,0 +1,178 @@
+//! The master of one epoch.
+
+ghost use Rattle.std.specs.Prelude.{◌≡◌, ◌+◌, ◌<◌, ◌≤◌, ℕ, true, if◌then◌else◌, length, Some, IfOk};
+ghost use Rattle.fuxi_terms.specs.Cluster.{has_at};
+ghost use Rattle.fuxi_terms.specs.Jobs.{is_known, unit_count};
+ghost use Rattle.fuxi_terms.specs.Limits.{most_steps};
+ghost use Rattle.fuxi_terms.specs.Tables.{total_at};
+ghost use Rattle.core_side.specs.Parcels.{id_of};
+ghost use Rattle.grant_table.specs.Tables.{as_known};
+ghost use Rattle.place_pass.specs.Placers.{asks_seen};
+ghost use Rattle.written_roles.specs.MasterRoles.{MasterRole, master_started};
+ghost use Rattle.written_roles.specs.Masters.{out, out_of};
+ghost use Rattle.fuxi_master.specs.Cores.{StandsFor};
+ghost use Rattle.fuxi_master.specs.Readers.{place_in, last_in, place_of};
+ghost use Rattle.fuxi_master.specs.Steps.{IsFitting, IsSentFormed, StepsAlike, is_peer};
+
+use crate::event::{MasterEvent, Outcome};
+use crate::state::Core;
+use cluster_desc::Cluster;
+use delta_channel::Place;
+use failover::{Machines, Phase};
+use fuxi_terms::OutOfMemory;
+use grant_table::GrantTable;
+use hard_state::{Hard, Known};
+use place_pass::Line;
+use schedule_unit::{AppNo, Party, UnitNo};
+use std::alloc::Global;
+use std::marker::Model;
+
+/// The FuxiMaster of one epoch. Whatever packets come, its table fits each machine.
+///
+/// What its calls do is said of every master of the definitions that it stands for (`StandsFor`). Each call that changes it is a
+/// step; fewer than 2^50 may be taken.
+#[derive(Drop)]
+pub struct Master {
+    core: Core,
+    steps: u64,
+}
+
+impl Model for Master {
+    ghost use Rattle.fuxi_master.specs.Cores.{MasterRecord, IsMaster};
+    ghost use Rattle.fuxi_master.specs.Seen.{core_of};
+
+    ghost Value = { MasterRecord };
+
+    ghost view = { λ m. record { core = core_of m.core; steps = m.steps } };
+
+    ghost invariant = { λ m. IsMaster (record { core = core_of m.core; steps = m.steps }) };
+}
+
+impl Master {
+    /// The master of a cluster and an epoch, which is at least 1, with the jobs and bans of the hard state, ended jobs too. It is
+    /// rebuilding: it knows of no grant and no peer.
+    pub fn start(
+        alloc: Global,
+        cluster: &Cluster,
+        epoch: u64,
+        hard: &Hard,
+    ) -> Result<Master, OutOfMemory>
+        requires { 0 < epoch }
+        ensures stands { IfOk result (λ m. StandsFor m.core (master_started cluster.now hard.now.value epoch)) }
+        ensures steps { IfOk result (λ m. m.steps ≡ 0) }
+    {
+        let known = Known::of(alloc, hard)?;
+        let core = Core::start(alloc, cluster, epoch, known)?;
+        Ok(Master { core, steps: 0 })
+    }
+
+    /// One step: what the master makes of an event, with the end of the step. Every condition of an event stands at its variant.
+    ///
+    /// Where memory is refused the master is gone.
+    pub fn step(self, alloc: Global, event: MasterEvent) -> Result<(Master, Outcome), OutOfMemory>
+        requires fitting { IsFitting self.core event }
+        requires steps { self.steps < most_steps }
+        ensures steps { IfOk result (λ after. after.0.steps ≡ self.steps + 1) }
+        ensures answers { IfOk result (λ after. StepsAlike event self.core after.0.core after.1) }
+        ensures formed { IfOk result (λ after. IsSentFormed after.1) }
+    {
+        let Master { core, steps } = self;
+        let (core, outcome) = core.step(alloc, event, steps + 1)?;
+        Ok((
+            Master {
+                core,
+                steps: steps + 1,
+            },
+            outcome,
+        ))
+    }
+
+    /// Its epoch.
+    pub fn epoch(&self) -> u64
+        ensures epoch { result ≡ self.now.core.epoch }
+        ensures stands { (r : MasterRole) → StandsFor self.now.core r → result ≡ r.state.epoch }
+    {
+        self.core.epoch
+    }
+
+    /// Whether it serves.
+    pub fn phase(&self) -> Phase
+        ensures phase { result ≡ (if self.now.core.serving then Phase.Serving else Phase.Rebuilding) }
+        ensures stands { (r : MasterRole) → StandsFor self.now.core r → result ≡ (if r.state.serving then Phase.Serving else Phase.Rebuilding) }
+    {
+        if self.core.serving {
+            Phase::Serving
+        } else {
+            Phase::Rebuilding
+        }
+    }
+
+    /// The machines that are reported.
+    pub fn reported(&self) -> &Machines
+        ensures reported { result.now ≡ self.now.core.reported }
+        ensures stands { (r : MasterRole) → StandsFor self.now.core r → result.now.numbers ≡ r.state.reported }
+    {
+        &self.core.reported
+    }
+
+    /// Its table of grants. Each machine has room for its grants, in each resource.
+    pub fn table(&self) -> &GrantTable
+        ensures table { result.now ≡ self.now.core.allotment.table }
+        ensures fits { (m i : ℕ) → m < length result.now.cluster.machines → total_at (as_known result.now.jobs) m i result.now.entries ≤ has_at result.now.cluster m i }
+        ensures stands { (r : MasterRole) → StandsFor self.now.core r → result.now.entries ≡ r.state.table }
+    {
+        let table = self.core.allotment.table();
+        let _cluster = table.cluster();
+        table
+    }
+
+    /// The waiting pairs of a job and a unit, in their order.
+    pub fn waiting(&self) -> &Line
+        ensures line { result.now.pairs ≡ self.now.core.allotment.placer.seen.line }
+        ensures stands { (r : MasterRole) → StandsFor self.now.core r → result.now.pairs ≡ r.state.line }
+    {
+        self.core.allotment.placer().waiting()
+    }
+
+    /// How many grants of a unit of a job that is known are out: wanted and not held.
+    pub fn outstanding(&self, app: AppNo, unit: UnitNo) -> u32
+        requires { unit.0 < unit_count self.now.core.known.jobs app.0 }
+        ensures outstanding { result ≡ out_of (asks_seen self.now.core.allotment.placer.seen) self.now.core.allotment.table.entries app.0 unit.0 }
+        ensures stands { (r : MasterRole) → StandsFor self.now.core r → result ≡ out r.state app.0 unit.0 }
+    {
+        self.core.outstanding(app, unit)
+    }
+
+    /// Whether the job is one of this master's, ended or not.
+    pub fn knows(&self, app: AppNo) -> bool
+        ensures known { result ≡ is_known self.now.core.known.jobs app.0 }
+        ensures stands { (r : MasterRole) → StandsFor self.now.core r → result ≡ is_known r.state.jobs app.0 }
+    {
+        self.core.known.job(app).is_some()
+    }
+
+    /// The place in the history of a peer: an agent of the cluster, or the application of a job that is known.
+    pub fn place(&self, party: Party) -> Place
+        requires { is_peer self.now.core party.role party.number ≡ true }
+        ensures place { place_in self.now.core party.role party.number ≡ Some result }
+        ensures stands { (r : MasterRole) → StandsFor self.now.core r → result ≡ place_of (r.sides (id_of party.role party.number)) }
+    {
+        self.core.place(party)
+    }
+
+    /// The last index of what such a peer is sent.
+    pub fn last(&self, party: Party) -> u64
+        requires { is_peer self.now.core party.role party.number ≡ true }
+        ensures last { last_in self.now.core party.role party.number ≡ Some result }
+        ensures stands { (r : MasterRole) → StandsFor self.now.core r → result ≡ length (r.sides (id_of party.role party.number)).sent }
+    {
+        self.core.last(party)
+    }
+
+    /// The number of its steps.
+    pub fn steps(&self) -> u64
+        ensures { result ≡ self.now.steps }
+    {
+        self.steps
+    }
+}

@@ -1,0 +1,131 @@
+//! How a master starts.
+
+ghost use Rattle.std.specs.Prelude.{◌≡◌, ◌<◌, [], length, Option, Some, None, is_some, IfOk, IfSome};
+ghost use Rattle.std.specs.List.{AllByRecursion};
+ghost use Rattle.fuxi_terms.specs.Jobs.{is_known};
+ghost use Rattle.written_roles.specs.MasterRoles.{master_started};
+ghost use Rattle.written_roles.specs.HardState.{HardState};
+ghost use Rattle.allotment.specs.Allotted.{AllWait};
+ghost use Rattle.fuxi_master.specs.Cores.{IsCore, IsWithin, StandsFor};
+ghost use Rattle.fuxi_master.specs.Seen.{core_of};
+ghost use Rattle.fuxi_master.specs.Starts.{IsDownStarted, IsAppStarted, AreAppsStarted, AreAdmitted};
+
+use crate::state::Core;
+use allotment::Allotment;
+use cluster_desc::Cluster;
+use core_side::Side;
+use failover::Machines;
+use fuxi_terms::OutOfMemory;
+use hard_state::Known;
+use party_ledgers::{Demand, Grants, JoinLedger, RowLedger};
+use publishing::show_grants;
+use schedule_unit::AppNo;
+use std::alloc::Global;
+use written_roles::step_ends;
+
+// The ends of the channels with the agents of so many machines.
+fn agents_started(
+    alloc: Global,
+    epoch: u64,
+    machines: u32,
+) -> Result<Vec<Side<RowLedger, JoinLedger>>, OutOfMemory>
+    ensures wide { IfOk result (λ sides. length sides.items ≡ machines) }
+    ensures each { IfOk result (λ sides. AllByRecursion (IsDownStarted epoch) sides.items) }
+{
+    let mut sides = Vec::new(alloc);
+    for _ in 0..machines {
+        sides.push(Side::start(alloc, epoch)?)?;
+    }
+    Ok(sides)
+}
+
+// The end of the channel with an application, to which its grants are shown: there are none.
+fn app_started(alloc: Global, epoch: u64) -> Result<Side<Grants, Demand>, OutOfMemory>
+    ensures { IfOk result (IsAppStarted epoch) }
+{
+    let mut side = Side::start(alloc, epoch)?;
+    show_grants(&mut side, alloc, 0, &[], true)?;
+    Ok(side)
+}
+
+// The end of the channel with the application of this number, where its job is known.
+fn slot_started(
+    alloc: Global,
+    epoch: u64,
+    known: &Known,
+    app: AppNo,
+) -> Result<Option<Side<Grants, Demand>>, OutOfMemory>
+    ensures known { IfOk result (λ slot. is_some slot ≡ is_known known.now.jobs app.0) }
+    ensures started { IfOk result (λ slot. IfSome slot (IsAppStarted epoch)) }
+{
+    let Some(_) = known.job(app) else {
+        return Ok(None);
+    };
+    Ok(Some(app_started(alloc, epoch)?))
+}
+
+// The ends of the channels with the applications of known jobs, by job number.
+fn apps_started(
+    alloc: Global,
+    epoch: u64,
+    known: &Known,
+) -> Result<Vec<Option<Side<Grants, Demand>>>, OutOfMemory>
+    ensures { IfOk result (λ slots. AreAppsStarted epoch known.now.jobs 256 slots.items) }
+{
+    let mut slots = Vec::new(alloc);
+    for number in 0..256 {
+        slots.push(slot_started(alloc, epoch, known, AppNo(number))?)?;
+    }
+    Ok(slots)
+}
+
+// The known jobs are admitted, in number order.
+fn jobs_admitted(
+    alloc: Global,
+    allotment: Allotment,
+    known: &Known,
+) -> Result<Allotment, OutOfMemory>
+    requires waits { AllWait allotment }
+    requires empty { allotment.table.jobs ≡ [] }
+    ensures { IfOk result (AreAdmitted known.now.jobs 256 allotment) }
+{
+    let mut left = allotment;
+    for number in 0..256 {
+        let Some(job) = known.job(AppNo(number)) else {
+            continue;
+        };
+        left = left.admit(alloc, job)?;
+    }
+    Ok(left)
+}
+
+impl Core {
+    // A master that starts with what is known: it knows no peer, no machine is reported, and the grants of each job are shown.
+    pub(crate) fn start(
+        alloc: Global,
+        cluster: &Cluster,
+        epoch: u64,
+        known: Known,
+    ) -> Result<Core, OutOfMemory>
+        requires { 0 < epoch }
+        ensures core { IfOk result (λ core. IsCore (core_of core)) }
+        ensures within { IfOk result (λ core. IsWithin 1 (core_of core)) }
+        ensures stands { IfOk result (λ core. (h : HardState) → h.jobs ≡ known.jobs → h.bans ≡ known.bans → StandsFor (core_of core) (master_started cluster.now h epoch)) }
+    {
+        step_ends();
+        let _jobs = known.jobs();
+        let allotment = Allotment::start(alloc, cluster)?;
+        let allotment = jobs_admitted(alloc, allotment, &known)?;
+        let agents = agents_started(alloc, epoch, cluster.machines())?;
+        let apps = apps_started(alloc, epoch, &known)?;
+        Ok(Core {
+            epoch,
+            known,
+            serving: false,
+            reported: Machines::none(cluster),
+            allotment,
+            agents,
+            apps,
+        })
+    }
+}

@@ -1,0 +1,282 @@
+//! One step of a master.
+
+ghost use Rattle.std.specs.Prelude.{◌≡◌, ◌<◌, ◌≤◌, true, false, length, IfOk};
+ghost use Rattle.fuxi_terms.specs.Jobs.{is_known};
+ghost use Rattle.schedule_unit.specs.declared.party.Role.TheVariants.{Master as AsMaster, Agent as AsAgent, App as AsApp};
+ghost use Rattle.fuxi_terms.specs.Limits.{most_machines, most_steps};
+ghost use Rattle.party_ledgers.specs.Packets.{IsFormed};
+ghost use Rattle.written_net.specs.Net.{is_taken, same_id};
+ghost use Rattle.written_net.specs.Channels.{master_id};
+ghost use Rattle.core_side.specs.Parcels.{packet_of};
+ghost use Rattle.fuxi_master.specs.Cores.{IsCore, IsWithin};
+ghost use Rattle.fuxi_master.specs.Seen.{core_of};
+ghost use Rattle.fuxi_master.specs.Steps.{IsFitting, IsStep, IsHeard};
+
+use crate::event::{MasterEvent, MasterRefusal, Outcome};
+use crate::state::{Core, news};
+use core_side::strangers_change_nothing;
+use fuxi_terms::OutOfMemory;
+use party_ledgers::{Heard, Kind, Packet, What};
+use schedule_unit::{AppNo, Job, MachineNo, Role};
+use std::alloc::Global;
+use written_roles::step_ends;
+
+// As what the packet of a stranger is heard.
+const STRANGER: Heard = Heard {
+    fresh: false,
+    what: What::Stranger,
+};
+
+// Whether a packet is for the master.
+fn is_for_master(packet: &Packet) -> bool
+    ensures { result ≡ same_id (packet_of packet.now).to.id master_id }
+{
+    matches!(packet.to.role, Role::Master) && packet.to.number == 0
+}
+
+// Whether a ledger was taken.
+fn is_taken(heard: &Heard) -> bool
+    ensures { result ≡ is_taken heard.now.what }
+{
+    matches!(heard.what, What::Taken)
+}
+
+impl Core {
+    // One step, which is the one of this number.
+    pub(crate) fn step(
+        self,
+        alloc: Global,
+        event: MasterEvent,
+        steps: u64,
+    ) -> Result<(Core, Outcome), OutOfMemory>
+        requires core { IsCore (core_of self) }
+        requires fitting { IsFitting (core_of self) event }
+        requires within { IsWithin steps (core_of self) }
+        requires steps { steps ≤ most_steps }
+        ensures { IfOk result (λ after. IsStep event steps (core_of self) (core_of after.0) after.1) }
+    {
+        match event {
+            MasterEvent::Packet(packet) => {
+                let (core, heard) = self.hear(alloc, packet, steps)?;
+                Ok((core, Outcome::Heard(heard)))
+            }
+            MasterEvent::Admit(job) => self.step_admit(alloc, &job, steps),
+            MasterEvent::Finish(app) => self.step_finish(alloc, app, steps),
+            MasterEvent::Ban(machine) => self.step_ban(alloc, machine, steps),
+            MasterEvent::Unban(machine) => self.step_unban(alloc, machine, steps),
+            MasterEvent::Begin => self.step_begin(alloc, steps),
+            MasterEvent::Preempt => self.step_preempt(alloc, steps),
+            MasterEvent::Turn => {
+                let packets = self.turn(alloc)?;
+                Ok((self, Outcome::Sent(packets)))
+            }
+            MasterEvent::TurnTo(peer) => {
+                let packets = self.turn_to(alloc, peer)?;
+                Ok((self, Outcome::Sent(packets)))
+            }
+            MasterEvent::Resync => {
+                let mut core = self;
+                core.resync();
+                Ok((core, Outcome::Done))
+            }
+        }
+    }
+
+    // A packet, with the end of the step where it changed something.
+    fn hear(self, alloc: Global, packet: Packet, steps: u64) -> Result<(Core, Heard), OutOfMemory>
+        requires core { IsCore (core_of self) }
+        requires formed { IsFormed packet }
+        requires no_end { packet.kind ≡ Kind.End → ⊥ }
+        requires within { IsWithin steps (core_of self) }
+        requires steps { steps ≤ most_steps }
+        ensures { IfOk result (λ after. IsHeard packet steps (core_of self) (core_of after.0) after.1) }
+    {
+        step_ends();
+        strangers_change_nothing();
+        if !is_for_master(&packet) {
+            return Ok((self, STRANGER));
+        }
+        match packet.from.role {
+            Role::Master => Ok((self, STRANGER)),
+            Role::Agent => {
+                if packet.from.number >= self.allotment.table().cluster().machines() {
+                    return Ok((self, STRANGER));
+                }
+                let (core, heard) = self.heard_agent(alloc, packet, steps)?;
+                Ok((core, heard))
+            }
+            Role::App => {
+                if self.known.job(AppNo(packet.from.number)).is_none() {
+                    return Ok((self, STRANGER));
+                }
+                let (core, heard) = self.heard_app(alloc, packet, steps)?;
+                Ok((core, heard))
+            }
+        }
+    }
+
+    // A packet of an agent of the cluster.
+    fn heard_agent(
+        self,
+        alloc: Global,
+        packet: Packet,
+        steps: u64,
+    ) -> Result<(Core, Heard), OutOfMemory>
+        requires core { IsCore (core_of self) }
+        requires formed { IsFormed packet }
+        requires no_end { packet.kind ≡ Kind.End → ⊥ }
+        requires from { packet.from.role ≡ AsAgent }
+        requires machine { packet.from.number < length self.allotment.table.cluster.machines }
+        requires to { packet.to.role ≡ AsMaster }
+        requires zero { packet.to.number ≡ 0 }
+        requires within { IsWithin steps (core_of self) }
+        requires steps { steps ≤ most_steps }
+        ensures { IfOk result (λ after. IsHeard packet steps (core_of self) (core_of after.0) after.1) }
+    {
+        step_ends();
+        let machine = MachineNo(packet.from.number);
+        let (core, heard, due) = self.hear_agent(alloc, packet)?;
+        if !due {
+            return Ok((core, heard));
+        }
+        let (changed, news) = core.adopt_report(alloc, machine)?;
+        let after = changed.finished(alloc, &news, steps)?;
+        Ok((after, heard))
+    }
+
+    // A packet of the application of a known job.
+    fn heard_app(
+        self,
+        alloc: Global,
+        packet: Packet,
+        steps: u64,
+    ) -> Result<(Core, Heard), OutOfMemory>
+        requires core { IsCore (core_of self) }
+        requires formed { IsFormed packet }
+        requires no_end { packet.kind ≡ Kind.End → ⊥ }
+        requires from { packet.from.role ≡ AsApp }
+        requires known { is_known self.known.jobs packet.from.number ≡ true }
+        requires to { packet.to.role ≡ AsMaster }
+        requires zero { packet.to.number ≡ 0 }
+        requires within { IsWithin steps (core_of self) }
+        requires steps { steps ≤ most_steps }
+        ensures { IfOk result (λ after. IsHeard packet steps (core_of self) (core_of after.0) after.1) }
+    {
+        step_ends();
+        let app = AppNo(packet.from.number);
+        let (core, heard) = self.hear_app(alloc, packet)?;
+        let taken = is_taken(&heard);
+        if !heard.fresh && !taken {
+            return Ok((core, heard));
+        }
+        let (changed, news) = core.take_demand(alloc, app, heard.fresh, taken)?;
+        let after = changed.finished(alloc, &news, steps)?;
+        Ok((after, heard))
+    }
+
+    // A job is known from now on, with no demand.
+    fn step_admit(
+        self,
+        alloc: Global,
+        job: &Job,
+        steps: u64,
+    ) -> Result<(Core, Outcome), OutOfMemory>
+        requires core { IsCore (core_of self) }
+        requires unknown { is_known self.known.jobs job.now.number ≡ false }
+        requires within { IsWithin steps (core_of self) }
+        requires steps { steps ≤ most_steps }
+        ensures { IfOk result (λ after. IsStep (MasterEvent.Admit job.now) steps (core_of self) (core_of after.0) after.1) }
+    {
+        let (core, news) = self.admit(alloc, job)?;
+        let after = core.finished(alloc, &news, steps)?;
+        Ok((after, Outcome::Done))
+    }
+
+    // A job has ended: its grants are gone.
+    fn step_finish(
+        self,
+        alloc: Global,
+        app: AppNo,
+        steps: u64,
+    ) -> Result<(Core, Outcome), OutOfMemory>
+        requires core { IsCore (core_of self) }
+        requires known { is_known self.known.jobs app.0 ≡ true }
+        requires within { IsWithin steps (core_of self) }
+        requires steps { steps ≤ most_steps }
+        ensures { IfOk result (λ after. IsStep (MasterEvent.Finish app) steps (core_of self) (core_of after.0) after.1) }
+    {
+        let (core, news) = self.end_job(alloc, app)?;
+        let after = core.finished(alloc, &news, steps)?;
+        Ok((after, Outcome::Done))
+    }
+
+    // A machine gets no grant from now on, and has none.
+    fn step_ban(
+        self,
+        alloc: Global,
+        machine: MachineNo,
+        steps: u64,
+    ) -> Result<(Core, Outcome), OutOfMemory>
+        requires core { IsCore (core_of self) }
+        requires machine { machine.0 < most_machines }
+        requires within { IsWithin steps (core_of self) }
+        requires steps { steps ≤ most_steps }
+        ensures { IfOk result (λ after. IsStep (MasterEvent.Ban machine) steps (core_of self) (core_of after.0) after.1) }
+    {
+        let (core, news) = self.ban(alloc, machine)?;
+        let after = core.finished(alloc, &news, steps)?;
+        Ok((after, Outcome::Done))
+    }
+
+    // A machine gets grants again.
+    fn step_unban(
+        self,
+        alloc: Global,
+        machine: MachineNo,
+        steps: u64,
+    ) -> Result<(Core, Outcome), OutOfMemory>
+        requires core { IsCore (core_of self) }
+        requires machine { machine.0 < most_machines }
+        requires within { IsWithin steps (core_of self) }
+        requires steps { steps ≤ most_steps }
+        ensures { IfOk result (λ after. IsStep (MasterEvent.Unban machine) steps (core_of self) (core_of after.0) after.1) }
+    {
+        let (core, news) = self.unban(alloc, machine)?;
+        let after = core.finished(alloc, &news, steps)?;
+        Ok((after, Outcome::Done))
+    }
+
+    // It serves from now on, where it does not serve yet.
+    fn step_begin(self, alloc: Global, steps: u64) -> Result<(Core, Outcome), OutOfMemory>
+        requires core { IsCore (core_of self) }
+        requires within { IsWithin steps (core_of self) }
+        requires steps { steps ≤ most_steps }
+        ensures { IfOk result (λ after. IsStep MasterEvent.Begin steps (core_of self) (core_of after.0) after.1) }
+    {
+        if self.serving {
+            return Ok((self, Outcome::Refused(MasterRefusal::AlreadyServing)));
+        }
+        let (core, news) = self.begin(alloc);
+        let after = core.finished(alloc, &news, steps)?;
+        Ok((after, Outcome::Done))
+    }
+
+    // It makes room for a unit that waits, where it serves and there are victims.
+    fn step_preempt(self, alloc: Global, steps: u64) -> Result<(Core, Outcome), OutOfMemory>
+        requires core { IsCore (core_of self) }
+        requires within { IsWithin steps (core_of self) }
+        requires steps { steps ≤ most_steps }
+        ensures { IfOk result (λ after. IsStep MasterEvent.Preempt steps (core_of self) (core_of after.0) after.1) }
+    {
+        if !self.serving {
+            return Ok((self, Outcome::Refused(MasterRefusal::NotServing)));
+        }
+        let (core, found) = self.preempt(alloc)?;
+        if !found {
+            return Ok((core, Outcome::Refused(MasterRefusal::NothingToPreempt)));
+        }
+        let news = news(alloc, None, None);
+        let after = core.finished(alloc, &news, steps)?;
+        Ok((after, Outcome::Done))
+    }
+}
