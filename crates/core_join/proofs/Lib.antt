@@ -1,2 +1,3 @@
 pub mod Ruled
 pub mod AppWorld
+pub mod MasterWorld

@@ -1,2 +1,3 @@
 pub mod Agents
 pub mod Apps
+pub mod Masters

@@ -10,6 +10,7 @@ ghost use Rattle.core_join.specs.Agents.{HearsInWorld, TurnsInWorld, ResyncsInWo
 
 mod apps;
 mod frames;
+mod masters;
 
 use agent_core::Agent;
 pub use apps::{
@@ -18,6 +19,7 @@ pub use apps::{
 };
 pub use frames::written_frame_lengths;
 use ledger_law::OutOfMemory;
+pub use masters::{master_starts, master_steps};
 use party_ledgers::{Heard, Kind, Packet, Packets};
 use res_vector::Res;
 use schedule_unit::MachineNo;

@@ -204,7 +204,8 @@ few_keys c jobs old new h m n =
     let len = short c jobs (joined row_cmp old new) 0 (omega arith) j.named j.sorted (all_zero (joined row_cmp old new)) in
     omega (arith, len)
 
-total_place : (rows : List (RowKey × ℕ)) (i : ℕ) → at_place (total_of (map (λ e. (e.1, e.0.size)) rows)) i ≡ row_total_at i rows
+-- the total of a row, place by place
+pub total_place : (rows : List (RowKey × ℕ)) (i : ℕ) → at_place (total_of (map (λ e. (e.1, e.0.size)) rows)) i ≡ row_total_at i rows
 total_place [] i = refl
 total_place (e ∷ es) i =
     at_place-plus (times e.1 e.0.size) (total_of (map (λ e. (e.1, e.0.size)) es)) i ∙ (let a = at_place-times e.1 e.0.size i in let r = total_place es i in let s = sum_by-cons (λ (e : RowKey × ℕ). e.1 * at_place e.0.size i) e es in omega (arith, a, r, s))

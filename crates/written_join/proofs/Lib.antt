@@ -6,3 +6,4 @@ pub mod AppsJoin
 pub mod MastersJoin
 pub mod LeadingLemmas
 pub mod EntriesLead
+pub mod KeptReports

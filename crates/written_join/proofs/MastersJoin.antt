@@ -240,7 +240,7 @@ master_hears_alike excess w M which x there s to leads = by (talks w.cluster M x
         let r = master_seen w M in
         record {
           now = ready c now;
-          acts = subst (λ b. MasterActs w (cond b (end_step w net now forced) w) M (ready c now) (cond b (master_told r from k) (record { fresh = false; what = Stranger; role = r })).role []) (sym e) (record { acts = acts; role = role; stands = λ _. found_here (ready c now).epoch (ready c now) w.masters; others = λ e' no. put_beside (ready c now).epoch e' (ready c now) w.masters no; rest = refl });
+          acts = subst (λ b. MasterActs w (cond b (end_step w net now forced) w) M (ready c now) (cond b (master_told r from k) (record { fresh = false; what = Stranger; role = r })).role []) (sym e) (record { acts = acts; role = role; epoch = ready_epoch c now ∙ epoch; stands = λ _. found_here (ready c now).epoch (ready c now) w.masters; others = λ e' no. put_beside (ready c now).epoch e' (ready c now) w.masters no; rest = refl });
           hard = ap (λ b. (cond b (end_step w net now forced) w).hard) e;
           fresh = subst (λ b. (cond b (master_told r from k) (record { fresh = false; what = Stranger; role = r })).fresh ≡ h.fresh) (sym e) a.fresh;
           what = subst (λ b. (cond b (master_told r from k) (record { fresh = false; what = Stranger; role = r })).what ≡ h.what) (sym e) a.what;
@@ -259,7 +259,7 @@ master_hears_alike excess w M which x there s to leads = by (talks w.cluster M x
         let unheard : MasterHeard = record { fresh = false; what = Stranger; role = r } in
         record {
           now = M;
-          acts = subst (λ b. MasterActs w (cond b (end_step w net now forced) w) M M (cond b (master_told r from k) unheard).role []) (sym e) (record { acts = quiet_acts w.net w.net p s (leaves_nothing p w.net) (grows_itself w.net) refl; role = refl; stands = λ f. f; others = λ _ _. refl; rest = refl });
+          acts = subst (λ b. MasterActs w (cond b (end_step w net now forced) w) M M (cond b (master_told r from k) unheard).role []) (sym e) (record { acts = quiet_acts w.net w.net p s (leaves_nothing p w.net) (grows_itself w.net) refl; role = refl; epoch = refl; stands = λ f. f; others = λ _ _. refl; rest = refl });
           hard = ap (λ b. (cond b (end_step w net now forced) w).hard) e;
           fresh = subst (λ b. (cond b (master_told r from k) unheard).fresh ≡ h.fresh) (sym e) (sym (ap (λ (y : Heard). y.fresh) none));
           what = subst (λ b. (cond b (master_told r from k) unheard).what ≡ h.what) (sym e) (sym (ap (λ (y : Heard). y.what) none));
@@ -270,6 +270,7 @@ pub commanded_alike : (w : World) (hard : HardState) (M N : Master) (forced : Li
     → MasterActs w (end_step (record w { hard = hard }) w.net N forced) M (ready w.cluster N) (ends_alone w.cluster (sides_of w.net (master_party M)) N forced) []
 commanded_alike w hard M N forced epoch s = record {
   acts = subst (λ n. OneActs w.net (end_step (record w { hard = hard }) w.net N forced).net (party master_id n) []) epoch (ends_acts w (record w { hard = hard }) w.net N forced s (leaves_nothing (master_party N) w.net) (grows_itself w.net) refl);
+  epoch = ready_epoch w.cluster N ∙ epoch;
   stands = λ _. found_here (ready w.cluster N).epoch (ready w.cluster N) w.masters;
   others = λ e no. put_beside (ready w.cluster N).epoch e (ready w.cluster N) w.masters no;
   rest = refl;
@@ -361,6 +362,7 @@ master_turn_alike w M s =
         packets = ap (map (parcel_of net)) (sent_all w.net p qs) ∙ map-append (parcel_of net) w.net.packets (flat_map (λ q. turn w.net p q) qs)
             ∙ (λ i. map (parcel_of (record { links = net.links; histories = kept.1 i; packets = net.packets })) w.net.packets ++ turned_parcels w.net net p qs kept.1 i);
       };
+      epoch = refl;
       stands = λ f. f;
       others = λ _ _. refl;
       rest = refl;
@@ -398,6 +400,7 @@ master_resync_alike w M s =
     let grown : Grows shape w.net.histories (resync_all w.net p qs).histories = subst (Grows shape w.net.histories) (sym (resync_histories w.net p qs)) (record { longer = (grows_itself w.net).longer }) in
     record {
       acts = quiet_acts w.net (resync_all w.net p qs) p s r.leaves grown (resync_packets w.net p qs);
+      epoch = refl;
       stands = λ f. f;
       others = λ _ _. refl;
       rest = refl;
@@ -435,6 +438,7 @@ master_start_alike w h ran e s none =
       acts = record {
         acts = ends_acts w (record w { hard = h; ran = ran }) net M forced s (start_leaves w.net p) (record { longer = (grows_itself w.net).longer }) refl;
         role = ends_alike (record w { hard = h; ran = ran }) net M forced ∙ ap (λ (z : Id → Side). ends_alone w.cluster z M forced) sides;
+        epoch = ready_epoch w.cluster M;
         stands = λ _. found_here R.epoch R w.masters;
         others = λ e' no. put_beside R.epoch e' R w.masters no;
         rest = refl;

@@ -38,11 +38,12 @@ pub record AppActs (w w' : World) (a : ℕ) (g g' : App) (r : AppRole) (sent : L
   pub role : app_seen w' a g' ≡ r
   pub rest : w' ≡ record w { apps = w'.apps; net = w'.net }
 
--- a master acts, and is then this role. Where it stood in the world it stands there so; other masters stand as before, and of the rest
--- only the hard state and what has run may be others
+-- a master acts, and is then this role in the same epoch. Where it stood in the world it stands there so; other masters stand as before, and of the
+-- rest only the hard state and what has run may be others
 pub record MasterActs (w w' : World) (M R : Master) (r : MasterRole) (sent : List Parcel) : Type 0 where
   pub acts : OneActs w.net w'.net (master_party M) sent
   pub role : master_seen w' R ≡ r
+  pub epoch : R.epoch ≡ M.epoch
   pub stands : find nat_cmp M.epoch w.masters ≡ Some M → find nat_cmp R.epoch w'.masters ≡ Some R
   pub others : (e : ℕ) → nat_eq e R.epoch ≡ false → find nat_cmp e w'.masters ≡ find nat_cmp e w.masters
   pub rest : w' ≡ record w { hard = w'.hard; ran = w'.ran; masters = w'.masters; net = w'.net }

@@ -17,12 +17,12 @@ ghost use Rattle.written_roles.specs.Masters.{Master};
 ghost use Rattle.written_roles.specs.MasterSteps.{master_party, talks, peers, MasterCommand};
 ghost use Rattle.written_roles.specs.Agents.{row_excess, agent_turn, agent_resynced};
 ghost use Rattle.written_roles.specs.Apps.{AppCommand, no_excess, commands_alone, app_turn, app_resynced};
-ghost use Rattle.written_roles.specs.MasterRoles.{master_turn, master_resynced, master_commanded};
+ghost use Rattle.written_roles.specs.MasterRoles.{master_turn, master_resynced, master_commanded, report_excess as kept_excess};
 ghost use Rattle.written_world.specs.World.{World, Agent, App};
 ghost use Rattle.written_world.specs.Events.{asks, commanded, turned, turn_to_master, resynced};
 ghost use Rattle.written_join.specs.Seen.{has_of, agent_seen, app_seen, master_seen};
 ghost use Rattle.written_join.specs.Joins.{AgentActs, AppActs, MasterActs, AgentHearsAlike, AppHearsAlike, MasterHearsAlike, AgentStarts, AppStarts, MasterStarts, AppCommanded, MasterCommanded, Leads};
-ghost use Rattle.written_join.specs.Leading.{RowsLead, TalliesLead, ReportsFit, AllLead};
+ghost use Rattle.written_join.specs.Leading.{RowsLead, TalliesLead, ReportsFit, AllLead, report_excess};
 ghost use Rattle.fuxi_terms.specs.Cluster.{ClusterRecord};
 ghost use Rattle.written_world.specs.Events.{Event};
 ghost use Rattle.written_world.specs.Lines.{IsInput};
@@ -66,6 +66,12 @@ pub fn histories_lead()
     ensures grants { (a : ℕ) (h : List Ledger) → TalliesLead master_id h → Leads no_excess master_id (app_id a) h }
     ensures demands { (a : ℕ) (excess : Ledger → Option (Sum × Res)) (h : List Ledger) → TalliesLead (app_id a) h → ReportsFit (app_id a) excess h → Leads excess (app_id a) master_id h }
     ensures reports { (m : ℕ) (excess : Ledger → Option (Sum × Res)) (h : List Ledger) → ReportsFit (agent_id m) excess h → Leads excess (agent_id m) master_id h }
+{}
+
+/// What a master itself finds too much is of the entries that it would keep, and only of a report that it adopts. Where no
+/// whole report of a history is too much, that never is either.
+pub fn kept_reports_lead()
+    ensures { (c : ClusterRecord) (M : Master) (from to : Id) (h : List Ledger) → Leads (report_excess c from) from to h → Leads (kept_excess c M from) from to h }
 {}
 
 /// In every state to which event lines lead on a valid cluster, each entry of each history follows on the one before
