@@ -8,3 +8,4 @@ pub mod Lining
 pub mod Telling
 pub mod Picking
 pub mod Turns
+pub mod Idling

@@ -43,12 +43,12 @@ all_below P f q (suc n) h = subst (AllByRecursion P) (sym (ap (map f) (filter_ap
     last true e = (h n (omega arith) e, tt)
     last false e = tt
 
-all_candidates : (P : Ranked → Type 0) (b : Board) (es : List (Spot × ℕ)) (admitted : ℕ × ℕ → Type 0) (place : ℕ) (ps : List (ℕ × ℕ)) → AllByRecursion admitted ps
-    → ((p : ℕ × ℕ) (place m : ℕ) → admitted p → m < length b.cluster.machines → may_grow_in b es p.0 p.1 ≡ true → has_room_in b.cluster b.sizes es p.0 p.1 m ≡ true → P (ranked_in b es place p m)) → AllByRecursion P (candidates_in b es place ps)
+pub all_candidates : (P : Ranked → Type 0) (b : Board) (es : List (Spot × ℕ)) (admitted : ℕ × ℕ → Type 0) (place : ℕ) (ps : List (ℕ × ℕ)) → AllByRecursion admitted ps
+    → ((p : ℕ × ℕ) (place m : ℕ) → admitted p → m < length b.cluster.machines → may_grow_in b es p.0 p.1 ≡ true → b.may_use p.0 p.1 m ≡ true → has_room_in b.cluster b.sizes es p.0 p.1 m ≡ true → P (ranked_in b es place p m)) → AllByRecursion P (candidates_in b es place ps)
 all_candidates P b es admitted place [] a h = tt
 all_candidates P b es admitted place (p ∷ ps) a h = all_append P (elim (may_grow_in b es p.0 p.1) as (λ _. List Ranked) [ true ↦ places_in b es place p | false ↦ [] ]) (candidates_in b es (place + 1) ps)
     (elim (may_grow_in b es p.0 p.1) as (λ t. may_grow_in b es p.0 p.1 ≡ t → AllByRecursion P (elim t as (λ _. List Ranked) [ true ↦ places_in b es place p | false ↦ [] ])) [
-      | true ↦ λ g. all_below P (ranked_in b es place p) (λ m. b.may_use p.0 p.1 m && has_room_in b.cluster b.sizes es p.0 p.1 m) (length b.cluster.machines) (λ m lt e. h p place m a.0 lt g (both_true (b.may_use p.0 p.1 m) _ e).1)
+      | true ↦ λ g. all_below P (ranked_in b es place p) (λ m. b.may_use p.0 p.1 m && has_room_in b.cluster b.sizes es p.0 p.1 m) (length b.cluster.machines) (λ m lt e. let x = both_true (b.may_use p.0 p.1 m) _ e in h p place m a.0 lt g x.0 x.1)
       | false ↦ λ _. tt
     ] refl)
     (all_candidates P b es admitted (place + 1) ps a.1 h)
@@ -96,7 +96,7 @@ module _ (c : ClusterRecord) (cells : List (List Cell)) (o : List Bool) (t : Tab
       }
 
   first_grantable : (line : List (ℕ × ℕ)) (x : Spot) → AreAdmitted cells line → first_in (board_over cells o t) t.entries line ≡ Some x → IsGrantable t x
-  first_grantable line x h e = by (candidates_in (board_over cells o t) t.entries 0 line) (all_candidates (IsGrantableRank t) (board_over cells o t) t.entries (λ (p : ℕ × ℕ). p.1 < length (get_or cells p.0 [])) 0 line h (λ p place m a lt g r. record { grantable = may p.0 p.1 m a lt g r })) e
+  first_grantable line x h e = by (candidates_in (board_over cells o t) t.entries 0 line) (all_candidates (IsGrantableRank t) (board_over cells o t) t.entries (λ (p : ℕ × ℕ). p.1 < length (get_or cells p.0 [])) 0 line h (λ p place m a lt g _ r. record { grantable = may p.0 p.1 m a lt g r })) e
     where
       by : (rs : List Ranked) → AllByRecursion (IsGrantableRank t) rs → first_of rs ≡ Some x → IsGrantable t x
       by [] a e = cc

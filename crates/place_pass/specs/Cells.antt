@@ -1,6 +1,7 @@
 -- What the program keeps of one unit, and what is asked at a key.
-use Rattle.std.specs.Prelude.{◌≡◌, ℕ, ◌+◌, ◌<◌, ◌≤◌, Bool, cond, nat_eq, List, [], ◌∷◌, length, map, replicate, Option, Some, None}
+use Rattle.std.specs.Prelude.{◌≡◌, ℕ, ◌+◌, ◌<◌, ◌≤◌, Bool, cond, nat_eq, nat_lt, ◌&&◌, ◌||◌, List, [], ◌∷◌, length, map, replicate, Option, Some, None}
 use Rattle.std.specs.Global.{Vec}
+use Rattle.std.specs.List.{list_any}
 use Rattle.std.proofs.Common.{get_or}
 use Rattle.fuxi_terms.specs.Cluster.{ClusterRecord, JobRecord, UnitRecord, has_rack}
 use Rattle.fuxi_terms.specs.declared.Key.{Key}
@@ -78,6 +79,21 @@ taken c es u x = record {
 abbrev pub taken_all : ClusterRecord → List (Key × ℕ) → ℕ → List Cell → List Cell
 taken_all c es u [] = []
 taken_all c es u (x ∷ xs) = taken c es u x ∷ taken_all c es (u + 1) xs
+
+-- of some numbers, by machine, a demand leaves nothing where there was something
+abbrev pub is_gone : ℕ → ℕ → Bool
+is_gone before now = nat_lt 0 before && nat_eq now 0
+
+abbrev pub any_gone : List (Key × ℕ) → ℕ → ℕ → List ℕ → ℕ → Bool
+any_gone es what u numbers machines = list_any (λ m. is_gone (get_or numbers m 0) (count key_cmp es (key what u m))) (below machines)
+
+-- by a demand a unit wants more, or avoids a machine no more that it avoided
+abbrev pub asks_more : ClusterRecord → List (Key × ℕ) → ℕ → Cell → Bool
+asks_more c es u x = nat_lt x.want (count key_cmp es (want_key u)) || any_gone es 4 u x.avoided (length c.machines)
+
+-- one of the first units of a job does
+abbrev pub any_more : ClusterRecord → List (Key × ℕ) → List Cell → ℕ → Bool
+any_more c es xs n = list_any (λ u. asks_more c es u (get_or xs u no_cell)) (below n)
 
 -- what is asked at each key of each job, and the job of each number, where there is one
 abbrev pub asks_in : List (List Cell) → ℕ → Key → ℕ

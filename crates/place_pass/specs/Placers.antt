@@ -8,10 +8,10 @@ use Rattle.fuxi_terms.specs.Tables.{held_on, total_at}
 use Rattle.fuxi_terms.specs.declared.Key.{Key}
 use Rattle.fuxi_terms.specs.Keys.{Spot, key_cmp, spot_cmp}
 use Rattle.fuxi_terms.specs.Counts.{count, set_count}
-use Rattle.fuxi_terms.specs.TallyKeys.{avoid_key}
+use Rattle.fuxi_terms.specs.TallyKeys.{want_key, avoid_key}
 use Rattle.fuxi_terms.specs.Jobs.{KnownJob, job_of, job_numbers, unit_count, priority_of, size_at, group_of}
 use Rattle.written_roles.specs.Masters.{out_of}
-use Rattle.written_roles.specs.Placing.{Board, waiting_in, has_pair}
+use Rattle.written_roles.specs.Placing.{Board, waiting_in, has_pair, placeable_in}
 use Rattle.std.specs.List.{AllByRecursion}
 use Rattle.grant_table.specs.Tables.{TableRecord, IsSound, as_known}
 use Rattle.place_pass.specs.Lines.{LineRecord, units_in_all}
@@ -26,8 +26,10 @@ pub record SeenRecord : Type 0 where
   pub line : List (ℕ × ℕ)
   pub turns : ℕ
 
+-- and whether nothing is placeable, as far as the placer knows
 pub record PlacerRecord : Type 0 where
   pub seen : SeenRecord
+  pub idle : Bool
 
 -- of what was told: the admitted job of a number, where there is one, what is asked at each key of a job, and whether a machine is open
 abbrev pub job_seen : SeenRecord → ℕ → Option JobRecord
@@ -43,13 +45,10 @@ is_open s m = get_or s.opened m false
 abbrev pub units_seen : SeenRecord → ℕ → ℕ
 units_seen s a = length (get_or s.cells a [])
 
--- a placer and a table have the same cluster and jobs. What a placer keeps beside may grow, and callers need not look into this
+-- a placer and a table have the same cluster and jobs
 pub record AreLevel (cluster : ClusterRecord) (job : ℕ → Option JobRecord) (t : TableRecord) : Type 0 where
   pub cluster_is : cluster ≡ t.cluster
   pub jobs_are : (a : ℕ) → job a ≡ option_map (λ (k : KnownJob). k.job) (job_of (as_known t.jobs) a)
-
-unfoldable pub IsLevelWith : PlacerRecord → TableRecord → Type 0
-IsLevelWith p t = AreLevel p.seen.cluster (job_seen p.seen) t
 
 -- a machine takes new grants of a unit: it is open, and the unit does not avoid it
 abbrev pub is_open_to : List (List Cell) → List Bool → ℕ → ℕ → ℕ → Bool
@@ -78,6 +77,19 @@ board_over cells machines t = record {
 abbrev pub board_with : SeenRecord → TableRecord → Board
 board_with s t = board_over s.cells s.opened t
 
+-- no unit of a known job may be granted on any machine
+pub record IsIdle (cells : List (List Cell)) (machines : List Bool) (t : TableRecord) : Type 0 where
+  pub none : (a u m : ℕ) → u < unit_count (as_known t.jobs) a → m < length t.cluster.machines → placeable_in (board_over cells machines t) t.entries a u m ≡ false
+
+-- A placer and a table are of one cluster and have the same jobs, and where the placer is idle nothing is placeable. What a placer keeps beside
+-- may grow, and callers need not look into this
+pub record IsLevel (p : PlacerRecord) (t : TableRecord) : Type 0 where
+  pub level : AreLevel p.seen.cluster (job_seen p.seen) t
+  pub idle : p.idle ≡ true → IsIdle p.seen.cells p.seen.opened t
+
+unfoldable pub IsLevelWith : PlacerRecord → TableRecord → Type 0
+IsLevelWith p t = IsLevel p t
+
 -- the pairs with something out, in the order of job and unit
 abbrev pub waiting_with : SeenRecord → TableRecord → List (ℕ × ℕ)
 waiting_with s t = waiting_in (job_numbers (as_known t.jobs)) (unit_count (as_known t.jobs)) (asks_seen s) t.entries
@@ -98,6 +110,11 @@ is_there c units k =
 abbrev pub asks_after : SeenRecord → ℕ → List (Key × ℕ) → ℕ → Key → ℕ
 asks_after s a es b k = cond (nat_eq a b) (cond (is_there s.cluster (units_seen s a) k) (count key_cmp es k) 0) (asks_seen s b k)
 
+-- no want of a job rises, and no machine that one of its units avoided is avoided no more
+pub record AsksNoMore (before after : ℕ → Key → ℕ) (a : ℕ) : Type 0 where
+  pub wants : (u : ℕ) → after a (want_key u) ≤ before a (want_key u)
+  pub avoids : (u m : ℕ) → 0 < before a (avoid_key u m) → 0 < after a (avoid_key u m)
+
 -- what stays of the line when a unit with nothing out leaves it
 abbrev pub line_told : SeenRecord → TableRecord → ℕ → ℕ → List (ℕ × ℕ)
 line_told s t a u = cond (nat_lt 0 (out_of (asks_seen s) t.entries a u)) s.line (filter (λ p. not (nat_eq p.0 a && nat_eq p.1 u)) s.line)
@@ -109,8 +126,8 @@ pub record IsSetFrom (before after : TableRecord) (s : Spot) : Type 0 where
   pub is : after ≡ record before { entries = set_count spot_cmp before.entries s number }
 
 -- what the fields of a placer show, and what they keep: the line has admitted units alone, and both lines have room for all of them
-abbrev pub placer_record : WishesRecord → LineRecord → ℕ → PlacerRecord
-placer_record w line turns = record { seen = record { cluster = w.cluster; cells = w.cells; opened = w.opened; line = line.pairs; turns = turns } }
+abbrev pub placer_record : WishesRecord → LineRecord → ℕ → Bool → PlacerRecord
+placer_record w line turns idle = record { seen = record { cluster = w.cluster; cells = w.cells; opened = w.opened; line = line.pairs; turns = turns }; idle = idle }
 
 pub record IsPlacer (w : WishesRecord) (line other : LineRecord) (units : ℕ) : Type 0 where
   pub admitted : AllByRecursion (λ (p : ℕ × ℕ). p.1 < length (get_or w.cells p.0 [])) line.pairs

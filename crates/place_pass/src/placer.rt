@@ -15,7 +15,8 @@ use std::mem;
 use std::sync::ledger::Ledger;
 
 /// What placing knows beside a table of grants: the admitted units, what is asked of each, which machines are
-/// open, and the line of those that wait. It is seen as what it was told (`seen`). After `admit` no call takes
+/// open, and the line of those that wait. It is seen as what it was told (`seen`), and as idle where it has found
+/// that nothing is placeable and was told of nothing since by which something may be. After `admit` no call takes
 /// memory.
 #[derive(Drop)]
 pub struct Placer {
@@ -26,6 +27,8 @@ pub struct Placer {
     /// How many units are admitted.
     units: usize,
     turns: u64,
+    /// Nothing is placeable until more is told.
+    idle: bool,
 }
 
 impl Model for Placer {
@@ -33,14 +36,14 @@ impl Model for Placer {
 
     ghost Value = { PlacerRecord };
 
-    ghost view = { λ p. placer_record p.wishes p.line p.turns };
+    ghost view = { λ p. placer_record p.wishes p.line p.turns p.idle };
 
     ghost invariant = { λ p. IsPlacer p.wishes p.line p.other p.units };
 }
 
 impl Placer {
-    ghost use Rattle.std.specs.Prelude.{◌≡◌, ◌↔◌, ℕ, ◌+◌, ◌<◌, ◌≤◌, ◌^◌, Bool, true, false, not, nat_eq, nat_lt, cond, List, [], length, filter, map, replicate, Some, None, IfOk, IfSome, OnOk, OnErr};
-    ghost use Rattle.std.specs.Option.{option_map};
+    ghost use Rattle.std.specs.Prelude.{◌≡◌, ◌↔◌, ℕ, ◌+◌, ◌<◌, ◌≤◌, ◌^◌, ◌&&◌, ◌||◌, Bool, true, false, not, nat_eq, nat_lt, cond, List, [], length, filter, map, replicate, Some, None, IfOk, IfSome, OnOk, OnErr};
+    ghost use Rattle.std.specs.Option.{is_none, option_map};
     ghost use Rattle.fuxi_terms.specs.declared.Key.{Key};
     ghost use Rattle.fuxi_terms.specs.Keys.{spot_cmp};
     ghost use Rattle.fuxi_terms.specs.Counts.{count};
@@ -50,7 +53,7 @@ impl Placer {
     ghost use Rattle.written_roles.specs.Placing.{first_in, lined, has_pair};
     ghost use Rattle.grant_table.specs.Tables.{TableRecord, as_known, with_admitted};
     ghost use Rattle.place_pass.specs.Best.{spot_of};
-    ghost use Rattle.place_pass.specs.Placers.{SeenRecord, job_seen, asks_seen, asks_after, is_open, units_seen, IsLevelWith, IsUpToDate, IsSetFrom, IsGrantable, board_with, waiting_with, line_told};
+    ghost use Rattle.place_pass.specs.Placers.{SeenRecord, job_seen, asks_seen, asks_after, is_open, units_seen, IsLevelWith, IsUpToDate, IsSetFrom, IsGrantable, board_with, waiting_with, line_told, AsksNoMore};
 
     /// A placer of a cluster, with no job, and with no machine open. It is level with the empty table.
     pub fn start(alloc: Global, cluster: &Cluster) -> Result<Placer, OutOfMemory>
@@ -64,6 +67,7 @@ impl Placer {
             other: Line::new(alloc),
             units: 0,
             turns: 0,
+            idle: false,
         })
     }
 
@@ -76,6 +80,7 @@ impl Placer {
         ensures rest { OnOk result (self.new.seen ≡ record self.old.seen { cells = self.new.seen.cells }) }
         ensures level { OnOk result ((t : TableRecord) → IsLevelWith self.old t → IsLevelWith self.new (record t { jobs = with_admitted job.now t.jobs })) }
         ensures err { OnErr result (self.new.seen ≡ self.old.seen) }
+        ensures idle { self.new.idle ≡ self.old.idle }
         ensures err_level { OnErr result ((t : TableRecord) → IsLevelWith self.old t → IsLevelWith self.new t) }
     {
         admitted_jobs();
@@ -89,7 +94,7 @@ impl Placer {
     }
 
     /// The demand of an admitted job is now this one. Its entries for a unit, machine or rack that is not there
-    /// count as absent.
+    /// count as absent. An idle placer stays so where no want rises and no avoided machine is avoided no more.
     pub fn asked(&mut self, table: &GrantTable, app: AppNo, demand: &Demand)
         requires cluster { self.old.seen.cluster ≡ table.now.cluster }
         requires here { 0 < units_seen self.old.seen app.0 }
@@ -98,13 +103,16 @@ impl Placer {
         ensures jobs { (a : ℕ) → job_seen self.new.seen a ≡ job_seen self.old.seen a }
         ensures rest { self.new.seen ≡ record self.old.seen { cells = self.new.seen.cells } }
         ensures level { IsLevelWith self.old table.now → IsLevelWith self.new table.now }
+        ensures idle { AsksNoMore (asks_seen self.old.seen) (asks_seen self.new.seen) app.0 → self.new.idle ≡ self.old.idle }
     {
         let counts = demand.entries();
-        self.wishes.asked(app, demand);
+        let _wishes = self.wishes.cluster();
+        let more = self.wishes.asked(app, demand);
+        self.idle &= !more;
     }
 
     /// Told after each grant or taking: the number of grants of the unit on the machine is now another one.
-    /// A unit with nothing out any more leaves the line.
+    /// A unit with nothing out any more leaves the line. The placer is idle no more.
     pub fn changed(&mut self, table: &GrantTable, app: AppNo, unit: UnitNo, machine: MachineNo)
         requires cluster { self.old.seen.cluster ≡ table.now.cluster }
         requires here { unit.0 < units_seen self.old.seen app.0 }
@@ -113,7 +121,9 @@ impl Placer {
         ensures seen { self.new.seen ≡ record self.old.seen { line = line_told self.old.seen table.now app.0 unit.0 } }
         ensures level { (before : TableRecord) → IsLevelWith self.old before → IsSetFrom before table.now (spot app.0 unit.0 machine.0) → IsLevelWith self.new table.now }
         ensures up { (before : TableRecord) → IsUpToDate self.old.seen before → (is : IsSetFrom before table.now (spot app.0 unit.0 machine.0)) → count spot_cmp before.entries (spot app.0 unit.0 machine.0) ≤ is.number → IsUpToDate self.new.seen table.now }
+        ensures idle { self.new.idle ≡ false }
     {
+        self.idle = false;
         if self.wishes.outstanding(table, app, unit) == 0 {
             self.other.clear();
             keep_others(&mut self.other, &self.line, &self.wishes, app, unit);
@@ -121,15 +131,19 @@ impl Placer {
         }
     }
 
-    /// The machine is reported and not banned, or it is not.
+    /// The machine is reported and not banned, or it is not. An idle placer stays so unless a closed machine is
+    /// opened.
     pub fn open(&mut self, machine: MachineNo, usable: bool)
         requires { machine.0 < length self.old.seen.cluster.machines }
         ensures opened { (m : ℕ) → is_open self.new.seen m ≡ cond (nat_eq machine.0 m) usable (is_open self.old.seen m) }
         ensures rest { self.new.seen ≡ record self.old.seen { opened = self.new.seen.opened } }
         ensures level { (t : TableRecord) → IsLevelWith self.old t → IsLevelWith self.new t }
+        ensures idle { self.new.idle ≡ (self.old.idle && (not usable || is_open self.old.seen machine.0)) }
     {
         let _cluster = self.wishes.cluster();
+        let opened = self.wishes.is_open(machine);
         self.wishes.open(machine, usable);
+        self.idle &= !usable | opened;
     }
 
     /// Brings the line up to date: the pairs with nothing out leave it, and the others that have something out
@@ -141,6 +155,7 @@ impl Placer {
         ensures turns { self.new.seen.turns ≤ self.old.seen.turns + 2048 }
         ensures level { IsLevelWith self.new table.now }
         ensures up { IsUpToDate self.new.seen table.now }
+        ensures idle { self.new.idle ≡ self.old.idle }
     {
         admitted_jobs();
         let _cluster = table.cluster();
@@ -180,7 +195,8 @@ impl Placer {
     }
 
     /// The placeable pair of first rank, taken as serving, and `None` exactly where none is placeable. The line
-    /// is up to date. The table may make that grant.
+    /// is up to date. The table may make that grant. Where none is placeable the placer is idle, and while it is
+    /// idle it looks at no pair and counts no step.
     pub fn next<L: Ledger>(&mut self, table: &GrantTable, steps: &mut Steps<L>) -> Option<Pick>
         requires level { IsLevelWith self.old table.now }
         requires up { IsUpToDate self.old.seen table.now }
@@ -188,10 +204,18 @@ impl Placer {
         ensures grantable { IfSome result (λ pick. IsGrantable table.now (spot_of pick)) }
         ensures seen { self.new.seen ≡ self.old.seen }
         ensures level { IsLevelWith self.new table.now }
+        ensures idle { self.old.idle ≡ true → steps.new ≡ steps.old }
+        ensures none { self.old.idle ≡ true → result ≡ None }
+        ensures found { self.new.idle ≡ is_none result }
     {
+        if self.idle {
+            return None;
+        }
         let _table = table.cluster();
         let _wishes = self.wishes.cluster();
-        first(&self.wishes, &self.line, table, steps)
+        let found = first(&self.wishes, &self.line, table, steps);
+        self.idle = found.is_none();
+        found
     }
 }
 

@@ -1,12 +1,12 @@
 //! What the admitted units are and what is asked of them, by job number and unit, and the machines that are open.
 
-ghost use Rattle.std.specs.Prelude.{◌≡◌, ℕ, ◌+◌, ◌<◌, ◌≤◌, cond, List, [], length, map, replicate, IfOk};
+ghost use Rattle.std.specs.Prelude.{◌≡◌, ℕ, ◌+◌, ◌<◌, ◌≤◌, ◌&&◌, nat_eq, nat_lt, cond, List, [], length, map, replicate, IfOk};
 ghost use Rattle.std.proofs.Common.{get_or};
 ghost use Rattle.fuxi_terms.specs.Keys.{key_cmp};
 ghost use Rattle.fuxi_terms.specs.Counts.{count};
 ghost use Rattle.fuxi_terms.specs.Cluster.{has_rack};
 ghost use Rattle.fuxi_terms.specs.TallyKeys.{key, rack_key};
-ghost use Rattle.place_pass.specs.Cells.{Cell, cell_of, cells_in, cells_of, cell_at, no_cell, fresh_cells, numbers_at, racks_at, taken, taken_all};
+ghost use Rattle.place_pass.specs.Cells.{Cell, cell_of, cells_in, cells_of, cell_at, no_cell, fresh_cells, numbers_at, racks_at, taken, taken_all, any_gone, asks_more, any_more};
 
 use cluster_desc::Cluster;
 use fuxi_terms::{Key, OutOfMemory};
@@ -54,7 +54,7 @@ impl Model for Wishes {
 impl Wishes {
     ghost use Rattle.std.specs.Prelude.{◌≡◌, ℕ, ◌<◌, ◌≤◌, ◌&&◌, nat_lt, false, List, [], length, set, replicate, IfOk, OnOk, OnErr};
     ghost use Rattle.std.proofs.Common.{get_or};
-    ghost use Rattle.place_pass.specs.Cells.{WishesRecord, AreWishes, cell_of, cell_at, fresh_cells, taken_all};
+    ghost use Rattle.place_pass.specs.Cells.{WishesRecord, AreWishes, cell_of, cell_at, fresh_cells, taken_all, any_more};
     ghost use Rattle.place_pass.specs.Placers.{is_open_to};
 
     /// No unit, and no open machine.
@@ -88,14 +88,15 @@ impl Wishes {
         Ok(())
     }
 
-    /// The demand of a job is now this one.
-    pub(crate) fn asked(&mut self, app: AppNo, demand: &Demand)
+    /// The demand of a job is now this one. True where one of its units wants more, or avoids a machine no more.
+    pub(crate) fn asked(&mut self, app: AppNo, demand: &Demand) -> bool
         requires { app.0 < 256 }
-        ensures { self.new ≡ record self.old { cells = set self.old.cells app.0 (taken_all self.old.cluster demand.now.entries 0 (get_or self.old.cells app.0 [])) } }
+        ensures cells { self.new ≡ record self.old { cells = set self.old.cells app.0 (taken_all self.old.cluster demand.now.entries 0 (get_or self.old.cells app.0 [])) } }
+        ensures more { result ≡ any_more self.old.cluster demand.now.entries (get_or self.old.cells app.0 []) (length (get_or self.old.cells app.0 [])) }
     {
         let counts = demand.entries();
         let units = &mut self.slots[app.0 as usize];
-        take_over(units, &self.cluster, demand);
+        take_over(units, &self.cluster, demand)
     }
 
     /// The machine is open, or not.
@@ -196,32 +197,40 @@ fn empty_slots(alloc: Global) -> Result<Vec<Vec<Wish>>, OutOfMemory>
     Ok(slots)
 }
 
-// Each unit of a job takes its part of the demand.
-fn take_over(units: &mut Vec<Wish>, cluster: &Cluster, demand: &Demand)
+// Each unit of a job takes its part of the demand. True where one wants more, or avoids a machine no more.
+fn take_over(units: &mut Vec<Wish>, cluster: &Cluster, demand: &Demand) -> bool
     requires few { length units.old.items ≤ 8 }
     requires near { (u : ℕ) → u < length units.old.items → length (get_or (cells_in units.old) u no_cell).near ≡ length cluster.now.machines }
     requires racks { (u : ℕ) → u < length units.old.items → length (get_or (cells_in units.old) u no_cell).racks ≡ 64 }
     requires avoided { (u : ℕ) → u < length units.old.items → length (get_or (cells_in units.old) u no_cell).avoided ≡ length cluster.now.machines }
-    ensures { cells_in units.new ≡ taken_all cluster.now demand.now.entries 0 (cells_in units.old) }
+    ensures cells { cells_in units.new ≡ taken_all cluster.now demand.now.entries 0 (cells_in units.old) }
+    ensures more { result ≡ any_more cluster.now demand.now.entries (cells_in units.old) (length units.old.items) }
 {
+    let mut more = false;
     for number in 0..units.len() {
         let wish = &mut units[number];
-        take_one(wish, number as u8, cluster, demand);
+        let one = take_one(wish, number as u8, cluster, demand);
+        more |= one;
     }
+    more
 }
 
-// A unit takes its part of the demand.
-fn take_one(wish: &mut Wish, unit: u8, cluster: &Cluster, demand: &Demand)
+// A unit takes its part of the demand. True where it wants more, or avoids a machine no more.
+fn take_one(wish: &mut Wish, unit: u8, cluster: &Cluster, demand: &Demand) -> bool
     requires near { length wish.old.near.items ≡ length cluster.now.machines }
     requires racks { length wish.old.racks.items ≡ 64 }
     requires avoided { length wish.old.avoided.items ≡ length cluster.now.machines }
-    ensures { cell_of wish.new ≡ taken cluster.now demand.now.entries unit (cell_of wish.old) }
+    ensures cell { cell_of wish.new ≡ taken cluster.now demand.now.entries unit (cell_of wish.old) }
+    ensures more { result ≡ asks_more cluster.now demand.now.entries unit (cell_of wish.old) }
 {
     let machines = cluster.machines();
-    wish.want = number_at(demand, 1, unit, 0);
+    let want = number_at(demand, 1, unit, 0);
+    let rises = wish.want < want;
+    wish.want = want;
     read_numbers(&mut wish.near, machines, demand, 2, unit);
     read_racks(&mut wish.racks, cluster, demand, unit);
-    read_numbers(&mut wish.avoided, machines, demand, 4, unit);
+    let lifted = read_numbers(&mut wish.avoided, machines, demand, 4, unit);
+    rises || lifted
 }
 
 // What a demand has at a key that is not given back.
@@ -233,15 +242,29 @@ fn number_at(demand: &Demand, what: u8, unit: u8, number: u32) -> u32
     demand.get(&Key { what, unit, number }) as u32
 }
 
-// What a demand has of a kind at each machine.
-fn read_numbers(numbers: &mut Vec<u32>, machines: u32, demand: &Demand, what: u8, unit: u8)
+// Whether nothing is left of a number.
+fn is_gone(before: u32, now: u32) -> bool
+    ensures { result ≡ (nat_lt 0 before && nat_eq now 0) }
+{
+    before > 0 && now == 0
+}
+
+// What a demand has of a kind at each machine. True where it has nothing at one that had a number.
+fn read_numbers(numbers: &mut Vec<u32>, machines: u32, demand: &Demand, what: u8, unit: u8) -> bool
     requires what { what < 5 }
     requires long { length numbers.old.items ≡ machines }
-    ensures { numbers.new.items ≡ numbers_at demand.now.entries what unit machines }
+    ensures numbers { numbers.new.items ≡ numbers_at demand.now.entries what unit machines }
+    ensures gone { result ≡ any_gone demand.now.entries what unit numbers.old.items machines }
 {
+    let mut gone = false;
     for machine in 0..machines {
-        numbers[machine as usize] = number_at(demand, what, unit, machine);
+        let place = machine as usize;
+        let number = number_at(demand, what, unit, machine);
+        let one = is_gone(numbers[place], number);
+        gone |= one;
+        numbers[place] = number;
     }
+    gone
 }
 
 // What a demand has at each rack in which a machine stands.

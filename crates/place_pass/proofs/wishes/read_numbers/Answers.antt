@@ -7,8 +7,8 @@ use Rattle.place_pass.specs.Cells.{numbers_at}
 use Rattle.place_pass.proofs.Places.{counted_at, counted_long}
 use Rattle.place_pass.proofs.wishes.read_numbers.Goals as goal
 
-pub returns : goal.returns
-returns c =
+pub returns-clause-numbers : goal.returns-clause-numbers
+returns-clause-numbers c =
     let f : ℕ → ℕ = λ m. count key_cmp c.args.demand.now.entries (key c.args.what c.args.unit m) in
     let n = c.loop-machine.invariant.long in
     let long = c.requires.long in

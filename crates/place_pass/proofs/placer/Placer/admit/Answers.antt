@@ -1,10 +1,11 @@
-use Rattle.std.proofs.Common.{◌≡◌, ◌+◌, ◌<◌, cond, nat_eq, length, set, Some, None, sym, ◌∙◌, ap, subst, arith, length-set}
+use Rattle.std.proofs.Common.{◌≡◌, ℕ, ◌+◌, ◌<◌, cond, nat_eq, length, set, Some, None, sym, ◌∙◌, ap, subst, arith, length-set}
 use Rattle.std.proofs.lemmas.List.{length-map}
 use Rattle.grant_table.specs.Tables.{with_admitted}
 use Rattle.place_pass.specs.Cells.{WishesRecord, job_at, asks_in, fresh_cell, fresh_cells}
 use Rattle.place_pass.specs.Best.{AreAdmitted}
-use Rattle.place_pass.specs.Placers.{PlacerRecord, AreLevel, IsLevelWith, IsPlacer, job_seen, asks_seen}
+use Rattle.place_pass.specs.Placers.{PlacerRecord, AreLevel, IsIdle, IsLevelWith, IsPlacer, job_seen, asks_seen}
 use Rattle.fuxi_terms.proofs.ValidJobs.{job_small, units_few, units_some}
+use Rattle.place_pass.proofs.Idling.{idle_admitted}
 use Rattle.place_pass.proofs.Telling.{units_small, units_more, admitted_more, empty_slot, job_admitted, asks_admitted, unknown_there, level_admitted}
 use Rattle.place_pass.proofs.placer.Placer.admit.Goals as goal
 
@@ -73,6 +74,12 @@ returns-clause-level c t l =
     let lt : j.number < length w.cells = omega (arith, small, places) in
     let old = subst (λ (p : PlacerRecord). IsLevelWith p t) (sym c.self.view_is) l in
     let new = subst (λ (p : PlacerRecord). job_seen p.seen j.number ≡ None) (sym c.self.view_is) c.requires.new in
-    let apart = unknown_there w.cluster (job_at w.cells) t j.number old new in
-    subst (λ (x : WishesRecord). AreLevel x.cluster (job_at x.cells) (record t { jobs = with_admitted j t.jobs })) (sym c.in_ok-admit.ensures.ok)
-    (level_admitted w.cluster (job_at w.cells) (job_at (set w.cells j.number xs)) t j old (job_admitted w.cells j (length w.cluster.machines) lt (units_some j c.units.ensures.valid)) (λ a. c.admitted_jobs.ensures.found j t.jobs a apart))
+    let apart = unknown_there w.cluster (job_at w.cells) t j.number old.level new in
+    let found = λ (a : ℕ). c.admitted_jobs.ensures.found j t.jobs a apart in
+    let empty = empty_slot w.cells j.number new in
+    record {
+      level = subst (λ (x : WishesRecord). AreLevel x.cluster (job_at x.cells) (record t { jobs = with_admitted j t.jobs })) (sym c.in_ok-admit.ensures.ok)
+          (level_admitted w.cluster (job_at w.cells) (job_at (set w.cells j.number xs)) t j old.level (job_admitted w.cells j (length w.cluster.machines) lt (units_some j c.units.ensures.valid)) found);
+      idle = λ e. subst (λ (x : WishesRecord). IsIdle x.cells x.opened (record t { jobs = with_admitted j t.jobs })) (sym c.in_ok-admit.ensures.ok)
+          (idle_admitted j w.cells (set w.cells j.number xs) w.opened t empty (asks_admitted w.cells j.number j.group (length w.cluster.machines) j.units lt empty) apart found (old.idle e));
+    }

@@ -15,11 +15,11 @@ use Rattle.place_pass.proofs.placer.Placer.line_up.Goals as goal
 
 pub keep-requires-clause-level : goal.keep-requires-clause-level
 unfolding IsLevelWith
-keep-requires-clause-level c = subst (λ (p : PlacerRecord). IsLevelWith p c.args.table.now) (sym c.self.view_is) c.requires.level
+keep-requires-clause-level c = (subst (λ (p : PlacerRecord). IsLevelWith p c.args.table.now) (sym c.self.view_is) c.requires.level).level
 
 pub join-requires-clause-level : goal.join-requires-clause-level
 unfolding IsLevelWith
-join-requires-clause-level c = subst (λ (p : PlacerRecord). IsLevelWith p c.args.table.now) (sym c.self.view_is) c.requires.level
+join-requires-clause-level c = (subst (λ (p : PlacerRecord). IsLevelWith p c.args.table.now) (sym c.self.view_is) c.requires.level).level
 
 pub join-requires-clause-apart : goal.join-requires-clause-apart
 join-requires-clause-apart c p h =
@@ -34,7 +34,7 @@ line_is c =
     let t = c.args.table.now in
     let line = c.self.inside.line.pairs in
     let r : ℕ × ℕ → Bool = λ p. not (has_pair p line) in
-    let l = subst (λ (p : PlacerRecord). IsLevelWith p t) (sym c.self.view_is) c.requires.level in
+    let l = (subst (λ (p : PlacerRecord). IsLevelWith p t) (sym c.self.view_is) c.requires.level).level in
     let is = c.admitted_jobs.ensures.numbers t.jobs c.cluster-cluster.ensures.sound.in_order in
     let kept = c.keep.ensures.pairs ∙ kept_is w.cluster w.cells t l (job_numbers (as_known t.jobs)) is line c.self.invariant.admitted in
     let joined = ap (λ ns. filter r (waiting_in ns (unit_count (as_known t.jobs)) (asks_in w.cells) t.entries)) (sym is) in
@@ -67,13 +67,15 @@ returns-clause-turns c =
 
 pub returns-clause-level : goal.returns-clause-level
 unfolding IsLevelWith
-returns-clause-level c = subst (λ (p : PlacerRecord). IsLevelWith p c.args.table.now) (sym c.self.view_is) c.requires.level
+returns-clause-level c =
+    let old = subst (λ (p : PlacerRecord). IsLevelWith p c.args.table.now) (sym c.self.view_is) c.requires.level in
+    record { level = old.level; idle = old.idle }
 
 pub returns-clause-up : goal.returns-clause-up
 unfolding IsLevelWith
 returns-clause-up c a u =
     let w = c.self.inside.wishes in
     let t = c.args.table.now in
-    let l = subst (λ (p : PlacerRecord). IsLevelWith p t) (sym c.self.view_is) c.requires.level in
+    let l = (subst (λ (p : PlacerRecord). IsLevelWith p t) (sym c.self.view_is) c.requires.level).level in
     let is = c.admitted_jobs.ensures.numbers t.jobs c.cluster-cluster.ensures.sound.in_order in
     ap (has_pair (a, u)) (line_is c) ∙ lined_has w.cluster w.cells t l (job_numbers (as_known t.jobs)) is c.self.inside.line.pairs a u

@@ -10,7 +10,7 @@ pub outstanding-requires-clause-there : goal.outstanding-requires-clause-there
 unfolding IsLevelWith
 outstanding-requires-clause-there c =
     let p = c.args.self.now in
-    let units = count_is p.seen.cluster p.seen.cells c.args.table.now c.requires.level c.args.app.0 in
+    let units = count_is p.seen.cluster p.seen.cells c.args.table.now c.requires.level.level c.args.app.0 in
     let there = c.requires.unit in
     omega (arith, units, there)
 

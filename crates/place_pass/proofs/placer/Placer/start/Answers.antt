@@ -14,4 +14,7 @@ pub returns-clause-level : goal.returns-clause-level
 unfolding IsLevelWith
 returns-clause-level c =
     let none : TableRecord = record { cluster = c.args.cluster.now; jobs = []; entries = [] } in
-    subst (λ (w : WishesRecord). AreLevel w.cluster (job_at w.cells) none) (sym c.in_ok-wishes.ensures) (record { cluster_is = refl; jobs_are = λ a. ap (job_in a) (none_in 256 a) })
+    record {
+      level = subst (λ (w : WishesRecord). AreLevel w.cluster (job_at w.cells) none) (sym c.in_ok-wishes.ensures) (record { cluster_is = refl; jobs_are = λ a. ap (job_in a) (none_in 256 a) });
+      idle = λ e. cc;
+    }

@@ -47,7 +47,7 @@ invariant_of-self c =
     let is = here v.cluster v.slots.items v.opened.items c.args.app.0 c.index_mut-units.result.now c.self.invariant c.requires c.index_mut-units.ensures.value in
     let xs = get_or (cells_of v.slots.items) c.args.app.0 [] in
     let es = c.args.demand.now.entries in
-    let set_is : cells_of (set v.slots.items c.args.app.0 c.take_over.new.units) ≡ set (cells_of v.slots.items) c.args.app.0 (taken_all v.cluster es 0 xs) = map-set cells_in v.slots.items c.args.app.0 c.take_over.new.units ∙ ap (λ ys. set (cells_of v.slots.items) c.args.app.0 ys) (c.take_over.ensures ∙ ap (taken_all v.cluster es 0) is) in
+    let set_is : cells_of (set v.slots.items c.args.app.0 c.take_over.new.units) ≡ set (cells_of v.slots.items) c.args.app.0 (taken_all v.cluster es 0 xs) = map-set cells_in v.slots.items c.args.app.0 c.take_over.new.units ∙ ap (λ ys. set (cells_of v.slots.items) c.args.app.0 ys) (c.take_over.ensures.cells ∙ ap (taken_all v.cluster es 0) is) in
     let places = c.self.invariant.places in
     let n = length-taken_all v.cluster es 0 xs in
     let few = c.self.invariant.few c.args.app.0 in
@@ -55,11 +55,11 @@ invariant_of-self c =
     subst (λ x. AreWishes v.cluster x v.opened.items) (sym set_is)
     (wishes_set v.cluster (cells_of v.slots.items) v.opened.items c.args.app.0 (taken_all v.cluster es 0 xs) c.self.invariant (omega (arith, lt, places)) (omega (arith, n, few)) (taken_wishes v.cluster es xs c.entries-counts.ensures.counts (c.self.invariant.unit c.args.app.0)))
 
-pub returns : goal.returns
-returns c =
+pub returns-clause-cells : goal.returns-clause-cells
+returns-clause-cells c =
     let v = c.self.inside in
     let is = here v.cluster v.slots.items v.opened.items c.args.app.0 c.index_mut-units.result.now c.self.invariant c.requires c.index_mut-units.ensures.value in
     let es = c.args.demand.now.entries in
-    let set_is : cells_of (set v.slots.items c.args.app.0 c.take_over.new.units) ≡ set (cells_of v.slots.items) c.args.app.0 (taken_all v.cluster es 0 (get_or (cells_of v.slots.items) c.args.app.0 [])) = map-set cells_in v.slots.items c.args.app.0 c.take_over.new.units ∙ ap (λ ys. set (cells_of v.slots.items) c.args.app.0 ys) (c.take_over.ensures ∙ ap (taken_all v.cluster es 0) is) in
+    let set_is : cells_of (set v.slots.items c.args.app.0 c.take_over.new.units) ≡ set (cells_of v.slots.items) c.args.app.0 (taken_all v.cluster es 0 (get_or (cells_of v.slots.items) c.args.app.0 [])) = map-set cells_in v.slots.items c.args.app.0 c.take_over.new.units ∙ ap (λ ys. set (cells_of v.slots.items) c.args.app.0 ys) (c.take_over.ensures.cells ∙ ap (taken_all v.cluster es 0) is) in
     subst (λ (w : WishesRecord). record { cluster = v.cluster; cells = cells_of (set v.slots.items c.args.app.0 c.take_over.new.units); opened = v.opened.items } ≡ record w { cells = set w.cells c.args.app.0 (taken_all w.cluster es 0 (get_or w.cells c.args.app.0 [])) }) c.self.view_is
     (λ i. record { cluster = v.cluster; cells = set_is i; opened = v.opened.items })
