@@ -1,5 +1,5 @@
 -- What a table of grants with its placer stands for, and which spots changed.
-use Rattle.std.specs.Prelude.{◌≡◌, ℕ, ◌<◌, Bool, true, cond, List, [], ◌∷◌, ◌++◌, map}
+use Rattle.std.specs.Prelude.{◌≡◌, ℕ, ◌<◌, Bool, true, false, cond, List, [], ◌∷◌, ◌++◌, map}
 use Rattle.fuxi_terms.specs.Cluster.{ClusterRecord}
 use Rattle.fuxi_terms.specs.Counts.{count}
 use Rattle.fuxi_terms.specs.Keys.{RowKey, Spot, spot_cmp, key_cmp}
@@ -54,9 +54,9 @@ pub record IsSetAt (p : PlacerRecord) (t : TableRecord) (s : Spot) : Type 0 wher
   pub level : IsLevelWith p before
   pub set : IsSetFrom before t s
 
--- the placer was told of the spot, and it is among those that changed
+-- the placer was told of the spot, so it is idle no more, and the spot is among those that changed
 abbrev pub told_at : TableRecord → SeenRecord → List Spot → Spot → AllotmentRecord
-told_at t s touched p = record { table = t; placer = record { seen = record s { line = line_told s t p.job p.unit } }; touched = touched ++ p ∷ [] }
+told_at t s touched p = record { table = t; placer = record { seen = record s { line = line_told s t p.job p.unit }; idle = false }; touched = touched ++ p ∷ [] }
 
 -- so many grants more at a spot. The units with nothing out have left the line
 pub record Adds (s : Spot) (n : ℕ) (x y : AllotmentRecord) : Type 0 where

@@ -42,7 +42,7 @@ impl Model for Allotment {
 }
 
 impl Allotment {
-    ghost use Rattle.std.specs.Prelude.{◌∷◌, ◌≡◌, ℕ, ◌+◌, ◌*◌, ◌<◌, ◌≤◌, ◌^◌, ◌&&◌, not, nat_eq, nat_lt, cond, true, false, List, [], length, map, IfOk};
+    ghost use Rattle.std.specs.Prelude.{◌∷◌, ◌≡◌, ℕ, ◌+◌, ◌*◌, ◌<◌, ◌≤◌, ◌^◌, ◌&&◌, ◌||◌, not, nat_eq, nat_lt, cond, true, false, List, [], length, map, IfOk};
     ghost use Rattle.fuxi_terms.specs.Cluster.{ClusterRecord, has_at};
     ghost use Rattle.fuxi_terms.specs.Jobs.{is_known, size_at, unit_count};
     ghost use Rattle.fuxi_terms.specs.Numbers.{has_number};
@@ -51,7 +51,7 @@ impl Allotment {
     ghost use Rattle.written_roles.specs.HardState.{with_job};
     ghost use Rattle.written_roles.specs.Masters.{Master, asked, out_of};
     ghost use Rattle.written_roles.specs.Placing.{granted, line_after, line_up, settled};
-    ghost use Rattle.place_pass.specs.Placers.{IsUpToDate, asks_seen};
+    ghost use Rattle.place_pass.specs.Placers.{IsUpToDate, AsksNoMore, asks_seen, is_open};
     ghost use Rattle.std.specs.Prelude.{IfSome, Some, slice_get};
     ghost use Rattle.std.specs.Option.{option_map};
     ghost use Rattle.place_pass.specs.Best.{spot_of};
@@ -94,6 +94,7 @@ impl Allotment {
         ensures table { IfOk result (λ x. x.table ≡ record self.table { jobs = with_admitted job.now self.table.jobs }) }
         ensures touched { IfOk result (λ x. x.touched ≡ self.touched) }
         ensures turns { IfOk result (λ x. x.placer.seen.turns ≡ self.placer.seen.turns) }
+        ensures idle { IfOk result (λ x. x.placer.idle ≡ self.placer.idle) }
     {
         levels();
         admitted_jobs();
@@ -123,6 +124,7 @@ impl Allotment {
         ensures table { self.new.table ≡ self.old.table }
         ensures touched { self.new.touched ≡ self.old.touched }
         ensures turns { self.new.placer.seen.turns ≡ self.old.placer.seen.turns }
+        ensures idle { self.new.placer.idle ≡ (self.old.placer.idle && (not usable || is_open self.old.placer.seen machine.0)) }
     {
         levels();
         self.placer.open(machine, usable);
@@ -137,6 +139,7 @@ impl Allotment {
         ensures table { self.new.table ≡ self.old.table }
         ensures touched { self.new.touched ≡ self.old.touched }
         ensures turns { self.new.placer.seen.turns ≡ self.old.placer.seen.turns }
+        ensures idle { AsksNoMore (asks_seen self.old.placer.seen) (asks_seen self.new.placer.seen) app.0 → self.new.placer.idle ≡ self.old.placer.idle }
     {
         levels();
         self.placer.asked(&self.table, app, demand);
@@ -286,11 +289,13 @@ impl Allotment {
         ensures table { self.new.table ≡ self.old.table }
         ensures touched { self.new.touched ≡ self.old.touched }
         ensures turns { self.new.placer.seen.turns ≤ self.old.placer.seen.turns + 2048 }
+        ensures idle { self.new.placer.idle ≡ self.old.placer.idle }
     {
         line_up(&self.table, &mut self.placer);
     }
 
     /// Makes grants, always of the placeable pair of first rank, until no pair is placeable. The line is up to date.
+    /// The placer is idle then. Where it was idle before nothing changes, and no step is counted.
     pub fn settle<L: Ledger>(self, steps: &mut Steps<L>) -> Result<Allotment, OutOfMemory>
         requires { IsUpToDate self.placer.seen self.table }
         ensures stands { IfOk result (λ x. (c : ClusterRecord) (M : Master) → Allots self c M → M.serving ≡ true → Allots x c (settled c M)) }
@@ -298,6 +303,9 @@ impl Allotment {
         ensures up { IfOk result (λ x. IsUpToDate x.placer.seen x.table) }
         ensures table { IfOk result (λ x. x.table ≡ record self.table { entries = x.table.entries }) }
         ensures touches { IfOk result (Touches self) }
+        ensures settled { IfOk result (λ x. x.placer.idle ≡ true) }
+        ensures idle { self.placer.idle ≡ true → steps.new ≡ steps.old }
+        ensures same { IfOk result (λ x. self.placer.idle ≡ true → x ≡ self) }
     {
         let Allotment {
             table,

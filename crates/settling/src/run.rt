@@ -25,12 +25,13 @@ pub fn line_up(table: &GrantTable, placer: &mut Placer)
     ensures up { IsUpToDate placer.new.seen table.now }
     ensures turns { placer.new.seen.turns ≤ placer.old.seen.turns + 2048 }
     ensures placing { (c : ClusterRecord) (M : Master) → IsPlacing table.now placer.old.seen c M → IsPlacing table.now placer.new.seen c (line_up M) }
+    ensures idle { placer.new.idle ≡ placer.old.idle }
 {
     placer.line_up(table);
 }
 
 /// Makes grants, always of the placeable pair of first rank, until no pair is placeable. The line is up to date. The grants made are
-/// added to `picks`.
+/// added to `picks`. The placer is idle then. Where it was idle before there is none, and no step is counted.
 ///
 /// Want of memory leaves some of the grants made.
 pub fn settle<L: Ledger>(
@@ -47,6 +48,11 @@ pub fn settle<L: Ledger>(
     ensures turns { placer.new.seen.turns ≡ placer.old.seen.turns }
     ensures table { table.new ≡ record table.old { entries = table.new.entries } }
     ensures touched { OnOk result (AreTouched table.old.entries table.new.entries (map spot_of picks.old.items) (map spot_of picks.new.items)) }
+    ensures settled { OnOk result (placer.new.idle ≡ true) }
+    ensures idle { placer.old.idle ≡ true → steps.new ≡ steps.old }
+    ensures none { placer.old.idle ≡ true → picks.new.items ≡ picks.old.items }
+    ensures same_table { placer.old.idle ≡ true → table.new ≡ table.old }
+    ensures same_placer { placer.old.idle ≡ true → placer.new ≡ placer.old }
 {
     settling();
     while let Some(pick) = placer.next(table, steps) {

@@ -14,6 +14,10 @@ invariant-loop-pick g l = record {
   settling : (c : ClusterRecord) (M : Master) → IsPlacing l.initial.table l.initial.placer.seen c M → M.serving ≡ true → IsSettling l.table l.placer.seen c M;
   turns : l.placer.seen.turns ≡ l.initial.placer.seen.turns;
   table : l.table ≡ record l.initial.table { entries = l.table.entries };
+  idle : l.initial.placer.idle ≡ true → l.steps ≡ l.initial.steps;
+  none : l.initial.placer.idle ≡ true → l.picks.items ≡ l.initial.picks.items;
+  same_table : l.initial.placer.idle ≡ true → l.table ≡ l.initial.table;
+  same_placer : l.initial.placer.idle ≡ true → l.placer ≡ l.initial.placer;
   touched : AreTouched l.initial.table.entries l.table.entries (map spot_of l.initial.picks.items) (map spot_of l.picks.items);
 }
 
