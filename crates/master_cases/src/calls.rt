@@ -2,6 +2,7 @@
 
 ghost use Rattle.fuxi_master.specs.Steps.{IsFitting};
 
+use crate::again::again;
 use crate::jobs::job_of;
 use crate::peers::{is_peer, peers_of};
 use crate::reading::frame_of;
@@ -172,6 +173,7 @@ fn call<P: Print>(
     rest: &str,
 ) -> Result<Master, Stop> {
     match word {
+        "again" => again(alloc, master, rest),
         "hear" => hear(rt, alloc, master, rest),
         "admit" => admit(rt, alloc, master, cluster, rest),
         "finish" => finish(rt, alloc, master, rest),

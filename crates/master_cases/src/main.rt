@@ -2,6 +2,7 @@
 //! that begins with `#` is printed as it is.
 #![tactic(auto)]
 
+mod again;
 mod bodies;
 mod calls;
 mod jobs;
