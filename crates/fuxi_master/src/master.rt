@@ -135,9 +135,9 @@ impl Master {
     }
 
     /// How many grants of a unit of a job that is known are out: wanted and not held.
-    pub fn outstanding(&self, app: AppNo, unit: UnitNo) -> u32
+    pub fn out(&self, app: AppNo, unit: UnitNo) -> u32
         requires { unit.0 < unit_count self.now.core.known.jobs app.0 }
-        ensures outstanding { result ≡ out_of (asks_seen self.now.core.allotment.placer.seen) self.now.core.allotment.table.entries app.0 unit.0 }
+        ensures out { result ≡ out_of (asks_seen self.now.core.allotment.placer.seen) self.now.core.allotment.table.entries app.0 unit.0 }
         ensures stands { (r : MasterRole) → StandsFor self.now.core r → result ≡ out r.state app.0 unit.0 }
     {
         self.core.outstanding(app, unit)

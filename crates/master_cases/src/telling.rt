@@ -94,7 +94,7 @@ fn tell_grants<P: Print>(rt: &P, master: &Master) -> Result<(), Stop> {
 
 fn tell_pair<P: Print>(rt: &P, master: &Master, app: AppNo, unit: UnitNo) -> Result<(), Stop> {
     if (unit.0 as usize) < master.table().units(app) {
-        let outstanding = master.outstanding(app, unit);
+        let outstanding = master.out(app, unit);
         println!(rt; "  wait {} {} {outstanding}", app.0, unit.0)?;
     }
     Ok(())
