@@ -18,8 +18,9 @@ use Rattle.grant_table.specs.Tables.{TableRecord, AreJobs, as_known, without_cou
 use Rattle.place_pass.specs.Placers.{SeenRecord}
 use Rattle.settling.specs.Placing.{IsPlacing, has_spot}
 use Rattle.settling.specs.Runs.{AreTouched}
-use Rattle.allotment.specs.Allotted.{AllotmentRecord, Allots, AllWait, Clears, Touches}
+use Rattle.allotment.specs.Allotted.{AllotmentRecord, Allots, AllWait, Clears, OnlyTakes, Touches}
 use Rattle.fuxi_terms.proofs.ValidJobs.{units_few}
+use Rattle.allotment.proofs.Taking.{takes_none, takes_again}
 
 -- the same table, named by itself
 retable : (t : TableRecord) (s : SeenRecord) (c : ClusterRecord) (M : Master) → IsPlacing t s c M → IsPlacing t s c (record M { table = t.entries })
@@ -55,6 +56,7 @@ cleared_none x w = record {
   waits = w;
   touches = untouched x;
   table = refl;
+  takes = takes_none x;
   counts = λ s. refl;
 }
 
@@ -65,6 +67,7 @@ cleared_both g h x y z a b = record {
   waits = b.waits;
   touches = touched_again x y z a.touches b.touches;
   table = b.table ∙ ap (λ (t : TableRecord). record t { entries = z.table.entries }) a.table;
+  takes = takes_again x y z a.takes b.takes;
   counts = λ s. b.counts s ∙ ap (cond (h s) 0) (a.counts s) ∙ either_gone (g s) (h s) (count spot_cmp x.table.entries s);
 }
   where
@@ -75,7 +78,7 @@ cleared_both g h x y z a b = record {
     either_gone false false n = refl
 
 pub cleared_as : (g h : Spot → Bool) (x y : AllotmentRecord) → ((s : Spot) → g s ≡ h s) → Clears g x y → Clears h x y
-cleared_as g h x y same a = record { stands = a.stands; waits = a.waits; touches = a.touches; table = a.table; counts = λ s. a.counts s ∙ ap (λ b. cond b 0 (count spot_cmp x.table.entries s)) (same s) }
+cleared_as g h x y same a = record { stands = a.stands; waits = a.waits; touches = a.touches; table = a.table; takes = a.takes; counts = λ s. a.counts s ∙ ap (λ b. cond b 0 (count spot_cmp x.table.entries s)) (same s) }
 
 -- one spot
 pub is_spot : (s : Spot) (a u m : ℕ) → eq_by_cmp spot_cmp s (spot a u m) ≡ (nat_eq s.job a && (nat_eq s.unit u && nat_eq s.machine m))
@@ -118,19 +121,24 @@ unit_more a u m s = by (nat_eq s.job a) (nat_eq s.machine m) (nat_lt s.unit u) (
 pub no_unit_yet : (a m : ℕ) (s : Spot) → false ≡ (nat_eq s.job a && (nat_lt s.unit 0 && nat_eq s.machine m))
 no_unit_yet a m s = let f : nat_lt s.unit 0 ≡ false = grind (arith, nat_tests) in sym (ap (λ b. nat_eq s.job a && (b && nat_eq s.machine m)) f ∙ and_false (nat_eq s.job a))
 
--- what four clauses of an answer say together
+-- what four or five clauses of an answer say together
 pub if_ok_four : {A E : Type 0} (P1 P2 P3 P4 Q : A → Type 0) → ((x : A) → P1 x → P2 x → P3 x → P4 x → Q x) → (r : Result A E) → IfOk r P1 → IfOk r P2 → IfOk r P3 → IfOk r P4 → IfOk r Q
 if_ok_four P1 P2 P3 P4 Q f (Ok x) a b c d = f x a b c d
 if_ok_four P1 P2 P3 P4 Q f (Err e) a b c d = tt
 
+pub if_ok_five : {A E : Type 0} (P1 P2 P3 P4 P5 Q : A → Type 0) → ((x : A) → P1 x → P2 x → P3 x → P4 x → P5 x → Q x) → (r : Result A E) → IfOk r P1 → IfOk r P2 → IfOk r P3 → IfOk r P4 → IfOk r P5 → IfOk r Q
+if_ok_five P1 P2 P3 P4 P5 Q f (Ok x) a b c d e = f x a b c d e
+if_ok_five P1 P2 P3 P4 P5 Q f (Err e) a b c d g = tt
+
 pub cleared_spot : (x y : AllotmentRecord) (a u m k : ℕ) → k ≡ held_on x.table.entries a u m
     → ((c : ClusterRecord) (M : Master) → Allots x c M → Allots y c (record M { table = without_count M.table (spot a u m) k })) → AllWait y → Touches x y
-    → y.table ≡ record x.table { entries = without_count x.table.entries (spot a u m) k } → Clears (λ s. nat_eq s.job a && (nat_eq s.unit u && nat_eq s.machine m)) x y
-cleared_spot x y a u m k all stands waits touches table = record {
+    → y.table ≡ record x.table { entries = without_count x.table.entries (spot a u m) k } → OnlyTakes x y → Clears (λ s. nat_eq s.job a && (nat_eq s.unit u && nat_eq s.machine m)) x y
+cleared_spot x y a u m k all stands waits touches table takes = record {
   stands = λ c M h. allots_itself y c M (record M { table = without_count M.table (spot a u m) k }) (stands c M h);
   waits = waits;
   touches = touches;
   table = table ∙ ap (λ es. record x.table { entries = es }) (sym (ap (λ (t : TableRecord). t.entries) table));
+  takes = takes;
   counts = λ s. ap (λ (t : TableRecord). count spot_cmp t.entries s) table ∙ count_cleared x.table.entries a u m k all s;
 }
 
@@ -141,6 +149,7 @@ cleared_already x a u m w none = let n = cleared_none x w in record {
   waits = n.waits;
   touches = n.touches;
   table = n.table;
+  takes = n.takes;
   counts = λ s. elim (eq_by_cmp spot_cmp s (spot a u m)) as (λ b. eq_by_cmp spot_cmp s (spot a u m) ≡ b → count spot_cmp x.table.entries s ≡ cond b 0 (count spot_cmp x.table.entries s)) [
     | true ↦ λ e. ap (count spot_cmp x.table.entries) (same_spot s (spot a u m) (tied _ e)) ∙ none
     | false ↦ λ _. refl

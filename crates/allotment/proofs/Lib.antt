@@ -9,3 +9,4 @@ mod Victims
 mod Granting
 mod Crediting
 mod Adopting
+pub mod Taking

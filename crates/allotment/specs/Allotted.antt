@@ -1,5 +1,5 @@
 -- What a table of grants with its placer stands for, and which spots changed.
-use Rattle.std.specs.Prelude.{◌≡◌, ℕ, ◌<◌, Bool, true, false, cond, List, [], ◌∷◌, ◌++◌, map}
+use Rattle.std.specs.Prelude.{◌≡◌, ℕ, ◌<◌, ◌≤◌, Bool, true, false, cond, List, [], ◌∷◌, ◌++◌, map}
 use Rattle.fuxi_terms.specs.Cluster.{ClusterRecord}
 use Rattle.fuxi_terms.specs.Counts.{count}
 use Rattle.fuxi_terms.specs.Keys.{RowKey, Spot, spot_cmp, key_cmp}
@@ -65,12 +65,18 @@ pub record Adds (s : Spot) (n : ℕ) (x y : AllotmentRecord) : Type 0 where
   pub touches : Touches x y
   pub table : y.table ≡ record x.table { entries = with_count x.table.entries s n }
 
+-- grants are only taken; and where none is taken, nothing else changes either, so a placer that is idle stays so
+pub record OnlyTakes (x y : AllotmentRecord) : Type 0 where
+  pub fewer : (s : Spot) → count spot_cmp y.table.entries s ≤ count spot_cmp x.table.entries s
+  pub same : ((s : Spot) → count spot_cmp y.table.entries s ≡ count spot_cmp x.table.entries s) → y ≡ x
+
 -- all grants at these spots are gone, and every other spot has its number still. It stands for the master with that table
 pub record Clears (gone : Spot → Bool) (x y : AllotmentRecord) : Type 0 where
   pub stands : (c : ClusterRecord) (M : Master) → Allots x c M → Allots y c (record M { table = y.table.entries })
   pub waits : AllWait y
   pub touches : Touches x y
   pub table : y.table ≡ record x.table { entries = y.table.entries }
+  pub takes : OnlyTakes x y
   pub counts : (s : Spot) → count spot_cmp y.table.entries s ≡ cond (gone s) 0 (count spot_cmp x.table.entries s)
 
 -- the victims on a machine are taken, unit by unit

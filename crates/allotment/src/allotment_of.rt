@@ -66,7 +66,7 @@ impl Allotment {
     ghost use Rattle.fuxi_terms.specs.Vectors.{at_place};
     ghost use Rattle.fuxi_terms.specs.Rows.{row_total};
     ghost use Rattle.settling.specs.Runs.{AreTouched};
-    ghost use Rattle.allotment.specs.Allotted.{Adds, AddsRow, Allots, AllWait, Clears, CreditsBack, TakesVictims, Touches, rows_put};
+    ghost use Rattle.allotment.specs.Allotted.{Adds, AddsRow, Allots, AllWait, Clears, CreditsBack, OnlyTakes, TakesVictims, Touches, rows_put};
 
     /// The allotment of a cluster, with no job, no grant and no open machine. It stands for a master that knows
     /// of no job and of no machine.
@@ -145,7 +145,8 @@ impl Allotment {
         self.placer.asked(&self.table, app, demand);
     }
 
-    /// So many grants fewer. Where the pairs of the line have something out the line stays as it is.
+    /// So many grants fewer. Where the pairs of the line have something out the line stays as it is, and where the
+    /// number is 0 everything does.
     pub fn take(
         self,
         app: AppNo,
@@ -161,8 +162,13 @@ impl Allotment {
         ensures waits { IfOk result AllWait }
         ensures touches { IfOk result (Touches self) }
         ensures table { IfOk result (λ x. x.table ≡ record self.table { entries = without_count self.table.entries (spot app.0 unit.0 machine.0) count }) }
+        ensures takes { IfOk result (OnlyTakes self) }
     {
         set_numbers();
+        if count == 0 {
+            let _sound = self.table.cluster();
+            return Ok(self);
+        }
         let Allotment {
             table,
             placer,
@@ -210,7 +216,8 @@ impl Allotment {
         given: &Grants,
     ) -> Result<Allotment, OutOfMemory>
         requires { AllWait self }
-        ensures { IfOk result (CreditsBack app.0 ((key, back) ∷ []) given.now.entries self) }
+        ensures credits { IfOk result (CreditsBack app.0 ((key, back) ∷ []) given.now.entries self) }
+        ensures takes { IfOk result (OnlyTakes self) }
     {
         let units = self.table.units(app);
         let machines = self.table.cluster().machines();
@@ -234,6 +241,7 @@ impl Allotment {
     ) -> Result<Allotment, OutOfMemory>
         requires { AllWait self }
         ensures credits { IfOk result (CreditsBack app.0 demand.now.entries given.now.entries self) }
+        ensures takes { IfOk result (OnlyTakes self) }
     {
         let entries = demand.entries();
         let mut left = self;
@@ -252,6 +260,7 @@ impl Allotment {
         ensures waits { IfOk result AllWait }
         ensures touches { IfOk result (Touches self) }
         ensures table { IfOk result (λ x. x.table ≡ record self.table { entries = where_key spot_cmp (λ s. not (nat_eq s.machine machine.0)) self.table.entries }) }
+        ensures takes { IfOk result (OnlyTakes self) }
     {
         let _before = self.table.cluster();
         let mut left = self;
@@ -269,6 +278,7 @@ impl Allotment {
         ensures waits { IfOk result AllWait }
         ensures touches { IfOk result (Touches self) }
         ensures table { IfOk result (λ x. x.table ≡ record self.table { entries = where_key spot_cmp (λ s. not (nat_eq s.job app.0)) self.table.entries }) }
+        ensures takes { IfOk result (OnlyTakes self) }
     {
         let machines = self.table.cluster().machines();
         let mut left = self;

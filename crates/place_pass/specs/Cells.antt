@@ -87,7 +87,7 @@ is_gone before now = nat_lt 0 before && nat_eq now 0
 abbrev pub any_gone : List (Key × ℕ) → ℕ → ℕ → List ℕ → ℕ → Bool
 any_gone es what u numbers machines = list_any (λ m. is_gone (get_or numbers m 0) (count key_cmp es (key what u m))) (below machines)
 
--- by a demand a unit wants more, or avoids a machine no more that it avoided
+-- by a demand a unit wants more, or no longer avoids a machine that it avoided
 abbrev pub asks_more : ClusterRecord → List (Key × ℕ) → ℕ → Cell → Bool
 asks_more c es u x = nat_lt x.want (count key_cmp es (want_key u)) || any_gone es 4 u x.avoided (length c.machines)
 

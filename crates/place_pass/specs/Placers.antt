@@ -26,7 +26,7 @@ pub record SeenRecord : Type 0 where
   pub line : List (ℕ × ℕ)
   pub turns : ℕ
 
--- and whether nothing is placeable, as far as the placer knows
+-- and with that, whether it knows that nothing is placeable
 pub record PlacerRecord : Type 0 where
   pub seen : SeenRecord
   pub idle : Bool
@@ -110,7 +110,7 @@ is_there c units k =
 abbrev pub asks_after : SeenRecord → ℕ → List (Key × ℕ) → ℕ → Key → ℕ
 asks_after s a es b k = cond (nat_eq a b) (cond (is_there s.cluster (units_seen s a) k) (count key_cmp es k) 0) (asks_seen s b k)
 
--- no want of a job rises, and no machine that one of its units avoided is avoided no more
+-- no want of a job rises, and each unit of it still avoids the machines that it avoided
 pub record AsksNoMore (before after : ℕ → Key → ℕ) (a : ℕ) : Type 0 where
   pub wants : (u : ℕ) → after a (want_key u) ≤ before a (want_key u)
   pub avoids : (u m : ℕ) → 0 < before a (avoid_key u m) → 0 < after a (avoid_key u m)

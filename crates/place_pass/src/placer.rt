@@ -94,7 +94,7 @@ impl Placer {
     }
 
     /// The demand of an admitted job is now this one. Its entries for a unit, machine or rack that is not there
-    /// count as absent. An idle placer stays so where no want rises and no avoided machine is avoided no more.
+    /// count as absent. An idle placer stays so where no want rises and each avoided machine is avoided still.
     pub fn asked(&mut self, table: &GrantTable, app: AppNo, demand: &Demand)
         requires cluster { self.old.seen.cluster ≡ table.now.cluster }
         requires here { 0 < units_seen self.old.seen app.0 }

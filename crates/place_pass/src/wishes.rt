@@ -88,7 +88,8 @@ impl Wishes {
         Ok(())
     }
 
-    /// The demand of a job is now this one. True where one of its units wants more, or avoids a machine no more.
+    /// The demand of a job is now this one. True where one of its units wants more, or no longer
+    /// avoids a machine.
     pub(crate) fn asked(&mut self, app: AppNo, demand: &Demand) -> bool
         requires { app.0 < 256 }
         ensures cells { self.new ≡ record self.old { cells = set self.old.cells app.0 (taken_all self.old.cluster demand.now.entries 0 (get_or self.old.cells app.0 [])) } }
@@ -197,7 +198,7 @@ fn empty_slots(alloc: Global) -> Result<Vec<Vec<Wish>>, OutOfMemory>
     Ok(slots)
 }
 
-// Each unit of a job takes its part of the demand. True where one wants more, or avoids a machine no more.
+// Each unit of a job takes its part of the demand. True where one wants more, or no longer avoids a machine.
 fn take_over(units: &mut Vec<Wish>, cluster: &Cluster, demand: &Demand) -> bool
     requires few { length units.old.items ≤ 8 }
     requires near { (u : ℕ) → u < length units.old.items → length (get_or (cells_in units.old) u no_cell).near ≡ length cluster.now.machines }
@@ -215,7 +216,7 @@ fn take_over(units: &mut Vec<Wish>, cluster: &Cluster, demand: &Demand) -> bool
     more
 }
 
-// A unit takes its part of the demand. True where it wants more, or avoids a machine no more.
+// A unit takes its part of the demand. True where it wants more, or no longer avoids a machine.
 fn take_one(wish: &mut Wish, unit: u8, cluster: &Cluster, demand: &Demand) -> bool
     requires near { length wish.old.near.items ≡ length cluster.now.machines }
     requires racks { length wish.old.racks.items ≡ 64 }

@@ -4,6 +4,7 @@ use Rattle.std.proofs.lemmas.Option.{slice_get-get_or}
 use Rattle.fuxi_terms.specs.declared.Key.{Key}
 use Rattle.allotment.specs.Allotted.{CreditsBack}
 use Rattle.allotment.proofs.Crediting.{credits_more}
+use Rattle.allotment.proofs.Taking.{takes_again}
 use Rattle.allotment.proofs.allotment_of.Allotment.credit.Goals as goal
 
 pub loop-index-preserved : goal.loop-index-preserved
@@ -12,11 +13,17 @@ loop-index-preserved c =
     let d : Key × ℕ = (record { what = 0; unit = 0; number = 0 }, 0) in
     let entry = get_or c.entries-entries.result.now c.loop-index.index d in
     let at = slice_get-get_or c.entries-entries.result.now c.loop-index.index d c.loop-index-test.true in
-    credits_more c.args.app.0 es c.args.given.now.entries c.loop-index.index entry c.args.self c.loop-index.left c.in_ok-left.left
-    (subst (λ l. slice_get l c.loop-index.index ≡ Some entry) c.entries-entries.ensures.entries at) c.loop-index.invariant c.in_ok-left.ensures
+    record {
+      credits = credits_more c.args.app.0 es c.args.given.now.entries c.loop-index.index entry c.args.self c.loop-index.left c.in_ok-left.left
+          (subst (λ l. slice_get l c.loop-index.index ≡ Some entry) c.entries-entries.ensures.entries at) c.loop-index.invariant.credits c.in_ok-left.ensures.credits;
+      takes = takes_again c.args.self c.loop-index.left c.in_ok-left.left c.loop-index.invariant.takes c.in_ok-left.ensures.takes;
+    }
 
 pub returns : goal.returns
 returns c =
     let es = c.args.demand.now.entries in
     let all = take_all c.loop-index.index es (subst (λ l. length l ≤ c.loop-index.index) c.entries-entries.ensures.entries c.loop-index-test.false) in
-    record { credits = subst (λ fs. CreditsBack c.args.app.0 fs c.args.given.now.entries c.args.self c.loop-index.left) all c.loop-index.invariant }
+    record {
+      credits = subst (λ fs. CreditsBack c.args.app.0 fs c.args.given.now.entries c.args.self c.loop-index.left) all c.loop-index.invariant.credits;
+      takes = c.loop-index.invariant.takes;
+    }

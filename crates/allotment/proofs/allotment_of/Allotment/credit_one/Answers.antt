@@ -8,8 +8,8 @@ use Rattle.allotment.proofs.Clearing.{if_ok_four}
 use Rattle.allotment.proofs.Crediting.{credits_taken}
 use Rattle.allotment.proofs.allotment_of.Allotment.credit_one.Goals as goal
 
-pub returns : goal.returns
-returns c =
+pub returns-clause-credits : goal.returns-clause-credits
+returns-clause-credits c =
     let x = c.args.self in let k = c.args.key in let a = c.args.app.0 in
     let view = c.self.view_is in
     let held : c.held_on-held.result ≡ held_on x.table.entries a k.unit k.number = c.held_on-held.ensures ∙ ap (λ (r : AllotmentRecord). held_on r.table.entries a k.unit k.number) view in
