@@ -3,12 +3,14 @@
 #![tactic(auto)]
 
 mod call;
+mod place;
 mod stop;
 mod words;
 
-use call::{Call, Place, call_of};
+use call::{Call, call_of};
 use fuxi_io::MemDisk;
 use hard_state::{Hard, HardFault};
+use place::Place;
 use schedule_unit::{AppNo, Job, MachineNo, UnitNo};
 use std::alloc::Global;
 use std::io::{BufRead, BufReader};
@@ -30,6 +32,11 @@ fn disk_of(alloc: Global, rest: &str) -> Result<MemDisk, Stop> {
 
 fn print_fault<P: Print>(rt: &P, fault: HardFault) -> Result<(), Stop> {
     println!(rt; "{fault:?}: {fault}")?;
+    Ok(())
+}
+
+fn print_bytes<P: Print>(rt: &P, alloc: Global, bytes: &[u8]) -> Result<(), Stop> {
+    println!(rt; "{}", hex::encode(alloc, bytes)?)?;
     Ok(())
 }
 
@@ -66,76 +73,106 @@ fn print_state<P: Print>(rt: &P, hard: &Hard) -> Result<(), Stop> {
 }
 
 // Opens the disk of a place and prints what it stands for.
-fn opened<P: Print>(rt: &P, alloc: Global, place: Place) -> Result<Place, Stop> {
-    let (place, answer) = place.open(alloc);
-    match answer {
-        Ok(()) => {
-            if let Place::Open(open) = &place {
-                print_state(rt, open.hard())?;
-            }
-        }
-        Err(fault) => print_fault(rt, fault)?,
+fn opened<P: Print>(rt: &P, alloc: Global, place: &mut Place) -> Result<(), Stop> {
+    if let Err(fault) = place.open(alloc) {
+        return print_fault(rt, fault);
     }
-    Ok(place)
+    match place.hard() {
+        Some(hard) => print_state(rt, hard),
+        None => Ok(()),
+    }
 }
 
 // Opens a disk with the bytes that are left of a file, or that are changed in it.
 fn opened_bytes<P: Print>(rt: &P, alloc: Global, bytes: Vec<u8>) -> Result<(), Stop> {
     let mut disk = MemDisk::of(alloc, bytes, Vec::new(alloc));
     disk.room(ROOM)?;
-    opened(rt, alloc, Place::Shut(disk))?;
+    opened(rt, alloc, &mut Place::shut(disk))
+}
+
+fn called<P: Print>(rt: &P, place: &mut Place, call: &Call) -> Result<(), Stop> {
+    match place.call(call) {
+        Some(Ok(())) => println!(rt; "done")?,
+        Some(Err(fault)) => print_fault(rt, fault)?,
+        None => println!(rt; "not open")?,
+    }
     Ok(())
 }
 
-fn called<P: Print>(rt: &P, place: Place, call: &Call) -> Result<Place, Stop> {
-    let Place::Open(open) = place else {
-        println!(rt; "not open")?;
-        return Ok(place);
-    };
-    let (place, answer) = open.call(call);
-    match answer {
-        Ok(()) => println!(rt; "done")?,
-        Err(fault) => print_fault(rt, fault)?,
+// Makes the call that words name. A job with a fault is no call.
+fn answer_call<P: Print>(
+    rt: &P,
+    alloc: Global,
+    place: &mut Place,
+    word: &str,
+    rest: &str,
+) -> Result<(), Stop> {
+    match call_of(alloc, word, rest)? {
+        Call::Fault(fault) => Ok(println!(rt; "{fault}")?),
+        call => called(rt, place, &call),
     }
-    Ok(place)
 }
 
 // Raises the fence step by step up to this epoch, or to the first refusal.
-fn raised<P: Print>(rt: &P, place: Place, last: u64) -> Result<Place, Stop> {
-    let mut place = place;
+fn raised<P: Print>(rt: &P, place: &mut Place, last: u64) -> Result<(), Stop> {
     for epoch in 1..last.saturating_add(1) {
-        let Place::Open(open) = place else {
-            return Ok(place);
-        };
-        let (next, answer) = open.call(&Call::Raise(epoch));
-        place = next;
-        if let Err(fault) = answer {
-            println!(rt; "at {epoch}")?;
-            print_fault(rt, fault)?;
-            return Ok(place);
+        match place.call(&Call::Raise(epoch)) {
+            Some(Ok(())) => {}
+            Some(Err(fault)) => {
+                println!(rt; "at {epoch}")?;
+                return print_fault(rt, fault);
+            }
+            None => return Ok(()),
         }
     }
     println!(rt; "done")?;
-    Ok(place)
+    Ok(())
 }
 
-// Makes the call on a copy of the disk that serves so many writes and syncs, and opens what a crash then leaves.
+// Opens what a crash leaves of a place.
+fn opened_image<P: Print>(rt: &P, alloc: Global, place: &Place, all: bool) -> Result<(), Stop> {
+    let mut image = place.image(alloc, all, ROOM)?;
+    opened(rt, alloc, &mut image)
+}
+
+// Makes the call on a place that serves so many writes and syncs, and opens what a crash then leaves.
 fn halted<P: Print>(
+    rt: &P,
+    alloc: Global,
+    place: &mut Place,
+    call: &Call,
+    calls: u64,
+) -> Result<(), Stop> {
+    place.stop_after(calls);
+    if place.call(call).is_some() {
+        print!(rt; "after {calls}, synced: ")?;
+        opened_image(rt, alloc, place, false)?;
+        print!(rt; "after {calls}, all: ")?;
+        opened_image(rt, alloc, place, true)?;
+    }
+    Ok(())
+}
+
+// The same on a copy of the disk.
+fn halted_copy<P: Print>(
     rt: &P,
     alloc: Global,
     place: &Place,
     call: &Call,
     calls: u64,
 ) -> Result<(), Stop> {
-    let (place, _) = Place::Shut(place.image(alloc, true, ROOM)?).open(alloc);
-    let Place::Open(mut open) = place else {
-        return Ok(());
-    };
-    open.stop_after(calls);
-    let (place, _) = open.call(call);
-    for all in [false, true] {
-        print!(rt; "after {calls}, {}: ", if all { "all" } else { "synced" })?;
-        opened(rt, alloc, Place::Shut(place.image(alloc, all, ROOM)?))?;
+    let mut copy = place.image(alloc, true, ROOM)?;
+    // Where it does not open, no call is made.
+    let _refused = copy.open(alloc).is_err();
+    halted(rt, alloc, &mut copy, call, calls)
+}
+
+// The call that words name, halted at each of its first writes and syncs.
+fn halts<P: Print>(rt: &P, alloc: Global, place: &Place, words: &str) -> Result<(), Stop> {
+    let (word, rest) = words.split_once(' ').unwrap_or((words, ""));
+    let call = call_of(alloc, word, rest)?;
+    for calls in 0..5 {
+        halted_copy(rt, alloc, place, &call, calls)?;
     }
     Ok(())
 }
@@ -154,51 +191,44 @@ fn changed(alloc: Global, bytes: &[u8], word: &str, rest: &str) -> Result<Vec<u8
     Ok(changed)
 }
 
-fn answer<P: Print>(rt: &P, alloc: Global, place: Place, line: &str) -> Result<Place, Stop> {
+fn answer<P: Print>(rt: &P, alloc: Global, place: &mut Place, line: &str) -> Result<(), Stop> {
     let (word, rest) = line.split_once(' ').unwrap_or((line, ""));
     match word {
-        "disk" => Ok(Place::Shut(disk_of(alloc, rest)?)),
+        "disk" => {
+            *place = Place::shut(disk_of(alloc, rest)?);
+            Ok(())
+        }
         "open" => opened(rt, alloc, place),
-        "room" => Ok(place.with_room(number_of(rest).min(1 << 24) as usize)?),
+        "room" => Ok(place.room(number_of(rest).min(1 << 24) as usize)?),
         "raise_to" => raised(rt, place, number_of(rest)),
-        "bytes" => {
-            println!(rt; "{}", hex::encode(alloc, place.bytes())?)?;
-            Ok(place)
-        }
-        "cut" | "byte" => {
-            opened_bytes(rt, alloc, changed(alloc, place.bytes(), word, rest)?)?;
-            Ok(place)
-        }
-        "halt" => {
-            let (word, rest) = rest.split_once(' ').unwrap_or((rest, ""));
-            let call = call_of(alloc, word, rest)?;
-            for calls in 0..5 {
-                halted(rt, alloc, &place, &call, calls)?;
-            }
-            Ok(place)
-        }
-        _ => {
-            let call = call_of(alloc, word, rest)?;
-            if let Call::Fault(fault) = &call {
-                println!(rt; "{fault}")?;
-                return Ok(place);
-            }
-            called(rt, place, &call)
-        }
+        "bytes" => print_bytes(rt, alloc, place.bytes()),
+        "cut" | "byte" => opened_bytes(rt, alloc, changed(alloc, place.bytes(), word, rest)?),
+        "halt" => halts(rt, alloc, place, rest),
+        _ => answer_call(rt, alloc, place, word, rest),
     }
+}
+
+// Prints a line, and what it answers.
+fn answer_line<P: Print>(rt: &P, alloc: Global, place: &mut Place, line: &str) -> Result<(), Stop> {
+    println!(rt; "{line}")?;
+    if line.is_empty() || line.starts_with('#') {
+        return Ok(());
+    }
+    answer(rt, alloc, place, line)
+}
+
+fn answer_all(rt: &HostRuntime, alloc: Global, place: &mut Place) -> Result<(), Stop> {
+    for line in BufReader::new(alloc, rt.reader())?.lines(alloc) {
+        let line = line?;
+        answer_line(rt, alloc, place, &line)?;
+    }
+    Ok(())
 }
 
 fn run(rt: &HostRuntime) -> Result<(), Stop> {
     let alloc = rt.alloc();
-    let mut place = Place::Shut(disk_of(alloc, "")?);
-    for line in BufReader::new(alloc, rt.reader())?.lines(alloc) {
-        let line = line?;
-        println!(rt; "{line}")?;
-        if !line.is_empty() && !line.starts_with('#') {
-            place = answer(rt, alloc, place, &line)?;
-        }
-    }
-    Ok(())
+    let mut place = Place::shut(disk_of(alloc, "")?);
+    answer_all(rt, alloc, &mut place)
 }
 
 fn main(rt: HostRuntime) -> ExitCode {
