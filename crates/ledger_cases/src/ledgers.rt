@@ -156,6 +156,24 @@ impl Ledgers {
         }
     }
 
+    // What a call with a body answers.
+    fn call<P: Print>(
+        &mut self,
+        rt: &P,
+        alloc: Global,
+        kind: &str,
+        name: &str,
+        body: &[u8],
+    ) -> Result<(), Stop> {
+        match kind {
+            "row" => call(rt, alloc, &mut self.row, name, body),
+            "report" => call(rt, alloc, &mut self.report, name, body),
+            "grants" => call(rt, alloc, &mut self.grants, name, body),
+            "demand" => call(rt, alloc, &mut self.demand, name, body),
+            _ => Ok(println!(rt; "?")?),
+        }
+    }
+
     /// Prints what a call of the ledger of a kind answers.
     pub fn answer<P: Print>(
         &mut self,
@@ -165,15 +183,9 @@ impl Ledgers {
         name: &str,
         words: &[&str],
     ) -> Result<(), Stop> {
-        let Some(body) = body_of(alloc, words)? else {
-            return Ok(println!(rt; "?")?);
-        };
-        match kind {
-            "row" => call(rt, alloc, &mut self.row, name, &body),
-            "report" => call(rt, alloc, &mut self.report, name, &body),
-            "grants" => call(rt, alloc, &mut self.grants, name, &body),
-            "demand" => call(rt, alloc, &mut self.demand, name, &body),
-            _ => Ok(println!(rt; "?")?),
+        match body_of(alloc, words)? {
+            Some(body) => self.call(rt, alloc, kind, name, &body),
+            None => Ok(println!(rt; "?")?),
         }
     }
 }

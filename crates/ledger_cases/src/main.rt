@@ -18,17 +18,16 @@ use std::io::{BufRead, BufReader};
 use std::process::ExitCode;
 use stop::Stop;
 
-// What a line names.
+// What words name.
 fn answer<P: Print>(
     rt: &P,
     alloc: Global,
     ledgers: &mut Ledgers,
     parties: &mut Parties,
-    line: &str,
+    words: &[&str],
 ) -> Result<(), Stop> {
-    let words: Vec<&str> = line.split_whitespace().collect(alloc)?;
-    match words.as_slice() {
-        ["near" | "far", ..] => parties.answer(rt, alloc, &words),
+    match words {
+        ["near" | "far", ..] => parties.answer(rt, alloc, words),
         ["packet", rest @ ..] => packets::answer(rt, alloc, rest),
         ["relay", kind, rest @ ..] => relay::answer(rt, alloc, kind, rest),
         [kind, call, rest @ ..] => ledgers.answer(rt, alloc, kind, call, rest),
@@ -36,19 +35,39 @@ fn answer<P: Print>(
     }
 }
 
-fn run(rt: &HostRuntime) -> Result<(), Stop> {
-    let alloc = rt.alloc();
-    let mut ledgers = Ledgers::new(alloc);
-    let mut parties = Parties::new(alloc)?;
+// Prints a line that names no call, or what it answers.
+fn answer_line<P: Print>(
+    rt: &P,
+    alloc: Global,
+    ledgers: &mut Ledgers,
+    parties: &mut Parties,
+    line: &str,
+) -> Result<(), Stop> {
+    if line.is_empty() || line.starts_with('#') {
+        return Ok(println!(rt; "{line}")?);
+    }
+    let words: Vec<&str> = line.split_whitespace().collect(alloc)?;
+    answer(rt, alloc, ledgers, parties, &words)
+}
+
+fn answer_all(
+    rt: &HostRuntime,
+    alloc: Global,
+    ledgers: &mut Ledgers,
+    parties: &mut Parties,
+) -> Result<(), Stop> {
     for line in BufReader::new(alloc, rt.reader())?.lines(alloc) {
         let line = line?;
-        if line.is_empty() || line.starts_with('#') {
-            println!(rt; "{line}")?;
-        } else {
-            answer(rt, alloc, &mut ledgers, &mut parties, &line)?;
-        }
+        answer_line(rt, alloc, ledgers, parties, &line)?;
     }
     Ok(())
+}
+
+fn run(rt: &HostRuntime) -> Result<(), Stop> {
+    let alloc = rt.alloc();
+    let mut parties = Parties::new(alloc)?;
+    let mut ledgers = Ledgers::new(alloc);
+    answer_all(rt, alloc, &mut ledgers, &mut parties)
 }
 
 fn main(rt: HostRuntime) -> ExitCode {

@@ -27,18 +27,49 @@ fn kind_of(word: &str) -> Option<Kind> {
     }
 }
 
-// A party as three words.
-fn party_of(words: &[&str; 3]) -> Option<Party> {
-    let role = role_of(words[0])?;
-    let number = words[1].parse::<u32>().ok()?;
-    let inc = words[2].parse::<u64>().ok()?;
-    Some(Party { role, number, inc })
+// What words say of a packet: all of it but its body, whose name and words are left.
+#[derive(Drop)]
+struct Heading<'a> {
+    from: Party,
+    to: Party,
+    kind: Kind,
+    place: Place,
+    name: &'a str,
+    body: &'a [&'a str],
+}
+
+// A party as three words, and the words behind them.
+fn party_of<'a>(words: &'a [&'a str]) -> Option<(Party, &'a [&'a str])> {
+    let [role, number, inc, rest @ ..] = words else {
+        return None;
+    };
+    let role = role_of(role)?;
+    let number = number.parse::<u32>().ok()?;
+    let inc = inc.parse::<u64>().ok()?;
+    Some((Party { role, number, inc }, rest))
 }
 
 fn place_of(inc: &str, seq: &str) -> Option<Place> {
     let inc = inc.parse::<u64>().ok()?;
     let seq = seq.parse::<u64>().ok()?;
     Some(Place { inc, seq })
+}
+
+// The sender, the receiver, the kind, the place and the name of the body.
+fn heading_of<'a>(words: &'a [&'a str]) -> Option<Heading<'a>> {
+    let (from, rest) = party_of(words)?;
+    let (to, rest) = party_of(rest)?;
+    let [kind, inc, seq, name, body @ ..] = rest else {
+        return None;
+    };
+    Some(Heading {
+        from,
+        to,
+        kind: kind_of(kind)?,
+        place: place_of(inc, seq)?,
+        name,
+        body,
+    })
 }
 
 // The body that a word names, of these bytes.
@@ -58,36 +89,38 @@ fn read_body(alloc: Global, name: &str, bytes: &[u8]) -> Result<Body, BodyFault>
     }
 }
 
-/// Prints whether a packet is formed: its sender, its receiver, its kind, its place and its body.
-pub fn answer<P: Print>(rt: &P, alloc: Global, words: &[&str]) -> Result<(), Stop> {
-    let [r1, n1, i1, r2, n2, i2, kind, inc, seq, name, rest @ ..] = words else {
-        return Ok(println!(rt; "?")?);
+fn is_formed(heading: &Heading, body: Body) -> bool {
+    let packet = Packet {
+        from: heading.from,
+        to: heading.to,
+        kind: heading.kind,
+        place: heading.place,
+        body,
     };
-    let parts = (
-        party_of(&[*r1, *n1, *i1]),
-        party_of(&[*r2, *n2, *i2]),
-        kind_of(kind),
-        place_of(inc, seq),
-    );
-    let (Some(from), Some(to), Some(kind), Some(place)) = parts else {
-        return Ok(println!(rt; "?")?);
-    };
-    let Some(bytes) = body_of(alloc, rest)? else {
-        return Ok(println!(rt; "?")?);
-    };
-    match read_body(alloc, name, &bytes) {
-        Ok(body) => {
-            let packet = Packet {
-                from,
-                to,
-                kind,
-                place,
-                body,
-            };
-            println!(rt; "formed {}", packet.formed())?;
-            Ok(())
-        }
+    packet.formed()
+}
+
+// Prints whether the packet of a heading and a body is formed.
+fn tell_formed<P: Print>(
+    rt: &P,
+    alloc: Global,
+    heading: &Heading,
+    body: &[u8],
+) -> Result<(), Stop> {
+    match read_body(alloc, heading.name, body) {
+        Ok(body) => Ok(println!(rt; "formed {}", is_formed(heading, body))?),
         Err(BodyFault::NotBody) => Ok(println!(rt; "no body")?),
         Err(BodyFault::OutOfMemory) => Err(Stop::OutOfMemory),
+    }
+}
+
+/// Prints whether a packet is formed: its sender, its receiver, its kind, its place and its body.
+pub fn answer<P: Print>(rt: &P, alloc: Global, words: &[&str]) -> Result<(), Stop> {
+    let Some(heading) = heading_of(words) else {
+        return Ok(println!(rt; "?")?);
+    };
+    match body_of(alloc, heading.body)? {
+        Some(body) => tell_formed(rt, alloc, &heading, &body),
+        None => Ok(println!(rt; "?")?),
     }
 }

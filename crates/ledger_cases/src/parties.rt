@@ -1,6 +1,6 @@
 //! Calls of two parties, each with a channel to the other.
 
-ghost use Rattle.std.specs.Prelude.{◌≡◌};
+ghost use Rattle.std.specs.Prelude.{◌≡◌, IfSome};
 ghost use Rattle.delta_channel.specs.Hearing.{verdict_of};
 
 use crate::body::body_of;
@@ -79,24 +79,26 @@ fn post<P: Print>(rt: &P, alloc: Global, party: &mut Party, body: &[u8]) -> Resu
     party.sent().tell(rt)
 }
 
+// A change of one more wanted in the epoch 1, and one of one less.
+const MORE: [u8; 24] = [
+    0, 0, 0, 0, 0, 0, 0, 1, 0, 0, 0, 1, 1, 0, 0, 0, 0, 0, 0, 0, 0, 0, 0, 1,
+];
+
+const LESS: [u8; 24] = [
+    0, 0, 0, 0, 0, 0, 0, 1, 0, 0, 0, 1, 1, 0, 0, 0, 255, 255, 255, 255, 255, 255, 255, 255,
+];
+
 // Posts a change and its reverse by turns, so often.
-fn post_often<P: Print>(
-    rt: &P,
-    alloc: Global,
-    party: &mut Party,
-    times: u64,
-    up: &[u8],
-    down: &[u8],
-) -> Result<(), Stop> {
+fn post_often<P: Print>(rt: &P, alloc: Global, party: &mut Party, times: u64) -> Result<(), Stop> {
     for turn in 0..times {
-        let body = if turn % 2 == 0 { up } else { down };
+        let body = if turn % 2 == 0 { &MORE } else { &LESS };
         if let Ok(change) = Demand::read_delta(alloc, body) {
             if party.last() < MOST_LAST && party.post(alloc, change).is_err() {
                 println!(rt; "refused at {turn}")?;
             }
         }
     }
-    tell_party(rt, party)
+    Ok(())
 }
 
 // Takes what is to be taken.
@@ -178,29 +180,50 @@ fn deliver<P: Print>(rt: &P, alloc: Global, from: &Party, to: &mut Party) -> Res
     to.got().tell(rt)
 }
 
-// The packet that words and a body say.
+// The stamp of a packet as its sender, its receiver and its number, and the words behind them.
+fn stamp_of<'a>(full: bool, words: &'a [&'a str]) -> Option<(Stamp, &'a [&'a str])>
+    ensures { IfSome result (λ read. read.0.place.inc ≡ read.0.from) }
+{
+    let [from, to, seq, rest @ ..] = words else {
+        return None;
+    };
+    let from = from.parse::<u64>().ok()?;
+    let to = to.parse::<u64>().ok()?;
+    let seq = seq.parse::<u64>().ok()?;
+    let place = Place { inc: from, seq };
+    Some((
+        Stamp {
+            from,
+            to,
+            full,
+            place,
+        },
+        rest,
+    ))
+}
+
+// What a packet brings: a whole ledger, or a change.
+fn note_of(alloc: Global, stamp: &Stamp, body: &[u8]) -> Result<Note<Demand>, BodyFault> {
+    let seq = stamp.place.seq;
+    if stamp.full {
+        Ok(Note::Full(seq, Demand::read_full(alloc, body)?))
+    } else {
+        Ok(Note::Delta(seq, Demand::read_delta(alloc, body)?))
+    }
+}
+
+// Hands a party a packet, and prints what it takes it for.
 fn packet<P: Print>(
     rt: &P,
     alloc: Global,
     party: &mut Party,
-    full: bool,
-    numbers: (u64, u64, u64),
+    stamp: &Stamp,
     body: &[u8],
-) -> Result<(), Stop> {
-    let (from, to, seq) = numbers;
-    let stamp = Stamp {
-        from,
-        to,
-        full,
-        place: Place { inc: from, seq },
-    };
-    let note = if full {
-        Demand::read_full(alloc, body).map(|ledger| Note::Full(seq, ledger))
-    } else {
-        Demand::read_delta(alloc, body).map(|change| Note::Delta(seq, change))
-    };
-    match note {
-        Ok(note) => match hear(alloc, party, &stamp, note) {
+) -> Result<(), Stop>
+    requires { stamp.now.place.inc ≡ stamp.now.from }
+{
+    match note_of(alloc, stamp, body) {
+        Ok(note) => match hear(alloc, party, stamp, note) {
             Ok(verdict) => println!(rt; "{verdict:?}")?,
             Err(fault) => println!(rt; "{fault:?}")?,
         },
@@ -211,16 +234,29 @@ fn packet<P: Print>(
     party.got().tell(rt)
 }
 
-// A change of one more wanted in the epoch 1, and one of one less.
-const MORE: [u8; 24] = [
-    0, 0, 0, 0, 0, 0, 0, 1, 0, 0, 0, 1, 1, 0, 0, 0, 0, 0, 0, 0, 0, 0, 0, 1,
-];
+fn start(alloc: Global, party: &mut Party, own: u64) -> Result<(), Stop> {
+    *party = Party::start(alloc, own)?;
+    Ok(())
+}
 
-const LESS: [u8; 24] = [
-    0, 0, 0, 0, 0, 0, 0, 1, 0, 0, 0, 1, 1, 0, 0, 0, 255, 255, 255, 255, 255, 255, 255, 255,
-];
+fn tell_hear<P: Print>(rt: &P, alloc: Global, party: &mut Party, from: u64) -> Result<(), Stop> {
+    let fresh = party.hear(alloc, from);
+    println!(rt; "new {fresh}")?;
+    Ok(())
+}
 
-// What a call with numbers answers.
+// Hands a party the acknowledgement of its peer.
+fn acknowledge_peer(party: &mut Party, inc: u64, seq: u64) {
+    let peer = party.peer();
+    party.on_ack(peer, Place { inc, seq });
+}
+
+fn tell_turn<P: Print>(rt: &P, alloc: Global, party: &Party) -> Result<(), Stop> {
+    let notes = party.turn(alloc)?;
+    tell_notes(rt, &notes)
+}
+
+// What a call with numbers answers, before the party is printed.
 fn call<P: Print>(
     rt: &P,
     alloc: Global,
@@ -229,30 +265,21 @@ fn call<P: Print>(
     numbers: &[u64],
 ) -> Result<(), Stop> {
     match (name, numbers) {
-        ("start", [own]) => *party = Party::start(alloc, *own)?,
-        ("posts", [times]) => {
-            return post_often(rt, alloc, party, *times, &MORE, &LESS);
-        }
-        ("hear", [from]) => {
-            let fresh = party.hear(alloc, *from);
-            println!(rt; "new {fresh}")?;
-        }
+        ("start", [own]) => start(alloc, party, *own),
+        ("posts", [times]) => post_often(rt, alloc, party, *times),
+        ("hear", [from]) => tell_hear(rt, alloc, party, *from),
         ("ack", [inc, seq]) => {
-            let peer = party.peer();
-            party.on_ack(
-                peer,
-                Place {
-                    inc: *inc,
-                    seq: *seq,
-                },
-            );
+            acknowledge_peer(party, *inc, *seq);
+            Ok(())
         }
-        ("resync", []) => party.resync(),
-        ("turn", []) => tell_notes(rt, &party.turn(alloc)?)?,
-        ("state", []) => {}
-        _ => println!(rt; "?")?,
+        ("resync", []) => {
+            party.resync();
+            Ok(())
+        }
+        ("turn", []) => tell_turn(rt, alloc, party),
+        ("state", []) => Ok(()),
+        _ => Ok(println!(rt; "?")?),
     }
-    tell_party(rt, party)
 }
 
 // The numbers of words; None where a word is none.
@@ -267,32 +294,61 @@ fn numbers_of(alloc: Global, words: &[&str]) -> Result<Option<Vec<u64>>, Stop> {
     Ok(Some(numbers))
 }
 
+// Calls with numbers.
+fn answer_call<P: Print>(
+    rt: &P,
+    alloc: Global,
+    party: &mut Party,
+    name: &str,
+    words: &[&str],
+) -> Result<(), Stop> {
+    match numbers_of(alloc, words)? {
+        Some(numbers) => {
+            call(rt, alloc, party, name, &numbers)?;
+            tell_party(rt, party)
+        }
+        None => Ok(println!(rt; "?")?),
+    }
+}
+
+fn answer_post<P: Print>(
+    rt: &P,
+    alloc: Global,
+    party: &mut Party,
+    words: &[&str],
+) -> Result<(), Stop> {
+    match body_of(alloc, words)? {
+        Some(body) => post(rt, alloc, party, &body),
+        None => Ok(println!(rt; "?")?),
+    }
+}
+
+// A packet as its sender, its receiver, its number and its body.
+fn answer_packet<P: Print>(
+    rt: &P,
+    alloc: Global,
+    party: &mut Party,
+    full: bool,
+    words: &[&str],
+) -> Result<(), Stop> {
+    let Some((stamp, rest)) = stamp_of(full, words) else {
+        return Ok(println!(rt; "?")?);
+    };
+    match body_of(alloc, rest)? {
+        Some(body) => packet(rt, alloc, party, &stamp, &body),
+        None => Ok(println!(rt; "?")?),
+    }
+}
+
 // What a party answers.
 fn answer<P: Print>(rt: &P, alloc: Global, party: &mut Party, words: &[&str]) -> Result<(), Stop> {
     match words {
-        ["post", rest @ ..] => {
-            if let Some(body) = body_of(alloc, rest)? {
-                return post(rt, alloc, party, &body);
-            }
-        }
-        [kind @ ("full" | "delta"), from, to, seq, rest @ ..] => {
-            if let (Ok(from), Ok(to), Ok(seq), Some(body)) = (
-                from.parse::<u64>(),
-                to.parse::<u64>(),
-                seq.parse::<u64>(),
-                body_of(alloc, rest)?,
-            ) {
-                return packet(rt, alloc, party, *kind == "full", (from, to, seq), &body);
-            }
-        }
-        [name, rest @ ..] => {
-            if let Some(numbers) = numbers_of(alloc, rest)? {
-                return call(rt, alloc, party, name, &numbers);
-            }
-        }
-        _ => {}
+        ["post", rest @ ..] => answer_post(rt, alloc, party, rest),
+        ["full", rest @ ..] => answer_packet(rt, alloc, party, true, rest),
+        ["delta", rest @ ..] => answer_packet(rt, alloc, party, false, rest),
+        [name, rest @ ..] => answer_call(rt, alloc, party, name, rest),
+        _ => Ok(println!(rt; "?")?),
     }
-    Ok(println!(rt; "?")?)
 }
 
 impl Parties {

@@ -70,28 +70,32 @@ fn read_relay<L: Told, P: Print>(
     }
 }
 
+// What two changes of a ledger of this kind lead to.
+fn relayed<P: Print>(
+    rt: &P,
+    alloc: Global,
+    kind: &str,
+    first: &[u8],
+    second: &[u8],
+) -> Result<(), Stop> {
+    match kind {
+        "row" => read_relay::<RowLedger, P>(rt, alloc, first, second),
+        "report" => read_relay::<JoinLedger, P>(rt, alloc, first, second),
+        "grants" => read_relay::<Grants, P>(rt, alloc, first, second),
+        "demand" => read_relay::<Demand, P>(rt, alloc, first, second),
+        _ => Ok(println!(rt; "?")?),
+    }
+}
+
 /// Prints what two changes of a ledger of this kind lead to over a channel. A word `then` stands between them.
 pub fn answer<P: Print>(rt: &P, alloc: Global, kind: &str, words: &[&str]) -> Result<(), Stop> {
     let Some(at) = words.iter().position(|word| *word == "then") else {
         return Ok(println!(rt; "?")?);
     };
-    let (first, second) = (
-        body_of(alloc, &words[..at])?,
-        body_of(alloc, &words[at + 1..])?,
-    );
-    match (kind, first, second) {
-        ("row", Some(first), Some(second)) => read_relay::<RowLedger, P>(
-            rt, alloc, &first, &second,
-        ),
-        ("report", Some(first), Some(second)) => {
-            read_relay::<JoinLedger, P>(rt, alloc, &first, &second)
-        }
-        ("grants", Some(first), Some(second)) => read_relay::<Grants, P>(
-            rt, alloc, &first, &second,
-        ),
-        ("demand", Some(first), Some(second)) => read_relay::<Demand, P>(
-            rt, alloc, &first, &second,
-        ),
+    let first = body_of(alloc, &words[..at])?;
+    let second = body_of(alloc, &words[at + 1..])?;
+    match (&first, &second) {
+        (Some(first), Some(second)) => relayed(rt, alloc, kind, first, second),
         _ => Ok(println!(rt; "?")?),
     }
 }
