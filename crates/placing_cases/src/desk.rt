@@ -1,13 +1,14 @@
 //! A table of grants and its placer.
 
-ghost use Rattle.std.specs.Prelude.{◌≡◌, ℕ, ◌<◌};
-ghost use Rattle.place_pass.specs.Placers.{IsLevelWith, IsUpToDate};
+ghost use Rattle.std.specs.Prelude.{◌≡◌, ℕ, ◌<◌, OnOk};
+ghost use Rattle.place_pass.specs.Placers.{IsLevelWith};
 ghost use Rattle.placing_cases.specs.Level.{level_prop};
 
+use crate::settling::{grant_due, look_often, tell_line};
 use crate::stop::Stop;
 use cluster_desc::Cluster;
 use fuxi_terms::OutOfMemory;
-use grant_table::{GrantTable, Pick, Steps};
+use grant_table::{GrantTable, Steps};
 use party_ledgers::Demand;
 use place_pass::{Placer, levels};
 use schedule_unit::{AppNo, Job, MachineNo, RackNo, UnitNo};
@@ -22,33 +23,45 @@ pub struct Desk {
     ghost level: { IsLevelWith placer table } by { level_prop placer table },
 }
 
-// The same while the line is up to date.
-#[derive(Drop)]
-struct Settling {
-    table: GrantTable,
-    placer: Placer,
-    ghost level: { IsLevelWith placer table } by { level_prop placer table },
-    ghost up: { IsUpToDate placer.seen table },
+// A desk is handed on as one pointer, since it has many parts.
+fn boxed(alloc: Global, desk: Desk) -> Result<Box<Desk>, OutOfMemory> {
+    Ok(Box::new(alloc, desk)?)
+}
+
+// Admits a job that is not there yet.
+fn admit(
+    table: &mut GrantTable,
+    placer: &mut Placer,
+    alloc: Global,
+    job: &Job,
+) -> Result<(), OutOfMemory>
+    requires level { IsLevelWith placer.old table.old }
+    ensures level { OnOk result (IsLevelWith placer.new table.new) }
+{
+    levels();
+    if table.units(job.app()) == 0 {
+        table.admit(alloc, job)?;
+        placer.admit(alloc, job)?;
+    }
+    Ok(())
 }
 
 impl Desk {
     /// The desk of a cluster, without jobs.
-    pub fn start(alloc: Global, cluster: &Cluster) -> Result<Desk, OutOfMemory> {
+    pub fn start(alloc: Global, cluster: &Cluster) -> Result<Box<Desk>, OutOfMemory> {
         let table = GrantTable::start(alloc, cluster)?;
         let placer = Placer::start(alloc, cluster)?;
-        Ok(Desk { table, placer })
+        boxed(alloc, Desk { table, placer })
     }
 
     /// Admits a job that is not there yet.
-    pub fn admit(self, alloc: Global, job: &Job) -> Result<Desk, OutOfMemory> {
-        levels();
-        let Desk { table, placer } = self;
+    pub fn admit(desk: Box<Desk>, alloc: Global, job: &Job) -> Result<Box<Desk>, OutOfMemory> {
+        let Desk { table, placer } = Box::into_inner(desk);
         let (mut table, mut placer) = (table, placer);
-        if table.units(job.app()) == 0 {
-            table.admit(alloc, job)?;
-            placer.admit(alloc, job)?;
+        match admit(&mut table, &mut placer, alloc, job) {
+            Ok(()) => boxed(alloc, Desk { table, placer }),
+            Err(OutOfMemory) => Err(OutOfMemory),
         }
-        Ok(Desk { table, placer })
     }
 
     /// The demand of a job that is there.
@@ -75,51 +88,27 @@ impl Desk {
 
     /// Makes at most so many of the grants that are due, and prints each, and the line at the end.
     pub fn settle<L: Ledger, P: Print>(
-        self,
+        &mut self,
         rt: &P,
         steps: &mut Steps<L>,
         most: u64,
-    ) -> Result<Desk, Stop> {
+    ) -> Result<(), Stop> {
         let Desk { table, placer } = self;
-        let mut placer = placer;
         if placer.turns() >= 1 << 63 {
-            return Ok(Desk { table, placer });
+            return Ok(());
         }
-        placer.line_up(&table);
-        let mut settling = Settling { table, placer };
-        for _ in 0..most {
-            match settling.one(steps) {
-                Some(pick) => println!(rt;
-                    "  {} {} on {}",
-                    pick.app.0, pick.unit.0, pick.machine.0
-                )?,
-                None => break,
-            }
-        }
-        let Settling { table, placer } = settling;
-        let line = placer.waiting();
-        for index in 0..line.len() {
-            let (app, unit) = line.at(index);
-            println!(rt; "  {} {} waits", app.0, unit.0)?;
-        }
-        println!(rt; "  turns {}", placer.turns())?;
-        Ok(Desk { table, placer })
+        placer.line_up(table);
+        grant_due(rt, table, placer, steps, most)?;
+        tell_line(rt, placer)
     }
 
     /// Looks so often for the grant that is due first, and makes none.
-    pub fn look<L: Ledger>(self, steps: &mut Steps<L>, times: u64) -> Desk {
+    pub fn look<L: Ledger>(&mut self, steps: &mut Steps<L>, times: u64) {
         let Desk { table, placer } = self;
-        let mut placer = placer;
-        if placer.turns() >= 1 << 63 {
-            return Desk { table, placer };
+        if placer.turns() < 1 << 63 {
+            placer.line_up(table);
+            look_often(table, placer, steps, times);
         }
-        placer.line_up(&table);
-        let mut settling = Settling { table, placer };
-        for _ in 0..times {
-            settling.look(steps);
-        }
-        let Settling { table, placer } = settling;
-        Desk { table, placer }
     }
 
     // Takes none of the grants of a unit so often.
@@ -212,27 +201,4 @@ fn unit_of(number: u64) -> UnitNo {
 
 fn machine_of(number: u64) -> MachineNo {
     MachineNo(number.min(65536) as u32)
-}
-
-impl Settling {
-    // Looks for the first grant that is due, and makes none.
-    fn look<L: Ledger>(&mut self, steps: &mut Steps<L>) {
-        let Settling { table, placer } = self;
-        placer.next(table, steps);
-    }
-
-    // Makes the first grant that is due.
-    fn one<L: Ledger>(&mut self, steps: &mut Steps<L>) -> Option<Pick> {
-        levels();
-        let Settling { table, placer } = self;
-        match placer.next(table, steps) {
-            Some(pick) => {
-                let _cluster = table.cluster();
-                table.grant(pick.app, pick.unit, pick.machine);
-                placer.changed(table, pick.app, pick.unit, pick.machine);
-                Some(pick)
-            }
-            None => None,
-        }
-    }
 }

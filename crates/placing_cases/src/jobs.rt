@@ -48,14 +48,19 @@ fn made(alloc: Global, resources: u8, app: u64, group: u64, units: &str) -> Resu
 
 /// Admits a job: its number, its group and how many resources it knows, and after `:` its units, which `/`
 /// parts, each with its priority and quantities.
-pub fn admit<P: Print>(rt: &P, alloc: Global, desk: Desk, rest: &str) -> Result<Desk, Stop> {
+pub fn admit<P: Print>(
+    rt: &P,
+    alloc: Global,
+    desk: Box<Desk>,
+    rest: &str,
+) -> Result<Box<Desk>, Stop> {
     let (head, units) = rest.split_once(':').unwrap_or((rest, ""));
     let [app, group, resources, _] = four_of(alloc, head)?;
     if !(1..=8).contains(&resources) {
         return Ok(desk);
     }
     match made(alloc, resources as u8, app, group, units) {
-        Ok(job) => Ok(desk.admit(alloc, &job)?),
+        Ok(job) => Ok(Desk::admit(desk, alloc, &job)?),
         Err(fault) => {
             println!(rt; "{fault}")?;
             Ok(desk)

@@ -7,6 +7,7 @@ ghost use Rattle.std.specs.Prelude.{◌≡◌, ◌<◌};
 mod desk;
 mod groups;
 mod jobs;
+mod settling;
 mod stop;
 mod words;
 
@@ -21,15 +22,32 @@ use std::sync::ledger::{Blank, Ledger};
 use stop::Stop;
 use words::{four_of, number_of};
 
-// The desk of the cluster that a line describes.
-fn opened<P: Print>(rt: &P, alloc: Global, rest: &str) -> Result<Option<Desk>, Stop> {
+// Opens the desk of the cluster that a line describes, in place of the one before.
+fn open<P: Print>(
+    rt: &P,
+    alloc: Global,
+    desk: &mut Option<Box<Desk>>,
+    rest: &str,
+) -> Result<(), Stop> {
+    *desk = None;
     match read_cluster(alloc, rest.as_bytes()) {
-        Ok(cluster) => Ok(Some(Desk::start(alloc, &cluster)?)),
-        Err(fault) => {
-            println!(rt; "{fault}")?;
-            Ok(None)
-        }
+        Ok(cluster) => *desk = Some(Desk::start(alloc, &cluster)?),
+        Err(fault) => println!(rt; "{fault}")?,
     }
+    Ok(())
+}
+
+// Admits the job that a line describes, where there is a desk.
+fn admit<P: Print>(
+    rt: &P,
+    alloc: Global,
+    desk: &mut Option<Box<Desk>>,
+    rest: &str,
+) -> Result<(), Stop> {
+    if let Some(before) = desk.take() {
+        *desk = Some(jobs::admit(rt, alloc, before, rest)?);
+    }
+    Ok(())
 }
 
 // What a line reads or changes of a desk.
@@ -43,53 +61,50 @@ fn at_desk<L: Ledger, P: Print>(
 ) -> Result<(), Stop> {
     match call {
         "demand" => jobs::ask(rt, alloc, desk, rest),
+        "settle" => desk.settle(rt, steps, 100),
+        "next" => {
+            desk.look(steps, number_of(rest));
+            Ok(())
+        }
         "held" => desk.held(rt, four_of(alloc, rest)?),
         "room" => desk.room(rt, steps, four_of(alloc, rest)?),
         _ => desk.change(rt, call, four_of(alloc, rest)?),
     }
 }
 
-// What a line makes of a desk.
-fn of_desk<L: Ledger, P: Print>(
-    rt: &P,
-    alloc: Global,
-    desk: Desk,
-    steps: &mut Steps<L>,
-    call: &str,
-    rest: &str,
-) -> Result<Desk, Stop> {
-    match call {
-        "job" => jobs::admit(rt, alloc, desk, rest),
-        "settle" => desk.settle(rt, steps, 100),
-        "next" => Ok(desk.look(steps, number_of(rest))),
-        _ => {
-            let mut desk = desk;
-            at_desk(rt, alloc, &mut desk, steps, call, rest)?;
-            Ok(desk)
-        }
-    }
-}
-
-// What a line names.
+// What a line makes of a desk, or of none.
 fn answer<L: Ledger, P: Print>(
     rt: &P,
     alloc: Global,
-    desk: Option<Desk>,
+    desk: &mut Option<Box<Desk>>,
     steps: &mut Steps<L>,
     line: &str,
-) -> Result<Option<Desk>, Stop> {
+) -> Result<(), Stop> {
     let (call, rest) = line.split_once(' ').unwrap_or((line, ""));
     match call {
-        "cluster" => opened(rt, alloc, rest),
-        "group" => {
-            groups::answer(rt, alloc, rest)?;
-            Ok(desk)
-        }
+        "cluster" => open(rt, alloc, desk, rest),
+        "group" => groups::answer(rt, alloc, rest),
+        "job" => admit(rt, alloc, desk, rest),
         _ => match desk {
-            Some(desk) => Ok(Some(of_desk(rt, alloc, desk, steps, call, rest)?)),
-            None => Ok(None),
+            Some(desk) => at_desk(rt, alloc, desk, steps, call, rest),
+            None => Ok(()),
         },
     }
+}
+
+// Prints a line, and what it answers.
+fn answer_line<L: Ledger, P: Print>(
+    rt: &P,
+    alloc: Global,
+    desk: &mut Option<Box<Desk>>,
+    steps: &mut Steps<L>,
+    line: &str,
+) -> Result<(), Stop> {
+    println!(rt; "{line}")?;
+    if line.is_empty() || line.starts_with('#') {
+        return Ok(());
+    }
+    answer(rt, alloc, desk, steps, line)
 }
 
 fn run<L: Ledger>(rt: &HostRuntime, blank: Blank) -> Result<(), Stop>
@@ -102,10 +117,7 @@ fn run<L: Ledger>(rt: &HostRuntime, blank: Blank) -> Result<(), Stop>
     let mut desk = None;
     for line in BufReader::new(alloc, rt.reader())?.lines(alloc) {
         let line = line?;
-        println!(rt; "{line}")?;
-        if !line.is_empty() && !line.starts_with('#') {
-            desk = answer(rt, alloc, desk, &mut steps, &line)?;
-        }
+        answer_line(rt, alloc, &mut desk, &mut steps, &line)?;
     }
     Ok(())
 }
