@@ -14,24 +14,24 @@ use wire_frames::read_packet;
 // So many steps are made at most.
 const MOST_STEPS: u64 = 1 << 50;
 
-fn step(alloc: Global, master: Master, event: MasterEvent) -> Result<Master, Stop>
-    requires fitting { IsFitting master.core event }
+fn step(alloc: Global, master: Box<Master>, event: MasterEvent) -> Result<Box<Master>, Stop>
+    requires fitting { IsFitting master.value.core event }
 {
     if master.steps() >= MOST_STEPS {
         return Ok(master);
     }
-    let (master, _outcome) = master.step(alloc, event)?;
-    Ok(master)
+    let (master, _outcome) = Box::into_inner(master).step(alloc, event)?;
+    Ok(Box::new(alloc, master)?)
 }
 
-fn take(alloc: Global, master: Master, packet: Packet) -> Result<Master, Stop> {
+fn take(alloc: Global, master: Box<Master>, packet: Packet) -> Result<Box<Master>, Stop> {
     if !packet.formed() || packet.kind == Kind::End {
         return Ok(master);
     }
     step(alloc, master, MasterEvent::Packet(packet))
 }
 
-fn hear(alloc: Global, master: Master, words: &[&str]) -> Result<Master, Stop> {
+fn hear(alloc: Global, master: Box<Master>, words: &[&str]) -> Result<Box<Master>, Stop> {
     let Some(frame) = frame_of(alloc, words)? else {
         return Ok(master);
     };
@@ -41,14 +41,14 @@ fn hear(alloc: Global, master: Master, words: &[&str]) -> Result<Master, Stop> {
     }
 }
 
-fn ban(alloc: Global, master: Master, machine: &str) -> Result<Master, Stop> {
+fn ban(alloc: Global, master: Box<Master>, machine: &str) -> Result<Box<Master>, Stop> {
     match machine.parse::<u8>() {
         Ok(number) => step(alloc, master, MasterEvent::Ban(MachineNo(number as u32))),
         Err(_) => Ok(master),
     }
 }
 
-fn unban(alloc: Global, master: Master, machine: &str) -> Result<Master, Stop> {
+fn unban(alloc: Global, master: Box<Master>, machine: &str) -> Result<Box<Master>, Stop> {
     match machine.parse::<u8>() {
         Ok(number) => step(alloc, master, MasterEvent::Unban(MachineNo(number as u32))),
         Err(_) => Ok(master),
@@ -56,7 +56,7 @@ fn unban(alloc: Global, master: Master, machine: &str) -> Result<Master, Stop> {
 }
 
 // What no call of these names makes the master stays as it is.
-fn call(alloc: Global, master: Master, words: &[&str]) -> Result<Master, Stop> {
+fn call(alloc: Global, master: Box<Master>, words: &[&str]) -> Result<Box<Master>, Stop> {
     match words {
         ["hear", rest @ ..] => hear(alloc, master, rest),
         ["ban", machine] => ban(alloc, master, machine),
@@ -77,11 +77,11 @@ fn words_of<'a>(alloc: Global, call: &'a str, number: &'a str) -> Result<Vec<&'a
 // So many calls, the one and the other by turns, with numbers that rise from the first.
 fn calls(
     alloc: Global,
-    master: Master,
+    master: Box<Master>,
     times: u64,
     first: u64,
     (one, other): (&str, &str),
-) -> Result<Master, Stop> {
+) -> Result<Box<Master>, Stop> {
     let mut master = master;
     for index in 0..times {
         let mut buffer = Buffer::new();
@@ -94,7 +94,7 @@ fn calls(
 
 /// Makes the calls of `TIMES FIRST CALL` or `TIMES FIRST CALL | CALL`. A `#` among the words of a call stands for a number that is
 /// FIRST and rises by 1 with each call.
-pub fn again(alloc: Global, master: Master, rest: &str) -> Result<Master, Stop> {
+pub fn again(alloc: Global, master: Box<Master>, rest: &str) -> Result<Box<Master>, Stop> {
     let (times, rest) = rest.split_once(' ').unwrap_or((rest, ""));
     let (first, rest) = rest.split_once(' ').unwrap_or((rest, ""));
     let pair = rest.split_once(" | ").unwrap_or((rest, rest));

@@ -1,5 +1,6 @@
 //! The calls of a master and of its hard state.
 
+ghost use Rattle.std.specs.Prelude.{◌<◌};
 ghost use Rattle.fuxi_master.specs.Steps.{IsFitting};
 
 use crate::again::again;
@@ -19,34 +20,41 @@ use wire_frames::read_packet;
 // So many steps are made at most.
 const MOST_STEPS: u64 = 1 << 50;
 
-/// The cluster with its hard state, and the master that runs, where they are.
+/// The calls on a cluster, where one is described.
 #[derive(Drop)]
 pub struct Calls {
-    desk: Option<Desk>,
+    desk: Option<Box<Desk>>,
 }
 
+// A cluster, what the hard state has at the start of a master, and the master that runs, where one does.
 #[derive(Drop)]
 struct Desk {
     cluster: Cluster,
-    store: Store,
-    master: Option<Master>,
+    changes: Vec<Change>,
+    master: Option<Box<Master>>,
 }
 
 // A line that is no call.
-fn no_call<P: Print>(rt: &P, master: Master) -> Result<Master, Stop> {
+fn no_call<P: Print>(rt: &P, master: Box<Master>) -> Result<Box<Master>, Stop> {
     println!(rt; "?")?;
     Ok(master)
 }
 
 // One step. Its answer is printed; behind a turn the master is as it was.
-fn step<P: Print>(rt: &P, alloc: Global, master: Master, event: MasterEvent) -> Result<Master, Stop>
-    requires fitting { IsFitting master.core event }
+fn step<P: Print>(
+    rt: &P,
+    alloc: Global,
+    master: Box<Master>,
+    event: MasterEvent,
+) -> Result<Box<Master>, Stop>
+    requires fitting { IsFitting master.value.core event }
 {
     if master.steps() >= MOST_STEPS {
         return no_call(rt, master);
     }
     let before = peers_of(alloc, &master)?;
-    let (master, outcome) = master.step(alloc, event)?;
+    let (master, outcome) = Box::into_inner(master).step(alloc, event)?;
+    let master = Box::new(alloc, master)?;
     tell_outcome(rt, &outcome)?;
     if !matches!(outcome, Outcome::Sent(_)) {
         tell_master(rt, &master)?;
@@ -56,7 +64,12 @@ fn step<P: Print>(rt: &P, alloc: Global, master: Master, event: MasterEvent) -> 
 }
 
 // Hears a packet that is one.
-fn take<P: Print>(rt: &P, alloc: Global, master: Master, packet: Packet) -> Result<Master, Stop> {
+fn take<P: Print>(
+    rt: &P,
+    alloc: Global,
+    master: Box<Master>,
+    packet: Packet,
+) -> Result<Box<Master>, Stop> {
     if !packet.formed() || packet.kind == Kind::End {
         return no_call(rt, master);
     }
@@ -64,7 +77,12 @@ fn take<P: Print>(rt: &P, alloc: Global, master: Master, packet: Packet) -> Resu
 }
 
 // Hears the packet of these words.
-fn hear<P: Print>(rt: &P, alloc: Global, master: Master, rest: &str) -> Result<Master, Stop> {
+fn hear<P: Print>(
+    rt: &P,
+    alloc: Global,
+    master: Box<Master>,
+    rest: &str,
+) -> Result<Box<Master>, Stop> {
     let words: Vec<&str> = rest.split_whitespace().collect(alloc)?;
     let Some(frame) = frame_of(alloc, &words)? else {
         return no_call(rt, master);
@@ -82,10 +100,10 @@ fn hear<P: Print>(rt: &P, alloc: Global, master: Master, rest: &str) -> Result<M
 fn admit<P: Print>(
     rt: &P,
     alloc: Global,
-    master: Master,
+    master: Box<Master>,
     cluster: &Cluster,
     rest: &str,
-) -> Result<Master, Stop> {
+) -> Result<Box<Master>, Stop> {
     match job_of(alloc, cluster, rest)? {
         Some(job) => {
             if master.knows(job.app()) {
@@ -98,7 +116,12 @@ fn admit<P: Print>(
 }
 
 // Finishes a job that is known.
-fn finish<P: Print>(rt: &P, alloc: Global, master: Master, rest: &str) -> Result<Master, Stop> {
+fn finish<P: Print>(
+    rt: &P,
+    alloc: Global,
+    master: Box<Master>,
+    rest: &str,
+) -> Result<Box<Master>, Stop> {
     let Ok(number) = rest.parse::<u8>() else {
         return no_call(rt, master);
     };
@@ -109,7 +132,12 @@ fn finish<P: Print>(rt: &P, alloc: Global, master: Master, rest: &str) -> Result
     step(rt, alloc, master, MasterEvent::Finish(app))
 }
 
-fn ban<P: Print>(rt: &P, alloc: Global, master: Master, rest: &str) -> Result<Master, Stop> {
+fn ban<P: Print>(
+    rt: &P,
+    alloc: Global,
+    master: Box<Master>,
+    rest: &str,
+) -> Result<Box<Master>, Stop> {
     let Ok(number) = rest.parse::<u8>() else {
         return no_call(rt, master);
     };
@@ -121,7 +149,12 @@ fn ban<P: Print>(rt: &P, alloc: Global, master: Master, rest: &str) -> Result<Ma
     )
 }
 
-fn unban<P: Print>(rt: &P, alloc: Global, master: Master, rest: &str) -> Result<Master, Stop> {
+fn unban<P: Print>(
+    rt: &P,
+    alloc: Global,
+    master: Box<Master>,
+    rest: &str,
+) -> Result<Box<Master>, Stop> {
     let Ok(number) = rest.parse::<u8>() else {
         return no_call(rt, master);
     };
@@ -150,7 +183,12 @@ fn party_of(rest: &str) -> Option<Party> {
 }
 
 // A turn, of all channels or of the one to a peer.
-fn turn<P: Print>(rt: &P, alloc: Global, master: Master, rest: &str) -> Result<Master, Stop> {
+fn turn<P: Print>(
+    rt: &P,
+    alloc: Global,
+    master: Box<Master>,
+    rest: &str,
+) -> Result<Box<Master>, Stop> {
     if rest.is_empty() {
         return step(rt, alloc, master, MasterEvent::Turn);
     }
@@ -167,11 +205,11 @@ fn turn<P: Print>(rt: &P, alloc: Global, master: Master, rest: &str) -> Result<M
 fn call<P: Print>(
     rt: &P,
     alloc: Global,
-    master: Master,
+    master: Box<Master>,
     cluster: &Cluster,
     word: &str,
     rest: &str,
-) -> Result<Master, Stop> {
+) -> Result<Box<Master>, Stop> {
     match word {
         "again" => again(alloc, master, rest),
         "hear" => hear(rt, alloc, master, rest),
@@ -187,7 +225,7 @@ fn call<P: Print>(
     }
 }
 
-// What a line writes to the hard state; None where it writes nothing.
+// What a line adds to the hard state of the masters that start from then on; None where it adds nothing.
 fn change_of(
     alloc: Global,
     cluster: &Cluster,
@@ -202,74 +240,91 @@ fn change_of(
                 .ok()
                 .map(|machine| Change::Banned(machine)),
         ),
-        "start" => Ok(rest.parse::<u64>().ok().map(|epoch| Change::Raise(epoch))),
         _ => Ok(None),
     }
 }
 
-// Starts a master of an epoch with what the hard state has.
+// A hard state with its fence at an epoch, and with what is added to it; what it refuses is printed.
+fn hard_state<P: Print>(
+    rt: &P,
+    alloc: Global,
+    epoch: u64,
+    changes: &[Change],
+) -> Result<Store, Stop> {
+    let (mut store, _) = Store::empty(alloc)?.write(&Change::Raise(epoch))?;
+    for change in changes {
+        let (next, answer) = store.write(change)?;
+        store = next;
+        if let Err(fault) = answer {
+            println!(rt; "{fault:?}")?;
+        }
+    }
+    Ok(store)
+}
+
+// Starts a master, whose epoch is not 0.
 fn start<P: Print>(
     rt: &P,
     alloc: Global,
     cluster: &Cluster,
-    store: &Store,
     epoch: u64,
-) -> Result<Option<Master>, Stop> {
-    if epoch == 0 {
-        return Ok(None);
-    }
+    changes: &[Change],
+) -> Result<Box<Master>, Stop>
+    requires { 0 < epoch }
+{
+    let store = hard_state(rt, alloc, epoch, changes)?;
     let master = Master::start(alloc, cluster, epoch, store.hard())?;
+    let master = Box::new(alloc, master)?;
     tell_master(rt, &master)?;
     tell_peers(rt, &[], &peers_of(alloc, &master)?)?;
-    Ok(Some(master))
+    Ok(master)
 }
 
 impl Desk {
-    // Writes to the hard state. Where an epoch was raised, its master starts.
-    fn write<P: Print>(self, rt: &P, alloc: Global, change: &Change) -> Result<Desk, Stop> {
-        let Desk {
-            cluster,
-            store,
-            master,
-        } = self;
-        let (store, answer) = store.write(change)?;
-        match answer {
-            Ok(()) => println!(rt; "done")?,
-            Err(fault) => println!(rt; "{fault:?}")?,
+    // Starts a master of the epoch that a word is.
+    fn start<P: Print>(&mut self, rt: &P, alloc: Global, word: &str) -> Result<(), Stop> {
+        match word.parse::<u64>() {
+            Ok(epoch) if epoch > 0 => {
+                let master = start(rt, alloc, &self.cluster, epoch, &self.changes)?;
+                self.master = Some(master);
+            }
+            _ => println!(rt; "?")?,
         }
-        let mut master = master;
-        if let (Change::Raise(epoch), Ok(())) = (change, answer) {
-            master = start(rt, alloc, &cluster, &store, *epoch)?;
+        Ok(())
+    }
+
+    // What a line makes of the master.
+    fn call<P: Print>(
+        &mut self,
+        rt: &P,
+        alloc: Global,
+        word: &str,
+        rest: &str,
+    ) -> Result<(), Stop> {
+        match self.master.take() {
+            Some(master) => {
+                self.master = Some(call(rt, alloc, master, &self.cluster, word, rest)?);
+            }
+            None => println!(rt; "?")?,
         }
-        Ok(Desk {
-            cluster,
-            store,
-            master,
-        })
+        Ok(())
     }
 
     // What a line makes of the hard state or the master.
-    fn answer<P: Print>(self, rt: &P, alloc: Global, word: &str, rest: &str) -> Result<Desk, Stop> {
-        if let Some(change) = change_of(alloc, &self.cluster, word, rest)? {
-            return self.write(rt, alloc, &change);
+    fn answer<P: Print>(
+        &mut self,
+        rt: &P,
+        alloc: Global,
+        word: &str,
+        rest: &str,
+    ) -> Result<(), Stop> {
+        if word == "start" {
+            return self.start(rt, alloc, rest);
         }
-        let Desk {
-            cluster,
-            store,
-            master,
-        } = self;
-        let master = match master {
-            Some(master) => Some(call(rt, alloc, master, &cluster, word, rest)?),
-            None => {
-                println!(rt; "?")?;
-                None
-            }
-        };
-        Ok(Desk {
-            cluster,
-            store,
-            master,
-        })
+        match change_of(alloc, &self.cluster, word, rest)? {
+            Some(change) => Ok(self.changes.push(change)?),
+            None => self.call(rt, alloc, word, rest),
+        }
     }
 }
 
@@ -283,11 +338,12 @@ impl Calls {
     fn set_cluster<P: Print>(&mut self, rt: &P, alloc: Global, line: &str) -> Result<(), Stop> {
         match read_cluster(alloc, line.as_bytes()) {
             Ok(cluster) => {
-                self.desk = Some(Desk {
+                let desk = Desk {
                     cluster,
-                    store: Store::empty(alloc)?,
+                    changes: Vec::new(alloc),
                     master: None,
-                });
+                };
+                self.desk = Some(Box::new(alloc, desk)?);
             }
             Err(_) => println!(rt; "no cluster")?,
         }
@@ -300,10 +356,9 @@ impl Calls {
             return self.set_cluster(rt, alloc, line);
         }
         let (word, rest) = line.split_once(' ').unwrap_or((line, ""));
-        match self.desk.take() {
-            Some(desk) => self.desk = Some(desk.answer(rt, alloc, word, rest)?),
-            None => println!(rt; "?")?,
+        match &mut self.desk {
+            Some(desk) => desk.answer(rt, alloc, word, rest),
+            None => Ok(println!(rt; "?")?),
         }
-        Ok(())
     }
 }
