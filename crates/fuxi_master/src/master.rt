@@ -120,6 +120,7 @@ impl Master {
         ensures table { result.now ≡ self.now.core.allotment.table }
         ensures fits { (m i : ℕ) → m < length result.now.cluster.machines → total_at (as_known result.now.jobs) m i result.now.entries ≤ has_at result.now.cluster m i }
         ensures stands { (r : MasterRole) → StandsFor self.now.core r → result.now.entries ≡ r.state.table }
+        ensures units { (a : ℕ) → unit_count (as_known result.now.jobs) a ≡ unit_count self.now.core.known.jobs a }
     {
         let table = self.core.allotment.table();
         let _cluster = table.cluster();
