@@ -4,8 +4,10 @@
 #![tactic(auto)]
 
 ghost use Rattle.std.specs.Prelude.{◌≡◌, ◌<◌, ℕ, List, [], IfOk};
+ghost use Rattle.std.specs.List.{AllByRecursion};
 ghost use Rattle.fuxi_terms.specs.Limits.{most_machines, most_steps};
 ghost use Rattle.party_ledgers.specs.Packets.{IsFormed};
+ghost use Rattle.agent_core.specs.Answering.{Steps};
 ghost use Rattle.core_join.specs.Agents.{HearsInWorld, TurnsInWorld, ResyncsInWorld, StartsInWorld};
 
 mod apps;
@@ -36,7 +38,8 @@ pub fn agent_hears(
     requires formed { IsFormed packet.now }
     requires no_end { packet.now.kind ≡ Kind.End → ⊥ }
     requires steps { agent.steps < most_steps }
-    ensures { IfOk result (λ after. HearsInWorld packet.now agent after.0 after.1) }
+    ensures world { IfOk result (λ after. HearsInWorld packet.now agent after.0 after.1) }
+    ensures steps { IfOk result (λ after. Steps agent after.0) }
 {
     agents_join();
     let (agent, heard) = agent.on_packet(alloc, packet)?;
@@ -45,7 +48,8 @@ pub fn agent_hears(
 
 /// [`Agent::turn`]: the packets are those that the world sends.
 pub fn agent_turns(agent: &Agent, alloc: Global) -> Result<Packets, OutOfMemory>
-    ensures { IfOk result (TurnsInWorld agent.now) }
+    ensures world { IfOk result (TurnsInWorld agent.now) }
+    ensures formed { IfOk result (AllByRecursion IsFormed) }
 {
     agents_join();
     let packets = agent.turn(alloc)?;
@@ -55,7 +59,8 @@ pub fn agent_turns(agent: &Agent, alloc: Global) -> Result<Packets, OutOfMemory>
 /// [`Agent::resync`].
 pub fn agent_resyncs(agent: &mut Agent)
     requires { agent.old.steps < most_steps }
-    ensures { ResyncsInWorld agent.old agent.new }
+    ensures world { ResyncsInWorld agent.old agent.new }
+    ensures steps { Steps agent.old agent.new }
 {
     agents_join();
     agent.resync();
@@ -70,7 +75,8 @@ pub fn agent_starts(
 ) -> Result<Agent, OutOfMemory>
     requires machine { machine.0 < most_machines }
     requires boot { 0 < boot }
-    ensures { IfOk result (StartsInWorld machine.0 has.q boot) }
+    ensures world { IfOk result (StartsInWorld machine.0 has.q boot) }
+    ensures steps { IfOk result (λ agent. agent.steps ≡ 0) }
 {
     agents_join();
     let agent = Agent::start(alloc, machine, has, boot)?;

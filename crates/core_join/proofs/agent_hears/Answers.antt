@@ -9,8 +9,8 @@ use Rattle.core_join.specs.Agents.{agent_at, IsRuled}
 use Rattle.core_join.proofs.Ruled.{hear_ruled}
 use Rattle.core_join.proofs.agent_hears.Goals as goal
 
-pub returns : goal.returns
-returns c w m g which x s leads at to is =
+pub returns-clause-world : goal.returns-clause-world
+returns-clause-world c w m g which x s leads at to is =
     let new = c.in_ok-agent.agent in
     let r = agent_seen w m g in
     let excess = row_excess (has_of w m) in

@@ -4,8 +4,8 @@ use Rattle.written_roles.specs.Agents.{new_agent}
 use Rattle.agent_core.specs.Standing.{StandsFor}
 use Rattle.core_join.proofs.agent_starts.Goals as goal
 
-pub returns : goal.returns
-returns c w good has later =
+pub returns-clause-world : goal.returns-clause-world
+returns-clause-world c w good has later =
     let m = c.args.machine.0 in
     let b = c.args.boot in
     let join = c.agents_join.ensures.starts w m b good.stands.sound (λ q. good.stands.unstarted (party (agent_id m) b) q later) in

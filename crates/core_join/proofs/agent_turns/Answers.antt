@@ -6,8 +6,8 @@ use Rattle.agent_core.specs.Standing.{StandsFor}
 use Rattle.core_join.specs.Agents.{agent_at}
 use Rattle.core_join.proofs.agent_turns.Goals as goal
 
-pub returns : goal.returns
-returns c w m g s =
+pub returns-clause-world : goal.returns-clause-world
+returns-clause-world c w m g s =
     let join = c.agents_join.ensures.turns w m g s.good.stands.sound in
     let sends = c.in_ok-packets.ensures.sends (agent_seen w m g) s.stands in
     record {
