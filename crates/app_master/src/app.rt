@@ -87,6 +87,7 @@ impl AppMaster {
         requires { self.old.steps < most_steps }
         ensures answers { Commands (Wants unit.0 count) self.old result self.new }
         ensures steps { OnOk result (self.new.steps ≡ self.old.steps + 1) }
+        ensures err { OnErr result (self.new ≡ self.old) }
     {
         self.test_unit(unit)?;
         test_count(count)?;
@@ -104,6 +105,7 @@ impl AppMaster {
         requires { self.old.steps < most_steps }
         ensures answers { Commands (WantsNear unit.0 machine.0 count) self.old result self.new }
         ensures steps { OnOk result (self.new.steps ≡ self.old.steps + 1) }
+        ensures err { OnErr result (self.new ≡ self.old) }
     {
         self.test_unit(unit)?;
         self.test_machine(machine)?;
@@ -122,6 +124,7 @@ impl AppMaster {
         requires { self.old.steps < most_steps }
         ensures answers { Commands (WantsInRack unit.0 rack.0 count) self.old result self.new }
         ensures steps { OnOk result (self.new.steps ≡ self.old.steps + 1) }
+        ensures err { OnErr result (self.new ≡ self.old) }
     {
         self.test_unit(unit)?;
         if !self.has_rack(rack) {
@@ -142,6 +145,7 @@ impl AppMaster {
         requires { self.old.steps < most_steps }
         ensures answers { Commands (Avoids unit.0 machine.0 (cond yes 1 0)) self.old result self.new }
         ensures steps { OnOk result (self.new.steps ≡ self.old.steps + 1) }
+        ensures err { OnErr result (self.new ≡ self.old) }
     {
         self.test_unit(unit)?;
         self.test_machine(machine)?;
@@ -161,6 +165,7 @@ impl AppMaster {
         requires { self.old.steps < most_steps }
         ensures answers { Commands (GivesBack unit.0 machine.0 count) self.old result self.new }
         ensures steps { OnOk result (self.new.steps ≡ self.old.steps + 1) }
+        ensures err { OnErr result (self.new ≡ self.old) }
     {
         self.test_unit(unit)?;
         self.test_machine(machine)?;

@@ -33,10 +33,11 @@ pub record AppStandsIn (w : World) (a : ℕ) (g : App) (core : AppCore) : Type 0
   pub runs : find nat_cmp a w.apps ≡ Some g
   pub stands : StandsFor core (app_seen w a g)
 
--- what the world is after the application acted: it runs, with these carried numbers, and the core stands for it; these packets were sent, and all other parties
--- see what they saw
+-- what the world is after the application acted: it runs, with these carried numbers, and so do the others as they did; the core stands for it; these packets were
+-- sent, and all other parties see what they saw
 pub record AppActsIn (w w' : World) (a : ℕ) (g now : App) (core : AppCore) (sent : List Packet) : Type 0 where
   pub runs : find nat_cmp a w'.apps ≡ Some now
+  pub others : (b : ℕ) → (b ≡ a → ⊥) → find nat_cmp b w'.apps ≡ find nat_cmp b w.apps
   pub stands : StandsFor core (app_seen w' a now)
   pub acts : OneActs w.net w'.net (app_at a g) (map parcel_is sent)
   pub rest : w' ≡ record w { apps = w'.apps; net = w'.net }
@@ -64,9 +65,14 @@ IsRefusedAs w s (SaysNotUsable usable) = s ≡ refused w (NotUsable usable)
 IsRefusedAs w s SaysBackRange = s ≡ refused w BackRange
 IsRefusedAs w s WantOfMemory = ⊤
 
+-- a command that is done, which prints nothing
+pub record IsAskedIn (w : World) (a : ℕ) (g : App) (x : AppCommand) (core : AppCore) : Type 0 where
+  pub world : AppActsIn w (asks w a x).world a g g core []
+  pub quiet : (asks w a x).lines ≡ []
+
 -- a command is done as the world does it, or refused as the world refuses it, and then the core is as it was
 abbrev pub AsksIn : World → ℕ → App → AppCommand → AppCore → Result (Unit {0}) AppFault → AppCore → Type 0
-AsksIn w a g x old (Ok done) new = AppActsIn w (asks w a x).world a g g new []
+AsksIn w a g x old (Ok done) new = IsAskedIn w a g x new
 AsksIn w a g x old (Err fault) new = (new ≡ old) × IsRefusedAs w (asks w a x) fault
 
 abbrev pub AsksInWorld : AppCommand → AppCore → Result (Unit {0}) AppFault → AppCore → Type 0

@@ -1,6 +1,7 @@
 //! An application's core in the world.
 
-ghost use Rattle.std.specs.Prelude.{◌≡◌, ◌<◌, ◌≤◌, cond, IfOk};
+ghost use Rattle.std.specs.Prelude.{◌≡◌, ◌+◌, ◌<◌, ◌≤◌, cond, IfOk, OnOk, OnErr};
+ghost use Rattle.std.specs.List.{AllByRecursion};
 ghost use Rattle.fuxi_terms.specs.Limits.{most_jobs, most_units, most_steps};
 ghost use Rattle.party_ledgers.specs.Packets.{IsFormed};
 ghost use Rattle.written_roles.specs.Apps.{Wants, WantsNear, WantsInRack, Avoids, GivesBack};
@@ -24,7 +25,8 @@ pub fn app_hears(
     requires formed { IsFormed packet.now }
     requires no_end { packet.now.kind ≡ Kind.End → ⊥ }
     requires steps { app.steps < most_steps }
-    ensures { IfOk result (λ after. AppHearsInWorld packet.now app after.0 after.1) }
+    ensures world { IfOk result (λ after. AppHearsInWorld packet.now app after.0 after.1) }
+    ensures steps { IfOk result (λ after. after.0.steps ≡ app.steps + 1) }
 {
     apps_join();
     let (app, heard) = app.on_packet(alloc, packet)?;
@@ -39,7 +41,9 @@ pub fn app_wants(
     count: u64,
 ) -> Result<(), AppFault>
     requires { app.old.steps < most_steps }
-    ensures { AsksInWorld (Wants unit.0 count) app.old result app.new }
+    ensures world { AsksInWorld (Wants unit.0 count) app.old result app.new }
+    ensures steps { OnOk result (app.new.steps ≡ app.old.steps + 1) }
+    ensures err { OnErr result (app.new ≡ app.old) }
 {
     apps_join();
     app.want(alloc, unit, count)
@@ -54,7 +58,9 @@ pub fn app_wants_near(
     count: u64,
 ) -> Result<(), AppFault>
     requires { app.old.steps < most_steps }
-    ensures { AsksInWorld (WantsNear unit.0 machine.0 count) app.old result app.new }
+    ensures world { AsksInWorld (WantsNear unit.0 machine.0 count) app.old result app.new }
+    ensures steps { OnOk result (app.new.steps ≡ app.old.steps + 1) }
+    ensures err { OnErr result (app.new ≡ app.old) }
 {
     apps_join();
     app.near(alloc, unit, machine, count)
@@ -69,7 +75,9 @@ pub fn app_wants_in_rack(
     count: u64,
 ) -> Result<(), AppFault>
     requires { app.old.steps < most_steps }
-    ensures { AsksInWorld (WantsInRack unit.0 rack.0 count) app.old result app.new }
+    ensures world { AsksInWorld (WantsInRack unit.0 rack.0 count) app.old result app.new }
+    ensures steps { OnOk result (app.new.steps ≡ app.old.steps + 1) }
+    ensures err { OnErr result (app.new ≡ app.old) }
 {
     apps_join();
     app.rack(alloc, unit, rack, count)
@@ -84,7 +92,9 @@ pub fn app_avoids(
     yes: bool,
 ) -> Result<(), AppFault>
     requires { app.old.steps < most_steps }
-    ensures { AsksInWorld (Avoids unit.0 machine.0 (cond yes 1 0)) app.old result app.new }
+    ensures world { AsksInWorld (Avoids unit.0 machine.0 (cond yes 1 0)) app.old result app.new }
+    ensures steps { OnOk result (app.new.steps ≡ app.old.steps + 1) }
+    ensures err { OnErr result (app.new ≡ app.old) }
 {
     apps_join();
     app.avoid(alloc, unit, machine, yes)
@@ -99,7 +109,9 @@ pub fn app_gives_back(
     count: u64,
 ) -> Result<(), AppFault>
     requires { app.old.steps < most_steps }
-    ensures { AsksInWorld (GivesBack unit.0 machine.0 count) app.old result app.new }
+    ensures world { AsksInWorld (GivesBack unit.0 machine.0 count) app.old result app.new }
+    ensures steps { OnOk result (app.new.steps ≡ app.old.steps + 1) }
+    ensures err { OnErr result (app.new ≡ app.old) }
 {
     apps_join();
     app.give_back(alloc, unit, machine, count)
@@ -107,7 +119,8 @@ pub fn app_gives_back(
 
 /// [`AppMaster::turn`]: the packets are those that the world sends.
 pub fn app_turns(app: &AppMaster, alloc: Global) -> Result<Packets, OutOfMemory>
-    ensures { IfOk result (AppTurnsInWorld app.now) }
+    ensures world { IfOk result (AppTurnsInWorld app.now) }
+    ensures formed { IfOk result (AllByRecursion IsFormed) }
 {
     apps_join();
     let packets = app.turn(alloc)?;
@@ -117,7 +130,8 @@ pub fn app_turns(app: &AppMaster, alloc: Global) -> Result<Packets, OutOfMemory>
 /// [`AppMaster::resync`].
 pub fn app_resyncs(app: &mut AppMaster)
     requires { app.old.steps < most_steps }
-    ensures { AppResyncsInWorld app.old app.new }
+    ensures world { AppResyncsInWorld app.old app.new }
+    ensures steps { app.new.steps ≡ app.old.steps + 1 }
 {
     apps_join();
     app.resync();
@@ -134,7 +148,8 @@ pub fn app_starts(
     requires job { app.0 < most_jobs }
     requires units { units ≤ most_units }
     requires boot { 0 < boot }
-    ensures { IfOk result (AppStartsInWorld app.0 units cluster.now boot) }
+    ensures world { IfOk result (AppStartsInWorld app.0 units cluster.now boot) }
+    ensures steps { IfOk result (λ app. app.steps ≡ 0) }
 {
     apps_join();
     let app = AppMaster::start(alloc, app, units, cluster, boot)?;

@@ -10,11 +10,11 @@ use Rattle.app_master.specs.Apps.{StandsFor}
 use Rattle.core_join.specs.Agents.{IsRuled}
 use Rattle.core_join.specs.Apps.{app_at}
 use Rattle.core_join.proofs.Ruled.{hear_ruled}
-use Rattle.core_join.proofs.AppWorld.{acts_in, runs_there}
+use Rattle.core_join.proofs.AppWorld.{acts_in, runs_there, as_before}
 use Rattle.core_join.proofs.apps.app_hears.Goals as goal
 
-pub returns : goal.returns
-returns c w a g which x s leads at to is =
+pub returns-clause-world : goal.returns-clause-world
+returns-clause-world c w a g which x s leads at to is =
     let new = c.in_ok-app.app in
     let r = app_seen w a g in
     let grants : x.from.id ≡ master_id → Leads no_excess x.from.id x.to.id (w.net.histories x.from x.to.id) =
@@ -27,7 +27,7 @@ returns c w a g which x s leads at to is =
     record {
       now = join.now;
       others = others;
-      world = acts_in w (app_hears w a g x) a g join.now _ new join.acts (runs_there a join.now w.apps (app_hears w a g x).apps others) (subst (λ y. StandsFor new (app_hears_alone r y).role) is core.role);
+      world = acts_in w (app_hears w a g x) a g join.now _ new join.acts (runs_there a join.now w.apps (app_hears w a g x).apps others) (as_before a join.now w.apps (app_hears w a g x).apps others) (subst (λ y. StandsFor new (app_hears_alone r y).role) is core.role);
       fresh = core.fresh ∙ ap (λ y. (app_hears_alone r y).fresh) is ∙ join.fresh;
       says = says;
       ruled = subst IsRuled (sym says) (hear_ruled p (is_master x.from.id) (last w.net p x.from.id) (w.net.links p x.from.id) x);

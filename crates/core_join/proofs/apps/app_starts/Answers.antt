@@ -6,8 +6,8 @@ use Rattle.app_master.specs.Apps.{StandsFor}
 use Rattle.core_join.proofs.AppWorld.{runs_there}
 use Rattle.core_join.proofs.apps.app_starts.Goals as goal
 
-pub returns : goal.returns
-returns c w good cluster units later =
+pub returns-clause-world : goal.returns-clause-world
+returns-clause-world c w good cluster units later =
     let a = c.args.app.0 in
     let b = c.args.boot in
     let join = c.apps_join.ensures.starts w a b good.stands.sound (λ q. good.stands.unstarted (party (app_id a) b) q later) in
