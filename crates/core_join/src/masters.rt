@@ -1,8 +1,8 @@
 //! A master's core in the world.
 
-ghost use Rattle.std.specs.Prelude.{◌<◌, IfOk};
+ghost use Rattle.std.specs.Prelude.{◌≡◌, ◌+◌, ◌<◌, IfOk};
 ghost use Rattle.fuxi_terms.specs.Limits.{most_steps};
-ghost use Rattle.fuxi_master.specs.Steps.{IsFitting};
+ghost use Rattle.fuxi_master.specs.Steps.{IsFitting, IsSentFormed};
 ghost use Rattle.core_join.specs.Masters.{StepsInWorld, MasterStartsInWorld};
 
 use cluster_desc::Cluster;
@@ -22,7 +22,9 @@ pub fn master_steps(
 ) -> Result<(Master, Outcome), OutOfMemory>
     requires fitting { IsFitting master.core event }
     requires steps { master.steps < most_steps }
-    ensures { IfOk result (λ after. StepsInWorld event master.core after.0.core after.1) }
+    ensures world { IfOk result (λ after. StepsInWorld event master.core after.0.core after.1) }
+    ensures steps { IfOk result (λ after. after.0.steps ≡ master.steps + 1) }
+    ensures formed { IfOk result (λ after. IsSentFormed after.1) }
 {
     masters_join();
     kept_reports_lead();
@@ -39,7 +41,8 @@ pub fn master_starts(
     hard: &Hard,
 ) -> Result<Master, OutOfMemory>
     requires epoch { 0 < epoch }
-    ensures { IfOk result (λ master. MasterStartsInWorld cluster.now hard.now.value epoch master.core) }
+    ensures world { IfOk result (λ master. MasterStartsInWorld cluster.now hard.now.value epoch master.core) }
+    ensures steps { IfOk result (λ master. master.steps ≡ 0) }
 {
     masters_join();
     let master = Master::start(alloc, cluster, epoch, hard)?;

@@ -8,8 +8,8 @@ use Rattle.written_join.specs.Joins.{master_starts}
 use Rattle.fuxi_master.specs.Cores.{StandsFor}
 use Rattle.core_join.proofs.masters.master_starts.Goals as goal
 
-pub returns : goal.returns
-returns c w good cluster later =
+pub returns-clause-world : goal.returns-clause-world
+returns-clause-world c w good cluster later =
     let h = c.args.hard.now.value in
     let e = c.args.epoch in
     let ran = w.ran ++ party master_id e ∷ [] in
