@@ -1,6 +1,6 @@
 //! The masters that run.
 
-ghost use Rattle.std.specs.Prelude.{◌≡◌, ℕ, ◌+◌, ◌<◌, ◌≤◌, true, [], ◌∷◌, ◌++◌, not, nat_eq, length, is_some, Some, None, IfOk, OnOk, OnErr};
+ghost use Rattle.std.specs.Prelude.{◌≡◌, ℕ, ◌+◌, ◌<◌, ◌≤◌, true, false, [], ◌∷◌, ◌++◌, not, nat_eq, length, is_some, Some, None, IfOk, OnOk, OnErr};
 ghost use Rattle.std.specs.Option.{option_map};
 ghost use Rattle.std.specs.List.{AllByRecursion, filter};
 ghost use Rattle.std.specs.Ordering.{nat_cmp};
@@ -92,6 +92,7 @@ impl Masters {
     /// Whether a master of the epoch runs and knows the job, ended or not.
     pub fn knows(&self, epoch: u64, app: AppNo) -> bool
         ensures known { (m : MasterRecord) → running self.now epoch ≡ Some m → result ≡ is_known m.core.known.jobs app.0 }
+        ensures none { running self.now epoch ≡ None → result ≡ false }
         ensures world { (w : World) (M : WrittenMaster) → AreMastersOf w self.now → find nat_cmp epoch w.masters ≡ Some M → result ≡ is_known M.jobs app.0 }
     {
         match self.get(epoch) {
