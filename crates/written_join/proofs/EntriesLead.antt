@@ -26,11 +26,12 @@ use Rattle.written_net.specs.Net.{at_index}
 use Rattle.written_net.specs.Ledgers.{nothing}
 use Rattle.written_net.specs.Channels.{master_id, agent_id, app_id, party}
 use Rattle.written_roles.specs.MasterSteps.{is_there}
+use Rattle.written_world.specs.World.{World}
 use Rattle.written_world.specs.Events.{Event}
 use Rattle.written_world.specs.Lines.{IsInput}
 use Rattle.written_world.specs.Runs.{run}
 use Rattle.written_world.specs.Safe.{RowsFit, row_total_at}
-use Rattle.written_world.specs.Good.{IsOfJob, NamesJobs, IsNarrow, IsJob, AreJobs, greatest_in_demand, greatest_in_grants}
+use Rattle.written_world.specs.Good.{Good, IsOfJob, NamesJobs, IsNarrow, IsJob, AreJobs, greatest_in_demand, greatest_in_grants}
 use Rattle.fuxi_terms.proofs.Alls.{all_more}
 use Rattle.fuxi_terms.proofs.Lists.{all_at}
 use Rattle.fuxi_terms.proofs.Booleans.{both_true, and_true, number_is}
@@ -39,8 +40,8 @@ use Rattle.fuxi_terms.proofs.KeyOrders.{row_key_total}
 use Rattle.fuxi_terms.proofs.VectorLaws.{fits_places, fits-padded, at_place-plus, at_place-times}
 use Rattle.written_world.proofs.CountsLemmas.{counts_wider}
 use Rattle.written_world.proofs.TablesBounded.{greatest_asked, asked_counts}
-use Rattle.written_world.proofs.InvariantKept.{always}
-use Rattle.written_world.proofs.JobsKept.{run_cluster, run_jobs}
+use Rattle.written_world.proofs.GoodKept.{always_good}
+use Rattle.written_world.proofs.JobsKept.{run_cluster}
 use Rattle.written_join.specs.Leading.{AllLead, report_excess}
 use Rattle.written_join.proofs.LeadingLemmas.{rows_lead, grants_lead, demands_lead, reports_lead}
 
@@ -305,14 +306,11 @@ asked_within c units k v valid few machines some le =
         let m : k.number < most_machines = grind (arith, nat_tests, t, machines) in
         subst (λ b. v ≤ where_holds b (cond (nat_eq k.what 2) greatest_count (cond (nat_eq k.what 4) 1 (where_holds (nat_eq k.what 5) greatest_back)))) (sym (place_is k.unit k.number unit m)) le
 
--- in every state
-pub every_lead : (c : ClusterRecord) (es : List Event) → IsInput c es → AllLead (run c es)
-every_lead c es i =
-    let w = run c es in
-    let h = always c es in
-    let same = run_cluster c es i in
-    let jobs : AreJobs w.cluster w.hard.jobs = subst (λ d. AreJobs d w.hard.jobs) (sym same) (run_jobs c es i) in
-    let valid : is_valid_cluster w.cluster ≡ true = subst (λ d. is_valid_cluster d ≡ true) (sym same) i.cluster in
+-- in every good world
+pub good_leads : (w : World) → is_valid_cluster w.cluster ≡ true → Good w → AllLead w
+good_leads w valid g =
+    let h = g.stands in
+    let jobs = g.hard.jobs in
     let machines = few_machines w.cluster valid in
     record {
       rows = λ e m.
@@ -341,3 +339,8 @@ every_lead c es i =
             fit = λ n _. ap (λ t. cond t None (Some (record { q = row_total (at_index nothing hs n).rows }, record { q = padded (machine_of w.cluster m).has }))) (row_within w.cluster w.hard.jobs m (at_index nothing hs n).rows jobs (h.reports m b n).named (h.reports m b n).fits);
           });
     }
+
+-- in every state
+pub every_lead : (c : ClusterRecord) (es : List Event) → IsInput c es → AllLead (run c es)
+every_lead c es i =
+    good_leads (run c es) (subst (λ d. is_valid_cluster d ≡ true) (sym (run_cluster c es i)) i.cluster) (always_good c es i)

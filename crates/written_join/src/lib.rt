@@ -23,7 +23,8 @@ ghost use Rattle.written_world.specs.Events.{asks, commanded, turned, turn_to_ma
 ghost use Rattle.written_join.specs.Seen.{has_of, agent_seen, app_seen, master_seen};
 ghost use Rattle.written_join.specs.Joins.{AgentActs, AppActs, MasterActs, AgentHearsAlike, AppHearsAlike, MasterHearsAlike, AgentStarts, AppStarts, MasterStarts, AppCommanded, MasterCommanded, Leads};
 ghost use Rattle.written_join.specs.Leading.{RowsLead, TalliesLead, ReportsFit, AllLead, report_excess};
-ghost use Rattle.fuxi_terms.specs.Cluster.{ClusterRecord};
+ghost use Rattle.fuxi_terms.specs.Cluster.{ClusterRecord, is_valid_cluster};
+ghost use Rattle.written_world.specs.Good.{Good};
 ghost use Rattle.written_world.specs.Events.{Event};
 ghost use Rattle.written_world.specs.Lines.{IsInput};
 ghost use Rattle.written_world.specs.Runs.{run};
@@ -74,9 +75,11 @@ pub fn kept_reports_lead()
     ensures { (c : ClusterRecord) (M : Master) (from to : Id) (h : List Ledger) → Leads (report_excess c from) from to h → Leads (kept_excess c M from) from to h }
 {}
 
-/// In every state to which event lines lead on a valid cluster, each entry of each history follows on the one before
-/// by the change between them, and none is too much: of rows, grants, demands and reports, of every epoch and boot that
-/// ever ran, also of those that have stopped. So no change is ever refused and nothing ever exceeds.
+/// In a good world of a valid cluster each entry of each history follows on the one before by the change between them, and
+/// none is too much: of rows, grants, demands and reports, of every epoch and boot that ever ran, also of those that have
+/// stopped (`good`). So it is in every state to which event lines lead (`always`): no change is ever refused, and nothing
+/// ever exceeds.
 pub fn every_change_is_taken()
-    ensures { (c : ClusterRecord) (events : List Event) → IsInput c events → AllLead (run c events) }
+    ensures good { (w : World) → is_valid_cluster w.cluster ≡ true → Good w → AllLead w }
+    ensures always { (c : ClusterRecord) (events : List Event) → IsInput c events → AllLead (run c events) }
 {}
