@@ -7,7 +7,7 @@ ghost use Rattle.party_ledgers.specs.Packets.{IsFormed};
 ghost use Rattle.written_net.specs.Net.{same_id};
 ghost use Rattle.written_net.specs.Channels.{agent_id, is_master};
 ghost use Rattle.written_roles.specs.Agents.{AgentRole, new_agent, table_by};
-ghost use Rattle.core_side.specs.Parcels.{packet_of, role_number};
+ghost use Rattle.core_side.specs.Parcels.{packet_of, role_number, IsSent};
 ghost use Rattle.agent_core.specs.Standing.{StandsFor, table_in};
 ghost use Rattle.agent_core.specs.Answering.{AnswersAlike, SendsAlike, ResyncsAlike, Steps};
 
@@ -111,7 +111,7 @@ impl Agent {
     /// What the next turn sends: nothing where no master is known. It changes nothing.
     pub fn turn(&self, alloc: Global) -> Result<Packets, OutOfMemory>
         ensures sends { IfOk result (SendsAlike self.now) }
-        ensures formed { IfOk result (AllByRecursion IsFormed) }
+        ensures formed { IfOk result (AllByRecursion IsSent) }
     {
         let mut packets = Packets::new(alloc);
         if self.up.peer() == 0 {

@@ -9,7 +9,7 @@ ghost use Rattle.fuxi_terms.specs.TallyKeys.{key, greatest_demand};
 ghost use Rattle.party_ledgers.specs.Packets.{IsFormed};
 ghost use Rattle.party_ledgers.specs.declared.packets.Kind.TheVariants.{End};
 ghost use Rattle.written_roles.specs.Apps.{AppRole, new_app, demands_alone, held_by, usable_by, given_by, app_resynced, names, Wants, WantsNear, WantsInRack, Avoids, GivesBack};
-ghost use Rattle.core_side.specs.Parcels.{role_number};
+ghost use Rattle.core_side.specs.Parcels.{role_number, IsSent};
 ghost use Rattle.app_master.specs.Usable.{is_named};
 ghost use Rattle.app_master.specs.Apps.{StandsFor};
 ghost use Rattle.app_master.specs.Commands.{Commands};
@@ -220,7 +220,7 @@ impl AppMaster {
     /// What the next turn sends. It changes nothing.
     pub fn turn(&self, alloc: Global) -> Result<Packets, OutOfMemory>
         ensures sends { IfOk result (SendsAlike self.now) }
-        ensures formed { IfOk result (AllByRecursion IsFormed) }
+        ensures formed { IfOk result (AllByRecursion IsSent) }
     {
         let mut packets = Packets::new(alloc);
         if self.up.peer() == 0 {

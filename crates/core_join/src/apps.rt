@@ -1,5 +1,6 @@
 //! An application's core in the world.
 
+ghost use Rattle.core_side.specs.Parcels.{IsSent};
 ghost use Rattle.std.specs.Prelude.{◌≡◌, ◌+◌, ◌<◌, ◌≤◌, cond, IfOk, OnOk, OnErr};
 ghost use Rattle.std.specs.List.{AllByRecursion};
 ghost use Rattle.fuxi_terms.specs.Limits.{most_jobs, most_units, most_steps};
@@ -120,7 +121,7 @@ pub fn app_gives_back(
 /// [`AppMaster::turn`]: the packets are those that the world sends.
 pub fn app_turns(app: &AppMaster, alloc: Global) -> Result<Packets, OutOfMemory>
     ensures world { IfOk result (AppTurnsInWorld app.now) }
-    ensures formed { IfOk result (AllByRecursion IsFormed) }
+    ensures formed { IfOk result (AllByRecursion IsSent) }
 {
     apps_join();
     let packets = app.turn(alloc)?;

@@ -3,6 +3,7 @@
 //! what it is in the world.
 #![tactic(auto)]
 
+ghost use Rattle.core_side.specs.Parcels.{IsSent};
 ghost use Rattle.std.specs.Prelude.{◌≡◌, ◌<◌, ℕ, List, [], IfOk};
 ghost use Rattle.std.specs.List.{AllByRecursion};
 ghost use Rattle.fuxi_terms.specs.Limits.{most_machines, most_steps};
@@ -49,7 +50,7 @@ pub fn agent_hears(
 /// [`Agent::turn`]: the packets are those that the world sends.
 pub fn agent_turns(agent: &Agent, alloc: Global) -> Result<Packets, OutOfMemory>
     ensures world { IfOk result (TurnsInWorld agent.now) }
-    ensures formed { IfOk result (AllByRecursion IsFormed) }
+    ensures formed { IfOk result (AllByRecursion IsSent) }
 {
     agents_join();
     let packets = agent.turn(alloc)?;

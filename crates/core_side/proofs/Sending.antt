@@ -21,13 +21,13 @@ use Rattle.party_ledgers.specs.Packets.{IsFormed, IsBodyOf, are_parties, is_bare
 use Rattle.party_ledgers.specs.declared.packets.Body.{Body as BodyHere}
 use Rattle.party_ledgers.specs.declared.packets.Body.TheVariants.{Nothing, Row, RowDelta, Join, Grants, GrantsDelta, Demand, DemandDelta}
 use Rattle.party_ledgers.specs.declared.packets.Kind.{Kind as KindHere}
-use Rattle.party_ledgers.specs.declared.packets.Kind.TheVariants.{Delta as DeltaHere, Full as FullHere}
+use Rattle.party_ledgers.specs.declared.packets.Kind.TheVariants.{Ack as AckHere, Delta as DeltaHere, Full as FullHere, End}
 use Rattle.party_ledgers.specs.declared.packets.Packet.{Packet as PacketHere}
 use Rattle.written_net.specs.Net.{Party, Id, Packet, Kind, Ack as IsAck, Delta as IsDelta, Full as IsFull, at_index, notes}
 use Rattle.written_net.specs.Ledgers.{Ledger, nothing, Body, whole_body, change_body}
 use Rattle.written_net.specs.Channels.{is_agent, dropped_by, body_in}
 use Rattle.written_net.specs.Sides.{Side, Parcel, turn_parcels}
-use Rattle.core_side.specs.Parcels.{id_of, content_of, parcel_is}
+use Rattle.core_side.specs.Parcels.{id_of, content_of, parcel_is, IsSent}
 use Rattle.core_side.specs.Sending.{HaveForms, packet_for, TurnsAlike}
 
 -- the packet of a mark, with what it holds
@@ -147,6 +147,16 @@ roles_of b k from to bare h = by b h
     by (Demand tally) h = of_app (both_true (is_full k) _ h).1
     by (DemandDelta change) h = of_app (both_true (is_delta k) _ h.0).1
 
+-- what brings something is no end
+abbrev is_end : KindHere → Bool
+is_end AckHere = false
+is_end DeltaHere = false
+is_end FullHere = false
+is_end End = true
+
+other : (k : KindHere) → is_end k ≡ false → k ≡ End → ⊥
+other k is e = let t : true ≡ false = sym (ap is_end e) ∙ is in grind (arith, t)
+
 -- the change of a note has a form
 abbrev pub NoteForm : {V D : Type 0} → (D → Type 0) → Note V D → Type 0
 NoteForm form (Full n ledger) = Unit {0}
@@ -215,9 +225,14 @@ module _ {V D : Type 0} (valid : V → Type 0) (form : D → Type 0) (out : V �
         named true is = refl
         named false is = let none = m (grind (arith, nat_tests, is)) in grind (arith, nat_tests, none)
 
-    pub all_formed : (top : ℕ) (notes : List (Note V D)) → AllByRecursion (IsMarked top) (map mark_of notes) → AllByRecursion (NoteForm form) notes → AllByRecursion IsFormed (map (packet_for whole changed (record { role = sender; number = own; inc = inc }) (record { role = receiver; number = peer; inc = known })) notes)
+    no_end : (note : Note V D) → (packet_for whole changed (record { role = sender; number = own; inc = inc }) (record { role = receiver; number = peer; inc = known }) note).kind ≡ End → ⊥
+    no_end (Full n ledger) = λ e. other FullHere refl e
+    no_end (Delta n change) = λ e. other DeltaHere refl e
+    no_end (Ack place) = λ e. other AckHere refl e
+
+    pub all_formed : (top : ℕ) (notes : List (Note V D)) → AllByRecursion (IsMarked top) (map mark_of notes) → AllByRecursion (NoteForm form) notes → AllByRecursion IsSent (map (packet_for whole changed (record { role = sender; number = own; inc = inc }) (record { role = receiver; number = peer; inc = known })) notes)
     all_formed top [] m f = tt
-    all_formed top (x ∷ xs) m f = (formed_one top x m.0 f.0, all_formed top xs m.1 f.1)
+    all_formed top (x ∷ xs) m f = (record { formed = formed_one top x m.0 f.0; no_end = no_end x }, all_formed top xs m.1 f.1)
 
 -- what a turn of both ends appends
 module _ {V D W : Type 0} (first : V) (patched : V → D → Result V LedgerFault) (valid : V → Type 0) (form : D → Type 0) (out : V → Ledger) (whole : V → BodyHere) (changed : D → BodyHere) (sender receiver : Role) (own peer : ℕ) (d : Endpoint V D W)
@@ -242,6 +257,6 @@ module _ {V D W : Type 0} (first : V) (patched : V → D → Result V LedgerFaul
       ∙ ap (λ n. map parcel_is before ++ map parcel_is (map (packet_for whole changed (record { role = sender; number = own; inc = n }) to) notes)) s.own
       ∙ ap (λ ys. map parcel_is before ++ ys) (parcels ∙ ap (map (parcel_mark p q e)) turn ∙ marks_alike p q e)
 
-  pub turn_formed : ((v : V) → IsBodyOf (whole v) FullHere sender receiver) → ((c : D) → form c → IsBodyOf (changed c) DeltaHere sender receiver) → IsTrue (is_number_of receiver peer) → 0 < d.outgoing.own → AllByRecursion IsFormed before → AllByRecursion IsFormed after
-  turn_formed whole_formed change_formed to_number started all = subst (AllByRecursion IsFormed) (sym is) (all_append IsFormed before _ all
+  pub turn_formed : ((v : V) → IsBodyOf (whole v) FullHere sender receiver) → ((c : D) → form c → IsBodyOf (changed c) DeltaHere sender receiver) → IsTrue (is_number_of receiver peer) → 0 < d.outgoing.own → AllByRecursion IsSent before → AllByRecursion IsSent after
+  turn_formed whole_formed change_formed to_number started all = subst (AllByRecursion IsSent) (sym is) (all_append IsSent before _ all
       (all_formed valid form out whole changed first patched sender receiver own peer whole_formed change_formed number to_number d.outgoing.own d.incoming.place.inc started d.outgoing.last notes marked (note_forms form d.outgoing forms notes sends)))

@@ -1,9 +1,10 @@
 -- What the packets of the program say, in the words of the written net.
-use Rattle.std.specs.Prelude.{ℕ}
+use Rattle.std.specs.Prelude.{◌≡◌, ℕ}
 use Rattle.schedule_unit.specs.declared.party.Party.{Party as PartyHere}
 use Rattle.schedule_unit.specs.declared.party.Role.{Role}
 use Rattle.schedule_unit.specs.declared.party.Role.TheVariants.{Master, Agent, App}
 use Rattle.party_ledgers.specs.declared.packets.Packet.{Packet as PacketHere}
+use Rattle.party_ledgers.specs.Packets.{IsFormed}
 use Rattle.party_ledgers.specs.declared.packets.Kind.{Kind as KindHere}
 use Rattle.party_ledgers.specs.declared.packets.Kind.TheVariants.{Ack as AckHere, Delta as DeltaHere, Full as FullHere, End}
 use Rattle.party_ledgers.specs.declared.packets.Body.{Body as BodyHere}
@@ -42,6 +43,11 @@ content_of (DemandDelta change) = TallyChange change
 
 abbrev pub packet_of : PacketHere → Packet
 packet_of x = record { from = party_of x.from; to = party_of x.to; kind = kind_of x.kind; inc = x.place.inc; seq = x.place.seq }
+
+-- a packet of a turn: it is formed, and no end of a connection
+pub record IsSent (x : PacketHere) : Type 0 where
+  pub formed : IsFormed x
+  pub no_end : x.kind ≡ End → ⊥
 
 -- a packet with what it holds
 abbrev pub parcel_is : PacketHere → Parcel

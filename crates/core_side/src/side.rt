@@ -9,7 +9,7 @@ ghost use Rattle.core_side.specs.Telling.{TellsWhy};
 ghost use Rattle.core_side.specs.Testing.{Takes};
 ghost use Rattle.delta_channel.specs.Calls.{Meets};
 ghost use Rattle.channel_join.specs.Alike.{told_as, stamp_of};
-ghost use Rattle.core_side.specs.Parcels.{packet_of};
+ghost use Rattle.core_side.specs.Parcels.{packet_of, IsSent};
 ghost use Rattle.delta_channel.specs.Hearing.{verdict_of};
 
 use crate::carried::Carried;
@@ -340,7 +340,7 @@ impl<A: Carried, B: Carried> Side<A, B> {
         requires peer { IsTrue (is_number_of A.to_role peer) }
         requires started { 0 < self.now.outgoing.own }
         ensures turns { OnOk result (TurnsAlike A.nothing A.patched A.has_form A.stated B.stated self.now A.from_role own A.to_role peer packets.old packets.new) }
-        ensures formed { AllByRecursion IsFormed packets.old → OnOk result (AllByRecursion IsFormed packets.new) }
+        ensures formed { AllByRecursion IsSent packets.old → OnOk result (AllByRecursion IsSent packets.new) }
     {
         let from = Party {
             role: A::sender(),

@@ -6,7 +6,7 @@ use Rattle.schedule_unit.specs.declared.party.MachineNo.{MachineNo}
 use Rattle.schedule_unit.specs.declared.party.Party.{Party}
 use Rattle.party_ledgers.specs.declared.packets.Heard.{Heard}
 use Rattle.party_ledgers.specs.declared.packets.Packet.{Packet}
-use Rattle.party_ledgers.specs.Packets.{IsFormed}
+use Rattle.core_side.specs.Parcels.{IsSent}
 use Rattle.written_net.specs.Net.{Id}
 use Rattle.written_net.specs.Sides.{turn_parcels}
 use Rattle.core_side.specs.Parcels.{id_of, parcel_is}
@@ -92,9 +92,9 @@ heard_one packet steps x y heard is = record {
   formed = tt;
 }
 
-pub sent_all : (steps : ℕ) (x : CoreRecord) (packets : List Packet) → IsCore x → IsWithin steps x → ((r : MasterRole) → StandsFor x r → map parcel_is packets ≡ master_turn r) → AllByRecursion IsFormed packets → IsStep Turn steps x x (Sent packets)
+pub sent_all : (steps : ℕ) (x : CoreRecord) (packets : List Packet) → IsCore x → IsWithin steps x → ((r : MasterRole) → StandsFor x r → map parcel_is packets ≡ master_turn r) → AllByRecursion IsSent packets → IsStep Turn steps x x (Sent packets)
 sent_all steps x packets core within sends formed = stays Turn steps x x (Sent packets) core within refl (λ r h. record { role = h; says = ap SentAs (sends r h) }) formed
 
 pub sent_one : (steps : ℕ) (x : CoreRecord) (peer : Party) (packets : List Packet) → IsCore x → IsWithin steps x
-    → ((r : MasterRole) → StandsFor x r → map parcel_is packets ≡ turn_parcels (master_party r.state) (id_of peer.role peer.number) (r.sides (id_of peer.role peer.number))) → AllByRecursion IsFormed packets → IsStep (TurnTo peer) steps x x (Sent packets)
+    → ((r : MasterRole) → StandsFor x r → map parcel_is packets ≡ turn_parcels (master_party r.state) (id_of peer.role peer.number) (r.sides (id_of peer.role peer.number))) → AllByRecursion IsSent packets → IsStep (TurnTo peer) steps x x (Sent packets)
 sent_one steps x peer packets core within sends formed = stays (TurnTo peer) steps x x (Sent packets) core within refl (λ r h. record { role = h; says = ap SentAs (sends r h) }) formed

@@ -20,7 +20,7 @@ use Rattle.written_net.specs.Channels.{agent_id, app_id}
 use Rattle.written_roles.specs.Refusals.{Refusal, AlreadyServing as SaysAlready, NotServing as SaysNot, NothingToPreempt as SaysNothing}
 use Rattle.written_roles.specs.MasterSteps.{Admits, Ends, Bans, Unbans, Begins, Preempts}
 use Rattle.written_roles.specs.MasterRoles.{MasterRole, ends_alone, MasterTold, Comes, Told, TurnAll, TurnTo as TurnToOne, ResyncAll, MasterAnswer, Done as IsDone, RefusedAs, Sent as SentAs, HeardAs, MasterStepped, master_steps_alone, master_hears_alone, report_excess}
-use Rattle.core_side.specs.Parcels.{id_of, parcel_is}
+use Rattle.core_side.specs.Parcels.{id_of, parcel_is, IsSent}
 use Rattle.publishing.specs.Setting.{AreNumbers}
 use Rattle.broadcast.specs.declared.grants.News.{News}
 use Rattle.broadcast.specs.Showing.{RowsAreBefore, GrantsAreBefore, credited_after}
@@ -121,7 +121,7 @@ EndsAlike news old new = (r : MasterRole) → StandsMid news old r → StandsFor
 abbrev pub IsSentFormed : Outcome → Type 0
 IsSentFormed Done = Unit {0}
 IsSentFormed (Refused refusal) = Unit {0}
-IsSentFormed (Sent packets) = AllByRecursion IsFormed packets
+IsSentFormed (Sent packets) = AllByRecursion IsSent packets
 IsSentFormed (HeardOne heard) = Unit {0}
 
 -- one step of a core: the new one is in order, and answers as the master by itself

@@ -5,7 +5,7 @@ ghost use Rattle.std.specs.List.{AllByRecursion, flat_map};
 ghost use Rattle.std.specs.Option.{option_map};
 ghost use Rattle.fuxi_terms.specs.Jobs.{job_numbers};
 ghost use Rattle.fuxi_terms.specs.Lists.{below};
-ghost use Rattle.party_ledgers.specs.Packets.{IsFormed};
+ghost use Rattle.core_side.specs.Parcels.{IsSent};
 ghost use Rattle.written_roles.specs.MasterRoles.{MasterRole, master_turn, master_resynced};
 ghost use Rattle.written_roles.specs.MasterSteps.{master_party};
 ghost use Rattle.written_net.specs.Channels.{agent_id, app_id};
@@ -28,7 +28,7 @@ impl Core {
     pub(crate) fn turn(&self, alloc: Global) -> Result<Packets, OutOfMemory>
         requires { IsCore (core_of self.now) }
         ensures sends { IfOk result (λ packets. (r : MasterRole) → StandsFor (core_of self.now) r → map parcel_is packets ≡ master_turn r) }
-        ensures formed { IfOk result (AllByRecursion IsFormed) }
+        ensures formed { IfOk result (AllByRecursion IsSent) }
     {
         let mut packets = Packets::new(alloc);
         self.agents_turn(alloc, &mut packets)?;
@@ -41,7 +41,7 @@ impl Core {
         requires { IsCore (core_of self.now) }
         ensures sends { OnOk result ((r : MasterRole) → StandsFor (core_of self.now) r → map parcel_is packets.new
             ≡ map parcel_is packets.old ++ flat_map (λ q. turn_parcels (master_party r.state) q (r.sides q)) (map agent_id (below (length r.cluster.machines)))) }
-        ensures formed { AllByRecursion IsFormed packets.old → OnOk result (AllByRecursion IsFormed packets.new) }
+        ensures formed { AllByRecursion IsSent packets.old → OnOk result (AllByRecursion IsSent packets.new) }
     {
         let _cluster = self.allotment.table().cluster();
         for number in 0..self.agents.len() {
@@ -55,7 +55,7 @@ impl Core {
         requires { IsCore (core_of self.now) }
         ensures sends { OnOk result ((r : MasterRole) → StandsFor (core_of self.now) r → map parcel_is packets.new
             ≡ map parcel_is packets.old ++ flat_map (λ q. turn_parcels (master_party r.state) q (r.sides q)) (map app_id (job_numbers r.state.jobs))) }
-        ensures formed { AllByRecursion IsFormed packets.old → OnOk result (AllByRecursion IsFormed packets.new) }
+        ensures formed { AllByRecursion IsSent packets.old → OnOk result (AllByRecursion IsSent packets.new) }
     {
         let _jobs = self.known.jobs();
         for number in 0..self.apps.len() {
@@ -72,7 +72,7 @@ impl Core {
         requires core { IsCore (core_of self.now) }
         requires peer { is_peer (core_of self.now) peer.role peer.number ≡ true }
         ensures sends { IfOk result (λ packets. (r : MasterRole) → StandsFor (core_of self.now) r → map parcel_is packets ≡ turn_parcels (master_party r.state) (id_of peer.role peer.number) (r.sides (id_of peer.role peer.number))) }
-        ensures formed { IfOk result (AllByRecursion IsFormed) }
+        ensures formed { IfOk result (AllByRecursion IsSent) }
     {
         let mut packets = Packets::new(alloc);
         let number = peer.number;

@@ -1,5 +1,6 @@
 //! The agents by their machines.
 
+ghost use Rattle.core_side.specs.Parcels.{IsSent};
 ghost use Rattle.std.specs.Prelude.{◌≡◌, ◌+◌, ◌<◌, ℕ, length, replicate, None, IfOk, OnOk, OnErr, IfSome};
 ghost use Rattle.std.specs.List.{AllByRecursion};
 ghost use Rattle.std.specs.Option.{option_copied};
@@ -160,7 +161,7 @@ impl Agents {
     /// What the agent of a machine sends in one turn; `None` where none runs. It changes nothing.
     pub fn turn(&self, alloc: Global, machine: MachineNo) -> Result<Option<Packets>, OutOfMemory>
         ensures world { IfOk result (TurnInWorld machine.0 self.now) }
-        ensures formed { IfOk result (λ packets. IfSome packets (AllByRecursion IsFormed)) }
+        ensures formed { IfOk result (λ packets. IfSome packets (AllByRecursion IsSent)) }
     {
         let Some(agent) = self.get(machine) else {
             return Ok(None);

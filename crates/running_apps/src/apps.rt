@@ -1,5 +1,6 @@
 //! The applications by their jobs.
 
+ghost use Rattle.core_side.specs.Parcels.{IsSent};
 ghost use Rattle.std.specs.Prelude.{◌≡◌, ◌+◌, ◌<◌, ◌≤◌, ℕ, List, [], length, replicate, Option, Some, None, IfOk, OnOk, OnErr, IfSome};
 ghost use Rattle.std.specs.List.{AllByRecursion};
 ghost use Rattle.std.specs.Option.{option_copied};
@@ -197,7 +198,7 @@ impl Apps {
     /// What the application of a job sends in one turn; `None` where none runs. It changes nothing.
     pub fn turn(&self, alloc: Global, app: AppNo) -> Result<Option<Packets>, OutOfMemory>
         ensures world { IfOk result (TurnInWorld app.0 self.now) }
-        ensures formed { IfOk result (λ packets. IfSome packets (AllByRecursion IsFormed)) }
+        ensures formed { IfOk result (λ packets. IfSome packets (AllByRecursion IsSent)) }
     {
         let Some(core) = self.get(app) else {
             return Ok(None);

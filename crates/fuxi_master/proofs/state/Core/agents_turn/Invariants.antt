@@ -1,7 +1,7 @@
 use Rattle.std.proofs.Common.{◌≡◌, ◌≤◌, ◌++◌, length, map}
 use Rattle.std.specs.List.{AllByRecursion, flat_map}
 use Rattle.fuxi_terms.specs.Lists.{below}
-use Rattle.party_ledgers.specs.Packets.{IsFormed}
+use Rattle.core_side.specs.Parcels.{IsSent}
 use Rattle.written_net.specs.Channels.{agent_id}
 use Rattle.written_roles.specs.MasterRoles.{MasterRole}
 use Rattle.core_side.specs.Parcels.{parcel_is}
@@ -14,5 +14,5 @@ abbrev pub invariant-loop-number : goal.invariant-loop-number
 invariant-loop-number l = record {
   within : l.number ≤ length l.self.agents.items;
   sends : (r : MasterRole) → StandsFor (core_of l.self) r → map parcel_is l.packets ≡ map parcel_is l.fn.packets ++ flat_map (sent_to r) (map agent_id (below l.number));
-  formed : AllByRecursion IsFormed l.fn.packets → AllByRecursion IsFormed l.packets;
+  formed : AllByRecursion IsSent l.fn.packets → AllByRecursion IsSent l.packets;
 }
