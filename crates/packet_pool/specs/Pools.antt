@@ -43,6 +43,12 @@ Refuses limit (TooManyPackets kept) = limit ≡ Some (TooManyPackets kept)
 Refuses limit (PoolBytes kept) = limit ≡ Some (PoolBytes kept)
 Refuses limit OutOfMemory = limit ≡ None
 
+-- each packet has a frame, where the bytes of all of them are too many
+abbrev pub IsSized : List Packet → PoolFault → Type 0
+IsSized xs (TooManyPackets kept) = Unit {0}
+IsSized xs (PoolBytes kept) = AllByRecursion HasFrame xs
+IsSized xs OutOfMemory = Unit {0}
+
 -- what is kept are the frames of these packets, in order
 pub record Keeps (p : Stored) (xs : List Packet) : Type 0 where
   pub stored : p.frames ≡ map frame xs

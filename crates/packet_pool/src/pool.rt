@@ -7,7 +7,7 @@ ghost use Rattle.party_ledgers.specs.Packets.{IsFormed};
 ghost use Rattle.party_ledgers.specs.declared.packets.Packet.{Packet as PacketSeen};
 ghost use Rattle.wire_frames.specs.Frames.{frame};
 ghost use Rattle.wire_frames.specs.Streams.{HasFrame};
-ghost use Rattle.packet_pool.specs.Pools.{bytes_of, no_frames, with_frames, limit_of, Refuses, Keeps};
+ghost use Rattle.packet_pool.specs.Pools.{bytes_of, no_frames, with_frames, limit_of, Refuses, IsSized, Keeps};
 
 use crate::fault::PoolFault;
 use bytes::Bytes;
@@ -120,6 +120,7 @@ impl PacketPool {
         ensures frames { OnOk result (AllByRecursion HasFrame packets.now) }
         ensures within { OnOk result (limit_of self.now packets.now ≡ None) }
         ensures why { IfErr result (λ fault. Refuses (limit_of self.now packets.now) fault) }
+        ensures sized { IfErr result (IsSized packets.now) }
     {
         if packets.len() > MOST_PACKETS - self.frames.len() {
             return Err(PoolFault::TooManyPackets { kept: self.len() });
@@ -142,6 +143,7 @@ impl PacketPool {
         ensures within { OnOk result (limit_of self.old packets.now ≡ None) }
         ensures err { OnErr result (self.new ≡ self.old) }
         ensures why { IfErr result (λ fault. Refuses (limit_of self.old packets.now) fault) }
+        ensures sized { IfErr result (IsSized packets.now) }
     {
         let sum = match self.test_limits(packets) {
             Ok(sum) => sum,

@@ -6,7 +6,7 @@ use Rattle.std.specs.Ordering.{nat_cmp}
 use Rattle.std.specs.FinMap.Entries.{put, find, is_sorted}
 use Rattle.std.proofs.lemmas.List.{append-nil}
 use Rattle.party_ledgers.specs.declared.packets.Packet.{Packet}
-use Rattle.party_ledgers.specs.Packets.{IsFormed}
+use Rattle.core_side.specs.Parcels.{IsSent}
 use Rattle.written_net.specs.Net.{Packet as WrittenPacket, Heard as WrittenHeard, heard_of}
 use Rattle.written_net.specs.Channels.{master_id, is_master, is_agent, is_app, party}
 use Rattle.written_roles.specs.Masters.{Master}
@@ -116,13 +116,13 @@ pub turns : (e : ℕ) (old new : MastersRecord) (outcome : Option Outcome) → A
 turns e old new None kept step w good s = none_in w e old new s step.none step.is
 turns e old new (Some outcome) kept step w good s = turn_one w e old new outcome good kept s step
 
-sent_formed : (outcome : Outcome) → IsSentFormed outcome → IfSome (sent_in (Some outcome)) (AllByRecursion IsFormed)
+sent_formed : (outcome : Outcome) → IsSentFormed outcome → IfSome (sent_in (Some outcome)) (AllByRecursion IsSent)
 sent_formed Done f = tt
 sent_formed (Refused refusal) f = tt
 sent_formed (Sent packets) f = f
 sent_formed (HeardOne heard) f = tt
 
-pub turns_formed : (e : ℕ) (old new : MastersRecord) (outcome : Option Outcome) → Steps e Turn old new outcome → IfSome (sent_in outcome) (AllByRecursion IsFormed)
+pub turns_formed : (e : ℕ) (old new : MastersRecord) (outcome : Option Outcome) → Steps e Turn old new outcome → IfSome (sent_in outcome) (AllByRecursion IsSent)
 turns_formed e old new None step = tt
 turns_formed e old new (Some outcome) step = sent_formed outcome step.formed
 

@@ -1,5 +1,6 @@
 //! What the masters hear and are told.
 
+ghost use Rattle.core_side.specs.Parcels.{IsSent};
 ghost use Rattle.std.specs.Prelude.{◌≡◌, ℕ, ◌+◌, IfOk, IfSome};
 ghost use Rattle.std.specs.List.{AllByRecursion};
 ghost use Rattle.party_ledgers.specs.Packets.{IsFormed};
@@ -56,7 +57,7 @@ impl Masters {
     pub fn turn(self, alloc: Global, epoch: u64) -> Result<(Masters, Option<Packets>), OutOfMemory>
         requires steps { MayStep epoch self }
         ensures world { IfOk result (λ after. TurnsInWorld epoch self after.0 after.1) }
-        ensures formed { IfOk result (λ after. IfSome after.1 (AllByRecursion IsFormed)) }
+        ensures formed { IfOk result (λ after. IfSome after.1 (AllByRecursion IsSent)) }
         ensures within { IfOk result (λ after. (n : ℕ) → AreWithin n self → AreWithin (n + 1) after.0) }
         ensures epochs { IfOk result (λ after. epochs_of after.0.masters ≡ epochs_of self.masters) }
     {

@@ -1,6 +1,6 @@
 //! The masters that run.
 
-ghost use Rattle.std.specs.Prelude.{◌≡◌, ℕ, ◌+◌, ◌<◌, ◌≤◌, true, false, [], ◌∷◌, ◌++◌, not, nat_eq, length, is_some, Some, None, IfOk, OnOk, OnErr};
+ghost use Rattle.std.specs.Prelude.{◌≡◌, ℕ, ◌+◌, ◌<◌, ◌≤◌, true, false, [], ◌∷◌, ◌++◌, not, nat_eq, length, is_some, slice_get, Some, None, IfOk, OnOk, OnErr};
 ghost use Rattle.std.specs.Option.{option_map};
 ghost use Rattle.std.specs.List.{AllByRecursion, filter};
 ghost use Rattle.std.specs.Ordering.{nat_cmp};
@@ -75,6 +75,16 @@ impl Masters {
             Some(at) => Some(&self.masters[at].1),
             None => None,
         }
+    }
+
+    /// The epoch and the master at a place of the order of epochs, counted from 0.
+    pub fn at(&self, index: usize) -> (u64, &Master)
+        requires { index < length self.now.masters }
+        ensures entry { slice_get self.now.masters index ≡ Some (result.0, result.1.now) }
+        ensures runs { running self.now result.0 ≡ Some result.1.now }
+    {
+        let entry = &self.masters[index];
+        (entry.0, &entry.1)
     }
 
     /// The greatest epoch that runs, 0 where none does. A start in a greater one is above those that run.

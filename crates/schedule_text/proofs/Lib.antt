@@ -3,3 +3,4 @@ pub mod Walks
 pub mod Heads
 pub mod Texts
 pub mod RoundTrip
+pub mod Given

@@ -12,6 +12,6 @@ mod write;
 
 pub use event::{Event, LineFault};
 pub use output::{Kind, Output, write_frame, write_output};
-pub use read::read_event;
+pub use read::{events_of_lines, read_event};
 pub use refusal::Refusal;
 pub use write::{event_lines, write_event};

@@ -5,6 +5,8 @@ ghost use Rattle.std.specs.List.{find, list_all, list_any};
 ghost use Rattle.fuxi_terms.specs.Counts.{then_do};
 ghost use Rattle.schedule_text.specs.Forms.{Shape, shape_of, heads, as_shape, IsNarrow};
 ghost use Rattle.schedule_text.specs.Reading.{begins, is_head, has_count, is_unit, units_of, head_of, number_at, numbers_at, counts_at, ask_of, asks_at, asks_of, event_at, event_behind, event_of, front, IsFault};
+ghost use Rattle.schedule_text.specs.Writing.{IsLineEvent};
+ghost use Rattle.schedule_text.specs.declared.event.Event.{Event as AnyEvent};
 ghost use Rattle.schedule_text.specs.declared.form.Place.TheVariants.{Incarnation as IncarnationPlace};
 
 use crate::event::{Event, LineFault};
@@ -219,3 +221,8 @@ fn asks_at(alloc: Global, first: usize, words: &[&[u8]]) -> Result<Asks, LineFau
     }
     Ok(asks)
 }
+
+/// What is read of a line is an event that a line can give.
+pub fn events_of_lines()
+    ensures { (line : List ℕ) (event : AnyEvent) → event_of line ≡ Ok event → IsLineEvent event }
+{}

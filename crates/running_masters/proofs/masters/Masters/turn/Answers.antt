@@ -1,7 +1,7 @@
 use Rattle.std.proofs.Common.{sym, subst}
 use Rattle.std.specs.Prelude.{IfSome}
 use Rattle.std.specs.List.{AllByRecursion}
-use Rattle.party_ledgers.specs.Packets.{IsFormed}
+use Rattle.core_side.specs.Parcels.{IsSent}
 use Rattle.running_masters.specs.Calls.{TurnsInWorld}
 use Rattle.running_masters.proofs.Calling.{turns, turns_formed}
 use Rattle.running_masters.proofs.masters.Masters.turn.Goals as goal
@@ -13,4 +13,4 @@ returns-clause-world c =
 
 pub returns-clause-formed : goal.returns-clause-formed
 returns-clause-formed c =
-    subst (λ o. IfSome o (AllByRecursion IsFormed)) (sym c.sent_of.ensures) (turns_formed c.args.epoch c.args.self c.in_ok-masters.masters c.in_ok-masters.outcome c.in_ok-masters.ensures.steps)
+    subst (λ o. IfSome o (AllByRecursion IsSent)) (sym c.sent_of.ensures) (turns_formed c.args.epoch c.args.self c.in_ok-masters.masters c.in_ok-masters.outcome c.in_ok-masters.ensures.steps)

@@ -1,0 +1,270 @@
+-- What is read of a line is an event that a line can give.
+use Rattle.std.proofs.Common.{◌≡◌, ℕ, zero, suc, ◌+◌, ◌<◌, ◌≤◌, ◌^◌, Bool, true, false, cond, nat_eq, nat_lt, ◌&&◌, List, [], ◌∷◌, length, drop, slice_index, codes, Option, Some, None, Result, Ok, Err, refl, ap, sym, ◌∙◌, subst, arith}
+use Rattle.std.proofs.lemmas.Bool.Decides.{nat_tests}
+use Rattle.std.proofs.lemmas.List.{length-drop}
+use Rattle.std.specs.List.{find, list_all, slice_split, onto_first, AllByRecursion}
+use Rattle.std.specs.Str.{bytes_eq}
+use Rattle.std.specs.Str.Parse.{digits_value}
+use Rattle.fuxi_terms.specs.Counts.{then_do}
+use Rattle.schedule_unit.specs.Numbers.{is_numeral, number_of}
+use Rattle.schedule_unit.specs.declared.asks.Ask.{Ask}
+use Rattle.schedule_text.specs.declared.event.Event.{Event}
+use Rattle.schedule_text.specs.declared.event.LineFault.{LineFault}
+use Rattle.schedule_text.specs.declared.event.LineFault.TheVariants.{BadNumber, Range}
+use Rattle.schedule_text.specs.declared.form.Head.{Head}
+use Rattle.schedule_text.specs.declared.form.Head.TheVariants.{Master, Stop, Agent, App, Submit, Finish, Ban, Unban, Begin, Preempt, Want, Near, Rack, Avoid, Back, TurnMaster, TurnAgent, TurnApp, ResyncMaster, ResyncAgent, ResyncApp, Deliver, DeliverRange, Dump, Show}
+use Rattle.schedule_text.specs.declared.form.Place.{Place}
+use Rattle.schedule_text.specs.declared.form.Place.TheVariants.{Count}
+use Rattle.schedule_text.specs.Words.{words_of}
+use Rattle.schedule_text.specs.Forms.{shape_of, heads, is_within}
+use Rattle.schedule_text.specs.Reading.{front, units_of, is_unit, has_count, is_head, head_of, number_at, numbers_at, counts_at, ask_of, asks_at, asks_of, event_at, event_behind, event_of_words, event_of}
+use Rattle.schedule_text.specs.Writing.{Saying, says, switch, saying_of, AreWithin, IsAsk, AreAsks, IsLineEvent}
+use Rattle.schedule_text.proofs.RoundTrip.{within_length}
+
+-- One thing after another was done: the first, and then the second
+done : {A B E : Type 0} (r : Result A E) (f : A → Result B E) (b : B) → then_do r f ≡ Ok b → (a : A) × (r ≡ Ok a) × (f a ≡ Ok b)
+done (Ok a) f b h = (a, refl, h)
+done (Err e) f b h = absurd cc
+
+ok_same : {A E : Type 0} (r : Result A E) (a b : A) → r ≡ Ok a → r ≡ Ok b → a ≡ b
+ok_same r a b h k = cc
+
+second_true : (a b : Bool) → (a && b) ≡ true → b ≡ true
+second_true true b e = e
+second_true false b e = cc
+
+first_true : (a b : Bool) → (a && b) ≡ true → a ≡ true
+first_true true b e = refl
+first_true false b e = cc
+
+-- Which line it is
+found_does : {A : Type 0} (p : A → Bool) (xs : List A) (x : A) → find p xs ≡ Some x → p x ≡ true
+found_does p [] x h = absurd cc
+found_does p (y ∷ ys) x h = tested (p y) refl h (found_does p ys x)
+  where
+    tested : (b : Bool) → p y ≡ b → cond b (Some y) (find p ys) ≡ Some x → (find p ys ≡ Some x → p x ≡ true) → p x ≡ true
+    tested true is h later = let same : y ≡ x = cc in subst (λ z. p z ≡ true) same is
+    tested false is h later = later h
+
+head_found : (o : Option Head) (fault : LineFault) (h : Head) → elim o as (λ _. Result Head LineFault) [ Some h ↦ Ok h | None ↦ Err fault ] ≡ Ok h → o ≡ Some h
+head_found (Some k) fault h is = cc
+head_found None fault h is = absurd cc
+
+head_counts : (words : List (List ℕ)) (h : Head) → head_of words ≡ Ok h → has_count (shape_of h) words ≡ true
+head_counts words h is =
+    second_true _ (has_count (shape_of h) words) (found_does (is_head words) heads h (head_found (find (is_head words) heads) _ h is))
+
+-- Numbers. Each fits 64 bits and is in the range of its place
+number_fits : (word : List ℕ) (n : ℕ) → number_of word ≡ Some n → n < 2 ^ 64
+number_fits word n is = tested (is_numeral word) (digits_value 10 word) is
+  where
+    fitting : (b : Bool) (v : ℕ) → nat_lt v (2 ^ 64) ≡ b → cond b (Some v) None ≡ Some n → n < 2 ^ 64
+    fitting true v lt is = let same : v ≡ n = cc in subst (λ k. k < 2 ^ 64) same (grind (arith, nat_tests, lt))
+    fitting false v lt is = absurd cc
+
+    tested : (a : Bool) (v : ℕ) → cond (a && nat_lt v (2 ^ 64)) (Some v) None ≡ Some n → n < 2 ^ 64
+    tested true v is = fitting (nat_lt v (2 ^ 64)) v refl is
+    tested false v is = absurd cc
+
+number_within : (p : Place) (place before : ℕ) (word : List ℕ) (n : ℕ) → number_at p place before word ≡ Ok n → (n < 2 ^ 64) × (is_within p before n ≡ true)
+number_within p place before word n is = read (number_of word) refl is
+  where
+    ranged : (m : ℕ) (b : Bool) → is_within p before m ≡ b → cond b (Ok m) (Err (Range place)) ≡ Ok n → (m ≡ n) × (is_within p before n ≡ true)
+    ranged m true in_range is = let same : m ≡ n = cc in (same, subst (λ k. is_within p before k ≡ true) same in_range)
+    ranged m false in_range is = absurd cc
+
+    read : (o : Option ℕ) → number_of word ≡ o → elim o as (λ _. Result ℕ LineFault) [ None ↦ Err (BadNumber place) | Some m ↦ cond (is_within p before m) (Ok m) (Err (Range place)) ] ≡ Ok n
+        → (n < 2 ^ 64) × (is_within p before n ≡ true)
+    read None number is = absurd cc
+    read (Some m) number is = let it = ranged m (is_within p before m) refl is in (number_fits word n (number ∙ ap (λ k. Some k) it.0), it.1)
+
+numbers_within : (ps : List Place) (place before : ℕ) (words : List (List ℕ)) (ns : List ℕ) → length ps ≤ length words → numbers_at ps place before words ≡ Ok ns → AreWithin before ps ns
+numbers_within [] place before words [] long is = record {}
+numbers_within [] place before words (n ∷ ns) long is = absurd cc
+numbers_within (p ∷ ps) place before [] ns long is = absurd (omega (arith, long))
+numbers_within (p ∷ ps) place before (w ∷ ws) ns long is =
+    let first = done (number_at p place before w) _ ns is in
+    let rest = done (numbers_at ps (place + 1) first.0 ws) (λ ms. Ok (first.0 ∷ ms)) ns first.2 in
+    let both : first.0 ∷ rest.0 ≡ ns = ok_same (Ok (first.0 ∷ rest.0)) _ _ refl rest.2 in
+    let one = number_within p place before w first.0 first.1 in
+    subst (AreWithin before (p ∷ ps)) both (one.0, one.1, numbers_within ps (place + 1) first.0 ws rest.0 (omega (arith, long)) rest.1)
+
+-- Units
+counts_fit : (place : ℕ) (words : List (List ℕ)) (ns : List ℕ) → counts_at place words ≡ Ok ns → (length ns ≡ length words) × AllByRecursion (λ n. n < 2 ^ 64) ns
+counts_fit place [] [] is = (refl, tt)
+counts_fit place [] (n ∷ ns) is = absurd cc
+counts_fit place (w ∷ ws) ns is =
+    let first = done (number_at Count place 0 w) _ ns is in
+    let rest = done (counts_at (place + 1) ws) (λ ms. Ok (first.0 ∷ ms)) ns first.2 in
+    let both : first.0 ∷ rest.0 ≡ ns = ok_same (Ok (first.0 ∷ rest.0)) _ _ refl rest.2 in
+    let more = counts_fit (place + 1) ws rest.0 rest.1 in
+    subst (λ ns. (length ns ≡ length (w ∷ ws)) × AllByRecursion (λ n. n < 2 ^ 64) ns) both
+    (ap (λ k. suc k) more.0, ((number_within Count place 0 w first.0 first.1).0, more.1))
+
+unit_size : (u : List (List ℕ)) → is_unit u ≡ true → (2 ≤ length u) × (length u ≤ 9)
+unit_size u h = (grind (arith, nat_tests, h), grind (arith, nat_tests, h))
+
+ask_made : (u : List (List ℕ)) (ns : List ℕ) → is_unit u ≡ true → length ns ≡ length u → AllByRecursion (λ n. n < 2 ^ 64) ns → IsAsk (ask_of ns)
+ask_made u [] sized same fit = let size = unit_size u sized in absurd (omega (arith, size.0, same))
+ask_made u (n ∷ ns) sized same fit =
+    let size = unit_size u sized in
+    let least = size.0 in
+    let most = size.1 in
+    record { priority = fit.0; some = omega (arith, least, same); few = omega (arith, most, same); quantities = fit.1 }
+
+asks_made : (place : ℕ) (us : List (List (List ℕ))) (asks : List Ask) → list_all is_unit us ≡ true → asks_at place us ≡ Ok asks → (length asks ≡ length us) × AllByRecursion IsAsk asks
+asks_made place [] [] sized is = (refl, tt)
+asks_made place [] (a ∷ as_) sized is = absurd cc
+asks_made place (u ∷ us) asks sized is =
+    let first = done (counts_at place u) _ asks is in
+    let rest = done (asks_at (place + length u + 1) us) (λ more. Ok (ask_of first.0 ∷ more)) asks first.2 in
+    let both : ask_of first.0 ∷ rest.0 ≡ asks = ok_same (Ok (ask_of first.0 ∷ rest.0)) _ _ refl rest.2 in
+    let counts = counts_fit place u first.0 first.1 in
+    let more = asks_made (place + length u + 1) us rest.0 (second_true (is_unit u) _ sized) rest.1 in
+    subst (λ as_. (length as_ ≡ length (u ∷ us)) × AllByRecursion IsAsk as_) both
+    (ap (λ k. suc k) more.0, (ask_made u first.0 (first_true (is_unit u) _ sized) counts.0 counts.1, more.1))
+
+-- What is split has a part, and the first one is no longer than the whole
+onto_some : {A : Type 0} (x : A) (parts : List (List A)) → 1 ≤ length (onto_first x parts)
+onto_some x [] = grind (arith)
+onto_some x (p ∷ ps) = grind (arith)
+
+split_some : {A : Type 0} (p : A → Bool) (xs : List A) → 1 ≤ length (slice_split p xs)
+split_some p [] = grind (arith)
+split_some p (x ∷ xs) =
+    elim (p x) as (λ b. 1 ≤ length (cond b ([] ∷ slice_split p xs) (onto_first x (slice_split p xs)))) [
+      | true ↦ grind (arith)
+      | false ↦ onto_some x (slice_split p xs)
+    ]
+
+-- so where each part is a unit, there are words
+units_some : (words : List (List ℕ)) → list_all is_unit (units_of words) ≡ true → 1 ≤ length words
+units_some [] h = absurd cc
+units_some (w ∷ ws) h = grind (arith)
+
+dropped : {A : Type 0} (n : ℕ) (xs : List A) → length (drop n xs) + n ≤ length xs + n
+dropped n xs = let e = length-drop n xs in omega (arith, e)
+
+-- A line has a word for each number
+long_enough : (h : Head) (words : List (List ℕ)) → has_count (shape_of h) words ≡ true → front (shape_of h) ≤ length words
+long_enough h words is = counted (shape_of h).units is
+  where
+    counted : (b : Bool) → elim b as (λ _. Bool) [ true ↦ list_all is_unit (units_of (drop (front (shape_of h)) words)) | false ↦ nat_eq (length words) (front (shape_of h)) ] ≡ true → front (shape_of h) ≤ length words
+    counted true is = let some = units_some (drop (front (shape_of h)) words) is in let e = length-drop (front (shape_of h)) words in omega (arith, some, e)
+    counted false is = grind (arith, nat_tests, is)
+
+asks_are : (h : Head) (words : List (List ℕ)) (asks : List Ask) → has_count (shape_of h) words ≡ true → asks_of (shape_of h) words ≡ Ok asks → AreAsks (shape_of h).units asks
+asks_are h words asks counted is = of (shape_of h).units counted is
+  where
+    of : (b : Bool) → elim b as (λ _. Bool) [ true ↦ list_all is_unit (units_of (drop (front (shape_of h)) words)) | false ↦ nat_eq (length words) (front (shape_of h)) ] ≡ true
+        → elim b as (λ _. Result (List Ask) LineFault) [ true ↦ asks_at (front (shape_of h)) (units_of (drop (front (shape_of h)) words)) | false ↦ Ok [] ] ≡ Ok asks → AreAsks b asks
+    of true sized is =
+        let made = asks_made (front (shape_of h)) (units_of (drop (front (shape_of h)) words)) asks sized is in
+        let some = split_some (λ w. bytes_eq w (codes "/")) (drop (front (shape_of h)) words) in
+        let same = made.0 in
+        (omega (arith, some, same), made.1)
+    of false sized is = cc
+
+-- What an event says is its line with these numbers and units
+one : (ns : List ℕ) → length ns ≡ 1 → slice_index ns 0 ∷ [] ≡ ns
+one [] e = absurd cc
+one (a ∷ []) e = refl
+one (a ∷ b ∷ ns) e = absurd (omega (arith, e))
+
+two : (ns : List ℕ) → length ns ≡ 2 → slice_index ns 0 ∷ slice_index ns 1 ∷ [] ≡ ns
+two [] e = absurd cc
+two (a ∷ []) e = absurd (omega (arith, e))
+two (a ∷ b ∷ []) e = refl
+two (a ∷ b ∷ c ∷ ns) e = absurd (omega (arith, e))
+
+three : (ns : List ℕ) → length ns ≡ 3 → slice_index ns 0 ∷ slice_index ns 1 ∷ slice_index ns 2 ∷ [] ≡ ns
+three [] e = absurd cc
+three (a ∷ []) e = absurd (omega (arith, e))
+three (a ∷ b ∷ []) e = absurd (omega (arith, e))
+three (a ∷ b ∷ c ∷ []) e = refl
+three (a ∷ b ∷ c ∷ d ∷ ns) e = absurd (omega (arith, e))
+
+four : (ns : List ℕ) → length ns ≡ 4 → slice_index ns 0 ∷ slice_index ns 1 ∷ slice_index ns 2 ∷ slice_index ns 3 ∷ [] ≡ ns
+four [] e = absurd cc
+four (a ∷ []) e = absurd (omega (arith, e))
+four (a ∷ b ∷ []) e = absurd (omega (arith, e))
+four (a ∷ b ∷ c ∷ []) e = absurd (omega (arith, e))
+four (a ∷ b ∷ c ∷ d ∷ []) e = refl
+four (a ∷ b ∷ c ∷ d ∷ f ∷ ns) e = absurd (omega (arith, e))
+
+abbrev saying : Head → List ℕ → List Ask → Saying
+saying h ns asks = record { head = h; numbers = ns; asks = asks }
+
+alone : (h : Head) (ms ns : List ℕ) (asks : List Ask) → ms ≡ ns → asks ≡ [] → says h ms ≡ saying h ns asks
+alone h ms ns asks same none = ap (λ l. saying h l []) same ∙ ap (saying h ns) (sym none)
+
+switched : (n : ℕ) → nat_lt n 2 ≡ true → switch (nat_eq n 1) ≡ n
+switched zero h = refl
+switched (suc zero) h = refl
+switched (suc (suc n)) h = absurd (grind (arith, nat_tests, h))
+
+said : (h : Head) (ns : List ℕ) (asks : List Ask) → AreWithin 0 (shape_of h).places ns → AreAsks (shape_of h).units asks → saying_of (event_at h ns asks) ≡ saying h ns asks
+said h ns asks w u = by h w u (within_length (shape_of h).places 0 ns w)
+  where
+    by : (h : Head) → AreWithin 0 (shape_of h).places ns → AreAsks (shape_of h).units asks → length ns ≡ length (shape_of h).places → saying_of (event_at h ns asks) ≡ saying h ns asks
+    by Master w u n = alone Master _ ns asks (one ns n) u
+    by Stop w u n = alone Stop _ ns asks (one ns n) u
+    by Agent w u n = alone Agent _ ns asks (two ns n) u
+    by App w u n = alone App _ ns asks (two ns n) u
+    by Submit w u n = ap (λ l. saying Submit l asks) (three ns n)
+    by Finish w u n = alone Finish _ ns asks (two ns n) u
+    by Ban w u n = alone Ban _ ns asks (two ns n) u
+    by Unban w u n = alone Unban _ ns asks (two ns n) u
+    by Begin w u n = alone Begin _ ns asks (one ns n) u
+    by Preempt w u n = alone Preempt _ ns asks (one ns n) u
+    by Want w u n = alone Want _ ns asks (three ns n) u
+    by Near w u n = alone Near _ ns asks (four ns n) u
+    by Rack w u n = alone Rack _ ns asks (four ns n) u
+    by Avoid w u n = alone Avoid _ ns asks (on ns w) u
+      where
+        on : (ns : List ℕ) → AreWithin 0 (shape_of Avoid).places ns → slice_index ns 0 ∷ slice_index ns 1 ∷ slice_index ns 2 ∷ switch (nat_eq (slice_index ns 3) 1) ∷ [] ≡ ns
+        on [] w = absurd w
+        on (a ∷ []) w = absurd w.2
+        on (a ∷ b ∷ []) w = absurd w.2.2
+        on (a ∷ b ∷ c ∷ []) w = absurd w.2.2.2
+        on (a ∷ b ∷ c ∷ d ∷ []) w = ap (λ n. a ∷ b ∷ c ∷ n ∷ []) (switched d w.2.2.2.1)
+        on (a ∷ b ∷ c ∷ d ∷ e ∷ ns) w = absurd w.2.2.2.2
+    by Back w u n = alone Back _ ns asks (four ns n) u
+    by TurnMaster w u n = alone TurnMaster _ ns asks (one ns n) u
+    by TurnAgent w u n = alone TurnAgent _ ns asks (one ns n) u
+    by TurnApp w u n = alone TurnApp _ ns asks (one ns n) u
+    by ResyncMaster w u n = alone ResyncMaster _ ns asks (one ns n) u
+    by ResyncAgent w u n = alone ResyncAgent _ ns asks (one ns n) u
+    by ResyncApp w u n = alone ResyncApp _ ns asks (one ns n) u
+    by Deliver w u n = alone Deliver _ ns asks (one ns n) u
+    by DeliverRange w u n = alone DeliverRange _ ns asks (two ns n) u
+    by Dump w u n = alone Dump _ ns asks (one ns n) u
+    by Show w u n = alone Show [] ns asks (none ns n) u
+      where
+        none : (ns : List ℕ) → length ns ≡ 0 → [] ≡ ns
+        none [] e = refl
+        none (a ∷ ns) e = absurd (omega (arith, e))
+
+given_behind : (h : Head) (words : List (List ℕ)) (e : Event) → has_count (shape_of h) words ≡ true → event_behind h words ≡ Ok e → IsLineEvent e
+given_behind h words e counted is =
+    let s = shape_of h in
+    let first = done (numbers_at s.places (length s.words) 0 (drop (length s.words) words)) _ e is in
+    let second = done (asks_of s words) (λ asks. Ok (event_at h first.0 asks)) e first.2 in
+    let long = long_enough h words counted in
+    let left = length-drop (length s.words) words in
+    let within = numbers_within s.places (length s.words) 0 (drop (length s.words) words) first.0 (omega (arith, long, left)) first.1 in
+    let asks = asks_are h words second.0 counted second.1 in
+    let same : event_at h first.0 second.0 ≡ e = ok_same (Ok (event_at h first.0 second.0)) _ _ refl second.2 in
+    subst IsLineEvent same (record {
+      numbers = subst (λ (s : Saying). AreWithin 0 (shape_of s.head).places s.numbers) (sym (said h first.0 second.0 within asks)) within;
+      asks = subst (λ (s : Saying). AreAsks (shape_of s.head).units s.asks) (sym (said h first.0 second.0 within asks)) asks;
+    })
+
+pub given : (line : List ℕ) (e : Event) → event_of line ≡ Ok e → IsLineEvent e
+given line e is = of (words_of line) is
+  where
+    of : (words : List (List ℕ)) → event_of_words words ≡ Ok e → IsLineEvent e
+    of [] is = absurd cc
+    of (w ∷ ws) is =
+        let head = done (head_of (w ∷ ws)) (λ h. event_behind h (w ∷ ws)) e is in
+        given_behind head.0 (w ∷ ws) e (head_counts (w ∷ ws) head.0 head.1) head.2
