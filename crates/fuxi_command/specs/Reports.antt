@@ -4,14 +4,17 @@ use Rattle.std.specs.Io.KnownBytes.{Appends}
 use Rattle.fuxi_io.specs.Causes.{Rose, TakesPart}
 use Rattle.fuxi_io.specs.Statuses.{word_of}
 use Rattle.fuxi_io.specs.declared.status.InputFault.{InputFault}
-use Rattle.fuxi_io.specs.declared.status.InputFault.TheVariants.{BadLine, LineTooLong, NoCluster, NotJson, WrongKind, UnknownKey, MissingKey, Count, LengthDiffers, QuantityRange, QuotaOverLimit}
+use Rattle.fuxi_io.specs.declared.status.InputFault.TheVariants.{UnknownWord, WrongCount, BadNumber, Range, LineTooLong, NoCluster, NotJson, WrongKind, UnknownKey, MissingKey, Count, LengthDiffers, QuantityRange, QuotaOverLimit}
 use Rattle.fuxi_io.specs.declared.status.LimitOf.{LimitOf}
-use Rattle.fuxi_io.specs.declared.status.LimitOf.TheVariants.{Lines}
+use Rattle.fuxi_io.specs.declared.status.LimitOf.TheVariants.{Lines, Packets, Bytes}
 use Rattle.fuxi_io.specs.declared.status.Status.{Status}
 use Rattle.fuxi_io.specs.declared.status.Status.TheVariants.{Done, Usage, BadInput, ReadFault, WriteFault, Limit, OutOfMemory}
 
 abbrev pub fault_name : InputFault → List ℕ
-fault_name BadLine = codes "BadLine"
+fault_name UnknownWord = codes "UnknownWord"
+fault_name WrongCount = codes "WrongCount"
+fault_name (BadNumber place) = codes "BadNumber"
+fault_name (Range place) = codes "Range"
 fault_name LineTooLong = codes "LineTooLong"
 fault_name NoCluster = codes "NoCluster"
 fault_name NotJson = codes "NotJson"
@@ -23,9 +26,12 @@ fault_name LengthDiffers = codes "LengthDiffers"
 fault_name QuantityRange = codes "QuantityRange"
 fault_name (QuotaOverLimit group) = codes "QuotaOverLimit"
 
--- the key's word or the group's number, behind a blank
+-- the word's place, the key's word or the group's number, behind a blank
 abbrev pub fault_value : InputFault → List ℕ
-fault_value BadLine = []
+fault_value UnknownWord = []
+fault_value WrongCount = []
+fault_value (BadNumber place) = codes " " ++ decimal place
+fault_value (Range place) = codes " " ++ decimal place
 fault_value LineTooLong = []
 fault_value NoCluster = []
 fault_value NotJson = []
@@ -39,6 +45,8 @@ fault_value (QuotaOverLimit group) = codes " " ++ decimal group
 
 abbrev pub limit_word : LimitOf → List ℕ
 limit_word Lines = codes "lines"
+limit_word Packets = codes "packets"
+limit_word Bytes = codes "bytes"
 
 abbrev pub report_line : Status → List ℕ
 report_line Done = []

@@ -26,7 +26,10 @@ fn fault_name(fault: &InputFault) -> &'static str
     ensures { result.now ≡ fault_name fault.now }
 {
     match fault {
-        InputFault::BadLine => "BadLine",
+        InputFault::UnknownWord => "UnknownWord",
+        InputFault::WrongCount => "WrongCount",
+        InputFault::BadNumber(_) => "BadNumber",
+        InputFault::Range(_) => "Range",
         InputFault::LineTooLong => "LineTooLong",
         InputFault::NoCluster => "NoCluster",
         InputFault::NotJson => "NotJson",
@@ -49,8 +52,19 @@ fn fault_value<'a>(fault: &InputFault, buffer: &'a mut Buffer) -> (&'static str,
             " ",
             key.word(),
         ),
+        InputFault::BadNumber(place) | InputFault::Range(place) => (" ", buffer.format(*place)),
         InputFault::QuotaOverLimit(group) => (" ", buffer.format(*group)),
         _ => ("", ""),
+    }
+}
+
+fn limit_word(what: &LimitOf) -> &'static str
+    ensures { result.now ≡ limit_word what.now }
+{
+    match what {
+        LimitOf::Lines => "lines",
+        LimitOf::Packets => "packets",
+        LimitOf::Bytes => "bytes",
     }
 }
 
@@ -83,9 +97,7 @@ pub fn report<E: Sink>(err: &mut E, status: &Status) -> Result<(), WriteFault>
         Status::ReadFault => write_all_of(err, b"read fault\n"),
         Status::WriteFault => write_all_of(err, b"write fault\n"),
         Status::Limit { what, kept } => {
-            let word = match what {
-                LimitOf::Lines => "lines",
-            };
+            let word = limit_word(what);
             let mut number = Buffer::new();
             write_pieces(
                 err,

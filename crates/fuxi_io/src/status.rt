@@ -25,6 +25,10 @@ pub enum Status {
 pub enum LimitOf {
     /// The lines of the input, at most 1,000,000.
     Lines,
+    /// The packets of a run, at most 1,000,000.
+    Packets,
+    /// The bytes of the frames of all packets of a run, at most 2^30.
+    Bytes,
 }
 
 /// A key of the line that describes the cluster; `Cluster` is the whole of it.
@@ -43,8 +47,14 @@ pub enum ClusterKey {
 /// Why a line of the input was refused.
 #[derive(Clone, Copy, Debug, Drop, PartialEq, Eq)]
 pub enum InputFault {
-    /// It is no line of the form that is read here.
-    BadLine,
+    /// Its first word, or the second of two that name the event, is none that is known.
+    UnknownWord,
+    /// It has more or fewer words than an event of its name has.
+    WrongCount,
+    /// The word at this place, of which the first is 0, is no number.
+    BadNumber(u64),
+    /// The number at this place is out of its range.
+    Range(u64),
     /// It has more than 65,536 bytes.
     LineTooLong,
     /// The input ended before the line that describes the cluster.

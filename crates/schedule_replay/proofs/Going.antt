@@ -12,7 +12,7 @@ use Rattle.fuxi_io.specs.Reading.{read_ahead}
 use Rattle.fuxi_io.specs.declared.lines.Got.TheVariants.{Line, End}
 use Rattle.fuxi_io.specs.declared.lines.LineStop.{LineStop}
 use Rattle.fuxi_io.specs.declared.lines.LineStop.TheVariants.{ReadFault as ReadStop, LineTooLong as LongStop, TooManyLines as ManyStop}
-use Rattle.fuxi_io.specs.declared.status.InputFault.TheVariants.{BadLine, LineTooLong}
+use Rattle.fuxi_io.specs.declared.status.InputFault.TheVariants.{UnknownWord, LineTooLong}
 use Rattle.fuxi_io.specs.declared.status.Status.{Status}
 use Rattle.fuxi_io.specs.declared.status.Status.TheVariants.{Done, Usage, BadInput, ReadFault, WriteFault, Limit, OutOfMemory}
 use Rattle.fuxi_terms.proofs.Appending.{appends_both, appends_none}
@@ -44,7 +44,7 @@ too_many before c line run many = let m : nat_lt before most_lines ≡ false = g
 
 -- what an event's line makes of a run, by whether it is skipped and by its event
 abbrev of_event : ℕ → Channel → List InputLine → Option Event → Run
-of_event before c lines None = ended c (AtBadLine (before + 1) BadLine)
+of_event before c lines None = ended c (AtBadLine (before + 1) UnknownWord)
 of_event before c lines (Some event) = behind (printed c event) (run_from (before + 1) (after c event) lines)
 
 abbrev of_line : ℕ → Channel → List InputLine → Option Event → Bool → Run
@@ -57,17 +57,17 @@ run_is before c line lines skipped event more short is_skip is_event =
     within before c line _ more short
     ∙ ap (λ b. elim b as (λ _. Run) [
       | true ↦ run_from (before + 1) c lines
-      | false ↦ elim (event_of (content line)) as (λ _. Run) [ None ↦ ended c (AtBadLine (before + 1) BadLine) | Some event ↦ behind (printed c event) (run_from (before + 1) (after c event) lines) ]
+      | false ↦ elim (event_of (content line)) as (λ _. Run) [ None ↦ ended c (AtBadLine (before + 1) UnknownWord) | Some event ↦ behind (printed c event) (run_from (before + 1) (after c event) lines) ]
     ]) is_skip
     ∙ by_skip skipped
   where
-    by_event : (o : Option Event) → (elim o as (λ _. Run) [ None ↦ ended c (AtBadLine (before + 1) BadLine) | Some event ↦ behind (printed c event) (run_from (before + 1) (after c event) lines) ]) ≡ of_event before c lines o
+    by_event : (o : Option Event) → (elim o as (λ _. Run) [ None ↦ ended c (AtBadLine (before + 1) UnknownWord) | Some event ↦ behind (printed c event) (run_from (before + 1) (after c event) lines) ]) ≡ of_event before c lines o
     by_event None = refl
     by_event (Some event) = refl
 
     by_skip : (b : Bool) → (elim b as (λ _. Run) [
       | true ↦ run_from (before + 1) c lines
-      | false ↦ elim (event_of (content line)) as (λ _. Run) [ None ↦ ended c (AtBadLine (before + 1) BadLine) | Some event ↦ behind (printed c event) (run_from (before + 1) (after c event) lines) ]
+      | false ↦ elim (event_of (content line)) as (λ _. Run) [ None ↦ ended c (AtBadLine (before + 1) UnknownWord) | Some event ↦ behind (printed c event) (run_from (before + 1) (after c event) lines) ]
     ]) ≡ of_line before c lines event b
     by_skip true = refl
     by_skip false = by_event (event_of (content line)) ∙ ap (of_event before c lines) is_event
@@ -289,7 +289,7 @@ module _ (bytes : List ℕ) (first number : ℕ) (ends : Bool) (replay : Replayi
       by_status (BadInput m fault) h =
           let n = next_line a.left line rest (prepend_known pending source) a.is_left gives in
           let same : run_from first new_channel (lines_of bytes) ≡ record { outputs = a.front; channel = a.channel; ending = AtBadLine m fault } =
-          known_end a.channel (AtBadLine m fault) (ap (run_from number a.channel) n.first.first ∙ run_is number a.channel line (lines_of n.behind) false None more n.first.short h.0 h.1 ∙ ap (λ k. ended a.channel (AtBadLine k BadLine)) (sym h.2) ∙ ap (λ f. ended a.channel (AtBadLine m f)) (sym h.3)) in
+          known_end a.channel (AtBadLine m fault) (ap (run_from number a.channel) n.first.first ∙ run_is number a.channel line (lines_of n.behind) false None more n.first.short h.0 h.1 ∙ ap (λ k. ended a.channel (AtBadLine k UnknownWord)) (sym h.2) ∙ ap (λ f. ended a.channel (AtBadLine m f)) (sym h.3)) in
           (ap (λ (r : Run). r.ending) same, subst (λ (r : Run). Appends w0 w' (concat r.outputs)) (sym same) (subst (λ t. Appends w0 t (concat a.front)) (sym h.4) a.writes))
       by_status WriteFault h =
           let t = h.1 in

@@ -10,7 +10,7 @@ use Rattle.fuxi_io.specs.declared.lines.LineStop.{LineStop}
 use Rattle.fuxi_io.specs.declared.lines.LineStop.TheVariants.{ReadFault as ReadStop, LineTooLong as LongStop, TooManyLines as ManyStop}
 use Rattle.fuxi_io.specs.declared.status.InputFault.{InputFault}
 use Rattle.fuxi_io.specs.declared.status.InputFault.TheVariants.{LineTooLong, NoCluster}
-use Rattle.fuxi_io.specs.declared.status.LimitOf.TheVariants.{Lines}
+use Rattle.fuxi_io.specs.declared.status.LimitOf.TheVariants.{Lines, Packets, Bytes}
 use Rattle.fuxi_io.specs.declared.status.Status.{Status}
 use Rattle.fuxi_io.specs.declared.status.Status.TheVariants.{Done, Usage, BadInput, ReadFault, WriteFault, Limit, OutOfMemory}
 use Rattle.fuxi_terms.specs.Cluster.{ClusterRecord}
@@ -202,6 +202,8 @@ module _ (bytes : List ℕ) (first number : ℕ) (ends : Bool) (rest : Option (L
   behind_ended Done source w0 w read e = (e.0, subst (λ (r : Run). r.ending ≡ AtEnd) (sym all) e.1, subst (λ (r : Run). Appends w0 w (concat (pieces r))) (sym all) e.2)
   behind_ended (BadInput line fault) source w0 w read e = subst (λ (r : Run). (r.ending ≡ AtBadLine line fault) × Appends w0 w (concat r.outputs)) (sym all) e
   behind_ended (Limit Lines kept) source w0 w read e = subst (λ (r : Run). (r.ending ≡ AtLimit) × (kept ≡ most_lines) × Appends w0 w (concat r.outputs)) (sym all) e
+  behind_ended (Limit Packets kept) source w0 w read e = absurd e
+  behind_ended (Limit Bytes kept) source w0 w read e = absurd e
   behind_ended Usage source w0 w read e = e
   behind_ended ReadFault source w0 w read e = by_end ends h.taken read
     where

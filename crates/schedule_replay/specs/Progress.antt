@@ -7,7 +7,7 @@ use Rattle.fuxi_io.specs.Lines.{InputLine, lines_of}
 use Rattle.fuxi_io.specs.Reading.{Reading, rest_of}
 use Rattle.fuxi_io.specs.declared.lines.LineStop.{LineStop}
 use Rattle.fuxi_io.specs.declared.lines.LineStop.TheVariants.{ReadFault as ReadStop, LineTooLong as LongStop, TooManyLines as ManyStop}
-use Rattle.fuxi_io.specs.declared.status.InputFault.TheVariants.{BadLine, LineTooLong, NotJson, WrongKind, UnknownKey, MissingKey, Count, LengthDiffers, QuantityRange, QuotaOverLimit}
+use Rattle.fuxi_io.specs.declared.status.InputFault.TheVariants.{UnknownWord, LineTooLong, NotJson, WrongKind, UnknownKey, MissingKey, Count, LengthDiffers, QuantityRange, QuotaOverLimit}
 use Rattle.fuxi_io.specs.declared.status.LimitOf.TheVariants.{Lines}
 use Rattle.fuxi_io.specs.declared.status.Status.{Status}
 use Rattle.fuxi_io.specs.declared.status.Status.TheVariants.{Done, Usage, BadInput, ReadFault, WriteFault, Limit, OutOfMemory}
@@ -43,7 +43,7 @@ after_line c line = elim (is_skipped line) [
 abbrev pub TakesLine : List ℕ → ℕ → Channel → Result (Unit {0}) Status → Option (List ℕ) → Option (List ℕ) → Type 0
 TakesLine line number c (Ok done) before after =
     ((is_skipped line ≡ true) × (after ≡ before)) ⊎ ((is_skipped line ≡ false) × ((output : List ℕ) × Prints line c output × Appends before after output))
-TakesLine line number c (Err (BadInput n fault)) before after = (is_skipped line ≡ false) × (event_of line ≡ None) × (n ≡ number) × (fault ≡ BadLine) × (after ≡ before)
+TakesLine line number c (Err (BadInput n fault)) before after = (is_skipped line ≡ false) × (event_of line ≡ None) × (n ≡ number) × (fault ≡ UnknownWord) × (after ≡ before)
 TakesLine line number c (Err WriteFault) before after = (is_skipped line ≡ false) × ((output : List ℕ) × Prints line c output × TakesPart before after output)
 TakesLine line number c (Err OutOfMemory) before after = (is_skipped line ≡ false) × ((output : List ℕ) × Prints line c output) × (after ≡ before)
 TakesLine line number c (Err Done) before after = ⊥

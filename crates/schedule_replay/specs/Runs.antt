@@ -10,8 +10,8 @@ use Rattle.cluster_desc.specs.declared.fault.ClusterFault.{ClusterFault}
 use Rattle.cluster_desc.specs.declared.fault.ClusterFault.TheVariants.{NotJson as ClusterNotJson, WrongKind as ClusterWrongKind, UnknownKey as ClusterUnknownKey, MissingKey as ClusterMissingKey, Count as ClusterCount, LengthDiffers as ClusterLengthDiffers, QuantityRange as ClusterQuantityRange, QuotaOverLimit as ClusterQuotaOverLimit, OutOfMemory as ClusterOutOfMemory}
 use Rattle.cluster_desc.specs.ClusterLine.{cluster_of}
 use Rattle.fuxi_io.specs.declared.status.InputFault.{InputFault}
-use Rattle.fuxi_io.specs.declared.status.InputFault.TheVariants.{BadLine, LineTooLong, NoCluster, NotJson, WrongKind, UnknownKey, MissingKey, Count, LengthDiffers, QuantityRange, QuotaOverLimit}
-use Rattle.fuxi_io.specs.declared.status.LimitOf.TheVariants.{Lines}
+use Rattle.fuxi_io.specs.declared.status.InputFault.TheVariants.{UnknownWord, LineTooLong, NoCluster, NotJson, WrongKind, UnknownKey, MissingKey, Count, LengthDiffers, QuantityRange, QuotaOverLimit}
+use Rattle.fuxi_io.specs.declared.status.LimitOf.TheVariants.{Lines, Packets, Bytes}
 use Rattle.fuxi_io.specs.declared.status.Status.{Status}
 use Rattle.fuxi_io.specs.declared.status.Status.TheVariants.{Done, Usage, BadInput, ReadFault, WriteFault, Limit, OutOfMemory}
 use Rattle.schedule_replay.specs.Grammar.{content, is_skipped, event_of}
@@ -61,7 +61,7 @@ run_from before c [] = ended c AtEnd
 run_from before c (line ∷ lines) = within_limits before c line (elim (is_skipped (content line)) [
   | true ↦ run_from (before + 1) c lines
   | false ↦ elim (event_of (content line)) [
-    | None ↦ ended c (AtBadLine (before + 1) BadLine)
+    | None ↦ ended c (AtBadLine (before + 1) UnknownWord)
     | Some event ↦ behind (printed c event) (run_from (before + 1) (after c event) lines)
   ]
 ])
@@ -128,6 +128,8 @@ abbrev pub Ended : (List InputLine → Run) → List ℕ → Status → Option (
 Ended run bytes Done left before after = (left ≡ Some []) × ((run (lines_of bytes)).ending ≡ AtEnd) × Appends before after (concat (pieces (run (lines_of bytes))))
 Ended run bytes (BadInput line fault) left before after = ((run (lines_of bytes)).ending ≡ AtBadLine line fault) × Appends before after (concat (run (lines_of bytes)).outputs)
 Ended run bytes (Limit Lines kept) left before after = ((run (lines_of bytes)).ending ≡ AtLimit) × (kept ≡ most_lines) × Appends before after (concat (run (lines_of bytes)).outputs)
+Ended run bytes (Limit Packets kept) left before after = ⊥
+Ended run bytes (Limit Bytes kept) left before after = ⊥
 Ended run bytes ReadFault left before after = ReadsWhole run bytes left before after
 Ended run bytes WriteFault left before after = StopsWithin run bytes left before after
 Ended run bytes OutOfMemory left before after = StopsWithin run bytes left before after

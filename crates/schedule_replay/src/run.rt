@@ -38,7 +38,7 @@ fn take_line<O: Sink>(
     let Some(event) = read_event(line) else {
         return Err(Status::BadInput {
             line: number,
-            fault: InputFault::BadLine,
+            fault: InputFault::UnknownWord,
         });
     };
     text.clear();
