@@ -1,0 +1,3 @@
+pub mod Shown
+pub mod Masters
+pub mod Parts

@@ -1,0 +1,89 @@
+//! The lines of the state.
+
+ghost use Rattle.std.specs.Prelude.{◌≡◌, length, OnOk, OnErr};
+ghost use Rattle.written_world.specs.World.{World};
+ghost use Rattle.written_world.specs.Good.{Good};
+ghost use Rattle.written_world.specs.Show.{show};
+ghost use Rattle.schedule_text.specs.Writing.{Begins};
+ghost use Rattle.running_agents.specs.Running.{AreAgentsOf};
+ghost use Rattle.running_apps.specs.Running.{AreAppsOf};
+ghost use Rattle.running_masters.specs.Running.{AreMastersOf};
+ghost use Rattle.running_state.specs.Masters.{AreKnownMasters};
+ghost use Rattle.written_order.specs.Orders.{IsInOrder};
+ghost use Rattle.running_state.specs.Parts.{show_parties};
+ghost use Rattle.running_state.specs.Shown.{IsKnown, IsRunningOf, Shows};
+
+use crate::agents::write_agents;
+use crate::apps::write_apps;
+use crate::hard::write_hard;
+use crate::lines::write_line;
+use crate::masters::write_masters;
+use cluster_desc::Cluster;
+use fuxi_terms::OutOfMemory;
+use fuxi_terms::limits::MOST_JOBS;
+use hard_state::Hard;
+use running_agents::Agents;
+use running_apps::{Apps, none_beyond};
+use running_masters::Masters;
+use schedule_text::Output;
+
+// The parties that run on so many machines.
+#[tactic(auto, using(crate::proofs::Showing::begins_then))]
+fn write_parties(
+    machines: u32,
+    masters: &Masters,
+    agents: &Agents,
+    apps: &Apps,
+    out: &mut Vec<u8>,
+) -> Result<(), OutOfMemory>
+    requires { AreKnownMasters masters.now }
+    ensures ok { OnOk result ((w : World) → Good w → IsInOrder w → machines ≡ length w.cluster.machines → AreMastersOf w masters.now → AreAgentsOf w agents.now → AreAppsOf w apps.now
+        → Shows (show_parties w) out.old.items out.new.items) }
+    ensures begins { Begins out.old.items out.new.items }
+{
+    none_beyond();
+    match write_masters(masters, out) {
+        Ok(()) => {}
+        Err(refusal) => return Err(refusal),
+    }
+    match write_agents(agents, machines, out) {
+        Ok(()) => {}
+        Err(refusal) => return Err(refusal),
+    }
+    match write_apps(apps, MOST_JOBS, out) {
+        Ok(()) => Ok(()),
+        Err(refusal) => Err(refusal),
+    }
+}
+
+/// Appends the lines of the state: how many events there were, the hard state, the masters, the agents and the applications that run,
+/// and how many packets were sent. A refusal may leave some of them behind what was there.
+#[tactic(auto, using(crate::proofs::Showing::begins_then))]
+pub fn write_state(
+    cluster: &Cluster,
+    hard: &Hard,
+    masters: &Masters,
+    agents: &Agents,
+    apps: &Apps,
+    events: u64,
+    packets: u64,
+    out: &mut Vec<u8>,
+) -> Result<(), OutOfMemory>
+    requires known { IsKnown (record { cluster = cluster.now; hard = hard.now.value; masters = masters.now; agents = agents.now; apps = apps.now }) }
+    ensures ok { OnOk result ((w : World) → IsRunningOf w (record { cluster = cluster.now; hard = hard.now.value; masters = masters.now; agents = agents.now; apps = apps.now })
+        → events ≡ w.events → packets ≡ length w.net.packets → Shows (show w) out.old.items out.new.items) }
+    ensures err { OnErr result (Begins out.old.items out.new.items) }
+{
+    match write_hard(hard, events, out) {
+        Ok(()) => {}
+        Err(refusal) => return Err(refusal),
+    }
+    match write_parties(cluster.machines(), masters, agents, apps, out) {
+        Ok(()) => {}
+        Err(refusal) => return Err(refusal),
+    }
+    match write_line(&Output::Packets(packets), out) {
+        Ok(()) => Ok(()),
+        Err(refusal) => Err(refusal),
+    }
+}

@@ -1,0 +1,16 @@
+//! In every world to which events lead the parties stand in the order of their numbers. Nothing else of the definitions rests on it: what
+//! is printed in that order does.
+#![tactic(auto)]
+
+ghost use Rattle.std.specs.Prelude.{◌≡◌, true};
+ghost use Rattle.fuxi_terms.specs.Cluster.{ClusterRecord};
+ghost use Rattle.written_world.specs.World.{World, empty_world};
+ghost use Rattle.written_world.specs.Events.{Event, world_step};
+ghost use Rattle.written_world.specs.Lines.{is_from_line};
+ghost use Rattle.written_order.specs.Orders.{IsInOrder};
+
+/// The parties of the empty world stand in order, and each event that a line can give keeps it so.
+pub fn worlds_in_order()
+    ensures start { (c : ClusterRecord) → IsInOrder (empty_world c) }
+    ensures kept { (w : World) (e : Event) → is_from_line e ≡ true → IsInOrder w → IsInOrder (world_step w e).world }
+{}
