@@ -6,6 +6,9 @@ use std::alloc::{AllocError, Global};
 const CLUSTER: &str =
     "{\"resources\":2,\"machines\":[{\"rack\":0,\"has\":[400,1000]}],\"groups\":[{\"quota\":[400,1000],\"limit\":[400,1000]}]}\n";
 
+// An application that knows its master.
+const KNOWN: &str = "$master 1|agent 0 1|submit 1 0 0 5 100 250|app 0 1|turn master 1|deliver 2|";
+
 // The most reads, writes or bytes of a case.
 const MOST: u64 = 1000;
 
@@ -69,12 +72,12 @@ pub fn run(alloc: Global, text: &str) -> Result<String, AllocError> {
     replayed(alloc, bytes_of(alloc, text)?, [0, 0, 0])
 }
 
-/// A schedule behind the line of the cluster and so many posts of the values from 1 up at the number 0.
-pub fn behind_posts(alloc: Global, rest: &str) -> Result<String, AllocError> {
+/// A schedule behind an application that knows its master, and so many wants of the numbers from 1 up.
+pub fn behind_wants(alloc: Global, rest: &str) -> Result<String, AllocError> {
     let (count, text) = rest.split_once(' ').unwrap_or((rest, ""));
-    let mut bytes = bytes_of(alloc, "$")?;
-    for value in 1..=count.parse::<u32>().unwrap_or(0).min(1000) {
-        bytes.extend_from_slice(format!(in alloc; "post 0 {value}\n")?.as_bytes())?;
+    let mut bytes = bytes_of(alloc, KNOWN)?;
+    for number in 1..=count.parse::<u32>().unwrap_or(0).min(1000) {
+        bytes.extend_from_slice(format!(in alloc; "want 0 0 {number}\n")?.as_bytes())?;
     }
     bytes.extend_from_slice(&bytes_of(alloc, text)?)?;
     replayed(alloc, bytes, [0, 0, 0])

@@ -16,7 +16,7 @@ fn answer(alloc: Global, line: &str) -> Result<String, AllocError> {
     let (kind, rest) = line.split_once(' ').unwrap_or((line, ""));
     match kind {
         "run" => cases::run(alloc, rest),
-        "posts" => cases::behind_posts(alloc, rest),
+        "wants" => cases::behind_wants(alloc, rest),
         "words" => cases::words(alloc, rest),
         "fails" => cases::failing(alloc, rest),
         "reads" => cases::each_read(alloc, rest),

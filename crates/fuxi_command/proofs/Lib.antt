@@ -1,2 +1,4 @@
 pub mod Writing
 pub mod Untouched
+pub mod Texts
+pub mod States

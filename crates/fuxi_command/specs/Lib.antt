@@ -1,3 +1,4 @@
 pub mod Words
 pub mod Reports
 pub mod Pieces
+pub mod States

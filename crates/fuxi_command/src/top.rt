@@ -1,16 +1,23 @@
-ghost use Rattle.std.specs.Prelude.{◌≡◌, ◌≢◌, ◌+◌, ◌≤◌, ◌⊎◌, ◌↔◌, ℕ, List, [], Option, Some, None, IfSome, true, false, map, string_bytes};
+ghost use Rattle.std.specs.Prelude.{◌≡◌, ◌≢◌, ◌+◌, ◌≤◌, ◌⊎◌, ◌↔◌, ℕ, List, [], Option, Some, None, IfSome, true, false, map, string_bytes, take};
 ghost use Rattle.std.specs.List.{concat};
 ghost use Rattle.std.specs.Io.KnownBytes.{Appends};
 ghost use Rattle.fuxi_io.specs.Causes.{Rose};
-ghost use Rattle.schedule_replay.specs.Runs.{run_of, read_from, pieces, AtEnd, AtBadLine, AtLimit, ReadsWhole, StopsWithin, Ended};
+ghost use Rattle.written_world.specs.Runs.{run};
+ghost use Rattle.written_world.specs.Safe.{AllFit, Views, AllAgree, AllSettled};
+ghost use Rattle.written_world.specs.Credits.{AllCreditedOnce};
+ghost use Rattle.schedule_run.specs.Inputs.{Input};
+ghost use Rattle.schedule_run.specs.Runs.{run_of, read_from, pieces, AtEnd, AtBadLine, AtLimit, ReadsWhole, StopsWithin, Ended};
+ghost use Rattle.schedule_run.specs.Told.{IsText, IsTextBefore, IsFrontText, Writes, LeadsTo};
+ghost use Rattle.fuxi_command.specs.States.{AllCountOnce};
 ghost use Rattle.fuxi_command.specs.Words.{is_command};
 ghost use Rattle.fuxi_command.specs.Reports.{report_line, TakesReport};
 ghost use Rattle.fuxi_terms.specs.Limits.{most_lines};
 
 use crate::telling::report;
 use fuxi_io::{InputFault, LimitOf, LineReader, Sink, Source, Status};
-use schedule_replay::run_first;
+use schedule_run::{run_schedule, runs_are_told};
 use std::alloc::Global;
+use written_world::{always_safe, give_backs_are_credited_once};
 
 fn is_command(words: &[String]) -> bool
     ensures { result ≡ is_command (map string_bytes words.now) }
@@ -33,13 +40,20 @@ fn run_command<S: Source, O: Sink>(
     ensures ended { result ≢ Status.Usage → IfSome (S.left input.old) (λ bytes. Ended (read_from 0) bytes result (S.left input.new) (O.took out.old) (O.took out.new)) }
     ensures read { result ≡ Status.ReadFault → Rose (S.faults input.old) (S.faults input.new) }
     ensures write { result ≡ Status.WriteFault → Rose (O.faults out.old) (O.faults out.new) }
-    ensures limit { (what : LimitOf) (kept : ℕ) → result ≡ Status.Limit what kept → kept ≡ most_lines }
+    ensures limit { (kept : ℕ) → result ≡ Status.Limit LimitOf.Lines kept → kept ≡ most_lines }
+    ensures text { result ≡ Status.Done → IfSome (S.left input.old) (λ bytes. Writes (IsText bytes) (O.took out.old) (O.took out.new)) }
+    ensures bad_text { (line : ℕ) (fault : InputFault) → result ≡ Status.BadInput line fault
+        → IfSome (S.left input.old) (λ bytes. Writes (IsTextBefore bytes line fault) (O.took out.old) (O.took out.new)) }
+    ensures limited_text { (what : LimitOf) (kept : ℕ) → result ≡ Status.Limit what kept
+        → IfSome (S.left input.old) (λ bytes. Writes (IsFrontText bytes) (O.took out.old) (O.took out.new)) }
 {
+    // The law of what a run tells, for the clauses on texts.
+    runs_are_told();
     if !is_command(words) {
         return Status::Usage;
     }
     match LineReader::new(alloc) {
-        Ok(mut lines) => run_first(alloc, &mut lines, input, out),
+        Ok(mut lines) => run_schedule(alloc, &mut lines, input, out),
         Err(_) => Status::OutOfMemory,
     }
 }
@@ -50,6 +64,7 @@ fn run_command<S: Source, O: Sink>(
 ///
 /// `replay` runs the lines of the input and writes the text of each event after it, and at the end of the
 /// input the state. What is said of the output holds of an input that tells its bytes.
+#[tactic(auto, using(crate::proofs::States::all_count_once))]
 pub fn fuxi<S: Source, O: Sink, E: Sink>(
     alloc: Global,
     words: &[String],
@@ -61,18 +76,43 @@ pub fn fuxi<S: Source, O: Sink, E: Sink>(
     ensures usage { result ≡ Status.Usage ↔ (is_command (map string_bytes words.now) ≡ false) }
     ensures unused { result ≡ Status.Usage → (out.new ≡ out.old) × (input.new ≡ input.old) }
 
-    // The input was read to its end, and its whole text was written.
+    // Done: the input is a cluster and events, and exactly their text was written, the lines of the events and then the state.
+    ensures text { result ≡ Status.Done → IfSome (S.left input.old) (λ bytes. Writes (IsText bytes) (O.took out.old) (O.took out.new)) }
+
+    // In every state of a run, behind each of its events: each agent's table fits its machine;
+    ensures capacity { IfSome (S.left input.old) (λ bytes. (i : Input) → LeadsTo bytes i → (n : ℕ) → AllFit (run i.cluster (take n i.events))) }
+
+    // what an application holds on a machine counts once, as part of one entry of what one master sent it, and together it fits the machine;
+    ensures once { IfSome (S.left input.old) (λ bytes. (i : Input) → LeadsTo bytes i → (n : ℕ) → AllCountOnce (run i.cluster (take n i.events))) }
+
+    // a receiver that has caught up with a sender has its present ledger;
+    ensures views { IfSome (S.left input.old) (λ bytes. (i : Input) → LeadsTo bytes i → (n : ℕ) → Views (run i.cluster (take n i.events)).net) }
+
+    // where a running master and its peers have nothing left to tell one another, all have the same numbers of each unit on each machine;
+    ensures agreement { IfSome (S.left input.old) (λ bytes. (i : Input) → LeadsTo bytes i → (n : ℕ) → AllAgree (run i.cluster (take n i.events))) }
+
+    // no allowed unit waits that fits;
+    ensures settled { IfSome (S.left input.old) (λ bytes. (i : Input) → LeadsTo bytes i → (n : ℕ) → AllSettled (run i.cluster (take n i.events))) }
+
+    // and over all masters and epochs what was given back is credited at most once.
+    ensures credited { IfSome (S.left input.old) (λ bytes. (i : Input) → LeadsTo bytes i → AllCreditedOnce i.cluster i.events) }
+
+    // The input was read to its end, and the outputs of all its lines and the state were written.
     ensures done { result ≡ Status.Done → IfSome (S.left input.old) (λ bytes. (S.left input.new ≡ Some [])
         × ((run_of bytes).ending ≡ AtEnd) × Appends (O.took out.old) (O.took out.new) (concat (pieces (run_of bytes)))) }
 
     // This line is the first bad one, with this fault, and the outputs of the events before it were written.
     ensures bad { (line : ℕ) (fault : InputFault) → result ≡ Status.BadInput line fault → IfSome (S.left input.old) (λ bytes.
         ((run_of bytes).ending ≡ AtBadLine line fault) × Appends (O.took out.old) (O.took out.new) (concat (run_of bytes).outputs)) }
+    ensures bad_text { (line : ℕ) (fault : InputFault) → result ≡ Status.BadInput line fault
+        → IfSome (S.left input.old) (λ bytes. Writes (IsTextBefore bytes line fault) (O.took out.old) (O.took out.new)) }
 
-    // A line begins after 1,000,000, and the outputs of all lines before it were written.
-    ensures limit { (what : LimitOf) (kept : ℕ) → result ≡ Status.Limit what kept → kept ≡ most_lines }
+    // A line begins after 1,000,000, or the event of the next line would pass a limit on packets, and the outputs of all lines before it were written.
+    ensures limit { (kept : ℕ) → result ≡ Status.Limit LimitOf.Lines kept → kept ≡ most_lines }
     ensures limited { (what : LimitOf) (kept : ℕ) → result ≡ Status.Limit what kept → IfSome (S.left input.old) (λ bytes.
-        ((run_of bytes).ending ≡ AtLimit) × Appends (O.took out.old) (O.took out.new) (concat (run_of bytes).outputs)) }
+        ((run_of bytes).ending ≡ AtLimit what kept) × Appends (O.took out.old) (O.took out.new) (concat (run_of bytes).outputs)) }
+    ensures limited_text { (what : LimitOf) (kept : ℕ) → result ≡ Status.Limit what kept
+        → IfSome (S.left input.old) (λ bytes. Writes (IsFrontText bytes) (O.took out.old) (O.took out.new)) }
 
     // The input failed in this call, and the outputs of all whole lines that it gave before were written.
     ensures read { result ≡ Status.ReadFault → Rose (S.faults input.old) (S.faults input.new) }
@@ -95,6 +135,9 @@ pub fn fuxi<S: Source, O: Sink, E: Sink>(
     ensures complete { is_command (map string_bytes words.now) ≡ true → (bytes : List ℕ) → S.left input.old ≡ Some bytes → (run_of bytes).ending ≡ AtEnd
         → (Rose (S.faults input.old) (S.faults input.new) → ⊥) → (Rose (O.faults out.old) (O.faults out.new) → ⊥) → (result ≡ Status.Done) ⊎ (result ≡ Status.OutOfMemory) }
 {
+    // The laws of the states of a run, for the clauses on them.
+    always_safe();
+    give_backs_are_credited_once();
     let status = run_command(alloc, words, input, out);
     let _told = report(err, &status);
     status

@@ -1,7 +1,6 @@
-pub mod Grammar
-pub mod Numbers
-pub mod Channel
+pub mod Events
 pub mod Texts
-pub mod Standing
-pub mod Runs
-pub mod Progress
+pub mod Worlds
+pub mod Steps
+pub mod Moves
+pub mod Commands

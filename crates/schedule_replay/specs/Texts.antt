@@ -1,57 +1,50 @@
--- What each event prints.
-use Rattle.std.specs.Prelude.{ℕ, ◌+◌, Bool, true, false, List, [], ◌∷◌, ◌++◌, length, Option, Some, None, codes, decimal}
+-- The text of printed lines, with the bytes of frames.
+use Rattle.std.specs.Prelude.{ℕ, Bool, cond, nat_eq, List}
 use Rattle.std.specs.List.{flat_map}
-use Rattle.fuxi_terms.specs.declared.Key.{Key}
-use Rattle.delta_channel.specs.Hearing.{verdict_at}
-use Rattle.delta_channel.specs.declared.receiver.Verdict.{Verdict}
-use Rattle.delta_channel.specs.declared.receiver.Verdict.TheVariants.{Take, Old, Gap, NotMine, Stale}
-use Rattle.schedule_replay.specs.declared.grammar.Event.{Event}
-use Rattle.schedule_replay.specs.declared.grammar.Event.TheVariants.{Post, Turn, Deliver, Show}
-use Rattle.schedule_replay.specs.Channel.{Channel, Mark, last, entry, turn_of, packet, after}
+use Rattle.delta_channel.specs.declared.receiver.Place.{Place}
+use Rattle.schedule_unit.specs.declared.party.Party.{Party}
+use Rattle.schedule_unit.specs.declared.party.Role.{Role}
+use Rattle.schedule_unit.specs.declared.party.Role.TheVariants as role
+use Rattle.party_ledgers.specs.declared.packets.Packet.{Packet}
+use Rattle.party_ledgers.specs.declared.packets.Kind.{Kind}
+use Rattle.party_ledgers.specs.declared.packets.Kind.TheVariants as kind
+use Rattle.party_ledgers.specs.declared.packets.Body.{Body}
+use Rattle.party_ledgers.specs.declared.packets.Body.TheVariants as body
+use Rattle.written_net.specs.Net.{Packet as WrittenPacket, Party as WrittenParty, Id, Kind as WrittenKind, Ack, Delta, Full}
+use Rattle.written_net.specs.Ledgers.{Body as WrittenBody, Empty, Rows, RowChanges, Report, Tally, TallyChange}
+use Rattle.written_net.specs.Channels.{is_master}
+use Rattle.written_world.specs.Outputs.{Line}
+use Rattle.wire_frames.specs.Frames.{frame}
+use Rattle.schedule_text.specs.Lines.{line_text}
 
--- a line of a word and a number
-abbrev pub number_line : List ℕ → ℕ → List ℕ
-number_line word n = word ++ decimal n ++ 10 ∷ []
+-- A packet of the world, with what it holds, as one of the program
+abbrev pub role_as : ℕ → Role
+role_as n = cond (nat_eq n 1) role.Master (cond (nat_eq n 2) role.Agent role.App)
 
--- a line of a word and two numbers, with a word between them
-abbrev pub pair_line : List ℕ → ℕ → List ℕ → ℕ → List ℕ
-pair_line word m between n = word ++ decimal m ++ between ++ decimal n ++ 10 ∷ []
+abbrev pub party_as : WrittenParty → Party
+party_as p = record { role = role_as p.id.role; number = p.id.number; inc = p.inc }
 
-abbrev pub kind_word : Bool → List ℕ
-kind_word true = codes " full "
-kind_word false = codes " delta "
+abbrev pub kind_as : WrittenKind → Kind
+kind_as Ack = kind.Ack
+kind_as Delta = kind.Delta
+kind_as Full = kind.Full
 
-abbrev pub sent_line : ℕ → Mark → List ℕ
-sent_line number m = pair_line (codes "sent ") number (kind_word m.full) m.index
+-- a tally of a master is one of grants, any other one of a demand
+abbrev pub body_as : Id → WrittenBody → Body
+body_as from Empty = body.Nothing
+body_as from (Rows rows) = body.Row rows
+body_as from (RowChanges changes) = body.RowDelta changes
+body_as from (Report epoch rows) = body.Join (record { epoch = epoch; table = rows })
+body_as from (Tally head entries) = cond (is_master from) (body.Grants (record { head = head; entries = entries })) (body.Demand (record { head = head; entries = entries }))
+body_as from (TallyChange change) = cond (is_master from) (body.GrantsDelta change) (body.DemandDelta change)
 
--- the lines of packets whose numbers follow on this one
-abbrev pub sent_lines : ℕ → List Mark → List ℕ
-sent_lines before [] = []
-sent_lines before (m ∷ ms) = sent_line (before + 1) m ++ sent_lines (before + 1) ms
+abbrev pub packet_as : WrittenPacket → WrittenBody → Packet
+packet_as x b = record { from = party_as x.from; to = party_as x.to; kind = kind_as x.kind; place = record { inc = x.inc; seq = x.seq }; body = body_as x.from.id b }
 
-abbrev pub verdict_word : Verdict → List ℕ
-verdict_word Take = codes " taken\n"
-verdict_word Old = codes " old\n"
-verdict_word Gap = codes " gap\n"
-verdict_word NotMine = codes " not-mine\n"
-verdict_word Stale = codes " stale\n"
+-- the bytes of its frame
+abbrev pub frame_of : WrittenPacket → WrittenBody → List ℕ
+frame_of x b = frame (packet_as x b)
 
-abbrev pub heard_line : Channel → ℕ → Option Mark → List ℕ
-heard_line c number None = number_line (codes "refused NoPacket ") (length c.packets)
-heard_line c number (Some m) = codes "heard " ++ decimal number ++ verdict_word (verdict_at m.full c.place m.index)
-
-abbrev pub entry_line : Key × ℕ → List ℕ
-entry_line e = pair_line (codes "entry ") e.0.number (codes " ") e.1
-
--- the state: the number of events, the last index, the receiver's place with the entries of the history there, and the number of packets
-abbrev pub state_text : Channel → List ℕ
-state_text c =
-    number_line (codes "state ") c.events ++ number_line (codes "sender ") (last c) ++ number_line (codes "place ") c.place
-    ++ flat_map entry_line (entry c c.place).entries ++ number_line (codes "packets ") (length c.packets)
-
--- what an event prints at a channel
-abbrev pub printed : Channel → Event → List ℕ
-printed c (Post number value) = []
-printed c Turn = sent_lines (length c.packets) (turn_of c)
-printed c (Deliver number) = heard_line c number (packet c number)
-printed c Show = state_text (after c Show)
+-- all lines, each with its newline
+abbrev pub lines_text : List Line → List ℕ
+lines_text lines = flat_map (line_text frame_of) lines

@@ -1,13 +1,21 @@
-//! The run of a schedule of events over one channel, from the lines of an input to the text that it prints.
+//! A run of the whole scheduler: what runs at once, and what each event of a schedule does to it and prints.
 #![tactic(auto)]
 
-mod grammar;
-mod numbers;
-mod replay;
-mod run;
-mod texts;
+mod acts;
+mod agents;
+mod apps;
+mod commands;
+mod deliveries;
+mod laws;
+mod lines;
+mod masters;
+mod running;
+mod showing;
+mod stop;
+mod text;
+mod turns;
+mod world;
 
-pub use grammar::Event;
-pub use numbers::Numbers;
-pub use replay::{Packet, Replay};
-pub use run::run_first;
+pub use lines::Lines;
+pub use stop::WorldStop;
+pub use world::World;

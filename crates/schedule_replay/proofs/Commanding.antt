@@ -1,0 +1,229 @@
+-- The commands of masters in each world that the hard state and the masters are of.
+use Rattle.std.proofs.Common.{◌≡◌, ℕ, ◌<◌, true, false, not, nat_lt, List, [], ◌∷◌, length, Option, Some, None, is_some, Result, Ok, Err, refl, sym, ◌∙◌, ap, subst, arith}
+use Rattle.std.specs.Prelude.{◌≢◌}
+use Rattle.std.specs.Ordering.{nat_cmp}
+use Rattle.std.specs.FinMap.Entries.{find}
+use Rattle.std.proofs.lemmas.Bool.Decides.{nat_tests}
+use Rattle.fuxi_terms.specs.Cluster.{ClusterRecord, JobRecord, has_group, has_machine}
+use Rattle.fuxi_terms.specs.Counts.{then_do}
+use Rattle.fuxi_terms.specs.Jobs.{eight_places, is_known}
+use Rattle.fuxi_terms.specs.Limits.{most_masters}
+use Rattle.schedule_unit.specs.declared.asks.Ask.{Ask}
+use Rattle.schedule_unit.specs.declared.job.JobFault.{JobFault}
+use Rattle.schedule_unit.specs.declared.job.JobFault.TheVariants as job
+use Rattle.schedule_unit.specs.declared.party.AppNo.{AppNo}
+use Rattle.schedule_unit.specs.JobFaults.{IsFault, IsMade, job_fault}
+use Rattle.written_roles.specs.Refusals.{Refusal as WrittenRefusal, NoMachine, NotRunning, with_found}
+use Rattle.written_roles.specs.HardState.{HardState, HardEvent, Raise, Submission, Finishing, Banning, Unbanning, hard_step}
+use Rattle.written_roles.specs.Masters.{Master}
+use Rattle.written_roles.specs.MasterSteps.{master_party, peers, Changed, Commanded, MasterCommand, Submits, BansMachine, UnbansMachine, StartsServing, MakesRoom, Admits, change_of, command_of, writes}
+use Rattle.written_roles.specs.MasterRoles.{MasterTold, Told}
+use Rattle.written_world.specs.World.{World, Step, refused}
+use Rattle.written_world.specs.Events.{commanded, resynced, resync_master, start_master}
+use Rattle.hard_state.specs.HardFiles.{Refuses}
+use Rattle.hard_state.specs.declared.fault.HardFault.{HardFault}
+use Rattle.hard_state.specs.declared.fault.HardFault.TheVariants as hard
+use Rattle.memory_checkpoint.specs.Held.{Held, IsOpen}
+use Rattle.fuxi_master.specs.Steps.{refusal_of, told_by}
+use Rattle.fuxi_master.specs.declared.event.MasterEvent.{MasterEvent}
+use Rattle.fuxi_master.specs.declared.event.MasterEvent.TheVariants.{Admit, Finish}
+use Rattle.fuxi_master.specs.declared.event.MasterRefusal.{MasterRefusal}
+use Rattle.fuxi_master.specs.declared.event.MasterRefusal.TheVariants as master
+use Rattle.core_join.specs.Masters.{IsWritten, change_in}
+use Rattle.running_masters.specs.Running.{MastersRecord, AreWithin, Fits}
+use Rattle.running_masters.specs.Calls.{CommandsIn, CommandsInWorld, ResyncsInWorld, StartsInWorld}
+use Rattle.schedule_text.specs.declared.refusal.Refusal.{Refusal}
+use Rattle.schedule_text.specs.declared.refusal.Refusal.TheVariants as why
+use Rattle.schedule_text.specs.Printing.{as_refusal}
+use Rattle.schedule_replay.specs.Events.{job_named}
+use Rattle.schedule_replay.specs.Commands.{AreGoverned, Governing, GovernsIn, IsGoverned, IsGoverning, IsRefused, GovernsMasters, TakesStep, TellsIn, TellsInWorld, governing, hard_refusal, job_refusal, master_refusal, refusal_in}
+use Rattle.schedule_replay.proofs.JobTests.{asked, fault_refused, job_alike, job_same}
+use Rattle.schedule_replay.proofs.CommandSteps.{fails, finish_known, group_known, machine_known, not_both, not_none, passes, some_is, start_done, submit_tests_of, submit_unknown, told_is, told_step, writes_done, writes_refused}
+
+-- The refusal that a fault of the hard state is
+hard_refused : (step : Result HardState WrittenRefusal) (f : HardFault) (r : Refusal) → hard_refusal f ≡ Some r → Refuses step f → step ≡ Err (as_refusal r)
+hard_refused step (hard.Stale fence) r is says = says ∙ ap (λ r. Err (as_refusal r)) (some_is (why.NotRising fence) r is)
+hard_refused step (hard.Fenced fence) r is says = says ∙ ap (λ r. Err (as_refusal r)) (some_is (why.Fenced fence) r is)
+hard_refused step hard.Known r is says = says ∙ ap (λ r. Err (as_refusal r)) (some_is why.Known r is)
+hard_refused step hard.NoJob r is says = says ∙ ap (λ r. Err (as_refusal r)) (some_is why.NoJob r is)
+hard_refused step hard.Ended r is says = says ∙ ap (λ r. Err (as_refusal r)) (some_is why.Ended r is)
+hard_refused step hard.AlreadyBanned r is says = says ∙ ap (λ r. Err (as_refusal r)) (some_is why.AlreadyBanned r is)
+hard_refused step hard.NotBanned r is says = says ∙ ap (λ r. Err (as_refusal r)) (some_is why.NotBanned r is)
+hard_refused step hard.Full r is says = says ∙ ap (λ r. Err (as_refusal r)) (some_is (why.HardFull 65536) r is)
+hard_refused step (hard.NotCheckpoint offset) r is says = absurd (not_none r is)
+hard_refused step hard.DiskFault r is says = absurd (not_none r is)
+hard_refused step hard.OutOfMemory r is says = absurd (not_none r is)
+
+not_memory : (f : HardFault) (r : Refusal) → hard_refusal f ≡ Some r → f ≢ hard.OutOfMemory
+not_memory f r is same = not_none r (sym (ap hard_refusal same) ∙ is)
+
+-- that a fault of a job is
+job_refused : (f : JobFault) (r : Refusal) → job_refusal f ≡ Some r → asked (Some f) ≡ Some (as_refusal r)
+job_refused job.NoUnits r is = ap (λ r. Some (as_refusal r)) (some_is why.NoUnits r is)
+job_refused job.TooManyUnits r is = ap (λ r. Some (as_refusal r)) (some_is why.TooManyUnits r is)
+job_refused (job.Dimensions unit) r is = ap (λ r. Some (as_refusal r)) (some_is (why.Dimensions unit) r is)
+job_refused (job.PriorityRange unit) r is = ap (λ r. Some (as_refusal r)) (some_is (why.PriorityRange unit) r is)
+job_refused (job.QuantityRange unit) r is = ap (λ r. Some (as_refusal r)) (some_is (why.QuantityRange unit) r is)
+job_refused (job.ZeroSize unit) r is = ap (λ r. Some (as_refusal r)) (some_is (why.ZeroSize unit) r is)
+job_refused job.OutOfMemory r is = absurd (not_none r is)
+
+-- and what a master's answer says
+master_refused : (r : MasterRefusal) → refusal_of r ≡ as_refusal (master_refusal r)
+master_refused master.AlreadyServing = refl
+master_refused master.NotServing = refl
+master_refused master.NothingToPreempt = refl
+
+tells_in : (w : World) (e : ℕ) (x : MasterCommand) (new : MastersRecord) (answer : Option (Result (Unit {0}) MasterRefusal)) → CommandsIn w e x new answer → TellsIn w e x new (refusal_in answer)
+tells_in w e x new None h = record { stand = h.stand; same = h.same }
+tells_in w e x new (Some (Ok done)) h = h
+tells_in w e x new (Some (Err refusal)) h = record { stand = h.stand; same = subst (λ f. commanded w e x ≡ refused w f) (master_refused refusal) h.same }
+
+pub tells : (e : ℕ) (event : MasterEvent) (old new : MastersRecord) (answer : Option (Result (Unit {0}) MasterRefusal)) → CommandsInWorld e event old new answer → TellsInWorld e event old new (refusal_in answer)
+tells e event old new answer h w x good s told = tells_in w e x new answer (h w x good s told)
+
+-- The master that runs
+pub record RunsIn (w : World) (e : ℕ) : Type 0 where
+  pub master : Master
+  pub is : find nat_cmp e w.masters ≡ Some master
+
+pub runs_in : (w : World) (e : ℕ) → is_some (find nat_cmp e w.masters) ≡ true → RunsIn w e
+runs_in w e some = by (find nat_cmp e w.masters) refl some
+  where
+    by : (o : Option Master) → find nat_cmp e w.masters ≡ o → is_some o ≡ true → RunsIn w e
+    by None is some = cc
+    by (Some M) is some = record { master = M; is = is }
+
+-- a command whose first tests find a refusal
+pub tests_refuse : (w : World) (e : ℕ) (x : MasterCommand) (g : Governing) (M : Master) (r : Refusal) → IsGoverning w g → find nat_cmp e w.masters ≡ Some M → command_of w.cluster w.hard M x ≡ Err (as_refusal r) → IsRefused w (commanded w e x) g r
+tests_refuse w e x g M r s runs is = record { same = s; is = told_is w e x M runs ∙ ap (told_step w) is }
+
+-- The hard state that is written is that of the world, and the epoch that of the master
+written_in : (w : World) (e : ℕ) (v : HardEvent) (old : Held) (ms : MastersRecord) (M : Master) → IsGoverning w (governing old ms) → find nat_cmp e w.masters ≡ Some M → hard_step w.hard M.epoch v ≡ hard_step old.hard.value e v
+written_in w e v old ms M s runs =
+    let own = (s.good.recorded.masters e M runs).0 in
+    let same = s.hard in
+    ap (λ n. hard_step w.hard n v) own ∙ ap (λ h. hard_step h e v) (sym same)
+
+-- The writing is refused
+pub writing_refused : (w : World) (e : ℕ) (x : MasterCommand) (v : HardEvent) (old new : Held) (ms : MastersRecord) (M : Master) (f : HardFault) (r : Refusal) → IsGoverning w (governing old ms) → find nat_cmp e w.masters ≡ Some M
+    → command_of w.cluster w.hard M x ≡ writes w.cluster w.hard M v (change_in x) → hard_refusal f ≡ Some r → Refuses (hard_step old.hard.value e v) f → (f ≢ hard.OutOfMemory → new ≡ old) → IsRefused w (commanded w e x) (governing new ms) r
+writing_refused w e x v old new ms M f r s runs is fault says unchanged =
+    let step : hard_step w.hard M.epoch v ≡ Err (as_refusal r) = written_in w e v old ms M s runs ∙ hard_refused (hard_step old.hard.value e v) f r fault says in
+    tests_refuse w e x (governing new ms) M r (subst (λ y. IsGoverning w (governing y ms)) (sym (unchanged (not_memory f r fault))) s) runs
+    (is ∙ writes_refused w.cluster w.hard M v (change_in x) (as_refusal r) step)
+
+-- It is done, and the master, which does not refuse what was written, is told
+pub written_done : (w : World) (e : ℕ) (x : MasterCommand) (v : HardEvent) (old new : Held) (ms after : MastersRecord) (M : Master) (d : Changed) → IsGoverning w (governing old ms) → find nat_cmp e w.masters ≡ Some M
+    → command_of w.cluster w.hard M x ≡ writes w.cluster w.hard M v (change_in x) → IsOpen new → hard_step old.hard.value e v ≡ Ok new.hard.value → change_of w.cluster M (change_in x) ≡ Ok d → (answer : Option Refusal) → TellsIn w e x after answer
+    → GovernsIn w e (commanded w e x) (governing new after) answer
+written_done w e x v old new ms after M d s runs is rests done changes None tells =
+    let step : hard_step w.hard M.epoch v ≡ Ok new.hard.value = written_in w e v old ms M s runs ∙ done in
+    let h = tells M new.hard.value runs (λ d to. is ∙ writes_done w.cluster w.hard M v (change_in x) new.hard.value d step to) in
+    record { hard = sym h.hard; rests = rests; stand = h.world.stand; acts = h.world.acts; rest = h.world.rest; quiet = h.quiet }
+written_done w e x v old new ms after M d s runs is rests done changes (Some r) tells =
+    let step : hard_step w.hard M.epoch v ≡ Ok new.hard.value = written_in w e v old ms M s runs ∙ done in
+    let k : Commanded = record { hard = new.hard.value; change = d } in
+    absurd (not_both w e x k (as_refusal r) (told_is w e x M runs ∙ ap (told_step w) (is ∙ writes_done w.cluster w.hard M v (change_in x) new.hard.value d step changes)) tells.same)
+
+-- A command for which nothing is written
+pub told_alone : (w : World) (e : ℕ) (x : MasterCommand) (checkpoint : Held) (ms after : MastersRecord) (M : Master) → IsGoverning w (governing checkpoint ms) → find nat_cmp e w.masters ≡ Some M → IsWritten w M x w.hard
+    → (answer : Option Refusal) → TellsIn w e x after answer → GovernsIn w e (commanded w e x) (governing checkpoint after) answer
+told_alone w e x checkpoint ms after M s runs written None tells =
+    let h = tells M w.hard runs written in
+    record { hard = s.hard ∙ sym h.hard; rests = s.rests; stand = h.world.stand; acts = h.world.acts; rest = h.world.rest; quiet = h.quiet }
+told_alone w e x checkpoint ms after M s runs written (Some r) tells =
+    record { same = record { good = s.good; hard = s.hard; rests = s.rests; stand = tells.stand }; is = tells.same }
+
+pub begins_written : (w : World) (M : Master) → IsWritten w M StartsServing w.hard
+begins_written w M d is = ap (λ y. then_do y (λ (d : Changed). Ok (record { hard = w.hard; change = d }))) is
+
+pub preempts_written : (w : World) (M : Master) → IsWritten w M MakesRoom w.hard
+preempts_written w M d is = ap (λ y. then_do y (λ (d : Changed). Ok (record { hard = w.hard; change = d }))) is
+
+-- The tests before the writing. A machine, and a group, that a cluster has
+pub machine_there : (c c' : ClusterRecord) (m n : ℕ) → c ≡ c' → n ≡ length c.machines → m < n → has_machine c' m ≡ true
+machine_there c c' m n same is below = subst (λ (y : ClusterRecord). has_machine y m ≡ true) same (grind (arith, nat_tests, is, below))
+
+pub group_there : (c c' : ClusterRecord) (g n : ℕ) → c ≡ c' → n ≡ length c.groups → g < n → has_group c' g ≡ true
+group_there c c' g n same is below = subst (λ (y : ClusterRecord). has_group y g ≡ true) same (grind (arith, nat_tests, is, below))
+
+pub ban_written : (w : World) (M : Master) (m : ℕ) → has_machine w.cluster m ≡ true → command_of w.cluster w.hard M (BansMachine m) ≡ writes w.cluster w.hard M (Banning m) (change_in (BansMachine m))
+ban_written w M m there = passes ((not (has_machine w.cluster m), NoMachine) ∷ []) (writes w.cluster w.hard M (Banning m) (change_in (BansMachine m))) (machine_known w.cluster m there)
+
+pub unban_written : (w : World) (M : Master) (m : ℕ) → has_machine w.cluster m ≡ true → command_of w.cluster w.hard M (UnbansMachine m) ≡ writes w.cluster w.hard M (Unbanning m) (change_in (UnbansMachine m))
+unban_written w M m there = passes ((not (has_machine w.cluster m), NoMachine) ∷ []) (writes w.cluster w.hard M (Unbanning m) (change_in (UnbansMachine m))) (machine_known w.cluster m there)
+
+-- a group, and what is asked for a job
+abbrev submit_writes : World → Master → JobRecord → Result Commanded WrittenRefusal
+submit_writes w M j = writes w.cluster w.hard M (Submission (eight_places j)) (Admits (eight_places j))
+
+pub submit_faulty : (w : World) (M : Master) (app group resources : ℕ) (asks : List Ask) (f : JobFault) (r : Refusal) → resources ≡ w.cluster.resources → has_group w.cluster group ≡ true → job_refusal f ≡ Some r
+    → IsFault (job_fault resources asks) f → command_of w.cluster w.hard M (Submits (job_named app group asks)) ≡ Err (as_refusal r)
+submit_faulty w M app group resources asks f r same there is fault =
+    let j = job_named app group asks in
+    let fault_there = subst (λ n. IsFault (job_fault n asks) f) same fault in
+    fails (submit_tests_of w.cluster j) (submit_writes w M j) (as_refusal r) (group_known w.cluster j there ∙ fault_refused w.cluster.resources app group asks f (as_refusal r) (job_refused f r is) fault_there)
+
+pub submit_written : (w : World) (M : Master) (app group resources : ℕ) (asks : List Ask) (made : JobRecord) → resources ≡ w.cluster.resources → has_group w.cluster group ≡ true → IsMade app group resources asks (Ok made)
+    → command_of w.cluster w.hard M (Submits (job_named app group asks)) ≡ writes w.cluster w.hard M (Submission made) (change_in (Submits (job_named app group asks)))
+submit_written w M app group resources asks made same there is =
+    let j = job_named app group asks in
+    let none = job_alike w.cluster.resources app group asks ∙ ap asked (subst (λ n. job_fault n asks ≡ None) same is.0) in
+    let kept : eight_places j ≡ made = sym (is.1 ∙ job_same app group asks) in
+    passes (submit_tests_of w.cluster j) (submit_writes w M j) (group_known w.cluster j there ∙ none) ∙ ap (λ y. writes w.cluster w.hard M (Submission y) (Admits (eight_places j))) kept
+
+pub submit_told : (app group resources : ℕ) (asks : List Ask) (made : JobRecord) → IsMade app group resources asks (Ok made) → told_by (Admit made) ≡ Told (change_in (Submits (job_named app group asks)))
+submit_told app group resources asks made is = ap {B = MasterTold} (λ y. Told (Admits y)) (is.1 ∙ job_same app group asks)
+
+-- What may be told once it is written
+pub finish_fits : (checkpoint : Held) (ms : MastersRecord) (e : ℕ) (app : AppNo) (k : HardState) → AreGoverned (governing checkpoint ms) → hard_step checkpoint.hard.value e (Finishing app.0) ≡ Ok k → Fits e (Finish app) ms
+finish_fits checkpoint ms e app k g done m runs =
+    let r = g.of.stand.each e m runs in
+    let jobs = r.stands.stands.jobs in
+    ap (λ jobs. is_known jobs app.0) (sym jobs) ∙ finish_known g.world e app.0 k r.master g.of.good r.runs (subst (λ h. hard_step h e (Finishing app.0) ≡ Ok k) g.of.hard done)
+
+pub admit_fits : (checkpoint : Held) (ms : MastersRecord) (e : ℕ) (j : JobRecord) (k : HardState) → AreGoverned (governing checkpoint ms) → hard_step checkpoint.hard.value e (Submission j) ≡ Ok k → Fits e (Admit j) ms
+admit_fits checkpoint ms e j k g done m runs =
+    let r = g.of.stand.each e m runs in
+    let jobs = r.stands.stands.jobs in
+    ap (λ jobs. is_known jobs j.number) (sym jobs) ∙ submit_unknown g.world e j k r.master g.of.good r.runs (subst (λ h. hard_step h e (Submission j) ≡ Ok k) g.of.hard done)
+
+-- Starts
+pub rises : (w : World) (e fence : ℕ) (checkpoint : Held) (ms : MastersRecord) → IsGoverning w (governing checkpoint ms) → fence ≡ checkpoint.hard.value.fence → fence < e → w.hard.fence < e
+rises w e fence checkpoint ms s is above =
+    let same : fence ≡ w.hard.fence = is ∙ ap (λ (h : HardState). h.fence) s.hard in
+    subst (λ n. n < e) same above
+
+tested_above : (w : World) (e : ℕ) → w.hard.fence < e → nat_lt w.hard.fence e ≡ true
+tested_above w e above = grind (arith, nat_tests, above)
+
+tested_few : (w : World) (count : ℕ) → count ≡ length w.masters → count < most_masters → nat_lt (length w.masters) most_masters ≡ true
+tested_few w count is few = grind (arith, nat_tests, is, few)
+
+pub starts_done : (w : World) (e count : ℕ) (old new : Held) (ms after : MastersRecord) → IsGoverning w (governing old ms) → w.hard.fence < e → count ≡ length w.masters → count < most_masters → IsOpen new → hard_step old.hard.value e Raise ≡ Ok new.hard.value
+    → StartsInWorld w.cluster new.hard.value e ms after → IsGoverned w e (start_master w e) (governing new after)
+starts_done w e count old new ms after s above is few rests done starts =
+    let same = s.hard in
+    let k = new.hard.value in
+    let h = starts w s.good s.stand refl above in
+    let step = start_done w e k (tested_above w e above) (tested_few w count is few) (ap (λ h. hard_step h e Raise) (sym same) ∙ done) in
+    subst (λ y. IsGoverned w e y (governing new after)) (sym step) (record { hard = refl; rests = rests; stand = h.stand; acts = h.acts; rest = h.rest; quiet = refl })
+
+-- Steps: a start and a stop take none
+pub may_step : (old new : MastersRecord) → ((n : ℕ) → AreWithin n old → AreWithin n new) → TakesStep old new
+may_step old new stays n within e m runs = let le = stays n within e m runs in omega (arith, le)
+
+-- Resyncs
+abbrev resynced_at : World → Option Master → Step
+resynced_at w o = with_found o (refused w NotRunning) (λ M. resynced w (master_party M) (peers w.cluster M))
+
+pub resync_done : (e : ℕ) (old new : MastersRecord) → ResyncsInWorld e old new true → GovernsMasters e (λ w. resync_master w e) old new None
+resync_done e old new h checkpoint w s =
+    let x = h w s.good s.stand in
+    subst (λ y. IsGoverned w e y (governing checkpoint new)) (sym (ap (resynced_at w) x.runs))
+    (record { hard = s.hard; rests = s.rests; stand = x.world.stand; acts = x.world.acts; rest = x.world.rest; quiet = refl })
+
+pub resync_refused : (e : ℕ) (old new : MastersRecord) → ResyncsInWorld e old new false → GovernsMasters e (λ w. resync_master w e) old new (Some why.NotRunning)
+resync_refused e old new h checkpoint w s =
+    let x = h w s.good s.stand in
+    record { same = record { good = s.good; hard = s.hard; rests = s.rests; stand = x.stand }; is = ap (resynced_at w) x.none }

@@ -1,0 +1,84 @@
+-- From what is done or refused by one party to the step of the world that it is.
+use Rattle.std.proofs.Common.{◌≡◌, ℕ, ◌+◌, ◌<◌, ◌≤◌, List, [], ◌∷◌, ◌++◌, map, Option, Some, None, Result, Ok, Err, refl, sym, ◌∙◌, ap, subst}
+use Rattle.party_ledgers.specs.declared.packets.Packet.{Packet}
+use Rattle.fuxi_terms.specs.Cluster.{ClusterRecord}
+use Rattle.written_net.specs.Net.{Party}
+use Rattle.written_net.specs.Channels.{master_id, agent_id, app_id, party}
+use Rattle.written_world.specs.World.{World, Step, refused, prints_nothing}
+use Rattle.packet_pool.specs.Pools.{Stored}
+use Rattle.memory_checkpoint.specs.Held.{Held}
+use Rattle.running_agents.specs.Running.{AgentsRecord, AreAgentsOf}
+use Rattle.running_apps.specs.Running.{AppsRecord, AreAppsOf}
+use Rattle.running_masters.specs.Running.{MastersRecord, AreMastersOf, AreWithin as MastersWithin}
+use Rattle.schedule_text.specs.declared.refusal.Refusal.{Refusal}
+use Rattle.schedule_text.specs.Printing.{as_refusal}
+use Rattle.schedule_replay.specs.Texts.{lines_text}
+use Rattle.schedule_replay.specs.Worlds.{WorldRecord, IsWorld, StandsFor}
+use Rattle.schedule_replay.specs.Steps.{IsDone}
+use Rattle.schedule_replay.specs.Moves.{KeepsMore, AgentActs, AppActs, MasterActs, Does, Acts, IsActed, MovesOnce, refusal_lines}
+use Rattle.schedule_replay.specs.Commands.{Governing, IsGoverning, IsGoverned, IsRefused, GovernsIn, Governs, GovernsOn, TakesStep, governing}
+use Rattle.schedule_replay.proofs.Acting.{keeps_none}
+use Rattle.schedule_replay.proofs.Moving.{once_up_to, masters_once}
+
+-- A step that is refused leaves what runs as it was, and prints why
+pub is_refused : (w : World) (s : Step) (r : WorldRecord) (why : Refusal) (before after : List ℕ) → StandsFor r w → s ≡ refused w (as_refusal why) → after ≡ before ++ lines_text (refusal_lines (Some why)) → IsDone s r before after
+is_refused w s r why before after stands is text = record {
+  stands = subst (StandsFor r) (sym (ap (λ (t : Step). t.world) is)) stands;
+  text = text ∙ ap (λ (t : Step). before ++ lines_text t.lines) (sym is);
+}
+
+-- one that prints nothing
+pub is_quiet : (s : Step) (new : WorldRecord) (before after : List ℕ) → StandsFor new s.world → s.lines ≡ [] → after ≡ before ++ lines_text [] → IsDone s new before after
+is_quiet s new before after stands none text = record { stands = stands; text = text ∙ ap (λ ls. before ++ lines_text ls) (sym none) }
+
+-- The law of masters, as it is called for
+abbrev pub MastersAct : Type 0
+MastersAct = (w w' : World) (p : Party) (sent : List Packet) (old : WorldRecord) (held : Held) (masters : MastersRecord) (pool : Stored)
+    → StandsFor old w → MasterActs w w' p sent held masters → KeepsMore old.pool pool sent → StandsFor (record old { checkpoint = held; masters = masters; pool = pool }) w'
+
+pub are_governing : (w : World) (r : WorldRecord) → IsWorld w → StandsFor r w → IsGoverning w (governing r.checkpoint r.masters)
+are_governing w r is s = record { good = is.good; hard = s.hard; rests = s.rests; stand = s.masters }
+
+governed_in : MastersAct → (w : World) (e : ℕ) (s : Step) (old : WorldRecord) (held : Held) (masters : MastersRecord) (answer : Option Refusal) (before after : List ℕ) → StandsFor old w → GovernsIn w e s (governing held masters) answer
+    → after ≡ before ++ lines_text (refusal_lines answer) → IsDone s (record old { checkpoint = held; masters = masters }) before after
+governed_in act w e s old held masters None before after stands g text =
+    is_quiet s (record old { checkpoint = held; masters = masters }) before after
+    (act w s.world (party master_id e) [] old held masters old.pool stands (record {
+      role = refl;
+      stand = g.stand;
+      acts = g.acts;
+      cluster = ap (λ (v : World). v.cluster) g.rest;
+      hard = g.hard;
+      rests = g.rests;
+      agents = ap (λ (v : World). v.agents) g.rest;
+      apps = ap (λ (v : World). v.apps) g.rest;
+      boots = ap (λ (v : World). v.boots) g.rest;
+      events = ap (λ (v : World). v.events) g.rest;
+    }) (keeps_none old.pool)) g.quiet text
+governed_in act w e s old held masters (Some why) before after stands g text =
+    is_refused w s (record old { checkpoint = held; masters = masters }) why before after (record {
+      cluster = stands.cluster;
+      hard = g.same.hard;
+      rests = g.same.rests;
+      masters = g.same.stand;
+      agents = stands.agents;
+      apps = stands.apps;
+      packets = stands.packets;
+      events = stands.events;
+    }) g.is text
+
+pub governed_on : MastersAct → (e : ℕ) (f : World → Step) (old : WorldRecord) (held : Held) (masters : MastersRecord) (answer : Option Refusal) (before after : List ℕ)
+    → GovernsOn old.cluster e f (governing old.checkpoint old.masters) (governing held masters) answer → TakesStep old.masters masters → after ≡ before ++ lines_text (refusal_lines answer)
+    → Acts f old (record old { checkpoint = held; masters = masters }) before after (Ok tt)
+governed_on act e f old held masters answer before after governs steps text = record {
+  does = λ w is s. governed_in act w e (f w) old held masters answer before after s (governs w s.cluster (are_governing w old is s)) text;
+  moves = once_up_to old (record old { checkpoint = held; masters = masters }) (masters_once old held masters old.pool steps);
+}
+
+pub governed : MastersAct → (e : ℕ) (f : World → Step) (old : WorldRecord) (held : Held) (masters : MastersRecord) (answer : Option Refusal) (before after : List ℕ)
+    → Governs e f (governing old.checkpoint old.masters) (governing held masters) answer → TakesStep old.masters masters → after ≡ before ++ lines_text (refusal_lines answer)
+    → Acts f old (record old { checkpoint = held; masters = masters }) before after (Ok tt)
+governed act e f old held masters answer before after governs steps text = record {
+  does = λ w is s. governed_in act w e (f w) old held masters answer before after s (governs w (are_governing w old is s)) text;
+  moves = once_up_to old (record old { checkpoint = held; masters = masters }) (masters_once old held masters old.pool steps);
+}

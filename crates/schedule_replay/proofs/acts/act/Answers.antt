@@ -1,0 +1,80 @@
+use Rattle.std.proofs.Common.{sym, subst}
+use Rattle.written_world.specs.Events.{act}
+use Rattle.schedule_replay.specs.Events.{event_as}
+use Rattle.schedule_replay.specs.Moves.{Acts}
+use Rattle.schedule_replay.proofs.acts.act.Goals as goal
+
+pub returns-in-Master : goal.returns-in-Master
+returns-in-Master c = subst (λ e. Acts (λ w. act w (event_as e)) c.args.running.now c.start_master.new.running c.args.out.now.items c.start_master.new.out.items c.start_master.result) (sym c.in-Master.is) c.start_master.ensures
+
+pub returns-in-Stop : goal.returns-in-Stop
+returns-in-Stop c = subst (λ e. Acts (λ w. act w (event_as e)) c.args.running.now c.stop_master.new.running c.args.out.now.items c.stop_master.new.out.items c.stop_master.result) (sym c.in-Stop.is) c.stop_master.ensures
+
+pub returns-in-Agent : goal.returns-in-Agent
+returns-in-Agent c = subst (λ e. Acts (λ w. act w (event_as e)) c.args.running.now c.start_agent.new.running c.args.out.now.items c.start_agent.new.out.items c.start_agent.result) (sym c.in-Agent.is) c.start_agent.ensures
+
+pub returns-in-App : goal.returns-in-App
+returns-in-App c = subst (λ e. Acts (λ w. act w (event_as e)) c.args.running.now c.start_app.new.running c.args.out.now.items c.start_app.new.out.items c.start_app.result) (sym c.in-App.is) c.start_app.ensures
+
+pub returns-in-Submit : goal.returns-in-Submit
+returns-in-Submit c = subst (λ e. Acts (λ w. act w (event_as e)) c.args.running.now c.submit_job.new.running c.args.out.now.items c.submit_job.new.out.items c.submit_job.result) (sym c.in-Submit.is) c.submit_job.ensures
+
+pub returns-in-Finish : goal.returns-in-Finish
+returns-in-Finish c = subst (λ e. Acts (λ w. act w (event_as e)) c.args.running.now c.finish_job.new.running c.args.out.now.items c.finish_job.new.out.items c.finish_job.result) (sym c.in-Finish.is) c.finish_job.ensures
+
+pub returns-in-Ban : goal.returns-in-Ban
+returns-in-Ban c = subst (λ e. Acts (λ w. act w (event_as e)) c.args.running.now c.ban_machine.new.running c.args.out.now.items c.ban_machine.new.out.items c.ban_machine.result) (sym c.in-Ban.is) c.ban_machine.ensures
+
+pub returns-in-Unban : goal.returns-in-Unban
+returns-in-Unban c = subst (λ e. Acts (λ w. act w (event_as e)) c.args.running.now c.unban_machine.new.running c.args.out.now.items c.unban_machine.new.out.items c.unban_machine.result) (sym c.in-Unban.is) c.unban_machine.ensures
+
+pub returns-in-Begin : goal.returns-in-Begin
+returns-in-Begin c = subst (λ e. Acts (λ w. act w (event_as e)) c.args.running.now c.begin.new.running c.args.out.now.items c.begin.new.out.items c.begin.result) (sym c.in-Begin.is) c.begin.ensures
+
+pub returns-in-Preempt : goal.returns-in-Preempt
+returns-in-Preempt c = subst (λ e. Acts (λ w. act w (event_as e)) c.args.running.now c.preempt.new.running c.args.out.now.items c.preempt.new.out.items c.preempt.result) (sym c.in-Preempt.is) c.preempt.ensures
+
+pub returns-in-TurnMaster : goal.returns-in-TurnMaster
+returns-in-TurnMaster c = subst (λ e. Acts (λ w. act w (event_as e)) c.args.running.now c.turn_master.new.running c.args.out.now.items c.turn_master.new.out.items c.turn_master.result) (sym c.in-TurnMaster.is) c.turn_master.ensures
+
+pub returns-in-TurnAgent : goal.returns-in-TurnAgent
+returns-in-TurnAgent c = subst (λ e. Acts (λ w. act w (event_as e)) c.args.running.now c.turn_agent.new.running c.args.out.now.items c.turn_agent.new.out.items c.turn_agent.result) (sym c.in-TurnAgent.is) c.turn_agent.ensures
+
+pub returns-in-TurnApp : goal.returns-in-TurnApp
+returns-in-TurnApp c = subst (λ e. Acts (λ w. act w (event_as e)) c.args.running.now c.turn_app.new.running c.args.out.now.items c.turn_app.new.out.items c.turn_app.result) (sym c.in-TurnApp.is) c.turn_app.ensures
+
+pub returns-in-ResyncMaster : goal.returns-in-ResyncMaster
+returns-in-ResyncMaster c = subst (λ e. Acts (λ w. act w (event_as e)) c.args.running.now c.resync_master.new.running c.args.out.now.items c.resync_master.new.out.items c.resync_master.result) (sym c.in-ResyncMaster.is) c.resync_master.ensures
+
+pub returns-in-ResyncAgent : goal.returns-in-ResyncAgent
+returns-in-ResyncAgent c = subst (λ e. Acts (λ w. act w (event_as e)) c.args.running.now c.resync_agent.new.running c.args.out.now.items c.resync_agent.new.out.items c.resync_agent.result) (sym c.in-ResyncAgent.is) c.resync_agent.ensures
+
+pub returns-in-ResyncApp : goal.returns-in-ResyncApp
+returns-in-ResyncApp c = subst (λ e. Acts (λ w. act w (event_as e)) c.args.running.now c.resync_app.new.running c.args.out.now.items c.resync_app.new.out.items c.resync_app.result) (sym c.in-ResyncApp.is) c.resync_app.ensures
+
+pub returns-in-Deliver : goal.returns-in-Deliver
+returns-in-Deliver c = subst (λ e. Acts (λ w. act w (event_as e)) c.args.running.now c.deliver.new.running c.args.out.now.items c.deliver.new.out.items c.deliver.result) (sym c.in-Deliver.is) c.deliver.ensures
+
+pub returns-in-DeliverRange : goal.returns-in-DeliverRange
+returns-in-DeliverRange c = subst (λ e. Acts (λ w. act w (event_as e)) c.args.running.now c.deliver_range.new.running c.args.out.now.items c.deliver_range.new.out.items c.deliver_range.result) (sym c.in-DeliverRange.is) c.deliver_range.ensures
+
+pub returns-in-Dump : goal.returns-in-Dump
+returns-in-Dump c = subst (λ e. Acts (λ w. act w (event_as e)) c.args.running.now c.args.running.now c.args.out.now.items c.dump.new.out.items c.dump.result) (sym c.in-Dump.is) c.dump.ensures
+
+pub returns-in-Show : goal.returns-in-Show
+returns-in-Show c = subst (λ e. Acts (λ w. act w (event_as e)) c.args.running.now c.args.running.now c.args.out.now.items c.show.new.out.items c.show.result) (sym c.in-Show.is) c.show.ensures
+
+pub returns-in-Want : goal.returns-in-Want
+returns-in-Want c = subst (λ e. Acts (λ w. act w (event_as e)) c.args.running.now c.ask_app.new.running c.args.out.now.items c.ask_app.new.out.items c.ask_app.result) (sym c.in-Want.is) c.ask_app.ensures
+
+pub returns-in-Near : goal.returns-in-Near
+returns-in-Near c = subst (λ e. Acts (λ w. act w (event_as e)) c.args.running.now c.ask_app-in-Near.new.running c.args.out.now.items c.ask_app-in-Near.new.out.items c.ask_app-in-Near.result) (sym c.in-Near.is) c.ask_app-in-Near.ensures
+
+pub returns-in-Rack : goal.returns-in-Rack
+returns-in-Rack c = subst (λ e. Acts (λ w. act w (event_as e)) c.args.running.now c.ask_app-in-Rack.new.running c.args.out.now.items c.ask_app-in-Rack.new.out.items c.ask_app-in-Rack.result) (sym c.in-Rack.is) c.ask_app-in-Rack.ensures
+
+pub returns-in-Avoid : goal.returns-in-Avoid
+returns-in-Avoid c = subst (λ e. Acts (λ w. act w (event_as e)) c.args.running.now c.ask_app-in-Avoid.new.running c.args.out.now.items c.ask_app-in-Avoid.new.out.items c.ask_app-in-Avoid.result) (sym c.in-Avoid.is) c.ask_app-in-Avoid.ensures
+
+pub returns-in-Back : goal.returns-in-Back
+returns-in-Back c = subst (λ e. Acts (λ w. act w (event_as e)) c.args.running.now c.ask_app-in-Back.new.running c.args.out.now.items c.ask_app-in-Back.new.out.items c.ask_app-in-Back.result) (sym c.in-Back.is) c.ask_app-in-Back.ensures

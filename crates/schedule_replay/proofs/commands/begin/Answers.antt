@@ -1,0 +1,17 @@
+use Rattle.std.proofs.Common.{refl, sym}
+use Rattle.std.proofs.lemmas.Result.{IfOk-weaker}
+use Rattle.written_roles.specs.MasterSteps.{StartsServing}
+use Rattle.fuxi_master.specs.declared.event.MasterEvent.TheVariants.{Begin}
+use Rattle.written_world.specs.Events.{commanded}
+use Rattle.schedule_replay.specs.Commands.{GovernsMasters, TellsInWorld}
+use Rattle.schedule_replay.proofs.Commanding.{begins_written, runs_in, told_alone}
+use Rattle.schedule_replay.proofs.commands.begin.Goals as goal
+
+pub returns-clause-world : goal.returns-clause-world
+returns-clause-world c =
+    let e = c.args.epoch in
+    let old = c.args.masters.now in
+    let after = c.tell.new.masters in
+    IfOk-weaker c.tell.result (TellsInWorld e Begin old after) (GovernsMasters e (λ w. commanded w e StartsServing) old after) (λ answer tells checkpoint w s.
+    let r = runs_in w e (sym (c.if-not-runs.ensures w s.stand)) in
+    told_alone w e StartsServing checkpoint old after r.master s r.is (begins_written w r.master) answer (tells w StartsServing s.good s.stand refl)) c.tell.ensures.world

@@ -1,0 +1,30 @@
+use Rattle.std.proofs.Common.{Some, sym, ◌∙◌, ap, subst}
+use Rattle.written_net.specs.Channels.{agent_id, party}
+use Rattle.written_world.specs.Events.{turn_agent, turn_to_master}
+use Rattle.running_agents.specs.Running.{TurnsOneIn}
+use Rattle.schedule_text.specs.declared.refusal.Refusal.TheVariants as why
+use Rattle.schedule_replay.specs.Worlds.{WorldRecord}
+use Rattle.schedule_replay.specs.Moves.{Acts, IsActed}
+use Rattle.schedule_replay.proofs.Doing.{acts_by, refuses, agent_runs_not}
+use Rattle.schedule_replay.proofs.Turning.{agent_turns}
+use Rattle.schedule_replay.proofs.turns.turn_agent.Goals as goal
+
+-- none runs
+pub returns-in_default-answer : goal.returns-in_default-answer
+returns-in_default-answer c =
+    let old : WorldRecord = record { cluster = c.running.inside.cluster; checkpoint = c.running.inside.checkpoint; masters = c.running.inside.masters; agents = c.running.inside.agents; apps = c.running.inside.apps; pool = c.running.inside.pool; events = c.running.inside.events } in
+    let n = c.args.machine.0 in
+    acts_by (λ w. turn_agent w n) c.args.running.now c.args.running.now c.args.out.now.items c.write_refusal.new.out.items _ c.write_refusal.result c.write_refusal.ensures.ok c.write_refusal.ensures.err (λ text.
+    subst (λ r. IsActed (λ w. turn_agent w n) r r c.args.out.now.items c.write_refusal.new.out.items) c.running.view_is
+    (refuses (λ w. turn_agent w n) old why.NotRunning c.args.out.now.items c.write_refusal.new.out.items
+    (λ w is s. agent_runs_not w n (λ g. turn_to_master w (party (agent_id n) g.boot)) (subst (TurnsOneIn w n old.agents) c.in_default-answer.is (c.in-Ok.ensures.world w is.good s.agents))) text))
+
+-- one runs
+pub returns : goal.returns
+returns c =
+    let old : WorldRecord = record { cluster = c.running.inside.cluster; checkpoint = c.running.inside.checkpoint; masters = c.running.inside.masters; agents = c.running.inside.agents; apps = c.running.inside.apps; pool = c.running.inside.pool; events = c.running.inside.events } in
+    let n = c.args.machine.0 in
+    subst (λ r. Acts (λ w. turn_agent w n) r (record old { pool = c.send.new.pool }) c.args.out.now.items c.send.new.out.items c.send.result) c.running.view_is
+    (agent_turns c.agents_act.ensures c.written_frame_lengths.ensures old n c.as_slice.result.now c.send.new.pool c.args.out.now.items c.send.new.out.items c.send.result
+    (λ w is s. subst (TurnsOneIn w n old.agents) (c.in-Some.is ∙ ap Some (sym c.as_slice.ensures)) (c.in-Ok.ensures.world w is.good s.agents))
+    c.send.ensures.keeps c.send.ensures.text c.send.ensures.stops)

@@ -1,0 +1,128 @@
+-- What the starts, stops and commands of masters do in each world that the hard state and the masters are of.
+use Rattle.std.specs.Prelude.{◌≡◌, ℕ, ◌+◌, [], Option, Some, None, Result, Ok, Err}
+use Rattle.std.specs.Ordering.{nat_cmp}
+use Rattle.std.specs.FinMap.Entries.{find}
+use Rattle.fuxi_terms.specs.Cluster.{ClusterRecord}
+use Rattle.schedule_unit.specs.declared.job.JobFault.{JobFault}
+use Rattle.schedule_unit.specs.declared.job.JobFault.TheVariants as job
+use Rattle.written_net.specs.Channels.{master_id, party}
+use Rattle.written_roles.specs.HardState.{HardState}
+use Rattle.written_roles.specs.Masters.{Master}
+use Rattle.written_roles.specs.MasterSteps.{MasterCommand}
+use Rattle.written_roles.specs.MasterRoles.{Told}
+use Rattle.written_world.specs.World.{World, Step, refused}
+use Rattle.written_world.specs.Events.{commanded}
+use Rattle.written_world.specs.Good.{Good}
+use Rattle.written_join.specs.Joins.{OneActs}
+use Rattle.hard_state.specs.declared.fault.HardFault.{HardFault}
+use Rattle.hard_state.specs.declared.fault.HardFault.TheVariants as hard
+use Rattle.memory_checkpoint.specs.Held.{Held, IsOpen}
+use Rattle.fuxi_master.specs.Steps.{told_by}
+use Rattle.fuxi_master.specs.declared.event.MasterEvent.{MasterEvent}
+use Rattle.fuxi_master.specs.declared.event.MasterRefusal.{MasterRefusal}
+use Rattle.fuxi_master.specs.declared.event.MasterRefusal.TheVariants as master
+use Rattle.core_join.specs.Masters.{IsWritten, change_in}
+use Rattle.running_masters.specs.Running.{MastersRecord, AreMastersOf, AreWithin}
+use Rattle.running_masters.specs.Calls.{CommandDoneIn}
+use Rattle.schedule_text.specs.declared.refusal.Refusal.{Refusal}
+use Rattle.schedule_text.specs.declared.refusal.Refusal.TheVariants as why
+use Rattle.schedule_text.specs.Printing.{as_refusal}
+
+-- the parts that commands of masters change
+pub record Governing : Type 0 where
+  pub checkpoint : Held
+  pub masters : MastersRecord
+
+-- they are those of a good world
+pub record IsGoverning (w : World) (g : Governing) : Type 0 where
+  pub good : Good w
+  pub hard : g.checkpoint.hard.value ≡ w.hard
+  pub rests : IsOpen g.checkpoint
+  pub stand : AreMastersOf w g.masters
+
+-- and there is such a world
+pub record AreGoverned (g : Governing) : Type 0 where
+  pub world : World
+  pub of : IsGoverning world g
+
+-- An event for the master of an epoch is done: the parts are those of the world after it, nothing is printed, no packet is sent, and all other parties
+-- see what they saw
+pub record IsGoverned (w : World) (e : ℕ) (s : Step) (new : Governing) : Type 0 where
+  pub hard : new.checkpoint.hard.value ≡ s.world.hard
+  pub rests : IsOpen new.checkpoint
+  pub stand : AreMastersOf s.world new.masters
+  pub acts : OneActs w.net s.world.net (party master_id e) []
+  pub rest : s.world ≡ record w { hard = s.world.hard; ran = s.world.ran; masters = s.world.masters; net = s.world.net }
+  pub quiet : s.lines ≡ []
+
+-- or it is refused: the parts are still those of the world before it
+pub record IsRefused (w : World) (s : Step) (new : Governing) (refusal : Refusal) : Type 0 where
+  pub same : IsGoverning w new
+  pub is : s ≡ refused w (as_refusal refusal)
+
+abbrev pub GovernsIn : World → ℕ → Step → Governing → Option Refusal → Type 0
+GovernsIn w e s new None = IsGoverned w e s new
+GovernsIn w e s new (Some refusal) = IsRefused w s new refusal
+
+-- in each world that they are of, and in each on this cluster
+abbrev pub Governs : ℕ → (World → Step) → Governing → Governing → Option Refusal → Type 0
+Governs e step old new answer = (w : World) → IsGoverning w old → GovernsIn w e (step w) new answer
+
+abbrev pub GovernsOn : ClusterRecord → ℕ → (World → Step) → Governing → Governing → Option Refusal → Type 0
+GovernsOn c e step old new answer = (w : World) → c ≡ w.cluster → IsGoverning w old → GovernsIn w e (step w) new answer
+
+-- whatever the hard state is
+abbrev pub governing : Held → MastersRecord → Governing
+governing checkpoint masters = record { checkpoint = checkpoint; masters = masters }
+
+abbrev pub GovernsMasters : ℕ → (World → Step) → MastersRecord → MastersRecord → Option Refusal → Type 0
+GovernsMasters e step old new answer = (checkpoint : Held) → Governs e step (governing checkpoint old) (governing checkpoint new) answer
+
+-- no master takes more than one step
+abbrev pub TakesStep : MastersRecord → MastersRecord → Type 0
+TakesStep old new = (n : ℕ) → AreWithin n old → AreWithin (n + 1) new
+
+-- Refusals. That of a fault of the hard state and of a job, where it is one, and what a master's answer says
+abbrev pub hard_refusal : HardFault → Option Refusal
+hard_refusal (hard.Stale fence) = Some (why.NotRising fence)
+hard_refusal (hard.Fenced fence) = Some (why.Fenced fence)
+hard_refusal hard.Known = Some why.Known
+hard_refusal hard.NoJob = Some why.NoJob
+hard_refusal hard.Ended = Some why.Ended
+hard_refusal hard.AlreadyBanned = Some why.AlreadyBanned
+hard_refusal hard.NotBanned = Some why.NotBanned
+hard_refusal hard.Full = Some (why.HardFull 65536)
+hard_refusal (hard.NotCheckpoint offset) = None
+hard_refusal hard.DiskFault = None
+hard_refusal hard.OutOfMemory = None
+
+abbrev pub job_refusal : JobFault → Option Refusal
+job_refusal job.NoUnits = Some why.NoUnits
+job_refusal job.TooManyUnits = Some why.TooManyUnits
+job_refusal (job.Dimensions unit) = Some (why.Dimensions unit)
+job_refusal (job.PriorityRange unit) = Some (why.PriorityRange unit)
+job_refusal (job.QuantityRange unit) = Some (why.QuantityRange unit)
+job_refusal (job.ZeroSize unit) = Some (why.ZeroSize unit)
+job_refusal job.OutOfMemory = None
+
+abbrev pub master_refusal : MasterRefusal → Refusal
+master_refusal master.AlreadyServing = why.AlreadyServing
+master_refusal master.NotServing = why.NotServing
+master_refusal master.NothingToPreempt = why.NothingToPreempt
+
+abbrev pub refusal_in : Option (Result (Unit {0}) MasterRefusal) → Option Refusal
+refusal_in None = Some why.NotRunning
+refusal_in (Some (Ok done)) = None
+refusal_in (Some (Err refusal)) = Some (master_refusal refusal)
+
+-- A command as a master is told it, once the hard state is written
+pub record RefusesIn (w : World) (e : ℕ) (x : MasterCommand) (new : MastersRecord) (refusal : Refusal) : Type 0 where
+  pub stand : AreMastersOf w new
+  pub same : commanded w e x ≡ refused w (as_refusal refusal)
+
+abbrev pub TellsIn : World → ℕ → MasterCommand → MastersRecord → Option Refusal → Type 0
+TellsIn w e x new None = (M : Master) (h : HardState) → find nat_cmp e w.masters ≡ Some M → IsWritten w M x h → CommandDoneIn w e x h new
+TellsIn w e x new (Some refusal) = RefusesIn w e x new refusal
+
+abbrev pub TellsInWorld : ℕ → MasterEvent → MastersRecord → MastersRecord → Option Refusal → Type 0
+TellsInWorld e event old new answer = (w : World) (x : MasterCommand) → Good w → AreMastersOf w old → told_by event ≡ Told (change_in x) → TellsIn w e x new answer

@@ -1,0 +1,42 @@
+-- The events of lines as those of the world.
+use Rattle.std.specs.Prelude.{ℕ, List, map}
+use Rattle.fuxi_terms.specs.Cluster.{JobRecord, UnitRecord}
+use Rattle.schedule_unit.specs.declared.asks.Ask.{Ask}
+use Rattle.schedule_text.specs.Writing.{switch}
+use Rattle.schedule_text.specs.declared.event.Event.{Event as LineEvent}
+use Rattle.schedule_text.specs.declared.event.Event.TheVariants as line
+use Rattle.written_world.specs.Events.{Event, StartMaster, StopMaster, StartAgent, StartApp, Submit, Finish, Ban, Unban, Begin, Preempt, Want, Near, Rack, Avoid, GiveBack, TurnMaster, TurnAgent, TurnApp, ResyncMaster, ResyncAgent, ResyncApp, Deliver, DeliverRange, Dump, ShowState}
+
+-- a unit as it is asked for: with as many quantities as the line has
+abbrev pub unit_named : Ask → UnitRecord
+unit_named a = record { priority = a.priority; size = a.quantities }
+
+abbrev pub job_named : ℕ → ℕ → List Ask → JobRecord
+job_named a g asks = record { number = a; group = g; units = map unit_named asks }
+
+abbrev pub event_as : LineEvent → Event
+event_as (line.Master e) = StartMaster e
+event_as (line.Stop e) = StopMaster e
+event_as (line.Agent m b) = StartAgent m.0 b
+event_as (line.App a b) = StartApp a.0 b
+event_as (line.Submit e a g asks) = Submit e (job_named a.0 g.0 asks)
+event_as (line.Finish e a) = Finish e a.0
+event_as (line.Ban e m) = Ban e m.0
+event_as (line.Unban e m) = Unban e m.0
+event_as (line.Begin e) = Begin e
+event_as (line.Preempt e) = Preempt e
+event_as (line.Want a u n) = Want a.0 u.0 n
+event_as (line.Near a u m n) = Near a.0 u.0 m.0 n
+event_as (line.Rack a u r n) = Rack a.0 u.0 r.0 n
+event_as (line.Avoid a u m on) = Avoid a.0 u.0 m.0 (switch on)
+event_as (line.Back a u m n) = GiveBack a.0 u.0 m.0 n
+event_as (line.TurnMaster e) = TurnMaster e
+event_as (line.TurnAgent m) = TurnAgent m.0
+event_as (line.TurnApp a) = TurnApp a.0
+event_as (line.ResyncMaster e) = ResyncMaster e
+event_as (line.ResyncAgent m) = ResyncAgent m.0
+event_as (line.ResyncApp a) = ResyncApp a.0
+event_as (line.Deliver k) = Deliver k
+event_as (line.DeliverRange k l) = DeliverRange k l
+event_as (line.Dump k) = Dump k
+event_as line.Show = ShowState

@@ -1,0 +1,179 @@
+-- Between the calls: what a function makes of what runs, said of each world that it stands for.
+use Rattle.std.specs.Prelude.{◌≡◌, ℕ, ◌+◌, ◌<◌, ◌≤◌, ◌++◌, true, List, [], ◌∷◌, map, slice_get, Option, Some, None, Result, Ok, Err}
+use Rattle.std.specs.List.{AllByRecursion}
+use Rattle.fuxi_terms.specs.Limits.{greatest_count, most_steps}
+use Rattle.app_master.specs.declared.fault.AppFault.{AppFault}
+use Rattle.app_master.specs.declared.fault.AppFault.TheVariants as fault
+use Rattle.party_ledgers.specs.declared.packets.Packet.{Packet}
+use Rattle.party_ledgers.specs.declared.packets.Heard.{Heard}
+use Rattle.core_side.specs.Parcels.{parcel_is, IsSent}
+use Rattle.written_net.specs.Net.{Party, Packet as WrittenPacket}
+use Rattle.written_net.specs.Channels.{agent_id, app_id, is_agent, is_app, is_master}
+use Rattle.written_world.specs.World.{World, Step}
+use Rattle.written_world.specs.Outputs.{Line, Refused, Lost, Came}
+use Rattle.written_world.specs.Events.{addressed, heard_by, heard_line, deliver_all}
+use Rattle.written_join.specs.Seen.{parcel_of}
+use Rattle.written_join.specs.Joins.{OneActs}
+use Rattle.packet_pool.specs.Pools.{Stored, Keeps, limit_of as pool_limit}
+use Rattle.packet_pool.specs.declared.fault.PoolFault.{PoolFault}
+use Rattle.packet_pool.specs.declared.fault.PoolFault.TheVariants as pool
+use Rattle.wire_frames.specs.Streams.{HasFrame}
+use Rattle.memory_checkpoint.specs.Held.{Held, IsOpen}
+use Rattle.running_agents.specs.Running.{AgentsRecord, AreAgentsOf}
+use Rattle.running_apps.specs.Running.{AppsRecord, AreAppsOf}
+use Rattle.running_masters.specs.Running.{MastersRecord, AreMastersOf}
+use Rattle.schedule_text.specs.declared.refusal.Refusal.{Refusal}
+use Rattle.schedule_text.specs.declared.refusal.Refusal.TheVariants as why
+use Rattle.schedule_text.specs.Printing.{as_refusal}
+use Rattle.schedule_replay.specs.declared.stop.WorldStop.{WorldStop}
+use Rattle.schedule_replay.specs.declared.stop.WorldStop.TheVariants.{TooManyPackets, PoolBytes, OutOfMemory}
+use Rattle.schedule_replay.specs.Texts.{lines_text}
+use Rattle.schedule_replay.specs.Worlds.{WorldRecord, IsWorld, StandsFor, AreWithin, event_steps}
+use Rattle.schedule_replay.specs.Steps.{IsDone, limit_of, Stops}
+
+-- it stands for a world, and each core may take a step
+pub record CanMove (r : WorldRecord) : Type 0 where
+  pub world : World
+  pub is : IsWorld world
+  pub stands : StandsFor r world
+  pub steps : ℕ
+  pub few : steps < most_steps
+  pub within : AreWithin steps r
+
+-- and each core may take as many as an event may
+pub record CanMoveLong (r : WorldRecord) : Type 0 where
+  pub world : World
+  pub is : IsWorld world
+  pub stands : StandsFor r world
+  pub steps : ℕ
+  pub few : steps + event_steps ≤ most_steps
+  pub within : AreWithin steps r
+
+-- a step of the world, as a function of worlds, is done
+abbrev pub Does : (World → Step) → WorldRecord → WorldRecord → List ℕ → List ℕ → Type 0
+Does f old new before after = (w : World) → IsWorld w → StandsFor old w → IsDone (f w) new before after
+
+-- it is not, for this reason
+abbrev pub Fails : (World → Step) → WorldRecord → WorldStop → Type 0
+Fails f old stop = (w : World) → IsWorld w → StandsFor old w → Stops (limit_of w (f w).world) stop
+
+-- a reason that says nothing of packets
+abbrev pub WantsMemory : WorldStop → Type 0
+WantsMemory stop = (limit : Option WorldStop) → Stops limit stop
+
+-- no core took more than one step, and the cluster and the number of events are the same
+pub record MovesOnce (old new : WorldRecord) : Type 0 where
+  pub steps : (n : ℕ) → AreWithin n old → AreWithin (n + 1) new
+  pub events : new.events ≡ old.events
+  pub cluster : new.cluster ≡ old.cluster
+
+-- nor more than an event may take
+pub record MovesUpTo (old new : WorldRecord) : Type 0 where
+  pub steps : (n : ℕ) → AreWithin n old → AreWithin (n + event_steps) new
+  pub events : new.events ≡ old.events
+  pub cluster : new.cluster ≡ old.cluster
+
+-- a step of the world is done, or it is not
+pub record IsActed (f : World → Step) (old new : WorldRecord) (before after : List ℕ) : Type 0 where
+  pub does : Does f old new before after
+  pub moves : MovesUpTo old new
+
+abbrev pub Acts : (World → Step) → WorldRecord → WorldRecord → List ℕ → List ℕ → Result (Unit {0}) WorldStop → Type 0
+Acts f old new before after (Ok done) = IsActed f old new before after
+Acts f old new before after (Err stop) = Fails f old stop
+
+-- the line of a refusal, where there is one
+abbrev pub refusal_lines : Option Refusal → List Line
+refusal_lines None = []
+refusal_lines (Some refusal) = Refused (as_refusal refusal) ∷ []
+
+-- the frames of these packets of a turn are kept behind the others
+pub record KeepsMore (old new : Stored) (sent : List Packet) : Type 0 where
+  pub kept : (xs : List Packet) → Keeps old xs → Keeps new (xs ++ sent)
+  pub all : AllByRecursion IsSent sent
+
+-- What a party leaves of a world, by its kind: the agents, the applications or the masters of the world after it, and the rest as it was
+pub record AgentActs (w w' : World) (p : Party) (sent : List Packet) (after : AgentsRecord) : Type 0 where
+  pub role : is_agent p.id ≡ true
+  pub stand : AreAgentsOf w' after
+  pub acts : OneActs w.net w'.net p (map parcel_is sent)
+  pub cluster : w'.cluster ≡ w.cluster
+  pub hard : w'.hard ≡ w.hard
+  pub masters : w'.masters ≡ w.masters
+  pub apps : w'.apps ≡ w.apps
+  pub boots : (a : ℕ) → w'.boots (app_id a) ≡ w.boots (app_id a)
+  pub events : w'.events ≡ w.events
+
+pub record AppActs (w w' : World) (p : Party) (sent : List Packet) (after : AppsRecord) : Type 0 where
+  pub role : is_app p.id ≡ true
+  pub stand : AreAppsOf w' after
+  pub acts : OneActs w.net w'.net p (map parcel_is sent)
+  pub cluster : w'.cluster ≡ w.cluster
+  pub hard : w'.hard ≡ w.hard
+  pub masters : w'.masters ≡ w.masters
+  pub agents : w'.agents ≡ w.agents
+  pub boots : (m : ℕ) → w'.boots (agent_id m) ≡ w.boots (agent_id m)
+  pub events : w'.events ≡ w.events
+
+pub record MasterActs (w w' : World) (p : Party) (sent : List Packet) (held : Held) (after : MastersRecord) : Type 0 where
+  pub role : is_master p.id ≡ true
+  pub stand : AreMastersOf w' after
+  pub acts : OneActs w.net w'.net p (map parcel_is sent)
+  pub cluster : w'.cluster ≡ w.cluster
+  pub hard : held.hard.value ≡ w'.hard
+  pub rests : IsOpen held
+  pub agents : w'.agents ≡ w.agents
+  pub apps : w'.apps ≡ w.apps
+  pub boots : w'.boots ≡ w.boots
+  pub events : w'.events ≡ w.events
+
+-- as what a packet was heard, if by anybody
+abbrev pub heard_lines : ℕ → Option Heard → List Line
+heard_lines number None = Lost number ∷ []
+heard_lines number (Some heard) = Came number heard.fresh heard.what ∷ []
+
+-- the limit on packets that the pool names is that of the world
+abbrev pub StopsAs : PoolFault → WorldStop → Type 0
+StopsAs (pool.TooManyPackets kept) stop = stop ≡ TooManyPackets kept
+StopsAs (pool.PoolBytes kept) stop = stop ≡ PoolBytes kept
+StopsAs pool.OutOfMemory stop = stop ≡ OutOfMemory
+
+-- the first limit that these packets would pass, with the bytes of frames that there are
+abbrev pub StopsFor : Stored → List Packet → WorldStop → Type 0
+StopsFor p sent (TooManyPackets kept) = pool_limit p sent ≡ Some (pool.TooManyPackets kept)
+StopsFor p sent (PoolBytes kept) = (pool_limit p sent ≡ Some (pool.PoolBytes kept)) × AllByRecursion HasFrame sent
+StopsFor p sent OutOfMemory = Unit {0}
+
+-- A packet of the world is heard by the party that it is for, if that runs, as the world hears it
+pub record IsHeardIn (w : World) (x : WrittenPacket) (new : WorldRecord) (heard : Option Heard) : Type 0 where
+  pub stands : StandsFor new (addressed w x)
+  pub lines : (number : ℕ) → heard_lines number heard ≡ heard_line number (heard_by w x) ∷ []
+
+abbrev pub HearsIn : Packet → WorldRecord → WorldRecord → Option Heard → Type 0
+HearsIn packet old new heard = (w : World) (which : ℕ) (x : WrittenPacket) → IsWorld w → StandsFor old w → slice_get w.net.packets which ≡ Some x → parcel_is packet ≡ parcel_of w.net x → IsHeardIn w x new heard
+
+-- the first n of these packets are delivered
+pub record IsThrough (first n : ℕ) (w : World) (now : WorldRecord) (before after : List ℕ) : Type 0 where
+  pub is : IsWorld (deliver_all n first w).world
+  pub stands : StandsFor now (deliver_all n first w).world
+  pub text : after ≡ before ++ lines_text (deliver_all n first w).lines
+
+abbrev pub GoesThrough : ℕ → ℕ → WorldRecord → WorldRecord → List ℕ → List ℕ → Type 0
+GoesThrough first n old now before after = (w : World) → IsWorld w → StandsFor old w → IsThrough first n w now before after
+
+-- and so many steps were taken, while the packets stayed
+pub record HasDelivered (n : ℕ) (old now : WorldRecord) : Type 0 where
+  pub steps : (k : ℕ) → AreWithin k old → AreWithin (k + n) now
+  pub events : now.events ≡ old.events
+  pub cluster : now.cluster ≡ old.cluster
+  pub pool : now.pool ≡ old.pool
+
+-- the refusal that a fault of an application names; want of memory names none
+abbrev pub IsRefusalOf : AppFault → Option Refusal → Type 0
+IsRefusalOf fault.NoUnit answer = answer ≡ Some why.NoUnit
+IsRefusalOf fault.NoMachine answer = answer ≡ Some why.NoMachine
+IsRefusalOf fault.NoRack answer = answer ≡ Some why.NoRack
+IsRefusalOf fault.WantRange answer = answer ≡ Some (why.WantRange greatest_count)
+IsRefusalOf (fault.NotUsable usable) answer = answer ≡ Some (why.NotUsable usable)
+IsRefusalOf fault.BackRange answer = answer ≡ Some why.BackRange
+IsRefusalOf fault.OutOfMemory answer = answer ≡ None

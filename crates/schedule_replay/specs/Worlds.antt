@@ -1,0 +1,67 @@
+-- What runs a schedule, and the worlds that it stands for.
+use Rattle.std.specs.Prelude.{◌≡◌, ℕ, ◌*◌, ◌^◌, true, List, map, length}
+use Rattle.std.specs.List.{AllByRecursion}
+use Rattle.fuxi_terms.specs.Cluster.{ClusterRecord, is_valid_cluster}
+use Rattle.party_ledgers.specs.declared.packets.Packet.{Packet}
+use Rattle.core_side.specs.Parcels.{parcel_is, IsSent}
+use Rattle.written_join.specs.Seen.{parcel_of}
+use Rattle.written_world.specs.World.{World}
+use Rattle.written_world.specs.Good.{Good}
+use Rattle.packet_pool.specs.Pools.{Stored, Keeps}
+use Rattle.memory_checkpoint.specs.Held.{Held, IsOpen}
+use Rattle.running_agents.specs.Running.{AgentsRecord, AreAgentsOf, AreWithin as AgentsWithin}
+use Rattle.running_apps.specs.Running.{AppsRecord, AreAppsOf, AreWithin as AppsWithin}
+use Rattle.running_masters.specs.Running.{MastersRecord, AreMastersOf, AreWithin as MastersWithin}
+use Rattle.written_order.specs.Orders.{IsInOrder}
+
+-- the cluster, the hard state on its disk, the cores that run, the frames of all packets that were sent, and the number of events
+pub record WorldRecord : Type 0 where
+  pub cluster : ClusterRecord
+  pub checkpoint : Held
+  pub masters : MastersRecord
+  pub agents : AgentsRecord
+  pub apps : AppsRecord
+  pub pool : Stored
+  pub events : ℕ
+
+-- the frames are, in their order, those of the packets of a world with what they hold
+pub record KeepsPackets (w : World) (p : Stored) : Type 0 where
+  pub packets : List Packet
+  pub kept : Keeps p packets
+  pub sent : AllByRecursion IsSent packets
+  pub same : map parcel_is packets ≡ map (parcel_of w.net) w.net.packets
+
+-- A world to which inputs lead: a good one, on a valid cluster, whose parties stand in the order of their numbers
+pub record IsWorld (w : World) : Type 0 where
+  pub valid : is_valid_cluster w.cluster ≡ true
+  pub good : Good w
+  pub order : IsInOrder w
+
+-- What runs stands for a world: one core for each party that runs and no other, each with what the party has; the last boots; the hard state, for which
+-- the file on the disk stands, with nothing pending; the frames of the packets; and the number of events
+pub record StandsFor (r : WorldRecord) (w : World) : Type 0 where
+  pub cluster : r.cluster ≡ w.cluster
+  pub hard : r.checkpoint.hard.value ≡ w.hard
+  pub rests : IsOpen r.checkpoint
+  pub masters : AreMastersOf w r.masters
+  pub agents : AreAgentsOf w r.agents
+  pub apps : AreAppsOf w r.apps
+  pub packets : KeepsPackets w r.pool
+  pub events : r.events ≡ w.events
+
+-- an event is at most so many steps of one core: it delivers no packet twice, and there are at most 1,000,000
+abbrev pub event_steps : ℕ
+event_steps = 2 ^ 20
+
+-- no core took more steps than this
+pub record AreWithin (n : ℕ) (r : WorldRecord) : Type 0 where
+  pub masters : MastersWithin n r.masters
+  pub agents : AgentsWithin n r.agents
+  pub apps : AppsWithin n r.apps
+
+-- It stands for a world to which an input led, whatever happened to it
+pub record IsReached (r : WorldRecord) : Type 0 where
+  pub world : World
+  pub is : IsWorld world
+  pub stands : StandsFor r world
+  pub within : AreWithin (r.events * event_steps) r

@@ -1,0 +1,100 @@
+//! What each event does.
+
+ghost use Rattle.std.specs.Prelude.{◌≡◌, ◌<◌};
+ghost use Rattle.schedule_text.specs.Writing.{IsLineEvent};
+ghost use Rattle.written_world.specs.Events.{act};
+ghost use Rattle.schedule_replay.specs.Events.{event_as};
+ghost use Rattle.schedule_replay.specs.Moves.{Acts, CanMove, CanMoveLong};
+
+use crate::agents::{resync_agent, start_agent};
+use crate::apps::{ask_app, resync_app, start_app};
+use crate::deliveries::{deliver, deliver_range, dump};
+use crate::masters::{
+    ban_machine, begin, finish_job, preempt, resync_master, start_master, stop_master, submit_job,
+    unban_machine,
+};
+use crate::running::Running;
+use crate::showing::show;
+use crate::stop::WorldStop;
+use crate::turns::{turn_agent, turn_app, turn_master};
+use running_apps::AppAsk;
+use schedule_text::Event;
+use std::alloc::Global;
+
+// An event.
+pub(crate) fn act(
+    running: &mut Running,
+    alloc: Global,
+    event: &Event,
+    out: &mut Vec<u8>,
+) -> Result<(), WorldStop>
+    requires line { IsLineEvent event.now }
+    requires can { CanMove running.old }
+    requires long { CanMoveLong running.old }
+    requires counted { 0 < running.old.events }
+    ensures { Acts (λ w. act w (event_as event.now)) running.old running.new out.old.items out.new.items result }
+{
+    match event {
+        Event::Master(epoch) => start_master(running, alloc, *epoch, out),
+        Event::Stop(epoch) => stop_master(running, *epoch, out),
+        Event::Agent(machine, boot) => start_agent(running, alloc, *machine, *boot, out),
+        Event::App(app, boot) => start_app(running, alloc, *app, *boot, out),
+        Event::Submit(epoch, app, group, asks) => {
+            submit_job(running, alloc, *epoch, *app, *group, asks, out)
+        }
+        Event::Finish(epoch, app) => finish_job(running, alloc, *epoch, *app, out),
+        Event::Ban(epoch, machine) => ban_machine(running, alloc, *epoch, *machine, out),
+        Event::Unban(epoch, machine) => unban_machine(running, alloc, *epoch, *machine, out),
+        Event::Begin(epoch) => begin(running, alloc, *epoch, out),
+        Event::Preempt(epoch) => preempt(running, alloc, *epoch, out),
+        Event::TurnMaster(epoch) => turn_master(running, alloc, *epoch, out),
+        Event::TurnAgent(machine) => turn_agent(running, alloc, *machine, out),
+        Event::TurnApp(app) => turn_app(running, alloc, *app, out),
+        Event::ResyncMaster(epoch) => resync_master(running, alloc, *epoch, out),
+        Event::ResyncAgent(machine) => resync_agent(running, *machine, out),
+        Event::ResyncApp(app) => resync_app(running, *app, out),
+        Event::Deliver(number) => deliver(running, alloc, *number, out),
+        Event::DeliverRange(first, last) => deliver_range(running, alloc, *first, *last, out),
+        Event::Dump(number) => dump(running, alloc, *number, out),
+        Event::Show => show(running, out),
+        Event::Want(app, unit, count) => {
+            let ask = AppAsk::Want {
+                unit: *unit,
+                count: *count,
+            };
+            ask_app(running, alloc, *app, ask, out)
+        }
+        Event::Near(app, unit, machine, count) => {
+            let ask = AppAsk::Near {
+                unit: *unit,
+                machine: *machine,
+                count: *count,
+            };
+            ask_app(running, alloc, *app, ask, out)
+        }
+        Event::Rack(app, unit, rack, count) => {
+            let ask = AppAsk::Rack {
+                unit: *unit,
+                rack: *rack,
+                count: *count,
+            };
+            ask_app(running, alloc, *app, ask, out)
+        }
+        Event::Avoid(app, unit, machine, yes) => {
+            let ask = AppAsk::Avoid {
+                unit: *unit,
+                machine: *machine,
+                yes: *yes,
+            };
+            ask_app(running, alloc, *app, ask, out)
+        }
+        Event::Back(app, unit, machine, count) => {
+            let ask = AppAsk::GiveBack {
+                unit: *unit,
+                machine: *machine,
+                count: *count,
+            };
+            ask_app(running, alloc, *app, ask, out)
+        }
+    }
+}

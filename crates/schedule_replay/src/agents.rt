@@ -1,0 +1,57 @@
+//! The events of agents.
+
+ghost use Rattle.std.specs.Prelude.{◌≡◌, ◌<◌};
+ghost use Rattle.written_world.specs.Events.{start_agent, resync_agent};
+ghost use Rattle.schedule_replay.specs.Moves.{Acts, CanMove};
+
+use crate::laws::{agents_act, cores_may_step};
+use crate::running::Running;
+use crate::stop::WorldStop;
+use crate::text::write_refusal;
+use schedule_text::Refusal;
+use schedule_unit::MachineNo;
+use std::alloc::Global;
+
+// An agent starts in a boot, on a machine.
+pub(crate) fn start_agent(
+    running: &mut Running,
+    alloc: Global,
+    machine: MachineNo,
+    boot: u64,
+    out: &mut Vec<u8>,
+) -> Result<(), WorldStop>
+    requires boot { 0 < boot }
+    requires can { CanMove running.old }
+    ensures { Acts (λ w. start_agent w machine.0 boot) running.old running.new out.old.items out.new.items result }
+{
+    agents_act();
+    if machine.0 >= running.cluster.machines() {
+        return write_refusal(Some(Refusal::NoMachine), out);
+    }
+    let known = running.agents.boot(machine);
+    if boot <= known {
+        return write_refusal(Some(Refusal::NotRising(known)), out);
+    }
+    let has = running.cluster.machine(machine).has;
+    match running.agents.start(alloc, machine, has, boot) {
+        Ok(()) => Ok(()),
+        Err(_) => Err(WorldStop::OutOfMemory),
+    }
+}
+
+// An agent forgets what the master has acknowledged.
+pub(crate) fn resync_agent(
+    running: &mut Running,
+    machine: MachineNo,
+    out: &mut Vec<u8>,
+) -> Result<(), WorldStop>
+    requires { CanMove running.old }
+    ensures { Acts (λ w. resync_agent w machine.0) running.old running.new out.old.items out.new.items result }
+{
+    agents_act();
+    cores_may_step();
+    if running.agents.resync(machine) {
+        return Ok(());
+    }
+    write_refusal(Some(Refusal::NotRunning), out)
+}

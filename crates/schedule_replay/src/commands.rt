@@ -1,0 +1,313 @@
+//! The start and the stop of masters, and the commands that they are given.
+//!
+//! Each call answers why the event is refused, or `None` where it is done. A refused one has changed nothing that the world sees. The hard
+//! state is written before a master is told. After `OutOfMemory` what was lent is not to be used.
+
+ghost use Rattle.std.specs.Prelude.{◌≡◌, ◌<◌, Some, IfOk, is_some};
+ghost use Rattle.std.specs.Ordering.{nat_cmp};
+ghost use Rattle.std.specs.FinMap.Entries.{find};
+ghost use Rattle.written_roles.specs.MasterSteps.{Submits, Finishes, BansMachine, UnbansMachine, StartsServing, MakesRoom};
+ghost use Rattle.written_world.specs.World.{World};
+ghost use Rattle.written_world.specs.Events.{commanded, resync_master, start_master, stop_master};
+ghost use Rattle.running_masters.specs.Running.{AreMastersOf, Fits, MayStep};
+ghost use Rattle.running_masters.specs.Calls.{IsCommand};
+ghost use Rattle.schedule_replay.specs.Events.{job_named};
+ghost use Rattle.schedule_replay.specs.Commands.{AreGoverned, Governs, GovernsMasters, GovernsOn, TakesStep, TellsInWorld, governing, hard_refusal, job_refusal, refusal_in};
+
+use cluster_desc::Cluster;
+use fuxi_master::{MasterEvent, MasterRefusal};
+use fuxi_terms::OutOfMemory;
+use hard_state::HardFault;
+use memory_checkpoint::Checkpoint;
+use running_masters::Masters;
+use schedule_text::Refusal;
+use schedule_unit::{AppNo, Asks, GroupNo, Job, JobFault, MachineNo};
+use std::alloc::Global;
+use std::mem;
+
+// How many masters run at once.
+const MOST_MASTERS: usize = 16;
+
+/// A master starts in an epoch above the fence.
+pub(crate) fn start_master(
+    alloc: Global,
+    cluster: &Cluster,
+    checkpoint: &mut Checkpoint,
+    masters: &mut Masters,
+    epoch: u64,
+) -> Result<Option<Refusal>, OutOfMemory>
+    requires governed { AreGoverned (governing checkpoint.old masters.old) }
+    ensures world { IfOk result (GovernsOn cluster.now epoch (λ w. start_master w epoch) (governing checkpoint.old masters.old) (governing checkpoint.new masters.new)) }
+    ensures steps { IfOk result (λ answer. TakesStep masters.old masters.new) }
+{
+    let _newest = masters.newest();
+    let fence = checkpoint.hard().fence();
+    if epoch <= fence {
+        return Ok(Some(Refusal::NotRising(fence)));
+    }
+    if masters.len() >= MOST_MASTERS {
+        return Ok(Some(Refusal::TooManyMasters(MOST_MASTERS as u64)));
+    }
+    match checkpoint.raise(epoch) {
+        Ok(()) => {}
+        Err(fault) => return Ok(Some(written_refusal(fault)?)),
+    }
+    match masters.start(alloc, cluster, epoch, checkpoint.hard()) {
+        Ok(()) => Ok(None),
+        Err(OutOfMemory) => Err(OutOfMemory),
+    }
+}
+
+/// The master of an epoch stops.
+pub(crate) fn stop_master(masters: &mut Masters, epoch: u64) -> Option<Refusal>
+    ensures world { GovernsMasters epoch (λ w. stop_master w epoch) masters.old masters.new result }
+    ensures steps { TakesStep masters.old masters.new }
+{
+    if masters.stop(epoch) {
+        None
+    } else {
+        Some(Refusal::NotRunning)
+    }
+}
+
+/// A job is submitted by the master of an epoch.
+pub(crate) fn submit(
+    alloc: Global,
+    cluster: &Cluster,
+    checkpoint: &mut Checkpoint,
+    masters: &mut Masters,
+    epoch: u64,
+    app: AppNo,
+    group: GroupNo,
+    asks: &Asks,
+) -> Result<Option<Refusal>, OutOfMemory>
+    requires app { app.0 < 256 }
+    requires governed { AreGoverned (governing checkpoint.old masters.old) }
+    requires steps { MayStep epoch masters.old }
+    ensures world { IfOk result (GovernsOn cluster.now epoch (λ w. commanded w epoch (Submits (job_named app.0 group.0 asks.now))) (governing checkpoint.old masters.old) (governing checkpoint.new masters.new)) }
+    ensures steps { IfOk result (λ answer. TakesStep masters.old masters.new) }
+{
+    if !runs(masters, epoch) {
+        return Ok(Some(Refusal::NotRunning));
+    }
+    if group.0 >= cluster.groups() {
+        return Ok(Some(Refusal::NoGroup));
+    }
+    let job = match Job::make(alloc, app, group, cluster.resources(), asks.as_slice()) {
+        Ok(job) => job,
+        Err(fault) => return Ok(Some(asked_refusal(fault)?)),
+    };
+    match checkpoint.submit(epoch, &job) {
+        Ok(()) => {}
+        Err(fault) => return Ok(Some(written_refusal(fault)?)),
+    }
+    tell(alloc, masters, epoch, MasterEvent::Admit(job))
+}
+
+/// A job is ended by the master of an epoch.
+pub(crate) fn finish(
+    alloc: Global,
+    checkpoint: &mut Checkpoint,
+    masters: &mut Masters,
+    epoch: u64,
+    app: AppNo,
+) -> Result<Option<Refusal>, OutOfMemory>
+    requires governed { AreGoverned (governing checkpoint.old masters.old) }
+    requires steps { MayStep epoch masters.old }
+    ensures world { IfOk result (Governs epoch (λ w. commanded w epoch (Finishes app.0)) (governing checkpoint.old masters.old) (governing checkpoint.new masters.new)) }
+    ensures steps { IfOk result (λ answer. TakesStep masters.old masters.new) }
+{
+    if !runs(masters, epoch) {
+        return Ok(Some(Refusal::NotRunning));
+    }
+    match checkpoint.finish(epoch, app) {
+        Ok(()) => {}
+        Err(fault) => return Ok(Some(written_refusal(fault)?)),
+    }
+    tell(alloc, masters, epoch, MasterEvent::Finish(app))
+}
+
+/// A machine is banned by the master of an epoch.
+pub(crate) fn ban(
+    alloc: Global,
+    cluster: &Cluster,
+    checkpoint: &mut Checkpoint,
+    masters: &mut Masters,
+    epoch: u64,
+    machine: MachineNo,
+) -> Result<Option<Refusal>, OutOfMemory>
+    requires governed { AreGoverned (governing checkpoint.old masters.old) }
+    requires steps { MayStep epoch masters.old }
+    ensures world { IfOk result (GovernsOn cluster.now epoch (λ w. commanded w epoch (BansMachine machine.0)) (governing checkpoint.old masters.old) (governing checkpoint.new masters.new)) }
+    ensures steps { IfOk result (λ answer. TakesStep masters.old masters.new) }
+{
+    if !runs(masters, epoch) {
+        return Ok(Some(Refusal::NotRunning));
+    }
+    if machine.0 >= cluster.machines() {
+        return Ok(Some(Refusal::NoMachine));
+    }
+    match checkpoint.ban(epoch, machine) {
+        Ok(()) => {}
+        Err(fault) => return Ok(Some(written_refusal(fault)?)),
+    }
+    tell(alloc, masters, epoch, MasterEvent::Ban(machine))
+}
+
+/// The ban of a machine is lifted by the master of an epoch.
+pub(crate) fn unban(
+    alloc: Global,
+    cluster: &Cluster,
+    checkpoint: &mut Checkpoint,
+    masters: &mut Masters,
+    epoch: u64,
+    machine: MachineNo,
+) -> Result<Option<Refusal>, OutOfMemory>
+    requires governed { AreGoverned (governing checkpoint.old masters.old) }
+    requires steps { MayStep epoch masters.old }
+    ensures world { IfOk result (GovernsOn cluster.now epoch (λ w. commanded w epoch (UnbansMachine machine.0)) (governing checkpoint.old masters.old) (governing checkpoint.new masters.new)) }
+    ensures steps { IfOk result (λ answer. TakesStep masters.old masters.new) }
+{
+    if !runs(masters, epoch) {
+        return Ok(Some(Refusal::NotRunning));
+    }
+    if machine.0 >= cluster.machines() {
+        return Ok(Some(Refusal::NoMachine));
+    }
+    match checkpoint.unban(epoch, machine) {
+        Ok(()) => {}
+        Err(fault) => return Ok(Some(written_refusal(fault)?)),
+    }
+    tell(alloc, masters, epoch, MasterEvent::Unban(machine))
+}
+
+/// The master of an epoch serves from now on, though machines are not reported.
+pub(crate) fn begin(
+    alloc: Global,
+    masters: &mut Masters,
+    epoch: u64,
+) -> Result<Option<Refusal>, OutOfMemory>
+    requires steps { MayStep epoch masters.old }
+    ensures world { IfOk result (GovernsMasters epoch (λ w. commanded w epoch StartsServing) masters.old masters.new) }
+    ensures steps { IfOk result (λ answer. TakesStep masters.old masters.new) }
+{
+    if !runs(masters, epoch) {
+        return Ok(Some(Refusal::NotRunning));
+    }
+    tell(alloc, masters, epoch, MasterEvent::Begin)
+}
+
+/// The master of an epoch makes room for a unit that waits.
+pub(crate) fn preempt(
+    alloc: Global,
+    masters: &mut Masters,
+    epoch: u64,
+) -> Result<Option<Refusal>, OutOfMemory>
+    requires steps { MayStep epoch masters.old }
+    ensures world { IfOk result (GovernsMasters epoch (λ w. commanded w epoch MakesRoom) masters.old masters.new) }
+    ensures steps { IfOk result (λ answer. TakesStep masters.old masters.new) }
+{
+    if !runs(masters, epoch) {
+        return Ok(Some(Refusal::NotRunning));
+    }
+    tell(alloc, masters, epoch, MasterEvent::Preempt)
+}
+
+/// The master of an epoch forgets what its peers have acknowledged.
+pub(crate) fn resync(
+    alloc: Global,
+    masters: &mut Masters,
+    epoch: u64,
+) -> Result<Option<Refusal>, OutOfMemory>
+    requires steps { MayStep epoch masters.old }
+    ensures world { IfOk result (GovernsMasters epoch (λ w. resync_master w epoch) masters.old masters.new) }
+    ensures steps { IfOk result (λ answer. TakesStep masters.old masters.new) }
+{
+    let before = mem::replace(masters, Masters::none(alloc));
+    let (after, ran) = match before.resync(alloc, epoch) {
+        Ok(after) => after,
+        Err(OutOfMemory) => return Err(OutOfMemory),
+    };
+    *masters = after;
+    if !ran {
+        return Ok(Some(Refusal::NotRunning));
+    }
+    Ok(None)
+}
+
+// Whether the master of an epoch runs.
+fn runs(masters: &Masters, epoch: u64) -> bool
+    ensures { (w : World) → AreMastersOf w masters.now → result ≡ is_some (find nat_cmp epoch w.masters) }
+{
+    masters.get(epoch).is_some()
+}
+
+// Tells the master of an epoch a command, for which the hard state is written.
+fn tell(
+    alloc: Global,
+    masters: &mut Masters,
+    epoch: u64,
+    event: MasterEvent,
+) -> Result<Option<Refusal>, OutOfMemory>
+    requires command { IsCommand event }
+    requires fitting { Fits epoch event masters.old }
+    requires steps { MayStep epoch masters.old }
+    ensures world { IfOk result (TellsInWorld epoch event masters.old masters.new) }
+    ensures steps { IfOk result (λ answer. TakesStep masters.old masters.new) }
+{
+    let before = mem::replace(masters, Masters::none(alloc));
+    match before.command(alloc, epoch, event) {
+        Ok((after, answer)) => {
+            *masters = after;
+            Ok(answered_refusal(answer))
+        }
+        Err(OutOfMemory) => Err(OutOfMemory),
+    }
+}
+
+// What a master's answer to a command says.
+fn answered_refusal(answer: Option<Result<(), MasterRefusal>>) -> Option<Refusal>
+    ensures { result ≡ refusal_in answer }
+{
+    match answer {
+        None => Some(Refusal::NotRunning),
+        Some(Ok(())) => None,
+        Some(Err(MasterRefusal::AlreadyServing)) => Some(Refusal::AlreadyServing),
+        Some(Err(MasterRefusal::NotServing)) => Some(Refusal::NotServing),
+        Some(Err(MasterRefusal::NothingToPreempt)) => Some(Refusal::NothingToPreempt),
+    }
+}
+
+// The refusal that a fault of the hard state is. A file that is damaged and a fault of the disk do not come from a checkpoint in memory.
+fn written_refusal(fault: HardFault) -> Result<Refusal, OutOfMemory>
+    ensures { IfOk result (λ refusal. hard_refusal fault ≡ Some refusal) }
+{
+    match fault {
+        HardFault::Stale { fence } => Ok(Refusal::NotRising(fence)),
+        HardFault::Fenced { fence } => Ok(Refusal::Fenced(fence)),
+        HardFault::Known => Ok(Refusal::Known),
+        HardFault::NoJob => Ok(Refusal::NoJob),
+        HardFault::Ended => Ok(Refusal::Ended),
+        HardFault::AlreadyBanned => Ok(Refusal::AlreadyBanned),
+        HardFault::NotBanned => Ok(Refusal::NotBanned),
+        HardFault::Full => Ok(Refusal::HardFull(65_536)),
+        HardFault::NotCheckpoint { .. } | HardFault::DiskFault | HardFault::OutOfMemory => {
+            Err(OutOfMemory)
+        }
+    }
+}
+
+// The refusal that a fault of what is asked for a job is.
+fn asked_refusal(fault: JobFault) -> Result<Refusal, OutOfMemory>
+    ensures { IfOk result (λ refusal. job_refusal fault ≡ Some refusal) }
+{
+    match fault {
+        JobFault::NoUnits => Ok(Refusal::NoUnits),
+        JobFault::TooManyUnits => Ok(Refusal::TooManyUnits),
+        JobFault::Dimensions(unit) => Ok(Refusal::Dimensions(unit)),
+        JobFault::PriorityRange(unit) => Ok(Refusal::PriorityRange(unit)),
+        JobFault::QuantityRange(unit) => Ok(Refusal::QuantityRange(unit)),
+        JobFault::ZeroSize(unit) => Ok(Refusal::ZeroSize(unit)),
+        JobFault::OutOfMemory => Err(OutOfMemory),
+    }
+}

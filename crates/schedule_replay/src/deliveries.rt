@@ -1,0 +1,201 @@
+//! Deliveries: what parties hear.
+
+ghost use Rattle.std.specs.Prelude.{◌≡◌, ◌<◌, ◌≤◌, IfErr, IfOk, OnOk};
+ghost use Rattle.party_ledgers.specs.Packets.{IsFormed};
+ghost use Rattle.written_world.specs.Events.{deliver, deliver_one, deliver_range, dump};
+ghost use Rattle.schedule_replay.specs.Moves.{Acts, CanMove, CanMoveLong, Does, HearsIn, MovesOnce, WantsMemory};
+
+use crate::laws::{agents_act, apps_act, cores_may_step, masters_act};
+use crate::running::Running;
+use crate::stop::WorldStop;
+use crate::text::{write_heard, write_kept, write_refusal};
+use fuxi_terms::OutOfMemory;
+use packet_pool::stored_is_read;
+use party_ledgers::{Heard, Kind, Packet};
+use running_masters::Masters;
+use written_order::worlds_in_order;
+use schedule_text::Refusal;
+use schedule_unit::Role;
+use std::alloc::Global;
+use std::mem;
+use wire_frames::read_packet;
+use written_join::every_change_is_taken;
+use written_world::every_event_keeps_good;
+
+// A packet is heard by the master of the epoch that it names.
+fn hear_at_master(
+    running: &mut Running,
+    alloc: Global,
+    packet: Packet,
+) -> Result<Option<Heard>, OutOfMemory>
+    requires master { packet.to.role ≡ Role.Master }
+    requires formed { IsFormed packet }
+    requires no_end { packet.kind ≡ Kind.End → ⊥ }
+    requires can { CanMove running.old }
+    ensures hears { IfOk result (HearsIn packet running.old running.new) }
+    ensures once { OnOk result (MovesOnce running.old running.new) }
+    ensures pool { OnOk result (running.new.pool ≡ running.old.pool) }
+{
+    masters_act();
+    cores_may_step();
+    every_change_is_taken();
+    let masters = mem::replace(&mut running.masters, Masters::none(alloc));
+    let (masters, heard) = masters.hear(alloc, packet)?;
+    running.masters = masters;
+    Ok(heard)
+}
+
+// A packet is heard by the agent of its machine.
+fn hear_at_agent(
+    running: &mut Running,
+    alloc: Global,
+    packet: &Packet,
+) -> Result<Option<Heard>, OutOfMemory>
+    requires agent { packet.now.to.role ≡ Role.Agent }
+    requires formed { IsFormed packet.now }
+    requires no_end { packet.now.kind ≡ Kind.End → ⊥ }
+    requires can { CanMove running.old }
+    ensures hears { IfOk result (HearsIn packet.now running.old running.new) }
+    ensures once { OnOk result (MovesOnce running.old running.new) }
+    ensures pool { OnOk result (running.new.pool ≡ running.old.pool) }
+{
+    agents_act();
+    cores_may_step();
+    every_change_is_taken();
+    running.agents.hear(alloc, packet)
+}
+
+// A packet is heard by the application of its job.
+fn hear_at_app(
+    running: &mut Running,
+    alloc: Global,
+    packet: &Packet,
+) -> Result<Option<Heard>, OutOfMemory>
+    requires app { packet.now.to.role ≡ Role.App }
+    requires formed { IsFormed packet.now }
+    requires no_end { packet.now.kind ≡ Kind.End → ⊥ }
+    requires can { CanMove running.old }
+    ensures hears { IfOk result (HearsIn packet.now running.old running.new) }
+    ensures once { OnOk result (MovesOnce running.old running.new) }
+    ensures pool { OnOk result (running.new.pool ≡ running.old.pool) }
+{
+    apps_act();
+    cores_may_step();
+    every_change_is_taken();
+    running.apps.hear(alloc, packet)
+}
+
+// A packet is heard by the party that it is for, if that runs.
+fn hear(
+    running: &mut Running,
+    alloc: Global,
+    packet: Packet,
+) -> Result<Option<Heard>, OutOfMemory>
+    requires formed { IsFormed packet }
+    requires no_end { packet.kind ≡ Kind.End → ⊥ }
+    requires can { CanMove running.old }
+    ensures hears { IfOk result (HearsIn packet running.old running.new) }
+    ensures once { OnOk result (MovesOnce running.old running.new) }
+    ensures pool { OnOk result (running.new.pool ≡ running.old.pool) }
+{
+    match packet.to.role {
+        Role::Master => hear_at_master(running, alloc, packet),
+        Role::Agent => hear_at_agent(running, alloc, &packet),
+        Role::App => hear_at_app(running, alloc, &packet),
+    }
+}
+
+// The packet of this number is delivered, read from its stored frame; none where fewer were sent.
+fn deliver_one(
+    running: &mut Running,
+    alloc: Global,
+    number: u64,
+    out: &mut Vec<u8>,
+) -> Result<(), WorldStop>
+    requires first { 0 < number }
+    requires can { CanMove running.old }
+    ensures does { OnOk result (Does (deliver_one number) running.old running.new out.old.items out.new.items) }
+    ensures once { OnOk result (MovesOnce running.old running.new) }
+    ensures pool { OnOk result (running.new.pool ≡ running.old.pool) }
+    ensures err { IfErr result WantsMemory }
+{
+    stored_is_read();
+    let Some(bytes) = running.pool.frame(number) else {
+        return Ok(());
+    };
+    let packet = match read_packet(alloc, bytes) {
+        Ok((packet, _)) => packet,
+        Err(_) => return Err(WorldStop::OutOfMemory),
+    };
+    let Ok(heard) = hear(running, alloc, packet) else {
+        return Err(WorldStop::OutOfMemory);
+    };
+    write_heard(number, heard, out)
+}
+
+// The packet of this number is delivered, if so many were sent.
+pub(crate) fn deliver(
+    running: &mut Running,
+    alloc: Global,
+    number: u64,
+    out: &mut Vec<u8>,
+) -> Result<(), WorldStop>
+    requires first { 0 < number }
+    requires can { CanMove running.old }
+    ensures { Acts (λ w. deliver w number) running.old running.new out.old.items out.new.items result }
+{
+    let sent = running.pool.len();
+    if number > sent {
+        return write_refusal(Some(Refusal::NoPacket(sent)), out);
+    }
+    deliver_one(running, alloc, number, out)
+}
+
+// The packets of these numbers are delivered, one after another, if so many were sent.
+pub(crate) fn deliver_range(
+    running: &mut Running,
+    alloc: Global,
+    first: u64,
+    last: u64,
+    out: &mut Vec<u8>,
+) -> Result<(), WorldStop>
+    requires first { 0 < first }
+    requires order { first ≤ last }
+    requires can { CanMoveLong running.old }
+    requires counted { 0 < running.old.events }
+    ensures { Acts (λ w. deliver_range w first last) running.old running.new out.old.items out.new.items result }
+{
+    every_event_keeps_good();
+    worlds_in_order();
+    let sent = running.pool.len();
+    if first > sent {
+        return write_refusal(Some(Refusal::NoPacket(sent)), out);
+    }
+    if last > sent {
+        return write_refusal(Some(Refusal::NoPacket(sent)), out);
+    }
+    for number in first..last + 1 {
+        match deliver_one(running, alloc, number, out) {
+            Ok(()) => {}
+            Err(stop) => return Err(stop),
+        }
+    }
+    Ok(())
+}
+
+// The packet of this number is printed as its frame, if so many were sent.
+pub(crate) fn dump(
+    running: &Running,
+    alloc: Global,
+    number: u64,
+    out: &mut Vec<u8>,
+) -> Result<(), WorldStop>
+    requires { 0 < number }
+    ensures { Acts (λ w. dump w number) running.now running.now out.old.items out.new.items result }
+{
+    let sent = running.pool.len();
+    let Some(bytes) = running.pool.frame(number) else {
+        return write_refusal(Some(Refusal::NoPacket(sent)), out);
+    };
+    write_kept(alloc, number, bytes, out)
+}

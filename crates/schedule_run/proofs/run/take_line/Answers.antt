@@ -1,0 +1,17 @@
+use Rattle.std.proofs.Common.{sym, subst}
+use Rattle.schedule_replay.specs.Worlds.{WorldRecord}
+use Rattle.schedule_run.specs.Progress.{Stands}
+use Rattle.schedule_run.proofs.Stepping.{event_line, stopped_at}
+use Rattle.schedule_run.proofs.run.take_line.Goals as goal
+
+pub step-requires-clause-line : goal.step-requires-clause-line
+step-requires-clause-line g c = c.events_of_lines.ensures c.args.line.now c.in-Ok.event c.in-Ok.ensures.ok
+
+pub returns-in-Err-step-clause-takes : goal.returns-in-Err-step-clause-takes
+returns-in-Err-step-clause-takes g c w s =
+    rw c.stop_status.ensures (stopped_at WorldRecord c.args.line.now c.args.number w c.in-Ok.event (g.O.Sink.took c.args.out.now) (sym c.if-is_skipped.ensures) c.in-Ok.ensures.ok c.in-Err-step.stop (c.in-Err-step.ensures.stops w s.is s.stands))
+
+pub returns-in-Ok-write_all_of-clause-stands : goal.returns-in-Ok-write_all_of-clause-stands
+returns-in-Ok-write_all_of-clause-stands g c w s =
+    let t = c.in-Ok-step.ensures.takes w s.is s.stands in
+    subst (Stands c.in-Ok-step.after.0) (sym (event_line w c.args.line.now c.in-Ok.event (sym c.if-is_skipped.ensures) c.in-Ok.ensures.ok)) (record { is = t.is; stands = t.stands })

@@ -1,0 +1,5 @@
+pub mod Contents
+pub mod Inputs
+pub mod Runs
+pub mod Told
+pub mod Progress
