@@ -47,11 +47,11 @@ def mixed(lines):
     while True:
         kind = draw.random()
         job, unit, machine = draw.randrange(JOBS), draw.randrange(UNITS), draw.randrange(MACHINES)
-        if kind < 0.60:
+        if kind < 0.70:
             yield f"deliver {max(1, sent.count - draw.randrange(2000))}"
-        elif kind < 0.80:
+        elif kind < 0.78:
             yield sent.turn(draw, 1, MACHINES, JOBS)
-        elif kind < 0.90:
+        elif kind < 0.89:
             yield f"want {job} {unit} {draw.randrange(200)}"
         elif kind < 0.94:
             yield f"near {job} {unit} {machine} {draw.randrange(5)}"

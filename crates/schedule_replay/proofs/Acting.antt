@@ -50,6 +50,7 @@ role_of_master d is = by (nat_eq d.role 1) refl is
   where
     no_truth : false ≡ true → ⊥
     no_truth t = grind (arith, t)
+
     by : (b : Bool) → nat_eq d.role 1 ≡ b → (b && nat_eq d.number 0) ≡ true → d.role ≡ 1
     by true e t = grind (arith, nat_tests, e)
     by false e t = absurd (no_truth t)

@@ -141,7 +141,7 @@ dumps old number bytes before after first at writes = record {
       let there = below w.net.packets (number - 1) f.written f.there in
       let few : nat_lt (length w.net.packets) number ≡ false = grind (arith, nat_tests, there, first) in
       let same : dump w number ≡ frame_step w number (Some f.written) =
-          first_passes w (nat_lt (length w.net.packets) number) (NoPacket (length w.net.packets)) [] (λ v. frame_step v number (packet_of v number)) few ∙ ap (frame_step w number) f.there in
+      first_passes w (nat_lt (length w.net.packets) number) (NoPacket (length w.net.packets)) [] (λ v. frame_step v number (packet_of v number)) few ∙ ap (frame_step w number) f.there in
       subst (λ t. IsDone t old before after) (sym same) (record { stands = s; text = writes k.packet w.net f.written f.sent k.framed f.same });
   moves = once_up_to old old (none_once old old.pool);
 }

@@ -91,11 +91,14 @@ same_bytes law net (p ∷ ps) (x ∷ xs) h is =
     head_or : Parcel → List Parcel → Parcel
     head_or d [] = d
     head_or d (y ∷ ys) = y
+
     tail_of : List Parcel → List Parcel
     tail_of [] = []
     tail_of (y ∷ ys) = ys
+
     first_is : (a b : Parcel) (as_ bs : List Parcel) → a ∷ as_ ≡ b ∷ bs → a ≡ b
     first_is a b as_ bs e = ap (head_or a) e
+
     rest_is : (a b : Parcel) (as_ bs : List Parcel) → a ∷ as_ ≡ b ∷ bs → as_ ≡ bs
     rest_is a b as_ bs e = ap tail_of e
 
@@ -118,8 +121,8 @@ sent_kept w w' p sent old k acts =
     let b = length-map sent frame in
     let c = kept_length w old k in
     let d : length w'.net.packets ≡ length w.net.packets + length sent =
-        sym (length-map w'.net.packets (parcel_of w'.net)) ∙ ap length acts.packets ∙ length-append (map (parcel_of w.net) w.net.packets) (map parcel_is sent)
-        ∙ (λ i. length-map w.net.packets (parcel_of w.net) i + length-map sent parcel_is i) in
+    sym (length-map w'.net.packets (parcel_of w'.net)) ∙ ap length acts.packets ∙ length-append (map (parcel_of w.net) w.net.packets) (map parcel_is sent)
+    ∙ (λ i. length-map w.net.packets (parcel_of w.net) i + length-map sent parcel_is i) in
     omega (arith, a, b, c, d)
 
 sent_bytes : FrameLengths → (w w' : World) (p : Party) (sent : List PacketHere) (old : Stored) → KeepsPackets w old → AllByRecursion HasFrame sent → OneActs w.net w'.net p (map parcel_is sent) → bytes_of (with_frames old sent).frames ≡ packet_bytes w'
@@ -140,6 +143,7 @@ many_alike false true n m kept is = absurd (other is)
     mark : Option PoolFault → ℕ
     mark (Some (pool.TooManyPackets k)) = 1
     mark _ = 0
+
     other : Some (pool.PoolBytes m) ≡ Some (pool.TooManyPackets kept) → ⊥
     other e = let no : 0 ≡ 1 = ap mark e in omega (arith, no)
 many_alike false false n m kept is = absurd (other is)
@@ -147,6 +151,7 @@ many_alike false false n m kept is = absurd (other is)
     mark : Option PoolFault → ℕ
     mark (Some f) = 1
     mark None = 0
+
     other : None ≡ Some (pool.TooManyPackets kept) → ⊥
     other e = let no : 0 ≡ 1 = ap mark e in omega (arith, no)
 
@@ -161,6 +166,7 @@ large_alike true b n m kept is = absurd (other is)
     mark : Option PoolFault → ℕ
     mark (Some (pool.PoolBytes k)) = 1
     mark _ = 0
+
     other : Some (pool.TooManyPackets n) ≡ Some (pool.PoolBytes kept) → ⊥
     other e = let no : 0 ≡ 1 = ap mark e in omega (arith, no)
 large_alike false false n m kept is = absurd (other is)
@@ -168,6 +174,7 @@ large_alike false false n m kept is = absurd (other is)
     mark : Option PoolFault → ℕ
     mark (Some f) = 1
     mark None = 0
+
     other : None ≡ Some (pool.PoolBytes kept) → ⊥
     other e = let no : 0 ≡ 1 = ap mark e in omega (arith, no)
 

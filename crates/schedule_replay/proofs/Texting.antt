@@ -89,7 +89,7 @@ sent_more net first i xs y before mid after at long one two =
     two ∙ ap (λ t. t ++ lines_text (sent_lines net (first + i) (y ∷ []))) one
     ∙ append_assoc before (lines_text (sent_lines net first (take i xs))) (lines_text (sent_lines net (first + i) (y ∷ [])))
     ∙ ap (λ t. before ++ t) (sym (ap lines_text (ap (sent_lines net first) (take_last xs i y at) ∙ sent_behind net first (take i xs) y ∙ ap (λ n. sent_lines net first (take i xs) ++ sent_lines net (first + n) (y ∷ [])) long)
-        ∙ lines_append (sent_lines net first (take i xs)) (sent_lines net (first + i) (y ∷ []))))
+    ∙ lines_append (sent_lines net first (take i xs)) (sent_lines net (first + i) (y ∷ []))))
 
 -- A packet of the program is made again of what it says
 back_role : (r : Role) → role_as (role_number r) ≡ r

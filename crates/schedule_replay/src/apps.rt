@@ -42,7 +42,10 @@ pub(crate) fn start_app(
         return write_refusal(Some(Refusal::NotRising(known)), out);
     }
     let units = job.units();
-    match running.apps.start(alloc, app, units, &running.cluster, boot) {
+    match running
+        .apps
+        .start(alloc, app, units, &running.cluster, boot)
+    {
         Ok(()) => Ok(()),
         Err(_) => Err(WorldStop::OutOfMemory),
     }

@@ -13,13 +13,13 @@ use fuxi_terms::OutOfMemory;
 use packet_pool::stored_is_read;
 use party_ledgers::{Heard, Kind, Packet};
 use running_masters::Masters;
-use written_order::worlds_in_order;
 use schedule_text::Refusal;
 use schedule_unit::Role;
 use std::alloc::Global;
 use std::mem;
 use wire_frames::read_packet;
 use written_join::every_change_is_taken;
+use written_order::worlds_in_order;
 use written_world::every_event_keeps_good;
 
 // A packet is heard by the master of the epoch that it names.
@@ -86,11 +86,7 @@ fn hear_at_app(
 }
 
 // A packet is heard by the party that it is for, if that runs.
-fn hear(
-    running: &mut Running,
-    alloc: Global,
-    packet: Packet,
-) -> Result<Option<Heard>, OutOfMemory>
+fn hear(running: &mut Running, alloc: Global, packet: Packet) -> Result<Option<Heard>, OutOfMemory>
     requires formed { IsFormed packet }
     requires no_end { packet.kind ≡ Kind.End → ⊥ }
     requires can { CanMove running.old }

@@ -74,7 +74,11 @@ fn write_sent(packet: &Packet, number: u64, out: &mut Vec<u8>) -> Result<(), Wor
 }
 
 // The lines of the packets of a turn, of which the first has this number.
-pub(crate) fn write_all_sent(packets: &[Packet], first: u64, out: &mut Vec<u8>) -> Result<(), WorldStop>
+pub(crate) fn write_all_sent(
+    packets: &[Packet],
+    first: u64,
+    out: &mut Vec<u8>,
+) -> Result<(), WorldStop>
     requires sent { AllByRecursion IsSent packets.now }
     requires few { first + length packets.now < 2 ^ 63 }
     ensures err { IfErr result WantsMemory }
@@ -90,7 +94,11 @@ pub(crate) fn write_all_sent(packets: &[Packet], first: u64, out: &mut Vec<u8>) 
 }
 
 // As what the packet of this number was heard, if by anybody.
-pub(crate) fn write_heard(number: u64, heard: Option<Heard>, out: &mut Vec<u8>) -> Result<(), WorldStop>
+pub(crate) fn write_heard(
+    number: u64,
+    heard: Option<Heard>,
+    out: &mut Vec<u8>,
+) -> Result<(), WorldStop>
     ensures ok { OnOk result (out.new.items ≡ out.old.items ++ lines_text (heard_lines number heard)) }
     ensures err { IfErr result WantsMemory }
 {
@@ -101,7 +109,12 @@ pub(crate) fn write_heard(number: u64, heard: Option<Heard>, out: &mut Vec<u8>) 
 }
 
 // The frame of the packet of this number.
-pub(crate) fn write_kept(alloc: Global, number: u64, bytes: &[u8], out: &mut Vec<u8>) -> Result<(), WorldStop>
+pub(crate) fn write_kept(
+    alloc: Global,
+    number: u64,
+    bytes: &[u8],
+    out: &mut Vec<u8>,
+) -> Result<(), WorldStop>
     ensures err { IfErr result WantsMemory }
     ensures ok { OnOk result ((packet : PacketSeen) (net : Net Ledger) (x : WrittenPacket) → IsSent packet → bytes.now ≡ frame packet → parcel_is packet ≡ parcel_of net x
         → out.new.items ≡ out.old.items ++ lines_text (Frame number x (body_of net x.kind x) ∷ [])) }

@@ -34,11 +34,11 @@ use running_apps::Apps;
 use running_masters::Masters;
 use running_quiet::is_quiet;
 use running_state::write_state;
-use written_order::worlds_in_order;
 use schedule_text::Event;
 use schedule_unit::{AppNo, MachineNo};
 use std::alloc::Global;
 use std::marker::Model;
+use written_order::worlds_in_order;
 use written_world::{every_event_keeps_good, good_at_start};
 
 /// All that runs at once: the masters, agents and applications of a cluster, the hard state of its masters, and the frames of all packets

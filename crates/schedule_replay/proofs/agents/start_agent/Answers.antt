@@ -22,10 +22,10 @@ returns-then-machine-machines c =
     let b = c.args.boot in
     acts_by (λ w. start_agent w m b) now now c.args.out.now.items c.write_refusal.new.out.items _ c.write_refusal.result c.write_refusal.ensures.ok c.write_refusal.ensures.err
     (refuses (λ w. start_agent w m b) now why.NoMachine c.args.out.now.items c.write_refusal.new.out.items (λ w is s.
-        let n = c.machines.ensures.number ∙ ap (λ (r : WorldRecord). length r.cluster.machines) c.running.view_is ∙ ap (λ (d : ClusterRecord). length d.machines) s.cluster in
-        let beyond = c.if-machine-machines.true in
-        let none : has_machine w.cluster m ≡ false = grind (arith, nat_tests, n, beyond) in
-        agent_beyond w m b none))
+    let n = c.machines.ensures.number ∙ ap (λ (r : WorldRecord). length r.cluster.machines) c.running.view_is ∙ ap (λ (d : ClusterRecord). length d.machines) s.cluster in
+    let beyond = c.if-machine-machines.true in
+    let none : has_machine w.cluster m ≡ false = grind (arith, nat_tests, n, beyond) in
+    agent_beyond w m b none))
 
 pub returns-then-boot-known : goal.returns-then-boot-known
 returns-then-boot-known c =
@@ -34,12 +34,12 @@ returns-then-boot-known c =
     let b = c.args.boot in
     acts_by (λ w. start_agent w m b) now now c.args.out.now.items c.write_refusal-then-boot-known.new.out.items _ c.write_refusal-then-boot-known.result c.write_refusal-then-boot-known.ensures.ok c.write_refusal-then-boot-known.ensures.err
     (refuses (λ w. start_agent w m b) now (why.NotRising c.boot-known.result) c.args.out.now.items c.write_refusal-then-boot-known.new.out.items (λ w is s.
-        let n = c.machines.ensures.number ∙ ap (λ (r : WorldRecord). length r.cluster.machines) c.running.view_is ∙ ap (λ (d : ClusterRecord). length d.machines) s.cluster in
-        let within = c.if-machine-machines.false in
-        let there : has_machine w.cluster m ≡ true = grind (arith, nat_tests, n, within) in
-        let known : c.boot-known.result ≡ w.boots (agent_id m) = c.boot-known.ensures ∙ ap (λ (r : WorldRecord). boot_in r.agents m) c.running.view_is ∙ sym (s.agents.last m) in
-        let low = c.if-boot-known.true in
-        agent_too_low w m b there (omega (arith, known, low)) ∙ ap (λ k. refused w (NotRising k)) (sym known)))
+    let n = c.machines.ensures.number ∙ ap (λ (r : WorldRecord). length r.cluster.machines) c.running.view_is ∙ ap (λ (d : ClusterRecord). length d.machines) s.cluster in
+    let within = c.if-machine-machines.false in
+    let there : has_machine w.cluster m ≡ true = grind (arith, nat_tests, n, within) in
+    let known : c.boot-known.result ≡ w.boots (agent_id m) = c.boot-known.ensures ∙ ap (λ (r : WorldRecord). boot_in r.agents m) c.running.view_is ∙ sym (s.agents.last m) in
+    let low = c.if-boot-known.true in
+    agent_too_low w m b there (omega (arith, known, low)) ∙ ap (λ k. refused w (NotRising k)) (sym known)))
 
 pub returns : goal.returns
 returns c =

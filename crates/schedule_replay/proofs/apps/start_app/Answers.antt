@@ -22,8 +22,8 @@ returns-in_default c =
     let b = c.args.boot in
     acts_by (λ w. start_app w a b) now now c.args.out.now.items c.write_refusal.new.out.items _ c.write_refusal.result c.write_refusal.ensures.ok c.write_refusal.ensures.err
     (refuses (λ w. start_app w a b) now why.NoJob c.args.out.now.items c.write_refusal.new.out.items (λ w is s.
-        let same = ap (λ (k : Kept). k.value.jobs) c.hard.ensures ∙ ap (λ (r : WorldRecord). r.checkpoint.hard.value.jobs) c.running.view_is ∙ ap (λ (h : HardState). h.jobs) s.hard in
-        app_unknown w a b (subst (λ js. is_known js a ≡ false) same (c.in_default.ensures.none refl))))
+    let same = ap (λ (k : Kept). k.value.jobs) c.hard.ensures ∙ ap (λ (r : WorldRecord). r.checkpoint.hard.value.jobs) c.running.view_is ∙ ap (λ (h : HardState). h.jobs) s.hard in
+    app_unknown w a b (subst (λ js. is_known js a ≡ false) same (c.in_default.ensures.none refl))))
 
 pub returns-then-ended : goal.returns-then-ended
 returns-then-ended c =
@@ -32,11 +32,11 @@ returns-then-ended c =
     let b = c.args.boot in
     acts_by (λ w. start_app w a b) now now c.args.out.now.items c.write_refusal-then-ended.new.out.items _ c.write_refusal-then-ended.result c.write_refusal-then-ended.ensures.ok c.write_refusal-then-ended.ensures.err
     (refuses (λ w. start_app w a b) now why.Ended c.args.out.now.items c.write_refusal-then-ended.new.out.items (λ w is s.
-        let behind = ap (λ (r : WorldRecord). r.checkpoint.hard.value.jobs) c.running.view_is ∙ ap (λ (h : HardState). h.jobs) s.hard in
-        let same = ap (λ (k : Kept). k.value.jobs) c.hard.ensures ∙ behind in
-        let same_again = ap (λ (k : Kept). k.value.jobs) c.hard-2.ensures ∙ behind in
-        app_over w a b (subst (λ js. is_known js a ≡ true) same (job_known c.hard.result.now.value.jobs a c.in-Some.job.now c.in-Some.ensures.some))
-            (subst (λ js. has_ended js a ≡ true) same_again (sym c.ended.ensures ∙ c.if-ended.true))))
+    let behind = ap (λ (r : WorldRecord). r.checkpoint.hard.value.jobs) c.running.view_is ∙ ap (λ (h : HardState). h.jobs) s.hard in
+    let same = ap (λ (k : Kept). k.value.jobs) c.hard.ensures ∙ behind in
+    let same_again = ap (λ (k : Kept). k.value.jobs) c.hard-2.ensures ∙ behind in
+    app_over w a b (subst (λ js. is_known js a ≡ true) same (job_known c.hard.result.now.value.jobs a c.in-Some.job.now c.in-Some.ensures.some))
+    (subst (λ js. has_ended js a ≡ true) same_again (sym c.ended.ensures ∙ c.if-ended.true))))
 
 pub returns-then-boot-known : goal.returns-then-boot-known
 returns-then-boot-known c =
@@ -45,14 +45,14 @@ returns-then-boot-known c =
     let b = c.args.boot in
     acts_by (λ w. start_app w a b) now now c.args.out.now.items c.write_refusal-then-boot-known.new.out.items _ c.write_refusal-then-boot-known.result c.write_refusal-then-boot-known.ensures.ok c.write_refusal-then-boot-known.ensures.err
     (refuses (λ w. start_app w a b) now (why.NotRising c.boot-known.result) c.args.out.now.items c.write_refusal-then-boot-known.new.out.items (λ w is s.
-        let behind = ap (λ (r : WorldRecord). r.checkpoint.hard.value.jobs) c.running.view_is ∙ ap (λ (h : HardState). h.jobs) s.hard in
-        let same = ap (λ (k : Kept). k.value.jobs) c.hard.ensures ∙ behind in
-        let same_again = ap (λ (k : Kept). k.value.jobs) c.hard-2.ensures ∙ behind in
-        let last : c.boot-known.result ≡ w.boots (app_id a) = c.boot-known.ensures ∙ ap (λ (r : WorldRecord). boot_in r.apps a) c.running.view_is ∙ sym (s.apps.last a) in
-        let low = c.if-boot-known.true in
-        app_too_low w a b (subst (λ js. is_known js a ≡ true) same (job_known c.hard.result.now.value.jobs a c.in-Some.job.now c.in-Some.ensures.some))
-            (subst (λ js. has_ended js a ≡ false) same_again (sym c.ended.ensures ∙ c.if-ended.false)) (omega (arith, last, low))
-        ∙ ap (λ k. refused w (NotRising k)) (sym last)))
+    let behind = ap (λ (r : WorldRecord). r.checkpoint.hard.value.jobs) c.running.view_is ∙ ap (λ (h : HardState). h.jobs) s.hard in
+    let same = ap (λ (k : Kept). k.value.jobs) c.hard.ensures ∙ behind in
+    let same_again = ap (λ (k : Kept). k.value.jobs) c.hard-2.ensures ∙ behind in
+    let last : c.boot-known.result ≡ w.boots (app_id a) = c.boot-known.ensures ∙ ap (λ (r : WorldRecord). boot_in r.apps a) c.running.view_is ∙ sym (s.apps.last a) in
+    let low = c.if-boot-known.true in
+    app_too_low w a b (subst (λ js. is_known js a ≡ true) same (job_known c.hard.result.now.value.jobs a c.in-Some.job.now c.in-Some.ensures.some))
+    (subst (λ js. has_ended js a ≡ false) same_again (sym c.ended.ensures ∙ c.if-ended.false)) (omega (arith, last, low))
+    ∙ ap (λ k. refused w (NotRising k)) (sym last)))
 
 pub returns : goal.returns
 returns c =
@@ -72,7 +72,7 @@ returns c =
                 let later : w.boots (app_id a) < b = omega (arith, last, high) in
                 let units : c.units-units.result ≡ unit_count w.hard.jobs a = c.units-units.ensures.number ∙ units_as c.hard.result.now.value.jobs a c.in-Some.job.now c.in-Some.ensures.some ∙ ap (λ (js : List KnownJob). unit_count js a) same in
                 app_starts c.apps_act.ensures w old a b apps c.args.out.now.items s (subst (λ js. is_known js a ≡ true) same (job_known c.hard.result.now.value.jobs a c.in-Some.job.now c.in-Some.ensures.some))
-                    (subst (λ js. has_ended js a ≡ false) same_again (sym c.ended.ensures ∙ c.if-ended.false)) later (x.in-Ok.ensures.world w is.good s.apps s.cluster units later);
+                (subst (λ js. has_ended js a ≡ false) same_again (sym c.ended.ensures ∙ c.if-ended.false)) later (x.in-Ok.ensures.world w is.good s.apps s.cluster units later);
             moves = once_up_to old (record old { apps = apps }) (apps_once old apps old.pool (apps_still old.apps apps c.start.ensures.within));
           }))
       | in-Err x ↦ subst (λ r. Acts (λ w. start_app w a b) c.args.running.now (record old { apps = apps }) c.args.out.now.items c.args.out.now.items r) (sym x.result-is) (λ w is s. tt)
