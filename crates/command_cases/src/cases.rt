@@ -95,6 +95,20 @@ pub fn words(alloc: Global, rest: &str) -> Result<String, AllocError> {
     shown(alloc, &status, out.bytes(), err.bytes())
 }
 
+/// A storm of the seed and the steps behind the number of the write that fails, 0 for none. Its input fails.
+pub fn storm(alloc: Global, rest: &str) -> Result<String, AllocError> {
+    let (fail, rest) = rest.split_once(' ').unwrap_or((rest, ""));
+    let (seed, steps) = rest.split_once(' ').unwrap_or((rest, ""));
+    let mut words = Vec::new(alloc);
+    for word in ["storm", seed, steps] {
+        words.push(String::from_str(alloc, word)?)?;
+    }
+    let mut input = source(alloc, Vec::new(alloc), 1)?;
+    let (mut out, mut err) = (sink(alloc, fail.parse().unwrap_or(0))?, sink(alloc, 0)?);
+    let status = fuxi(alloc, &words, &mut input, &mut out, &mut err);
+    shown(alloc, &status, out.bytes(), err.bytes())
+}
+
 /// A schedule where the read, the write and the write of the error stream with these numbers fail; 0 for none.
 pub fn failing(alloc: Global, rest: &str) -> Result<String, AllocError> {
     let mut fails = [0; 3];

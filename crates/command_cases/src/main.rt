@@ -18,6 +18,7 @@ fn answer(alloc: Global, line: &str) -> Result<String, AllocError> {
         "run" => cases::run(alloc, rest),
         "wants" => cases::behind_wants(alloc, rest),
         "words" => cases::words(alloc, rest),
+        "storm" => cases::storm(alloc, rest),
         "fails" => cases::failing(alloc, rest),
         "reads" => cases::each_read(alloc, rest),
         "writes" => cases::each_write(alloc, rest),

@@ -2,3 +2,4 @@ pub mod Writing
 pub mod Untouched
 pub mod Texts
 pub mod States
+pub mod Storming

@@ -50,7 +50,7 @@ limit_word Bytes = codes "bytes"
 
 abbrev pub report_line : Status → List ℕ
 report_line Done = []
-report_line Usage = codes "usage: fuxi replay\n"
+report_line Usage = codes "usage: fuxi replay | storm SEED STEPS\n"
 report_line (BadInput line fault) = codes "line " ++ decimal line ++ codes ": " ++ fault_name fault ++ fault_value fault ++ codes "\n"
 report_line ReadFault = codes "read fault\n"
 report_line WriteFault = codes "write fault\n"

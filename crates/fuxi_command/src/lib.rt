@@ -5,6 +5,7 @@
 mod program;
 mod telling;
 mod top;
+mod words;
 
 pub use program::{exit_of, run, words_of};
 pub use telling::report;

@@ -1,10 +1,12 @@
-ghost use Rattle.std.specs.Prelude.{◌≡◌, ◌≢◌, ◌↔◌, ◌++◌, IfOk, IfErr, IfSome, true, false, map, string_bytes};
+ghost use Rattle.std.specs.Prelude.{◌≡◌, ◌≢◌, ◌↔◌, ◌++◌, IfOk, IfErr, IfSome, ℕ, Some, true, false, map, string_bytes};
 ghost use Rattle.std.specs.Process.{exit_status};
 ghost use Rattle.std.specs.IoError.{error_kind};
 ghost use Rattle.fuxi_io.specs.Statuses.{code_of};
 ghost use Rattle.schedule_run.specs.Runs.{read_from, Ended};
 ghost use Rattle.schedule_run.specs.Told.{IsText, Writes};
-ghost use Rattle.fuxi_command.specs.Words.{is_command, HasWords, NoWords, WhyNoWords};
+ghost use Rattle.fuxi_command.specs.Storms.{IsStorm};
+ghost use Rattle.fuxi_command.specs.Words.{command_of, is_command, HasWords, NoWords, WhyNoWords};
+ghost use Rattle.fuxi_command.specs.declared.words.Command.TheVariants as Command;
 ghost use Rattle.fuxi_command.specs.Reports.{report_line, TakesReport};
 
 use crate::telling::report;
@@ -59,8 +61,9 @@ pub fn run<S: Source, O: Sink, E: Sink>(
     ensures none { IfErr words (λ status. (result ≡ status) × (input.new ≡ input.old) × (out.new ≡ out.old)) }
     // With words it is what `fuxi` makes of them.
     ensures usage { IfOk words (λ words. result ≡ Status.Usage ↔ (is_command (map string_bytes words.items) ≡ false)) }
-    ensures text { IfOk words (λ words. result ≡ Status.Done → IfSome (S.left input.old) (λ bytes. Writes (IsText bytes) (O.took out.old) (O.took out.new))) }
-    ensures ended { IfOk words (λ words. result ≢ Status.Usage → IfSome (S.left input.old) (λ bytes. Ended (read_from 0) bytes result (S.left input.new) (O.took out.old) (O.took out.new))) }
+    ensures text { IfOk words (λ words. command_of (map string_bytes words.items) ≡ Some Command.Replay → result ≡ Status.Done → IfSome (S.left input.old) (λ bytes. Writes (IsText bytes) (O.took out.old) (O.took out.new))) }
+    ensures ended { IfOk words (λ words. command_of (map string_bytes words.items) ≡ Some Command.Replay → IfSome (S.left input.old) (λ bytes. Ended (read_from 0) bytes result (S.left input.new) (O.took out.old) (O.took out.new))) }
+    ensures storm { IfOk words (λ words. (seed steps : ℕ) → command_of (map string_bytes words.items) ≡ Some (Command.Storm seed steps) → result ≡ Status.Done → Writes (IsStorm seed steps) (O.took out.old) (O.took out.new)) }
     ensures report { TakesReport (report_line result) (E.took err.old) (E.took err.new) (E.faults err.old) (E.faults err.new) }
 {
     match words {

@@ -76,7 +76,7 @@ pub fn report<E: Sink>(err: &mut E, status: &Status) -> Result<(), WriteFault>
 {
     match status {
         Status::Done => Ok(()),
-        Status::Usage => write_all_of(err, b"usage: fuxi replay\n"),
+        Status::Usage => write_all_of(err, b"usage: fuxi replay | storm SEED STEPS\n"),
         Status::BadInput { line, fault } => {
             let mut number = Buffer::new();
             let mut buffer = Buffer::new();

@@ -2,10 +2,10 @@ use Rattle.std.proofs.Common.{refl}
 use Rattle.schedule_run.specs.Runs.{read_from, Ended}
 use Rattle.fuxi_command.proofs.Texts.{begun, text_before}
 use Rattle.fuxi_command.proofs.Untouched.{untouched}
-use Rattle.fuxi_command.proofs.top.run_command.Goals as goal
+use Rattle.fuxi_command.proofs.top.run_replay.Goals as goal
 
 pub returns-in-Err-clause-ended : goal.returns-in-Err-clause-ended
-returns-in-Err-clause-ended g c ran = untouched (g.S.Source.left c.args.input.now) (g.O.Sink.took c.args.out.now)
+returns-in-Err-clause-ended g c = untouched (g.S.Source.left c.args.input.now) (g.O.Sink.took c.args.out.now)
 
 pub returns-in-Ok-clause-bad_text : goal.returns-in-Ok-clause-bad_text
 returns-in-Ok-clause-bad_text g c line fault is =

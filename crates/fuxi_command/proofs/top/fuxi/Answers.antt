@@ -1,0 +1,22 @@
+use Rattle.std.proofs.Common.{subst}
+use Rattle.storm_run.specs.Runs.{StormEnded}
+use Rattle.storm_run.specs.Summaries.{storm_of}
+use Rattle.fuxi_command.proofs.Storming.{ends_well}
+use Rattle.fuxi_command.proofs.top.fuxi.Goals as goal
+
+pub returns-clause-storm_text : goal.returns-clause-storm_text
+returns-clause-storm_text g c seed steps is done =
+    subst (λ s. StormEnded (storm_of seed steps) s (g.O.Sink.took c.args.out.now) (g.O.Sink.took c.run_command-status.new.out)) done (c.run_command-status.ensures.storm seed steps is).1
+
+pub returns-clause-storm_so_far : goal.returns-clause-storm_so_far
+returns-clause-storm_so_far g c seed steps is failed =
+    subst (λ s. StormEnded (storm_of seed steps) s (g.O.Sink.took c.args.out.now) (g.O.Sink.took c.run_command-status.new.out)) failed (c.run_command-status.ensures.storm seed steps is).1
+
+pub returns-clause-storm_limited : goal.returns-clause-storm_limited
+returns-clause-storm_limited g c seed steps is what kept limited =
+    subst (λ s. StormEnded (storm_of seed steps) s (g.O.Sink.took c.args.out.now) (g.O.Sink.took c.run_command-status.new.out)) limited (c.run_command-status.ensures.storm seed steps is).1
+
+pub returns-clause-storm_complete : goal.returns-clause-storm_complete
+returns-clause-storm_complete g c seed steps is text told sound =
+    ends_well seed steps text c.run_command-status.result (g.O.Sink.took c.args.out.now) (g.O.Sink.took c.run_command-status.new.out) told (λ failed. sound (c.run_command-status.ensures.write failed))
+    (c.run_command-status.ensures.storm seed steps is).1

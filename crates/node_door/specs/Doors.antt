@@ -1,0 +1,68 @@
+-- What a door has been through, and what its calls add to it.
+use Rattle.std.specs.Prelude.{◌≡◌, ℕ, Bool, false, ◌||◌, cond, nat_eq, List, [], ◌∷◌, ◌++◌, length, take, Option, Some, None, ⊤, Result, Ok, Err}
+
+-- an address that was handed to the door, to `accept` or else to `dial`
+pub record Knock : Type 0 where
+  pub accepts : Bool
+  pub addr : List ℕ
+
+-- a connection: what it gave so far, what it took so far, and whether a read on it answered 0
+pub record Talk : Type 0 where
+  pub gave : List ℕ
+  pub took : List ℕ
+  pub ended : Bool
+
+-- the last address, and all connections that were opened, the newest first
+pub record Told : Type 0 where
+  pub knock : Option Knock
+  pub talks : List Talk
+
+abbrev pub untold : Told
+untold = record { knock = None; talks = [] }
+
+abbrev pub new_talk : Talk
+new_talk = record { gave = []; took = []; ended = false }
+
+-- these bytes more came of it, and with them perhaps its end
+abbrev pub given : List ℕ → Bool → Talk → Talk
+given bytes ended talk = record { gave = talk.gave ++ bytes; took = talk.took; ended = talk.ended || ended }
+
+-- it took these bytes more
+abbrev pub taken : List ℕ → Talk → Talk
+taken bytes talk = record { gave = talk.gave; took = talk.took ++ bytes; ended = talk.ended }
+
+abbrev pub on_first : (Talk → Talk) → List Talk → List Talk
+on_first f [] = []
+on_first f (talk ∷ talks) = f talk ∷ talks
+
+-- what was done to the last connection
+abbrev pub on_last : (Talk → Talk) → Told → Told
+on_last f t = record { knock = t.knock; talks = on_first f t.talks }
+
+-- an address was handed over, and these are the connections since
+abbrev pub knocked : Bool → List ℕ → List Talk → Told
+knocked accepts addr talks = record { knock = Some (record { accepts = accepts; addr = addr }); talks = talks }
+
+-- what was told stays told; of a door that told nothing nothing is said
+abbrev pub WhereTold : (Told → Told → Type 0) → Option Told → Option Told → Type 0
+WhereTold step None new = ⊤
+WhereTold step (Some old) None = ⊥
+WhereTold step (Some old) (Some new) = step old new
+
+-- The calls. The address is told whatever came of it. A write that failed may have taken a part from the front.
+abbrev pub Opens : {E : Type 0} → Bool → List ℕ → Result (Unit {0}) E → Told → Told → Type 0
+Opens accepts addr (Ok done) old new = new ≡ knocked accepts addr (new_talk ∷ old.talks)
+Opens accepts addr (Err fault) old new = new ≡ knocked accepts addr old.talks
+
+abbrev pub Reads : {E : Type 0} → List ℕ → Result ℕ E → Told → Told → Type 0
+Reads buf (Ok n) old new = new ≡ on_last (given (take n buf) (nat_eq n 0)) old
+Reads buf (Err fault) old new = new ≡ old
+
+abbrev pub Writes : {E : Type 0} → List ℕ → Result (Unit {0}) E → Told → Told → Type 0
+Writes bytes (Ok done) old new = new ≡ on_last (taken bytes) old
+Writes bytes (Err fault) old new = (n : ℕ) × (new ≡ on_last (taken (take n bytes)) old)
+
+-- what the connection of this number took, counted from 0 at the oldest; nothing where it was not opened
+abbrev pub took_by : List Talk → ℕ → List ℕ
+took_by [] number = []
+took_by (talk ∷ talks) number = cond (nat_eq number (length talks)) talk.took (took_by talks number)

@@ -1,0 +1,166 @@
+ghost use Rattle.std.specs.Prelude.{◌≡◌, None};
+ghost use Rattle.fuxi_io.specs.Causes.{HasCause};
+
+use crate::door::Door;
+use fuxi_io::Failed;
+use std::io::{Read, Write};
+use std::net::{Net, OpenListener, OpenStream, Shutdown, SocketAddr, TcpListener, TcpStream};
+use std::str;
+
+/// A door over TCP. It reads an address as std's `SocketAddr` does, as `127.0.0.1:7000`; any other is a fault.
+/// It tells nothing. Its count rises at each error of the system, and at a call that lacks a connection.
+#[derive(Drop)]
+pub struct TcpDoor<R: Net + Drop> {
+    net: R,
+    listener: Option<(SocketAddr, R::Listener)>,
+    stream: Option<R::Stream>,
+    faults: u64,
+}
+
+fn read_address(addr: &[u8]) -> Result<SocketAddr, Failed> {
+    let Ok(text) = str::from_utf8(addr) else {
+        return Err(Failed);
+    };
+    text.parse::<SocketAddr>().map_err(|_| Failed)
+}
+
+fn connect<R: Net>(net: &R, addr: &[u8]) -> Result<R::Stream, Failed> {
+    let addr = read_address(addr)?;
+    TcpStream::connect(net, addr).map_err(|_| Failed)
+}
+
+impl<R: Net + Drop> TcpDoor<R> {
+    /// A door that has not failed yet. It listens at no address, and has no connection.
+    pub fn of(net: R) -> TcpDoor<R>
+        ensures { result ≡ record { net = net; listener = None; stream = None; faults = 0 } }
+    {
+        TcpDoor {
+            net,
+            listener: None,
+            stream: None,
+            faults: 0,
+        }
+    }
+
+    // Listens at this address, where it does not yet, and takes one connection.
+    fn take(&mut self, addr: &[u8]) -> Result<R::Stream, Failed>
+        ensures { self.new.faults ≡ self.old.faults }
+    {
+        let addr = read_address(addr)?;
+        let listener = match self.listener.take() {
+            Some((at, listener)) if at == addr => listener,
+            _ => TcpListener::bind(&self.net, addr).map_err(|_| Failed)?,
+        };
+        let taken = listener.accept().map_err(|_| Failed);
+        self.listener = Some((addr, listener));
+        Ok(taken?.0)
+    }
+
+    // Keeps the connection, or counts a fault.
+    fn keep(&mut self, stream: Result<R::Stream, Failed>) -> Result<(), Failed>
+        ensures { HasCause self.old.faults self.new.faults result }
+    {
+        match stream {
+            Ok(stream) => {
+                self.stream = Some(stream);
+                Ok(())
+            }
+            Err(Failed) => {
+                self.faults = self.faults.saturating_add(1);
+                Err(Failed)
+            }
+        }
+    }
+}
+
+impl<R: Net + Drop> Door for TcpDoor<R> {
+    ghost use Rattle.std.specs.Prelude.{None};
+
+    ghost told = { λ d. None };
+
+    ghost faults = { λ d. d.faults };
+
+    fn accept(&mut self, addr: &[u8]) -> Result<(), Failed> {
+        self.stream = None;
+        let stream = self.take(addr);
+        self.keep(stream)
+    }
+
+    fn dial(&mut self, addr: &[u8]) -> Result<(), Failed> {
+        self.stream = None;
+        let stream = connect(&self.net, addr);
+        self.keep(stream)
+    }
+
+    fn read(&mut self, buf: &mut [u8]) -> Result<usize, Failed> {
+        if let Some(stream) = &mut self.stream {
+            if let Ok(n) = stream.read(buf) {
+                return Ok(n);
+            }
+        }
+        self.faults = self.faults.saturating_add(1);
+        Err(Failed)
+    }
+
+    fn write(&mut self, bytes: &[u8]) -> Result<(), Failed> {
+        if let Some(stream) = &mut self.stream {
+            if stream.write_all(bytes).is_ok() {
+                return Ok(());
+            }
+        }
+        self.faults = self.faults.saturating_add(1);
+        Err(Failed)
+    }
+
+    fn close(&mut self) -> Result<(), Failed> {
+        if let Some(stream) = self.stream.take() {
+            if stream.shutdown(Shutdown::Both).is_ok() {
+                return Ok(());
+            }
+        }
+        self.faults = self.faults.saturating_add(1);
+        Err(Failed)
+    }
+}
+
+#[cfg(test)]
+mod tests {
+    use super::TcpDoor;
+    use crate::door::Door;
+    use fuxi_io::Failed;
+    use std::io::{Read, Write};
+    use std::net::{SocketAddr, TcpListener};
+    use std::test::Fail;
+
+    #[test]
+    fn bytes_go_both_ways(rt: HostRuntime) -> Result<(), Fail> {
+        let listener = TcpListener::bind(&rt, "127.0.0.1:0")?;
+        let text = format!(in rt.alloc(); "{}", listener.local_addr()?)?;
+        let addr = text.as_bytes();
+        assert!(rt; addr.len() >= 1);
+        assert!(rt; addr.len() <= 255);
+        let mut door = TcpDoor::of(&rt);
+        assert_eq!(rt; door.dial(addr), Ok(()));
+        let (mut peer, _) = listener.accept()?;
+
+        let mut back = [0; 4];
+        assert_eq!(rt; door.write(b"turn"), Ok(()));
+        peer.read_exact(&mut back)?;
+        assert_eq!(rt; back, *b"turn");
+
+        peer.write_all(b"ends")?;
+        assert_eq!(rt; door.read(&mut back), Ok(4));
+        assert_eq!(rt; back, *b"ends");
+        drop(peer);
+        assert_eq!(rt; door.read(&mut back), Ok(0));
+        assert_eq!(rt; door.faults, 0);
+
+        // another one listens there already
+        assert_eq!(rt; door.accept(addr), Err(Failed));
+        assert_eq!(rt; door.faults, 1);
+        assert_eq!(rt; door.dial(b"nowhere"), Err(Failed));
+        assert_eq!(rt; door.read(&mut back), Err(Failed));
+        assert_eq!(rt; door.faults, 3);
+        Ok(())
+    }
+}

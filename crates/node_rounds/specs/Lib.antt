@@ -1,0 +1,4 @@
+pub mod Roles
+pub mod Hearing
+pub mod Listening
+pub mod Rounds

@@ -1,0 +1,10 @@
+use Rattle.std.proofs.Common.{◌+◌, ◌*◌, ◌≤◌, Ok}
+use Rattle.storm_run.specs.Storms.{rounds}
+use Rattle.storm_run.specs.Runs.{Runs}
+use Rattle.storm_run.proofs.closing.close_rounds.Given as goal
+
+abbrev pub invariant-loop-turn : goal.invariant-loop-turn
+invariant-loop-turn l = record {
+  runs : Runs (rounds l.turn) l.fn.run (Ok l.run);
+  events : l.run.events ≤ l.fn.run.events + 19 * l.turn;
+}

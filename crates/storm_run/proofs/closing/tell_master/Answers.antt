@@ -1,0 +1,10 @@
+use Rattle.std.proofs.Common.{sym, subst}
+use Rattle.schedule_replay.specs.Worlds.{StandsFor}
+use Rattle.storm_run.specs.Storms.{peers_turned}
+use Rattle.storm_run.proofs.Choosing.{delivering}
+use Rattle.storm_run.proofs.closing.tell_master.Goals as goal
+
+pub returns-in-Ok-clause-runs : goal.returns-in-Ok-clause-runs
+returns-in-Ok-clause-runs c =
+    delivering peers_turned c.args.run c.in-Ok.run' c.deliver_since.result c.packets-before.result
+    (λ w stands. c.packets-before.ensures w (subst (λ r. StandsFor r w) (sym c.world.ensures) stands)) c.in-Ok.ensures.runs c.deliver_since.ensures.runs

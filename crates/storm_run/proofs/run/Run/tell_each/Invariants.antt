@@ -1,0 +1,10 @@
+use Rattle.std.proofs.Common.{◌+◌, ◌≤◌, Ok}
+use Rattle.storm_run.specs.Storms.{taken, each}
+use Rattle.storm_run.specs.Runs.{told, Runs}
+use Rattle.storm_run.proofs.run.Run.tell_each.Given as goal
+
+abbrev pub invariant-loop-number : goal.invariant-loop-number
+invariant-loop-number l = record {
+  runs : Runs (each l.number (λ n w. taken w (told l.order n))) l.fn.self (Ok l.run);
+  events : l.run.events ≤ l.fn.self.events + l.number;
+}

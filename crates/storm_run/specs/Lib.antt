@@ -1,0 +1,6 @@
+pub mod Clusters
+pub mod Generators
+pub mod Choices
+pub mod Storms
+pub mod Summaries
+pub mod Runs

@@ -1,0 +1,18 @@
+//! A large schedule that is made from a number, run over the whole scheduler, and a summary of the world at its end.
+#![tactic(auto)]
+
+mod choices;
+mod closing;
+mod cluster;
+mod counts;
+mod generator;
+mod laws;
+mod opening;
+mod orders;
+mod run;
+mod steps;
+mod storm;
+mod summary;
+
+pub use laws::calm_storm;
+pub use storm::{MOST_STEPS, run_storm};
