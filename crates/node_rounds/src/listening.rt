@@ -3,7 +3,7 @@ ghost use Rattle.fuxi_io.specs.Causes.{Rose};
 ghost use Rattle.fuxi_terms.specs.Limits.{most_steps};
 ghost use Rattle.node_door.specs.Doors.{WhereTold};
 ghost use Rattle.wire_frames.specs.Reading.{HasFault};
-ghost use Rattle.node_rounds.specs.Roles.{Role, may_send};
+ghost use Rattle.node_rounds.specs.Roles.{Role, may_send, Keeps};
 ghost use Rattle.node_rounds.specs.Hearing.{is_end};
 ghost use Rattle.node_rounds.specs.Listening.{Steps, Listens, Broken, new_ear, is_ended, step_at};
 
@@ -149,6 +149,7 @@ fn hear_one<C: Core>(
     ensures fault { IfOk result (λ a. a.1 ≢ Step.Stopped Stop.Fault) }
     ensures ended { IfOk result (λ a. a.1 ≡ Step.Stopped Stop.Ended → (r : Role) → C.stands a.0 r → may_send r ear.new.peer ≡ true) }
     ensures nothing { IfOk result (λ a. a.1 ≡ Step.Nothing → (ear.new ≡ ear.old) × HasFault ear.old.bytes FrameFault.Short) }
+    ensures rests { IfOk result (λ a. Keeps (C.rests core) (C.rests a.0)) }
 {
     match ear.stream.pull() {
         Ok(packet) => {
@@ -188,6 +189,7 @@ pub fn listen<C: Core, N: Door>(
     ensures listens { IfOk result (λ a. (r : Role) → C.stands core r → WhereTold (Listens most (C.stands a.0) r a.1) (N.told door.old) (N.told door.new)) }
     ensures count { IfOk result (λ a. (a.1.count ≤ most) × (C.steps a.0 ≤ C.steps core + most)) }
     ensures ended { IfOk result (λ a. a.1.stop ≡ Stop.Ended → (r : Role) → C.stands a.0 r → may_send r a.1.peer ≡ true) }
+    ensures rests { IfOk result (λ a. Keeps (C.rests core) (C.rests a.0)) }
     ensures broken { OnErr result (WhereTold Broken (N.told door.old) (N.told door.new)) }
     ensures later { N.faults door.old ≤ N.faults door.new }
     ensures cause { IfOk result (λ a. a.1.stop ≡ Stop.Fault → Rose (N.faults door.old) (N.faults door.new)) }

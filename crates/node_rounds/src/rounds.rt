@@ -2,7 +2,7 @@ ghost use Rattle.std.specs.Prelude.{◌≡◌, ◌+◌, ◌^◌, ◌<◌, ◌≤
 ghost use Rattle.fuxi_io.specs.Causes.{Rose};
 ghost use Rattle.fuxi_terms.specs.Limits.{most_frames, most_steps};
 ghost use Rattle.node_door.specs.Doors.{WhereTold};
-ghost use Rattle.node_rounds.specs.Roles.{Role, may_send};
+ghost use Rattle.node_rounds.specs.Roles.{Role, may_send, Keeps};
 ghost use Rattle.node_rounds.specs.Listening.{how_of, is_failed};
 ghost use Rattle.node_rounds.specs.Rounds.{Rounds, Breaks, line_by};
 
@@ -75,6 +75,7 @@ fn round_of<C: Core, N: Door>(
     ensures later { N.faults door.old ≤ N.faults door.new }
     ensures cause { IfOk result (λ a. a.1 ≡ RoundLine.Fault → Rose (N.faults door.old) (N.faults door.new)) }
     ensures steps { IfOk result (λ a. C.steps a.0 ≤ C.steps core + most + 1) }
+    ensures rests { IfOk result (λ a. Keeps (C.rests core) (C.rests a.0)) }
 {
     let (core, turn) = match core.turn(alloc, None) {
         Ok(both) => both,
@@ -117,6 +118,7 @@ fn serve_of<C: Core, N: Door>(
     ensures later { N.faults door.old ≤ N.faults door.new }
     ensures cause { IfOk result (λ a. a.1 ≡ RoundLine.Fault → Rose (N.faults door.old) (N.faults door.new)) }
     ensures steps { IfOk result (λ a. C.steps a.0 ≤ C.steps core + most + 1) }
+    ensures rests { IfOk result (λ a. Keeps (C.rests core) (C.rests a.0)) }
 {
     match door.accept(addr) {
         Ok(()) => {}
@@ -163,6 +165,7 @@ pub fn round<C: Core, N: Door>(
     ensures later { N.faults door.old ≤ N.faults door.new }
     ensures cause { IfOk result (λ a. a.1 ≡ RoundLine.Fault → Rose (N.faults door.old) (N.faults door.new)) }
     ensures steps { IfOk result (λ a. C.steps a.0 ≤ C.steps core + most_frames + 1) }
+    ensures rests { IfOk result (λ a. Keeps (C.rests core) (C.rests a.0)) }
 {
     round_of(alloc, core, addr, door, MOST_FRAMES as u64)
 }
@@ -184,6 +187,7 @@ pub fn serve<C: Core, N: Door>(
     ensures later { N.faults door.old ≤ N.faults door.new }
     ensures cause { IfOk result (λ a. a.1 ≡ RoundLine.Fault → Rose (N.faults door.old) (N.faults door.new)) }
     ensures steps { IfOk result (λ a. C.steps a.0 ≤ C.steps core + most_frames + 1) }
+    ensures rests { IfOk result (λ a. Keeps (C.rests core) (C.rests a.0)) }
 {
     serve_of(alloc, core, addr, door, MOST_FRAMES as u64)
 }

@@ -14,6 +14,7 @@ loop-alloc-init g c =
     record {
       listening = λ r s. told_begins c.args.most r a a a (g.C.Core.stands c.args.core) c.new-ear.result c.new-ear.ensures s;
       broken = broken_told a;
+      rests = λ size told h. h;
       runs = ap (λ (e : Ear). e.stuck) c.new-ear.ensures;
       few = omega (arith, ap (λ (e : Ear). e.count) c.new-ear.ensures);
       steps = omega arith;
@@ -30,6 +31,7 @@ loop-alloc-preserved-in-Heard g c =
     record {
       listening = λ r s. told_goes_on c.args.most r a b b (g.C.Core.stands c.loop-alloc.now) (g.C.Core.stands c.in-Ok.both.0) c.loop-alloc.ear c.hear_one.new.ear (rw c.in-Heard.is at c.in-Ok.ensures.steps) (c.loop-alloc.invariant.listening r s);
       broken = c.loop-alloc.invariant.broken;
+      rests = λ size told h. c.in-Ok.ensures.rests size told (c.loop-alloc.invariant.rests size told h);
       runs = heard.1;
       few = count.0;
       steps = omega (arith, count.1, c.loop-alloc.invariant.steps);
@@ -93,6 +95,7 @@ loop-alloc-preserved g c =
       listening = λ r s. told_fed c.args.most r a b d (g.C.Core.stands c.loop-alloc.now) (g.C.Core.stands c.in-Ok.both.0) c.loop-alloc.ear c.hear_one.new.ear c.feed.new.self c.read.new.buf c.in-Ok-read.n some
           nothing.0 (λ q t. (steps q t).0) fed (c.loop-alloc.invariant.listening r s) c.in-Ok-read.ensures.told;
       broken = broken_read a b d c.read.new.buf c.in-Ok-read.n some c.loop-alloc.invariant.broken c.in-Ok-read.ensures.told;
+      rests = λ size told h. c.in-Ok.ensures.rests size told (c.loop-alloc.invariant.rests size told h);
       runs = ap (λ (e : Ear). e.stuck) fed ∙ ap (λ (e : Ear). e.stuck) nothing.0 ∙ c.loop-alloc.invariant.runs;
       few = omega (arith, ap (λ (e : Ear). e.count) fed, ap (λ (e : Ear). e.count) nothing.0, c.loop-alloc.invariant.few);
       steps = omega (arith, ap (λ (e : Ear). e.count) fed, c.in-Ok.ensures.count.1, c.loop-alloc.invariant.steps);

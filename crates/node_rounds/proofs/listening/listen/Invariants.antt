@@ -1,6 +1,6 @@
 use Rattle.std.proofs.Common.{◌≡◌, ◌+◌, ◌-◌, ◌*◌, ◌<◌, ◌≤◌, length, None}
 use Rattle.node_door.specs.Doors.{WhereTold}
-use Rattle.node_rounds.specs.Roles.{Role}
+use Rattle.node_rounds.specs.Roles.{Role, Keeps}
 use Rattle.node_rounds.specs.Listening.{Listening, Broken}
 use Rattle.node_rounds.proofs.listening.listen.Given as goal
 
@@ -8,6 +8,7 @@ abbrev pub invariant-loop-alloc : goal.invariant-loop-alloc
 invariant-loop-alloc g l = record {
   listening : (r : Role) → g.C.Core.stands l.fn.core r → WhereTold (Listening l.most (g.C.Core.stands l.now) r l.ear) (g.N.Door.told l.fn.door) (g.N.Door.told l.door);
   broken : WhereTold Broken (g.N.Door.told l.fn.door) (g.N.Door.told l.door);
+  rests : Keeps (g.C.Core.rests l.fn.core) (g.C.Core.rests l.now);
   runs : l.ear.stuck ≡ None;
   few : l.ear.count ≤ l.most;
   steps : g.C.Core.steps l.now ≤ g.C.Core.steps l.fn.core + l.ear.count;

@@ -1,0 +1,19 @@
+use Rattle.std.proofs.Common.{subst, ◌≡◌}
+use Rattle.fuxi_terms.specs.Cluster.{machine_of}
+use Rattle.fuxi_terms.specs.Padded.{padded}
+use Rattle.written_roles.specs.Agents.{new_agent}
+use Rattle.node_rounds.specs.Roles.{OfAgent}
+use Rattle.agent_node.specs.Standing.{StandsAs}
+use Rattle.fuxi_node.specs.Starts.{agent_start}
+use Rattle.fuxi_node.proofs.Starting.{nothing_taken, has_is}
+use Rattle.fuxi_node.proofs.agents.run_agent.Goals as goal
+
+pub returns-in-Ok-run_node-clause-ended : goal.returns-in-Ok-run_node-clause-ended
+returns-in-Ok-run_node-clause-ended g c ready =
+    let m = c.args.machine.0 in
+    let stands = subst (λ q. StandsAs c.in-Ok.node (OfAgent (new_agent m q c.args.boot))) (has_is c.args.cluster.now m c.machine.result.now c.machine.ensures) c.in-Ok.ensures.stands in
+    c.in-Ok-run_node.ensures.ended ready (OfAgent (new_agent m (padded (machine_of c.args.cluster.now m).has) c.args.boot)) stands
+
+pub returns-in-Err-clause-ended : goal.returns-in-Err-clause-ended
+returns-in-Err-clause-ended g c ready =
+    nothing_taken (λ q. Unit {0}) (agent_start c.args.cluster.now c.args.machine.0 c.args.boot c.args.addr.now c.args.lines.now.number) c.args.lines.now.pending (g.S.Source.left c.args.source.now) (g.O.Sink.took c.args.out.now) (g.N.Door.faults c.args.door.now) (g.N.Door.told c.args.door.now) c.requires.ahead

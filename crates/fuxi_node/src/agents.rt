@@ -1,0 +1,71 @@
+//! The node of an agent.
+
+ghost use Rattle.std.specs.Prelude.{◌≡◌, ◌≢◌, ◌<◌, ◌≤◌, ℕ, length, false, Some, None, Ok, IfSome, ⊤};
+ghost use Rattle.fuxi_io.specs.Causes.{Rose};
+ghost use Rattle.fuxi_io.specs.Reading.{rest_of, read_ahead};
+ghost use Rattle.fuxi_terms.specs.Limits.{most_lines, most_machines};
+ghost use Rattle.input_lines.specs.Wholes.{IsReady};
+ghost use Rattle.node_door.specs.Doors.{WhereTold};
+ghost use Rattle.node_run.specs.Ends.{Ended};
+ghost use Rattle.fuxi_node.specs.Starts.{agent_start};
+
+use agent_node::AgentNode;
+use cluster_desc::Cluster;
+use fuxi_io::{LimitOf, LineReader, LineStop, Sink, Source, Status};
+use fuxi_terms::OutOfMemory;
+use node_door::Door;
+use node_party::NoDisk;
+use node_run::{DiskFailed, run_node};
+use schedule_unit::MachineNo;
+use std::alloc::Global;
+
+/// Runs the agent of a machine of the cluster, in a boot of at least 1, over the lines behind that of the cluster, which is the last one
+/// that the reader gave. It dials its master at the address, which has 1 to 255 bytes. The reader has not stopped.
+///
+/// `Done`: the input was read to its end, and behind it stands the state. `BadInput`: a line is none of a node. `ReadFault` and
+/// `WriteFault`: the source or the sink failed. `Limit`: there are more than 1,000,000 lines. `OutOfMemory`: memory was refused. A fault of
+/// the door is a line of its round, and never ends a node.
+pub fn run_agent<S: Source, O: Sink, N: Door>(
+    alloc: Global,
+    cluster: &Cluster,
+    machine: MachineNo,
+    boot: u64,
+    addr: &[u8],
+    lines: &mut LineReader,
+    source: &mut S,
+    out: &mut O,
+    door: &mut N,
+) -> Status
+    requires there { machine.0 < length cluster.now.machines }
+    requires machine { machine.0 < most_machines }
+    requires boot { 0 < boot }
+    requires some { 1 ≤ length addr.now }
+    requires short { length addr.now ≤ 255 }
+    requires stop { lines.old.stop ≢ Some LineStop.ReadFault }
+    requires ahead { length lines.old.pending ≤ read_ahead }
+    // What was written and what the door has been through, by the status. It is said of bytes that are known, and of a door that tells.
+    ensures ended { IsReady lines.old (S.left source.old) → IfSome (rest_of lines.old (S.left source.old)) (λ bytes. WhereTold (Ended (λ q. ⊤) (agent_start cluster.now machine.0 boot addr.now lines.old.number) bytes (Ok result) (S.left source.new) (O.took out.old) (O.took out.new) (N.faults door.old) (N.faults door.new)) (N.told door.old) (N.told door.new)) }
+    ensures unread { lines.old.ended ≡ false → result ≢ Status.ReadFault }
+    ensures read { result ≡ Status.ReadFault → Rose (S.faults source.old) (S.faults source.new) }
+    ensures write { result ≡ Status.WriteFault → Rose (O.faults out.old) (O.faults out.new) }
+    ensures limit { lines.old.stop ≡ None → (what : LimitOf) (kept : ℕ) → result ≡ Status.Limit what kept → (what ≡ LimitOf.Lines) × (kept ≡ most_lines) }
+    ensures usage { result ≢ Status.Usage }
+{
+    let has = cluster.machine(machine).has;
+    match AgentNode::start(alloc, machine, has, boot) {
+        Ok(node) => match run_node(
+            alloc,
+            node,
+            addr,
+            lines,
+            source,
+            out,
+            door,
+            &mut NoDisk::new(),
+        ) {
+            Ok(status) => status,
+            Err(DiskFailed) => unreachable!(),
+        },
+        Err(OutOfMemory) => Status::OutOfMemory,
+    }
+}

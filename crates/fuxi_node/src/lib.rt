@@ -1,0 +1,8 @@
+//! A node: one party of a cluster, its lines, and its peers over a door.
+#![tactic(auto)]
+
+mod agents;
+mod apps;
+
+pub use agents::run_agent;
+pub use apps::run_app;

@@ -1,0 +1,43 @@
+//! The statuses that lines mean.
+
+ghost use Rattle.std.specs.Prelude.{◌≡◌, ◌≤◌};
+ghost use Rattle.fuxi_terms.specs.Limits.{most_lines};
+ghost use Rattle.input_lines.specs.Statuses.{event_status, stop_status};
+
+use fuxi_io::{InputFault, LimitOf, LineStop, Status};
+use schedule_text::LineFault;
+
+/// The status that a reader's stop means behind so many lines.
+pub fn stop_status(stop: LineStop, number: u64) -> Status
+    requires { number ≤ most_lines }
+    ensures { result ≡ stop_status stop number }
+{
+    match stop {
+        LineStop::ReadFault => Status::ReadFault,
+        LineStop::LineTooLong => Status::BadInput {
+            line: number + 1,
+            fault: InputFault::LineTooLong,
+        },
+        LineStop::TooManyLines => Status::Limit {
+            what: LimitOf::Lines,
+            kept: number,
+        },
+    }
+}
+
+/// The status that a fault of the line with this number, which is no event, means.
+pub fn event_status(fault: LineFault, number: u64) -> Status
+    ensures { result ≡ event_status fault number }
+{
+    let fault = match fault {
+        LineFault::UnknownWord => InputFault::UnknownWord,
+        LineFault::WrongCount => InputFault::WrongCount,
+        LineFault::BadNumber(place) => InputFault::BadNumber(place),
+        LineFault::Range(place) => InputFault::Range(place),
+        LineFault::OutOfMemory => return Status::OutOfMemory,
+    };
+    Status::BadInput {
+        line: number,
+        fault,
+    }
+}

@@ -1,0 +1,9 @@
+mod Numbers
+mod Walks
+mod Spots
+mod Loops
+mod Showing
+mod Jobs
+mod Lining
+mod Keeping
+mod Listing

@@ -1,0 +1,105 @@
+//! The lines of the hard state.
+
+ghost use Rattle.std.specs.Prelude.{◌≡◌, ◌<◌, [], ◌∷◌, ◌++◌, map, OnOk};
+ghost use Rattle.std.specs.List.{AllByRecursion};
+ghost use Rattle.fuxi_terms.specs.Jobs.{job_numbers};
+ghost use Rattle.written_world.specs.Outputs.{Banned};
+ghost use Rattle.written_world.specs.Show.{show_jobs};
+ghost use Rattle.schedule_text.specs.Writing.{Begins};
+ghost use Rattle.written_order.specs.Orders.{Rise};
+ghost use Rattle.written_state.specs.States.{hard_lines};
+ghost use Rattle.party_text.specs.Texts.{Shows};
+ghost use Rattle.master_text.specs.Lines.{job_lines, ban_lines};
+ghost use Rattle.master_text.specs.Printable.{IsListed};
+
+use fuxi_terms::OutOfMemory;
+use fuxi_terms::limits::{MOST_JOBS, MOST_MACHINES};
+use hard_state::Hard;
+use party_text::write_line;
+use schedule_text::Output;
+use schedule_unit::{AppNo, MachineNo};
+
+// The line of the job of a number, where there is one.
+fn write_job(hard: &Hard, app: AppNo, out: &mut Vec<u8>) -> Result<(), OutOfMemory>
+    ensures ok { OnOk result (Shows (job_lines hard.now.value.jobs app.0) out.old.items out.new.items) }
+    ensures begins { Begins out.old.items out.new.items }
+{
+    match hard.job(app) {
+        Some(job) => write_line(&Output::Job(app, job.group(), hard.ended(app)), out),
+        None => Ok(()),
+    }
+}
+
+// The lines of the jobs whose numbers are below one.
+fn write_jobs(hard: &Hard, numbers: u32, out: &mut Vec<u8>) -> Result<(), OutOfMemory>
+    ensures ok { OnOk result (AllByRecursion (λ a. a < numbers) (job_numbers hard.now.value.jobs) → Shows (show_jobs hard.now.value.jobs) out.old.items out.new.items) }
+    ensures begins { Begins out.old.items out.new.items }
+{
+    for number in 0..numbers {
+        match write_job(hard, AppNo(number), out) {
+            Ok(()) => {}
+            Err(refusal) => return Err(refusal),
+        }
+    }
+    Ok(())
+}
+
+// The line of a machine, where it is banned.
+fn write_ban(hard: &Hard, machine: MachineNo, out: &mut Vec<u8>) -> Result<(), OutOfMemory>
+    ensures ok { OnOk result (Shows (ban_lines hard.now.value.bans machine.0) out.old.items out.new.items) }
+    ensures begins { Begins out.old.items out.new.items }
+{
+    if hard.banned(machine) {
+        return write_line(&Output::Banned(machine), out);
+    }
+    Ok(())
+}
+
+// The lines of the machines below a number that are banned.
+fn write_bans(hard: &Hard, numbers: u32, out: &mut Vec<u8>) -> Result<(), OutOfMemory>
+    ensures ok { OnOk result (Rise hard.now.value.bans → AllByRecursion (λ m. m < numbers) hard.now.value.bans → Shows (map (λ m. Banned m) hard.now.value.bans) out.old.items out.new.items) }
+    ensures begins { Begins out.old.items out.new.items }
+{
+    for number in 0..numbers {
+        match write_ban(hard, MachineNo(number), out) {
+            Ok(()) => {}
+            Err(refusal) => return Err(refusal),
+        }
+    }
+    Ok(())
+}
+
+// The jobs, and then the bans.
+#[tactic(auto, using(crate::proofs::Showing::begins_then))]
+fn write_lists(hard: &Hard, out: &mut Vec<u8>) -> Result<(), OutOfMemory>
+    ensures ok { OnOk result (IsListed hard.now.value → Shows (show_jobs hard.now.value.jobs ++ map (λ m. Banned m) hard.now.value.bans) out.old.items out.new.items) }
+    ensures begins { Begins out.old.items out.new.items }
+{
+    // Asked for its clause: the number of each job is below the limit.
+    let _jobs = hard.known().jobs();
+    match write_jobs(hard, MOST_JOBS, out) {
+        Ok(()) => {}
+        Err(refusal) => return Err(refusal),
+    }
+    match write_bans(hard, MOST_MACHINES as u32, out) {
+        Ok(()) => Ok(()),
+        Err(refusal) => Err(refusal),
+    }
+}
+
+/// Appends the lines of a hard state: its fence, its jobs in the order of their numbers, and the machines that are banned. A refusal may
+/// leave some of them behind what was there.
+#[tactic(auto, using(crate::proofs::Showing::begins_then))]
+pub fn write_hard(hard: &Hard, out: &mut Vec<u8>) -> Result<(), OutOfMemory>
+    ensures ok { OnOk result (IsListed hard.now.value → Shows (hard_lines hard.now.value) out.old.items out.new.items) }
+    ensures begins { Begins out.old.items out.new.items }
+{
+    match write_line(&Output::Fence(hard.fence()), out) {
+        Ok(()) => {}
+        Err(refusal) => return Err(refusal),
+    }
+    match write_lists(hard, out) {
+        Ok(()) => Ok(()),
+        Err(refusal) => Err(refusal),
+    }
+}

@@ -1,0 +1,12 @@
+//! What the party of a node does with a line, and what the node prints.
+#![tactic(auto)]
+
+mod disk;
+mod line;
+mod party;
+mod text;
+
+pub use disk::NoDisk;
+pub use line::{NodeLine, read_line};
+pub use party::{Answer, Halt, Node};
+pub use text::{push_answer, push_state, write_round};

@@ -1,0 +1,362 @@
+-- A node's run over the lines of an input goes on by one line, or ends.
+use Rattle.std.proofs.Common.{inl, inr, ◌⊎◌, ◌≡◌, ◌≢◌, ℕ, ◌+◌, ◌-◌, ◌<◌, ◌≤◌, Bool, true, false, cond, nat_eq, nat_lt, List, [], ◌∷◌, ◌++◌, length, take, Option, None, Some, IfSome, Result, Ok, Err, refl, sym, ◌∙◌, ap, subst, arith, append_assoc, append-nil, length-append, slice_get}
+use Rattle.std.specs.Option.{unwrap_or}
+use Rattle.std.specs.List.{concat}
+use Rattle.std.specs.Io.KnownBytes.{Appends, Consumes, IsAtEnd, prepend_known}
+use Rattle.std.proofs.lemmas.Bool.Decides.{nat_tests}
+use Rattle.std.proofs.lemmas.List.Folds.{concat-append}
+use Rattle.std.proofs.Math.Seq.{take-append_seam, take-length}
+use Rattle.fuxi_io.specs.Causes.{TakesPart}
+use Rattle.fuxi_io.specs.Lines.{InputLine, lines_of, onto_first, GivesKnown, IsFirst, BreaksOff, FirstLonger, FirstTooLongKnown, MoreKnown}
+use Rattle.fuxi_io.specs.Reading.{read_ahead}
+use Rattle.fuxi_io.specs.declared.lines.Got.TheVariants.{Line, End}
+use Rattle.fuxi_io.specs.declared.lines.LineStop.{LineStop}
+use Rattle.fuxi_io.specs.declared.lines.LineStop.TheVariants.{ReadFault as ReadStop, LineTooLong as LongStop, TooManyLines as ManyStop}
+use Rattle.fuxi_io.specs.declared.status.InputFault.TheVariants.{LineTooLong}
+use Rattle.fuxi_io.specs.declared.status.LimitOf.TheVariants.{Lines}
+use Rattle.fuxi_io.specs.declared.status.Status.{Status}
+use Rattle.fuxi_io.specs.declared.status.Status.TheVariants.{Done, Usage, BadInput, ReadFault, WriteFault, Limit, OutOfMemory}
+use Rattle.fuxi_terms.specs.Limits.{most_line_bytes, most_lines}
+use Rattle.fuxi_terms.proofs.Appending.{appends_both, appends_none}
+use Rattle.schedule_text.specs.declared.event.LineFault.{LineFault}
+use Rattle.input_lines.specs.Contents.{content, is_skipped}
+use Rattle.input_lines.specs.Statuses.{event_fault, stop_status}
+use Rattle.input_lines.specs.Wholes.{whole_lines}
+use Rattle.node_door.specs.Doors.{Told}
+use Rattle.node_rounds.specs.Roles.{Role}
+use Rattle.node_rounds.specs.Rounds.{Breaks}
+use Rattle.node_party.specs.declared.line.NodeLine.{NodeLine}
+use Rattle.node_party.specs.Lines.{node_line}
+use Rattle.node_party.specs.Commands.{accepts}
+use Rattle.node_party.specs.Texts.{state_text}
+use Rattle.node_run.specs.declared.taking.DiskFailed.{DiskFailed}
+use Rattle.node_run.specs.declared.taking.Stop.{Stop}
+use Rattle.node_run.specs.declared.taking.Stop.TheVariants.{Ends, Disk}
+use Rattle.node_run.specs.Runs.{Node, Round, Played, Run, Ending, AtEnd, AtBadLine, AtLimit, ended, behind, then_is, takes, within_limits, role_run, pieces}
+use Rattle.node_run.specs.Visits.{Visit, rounds_of, played_of, WasAt}
+use Rattle.node_run.specs.Ends.{Start, run_of, Ran, EndsAt, EndsWhole, WritesLast, TakesSome, StopsWriting, StopsWanting, Ended, start_of}
+use Rattle.node_run.specs.Progress.{Taken, TakesLine, WritesEnd, behind_all, Along}
+use Rattle.node_run.proofs.Whole.{taken_none, taken_more, broken, read_of, no_more}
+use Rattle.node_run.proofs.Visiting.{was_both, was_later, rounds_both, played_both}
+use Rattle.node_run.proofs.Stepping.{not_there}
+
+-- one line of a run
+within : (before : ℕ) (n : Node) (line : InputLine) (run : Run) → before < most_lines → length line.bytes ≤ most_line_bytes → within_limits before n line run ≡ run
+within before n line run more short =
+    let m : nat_lt before most_lines ≡ true = grind (arith, nat_tests) in
+    let s : nat_lt most_line_bytes (length line.bytes) ≡ false = grind (arith, nat_tests) in
+    rw (m, s) refl
+
+too_long : (before : ℕ) (n : Node) (line : InputLine) (run : Run) → before < most_lines → most_line_bytes < length line.bytes → within_limits before n line run ≡ ended n (AtBadLine (before + 1) LineTooLong)
+too_long before n line run more long =
+    let m : nat_lt before most_lines ≡ true = grind (arith, nat_tests) in
+    let s : nat_lt most_line_bytes (length line.bytes) ≡ true = grind (arith, nat_tests) in
+    rw (m, s) refl
+
+too_many : (before : ℕ) (n : Node) (line : InputLine) (run : Run) → before ≡ most_lines → within_limits before n line run ≡ ended n (AtLimit most_lines)
+too_many before n line run many = let m : nat_lt before most_lines ≡ false = grind (arith, nat_tests) in rw m refl
+
+module _ (most before : ℕ) (n : Node) (rounds : List Round) (line : InputLine) (lines : List InputLine) (more : before < most_lines) (short : length line.bytes ≤ most_line_bytes) where
+  abbrev by_skip : Bool → Run
+  by_skip b = elim b as (λ _. Run) [
+    | true ↦ role_run most (before + 1) n rounds lines
+    | false ↦ takes most (before + 1) n rounds (node_line (content line)) (λ n rounds. role_run most (before + 1) n rounds lines)
+  ]
+
+  run_skipped : is_skipped (content line) ≡ true → role_run most before n rounds (line ∷ lines) ≡ role_run most (before + 1) n rounds lines
+  run_skipped skip = within before n line _ more short ∙ ap by_skip skip
+
+  run_taken : is_skipped (content line) ≡ false → role_run most before n rounds (line ∷ lines) ≡ takes most (before + 1) n rounds (node_line (content line)) (λ n rounds. role_run most (before + 1) n rounds lines)
+  run_taken skip = within before n line _ more short ∙ ap by_skip skip
+
+run_long : (most before : ℕ) (n : Node) (rounds : List Round) (lines : List InputLine) → before < most_lines → FirstLonger most_line_bytes lines → role_run most before n rounds lines ≡ ended n (AtBadLine (before + 1) LineTooLong)
+run_long most before n rounds [] more long = absurd long
+run_long most before n rounds (line ∷ lines) more long = too_long before n line _ more long
+
+run_many : (most before : ℕ) (n : Node) (rounds : List Round) (lines : List InputLine) → before ≡ most_lines → lines ≢ [] → role_run most before n rounds lines ≡ ended n (AtLimit most_lines)
+run_many most before n rounds [] many some = absurd (some refl)
+run_many most before n rounds (line ∷ lines) many some = too_many before n line _ many
+
+some_line : (bytes : List ℕ) → bytes ≢ [] → lines_of bytes ≢ []
+some_line [] some = λ e. some refl
+some_line (b ∷ bytes) some = λ e. split (lines_of bytes) (nat_eq b 10) e
+  where
+    onto : (ls : List InputLine) → onto_first b ls ≡ [] → ⊥
+    onto [] e = cc
+    onto (l ∷ ls) e = cc
+
+    split : (ls : List InputLine) (t : Bool) → cond t ((record { bytes = []; ended = true }) ∷ ls) (onto_first b ls) ≡ [] → ⊥
+    split ls true e = cc
+    split ls false e = onto ls e
+
+-- what is written one after another
+concat_one : (front : List (List ℕ)) (x : List ℕ) → concat (front ++ x ∷ []) ≡ concat front ++ x
+concat_one front x = concat-append front (x ∷ []) ∙ ap (λ l. concat front ++ l) (append-nil x)
+
+-- all pieces but the last are written, and of the last a part
+seam : (front : List (List ℕ)) (x : List ℕ) → unwrap_or (slice_get (front ++ x ∷ []) (length front)) [] ≡ x
+seam [] x = refl
+seam (y ∷ front) x = seam front x
+
+last_part : (all front : List (List ℕ)) (x : List ℕ) (n : ℕ) (w0 w w' : Option (List ℕ)) → all ≡ front ++ x ∷ [] → Appends w0 w (concat front) → Appends w w' (take n x) → WritesLast all w0 w'
+last_part all front x n w0 w w' is writes part =
+    let k : length (front ++ x ∷ []) - 1 ≡ length front = omega (arith, length-append front (x ∷ [])) in
+    subst (λ ps. WritesLast ps w0 w') (sym is) (record {
+      part = n;
+      writes = rw (k, take-append_seam front (x ∷ []), seam front x) (appends_both w0 w w' (concat front) (take n x) writes part);
+    })
+
+record Next (left : List ℕ) (line : InputLine) (rest : Option (List ℕ)) : Type 0 where
+  pub behind : List ℕ
+  pub is_left : rest ≡ Some behind
+  pub first : IsFirst left line behind
+
+next_line : (left : List ℕ) (line : InputLine) (old rest : Option (List ℕ)) → old ≡ Some left → GivesKnown Line old line rest → Next left line rest
+next_line left line old rest is gives = of rest (subst (λ r. GivesKnown Line r line rest) is gives)
+  where
+    of : (rest : Option (List ℕ)) → GivesKnown Line (Some left) line rest → Next left line rest
+    of None h = absurd h
+    of (Some behind) h = record { behind = behind; is_left = refl; first = h }
+
+pub at_end : (left : List ℕ) (line : InputLine) (old rest : Option (List ℕ)) → old ≡ Some left → GivesKnown End old line rest → (left ≡ []) × (rest ≡ Some [])
+at_end left line old rest is gives = of rest (subst (λ r. GivesKnown End r line rest) is gives)
+  where
+    of : (rest : Option (List ℕ)) → GivesKnown End (Some left) line rest → (left ≡ []) × (rest ≡ Some [])
+    of None h = absurd h
+    of (Some behind) h = (h.0, ap (λ l. Some l) h.1)
+
+-- before the first line
+pub begin : (s : Start) (bytes : List ℕ) (ends : Bool) (now : Role → Type 0) (w : Option (List ℕ)) (f : ℕ) (t : Told) → now s.node.role → s.node.events ≡ 0 → (ends ≡ false → IsAtEnd (Some bytes)) → Along s bytes s.first ends 0 now (Some bytes) w w f f t t
+begin s bytes ends now w f t stands none last = record {
+  lines = [];
+  left = bytes;
+  is_left = refl;
+  cut = refl;
+  taken = record { whole = λ e. taken_none bytes; last = last };
+  visits = [];
+  was = not_there s.most s.addr f f t (omega arith);
+  front = [];
+  writes = appends_none w;
+  role = s.node.role;
+  stands = stands;
+  through = λ rounds more. ap (λ e. let n : Node = record { role = s.node.role; events = e } in role_run s.most s.first n rounds more) none;
+}
+
+module _ (s : Start) (bytes : List ℕ) (number : ℕ) (ends : Bool) (events : ℕ) (now : Role → Type 0) (rest w0 w : Option (List ℕ)) (f0 f1 : ℕ) (old mid : Told) (a : Along s bytes number ends events now rest w0 w f0 f1 old mid) where
+  abbrev pub here : Node
+  here = record { role = a.role; events = events }
+
+  cut_more : (line : InputLine) (behind : List ℕ) → IsFirst a.left line behind → lines_of bytes ≡ (a.lines ++ line ∷ []) ++ lines_of behind
+  cut_more line behind f = a.cut ∙ ap (λ ls. a.lines ++ ls) f.first ∙ sym (append_assoc a.lines (line ∷ []) (lines_of behind))
+
+  through_more : (rounds : List Round) (line : InputLine) (more : List InputLine)
+      → role_run s.most s.first s.node (rounds_of a.visits ++ rounds) ((a.lines ++ line ∷ []) ++ more) ≡ behind_all a.front (played_of a.visits) (role_run s.most number here rounds (line ∷ more))
+  through_more rounds line more = ap (role_run s.most s.first s.node (rounds_of a.visits ++ rounds)) (append_assoc a.lines (line ∷ []) more) ∙ a.through rounds (line ∷ more)
+
+  -- a line that is skipped
+  pub skip : (rest' : Option (List ℕ)) (line : InputLine) → ends ≡ true → number < most_lines → GivesKnown Line rest line rest' → is_skipped (content line) ≡ true → Along s bytes (number + 1) line.ended events now rest' w0 w f0 f1 old mid
+  skip rest' line ended more gives skipped =
+      let n = next_line a.left line rest rest' a.is_left gives in
+      record {
+        lines = a.lines ++ line ∷ [];
+        left = n.behind;
+        is_left = n.is_left;
+        cut = cut_more line n.behind n.first;
+        taken = record { whole = λ e. taken_more bytes a.left n.behind a.lines line (a.taken.whole ended) n.first e; last = n.first.last };
+        visits = a.visits;
+        was = a.was;
+        front = a.front;
+        writes = a.writes;
+        role = a.role;
+        stands = a.stands;
+        through = λ rounds ls. through_more rounds line ls ∙ ap (behind_all a.front (played_of a.visits)) (run_skipped s.most number here rounds line ls more n.first.short skipped);
+      }
+
+  -- one that was taken, and what the run over it and more is
+  module _ (line : InputLine) (behind' : List ℕ) (more : number < most_lines) (first : IsFirst a.left line behind') (unskipped : is_skipped (content line) ≡ false) (now' : Role → Type 0) (Writes : List ℕ → Type 0) (f2 : ℕ) (new : Told)
+      (t : Taken s.most s.addr here (number + 1) (node_line (content line)) now' Writes f1 f2 mid new) where
+    abbrev all_visits : List Visit
+    all_visits = a.visits ++ t.visits
+
+    was_all : WasAt s.most s.addr all_visits f0 f2 old new
+    was_all = was_both s.most s.addr a.visits t.visits f0 f1 f2 old mid new a.was t.was
+
+    through_line : (rounds : List Round) (ls : List InputLine)
+        → role_run s.most s.first s.node (rounds_of all_visits ++ rounds) ((a.lines ++ line ∷ []) ++ ls) ≡ behind_all (a.front ++ t.output ∷ []) (played_of all_visits) (role_run s.most (number + 1) (then_is here t.role) rounds ls)
+    through_line rounds ls =
+        let r = role_run s.most (number + 1) (then_is here t.role) rounds ls in
+        ap (λ rs. role_run s.most s.first s.node rs ((a.lines ++ line ∷ []) ++ ls)) (rounds_both a.visits t.visits rounds)
+        ∙ through_more (rounds_of t.visits ++ rounds) line ls
+        ∙ ap (behind_all a.front (played_of a.visits)) (run_taken s.most number here (rounds_of t.visits ++ rounds) line ls more first.short unskipped
+        ∙ t.through rounds (λ n rs. role_run s.most (number + 1) n rs ls))
+        ∙ ap (λ os. let x : Run = record { outputs = os; rounds = played_of a.visits ++ (played_of t.visits ++ r.rounds); node = r.node; ending = r.ending } in x) (sym (append_assoc a.front (t.output ∷ []) r.outputs))
+        ∙ ap (λ ps. let x : Run = record { outputs = (a.front ++ t.output ∷ []) ++ r.outputs; rounds = ps; node = r.node; ending = r.ending } in x) (played_both a.visits t.visits r.rounds)
+
+  pub step : (rest' w' : Option (List ℕ)) (line : InputLine) (now' : Role → Type 0) (f2 : ℕ) (new : Told) → ends ≡ true → number < most_lines → GivesKnown Line rest line rest' → is_skipped (content line) ≡ false
+      → Taken s.most s.addr here (number + 1) (node_line (content line)) now' (Appends w w') f1 f2 mid new → Along s bytes (number + 1) line.ended (events + 1) now' rest' w0 w' f0 f2 old new
+  step rest' w' line now' f2 new ended more gives unskipped t =
+      let n = next_line a.left line rest rest' a.is_left gives in
+      record {
+        lines = a.lines ++ line ∷ [];
+        left = n.behind;
+        is_left = n.is_left;
+        cut = cut_more line n.behind n.first;
+        taken = record { whole = λ e. taken_more bytes a.left n.behind a.lines line (a.taken.whole ended) n.first e; last = n.first.last };
+        visits = a.visits ++ t.visits;
+        was = was_all line n.behind more n.first unskipped now' (Appends w w') f2 new t;
+        front = a.front ++ t.output ∷ [];
+        writes = rw concat_one (appends_both w0 w w' (concat a.front) t.output a.writes t.writes);
+        role = t.role;
+        stands = t.stands;
+        through = through_line line n.behind more n.first unskipped now' (Appends w w') f2 new t;
+      }
+
+  -- where the run ends now: the run over the lines taken, with the rounds so far
+  closed : (lines : List InputLine) (ending : Ending) → role_run s.most number here [] lines ≡ ended here ending → run_of s a.visits (a.lines ++ lines) ≡ record { outputs = a.front; rounds = played_of a.visits; node = here; ending = ending }
+  closed lines ending is =
+      ap (λ rs. role_run s.most s.first s.node rs (a.lines ++ lines)) (sym (append-nil (rounds_of a.visits))) ∙ a.through [] lines ∙ ap (behind_all a.front (played_of a.visits)) is
+      ∙ ap (λ os. let x : Run = record { outputs = os; rounds = played_of a.visits ++ []; node = here; ending = ending } in x) (append-nil a.front)
+      ∙ ap (λ ps. let x : Run = record { outputs = a.front; rounds = ps; node = here; ending = ending } in x) (append-nil (played_of a.visits))
+
+  so_far : run_of s a.visits a.lines ≡ record { outputs = a.front; rounds = played_of a.visits; node = here; ending = AtEnd }
+  so_far = ap (run_of s a.visits) (sym (append-nil a.lines)) ∙ closed [] AtEnd refl
+
+  known_end : (ending : Ending) → role_run s.most number here [] (lines_of a.left) ≡ ended here ending → run_of s a.visits (lines_of bytes) ≡ record { outputs = a.front; rounds = played_of a.visits; node = here; ending = ending }
+  known_end ending is = ap (run_of s a.visits) a.cut ∙ closed (lines_of a.left) ending is
+
+  ends_there : (lines : List InputLine) (ending : Ending) (w' : Option (List ℕ)) (f2 : ℕ) (new : Told) → w' ≡ w → WasAt s.most s.addr a.visits f0 f2 old new
+      → run_of s a.visits lines ≡ record { outputs = a.front; rounds = played_of a.visits; node = here; ending = ending } → Ran s lines (EndsAt ending w0 w') f0 f2 old new
+  ends_there lines ending w' f2 new kept was is = record {
+    visits = a.visits;
+    was = was;
+    holds = subst (EndsAt ending w0 w') (sym is) (refl, subst (λ t. Appends w0 t (concat a.front)) (sym kept) a.writes);
+  }
+
+  wants : (source w' : Option (List ℕ)) (next : List InputLine) (f2 : ℕ) (new : Told) → length next ≤ 1 → TakesSome bytes source (a.lines ++ next) → w' ≡ w → f1 ≤ f2 → Breaks (accepts a.role) s.addr a.role mid new → StopsWanting s bytes source w0 w' f0 f2 old new
+  wants source w' next f2 new one takes kept later breaks = record {
+    lines = a.lines;
+    next = next;
+    one = one;
+    takes = takes;
+    mid = mid;
+    ran = record {
+      visits = a.visits;
+      was = was_later s.most s.addr a.visits f0 f1 f2 old mid a.was later;
+      holds = subst (λ (r : Run). EndsAt AtEnd w0 w' r × Breaks (accepts r.node.role) s.addr r.node.role mid new) (sym so_far) ((refl, subst (λ t. Appends w0 t (concat a.front)) (sym kept) a.writes), breaks);
+    };
+  }
+
+  -- behind the last line
+  pub state_ended : (Fits : Role → Type 0) → Fits a.role → (source w' : Option (List ℕ)) (status : Status) → a.left ≡ [] → source ≡ Some [] → WritesEnd (state_text events a.role) status w w' → Ended Fits s bytes (Ok status) source w0 w' f0 f1 old mid
+  state_ended Fits fits source w' status end empty = by_status status
+    where
+      cut : lines_of bytes ≡ a.lines
+      cut = a.cut ∙ ap (λ xs. a.lines ++ lines_of xs) end ∙ append-nil a.lines
+
+      all : run_of s a.visits (lines_of bytes) ≡ record { outputs = a.front; rounds = played_of a.visits; node = here; ending = AtEnd }
+      all = ap (run_of s a.visits) cut ∙ so_far
+
+      some : TakesSome bytes source (a.lines ++ [])
+      some = record {
+        behind = [];
+        cut = cut ∙ sym (append-nil a.lines) ∙ sym (append-nil (a.lines ++ []));
+        ahead = [];
+        gave = subst (λ s. Consumes (Some []) s []) (sym empty) refl;
+        few = omega arith;
+      }
+
+      by_status : (status : Status) → WritesEnd (state_text events a.role) status w w' → Ended Fits s bytes (Ok status) source w0 w' f0 f1 old mid
+      by_status Done h = (
+        empty,
+        record {
+          visits = a.visits;
+          was = a.was;
+          holds = subst (EndsWhole Fits w0 w') (sym all) (refl, rw concat_one (appends_both w0 w w' (concat a.front) (state_text events a.role) a.writes h), fits);
+        },
+      )
+      by_status WriteFault h = record {
+        lines = a.lines;
+        takes = subst (TakesSome bytes source) (append-nil a.lines) some;
+        ran = record {
+          visits = a.visits;
+          was = a.was;
+          holds = inr (cut, last_part (pieces (run_of s a.visits a.lines)) a.front (state_text events a.role) h.0 w0 w w' (ap pieces so_far) a.writes h.2);
+        };
+      }
+      by_status OutOfMemory h = wants source w' [] f1 mid (omega arith) some h (omega arith) (inl refl)
+      by_status Usage h = h
+      by_status (BadInput line fault) h = absurd h
+      by_status ReadFault h = absurd h
+      by_status (Limit what kept) h = absurd h
+
+  -- the reader stopped
+  pub stop_ended : (Fits : Role → Type 0) (source : Option (List ℕ)) (stop : LineStop) → ends ≡ true → (stop ≡ ReadStop → BreaksOff rest source) → (stop ≡ LongStop → (number < most_lines) × FirstTooLongKnown rest) → (stop ≡ ManyStop → (number ≡ most_lines) × MoreKnown rest)
+      → Ended Fits s bytes (Ok (stop_status stop number)) source w0 w f0 f1 old mid
+  stop_ended Fits source ReadStop ended broke long many =
+      let b = broken bytes a.left source a.lines (a.taken.whole ended) (subst (λ r. BreaksOff r source) a.is_left (broke refl)) in
+      record {
+        given = b.given;
+        gave = b.gave;
+        ran = subst (λ ls. Ran s ls (EndsAt AtEnd w0 w) f0 f1 old mid) (sym b.whole) (ends_there a.lines AtEnd w f1 mid refl a.was so_far);
+      }
+  stop_ended Fits source LongStop ended broke long many =
+      let l = long refl in
+      ends_there (lines_of bytes) (AtBadLine (number + 1) LineTooLong) w f1 mid refl a.was (known_end (AtBadLine (number + 1) LineTooLong) (run_long s.most number here [] (lines_of a.left) l.0 (subst FirstTooLongKnown a.is_left l.1)))
+  stop_ended Fits source ManyStop ended broke long many =
+      let m = many refl in
+      subst (λ k. Ran s (lines_of bytes) (EndsAt (AtLimit k) w0 w) f0 f1 old mid) (sym m.0)
+      (ends_there (lines_of bytes) (AtLimit most_lines) w f1 mid refl a.was (known_end (AtLimit most_lines) (run_many s.most number here [] (lines_of a.left) m.0 (some_line a.left (subst MoreKnown a.is_left m.1)))))
+
+  -- a line at which the node ended
+  pub line_ended : {C : Type 0} (Fits : Role → Type 0) (stands : C → Role → Type 0) (pending : List ℕ) (source w' : Option (List ℕ)) (line : InputLine) (status : Status) (f2 : ℕ) (new : Told) → number < most_lines → length pending ≤ read_ahead → GivesKnown Line rest line (prepend_known pending source)
+      → is_skipped (content line) ≡ false → TakesLine {C = C} stands s.most s.addr here (node_line (content line)) (number + 1) (Err (Ends status)) w w' f1 f2 mid new → Ended Fits s bytes (Ok status) source w0 w' f0 f2 old new
+  line_ended {C} Fits stands pending source w' line status f2 new more few gives unskipped = by_status status
+    where
+      n : Next a.left line (prepend_known pending source)
+      n = next_line a.left line rest (prepend_known pending source) a.is_left gives
+
+      some : TakesSome bytes source (a.lines ++ line ∷ [])
+      some = record { behind = n.behind; cut = cut_more line n.behind n.first; ahead = pending; gave = read_of pending n.behind source n.is_left; few = few }
+
+      bad : (why : LineFault) → node_line (content line) ≡ Err why → role_run s.most number here [] (lines_of a.left) ≡ ended here (AtBadLine (number + 1) (event_fault why))
+      bad why is = ap (role_run s.most number here []) n.first.first ∙ run_taken s.most number here [] line (lines_of n.behind) more n.first.short unskipped
+          ∙ ap (λ what. takes s.most (number + 1) here [] what (λ m rs. role_run s.most (number + 1) m rs (lines_of n.behind))) is
+
+      by_status : (status : Status) → TakesLine {C = C} stands s.most s.addr here (node_line (content line)) (number + 1) (Err (Ends status)) w w' f1 f2 mid new → Ended Fits s bytes (Ok status) source w0 w' f0 f2 old new
+      by_status (BadInput m fault) h =
+          let was : WasAt s.most s.addr a.visits f0 f2 old new = subst (λ vs. WasAt s.most s.addr vs f0 f2 old new) (append-nil a.visits) (was_both s.most s.addr a.visits [] f0 f1 f2 old mid new a.was h.3) in
+          subst (λ k. Ran s (lines_of bytes) (EndsAt (AtBadLine k fault) w0 w') f0 f2 old new) (sym h.1)
+          (subst (λ x. Ran s (lines_of bytes) (EndsAt (AtBadLine (number + 1) x) w0 w') f0 f2 old new) (sym h.0.same)
+          (ends_there (lines_of bytes) (AtBadLine (number + 1) (event_fault h.0.why)) w' f2 new h.2 was (known_end (AtBadLine (number + 1) (event_fault h.0.why)) (bad h.0.why h.0.is))))
+      by_status WriteFault t =
+          let vs = a.visits ++ t.visits in
+          let over : run_of s vs (a.lines ++ line ∷ []) ≡ behind_all (a.front ++ t.output ∷ []) (played_of vs) (ended (then_is here t.role) AtEnd) =
+          ap (λ rs. role_run s.most s.first s.node rs (a.lines ++ line ∷ [])) (sym (append-nil (rounds_of vs))) ∙ ap (role_run s.most s.first s.node (rounds_of vs ++ [])) (sym (append-nil (a.lines ++ line ∷ [])))
+          ∙ through_line line n.behind more n.first unskipped (λ r. Unit {0}) (TakesPart w w') f2 new t [] [] in
+          record {
+            lines = a.lines ++ line ∷ [];
+            takes = some;
+            ran = record {
+              visits = vs;
+              was = was_all line n.behind more n.first unskipped (λ r. Unit {0}) (TakesPart w w') f2 new t;
+              holds = inl (last_part (run_of s vs (a.lines ++ line ∷ [])).outputs a.front t.output t.writes.0 w0 w w' (ap (λ (r : Run). r.outputs) over ∙ append-nil (a.front ++ t.output ∷ [])) a.writes t.writes.2);
+            };
+          }
+      by_status OutOfMemory h = wants source w' (line ∷ []) f2 new (omega arith) some h.0 h.1 h.2
+      by_status (Limit what kept) h = absurd h
+      by_status Done h = absurd h
+      by_status Usage h = h
+      by_status ReadFault h = absurd h
+
+  -- a line at which the disk failed
+  pub disk_ended : {C : Type 0} (Fits : Role → Type 0) (failed : DiskFailed) (stands : C → Role → Type 0) (pending : List ℕ) (source w' : Option (List ℕ)) (line : InputLine) (f2 : ℕ) (new : Told) → length pending ≤ read_ahead → GivesKnown Line rest line (prepend_known pending source)
+      → TakesLine {C = C} stands s.most s.addr here (node_line (content line)) (number + 1) (Err Disk) w w' f1 f2 mid new → Ended Fits s bytes (Err failed) source w0 w' f0 f2 old new
+  disk_ended {C} Fits failed stands pending source w' line f2 new few gives h =
+      let n = next_line a.left line rest (prepend_known pending source) a.is_left gives in
+      record {
+        lines = a.lines;
+        next = line ∷ [];
+        one = omega arith;
+        takes = record { behind = n.behind; cut = cut_more line n.behind n.first; ahead = pending; gave = read_of pending n.behind source n.is_left; few = few };
+        ran = ends_there a.lines AtEnd w' f2 new h.0 (subst (λ vs. WasAt s.most s.addr vs f0 f2 old new) (append-nil a.visits) (was_both s.most s.addr a.visits [] f0 f1 f2 old mid new a.was h.1)) so_far;
+      }

@@ -1,0 +1,6 @@
+pub mod Telling
+pub mod Stepping
+pub mod Whole
+pub mod Visiting
+pub mod Going
+pub mod Lifting

@@ -1,0 +1,28 @@
+use Rattle.std.proofs.Common.{◌≡◌, ◌≢◌, ℕ, Ok, Err, cond, sym, ◌∙◌, subst, arith}
+use Rattle.fuxi_terms.specs.Limits.{most_frames}
+use Rattle.node_door.specs.Doors.{WhereTold}
+use Rattle.node_party.specs.declared.line.NodeLine.TheVariants.{Round, Serve}
+use Rattle.node_party.specs.Commands.{NotHere, accepts}
+use Rattle.node_party.specs.Texts.{answer_text}
+use Rattle.node_run.specs.declared.taking.Stop.TheVariants.{Ends}
+use Rattle.node_run.specs.Progress.{TakesLine}
+use Rattle.node_run.proofs.Telling.{same_told}
+use Rattle.node_run.proofs.Stepping.{same_bool, other_bool, quiet_line, said_err, other_round}
+use Rattle.node_run.proofs.taking.take_meeting.Goals as goal
+
+pub returns-then-accepts-serves-clause-takes : goal.returns-then-accepts-serves-clause-takes
+returns-then-accepts-serves-clause-takes g c n number s =
+    let same : accepts n.role ≡ c.args.serves = sym (c.accepts.ensures n.role s) ∙ same_bool _ _ c.if-accepts-serves.true in
+    subst (λ b. WhereTold (TakesLine g.C.Core.stands most_frames c.args.addr.now n (Ok (cond b Serve Round)) number c.take_round.result (g.O.Sink.took c.args.out.now) (g.O.Sink.took c.take_round.new.out) (g.N.Door.faults c.args.door.now) (g.N.Door.faults c.take_round.new.door)) (g.N.Door.told c.args.door.now) (g.N.Door.told c.take_round.new.door)) same (c.take_round.ensures.takes n number s)
+
+pub returns-in-Ok-clause-takes : goal.returns-in-Ok-clause-takes
+returns-in-Ok-clause-takes g c n number s =
+    let other : accepts n.role ≢ c.args.serves = λ e. other_bool _ _ c.if-accepts-serves.false (c.accepts.ensures n.role s ∙ e) in
+    same_told _ (g.N.Door.told c.args.door.now) (λ t. quiet_line g.C.Core.stands n (Ok (cond c.args.serves Serve Round)) most_frames c.args.addr.now number (Ok c.args.core) (g.O.Sink.took c.args.out.now) (g.O.Sink.took c.write_answer.new.out) (g.N.Door.faults c.args.door.now) (g.N.Door.faults c.args.door.now) t (omega arith)
+    (record { output = answer_text NotHere; writes = c.in-Ok.ensures.writes; role = n.role; stands = s; through = other_round n c.args.serves other }))
+
+pub returns-in-Err-clause-takes : goal.returns-in-Err-clause-takes
+returns-in-Err-clause-takes g c n number s =
+    let other : accepts n.role ≢ c.args.serves = λ e. other_bool _ _ c.if-accepts-serves.false (c.accepts.ensures n.role s ∙ e) in
+    same_told _ (g.N.Door.told c.args.door.now) (λ t. quiet_line g.C.Core.stands n (Ok (cond c.args.serves Serve Round)) most_frames c.args.addr.now number (Err (Ends c.in-Err.status)) (g.O.Sink.took c.args.out.now) (g.O.Sink.took c.write_answer.new.out) (g.N.Door.faults c.args.door.now) (g.N.Door.faults c.args.door.now) t (omega arith)
+    (said_err g.C.Core.stands n (Ok (cond c.args.serves Serve Round)) (Unit {0}) (answer_text NotHere) n.role (other_round n c.args.serves other) c.in-Err.status _ _ c.in-Err.ensures.writes))

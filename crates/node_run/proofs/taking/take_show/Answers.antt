@@ -1,0 +1,12 @@
+use Rattle.std.proofs.Common.{ℕ, ◌+◌, Ok, Err, List, refl, sym, subst}
+use Rattle.fuxi_io.specs.declared.status.Status.{Status}
+use Rattle.node_party.specs.declared.line.NodeLine.TheVariants.{Show}
+use Rattle.node_party.specs.Texts.{state_text}
+use Rattle.node_run.specs.Progress.{WritesText}
+use Rattle.node_run.proofs.Stepping.{said_err}
+use Rattle.node_run.proofs.taking.take_show.Goals as goal
+
+pub returns-in-Err-clause-takes : goal.returns-in-Err-clause-takes
+returns-in-Err-clause-takes g c n s e =
+    said_err g.C.Core.stands n (Ok Show) (Unit {0}) (state_text (n.events + 1) n.role) n.role (λ most number rounds run. refl) c.in-Err.status _ _
+    (subst (λ k. WritesText {A = Unit {0}} (state_text (k + 1) n.role) (Err c.in-Err.status) (g.O.Sink.took c.args.out.now) (g.O.Sink.took c.write_state.new.out)) (sym e) (c.in-Err.ensures.writes n.role s))

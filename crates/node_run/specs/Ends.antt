@@ -1,0 +1,104 @@
+-- What is known of a node's run by the status that it ends with.
+use Rattle.std.specs.Prelude.{Result, Ok, Err, ◌≡◌, ◌⊎◌, ℕ, ◌-◌, ◌≤◌, List, [], ◌++◌, length, take, Option, Some, slice_get}
+use Rattle.std.specs.Option.{unwrap_or}
+use Rattle.std.specs.List.{concat}
+use Rattle.std.specs.Io.KnownBytes.{Appends, Consumes}
+use Rattle.fuxi_io.specs.Lines.{InputLine, lines_of}
+use Rattle.fuxi_io.specs.Reading.{read_ahead}
+use Rattle.fuxi_io.specs.declared.status.InputFault.{InputFault}
+use Rattle.fuxi_io.specs.declared.status.LimitOf.{LimitOf}
+use Rattle.fuxi_io.specs.declared.status.LimitOf.TheVariants.{Lines, Packets, Bytes}
+use Rattle.fuxi_io.specs.declared.status.Status.{Status}
+use Rattle.fuxi_io.specs.declared.status.Status.TheVariants.{Done, Usage, BadInput, ReadFault, WriteFault, Limit, OutOfMemory}
+use Rattle.input_lines.specs.Wholes.{whole_lines}
+use Rattle.node_door.specs.Doors.{Told}
+use Rattle.node_rounds.specs.Roles.{Role}
+use Rattle.node_rounds.specs.Rounds.{Breaks}
+use Rattle.node_party.specs.Commands.{accepts}
+use Rattle.node_run.specs.declared.taking.DiskFailed.{DiskFailed}
+use Rattle.node_run.specs.Runs.{Node, Run, Ending, AtEnd, AtBadLine, AtLimit, role_run, pieces}
+use Rattle.node_run.specs.Visits.{Visit, rounds_of, WasAt}
+
+-- the input before a node's lines: so many lines, and what the source and the sink have
+pub record Start : Type 0 where
+  pub most : ℕ
+  pub addr : List ℕ
+  pub first : ℕ
+  pub node : Node
+
+abbrev pub run_of : Start → List Visit → List InputLine → Run
+run_of s visits lines = role_run s.most s.first s.node (rounds_of visits) lines
+
+-- of the run over these lines, with what came in its rounds, this holds; and the door was at just these rounds
+pub record Ran (s : Start) (lines : List InputLine) (Holds : Run → Type 0) (before now : ℕ) (old new : Told) : Type 0 where
+  pub visits : List Visit
+  pub was : WasAt s.most s.addr visits before now old new
+  pub holds : Holds (run_of s visits lines)
+
+-- it ended there, and its outputs are written, and nothing else
+abbrev pub EndsAt : Ending → Option (List ℕ) → Option (List ℕ) → Run → Type 0
+EndsAt ending w0 w r = (r.ending ≡ ending) × Appends w0 w (concat r.outputs)
+
+-- it came to the end of its lines, its outputs and the state are written, and this holds of its party
+abbrev pub EndsWhole : (Role → Type 0) → Option (List ℕ) → Option (List ℕ) → Run → Type 0
+EndsWhole Fits w0 w r = (r.ending ≡ AtEnd) × Appends w0 w (concat (pieces r)) × Fits r.node.role
+
+-- all of these but the last are written whole, and of the last a part from its front
+pub record WritesLast (all : List (List ℕ)) (before after : Option (List ℕ)) : Type 0 where
+  pub part : ℕ
+  pub writes : Appends before after (concat (take (length all - 1) all) ++ take part (unwrap_or (slice_get all (length all - 1)) []))
+
+-- a source failed: the run over all whole lines that it gave before
+pub record ReadsWhole (s : Start) (bytes : List ℕ) (left w0 w : Option (List ℕ)) (before now : ℕ) (old new : Told) : Type 0 where
+  pub given : List ℕ
+  pub gave : Consumes (Some bytes) left given
+  pub ran : Ran s (whole_lines (lines_of given)) (EndsAt AtEnd w0 w) before now old new
+
+-- the lines taken, and what stands behind them; the source gave these lines and a few bytes ahead
+pub record TakesSome (bytes : List ℕ) (left : Option (List ℕ)) (lines : List InputLine) : Type 0 where
+  pub behind : List ℕ
+  pub cut : lines_of bytes ≡ lines ++ lines_of behind
+  pub ahead : List ℕ
+  pub gave : Consumes (Some behind) left ahead
+  pub few : length ahead ≤ read_ahead
+
+-- a write failed: within the output of the last line that was taken, or behind a whole input within the state
+pub record StopsWriting (s : Start) (bytes : List ℕ) (left w0 w : Option (List ℕ)) (before now : ℕ) (old new : Told) : Type 0 where
+  pub lines : List InputLine
+  pub takes : TakesSome bytes left lines
+  pub ran : Ran s lines (λ r. WritesLast r.outputs w0 w ⊎ ((lines_of bytes ≡ lines) × WritesLast (pieces r) w0 w)) before now old new
+
+-- memory lacked behind the output of the lines taken, at the end or at one line more; a round of that line may have been broken off
+pub record StopsWanting (s : Start) (bytes : List ℕ) (left w0 w : Option (List ℕ)) (before now : ℕ) (old new : Told) : Type 0 where
+  pub lines : List InputLine
+  pub next : List InputLine
+  pub one : length next ≤ 1
+  pub takes : TakesSome bytes left (lines ++ next)
+  pub mid : Told
+  pub ran : Ran s lines (λ r. EndsAt AtEnd w0 w r × Breaks (accepts r.node.role) s.addr r.node.role mid new) before now old mid
+
+-- the disk failed at the line behind the lines taken, whose output is written
+pub record StopsAtDisk (s : Start) (bytes : List ℕ) (left w0 w : Option (List ℕ)) (before now : ℕ) (old new : Told) : Type 0 where
+  pub lines : List InputLine
+  pub next : List InputLine
+  pub one : length next ≤ 1
+  pub takes : TakesSome bytes left (lines ++ next)
+  pub ran : Ran s lines (EndsAt AtEnd w0 w) before now old new
+
+-- what a node wrote that ended with a status, or since its disk failed; what its source has left then, and what its door has been through.
+-- Fits: what is known of its disk at the end.
+abbrev pub Ended : (Role → Type 0) → Start → List ℕ → Result Status DiskFailed → Option (List ℕ) → Option (List ℕ) → Option (List ℕ) → ℕ → ℕ → Told → Told → Type 0
+Ended Fits s bytes (Ok Done) left w0 w before now old new = (left ≡ Some []) × Ran s (lines_of bytes) (EndsWhole Fits w0 w) before now old new
+Ended Fits s bytes (Ok (BadInput line fault)) left w0 w before now old new = Ran s (lines_of bytes) (EndsAt (AtBadLine line fault) w0 w) before now old new
+Ended Fits s bytes (Ok (Limit Lines kept)) left w0 w before now old new = Ran s (lines_of bytes) (EndsAt (AtLimit kept) w0 w) before now old new
+Ended Fits s bytes (Ok (Limit Packets kept)) left w0 w before now old new = ⊥
+Ended Fits s bytes (Ok (Limit Bytes kept)) left w0 w before now old new = ⊥
+Ended Fits s bytes (Ok ReadFault) left w0 w before now old new = ReadsWhole s bytes left w0 w before now old new
+Ended Fits s bytes (Ok WriteFault) left w0 w before now old new = StopsWriting s bytes left w0 w before now old new
+Ended Fits s bytes (Ok OutOfMemory) left w0 w before now old new = StopsWanting s bytes left w0 w before now old new
+Ended Fits s bytes (Ok Usage) left w0 w before now old new = ⊥
+Ended Fits s bytes (Err failed) left w0 w before now old new = StopsAtDisk s bytes left w0 w before now old new
+
+-- a node of this party that took no event yet, so many lines having gone before
+abbrev pub start_of : ℕ → List ℕ → ℕ → Role → Start
+start_of most addr first r = record { most = most; addr = addr; first = first; node = record { role = r; events = 0 } }

@@ -1,0 +1,4 @@
+pub mod Runs
+pub mod Visits
+pub mod Ends
+pub mod Progress
