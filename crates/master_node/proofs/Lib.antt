@@ -1,0 +1,7 @@
+pub mod Commanding
+pub mod JobTests
+pub mod Knowing
+pub mod Moments
+pub mod Obeying
+pub mod Opening
+pub mod Turning

@@ -1,0 +1,162 @@
+//! The lines of a master.
+
+ghost use Rattle.std.specs.Prelude.{◌≡◌, ◌+◌, ◌<◌, ◌≤◌, Err, IfOk};
+ghost use Rattle.fuxi_io.specs.Causes.{Rose};
+ghost use Rattle.fuxi_io.specs.Disks.{WhereTold};
+ghost use Rattle.fuxi_terms.specs.Limits.{most_jobs, most_steps};
+ghost use Rattle.written_roles.specs.MasterSteps.{Submits, BansMachine, UnbansMachine};
+ghost use Rattle.schedule_text.specs.Writing.{IsLineEvent};
+ghost use Rattle.node_rounds.specs.Roles.{Role};
+ghost use Rattle.node_party.specs.Commands.{IsCommanded, MasterCommands, commanded, job_named, master_does};
+ghost use Rattle.node_party.specs.Texts.{as_answer};
+ghost use Rattle.master_node.specs.Standing.{Rests, StandsAs};
+ghost use Rattle.master_node.specs.Told.{IsTold, told_of};
+ghost use Rattle.master_node.specs.Writing.{hard_in};
+ghost use Rattle.master_node.specs.Telling.{Does, LeavesLine, LeavesMade};
+
+use crate::MasterNode;
+use crate::refusals::asked_refusal;
+use crate::told::{Told, master_named};
+use fuxi_io::Disk;
+use fuxi_master::MasterEvent;
+use node_party::{Answer, Halt};
+use schedule_text::{Event, Refusal};
+use schedule_unit::{AppNo, Asks, GroupNo, Job, MachineNo};
+use std::alloc::Global;
+
+impl MasterNode {
+    /// Takes an event that a line can give. What is written to the hard state is written before the master changes. Where the disk
+    /// fails or memory is refused the master is gone.
+    pub fn command<D: Disk>(
+        self,
+        alloc: Global,
+        event: &Event,
+        disk: &mut D,
+    ) -> Result<(MasterNode, Answer), Halt>
+        requires line { IsLineEvent event.now }
+        requires steps { self.master.steps < most_steps }
+        requires rests { Rests self (D.size disk.old) }
+        ensures does { IfOk result (λ after. (r : Role) → StandsAs self r → IsCommanded (StandsAs after.0) (as_answer after.1) (commanded r event.now)) }
+        ensures rests { IfOk result (λ after. Rests after.0 (D.size disk.new)) }
+        ensures steps { IfOk result (λ after. after.0.master.steps ≤ self.master.steps + 1) }
+        ensures later { D.faults disk.old ≤ D.faults disk.new }
+        ensures cause { result ≡ Err Halt.Disk → Rose (D.faults disk.old) (D.faults disk.new) }
+        ensures told { (r : Role) → StandsAs self r → WhereTold (LeavesLine self.hard (hard_in (commanded r event.now).role) result) (D.told disk.old) (D.told disk.new) }
+    {
+        let Some((epoch, told)) = master_named(event) else {
+            return Ok((self, Answer::NotHere));
+        };
+        if epoch != self.epoch() {
+            return Ok((self, Answer::Refused(Refusal::NotRunning)));
+        }
+        self.tell(alloc, told, disk)
+    }
+
+    // It is told this.
+    fn tell<D: Disk>(
+        self,
+        alloc: Global,
+        told: Told,
+        disk: &mut D,
+    ) -> Result<(MasterNode, Answer), Halt>
+        requires told { IsTold told }
+        requires steps { self.master.steps < most_steps }
+        requires rests { Rests self (D.size disk.old) }
+        ensures does { IfOk result (Does (λ h r. master_does h r (told_of told.entry)) self) }
+        ensures rests { IfOk result (λ after. Rests after.0 (D.size disk.new)) }
+        ensures steps { IfOk result (λ after. after.0.master.steps ≤ self.master.steps + 1) }
+        ensures later { D.faults disk.old ≤ D.faults disk.new }
+        ensures cause { result ≡ Err Halt.Disk → Rose (D.faults disk.old) (D.faults disk.new) }
+        ensures told { LeavesMade (λ h r. master_does h r (told_of told.entry)) self result (D.told disk.old) (D.told disk.new) }
+    {
+        match told {
+            Told::Submit(app, group, asks) => self.submit(alloc, app, group, asks, disk),
+            Told::Finish(app) => self.obey(alloc, MasterEvent::Finish(app), disk),
+            Told::Ban(machine) => self.ban(alloc, machine, disk),
+            Told::Unban(machine) => self.unban(alloc, machine, disk),
+            Told::Begin => self.obey(alloc, MasterEvent::Begin, disk),
+            Told::Preempt => self.obey(alloc, MasterEvent::Preempt, disk),
+            Told::Resync => self.obey(alloc, MasterEvent::Resync, disk),
+        }
+    }
+
+    // A job is submitted.
+    fn submit<D: Disk>(
+        self,
+        alloc: Global,
+        app: AppNo,
+        group: GroupNo,
+        asks: &Asks,
+        disk: &mut D,
+    ) -> Result<(MasterNode, Answer), Halt>
+        requires app { app.0 < most_jobs }
+        requires steps { self.master.steps < most_steps }
+        requires rests { Rests self (D.size disk.old) }
+        ensures does { IfOk result (Does (λ h r. master_does h r (MasterCommands (Submits (job_named app.0 group.0 asks.now)))) self) }
+        ensures rests { IfOk result (λ after. Rests after.0 (D.size disk.new)) }
+        ensures steps { IfOk result (λ after. after.0.master.steps ≤ self.master.steps + 1) }
+        ensures later { D.faults disk.old ≤ D.faults disk.new }
+        ensures cause { result ≡ Err Halt.Disk → Rose (D.faults disk.old) (D.faults disk.new) }
+        ensures told { LeavesMade (λ h r. master_does h r (MasterCommands (Submits (job_named app.0 group.0 asks.now)))) self result (D.told disk.old) (D.told disk.new) }
+    {
+        let cluster = self.cluster();
+        if group.0 >= cluster.groups() {
+            return Ok((self, Answer::Refused(Refusal::NoGroup)));
+        }
+        let job = match Job::make(alloc, app, group, cluster.resources(), asks.as_slice()) {
+            Ok(job) => job,
+            Err(fault) => match asked_refusal(fault) {
+                Some(refusal) => return Ok((self, Answer::Refused(refusal))),
+                None => {
+                    drop(self);
+                    return Err(Halt::Memory);
+                }
+            },
+        };
+        self.obey(alloc, MasterEvent::Admit(job), disk)
+    }
+
+    // A machine is banned.
+    fn ban<D: Disk>(
+        self,
+        alloc: Global,
+        machine: MachineNo,
+        disk: &mut D,
+    ) -> Result<(MasterNode, Answer), Halt>
+        requires steps { self.master.steps < most_steps }
+        requires rests { Rests self (D.size disk.old) }
+        ensures does { IfOk result (Does (λ h r. master_does h r (MasterCommands (BansMachine machine.0))) self) }
+        ensures rests { IfOk result (λ after. Rests after.0 (D.size disk.new)) }
+        ensures steps { IfOk result (λ after. after.0.master.steps ≤ self.master.steps + 1) }
+        ensures later { D.faults disk.old ≤ D.faults disk.new }
+        ensures cause { result ≡ Err Halt.Disk → Rose (D.faults disk.old) (D.faults disk.new) }
+        ensures told { LeavesMade (λ h r. master_does h r (MasterCommands (BansMachine machine.0))) self result (D.told disk.old) (D.told disk.new) }
+    {
+        if machine.0 >= self.cluster().machines() {
+            return Ok((self, Answer::Refused(Refusal::NoMachine)));
+        }
+        self.obey(alloc, MasterEvent::Ban(machine), disk)
+    }
+
+    // The ban of a machine is lifted.
+    fn unban<D: Disk>(
+        self,
+        alloc: Global,
+        machine: MachineNo,
+        disk: &mut D,
+    ) -> Result<(MasterNode, Answer), Halt>
+        requires steps { self.master.steps < most_steps }
+        requires rests { Rests self (D.size disk.old) }
+        ensures does { IfOk result (Does (λ h r. master_does h r (MasterCommands (UnbansMachine machine.0))) self) }
+        ensures rests { IfOk result (λ after. Rests after.0 (D.size disk.new)) }
+        ensures steps { IfOk result (λ after. after.0.master.steps ≤ self.master.steps + 1) }
+        ensures later { D.faults disk.old ≤ D.faults disk.new }
+        ensures cause { result ≡ Err Halt.Disk → Rose (D.faults disk.old) (D.faults disk.new) }
+        ensures told { LeavesMade (λ h r. master_does h r (MasterCommands (UnbansMachine machine.0))) self result (D.told disk.old) (D.told disk.new) }
+    {
+        if machine.0 >= self.cluster().machines() {
+            return Ok((self, Answer::Refused(Refusal::NoMachine)));
+        }
+        self.obey(alloc, MasterEvent::Unban(machine), disk)
+    }
+}

@@ -1,0 +1,271 @@
+//! The party of a node that is a master.
+
+ghost use Rattle.std.specs.Prelude.{◌≡◌, ◌+◌, ◌<◌, ◌≤◌, ◌&&◌, ◌++◌, ℕ, true, length, Ok, Err, IfOk, IfErr, IsTrue};
+ghost use Rattle.std.specs.List.{flat_map};
+ghost use Rattle.fuxi_io.specs.Causes.{Rose};
+ghost use Rattle.fuxi_io.specs.Disks.{WhereTold};
+ghost use Rattle.fuxi_terms.specs.Limits.{most_steps};
+ghost use Rattle.written_net.specs.Net.{same_id};
+ghost use Rattle.written_net.specs.Channels.{master_id};
+ghost use Rattle.written_roles.specs.HardState.{HardState};
+ghost use Rattle.written_roles.specs.MasterSteps.{talks};
+ghost use Rattle.written_roles.specs.MasterRoles.{MasterRole, master_started};
+ghost use Rattle.fuxi_master.specs.Cores.{StandsFor};
+ghost use Rattle.party_ledgers.specs.Packets.{IsFormed, are_parties};
+ghost use Rattle.wire_frames.specs.Frames.{frame};
+ghost use Rattle.fuxi_master.specs.Steps.{IsSentFormed};
+ghost use Rattle.node_rounds.specs.Roles.{IsTurn, OfMaster, Role as RoleSeen, end_packet, heard, id_in, may_be, may_send, turn, Keeps};
+ghost use Rattle.master_node.specs.Standing.{IsMasterOf, Rests, StandsAs, RestsAt};
+ghost use Rattle.master_node.specs.Starting.{FailsStart, IsRaised, IsStartFault, Starts, StartsFrom};
+ghost use Rattle.master_node.specs.Writing.{IsCommand};
+ghost use Rattle.master_node.specs.Telling.{Does, LeavesMade, obeyed, packets_in, Sends};
+
+use crate::refusals::{answer_in, written_refusal};
+use crate::writing::write;
+use cluster_desc::Cluster;
+use fuxi_io::Disk;
+use fuxi_master::{Master, MasterEvent, Outcome};
+use fuxi_terms::OutOfMemory;
+use hard_state::{Hard, HardFault};
+use node_party::{Answer, Halt};
+use node_rounds::{Core, Turn, write_turn};
+use party_ledgers::{Kind, Packet};
+use schedule_unit::{AppNo, Party, Role};
+use std::alloc::Global;
+use std::marker::Model;
+
+/// The master of one epoch with its hard state, as the party of a node. Each call that changes it is a step; fewer than 2^50 may be taken.
+#[derive(Drop)]
+pub struct MasterNode {
+    master: Master,
+    hard: Hard,
+}
+
+impl Model for MasterNode {
+    ghost use Rattle.master_node.specs.Standing.{NodeRecord, IsTied};
+
+    ghost Value = { NodeRecord };
+
+    ghost view = { λ n. record { hard = n.hard; master = n.master } };
+
+    ghost invariant = { λ n. IsTied (record { hard = n.hard; master = n.master }) };
+}
+
+impl MasterNode {
+    /// Opens the checkpoint, raises its fence to the epoch, which is at least 1, and starts the master of that epoch.
+    ///
+    /// `NotCheckpoint` tells the offset of the first damaged record, `Stale` a fence that is not below the epoch; `Full` comes
+    /// where no record more may be written. After an error the checkpoint has to be opened again.
+    pub fn open<D: Disk>(
+        alloc: Global,
+        cluster: &Cluster,
+        epoch: u64,
+        disk: &mut D,
+    ) -> Result<MasterNode, HardFault>
+        requires { 0 < epoch }
+        ensures stands { IfOk result (λ n. StandsAs n (OfMaster n.hard.value (master_started cluster.now n.hard.value epoch))) }
+        ensures raised { IfOk result (λ n. IsRaised epoch n.hard.value) }
+        ensures steps { IfOk result (λ n. n.master.steps ≡ 0) }
+        ensures rests { IfOk result (λ n. Rests n (D.size disk.new)) }
+        ensures opened { IfOk result (λ n. WhereTold (StartsFrom epoch n.hard) (D.told disk.old) (D.told disk.new)) }
+        ensures faults { IfErr result IsStartFault }
+        ensures fails { IfErr result (λ fault. WhereTold (FailsStart epoch fault) (D.told disk.old) (D.told disk.new)) }
+        ensures later { D.faults disk.old ≤ D.faults disk.new }
+        ensures cause { result ≡ Err HardFault.DiskFault → Rose (D.faults disk.old) (D.faults disk.new) }
+        ensures told { WhereTold (Starts epoch) (D.told disk.old) (D.told disk.new) }
+    {
+        let mut hard = match Hard::open(alloc, disk) {
+            Ok(hard) => hard,
+            Err(fault) => return Err(fault),
+        };
+        match hard.raise(disk, epoch) {
+            Ok(()) => {}
+            Err(fault) => {
+                drop(hard);
+                return Err(fault);
+            }
+        }
+        match Master::start(alloc, cluster, epoch, &hard) {
+            Ok(master) => Ok(MasterNode { master, hard }),
+            Err(OutOfMemory) => {
+                drop(hard);
+                Err(HardFault::OutOfMemory)
+            }
+        }
+    }
+
+    // Its cluster.
+    pub(crate) fn cluster(&self) -> &Cluster
+        ensures { (h : HardState) (r : MasterRole) → IsMasterOf h r self.now → result.now ≡ r.cluster }
+    {
+        self.master.table().cluster()
+    }
+
+    // Its epoch.
+    pub(crate) fn epoch(&self) -> u64
+        ensures { (h : HardState) (r : MasterRole) → IsMasterOf h r self.now → result ≡ r.state.epoch }
+    {
+        self.master.epoch()
+    }
+
+    // Does what it is told; that is written to the hard state first, where it is written.
+    pub(crate) fn obey<D: Disk>(
+        self,
+        alloc: Global,
+        event: MasterEvent,
+        disk: &mut D,
+    ) -> Result<(MasterNode, Answer), Halt>
+        requires command { IsCommand event }
+        requires steps { self.master.steps < most_steps }
+        requires rests { Rests self (D.size disk.old) }
+        ensures does { IfOk result (Does (λ h r. obeyed h r event) self) }
+        ensures rests { IfOk result (λ after. Rests after.0 (D.size disk.new)) }
+        ensures steps { IfOk result (λ after. after.0.master.steps ≤ self.master.steps + 1) }
+        ensures later { D.faults disk.old ≤ D.faults disk.new }
+        ensures cause { result ≡ Err Halt.Disk → Rose (D.faults disk.old) (D.faults disk.new) }
+        ensures told { LeavesMade (λ h r. obeyed h r event) self result (D.told disk.old) (D.told disk.new) }
+    {
+        let MasterNode { master, hard } = self;
+        let mut hard = hard;
+        match write(&mut hard, disk, master.epoch(), &event) {
+            Ok(()) => {}
+            Err(fault) => {
+                drop(event);
+                match written_refusal(fault) {
+                    Ok(refusal) => {
+                        return Ok((MasterNode { master, hard }, Answer::Refused(refusal)));
+                    }
+                    Err(halt) => {
+                        drop(master);
+                        drop(hard);
+                        return Err(halt);
+                    }
+                }
+            }
+        }
+        match master.step(alloc, event) {
+            Ok((master, outcome)) => Ok((MasterNode { master, hard }, answer_in(outcome))),
+            Err(OutOfMemory) => {
+                drop(hard);
+                Err(Halt::Memory)
+            }
+        }
+    }
+}
+
+// Whether a packet is for the master.
+fn is_for_master(packet: &Packet) -> bool
+    ensures { result ≡ same_id (id_in packet.now.to) master_id }
+{
+    matches!(packet.to.role, Role::Master) && packet.to.number == 0
+}
+
+// Whether a master talks to a party.
+fn talks(master: &Master, party: Party) -> bool
+    ensures { (r : MasterRole) → StandsFor master.now.core r → result ≡ talks r.cluster r.state (id_in party) }
+{
+    match party.role {
+        Role::Master => false,
+        Role::Agent => party.number < master.table().cluster().machines(),
+        Role::App => master.knows(AppNo(party.number)),
+    }
+}
+
+// Whether the other party of a connection is this one, or none is known yet.
+fn may_be(peer: Option<Party>, from: Party) -> bool
+    ensures { result ≡ may_be peer (id_in from) }
+{
+    match peer {
+        None => true,
+        Some(peer) => peer.role == from.role && peer.number == from.number,
+    }
+}
+
+// The frames of what a turn sends, and of an End packet.
+fn write_sent(alloc: Global, outcome: Outcome, from: Party, to: Party) -> Result<Turn, OutOfMemory>
+    requires sends { Sends outcome }
+    requires sent { IsSentFormed outcome }
+    requires parties { IsTrue (are_parties from to) }
+    ensures bytes { IfOk result (λ turn. turn.bytes.items ≡ flat_map frame (packets_in outcome) ++ frame (end_packet from to)) }
+    ensures packets { IfOk result (λ turn. turn.packets ≡ length (packets_in outcome)) }
+{
+    let Outcome::Sent(packets) = outcome else {
+        unreachable!()
+    };
+    write_turn(alloc, &packets, from, to)
+}
+
+impl Core for MasterNode {
+    ghost use Rattle.master_node.specs.Standing.{RestsAt, StandsAs};
+
+    ghost stands = { StandsAs };
+
+    ghost steps = { λ n. n.master.steps };
+
+    ghost rests = { RestsAt };
+
+    fn allows(&self, peer: Option<Party>, packet: &Packet) -> bool {
+        is_for_master(packet) && (talks(&self.master, packet.from) && may_be(peer, packet.from))
+    }
+
+    fn hear(self, alloc: Global, packet: Packet) -> Result<MasterNode, OutOfMemory>
+        requires formed { IsFormed packet }
+        requires no_end { packet.kind ≡ Kind.End → ⊥ }
+        requires steps { self.master.steps < most_steps }
+        ensures hears { IfOk result (λ after. (r : RoleSeen) → StandsAs self r → StandsAs after (heard r packet)) }
+        ensures steps { IfOk result (λ after. after.master.steps ≤ self.master.steps + 1) }
+        ensures kept { IfOk result (λ after. after.hard ≡ self.hard) }
+        ensures rests { IfOk result (λ after. Keeps (RestsAt self) (RestsAt after)) }
+    {
+        let MasterNode { master, hard } = self;
+        match master.step(alloc, MasterEvent::Packet(packet)) {
+            Ok((master, outcome)) => {
+                drop(outcome);
+                Ok(MasterNode { master, hard })
+            }
+            Err(OutOfMemory) => {
+                drop(hard);
+                Err(OutOfMemory)
+            }
+        }
+    }
+
+    fn turn(self, alloc: Global, peer: Option<Party>) -> Result<(MasterNode, Turn), OutOfMemory>
+        requires peer { (r : RoleSeen) → StandsAs self r → may_send r peer ≡ true }
+        requires steps { self.master.steps < most_steps }
+        ensures stands { IfOk result (λ after. (r : RoleSeen) → StandsAs self r → StandsAs after.0 r) }
+        ensures bytes { IfOk result (λ after. (r : RoleSeen) → StandsAs self r → IsTurn r peer after.1.bytes.items) }
+        ensures packets { IfOk result (λ after. (r : RoleSeen) → StandsAs self r → after.1.packets ≡ length (turn r peer)) }
+        ensures steps { IfOk result (λ after. after.0.master.steps ≤ self.master.steps + 1) }
+        ensures kept { IfOk result (λ after. after.0.hard ≡ self.hard) }
+        ensures rests { IfOk result (λ after. Keeps (RestsAt self) (RestsAt after.0)) }
+    {
+        let from = Party {
+            role: Role::Master,
+            number: 0,
+            inc: self.master.epoch(),
+        };
+        let Some(peer) = peer else { unreachable!() };
+        let to = Party {
+            role: peer.role,
+            number: peer.number,
+            inc: self.master.place(peer).inc,
+        };
+        let MasterNode { master, hard } = self;
+        let (master, outcome) = match master.step(alloc, MasterEvent::TurnTo(peer)) {
+            Ok(after) => after,
+            Err(OutOfMemory) => {
+                drop(hard);
+                return Err(OutOfMemory);
+            }
+        };
+        match write_sent(alloc, outcome, from, to) {
+            Ok(turn) => Ok((MasterNode { master, hard }, turn)),
+            Err(OutOfMemory) => {
+                drop(master);
+                drop(hard);
+                Err(OutOfMemory)
+            }
+        }
+    }
+}
