@@ -26,6 +26,7 @@ nothing_taken Fits s pending (Some left) took f (Some t) few = record {
   ran = record {
     visits = [];
     was = record { door = refl; are = tt; faults = omega arith };
+    rounds = refl;
     holds = ((refl, appends_none took), inl refl);
   };
 }

@@ -35,7 +35,7 @@ fn found_text<'a>(found: Option<u32>, buffer: &'a mut Buffer) -> (&'static str, 
     }
 }
 
-/// Writes the line of a round. It takes no memory, so what was sent in a round is always told.
+/// Writes the line of a round. It takes no memory, so a round that came to its end is told unless the sink fails.
 pub fn write_round<O: Sink>(out: &mut O, line: &RoundLine) -> Result<(), WriteFault>
     ensures ok { OnOk result (Appends (O.took out.old) (O.took out.new) (round_text line.now)) }
     ensures err { OnErr result (TakesPart (O.took out.old) (O.took out.new) (round_text line.now)) }

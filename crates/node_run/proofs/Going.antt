@@ -229,6 +229,7 @@ module _ (s : Start) (bytes : List ℕ) (number : ℕ) (ends : Bool) (events : �
   ends_there lines ending w' f2 new kept was is = record {
     visits = a.visits;
     was = was;
+    rounds = ap (λ (r : Run). r.rounds) is;
     holds = subst (EndsAt ending w0 w') (sym is) (refl, subst (λ t. Appends w0 t (concat a.front)) (sym kept) a.writes);
   }
 
@@ -242,6 +243,7 @@ module _ (s : Start) (bytes : List ℕ) (number : ℕ) (ends : Bool) (events : �
     ran = record {
       visits = a.visits;
       was = was_later s.most s.addr a.visits f0 f1 f2 old mid a.was later;
+      rounds = ap (λ (r : Run). r.rounds) so_far;
       holds = subst (λ (r : Run). EndsAt AtEnd w0 w' r × Breaks (accepts r.node.role) s.addr r.node.role mid new) (sym so_far) ((refl, subst (λ t. Appends w0 t (concat a.front)) (sym kept) a.writes), breaks);
     };
   }
@@ -271,6 +273,7 @@ module _ (s : Start) (bytes : List ℕ) (number : ℕ) (ends : Bool) (events : �
         record {
           visits = a.visits;
           was = a.was;
+          rounds = ap (λ (r : Run). r.rounds) all;
           holds = subst (EndsWhole Fits w0 w') (sym all) (refl, rw concat_one (appends_both w0 w w' (concat a.front) (state_text events a.role) a.writes h), fits);
         },
       )
@@ -280,6 +283,7 @@ module _ (s : Start) (bytes : List ℕ) (number : ℕ) (ends : Bool) (events : �
         ran = record {
           visits = a.visits;
           was = a.was;
+          rounds = ap (λ (r : Run). r.rounds) so_far;
           holds = inr (cut, last_part (pieces (run_of s a.visits a.lines)) a.front (state_text events a.role) h.0 w0 w w' (ap pieces so_far) a.writes h.2);
         };
       }
@@ -339,6 +343,7 @@ module _ (s : Start) (bytes : List ℕ) (number : ℕ) (ends : Bool) (events : �
             ran = record {
               visits = vs;
               was = was_all line n.behind more n.first unskipped (λ r. Unit {0}) (TakesPart w w') f2 new t;
+              rounds = ap (λ (r : Run). r.rounds) over ∙ append-nil (played_of vs);
               holds = inl (last_part (run_of s vs (a.lines ++ line ∷ [])).outputs a.front t.output t.writes.0 w0 w w' (ap (λ (r : Run). r.outputs) over ∙ append-nil (a.front ++ t.output ∷ [])) a.writes t.writes.2);
             };
           }

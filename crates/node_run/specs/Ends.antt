@@ -17,7 +17,7 @@ use Rattle.node_rounds.specs.Rounds.{Breaks}
 use Rattle.node_party.specs.Commands.{accepts}
 use Rattle.node_run.specs.declared.taking.DiskFailed.{DiskFailed}
 use Rattle.node_run.specs.Runs.{Node, Run, Ending, AtEnd, AtBadLine, AtLimit, role_run, pieces}
-use Rattle.node_run.specs.Visits.{Visit, rounds_of, WasAt}
+use Rattle.node_run.specs.Visits.{Visit, rounds_of, played_of, WasAt}
 
 -- the input before a node's lines: so many lines, and what the source and the sink have
 pub record Start : Type 0 where
@@ -29,10 +29,11 @@ pub record Start : Type 0 where
 abbrev pub run_of : Start → List Visit → List InputLine → Run
 run_of s visits lines = role_run s.most s.first s.node (rounds_of visits) lines
 
--- of the run over these lines, with what came in its rounds, this holds; and the door was at just these rounds
+-- of the run over these lines, with what came in its rounds, this holds; and the door was at just the rounds of this run
 pub record Ran (s : Start) (lines : List InputLine) (Holds : Run → Type 0) (before now : ℕ) (old new : Told) : Type 0 where
   pub visits : List Visit
   pub was : WasAt s.most s.addr visits before now old new
+  pub rounds : (run_of s visits lines).rounds ≡ played_of visits
   pub holds : Holds (run_of s visits lines)
 
 -- it ended there, and its outputs are written, and nothing else
