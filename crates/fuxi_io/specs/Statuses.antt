@@ -1,7 +1,7 @@
 -- The numbers of the outcomes, and the words of the keys.
 use Rattle.std.specs.Prelude.{ℕ, List, codes}
 use Rattle.fuxi_io.specs.declared.status.Status.{Status}
-use Rattle.fuxi_io.specs.declared.status.Status.TheVariants.{Done, Usage, BadInput, ReadFault, WriteFault, Limit, OutOfMemory}
+use Rattle.fuxi_io.specs.declared.status.Status.TheVariants.{Done, Usage, BadInput, ReadFault, WriteFault, Limit, OutOfMemory, DiskFault, StaleEpoch, DamagedCheckpoint}
 use Rattle.fuxi_io.specs.declared.status.ClusterKey.{ClusterKey}
 use Rattle.fuxi_io.specs.declared.status.ClusterKey.TheVariants.{Cluster, Resources, Machines, Groups, Rack, Has, Quota, Limit as LimitKey}
 
@@ -14,6 +14,9 @@ code_of ReadFault = 4
 code_of WriteFault = 5
 code_of (Limit what kept) = 6
 code_of OutOfMemory = 7
+code_of DiskFault = 8
+code_of (StaleEpoch fence) = 9
+code_of (DamagedCheckpoint offset) = 10
 
 -- the key as it is written
 abbrev pub word_of : ClusterKey → List ℕ

@@ -18,6 +18,12 @@ pub enum Status {
     Limit { what: LimitOf, kept: u64 },
     /// Memory was refused.
     OutOfMemory,
+    /// The disk of the checkpoint failed.
+    DiskFault,
+    /// The fence in the checkpoint is at least the epoch of the master.
+    StaleEpoch { fence: u64 },
+    /// What stands at this offset of the checkpoint is no record.
+    DamagedCheckpoint { offset: u64 },
 }
 
 /// What a limit counts.
@@ -29,6 +35,8 @@ pub enum LimitOf {
     Packets,
     /// The bytes of the frames of all packets of a run, at most 2^30.
     Bytes,
+    /// The records of a checkpoint, at most 65,536.
+    Records,
 }
 
 /// A key of the line that describes the cluster; `Cluster` is the whole of it.
@@ -75,6 +83,8 @@ pub enum InputFault {
     QuantityRange,
     /// The quota of the group with this number is above its limit.
     QuotaOverLimit(u32),
+    /// The cluster has no machine of the number that the command names.
+    NoMachine,
 }
 
 impl Status {
@@ -90,6 +100,9 @@ impl Status {
             Status::WriteFault => 5,
             Status::Limit { .. } => 6,
             Status::OutOfMemory => 7,
+            Status::DiskFault => 8,
+            Status::StaleEpoch { .. } => 9,
+            Status::DamagedCheckpoint { .. } => 10,
         }
     }
 }

@@ -1,6 +1,9 @@
 //! The master of one epoch.
 
-ghost use Rattle.std.specs.Prelude.{◌≡◌, ◌+◌, ◌<◌, ◌≤◌, ℕ, true, if◌then◌else◌, length, Some, IfOk};
+ghost use Rattle.std.specs.Prelude.{◌≡◌, ◌+◌, ◌<◌, ◌≤◌, ℕ, T, true, if◌then◌else◌, length, map, Some, IfOk};
+ghost use Rattle.std.specs.List.{AllByRecursion};
+ghost use Rattle.std.specs.Ordering.{nat_cmp};
+ghost use Rattle.std.specs.FinMap.Entries.{is_sorted};
 ghost use Rattle.fuxi_terms.specs.Cluster.{has_at};
 ghost use Rattle.fuxi_terms.specs.Jobs.{is_known, unit_count};
 ghost use Rattle.fuxi_terms.specs.Limits.{most_steps};
@@ -111,6 +114,8 @@ impl Master {
     pub fn reported(&self) -> &Machines
         ensures reported { result.now ≡ self.now.core.reported }
         ensures stands { (r : MasterRole) → StandsFor self.now.core r → result.now.numbers ≡ r.state.reported }
+        ensures rising { T (is_sorted {X = ℕ} nat_cmp (map (λ (m : ℕ). (m, 0)) result.now.numbers)) }
+        ensures below { AllByRecursion (λ m. m < length self.now.core.allotment.table.cluster.machines) result.now.numbers }
     {
         &self.core.reported
     }

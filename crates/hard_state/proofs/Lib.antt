@@ -6,3 +6,4 @@ pub mod Reading
 pub mod Standing
 pub mod Stops
 pub mod Openings
+pub mod Rising

@@ -1,6 +1,9 @@
 //! A set of small numbers.
 
-ghost use Rattle.std.specs.Prelude.{◌≡◌, ◌<◌, [], true};
+ghost use Rattle.std.specs.Prelude.{◌≡◌, ◌<◌, ℕ, T, [], map, true};
+ghost use Rattle.std.specs.List.{AllByRecursion};
+ghost use Rattle.std.specs.Ordering.{nat_cmp};
+ghost use Rattle.std.specs.FinMap.Entries.{is_sorted};
 ghost use Rattle.fuxi_terms.specs.Numbers.{has_number, with_number, without_number};
 ghost use Rattle.hard_state.specs.Bans.{marked_from};
 
@@ -46,6 +49,14 @@ impl NumberSet {
         is_marked(&self.marks, number)
     }
 
+    /// They rise, and each is at most 255.
+    pub fn rising(&self)
+        ensures rise { T (is_sorted {X = ℕ} nat_cmp (map (λ (n : ℕ). (n, 0)) self.now)) }
+        ensures low { AllByRecursion (λ n. n < 256) self.now }
+    {
+        marks_rise(&self.marks);
+    }
+
     /// Puts the number into the set.
     pub fn insert(&mut self, number: u32)
         requires { number < 256 }
@@ -72,6 +83,12 @@ fn is_marked(marks: &[bool; 256], number: u32) -> bool
     }
     marks[number as usize]
 }
+
+// The numbers that are marked rise.
+fn marks_rise(marks: &[bool; 256])
+    ensures rise { T (is_sorted {X = ℕ} nat_cmp (map (λ (n : ℕ). (n, 0)) (marked_from 0 marks.now))) }
+    ensures low { AllByRecursion (λ n. n < 256) (marked_from 0 marks.now) }
+{}
 
 fn mark(marks: &mut [bool; 256], number: u32)
     requires { number < 256 }

@@ -1,6 +1,9 @@
 //! Jobs and bans, looked up by number.
 
-ghost use Rattle.std.specs.Prelude.{ℕ, ◌≡◌, ◌≤◌, ◌<◌, [], length, map, true, false, Some, None, IfOk, IfSome, IsNone, OnOk, OnErr, slice_get, vec_capacity};
+ghost use Rattle.std.specs.Prelude.{ℕ, ◌≡◌, ◌≤◌, ◌<◌, [], length, map, true, false, Some, None, IfOk, IfSome, IsNone, OnOk, OnErr, slice_get, vec_capacity, T};
+ghost use Rattle.std.specs.List.{AllByRecursion};
+ghost use Rattle.std.specs.Ordering.{nat_cmp};
+ghost use Rattle.std.specs.FinMap.Entries.{is_sorted};
 ghost use Rattle.std.specs.Option.{option_map};
 ghost use Rattle.fuxi_terms.specs.Cluster.{is_valid_job};
 ghost use Rattle.fuxi_terms.specs.Jobs.{job_of, is_known, has_ended};
@@ -144,6 +147,14 @@ impl Known {
         ensures numbers { (a : ℕ) → is_known self.now.jobs a ≡ true → a < most_jobs }
     {
         self.jobs.len()
+    }
+
+    /// The machines that are banned rise, and each is at most 255.
+    pub fn bans_rise(&self)
+        ensures rise { T (is_sorted {X = ℕ} nat_cmp (map (λ (n : ℕ). (n, 0)) self.now.bans)) }
+        ensures low { AllByRecursion (λ n. n < most_machines) self.now.bans }
+    {
+        self.bans.rising();
     }
 
     /// A job in the order of submission.
