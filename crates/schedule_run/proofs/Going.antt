@@ -15,7 +15,7 @@ use Rattle.fuxi_io.specs.declared.lines.LineStop.TheVariants.{ReadFault as ReadS
 use Rattle.fuxi_io.specs.declared.status.InputFault.TheVariants.{LineTooLong}
 use Rattle.fuxi_io.specs.declared.status.LimitOf.TheVariants.{Lines}
 use Rattle.fuxi_io.specs.declared.status.Status.{Status}
-use Rattle.fuxi_io.specs.declared.status.Status.TheVariants.{Done, Usage, BadInput, ReadFault, WriteFault, Limit, OutOfMemory}
+use Rattle.fuxi_io.specs.declared.status.Status.TheVariants.{Done, Usage, BadInput, ReadFault, WriteFault, Limit, OutOfMemory, DiskFault, StaleEpoch, DamagedCheckpoint}
 use Rattle.fuxi_terms.proofs.Appending.{appends_both, appends_none}
 use Rattle.schedule_text.specs.Reading.{event_of}
 use Rattle.schedule_text.specs.declared.event.Event.{Event as LineEvent}
@@ -28,29 +28,30 @@ use Rattle.schedule_replay.specs.Worlds.{WorldRecord}
 use Rattle.written_world.specs.World.{World, empty_world}
 use Rattle.written_world.specs.Events.{world_step}
 use Rattle.written_world.specs.Show.{show}
-use Rattle.schedule_run.specs.Contents.{content, is_skipped}
-use Rattle.schedule_run.specs.Inputs.{event_fault}
-use Rattle.schedule_run.specs.Runs.{Run, Ending, AtEnd, AtBadLine, AtLimit, ended, behind, within_limits, ending_at, unless_past, with_event, run_from, read_from, pieces, WritesLast, StopsWithin, Ended}
-use Rattle.schedule_run.specs.Progress.{Stands, TakesLine, WritesState, after_line, behind_all, status_of, Along}
+use Rattle.input_lines.specs.Contents.{content, is_skipped}
+use Rattle.input_lines.specs.Statuses.{event_fault, stop_status}
+use Rattle.input_lines.specs.Wholes.{WritesLast}
+use Rattle.schedule_run.specs.Runs.{Run, Ending, AtEnd, AtBadLine, AtLimit, ended, behind, within_limits, ending_at, unless_past, with_event, run_from, pieces, StopsWithin, Ended}
+use Rattle.schedule_run.specs.Progress.{Stands, TakesLine, WritesState, after_line, behind_all, Along}
 use Rattle.schedule_run.proofs.Stepping.{skipped_line, event_line}
 use Rattle.schedule_run.proofs.Taking.{taken_none, taken_more, broken, reads_whole, read_of, no_more}
 use Rattle.fuxi_terms.specs.Limits.{most_line_bytes, most_lines}
 use Rattle.fuxi_terms.specs.Cluster.{ClusterRecord}
 
 -- one line of a run
-pub within : (before : ℕ) (w : Option World) (line : InputLine) (run : Run) → before < most_lines → length line.bytes ≤ most_line_bytes → within_limits before w line run ≡ run
+within : (before : ℕ) (w : World) (line : InputLine) (run : Run) → before < most_lines → length line.bytes ≤ most_line_bytes → within_limits before w line run ≡ run
 within before w line run more short =
     let m : nat_lt before most_lines ≡ true = grind (arith, nat_tests) in
     let s : nat_lt most_line_bytes (length line.bytes) ≡ false = grind (arith, nat_tests) in
     rw (m, s) refl
 
-pub too_long : (before : ℕ) (w : Option World) (line : InputLine) (run : Run) → before < most_lines → most_line_bytes < length line.bytes → within_limits before w line run ≡ ended w (AtBadLine (before + 1) LineTooLong)
+pub too_long : (before : ℕ) (w : World) (line : InputLine) (run : Run) → before < most_lines → most_line_bytes < length line.bytes → within_limits before w line run ≡ ended (Some w) (AtBadLine (before + 1) LineTooLong)
 too_long before w line run more long =
     let m : nat_lt before most_lines ≡ true = grind (arith, nat_tests) in
     let s : nat_lt most_line_bytes (length line.bytes) ≡ true = grind (arith, nat_tests) in
     rw (m, s) refl
 
-pub too_many : (before : ℕ) (w : Option World) (line : InputLine) (run : Run) → before ≡ most_lines → within_limits before w line run ≡ ended w (AtLimit Lines most_lines)
+too_many : (before : ℕ) (w : World) (line : InputLine) (run : Run) → before ≡ most_lines → within_limits before w line run ≡ ended (Some w) (AtLimit Lines most_lines)
 too_many before w line run many = let m : nat_lt before most_lines ≡ false = grind (arith, nat_tests) in rw m refl
 
 -- what an event's line makes of a run, by whether it is skipped
@@ -61,7 +62,7 @@ of_line before w lines said false = with_event (before + 1) w said (λ w. run_fr
 pub run_is : (before : ℕ) (w : World) (line : InputLine) (lines : List InputLine) (skipped : Bool) (said : Result LineEvent LineFault) → before < most_lines → length line.bytes ≤ most_line_bytes
     → is_skipped (content line) ≡ skipped → event_of (content line) ≡ said → run_from before w (line ∷ lines) ≡ of_line before w lines said skipped
 run_is before w line lines skipped said more short is_skip is_said =
-    within before (Some w) line _ more short
+    within before w line _ more short
     ∙ ap (λ b. elim b as (λ _. Run) [
       | true ↦ run_from (before + 1) w lines
       | false ↦ with_event (before + 1) w (event_of (content line)) (λ w. run_from (before + 1) w lines)
@@ -95,19 +96,11 @@ module _ (before : ℕ) (w : World) (line : InputLine) (lines : List InputLine) 
 
 run_long : (before : ℕ) (w : World) (lines : List InputLine) → before < most_lines → FirstLonger most_line_bytes lines → run_from before w lines ≡ ended (Some w) (AtBadLine (before + 1) LineTooLong)
 run_long before w [] more long = absurd long
-run_long before w (line ∷ lines) more long = too_long before (Some w) line _ more long
+run_long before w (line ∷ lines) more long = too_long before w line _ more long
 
 run_many : (before : ℕ) (w : World) (lines : List InputLine) → before ≡ most_lines → lines ≢ [] → run_from before w lines ≡ ended (Some w) (AtLimit Lines most_lines)
 run_many before w [] many some = absurd (some refl)
-run_many before w (line ∷ lines) many some = too_many before (Some w) line _ many
-
-pub read_long : (before : ℕ) (lines : List InputLine) → before < most_lines → FirstLonger most_line_bytes lines → read_from before lines ≡ ended None (AtBadLine (before + 1) LineTooLong)
-read_long before [] more long = absurd long
-read_long before (line ∷ lines) more long = too_long before None line _ more long
-
-pub read_many : (before : ℕ) (lines : List InputLine) → before ≡ most_lines → lines ≢ [] → read_from before lines ≡ ended None (AtLimit Lines most_lines)
-read_many before [] many some = absurd (some refl)
-read_many before (line ∷ lines) many some = too_many before None line _ many
+run_many before w (line ∷ lines) many some = too_many before w line _ many
 
 pub some_line : (bytes : List ℕ) → bytes ≢ [] → lines_of bytes ≢ []
 some_line [] some = λ e. some refl
@@ -285,9 +278,12 @@ module _ (bytes : List ℕ) (cluster : ClusterRecord) (first number : ℕ) (ends
       by_status (BadInput n fault) h = absurd h
       by_status ReadFault h = absurd h
       by_status (Limit what kept) h = absurd h
+      by_status DiskFault h = absurd h
+      by_status (StaleEpoch fence) h = absurd h
+      by_status (DamagedCheckpoint offset) h = absurd h
 
   stop_ended : (source : Option (List ℕ)) (stop : LineStop) → ends ≡ true → (stop ≡ ReadStop → BreaksOff rest source) → (stop ≡ LongStop → (number < most_lines) × FirstTooLongKnown rest) → (stop ≡ ManyStop → (number ≡ most_lines) × MoreKnown rest)
-      → Ended (run_from first (empty_world cluster)) bytes (status_of stop number) source w0 w
+      → Ended (run_from first (empty_world cluster)) bytes (stop_status stop number) source w0 w
   stop_ended source ReadStop before broke long many =
       reads_whole (run_from first (empty_world cluster)) bytes source w0 w a.lines (broken bytes a.left source a.lines (a.taken.whole before) (subst (λ r. BreaksOff r source) a.is_left (broke refl)))
       (inl (ap (λ (r : Run). r.ending) so_far)) (subst (λ (r : Run). Appends w0 w (concat r.outputs)) (sym so_far) a.writes)
@@ -368,6 +364,9 @@ module _ (bytes : List ℕ) (cluster : ClusterRecord) (first number : ℕ) (ends
       by_status Done h = absurd h
       by_status Usage h = h
       by_status ReadFault h = absurd h
+      by_status DiskFault h = absurd h
+      by_status (StaleEpoch fence) h = absurd h
+      by_status (DamagedCheckpoint offset) h = absurd h
 
 -- the same of an input that may be known
 module _ (input : Option (List ℕ)) (cluster : ClusterRecord) (first number : ℕ) (ends : Bool) (r : WorldRecord) (rest w0 w : Option (List ℕ)) (a : IfSome input (λ bytes. Along bytes cluster first number ends r rest w0 w)) where
@@ -392,7 +391,7 @@ module _ (input : Option (List ℕ)) (cluster : ClusterRecord) (first number : �
       state_ended bytes cluster first number ends r rest w0 w along source w' status end (no_more pending source (sym is ∙ along.is_left ∙ ap (λ l. Some l) end)) (writes along.world along.stands)) a
 
   pub stop_along : (source : Option (List ℕ)) (stop : LineStop) → ends ≡ true → (stop ≡ ReadStop → BreaksOff rest source) → (stop ≡ LongStop → (number < most_lines) × FirstTooLongKnown rest) → (stop ≡ ManyStop → (number ≡ most_lines) × MoreKnown rest)
-      → IfSome input (λ bytes. Ended (run_from first (empty_world cluster)) bytes (status_of stop number) source w0 w)
+      → IfSome input (λ bytes. Ended (run_from first (empty_world cluster)) bytes (stop_status stop number) source w0 w)
   stop_along source stop before broke long many = weaker input _ _ (λ bytes along. stop_ended bytes cluster first number ends r rest w0 w along source stop before broke long many) a
 
   pub line_along : (pending : List ℕ) (source w' : Option (List ℕ)) (line : InputLine) (status : Status) → number < most_lines → length pending ≤ read_ahead → GivesKnown Line rest line (prepend_known pending source)

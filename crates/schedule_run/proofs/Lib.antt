@@ -1,6 +1,5 @@
-pub mod Returns
 pub mod Stepping
 pub mod Taking
 pub mod Going
-pub mod Seeking
+pub mod Opening
 pub mod Telling

@@ -6,8 +6,8 @@ use Rattle.std.proofs.lemmas.Bool.Decides.{nat_tests}
 use Rattle.std.proofs.lemmas.List.Elements.{All-head, All-tail, filter-append}
 use Rattle.fuxi_io.specs.Lines.{InputLine, lines_of, onto_first, bytes_of, IsFirst, BreaksOff}
 use Rattle.fuxi_io.specs.Pieces.{NoNewline}
-use Rattle.schedule_run.specs.Runs.{Run, whole_lines, IsOpen, ReadsWhole}
-use Rattle.schedule_run.specs.Progress.{AreWhole}
+use Rattle.input_lines.specs.Wholes.{whole_lines, AreWhole}
+use Rattle.schedule_run.specs.Runs.{Run, IsOpen, ReadsWhole}
 
 no_first : (t : Bool) (x y : InputLine) (ls : List InputLine) → cond t (x ∷ ls) ls ≡ [] → cond t (y ∷ ls) ls ≡ []
 no_first true x y ls e = cc

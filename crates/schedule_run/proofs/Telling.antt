@@ -27,12 +27,13 @@ use Rattle.written_world.specs.World.{World, empty_world}
 use Rattle.written_world.specs.Events.{Event, world_step}
 use Rattle.written_world.specs.Runs.{run_from as written_run, run, outputs}
 use Rattle.written_world.specs.Show.{show}
-use Rattle.schedule_run.specs.Contents.{content, is_skipped}
-use Rattle.schedule_run.specs.Inputs.{Input, BadLine, cluster_fault, event_fault, cluster_said, event_said, unless_long, events_from, input_from, told}
-use Rattle.schedule_run.specs.Runs.{Run, Ending, AtEnd, AtBadLine, AtLimit, ended, ending_at, behind_cluster, run_from, read_from, run_of, final_text, pieces}
+use Rattle.input_lines.specs.Contents.{content, is_skipped}
+use Rattle.input_lines.specs.Statuses.{event_fault}
+use Rattle.input_cluster.specs.Openings.{cluster_fault, described}
+use Rattle.schedule_run.specs.Inputs.{Input, BadLine, cluster_said, event_said, unless_long, events_from, input_from, told}
+use Rattle.schedule_run.specs.Runs.{Run, Ending, AtEnd, AtBadLine, AtLimit, ended, ending_at, run_from, run_opened, read_from, run_of, final_text, pieces}
 use Rattle.schedule_run.specs.Told.{IsText, IsTextBefore, IsFrontText}
 use Rattle.schedule_run.proofs.Going.{too_long, run_skipped, run_bad, run_past, run_taken}
-use Rattle.schedule_run.proofs.Seeking.{read_is}
 
 abbrev bad_line : ℕ → InputFault → BadLine
 bad_line line fault = record { line = line; fault = fault }
@@ -130,7 +131,7 @@ tells before w (line ∷ lines) = by_many (nat_lt before most_lines) refl (λ v.
 
     by_long : before < most_lines → (long : Bool) → nat_lt most_line_bytes (length line.bytes) ≡ long
         → ((w : World) → Tells (before + 1) w lines (run_from (before + 1) w lines)) → Tells before w (line ∷ lines) (run_from before w (line ∷ lines))
-    by_long more true long t = subst (Tells before w (line ∷ lines)) (sym (too_long before (Some w) line _ more (grind (arith, nat_tests, long))))
+    by_long more true long t = subst (Tells before w (line ∷ lines)) (sym (too_long before w line _ more (grind (arith, nat_tests, long))))
         (at_once before w (line ∷ lines) (AtBadLine (before + 1) LineTooLong) (omega arith, events_long before line lines long))
     by_long more false short t = by_skip more short (is_skipped (content line)) refl t
 
@@ -155,6 +156,18 @@ module _ (before : ℕ) (line : InputLine) (lines : List InputLine) where
     | true ↦ input_from (before + 1) lines
     | false ↦ then_do (cluster_said (before + 1) (cluster_of (content line))) (λ c. then_do (events_from (before + 1) lines) (λ es. Ok (record { cluster = c; events = es })))
   ]) skip ∙ ap (λ o. then_do (cluster_said (before + 1) o) (λ c. then_do (events_from (before + 1) lines) (λ es. Ok (record { cluster = c; events = es })))) is
+
+-- what such a line makes of a run
+module _ (before : ℕ) (line : InputLine) (lines : List InputLine) (more : nat_lt before most_lines ≡ true) where
+  read_long : nat_lt most_line_bytes (length line.bytes) ≡ true → read_from before (line ∷ lines) ≡ ended None (AtBadLine (before + 1) LineTooLong)
+  read_long long = rw (more, long) refl
+
+  read_skipped : nat_lt most_line_bytes (length line.bytes) ≡ false → is_skipped (content line) ≡ true → read_from before (line ∷ lines) ≡ read_from (before + 1) lines
+  read_skipped short skip = rw (more, short, skip) refl
+
+  read_said : (said : Result ClusterRecord ClusterFault) → nat_lt most_line_bytes (length line.bytes) ≡ false → is_skipped (content line) ≡ false → cluster_of (content line) ≡ said
+      → read_from before (line ∷ lines) ≡ run_opened (described (before + 1) said lines)
+  read_said said short skip is = rw (more, short, skip, is) refl
 
 -- the lines are an input, and the world is the one to which it leads
 record HasInput (before : ℕ) (lines : List InputLine) (w : Option World) : Type 0 where
@@ -209,31 +222,31 @@ read_tells before (line ∷ lines) = by_many (nat_lt before most_lines) refl (re
     at_line : (ending : Ending) → ReadEndsAt before (line ∷ lines) 0 None ending → ReadTells before (line ∷ lines) (ended None ending)
     at_line ending ends = record { taken = 0; outputs = refl; ending = ends }
 
-    by_cluster : before < most_lines → nat_lt most_line_bytes (length line.bytes) ≡ false → is_skipped (content line) ≡ false → (said : Result ClusterRecord ClusterFault) → cluster_of (content line) ≡ said
+    by_cluster : nat_lt before most_lines ≡ true → nat_lt most_line_bytes (length line.bytes) ≡ false → is_skipped (content line) ≡ false → (said : Result ClusterRecord ClusterFault) → cluster_of (content line) ≡ said
         → ReadTells before (line ∷ lines) (read_from before (line ∷ lines))
     by_cluster more short skip (Ok c) is =
-        subst (ReadTells before (line ∷ lines)) (sym (read_is before line lines false more (grind (arith, nat_tests, short)) skip ∙ ap (λ o. behind_cluster (before + 1) o (λ w. run_from (before + 1) w lines)) is))
+        subst (ReadTells before (line ∷ lines)) (sym (read_said before line lines more (Ok c) short skip is))
         (behind_told c before line lines (λ ls. input_said before line ls (Ok c) short skip is) (run_from (before + 1) (empty_world c) lines) (tells (before + 1) (empty_world c) lines))
     by_cluster more short skip (Err fault) is =
-        subst (ReadTells before (line ∷ lines)) (sym (read_is before line lines false more (grind (arith, nat_tests, short)) skip ∙ ap (λ o. behind_cluster (before + 1) o (λ w. run_from (before + 1) w lines)) is))
+        subst (ReadTells before (line ∷ lines)) (sym (read_said before line lines more (Err fault) short skip is))
         (at_line (AtBadLine (before + 1) (cluster_fault fault)) (omega arith, input_said before line lines (Err fault) short skip is))
 
-    by_skip : before < most_lines → nat_lt most_line_bytes (length line.bytes) ≡ false → (skipped : Bool) → is_skipped (content line) ≡ skipped
+    by_skip : nat_lt before most_lines ≡ true → nat_lt most_line_bytes (length line.bytes) ≡ false → (skipped : Bool) → is_skipped (content line) ≡ skipped
         → ReadTells (before + 1) lines (read_from (before + 1) lines) → ReadTells before (line ∷ lines) (read_from before (line ∷ lines))
-    by_skip more short true skip t = subst (ReadTells before (line ∷ lines)) (sym (read_is before line lines true more (grind (arith, nat_tests, short)) skip)) (record {
+    by_skip more short true skip t = subst (ReadTells before (line ∷ lines)) (sym (read_skipped before line lines more short skip)) (record {
       taken = suc t.taken;
       outputs = t.outputs ∙ sym (ap told (input_skipped before line (take t.taken lines) short skip));
       ending = read_more before line lines t.taken (read_from (before + 1) lines).world (read_from (before + 1) lines).ending (input_skipped before line lines short skip) t.ending;
     })
     by_skip more short false skip t = by_cluster more short skip (cluster_of (content line)) refl
 
-    by_long : before < most_lines → (long : Bool) → nat_lt most_line_bytes (length line.bytes) ≡ long
+    by_long : nat_lt before most_lines ≡ true → (long : Bool) → nat_lt most_line_bytes (length line.bytes) ≡ long
         → ReadTells (before + 1) lines (read_from (before + 1) lines) → ReadTells before (line ∷ lines) (read_from before (line ∷ lines))
-    by_long more true long t = subst (ReadTells before (line ∷ lines)) (sym (too_long before None line _ more (grind (arith, nat_tests, long)))) (at_line (AtBadLine (before + 1) LineTooLong) (omega arith, input_long before line lines long))
+    by_long more true long t = subst (ReadTells before (line ∷ lines)) (sym (read_long before line lines more long)) (at_line (AtBadLine (before + 1) LineTooLong) (omega arith, input_long before line lines long))
     by_long more false short t = by_skip more short (is_skipped (content line)) refl t
 
     by_many : (more : Bool) → nat_lt before most_lines ≡ more → ReadTells (before + 1) lines (read_from (before + 1) lines) → ReadTells before (line ∷ lines) (read_from before (line ∷ lines))
-    by_many true more t = by_long (grind (arith, nat_tests, more)) (nat_lt most_line_bytes (length line.bytes)) refl t
+    by_many true more t = by_long more (nat_lt most_line_bytes (length line.bytes)) refl t
     by_many false many t = subst (ReadTells before (line ∷ lines)) (sym (rw many refl)) (at_line (AtLimit Lines most_lines) (record {}))
 
 -- the same by where the run over a whole input ends

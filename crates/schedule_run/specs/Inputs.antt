@@ -2,22 +2,22 @@
 use Rattle.std.specs.Prelude.{ℕ, ◌+◌, true, false, nat_lt, if◌then◌else◌, List, [], ◌∷◌, length, Result, Ok, Err}
 use Rattle.fuxi_io.specs.Lines.{InputLine, lines_of}
 use Rattle.fuxi_io.specs.declared.status.InputFault.{InputFault}
-use Rattle.fuxi_io.specs.declared.status.InputFault.TheVariants.{UnknownWord, WrongCount, BadNumber, Range, LineTooLong, NoCluster, NotJson, WrongKind, UnknownKey, MissingKey, Count, LengthDiffers, QuantityRange, QuotaOverLimit}
+use Rattle.fuxi_io.specs.declared.status.InputFault.TheVariants.{LineTooLong, NoCluster}
 use Rattle.fuxi_terms.specs.Cluster.{ClusterRecord}
 use Rattle.fuxi_terms.specs.Counts.{then_do}
 use Rattle.fuxi_terms.specs.Limits.{most_line_bytes}
 use Rattle.cluster_desc.specs.declared.fault.ClusterFault.{ClusterFault}
-use Rattle.cluster_desc.specs.declared.fault.ClusterFault.TheVariants.{NotJson as ClusterNotJson, WrongKind as ClusterWrongKind, UnknownKey as ClusterUnknownKey, MissingKey as ClusterMissingKey, Count as ClusterCount, LengthDiffers as ClusterLengthDiffers, QuantityRange as ClusterQuantityRange, QuotaOverLimit as ClusterQuotaOverLimit, OutOfMemory as ClusterOutOfMemory}
 use Rattle.cluster_desc.specs.ClusterLine.{cluster_of}
 use Rattle.schedule_text.specs.Reading.{event_of}
 use Rattle.schedule_text.specs.declared.event.Event.{Event as LineEvent}
 use Rattle.schedule_text.specs.declared.event.LineFault.{LineFault}
-use Rattle.schedule_text.specs.declared.event.LineFault.TheVariants.{UnknownWord as LineUnknownWord, WrongCount as LineWrongCount, BadNumber as LineBadNumber, Range as LineRange, OutOfMemory as LineOutOfMemory}
 use Rattle.schedule_replay.specs.Events.{event_as}
 use Rattle.schedule_replay.specs.Texts.{lines_text}
 use Rattle.written_world.specs.Events.{Event}
 use Rattle.written_world.specs.Runs.{outputs}
-use Rattle.schedule_run.specs.Contents.{content, is_skipped}
+use Rattle.input_lines.specs.Contents.{content, is_skipped}
+use Rattle.input_lines.specs.Statuses.{event_fault}
+use Rattle.input_cluster.specs.Openings.{cluster_fault}
 
 pub record Input : Type 0 where
   pub cluster : ClusterRecord
@@ -27,26 +27,6 @@ pub record Input : Type 0 where
 pub record BadLine : Type 0 where
   pub line : ℕ
   pub fault : InputFault
-
--- why a line that describes no cluster is bad; no line wants memory
-abbrev pub cluster_fault : ClusterFault → InputFault
-cluster_fault ClusterNotJson = NotJson
-cluster_fault (ClusterWrongKind key) = WrongKind key
-cluster_fault ClusterUnknownKey = UnknownKey
-cluster_fault (ClusterMissingKey key) = MissingKey key
-cluster_fault (ClusterCount key) = Count key
-cluster_fault ClusterLengthDiffers = LengthDiffers
-cluster_fault ClusterQuantityRange = QuantityRange
-cluster_fault (ClusterQuotaOverLimit group) = QuotaOverLimit group.0
-cluster_fault ClusterOutOfMemory = NotJson
-
--- why a line that is no event is bad; no line wants memory
-abbrev pub event_fault : LineFault → InputFault
-event_fault LineUnknownWord = UnknownWord
-event_fault LineWrongCount = WrongCount
-event_fault (LineBadNumber place) = BadNumber place
-event_fault (LineRange place) = Range place
-event_fault LineOutOfMemory = UnknownWord
 
 -- what the line with this number says
 abbrev pub cluster_said : ℕ → Result ClusterRecord ClusterFault → Result ClusterRecord BadLine

@@ -1,4 +1,3 @@
-pub mod Contents
 pub mod Inputs
 pub mod Runs
 pub mod Told

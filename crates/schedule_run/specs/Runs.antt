@@ -1,6 +1,5 @@
 -- How a run over the lines of an input goes, and what is known of it by the status that it ends with.
-use Rattle.std.specs.Prelude.{◌≡◌, ◌⊎◌, ℕ, ◌+◌, ◌-◌, ◌≤◌, not, nat_lt, if◌then◌else◌, true, false, Result, Ok, Err, List, [], ◌∷◌, ◌++◌, length, take, filter, Option, Some, None, slice_get}
-use Rattle.std.specs.Option.{unwrap_or}
+use Rattle.std.specs.Prelude.{◌≡◌, ◌⊎◌, ℕ, ◌+◌, ◌≤◌, not, nat_lt, if◌then◌else◌, true, false, Result, Ok, Err, List, [], ◌∷◌, ◌++◌, length, Option, Some, None}
 use Rattle.std.specs.List.{concat}
 use Rattle.std.specs.Io.KnownBytes.{Appends, Consumes}
 use Rattle.fuxi_io.specs.Lines.{InputLine, lines_of}
@@ -10,11 +9,8 @@ use Rattle.fuxi_io.specs.declared.status.InputFault.TheVariants.{LineTooLong, No
 use Rattle.fuxi_io.specs.declared.status.LimitOf.{LimitOf}
 use Rattle.fuxi_io.specs.declared.status.LimitOf.TheVariants.{Lines, Packets, Bytes}
 use Rattle.fuxi_io.specs.declared.status.Status.{Status}
-use Rattle.fuxi_io.specs.declared.status.Status.TheVariants.{Done, Usage, BadInput, ReadFault, WriteFault, Limit, OutOfMemory}
-use Rattle.fuxi_terms.specs.Cluster.{ClusterRecord}
+use Rattle.fuxi_io.specs.declared.status.Status.TheVariants.{Done, Usage, BadInput, ReadFault, WriteFault, Limit, OutOfMemory, DiskFault, StaleEpoch, DamagedCheckpoint}
 use Rattle.fuxi_terms.specs.Limits.{most_line_bytes, most_lines}
-use Rattle.cluster_desc.specs.declared.fault.ClusterFault.{ClusterFault}
-use Rattle.cluster_desc.specs.ClusterLine.{cluster_of}
 use Rattle.schedule_text.specs.Reading.{event_of}
 use Rattle.schedule_text.specs.declared.event.Event.{Event as LineEvent}
 use Rattle.schedule_text.specs.declared.event.LineFault.{LineFault}
@@ -26,8 +22,10 @@ use Rattle.schedule_replay.specs.Texts.{lines_text}
 use Rattle.written_world.specs.World.{World, Step, empty_world}
 use Rattle.written_world.specs.Events.{world_step}
 use Rattle.written_world.specs.Show.{show}
-use Rattle.schedule_run.specs.Contents.{content, is_skipped}
-use Rattle.schedule_run.specs.Inputs.{cluster_fault, event_fault}
+use Rattle.input_lines.specs.Contents.{content, is_skipped}
+use Rattle.input_lines.specs.Statuses.{event_fault}
+use Rattle.input_lines.specs.Wholes.{whole_lines, WritesLast}
+use Rattle.input_cluster.specs.Openings.{Opening, Opens, BadAt, TooMany, opening_from}
 
 -- where a run ends: at the end of the input, at a bad line, or at a limit, with the number that stands so far
 pub data Ending : Type 0 where
@@ -48,10 +46,10 @@ abbrev pub behind : List ℕ → Run → Run
 behind output r = record { outputs = output ∷ r.outputs; world = r.world; ending = r.ending }
 
 -- the line begins past the greatest number of lines, or is too long; else what it says decides
-abbrev pub within_limits : ℕ → Option World → InputLine → Run → Run
+abbrev pub within_limits : ℕ → World → InputLine → Run → Run
 within_limits before w line run =
-    if not (nat_lt before most_lines) then ended w (AtLimit Lines most_lines)
-    else (if nat_lt most_line_bytes (length line.bytes) then ended w (AtBadLine (before + 1) LineTooLong) else run)
+    if not (nat_lt before most_lines) then ended (Some w) (AtLimit Lines most_lines)
+    else (if nat_lt most_line_bytes (length line.bytes) then ended (Some w) (AtBadLine (before + 1) LineTooLong) else run)
 
 -- the limit that an event would pass; no event wants memory
 abbrev pub ending_at : WorldStop → Ending
@@ -72,23 +70,20 @@ with_event number w (Ok event) run = let s = world_step w (event_as event) in un
 -- the run over these lines, so many lines having gone before
 abbrev pub run_from : ℕ → World → List InputLine → Run
 run_from before w [] = ended (Some w) AtEnd
-run_from before w (line ∷ lines) = within_limits before (Some w) line (elim (is_skipped (content line)) [
+run_from before w (line ∷ lines) = within_limits before w line (elim (is_skipped (content line)) [
   | true ↦ run_from (before + 1) w lines
   | false ↦ with_event (before + 1) w (event_of (content line)) (λ w. run_from (before + 1) w lines)
 ])
 
--- the run behind the line that describes the cluster, where it does
-abbrev pub behind_cluster : ℕ → Result ClusterRecord ClusterFault → (World → Run) → Run
-behind_cluster number (Ok cluster) run = run (empty_world cluster)
-behind_cluster number (Err fault) run = ended None (AtBadLine number (cluster_fault fault))
+-- the run behind the line that describes the cluster, where one does
+abbrev pub run_opened : Opening → Run
+run_opened (Opens cluster number behind) = run_from number (empty_world cluster) behind
+run_opened (BadAt line fault) = ended None (AtBadLine line fault)
+run_opened (TooMany kept) = ended None (AtLimit Lines kept)
 
 -- the run over these lines, of which the first that is not skipped describes the cluster
 abbrev pub read_from : ℕ → List InputLine → Run
-read_from before [] = ended None (AtBadLine (before + 1) NoCluster)
-read_from before (line ∷ lines) = within_limits before None line (elim (is_skipped (content line)) [
-  | true ↦ read_from (before + 1) lines
-  | false ↦ behind_cluster (before + 1) (cluster_of (content line)) (λ w. run_from (before + 1) w lines)
-])
+read_from before lines = run_opened (opening_from before lines)
 
 -- the run over the bytes of a whole input
 abbrev pub run_of : List ℕ → Run
@@ -104,10 +99,6 @@ final_text w (AtLimit what kept) = []
 abbrev pub pieces : Run → List (List ℕ)
 pieces r = r.outputs ++ final_text r.world r.ending
 
--- the lines that a newline ends
-abbrev pub whole_lines : List InputLine → List InputLine
-whole_lines lines = filter (λ line. line.ended) lines
-
 -- no line that was read ended the run
 abbrev pub IsOpen : Ending → Type 0
 IsOpen ending = (ending ≡ AtEnd) ⊎ ((line : ℕ) × (ending ≡ AtBadLine line NoCluster))
@@ -118,11 +109,6 @@ pub record ReadsWhole (run : List InputLine → Run) (bytes : List ℕ) (left be
   pub gave : Consumes (Some bytes) left given
   pub unended : IsOpen (run (whole_lines (lines_of given))).ending
   pub writes : Appends before after (concat (run (whole_lines (lines_of given))).outputs)
-
--- all of these but the last are written whole, and of the last a part from its front
-pub record WritesLast (all : List (List ℕ)) (before after : Option (List ℕ)) : Type 0 where
-  pub part : ℕ
-  pub writes : Appends before after (concat (take (length all - 1) all) ++ take part (unwrap_or (slice_get all (length all - 1)) []))
 
 -- a run stopped within the output of the last of the lines that it took, or behind a whole input within the state;
 -- the source gave these lines and a few bytes ahead
@@ -144,3 +130,6 @@ Ended run bytes ReadFault left before after = ReadsWhole run bytes left before a
 Ended run bytes WriteFault left before after = StopsWithin run bytes left before after
 Ended run bytes OutOfMemory left before after = StopsWithin run bytes left before after
 Ended run bytes Usage left before after = ⊥
+Ended run bytes DiskFault left before after = ⊥
+Ended run bytes (StaleEpoch fence) left before after = ⊥
+Ended run bytes (DamagedCheckpoint offset) left before after = ⊥

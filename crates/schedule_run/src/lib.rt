@@ -2,7 +2,6 @@
 #![tactic(auto)]
 
 mod laws;
-mod line;
 mod run;
 
 pub use laws::runs_are_told;

@@ -1,18 +1,19 @@
-ghost use Rattle.std.specs.Prelude.{false, List, IfOk, IfErr, length, ◌≡◌, ◌+◌, ◌<◌, ◌≤◌, ◌^◌, ◌≢◌, Option, Some, None, IfSome, OnOk, Ok, Err, ℕ};
+ghost use Rattle.std.specs.Prelude.{false, IfOk, length, ◌≡◌, ◌+◌, ◌<◌, ◌≤◌, ◌^◌, ◌≢◌, Some, None, IfSome, Err, ℕ};
 ghost use Rattle.fuxi_io.specs.Causes.{Rose};
 ghost use Rattle.fuxi_io.specs.Reading.{rest_of, read_ahead};
 ghost use Rattle.written_world.specs.World.{World as WrittenWorld, empty_world};
 ghost use Rattle.schedule_run.specs.Runs.{run_from, read_from, Ended};
-ghost use Rattle.schedule_run.specs.Progress.{Stands, TakesLine, WritesState, HasCluster, IsReady, after_line, status_of, cluster_status, event_status, stop_status};
+ghost use Rattle.schedule_run.specs.Progress.{Stands, TakesLine, WritesState, after_line, world_status};
+ghost use Rattle.input_lines.specs.Wholes.{IsReady};
 ghost use Rattle.fuxi_terms.specs.Limits.{most_lines};
 
-use crate::line::{content, is_skipped};
-use cluster_desc::{Cluster, ClusterFault, read_cluster};
-use fuxi_io::{Got, InputFault, LimitOf, LineReader, LineStop, Sink, Source, Status, write_all_of};
+use cluster_desc::Cluster;
+use fuxi_io::{Got, LimitOf, LineReader, LineStop, Sink, Source, Status, write_all_of};
 use fuxi_terms::OutOfMemory;
+use input_cluster::read_cluster_line;
+use input_lines::{content, event_status, is_skipped, stop_status};
 use schedule_replay::{World, WorldStop};
-use schedule_text::{LineFault, events_of_lines, read_event};
-use schedule_unit::GroupNo;
+use schedule_text::{events_of_lines, read_event};
 use std::alloc::Global;
 
 // Takes a line: makes its event and writes what that prints, where it is not skipped.
@@ -32,6 +33,10 @@ fn take_line<O: Sink>(
     ensures lines { (kept : ℕ) → result ≢ Err (Status.Limit LimitOf.Lines kept) }
     ensures usage { result ≢ Err Status.Usage }
     ensures read { result ≢ Err Status.ReadFault }
+    ensures disk { result ≢ Err Status.DiskFault }
+    ensures stale { (fence : ℕ) → result ≢ Err (Status.StaleEpoch fence) }
+    ensures damaged { (offset : ℕ) → result ≢ Err (Status.DamagedCheckpoint offset) }
+    ensures records { (kept : ℕ) → result ≢ Err (Status.Limit LimitOf.Records kept) }
 {
     if is_skipped(line) {
         return Ok(world);
@@ -43,7 +48,7 @@ fn take_line<O: Sink>(
     };
     let (world, lines) = match world.step(alloc, &event) {
         Ok(after) => after,
-        Err(stop) => return Err(stop_status(stop)),
+        Err(stop) => return Err(world_status(stop)),
     };
     match write_all_of(out, lines.bytes()) {
         Ok(()) => Ok(world),
@@ -58,6 +63,9 @@ fn write_state<O: Sink>(alloc: Global, world: &World, out: &mut O) -> Status
     ensures read { result ≢ Status.ReadFault }
     ensures usage { result ≢ Status.Usage }
     ensures limit { (what : LimitOf) (kept : ℕ) → result ≢ Status.Limit what kept }
+    ensures disk { result ≢ Status.DiskFault }
+    ensures stale { (fence : ℕ) → result ≢ Status.StaleEpoch fence }
+    ensures damaged { (offset : ℕ) → result ≢ Status.DamagedCheckpoint offset }
 {
     let mut text = Vec::new(alloc);
     match world.write_state(&mut text) {
@@ -70,65 +78,9 @@ fn write_state<O: Sink>(alloc: Global, world: &World, out: &mut O) -> Status
     }
 }
 
-// The status that a reader's stop means.
-fn status_of(stop: LineStop, number: u64) -> Status
-    requires { number ≤ most_lines }
-    ensures { result ≡ status_of stop number }
-{
-    match stop {
-        LineStop::ReadFault => Status::ReadFault,
-        LineStop::LineTooLong => Status::BadInput {
-            line: number + 1,
-            fault: InputFault::LineTooLong,
-        },
-        LineStop::TooManyLines => Status::Limit {
-            what: LimitOf::Lines,
-            kept: number,
-        },
-    }
-}
-
-// The status that a fault of the line with this number, which describes no cluster, means.
-fn cluster_status(fault: ClusterFault, number: u64) -> Status
-    ensures { result ≡ cluster_status fault number }
-{
-    let fault = match fault {
-        ClusterFault::NotJson => InputFault::NotJson,
-        ClusterFault::WrongKind(key) => InputFault::WrongKind(key),
-        ClusterFault::UnknownKey => InputFault::UnknownKey,
-        ClusterFault::MissingKey(key) => InputFault::MissingKey(key),
-        ClusterFault::Count(key) => InputFault::Count(key),
-        ClusterFault::LengthDiffers => InputFault::LengthDiffers,
-        ClusterFault::QuantityRange => InputFault::QuantityRange,
-        ClusterFault::QuotaOverLimit(GroupNo(group)) => InputFault::QuotaOverLimit(group),
-        ClusterFault::OutOfMemory => return Status::OutOfMemory,
-    };
-    Status::BadInput {
-        line: number,
-        fault,
-    }
-}
-
-// The status that a fault of the line with this number, which is no event, means.
-fn event_status(fault: LineFault, number: u64) -> Status
-    ensures { result ≡ event_status fault number }
-{
-    let fault = match fault {
-        LineFault::UnknownWord => InputFault::UnknownWord,
-        LineFault::WrongCount => InputFault::WrongCount,
-        LineFault::BadNumber(place) => InputFault::BadNumber(place),
-        LineFault::Range(place) => InputFault::Range(place),
-        LineFault::OutOfMemory => return Status::OutOfMemory,
-    };
-    Status::BadInput {
-        line: number,
-        fault,
-    }
-}
-
 // The status that a stop of the world means.
-fn stop_status(stop: WorldStop) -> Status
-    ensures { result ≡ stop_status stop }
+fn world_status(stop: WorldStop) -> Status
+    ensures { result ≡ world_status stop }
 {
     match stop {
         WorldStop::TooManyPackets { kept } => Status::Limit {
@@ -141,56 +93,6 @@ fn stop_status(stop: WorldStop) -> Status
         },
         WorldStop::OutOfMemory => Status::OutOfMemory,
     }
-}
-
-// The status of an input that ended behind so many lines, none of which describes the cluster.
-fn no_cluster(number: u64) -> Status
-    requires { number ≤ most_lines }
-    ensures { result ≡ Status.BadInput (number + 1) InputFault.NoCluster }
-{
-    Status::BadInput {
-        line: number + 1,
-        fault: InputFault::NoCluster,
-    }
-}
-
-// Reads the line that describes the cluster, the first that is not skipped.
-fn read_cluster_line<S: Source>(
-    alloc: Global,
-    lines: &mut LineReader,
-    source: &mut S,
-) -> Result<Cluster, Status>
-    requires { lines.old.stop ≢ Some LineStop.ReadFault }
-    ensures cluster { IfOk result (λ cluster. lines.old.stop ≡ None → IfSome (rest_of lines.old (S.left source.old)) (λ bytes. HasCluster bytes cluster lines.old.number lines.new.number lines.new.ended (rest_of lines.new (S.left source.new)))) }
-    ensures running { OnOk result (lines.new.stop ≡ None) }
-    ensures ahead { length lines.new.pending ≤ read_ahead }
-    ensures ended { IfErr result (λ status. lines.old.stop ≡ None → IfSome (rest_of lines.old (S.left source.old)) (λ bytes. (took : Option (List ℕ)) → Ended (read_from lines.old.number) bytes status (S.left source.new) took took)) }
-    ensures done { result ≢ Err Status.Done }
-    ensures usage { result ≢ Err Status.Usage }
-    ensures write { result ≢ Err Status.WriteFault }
-    ensures read { result ≡ Err Status.ReadFault → Rose (S.faults source.old) (S.faults source.new) }
-    ensures limit { lines.old.stop ≡ None → (what : LimitOf) (kept : ℕ) → result ≡ Err (Status.Limit what kept) → kept ≡ most_lines }
-    ensures later { S.faults source.old ≤ S.faults source.new }
-{
-    for turn in 0..1_000_001u64 {
-        match lines.next(source) {
-            Ok(Got::Line) => {}
-            Ok(Got::End) => return Err(no_cluster(lines.number())),
-            Err(stop) => return Err(status_of(stop, lines.number())),
-        }
-        let number = lines.number();
-        let line = content(lines.line(), lines.ended());
-        if !is_skipped(line) {
-            return match read_cluster(alloc, line) {
-                Ok(cluster) => Ok(cluster),
-                Err(fault) => Err(cluster_status(fault, number)),
-            };
-        }
-        if !lines.ended() {
-            return Err(no_cluster(number));
-        }
-    }
-    unreachable!()
 }
 
 // Runs the lines behind the one that describes the cluster. Behind a line that ended the input nothing is read.
@@ -209,6 +111,10 @@ fn run_lines<S: Source, O: Sink>(
     ensures write { result ≡ Status.WriteFault → Rose (O.faults out.old) (O.faults out.new) }
     ensures limit { lines.old.stop ≡ None → (kept : ℕ) → result ≡ Status.Limit LimitOf.Lines kept → kept ≡ most_lines }
     ensures usage { result ≢ Status.Usage }
+    ensures disk { result ≢ Status.DiskFault }
+    ensures stale { (fence : ℕ) → result ≢ Status.StaleEpoch fence }
+    ensures damaged { (offset : ℕ) → result ≢ Status.DamagedCheckpoint offset }
+    ensures records { lines.old.stop ≡ None → (kept : ℕ) → result ≢ Status.Limit LimitOf.Records kept }
 {
     let Ok(mut world) = World::start(alloc, cluster) else {
         return Status::OutOfMemory;
@@ -220,7 +126,7 @@ fn run_lines<S: Source, O: Sink>(
         match lines.next(source) {
             Ok(Got::Line) => {}
             Ok(Got::End) => return write_state(alloc, &world, out),
-            Err(stop) => return status_of(stop, lines.number()),
+            Err(stop) => return stop_status(stop, lines.number()),
         }
         let number = lines.number();
         let line = content(lines.line(), lines.ended());
@@ -248,6 +154,10 @@ pub fn run_schedule<S: Source, O: Sink>(
     ensures write { result ≡ Status.WriteFault → Rose (O.faults out.old) (O.faults out.new) }
     ensures limit { lines.old.stop ≡ None → (kept : ℕ) → result ≡ Status.Limit LimitOf.Lines kept → kept ≡ most_lines }
     ensures usage { result ≢ Status.Usage }
+    ensures disk { result ≢ Status.DiskFault }
+    ensures stale { (fence : ℕ) → result ≢ Status.StaleEpoch fence }
+    ensures damaged { (offset : ℕ) → result ≢ Status.DamagedCheckpoint offset }
+    ensures records { lines.old.stop ≡ None → (kept : ℕ) → result ≢ Status.Limit LimitOf.Records kept }
 {
     match read_cluster_line(alloc, lines, source) {
         Ok(cluster) => run_lines(alloc, cluster, lines, source, out),

@@ -3,9 +3,9 @@ use Rattle.std.specs.Prelude.{◌≡◌, ℕ, List, [], ◌∷◌, ◌++◌, Opt
 use Rattle.std.specs.Io.KnownBytes.{Appends}
 use Rattle.fuxi_io.specs.Causes.{TakesPart}
 use Rattle.fuxi_io.specs.declared.status.LimitOf.{LimitOf}
-use Rattle.fuxi_io.specs.declared.status.LimitOf.TheVariants.{Lines, Packets, Bytes}
+use Rattle.fuxi_io.specs.declared.status.LimitOf.TheVariants.{Lines, Packets, Bytes, Records}
 use Rattle.fuxi_io.specs.declared.status.Status.{Status}
-use Rattle.fuxi_io.specs.declared.status.Status.TheVariants.{Done, Usage, BadInput, ReadFault, WriteFault, Limit, OutOfMemory as NoMemory}
+use Rattle.fuxi_io.specs.declared.status.Status.TheVariants.{Done, Usage, BadInput, ReadFault, WriteFault, Limit, OutOfMemory as NoMemory, DiskFault, StaleEpoch, DamagedCheckpoint}
 use Rattle.schedule_text.specs.Writing.{IsLineEvent}
 use Rattle.schedule_text.specs.declared.event.Event.{Event as LineEvent}
 use Rattle.schedule_replay.specs.Events.{event_as}
@@ -94,6 +94,7 @@ abbrev pub IsLimit : Result (List ℕ) WorldStop → LimitOf → ℕ → Type 0
 IsLimit r Lines kept = ⊥
 IsLimit r Packets kept = r ≡ Err (TooManyPackets kept)
 IsLimit r Bytes kept = r ≡ Err (PoolBytes kept)
+IsLimit r Records kept = ⊥
 
 -- what a storm wrote that ended with a status: the whole text with Done, a part from its front after a fault of the sink, and else nothing
 abbrev pub StormEnded : Result (List ℕ) WorldStop → Status → Option (List ℕ) → Option (List ℕ) → Type 0
@@ -104,3 +105,6 @@ StormEnded r NoMemory before after = after ≡ before
 StormEnded r Usage before after = ⊥
 StormEnded r (BadInput line fault) before after = ⊥
 StormEnded r ReadFault before after = ⊥
+StormEnded r DiskFault before after = ⊥
+StormEnded r (StaleEpoch fence) before after = ⊥
+StormEnded r (DamagedCheckpoint offset) before after = ⊥

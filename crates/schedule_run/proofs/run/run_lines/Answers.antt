@@ -3,7 +3,7 @@ use Rattle.std.proofs.lemmas.Bool.{false≢true}
 use Rattle.fuxi_io.specs.Reading.{line_of}
 use Rattle.written_world.specs.World.{World}
 use Rattle.schedule_replay.specs.Worlds.{WorldRecord}
-use Rattle.schedule_run.specs.Contents.{content}
+use Rattle.input_lines.specs.Contents.{content}
 use Rattle.schedule_run.specs.Progress.{Stands, TakesLine, after_line}
 use Rattle.schedule_run.proofs.Going.{start, nothing_taken, step_along, end_along, last_along, stop_along, line_along, running_alone}
 use Rattle.schedule_run.proofs.run.run_lines.Goals as goal
@@ -40,7 +40,7 @@ pub returns-in-Err-clause-ended : goal.returns-in-Err-clause-ended
 returns-in-Err-clause-ended g c ready =
     let i = c.loop-turn.invariant.along ready in
     let r = c.loop-turn.invariant.running ready.running in
-    rw (c.status_of.ensures, c.number.ensures.value, c.in-Err.ensures.number)
+    rw (c.stop_status.ensures, c.number.ensures.value, c.in-Err.ensures.number)
     (stop_along _ _ _ c.loop-turn.lines.number c.loop-turn.lines.ended c.loop-turn.world _ _ _ i (g.S.Source.left c.next.new.source) c.in-Err.stop (sym c.if-not-ended.ensures)
     (λ e. running_alone r (c.in-Err.ensures.broke (ap (λ s. Err s) e))) (λ e. running_alone r (c.in-Err.ensures.long (ap (λ s. Err s) e))) (λ e. running_alone r (c.in-Err.ensures.many (ap (λ s. Err s) e))))
 

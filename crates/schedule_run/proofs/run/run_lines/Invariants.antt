@@ -1,7 +1,8 @@
 use Rattle.std.proofs.Common.{◌≡◌, ◌≢◌, ◌≤◌, false, length, Some, None, IfSome}
 use Rattle.fuxi_io.specs.Reading.{rest_of, read_ahead}
 use Rattle.fuxi_io.specs.declared.lines.LineStop.TheVariants.{ReadFault}
-use Rattle.schedule_run.specs.Progress.{Along, IsReady}
+use Rattle.input_lines.specs.Wholes.{IsReady}
+use Rattle.schedule_run.specs.Progress.{Along}
 use Rattle.schedule_run.proofs.run.run_lines.Given as goal
 use Rattle.fuxi_terms.specs.Limits.{most_lines}
 

@@ -9,7 +9,7 @@ step-requires-clause-line g c = c.events_of_lines.ensures c.args.line.now c.in-O
 
 pub returns-in-Err-step-clause-takes : goal.returns-in-Err-step-clause-takes
 returns-in-Err-step-clause-takes g c w s =
-    rw c.stop_status.ensures (stopped_at WorldRecord c.args.line.now c.args.number w c.in-Ok.event (g.O.Sink.took c.args.out.now) (sym c.if-is_skipped.ensures) c.in-Ok.ensures.ok c.in-Err-step.stop (c.in-Err-step.ensures.stops w s.is s.stands))
+    rw c.world_status.ensures (stopped_at WorldRecord c.args.line.now c.args.number w c.in-Ok.event (g.O.Sink.took c.args.out.now) (sym c.if-is_skipped.ensures) c.in-Ok.ensures.ok c.in-Err-step.stop (c.in-Err-step.ensures.stops w s.is s.stands))
 
 pub returns-in-Ok-write_all_of-clause-stands : goal.returns-in-Ok-write_all_of-clause-stands
 returns-in-Ok-write_all_of-clause-stands g c w s =

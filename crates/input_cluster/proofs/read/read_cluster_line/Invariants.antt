@@ -1,9 +1,9 @@
 use Rattle.std.proofs.Common.{◌≡◌, ◌≢◌, ◌≤◌, length, Some, None, IfSome}
 use Rattle.fuxi_io.specs.Reading.{rest_of, read_ahead}
 use Rattle.fuxi_io.specs.declared.lines.LineStop.TheVariants.{ReadFault}
-use Rattle.schedule_run.specs.Progress.{Seeking}
-use Rattle.schedule_run.proofs.run.read_cluster_line.Given as goal
 use Rattle.fuxi_terms.specs.Limits.{most_lines}
+use Rattle.input_cluster.proofs.Seeking.{Seeking}
+use Rattle.input_cluster.proofs.read.read_cluster_line.Given as goal
 
 abbrev pub invariant-loop-turn : goal.invariant-loop-turn
 invariant-loop-turn g l = record {
