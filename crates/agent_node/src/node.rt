@@ -126,9 +126,9 @@ impl Core for AgentNode {
 impl Node for AgentNode {
     ghost use Rattle.std.specs.Prelude.{⊤};
 
-    ghost fits = { λ r size told. ⊤ };
+    ghost fits = { λ r moments. ⊤ };
 
-    ghost fitting = { λ core r size told stands rests. tt };
+    ghost fitting = { λ core r size moments stands rests. tt };
 
     fn accepts(&self) -> bool {
         false

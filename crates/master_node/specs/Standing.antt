@@ -1,5 +1,5 @@
 -- Which parties of a node a master with its hard state is.
-use Rattle.std.specs.Prelude.{◌≡◌, ◌<◌, ℕ, false, Option, IfSome}
+use Rattle.std.specs.Prelude.{◌≡◌, ◌<◌, ℕ, false, Option, Some, IfSome, ⊤}
 use Rattle.written_roles.specs.HardState.{HardState}
 use Rattle.written_roles.specs.MasterRoles.{MasterRole}
 use Rattle.fuxi_io.specs.Disks.{Told}
@@ -46,3 +46,20 @@ pub record RestsOf (k : Kept) (size : ℕ) (told : Option Told) : Type 0 where
 
 abbrev pub RestsAt : NodeRecord → ℕ → Option Told → Type 0
 RestsAt x size told = RestsOf x.hard size told
+
+-- the disk with these moments has a checkpoint of this hard state, which is at rest
+pub record HasHard (h : HardState) (t : Told) : Type 0 where
+  pub kept : Kept
+  pub value : kept.value ≡ h
+  pub rest : IsAtRest kept t.now
+
+-- what a disk has of a party: of a master its hard state, of the others nothing
+abbrev pub DiskHas : Role → Told → Type 0
+DiskHas (OfAgent r) t = ⊤
+DiskHas (OfApp r) t = ⊤
+DiskHas (OfMaster h r) t = HasHard h t
+
+pub disk_has : (x : NodeRecord) (r : Role) (size : ℕ) (moments : Told) → StandsAs x r → RestsAt x size (Some moments) → DiskHas r moments
+disk_has x (OfAgent r) size t stands rests = tt
+disk_has x (OfApp r) size t stands rests = tt
+disk_has x (OfMaster h r) size t stands rests = record { kept = x.hard; value = stands.value; rest = rests.rest }

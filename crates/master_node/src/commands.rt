@@ -2,58 +2,26 @@
 
 ghost use Rattle.std.specs.Prelude.{◌≡◌, ◌+◌, ◌<◌, ◌≤◌, Err, IfOk};
 ghost use Rattle.fuxi_io.specs.Causes.{Rose};
-ghost use Rattle.fuxi_io.specs.Disks.{WhereTold};
 ghost use Rattle.fuxi_terms.specs.Limits.{most_jobs, most_steps};
 ghost use Rattle.written_roles.specs.MasterSteps.{Submits, BansMachine, UnbansMachine};
-ghost use Rattle.schedule_text.specs.Writing.{IsLineEvent};
-ghost use Rattle.node_rounds.specs.Roles.{Role};
-ghost use Rattle.node_party.specs.Commands.{IsCommanded, MasterCommands, commanded, job_named, master_does};
-ghost use Rattle.node_party.specs.Texts.{as_answer};
-ghost use Rattle.master_node.specs.Standing.{Rests, StandsAs};
+ghost use Rattle.node_party.specs.Commands.{MasterCommands, job_named, master_does};
+ghost use Rattle.master_node.specs.Standing.{Rests};
 ghost use Rattle.master_node.specs.Told.{IsTold, told_of};
-ghost use Rattle.master_node.specs.Writing.{hard_in};
-ghost use Rattle.master_node.specs.Telling.{Does, LeavesLine, LeavesMade};
+ghost use Rattle.master_node.specs.Telling.{Does, LeavesMade};
 
 use crate::MasterNode;
 use crate::refusals::asked_refusal;
-use crate::told::{Told, master_named};
+use crate::told::Told;
 use fuxi_io::Disk;
 use fuxi_master::MasterEvent;
 use node_party::{Answer, Halt};
-use schedule_text::{Event, Refusal};
+use schedule_text::Refusal;
 use schedule_unit::{AppNo, Asks, GroupNo, Job, MachineNo};
 use std::alloc::Global;
 
 impl MasterNode {
-    /// Takes an event that a line can give. What is written to the hard state is written before the master changes. Where the disk
-    /// fails or memory is refused the master is gone.
-    pub fn command<D: Disk>(
-        self,
-        alloc: Global,
-        event: &Event,
-        disk: &mut D,
-    ) -> Result<(MasterNode, Answer), Halt>
-        requires line { IsLineEvent event.now }
-        requires steps { self.master.steps < most_steps }
-        requires rests { Rests self (D.size disk.old) }
-        ensures does { IfOk result (λ after. (r : Role) → StandsAs self r → IsCommanded (StandsAs after.0) (as_answer after.1) (commanded r event.now)) }
-        ensures rests { IfOk result (λ after. Rests after.0 (D.size disk.new)) }
-        ensures steps { IfOk result (λ after. after.0.master.steps ≤ self.master.steps + 1) }
-        ensures later { D.faults disk.old ≤ D.faults disk.new }
-        ensures cause { result ≡ Err Halt.Disk → Rose (D.faults disk.old) (D.faults disk.new) }
-        ensures told { (r : Role) → StandsAs self r → WhereTold (LeavesLine self.hard (hard_in (commanded r event.now).role) result) (D.told disk.old) (D.told disk.new) }
-    {
-        let Some((epoch, told)) = master_named(event) else {
-            return Ok((self, Answer::NotHere));
-        };
-        if epoch != self.epoch() {
-            return Ok((self, Answer::Refused(Refusal::NotRunning)));
-        }
-        self.tell(alloc, told, disk)
-    }
-
     // It is told this.
-    fn tell<D: Disk>(
+    pub(crate) fn tell<D: Disk>(
         self,
         alloc: Global,
         told: Told,

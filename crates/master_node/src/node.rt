@@ -1,6 +1,6 @@
 //! The party of a node that is a master.
 
-ghost use Rattle.std.specs.Prelude.{◌≡◌, ◌+◌, ◌<◌, ◌≤◌, ◌&&◌, ◌++◌, ℕ, true, length, Ok, Err, IfOk, IfErr, IsTrue};
+ghost use Rattle.std.specs.Prelude.{◌≡◌, ◌+◌, ◌<◌, ◌≤◌, ◌&&◌, ◌++◌, ℕ, true, length, Ok, Err, IfOk, IfErr, IsTrue, Some, None};
 ghost use Rattle.std.specs.List.{flat_map};
 ghost use Rattle.fuxi_io.specs.Causes.{Rose};
 ghost use Rattle.fuxi_io.specs.Disks.{WhereTold};
@@ -14,22 +14,28 @@ ghost use Rattle.fuxi_master.specs.Cores.{StandsFor};
 ghost use Rattle.party_ledgers.specs.Packets.{IsFormed, are_parties};
 ghost use Rattle.wire_frames.specs.Frames.{frame};
 ghost use Rattle.fuxi_master.specs.Steps.{IsSentFormed};
+ghost use Rattle.schedule_text.specs.Writing.{IsLineEvent};
 ghost use Rattle.node_rounds.specs.Roles.{IsTurn, OfMaster, Role as RoleSeen, end_packet, heard, id_in, may_be, may_send, turn, Keeps};
-ghost use Rattle.master_node.specs.Standing.{IsMasterOf, Rests, StandsAs, RestsAt};
+ghost use Rattle.node_party.specs.Commands.{IsCommanded, commanded};
+ghost use Rattle.node_party.specs.Texts.{as_answer};
+ghost use Rattle.master_node.specs.Standing.{IsMasterOf, IsTied, Rests, RestsAt, StandsAs};
 ghost use Rattle.master_node.specs.Starting.{FailsStart, IsRaised, IsStartFault, Starts, StartsFrom};
-ghost use Rattle.master_node.specs.Writing.{IsCommand};
-ghost use Rattle.master_node.specs.Telling.{Does, LeavesMade, obeyed, packets_in, Sends};
+ghost use Rattle.master_node.specs.Writing.{IsCommand, hard_in};
+ghost use Rattle.master_node.specs.Telling.{Does, LeavesLine, LeavesMade, obeyed, packets_in, Sends};
 
 use crate::refusals::{answer_in, written_refusal};
+use crate::told::master_named;
 use crate::writing::write;
 use cluster_desc::Cluster;
 use fuxi_io::Disk;
 use fuxi_master::{Master, MasterEvent, Outcome};
 use fuxi_terms::OutOfMemory;
 use hard_state::{Hard, HardFault};
-use node_party::{Answer, Halt};
+use master_text::{write_hard, write_master};
+use node_party::{Answer, Halt, Node};
 use node_rounds::{Core, Turn, write_turn};
 use party_ledgers::{Kind, Packet};
+use schedule_text::{Event, Refusal};
 use schedule_unit::{AppNo, Party, Role};
 use std::alloc::Global;
 use std::marker::Model;
@@ -66,7 +72,7 @@ impl MasterNode {
         ensures stands { IfOk result (λ n. StandsAs n (OfMaster n.hard.value (master_started cluster.now n.hard.value epoch))) }
         ensures raised { IfOk result (λ n. IsRaised epoch n.hard.value) }
         ensures steps { IfOk result (λ n. n.master.steps ≡ 0) }
-        ensures rests { IfOk result (λ n. Rests n (D.size disk.new)) }
+        ensures rests { IfOk result (λ n. RestsAt n (D.size disk.new) None) }
         ensures opened { IfOk result (λ n. WhereTold (StartsFrom epoch n.hard) (D.told disk.old) (D.told disk.new)) }
         ensures faults { IfErr result IsStartFault }
         ensures fails { IfErr result (λ fault. WhereTold (FailsStart epoch fault) (D.told disk.old) (D.told disk.new)) }
@@ -101,9 +107,10 @@ impl MasterNode {
         self.master.table().cluster()
     }
 
-    // Its epoch.
-    pub(crate) fn epoch(&self) -> u64
-        ensures { (h : HardState) (r : MasterRole) → IsMasterOf h r self.now → result ≡ r.state.epoch }
+    // Its epoch. There is a master that it is.
+    fn epoch(&self) -> u64
+        ensures epoch { (h : HardState) (r : MasterRole) → IsMasterOf h r self.now → result ≡ r.state.epoch }
+        ensures tied { IsTied self.now }
     {
         self.master.epoch()
     }
@@ -266,6 +273,55 @@ impl Core for MasterNode {
                 drop(hard);
                 Err(OutOfMemory)
             }
+        }
+    }
+}
+
+impl Node for MasterNode {
+    ghost use Rattle.master_node.specs.Standing.{DiskHas, disk_has};
+
+    ghost fits = { DiskHas };
+
+    ghost fitting = { disk_has };
+
+    fn accepts(&self) -> bool {
+        true
+    }
+
+    fn command<D: Disk>(
+        self,
+        alloc: Global,
+        event: &Event,
+        disk: &mut D,
+    ) -> Result<(MasterNode, Answer), Halt>
+        requires line { IsLineEvent event.now }
+        requires steps { self.master.steps < most_steps }
+        requires rests { RestsAt self (D.size disk.old) None }
+        ensures does { IfOk result (λ after. (r : RoleSeen) → StandsAs self r → IsCommanded (StandsAs after.0) (as_answer after.1) (commanded r event.now)) }
+        ensures steps { IfOk result (λ after. after.0.master.steps ≤ self.master.steps + 1) }
+        ensures rests { IfOk result (λ after. RestsAt after.0 (D.size disk.new) None) }
+        ensures told { WhereTold (λ old new. RestsAt self (D.size disk.old) (Some old) → IfOk result (λ after. RestsAt after.0 (D.size disk.new) (Some new))) (D.told disk.old) (D.told disk.new) }
+        ensures later { D.faults disk.old ≤ D.faults disk.new }
+        ensures cause { result ≡ Err Halt.Disk → Rose (D.faults disk.old) (D.faults disk.new) }
+        ensures leaves { (r : RoleSeen) → StandsAs self r → WhereTold (LeavesLine self.hard (hard_in (commanded r event.now).role) result) (D.told disk.old) (D.told disk.new) }
+    {
+        let Some((epoch, told)) = master_named(event) else {
+            return Ok((self, Answer::NotHere));
+        };
+        if epoch != self.epoch() {
+            return Ok((self, Answer::Refused(Refusal::NotRunning)));
+        }
+        self.tell(alloc, told, disk)
+    }
+
+    fn write_state(&self, out: &mut Vec<u8>) -> Result<(), OutOfMemory> {
+        match write_hard(&self.hard, out) {
+            Ok(()) => {}
+            Err(refusal) => return Err(refusal),
+        }
+        match write_master(&self.master, out) {
+            Ok(()) => Ok(()),
+            Err(refusal) => Err(refusal),
         }
     }
 }

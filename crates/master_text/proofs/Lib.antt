@@ -5,5 +5,3 @@ mod Loops
 mod Showing
 mod Jobs
 mod Lining
-mod Keeping
-mod Listing

@@ -1,7 +1,6 @@
 -- Sets of numbers that grow.
 use Rattle.std.proofs.Common.{◌≡◌, ℕ, Bool, true, false, cond, nat_eq, nat_lt, T, List, [], ◌∷◌, map, refl, sym, ◌∙◌, ap, subst, arith}
 use Rattle.std.specs.Prelude.{◌||◌}
-use Rattle.std.specs.List.{AllByRecursion}
 use Rattle.std.specs.Ordering.{nat_cmp}
 use Rattle.std.specs.Cmp.{nat_cmp_is}
 use Rattle.std.specs.declared.cmp.Ordering.TheVariants.{Less, Equal, Greater}
@@ -29,15 +28,6 @@ with_is n m (k ∷ ks) = by (with_is n m ks) (nat_lt m k) (nat_eq m k) refl
     by rest true y e = refl
     by rest false true e = let same = number_is m k e in subst (λ j. (nat_eq n k || has_number n ks) ≡ (nat_eq n j || (nat_eq n k || has_number n ks))) (sym same) (twice (nat_eq n k) (has_number n ks))
     by rest false false e = ap (λ b. nat_eq n k || b) rest ∙ swap (nat_eq n m) (nat_eq n k) (has_number n ks)
-
-pub with_all : (P : ℕ → Type 0) (m : ℕ) (ms : List ℕ) → P m → AllByRecursion P ms → AllByRecursion P (with_number m ms)
-with_all P m [] p h = (p, tt)
-with_all P m (k ∷ ks) p h = by (with_all P m ks p h.1) (nat_lt m k) (nat_eq m k)
-  where
-    by : AllByRecursion P (with_number m ks) → (x y : Bool) → AllByRecursion P (cond x (m ∷ k ∷ ks) (cond y (k ∷ ks) (k ∷ with_number m ks)))
-    by rest true y = (p, h)
-    by rest false true = h
-    by rest false false = (h.0, rest)
 
 -- they rise still
 put_as : (m : ℕ) (ms : List ℕ) → put nat_cmp m 0 (map {B = ℕ × ℕ} (λ n. (n, 0)) ms) ≡ map {B = ℕ × ℕ} (λ n. (n, 0)) (with_number m ms)

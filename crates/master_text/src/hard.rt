@@ -1,16 +1,12 @@
 //! The lines of the hard state.
 
-ghost use Rattle.std.specs.Prelude.{◌≡◌, ◌<◌, [], ◌∷◌, ◌++◌, map, OnOk};
-ghost use Rattle.std.specs.List.{AllByRecursion};
-ghost use Rattle.fuxi_terms.specs.Jobs.{job_numbers};
+ghost use Rattle.std.specs.Prelude.{[], ◌∷◌, ◌++◌, map, OnOk};
 ghost use Rattle.written_world.specs.Outputs.{Banned};
 ghost use Rattle.written_world.specs.Show.{show_jobs};
 ghost use Rattle.schedule_text.specs.Writing.{Begins};
-ghost use Rattle.written_order.specs.Orders.{Rise};
 ghost use Rattle.written_state.specs.States.{hard_lines};
 ghost use Rattle.party_text.specs.Texts.{Shows};
 ghost use Rattle.master_text.specs.Lines.{job_lines, ban_lines};
-ghost use Rattle.master_text.specs.Printable.{IsListed};
 
 use fuxi_terms::OutOfMemory;
 use fuxi_terms::limits::{MOST_JOBS, MOST_MACHINES};
@@ -30,12 +26,14 @@ fn write_job(hard: &Hard, app: AppNo, out: &mut Vec<u8>) -> Result<(), OutOfMemo
     }
 }
 
-// The lines of the jobs whose numbers are below one.
-fn write_jobs(hard: &Hard, numbers: u32, out: &mut Vec<u8>) -> Result<(), OutOfMemory>
-    ensures ok { OnOk result (AllByRecursion (λ a. a < numbers) (job_numbers hard.now.value.jobs) → Shows (show_jobs hard.now.value.jobs) out.old.items out.new.items) }
+// The lines of the jobs, in the order of their numbers.
+fn write_jobs(hard: &Hard, out: &mut Vec<u8>) -> Result<(), OutOfMemory>
+    ensures ok { OnOk result (Shows (show_jobs hard.now.value.jobs) out.old.items out.new.items) }
     ensures begins { Begins out.old.items out.new.items }
 {
-    for number in 0..numbers {
+    // Asked for its clause: the number of each job is below the limit.
+    let _jobs = hard.known().jobs();
+    for number in 0..MOST_JOBS {
         match write_job(hard, AppNo(number), out) {
             Ok(()) => {}
             Err(refusal) => return Err(refusal),
@@ -55,12 +53,14 @@ fn write_ban(hard: &Hard, machine: MachineNo, out: &mut Vec<u8>) -> Result<(), O
     Ok(())
 }
 
-// The lines of the machines below a number that are banned.
-fn write_bans(hard: &Hard, numbers: u32, out: &mut Vec<u8>) -> Result<(), OutOfMemory>
-    ensures ok { OnOk result (Rise hard.now.value.bans → AllByRecursion (λ m. m < numbers) hard.now.value.bans → Shows (map (λ m. Banned m) hard.now.value.bans) out.old.items out.new.items) }
+// The lines of the machines that are banned, in their order.
+fn write_bans(hard: &Hard, out: &mut Vec<u8>) -> Result<(), OutOfMemory>
+    ensures ok { OnOk result (Shows (map (λ m. Banned m) hard.now.value.bans) out.old.items out.new.items) }
     ensures begins { Begins out.old.items out.new.items }
 {
-    for number in 0..numbers {
+    // Asked for its clauses: the numbers of the machines rise, and are below the limit.
+    hard.known().bans_rise();
+    for number in 0..MOST_MACHINES as u32 {
         match write_ban(hard, MachineNo(number), out) {
             Ok(()) => {}
             Err(refusal) => return Err(refusal),
@@ -72,16 +72,14 @@ fn write_bans(hard: &Hard, numbers: u32, out: &mut Vec<u8>) -> Result<(), OutOfM
 // The jobs, and then the bans.
 #[tactic(auto, using(crate::proofs::Showing::begins_then))]
 fn write_lists(hard: &Hard, out: &mut Vec<u8>) -> Result<(), OutOfMemory>
-    ensures ok { OnOk result (IsListed hard.now.value → Shows (show_jobs hard.now.value.jobs ++ map (λ m. Banned m) hard.now.value.bans) out.old.items out.new.items) }
+    ensures ok { OnOk result (Shows (show_jobs hard.now.value.jobs ++ map (λ m. Banned m) hard.now.value.bans) out.old.items out.new.items) }
     ensures begins { Begins out.old.items out.new.items }
 {
-    // Asked for its clause: the number of each job is below the limit.
-    let _jobs = hard.known().jobs();
-    match write_jobs(hard, MOST_JOBS, out) {
+    match write_jobs(hard, out) {
         Ok(()) => {}
         Err(refusal) => return Err(refusal),
     }
-    match write_bans(hard, MOST_MACHINES as u32, out) {
+    match write_bans(hard, out) {
         Ok(()) => Ok(()),
         Err(refusal) => Err(refusal),
     }
@@ -91,7 +89,7 @@ fn write_lists(hard: &Hard, out: &mut Vec<u8>) -> Result<(), OutOfMemory>
 /// leave some of them behind what was there.
 #[tactic(auto, using(crate::proofs::Showing::begins_then))]
 pub fn write_hard(hard: &Hard, out: &mut Vec<u8>) -> Result<(), OutOfMemory>
-    ensures ok { OnOk result (IsListed hard.now.value → Shows (hard_lines hard.now.value) out.old.items out.new.items) }
+    ensures ok { OnOk result (Shows (hard_lines hard.now.value) out.old.items out.new.items) }
     ensures begins { Begins out.old.items out.new.items }
 {
     match write_line(&Output::Fence(hard.fence()), out) {

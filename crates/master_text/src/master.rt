@@ -1,16 +1,13 @@
 //! The lines of a master.
 
 ghost use Rattle.std.specs.Prelude.{◌≡◌, ◌<◌, ℕ, [], ◌∷◌, ◌++◌, map, length, Some, slice_get, OnOk};
-ghost use Rattle.std.specs.List.{AllByRecursion};
 ghost use Rattle.written_roles.specs.MasterRoles.{MasterRole};
 ghost use Rattle.written_world.specs.Outputs.{MasterIs, Reported};
 ghost use Rattle.written_world.specs.Show.{show_master};
 ghost use Rattle.schedule_text.specs.Writing.{Begins};
 ghost use Rattle.fuxi_master.specs.Cores.{StandsFor};
-ghost use Rattle.written_order.specs.Orders.{Rise};
 ghost use Rattle.party_text.specs.Texts.{Shows};
 ghost use Rattle.master_text.specs.Lines.{reported_lines, grant_line, wait_line};
-ghost use Rattle.master_text.specs.Printable.{IsPrintable};
 
 use crate::grants::write_table;
 use failover::{Machines, Phase};
@@ -39,17 +36,15 @@ fn write_report(
     Ok(())
 }
 
-// The machines below a number that are reported.
+// The machines that are reported, in their order.
 #[tactic(auto, using(crate::proofs::Showing::begins_then))]
-fn write_reports(
-    epoch: u64,
-    reported: &Machines,
-    machines: u32,
-    out: &mut Vec<u8>,
-) -> Result<(), OutOfMemory>
-    ensures ok { OnOk result (Rise reported.now.numbers → AllByRecursion (λ m. m < machines) reported.now.numbers → Shows (map (Reported epoch) reported.now.numbers) out.old.items out.new.items) }
+fn write_reports(master: &Master, out: &mut Vec<u8>) -> Result<(), OutOfMemory>
+    ensures ok { OnOk result ((r : MasterRole) → StandsFor master.now.core r → Shows (map (Reported r.state.epoch) r.state.reported) out.old.items out.new.items) }
     ensures begins { Begins out.old.items out.new.items }
 {
+    let epoch = master.epoch();
+    let reported = master.reported();
+    let machines = master.table().cluster().machines();
     for number in 0..machines {
         match write_report(epoch, reported, MachineNo(number), out) {
             Ok(()) => {}
@@ -122,16 +117,14 @@ fn serves(master: &Master) -> bool
 // A master, and the machines that are reported to it.
 #[tactic(auto, using(crate::proofs::Showing::begins_then))]
 fn write_head(master: &Master, out: &mut Vec<u8>) -> Result<(), OutOfMemory>
-    ensures ok { OnOk result ((r : MasterRole) → StandsFor master.now.core r → IsPrintable r → Shows (MasterIs r.state.epoch r.state.serving ∷ map (Reported r.state.epoch) r.state.reported) out.old.items out.new.items) }
+    ensures ok { OnOk result ((r : MasterRole) → StandsFor master.now.core r → Shows (MasterIs r.state.epoch r.state.serving ∷ map (Reported r.state.epoch) r.state.reported) out.old.items out.new.items) }
     ensures begins { Begins out.old.items out.new.items }
 {
-    let epoch = master.epoch();
-    match write_line(&Output::Master(epoch, serves(master)), out) {
+    match write_line(&Output::Master(master.epoch(), serves(master)), out) {
         Ok(()) => {}
         Err(refusal) => return Err(refusal),
     }
-    let machines = master.table().cluster().machines();
-    match write_reports(epoch, master.reported(), machines, out) {
+    match write_reports(master, out) {
         Ok(()) => Ok(()),
         Err(refusal) => Err(refusal),
     }
@@ -141,7 +134,7 @@ fn write_head(master: &Master, out: &mut Vec<u8>) -> Result<(), OutOfMemory>
 /// unit and machine, and the pairs that wait. A refusal may leave some of them behind what was there.
 #[tactic(auto, using(crate::proofs::Showing::begins_then))]
 pub fn write_master(master: &Master, out: &mut Vec<u8>) -> Result<(), OutOfMemory>
-    ensures ok { OnOk result ((r : MasterRole) → StandsFor master.now.core r → IsPrintable r → Shows (show_master r.state) out.old.items out.new.items) }
+    ensures ok { OnOk result ((r : MasterRole) → StandsFor master.now.core r → Shows (show_master r.state) out.old.items out.new.items) }
     ensures begins { Begins out.old.items out.new.items }
 {
     match write_head(master, out) {

@@ -1,5 +1,5 @@
 -- The text that a node prints.
-use Rattle.std.specs.Prelude.{◌≡◌, ℕ, List, [], ◌∷◌, ◌++◌, Option, Some, None, codes, decimal}
+use Rattle.std.specs.Prelude.{ℕ, List, [], ◌∷◌, ◌++◌, Option, Some, None, codes, decimal}
 use Rattle.std.specs.List.{flat_map}
 use Rattle.wire_frames.specs.Names.{name_of, found_of}
 use Rattle.written_net.specs.Net.{Packet}

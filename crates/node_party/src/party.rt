@@ -1,8 +1,8 @@
 //! The party of a node.
 
-ghost use Rattle.std.specs.Prelude.{◌≡◌, ◌+◌, ◌<◌, ◌≤◌, ◌++◌, ℕ, Err, IfOk, OnOk, Option};
+ghost use Rattle.std.specs.Prelude.{◌≡◌, ◌+◌, ◌<◌, ◌≤◌, ◌++◌, ℕ, Err, IfOk, OnOk, Option, Some, None};
 ghost use Rattle.fuxi_io.specs.Causes.{Rose};
-ghost use Rattle.fuxi_io.specs.Disks.{Told as Moments};
+ghost use Rattle.fuxi_io.specs.Disks.{Told as Moments, WhereTold};
 ghost use Rattle.fuxi_terms.specs.Limits.{most_steps};
 ghost use Rattle.schedule_text.specs.Writing.{IsLineEvent};
 ghost use Rattle.node_rounds.specs.Roles.{Role};
@@ -38,23 +38,24 @@ pub enum Halt {
 /// The party of a node, which takes the lines that are no rounds. What its calls do is said of every party of the definitions that it
 /// stands for. A command is at most one step.
 pub trait Node: Core {
-    ghost use Rattle.std.specs.Prelude.{◌≡◌, ◌+◌, ◌<◌, ◌≤◌, ◌++◌, ℕ, Err, IfOk, OnOk, Option};
+    ghost use Rattle.std.specs.Prelude.{◌≡◌, ◌+◌, ◌<◌, ◌≤◌, ◌++◌, ℕ, Err, IfOk, OnOk, Option, Some, None};
     ghost use Rattle.fuxi_io.specs.Causes.{Rose};
-    ghost use Rattle.fuxi_io.specs.Disks.{Told as Moments};
+    ghost use Rattle.fuxi_io.specs.Disks.{Told as Moments, WhereTold};
     ghost use Rattle.fuxi_terms.specs.Limits.{most_steps};
     ghost use Rattle.schedule_text.specs.Writing.{IsLineEvent};
     ghost use Rattle.node_rounds.specs.Roles.{Role};
     ghost use Rattle.node_party.specs.Commands.{IsCommanded, commanded, accepts};
     ghost use Rattle.node_party.specs.Texts.{lines_text, party_lines, as_answer};
 
-    /// What a disk of this length and with these moments has of this party.
-    ghost fits: { Role → ℕ → Option Moments → Type 0 };
+    /// What a disk with these moments has of this party.
+    ghost fits: { Role → Moments → Type 0 };
 
     /// Whether it is called, and does not dial.
     fn accepts(&self) -> bool
         ensures { (r : Role) → Self.stands self.now r → result ≡ accepts r };
 
-    /// Takes an event that a line can give. What has to outlast the node is on the disk before the party changes.
+    /// Takes an event that a line can give. What has to outlast the node is on the disk before the party changes. Of a disk that tells its
+    /// moments it keeps what `rests` says of these.
     fn command<D: Disk>(
         self,
         alloc: Global,
@@ -63,10 +64,11 @@ pub trait Node: Core {
     ) -> Result<(Self, Answer), Halt>
         requires line { IsLineEvent event.now }
         requires steps { Self.steps self < most_steps }
-        requires rests { Self.rests self (D.size disk.old) (D.told disk.old) }
+        requires rests { Self.rests self (D.size disk.old) None }
         ensures does { IfOk result (λ after. (r : Role) → Self.stands self r → IsCommanded (Self.stands after.0) (as_answer after.1) (commanded r event.now)) }
         ensures steps { IfOk result (λ after. Self.steps after.0 ≤ Self.steps self + 1) }
-        ensures rests { IfOk result (λ after. Self.rests after.0 (D.size disk.new) (D.told disk.new)) }
+        ensures rests { IfOk result (λ after. Self.rests after.0 (D.size disk.new) None) }
+        ensures told { WhereTold (λ old new. Self.rests self (D.size disk.old) (Some old) → IfOk result (λ after. Self.rests after.0 (D.size disk.new) (Some new))) (D.told disk.old) (D.told disk.new) }
         ensures later { D.faults disk.old ≤ D.faults disk.new }
         ensures cause { result ≡ Err Halt.Disk → Rose (D.faults disk.old) (D.faults disk.new) };
 
@@ -74,6 +76,6 @@ pub trait Node: Core {
     fn write_state(&self, out: &mut Vec<u8>) -> Result<(), OutOfMemory>
         ensures ok { OnOk result ((r : Role) → Self.stands self.now r → out.new.items ≡ out.old.items ++ lines_text (party_lines r)) };
 
-    /// A disk that is as its commands need it has what it should of each party that it stands for.
-    ghost fitting: { (core : Self) (r : Role) (size : ℕ) (told : Option Moments) → Self.stands core r → Self.rests core size told → fits r size told };
+    /// A disk that is as its commands need it, and that tells its moments, has what it should of each party that it stands for.
+    ghost fitting: { (core : Self) (r : Role) (size : ℕ) (moments : Moments) → Self.stands core r → Self.rests core size (Some moments) → fits r moments };
 }

@@ -1,11 +1,11 @@
 -- A node's run over the lines of an input goes on by one line, or ends.
-use Rattle.std.proofs.Common.{inl, inr, ◌⊎◌, ◌≡◌, ◌≢◌, ℕ, ◌+◌, ◌-◌, ◌<◌, ◌≤◌, Bool, true, false, cond, nat_eq, nat_lt, List, [], ◌∷◌, ◌++◌, length, take, Option, None, Some, IfSome, Result, Ok, Err, refl, sym, ◌∙◌, ap, subst, arith, append_assoc, append-nil, length-append, slice_get}
+use Rattle.std.proofs.Common.{inl, inr, ◌≡◌, ◌≢◌, ℕ, ◌+◌, ◌-◌, ◌<◌, ◌≤◌, Bool, true, false, cond, nat_eq, nat_lt, List, [], ◌∷◌, ◌++◌, length, take, Option, None, Some, Ok, Err, refl, sym, ◌∙◌, ap, subst, arith, append_assoc, append-nil, length-append, slice_get}
 use Rattle.std.specs.Option.{unwrap_or}
 use Rattle.std.specs.List.{concat}
 use Rattle.std.specs.Io.KnownBytes.{Appends, Consumes, IsAtEnd, prepend_known}
 use Rattle.std.proofs.lemmas.Bool.Decides.{nat_tests}
 use Rattle.std.proofs.lemmas.List.Folds.{concat-append}
-use Rattle.std.proofs.Math.Seq.{take-append_seam, take-length}
+use Rattle.std.proofs.Math.Seq.{take-append_seam}
 use Rattle.fuxi_io.specs.Causes.{TakesPart}
 use Rattle.fuxi_io.specs.Lines.{InputLine, lines_of, onto_first, GivesKnown, IsFirst, BreaksOff, FirstLonger, FirstTooLongKnown, MoreKnown}
 use Rattle.fuxi_io.specs.Reading.{read_ahead}
@@ -13,30 +13,27 @@ use Rattle.fuxi_io.specs.declared.lines.Got.TheVariants.{Line, End}
 use Rattle.fuxi_io.specs.declared.lines.LineStop.{LineStop}
 use Rattle.fuxi_io.specs.declared.lines.LineStop.TheVariants.{ReadFault as ReadStop, LineTooLong as LongStop, TooManyLines as ManyStop}
 use Rattle.fuxi_io.specs.declared.status.InputFault.TheVariants.{LineTooLong}
-use Rattle.fuxi_io.specs.declared.status.LimitOf.TheVariants.{Lines}
 use Rattle.fuxi_io.specs.declared.status.Status.{Status}
-use Rattle.fuxi_io.specs.declared.status.Status.TheVariants.{Done, Usage, BadInput, ReadFault, WriteFault, Limit, OutOfMemory}
+use Rattle.fuxi_io.specs.declared.status.Status.TheVariants.{Done, Usage, BadInput, ReadFault, WriteFault, Limit, OutOfMemory, DiskFault, StaleEpoch, DamagedCheckpoint}
 use Rattle.fuxi_terms.specs.Limits.{most_line_bytes, most_lines}
 use Rattle.fuxi_terms.proofs.Appending.{appends_both, appends_none}
 use Rattle.schedule_text.specs.declared.event.LineFault.{LineFault}
 use Rattle.input_lines.specs.Contents.{content, is_skipped}
 use Rattle.input_lines.specs.Statuses.{event_fault, stop_status}
-use Rattle.input_lines.specs.Wholes.{whole_lines}
+use Rattle.input_lines.specs.Wholes.{TakesSome, WritesLast}
 use Rattle.node_door.specs.Doors.{Told}
 use Rattle.node_rounds.specs.Roles.{Role}
 use Rattle.node_rounds.specs.Rounds.{Breaks}
-use Rattle.node_party.specs.declared.line.NodeLine.{NodeLine}
 use Rattle.node_party.specs.Lines.{node_line}
 use Rattle.node_party.specs.Commands.{accepts}
 use Rattle.node_party.specs.Texts.{state_text}
 use Rattle.node_run.specs.declared.taking.DiskFailed.{DiskFailed}
-use Rattle.node_run.specs.declared.taking.Stop.{Stop}
 use Rattle.node_run.specs.declared.taking.Stop.TheVariants.{Ends, Disk}
-use Rattle.node_run.specs.Runs.{Node, Round, Played, Run, Ending, AtEnd, AtBadLine, AtLimit, ended, behind, then_is, takes, within_limits, role_run, pieces}
+use Rattle.node_run.specs.Runs.{Node, Round, Run, Ending, AtEnd, AtBadLine, AtLimit, ended, behind, then_is, takes, within_limits, role_run, pieces}
 use Rattle.node_run.specs.Visits.{Visit, rounds_of, played_of, WasAt}
-use Rattle.node_run.specs.Ends.{Start, run_of, Ran, EndsAt, EndsWhole, WritesLast, TakesSome, StopsWriting, StopsWanting, Ended, start_of}
+use Rattle.node_run.specs.Ends.{Start, run_of, Ran, EndsAt, EndsWhole, StopsWanting, Ended}
 use Rattle.node_run.specs.Progress.{Taken, TakesLine, WritesEnd, behind_all, Along}
-use Rattle.node_run.proofs.Whole.{taken_none, taken_more, broken, read_of, no_more}
+use Rattle.node_run.proofs.Whole.{taken_none, taken_more, broken, read_of}
 use Rattle.node_run.proofs.Visiting.{was_both, was_later, rounds_both, played_both}
 use Rattle.node_run.proofs.Stepping.{not_there}
 
@@ -292,6 +289,9 @@ module _ (s : Start) (bytes : List ℕ) (number : ℕ) (ends : Bool) (events : �
       by_status (BadInput line fault) h = absurd h
       by_status ReadFault h = absurd h
       by_status (Limit what kept) h = absurd h
+      by_status DiskFault h = absurd h
+      by_status (StaleEpoch fence) h = absurd h
+      by_status (DamagedCheckpoint offset) h = absurd h
 
   -- the reader stopped
   pub stop_ended : (Fits : Role → Type 0) (source : Option (List ℕ)) (stop : LineStop) → ends ≡ true → (stop ≡ ReadStop → BreaksOff rest source) → (stop ≡ LongStop → (number < most_lines) × FirstTooLongKnown rest) → (stop ≡ ManyStop → (number ≡ most_lines) × MoreKnown rest)
@@ -352,6 +352,9 @@ module _ (s : Start) (bytes : List ℕ) (number : ℕ) (ends : Bool) (events : �
       by_status Done h = absurd h
       by_status Usage h = h
       by_status ReadFault h = absurd h
+      by_status DiskFault h = absurd h
+      by_status (StaleEpoch fence) h = absurd h
+      by_status (DamagedCheckpoint offset) h = absurd h
 
   -- a line at which the disk failed
   pub disk_ended : {C : Type 0} (Fits : Role → Type 0) (failed : DiskFailed) (stands : C → Role → Type 0) (pending : List ℕ) (source w' : Option (List ℕ)) (line : InputLine) (f2 : ℕ) (new : Told) → length pending ≤ read_ahead → GivesKnown Line rest line (prepend_known pending source)

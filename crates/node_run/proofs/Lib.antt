@@ -4,3 +4,5 @@ pub mod Whole
 pub mod Visiting
 pub mod Going
 pub mod Lifting
+pub mod Endings
+pub mod Resting

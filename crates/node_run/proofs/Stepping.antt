@@ -1,16 +1,16 @@
 -- What taking one line does to a run.
-use Rattle.std.proofs.Common.{inl, ◌≡◌, ◌≢◌, ℕ, ◌+◌, ◌-◌, ◌^◌, ◌≤◌, min, Bool, true, false, cond, not, nat_eq, length, List, [], ◌∷◌, ◌++◌, Option, None, Result, Ok, Err, refl, sym, ◌∙◌, ap, subst, arith}
+use Rattle.std.proofs.Common.{inl, ◌≡◌, ◌≢◌, ℕ, ◌+◌, ◌≤◌, Bool, true, false, cond, not, nat_eq, length, List, [], ◌∷◌, Option, None, Result, Ok, Err, refl, sym, ap, subst, arith}
 use mathlib.Core.Bool.{beq}
 use Rattle.std.specs.Io.KnownBytes.{Appends}
 use Rattle.fuxi_io.specs.Causes.{Rose, TakesPart}
 use Rattle.fuxi_io.specs.declared.status.Status.{Status}
-use Rattle.fuxi_io.specs.declared.status.Status.TheVariants.{Done, Usage, BadInput, ReadFault, WriteFault, Limit, OutOfMemory}
+use Rattle.fuxi_io.specs.declared.status.Status.TheVariants.{Done, Usage, BadInput, ReadFault, WriteFault, Limit, OutOfMemory, DiskFault, StaleEpoch, DamagedCheckpoint}
 use Rattle.schedule_text.specs.declared.event.LineFault.{LineFault}
 use Rattle.node_door.specs.Doors.{Told}
 use Rattle.node_rounds.specs.declared.rounds.RoundLine.{RoundLine}
 use Rattle.node_rounds.specs.declared.rounds.RoundLine.TheVariants.{Done as RoundDone, Fault, Bad, Stranger, Long}
 use Rattle.node_rounds.specs.Roles.{Role, OfAgent, OfApp, OfMaster, may_send}
-use Rattle.node_rounds.specs.Rounds.{Rounds, Breaks, Meets, is_fault}
+use Rattle.node_rounds.specs.Rounds.{Rounds, Meets, is_fault}
 use Rattle.node_party.specs.declared.line.NodeLine.{NodeLine}
 use Rattle.node_party.specs.declared.line.NodeLine.TheVariants.{Round as RoundWord, Serve, Show, Event as EventLine}
 use Rattle.node_party.specs.Commands.{NotHere, accepts}
@@ -24,7 +24,7 @@ use Rattle.node_party.specs.Texts.{answer_text, round_text}
 use Rattle.node_run.specs.declared.taking.Stop.{Stop}
 use Rattle.node_run.specs.declared.taking.Stop.TheVariants.{Ends, Disk}
 use Rattle.node_run.specs.Runs.{Node, Round, Played, Run, then_is, played_as, behind, meets, takes}
-use Rattle.node_run.specs.Visits.{Visit, marks, RoseBy, WasAt}
+use Rattle.node_run.specs.Visits.{Visit, RoseBy, WasAt}
 use Rattle.node_run.specs.Progress.{Taken, Says, WritesText, TakesQuietly, TakesLine}
 
 pub same_bool : (a b : Bool) → beq a b ≡ true → a ≡ b
@@ -71,6 +71,9 @@ module _ {C : Type 0} (stands : C → Role → Type 0) (n : Node) (what : Result
   quiet_line most addr number (Err (Ends (BadInput line fault))) w0 w before after t later h = absurd h
   quiet_line most addr number (Err (Ends ReadFault)) w0 w before after t later h = absurd h
   quiet_line most addr number (Err (Ends (Limit limit kept))) w0 w before after t later h = absurd h
+  quiet_line most addr number (Err (Ends DiskFault)) w0 w before after t later h = absurd h
+  quiet_line most addr number (Err (Ends (StaleEpoch fence))) w0 w before after t later h = absurd h
+  quiet_line most addr number (Err (Ends (DamagedCheckpoint offset))) w0 w before after t later h = absurd h
   quiet_line most addr number (Err Disk) w0 w before after t later h = (h, not_there most addr before after t later)
 
   -- its text could not be written, or memory lacked
@@ -83,6 +86,9 @@ module _ {C : Type 0} (stands : C → Role → Type 0) (n : Node) (what : Result
   said_err A text role is (BadInput line fault) w0 w h = h
   said_err A text role is ReadFault w0 w h = h
   said_err A text role is (Limit limit kept) w0 w h = h
+  said_err A text role is DiskFault w0 w h = h
+  said_err A text role is (StaleEpoch fence) w0 w h = h
+  said_err A text role is (DamagedCheckpoint offset) w0 w h = h
 
 -- the line of a round of another kind of node
 pub other_round : (n : Node) (serves : Bool) → accepts n.role ≢ serves → (most number : ℕ) (rounds : List Round) (run : Node → List Round → Run)

@@ -1,16 +1,12 @@
 -- What is known of a node's run by the status that it ends with.
-use Rattle.std.specs.Prelude.{Result, Ok, Err, ◌≡◌, ◌⊎◌, ℕ, ◌-◌, ◌≤◌, List, [], ◌++◌, length, take, Option, Some, slice_get}
-use Rattle.std.specs.Option.{unwrap_or}
+use Rattle.std.specs.Prelude.{Result, Ok, Err, ⊤, ◌≡◌, ◌⊎◌, ℕ, ◌≤◌, List, [], ◌++◌, length, Option, Some}
 use Rattle.std.specs.List.{concat}
 use Rattle.std.specs.Io.KnownBytes.{Appends, Consumes}
 use Rattle.fuxi_io.specs.Lines.{InputLine, lines_of}
-use Rattle.fuxi_io.specs.Reading.{read_ahead}
-use Rattle.fuxi_io.specs.declared.status.InputFault.{InputFault}
-use Rattle.fuxi_io.specs.declared.status.LimitOf.{LimitOf}
-use Rattle.fuxi_io.specs.declared.status.LimitOf.TheVariants.{Lines, Packets, Bytes}
+use Rattle.fuxi_io.specs.declared.status.LimitOf.TheVariants.{Lines, Packets, Bytes, Records}
 use Rattle.fuxi_io.specs.declared.status.Status.{Status}
-use Rattle.fuxi_io.specs.declared.status.Status.TheVariants.{Done, Usage, BadInput, ReadFault, WriteFault, Limit, OutOfMemory}
-use Rattle.input_lines.specs.Wholes.{whole_lines}
+use Rattle.fuxi_io.specs.declared.status.Status.TheVariants.{Done, Usage, BadInput, ReadFault, WriteFault, Limit, OutOfMemory, DiskFault, StaleEpoch, DamagedCheckpoint}
+use Rattle.input_lines.specs.Wholes.{whole_lines, TakesSome, WritesLast}
 use Rattle.node_door.specs.Doors.{Told}
 use Rattle.node_rounds.specs.Roles.{Role}
 use Rattle.node_rounds.specs.Rounds.{Breaks}
@@ -44,24 +40,11 @@ EndsAt ending w0 w r = (r.ending ≡ ending) × Appends w0 w (concat r.outputs)
 abbrev pub EndsWhole : (Role → Type 0) → Option (List ℕ) → Option (List ℕ) → Run → Type 0
 EndsWhole Fits w0 w r = (r.ending ≡ AtEnd) × Appends w0 w (concat (pieces r)) × Fits r.node.role
 
--- all of these but the last are written whole, and of the last a part from its front
-pub record WritesLast (all : List (List ℕ)) (before after : Option (List ℕ)) : Type 0 where
-  pub part : ℕ
-  pub writes : Appends before after (concat (take (length all - 1) all) ++ take part (unwrap_or (slice_get all (length all - 1)) []))
-
 -- a source failed: the run over all whole lines that it gave before
 pub record ReadsWhole (s : Start) (bytes : List ℕ) (left w0 w : Option (List ℕ)) (before now : ℕ) (old new : Told) : Type 0 where
   pub given : List ℕ
   pub gave : Consumes (Some bytes) left given
   pub ran : Ran s (whole_lines (lines_of given)) (EndsAt AtEnd w0 w) before now old new
-
--- the lines taken, and what stands behind them; the source gave these lines and a few bytes ahead
-pub record TakesSome (bytes : List ℕ) (left : Option (List ℕ)) (lines : List InputLine) : Type 0 where
-  pub behind : List ℕ
-  pub cut : lines_of bytes ≡ lines ++ lines_of behind
-  pub ahead : List ℕ
-  pub gave : Consumes (Some behind) left ahead
-  pub few : length ahead ≤ read_ahead
 
 -- a write failed: within the output of the last line that was taken, or behind a whole input within the state
 pub record StopsWriting (s : Start) (bytes : List ℕ) (left w0 w : Option (List ℕ)) (before now : ℕ) (old new : Told) : Type 0 where
@@ -94,11 +77,31 @@ Ended Fits s bytes (Ok (BadInput line fault)) left w0 w before now old new = Ran
 Ended Fits s bytes (Ok (Limit Lines kept)) left w0 w before now old new = Ran s (lines_of bytes) (EndsAt (AtLimit kept) w0 w) before now old new
 Ended Fits s bytes (Ok (Limit Packets kept)) left w0 w before now old new = ⊥
 Ended Fits s bytes (Ok (Limit Bytes kept)) left w0 w before now old new = ⊥
+Ended Fits s bytes (Ok (Limit Records kept)) left w0 w before now old new = ⊥
 Ended Fits s bytes (Ok ReadFault) left w0 w before now old new = ReadsWhole s bytes left w0 w before now old new
 Ended Fits s bytes (Ok WriteFault) left w0 w before now old new = StopsWriting s bytes left w0 w before now old new
 Ended Fits s bytes (Ok OutOfMemory) left w0 w before now old new = StopsWanting s bytes left w0 w before now old new
 Ended Fits s bytes (Ok Usage) left w0 w before now old new = ⊥
+Ended Fits s bytes (Ok DiskFault) left w0 w before now old new = ⊥
+Ended Fits s bytes (Ok (StaleEpoch fence)) left w0 w before now old new = ⊥
+Ended Fits s bytes (Ok (DamagedCheckpoint offset)) left w0 w before now old new = ⊥
 Ended Fits s bytes (Err failed) left w0 w before now old new = StopsAtDisk s bytes left w0 w before now old new
+
+-- The statuses that a run itself ends with: a command line, a checkpoint that cannot be opened and a disk that failed are told by others.
+abbrev pub IsRunStatus : Status → Type 0
+IsRunStatus Done = ⊤
+IsRunStatus (BadInput line fault) = ⊤
+IsRunStatus ReadFault = ⊤
+IsRunStatus WriteFault = ⊤
+IsRunStatus (Limit Lines kept) = ⊤
+IsRunStatus (Limit Packets kept) = ⊥
+IsRunStatus (Limit Bytes kept) = ⊥
+IsRunStatus (Limit Records kept) = ⊥
+IsRunStatus OutOfMemory = ⊤
+IsRunStatus Usage = ⊥
+IsRunStatus DiskFault = ⊥
+IsRunStatus (StaleEpoch fence) = ⊥
+IsRunStatus (DamagedCheckpoint offset) = ⊥
 
 -- a node of this party that took no event yet, so many lines having gone before
 abbrev pub start_of : ℕ → List ℕ → ℕ → Role → Start

@@ -3,10 +3,11 @@ use Rattle.std.specs.Prelude.{◌≡◌, ℕ, ◌≤◌, Bool, List, [], ◌++�
 use Rattle.std.specs.Io.KnownBytes.{Appends}
 use Rattle.std.specs.List.{concat}
 use Rattle.fuxi_io.specs.Causes.{TakesPart}
+use Rattle.fuxi_io.specs.Disks.{Told as Moments, WhereTold as WhereMoments}
 use Rattle.fuxi_io.specs.Lines.{InputLine, lines_of}
 use Rattle.fuxi_io.specs.declared.status.InputFault.{InputFault}
 use Rattle.fuxi_io.specs.declared.status.Status.{Status}
-use Rattle.fuxi_io.specs.declared.status.Status.TheVariants.{Done, Usage, BadInput, ReadFault, WriteFault, Limit, OutOfMemory}
+use Rattle.fuxi_io.specs.declared.status.Status.TheVariants.{Done, Usage, BadInput, ReadFault, WriteFault, Limit, OutOfMemory, DiskFault, StaleEpoch, DamagedCheckpoint}
 use Rattle.schedule_text.specs.declared.event.LineFault.{LineFault}
 use Rattle.input_lines.specs.Statuses.{event_fault}
 use Rattle.input_lines.specs.Wholes.{AreTaken}
@@ -49,6 +50,9 @@ WritesText text (Err Usage) w0 w = ⊥
 WritesText text (Err (BadInput line fault)) w0 w = ⊥
 WritesText text (Err ReadFault) w0 w = ⊥
 WritesText text (Err (Limit what kept)) w0 w = ⊥
+WritesText text (Err DiskFault) w0 w = ⊥
+WritesText text (Err (StaleEpoch fence)) w0 w = ⊥
+WritesText text (Err (DamagedCheckpoint offset)) w0 w = ⊥
 
 -- what a node wrote that ended with this status behind its last line
 abbrev pub WritesEnd : List ℕ → Status → Option (List ℕ) → Option (List ℕ) → Type 0
@@ -59,6 +63,9 @@ WritesEnd text Usage w0 w = ⊥
 WritesEnd text (BadInput line fault) w0 w = ⊥
 WritesEnd text ReadFault w0 w = ⊥
 WritesEnd text (Limit what kept) w0 w = ⊥
+WritesEnd text DiskFault w0 w = ⊥
+WritesEnd text (StaleEpoch fence) w0 w = ⊥
+WritesEnd text (DamagedCheckpoint offset) w0 w = ⊥
 
 -- what taking a line did that is no round
 abbrev pub TakesQuietly : {C : Type 0} → (C → Role → Type 0) → Node → Result NodeLine LineFault → Result C Stop → Option (List ℕ) → Option (List ℕ) → Type 0
@@ -70,6 +77,9 @@ TakesQuietly stands n what (Err (Ends Usage)) w0 w = ⊥
 TakesQuietly stands n what (Err (Ends (BadInput line fault))) w0 w = ⊥
 TakesQuietly stands n what (Err (Ends ReadFault)) w0 w = ⊥
 TakesQuietly stands n what (Err (Ends (Limit limit kept))) w0 w = ⊥
+TakesQuietly stands n what (Err (Ends DiskFault)) w0 w = ⊥
+TakesQuietly stands n what (Err (Ends (StaleEpoch fence))) w0 w = ⊥
+TakesQuietly stands n what (Err (Ends (DamagedCheckpoint offset))) w0 w = ⊥
 TakesQuietly stands n what (Err Disk) w0 w = w ≡ w0
 
 -- it is the line of no node, for this reason
@@ -88,11 +98,18 @@ TakesLine stands most addr n what number (Err (Ends (Limit limit kept))) w0 w be
 TakesLine stands most addr n what number (Err (Ends Done)) w0 w before after old new = ⊥
 TakesLine stands most addr n what number (Err (Ends Usage)) w0 w before after old new = ⊥
 TakesLine stands most addr n what number (Err (Ends ReadFault)) w0 w before after old new = ⊥
+TakesLine stands most addr n what number (Err (Ends DiskFault)) w0 w before after old new = ⊥
+TakesLine stands most addr n what number (Err (Ends (StaleEpoch fence))) w0 w before after old new = ⊥
+TakesLine stands most addr n what number (Err (Ends (DamagedCheckpoint offset))) w0 w before after old new = ⊥
 TakesLine stands most addr n what number (Err Disk) w0 w before after old new = (w ≡ w0) × WasAt most addr [] before after old new
 
 -- the same with a count of events beside the core
 abbrev pub TakesCounted : {C : Type 0} → (C → Role → Type 0) → ℕ → List ℕ → Node → Result NodeLine LineFault → ℕ → Result (C × ℕ) Stop → Option (List ℕ) → Option (List ℕ) → ℕ → ℕ → Told → Told → Type 0
 TakesCounted {C} stands most addr n what number result w0 w before after old new = TakesLine {C = C × ℕ} (λ a. stands a.0) most addr n what number result w0 w before after old new
+
+-- of a disk that tells its moments, what a party needs of them is kept
+abbrev pub KeepsTold : {C : Type 0} → (C → ℕ → Option Moments → Type 0) → C → ℕ → C → ℕ → Option Moments → Option Moments → Type 0
+KeepsTold rests core size after size' old new = WhereMoments (λ o n. rests core size (Some o) → rests after size' (Some n)) old new
 
 -- writing ends a node only where it could not be written or where memory lacks
 abbrev pub IsWriteStop : Status → Type 0
@@ -103,6 +120,9 @@ IsWriteStop Done = ⊥
 IsWriteStop Usage = ⊥
 IsWriteStop ReadFault = ⊥
 IsWriteStop (Limit what kept) = ⊥
+IsWriteStop DiskFault = ⊥
+IsWriteStop (StaleEpoch fence) = ⊥
+IsWriteStop (DamagedCheckpoint offset) = ⊥
 
 -- a line ends a node only where it is a bad one, where it could not be written, where memory lacks, or where the disk failed
 abbrev pub IsLineStop : Stop → Type 0
@@ -113,6 +133,9 @@ IsLineStop (Ends Done) = ⊥
 IsLineStop (Ends Usage) = ⊥
 IsLineStop (Ends ReadFault) = ⊥
 IsLineStop (Ends (Limit what kept)) = ⊥
+IsLineStop (Ends DiskFault) = ⊥
+IsLineStop (Ends (StaleEpoch fence)) = ⊥
+IsLineStop (Ends (DamagedCheckpoint offset)) = ⊥
 IsLineStop Disk = ⊤
 
 abbrev pub behind_all : List (List ℕ) → List Played → Run → Run

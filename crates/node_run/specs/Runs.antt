@@ -1,5 +1,5 @@
 -- A node's run over the lines of an input: one party, and what came in each of its rounds.
-use Rattle.std.specs.Prelude.{◌≡◌, ◌⊎◌, ℕ, ◌+◌, Bool, true, false, not, nat_lt, if◌then◌else◌, List, [], ◌∷◌, ◌++◌, length, Option, None, Result, Ok, Err}
+use Rattle.std.specs.Prelude.{ℕ, ◌+◌, Bool, true, false, not, nat_lt, if◌then◌else◌, List, [], ◌∷◌, ◌++◌, length, None, Result, Ok, Err}
 use Rattle.fuxi_io.specs.Lines.{InputLine}
 use Rattle.fuxi_io.specs.declared.status.InputFault.{InputFault}
 use Rattle.fuxi_io.specs.declared.status.InputFault.TheVariants.{LineTooLong}
@@ -107,3 +107,18 @@ final_text n (AtLimit kept) = []
 
 abbrev pub pieces : Run → List (List ℕ)
 pieces r = r.outputs ++ final_text r.node r.ending
+
+-- where a line ends a run that says this, the rest ending there
+abbrev pub ending_at : ℕ → Result NodeLine LineFault → Ending → Ending
+ending_at number (Ok said) later = later
+ending_at number (Err fault) later = AtBadLine number (event_fault fault)
+
+-- where a run over lines ends, so many having gone before, whatever comes in its rounds
+abbrev pub ending_from : ℕ → List InputLine → Ending
+ending_from before [] = AtEnd
+ending_from before (line ∷ lines) =
+    if not (nat_lt before most_lines) then AtLimit most_lines
+    else (if nat_lt most_line_bytes (length line.bytes) then AtBadLine (before + 1) LineTooLong else elim (is_skipped (content line)) [
+      | true ↦ ending_from (before + 1) lines
+      | false ↦ ending_at (before + 1) (node_line (content line)) (ending_from (before + 1) lines)
+    ])

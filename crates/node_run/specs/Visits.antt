@@ -1,8 +1,7 @@
 -- What the rounds of a run were at the door.
-use Rattle.std.specs.Prelude.{◌≡◌, ℕ, ◌+◌, ◌-◌, ◌^◌, ◌≤◌, min, Bool, true, false, cond, List, [], ◌∷◌, map, Option}
+use Rattle.std.specs.Prelude.{◌≡◌, ℕ, ◌+◌, ◌-◌, ◌^◌, ◌≤◌, min, cond, List, [], ◌∷◌, map, Option}
 use Rattle.std.specs.List.{AllByRecursion}
 use Rattle.node_door.specs.Doors.{Talk, Told}
-use Rattle.node_rounds.specs.declared.rounds.RoundLine.{RoundLine}
 use Rattle.node_rounds.specs.Rounds.{Meets, is_fault, visited}
 use Rattle.node_party.specs.Commands.{accepts}
 use Rattle.node_run.specs.Runs.{Played, Round, played_as}

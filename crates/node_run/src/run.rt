@@ -2,6 +2,7 @@
 
 ghost use Rattle.std.specs.Prelude.{◌≡◌, ◌≢◌, ◌+◌, ◌^◌, ◌<◌, ◌≤◌, ℕ, length, true, false, Some, None, Ok, Err, IfSome, IfOk, IfErr, OnErr};
 ghost use Rattle.fuxi_io.specs.Causes.{Rose};
+ghost use Rattle.fuxi_io.specs.Disks.{WhereTold as WhereMoments};
 ghost use Rattle.fuxi_io.specs.Reading.{rest_of, read_ahead};
 ghost use Rattle.fuxi_terms.specs.Limits.{most_frames, most_steps, most_lines};
 ghost use Rattle.input_lines.specs.Contents.{is_skipped};
@@ -11,8 +12,8 @@ ghost use Rattle.node_rounds.specs.Roles.{Role};
 ghost use Rattle.node_party.specs.Lines.{node_line};
 ghost use Rattle.node_party.specs.Texts.{state_text};
 ghost use Rattle.node_run.specs.Runs.{Node as WrittenNode};
-ghost use Rattle.node_run.specs.Ends.{Ended, start_of};
-ghost use Rattle.node_run.specs.Progress.{WritesEnd, TakesCounted, IsLineStop};
+ghost use Rattle.node_run.specs.Ends.{Ended, IsRunStatus, start_of};
+ghost use Rattle.node_run.specs.Progress.{WritesEnd, TakesCounted, KeepsTold, IsLineStop};
 
 use crate::taking::{DiskFailed, Stop, take_line, write_state};
 use fuxi_io::{Disk, Got, LimitOf, LineReader, LineStop, Sink, Source, Status};
@@ -37,7 +38,7 @@ fn take_any<C: Node, O: Sink, N: Door, D: Disk>(
     requires short { length addr.now ≤ 255 }
     requires events { events < 2000000 }
     requires steps { C.steps core + most_frames < most_steps }
-    requires rests { C.rests core (D.size disk.old) (D.told disk.old) }
+    requires rests { C.rests core (D.size disk.old) None }
     ensures skips { is_skipped line.now ≡ true → (result ≡ Ok (core, events)) × (out.new ≡ out.old) × (door.new ≡ door.old) }
     ensures takes { is_skipped line.now ≡ false → (n : WrittenNode) → C.stands core n.role → n.events ≡ events → WhereTold (TakesCounted C.stands most_frames addr.now n (node_line line.now) number result (O.took out.old) (O.took out.new) (N.faults door.old) (N.faults door.new)) (N.told door.old) (N.told door.new) }
     ensures counts { is_skipped line.now ≡ false → IfOk result (λ a. a.1 ≡ events + 1) }
@@ -47,7 +48,8 @@ fn take_any<C: Node, O: Sink, N: Door, D: Disk>(
     ensures later { O.faults out.old ≤ O.faults out.new }
     ensures fault { result ≡ Err (Stop.Ends Status.WriteFault) → Rose (O.faults out.old) (O.faults out.new) }
     ensures ends { IfErr result IsLineStop }
-    ensures rests { IfOk result (λ a. C.rests a.0 (D.size disk.new) (D.told disk.new)) }
+    ensures rests { IfOk result (λ a. C.rests a.0 (D.size disk.new) None) }
+    ensures told { IfOk result (λ a. KeepsTold C.rests core (D.size disk.old) a.0 (D.size disk.new) (D.told disk.old) (D.told disk.new)) }
     ensures disk { D.faults disk.old ≤ D.faults disk.new }
     ensures failed { result ≡ Err Stop.Disk → Rose (D.faults disk.old) (D.faults disk.new) }
 {
@@ -64,7 +66,7 @@ fn take_any<C: Node, O: Sink, N: Door, D: Disk>(
 fn end_node<C: Node, O: Sink>(alloc: Global, core: &C, events: u64, out: &mut O) -> Status
     ensures writes { (r : Role) → C.stands core.now r → WritesEnd (state_text events r) result (O.took out.old) (O.took out.new) }
     ensures fault { result ≡ Status.WriteFault → Rose (O.faults out.old) (O.faults out.new) }
-    ensures usage { result ≢ Status.Usage }
+    ensures own { IsRunStatus result }
     ensures read { result ≢ Status.ReadFault }
     ensures limit { (what : LimitOf) (kept : ℕ) → result ≢ Status.Limit what kept }
     ensures later { O.faults out.old ≤ O.faults out.new }
@@ -93,14 +95,14 @@ pub fn run_node<C: Node, S: Source, O: Sink, N: Door, D: Disk>(
     requires some { 1 ≤ length addr.now }
     requires short { length addr.now ≤ 255 }
     requires steps { C.steps core < 2 ^ 40 }
-    requires rests { C.rests core (D.size disk.old) (D.told disk.old) }
-    // What was written and what the door has been through, by the status. It is said of each party that the core stands for, of bytes that are known, and of a door that tells.
-    ensures ended { IsReady lines.old (S.left source.old) → (r : Role) → C.stands core r → IfSome (rest_of lines.old (S.left source.old)) (λ bytes. WhereTold (Ended (λ q. C.fits q (D.size disk.new) (D.told disk.new)) (start_of most_frames addr.now lines.old.number r) bytes result (S.left source.new) (O.took out.old) (O.took out.new) (N.faults door.old) (N.faults door.new)) (N.told door.old) (N.told door.new)) }
+    requires rests { C.rests core (D.size disk.old) None }
+    // What was written and what the door has been through, by the status. It is said of each party that the core stands for, of bytes that are known, and of a door that tells; of the disk, where it tells its moments.
+    ensures ended { IsReady lines.old (S.left source.old) → (r : Role) → C.stands core r → IfSome (rest_of lines.old (S.left source.old)) (λ bytes. WhereTold (Ended (λ q. WhereMoments (λ before now. C.rests core (D.size disk.old) (Some before) → C.fits q now) (D.told disk.old) (D.told disk.new)) (start_of most_frames addr.now lines.old.number r) bytes result (S.left source.new) (O.took out.old) (O.took out.new) (N.faults door.old) (N.faults door.new)) (N.told door.old) (N.told door.new)) }
     ensures unread { lines.old.ended ≡ false → result ≢ Ok Status.ReadFault }
     ensures read { result ≡ Ok Status.ReadFault → Rose (S.faults source.old) (S.faults source.new) }
     ensures write { result ≡ Ok Status.WriteFault → Rose (O.faults out.old) (O.faults out.new) }
     ensures limit { lines.old.stop ≡ None → (what : LimitOf) (kept : ℕ) → result ≡ Ok (Status.Limit what kept) → (what ≡ LimitOf.Lines) × (kept ≡ most_lines) }
-    ensures usage { result ≢ Ok Status.Usage }
+    ensures own { IfOk result IsRunStatus }
     ensures failed { OnErr result (Rose (D.faults disk.old) (D.faults disk.new)) }
     ensures later { D.faults disk.old ≤ D.faults disk.new }
 {

@@ -1,6 +1,6 @@
 //! One line of a node.
 
-ghost use Rattle.std.specs.Prelude.{◌≡◌, ◌+◌, ◌<◌, ◌≤◌, ◌≢◌, ℕ, length, Ok, Err, IfOk, IfErr, OnErr, cond};
+ghost use Rattle.std.specs.Prelude.{◌≡◌, ◌+◌, ◌<◌, ◌≤◌, ◌≢◌, ℕ, length, None, Ok, Err, IfOk, IfErr, OnErr, cond};
 ghost use Rattle.fuxi_io.specs.Causes.{Rose};
 ghost use Rattle.fuxi_terms.specs.Limits.{most_frames, most_steps};
 ghost use Rattle.schedule_text.specs.Writing.{IsLineEvent};
@@ -12,7 +12,7 @@ ghost use Rattle.node_party.specs.Commands.{accepts};
 ghost use Rattle.node_party.specs.Lines.{node_line};
 ghost use Rattle.node_party.specs.Texts.{answer_text, as_answer, state_text};
 ghost use Rattle.node_run.specs.Runs.{Node as WrittenNode};
-ghost use Rattle.node_run.specs.Progress.{WritesText, TakesQuietly, TakesLine, IsLineStop, IsWriteStop};
+ghost use Rattle.node_run.specs.Progress.{WritesText, TakesQuietly, TakesLine, KeepsTold, IsLineStop, IsWriteStop};
 
 use fuxi_io::{Disk, Sink, Status, write_all_of};
 use fuxi_terms::OutOfMemory;
@@ -87,13 +87,14 @@ fn take_event<C: Node, O: Sink, D: Disk>(
 ) -> Result<C, Stop>
     requires line { IsLineEvent event.now }
     requires steps { C.steps core < most_steps }
-    requires rests { C.rests core (D.size disk.old) (D.told disk.old) }
+    requires rests { C.rests core (D.size disk.old) None }
     ensures takes { (n : WrittenNode) → C.stands core n.role → TakesQuietly C.stands n (Ok (EventLine event.now)) result (O.took out.old) (O.took out.new) }
     ensures steps { IfOk result (λ after. C.steps after ≤ C.steps core + 1) }
     ensures later { O.faults out.old ≤ O.faults out.new }
     ensures fault { result ≡ Err (Stop.Ends Status.WriteFault) → Rose (O.faults out.old) (O.faults out.new) }
     ensures ends { IfErr result IsLineStop }
-    ensures rests { IfOk result (λ after. C.rests after (D.size disk.new) (D.told disk.new)) }
+    ensures rests { IfOk result (λ after. C.rests after (D.size disk.new) None) }
+    ensures told { IfOk result (λ after. KeepsTold C.rests core (D.size disk.old) after (D.size disk.new) (D.told disk.old) (D.told disk.new)) }
     ensures disk { D.faults disk.old ≤ D.faults disk.new }
     ensures failed { result ≡ Err Stop.Disk → Rose (D.faults disk.old) (D.faults disk.new) }
 {
@@ -222,13 +223,14 @@ pub(crate) fn take_line<C: Node, O: Sink, N: Door, D: Disk>(
     requires short { length addr.now ≤ 255 }
     requires events { events < 2000000 }
     requires steps { C.steps core + most_frames < most_steps }
-    requires rests { C.rests core (D.size disk.old) (D.told disk.old) }
+    requires rests { C.rests core (D.size disk.old) None }
     ensures takes { (n : WrittenNode) → C.stands core n.role → n.events ≡ events → WhereTold (TakesLine C.stands most_frames addr.now n (node_line line.now) number result (O.took out.old) (O.took out.new) (N.faults door.old) (N.faults door.new)) (N.told door.old) (N.told door.new) }
     ensures steps { IfOk result (λ after. C.steps after ≤ C.steps core + most_frames + 1) }
     ensures later { O.faults out.old ≤ O.faults out.new }
     ensures fault { result ≡ Err (Stop.Ends Status.WriteFault) → Rose (O.faults out.old) (O.faults out.new) }
     ensures ends { IfErr result IsLineStop }
-    ensures rests { IfOk result (λ after. C.rests after (D.size disk.new) (D.told disk.new)) }
+    ensures rests { IfOk result (λ after. C.rests after (D.size disk.new) None) }
+    ensures told { IfOk result (λ after. KeepsTold C.rests core (D.size disk.old) after (D.size disk.new) (D.told disk.old) (D.told disk.new)) }
     ensures disk { D.faults disk.old ≤ D.faults disk.new }
     ensures failed { result ≡ Err Stop.Disk → Rose (D.faults disk.old) (D.faults disk.new) }
 {

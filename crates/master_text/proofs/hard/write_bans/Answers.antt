@@ -1,6 +1,8 @@
-use Rattle.std.proofs.Common.{◌≡◌, map, ◌∙◌, ap, rules}
-use Rattle.std.specs.List.{flat_map}
+use Rattle.std.proofs.Common.{◌≡◌, ◌<◌, map, sym, ap, subst, rules}
+use Rattle.std.specs.List.{AllByRecursion, flat_map}
+use Rattle.fuxi_terms.specs.Limits.{most_machines}
 use Rattle.fuxi_terms.specs.Lists.{below}
+use Rattle.written_order.specs.Orders.{Rise}
 use Rattle.written_world.specs.Outputs.{Banned}
 use Rattle.master_text.specs.Lines.{ban_lines}
 use Rattle.master_text.proofs.Showing.{shows_same, begins_shown, begins_then}
@@ -13,9 +15,12 @@ returns-in-Err-clause-begins c = begins_then c.args.out.now.items c.loop-number.
 pub returns-clause-ok : goal.returns-clause-ok
 returns-clause-ok c =
     let bans = c.args.hard.now.value.bans in
-    let all : c.loop-number.number ≡ c.args.numbers = search rules in
-    λ rise h. shows_same (flat_map (ban_lines bans) (below c.loop-number.number)) (map (λ m. Banned m) bans) c.args.out.now.items c.loop-number.out.items
-    (ap (λ n. flat_map (ban_lines bans) (below n)) all ∙ listed_below (λ m. Banned m) c.args.numbers bans rise h) c.loop-number.invariant
+    let n = c.loop-number.number in
+    let all : n ≡ most_machines = search rules in
+    let known = ap (λ k. k.bans) c.known.ensures in
+    let rise = subst Rise known c.bans_rise.ensures.rise in
+    let low = subst (λ k. AllByRecursion (λ m. m < k) bans) (sym all) (subst (AllByRecursion (λ m. m < most_machines)) known c.bans_rise.ensures.low) in
+    shows_same (flat_map (ban_lines bans) (below n)) (map (λ m. Banned m) bans) c.args.out.now.items c.loop-number.out.items (listed_below (λ m. Banned m) n bans rise low) c.loop-number.invariant
 
 pub returns-clause-begins : goal.returns-clause-begins
 returns-clause-begins c = begins_shown _ c.args.out.now.items c.loop-number.out.items c.loop-number.invariant

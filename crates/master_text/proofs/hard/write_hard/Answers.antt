@@ -11,5 +11,5 @@ returns-in-Ok-write_lists-clause-ok c =
     let rest = show_jobs h.jobs ++ map (λ m. Banned m) h.bans in
     let old = c.args.out.now.items in
     let new = c.write_lists.new.out.items in
-    λ l. shows_same (Fence c.fence.result ∷ rest) (hard_lines h) old new (ap (λ n. Fence n ∷ rest) c.fence.ensures)
-    (shows_then (Fence c.fence.result ∷ []) rest old c.write_line.new.out.items new c.in-Ok.ensures.ok (c.in-Ok-write_lists.ensures.ok l))
+    shows_same (Fence c.fence.result ∷ rest) (hard_lines h) old new (ap (λ n. Fence n ∷ rest) c.fence.ensures)
+    (shows_then (Fence c.fence.result ∷ []) rest old c.write_line.new.out.items new c.in-Ok.ensures.ok c.in-Ok-write_lists.ensures.ok)

@@ -1,10 +1,12 @@
-use Rattle.std.proofs.Common.{◌≡◌, ◌∙◌, ap, rules}
-use Rattle.std.specs.List.{flat_map}
+use Rattle.std.proofs.Common.{◌≡◌, ℕ, ◌<◌, true, List, sym, ap, subst, rules}
+use Rattle.std.specs.List.{AllByRecursion, flat_map}
+use Rattle.fuxi_terms.specs.Jobs.{KnownJob, is_known, job_numbers}
+use Rattle.fuxi_terms.specs.Limits.{most_jobs}
 use Rattle.fuxi_terms.specs.Lists.{below}
 use Rattle.written_world.specs.Show.{show_jobs}
 use Rattle.master_text.specs.Lines.{job_lines}
 use Rattle.master_text.proofs.Showing.{shows_same, begins_shown, begins_then}
-use Rattle.master_text.proofs.Jobs.{jobs_below}
+use Rattle.master_text.proofs.Jobs.{jobs_below, known_below}
 use Rattle.master_text.proofs.hard.write_jobs.Goals as goal
 
 pub returns-in-Err-clause-begins : goal.returns-in-Err-clause-begins
@@ -13,8 +15,11 @@ returns-in-Err-clause-begins c = begins_then c.args.out.now.items c.loop-number.
 pub returns-clause-ok : goal.returns-clause-ok
 returns-clause-ok c =
     let jobs = c.args.hard.now.value.jobs in
-    let all : c.loop-number.number ≡ c.args.numbers = search rules in
-    λ h. shows_same (flat_map (job_lines jobs) (below c.loop-number.number)) (show_jobs jobs) c.args.out.now.items c.loop-number.out.items (ap (λ n. flat_map (job_lines jobs) (below n)) all ∙ jobs_below jobs c.args.numbers h) c.loop-number.invariant
+    let n = c.loop-number.number in
+    let all : n ≡ most_jobs = search rules in
+    let few = subst (λ (js : List KnownJob). (a : ℕ) → is_known js a ≡ true → a < most_jobs) (ap (λ k. k.jobs) c.known.ensures) c.jobs-jobs.ensures.numbers in
+    let low = subst (λ k. AllByRecursion (λ a. a < k) (job_numbers jobs)) (sym all) (known_below jobs most_jobs few) in
+    shows_same (flat_map (job_lines jobs) (below n)) (show_jobs jobs) c.args.out.now.items c.loop-number.out.items (jobs_below jobs n low) c.loop-number.invariant
 
 pub returns-clause-begins : goal.returns-clause-begins
 returns-clause-begins c = begins_shown _ c.args.out.now.items c.loop-number.out.items c.loop-number.invariant

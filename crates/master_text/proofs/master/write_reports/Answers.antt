@@ -1,5 +1,6 @@
-use Rattle.std.proofs.Common.{◌≡◌, map, ◌∙◌, ap, rules}
-use Rattle.std.specs.List.{flat_map}
+use Rattle.std.proofs.Common.{◌≡◌, ◌<◌, length, map, sym, ◌∙◌, ap, subst, rules}
+use Rattle.std.specs.List.{AllByRecursion, flat_map}
+use Rattle.fuxi_terms.specs.Cluster.{ClusterRecord}
 use Rattle.fuxi_terms.specs.Lists.{below}
 use Rattle.written_world.specs.Outputs.{Reported}
 use Rattle.master_text.specs.Lines.{reported_lines}
@@ -9,8 +10,14 @@ use Rattle.master_text.proofs.master.write_reports.Goals as goal
 
 pub returns-clause-ok : goal.returns-clause-ok
 returns-clause-ok c =
-    let e = c.args.epoch in
-    let reported = c.args.reported.now.numbers in
-    let all : c.loop-number.number ≡ c.args.machines = search rules in
-    λ rise h. shows_same (flat_map (reported_lines e reported) (below c.loop-number.number)) (map (Reported e) reported) c.args.out.now.items c.loop-number.out.items
-    (ap (λ n. flat_map (reported_lines e reported) (below n)) all ∙ listed_below (Reported e) c.args.machines reported rise h) c.loop-number.invariant.shows
+    let n = c.loop-number.number in
+    let e = c.epoch-epoch.result in
+    let numbers = c.reported-reported.result.now.numbers in
+    let all : n ≡ c.machines-machines.result = search rules in
+    let size : c.machines-machines.result ≡ length c.args.master.now.core.allotment.table.cluster.machines = c.machines-machines.ensures.number ∙ ap (λ (x : ClusterRecord). length x.machines) (c.cluster.ensures.cluster ∙ ap (λ t. t.cluster) c.table.ensures.table) in
+    let within = subst (λ k. AllByRecursion (λ m. m < k) numbers) (sym (all ∙ size)) c.reported-reported.ensures.below in
+    λ r stands.
+    let epoch = c.epoch-epoch.ensures.stands r stands in
+    let reported = c.reported-reported.ensures.stands r stands in
+    shows_same (flat_map (reported_lines e numbers) (below n)) (map (Reported r.state.epoch) r.state.reported) c.args.out.now.items c.loop-number.out.items
+    (listed_below (Reported e) n numbers c.reported-reported.ensures.rising within ∙ (λ i. map (Reported (epoch i)) (reported i))) c.loop-number.invariant.shows

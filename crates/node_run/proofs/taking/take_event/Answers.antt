@@ -1,5 +1,4 @@
-use Rattle.std.proofs.Common.{ℕ, Ok, Err, List, refl, subst}
-use Rattle.fuxi_io.specs.declared.status.Status.{Status}
+use Rattle.std.proofs.Common.{Ok, Err, refl, subst}
 use Rattle.node_party.specs.declared.line.NodeLine.TheVariants.{Event}
 use Rattle.node_party.specs.Commands.{commanded}
 use Rattle.node_party.specs.Texts.{answer_text}

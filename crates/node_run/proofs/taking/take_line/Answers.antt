@@ -1,10 +1,6 @@
-use Rattle.std.proofs.Common.{◌≡◌, ◌∙◌, ℕ, Ok, Err, Result, sym, ap, subst, refl, arith}
+use Rattle.std.proofs.Common.{◌≡◌, ◌∙◌, Ok, sym, ap, subst, arith}
 use Rattle.fuxi_terms.specs.Limits.{most_frames}
-use Rattle.schedule_text.specs.Reading.{event_of}
-use Rattle.schedule_text.specs.declared.event.Event.{Event as LineEvent}
-use Rattle.schedule_text.specs.declared.event.LineFault.{LineFault}
 use Rattle.node_door.specs.Doors.{WhereTold}
-use Rattle.node_party.specs.declared.line.NodeLine.{NodeLine}
 use Rattle.node_party.specs.declared.line.NodeLine.TheVariants.{Round, Serve, Show, Event}
 use Rattle.node_party.specs.Lines.{node_line}
 use Rattle.node_run.specs.Progress.{TakesLine}

@@ -1,4 +1,4 @@
-use Rattle.std.proofs.Common.{◌≡◌, ◌≢◌, ℕ, Ok, Err, cond, sym, ◌∙◌, subst, arith}
+use Rattle.std.proofs.Common.{◌≡◌, ◌≢◌, Ok, Err, cond, sym, ◌∙◌, subst, arith}
 use Rattle.fuxi_terms.specs.Limits.{most_frames}
 use Rattle.node_door.specs.Doors.{WhereTold}
 use Rattle.node_party.specs.declared.line.NodeLine.TheVariants.{Round, Serve}

@@ -1,4 +1,4 @@
-use Rattle.std.proofs.Common.{ℕ, Ok, Err, cond}
+use Rattle.std.proofs.Common.{Ok, Err, cond}
 use Rattle.std.specs.Io.KnownBytes.{Appends}
 use Rattle.fuxi_io.specs.Causes.{TakesPart}
 use Rattle.fuxi_io.specs.declared.status.Status.TheVariants.{WriteFault}

@@ -1,5 +1,4 @@
-use Rattle.std.proofs.Common.{ℕ, ◌+◌, Ok, Err, List, refl, sym, subst}
-use Rattle.fuxi_io.specs.declared.status.Status.{Status}
+use Rattle.std.proofs.Common.{◌+◌, Ok, Err, refl, sym, subst}
 use Rattle.node_party.specs.declared.line.NodeLine.TheVariants.{Show}
 use Rattle.node_party.specs.Texts.{state_text}
 use Rattle.node_run.specs.Progress.{WritesText}

@@ -4,8 +4,10 @@ use Rattle.written_roles.specs.Refusals.{NotRunning}
 use Rattle.node_rounds.specs.Roles.{OfAgent, OfApp, OfMaster}
 use Rattle.node_party.specs.Commands.{commanded, master_does, master_named}
 use Rattle.master_node.specs.Told.{named_of, told_of}
+use Rattle.master_node.specs.Writing.{hard_in}
 use Rattle.master_node.proofs.Commanding.{all_done, all_left, named_does, named_other, stays_refused}
-use Rattle.master_node.proofs.node.MasterNode.command.Goals as goal
+use Rattle.master_node.proofs.Resting.{line_rests, stays_rests}
+use Rattle.master_node.proofs.node.MasterNodeNode.command.Goals as goal
 
 pub returns-then-epoch-clause-does : goal.returns-then-epoch-clause-does
 returns-then-epoch-clause-does g c (OfAgent r) s = elim s [ ]
@@ -14,7 +16,7 @@ returns-then-epoch-clause-does g c (OfMaster h r) s =
     let e = c.in-Some.epoch in
     let told = told_of c.in-Some.told in
     let named : master_named c.args.event.now ≡ Some (e, told) = sym c.master_named.ensures.named ∙ ap named_of c.in-Some.is in
-    let own = c.epoch.ensures h r s in
+    let own = c.epoch.ensures.epoch h r s in
     let other : nat_eq e r.state.epoch ≡ false = let t = c.if-epoch.true in grind (arith, nat_tests, t, own) in
     stays_refused c.args.self h r NotRunning (commanded (OfMaster h r) c.args.event.now) s (named_other h r e told c.args.event.now named other)
 
@@ -24,12 +26,21 @@ returns-clause-does g c =
     let told = told_of c.in-Some.told in
     let named : master_named c.args.event.now ≡ Some (e, told) = sym c.master_named.ensures.named ∙ ap named_of c.in-Some.is in
     all_done c.args.event.now (λ h r. master_does h r told) c.args.self c.tell.result
-    (λ h r s. named_does h r e told c.args.event.now named (let own = c.epoch.ensures h r s in let t = c.if-epoch.false in grind (arith, nat_tests, t, own))) c.tell.ensures.does
+    (λ h r s. named_does h r e told c.args.event.now named (let own = c.epoch.ensures.epoch h r s in let t = c.if-epoch.false in grind (arith, nat_tests, t, own))) c.tell.ensures.does
 
-pub returns-clause-told : goal.returns-clause-told
-returns-clause-told g c =
+pub returns-clause-leaves : goal.returns-clause-leaves
+returns-clause-leaves g c =
     let e = c.in-Some.epoch in
     let told = told_of c.in-Some.told in
     let named : master_named c.args.event.now ≡ Some (e, told) = sym c.master_named.ensures.named ∙ ap named_of c.in-Some.is in
     all_left c.args.event.now (λ h r. master_does h r told) c.args.self c.tell.result (g.D.Disk.told c.args.disk.now) (g.D.Disk.told c.tell.new.disk)
-    (λ h r s. named_does h r e told c.args.event.now named (let own = c.epoch.ensures h r s in let t = c.if-epoch.false in grind (arith, nat_tests, t, own))) c.tell.ensures.told
+    (λ h r s. named_does h r e told c.args.event.now named (let own = c.epoch.ensures.epoch h r s in let t = c.if-epoch.false in grind (arith, nat_tests, t, own))) c.tell.ensures.told
+
+pub returns-clause-told : goal.returns-clause-told
+returns-clause-told g c =
+    let tied = c.epoch.ensures.tied in
+    line_rests c.args.self (hard_in (master_does tied.hard tied.role (told_of c.in-Some.told)).role) c.tell.result _ _ (g.D.Disk.told c.args.disk.now) (g.D.Disk.told c.tell.new.disk)
+    (c.tell.ensures.told tied.hard tied.role tied.stands) c.tell.ensures.rests
+
+pub returns-then-epoch-clause-told : goal.returns-then-epoch-clause-told
+returns-then-epoch-clause-told g c = stays_rests c.args.self (g.D.Disk.size c.args.disk.now) (g.D.Disk.told c.args.disk.now)
