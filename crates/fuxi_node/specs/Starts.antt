@@ -5,7 +5,9 @@ use Rattle.fuxi_terms.specs.Limits.{most_frames}
 use Rattle.fuxi_terms.specs.Padded.{padded}
 use Rattle.written_roles.specs.Agents.{new_agent}
 use Rattle.written_roles.specs.Apps.{new_app}
-use Rattle.node_rounds.specs.Roles.{OfAgent, OfApp}
+use Rattle.written_roles.specs.HardState.{HardState}
+use Rattle.written_roles.specs.MasterRoles.{master_started}
+use Rattle.node_rounds.specs.Roles.{OfAgent, OfApp, OfMaster}
 use Rattle.node_run.specs.Ends.{Start, start_of}
 
 -- the agent of a machine of the cluster, so many lines having gone before
@@ -15,3 +17,7 @@ agent_start c machine boot addr before = start_of most_frames addr before (OfAge
 -- the application of a job with so many units
 abbrev pub app_start : ClusterRecord → ℕ → ℕ → ℕ → List ℕ → ℕ → Start
 app_start c job units boot addr before = start_of most_frames addr before (OfApp (new_app job units c boot))
+
+-- the master of an epoch with this hard state
+abbrev pub master_start : ClusterRecord → ℕ → List ℕ → ℕ → HardState → Start
+master_start c epoch addr before h = start_of most_frames addr before (OfMaster h (master_started c h epoch))

@@ -6,7 +6,7 @@ ghost use Rattle.fuxi_io.specs.Reading.{rest_of, read_ahead};
 ghost use Rattle.fuxi_terms.specs.Limits.{most_lines, most_machines};
 ghost use Rattle.input_lines.specs.Wholes.{IsReady};
 ghost use Rattle.node_door.specs.Doors.{WhereTold};
-ghost use Rattle.node_run.specs.Ends.{Ended};
+ghost use Rattle.node_run.specs.Ends.{Ended, IsRunStatus};
 ghost use Rattle.fuxi_node.specs.Starts.{agent_start};
 
 use agent_node::AgentNode;
@@ -49,7 +49,7 @@ pub fn run_agent<S: Source, O: Sink, N: Door>(
     ensures read { result ≡ Status.ReadFault → Rose (S.faults source.old) (S.faults source.new) }
     ensures write { result ≡ Status.WriteFault → Rose (O.faults out.old) (O.faults out.new) }
     ensures limit { lines.old.stop ≡ None → (what : LimitOf) (kept : ℕ) → result ≡ Status.Limit what kept → (what ≡ LimitOf.Lines) × (kept ≡ most_lines) }
-    ensures usage { result ≢ Status.Usage }
+    ensures own { IsRunStatus result }
 {
     let has = cluster.machine(machine).has;
     match AgentNode::start(alloc, machine, has, boot) {

@@ -6,7 +6,7 @@ ghost use Rattle.fuxi_io.specs.Reading.{rest_of, read_ahead};
 ghost use Rattle.fuxi_terms.specs.Limits.{most_jobs, most_lines, most_units};
 ghost use Rattle.input_lines.specs.Wholes.{IsReady};
 ghost use Rattle.node_door.specs.Doors.{WhereTold};
-ghost use Rattle.node_run.specs.Ends.{Ended};
+ghost use Rattle.node_run.specs.Ends.{Ended, IsRunStatus};
 ghost use Rattle.fuxi_node.specs.Starts.{app_start};
 
 use app_node::AppNode;
@@ -47,7 +47,7 @@ pub fn run_app<S: Source, O: Sink, N: Door>(
     ensures read { result ≡ Status.ReadFault → Rose (S.faults source.old) (S.faults source.new) }
     ensures write { result ≡ Status.WriteFault → Rose (O.faults out.old) (O.faults out.new) }
     ensures limit { lines.old.stop ≡ None → (what : LimitOf) (kept : ℕ) → result ≡ Status.Limit what kept → (what ≡ LimitOf.Lines) × (kept ≡ most_lines) }
-    ensures usage { result ≢ Status.Usage }
+    ensures own { IsRunStatus result }
 {
     match AppNode::start(alloc, app, units, cluster, boot) {
         Ok(node) => match run_node(

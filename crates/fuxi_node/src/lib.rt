@@ -3,6 +3,8 @@
 
 mod agents;
 mod apps;
+mod masters;
 
 pub use agents::run_agent;
 pub use apps::run_app;
+pub use masters::run_master;

@@ -1,4 +1,4 @@
-use Rattle.std.proofs.Common.{subst, ◌≡◌}
+use Rattle.std.proofs.Common.{subst}
 use Rattle.fuxi_terms.specs.Cluster.{machine_of}
 use Rattle.fuxi_terms.specs.Padded.{padded}
 use Rattle.written_roles.specs.Agents.{new_agent}

@@ -1,0 +1,44 @@
+-- A checkpoint at rest: what its file stands for.
+use Rattle.std.proofs.Common.{◌≡◌, refl, ℕ, zero, suc, ◌≤◌, Bool, true, false, cond, nat_lt, List, length, Option, Result, Ok, Err, sym, ◌∙◌, ap, arith}
+use Rattle.std.proofs.lemmas.Bool.Decides.{nat_tests}
+use Rattle.fuxi_io.specs.Disks.{Moment}
+use Rattle.fuxi_terms.specs.Limits.{most_records}
+use Rattle.written_roles.specs.HardState.{empty_hard}
+use Rattle.hard_state.specs.Checkpoints.{Closed, Damaged, Opened, body_at, found_at, found_body, is_open, read_file, read_from, read_on, record_size}
+use Rattle.hard_state.specs.HardFiles.{IsAtRest, Kept, opened_as, reads_as, records_of, taken, value_of}
+
+-- What is read from the first gate on is what the file stands for. A file of at most one byte has no whole record.
+module _ {S : Type 0} (taken : S → List ℕ → Option S) where
+  abbrev Answered : Type 0
+  Answered = Result (Opened S) ℕ
+
+  same_opened : (a b : Opened S) → ◌≡◌ {A = Answered} (Ok a) (Ok b) → a ≡ b
+  same_opened a b is = cc
+
+  short_found : (value : S) (file : List ℕ) → length file ≤ 1 → found_at taken value file ≡ cond (is_open file) Damaged Closed
+  short_found value file few =
+      let short : nat_lt (record_size file) (length file) ≡ false = grind (arith, nat_tests, few) in
+      ap (λ b. cond (is_open file) (cond b (found_body (taken value (body_at file)) (record_size file)) Damaged) Closed) short
+
+  short_reads : (most gate : ℕ) (value : S) (file : List ℕ) (o : Opened S) → length file ≤ 1 → read_on taken most gate value file ≡ Ok o → record { value = value; gate = gate } ≡ o
+  short_reads zero gate value file o few is = by (is_open file) is
+    where
+      by : (b : Bool) → cond b (Err gate) (Ok (record { value = value; gate = gate })) ≡ Ok o → record { value = value; gate = gate } ≡ o
+      by true is = absurd (cc)
+      by false is = same_opened _ o is
+  short_reads (suc left) gate value file o few is = by (is_open file) (sym (ap (read_from (read_on taken left) gate value file) (short_found value file few)) ∙ is)
+    where
+      by : (b : Bool) → read_from (read_on taken left) gate value file (cond b Damaged Closed) ≡ Ok o → record { value = value; gate = gate } ≡ o
+      by true is = absurd (cc)
+      by false is = same_opened _ o is
+
+  file_stands : (most : ℕ) (nothing : S) (file : List ℕ) (o : Opened S) → read_on taken most 0 nothing file ≡ Ok o → read_file taken most nothing file ≡ Ok o
+  file_stands most nothing file o is = by (nat_lt 1 (length file)) refl
+    where
+      by : (b : Bool) → nat_lt 1 (length file) ≡ b → cond b (read_on taken most 0 nothing file) (Ok (record { value = nothing; gate = 0 })) ≡ Ok o
+      by true long = is
+      by false short = let few : length file ≤ 1 = grind (arith, nat_tests, short) in ap Ok (short_reads most 0 nothing file o few is)
+
+pub rest_reads : (k : Kept) (m : Moment) → IsAtRest k m → records_of m.bytes ≡ Ok k.value
+unfolding reads_as records_of
+rest_reads k m rest = ap value_of (file_stands taken most_records empty_hard m.bytes (opened_as k) rest.reads)

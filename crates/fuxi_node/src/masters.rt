@@ -1,0 +1,79 @@
+//! The node of a master.
+
+ghost use Rattle.std.specs.Prelude.{◌≡◌, ◌≢◌, ◌⊎◌, ◌<◌, ◌≤◌, ℕ, length, false, Some, None, IfSome};
+ghost use Rattle.fuxi_io.specs.Causes.{Rose};
+ghost use Rattle.fuxi_io.specs.Disks.{WhereTold as WhereMoments};
+ghost use Rattle.fuxi_io.specs.Reading.{rest_of, read_ahead};
+ghost use Rattle.fuxi_terms.specs.Limits.{most_lines};
+ghost use Rattle.input_lines.specs.Wholes.{IsReady};
+ghost use Rattle.node_door.specs.Doors.{WhereTold};
+ghost use Rattle.fuxi_node.specs.Starts.{master_start};
+ghost use Rattle.fuxi_node.specs.Masters.{FileReads, MasterEnded, TellsFile, start_status};
+
+use cluster_desc::Cluster;
+use fuxi_io::{Disk, LimitOf, LineReader, LineStop, Sink, Source, Status};
+use fuxi_terms::limits::MOST_RECORDS;
+use hard_state::HardFault;
+use master_node::MasterNode;
+use node_door::Door;
+use node_run::{DiskFailed, run_node};
+use std::alloc::Global;
+
+// The status of a master that did not start.
+fn start_status(fault: HardFault) -> Status
+    ensures { result ≡ start_status fault }
+{
+    match fault {
+        HardFault::Stale { fence } => Status::StaleEpoch { fence },
+        HardFault::NotCheckpoint { offset } => Status::DamagedCheckpoint { offset },
+        HardFault::Full => Status::Limit {
+            what: LimitOf::Records,
+            kept: MOST_RECORDS,
+        },
+        HardFault::DiskFault => Status::DiskFault,
+        _ => Status::OutOfMemory,
+    }
+}
+
+/// Runs the master of an epoch of at least 1 over the lines behind that of the cluster, which is the last one that the reader gave. It
+/// opens the checkpoint and raises its fence before it takes a line, and is called by its agents and applications at the address, which has
+/// 1 to 255 bytes. The reader has not stopped.
+///
+/// `DiskFault`: the disk failed, at the start or at a line; the checkpoint has to be opened again. `DamagedCheckpoint`: what stands at this
+/// offset of the file is no record. `StaleEpoch`: the fence in the file is at least the epoch. `Limit` of records: the file has 65,536.
+/// With these three the file stands for what it stood for. The other statuses are those of [`crate::run_agent`].
+pub fn run_master<S: Source, O: Sink, D: Disk, N: Door>(
+    alloc: Global,
+    cluster: &Cluster,
+    epoch: u64,
+    addr: &[u8],
+    lines: &mut LineReader,
+    source: &mut S,
+    out: &mut O,
+    disk: &mut D,
+    door: &mut N,
+) -> Status
+    requires epoch { 0 < epoch }
+    requires some { 1 ≤ length addr.now }
+    requires short { length addr.now ≤ 255 }
+    requires stop { lines.old.stop ≢ Some LineStop.ReadFault }
+    requires ahead { length lines.old.pending ≤ read_ahead }
+    // What was written and what the door has been through, by the status. It is said of bytes that are known, and of a door that tells; what is said of the file, of a disk that tells.
+    ensures ended { IsReady lines.old (S.left source.old) → IfSome (rest_of lines.old (S.left source.old)) (λ bytes. WhereTold (MasterEnded (λ q. WhereMoments (λ before now. FileReads q now) (D.told disk.old) (D.told disk.new)) epoch (master_start cluster.now epoch addr.now lines.old.number) (D.told disk.old) bytes result (S.left source.new) (O.took out.old) (O.took out.new) (N.faults door.old) (N.faults door.new)) (N.told door.old) (N.told door.new)) }
+    ensures file { TellsFile epoch result (D.told disk.old) }
+    ensures unread { lines.old.ended ≡ false → result ≢ Status.ReadFault }
+    ensures read { result ≡ Status.ReadFault → Rose (S.faults source.old) (S.faults source.new) }
+    ensures write { result ≡ Status.WriteFault → Rose (O.faults out.old) (O.faults out.new) }
+    ensures disk { result ≡ Status.DiskFault → Rose (D.faults disk.old) (D.faults disk.new) }
+    ensures limit { lines.old.stop ≡ None → (what : LimitOf) (kept : ℕ) → result ≡ Status.Limit what kept → (what ≡ LimitOf.Records) ⊎ ((what ≡ LimitOf.Lines) × (kept ≡ most_lines)) }
+    ensures usage { result ≢ Status.Usage }
+{
+    let node = match MasterNode::open(alloc, cluster, epoch, disk) {
+        Ok(node) => node,
+        Err(fault) => return start_status(fault),
+    };
+    match run_node(alloc, node, addr, lines, source, out, door, disk) {
+        Ok(status) => status,
+        Err(DiskFailed) => Status::DiskFault,
+    }
+}
