@@ -1,6 +1,7 @@
 use crate::edges::{Drops, Narrow};
 use fuxi_command::fuxi;
-use fuxi_io::{MemSink, MemSource, Sink, Source, Status};
+use fuxi_io::{MemDisk, MemSink, MemSource, Sink, Source, Status};
+use node_door::MemDoor;
 use std::alloc::{AllocError, Global};
 
 const CLUSTER: &str =
@@ -44,6 +45,19 @@ fn source(alloc: Global, bytes: Vec<u8>, fail: u64) -> Result<MemSource, AllocEr
     Ok(MemSource::of(bytes, Vec::from_slice(alloc, &[fail])?))
 }
 
+// Runs a command that is no node: its disk and its door would fail.
+fn command<S: Source, O: Sink, E: Sink>(
+    alloc: Global,
+    words: &[String],
+    input: &mut S,
+    out: &mut O,
+    err: &mut E,
+) -> Result<Status, AllocError> {
+    let mut disk = MemDisk::of(alloc, Vec::new(alloc), Vec::from_slice(alloc, &[1])?);
+    let mut door = MemDoor::of(alloc, Vec::new(alloc), Vec::from_slice(alloc, &[1])?);
+    Ok(fuxi(alloc, words, input, out, err, &mut disk, &mut door))
+}
+
 fn replay<S: Source, O: Sink, E: Sink>(
     alloc: Global,
     input: &mut S,
@@ -51,7 +65,7 @@ fn replay<S: Source, O: Sink, E: Sink>(
     err: &mut E,
 ) -> Result<Status, AllocError> {
     let words = Vec::from_array(alloc, [String::from_str(alloc, "replay")?])?;
-    Ok(fuxi(alloc, &words, input, out, err))
+    command(alloc, &words, input, out, err)
 }
 
 fn shown(alloc: Global, status: &Status, out: &[u8], err: &[u8]) -> Result<String, AllocError> {
@@ -91,7 +105,7 @@ pub fn words(alloc: Global, rest: &str) -> Result<String, AllocError> {
     }
     let mut input = source(alloc, Vec::new(alloc), 1)?;
     let (mut out, mut err) = (MemSink::of(alloc, Vec::new(alloc)), sink(alloc, 0)?);
-    let status = fuxi(alloc, &words, &mut input, &mut out, &mut err);
+    let status = command(alloc, &words, &mut input, &mut out, &mut err)?;
     shown(alloc, &status, out.bytes(), err.bytes())
 }
 
@@ -105,7 +119,7 @@ pub fn storm(alloc: Global, rest: &str) -> Result<String, AllocError> {
     }
     let mut input = source(alloc, Vec::new(alloc), 1)?;
     let (mut out, mut err) = (sink(alloc, fail.parse().unwrap_or(0))?, sink(alloc, 0)?);
-    let status = fuxi(alloc, &words, &mut input, &mut out, &mut err);
+    let status = command(alloc, &words, &mut input, &mut out, &mut err)?;
     shown(alloc, &status, out.bytes(), err.bytes())
 }
 

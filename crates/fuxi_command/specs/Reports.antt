@@ -4,11 +4,11 @@ use Rattle.std.specs.Io.KnownBytes.{Appends}
 use Rattle.fuxi_io.specs.Causes.{Rose, TakesPart}
 use Rattle.fuxi_io.specs.Statuses.{word_of}
 use Rattle.fuxi_io.specs.declared.status.InputFault.{InputFault}
-use Rattle.fuxi_io.specs.declared.status.InputFault.TheVariants.{UnknownWord, WrongCount, BadNumber, Range, LineTooLong, NoCluster, NotJson, WrongKind, UnknownKey, MissingKey, Count, LengthDiffers, QuantityRange, QuotaOverLimit}
+use Rattle.fuxi_io.specs.declared.status.InputFault.TheVariants.{UnknownWord, WrongCount, BadNumber, Range, LineTooLong, NoCluster, NotJson, WrongKind, UnknownKey, MissingKey, Count, LengthDiffers, QuantityRange, QuotaOverLimit, NoMachine}
 use Rattle.fuxi_io.specs.declared.status.LimitOf.{LimitOf}
-use Rattle.fuxi_io.specs.declared.status.LimitOf.TheVariants.{Lines, Packets, Bytes}
+use Rattle.fuxi_io.specs.declared.status.LimitOf.TheVariants.{Lines, Packets, Bytes, Records}
 use Rattle.fuxi_io.specs.declared.status.Status.{Status}
-use Rattle.fuxi_io.specs.declared.status.Status.TheVariants.{Done, Usage, BadInput, ReadFault, WriteFault, Limit, OutOfMemory}
+use Rattle.fuxi_io.specs.declared.status.Status.TheVariants.{Done, Usage, BadInput, ReadFault, WriteFault, Limit, OutOfMemory, DiskFault, StaleEpoch, DamagedCheckpoint}
 
 abbrev pub fault_name : InputFault → List ℕ
 fault_name UnknownWord = codes "UnknownWord"
@@ -25,6 +25,7 @@ fault_name (Count key) = codes "Count"
 fault_name LengthDiffers = codes "LengthDiffers"
 fault_name QuantityRange = codes "QuantityRange"
 fault_name (QuotaOverLimit group) = codes "QuotaOverLimit"
+fault_name NoMachine = codes "NoMachine"
 
 -- the word's place, the key's word or the group's number, behind a blank
 abbrev pub fault_value : InputFault → List ℕ
@@ -42,20 +43,25 @@ fault_value (Count key) = codes " " ++ word_of key
 fault_value LengthDiffers = []
 fault_value QuantityRange = []
 fault_value (QuotaOverLimit group) = codes " " ++ decimal group
+fault_value NoMachine = []
 
 abbrev pub limit_word : LimitOf → List ℕ
 limit_word Lines = codes "lines"
 limit_word Packets = codes "packets"
 limit_word Bytes = codes "bytes"
+limit_word Records = codes "records"
 
 abbrev pub report_line : Status → List ℕ
 report_line Done = []
-report_line Usage = codes "usage: fuxi replay | storm SEED STEPS\n"
+report_line Usage = codes "usage: fuxi replay | storm SEED STEPS | node master EPOCH ADDR | node agent MACHINE BOOT ADDR | node app APP BOOT UNITS ADDR\n"
 report_line (BadInput line fault) = codes "line " ++ decimal line ++ codes ": " ++ fault_name fault ++ fault_value fault ++ codes "\n"
 report_line ReadFault = codes "read fault\n"
 report_line WriteFault = codes "write fault\n"
 report_line (Limit what kept) = codes "limit " ++ limit_word what ++ codes " " ++ decimal kept ++ codes "\n"
 report_line OutOfMemory = codes "out of memory\n"
+report_line DiskFault = codes "disk fault\n"
+report_line (StaleEpoch fence) = codes "stale epoch " ++ decimal fence ++ codes "\n"
+report_line (DamagedCheckpoint offset) = codes "damaged checkpoint " ++ decimal offset ++ codes "\n"
 
 -- a sink took the line, or, where it failed, a part from its front
 abbrev pub TakesReport : List ℕ → Option (List ℕ) → Option (List ℕ) → ℕ → ℕ → Type 0

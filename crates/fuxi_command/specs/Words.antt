@@ -1,5 +1,5 @@
 -- The words of a command line, and those that are a command.
-use Rattle.std.specs.Prelude.{◌≡◌, ◌≢◌, ◌⊎◌, ℕ, Bool, cond, nat_lt, List, [], ◌∷◌, drop, codes, Option, Some, None, is_some, Result, Ok, Err}
+use Rattle.std.specs.Prelude.{◌≡◌, ◌≢◌, ◌⊎◌, ◌≤◌, ⊤, ℕ, Bool, true, false, ◌&&◌, ◌||◌, cond, nat_eq, nat_lt, List, [], ◌∷◌, length, drop, codes, Option, Some, None, is_some, Result, Ok, Err}
 use Rattle.std.specs.Str.{bytes_eq}
 use Rattle.std.specs.Vec.Iter.{into_iter_items}
 use Rattle.std.specs.declared.vec.IntoIter.{IntoIter}
@@ -11,25 +11,82 @@ use Rattle.fuxi_io.specs.declared.status.Status.{Status}
 use Rattle.fuxi_io.specs.declared.status.Status.TheVariants.{Usage, OutOfMemory}
 use Rattle.schedule_unit.specs.Numbers.{number_of}
 use Rattle.storm_run.specs.Storms.{most_storm_steps}
-use Rattle.fuxi_command.specs.declared.words.Command.{Command}
-use Rattle.fuxi_command.specs.declared.words.Command.TheVariants.{Replay, Storm}
+use Rattle.node_command.specs.Inputs.{IsKind}
+use Rattle.node_command.specs.declared.kind.NodeKind.{NodeKind}
+use Rattle.node_command.specs.declared.kind.NodeKind.TheVariants.{Master, Agent, App}
+use Rattle.fuxi_command.specs.declared.words.Command.{Command as Parsed}
+use Rattle.fuxi_command.specs.declared.words.Command.TheVariants as parsed
 
--- a storm of this seed with so many steps, where both words are numbers and the steps are not too many
+-- a schedule that is replayed, a storm of a seed with so many steps, or a node and the address of its connections
+pub data Command : Type 0 where
+  Replay : Command
+  Storm : (seed steps : ℕ) → Command
+  Node : (kind : NodeKind) → (addr : List ℕ) → Command
+
+-- a storm, where both words are numbers and the steps are not too many
 abbrev pub storm_of_words : Option ℕ → Option ℕ → Option Command
 storm_of_words (Some seed) (Some steps) = cond (nat_lt most_storm_steps steps) None (Some (Storm seed steps))
 storm_of_words (Some seed) None = None
 storm_of_words None steps = None
 
--- the command that words are, where they are one: `replay`, or `storm` and two numbers
+-- Nodes, where all words are numbers within the limits: an epoch of at least 1;
+abbrev pub master_of : Option ℕ → Option NodeKind
+master_of (Some epoch) = cond (nat_eq epoch 0) None (Some (Master epoch))
+master_of None = None
+
+-- a machine that is at most 255, and a boot of at least 1;
+abbrev pub agent_of : Option ℕ → Option ℕ → Option NodeKind
+agent_of (Some machine) (Some boot) = cond (nat_lt 255 machine || nat_eq boot 0) None (Some (Agent (record { 0 = machine }) boot))
+agent_of (Some machine) None = None
+agent_of None boot = None
+
+-- a job that is at most 255, a boot of at least 1, and 1 to 8 units
+abbrev pub app_of : Option ℕ → Option ℕ → Option ℕ → Option NodeKind
+app_of (Some app) (Some boot) (Some units) = cond ((nat_lt 255 app || nat_eq boot 0) || (nat_eq units 0 || nat_lt 8 units)) None (Some (App (record { 0 = app }) boot units))
+app_of (Some app) (Some boot) None = None
+app_of (Some app) None units = None
+app_of None boot units = None
+
+-- with an address of 1 to 255 bytes
+abbrev pub node_at : List ℕ → Option NodeKind → Option Command
+node_at addr (Some kind) = cond (nat_eq (length addr) 0 || nat_lt 255 (length addr)) None (Some (Node kind addr))
+node_at addr None = None
+
+-- The command that words are, where they are one: `replay`; `storm` and two numbers; or `node` and a kind of party, its numbers, and an address
 abbrev pub command_of : List (List ℕ) → Option Command
 command_of [] = None
 command_of (word ∷ []) = cond (bytes_eq word (codes "replay")) (Some Replay) None
-command_of (word ∷ seed ∷ []) = None
+command_of (word ∷ second ∷ []) = None
 command_of (word ∷ seed ∷ steps ∷ []) = cond (bytes_eq word (codes "storm")) (storm_of_words (number_of seed) (number_of steps)) None
-command_of (word ∷ seed ∷ steps ∷ more ∷ words) = None
+command_of (word ∷ party ∷ epoch ∷ addr ∷ []) = cond (bytes_eq word (codes "node") && bytes_eq party (codes "master")) (node_at addr (master_of (number_of epoch))) None
+command_of (word ∷ party ∷ machine ∷ boot ∷ addr ∷ []) = cond (bytes_eq word (codes "node") && bytes_eq party (codes "agent")) (node_at addr (agent_of (number_of machine) (number_of boot))) None
+command_of (word ∷ party ∷ app ∷ boot ∷ units ∷ addr ∷ []) = cond (bytes_eq word (codes "node") && bytes_eq party (codes "app")) (node_at addr (app_of (number_of app) (number_of boot) (number_of units))) None
+command_of (word ∷ party ∷ app ∷ boot ∷ units ∷ addr ∷ more ∷ words) = None
 
 abbrev pub is_command : List (List ℕ) → Bool
 is_command words = is_some (command_of words)
+
+abbrev pub is_node : Option Command → Bool
+is_node (Some (Node kind addr)) = true
+is_node (Some Replay) = false
+is_node (Some (Storm seed steps)) = false
+is_node None = false
+
+-- the words are those of a master's node, which alone has a file
+abbrev pub has_file : Option Command → Bool
+has_file (Some (Node (Master epoch) addr)) = true
+has_file (Some (Node (Agent machine boot) addr)) = false
+has_file (Some (Node (App app boot units) addr)) = false
+has_file (Some Replay) = false
+has_file (Some (Storm seed steps)) = false
+has_file None = false
+
+-- the command as it was parsed
+abbrev pub as_command : Option Parsed → Option Command
+as_command None = None
+as_command (Some parsed.Replay) = Some Replay
+as_command (Some (parsed.Storm seed steps)) = Some (Storm seed steps)
+as_command (Some (parsed.Node kind addr)) = Some (Node kind addr.now)
 
 -- the words are the arguments behind the program's name
 abbrev pub HasWords : {X Z : Type 0} → Result (IntoIter X Z) Error → List X → Type 0
@@ -44,3 +101,9 @@ NoWords kind status = ((kind ≡ NoMemory) × (status ≡ OutOfMemory)) ⊎ ((ki
 abbrev pub WhyNoWords : {X Z : Type 0} → Result (IntoIter X Z) Error → Status → Type 0
 WhyNoWords (Ok args) status = status ≡ OutOfMemory
 WhyNoWords (Err error) status = NoWords (error_kind error) status
+
+-- its numbers and its address are within the limits
+abbrev pub AreWithin : Parsed → Type 0
+AreWithin parsed.Replay = ⊤
+AreWithin (parsed.Storm seed steps) = steps ≤ most_storm_steps
+AreWithin (parsed.Node kind addr) = IsKind kind × (1 ≤ length addr.now) × (length addr.now ≤ 255)

@@ -1,17 +1,22 @@
-ghost use Rattle.std.specs.Prelude.{◌≡◌, ◌≢◌, ◌↔◌, ◌++◌, IfOk, IfErr, IfSome, ℕ, Some, true, false, map, string_bytes};
+ghost use Rattle.std.specs.Prelude.{◌≡◌, ◌↔◌, IfOk, IfErr, IfSome, ℕ, List, Some, false, map, string_bytes};
 ghost use Rattle.std.specs.Process.{exit_status};
 ghost use Rattle.std.specs.IoError.{error_kind};
 ghost use Rattle.fuxi_io.specs.Statuses.{code_of};
 ghost use Rattle.schedule_run.specs.Runs.{read_from, Ended};
 ghost use Rattle.schedule_run.specs.Told.{IsText, Writes};
 ghost use Rattle.fuxi_command.specs.Storms.{IsStorm};
-ghost use Rattle.fuxi_command.specs.Words.{command_of, is_command, HasWords, NoWords, WhyNoWords};
-ghost use Rattle.fuxi_command.specs.declared.words.Command.TheVariants as Command;
+ghost use Rattle.fuxi_command.specs.Words.{Node, Replay, Storm, command_of, has_file, is_command, HasWords, NoWords, WhyNoWords};
+ghost use Rattle.node_command.specs.declared.kind.NodeKind.{NodeKind};
+ghost use Rattle.node_command.specs.Inputs.{InputEnded};
+ghost use Rattle.node_door.specs.Doors.{WhereTold};
 ghost use Rattle.fuxi_command.specs.Reports.{report_line, TakesReport};
 
 use crate::telling::report;
 use crate::top::fuxi;
-use fuxi_io::{Sink, Source, Status};
+use crate::words::{Command, command_of};
+use fuxi_io::{Disk, Sink, Source, Status};
+use node_command::NodeKind;
+use node_door::Door;
 use std::alloc::Global;
 use std::env::Args;
 use std::io;
@@ -49,25 +54,55 @@ pub fn words_of(alloc: Global, args: io::Result<Args>) -> Result<Vec<String>, St
     Ok(words)
 }
 
+/// Whether the words are those of a master's node, which alone has a file.
+pub fn wants_file(words: &Result<Vec<String>, Status>) -> bool
+    ensures ok { IfOk words.now (λ words. result ≡ has_file (command_of (map string_bytes words.items))) }
+    ensures err { IfErr words.now (λ status. result ≡ false) }
+{
+    match words {
+        Ok(words) => is_master(words),
+        Err(_) => false,
+    }
+}
+
+fn is_master(words: &[String]) -> bool
+    ensures { result ≡ has_file (command_of (map string_bytes words.now)) }
+{
+    match command_of(words) {
+        Some(
+            Command::Node {
+                kind: NodeKind::Master { .. },
+                ..
+            },
+        ) => true,
+        _ => false,
+    }
+}
+
 /// Runs the command of the words, or tells on the error stream why there are none.
-pub fn run<S: Source, O: Sink, E: Sink>(
+pub fn run<S: Source, O: Sink, E: Sink, D: Disk, N: Door>(
     alloc: Global,
     words: Result<Vec<String>, Status>,
     input: &mut S,
     out: &mut O,
     err: &mut E,
+    disk: &mut D,
+    door: &mut N,
 ) -> Status
     // Without words the status is that of their want, and nothing was read or written but the line that tells it.
-    ensures none { IfErr words (λ status. (result ≡ status) × (input.new ≡ input.old) × (out.new ≡ out.old)) }
+    ensures none { IfErr words (λ status. (result ≡ status) × (input.new ≡ input.old) × (out.new ≡ out.old) × (disk.new ≡ disk.old) × (door.new ≡ door.old)) }
     // With words it is what `fuxi` makes of them.
     ensures usage { IfOk words (λ words. result ≡ Status.Usage ↔ (is_command (map string_bytes words.items) ≡ false)) }
-    ensures text { IfOk words (λ words. command_of (map string_bytes words.items) ≡ Some Command.Replay → result ≡ Status.Done → IfSome (S.left input.old) (λ bytes. Writes (IsText bytes) (O.took out.old) (O.took out.new))) }
-    ensures ended { IfOk words (λ words. command_of (map string_bytes words.items) ≡ Some Command.Replay → IfSome (S.left input.old) (λ bytes. Ended (read_from 0) bytes result (S.left input.new) (O.took out.old) (O.took out.new))) }
-    ensures storm { IfOk words (λ words. (seed steps : ℕ) → command_of (map string_bytes words.items) ≡ Some (Command.Storm seed steps) → result ≡ Status.Done → Writes (IsStorm seed steps) (O.took out.old) (O.took out.new)) }
+    ensures text { IfOk words (λ words. command_of (map string_bytes words.items) ≡ Some Replay → result ≡ Status.Done → IfSome (S.left input.old) (λ bytes. Writes (IsText bytes) (O.took out.old) (O.took out.new))) }
+    ensures ended { IfOk words (λ words. command_of (map string_bytes words.items) ≡ Some Replay → IfSome (S.left input.old) (λ bytes. Ended (read_from 0) bytes result (S.left input.new) (O.took out.old) (O.took out.new))) }
+    ensures storm { IfOk words (λ words. (seed steps : ℕ) → command_of (map string_bytes words.items) ≡ Some (Storm seed steps) → result ≡ Status.Done → Writes (IsStorm seed steps) (O.took out.old) (O.took out.new)) }
+    ensures node { IfOk words (λ words. (kind : NodeKind) (addr : List ℕ) → command_of (map string_bytes words.items) ≡ Some (Node kind addr) → IfSome (S.left input.old) (λ bytes.
+        WhereTold (InputEnded kind addr (D.told disk.old) (D.told disk.new) bytes result (S.left input.new) (O.took out.old) (O.took out.new) (N.faults door.old) (N.faults door.new)) (N.told door.old) (N.told door.new))) }
+    ensures no_file { IfOk words (λ words. has_file (command_of (map string_bytes words.items)) ≡ false → disk.new ≡ disk.old) }
     ensures report { TakesReport (report_line result) (E.took err.old) (E.took err.new) (E.faults err.old) (E.faults err.new) }
 {
     match words {
-        Ok(words) => fuxi(alloc, &words, input, out, err),
+        Ok(words) => fuxi(alloc, &words, input, out, err, disk, door),
         Err(status) => {
             let _told = report(err, &status);
             status

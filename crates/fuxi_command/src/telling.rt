@@ -1,26 +1,15 @@
-ghost use Rattle.std.specs.Prelude.{◌≡◌, ◌++◌, ◌+◌, ◌≤◌, OnOk, OnErr, List, ℕ, codes, decimal, map};
-ghost use Rattle.std.specs.List.{concat};
+ghost use Rattle.std.specs.Prelude.{◌≡◌, ◌++◌, OnOk, OnErr, codes, decimal};
 ghost use Rattle.std.specs.Io.KnownBytes.{Appends};
 ghost use Rattle.fuxi_io.specs.Causes.{HasCause, TakesPart};
-ghost use Rattle.fuxi_command.specs.Reports.{fault_name, fault_value, limit_word, report_line, TakesReport};
+ghost use Rattle.fuxi_command.specs.Reports.{fault_name, fault_value, limit_word, report_line};
 
 use fuxi_io::{InputFault, LimitOf, Sink, Status, WriteFault, write_all_of};
 use itoa::Buffer;
+use output_pieces::write_pieces;
 
-// Writes pieces one after another.
-fn write_pieces<E: Sink>(err: &mut E, pieces: &[&[u8]]) -> Result<(), WriteFault>
-    ensures ok { OnOk result (Appends (E.took err.old) (E.took err.new) (concat (map (λ piece. piece.now) pieces.now))) }
-    ensures err { OnErr result (TakesPart (E.took err.old) (E.took err.new) (concat (map (λ piece. piece.now) pieces.now))) }
-    ensures cause { HasCause (E.faults err.old) (E.faults err.new) result }
-{
-    for piece in pieces {
-        match write_all_of(err, piece) {
-            Ok(()) => {}
-            Err(fault) => return Err(fault),
-        }
-    }
-    Ok(())
-}
+// The commands, as they are told where words are none.
+const USAGE: &[u8] =
+    b"usage: fuxi replay | storm SEED STEPS | node master EPOCH ADDR | node agent MACHINE BOOT ADDR | node app APP BOOT UNITS ADDR\n";
 
 fn fault_name(fault: &InputFault) -> &'static str
     ensures { result.now ≡ fault_name fault.now }
@@ -40,6 +29,7 @@ fn fault_name(fault: &InputFault) -> &'static str
         InputFault::LengthDiffers => "LengthDiffers",
         InputFault::QuantityRange => "QuantityRange",
         InputFault::QuotaOverLimit(_) => "QuotaOverLimit",
+        InputFault::NoMachine => "NoMachine",
     }
 }
 
@@ -65,7 +55,18 @@ fn limit_word(what: &LimitOf) -> &'static str
         LimitOf::Lines => "lines",
         LimitOf::Packets => "packets",
         LimitOf::Bytes => "bytes",
+        LimitOf::Records => "records",
     }
+}
+
+// Writes a line that ends with a number.
+fn write_number<E: Sink>(err: &mut E, words: &[u8], number: u64) -> Result<(), WriteFault>
+    ensures ok { OnOk result (Appends (E.took err.old) (E.took err.new) (words.now ++ decimal number ++ codes "\n")) }
+    ensures err { OnErr result (TakesPart (E.took err.old) (E.took err.new) (words.now ++ decimal number ++ codes "\n")) }
+    ensures cause { HasCause (E.faults err.old) (E.faults err.new) result }
+{
+    let mut buffer = Buffer::new();
+    write_pieces(err, &[words, buffer.format(number).as_bytes(), b"\n"])
 }
 
 /// Writes the line that tells of an outcome, in pieces; `Done` has none. It takes no memory.
@@ -76,7 +77,7 @@ pub fn report<E: Sink>(err: &mut E, status: &Status) -> Result<(), WriteFault>
 {
     match status {
         Status::Done => Ok(()),
-        Status::Usage => write_all_of(err, b"usage: fuxi replay | storm SEED STEPS\n"),
+        Status::Usage => write_all_of(err, USAGE),
         Status::BadInput { line, fault } => {
             let mut number = Buffer::new();
             let mut buffer = Buffer::new();
@@ -111,5 +112,8 @@ pub fn report<E: Sink>(err: &mut E, status: &Status) -> Result<(), WriteFault>
             )
         }
         Status::OutOfMemory => write_all_of(err, b"out of memory\n"),
+        Status::DiskFault => write_all_of(err, b"disk fault\n"),
+        Status::StaleEpoch { fence } => write_number(err, b"stale epoch ", *fence),
+        Status::DamagedCheckpoint { offset } => write_number(err, b"damaged checkpoint ", *offset),
     }
 }

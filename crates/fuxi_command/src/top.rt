@@ -1,4 +1,4 @@
-ghost use Rattle.std.specs.Prelude.{◌≡◌, ◌≢◌, ◌+◌, ◌≤◌, ◌⊎◌, ◌↔◌, ℕ, List, [], Option, Some, None, IfSome, true, false, map, string_bytes, take};
+ghost use Rattle.std.specs.Prelude.{◌≡◌, ◌≢◌, ◌+◌, ◌≤◌, ◌⊎◌, ◌↔◌, ℕ, List, [], Option, Some, None, Err, IfSome, true, false, map, string_bytes, take};
 ghost use Rattle.std.specs.List.{concat};
 ghost use Rattle.std.specs.Io.KnownBytes.{Appends};
 ghost use Rattle.fuxi_io.specs.Causes.{Rose};
@@ -12,13 +12,22 @@ ghost use Rattle.fuxi_command.specs.States.{AllCountOnce};
 ghost use Rattle.storm_run.specs.Runs.{IsLimit, StormEnded};
 ghost use Rattle.storm_run.specs.Summaries.{storm_of};
 ghost use Rattle.fuxi_command.specs.Storms.{IsStorm, WritesPart};
-ghost use Rattle.fuxi_command.specs.Words.{command_of, is_command};
+ghost use Rattle.fuxi_command.specs.Words.{Node, Replay, Storm, command_of, has_file, is_command, is_node};
+ghost use Rattle.node_command.specs.declared.kind.NodeKind.{NodeKind};
+ghost use Rattle.node_command.specs.declared.kind.NodeKind.TheVariants.{Master};
+ghost use Rattle.node_command.specs.Inputs.{InputEnded, IsDiskless, IsWhole, MayStart, TellsDisk};
+ghost use Rattle.node_door.specs.Doors.{Told, WhereTold};
+ghost use Rattle.fuxi_node.specs.Masters.{RefusesEpoch};
+ghost use Rattle.hard_state.specs.HardFiles.{records_of};
+ghost use Rattle.written_roles.specs.Refusals.{NotRising, HardFull};
 ghost use Rattle.fuxi_command.specs.Reports.{report_line, TakesReport};
-ghost use Rattle.fuxi_terms.specs.Limits.{most_lines};
+ghost use Rattle.fuxi_terms.specs.Limits.{most_lines, most_records};
 
 use crate::telling::report;
 use crate::words::{Command, command_of};
-use fuxi_io::{InputFault, LimitOf, LineReader, Sink, Source, Status};
+use fuxi_io::{Disk, InputFault, LimitOf, LineReader, Sink, Source, Status};
+use node_command::{NodeKind, run_input};
+use node_door::Door;
 use schedule_run::{run_schedule, runs_are_told};
 use std::alloc::Global;
 use storm_run::run_storm;
@@ -27,6 +36,7 @@ use written_world::{always_safe, give_backs_are_credited_once};
 // Runs a schedule.
 fn run_replay<S: Source, O: Sink>(alloc: Global, input: &mut S, out: &mut O) -> Status
     ensures usage { result ≢ Status.Usage }
+    ensures diskless { IsDiskless result }
     ensures ended { IfSome (S.left input.old) (λ bytes. Ended (read_from 0) bytes result (S.left input.new) (O.took out.old) (O.took out.new)) }
     ensures read { result ≡ Status.ReadFault → Rose (S.faults input.old) (S.faults input.new) }
     ensures write { result ≡ Status.WriteFault → Rose (O.faults out.old) (O.faults out.new) }
@@ -46,54 +56,71 @@ fn run_replay<S: Source, O: Sink>(alloc: Global, input: &mut S, out: &mut O) -> 
 }
 
 // Runs the command of the words.
-fn run_command<S: Source, O: Sink>(
+fn run_command<S: Source, O: Sink, D: Disk, N: Door>(
     alloc: Global,
     words: &[String],
     input: &mut S,
     out: &mut O,
+    disk: &mut D,
+    door: &mut N,
 ) -> Status
     ensures usage { result ≡ Status.Usage ↔ (is_command (map string_bytes words.now) ≡ false) }
     ensures unused { result ≡ Status.Usage → (out.new ≡ out.old) × (input.new ≡ input.old) }
     ensures read { result ≡ Status.ReadFault → Rose (S.faults input.old) (S.faults input.new) }
     ensures write { result ≡ Status.WriteFault → Rose (O.faults out.old) (O.faults out.new) }
-    ensures ended { command_of (map string_bytes words.now) ≡ Some Command.Replay → IfSome (S.left input.old) (λ bytes. Ended (read_from 0) bytes result (S.left input.new) (O.took out.old) (O.took out.new)) }
+    ensures ended { command_of (map string_bytes words.now) ≡ Some Replay → IfSome (S.left input.old) (λ bytes. Ended (read_from 0) bytes result (S.left input.new) (O.took out.old) (O.took out.new)) }
     ensures limit { (kept : ℕ) → result ≡ Status.Limit LimitOf.Lines kept → kept ≡ most_lines }
-    ensures text { command_of (map string_bytes words.now) ≡ Some Command.Replay → result ≡ Status.Done → IfSome (S.left input.old) (λ bytes. Writes (IsText bytes) (O.took out.old) (O.took out.new)) }
-    ensures bad_text { command_of (map string_bytes words.now) ≡ Some Command.Replay → (line : ℕ) (fault : InputFault) → result ≡ Status.BadInput line fault
+    ensures text { command_of (map string_bytes words.now) ≡ Some Replay → result ≡ Status.Done → IfSome (S.left input.old) (λ bytes. Writes (IsText bytes) (O.took out.old) (O.took out.new)) }
+    ensures bad_text { command_of (map string_bytes words.now) ≡ Some Replay → (line : ℕ) (fault : InputFault) → result ≡ Status.BadInput line fault
         → IfSome (S.left input.old) (λ bytes. Writes (IsTextBefore bytes line fault) (O.took out.old) (O.took out.new)) }
-    ensures limited_text { command_of (map string_bytes words.now) ≡ Some Command.Replay → (what : LimitOf) (kept : ℕ) → result ≡ Status.Limit what kept
+    ensures limited_text { command_of (map string_bytes words.now) ≡ Some Replay → (what : LimitOf) (kept : ℕ) → result ≡ Status.Limit what kept
         → IfSome (S.left input.old) (λ bytes. Writes (IsFrontText bytes) (O.took out.old) (O.took out.new)) }
-    ensures storm { (seed steps : ℕ) → command_of (map string_bytes words.now) ≡ Some (Command.Storm seed steps)
+    ensures storm { (seed steps : ℕ) → command_of (map string_bytes words.now) ≡ Some (Storm seed steps)
         → (input.new ≡ input.old) × StormEnded (storm_of seed steps) result (O.took out.old) (O.took out.new) }
+    ensures no_file { has_file (command_of (map string_bytes words.now)) ≡ false → disk.new ≡ disk.old }
+    ensures no_door { is_node (command_of (map string_bytes words.now)) ≡ false → door.new ≡ door.old }
+    ensures diskless { has_file (command_of (map string_bytes words.now)) ≡ false → IsDiskless result }
+    ensures disk { result ≡ Status.DiskFault → Rose (D.faults disk.old) (D.faults disk.new) }
+    ensures told { (kind : NodeKind) (addr : List ℕ) → command_of (map string_bytes words.now) ≡ Some (Node kind addr) → TellsDisk kind result (D.told disk.old) }
+    ensures node { (kind : NodeKind) (addr : List ℕ) → command_of (map string_bytes words.now) ≡ Some (Node kind addr) → IfSome (S.left input.old) (λ bytes.
+        WhereTold (InputEnded kind addr (D.told disk.old) (D.told disk.new) bytes result (S.left input.new) (O.took out.old) (O.took out.new) (N.faults door.old) (N.faults door.new)) (N.told door.old) (N.told door.new)) }
+    ensures complete { (kind : NodeKind) (addr : List ℕ) → command_of (map string_bytes words.now) ≡ Some (Node kind addr) → (bytes : List ℕ) (t : Told) → S.left input.old ≡ Some bytes → N.told door.old ≡ Some t
+        → IsWhole kind bytes → MayStart kind (D.told disk.old) → (Rose (S.faults input.old) (S.faults input.new) → ⊥) → (Rose (O.faults out.old) (O.faults out.new) → ⊥) → (Rose (D.faults disk.old) (D.faults disk.new) → ⊥)
+        → (result ≡ Status.Done) ⊎ (result ≡ Status.OutOfMemory) }
 {
     match command_of(words) {
         None => Status::Usage,
         Some(Command::Replay) => run_replay(alloc, input, out),
         Some(Command::Storm { seed, steps }) => run_storm(alloc, seed, steps, out),
+        Some(Command::Node { kind, addr }) => run_input(alloc, kind, addr, input, out, disk, door),
     }
 }
 
 /// The program: runs the command of the words (those behind the program's name) over an input, an output
-/// and an error stream, and answers how it ended. The error stream takes the line that tells of it; a
+/// and an error stream, a disk and a door, and answers how it ended. The error stream takes the line that tells of it; a
 /// failure of that stream changes nothing else.
 ///
 /// `replay` runs the lines of the input and writes the text of each event after it, and at the end of the
-/// input the state. `storm SEED STEPS` runs a storm and writes its summary; it reads nothing. What is said of the output holds of an input and an
-/// output that tell their bytes.
+/// input the state. `storm SEED STEPS` runs a storm and writes its summary; it reads nothing. `node` runs one party of a cluster over the lines
+/// of the input, and meets its peers through the door: `node master EPOCH ADDR` is called at the address and keeps its hard state on the disk,
+/// `node agent MACHINE BOOT ADDR` and `node app APP BOOT UNITS ADDR` dial it. What is said of the output holds of an input and an
+/// output that tell their bytes, and of nodes of a door that does, and of a disk that does.
 #[tactic(auto, using(crate::proofs::States::all_count_once))]
-pub fn fuxi<S: Source, O: Sink, E: Sink>(
+pub fn fuxi<S: Source, O: Sink, E: Sink, D: Disk, N: Door>(
     alloc: Global,
     words: &[String],
     input: &mut S,
     out: &mut O,
     err: &mut E,
+    disk: &mut D,
+    door: &mut N,
 ) -> Status
     // The words are no command, and nothing was read or written.
     ensures usage { result ≡ Status.Usage ↔ (is_command (map string_bytes words.now) ≡ false) }
     ensures unused { result ≡ Status.Usage → (out.new ≡ out.old) × (input.new ≡ input.old) }
 
     // Of `replay`. Done: the input is a cluster and events, and exactly their text was written, the lines of the events and then the state.
-    ensures text { command_of (map string_bytes words.now) ≡ Some Command.Replay → result ≡ Status.Done → IfSome (S.left input.old) (λ bytes. Writes (IsText bytes) (O.took out.old) (O.took out.new)) }
+    ensures text { command_of (map string_bytes words.now) ≡ Some Replay → result ≡ Status.Done → IfSome (S.left input.old) (λ bytes. Writes (IsText bytes) (O.took out.old) (O.took out.new)) }
 
     // In every state of a run, behind each of its events: each agent's table fits its machine;
     ensures capacity { IfSome (S.left input.old) (λ bytes. (i : Input) → LeadsTo bytes i → (n : ℕ) → AllFit (run i.cluster (take n i.events))) }
@@ -114,66 +141,88 @@ pub fn fuxi<S: Source, O: Sink, E: Sink>(
     ensures credited { IfSome (S.left input.old) (λ bytes. (i : Input) → LeadsTo bytes i → AllCreditedOnce i.cluster i.events) }
 
     // The input was read to its end, and the outputs of all its lines and the state were written.
-    ensures done { command_of (map string_bytes words.now) ≡ Some Command.Replay → result ≡ Status.Done → IfSome (S.left input.old) (λ bytes. (S.left input.new ≡ Some [])
+    ensures done { command_of (map string_bytes words.now) ≡ Some Replay → result ≡ Status.Done → IfSome (S.left input.old) (λ bytes. (S.left input.new ≡ Some [])
         × ((run_of bytes).ending ≡ AtEnd) × Appends (O.took out.old) (O.took out.new) (concat (pieces (run_of bytes)))) }
 
     // This line is the first bad one, with this fault, and the outputs of the events before it were written.
-    ensures bad { command_of (map string_bytes words.now) ≡ Some Command.Replay → (line : ℕ) (fault : InputFault) → result ≡ Status.BadInput line fault → IfSome (S.left input.old) (λ bytes.
+    ensures bad { command_of (map string_bytes words.now) ≡ Some Replay → (line : ℕ) (fault : InputFault) → result ≡ Status.BadInput line fault → IfSome (S.left input.old) (λ bytes.
         ((run_of bytes).ending ≡ AtBadLine line fault) × Appends (O.took out.old) (O.took out.new) (concat (run_of bytes).outputs)) }
-    ensures bad_text { command_of (map string_bytes words.now) ≡ Some Command.Replay → (line : ℕ) (fault : InputFault) → result ≡ Status.BadInput line fault
+    ensures bad_text { command_of (map string_bytes words.now) ≡ Some Replay → (line : ℕ) (fault : InputFault) → result ≡ Status.BadInput line fault
         → IfSome (S.left input.old) (λ bytes. Writes (IsTextBefore bytes line fault) (O.took out.old) (O.took out.new)) }
 
     // A line begins after 1,000,000, or the event of the next line would pass a limit on packets, and the outputs of all lines before it were written.
     ensures limit { (kept : ℕ) → result ≡ Status.Limit LimitOf.Lines kept → kept ≡ most_lines }
-    ensures limited { command_of (map string_bytes words.now) ≡ Some Command.Replay → (what : LimitOf) (kept : ℕ) → result ≡ Status.Limit what kept → IfSome (S.left input.old) (λ bytes.
+    ensures limited { command_of (map string_bytes words.now) ≡ Some Replay → (what : LimitOf) (kept : ℕ) → result ≡ Status.Limit what kept → IfSome (S.left input.old) (λ bytes.
         ((run_of bytes).ending ≡ AtLimit what kept) × Appends (O.took out.old) (O.took out.new) (concat (run_of bytes).outputs)) }
-    ensures limited_text { command_of (map string_bytes words.now) ≡ Some Command.Replay → (what : LimitOf) (kept : ℕ) → result ≡ Status.Limit what kept
+    ensures limited_text { command_of (map string_bytes words.now) ≡ Some Replay → (what : LimitOf) (kept : ℕ) → result ≡ Status.Limit what kept
         → IfSome (S.left input.old) (λ bytes. Writes (IsFrontText bytes) (O.took out.old) (O.took out.new)) }
 
     // The input failed in this call, and the outputs of all whole lines that it gave before were written.
     ensures read { result ≡ Status.ReadFault → Rose (S.faults input.old) (S.faults input.new) }
-    ensures read_so_far { command_of (map string_bytes words.now) ≡ Some Command.Replay → result ≡ Status.ReadFault → IfSome (S.left input.old) (λ bytes. ReadsWhole (read_from 0) bytes (S.left input.new) (O.took out.old) (O.took out.new)) }
+    ensures read_so_far { command_of (map string_bytes words.now) ≡ Some Replay → result ≡ Status.ReadFault → IfSome (S.left input.old) (λ bytes. ReadsWhole (read_from 0) bytes (S.left input.new) (O.took out.old) (O.took out.new)) }
 
     // The output failed in this call: all outputs but the last of the lines taken are out whole, and of that a part.
     ensures write { result ≡ Status.WriteFault → Rose (O.faults out.old) (O.faults out.new) }
-    ensures written_so_far { command_of (map string_bytes words.now) ≡ Some Command.Replay → result ≡ Status.WriteFault → IfSome (S.left input.old) (λ bytes. StopsWithin (read_from 0) bytes (S.left input.new) (O.took out.old) (O.took out.new)) }
+    ensures written_so_far { command_of (map string_bytes words.now) ≡ Some Replay → result ≡ Status.WriteFault → IfSome (S.left input.old) (λ bytes. StopsWithin (read_from 0) bytes (S.left input.new) (O.took out.old) (O.took out.new)) }
 
     // The same where memory was refused, which has no other cause.
-    ensures memory { command_of (map string_bytes words.now) ≡ Some Command.Replay → result ≡ Status.OutOfMemory → IfSome (S.left input.old) (λ bytes. StopsWithin (read_from 0) bytes (S.left input.new) (O.took out.old) (O.took out.new)) }
+    ensures memory { command_of (map string_bytes words.now) ≡ Some Replay → result ≡ Status.OutOfMemory → IfSome (S.left input.old) (λ bytes. StopsWithin (read_from 0) bytes (S.left input.new) (O.took out.old) (O.took out.new)) }
 
     // All of this by the status, for callers.
-    ensures ended { command_of (map string_bytes words.now) ≡ Some Command.Replay → IfSome (S.left input.old) (λ bytes. Ended (read_from 0) bytes result (S.left input.new) (O.took out.old) (O.took out.new)) }
+    ensures ended { command_of (map string_bytes words.now) ≡ Some Replay → IfSome (S.left input.old) (λ bytes. Ended (read_from 0) bytes result (S.left input.new) (O.took out.old) (O.took out.new)) }
 
     // The error stream took the line of the status, or, where it failed in this call, a part of it.
     ensures report { TakesReport (report_line result) (E.took err.old) (E.took err.new) (E.faults err.old) (E.faults err.new) }
 
     // A replay of an input without a bad line, within the limits, with no fault of input or output, is done, but for want of memory.
-    ensures complete { command_of (map string_bytes words.now) ≡ Some Command.Replay → (bytes : List ℕ) → S.left input.old ≡ Some bytes → (run_of bytes).ending ≡ AtEnd
+    ensures complete { command_of (map string_bytes words.now) ≡ Some Replay → (bytes : List ℕ) → S.left input.old ≡ Some bytes → (run_of bytes).ending ≡ AtEnd
         → (Rose (S.faults input.old) (S.faults input.new) → ⊥) → (Rose (O.faults out.old) (O.faults out.new) → ⊥) → (result ≡ Status.Done) ⊎ (result ≡ Status.OutOfMemory) }
 
     // Of `storm`. The input is not read. Done: exactly the text of the storm was written;
-    ensures storm_unused { (seed steps : ℕ) → command_of (map string_bytes words.now) ≡ Some (Command.Storm seed steps) → input.new ≡ input.old }
-    ensures storm_text { (seed steps : ℕ) → command_of (map string_bytes words.now) ≡ Some (Command.Storm seed steps) → result ≡ Status.Done
+    ensures storm_unused { (seed steps : ℕ) → command_of (map string_bytes words.now) ≡ Some (Storm seed steps) → input.new ≡ input.old }
+    ensures storm_text { (seed steps : ℕ) → command_of (map string_bytes words.now) ≡ Some (Storm seed steps) → result ≡ Status.Done
         → Writes (IsStorm seed steps) (O.took out.old) (O.took out.new) }
 
     // where the output failed a part of it from its front, and where memory was refused nothing;
-    ensures storm_so_far { (seed steps : ℕ) → command_of (map string_bytes words.now) ≡ Some (Command.Storm seed steps) → result ≡ Status.WriteFault
+    ensures storm_so_far { (seed steps : ℕ) → command_of (map string_bytes words.now) ≡ Some (Storm seed steps) → result ≡ Status.WriteFault
         → WritesPart (IsStorm seed steps) (O.took out.old) (O.took out.new) }
-    ensures storm_memory { (seed steps : ℕ) → command_of (map string_bytes words.now) ≡ Some (Command.Storm seed steps) → result ≡ Status.OutOfMemory
+    ensures storm_memory { (seed steps : ℕ) → command_of (map string_bytes words.now) ≡ Some (Storm seed steps) → result ≡ Status.OutOfMemory
         → O.took out.new ≡ O.took out.old }
 
     // and with a limit, which is the first that one of its events would pass, nothing.
-    ensures storm_limited { (seed steps : ℕ) → command_of (map string_bytes words.now) ≡ Some (Command.Storm seed steps) → (what : LimitOf) (kept : ℕ) → result ≡ Status.Limit what kept
+    ensures storm_limited { (seed steps : ℕ) → command_of (map string_bytes words.now) ≡ Some (Storm seed steps) → (what : LimitOf) (kept : ℕ) → result ≡ Status.Limit what kept
         → IsLimit (storm_of seed steps) what kept × (O.took out.new ≡ O.took out.old) }
 
     // A storm that passes no limit, with no fault of the output, is done, but for want of memory.
-    ensures storm_complete { (seed steps : ℕ) → command_of (map string_bytes words.now) ≡ Some (Command.Storm seed steps) → (text : List ℕ) → IsStorm seed steps text
+    ensures storm_complete { (seed steps : ℕ) → command_of (map string_bytes words.now) ≡ Some (Storm seed steps) → (text : List ℕ) → IsStorm seed steps text
         → (Rose (O.faults out.old) (O.faults out.new) → ⊥) → (result ≡ Status.Done) ⊎ (result ≡ Status.OutOfMemory) }
+
+    // Of `node`. What it did and wrote, by the status: before the line of its cluster, at it, or behind it;
+    ensures node { (kind : NodeKind) (addr : List ℕ) → command_of (map string_bytes words.now) ≡ Some (Node kind addr) → IfSome (S.left input.old) (λ bytes.
+        WhereTold (InputEnded kind addr (D.told disk.old) (D.told disk.new) bytes result (S.left input.new) (O.took out.old) (O.took out.new) (N.faults door.old) (N.faults door.new)) (N.told door.old) (N.told door.new)) }
+
+    // only a node meets anybody at the door, and only a master has a file.
+    ensures no_door { is_node (command_of (map string_bytes words.now)) ≡ false → door.new ≡ door.old }
+    ensures no_file { has_file (command_of (map string_bytes words.now)) ≡ false → disk.new ≡ disk.old }
+    ensures diskless { has_file (command_of (map string_bytes words.now)) ≡ false → IsDiskless result }
+
+    // The disk failed in this call, of a master.
+    ensures disk { result ≡ Status.DiskFault → Rose (D.faults disk.old) (D.faults disk.new) }
+
+    // Of a master: the fence in its file is at least the epoch, what stands at this offset of the file is no record, or it has 65,536 records.
+    ensures stale { (epoch : ℕ) (addr : List ℕ) → command_of (map string_bytes words.now) ≡ Some (Node (Master epoch) addr) → (fence : ℕ) → result ≡ Status.StaleEpoch fence → IfSome (D.told disk.old) (RefusesEpoch epoch (NotRising fence)) }
+    ensures damaged { (epoch : ℕ) (addr : List ℕ) → command_of (map string_bytes words.now) ≡ Some (Node (Master epoch) addr) → (offset : ℕ) → result ≡ Status.DamagedCheckpoint offset → IfSome (D.told disk.old) (λ t. records_of t.now.bytes ≡ Err offset) }
+    ensures full { (epoch : ℕ) (addr : List ℕ) → command_of (map string_bytes words.now) ≡ Some (Node (Master epoch) addr) → (kept : ℕ) → result ≡ Status.Limit LimitOf.Records kept → (kept ≡ most_records) × IfSome (D.told disk.old) (RefusesEpoch epoch (HardFull most_records)) }
+
+    // A node over lines that are all good, with a file that lets its epoch in, and with no fault of input, output and disk, is done, but for want of memory, over a door that tells.
+    ensures node_complete { (kind : NodeKind) (addr : List ℕ) → command_of (map string_bytes words.now) ≡ Some (Node kind addr) → (bytes : List ℕ) (t : Told) → S.left input.old ≡ Some bytes → N.told door.old ≡ Some t
+        → IsWhole kind bytes → MayStart kind (D.told disk.old) → (Rose (S.faults input.old) (S.faults input.new) → ⊥) → (Rose (O.faults out.old) (O.faults out.new) → ⊥) → (Rose (D.faults disk.old) (D.faults disk.new) → ⊥)
+        → (result ≡ Status.Done) ⊎ (result ≡ Status.OutOfMemory) }
 {
     // The laws of the states of a run, for the clauses on them.
     always_safe();
     give_backs_are_credited_once();
-    let status = run_command(alloc, words, input, out);
+    let status = run_command(alloc, words, input, out, disk, door);
     let _told = report(err, &status);
     status
 }

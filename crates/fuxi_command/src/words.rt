@@ -1,21 +1,26 @@
 //! The words of a command line.
 
-ghost use Rattle.std.specs.Prelude.{◌≡◌, map, string_bytes};
-ghost use Rattle.fuxi_command.specs.Words.{command_of, storm_of_words};
+ghost use Rattle.std.specs.Prelude.{◌≡◌, ◌≤◌, ◌<◌, length, map, string_bytes, IfSome};
+ghost use Rattle.fuxi_terms.specs.Limits.{most_jobs, most_machines, most_units};
+ghost use Rattle.schedule_unit.specs.Numbers.{number_of};
+ghost use Rattle.fuxi_command.specs.Words.{agent_of, app_of, as_command, command_of, master_of, node_at, storm_of_words, AreWithin};
+ghost use Rattle.node_command.specs.Inputs.{IsKind};
 
-use schedule_unit::read_number;
+use node_command::NodeKind;
+use schedule_unit::{AppNo, MachineNo, read_number};
 use storm_run::MOST_STEPS;
 
 // What the program is told to do.
 #[derive(Clone, Copy)]
-pub enum Command {
+pub enum Command<'a> {
     Replay,
     Storm { seed: u64, steps: u64 },
+    Node { kind: NodeKind, addr: &'a [u8] },
 }
 
 // A storm, where both words are numbers and the steps are not too many.
-fn storm_of_words(seed: Option<u64>, steps: Option<u64>) -> Option<Command>
-    ensures { result ≡ storm_of_words seed steps }
+fn storm_of_words<'a>(seed: Option<u64>, steps: Option<u64>) -> Option<Command<'a>>
+    ensures { as_command result ≡ storm_of_words seed steps }
 {
     match (seed, steps) {
         (Some(seed), Some(steps)) => {
@@ -28,27 +33,124 @@ fn storm_of_words(seed: Option<u64>, steps: Option<u64>) -> Option<Command>
     }
 }
 
+// A master, where the word is an epoch.
+fn master_of(epoch: Option<u64>) -> Option<NodeKind>
+    ensures is { result ≡ master_of epoch }
+    ensures within { IfSome result IsKind }
+{
+    match epoch {
+        Some(epoch) => {
+            if epoch == 0 {
+                return None;
+            }
+            Some(NodeKind::Master { epoch })
+        }
+        None => None,
+    }
+}
+
+// An agent, where the words are a machine and a boot.
+fn agent_of(machine: Option<u64>, boot: Option<u64>) -> Option<NodeKind>
+    ensures is { result ≡ agent_of machine boot }
+    ensures within { IfSome result IsKind }
+{
+    match (machine, boot) {
+        (Some(machine), Some(boot)) => {
+            if machine > 255 || boot == 0 {
+                return None;
+            }
+            Some(NodeKind::Agent {
+                machine: MachineNo(machine as u32),
+                boot,
+            })
+        }
+        _ => None,
+    }
+}
+
+// An application, where the words are a job, a boot and a number of units.
+fn app_of(app: Option<u64>, boot: Option<u64>, units: Option<u64>) -> Option<NodeKind>
+    ensures is { result ≡ app_of app boot units }
+    ensures within { IfSome result IsKind }
+{
+    match (app, boot, units) {
+        (Some(app), Some(boot), Some(units)) => {
+            if (app > 255 || boot == 0) || (units == 0 || units > 8) {
+                return None;
+            }
+            Some(NodeKind::App {
+                app: AppNo(app as u32),
+                boot,
+                units: units as u8,
+            })
+        }
+        _ => None,
+    }
+}
+
+// The node at an address, where that has 1 to 255 bytes.
+fn node_at(addr: &str, kind: Option<NodeKind>) -> Option<Command>
+    requires { IfSome kind IsKind }
+    ensures is { as_command result ≡ node_at addr.now kind }
+    ensures within { IfSome result AreWithin }
+{
+    let addr = addr.as_bytes();
+    match kind {
+        Some(kind) => {
+            if addr.is_empty() || addr.len() > 255 {
+                return None;
+            }
+            Some(Command::Node { kind, addr })
+        }
+        None => None,
+    }
+}
+
+// The number that a word is, where it is one.
+fn number(word: &String) -> Option<u64>
+    ensures { result ≡ number_of (string_bytes word.now) }
+{
+    read_number(word.as_str().as_bytes())
+}
+
 // The command that words are, where they are one.
 pub(crate) fn command_of(words: &[String]) -> Option<Command>
-    ensures { result ≡ command_of (map string_bytes words.now) }
+    ensures is { as_command result ≡ command_of (map string_bytes words.now) }
+    ensures within { IfSome result AreWithin }
 {
     match words {
         [word] => {
             if word.as_str() == "replay" {
-                Some(Command::Replay)
-            } else {
-                None
+                return Some(Command::Replay);
             }
+            None
         }
         [word, seed, steps] => {
             if word.as_str() == "storm" {
-                storm_of_words(
-                    read_number(seed.as_str().as_bytes()),
-                    read_number(steps.as_str().as_bytes()),
-                )
-            } else {
-                None
+                return storm_of_words(number(seed), number(steps));
             }
+            None
+        }
+        [word, party, epoch, addr] => {
+            if word.as_str() == "node" && party.as_str() == "master" {
+                return node_at(addr.as_str(), master_of(number(epoch)));
+            }
+            None
+        }
+        [word, party, machine, boot, addr] => {
+            if word.as_str() == "node" && party.as_str() == "agent" {
+                return node_at(addr.as_str(), agent_of(number(machine), number(boot)));
+            }
+            None
+        }
+        [word, party, app, boot, units, addr] => {
+            if word.as_str() == "node" && party.as_str() == "app" {
+                return node_at(
+                    addr.as_str(),
+                    app_of(number(app), number(boot), number(units)),
+                );
+            }
+            None
         }
         _ => None,
     }

@@ -3,7 +3,7 @@
 use delta_channel::Place;
 use fuxi_terms::OutOfMemory;
 use ledger_law::{BodyFault, Ledger};
-use party_ledgers::{Body, Grants, Kind, Packet, RowLedger};
+use party_ledgers::{Body, Demand, Grants, JoinLedger, Kind, Packet, RowLedger};
 use schedule_unit::{Party, Role};
 use std::alloc::Global;
 use wire_frames::write_packet;
@@ -19,6 +19,8 @@ fn whole_word(word: &str) -> &str {
         "h" => "end:master/1:app/0/0:0.0",
         "g" => "full:master/1:app/0/1:1.2:1:1.0.0.1:2.0.0.4",
         "s" => "ack:agent/1/1:master/0:0.0",
+        "m" => "end:agent/0/1:master/0:0.0",
+        "n" => "end:app/0/1:master/0:0.0",
         word => word,
     }
 }
@@ -130,32 +132,43 @@ fn entries_of(
     Ok(Some(bytes))
 }
 
-// The body of these bytes, of a ledger or a change from a master to this role.
-fn read_body(alloc: Global, kind: Kind, to: Role, bytes: &[u8]) -> Result<Body, BodyFault> {
-    match (kind, to) {
-        (Kind::Full, Role::Agent) => Ok(Body::Row(RowLedger::read_full(alloc, bytes)?)),
-        (Kind::Delta, Role::Agent) => Ok(Body::RowDelta(RowLedger::read_delta(alloc, bytes)?)),
-        (Kind::Full, Role::App) => Ok(Body::Grants(Grants::read_full(alloc, bytes)?)),
-        (Kind::Delta, Role::App) => Ok(Body::GrantsDelta(Grants::read_delta(alloc, bytes)?)),
+// The body of these bytes, of a ledger or a change from a party of one role to one of another.
+fn read_body(
+    alloc: Global,
+    kind: Kind,
+    from: Role,
+    to: Role,
+    bytes: &[u8],
+) -> Result<Body, BodyFault> {
+    match (kind, from, to) {
+        (Kind::Full, _, Role::Agent) => Ok(Body::Row(RowLedger::read_full(alloc, bytes)?)),
+        (Kind::Delta, _, Role::Agent) => Ok(Body::RowDelta(RowLedger::read_delta(alloc, bytes)?)),
+        (Kind::Full, _, Role::App) => Ok(Body::Grants(Grants::read_full(alloc, bytes)?)),
+        (Kind::Delta, _, Role::App) => Ok(Body::GrantsDelta(Grants::read_delta(alloc, bytes)?)),
+        (Kind::Full, Role::Agent, _) => Ok(Body::Join(JoinLedger::read_full(alloc, bytes)?)),
+        (Kind::Full, Role::App, _) => Ok(Body::Demand(Demand::read_full(alloc, bytes)?)),
+        (Kind::Delta, Role::App, _) => Ok(Body::DemandDelta(Demand::read_delta(alloc, bytes)?)),
         _ => Ok(Body::Nothing),
     }
 }
 
-// The body of these words.
+// The body of these words; a row has no head.
 fn body_of(
     alloc: Global,
     kind: Kind,
+    from: Role,
     to: Role,
     words: &[&str],
 ) -> Result<Option<Body>, OutOfMemory> {
     let bytes = match (words, to) {
-        ([head, entries @ ..], Role::App) => entries_of(alloc, Some(*head), entries)?,
+        (words, Role::Agent) => entries_of(alloc, None, words)?,
+        ([head, entries @ ..], _) => entries_of(alloc, Some(*head), entries)?,
         _ => entries_of(alloc, None, words)?,
     };
     let Some(bytes) = bytes else {
         return Ok(None);
     };
-    match read_body(alloc, kind, to, &bytes) {
+    match read_body(alloc, kind, from, to, &bytes) {
         Ok(body) => Ok(Some(body)),
         Err(BodyFault::NotBody) => Ok(None),
         Err(BodyFault::OutOfMemory) => Err(OutOfMemory),
@@ -175,7 +188,7 @@ fn packet_of(alloc: Global, words: &[&str]) -> Result<Option<Packet>, OutOfMemor
     ) else {
         return Ok(None);
     };
-    let Some(body) = body_of(alloc, kind, to.role, body)? else {
+    let Some(body) = body_of(alloc, kind, from.role, to.role, body)? else {
         return Ok(None);
     };
     Ok(Some(Packet {

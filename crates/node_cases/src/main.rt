@@ -1,4 +1,4 @@
-//! Worked cases of the nodes of an agent and of an application, over doors, sources and sinks that fail. Each line
+//! Worked cases of nodes, over doors, disks, sources and sinks that fail. Each line
 //! of the input is a case, and what came of it is printed; an empty line and one that begins with `#` are printed as
 //! they are.
 #![tactic(auto)]

@@ -1,16 +1,11 @@
 //! Runs of nodes.
 
-ghost use Rattle.std.specs.Prelude.{◌≡◌, ◌≤◌, length, None};
-ghost use Rattle.fuxi_io.specs.Reading.{read_ahead};
-
-use crate::settings::{Setting, connections_of, setting_of};
+use crate::settings::{Setting, connections_of, file_of, setting_of};
 use crate::watched::{Seen, Watched};
-use cluster_desc::{Cluster, read_cluster};
-use fuxi_io::{Got, InputFault, LineReader, MemSink, MemSource, Sink, Source, Status};
-use fuxi_node::{run_agent, run_app};
+use fuxi_command::fuxi;
+use fuxi_io::{MemDisk, MemSink, MemSource, Status};
 use fuxi_terms::OutOfMemory;
-use node_door::{Door, MemDoor};
-use schedule_unit::{AppNo, MachineNo};
+use node_door::MemDoor;
 use std::alloc::Global;
 
 const CLUSTER: &str =
@@ -30,9 +25,13 @@ pub struct Ran {
     faults: u64,
 }
 
-// The input: the line of the cluster and the text, in which `|` stands for a newline and `^` for a carriage return.
+// The input: the text behind the line of the cluster, which `~` before it leaves out. `|` stands for a newline and `^` for a carriage return.
 fn bytes_of(alloc: Global, text: &str) -> Result<Vec<u8>, OutOfMemory> {
-    let mut bytes = Vec::from_slice(alloc, CLUSTER.as_bytes())?;
+    let (cluster, text) = match text.split_once('~') {
+        Some(("", text)) => ("", text),
+        _ => (CLUSTER, text),
+    };
+    let mut bytes = Vec::from_slice(alloc, cluster.as_bytes())?;
     for byte in text.as_bytes() {
         match *byte {
             b'|' => bytes.push(b'\n')?,
@@ -51,110 +50,48 @@ fn text_of(alloc: Global, bytes: &[u8]) -> Result<String, OutOfMemory> {
     Ok(text)
 }
 
-// Behind the number of a status, the number of a bad line and its fault.
-fn fault_text(alloc: Global, status: &Status) -> Result<String, OutOfMemory> {
-    let Status::BadInput { line, fault } = status else {
-        return Ok(String::new(alloc));
-    };
-    Ok(match fault {
-        InputFault::UnknownWord => format!(in alloc; " line {line}: UnknownWord")?,
-        InputFault::WrongCount => format!(in alloc; " line {line}: WrongCount")?,
-        InputFault::BadNumber(place) => format!(in alloc; " line {line}: BadNumber {place}")?,
-        InputFault::Range(place) => format!(in alloc; " line {line}: Range {place}")?,
-        InputFault::LineTooLong => format!(in alloc; " line {line}: LineTooLong")?,
-        _ => format!(in alloc; " line {line}: another fault")?,
-    })
-}
-
-// What connections took: their numbers of bytes, and the bytes where they are few.
-fn push_took(alloc: Global, text: &mut String, took: &[Vec<u8>]) -> Result<(), OutOfMemory> {
-    for bytes in took {
-        let count = bytes.len();
-        text.push_str(format!(in alloc; " {count}")?.as_str())?;
-        if count <= MOST_SHOWN {
-            text.push(':')?;
-            text.push_str(hex::encode(alloc, bytes)?.as_str())?;
-        }
+// Appends a number of bytes, and the bytes where they are few.
+fn push_bytes(alloc: Global, text: &mut String, bytes: &[u8]) -> Result<(), OutOfMemory> {
+    let count = bytes.len();
+    text.push_str(format!(in alloc; " {count}")?.as_str())?;
+    if count <= MOST_SHOWN {
+        text.push(':')?;
+        text.push_str(hex::encode(alloc, bytes)?.as_str())?;
     }
     Ok(())
 }
 
+// The line that tells of a status, behind a blank and without its newline; nothing where there is none.
+fn told_of(alloc: Global, err: &[u8]) -> Result<String, OutOfMemory> {
+    let line = match err {
+        [] => return Ok(String::new(alloc)),
+        [line @ .., b'\n'] => line,
+        line => line,
+    };
+    let text = text_of(alloc, line)?;
+    Ok(format!(in alloc; " {text}")?)
+}
+
+// The status with the line that tells of it, the text, the faults of the door, its last address, what its connections took, and of a
+// master its file.
 fn line_of(
     alloc: Global,
     status: &Status,
-    out: &[u8],
-    faults: u64,
-    seen: &Seen,
+    texts: [&[u8]; 2],
+    door: &Watched,
+    file: Option<&[u8]>,
 ) -> Result<String, OutOfMemory> {
-    let (fault, out) = (fault_text(alloc, status)?, text_of(alloc, out)?);
-    let (addr, code) = (text_of(alloc, &seen.addr)?, status.code());
-    let mut line = format!(in alloc; "{code}{fault} [{out}] {faults} <{addr}>")?;
-    push_took(alloc, &mut line, &seen.took)?;
+    let (out, told) = (text_of(alloc, texts[0])?, told_of(alloc, texts[1])?);
+    let (addr, code, faults) = (text_of(alloc, &door.seen.addr)?, status.code(), door.faults);
+    let mut line = format!(in alloc; "{code}{told} [{out}] {faults} <{addr}>")?;
+    for took in &door.seen.took {
+        push_bytes(alloc, &mut line, took)?;
+    }
+    if let Some(file) = file {
+        line.push_str(" file")?;
+        push_bytes(alloc, &mut line, file)?;
+    }
     Ok(line)
-}
-
-// Runs the node behind the line of the cluster.
-fn run_node<S: Source, O: Sink, N: Door>(
-    alloc: Global,
-    setting: &Setting,
-    cluster: &Cluster,
-    lines: &mut LineReader,
-    source: &mut S,
-    out: &mut O,
-    door: &mut N,
-) -> Status
-    requires stop { lines.old.stop ≡ None }
-    requires ahead { length lines.old.pending ≤ read_ahead }
-{
-    let addr = setting.addr.as_bytes();
-    if addr.is_empty() || addr.len() > 255 || cluster.machines() == 0 {
-        return Status::Usage;
-    }
-    if setting.is_app {
-        run_app(
-            alloc,
-            cluster,
-            AppNo(0),
-            1,
-            2,
-            addr,
-            lines,
-            source,
-            out,
-            door,
-        )
-    } else {
-        run_agent(
-            alloc,
-            cluster,
-            MachineNo(0),
-            1,
-            addr,
-            lines,
-            source,
-            out,
-            door,
-        )
-    }
-}
-
-// Reads the line of the cluster and runs the node.
-fn start<S: Source, O: Sink, N: Door>(
-    alloc: Global,
-    setting: &Setting,
-    source: &mut S,
-    out: &mut O,
-    door: &mut N,
-) -> Result<Status, OutOfMemory> {
-    let mut lines = LineReader::new(alloc)?;
-    match lines.next(source) {
-        Ok(Got::Line) => {}
-        _ => return Ok(Status::ReadFault),
-    }
-    match read_cluster(alloc, lines.line()) {
-        Ok(cluster) => Ok(run_node(alloc, setting, &cluster, &mut lines, source, out, door)),
-        Err(_) => Ok(Status::Usage),
-    }
 }
 
 // A door that gives this, and of whose calls one fails.
@@ -172,6 +109,30 @@ fn door_of(alloc: Global, gives: Vec<Vec<u8>>, fail: u64) -> Result<Watched, Out
     })
 }
 
+// A disk with this file, and of whose calls one fails.
+fn disk_of(alloc: Global, file: Vec<u8>, fail: u64) -> Result<MemDisk, OutOfMemory> {
+    let mut disk = MemDisk::of(alloc, file, Vec::from_slice(alloc, &[fail])?);
+    disk.room(100_000)?;
+    Ok(disk)
+}
+
+fn sink_of(alloc: Global, fail: u64) -> Result<MemSink, OutOfMemory> {
+    let mut sink = MemSink::of(alloc, Vec::from_slice(alloc, &[fail])?);
+    sink.room(1_000_000)?;
+    Ok(sink)
+}
+
+// The words of the command: `node`, those of the node, and the address.
+fn words_of(alloc: Global, setting: &Setting) -> Result<Vec<String>, OutOfMemory> {
+    let mut words = Vec::new(alloc);
+    words.push(String::from_str(alloc, "node")?)?;
+    for word in setting.node.split(':') {
+        words.push(String::from_str(alloc, word)?)?;
+    }
+    words.push(String::from_str(alloc, setting.addr)?)?;
+    Ok(words)
+}
+
 // Runs a case; None where its words stand for none.
 fn run(
     alloc: Global,
@@ -179,17 +140,34 @@ fn run(
     connections: &[&str],
     text: &str,
 ) -> Result<Option<Ran>, OutOfMemory> {
-    let Some(gives) = connections_of(alloc, connections)? else {
+    let (Some(gives), Some(file)) = (
+        connections_of(alloc, connections)?,
+        file_of(alloc, setting.file)?,
+    ) else {
         return Ok(None);
     };
+    let words = words_of(alloc, setting)?;
     let mut door = door_of(alloc, gives, setting.door)?;
-    let mut out = MemSink::of(alloc, Vec::from_slice(alloc, &[setting.sink])?);
-    out.room(1_000_000)?;
+    let mut disk = disk_of(alloc, file, setting.disk)?;
+    let (mut out, mut err) = (sink_of(alloc, setting.sink)?, sink_of(alloc, 0)?);
     let fails = Vec::from_slice(alloc, &[setting.source])?;
     let mut source = MemSource::of(bytes_of(alloc, text)?, fails);
-    let status = start(alloc, setting, &mut source, &mut out, &mut door)?;
+    let status = fuxi(
+        alloc,
+        &words,
+        &mut source,
+        &mut out,
+        &mut err,
+        &mut disk,
+        &mut door,
+    );
+    let file = if setting.node.starts_with("master") {
+        Some(disk.bytes())
+    } else {
+        None
+    };
     Ok(Some(Ran {
-        line: line_of(alloc, &status, out.bytes(), door.faults, &door.seen)?,
+        line: line_of(alloc, &status, [out.bytes(), err.bytes()], &door, file)?,
         status,
         faults: door.faults,
     }))
@@ -210,11 +188,12 @@ fn has_failed(what: &str, ran: &Ran) -> bool {
     match what {
         "door" => ran.faults > 0,
         "sink" => ran.status == Status::WriteFault,
+        "disk" => ran.status == Status::DiskFault,
         _ => ran.status == Status::ReadFault,
     }
 }
 
-/// A case where the first call of the door, the sink or the source fails, the second, and so on, until none fails: each
+/// A case where the first call of the door, the sink, the disk or the source fails, the second, and so on, until none fails: each
 /// in a line, behind the number of the call.
 pub fn each(alloc: Global, what: &str, words: &[&str], text: &str) -> Result<String, OutOfMemory> {
     let mut told = String::new(alloc);
@@ -226,6 +205,7 @@ pub fn each(alloc: Global, what: &str, words: &[&str], text: &str) -> Result<Str
         match what {
             "door" => now.door = call,
             "sink" => now.sink = call,
+            "disk" => now.disk = call,
             _ => now.source = call,
         }
         let Some(ran) = run(alloc, &now, connections, text)? else {

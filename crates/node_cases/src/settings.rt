@@ -4,15 +4,17 @@ use crate::frames::push_word;
 use fuxi_terms::OutOfMemory;
 use std::alloc::Global;
 
-/// Whose node a case runs, at which address, and the numbers of the calls of the door, of the sink and of the source that
-/// fail; 0 for none.
+/// The words of the node that a case runs, its address, the numbers of the calls of the door, of the sink, of the source and of the disk
+/// that fail, 0 for none, and what its file has.
 #[derive(Clone, Copy)]
 pub struct Setting<'a> {
-    pub is_app: bool,
+    pub node: &'a str,
     pub addr: &'a str,
     pub door: u64,
     pub sink: u64,
     pub source: u64,
+    pub disk: u64,
+    pub file: &'a str,
 }
 
 // The number of a word, 0 where it is none.
@@ -20,17 +22,31 @@ fn number(word: &str) -> u64 {
     word.parse::<u64>().unwrap_or(0)
 }
 
+// The node of a word.
+fn node_of(word: &str) -> Option<&str> {
+    match word {
+        "agent" => Some("agent:0:1"),
+        "app" => Some("app:0:1:2"),
+        word if word.starts_with("agent:") => Some(word),
+        word if word.starts_with("app:") => Some(word),
+        word if word.starts_with("master:") => Some(word),
+        _ => None,
+    }
+}
+
 /// The setting of these words, and the words of the connections behind them. None where they name no node.
 pub fn setting_of<'a, 'b>(words: &'b [&'a str]) -> Option<(Setting<'a>, &'b [&'a str])> {
     let mut setting = Setting {
-        is_app: false,
+        node: "",
         addr: "x",
         door: 0,
         sink: 0,
         source: 0,
+        disk: 0,
+        file: "",
     };
     let mut words = words;
-    for _ in 0..4 {
+    for _ in 0..6 {
         match words {
             ["fails", call, rest @ ..] => {
                 setting.door = number(call);
@@ -44,6 +60,14 @@ pub fn setting_of<'a, 'b>(words: &'b [&'a str]) -> Option<(Setting<'a>, &'b [&'a
                 setting.source = number(call);
                 words = rest;
             }
+            ["disk", call, rest @ ..] => {
+                setting.disk = number(call);
+                words = rest;
+            }
+            ["file", bytes, rest @ ..] => {
+                setting.file = *bytes;
+                words = rest;
+            }
             ["at", addr, rest @ ..] => {
                 setting.addr = *addr;
                 words = rest;
@@ -51,14 +75,25 @@ pub fn setting_of<'a, 'b>(words: &'b [&'a str]) -> Option<(Setting<'a>, &'b [&'a
             _ => break,
         }
     }
-    match words {
-        ["agent", rest @ ..] => Some((setting, rest)),
-        ["app", rest @ ..] => {
-            setting.is_app = true;
-            Some((setting, rest))
-        }
-        _ => None,
+    let [word, rest @ ..] = words else {
+        return None;
+    };
+    setting.node = node_of(*word)?;
+    Some((setting, rest))
+}
+
+/// The bytes of a file: those of a word, or so many records of fences that rise from 1, where it is `full`.
+pub fn file_of(alloc: Global, word: &str) -> Result<Option<Vec<u8>>, OutOfMemory> {
+    if word != "full" {
+        return Ok(hex::decode(alloc, word).ok());
     }
+    let mut bytes = Vec::new(alloc);
+    for epoch in 1..=65_536u64 {
+        bytes.extend_from_slice(&[1, 0, 0, 0, 10, 1, 1])?;
+        bytes.extend_from_slice(&epoch.to_be_bytes())?;
+    }
+    bytes.push(0)?;
+    Ok(Some(bytes))
 }
 
 // Does to the last connection what a word says: `-N` cuts its last bytes, any other word appends bytes.

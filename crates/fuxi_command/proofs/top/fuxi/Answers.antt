@@ -1,4 +1,6 @@
 use Rattle.std.proofs.Common.{subst}
+use Rattle.node_command.specs.Inputs.{TellsDisk}
+use Rattle.node_command.specs.declared.kind.NodeKind.TheVariants.{Master}
 use Rattle.storm_run.specs.Runs.{StormEnded}
 use Rattle.storm_run.specs.Summaries.{storm_of}
 use Rattle.fuxi_command.proofs.Storming.{ends_well}
@@ -20,3 +22,12 @@ pub returns-clause-storm_complete : goal.returns-clause-storm_complete
 returns-clause-storm_complete g c seed steps is text told sound =
     ends_well seed steps text c.run_command-status.result (g.O.Sink.took c.args.out.now) (g.O.Sink.took c.run_command-status.new.out) told (λ failed. sound (c.run_command-status.ensures.write failed))
     (c.run_command-status.ensures.storm seed steps is).1
+
+pub returns-clause-stale : goal.returns-clause-stale
+returns-clause-stale g c epoch addr is fence stale = subst (λ s. TellsDisk (Master epoch) s (g.D.Disk.told c.args.disk.now)) stale (c.run_command-status.ensures.told (Master epoch) addr is)
+
+pub returns-clause-damaged : goal.returns-clause-damaged
+returns-clause-damaged g c epoch addr is offset damaged = subst (λ s. TellsDisk (Master epoch) s (g.D.Disk.told c.args.disk.now)) damaged (c.run_command-status.ensures.told (Master epoch) addr is)
+
+pub returns-clause-full : goal.returns-clause-full
+returns-clause-full g c epoch addr is kept full = subst (λ s. TellsDisk (Master epoch) s (g.D.Disk.told c.args.disk.now)) full (c.run_command-status.ensures.told (Master epoch) addr is)
