@@ -1,0 +1,136 @@
+"""A node as a process that is told lines."""
+
+import os
+import select
+import subprocess
+import time
+from collections import deque
+
+# How long a node may take for a line, on a machine that has much else to do.
+PATIENCE = 30.0
+# What a node prints to a line of another kind of node.
+NOT_HERE = "refused NotHere"
+
+
+class Difference(Exception):
+    """A node did what it must not do, or did not what it has to do."""
+
+
+def new_journal():
+    """The last things that were done, to be printed with a difference."""
+    return deque(maxlen=60)
+
+
+class Node:
+    """A node as a process. Whatever is waited for has a time limit: a node that hangs is a difference, and no script that hangs."""
+
+    def __init__(self, program, folder, words, cluster_line, journal):
+        self.name, self.journal, self.events, self.unread = " ".join(map(str, words)), journal, 0, b""
+        # (refused by each node of this kind: once that is printed, all that was told before is done)
+        self.aside = "round" if words[0] == "master" else "serve"
+        pipes = {"stdin": subprocess.PIPE, "stdout": subprocess.PIPE, "stderr": subprocess.PIPE, "bufsize": 0}
+        self.process = subprocess.Popen([program, "node", *map(str, words)], cwd=folder, **pipes)
+        self.note("starts")
+        self.write([cluster_line])
+
+    def note(self, what):
+        self.journal.append(f"{self.name}: {what}")
+
+    def write(self, lines):
+        try:
+            self.process.stdin.write("".join(f"{line}\n" for line in lines).encode())
+        except BrokenPipeError:
+            raise self.ended_by_itself() from None
+
+    def ended_by_itself(self):
+        status = self.process.wait(PATIENCE)
+        return Difference(f"{self.name} has ended by itself with status {status} and {self.process.stderr.read().decode()!r}")
+
+    def tell(self, *lines):
+        """Hands it event lines, and waits for nothing."""
+        for line in lines:
+            self.note(f"is told {line}")
+        self.events += len(lines)
+        self.write(lines)
+
+    def read_line(self):
+        """The next line that it prints, or None where no more comes."""
+        limit = time.monotonic() + PATIENCE
+        while b"\n" not in self.unread:
+            if not select.select([self.process.stdout], [], [], max(0.0, limit - time.monotonic()))[0]:
+                raise Difference(f"{self.name} prints nothing for {PATIENCE:.0f} seconds")
+            piece = os.read(self.process.stdout.fileno(), 65536)
+            if not piece:
+                return None
+            self.unread += piece
+        line, _, self.unread = self.unread.partition(b"\n")
+        self.note(f"prints {line.decode()}")
+        return line.decode()
+
+    def next_line(self):
+        """The next line that it prints: it has to print one."""
+        line = self.read_line()
+        if line is None:
+            raise self.ended_by_itself()
+        return line
+
+    def expect(self, wanted):
+        """The next line that it prints is this one."""
+        found = self.next_line()
+        if found != wanted:
+            raise Difference(f"{self.name} prints {found!r}, and not {wanted!r}")
+
+    def ask(self, *lines):
+        """All that it prints to these lines."""
+        self.tell(*lines, self.aside)
+        printed = []
+        while (line := self.next_line()) != NOT_HERE:
+            printed.append(line)
+        return printed
+
+    def show(self):
+        """Its state, without the first line, which counts the events."""
+        counted = self.events + 1
+        first, *lines = self.ask("show")
+        if first != f"state {counted}":
+            raise Difference(f"{self.name} prints {first!r} at event {counted}")
+        return lines
+
+    def read_all(self):
+        """The whole lines that it prints to its end."""
+        lines = []
+        while (line := self.read_line()) is not None:
+            lines.append(line)
+        return lines
+
+    def end(self):
+        """Ends its input: what it prints then, its status, and its error stream."""
+        self.note("has no more lines")
+        self.process.stdin.close()
+        lines, status = self.read_all(), self.process.wait(PATIENCE)
+        errors = self.process.stderr.read().decode()
+        self.close_pipes()
+        return lines, status, errors
+
+    def end_quietly(self):
+        """Ends its input, at which it prints its state once more, and nothing is wrong."""
+        shown, events = self.show(), self.events
+        found = self.end()
+        if found != ([f"state {events}", *shown], 0, ""):
+            raise Difference(f"{self.name} ends with {found}, and its state was {shown} after {events} events")
+
+    def kill(self):
+        """Kills it where it stands: what it printed and was not read."""
+        self.note("is killed")
+        self.process.kill()
+        self.process.wait(PATIENCE)
+        lines = self.read_all()
+        self.close_pipes()
+        return lines
+
+    def is_running(self):
+        return self.process.poll() is None
+
+    def close_pipes(self):
+        for pipe in [self.process.stdin, self.process.stdout, self.process.stderr]:
+            pipe.close()
