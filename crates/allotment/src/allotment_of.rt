@@ -11,6 +11,7 @@ ghost use Rattle.allotment.specs.Allotted.{IsSetAt, told_at};
 
 use crate::law::lines_alike;
 use cluster_desc::Cluster;
+use fuxi_terms::tally_keys::{BACK, CREDITED};
 use fuxi_terms::{Key, OutOfMemory};
 use grant_table::{GrantTable, Pick, Steps, admitted_jobs, set_numbers};
 use party_ledgers::{Demand, Grants, RowLedger};
@@ -24,11 +25,21 @@ use std::sync::ledger::Ledger;
 
 /// A table of grants and a placer that is level with it, and the spots at which grants changed since they were
 /// last cleared.
-#[derive(Drop)]
 pub struct Allotment {
     table: GrantTable,
     placer: Placer,
     touched: Vec<Pick>,
+}
+
+// Written out, so that who lets one go checks this call and not all of its parts.
+impl Drop for Allotment {
+    fn drop(self) {
+        let Allotment {
+            table,
+            placer,
+            touched,
+        } = self;
+    }
 }
 
 impl Model for Allotment {
@@ -221,7 +232,7 @@ impl Allotment {
     {
         let units = self.table.units(app);
         let machines = self.table.cluster().machines();
-        if key.what != 5 || key.unit as usize >= units || key.number >= machines {
+        if key.what != BACK || key.unit as usize >= units || key.number >= machines {
             return Ok(self);
         }
         let unit = UnitNo(key.unit);
@@ -531,7 +542,7 @@ fn credited(given: &Grants, unit: u8, machine: u32) -> u64
     ensures { result ≡ count key_cmp given.now.entries (credited_key unit machine) }
 {
     given.get(&Key {
-        what: 3,
+        what: CREDITED,
         unit,
         number: machine,
     })

@@ -24,6 +24,7 @@ use core_side::{NoLimit, Side, strangers_change_nothing};
 use delta_channel::Place;
 use fuxi_terms::OutOfMemory;
 use fuxi_terms::limits::{GREATEST_BACK, GREATEST_COUNT, MOST_RACKS};
+use fuxi_terms::tally_keys::{AVOID, BACK, NEAR, RACK, WANT};
 use ledger_law::Key;
 use party_ledgers::{Demand, Grants, Heard, Packet, Packets, What};
 use schedule_unit::{AppNo, MachineNo, RackNo, Role, UnitNo};
@@ -33,7 +34,6 @@ use std::marker::Model;
 /// An application. It asks for grants, holds what its master grants, and gives back.
 ///
 /// What its calls do is said of every application by itself that it stands for (`StandsFor`).
-#[derive(Drop)]
 pub struct AppMaster {
     app: AppNo,
     units: u8,
@@ -42,6 +42,21 @@ pub struct AppMaster {
     carried: Carried,
     up: Side<Demand, Grants>,
     steps: u64,
+}
+
+// Written out, so that who lets one go checks this call and not all of its parts.
+impl Drop for AppMaster {
+    fn drop(self) {
+        let AppMaster {
+            app,
+            units,
+            machines,
+            racks,
+            carried,
+            up,
+            steps,
+        } = self;
+    }
 }
 
 impl Model for AppMaster {
@@ -91,7 +106,7 @@ impl AppMaster {
     {
         self.test_unit(unit)?;
         test_count(count)?;
-        self.ask(alloc, 1, unit, 0, count)
+        self.ask(alloc, WANT, unit, 0, count)
     }
 
     /// Wants so many grants of a unit on a machine.
@@ -110,7 +125,7 @@ impl AppMaster {
         self.test_unit(unit)?;
         self.test_machine(machine)?;
         test_count(count)?;
-        self.ask(alloc, 2, unit, machine.0, count)
+        self.ask(alloc, NEAR, unit, machine.0, count)
     }
 
     /// Wants so many grants of a unit in a rack.
@@ -131,7 +146,7 @@ impl AppMaster {
             return Err(AppFault::NoRack);
         }
         test_count(count)?;
-        self.ask(alloc, 3, unit, rack.0, count)
+        self.ask(alloc, RACK, unit, rack.0, count)
     }
 
     /// Refuses a machine for new grants of a unit, or no longer.
@@ -150,7 +165,7 @@ impl AppMaster {
         self.test_unit(unit)?;
         self.test_machine(machine)?;
         let mark = if yes { 1 } else { 0 };
-        self.ask(alloc, 4, unit, machine.0, mark)
+        self.ask(alloc, AVOID, unit, machine.0, mark)
     }
 
     /// Gives back so many grants of a unit on a machine. Only what is held on a machine that the master names as
@@ -177,7 +192,7 @@ impl AppMaster {
         if given + count > GREATEST_BACK {
             return Err(AppFault::BackRange);
         }
-        self.ask(alloc, 5, unit, machine.0, given + count)
+        self.ask(alloc, BACK, unit, machine.0, given + count)
     }
 
     /// Hears a packet. An application that hears a new master joins its epoch: it carries what it held on each machine that

@@ -7,6 +7,7 @@ ghost use Rattle.fuxi_terms.specs.Counts.{count};
 ghost use Rattle.fuxi_terms.specs.Limits.{greatest_count, greatest_back};
 ghost use Rattle.app_master.specs.Usable.{is_named, usable_in};
 
+use fuxi_terms::tally_keys::{BACK, COUNT, CREDITED, REPORTED};
 use ledger_law::Key;
 use party_ledgers::{Demand, Grants};
 use schedule_unit::{MachineNo, UnitNo};
@@ -16,7 +17,7 @@ pub(crate) fn is_named(grants: &Grants, machine: MachineNo) -> bool
     ensures { result ≡ is_named grants.now machine.0 }
 {
     grants.get(&Key {
-        what: 1,
+        what: REPORTED,
         unit: 0,
         number: machine.0,
     }) == 1
@@ -40,7 +41,7 @@ pub(crate) fn given(demand: &Demand, unit: UnitNo, machine: MachineNo) -> u64
 {
     let counts = demand.entries();
     demand.get(&Key {
-        what: 5,
+        what: BACK,
         unit: unit.0,
         number: machine.0,
     })
@@ -52,7 +53,7 @@ fn counted(grants: &Grants, unit: UnitNo, machine: MachineNo) -> u32
     ensures within { result ≤ greatest_count }
 {
     let counts = grants.entries();
-    number_of(grants, 2, unit, machine) as u32
+    number_of(grants, COUNT, unit, machine) as u32
 }
 
 // What an application of this boot holds of a unit on a machine that its grants name: their count without what was
@@ -69,7 +70,7 @@ pub(crate) fn usable(
 {
     let count = counted(grants, unit, machine);
     let credited = if grants.head() == boot {
-        number_of(grants, 3, unit, machine)
+        number_of(grants, CREDITED, unit, machine)
     } else {
         0
     };

@@ -16,6 +16,7 @@ ghost use Rattle.broadcast.specs.OneJob.{has_place, counts_at, lists_of, AreByJo
 
 use core_side::Side;
 use fuxi_terms::limits::MOST_MACHINES;
+use fuxi_terms::tally_keys::{COUNT, REPORTED};
 use fuxi_terms::{Key, OutOfMemory};
 use grant_table::{GrantTable, Pick};
 use party_ledgers::{Demand, Grants};
@@ -24,7 +25,6 @@ use schedule_unit::{AppNo, MachineNo};
 use std::alloc::Global;
 
 /// What a step brings to applications beside the grants that changed.
-#[derive(Drop)]
 pub struct News {
     /// The machine that is reported from now on.
     pub reported: Option<MachineNo>,
@@ -36,6 +36,19 @@ pub struct News {
     pub job: Option<AppNo>,
     /// What is credited to it, by keys that rise.
     pub credited: Vec<(Key, u64)>,
+}
+
+// Written out, so that who lets one go checks this call and not all of its parts.
+impl Drop for News {
+    fn drop(self) {
+        let News {
+            reported,
+            admitted,
+            machines,
+            job,
+            credited,
+        } = self;
+    }
 }
 
 /// Shows each application, by the number of its job, its grants: one change of them, where they are others or the job was admitted. The head is the
@@ -181,7 +194,7 @@ fn reported(machine: MachineNo) -> (Key, u64)
     ensures { result ≡ (reported_key machine.0, 1) }
 {
     let key = Key {
-        what: 1,
+        what: REPORTED,
         unit: 0,
         number: machine.0,
     };
@@ -252,7 +265,7 @@ fn count_at(table: &GrantTable, spot: &Pick) -> (Key, u64)
     ensures { result ≡ (count_key spot.now.unit.0 spot.now.machine.0, count spot_cmp table.now.entries (spot_of spot.now)) }
 {
     let key = Key {
-        what: 2,
+        what: COUNT,
         unit: spot.unit.0,
         number: spot.machine.0,
     };

@@ -6,8 +6,8 @@ use Rattle.serde_json.specs.Data.{Data, Items, no_items, item}
 use Rattle.serde_json.specs.Find.{as_array}
 use Rattle.fuxi_terms.specs.Vectors.{fits}
 use Rattle.fuxi_terms.specs.Cluster.{MachineRecord, GroupRecord, ClusterRecord, are_quantities, is_between, is_valid_cluster, is_valid_group, is_valid_machine, is_vector_of}
-use Rattle.fuxi_io.specs.declared.status.ClusterKey.{ClusterKey}
-use Rattle.fuxi_io.specs.declared.status.ClusterKey.TheVariants.{Cluster, Resources, Machines, Groups, Rack, Has, Quota, Limit}
+use Rattle.fuxi_terms.specs.declared.cluster_key.ClusterKey.{ClusterKey}
+use Rattle.fuxi_terms.specs.declared.cluster_key.ClusterKey.TheVariants.{Cluster, Resources, Machines, Groups, Rack, Has, Quota, Limit}
 use Rattle.cluster_desc.specs.declared.fault.ClusterFault.{ClusterFault}
 use Rattle.cluster_desc.specs.declared.fault.ClusterFault.TheVariants.{WrongKind, Count, LengthDiffers, QuantityRange, QuotaOverLimit}
 use Rattle.cluster_desc.specs.Faults.{◌>>=◌, holds, given}

@@ -7,9 +7,9 @@ use Rattle.serde_json.specs.Find.{get, as_u64, as_number, as_array, as_object}
 use Rattle.serde_json.specs.Read.{read}
 use Rattle.fuxi_terms.specs.Vectors.{fits}
 use Rattle.fuxi_terms.specs.Cluster.{MachineRecord, GroupRecord, ClusterRecord, are_quantities, is_between}
-use Rattle.fuxi_io.specs.Statuses.{word_of}
-use Rattle.fuxi_io.specs.declared.status.ClusterKey.{ClusterKey}
-use Rattle.fuxi_io.specs.declared.status.ClusterKey.TheVariants.{Cluster, Resources, Machines, Groups, Rack, Has, Quota, Limit}
+use Rattle.fuxi_terms.specs.ClusterKeys.{word_of}
+use Rattle.fuxi_terms.specs.declared.cluster_key.ClusterKey.{ClusterKey}
+use Rattle.fuxi_terms.specs.declared.cluster_key.ClusterKey.TheVariants.{Cluster, Resources, Machines, Groups, Rack, Has, Quota, Limit}
 use Rattle.schedule_unit.specs.declared.party.GroupNo.{GroupNo}
 use Rattle.cluster_desc.specs.declared.fault.ClusterFault.{ClusterFault}
 use Rattle.cluster_desc.specs.declared.fault.ClusterFault.TheVariants.{NotJson, WrongKind, UnknownKey, MissingKey, Count, LengthDiffers, QuantityRange, QuotaOverLimit}

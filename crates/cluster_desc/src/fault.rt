@@ -1,6 +1,6 @@
 //! Why a line describes no cluster.
 
-use fuxi_io::ClusterKey;
+use fuxi_terms::ClusterKey;
 use schedule_unit::GroupNo;
 use thiserror::Error;
 

@@ -4,7 +4,7 @@ ghost use Rattle.std.specs.Prelude.{◌≡◌, ◌≤◌, IfOk, IfErr, MatchResu
 ghost use Rattle.serde_json.specs.View.{view, items_view, members_view};
 ghost use Rattle.std.specs.List.{list_any};
 ghost use Rattle.std.specs.Str.{bytes_eq};
-ghost use Rattle.fuxi_io.specs.Statuses.{word_of};
+ghost use Rattle.fuxi_terms.specs.ClusterKeys.{word_of};
 ghost use Rattle.fuxi_terms.specs.Padded.{padded};
 ghost use Rattle.cluster_desc.specs.ClusterLine.{array_between, cluster_at, cluster_of, each, group_at, has_only, machine_at, number_between, numbers_of, object_of, quantities, value_at, value_of, whole_number};
 ghost use Rattle.cluster_desc.specs.Faults.{IsFault, given};
@@ -12,7 +12,8 @@ ghost use Rattle.cluster_desc.specs.Records.{group_of, group_record, machine_of,
 
 use crate::cluster::{Cluster, Group, Machine};
 use crate::fault::ClusterFault;
-use fuxi_io::ClusterKey;
+use fuxi_terms::ClusterKey;
+use fuxi_terms::limits::{MOST_GROUPS, MOST_MACHINES, MOST_RACKS, MOST_RESOURCES};
 use res_vector::{Res, are_quantities, fits, from_quantities};
 use schedule_unit::{GroupNo, RackNo};
 use serde_json::{Category, Map, Value};
@@ -55,10 +56,15 @@ fn cluster_at(alloc: Global, value: &Value) -> Result<Cluster, ClusterFault>
     let resources = value_at(ClusterKey::Resources, value)?;
     let machines = value_at(ClusterKey::Machines, value)?;
     let groups = value_at(ClusterKey::Groups, value)?;
-    let resources = number_between(ClusterKey::Resources, 1, 8, resources)? as u8;
-    let machines = array_between(ClusterKey::Machines, 1, 256, machines)?;
+    let resources = number_between(
+        ClusterKey::Resources,
+        1,
+        MOST_RESOURCES as u64,
+        resources,
+    )? as u8;
+    let machines = array_between(ClusterKey::Machines, 1, MOST_MACHINES, machines)?;
     let machines = machines_at(alloc, resources, machines)?;
-    let groups = array_between(ClusterKey::Groups, 1, 32, groups)?;
+    let groups = array_between(ClusterKey::Groups, 1, MOST_GROUPS, groups)?;
     let groups = groups_at(alloc, resources, groups)?;
     Ok(Cluster::from_parts(resources, machines, groups))
 }
@@ -95,7 +101,7 @@ fn machine_at(alloc: Global, resources: u8, value: &Value) -> Result<Machine, Cl
     )?;
     let rack = value_at(ClusterKey::Rack, value)?;
     let has = value_at(ClusterKey::Has, value)?;
-    let rack = number_between(ClusterKey::Rack, 0, 63, rack)?;
+    let rack = number_between(ClusterKey::Rack, 0, u64::from(MOST_RACKS - 1), rack)?;
     let has = quantities(alloc, ClusterKey::Has, resources, has)?;
     Ok(Machine {
         rack: RackNo(rack as u32),

@@ -56,11 +56,21 @@ impl<A: Ledger> Notes<A> {
 }
 
 /// Both directions between a party and a peer: sends a ledger `A` and receives a ledger `B`.
-#[derive(Drop)]
 pub struct Duplex<A: Ledger, B: Ledger> {
     sender: Sender<A>,
     receiver: Receiver<B>,
     acked: u64,
+}
+
+// Written out, so that who lets one go checks this call and not all of its parts.
+impl<A: Ledger, B: Ledger> Drop for Duplex<A, B> {
+    fn drop(self) {
+        let Duplex {
+            sender,
+            receiver,
+            acked,
+        } = self;
+    }
 }
 
 impl<A: Ledger, B: Ledger> Model for Duplex<A, B> {

@@ -1,5 +1,5 @@
 -- The words of a command line, and those that are a command.
-use Rattle.std.specs.Prelude.{◌≡◌, ◌≢◌, ◌⊎◌, ◌≤◌, ⊤, ℕ, Bool, true, false, ◌&&◌, ◌||◌, cond, nat_eq, nat_lt, List, [], ◌∷◌, length, drop, codes, Option, Some, None, is_some, Result, Ok, Err}
+use Rattle.std.specs.Prelude.{◌≡◌, ◌≢◌, ◌⊎◌, ◌≤◌, ⊤, ℕ, Bool, true, false, ◌&&◌, ◌||◌, cond, not, nat_eq, nat_lt, List, [], ◌∷◌, length, drop, codes, Option, Some, None, is_some, Result, Ok, Err}
 use Rattle.std.specs.Str.{bytes_eq}
 use Rattle.std.specs.Vec.Iter.{into_iter_items}
 use Rattle.std.specs.declared.vec.IntoIter.{IntoIter}
@@ -9,6 +9,7 @@ use Rattle.std.specs.declared.io.ErrorKind.{ErrorKind}
 use Rattle.std.specs.declared.io.ErrorKind.TheVariants.{OutOfMemory as NoMemory}
 use Rattle.fuxi_io.specs.declared.status.Status.{Status}
 use Rattle.fuxi_io.specs.declared.status.Status.TheVariants.{Usage, OutOfMemory}
+use Rattle.fuxi_terms.specs.Limits.{most_machines, most_jobs, most_units, most_address_bytes}
 use Rattle.schedule_unit.specs.Numbers.{number_of}
 use Rattle.storm_run.specs.Storms.{most_storm_steps}
 use Rattle.node_command.specs.Inputs.{IsKind}
@@ -34,22 +35,22 @@ abbrev pub master_of : Option ℕ → Option NodeKind
 master_of (Some epoch) = cond (nat_eq epoch 0) None (Some (Master epoch))
 master_of None = None
 
--- a machine that is at most 255, and a boot of at least 1;
+-- a machine that a cluster can have, and a boot of at least 1;
 abbrev pub agent_of : Option ℕ → Option ℕ → Option NodeKind
-agent_of (Some machine) (Some boot) = cond (nat_lt 255 machine || nat_eq boot 0) None (Some (Agent (record { 0 = machine }) boot))
+agent_of (Some machine) (Some boot) = cond (not (nat_lt machine most_machines) || nat_eq boot 0) None (Some (Agent (record { 0 = machine }) boot))
 agent_of (Some machine) None = None
 agent_of None boot = None
 
--- a job that is at most 255, a boot of at least 1, and 1 to 8 units
+-- a job that there can be, a boot of at least 1, and as many units as a job can have
 abbrev pub app_of : Option ℕ → Option ℕ → Option ℕ → Option NodeKind
-app_of (Some app) (Some boot) (Some units) = cond ((nat_lt 255 app || nat_eq boot 0) || (nat_eq units 0 || nat_lt 8 units)) None (Some (App (record { 0 = app }) boot units))
+app_of (Some app) (Some boot) (Some units) = cond ((not (nat_lt app most_jobs) || nat_eq boot 0) || (nat_eq units 0 || nat_lt most_units units)) None (Some (App (record { 0 = app }) boot units))
 app_of (Some app) (Some boot) None = None
 app_of (Some app) None units = None
 app_of None boot units = None
 
 -- with an address of 1 to 255 bytes
 abbrev pub node_at : List ℕ → Option NodeKind → Option Command
-node_at addr (Some kind) = cond (nat_eq (length addr) 0 || nat_lt 255 (length addr)) None (Some (Node kind addr))
+node_at addr (Some kind) = cond (nat_eq (length addr) 0 || nat_lt most_address_bytes (length addr)) None (Some (Node kind addr))
 node_at addr None = None
 
 -- The command that words are, where they are one: `replay`; `storm` and two numbers; or `node` and a kind of party, its numbers, and an address

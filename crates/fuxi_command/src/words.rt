@@ -6,6 +6,7 @@ ghost use Rattle.schedule_unit.specs.Numbers.{number_of};
 ghost use Rattle.fuxi_command.specs.Words.{agent_of, app_of, as_command, command_of, master_of, node_at, storm_of_words, AreWithin};
 ghost use Rattle.node_command.specs.Inputs.{IsKind};
 
+use fuxi_terms::limits::{MOST_ADDRESS_BYTES, MOST_JOBS, MOST_MACHINES, MOST_UNITS};
 use node_command::NodeKind;
 use schedule_unit::{AppNo, MachineNo, read_number};
 use storm_run::MOST_STEPS;
@@ -56,7 +57,7 @@ fn agent_of(machine: Option<u64>, boot: Option<u64>) -> Option<NodeKind>
 {
     match (machine, boot) {
         (Some(machine), Some(boot)) => {
-            if machine > 255 || boot == 0 {
+            if machine >= MOST_MACHINES as u64 || boot == 0 {
                 return None;
             }
             Some(NodeKind::Agent {
@@ -75,7 +76,9 @@ fn app_of(app: Option<u64>, boot: Option<u64>, units: Option<u64>) -> Option<Nod
 {
     match (app, boot, units) {
         (Some(app), Some(boot), Some(units)) => {
-            if (app > 255 || boot == 0) || (units == 0 || units > 8) {
+            if (app >= u64::from(MOST_JOBS) || boot == 0)
+                || (units == 0 || units > MOST_UNITS as u64)
+            {
                 return None;
             }
             Some(NodeKind::App {
@@ -97,7 +100,7 @@ fn node_at(addr: &str, kind: Option<NodeKind>) -> Option<Command>
     let addr = addr.as_bytes();
     match kind {
         Some(kind) => {
-            if addr.is_empty() || addr.len() > 255 {
+            if addr.is_empty() || addr.len() > MOST_ADDRESS_BYTES {
                 return None;
             }
             Some(Command::Node { kind, addr })

@@ -14,10 +14,10 @@ mod status;
 
 pub use disk::Disk;
 pub use file_disk::FileDisk;
-pub use fuxi_terms::OutOfMemory;
+pub use fuxi_terms::{ClusterKey, OutOfMemory};
 pub use lines::{Got, LineReader, LineStop};
 pub use memory::{MemSink, MemSource};
 pub use memory_disk::MemDisk;
 pub use outside::{Failed, Sink, Source, WriteFault, write_all_of};
-pub use standard::{StdSink, StdSource};
-pub use status::{ClusterKey, InputFault, LimitOf, Status};
+pub use standard::{StdSink, StdSource, read_again};
+pub use status::{InputFault, LimitOf, Status};

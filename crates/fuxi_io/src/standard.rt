@@ -1,12 +1,43 @@
 ghost use Rattle.std.specs.Prelude.{◌≡◌};
+ghost use Rattle.std.specs.Io.{ReadsAtMost, WritesAtMost};
+ghost use Rattle.std.specs.Io.KnownBytes.{ReadConsumes, WriteAppends};
 
 use crate::outside::{Failed, Sink, Source};
-use std::io::{Read, Write};
+use std::io;
+use std::io::{ErrorKind, Read, Write};
 use std::marker::Model;
 
-/// A source over a reader of std, as standard input. Each read is one call of the reader. It tells the bytes
-/// that the reader tells: a reader over memory tells all, one of the system none. Its count rises at each
-/// error of the reader.
+/// Reads as `Read::read` does. A call that a signal interrupted is made again, since it read nothing.
+pub fn read_again<R: Read>(reader: &mut R, buf: &mut [u8]) -> io::Result<usize>
+    ensures bound { ReadsAtMost result buf.new }
+    ensures bytes { ReadConsumes (R.remaining reader.old) (R.remaining reader.new) result buf.new }
+{
+    for _turn in 0..u64::MAX {
+        match reader.read(buf) {
+            Err(error) if error.kind() == ErrorKind::Interrupted => {}
+            ended => return ended,
+        }
+    }
+    Err(io::Error::from(ErrorKind::Interrupted))
+}
+
+// Writes as `Write::write` does. A call that a signal interrupted is made again, since it took nothing.
+fn write_again<W: Write>(writer: &mut W, bytes: &[u8]) -> io::Result<usize>
+    ensures bound { WritesAtMost result bytes.now }
+    ensures bytes { WriteAppends (W.contents writer.old) (W.contents writer.new) result bytes.now }
+{
+    for _turn in 0..u64::MAX {
+        match writer.write(bytes) {
+            Err(error) if error.kind() == ErrorKind::Interrupted => {}
+            ended => return ended,
+        }
+    }
+    Err(io::Error::from(ErrorKind::Interrupted))
+}
+
+/// A source over a reader of std, as standard input. Each read is one call of the reader, which is made again where
+/// a signal interrupted it. It tells the bytes that the reader tells: a reader over memory tells all, one of the
+/// system none. Its count rises at each other error of the reader.
 #[derive(Drop)]
 pub struct StdSource<R> {
     reader: R,
@@ -36,7 +67,7 @@ impl<R: Read> Source for StdSource<R> {
     ghost faults = { λ s. s.faults };
 
     fn read(&mut self, buf: &mut [u8]) -> Result<usize, Failed> {
-        match self.reader.read(buf) {
+        match read_again(&mut self.reader, buf) {
             Ok(n) => Ok(n),
             Err(_) => {
                 self.faults = self.faults.saturating_add(1);
@@ -47,7 +78,7 @@ impl<R: Read> Source for StdSource<R> {
 }
 
 /// A sink over a writer of std, as standard output or standard error. It keeps nothing back, and each write is
-/// one call of the writer, so hand it whole lines. It tells the bytes that the writer tells: one over memory
+/// one call of the writer, which is made again where a signal interrupted it; so hand it whole lines. It tells the bytes that the writer tells: one over memory
 /// all, one of the system none. Its count rises at each error of the writer, and where the writer takes nothing.
 #[derive(Drop)]
 pub struct StdSink<W> {
@@ -79,7 +110,7 @@ impl<W: Write> Sink for StdSink<W> {
 
     /// A writer that takes nothing has failed.
     fn write(&mut self, bytes: &[u8]) -> Result<usize, Failed> {
-        match self.writer.write(bytes) {
+        match write_again(&mut self.writer, bytes) {
             Ok(n) if n > 0 => Ok(n),
             _ => {
                 self.faults = self.faults.saturating_add(1);

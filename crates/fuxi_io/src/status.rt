@@ -1,5 +1,7 @@
 ghost use Rattle.std.specs.Prelude.{◌≡◌};
-ghost use Rattle.fuxi_io.specs.Statuses.{code_of, word_of};
+ghost use Rattle.fuxi_io.specs.Statuses.{code_of};
+
+use fuxi_terms::ClusterKey;
 
 /// How a command ended.
 #[derive(Clone, Copy, Debug, Drop, PartialEq, Eq)]
@@ -37,19 +39,6 @@ pub enum LimitOf {
     Bytes,
     /// The records of a checkpoint, at most 65,536.
     Records,
-}
-
-/// A key of the line that describes the cluster; `Cluster` is the whole of it.
-#[derive(Clone, Copy, Debug, Drop, PartialEq, Eq)]
-pub enum ClusterKey {
-    Cluster,
-    Resources,
-    Machines,
-    Groups,
-    Rack,
-    Has,
-    Quota,
-    Limit,
 }
 
 /// Why a line of the input was refused.
@@ -103,24 +92,6 @@ impl Status {
             Status::DiskFault => 8,
             Status::StaleEpoch { .. } => 9,
             Status::DamagedCheckpoint { .. } => 10,
-        }
-    }
-}
-
-impl ClusterKey {
-    /// The key as it is written.
-    pub fn word(&self) -> &'static str
-        ensures { result.now ≡ word_of self.now }
-    {
-        match self {
-            ClusterKey::Cluster => "cluster",
-            ClusterKey::Resources => "resources",
-            ClusterKey::Machines => "machines",
-            ClusterKey::Groups => "groups",
-            ClusterKey::Rack => "rack",
-            ClusterKey::Has => "has",
-            ClusterKey::Quota => "quota",
-            ClusterKey::Limit => "limit",
         }
     }
 }

@@ -18,6 +18,7 @@ use allotment::Allotment;
 use broadcast::News;
 use cluster_desc::Cluster;
 use core_side::{NoLimit, Side};
+use fuxi_terms::tally_keys::{BACK, CREDITED};
 use fuxi_terms::{Key, OutOfMemory};
 use hard_state::Known;
 use ledger_law::Ledger;
@@ -135,7 +136,7 @@ fn credited_key(key: &Key) -> Key
     ensures { result ≡ credited_key key.now.unit key.now.number }
 {
     Key {
-        what: 3,
+        what: CREDITED,
         unit: key.unit,
         number: key.number,
     }
@@ -146,7 +147,7 @@ fn is_new_back(cluster: &Cluster, units: usize, given: &Grants, key: &Key, back:
     ensures { result ≡ is_new_back cluster.now units given.now.entries (key.now, back) }
 {
     let there = (key.unit as usize) < units && key.number < cluster.machines();
-    key.what == 5 && there && given.get(&credited_key(key)) < back
+    key.what == BACK && there && given.get(&credited_key(key)) < back
 }
 
 // What a demand gives back that is not credited yet, of units and machines that are there.

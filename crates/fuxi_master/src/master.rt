@@ -34,10 +34,16 @@ use std::marker::Model;
 ///
 /// What its calls do is said of every master of the definitions that it stands for (`StandsFor`). Each call that changes it is a
 /// step; fewer than 2^50 may be taken.
-#[derive(Drop)]
 pub struct Master {
     core: Core,
     steps: u64,
+}
+
+// Written out, so that who lets one go checks this call and not all of its parts.
+impl Drop for Master {
+    fn drop(self) {
+        let Master { core, steps } = self;
+    }
 }
 
 impl Model for Master {

@@ -16,6 +16,7 @@ use cluster_desc::Cluster;
 use core_side::Side;
 use failover::Machines;
 use fuxi_terms::OutOfMemory;
+use fuxi_terms::limits::MOST_JOBS;
 use hard_state::Known;
 use party_ledgers::{Demand, Grants, JoinLedger, RowLedger};
 use publishing::show_grants;
@@ -73,7 +74,7 @@ fn apps_started(
     ensures { IfOk result (λ slots. AreAppsStarted epoch known.now.jobs 256 slots.items) }
 {
     let mut slots = Vec::new(alloc);
-    for number in 0..256 {
+    for number in 0..MOST_JOBS {
         slots.push(slot_started(alloc, epoch, known, AppNo(number))?)?;
     }
     Ok(slots)
@@ -90,7 +91,7 @@ fn jobs_admitted(
     ensures { IfOk result (AreAdmitted known.now.jobs 256 allotment) }
 {
     let mut left = allotment;
-    for number in 0..256 {
+    for number in 0..MOST_JOBS {
         let Some(job) = known.job(AppNo(number)) else {
             continue;
         };

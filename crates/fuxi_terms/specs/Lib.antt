@@ -1,6 +1,7 @@
 pub mod Limits
 pub mod Vectors
 pub mod Cluster
+pub mod ClusterKeys
 pub mod Keys
 pub mod Counts
 pub mod Tallies

@@ -62,6 +62,10 @@ most_body_bytes = 262144
 abbrev pub most_frames : ℕ
 most_frames = 4096
 
+-- bytes of the address of a node, at least 1
+abbrev pub most_address_bytes : ℕ
+most_address_bytes = 255
+
 -- bytes of one input line before its newline, and input lines
 abbrev pub most_line_bytes : ℕ
 most_line_bytes = 65536

@@ -8,10 +8,13 @@ ghost use Rattle.std.specs.Prelude.{◌≡◌};
 ghost use Rattle.fuxi_terms.specs.Keys.{key_cmp};
 
 mod answers;
+mod cluster_key;
 pub mod limits;
+pub mod tally_keys;
 mod vectors;
 
 pub use answers::{LedgerFault, What};
+pub use cluster_key::ClusterKey;
 use std::alloc::{AllocError, AllocFailed};
 use std::cmp::Ordering;
 pub use vectors::{Res, Sum};

@@ -54,6 +54,9 @@ pub const MOST_FRAMES: usize = 4096;
 /// The bytes of one input line before its newline.
 pub const MOST_LINE_BYTES: usize = 65_536;
 
+/// The bytes of the address of a node, at least 1.
+pub const MOST_ADDRESS_BYTES: usize = 255;
+
 /// The input lines.
 pub const MOST_LINES: u64 = 1_000_000;
 

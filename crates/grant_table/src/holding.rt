@@ -6,6 +6,7 @@ ghost use Rattle.fuxi_terms.specs.Cluster.{UnitRecord};
 ghost use Rattle.grant_table.specs.Tables.{Cell, cell_of, cells_in, cells_of, cell_at, with_cell, no_cell, raised, lowered, fresh_cells};
 
 use fuxi_terms::OutOfMemory;
+use fuxi_terms::limits::MOST_RACKS;
 use res_vector::Res;
 use schedule_unit::{GroupNo, Job, UnitNo};
 use std::alloc::Global;
@@ -133,7 +134,7 @@ pub(crate) fn fresh_units(
     for number in 0..job.units() {
         let size = job.unit(UnitNo(number)).size;
         let counts = Vec::from_elem(alloc, 0, machines)?;
-        let racks = Vec::from_elem(alloc, 0, 64)?;
+        let racks = Vec::from_elem(alloc, 0, MOST_RACKS as usize)?;
         units.push(Holding {
             size,
             group,

@@ -9,6 +9,7 @@ use crate::holding::{Holding, empty_slots, fresh_units, holding_at, lower_at, ra
 use crate::steps::Steps;
 use cluster_desc::Cluster;
 use fuxi_terms::OutOfMemory;
+use fuxi_terms::limits::MOST_GROUPS;
 use res_vector::{Res, minus, zero};
 use schedule_unit::{AppNo, GroupNo, Job, MachineNo, RackNo, UnitNo};
 use std::alloc::Global;
@@ -17,7 +18,6 @@ use std::sync::ledger::Ledger;
 
 /// Grants by job, unit and machine, seen as the cluster, the admitted jobs in number order, and the finite
 /// map from job, unit and machine to a positive number.
-#[derive(Drop)]
 pub struct GrantTable {
     cluster: Cluster,
     jobs: Vec<Job>,
@@ -27,6 +27,19 @@ pub struct GrantTable {
     used: Vec<Res>,
     /// What is granted to each of the 32 groups.
     usages: Vec<Res>,
+}
+
+// Written out, so that who lets one go checks this call and not all of its parts.
+impl Drop for GrantTable {
+    fn drop(self) {
+        let GrantTable {
+            cluster,
+            jobs,
+            slots,
+            used,
+            usages,
+        } = self;
+    }
 }
 
 impl Model for GrantTable {
@@ -58,7 +71,7 @@ impl GrantTable {
             jobs: Vec::new(alloc),
             slots: empty_slots(alloc)?,
             used: Vec::from_elem(alloc, zero(), machines)?,
-            usages: Vec::from_elem(alloc, zero(), 32)?,
+            usages: Vec::from_elem(alloc, zero(), MOST_GROUPS)?,
         })
     }
 

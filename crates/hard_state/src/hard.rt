@@ -34,12 +34,23 @@ use std::marker::Model;
 /// leaves a file that stands for the state before the call or after it, and once the call answered Ok, for the state after it.
 /// After `DiskFault` the state is as before, and the checkpoint has to be opened again; after any other error the file is as
 /// before too.
-#[derive(Drop)]
 pub struct Hard {
     alloc: Global,
     state: State,
     gate: u64,
     broken: bool,
+}
+
+// Written out, so that who lets one go checks this call and not all of its parts.
+impl Drop for Hard {
+    fn drop(self) {
+        let Hard {
+            alloc,
+            state,
+            gate,
+            broken,
+        } = self;
+    }
 }
 
 impl Model for Hard {

@@ -22,11 +22,17 @@ use std::marker::Model;
 /// Jobs with the mark whether they have ended, and the machines that are banned: what the hard state has of them, and what a
 /// master knows. Seen as the list of the jobs in the order of their submission, and the rising list of the machines. A job and
 /// a ban are found by number, with no walk. There is room for a job of each number.
-#[derive(Drop)]
 pub struct Known {
     jobs: Vec<Entry>,
     places: [u16; 256],
     bans: NumberSet,
+}
+
+// Written out, so that who lets one go checks this call and not all of its parts.
+impl Drop for Known {
+    fn drop(self) {
+        let Known { jobs, places, bans } = self;
+    }
 }
 
 impl Model for Known {

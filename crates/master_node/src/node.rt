@@ -41,10 +41,16 @@ use std::alloc::Global;
 use std::marker::Model;
 
 /// The master of one epoch with its hard state, as the party of a node. Each call that changes it is a step; fewer than 2^50 may be taken.
-#[derive(Drop)]
 pub struct MasterNode {
     master: Master,
     hard: Hard,
+}
+
+// Written out, so that who lets one go checks this call and not all of its parts.
+impl Drop for MasterNode {
+    fn drop(self) {
+        let MasterNode { master, hard } = self;
+    }
 }
 
 impl Model for MasterNode {

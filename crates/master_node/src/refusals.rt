@@ -8,13 +8,11 @@ ghost use Rattle.hard_state.specs.HardFiles.{Refuses};
 ghost use Rattle.master_node.specs.Telling.{job_refusal, master_refusal, answer_in};
 
 use fuxi_master::{MasterRefusal, Outcome};
+use fuxi_terms::limits::MOST_RECORDS;
 use hard_state::HardFault;
 use node_party::{Answer, Halt};
 use schedule_text::Refusal;
 use schedule_unit::JobFault;
-
-// The greatest number of records of a hard state.
-const MOST_RECORDS: u64 = 65_536;
 
 // The refusal that a fault of the hard state is; a fault of the disk and want of memory are none. A damaged file does not come of a writing.
 pub fn written_refusal(fault: HardFault) -> Result<Refusal, Halt>

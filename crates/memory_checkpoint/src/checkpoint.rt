@@ -33,12 +33,18 @@ const NUMBER_BODY: usize = 6;
 ///
 /// Each writing call makes room for what it writes. It answers the first refusal of the hard state, in the order of [`HardFault`], and
 /// then nothing has changed; or `OutOfMemory`, after which the checkpoint is not to be used. `DiskFault` does not come.
-#[derive(Drop)]
 pub struct Checkpoint {
     hard: Hard,
     disk: MemDisk,
     // the room of the disk that refused calls left
     spare: usize,
+}
+
+// Written out, so that who lets one go checks this call and not all of its parts.
+impl Drop for Checkpoint {
+    fn drop(self) {
+        let Checkpoint { hard, disk, spare } = self;
+    }
 }
 
 impl Model for Checkpoint {

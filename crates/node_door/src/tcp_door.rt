@@ -2,13 +2,19 @@ ghost use Rattle.std.specs.Prelude.{◌≡◌, None};
 ghost use Rattle.fuxi_io.specs.Causes.{HasCause};
 
 use crate::door::Door;
-use fuxi_io::Failed;
-use std::io::{Read, Write};
+use fuxi_io::{Failed, read_again};
+use std::io::Write;
 use std::net::{Net, OpenListener, OpenStream, Shutdown, SocketAddr, TcpListener, TcpStream};
 use std::str;
+use std::time::Duration;
+
+// How many seconds a peer may let a connect, a read or a write wait.
+const PATIENCE: u64 = 30;
 
 /// A door over TCP. It reads an address as std's `SocketAddr` does, as `127.0.0.1:7000`; any other is a fault.
-/// It tells nothing. Its count rises at each error of the system, and at a call that lacks a connection.
+/// A connect, a read or a write that makes no progress for 30 seconds is given up, which is a fault too; `accept`
+/// waits for as long as nobody dials. A call that a signal interrupted is made again. It tells nothing. Its count
+/// rises at each error of the system, and at a call that lacks a connection.
 #[derive(Drop)]
 pub struct TcpDoor<R: Net + Drop> {
     net: R,
@@ -26,7 +32,17 @@ fn read_address(addr: &[u8]) -> Result<SocketAddr, Failed> {
 
 fn connect<R: Net>(net: &R, addr: &[u8]) -> Result<R::Stream, Failed> {
     let addr = read_address(addr)?;
-    TcpStream::connect(net, addr).map_err(|_| Failed)
+    let patience = Duration::from_secs(PATIENCE);
+    net.connect_timeout(addr, patience).map_err(|_| Failed)
+}
+
+// Has reads and writes of the connection give up where the peer lets them wait.
+fn hurried<S: OpenStream + Drop>(stream: S) -> Result<S, Failed> {
+    let patience = Some(Duration::from_secs(PATIENCE));
+    if stream.set_read_timeout(patience).is_err() || stream.set_write_timeout(patience).is_err() {
+        return Err(Failed);
+    }
+    Ok(stream)
 }
 
 impl<R: Net + Drop> TcpDoor<R> {
@@ -60,7 +76,7 @@ impl<R: Net + Drop> TcpDoor<R> {
     fn keep(&mut self, stream: Result<R::Stream, Failed>) -> Result<(), Failed>
         ensures { HasCause self.old.faults self.new.faults result }
     {
-        match stream {
+        match stream.and_then(hurried) {
             Ok(stream) => {
                 self.stream = Some(stream);
                 Ok(())
@@ -94,7 +110,7 @@ impl<R: Net + Drop> Door for TcpDoor<R> {
 
     fn read(&mut self, buf: &mut [u8]) -> Result<usize, Failed> {
         if let Some(stream) = &mut self.stream {
-            if let Ok(n) = stream.read(buf) {
+            if let Ok(n) = read_again(stream, buf) {
                 return Ok(n);
             }
         }

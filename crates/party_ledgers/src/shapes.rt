@@ -4,6 +4,7 @@ ghost use Rattle.std.specs.Prelude.{◌≡◌};
 ghost use Rattle.fuxi_terms.specs.TallyKeys.{is_place, greatest_grant, greatest_demand};
 
 use fuxi_terms::limits::{GREATEST_BACK, GREATEST_COUNT, MOST_MACHINES, MOST_RACKS, MOST_UNITS};
+use fuxi_terms::tally_keys::{BACK, CREDITED};
 use ledger_law::{Key, Shape, Tally};
 
 // Whether a key names a unit and a machine.
@@ -29,7 +30,7 @@ impl Shape for GrantShape {
 
     ghost writable = { grant_writable };
 
-    const DROPPED: u8 = 3;
+    const DROPPED: u8 = CREDITED;
 
     fn greatest(key: &Key) -> u64 {
         if !is_place(key) {
@@ -60,7 +61,7 @@ impl Shape for DemandShape {
 
     ghost writable = { demand_writable };
 
-    const DROPPED: u8 = 5;
+    const DROPPED: u8 = BACK;
 
     fn greatest(key: &Key) -> u64 {
         if !is_place(key) {

@@ -18,7 +18,6 @@ use std::sync::ledger::Ledger;
 /// open, and the line of those that wait. It is seen as what it was told (`seen`), and as idle where it has found
 /// that nothing is placeable and was told of nothing since by which something may be. After `admit` no call takes
 /// memory.
-#[derive(Drop)]
 pub struct Placer {
     wishes: Wishes,
     line: Line,
@@ -29,6 +28,20 @@ pub struct Placer {
     turns: u64,
     /// Nothing is placeable until more is told.
     idle: bool,
+}
+
+// Written out, so that who lets one go checks this call and not all of its parts.
+impl Drop for Placer {
+    fn drop(self) {
+        let Placer {
+            wishes,
+            line,
+            other,
+            units,
+            turns,
+            idle,
+        } = self;
+    }
 }
 
 impl Model for Placer {

@@ -9,6 +9,8 @@ ghost use Rattle.fuxi_terms.specs.TallyKeys.{key, rack_key};
 ghost use Rattle.place_pass.specs.Cells.{Cell, cell_of, cells_in, cells_of, cell_at, no_cell, fresh_cells, numbers_at, racks_at, taken, taken_all, any_gone, asks_more, any_more};
 
 use cluster_desc::Cluster;
+use fuxi_terms::limits::MOST_RACKS;
+use fuxi_terms::tally_keys::{AVOID, NEAR, RACK, WANT};
 use fuxi_terms::{Key, OutOfMemory};
 use party_ledgers::Demand;
 use res_vector::Res;
@@ -172,7 +174,7 @@ fn fresh_units(alloc: Global, job: &Job, machines: usize) -> Result<Vec<Wish>, O
         let priority = unit.priority;
         let size = unit.size;
         let near = Vec::from_elem(alloc, 0, machines)?;
-        let racks = Vec::from_elem(alloc, 0, 64)?;
+        let racks = Vec::from_elem(alloc, 0, MOST_RACKS as usize)?;
         let avoided = Vec::from_elem(alloc, 0, machines)?;
         units.push(Wish {
             priority,
@@ -225,12 +227,12 @@ fn take_one(wish: &mut Wish, unit: u8, cluster: &Cluster, demand: &Demand) -> bo
     ensures more { result ≡ asks_more cluster.now demand.now.entries unit (cell_of wish.old) }
 {
     let machines = cluster.machines();
-    let want = number_at(demand, 1, unit, 0);
+    let want = number_at(demand, WANT, unit, 0);
     let rises = wish.want < want;
     wish.want = want;
-    read_numbers(&mut wish.near, machines, demand, 2, unit);
+    read_numbers(&mut wish.near, machines, demand, NEAR, unit);
     read_racks(&mut wish.racks, cluster, demand, unit);
-    let lifted = read_numbers(&mut wish.avoided, machines, demand, 4, unit);
+    let lifted = read_numbers(&mut wish.avoided, machines, demand, AVOID, unit);
     rises || lifted
 }
 
@@ -276,7 +278,7 @@ fn read_racks(racks: &mut Vec<u32>, cluster: &Cluster, demand: &Demand, unit: u8
     for number in 0..64_u32 {
         let there = cluster.has_rack(RackNo(number));
         racks[number as usize] = if there {
-            number_at(demand, 3, unit, number)
+            number_at(demand, RACK, unit, number)
         } else {
             0
         };

@@ -11,12 +11,10 @@ ghost use Rattle.publishing.specs.Setting.{moves, AreNumbers};
 ghost use Rattle.publishing.specs.Showing.{grants_set, Shows};
 
 use core_side::Side;
+use fuxi_terms::tally_keys::CREDITED;
 use ledger_law::{Change, Key, OutOfMemory};
 use party_ledgers::{Demand, Grants};
 use std::alloc::Global;
-
-// The kind of number that goes with a new boot: what was credited.
-const CREDITED: u8 = 3;
 
 /// From now on the grants have this boot as head and these numbers at these keys, which rise; a new boot drops what was credited first.
 /// Where nothing differs and it is not forced, nothing is posted. The last index is below 2^62.

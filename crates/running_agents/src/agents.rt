@@ -23,10 +23,16 @@ use std::marker::Model;
 ///
 /// What its calls do is said of every good world that they stand in (`AreAgentsOf`). A call makes at most one step of one agent;
 /// an agent may take fewer than 2^50.
-#[derive(Drop)]
 pub struct Agents {
     agents: Vec<Option<Agent>>,
     boots: Vec<u64>,
+}
+
+// Written out, so that who lets one go checks this call and not all of its parts.
+impl Drop for Agents {
+    fn drop(self) {
+        let Agents { agents, boots } = self;
+    }
 }
 
 impl Model for Agents {

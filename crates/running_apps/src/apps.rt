@@ -27,10 +27,16 @@ use std::marker::Model;
 ///
 /// What its calls do is said of every good world that they stand in (`AreAppsOf`). A call makes at most one step of one application;
 /// an application may take fewer than 2^50.
-#[derive(Drop)]
 pub struct Apps {
     apps: Vec<Option<AppMaster>>,
     boots: Vec<u64>,
+}
+
+// Written out, so that who lets one go checks this call and not all of its parts.
+impl Drop for Apps {
+    fn drop(self) {
+        let Apps { apps, boots } = self;
+    }
 }
 
 impl Model for Apps {

@@ -32,9 +32,15 @@ use std::marker::Model;
 /// stands for the master of its epoch. The hard state is written before, by the caller.
 ///
 /// A call that hands an event to a master takes all of them and gives them back. Where memory is refused they are gone.
-#[derive(Drop)]
 pub struct Masters {
     masters: Vec<(u64, Master)>,
+}
+
+// Written out, so that who lets one go checks this call and not all of its parts.
+impl Drop for Masters {
+    fn drop(self) {
+        let Masters { masters } = self;
+    }
 }
 
 impl Model for Masters {

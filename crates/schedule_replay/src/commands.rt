@@ -17,6 +17,7 @@ ghost use Rattle.schedule_replay.specs.Commands.{AreGoverned, Governs, GovernsMa
 use cluster_desc::Cluster;
 use fuxi_master::{MasterEvent, MasterRefusal};
 use fuxi_terms::OutOfMemory;
+use fuxi_terms::limits::MOST_MASTERS;
 use hard_state::HardFault;
 use memory_checkpoint::Checkpoint;
 use running_masters::Masters;
@@ -24,9 +25,6 @@ use schedule_text::Refusal;
 use schedule_unit::{AppNo, Asks, GroupNo, Job, JobFault, MachineNo};
 use std::alloc::Global;
 use std::mem;
-
-// How many masters run at once.
-const MOST_MASTERS: usize = 16;
 
 /// A master starts in an epoch above the fence.
 pub(crate) fn start_master(

@@ -17,5 +17,6 @@ mod turns;
 mod world;
 
 pub use lines::Lines;
+pub use running::Running;
 pub use stop::WorldStop;
 pub use world::World;

@@ -1,16 +1,36 @@
-//! All that runs.
+//! All that runs, lent event by event.
 
+ghost use Rattle.std.specs.Prelude.{◌≡◌, ◌+◌, ◌<◌, ◌^◌, ◌++◌, IfOk, IfErr, OnOk, OnErr};
+ghost use Rattle.written_world.specs.World.{World as WrittenWorld, empty_world};
+ghost use Rattle.written_world.specs.Show.{show};
+ghost use Rattle.schedule_text.specs.Writing.{IsLineEvent};
+ghost use Rattle.schedule_replay.specs.Events.{event_as};
+ghost use Rattle.schedule_replay.specs.Texts.{lines_text};
+ghost use Rattle.schedule_replay.specs.Worlds.{IsReached, IsWorld, StandsFor};
+ghost use Rattle.schedule_replay.specs.Steps.{Takes, StopsAt};
+
+use crate::acts::act;
+use crate::laws::{cores_may_step, events_are_inputs};
+use crate::lines::Lines;
+use crate::stop::WorldStop;
 use cluster_desc::Cluster;
+use core_join::written_frame_lengths;
+use fuxi_terms::OutOfMemory;
 use memory_checkpoint::Checkpoint;
 use packet_pool::PacketPool;
 use running_agents::Agents;
 use running_apps::Apps;
 use running_masters::Masters;
+use running_state::write_state;
+use schedule_text::Event;
+use std::alloc::Global;
 use std::marker::Model;
+use written_order::worlds_in_order;
+use written_world::{every_event_keeps_good, good_at_start};
 
-/// All that runs at once, with the hard state of the masters and the frames of all packets that were ever sent.
-#[derive(Drop)]
-pub(crate) struct Running {
+/// All that runs at once, with the hard state of the masters and the frames of all packets that were ever sent. Who steps it by events lends
+/// it: what a `World` keeps as its invariant (`IsReached`) is a condition and a clause here, and after a stop nothing is said of it.
+pub struct Running {
     pub(crate) cluster: Cluster,
     pub(crate) checkpoint: Checkpoint,
     pub(crate) masters: Masters,
@@ -20,10 +40,99 @@ pub(crate) struct Running {
     pub(crate) events: u64,
 }
 
+// Written out, so that who lets one go checks this call and not all of its parts.
+impl Drop for Running {
+    fn drop(self) {
+        let Running {
+            cluster,
+            checkpoint,
+            masters,
+            agents,
+            apps,
+            pool,
+            events,
+        } = self;
+    }
+}
+
 impl Model for Running {
     ghost use Rattle.schedule_replay.specs.Worlds.{WorldRecord};
 
     ghost Value = { WorldRecord };
 
     ghost view = { λ r. record { cluster = r.cluster; checkpoint = r.checkpoint; masters = r.masters; agents = r.agents; apps = r.apps; pool = r.pool; events = r.events } };
+}
+
+impl Running {
+    /// What runs on a cluster in which nothing has happened.
+    pub fn start(alloc: Global, cluster: Cluster) -> Result<Running, OutOfMemory>
+        ensures world { IsWorld (empty_world cluster) }
+        ensures stands { IfOk result (λ running. StandsFor running (empty_world cluster)) }
+        ensures reached { IfOk result IsReached }
+        ensures events { IfOk result (λ running. running.events ≡ 0) }
+    {
+        good_at_start();
+        worlds_in_order();
+        let _valid = cluster.machines();
+        let agents = Agents::none(alloc, &cluster)?;
+        Ok(Running {
+            cluster,
+            checkpoint: Checkpoint::open(alloc)?,
+            masters: Masters::none(alloc),
+            agents,
+            apps: Apps::none(alloc)?,
+            pool: PacketPool::new(alloc),
+            events: 0,
+        })
+    }
+
+    /// One event, and what it prints. The event is one that a line can give, and fewer than 2^29 were taken. After a stop it is not to be used.
+    pub fn step(&mut self, alloc: Global, event: &Event) -> Result<Lines, WorldStop>
+        requires line { IsLineEvent event.now }
+        requires reached { IsReached self.old }
+        requires events { self.old.events < 2 ^ 29 }
+        ensures takes { IfOk result (Takes (event_as event.now) self.old self.new) }
+        ensures reached { OnOk result (IsReached self.new) }
+        ensures events { OnOk result (self.new.events ≡ self.old.events + 1) }
+        ensures stops { IfErr result (StopsAt (event_as event.now) self.old) }
+    {
+        every_event_keeps_good();
+        worlds_in_order();
+        events_are_inputs();
+        cores_may_step();
+        written_frame_lengths();
+        self.events += 1;
+        let mut out = Vec::new(alloc);
+        match act(self, alloc, event, &mut out) {
+            Ok(()) => {}
+            Err(stop) => return Err(stop),
+        }
+        let _packets = self.pool.len();
+        let _bytes = self.pool.bytes();
+        Ok(Lines::of(out))
+    }
+
+    /// Appends the lines of the state. A refusal leaves `out` as it was.
+    pub fn write_state(&self, out: &mut Vec<u8>) -> Result<(), OutOfMemory>
+        ensures ok { OnOk result ((w : WrittenWorld) → IsWorld w → StandsFor self.now w → out.new.items ≡ out.old.items ++ lines_text (show w)) }
+        ensures err { OnErr result (out.new.items ≡ out.old.items) }
+    {
+        let length = out.len();
+        match write_state(
+            &self.cluster,
+            self.checkpoint.hard(),
+            &self.masters,
+            &self.agents,
+            &self.apps,
+            self.events,
+            self.pool.len(),
+            out,
+        ) {
+            Ok(()) => Ok(()),
+            Err(refusal) => {
+                out.truncate(length);
+                Err(refusal)
+            }
+        }
+    }
 }

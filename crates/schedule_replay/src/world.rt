@@ -16,39 +16,34 @@ ghost use Rattle.schedule_replay.specs.Texts.{lines_text};
 ghost use Rattle.schedule_replay.specs.Worlds.{IsReached, IsWorld, StandsFor};
 ghost use Rattle.schedule_replay.specs.Steps.{Takes, StopsAt};
 
-use crate::acts::act;
-use crate::laws::{cores_may_step, events_are_inputs};
 use crate::lines::Lines;
 use crate::running::Running;
 use crate::stop::WorldStop;
 use agent_core::Agent;
 use app_master::AppMaster;
 use cluster_desc::Cluster;
-use core_join::written_frame_lengths;
 use fuxi_master::Master;
 use fuxi_terms::OutOfMemory;
-use memory_checkpoint::Checkpoint;
-use packet_pool::PacketPool;
-use running_agents::Agents;
-use running_apps::Apps;
-use running_masters::Masters;
 use running_quiet::is_quiet;
-use running_state::write_state;
 use schedule_text::Event;
 use schedule_unit::{AppNo, MachineNo};
 use std::alloc::Global;
 use std::marker::Model;
-use written_order::worlds_in_order;
-use written_world::{every_event_keeps_good, good_at_start};
 
 /// All that runs at once: the masters, agents and applications of a cluster, the hard state of its masters, and the frames of all packets
 /// that were ever sent.
 ///
 /// Whatever happened to it, it stands for a world of the definitions to which events lead (`IsReached`): so what holds of every such world
 /// holds of the cores that run.
-#[derive(Drop)]
 pub struct World {
     running: Running,
+}
+
+// Written out, so that who lets one go checks this call and not all of its parts.
+impl Drop for World {
+    fn drop(self) {
+        let World { running } = self;
+    }
 }
 
 impl Model for World {
@@ -68,20 +63,10 @@ impl World {
         ensures stands { IfOk result (λ world. StandsFor world (empty_world cluster)) }
         ensures events { IfOk result (λ world. world.events ≡ 0) }
     {
-        good_at_start();
-        worlds_in_order();
-        let _valid = cluster.machines();
-        let agents = Agents::none(alloc, &cluster)?;
-        let running = Running {
-            cluster,
-            checkpoint: Checkpoint::open(alloc)?,
-            masters: Masters::none(alloc),
-            agents,
-            apps: Apps::none(alloc)?,
-            pool: PacketPool::new(alloc),
-            events: 0,
-        };
-        Ok(World { running })
+        match Running::start(alloc, cluster) {
+            Ok(running) => Ok(World { running }),
+            Err(refusal) => Err(refusal),
+        }
     }
 
     /// One event, and what it prints. The event is one that a line can give, and fewer than 2^29 were taken. After a stop the world is gone.
@@ -92,21 +77,11 @@ impl World {
         ensures events { IfOk result (λ after. after.0.events ≡ self.events + 1) }
         ensures stops { IfErr result (StopsAt (event_as event.now) self) }
     {
-        every_event_keeps_good();
-        worlds_in_order();
-        events_are_inputs();
-        cores_may_step();
-        written_frame_lengths();
         let World { mut running } = self;
-        running.events += 1;
-        let mut out = Vec::new(alloc);
-        match act(&mut running, alloc, event, &mut out) {
-            Ok(()) => {}
-            Err(stop) => return Err(stop),
+        match running.step(alloc, event) {
+            Ok(lines) => Ok((World { running }, lines)),
+            Err(stop) => Err(stop),
         }
-        let _packets = running.pool.len();
-        let _bytes = running.pool.bytes();
-        Ok((World { running }, Lines::of(out)))
     }
 
     /// Appends the lines of the state. A refusal leaves `out` as it was.
@@ -114,25 +89,7 @@ impl World {
         ensures ok { OnOk result ((w : WrittenWorld) → IsWorld w → StandsFor self.now w → out.new.items ≡ out.old.items ++ lines_text (show w)) }
         ensures err { OnErr result (out.new.items ≡ out.old.items) }
     {
-        let length = out.len();
-        let running = &self.running;
-        let packets = running.pool.len();
-        match write_state(
-            &running.cluster,
-            running.checkpoint.hard(),
-            &running.masters,
-            &running.agents,
-            &running.apps,
-            running.events,
-            packets,
-            out,
-        ) {
-            Ok(()) => Ok(()),
-            Err(refusal) => {
-                out.truncate(length);
-                Err(refusal)
-            }
-        }
+        self.running.write_state(out)
     }
 
     /// What runs stands for a world of the definitions to which events lead, whatever happened: that is the invariant of the type, for who

@@ -201,12 +201,12 @@ module _ (bytes : List ℕ) (cluster : ClusterRecord) (first number : ℕ) (ends
   through_more line more = ap (run_from first (empty_world cluster)) (append_assoc a.lines (line ∷ []) more) ∙ a.through (line ∷ more)
 
   step : (rest' w' : Option (List ℕ)) (line : InputLine) (r' : WorldRecord) → ends ≡ true → number < most_lines → GivesKnown Line rest line rest'
-      → ((v : World) → Stands r v → TakesLine (content line) (number + 1) v (Ok r') w w')
+      → ((v : World) → Stands r v → TakesLine (content line) (number + 1) v (Ok tt) w w')
       → ((v : World) → Stands r v → Stands r' (after_line v (content line)))
       → Along bytes cluster first (number + 1) line.ended r' rest' w0 w'
   step rest' w' line r' before more gives takes stands = by_line (takes a.world a.stands)
     where
-      by_line : TakesLine (content line) (number + 1) a.world (Ok r') w w' → Along bytes cluster first (number + 1) line.ended r' rest' w0 w'
+      by_line : TakesLine (content line) (number + 1) a.world (Ok tt) w w' → Along bytes cluster first (number + 1) line.ended r' rest' w0 w'
       by_line (inl h) =
           let n = next_line a.left line rest rest' a.is_left gives in
           record {
@@ -297,7 +297,7 @@ module _ (bytes : List ℕ) (cluster : ClusterRecord) (first number : ℕ) (ends
       (ap (λ (r : Run). r.ending) same ∙ ap (AtLimit Lines) (sym m.0), subst (λ (r : Run). Appends w0 w (concat r.outputs)) (sym same) a.writes)
 
   line_ended : (pending : List ℕ) (source w' : Option (List ℕ)) (line : InputLine) (status : Status) → number < most_lines → length pending ≤ read_ahead → GivesKnown Line rest line (prepend_known pending source)
-      → ((v : World) → Stands r v → TakesLine {A = WorldRecord} (content line) (number + 1) v (Err status) w w') → Ended (run_from first (empty_world cluster)) bytes status source w0 w'
+      → ((v : World) → Stands r v → TakesLine (content line) (number + 1) v (Err status) w w') → Ended (run_from first (empty_world cluster)) bytes status source w0 w'
   line_ended pending source w' line status more few gives takes = by_status status (takes a.world a.stands)
     where
       -- what the run over the lines taken, with this one, has printed
@@ -350,7 +350,7 @@ module _ (bytes : List ℕ) (cluster : ClusterRecord) (first number : ℕ) (ends
           by_said (Ok event) is = by_limit event is (limit_of a.world (world_step a.world (event_as event)).world) refl
           by_said (Err fault) is = silent (AtBadLine (number + 1) (event_fault fault)) (λ short. run_bad number a.world line [] more short unskipped fault is)
 
-      by_status : (status : Status) → TakesLine {A = WorldRecord} (content line) (number + 1) a.world (Err status) w w' → Ended (run_from first (empty_world cluster)) bytes status source w0 w'
+      by_status : (status : Status) → TakesLine (content line) (number + 1) a.world (Err status) w w' → Ended (run_from first (empty_world cluster)) bytes status source w0 w'
       by_status (BadInput m fault) h =
           ends_at (AtBadLine m fault) h.3 (λ lines short. run_bad number a.world line lines more short h.0 h.1.why h.1.is
           ∙ ap (λ k. ended (Some a.world) (AtBadLine k (event_fault h.1.why))) (sym h.2) ∙ ap (λ f. ended (Some a.world) (AtBadLine m f)) (sym h.1.same))
@@ -371,7 +371,7 @@ module _ (bytes : List ℕ) (cluster : ClusterRecord) (first number : ℕ) (ends
 -- the same of an input that may be known
 module _ (input : Option (List ℕ)) (cluster : ClusterRecord) (first number : ℕ) (ends : Bool) (r : WorldRecord) (rest w0 w : Option (List ℕ)) (a : IfSome input (λ bytes. Along bytes cluster first number ends r rest w0 w)) where
   pub step_along : (rest' w' : Option (List ℕ)) (line : InputLine) (r' : WorldRecord) (number' : ℕ) → ends ≡ true → number' ≡ number + 1 → number < most_lines → GivesKnown Line rest line rest'
-      → ((v : World) → Stands r v → TakesLine (content line) (number + 1) v (Ok r') w w')
+      → ((v : World) → Stands r v → TakesLine (content line) (number + 1) v (Ok tt) w w')
       → ((v : World) → Stands r v → Stands r' (after_line v (content line)))
       → IfSome input (λ bytes. Along bytes cluster first number' line.ended r' rest' w0 w')
   step_along rest' w' line r' number' before next more gives takes stands =
@@ -395,7 +395,7 @@ module _ (input : Option (List ℕ)) (cluster : ClusterRecord) (first number : �
   stop_along source stop before broke long many = weaker input _ _ (λ bytes along. stop_ended bytes cluster first number ends r rest w0 w along source stop before broke long many) a
 
   pub line_along : (pending : List ℕ) (source w' : Option (List ℕ)) (line : InputLine) (status : Status) → number < most_lines → length pending ≤ read_ahead → GivesKnown Line rest line (prepend_known pending source)
-      → ((v : World) → Stands r v → TakesLine {A = WorldRecord} (content line) (number + 1) v (Err status) w w')
+      → ((v : World) → Stands r v → TakesLine (content line) (number + 1) v (Err status) w w')
       → IfSome input (λ bytes. Ended (run_from first (empty_world cluster)) bytes status source w0 w')
   line_along pending source w' line status more few gives takes = weaker input _ _ (λ bytes along. line_ended bytes cluster first number ends r rest w0 w along pending source w' line status more few gives takes) a
 

@@ -68,7 +68,7 @@ abbrev pub after_line : World → List ℕ → World
 after_line w line = elim (is_skipped line) [ true ↦ w | false ↦ world_after w (event_of line) ]
 
 -- what taking the line with this number wrote
-abbrev pub TakesLine : {A : Type 0} → List ℕ → ℕ → World → Result A Status → Option (List ℕ) → Option (List ℕ) → Type 0
+abbrev pub TakesLine : List ℕ → ℕ → World → Result (Unit {0}) Status → Option (List ℕ) → Option (List ℕ) → Type 0
 TakesLine line number w (Ok done) before after =
     ((is_skipped line ≡ true) × (after ≡ before)) ⊎ ((is_skipped line ≡ false) × ((output : List ℕ) × Prints line w output × Appends before after output))
 TakesLine line number w (Err (BadInput n fault)) before after = (is_skipped line ≡ false) × IsNone line fault × (n ≡ number) × (after ≡ before)

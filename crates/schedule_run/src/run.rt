@@ -1,7 +1,8 @@
-ghost use Rattle.std.specs.Prelude.{false, IfOk, length, ◌≡◌, ◌+◌, ◌<◌, ◌≤◌, ◌^◌, ◌≢◌, Some, None, IfSome, Err, ℕ};
+ghost use Rattle.std.specs.Prelude.{false, OnOk, length, ◌≡◌, ◌+◌, ◌<◌, ◌≤◌, ◌^◌, ◌≢◌, Some, None, IfSome, Err, ℕ};
 ghost use Rattle.fuxi_io.specs.Causes.{Rose};
 ghost use Rattle.fuxi_io.specs.Reading.{rest_of, read_ahead};
 ghost use Rattle.written_world.specs.World.{World as WrittenWorld, empty_world};
+ghost use Rattle.schedule_replay.specs.Worlds.{IsReached};
 ghost use Rattle.schedule_run.specs.Runs.{run_from, read_from, Ended};
 ghost use Rattle.schedule_run.specs.Progress.{Stands, TakesLine, WritesState, after_line, world_status};
 ghost use Rattle.input_lines.specs.Wholes.{IsReady};
@@ -12,22 +13,24 @@ use fuxi_io::{Got, LimitOf, LineReader, LineStop, Sink, Source, Status, write_al
 use fuxi_terms::OutOfMemory;
 use input_cluster::read_cluster_line;
 use input_lines::{content, event_status, is_skipped, stop_status};
-use schedule_replay::{World, WorldStop};
+use schedule_replay::{Running, WorldStop};
 use schedule_text::{events_of_lines, read_event};
 use std::alloc::Global;
 
 // Takes a line: makes its event and writes what that prints, where it is not skipped.
 fn take_line<O: Sink>(
     alloc: Global,
-    world: World,
+    running: &mut Running,
     line: &[u8],
     number: u64,
     out: &mut O,
-) -> Result<World, Status>
-    requires { world.events < 2 ^ 29 }
-    ensures takes { (w : WrittenWorld) → Stands world w → TakesLine line.now number w result (O.took out.old) (O.took out.new) }
-    ensures stands { IfOk result (λ after. (w : WrittenWorld) → Stands world w → Stands after (after_line w line.now)) }
-    ensures events { IfOk result (λ after. after.events ≤ world.events + 1) }
+) -> Result<(), Status>
+    requires reached { IsReached running.old }
+    requires events { running.old.events < 2 ^ 29 }
+    ensures takes { (w : WrittenWorld) → Stands running.old w → TakesLine line.now number w result (O.took out.old) (O.took out.new) }
+    ensures stands { OnOk result ((w : WrittenWorld) → Stands running.old w → Stands running.new (after_line w line.now)) }
+    ensures reached { OnOk result (IsReached running.new) }
+    ensures events { OnOk result (running.new.events ≤ running.old.events + 1) }
     ensures later { O.faults out.old ≤ O.faults out.new }
     ensures fault { result ≡ Err Status.WriteFault → Rose (O.faults out.old) (O.faults out.new) }
     ensures lines { (kept : ℕ) → result ≢ Err (Status.Limit LimitOf.Lines kept) }
@@ -39,26 +42,26 @@ fn take_line<O: Sink>(
     ensures records { (kept : ℕ) → result ≢ Err (Status.Limit LimitOf.Records kept) }
 {
     if is_skipped(line) {
-        return Ok(world);
+        return Ok(());
     }
     events_of_lines();
     let event = match read_event(alloc, line) {
         Ok(event) => event,
         Err(fault) => return Err(event_status(fault, number)),
     };
-    let (world, lines) = match world.step(alloc, &event) {
-        Ok(after) => after,
+    let lines = match running.step(alloc, &event) {
+        Ok(lines) => lines,
         Err(stop) => return Err(world_status(stop)),
     };
     match write_all_of(out, lines.bytes()) {
-        Ok(()) => Ok(world),
+        Ok(()) => Ok(()),
         Err(_) => Err(Status::WriteFault),
     }
 }
 
 // Writes the state behind a whole input.
-fn write_state<O: Sink>(alloc: Global, world: &World, out: &mut O) -> Status
-    ensures writes { (w : WrittenWorld) → Stands world.now w → WritesState w result (O.took out.old) (O.took out.new) }
+fn write_state<O: Sink>(alloc: Global, running: &Running, out: &mut O) -> Status
+    ensures writes { (w : WrittenWorld) → Stands running.now w → WritesState w result (O.took out.old) (O.took out.new) }
     ensures fault { result ≡ Status.WriteFault → Rose (O.faults out.old) (O.faults out.new) }
     ensures read { result ≢ Status.ReadFault }
     ensures usage { result ≢ Status.Usage }
@@ -68,7 +71,7 @@ fn write_state<O: Sink>(alloc: Global, world: &World, out: &mut O) -> Status
     ensures damaged { (offset : ℕ) → result ≢ Status.DamagedCheckpoint offset }
 {
     let mut text = Vec::new(alloc);
-    match world.write_state(&mut text) {
+    match running.write_state(&mut text) {
         Ok(()) => {}
         Err(OutOfMemory) => return Status::OutOfMemory,
     }
@@ -116,24 +119,24 @@ fn run_lines<S: Source, O: Sink>(
     ensures damaged { (offset : ℕ) → result ≢ Status.DamagedCheckpoint offset }
     ensures records { lines.old.stop ≡ None → (kept : ℕ) → result ≢ Status.Limit LimitOf.Records kept }
 {
-    let Ok(mut world) = World::start(alloc, cluster) else {
+    let Ok(mut running) = Running::start(alloc, cluster) else {
         return Status::OutOfMemory;
     };
     for turn in 0..1_000_001u64 {
         if !lines.ended() {
-            return write_state(alloc, &world, out);
+            return write_state(alloc, &running, out);
         }
         match lines.next(source) {
             Ok(Got::Line) => {}
-            Ok(Got::End) => return write_state(alloc, &world, out),
+            Ok(Got::End) => return write_state(alloc, &running, out),
             Err(stop) => return stop_status(stop, lines.number()),
         }
         let number = lines.number();
         let line = content(lines.line(), lines.ended());
-        world = match take_line(alloc, world, line, number, out) {
-            Ok(world) => world,
+        match take_line(alloc, &mut running, line, number, out) {
+            Ok(()) => {}
             Err(status) => return status,
-        };
+        }
     }
     unreachable!()
 }

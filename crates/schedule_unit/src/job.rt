@@ -7,6 +7,7 @@ ghost use Rattle.schedule_unit.specs.Units.{unit_record};
 use crate::asks::Ask;
 use crate::party::{AppNo, GroupNo, UnitNo};
 use fuxi_terms::OutOfMemory;
+use fuxi_terms::limits::MOST_UNITS;
 use res_vector::{Res, are_quantities, from_quantities, is_zero};
 use std::alloc::Global;
 use std::marker::Model;
@@ -94,7 +95,7 @@ impl Job {
         if units.is_empty() {
             return Err(JobFault::NoUnits);
         }
-        if units.len() > 8 {
+        if units.len() > MOST_UNITS {
             return Err(JobFault::TooManyUnits);
         }
         let units = make_units(alloc, resources, units)?;

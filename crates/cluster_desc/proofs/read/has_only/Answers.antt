@@ -4,8 +4,8 @@ use Rattle.std.specs.List.{list_all, list_any}
 use Rattle.std.proofs.lemmas.Iterator.Consumers.{YieldsList-from_rest}
 use Rattle.std.proofs.lemmas.Iterator.Search.{all_from_yields_List}
 use Rattle.std.specs.Str.{bytes_eq}
-use Rattle.fuxi_io.specs.Statuses.{word_of}
-use Rattle.fuxi_io.specs.declared.status.ClusterKey.{ClusterKey}
+use Rattle.fuxi_terms.specs.ClusterKeys.{word_of}
+use Rattle.fuxi_terms.specs.declared.cluster_key.ClusterKey.{ClusterKey}
 use Rattle.serde_json.specs.View.{members_view}
 use Rattle.serde_json.specs.declared.value.Value.{Value}
 use Rattle.cluster_desc.specs.ClusterLine.{has_only}

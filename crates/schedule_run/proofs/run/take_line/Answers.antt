@@ -1,5 +1,4 @@
 use Rattle.std.proofs.Common.{sym, subst}
-use Rattle.schedule_replay.specs.Worlds.{WorldRecord}
 use Rattle.schedule_run.specs.Progress.{Stands}
 use Rattle.schedule_run.proofs.Stepping.{event_line, stopped_at, took_line, took_part}
 use Rattle.schedule_run.proofs.run.take_line.Goals as goal
@@ -9,19 +8,19 @@ step-requires-clause-line g c = c.events_of_lines.ensures c.args.line.now c.in-O
 
 pub returns-in-Err-step-clause-takes : goal.returns-in-Err-step-clause-takes
 returns-in-Err-step-clause-takes g c w s =
-    rw c.world_status.ensures (stopped_at WorldRecord c.args.line.now c.args.number w c.in-Ok.event (g.O.Sink.took c.args.out.now) (sym c.if-is_skipped.ensures) c.in-Ok.ensures.ok c.in-Err-step.stop (c.in-Err-step.ensures.stops w s.is s.stands))
+    rw c.world_status.ensures (stopped_at c.args.line.now c.args.number w c.in-Ok.event (g.O.Sink.took c.args.out.now) (sym c.if-is_skipped.ensures) c.in-Ok.ensures.ok c.in-Err-step.stop (c.in-Err-step.ensures.stops w s.is s.stands))
 
 pub returns-in-Ok-write_all_of-clause-stands : goal.returns-in-Ok-write_all_of-clause-stands
 returns-in-Ok-write_all_of-clause-stands g c w s =
     let t = c.in-Ok-step.ensures.takes w s.is s.stands in
-    subst (Stands c.in-Ok-step.after.0) (sym (event_line w c.args.line.now c.in-Ok.event (sym c.if-is_skipped.ensures) c.in-Ok.ensures.ok)) (record { is = t.is; stands = t.stands })
+    subst (Stands c.step.new.self) (sym (event_line w c.args.line.now c.in-Ok.event (sym c.if-is_skipped.ensures) c.in-Ok.ensures.ok)) (record { is = t.is; stands = t.stands })
 
 pub returns-in-Ok-write_all_of-clause-takes : goal.returns-in-Ok-write_all_of-clause-takes
 returns-in-Ok-write_all_of-clause-takes g c w s =
-    took_line WorldRecord c.args.line.now c.args.number w c.in-Ok.event c.in-Ok-step.after.0 c.in-Ok-step.after.1 c.bytes.result.now (g.O.Sink.took c.args.out.now) (g.O.Sink.took c.write_all_of.new.out) c.in-Ok-step.after.0
+    took_line c.args.line.now c.args.number w c.in-Ok.event c.step.new.self c.in-Ok-step.lines c.bytes.result.now (g.O.Sink.took c.args.out.now) (g.O.Sink.took c.write_all_of.new.out)
     (sym c.if-is_skipped.ensures) c.in-Ok.ensures.ok (c.in-Ok-step.ensures.takes w s.is s.stands) c.bytes.ensures c.in-Ok-write_all_of.ensures.ok
 
 pub returns-clause-takes : goal.returns-clause-takes
 returns-clause-takes g c w s =
-    took_part WorldRecord c.args.line.now c.args.number w c.in-Ok.event c.in-Ok-step.after.0 c.in-Ok-step.after.1 c.bytes.result.now (g.O.Sink.took c.args.out.now) (g.O.Sink.took c.write_all_of.new.out)
+    took_part c.args.line.now c.args.number w c.in-Ok.event c.step.new.self c.in-Ok-step.lines c.bytes.result.now (g.O.Sink.took c.args.out.now) (g.O.Sink.took c.write_all_of.new.out)
     (sym c.if-is_skipped.ensures) c.in-Ok.ensures.ok (c.in-Ok-step.ensures.takes w s.is s.stands) c.bytes.ensures c.in-Err-write_all_of.ensures.err
