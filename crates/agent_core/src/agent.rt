@@ -25,6 +25,7 @@ use std::marker::Model;
 ///
 /// What its calls do is said of every agent of the definitions that it stands for (`StandsFor`). Each call that changes it is
 /// a step; fewer than 2^50 may be taken.
+#[derive(Drop)]
 pub struct Agent {
     machine: MachineNo,
     limit: RowLimit,
@@ -32,19 +33,6 @@ pub struct Agent {
     total: Sum,
     up: Side<JoinLedger, RowLedger>,
     steps: u64,
-}
-
-// Written out, so that who lets one go checks this call and not all of its parts.
-impl Drop for Agent {
-    fn drop(self) {
-        let Agent {
-            machine,
-            limit,
-            total,
-            up,
-            steps,
-        } = self;
-    }
 }
 
 impl Model for Agent {

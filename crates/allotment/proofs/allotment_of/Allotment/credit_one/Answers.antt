@@ -16,5 +16,5 @@ returns-clause-credits c =
     let units : c.units-units.result ≡ unit_count (as_known x.table.jobs) a = c.units-units.ensures.number ∙ ap (λ (r : AllotmentRecord). unit_count (as_known r.table.jobs) a) view in
     let machines : c.machines-machines.result ≡ length x.table.cluster.machines = c.machines-machines.ensures.number ∙ ap (λ (d : ClusterRecord). length d.machines) c.cluster.ensures.cluster ∙ ap (λ (r : AllotmentRecord). length r.table.cluster.machines) view in
     let fewer = c.min.ensures ∙ (λ i. min (c.saturating_sub-open.ensures i) (c.from.ensures i)) ∙ (λ i. min (c.args.back - c.credited.ensures i) (held i)) in
-    if_ok_four {A = AllotmentRecord} _ _ _ _ _ (λ y stands waits touches table. credits_taken a c.args.given.now.entries k c.args.back c.min.result x y c.if-key-ne5.false (subst (λ n. k.unit < n) units c.if-key-units.false) (subst (λ n. k.number < n) machines c.if-key-machines.false) fewer stands waits touches table)
+    if_ok_four {A = AllotmentRecord} _ _ _ _ _ (λ y stands waits touches table. credits_taken a c.args.given.now.entries k c.args.back c.min.result x y c.if-key-ne-BACK.false (subst (λ n. k.unit < n) units c.if-key-units.false) (subst (λ n. k.number < n) machines c.if-key-machines.false) fewer stands waits touches table)
     c.take.result c.take.ensures.stands c.take.ensures.waits c.take.ensures.touches c.take.ensures.table
