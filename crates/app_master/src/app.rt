@@ -34,6 +34,7 @@ use std::marker::Model;
 /// An application. It asks for grants, holds what its master grants, and gives back.
 ///
 /// What its calls do is said of every application by itself that it stands for (`StandsFor`).
+#[derive(Drop)]
 pub struct AppMaster {
     app: AppNo,
     units: u8,
@@ -42,21 +43,6 @@ pub struct AppMaster {
     carried: Carried,
     up: Side<Demand, Grants>,
     steps: u64,
-}
-
-// Written out, so that who lets one go checks this call and not all of its parts.
-impl Drop for AppMaster {
-    fn drop(self) {
-        let AppMaster {
-            app,
-            units,
-            machines,
-            racks,
-            carried,
-            up,
-            steps,
-        } = self;
-    }
 }
 
 impl Model for AppMaster {
