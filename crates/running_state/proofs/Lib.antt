@@ -1,9 +1,4 @@
-mod Numbers
 mod Walks
-mod Spots
 mod Loops
 mod Showing
-mod Places
-mod Jobs
-mod Waiting
 mod Whole

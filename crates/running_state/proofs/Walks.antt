@@ -1,210 +1,101 @@
--- Each entry of a map once: a walk over rising keys among which those of the map are, with what is found at each, is a walk over the map.
-use Rattle.std.proofs.Common.{◌≡◌, ℕ, zero, suc, ◌<◌, ◌≤◌, Bool, true, false, cond, not, nat_eq, T, List, [], ◌∷◌, ◌++◌, map, Some, None, is_some, refl, sym, ◌∙◌, ap, subst, arith}
-use Rattle.std.specs.Prelude.{⊤, ◌||◌, ◌&&◌}
-use Rattle.std.specs.List.{AllByRecursion, flat_map, filter, list_any}
-use Rattle.std.specs.Ordering.{nat_cmp, eq_by_cmp, is_eq, is_lt, ordering_reverse}
-use Rattle.std.specs.Cmp.{IsTotalOrder, nat_cmp_total, nat_cmp_is, tied_itself, unsigned_tied}
-use Rattle.std.specs.declared.cmp.Ordering.{Ordering}
-use Rattle.std.specs.declared.cmp.Ordering.TheVariants.{Less, Equal, Greater}
+-- Each entry of a map by number once: what is found at each of its numbers, or at each number below one that none is beyond, is all that is there.
+use Rattle.std.proofs.Common.{◌≡◌, ℕ, zero, suc, ◌≤◌, Bool, true, false, cond, nat_eq, nat_lt, T, List, [], ◌∷◌, ◌++◌, map, Option, Some, None, refl, sym, ◌∙◌, ap, arith, append_assoc, append-nil}
+use Rattle.std.specs.List.{flat_map}
+use Rattle.std.specs.Ordering.{nat_cmp, is_eq, is_lt, ordering_reverse}
+use Rattle.std.specs.Cmp.{nat_cmp_total, tied_itself, unsigned_tied}
+use Rattle.std.specs.declared.cmp.Ordering.TheVariants.{Greater}
 use Rattle.std.specs.FinMap.Entries.{find, is_sorted, below_all}
 use Rattle.std.proofs.lemmas.Bool.Decides.{nat_tests}
-use Rattle.std.proofs.lemmas.Map.Lookups.{exact_unsigned}
-use Rattle.std.proofs.lemmas.List.Folds.{list_any-append}
+use Rattle.std.proofs.lemmas.List.Concat.{flat_map-append}
 use Rattle.fuxi_terms.specs.Lists.{below}
-use Rattle.fuxi_terms.proofs.Alls.{all_append}
-use Rattle.fuxi_terms.proofs.Booleans.{or_left, or_right, eq_turned}
-use Rattle.fuxi_terms.proofs.Counting.{both_true, lesser, tied, below_none, find_below_head}
-use Rattle.fuxi_terms.specs.Jobs.{KnownJob, job_of, is_known, job_numbers}
-use Rattle.fuxi_terms.specs.Numbers.{has_number}
+use Rattle.fuxi_terms.proofs.Counting.{both_true, lesser}
 use Rattle.written_roles.specs.Refusals.{with_found}
-use Rattle.written_order.specs.Orders.{Rise}
-use Rattle.running_state.proofs.Numbers.{with_is, with_rises}
 
--- keys that rise: each is below all behind it
-abbrev pub Rising : {K : Type 0} → (K → K → Ordering) → List K → Type 0
-Rising R [] = ⊤
-Rising R (k ∷ ks) = AllByRecursion (λ q. R k q ≡ Less) ks × Rising R ks
+left_over : {X : Type 0} (b : Bool) (x : X) (o : Option X) → cond b (Some x) o ≡ None → o ≡ None
+left_over true x o e = cc
+left_over false x o e = e
 
-abbrev pub is_among : {K : Type 0} → (K → K → Ordering) → List K → K → Bool
-is_among R ks k = list_any (eq_by_cmp R k) ks
-
-module _ {K X L : Type 0} {R : K → K → Ordering} (o : IsTotalOrder R) (exact : (x y : K) → R x y ≡ Equal → x ≡ y) (F : K → X → List L) where
-  -- what is found at a key
-  abbrev pub found_at : List (K × X) → K → List L
-  found_at es k = with_found (find R k es) [] (F k)
-
-  none_found : (ks : List K) → flat_map (found_at []) ks ≡ []
-  none_found [] = refl
-  none_found (k ∷ ks) = none_found ks
-
-  apart : (x y : K) → R x y ≡ Less → eq_by_cmp R y x ≡ false
-  apart x y lt = ap is_eq (o.antisymm y x ∙ ap ordering_reverse lt)
-
-  -- keys above one are found behind it
-  skips : (e : K × X) (es : List (K × X)) (ks : List K) → AllByRecursion (λ q. R e.0 q ≡ Less) ks → flat_map (found_at (e ∷ es)) ks ≡ flat_map (found_at es) ks
-  skips e es [] h = refl
-  skips e es (k ∷ ks) h = let here : eq_by_cmp R k e.0 ≡ false = apart e.0 k h.0 in let rest = skips e es ks h.1 in
-      λ i. with_found (cond (here i) (Some e.1) (find R k es)) [] (F k) ++ rest i
-
-  -- a key below all is none of them
-  not_first : (k : K) (ks : List K) (q : K) → R k q ≡ Less → is_among R (k ∷ ks) q ≡ true → is_among R ks q ≡ true
-  not_first k ks q lt is = sym (ap (λ b. b || is_among R ks q) (apart k q lt)) ∙ is
-
-  all_behind : (k : K) (ks : List K) (es : List (K × X)) → T (below_all R k es) → AllByRecursion (λ e. is_among R (k ∷ ks) e.0 ≡ true) es → AllByRecursion (λ e. is_among R ks e.0 ≡ true) es
-  all_behind k ks [] b h = tt
-  all_behind k ks (e ∷ es) b h = let t = both_true (is_lt (R k e.0)) _ b in (not_first k ks e.0 (lesser _ t.0) h.0, all_behind k ks es t.1 h.1)
-
-  below_more : (k q : K) (es : List (K × X)) → R k q ≡ Less → T (below_all R q es) → T (below_all R k es)
-  below_more k q [] lt b = tt
-  below_more k q (e ∷ es) lt b = let t = both_true (is_lt (R q e.0)) _ b in
-      let here : R k e.0 ≡ Less = o.trans k q e.0 lt (lesser _ t.0) in
-      subst (λ r. T (is_lt r && below_all R k es)) (sym here) (below_more k q es lt t.1)
-
-  -- what is below all of them is none
-  not_among : (q : K) (ks : List K) → AllByRecursion (λ k. R q k ≡ Less) ks → is_among R ks q ≡ true → ⊥
-  not_among q [] h is = cc
-  not_among q (k ∷ ks) h is = not_among q ks h.1 (sym (ap (λ r. is_eq r || is_among R ks q) h.0) ∙ is)
-
-  all_above : (q k : K) (ks : List K) → R q k ≡ Less → AllByRecursion (λ x. R k x ≡ Less) ks → AllByRecursion (λ x. R q x ≡ Less) ks
-  all_above q k [] lt h = tt
-  all_above q k (x ∷ xs) lt h = (o.trans q k x lt h.0, all_above q k xs lt h.1)
-
-  pub each_once : (ks : List K) (es : List (K × X)) → Rising R ks → T (is_sorted R es) → AllByRecursion (λ e. is_among R ks e.0 ≡ true) es → flat_map (found_at es) ks ≡ flat_map (λ e. F e.0 e.1) es
-  each_once [] [] r s m = refl
-  each_once [] (e ∷ es) r s m = cc
-  each_once (k ∷ ks) [] r s m = none_found (k ∷ ks)
-  each_once (k ∷ ks) (e ∷ es) r s m = by (R k e.0) refl (λ h. each_once ks (e ∷ es) r.1 s h) (λ h. each_once ks es r.1 (both_true (below_all R e.0 es) _ s).1 h)
-    where
-      sorted : T (below_all R e.0 es) × T (is_sorted R es)
-      sorted = both_true (below_all R e.0 es) _ s
-
-      by : (t : Ordering) → R k e.0 ≡ t → (AllByRecursion (λ e. is_among R ks e.0 ≡ true) (e ∷ es) → flat_map (found_at (e ∷ es)) ks ≡ flat_map (λ e. F e.0 e.1) (e ∷ es))
-          → (AllByRecursion (λ e. is_among R ks e.0 ≡ true) es → flat_map (found_at es) ks ≡ flat_map (λ e. F e.0 e.1) es)
-          → flat_map (found_at (e ∷ es)) (k ∷ ks) ≡ F e.0 e.1 ++ flat_map (λ e. F e.0 e.1) es
-      by Less is all rest =
-          let none : find R k (e ∷ es) ≡ None = ap (λ r. cond (is_eq r) (Some e.1) (find R k es)) is ∙ find_below_head o k e es is sorted.0 in
-          let behind : AllByRecursion (λ (e : K × X). is_among R ks e.0 ≡ true) (e ∷ es) = (not_first k ks e.0 is m.0, all_behind k ks es (below_more k e.0 es is sorted.0) m.1) in
-          ap (λ x. with_found x [] (F k) ++ flat_map (found_at (e ∷ es)) ks) none ∙ all behind
-      by Equal is all rest =
-          let same : k ≡ e.0 = exact k e.0 is in
-          let here : find R k (e ∷ es) ≡ Some e.1 = ap (λ r. cond (is_eq r) (Some e.1) (find R k es)) is in
-          let behind = all_behind k ks es (subst (λ q. T (below_all R q es)) (sym same) sorted.0) m.1 in
-          let later = skips e es ks (subst (λ q. AllByRecursion (λ x. R q x ≡ Less) ks) same r.0) ∙ rest behind in
-          ap (λ x. with_found x [] (F k) ++ flat_map (found_at (e ∷ es)) ks) here ∙ (λ i. F (same i) e.1 ++ later i)
-      by Greater is all rest =
-          let less : R e.0 k ≡ Less = o.antisymm e.0 k ∙ ap ordering_reverse is in
-          absurd (not_among e.0 (k ∷ ks) (less, all_above e.0 k ks less r.0) m.0)
-
--- Rising keys, put together
-module _ {K : Type 0} (R : K → K → Ordering) where
-  pub rising_append : (as_ bs : List K) → Rising R as_ → Rising R bs → AllByRecursion (λ a. AllByRecursion (λ b. R a b ≡ Less) bs) as_ → Rising R (as_ ++ bs)
-  rising_append [] bs r s h = s
-  rising_append (a ∷ as_) bs r s h = (all_append (λ b. R a b ≡ Less) as_ bs r.0 h.0, rising_append as_ bs r.1 s h.1)
-
--- numbers below one
-all_below : (n : ℕ) (m : ℕ) → n ≤ m → AllByRecursion (λ k. k < m) (below n)
-all_below zero m le = tt
-all_below (suc n) m le = all_append (λ k. k < m) (below n) (n ∷ []) (all_below n m (omega (arith, le))) (omega (arith, le), tt)
-
-pub below_rising : (n : ℕ) → Rising nat_cmp (below n)
-below_rising zero = tt
-below_rising (suc n) = rising_append nat_cmp (below n) (n ∷ []) (below_rising n) (tt, tt) (lesser_each (below n) (all_below n n (omega arith)))
-  where
-    lesser_each : (ks : List ℕ) → AllByRecursion (λ k. k < n) ks → AllByRecursion (λ k. AllByRecursion (λ b. nat_cmp k b ≡ Less) (n ∷ [])) ks
-    lesser_each [] h = tt
-    lesser_each (k ∷ ks) h = ((sym (nat_cmp_is k n Less h.0), tt), lesser_each ks h.1)
-
--- each number below one is among them
-among_below : (n k : ℕ) → k < n → is_among nat_cmp (below n) k ≡ true
-among_below zero k lt = absurd (omega (arith, lt))
-among_below (suc n) k lt =
-    list_any-append (eq_by_cmp nat_cmp k) (below n) (n ∷ []) ∙ ap (λ b. is_among nat_cmp (below n) k || (b || false)) (unsigned_tied k n)
-    ∙ by (nat_eq k n) refl (λ less. among_below n k less)
-  where
-    by : (b : Bool) → nat_eq k n ≡ b → (k < n → is_among nat_cmp (below n) k ≡ true) → (is_among nat_cmp (below n) k || (b || false)) ≡ true
-    by true e rest = or_right (is_among nat_cmp (below n) k) true refl
-    by false e rest = or_left (is_among nat_cmp (below n) k) false (rest (grind (arith, nat_tests, lt, e)))
-
--- Maps by number, with all keys below one
 module _ {X L : Type 0} (F : ℕ → X → List L) where
-  keys_among : (n : ℕ) (es : List (ℕ × X)) → AllByRecursion (λ e. e.0 < n) es → AllByRecursion (λ e. is_among nat_cmp (below n) e.0 ≡ true) es
-  keys_among n [] h = tt
-  keys_among n (e ∷ es) h = (among_below n e.0 h.0, keys_among n es h.1)
+  -- what is found at a number
+  abbrev pub found_at : List (ℕ × X) → ℕ → List L
+  found_at es k = with_found (find nat_cmp k es) [] (F k)
 
-  pub each_below : (n : ℕ) (es : List (ℕ × X)) → T (is_sorted nat_cmp es) → AllByRecursion (λ e. e.0 < n) es → flat_map (found_at nat_cmp_total exact_unsigned F es) (below n) ≡ flat_map (λ e. F e.0 e.1) es
-  each_below n es s h = each_once nat_cmp_total exact_unsigned F (below n) es (below_rising n) s (keys_among n es h)
+  here : (e : ℕ × X) (es : List (ℕ × X)) → find nat_cmp e.0 (e ∷ es) ≡ Some e.1
+  here e es = ap (λ r. cond (is_eq r) (Some e.1) (find nat_cmp e.0 es)) (tied_itself nat_cmp_total e.0)
 
--- what holds of every key that is found holds of all keys
-pub all_found : {X : Type 0} (P : ℕ → Type 0) (es : List (ℕ × X)) → T (is_sorted nat_cmp es) → ((k : ℕ) (x : X) → find nat_cmp k es ≡ Some x → P k) → AllByRecursion (λ e. P e.0) es
-all_found P [] s h = tt
-all_found {X} P (e ∷ es) s h =
-    let b = both_true (below_all nat_cmp e.0 es) _ s in (
-      h e.0 e.1 (ap (λ r. cond (is_eq r) (Some e.1) (find nat_cmp e.0 es)) (tied_itself nat_cmp_total e.0)),
-      all_found P es b.1 (λ k x f. h k x (behind k x f b.0 (eq_by_cmp nat_cmp k e.0) refl)),
-    )
-  where
-    behind : (k : ℕ) (x : X) → find nat_cmp k es ≡ Some x → T (below_all nat_cmp e.0 es) → (t : Bool) → eq_by_cmp nat_cmp k e.0 ≡ t → find nat_cmp k (e ∷ es) ≡ Some x
-    behind k x f b true is =
-        let same : k ≡ e.0 = exact_unsigned k e.0 (tied _ is) in
-        let none : None ≡ Some x = sym (below_none nat_cmp e.0 es b) ∙ ap (λ q. find nat_cmp q es) (sym same) ∙ f in
-        cc
-    behind k x f b false is = ap (λ t. cond t (Some e.1) (find nat_cmp k es)) is ∙ f
+  -- Numbers above one are found behind it
+  skips : (e : ℕ × X) (es fs : List (ℕ × X)) → T (below_all nat_cmp e.0 fs) → flat_map (found_at (e ∷ es)) (map (λ f. f.0) fs) ≡ flat_map (found_at es) (map (λ f. f.0) fs)
+  skips e es [] h = refl
+  skips e es (f ∷ fs) h =
+      let b = both_true (is_lt (nat_cmp e.0 f.0)) _ h in
+      let other : nat_cmp f.0 e.0 ≡ Greater = nat_cmp_total.antisymm f.0 e.0 ∙ ap ordering_reverse (lesser _ b.0) in
+      let rest = skips e es fs b.1 in
+      λ i. with_found (cond (is_eq (other i)) (Some e.1) (find nat_cmp f.0 es)) [] (F f.0) ++ rest i
 
--- Lists of rising numbers below one
-module _ {L : Type 0} (f : ℕ → L) where
-  -- the line of a number of the list
-  abbrev pub listed_at : List ℕ → ℕ → List L
-  listed_at ns k = cond (has_number k ns) (f k ∷ []) []
+  pub each_key : (es : List (ℕ × X)) → T (is_sorted nat_cmp es) → flat_map (found_at es) (map (λ e. e.0) es) ≡ flat_map (λ e. F e.0 e.1) es
+  each_key [] s = refl
+  each_key (e ∷ es) s =
+      let b = both_true (below_all nat_cmp e.0 es) _ s in
+      let first = here e es in
+      let rest = skips e es es b.0 ∙ each_key es b.1 in
+      λ i. with_found (first i) [] (F e.0) ++ rest i
 
-  numbered_at : (ns : List ℕ) (k : ℕ) → found_at nat_cmp_total exact_unsigned (λ k (n : ℕ). f k ∷ []) (map (λ n. (n, 0)) ns) k ≡ listed_at ns k
-  numbered_at [] k = refl
-  numbered_at (n ∷ ns) k = ap (λ b. with_found (cond b (Some 0) (find {X = ℕ} nat_cmp k (map (λ n. (n, 0)) ns))) [] (λ (n : ℕ). f k ∷ [])) (unsigned_tied k n)
-      ∙ by (nat_eq k n) (numbered_at ns k)
+  -- The entries whose numbers are below one
+  abbrev under : ℕ → List (ℕ × X) → List L
+  under n es = flat_map (λ e. cond (nat_lt e.0 n) (F e.0 e.1) []) es
+
+  none_under : (es : List (ℕ × X)) → under zero es ≡ []
+  none_under [] = refl
+  none_under (e ∷ es) = let over : nat_lt e.0 zero ≡ false = grind (arith, nat_tests) in let rest = none_under es in λ i. cond (over i) (F e.0 e.1) [] ++ rest i
+
+  -- none of them, where all are above the last
+  none_over : (k n : ℕ) (es : List (ℕ × X)) → n ≤ suc k → T (below_all nat_cmp k es) → under n es ≡ []
+  none_over k n [] le h = refl
+  none_over k n (e ∷ es) le h =
+      let b = both_true (is_lt (nat_cmp k e.0)) _ h in
+      let less = lesser _ b.0 in
+      let over : nat_lt e.0 n ≡ false = grind (arith, nat_tests, less, le) in
+      let rest = none_over k n es le b.1 in
+      λ i. cond (over i) (F e.0 e.1) [] ++ rest i
+
+  one_more : (n : ℕ) (es : List (ℕ × X)) → T (is_sorted nat_cmp es) → under (suc n) es ≡ under n es ++ found_at es n
+  one_more n [] s = refl
+  one_more n (e ∷ es) s = by (nat_lt e.0 n) (nat_eq n e.0) refl refl (one_more n es b.1)
+      ∙ (λ i. (cond (nat_lt e.0 n) V [] ++ under n es) ++ with_found (cond (sym (unsigned_tied n e.0) i) (Some e.1) (find nat_cmp n es)) [] (F n))
     where
-      by : (b : Bool) → with_found (find {X = ℕ} nat_cmp k (map (λ n. (n, 0)) ns)) [] (λ (n : ℕ). f k ∷ []) ≡ listed_at ns k
-          → with_found (cond b (Some 0) (find {X = ℕ} nat_cmp k (map (λ n. (n, 0)) ns))) [] (λ (n : ℕ). f k ∷ []) ≡ cond (b || has_number k ns) (f k ∷ []) []
-      by true rest = refl
-      by false rest = rest
+      b : T (below_all nat_cmp e.0 es) × T (is_sorted nat_cmp es)
+      b = both_true (below_all nat_cmp e.0 es) _ s
 
-  all_numbered : (ks ns : List ℕ) → flat_map (found_at nat_cmp_total exact_unsigned (λ k (n : ℕ). f k ∷ []) (map (λ n. (n, 0)) ns)) ks ≡ flat_map (listed_at ns) ks
-  all_numbered [] ns = refl
-  all_numbered (k ∷ ks) ns = let here = numbered_at ns k in let rest = all_numbered ks ns in λ i. here i ++ rest i
+      V : List L
+      V = F e.0 e.1
 
-  back : (ns : List ℕ) → flat_map (λ (e : ℕ × ℕ). f e.0 ∷ []) (map (λ n. (n, 0)) ns) ≡ map f ns
-  back [] = refl
-  back (n ∷ ns) = ap (λ l. f n ∷ l) (back ns)
+      by : (l q : Bool) → nat_lt e.0 n ≡ l → nat_eq n e.0 ≡ q → under (suc n) es ≡ under n es ++ found_at es n
+          → cond (nat_lt e.0 (suc n)) V [] ++ under (suc n) es ≡ (cond l V [] ++ under n es) ++ with_found (cond q (Some e.1) (find nat_cmp n es)) [] (F n)
+      by true true lt eq rest = absurd (grind (arith, nat_tests, lt, eq))
+      by true false lt eq rest =
+          let more : nat_lt e.0 (suc n) ≡ true = grind (arith, nat_tests, lt) in
+          (λ i. cond (more i) V [] ++ rest i) ∙ sym (append_assoc V (under n es) (found_at es n))
+      by false true lt eq rest =
+          let same : e.0 ≡ n = grind (arith, nat_tests, eq) in
+          let more : nat_lt e.0 (suc n) ≡ true = grind (arith, nat_tests, eq) in
+          let gone = none_over e.0 (suc n) es (omega (arith, same)) b.0 in
+          let none = none_over e.0 n es (omega (arith, same)) b.0 in
+          (λ i. cond (more i) V [] ++ gone i) ∙ append-nil V ∙ (λ i. sym none i ++ F (same i) e.1)
+      by false false lt eq rest =
+          let more : nat_lt e.0 (suc n) ≡ false = grind (arith, nat_tests, lt, eq) in
+          λ i. cond (more i) V [] ++ rest i
 
-  all_less : (n : ℕ) (ns : List ℕ) → AllByRecursion (λ k. k < n) ns → AllByRecursion (λ (e : ℕ × ℕ). e.0 < n) (map (λ n. (n, 0)) ns)
-  all_less n [] h = tt
-  all_less n (k ∷ ns) h = (h.0, all_less n ns h.1)
+  all_under : (n : ℕ) (es : List (ℕ × X)) → ((k : ℕ) → n ≤ k → find nat_cmp k es ≡ None) → under n es ≡ flat_map (λ e. F e.0 e.1) es
+  all_under n [] h = refl
+  all_under n (e ∷ es) h = by (nat_lt e.0 n) refl (all_under n es (λ k le. left_over _ e.1 (find nat_cmp k es) (h k le)))
+    where
+      by : (b : Bool) → nat_lt e.0 n ≡ b → under n es ≡ flat_map (λ e. F e.0 e.1) es → under n (e ∷ es) ≡ F e.0 e.1 ++ flat_map (λ e. F e.0 e.1) es
+      by true is rest = λ i. cond (is i) (F e.0 e.1) [] ++ rest i
+      by false is rest = let none : Some e.1 ≡ None = sym (here e es) ∙ h e.0 (grind (arith, nat_tests, is)) in cc
 
-  pub listed_below : (n : ℕ) (ns : List ℕ) → Rise ns → AllByRecursion (λ k. k < n) ns → flat_map (listed_at ns) (below n) ≡ map f ns
-  listed_below n ns r h = sym (all_numbered (below n) ns) ∙ each_below (λ k (x : ℕ). f k ∷ []) n (map (λ n. (n, 0)) ns) r (all_less n ns h) ∙ back ns
+  below_under : (n : ℕ) (es : List (ℕ × X)) → T (is_sorted nat_cmp es) → flat_map (found_at es) (below n) ≡ under n es
+  below_under zero es s = sym (none_under es)
+  below_under (suc n) es s = flat_map-append (found_at es) (below n) (n ∷ []) ∙ (λ i. below_under n es s i ++ append-nil (found_at es n) i) ∙ sym (one_more n es s)
 
--- Jobs
-pub jobs_rise : (jobs : List KnownJob) → Rise (job_numbers jobs)
-jobs_rise [] = tt
-jobs_rise (j ∷ js) = with_rises j.job.number (job_numbers js) (jobs_rise js)
-
-pub job_listed : (jobs : List KnownJob) (a : ℕ) → is_known jobs a ≡ has_number a (job_numbers jobs)
-job_listed [] a = refl
-job_listed (j ∷ js) a = by (nat_eq j.job.number a) refl (job_listed js a) ∙ sym (with_is a j.job.number (job_numbers js))
-  where
-    by : (b : Bool) → nat_eq j.job.number a ≡ b → is_known js a ≡ has_number a (job_numbers js) → is_some (cond b (Some j) (job_of js a)) ≡ (nat_eq a j.job.number || has_number a (job_numbers js))
-    by true e rest = sym (or_left (nat_eq a j.job.number) _ (eq_turned a j.job.number ∙ e))
-    by false e rest = rest ∙ sym (ap (λ b. b || has_number a (job_numbers js)) (eq_turned a j.job.number ∙ e))
-
--- a line for each number where a count is not 0
-pub kept_only : {L : Type 0} (count : ℕ → ℕ) (f : ℕ → L) (ns : List ℕ) → flat_map (λ n. cond (nat_eq (count n) 0) [] (f n ∷ [])) ns ≡ map f (filter (λ n. not (nat_eq (count n) 0)) ns)
-kept_only count f [] = refl
-kept_only {L} count f (n ∷ ns) = by (nat_eq (count n) 0) (kept_only count f ns)
-  where
-    rest : List L
-    rest = flat_map (λ n. cond (nat_eq (count n) 0) [] (f n ∷ [])) ns
-
-    left : List ℕ
-    left = filter (λ n. not (nat_eq (count n) 0)) ns
-
-    by : (b : Bool) → rest ≡ map f left → cond b [] (f n ∷ []) ++ rest ≡ map f (cond (not b) (n ∷ left) left)
-    by true e = e
-    by false e = ap (λ l. f n ∷ l) e
+  pub each_below : (n : ℕ) (es : List (ℕ × X)) → T (is_sorted nat_cmp es) → ((k : ℕ) → n ≤ k → find nat_cmp k es ≡ None) → flat_map (found_at es) (below n) ≡ flat_map (λ e. F e.0 e.1) es
+  each_below n es s h = below_under n es s ∙ all_under n es h

@@ -1,14 +1,9 @@
 -- What runs, as the state that is printed sees it, and the worlds that it is of.
-use Rattle.std.specs.Prelude.{◌≡◌, ℕ, ◌++◌, List}
-use Rattle.std.specs.List.{flat_map}
+use Rattle.std.specs.Prelude.{◌≡◌}
 use Rattle.fuxi_terms.specs.Cluster.{ClusterRecord}
-use Rattle.written_net.specs.Net.{Packet}
-use Rattle.written_net.specs.Ledgers.{Body}
 use Rattle.written_roles.specs.HardState.{HardState}
-use Rattle.written_world.specs.Outputs.{Line}
 use Rattle.written_world.specs.World.{World}
 use Rattle.written_world.specs.Good.{Good}
-use Rattle.schedule_text.specs.Lines.{line_text}
 use Rattle.running_agents.specs.Running.{AgentsRecord, AreAgentsOf}
 use Rattle.running_apps.specs.Running.{AppsRecord, AreAppsOf}
 use Rattle.running_masters.specs.Running.{MastersRecord, AreMastersOf}
@@ -35,7 +30,3 @@ pub record IsRunningOf (w : World) (r : Running) : Type 0 where
 pub record IsKnown (r : Running) : Type 0 where
   pub world : World
   pub of : IsRunningOf world r
-
--- The text of these lines was appended, whatever the bytes of frames are, since no line is of a frame
-abbrev pub Shows : List Line → List ℕ → List ℕ → Type 0
-Shows lines before after = (frame : Packet → Body → List ℕ) → after ≡ before ++ flat_map (line_text frame) lines

@@ -3,9 +3,6 @@
 
 mod agents;
 mod apps;
-mod grants;
-mod hard;
-mod lines;
 mod masters;
 mod state;
 

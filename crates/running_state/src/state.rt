@@ -2,28 +2,26 @@
 
 ghost use Rattle.std.specs.Prelude.{◌≡◌, length, OnOk, OnErr};
 ghost use Rattle.written_world.specs.World.{World};
-ghost use Rattle.written_world.specs.Good.{Good};
 ghost use Rattle.written_world.specs.Show.{show};
+ghost use Rattle.written_order.specs.Orders.{IsInOrder};
 ghost use Rattle.schedule_text.specs.Writing.{Begins};
+ghost use Rattle.party_text.specs.Texts.{Shows};
 ghost use Rattle.running_agents.specs.Running.{AreAgentsOf};
 ghost use Rattle.running_apps.specs.Running.{AreAppsOf};
 ghost use Rattle.running_masters.specs.Running.{AreMastersOf};
-ghost use Rattle.running_state.specs.Masters.{AreKnownMasters};
-ghost use Rattle.written_order.specs.Orders.{IsInOrder};
-ghost use Rattle.running_state.specs.Parts.{show_parties};
-ghost use Rattle.running_state.specs.Shown.{IsKnown, IsRunningOf, Shows};
+ghost use Rattle.running_state.specs.Parts.{AreOfJobs, AreOnMachines, show_parties};
+ghost use Rattle.running_state.specs.Shown.{IsKnown, IsRunningOf};
 
 use crate::agents::write_agents;
 use crate::apps::write_apps;
-use crate::hard::write_hard;
-use crate::lines::write_line;
 use crate::masters::write_masters;
 use cluster_desc::Cluster;
 use fuxi_terms::OutOfMemory;
-use fuxi_terms::limits::MOST_JOBS;
 use hard_state::Hard;
+use master_text::write_hard;
+use party_text::write_line;
 use running_agents::Agents;
-use running_apps::{Apps, none_beyond};
+use running_apps::Apps;
 use running_masters::Masters;
 use schedule_text::Output;
 
@@ -36,12 +34,12 @@ fn write_parties(
     apps: &Apps,
     out: &mut Vec<u8>,
 ) -> Result<(), OutOfMemory>
-    requires { AreKnownMasters masters.now }
-    ensures ok { OnOk result ((w : World) → Good w → IsInOrder w → machines ≡ length w.cluster.machines → AreMastersOf w masters.now → AreAgentsOf w agents.now → AreAppsOf w apps.now
+    requires agents { AreOnMachines agents.now }
+    requires apps { AreOfJobs apps.now }
+    ensures ok { OnOk result ((w : World) → IsInOrder w → machines ≡ length w.cluster.machines → AreMastersOf w masters.now → AreAgentsOf w agents.now → AreAppsOf w apps.now
         → Shows (show_parties w) out.old.items out.new.items) }
     ensures begins { Begins out.old.items out.new.items }
 {
-    none_beyond();
     match write_masters(masters, out) {
         Ok(()) => {}
         Err(refusal) => return Err(refusal),
@@ -50,7 +48,7 @@ fn write_parties(
         Ok(()) => {}
         Err(refusal) => return Err(refusal),
     }
-    match write_apps(apps, MOST_JOBS, out) {
+    match write_apps(apps, out) {
         Ok(()) => Ok(()),
         Err(refusal) => Err(refusal),
     }
@@ -74,7 +72,11 @@ pub fn write_state(
         → events ≡ w.events → packets ≡ length w.net.packets → Shows (show w) out.old.items out.new.items) }
     ensures err { OnErr result (Begins out.old.items out.new.items) }
 {
-    match write_hard(hard, events, out) {
+    match write_line(&Output::State(events), out) {
+        Ok(()) => {}
+        Err(refusal) => return Err(refusal),
+    }
+    match write_hard(hard, out) {
         Ok(()) => {}
         Err(refusal) => return Err(refusal),
     }

@@ -1,21 +1,25 @@
-use Rattle.std.proofs.Common.{[], sym, ap, subst}
-use Rattle.written_roles.specs.Refusals.{with_found}
+use Rattle.std.proofs.Common.{sym, subst}
+use Rattle.std.specs.Ordering.{nat_cmp}
+use Rattle.std.specs.FinMap.Entries.{find}
 use Rattle.written_world.specs.Show.{show_agent}
+use Rattle.written_join.specs.Seen.{agent_seen}
+use Rattle.written_state.specs.States.{agent_lines}
 use Rattle.running_agents.specs.Running.{RunsAs, StandsAt}
-use Rattle.running_state.specs.Parts.{agent_lines}
-use Rattle.running_state.proofs.Showing.{shows_same, shows_none}
+use Rattle.running_state.proofs.Showing.{shows_found, shows_none}
 use Rattle.running_state.proofs.agents.write_agent_of.Goals as goal
+
+pub write_agent-requires-number : goal.write_agent-requires-number
+write_agent-requires-number c = c.requires c.args.machine.0 c.in-Some.agent.now (sym c.in-Some.ensures)
 
 pub returns-in-Ok-clause-ok : goal.returns-in-Ok-clause-ok
 returns-in-Ok-clause-ok c =
     let m = c.args.machine.0 in
     λ w of.
     let runs : RunsAs w m c.in-Some.agent.now = subst (StandsAt w m) (sym c.in-Some.ensures) (of.each m) in
-    shows_same (show_agent w.net m runs.agent) (agent_lines w m) c.args.out.now.items c.write_agent.new.out.items (sym (ap (λ o. with_found o [] (show_agent w.net m)) runs.runs)) (c.in-Ok.ensures.ok w runs.agent runs.stands)
+    let seen = agent_seen w m runs.agent in
+    shows_found (show_agent w.net m) (find nat_cmp m w.agents) runs.agent (agent_lines seen) c.args.out.now.items c.write_agent.new.out.items runs.runs (c.states_are_alone.ensures.agent w m runs.agent) (c.in-Ok.ensures.ok seen runs.stands)
 
 pub returns-in-None-clause-ok : goal.returns-in-None-clause-ok
 returns-in-None-clause-ok c =
     let m = c.args.machine.0 in
-    λ w of.
-    let none = subst (StandsAt w m) (sym c.in-None.ensures) (of.each m) in
-    shows_same [] (agent_lines w m) c.args.out.now.items c.args.out.now.items (sym (ap (λ o. with_found o [] (show_agent w.net m)) none)) (shows_none c.args.out.now.items)
+    λ w of. shows_none (show_agent w.net m) (find nat_cmp m w.agents) c.args.out.now.items (subst (StandsAt w m) (sym c.in-None.ensures) (of.each m))

@@ -1,27 +1,39 @@
-use Rattle.std.proofs.Common.{◌≡◌, ◌<◌, ℕ, ◌∙◌, subst, rules}
-use Rattle.written_roles.specs.Masters.{Master}
+use Rattle.std.proofs.Common.{◌≡◌, ℕ, length, sym, ◌∙◌, ap, refl, rules}
+use Rattle.std.specs.List.{flat_map}
+use Rattle.std.specs.Ordering.{nat_cmp}
+use Rattle.std.specs.FinMap.Entries.{find}
+use Rattle.std.proofs.lemmas.List.Folds.{flat_map-map}
 use Rattle.written_world.specs.Show.{show_master}
-use Rattle.running_state.proofs.Showing.{shows_item, shows_all, begins_then}
-use Rattle.running_state.proofs.Waiting.{master_at}
+use Rattle.written_join.specs.Seen.{master_seen}
+use Rattle.fuxi_master.specs.Cores.{MasterRecord}
+use Rattle.running_state.specs.Parts.{epoch_lines, show_masters}
+use Rattle.running_state.proofs.Showing.{shows_same, shows_found, shows_item, shows_all, begins_then}
+use Rattle.running_state.proofs.Walks.{each_key}
 use Rattle.running_state.proofs.masters.write_masters.Goals as goal
-
-pub write_master-requires : goal.write_master-requires
-write_master-requires c =
-    let k = c.requires in
-    let seen = k.of.each c.at-entry.result.0 c.at-entry.result.1.now c.at-entry.ensures.runs in
-    record { world = k.world; master = seen.master; of = record { good = k.good; epoch = c.at-entry.result.0; runs = seen.runs; stands = seen.stands } }
 
 pub loop-index-preserved : goal.loop-index-preserved
 loop-index-preserved c =
-    let within : c.loop-index.index < c.len-index-end.result = search rules in
+    let old = c.args.out.now.items in
+    let before = c.loop-index.out.items in
+    let after = c.write_master.new.out.items in
+    let epoch = c.at-entry.result.0 in
+    let core = c.at-entry.result.1.now in
     record {
-      shows = λ w good of sorted. shows_item (λ (e : ℕ × Master). show_master e.1) w.masters c.loop-index.index c.args.out.now.items c.loop-index.out.items c.write_master.new.out.items
-          (subst (λ n. c.loop-index.index < n) (c.len-index-end.ensures.world w of) within) (c.loop-index.invariant.shows w good of sorted)
-          (λ e is. c.in-Ok.ensures.ok w e.1 (master_at w c.args.masters.now c.loop-index.index (c.at-entry.result.0, c.at-entry.result.1.now) e good of sorted c.at-entry.ensures.entry c.at-entry.ensures.runs is));
-      begins = begins_then c.args.out.now.items c.loop-index.out.items c.write_master.new.out.items c.loop-index.invariant.begins c.write_master.ensures.begins;
+      shows = λ w of.
+          let runs = of.each epoch core c.at-entry.ensures.runs in
+          shows_item (λ (e : ℕ × MasterRecord). epoch_lines w e.0) c.args.masters.now.masters c.loop-index.index (epoch, core) old before after c.at-entry.ensures.entry (c.loop-index.invariant.shows w of)
+          (shows_found show_master (find nat_cmp epoch w.masters) runs.master (show_master runs.master) before after runs.runs refl (c.in-Ok.ensures.ok (master_seen w runs.master) runs.stands));
+      begins = begins_then old before after c.loop-index.invariant.begins c.write_master.ensures.begins;
     }
 
 pub returns-clause-ok : goal.returns-clause-ok
 returns-clause-ok c =
-    let all : c.loop-index.index ≡ c.len-index-end.result = search rules in
-    λ w good of sorted. shows_all (λ (e : ℕ × Master). show_master e.1) w.masters c.loop-index.index c.args.out.now.items c.loop-index.out.items (all ∙ c.len-index-end.ensures.world w of) (c.loop-index.invariant.shows w good of sorted)
+    let ms = c.args.masters.now.masters in
+    let old = c.args.out.now.items in
+    let new = c.loop-index.out.items in
+    let all : c.loop-index.index ≡ length ms = search rules in
+    λ w of sorted.
+    let F = λ (e : ℕ × MasterRecord). epoch_lines w e.0 in
+    shows_same (flat_map F ms) (show_masters w) old new
+    (sym (flat_map-map (epoch_lines w) (λ e. e.0) ms) ∙ ap (flat_map (epoch_lines w)) (sym of.epochs) ∙ each_key (λ k M. show_master M) w.masters sorted)
+    (shows_all F ms c.loop-index.index old new all (c.loop-index.invariant.shows w of))

@@ -1,34 +1,37 @@
-use Rattle.std.proofs.Common.{◌≡◌, ℕ, length, map, [], ◌∷◌, ◌++◌, sym, ◌∙◌, ap, subst}
-use Rattle.std.specs.List.{flat_map}
+use Rattle.std.proofs.Common.{◌≡◌, length, [], ◌∷◌, ◌++◌, sym, ◌∙◌, ap, subst}
 use Rattle.fuxi_terms.specs.Cluster.{ClusterRecord}
-use Rattle.fuxi_terms.specs.Lists.{below}
-use Rattle.written_roles.specs.Masters.{Master}
-use Rattle.written_world.specs.Outputs.{State, Fence, Banned, Packets}
-use Rattle.written_world.specs.Show.{show, show_jobs, show_master, show_agent, show_app}
-use Rattle.written_world.specs.World.{Agent, App}
-use Rattle.running_state.specs.Parts.{IsListed, show_hard, show_parties}
+use Rattle.written_world.specs.Outputs.{State, Packets}
+use Rattle.written_world.specs.Show.{show}
+use Rattle.written_state.specs.States.{hard_lines}
+use Rattle.running_agents.specs.Running.{RunsAs, StandsAt}
+use Rattle.running_apps.specs.Running.{AppRunsAs, AppStandsAt}
+use Rattle.running_state.specs.Parts.{show_parties}
 use Rattle.running_state.proofs.Showing.{shows_then, shows_same}
-use Rattle.running_state.proofs.Whole.{together, hard_listed}
+use Rattle.running_state.proofs.Whole.{whole_state}
 use Rattle.running_state.proofs.state.write_state.Goals as goal
 
-pub write_parties-requires : goal.write_parties-requires
-write_parties-requires c = let k = c.requires.known in record { world = k.world; good = k.of.good; of = k.of.masters }
+pub write_parties-requires-agents : goal.write_parties-requires-agents
+write_parties-requires-agents c = let k = c.requires.known in
+    λ m a is. let runs : RunsAs k.world m a = subst (StandsAt k.world m) is (k.of.agents.each m) in sym runs.stands.machine
 
-pub returns-in-Ok-write_line-clause-ok : goal.returns-in-Ok-write_line-clause-ok
-returns-in-Ok-write_line-clause-ok c =
-    let v = c.args.hard.now.value in
+pub write_parties-requires-apps : goal.write_parties-requires-apps
+write_parties-requires-apps c = let k = c.requires.known in
+    λ a core is. let runs : AppRunsAs k.world a core = subst (AppStandsAt k.world a) is (k.of.apps.each a) in sym runs.stands.job
+
+pub returns-in-Ok-write_line-2-clause-ok : goal.returns-in-Ok-write_line-2-clause-ok
+returns-in-Ok-write_line-2-clause-ok c =
+    let h = c.args.hard.now.value in
+    let first = c.write_line.new.out.items in
+    let second = c.write_hard.new.out.items in
+    let third = c.write_parties.new.out.items in
     let old = c.args.out.now.items in
-    let new = c.write_line.new.out.items in
+    let new = c.write_line-2.new.out.items in
+    let head = State c.args.events ∷ [] in
+    let last = Packets c.args.packets ∷ [] in
     λ w of events packets.
-    let first = c.in-Ok.ensures.ok (subst IsListed (sym of.hard) (hard_listed w of.good of.order)) in
     let size : c.machines.result ≡ length w.cluster.machines = c.machines.ensures.number ∙ ap (λ (x : ClusterRecord). length x.machines) of.cluster in
-    let second = c.in-Ok-write_parties.ensures.ok w of.good of.order size of.masters of.agents of.apps in
-    let hard = of.hard in
-    let ms = flat_map (λ (e : ℕ × Master). show_master e.1) w.masters in
-    let as_ = flat_map (λ (e : ℕ × Agent). show_agent w.net e.0 e.1) w.agents in
-    let xs = flat_map (λ (e : ℕ × App). show_app w.net (below (length w.cluster.machines)) e.0 e.1) w.apps in
-    shows_same (show_hard c.args.events v ++ (show_parties w ++ Packets c.args.packets ∷ [])) (show w) old new
-    ((λ i. show_hard (events i) (hard i) ++ (show_parties w ++ Packets (packets i) ∷ []))
-    ∙ together (State w.events ∷ Fence w.hard.fence ∷ []) (show_jobs w.hard.jobs) (map (λ m. Banned m) w.hard.bans) ms as_ xs (Packets (length w.net.packets) ∷ []))
-    (shows_then (show_hard c.args.events v) (show_parties w ++ Packets c.args.packets ∷ []) old c.write_hard.new.out.items new first
-    (shows_then (show_parties w) (Packets c.args.packets ∷ []) c.write_hard.new.out.items c.write_parties.new.out.items new second c.in-Ok-write_line.ensures.ok))
+    let parties = c.in-Ok-write_parties.ensures.ok w of.order size of.masters of.agents of.apps in
+    shows_same (head ++ (hard_lines h ++ (show_parties w ++ last))) (show w) old new (whole_state w h c.args.events c.args.packets of.hard events packets)
+    (shows_then head (hard_lines h ++ (show_parties w ++ last)) old first new c.in-Ok.ensures.ok
+    (shows_then (hard_lines h) (show_parties w ++ last) first second new c.in-Ok-write_hard.ensures.ok
+    (shows_then (show_parties w) last second third new parties c.in-Ok-write_line-2.ensures.ok)))

@@ -1,8 +1,0 @@
-use Rattle.std.proofs.Common.{take, [], ◌∷◌}
-use Rattle.std.specs.List.{flat_map}
-use Rattle.running_state.specs.Parts.{row_line}
-use Rattle.running_state.specs.Shown.{Shows}
-use Rattle.running_state.proofs.agents.write_rows.Given as goal
-
-abbrev pub invariant-loop-index : goal.invariant-loop-index
-invariant-loop-index l = Shows (flat_map (λ e. row_line l.machine.0 e ∷ []) (take l.index l.table)) l.initial.out.items l.out.items
