@@ -8,8 +8,8 @@ use Rattle.running_agents.specs.Running.{RunsAs, StandsAt}
 use Rattle.running_state.proofs.Showing.{shows_found, shows_none}
 use Rattle.running_state.proofs.agents.write_agent_of.Goals as goal
 
-pub write_agent-requires-number : goal.write_agent-requires-number
-write_agent-requires-number c = c.requires c.args.machine.0 c.in-Some.agent.now (sym c.in-Some.ensures)
+pub write_agent-requires : goal.write_agent-requires
+write_agent-requires c = record { number = c.requires c.args.machine.0 c.in-Some.agent.now (sym c.in-Some.ensures) }
 
 pub returns-in-Ok-clause-ok : goal.returns-in-Ok-clause-ok
 returns-in-Ok-clause-ok c =

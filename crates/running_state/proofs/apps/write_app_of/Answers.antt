@@ -9,8 +9,8 @@ use Rattle.running_apps.specs.Running.{AppRunsAs, AppStandsAt}
 use Rattle.running_state.proofs.Showing.{shows_found, shows_none}
 use Rattle.running_state.proofs.apps.write_app_of.Goals as goal
 
-pub write_app-requires-number : goal.write_app-requires-number
-write_app-requires-number c = c.requires c.args.app.0 c.in-Some.master.now (sym c.in-Some.ensures)
+pub write_app-requires : goal.write_app-requires
+write_app-requires c = record { number = c.requires c.args.app.0 c.in-Some.master.now (sym c.in-Some.ensures) }
 
 pub returns-in-Ok-clause-ok : goal.returns-in-Ok-clause-ok
 returns-in-Ok-clause-ok c =

@@ -10,16 +10,16 @@ use Rattle.running_state.proofs.Showing.{shows_then, shows_same}
 use Rattle.running_state.proofs.Whole.{whole_state}
 use Rattle.running_state.proofs.state.write_state.Goals as goal
 
-pub write_parties-requires-agents : goal.write_parties-requires-agents
-write_parties-requires-agents c = let k = c.requires.known in
+pub write_parties-requires-clause-agents : goal.write_parties-requires-clause-agents
+write_parties-requires-clause-agents c = let k = c.requires.known in
     λ m a is. let runs : RunsAs k.world m a = subst (StandsAt k.world m) is (k.of.agents.each m) in sym runs.stands.machine
 
-pub write_parties-requires-apps : goal.write_parties-requires-apps
-write_parties-requires-apps c = let k = c.requires.known in
+pub write_parties-requires-clause-apps : goal.write_parties-requires-clause-apps
+write_parties-requires-clause-apps c = let k = c.requires.known in
     λ a core is. let runs : AppRunsAs k.world a core = subst (AppStandsAt k.world a) is (k.of.apps.each a) in sym runs.stands.job
 
-pub returns-in-Ok-write_line-2-clause-ok : goal.returns-in-Ok-write_line-2-clause-ok
-returns-in-Ok-write_line-2-clause-ok c =
+pub returns-in-Ok-write_line-clause-ok : goal.returns-in-Ok-write_line-clause-ok
+returns-in-Ok-write_line-clause-ok c =
     let h = c.args.hard.now.value in
     let first = c.write_line.new.out.items in
     let second = c.write_hard.new.out.items in
@@ -34,4 +34,4 @@ returns-in-Ok-write_line-2-clause-ok c =
     shows_same (head ++ (hard_lines h ++ (show_parties w ++ last))) (show w) old new (whole_state w h c.args.events c.args.packets of.hard events packets)
     (shows_then head (hard_lines h ++ (show_parties w ++ last)) old first new c.in-Ok.ensures.ok
     (shows_then (hard_lines h) (show_parties w ++ last) first second new c.in-Ok-write_hard.ensures.ok
-    (shows_then (show_parties w) last second third new parties c.in-Ok-write_line-2.ensures.ok)))
+    (shows_then (show_parties w) last second third new parties c.in-Ok-write_line.ensures.ok)))
