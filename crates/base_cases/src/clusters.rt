@@ -1,39 +1,59 @@
-use crate::words::bytes_of;
+use case_words::{Stop, push_text};
 use cluster_desc::{Cluster, read_cluster};
-use fuxi_terms::OutOfMemory;
 use schedule_unit::{GroupNo, MachineNo, RackNo};
-use std::alloc::{AllocError, Global};
+use std::alloc::Global;
 
-fn shown(alloc: Global, cluster: &Cluster) -> Result<String, AllocError> {
-    let (resources, machines, groups) = (cluster.resources(), cluster.machines(), cluster.groups());
-    let mut text = format!(in alloc;
-        "{resources} resources, {machines} machines, {groups} groups; racks"
-    )?;
+fn tell_racks<P: Print>(rt: &P, cluster: &Cluster) -> Result<(), Stop> {
     for rack in 0..64 {
         if cluster.has_rack(RackNo(rack)) {
-            text.push_str(format!(in alloc; " {rack}")?.as_str())?;
+            print!(rt; " {rack}")?;
         }
     }
-    for number in 0..machines.min(2) {
-        let machine = cluster.machine(MachineNo(number));
-        let (RackNo(rack), has) = (machine.rack, machine.has.q);
-        text.push_str(format!(in alloc; "; in rack {rack} {has:?}")?.as_str())?;
-    }
-    for number in 0..groups.min(2) {
-        let group = cluster.group(GroupNo(number));
-        let (quota, limit) = (group.quota.q, group.limit.q);
-        text.push_str(format!(in alloc; "; quota {quota:?} limit {limit:?}")?.as_str())?;
-    }
-    Ok(text)
+    Ok(())
 }
 
-/// The cluster that a line describes, of which a copy is shown with its first two machines and groups.
-pub fn cluster(alloc: Global, line: &str) -> Result<String, AllocError> {
-    match read_cluster(alloc, &bytes_of(alloc, line)?) {
-        Ok(cluster) => match cluster.copy(alloc) {
-            Ok(copy) => shown(alloc, &copy),
-            Err(OutOfMemory) => String::from_str(alloc, "out of memory"),
-        },
-        Err(fault) => format!(in alloc; "{fault:?}: {fault}"),
+fn tell_machines<P: Print>(rt: &P, cluster: &Cluster) -> Result<(), Stop> {
+    for number in 0..cluster.machines().min(2) {
+        let machine = cluster.machine(MachineNo(number));
+        print!(rt; "; in rack {} {:?}", machine.rack.0, machine.has.q)?;
+    }
+    Ok(())
+}
+
+fn tell_groups<P: Print>(rt: &P, cluster: &Cluster) -> Result<(), Stop> {
+    for number in 0..cluster.groups().min(2) {
+        let group = cluster.group(GroupNo(number));
+        print!(rt; "; quota {:?} limit {:?}", group.quota.q, group.limit.q)?;
+    }
+    Ok(())
+}
+
+fn tell<P: Print>(rt: &P, cluster: &Cluster) -> Result<(), Stop> {
+    print!(rt;
+        "{} resources, {} machines, {} groups; racks",
+        cluster.resources(),
+        cluster.machines(),
+        cluster.groups()
+    )?;
+    tell_racks(rt, cluster)?;
+    tell_machines(rt, cluster)?;
+    tell_groups(rt, cluster)?;
+    println!(rt;)?;
+    Ok(())
+}
+
+// Prints a copy.
+fn tell_copy<P: Print>(rt: &P, alloc: Global, cluster: &Cluster) -> Result<(), Stop> {
+    let copy = cluster.copy(alloc)?;
+    tell(rt, &copy)
+}
+
+/// Prints the cluster that a line describes, with its first two machines and groups.
+pub fn cluster<P: Print>(rt: &P, alloc: Global, line: &str) -> Result<(), Stop> {
+    let mut bytes = Vec::new(alloc);
+    push_text(&mut bytes, line)?;
+    match read_cluster(alloc, &bytes) {
+        Ok(cluster) => tell_copy(rt, alloc, &cluster),
+        Err(fault) => Ok(println!(rt; "{fault:?}: {fault}")?),
     }
 }

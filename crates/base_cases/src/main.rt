@@ -4,41 +4,53 @@
 #![tactic(auto)]
 
 mod clusters;
+mod events;
 mod jobs;
 mod reading;
 mod vectors;
-mod words;
+mod writing;
 
-use std::alloc::{AllocError, Global};
-use std::io;
+use case_words::{Stop, head_of};
+use std::alloc::Global;
+use std::io::{BufRead, BufReader};
+use std::process::ExitCode;
 
-fn answer(alloc: Global, line: &str) -> Result<String, AllocError> {
-    if line.starts_with('#') {
-        return String::from_str(alloc, line);
-    }
-    let (call, rest) = line.split_once(' ').unwrap_or((line, ""));
+fn answer<P: Print>(rt: &P, alloc: Global, call: &str, rest: &str) -> Result<(), Stop> {
     match call {
-        "number" => jobs::number(alloc, rest),
-        "decimal" => jobs::decimal(alloc, rest),
-        "job" => jobs::job(alloc, rest),
-        "fits" | "at_least" | "minus" | "times" | "sum_fits" | "quantities" => vectors::vectors(
-            alloc, call, rest,
-        ),
-        "cluster" => clusters::cluster(alloc, rest),
-        "lines" => reading::lines(alloc, rest),
-        "long" => reading::long(alloc, rest),
-        "many" => reading::many(alloc, rest),
-        "bytes" => reading::byte_by_byte(alloc, rest),
-        "write" => reading::write(alloc, rest),
-        "adapters" => reading::adapters(alloc, rest),
-        _ => String::from_str(alloc, "no such call"),
+        "number" => jobs::number(rt, rest),
+        "decimal" => jobs::decimal(rt, alloc, rest),
+        "job" => jobs::job(rt, alloc, rest),
+        "cluster" => clusters::cluster(rt, alloc, rest),
+        "event" => events::event(rt, alloc, rest),
+        "lines" => reading::lines(rt, alloc, rest),
+        "bytes" => reading::byte_by_byte(rt, alloc, rest),
+        "long" => reading::repeated(rt, alloc, b'a', rest),
+        "many" => reading::repeated(rt, alloc, b'\n', rest),
+        "write" => writing::write(rt, alloc, rest),
+        "adapters" => writing::adapters(rt, alloc, rest),
+        _ => vectors::vectors(rt, alloc, call, rest),
     }
 }
 
-fn main(rt: HostRuntime) -> io::Result<()> {
-    for line in rt.lines(rt.alloc()) {
-        let text = answer(rt.alloc(), line?.as_str())?;
-        println!(rt; "{text}")?;
+fn answer_line<P: Print>(rt: &P, alloc: Global, line: &str) -> Result<(), Stop> {
+    if line.starts_with('#') {
+        return Ok(println!(rt; "{line}")?);
+    }
+    let (call, rest) = head_of(line);
+    answer(rt, alloc, call, rest)
+}
+
+fn run(rt: &HostRuntime) -> Result<(), Stop> {
+    let alloc = rt.alloc();
+    for line in BufReader::new(alloc, rt.reader())?.lines(alloc) {
+        answer_line(rt, alloc, &line?)?;
     }
     Ok(())
+}
+
+fn main(rt: HostRuntime) -> ExitCode {
+    match run(&rt) {
+        Ok(()) => ExitCode::SUCCESS,
+        Err(_) => ExitCode::FAILURE,
+    }
 }

@@ -1,10 +1,6 @@
-use crate::words::{bytes_of, numbers_of, text_of};
-use fuxi_io::{
-    Failed, Got, LineReader, MemSink, MemSource, Sink, Source, StdSink, StdSource, write_all_of,
-};
-use std::alloc::{AllocError, Global};
-use std::io;
-use std::io::{Read, Write};
+use case_words::{Stop, head_of, number_of, numbers_of, push_text, text_of};
+use fuxi_io::{Failed, Got, LineReader, MemSource, Source};
+use std::alloc::Global;
 
 // A source that gives one byte at each read.
 #[derive(Drop)]
@@ -30,132 +26,71 @@ impl Source for Drops {
     }
 }
 
-// A reader and writer that gives and takes two bytes, and fails from then on.
-#[derive(Drop)]
-struct Breaking {
-    works: bool,
+// Prints a line, if it is one of the first ones and short.
+fn tell_line<P: Print>(rt: &P, alloc: Global, reader: &LineReader) -> Result<(), Stop> {
+    if reader.number() < 10 && reader.line().len() < 100 {
+        let mark = if reader.ended() { "" } else { " unended" };
+        print!(rt; "[{}]{mark} ", text_of(alloc, reader.line())?)?;
+    }
+    Ok(())
 }
 
-impl Read for Breaking {
-    fn read(&mut self, buf: &mut [u8]) -> io::Result<usize> {
-        if self.works && buf.len() >= 2 {
-            self.works = false;
-            buf[0] = b'a';
-            buf[1] = b'\n';
-            return Ok(2);
-        }
-        Err(io::Error::from(io::ErrorKind::BrokenPipe))
-    }
-}
-
-impl Write for Breaking {
-    fn write(&mut self, buf: &[u8]) -> io::Result<usize> {
-        if self.works {
-            self.works = false;
-            return Ok(buf.len().min(2));
-        }
-        Err(io::Error::from(io::ErrorKind::BrokenPipe))
-    }
-
-    fn flush(&mut self) -> io::Result<()> {
-        Ok(())
-    }
-}
-
-// Every line that the reader gives, at most 9 of them shown, and then the answer twice.
-fn read_all<S: Source>(alloc: Global, source: &mut S) -> Result<String, AllocError> {
-    let Ok(mut reader) = LineReader::new(alloc) else {
-        return String::from_str(alloc, "out of memory");
-    };
-    let mut text = String::new(alloc);
+// Prints what the reader gives, and then its answer twice.
+fn read_to_end<S: Source, P: Print>(
+    rt: &P,
+    alloc: Global,
+    source: &mut S,
+    reader: &mut LineReader,
+) -> Result<(), Stop> {
     for _ in 0..1_000_001 {
         match reader.next(source) {
-            Ok(Got::Line) if reader.number() < 10 && reader.line().len() < 100 => {
-                let line = text_of(alloc, reader.line())?;
-                let mark = if reader.ended() { "" } else { " unended" };
-                text.push_str(format!(in alloc; "[{line}]{mark} ")?.as_str())?;
-            }
-            Ok(Got::Line) => {}
+            Ok(Got::Line) => tell_line(rt, alloc, reader)?,
             _ => break,
         }
     }
     let (last, again) = (reader.next(source), reader.next(source));
-    let (number, length, stopped) = (reader.number(), reader.line().len(), reader.stopped());
-    text.push_str(format!(in alloc;
-        "{last:?} {again:?} after {number}, {length} bytes, {stopped}"
-    )?.as_str())?;
-    Ok(text)
+    print!(rt;
+        "{last:?} {again:?} after {}, {} bytes, {}",
+        reader.number(),
+        reader.line().len(),
+        reader.stopped()
+    )?;
+    Ok(())
 }
 
-/// The lines of a text, where the call with this number fails; 0 for none.
-pub fn lines(alloc: Global, rest: &str) -> Result<String, AllocError> {
-    let (fails, text) = rest.split_once(' ').unwrap_or((rest, ""));
-    let bytes = bytes_of(alloc, text)?;
-    read_all(alloc, &mut MemSource::of(bytes, numbers_of(alloc, fails)?))
+/// Prints the lines of a source, and then the reader's last answer twice; it ends no line.
+pub fn read_all<S: Source, P: Print>(rt: &P, alloc: Global, source: &mut S) -> Result<(), Stop> {
+    let mut reader = LineReader::new(alloc)?;
+    read_to_end(rt, alloc, source, &mut reader)
+}
+
+/// Prints the lines of a text, where the call with this number fails; 0 for none.
+pub fn lines<P: Print>(rt: &P, alloc: Global, rest: &str) -> Result<(), Stop> {
+    let (fails, text) = head_of(rest);
+    let mut bytes = Vec::new(alloc);
+    push_text(&mut bytes, text)?;
+    let mut source = MemSource::of(bytes, numbers_of(alloc, fails)?);
+    read_all(rt, alloc, &mut source)?;
+    Ok(println!(rt;)?)
 }
 
 /// The same where each read gives one byte.
-pub fn byte_by_byte(alloc: Global, text: &str) -> Result<String, AllocError> {
-    let bytes = bytes_of(alloc, text)?;
-    read_all(alloc, &mut Drops { bytes, at: 0 })
+pub fn byte_by_byte<P: Print>(rt: &P, alloc: Global, text: &str) -> Result<(), Stop> {
+    let mut source = Drops {
+        bytes: Vec::new(alloc),
+        at: 0,
+    };
+    push_text(&mut source.bytes, text)?;
+    read_all(rt, alloc, &mut source)?;
+    Ok(println!(rt;)?)
 }
 
-fn repeated(alloc: Global, byte: u8, rest: &str) -> Result<String, AllocError> {
-    let (count, behind) = rest.split_once(' ').unwrap_or((rest, ""));
-    let count = count.parse::<usize>().unwrap_or(0).min(2_000_000);
-    let mut bytes = vec![in alloc; byte; count]?;
-    bytes.extend_from_slice(&bytes_of(alloc, behind)?)?;
-    read_all(alloc, &mut MemSource::of(bytes, Vec::new(alloc)))
-}
-
-/// The lines of so many bytes and a text behind them.
-pub fn long(alloc: Global, rest: &str) -> Result<String, AllocError> {
-    repeated(alloc, b'a', rest)
-}
-
-/// The lines of so many newlines and a text behind them.
-pub fn many(alloc: Global, rest: &str) -> Result<String, AllocError> {
-    repeated(alloc, b'\n', rest)
-}
-
-fn write_words<O: Sink>(alloc: Global, out: &mut O, words: &str) -> Result<String, AllocError> {
-    let mut text = String::new(alloc);
-    for word in words.split(' ') {
-        let answer = if write_all_of(out, word.as_bytes()).is_ok() {
-            "ok "
-        } else {
-            "fault "
-        };
-        text.push_str(answer)?;
-    }
-    Ok(text)
-}
-
-/// Words written one after another into a sink with so much room, of whose calls these fail: `ROOM / FAILS / WORDS`.
-pub fn write(alloc: Global, rest: &str) -> Result<String, AllocError> {
-    let (room, rest) = rest.split_once(" / ").unwrap_or((rest, ""));
-    let (fails, words) = rest.split_once(" / ").unwrap_or((rest, ""));
-    let mut sink = MemSink::of(alloc, numbers_of(alloc, fails)?);
-    let room = sink.room(room.parse::<usize>().unwrap_or(0));
-    let mut text = write_words(alloc, &mut sink, words)?;
-    let took = text_of(alloc, sink.bytes())?;
-    text.push_str(format!(in alloc; "took [{took}] room {room:?}")?.as_str())?;
-    Ok(text)
-}
-
-/// Adapters over a reader and writers of std: `memory` over a slice, `breaking` over ones that fail.
-pub fn adapters(alloc: Global, rest: &str) -> Result<String, AllocError> {
-    let (over, words) = rest.split_once(' ').unwrap_or((rest, ""));
-    if over == "memory" {
-        let bytes = bytes_of(alloc, words)?;
-        return read_all(alloc, &mut StdSource::of(bytes.as_slice()));
-    }
-    let mut text = read_all(alloc, &mut StdSource::of(Breaking { works: true }))?;
-    let mut sink = StdSink::of(Breaking { works: true });
-    text.push_str("; ")?;
-    text.push_str(write_words(alloc, &mut sink, words)?.as_str())?;
-    let mut full = [0; 3];
-    text.push_str("; ")?;
-    text.push_str(write_words(alloc, &mut StdSink::of(full.as_mut_slice()), words)?.as_str())?;
-    Ok(text)
+/// Prints the lines of so many of this byte and a text behind them.
+pub fn repeated<P: Print>(rt: &P, alloc: Global, byte: u8, rest: &str) -> Result<(), Stop> {
+    let (count, behind) = head_of(rest);
+    let mut bytes = vec![in alloc; byte; number_of(count).min(2_000_000) as usize]?;
+    push_text(&mut bytes, behind)?;
+    let mut source = MemSource::of(bytes, Vec::new(alloc));
+    read_all(rt, alloc, &mut source)?;
+    Ok(println!(rt;)?)
 }

@@ -1,44 +1,52 @@
-use crate::words::{numbers_of, places_of};
+use case_words::{Stop, numbers_of, put_numbers};
 use res_vector::{Res, Sum, are_quantities, at_least, fits, is_zero, minus, sum_fits, times};
-use std::alloc::{AllocError, Global};
+use std::alloc::Global;
 
-fn shown(alloc: Global, sum: &Sum) -> Result<String, AllocError> {
-    let mut text = String::from_str(alloc, "places")?;
+fn tell<P: Print>(rt: &P, sum: &Sum) -> Result<(), Stop> {
+    print!(rt; "places")?;
     for place in sum.q {
-        text.push_str(format!(in alloc; " {place}")?.as_str())?;
+        print!(rt; " {place}")?;
     }
-    Ok(text)
+    println!(rt;)?;
+    Ok(())
 }
 
-fn told(alloc: Global, is_so: bool) -> Result<String, AllocError> {
-    format!(in alloc; "{is_so}")
+fn tell_test<P: Print>(rt: &P, is_so: bool) -> Result<(), Stop> {
+    println!(rt; "{is_so}")?;
+    Ok(())
 }
 
-/// A call of two vectors, or of a vector and a number, which `/` parts.
-pub fn vectors(alloc: Global, call: &str, rest: &str) -> Result<String, AllocError> {
+fn tell_minus<P: Print>(rt: &P, a: &Res, b: &Res) -> Result<(), Stop> {
+    if fits(b, a) {
+        tell(rt, &times(&minus(a, b), 1))
+    } else {
+        Ok(println!(rt; "not within")?)
+    }
+}
+
+fn tell_quantities<P: Print>(rt: &P, alloc: Global, text: &str) -> Result<(), Stop> {
+    let numbers = numbers_of(alloc, text)?;
+    println!(rt;
+        "are {} zero {}",
+        are_quantities(&numbers),
+        is_zero(&numbers)
+    )?;
+    Ok(())
+}
+
+/// Prints the answer of a call of two vectors, or of a vector and a number, which `/` parts.
+pub fn vectors<P: Print>(rt: &P, alloc: Global, call: &str, rest: &str) -> Result<(), Stop> {
     let (first, second) = rest.split_once('/').unwrap_or((rest, ""));
-    let a = Res {
-        q: places_of(alloc, first)?,
-    };
-    let b = Res {
-        q: places_of(alloc, second)?,
-    };
+    let (mut a, mut b) = (Res { q: [0; 8] }, Res { q: [0; 8] });
+    put_numbers(&mut a.q, first);
+    put_numbers(&mut b.q, second);
     match call {
-        "fits" => told(alloc, fits(&a, &b)),
-        "at_least" => told(alloc, at_least(&a, &b)),
-        "minus" => {
-            if fits(&b, &a) {
-                shown(alloc, &times(&minus(&a, &b), 1))
-            } else {
-                String::from_str(alloc, "not within")
-            }
-        }
-        "times" => shown(alloc, &times(&a, b.q[0].min(4_294_967_295) as u32)),
-        "sum_fits" => told(alloc, sum_fits(&times(&a, 3), &b)),
-        _ => {
-            let numbers = numbers_of(alloc, first)?;
-            let (are, zero) = (are_quantities(&numbers), is_zero(&numbers));
-            format!(in alloc; "are {are} zero {zero}")
-        }
+        "fits" => tell_test(rt, fits(&a, &b)),
+        "at_least" => tell_test(rt, at_least(&a, &b)),
+        "minus" => tell_minus(rt, &a, &b),
+        "times" => tell(rt, &times(&a, b.q[0].min(4_294_967_295) as u32)),
+        "sum_fits" => tell_test(rt, sum_fits(&times(&a, 3), &b)),
+        "quantities" => tell_quantities(rt, alloc, first),
+        _ => Ok(println!(rt; "no such call")?),
     }
 }

@@ -1,203 +1,216 @@
 use crate::edges::{Drops, Narrow};
+use case_words::{Stop, head_of, number_of, push_text, put_numbers, text_of};
 use fuxi_command::fuxi;
 use fuxi_io::{MemDisk, MemSink, MemSource, Sink, Source, Status};
 use node_door::MemDoor;
-use std::alloc::{AllocError, Global};
+use std::alloc::Global;
 
 const CLUSTER: &str =
     "{\"resources\":2,\"machines\":[{\"rack\":0,\"has\":[400,1000]}],\"groups\":[{\"quota\":[400,1000],\"limit\":[400,1000]}]}\n";
 
-// An application that knows its master.
-const KNOWN: &str = "$master 1|agent 0 1|submit 1 0 0 5 100 250|app 0 1|turn master 1|deliver 2|";
+// An application whose master has acknowledged its first demand.
+const KNOWN: &str =
+    "$master 1|agent 0 1|submit 1 0 0 5 100 250|app 0 1|turn master 1|deliver 2|turn app 0|deliver 3 4|turn master 1|deliver 5 7|";
 
 // The most reads, writes or bytes of a case.
 const MOST: u64 = 1000;
 
-fn bytes_of(alloc: Global, text: &str) -> Result<Vec<u8>, AllocError> {
+// The bytes of a text, in which `$` is the line of a cluster.
+fn bytes_of(alloc: Global, text: &str) -> Result<Vec<u8>, Stop> {
     let mut bytes = Vec::new(alloc);
-    for byte in text.as_bytes() {
-        match *byte {
-            b'$' => bytes.extend_from_slice(CLUSTER.as_bytes())?,
-            b'|' => bytes.push(b'\n')?,
-            b'^' => bytes.push(b'\r')?,
-            byte => bytes.push(byte)?,
-        }
+    let mut parts = text.split('$');
+    push_text(&mut bytes, parts.next().unwrap_or(""))?;
+    for part in parts {
+        bytes.extend_from_slice(CLUSTER.as_bytes())?;
+        push_text(&mut bytes, part)?;
     }
     Ok(bytes)
 }
 
-fn text_of(alloc: Global, bytes: &[u8]) -> Result<String, AllocError> {
-    let mut text = String::new(alloc);
-    for byte in bytes {
-        text.push(if *byte == b'\n' { '|' } else { *byte as char })?;
-    }
-    Ok(text)
-}
-
 // A sink with room, of whose calls one fails; 0 for none.
-fn sink(alloc: Global, fail: u64) -> Result<MemSink, AllocError> {
+fn sink(alloc: Global, fail: u64) -> Result<MemSink, Stop> {
     let mut sink = MemSink::of(alloc, Vec::from_slice(alloc, &[fail])?);
     let _room = sink.room(1_000_000);
     Ok(sink)
 }
 
-fn source(alloc: Global, bytes: Vec<u8>, fail: u64) -> Result<MemSource, AllocError> {
+fn source(alloc: Global, bytes: Vec<u8>, fail: u64) -> Result<MemSource, Stop> {
     Ok(MemSource::of(bytes, Vec::from_slice(alloc, &[fail])?))
+}
+
+fn words_of(alloc: Global, words: &[&str]) -> Result<Vec<String>, Stop> {
+    let mut own = Vec::new(alloc);
+    for word in words {
+        own.push(String::from_str(alloc, word)?)?;
+    }
+    Ok(own)
 }
 
 // Runs a command that is no node: its disk and its door would fail.
 fn command<S: Source, O: Sink, E: Sink>(
     alloc: Global,
-    words: &[String],
+    words: &[&str],
     input: &mut S,
     out: &mut O,
     err: &mut E,
-) -> Result<Status, AllocError> {
+) -> Result<Status, Stop> {
+    let words = words_of(alloc, words)?;
     let mut disk = MemDisk::of(alloc, Vec::new(alloc), Vec::from_slice(alloc, &[1])?);
     let mut door = MemDoor::of(alloc, Vec::new(alloc), Vec::from_slice(alloc, &[1])?);
-    Ok(fuxi(alloc, words, input, out, err, &mut disk, &mut door))
+    Ok(fuxi(alloc, &words, input, out, err, &mut disk, &mut door))
 }
 
-fn replay<S: Source, O: Sink, E: Sink>(
-    alloc: Global,
-    input: &mut S,
-    out: &mut O,
-    err: &mut E,
-) -> Result<Status, AllocError> {
-    let words = Vec::from_array(alloc, [String::from_str(alloc, "replay")?])?;
-    command(alloc, &words, input, out, err)
-}
-
-fn shown(alloc: Global, status: &Status, out: &[u8], err: &[u8]) -> Result<String, AllocError> {
+// The number of a status, the output and the error stream.
+fn shown(alloc: Global, status: &Status, out: &[u8], err: &[u8]) -> Result<String, Stop> {
     let (out, err) = (text_of(alloc, out)?, text_of(alloc, err)?);
     let code = status.code();
-    format!(in alloc; "{code} [{out}] [{err}]")
+    Ok(format!(in alloc; "{code} [{out}] [{err}]")?)
 }
 
-fn replayed(alloc: Global, bytes: Vec<u8>, fails: [u64; 3]) -> Result<String, AllocError> {
-    let mut input = source(alloc, bytes, fails[0])?;
-    let (mut out, mut err) = (sink(alloc, fails[1])?, sink(alloc, fails[2])?);
-    let status = replay(alloc, &mut input, &mut out, &mut err)?;
-    shown(alloc, &status, out.bytes(), err.bytes())
+// Runs a command over streams in memory, of which one write fails each, and prints what came of it.
+fn tell<P: Print>(
+    rt: &P,
+    alloc: Global,
+    words: &[&str],
+    input: &mut MemSource,
+    fails: [u64; 2],
+) -> Result<(), Stop> {
+    let (mut out, mut err) = (sink(alloc, fails[0])?, sink(alloc, fails[1])?);
+    let status = command(alloc, words, input, &mut out, &mut err)?;
+    print!(rt; "{}", shown(alloc, &status, out.bytes(), err.bytes())?)?;
+    Ok(())
+}
+
+fn replayed<P: Print>(rt: &P, alloc: Global, bytes: Vec<u8>, fails: [u64; 3]) -> Result<(), Stop> {
+    let [read, write, report] = fails;
+    let mut input = source(alloc, bytes, read)?;
+    tell(rt, alloc, &["replay"], &mut input, [write, report])
 }
 
 /// A schedule.
-pub fn run(alloc: Global, text: &str) -> Result<String, AllocError> {
-    replayed(alloc, bytes_of(alloc, text)?, [0, 0, 0])
+pub fn run<P: Print>(rt: &P, alloc: Global, text: &str) -> Result<(), Stop> {
+    replayed(rt, alloc, bytes_of(alloc, text)?, [0, 0, 0])
 }
 
-/// A schedule behind an application that knows its master, and so many wants of the numbers from 1 up.
-pub fn behind_wants(alloc: Global, rest: &str) -> Result<String, AllocError> {
-    let (count, text) = rest.split_once(' ').unwrap_or((rest, ""));
+/// A schedule behind an application whose master has acknowledged its first demand, and so many wants of the numbers from 1 up.
+pub fn behind_wants<P: Print>(rt: &P, alloc: Global, rest: &str) -> Result<(), Stop> {
+    let (count, text) = head_of(rest);
     let mut bytes = bytes_of(alloc, KNOWN)?;
-    for number in 1..=count.parse::<u32>().unwrap_or(0).min(1000) {
+    for number in 1..=number_of(count).min(MOST) {
         bytes.extend_from_slice(format!(in alloc; "want 0 0 {number}\n")?.as_bytes())?;
     }
     bytes.extend_from_slice(&bytes_of(alloc, text)?)?;
-    replayed(alloc, bytes, [0, 0, 0])
+    replayed(rt, alloc, bytes, [0, 0, 0])
 }
 
 /// Words that are no command, `,` between them, over streams whose every call fails but for the error stream's.
-pub fn words(alloc: Global, rest: &str) -> Result<String, AllocError> {
-    let mut words = Vec::new(alloc);
-    for word in rest.split(',') {
-        words.push(String::from_str(alloc, word)?)?;
-    }
-    let mut input = source(alloc, Vec::new(alloc), 1)?;
-    let (mut out, mut err) = (MemSink::of(alloc, Vec::new(alloc)), sink(alloc, 0)?);
-    let status = command(alloc, &words, &mut input, &mut out, &mut err)?;
-    shown(alloc, &status, out.bytes(), err.bytes())
+pub fn words<P: Print>(rt: &P, alloc: Global, rest: &str) -> Result<(), Stop> {
+    let words: Vec<&str> = rest.split(',').collect(alloc)?;
+    tell(
+        rt,
+        alloc,
+        &words,
+        &mut source(alloc, Vec::new(alloc), 1)?,
+        [1, 0],
+    )
 }
 
 /// A storm of the seed and the steps behind the number of the write that fails, 0 for none. Its input fails.
-pub fn storm(alloc: Global, rest: &str) -> Result<String, AllocError> {
-    let (fail, rest) = rest.split_once(' ').unwrap_or((rest, ""));
-    let (seed, steps) = rest.split_once(' ').unwrap_or((rest, ""));
-    let mut words = Vec::new(alloc);
-    for word in ["storm", seed, steps] {
-        words.push(String::from_str(alloc, word)?)?;
-    }
+pub fn storm<P: Print>(rt: &P, alloc: Global, rest: &str) -> Result<(), Stop> {
+    let (fail, rest) = head_of(rest);
+    let (seed, steps) = head_of(rest);
     let mut input = source(alloc, Vec::new(alloc), 1)?;
-    let (mut out, mut err) = (sink(alloc, fail.parse().unwrap_or(0))?, sink(alloc, 0)?);
-    let status = command(alloc, &words, &mut input, &mut out, &mut err)?;
-    shown(alloc, &status, out.bytes(), err.bytes())
+    tell(
+        rt,
+        alloc,
+        &["storm", seed, steps],
+        &mut input,
+        [number_of(fail), 0],
+    )
 }
 
 /// A schedule where the read, the write and the write of the error stream with these numbers fail; 0 for none.
-pub fn failing(alloc: Global, rest: &str) -> Result<String, AllocError> {
+pub fn failing<P: Print>(rt: &P, alloc: Global, rest: &str) -> Result<(), Stop> {
+    let (numbers, text) = rest.split_once(" = ").unwrap_or((rest, ""));
     let mut fails = [0; 3];
-    let mut rest = rest;
-    for fail in &mut fails {
-        let (word, more) = rest.split_once(' ').unwrap_or((rest, ""));
-        *fail = word.parse().unwrap_or(0);
-        rest = more;
-    }
-    replayed(alloc, bytes_of(alloc, rest)?, fails)
+    put_numbers(&mut fails, numbers);
+    replayed(rt, alloc, bytes_of(alloc, text)?, fails)
+}
+
+// A schedule that is read byte by byte, where a read fails: whether a read failed, and what is printed of it.
+fn read_once(alloc: Global, text: &str, fail: u64) -> Result<(bool, String), Stop> {
+    let mut input = Drops {
+        bytes: bytes_of(alloc, text)?,
+        at: 0,
+        fail,
+        calls: 0,
+        faults: 0,
+    };
+    let (mut out, mut err) = (sink(alloc, 0)?, sink(alloc, 0)?);
+    let status = command(alloc, &["replay"], &mut input, &mut out, &mut err)?;
+    let told = shown(alloc, &status, out.bytes(), err.bytes())?;
+    Ok((status == Status::ReadFault, told))
 }
 
 /// A schedule that is read byte by byte, where the first read fails, the second, and so on: each answer that is
 /// another one than that before, with the number of the read.
-pub fn each_read(alloc: Global, text: &str) -> Result<String, AllocError> {
-    let (mut told, mut last) = (String::new(alloc), String::new(alloc));
+pub fn each_read<P: Print>(rt: &P, alloc: Global, text: &str) -> Result<(), Stop> {
+    let mut last = String::new(alloc);
     for fail in 1..=MOST {
-        let mut input = Drops {
-            bytes: bytes_of(alloc, text)?,
-            at: 0,
-            fail,
-            calls: 0,
-            faults: 0,
-        };
-        let (mut out, mut err) = (sink(alloc, 0)?, sink(alloc, 0)?);
-        let status = replay(alloc, &mut input, &mut out, &mut err)?;
-        let now = shown(alloc, &status, out.bytes(), err.bytes())?;
+        let (failed, now) = read_once(alloc, text, fail)?;
         if now != last {
-            told.push_str(format!(in alloc; "from {fail} {now} ")?.as_str())?;
+            print!(rt; "from {fail} {now} ")?;
             last = now;
         }
-        if status != Status::ReadFault {
+        if !failed {
             break;
         }
     }
-    Ok(told)
+    Ok(())
 }
 
-// Each number of bytes that the output takes, up to the whole text, where what it took is not what is wanted.
-fn narrow(alloc: Global, text: &str, is_err: bool) -> Result<String, AllocError> {
-    let mut told = String::new(alloc);
-    let mut whole = Vec::new(alloc);
-    for limit in (0..=MOST as usize).rev() {
-        let mut narrow = Narrow {
-            took: Vec::new(alloc),
-            limit,
-            faults: 0,
-        };
-        let (mut input, mut other) = (source(alloc, bytes_of(alloc, text)?, 0)?, sink(alloc, 0)?);
-        let status = if is_err {
-            replay(alloc, &mut input, &mut other, &mut narrow)?
-        } else {
-            replay(alloc, &mut input, &mut narrow, &mut other)?
-        };
-        if limit as u64 == MOST {
-            told.push_str(shown(alloc, &status, &narrow.took, other.bytes())?.as_str())?;
-            whole = narrow.took;
-        } else if whole.get(..limit.min(whole.len())) != Some(narrow.took.as_slice()) {
-            told.push_str(format!(in alloc; " another text at {limit}")?.as_str())?;
-        } else if limit + 1 == whole.len() || limit == 0 {
-            told.push_str(" at ")?;
-            told.push_str(format!(in alloc; "{limit} ")?.as_str())?;
-            told.push_str(shown(alloc, &status, b"", other.bytes())?.as_str())?;
-        }
+// Runs a schedule whose output is narrow, or its error stream: the status, and what the other of these took.
+fn run_narrow(
+    alloc: Global,
+    text: &str,
+    is_err: bool,
+    narrow: &mut Narrow,
+) -> Result<(Status, Vec<u8>), Stop> {
+    let (mut input, mut other) = (source(alloc, bytes_of(alloc, text)?, 0)?, sink(alloc, 0)?);
+    let status = if is_err {
+        command(alloc, &["replay"], &mut input, &mut other, narrow)?
+    } else {
+        command(alloc, &["replay"], &mut input, narrow, &mut other)?
+    };
+    Ok((status, other.bytes().to_vec(alloc)?))
+}
+
+// Prints what a stream does that takes so many bytes, where what it took is not what is wanted, and at both ends.
+fn tell_part<P: Print>(
+    rt: &P,
+    alloc: Global,
+    text: &str,
+    is_err: bool,
+    (limit, whole): (usize, &[u8]),
+) -> Result<(), Stop> {
+    let mut narrow = Narrow::of(alloc, limit);
+    let (status, other) = run_narrow(alloc, text, is_err, &mut narrow)?;
+    if whole.get(..limit.min(whole.len())) != Some(narrow.took.as_slice()) {
+        print!(rt; " another text at {limit}")?;
+    } else if limit + 1 == whole.len() || limit == 0 {
+        print!(rt; " at {limit} {}", shown(alloc, &status, b"", &other)?)?;
     }
-    Ok(told)
+    Ok(())
 }
 
 /// A schedule whose output takes so many bytes and no more, from more than enough down to none: what it took is
-/// the front of the whole text each time, or else it is told.
-pub fn each_write(alloc: Global, text: &str) -> Result<String, AllocError> {
-    narrow(alloc, text, false)
-}
-
-/// The same of the error stream.
-pub fn each_report(alloc: Global, text: &str) -> Result<String, AllocError> {
-    narrow(alloc, text, true)
+/// the front of the whole text each time, or else it is told. Or the same of the error stream.
+pub fn each_write<P: Print>(rt: &P, alloc: Global, text: &str, is_err: bool) -> Result<(), Stop> {
+    let mut wide = Narrow::of(alloc, MOST as usize);
+    let (status, other) = run_narrow(alloc, text, is_err, &mut wide)?;
+    print!(rt; "{}", shown(alloc, &status, &wide.took, &other)?)?;
+    for limit in (0..MOST as usize).rev() {
+        tell_part(rt, alloc, text, is_err, (limit, &wide.took))?;
+    }
+    Ok(())
 }

@@ -1,4 +1,5 @@
 use fuxi_io::{Failed, Sink, Source};
+use std::alloc::Global;
 
 /// A source that gives one byte at each read, and of whose reads one fails.
 #[derive(Drop)]
@@ -38,6 +39,17 @@ pub struct Narrow {
     pub took: Vec<u8>,
     pub limit: usize,
     pub faults: u64,
+}
+
+impl Narrow {
+    /// A sink that takes so many bytes.
+    pub fn of(alloc: Global, limit: usize) -> Narrow {
+        Narrow {
+            took: Vec::new(alloc),
+            limit,
+            faults: 0,
+        }
+    }
 }
 
 impl Sink for Narrow {

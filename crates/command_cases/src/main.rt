@@ -6,31 +6,45 @@
 mod cases;
 mod edges;
 
-use std::alloc::{AllocError, Global};
-use std::io;
+use case_words::{Stop, head_of};
+use std::alloc::Global;
+use std::io::{BufRead, BufReader};
+use std::process::ExitCode;
 
-fn answer(alloc: Global, line: &str) -> Result<String, AllocError> {
-    if line.starts_with('#') {
-        return String::from_str(alloc, line);
-    }
-    let (kind, rest) = line.split_once(' ').unwrap_or((line, ""));
+fn answer<P: Print>(rt: &P, alloc: Global, kind: &str, rest: &str) -> Result<(), Stop> {
     match kind {
-        "run" => cases::run(alloc, rest),
-        "wants" => cases::behind_wants(alloc, rest),
-        "words" => cases::words(alloc, rest),
-        "storm" => cases::storm(alloc, rest),
-        "fails" => cases::failing(alloc, rest),
-        "reads" => cases::each_read(alloc, rest),
-        "writes" => cases::each_write(alloc, rest),
-        "tells" => cases::each_report(alloc, rest),
-        _ => String::from_str(alloc, "no such case"),
+        "run" => cases::run(rt, alloc, rest),
+        "wants" => cases::behind_wants(rt, alloc, rest),
+        "words" => cases::words(rt, alloc, rest),
+        "storm" => cases::storm(rt, alloc, rest),
+        "fails" => cases::failing(rt, alloc, rest),
+        "reads" => cases::each_read(rt, alloc, rest),
+        "writes" => cases::each_write(rt, alloc, rest, false),
+        "tells" => cases::each_write(rt, alloc, rest, true),
+        _ => Ok(print!(rt; "no such case")?),
     }
 }
 
-fn main(rt: HostRuntime) -> io::Result<()> {
-    for line in rt.lines(rt.alloc()) {
-        let text = answer(rt.alloc(), line?.as_str())?;
-        println!(rt; "{text}")?;
+fn answer_line<P: Print>(rt: &P, alloc: Global, line: &str) -> Result<(), Stop> {
+    if line.starts_with('#') {
+        return Ok(println!(rt; "{line}")?);
+    }
+    let (kind, rest) = head_of(line);
+    answer(rt, alloc, kind, rest)?;
+    Ok(println!(rt;)?)
+}
+
+fn run(rt: &HostRuntime) -> Result<(), Stop> {
+    let alloc = rt.alloc();
+    for line in BufReader::new(alloc, rt.reader())?.lines(alloc) {
+        answer_line(rt, alloc, &line?)?;
     }
     Ok(())
+}
+
+fn main(rt: HostRuntime) -> ExitCode {
+    match run(&rt) {
+        Ok(()) => ExitCode::SUCCESS,
+        Err(_) => ExitCode::FAILURE,
+    }
 }

@@ -7,6 +7,9 @@ use hard_state::{Hard, HardFault};
 use std::alloc::Global;
 use std::marker::Model;
 
+/// The room of a disk for what the calls of one line write.
+pub const ROOM: usize = 4096;
+
 /// A disk with its checkpoint, where one is open, and then sound.
 #[derive(Drop)]
 pub struct Place {

@@ -1,7 +1,7 @@
 //! Frames as words.
 
+use case_words::Stop;
 use delta_channel::Place;
-use fuxi_terms::OutOfMemory;
 use ledger_law::{BodyFault, Ledger};
 use party_ledgers::{Body, Demand, Grants, JoinLedger, Kind, Packet, RowLedger};
 use schedule_unit::{Party, Role};
@@ -36,7 +36,7 @@ fn kind_of(word: &str) -> Option<Kind> {
 }
 
 // A party as it is printed.
-fn party_of(alloc: Global, word: &str) -> Result<Option<Party>, OutOfMemory> {
+fn party_of(alloc: Global, word: &str) -> Result<Option<Party>, Stop> {
     let parts: Vec<&str> = word.split('/').collect(alloc)?;
     let (role, number, inc) = match parts.as_slice() {
         ["master", inc] => (Role::Master, "0", *inc),
@@ -59,12 +59,7 @@ fn place_of(word: &str) -> Option<Place> {
 }
 
 // Appends an entry of a row, of the size 100 and 250: `JOB.UNIT.COUNT`.
-fn push_grant(
-    bytes: &mut Vec<u8>,
-    job: &str,
-    unit: &str,
-    count: &str,
-) -> Result<bool, OutOfMemory> {
+fn push_grant(bytes: &mut Vec<u8>, job: &str, unit: &str, count: &str) -> Result<bool, Stop> {
     let (Ok(job), Ok(unit), Ok(count)) = (
         job.parse::<u32>(),
         unit.parse::<u8>(),
@@ -82,7 +77,7 @@ fn push_grant(
 }
 
 // Appends an entry of a tally: `WHAT.UNIT.NUMBER.VALUE`.
-fn push_number(bytes: &mut Vec<u8>, parts: &[&str; 4]) -> Result<bool, OutOfMemory> {
+fn push_number(bytes: &mut Vec<u8>, parts: &[&str; 4]) -> Result<bool, Stop> {
     let (Ok(what), Ok(unit), Ok(number), Ok(value)) = (
         parts[0].parse::<u8>(),
         parts[1].parse::<u8>(),
@@ -98,7 +93,7 @@ fn push_number(bytes: &mut Vec<u8>, parts: &[&str; 4]) -> Result<bool, OutOfMemo
 }
 
 // Appends an entry.
-fn push_entry(alloc: Global, bytes: &mut Vec<u8>, word: &str) -> Result<bool, OutOfMemory> {
+fn push_entry(alloc: Global, bytes: &mut Vec<u8>, word: &str) -> Result<bool, Stop> {
     let parts: Vec<&str> = word.split('.').collect(alloc)?;
     match parts.as_slice() {
         [job, unit, count] => push_grant(bytes, job, unit, count),
@@ -108,11 +103,7 @@ fn push_entry(alloc: Global, bytes: &mut Vec<u8>, word: &str) -> Result<bool, Ou
 }
 
 // The bytes of entries behind their number, and of the head before it, where there is one.
-fn entries_of(
-    alloc: Global,
-    head: Option<&str>,
-    words: &[&str],
-) -> Result<Option<Vec<u8>>, OutOfMemory> {
+fn entries_of(alloc: Global, head: Option<&str>, words: &[&str]) -> Result<Option<Vec<u8>>, Stop> {
     let mut bytes = Vec::new(alloc);
     if let Some(head) = head {
         let Ok(head) = head.parse::<u64>() else {
@@ -141,13 +132,21 @@ fn read_body(
     bytes: &[u8],
 ) -> Result<Body, BodyFault> {
     match (kind, from, to) {
-        (Kind::Full, _, Role::Agent) => Ok(Body::Row(RowLedger::read_full(alloc, bytes)?)),
-        (Kind::Delta, _, Role::Agent) => Ok(Body::RowDelta(RowLedger::read_delta(alloc, bytes)?)),
-        (Kind::Full, _, Role::App) => Ok(Body::Grants(Grants::read_full(alloc, bytes)?)),
-        (Kind::Delta, _, Role::App) => Ok(Body::GrantsDelta(Grants::read_delta(alloc, bytes)?)),
-        (Kind::Full, Role::Agent, _) => Ok(Body::Join(JoinLedger::read_full(alloc, bytes)?)),
-        (Kind::Full, Role::App, _) => Ok(Body::Demand(Demand::read_full(alloc, bytes)?)),
-        (Kind::Delta, Role::App, _) => Ok(Body::DemandDelta(Demand::read_delta(alloc, bytes)?)),
+        (Kind::Full, _, Role::Agent) => RowLedger::read_full(alloc, bytes).map(|it| Body::Row(it)),
+        (Kind::Delta, _, Role::Agent) => RowLedger::read_delta(alloc, bytes).map(
+            |it| Body::RowDelta(it),
+        ),
+        (Kind::Full, _, Role::App) => Grants::read_full(alloc, bytes).map(|it| Body::Grants(it)),
+        (Kind::Delta, _, Role::App) => Grants::read_delta(alloc, bytes).map(|it| Body::GrantsDelta(
+            it,
+        )),
+        (Kind::Full, Role::Agent, _) => JoinLedger::read_full(alloc, bytes).map(|it| Body::Join(
+            it,
+        )),
+        (Kind::Full, Role::App, _) => Demand::read_full(alloc, bytes).map(|it| Body::Demand(it)),
+        (Kind::Delta, Role::App, _) => Demand::read_delta(alloc, bytes).map(|it| Body::DemandDelta(
+            it,
+        )),
         _ => Ok(Body::Nothing),
     }
 }
@@ -159,7 +158,7 @@ fn body_of(
     from: Role,
     to: Role,
     words: &[&str],
-) -> Result<Option<Body>, OutOfMemory> {
+) -> Result<Option<Body>, Stop> {
     let bytes = match (words, to) {
         (words, Role::Agent) => entries_of(alloc, None, words)?,
         ([head, entries @ ..], _) => entries_of(alloc, Some(*head), entries)?,
@@ -171,12 +170,12 @@ fn body_of(
     match read_body(alloc, kind, from, to, &bytes) {
         Ok(body) => Ok(Some(body)),
         Err(BodyFault::NotBody) => Ok(None),
-        Err(BodyFault::OutOfMemory) => Err(OutOfMemory),
+        Err(BodyFault::OutOfMemory) => Err(Stop::OutOfMemory),
     }
 }
 
 // The packet of these words: its kind, its sender, its receiver, its place and the words of its body.
-fn packet_of(alloc: Global, words: &[&str]) -> Result<Option<Packet>, OutOfMemory> {
+fn packet_of(alloc: Global, words: &[&str]) -> Result<Option<Packet>, Stop> {
     let [kind, from, to, place, body @ ..] = words else {
         return Ok(None);
     };
@@ -201,7 +200,7 @@ fn packet_of(alloc: Global, words: &[&str]) -> Result<Option<Packet>, OutOfMemor
 }
 
 // The bytes of a frame, or those behind `x:`; None where the word stands for none.
-fn frame_of(alloc: Global, word: &str) -> Result<Option<Vec<u8>>, OutOfMemory> {
+fn frame_of(alloc: Global, word: &str) -> Result<Option<Vec<u8>>, Stop> {
     let parts: Vec<&str> = whole_word(word).split(':').collect(alloc)?;
     if let ["x", digits] = parts.as_slice() {
         return Ok(hex::decode(alloc, digits).ok());
@@ -233,7 +232,7 @@ fn edit(alloc: Global, bytes: &mut Vec<u8>, word: &str) -> bool {
 
 /// Appends the bytes that a word stands for: a frame, or bytes behind `x:`, with edits behind `!`, so often as stands
 /// behind `*`. False where it stands for none.
-pub fn push_word(alloc: Global, bytes: &mut Vec<u8>, word: &str) -> Result<bool, OutOfMemory> {
+pub fn push_word(alloc: Global, bytes: &mut Vec<u8>, word: &str) -> Result<bool, Stop> {
     let (word, times) = word.split_once('*').unwrap_or((word, "1"));
     let Ok(times) = times.parse::<u32>() else {
         return Ok(false);

@@ -8,28 +8,38 @@ mod running;
 mod settings;
 mod watched;
 
-use fuxi_terms::OutOfMemory;
+use case_words::Stop;
 use std::alloc::Global;
-use std::io;
+use std::io::{BufRead, BufReader};
+use std::process::ExitCode;
 
-fn answer(alloc: Global, line: &str) -> Result<String, OutOfMemory> {
-    if line.is_empty() || line.starts_with('#') {
-        return Ok(String::from_str(alloc, line)?);
-    }
-    let (head, text) = line.split_once(" : ").unwrap_or((line, ""));
+fn answer<P: Print>(rt: &P, alloc: Global, head: &str, text: &str) -> Result<(), Stop> {
     let words: Vec<&str> = head.split_whitespace().collect(alloc)?;
     match words.as_slice() {
-        ["each", what, rest @ ..] => running::each(alloc, what, rest, text),
-        rest => running::once(alloc, rest, text),
+        ["each", what, rest @ ..] => running::each(rt, alloc, what, rest, text),
+        rest => running::once(rt, alloc, rest, text),
     }
 }
 
-fn main(rt: HostRuntime) -> io::Result<()> {
-    for line in rt.lines(rt.alloc()) {
-        match answer(rt.alloc(), line?.as_str()) {
-            Ok(text) => println!(rt; "{text}")?,
-            Err(OutOfMemory) => println!(rt; "out of memory")?,
-        }
+fn answer_line<P: Print>(rt: &P, alloc: Global, line: &str) -> Result<(), Stop> {
+    if line.is_empty() || line.starts_with('#') {
+        return Ok(println!(rt; "{line}")?);
+    }
+    let (head, text) = line.split_once(" : ").unwrap_or((line, ""));
+    answer(rt, alloc, head, text)
+}
+
+fn run(rt: &HostRuntime) -> Result<(), Stop> {
+    let alloc = rt.alloc();
+    for line in BufReader::new(alloc, rt.reader())?.lines(alloc) {
+        answer_line(rt, alloc, &line?)?;
     }
     Ok(())
+}
+
+fn main(rt: HostRuntime) -> ExitCode {
+    match run(&rt) {
+        Ok(()) => ExitCode::SUCCESS,
+        Err(_) => ExitCode::FAILURE,
+    }
 }

@@ -1,7 +1,7 @@
 //! What a case begins with, as words.
 
 use crate::frames::push_word;
-use fuxi_terms::OutOfMemory;
+use case_words::{Stop, number_of};
 use std::alloc::Global;
 
 /// The words of the node that a case runs, its address, the numbers of the calls of the door, of the sink, of the source and of the disk
@@ -15,11 +15,6 @@ pub struct Setting<'a> {
     pub source: u64,
     pub disk: u64,
     pub file: &'a str,
-}
-
-// The number of a word, 0 where it is none.
-fn number(word: &str) -> u64 {
-    word.parse::<u64>().unwrap_or(0)
 }
 
 // The node of a word.
@@ -49,19 +44,19 @@ pub fn setting_of<'a, 'b>(words: &'b [&'a str]) -> Option<(Setting<'a>, &'b [&'a
     for _ in 0..6 {
         match words {
             ["fails", call, rest @ ..] => {
-                setting.door = number(call);
+                setting.door = number_of(call);
                 words = rest;
             }
             ["sink", call, rest @ ..] => {
-                setting.sink = number(call);
+                setting.sink = number_of(call);
                 words = rest;
             }
             ["source", call, rest @ ..] => {
-                setting.source = number(call);
+                setting.source = number_of(call);
                 words = rest;
             }
             ["disk", call, rest @ ..] => {
-                setting.disk = number(call);
+                setting.disk = number_of(call);
                 words = rest;
             }
             ["file", bytes, rest @ ..] => {
@@ -83,7 +78,7 @@ pub fn setting_of<'a, 'b>(words: &'b [&'a str]) -> Option<(Setting<'a>, &'b [&'a
 }
 
 /// The bytes of a file: those of a word, or so many records of fences that rise from 1, where it is `full`.
-pub fn file_of(alloc: Global, word: &str) -> Result<Option<Vec<u8>>, OutOfMemory> {
+pub fn file_of(alloc: Global, word: &str) -> Result<Option<Vec<u8>>, Stop> {
     if word != "full" {
         return Ok(hex::decode(alloc, word).ok());
     }
@@ -97,7 +92,7 @@ pub fn file_of(alloc: Global, word: &str) -> Result<Option<Vec<u8>>, OutOfMemory
 }
 
 // Does to the last connection what a word says: `-N` cuts its last bytes, any other word appends bytes.
-fn take_word(alloc: Global, last: &mut Vec<u8>, word: &str) -> Result<bool, OutOfMemory> {
+fn take_word(alloc: Global, last: &mut Vec<u8>, word: &str) -> Result<bool, Stop> {
     let Some(("", cut)) = word.split_once('-') else {
         return push_word(alloc, last, word);
     };
@@ -109,7 +104,7 @@ fn take_word(alloc: Global, last: &mut Vec<u8>, word: &str) -> Result<bool, OutO
 }
 
 /// What each connection gives, by these words; `/` ends one. None where a word stands for nothing.
-pub fn connections_of(alloc: Global, words: &[&str]) -> Result<Option<Vec<Vec<u8>>>, OutOfMemory> {
+pub fn connections_of(alloc: Global, words: &[&str]) -> Result<Option<Vec<Vec<u8>>>, Stop> {
     let mut gives = Vec::new(alloc);
     if words.is_empty() {
         return Ok(Some(gives));

@@ -2,6 +2,7 @@
 
 ghost use Rattle.std.specs.Prelude.{◌≤◌, length};
 
+use case_words::Stop;
 use fuxi_io::Failed;
 use fuxi_terms::OutOfMemory;
 use node_door::{Door, MemDoor};
@@ -21,6 +22,23 @@ pub struct Watched {
     pub door: MemDoor,
     pub seen: Seen,
     pub faults: u64,
+}
+
+impl Watched {
+    /// A door that gives this, and of whose calls one fails.
+    pub fn of(alloc: Global, gives: Vec<Vec<u8>>, fail: u64) -> Result<Watched, Stop> {
+        let mut door = MemDoor::of(alloc, gives, Vec::from_slice(alloc, &[fail])?);
+        door.room(1_000_000)?;
+        Ok(Watched {
+            alloc,
+            door,
+            seen: Seen {
+                addr: Vec::new(alloc),
+                took: Vec::new(alloc),
+            },
+            faults: 0,
+        })
+    }
 }
 
 fn see_addr(seen: &mut Seen, addr: &[u8]) -> Result<(), OutOfMemory> {

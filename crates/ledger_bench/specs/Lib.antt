@@ -1,3 +1,0 @@
-pub mod Works
-pub mod Words
-pub mod Outcomes

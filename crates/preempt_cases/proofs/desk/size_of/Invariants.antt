@@ -1,7 +1,0 @@
-use Rattle.std.proofs.Common.{◌≡◌, drop}
-use Rattle.fuxi_terms.specs.Jobs.{job_of}
-use Rattle.grant_table.specs.Tables.{as_known}
-use Rattle.preempt_cases.proofs.desk.size_of.Given as goal
-
-abbrev pub invariant-loop-index : goal.invariant-loop-index
-invariant-loop-index l = job_of (as_known l.table.jobs) l.app.0 ≡ job_of (as_known (drop l.index l.table.jobs)) l.app.0
