@@ -1,5 +1,5 @@
 -- Deliveries: the stored frame is the packet of the world, and a range is one delivery after another.
-use Rattle.std.proofs.Common.{◌≡◌, ℕ, zero, suc, ◌+◌, ◌-◌, ◌<◌, ◌≤◌, Bool, true, false, cond, nat_eq, nat_lt, List, [], ◌∷◌, ◌++◌, length, map, slice_get, Option, Some, None, Result, Ok, Err, refl, sym, ◌∙◌, ap, subst, arith, append-nil, append_assoc}
+use Rattle.std.proofs.Common.{◌≡◌, ℕ, zero, suc, ◌+◌, ◌-◌, ◌<◌, ◌≤◌, true, false, nat_lt, List, [], ◌∷◌, ◌++◌, length, slice_get, Option, Some, None, Result, Ok, refl, sym, ◌∙◌, ap, subst, arith, append-nil, append_assoc}
 use Rattle.std.specs.Option.{option_map}
 use Rattle.std.proofs.lemmas.Bool.Decides.{nat_tests}
 use Rattle.std.proofs.lemmas.Option.{slice_get-map, same_Some}
@@ -8,23 +8,20 @@ use Rattle.fuxi_terms.proofs.Lists.{all_at}
 use Rattle.party_ledgers.specs.declared.packets.Packet.{Packet as PacketHere}
 use Rattle.party_ledgers.specs.declared.packets.Heard.{Heard}
 use Rattle.core_side.specs.Parcels.{parcel_is, IsSent}
-use Rattle.written_net.specs.Net.{Net, Packet, Party, Id}
-use Rattle.written_net.specs.Sides.{Parcel}
+use Rattle.written_net.specs.Net.{Packet}
 use Rattle.written_join.specs.Seen.{parcel_of}
 use Rattle.written_roles.specs.Refusals.{with_found, NoPacket}
-use Rattle.written_world.specs.World.{World, Step, prints_nothing, refused, then_step}
-use Rattle.written_world.specs.Events.{Event, Deliver, world_step, counted_in, addressed, heard_by, heard_line, packet_of, deliver_one, deliver_all, deliver, deliver_range}
-use Rattle.written_world.specs.Outputs.{Line}
+use Rattle.written_world.specs.World.{World, Step, prints_nothing, refused}
+use Rattle.written_world.specs.Events.{Event, Deliver, world_step, counted_in, addressed, heard_by, heard_line, packet_of, deliver_one, deliver_all, deliver}
 use Rattle.written_world.specs.Lines.{is_from_line}
-use Rattle.written_world.specs.Good.{Good, Invariant, IsRecorded}
+use Rattle.written_world.specs.Good.{Good}
 use Rattle.wire_frames.specs.Reading.{Reads}
 use Rattle.wire_frames.specs.declared.fault.FrameFault.{FrameFault}
 use Rattle.packet_pool.specs.Pools.{Stored, Keeps, IsReadAs}
 use Rattle.written_order.specs.Orders.{IsInOrder}
 use Rattle.schedule_replay.specs.Texts.{lines_text}
 use Rattle.schedule_replay.specs.Worlds.{WorldRecord, KeepsPackets, IsWorld, StandsFor, AreWithin}
-use Rattle.schedule_replay.specs.Steps.{IsDone}
-use Rattle.schedule_replay.specs.Moves.{HearsIn, IsHeardIn, Does, IsThrough, GoesThrough, HasDelivered, heard_lines, MovesOnce}
+use Rattle.schedule_replay.specs.Moves.{HearsIn, Does, GoesThrough, HasDelivered, heard_lines, MovesOnce}
 use Rattle.schedule_replay.proofs.Texting.{lines_append}
 use Rattle.schedule_replay.proofs.Sending.{kept_length}
 use Rattle.schedule_replay.proofs.Doing.{first_fails, first_passes}

@@ -1,25 +1,24 @@
 -- From what an agent or an application does or is refused to the step of the world that it is.
-use Rattle.std.proofs.Common.{◌≡◌, ℕ, ◌+◌, ◌<◌, ◌≤◌, Bool, true, false, cond, not, nat_eq, nat_lt, List, [], ◌∷◌, ◌++◌, length, map, Option, Some, None, is_some, Result, Ok, Err, slice_get, refl, sym, ◌∙◌, ap, subst, arith, append-nil}
+use Rattle.std.proofs.Common.{◌≡◌, ℕ, ◌<◌, ◌≤◌, Bool, true, false, not, nat_lt, List, [], ◌∷◌, ◌++◌, length, Option, Some, None, is_some, Result, Ok, Err, slice_get, refl, sym, ◌∙◌, ap, subst, arith, append-nil}
 use Rattle.std.specs.Prelude.{OnOk, IfErr}
 use Rattle.std.specs.Option.{option_map, unwrap_or}
 use Rattle.std.specs.Ordering.{nat_cmp}
 use Rattle.std.specs.FinMap.Entries.{find}
 use Rattle.std.proofs.lemmas.Bool.Decides.{nat_tests}
 use Rattle.fuxi_terms.specs.Cluster.{ClusterRecord, JobRecord, MachineRecord, machine_of, no_machine, has_machine}
-use Rattle.fuxi_terms.specs.Jobs.{KnownJob, job_of, is_known, has_ended, unit_count, units_of}
+use Rattle.fuxi_terms.specs.Jobs.{KnownJob, job_of, is_known, has_ended, unit_count}
 use Rattle.fuxi_terms.specs.Padded.{padded}
 use Rattle.cluster_desc.specs.Records.{machine_of as machine_seen}
 use Rattle.cluster_desc.specs.declared.cluster.Machine.{Machine}
 use Rattle.party_ledgers.specs.declared.packets.Packet.{Packet}
 use Rattle.written_net.specs.Net.{Party}
-use Rattle.written_net.specs.Channels.{master_id, agent_id, app_id, party}
-use Rattle.written_roles.specs.Refusals.{Refusal as Written, NoMachine, NoJob, Ended, NotRising, NotRunning, first_refusal, with_found}
+use Rattle.written_net.specs.Channels.{agent_id, app_id, party}
+use Rattle.written_roles.specs.Refusals.{Refusal as Written, NoMachine, NoJob, Ended, NotRising, NotRunning, with_found}
 use Rattle.written_world.specs.World.{World, Step, Agent, App, refused, prints_nothing, unless_refused}
 use Rattle.written_world.specs.Events.{start_agent, agent_started, start_app, app_started, at_agent, at_app, asks, usable_now, given_back, demanded}
-use Rattle.written_join.specs.Seen.{has_of}
 use Rattle.packet_pool.specs.Pools.{Stored}
-use Rattle.running_agents.specs.Running.{AgentsRecord, AreAgentsOf, OneActsIn as AgentActsIn, StartsOneIn as AgentStartsIn, agent_in, boot_in}
-use Rattle.running_apps.specs.Running.{AppsRecord, AreAppsOf, OneActsIn as AppActsIn, StartsOneIn as AppStartsIn, boot_in as app_boot_in}
+use Rattle.running_agents.specs.Running.{AgentsRecord, AreAgentsOf, OneActsIn as AgentActsIn, StartsOneIn as AgentStartsIn}
+use Rattle.running_apps.specs.Running.{AppsRecord, AreAppsOf, OneActsIn as AppActsIn, StartsOneIn as AppStartsIn}
 use Rattle.core_join.specs.Agents.{agent_at}
 use Rattle.core_join.specs.Apps.{app_at}
 use Rattle.written_roles.specs.Apps.{AppCommand, command_tests, command_key, command_number}
@@ -32,7 +31,7 @@ use Rattle.schedule_replay.specs.declared.stop.WorldStop.{WorldStop}
 use Rattle.schedule_replay.specs.Texts.{lines_text}
 use Rattle.schedule_replay.specs.Worlds.{WorldRecord, IsWorld, StandsFor}
 use Rattle.schedule_replay.specs.Steps.{IsDone, limit_of}
-use Rattle.schedule_replay.specs.Moves.{KeepsMore, AgentActs, AppActs, Does, Fails, Acts, IsActed, WantsMemory, MovesOnce, IsRefusalOf, refusal_lines}
+use Rattle.schedule_replay.specs.Moves.{KeepsMore, AgentActs, AppActs, Acts, IsActed, WantsMemory, IsRefusalOf, refusal_lines}
 use Rattle.schedule_replay.proofs.Acting.{keeps_none}
 use Rattle.schedule_replay.proofs.Moving.{once_up_to, none_once}
 use Rattle.schedule_replay.proofs.Governing.{is_refused, is_quiet}

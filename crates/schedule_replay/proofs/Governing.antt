@@ -1,22 +1,19 @@
 -- From what is done or refused by one party to the step of the world that it is.
-use Rattle.std.proofs.Common.{◌≡◌, ℕ, ◌+◌, ◌<◌, ◌≤◌, List, [], ◌∷◌, ◌++◌, map, Option, Some, None, Result, Ok, Err, refl, sym, ◌∙◌, ap, subst}
+use Rattle.std.proofs.Common.{◌≡◌, ℕ, List, [], ◌++◌, Option, Some, None, Ok, refl, sym, ◌∙◌, ap, subst}
 use Rattle.party_ledgers.specs.declared.packets.Packet.{Packet}
-use Rattle.fuxi_terms.specs.Cluster.{ClusterRecord}
 use Rattle.written_net.specs.Net.{Party}
-use Rattle.written_net.specs.Channels.{master_id, agent_id, app_id, party}
-use Rattle.written_world.specs.World.{World, Step, refused, prints_nothing}
+use Rattle.written_net.specs.Channels.{master_id, party}
+use Rattle.written_world.specs.World.{World, Step, refused}
 use Rattle.packet_pool.specs.Pools.{Stored}
 use Rattle.memory_checkpoint.specs.Held.{Held}
-use Rattle.running_agents.specs.Running.{AgentsRecord, AreAgentsOf}
-use Rattle.running_apps.specs.Running.{AppsRecord, AreAppsOf}
-use Rattle.running_masters.specs.Running.{MastersRecord, AreMastersOf, AreWithin as MastersWithin}
+use Rattle.running_masters.specs.Running.{MastersRecord}
 use Rattle.schedule_text.specs.declared.refusal.Refusal.{Refusal}
 use Rattle.schedule_text.specs.Printing.{as_refusal}
 use Rattle.schedule_replay.specs.Texts.{lines_text}
 use Rattle.schedule_replay.specs.Worlds.{WorldRecord, IsWorld, StandsFor}
 use Rattle.schedule_replay.specs.Steps.{IsDone}
-use Rattle.schedule_replay.specs.Moves.{KeepsMore, AgentActs, AppActs, MasterActs, Does, Acts, IsActed, MovesOnce, refusal_lines}
-use Rattle.schedule_replay.specs.Commands.{Governing, IsGoverning, IsGoverned, IsRefused, GovernsIn, Governs, GovernsOn, TakesStep, governing}
+use Rattle.schedule_replay.specs.Moves.{KeepsMore, MasterActs, Acts, refusal_lines}
+use Rattle.schedule_replay.specs.Commands.{IsGoverning, GovernsIn, Governs, GovernsOn, TakesStep, governing}
 use Rattle.schedule_replay.proofs.Acting.{keeps_none}
 use Rattle.schedule_replay.proofs.Moving.{once_up_to, masters_once}
 

@@ -1,5 +1,5 @@
 -- What one party hears of a packet, and what runs then stands for.
-use Rattle.std.proofs.Common.{◌≡◌, ℕ, ◌+◌, ◌<◌, ◌≤◌, true, nat_eq, List, [], ◌∷◌, Option, Some, None, slice_get, refl, sym, ◌∙◌, ap, subst, arith}
+use Rattle.std.proofs.Common.{◌≡◌, ℕ, true, [], ◌∷◌, Option, Some, None, refl, sym, ◌∙◌, ap, subst, arith}
 use Rattle.std.proofs.lemmas.Bool.Decides.{nat_tests}
 use Rattle.fuxi_terms.specs.Cluster.{is_valid_cluster}
 use Rattle.fuxi_terms.proofs.Booleans.{both_true}
@@ -14,7 +14,7 @@ use Rattle.written_net.specs.Sides.{Parcel}
 use Rattle.written_net.specs.Channels.{master_id, party}
 use Rattle.written_world.specs.World.{World}
 use Rattle.written_world.specs.Good.{Good}
-use Rattle.written_world.specs.Outputs.{Line, Came}
+use Rattle.written_world.specs.Outputs.{Came}
 use Rattle.written_world.specs.Events.{addressed, heard_by, heard_line}
 use Rattle.written_join.specs.Seen.{parcel_of}
 use Rattle.written_join.specs.Leading.{AllLead}
@@ -24,7 +24,7 @@ use Rattle.running_agents.specs.Running.{AgentsRecord, HearInWorld as AgentHears
 use Rattle.running_apps.specs.Running.{AppsRecord, HearInWorld as AppHears, HearsOneIn as AppHearsOneIn}
 use Rattle.running_masters.specs.Running.{MastersRecord}
 use Rattle.running_masters.specs.Calls.{HearIn, HearsInWorld as MastersHear, IsHeardAs}
-use Rattle.schedule_replay.specs.Worlds.{WorldRecord, IsWorld, StandsFor}
+use Rattle.schedule_replay.specs.Worlds.{WorldRecord, StandsFor}
 use Rattle.schedule_replay.specs.Moves.{HearsIn, IsHeardIn, heard_lines}
 use Rattle.schedule_replay.proofs.Acting.{keeps_none}
 use Rattle.schedule_replay.proofs.Governing.{MastersAct}

@@ -1,10 +1,9 @@
 -- What a line can give is an event of an input.
-use Rattle.std.proofs.Common.{◌≡◌, ◌≤◌, ℕ, ◌<◌, Bool, true, false, not, nat_eq, nat_lt, refl, sym, ◌∙◌, ap, arith}
+use Rattle.std.proofs.Common.{◌≡◌, ◌≤◌, ℕ, ◌<◌, Bool, true, false, not, nat_eq, nat_lt, refl, arith}
 use Rattle.std.specs.Prelude.{◌&&◌}
 use Rattle.std.proofs.lemmas.Bool.Decides.{nat_tests}
-use Rattle.fuxi_terms.specs.Limits.{most_jobs, most_units, most_machines, most_racks, most_groups}
 use Rattle.fuxi_terms.proofs.Booleans.{and_true}
-use Rattle.schedule_text.specs.Writing.{IsLineEvent, switch}
+use Rattle.schedule_text.specs.Writing.{IsLineEvent}
 use Rattle.schedule_text.specs.declared.event.Event.{Event}
 use Rattle.schedule_text.specs.declared.event.Event.TheVariants as line
 use Rattle.written_world.specs.Lines.{is_from_line, is_counted}

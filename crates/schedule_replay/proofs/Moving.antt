@@ -1,13 +1,12 @@
 -- How many steps cores took.
-use Rattle.std.proofs.Common.{◌≡◌, ℕ, ◌+◌, ◌<◌, ◌≤◌, Some, refl, sym, ◌∙◌, ap, subst, arith}
-use Rattle.fuxi_terms.specs.Limits.{most_steps}
+use Rattle.std.proofs.Common.{ℕ, ◌+◌, ◌≤◌, refl, arith}
 use Rattle.memory_checkpoint.specs.Held.{Held}
 use Rattle.packet_pool.specs.Pools.{Stored}
 use Rattle.running_agents.specs.Running.{AgentsRecord, AreWithin as AgentsWithin}
 use Rattle.running_apps.specs.Running.{AppsRecord, AreWithin as AppsWithin}
-use Rattle.running_masters.specs.Running.{MastersRecord, AreWithin as MastersWithin, MayStep as MasterMayStep, running}
+use Rattle.running_masters.specs.Running.{MastersRecord, AreWithin as MastersWithin, MayStep as MasterMayStep}
 use Rattle.schedule_replay.specs.Worlds.{WorldRecord, AreWithin, event_steps}
-use Rattle.schedule_replay.specs.Moves.{CanMove, CanMoveLong, MovesOnce, MovesUpTo}
+use Rattle.schedule_replay.specs.Moves.{CanMove, MovesOnce, MovesUpTo}
 
 more : (a n l : ℕ) → a ≤ n → n ≤ l → a ≤ l
 more a n l le further = omega (arith, le, further)

@@ -1,10 +1,9 @@
 -- Deliveries of one and of many, and what is refused of them.
-use Rattle.std.proofs.Common.{◌≡◌, ℕ, zero, suc, ◌+◌, ◌-◌, ◌<◌, ◌≤◌, Bool, true, false, nat_eq, nat_lt, List, [], ◌∷◌, ◌++◌, length, map, slice_get, Option, Some, None, Result, Ok, Err, refl, sym, ◌∙◌, ap, subst, arith}
+use Rattle.std.proofs.Common.{◌≡◌, ℕ, zero, suc, ◌+◌, ◌-◌, ◌<◌, ◌≤◌, true, false, nat_lt, List, [], ◌∷◌, ◌++◌, length, slice_get, Option, Some, None, Result, Ok, Err, refl, sym, ◌∙◌, ap, subst, arith}
 use Rattle.std.specs.Prelude.{OnOk, IfErr}
 use Rattle.std.specs.Option.{option_map}
 use Rattle.std.proofs.lemmas.Bool.Decides.{nat_tests}
 use Rattle.std.proofs.lemmas.Option.{slice_get-map, same_Some}
-use Rattle.fuxi_terms.specs.Limits.{most_steps}
 use Rattle.fuxi_terms.specs.Cluster.{is_valid_cluster}
 use Rattle.party_ledgers.specs.declared.packets.Packet.{Packet as PacketHere}
 use Rattle.core_side.specs.Parcels.{parcel_is, IsSent}
@@ -23,7 +22,7 @@ use Rattle.schedule_replay.specs.declared.stop.WorldStop.{WorldStop}
 use Rattle.schedule_replay.specs.Texts.{lines_text}
 use Rattle.schedule_replay.specs.Worlds.{WorldRecord, KeepsPackets, IsWorld, StandsFor, event_steps}
 use Rattle.schedule_replay.specs.Steps.{IsDone, limit_of}
-use Rattle.schedule_replay.specs.Moves.{Does, Acts, IsActed, CanMove, CanMoveLong, MovesOnce, WantsMemory, IsThrough, GoesThrough, HasDelivered, refusal_lines}
+use Rattle.schedule_replay.specs.Moves.{Does, Acts, IsActed, CanMove, CanMoveLong, MovesOnce, WantsMemory, GoesThrough, HasDelivered, refusal_lines}
 use Rattle.schedule_replay.proofs.Moving.{once_up_to, none_once, all_wider}
 use Rattle.schedule_replay.proofs.Sending.{kept_length}
 use Rattle.schedule_replay.proofs.Delivering.{IsFound, kept_found, delivered_as, not_delivered}

@@ -1,34 +1,33 @@
 -- What a turn sends, is kept, printed, and counted.
-use Rattle.std.proofs.Common.{◌≡◌, ℕ, zero, suc, ◌+◌, ◌<◌, ◌≤◌, Bool, true, false, cond, nat_eq, nat_lt, List, [], ◌∷◌, ◌++◌, length, map, drop, Option, Some, None, Result, Ok, Err, refl, sym, ◌∙◌, ap, subst, arith, length-append}
+use Rattle.std.proofs.Common.{◌≡◌, ℕ, zero, suc, ◌+◌, ◌≤◌, Bool, true, false, cond, nat_eq, nat_lt, List, [], ◌∷◌, ◌++◌, length, map, drop, Option, Some, None, refl, sym, ◌∙◌, ap, arith, length-append}
 use Rattle.std.specs.List.{AllByRecursion, sum_by}
 use Rattle.std.proofs.lemmas.Bool.Decides.{nat_tests}
 use Rattle.std.proofs.lemmas.List.{map-append, length-map}
 use Rattle.std.proofs.lemmas.List.Sums.{sum_by-cons}
 use Rattle.fuxi_terms.specs.Limits.{most_packets, most_packet_bytes}
-use Rattle.fuxi_terms.proofs.Alls.{all_more, all_append}
-use Rattle.party_ledgers.specs.Packets.{IsFormed}
+use Rattle.fuxi_terms.proofs.Alls.{all_append}
 use Rattle.party_ledgers.specs.declared.packets.Packet.{Packet as PacketHere}
-use Rattle.core_side.specs.Parcels.{content_of, parcel_is, IsSent}
-use Rattle.written_net.specs.Net.{Net, Packet, Party, Id}
-use Rattle.written_net.specs.Ledgers.{Ledger, Body, body_length}
-use Rattle.written_net.specs.Channels.{master_id, body_of, frame_length, send_all}
+use Rattle.core_side.specs.Parcels.{content_of, parcel_is}
+use Rattle.written_net.specs.Net.{Net, Packet, Party}
+use Rattle.written_net.specs.Ledgers.{Ledger, body_length}
+use Rattle.written_net.specs.Channels.{master_id, frame_length}
 use Rattle.written_net.specs.Sides.{Parcel}
 use Rattle.written_join.specs.Seen.{parcel_of}
 use Rattle.written_join.specs.Joins.{OneActs}
 use Rattle.written_world.specs.Outputs.{Line, sent_lines}
-use Rattle.written_world.specs.World.{World, Step, prints_nothing}
+use Rattle.written_world.specs.World.{World, prints_nothing}
 use Rattle.written_world.specs.Events.{turn_to_master, turned}
 use Rattle.wire_frames.specs.Frames.{frame, IsFrame}
 use Rattle.wire_frames.specs.Streams.{HasFrame}
-use Rattle.packet_pool.specs.Pools.{Stored, Keeps, bytes_of, with_frames, limit_of as pool_limit}
+use Rattle.packet_pool.specs.Pools.{Stored, bytes_of, with_frames}
 use Rattle.packet_pool.specs.declared.fault.PoolFault.{PoolFault}
 use Rattle.packet_pool.specs.declared.fault.PoolFault.TheVariants as pool
 use Rattle.schedule_replay.specs.declared.stop.WorldStop.{WorldStop}
 use Rattle.schedule_replay.specs.declared.stop.WorldStop.TheVariants.{TooManyPackets, PoolBytes, OutOfMemory}
 use Rattle.schedule_replay.specs.Texts.{lines_text}
-use Rattle.schedule_replay.specs.Worlds.{WorldRecord, KeepsPackets, StandsFor}
-use Rattle.schedule_replay.specs.Steps.{packet_bytes, limit_of, Stops, IsDone}
-use Rattle.schedule_replay.specs.Moves.{KeepsMore, StopsFor}
+use Rattle.schedule_replay.specs.Worlds.{KeepsPackets}
+use Rattle.schedule_replay.specs.Steps.{packet_bytes, limit_of, Stops}
+use Rattle.schedule_replay.specs.Moves.{StopsFor}
 
 -- The packets that are new in a world are those that were sent
 drop_front : {A : Type 0} (xs ys : List A) → drop (length xs) (xs ++ ys) ≡ ys

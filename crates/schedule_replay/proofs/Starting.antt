@@ -1,5 +1,5 @@
 -- What runs at the start stands for the empty world.
-use Rattle.std.proofs.Common.{◌≡◌, ℕ, ◌*◌, true, List, [], Option, Some, None, refl, sym, ◌∙◌, ap, subst}
+use Rattle.std.proofs.Common.{◌≡◌, ℕ, ◌*◌, true, List, [], refl, sym, ◌∙◌, ap, subst}
 use Rattle.std.specs.Ordering.{nat_cmp}
 use Rattle.std.specs.FinMap.Entries.{find}
 use Rattle.fuxi_terms.specs.Cluster.{ClusterRecord, is_valid_cluster}

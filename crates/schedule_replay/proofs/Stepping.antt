@@ -1,5 +1,5 @@
 -- One event of what runs, from what it does to a world that has counted it.
-use Rattle.std.proofs.Common.{◌≡◌, ℕ, ◌+◌, ◌*◌, ◌^◌, ◌<◌, ◌≤◌, true, List, [], ◌++◌, length, Option, Some, None, Result, Ok, Err, refl, sym, ◌∙◌, ap, subst, arith}
+use Rattle.std.proofs.Common.{◌≡◌, ℕ, ◌+◌, ◌*◌, ◌^◌, ◌<◌, ◌≤◌, true, List, [], length, Option, Some, None, sym, ◌∙◌, ap, subst, arith}
 use Rattle.fuxi_terms.specs.Cluster.{is_valid_cluster}
 use Rattle.fuxi_terms.specs.Limits.{most_packets, most_packet_bytes, most_steps}
 use Rattle.agent_core.specs.Standing.{AgentCore}
@@ -7,16 +7,13 @@ use Rattle.app_master.specs.Apps.{AppCore}
 use Rattle.packet_pool.specs.Pools.{bytes_of}
 use Rattle.running_agents.specs.Running.{StandsAt, agent_in}
 use Rattle.running_apps.specs.Running.{AppStandsAt, app_in}
-use Rattle.schedule_text.specs.Writing.{IsLineEvent}
-use Rattle.schedule_text.specs.declared.event.Event.{Event as LineEvent}
-use Rattle.written_world.specs.World.{World, empty_world}
+use Rattle.written_world.specs.World.{World}
 use Rattle.written_world.specs.Events.{Event, act, counted_in, world_step}
 use Rattle.written_world.specs.Lines.{is_from_line}
 use Rattle.schedule_replay.specs.declared.stop.WorldStop.{WorldStop}
-use Rattle.schedule_replay.specs.Texts.{lines_text}
-use Rattle.schedule_replay.specs.Worlds.{WorldRecord, IsWorld, StandsFor, AreWithin, IsReached, event_steps}
-use Rattle.schedule_replay.specs.Steps.{IsTaken, Takes, StopsAt}
-use Rattle.schedule_replay.specs.Moves.{CanMove, CanMoveLong, Acts, IsActed, Does, Fails}
+use Rattle.schedule_replay.specs.Worlds.{WorldRecord, StandsFor, IsReached, event_steps}
+use Rattle.schedule_replay.specs.Steps.{Takes, StopsAt}
+use Rattle.schedule_replay.specs.Moves.{CanMove, CanMoveLong, IsActed, Fails}
 use Rattle.schedule_replay.proofs.Moving.{all_wider}
 use Rattle.schedule_replay.proofs.Sending.{FrameLengths, within_limits}
 use Rattle.schedule_replay.proofs.Delivering.{GoodKept, OrderKept, event_is, numbered_is}

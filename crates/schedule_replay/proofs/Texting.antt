@@ -1,22 +1,19 @@
 -- The text of printed lines.
-use Rattle.std.proofs.Common.{◌≡◌, ℕ, suc, ◌+◌, ◌<◌, ◌≤◌, Bool, true, false, cond, nat_eq, List, [], ◌∷◌, ◌++◌, length, map, take, Some, None, slice_get, refl, sym, ◌∙◌, ap, subst, arith, append-nil, append_assoc}
-use Rattle.std.specs.Prelude.{◌&&◌, ◌||◌, IsTrue}
-use Rattle.std.specs.List.{AllByRecursion, flat_map}
-use Rattle.std.proofs.lemmas.Bool.Decides.{nat_tests}
+use Rattle.std.proofs.Common.{◌≡◌, ℕ, ◌+◌, true, false, cond, List, [], ◌∷◌, ◌++◌, length, take, Some, slice_get, refl, sym, ◌∙◌, ap, subst, arith, append-nil, append_assoc}
 use Rattle.fuxi_terms.proofs.Booleans.{both_true}
 use Rattle.fuxi_terms.proofs.Lists.{take_last}
 use Rattle.schedule_unit.specs.declared.party.Party.{Party as PartyHere}
 use Rattle.schedule_unit.specs.declared.party.Role.{Role}
 use Rattle.schedule_unit.specs.declared.party.Role.TheVariants.{Master, Agent, App}
-use Rattle.party_ledgers.specs.Packets.{IsFormed, IsBodyOf, is_full, is_delta, to_app, to_agent, is_number_of, are_parties}
+use Rattle.party_ledgers.specs.Packets.{IsFormed, IsBodyOf, is_full, is_delta, to_app, is_number_of}
 use Rattle.party_ledgers.specs.declared.packets.Packet.{Packet as PacketHere}
 use Rattle.party_ledgers.specs.declared.packets.Kind.{Kind as KindHere}
 use Rattle.party_ledgers.specs.declared.packets.Kind.TheVariants.{Ack as AckHere, Delta as DeltaHere, Full as FullHere, End}
 use Rattle.party_ledgers.specs.declared.packets.Body.{Body as BodyHere}
 use Rattle.party_ledgers.specs.declared.packets.Body.TheVariants.{Nothing, Row, RowDelta, Join, Grants, GrantsDelta, Demand, DemandDelta}
 use Rattle.core_side.specs.Parcels.{role_number, id_of, party_of, kind_of, content_of, packet_of, parcel_is, IsSent}
-use Rattle.written_net.specs.Net.{Net, Packet, Party, Id}
-use Rattle.written_net.specs.Ledgers.{Ledger, Body, body_length}
+use Rattle.written_net.specs.Net.{Net, Packet}
+use Rattle.written_net.specs.Ledgers.{Ledger, body_length}
 use Rattle.written_net.specs.Channels.{is_master, body_of, frame_length}
 use Rattle.written_net.specs.Sides.{Parcel}
 use Rattle.written_join.specs.Seen.{parcel_of}

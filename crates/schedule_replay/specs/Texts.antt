@@ -1,7 +1,6 @@
 -- The text of printed lines, with the bytes of frames.
-use Rattle.std.specs.Prelude.{ℕ, Bool, cond, nat_eq, List}
+use Rattle.std.specs.Prelude.{ℕ, cond, nat_eq, List}
 use Rattle.std.specs.List.{flat_map}
-use Rattle.delta_channel.specs.declared.receiver.Place.{Place}
 use Rattle.schedule_unit.specs.declared.party.Party.{Party}
 use Rattle.schedule_unit.specs.declared.party.Role.{Role}
 use Rattle.schedule_unit.specs.declared.party.Role.TheVariants as role

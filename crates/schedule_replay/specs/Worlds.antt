@@ -1,5 +1,5 @@
 -- What runs a schedule, and the worlds that it stands for.
-use Rattle.std.specs.Prelude.{◌≡◌, ℕ, ◌*◌, ◌^◌, true, List, map, length}
+use Rattle.std.specs.Prelude.{◌≡◌, ℕ, ◌*◌, ◌^◌, true, List, map}
 use Rattle.std.specs.List.{AllByRecursion}
 use Rattle.fuxi_terms.specs.Cluster.{ClusterRecord, is_valid_cluster}
 use Rattle.party_ledgers.specs.declared.packets.Packet.{Packet}

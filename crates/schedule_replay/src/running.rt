@@ -75,7 +75,7 @@ impl Running {
         worlds_in_order();
         let _valid = cluster.machines();
         let agents = Agents::none(alloc, &cluster)?;
-        Ok(Running {
+        let running = Running {
             cluster,
             checkpoint: Checkpoint::open(alloc)?,
             masters: Masters::none(alloc),
@@ -83,7 +83,8 @@ impl Running {
             apps: Apps::none(alloc)?,
             pool: PacketPool::new(alloc),
             events: 0,
-        })
+        };
+        Ok(running)
     }
 
     /// One event, and what it prints. The event is one that a line can give, and fewer than 2^29 were taken. After a stop it is not to be used.
@@ -114,6 +115,7 @@ impl Running {
 
     /// Appends the lines of the state. A refusal leaves `out` as it was.
     pub fn write_state(&self, out: &mut Vec<u8>) -> Result<(), OutOfMemory>
+        requires { IsReached self.now }
         ensures ok { OnOk result ((w : WrittenWorld) → IsWorld w → StandsFor self.now w → out.new.items ≡ out.old.items ++ lines_text (show w)) }
         ensures err { OnErr result (out.new.items ≡ out.old.items) }
     {

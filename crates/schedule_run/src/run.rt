@@ -61,6 +61,7 @@ fn take_line<O: Sink>(
 
 // Writes the state behind a whole input.
 fn write_state<O: Sink>(alloc: Global, running: &Running, out: &mut O) -> Status
+    requires { IsReached running.now }
     ensures writes { (w : WrittenWorld) → Stands running.now w → WritesState w result (O.took out.old) (O.took out.new) }
     ensures fault { result ≡ Status.WriteFault → Rose (O.faults out.old) (O.faults out.new) }
     ensures read { result ≢ Status.ReadFault }

@@ -1,17 +1,16 @@
-use Rattle.std.proofs.Common.{◌≡◌, ℕ, [], ◌∷◌, Some, None, refl, sym, subst}
+use Rattle.std.proofs.Common.{[], ◌∷◌, refl, sym, subst}
 use Rattle.written_net.specs.Channels.{master_id, agent_id, party}
-use Rattle.written_world.specs.World.{World, Step}
+use Rattle.written_world.specs.World.{Step}
 use Rattle.written_world.specs.Events.{resync_agent, resynced}
 use Rattle.schedule_replay.specs.Worlds.{WorldRecord}
 use Rattle.schedule_replay.specs.Steps.{IsDone}
-use Rattle.schedule_replay.specs.Moves.{Acts, IsActed}
+use Rattle.schedule_replay.specs.Moves.{IsActed}
 use Rattle.schedule_replay.proofs.Governing.{is_refused}
 use Rattle.schedule_replay.proofs.Doing.{acts_by, agent_done, agent_runs, agent_runs_not, with_agents}
 use Rattle.schedule_replay.proofs.Moving.{once_up_to, agents_once}
 use Rattle.schedule_replay.proofs.agents.resync_agent.Goals as goal
 use Rattle.schedule_text.specs.declared.refusal.Refusal.TheVariants as why
-use Rattle.running_agents.specs.Running.{ResyncInWorld, AreWithin}
-use Rattle.std.proofs.Common.{true, false}
+use Rattle.running_agents.specs.Running.{ResyncInWorld}
 
 pub returns-then-resync : goal.returns-then-resync
 returns-then-resync c =

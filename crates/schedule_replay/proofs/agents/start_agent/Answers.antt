@@ -1,14 +1,14 @@
-use Rattle.std.proofs.Common.{◌≡◌, ℕ, ◌<◌, true, false, not, nat_lt, length, [], ◌∷◌, Some, None, Ok, Err, refl, sym, ◌∙◌, ap, subst, arith}
+use Rattle.std.proofs.Common.{◌≡◌, ◌<◌, true, false, length, sym, ◌∙◌, ap, subst, arith}
 use Rattle.std.proofs.lemmas.Bool.Decides.{nat_tests}
 use Rattle.fuxi_terms.specs.Cluster.{ClusterRecord, has_machine, machine_of}
 use Rattle.fuxi_terms.specs.Padded.{padded}
 use Rattle.running_agents.specs.Running.{boot_in}
 use Rattle.written_net.specs.Channels.{agent_id}
-use Rattle.written_roles.specs.Refusals.{NoMachine, NotRising}
-use Rattle.written_world.specs.World.{World, Step, prints_nothing, refused}
-use Rattle.written_world.specs.Events.{start_agent, agent_started}
+use Rattle.written_roles.specs.Refusals.{NotRising}
+use Rattle.written_world.specs.World.{refused}
+use Rattle.written_world.specs.Events.{start_agent}
 use Rattle.schedule_text.specs.declared.refusal.Refusal.TheVariants as why
-use Rattle.schedule_replay.specs.Worlds.{WorldRecord, StandsFor}
+use Rattle.schedule_replay.specs.Worlds.{WorldRecord}
 use Rattle.schedule_replay.specs.Moves.{Acts, IsActed}
 use Rattle.schedule_replay.proofs.Doing.{acts_by, refuses, agent_beyond, agent_too_low, agent_starts, has_as}
 use Rattle.schedule_replay.proofs.Moving.{once_up_to, agents_once, agents_still}

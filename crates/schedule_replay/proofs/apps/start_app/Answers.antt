@@ -1,11 +1,11 @@
-use Rattle.std.proofs.Common.{◌≡◌, ℕ, ◌<◌, ◌≤◌, true, false, length, List, [], ◌∷◌, Some, None, Ok, Err, refl, sym, ◌∙◌, ap, subst, arith}
+use Rattle.std.proofs.Common.{◌≡◌, ◌<◌, true, false, List, refl, sym, ◌∙◌, ap, subst, arith}
 use Rattle.fuxi_terms.specs.Jobs.{KnownJob, is_known, has_ended, unit_count}
 use Rattle.hard_state.specs.HardFiles.{Kept}
 use Rattle.running_apps.specs.Running.{boot_in}
 use Rattle.written_net.specs.Channels.{app_id}
 use Rattle.written_roles.specs.HardState.{HardState}
-use Rattle.written_roles.specs.Refusals.{NoJob, Ended, NotRising}
-use Rattle.written_world.specs.World.{World, refused}
+use Rattle.written_roles.specs.Refusals.{NotRising}
+use Rattle.written_world.specs.World.{refused}
 use Rattle.written_world.specs.Events.{start_app}
 use Rattle.schedule_text.specs.declared.refusal.Refusal.TheVariants as why
 use Rattle.schedule_replay.specs.Worlds.{WorldRecord}

@@ -1,4 +1,4 @@
-use Rattle.std.proofs.Common.{◌≡◌, ℕ, ◌++◌, length, Some, subst}
+use Rattle.std.proofs.Common.{◌≡◌, ◌++◌, length, Some, subst}
 use Rattle.written_world.specs.Events.{deliver, deliver_one}
 use Rattle.schedule_text.specs.declared.refusal.Refusal.TheVariants as why
 use Rattle.schedule_replay.specs.Texts.{lines_text}

@@ -1,4 +1,4 @@
-use Rattle.std.proofs.Common.{ℕ, ◌+◌, ◌-◌, ◌≤◌}
+use Rattle.std.proofs.Common.{◌+◌, ◌-◌, ◌≤◌}
 use Rattle.schedule_replay.specs.Moves.{GoesThrough, HasDelivered}
 use Rattle.schedule_replay.proofs.deliveries.deliver_range.Given as goal
 

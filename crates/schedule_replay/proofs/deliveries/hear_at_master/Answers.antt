@@ -1,4 +1,4 @@
-use Rattle.std.proofs.Common.{◌≡◌, ℕ, ◌+◌, subst}
+use Rattle.std.proofs.Common.{ℕ, ◌+◌, subst}
 use Rattle.running_masters.specs.Running.{AreWithin}
 use Rattle.running_masters.specs.Calls.{HearsInWorld}
 use Rattle.schedule_replay.specs.Worlds.{WorldRecord}

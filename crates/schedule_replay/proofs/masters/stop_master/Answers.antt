@@ -1,8 +1,8 @@
-use Rattle.std.proofs.Common.{sym, subst}
+use Rattle.std.proofs.Common.{subst}
 use Rattle.written_world.specs.World.{World, Step}
 use Rattle.written_world.specs.Events.{stop_master}
 use Rattle.schedule_replay.specs.Worlds.{WorldRecord}
-use Rattle.schedule_replay.specs.Moves.{Acts, IsActed}
+use Rattle.schedule_replay.specs.Moves.{IsActed}
 use Rattle.schedule_replay.proofs.Governing.{governed}
 use Rattle.schedule_replay.proofs.Doing.{acts_by}
 use Rattle.schedule_replay.proofs.masters.stop_master.Goals as goal

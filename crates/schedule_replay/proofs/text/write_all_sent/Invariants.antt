@@ -1,4 +1,4 @@
-use Rattle.std.proofs.Common.{◌≡◌, ℕ, ◌++◌, List, map, take}
+use Rattle.std.proofs.Common.{◌≡◌, ◌++◌, List, map, take}
 use Rattle.core_side.specs.Parcels.{parcel_is}
 use Rattle.written_net.specs.Net.{Net, Packet as WrittenPacket}
 use Rattle.written_net.specs.Ledgers.{Ledger}

@@ -1,6 +1,4 @@
-use Rattle.std.proofs.Common.{refl, sym, subst}
-use Rattle.running_agents.specs.Running.{AreAgentsOf, AreWithin}
-use Rattle.written_world.specs.World.{empty_world}
+use Rattle.std.proofs.Common.{refl}
 use Rattle.schedule_replay.proofs.Starting.{is_empty_world, stands_for_empty, starts_reached}
 use Rattle.schedule_replay.proofs.running.Running.start.Goals as goal
 
@@ -19,11 +17,11 @@ returns-clause-world c = is_empty_world c.args.cluster c.machines-valid.ensures.
 pub returns-clause-stands : goal.returns-clause-stands
 returns-clause-stands c =
     stands_for_empty c.args.cluster _ c.cluster.view_is c.in_ok-open.ensures.value c.in_ok-open.ensures.open (c.none-2.ensures.world c.args.cluster)
-    (subst (AreAgentsOf (empty_world c.args.cluster)) (sym c.agents.view_is) c.in_ok-agents.ensures.stands) (c.in_ok-none.ensures.stands c.args.cluster) c.new.ensures refl
+    c.in_ok-agents.ensures.stands (c.in_ok-none.ensures.stands c.args.cluster) c.new.ensures refl
 
 pub returns-clause-reached : goal.returns-clause-reached
 returns-clause-reached c =
     starts_reached c.args.cluster _ (is_empty_world c.args.cluster c.machines-valid.ensures.valid (c.good_at_start.ensures c.args.cluster) (c.worlds_in_order.ensures.start c.args.cluster))
     (stands_for_empty c.args.cluster _ c.cluster.view_is c.in_ok-open.ensures.value c.in_ok-open.ensures.open (c.none-2.ensures.world c.args.cluster)
-    (subst (AreAgentsOf (empty_world c.args.cluster)) (sym c.agents.view_is) c.in_ok-agents.ensures.stands) (c.in_ok-none.ensures.stands c.args.cluster) c.new.ensures refl)
-    c.none-2.ensures.none (subst (AreWithin 0) (sym c.agents.view_is) c.in_ok-agents.ensures.within) c.in_ok-none.ensures.within refl
+    c.in_ok-agents.ensures.stands (c.in_ok-none.ensures.stands c.args.cluster) c.new.ensures refl)
+    c.none-2.ensures.none c.in_ok-agents.ensures.within c.in_ok-none.ensures.within refl

@@ -1,4 +1,4 @@
-use Rattle.std.proofs.Common.{◌≡◌, ◌<◌, ◌≤◌, ◌^◌, length, sym, ◌∙◌, subst}
+use Rattle.std.proofs.Common.{◌<◌, ◌≤◌, ◌^◌, sym, subst}
 use Rattle.fuxi_terms.specs.Limits.{most_packets, most_packet_bytes}
 use Rattle.schedule_replay.specs.Events.{event_as}
 use Rattle.schedule_replay.specs.Worlds.{WorldRecord, IsReached}
