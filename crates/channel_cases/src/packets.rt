@@ -44,8 +44,8 @@ fn party_of(words: &[&str; 3]) -> Option<Party> {
     })
 }
 
-// The sender, the receiver, the kind and the place.
-fn heading_of(words: &[&str; 9]) -> Option<Heading> {
+// The sender, the receiver, the kind and the place, and the words behind them.
+fn heading_of<'a>(words: &'a [&'a str]) -> Option<(Heading, &'a [&'a str])> {
     let [
         from,
         from_number,
@@ -56,8 +56,12 @@ fn heading_of(words: &[&str; 9]) -> Option<Heading> {
         kind,
         place,
         seq,
-    ] = words;
-    Some(Heading {
+        rest @ ..,
+    ] = words
+    else {
+        return None;
+    };
+    let heading = Heading {
         from: party_of(&[*from, *from_number, *from_inc])?,
         to: party_of(&[*to, *number, *inc])?,
         kind: kind_of(kind)?,
@@ -65,7 +69,8 @@ fn heading_of(words: &[&str; 9]) -> Option<Heading> {
             inc: place.parse().ok()?,
             seq: seq.parse().ok()?,
         },
-    })
+    };
+    Some((heading, rest))
 }
 
 // The body that a word names, of these bytes.
@@ -115,12 +120,11 @@ fn tell_formed<P: Print>(
 
 /// Prints whether a packet is formed: its sender, its receiver, its kind, its place and its body.
 pub fn answer<P: Print>(rt: &P, alloc: Global, words: &[&str]) -> Result<(), Stop> {
-    let [a, b, c, d, e, f, g, h, i, name, body @ ..] = words else {
+    let Some((heading, [name, body @ ..])) = heading_of(words) else {
         return Ok(println!(rt; "?")?);
     };
-    let heading = heading_of(&[*a, *b, *c, *d, *e, *f, *g, *h, *i]);
-    match (heading, bytes_of(alloc, body)?) {
-        (Some(heading), Some(body)) => tell_formed(rt, alloc, &heading, name, &body),
-        _ => Ok(println!(rt; "?")?),
+    match bytes_of(alloc, body)? {
+        Some(body) => tell_formed(rt, alloc, &heading, name, &body),
+        None => Ok(println!(rt; "?")?),
     }
 }

@@ -195,7 +195,12 @@ fn hear_note(
     Ok(Some(hear(alloc, party, &stamp, note)?))
 }
 
-// Hands a party what another sends, and prints how many of these were taken.
+fn tell_received<P: Print>(rt: &P, party: &Party) -> Result<(), Stop> {
+    tell_party(rt, party)?;
+    party.got().tell(rt)
+}
+
+// Hands a party what another sends, and prints how many of these were taken, and what it has then.
 fn hear_all<P: Print>(
     rt: &P,
     alloc: Global,
@@ -212,18 +217,13 @@ fn hear_all<P: Print>(
         }
     }
     println!(rt; "{taken} of {} taken", notes.len())?;
-    Ok(())
+    tell_received(rt, party)
 }
 
 // Hands a party what the other sends in a turn.
 fn deliver<P: Print>(rt: &P, alloc: Global, from: &Party, to: &mut Party) -> Result<(), Stop> {
     let notes = from.turn(alloc)?;
     hear_all(rt, alloc, from.own(), to, notes.as_slice())
-}
-
-fn tell_received<P: Print>(rt: &P, party: &Party) -> Result<(), Stop> {
-    tell_party(rt, party)?;
-    party.got().tell(rt)
 }
 
 // The stamp of a packet as its sender, its receiver and its number, and the words behind them.
@@ -385,14 +385,8 @@ impl Parties {
     /// Prints what the named party answers, or what it hears of a turn of the other.
     pub fn answer<P: Print>(&mut self, rt: &P, alloc: Global, words: &[&str]) -> Result<(), Stop> {
         match words {
-            ["near", "to", "far"] => {
-                deliver(rt, alloc, &self.near, &mut self.far)?;
-                tell_received(rt, &self.far)
-            }
-            ["far", "to", "near"] => {
-                deliver(rt, alloc, &self.far, &mut self.near)?;
-                tell_received(rt, &self.near)
-            }
+            ["near", "to", "far"] => deliver(rt, alloc, &self.near, &mut self.far),
+            ["far", "to", "near"] => deliver(rt, alloc, &self.far, &mut self.near),
             ["near", rest @ ..] => answer(rt, alloc, &mut self.near, rest),
             ["far", rest @ ..] => answer(rt, alloc, &mut self.far, rest),
             _ => Ok(println!(rt; "?")?),

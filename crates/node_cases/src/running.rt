@@ -167,18 +167,6 @@ fn has_failed(what: &str, ran: &Ran) -> bool {
     }
 }
 
-// The setting in which the call of this number fails.
-fn failing<'a>(setting: &Setting<'a>, what: &str, call: u64) -> Setting<'a> {
-    let mut now = *setting;
-    match what {
-        "door" => now.door = call,
-        "sink" => now.sink = call,
-        "disk" => now.disk = call,
-        _ => now.source = call,
-    }
-    now
-}
-
 /// A case where the first call of the door, the sink, the disk or the source fails, the second, and so on, until none fails: each
 /// in a line, behind the number of the call.
 pub fn each<P: Print>(
@@ -193,7 +181,8 @@ pub fn each<P: Print>(
     };
     for call in 1..=MOST {
         print!(rt; "{call} ")?;
-        let now = failing(&setting, what, call);
+        let mut now = setting;
+        now.fail(what, call);
         match run(rt, alloc, &now, connections, text)? {
             Some(ran) if has_failed(what, &ran) => {}
             _ => break,

@@ -17,6 +17,18 @@ pub struct Setting<'a> {
     pub file: &'a str,
 }
 
+impl<'a> Setting<'a> {
+    /// Has the call of this number fail, of the sink, the source, the disk, or else the door.
+    pub fn fail(&mut self, what: &str, call: u64) {
+        match what {
+            "sink" => self.sink = call,
+            "source" => self.source = call,
+            "disk" => self.disk = call,
+            _ => self.door = call,
+        }
+    }
+}
+
 // The node of a word.
 fn node_of(word: &str) -> Option<&str> {
     match word {
@@ -43,20 +55,12 @@ pub fn setting_of<'a, 'b>(words: &'b [&'a str]) -> Option<(Setting<'a>, &'b [&'a
     let mut words = words;
     for _ in 0..6 {
         match words {
-            ["fails", call, rest @ ..] => {
-                setting.door = number_of(call);
-                words = rest;
-            }
-            ["sink", call, rest @ ..] => {
-                setting.sink = number_of(call);
-                words = rest;
-            }
-            ["source", call, rest @ ..] => {
-                setting.source = number_of(call);
-                words = rest;
-            }
-            ["disk", call, rest @ ..] => {
-                setting.disk = number_of(call);
+            [
+                what @ ("fails" | "sink" | "source" | "disk"),
+                call,
+                rest @ ..,
+            ] => {
+                setting.fail(what, number_of(call));
                 words = rest;
             }
             ["file", bytes, rest @ ..] => {
