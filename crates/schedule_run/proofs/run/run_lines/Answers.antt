@@ -13,7 +13,7 @@ returns-in_default-clause-ended g c ready = nothing_taken c.args.cluster c.args.
 
 pub loop-turn-init : goal.loop-turn-init
 loop-turn-init g c = record {
-  along = λ ready. start _ _ c.args.cluster c.args.lines.now.number c.args.lines.now.ended c.in-Ok.running' (record { is = c.start.ensures.world; stands = c.in-Ok.ensures.stands }) ready.last;
+  along = λ ready. start _ _ c.args.cluster c.args.lines.now.number c.args.lines.now.ended c.in-Ok.running (record { is = c.start.ensures.world; stands = c.in-Ok.ensures.stands }) ready.last;
   reached = c.in-Ok.ensures.reached;
   events = omega (arith, c.in-Ok.ensures.events);
   number = omega arith;
