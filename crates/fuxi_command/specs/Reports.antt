@@ -2,7 +2,7 @@
 use Rattle.std.specs.Prelude.{◌⊎◌, ℕ, List, [], ◌++◌, Option, codes, decimal}
 use Rattle.std.specs.Io.KnownBytes.{Appends}
 use Rattle.fuxi_io.specs.Causes.{Rose, TakesPart}
-use Rattle.fuxi_io.specs.Statuses.{word_of}
+use Rattle.fuxi_terms.specs.ClusterKeys.{word_of}
 use Rattle.fuxi_io.specs.declared.status.InputFault.{InputFault}
 use Rattle.fuxi_io.specs.declared.status.InputFault.TheVariants.{UnknownWord, WrongCount, BadNumber, Range, LineTooLong, NoCluster, NotJson, WrongKind, UnknownKey, MissingKey, Count, LengthDiffers, QuantityRange, QuotaOverLimit, NoMachine}
 use Rattle.fuxi_io.specs.declared.status.LimitOf.{LimitOf}
