@@ -197,7 +197,7 @@ fn tell_part<P: Print>(
     let (status, other) = run_narrow(alloc, text, is_err, &mut narrow)?;
     if whole.get(..limit.min(whole.len())) != Some(narrow.took.as_slice()) {
         print!(rt; " another text at {limit}")?;
-    } else if limit + 1 == whole.len() || limit == 0 {
+    } else if Some(limit) == whole.len().checked_sub(1) || limit == 0 {
         print!(rt; " at {limit} {}", shown(alloc, &status, b"", &other)?)?;
     }
     Ok(())
