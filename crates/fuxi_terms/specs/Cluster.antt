@@ -3,7 +3,7 @@ use Rattle.std.specs.Prelude.{ℕ, Bool, not, nat_eq, nat_lt, ◌&&◌, ◌||◌
 use Rattle.std.specs.Option.{unwrap_or}
 use Rattle.std.specs.List.{list_any, list_all}
 use Rattle.fuxi_terms.specs.Lists.{below_each}
-use Rattle.fuxi_terms.specs.Limits.{most_resources, most_machines, most_racks, most_groups, most_jobs, most_units, most_priorities, greatest_quantity}
+use Rattle.fuxi_terms.specs.Limits.{most_resources, most_machines, most_racks, most_groups, most_jobs, most_units, most_priorities, greatest_quantity, greatest_count}
 use Rattle.fuxi_terms.specs.Vectors.{at_place, fits, is_zero}
 
 pub record MachineRecord : Type 0 where
@@ -20,9 +20,11 @@ pub record ClusterRecord : Type 0 where
   pub machines : List MachineRecord
   pub groups : List GroupRecord
 
+-- a unit: its priority, what one grant takes, and the greatest number of its grants that are made on one machine
 pub record UnitRecord : Type 0 where
   pub priority : ℕ
   pub size : List ℕ
+  pub most : ℕ
 
 -- units are numbered by their place in the list
 pub record JobRecord : Type 0 where
@@ -57,8 +59,14 @@ is_valid_cluster c =
 abbrev pub is_priority : ℕ → Bool
 is_priority p = nat_lt p most_priorities
 
+abbrev pub is_size : ℕ → List ℕ → Bool
+is_size resources qs = is_vector_of resources qs && not (is_zero qs)
+
+abbrev pub is_most : ℕ → Bool
+is_most n = is_between 1 greatest_count n
+
 abbrev pub is_valid_unit : ℕ → UnitRecord → Bool
-is_valid_unit resources u = is_priority u.priority && (is_vector_of resources u.size && not (is_zero u.size))
+is_valid_unit resources u = is_priority u.priority && (is_size resources u.size && is_most u.most)
 
 -- a job for a cluster of so many resources
 abbrev pub is_valid_job : ℕ → JobRecord → Bool

@@ -30,7 +30,7 @@ abbrev pub has_ended : List KnownJob → ℕ → Bool
 has_ended jobs a = unwrap_or (option_map (λ j. j.ended) (job_of jobs a)) false
 
 abbrev pub no_unit : UnitRecord
-no_unit = record { priority = 0; size = [] }
+no_unit = record { priority = 0; size = []; most = 0 }
 
 abbrev pub units_of : List KnownJob → ℕ → List UnitRecord
 units_of jobs a = unwrap_or (option_map (λ j. j.job.units) (job_of jobs a)) []
@@ -47,6 +47,10 @@ priority_of jobs a u = (unit_of jobs a u).priority
 
 abbrev pub group_of : List KnownJob → ℕ → ℕ
 group_of jobs a = unwrap_or (option_map (λ j. j.job.group) (job_of jobs a)) 0
+
+-- the greatest number of a unit's grants that are made on one machine
+abbrev pub most_of : List KnownJob → ℕ → ℕ → ℕ
+most_of jobs a u = (unit_of jobs a u).most
 
 -- one resource of a unit's size
 abbrev pub size_at : List KnownJob → ℕ → ℕ → ℕ → ℕ

@@ -1,11 +1,10 @@
 -- Rows: what is granted on one machine, and what changes make of it.
-use Rattle.std.specs.Prelude.{ℕ, ℤ, ◌≤◌, Bool, cond, not, nat_lt, ◌&&◌, unsigned_abs, List, [], ◌∷◌, length, map, Result, Ok, Err}
+use Rattle.std.specs.Prelude.{ℕ, ℤ, ◌≤◌, Bool, cond, nat_lt, ◌&&◌, unsigned_abs, List, [], ◌∷◌, length, map, Result, Ok, Err}
 use Rattle.std.specs.List.{AllByRecursion}
 use Rattle.fuxi_terms.specs.declared.Key.{Key}
 use Rattle.fuxi_terms.specs.Keys.{RowKey, row_cmp}
 use Rattle.fuxi_terms.specs.Limits.{most_resources, most_jobs, most_units, greatest_count, most_entries}
-use Rattle.fuxi_terms.specs.Cluster.{is_vector_of}
-use Rattle.fuxi_terms.specs.Vectors.{is_zero}
+use Rattle.fuxi_terms.specs.Cluster.{is_size}
 use Rattle.fuxi_terms.specs.Counts.{AreCounts, AreChanges, change_one, then_do}
 use Rattle.fuxi_terms.specs.Padded.{padded}
 use Rattle.fuxi_terms.specs.Totals.{total_of}
@@ -14,7 +13,7 @@ use Rattle.fuxi_terms.specs.declared.answers.LedgerFault.TheVariants.{Below, Too
 
 -- sizes have eight places
 abbrev pub is_row_key : RowKey → Bool
-is_row_key k = nat_lt k.job most_jobs && (nat_lt k.unit most_units && (is_vector_of most_resources k.size && not (is_zero k.size)))
+is_row_key k = nat_lt k.job most_jobs && (nat_lt k.unit most_units && is_size most_resources k.size)
 
 abbrev pub greatest_row : RowKey → ℕ
 greatest_row k = cond (is_row_key k) greatest_count 0

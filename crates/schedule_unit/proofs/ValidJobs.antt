@@ -5,12 +5,12 @@ use Rattle.std.specs.Option.{option_or}
 use Rattle.std.proofs.lemmas.List.{length-map}
 use Rattle.std.proofs.lemmas.Bool.{and_parts, and_from, not-false, not_from_false, eq-eqb, eqb-true, eqb-false, lt-ltb, le-ltb}
 use Rattle.fuxi_terms.specs.Vectors.{is_zero}
-use Rattle.fuxi_terms.specs.Cluster.{UnitRecord, are_quantities, is_between, is_priority, is_valid_job, is_valid_unit, is_vector_of}
+use Rattle.fuxi_terms.specs.Cluster.{UnitRecord, are_quantities, is_between, is_most, is_priority, is_size, is_valid_job, is_valid_unit, is_vector_of}
 use Rattle.fuxi_terms.specs.Padded.{padded}
 use Rattle.fuxi_terms.proofs.VectorLaws.{length-padded, quantities-padded}
 use Rattle.schedule_unit.specs.declared.asks.Ask.{Ask}
 use Rattle.schedule_unit.specs.declared.job.JobFault.{JobFault}
-use Rattle.schedule_unit.specs.declared.job.JobFault.TheVariants.{Dimensions, PriorityRange, QuantityRange, ZeroSize}
+use Rattle.schedule_unit.specs.declared.job.JobFault.TheVariants.{Dimensions, PriorityRange, QuantityRange, ZeroSize, MostRange}
 use Rattle.schedule_unit.specs.declared.job.Unit.{Unit as JobUnit}
 use Rattle.schedule_unit.specs.JobFaults.{unit_no, unit_fault, first_unit_fault, unit_asked, job_asked}
 use Rattle.schedule_unit.specs.Units.{unit_record}
@@ -32,20 +32,24 @@ zero-behind (q ∷ qs) n = ap (λ b. nat_eq q 0 && b) (zero-behind qs n)
 pub valid_unit : (resources u : ℕ) (ask : Ask) → resources ≤ 8 → unit_fault resources u ask ≡ None → is_valid_unit 8 (unit_asked ask) ≡ true
 valid_unit resources u ask r h =
     let qs = ask.quantities in
-    let last = cond (is_zero qs) (Some (ZeroSize (unit_no u))) None in
+    let bound = cond (not (is_most ask.most)) (Some (MostRange (unit_no u))) None in
+    let last = cond (is_zero qs) (Some (ZeroSize (unit_no u))) bound in
     let third = cond (not (are_quantities qs)) (Some (QuantityRange (unit_no u))) last in
     let second = cond (not (is_priority ask.priority)) (Some (PriorityRange (unit_no u))) third in
     let a = passed (not (nat_eq (length qs) resources)) (Dimensions (unit_no u)) second h in
     let b = passed (not (is_priority ask.priority)) (PriorityRange (unit_no u)) third a.1 in
     let d = passed (not (are_quantities qs)) (QuantityRange (unit_no u)) last b.1 in
-    let e = passed (is_zero qs) (ZeroSize (unit_no u)) None d.1 in
+    let e = passed (is_zero qs) (ZeroSize (unit_no u)) bound d.1 in
+    let f = passed (not (is_most ask.most)) (MostRange (unit_no u)) None e.1 in
     let l : length qs ≡ resources = eqb-true (length qs) resources (not-false (nat_eq (length qs) resources) a.0) in
-    and_from (is_priority ask.priority) (is_vector_of 8 (padded qs) && not (is_zero (padded qs))) (not-false (is_priority ask.priority) b.0)
+    and_from (is_priority ask.priority) (is_size 8 (padded qs) && is_most ask.most) (not-false (is_priority ask.priority) b.0)
+    (and_from (is_size 8 (padded qs)) (is_most ask.most)
     (and_from (is_vector_of 8 (padded qs)) (not (is_zero (padded qs)))
     (and_from (nat_eq (length (padded qs)) 8) (are_quantities (padded qs))
     (eq-eqb (length (padded qs)) 8 (length-padded qs (omega arith)))
     (quantities-padded qs ∙ not-false (are_quantities qs) d.0))
     (not_from_false (is_zero (padded qs)) (zero-behind qs (8 - length qs) ∙ e.0)))
+    (not-false (is_most ask.most) f.0))
 
 pub valid_units : (resources u : ℕ) (asks : List Ask) → resources ≤ 8 → first_unit_fault resources u asks ≡ None → list_all (is_valid_unit 8) (map unit_asked asks) ≡ true
 valid_units resources u [] r h = refl

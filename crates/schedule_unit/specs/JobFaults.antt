@@ -2,12 +2,12 @@
 use Rattle.std.specs.Prelude.{◌≡◌, ℕ, ◌+◌, not, nat_eq, nat_lt, List, [], ◌∷◌, length, map, Option, Some, None, Result, Ok, Err, if◌then◌else◌}
 use Rattle.std.specs.Option.{option_or}
 use Rattle.fuxi_terms.specs.Vectors.{is_zero}
-use Rattle.fuxi_terms.specs.Cluster.{JobRecord, UnitRecord, are_quantities, is_priority}
+use Rattle.fuxi_terms.specs.Cluster.{JobRecord, UnitRecord, are_quantities, is_priority, is_most}
 use Rattle.fuxi_terms.specs.Padded.{padded}
 use Rattle.schedule_unit.specs.declared.asks.Ask.{Ask}
 use Rattle.schedule_unit.specs.declared.party.UnitNo.{UnitNo}
 use Rattle.schedule_unit.specs.declared.job.JobFault.{JobFault}
-use Rattle.schedule_unit.specs.declared.job.JobFault.TheVariants.{NoUnits, TooManyUnits, Dimensions, PriorityRange, QuantityRange, ZeroSize, OutOfMemory}
+use Rattle.schedule_unit.specs.declared.job.JobFault.TheVariants.{NoUnits, TooManyUnits, Dimensions, PriorityRange, QuantityRange, ZeroSize, MostRange, OutOfMemory}
 
 abbrev pub unit_no : ℕ → UnitNo
 unit_no n = record { 0 = n }
@@ -18,7 +18,8 @@ unit_fault resources u ask =
     if not (nat_eq (length ask.quantities) resources) then Some (Dimensions (unit_no u))
     else (if not (is_priority ask.priority) then Some (PriorityRange (unit_no u))
     else (if not (are_quantities ask.quantities) then Some (QuantityRange (unit_no u))
-    else (if is_zero ask.quantities then Some (ZeroSize (unit_no u)) else None)))
+    else (if is_zero ask.quantities then Some (ZeroSize (unit_no u))
+    else (if not (is_most ask.most) then Some (MostRange (unit_no u)) else None))))
 
 -- of the units from number u on
 abbrev pub first_unit_fault : ℕ → ℕ → List Ask → Option JobFault
@@ -33,7 +34,7 @@ job_fault resources asks =
 
 -- the unit and the job that are made of it where nothing is
 abbrev pub unit_asked : Ask → UnitRecord
-unit_asked ask = record { priority = ask.priority; size = padded ask.quantities }
+unit_asked ask = record { priority = ask.priority; size = padded ask.quantities; most = ask.most }
 
 abbrev pub job_asked : ℕ → ℕ → List Ask → JobRecord
 job_asked number group asks = record { number = number; group = group; units = map unit_asked asks }
@@ -46,6 +47,7 @@ IsFault fault (Dimensions u) = fault ≡ Some (Dimensions u)
 IsFault fault (PriorityRange u) = fault ≡ Some (PriorityRange u)
 IsFault fault (QuantityRange u) = fault ≡ Some (QuantityRange u)
 IsFault fault (ZeroSize u) = fault ≡ Some (ZeroSize u)
+IsFault fault (MostRange u) = fault ≡ Some (MostRange u)
 IsFault fault OutOfMemory = Unit {0}
 
 -- the job, exactly where there is no fault, and else the fault

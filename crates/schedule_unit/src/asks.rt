@@ -53,6 +53,8 @@ pub struct Ask {
     pub priority: u64,
     /// One for each resource, likewise untested.
     pub quantities: Quantities,
+    /// The greatest number of grants on one machine, likewise untested.
+    pub most: u64,
 }
 
 /// What is asked for the units of a job, in their order. Seen as the list of it.

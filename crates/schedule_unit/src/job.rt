@@ -7,7 +7,7 @@ ghost use Rattle.schedule_unit.specs.Units.{unit_record};
 use crate::asks::Ask;
 use crate::party::{AppNo, GroupNo, UnitNo};
 use fuxi_terms::OutOfMemory;
-use fuxi_terms::limits::MOST_UNITS;
+use fuxi_terms::limits::{GREATEST_COUNT, MOST_UNITS};
 use res_vector::{Res, are_quantities, from_quantities, is_zero};
 use std::alloc::Global;
 use std::marker::Model;
@@ -20,6 +20,8 @@ pub struct Unit {
     pub priority: u8,
     /// What one grant takes: at most 1,000,000,000,000 of each resource, and something of one.
     pub size: Res,
+    /// The greatest number of its grants that a master makes on one machine: 1 to 100,000.
+    pub most: u32,
 }
 
 /// Why what was asked is no job. The tests go in this order, those of a unit together, and the first that
@@ -47,6 +49,9 @@ pub enum JobFault {
     /// Memory was refused.
     #[error("out of memory")]
     OutOfMemory,
+    /// The greatest number of grants on one machine is 0 or above 100,000. It is the last test of a unit.
+    #[error("the greatest number per machine of unit {number} is 0 or above 100000", number = .0.0)]
+    MostRange(UnitNo),
 }
 
 /// A job, seen as its number, its group and the list of its units. It has 1 to 8 units within the limits,
@@ -183,8 +188,12 @@ fn make_unit(number: UnitNo, resources: u8, ask: &Ask) -> Result<Unit, JobFault>
     if is_zero(quantities) {
         return Err(JobFault::ZeroSize(number));
     }
+    if !(1..=GREATEST_COUNT).contains(&ask.most) {
+        return Err(JobFault::MostRange(number));
+    }
     Ok(Unit {
         priority: ask.priority as u8,
         size: from_quantities(quantities),
+        most: ask.most as u32,
     })
 }

@@ -6,18 +6,19 @@ use Rattle.std.specs.Cmp.Lexicographic.{slice_cmp}
 use Rattle.fuxi_terms.specs.Cluster.{ClusterRecord, has_at, limit_at, in_each_place}
 use Rattle.fuxi_terms.specs.declared.Key.{Key}
 use Rattle.fuxi_terms.specs.Keys.{Spot}
-use Rattle.fuxi_terms.specs.Jobs.{unit_count, priority_of, group_of, size_at, job_numbers}
+use Rattle.fuxi_terms.specs.Jobs.{unit_count, priority_of, group_of, size_at, most_of, job_numbers}
 use Rattle.fuxi_terms.specs.Lists.{below}
 use Rattle.fuxi_terms.specs.Numbers.{has_number}
 use Rattle.written_roles.specs.Masters.{Master, asked, out, out_of, level_of, avoids}
-use Rattle.fuxi_terms.specs.Tables.{spot, total_by, usage_by, with_grant}
+use Rattle.fuxi_terms.specs.Tables.{spot, held_on, total_by, usage_by, with_grant}
 
--- What placing reads beside a table and a line: the cluster, of each unit its priority and size, of each job its group, what is asked at
--- each key, and where a unit may be granted
+-- What placing reads beside a table and a line: the cluster, of each unit its priority, its size and how many of its grants may stand on one
+-- machine, of each job its group, what is asked at each key, and where a unit may be granted
 pub record Board : Type 0 where
   pub cluster : ClusterRecord
   pub priorities : ℕ → ℕ → ℕ
   pub sizes : ℕ → ℕ → ℕ → ℕ
+  pub mosts : ℕ → ℕ → ℕ
   pub groups : ℕ → ℕ
   pub asks : ℕ → Key → ℕ
   pub may_use : ℕ → ℕ → ℕ → Bool
@@ -45,7 +46,7 @@ abbrev pub is_usable : Master → ℕ → ℕ → ℕ → Bool
 is_usable M a u m = has_number m M.reported && (not (has_number m M.bans) && not (avoids M a u m))
 
 abbrev pub board : ClusterRecord → Master → Board
-board c M = record { cluster = c; priorities = priority_of M.jobs; sizes = size_at M.jobs; groups = group_of M.jobs; asks = asked M; may_use = is_usable M; serving = M.serving }
+board c M = record { cluster = c; priorities = priority_of M.jobs; sizes = size_at M.jobs; mosts = most_of M.jobs; groups = group_of M.jobs; asks = asked M; may_use = is_usable M; serving = M.serving }
 
 -- a group's usage and one more of this size stay within its limit, in each resource
 abbrev pub is_allowed_in : ClusterRecord → (ℕ → ℕ) → (ℕ → ℕ → ℕ → ℕ) → List (Spot × ℕ) → ℕ → ℕ → Bool
@@ -61,6 +62,13 @@ has_room_in c sizes table a u m = in_each_place c (sizes a u) (λ i. not (nat_lt
 abbrev pub has_room : ClusterRecord → Master → ℕ → ℕ → ℕ → Bool
 has_room c M a u m = has_room_in c (size_at M.jobs) M.table a u m
 
+-- a machine accepts one more grant of a unit, as far as it has room: it may be used, and the unit holds fewer there than its greatest number
+abbrev pub accepts_in : Board → List (Spot × ℕ) → ℕ → ℕ → ℕ → Bool
+accepts_in b table a u m = b.may_use a u m && nat_lt (held_on table a u m) (b.mosts a u)
+
+abbrev pub accepts : ClusterRecord → Master → ℕ → ℕ → ℕ → Bool
+accepts c M a u m = accepts_in (board c M) M.table a u m
+
 -- a unit may be granted once more, wherever that be
 abbrev pub may_grow_in : Board → List (Spot × ℕ) → ℕ → ℕ → Bool
 may_grow_in b table a u = b.serving && (nat_lt 0 (out_of b.asks table a u) && is_allowed_in b.cluster b.groups b.sizes table a u)
@@ -70,7 +78,7 @@ may_grow c M a u = may_grow_in (board c M) M.table a u
 
 -- a pair of a unit and a machine is placeable
 abbrev pub placeable_in : Board → List (Spot × ℕ) → ℕ → ℕ → ℕ → Bool
-placeable_in b table a u m = may_grow_in b table a u && (b.may_use a u m && has_room_in b.cluster b.sizes table a u m)
+placeable_in b table a u m = may_grow_in b table a u && (accepts_in b table a u m && has_room_in b.cluster b.sizes table a u m)
 
 abbrev pub placeable : ClusterRecord → Master → ℕ → ℕ → ℕ → Bool
 placeable c M a u m = placeable_in (board c M) M.table a u m
@@ -91,7 +99,7 @@ ranked c M place p m = ranked_in (board c M) M.table place p m
 
 -- the placeable pairs of one unit
 abbrev pub places_in : Board → List (Spot × ℕ) → ℕ → ℕ × ℕ → List Ranked
-places_in b table place p = map (ranked_in b table place p) (filter (λ m. b.may_use p.0 p.1 m && has_room_in b.cluster b.sizes table p.0 p.1 m) (below (length b.cluster.machines)))
+places_in b table place p = map (ranked_in b table place p) (filter (λ m. accepts_in b table p.0 p.1 m && has_room_in b.cluster b.sizes table p.0 p.1 m) (below (length b.cluster.machines)))
 
 abbrev pub places_for : ClusterRecord → Master → ℕ → ℕ × ℕ → List Ranked
 places_for c M place p = places_in (board c M) M.table place p

@@ -7,7 +7,7 @@ use Rattle.fuxi_terms.specs.Jobs.{KnownJob, priority_of, group_of, size_at}
 use Rattle.fuxi_terms.specs.Lists.{below}
 use Rattle.fuxi_terms.specs.Tables.{spot, total_by, usage_by, with_grant, without_grants}
 use Rattle.written_roles.specs.Masters.{Master}
-use Rattle.written_roles.specs.Placing.{Board, board}
+use Rattle.written_roles.specs.Placing.{Board, board, accepts_in}
 
 -- Walk. A grant goes before another by lower priority, then greater job, then greater unit
 abbrev pub goes_before_by : (ℕ → ℕ → ℕ) → Spot → Spot → Bool
@@ -125,7 +125,7 @@ victims_in b table t = let set = taken_in (walk_in b.priorities table t.machine)
 abbrev pub victims : ClusterRecord → Master → Spot → Option (List Spot)
 victims c M t = victims_in (board c M) M.table t
 
--- the pairs in the order in which they are tried: by greater priority, place in the line and smaller machine
+-- the waiting pairs by greater priority, and then by place in the line
 abbrev pub falling_priorities : List ℕ
 falling_priorities = 9 ∷ 8 ∷ 7 ∷ 6 ∷ 5 ∷ 4 ∷ 3 ∷ 2 ∷ 1 ∷ 0 ∷ []
 
@@ -135,11 +135,12 @@ by_priority_in priorities line = flat_map (λ n. filter (λ p. nat_eq (prioritie
 abbrev pub by_priority : Master → List (ℕ × ℕ)
 by_priority M = by_priority_in (priority_of M.jobs) M.line
 
-abbrev pub tried_in : Board → List (ℕ × ℕ) → List Spot
-tried_in b line = flat_map (λ p. map (spot p.0 p.1) (filter (b.may_use p.0 p.1) (below (length b.cluster.machines)))) (by_priority_in b.priorities line)
+-- the candidates: each with every machine that accepts one more grant of it, the smaller machine first
+abbrev pub tried_in : Board → List (Spot × ℕ) → List (ℕ × ℕ) → List Spot
+tried_in b table line = flat_map (λ p. map (spot p.0 p.1) (filter (accepts_in b table p.0 p.1) (below (length b.cluster.machines)))) (by_priority_in b.priorities line)
 
 abbrev pub tried : ClusterRecord → Master → List Spot
-tried c M = tried_in (board c M) M.line
+tried c M = tried_in (board c M) M.table M.line
 
 -- what is served, and its victims
 pub record Plan : Type 0 where
@@ -154,7 +155,7 @@ abbrev pub first_plan : List Spot → ClusterRecord → Master → Option Plan
 first_plan ss c M = first_plan_in ss (board c M) M.table
 
 abbrev pub plan_in : Board → List (Spot × ℕ) → List (ℕ × ℕ) → Option Plan
-plan_in b table line = first_plan_in (tried_in b line) b table
+plan_in b table line = first_plan_in (tried_in b table line) b table
 
 abbrev pub plan_of : ClusterRecord → Master → Option Plan
 plan_of c M = plan_in (board c M) M.table M.line

@@ -2,7 +2,7 @@
 use Rattle.std.specs.Prelude.{ℕ, ◌+◌, Bool, true, false, not, nat_eq, nat_lt, List, [], ◌∷◌, ◌++◌, length, Option, Some, None, Result, Err}
 use Rattle.fuxi_terms.specs.Limits.{most_units}
 use Rattle.fuxi_terms.specs.Vectors.{is_zero}
-use Rattle.fuxi_terms.specs.Cluster.{JobRecord, UnitRecord, are_quantities, is_priority}
+use Rattle.fuxi_terms.specs.Cluster.{JobRecord, UnitRecord, are_quantities, is_priority, is_most}
 
 pub data Refusal : Type 0 where
   NotRunning : Refusal
@@ -32,6 +32,7 @@ pub data Refusal : Type 0 where
   PriorityRange : (unit : ℕ) → Refusal
   QuantityRange : (unit : ℕ) → Refusal
   ZeroSize : (unit : ℕ) → Refusal
+  MostRange : (unit : ℕ) → Refusal
 
 -- the first refusal whose test is true
 abbrev pub first_refusal : List (Bool × Refusal) → Option Refusal
@@ -47,11 +48,12 @@ abbrev pub with_found : {A B : Type 0} → Option A → B → (A → B) → B
 with_found None b f = b
 with_found (Some x) b f = f x
 
--- the faults of a unit in their order: as many quantities as resources, the priority, each quantity, and not all 0
+-- the faults of a unit in their order: as many quantities as resources, the priority, each quantity, not all 0, and the greatest number per
+-- machine
 abbrev pub unit_tests : ℕ → ℕ → UnitRecord → List (Bool × Refusal)
 unit_tests resources u r =
     (not (nat_eq (length r.size) resources), Dimensions u) ∷ (not (is_priority r.priority), PriorityRange u)
-    ∷ (not (are_quantities r.size), QuantityRange u) ∷ (is_zero r.size, ZeroSize u) ∷ []
+    ∷ (not (are_quantities r.size), QuantityRange u) ∷ (is_zero r.size, ZeroSize u) ∷ (not (is_most r.most), MostRange u) ∷ []
 
 abbrev pub units_tests : ℕ → ℕ → List UnitRecord → List (Bool × Refusal)
 units_tests resources u [] = []
