@@ -10,12 +10,11 @@ use Rattle.std.specs.declared.cmp.Ordering.{Ordering}
 use Rattle.std.specs.declared.cmp.Ordering.TheVariants.{Less, Equal, Greater}
 use Rattle.std.specs.FinMap.Entries.{by_order, below_all, put, is_sorted}
 use Rattle.std.proofs.lemmas.Bool.Decides.{nat_tests}
-use Rattle.fuxi_terms.specs.Cluster.{JobRecord, UnitRecord, is_valid_job, is_valid_unit, is_vector_of, is_priority, is_between}
+use Rattle.fuxi_terms.specs.Cluster.{JobRecord, UnitRecord, is_valid_job, is_valid_unit, is_size, is_priority, is_between}
 use Rattle.fuxi_terms.specs.Counts.{joined}
 use Rattle.fuxi_terms.specs.Jobs.{KnownJob, job_of, unit_count, unit_of, no_unit}
 use Rattle.fuxi_terms.specs.Keys.{RowKey, row_cmp}
 use Rattle.fuxi_terms.specs.Rows.{is_row_key, row_key}
-use Rattle.fuxi_terms.specs.Vectors.{is_zero}
 use Rattle.fuxi_terms.proofs.Booleans.{both_true, and_true, number_is}
 use Rattle.fuxi_terms.proofs.Counting.{both_true as both_parts, lesser}
 use Rattle.fuxi_terms.proofs.KeyOrders.{row_key_total}
@@ -36,7 +35,7 @@ key_of j u v lt =
     let job : nat_lt j.number 256 ≡ true = grind (arith, nat_tests, small) in
     let unit : nat_lt u 8 ≡ true = let l : u < 8 = omega (arith, lt, few) in grind (arith, nat_tests, l) in
     let valid = valid_at j.units u (both_true (is_between 1 8 (length j.units)) _ (units_valid j v)).1 lt in
-    let size : (is_vector_of 8 x.size && not (is_zero x.size)) ≡ true = (both_true (is_priority x.priority) _ valid).1 in
+    let size : is_size 8 x.size ≡ true = (both_true (is_size 8 x.size) _ (both_true (is_priority x.priority) _ valid).1).0 in
     and_true (nat_lt j.number 256) _ job (and_true (nat_lt u 8) _ unit size)
 
 pub unit_key : (js : List JobRecord) → AreJobs js → (a u : ℕ) → u < unit_count (as_known js) a → is_row_key (row_key a u (unit_of (as_known js) a u).size) ≡ true

@@ -1,6 +1,7 @@
 -- The storm: what its events make of the world, or the first limit that one of them would pass.
 use Rattle.std.specs.Prelude.{ℕ, zero, suc, ◌+◌, cond, nat_lt, List, [], ◌∷◌, length, Option, Some, None, Result, Ok, Err}
 use Rattle.fuxi_terms.specs.Cluster.{JobRecord}
+use Rattle.fuxi_terms.specs.Limits.{greatest_count}
 use Rattle.fuxi_terms.specs.Counts.{then_do}
 use Rattle.written_world.specs.World.{World, empty_world}
 use Rattle.written_world.specs.Events.{Event, StartMaster, StartAgent, StartApp, Submit, TurnMaster, TurnAgent, TurnApp, DeliverRange, world_step}
@@ -29,7 +30,7 @@ each (suc n) f x = then_do (each n f x) (f n)
 
 -- The first events: a master, all agents, three jobs of one unit, and their applications
 abbrev pub job : ℕ → ℕ → ℕ → List ℕ → JobRecord
-job number group priority size = record { number = number; group = group; units = (record { priority = priority; size = size }) ∷ [] }
+job number group priority size = record { number = number; group = group; units = (record { priority = priority; size = size; most = greatest_count }) ∷ [] }
 
 abbrev pub submitted : World → Result World WorldStop
 submitted w =

@@ -10,6 +10,7 @@ ghost use Rattle.storm_run.specs.Runs.{Runs};
 use crate::orders::PeerOrder;
 use crate::run::Run;
 use fuxi_terms::OutOfMemory;
+use fuxi_terms::limits::GREATEST_COUNT;
 use schedule_replay::WorldStop;
 use schedule_text::Event;
 use schedule_unit::{AppNo, Ask, Asks, GroupNo, Quantities};
@@ -35,6 +36,7 @@ fn submission(
     asks.push(Ask {
         priority,
         quantities,
+        most: GREATEST_COUNT,
     })?;
     Ok(Event::Submit(1, app, group, asks))
 }

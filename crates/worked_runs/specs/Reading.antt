@@ -1,5 +1,6 @@
 -- Short words, so that a run of events and its text read like the lines that they stand for.
 use Rattle.std.specs.Prelude.{◌≡◌, ℕ, zero, suc, true, false, List, [], ◌++◌}
+use Rattle.fuxi_terms.specs.Limits.{greatest_count}
 use Rattle.fuxi_terms.specs.Cluster.{MachineRecord, GroupRecord, ClusterRecord, UnitRecord, JobRecord}
 use Rattle.written_net.specs.Net.{Party, Kind}
 use Rattle.fuxi_terms.specs.declared.answers.What.{What}
@@ -17,8 +18,9 @@ group quota limit = record { quota = quota; limit = limit }
 abbrev pub cluster : ℕ → List MachineRecord → List GroupRecord → ClusterRecord
 cluster resources machines groups = record { resources = resources; machines = machines; groups = groups }
 
+-- as many on one machine as there may be
 abbrev pub unit : ℕ → List ℕ → UnitRecord
-unit priority size = record { priority = priority; size = size }
+unit priority size = record { priority = priority; size = size; most = greatest_count }
 
 abbrev pub job : ℕ → ℕ → List UnitRecord → JobRecord
 job number group units = record { number = number; group = group; units = units }

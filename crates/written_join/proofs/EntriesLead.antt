@@ -16,10 +16,10 @@ use Rattle.fuxi_terms.specs.Limits.{most_resources, most_jobs, most_units, most_
 use Rattle.fuxi_terms.specs.Keys.{key_cmp, RowKey, row_cmp}
 use Rattle.fuxi_terms.specs.Counts.{joined}
 use Rattle.fuxi_terms.specs.Padded.{padded}
-use Rattle.fuxi_terms.specs.Vectors.{fits, at_place, is_zero, times}
+use Rattle.fuxi_terms.specs.Vectors.{fits, at_place, times}
 use Rattle.fuxi_terms.specs.Totals.{total_of}
 use Rattle.fuxi_terms.specs.Rows.{IsRow, greatest_row, row_total}
-use Rattle.fuxi_terms.specs.Cluster.{ClusterRecord, MachineRecord, JobRecord, UnitRecord, is_valid_cluster, is_valid_machine, is_valid_job, is_valid_unit, is_vector_of, is_priority, is_between, has_rack, has_machine, machine_of}
+use Rattle.fuxi_terms.specs.Cluster.{ClusterRecord, MachineRecord, JobRecord, UnitRecord, is_valid_cluster, is_valid_machine, is_valid_job, is_valid_unit, is_size, is_priority, is_between, has_rack, has_machine, machine_of}
 use Rattle.fuxi_terms.specs.Jobs.{KnownJob, job_of, is_known, units_of, unit_of, unit_count, no_unit}
 use Rattle.fuxi_terms.specs.TallyKeys.{greatest_grant, greatest_demand, where_holds}
 use Rattle.written_net.specs.Net.{at_index}
@@ -91,7 +91,7 @@ got (x ∷ xs) (suc i) d lt = got xs i d (omega (arith, lt))
 record IsNamed (c : ClusterRecord) (jobs : List KnownJob) (k : RowKey) : Type 0 where
   job : nat_lt k.job most_jobs ≡ true
   unit : nat_lt k.unit most_units ≡ true
-  size : (is_vector_of most_resources k.size && not (is_zero k.size)) ≡ true
+  size : is_size most_resources k.size ≡ true
   zeros : (i : ℕ) → c.resources ≤ i → at_place k.size i ≡ 0
   same : k.size ≡ (unit_of jobs k.job k.unit).size
 
@@ -113,7 +113,7 @@ named c jobs k h n = by (job_of jobs k.job) refl
         record {
           job = subst (λ a. nat_lt a most_jobs ≡ true) f.1 v.number;
           unit = grind (arith, nat_tests, lt, few);
-          size = subst (λ s. (is_vector_of most_resources s && not (is_zero s)) ≡ true) (sym n.2) (both_true (is_priority (unit_of jobs k.job k.unit).priority) _ u).1;
+          size = subst (λ s. is_size most_resources s ≡ true) (sym n.2) (both_true (is_size most_resources (unit_of jobs k.job k.unit).size) _ (both_true (is_priority (unit_of jobs k.job k.unit).priority) _ u).1).0;
           zeros = λ i le. ap (λ s. at_place s i) n.2 ∙ z.zeros i le;
           same = n.2;
         }

@@ -9,7 +9,7 @@ use Rattle.fuxi_terms.specs.Cluster.{ClusterRecord, has_machine}
 use Rattle.fuxi_terms.specs.Keys.{Spot}
 use Rattle.fuxi_terms.specs.Lists.{below}
 use Rattle.written_roles.specs.Masters.{Master, out}
-use Rattle.written_roles.specs.Placing.{Ranked, ranked, candidates, places_for, may_grow, is_usable, has_room, least, first_of, first_placeable, granted, settle, settled, all_out, placeable, has_pair}
+use Rattle.written_roles.specs.Placing.{Ranked, ranked, candidates, places_for, may_grow, accepts, has_room, least, first_of, first_placeable, granted, settle, settled, all_out, placeable, has_pair}
 use Rattle.written_roles.specs.Settling.{NothingPlaceable, Picks}
 use Rattle.fuxi_terms.proofs.Booleans.{both_true, and_true, either}
 use Rattle.fuxi_terms.proofs.Members.{In, sum_filter, both_empty, none_passes, mapped_empty, sum_lt, in_below}
@@ -34,7 +34,7 @@ all_candidates : (P : Ranked → Type 0) (c : ClusterRecord) (M : Master) (place
 all_candidates P c M place [] h = tt
 all_candidates P c M place (p ∷ ps) h = all_joined P (elim (may_grow c M p.0 p.1) as (λ _. List Ranked) [ true ↦ places_for c M place p | false ↦ [] ]) (candidates c M (place + 1) ps)
     (elim (may_grow c M p.0 p.1) as (λ b. may_grow c M p.0 p.1 ≡ b → AllByRecursion P (elim b as (λ _. List Ranked) [ true ↦ places_for c M place p | false ↦ [] ])) [
-      | true ↦ λ g. all_mapped P (ranked c M place p) (λ m. is_usable M p.0 p.1 m && has_room c M p.0 p.1 m) (below (length c.machines)) (λ m e. h p place m (inl refl) (and_true _ _ g e))
+      | true ↦ λ g. all_mapped P (ranked c M place p) (λ m. accepts c M p.0 p.1 m && has_room c M p.0 p.1 m) (below (length c.machines)) (λ m e. h p place m (inl refl) (and_true _ _ g e))
       | false ↦ λ _. tt
     ] refl)
     (all_candidates P c M (place + 1) ps (λ q n m i e. h q n m (inr i) e))
@@ -117,8 +117,8 @@ none_of_line c M place (p ∷ ps) e a u m has there =
           let eqs = both_true (nat_eq a p.0) (nat_eq u p.1) t in
           let is_a : p.0 ≡ a = let h = eqs.0 in grind (arith, nat_tests, h) in
           let is_u : p.1 ≡ u = let h = eqs.1 in grind (arith, nat_tests, h) in
-          let here : placeable c M p.0 p.1 m ≡ false = elim (may_grow c M p.0 p.1) as (λ b. elim b as (λ _. List Ranked) [ true ↦ places_for c M place p | false ↦ [] ] ≡ [] → (b && (is_usable M p.0 p.1 m && has_room c M p.0 p.1 m)) ≡ false) [
-            | true ↦ λ none. none_passes (λ m. is_usable M p.0 p.1 m && has_room c M p.0 p.1 m) m (below (length c.machines)) (mapped_empty (ranked c M place p) _ none) (in_below (length c.machines) m there)
+          let here : placeable c M p.0 p.1 m ≡ false = elim (may_grow c M p.0 p.1) as (λ b. elim b as (λ _. List Ranked) [ true ↦ places_for c M place p | false ↦ [] ] ≡ [] → (b && (accepts c M p.0 p.1 m && has_room c M p.0 p.1 m)) ≡ false) [
+            | true ↦ λ none. none_passes (λ m. accepts c M p.0 p.1 m && has_room c M p.0 p.1 m) m (below (length c.machines)) (mapped_empty (ranked c M place p) _ none) (in_below (length c.machines) m there)
             | false ↦ λ _. refl
           ] parts.0 in
           subst (λ a'. placeable c M a' u m ≡ false) is_a (subst (λ u'. placeable c M p.0 u' m ≡ false) is_u here)

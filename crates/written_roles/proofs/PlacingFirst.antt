@@ -10,7 +10,7 @@ use Rattle.fuxi_terms.specs.Cluster.{ClusterRecord, has_machine}
 use Rattle.fuxi_terms.specs.Keys.{Spot}
 use Rattle.fuxi_terms.specs.Lists.{below}
 use Rattle.written_roles.specs.Masters.{Master}
-use Rattle.written_roles.specs.Placing.{Ranked, least, first_of, first_placeable, ranked, candidates, places_for, may_grow, is_usable, has_room, placeable}
+use Rattle.written_roles.specs.Placing.{Ranked, least, first_of, first_placeable, ranked, candidates, places_for, may_grow, accepts, has_room, placeable}
 use Rattle.written_roles.specs.Settling.{IsFirst}
 use Rattle.fuxi_terms.proofs.Booleans.{both_true, and_true}
 use Rattle.fuxi_terms.proofs.Members.{In, in_below}
@@ -83,8 +83,8 @@ is_candidate : (c : ClusterRecord) (M : Master) (place n m : ℕ) (p : ℕ × �
 is_candidate c M place n m p [] e there t = cc
 is_candidate c M place zero m p (q ∷ ps) e there t =
     let same : q ≡ p = cc in
-    let b = both_true (may_grow c M p.0 p.1) (is_usable M p.0 p.1 m && has_room c M p.0 p.1 m) t in
-    let here : In (ranked c M place p m) (places_for c M place p) = in_mapped (ranked c M place p) (λ m. is_usable M p.0 p.1 m && has_room c M p.0 p.1 m) m (below (length c.machines)) b.1 (in_below (length c.machines) m there) in
+    let b = both_true (may_grow c M p.0 p.1) (accepts c M p.0 p.1 m && has_room c M p.0 p.1 m) t in
+    let here : In (ranked c M place p m) (places_for c M place p) = in_mapped (ranked c M place p) (λ m. accepts c M p.0 p.1 m && has_room c M p.0 p.1 m) m (below (length c.machines)) b.1 (in_below (length c.machines) m there) in
     let chosen : In (ranked c M place p m) (elim (may_grow c M p.0 p.1) as (λ _. List Ranked) [ true ↦ places_for c M place p | false ↦ [] ]) = subst (λ g. In (ranked c M place p m) (elim g as (λ _. List Ranked) [ true ↦ places_for c M place p | false ↦ [] ])) (sym b.0) here in
     let first : place + 0 ≡ place = omega arith in
     subst (λ k. In (ranked c M k p m) (candidates c M place (q ∷ ps))) (sym first)
@@ -104,7 +104,7 @@ all_ones : (c : ClusterRecord) (M : Master) (place : ℕ) (ps : List (ℕ × ℕ
 all_ones c M place [] h = tt
 all_ones c M place (p ∷ ps) h = all_joined (IsOne c M) (elim (may_grow c M p.0 p.1) as (λ _. List Ranked) [ true ↦ places_for c M place p | false ↦ [] ]) (candidates c M (place + 1) ps)
     (elim (may_grow c M p.0 p.1) as (λ b. may_grow c M p.0 p.1 ≡ b → AllByRecursion (IsOne c M) (elim b as (λ _. List Ranked) [ true ↦ places_for c M place p | false ↦ [] ])) [
-      | true ↦ λ g. all_mapped (IsOne c M) (ranked c M place p) (λ m. is_usable M p.0 p.1 m && has_room c M p.0 p.1 m) (below (length c.machines))
+      | true ↦ λ g. all_mapped (IsOne c M) (ranked c M place p) (λ m. accepts c M p.0 p.1 m && has_room c M p.0 p.1 m) (below (length c.machines))
           (λ m e. record { place = place; there = (let z : place + 0 ≡ place = omega arith in ap (λ k. slice_get M.line k) (sym z) ∙ h 0 p refl); may = and_true _ _ g e; is = refl })
       | false ↦ λ _. tt
     ] refl)

@@ -9,7 +9,7 @@ use Rattle.fuxi_terms.specs.Counts.{count}
 use Rattle.fuxi_terms.specs.Jobs.{size_at}
 use Rattle.written_roles.specs.Masters.{Master}
 use Rattle.fuxi_terms.specs.Tables.{total_at}
-use Rattle.written_roles.specs.Placing.{first_placeable, granted, settle, settled, placeable, may_grow, is_usable, has_room}
+use Rattle.written_roles.specs.Placing.{first_placeable, granted, settle, settled, placeable, may_grow, accepts, has_room}
 use Rattle.written_roles.specs.Settling.{IsWithin}
 use Rattle.fuxi_terms.proofs.Booleans.{both_true}
 use Rattle.fuxi_terms.proofs.KeyOrders.{spot_total, same_spot}
@@ -19,8 +19,8 @@ use Rattle.fuxi_terms.proofs.Members.{in_each_is}
 
 fits_one : (c : ClusterRecord) (M : Master) (s : Spot) → placeable c M s.job s.unit s.machine ≡ true → (i : ℕ) → i < c.resources → total_at M.jobs s.machine i M.table + size_at M.jobs s.job s.unit i ≤ has_at c s.machine i
 fits_one c M s p i lt =
-    let may : (is_usable M s.job s.unit s.machine && has_room c M s.job s.unit s.machine) ≡ true = (both_true (may_grow c M s.job s.unit) (is_usable M s.job s.unit s.machine && has_room c M s.job s.unit s.machine) p).1 in
-    let room : has_room c M s.job s.unit s.machine ≡ true = (both_true (is_usable M s.job s.unit s.machine) (has_room c M s.job s.unit s.machine) may).1 in
+    let may : (accepts c M s.job s.unit s.machine && has_room c M s.job s.unit s.machine) ≡ true = (both_true (may_grow c M s.job s.unit) (accepts c M s.job s.unit s.machine && has_room c M s.job s.unit s.machine) p).1 in
+    let room : has_room c M s.job s.unit s.machine ≡ true = (both_true (accepts c M s.job s.unit s.machine) (has_room c M s.job s.unit s.machine) may).1 in
     let t : not (nat_lt (has_at c s.machine i) (total_at M.jobs s.machine i M.table + size_at M.jobs s.job s.unit i)) ≡ true = in_each_is c (size_at M.jobs s.job s.unit) (λ i. not (nat_lt (has_at c s.machine i) (total_at M.jobs s.machine i M.table + size_at M.jobs s.job s.unit i))) i room lt in
     grind (arith, nat_tests, t)
 

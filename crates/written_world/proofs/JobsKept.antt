@@ -6,12 +6,12 @@ use Rattle.std.proofs.lemmas.Bool.Decides.{nat_tests}
 use Rattle.fuxi_terms.specs.Padded.{padded}
 use Rattle.fuxi_terms.specs.Vectors.{at_place, is_zero}
 use Rattle.fuxi_terms.specs.Limits.{most_records, most_resources, most_units, most_jobs, most_groups}
-use Rattle.fuxi_terms.specs.Cluster.{ClusterRecord, JobRecord, UnitRecord, is_valid_cluster, is_valid_unit, is_priority, is_vector_of, are_quantities, is_between, has_group}
+use Rattle.fuxi_terms.specs.Cluster.{ClusterRecord, JobRecord, UnitRecord, is_valid_cluster, is_valid_unit, is_priority, is_size, is_most, is_vector_of, are_quantities, is_between, has_group}
 use Rattle.fuxi_terms.specs.Jobs.{KnownJob, job_of, is_known, has_ended, eight_places}
 use Rattle.fuxi_terms.specs.Numbers.{has_number}
 use Rattle.written_roles.specs.Masters.{Master}
 use Rattle.written_roles.specs.HardState.{HardState, with_job, with_ended, submitted, finished, is_full, is_not_rising}
-use Rattle.written_roles.specs.Refusals.{Refusal, HardFull, Fenced, Known, NoJob, Ended, AlreadyBanned, NotBanned, NoGroup, NoUnits, TooManyUnits, Dimensions, PriorityRange, QuantityRange, ZeroSize, first_refusal, job_tests, units_tests}
+use Rattle.written_roles.specs.Refusals.{Refusal, HardFull, Fenced, Known, NoJob, Ended, AlreadyBanned, NotBanned, NoGroup, NoUnits, TooManyUnits, Dimensions, PriorityRange, QuantityRange, ZeroSize, MostRange, first_refusal, job_tests, units_tests}
 use Rattle.written_world.specs.World.{World, Step, empty_world}
 use Rattle.written_world.specs.Events.{Event, act}
 use Rattle.written_world.specs.Runs.{run}
@@ -58,22 +58,28 @@ record IsWide (c : ClusterRecord) (u : UnitRecord) : Type 0 where
   narrow : IsNarrow c (wide u)
 
 wide_unit : (c : ClusterRecord) (n : ℕ) (u : UnitRecord) (ts : List (Bool × Refusal)) → c.resources ≤ most_resources
-    → first_refusal ((not (nat_eq (length u.size) c.resources), Dimensions n) ∷ (not (is_priority u.priority), PriorityRange n) ∷ (not (are_quantities u.size), QuantityRange n) ∷ (is_zero u.size, ZeroSize n) ∷ ts) ≡ None → IsWide c u × (first_refusal ts ≡ None)
+    → first_refusal ((not (nat_eq (length u.size) c.resources), Dimensions n) ∷ (not (is_priority u.priority), PriorityRange n) ∷ (not (are_quantities u.size), QuantityRange n) ∷ (is_zero u.size, ZeroSize n) ∷ (not (is_most u.most), MostRange n) ∷ ts) ≡ None → IsWide c u × (first_refusal ts ≡ None)
 wide_unit c n u ts few e =
-    let a = passed (not (nat_eq (length u.size) c.resources)) (Dimensions n) ((not (is_priority u.priority), PriorityRange n) ∷ (not (are_quantities u.size), QuantityRange n) ∷ (is_zero u.size, ZeroSize n) ∷ ts) e in
-    let b = passed (not (is_priority u.priority)) (PriorityRange n) ((not (are_quantities u.size), QuantityRange n) ∷ (is_zero u.size, ZeroSize n) ∷ ts) a.1 in
-    let q = passed (not (are_quantities u.size)) (QuantityRange n) ((is_zero u.size, ZeroSize n) ∷ ts) b.1 in
-    let z = passed (is_zero u.size) (ZeroSize n) ts q.1 in
+    let bound : List (Bool × Refusal) = (not (is_most u.most), MostRange n) ∷ ts in
+    let zero : List (Bool × Refusal) = (is_zero u.size, ZeroSize n) ∷ bound in
+    let quantities : List (Bool × Refusal) = (not (are_quantities u.size), QuantityRange n) ∷ zero in
+    let a = passed (not (nat_eq (length u.size) c.resources)) (Dimensions n) ((not (is_priority u.priority), PriorityRange n) ∷ quantities) e in
+    let b = passed (not (is_priority u.priority)) (PriorityRange n) quantities a.1 in
+    let q = passed (not (are_quantities u.size)) (QuantityRange n) zero b.1 in
+    let z = passed (is_zero u.size) (ZeroSize n) bound q.1 in
+    let m = passed (not (is_most u.most)) (MostRange n) ts z.1 in
     let same = turned_test (nat_eq (length u.size) c.resources) a.0 in
     let long : length u.size ≡ c.resources = grind (arith, nat_tests, same) in
     let eight = length-padded u.size (omega (arith, long, few)) in
     let is_eight : nat_eq (length (padded u.size)) most_resources ≡ true = grind (arith, nat_tests, eight) in (
       record {
-        valid = and_true (is_priority u.priority) _ (turned_test _ b.0) (and_true (is_vector_of most_resources (padded u.size)) (not (is_zero (padded u.size)))
-            (and_true (nat_eq (length (padded u.size)) most_resources) (are_quantities (padded u.size)) is_eight (quantities-padded u.size ∙ turned_test _ q.0)) (ap not (zero_padded u.size z.0)));
+        valid = and_true (is_priority u.priority) _ (turned_test _ b.0) (and_true (is_size most_resources (padded u.size)) (is_most u.most)
+            (and_true (is_vector_of most_resources (padded u.size)) (not (is_zero (padded u.size)))
+            (and_true (nat_eq (length (padded u.size)) most_resources) (are_quantities (padded u.size)) is_eight (quantities-padded u.size ∙ turned_test _ q.0)) (ap not (zero_padded u.size z.0)))
+            (turned_test _ m.0));
         narrow = record { zeros = λ i le. at_place-padded u.size i ∙ past u.size i (omega (arith, le, long)) };
       },
-      z.1,
+      m.1,
     )
 
 wide_units : (c : ClusterRecord) (n : ℕ) (us : List UnitRecord) → c.resources ≤ most_resources → first_refusal (units_tests c.resources n us) ≡ None

@@ -14,7 +14,7 @@ use Rattle.fuxi_terms.specs.Jobs.{KnownJob, job_of, unit_count, job_numbers}
 use Rattle.fuxi_terms.specs.Numbers.{has_number, with_number}
 use Rattle.fuxi_terms.specs.Lists.{below}
 use Rattle.written_roles.specs.Masters.{Master, out}
-use Rattle.written_roles.specs.Placing.{waiting_pairs, has_pair, lined, line_up, is_usable, may_grow, has_room, is_allowed, placeable, first_placeable, granted, settle, settled, all_out}
+use Rattle.written_roles.specs.Placing.{waiting_pairs, has_pair, lined, line_up, is_usable, accepts, may_grow, has_room, is_allowed, placeable, first_placeable, granted, settle, settled, all_out}
 use Rattle.fuxi_terms.specs.Tables.{with_grant}
 use Rattle.written_roles.specs.Settling.{NothingPlaceable}
 use Rattle.written_roles.specs.MasterSteps.{phased, ready}
@@ -164,10 +164,11 @@ ranged_same c M N same r = record {
 none_anywhere : (c : ClusterRecord) (M : Master) → IsRangedMaster c M → IsFullLine M → NothingPlaceable c M → (a u m : ℕ) → placeable c M a u m ≡ false
 none_anywhere c M r f none a u m = elim (placeable c M a u m) as (λ b. placeable c M a u m ≡ b → b ≡ false) [
   | true ↦ λ e.
-      let parts = both_true (may_grow c M a u) (is_usable M a u m && has_room c M a u m) e in
+      let parts = both_true (may_grow c M a u) (accepts c M a u m && has_room c M a u m) e in
       let grows = both_true M.serving (nat_lt 0 (out M a u) && is_allowed c M a u) parts.0 in
       let some = (both_true (nat_lt 0 (out M a u)) (is_allowed c M a u) grows.1).0 in
-      let usable = (both_true (is_usable M a u m) (has_room c M a u m) parts.1).0 in
+      let open = (both_true (accepts c M a u m) (has_room c M a u m) parts.1).0 in
+      let usable = (both_true (is_usable M a u m) _ open).0 in
       let there = r.reported m (both_true (has_number m M.reported) _ usable).0 in
       let no = none a u m (f.full a u some) there in
       sym e ∙ no
@@ -175,7 +176,7 @@ none_anywhere c M r f none a u m = elim (placeable c M a u m) as (λ b. placeabl
 ] refl
 
 rests_unserved : (c : ClusterRecord) (M : Master) → M.serving ≡ false → (a u m : ℕ) → placeable c M a u m ≡ false
-rests_unserved c M e a u m = ap (λ b. (b && (nat_lt 0 (out M a u) && is_allowed c M a u)) && (is_usable M a u m && has_room c M a u m)) e
+rests_unserved c M e a u m = ap (λ b. (b && (nat_lt 0 (out M a u) && is_allowed c M a u)) && (accepts c M a u m && has_room c M a u m)) e
 
 lined_ranged : (c : ClusterRecord) (M : Master) → IsRangedMaster c M → IsRangedMaster c (line_up (phased c M))
 lined_ranged c M r = record { reported = r.reported; wanted = r.wanted }

@@ -23,7 +23,7 @@ use Rattle.fuxi_terms.specs.Lists.{below}
 use Rattle.fuxi_terms.specs.Numbers.{has_number, with_number}
 use Rattle.written_roles.specs.Masters.{Master, demand_of, asked, out, credited_of}
 use Rattle.fuxi_terms.specs.Tables.{spot, held, with_grant, without_grants}
-use Rattle.written_roles.specs.Placing.{first_placeable, granted, settle, settled, all_out, line_up, is_usable}
+use Rattle.written_roles.specs.Placing.{first_placeable, granted, settle, settled, all_out, line_up, accepts}
 use Rattle.written_roles.specs.Preemption.{Plan, falling_priorities, by_priority, tried, plan_of, preempted}
 use Rattle.written_roles.specs.HardState.{with_job, with_ended}
 use Rattle.written_roles.specs.MasterSteps.{phased, ready, counted, is_kept, is_there, adopted, adopts, take_report, credit, raise_credited, take_demand, meet_app, ended_in, banned_in}
@@ -134,10 +134,10 @@ preempted_bounded c M p e w h =
     let fewer = l.less p.served in
     record { counts = grant_counts M.jobs (without_grants M.table p.losers) p.served o.unit (omega (arith, few, less, fewer)) l.counts; reported = h.reported; rising = h.rising; demands = h.demands; credits = h.credits }
   where
-    all_spots : (qs : List (ℕ × ℕ)) → AllWait M qs → AllByRecursion (λ (s : Spot). nat_lt 0 (out M s.job s.unit) ≡ true) (flat_map (λ q. map (spot q.0 q.1) (filter (is_usable M q.0 q.1) (below (length c.machines)))) qs)
+    all_spots : (qs : List (ℕ × ℕ)) → AllWait M qs → AllByRecursion (λ (s : Spot). nat_lt 0 (out M s.job s.unit) ≡ true) (flat_map (λ q. map (spot q.0 q.1) (filter (accepts c M q.0 q.1) (below (length c.machines)))) qs)
     all_spots [] k = tt
-    all_spots (q ∷ qs) k = all_append (λ (s : Spot). nat_lt 0 (out M s.job s.unit) ≡ true) (map (spot q.0 q.1) (filter (is_usable M q.0 q.1) (below (length c.machines)))) _
-        (each (filter (is_usable M q.0 q.1) (below (length c.machines))) k.0) (all_spots qs k.1)
+    all_spots (q ∷ qs) k = all_append (λ (s : Spot). nat_lt 0 (out M s.job s.unit) ≡ true) (map (spot q.0 q.1) (filter (accepts c M q.0 q.1) (below (length c.machines)))) _
+        (each (filter (accepts c M q.0 q.1) (below (length c.machines))) k.0) (all_spots qs k.1)
       where
         each : (ms : List ℕ) → nat_lt 0 (out M q.0 q.1) ≡ true → AllByRecursion (λ (s : Spot). nat_lt 0 (out M s.job s.unit) ≡ true) (map (spot q.0 q.1) ms)
         each [] l = tt

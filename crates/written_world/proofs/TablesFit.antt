@@ -21,7 +21,7 @@ use Rattle.fuxi_terms.specs.Lists.{below}
 use Rattle.fuxi_terms.specs.Numbers.{has_number, with_number}
 use Rattle.written_roles.specs.Masters.{Master, credited_of}
 use Rattle.fuxi_terms.specs.Tables.{spot, total_at, with_grant, without_grants}
-use Rattle.written_roles.specs.Placing.{first_placeable, granted, settle, settled, all_out, line_up, is_usable, has_room, may_grow, placeable}
+use Rattle.written_roles.specs.Placing.{first_placeable, granted, settle, settled, all_out, line_up, is_usable, accepts, has_room, may_grow, placeable}
 use Rattle.written_roles.specs.Preemption.{Plan, set_at_place, tried, plan_of, by_priority, preempted}
 use Rattle.written_roles.specs.HardState.{with_job}
 use Rattle.written_roles.specs.MasterSteps.{phased, ready, row, is_kept, adopted, adopts, take_report, credit, take_demand, meet_app, ended_in, banned_in}
@@ -60,7 +60,7 @@ settle_reported c (suc fuel) M h = elim (first_placeable c M) as (λ o. first_pl
 ] refl
   where
     usable : (s : Spot) → placeable c M s.job s.unit s.machine ≡ true → has_number s.machine M.reported ≡ true
-    usable s p = (both_true (has_number s.machine M.reported) _ (both_true (is_usable M s.job s.unit s.machine) (has_room c M s.job s.unit s.machine) (both_true (may_grow c M s.job s.unit) (is_usable M s.job s.unit s.machine && has_room c M s.job s.unit s.machine) p).1).0).0
+    usable s p = (both_true (has_number s.machine M.reported) _ (both_true (is_usable M s.job s.unit s.machine) _ (both_true (accepts c M s.job s.unit s.machine) (has_room c M s.job s.unit s.machine) (both_true (may_grow c M s.job s.unit) (accepts c M s.job s.unit s.machine && has_room c M s.job s.unit s.machine) p).1).0).0).0
 
 record ReadyFits (c : ClusterRecord) (M : Master) : Type 0 where
   it : FitsMachines c M
@@ -317,13 +317,13 @@ preempted_fits_machines c M p e t h = record {
     usable : has_number p.served.machine M.reported ≡ true
     usable = planned (λ s. has_number s.machine M.reported ≡ true) (tried c M) c M p (all_spots (by_priority M)) e
       where
-        each : (q : ℕ × ℕ) (ms : List ℕ) → AllByRecursion (λ (s : Spot). has_number s.machine M.reported ≡ true) (map (spot q.0 q.1) (filter (is_usable M q.0 q.1) ms))
+        each : (q : ℕ × ℕ) (ms : List ℕ) → AllByRecursion (λ (s : Spot). has_number s.machine M.reported ≡ true) (map (spot q.0 q.1) (filter (accepts c M q.0 q.1) ms))
         each q [] = tt
-        each q (m ∷ ms) = elim (is_usable M q.0 q.1 m) as (λ b. is_usable M q.0 q.1 m ≡ b → AllByRecursion (λ (s : Spot). has_number s.machine M.reported ≡ true) (map (spot q.0 q.1) (cond b (m ∷ filter (is_usable M q.0 q.1) ms) (filter (is_usable M q.0 q.1) ms)))) [
-          | true ↦ λ u. ((both_true (has_number m M.reported) _ u).0, each q ms)
+        each q (m ∷ ms) = elim (accepts c M q.0 q.1 m) as (λ b. accepts c M q.0 q.1 m ≡ b → AllByRecursion (λ (s : Spot). has_number s.machine M.reported ≡ true) (map (spot q.0 q.1) (cond b (m ∷ filter (accepts c M q.0 q.1) ms) (filter (accepts c M q.0 q.1) ms)))) [
+          | true ↦ λ u. ((both_true (has_number m M.reported) _ (both_true (is_usable M q.0 q.1 m) _ u).0).0, each q ms)
           | false ↦ λ _. each q ms
         ] refl
 
-        all_spots : (qs : List (ℕ × ℕ)) → AllByRecursion (λ (s : Spot). has_number s.machine M.reported ≡ true) (flat_map (λ q. map (spot q.0 q.1) (filter (is_usable M q.0 q.1) (below (length c.machines)))) qs)
+        all_spots : (qs : List (ℕ × ℕ)) → AllByRecursion (λ (s : Spot). has_number s.machine M.reported ≡ true) (flat_map (λ q. map (spot q.0 q.1) (filter (accepts c M q.0 q.1) (below (length c.machines)))) qs)
         all_spots [] = tt
-        all_spots (q ∷ qs) = all_append (λ (s : Spot). has_number s.machine M.reported ≡ true) (map (spot q.0 q.1) (filter (is_usable M q.0 q.1) (below (length c.machines)))) _ (each q (below (length c.machines))) (all_spots qs)
+        all_spots (q ∷ qs) = all_append (λ (s : Spot). has_number s.machine M.reported ≡ true) (map (spot q.0 q.1) (filter (accepts c M q.0 q.1) (below (length c.machines)))) _ (each q (below (length c.machines))) (all_spots qs)

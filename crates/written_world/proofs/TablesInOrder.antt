@@ -19,7 +19,7 @@ use Rattle.fuxi_terms.specs.Lists.{below}
 use Rattle.fuxi_terms.specs.Numbers.{has_number}
 use Rattle.written_roles.specs.Masters.{Master, asked, out, credited_of}
 use Rattle.fuxi_terms.specs.Tables.{spot, without_grants}
-use Rattle.written_roles.specs.Placing.{first_placeable, granted, settle, settled, all_out, waiting_pairs, has_pair, line_up, is_usable, is_allowed, has_room, may_grow, placeable}
+use Rattle.written_roles.specs.Placing.{first_placeable, granted, settle, settled, all_out, waiting_pairs, has_pair, line_up, accepts, is_allowed, has_room, may_grow, placeable}
 use Rattle.written_roles.specs.Preemption.{Plan, victims, falling_priorities, by_priority, tried, first_plan, plan_of, preempted}
 use Rattle.written_roles.specs.HardState.{with_job, with_ended}
 use Rattle.written_roles.specs.MasterSteps.{phased, ready, is_kept, adopted, adopts, take_report, credit, raise_credited, take_demand, meet_app, ended_in, banned_in}
@@ -68,7 +68,7 @@ out_live M a u h e = by (is_live M.jobs a) refl
 -- what is placeable is out
 pub placeable_out : (c : ClusterRecord) (M : Master) (a u m : ℕ) → placeable c M a u m ≡ true → nat_lt 0 (out M a u) ≡ true
 placeable_out c M a u m e =
-    (both_true (nat_lt 0 (out M a u)) (is_allowed c M a u) (both_true M.serving (nat_lt 0 (out M a u) && is_allowed c M a u) (both_true (may_grow c M a u) (is_usable M a u m && has_room c M a u m) e).0).1).0
+    (both_true (nat_lt 0 (out M a u)) (is_allowed c M a u) (both_true M.serving (nat_lt 0 (out M a u) && is_allowed c M a u) (both_true (may_grow c M a u) (accepts c M a u m && has_room c M a u m) e).0).1).0
 
 -- Placing
 settle_in_order : (c : ClusterRecord) (fuel : ℕ) (M : Master) → IsInOrder M → IsInOrder (settle c fuel M)
@@ -157,10 +157,10 @@ preempted_in_order c M p e w h =
       plain = h.plain;
     }
   where
-    all_spots : (qs : List (ℕ × ℕ)) → AllWait M qs → AllByRecursion (λ (s : Spot). is_live M.jobs s.job ≡ true) (flat_map (λ q. map (spot q.0 q.1) (filter (is_usable M q.0 q.1) (below (length c.machines)))) qs)
+    all_spots : (qs : List (ℕ × ℕ)) → AllWait M qs → AllByRecursion (λ (s : Spot). is_live M.jobs s.job ≡ true) (flat_map (λ q. map (spot q.0 q.1) (filter (accepts c M q.0 q.1) (below (length c.machines)))) qs)
     all_spots [] k = tt
-    all_spots (q ∷ qs) k = all_append (λ (s : Spot). is_live M.jobs s.job ≡ true) (map (spot q.0 q.1) (filter (is_usable M q.0 q.1) (below (length c.machines)))) _
-        (each (filter (is_usable M q.0 q.1) (below (length c.machines))) (out_live M q.0 q.1 h k.0)) (all_spots qs k.1)
+    all_spots (q ∷ qs) k = all_append (λ (s : Spot). is_live M.jobs s.job ≡ true) (map (spot q.0 q.1) (filter (accepts c M q.0 q.1) (below (length c.machines)))) _
+        (each (filter (accepts c M q.0 q.1) (below (length c.machines))) (out_live M q.0 q.1 h k.0)) (all_spots qs k.1)
       where
         each : (ms : List ℕ) → is_live M.jobs q.0 ≡ true → AllByRecursion (λ (s : Spot). is_live M.jobs s.job ≡ true) (map (spot q.0 q.1) ms)
         each [] l = tt
