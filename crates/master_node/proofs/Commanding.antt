@@ -7,7 +7,6 @@ use Rattle.fuxi_terms.specs.Cluster.{ClusterRecord, JobRecord, has_group, has_ma
 use Rattle.fuxi_terms.specs.Jobs.{eight_places}
 use Rattle.schedule_unit.specs.declared.asks.Ask.{Ask}
 use Rattle.schedule_unit.specs.declared.job.JobFault.{JobFault}
-use Rattle.schedule_unit.specs.declared.job.JobFault.TheVariants as job
 use Rattle.schedule_unit.specs.JobFaults.{IsFault, IsMade, job_fault}
 use Rattle.written_roles.specs.Refusals.{Refusal as WrittenRefusal, NoMachine, NoGroup, NotRunning, first_refusal, job_tests, unless_fault}
 use Rattle.written_roles.specs.HardState.{HardState, Submission, Banning, Unbanning}
@@ -18,15 +17,15 @@ use Rattle.schedule_unit.specs.declared.party.MachineNo.{MachineNo}
 use Rattle.schedule_text.specs.declared.event.Event.{Event}
 use Rattle.schedule_text.specs.declared.refusal.Refusal.{Refusal}
 use Rattle.schedule_text.specs.Printing.{as_refusal}
+use Rattle.schedule_text.specs.Asked.{AreTestedAlike, job_named, job_refusal}
 use Rattle.node_rounds.specs.Roles.{Role, OfAgent, OfApp, OfMaster}
-use Rattle.node_party.specs.Commands.{Commanded, IsCommanded, MasterCommands, MasterTold, RefusedAs, commanded, job_named, master_by, master_does, master_named, stays}
+use Rattle.node_party.specs.Commands.{Commanded, IsCommanded, MasterCommands, MasterTold, RefusedAs, commanded, master_by, master_does, master_named, stays}
 use Rattle.node_party.specs.Texts.{as_answer}
 use Rattle.node_party.specs.declared.party.Answer.{Answer}
 use Rattle.node_party.specs.declared.party.Halt.{Halt}
 use Rattle.master_node.specs.Standing.{NodeRecord, IsMasterOf, StandsAs}
 use Rattle.master_node.specs.Writing.{hard_in}
-use Rattle.master_node.specs.Telling.{Does, LeavesLine, LeavesMade, job_refusal, made_of, obeyed}
-use Rattle.master_node.proofs.JobTests.{asked, fault_refused, job_alike, job_same}
+use Rattle.master_node.specs.Telling.{Does, LeavesLine, LeavesMade, made_of, obeyed}
 
 -- What is done by another name
 pub does_same : (made other : HardState → MasterRole → Commanded) (x : NodeRecord) (result : Result (NodeRecord × Answer) Halt) → ((h : HardState) (r : MasterRole) → IsMasterOf h r x → other h r ≡ made h r) → IfOk result (Does made x) → IfOk result (Does other x)
@@ -100,33 +99,19 @@ group_refused h r a g asks none =
 group_known : (c : ClusterRecord) (j : JobRecord) → has_group c j.group ≡ true → first_refusal (submit_tests_of c j) ≡ first_refusal (job_tests c.resources j)
 group_known c j there = none_before (not (has_group c j.group), NoGroup) (job_tests c.resources j) (ap not there)
 
-abbrev as_asked : Option Refusal → Option WrittenRefusal
-as_asked None = None
-as_asked (Some r) = Some (as_refusal r)
-
--- the refusal that a fault of a job is
-job_refused : (f : JobFault) (r : Refusal) → job_refusal f ≡ Some r → asked (Some f) ≡ Some (as_refusal r)
-job_refused job.NoUnits r is = ap as_asked is
-job_refused job.TooManyUnits r is = ap as_asked is
-job_refused (job.Dimensions unit) r is = ap as_asked is
-job_refused (job.PriorityRange unit) r is = ap as_asked is
-job_refused (job.QuantityRange unit) r is = ap as_asked is
-job_refused (job.ZeroSize unit) r is = ap as_asked is
-job_refused job.OutOfMemory r is = cc
-
-pub job_faulty : (h : HardState) (r : MasterRole) (a g resources : ℕ) (asks : List Ask) (f : JobFault) (refusal : Refusal) → resources ≡ r.cluster.resources → has_group r.cluster g ≡ true → job_refusal f ≡ Some refusal
+pub job_faulty : AreTestedAlike → (h : HardState) (r : MasterRole) (a g resources : ℕ) (asks : List Ask) (f : JobFault) (refusal : Refusal) → resources ≡ r.cluster.resources → has_group r.cluster g ≡ true → job_refusal f ≡ Some refusal
     → IsFault (job_fault resources asks) f → master_does h r (MasterCommands (Submits (job_named a g asks))) ≡ stays (OfMaster h r) (RefusedAs (as_refusal refusal))
-job_faulty h r a g resources asks f refusal same there is fault =
+job_faulty law h r a g resources asks f refusal same there is fault =
     let j = job_named a g asks in
     let fault_there = subst (λ n. IsFault (job_fault n asks) f) same fault in
-    ap (made_of h r) (fails (submit_tests_of r.cluster j) (submit_writes h r j) (as_refusal refusal) (group_known r.cluster j there ∙ fault_refused r.cluster.resources a g asks f (as_refusal refusal) (job_refused f refusal is) fault_there))
+    ap (made_of h r) (fails (submit_tests_of r.cluster j) (submit_writes h r j) (as_refusal refusal) (group_known r.cluster j there ∙ law.refused r.cluster.resources a g asks f refusal fault_there is))
 
-pub submit_obeyed : (h : HardState) (r : MasterRole) (a g resources : ℕ) (asks : List Ask) (made : JobRecord) → resources ≡ r.cluster.resources → has_group r.cluster g ≡ true → IsMade a g resources asks (Ok made)
+pub submit_obeyed : AreTestedAlike → (h : HardState) (r : MasterRole) (a g resources : ℕ) (asks : List Ask) (made : JobRecord) → resources ≡ r.cluster.resources → has_group r.cluster g ≡ true → IsMade a g resources asks (Ok made)
     → master_does h r (MasterCommands (Submits (job_named a g asks))) ≡ obeyed h r (Admit made)
-submit_obeyed h r a g resources asks made same there is =
+submit_obeyed law h r a g resources asks made same there is =
     let j = job_named a g asks in
-    let none = job_alike r.cluster.resources a g asks ∙ ap asked (subst (λ n. job_fault n asks ≡ None) same is.0) in
-    let kept : eight_places j ≡ made = sym (is.1 ∙ job_same a g asks) in
+    let none = law.passed r.cluster.resources a g asks (subst (λ n. job_fault n asks ≡ None) same is.0) in
+    let kept : eight_places j ≡ made = sym (is.1 ∙ law.made a g asks) in
     ap (made_of h r) (passes (submit_tests_of r.cluster j) (submit_writes h r j) (group_known r.cluster j there ∙ none) ∙ ap (λ y. writes r.cluster h r.state (Submission y) (Admits y)) kept)
 
 -- A line names the epoch of the master, or another

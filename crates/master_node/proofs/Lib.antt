@@ -1,5 +1,4 @@
 pub mod Commanding
-pub mod JobTests
 pub mod Knowing
 pub mod Moments
 pub mod Obeying

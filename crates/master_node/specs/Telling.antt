@@ -1,9 +1,7 @@
 -- What a line makes of a master with its hard state.
-use Rattle.std.specs.Prelude.{◌≡◌, ◌⊎◌, List, [], Option, Some, None, Result, Ok, IfOk}
+use Rattle.std.specs.Prelude.{◌≡◌, ◌⊎◌, List, [], Option, Result, Ok, IfOk}
 use Rattle.fuxi_io.specs.Disks.{Told, WhereTold, LeavesAlways}
 use Rattle.fuxi_terms.specs.Counts.{then_do}
-use Rattle.schedule_unit.specs.declared.job.JobFault.{JobFault}
-use Rattle.schedule_unit.specs.declared.job.JobFault.TheVariants as job
 use Rattle.party_ledgers.specs.declared.packets.Packet.{Packet}
 use Rattle.written_roles.specs.Refusals.{Refusal as WrittenRefusal}
 use Rattle.written_roles.specs.HardState.{HardState, Submission, Finishing, Banning, Unbanning}
@@ -27,16 +25,7 @@ use Rattle.master_node.specs.Standing.{NodeRecord, IsMasterOf, StandsAs}
 use Rattle.master_node.specs.Writing.{IsEither, hard_in}
 use Rattle.node_party.specs.declared.party.Halt.{Halt}
 
--- Refusals: of a fault of a job, of what a master refuses, and what its outcome says
-abbrev pub job_refusal : JobFault → Option Refusal
-job_refusal job.NoUnits = Some why.NoUnits
-job_refusal job.TooManyUnits = Some why.TooManyUnits
-job_refusal (job.Dimensions unit) = Some (why.Dimensions unit)
-job_refusal (job.PriorityRange unit) = Some (why.PriorityRange unit)
-job_refusal (job.QuantityRange unit) = Some (why.QuantityRange unit)
-job_refusal (job.ZeroSize unit) = Some (why.ZeroSize unit)
-job_refusal job.OutOfMemory = None
-
+-- Refusals: of what a master refuses, and what its outcome says
 abbrev pub master_refusal : MasterRefusal → Refusal
 master_refusal master.AlreadyServing = why.AlreadyServing
 master_refusal master.NotServing = why.NotServing

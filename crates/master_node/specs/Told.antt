@@ -2,7 +2,8 @@
 use Rattle.std.specs.Prelude.{◌<◌, ℕ, Option, Some, None}
 use Rattle.fuxi_terms.specs.Limits.{most_jobs}
 use Rattle.written_roles.specs.MasterSteps.{Submits, Finishes, BansMachine, UnbansMachine, StartsServing, MakesRoom}
-use Rattle.node_party.specs.Commands.{MasterTold, MasterCommands, MasterResyncs, job_named}
+use Rattle.schedule_text.specs.Asked.{job_named}
+use Rattle.node_party.specs.Commands.{MasterTold, MasterCommands, MasterResyncs}
 use Rattle.master_node.specs.declared.told.Told.{Told}
 use Rattle.master_node.specs.declared.told.Told.TheVariants.{Submit, Finish, Ban, Unban, Begin, Preempt, Resync}
 

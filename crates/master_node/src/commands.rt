@@ -4,18 +4,18 @@ ghost use Rattle.std.specs.Prelude.{◌≡◌, ◌+◌, ◌<◌, ◌≤◌, Err,
 ghost use Rattle.fuxi_io.specs.Causes.{Rose};
 ghost use Rattle.fuxi_terms.specs.Limits.{most_jobs, most_steps};
 ghost use Rattle.written_roles.specs.MasterSteps.{Submits, BansMachine, UnbansMachine};
-ghost use Rattle.node_party.specs.Commands.{MasterCommands, job_named, master_does};
+ghost use Rattle.schedule_text.specs.Asked.{job_named};
+ghost use Rattle.node_party.specs.Commands.{MasterCommands, master_does};
 ghost use Rattle.master_node.specs.Standing.{Rests};
 ghost use Rattle.master_node.specs.Told.{IsTold, told_of};
 ghost use Rattle.master_node.specs.Telling.{Does, LeavesMade};
 
 use crate::MasterNode;
-use crate::refusals::asked_refusal;
 use crate::told::Told;
 use fuxi_io::Disk;
 use fuxi_master::MasterEvent;
 use node_party::{Answer, Halt};
-use schedule_text::Refusal;
+use schedule_text::{Refusal, job_refusal, jobs_are_tested_alike};
 use schedule_unit::{AppNo, Asks, GroupNo, Job, MachineNo};
 use std::alloc::Global;
 
@@ -67,13 +67,14 @@ impl MasterNode {
         ensures cause { result ≡ Err Halt.Disk → Rose (D.faults disk.old) (D.faults disk.new) }
         ensures told { LeavesMade (λ h r. master_does h r (MasterCommands (Submits (job_named app.0 group.0 asks.now)))) self result (D.told disk.old) (D.told disk.new) }
     {
+        jobs_are_tested_alike();
         let cluster = self.cluster();
         if group.0 >= cluster.groups() {
             return Ok((self, Answer::Refused(Refusal::NoGroup)));
         }
         let job = match Job::make(alloc, app, group, cluster.resources(), asks.as_slice()) {
             Ok(job) => job,
-            Err(fault) => match asked_refusal(fault) {
+            Err(fault) => match job_refusal(fault) {
                 Some(refusal) => return Ok((self, Answer::Refused(refusal))),
                 None => {
                     drop(self);

@@ -1,18 +1,17 @@
 //! Why a master refuses a line, and what it answers.
 
-ghost use Rattle.std.specs.Prelude.{◌≡◌, ◌≢◌, Some, Err, Result, IfOk, IfErr};
+ghost use Rattle.std.specs.Prelude.{◌≡◌, ◌≢◌, Err, Result, IfOk, IfErr};
 ghost use Rattle.written_roles.specs.HardState.{HardState};
 ghost use Rattle.written_roles.specs.Refusals.{Refusal as WrittenRefusal};
 ghost use Rattle.schedule_text.specs.Printing.{as_refusal};
 ghost use Rattle.hard_state.specs.HardFiles.{Refuses};
-ghost use Rattle.master_node.specs.Telling.{job_refusal, master_refusal, answer_in};
+ghost use Rattle.master_node.specs.Telling.{master_refusal, answer_in};
 
 use fuxi_master::{MasterRefusal, Outcome};
 use fuxi_terms::limits::MOST_RECORDS;
 use hard_state::HardFault;
 use node_party::{Answer, Halt};
 use schedule_text::Refusal;
-use schedule_unit::JobFault;
 
 // The refusal that a fault of the hard state is; a fault of the disk and want of memory are none. A damaged file does not come of a writing.
 pub fn written_refusal(fault: HardFault) -> Result<Refusal, Halt>
@@ -31,21 +30,6 @@ pub fn written_refusal(fault: HardFault) -> Result<Refusal, Halt>
         HardFault::Full => Ok(Refusal::HardFull(MOST_RECORDS)),
         HardFault::DiskFault => Err(Halt::Disk),
         HardFault::NotCheckpoint { .. } | HardFault::OutOfMemory => Err(Halt::Memory),
-    }
-}
-
-// The refusal that a fault of what is asked for a job is; want of memory is none.
-pub fn asked_refusal(fault: JobFault) -> Option<Refusal>
-    ensures { result ≡ job_refusal fault }
-{
-    match fault {
-        JobFault::NoUnits => Some(Refusal::NoUnits),
-        JobFault::TooManyUnits => Some(Refusal::TooManyUnits),
-        JobFault::Dimensions(unit) => Some(Refusal::Dimensions(unit)),
-        JobFault::PriorityRange(unit) => Some(Refusal::PriorityRange(unit)),
-        JobFault::QuantityRange(unit) => Some(Refusal::QuantityRange(unit)),
-        JobFault::ZeroSize(unit) => Some(Refusal::ZeroSize(unit)),
-        JobFault::OutOfMemory => None,
     }
 }
 

@@ -1,14 +1,13 @@
 -- What the party of a node does with an event that is neither a round nor the printing of its state. An event that is none of its own is refused as such, and
 -- one that names another party since that one does not run here.
-use Rattle.std.specs.Prelude.{◌≡◌, ℕ, Bool, true, false, cond, nat_eq, List, map, Option, Some, None, Result, Ok, Err}
-use Rattle.fuxi_terms.specs.Cluster.{JobRecord, UnitRecord}
+use Rattle.std.specs.Prelude.{◌≡◌, ℕ, Bool, true, false, cond, nat_eq, Option, Some, None, Result, Ok, Err}
 use Rattle.written_roles.specs.Refusals.{Refusal, NotRunning}
 use Rattle.written_roles.specs.HardState.{HardState}
 use Rattle.written_roles.specs.Agents.{AgentRole, agent_resynced}
 use Rattle.written_roles.specs.Apps.{AppRole, AppCommand, Wants, WantsNear, WantsInRack, Avoids, GivesBack, commands_alone, app_resynced}
 use Rattle.written_roles.specs.MasterSteps.{MasterCommand, Submits, Finishes, BansMachine, UnbansMachine, StartsServing, MakesRoom}
 use Rattle.written_roles.specs.MasterRoles.{MasterRole, master_commanded, master_resynced}
-use Rattle.schedule_unit.specs.declared.asks.Ask.{Ask}
+use Rattle.schedule_text.specs.Asked.{job_named}
 use Rattle.schedule_text.specs.Writing.{switch}
 use Rattle.schedule_text.specs.declared.event.Event.{Event}
 use Rattle.schedule_text.specs.declared.event.Event.TheVariants as event
@@ -107,13 +106,6 @@ app_does r AppResyncs = becomes (OfApp (app_resynced r))
 abbrev pub app_by : AppRole → Option (ℕ × AppTold) → Commanded
 app_by r None = stays (OfApp r) NotHere
 app_by r (Some told) = cond (nat_eq told.0 r.job) (app_does r told.1) (stays (OfApp r) (RefusedAs NotRunning))
-
--- a job as it is asked for: each unit with as many quantities as the line has
-abbrev pub unit_named : Ask → UnitRecord
-unit_named a = record { priority = a.priority; size = a.quantities }
-
-abbrev pub job_named : ℕ → ℕ → List Ask → JobRecord
-job_named a g asks = record { number = a; group = g; units = map unit_named asks }
 
 -- What a master is told
 pub data MasterTold : Type 0 where

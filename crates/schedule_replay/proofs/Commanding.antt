@@ -7,10 +7,9 @@ use Rattle.std.proofs.lemmas.Bool.Decides.{nat_tests}
 use Rattle.fuxi_terms.specs.Cluster.{ClusterRecord, JobRecord, has_group, has_machine}
 use Rattle.fuxi_terms.specs.Counts.{then_do}
 use Rattle.fuxi_terms.specs.Jobs.{eight_places, is_known}
-use Rattle.fuxi_terms.specs.Limits.{most_masters}
+use Rattle.fuxi_terms.specs.Limits.{most_masters, most_records}
 use Rattle.schedule_unit.specs.declared.asks.Ask.{Ask}
 use Rattle.schedule_unit.specs.declared.job.JobFault.{JobFault}
-use Rattle.schedule_unit.specs.declared.job.JobFault.TheVariants as job
 use Rattle.schedule_unit.specs.declared.party.AppNo.{AppNo}
 use Rattle.schedule_unit.specs.JobFaults.{IsFault, IsMade, job_fault}
 use Rattle.written_roles.specs.Refusals.{Refusal as WrittenRefusal, NoMachine, NotRunning, with_found}
@@ -35,9 +34,8 @@ use Rattle.running_masters.specs.Calls.{CommandsIn, CommandsInWorld, ResyncsInWo
 use Rattle.schedule_text.specs.declared.refusal.Refusal.{Refusal}
 use Rattle.schedule_text.specs.declared.refusal.Refusal.TheVariants as why
 use Rattle.schedule_text.specs.Printing.{as_refusal}
-use Rattle.schedule_replay.specs.Events.{job_named}
-use Rattle.schedule_replay.specs.Commands.{AreGoverned, Governing, GovernsIn, IsGoverned, IsGoverning, IsRefused, GovernsMasters, TakesStep, TellsIn, TellsInWorld, governing, hard_refusal, job_refusal, master_refusal, refusal_in}
-use Rattle.schedule_replay.proofs.JobTests.{asked, fault_refused, job_alike, job_same}
+use Rattle.schedule_text.specs.Asked.{AreTestedAlike, job_named, job_refusal}
+use Rattle.schedule_replay.specs.Commands.{AreGoverned, Governing, GovernsIn, IsGoverned, IsGoverning, IsRefused, GovernsMasters, TakesStep, TellsIn, TellsInWorld, governing, hard_refusal, master_refusal, refusal_in}
 use Rattle.schedule_replay.proofs.CommandSteps.{fails, finish_known, group_known, machine_known, not_both, not_none, passes, some_is, start_done, submit_tests_of, submit_unknown, told_is, told_step, writes_done, writes_refused}
 
 -- The refusal that a fault of the hard state is
@@ -49,7 +47,7 @@ hard_refused step hard.NoJob r is says = says ∙ ap (λ r. Err (as_refusal r)) 
 hard_refused step hard.Ended r is says = says ∙ ap (λ r. Err (as_refusal r)) (some_is why.Ended r is)
 hard_refused step hard.AlreadyBanned r is says = says ∙ ap (λ r. Err (as_refusal r)) (some_is why.AlreadyBanned r is)
 hard_refused step hard.NotBanned r is says = says ∙ ap (λ r. Err (as_refusal r)) (some_is why.NotBanned r is)
-hard_refused step hard.Full r is says = says ∙ ap (λ r. Err (as_refusal r)) (some_is (why.HardFull 65536) r is)
+hard_refused step hard.Full r is says = says ∙ ap (λ r. Err (as_refusal r)) (some_is (why.HardFull most_records) r is)
 hard_refused step (hard.NotCheckpoint offset) r is says = absurd (not_none r is)
 hard_refused step hard.DiskFault r is says = absurd (not_none r is)
 hard_refused step hard.OutOfMemory r is says = absurd (not_none r is)
@@ -57,17 +55,7 @@ hard_refused step hard.OutOfMemory r is says = absurd (not_none r is)
 not_memory : (f : HardFault) (r : Refusal) → hard_refusal f ≡ Some r → f ≢ hard.OutOfMemory
 not_memory f r is same = not_none r (sym (ap hard_refusal same) ∙ is)
 
--- that a fault of a job is
-job_refused : (f : JobFault) (r : Refusal) → job_refusal f ≡ Some r → asked (Some f) ≡ Some (as_refusal r)
-job_refused job.NoUnits r is = ap (λ r. Some (as_refusal r)) (some_is why.NoUnits r is)
-job_refused job.TooManyUnits r is = ap (λ r. Some (as_refusal r)) (some_is why.TooManyUnits r is)
-job_refused (job.Dimensions unit) r is = ap (λ r. Some (as_refusal r)) (some_is (why.Dimensions unit) r is)
-job_refused (job.PriorityRange unit) r is = ap (λ r. Some (as_refusal r)) (some_is (why.PriorityRange unit) r is)
-job_refused (job.QuantityRange unit) r is = ap (λ r. Some (as_refusal r)) (some_is (why.QuantityRange unit) r is)
-job_refused (job.ZeroSize unit) r is = ap (λ r. Some (as_refusal r)) (some_is (why.ZeroSize unit) r is)
-job_refused job.OutOfMemory r is = absurd (not_none r is)
-
--- and what a master's answer says
+-- that of what a master's answer says
 master_refused : (r : MasterRefusal) → refusal_of r ≡ as_refusal (master_refusal r)
 master_refused master.AlreadyServing = refl
 master_refused master.NotServing = refl
@@ -157,23 +145,23 @@ unban_written w M m there = passes ((not (has_machine w.cluster m), NoMachine) �
 abbrev submit_writes : World → Master → JobRecord → Result Commanded WrittenRefusal
 submit_writes w M j = writes w.cluster w.hard M (Submission (eight_places j)) (Admits (eight_places j))
 
-pub submit_faulty : (w : World) (M : Master) (app group resources : ℕ) (asks : List Ask) (f : JobFault) (r : Refusal) → resources ≡ w.cluster.resources → has_group w.cluster group ≡ true → job_refusal f ≡ Some r
+pub submit_faulty : AreTestedAlike → (w : World) (M : Master) (app group resources : ℕ) (asks : List Ask) (f : JobFault) (r : Refusal) → resources ≡ w.cluster.resources → has_group w.cluster group ≡ true → job_refusal f ≡ Some r
     → IsFault (job_fault resources asks) f → command_of w.cluster w.hard M (Submits (job_named app group asks)) ≡ Err (as_refusal r)
-submit_faulty w M app group resources asks f r same there is fault =
+submit_faulty law w M app group resources asks f r same there is fault =
     let j = job_named app group asks in
     let fault_there = subst (λ n. IsFault (job_fault n asks) f) same fault in
-    fails (submit_tests_of w.cluster j) (submit_writes w M j) (as_refusal r) (group_known w.cluster j there ∙ fault_refused w.cluster.resources app group asks f (as_refusal r) (job_refused f r is) fault_there)
+    fails (submit_tests_of w.cluster j) (submit_writes w M j) (as_refusal r) (group_known w.cluster j there ∙ law.refused w.cluster.resources app group asks f r fault_there is)
 
-pub submit_written : (w : World) (M : Master) (app group resources : ℕ) (asks : List Ask) (made : JobRecord) → resources ≡ w.cluster.resources → has_group w.cluster group ≡ true → IsMade app group resources asks (Ok made)
+pub submit_written : AreTestedAlike → (w : World) (M : Master) (app group resources : ℕ) (asks : List Ask) (made : JobRecord) → resources ≡ w.cluster.resources → has_group w.cluster group ≡ true → IsMade app group resources asks (Ok made)
     → command_of w.cluster w.hard M (Submits (job_named app group asks)) ≡ writes w.cluster w.hard M (Submission made) (change_in (Submits (job_named app group asks)))
-submit_written w M app group resources asks made same there is =
+submit_written law w M app group resources asks made same there is =
     let j = job_named app group asks in
-    let none = job_alike w.cluster.resources app group asks ∙ ap asked (subst (λ n. job_fault n asks ≡ None) same is.0) in
-    let kept : eight_places j ≡ made = sym (is.1 ∙ job_same app group asks) in
+    let none = law.passed w.cluster.resources app group asks (subst (λ n. job_fault n asks ≡ None) same is.0) in
+    let kept : eight_places j ≡ made = sym (is.1 ∙ law.made app group asks) in
     passes (submit_tests_of w.cluster j) (submit_writes w M j) (group_known w.cluster j there ∙ none) ∙ ap (λ y. writes w.cluster w.hard M (Submission y) (Admits (eight_places j))) kept
 
-pub submit_told : (app group resources : ℕ) (asks : List Ask) (made : JobRecord) → IsMade app group resources asks (Ok made) → told_by (Admit made) ≡ Told (change_in (Submits (job_named app group asks)))
-submit_told app group resources asks made is = ap {B = MasterTold} (λ y. Told (Admits y)) (is.1 ∙ job_same app group asks)
+pub submit_told : AreTestedAlike → (app group resources : ℕ) (asks : List Ask) (made : JobRecord) → IsMade app group resources asks (Ok made) → told_by (Admit made) ≡ Told (change_in (Submits (job_named app group asks)))
+submit_told law app group resources asks made is = ap {B = MasterTold} (λ y. Told (Admits y)) (is.1 ∙ law.made app group asks)
 
 -- What may be told once it is written
 pub finish_fits : (checkpoint : Held) (ms : MastersRecord) (e : ℕ) (app : AppNo) (k : HardState) → AreGoverned (governing checkpoint ms) → hard_step checkpoint.hard.value e (Finishing app.0) ≡ Ok k → Fits e (Finish app) ms

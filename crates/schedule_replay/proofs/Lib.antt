@@ -1,4 +1,3 @@
-pub mod JobTests
 pub mod CommandSteps
 pub mod Commanding
 pub mod LineEvents

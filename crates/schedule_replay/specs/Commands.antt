@@ -3,8 +3,7 @@ use Rattle.std.specs.Prelude.{◌≡◌, ℕ, ◌+◌, [], Option, Some, None, R
 use Rattle.std.specs.Ordering.{nat_cmp}
 use Rattle.std.specs.FinMap.Entries.{find}
 use Rattle.fuxi_terms.specs.Cluster.{ClusterRecord}
-use Rattle.schedule_unit.specs.declared.job.JobFault.{JobFault}
-use Rattle.schedule_unit.specs.declared.job.JobFault.TheVariants as job
+use Rattle.fuxi_terms.specs.Limits.{most_records}
 use Rattle.written_net.specs.Channels.{master_id, party}
 use Rattle.written_roles.specs.HardState.{HardState}
 use Rattle.written_roles.specs.Masters.{Master}
@@ -82,7 +81,7 @@ GovernsMasters e step old new answer = (checkpoint : Held) → Governs e step (g
 abbrev pub TakesStep : MastersRecord → MastersRecord → Type 0
 TakesStep old new = (n : ℕ) → AreWithin n old → AreWithin (n + 1) new
 
--- Refusals. That of a fault of the hard state and of a job, where it is one, and what a master's answer says
+-- Refusals. That of a fault of the hard state, where it is one, and what a master's answer says
 abbrev pub hard_refusal : HardFault → Option Refusal
 hard_refusal (hard.Stale fence) = Some (why.NotRising fence)
 hard_refusal (hard.Fenced fence) = Some (why.Fenced fence)
@@ -91,19 +90,10 @@ hard_refusal hard.NoJob = Some why.NoJob
 hard_refusal hard.Ended = Some why.Ended
 hard_refusal hard.AlreadyBanned = Some why.AlreadyBanned
 hard_refusal hard.NotBanned = Some why.NotBanned
-hard_refusal hard.Full = Some (why.HardFull 65536)
+hard_refusal hard.Full = Some (why.HardFull most_records)
 hard_refusal (hard.NotCheckpoint offset) = None
 hard_refusal hard.DiskFault = None
 hard_refusal hard.OutOfMemory = None
-
-abbrev pub job_refusal : JobFault → Option Refusal
-job_refusal job.NoUnits = Some why.NoUnits
-job_refusal job.TooManyUnits = Some why.TooManyUnits
-job_refusal (job.Dimensions unit) = Some (why.Dimensions unit)
-job_refusal (job.PriorityRange unit) = Some (why.PriorityRange unit)
-job_refusal (job.QuantityRange unit) = Some (why.QuantityRange unit)
-job_refusal (job.ZeroSize unit) = Some (why.ZeroSize unit)
-job_refusal job.OutOfMemory = None
 
 abbrev pub master_refusal : MasterRefusal → Refusal
 master_refusal master.AlreadyServing = why.AlreadyServing

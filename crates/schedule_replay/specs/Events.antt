@@ -1,18 +1,9 @@
 -- The events of lines as those of the world.
-use Rattle.std.specs.Prelude.{ℕ, List, map}
-use Rattle.fuxi_terms.specs.Cluster.{JobRecord, UnitRecord}
-use Rattle.schedule_unit.specs.declared.asks.Ask.{Ask}
+use Rattle.schedule_text.specs.Asked.{job_named}
 use Rattle.schedule_text.specs.Writing.{switch}
 use Rattle.schedule_text.specs.declared.event.Event.{Event as LineEvent}
 use Rattle.schedule_text.specs.declared.event.Event.TheVariants as line
 use Rattle.written_world.specs.Events.{Event, StartMaster, StopMaster, StartAgent, StartApp, Submit, Finish, Ban, Unban, Begin, Preempt, Want, Near, Rack, Avoid, GiveBack, TurnMaster, TurnAgent, TurnApp, ResyncMaster, ResyncAgent, ResyncApp, Deliver, DeliverRange, Dump, ShowState}
-
--- a unit as it is asked for: with as many quantities as the line has
-abbrev pub unit_named : Ask → UnitRecord
-unit_named a = record { priority = a.priority; size = a.quantities }
-
-abbrev pub job_named : ℕ → ℕ → List Ask → JobRecord
-job_named a g asks = record { number = a; group = g; units = map unit_named asks }
 
 abbrev pub event_as : LineEvent → Event
 event_as (line.Master e) = StartMaster e

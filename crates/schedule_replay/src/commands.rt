@@ -11,18 +11,18 @@ ghost use Rattle.written_world.specs.World.{World};
 ghost use Rattle.written_world.specs.Events.{commanded, resync_master, start_master, stop_master};
 ghost use Rattle.running_masters.specs.Running.{AreMastersOf, Fits, MayStep};
 ghost use Rattle.running_masters.specs.Calls.{IsCommand};
-ghost use Rattle.schedule_replay.specs.Events.{job_named};
-ghost use Rattle.schedule_replay.specs.Commands.{AreGoverned, Governs, GovernsMasters, GovernsOn, TakesStep, TellsInWorld, governing, hard_refusal, job_refusal, refusal_in};
+ghost use Rattle.schedule_text.specs.Asked.{job_named};
+ghost use Rattle.schedule_replay.specs.Commands.{AreGoverned, Governs, GovernsMasters, GovernsOn, TakesStep, TellsInWorld, governing, hard_refusal, refusal_in};
 
 use cluster_desc::Cluster;
 use fuxi_master::{MasterEvent, MasterRefusal};
 use fuxi_terms::OutOfMemory;
-use fuxi_terms::limits::MOST_MASTERS;
+use fuxi_terms::limits::{MOST_MASTERS, MOST_RECORDS};
 use hard_state::HardFault;
 use memory_checkpoint::Checkpoint;
 use running_masters::Masters;
-use schedule_text::Refusal;
-use schedule_unit::{AppNo, Asks, GroupNo, Job, JobFault, MachineNo};
+use schedule_text::{Refusal, job_refusal, jobs_are_tested_alike};
+use schedule_unit::{AppNo, Asks, GroupNo, Job, MachineNo};
 use std::alloc::Global;
 use std::mem;
 
@@ -85,6 +85,7 @@ pub(crate) fn submit(
     ensures world { IfOk result (GovernsOn cluster.now epoch (λ w. commanded w epoch (Submits (job_named app.0 group.0 asks.now))) (governing checkpoint.old masters.old) (governing checkpoint.new masters.new)) }
     ensures steps { IfOk result (λ answer. TakesStep masters.old masters.new) }
 {
+    jobs_are_tested_alike();
     if !runs(masters, epoch) {
         return Ok(Some(Refusal::NotRunning));
     }
@@ -93,7 +94,10 @@ pub(crate) fn submit(
     }
     let job = match Job::make(alloc, app, group, cluster.resources(), asks.as_slice()) {
         Ok(job) => job,
-        Err(fault) => return Ok(Some(asked_refusal(fault)?)),
+        Err(fault) => match job_refusal(fault) {
+            Some(refusal) => return Ok(Some(refusal)),
+            None => return Err(OutOfMemory),
+        },
     };
     match checkpoint.submit(epoch, &job) {
         Ok(()) => {}
@@ -288,24 +292,9 @@ fn written_refusal(fault: HardFault) -> Result<Refusal, OutOfMemory>
         HardFault::Ended => Ok(Refusal::Ended),
         HardFault::AlreadyBanned => Ok(Refusal::AlreadyBanned),
         HardFault::NotBanned => Ok(Refusal::NotBanned),
-        HardFault::Full => Ok(Refusal::HardFull(65_536)),
+        HardFault::Full => Ok(Refusal::HardFull(MOST_RECORDS)),
         HardFault::NotCheckpoint { .. } | HardFault::DiskFault | HardFault::OutOfMemory => {
             Err(OutOfMemory)
         }
-    }
-}
-
-// The refusal that a fault of what is asked for a job is.
-fn asked_refusal(fault: JobFault) -> Result<Refusal, OutOfMemory>
-    ensures { IfOk result (λ refusal. job_refusal fault ≡ Some refusal) }
-{
-    match fault {
-        JobFault::NoUnits => Ok(Refusal::NoUnits),
-        JobFault::TooManyUnits => Ok(Refusal::TooManyUnits),
-        JobFault::Dimensions(unit) => Ok(Refusal::Dimensions(unit)),
-        JobFault::PriorityRange(unit) => Ok(Refusal::PriorityRange(unit)),
-        JobFault::QuantityRange(unit) => Ok(Refusal::QuantityRange(unit)),
-        JobFault::ZeroSize(unit) => Ok(Refusal::ZeroSize(unit)),
-        JobFault::OutOfMemory => Err(OutOfMemory),
     }
 }

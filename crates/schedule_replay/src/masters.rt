@@ -4,7 +4,7 @@ ghost use Rattle.std.specs.Prelude.{◌≡◌, ◌<◌};
 ghost use Rattle.fuxi_terms.specs.Limits.{most_jobs, most_groups, most_machines};
 ghost use Rattle.written_roles.specs.MasterSteps.{Submits, Finishes, BansMachine, UnbansMachine, StartsServing, MakesRoom};
 ghost use Rattle.written_world.specs.Events.{start_master, stop_master, commanded, resync_master};
-ghost use Rattle.schedule_replay.specs.Events.{job_named};
+ghost use Rattle.schedule_text.specs.Asked.{job_named};
 ghost use Rattle.schedule_replay.specs.Moves.{Acts, CanMove};
 
 use crate::commands;

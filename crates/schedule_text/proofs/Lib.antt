@@ -4,3 +4,4 @@ pub mod Heads
 pub mod Texts
 pub mod RoundTrip
 pub mod Given
+pub mod JobTests

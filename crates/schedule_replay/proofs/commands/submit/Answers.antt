@@ -1,4 +1,4 @@
-use Rattle.std.proofs.Common.{◌∷◌, [], Ok, refl, sym, ◌∙◌, ap, subst}
+use Rattle.std.proofs.Common.{◌≡◌, ◌∷◌, [], Some, Ok, refl, sym, ◌∙◌, ap, subst}
 use Rattle.fuxi_terms.specs.Cluster.{ClusterRecord}
 use Rattle.fuxi_terms.specs.Jobs.{eight_places}
 use Rattle.std.proofs.lemmas.Result.{IfOk-weaker}
@@ -8,13 +8,13 @@ use Rattle.written_roles.specs.HardState.{Submission, with_job}
 use Rattle.written_roles.specs.MasterSteps.{Submits}
 use Rattle.fuxi_master.specs.declared.event.MasterEvent.TheVariants.{Admit}
 use Rattle.written_world.specs.Events.{commanded}
-use Rattle.schedule_replay.specs.Events.{job_named}
+use Rattle.schedule_text.specs.Asked.{job_named, job_refusal}
 use Rattle.schedule_replay.specs.Commands.{GovernsOn, TellsInWorld, governing}
 use Rattle.schedule_replay.proofs.Commanding.{admit_fits, group_there, runs_in, submit_faulty, submit_told, submit_written, tests_refuse, writing_refused, written_done}
 use Rattle.schedule_replay.proofs.commands.submit.Goals as goal
 
-pub returns-in-Err-clause-world : goal.returns-in-Err-clause-world
-returns-in-Err-clause-world c w cluster s =
+pub returns-in-Some-clause-world : goal.returns-in-Some-clause-world
+returns-in-Some-clause-world c w cluster s =
     let e = c.args.epoch in
     let a = c.args.app.0 in
     let g = c.args.group.0 in
@@ -23,9 +23,10 @@ returns-in-Err-clause-world c w cluster s =
     let there = group_there c.args.cluster.now w.cluster g c.groups.result cluster c.groups.ensures.number c.if-group-groups.false in
     let same = c.resources.ensures.number ∙ ap (λ (d : ClusterRecord). d.resources) cluster in
     let fault = subst (λ l. IsFault (job_fault c.resources.result l) c.in-Err.fault) c.as_slice.ensures c.in-Err.ensures.made in
-    let refusal = c.in_ok-asked_refusal-in-Err.field-0 in
+    let refusal = c.in-Some.refusal in
+    let is : job_refusal c.in-Err.fault ≡ Some refusal = sym c.job_refusal.ensures ∙ c.in-Some.is in
     tests_refuse w e (Submits (job_named a g asks)) (governing c.args.checkpoint.now c.args.masters.now) r.master refusal s r.is
-    (submit_faulty w r.master a g c.resources.result asks c.in-Err.fault refusal same there c.in_ok-asked_refusal-in-Err.ensures fault)
+    (submit_faulty c.jobs_are_tested_alike.ensures w r.master a g c.resources.result asks c.in-Err.fault refusal same there is fault)
 
 pub returns-in-Err-submit-clause-world : goal.returns-in-Err-submit-clause-world
 returns-in-Err-submit-clause-world c w cluster s =
@@ -38,7 +39,7 @@ returns-in-Err-submit-clause-world c w cluster s =
     let same = c.resources.ensures.number ∙ ap (λ (d : ClusterRecord). d.resources) cluster in
     let made = subst (λ l. IsMade a g c.resources.result l (Ok c.in-Ok.job)) c.as_slice.ensures c.in-Ok.ensures.made in
     writing_refused w e (Submits (job_named a g asks)) (Submission c.in-Ok.job) c.args.checkpoint.now c.submit.new.self c.args.masters.now r.master c.in-Err-submit.fault c.in_ok-written_refusal-in-Err-submit.field-0 s r.is
-    (submit_written w r.master a g c.resources.result asks c.in-Ok.job same there made) c.in_ok-written_refusal-in-Err-submit.ensures c.in-Err-submit.ensures.refused c.in-Err-submit.ensures.unchanged
+    (submit_written c.jobs_are_tested_alike.ensures w r.master a g c.resources.result asks c.in-Ok.job same there made) c.in_ok-written_refusal-in-Err-submit.ensures c.in-Err-submit.ensures.refused c.in-Err-submit.ensures.unchanged
 
 pub tell-requires-clause-fitting : goal.tell-requires-clause-fitting
 tell-requires-clause-fitting c = admit_fits c.args.checkpoint.now c.args.masters.now c.args.epoch c.in-Ok.job c.submit.new.self.hard.value c.requires.governed c.in-Ok-submit.ensures.ok.1
@@ -60,4 +61,4 @@ returns-clause-world c =
     let there = group_there c.args.cluster.now w.cluster g c.groups.result cluster c.groups.ensures.number c.if-group-groups.false in
     let same = c.resources.ensures.number ∙ ap (λ (d : ClusterRecord). d.resources) cluster in
     written_done w e (Submits j) (Submission job) checkpoint c.submit.new.self old after r.master (record { state = record r.master { jobs = with_job (eight_places j) r.master.jobs }; forced = app_id a ∷ [] }) s r.is
-    (submit_written w r.master a g c.resources.result asks job same there made) c.in-Ok-submit.ensures.ok.0 c.in-Ok-submit.ensures.ok.1 refl answer (tells w (Submits j) s.good s.stand (submit_told a g c.resources.result asks job made))) c.tell.ensures.world
+    (submit_written c.jobs_are_tested_alike.ensures w r.master a g c.resources.result asks job same there made) c.in-Ok-submit.ensures.ok.0 c.in-Ok-submit.ensures.ok.1 refl answer (tells w (Submits j) s.good s.stand (submit_told c.jobs_are_tested_alike.ensures a g c.resources.result asks job made))) c.tell.ensures.world

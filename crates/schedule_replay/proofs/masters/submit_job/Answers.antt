@@ -1,6 +1,6 @@
 use Rattle.std.proofs.Common.{sym, subst}
 use Rattle.written_roles.specs.MasterSteps.{Submits}
-use Rattle.schedule_replay.specs.Events.{job_named}
+use Rattle.schedule_text.specs.Asked.{job_named}
 use Rattle.written_world.specs.World.{World, Step}
 use Rattle.written_world.specs.Events.{commanded}
 use Rattle.schedule_replay.specs.Worlds.{WorldRecord}
