@@ -6,6 +6,9 @@ Usage: tests/checkpoint.py PROGRAM [SEED [RECORDS]], where PROGRAM is the built 
 import random, subprocess, sys
 
 MOST_RECORDS = 65536
+GREATEST_COUNT = 100000
+# The bytes of a unit, by the version of its record: in the first one it has no greatest number per machine.
+UNIT_BYTES = {1: 65, 2: 69}
 
 
 def number(data):
@@ -16,26 +19,28 @@ class Damaged(Exception):
     pass
 
 
-def job_of(body):
+def job_of(version, body):
     """The number, the group and the units of a job's body, behind version and kind."""
-    if len(body) < 9 or len(body) != 9 + 65 * body[8]:
+    length = UNIT_BYTES[version]
+    if len(body) < 9 or len(body) != 9 + length * body[8]:
         raise Damaged
     app, group, count = number(body[:4]), number(body[4:8]), body[8]
     units = []
     for place in range(count):
-        unit = body[9 + 65 * place:9 + 65 * (place + 1)]
-        units.append((unit[0], [number(unit[1 + 8 * q:9 + 8 * q]) for q in range(8)]))
+        unit = body[9 + length * place:9 + length * (place + 1)]
+        most = number(unit[65:]) if version == 2 else GREATEST_COUNT
+        units.append((unit[0], [number(unit[1 + 8 * q:9 + 8 * q]) for q in range(8)], most))
     if app > 255 or group > 31 or not 1 <= count <= 8:
         raise Damaged
-    for priority, size in units:
-        if priority > 9 or max(size) > 10 ** 12 or not any(size):
+    for priority, size, most in units:
+        if priority > 9 or max(size) > 10 ** 12 or not any(size) or not 1 <= most <= GREATEST_COUNT:
             raise Damaged
     return app, group, units
 
 
 def take(state, body):
     """Changes the state by the body of a record."""
-    if len(body) < 2 or body[0] != 1:
+    if len(body) < 2 or body[0] not in UNIT_BYTES or (body[0] == 2 and body[1] != 2):
         raise Damaged
     kind, rest = body[1], body[2:]
     if kind == 1:
@@ -43,7 +48,7 @@ def take(state, body):
             raise Damaged
         state["fence"] = number(rest)
     elif kind == 2:
-        app, group, units = job_of(rest)
+        app, group, units = job_of(body[0], rest)
         if app in state["jobs"]:
             raise Damaged
         state["jobs"][app] = [group, units, False]
@@ -86,13 +91,17 @@ def read(data):
     lines = [f"fence {state['fence']}, records {state['records']}, bans" + "".join(f" {m}" for m in sorted(state["bans"]))]
     for app in sorted(state["jobs"]):
         group, units, ended = state["jobs"][app]
-        text = "".join(f" / {p} " + " ".join(map(str, size)) for p, size in units)
+        text = "".join(f" / {p} " + " ".join(map(str, size)) + most_text(most) for p, size, most in units)
         lines.append(f"  job {app} {group} {'ended' if ended else 'live'}{text}")
     return lines
 
 
-def record(kind, rest):
-    body = bytes([1, kind]) + rest
+def most_text(most):
+    return "" if most == GREATEST_COUNT else f" most {most}"
+
+
+def record(kind, rest, version=1):
+    body = bytes([version, kind]) + rest
     return b"\1" + len(body).to_bytes(4, "big") + body
 
 
@@ -109,12 +118,14 @@ def checkpoint(chance, count):
             known.add(app)
             live.add(app)
             units = b""
-            count_units = chance.randrange(1, 3)
+            count_units, version = chance.randrange(1, 3), chance.choice([1, 2])
             for _ in range(count_units):
                 size = [chance.choice([0, 1, 100, 10 ** 12]) for _ in range(8)]
                 size[chance.randrange(8)] = 7
                 units += bytes([chance.randrange(10)]) + b"".join(q.to_bytes(8, "big") for q in size)
-            data += record(2, app.to_bytes(4, "big") + chance.randrange(32).to_bytes(4, "big") + bytes([count_units]) + units)
+                if version == 2:
+                    units += chance.choice([1, 2, GREATEST_COUNT]).to_bytes(4, "big")
+            data += record(2, app.to_bytes(4, "big") + chance.randrange(32).to_bytes(4, "big") + bytes([count_units]) + units, version)
         elif kind == 3 and live:
             app = chance.choice(sorted(live))
             live.remove(app)

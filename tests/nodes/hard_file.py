@@ -11,11 +11,19 @@ GREATEST_QUANTITY = 10**12
 GREATEST_PRIORITY = 9
 # Of a record its gate and the length of its body, of a body its version and kind; and the numbers behind these.
 RECORD_HEAD, BODY_HEAD = 5, 2
-FENCE_BYTES, JOB_BYTES, UNIT_BYTES, NUMBER_BYTES = 8, 9, 65, 4
+FENCE_BYTES, JOB_BYTES, UNIT_BYTES, NUMBER_BYTES = 8, 9, 69, 4
+
+
+def unit_of(words):
+    """The greatest number per machine of a unit, and then its priority and its quantities."""
+    most = checkpoint.GREATEST_COUNT
+    if words[-2] == "most":
+        *words, _, most = words
+    return [int(most), *map(int, words)]
 
 
 class Job:
-    """A job of the hard state. A unit is its priority and its quantities."""
+    """A job of the hard state. A unit is its priority and its quantities, and its greatest number per machine."""
 
     def __init__(self, group, units, ended=False):
         self.group, self.units, self.ended = group, units, ended
@@ -59,7 +67,7 @@ class HardState:
 
     def submit(self, words):
         number, group = int(words[0]), int(words[1])
-        units = [list(map(int, unit.split())) for unit in " ".join(words[2:]).split(" / ")]
+        units = [unit_of(unit.split()) for unit in " ".join(words[2:]).split(" / ")]
         if group >= len(self.shape.groups):
             return "refused NoGroup"
         for place, unit in enumerate(units):
@@ -71,14 +79,16 @@ class HardState:
         self.write(JOB_BYTES + UNIT_BYTES * len(units))
         return None
 
-    def unit_fault(self, priority, *quantities):
+    def unit_fault(self, most, priority, *quantities):
         if len(quantities) != self.shape.resources:
             return "Dimensions"
         if priority > GREATEST_PRIORITY:
             return "PriorityRange"
         if max(quantities) > GREATEST_QUANTITY:
             return "QuantityRange"
-        return None if any(quantities) else "ZeroSize"
+        if not any(quantities):
+            return "ZeroSize"
+        return None if 1 <= most <= checkpoint.GREATEST_COUNT else "MostRange"
 
     def finish(self, number):
         if number not in self.jobs:
@@ -116,7 +126,7 @@ class HardState:
         """What the reader of checkpoints says of its file."""
         lines = [f"fence {self.fence}, records {self.records}, bans" + "".join(f" {machine}" for machine in sorted(self.bans))]
         for number, job in sorted(self.jobs.items()):
-            units = (" / " + " ".join(map(str, unit + [0] * (9 - len(unit)))) for unit in job.units)
+            units = (" / " + " ".join(map(str, unit + [0] * (9 - len(unit)))) + checkpoint.most_text(most) for most, *unit in job.units)
             lines.append(f"  job {number} {job.group} {job.phase()}" + "".join(units))
         return lines
 

@@ -21,8 +21,12 @@ class Lines:
         """A new job. A number is never used again, also where its line was lost."""
         number, self.next_job = self.next_job, self.next_job + 1
         count = self.chance.choice([1, 1, 2, 3])
-        units = [f"{self.chance.randrange(10)} {self.chance.randint(0, 40)} {self.chance.randint(1, 150)}" for _ in range(count)]
+        units = [f"{self.chance.randrange(10)} {self.chance.randint(0, 40)} {self.chance.randint(1, 150)}{self.most()}" for _ in range(count)]
         return f"submit {epoch} {number} {self.chance.randrange(len(self.shape.groups))} {' / '.join(units)}"
+
+    def most(self):
+        """How many grants of a unit a machine may have, which a line need not say."""
+        return self.chance.choice(["", "", f" most {self.chance.randint(1, 4)}"])
 
     def hard_line(self, state):
         """A line that writes the hard state. Some are refused, as the ban of a machine that is banned."""
@@ -45,7 +49,8 @@ class Lines:
             f"{new} 0 5 1",
             f"{new} 0 5 1 1 / 10 1 1",
             f"{new} 0 5 1 1000000000001",
-            f"{new} 0 5 1 1 / 5 1 1 / 5 0 0",
+            f"{new} 0 5 1 1 / 5 1 1 / 5 0 0 most 0",
+            f"{new} 0 5 1 1 most 0",
             f"submit {epoch + 1} {NO_JOB} 0 5 1 1",
             f"finish {epoch} {NO_JOB}",
             f"finish {epoch + 1} {known}",

@@ -28,7 +28,9 @@ class Tables:
         if self.carried or not self.granted == self.rows == self.holds:
             raise Difference(f"granted {self.granted}, in rows {self.rows}, held {self.holds}, carried {self.carried}")
         self.compare_line()
-        for job, _, machine in self.granted:
+        for (job, unit, machine), count in self.granted.items():
+            if count > self.most(job, unit):
+                raise Difference(f"unit {unit} of job {job} has {count} grants on machine {machine}, and may have {self.most(job, unit)}")
             if self.hard.jobs[job].ended or machine in self.hard.bans:
                 raise Difference(f"job {job} has grants on machine {machine}, though it has ended, or that is banned")
         for machine in range(len(self.shape.machines)):
@@ -53,7 +55,10 @@ class Tables:
         return sum(count for pair, count in self.granted.items() if pair[:2] == (job, unit))
 
     def size(self, job, unit):
-        return self.hard.jobs[job].units[unit][1:]
+        return self.hard.jobs[job].units[unit][2:]
+
+    def most(self, job, unit):
+        return self.hard.jobs[job].units[unit][0]
 
     def free(self, machine):
         return self.left_of(self.shape.machines[machine][1], lambda job, at: at == machine)
@@ -69,6 +74,8 @@ class Tables:
 
     def is_placeable(self, job, unit, machine):
         if machine in self.hard.bans or (unit, machine) in self.cluster.apps[job].avoided:
+            return False
+        if self.granted.get((job, unit, machine), 0) >= self.most(job, unit):
             return False
         room = zip(self.size(job, unit), self.free(machine), self.left_to(self.hard.jobs[job].group))
         return all(size <= free and size <= left for size, free, left in room)
