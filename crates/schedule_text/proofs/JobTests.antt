@@ -81,7 +81,7 @@ fault_refused resources a g asks f r is first = job_alike resources a g asks ∙
     by fault.OutOfMemory is first = cc
 
 -- the refusal of the code is that of the definitions
-as_asked : Option CodeRefusal → Option Refusal
+abbrev as_asked : Option CodeRefusal → Option Refusal
 as_asked None = None
 as_asked (Some r) = Some (as_refusal r)
 
