@@ -112,6 +112,7 @@ job_refused (job.Dimensions unit) r is = ap as_asked is
 job_refused (job.PriorityRange unit) r is = ap as_asked is
 job_refused (job.QuantityRange unit) r is = ap as_asked is
 job_refused (job.ZeroSize unit) r is = ap as_asked is
+job_refused (job.MostRange unit) r is = ap as_asked is
 job_refused job.OutOfMemory r is = cc
 
 pub job_faulty : (h : HardState) (r : MasterRole) (a g resources : ℕ) (asks : List Ask) (f : JobFault) (refusal : Refusal) → resources ≡ r.cluster.resources → has_group r.cluster g ≡ true → job_refusal f ≡ Some refusal

@@ -4,7 +4,7 @@ use Rattle.std.specs.Prelude.{if◌then◌else◌}
 use Rattle.std.specs.Option.{option_or}
 use Rattle.std.proofs.lemmas.List.{length-map}
 use Rattle.fuxi_terms.specs.Vectors.{is_zero}
-use Rattle.fuxi_terms.specs.Cluster.{UnitRecord, are_quantities, is_priority}
+use Rattle.fuxi_terms.specs.Cluster.{UnitRecord, are_quantities, is_priority, is_most}
 use Rattle.fuxi_terms.specs.Jobs.{eight_places}
 use Rattle.fuxi_terms.specs.Padded.{padded}
 use Rattle.fuxi_terms.specs.Limits.{most_units}
@@ -12,7 +12,7 @@ use Rattle.schedule_unit.specs.declared.asks.Ask.{Ask}
 use Rattle.schedule_unit.specs.declared.job.JobFault.{JobFault}
 use Rattle.schedule_unit.specs.declared.job.JobFault.TheVariants as fault
 use Rattle.schedule_unit.specs.JobFaults.{IsFault, first_unit_fault, job_asked, job_fault, unit_asked, unit_no}
-use Rattle.written_roles.specs.Refusals.{Refusal, NoUnits, TooManyUnits, Dimensions, PriorityRange, QuantityRange, ZeroSize, first_refusal, job_tests, units_tests}
+use Rattle.written_roles.specs.Refusals.{Refusal, NoUnits, TooManyUnits, Dimensions, PriorityRange, QuantityRange, ZeroSize, MostRange, first_refusal, job_tests, units_tests}
 use Rattle.node_party.specs.Commands.{job_named, unit_named}
 
 -- the refusal that a fault is
@@ -24,22 +24,24 @@ asked (Some (fault.Dimensions u)) = Some (Dimensions u.0)
 asked (Some (fault.PriorityRange u)) = Some (PriorityRange u.0)
 asked (Some (fault.QuantityRange u)) = Some (QuantityRange u.0)
 asked (Some (fault.ZeroSize u)) = Some (ZeroSize u.0)
+asked (Some (fault.MostRange u)) = Some (MostRange u.0)
 asked (Some fault.OutOfMemory) = None
 
 -- the tests of one unit in front of those of the others
-one_alike : (a b c d : Bool) (u : ℕ) (ts : List (Bool × Refusal)) (o : Option JobFault) → first_refusal ts ≡ asked o
-    → first_refusal ((a, Dimensions u) ∷ (b, PriorityRange u) ∷ (c, QuantityRange u) ∷ (d, ZeroSize u) ∷ ts)
-    ≡ asked (option_or (if a then Some (fault.Dimensions (unit_no u)) else (if b then Some (fault.PriorityRange (unit_no u)) else (if c then Some (fault.QuantityRange (unit_no u)) else (if d then Some (fault.ZeroSize (unit_no u)) else None)))) o)
-one_alike true b c d u ts o same = refl
-one_alike false true c d u ts o same = refl
-one_alike false false true d u ts o same = refl
-one_alike false false false true u ts o same = refl
-one_alike false false false false u ts o same = same
+one_alike : (a b c d e : Bool) (u : ℕ) (ts : List (Bool × Refusal)) (o : Option JobFault) → first_refusal ts ≡ asked o
+    → first_refusal ((a, Dimensions u) ∷ (b, PriorityRange u) ∷ (c, QuantityRange u) ∷ (d, ZeroSize u) ∷ (e, MostRange u) ∷ ts)
+    ≡ asked (option_or (if a then Some (fault.Dimensions (unit_no u)) else (if b then Some (fault.PriorityRange (unit_no u)) else (if c then Some (fault.QuantityRange (unit_no u)) else (if d then Some (fault.ZeroSize (unit_no u)) else (if e then Some (fault.MostRange (unit_no u)) else None))))) o)
+one_alike true b c d e u ts o same = refl
+one_alike false true c d e u ts o same = refl
+one_alike false false true d e u ts o same = refl
+one_alike false false false true e u ts o same = refl
+one_alike false false false false true u ts o same = refl
+one_alike false false false false false u ts o same = same
 
 units_alike : (resources u : ℕ) (asks : List Ask) → first_refusal (units_tests resources u (map unit_named asks)) ≡ asked (first_unit_fault resources u asks)
 units_alike resources u [] = refl
 units_alike resources u (ask ∷ asks) =
-    one_alike (not (nat_eq (length ask.quantities) resources)) (not (is_priority ask.priority)) (not (are_quantities ask.quantities)) (is_zero ask.quantities) u (units_tests resources (u + 1) (map unit_named asks)) (first_unit_fault resources (u + 1) asks)
+    one_alike (not (nat_eq (length ask.quantities) resources)) (not (is_priority ask.priority)) (not (are_quantities ask.quantities)) (is_zero ask.quantities) (not (is_most ask.most)) u (units_tests resources (u + 1) (map unit_named asks)) (first_unit_fault resources (u + 1) asks)
     (units_alike resources (u + 1) asks)
 
 all_alike : (a b : Bool) (ts : List (Bool × Refusal)) (o : Option JobFault) → first_refusal ts ≡ asked o
@@ -73,4 +75,5 @@ fault_refused resources a g asks f r is first = job_alike resources a g asks ∙
     by (fault.PriorityRange u) is first = ap asked first ∙ is
     by (fault.QuantityRange u) is first = ap asked first ∙ is
     by (fault.ZeroSize u) is first = ap asked first ∙ is
+    by (fault.MostRange u) is first = ap asked first ∙ is
     by fault.OutOfMemory is first = cc

@@ -35,6 +35,7 @@ job_refusal (job.Dimensions unit) = Some (why.Dimensions unit)
 job_refusal (job.PriorityRange unit) = Some (why.PriorityRange unit)
 job_refusal (job.QuantityRange unit) = Some (why.QuantityRange unit)
 job_refusal (job.ZeroSize unit) = Some (why.ZeroSize unit)
+job_refusal (job.MostRange unit) = Some (why.MostRange unit)
 job_refusal job.OutOfMemory = None
 
 abbrev pub master_refusal : MasterRefusal → Refusal

@@ -45,6 +45,7 @@ pub fn asked_refusal(fault: JobFault) -> Option<Refusal>
         JobFault::PriorityRange(unit) => Some(Refusal::PriorityRange(unit)),
         JobFault::QuantityRange(unit) => Some(Refusal::QuantityRange(unit)),
         JobFault::ZeroSize(unit) => Some(Refusal::ZeroSize(unit)),
+        JobFault::MostRange(unit) => Some(Refusal::MostRange(unit)),
         JobFault::OutOfMemory => None,
     }
 }

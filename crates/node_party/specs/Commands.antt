@@ -110,7 +110,7 @@ app_by r (Some told) = cond (nat_eq told.0 r.job) (app_does r told.1) (stays (Of
 
 -- a job as it is asked for: each unit with as many quantities as the line has
 abbrev pub unit_named : Ask → UnitRecord
-unit_named a = record { priority = a.priority; size = a.quantities }
+unit_named a = record { priority = a.priority; size = a.quantities; most = a.most }
 
 abbrev pub job_named : ℕ → ℕ → List Ask → JobRecord
 job_named a g asks = record { number = a; group = g; units = map unit_named asks }

@@ -65,6 +65,7 @@ job_refused (job.Dimensions unit) r is = ap (λ r. Some (as_refusal r)) (some_is
 job_refused (job.PriorityRange unit) r is = ap (λ r. Some (as_refusal r)) (some_is (why.PriorityRange unit) r is)
 job_refused (job.QuantityRange unit) r is = ap (λ r. Some (as_refusal r)) (some_is (why.QuantityRange unit) r is)
 job_refused (job.ZeroSize unit) r is = ap (λ r. Some (as_refusal r)) (some_is (why.ZeroSize unit) r is)
+job_refused (job.MostRange unit) r is = ap (λ r. Some (as_refusal r)) (some_is (why.MostRange unit) r is)
 job_refused job.OutOfMemory r is = absurd (not_none r is)
 
 -- and what a master's answer says

@@ -9,7 +9,7 @@ use Rattle.written_world.specs.Events.{Event, StartMaster, StopMaster, StartAgen
 
 -- a unit as it is asked for: with as many quantities as the line has
 abbrev pub unit_named : Ask → UnitRecord
-unit_named a = record { priority = a.priority; size = a.quantities }
+unit_named a = record { priority = a.priority; size = a.quantities; most = a.most }
 
 abbrev pub job_named : ℕ → ℕ → List Ask → JobRecord
 job_named a g asks = record { number = a; group = g; units = map unit_named asks }

@@ -306,6 +306,7 @@ fn asked_refusal(fault: JobFault) -> Result<Refusal, OutOfMemory>
         JobFault::PriorityRange(unit) => Ok(Refusal::PriorityRange(unit)),
         JobFault::QuantityRange(unit) => Ok(Refusal::QuantityRange(unit)),
         JobFault::ZeroSize(unit) => Ok(Refusal::ZeroSize(unit)),
+        JobFault::MostRange(unit) => Ok(Refusal::MostRange(unit)),
         JobFault::OutOfMemory => Err(OutOfMemory),
     }
 }
