@@ -28,7 +28,12 @@ fn tell<P: Print>(rt: &P, job: &Job) -> Result<(), Stop> {
     print!(rt; "job {} of group {}", job.app().0, job.group().0)?;
     for number in 0..job.units() {
         let unit = job.unit(UnitNo(number));
-        print!(rt; ", priority {} size {:?}", unit.priority, unit.size.q)?;
+        print!(rt;
+            ", priority {} size {:?} most {}",
+            unit.priority,
+            unit.size.q,
+            unit.most
+        )?;
     }
     println!(rt;)?;
     Ok(())

@@ -1,10 +1,12 @@
 -- What is read of a line is an event that a line can give.
-use Rattle.std.proofs.Common.{◌≡◌, ℕ, zero, suc, ◌+◌, ◌<◌, ◌≤◌, ◌^◌, Bool, true, false, cond, nat_eq, nat_lt, ◌&&◌, List, [], ◌∷◌, length, drop, slice_index, codes, Option, Some, None, Result, Ok, Err, refl, ap, sym, ◌∙◌, subst, arith}
+use Rattle.std.proofs.Common.{◌≡◌, ℕ, zero, suc, ◌+◌, ◌-◌, ◌<◌, ◌≤◌, ◌^◌, Bool, true, false, cond, nat_eq, nat_lt, ◌&&◌, List, [], ◌∷◌, length, take, drop, slice_index, codes, Option, Some, None, Result, Ok, Err, refl, ap, sym, ◌∙◌, subst, arith}
 use Rattle.std.proofs.lemmas.Bool.Decides.{nat_tests}
-use Rattle.std.proofs.lemmas.List.{length-drop}
+use Rattle.std.proofs.lemmas.List.{length-drop, length-take-le}
 use Rattle.std.specs.List.{find, list_all, slice_split, onto_first, AllByRecursion}
 use Rattle.std.specs.Str.{bytes_eq}
 use Rattle.std.specs.Str.Parse.{digits_value}
+use Rattle.fuxi_terms.specs.Limits.{greatest_count}
+use Rattle.fuxi_terms.specs.Cluster.{is_between}
 use Rattle.fuxi_terms.specs.Counts.{then_do}
 use Rattle.schedule_unit.specs.Numbers.{is_numeral, number_of}
 use Rattle.schedule_unit.specs.declared.asks.Ask.{Ask}
@@ -17,7 +19,7 @@ use Rattle.schedule_text.specs.declared.form.Place.{Place}
 use Rattle.schedule_text.specs.declared.form.Place.TheVariants.{Count}
 use Rattle.schedule_text.specs.Words.{words_of}
 use Rattle.schedule_text.specs.Forms.{shape_of, heads, is_within}
-use Rattle.schedule_text.specs.Reading.{front, units_of, is_unit, has_count, is_head, head_of, number_at, numbers_at, counts_at, ask_of, asks_at, asks_of, event_at, event_behind, event_of_words, event_of}
+use Rattle.schedule_text.specs.Reading.{front, units_of, is_bounded, own_count, is_unit, has_count, is_head, head_of, number_at, numbers_at, counts_at, most_at, ask_of, ask_at, asks_at, asks_of, event_at, event_behind, event_of_words, event_of}
 use Rattle.schedule_text.specs.Writing.{Saying, says, switch, saying_of, AreWithin, IsAsk, AreAsks, IsLineEvent}
 use Rattle.schedule_text.proofs.RoundTrip.{within_length}
 
@@ -101,28 +103,47 @@ counts_fit place (w ∷ ws) ns is =
     subst (λ ns. (length ns ≡ length (w ∷ ws)) × AllByRecursion (λ n. n < 2 ^ 64) ns) both
     (ap (λ k. suc k) more.0, ((number_within Count place 0 w first.0 first.1).0, more.1))
 
-unit_size : (u : List (List ℕ)) → is_unit u ≡ true → (2 ≤ length u) × (length u ≤ 9)
-unit_size u h = (grind (arith, nat_tests, h), grind (arith, nat_tests, h))
+-- a unit's own words are no more than all of them
+own_within : (u : List (List ℕ)) → own_count u ≤ length u
+own_within u = elim (is_bounded u) as (λ b. cond b (length u - 2) (length u) ≤ length u) [ true ↦ omega arith | false ↦ omega arith ]
 
-ask_made : (u : List (List ℕ)) (ns : List ℕ) → is_unit u ≡ true → length ns ≡ length u → AllByRecursion (λ n. n < 2 ^ 64) ns → IsAsk (ask_of ns)
-ask_made u [] sized same fit = let size = unit_size u sized in absurd (omega (arith, size.0, same))
-ask_made u (n ∷ ns) sized same fit =
+unit_size : (u : List (List ℕ)) → is_unit u ≡ true → (2 ≤ own_count u) × (own_count u ≤ 9)
+unit_size u h = between (own_count u) h
+  where
+    between : (n : ℕ) → is_between 2 9 n ≡ true → (2 ≤ n) × (n ≤ 9)
+    between n h = (grind (arith, nat_tests, h), grind (arith, nat_tests, h))
+
+-- a bound has a number
+most_fits : (place : ℕ) (words : List (List ℕ)) (n : ℕ) → most_at place words ≡ Ok n → n < 2 ^ 64
+most_fits place [] n is = let same : greatest_count ≡ n = cc in omega (arith, same)
+most_fits place (w ∷ []) n is = let same : greatest_count ≡ n = cc in omega (arith, same)
+most_fits place (w ∷ m ∷ ws) n is = (number_within Count (place + 1) 0 m n is).0
+
+ask_of_within : (ns : List ℕ) (most : ℕ) → 2 ≤ length ns → length ns ≤ 9 → AllByRecursion (λ n. n < 2 ^ 64) ns → most < 2 ^ 64 → IsAsk (ask_of ns most)
+ask_of_within [] most some few fit bound = absurd (omega (arith, some))
+ask_of_within (n ∷ ns) most some few fit bound = record { priority = fit.0; some = omega (arith, some); few = omega (arith, few); quantities = fit.1; most = bound }
+
+ask_made : (place : ℕ) (u : List (List ℕ)) (ask : Ask) → is_unit u ≡ true → ask_at place u ≡ Ok ask → IsAsk ask
+ask_made place u ask sized is =
+    let own = own_count u in
+    let first = done (counts_at place (take own u)) _ ask is in
+    let second = done (most_at (place + own) (drop own u)) (λ most. Ok (ask_of first.0 most)) ask first.2 in
+    let same : ask_of first.0 second.0 ≡ ask = ok_same (Ok (ask_of first.0 second.0)) _ _ refl second.2 in
+    let counts = counts_fit place (take own u) first.0 first.1 in
+    let long : length first.0 ≡ own = counts.0 ∙ length-take-le own u (own_within u) in
     let size = unit_size u sized in
-    let least = size.0 in
-    let most = size.1 in
-    record { priority = fit.0; some = omega (arith, least, same); few = omega (arith, most, same); quantities = fit.1 }
+    subst IsAsk same (ask_of_within first.0 second.0 (subst (λ n. 2 ≤ n) (sym long) size.0) (subst (λ n. n ≤ 9) (sym long) size.1) counts.1 (most_fits (place + own) (drop own u) second.0 second.1))
 
 asks_made : (place : ℕ) (us : List (List (List ℕ))) (asks : List Ask) → list_all is_unit us ≡ true → asks_at place us ≡ Ok asks → (length asks ≡ length us) × AllByRecursion IsAsk asks
 asks_made place [] [] sized is = (refl, tt)
 asks_made place [] (a ∷ as_) sized is = absurd cc
 asks_made place (u ∷ us) asks sized is =
-    let first = done (counts_at place u) _ asks is in
-    let rest = done (asks_at (place + length u + 1) us) (λ more. Ok (ask_of first.0 ∷ more)) asks first.2 in
-    let both : ask_of first.0 ∷ rest.0 ≡ asks = ok_same (Ok (ask_of first.0 ∷ rest.0)) _ _ refl rest.2 in
-    let counts = counts_fit place u first.0 first.1 in
+    let first = done (ask_at place u) _ asks is in
+    let rest = done (asks_at (place + length u + 1) us) (λ more. Ok (first.0 ∷ more)) asks first.2 in
+    let both : first.0 ∷ rest.0 ≡ asks = ok_same (Ok (first.0 ∷ rest.0)) _ _ refl rest.2 in
     let more = asks_made (place + length u + 1) us rest.0 (second_true (is_unit u) _ sized) rest.1 in
     subst (λ as_. (length as_ ≡ length (u ∷ us)) × AllByRecursion IsAsk as_) both
-    (ap (λ k. suc k) more.0, (ask_made u first.0 (first_true (is_unit u) _ sized) counts.0 counts.1, more.1))
+    (ap (λ k. suc k) more.0, (ask_made place u first.0 (first_true (is_unit u) _ sized) first.1, more.1))
 
 -- What is split has a part, and the first one is no longer than the whole
 onto_some : {A : Type 0} (x : A) (parts : List (List A)) → 1 ≤ length (onto_first x parts)

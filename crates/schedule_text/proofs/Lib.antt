@@ -1,5 +1,6 @@
 pub mod Pieces
 pub mod Walks
+pub mod Units
 pub mod Heads
 pub mod Texts
 pub mod RoundTrip

@@ -15,14 +15,9 @@ split_mapped p f (x ∷ xs) =
       | false ↦ ap (onto_first (f x)) (split_mapped p f xs) ∙ onto_mapped f x (slice_split (λ x. p (f x)) xs)
     ]
 
-length_mapped : {A B : Type 0} (f : A → B) (xs : List A) → length (map f xs) ≡ length xs
-length_mapped f [] = refl
-length_mapped f (x ∷ xs) = ap (λ n. suc n) (length_mapped f xs)
-
--- a test of the lengths of the parts
-pub lengths_mapped : {A B : Type 0} (test : ℕ → Bool) (f : A → B) (parts : List (List A)) → list_all (λ u. test (length u)) parts ≡ list_all (λ u. test (length u)) (map (map f) parts)
-lengths_mapped test f [] = refl
-lengths_mapped test f (u ∷ us) = ap (λ n. test n && list_all (λ u. test (length u)) us) (sym (length_mapped f u)) ∙ ap (λ b. test (length (map f u)) && b) (lengths_mapped test f us)
+pub all_mapped : {A B : Type 0} (test : B → Bool) (f : A → B) (xs : List A) → list_all (λ x. test (f x)) xs ≡ list_all test (map f xs)
+all_mapped test f [] = refl
+all_mapped test f (x ∷ xs) = ap (λ b. test (f x) && b) (all_mapped test f xs)
 
 pub pairs_mapped : {A B C : Type 0} (test : C × C → Bool) (f : A → C) (g : B → C) (xs : List A) (ys : List B) → list_all (λ p. test (f p.0, g p.1)) (zip xs ys) ≡ list_all test (zip (map f xs) (map g ys))
 pairs_mapped test f g [] ys = refl

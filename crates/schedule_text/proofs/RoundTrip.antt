@@ -1,11 +1,14 @@
 -- What is written of an event is read as that event.
-use Rattle.std.proofs.Common.{◌≡◌, ℕ, suc, ◌+◌, ◌<◌, ◌≤◌, ◌^◌, ◌==◌, Bool, true, false, not, cond, nat_eq, nat_lt, ◌&&◌, List, [], ◌∷◌, ◌++◌, length, drop, map, filter, codes, decimal, Some, None, Result, Ok, Err, refl, ap, sym, ◌∙◌, subst, arith, append_assoc}
+use Rattle.std.proofs.Common.{◌≡◌, ℕ, zero, suc, ◌+◌, ◌-◌, ◌<◌, ◌≤◌, ◌^◌, ◌==◌, Bool, true, false, not, cond, nat_eq, nat_lt, ◌&&◌, List, [], ◌∷◌, ◌++◌, length, get_or, drop, map, filter, codes, decimal, Some, None, Result, Ok, Err, refl, ap, sym, ◌∙◌, subst, arith, append_assoc}
+use Rattle.std.proofs.lemmas.Bool.{eqb-true}
 use Rattle.std.proofs.lemmas.Bool.Decides.{nat_tests}
-use Rattle.std.proofs.lemmas.List.{length-map, length-append, append-nil, drop_at}
+use Rattle.std.proofs.lemmas.List.{length-map, length-append, append-nil, get_or_at, take_at, drop_at}
 use Rattle.std.specs.List.{list_all, flat_map, slice_split, onto_first, AllByRecursion}
 use Rattle.std.specs.Char.{is_ascii_digit}
 use Rattle.std.specs.Str.{all_ascii_digits, bytes_eq}
 use Rattle.std.specs.Str.Parse.{digits_value}
+use Rattle.fuxi_terms.specs.Limits.{greatest_count}
+use Rattle.fuxi_terms.specs.Cluster.{is_between}
 use Rattle.fuxi_terms.specs.Counts.{then_do}
 use Rattle.schedule_unit.specs.Numbers.{is_numeral, number_of}
 use Rattle.schedule_unit.specs.declared.asks.Ask.{Ask}
@@ -19,8 +22,9 @@ use Rattle.schedule_text.specs.declared.form.Place.{Place}
 use Rattle.schedule_text.specs.declared.form.Place.TheVariants.{Count}
 use Rattle.schedule_text.specs.Words.{is_word, words_of}
 use Rattle.schedule_text.specs.Forms.{shape_of, is_within}
-use Rattle.schedule_text.specs.Reading.{front, units_of, is_unit, number_at, numbers_at, counts_at, ask_of, asks_at, asks_of, event_at, event_behind, event_of_words, event_of}
-use Rattle.schedule_text.specs.Writing.{Saying, saying_of, saying_words, ask_words, asks_words, spaced, event_text, AreWithin, IsAsk, AreAsks, IsLineEvent}
+use Rattle.schedule_text.specs.Reading.{front, units_of, is_bounded, own_count, is_unit, number_at, numbers_at, counts_at, most_at, ask_at, asks_at, asks_of, event_at, event_behind, event_of_words, event_of}
+use Rattle.schedule_text.specs.Writing.{Saying, saying_of, saying_words, most_words, ask_words, asks_words, spaced, event_text, AreWithin, IsAsk, AreAsks, IsLineEvent}
+use Rattle.schedule_text.proofs.Walks.{ask_read}
 
 -- Splitting what was joined. The elements at which nothing is split
 abbrev Lacks : {A : Type 0} → (A → Bool) → List A → Type 0
@@ -131,66 +135,152 @@ within_range [] before (n ∷ ns) h = absurd h
 within_range (p ∷ ps) before [] h = absurd h
 within_range (p ∷ ps) before (n ∷ ns) h = (h.0, within_range ps n ns h.2)
 
--- Units
+-- Units. Any numbers
 counts_back : Written → (place : ℕ) (ns : List ℕ) → AllByRecursion (λ n. n < 2 ^ 64) ns → counts_at place (map decimal ns) ≡ Ok ns
 counts_back w place [] h = refl
 counts_back w place (n ∷ ns) h =
     ap (λ r. then_do r (λ m. then_do (counts_at (place + 1) (map decimal ns)) (λ ms. Ok (m ∷ ms)))) (number_back w Count place 0 n h.0 refl)
     ∙ ap (λ r. then_do r (λ ms. Ok (n ∷ ms))) (counts_back w (place + 1) ns h.1)
 
+-- its own words: a priority and quantities
 abbrev ask_numbers : Ask → List ℕ
 ask_numbers a = a.priority ∷ a.quantities
 
 ask_range : (a : Ask) → IsAsk a → AllByRecursion (λ n. n < 2 ^ 64) (ask_numbers a)
 ask_range a h = (h.priority, h.quantities)
 
+-- no number is the word of a bound
+number_no_most : (word : List ℕ) (n : ℕ) → number_of word ≡ Some n → bytes_eq word (codes "most") ≡ false
+number_no_most [] n e = refl
+number_no_most (b ∷ bs) n e = ap (λ t. t && bytes_eq bs (111 ∷ 115 ∷ 116 ∷ [])) (no_m b (first_true (is_ascii_digit b) (all_ascii_digits bs) (digits_of (b ∷ bs) n e)))
+  where
+    no_m : (b : ℕ) → is_ascii_digit b ≡ true → nat_eq b 109 ≡ false
+    no_m b h = grind (arith, nat_tests, h)
+
+none_most : Written → (ns : List ℕ) (i : ℕ) → AllByRecursion (λ n. n < 2 ^ 64) ns → bytes_eq (get_or (map decimal ns) i []) (codes "most") ≡ false
+none_most w [] i h = refl
+none_most w (n ∷ ns) zero h = number_no_most (decimal n) n (w n h.0)
+none_most w (n ∷ ns) (suc i) h = none_most w ns i h.1
+
+never : (b : Bool) → (b && false) ≡ false
+never true = refl
+never false = refl
+
+-- so behind numbers alone nothing is set aside, and with a bound behind them that bound
+own_numbers : Written → (ns : List ℕ) → AllByRecursion (λ n. n < 2 ^ 64) ns → own_count (map decimal ns) ≡ length (map decimal ns)
+own_numbers w ns h =
+    let ws = map decimal ns in
+    let none : is_bounded ws ≡ false = ap (λ b. nat_lt 1 (length ws) && b) (none_most w ns (length ws - 2) h) ∙ never (nat_lt 1 (length ws)) in
+    ap (λ b. cond b (length ws - 2) (length ws)) none
+
+own_before : (ws : List (List ℕ)) (n : List ℕ) → own_count (ws ++ codes "most" ∷ n ∷ []) ≡ length ws
+own_before ws n =
+    let all = ws ++ codes "most" ∷ n ∷ [] in
+    let long : length all ≡ length ws + 2 = length-append ws (codes "most" ∷ n ∷ []) in
+    let less : length all - 2 ≡ length ws = omega (arith, long) in
+    let more : nat_lt 1 (length all) ≡ true = grind (arith, nat_tests, long) in
+    let here : get_or all (length all - 2) [] ≡ codes "most" = ap (λ i. get_or all i []) less ∙ get_or_at ws (codes "most") (n ∷ []) [] (length ws) refl in
+    let is : is_bounded all ≡ true = ap (λ b. b && bytes_eq (get_or all (length all - 2) []) (codes "most")) more ∙ ap (λ v. bytes_eq v (codes "most")) here in
+    ap (λ b. cond b (length all - 2) (length all)) is ∙ less
+
+own_back : Written → (ns : List ℕ) (n : ℕ) → AllByRecursion (λ n. n < 2 ^ 64) ns → own_count (map decimal ns ++ most_words n) ≡ length (map decimal ns)
+own_back w ns n h =
+    elim (nat_eq n greatest_count) as (λ b. own_count (map decimal ns ++ cond b [] (codes "most" ∷ decimal n ∷ [])) ≡ length (map decimal ns)) [
+      | true ↦ ap own_count (append-nil (map decimal ns)) ∙ own_numbers w ns h
+      | false ↦ own_before (map decimal ns) (decimal n)
+    ]
+
+most_back : Written → (place n : ℕ) → n < 2 ^ 64 → most_at place (most_words n) ≡ Ok n
+most_back w place n lt = by (nat_eq n greatest_count) refl
+  where
+    by : (b : Bool) → nat_eq n greatest_count ≡ b → most_at place (cond b [] (codes "most" ∷ decimal n ∷ [])) ≡ Ok n
+    by true is = ap (λ k. Ok k) (sym (eqb-true n greatest_count is))
+    by false is = number_back w Count (place + 1) 0 n lt refl
+
+ask_back : Written → (place : ℕ) (a : Ask) → IsAsk a → ask_at place (ask_words a) ≡ Ok a
+ask_back w place a h =
+    let own = map decimal (ask_numbers a) in
+    let bound = most_words a.most in
+    ask_read (own ++ bound) place (length own) (ask_numbers a) a.most (own_back w (ask_numbers a) a.most (ask_range a h))
+    (ap (counts_at place) (take_at own bound (length own) refl) ∙ counts_back w place (ask_numbers a) (ask_range a h))
+    (ap (most_at (place + length own)) (drop_at own bound (length own) refl) ∙ most_back w (place + length own) a.most h.most)
+
 asks_back : Written → (place : ℕ) (asks : List Ask) → AllByRecursion IsAsk asks → asks_at place (map ask_words asks) ≡ Ok asks
 asks_back w place [] h = refl
 asks_back w place (a ∷ as_) h =
-    ap (λ r. then_do r (λ ns. then_do (asks_at (place + length (ask_words a) + 1) (map ask_words as_)) (λ asks. Ok (ask_of ns ∷ asks)))) (counts_back w place (ask_numbers a) (ask_range a h.0))
+    ap (λ r. then_do r (λ ask. then_do (asks_at (place + length (ask_words a) + 1) (map ask_words as_)) (λ asks. Ok (ask ∷ asks)))) (ask_back w place a h.0)
     ∙ ap (λ r. then_do r (λ asks. Ok (a ∷ asks))) (asks_back w (place + length (ask_words a) + 1) as_ h.1)
 
 slashed : (as_ : List Ask) → flat_map (λ b. codes "/" ∷ ask_words b) as_ ≡ flat_map (λ v. codes "/" ∷ v) (map ask_words as_)
 slashed [] = refl
 slashed (a ∷ as_) = ap (λ l. codes "/" ∷ ask_words a ++ l) (slashed as_)
 
+-- no word of a unit is a slash
+all_joined : {A : Type 0} (P : A → Type 0) (xs ys : List A) → AllByRecursion P xs → AllByRecursion P ys → AllByRecursion P (xs ++ ys)
+all_joined P [] ys h k = k
+all_joined P (x ∷ xs) ys h k = (h.0, all_joined P xs ys h.1 k)
+
+most_lacks : Written → (n : ℕ) → n < 2 ^ 64 → AllByRecursion (λ word. bytes_eq word (codes "/") ≡ false) (most_words n)
+most_lacks w n lt =
+    elim (nat_eq n greatest_count) as (λ b. AllByRecursion (λ word. bytes_eq word (codes "/") ≡ false) (cond b [] (codes "most" ∷ decimal n ∷ []))) [
+      | true ↦ tt
+      | false ↦ (refl, (number_no_slash (decimal n) n (w n lt), tt))
+    ]
+
+ask_lacks : Written → (a : Ask) → IsAsk a → AllByRecursion (λ word. bytes_eq word (codes "/") ≡ false) (ask_words a)
+ask_lacks w a h = all_joined (λ word. bytes_eq word (codes "/") ≡ false) (map decimal (ask_numbers a)) (most_words a.most) (numbers_lack w (ask_numbers a) (ask_range a h)) (most_lacks w a.most h.most)
+
 asks_lack : Written → (as_ : List Ask) → AllByRecursion IsAsk as_ → AllByRecursion (λ u. AllByRecursion (λ word. bytes_eq word (codes "/") ≡ false) u) (map ask_words as_)
 asks_lack w [] h = tt
-asks_lack w (a ∷ as_) h = (numbers_lack w (ask_numbers a) (ask_range a h.0), asks_lack w as_ h.1)
+asks_lack w (a ∷ as_) h = (ask_lacks w a h.0, asks_lack w as_ h.1)
 
 pub units_back : Written → (asks : List Ask) → 1 ≤ length asks → AllByRecursion IsAsk asks → units_of (asks_words asks) ≡ map ask_words asks
 units_back w [] some h = absurd (omega (arith, some))
 units_back w (a ∷ as_) some h =
     ap (λ l. units_of (ask_words a ++ l)) (slashed as_)
-    ∙ split_joined (λ word. bytes_eq word (codes "/")) (codes "/") (ask_words a) (map ask_words as_) refl (numbers_lack w (ask_numbers a) (ask_range a h.0)) (asks_lack w as_ h.1)
+    ∙ split_joined (λ word. bytes_eq word (codes "/")) (codes "/") (ask_words a) (map ask_words as_) refl (ask_lacks w a h.0) (asks_lack w as_ h.1)
 
 pub asks_read : Written → (place : ℕ) (asks : List Ask) → 1 ≤ length asks → AllByRecursion IsAsk asks → asks_at place (units_of (asks_words asks)) ≡ Ok asks
 asks_read w place asks some h = ap (asks_at place) (units_back w asks some h) ∙ asks_back w place asks h
 
-unit_sized : (a : Ask) → IsAsk a → is_unit (ask_words a) ≡ true
-unit_sized a h = let n = length-map a.quantities decimal in let some = h.some in let few = h.few in grind (arith, nat_tests, n, some, few)
+sized : (n : ℕ) → 1 ≤ n → n ≤ 8 → is_between 2 9 (suc n) ≡ true
+sized n some few = grind (arith, nat_tests, some, few)
 
-units_sized : (asks : List Ask) → AllByRecursion IsAsk asks → list_all is_unit (map ask_words asks) ≡ true
-units_sized [] h = refl
-units_sized (a ∷ as_) h = ap (λ b. b && list_all is_unit (map ask_words as_)) (unit_sized a h.0) ∙ units_sized as_ h.1
+unit_sized : Written → (a : Ask) → IsAsk a → is_unit (ask_words a) ≡ true
+unit_sized w a h =
+    ap (is_between 2 9) (own_back w (ask_numbers a) a.most (ask_range a h) ∙ ap (λ n. suc n) (length-map a.quantities decimal))
+    ∙ sized (length a.quantities) h.some h.few
+
+units_sized : Written → (asks : List Ask) → AllByRecursion IsAsk asks → list_all is_unit (map ask_words asks) ≡ true
+units_sized w [] h = refl
+units_sized w (a ∷ as_) h = ap (λ b. b && list_all is_unit (map ask_words as_)) (unit_sized w a h.0) ∙ units_sized w as_ h.1
 
 pub units_counted : Written → (asks : List Ask) → 1 ≤ length asks → AllByRecursion IsAsk asks → list_all is_unit (units_of (asks_words asks)) ≡ true
-units_counted w asks some h = ap (list_all is_unit) (units_back w asks some h) ∙ units_sized asks h
+units_counted w asks some h = ap (list_all is_unit) (units_back w asks some h) ∙ units_sized w asks h
 
 plain_append : (vs ws : List (List ℕ)) → AllByRecursion IsPlain vs → AllByRecursion IsPlain ws → AllByRecursion IsPlain (vs ++ ws)
-plain_append [] ws h k = k
-plain_append (v ∷ vs) ws h k = (h.0, plain_append vs ws h.1 k)
+plain_append vs ws h k = all_joined IsPlain vs ws h k
 
 plain_slash : IsPlain (codes "/")
 plain_slash = record { some = refl; lacks = (refl, tt) }
 
+plain_most : Written → (n : ℕ) → n < 2 ^ 64 → AllByRecursion IsPlain (most_words n)
+plain_most w n lt =
+    elim (nat_eq n greatest_count) as (λ b. AllByRecursion IsPlain (cond b [] (codes "most" ∷ decimal n ∷ []))) [
+      | true ↦ tt
+      | false ↦ (record { some = refl; lacks = (refl, (refl, (refl, (refl, tt)))) }, (plain_number (decimal n) n (w n lt), tt))
+    ]
+
+plain_ask : Written → (a : Ask) → IsAsk a → AllByRecursion IsPlain (ask_words a)
+plain_ask w a h = plain_append (map decimal (ask_numbers a)) (most_words a.most) (plain_numbers w (ask_numbers a) (ask_range a h)) (plain_most w a.most h.most)
+
 plain_more : Written → (as_ : List Ask) → AllByRecursion IsAsk as_ → AllByRecursion IsPlain (flat_map (λ b. codes "/" ∷ ask_words b) as_)
 plain_more w [] h = tt
-plain_more w (a ∷ as_) h = (plain_slash, plain_append (ask_words a) (flat_map (λ b. codes "/" ∷ ask_words b) as_) (plain_numbers w (ask_numbers a) (ask_range a h.0)) (plain_more w as_ h.1))
+plain_more w (a ∷ as_) h = (plain_slash, plain_append (ask_words a) (flat_map (λ b. codes "/" ∷ ask_words b) as_) (plain_ask w a h.0) (plain_more w as_ h.1))
 
 plain_asks : Written → (asks : List Ask) → AllByRecursion IsAsk asks → AllByRecursion IsPlain (asks_words asks)
 plain_asks w [] h = tt
-plain_asks w (a ∷ as_) h = plain_append (ask_words a) (flat_map (λ b. codes "/" ∷ ask_words b) as_) (plain_numbers w (ask_numbers a) (ask_range a h.0)) (plain_more w as_ h.1)
+plain_asks w (a ∷ as_) h = plain_append (ask_words a) (flat_map (λ b. codes "/" ∷ ask_words b) as_) (plain_ask w a h.0) (plain_more w as_ h.1)
 
 -- The first words of each line are plain
 is_plain : List ℕ → Bool

@@ -9,7 +9,7 @@ use Rattle.std.proofs.lemmas.Bool.Decides.{nat_tests}
 use Rattle.std.specs.List.{list_all}
 use Rattle.schedule_unit.specs.declared.asks.Ask.{Ask}
 use Rattle.schedule_text.specs.Forms.{is_within, IsNarrow}
-use Rattle.schedule_text.specs.Reading.{number_at, numbers_at, counts_at, ask_of, asks_at, is_unit, IsFault}
+use Rattle.schedule_text.specs.Reading.{number_at, numbers_at, counts_at, own_count, most_at, ask_of, ask_at, asks_at, IsFault}
 
 pub then_ok : {A E : Type 0} (r : Result A E) → then_do r (λ x. Ok x) ≡ r
 then_ok (Ok x) = refl
@@ -108,19 +108,37 @@ narrow_within Packet before n h = tt
 narrow_within LastPacket before n h = tt
 narrow_within Count before n h = tt
 
--- Units. One after another
-ask_joined : (r : Result (List ℕ) LineFault) (s : Result (List Ask) LineFault) (ask : Ask) (before : List Ask) → then_do r (λ ns. Ok (ask_of ns)) ≡ Ok ask
-    → then_do (then_do r (λ ns. then_do s (λ asks. Ok (ask_of ns ∷ asks)))) (λ asks. Ok (before ++ asks)) ≡ then_do s (λ asks. Ok ((before ++ ask ∷ []) ++ asks))
-ask_joined (Ok ns) (Ok asks) ask before e = let same : ask_of ns ≡ ask = cc in ap (λ a. Ok (before ++ a ∷ asks)) same ∙ ap (λ l. Ok l) (sym (append_assoc before (ask ∷ []) asks))
-ask_joined (Ok ns) (Err f) ask before e = refl
+-- Units. Its own words and its bound
+pub ask_read : (u : List (List ℕ)) (place own : ℕ) (ns : List ℕ) (most : ℕ) → own_count u ≡ own → counts_at place (take own u) ≡ Ok ns → most_at (place + own) (drop own u) ≡ Ok most → ask_at place u ≡ Ok (ask_of ns most)
+ask_read u place own ns most count numbers bound =
+    ap (λ o. then_do (counts_at place (take o u)) (λ ns. then_do (most_at (place + o) (drop o u)) (λ m. Ok (ask_of ns m)))) count
+    ∙ ap (λ r. then_do r (λ ns. then_do (most_at (place + own) (drop own u)) (λ m. Ok (ask_of ns m)))) numbers
+    ∙ ap (λ r. then_do r (λ m. Ok (ask_of ns m))) bound
+
+pub own_fault : (u : List (List ℕ)) (place own : ℕ) (fault : LineFault) → own_count u ≡ own → counts_at place (take own u) ≡ Err fault → ask_at place u ≡ Err fault
+own_fault u place own fault count numbers =
+    ap (λ o. then_do (counts_at place (take o u)) (λ ns. then_do (most_at (place + o) (drop o u)) (λ m. Ok (ask_of ns m)))) count
+    ∙ ap (λ r. then_do r (λ ns. then_do (most_at (place + own) (drop own u)) (λ m. Ok (ask_of ns m)))) numbers
+
+pub bound_fault : (u : List (List ℕ)) (place own : ℕ) (ns : List ℕ) (fault : LineFault) → own_count u ≡ own → counts_at place (take own u) ≡ Ok ns → most_at (place + own) (drop own u) ≡ Err fault → ask_at place u ≡ Err fault
+bound_fault u place own ns fault count numbers bound =
+    ap (λ o. then_do (counts_at place (take o u)) (λ ns. then_do (most_at (place + o) (drop o u)) (λ m. Ok (ask_of ns m)))) count
+    ∙ ap (λ r. then_do r (λ ns. then_do (most_at (place + own) (drop own u)) (λ m. Ok (ask_of ns m)))) numbers
+    ∙ ap (λ r. then_do r (λ m. Ok (ask_of ns m))) bound
+
+-- one after another
+ask_joined : (r : Result Ask LineFault) (s : Result (List Ask) LineFault) (ask : Ask) (before : List Ask) → r ≡ Ok ask
+    → then_do (then_do r (λ a. then_do s (λ asks. Ok (a ∷ asks)))) (λ asks. Ok (before ++ asks)) ≡ then_do s (λ asks. Ok ((before ++ ask ∷ []) ++ asks))
+ask_joined (Ok a) (Ok asks) ask before e = let same : a ≡ ask = cc in ap (λ a. Ok (before ++ a ∷ asks)) same ∙ ap (λ l. Ok l) (sym (append_assoc before (ask ∷ []) asks))
+ask_joined (Ok a) (Err f) ask before e = refl
 ask_joined (Err f) s ask before e = cc
 
 pub asks_step : (u : List (List ℕ)) (rest : List (List (List ℕ))) (place : ℕ) (ask : Ask) (before : List Ask) (all : Result (List Ask) LineFault)
-    → then_do (counts_at place u) (λ ns. Ok (ask_of ns)) ≡ Ok ask
+    → ask_at place u ≡ Ok ask
     → all ≡ then_do (asks_at place (u ∷ rest)) (λ asks. Ok (before ++ asks))
     → all ≡ then_do (asks_at (place + (length u + 1)) rest) (λ asks. Ok ((before ++ ask ∷ []) ++ asks))
 asks_step u rest place ask before all is h =
-    h ∙ ask_joined (counts_at place u) (asks_at (place + length u + 1) rest) ask before is
+    h ∙ ask_joined (ask_at place u) (asks_at (place + length u + 1) rest) ask before is
     ∙ ap (λ p. then_do (asks_at p rest) (λ asks. Ok ((before ++ ask ∷ []) ++ asks))) (next_place place (length u))
 
 pub fault_spreads : {A B : Type 0} (r : Result A LineFault) (s : Result B LineFault) (fault : LineFault) → ((f : LineFault) → r ≡ Err f → s ≡ Err f) → IsFault r fault → IsFault s fault
@@ -131,14 +149,11 @@ fault_spreads r s (Range place) spreads is = spreads (Range place) is
 fault_spreads r s OutOfMemory spreads is = tt
 
 pub asks_fault : (u : List (List ℕ)) (rest : List (List (List ℕ))) (place : ℕ) (fault : LineFault) (before : List Ask) (all : Result (List Ask) LineFault)
-    → IsFault (counts_at place u) fault
+    → IsFault (ask_at place u) fault
     → all ≡ then_do (asks_at place (u ∷ rest)) (λ asks. Ok (before ++ asks))
     → IsFault all fault
 asks_fault u rest place fault before all is h =
-    fault_spreads (counts_at place u) all fault (λ f e. h ∙ ap (λ r. then_do (then_do r (λ ns. then_do (asks_at (place + length u + 1) rest) (λ asks. Ok (ask_of ns ∷ asks)))) (λ asks. Ok (before ++ asks))) e) is
-
-pub unit_some : (u : List (List ℕ)) → is_unit u ≡ true → 1 ≤ length u
-unit_some u h = grind (arith, nat_tests, h)
+    fault_spreads (ask_at place u) all fault (λ f e. h ∙ ap (λ r. then_do (then_do r (λ ask. then_do (asks_at (place + length u + 1) rest) (λ asks. Ok (ask ∷ asks)))) (λ asks. Ok (before ++ asks))) e) is
 
 pub first_passes : {A : Type 0} (p : A → Bool) (x : A) (xs : List A) → list_all p (x ∷ xs) ≡ true → (p x ≡ true) × (list_all p xs ≡ true)
 first_passes p x xs h = both (p x) (list_all p xs) h

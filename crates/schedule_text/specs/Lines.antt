@@ -4,7 +4,7 @@ use Rattle.fuxi_terms.specs.declared.answers.What.{What}
 use Rattle.fuxi_terms.specs.declared.answers.What.TheVariants.{Stranger, Stale, Ack as Acked, NotMine, Old, Gap, Taken, Ledger, Exceeds}
 use Rattle.written_net.specs.Net.{Party, Packet, Kind, Ack, Delta, Full}
 use Rattle.written_net.specs.Ledgers.{Body}
-use Rattle.written_roles.specs.Refusals.{Refusal, NotRunning, NotRising, TooManyMasters, HardFull, Fenced, NoMachine, NoRack, NoGroup, NoJob, NoUnit, Known, Ended, AlreadyBanned, NotBanned, AlreadyServing, NotServing, NothingToPreempt, WantRange, NotUsable, BackRange, NoPacket, NoUnits, TooManyUnits, Dimensions, PriorityRange, QuantityRange, ZeroSize}
+use Rattle.written_roles.specs.Refusals.{Refusal, NotRunning, NotRising, TooManyMasters, HardFull, Fenced, NoMachine, NoRack, NoGroup, NoJob, NoUnit, Known, Ended, AlreadyBanned, NotBanned, AlreadyServing, NotServing, NothingToPreempt, WantRange, NotUsable, BackRange, NoPacket, NoUnits, TooManyUnits, Dimensions, PriorityRange, QuantityRange, ZeroSize, MostRange}
 use Rattle.written_world.specs.Outputs.{Line, Sent, Came, Lost, Frame, Refused, State, Fence, Job, Banned, MasterIs, Reported, Grant, Wait, AgentAt, Row, AppAt, Hold, Carry, Packets}
 use Rattle.hex.specs.Hex.{encode_lower}
 use Rattle.schedule_text.specs.Writing.{spaced}
@@ -64,6 +64,7 @@ refusal_words (Dimensions unit) = codes "Dimensions" ∷ decimal unit ∷ []
 refusal_words (PriorityRange unit) = codes "PriorityRange" ∷ decimal unit ∷ []
 refusal_words (QuantityRange unit) = codes "QuantityRange" ∷ decimal unit ∷ []
 refusal_words (ZeroSize unit) = codes "ZeroSize" ∷ decimal unit ∷ []
+refusal_words (MostRange unit) = codes "MostRange" ∷ decimal unit ∷ []
 
 -- a packet in hexadecimal digits
 abbrev pub frame_words : ℕ → List ℕ → List (List ℕ)

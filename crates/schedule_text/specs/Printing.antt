@@ -4,7 +4,7 @@ use Rattle.schedule_unit.specs.declared.party.Party.{Party as CodeParty}
 use Rattle.schedule_unit.specs.declared.party.Role.{Role}
 use Rattle.schedule_unit.specs.declared.party.Role.TheVariants.{Master as MasterRole, Agent as AgentRole, App as AppRole}
 use Rattle.written_net.specs.Net.{Party, Kind, Ack, Delta, Full}
-use Rattle.written_roles.specs.Refusals.{Refusal, NotRunning, NotRising, TooManyMasters, HardFull, Fenced, NoMachine, NoRack, NoGroup, NoJob, NoUnit, Known, Ended, AlreadyBanned, NotBanned, AlreadyServing, NotServing, NothingToPreempt, WantRange, NotUsable, BackRange, NoPacket, NoUnits, TooManyUnits, Dimensions, PriorityRange, QuantityRange, ZeroSize}
+use Rattle.written_roles.specs.Refusals.{Refusal, NotRunning, NotRising, TooManyMasters, HardFull, Fenced, NoMachine, NoRack, NoGroup, NoJob, NoUnit, Known, Ended, AlreadyBanned, NotBanned, AlreadyServing, NotServing, NothingToPreempt, WantRange, NotUsable, BackRange, NoPacket, NoUnits, TooManyUnits, Dimensions, PriorityRange, QuantityRange, ZeroSize, MostRange}
 use Rattle.written_world.specs.Outputs.{Line, Sent, Came, Lost, Refused, State, Fence, Job, Banned, MasterIs, Reported, Grant, Wait, AgentAt, Row, AppAt, Hold, Carry, Packets}
 use Rattle.schedule_text.specs.declared.output.Kind.{Kind as CodeKind}
 use Rattle.schedule_text.specs.declared.output.Kind.TheVariants.{Ack as CodeAck, Delta as CodeDelta, Full as CodeFull}
@@ -55,6 +55,7 @@ as_refusal (why.Dimensions unit) = Dimensions unit.0
 as_refusal (why.PriorityRange unit) = PriorityRange unit.0
 as_refusal (why.QuantityRange unit) = QuantityRange unit.0
 as_refusal (why.ZeroSize unit) = ZeroSize unit.0
+as_refusal (why.MostRange unit) = MostRange unit.0
 
 abbrev pub as_line : Output → Line
 as_line (out.Sent number from to kind inc seq bytes) = Sent number (record { from = as_party from; to = as_party to; kind = as_kind kind; inc = inc; seq = seq }) bytes

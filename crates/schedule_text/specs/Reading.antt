@@ -1,7 +1,8 @@
 -- What an event line says, or why it is none.
-use Rattle.std.specs.Prelude.{◌≡◌, ℕ, ◌+◌, Bool, true, false, cond, nat_eq, ◌&&◌, List, [], ◌∷◌, length, drop, slice_index, Some, None, Result, Ok, Err, codes}
+use Rattle.std.specs.Prelude.{◌≡◌, ℕ, ◌+◌, ◌-◌, Bool, true, false, cond, nat_eq, nat_lt, ◌&&◌, List, [], ◌∷◌, length, take, drop, get_or, slice_index, Some, None, Result, Ok, Err, codes}
 use Rattle.std.specs.List.{find, list_any, list_all, zip, slice_split}
 use Rattle.std.specs.Str.{bytes_eq}
+use Rattle.fuxi_terms.specs.Limits.{greatest_count}
 use Rattle.fuxi_terms.specs.Cluster.{is_between}
 use Rattle.fuxi_terms.specs.Counts.{then_do}
 use Rattle.schedule_unit.specs.Numbers.{number_of}
@@ -34,9 +35,17 @@ front s = length s.words + length s.places
 abbrev pub units_of : List (List ℕ) → List (List (List ℕ))
 units_of words = slice_split (λ w. bytes_eq w (codes "/")) words
 
--- a priority, and 1 to 8 quantities
+-- where the word before a unit's last one is `most`, these two words are set aside as its bound
+abbrev pub is_bounded : List (List ℕ) → Bool
+is_bounded words = nat_lt 1 (length words) && bytes_eq (get_or words (length words - 2) []) (codes "most")
+
+-- how many other words the unit has
+abbrev pub own_count : List (List ℕ) → ℕ
+own_count words = cond (is_bounded words) (length words - 2) (length words)
+
+-- they are a priority, and 1 to 8 quantities
 abbrev pub is_unit : List (List ℕ) → Bool
-is_unit words = is_between 2 9 (length words)
+is_unit words = is_between 2 9 (own_count words)
 
 -- the line has as many words as its form; of a submission each unit has
 abbrev pub has_count : Shape → List (List ℕ) → Bool
@@ -69,14 +78,25 @@ abbrev pub counts_at : ℕ → List (List ℕ) → Result (List ℕ) LineFault
 counts_at place [] = Ok []
 counts_at place (w ∷ ws) = then_do (number_at Count place 0 w) (λ n. then_do (counts_at (place + 1) ws) (λ ns. Ok (n ∷ ns)))
 
--- a priority and quantities
-abbrev pub ask_of : List ℕ → Ask
-ask_of [] = record { priority = 0; quantities = [] }
-ask_of (n ∷ ns) = record { priority = n; quantities = ns }
+-- the number of a bound, and the greatest where there is none
+abbrev pub most_at : ℕ → List (List ℕ) → Result ℕ LineFault
+most_at place [] = Ok greatest_count
+most_at place (w ∷ []) = Ok greatest_count
+most_at place (w ∷ n ∷ ws) = number_at Count (place + 1) 0 n
+
+-- a priority, quantities and the number of the bound
+abbrev pub ask_of : List ℕ → ℕ → Ask
+ask_of [] most = record { priority = 0; quantities = []; most = most }
+ask_of (n ∷ ns) most = record { priority = n; quantities = ns; most = most }
+
+-- one unit: its own words, and then its bound
+abbrev pub ask_at : ℕ → List (List ℕ) → Result Ask LineFault
+ask_at place u = let own = own_count u in
+    then_do (counts_at place (take own u)) (λ ns. then_do (most_at (place + own) (drop own u)) (λ most. Ok (ask_of ns most)))
 
 abbrev pub asks_at : ℕ → List (List (List ℕ)) → Result (List Ask) LineFault
 asks_at place [] = Ok []
-asks_at place (u ∷ us) = then_do (counts_at place u) (λ ns. then_do (asks_at (place + length u + 1) us) (λ asks. Ok (ask_of ns ∷ asks)))
+asks_at place (u ∷ us) = then_do (ask_at place u) (λ ask. then_do (asks_at (place + length u + 1) us) (λ asks. Ok (ask ∷ asks)))
 
 -- The event of a line with these numbers and units
 abbrev pub app_no : ℕ → AppNo

@@ -1,6 +1,7 @@
 -- How an event is written: its words, with a blank between two of them.
-use Rattle.std.specs.Prelude.{◌≡◌, ℕ, ◌<◌, ◌^◌, ◌≤◌, Bool, true, false, cond, List, [], ◌∷◌, ◌++◌, length, take, map, codes, decimal}
+use Rattle.std.specs.Prelude.{◌≡◌, ℕ, ◌<◌, ◌^◌, ◌≤◌, Bool, true, false, cond, nat_eq, List, [], ◌∷◌, ◌++◌, length, take, map, codes, decimal}
 use Rattle.std.specs.List.{flat_map, AllByRecursion}
+use Rattle.fuxi_terms.specs.Limits.{greatest_count}
 use Rattle.schedule_unit.specs.declared.asks.Ask.{Ask}
 use Rattle.schedule_text.specs.declared.event.Event.{Event}
 use Rattle.schedule_text.specs.declared.event.Event.TheVariants.{Master as MasterEvent, Stop as StopEvent, Agent as AgentEvent, App as AppEvent, Submit as SubmitEvent, Finish as FinishEvent, Ban as BanEvent, Unban as UnbanEvent, Begin as BeginEvent, Preempt as PreemptEvent, Want as WantEvent, Near as NearEvent, Rack as RackEvent, Avoid as AvoidEvent, Back as BackEvent, TurnMaster as TurnMasterEvent, TurnAgent as TurnAgentEvent, TurnApp as TurnAppEvent, ResyncMaster as ResyncMasterEvent, ResyncAgent as ResyncAgentEvent, ResyncApp as ResyncAppEvent, Deliver as DeliverEvent, DeliverRange as DeliverRangeEvent, Dump as DumpEvent, Show as ShowEvent}
@@ -48,9 +49,13 @@ saying_of (DeliverRangeEvent k l) = says DeliverRange (k ∷ l ∷ [])
 saying_of (DumpEvent k) = says Dump (k ∷ [])
 saying_of ShowEvent = says Show []
 
--- The words of an event: those of its line, its numbers, and the units with a slash between two of them
+-- The words of an event: those of its line, its numbers, and the units with a slash between two of them. The bound of a unit is written where
+-- its number is not the greatest
+abbrev pub most_words : ℕ → List (List ℕ)
+most_words n = cond (nat_eq n greatest_count) [] (codes "most" ∷ decimal n ∷ [])
+
 abbrev pub ask_words : Ask → List (List ℕ)
-ask_words a = decimal a.priority ∷ map decimal a.quantities
+ask_words a = decimal a.priority ∷ (map decimal a.quantities ++ most_words a.most)
 
 abbrev pub asks_words : List Ask → List (List ℕ)
 asks_words [] = []
@@ -70,8 +75,8 @@ spaced (w ∷ ws) = w ++ blanked ws
 abbrev pub event_text : Event → List ℕ
 event_text e = spaced (saying_words (saying_of e))
 
--- The events that a line can give: each number is in the range of its place, and a submission has units, each with a priority
--- and 1 to 8 quantities
+-- The events that a line can give: each number is in the range of its place, and a submission has units, each with a priority,
+-- 1 to 8 quantities and the number of a bound
 abbrev pub AreWithin : ℕ → List Place → List ℕ → Type 0
 AreWithin before [] [] = Unit {0}
 AreWithin before [] (n ∷ ns) = ⊥
@@ -83,6 +88,7 @@ pub record IsAsk (a : Ask) : Type 0 where
   pub some : 1 ≤ length a.quantities
   pub few : length a.quantities ≤ 8
   pub quantities : AllByRecursion (λ q. q < 2 ^ 64) a.quantities
+  pub most : a.most < 2 ^ 64
 
 -- units stand where they are wanted
 abbrev pub AreAsks : Bool → List Ask → Type 0

@@ -1,10 +1,10 @@
 //! Event lines are read.
 
-ghost use Rattle.std.specs.Prelude.{◌≡◌, true, ℕ, ◌+◌, ◌^◌, ◌<◌, ◌≤◌, List, IfOk, IfErr, IfSome, Ok, Err, map, length, take, drop, slice_index, slice_get, get_or, Some};
+ghost use Rattle.std.specs.Prelude.{◌≡◌, true, ℕ, ◌+◌, ◌^◌, ◌<◌, ◌≤◌, List, ◌∷◌, IfOk, IfErr, IfSome, Ok, Err, map, length, take, drop, slice_index, slice_get, get_or, Some};
 ghost use Rattle.std.specs.List.{find, list_all, list_any};
 ghost use Rattle.fuxi_terms.specs.Counts.{then_do};
 ghost use Rattle.schedule_text.specs.Forms.{Shape, shape_of, heads, as_shape, IsNarrow};
-ghost use Rattle.schedule_text.specs.Reading.{begins, is_head, has_count, is_unit, units_of, head_of, number_at, numbers_at, counts_at, ask_of, asks_at, asks_of, event_at, event_behind, event_of, front, IsFault};
+ghost use Rattle.schedule_text.specs.Reading.{begins, is_head, has_count, own_count, is_unit, units_of, head_of, number_at, numbers_at, counts_at, most_at, ask_at, asks_at, asks_of, event_at, event_behind, event_of, front, IsFault};
 ghost use Rattle.schedule_text.specs.Writing.{IsLineEvent};
 ghost use Rattle.schedule_text.specs.declared.event.Event.{Event as AnyEvent};
 ghost use Rattle.schedule_text.specs.declared.form.Place.TheVariants.{Incarnation as IncarnationPlace};
@@ -14,12 +14,13 @@ use crate::form::{Form, HEADS, Head, Place, form_of, is_within};
 use crate::make::make_event;
 use crate::word::words_of;
 use fuxi_terms::OutOfMemory;
+use fuxi_terms::limits::GREATEST_COUNT;
 use schedule_unit::{Ask, Asks, Quantities, read_number};
 use std::alloc::Global;
 
 /// The event of a line, which has no newline. The first test that fails decides: the first word, and the
 /// second of a turn or a resync, is known; the line has as many words as its event; and place by place the word
-/// is a number, and within its range.
+/// is a number, and within its range. The last two words of a unit may be `most` and a number.
 pub fn read_event(alloc: Global, line: &[u8]) -> Result<Event, LineFault>
     ensures ok { IfOk result (λ event. event_of line.now ≡ Ok event) }
     ensures fault { IfErr result (IsFault (event_of line.now)) }
@@ -91,7 +92,25 @@ fn are_units(words: &[&[u8]]) -> bool
 {
     words
         .split(|word| *word == b"/".as_slice())
-        .all(|unit| (2..=9).contains(&unit.len()))
+        .all(|unit| is_unit(unit))
+}
+
+// Whether these are the words of a unit.
+fn is_unit(words: &[&[u8]]) -> bool
+    ensures { result ≡ is_unit (map (λ w. w.now) words.now) }
+{
+    (2..=9).contains(&own_count(words))
+}
+
+// How many words a unit has beside its bound, which `most` and the last word are.
+fn own_count(words: &[&[u8]]) -> usize
+    ensures value { result ≡ own_count (map (λ w. w.now) words.now) }
+    ensures within { result ≤ length words.now }
+{
+    match words {
+        [own @ .., word, _] if *word == b"most".as_slice() => own.len(),
+        _ => words.len(),
+    }
 }
 
 // The number at a place of the line, with the number before it.
@@ -170,11 +189,26 @@ fn quantities_at(alloc: Global, first: usize, words: &[&[u8]]) -> Result<Quantit
     Ok(quantities)
 }
 
+// The number of a bound, which stands from a place of the line on, and the greatest where there is none.
+fn most_at(place: usize, bound: &[&[u8]]) -> Result<u64, LineFault>
+    requires { place + length bound.now < 2 ^ 63 }
+    ensures { result ≡ most_at place (map (λ w. w.now) bound.now) }
+{
+    match bound {
+        [_, word, ..] => number_at(Place::Count, place + 1, 0, word),
+        _ => Ok(GREATEST_COUNT),
+    }
+}
+
 // A priority and quantities, which stand from a place of the line on.
-fn ask_at(alloc: Global, first: usize, words: &[&[u8]]) -> Result<Ask, LineFault>
+fn own_at(
+    alloc: Global,
+    first: usize,
+    words: &[&[u8]],
+) -> Result<(u64, Quantities), LineFault>
     requires range { first + length words.now < 2 ^ 63 }
     requires some { 1 ≤ length words.now }
-    ensures ok { IfOk result (λ ask. then_do (counts_at first (map (λ w. w.now) words.now)) (λ ns. Ok (ask_of ns)) ≡ Ok ask) }
+    ensures ok { IfOk result (λ own. counts_at first (map (λ w. w.now) words.now) ≡ Ok (own.0 ∷ own.1)) }
     ensures fault { IfErr result (IsFault (counts_at first (map (λ w. w.now) words.now))) }
 {
     let [word, others @ ..] = words else {
@@ -182,10 +216,29 @@ fn ask_at(alloc: Global, first: usize, words: &[&[u8]]) -> Result<Ask, LineFault
     };
     let priority = number_at(Place::Count, first, 0, word)?;
     let quantities = quantities_at(alloc, first + 1, others)?;
-    Ok(Ask {
-        priority,
-        quantities,
-    })
+    Ok((priority, quantities))
+}
+
+// A unit, which stands from a place of the line on.
+fn ask_at(alloc: Global, first: usize, words: &[&[u8]]) -> Result<Ask, LineFault>
+    requires range { first + length words.now < 2 ^ 63 }
+    requires unit { is_unit (map (λ w. w.now) words.now) ≡ true }
+    ensures ok { IfOk result (λ ask. ask_at first (map (λ w. w.now) words.now) ≡ Ok ask) }
+    ensures fault { IfErr result (IsFault (ask_at first (map (λ w. w.now) words.now))) }
+{
+    let (own, bound) = words.split_at(own_count(words));
+    let (priority, quantities) = match own_at(alloc, first, own) {
+        Ok(own) => own,
+        Err(fault) => return Err(fault),
+    };
+    match most_at(first + own.len(), bound) {
+        Ok(most) => Ok(Ask {
+            priority,
+            quantities,
+            most,
+        }),
+        Err(fault) => Err(fault),
+    }
 }
 
 // The words of each unit.

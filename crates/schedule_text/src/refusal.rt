@@ -66,6 +66,8 @@ pub enum Refusal {
     QuantityRange(UnitNo),
     /// Each quantity of the unit is 0.
     ZeroSize(UnitNo),
+    /// The greatest number of the unit's grants on one machine is 0 or above 100,000.
+    MostRange(UnitNo),
 }
 
 // The name of a refusal, and its value where it has one.
@@ -101,6 +103,7 @@ pub fn push_refusal(out: &mut Vec<u8>, refusal: &Refusal) -> Result<(), OutOfMem
         Refusal::PriorityRange(unit) => push_name(out, b"PriorityRange", &[unit.0 as u64]),
         Refusal::QuantityRange(unit) => push_name(out, b"QuantityRange", &[unit.0 as u64]),
         Refusal::ZeroSize(unit) => push_name(out, b"ZeroSize", &[unit.0 as u64]),
+        Refusal::MostRange(unit) => push_name(out, b"MostRange", &[unit.0 as u64]),
     }
 }
 

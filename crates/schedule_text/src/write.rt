@@ -4,12 +4,13 @@ ghost use Rattle.std.specs.Prelude.{◌≡◌, ◌<◌, ◌≤◌, ◌++◌, ◌
 ghost use Rattle.std.specs.List.{flat_map};
 ghost use Rattle.schedule_text.specs.Forms.{shape_of};
 ghost use Rattle.schedule_text.specs.Reading.{event_of};
-ghost use Rattle.schedule_text.specs.Writing.{says, saying_of, saying_words, ask_words, asks_words, blanked, spaced, event_text, Begins, IsLineEvent};
+ghost use Rattle.schedule_text.specs.Writing.{says, saying_of, saying_words, most_words, ask_words, asks_words, blanked, spaced, event_text, Begins, IsLineEvent};
 ghost use Rattle.schedule_text.specs.declared.event.Event.{Event as AnyEvent};
 
 use crate::event::Event;
 use crate::form::{Head, form_of};
 use fuxi_terms::OutOfMemory;
+use fuxi_terms::limits::GREATEST_COUNT;
 use schedule_unit::{Ask, numbers, write_number};
 
 /// Appends the line of an event, without a newline. Leaves `out` as it was where memory was refused.
@@ -175,7 +176,20 @@ fn push_ask(out: &mut Vec<u8>, ask: &Ask) -> Result<(), OutOfMemory>
     ensures err { OnErr result (Begins out.old.items out.new.items) }
 {
     push_numbers(out, &[ask.priority])?;
-    push_numbers(out, ask.quantities.as_slice())
+    push_numbers(out, ask.quantities.as_slice())?;
+    push_most(out, ask.most)
+}
+
+// The bound of a unit, where its number is not the greatest.
+fn push_most(out: &mut Vec<u8>, most: u64) -> Result<(), OutOfMemory>
+    ensures ok { OnOk result (out.new.items ≡ out.old.items ++ blanked (most_words most)) }
+    ensures err { OnErr result (Begins out.old.items out.new.items) }
+{
+    if most == GREATEST_COUNT {
+        return Ok(());
+    }
+    push_blanked(out, b"most")?;
+    push_numbers(out, &[most])
 }
 
 /// Each event that a line can give is read back from its line.

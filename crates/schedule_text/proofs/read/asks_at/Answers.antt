@@ -1,18 +1,17 @@
-use Rattle.std.proofs.Common.{◌≡◌, ℕ, ◌+◌, ◌≤◌, List, [], ◌∷◌, codes, length, map, drop, get_or, Bor, sym, ◌∙◌, ap, subst, arith}
+use Rattle.std.proofs.Common.{◌≡◌, ℕ, ◌+◌, List, [], ◌∷◌, codes, length, map, drop, get_or, Bor, sym, ◌∙◌, ap, arith}
 use Rattle.std.proofs.lemmas.List.{length-map}
 use Rattle.std.proofs.lemmas.List.Sums.{sum_by-cons}
 use Rattle.std.specs.Str.{bytes_eq}
 use Rattle.std.specs.List.{sum_by}
 use Rattle.schedule_text.specs.Reading.{units_of, asks_at, is_unit}
 use Rattle.schedule_text.proofs.Pieces.{parts_counted}
-use Rattle.schedule_text.proofs.Walks.{then_ok, behind_at, asks_step, asks_fault, unit_some, first_passes}
+use Rattle.schedule_text.proofs.Walks.{then_ok, behind_at, asks_step, asks_fault, first_passes}
 use Rattle.schedule_text.proofs.read.asks_at.Goals as goal
 
 -- a unit as it is read
 abbrev seen : Bor (List (Bor (List ℕ))) → List (List ℕ)
 seen u = map (λ (w : Bor (List ℕ)). w.now) u.now
 
--- the unit at the loop's index, and what is behind it
 -- the unit at the loop's index, and what is behind it
 pub loop-unit-init : goal.loop-unit-init
 loop-unit-init c =
@@ -25,12 +24,11 @@ loop-unit-init c =
       some = rw all c.requires.units;
     }
 
-pub ask_at-requires-clause-some : goal.ask_at-requires-clause-some
-ask_at-requires-clause-some c =
+pub ask_at-requires-clause-unit : goal.ask_at-requires-clause-unit
+ask_at-requires-clause-unit c =
     let unit = get_or c.deref-unit-items.result.now c.loop-unit.unit-index (record { ref_ptr = (0, 0); now = [] }) in
     let here = rw (behind_at seen c.deref-unit-items.result.now c.loop-unit.unit-index (record { ref_ptr = (0, 0); now = [] }) c.loop-unit-test.true) at c.loop-unit.invariant.some in
-    let passes = first_passes is_unit (seen unit) (drop (c.loop-unit.unit-index + 1) (map seen c.deref-unit-items.result.now)) here in
-    subst (λ n. 1 ≤ n) (length-map unit.now (λ (w : Bor (List ℕ)). w.now)) (unit_some (seen unit) passes.0)
+    (first_passes is_unit (seen unit) (drop (c.loop-unit.unit-index + 1) (map seen c.deref-unit-items.result.now)) here).0
 
 pub returns-in-Err-clause-fault : goal.returns-in-Err-clause-fault
 returns-in-Err-clause-fault c =
