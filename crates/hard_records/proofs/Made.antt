@@ -7,15 +7,15 @@ use Rattle.std.specs.Int.{from_be_bytes, w32}
 use Rattle.std.specs.Bool.{if◌then◌else◌}
 use Rattle.std.specs.Option.{option_or}
 use Rattle.std.specs.List.{list_all}
-use Rattle.fuxi_terms.specs.Cluster.{JobRecord, is_valid_job, is_valid_unit, are_quantities, is_priority, is_vector_of}
+use Rattle.fuxi_terms.specs.Cluster.{JobRecord, is_valid_job, is_valid_unit, are_quantities, is_priority, is_size, is_most, is_vector_of}
 use Rattle.fuxi_terms.specs.Vectors.{is_zero}
 use Rattle.fuxi_terms.proofs.Booleans.{both_true}
 use Rattle.schedule_unit.specs.declared.asks.Ask.{Ask}
 use Rattle.schedule_unit.specs.declared.job.JobFault.{JobFault}
-use Rattle.schedule_unit.specs.declared.job.JobFault.TheVariants.{NoUnits, TooManyUnits, Dimensions, PriorityRange, QuantityRange, ZeroSize, OutOfMemory}
+use Rattle.schedule_unit.specs.declared.job.JobFault.TheVariants.{NoUnits, TooManyUnits, Dimensions, PriorityRange, QuantityRange, ZeroSize, MostRange, OutOfMemory}
 use Rattle.schedule_unit.specs.JobFaults.{unit_no, unit_fault, first_unit_fault, job_fault, unit_asked, IsFault, IsMade}
 use Rattle.hard_records.specs.Asked.{unit_of}
-use Rattle.hard_records.specs.Bodies.{units_in, job_in, job_found}
+use Rattle.hard_records.specs.Bodies.{unit_size, units_in, job_in, job_found}
 use Rattle.hard_records.proofs.Back.{sound_of}
 
 neither : (a b : Option JobFault) → option_or a b ≡ None → (a ≡ None) × (b ≡ None)
@@ -27,7 +27,7 @@ eight : (u : ℕ) (ask : Ask) → unit_fault 8 u ask ≡ None → length ask.qua
 eight u ask none = go (nat_eq (length ask.quantities) 8) refl none
   where
     others : Option JobFault
-    others = if not (is_priority ask.priority) then Some (PriorityRange (unit_no u)) else (if not (are_quantities ask.quantities) then Some (QuantityRange (unit_no u)) else (if is_zero ask.quantities then Some (ZeroSize (unit_no u)) else None))
+    others = if not (is_priority ask.priority) then Some (PriorityRange (unit_no u)) else (if not (are_quantities ask.quantities) then Some (QuantityRange (unit_no u)) else (if is_zero ask.quantities then Some (ZeroSize (unit_no u)) else (if not (is_most ask.most) then Some (MostRange (unit_no u)) else None)))
 
     go : (b : Bool) → nat_eq (length ask.quantities) 8 ≡ b → (if not b then Some (Dimensions (unit_no u)) else others) ≡ None → length ask.quantities ≡ 8
     go true is none = grind (arith, nat_tests)
@@ -36,7 +36,7 @@ eight u ask none = go (nat_eq (length ask.quantities) 8) refl none
 unit_same : (ask : Ask) → length ask.quantities ≡ 8 → unit_asked ask ≡ unit_of ask
 unit_same ask long =
     let nothing : 8 - length ask.quantities ≡ 0 = omega (arith, long) in
-    (λ i. record { priority = ask.priority; size = (ap (λ n. ask.quantities ++ replicate n 0) nothing ∙ append-nil ask.quantities) i })
+    (λ i. record { priority = ask.priority; size = (ap (λ n. ask.quantities ++ replicate n 0) nothing ∙ append-nil ask.quantities) i; most = ask.most })
 
 units_same : (u : ℕ) (asks : List Ask) → first_unit_fault 8 u asks ≡ None → map unit_asked asks ≡ map unit_of asks
 units_same u [] none = refl
@@ -61,18 +61,20 @@ made_is number group asks job made = made.1 ∙ ap (λ us. record { number = num
 -- a valid job has no fault
 unit_valid : (u : ℕ) (ask : Ask) → is_valid_unit 8 (unit_of ask) ≡ true → unit_fault 8 u ask ≡ None
 unit_valid u ask ok =
-    let unit = both_true (is_priority ask.priority) (is_vector_of 8 ask.quantities && not (is_zero ask.quantities)) ok in
-    let vector = both_true (is_vector_of 8 ask.quantities) (not (is_zero ask.quantities)) unit.1 in
+    let unit = both_true (is_priority ask.priority) (is_size 8 ask.quantities && is_most ask.most) ok in
+    let parts = both_true (is_size 8 ask.quantities) (is_most ask.most) unit.1 in
+    let vector = both_true (is_vector_of 8 ask.quantities) (not (is_zero ask.quantities)) parts.0 in
     let size = both_true (nat_eq (length ask.quantities) 8) (are_quantities ask.quantities) vector.0 in
-    go (nat_eq (length ask.quantities) 8) (is_priority ask.priority) (are_quantities ask.quantities) (is_zero ask.quantities) size.0 unit.0 size.1 vector.1
+    go (nat_eq (length ask.quantities) 8) (is_priority ask.priority) (are_quantities ask.quantities) (is_zero ask.quantities) (is_most ask.most) size.0 unit.0 size.1 vector.1 parts.1
   where
-    go : (a b c d : Bool) → a ≡ true → b ≡ true → c ≡ true → not d ≡ true
-        → (if not a then Some (Dimensions (unit_no u)) else (if not b then Some (PriorityRange (unit_no u)) else (if not c then Some (QuantityRange (unit_no u)) else (if d then Some (ZeroSize (unit_no u)) else None)))) ≡ None
-    go true true true false a b c d = refl
-    go true true true true a b c d = absurd (cc)
-    go true true false z a b c d = absurd (cc)
-    go true false y z a b c d = absurd (cc)
-    go false x y z a b c d = absurd (cc)
+    go : (a b c d e : Bool) → a ≡ true → b ≡ true → c ≡ true → not d ≡ true → e ≡ true
+        → (if not a then Some (Dimensions (unit_no u)) else (if not b then Some (PriorityRange (unit_no u)) else (if not c then Some (QuantityRange (unit_no u)) else (if d then Some (ZeroSize (unit_no u)) else (if not e then Some (MostRange (unit_no u)) else None))))) ≡ None
+    go true true true false true a b c d e = refl
+    go true true true false false a b c d e = absurd (cc)
+    go true true true true w a b c d e = absurd (cc)
+    go true true false z w a b c d e = absurd (cc)
+    go true false y z w a b c d e = absurd (cc)
+    go false x y z w a b c d e = absurd (cc)
 
 units_valid : (u : ℕ) (asks : List Ask) → list_all (is_valid_unit 8) (map unit_of asks) ≡ true → first_unit_fault 8 u asks ≡ None
 units_valid u [] ok = refl
@@ -91,29 +93,29 @@ job_valid number group asks ok =
     ap (λ (p : Bool × Bool). if p.0 then Some NoUnits else (if p.1 then Some TooManyUnits else first_unit_fault 8 0 asks)) (λ i. (not_none i, not_many i)) ∙ units_valid 0 asks s.units
 
 -- what was read of the bytes of a job
-pub record IsReadOf (bytes : List ℕ) (number group : ℕ) (asks : List Ask) : Type 0 where
-  pub long : length bytes ≡ 9 + 65 * slice_index bytes 8
+pub record IsReadOf (version : ℕ) (bytes : List ℕ) (number group : ℕ) (asks : List Ask) : Type 0 where
+  pub long : length bytes ≡ 9 + unit_size version * slice_index bytes 8
   pub number_is : number ≡ from_be_bytes w32 bytes
   pub group_is : group ≡ from_be_bytes w32 (drop 4 bytes)
-  pub units_are : map unit_of asks ≡ units_in (slice_index bytes 8) (drop 9 bytes)
+  pub units_are : map unit_of asks ≡ units_in version (slice_index bytes 8) (drop 9 bytes)
 
-module _ (bytes : List ℕ) (number group : ℕ) (asks : List Ask) (read : IsReadOf bytes number group asks) where
-  job_same : job_of number group asks ≡ job_in bytes
+module _ (version : ℕ) (bytes : List ℕ) (number group : ℕ) (asks : List Ask) (read : IsReadOf version bytes number group asks) where
+  job_same : job_of number group asks ≡ job_in version bytes
   job_same = (λ i. record { number = read.number_is i; group = read.group_is i; units = read.units_are i })
 
-  found : (b : Bool) → is_valid_job 8 (job_in bytes) ≡ b → job_found bytes ≡ cond b (Some (job_in bytes)) None
+  found : (b : Bool) → is_valid_job 8 (job_in version bytes) ≡ b → job_found version bytes ≡ cond b (Some (job_in version bytes)) None
   found b is =
       let long = read.long in
-      let length_is : nat_eq (length bytes) (9 + 65 * slice_index bytes 8) ≡ true = grind (arith, nat_tests) in
-      ap (λ (p : Bool × Bool). cond (p.0 && p.1) (Some (job_in bytes)) None) (λ i. (length_is i, is i))
+      let length_is : nat_eq (length bytes) (9 + unit_size version * slice_index bytes 8) ≡ true = grind (arith, nat_tests) in
+      ap (λ (p : Bool × Bool). cond (p.0 && p.1) (Some (job_in version bytes)) None) (λ i. (length_is i, is i))
 
-  pub job_was_made : (job : JobRecord) → IsMade number group 8 asks (Ok job) → is_valid_job 8 job ≡ true → Some job ≡ job_found bytes
+  pub job_was_made : (job : JobRecord) → IsMade number group 8 asks (Ok job) → is_valid_job 8 job ≡ true → Some job ≡ job_found version bytes
   job_was_made job made valid =
-      let same : job ≡ job_in bytes = made_is number group asks job made ∙ job_same in
+      let same : job ≡ job_in version bytes = made_is number group asks job made ∙ job_same in
       ap Some same ∙ sym (found true (subst (λ (j : JobRecord). is_valid_job 8 j ≡ true) same valid))
 
-  pub job_was_refused : (fault : JobFault) → fault ≢ OutOfMemory → IsMade number group 8 asks (Err fault) → None ≡ job_found bytes
-  job_was_refused fault other is = sym (found false (go (is_valid_job 8 (job_in bytes)) refl))
+  pub job_was_refused : (fault : JobFault) → fault ≢ OutOfMemory → IsMade number group 8 asks (Err fault) → None ≡ job_found version bytes
+  job_was_refused fault other is = sym (found false (go (is_valid_job 8 (job_in version bytes)) refl))
     where
       no_fault : (f : JobFault) → f ≢ OutOfMemory → IsFault None f → ⊥
       no_fault NoUnits other is = cc
@@ -122,8 +124,9 @@ module _ (bytes : List ℕ) (number group : ℕ) (asks : List Ask) (read : IsRea
       no_fault (PriorityRange u) other is = cc
       no_fault (QuantityRange u) other is = cc
       no_fault (ZeroSize u) other is = cc
+      no_fault (MostRange u) other is = cc
       no_fault OutOfMemory other is = other refl
 
-      go : (b : Bool) → is_valid_job 8 (job_in bytes) ≡ b → b ≡ false
+      go : (b : Bool) → is_valid_job 8 (job_in version bytes) ≡ b → b ≡ false
       go false valid = refl
       go true valid = absurd (no_fault fault other (subst (λ o. IsFault o fault) (job_valid number group asks (subst (λ (j : JobRecord). is_valid_job 8 j ≡ true) (sym job_same) valid)) is))

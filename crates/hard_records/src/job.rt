@@ -3,11 +3,11 @@ ghost use Rattle.std.specs.Int.{to_be_bytes, w64};
 ghost use Rattle.std.specs.List.{flat_map};
 ghost use Rattle.fuxi_terms.specs.Cluster.{is_valid_job};
 ghost use Rattle.schedule_unit.specs.Units.{unit_record};
-ghost use Rattle.hard_records.specs.Bodies.{job_bytes, unit_bytes, quantities_in, unit_in, units_in, job_found};
+ghost use Rattle.hard_records.specs.Bodies.{job_bytes, unit_bytes, quantities_in, unit_size, most_in, unit_in, units_in, job_found};
 ghost use Rattle.hard_records.specs.Asked.{unit_of};
 
 use fuxi_terms::OutOfMemory;
-use fuxi_terms::limits::{MOST_GROUPS, MOST_JOBS};
+use fuxi_terms::limits::{GREATEST_COUNT, MOST_GROUPS, MOST_JOBS};
 use schedule_unit::{AppNo, Ask, Asks, GroupNo, Job, JobFault, Quantities, Unit, UnitNo};
 use std::alloc::Global;
 
@@ -34,7 +34,9 @@ fn write_unit(unit: &Unit, out: &mut Vec<u8>) -> Result<(), OutOfMemory>
     ensures { OnOk result (out.new.items ≡ out.old.items ++ unit_bytes (unit_record unit.now)) }
 {
     out.push(unit.priority)?;
-    write_size(&unit.size.q, out)
+    write_size(&unit.size.q, out)?;
+    out.extend_from_slice(&unit.most.to_be_bytes())?;
+    Ok(())
 }
 
 fn write_size(size: &[u64; 8], out: &mut Vec<u8>) -> Result<(), OutOfMemory>
@@ -59,40 +61,61 @@ fn read_quantities(alloc: Global, bytes: &[u8]) -> Result<Quantities, OutOfMemor
     Ok(quantities)
 }
 
-fn read_unit(alloc: Global, bytes: &[u8]) -> Result<Ask, OutOfMemory>
-    requires { length bytes.now ≡ 65 }
-    ensures { IfOk result (λ ask. unit_of ask ≡ unit_in bytes.now) }
+// The bytes of a unit.
+fn unit_size(version: u8) -> usize
+    ensures size { result ≡ unit_size version }
+    ensures few { result ≤ 69 }
+{
+    if version == 1 { 65 } else { 69 }
+}
+
+// The greatest number per machine of the unit that these bytes begin with.
+fn read_most(version: u8, bytes: &[u8]) -> u64
+    requires { unit_size version ≤ length bytes.now }
+    ensures { result ≡ most_in version bytes.now }
+{
+    if version == 1 {
+        return GREATEST_COUNT;
+    }
+    u32::from_be_bytes([bytes[65], bytes[66], bytes[67], bytes[68]]) as u64
+}
+
+// The unit that these bytes begin with.
+fn read_unit(alloc: Global, version: u8, bytes: &[u8]) -> Result<Ask, OutOfMemory>
+    requires { unit_size version ≤ length bytes.now }
+    ensures { IfOk result (λ ask. unit_of ask ≡ unit_in version bytes.now) }
 {
     let quantities = read_quantities(alloc, &bytes[1..65])?;
     Ok(Ask {
         priority: bytes[0] as u64,
         quantities,
+        most: read_most(version, bytes),
     })
 }
 
-fn read_units(alloc: Global, units: usize, bytes: &[u8]) -> Result<Asks, OutOfMemory>
-    requires few { units ≤ 255 }
-    requires long { length bytes.now ≡ 65 * units }
-    ensures { IfOk result (λ asks. map unit_of asks ≡ units_in units bytes.now) }
+fn read_units(alloc: Global, version: u8, units: usize, bytes: &[u8]) -> Result<Asks, OutOfMemory>
+    requires { length bytes.now ≡ unit_size version * units }
+    ensures { IfOk result (λ asks. map unit_of asks ≡ units_in version units bytes.now) }
 {
     let mut asks = Asks::new(alloc);
+    let mut rest = bytes;
     for number in 0..units {
-        let at = 65 * number;
-        asks.push(read_unit(alloc, &bytes[at..at + 65])?)?;
+        asks.push(read_unit(alloc, version, rest)?)?;
+        rest = &rest[unit_size(version)..];
     }
     Ok(asks)
 }
 
-// The job of these bytes, where they are exactly one.
-pub fn read_job(alloc: Global, bytes: &[u8]) -> Result<Option<Job>, OutOfMemory>
-    ensures found { IfOk result (λ found. found ≡ job_found bytes.now) }
+// The job of these bytes in a record of this version, where they are exactly one.
+pub fn read_job(alloc: Global, version: u8, bytes: &[u8]) -> Result<Option<Job>, OutOfMemory>
+    ensures found { IfOk result (λ found. found ≡ job_found version bytes.now) }
     ensures valid { IfOk result (λ found. IfSome found (λ job. is_valid_job 8 job ≡ true)) }
 {
     if bytes.len() < 9 {
         return Ok(None);
     }
     let units = bytes[8] as usize;
-    if bytes.len() != 9 + 65 * units {
+    if bytes.len() != 9 + unit_size(version) * units {
         return Ok(None);
     }
     let number = u32::from_be_bytes([bytes[0], bytes[1], bytes[2], bytes[3]]);
@@ -100,7 +123,7 @@ pub fn read_job(alloc: Global, bytes: &[u8]) -> Result<Option<Job>, OutOfMemory>
     if number >= MOST_JOBS || group >= MOST_GROUPS as u32 {
         return Ok(None);
     }
-    let asks = match read_units(alloc, units, &bytes[9..]) {
+    let asks = match read_units(alloc, version, units, &bytes[9..]) {
         Ok(asks) => asks,
         Err(OutOfMemory) => return Err(OutOfMemory),
     };

@@ -1,7 +1,7 @@
 ghost use Rattle.std.specs.Prelude.{◌≡◌, ◌≤◌, ℕ, List, ◌++◌, ◌∷◌, length, IfOk, IfSome, OnOk, Some, ◌<◌, ◌^◌};
 ghost use Rattle.std.specs.Int.{to_be_bytes, w32};
 ghost use Rattle.hard_records.specs.declared.records.Record.{Record as RecordSeen};
-ghost use Rattle.hard_records.specs.Bodies.{body_of, record_in, record_of_kind, epoch_found, number_found, IsWithinLimits};
+ghost use Rattle.hard_records.specs.Bodies.{body_of, record_in, record_of_kind, is_version, epoch_found, number_found, IsWithinLimits};
 
 use crate::job::{read_job, write_job};
 use fuxi_terms::OutOfMemory;
@@ -24,9 +24,10 @@ pub enum Record {
     Unban(MachineNo),
 }
 
-/// Appends the body of a record: the byte 1 for the version, the byte of its kind, and then for a fence the epoch (8 bytes,
-/// as all numbers with the greatest byte first); for a job its number (4), its group (4), the number of its units (1), and of
-/// each unit the priority (1) and eight quantities (8 each); else the number of the job or machine (4).
+/// Appends the body of a record: the byte of its version, 2 for a job and else 1, the byte of its kind, and then for a fence
+/// the epoch (8 bytes, as all numbers with the greatest byte first); for a job its number (4), its group (4), the number of
+/// its units (1), and of each unit the priority (1), eight quantities (8 each) and the greatest number of grants on one
+/// machine (4); else the number of the job or machine (4).
 ///
 /// After `OutOfMemory` a part may be appended.
 pub fn write_record(written: &Record, out: &mut Vec<u8>) -> Result<(), OutOfMemory>
@@ -38,7 +39,7 @@ pub fn write_record(written: &Record, out: &mut Vec<u8>) -> Result<(), OutOfMemo
             out.extend_from_slice(&epoch.to_be_bytes())?;
         }
         Record::Submission(job) => {
-            out.extend_from_slice(&[1, 2])?;
+            out.extend_from_slice(&[2, 2])?;
             write_job(job, out)?;
         }
         Record::Finish(app) => write_number(3, app.0, out)?,
@@ -80,8 +81,16 @@ fn read_number(most: u32, bytes: &[u8]) -> Option<u32>
     if number < most { Some(number) } else { None }
 }
 
+// A job has two versions, and each other record one.
+fn is_version(version: u8, kind: u8) -> bool
+    ensures { result ≡ is_version version kind }
+{
+    version == 1 || (version == 2 && kind == 2)
+}
+
 /// The record of this body, or `None` where it is the body of none: where its version, its kind or its length is another, or
-/// one of its numbers is out of the limits.
+/// one of its numbers is out of the limits. A job is read in version 1 too, where the units have no greatest number of grants
+/// on one machine: that is then the greatest there is, 100,000.
 #[tactic(auto, unfolding(crate::specs::Bodies::record_in))]
 pub fn read_record(alloc: Global, body: &[u8]) -> Result<Option<Record>, OutOfMemory>
     ensures found { IfOk result (λ found. found ≡ record_in body.now) }
@@ -90,15 +99,20 @@ pub fn read_record(alloc: Global, body: &[u8]) -> Result<Option<Record>, OutOfMe
     let [version, kind, bytes @ ..] = body else {
         return Ok(None);
     };
-    if *version != 1 {
+    if !is_version(*version, *kind) {
         return Ok(None);
     }
-    read_kind(alloc, *kind, bytes)
+    read_kind(alloc, *version, *kind, bytes)
 }
 
-// The record of this kind.
-fn read_kind(alloc: Global, kind: u8, bytes: &[u8]) -> Result<Option<Record>, OutOfMemory>
-    ensures found { IfOk result (λ found. found ≡ record_of_kind kind bytes.now) }
+// The record of this version and kind.
+fn read_kind(
+    alloc: Global,
+    version: u8,
+    kind: u8,
+    bytes: &[u8],
+) -> Result<Option<Record>, OutOfMemory>
+    ensures found { IfOk result (λ found. found ≡ record_of_kind version kind bytes.now) }
     ensures within { IfOk result (λ found. IfSome found IsWithinLimits) }
 {
     if kind == 1 {
@@ -108,7 +122,7 @@ fn read_kind(alloc: Global, kind: u8, bytes: &[u8]) -> Result<Option<Record>, Ou
         };
     }
     if kind == 2 {
-        return match read_job(alloc, bytes)? {
+        return match read_job(alloc, version, bytes)? {
             Some(job) => Ok(Some(Record::Submission(job))),
             None => Ok(None),
         };
@@ -134,9 +148,9 @@ fn read_kind(alloc: Global, kind: u8, bytes: &[u8]) -> Result<Option<Record>, Ou
     Ok(None)
 }
 
-/// What is written of a record within the limits is read back as that record, and has at most 531 bytes.
+/// What is written of a record within the limits is read back as that record, and has at most 563 bytes.
 pub fn written_is_read()
     ensures read { (r : RecordSeen) → IsWithinLimits r → record_in (body_of r) ≡ Some r }
-    ensures short { (r : RecordSeen) → IsWithinLimits r → length (body_of r) ≤ 531 }
-    ensures only { (body : List ℕ) (r : RecordSeen) → record_in body ≡ Some r → length body ≤ 531 }
+    ensures short { (r : RecordSeen) → IsWithinLimits r → length (body_of r) ≤ 563 }
+    ensures only { (body : List ℕ) (r : RecordSeen) → record_in body ≡ Some r → length body ≤ 563 }
 {}

@@ -12,23 +12,23 @@ pub returns-in-Ok-make-clause-found : goal.returns-in-Ok-make-clause-found
 returns-in-Ok-make-clause-found c =
     let l = c.args.bytes.now in
     let asks : List Ask = c.as_slice.result.now in
-    let read : IsReadOf l c.from_be_bytes-number.result c.from_be_bytes-group.result asks = record {
+    let read : IsReadOf c.args.version l c.from_be_bytes-number.result c.from_be_bytes-group.result asks = record {
       long = c.if-bytes-units.false;
       number_is = c.from_be_bytes-number.ensures ∙ four_at l 0;
       group_is = c.from_be_bytes-group.ensures ∙ four_at l 4;
-      units_are = ap (λ (l : List Ask). map unit_of l) c.as_slice.ensures ∙ c.in-Ok.ensures ∙ ap (units_in _) (take_rest l 9);
+      units_are = ap (λ (l : List Ask). map unit_of l) c.as_slice.ensures ∙ c.in-Ok.ensures ∙ ap (units_in c.args.version _) (take_rest l 9);
     } in
-    job_was_made l _ _ asks read c.in-Ok-make.job c.in-Ok-make.ensures.made c.in-Ok-make.ensures.valid
+    job_was_made c.args.version l _ _ asks read c.in-Ok-make.job c.in-Ok-make.ensures.made c.in-Ok-make.ensures.valid
 
 pub returns-clause-found : goal.returns-clause-found
 returns-clause-found c =
     let l = c.args.bytes.now in
     let asks : List Ask = c.as_slice.result.now in
-    let read : IsReadOf l c.from_be_bytes-number.result c.from_be_bytes-group.result asks = record {
+    let read : IsReadOf c.args.version l c.from_be_bytes-number.result c.from_be_bytes-group.result asks = record {
       long = c.if-bytes-units.false;
       number_is = c.from_be_bytes-number.ensures ∙ four_at l 0;
       group_is = c.from_be_bytes-group.ensures ∙ four_at l 4;
-      units_are = ap (λ (l : List Ask). map unit_of l) c.as_slice.ensures ∙ c.in-Ok.ensures ∙ ap (units_in _) (take_rest l 9);
+      units_are = ap (λ (l : List Ask). map unit_of l) c.as_slice.ensures ∙ c.in-Ok.ensures ∙ ap (units_in c.args.version _) (take_rest l 9);
     } in
     let other : c.in-Err-make.fault ≢ OutOfMemory = search rules in
-    job_was_refused l _ _ asks read c.in-Err-make.fault other c.in-Err-make.ensures.made
+    job_was_refused c.args.version l _ _ asks read c.in-Err-make.fault other c.in-Err-make.ensures.made
