@@ -21,9 +21,9 @@ record_bounded : (h : HardState) (o : Option Record) (next : HardState) (P : Typ
 record_bounded h None next P is from = absurd (cc)
 record_bounded h (Some r) next P is from = from r refl
 
-bounded : ((body : List ℕ) (r : Record) → record_in body ≡ Some r → length body ≤ 531) → (value : HardState) (body : List ℕ) (next : HardState) → taken value body ≡ Some next → length body ≤ 531
+bounded : ((body : List ℕ) (r : Record) → record_in body ≡ Some r → length body ≤ 563) → (value : HardState) (body : List ℕ) (next : HardState) → taken value body ≡ Some next → length body ≤ 563
 unfolding taken
-bounded short value body next is = record_bounded value (record_in body) next (length body ≤ 531) is (short body)
+bounded short value body next is = record_bounded value (record_in body) next (length body ≤ 563) is (short body)
 
 piece_front : (p : Piece) (file : List ℕ) (at : ℕ) → IsPieceOf p file → p.begin ≤ at → at ≤ end_of p → drop (at - p.begin) p.bytes ≡ take (end_of p - at) (drop at file)
 piece_front p file at is from to =
@@ -33,7 +33,7 @@ piece_front p file at is from to =
     ∙ drop-take k n (drop p.begin file)
     ∙ ap (λ l. take n l) (drop-drop k p.begin file ∙ ap (λ m. drop m file) (let e : p.begin + k ≡ at = omega (arith, from) in e))
 
-pub found_in_file : ((body : List ℕ) (r : Record) → record_in body ≡ Some r → length body ≤ 531) → (value : HardState) (p : Piece) (file seen : List ℕ) (at len : ℕ)
+pub found_in_file : ((body : List ℕ) (r : Record) → record_in body ≡ Some r → length body ≤ 563) → (value : HardState) (p : Piece) (file seen : List ℕ) (at len : ℕ)
     → IsPieceOf p file → Reaches p at len → len ≡ length file → seen ≡ drop (at - p.begin) p.bytes → found_at taken value seen ≡ found_at taken value (drop at file)
 found_in_file short value p file seen at len is reaches long sees =
     let front : seen ≡ take (end_of p - at) (drop at file) = sees ∙ piece_front p file at is reaches.from reaches.to in
@@ -75,7 +75,7 @@ pub empty_piece : (p : Piece) (file : List ℕ) → p ≡ record { begin = 0; by
 empty_piece p file is = subst (λ (q : Piece). IsPieceOf q file) (sym is) refl
 
 -- one record of the walk, where the disk tells its bytes
-module _ (short : (body : List ℕ) (r : Record) → record_in body ≡ Some r → length body ≤ 531) (told : Option Told) (size : ℕ) (known : IfSome told (IsLong size)) (number at len : ℕ) (value : HardState) (p : Piece) (seen : List ℕ)
+module _ (short : (body : List ℕ) (r : Record) → record_in body ≡ Some r → length body ≤ 563) (told : Option Told) (size : ℕ) (known : IfSome told (IsLong size)) (number at len : ℕ) (value : HardState) (p : Piece) (seen : List ℕ)
     (long : len ≡ size) (reaches : Reaches p at len) (sees : seen ≡ drop (at - p.begin) p.bytes) (holds : (t : Told) → told ≡ Some t → IsPieceOf p t.now.bytes)
     (walked : (t : Told) → told ≡ Some t → walk number at value (drop at t.now.bytes) ≡ reads_as t.now.bytes) where
   same_there : (t : Told) → told ≡ Some t → found_at taken value seen ≡ found_at taken value (drop at t.now.bytes)

@@ -105,8 +105,8 @@ module _ {S : Type 0} (taken : S → List ℕ → Option S) where
   reads_whole zero gate value next bytes size some is = absurd (omega (arith, some))
   reads_whole (suc left) gate value next bytes size some is = ap (λ n. read_on taken n (gate + size) next (drop size bytes)) (omega arith) ∙ ap (read_from (read_on taken left) gate value bytes) (sym is)
 
-  -- a record is found in a piece of the file as in the file, where the piece has 537 bytes
-  module _ (bounded : (value : S) (body : List ℕ) (next : S) → taken value body ≡ Some next → length body ≤ 531) (value : S) (rest : List ℕ) (n : ℕ) (long : 537 ≤ n) (within : n ≤ length rest) where
+  -- a record is found in a piece of the file as in the file, where the piece has 569 bytes
+  module _ (bounded : (value : S) (body : List ℕ) (next : S) → taken value body ≡ Some next → length body ≤ 563) (value : S) (rest : List ℕ) (n : ℕ) (long : 569 ≤ n) (within : n ≤ length rest) where
     abbrev piece : List ℕ
     piece = take n rest
 

@@ -17,4 +17,4 @@ pub record Reaches (piece : Piece) (at len : ℕ) : Type 0 where
   pub from : piece.begin ≤ at
   pub to : at ≤ end_of piece
   pub inside : end_of piece ≤ len
-  pub enough : (537 ≤ end_of piece - at) ⊎ (end_of piece ≡ len)
+  pub enough : (569 ≤ end_of piece - at) ⊎ (end_of piece ≡ len)

@@ -62,15 +62,15 @@ impl Model for Hard {
 
     ghost view = { λ h. record { value = h.state; gate = h.gate; broken = h.broken } };
 
-    ghost invariant = { λ h. (h.gate ≤ 536 * h.state.records) × (h.state.records ≤ most_records) };
+    ghost invariant = { λ h. (h.gate ≤ 568 * h.state.records) × (h.state.records ≤ most_records) };
 }
 
 // What is written behind a gate: the length of the body, the body, and a closed gate.
 fn encode(alloc: Global, change: &Record) -> Result<Vec<u8>, OutOfMemory>
     requires within { IsWithinLimits change.now }
     ensures bytes { IfOk result (λ bytes. bytes.items ≡ behind_gate (body_of change.now)) }
-    ensures short { IfOk result (λ bytes. length bytes.items ≤ 536) }
-    ensures body { length (body_of change.now) ≤ 531 }
+    ensures short { IfOk result (λ bytes. length bytes.items ≤ 568) }
+    ensures body { length (body_of change.now) ≤ 563 }
     ensures back { record_in (body_of change.now) ≡ Some change.now }
 {
     written_is_read();

@@ -48,7 +48,7 @@ pub fn read<D: Disk>(alloc: Global, disk: &mut D, len: u64) -> Result<(State, u6
     ensures opened { (t : Told) → D.told disk.old ≡ Some t → IfOk result (λ read. reads_as t.now.bytes ≡ Ok (record { value = read.0; gate = read.1 })) }
     ensures damaged { (t : Told) (offset : ℕ) → D.told disk.old ≡ Some t → result ≡ Err (HardFault.NotCheckpoint offset) → reads_as t.now.bytes ≡ Err offset }
     ensures within { IfOk result (λ read. read.1 < len) }
-    ensures short { IfOk result (λ read. read.1 ≤ 536 * read.0.records) }
+    ensures short { IfOk result (λ read. read.1 ≤ 568 * read.0.records) }
     ensures few { IfOk result (λ read. read.0.records ≤ most_records) }
     ensures faults { IfErr result IsOpeningFault }
     ensures later { D.faults disk.old ≤ D.faults disk.new }

@@ -288,7 +288,7 @@ impl State {
         ensures refused { result ≡ Ok false → taken self.old body.now ≡ None }
         ensures more { result ≡ Ok true → self.new.records ≡ self.old.records + 1 }
         ensures few { result ≡ Ok true → self.new.records ≤ most_records }
-        ensures short { result ≡ Ok true → length body.now ≤ 531 }
+        ensures short { result ≡ Ok true → length body.now ≤ 563 }
     {
         let found = match read_record(alloc, body) {
             Ok(found) => found,
@@ -311,7 +311,7 @@ impl State {
     pub fn look(&mut self, alloc: Global, bytes: &[u8]) -> Look
         ensures found { IsFound result self.old self.new bytes.now }
         ensures within { (size : ℕ) → result ≡ Look.Whole size → size < length bytes.now }
-        ensures short { (size : ℕ) → result ≡ Look.Whole size → size ≤ 536 }
+        ensures short { (size : ℕ) → result ≡ Look.Whole size → size ≤ 568 }
         ensures more { (size : ℕ) → result ≡ Look.Whole size → self.new.records ≡ self.old.records + 1 }
         ensures few { (size : ℕ) → result ≡ Look.Whole size → self.new.records ≤ most_records }
     {

@@ -12,7 +12,7 @@ use std::marker::Model;
 // The bytes of a piece, and the most that a record can have with the gate behind it.
 const PIECE: u64 = 65_536;
 
-const LONGEST: u64 = 537;
+const LONGEST: u64 = 569;
 
 // The piece that was read last, seen as its place in the file and its bytes.
 #[derive(Drop)]

@@ -25,7 +25,7 @@ const FENCE_BODY: usize = 10;
 
 const JOB_BODY: usize = 11;
 
-const UNIT_BODY: usize = 65;
+const UNIT_BODY: usize = 69;
 
 const NUMBER_BODY: usize = 6;
 
@@ -90,7 +90,7 @@ impl Checkpoint {
 
     // Makes room for a record with a body of this length, as far as it lacks.
     fn make_room(&mut self, body: usize) -> Result<(), OutOfMemory>
-        requires { body ≤ 531 }
+        requires { body ≤ 563 }
         ensures { self.new ≡ self.old }
     {
         let needed = RECORD_ROOM + body;
@@ -108,7 +108,7 @@ impl Checkpoint {
 
     // Tells that a record with a body of this length was written.
     fn used(&mut self, body: usize)
-        requires { body ≤ 531 }
+        requires { body ≤ 563 }
         ensures { self.new ≡ self.old }
     {
         self.spare = self.spare.saturating_sub(RECORD_ROOM + body);

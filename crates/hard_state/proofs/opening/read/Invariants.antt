@@ -18,6 +18,6 @@ invariant-loop-number g l = record {
   within : l.at < l.fn.len;
   count : l.state.records ≡ l.number;
   few : l.state.records ≤ most_records;
-  short : l.at ≤ 536 * l.number;
+  short : l.at ≤ 568 * l.number;
   walked : (t : Told) → g.D.Disk.told l.fn.disk ≡ Some t → walk l.number l.at l.state (drop l.at t.now.bytes) ≡ reads_as t.now.bytes;
 }
