@@ -30,7 +30,8 @@ pub fn call_of<'a>(word: &str, epoch: u64, number: u64) -> Option<Call<'a>> {
     }
 }
 
-/// A job of these units, which `/` parts, each with its priority and eight quantities.
+/// A job of these units, which `/` parts, each with its priority and eight quantities, and behind the word `most` its greatest
+/// number per machine.
 pub fn job_of(alloc: Global, app: u64, group: u64, units: &str) -> Result<Job, JobFault> {
     let app = AppNo(app.min(255) as u32);
     let group = GroupNo(group.min(31) as u32);

@@ -1,6 +1,7 @@
 //! A checkpoint, printed.
 
 use case_words::Stop;
+use fuxi_terms::limits::GREATEST_COUNT;
 use hard_state::{Hard, HardFault};
 use schedule_unit::{AppNo, Job, MachineNo, Unit, UnitNo};
 use std::alloc::Global;
@@ -15,10 +16,14 @@ pub fn tell_bytes<P: Print>(rt: &P, alloc: Global, bytes: &[u8]) -> Result<(), S
     Ok(())
 }
 
+// Its greatest number per machine only where that is not the greatest there is.
 fn tell_unit<P: Print>(rt: &P, unit: &Unit) -> Result<(), Stop> {
     print!(rt; " / {}", unit.priority)?;
     for quantity in unit.size.q {
         print!(rt; " {quantity}")?;
+    }
+    if unit.most as u64 != GREATEST_COUNT {
+        print!(rt; " most {}", unit.most)?;
     }
     Ok(())
 }
