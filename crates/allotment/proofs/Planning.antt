@@ -9,13 +9,13 @@ use Rattle.fuxi_terms.specs.Keys.{Spot}
 use Rattle.fuxi_terms.specs.Lists.{below}
 use Rattle.fuxi_terms.specs.Tables.{spot}
 use Rattle.fuxi_terms.proofs.Alls.{all_more, all_append, all_back, all_mapped, all_flat, all_filter}
-use Rattle.fuxi_terms.specs.Jobs.{KnownJob, job_of, units_of, unit_count, priority_of, size_at, group_of, no_unit}
+use Rattle.fuxi_terms.specs.Jobs.{KnownJob, job_of, units_of, unit_count, priority_of, size_at, most_of, group_of, no_unit}
 use Rattle.fuxi_terms.specs.Numbers.{has_number}
 use Rattle.fuxi_terms.specs.TallyKeys.{avoid_key}
 use Rattle.fuxi_terms.specs.Vectors.{at_place}
 use Rattle.fuxi_terms.proofs.Booleans.{both_true, and_true, or_left, or_right, nat_itself}
 use Rattle.written_roles.specs.Masters.{Master, avoids, out_of}
-use Rattle.written_roles.specs.Placing.{Board, board, has_pair}
+use Rattle.written_roles.specs.Placing.{Board, board, accepts_in, has_pair}
 use Rattle.written_roles.specs.Preemption.{plan_in, plan_of, tried_in, by_priority_in, falling_priorities}
 use Rattle.written_roles.specs.Preemption.{Plan as WrittenPlan}
 use Rattle.grant_table.specs.Tables.{TableRecord, as_known}
@@ -57,6 +57,7 @@ board_is t s c M h units = record {
   cluster = sym h.cluster;
   priorities = λ a u. ap (λ (us : List UnitRecord). (unwrap_or (slice_get us u) no_unit).priority) (sym (same a));
   sizes = λ a u i. ap (λ (us : List UnitRecord). at_place (unwrap_or (slice_get us u) no_unit).size i) (sym (same a));
+  mosts = λ a u. ap (λ (us : List UnitRecord). (unwrap_or (slice_get us u) no_unit).most) (sym (same a));
   groups = λ a. group_read M.jobs a ∙ ap group_in (sym (h.jobs a)) ∙ sym (group_read (as_known t.jobs) a);
   may_use = λ a u m lt _.
       let there : nat_lt u (units_seen s a) ≡ true = let n = units a in grind (arith, nat_tests, n, lt) in
@@ -85,10 +86,10 @@ planned t s found units h c M placing =
 
 -- ---- the pair that a plan serves is one of the line
 abbrev pub own_board : TableRecord → SeenRecord → Board
-own_board t s = record { cluster = t.cluster; priorities = priority_of (as_known t.jobs); sizes = size_at (as_known t.jobs); groups = group_of (as_known t.jobs); asks = asks_seen s; may_use = usable_in s; serving = true }
+own_board t s = record { cluster = t.cluster; priorities = priority_of (as_known t.jobs); sizes = size_at (as_known t.jobs); mosts = most_of (as_known t.jobs); groups = group_of (as_known t.jobs); asks = asks_seen s; may_use = usable_in s; serving = true }
 
 own_board_is : (t : TableRecord) (s : SeenRecord) → IsBoardOf (own_board t s) t (usable_in s)
-own_board_is t s = record { cluster = refl; priorities = λ a u. refl; sizes = λ a u i. refl; groups = λ a. refl; may_use = λ a u m lt le. refl }
+own_board_is t s = record { cluster = refl; priorities = λ a u. refl; sizes = λ a u i. refl; mosts = λ a u. refl; groups = λ a. refl; may_use = λ a u m lt le. refl }
 
 all_flat_of : {A B : Type 0} (P : A → Type 0) (Q : B → Type 0) (f : A → List B) → ((x : A) → P x → AllByRecursion Q (f x)) → (xs : List A) → AllByRecursion P xs → AllByRecursion Q (flat_map f xs)
 all_flat_of P Q f h [] all = tt
@@ -108,22 +109,22 @@ all_lined (p ∷ ps) = (
   all_more (IsLined ps) (IsLined (p ∷ ps)) (λ q h. record { there = or_right (nat_eq q.0 p.0 && nat_eq q.1 p.1) (has_pair q ps) h.there }) ps (all_lined ps),
 )
 
-all_tried : (B : Board) (line : List (ℕ × ℕ)) → AllByRecursion (λ (s : Spot). IsLined line (s.job, s.unit)) (tried_in B line)
-all_tried B line =
-    all_flat_of (IsLined line) (λ (s : Spot). IsLined line (s.job, s.unit)) (λ p. map (spot p.0 p.1) (filter (B.may_use p.0 p.1) (below (length B.cluster.machines))))
-    (λ p h. all_mapped (λ (s : Spot). IsLined line (s.job, s.unit)) (spot p.0 p.1) (filter (B.may_use p.0 p.1) (below (length B.cluster.machines))) (all_in (λ (m : ℕ). IsLined line (p.0, p.1)) (λ m. h) (filter (B.may_use p.0 p.1) (below (length B.cluster.machines)))))
+all_tried : (B : Board) (es : List (Spot × ℕ)) (line : List (ℕ × ℕ)) → AllByRecursion (λ (s : Spot). IsLined line (s.job, s.unit)) (tried_in B es line)
+all_tried B es line =
+    all_flat_of (IsLined line) (λ (s : Spot). IsLined line (s.job, s.unit)) (λ p. map (spot p.0 p.1) (filter (accepts_in B es p.0 p.1) (below (length B.cluster.machines))))
+    (λ p h. all_mapped (λ (s : Spot). IsLined line (s.job, s.unit)) (spot p.0 p.1) (filter (accepts_in B es p.0 p.1) (below (length B.cluster.machines))) (all_in (λ (m : ℕ). IsLined line (p.0, p.1)) (λ m. h) (filter (accepts_in B es p.0 p.1) (below (length B.cluster.machines)))))
     (by_priority_in B.priorities line)
     (all_flat (IsLined line) (λ n. filter (λ p. nat_eq (B.priorities p.0 p.1) n) line) falling_priorities (λ n. all_filter (IsLined line) (λ p. nat_eq (B.priorities p.0 p.1) n) line (all_lined line)))
 
 abbrev pub FirstLaw : Type 0
-FirstLaw = (B : Board) (es : List (Spot × ℕ)) (line : List (ℕ × ℕ)) (p : WrittenPlan) → plan_in B es line ≡ Some p → IsFirstPlan B es (tried_in B line) p
+FirstLaw = (B : Board) (es : List (Spot × ℕ)) (line : List (ℕ × ℕ)) (p : WrittenPlan) → plan_in B es line ≡ Some p → IsFirstPlan B es (tried_in B es line) p
 
 pub served_lined : FirstLaw → (t : TableRecord) (s : SeenRecord) (p : Plan) → ((B : Board) → IsBoardOf B t (usable_in s) → Some (plan_as p) ≡ plan_in B t.entries s.line) → has_pair (p.pick.app.0, p.pick.unit.0) s.line ≡ true
 served_lined law t s p h =
     let B = own_board t s in
     let is = law B t.entries s.line (plan_as p) (sym (h B (own_board_is t s))) in
     let P : Spot → Type 0 = λ s'. IsLined s.line (s'.job, s'.unit) in
-    (all_back P is.before (served_of p.pick ∷ is.after) (subst (AllByRecursion P) is.split (all_tried B s.line))).0.there
+    (all_back P is.before (served_of p.pick ∷ is.after) (subst (AllByRecursion P) is.split (all_tried B t.entries s.line))).0.there
 
 pub served_waits : FirstLaw → (t : TableRecord) (s : SeenRecord) (p : Plan) → IsUpToDate s t → ((B : Board) → IsBoardOf B t (usable_in s) → Some (plan_as p) ≡ plan_in B t.entries s.line) → 0 < out_of (asks_seen s) t.entries p.pick.app.0 p.pick.unit.0
 served_waits law t s p up h =

@@ -20,7 +20,7 @@ use Rattle.fuxi_terms.proofs.Counting.{count-set_count, tied}
 use Rattle.fuxi_terms.proofs.KeyOrders.{spot_total, same_spot}
 use Rattle.written_roles.specs.Masters.{Master, asked, out, out_of}
 use Rattle.written_roles.specs.MasterSteps.{phased, ready, settled_if_serving, is_all_reported}
-use Rattle.written_roles.specs.Placing.{has_pair, lined, waiting_in, waiting_pairs, line_up, placeable, may_grow, has_room, is_usable, first_placeable, granted, settle, settled, all_out}
+use Rattle.written_roles.specs.Placing.{has_pair, lined, waiting_in, waiting_pairs, line_up, placeable, may_grow, accepts, has_room, is_usable, first_placeable, granted, settle, settled, all_out}
 use Rattle.written_roles.specs.Settling.{NothingPlaceable, Picks, IsFirst}
 use Rattle.fuxi_master.specs.Cores.{IsTidy}
 use Rattle.fuxi_master.proofs.Numbers.{with_is}
@@ -64,8 +64,9 @@ first_reported : LawFirst → (c : ClusterRecord) (M : Master) (s : Spot) → fi
 unfolding LawFirst
 first_reported law c M s e =
     let may : placeable c M s.job s.unit s.machine ≡ true = (law c M s e).may in
-    let b = both_true (may_grow c M s.job s.unit) (is_usable M s.job s.unit s.machine && has_room c M s.job s.unit s.machine) may in
-    let u = both_true (is_usable M s.job s.unit s.machine) (has_room c M s.job s.unit s.machine) b.1 in
+    let b = both_true (may_grow c M s.job s.unit) (accepts c M s.job s.unit s.machine && has_room c M s.job s.unit s.machine) may in
+    let a = both_true (accepts c M s.job s.unit s.machine) (has_room c M s.job s.unit s.machine) b.1 in
+    let u = both_true (is_usable M s.job s.unit s.machine) _ a.0 in
     (both_true (has_number s.machine M.reported) _ u.0).0
 
 settle_tidy : LawFirst → (c : ClusterRecord) (fuel : ℕ) (M : Master) → IsTidy M → IsTidy (settle c fuel M)

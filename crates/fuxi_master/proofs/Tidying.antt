@@ -19,7 +19,7 @@ use Rattle.fuxi_terms.proofs.Counting.{count-set_count, tied}
 use Rattle.fuxi_terms.proofs.KeyOrders.{spot_total, same_spot}
 use Rattle.written_roles.specs.Masters.{Master}
 use Rattle.written_roles.specs.MasterSteps.{adopted, credit, is_kept}
-use Rattle.written_roles.specs.Placing.{Board, board, is_usable}
+use Rattle.written_roles.specs.Placing.{Board, board, accepts, is_usable}
 use Rattle.written_roles.specs.Preemption.{Plan, by_priority_in, tried, victims_in, first_plan_in, plan_of, preempted}
 use Rattle.fuxi_master.specs.Cores.{IsTidy}
 use Rattle.fuxi_master.proofs.Numbers.{with_is}
@@ -86,9 +86,9 @@ first_among P (s ∷ ss) b table p all e = elim (victims_in b table s) as (λ o.
 
 pub served_reported : (c : ClusterRecord) (M : Master) (p : Plan) → plan_of c M ≡ Some p → has_number p.served.machine M.reported ≡ true
 served_reported c M p planned = first_among (λ s. has_number s.machine M.reported ≡ true) (tried c M) (board c M) M.table p
-    (all_flat (λ (s : Spot). has_number s.machine M.reported ≡ true) (λ q. map (spot q.0 q.1) (filter (is_usable M q.0 q.1) (below (length c.machines)))) (by_priority_in (board c M).priorities M.line)
-    (λ q. all_mapped (λ (s : Spot). has_number s.machine M.reported ≡ true) (spot q.0 q.1) (filter (is_usable M q.0 q.1) (below (length c.machines)))
-    (all_passed (λ m. has_number m M.reported ≡ true) (is_usable M q.0 q.1) (below (length c.machines)) (λ m may. (both_true (has_number m M.reported) _ may).0))))
+    (all_flat (λ (s : Spot). has_number s.machine M.reported ≡ true) (λ q. map (spot q.0 q.1) (filter (accepts c M q.0 q.1) (below (length c.machines)))) (by_priority_in (board c M).priorities M.line)
+    (λ q. all_mapped (λ (s : Spot). has_number s.machine M.reported ≡ true) (spot q.0 q.1) (filter (accepts c M q.0 q.1) (below (length c.machines)))
+    (all_passed (λ m. has_number m M.reported ≡ true) (accepts c M q.0 q.1) (below (length c.machines)) (λ m may. (both_true (has_number m M.reported) _ (both_true (is_usable M q.0 q.1 m) _ may).0).0))))
     planned
 
 pub preempted_tidy : (M : Master) (p : Plan) → has_number p.served.machine M.reported ≡ true → IsTidy M → IsTidy (preempted M p)

@@ -6,7 +6,7 @@ use Rattle.std.specs.List.{AllByRecursion, flat_map, list_any, list_all}
 use Rattle.std.proofs.lemmas.Bool.Decides.{nat_tests}
 use Rattle.std.proofs.lemmas.Grind.{flat_map-append}
 use Rattle.std.proofs.lemmas.List.{map-append, length-append, length-map}
-use Rattle.fuxi_terms.specs.Cluster.{JobRecord, UnitRecord, is_valid_job, is_valid_unit, is_between, is_vector_of, is_priority}
+use Rattle.fuxi_terms.specs.Cluster.{JobRecord, UnitRecord, is_valid_job, is_valid_unit, is_between, is_vector_of, is_size, is_priority}
 use Rattle.fuxi_terms.specs.Jobs.{KnownJob, unit_count, unit_of, priority_of, group_of, job_of, no_unit}
 use Rattle.fuxi_terms.specs.Keys.{Spot}
 use Rattle.fuxi_terms.specs.Lists.{below}
@@ -38,7 +38,7 @@ proper_at [] h n = record { low = omega arith; short = omega arith }
 proper_at (x ∷ xs) h zero =
     let b = both_true (is_valid_unit 8 x) (list_all (is_valid_unit 8) xs) h in
     let p : nat_lt x.priority 10 ≡ true = (both_true (is_priority x.priority) _ b.0).0 in
-    let w = (both_true (is_vector_of 8 x.size) _ (both_true (is_priority x.priority) _ b.0).1).0 in
+    let w = (both_true (is_vector_of 8 x.size) _ (both_true (is_size 8 x.size) _ (both_true (is_priority x.priority) _ b.0).1).0).0 in
     let e : length x.size ≡ 8 = number_is _ _ (both_true (nat_eq (length x.size) 8) _ w).0 in
     record { low = grind (arith, nat_tests, p); short = omega (arith, e) }
 proper_at (x ∷ xs) h (suc n) = proper_at xs (both_true (is_valid_unit 8 x) (list_all (is_valid_unit 8) xs) h).1 n

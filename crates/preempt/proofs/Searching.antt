@@ -91,8 +91,8 @@ filter_last q f (y ∷ ys) x = elim (q y) as (λ b. map f (cond b (y ∷ filter 
   | false ↦ filter_last q f ys x
 ]
 
-pub pairs_more : (usable : ℕ → ℕ → ℕ → Bool) (n : ℕ) (p : ℕ × ℕ) → pairs_to usable (n + 1) p ≡ pairs_to usable n p ++ cond (usable p.0 p.1 n) (spot p.0 p.1 n ∷ []) []
-pairs_more usable n p = ap (λ k. pairs_to usable k p) (add-one n) ∙ filter_last (usable p.0 p.1) (spot p.0 p.1) (below n) n
+pub pairs_more : (accepts : ℕ → ℕ → ℕ → Bool) (n : ℕ) (p : ℕ × ℕ) → pairs_to accepts (n + 1) p ≡ pairs_to accepts n p ++ cond (accepts p.0 p.1 n) (spot p.0 p.1 n ∷ []) []
+pairs_more accepts n p = ap (λ k. pairs_to accepts k p) (add-one n) ∙ filter_last (accepts p.0 p.1) (spot p.0 p.1) (below n) n
 
 -- a list is the beginning of another
 pub record Begins (xs ys : List Spot) : Type 0 where
@@ -100,12 +100,12 @@ pub record Begins (xs ys : List Spot) : Type 0 where
   pub is : ys ≡ xs ++ rest
 
 -- the pairs of the first machines are the beginning of those of all
-pub pairs_begin : (usable : ℕ → ℕ → ℕ → Bool) (p : ℕ × ℕ) (k d : ℕ) → Begins (pairs_to usable k p) (pairs_to usable (k + d) p)
-pairs_begin usable p k zero = let e : k ≡ k + 0 = omega arith in subst (λ n. Begins (pairs_to usable k p) (pairs_to usable n p)) e (record { rest = []; is = sym (append-nil (pairs_to usable k p)) })
-pairs_begin usable p k (suc d) =
-    let r = pairs_begin usable p k d in
+pub pairs_begin : (accepts : ℕ → ℕ → ℕ → Bool) (p : ℕ × ℕ) (k d : ℕ) → Begins (pairs_to accepts k p) (pairs_to accepts (k + d) p)
+pairs_begin accepts p k zero = let e : k ≡ k + 0 = omega arith in subst (λ n. Begins (pairs_to accepts k p) (pairs_to accepts n p)) e (record { rest = []; is = sym (append-nil (pairs_to accepts k p)) })
+pairs_begin accepts p k (suc d) =
+    let r = pairs_begin accepts p k d in
     let e : k + suc d ≡ (k + d) + 1 = omega arith in
     record {
-      rest = r.rest ++ cond (usable p.0 p.1 (k + d)) (spot p.0 p.1 (k + d) ∷ []) [];
-      is = ap (λ n. pairs_to usable n p) e ∙ pairs_more usable (k + d) p ∙ ap (λ xs. xs ++ cond (usable p.0 p.1 (k + d)) (spot p.0 p.1 (k + d) ∷ []) []) r.is ∙ append_assoc (pairs_to usable k p) r.rest (cond (usable p.0 p.1 (k + d)) (spot p.0 p.1 (k + d) ∷ []) []);
+      rest = r.rest ++ cond (accepts p.0 p.1 (k + d)) (spot p.0 p.1 (k + d) ∷ []) [];
+      is = ap (λ n. pairs_to accepts n p) e ∙ pairs_more accepts (k + d) p ∙ ap (λ xs. xs ++ cond (accepts p.0 p.1 (k + d)) (spot p.0 p.1 (k + d) ∷ []) []) r.is ∙ append_assoc (pairs_to accepts k p) r.rest (cond (accepts p.0 p.1 (k + d)) (spot p.0 p.1 (k + d) ∷ []) []);
     }

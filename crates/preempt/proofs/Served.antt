@@ -1,5 +1,5 @@
 -- The steps of the search, from machine to machine, unit to unit and priority to priority.
-use Rattle.std.proofs.Common.{◌≡◌, ℕ, zero, suc, ◌+◌, ◌-◌, ◌<◌, Bool, true, false, cond, nat_eq, List, [], ◌∷◌, ◌++◌, length, map, filter, take, drop, get_or, Some, None, refl, sym, ◌∙◌, ap, subst, arith}
+use Rattle.std.proofs.Common.{◌≡◌, ℕ, zero, suc, ◌+◌, ◌-◌, ◌<◌, Bool, true, false, cond, nat_eq, nat_lt, List, [], ◌∷◌, ◌++◌, length, map, filter, take, drop, get_or, Some, None, refl, sym, ◌∙◌, ap, subst, arith}
 use Rattle.fuxi_terms.specs.declared.Key.{Key}
 use Rattle.std.specs.Prelude.{◌&&◌, Option, slice_get}
 use Rattle.std.specs.List.{AllByRecursion, flat_map}
@@ -9,10 +9,10 @@ use Rattle.fuxi_terms.specs.Cluster.{is_narrow}
 use Rattle.fuxi_terms.specs.Jobs.{unit_count, priority_of, size_at}
 use Rattle.fuxi_terms.specs.Keys.{Spot}
 use Rattle.fuxi_terms.specs.Lists.{below}
-use Rattle.fuxi_terms.specs.Tables.{spot}
+use Rattle.fuxi_terms.specs.Tables.{spot, held_on}
 use Rattle.fuxi_terms.proofs.Alls.{all_append, all_more, all_filter}
 use Rattle.fuxi_terms.proofs.Lists.{take_last}
-use Rattle.written_roles.specs.Placing.{Board}
+use Rattle.written_roles.specs.Placing.{Board, accepts_in}
 use Rattle.written_roles.specs.Preemption.{Plan as WrittenPlan}
 use Rattle.written_roles.specs.Preemption.{victims_in, taken_in, needed_in, without_one, walk_in, may_take_in, is_enough_in, is_some_set, first_plan_in, plan_in, tried_in, by_priority_in, falling_priorities}
 use Rattle.grant_table.specs.Tables.{TableRecord, IsSound, as_known}
@@ -22,7 +22,7 @@ use Rattle.preempt.specs.declared.plan.Plan.{Plan}
 use Rattle.preempt.specs.declared.plan.Victim.{Victim}
 use Rattle.preempt.specs.Given.{board_at, board_of, pair_of}
 use Rattle.preempt.specs.Plans.{IsBoardOf, IsTakable, AreTakable, losers_of, plan_as}
-use Rattle.preempt.specs.Search.{pairs_to, pairs_on, pairs_at, IsFound}
+use Rattle.preempt.specs.Search.{accepts_at, pairs_to, pairs_on, pairs_at, IsFound}
 use Rattle.preempt.proofs.Carrying.{room_after}
 use Rattle.preempt.proofs.Promised.{promised, other_units}
 use Rattle.preempt.proofs.Searching.{first_behind, first_before, one_without, one_with, none_from, wide_none, pairs_more, pairs_begin}
@@ -31,7 +31,7 @@ use Rattle.preempt.proofs.Walking.{got}
 -- ---- the victims of a pair read neither what is asked nor where a unit may be granted
 module _ (B : Board) (asks : ℕ → Key → ℕ) (may_use : ℕ → ℕ → ℕ → Bool) (serving : Bool) (table : List (Spot × ℕ)) (t : Spot) where
   abbrev other : Board
-  other = record { cluster = B.cluster; priorities = B.priorities; sizes = B.sizes; groups = B.groups; asks = asks; may_use = may_use; serving = serving }
+  other = record { cluster = B.cluster; priorities = B.priorities; sizes = B.sizes; mosts = B.mosts; groups = B.groups; asks = asks; may_use = may_use; serving = serving }
 
   taken_same : (ss set : List Spot) → taken_in ss B table t set ≡ taken_in ss other table t set
   taken_same [] set = refl
@@ -52,12 +52,12 @@ module _ (B : Board) (asks : ℕ → Key → ℕ) (may_use : ℕ → ℕ → ℕ
 pub shelf_at : (xs : List Shelf) (n : ℕ) (x : Shelf) → n < length xs → x ≡ get_or xs n x → slice_get xs n ≡ Some x
 shelf_at xs n x lt is = got (λ _. true) xs n x lt ∙ ap (λ y. Some y) (sym is)
 
-pairs_all : (P : Spot → Type 0) (usable : ℕ → ℕ → ℕ → Bool) (n : ℕ) (p : ℕ × ℕ) → ((m : ℕ) → P (spot p.0 p.1 m)) → AllByRecursion P (pairs_to usable n p)
-pairs_all P usable zero p h = tt
-pairs_all P usable (suc n) p h =
+pairs_all : (P : Spot → Type 0) (accepts : ℕ → ℕ → ℕ → Bool) (n : ℕ) (p : ℕ × ℕ) → ((m : ℕ) → P (spot p.0 p.1 m)) → AllByRecursion P (pairs_to accepts n p)
+pairs_all P accepts zero p h = tt
+pairs_all P accepts (suc n) p h =
     let e : suc n ≡ n + 1 = omega arith in
-    subst (AllByRecursion P) (sym (ap (λ k. pairs_to usable k p) e ∙ pairs_more usable n p)) (all_append P (pairs_to usable n p) (cond (usable p.0 p.1 n) (spot p.0 p.1 n ∷ []) []) (pairs_all P usable n p h)
-    (elim (usable p.0 p.1 n) as (λ b. AllByRecursion P (cond b (spot p.0 p.1 n ∷ []) [])) [ true ↦ (h n, tt) | false ↦ tt ]))
+    subst (AllByRecursion P) (sym (ap (λ k. pairs_to accepts k p) e ∙ pairs_more accepts n p)) (all_append P (pairs_to accepts n p) (cond (accepts p.0 p.1 n) (spot p.0 p.1 n ∷ []) []) (pairs_all P accepts n p h)
+    (elim (accepts p.0 p.1 n) as (λ b. AllByRecursion P (cond b (spot p.0 p.1 n ∷ []) [])) [ true ↦ (h n, tt) | false ↦ tt ]))
 
 module _ (t : TableRecord) (usable : ℕ → ℕ → ℕ → Bool) where
   abbrev first : List Spot → Option WrittenPlan
@@ -68,22 +68,22 @@ module _ (t : TableRecord) (usable : ℕ → ℕ → ℕ → Bool) where
 
   pub wide_found : (p : ℕ × ℕ) → is_narrow t.cluster (size_at (as_known t.jobs) p.0 p.1) ≡ false → IsFound t usable (pairs_on t usable p) None
   wide_found p f = record {
-    is = sym (none_from (board_at t usable) t.entries (pairs_on t usable p) (pairs_all (λ s. victims_in (board_at t usable) t.entries s ≡ None) usable (length t.cluster.machines) p (λ m. wide_none (board_at t usable) t.entries (spot p.0 p.1 m) f)));
+    is = sym (none_from (board_at t usable) t.entries (pairs_on t usable p) (pairs_all (λ s. victims_in (board_at t usable) t.entries s ≡ None) (accepts_at t usable) (length t.cluster.machines) p (λ m. wide_none (board_at t usable) t.entries (spot p.0 p.1 m) f)));
     made = tt;
   }
 
-  pub passed_closed : (p : ℕ × ℕ) (n : ℕ) → usable p.0 p.1 n ≡ false → first (pairs_to usable n p) ≡ None → first (pairs_to usable (n + 1) p) ≡ None
-  passed_closed p n f h = ap first (pairs_more usable n p) ∙ first_behind (board_at t usable) t.entries (pairs_to usable n p) (cond (usable p.0 p.1 n) (spot p.0 p.1 n ∷ []) []) h ∙ ap (λ b. first (cond b (spot p.0 p.1 n ∷ []) [])) f
+  pub passed_closed : (p : ℕ × ℕ) (n : ℕ) → accepts_at t usable p.0 p.1 n ≡ false → first (pairs_to (accepts_at t usable) n p) ≡ None → first (pairs_to (accepts_at t usable) (n + 1) p) ≡ None
+  passed_closed p n f h = ap first (pairs_more (accepts_at t usable) n p) ∙ first_behind (board_at t usable) t.entries (pairs_to (accepts_at t usable) n p) (cond (accepts_at t usable p.0 p.1 n) (spot p.0 p.1 n ∷ []) []) h ∙ ap (λ b. first (cond b (spot p.0 p.1 n ∷ []) [])) f
 
-  pub passed_without : (p : ℕ × ℕ) (n : ℕ) → usable p.0 p.1 n ≡ true → victims_in (board_of t) t.entries (spot p.0 p.1 n) ≡ None → first (pairs_to usable n p) ≡ None → first (pairs_to usable (n + 1) p) ≡ None
-  passed_without p n u v h = ap first (pairs_more usable n p) ∙ first_behind (board_at t usable) t.entries (pairs_to usable n p) (cond (usable p.0 p.1 n) (spot p.0 p.1 n ∷ []) []) h ∙ ap (λ b. first (cond b (spot p.0 p.1 n ∷ []) [])) u
+  pub passed_without : (p : ℕ × ℕ) (n : ℕ) → accepts_at t usable p.0 p.1 n ≡ true → victims_in (board_of t) t.entries (spot p.0 p.1 n) ≡ None → first (pairs_to (accepts_at t usable) n p) ≡ None → first (pairs_to (accepts_at t usable) (n + 1) p) ≡ None
+  passed_without p n u v h = ap first (pairs_more (accepts_at t usable) n p) ∙ first_behind (board_at t usable) t.entries (pairs_to (accepts_at t usable) n p) (cond (accepts_at t usable p.0 p.1 n) (spot p.0 p.1 n ∷ []) []) h ∙ ap (λ b. first (cond b (spot p.0 p.1 n ∷ []) [])) u
       ∙ one_without (board_at t usable) t.entries (spot p.0 p.1 n) (sym (at_usable (spot p.0 p.1 n)) ∙ v)
 
   pub found_here : (plan : Plan) → IsSound t → plan.pick.unit.0 < unit_count (as_known t.jobs) plan.pick.app.0 → plan.pick.machine.0 < length t.cluster.machines
-      → usable plan.pick.app.0 plan.pick.unit.0 plan.pick.machine.0 ≡ true
+      → accepts_at t usable plan.pick.app.0 plan.pick.unit.0 plan.pick.machine.0 ≡ true
       → victims_in (board_of t) t.entries (spot plan.pick.app.0 plan.pick.unit.0 plan.pick.machine.0) ≡ Some (losers_of plan.pick.machine.0 plan.victims)
       → AreTakable t plan.pick.machine.0 plan.victims
-      → first (pairs_to usable plan.pick.machine.0 (plan.pick.app.0, plan.pick.unit.0)) ≡ None
+      → first (pairs_to (accepts_at t usable) plan.pick.machine.0 (plan.pick.app.0, plan.pick.unit.0)) ≡ None
       → IsFound t usable (pairs_on t usable (plan.pick.app.0, plan.pick.unit.0)) (Some plan)
   found_here plan sound unit machine u v takable h =
       let a = plan.pick.app.0 in
@@ -91,13 +91,13 @@ module _ (t : TableRecord) (usable : ℕ → ℕ → ℕ → Bool) where
       let n = plan.pick.machine.0 in
       let s = spot a w n in
       let p : ℕ × ℕ = (a, w) in
-      let here : first (pairs_to usable (n + 1) p) ≡ Some (plan_as plan) = ap first (pairs_more usable n p) ∙ first_behind (board_at t usable) t.entries (pairs_to usable n p) (cond (usable a w n) (s ∷ []) []) h
+      let here : first (pairs_to (accepts_at t usable) (n + 1) p) ≡ Some (plan_as plan) = ap first (pairs_more (accepts_at t usable) n p) ∙ first_behind (board_at t usable) t.entries (pairs_to (accepts_at t usable) n p) (cond (accepts_at t usable a w n) (s ∷ []) []) h
       ∙ ap (λ b. first (cond b (s ∷ []) [])) u ∙ one_with (board_at t usable) t.entries s (losers_of n plan.victims) (sym (at_usable s) ∙ v) in
-      let begins = pairs_begin usable p (n + 1) (length t.cluster.machines - (n + 1)) in
+      let begins = pairs_begin (accepts_at t usable) p (n + 1) (length t.cluster.machines - (n + 1)) in
       let whole : n + 1 + (length t.cluster.machines - (n + 1)) ≡ length t.cluster.machines = omega (arith, machine) in
       let is = promised (board_of t) t.entries s (losers_of n plan.victims) v in
       record {
-        is = sym (ap (λ k. first (pairs_to usable k p)) (sym whole) ∙ ap first begins.is ∙ first_before (board_at t usable) t.entries (pairs_to usable (n + 1) p) begins.rest (plan_as plan) here);
+        is = sym (ap (λ k. first (pairs_to (accepts_at t usable) k p)) (sym whole) ∙ ap first begins.is ∙ first_before (board_at t usable) t.entries (pairs_to (accepts_at t usable) (n + 1) p) begins.rest (plan_as plan) here);
         made = record {
           unit = unit;
           machine = machine;
@@ -222,14 +222,14 @@ filter_same f g (suc n) h =
 
 module _ (B : Board) (t : TableRecord) (usable : ℕ → ℕ → ℕ → Bool) (h : IsBoardOf B t usable) where
   same_victims : (s : Spot) → victims_in B t.entries s ≡ victims_in (board_at t usable) t.entries s
-  same_victims s = victims_same B (λ a k. 0) usable true t.entries s ∙ (λ i. victims_in (record { cluster = h.cluster i; priorities = λ a u. h.priorities a u i; sizes = λ a u k. h.sizes a u k i; groups = λ a. h.groups a i; asks = λ a k. 0; may_use = usable; serving = true }) t.entries s)
+  same_victims s = victims_same B (λ a k. 0) usable true t.entries s ∙ (λ i. victims_in (record { cluster = h.cluster i; priorities = λ a u. h.priorities a u i; sizes = λ a u k. h.sizes a u k i; mosts = λ a u. h.mosts a u i; groups = λ a. h.groups a i; asks = λ a k. 0; may_use = usable; serving = true }) t.entries s)
 
   same_first : (ss : List Spot) → first_plan_in ss B t.entries ≡ first_plan_in ss (board_at t usable) t.entries
   same_first [] = refl
   same_first (s ∷ ss) = let v = same_victims s in let r = same_first ss in λ i. elim (v i) as (λ _. Option WrittenPlan) [ None ↦ r i | Some vs ↦ Some (record { served = s; losers = vs }) ]
 
-  same_pairs : (p : ℕ × ℕ) → p.1 < unit_count (as_known t.jobs) p.0 → map (spot p.0 p.1) (filter (B.may_use p.0 p.1) (below (length B.cluster.machines))) ≡ pairs_on t usable p
-  same_pairs p lt = ap (λ n. map (spot p.0 p.1) (filter (B.may_use p.0 p.1) (below n))) (λ i. length (h.cluster i).machines) ∙ ap (map (spot p.0 p.1)) (filter_same (B.may_use p.0 p.1) (usable p.0 p.1) (length t.cluster.machines) (λ m l. h.may_use p.0 p.1 m lt l))
+  same_pairs : (p : ℕ × ℕ) → p.1 < unit_count (as_known t.jobs) p.0 → map (spot p.0 p.1) (filter (accepts_in B t.entries p.0 p.1) (below (length B.cluster.machines))) ≡ pairs_on t usable p
+  same_pairs p lt = ap (λ n. map (spot p.0 p.1) (filter (accepts_in B t.entries p.0 p.1) (below n))) (λ i. length (h.cluster i).machines) ∙ ap (map (spot p.0 p.1)) (filter_same (accepts_in B t.entries p.0 p.1) (accepts_at t usable p.0 p.1) (length t.cluster.machines) (λ m l. λ i. h.may_use p.0 p.1 m lt l i && nat_lt (held_on t.entries p.0 p.1 m) (h.mosts p.0 p.1 i)))
 
   pub same_plan : (line : List (ℕ × ℕ)) → AllByRecursion (λ p. p.1 < unit_count (as_known t.jobs) p.0) line → plan_in B t.entries line ≡ first_plan_in (down_to t usable line falling_priorities) (board_at t usable) t.entries
   same_plan line admitted =
@@ -238,12 +238,12 @@ module _ (B : Board) (t : TableRecord) (usable : ℕ → ℕ → ℕ → Bool) (
       of : ℕ → List (ℕ × ℕ)
       of n = filter (λ p. nat_eq (priority_of (as_known t.jobs) p.0 p.1) n) line
 
-      tried : tried_in B line ≡ down_to t usable line falling_priorities
+      tried : tried_in B t.entries line ≡ down_to t usable line falling_priorities
       tried =
-          (λ i. flat_map (λ p. map (spot p.0 p.1) (filter (B.may_use p.0 p.1) (below (length B.cluster.machines)))) (by_priority_in (λ a u. h.priorities a u i) line))
-          ∙ flat_flat (λ (p : ℕ × ℕ). map (spot p.0 p.1) (filter (B.may_use p.0 p.1) (below (length B.cluster.machines)))) of falling_priorities
+          (λ i. flat_map (λ p. map (spot p.0 p.1) (filter (accepts_in B t.entries p.0 p.1) (below (length B.cluster.machines)))) (by_priority_in (λ a u. h.priorities a u i) line))
+          ∙ flat_flat (λ (p : ℕ × ℕ). map (spot p.0 p.1) (filter (accepts_in B t.entries p.0 p.1) (below (length B.cluster.machines)))) of falling_priorities
           ∙ (λ i. flat_map (λ n. each n i) falling_priorities)
         where
-          each : (n : ℕ) → flat_map (λ (p : ℕ × ℕ). map (spot p.0 p.1) (filter (B.may_use p.0 p.1) (below (length B.cluster.machines)))) (of n) ≡ pairs_at t usable n line
-          each n = flat_same (λ (p : ℕ × ℕ). p.1 < unit_count (as_known t.jobs) p.0) (λ (p : ℕ × ℕ). map (spot p.0 p.1) (filter (B.may_use p.0 p.1) (below (length B.cluster.machines)))) (pairs_on t usable) same_pairs (of n)
+          each : (n : ℕ) → flat_map (λ (p : ℕ × ℕ). map (spot p.0 p.1) (filter (accepts_in B t.entries p.0 p.1) (below (length B.cluster.machines)))) (of n) ≡ pairs_at t usable n line
+          each n = flat_same (λ (p : ℕ × ℕ). p.1 < unit_count (as_known t.jobs) p.0) (λ (p : ℕ × ℕ). map (spot p.0 p.1) (filter (accepts_in B t.entries p.0 p.1) (below (length B.cluster.machines)))) (pairs_on t usable) same_pairs (of n)
               (all_filter (λ (p : ℕ × ℕ). p.1 < unit_count (as_known t.jobs) p.0) (λ p. nat_eq (priority_of (as_known t.jobs) p.0 p.1) n) line admitted)

@@ -3,7 +3,7 @@ use Rattle.std.specs.Prelude.{◌≡◌, ℕ, ◌+◌, ◌<◌, Bool, true, fals
 use Rattle.std.specs.List.{AllByRecursion}
 use Rattle.fuxi_terms.specs.Cluster.{has_at, limit_at, quota_at, is_narrow}
 use Rattle.fuxi_terms.specs.Keys.{Spot}
-use Rattle.fuxi_terms.specs.Jobs.{priority_of, group_of, size_at, unit_of, unit_count}
+use Rattle.fuxi_terms.specs.Jobs.{priority_of, group_of, size_at, most_of, unit_of, unit_count}
 use Rattle.fuxi_terms.specs.Tables.{spot, total_at, usage_at}
 use Rattle.written_roles.specs.Placing.{Board}
 use Rattle.written_roles.specs.Preemption.{is_guaranteed_in}
@@ -20,6 +20,7 @@ board_at t usable = record {
   cluster = t.cluster;
   priorities = priority_of (as_known t.jobs);
   sizes = size_at (as_known t.jobs);
+  mosts = most_of (as_known t.jobs);
   groups = group_of (as_known t.jobs);
   asks = λ a k. 0;
   may_use = usable;

@@ -3,7 +3,7 @@ use Rattle.std.specs.Prelude.{◌≡◌, ℕ, ◌+◌, ◌<◌, ◌≤◌, Bool,
 use Rattle.std.specs.List.{AllByRecursion, IsDistinct}
 use Rattle.fuxi_terms.specs.Cluster.{has_at}
 use Rattle.fuxi_terms.specs.Keys.{Spot}
-use Rattle.fuxi_terms.specs.Jobs.{unit_count, priority_of, size_at, group_of}
+use Rattle.fuxi_terms.specs.Jobs.{unit_count, priority_of, size_at, most_of, group_of}
 use Rattle.fuxi_terms.specs.Tables.{spot, held_on, total_at}
 use Rattle.written_roles.specs.Placing.{Board}
 use Rattle.written_roles.specs.Preemption.{victims_in}
@@ -29,6 +29,7 @@ pub record IsBoardOf (B : Board) (t : TableRecord) (usable : ℕ → ℕ → ℕ
   pub cluster : B.cluster ≡ t.cluster
   pub priorities : (a u : ℕ) → B.priorities a u ≡ priority_of (as_known t.jobs) a u
   pub sizes : (a u i : ℕ) → B.sizes a u i ≡ size_at (as_known t.jobs) a u i
+  pub mosts : (a u : ℕ) → B.mosts a u ≡ most_of (as_known t.jobs) a u
   pub groups : (a : ℕ) → B.groups a ≡ group_of (as_known t.jobs) a
   pub may_use : (a u m : ℕ) → u < unit_count (as_known t.jobs) a → m < length t.cluster.machines → B.may_use a u m ≡ usable a u m
 

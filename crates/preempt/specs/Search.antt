@@ -6,18 +6,23 @@ use Rattle.fuxi_terms.specs.Keys.{Spot}
 use Rattle.fuxi_terms.specs.Jobs.{priority_of}
 use Rattle.fuxi_terms.specs.Lists.{below}
 use Rattle.fuxi_terms.specs.Tables.{spot}
+use Rattle.written_roles.specs.Placing.{accepts_in}
 use Rattle.written_roles.specs.Preemption.{first_plan_in}
 use Rattle.grant_table.specs.Tables.{TableRecord, as_known}
 use Rattle.preempt.specs.declared.plan.Plan.{Plan}
 use Rattle.preempt.specs.Given.{board_at}
 use Rattle.preempt.specs.Plans.{plan_as, CanBeMade}
 
--- the pairs of a unit with the first machines, and with all machines
+-- a machine on which a unit is tried: the one who asks says that it may be granted there, and it holds fewer there than its greatest number
+abbrev pub accepts_at : TableRecord → (ℕ → ℕ → ℕ → Bool) → ℕ → ℕ → ℕ → Bool
+accepts_at t usable a u m = accepts_in (board_at t usable) t.entries a u m
+
+-- the pairs of a unit with those of the first machines that accept it, and of all machines
 abbrev pub pairs_to : (ℕ → ℕ → ℕ → Bool) → ℕ → ℕ × ℕ → List Spot
-pairs_to usable n p = map (spot p.0 p.1) (filter (usable p.0 p.1) (below n))
+pairs_to accepts n p = map (spot p.0 p.1) (filter (accepts p.0 p.1) (below n))
 
 abbrev pub pairs_on : TableRecord → (ℕ → ℕ → ℕ → Bool) → ℕ × ℕ → List Spot
-pairs_on t usable p = pairs_to usable (length t.cluster.machines) p
+pairs_on t usable p = pairs_to (accepts_at t usable) (length t.cluster.machines) p
 
 -- and of those units that have a priority
 abbrev pub pairs_at : TableRecord → (ℕ → ℕ → ℕ → Bool) → ℕ → List (ℕ × ℕ) → List Spot

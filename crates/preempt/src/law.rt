@@ -13,14 +13,14 @@ ghost use Rattle.written_roles.specs.Preemption.{Plan as WrittenPlan};
 ghost use Rattle.preempt.specs.declared.plan.Victim.{Victim};
 ghost use Rattle.preempt.specs.Plans.{IsFirstPlan, is_unit, losers_of, without_victims};
 
-/// The plan of a board is that of the first pair that has victims (`first`), and there is none exactly where no
-/// pair has any (`none`, `passed`). A victim of the served group has a lower priority (`lower`). What the served
+/// The plan of a board is that of the first candidate that has victims (`first`), and there is none exactly where no
+/// candidate has any (`none`, `passed`). A victim of the served group has a lower priority (`lower`). What the served
 /// group uses and the grant that is made are together within its limit, once its own victims are taken
 /// (`limit`).
 pub fn planning()
-    ensures first { (B : Board) (es : List (Spot × ℕ)) (line : List (ℕ × ℕ)) (p : WrittenPlan) → plan_in B es line ≡ Some p → IsFirstPlan B es (tried_in B line) p }
-    ensures none { (B : Board) (es : List (Spot × ℕ)) (line : List (ℕ × ℕ)) → plan_in B es line ≡ None → AllByRecursion (λ s. victims_in B es s ≡ None) (tried_in B line) }
-    ensures passed { (B : Board) (es : List (Spot × ℕ)) (line : List (ℕ × ℕ)) → AllByRecursion (λ s. victims_in B es s ≡ None) (tried_in B line) → plan_in B es line ≡ None }
+    ensures first { (B : Board) (es : List (Spot × ℕ)) (line : List (ℕ × ℕ)) (p : WrittenPlan) → plan_in B es line ≡ Some p → IsFirstPlan B es (tried_in B es line) p }
+    ensures none { (B : Board) (es : List (Spot × ℕ)) (line : List (ℕ × ℕ)) → plan_in B es line ≡ None → AllByRecursion (λ s. victims_in B es s ≡ None) (tried_in B es line) }
+    ensures passed { (B : Board) (es : List (Spot × ℕ)) (line : List (ℕ × ℕ)) → AllByRecursion (λ s. victims_in B es s ≡ None) (tried_in B es line) → plan_in B es line ≡ None }
     ensures lower { (B : Board) (es : List (Spot × ℕ)) (line : List (ℕ × ℕ)) (p : WrittenPlan) → plan_in B es line ≡ Some p
         → AllByRecursion (λ s. B.groups s.job ≡ B.groups p.served.job → B.priorities s.job s.unit < B.priorities p.served.job p.served.unit) p.losers }
     ensures limit { (B : Board) (es : List (Spot × ℕ)) (line : List (ℕ × ℕ)) (p : WrittenPlan) (i : ℕ) → plan_in B es line ≡ Some p → i < B.cluster.resources

@@ -1,4 +1,5 @@
-//! The search: pairs of a waiting unit and a machine, by greater priority, place in the line and smaller machine.
+//! The search: pairs of a waiting unit and a machine that accepts one more grant of it, by greater priority, place
+//! in the line and smaller machine.
 
 ghost use Rattle.std.specs.Prelude.{◌≡◌, ℕ, ◌+◌, ◌<◌, ◌≤◌, IfOk, IfSome, length, map};
 ghost use Rattle.std.specs.List.{AllByRecursion};
@@ -9,7 +10,7 @@ ghost use Rattle.written_roles.specs.Preemption.{plan_in};
 ghost use Rattle.grant_table.specs.Tables.{as_known};
 ghost use Rattle.preempt.specs.Given.{AreGroups, IsEntry, pair_of};
 ghost use Rattle.preempt.specs.Plans.{IsBoardOf, CanBeMade, plan_as};
-ghost use Rattle.preempt.specs.Search.{IsFound, pairs_on, pairs_at};
+ghost use Rattle.preempt.specs.Search.{IsFound, accepts_at, pairs_on, pairs_at};
 ghost use Rattle.preempt.specs.Shelves.{AreShelves};
 
 use crate::entry::{Entry, GroupUse};
@@ -21,6 +22,18 @@ use grant_table::{Asking, GrantTable, Pick, Steps};
 use schedule_unit::MachineNo;
 use std::alloc::Global;
 use std::sync::ledger::Ledger;
+
+// Whether a unit is tried on a machine: it may be granted there, and it holds fewer there than its greatest number.
+fn accepts<P: Asking>(table: &GrantTable, placer: &P, e: &Entry, machine: MachineNo) -> bool
+    requires entry { IsEntry table.now e.now }
+    requires machine { machine.0 < length table.now.cluster.machines }
+    ensures { result ≡ accepts_at table.now (P.usable placer.now) e.now.app.0 e.now.unit.0 machine.0 }
+{
+    if !placer.may_use(e.app, e.unit, machine) {
+        return false;
+    }
+    table.held_on(e.app, e.unit, machine) < table.most(e.app, e.unit)
+}
 
 // The plan of the first machine on which a unit has victims.
 fn first_machine<P: Asking>(
@@ -44,7 +57,7 @@ fn first_machine<P: Asking>(
     };
     for number in 0..cluster.machines() {
         let machine = MachineNo(number);
-        if !placer.may_use(e.app, e.unit, machine) {
+        if !accepts(table, placer, e, machine) {
             continue;
         }
         let shelf = &shelves[number as usize];
@@ -94,8 +107,9 @@ fn first_unit<P: Asking>(
 
 /// The plan of the first pair of a waiting unit and a machine that has victims, and `None` exactly where no pair
 /// has any: whatever board says the same as the table and as the one who asks, the plan is that of the board
-/// (`plan`). It can be carried out on the table (`made`). Each unit of the line must be admitted. Only want of
-/// memory is an error, and it leaves all as it was. What is free is asked at most once for each machine (`steps`).
+/// (`plan`). A machine where the unit may not be granted, or holds its greatest number already, is not tried. The
+/// plan can be carried out on the table (`made`). Each unit of the line must be admitted. Only want of memory is an
+/// error, and it leaves all as it was. What is free is asked at most once for each machine (`steps`).
 ///
 /// The time is linear in the units that have grants on a machine, whatever their counts, for each pair; a pair of
 /// which nothing may be taken costs one test. Memory is asked once for the units and for what they have on each

@@ -1,9 +1,9 @@
 -- What placing reads of a core is what it reads of the master for which the core stands.
 use Rattle.std.proofs.Common.{◌≡◌, ℕ, ◌-◌, not, nat_lt, sym, ◌∙◌, ap}
 use Rattle.std.specs.Prelude.{◌&&◌}
-use Rattle.fuxi_terms.specs.Jobs.{group_of, size_at}
+use Rattle.fuxi_terms.specs.Jobs.{group_of, size_at, most_of}
 use Rattle.fuxi_terms.specs.Numbers.{has_number}
-use Rattle.fuxi_terms.specs.Tables.{held}
+use Rattle.fuxi_terms.specs.Tables.{held, held_on}
 use Rattle.written_roles.specs.Masters.{out, out_of}
 use Rattle.written_roles.specs.MasterRoles.{MasterRole}
 use Rattle.written_roles.specs.Placing.{has_pair, placeable, is_allowed_in, has_room_in}
@@ -25,7 +25,7 @@ placeable_is x r a u m s =
     let bans = sym t.bans in
     let reported = sym t.reported in
     λ i. (serves i && (nat_lt 0 (p.wants a u i - held (p.entries i) a u) && is_allowed_in (p.cluster i) (group_of (jobs i)) (size_at (jobs i)) (p.entries i) a u))
-    && ((has_number m (reported i) && (not (has_number m (bans i)) && not (nat_lt 0 (p.avoids a u m i)))) && has_room_in (p.cluster i) (size_at (jobs i)) (p.entries i) a u m)
+    && (((has_number m (reported i) && (not (has_number m (bans i)) && not (nat_lt 0 (p.avoids a u m i)))) && nat_lt (held_on (p.entries i) a u m) (most_of (jobs i) a u)) && has_room_in (p.cluster i) (size_at (jobs i)) (p.entries i) a u m)
 
 out_is : (x : CoreRecord) (r : MasterRole) (a u : ℕ) → MasterStandsFor x r → out_of (asks_seen x.allotment.placer.seen) x.allotment.table.entries a u ≡ out r.state a u
 out_is x r a u s = let p = s.stands.allots.placing in λ i. p.wants a u i - held (p.entries i) a u

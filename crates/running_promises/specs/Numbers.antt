@@ -1,6 +1,6 @@
 -- What is read of one core: what an application holds, and what placing reads of a master.
 use Rattle.std.specs.Prelude.{ℕ, Bool, cond, not, nat_lt, ◌&&◌}
-use Rattle.fuxi_terms.specs.Jobs.{priority_of, size_at, group_of}
+use Rattle.fuxi_terms.specs.Jobs.{priority_of, size_at, most_of, group_of}
 use Rattle.fuxi_terms.specs.Numbers.{has_number}
 use Rattle.fuxi_terms.specs.TallyKeys.{avoid_key}
 use Rattle.written_roles.specs.Placing.{Board, placeable_in}
@@ -24,12 +24,14 @@ board_of x = record {
   cluster = x.allotment.table.cluster;
   priorities = priority_of x.known.jobs;
   sizes = size_at x.known.jobs;
+  mosts = most_of x.known.jobs;
   groups = group_of x.known.jobs;
   asks = asks_seen x.allotment.placer.seen;
   may_use = may_use x;
   serving = x.serving;
 }
 
--- a core may grant a unit once more on a machine: it serves, the unit waits and its group's limit allows it, and the machine takes it and has room
+-- a core may grant a unit once more on a machine: it serves, the unit waits and its group's limit allows it, the machine takes it, it holds fewer
+-- there than its greatest number, and there is room
 abbrev pub is_placeable : CoreRecord → ℕ → ℕ → ℕ → Bool
 is_placeable x a u m = placeable_in (board_of x) x.allotment.table.entries a u m

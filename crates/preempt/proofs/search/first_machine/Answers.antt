@@ -12,8 +12,8 @@ use Rattle.preempt.proofs.search.first_machine.Goals as goal
 pub returns-in-None : goal.returns-in-None
 returns-in-None g c = wide_found c.args.table.now (g.P.Asking.usable c.args.placer.now) (pair_of c.args.e.now) c.in-None.ensures
 
-pub loop-number-preserved-then-not-may_use : goal.loop-number-preserved-then-not-may_use
-loop-number-preserved-then-not-may_use g c = passed_closed c.args.table.now (g.P.Asking.usable c.args.placer.now) (pair_of c.args.e.now) c.loop-number.number (sym c.may_use.ensures ∙ c.if-not-may_use.true) c.loop-number.invariant
+pub loop-number-preserved-then-not-accepts : goal.loop-number-preserved-then-not-accepts
+loop-number-preserved-then-not-accepts g c = passed_closed c.args.table.now (g.P.Asking.usable c.args.placer.now) (pair_of c.args.e.now) c.loop-number.number (sym c.accepts.ensures ∙ c.if-not-accepts.true) c.loop-number.invariant
 
 pub victims_for-requires-clause-few : goal.victims_for-requires-clause-few
 victims_for-requires-clause-few g c = (c.requires.shelves.each c.loop-number.number c.index-shelves-number.result (shelf_at c.args.shelves.now c.loop-number.number c.index-shelves-number.result
@@ -40,7 +40,7 @@ returns-in-Some-2 g c =
     let takable : AreTakable t n vs =
     subst (AreTakable t n) (sym c.of-victims.ensures) (subst (λ o. IfSome o (λ xs. AreTakable t n xs.items)) c.in-Some-2.is (c.in_ok-victims.ensures.takable t n sound c.requires.groups c.requires.entry c.in-Some.ensures shelf)) in
     found_here t (g.P.Asking.usable c.args.placer.now) (record { pick = record { app = e.app; unit = e.unit; machine = record { 0 = n } }; victims = vs }) sound c.requires.entry.unit there
-    (sym c.may_use.ensures ∙ c.if-not-may_use.false) found takable c.loop-number.invariant
+    (sym c.accepts.ensures ∙ c.if-not-accepts.false) found takable c.loop-number.invariant
 
 pub loop-number-preserved : goal.loop-number-preserved
 loop-number-preserved g c =
@@ -51,4 +51,4 @@ loop-number-preserved g c =
     (let same = ap (λ (x : ClusterRecord). length x.machines) c.cluster-cluster.ensures.cluster in let a = c.loop-number-test.true in let b = c.machines-number-end.ensures.number in let l = c.requires.shelves.long in omega (arith, a, b, same, l)) c.index-shelves-number.is) in
     let none : victims_in (board_of t) t.entries (spot e.app.0 e.unit.0 n) ≡ None =
     subst (λ o. MatchOption o (victims_in (board_of t) t.entries (spot e.app.0 e.unit.0 n) ≡ None) (λ xs. victims_in (board_of t) t.entries (spot e.app.0 e.unit.0 n) ≡ Some (losers_of n xs.items))) c.in-None-2.is (c.in_ok-victims.ensures.found t n c.cluster-cluster.ensures.sound c.requires.groups c.requires.entry c.in-Some.ensures shelf) in
-    passed_without t (g.P.Asking.usable c.args.placer.now) (pair_of e) n (sym c.may_use.ensures ∙ c.if-not-may_use.false) none c.loop-number.invariant
+    passed_without t (g.P.Asking.usable c.args.placer.now) (pair_of e) n (sym c.accepts.ensures ∙ c.if-not-accepts.false) none c.loop-number.invariant
