@@ -10,17 +10,17 @@ use Rattle.std.proofs.lemmas.List.Folds.{list_any-append}
 use Rattle.std.proofs.Math.ListN.{get_or-eq_default}
 use Rattle.fuxi_terms.specs.Cluster.{ClusterRecord, JobRecord, has_at, limit_at, is_narrow, in_each}
 use Rattle.fuxi_terms.specs.Counts.{count}
-use Rattle.fuxi_terms.specs.Jobs.{KnownJob, job_of, is_known, unit_count, group_of, size_at, no_unit}
+use Rattle.fuxi_terms.specs.Jobs.{KnownJob, job_of, is_known, unit_count, group_of, size_at, most_of, no_unit}
 use Rattle.fuxi_terms.specs.Keys.{Spot, key_cmp}
 use Rattle.fuxi_terms.specs.Lists.{below}
-use Rattle.fuxi_terms.specs.Tables.{held, total_by, usage_by}
+use Rattle.fuxi_terms.specs.Tables.{held, held_on, total_by, usage_by}
 use Rattle.fuxi_terms.specs.TallyKeys.{want_key, avoid_key}
 use Rattle.fuxi_terms.specs.Vectors.{at_place}
 use Rattle.fuxi_terms.specs.declared.Key.{Key}
 use Rattle.fuxi_terms.proofs.Booleans.{and_true, both_true, both_false, number_is, or_false}
 use Rattle.fuxi_terms.proofs.Members.{both_empty, mapped_empty, none_passes, in_below, each_place, each_from, sum_le}
 use Rattle.written_roles.specs.Masters.{out_of}
-use Rattle.written_roles.specs.Placing.{Board, Ranked, ranked_in, places_in, candidates_in, may_grow_in, has_room_in, is_allowed_in, placeable_in, first_of, first_in, has_pair}
+use Rattle.written_roles.specs.Placing.{Board, Ranked, ranked_in, places_in, candidates_in, may_grow_in, accepts_in, has_room_in, is_allowed_in, placeable_in, first_of, first_in, has_pair}
 use Rattle.grant_table.specs.Tables.{TableRecord, as_known, with_admitted}
 use Rattle.place_pass.specs.Best.{AreAdmitted}
 use Rattle.place_pass.specs.Cells.{Cell, no_cell, cell_at, asks_at, asks_in, job_at, taken, taken_all, is_gone, any_gone, asks_more, any_more, AreWishes}
@@ -63,7 +63,7 @@ idle_first c cells o t l line admitted h =
     let b = board_over cells o t in
     no_rank (candidates_in b t.entries 0 line) (all_candidates Never b t.entries (λ (p : ℕ × ℕ). p.1 < length (get_or cells p.0 [])) 0 line admitted (λ p place m lt there g u r.
     let n = count_is c cells t l p.0 in
-    let placed : placeable_in b t.entries p.0 p.1 m ≡ true = and_true (may_grow_in b t.entries p.0 p.1) _ g (and_true (is_open_to cells o p.0 p.1 m) (has_room_in b.cluster b.sizes t.entries p.0 p.1 m) u r) in
+    let placed : placeable_in b t.entries p.0 p.1 m ≡ true = and_true (may_grow_in b t.entries p.0 p.1) _ g (and_true (accepts_in b t.entries p.0 p.1 m) (has_room_in b.cluster b.sizes t.entries p.0 p.1 m) u r) in
     let none = h.none p.0 p.1 m (omega (arith, lt, n)) there in
     record { never = (let f : ⊥ = cc in f) }))
 
@@ -75,8 +75,8 @@ none_of_line b es place (p ∷ ps) e a u m has there =
     elim (nat_eq a p.0 && nat_eq u p.1) as (λ t. (nat_eq a p.0 && nat_eq u p.1) ≡ t → (t || has_pair (a, u) ps) ≡ true → placeable_in b es a u m ≡ false) [
       | true ↦ λ t _.
           let eqs = both_true (nat_eq a p.0) (nat_eq u p.1) t in
-          let here : placeable_in b es p.0 p.1 m ≡ false = elim (may_grow_in b es p.0 p.1) as (λ g. elim g as (λ _. List Ranked) [ true ↦ places_in b es place p | false ↦ [] ] ≡ [] → (g && (b.may_use p.0 p.1 m && has_room_in b.cluster b.sizes es p.0 p.1 m)) ≡ false) [
-            | true ↦ λ none. none_passes (λ m. b.may_use p.0 p.1 m && has_room_in b.cluster b.sizes es p.0 p.1 m) m (below (length b.cluster.machines)) (mapped_empty (ranked_in b es place p) _ none) (in_below (length b.cluster.machines) m there)
+          let here : placeable_in b es p.0 p.1 m ≡ false = elim (may_grow_in b es p.0 p.1) as (λ g. elim g as (λ _. List Ranked) [ true ↦ places_in b es place p | false ↦ [] ] ≡ [] → (g && (accepts_in b es p.0 p.1 m && has_room_in b.cluster b.sizes es p.0 p.1 m)) ≡ false) [
+            | true ↦ λ none. none_passes (λ m. accepts_in b es p.0 p.1 m && has_room_in b.cluster b.sizes es p.0 p.1 m) m (below (length b.cluster.machines)) (mapped_empty (ranked_in b es place p) _ none) (in_below (length b.cluster.machines) m there)
             | false ↦ λ _. refl
           ] parts.0 in
           subst (λ (q : ℕ × ℕ). placeable_in b es q.0 q.1 m ≡ false) (λ i. (sym (number_is a p.0 eqs.0) i, sym (number_is u p.1 eqs.1) i)) here
@@ -93,7 +93,7 @@ pub idle_found : (cells : List (List Cell)) (o : List Bool) (t : TableRecord) (l
 idle_found cells o t line up e = record {
   none = λ a u m lt there. elim (nat_lt 0 (out_of (asks_in cells) t.entries a u)) as (λ w. nat_lt 0 (out_of (asks_in cells) t.entries a u) ≡ w → placeable_in (board_over cells o t) t.entries a u m ≡ false) [
     | true ↦ λ w. none_of_line (board_over cells o t) t.entries 0 line (no_candidates _ e) a u m (up a u ∙ and_true (nat_lt u (unit_count (as_known t.jobs) a)) _ (grind (arith, nat_tests, lt)) w) (grind (arith, nat_tests, there))
-    | false ↦ λ w. ap (λ x. (x && is_allowed_in t.cluster (group_of (as_known t.jobs)) (size_at (as_known t.jobs)) t.entries a u) && (is_open_to cells o a u m && has_room_in t.cluster (size_at (as_known t.jobs)) t.entries a u m)) w
+    | false ↦ λ w. ap (λ x. (x && is_allowed_in t.cluster (group_of (as_known t.jobs)) (size_at (as_known t.jobs)) t.entries a u) && (accepts_in (board_over cells o t) t.entries a u m && has_room_in t.cluster (size_at (as_known t.jobs)) t.entries a u m)) w
   ] refl;
 }
 
@@ -105,15 +105,20 @@ fewer w l p r true true false r' e f g h k = refl
 fewer w l p r true true true false e f g h k = refl
 fewer w l p r true true true true e f g h k = sym (λ i. (f refl i && g refl i) && (h refl i && k refl i)) ∙ e
 
+-- a machine that is open to a unit, on which it holds fewer than its greatest number
+accepts_less : (p n p' n' : Bool) → (p' ≡ true → p ≡ true) → (n' ≡ true → n ≡ true) → (p' && n') ≡ true → (p && n) ≡ true
+accepts_less p n p' n' h k e = let b = both_true p' n' e in and_true p n (h b.0) (k b.1)
+
 -- no unit wants more, and no machine is opened to one
 idle_less : (cells cells' : List (List Cell)) (o o' : List Bool) (t : TableRecord) → IsIdle cells o t
     → ((a u : ℕ) → asks_in cells' a (want_key u) ≤ asks_in cells a (want_key u)) → ((a u m : ℕ) → is_open_to cells' o' a u m ≡ true → is_open_to cells o a u m ≡ true) → IsIdle cells' o' t
 idle_less cells cells' o o' t h wants opens = record {
   none = λ a u m lt there. fewer (nat_lt 0 (out_of (asks_in cells) t.entries a u)) (is_allowed_in t.cluster (group_of (as_known t.jobs)) (size_at (as_known t.jobs)) t.entries a u)
-      (is_open_to cells o a u m) (has_room_in t.cluster (size_at (as_known t.jobs)) t.entries a u m)
+      (accepts_in (board_over cells o t) t.entries a u m) (has_room_in t.cluster (size_at (as_known t.jobs)) t.entries a u m)
       (nat_lt 0 (out_of (asks_in cells') t.entries a u)) (is_allowed_in t.cluster (group_of (as_known t.jobs)) (size_at (as_known t.jobs)) t.entries a u)
-      (is_open_to cells' o' a u m) (has_room_in t.cluster (size_at (as_known t.jobs)) t.entries a u m)
-      (h.none a u m lt there) (λ w. let le = wants a u in let more : out_of (asks_in cells') t.entries a u ≤ out_of (asks_in cells) t.entries a u = omega (arith, le) in grind (arith, nat_tests, w, more)) (λ x. x) (opens a u m) (λ x. x);
+      (accepts_in (board_over cells' o' t) t.entries a u m) (has_room_in t.cluster (size_at (as_known t.jobs)) t.entries a u m)
+      (h.none a u m lt there) (λ w. let le = wants a u in let more : out_of (asks_in cells') t.entries a u ≤ out_of (asks_in cells) t.entries a u = omega (arith, le) in grind (arith, nat_tests, w, more)) (λ x. x)
+      (accepts_less (is_open_to cells o a u m) (nat_lt (held_on t.entries a u m) (most_of (as_known t.jobs) a u)) (is_open_to cells' o' a u m) (nat_lt (held_on t.entries a u m) (most_of (as_known t.jobs) a u)) (opens a u m) (λ x. x)) (λ x. x);
 }
 
 opened_less : (cells : List (List Cell)) (o o' : List Bool) (t : TableRecord) → IsIdle cells o t → ((m : ℕ) → get_or o' m false ≡ true → get_or o m false ≡ true) → IsIdle cells o' t
@@ -229,8 +234,11 @@ module _ (j : JobRecord) (cells cells' : List (List Cell)) (o : List Bool) (t : 
   abbrev old : List KnownJob
   old = as_known t.jobs
 
+  abbrev with_job : TableRecord
+  with_job = record t { jobs = with_admitted j t.jobs }
+
   abbrev now : List KnownJob
-  now = as_known (with_admitted j t.jobs)
+  now = as_known with_job.jobs
 
   same : (a : ℕ) → nat_eq j.number a ≡ false → job_of now a ≡ job_of old a
   same a f = found a ∙ ap (λ b. cond b (Some (record { job = j; ended = false })) (job_of old a)) f
@@ -242,9 +250,12 @@ module _ (j : JobRecord) (cells cells' : List (List Cell)) (o : List Bool) (t : 
       by None h = refl
       by (Some k) h = cc
 
-  -- one place of a unit's size, of a job that may be there
+  -- one place of a unit's size, and its greatest number per machine, of a job that may be there
   abbrev size_of : Option KnownJob → ℕ → ℕ → ℕ
   size_of k u i = at_place (unwrap_or (slice_get (unwrap_or (option_map (λ (k : KnownJob). k.job.units) k) []) u) no_unit).size i
+
+  abbrev most_in : Option KnownJob → ℕ → ℕ
+  most_in k u = (unwrap_or (slice_get (unwrap_or (option_map (λ (k : KnownJob). k.job.units) k) []) u) no_unit).most
 
   abbrev group_in : Option KnownJob → ℕ
   group_in k = unwrap_or (option_map (λ (k : KnownJob). k.job.group) k) 0
@@ -301,15 +312,17 @@ module _ (j : JobRecord) (cells cells' : List (List Cell)) (o : List Bool) (t : 
       refl (ap (λ k. size_of k u i) (same a f)) (total_le m i) (each_place t.cluster.resources then i b.1 lt)))
 
   -- nothing is out of the job, and of the others nothing that was not
-  pub idle_admitted : IsIdle cells o t → IsIdle cells' o (record t { jobs = with_admitted j t.jobs })
+  pub idle_admitted : IsIdle cells o t → IsIdle cells' o with_job
   idle_admitted h = record {
-    none = λ a u m lt there. elim (nat_eq j.number a) as (λ b. nat_eq j.number a ≡ b → placeable_in (board_over cells' o (record t { jobs = with_admitted j t.jobs })) t.entries a u m ≡ false) [
-      | true ↦ λ b. ap (λ x. (x && is_allowed_in t.cluster (group_of now) (size_at now) t.entries a u) && (is_open_to cells' o a u m && has_room_in t.cluster (size_at now) t.entries a u m)) (none_out a u b)
-      | false ↦ λ f. fewer (nat_lt 0 (out_of (asks_in cells) t.entries a u)) (is_allowed_in t.cluster (group_of old) (size_at old) t.entries a u) (is_open_to cells o a u m) (has_room_in t.cluster (size_at old) t.entries a u m)
-          (nat_lt 0 (out_of (asks_in cells') t.entries a u)) (is_allowed_in t.cluster (group_of now) (size_at now) t.entries a u) (is_open_to cells' o a u m) (has_room_in t.cluster (size_at now) t.entries a u m)
+    none = λ a u m lt there. elim (nat_eq j.number a) as (λ b. nat_eq j.number a ≡ b → placeable_in (board_over cells' o with_job) t.entries a u m ≡ false) [
+      | true ↦ λ b. ap (λ x. (x && is_allowed_in t.cluster (group_of now) (size_at now) t.entries a u) && (accepts_in (board_over cells' o with_job) t.entries a u m && has_room_in t.cluster (size_at now) t.entries a u m)) (none_out a u b)
+      | false ↦ λ f. fewer (nat_lt 0 (out_of (asks_in cells) t.entries a u)) (is_allowed_in t.cluster (group_of old) (size_at old) t.entries a u) (accepts_in (board_over cells o t) t.entries a u m) (has_room_in t.cluster (size_at old) t.entries a u m)
+          (nat_lt 0 (out_of (asks_in cells') t.entries a u)) (is_allowed_in t.cluster (group_of now) (size_at now) t.entries a u) (accepts_in (board_over cells' o with_job) t.entries a u m) (has_room_in t.cluster (size_at now) t.entries a u m)
           (h.none a u m (subst (λ n. u < n) (ap (λ k. length (unwrap_or (option_map (λ (k : KnownJob). k.job.units) k) [])) (same a f)) lt) there)
           (λ w. sym (ap (λ n. nat_lt 0 (n - held t.entries a u)) (asks a (want_key u))) ∙ w) (still_allowed a u f)
-          (λ p. sym (ap (λ n. get_or o m false && not (nat_lt 0 n)) (asks a (avoid_key u m))) ∙ p) (still_room a u m f)
+          (accepts_less (is_open_to cells o a u m) (nat_lt (held_on t.entries a u m) (most_of old a u)) (is_open_to cells' o a u m) (nat_lt (held_on t.entries a u m) (most_of now a u))
+          (λ p. sym (ap (λ n. get_or o m false && not (nat_lt 0 n)) (asks a (avoid_key u m))) ∙ p) (λ p. sym (ap (λ k. nat_lt (held_on t.entries a u m) (most_in k u)) (same a f)) ∙ p))
+          (still_room a u m f)
     ] refl;
   }
     where

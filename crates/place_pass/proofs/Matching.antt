@@ -12,7 +12,7 @@ use Rattle.fuxi_terms.proofs.ByPlace.{at_place-get_or}
 use Rattle.place_pass.specs.declared.wishes.Wish.{Wish}
 use Rattle.cluster_desc.specs.declared.cluster.Machine.{Machine}
 use Rattle.cluster_desc.specs.Records.{machine_of as padded_machine}
-use Rattle.fuxi_terms.specs.Jobs.{KnownJob, job_of, units_of, unit_of, unit_count, group_of, no_unit}
+use Rattle.fuxi_terms.specs.Jobs.{KnownJob, job_of, units_of, unit_of, unit_count, group_of, most_of, no_unit}
 use Rattle.grant_table.specs.Tables.{TableRecord, as_known, AreJobs}
 use Rattle.place_pass.specs.Cells.{Cell, cell_of, cell_at, no_cell, job_in, job_at, AreWishes}
 use Rattle.place_pass.specs.Placers.{AreLevel}
@@ -37,6 +37,10 @@ module _ (c : ClusterRecord) (cells : List (List Cell)) (t : TableRecord) (l : A
       got [] u = refl
       got (x ∷ xs) zero = refl
       got (x ∷ xs) (suc u) = got xs u
+
+  -- and so is its greatest number per machine
+  pub most_is : (w : Wish) (a u : ℕ) → u < length (get_or cells a []) → cell_of w ≡ cell_at cells a u → w.most ≡ most_of (as_known t.jobs) a u
+  most_is w a u lt cell = ap (λ (x : Cell). x.unit.most) cell ∙ ap (λ (x : UnitRecord). x.most) (unit_is a u lt)
 
   pub group_is : (o : List Bool) → AreWishes c cells o → (a u : ℕ) → u < length (get_or cells a []) → (cell_at cells a u).group ≡ group_of (as_known t.jobs) a
   group_is o w a u lt = (w.unit a u lt).group ∙ first (get_or cells a []) (omega (arith, lt)) ∙ ap (λ o. unwrap_or (option_map (λ (j : JobRecord). j.group) o) 0) (l.jobs_are a) ∙ sym (by_record (λ (j : JobRecord). j.group) 0 (job_of (as_known t.jobs) a))

@@ -19,7 +19,7 @@ use Rattle.fuxi_terms.proofs.Booleans.{both_true, either, nat_itself}
 use Rattle.fuxi_terms.proofs.Members.{each_place}
 use Rattle.fuxi_terms.proofs.Sums.{sum_set}
 use Rattle.written_roles.specs.Masters.{out_of}
-use Rattle.written_roles.specs.Placing.{Board, Ranked, ranked_in, places_in, candidates_in, may_grow_in, has_room_in, least, first_of, first_in}
+use Rattle.written_roles.specs.Placing.{Board, Ranked, ranked_in, places_in, candidates_in, may_grow_in, accepts_in, has_room_in, least, first_of, first_in}
 use Rattle.grant_table.specs.Tables.{TableRecord, IsSound, as_known}
 use Rattle.grant_table.specs.declared.asking.Pick.{Pick}
 use Rattle.place_pass.specs.Cells.{Cell, cell_at, asks_in, job_at, AreWishes}
@@ -44,11 +44,11 @@ all_below P f q (suc n) h = subst (AllByRecursion P) (sym (ap (map f) (filter_ap
     last false e = tt
 
 pub all_candidates : (P : Ranked → Type 0) (b : Board) (es : List (Spot × ℕ)) (admitted : ℕ × ℕ → Type 0) (place : ℕ) (ps : List (ℕ × ℕ)) → AllByRecursion admitted ps
-    → ((p : ℕ × ℕ) (place m : ℕ) → admitted p → m < length b.cluster.machines → may_grow_in b es p.0 p.1 ≡ true → b.may_use p.0 p.1 m ≡ true → has_room_in b.cluster b.sizes es p.0 p.1 m ≡ true → P (ranked_in b es place p m)) → AllByRecursion P (candidates_in b es place ps)
+    → ((p : ℕ × ℕ) (place m : ℕ) → admitted p → m < length b.cluster.machines → may_grow_in b es p.0 p.1 ≡ true → accepts_in b es p.0 p.1 m ≡ true → has_room_in b.cluster b.sizes es p.0 p.1 m ≡ true → P (ranked_in b es place p m)) → AllByRecursion P (candidates_in b es place ps)
 all_candidates P b es admitted place [] a h = tt
 all_candidates P b es admitted place (p ∷ ps) a h = all_append P (elim (may_grow_in b es p.0 p.1) as (λ _. List Ranked) [ true ↦ places_in b es place p | false ↦ [] ]) (candidates_in b es (place + 1) ps)
     (elim (may_grow_in b es p.0 p.1) as (λ t. may_grow_in b es p.0 p.1 ≡ t → AllByRecursion P (elim t as (λ _. List Ranked) [ true ↦ places_in b es place p | false ↦ [] ])) [
-      | true ↦ λ g. all_below P (ranked_in b es place p) (λ m. b.may_use p.0 p.1 m && has_room_in b.cluster b.sizes es p.0 p.1 m) (length b.cluster.machines) (λ m lt e. let x = both_true (b.may_use p.0 p.1 m) _ e in h p place m a.0 lt g x.0 x.1)
+      | true ↦ λ g. all_below P (ranked_in b es place p) (λ m. accepts_in b es p.0 p.1 m && has_room_in b.cluster b.sizes es p.0 p.1 m) (length b.cluster.machines) (λ m lt e. let x = both_true (accepts_in b es p.0 p.1 m) _ e in h p place m a.0 lt g x.0 x.1)
       | false ↦ λ _. tt
     ] refl)
     (all_candidates P b es admitted (place + 1) ps a.1 h)

@@ -5,7 +5,7 @@ use Rattle.std.specs.Option.{option_map}
 use Rattle.fuxi_terms.specs.Keys.{Spot}
 use Rattle.fuxi_terms.specs.Lists.{below}
 use Rattle.fuxi_terms.proofs.Lists.{take_last}
-use Rattle.written_roles.specs.Placing.{Board, Ranked, ranked_in, has_room_in, may_grow_in, places_in, candidates_in, least, first_of, first_in}
+use Rattle.written_roles.specs.Placing.{Board, Ranked, ranked_in, accepts_in, has_room_in, may_grow_in, places_in, candidates_in, least, first_of, first_in}
 use Rattle.place_pass.specs.declared.search.Found.{Found}
 use Rattle.place_pass.specs.Best.{better, best_in, places_to, ranked_as, spot_of}
 
@@ -30,10 +30,10 @@ map_last f q (y ∷ ys) x = elim (q y) as (λ b. map f (cond b (y ∷ filter q (
 
 -- one machine more
 pub places_more : (b : Board) (table : List (Spot × ℕ)) (place : ℕ) (p : ℕ × ℕ) (n : ℕ) (best : Option Ranked)
-    → best_in best (places_to b table place p (n + 1)) ≡ best_in (best_in best (places_to b table place p n)) (cond (b.may_use p.0 p.1 n && has_room_in b.cluster b.sizes table p.0 p.1 n) (ranked_in b table place p n ∷ []) [])
+    → best_in best (places_to b table place p (n + 1)) ≡ best_in (best_in best (places_to b table place p n)) (cond (accepts_in b table p.0 p.1 n && has_room_in b.cluster b.sizes table p.0 p.1 n) (ranked_in b table place p n ∷ []) [])
 places_more b table place p n best =
     ap (λ k. best_in best (places_to b table place p k)) (add-one n)
-    ∙ ap (best_in best) (map_last (ranked_in b table place p) (λ m. b.may_use p.0 p.1 m && has_room_in b.cluster b.sizes table p.0 p.1 m) (below n) n)
+    ∙ ap (best_in best) (map_last (ranked_in b table place p) (λ m. accepts_in b table p.0 p.1 m && has_room_in b.cluster b.sizes table p.0 p.1 m) (below n) n)
     ∙ best_append best (places_to b table place p n) _
 
 -- one pair of the line more

@@ -11,7 +11,7 @@ use Rattle.fuxi_terms.specs.Keys.{Spot}
 use Rattle.fuxi_terms.specs.Lists.{below}
 use Rattle.fuxi_terms.specs.Cluster.{has_at}
 use Rattle.fuxi_terms.specs.Tables.{spot, total_at}
-use Rattle.written_roles.specs.Placing.{Board, Ranked, ranked_in, has_room_in}
+use Rattle.written_roles.specs.Placing.{Board, Ranked, ranked_in, accepts_in, has_room_in}
 use Rattle.grant_table.specs.declared.asking.Pick.{Pick}
 use Rattle.place_pass.specs.declared.search.Found.{Found}
 
@@ -32,7 +32,7 @@ best_in b (s ∷ ss) = best_in (Some (better b s)) ss
 
 -- the placeable pairs of one unit on the first machines
 abbrev pub places_to : Board → List (Spot × ℕ) → ℕ → ℕ × ℕ → ℕ → List Ranked
-places_to b table place p n = map (ranked_in b table place p) (filter (λ m. b.may_use p.0 p.1 m && has_room_in b.cluster b.sizes table p.0 p.1 m) (below n))
+places_to b table place p n = map (ranked_in b table place p) (filter (λ m. accepts_in b table p.0 p.1 m && has_room_in b.cluster b.sizes table p.0 p.1 m) (below n))
 
 -- what is free on each open machine
 abbrev pub parts_of : List Res → List (List ℕ)

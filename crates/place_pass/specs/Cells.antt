@@ -23,7 +23,7 @@ pub record Cell : Type 0 where
   pub avoided : List ℕ
 
 abbrev pub cell_of : Wish → Cell
-cell_of w = record { unit = record { priority = w.priority; size = w.size.q }; group = w.group.0; want = w.want; near = w.near.items; racks = w.racks.items; avoided = w.avoided.items }
+cell_of w = record { unit = record { priority = w.priority; size = w.size.q; most = w.most }; group = w.group.0; want = w.want; near = w.near.items; racks = w.racks.items; avoided = w.avoided.items }
 
 abbrev pub cells_in : Vec Wish → List Cell
 cells_in v = map cell_of v.items

@@ -9,7 +9,7 @@ use Rattle.fuxi_terms.specs.declared.Key.{Key}
 use Rattle.fuxi_terms.specs.Keys.{Spot, key_cmp, spot_cmp}
 use Rattle.fuxi_terms.specs.Counts.{count, set_count}
 use Rattle.fuxi_terms.specs.TallyKeys.{want_key, avoid_key}
-use Rattle.fuxi_terms.specs.Jobs.{KnownJob, job_of, job_numbers, unit_count, priority_of, size_at, group_of}
+use Rattle.fuxi_terms.specs.Jobs.{KnownJob, job_of, job_numbers, unit_count, priority_of, size_at, most_of, group_of}
 use Rattle.written_roles.specs.Masters.{out_of}
 use Rattle.written_roles.specs.Placing.{Board, waiting_in, has_pair, placeable_in}
 use Rattle.std.specs.List.{AllByRecursion}
@@ -68,6 +68,7 @@ board_over cells machines t = record {
   cluster = t.cluster;
   priorities = priority_of (as_known t.jobs);
   sizes = size_at (as_known t.jobs);
+  mosts = most_of (as_known t.jobs);
   groups = group_of (as_known t.jobs);
   asks = asks_in cells;
   may_use = is_open_to cells machines;

@@ -1,5 +1,6 @@
 //! The search for the placeable pair of first rank. What is free on each machine is asked once; a unit with
-//! nothing out, or whose group is at its limit, is left before any machine is looked at.
+//! nothing out, or whose group is at its limit, is left before any machine is looked at. A machine on which a unit
+//! has its greatest number is passed like one without room.
 
 ghost use Rattle.std.specs.Prelude.{◌≡◌, ℕ, ◌+◌, ◌-◌, ◌<◌, ◌≤◌, ◌&&◌, true, false, IsTrue, [], ◌∷◌, length};
 ghost use Rattle.std.proofs.Common.{get_or};
@@ -9,7 +10,7 @@ ghost use Rattle.std.specs.Cmp.Lexicographic.{slice_cmp};
 ghost use Rattle.fuxi_terms.specs.Vectors.{at_place};
 ghost use Rattle.fuxi_terms.specs.Cluster.{limit_at};
 ghost use Rattle.written_roles.specs.Masters.{out_of, level_of};
-ghost use Rattle.written_roles.specs.Placing.{first_in, places_in, may_grow_in, has_room_in};
+ghost use Rattle.written_roles.specs.Placing.{first_in, places_in, may_grow_in, accepts_in, has_room_in};
 ghost use Rattle.place_pass.specs.Cells.{asks_in, job_at};
 ghost use Rattle.place_pass.specs.Placers.{AreLevel, board_over, IsNarrow};
 ghost use Rattle.place_pass.specs.Best.{best_in, spot_of, ranked_as, IsFree, IsPart, AreAdmitted};
@@ -34,7 +35,7 @@ impl Wishes {
     ghost use Rattle.std.specs.Prelude.{◌≡◌, ◌-◌, ◌<◌, ◌≤◌, ◌&&◌, IsTrue, [], length};
     ghost use Rattle.std.proofs.Common.{get_or};
     ghost use Rattle.written_roles.specs.Masters.{out_of, level_of};
-    ghost use Rattle.written_roles.specs.Placing.{may_grow_in, has_room_in};
+    ghost use Rattle.written_roles.specs.Placing.{may_grow_in, accepts_in, has_room_in};
     ghost use Rattle.fuxi_terms.specs.Jobs.{unit_count};
     ghost use Rattle.grant_table.specs.Tables.{as_known};
     ghost use Rattle.place_pass.specs.Cells.{asks_in, job_at};
@@ -66,7 +67,8 @@ impl Wishes {
         allows(&group, &table.used_by(wish.group), &wish.size)
     }
 
-    // Whether the machine takes the unit and has room for it.
+    // Whether the machine takes the unit, the unit holds fewer there than its greatest number, and the machine has
+    // room for it.
     fn takes(
         &self,
         table: &GrantTable,
@@ -81,7 +83,7 @@ impl Wishes {
         requires machine { machine.0 < length table.now.cluster.machines }
         requires free { IsFree table.now self.now.opened parts.now }
         requires narrow { IsNarrow table.now app.0 unit.0 }
-        ensures { result ≡ ((board_over self.now.cells self.now.opened table.now).may_use app.0 unit.0 machine.0 && has_room_in table.now.cluster (board_over self.now.cells self.now.opened table.now).sizes table.now.entries app.0 unit.0 machine.0) }
+        ensures { result ≡ (accepts_in (board_over self.now.cells self.now.opened table.now) table.now.entries app.0 unit.0 machine.0 && has_room_in table.now.cluster (board_over self.now.cells self.now.opened table.now).sizes table.now.entries app.0 unit.0 machine.0) }
     {
         let wish = self.wish(app, unit);
         let number = machine.0 as usize;
@@ -89,6 +91,9 @@ impl Wishes {
             return false;
         }
         if wish.avoided[number] > 0 {
+            return false;
+        }
+        if table.held_on(app, unit, machine) >= wish.most {
             return false;
         }
         fits(&wish.size, &parts[number])

@@ -23,6 +23,8 @@ use std::marker::Model;
 pub(crate) struct Wish {
     pub(crate) priority: u8,
     pub(crate) size: Res,
+    /// The greatest number of its grants on one machine.
+    pub(crate) most: u32,
     pub(crate) group: GroupNo,
     pub(crate) want: u32,
     /// By machine.
@@ -173,12 +175,14 @@ fn fresh_units(alloc: Global, job: &Job, machines: usize) -> Result<Vec<Wish>, O
         let unit = job.unit(UnitNo(number));
         let priority = unit.priority;
         let size = unit.size;
+        let most = unit.most;
         let near = Vec::from_elem(alloc, 0, machines)?;
         let racks = Vec::from_elem(alloc, 0, MOST_RACKS as usize)?;
         let avoided = Vec::from_elem(alloc, 0, machines)?;
         units.push(Wish {
             priority,
             size,
+            most,
             group,
             want: 0,
             near,

@@ -2,7 +2,7 @@ use Rattle.std.proofs.Common.{◌≡◌, ℕ, ◌-◌, Bool, true, false, not, n
 use Rattle.std.specs.Prelude.{◌&&◌}
 use Rattle.std.proofs.lemmas.Bool.Decides.{nat_tests}
 use Rattle.fuxi_terms.specs.Cluster.{ClusterRecord, UnitRecord}
-use Rattle.fuxi_terms.specs.Jobs.{size_at}
+use Rattle.fuxi_terms.specs.Jobs.{size_at, most_of}
 use Rattle.written_roles.specs.Placing.{has_room_in}
 use Rattle.grant_table.specs.Tables.{as_known}
 use Rattle.fuxi_terms.specs.Vectors.{at_place}
@@ -10,9 +10,10 @@ use Rattle.fuxi_terms.proofs.ByPlace.{at_place-get_or}
 use Rattle.fuxi_terms.specs.declared.vectors.Res.{Res}
 use Rattle.place_pass.specs.Best.{parts_of}
 use Rattle.fuxi_terms.specs.Cluster.{has_at}
-use Rattle.fuxi_terms.specs.Tables.{total_at}
+use Rattle.fuxi_terms.specs.Tables.{held_on, total_at}
 use Rattle.place_pass.specs.Cells.{Cell, cell_at}
-use Rattle.place_pass.proofs.Matching.{avoided_read, unit_is}
+use Rattle.place_pass.specs.Placers.{is_open_to}
+use Rattle.place_pass.proofs.Matching.{avoided_read, most_is, unit_is}
 use Rattle.place_pass.proofs.Rooms.{room_is}
 use Rattle.place_pass.proofs.Places.{mapped_at}
 use Rattle.place_pass.proofs.wishes.Wishes.takes.Goals as goal
@@ -37,12 +38,27 @@ returns-then-index-gt0 c =
     let read = avoided_read c.wish-wish.result.now (cell_at c.args.self.now.cells a u) c.wish-wish.ensures.cell m c.index.result.now (omega (arith, w, n, k, l)) c.index.ensures in
     let some = c.if-index-gt0.true in
     let test : nat_lt 0 (get_or (cell_at c.args.self.now.cells a u).avoided m 0) ≡ true = grind (arith, nat_tests, read, some) in
-    none (get_or c.args.self.now.opened m false) (nat_lt 0 (get_or (cell_at c.args.self.now.cells a u).avoided m 0)) (has_room_in t.cluster (size_at (as_known t.jobs)) t.entries a u m) test
+    none (get_or c.args.self.now.opened m false) (nat_lt 0 (get_or (cell_at c.args.self.now.cells a u).avoided m 0)) (nat_lt (held_on t.entries a u m) (most_of (as_known t.jobs) a u)) (has_room_in t.cluster (size_at (as_known t.jobs)) t.entries a u m) test
   where
-    none : (o b r : Bool) → b ≡ true → false ≡ ((o && not b) && r)
-    none true true r e = refl
-    none false true r e = refl
-    none o false r e = cc
+    none : (o b n r : Bool) → b ≡ true → false ≡ (((o && not b) && n) && r)
+    none true true n r e = refl
+    none false true n r e = refl
+    none o false n r e = cc
+
+pub returns-then-held_on-wish : goal.returns-then-held_on-wish
+returns-then-held_on-wish c =
+    let t = c.args.table.now in
+    let a = c.args.app.0 in let u = c.args.unit.0 in let m = c.args.machine.0 in
+    let most = most_is c.args.self.now.cluster c.args.self.now.cells t c.requires.level c.wish-wish.result.now a u c.requires.unit c.wish-wish.ensures.cell in
+    let h = c.held_on.ensures in
+    let le = c.if-held_on-wish.true in
+    let full : nat_lt (held_on t.entries a u m) (most_of (as_known t.jobs) a u) ≡ false = grind (arith, nat_tests, most, h, le) in
+    never (is_open_to c.args.self.now.cells c.args.self.now.opened a u m) (nat_lt (held_on t.entries a u m) (most_of (as_known t.jobs) a u)) (has_room_in t.cluster (size_at (as_known t.jobs)) t.entries a u m) full
+  where
+    never : (o n r : Bool) → n ≡ false → false ≡ ((o && n) && r)
+    never true false r e = refl
+    never false false r e = refl
+    never o true r e = cc
 
 pub returns : goal.returns
 returns c =
@@ -54,6 +70,10 @@ returns c =
     let l = c.requires.machine in
     let read = avoided_read c.wish-wish.result.now (cell_at c.args.self.now.cells a u) c.wish-wish.ensures.cell m c.index.result.now (omega (arith, w, n, k, l)) c.index.ensures in
     let le = c.if-index-gt0.false in
+    let most = most_is c.args.self.now.cluster c.args.self.now.cells t c.requires.level c.wish-wish.result.now a u c.requires.unit c.wish-wish.ensures.cell in
+    let h = c.held_on.ensures in
+    let lt = c.if-held_on-wish.false in
+    let fewer : nat_lt (held_on t.entries a u m) (most_of (as_known t.jobs) a u) ≡ true = grind (arith, nat_tests, most, h, lt) in
     let test : nat_lt 0 (get_or (cell_at c.args.self.now.cells a u).avoided m 0) ≡ false = grind (arith, nat_tests, read, le) in
     let opened : get_or c.args.self.now.opened m false ≡ true = sym c.is_open.ensures ∙ c.if-not-is_open.false in
     let is = ap (λ (x : Cell). x.unit.size) c.wish-wish.ensures.cell ∙ ap (λ (x : UnitRecord). x.size) (unit_is c.args.self.now.cluster c.args.self.now.cells t c.requires.level a u c.requires.unit) in
@@ -65,9 +85,10 @@ returns c =
     let mapped : get_or (parts_of c.args.parts.now) m [] ≡ free = mapped_at (λ (r : Res). r.q) c.args.parts.now m d [] refl in
     let left : (i : ℕ) → at_place free i ≡ has_at t.cluster m i - total_at (as_known t.jobs) m i t.entries = λ i. at_place-get_or free i ∙ ap (λ xs. get_or xs i 0) (sym mapped) ∙ (part i).free in
     c.fits.ensures ∙ room_is t a u c.wish-wish.result.now.size.q is (omega (arith, eight, long)) m free c.requires.narrow left (λ i. (part i).fits)
-    ∙ both (get_or c.args.self.now.opened m false) (nat_lt 0 (get_or (cell_at c.args.self.now.cells a u).avoided m 0)) (has_room_in t.cluster (size_at (as_known t.jobs)) t.entries a u m) opened test
+    ∙ all (get_or c.args.self.now.opened m false) (nat_lt 0 (get_or (cell_at c.args.self.now.cells a u).avoided m 0)) (nat_lt (held_on t.entries a u m) (most_of (as_known t.jobs) a u)) (has_room_in t.cluster (size_at (as_known t.jobs)) t.entries a u m) opened test fewer
   where
-    both : (o b r : Bool) → o ≡ true → b ≡ false → r ≡ ((o && not b) && r)
-    both true false r e f = refl
-    both true true r e f = cc
-    both false b r e f = cc
+    all : (o b n r : Bool) → o ≡ true → b ≡ false → n ≡ true → r ≡ (((o && not b) && n) && r)
+    all true false true r e f g = refl
+    all true false false r e f g = cc
+    all true true n r e f g = cc
+    all false b n r e f g = cc
