@@ -195,6 +195,7 @@ module _ (c : ClusterRecord) (jobs : List JobRecord) (cells : List (List Cell)) 
     sized = ap (λ (x : UnitRecord). x.size) (unit_got j.units u) ∙ sym (ap (λ (o : Option KnownJob). (unwrap_or (slice_get (unwrap_or (option_map (λ (k : KnownJob). k.job.units) o) []) u) no_unit).size) found_self);
     grouped = sym (ap (λ (o : Option KnownJob). unwrap_or (option_map (λ (k : KnownJob). k.job.group) o) 0) found_self);
     group = let t : nat_lt j.group 32 ≡ true = (both_true (nat_lt j.group 32) _ (both_true (nat_lt j.number 256) _ valid).1).0 in grind (arith, nat_tests, t);
+    bounded = ap (λ (x : UnitRecord). x.most) (unit_got j.units u) ∙ sym (ap (λ (o : Option KnownJob). (unwrap_or (slice_get (unwrap_or (option_map (λ (k : KnownJob). k.job.units) o) []) u) no_unit).most) found_self);
     wide = length-replicate {A = ℕ} (length c.machines) 0;
     within = λ m. let z = zeros (length c.machines) m in omega (arith, z);
     summed = let z = sum_by-replicate (λ (n : ℕ). n) (length c.machines) 0 in omega (arith, z);
@@ -211,6 +212,7 @@ module _ (c : ClusterRecord) (jobs : List JobRecord) (cells : List (List Cell)) 
         sized = x.sized ∙ ap (λ (o : Option KnownJob). (unwrap_or (slice_get (unwrap_or (option_map (λ (k : KnownJob). k.job.units) o) []) u) no_unit).size) o;
         grouped = x.grouped ∙ ap (λ (o : Option KnownJob). unwrap_or (option_map (λ (k : KnownJob). k.job.group) o) 0) o;
         group = x.group;
+        bounded = x.bounded ∙ ap (λ (o : Option KnownJob). (unwrap_or (slice_get (unwrap_or (option_map (λ (k : KnownJob). k.job.units) o) []) u) no_unit).most) o;
         wide = x.wide;
         within = x.within;
         summed = x.summed;

@@ -148,6 +148,7 @@ module _ (c : ClusterRecord) (jobs : List JobRecord) (cells : List (List Cell)) 
     sized = us.sized;
     grouped = us.grouped;
     group = us.group;
+    bounded = us.bounded;
     wide = length-set old.counts m n ∙ us.wide;
     within = within_new;
     summed = let s = sum_by-set (λ (n : ℕ). n) old.counts m n 0 machine_in in let h = may.held in let o = us.summed in omega (arith, s, h, o);
@@ -168,6 +169,7 @@ module _ (c : ClusterRecord) (jobs : List JobRecord) (cells : List (List Cell)) 
     sized = x.sized;
     grouped = x.grouped;
     group = x.group;
+    bounded = x.bounded;
     wide = x.wide;
     within = x.within;
     summed = x.summed;

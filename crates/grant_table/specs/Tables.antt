@@ -7,7 +7,7 @@ use Rattle.fuxi_terms.specs.Cluster.{ClusterRecord, JobRecord, UnitRecord, is_va
 use Rattle.fuxi_terms.specs.Limits.{greatest_count}
 use Rattle.fuxi_terms.specs.Keys.{Spot, spot_cmp}
 use Rattle.fuxi_terms.specs.Counts.{count, set_count, AreCounts}
-use Rattle.fuxi_terms.specs.Jobs.{KnownJob, unit_count, unit_of, group_of}
+use Rattle.fuxi_terms.specs.Jobs.{KnownJob, unit_count, unit_of, group_of, most_of}
 use Rattle.fuxi_terms.specs.Tables.{total_at, usage_at, held, held_in}
 use Rattle.fuxi_terms.specs.declared.vectors.Res.{Res}
 use Rattle.grant_table.specs.declared.holding.Holding.{Holding}
@@ -49,16 +49,18 @@ pub record IsSound (t : TableRecord) : Type 0 where
   pub admitted : AllByRecursion (λ e. (e.0.unit < unit_count (as_known t.jobs) e.0.job) × (e.0.machine < length t.cluster.machines)) t.entries
   pub fits : (m i : ℕ) → m < length t.cluster.machines → total_at (as_known t.jobs) m i t.entries ≤ has_at t.cluster m i
 
--- What the program keeps of one unit: its size and group, how many grants it has in all, on each machine and in each of the 64 racks
+-- What the program keeps of one unit: its size, its group and its greatest number per machine, how many grants it has in all, on each machine and in each
+-- of the 64 racks
 pub record Cell : Type 0 where
   pub size : List ℕ
   pub group : ℕ
+  pub most : ℕ
   pub held : ℕ
   pub counts : List ℕ
   pub racks : List ℕ
 
 abbrev pub cell_of : Holding → Cell
-cell_of h = record { size = h.size.q; group = h.group.0; held = h.held; counts = h.counts.items; racks = h.racks.items }
+cell_of h = record { size = h.size.q; group = h.group.0; most = h.most; held = h.held; counts = h.counts.items; racks = h.racks.items }
 
 abbrev pub cells_in : Vec Holding → List Cell
 cells_in v = map cell_of v.items
@@ -67,7 +69,7 @@ abbrev pub cells_of : List (Vec Holding) → List (List Cell)
 cells_of slots = map cells_in slots
 
 abbrev pub no_cell : Cell
-no_cell = record { size = []; group = 0; held = 0; counts = []; racks = [] }
+no_cell = record { size = []; group = 0; most = 0; held = 0; counts = []; racks = [] }
 
 abbrev pub cell_at : List (List Cell) → ℕ → ℕ → Cell
 cell_at cells a u = get_or (get_or cells a []) u no_cell
@@ -77,7 +79,7 @@ with_cell cells a u x = set cells a (set (get_or cells a []) u x)
 
 -- a unit's numbers with n on this machine, held in all, and so many in its rack
 abbrev pub with_numbers : Cell → ℕ → ℕ → ℕ → ℕ → ℕ → Cell
-with_numbers x m r n held in_rack = record { size = x.size; group = x.group; held = held; counts = set x.counts m n; racks = set x.racks r in_rack }
+with_numbers x m r n held in_rack = record { size = x.size; group = x.group; most = x.most; held = held; counts = set x.counts m n; racks = set x.racks r in_rack }
 
 -- so many grants more on the machine m of the rack r, and so many fewer
 abbrev pub raised : Cell → ℕ → ℕ → ℕ → Cell
@@ -107,6 +109,7 @@ pub record IsUnit (c : ClusterRecord) (jobs : List JobRecord) (es : List (Spot �
   pub sized : x.size ≡ (unit_of (as_known jobs) a u).size
   pub grouped : x.group ≡ group_of (as_known jobs) a
   pub group : x.group < 32
+  pub bounded : x.most ≡ most_of (as_known jobs) a u
   pub wide : length x.counts ≡ length c.machines
   pub within : (m : ℕ) → get_or x.counts m 0 ≤ greatest_count
   pub summed : sum_by (λ (n : ℕ). n) x.counts ≡ x.held
@@ -132,7 +135,7 @@ IsTable c jobs slots used usages = IsLevel c jobs (cells_of slots) (loads_of use
 
 -- a unit that has nothing yet, for each unit of a job
 abbrev pub fresh_cell : ℕ → ℕ → UnitRecord → Cell
-fresh_cell g machines u = record { size = u.size; group = g; held = 0; counts = replicate machines 0; racks = replicate 64 0 }
+fresh_cell g machines u = record { size = u.size; group = g; most = u.most; held = 0; counts = replicate machines 0; racks = replicate 64 0 }
 
 abbrev pub fresh_cells : ℕ → ℕ → List UnitRecord → List Cell
 fresh_cells g machines us = map (fresh_cell g machines) us

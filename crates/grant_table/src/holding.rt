@@ -16,6 +16,8 @@ use std::alloc::Global;
 pub(crate) struct Holding {
     pub(crate) size: Res,
     pub(crate) group: GroupNo,
+    /// The greatest number of its grants on one machine.
+    pub(crate) most: u32,
     pub(crate) held: u32,
     /// By machine.
     pub(crate) counts: Vec<u32>,
@@ -132,12 +134,15 @@ pub(crate) fn fresh_units(
     let group = job.group();
     let mut units = Vec::new(alloc);
     for number in 0..job.units() {
-        let size = job.unit(UnitNo(number)).size;
+        let unit = job.unit(UnitNo(number));
+        let size = unit.size;
+        let most = unit.most;
         let counts = Vec::from_elem(alloc, 0, machines)?;
         let racks = Vec::from_elem(alloc, 0, MOST_RACKS as usize)?;
         units.push(Holding {
             size,
             group,
+            most,
             held: 0,
             counts,
             racks,

@@ -55,7 +55,7 @@ impl Model for GrantTable {
 impl GrantTable {
     ghost use Rattle.std.specs.Prelude.{◌≡◌, ℕ, ◌+◌, ◌-◌, ◌*◌, ◌<◌, ◌≤◌, List, [], length, slice_get, Some, IfOk, OnOk, OnErr, false, nat_lt};
     ghost use Rattle.fuxi_terms.specs.Vectors.{at_place};
-    ghost use Rattle.fuxi_terms.specs.Jobs.{is_known, unit_count, unit_of, size_at};
+    ghost use Rattle.fuxi_terms.specs.Jobs.{is_known, unit_count, unit_of, most_of, size_at};
     ghost use Rattle.fuxi_terms.specs.Cluster.{has_at};
     ghost use Rattle.fuxi_terms.specs.Tables.{spot, held, held_on, held_in, total_at, usage_at};
     ghost use Rattle.fuxi_terms.specs.Tables.{with_grant};
@@ -176,6 +176,14 @@ impl GrantTable {
         ensures { result.now.q ≡ (unit_of (as_known self.now.jobs) app.0 unit.0).size }
     {
         &holding_at(&self.slots, app.0 as usize, unit.0 as usize).size
+    }
+
+    /// The greatest number of the unit's grants that are made on one machine.
+    pub fn most(&self, app: AppNo, unit: UnitNo) -> u32
+        requires { unit.0 < unit_count (as_known self.now.jobs) app.0 }
+        ensures { result ≡ most_of (as_known self.now.jobs) app.0 unit.0 }
+    {
+        holding_at(&self.slots, app.0 as usize, unit.0 as usize).most
     }
 
     /// How many grants the unit has on the machine.

@@ -26,10 +26,9 @@ units_from : (v n : ℕ) (l : List ℕ) → 0 < n → units_in v n l ≡ unit_in
 units_from v zero l some = absurd (omega (arith, some))
 units_from v (suc n) l some = ap (λ k. unit_in v l ∷ units_in v k (drop (unit_size v) l)) (omega arith)
 
--- where units are left, their bytes are those of one and those of the others
-pub bytes_from : (size n : ℕ) → 0 < n → size * n ≡ size + size * (n - 1)
-bytes_from size zero some = absurd (omega (arith, some))
-bytes_from size (suc n) some = omega (arith, ap (λ k. size * k) (let e : suc n - 1 ≡ n = omega arith in e))
+-- the bytes of the units that are left are those of one and those of the others
+pub bytes_left : (size n i : ℕ) → i < n → size * (n - i) ≡ size + size * (n - (i + 1))
+bytes_left size n i few = ap (λ k. size * k) (let e : n - i ≡ 1 + (n - (i + 1)) = omega (arith, few) in e) ∙ omega arith
 
 pub unit_more : (v n i : ℕ) (l rest : List ℕ) (made new : List UnitRecord) (u : UnitRecord) → i < n → new ≡ made ++ u ∷ [] → u ≡ unit_in v rest
     → made ++ units_in v (n - i) rest ≡ units_in v n l → new ++ units_in v (n - (i + 1)) (drop (unit_size v) rest) ≡ units_in v n l

@@ -63,8 +63,7 @@ fn read_quantities(alloc: Global, bytes: &[u8]) -> Result<Quantities, OutOfMemor
 
 // The bytes of a unit.
 fn unit_size(version: u8) -> usize
-    ensures size { result ≡ unit_size version }
-    ensures few { result ≤ 69 }
+    ensures { result ≡ unit_size version }
 {
     if version == 1 { 65 } else { 69 }
 }

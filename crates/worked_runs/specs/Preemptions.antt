@@ -6,7 +6,7 @@ use Rattle.fuxi_terms.specs.declared.answers.What.TheVariants.{Ack as Acked, Tak
 use Rattle.written_roles.specs.Refusals.{NothingToPreempt}
 use Rattle.written_world.specs.Outputs.{Refused, State, Fence, Job, MasterIs, Reported, Grant, Wait, AgentAt, Row, AppAt, Packets}
 use Rattle.written_world.specs.Events.{StartMaster, StartAgent, StartApp, Submit, Preempt, Want, GiveBack, TurnMaster, TurnAgent, TurnApp, Deliver, DeliverRange}
-use Rattle.worked_runs.specs.Reading.{machine, group, cluster, unit, job, master, agent, app, sent, heard, heard_new, Run}
+use Rattle.worked_runs.specs.Reading.{machine, group, cluster, unit, bounded_unit, job, master, agent, app, sent, heard, heard_new, Run}
 use Rattle.worked_runs.specs.FirstGrants.{one_machine}
 
 -- a grant that is preempted and given back at once is taken once
@@ -77,4 +77,28 @@ quota_shields_a_group_run = record {
   state =
       State 19 ∷ Fence 1 ∷ Job 0 0 false ∷ Job 1 0 false ∷ Job 2 1 false ∷ MasterIs 1 true ∷ Reported 1 0 ∷ Grant 1 0 0 0 2 ∷ Grant 1 1 0 0 1 ∷
       Wait 1 2 0 1 ∷ AgentAt 0 1 1 0 ∷ AppAt 0 1 1 0 ∷ AppAt 1 1 1 0 ∷ AppAt 2 1 1 0 ∷ Packets 12 ∷ [];
+}
+
+abbrev pub two_shared_machines : ClusterRecord
+two_shared_machines = cluster 1 (machine 0 (6 ∷ []) ∷ machine 0 (6 ∷ []) ∷ []) (group (0 ∷ []) (12 ∷ []) ∷ group (12 ∷ []) (12 ∷ []) ∷ [])
+
+-- a machine on which the unit that waits has its greatest number is passed: the second machine is next, and then nothing is taken
+abbrev pub preemption_passes_a_bounded_machine_run : Run
+preemption_passes_a_bounded_machine_run = record {
+  on = two_shared_machines;
+  events =
+      StartMaster 1 ∷ StartAgent 0 1 ∷ StartAgent 1 1 ∷ Submit 1 (job 0 0 (unit 1 (1 ∷ []) ∷ [])) ∷ Submit 1 (job 1 1 (bounded_unit 9 (1 ∷ []) 1 ∷ [])) ∷
+      StartApp 0 1 ∷ StartApp 1 1 ∷ Want 0 0 12 ∷ Want 1 0 3 ∷ TurnMaster 1 ∷ DeliverRange 1 4 ∷ TurnAgent 0 ∷ TurnAgent 1 ∷ TurnApp 0 ∷
+      DeliverRange 5 10 ∷ TurnApp 1 ∷ DeliverRange 11 12 ∷ Preempt 1 ∷ Preempt 1 ∷ Preempt 1 ∷ [];
+  lines =
+      sent 1 (master 1) (agent 0 0) Ack 0 0 48 ∷ sent 2 (master 1) (agent 1 0) Ack 0 0 48 ∷ sent 3 (master 1) (app 0 0) Ack 0 0 48 ∷
+      sent 4 (master 1) (app 1 0) Ack 0 0 48 ∷ heard_new 1 Acked ∷ heard_new 2 Acked ∷ heard_new 3 Acked ∷ heard_new 4 Acked ∷
+      sent 5 (agent 0 1) (master 1) Full 1 1 60 ∷ sent 6 (agent 0 1) (master 1) Ack 1 0 48 ∷ sent 7 (agent 1 1) (master 1) Full 1 1 60 ∷
+      sent 8 (agent 1 1) (master 1) Ack 1 0 48 ∷ sent 9 (app 0 1) (master 1) Full 1 2 72 ∷ sent 10 (app 0 1) (master 1) Ack 1 0 48 ∷
+      heard_new 5 Taken ∷ heard 6 Acked ∷ heard_new 7 Taken ∷ heard 8 Acked ∷ heard_new 9 Taken ∷ heard 10 Acked ∷
+      sent 11 (app 1 1) (master 1) Full 1 2 72 ∷ sent 12 (app 1 1) (master 1) Ack 1 0 48 ∷ heard_new 11 Taken ∷ heard 12 Acked ∷
+      Refused NothingToPreempt ∷ [];
+  state =
+      State 20 ∷ Fence 1 ∷ Job 0 0 false ∷ Job 1 1 false ∷ MasterIs 1 true ∷ Reported 1 0 ∷ Reported 1 1 ∷ Grant 1 0 0 0 5 ∷ Grant 1 0 0 1 5 ∷
+      Grant 1 1 0 0 1 ∷ Grant 1 1 0 1 1 ∷ Wait 1 1 0 1 ∷ Wait 1 0 0 2 ∷ AgentAt 0 1 1 0 ∷ AgentAt 1 1 1 0 ∷ AppAt 0 1 1 0 ∷ AppAt 1 1 1 0 ∷ Packets 12 ∷ [];
 }

@@ -22,6 +22,9 @@ cluster resources machines groups = record { resources = resources; machines = m
 abbrev pub unit : ℕ → List ℕ → UnitRecord
 unit priority size = record { priority = priority; size = size; most = greatest_count }
 
+abbrev pub bounded_unit : ℕ → List ℕ → ℕ → UnitRecord
+bounded_unit priority size most = record { priority = priority; size = size; most = most }
+
 abbrev pub job : ℕ → ℕ → List UnitRecord → JobRecord
 job number group units = record { number = number; group = group; units = units }
 

@@ -4,11 +4,11 @@
 #![tactic(auto)]
 
 ghost use Rattle.worked_runs.specs.Reading.{Computes};
-ghost use Rattle.worked_runs.specs.FirstGrants.{a_cluster_alone_run, four_fit_and_one_waits_run, level_goes_before_the_line_run, near_goes_first_run, one_resource_is_too_small_run};
+ghost use Rattle.worked_runs.specs.FirstGrants.{a_cluster_alone_run, at_most_two_on_a_machine_run, four_fit_and_one_waits_run, level_goes_before_the_line_run, near_goes_first_run, one_resource_is_too_small_run};
 ghost use Rattle.worked_runs.specs.Deltas.{deliveries_again_and_to_no_one_run, deltas_out_of_order_run, more_changes_than_are_kept_run, sixty_four_deltas_in_a_turn_run};
 ghost use Rattle.worked_runs.specs.Failover.{a_report_of_a_new_boot_run, begin_and_a_late_report_run, failover_after_a_give_back_run, failover_with_a_missing_report_run, the_older_master_first_run, two_masters_at_once_run};
 ghost use Rattle.worked_runs.specs.Refusals.{refusals_of_an_application_run, refusals_of_the_hard_state_run};
-ghost use Rattle.worked_runs.specs.Preemptions.{a_give_back_crosses_a_preemption_run, quota_shields_a_group_run, victims_that_are_not_needed_stay_run};
+ghost use Rattle.worked_runs.specs.Preemptions.{a_give_back_crosses_a_preemption_run, preemption_passes_a_bounded_machine_run, quota_shields_a_group_run, victims_that_are_not_needed_stay_run};
 ghost use Rattle.worked_runs.specs.Realistic.{twenty_machines_and_a_failover_run};
 ghost use Rattle.worked_runs.specs.Limits.{a_limit_counts_where_nothing_is_needed_run, a_limit_stops_placing_run, a_rack_goes_before_the_rest_run, an_avoided_machine_gets_nothing_new_run, the_line_goes_before_the_machine_run};
 ghost use Rattle.worked_runs.specs.HardChanges.{a_report_of_a_banned_machine_run, finish_with_grants_out_run, stops_and_starts_that_are_refused_run, unban_settles_run};
@@ -26,6 +26,16 @@ pub fn a_cluster_alone()
 /// Four grants fit exactly in both resources, and one waits.
 pub fn four_fit_and_one_waits()
     ensures { Computes four_fit_and_one_waits_run }
+{}
+
+/// Of a unit that may have two grants on a machine three wait, though there is room.
+pub fn at_most_two_on_a_machine()
+    ensures { Computes at_most_two_on_a_machine_run }
+{}
+
+/// Preemption passes a machine on which the unit that waits has its greatest number.
+pub fn preemption_passes_a_bounded_machine()
+    ensures { Computes preemption_passes_a_bounded_machine_run }
 {}
 
 /// A unit that is too great in one resource alone is not granted.

@@ -167,8 +167,8 @@ none_anywhere c M r f none a u m = elim (placeable c M a u m) as (λ b. placeabl
       let parts = both_true (may_grow c M a u) (accepts c M a u m && has_room c M a u m) e in
       let grows = both_true M.serving (nat_lt 0 (out M a u) && is_allowed c M a u) parts.0 in
       let some = (both_true (nat_lt 0 (out M a u)) (is_allowed c M a u) grows.1).0 in
-      let open = (both_true (accepts c M a u m) (has_room c M a u m) parts.1).0 in
-      let usable = (both_true (is_usable M a u m) _ open).0 in
+      let accepted = (both_true (accepts c M a u m) (has_room c M a u m) parts.1).0 in
+      let usable = (both_true (is_usable M a u m) _ accepted).0 in
       let there = r.reported m (both_true (has_number m M.reported) _ usable).0 in
       let no = none a u m (f.full a u some) there in
       sym e ∙ no

@@ -1,4 +1,4 @@
-use Rattle.std.proofs.Common.{◌≢◌, List, map, rules, ap, ◌∙◌}
+use Rattle.std.proofs.Common.{◌≢◌, ◌+◌, ◌*◌, List, map, slice_index, rules, ap, ◌∙◌}
 use Rattle.std.proofs.lemmas.List.{take_rest}
 use Rattle.schedule_unit.specs.declared.asks.Ask.{Ask}
 use Rattle.schedule_unit.specs.declared.job.JobFault.TheVariants.{OutOfMemory}
@@ -13,7 +13,7 @@ returns-in-Ok-make-clause-found c =
     let l = c.args.bytes.now in
     let asks : List Ask = c.as_slice.result.now in
     let read : IsReadOf c.args.version l c.from_be_bytes-number.result c.from_be_bytes-group.result asks = record {
-      long = c.if-bytes-units.false;
+      long = c.if-bytes-unit_size.false ∙ ap (λ k. 9 + k * slice_index l 8) c.unit_size.ensures;
       number_is = c.from_be_bytes-number.ensures ∙ four_at l 0;
       group_is = c.from_be_bytes-group.ensures ∙ four_at l 4;
       units_are = ap (λ (l : List Ask). map unit_of l) c.as_slice.ensures ∙ c.in-Ok.ensures ∙ ap (units_in c.args.version _) (take_rest l 9);
@@ -25,7 +25,7 @@ returns-clause-found c =
     let l = c.args.bytes.now in
     let asks : List Ask = c.as_slice.result.now in
     let read : IsReadOf c.args.version l c.from_be_bytes-number.result c.from_be_bytes-group.result asks = record {
-      long = c.if-bytes-units.false;
+      long = c.if-bytes-unit_size.false ∙ ap (λ k. 9 + k * slice_index l 8) c.unit_size.ensures;
       number_is = c.from_be_bytes-number.ensures ∙ four_at l 0;
       group_is = c.from_be_bytes-group.ensures ∙ four_at l 4;
       units_are = ap (λ (l : List Ask). map unit_of l) c.as_slice.ensures ∙ c.in-Ok.ensures ∙ ap (units_in c.args.version _) (take_rest l 9);
