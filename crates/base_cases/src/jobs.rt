@@ -30,9 +30,7 @@ fn tell<P: Print>(rt: &P, job: &Job) -> Result<(), Stop> {
         let unit = job.unit(UnitNo(number));
         print!(rt;
             ", priority {} size {:?} most {}",
-            unit.priority,
-            unit.size.q,
-            unit.most
+            unit.priority, unit.size.q, unit.most
         )?;
     }
     println!(rt;)?;

@@ -1,6 +1,5 @@
 pub mod Pieces
 pub mod Walks
-pub mod Units
 pub mod Heads
 pub mod Texts
 pub mod RoundTrip

@@ -1,5 +1,5 @@
 -- Numbers are read one after another: what is read of a line is what was read and what is left.
-use Rattle.std.proofs.Common.{◌≡◌, ℕ, zero, suc, ◌+◌, ◌<◌, ◌≤◌, List, [], ◌∷◌, ◌++◌, length, get_or, set, map, take, drop, drop-cons, Result, Ok, Err, Bool, true, false, ◌&&◌, Bor, refl, ap, sym, ◌∙◌, arith, add-one, append_assoc}
+use Rattle.std.proofs.Common.{◌≡◌, ℕ, zero, suc, ◌+◌, ◌<◌, List, [], ◌∷◌, ◌++◌, length, get_or, set, map, take, drop, drop-cons, Result, Ok, Err, Bool, true, false, ◌&&◌, Bor, refl, ap, sym, ◌∙◌, arith, add-one, append_assoc}
 use Rattle.fuxi_terms.specs.Counts.{then_do}
 use Rattle.schedule_text.specs.declared.event.LineFault.{LineFault}
 use Rattle.schedule_text.specs.declared.event.LineFault.TheVariants.{UnknownWord, WrongCount, BadNumber, Range, OutOfMemory}
@@ -119,12 +119,6 @@ pub own_fault : (u : List (List ℕ)) (place own : ℕ) (fault : LineFault) → 
 own_fault u place own fault count numbers =
     ap (λ o. then_do (counts_at place (take o u)) (λ ns. then_do (most_at (place + o) (drop o u)) (λ m. Ok (ask_of ns m)))) count
     ∙ ap (λ r. then_do r (λ ns. then_do (most_at (place + own) (drop own u)) (λ m. Ok (ask_of ns m)))) numbers
-
-pub bound_fault : (u : List (List ℕ)) (place own : ℕ) (ns : List ℕ) (fault : LineFault) → own_count u ≡ own → counts_at place (take own u) ≡ Ok ns → most_at (place + own) (drop own u) ≡ Err fault → ask_at place u ≡ Err fault
-bound_fault u place own ns fault count numbers bound =
-    ap (λ o. then_do (counts_at place (take o u)) (λ ns. then_do (most_at (place + o) (drop o u)) (λ m. Ok (ask_of ns m)))) count
-    ∙ ap (λ r. then_do r (λ ns. then_do (most_at (place + own) (drop own u)) (λ m. Ok (ask_of ns m)))) numbers
-    ∙ ap (λ r. then_do r (λ m. Ok (ask_of ns m))) bound
 
 -- one after another
 ask_joined : (r : Result Ask LineFault) (s : Result (List Ask) LineFault) (ask : Ask) (before : List Ask) → r ≡ Ok ask

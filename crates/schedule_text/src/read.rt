@@ -201,11 +201,7 @@ fn most_at(place: usize, bound: &[&[u8]]) -> Result<u64, LineFault>
 }
 
 // A priority and quantities, which stand from a place of the line on.
-fn own_at(
-    alloc: Global,
-    first: usize,
-    words: &[&[u8]],
-) -> Result<(u64, Quantities), LineFault>
+fn own_at(alloc: Global, first: usize, words: &[&[u8]]) -> Result<(u64, Quantities), LineFault>
     requires range { first + length words.now < 2 ^ 63 }
     requires some { 1 ≤ length words.now }
     ensures ok { IfOk result (λ own. counts_at first (map (λ w. w.now) words.now) ≡ Ok (own.0 ∷ own.1)) }
