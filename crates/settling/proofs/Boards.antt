@@ -19,7 +19,7 @@ use Rattle.grant_table.specs.Tables.{TableRecord, as_known}
 use Rattle.place_pass.specs.Placers.{SeenRecord, board_with, waiting_with, is_open_to}
 use Rattle.settling.specs.Placing.{record_of, IsPlacing}
 
--- ---- jobs with the same records have the same units, priorities, groups and sizes
+-- ---- jobs with the same records have the same units, priorities, groups, sizes and greatest numbers per machine
 module _ (js ks : List KnownJob) (same : (a : ℕ) → record_of js a ≡ record_of ks a) where
   pub units_same : (a : ℕ) → units_of js a ≡ units_of ks a
   units_same a = by_record (λ (j : JobRecord). j.units) [] (job_of js a) ∙ ap (λ o. unwrap_or (option_map (λ (j : JobRecord). j.units) o) []) (same a) ∙ sym (by_record (λ (j : JobRecord). j.units) [] (job_of ks a))
@@ -35,7 +35,7 @@ wishes_of asks a k =
     (cond (nat_eq k.what 3) (asks a (rack_key k.unit k.number)) 0))
 
 abbrev pub with_wishes : Board → Board
-with_wishes b = record { cluster = b.cluster; priorities = b.priorities; sizes = b.sizes; groups = b.groups; asks = wishes_of b.asks; may_use = b.may_use; serving = b.serving }
+with_wishes b = record { cluster = b.cluster; priorities = b.priorities; sizes = b.sizes; mosts = b.mosts; groups = b.groups; asks = wishes_of b.asks; may_use = b.may_use; serving = b.serving }
 
 candidates_read : (b : Board) (table : List (Spot × ℕ)) (place : ℕ) (line : List (ℕ × ℕ)) → candidates_in b table place line ≡ candidates_in (with_wishes b) table place line
 candidates_read b table place [] = refl
@@ -58,6 +58,7 @@ module _ (t : TableRecord) (s : SeenRecord) (c : ClusterRecord) (M : Master) (is
     cluster = is.cluster i;
     priorities = λ a u. (unwrap_or (slice_get (units_same (as_known t.jobs) M.jobs is.jobs a i) u) no_unit).priority;
     sizes = λ a u n. at_place (unwrap_or (slice_get (units_same (as_known t.jobs) M.jobs is.jobs a i) u) no_unit).size n;
+    mosts = λ a u. (unwrap_or (slice_get (units_same (as_known t.jobs) M.jobs is.jobs a i) u) no_unit).most;
     groups = λ a. groups_same (as_known t.jobs) M.jobs is.jobs a i;
     asks = λ a k. cond (nat_eq k.what 1) (is.wants a k.unit i) (cond (nat_eq k.what 2) (is.near a k.unit k.number i) (cond (nat_eq k.what 3) (is.racks a k.unit k.number i) 0));
     may_use = λ a u m. usable_is a u m i;

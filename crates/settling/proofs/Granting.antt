@@ -12,7 +12,7 @@ use Rattle.fuxi_terms.proofs.Alls.{all_append, all_more, all_mapped, all_passed}
 use Rattle.fuxi_terms.proofs.Booleans.{both_true, number_is, nat_itself, or_right}
 use Rattle.fuxi_terms.proofs.Members.{In, sum_lt, sum_filter}
 use Rattle.written_roles.specs.Masters.{out_of}
-use Rattle.written_roles.specs.Placing.{Board, Ranked, ranked_in, places_in, candidates_in, may_grow_in, has_room_in, least, first_of, first_in, has_pair, line_after}
+use Rattle.written_roles.specs.Placing.{Board, Ranked, ranked_in, places_in, candidates_in, may_grow_in, accepts_in, has_room_in, least, first_of, first_in, has_pair, line_after}
 
 -- ---- the pair that is placed stands in the line, and something of it is out
 record IsCandidate (b : Board) (table : List (Spot × ℕ)) (line : List (ℕ × ℕ)) (r : Ranked) : Type 0 where
@@ -27,8 +27,8 @@ all_candidates : (b : Board) (table : List (Spot × ℕ)) (place : ℕ) (line : 
 all_candidates b table place [] = tt
 all_candidates b table place (p ∷ ps) = all_append (IsCandidate b table (p ∷ ps)) (elim (may_grow_in b table p.0 p.1) as (λ _. List Ranked) [ true ↦ places_in b table place p | false ↦ [] ]) (candidates_in b table (place + 1) ps)
     (elim (may_grow_in b table p.0 p.1) as (λ t. may_grow_in b table p.0 p.1 ≡ t → AllByRecursion (IsCandidate b table (p ∷ ps)) (elim t as (λ _. List Ranked) [ true ↦ places_in b table place p | false ↦ [] ])) [
-      | true ↦ λ g. all_mapped (IsCandidate b table (p ∷ ps)) (ranked_in b table place p) (filter (λ m. b.may_use p.0 p.1 m && has_room_in b.cluster b.sizes table p.0 p.1 m) (below (length b.cluster.machines)))
-          (all_passed (λ m. IsCandidate b table (p ∷ ps) (ranked_in b table place p m)) (λ m. b.may_use p.0 p.1 m && has_room_in b.cluster b.sizes table p.0 p.1 m) (below (length b.cluster.machines)) (λ m _. record { waits = inl refl; out = outs p g }))
+      | true ↦ λ g. all_mapped (IsCandidate b table (p ∷ ps)) (ranked_in b table place p) (filter (λ m. accepts_in b table p.0 p.1 m && has_room_in b.cluster b.sizes table p.0 p.1 m) (below (length b.cluster.machines)))
+          (all_passed (λ m. IsCandidate b table (p ∷ ps) (ranked_in b table place p m)) (λ m. accepts_in b table p.0 p.1 m && has_room_in b.cluster b.sizes table p.0 p.1 m) (below (length b.cluster.machines)) (λ m _. record { waits = inl refl; out = outs p g }))
       | false ↦ λ _. tt
     ] refl)
     (all_more (IsCandidate b table ps) (IsCandidate b table (p ∷ ps)) (λ r h. record { waits = inr h.waits; out = h.out }) (candidates_in b table (place + 1) ps) (all_candidates b table (place + 1) ps))
