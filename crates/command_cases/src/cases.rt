@@ -1,6 +1,5 @@
 use crate::edges::{Drops, Narrow};
 use case_words::{Stop, head_of, number_of, push_text, put_numbers, text_of};
-use fuxi_command::fuxi;
 use fuxi_io::{MemDisk, MemSink, MemSource, Sink, Source, Status};
 use node_door::MemDoor;
 use std::alloc::Global;
@@ -57,7 +56,15 @@ fn command<S: Source, O: Sink, E: Sink>(
     let words = words_of(alloc, words)?;
     let mut disk = MemDisk::of(alloc, Vec::new(alloc), Vec::from_slice(alloc, &[1])?);
     let mut door = MemDoor::of(alloc, Vec::new(alloc), Vec::from_slice(alloc, &[1])?);
-    Ok(fuxi(alloc, &words, input, out, err, &mut disk, &mut door))
+    Ok(fuxi_command::run(
+        alloc,
+        Ok(words),
+        input,
+        out,
+        err,
+        &mut disk,
+        &mut door,
+    ))
 }
 
 // The number of a status, the output and the error stream.

@@ -2,3 +2,4 @@ pub mod Words
 pub mod Reports
 pub mod States
 pub mod Storms
+pub mod Outcomes

@@ -1,15 +1,10 @@
-ghost use Rattle.std.specs.Prelude.{◌≡◌, ◌↔◌, IfOk, IfErr, IfSome, ℕ, List, Some, false, map, string_bytes};
+ghost use Rattle.std.specs.Prelude.{◌≡◌, IfOk, IfErr, IfSome, Some, false, map, string_bytes};
 ghost use Rattle.std.specs.Process.{exit_status};
-ghost use Rattle.std.specs.IoError.{error_kind};
 ghost use Rattle.fuxi_io.specs.Statuses.{code_of};
-ghost use Rattle.schedule_run.specs.Runs.{read_from, Ended};
 ghost use Rattle.schedule_run.specs.Told.{IsText, Writes};
-ghost use Rattle.fuxi_command.specs.Storms.{IsStorm};
-ghost use Rattle.fuxi_command.specs.Words.{Node, Replay, Storm, command_of, has_file, is_command, HasWords, NoWords, WhyNoWords};
-ghost use Rattle.node_command.specs.declared.kind.NodeKind.{NodeKind};
-ghost use Rattle.node_command.specs.Inputs.{InputEnded};
-ghost use Rattle.node_door.specs.Doors.{WhereTold};
+ghost use Rattle.fuxi_command.specs.Words.{Replay, command_of, has_file, HasWords, NoWords, WhyNoWords};
 ghost use Rattle.fuxi_command.specs.Reports.{report_line, TakesReport};
+ghost use Rattle.fuxi_command.specs.Outcomes.{IsOutcome, seen};
 
 use crate::telling::report;
 use crate::top::fuxi;
@@ -91,14 +86,11 @@ pub fn run<S: Source, O: Sink, E: Sink, D: Disk, N: Door>(
 ) -> Status
     // Without words the status is that of their want, and nothing was read or written but the line that tells it.
     ensures none { IfErr words (λ status. (result ≡ status) × (input.new ≡ input.old) × (out.new ≡ out.old) × (disk.new ≡ disk.old) × (door.new ≡ door.old)) }
-    // With words it is what `fuxi` makes of them.
-    ensures usage { IfOk words (λ words. result ≡ Status.Usage ↔ (is_command (map string_bytes words.items) ≡ false)) }
+    // With words it is what `fuxi` makes of them, all of it by one relation; for a replay also by its text.
+    ensures outcome { IfOk words (λ words. IsOutcome (map string_bytes words.items) result (input.new ≡ input.old) (out.new ≡ out.old) (disk.new ≡ disk.old) (door.new ≡ door.old)
+        (seen (S.left input.old) (O.took out.old) (D.told disk.old) (N.told door.old) (S.faults input.old) (O.faults out.old) (D.faults disk.old) (N.faults door.old))
+        (seen (S.left input.new) (O.took out.new) (D.told disk.new) (N.told door.new) (S.faults input.new) (O.faults out.new) (D.faults disk.new) (N.faults door.new))) }
     ensures text { IfOk words (λ words. command_of (map string_bytes words.items) ≡ Some Replay → result ≡ Status.Done → IfSome (S.left input.old) (λ bytes. Writes (IsText bytes) (O.took out.old) (O.took out.new))) }
-    ensures ended { IfOk words (λ words. command_of (map string_bytes words.items) ≡ Some Replay → IfSome (S.left input.old) (λ bytes. Ended (read_from 0) bytes result (S.left input.new) (O.took out.old) (O.took out.new))) }
-    ensures storm { IfOk words (λ words. (seed steps : ℕ) → command_of (map string_bytes words.items) ≡ Some (Storm seed steps) → result ≡ Status.Done → Writes (IsStorm seed steps) (O.took out.old) (O.took out.new)) }
-    ensures node { IfOk words (λ words. (kind : NodeKind) (addr : List ℕ) → command_of (map string_bytes words.items) ≡ Some (Node kind addr) → IfSome (S.left input.old) (λ bytes.
-        WhereTold (InputEnded kind addr (D.told disk.old) (D.told disk.new) bytes result (S.left input.new) (O.took out.old) (O.took out.new) (N.faults door.old) (N.faults door.new)) (N.told door.old) (N.told door.new))) }
-    ensures no_file { IfOk words (λ words. has_file (command_of (map string_bytes words.items)) ≡ false → disk.new ≡ disk.old) }
     ensures report { TakesReport (report_line result) (E.took err.old) (E.took err.new) (E.faults err.old) (E.faults err.new) }
 {
     match words {

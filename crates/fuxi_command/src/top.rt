@@ -21,6 +21,7 @@ ghost use Rattle.fuxi_node.specs.Masters.{RefusesEpoch};
 ghost use Rattle.hard_state.specs.HardFiles.{records_of};
 ghost use Rattle.written_roles.specs.Refusals.{NotRising, HardFull};
 ghost use Rattle.fuxi_command.specs.Reports.{report_line, TakesReport};
+ghost use Rattle.fuxi_command.specs.Outcomes.{IsOutcome, seen};
 ghost use Rattle.fuxi_terms.specs.Limits.{most_lines, most_records};
 
 use crate::telling::report;
@@ -213,6 +214,11 @@ pub fn fuxi<S: Source, O: Sink, E: Sink, D: Disk, N: Door>(
     ensures stale { (epoch : ℕ) (addr : List ℕ) → command_of (map string_bytes words.now) ≡ Some (Node (Master epoch) addr) → (fence : ℕ) → result ≡ Status.StaleEpoch fence → IfSome (D.told disk.old) (RefusesEpoch epoch (NotRising fence)) }
     ensures damaged { (epoch : ℕ) (addr : List ℕ) → command_of (map string_bytes words.now) ≡ Some (Node (Master epoch) addr) → (offset : ℕ) → result ≡ Status.DamagedCheckpoint offset → IfSome (D.told disk.old) (λ t. records_of t.now.bytes ≡ Err offset) }
     ensures full { (epoch : ℕ) (addr : List ℕ) → command_of (map string_bytes words.now) ≡ Some (Node (Master epoch) addr) → (kept : ℕ) → result ≡ Status.Limit LimitOf.Records kept → (kept ≡ most_records) × IfSome (D.told disk.old) (RefusesEpoch epoch (HardFull most_records)) }
+
+    // All of this as one relation, for who calls the command.
+    ensures outcome { IsOutcome (map string_bytes words.now) result (input.new ≡ input.old) (out.new ≡ out.old) (disk.new ≡ disk.old) (door.new ≡ door.old)
+        (seen (S.left input.old) (O.took out.old) (D.told disk.old) (N.told door.old) (S.faults input.old) (O.faults out.old) (D.faults disk.old) (N.faults door.old))
+        (seen (S.left input.new) (O.took out.new) (D.told disk.new) (N.told door.new) (S.faults input.new) (O.faults out.new) (D.faults disk.new) (N.faults door.new)) }
 
     // A node over lines that are all good, with a file that lets its epoch in, and with no fault of input, output and disk, is done, but for want of memory, over a door that tells.
     ensures node_complete { (kind : NodeKind) (addr : List ℕ) → command_of (map string_bytes words.now) ≡ Some (Node kind addr) → (bytes : List ℕ) (t : Told) → S.left input.old ≡ Some bytes → N.told door.old ≡ Some t

@@ -3,7 +3,6 @@
 use crate::settings::{Setting, connections_of, file_of, setting_of};
 use crate::watched::Watched;
 use case_words::{Stop, push_text, text_of};
-use fuxi_command::fuxi;
 use fuxi_io::{MemDisk, MemSink, MemSource, Status};
 use std::alloc::Global;
 
@@ -96,7 +95,15 @@ fn run_over<P: Print>(
     let words = words_of(alloc, setting)?;
     let mut source = source_of(alloc, text, setting.source)?;
     let (mut out, mut err) = (sink_of(alloc, setting.sink)?, sink_of(alloc, 0)?);
-    let status = fuxi(alloc, &words, &mut source, &mut out, &mut err, disk, door);
+    let status = fuxi_command::run(
+        alloc,
+        Ok(words),
+        &mut source,
+        &mut out,
+        &mut err,
+        disk,
+        door,
+    );
     print!(rt; "{}", status.code())?;
     tell_report(rt, alloc, err.bytes())?;
     print!(rt; " [{}]", text_of(alloc, out.bytes())?)?;

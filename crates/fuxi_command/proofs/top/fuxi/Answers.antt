@@ -31,3 +31,21 @@ returns-clause-damaged g c epoch addr is offset damaged = subst (λ s. TellsDisk
 
 pub returns-clause-full : goal.returns-clause-full
 returns-clause-full g c epoch addr is kept full = subst (λ s. TellsDisk (Master epoch) s (g.D.Disk.told c.args.disk.now)) full (c.run_command-status.ensures.told (Master epoch) addr is)
+
+pub returns-clause-outcome : goal.returns-clause-outcome
+returns-clause-outcome g c = let r = c.run_command-status.ensures in record {
+  usage = r.usage;
+  unused = r.unused;
+  read = r.read;
+  write = r.write;
+  limit = r.limit;
+  replay = r.ended;
+  storm = r.storm;
+  node = r.node;
+  complete = r.complete;
+  no_door = r.no_door;
+  no_file = r.no_file;
+  diskless = r.diskless;
+  disk = r.disk;
+  told = r.told;
+}

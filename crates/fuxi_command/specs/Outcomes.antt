@@ -1,0 +1,50 @@
+-- What a command made of what it was handed, and with which status.
+use Rattle.std.specs.Prelude.{◌≡◌, ◌⊎◌, ◌↔◌, ℕ, List, Option, Some, IfSome, false}
+use Rattle.fuxi_io.specs.Causes.{Rose}
+use Rattle.fuxi_io.specs.Disks.{Told as DiskTold}
+use Rattle.fuxi_io.specs.declared.status.LimitOf.TheVariants.{Lines}
+use Rattle.fuxi_io.specs.declared.status.Status.{Status}
+use Rattle.fuxi_io.specs.declared.status.Status.TheVariants.{Done, Usage, ReadFault, WriteFault, Limit, OutOfMemory, DiskFault}
+use Rattle.fuxi_terms.specs.Limits.{most_lines}
+use Rattle.schedule_run.specs.Runs.{read_from, Ended}
+use Rattle.storm_run.specs.Runs.{StormEnded}
+use Rattle.storm_run.specs.Summaries.{storm_of}
+use Rattle.node_command.specs.declared.kind.NodeKind.{NodeKind}
+use Rattle.node_command.specs.Inputs.{InputEnded, IsDiskless, IsWhole, MayStart, TellsDisk}
+use Rattle.node_door.specs.Doors.{Told, WhereTold}
+use Rattle.fuxi_command.specs.Words.{Node, Replay, Storm, command_of, has_file, is_command, is_node}
+
+-- what an input has left, what an output took, what a disk and a door told, and how many calls of each failed
+pub record Seen : Type 0 where
+  pub left : Option (List ℕ)
+  pub took : Option (List ℕ)
+  pub disk : Option DiskTold
+  pub door : Option Told
+  pub reads_failed : ℕ
+  pub writes_failed : ℕ
+  pub disk_failed : ℕ
+  pub door_failed : ℕ
+
+abbrev pub seen : Option (List ℕ) → Option (List ℕ) → Option DiskTold → Option Told → ℕ → ℕ → ℕ → ℕ → Seen
+seen left took disk door reads writes disks doors =
+    record { left = left; took = took; disk = disk; door = door; reads_failed = reads; writes_failed = writes; disk_failed = disks; door_failed = doors }
+
+-- By the words and the status, from what was seen before to what is seen now. That one of the four is as it was is said of itself, since not all of it is
+-- seen
+pub record IsOutcome (words : List (List ℕ)) (status : Status) (input_stays output_stays disk_stays door_stays : Type 0) (old new : Seen) : Type 0 where
+  pub usage : status ≡ Usage ↔ (is_command words ≡ false)
+  pub unused : status ≡ Usage → output_stays × input_stays
+  pub read : status ≡ ReadFault → Rose old.reads_failed new.reads_failed
+  pub write : status ≡ WriteFault → Rose old.writes_failed new.writes_failed
+  pub limit : (kept : ℕ) → status ≡ Limit Lines kept → kept ≡ most_lines
+  pub replay : command_of words ≡ Some Replay → IfSome old.left (λ bytes. Ended (read_from 0) bytes status new.left old.took new.took)
+  pub storm : (seed steps : ℕ) → command_of words ≡ Some (Storm seed steps) → input_stays × StormEnded (storm_of seed steps) status old.took new.took
+  pub node : (kind : NodeKind) (addr : List ℕ) → command_of words ≡ Some (Node kind addr) → IfSome old.left (λ bytes.
+      WhereTold (InputEnded kind addr old.disk new.disk bytes status new.left old.took new.took old.door_failed new.door_failed) old.door new.door)
+  pub complete : (kind : NodeKind) (addr : List ℕ) → command_of words ≡ Some (Node kind addr) → (bytes : List ℕ) (t : Told) → old.left ≡ Some bytes → old.door ≡ Some t → IsWhole kind bytes → MayStart kind old.disk
+      → (Rose old.reads_failed new.reads_failed → ⊥) → (Rose old.writes_failed new.writes_failed → ⊥) → (Rose old.disk_failed new.disk_failed → ⊥) → (status ≡ Done) ⊎ (status ≡ OutOfMemory)
+  pub no_door : is_node (command_of words) ≡ false → door_stays
+  pub no_file : has_file (command_of words) ≡ false → disk_stays
+  pub diskless : has_file (command_of words) ≡ false → IsDiskless status
+  pub disk : status ≡ DiskFault → Rose old.disk_failed new.disk_failed
+  pub told : (kind : NodeKind) (addr : List ℕ) → command_of words ≡ Some (Node kind addr) → TellsDisk kind status old.disk
