@@ -56,15 +56,7 @@ fn command<S: Source, O: Sink, E: Sink>(
     let words = words_of(alloc, words)?;
     let mut disk = MemDisk::of(alloc, Vec::new(alloc), Vec::from_slice(alloc, &[1])?);
     let mut door = MemDoor::of(alloc, Vec::new(alloc), Vec::from_slice(alloc, &[1])?);
-    Ok(fuxi_command::run(
-        alloc,
-        Ok(words),
-        input,
-        out,
-        err,
-        &mut disk,
-        &mut door,
-    ))
+    Ok(fuxi_command::run(alloc, Ok(words), input, out, err, &mut disk, &mut door))
 }
 
 // The number of a status, the output and the error stream.
