@@ -40,19 +40,14 @@ four_fit_and_one_waits_run = record {
       AppAt 0 1 1 3 ∷ Hold 0 0 0 4 ∷ Packets 10 ∷ [];
 }
 
--- of a unit that may have two grants on a machine three wait, though there is room
+-- of a unit that may have two grants on a machine three wait, though there is room; the packets are as where four fit
 abbrev pub at_most_two_on_a_machine_run : Run
 at_most_two_on_a_machine_run = record {
   on = one_machine;
   events =
       StartMaster 1 ∷ StartAgent 0 1 ∷ Submit 1 (job 0 0 (bounded_unit 5 (100 ∷ 250 ∷ []) 2 ∷ [])) ∷ StartApp 0 1 ∷ Want 0 0 5 ∷ TurnMaster 1 ∷
       DeliverRange 1 2 ∷ TurnAgent 0 ∷ TurnApp 0 ∷ DeliverRange 3 6 ∷ TurnMaster 1 ∷ DeliverRange 7 10 ∷ [];
-  lines =
-      sent 1 (master 1) (agent 0 0) Ack 0 0 48 ∷ sent 2 (master 1) (app 0 0) Ack 0 0 48 ∷ heard_new 1 Acked ∷ heard_new 2 Acked ∷
-      sent 3 (agent 0 1) (master 1) Full 1 1 60 ∷ sent 4 (agent 0 1) (master 1) Ack 1 0 48 ∷ sent 5 (app 0 1) (master 1) Full 1 2 72 ∷
-      sent 6 (app 0 1) (master 1) Ack 1 0 48 ∷ heard_new 3 Taken ∷ heard 4 Acked ∷ heard_new 5 Taken ∷ heard 6 Acked ∷
-      sent 7 (master 1) (agent 0 1) Full 1 2 125 ∷ sent 8 (master 1) (agent 0 1) Ack 1 1 48 ∷ sent 9 (master 1) (app 0 1) Full 1 3 84 ∷
-      sent 10 (master 1) (app 0 1) Ack 1 2 48 ∷ heard 7 Taken ∷ heard 8 Acked ∷ heard 9 Taken ∷ heard 10 Acked ∷ [];
+  lines = four_fit_and_one_waits_run.lines;
   state =
       State 12 ∷ Fence 1 ∷ Job 0 0 false ∷ MasterIs 1 true ∷ Reported 1 0 ∷ Grant 1 0 0 0 2 ∷ Wait 1 0 0 3 ∷ AgentAt 0 1 1 2 ∷ Row 0 0 0 2 ∷
       AppAt 0 1 1 3 ∷ Hold 0 0 0 2 ∷ Packets 10 ∷ [];
