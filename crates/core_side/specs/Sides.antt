@@ -10,7 +10,7 @@ use Rattle.full_sync.specs.Turns.{Endpoint}
 use Rattle.channel_join.specs.Alike.{place_at}
 use Rattle.written_net.specs.Net.{Party, word_of}
 use Rattle.written_net.specs.Ledgers.{Ledger}
-use Rattle.written_net.specs.Sides.{Side, shown, appended, resynced_side, HeardSide, hears_side}
+use Rattle.written_net.specs.Sides.{Side, shown, appended, HeardSide, hears_side}
 use Rattle.party_ledgers.specs.declared.packets.Heard.{Heard}
 use Rattle.party_ledgers.specs.declared.packets.Packet.{Packet}
 use Rattle.core_side.specs.Parcels.{kind_of, packet_of, parcel_is}
@@ -52,9 +52,6 @@ module _ {V D W : Type 0} (nothing : V) (patched : V → D → Result V LedgerFa
 
   abbrev pub PostsAlike : Endpoint V D W → Endpoint V D W → Type 0
   PostsAlike old new = (inc : ℕ) (e : Side) → IsSide old inc e → Posts old new inc e
-
-  abbrev pub ResyncsAlike : Endpoint V D W → Endpoint V D W → Type 0
-  ResyncsAlike old new = (inc : ℕ) (e : Side) → IsSide old inc e → IsSide new inc (resynced_side e)
 
   -- the present ledger is shown already, so nothing is due
   abbrev pub IsShown : Endpoint V D W → Type 0

@@ -59,9 +59,11 @@ is_valid_cluster c =
 abbrev pub is_priority : ℕ → Bool
 is_priority p = nat_lt p most_priorities
 
+-- what one grant of a unit takes: something
 abbrev pub is_size : ℕ → List ℕ → Bool
 is_size resources qs = is_vector_of resources qs && not (is_zero qs)
 
+-- the greatest number that a unit may have on one machine
 abbrev pub is_most : ℕ → Bool
 is_most n = is_between 1 greatest_count n
 

@@ -63,9 +63,6 @@ units_same : (asks : List Ask) → map unit_asked asks ≡ map (λ (u : UnitReco
 units_same [] = refl
 units_same (ask ∷ asks) = ap (λ us. unit_asked ask ∷ us) (units_same asks)
 
-job_same : (a g : ℕ) (asks : List Ask) → job_asked a g asks ≡ eight_places (job_named a g asks)
-job_same a g asks = λ i. record { number = a; group = g; units = units_same asks i }
-
 -- a fault that is answered is the refusal of the tests
 fault_refused : (resources a g : ℕ) (asks : List Ask) (f : JobFault) (r : Refusal) → asked (Some f) ≡ Some r → IsFault (job_fault resources asks) f → first_refusal (job_tests resources (job_named a g asks)) ≡ Some r
 fault_refused resources a g asks f r is first = job_alike resources a g asks ∙ by f is first
@@ -99,5 +96,5 @@ pub tested_alike : AreTestedAlike
 tested_alike = record {
   refused = λ resources a g asks f r first is. fault_refused resources a g asks f (as_refusal r) (job_refused f r is) first;
   passed = λ resources a g asks none. job_alike resources a g asks ∙ ap asked none;
-  made = job_same;
+  made = λ a g asks i. record { number = a; group = g; units = units_same asks i };
 }

@@ -10,6 +10,8 @@ use Rattle.std.specs.Str.Parse.{digits_value}
 use Rattle.fuxi_terms.specs.Limits.{greatest_count}
 use Rattle.fuxi_terms.specs.Cluster.{is_between}
 use Rattle.fuxi_terms.specs.Counts.{then_do}
+use Rattle.fuxi_terms.proofs.Booleans.{and_false}
+use Rattle.fuxi_terms.proofs.Alls.{all_append}
 use Rattle.schedule_unit.specs.Numbers.{is_numeral, number_of}
 use Rattle.schedule_unit.specs.declared.asks.Ask.{Ask}
 use Rattle.schedule_text.specs.declared.event.Event.{Event}
@@ -162,15 +164,11 @@ none_most w [] i h = refl
 none_most w (n ∷ ns) zero h = number_no_most (decimal n) n (w n h.0)
 none_most w (n ∷ ns) (suc i) h = none_most w ns i h.1
 
-never : (b : Bool) → (b && false) ≡ false
-never true = refl
-never false = refl
-
 -- so behind numbers alone nothing is set aside, and with a bound behind them that bound
 own_numbers : Written → (ns : List ℕ) → AllByRecursion (λ n. n < 2 ^ 64) ns → own_count (map decimal ns) ≡ length (map decimal ns)
 own_numbers w ns h =
     let ws = map decimal ns in
-    let none : is_bounded ws ≡ false = ap (λ b. nat_lt 1 (length ws) && b) (none_most w ns (length ws - 2) h) ∙ never (nat_lt 1 (length ws)) in
+    let none : is_bounded ws ≡ false = ap (λ b. nat_lt 1 (length ws) && b) (none_most w ns (length ws - 2) h) ∙ and_false (nat_lt 1 (length ws)) in
     ap (λ b. cond b (length ws - 2) (length ws)) none
 
 own_before : (ws : List (List ℕ)) (n : List ℕ) → own_count (ws ++ codes "most" ∷ n ∷ []) ≡ length ws
@@ -216,10 +214,6 @@ slashed [] = refl
 slashed (a ∷ as_) = ap (λ l. codes "/" ∷ ask_words a ++ l) (slashed as_)
 
 -- no word of a unit is a slash
-all_joined : {A : Type 0} (P : A → Type 0) (xs ys : List A) → AllByRecursion P xs → AllByRecursion P ys → AllByRecursion P (xs ++ ys)
-all_joined P [] ys h k = k
-all_joined P (x ∷ xs) ys h k = (h.0, all_joined P xs ys h.1 k)
-
 most_lacks : Written → (n : ℕ) → n < 2 ^ 64 → AllByRecursion (λ word. bytes_eq word (codes "/") ≡ false) (most_words n)
 most_lacks w n lt =
     elim (nat_eq n greatest_count) as (λ b. AllByRecursion (λ word. bytes_eq word (codes "/") ≡ false) (cond b [] (codes "most" ∷ decimal n ∷ []))) [
@@ -228,7 +222,7 @@ most_lacks w n lt =
     ]
 
 ask_lacks : Written → (a : Ask) → IsAsk a → AllByRecursion (λ word. bytes_eq word (codes "/") ≡ false) (ask_words a)
-ask_lacks w a h = all_joined (λ word. bytes_eq word (codes "/") ≡ false) (map decimal (ask_numbers a)) (most_words a.most) (numbers_lack w (ask_numbers a) (ask_range a h)) (most_lacks w a.most h.most)
+ask_lacks w a h = all_append (λ word. bytes_eq word (codes "/") ≡ false) (map decimal (ask_numbers a)) (most_words a.most) (numbers_lack w (ask_numbers a) (ask_range a h)) (most_lacks w a.most h.most)
 
 asks_lack : Written → (as_ : List Ask) → AllByRecursion IsAsk as_ → AllByRecursion (λ u. AllByRecursion (λ word. bytes_eq word (codes "/") ≡ false) u) (map ask_words as_)
 asks_lack w [] h = tt
@@ -258,9 +252,6 @@ units_sized w (a ∷ as_) h = ap (λ b. b && list_all is_unit (map ask_words as_
 pub units_counted : Written → (asks : List Ask) → 1 ≤ length asks → AllByRecursion IsAsk asks → list_all is_unit (units_of (asks_words asks)) ≡ true
 units_counted w asks some h = ap (list_all is_unit) (units_back w asks some h) ∙ units_sized w asks h
 
-plain_append : (vs ws : List (List ℕ)) → AllByRecursion IsPlain vs → AllByRecursion IsPlain ws → AllByRecursion IsPlain (vs ++ ws)
-plain_append vs ws h k = all_joined IsPlain vs ws h k
-
 plain_slash : IsPlain (codes "/")
 plain_slash = record { some = refl; lacks = (refl, tt) }
 
@@ -272,15 +263,15 @@ plain_most w n lt =
     ]
 
 plain_ask : Written → (a : Ask) → IsAsk a → AllByRecursion IsPlain (ask_words a)
-plain_ask w a h = plain_append (map decimal (ask_numbers a)) (most_words a.most) (plain_numbers w (ask_numbers a) (ask_range a h)) (plain_most w a.most h.most)
+plain_ask w a h = all_append IsPlain (map decimal (ask_numbers a)) (most_words a.most) (plain_numbers w (ask_numbers a) (ask_range a h)) (plain_most w a.most h.most)
 
 plain_more : Written → (as_ : List Ask) → AllByRecursion IsAsk as_ → AllByRecursion IsPlain (flat_map (λ b. codes "/" ∷ ask_words b) as_)
 plain_more w [] h = tt
-plain_more w (a ∷ as_) h = (plain_slash, plain_append (ask_words a) (flat_map (λ b. codes "/" ∷ ask_words b) as_) (plain_ask w a h.0) (plain_more w as_ h.1))
+plain_more w (a ∷ as_) h = (plain_slash, all_append IsPlain (ask_words a) (flat_map (λ b. codes "/" ∷ ask_words b) as_) (plain_ask w a h.0) (plain_more w as_ h.1))
 
 plain_asks : Written → (asks : List Ask) → AllByRecursion IsAsk asks → AllByRecursion IsPlain (asks_words asks)
 plain_asks w [] h = tt
-plain_asks w (a ∷ as_) h = plain_append (ask_words a) (flat_map (λ b. codes "/" ∷ ask_words b) as_) (plain_ask w a h.0) (plain_more w as_ h.1)
+plain_asks w (a ∷ as_) h = all_append IsPlain (ask_words a) (flat_map (λ b. codes "/" ∷ ask_words b) as_) (plain_ask w a h.0) (plain_more w as_ h.1)
 
 -- The first words of each line are plain
 is_plain : List ℕ → Bool
@@ -344,8 +335,8 @@ asks_range false asks h = subst (AllByRecursion IsAsk) (sym h) tt
 
 saying_plain : Written → (s : Saying) → AreWithin 0 (shape_of s.head).places s.numbers → AreAsks (shape_of s.head).units s.asks → AllByRecursion IsPlain (saying_words s)
 saying_plain w s within asks =
-    plain_append (shape_of s.head).words (map decimal s.numbers ++ asks_words s.asks) (plain_tests (shape_of s.head).words (heads_plain s.head))
-    (plain_append (map decimal s.numbers) (asks_words s.asks) (plain_numbers w s.numbers (within_range (shape_of s.head).places 0 s.numbers within)) (plain_asks w s.asks (asks_range (shape_of s.head).units s.asks asks)))
+    all_append IsPlain (shape_of s.head).words (map decimal s.numbers ++ asks_words s.asks) (plain_tests (shape_of s.head).words (heads_plain s.head))
+    (all_append IsPlain (map decimal s.numbers) (asks_words s.asks) (plain_numbers w s.numbers (within_range (shape_of s.head).places 0 s.numbers within)) (plain_asks w s.asks (asks_range (shape_of s.head).units s.asks asks)))
 
 -- behind its front a line has its units
 front_dropped : (vs ms as_ : List (List ℕ)) (n : ℕ) → length ms ≡ n → drop (length vs + n) (vs ++ (ms ++ as_)) ≡ as_
