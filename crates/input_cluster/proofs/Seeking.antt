@@ -16,10 +16,10 @@ use Rattle.cluster_desc.specs.ClusterLine.{cluster_of}
 use Rattle.cluster_desc.specs.Faults.{IsFault}
 use Rattle.input_lines.specs.Contents.{content, is_skipped}
 use Rattle.input_lines.specs.Statuses.{stop_status}
-use Rattle.input_lines.specs.Wholes.{AreWhole}
+use Rattle.input_lines.specs.Wholes.{AreWhole, TakesLines}
 use Rattle.input_cluster.specs.Openings.{Opening, BadAt, TooMany, cluster_fault, described, opening_from, HasCluster, IsLast, StopsAtCluster, Opened}
 use Rattle.input_cluster.specs.Statuses.{cluster_status}
-use Rattle.input_cluster.proofs.Taking.{taken_none, taken_more, broken, read_of, some_line, next_line, weaker}
+use Rattle.input_cluster.proofs.Known.{weaker}
 
 -- what the reader's last line says
 pub line_said : (said bytes : List ℕ) (ended : Bool) (reading : Reading) → said ≡ content (record { bytes = bytes; ended = ended }) → bytes ≡ reading.line → ended ≡ reading.ended → said ≡ content (line_of reading)
@@ -59,11 +59,11 @@ pub record Seeking (bytes : List ℕ) (first number : ℕ) (rest : Option (List 
   pub whole : AreWhole bytes left lines
   pub through : (more : List InputLine) → opening_from first (lines ++ more) ≡ opening_from number more
 
-pub seek_start : (known : Option (List ℕ)) (first : ℕ) → IfSome known (λ bytes. Seeking bytes first first known)
-seek_start None first = tt
-seek_start (Some bytes) first = record { lines = []; left = bytes; is_left = refl; cut = refl; whole = taken_none bytes; through = λ more. refl }
+pub seek_start : TakesLines → (known : Option (List ℕ)) (first : ℕ) → IfSome known (λ bytes. Seeking bytes first first known)
+seek_start laws None first = tt
+seek_start laws (Some bytes) first = record { lines = []; left = bytes; is_left = refl; cut = refl; whole = laws.none bytes; through = λ more. refl }
 
-module _ (bytes : List ℕ) (first number : ℕ) (rest : Option (List ℕ)) (s : Seeking bytes first number rest) where
+module _ (laws : TakesLines) (bytes : List ℕ) (first number : ℕ) (rest : Option (List ℕ)) (s : Seeking bytes first number rest) where
   cut_more : (line : InputLine) (behind : List ℕ) → IsFirst s.left line behind → lines_of bytes ≡ (s.lines ++ line ∷ []) ++ lines_of behind
   cut_more line behind f = s.cut ∙ ap (λ ls. s.lines ++ ls) f.first ∙ sym (append_assoc s.lines (line ∷ []) (lines_of behind))
 
@@ -76,26 +76,26 @@ module _ (bytes : List ℕ) (first number : ℕ) (rest : Option (List ℕ)) (s :
 
   step : (rest' : Option (List ℕ)) (line : InputLine) → line.ended ≡ true → number < most_lines → GivesKnown Line rest line rest' → is_skipped (content line) ≡ true → Seeking bytes first (number + 1) rest'
   step rest' line ends more gives skipped =
-      let n = next_line s.left line rest rest' s.is_left gives in
+      let n = laws.next s.left line rest rest' s.is_left gives in
       record {
         lines = s.lines ++ line ∷ [];
         left = n.behind;
         is_left = n.is_left;
         cut = cut_more line n.behind n.first;
-        whole = taken_more bytes s.left n.behind s.lines line s.whole n.first ends;
+        whole = laws.more bytes s.left n.behind s.lines line s.whole n.first ends;
         through = λ ls. through_more line ls ∙ opening_skipped number line ls more n.first.short skipped;
       }
 
   found : (rest' : Option (List ℕ)) (line : InputLine) (cluster : ClusterRecord) → number < most_lines → GivesKnown Line rest line rest' → is_skipped (content line) ≡ false → cluster_of (content line) ≡ Ok cluster
       → HasCluster bytes cluster first (number + 1) line.ended rest'
   found rest' line cluster more gives skipped is =
-      let n = next_line s.left line rest rest' s.is_left gives in
+      let n = laws.next s.left line rest rest' s.is_left gives in
       record {
         lines = s.lines ++ line ∷ [];
         left = n.behind;
         is_left = n.is_left;
         cut = cut_more line n.behind n.first;
-        taken = record { whole = λ e. taken_more bytes s.left n.behind s.lines line s.whole n.first e; last = n.first.last };
+        taken = record { whole = λ e. laws.more bytes s.left n.behind s.lines line s.whole n.first e; last = n.first.last };
         through = λ ls. through_more line ls ∙ opening_said number line ls more n.first.short skipped ∙ ap (λ said. described (number + 1) said ls) is;
       }
 
@@ -105,7 +105,7 @@ module _ (bytes : List ℕ) (first number : ℕ) (rest : Option (List ℕ)) (s :
     where
       bad : (fault : ClusterFault) → cluster_of (content line) ≡ Err fault → opening_from first (lines_of bytes) ≡ BadAt (number + 1) (cluster_fault fault)
       bad fault is =
-          let n = next_line s.left line rest (rest_of reading source) s.is_left gives in
+          let n = laws.next s.left line rest (rest_of reading source) s.is_left gives in
           begins (BadAt (number + 1) (cluster_fault fault))
           (ap (opening_from number) n.first.first ∙ opening_said number line (lines_of n.behind) more n.first.short skipped ∙ ap (λ said. described (number + 1) said (lines_of n.behind)) is)
 
@@ -115,7 +115,7 @@ module _ (bytes : List ℕ) (first number : ℕ) (rest : Option (List ℕ)) (s :
 
       wants : StopsAtCluster first bytes source
       wants =
-          let n = next_line s.left line rest (rest_of reading source) s.is_left gives in
+          let n = laws.next s.left line rest (rest_of reading source) s.is_left gives in
           let is : opening_from first (s.lines ++ line ∷ []) ≡ described (number + 1) (cluster_of (content line)) [] = s.through (line ∷ []) ∙ opening_said number line [] more n.first.short skipped in
           record {
             lines = s.lines ++ line ∷ [];
@@ -123,7 +123,7 @@ module _ (bytes : List ℕ) (first number : ℕ) (rest : Option (List ℕ)) (s :
               behind = n.behind;
               cut = cut_more line n.behind n.first;
               ahead = reading.pending;
-              gave = read_of reading.pending n.behind source n.is_left;
+              gave = laws.ahead reading.pending n.behind source n.is_left;
               few = few;
             };
             last = subst IsLast (sym is) (ends (cluster_of (content line)));
@@ -143,40 +143,40 @@ module _ (bytes : List ℕ) (first number : ℕ) (rest : Option (List ℕ)) (s :
   stopped : (reading : Reading) (source : Option (List ℕ)) (stop : LineStop) → (stop ≡ ReadStop → BreaksOff rest source) → (stop ≡ LongStop → (number < most_lines) × FirstTooLongKnown rest) → (stop ≡ ManyStop → (number ≡ most_lines) × MoreKnown rest)
       → Opened first bytes (Err (stop_status stop number)) reading source
   stopped reading source ReadStop broke long many =
-      let b = broken bytes s.left source s.lines s.whole (subst (λ r. BreaksOff r source) s.is_left (broke refl)) in
+      let b = laws.broken bytes s.left source s.lines s.whole (subst (λ r. BreaksOff r source) s.is_left (broke refl)) in
       record { given = b.given; gave = b.gave; line = number + 1; none = ap (opening_from first) (b.whole ∙ sym (append-nil s.lines)) ∙ s.through [] }
   stopped reading source LongStop broke long many =
       let l = long refl in
       begins (BadAt (number + 1) LineTooLong) (opening_long number (lines_of s.left) l.0 (subst FirstTooLongKnown s.is_left l.1))
   stopped reading source ManyStop broke long many =
       let m = many refl in
-      begins (TooMany number) (opening_many number (lines_of s.left) m.0 (some_line s.left (subst MoreKnown s.is_left m.1)))
+      begins (TooMany number) (opening_many number (lines_of s.left) m.0 (laws.some s.left (subst MoreKnown s.is_left m.1)))
 
 -- the same of an input that may be known
-module _ (input : Option (List ℕ)) (first number : ℕ) (rest : Option (List ℕ)) (a : IfSome input (λ bytes. Seeking bytes first number rest)) where
+module _ (laws : TakesLines) (input : Option (List ℕ)) (first number : ℕ) (rest : Option (List ℕ)) (a : IfSome input (λ bytes. Seeking bytes first number rest)) where
   pub seek_more : (rest' : Option (List ℕ)) (line : InputLine) (number' : ℕ) → number' ≡ number + 1 → line.ended ≡ true → number < most_lines → GivesKnown Line rest line rest' → is_skipped (content line) ≡ true → IfSome input (λ bytes. Seeking bytes first number' rest')
   seek_more rest' line number' next ends more gives skipped =
-      weaker input _ _ (λ bytes (s : Seeking bytes first number rest). subst (λ k. Seeking bytes first k rest') (sym next) (step bytes first number rest s rest' line ends more gives skipped)) a
+      weaker input _ _ (λ bytes (s : Seeking bytes first number rest). subst (λ k. Seeking bytes first k rest') (sym next) (step laws bytes first number rest s rest' line ends more gives skipped)) a
 
   pub seek_cluster : (reading : Reading) (source : Option (List ℕ)) (cluster : ClusterRecord) → reading.number ≡ number + 1 → number < most_lines → GivesKnown Line rest (line_of reading) (rest_of reading source) → is_skipped (content (line_of reading)) ≡ false
       → cluster_of (content (line_of reading)) ≡ Ok cluster → IfSome input (λ bytes. Opened first bytes (Ok cluster) reading source)
   seek_cluster reading source cluster next more gives skipped is =
       weaker input _ _ (λ bytes (s : Seeking bytes first number rest).
-      subst (λ k. HasCluster bytes cluster first k reading.ended (rest_of reading source)) (sym next) (found bytes first number rest s (rest_of reading source) (line_of reading) cluster more gives skipped is)) a
+      subst (λ k. HasCluster bytes cluster first k reading.ended (rest_of reading source)) (sym next) (found laws bytes first number rest s (rest_of reading source) (line_of reading) cluster more gives skipped is)) a
 
   pub seek_fault : (reading : Reading) (source : Option (List ℕ)) (fault : ClusterFault) → number < most_lines → length reading.pending ≤ read_ahead → GivesKnown Line rest (line_of reading) (rest_of reading source) → is_skipped (content (line_of reading)) ≡ false
       → IsFault (cluster_of (content (line_of reading))) fault → IfSome input (λ bytes. Opened first bytes (Err (cluster_status fault (number + 1))) reading source)
   seek_fault reading source fault more few gives skipped is =
-      weaker input _ _ (λ bytes (s : Seeking bytes first number rest). no_cluster bytes first number rest s reading source (line_of reading) fault more few gives skipped is) a
+      weaker input _ _ (λ bytes (s : Seeking bytes first number rest). no_cluster laws bytes first number rest s reading source (line_of reading) fault more few gives skipped is) a
 
   -- the end was told by a line that says nothing
   pub seek_last : (reading : Reading) (source rest' : Option (List ℕ)) (line : InputLine) → line.ended ≡ false → number < most_lines → GivesKnown Line rest line rest' → is_skipped (content line) ≡ true
       → IfSome input (λ bytes. Opened first bytes (Err (BadInput ((number + 1) + 1) NoCluster)) reading source)
   seek_last reading source rest' line ends more gives skipped = weaker input _ _ (λ bytes (s : Seeking bytes first number rest).
-      let n = next_line s.left line rest rest' s.is_left gives in
-      begins bytes first number rest s (BadAt ((number + 1) + 1) NoCluster)
+      let n = laws.next s.left line rest rest' s.is_left gives in
+      begins laws bytes first number rest s (BadAt ((number + 1) + 1) NoCluster)
       (ap (opening_from number) n.first.first ∙ opening_skipped number line (lines_of n.behind) more n.first.short skipped ∙ ap (λ xs. opening_from (number + 1) (lines_of xs)) (n.first.last ends))) a
 
   pub seek_stop : (reading : Reading) (source : Option (List ℕ)) (stop : LineStop) → (stop ≡ ReadStop → BreaksOff rest source) → (stop ≡ LongStop → (number < most_lines) × FirstTooLongKnown rest) → (stop ≡ ManyStop → (number ≡ most_lines) × MoreKnown rest)
       → IfSome input (λ bytes. Opened first bytes (Err (stop_status stop number)) reading source)
-  seek_stop reading source stop broke long many = weaker input _ _ (λ bytes (s : Seeking bytes first number rest). stopped bytes first number rest s reading source stop broke long many) a
+  seek_stop reading source stop broke long many = weaker input _ _ (λ bytes (s : Seeking bytes first number rest). stopped laws bytes first number rest s reading source stop broke long many) a

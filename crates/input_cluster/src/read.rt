@@ -7,7 +7,7 @@ ghost use Rattle.input_cluster.specs.Openings.{Opened};
 use crate::status::{cluster_status, no_cluster};
 use cluster_desc::{Cluster, read_cluster};
 use fuxi_io::{Got, LimitOf, LineReader, LineStop, Source, Status};
-use input_lines::{content, is_skipped, stop_status};
+use input_lines::{content, is_skipped, lines_are_taken, stop_status};
 use std::alloc::Global;
 
 /// Reads lines up to the one that describes the cluster, the first that is not skipped. What stands behind it
@@ -32,6 +32,7 @@ pub fn read_cluster_line<S: Source>(
     ensures stale { (fence : ℕ) → result ≢ Err (Status.StaleEpoch fence) }
     ensures damaged { (offset : ℕ) → result ≢ Err (Status.DamagedCheckpoint offset) }
 {
+    lines_are_taken();
     for turn in 0..1_000_001u64 {
         match lines.next(source) {
             Ok(Got::Line) => {}

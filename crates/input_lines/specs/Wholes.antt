@@ -1,9 +1,10 @@
 -- Lines that were taken from the front of an input, and what is written where the last output breaks off.
-use Rattle.std.specs.Prelude.{◌≡◌, ℕ, ◌-◌, ◌≤◌, Bool, true, false, filter, List, [], ◌++◌, length, take, Option, Some, None, slice_get}
+use Rattle.std.specs.Prelude.{◌≡◌, ◌≢◌, ℕ, ◌-◌, ◌≤◌, Bool, true, false, filter, List, [], ◌∷◌, ◌++◌, length, take, Option, Some, None, slice_get}
 use Rattle.std.specs.Option.{unwrap_or}
 use Rattle.std.specs.List.{concat}
-use Rattle.std.specs.Io.KnownBytes.{Appends, Consumes, IsAtEnd}
-use Rattle.fuxi_io.specs.Lines.{InputLine, lines_of}
+use Rattle.std.specs.Io.KnownBytes.{Appends, Consumes, IsAtEnd, prepend_known}
+use Rattle.fuxi_io.specs.Lines.{InputLine, lines_of, BreaksOff, GivesKnown, IsFirst}
+use Rattle.fuxi_io.specs.declared.lines.Got.TheVariants.{Line, End}
 use Rattle.fuxi_io.specs.Reading.{Reading, rest_of, read_ahead}
 
 -- the lines that a newline ends
@@ -39,3 +40,30 @@ pub record TakesSome (bytes : List ℕ) (left : Option (List ℕ)) (lines : List
 pub record WritesLast (all : List (List ℕ)) (before after : Option (List ℕ)) : Type 0 where
   pub part : ℕ
   pub writes : Appends before after (concat (take (length all - 1) all) ++ take part (unwrap_or (slice_get all (length all - 1)) []))
+
+-- what a source gave up to its fault has these whole lines
+pub record IsBroken (bytes : List ℕ) (left : Option (List ℕ)) (lines : List InputLine) : Type 0 where
+  pub given : List ℕ
+  pub gave : Consumes (Some bytes) left given
+  pub whole : whole_lines (lines_of given) ≡ lines
+
+-- the first line of what was left, and the bytes behind it
+pub record IsNext (left : List ℕ) (line : InputLine) (rest : Option (List ℕ)) : Type 0 where
+  pub behind : List ℕ
+  pub is_left : rest ≡ Some behind
+  pub first : IsFirst left line behind
+
+-- Of every input from whose front lines are taken one by one: none, one more, the next, and the end; what stands behind a fault of its source; that
+-- bytes are some lines; what waits in the reader, with what its source has left; outputs with one more behind them; and a last output that breaks off.
+pub record TakesLines : Type 0 where
+  pub none : (bytes : List ℕ) → AreWhole bytes bytes []
+  pub more : (bytes left behind : List ℕ) (lines : List InputLine) (line : InputLine) → AreWhole bytes left lines → IsFirst left line behind → line.ended ≡ true → AreWhole bytes behind (lines ++ line ∷ [])
+  pub next : (left : List ℕ) (line : InputLine) (old rest : Option (List ℕ)) → old ≡ Some left → GivesKnown Line old line rest → IsNext left line rest
+  pub end : (left : List ℕ) (line : InputLine) (old rest : Option (List ℕ)) → old ≡ Some left → GivesKnown End old line rest → (left ≡ []) × (rest ≡ Some [])
+  pub broken : (bytes left : List ℕ) (rest : Option (List ℕ)) (lines : List InputLine) → AreWhole bytes left lines → BreaksOff (Some left) rest → IsBroken bytes rest lines
+  pub some : (bytes : List ℕ) → bytes ≢ [] → lines_of bytes ≢ []
+  pub ahead : (pending left : List ℕ) (source : Option (List ℕ)) → prepend_known pending source ≡ Some left → Consumes (Some left) source pending
+  pub no_more : (pending : List ℕ) (source : Option (List ℕ)) → prepend_known pending source ≡ Some [] → source ≡ Some []
+  pub both : (front : List (List ℕ)) (x : List ℕ) (before now after : Option (List ℕ)) → Appends before now (concat front) → Appends now after x → Appends before after (concat (front ++ x ∷ []))
+  pub all : (outputs : List (List ℕ)) (before after : Option (List ℕ)) → Appends before after (concat outputs) → WritesLast outputs before after
+  pub last : (all front : List (List ℕ)) (x : List ℕ) (n : ℕ) (before now after : Option (List ℕ)) → all ≡ front ++ x ∷ [] → Appends before now (concat front) → Appends now after (take n x) → WritesLast all before after

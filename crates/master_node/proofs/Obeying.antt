@@ -31,7 +31,8 @@ use Rattle.node_party.specs.declared.party.Answer.{Answer}
 use Rattle.node_party.specs.declared.party.Halt.{Halt}
 use Rattle.master_node.specs.Standing.{NodeRecord, IsMasterOf, IsTied, StandsAs}
 use Rattle.master_node.specs.Writing.{IsCommand, IsEither, Writes, hard_in, written_by}
-use Rattle.master_node.specs.Telling.{LeavesLine, answer_in, made_of, master_refusal, obeyed}
+use Rattle.master_text.specs.Refusals.{master_refusal}
+use Rattle.master_node.specs.Telling.{LeavesLine, answer_in, made_of, obeyed}
 use Rattle.master_node.proofs.Knowing.{IsAlike, begins_alike, preempts_alike, ready_same}
 use Rattle.master_node.proofs.Moments.{leaves_more, map_where}
 

@@ -10,12 +10,9 @@ use Rattle.written_roles.specs.MasterRoles.{MasterRole, master_changed, master_r
 use Rattle.hard_state.specs.HardFiles.{Kept, IsAtRest}
 use Rattle.fuxi_master.specs.declared.event.MasterEvent.{MasterEvent}
 use Rattle.fuxi_master.specs.declared.event.MasterEvent.TheVariants.{Packet as PacketComes, Admit, Finish, Ban, Unban, Begin, Preempt, Turn, TurnTo, Resync}
-use Rattle.fuxi_master.specs.declared.event.MasterRefusal.{MasterRefusal}
-use Rattle.fuxi_master.specs.declared.event.MasterRefusal.TheVariants as master
 use Rattle.fuxi_master.specs.declared.event.Outcome.{Outcome}
 use Rattle.fuxi_master.specs.declared.event.Outcome.TheVariants as outcome
-use Rattle.schedule_text.specs.declared.refusal.Refusal.{Refusal}
-use Rattle.schedule_text.specs.declared.refusal.Refusal.TheVariants as why
+use Rattle.master_text.specs.Refusals.{master_refusal}
 use Rattle.node_rounds.specs.Roles.{OfMaster}
 use Rattle.node_party.specs.Commands.{Commanded, IsCommanded, NotHere, stays, becomes, master_after}
 use Rattle.node_party.specs.Texts.{as_answer}
@@ -25,12 +22,7 @@ use Rattle.master_node.specs.Standing.{NodeRecord, IsMasterOf, StandsAs}
 use Rattle.master_node.specs.Writing.{IsEither, hard_in}
 use Rattle.node_party.specs.declared.party.Halt.{Halt}
 
--- Refusals: of what a master refuses, and what its outcome says
-abbrev pub master_refusal : MasterRefusal → Refusal
-master_refusal master.AlreadyServing = why.AlreadyServing
-master_refusal master.NotServing = why.NotServing
-master_refusal master.NothingToPreempt = why.NothingToPreempt
-
+-- what the outcome of a command says
 abbrev pub answer_in : Outcome → Answer
 answer_in outcome.Done = answer.Done
 answer_in (outcome.Refused refusal) = answer.Refused (master_refusal refusal)

@@ -5,11 +5,11 @@ ghost use Rattle.written_roles.specs.HardState.{HardState};
 ghost use Rattle.written_roles.specs.Refusals.{Refusal as WrittenRefusal};
 ghost use Rattle.schedule_text.specs.Printing.{as_refusal};
 ghost use Rattle.hard_state.specs.HardFiles.{Refuses};
-ghost use Rattle.master_node.specs.Telling.{master_refusal, answer_in};
+ghost use Rattle.master_node.specs.Telling.{answer_in};
 
-use fuxi_master::{MasterRefusal, Outcome};
-use fuxi_terms::limits::MOST_RECORDS;
+use fuxi_master::Outcome;
 use hard_state::HardFault;
+use master_text::{hard_refusal, master_refusal};
 use node_party::{Answer, Halt};
 use schedule_text::Refusal;
 
@@ -19,27 +19,12 @@ pub fn written_refusal(fault: HardFault) -> Result<Refusal, Halt>
     ensures served { IfOk result (λ refusal. fault ≢ HardFault.DiskFault) }
     ensures disk { result ≡ Err Halt.Disk → fault ≡ HardFault.DiskFault }
 {
-    match fault {
-        HardFault::Stale { fence } => Ok(Refusal::NotRising(fence)),
-        HardFault::Fenced { fence } => Ok(Refusal::Fenced(fence)),
-        HardFault::Known => Ok(Refusal::Known),
-        HardFault::NoJob => Ok(Refusal::NoJob),
-        HardFault::Ended => Ok(Refusal::Ended),
-        HardFault::AlreadyBanned => Ok(Refusal::AlreadyBanned),
-        HardFault::NotBanned => Ok(Refusal::NotBanned),
-        HardFault::Full => Ok(Refusal::HardFull(MOST_RECORDS)),
-        HardFault::DiskFault => Err(Halt::Disk),
-        HardFault::NotCheckpoint { .. } | HardFault::OutOfMemory => Err(Halt::Memory),
-    }
-}
-
-fn master_refusal(refusal: MasterRefusal) -> Refusal
-    ensures { result ≡ master_refusal refusal }
-{
-    match refusal {
-        MasterRefusal::AlreadyServing => Refusal::AlreadyServing,
-        MasterRefusal::NotServing => Refusal::NotServing,
-        MasterRefusal::NothingToPreempt => Refusal::NothingToPreempt,
+    match hard_refusal(fault) {
+        Some(refusal) => Ok(refusal),
+        None => match fault {
+            HardFault::DiskFault => Err(Halt::Disk),
+            _ => Err(Halt::Memory),
+        },
     }
 }
 

@@ -2,6 +2,5 @@ mod Numbers
 mod Walks
 mod Spots
 mod Loops
-mod Showing
 mod Jobs
 mod Lining

@@ -20,7 +20,7 @@ use Rattle.fuxi_terms.proofs.Appending.{appends_both, appends_none}
 use Rattle.schedule_text.specs.declared.event.LineFault.{LineFault}
 use Rattle.input_lines.specs.Contents.{content, is_skipped}
 use Rattle.input_lines.specs.Statuses.{event_fault, stop_status}
-use Rattle.input_lines.specs.Wholes.{TakesSome, WritesLast}
+use Rattle.input_lines.specs.Wholes.{IsNext, TakesLines, TakesSome, WritesLast}
 use Rattle.node_door.specs.Doors.{Told}
 use Rattle.node_rounds.specs.Roles.{Role}
 use Rattle.node_rounds.specs.Rounds.{Breaks}
@@ -33,7 +33,6 @@ use Rattle.node_run.specs.Runs.{Node, Round, Run, Ending, AtEnd, AtBadLine, AtLi
 use Rattle.node_run.specs.Visits.{Visit, rounds_of, played_of, WasAt}
 use Rattle.node_run.specs.Ends.{Start, run_of, Ran, EndsAt, EndsWhole, StopsWanting, Ended}
 use Rattle.node_run.specs.Progress.{Taken, TakesLine, WritesEnd, behind_all, Along}
-use Rattle.node_run.proofs.Whole.{taken_none, taken_more, broken, read_of}
 use Rattle.node_run.proofs.Visiting.{was_both, was_later, rounds_both, played_both}
 use Rattle.node_run.proofs.Stepping.{not_there}
 
@@ -74,62 +73,14 @@ run_many : (most before : ℕ) (n : Node) (rounds : List Round) (lines : List In
 run_many most before n rounds [] many some = absurd (some refl)
 run_many most before n rounds (line ∷ lines) many some = too_many before n line _ many
 
-some_line : (bytes : List ℕ) → bytes ≢ [] → lines_of bytes ≢ []
-some_line [] some = λ e. some refl
-some_line (b ∷ bytes) some = λ e. split (lines_of bytes) (nat_eq b 10) e
-  where
-    onto : (ls : List InputLine) → onto_first b ls ≡ [] → ⊥
-    onto [] e = cc
-    onto (l ∷ ls) e = cc
-
-    split : (ls : List InputLine) (t : Bool) → cond t ((record { bytes = []; ended = true }) ∷ ls) (onto_first b ls) ≡ [] → ⊥
-    split ls true e = cc
-    split ls false e = onto ls e
-
--- what is written one after another
-concat_one : (front : List (List ℕ)) (x : List ℕ) → concat (front ++ x ∷ []) ≡ concat front ++ x
-concat_one front x = concat-append front (x ∷ []) ∙ ap (λ l. concat front ++ l) (append-nil x)
-
--- all pieces but the last are written, and of the last a part
-seam : (front : List (List ℕ)) (x : List ℕ) → unwrap_or (slice_get (front ++ x ∷ []) (length front)) [] ≡ x
-seam [] x = refl
-seam (y ∷ front) x = seam front x
-
-last_part : (all front : List (List ℕ)) (x : List ℕ) (n : ℕ) (w0 w w' : Option (List ℕ)) → all ≡ front ++ x ∷ [] → Appends w0 w (concat front) → Appends w w' (take n x) → WritesLast all w0 w'
-last_part all front x n w0 w w' is writes part =
-    let k : length (front ++ x ∷ []) - 1 ≡ length front = omega (arith, length-append front (x ∷ [])) in
-    subst (λ ps. WritesLast ps w0 w') (sym is) (record {
-      part = n;
-      writes = rw (k, take-append_seam front (x ∷ []), seam front x) (appends_both w0 w w' (concat front) (take n x) writes part);
-    })
-
-record Next (left : List ℕ) (line : InputLine) (rest : Option (List ℕ)) : Type 0 where
-  pub behind : List ℕ
-  pub is_left : rest ≡ Some behind
-  pub first : IsFirst left line behind
-
-next_line : (left : List ℕ) (line : InputLine) (old rest : Option (List ℕ)) → old ≡ Some left → GivesKnown Line old line rest → Next left line rest
-next_line left line old rest is gives = of rest (subst (λ r. GivesKnown Line r line rest) is gives)
-  where
-    of : (rest : Option (List ℕ)) → GivesKnown Line (Some left) line rest → Next left line rest
-    of None h = absurd h
-    of (Some behind) h = record { behind = behind; is_left = refl; first = h }
-
-pub at_end : (left : List ℕ) (line : InputLine) (old rest : Option (List ℕ)) → old ≡ Some left → GivesKnown End old line rest → (left ≡ []) × (rest ≡ Some [])
-at_end left line old rest is gives = of rest (subst (λ r. GivesKnown End r line rest) is gives)
-  where
-    of : (rest : Option (List ℕ)) → GivesKnown End (Some left) line rest → (left ≡ []) × (rest ≡ Some [])
-    of None h = absurd h
-    of (Some behind) h = (h.0, ap (λ l. Some l) h.1)
-
 -- before the first line
-pub begin : (s : Start) (bytes : List ℕ) (ends : Bool) (now : Role → Type 0) (w : Option (List ℕ)) (f : ℕ) (t : Told) → now s.node.role → s.node.events ≡ 0 → (ends ≡ false → IsAtEnd (Some bytes)) → Along s bytes s.first ends 0 now (Some bytes) w w f f t t
-begin s bytes ends now w f t stands none last = record {
+pub begin : TakesLines → (s : Start) (bytes : List ℕ) (ends : Bool) (now : Role → Type 0) (w : Option (List ℕ)) (f : ℕ) (t : Told) → now s.node.role → s.node.events ≡ 0 → (ends ≡ false → IsAtEnd (Some bytes)) → Along s bytes s.first ends 0 now (Some bytes) w w f f t t
+begin laws s bytes ends now w f t stands none last = record {
   lines = [];
   left = bytes;
   is_left = refl;
   cut = refl;
-  taken = record { whole = λ e. taken_none bytes; last = last };
+  taken = record { whole = λ e. laws.none bytes; last = last };
   visits = [];
   was = not_there s.most s.addr f f t (omega arith);
   front = [];
@@ -139,7 +90,7 @@ begin s bytes ends now w f t stands none last = record {
   through = λ rounds more. ap (λ e. let n : Node = record { role = s.node.role; events = e } in role_run s.most s.first n rounds more) none;
 }
 
-module _ (s : Start) (bytes : List ℕ) (number : ℕ) (ends : Bool) (events : ℕ) (now : Role → Type 0) (rest w0 w : Option (List ℕ)) (f0 f1 : ℕ) (old mid : Told) (a : Along s bytes number ends events now rest w0 w f0 f1 old mid) where
+module _ (laws : TakesLines) (s : Start) (bytes : List ℕ) (number : ℕ) (ends : Bool) (events : ℕ) (now : Role → Type 0) (rest w0 w : Option (List ℕ)) (f0 f1 : ℕ) (old mid : Told) (a : Along s bytes number ends events now rest w0 w f0 f1 old mid) where
   abbrev pub here : Node
   here = record { role = a.role; events = events }
 
@@ -153,13 +104,13 @@ module _ (s : Start) (bytes : List ℕ) (number : ℕ) (ends : Bool) (events : �
   -- a line that is skipped
   pub skip : (rest' : Option (List ℕ)) (line : InputLine) → ends ≡ true → number < most_lines → GivesKnown Line rest line rest' → is_skipped (content line) ≡ true → Along s bytes (number + 1) line.ended events now rest' w0 w f0 f1 old mid
   skip rest' line ended more gives skipped =
-      let n = next_line a.left line rest rest' a.is_left gives in
+      let n = laws.next a.left line rest rest' a.is_left gives in
       record {
         lines = a.lines ++ line ∷ [];
         left = n.behind;
         is_left = n.is_left;
         cut = cut_more line n.behind n.first;
-        taken = record { whole = λ e. taken_more bytes a.left n.behind a.lines line (a.taken.whole ended) n.first e; last = n.first.last };
+        taken = record { whole = λ e. laws.more bytes a.left n.behind a.lines line (a.taken.whole ended) n.first e; last = n.first.last };
         visits = a.visits;
         was = a.was;
         front = a.front;
@@ -192,17 +143,17 @@ module _ (s : Start) (bytes : List ℕ) (number : ℕ) (ends : Bool) (events : �
   pub step : (rest' w' : Option (List ℕ)) (line : InputLine) (now' : Role → Type 0) (f2 : ℕ) (new : Told) → ends ≡ true → number < most_lines → GivesKnown Line rest line rest' → is_skipped (content line) ≡ false
       → Taken s.most s.addr here (number + 1) (node_line (content line)) now' (Appends w w') f1 f2 mid new → Along s bytes (number + 1) line.ended (events + 1) now' rest' w0 w' f0 f2 old new
   step rest' w' line now' f2 new ended more gives unskipped t =
-      let n = next_line a.left line rest rest' a.is_left gives in
+      let n = laws.next a.left line rest rest' a.is_left gives in
       record {
         lines = a.lines ++ line ∷ [];
         left = n.behind;
         is_left = n.is_left;
         cut = cut_more line n.behind n.first;
-        taken = record { whole = λ e. taken_more bytes a.left n.behind a.lines line (a.taken.whole ended) n.first e; last = n.first.last };
+        taken = record { whole = λ e. laws.more bytes a.left n.behind a.lines line (a.taken.whole ended) n.first e; last = n.first.last };
         visits = a.visits ++ t.visits;
         was = was_all line n.behind more n.first unskipped now' (Appends w w') f2 new t;
         front = a.front ++ t.output ∷ [];
-        writes = rw concat_one (appends_both w0 w w' (concat a.front) t.output a.writes t.writes);
+        writes = laws.both a.front t.output w0 w w' a.writes t.writes;
         role = t.role;
         stands = t.stands;
         through = through_line line n.behind more n.first unskipped now' (Appends w w') f2 new t;
@@ -271,7 +222,7 @@ module _ (s : Start) (bytes : List ℕ) (number : ℕ) (ends : Bool) (events : �
           visits = a.visits;
           was = a.was;
           rounds = ap (λ (r : Run). r.rounds) all;
-          holds = subst (EndsWhole Fits w0 w') (sym all) (refl, rw concat_one (appends_both w0 w w' (concat a.front) (state_text events a.role) a.writes h), fits);
+          holds = subst (EndsWhole Fits w0 w') (sym all) (refl, laws.both a.front (state_text events a.role) w0 w w' a.writes h, fits);
         },
       )
       by_status WriteFault h = record {
@@ -281,7 +232,7 @@ module _ (s : Start) (bytes : List ℕ) (number : ℕ) (ends : Bool) (events : �
           visits = a.visits;
           was = a.was;
           rounds = ap (λ (r : Run). r.rounds) so_far;
-          holds = inr (cut, last_part (pieces (run_of s a.visits a.lines)) a.front (state_text events a.role) h.0 w0 w w' (ap pieces so_far) a.writes h.2);
+          holds = inr (cut, laws.last (pieces (run_of s a.visits a.lines)) a.front (state_text events a.role) h.0 w0 w w' (ap pieces so_far) a.writes h.2);
         };
       }
       by_status OutOfMemory h = wants source w' [] f1 mid (omega arith) some h (omega arith) (inl refl)
@@ -297,7 +248,7 @@ module _ (s : Start) (bytes : List ℕ) (number : ℕ) (ends : Bool) (events : �
   pub stop_ended : (Fits : Role → Type 0) (source : Option (List ℕ)) (stop : LineStop) → ends ≡ true → (stop ≡ ReadStop → BreaksOff rest source) → (stop ≡ LongStop → (number < most_lines) × FirstTooLongKnown rest) → (stop ≡ ManyStop → (number ≡ most_lines) × MoreKnown rest)
       → Ended Fits s bytes (Ok (stop_status stop number)) source w0 w f0 f1 old mid
   stop_ended Fits source ReadStop ended broke long many =
-      let b = broken bytes a.left source a.lines (a.taken.whole ended) (subst (λ r. BreaksOff r source) a.is_left (broke refl)) in
+      let b = laws.broken bytes a.left source a.lines (a.taken.whole ended) (subst (λ r. BreaksOff r source) a.is_left (broke refl)) in
       record {
         given = b.given;
         gave = b.gave;
@@ -309,18 +260,18 @@ module _ (s : Start) (bytes : List ℕ) (number : ℕ) (ends : Bool) (events : �
   stop_ended Fits source ManyStop ended broke long many =
       let m = many refl in
       subst (λ k. Ran s (lines_of bytes) (EndsAt (AtLimit k) w0 w) f0 f1 old mid) (sym m.0)
-      (ends_there (lines_of bytes) (AtLimit most_lines) w f1 mid refl a.was (known_end (AtLimit most_lines) (run_many s.most number here [] (lines_of a.left) m.0 (some_line a.left (subst MoreKnown a.is_left m.1)))))
+      (ends_there (lines_of bytes) (AtLimit most_lines) w f1 mid refl a.was (known_end (AtLimit most_lines) (run_many s.most number here [] (lines_of a.left) m.0 (laws.some a.left (subst MoreKnown a.is_left m.1)))))
 
   -- a line at which the node ended
   pub line_ended : {C : Type 0} (Fits : Role → Type 0) (stands : C → Role → Type 0) (pending : List ℕ) (source w' : Option (List ℕ)) (line : InputLine) (status : Status) (f2 : ℕ) (new : Told) → number < most_lines → length pending ≤ read_ahead → GivesKnown Line rest line (prepend_known pending source)
       → is_skipped (content line) ≡ false → TakesLine {C = C} stands s.most s.addr here (node_line (content line)) (number + 1) (Err (Ends status)) w w' f1 f2 mid new → Ended Fits s bytes (Ok status) source w0 w' f0 f2 old new
   line_ended {C} Fits stands pending source w' line status f2 new more few gives unskipped = by_status status
     where
-      n : Next a.left line (prepend_known pending source)
-      n = next_line a.left line rest (prepend_known pending source) a.is_left gives
+      n : IsNext a.left line (prepend_known pending source)
+      n = laws.next a.left line rest (prepend_known pending source) a.is_left gives
 
       some : TakesSome bytes source (a.lines ++ line ∷ [])
-      some = record { behind = n.behind; cut = cut_more line n.behind n.first; ahead = pending; gave = read_of pending n.behind source n.is_left; few = few }
+      some = record { behind = n.behind; cut = cut_more line n.behind n.first; ahead = pending; gave = laws.ahead pending n.behind source n.is_left; few = few }
 
       bad : (why : LineFault) → node_line (content line) ≡ Err why → role_run s.most number here [] (lines_of a.left) ≡ ended here (AtBadLine (number + 1) (event_fault why))
       bad why is = ap (role_run s.most number here []) n.first.first ∙ run_taken s.most number here [] line (lines_of n.behind) more n.first.short unskipped
@@ -344,7 +295,7 @@ module _ (s : Start) (bytes : List ℕ) (number : ℕ) (ends : Bool) (events : �
               visits = vs;
               was = was_all line n.behind more n.first unskipped (λ r. Unit {0}) (TakesPart w w') f2 new t;
               rounds = ap (λ (r : Run). r.rounds) over ∙ append-nil (played_of vs);
-              holds = inl (last_part (run_of s vs (a.lines ++ line ∷ [])).outputs a.front t.output t.writes.0 w0 w w' (ap (λ (r : Run). r.outputs) over ∙ append-nil (a.front ++ t.output ∷ [])) a.writes t.writes.2);
+              holds = inl (laws.last (run_of s vs (a.lines ++ line ∷ [])).outputs a.front t.output t.writes.0 w0 w w' (ap (λ (r : Run). r.outputs) over ∙ append-nil (a.front ++ t.output ∷ [])) a.writes t.writes.2);
             };
           }
       by_status OutOfMemory h = wants source w' (line ∷ []) f2 new (omega arith) some h.0 h.1 h.2
@@ -360,11 +311,11 @@ module _ (s : Start) (bytes : List ℕ) (number : ℕ) (ends : Bool) (events : �
   pub disk_ended : {C : Type 0} (Fits : Role → Type 0) (failed : DiskFailed) (stands : C → Role → Type 0) (pending : List ℕ) (source w' : Option (List ℕ)) (line : InputLine) (f2 : ℕ) (new : Told) → length pending ≤ read_ahead → GivesKnown Line rest line (prepend_known pending source)
       → TakesLine {C = C} stands s.most s.addr here (node_line (content line)) (number + 1) (Err Disk) w w' f1 f2 mid new → Ended Fits s bytes (Err failed) source w0 w' f0 f2 old new
   disk_ended {C} Fits failed stands pending source w' line f2 new few gives h =
-      let n = next_line a.left line rest (prepend_known pending source) a.is_left gives in
+      let n = laws.next a.left line rest (prepend_known pending source) a.is_left gives in
       record {
         lines = a.lines;
         next = line ∷ [];
         one = omega arith;
-        takes = record { behind = n.behind; cut = cut_more line n.behind n.first; ahead = pending; gave = read_of pending n.behind source n.is_left; few = few };
+        takes = record { behind = n.behind; cut = cut_more line n.behind n.first; ahead = pending; gave = laws.ahead pending n.behind source n.is_left; few = few };
         ran = ends_there a.lines AtEnd w' f2 new h.0 (subst (λ vs. WasAt s.most s.addr vs f0 f2 old new) (append-nil a.visits) (was_both s.most s.addr a.visits [] f0 f1 f2 old mid new a.was h.1)) so_far;
       }

@@ -1,6 +1,5 @@
 pub mod Telling
 pub mod Stepping
-pub mod Whole
 pub mod Visiting
 pub mod Going
 pub mod Lifting

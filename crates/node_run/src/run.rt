@@ -17,7 +17,7 @@ ghost use Rattle.node_run.specs.Progress.{WritesEnd, TakesCounted, KeepsTold, Is
 
 use crate::taking::{DiskFailed, Stop, take_line, write_state};
 use fuxi_io::{Disk, Got, LimitOf, LineReader, LineStop, Sink, Source, Status};
-use input_lines::{content, is_skipped, stop_status};
+use input_lines::{content, is_skipped, lines_are_taken, stop_status};
 use node_door::Door;
 use node_party::Node;
 use std::alloc::Global;
@@ -106,6 +106,7 @@ pub fn run_node<C: Node, S: Source, O: Sink, N: Door, D: Disk>(
     ensures failed { OnErr result (Rose (D.faults disk.old) (D.faults disk.new)) }
     ensures later { D.faults disk.old ≤ D.faults disk.new }
 {
+    lines_are_taken();
     let mut core = core;
     let mut events = 0;
     for turn in 0..1_000_001u64 {

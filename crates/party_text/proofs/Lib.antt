@@ -1,3 +1,2 @@
-mod Showing
 mod Walks
 mod Loops

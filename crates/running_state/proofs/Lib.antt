@@ -1,4 +1,4 @@
 mod Walks
 mod Loops
-mod Showing
+mod Found
 mod Whole

@@ -34,7 +34,6 @@ use Rattle.input_lines.specs.Wholes.{WritesLast}
 use Rattle.schedule_run.specs.Runs.{Run, Ending, AtEnd, AtBadLine, AtLimit, ended, behind, within_limits, ending_at, unless_past, with_event, run_from, pieces, StopsWithin, Ended}
 use Rattle.schedule_run.specs.Progress.{Stands, TakesLine, WritesState, after_line, behind_all, Along}
 use Rattle.schedule_run.proofs.Stepping.{skipped_line, event_line}
-use Rattle.schedule_run.proofs.Taking.{taken_none, taken_more, broken, reads_whole, read_of, no_more}
 use Rattle.fuxi_terms.specs.Limits.{most_line_bytes, most_lines}
 use Rattle.fuxi_terms.specs.Cluster.{ClusterRecord}
 
@@ -102,22 +101,6 @@ run_many : (before : ℕ) (w : World) (lines : List InputLine) → before ≡ mo
 run_many before w [] many some = absurd (some refl)
 run_many before w (line ∷ lines) many some = too_many before w line _ many
 
-pub some_line : (bytes : List ℕ) → bytes ≢ [] → lines_of bytes ≢ []
-some_line [] some = λ e. some refl
-some_line (b ∷ bytes) some = λ e. split (lines_of bytes) (nat_eq b 10) e
-  where
-    onto : (ls : List InputLine) → onto_first b ls ≡ [] → ⊥
-    onto [] e = cc
-    onto (l ∷ ls) e = cc
-
-    split : (ls : List InputLine) (t : Bool) → cond t ((record { bytes = []; ended = true }) ∷ ls) (onto_first b ls) ≡ [] → ⊥
-    split ls true e = cc
-    split ls false e = onto ls e
-
--- what is written one after another
-concat_one : (front : List (List ℕ)) (x : List ℕ) → concat (front ++ x ∷ []) ≡ concat front ++ x
-concat_one front x = concat-append front (x ∷ []) ∙ ap (λ l. concat front ++ l) (append-nil x)
-
 behind_both : (front : List (List ℕ)) (x : List ℕ) (r : Run) → behind_all front (behind x r) ≡ behind_all (front ++ x ∷ []) r
 behind_both front x r = ap (λ os. record { outputs = os; world = r.world; ending = r.ending }) (sym (append_assoc front (x ∷ []) r.outputs))
 
@@ -125,33 +108,22 @@ pub weaker : (o : Option (List ℕ)) (P Q : List ℕ → Type 0) → ((x : List 
 weaker None P Q f h = tt
 weaker (Some x) P Q f h = f x h
 
-pub record Next (left : List ℕ) (line : InputLine) (rest : Option (List ℕ)) : Type 0 where
-  pub behind : List ℕ
-  pub is_left : rest ≡ Some behind
-  pub first : IsFirst left line behind
+reads_whole : (run : List InputLine → Run) (bytes : List ℕ) (left w0 w : Option (List ℕ)) (lines : List InputLine) → IsBroken bytes left lines → IsOpen (run lines).ending → Appends w0 w (concat (run lines).outputs) → ReadsWhole run bytes left w0 w
+reads_whole run bytes left w0 w lines b unended writes = record {
+  given = b.given;
+  gave = b.gave;
+  unended = subst (λ ls. IsOpen (run ls).ending) (sym b.whole) unended;
+  writes = subst (λ ls. Appends w0 w (concat (run ls).outputs)) (sym b.whole) writes;
+}
 
-pub next_line : (left : List ℕ) (line : InputLine) (old rest : Option (List ℕ)) → old ≡ Some left → GivesKnown Line old line rest → Next left line rest
-next_line left line old rest is gives = of rest (subst (λ r. GivesKnown Line r line rest) is gives)
-  where
-    of : (rest : Option (List ℕ)) → GivesKnown Line (Some left) line rest → Next left line rest
-    of None h = absurd h
-    of (Some behind) h = record { behind = behind; is_left = refl; first = h }
-
-pub at_end : (left : List ℕ) (line : InputLine) (old rest : Option (List ℕ)) → old ≡ Some left → GivesKnown End old line rest → (left ≡ []) × (rest ≡ Some [])
-at_end left line old rest is gives = of rest (subst (λ r. GivesKnown End r line rest) is gives)
-  where
-    of : (rest : Option (List ℕ)) → GivesKnown End (Some left) line rest → (left ≡ []) × (rest ≡ Some [])
-    of None h = absurd h
-    of (Some behind) h = (h.0, ap (λ l. Some l) h.1)
-
-pub start : (known took : Option (List ℕ)) (cluster : ClusterRecord) (first : ℕ) (ends : Bool) (r : WorldRecord) → Stands r (empty_world cluster) → (ends ≡ false → IsAtEnd known) → IfSome known (λ bytes. Along bytes cluster first first ends r known took took)
-start None took cluster first ends r stands last = tt
-start (Some bytes) took cluster first ends r stands last = record {
+pub start : TakesLines → (known took : Option (List ℕ)) (cluster : ClusterRecord) (first : ℕ) (ends : Bool) (r : WorldRecord) → Stands r (empty_world cluster) → (ends ≡ false → IsAtEnd known) → IfSome known (λ bytes. Along bytes cluster first first ends r known took took)
+start laws None took cluster first ends r stands last = tt
+start laws (Some bytes) took cluster first ends r stands last = record {
   lines = [];
   left = bytes;
   is_left = refl;
   cut = refl;
-  taken = record { whole = λ e. taken_none bytes; last = last };
+  taken = record { whole = λ e. laws.none bytes; last = last };
   front = [];
   writes = appends_none took;
   world = empty_world cluster;
@@ -159,41 +131,7 @@ start (Some bytes) took cluster first ends r stands last = record {
   through = λ more. refl;
 }
 
--- all pieces but the last are written, and of the last a part
-seam : (front : List (List ℕ)) (x : List ℕ) → unwrap_or (slice_get (front ++ x ∷ []) (length front)) [] ≡ x
-seam [] x = refl
-seam (y ∷ front) x = seam front x
-
-last_part : (all front : List (List ℕ)) (x : List ℕ) (n : ℕ) (w0 w w' : Option (List ℕ)) → all ≡ front ++ x ∷ [] → Appends w0 w (concat front) → Appends w w' (take n x) → WritesLast all w0 w'
-last_part all front x n w0 w w' is writes part =
-    let k : length (front ++ x ∷ []) - 1 ≡ length front = omega (arith, length-append front (x ∷ [])) in
-    subst (λ ps. WritesLast ps w0 w') (sym is) (record {
-      part = n;
-      writes = rw (k, take-append_seam front (x ∷ []), seam front x) (appends_both w0 w w' (concat front) (take n x) writes part);
-    })
-
--- the last of some pieces, and those before it
-record Last (all : List (List ℕ)) : Type 0 where
-  pub front : List (List ℕ)
-  pub last : List ℕ
-  pub is : all ≡ front ++ last ∷ []
-
-last_of : (x : List ℕ) (all : List (List ℕ)) → Last (x ∷ all)
-last_of x [] = record { front = []; last = x; is = refl }
-last_of x (y ∷ all) = let l = last_of y all in record { front = x ∷ l.front; last = l.last; is = ap (λ ps. x ∷ ps) l.is }
-
--- all pieces are written: of the last one a part that is the whole
-all_written : (all : List (List ℕ)) (w0 w : Option (List ℕ)) → Appends w0 w (concat all) → WritesLast all w0 w
-all_written [] w0 w writes = record { part = 0; writes = writes }
-all_written (y ∷ all) w0 w writes =
-    let l = last_of y all in
-    let k : length (l.front ++ l.last ∷ []) - 1 ≡ length l.front = omega (arith, length-append l.front (l.last ∷ [])) in
-    subst (λ ps. WritesLast ps w0 w) (sym l.is) (record {
-      part = length l.last;
-      writes = rw (k, take-append_seam l.front (l.last ∷ []), seam l.front l.last, take-length) (subst (Appends w0 w) (ap concat l.is ∙ concat_one l.front l.last) writes);
-    })
-
-module _ (bytes : List ℕ) (cluster : ClusterRecord) (first number : ℕ) (ends : Bool) (r : WorldRecord) (rest w0 w : Option (List ℕ)) (a : Along bytes cluster first number ends r rest w0 w) where
+module _ (laws : TakesLines) (bytes : List ℕ) (cluster : ClusterRecord) (first number : ℕ) (ends : Bool) (r : WorldRecord) (rest w0 w : Option (List ℕ)) (a : Along bytes cluster first number ends r rest w0 w) where
   cut_more : (line : InputLine) (behind : List ℕ) → IsFirst a.left line behind → lines_of bytes ≡ (a.lines ++ line ∷ []) ++ lines_of behind
   cut_more line behind f = a.cut ∙ ap (λ ls. a.lines ++ ls) f.first ∙ sym (append_assoc a.lines (line ∷ []) (lines_of behind))
 
@@ -208,13 +146,13 @@ module _ (bytes : List ℕ) (cluster : ClusterRecord) (first number : ℕ) (ends
     where
       by_line : TakesLine (content line) (number + 1) a.world (Ok tt) w w' → Along bytes cluster first (number + 1) line.ended r' rest' w0 w'
       by_line (inl h) =
-          let n = next_line a.left line rest rest' a.is_left gives in
+          let n = laws.next a.left line rest rest' a.is_left gives in
           record {
             lines = a.lines ++ line ∷ [];
             left = n.behind;
             is_left = n.is_left;
             cut = cut_more line n.behind n.first;
-            taken = record { whole = λ e. taken_more bytes a.left n.behind a.lines line (a.taken.whole before) n.first e; last = n.first.last };
+            taken = record { whole = λ e. laws.more bytes a.left n.behind a.lines line (a.taken.whole before) n.first e; last = n.first.last };
             front = a.front;
             writes = subst (λ t. Appends w0 t (concat a.front)) (sym h.1) a.writes;
             world = a.world;
@@ -222,7 +160,7 @@ module _ (bytes : List ℕ) (cluster : ClusterRecord) (first number : ℕ) (ends
             through = λ ls. through_more line ls ∙ ap (behind_all a.front) (run_skipped number a.world line ls more n.first.short h.0);
           }
       by_line (inr h) =
-          let n = next_line a.left line rest rest' a.is_left gives in
+          let n = laws.next a.left line rest rest' a.is_left gives in
           let t = h.1 in
           let s = world_step a.world (event_as t.1.event) in
           let x = lines_text s.lines in
@@ -231,9 +169,9 @@ module _ (bytes : List ℕ) (cluster : ClusterRecord) (first number : ℕ) (ends
             left = n.behind;
             is_left = n.is_left;
             cut = cut_more line n.behind n.first;
-            taken = record { whole = λ e. taken_more bytes a.left n.behind a.lines line (a.taken.whole before) n.first e; last = n.first.last };
+            taken = record { whole = λ e. laws.more bytes a.left n.behind a.lines line (a.taken.whole before) n.first e; last = n.first.last };
             front = a.front ++ x ∷ [];
-            writes = rw concat_one (appends_both w0 w w' (concat a.front) x a.writes (subst (λ o. Appends w w' o) t.1.prints t.2));
+            writes = laws.both a.front x w0 w w' a.writes (subst (λ o. Appends w w' o) t.1.prints t.2);
             world = s.world;
             stands = subst (Stands r') (event_line a.world (content line) t.1.event h.0 t.1.is) (stands a.world a.stands);
             through = λ ls. through_more line ls ∙ ap (behind_all a.front) (run_taken number a.world line ls more n.first.short h.0 t.1.event t.1.is t.1.within)
@@ -266,12 +204,12 @@ module _ (bytes : List ℕ) (cluster : ClusterRecord) (first number : ℕ) (ends
         ahead = [];
         gave = subst (λ s. Consumes (Some []) s []) (sym empty) refl;
         few = omega arith;
-        writes = inr (refl, last_part (pieces (run_from first (empty_world cluster) a.lines)) a.front (lines_text (show a.world)) n w0 w w' (ap pieces so_far) a.writes part);
+        writes = inr (refl, laws.last (pieces (run_from first (empty_world cluster) a.lines)) a.front (lines_text (show a.world)) n w0 w w' (ap pieces so_far) a.writes part);
       }
 
       by_status : (status : Status) → WritesState a.world status w w' → Ended (run_from first (empty_world cluster)) bytes status source w0 w'
       by_status Done h =
-          (empty, ap (λ (r : Run). r.ending) all, subst (λ (r : Run). Appends w0 w' (concat (pieces r))) (sym all) (rw concat_one (appends_both w0 w w' (concat a.front) (lines_text (show a.world)) a.writes h)))
+          (empty, ap (λ (r : Run). r.ending) all, subst (λ (r : Run). Appends w0 w' (concat (pieces r))) (sym all) (laws.both a.front (lines_text (show a.world)) w0 w w' a.writes h))
       by_status WriteFault h = stops h.0 h.2
       by_status OutOfMemory h = stops 0 (subst (λ t. Appends w t []) (sym h) (appends_none w))
       by_status Usage h = h
@@ -285,7 +223,7 @@ module _ (bytes : List ℕ) (cluster : ClusterRecord) (first number : ℕ) (ends
   stop_ended : (source : Option (List ℕ)) (stop : LineStop) → ends ≡ true → (stop ≡ ReadStop → BreaksOff rest source) → (stop ≡ LongStop → (number < most_lines) × FirstTooLongKnown rest) → (stop ≡ ManyStop → (number ≡ most_lines) × MoreKnown rest)
       → Ended (run_from first (empty_world cluster)) bytes (stop_status stop number) source w0 w
   stop_ended source ReadStop before broke long many =
-      reads_whole (run_from first (empty_world cluster)) bytes source w0 w a.lines (broken bytes a.left source a.lines (a.taken.whole before) (subst (λ r. BreaksOff r source) a.is_left (broke refl)))
+      reads_whole (run_from first (empty_world cluster)) bytes source w0 w a.lines (laws.broken bytes a.left source a.lines (a.taken.whole before) (subst (λ r. BreaksOff r source) a.is_left (broke refl)))
       (inl (ap (λ (r : Run). r.ending) so_far)) (subst (λ (r : Run). Appends w0 w (concat r.outputs)) (sym so_far) a.writes)
   stop_ended source LongStop before broke long many =
       let l = long refl in
@@ -293,7 +231,7 @@ module _ (bytes : List ℕ) (cluster : ClusterRecord) (first number : ℕ) (ends
       (ap (λ (r : Run). r.ending) same, subst (λ (r : Run). Appends w0 w (concat r.outputs)) (sym same) a.writes)
   stop_ended source ManyStop before broke long many =
       let m = many refl in
-      let same = known_end (AtLimit Lines most_lines) (run_many number a.world (lines_of a.left) m.0 (some_line a.left (subst MoreKnown a.is_left m.1))) in
+      let same = known_end (AtLimit Lines most_lines) (run_many number a.world (lines_of a.left) m.0 (laws.some a.left (subst MoreKnown a.is_left m.1))) in
       (ap (λ (r : Run). r.ending) same ∙ ap (AtLimit Lines) (sym m.0), subst (λ (r : Run). Appends w0 w (concat r.outputs)) (sym same) a.writes)
 
   line_ended : (pending : List ℕ) (source w' : Option (List ℕ)) (line : InputLine) (status : Status) → number < most_lines → length pending ≤ read_ahead → GivesKnown Line rest line (prepend_known pending source)
@@ -302,17 +240,17 @@ module _ (bytes : List ℕ) (cluster : ClusterRecord) (first number : ℕ) (ends
     where
       -- what the run over the lines taken, with this one, has printed
       same : (run : Run) → ((short : length line.bytes ≤ most_line_bytes) → run_from number a.world (line ∷ []) ≡ run) → run_from first (empty_world cluster) (a.lines ++ line ∷ []) ≡ behind_all a.front run
-      same run is = a.through (line ∷ []) ∙ ap (behind_all a.front) (is (next_line a.left line rest (prepend_known pending source) a.is_left gives).first.short)
+      same run is = a.through (line ∷ []) ∙ ap (behind_all a.front) (is (laws.next a.left line rest (prepend_known pending source) a.is_left gives).first.short)
 
       stops : WritesLast (run_from first (empty_world cluster) (a.lines ++ line ∷ [])).outputs w0 w' → StopsWithin (run_from first (empty_world cluster)) bytes source w0 w'
       stops writes =
-          let next = next_line a.left line rest (prepend_known pending source) a.is_left gives in
+          let next = laws.next a.left line rest (prepend_known pending source) a.is_left gives in
           record {
             lines = a.lines ++ line ∷ [];
             behind = next.behind;
             cut = cut_more line next.behind next.first;
             ahead = pending;
-            gave = read_of pending next.behind source next.is_left;
+            gave = laws.ahead pending next.behind source next.is_left;
             few = few;
             writes = inl writes;
           }
@@ -322,13 +260,13 @@ module _ (bytes : List ℕ) (cluster : ClusterRecord) (first number : ℕ) (ends
       stops_in event n unskipped is free part =
           let s = world_step a.world (event_as event) in
           let x = lines_text s.lines in
-          stops (last_part (run_from first (empty_world cluster) (a.lines ++ line ∷ [])).outputs a.front x n w0 w w'
+          stops (laws.last (run_from first (empty_world cluster) (a.lines ++ line ∷ [])).outputs a.front x n w0 w w'
           (ap (λ (r : Run). r.outputs) (same (behind x (run_from (number + 1) s.world [])) (λ short. run_taken number a.world line [] more short unskipped event is free))) a.writes part)
 
       ends_at : (ending : Ending) → w' ≡ w → ((lines : List InputLine) → (short : length line.bytes ≤ most_line_bytes) → run_from number a.world (line ∷ lines) ≡ ended (Some a.world) ending)
           → ((run_from first (empty_world cluster) (lines_of bytes)).ending ≡ ending) × Appends w0 w' (concat (run_from first (empty_world cluster) (lines_of bytes)).outputs)
       ends_at ending kept is =
-          let n = next_line a.left line rest (prepend_known pending source) a.is_left gives in
+          let n = laws.next a.left line rest (prepend_known pending source) a.is_left gives in
           let whole : run_from first (empty_world cluster) (lines_of bytes) ≡ record { outputs = a.front; world = Some a.world; ending = ending } =
           known_end ending (ap (run_from number a.world) n.first.first ∙ is (lines_of n.behind) n.first.short) in
           (ap (λ (r : Run). r.ending) whole, subst (λ (r : Run). Appends w0 w' (concat r.outputs)) (sym whole) (subst (λ t. Appends w0 t (concat a.front)) (sym kept) a.writes))
@@ -340,7 +278,7 @@ module _ (bytes : List ℕ) (cluster : ClusterRecord) (first number : ℕ) (ends
           silent : (ending : Ending) → ((short : length line.bytes ≤ most_line_bytes) → run_from number a.world (line ∷ []) ≡ ended (Some a.world) ending) → StopsWithin (run_from first (empty_world cluster)) bytes source w0 w'
           silent ending is =
               let outputs : (run_from first (empty_world cluster) (a.lines ++ line ∷ [])).outputs ≡ a.front = ap (λ (r : Run). r.outputs) (same (ended (Some a.world) ending) is) ∙ append-nil a.front in
-              stops (subst (λ ps. WritesLast ps w0 w') (sym outputs) (all_written a.front w0 w' (subst (λ t. Appends w0 t (concat a.front)) (sym kept) a.writes)))
+              stops (subst (λ ps. WritesLast ps w0 w') (sym outputs) (laws.all a.front w0 w' (subst (λ t. Appends w0 t (concat a.front)) (sym kept) a.writes)))
 
           by_limit : (event : LineEvent) → event_of (content line) ≡ Ok event → (limit : Option WorldStop) → limit_of a.world (world_step a.world (event_as event)).world ≡ limit → StopsWithin (run_from first (empty_world cluster)) bytes source w0 w'
           by_limit event is None free = stops_in event 0 unskipped is free (subst (λ t. Appends w t []) (sym kept) (appends_none w))
@@ -369,35 +307,35 @@ module _ (bytes : List ℕ) (cluster : ClusterRecord) (first number : ℕ) (ends
       by_status (DamagedCheckpoint offset) h = absurd h
 
 -- the same of an input that may be known
-module _ (input : Option (List ℕ)) (cluster : ClusterRecord) (first number : ℕ) (ends : Bool) (r : WorldRecord) (rest w0 w : Option (List ℕ)) (a : IfSome input (λ bytes. Along bytes cluster first number ends r rest w0 w)) where
+module _ (laws : TakesLines) (input : Option (List ℕ)) (cluster : ClusterRecord) (first number : ℕ) (ends : Bool) (r : WorldRecord) (rest w0 w : Option (List ℕ)) (a : IfSome input (λ bytes. Along bytes cluster first number ends r rest w0 w)) where
   pub step_along : (rest' w' : Option (List ℕ)) (line : InputLine) (r' : WorldRecord) (number' : ℕ) → ends ≡ true → number' ≡ number + 1 → number < most_lines → GivesKnown Line rest line rest'
       → ((v : World) → Stands r v → TakesLine (content line) (number + 1) v (Ok tt) w w')
       → ((v : World) → Stands r v → Stands r' (after_line v (content line)))
       → IfSome input (λ bytes. Along bytes cluster first number' line.ended r' rest' w0 w')
   step_along rest' w' line r' number' before next more gives takes stands =
-      weaker input _ _ (λ bytes along. subst (λ n. Along bytes cluster first n line.ended r' rest' w0 w') (sym next) (step bytes cluster first number ends r rest w0 w along rest' w' line r' before more gives takes stands)) a
+      weaker input _ _ (λ bytes along. subst (λ n. Along bytes cluster first n line.ended r' rest' w0 w') (sym next) (step laws bytes cluster first number ends r rest w0 w along rest' w' line r' before more gives takes stands)) a
 
   -- the end was told by an answer, or by the last line
   pub end_along : (pending : List ℕ) (source w' : Option (List ℕ)) (line : InputLine) (status : Status) → GivesKnown End rest line (prepend_known pending source) → ((v : World) → Stands r v → WritesState v status w w')
       → IfSome input (λ bytes. Ended (run_from first (empty_world cluster)) bytes status source w0 w')
   end_along pending source w' line status gives writes = weaker input _ _ (λ bytes (along : Along bytes cluster first number ends r rest w0 w).
-      let e = at_end along.left line rest (prepend_known pending source) along.is_left gives in
-      state_ended bytes cluster first number ends r rest w0 w along source w' status e.0 (no_more pending source e.1) (writes along.world along.stands)) a
+      let e = laws.end along.left line rest (prepend_known pending source) along.is_left gives in
+      state_ended laws bytes cluster first number ends r rest w0 w along source w' status e.0 (laws.no_more pending source e.1) (writes along.world along.stands)) a
 
   pub last_along : (pending : List ℕ) (source w' : Option (List ℕ)) (status : Status) → rest ≡ prepend_known pending source → ends ≡ false → ((v : World) → Stands r v → WritesState v status w w')
       → IfSome input (λ bytes. Ended (run_from first (empty_world cluster)) bytes status source w0 w')
   last_along pending source w' status is before writes = weaker input _ _ (λ bytes (along : Along bytes cluster first number ends r rest w0 w).
       let end = along.taken.last before in
-      state_ended bytes cluster first number ends r rest w0 w along source w' status end (no_more pending source (sym is ∙ along.is_left ∙ ap (λ l. Some l) end)) (writes along.world along.stands)) a
+      state_ended laws bytes cluster first number ends r rest w0 w along source w' status end (laws.no_more pending source (sym is ∙ along.is_left ∙ ap (λ l. Some l) end)) (writes along.world along.stands)) a
 
   pub stop_along : (source : Option (List ℕ)) (stop : LineStop) → ends ≡ true → (stop ≡ ReadStop → BreaksOff rest source) → (stop ≡ LongStop → (number < most_lines) × FirstTooLongKnown rest) → (stop ≡ ManyStop → (number ≡ most_lines) × MoreKnown rest)
       → IfSome input (λ bytes. Ended (run_from first (empty_world cluster)) bytes (stop_status stop number) source w0 w)
-  stop_along source stop before broke long many = weaker input _ _ (λ bytes along. stop_ended bytes cluster first number ends r rest w0 w along source stop before broke long many) a
+  stop_along source stop before broke long many = weaker input _ _ (λ bytes along. stop_ended laws bytes cluster first number ends r rest w0 w along source stop before broke long many) a
 
   pub line_along : (pending : List ℕ) (source w' : Option (List ℕ)) (line : InputLine) (status : Status) → number < most_lines → length pending ≤ read_ahead → GivesKnown Line rest line (prepend_known pending source)
       → ((v : World) → Stands r v → TakesLine (content line) (number + 1) v (Err status) w w')
       → IfSome input (λ bytes. Ended (run_from first (empty_world cluster)) bytes status source w0 w')
-  line_along pending source w' line status more few gives takes = weaker input _ _ (λ bytes along. line_ended bytes cluster first number ends r rest w0 w along pending source w' line status more few gives takes) a
+  line_along pending source w' line status more few gives takes = weaker input _ _ (λ bytes along. line_ended laws bytes cluster first number ends r rest w0 w along pending source w' line status more few gives takes) a
 
 -- nothing was taken where memory was refused at once
 pub nothing_taken : (cluster : ClusterRecord) (first : ℕ) (pending : List ℕ) (source took : Option (List ℕ)) → length pending ≤ read_ahead → IfSome (prepend_known pending source) (λ bytes. Ended (run_from first (empty_world cluster)) bytes OutOfMemory source took took)

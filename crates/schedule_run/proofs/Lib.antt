@@ -1,5 +1,4 @@
 pub mod Stepping
-pub mod Taking
 pub mod Going
 pub mod Opening
 pub mod Telling

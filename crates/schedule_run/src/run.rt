@@ -12,7 +12,7 @@ use cluster_desc::Cluster;
 use fuxi_io::{Got, LimitOf, LineReader, LineStop, Sink, Source, Status, write_all_of};
 use fuxi_terms::OutOfMemory;
 use input_cluster::read_cluster_line;
-use input_lines::{content, event_status, is_skipped, stop_status};
+use input_lines::{content, event_status, is_skipped, lines_are_taken, stop_status};
 use schedule_replay::{Running, WorldStop};
 use schedule_text::{events_of_lines, read_event};
 use std::alloc::Global;
@@ -120,6 +120,7 @@ fn run_lines<S: Source, O: Sink>(
     ensures damaged { (offset : ℕ) → result ≢ Status.DamagedCheckpoint offset }
     ensures records { lines.old.stop ≡ None → (kept : ℕ) → result ≢ Status.Limit LimitOf.Records kept }
 {
+    lines_are_taken();
     let Ok(mut running) = Running::start(alloc, cluster) else {
         return Status::OutOfMemory;
     };

@@ -4,7 +4,8 @@ use Rattle.fuxi_terms.specs.Counts.{count}
 use Rattle.fuxi_terms.specs.Keys.{spot_cmp}
 use Rattle.fuxi_terms.specs.Tables.{spot}
 use Rattle.master_text.specs.Lines.{grant_line, grant_lines}
-use Rattle.master_text.proofs.Showing.{shows_same, shows_none}
+use Rattle.schedule_text.specs.Lines.{line_text}
+use Rattle.written_state.proofs.ShowsLemmas.{shows_same, shows_none}
 use Rattle.master_text.proofs.grants.write_grant.Goals as goal
 
 pub returns-then-count-eq0-clause-ok : goal.returns-then-count-eq0-clause-ok
@@ -13,7 +14,7 @@ returns-then-count-eq0-clause-ok c =
     let es = c.args.table.now.entries in
     let held : c.held_on-count.result ≡ count spot_cmp es s = c.held_on-count.ensures in
     let zero : nat_eq (count spot_cmp es s) 0 ≡ true = (let e = c.if-count-eq0.true in grind (arith, nat_tests, e, held)) in
-    shows_same [] (grant_lines c.args.epoch es s.job s.unit s.machine) c.args.out.now.items c.args.out.now.items (sym (ap (λ b. cond b [] (grant_line c.args.epoch (s, count spot_cmp es s) ∷ [])) zero)) (shows_none c.args.out.now.items)
+    shows_same line_text [] (grant_lines c.args.epoch es s.job s.unit s.machine) c.args.out.now.items c.args.out.now.items (sym (ap (λ b. cond b [] (grant_line c.args.epoch (s, count spot_cmp es s) ∷ [])) zero)) (shows_none line_text c.args.out.now.items)
 
 pub returns-in-Ok-clause-ok : goal.returns-in-Ok-clause-ok
 returns-in-Ok-clause-ok c =
@@ -21,5 +22,5 @@ returns-in-Ok-clause-ok c =
     let es = c.args.table.now.entries in
     let held : c.held_on-count.result ≡ count spot_cmp es s = c.held_on-count.ensures in
     let some : nat_eq (count spot_cmp es s) 0 ≡ false = (let e = c.if-count-eq0.false in grind (arith, nat_tests, e, held)) in
-    shows_same (grant_line c.args.epoch (s, c.held_on-count.result) ∷ []) (grant_lines c.args.epoch es s.job s.unit s.machine) c.args.out.now.items c.write_line.new.out.items
+    shows_same line_text (grant_line c.args.epoch (s, c.held_on-count.result) ∷ []) (grant_lines c.args.epoch es s.job s.unit s.machine) c.args.out.now.items c.write_line.new.out.items
     (sym (ap (λ b. cond b [] (grant_line c.args.epoch (s, count spot_cmp es s) ∷ [])) some ∙ ap (λ n. grant_line c.args.epoch (s, n) ∷ []) (sym held))) c.in-Ok.ensures.ok

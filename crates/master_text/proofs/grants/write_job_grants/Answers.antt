@@ -4,7 +4,8 @@ use Rattle.fuxi_terms.specs.Jobs.{unit_count}
 use Rattle.fuxi_terms.specs.Lists.{below}
 use Rattle.grant_table.specs.Tables.{as_known}
 use Rattle.master_text.specs.Lines.{grants_of_unit, grants_of_job}
-use Rattle.master_text.proofs.Showing.{shows_same}
+use Rattle.schedule_text.specs.Lines.{line_text}
+use Rattle.written_state.proofs.ShowsLemmas.{shows_same}
 use Rattle.master_text.proofs.grants.write_job_grants.Goals as goal
 
 pub returns-clause-ok : goal.returns-clause-ok
@@ -14,4 +15,4 @@ returns-clause-ok c =
     let f = grants_of_unit c.args.epoch t a in
     let last : c.loop-number.number ≡ c.units_of-number-end.result = search rules in
     let all : c.loop-number.number ≡ unit_count (as_known t.jobs) a = last ∙ c.units_of-number-end.ensures in
-    shows_same (flat_map f (below c.loop-number.number)) (grants_of_job c.args.epoch t a) c.args.out.now.items c.loop-number.out.items (ap (λ n. flat_map f (below n)) all) c.loop-number.invariant.shows
+    shows_same line_text (flat_map f (below c.loop-number.number)) (grants_of_job c.args.epoch t a) c.args.out.now.items c.loop-number.out.items (ap (λ n. flat_map f (below n)) all) c.loop-number.invariant.shows

@@ -3,7 +3,8 @@ use Rattle.std.specs.List.{flat_map}
 use Rattle.fuxi_terms.specs.Cluster.{ClusterRecord}
 use Rattle.fuxi_terms.specs.Lists.{below}
 use Rattle.master_text.specs.Lines.{grant_lines, grants_of_unit}
-use Rattle.master_text.proofs.Showing.{shows_same}
+use Rattle.schedule_text.specs.Lines.{line_text}
+use Rattle.written_state.proofs.ShowsLemmas.{shows_same}
 use Rattle.master_text.proofs.grants.write_unit_grants.Goals as goal
 
 pub returns-clause-ok : goal.returns-clause-ok
@@ -14,4 +15,4 @@ returns-clause-ok c =
     let f = grant_lines c.args.epoch t.entries a u in
     let last : c.loop-number.number ≡ c.machines-number-end.result = search rules in
     let all : c.loop-number.number ≡ length t.cluster.machines = last ∙ c.machines-number-end.ensures.number ∙ ap (λ (x : ClusterRecord). length x.machines) c.cluster.ensures.cluster in
-    shows_same (flat_map f (below c.loop-number.number)) (grants_of_unit c.args.epoch t a u) c.args.out.now.items c.loop-number.out.items (ap (λ n. flat_map f (below n)) all) c.loop-number.invariant.shows
+    shows_same line_text (flat_map f (below c.loop-number.number)) (grants_of_unit c.args.epoch t a u) c.args.out.now.items c.loop-number.out.items (ap (λ n. flat_map f (below n)) all) c.loop-number.invariant.shows

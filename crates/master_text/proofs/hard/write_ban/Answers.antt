@@ -1,12 +1,13 @@
 use Rattle.std.proofs.Common.{[], ◌∷◌, cond, sym, ◌∙◌, ap}
 use Rattle.written_world.specs.Outputs.{Banned}
 use Rattle.master_text.specs.Lines.{ban_lines}
-use Rattle.master_text.proofs.Showing.{shows_same, then_ok}
+use Rattle.schedule_text.specs.Lines.{line_text}
+use Rattle.written_state.proofs.ShowsLemmas.{shows_same, then_ok}
 use Rattle.master_text.proofs.hard.write_ban.Goals as goal
 
 pub returns-then-banned-clause-ok : goal.returns-then-banned-clause-ok
 returns-then-banned-clause-ok c =
     let m = c.args.machine.0 in
     let bans = c.args.hard.now.value.bans in
-    then_ok c.write_line.result c.write_line.ensures.ok (λ s. shows_same _ (ban_lines bans m) c.args.out.now.items c.write_line.new.out.items
+    then_ok c.write_line.result c.write_line.ensures.ok (λ s. shows_same line_text _ (ban_lines bans m) c.args.out.now.items c.write_line.new.out.items
     (sym (ap (λ b. cond b (Banned m ∷ []) []) (sym c.banned.ensures ∙ c.if-banned.true))) s)

@@ -5,12 +5,13 @@ use Rattle.fuxi_terms.specs.Lists.{below}
 use Rattle.written_order.specs.Orders.{Rise}
 use Rattle.written_world.specs.Outputs.{Banned}
 use Rattle.master_text.specs.Lines.{ban_lines}
-use Rattle.master_text.proofs.Showing.{shows_same, begins_shown, begins_then}
+use Rattle.schedule_text.specs.Lines.{line_text}
+use Rattle.written_state.proofs.ShowsLemmas.{shows_same, begins_shown, begins_then}
 use Rattle.master_text.proofs.Walks.{listed_below}
 use Rattle.master_text.proofs.hard.write_bans.Goals as goal
 
 pub returns-in-Err-clause-begins : goal.returns-in-Err-clause-begins
-returns-in-Err-clause-begins c = begins_then c.args.out.now.items c.loop-number.out.items c.write_ban.new.out.items (begins_shown _ c.args.out.now.items c.loop-number.out.items c.loop-number.invariant) c.write_ban.ensures.begins
+returns-in-Err-clause-begins c = begins_then c.args.out.now.items c.loop-number.out.items c.write_ban.new.out.items (begins_shown line_text (λ x body. []) _ c.args.out.now.items c.loop-number.out.items c.loop-number.invariant) c.write_ban.ensures.begins
 
 pub returns-clause-ok : goal.returns-clause-ok
 returns-clause-ok c =
@@ -20,7 +21,7 @@ returns-clause-ok c =
     let known = ap (λ k. k.bans) c.known.ensures in
     let rise = subst Rise known c.bans_rise.ensures.rise in
     let low = subst (λ k. AllByRecursion (λ m. m < k) bans) (sym all) (subst (AllByRecursion (λ m. m < most_machines)) known c.bans_rise.ensures.low) in
-    shows_same (flat_map (ban_lines bans) (below n)) (map (λ m. Banned m) bans) c.args.out.now.items c.loop-number.out.items (listed_below (λ m. Banned m) n bans rise low) c.loop-number.invariant
+    shows_same line_text (flat_map (ban_lines bans) (below n)) (map (λ m. Banned m) bans) c.args.out.now.items c.loop-number.out.items (listed_below (λ m. Banned m) n bans rise low) c.loop-number.invariant
 
 pub returns-clause-begins : goal.returns-clause-begins
-returns-clause-begins c = begins_shown _ c.args.out.now.items c.loop-number.out.items c.loop-number.invariant
+returns-clause-begins c = begins_shown line_text (λ x body. []) _ c.args.out.now.items c.loop-number.out.items c.loop-number.invariant

@@ -2,7 +2,8 @@ use Rattle.std.proofs.Common.{[], ◌∷◌, ◌++◌, map, ap}
 use Rattle.written_state.specs.States.{hard_lines}
 use Rattle.written_world.specs.Outputs.{Fence, Banned}
 use Rattle.written_world.specs.Show.{show_jobs}
-use Rattle.master_text.proofs.Showing.{shows_same, shows_then}
+use Rattle.schedule_text.specs.Lines.{line_text}
+use Rattle.written_state.proofs.ShowsLemmas.{shows_same, shows_then}
 use Rattle.master_text.proofs.hard.write_hard.Goals as goal
 
 pub returns-in-Ok-write_lists-clause-ok : goal.returns-in-Ok-write_lists-clause-ok
@@ -11,5 +12,5 @@ returns-in-Ok-write_lists-clause-ok c =
     let rest = show_jobs h.jobs ++ map (λ m. Banned m) h.bans in
     let old = c.args.out.now.items in
     let new = c.write_lists.new.out.items in
-    shows_same (Fence c.fence.result ∷ rest) (hard_lines h) old new (ap (λ n. Fence n ∷ rest) c.fence.ensures)
-    (shows_then (Fence c.fence.result ∷ []) rest old c.write_line.new.out.items new c.in-Ok.ensures.ok c.in-Ok-write_lists.ensures.ok)
+    shows_same line_text (Fence c.fence.result ∷ rest) (hard_lines h) old new (ap (λ n. Fence n ∷ rest) c.fence.ensures)
+    (shows_then line_text (Fence c.fence.result ∷ []) rest old c.write_line.new.out.items new c.in-Ok.ensures.ok c.in-Ok-write_lists.ensures.ok)

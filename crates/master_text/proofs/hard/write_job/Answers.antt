@@ -1,7 +1,8 @@
 use Rattle.std.proofs.Common.{[], ◌∷◌, cond, sym, ◌∙◌, ap}
 use Rattle.written_world.specs.Outputs.{Job}
 use Rattle.master_text.specs.Lines.{job_line, job_lines}
-use Rattle.master_text.proofs.Showing.{shows_same, then_ok}
+use Rattle.schedule_text.specs.Lines.{line_text}
+use Rattle.written_state.proofs.ShowsLemmas.{shows_same, then_ok}
 use Rattle.master_text.proofs.Jobs.{job_there}
 use Rattle.master_text.proofs.hard.write_job.Goals as goal
 
@@ -12,5 +13,5 @@ returns-in-Some-clause-ok c =
     let there = job_there jobs a c.in-Some.job.now c.in-Some.ensures.some in
     let group = there.1 ∙ sym c.group.ensures.number in
     let ended = sym c.ended.ensures in
-    then_ok c.write_line.result c.write_line.ensures.ok (λ s. shows_same _ (job_lines jobs a) c.args.out.now.items c.write_line.new.out.items
+    then_ok c.write_line.result c.write_line.ensures.ok (λ s. shows_same line_text _ (job_lines jobs a) c.args.out.now.items c.write_line.new.out.items
     (sym (ap (λ b. cond b (job_line jobs a ∷ []) []) there.0 ∙ (λ i. Job a (group i) (ended i) ∷ []))) s)

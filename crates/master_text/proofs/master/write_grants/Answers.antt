@@ -1,6 +1,7 @@
 use Rattle.std.proofs.Common.{map, ◌++◌}
 use Rattle.master_text.specs.Lines.{grant_line, wait_line}
-use Rattle.master_text.proofs.Showing.{shows_same, shows_then}
+use Rattle.schedule_text.specs.Lines.{line_text}
+use Rattle.written_state.proofs.ShowsLemmas.{shows_same, shows_then}
 use Rattle.master_text.proofs.master.write_grants.Goals as goal
 
 pub returns-in-Ok-write_waits-clause-ok : goal.returns-in-Ok-write_waits-clause-ok
@@ -10,6 +11,6 @@ returns-in-Ok-write_waits-clause-ok c =
     let epoch = c.epoch.ensures.stands r stands in
     let table = c.table.ensures.stands r stands in
     let waits = map (wait_line M) M.line in
-    shows_same (map (grant_line c.epoch.result) c.table.result.now.entries ++ waits) (map (grant_line M.epoch) M.table ++ waits) c.args.out.now.items c.write_waits.new.out.items
+    shows_same line_text (map (grant_line c.epoch.result) c.table.result.now.entries ++ waits) (map (grant_line M.epoch) M.table ++ waits) c.args.out.now.items c.write_waits.new.out.items
     (λ i. map (grant_line (epoch i)) (table i) ++ waits)
-    (shows_then (map (grant_line c.epoch.result) c.table.result.now.entries) waits c.args.out.now.items c.write_table.new.out.items c.write_waits.new.out.items c.in-Ok.ensures.ok (c.in-Ok-write_waits.ensures.ok r stands))
+    (shows_then line_text (map (grant_line c.epoch.result) c.table.result.now.entries) waits c.args.out.now.items c.write_table.new.out.items c.write_waits.new.out.items c.in-Ok.ensures.ok (c.in-Ok-write_waits.ensures.ok r stands))

@@ -1,6 +1,7 @@
 use Rattle.std.proofs.Common.{map, [], ◌∷◌, sym, ◌∙◌}
 use Rattle.written_world.specs.Outputs.{MasterIs, Reported}
-use Rattle.master_text.proofs.Showing.{shows_same, shows_then}
+use Rattle.schedule_text.specs.Lines.{line_text}
+use Rattle.written_state.proofs.ShowsLemmas.{shows_same, shows_then}
 use Rattle.master_text.proofs.master.write_head.Goals as goal
 
 pub returns-in-Ok-write_reports-clause-ok : goal.returns-in-Ok-write_reports-clause-ok
@@ -10,5 +11,5 @@ returns-in-Ok-write_reports-clause-ok c =
     let rest = map (Reported M.epoch) M.reported in
     let epoch = c.epoch.ensures.stands r stands in
     let serving = c.serves.ensures ∙ sym stands.stands.serving in
-    shows_same (MasterIs c.epoch.result c.serves.result ∷ rest) (MasterIs M.epoch M.serving ∷ rest) c.args.out.now.items c.write_reports.new.out.items (λ i. MasterIs (epoch i) (serving i) ∷ rest)
-    (shows_then (MasterIs c.epoch.result c.serves.result ∷ []) rest c.args.out.now.items c.write_line.new.out.items c.write_reports.new.out.items c.in-Ok.ensures.ok (c.in-Ok-write_reports.ensures.ok r stands))
+    shows_same line_text (MasterIs c.epoch.result c.serves.result ∷ rest) (MasterIs M.epoch M.serving ∷ rest) c.args.out.now.items c.write_reports.new.out.items (λ i. MasterIs (epoch i) (serving i) ∷ rest)
+    (shows_then line_text (MasterIs c.epoch.result c.serves.result ∷ []) rest c.args.out.now.items c.write_line.new.out.items c.write_reports.new.out.items c.in-Ok.ensures.ok (c.in-Ok-write_reports.ensures.ok r stands))

@@ -1,12 +1,13 @@
 use Rattle.std.proofs.Common.{[], ◌∷◌, cond, sym, ◌∙◌, ap}
 use Rattle.written_world.specs.Outputs.{Reported}
 use Rattle.master_text.specs.Lines.{reported_lines}
-use Rattle.master_text.proofs.Showing.{shows_same}
+use Rattle.schedule_text.specs.Lines.{line_text}
+use Rattle.written_state.proofs.ShowsLemmas.{shows_same}
 use Rattle.master_text.proofs.master.write_report.Goals as goal
 
 pub returns-in-Ok-clause-ok : goal.returns-in-Ok-clause-ok
 returns-in-Ok-clause-ok c =
     let e = c.args.epoch in
     let m = c.args.machine.0 in
-    shows_same (Reported e m ∷ []) (reported_lines e c.args.reported.now.numbers m) c.args.out.now.items c.write_line.new.out.items
+    shows_same line_text (Reported e m ∷ []) (reported_lines e c.args.reported.now.numbers m) c.args.out.now.items c.write_line.new.out.items
     (sym (ap (λ b. cond b (Reported e m ∷ []) []) (sym c.has.ensures ∙ c.if-has.true))) c.in-Ok.ensures.ok

@@ -4,7 +4,8 @@ use Rattle.fuxi_terms.specs.Cluster.{ClusterRecord}
 use Rattle.fuxi_terms.specs.Lists.{below}
 use Rattle.written_world.specs.Outputs.{Reported}
 use Rattle.master_text.specs.Lines.{reported_lines}
-use Rattle.master_text.proofs.Showing.{shows_same}
+use Rattle.schedule_text.specs.Lines.{line_text}
+use Rattle.written_state.proofs.ShowsLemmas.{shows_same}
 use Rattle.master_text.proofs.Walks.{listed_below}
 use Rattle.master_text.proofs.master.write_reports.Goals as goal
 
@@ -19,5 +20,5 @@ returns-clause-ok c =
     λ r stands.
     let epoch = c.epoch-epoch.ensures.stands r stands in
     let reported = c.reported-reported.ensures.stands r stands in
-    shows_same (flat_map (reported_lines e numbers) (below n)) (map (Reported r.state.epoch) r.state.reported) c.args.out.now.items c.loop-number.out.items
+    shows_same line_text (flat_map (reported_lines e numbers) (below n)) (map (Reported r.state.epoch) r.state.reported) c.args.out.now.items c.loop-number.out.items
     (listed_below (Reported e) n numbers c.reported-reported.ensures.rising within ∙ (λ i. map (Reported (epoch i)) (reported i))) c.loop-number.invariant.shows

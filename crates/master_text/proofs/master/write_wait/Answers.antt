@@ -2,7 +2,8 @@ use Rattle.std.proofs.Common.{◌≡◌, ◌<◌, List, Some, slice_get, [], ◌
 use Rattle.fuxi_terms.specs.Jobs.{KnownJob, unit_count}
 use Rattle.written_world.specs.Outputs.{Wait}
 use Rattle.master_text.specs.Lines.{wait_line}
-use Rattle.master_text.proofs.Showing.{shows_same, some_is}
+use Rattle.schedule_text.specs.Lines.{line_text}
+use Rattle.written_state.proofs.ShowsLemmas.{shows_same, one_item}
 use Rattle.master_text.proofs.Lining.{unit_there}
 use Rattle.master_text.proofs.master.write_wait.Goals as goal
 
@@ -14,8 +15,8 @@ returns-in-Ok-clause-ok c =
     let there : slice_get M.line c.args.index ≡ Some (pair.0.0, pair.1.0) = ap (λ l. slice_get l c.args.index) (sym (c.waiting.ensures.stands r stands)) ∙ c.at-pair.ensures in
     let epoch = c.epoch.ensures.stands r stands in
     let count = c.out-count.ensures.stands r stands in
-    shows_same (Wait c.epoch.result pair.0.0 pair.1.0 c.out-count.result ∷ []) (wait_line M p ∷ []) c.args.out.now.items c.write_line.new.out.items
-    ((λ i. Wait (epoch i) pair.0.0 pair.1.0 (count i) ∷ []) ∙ ap (λ q. wait_line M q ∷ []) (some_is (pair.0.0, pair.1.0) p (sym there ∙ is))) c.in-Ok.ensures.ok
+    shows_same line_text (Wait c.epoch.result pair.0.0 pair.1.0 c.out-count.result ∷ []) (wait_line M p ∷ []) c.args.out.now.items c.write_line.new.out.items
+    ((λ i. Wait (epoch i) pair.0.0 pair.1.0 (count i) ∷ []) ∙ ap (λ q. wait_line M q ∷ []) (one_item _ (pair.0.0, pair.1.0) p there is)) c.in-Ok.ensures.ok
 
 pub returns-then-pair-units-clause-ok : goal.returns-then-pair-units-clause-ok
 returns-then-pair-units-clause-ok c =

@@ -16,7 +16,7 @@ use Rattle.node_run.proofs.run.run_node.Goals as goal
 
 pub loop-turn-init : goal.loop-turn-init
 loop-turn-init g c = record {
-  along = λ ready r s. start_along most_frames c.args.lines.now.number c.args.addr.now r _ _ c.args.lines.now.ended (g.C.Core.stands c.args.core) (g.N.Door.faults c.args.door.now) (g.N.Door.told c.args.door.now) s ready.last;
+  along = λ ready r s. start_along c.lines_are_taken.ensures most_frames c.args.lines.now.number c.args.addr.now r _ _ c.args.lines.now.ended (g.C.Core.stands c.args.core) (g.N.Door.faults c.args.door.now) (g.N.Door.told c.args.door.now) s ready.last;
   rests = c.requires.rests;
   told = keeps_same g.C.Core.rests c.args.core (g.D.Disk.size c.args.disk.now) (g.D.Disk.told c.args.disk.now);
   events = omega arith;
@@ -35,14 +35,14 @@ loop-turn-init g c = record {
 pub returns-then-not-ended-clause-ended : goal.returns-then-not-ended-clause-ended
 returns-then-not-ended-clause-ended g c ready r s =
     let i = c.loop-turn.invariant.along ready r s in
-    last_along (start_of most_frames c.args.addr.now c.args.lines.now.number r) _ c.loop-turn.lines.number c.loop-turn.lines.ended c.loop-turn.events (g.C.Core.stands c.loop-turn.core) _ _ _ _ _ _ _ i
+    last_along c.lines_are_taken.ensures (start_of most_frames c.args.addr.now c.args.lines.now.number r) _ c.loop-turn.lines.number c.loop-turn.lines.ended c.loop-turn.events (g.C.Core.stands c.loop-turn.core) _ _ _ _ _ _ _ i
     (λ q. WhereMoments (λ before now. g.C.Core.rests c.args.core (g.D.Disk.size c.args.disk.now) (Some before) → g.C.Node.fits q now) (g.D.Disk.told c.args.disk.now) (g.D.Disk.told c.loop-turn.disk)) c.loop-turn.lines.pending (g.S.Source.left c.loop-turn.source) _ c.end_node.result refl (sym c.if-not-ended.ensures) c.end_node.ensures.writes (λ q t. keeps_fits g.C.Core.rests c.args.core c.loop-turn.core (g.D.Disk.size c.args.disk.now) (g.D.Disk.size c.loop-turn.disk) (g.C.Node.fits q) (g.D.Disk.told c.args.disk.now) (g.D.Disk.told c.loop-turn.disk)
     (λ m rests. g.met.C.Node.fitting c.loop-turn.core q (g.D.Disk.size c.loop-turn.disk) m t rests) c.loop-turn.invariant.told)
 
 pub returns-in-Ok-End-clause-ended : goal.returns-in-Ok-End-clause-ended
 returns-in-Ok-End-clause-ended g c ready r s =
     let i = c.loop-turn.invariant.along ready r s in
-    end_along (start_of most_frames c.args.addr.now c.args.lines.now.number r) _ c.loop-turn.lines.number c.loop-turn.lines.ended c.loop-turn.events (g.C.Core.stands c.loop-turn.core) _ _ _ _ _ _ _ i
+    end_along c.lines_are_taken.ensures (start_of most_frames c.args.addr.now c.args.lines.now.number r) _ c.loop-turn.lines.number c.loop-turn.lines.ended c.loop-turn.events (g.C.Core.stands c.loop-turn.core) _ _ _ _ _ _ _ i
     (λ q. WhereMoments (λ before now. g.C.Core.rests c.args.core (g.D.Disk.size c.args.disk.now) (Some before) → g.C.Node.fits q now) (g.D.Disk.told c.args.disk.now) (g.D.Disk.told c.loop-turn.disk)) c.next.new.self.pending (g.S.Source.left c.next.new.source) _ _ c.end_node-in-Ok-End.result (rw c.in-Ok-End.field-0-is at c.in-Ok-End.ensures.gives) c.end_node-in-Ok-End.ensures.writes (λ q t. keeps_fits g.C.Core.rests c.args.core c.loop-turn.core (g.D.Disk.size c.args.disk.now) (g.D.Disk.size c.loop-turn.disk) (g.C.Node.fits q) (g.D.Disk.told c.args.disk.now) (g.D.Disk.told c.loop-turn.disk)
     (λ m rests. g.met.C.Node.fitting c.loop-turn.core q (g.D.Disk.size c.loop-turn.disk) m t rests) c.loop-turn.invariant.told)
 
@@ -51,7 +51,7 @@ returns-in-Err-clause-ended g c ready r s =
     let i = c.loop-turn.invariant.along ready r s in
     let u = c.loop-turn.invariant.running ready.running in
     rw (c.stop_status.ensures, c.number.ensures.value, c.in-Err.ensures.number)
-    (stop_along (start_of most_frames c.args.addr.now c.args.lines.now.number r) _ c.loop-turn.lines.number c.loop-turn.lines.ended c.loop-turn.events (g.C.Core.stands c.loop-turn.core) _ _ _ _ _ _ _ i
+    (stop_along c.lines_are_taken.ensures (start_of most_frames c.args.addr.now c.args.lines.now.number r) _ c.loop-turn.lines.number c.loop-turn.lines.ended c.loop-turn.events (g.C.Core.stands c.loop-turn.core) _ _ _ _ _ _ _ i
     (λ q. WhereMoments (λ before now. g.C.Core.rests c.args.core (g.D.Disk.size c.args.disk.now) (Some before) → g.C.Node.fits q now) (g.D.Disk.told c.args.disk.now) (g.D.Disk.told c.loop-turn.disk)) (g.S.Source.left c.next.new.source) c.in-Err.stop (sym c.if-not-ended.ensures)
     (λ e. running_alone u (c.in-Err.ensures.broke (ap (λ s. Err s) e))) (λ e. running_alone u (c.in-Err.ensures.long (ap (λ s. Err s) e))) (λ e. running_alone u (c.in-Err.ensures.many (ap (λ s. Err s) e))))
 
@@ -62,7 +62,7 @@ returns-in-Err-Ends-clause-ended g c ready r s =
     let next : c.number-number.result ≡ c.loop-turn.lines.number + 1 = c.number-number.ensures.value ∙ (rw c.in-Ok-Line.field-0-is at c.in-Ok-Line.ensures.number) in
     let line : c.content-line.result.now ≡ content (line_of c.next.new.self) = c.content-line.ensures ∙ ap (λ b. content (record { bytes = b; ended = c.ended-in-loop-turn.result })) c.line.ensures ∙ ap (λ b. content (record { bytes = c.next.new.self.line; ended = b })) c.ended-in-loop-turn.ensures in
     let unskipped : is_skipped c.content-line.result.now ≡ false = c.in-Err-Ends.ensures.unskipped in
-    rw c.in-Err-Ends.status-is (line_along start _ c.loop-turn.lines.number c.loop-turn.lines.ended c.loop-turn.events (g.C.Core.stands c.loop-turn.core) _ _ _ _ (g.N.Door.faults c.loop-turn.door) _ (g.N.Door.told c.loop-turn.door) i
+    rw c.in-Err-Ends.status-is (line_along c.lines_are_taken.ensures start _ c.loop-turn.lines.number c.loop-turn.lines.ended c.loop-turn.events (g.C.Core.stands c.loop-turn.core) _ _ _ _ (g.N.Door.faults c.loop-turn.door) _ (g.N.Door.told c.loop-turn.door) i
     (λ q. WhereMoments (λ before now. g.C.Core.rests c.args.core (g.D.Disk.size c.args.disk.now) (Some before) → g.C.Node.fits q now) (g.D.Disk.told c.args.disk.now) (g.D.Disk.told c.take_any.new.disk)) g.C.Core.stands c.next.new.self.pending (g.S.Source.left c.next.new.source) _ (line_of c.next.new.self) c.in-Err-Ends.status (g.N.Door.faults c.take_any.new.door) (g.N.Door.told c.take_any.new.door)
     (c.in-Ok-Line.ensures.within (ap (λ l. Ok l) c.in-Ok-Line.field-0-is)) c.in-Ok-Line.ensures.ahead (rw c.in-Ok-Line.field-0-is at c.in-Ok-Line.ensures.gives) (ap is_skipped (sym line) ∙ unskipped)
     (λ n st is. subst (λ k. WhereTold (TakesCounted g.C.Core.stands most_frames c.args.addr.now n (node_line (content (line_of c.next.new.self))) k (Err (Ends c.in-Err-Ends.status)) (g.O.Sink.took c.loop-turn.out) (g.O.Sink.took c.take_any.new.out) (g.N.Door.faults c.loop-turn.door) (g.N.Door.faults c.take_any.new.door)) (g.N.Door.told c.loop-turn.door) (g.N.Door.told c.take_any.new.door)) next
@@ -76,7 +76,7 @@ returns-in-Err-Disk-clause-ended g c ready r s =
     let next : c.number-number.result ≡ c.loop-turn.lines.number + 1 = c.number-number.ensures.value ∙ (rw c.in-Ok-Line.field-0-is at c.in-Ok-Line.ensures.number) in
     let line : c.content-line.result.now ≡ content (line_of c.next.new.self) = c.content-line.ensures ∙ ap (λ b. content (record { bytes = b; ended = c.ended-in-loop-turn.result })) c.line.ensures ∙ ap (λ b. content (record { bytes = c.next.new.self.line; ended = b })) c.ended-in-loop-turn.ensures in
     let unskipped : is_skipped c.content-line.result.now ≡ false = c.in-Err-Disk.ensures.unskipped in
-    disk_along start _ c.loop-turn.lines.number c.loop-turn.lines.ended c.loop-turn.events (g.C.Core.stands c.loop-turn.core) _ _ _ _ (g.N.Door.faults c.loop-turn.door) _ (g.N.Door.told c.loop-turn.door) i
+    disk_along c.lines_are_taken.ensures start _ c.loop-turn.lines.number c.loop-turn.lines.ended c.loop-turn.events (g.C.Core.stands c.loop-turn.core) _ _ _ _ (g.N.Door.faults c.loop-turn.door) _ (g.N.Door.told c.loop-turn.door) i
     (λ q. WhereMoments (λ before now. g.C.Core.rests c.args.core (g.D.Disk.size c.args.disk.now) (Some before) → g.C.Node.fits q now) (g.D.Disk.told c.args.disk.now) (g.D.Disk.told c.take_any.new.disk)) (record {}) g.C.Core.stands c.next.new.self.pending (g.S.Source.left c.next.new.source) _ (line_of c.next.new.self) (g.N.Door.faults c.take_any.new.door) (g.N.Door.told c.take_any.new.door)
     c.in-Ok-Line.ensures.ahead (rw c.in-Ok-Line.field-0-is at c.in-Ok-Line.ensures.gives)
     (λ n st is. subst (λ k. WhereTold (TakesCounted g.C.Core.stands most_frames c.args.addr.now n (node_line (content (line_of c.next.new.self))) k (Err Disk) (g.O.Sink.took c.loop-turn.out) (g.O.Sink.took c.take_any.new.out) (g.N.Door.faults c.loop-turn.door) (g.N.Door.faults c.take_any.new.door)) (g.N.Door.told c.loop-turn.door) (g.N.Door.told c.take_any.new.door)) next
@@ -89,7 +89,7 @@ loop-turn-preserved g c =
     let more : c.loop-turn.lines.number < most_lines = c.in-Ok-Line.ensures.within (ap (λ l. Ok l) c.in-Ok-Line.field-0-is) in
     let line : c.content-line.result.now ≡ content (line_of c.next.new.self) = c.content-line.ensures ∙ ap (λ b. content (record { bytes = b; ended = c.ended-in-loop-turn.result })) c.line.ensures ∙ ap (λ b. content (record { bytes = c.next.new.self.line; ended = b })) c.ended-in-loop-turn.ensures in
     record {
-      along = λ ready r s. (on_along g.C.Core.stands (start_of most_frames c.args.addr.now c.args.lines.now.number r) _ c.loop-turn.lines.number c.loop-turn.lines.ended c.loop-turn.events c.loop-turn.core _ _ _ _ _ _ _ (c.loop-turn.invariant.along ready r s)
+      along = λ ready r s. (on_along c.lines_are_taken.ensures g.C.Core.stands (start_of most_frames c.args.addr.now c.args.lines.now.number r) _ c.loop-turn.lines.number c.loop-turn.lines.ended c.loop-turn.events c.loop-turn.core _ _ _ _ _ _ _ (c.loop-turn.invariant.along ready r s)
           _ _ (line_of c.next.new.self) c.content-line.result.now c.in-Ok.both c.next.new.self.number _ _ (sym c.if-not-ended.ensures) (sym c.number-number.ensures.value ∙ next) more (rw c.in-Ok-Line.field-0-is at c.in-Ok-Line.ensures.gives) line
           (λ e. let h = c.in-Ok.ensures.skips e in (ok_is _ _ h.0, ap g.O.Sink.took h.1, ap g.N.Door.faults h.2, ap g.N.Door.told h.2))
           c.in-Ok.ensures.counts (λ e n st is. subst (λ k. WhereTold (Taken most_frames c.args.addr.now n k (node_line c.content-line.result.now) (g.C.Core.stands c.in-Ok.both.0) (Appends (g.O.Sink.took c.loop-turn.out) (g.O.Sink.took c.take_any.new.out)) (g.N.Door.faults c.loop-turn.door) (g.N.Door.faults c.take_any.new.door)) (g.N.Door.told c.loop-turn.door) (g.N.Door.told c.take_any.new.door)) c.number-number.ensures.value (c.in-Ok.ensures.takes e n st is)));

@@ -1,7 +1,8 @@
 use Rattle.std.proofs.Common.{map, [], ◌∷◌, ◌∙◌}
 use Rattle.written_world.specs.Outputs.{AgentAt}
 use Rattle.written_state.specs.States.{row_line, agent_lines}
-use Rattle.party_text.proofs.Showing.{shows_same, shows_then}
+use Rattle.schedule_text.specs.Lines.{line_text}
+use Rattle.written_state.proofs.ShowsLemmas.{shows_same, shows_then}
 use Rattle.party_text.proofs.agent.write_agent.Goals as goal
 
 pub returns-in-Ok-write_rows-clause-ok : goal.returns-in-Ok-write_rows-clause-ok
@@ -16,6 +17,6 @@ returns-in-Ok-write_rows-clause-ok c =
     let boots = c.boot.ensures ∙ stands.up.own in
     let places = c.place-place.ensures ∙ stands.up.place in
     let tables = c.table.ensures.table r stands in
-    shows_same (AgentAt m c.boot.result place.inc place.seq ∷ map (row_line m) table) (agent_lines r) old new
+    shows_same line_text (AgentAt m c.boot.result place.inc place.seq ∷ map (row_line m) table) (agent_lines r) old new
     (λ i. AgentAt (number i) (boots i) (places i).inc (places i).seq ∷ map (row_line (number i)) (tables i))
-    (shows_then (AgentAt m c.boot.result place.inc place.seq ∷ []) (map (row_line m) table) old c.write_line.new.out.items new c.in-Ok.ensures.ok c.in-Ok-write_rows.ensures.ok)
+    (shows_then line_text (AgentAt m c.boot.result place.inc place.seq ∷ []) (map (row_line m) table) old c.write_line.new.out.items new c.in-Ok.ensures.ok c.in-Ok-write_rows.ensures.ok)

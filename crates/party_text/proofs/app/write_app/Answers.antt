@@ -3,7 +3,8 @@ use Rattle.std.specs.List.{flat_map}
 use Rattle.fuxi_terms.specs.Lists.{below}
 use Rattle.written_world.specs.Outputs.{AppAt}
 use Rattle.written_state.specs.States.{unit_lines, app_lines}
-use Rattle.party_text.proofs.Showing.{shows_same, shows_then}
+use Rattle.schedule_text.specs.Lines.{line_text}
+use Rattle.written_state.proofs.ShowsLemmas.{shows_same, shows_then}
 use Rattle.party_text.proofs.app.write_app.Goals as goal
 
 pub returns-in-Ok-write_units-clause-ok : goal.returns-in-Ok-write_units-clause-ok
@@ -17,5 +18,5 @@ returns-in-Ok-write_units-clause-ok c =
     let boots = c.boot.ensures ∙ stands.up.own in
     let places = c.place-place.ensures ∙ stands.up.place in
     let held = flat_map (unit_lines r) (below r.units) in
-    shows_same (AppAt a c.boot.result place.inc place.seq ∷ held) (app_lines r) old new (λ i. AppAt (number i) (boots i) (places i).inc (places i).seq ∷ held)
-    (shows_then (AppAt a c.boot.result place.inc place.seq ∷ []) held old c.write_line.new.out.items new c.in-Ok.ensures.ok (c.in-Ok-write_units.ensures.ok r stands))
+    shows_same line_text (AppAt a c.boot.result place.inc place.seq ∷ held) (app_lines r) old new (λ i. AppAt (number i) (boots i) (places i).inc (places i).seq ∷ held)
+    (shows_then line_text (AppAt a c.boot.result place.inc place.seq ∷ []) held old c.write_line.new.out.items new c.in-Ok.ensures.ok (c.in-Ok-write_units.ensures.ok r stands))

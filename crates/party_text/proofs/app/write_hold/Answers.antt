@@ -5,7 +5,8 @@ use Rattle.written_roles.specs.Apps.{names, held_by}
 use Rattle.written_world.specs.Outputs.{Hold, Carry}
 use Rattle.written_state.specs.States.{hold_line}
 use Rattle.party_text.specs.Texts.{held_lines}
-use Rattle.party_text.proofs.Showing.{shows_same, shows_none}
+use Rattle.schedule_text.specs.Lines.{line_text}
+use Rattle.written_state.proofs.ShowsLemmas.{shows_same, shows_none}
 use Rattle.party_text.proofs.app.write_hold.Goals as goal
 
 not_true : (b : Bool) → not b ≡ true → b ≡ false
@@ -19,7 +20,7 @@ returns-then-count-eq0-clause-ok c =
     λ r stands.
     let held : c.held-count.result ≡ held_by r u m = c.held-count.ensures r stands in
     let zero : nat_eq (held_by r u m) 0 ≡ true = (let e = c.if-count-eq0.true in grind (arith, nat_tests, e, held)) in
-    shows_same [] (held_lines r u m) c.args.out.now.items c.args.out.now.items (sym (ap (λ b. cond b [] (hold_line r u m ∷ [])) zero)) (shows_none c.args.out.now.items)
+    shows_same line_text [] (held_lines r u m) c.args.out.now.items c.args.out.now.items (sym (ap (λ b. cond b [] (hold_line r u m ∷ [])) zero)) (shows_none line_text c.args.out.now.items)
 
 pub returns-in-Ok-clause-ok : goal.returns-in-Ok-clause-ok
 returns-in-Ok-clause-ok c =
@@ -32,7 +33,7 @@ returns-in-Ok-clause-ok c =
     let held : c.held-count.result ≡ n = c.held-count.ensures r stands in
     let some : nat_eq n 0 ≡ false = (let e = c.if-count-eq0.false in grind (arith, nat_tests, e, held)) in
     let named : names r.up.got m ≡ false = not_true _ (sym (c.carried.ensures r stands) ∙ c.if-carried.true) in
-    shows_same (Carry a u m c.held-count.result ∷ []) (held_lines r u m) c.args.out.now.items c.write_line.new.out.items
+    shows_same line_text (Carry a u m c.held-count.result ∷ []) (held_lines r u m) c.args.out.now.items c.write_line.new.out.items
     ((λ i. Carry (number i) u m (held i) ∷ []) ∙ sym (ap (λ b. cond b [] (hold_line r u m ∷ [])) some ∙ ap (λ b. cond b (Hold r.job u m n) (Carry r.job u m n) ∷ []) named))
     c.in-Ok.ensures.ok
 
@@ -47,6 +48,6 @@ returns-in-Ok-write_line-clause-ok c =
     let held : c.held-count.result ≡ n = c.held-count.ensures r stands in
     let some : nat_eq n 0 ≡ false = (let e = c.if-count-eq0.false in grind (arith, nat_tests, e, held)) in
     let named : names r.up.got m ≡ true = not_false _ (sym (c.carried.ensures r stands) ∙ c.if-carried.false) in
-    shows_same (Hold a u m c.held-count.result ∷ []) (held_lines r u m) c.args.out.now.items c.write_line-2.new.out.items
+    shows_same line_text (Hold a u m c.held-count.result ∷ []) (held_lines r u m) c.args.out.now.items c.write_line-2.new.out.items
     ((λ i. Hold (number i) u m (held i) ∷ []) ∙ sym (ap (λ b. cond b [] (hold_line r u m ∷ [])) some ∙ ap (λ b. cond b (Hold r.job u m n) (Carry r.job u m n) ∷ []) named))
     c.in-Ok-write_line.ensures.ok

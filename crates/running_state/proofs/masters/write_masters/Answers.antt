@@ -7,7 +7,9 @@ use Rattle.written_world.specs.Show.{show_master}
 use Rattle.written_join.specs.Seen.{master_seen}
 use Rattle.fuxi_master.specs.Cores.{MasterRecord}
 use Rattle.running_state.specs.Parts.{epoch_lines, show_masters}
-use Rattle.running_state.proofs.Showing.{shows_same, shows_found, shows_item, shows_all, begins_then}
+use Rattle.schedule_text.specs.Lines.{line_text}
+use Rattle.written_state.proofs.ShowsLemmas.{shows_same, shows_one, shows_all, begins_then}
+use Rattle.running_state.proofs.Found.{shows_found}
 use Rattle.running_state.proofs.Walks.{each_key}
 use Rattle.running_state.proofs.masters.write_masters.Goals as goal
 
@@ -21,7 +23,7 @@ loop-index-preserved c =
     record {
       shows = λ w of.
           let runs = of.each epoch core c.at-entry.ensures.runs in
-          shows_item (λ (e : ℕ × MasterRecord). epoch_lines w e.0) c.args.masters.now.masters c.loop-index.index (epoch, core) old before after c.at-entry.ensures.entry (c.loop-index.invariant.shows w of)
+          shows_one line_text (λ (e : ℕ × MasterRecord). epoch_lines w e.0) c.args.masters.now.masters c.loop-index.index (epoch, core) old before after c.at-entry.ensures.entry (c.loop-index.invariant.shows w of)
           (shows_found show_master (find nat_cmp epoch w.masters) runs.master (show_master runs.master) before after runs.runs refl (c.in-Ok.ensures.ok (master_seen w runs.master) runs.stands));
       begins = begins_then old before after c.loop-index.invariant.begins c.write_master.ensures.begins;
     }
@@ -34,6 +36,6 @@ returns-clause-ok c =
     let all : c.loop-index.index ≡ length ms = search rules in
     λ w of sorted.
     let F = λ (e : ℕ × MasterRecord). epoch_lines w e.0 in
-    shows_same (flat_map F ms) (show_masters w) old new
+    shows_same line_text (flat_map F ms) (show_masters w) old new
     (sym (flat_map-map (epoch_lines w) (λ e. e.0) ms) ∙ ap (flat_map (epoch_lines w)) (sym of.epochs) ∙ each_key (λ k M. show_master M) w.masters sorted)
-    (shows_all F ms c.loop-index.index old new all (c.loop-index.invariant.shows w of))
+    (shows_all line_text F ms c.loop-index.index old new all (c.loop-index.invariant.shows w of))

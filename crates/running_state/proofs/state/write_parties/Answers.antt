@@ -1,6 +1,7 @@
 use Rattle.std.proofs.Common.{◌++◌}
 use Rattle.running_state.specs.Parts.{show_masters, show_agents, show_apps}
-use Rattle.running_state.proofs.Showing.{shows_then}
+use Rattle.schedule_text.specs.Lines.{line_text}
+use Rattle.written_state.proofs.ShowsLemmas.{shows_then}
 use Rattle.running_state.proofs.state.write_parties.Goals as goal
 
 pub returns-in-Ok-write_apps-clause-ok : goal.returns-in-Ok-write_apps-clause-ok
@@ -8,5 +9,5 @@ returns-in-Ok-write_apps-clause-ok c =
     let old = c.args.out.now.items in
     let new = c.write_apps.new.out.items in
     λ w order size masters agents apps.
-    shows_then (show_masters w) (show_agents w ++ show_apps w) old c.write_masters.new.out.items new (c.in-Ok.ensures.ok w masters order.masters)
-    (shows_then (show_agents w) (show_apps w) c.write_masters.new.out.items c.write_agents.new.out.items new (c.in-Ok-write_agents.ensures.ok w agents order.agents size) (c.in-Ok-write_apps.ensures.ok w apps order.apps))
+    shows_then line_text (show_masters w) (show_agents w ++ show_apps w) old c.write_masters.new.out.items new (c.in-Ok.ensures.ok w masters order.masters)
+    (shows_then line_text (show_agents w) (show_apps w) c.write_masters.new.out.items c.write_agents.new.out.items new (c.in-Ok-write_agents.ensures.ok w agents order.agents size) (c.in-Ok-write_apps.ensures.ok w apps order.apps))

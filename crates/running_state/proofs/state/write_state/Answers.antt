@@ -6,7 +6,8 @@ use Rattle.written_state.specs.States.{hard_lines}
 use Rattle.running_agents.specs.Running.{RunsAs, StandsAt}
 use Rattle.running_apps.specs.Running.{AppRunsAs, AppStandsAt}
 use Rattle.running_state.specs.Parts.{show_parties}
-use Rattle.running_state.proofs.Showing.{shows_then, shows_same}
+use Rattle.schedule_text.specs.Lines.{line_text}
+use Rattle.written_state.proofs.ShowsLemmas.{shows_then, shows_same}
 use Rattle.running_state.proofs.Whole.{whole_state}
 use Rattle.running_state.proofs.state.write_state.Goals as goal
 
@@ -31,7 +32,7 @@ returns-in-Ok-write_line-clause-ok c =
     λ w of events packets.
     let size : c.machines.result ≡ length w.cluster.machines = c.machines.ensures.number ∙ ap (λ (x : ClusterRecord). length x.machines) of.cluster in
     let parties = c.in-Ok-write_parties.ensures.ok w of.order size of.masters of.agents of.apps in
-    shows_same (head ++ (hard_lines h ++ (show_parties w ++ last))) (show w) old new (whole_state w h c.args.events c.args.packets of.hard events packets)
-    (shows_then head (hard_lines h ++ (show_parties w ++ last)) old first new c.in-Ok.ensures.ok
-    (shows_then (hard_lines h) (show_parties w ++ last) first second new c.in-Ok-write_hard.ensures.ok
-    (shows_then (show_parties w) last second third new parties c.in-Ok-write_line.ensures.ok)))
+    shows_same line_text (head ++ (hard_lines h ++ (show_parties w ++ last))) (show w) old new (whole_state w h c.args.events c.args.packets of.hard events packets)
+    (shows_then line_text head (hard_lines h ++ (show_parties w ++ last)) old first new c.in-Ok.ensures.ok
+    (shows_then line_text (hard_lines h) (show_parties w ++ last) first second new c.in-Ok-write_hard.ensures.ok
+    (shows_then line_text (show_parties w) last second third new parties c.in-Ok-write_line.ensures.ok)))

@@ -13,7 +13,7 @@ returns-in_default-clause-ended g c ready = nothing_taken c.args.cluster c.args.
 
 pub loop-turn-init : goal.loop-turn-init
 loop-turn-init g c = record {
-  along = λ ready. start _ _ c.args.cluster c.args.lines.now.number c.args.lines.now.ended c.in-Ok.running (record { is = c.start.ensures.world; stands = c.in-Ok.ensures.stands }) ready.last;
+  along = λ ready. start c.lines_are_taken.ensures _ _ c.args.cluster c.args.lines.now.number c.args.lines.now.ended c.in-Ok.running (record { is = c.start.ensures.world; stands = c.in-Ok.ensures.stands }) ready.last;
   reached = c.in-Ok.ensures.reached;
   events = omega (arith, c.in-Ok.ensures.events);
   number = omega arith;
@@ -29,19 +29,19 @@ loop-turn-init g c = record {
 pub returns-then-not-ended-clause-ended : goal.returns-then-not-ended-clause-ended
 returns-then-not-ended-clause-ended g c ready =
     let i = c.loop-turn.invariant.along ready in
-    last_along _ _ _ c.loop-turn.lines.number c.loop-turn.lines.ended c.loop-turn.running _ _ _ i c.loop-turn.lines.pending (g.S.Source.left c.loop-turn.source) _ c.write_state.result refl (sym c.if-not-ended.ensures) c.write_state.ensures.writes
+    last_along c.lines_are_taken.ensures _ _ _ c.loop-turn.lines.number c.loop-turn.lines.ended c.loop-turn.running _ _ _ i c.loop-turn.lines.pending (g.S.Source.left c.loop-turn.source) _ c.write_state.result refl (sym c.if-not-ended.ensures) c.write_state.ensures.writes
 
 pub returns-in-Ok-End-clause-ended : goal.returns-in-Ok-End-clause-ended
 returns-in-Ok-End-clause-ended g c ready =
     let i = c.loop-turn.invariant.along ready in
-    end_along _ _ _ c.loop-turn.lines.number c.loop-turn.lines.ended c.loop-turn.running _ _ _ i c.next.new.self.pending (g.S.Source.left c.next.new.source) _ _ c.write_state-in-Ok-End.result (rw c.in-Ok-End.field-0-is at c.in-Ok-End.ensures.gives) c.write_state-in-Ok-End.ensures.writes
+    end_along c.lines_are_taken.ensures _ _ _ c.loop-turn.lines.number c.loop-turn.lines.ended c.loop-turn.running _ _ _ i c.next.new.self.pending (g.S.Source.left c.next.new.source) _ _ c.write_state-in-Ok-End.result (rw c.in-Ok-End.field-0-is at c.in-Ok-End.ensures.gives) c.write_state-in-Ok-End.ensures.writes
 
 pub returns-in-Err-clause-ended : goal.returns-in-Err-clause-ended
 returns-in-Err-clause-ended g c ready =
     let i = c.loop-turn.invariant.along ready in
     let r = c.loop-turn.invariant.running ready.running in
     rw (c.stop_status.ensures, c.number.ensures.value, c.in-Err.ensures.number)
-    (stop_along _ _ _ c.loop-turn.lines.number c.loop-turn.lines.ended c.loop-turn.running _ _ _ i (g.S.Source.left c.next.new.source) c.in-Err.stop (sym c.if-not-ended.ensures)
+    (stop_along c.lines_are_taken.ensures _ _ _ c.loop-turn.lines.number c.loop-turn.lines.ended c.loop-turn.running _ _ _ i (g.S.Source.left c.next.new.source) c.in-Err.stop (sym c.if-not-ended.ensures)
     (λ e. running_alone r (c.in-Err.ensures.broke (ap (λ s. Err s) e))) (λ e. running_alone r (c.in-Err.ensures.long (ap (λ s. Err s) e))) (λ e. running_alone r (c.in-Err.ensures.many (ap (λ s. Err s) e))))
 
 pub returns-in-Err-take_line-clause-ended : goal.returns-in-Err-take_line-clause-ended
@@ -49,7 +49,7 @@ returns-in-Err-take_line-clause-ended g c ready =
     let i = c.loop-turn.invariant.along ready in
     let next : c.number-number.result ≡ c.loop-turn.lines.number + 1 = c.number-number.ensures.value ∙ (rw c.in-Ok-Line.field-0-is at c.in-Ok-Line.ensures.number) in
     let line : c.content-line.result.now ≡ content (line_of c.next.new.self) = c.content-line.ensures ∙ ap (λ b. content (record { bytes = b; ended = c.ended-in-loop-turn.result })) c.line.ensures ∙ ap (λ b. content (record { bytes = c.next.new.self.line; ended = b })) c.ended-in-loop-turn.ensures in
-    line_along _ _ _ c.loop-turn.lines.number c.loop-turn.lines.ended c.loop-turn.running _ _ _ i c.next.new.self.pending (g.S.Source.left c.next.new.source) _ (line_of c.next.new.self) c.in-Err-take_line.status (c.in-Ok-Line.ensures.within (ap (λ l. Ok l) c.in-Ok-Line.field-0-is)) c.in-Ok-Line.ensures.ahead (rw c.in-Ok-Line.field-0-is at c.in-Ok-Line.ensures.gives)
+    line_along c.lines_are_taken.ensures _ _ _ c.loop-turn.lines.number c.loop-turn.lines.ended c.loop-turn.running _ _ _ i c.next.new.self.pending (g.S.Source.left c.next.new.source) _ (line_of c.next.new.self) c.in-Err-take_line.status (c.in-Ok-Line.ensures.within (ap (λ l. Ok l) c.in-Ok-Line.field-0-is)) c.in-Ok-Line.ensures.ahead (rw c.in-Ok-Line.field-0-is at c.in-Ok-Line.ensures.gives)
     (subst (λ n. (w : World) → Stands c.loop-turn.running w → TakesLine (content (line_of c.next.new.self)) n w (Err c.in-Err-take_line.status) (g.O.Sink.took c.loop-turn.out) (g.O.Sink.took c.take_line.new.out)) next
     (subst (λ l. (w : World) → Stands c.loop-turn.running w → TakesLine l c.number-number.result w (Err c.in-Err-take_line.status) (g.O.Sink.took c.loop-turn.out) (g.O.Sink.took c.take_line.new.out)) line c.in-Err-take_line.ensures.takes))
 
@@ -62,7 +62,7 @@ loop-turn-preserved g c =
     let takes : (w : World) → Stands c.loop-turn.running w → TakesLine (content (line_of c.next.new.self)) (c.loop-turn.lines.number + 1) w (Ok tt) (g.O.Sink.took c.loop-turn.out) (g.O.Sink.took c.take_line.new.out) =
     subst (λ l. (w : World) → Stands c.loop-turn.running w → TakesLine l (c.loop-turn.lines.number + 1) w (Ok tt) (g.O.Sink.took c.loop-turn.out) (g.O.Sink.took c.take_line.new.out)) line c.in-Ok-take_line.ensures.takes in
     record {
-      along = λ ready. step_along _ _ _ c.loop-turn.lines.number c.loop-turn.lines.ended c.loop-turn.running _ _ _ (c.loop-turn.invariant.along ready) _ _ (line_of c.next.new.self) c.take_line.new.running _ (sym c.if-not-ended.ensures) (sym c.number-number.ensures.value ∙ next) more (rw c.in-Ok-Line.field-0-is at c.in-Ok-Line.ensures.gives) takes stands;
+      along = λ ready. step_along c.lines_are_taken.ensures _ _ _ c.loop-turn.lines.number c.loop-turn.lines.ended c.loop-turn.running _ _ _ (c.loop-turn.invariant.along ready) _ _ (line_of c.next.new.self) c.take_line.new.running _ (sym c.if-not-ended.ensures) (sym c.number-number.ensures.value ∙ next) more (rw c.in-Ok-Line.field-0-is at c.in-Ok-Line.ensures.gives) takes stands;
       reached = c.in-Ok-take_line.ensures.reached;
       events = omega (arith, c.in-Ok-take_line.ensures.events, c.loop-turn.invariant.events);
       number = omega (arith, next, c.number-number.ensures.value, c.loop-turn.invariant.number);

@@ -1,0 +1,251 @@
+"""Schedules to measure with. In each a master serves and grants are placed.
+
+A schedule is drawn beside a run of it: what was sent is asked of the program (a delivery of a packet that is not there is refused with
+the number of packets), so deliveries name packets that exist. That wants a program that writes what an event prints before it reads on.
+The questions are left out of the schedule. The same words and seed give the same schedule."""
+
+import random
+import subprocess
+
+ASK = "deliver 18446744073709551615"
+
+
+def cluster(machines, has=(2400, 98304), groups=1, quota=1.0):
+    each = ",".join('{"rack":%d,"has":[%d,%d]}' % (m // 16 % 64, *has) for m in range(machines))
+    limit = "[%d,%d]" % tuple(machines * amount for amount in has)
+    part = "[%d,%d]" % tuple(int(machines * amount * quota) for amount in has)
+    return '{"resources":2,"machines":[%s],"groups":[%s]}' % (each, ",".join('{"quota":%s,"limit":%s}' % (part, limit) for _ in range(groups)))
+
+
+class Drive:
+    """A schedule as it is written, and a run of it."""
+
+    def __init__(self, program, machines, path, **how):
+        self.machines, self.jobs, self.epoch, self.sent, self.lines = machines, {}, 0, 0, 0
+        self.file = open(path, "w", encoding="ascii")
+        self.run = subprocess.Popen([program, "replay"], stdin=subprocess.PIPE, stdout=subprocess.PIPE, text=True)
+        self.say(cluster(machines, **how))
+
+    def say(self, *lines):
+        for line in lines:
+            self.file.write(line + "\n")
+            self.run.stdin.write(line + "\n")
+            self.lines += 1
+            if self.lines % 64 == 0:
+                self.ask()
+
+    def ask(self):
+        """Reads what was printed so far, and learns how many packets were sent."""
+        self.run.stdin.write(ASK + "\n")
+        self.run.stdin.flush()
+        while True:
+            line = self.run.stdout.readline()
+            if line.startswith("refused NoPacket"):
+                self.sent = int(line.split()[2])
+                return
+            if not line:
+                raise SystemExit(f"the run ended at line {self.lines}")
+
+    def deliver_from(self, first):
+        self.ask()
+        if first <= self.sent:
+            self.say(f"deliver {first} {self.sent}")
+
+    def turns(self, *parties):
+        """Turns, and a delivery of all that they send."""
+        self.ask()
+        first = self.sent + 1
+        self.say(*(f"turn {party}" for party in parties))
+        self.deliver_from(first)
+
+    def peers(self):
+        return [f"agent {m}" for m in range(self.machines)] + [f"app {a}" for a in self.jobs]
+
+    def round(self):
+        self.turns(f"master {self.epoch}")
+        self.turns(*self.peers())
+
+    def master(self):
+        """Another master, which hears of all machines and serves."""
+        if self.epoch:
+            self.say(f"stop {self.epoch}")
+        self.epoch += 1
+        self.say(f"master {self.epoch}")
+
+    def submit(self, job, units, group=0):
+        text = " / ".join(f"{priority} {cores} {memory}" for priority, cores, memory in units)
+        self.say(f"submit {self.epoch} {job} {group} {text}", f"app {job} 1")
+        self.jobs[job] = len(units)
+
+    def begin(self, jobs, units, group=lambda job: 0):
+        self.master()
+        self.say(*(f"agent {m} 1" for m in range(self.machines)))
+        for job in range(jobs):
+            self.submit(job, units(job), group(job))
+        self.round()
+        self.round()
+
+    def end(self):
+        self.file.close()
+        self.run.stdin.close()
+        self.run.stdout.read()
+        self.run.wait()
+
+
+def sizes(count, priority=lambda u: u):
+    return lambda job: [(priority(u), 50 + 10 * u, 1024 + 512 * u) for u in range(count)]
+
+
+def command(draw, d):
+    """A command of an application."""
+    job = draw.randrange(len(d.jobs))
+    unit, machine, kind = draw.randrange(d.jobs[job]), draw.randrange(d.machines), draw.random()
+    if kind < 0.6:
+        return f"want {job} {unit} {draw.randrange(60)}"
+    if kind < 0.8:
+        return f"near {job} {unit} {machine} {draw.randrange(5)}"
+    if kind < 0.85:
+        return f"rack {job} {unit} {machine // 16} {draw.randrange(9)}"
+    if kind < 0.92:
+        return f"avoid {job} {unit} {machine} {draw.randrange(2)}"
+    return f"back {job} {unit} {machine} 1"
+
+
+def kinds(d, draw, lines):
+    """Lines of all kinds, with packets that are late, lost and repeated."""
+    d.begin(16, sizes(3))
+    while d.lines < lines:
+        kind, machine = draw.random(), draw.randrange(d.machines)
+        if kind < 0.6:
+            d.say(f"deliver {max(1, d.sent - draw.randrange(60))}")
+        elif kind < 0.76:
+            d.say(f"turn {draw.choice(d.peers())}")
+        elif kind < 0.78:
+            d.say(f"turn master {d.epoch}")
+        elif kind < 0.94:
+            d.say(command(draw, d))
+        elif kind < 0.97:
+            d.say(f"ban {d.epoch} {machine}", f"unban {d.epoch} {machine}")
+        elif kind < 0.99:
+            d.say(f"resync agent {machine}")
+        elif kind < 0.9995:
+            d.say(f"preempt {d.epoch}")
+        elif d.epoch < 250:
+            d.master()
+            d.round()
+
+
+def turns(d, draw, lines):
+    """Turns and deliveries, with a command now and then."""
+    d.begin(32, sizes(4))
+    while d.lines < lines:
+        d.turns(*draw.sample(d.peers(), 8))
+        if draw.random() < 0.1:
+            d.say(command(draw, d))
+        if draw.random() < 0.05:
+            d.turns(f"master {d.epoch}")
+
+
+def commands(d, draw, lines):
+    """Commands of applications, and rounds between them."""
+    d.begin(32, sizes(4))
+    while d.lines < lines:
+        d.say(*(command(draw, d) for _ in range(400)))
+        d.round()
+
+
+def changes(d, draw, lines):
+    """Small changes of demands, each told at once and answered."""
+    d.begin(64, sizes(8))
+    while d.lines < lines:
+        job = draw.randrange(64)
+        d.say(f"want {job} {draw.randrange(8)} {draw.randrange(12)}")
+        d.turns(f"app {job}")
+        if draw.random() < 0.1:
+            d.turns(f"master {d.epoch}")
+
+
+def failovers(d, draw, lines):
+    """Masters one after another, with the reports of all machines."""
+    d.begin(16, sizes(4))
+    d.say(*(f"want {a} {u} 40" for a in d.jobs for u in range(4)))
+    d.round()
+    d.round()
+    while d.lines < lines:
+        d.master()
+        d.round()
+        d.round()
+
+
+def placing(d, draw, lines):
+    """All machines filled and emptied again."""
+    d.begin(16, sizes(8))
+    while d.lines < lines:
+        for count in (300, 0):
+            d.say(*(f"want {a} {u} {count}" for a in d.jobs for u in range(8)))
+            for a in d.jobs:
+                d.turns(f"app {a}")
+            d.turns(f"master {d.epoch}")
+            d.turns(*d.peers())
+
+
+def preemptions(d, draw, lines):
+    """Groups above their quotas, and preemptions."""
+    d.begin(16, sizes(4, lambda u: 2 * u), lambda job: job % 4)
+    while d.lines < lines:
+        d.say(*(f"want {a} {draw.randrange(4)} {draw.randrange(200)}" for a in d.jobs))
+        d.turns(*(f"app {a}" for a in d.jobs))
+        d.say(*(f"preempt {d.epoch}" for _ in range(64)))
+        d.turns(f"master {d.epoch}")
+
+
+def demand(d, draw, lines):
+    """One demand that gives 2,048 grants back, one on each of 256 machines of each of 8 units, and wants them again."""
+    d.begin(1, lambda job: [(u, 1, 1) for u in range(8)])
+    for unit in range(8):
+        d.say(f"want 0 {unit} {d.machines}", *(f"near 0 {unit} {m} 1" for m in range(d.machines)))
+    d.round()
+    d.round()
+    d.say(*(f"back 0 {u} {m} 1" for u in range(8) for m in range(d.machines)))
+    d.turns("app 0")
+    d.round()
+
+
+def wants(d, draw, lines):
+    """One command of an application again and again."""
+    d.begin(1, sizes(1))
+    d.say(*(f"want 0 0 {n % 7}" for n in range(lines)))
+    d.round()
+
+
+def heard(d, draw, lines):
+    """One old packet again and again."""
+    d.begin(1, sizes(1))
+    d.say("want 0 0 1")
+    d.round()
+    d.say(*("deliver 1" for _ in range(lines)))
+    d.round()
+
+
+KINDS = {
+    "kinds": (kinds, 16, 1_000_000, {}),
+    "turns": (turns, 64, 500_000, {}),
+    "commands": (commands, 64, 366_000, {}),
+    "changes": (changes, 256, 115_000, {}),
+    "failovers": (failovers, 64, 178_000, {}),
+    "placing": (placing, 256, 13_000, {}),
+    "preemptions": (preemptions, 64, 21_000, {"groups": 4, "quota": 0.3}),
+    "demand": (demand, 256, 0, {}),
+    "wants": (wants, 1, 1_000_000, {}),
+    "heard": (heard, 1, 1_000_000, {}),
+}
+
+
+def write(program, kind, path, part=1.0):
+    """Writes a schedule of this kind, or a part of its lines; the number of its lines and packets."""
+    make, machines, lines, how = KINDS[kind]
+    drive = Drive(program, machines, path, **how)
+    make(drive, random.Random(7), int(lines * part))
+    drive.ask()
+    drive.end()
+    return drive.lines - 1, drive.sent
