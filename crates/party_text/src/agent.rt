@@ -49,7 +49,7 @@ fn write_rows(machine: MachineNo, table: &RowLedger, out: &mut Vec<u8>) -> Resul
 
 /// Appends the lines of the agent of a machine: its boot and its place, and its table. A refusal may leave some of them behind what was
 /// there.
-#[tactic(auto, using(crate::proofs::Showing::begins_then))]
+#[tactic(auto, using(written_state::proofs::ShowsLemmas::begins_then))]
 pub fn write_agent(agent: &Agent, machine: MachineNo, out: &mut Vec<u8>) -> Result<(), OutOfMemory>
     requires number { machine.0 ≡ agent.now.machine }
     ensures ok { OnOk result ((r : AgentRole) → StandsFor agent.now r → Shows (agent_lines r) out.old.items out.new.items) }

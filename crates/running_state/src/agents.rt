@@ -33,7 +33,7 @@ fn write_agent_of(agents: &Agents, machine: MachineNo, out: &mut Vec<u8>) -> Res
 }
 
 // The agents, machine by machine.
-#[tactic(auto, using(crate::proofs::Showing::begins_then))]
+#[tactic(auto, using(written_state::proofs::ShowsLemmas::begins_then))]
 pub(crate) fn write_agents(
     agents: &Agents,
     machines: u32,
