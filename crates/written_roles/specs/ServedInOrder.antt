@@ -36,7 +36,7 @@ IsTriedBefore jobs x y = (priority_of jobs y.1.job y.1.unit < priority_of jobs x
     ⊎ ((priority_of jobs x.1.job x.1.unit ≡ priority_of jobs y.1.job y.1.unit) × ((x.0 < y.0)
     ⊎ ((x.0 ≡ y.0) × (x.1.machine < y.1.machine))))
 
--- what is tried are candidates in that order, and every candidate is among them
+-- Served in order: what is tried are candidates, by greater priority, then earlier place in the line, then smaller machine, and every candidate is among them
 pub record AreTriedInOrder (c : ClusterRecord) (M : Master) : Type 0 where
   pub candidates : List (ℕ × Spot)
   pub spots : map (λ x. x.1) candidates ≡ tried c M
@@ -50,7 +50,7 @@ IsNotAfter jobs s t = (priority_of jobs s.job s.unit < priority_of jobs t.job t.
     ⊎ ((priority_of jobs s.job s.unit ≡ priority_of jobs t.job t.unit) × ((t.job < s.job)
     ⊎ ((s.job ≡ t.job) × (t.unit ≤ s.unit))))
 
--- the walk along a machine has its grants one at a time, in that order
+-- Walked in order: the walk along a machine has its grants one at a time, by lower priority, then greater job, then greater unit
 pub record AreWalkedInOrder (M : Master) (m : ℕ) : Type 0 where
   pub ordered : AreOrdered (IsNotAfter M.jobs) (walk M m)
   pub all : (s : Spot) → s.machine ≡ m → often s (walk M m) ≡ count spot_cmp M.table s

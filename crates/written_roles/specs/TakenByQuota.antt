@@ -19,7 +19,7 @@ pub record IsTakenByQuota (c : ClusterRecord) (M : Master) (t : Spot) (set : Lis
   pub own : group_of M.jobs s.job ≡ group_of M.jobs t.job → priority_of M.jobs s.job s.unit < priority_of M.jobs t.job t.unit
   pub other : (group_of M.jobs s.job ≡ group_of M.jobs t.job → ⊥) → KeepsQuota c M set (group_of M.jobs s.job) × HasQuotaLeft c M t
 
--- each loser is taken so; and what the group that is served uses without its losers, and one more of the unit, are within its limit, in each resource
+-- Preempts by quota: each loser is taken so; and what the group that is served uses without its losers, and one more of the unit, are within its limit, in each resource
 pub record AreTakenByQuota (c : ClusterRecord) (M : Master) (t : Spot) (set : List Spot) : Type 0 where
   pub each : AllByRecursion (IsTakenByQuota c M t set) set
   pub limit : (i : ℕ) → i < c.resources

@@ -24,7 +24,7 @@ pub record IsOrderly (M : Master) : Type 0 where
 
 -- Grows as allowed. A new grant of a unit on a machine: the master serves, the job is live and has the unit, the machine is neither banned nor avoided,
 -- what the unit then holds is at most what it wants, and the group's usage is within its limit in each resource
-pub record IsAllowed (c : ClusterRecord) (N : Master) (a u m : ℕ) : Type 0 where
+pub record MayBeGranted (c : ClusterRecord) (N : Master) (a u m : ℕ) : Type 0 where
   pub serves : N.serving ≡ true
   pub live : is_live N.jobs a ≡ true
   pub unit : u < unit_count N.jobs a
@@ -35,7 +35,7 @@ pub record IsAllowed (c : ClusterRecord) (N : Master) (a u m : ℕ) : Type 0 whe
 
 -- from M to N a count on a machine that M has as reported rises only where that is allowed, and on another one only where N has it as reported
 pub record GrowsAsAllowed (c : ClusterRecord) (M N : Master) : Type 0 where
-  pub reported : (a u m : ℕ) → has_number m M.reported ≡ true → held_on M.table a u m < held_on N.table a u m → IsAllowed c N a u m
+  pub reported : (a u m : ℕ) → has_number m M.reported ≡ true → held_on M.table a u m < held_on N.table a u m → MayBeGranted c N a u m
   pub adopted : (a u m : ℕ) → has_number m M.reported ≡ false → held_on M.table a u m < held_on N.table a u m → has_number m N.reported ≡ true
 
 -- Banned machines are bare: the table has nothing on a banned machine

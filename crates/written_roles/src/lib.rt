@@ -4,7 +4,7 @@
 //! them into the world. Each function here does nothing; its contract is a law of the definitions.
 #![tactic(auto)]
 
-ghost use Rattle.std.specs.Prelude.{◌≡◌, List, Some, T};
+ghost use Rattle.std.specs.Prelude.{◌≡◌, ℕ, List, Some, T};
 ghost use Rattle.fuxi_terms.specs.Cluster.{ClusterRecord};
 ghost use Rattle.fuxi_terms.specs.Keys.{Spot, spot_cmp};
 ghost use Rattle.written_net.specs.Net.{Id};
@@ -15,7 +15,10 @@ ghost use Rattle.written_roles.specs.Placing.{settled, first_placeable};
 ghost use Rattle.std.specs.FinMap.Entries.{is_sorted};
 ghost use Rattle.written_roles.specs.Preemption.{Plan, plan_of};
 ghost use Rattle.written_roles.specs.Losses.{IsLoss, LeavesRoom, IsNeeded, KeepsQuotas};
+ghost use Rattle.written_roles.specs.PlacedInOrder.{AreValid, IsPlacedInOrder};
+ghost use Rattle.written_roles.specs.ServedInOrder.{AreTriedInOrder, AreWalkedInOrder};
 ghost use Rattle.written_roles.specs.Settling.{NothingPlaceable, Picks, IsWithin, IsFirst};
+ghost use Rattle.written_roles.specs.TakenByQuota.{AreTakenByQuota};
 
 /// Settling ends, and leaves nothing placeable; whoever grants the placeable pair of least rank until there
 /// is none has settled; settling keeps each machine's grants within what the machine has; and the pair that is placed
@@ -41,4 +44,28 @@ pub fn preempting()
 /// is due, and all others stay.
 pub fn step_ends()
     ensures { (c : ClusterRecord) (sides : Id → Side) (M : Master) (forced : List Id) (q : Id) → publish_alone sides (offers_alone c sides M forced) q ≡ side_after c sides M forced q }
+{}
+
+/// The pair that is placed is a placeable pair of the line, and each other placeable pair of the line has a lower
+/// priority, or the same and a greater level, or the same and a later place in the line, or the same and a machine
+/// that is not smaller. Of every master whose jobs are valid.
+pub fn placed_in_order()
+    ensures { (c : ClusterRecord) (M : Master) (s : Spot) → AreValid M.jobs → first_placeable c M ≡ Some s → IsPlacedInOrder c M s }
+{}
+
+/// Losers of the group that is served have a lower priority. Each other group that loses keeps at least its quota in
+/// every resource without all that it loses, and loses only where what the served group used before, and one more of
+/// the unit, are within its quota in every resource. What the served group uses without its losers, and one more, are
+/// within its limit.
+pub fn preempts_by_quota()
+    ensures { (c : ClusterRecord) (M : Master) (p : Plan) → plan_of c M ≡ Some p → AreTakenByQuota c M p.served p.losers }
+{}
+
+/// Candidates of a preemption are the pairs of a unit of the line and a machine that is reported, neither banned nor
+/// avoided, and where the unit has fewer grants than its greatest number; they are tried by greater priority, then
+/// place in the line, then smaller machine (`tried`). The grants of a machine are walked one at a time by lower
+/// priority, then greater job, then greater unit (`walked`).
+pub fn served_in_order()
+    ensures tried { (c : ClusterRecord) (M : Master) → AreValid M.jobs → AreTriedInOrder c M }
+    ensures walked { (M : Master) (m : ℕ) → T (is_sorted spot_cmp M.table) → AreWalkedInOrder M m }
 {}

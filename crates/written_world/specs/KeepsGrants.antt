@@ -27,12 +27,18 @@ pub record IsAdopted (w : World) (k m : ℕ) (x : Packet) (M N : Master) : Type 
   pub new : has_number m M.reported ≡ false
   pub adopted : has_number m N.reported ≡ true
 
--- A failover keeps grants. What an adopted report says is kept (`adopts`), where the machine is not banned; an agent that hears of a greater epoch reports exactly the table that
--- it had (`reports`); and its table stays until it takes a row, or is started anew (`stays`)
-pub record AllKeepGrants (w : World) : Type 0 where
+-- Keeps what is reported: what an adopted report says of a live job, of a unit that it has, with its size, on a machine that is not banned, is at most what the master
+-- then holds
+pub record AllAdopt (w : World) : Type 0 where
   pub adopts : (k e m : ℕ) (x : Packet) (M N : Master) → RunsThrough w (Deliver k) e M N → IsAdopted w k m x M N → has_number m N.bans ≡ false → AllByRecursion (IsKept N m) (content w.net x).rows
+
+-- Reports what it had: an agent that hears of a greater epoch has as its report that epoch and exactly the table that it had before
+pub record AllReport (w : World) : Type 0 where
   pub reports : (k m : ℕ) (x : Packet) (g : Agent) → find nat_cmp m w.agents ≡ Some g → packet_of w k ≡ Some x → x.to.id ≡ agent_id m → (heard_of w.net (party (agent_id m) g.boot) is_master x).fresh ≡ true
       → present (world_step w (Deliver k)).world.net (party (agent_id m) g.boot) master_id ≡ joined_report x.from.inc (agent_table w.net (party (agent_id m) g.boot))
+
+-- Keeps its table: the table of an agent stays until it takes a row, or is started anew
+pub record AllStay (w : World) : Type 0 where
   pub stays : (v : Event) (m : ℕ) (g : Agent) → is_single v ≡ true → find nat_cmp m w.agents ≡ Some g → find nat_cmp m (world_step w v).world.agents ≡ Some g
       → (agent_table (world_step w v).world.net (party (agent_id m) g.boot) ≡ agent_table w.net (party (agent_id m) g.boot))
       ⊎ ((k : ℕ) × (x : Packet) × (v ≡ Deliver k) × (packet_of w k ≡ Some x) × (is_taken (heard_of w.net (party (agent_id m) g.boot) is_master x).what ≡ true))

@@ -29,11 +29,14 @@ pub record RunsThrough (w : World) (x : Event) (e : ℕ) (M N : Master) : Type 0
   pub before : find nat_cmp e w.masters ≡ Some M
   pub behind : find nat_cmp e (world_step w x).world.masters ≡ Some N
 
--- Grows as allowed
+-- Grows as allowed: where an event raises a count of a unit on a machine that its master has as reported, the master serves, the job is live and has the unit, the
+-- machine is neither banned nor avoided, what the unit then holds is at most what it wants, and the group's usage is within its limit in each resource. On another
+-- machine a count rises only where its report is adopted
 pub record AllGrow (w : World) : Type 0 where
   pub grow : (x : Event) (e : ℕ) (M N : Master) → RunsThrough w x e M N → GrowsAsAllowed w.cluster M N
 
--- Banned machines are bare, and a ban that is not refused stands in the master and in the hard state
+-- Banned machines are bare: no running master has a grant on a machine that it has banned, and a ban that is not refused is then among its bans and those of the
+-- hard state
 pub record AllBare (w : World) : Type 0 where
   pub bare : (e : ℕ) (M : Master) → find nat_cmp e w.masters ≡ Some M → IsBare M
   pub bans : (e m : ℕ) (N : Master) → IsDone w (Ban e m) → find nat_cmp e (world_step w (Ban e m)).world.masters ≡ Some N
@@ -45,7 +48,7 @@ pub record WasBegun (c : ClusterRecord) (events : List Event) (e : ℕ) : Type 0
   pub begun : slice_get events moment ≡ Some (Begin e)
   pub ran : is_some (find nat_cmp e (run c (take moment events)).masters) ≡ true
 
--- Serves when told of all
+-- Serves when told of all: a serving master has adopted a report of every machine of the cluster, or was told to begin
 abbrev pub AllServe : ClusterRecord → List Event → Type 0
 AllServe c events = (e : ℕ) (M : Master) → find nat_cmp e (run c events).masters ≡ Some M → M.serving ≡ true → HasAllReports c M ⊎ WasBegun c events e
 
@@ -56,7 +59,7 @@ pub record IsCreditedLoss (w : World) (k : ℕ) (M N : Master) (a u m : ℕ) : T
   pub from : packet.from.id ≡ app_id a
   pub to : is_master packet.to.id ≡ true
   pub epoch : packet.to.inc ≡ M.epoch
-  pub most : held_on M.table a u m ≤ held_on N.table a u m
+  pub within : held_on M.table a u m ≤ held_on N.table a u m
       + (credited_at N a u m - cond (nat_lt (w.net.links (master_party M) (app_id a)).known packet.from.inc) 0 (credited_at M a u m))
 
 -- by which events a count of a master falls: the ban of that machine, the end of that job, a preemption, and a demand
@@ -67,6 +70,7 @@ MayFall w (Preempt f) e M N a u m = f ≡ e
 MayFall w (Deliver k) e M N a u m = IsCreditedLoss w k M N a u m
 MayFall w x e M N a u m = ⊥
 
--- Loses only what is credited
+-- Loses only what is credited: by a demand of a job, its counts fall at most by what is credited more, from 0 for a new boot; by other events a count falls only at the
+-- ban of its machine, at the end of its job, and by a preemption
 pub record AllLose (w : World) : Type 0 where
   pub lose : (x : Event) (e : ℕ) (M N : Master) → RunsThrough w x e M N → (a u m : ℕ) → held_on N.table a u m < held_on M.table a u m → MayFall w x e M N a u m
