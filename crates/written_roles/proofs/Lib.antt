@@ -13,3 +13,5 @@ pub mod RaisedCredits
 pub mod TransitionsLemmas
 pub mod BareMachines
 pub mod ServesWhenTold
+pub mod LosesCredited
+pub mod GrowsAllowed

@@ -4,13 +4,18 @@
 //! them into the world. Each function here does nothing; its contract is a law of the definitions.
 #![tactic(auto)]
 
-ghost use Rattle.std.specs.Prelude.{◌≡◌, ℕ, List, Some, T};
+ghost use Rattle.std.specs.Prelude.{◌≡◌, ◌⊎◌, ℕ, ◌<◌, Bool, true, false, List, Some, Ok, T};
 ghost use Rattle.fuxi_terms.specs.Cluster.{ClusterRecord};
-ghost use Rattle.fuxi_terms.specs.Keys.{Spot, spot_cmp};
+ghost use Rattle.fuxi_terms.specs.Keys.{key_cmp, Spot, spot_cmp};
+ghost use Rattle.fuxi_terms.specs.Numbers.{has_number};
+ghost use Rattle.fuxi_terms.specs.Tables.{held_on};
+ghost use Rattle.written_net.specs.Ledgers.{Ledger};
 ghost use Rattle.written_net.specs.Net.{Id};
 ghost use Rattle.written_net.specs.Sides.{Side};
 ghost use Rattle.written_roles.specs.MasterRoles.{publish_alone, offers_alone, side_after};
+ghost use Rattle.written_roles.specs.HardState.{HardState};
 ghost use Rattle.written_roles.specs.Masters.{Master};
+ghost use Rattle.written_roles.specs.MasterSteps.{talks, said, told_of, ready, new_master, MasterChange, Begins, Changed, change_of};
 ghost use Rattle.written_roles.specs.Placing.{settled, first_placeable};
 ghost use Rattle.std.specs.FinMap.Entries.{is_sorted};
 ghost use Rattle.written_roles.specs.Preemption.{Plan, plan_of};
@@ -19,6 +24,7 @@ ghost use Rattle.written_roles.specs.PlacedInOrder.{AreValid, IsPlacedInOrder};
 ghost use Rattle.written_roles.specs.ServedInOrder.{AreTriedInOrder, AreWalkedInOrder};
 ghost use Rattle.written_roles.specs.Settling.{NothingPlaceable, Picks, IsWithin, IsFirst};
 ghost use Rattle.written_roles.specs.TakenByQuota.{AreTakenByQuota};
+ghost use Rattle.written_roles.specs.Transitions.{IsOrderly, GrowsAsAllowed, IsBare, HasAllReports, MayLose, LosesOnlyCredited};
 
 /// Settling ends, and leaves nothing placeable; whoever grants the placeable pair of least rank until there
 /// is none has settled; settling keeps each machine's grants within what the machine has; and the pair that is placed
@@ -68,4 +74,36 @@ pub fn preempts_by_quota()
 pub fn served_in_order()
     ensures tried { (c : ClusterRecord) (M : Master) → AreValid M.jobs → AreTriedInOrder c M }
     ensures walked { (M : Master) (m : ℕ) → T (is_sorted spot_cmp M.table) → AreWalkedInOrder M m }
+{}
+
+/// From one step of a master to the next, a count on a machine that is reported before rises only where then the master
+/// serves, the job is live and has the unit, the machine is neither banned nor avoided, what the unit holds is at most
+/// what it wants, and the group's usage is within its limit in every resource; on another machine it rises only where
+/// that is reported then. By each change of the master (`changes`) and whatever it hears (`hearing`).
+pub fn grows_as_allowed()
+    ensures changes { (c : ClusterRecord) (M : Master) (x : MasterChange) (d : Changed) → IsOrderly M → change_of c M x ≡ Ok d → GrowsAsAllowed c M (ready c d.state) }
+    ensures hearing { (c : ClusterRecord) (M : Master) (fresh taken : Bool) (from : Id) (l : Ledger) → IsOrderly M → GrowsAsAllowed c M (ready c (told_of M fresh taken from (said c M from l))) }
+{}
+
+/// The table has nothing on a machine that the master has banned: a new master is so, and each step keeps it.
+pub fn banned_machines_are_bare()
+    ensures starts { (c : ClusterRecord) (h : HardState) (e : ℕ) → IsBare (ready c (new_master h e)) }
+    ensures changes { (c : ClusterRecord) (M : Master) (x : MasterChange) (d : Changed) → IsBare M → change_of c M x ≡ Ok d → IsBare (ready c d.state) }
+    ensures hearing { (c : ClusterRecord) (M : Master) (fresh taken : Bool) (from : Id) (l : Ledger) → IsBare M → IsBare (ready c (told_of M fresh taken from (said c M from l))) }
+{}
+
+/// A master that did not serve does so behind a step only where a report of every machine of the cluster is adopted, or
+/// where it is told to begin; and no report that is adopted is forgotten (`stays`).
+pub fn serves_when_told_of_all()
+    ensures changes { (c : ClusterRecord) (M : Master) (x : MasterChange) (d : Changed) → change_of c M x ≡ Ok d → M.serving ≡ false → (ready c d.state).serving ≡ true → HasAllReports c (ready c d.state) ⊎ (x ≡ Begins) }
+    ensures hearing { (c : ClusterRecord) (M : Master) (fresh taken : Bool) (from : Id) (l : Ledger) → M.serving ≡ false → (ready c (told_of M fresh taken from (said c M from l))).serving ≡ true → HasAllReports c (ready c (told_of M fresh taken from (said c M from l))) }
+    ensures stays { (c : ClusterRecord) (M : Master) (fresh taken : Bool) (from : Id) (l : Ledger) (m : ℕ) → has_number m M.reported ≡ true → has_number m (ready c (told_of M fresh taken from (said c M from l))).reported ≡ true }
+{}
+
+/// By a change of its own a master's counts fall only on the machine that it bans, of the job that ends, and where it
+/// makes room (`changes`). By what it hears of an application, counts of that job alone fall, each at most by what is
+/// credited more, from 0 for a new boot (`hearing`).
+pub fn loses_only_what_is_credited()
+    ensures changes { (c : ClusterRecord) (M : Master) (x : MasterChange) (d : Changed) → change_of c M x ≡ Ok d → (a u m : ℕ) → held_on (ready c d.state).table a u m < held_on M.table a u m → MayLose x a u m }
+    ensures hearing { (c : ClusterRecord) (M : Master) (fresh taken : Bool) (from : Id) (l : Ledger) → IsOrderly M → T (is_sorted key_cmp l.entries) → talks c M from ≡ true → LosesOnlyCredited fresh from M (ready c (told_of M fresh taken from (said c M from l))) }
 {}
