@@ -1,27 +1,28 @@
 -- A banned machine stays bare.
-use Rattle.std.proofs.Common.{◌≡◌, ℕ, zero, suc, ◌<◌, ◌≤◌, Bool, true, false, cond, not, nat_eq, List, Option, Some, None, Ok, refl, sym, ◌∙◌, ap, subst, arith}
+use Rattle.std.proofs.Common.{◌≡◌, ℕ, zero, suc, ◌+◌, Bool, true, false, cond, not, nat_eq, List, Some, None, Ok, refl, ◌∙◌, ap, arith}
 use Rattle.std.specs.Prelude.{◌&&◌}
-use Rattle.std.specs.Ordering.{eq_by_cmp}
-use Rattle.std.proofs.lemmas.Bool.Decides.{nat_tests}
+use Rattle.std.specs.Ordering.{nat_cmp, eq_by_cmp}
+use Rattle.std.specs.FinMap.Entries.{put}
 use Rattle.fuxi_terms.specs.Cluster.{ClusterRecord}
 use Rattle.fuxi_terms.specs.Counts.{count}
+use Rattle.fuxi_terms.specs.Jobs.{is_live}
 use Rattle.fuxi_terms.specs.Keys.{Spot, spot_cmp}
-use Rattle.fuxi_terms.specs.Numbers.{has_number, with_number, without_number}
+use Rattle.fuxi_terms.specs.Numbers.{has_number, with_number}
 use Rattle.fuxi_terms.specs.Tables.{spot, with_grant, without_grants}
 use Rattle.fuxi_terms.proofs.Booleans.{both_true, either, number_is}
 use Rattle.fuxi_terms.proofs.Counting.{tied}
 use Rattle.fuxi_terms.proofs.KeyOrders.{same_spot}
 use Rattle.written_net.specs.Net.{Id}
-use Rattle.written_net.specs.Ledgers.{Ledger}
+use Rattle.written_net.specs.Ledgers.{Ledger, nothing}
 use Rattle.written_roles.specs.HardState.{HardState}
 use Rattle.written_roles.specs.Masters.{Master, credited_of}
-use Rattle.written_roles.specs.MasterSteps.{phased, ready, adopted, credit, take_demand, meet_app, told_of, new_master, ended_in, banned_in, MasterChange, Changed, change_of}
+use Rattle.written_roles.specs.MasterSteps.{phased, ready, adopted, credit, raise_credited, take_demand, meet_app, told_of, new_master, MasterChange, Changed, change_of}
 use Rattle.written_roles.specs.Placing.{first_placeable, granted, settle, settled, all_out, line_up, placeable, may_grow, accepts, has_room, is_usable}
-use Rattle.written_roles.specs.Preemption.{Plan, plan_of, preempted}
+use Rattle.written_roles.specs.Preemption.{Plan}
 use Rattle.written_roles.specs.Transitions.{IsBare}
 use Rattle.written_roles.proofs.MapLemmas.{with_back, without_back}
 use Rattle.written_roles.proofs.PlacingEnds.{is_placeable}
-use Rattle.written_roles.proofs.TransitionsLemmas.{EachChange, changed_has, EachHeard, heard_has, reported_in, count_granted, count_left, count_without, adopted_beside, credit_falls, plan_tried}
+use Rattle.written_roles.proofs.TransitionsLemmas.{EachChange, changed_has, EachHeard, heard_has, count_granted, count_left, count_without, adopted_beside, credit_falls, plan_tried}
 
 turned : (b : Bool) → not b ≡ true → b ≡ false
 turned true e = cc
@@ -101,7 +102,10 @@ each_heard M fresh from l h = record {
     reported a u m k free false e = adopted_beside M.jobs from.number l.rows M.table (spot a u m) e ∙ h.bare a u m k
 
     demanded : (N : Master) → IsBare N → IsBare (take_demand N from.number l)
-    demanded N k = either IsBare _ _ _ (λ _. record { bare = λ a u m b. let f = credit_falls from.number (credited_of N from.number) l.entries N.table (spot a u m) in let z = k.bare a u m b in omega (arith, f, z) }) (λ _. record { bare = k.bare })
+    demanded N k = either IsBare (nat_eq l.head N.epoch && is_live N.jobs from.number)
+        (record N { demands = put nat_cmp from.number l N.demands; table = credit from.number (credited_of N from.number) l.entries N.table; credited = put nat_cmp from.number (raise_credited (credited_of N from.number) l.entries) N.credited })
+        (record N { demands = put nat_cmp from.number nothing N.demands })
+        (λ _. record { bare = λ a u m b. let f = credit_falls from.number (credited_of N from.number) l.entries N.table (spot a u m) in let z = k.bare a u m b in omega (arith, f, z) }) (λ _. record { bare = k.bare })
 
 pub hearing_bare : (c : ClusterRecord) (M : Master) (fresh taken : Bool) (from : Id) (l : Ledger) → IsBare M → IsBare (ready c (told_of M fresh taken from l))
 hearing_bare c M fresh taken from l h = ready_bare c (told_of M fresh taken from l) (heard_has M fresh taken from l IsBare (each_heard M fresh from l h))

@@ -1,14 +1,14 @@
 -- A count rises only by a grant that is allowed.
-use Rattle.std.proofs.Common.{◌≡◌, ◌⊎◌, inl, inr, ℕ, zero, suc, ◌+◌, ◌-◌, ◌*◌, ◌<◌, ◌≤◌, Bool, true, false, cond, not, nat_eq, nat_lt, List, [], ◌∷◌, Option, Some, None, Ok, length, slice_get, refl, sym, ◌∙◌, ap, subst, arith}
-use Rattle.std.specs.Prelude.{◌&&◌, ◌||◌, T}
+use Rattle.std.proofs.Common.{◌≡◌, ℕ, zero, suc, ◌+◌, ◌-◌, ◌*◌, ◌<◌, ◌≤◌, Bool, true, false, cond, not, nat_eq, nat_lt, List, [], ◌∷◌, Option, Some, None, Ok, length, refl, sym, ◌∙◌, ap, subst, arith}
+use Rattle.std.specs.Prelude.{◌&&◌}
 use Rattle.std.specs.Option.{unwrap_or, option_map}
-use Rattle.std.specs.List.{AllByRecursion, sum_by}
+use Rattle.std.specs.List.{sum_by}
 use Rattle.std.specs.Ordering.{nat_cmp, eq_by_cmp, is_eq}
 use Rattle.std.specs.Cmp.{tied_itself}
-use Rattle.std.specs.FinMap.Entries.{find, put, is_sorted, is_sorted-where_key, find-where_key}
+use Rattle.std.specs.FinMap.Entries.{find, put, is_sorted-where_key, find-where_key}
 use Rattle.std.proofs.lemmas.Bool.Decides.{nat_tests}
 use Rattle.std.proofs.lemmas.List.Sums.{sum_by-cons}
-use Rattle.fuxi_terms.specs.Cluster.{ClusterRecord, JobRecord, limit_at, in_each, in_each_place}
+use Rattle.fuxi_terms.specs.Cluster.{ClusterRecord, JobRecord, limit_at}
 use Rattle.fuxi_terms.specs.Counts.{count, set_count}
 use Rattle.fuxi_terms.specs.Jobs.{KnownJob, job_of, is_live, unit_count, group_of, size_at}
 use Rattle.fuxi_terms.specs.Keys.{key_cmp, Spot, spot_cmp}
@@ -27,9 +27,9 @@ use Rattle.written_net.specs.Channels.{is_agent}
 use Rattle.written_roles.specs.HardState.{with_job, with_ended}
 use Rattle.written_roles.specs.Losses.{often, one_if}
 use Rattle.written_roles.specs.Masters.{Master, asked, out, avoids, credited_of}
-use Rattle.written_roles.specs.MasterSteps.{is_there, counted, said, phased, ready, adopted, adopts, credit, raise_credited, take_demand, meet_app, told_of, ended_in, banned_in, MasterChange, Changed, change_of, Begins}
+use Rattle.written_roles.specs.MasterSteps.{is_there, counted, said, phased, ready, adopted, adopts, credit, raise_credited, take_demand, meet_app, told_of, ended_in, banned_in, MasterChange, Changed, change_of}
 use Rattle.written_roles.specs.Placing.{first_placeable, granted, settle, settled, all_out, line_up, placeable, may_grow, accepts, has_room, is_usable, is_allowed}
-use Rattle.written_roles.specs.Preemption.{Plan, plan_of, preempted, tried, part_by, part_at}
+use Rattle.written_roles.specs.Preemption.{Plan, plan_of, preempted, tried, part_by}
 use Rattle.written_roles.specs.ServedInOrder.{IsUsable}
 use Rattle.written_roles.specs.Transitions.{IsOrderly, MayBeGranted, GrowsAsAllowed}
 use Rattle.written_roles.proofs.LossesLemmas.{plan_loss}
@@ -82,11 +82,19 @@ module _ (g : Spot → ℕ → ℕ) (w : Spot → ℕ) (nothing : (s : Spot) →
 abbrev unit_here : ℕ → ℕ → Spot → Bool
 unit_here a u s = nat_eq s.job a && nat_eq s.unit u
 
-none_held : (a u : ℕ) (s : Spot) → cond (unit_here a u s) 0 0 ≡ 0
-none_held a u s = let z : ℕ = 0 in elim (unit_here a u s) as (λ b. cond b z 0 ≡ 0) [ true ↦ refl | false ↦ refl ]
+none_at : (b : Bool) (z : ℕ) → z ≡ 0 → cond b z 0 ≡ 0
+none_at true z e = e
+none_at false z e = refl
+
+none_held : (a u : ℕ) (s : Spot) → cond {A = ℕ} (unit_here a u s) 0 0 ≡ 0
+none_held a u s = none_at (unit_here a u s) 0 refl
 
 one_held : (a u : ℕ) (s : Spot) (n : ℕ) → cond (unit_here a u s) (n + 1) 0 ≡ cond (unit_here a u s) n 0 + cond (unit_here a u s) 1 0
-one_held a u s n = elim (unit_here a u s) as (λ b. cond b (n + 1) 0 ≡ cond b n 0 + cond b 1 0) [ true ↦ refl | false ↦ refl ]
+one_held a u s n = by (unit_here a u s)
+  where
+    by : (b : Bool) → cond b (n + 1) 0 ≡ cond b n 0 + cond b 1 0
+    by true = refl
+    by false = refl
 
 held_granted : (table : List (Spot × ℕ)) (s : Spot) (a u : ℕ) → IsSorted table → held (with_grant table s) a u ≡ held table a u + cond (unit_here a u s) 1 0
 held_granted table s a u k = sum_granted (λ s n. cond (unit_here a u s) n 0) (λ s. cond (unit_here a u s) 1 0) (none_held a u) (one_held a u) table s k

@@ -1,5 +1,5 @@
 -- A master's counts fall only by what is credited, and where it bans, ends or makes room.
-use Rattle.std.proofs.Common.{◌≡◌, ◌⊎◌, inl, inr, ℕ, zero, suc, ◌+◌, ◌-◌, ◌<◌, ◌≤◌, Bool, true, false, cond, not, nat_eq, nat_lt, List, [], ◌∷◌, Option, Some, None, Ok, refl, sym, ◌∙◌, ap, subst, arith, min}
+use Rattle.std.proofs.Common.{◌≡◌, ◌⊎◌, inl, inr, ℕ, ◌+◌, ◌-◌, ◌<◌, ◌≤◌, Bool, true, false, cond, not, nat_eq, nat_lt, List, [], ◌∷◌, Some, None, Ok, refl, sym, ◌∙◌, ap, subst, arith, min}
 use Rattle.std.specs.Prelude.{◌&&◌, ◌||◌, T}
 use Rattle.std.specs.Option.{unwrap_or}
 use Rattle.std.specs.Ordering.{nat_cmp, eq_by_cmp, is_eq}
@@ -14,18 +14,18 @@ use Rattle.fuxi_terms.specs.Keys.{key_cmp, Spot, spot_cmp}
 use Rattle.fuxi_terms.specs.Numbers.{has_number}
 use Rattle.fuxi_terms.specs.TallyKeys.{credited_key, back_key, is_back}
 use Rattle.fuxi_terms.specs.Tables.{spot, held_on}
-use Rattle.fuxi_terms.proofs.Booleans.{both_true, either, number_is, nat_itself}
+use Rattle.fuxi_terms.proofs.Booleans.{both_true, either, number_is}
 use Rattle.fuxi_terms.proofs.Counting.{both_true as both, tied, below_none, count-set_count}
 use Rattle.fuxi_terms.proofs.KeyOrders.{key_total, same_key, spot_total, same_spot}
 use Rattle.written_net.specs.Net.{Id}
 use Rattle.written_net.specs.Ledgers.{Ledger, nothing}
 use Rattle.written_net.specs.Channels.{app_id, is_agent, is_app}
 use Rattle.written_roles.specs.Masters.{Master, credited_of}
-use Rattle.written_roles.specs.MasterSteps.{talks, is_there, said, phased, ready, adopted, adopts, credit, raise_credited, take_demand, meet_app, told_of, ended_in, banned_in, MasterChange, Changed, change_of, Admits, Ends, Bans, Unbans, Begins, Preempts}
+use Rattle.written_roles.specs.MasterSteps.{talks, said, ready, adopted, adopts, credit, raise_credited, take_demand, meet_app, told_of, MasterChange, Changed, change_of, Admits, Ends, Bans, Unbans, Begins, Preempts}
 use Rattle.written_roles.specs.Transitions.{IsOrderly, credited_at, LosesOnlyCredited, MayLose}
 use Rattle.written_roles.proofs.MapLemmas.{found_put}
 use Rattle.written_roles.proofs.RaisedCredits.{raised}
-use Rattle.written_roles.proofs.TransitionsLemmas.{EachChange, changed_has, EachHeard, heard_has, reported_in, ready_besides, ready_rises, count_left, adopted_beside, credit_one, credit_falls, credit_beside}
+use Rattle.written_roles.proofs.TransitionsLemmas.{EachChange, changed_has, EachHeard, heard_has, reported_in, ready_besides, ready_rises, count_left, adopted_beside, credit_one, credit_beside}
 
 -- Crediting an entry that is not given back here takes nothing here
 one_beside : (a : ℕ) (cs : List (Key × ℕ)) (e : Key × ℕ) (table : List (Spot × ℕ)) (u m : ℕ) → eq_by_cmp key_cmp (back_key u m) e.0 ≡ false → count spot_cmp (credit_one a cs e table) (spot a u m) ≡ count spot_cmp table (spot a u m)
@@ -96,16 +96,16 @@ record KeepsCounts (M : Master) (x : MasterChange) (N : Master) : Type 0 where
 each_change : (c : ClusterRecord) (M : Master) → EachChange c M (KeepsCounts M)
 each_change c M = record {
   admits = λ j. record { keeps = λ a u m _. omega arith };
-  ends = λ b. record { keeps = λ a u m no. left (λ s. not (nat_eq s.job b)) a u m (nat_eq a b) (λ e. no (sym (number_is a b e))) refl };
-  bans = λ n. record { keeps = λ a u m no. left (λ s. not (nat_eq s.machine n)) a u m (nat_eq m n) (λ e. no (sym (number_is m n e))) refl };
+  ends = λ b. record { keeps = λ a u m never. left (λ s. not (nat_eq s.job b)) a u m (nat_eq a b) (λ e. never (sym (number_is a b e))) refl };
+  bans = λ n. record { keeps = λ a u m never. left (λ s. not (nat_eq s.machine n)) a u m (nat_eq m n) (λ e. never (sym (number_is m n e))) refl };
   unbans = λ n. record { keeps = λ a u m _. omega arith };
   begins = record { keeps = λ a u m _. omega arith };
-  preempts = λ p _ _. record { keeps = λ a u m no. absurd (no tt) };
+  preempts = λ p _ _. record { keeps = λ a u m never. absurd (never tt) };
 }
   where
     left : (p : Spot → Bool) (a u m : ℕ) (b : Bool) → (b ≡ true → ⊥) → p (spot a u m) ≡ not b → count spot_cmp M.table (spot a u m) ≤ count spot_cmp (where_key spot_cmp p M.table) (spot a u m)
-    left p a u m true no e = absurd (no refl)
-    left p a u m false no e = let x : count spot_cmp (where_key spot_cmp p M.table) (spot a u m) ≡ count spot_cmp M.table (spot a u m) = count_left p M.table (spot a u m) ∙ ap (λ b. cond b (count spot_cmp M.table (spot a u m)) 0) e in omega (arith, x)
+    left p a u m true never e = absurd (never refl)
+    left p a u m false never e = let x : count spot_cmp (where_key spot_cmp p M.table) (spot a u m) ≡ count spot_cmp M.table (spot a u m) = count_left p M.table (spot a u m) ∙ ap (λ b. cond b (count spot_cmp M.table (spot a u m)) 0) e in omega (arith, x)
 
 numbers : (x y : ℕ) → (x ≡ y) ⊎ (x ≡ y → ⊥)
 numbers x y = by (nat_eq x y) refl
@@ -128,8 +128,8 @@ changes_lose c M x d e a u m falls = by (decided x a u m)
   where
     by : MayLose x a u m ⊎ (MayLose x a u m → ⊥) → MayLose x a u m
     by (inl may) = may
-    by (inr no) =
-        let k = (changed_has c M (KeepsCounts M) (each_change c M) x d e).keeps a u m no in
+    by (inr never) =
+        let k = (changed_has c M (KeepsCounts M) (each_change c M) x d e).keeps a u m never in
         let r = ready_rises c d.state (spot a u m) in
         absurd (omega (arith, k, r, falls))
 
@@ -177,7 +177,7 @@ each_heard c M fresh from l h k t = record {
   same = λ agent. record { it = record { own = λ a u m _. omega arith; others = λ a u m _. omega arith } };
   reports = λ agent adopts. record { it = record { own = λ a u m _. (let x = reported a u m adopts (nat_eq m from.number) refl in omega (arith, x)); others = λ a u m _. reported a u m adopts (nat_eq m from.number) refl } };
   meets = λ _. record { it = record { own = λ a u m _. met a u m; others = λ a u m _. met_same a u m } };
-  demands = λ app. record { it = record { own = λ a u m is. demanded a u m is; others = λ a u m no. besides app a u m no } };
+  demands = λ app. record { it = record { own = λ a u m is. demanded a u m is; others = λ a u m never. besides app a u m never } };
 }
   where
     N : Master
@@ -207,9 +207,9 @@ each_heard c M fresh from l h k t = record {
         (let d = demand_loses N from.number l k u m in let e = met_same from.number u m in let x = met_credited fresh M from.number u m in omega (arith, d, e, x))
 
     besides : is_agent from ≡ false → (a u m : ℕ) → (from ≡ app_id a → ⊥) → held_on M.table a u m ≤ held_on (take_demand N from.number l).table a u m
-    besides app a u m no =
+    besides app a u m never =
         let this : is_app from ≡ true = talks_app app t in
-        let other : nat_eq a from.number ≡ false = apart (nat_eq a from.number) refl (λ same. no (is_this_app from this ∙ ap app_id (sym same))) in
+        let other : nat_eq a from.number ≡ false = apart (nat_eq a from.number) refl (λ same. never (is_this_app from this ∙ ap app_id (sym same))) in
         let d = demand_beside N from.number l a u m other in let e = met_same a u m in omega (arith, d, e)
       where
         apart : (b : Bool) → nat_eq a from.number ≡ b → (a ≡ from.number → ⊥) → nat_eq a from.number ≡ false
@@ -236,5 +236,5 @@ hearing_loses c M fresh taken from l h k t =
           let r = ready_rises c X (spot a u m) in
           let e : credited_at (ready c X) a u m ≡ credited_at X a u m = ap (λ cs. count key_cmp (unwrap_or (find nat_cmp a cs) []) (credited_key u m)) s.credited in
           omega (arith, x, r, e);
-      others = λ a u m no. let x = g.others a u m no in let r = ready_rises c X (spot a u m) in omega (arith, x, r);
+      others = λ a u m never. let x = g.others a u m never in let r = ready_rises c X (spot a u m) in omega (arith, x, r);
     }

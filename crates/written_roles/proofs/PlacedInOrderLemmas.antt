@@ -1,6 +1,5 @@
 -- The pair that is placed comes first by its four numbers.
-use Rattle.std.proofs.Common.{◌≡◌, ◌⊎◌, inl, inr, ℕ, zero, suc, ◌-◌, ◌<◌, ◌≤◌, Bool, true, false, cond, nat_eq, nat_lt, List, [], ◌∷◌, Some, None, slice_get, refl, sym, arith}
-use Rattle.std.specs.Prelude.{◌&&◌}
+use Rattle.std.proofs.Common.{◌≡◌, ◌⊎◌, inl, inr, ℕ, zero, suc, ◌-◌, ◌<◌, ◌≤◌, Bool, true, false, cond, nat_eq, nat_lt, List, [], ◌∷◌, length, Some, slice_get, refl, arith}
 use Rattle.std.specs.Option.{unwrap_or, option_map}
 use Rattle.std.specs.List.{AllByRecursion, list_all}
 use Rattle.std.specs.Ordering.{nat_cmp, is_lt, ordering_then}
@@ -27,7 +26,7 @@ unit_priority (x ∷ xs) (suc u) h = unit_priority xs u (both_true (is_valid_uni
 job_priority : (jobs : List KnownJob) → AllByRecursion (λ k. is_valid_job 8 k.job ≡ true) jobs → (a u : ℕ) → priority_of jobs a u ≤ 9
 job_priority [] h a u = omega arith
 job_priority (k ∷ ks) h a u = elim (nat_eq k.job.number a) as (λ b. (unwrap_or (slice_get (unwrap_or (option_map (λ (j : KnownJob). j.job.units) (cond b (Some k) (job_of ks a))) []) u) no_unit).priority ≤ 9) [
-  | true ↦ unit_priority k.job.units u (both_true (is_between 1 8 _) _ (units_valid k.job h.0)).1
+  | true ↦ unit_priority k.job.units u (both_true (is_between 1 8 (length k.job.units)) (list_all (is_valid_unit 8) k.job.units) (units_valid k.job h.0)).1
   | false ↦ job_priority ks h.1 a u
 ]
 

@@ -1,16 +1,14 @@
 -- Candidates are tried in their order, and the grants of a machine are walked in theirs.
-use Rattle.std.proofs.Common.{◌≡◌, ◌⊎◌, inl, inr, ℕ, zero, suc, ◌+◌, ◌<◌, ◌≤◌, Bool, true, false, cond, not, nat_eq, nat_lt, List, [], ◌∷◌, ◌++◌, length, map, filter, Some, None, slice_get, refl, sym, ◌∙◌, ap, subst, arith}
+use Rattle.std.proofs.Common.{◌≡◌, ◌⊎◌, inl, inr, ℕ, zero, suc, ◌+◌, ◌<◌, ◌≤◌, Bool, true, false, cond, not, nat_eq, nat_lt, List, [], ◌∷◌, ◌++◌, length, map, filter, Some, slice_get, refl, sym, ◌∙◌, ap, subst, arith}
 use Rattle.std.specs.Prelude.{◌&&◌, ◌||◌, T}
-use Rattle.std.specs.Option.{unwrap_or}
-use Rattle.std.specs.List.{AllByRecursion, flat_map, sum_by}
+use Rattle.std.specs.List.{AllByRecursion, flat_map}
 use Rattle.std.specs.Ordering.{eq_by_cmp}
 use Rattle.std.specs.FinMap.Entries.{is_sorted}
 use Rattle.std.proofs.lemmas.Bool.Decides.{nat_tests}
 use Rattle.std.proofs.lemmas.List.{map-append}
 use Rattle.std.proofs.lemmas.List.Concat.{flat_map-append}
 use Rattle.std.proofs.lemmas.List.Sums.{sum_by-cons}
-use Rattle.fuxi_terms.specs.Cluster.{ClusterRecord, has_machine}
-use Rattle.fuxi_terms.specs.Counts.{count}
+use Rattle.fuxi_terms.specs.Cluster.{ClusterRecord}
 use Rattle.fuxi_terms.specs.Jobs.{KnownJob, priority_of, most_of}
 use Rattle.fuxi_terms.specs.Keys.{Spot, spot_cmp}
 use Rattle.fuxi_terms.specs.Lists.{below}
@@ -23,9 +21,8 @@ use Rattle.fuxi_terms.proofs.Counting.{tied}
 use Rattle.fuxi_terms.proofs.KeyOrders.{same_spot}
 use Rattle.fuxi_terms.proofs.Members.{In, in_below}
 use Rattle.written_roles.specs.Masters.{Master, asked, avoids}
-use Rattle.written_roles.specs.Losses.{often}
 use Rattle.written_roles.specs.Placing.{accepts}
-use Rattle.written_roles.specs.Preemption.{goes_before, put_grant, in_walk_order, so_many, walk, by_priority, falling_priorities, tried}
+use Rattle.written_roles.specs.Preemption.{goes_before, put_grant, in_walk_order, so_many, walk, falling_priorities, tried}
 use Rattle.written_roles.specs.PlacedInOrder.{AreValid}
 use Rattle.written_roles.specs.ServedInOrder.{AreOrdered, IsUsable, IsCandidate, IsTriedBefore, AreTriedInOrder, IsNotAfter, AreWalkedInOrder}
 use Rattle.written_roles.proofs.LossesLemmas.{amount, often_flat, walk_amount, table_amount}
@@ -43,7 +40,7 @@ ordered_append R (x ∷ xs) ys h k l = (all_append (R x) xs ys h.0 l.0, ordered_
 -- pieces in order whose members stand in order make a list in order
 ordered_flat : {A B : Type 0} (Q : A → A → Type 0) (R : B → B → Type 0) (P : A → Type 0) (f : A → List B) → ((x : A) → P x → AreOrdered R (f x)) → ((x y : A) → P x → P y → Q x y → AllByRecursion (λ b. AllByRecursion (R b) (f y)) (f x)) → (xs : List A) → AllByRecursion P xs → AreOrdered Q xs → AreOrdered R (flat_map f xs)
 ordered_flat Q R P f own across [] p h = tt
-ordered_flat Q R P f own across (x ∷ xs) p h = ordered_append R (f x) (flat_map f xs) (own x p.0) (ordered_flat Q R P f own across xs p.1 h.1) (behind xs p.1 h.0)
+ordered_flat {A} {B} Q R P f own across (x ∷ xs) p h = ordered_append R (f x) (flat_map f xs) (own x p.0) (ordered_flat Q R P f own across xs p.1 h.1) (behind xs p.1 h.0)
   where
     none : (bs : List B) → AllByRecursion (λ b. AllByRecursion (R b) []) bs
     none [] = tt
@@ -115,7 +112,7 @@ below_rises zero = tt
 below_rises (suc n) = ordered_append (λ x y. x < y) (below n) (n ∷ []) (below_rises n) (tt, tt) (all_more (λ m. nat_lt m n ≡ true) (λ m. AllByRecursion (λ y. m < y) (n ∷ [])) (λ m t. (grind (arith, nat_tests, t), tt)) (below n) (below_less n))
 
 -- The ten priorities fall
-falls : ℕ → List ℕ
+abbrev falls : ℕ → List ℕ
 falls zero = []
 falls (suc n) = n ∷ falls n
 
@@ -129,21 +126,21 @@ falls_ordered (suc n) = (falls_below n, falls_ordered n)
 
 in_falls : (n m : ℕ) → m < n → In m (falls n)
 in_falls zero m lt = absurd (omega (arith, lt))
-in_falls (suc n) m lt = by (nat_eq m n) refl
+in_falls (suc n) m lt = by (nat_eq m n) refl (in_falls n m)
   where
-    by : (b : Bool) → nat_eq m n ≡ b → In m (n ∷ falls n)
-    by true e = inl (number_is m n e)
-    by false e = inr (in_falls n m (grind (arith, nat_tests, e, lt)))
+    by : (b : Bool) → nat_eq m n ≡ b → (m < n → In m (falls n)) → In m (n ∷ falls n)
+    by true e h = inl (number_is m n e)
+    by false e h = inr (h (grind (arith, nat_tests, e, lt)))
 
 ten : falling_priorities ≡ falls 10
 ten = refl
 
 -- The line with its places: those of a priority, from a place on
 module _ (c : ClusterRecord) (M : Master) where
-  priority : ℕ × ℕ → ℕ
+  abbrev priority : ℕ × ℕ → ℕ
   priority p = priority_of M.jobs p.0 p.1
 
-  placed : ℕ → ℕ → List (ℕ × ℕ) → List (ℕ × (ℕ × ℕ))
+  abbrev placed : ℕ → ℕ → List (ℕ × ℕ) → List (ℕ × (ℕ × ℕ))
   placed n k [] = []
   placed n k (p ∷ ps) = cond (nat_eq (priority p) n) ((k, p) ∷ placed n (k + 1) ps) (placed n (k + 1) ps)
 
@@ -195,19 +192,19 @@ module _ (c : ClusterRecord) (M : Master) where
       elim (nat_eq (priority q) n) as (λ b. In (k + suc j, p) (cond b ((k, q) ∷ placed n (k + 1) qs) (placed n (k + 1) qs))) [ true ↦ inr i | false ↦ i ]
 
   -- with every machine that accepts one more
-  tests : ℕ × ℕ → ℕ → Bool
+  abbrev tests : ℕ × ℕ → ℕ → Bool
   tests p m = accepts c M p.0 p.1 m
 
-  on_machine : ℕ × (ℕ × ℕ) → ℕ → ℕ × Spot
+  abbrev on_machine : ℕ × (ℕ × ℕ) → ℕ → ℕ × Spot
   on_machine x m = (x.0, spot x.1.0 x.1.1 m)
 
-  spots : ℕ × (ℕ × ℕ) → List (ℕ × Spot)
+  abbrev spots : ℕ × (ℕ × ℕ) → List (ℕ × Spot)
   spots x = map (on_machine x) (filter (tests x.1) (below (length c.machines)))
 
-  group : ℕ → List (ℕ × Spot)
+  abbrev group : ℕ → List (ℕ × Spot)
   group n = flat_map spots (placed n 0 M.line)
 
-  all_candidates : List (ℕ × Spot)
+  abbrev pub all_candidates : List (ℕ × Spot)
   all_candidates = flat_map group falling_priorities
 
   mapped : {A B C : Type 0} (f : B → C) (g : A → B) (xs : List A) → map f (map g xs) ≡ map (λ x. f (g x)) xs
@@ -230,7 +227,7 @@ module _ (c : ClusterRecord) (M : Master) where
   flat_map_map f g [] = refl
   flat_map_map f g (x ∷ xs) = ap (λ ys. f (g x) ++ ys) (flat_map_map f g xs)
 
-  pair_spots : ℕ × ℕ → List Spot
+  abbrev pair_spots : ℕ × ℕ → List Spot
   pair_spots p = map (spot p.0 p.1) (filter (accepts c M p.0 p.1) (below (length c.machines)))
 
   group_spots : (n : ℕ) → map (λ (x : ℕ × Spot). x.1) (group n) ≡ flat_map pair_spots (filter (λ p. nat_eq (priority_of M.jobs p.0 p.1) n) M.line)
@@ -240,7 +237,7 @@ module _ (c : ClusterRecord) (M : Master) where
       ∙ flat_map_map pair_spots (λ (x : ℕ × (ℕ × ℕ)). x.1) (placed n 0 M.line)
       ∙ ap (flat_map pair_spots) (placed_pairs n 0 M.line)
 
-  candidates_spots : map (λ (x : ℕ × Spot). x.1) all_candidates ≡ tried c M
+  pub candidates_spots : map (λ (x : ℕ × Spot). x.1) all_candidates ≡ tried c M
   candidates_spots =
       map_flat (λ (x : ℕ × Spot). x.1) group falling_priorities
       ∙ flat_same (λ n. map (λ (x : ℕ × Spot). x.1) (group n)) (λ n. flat_map pair_spots (filter (λ p. nat_eq (priority_of M.jobs p.0 p.1) n) M.line)) group_spots falling_priorities
@@ -277,7 +274,7 @@ module _ (c : ClusterRecord) (M : Master) where
       (all_both (λ m. nat_lt m (length c.machines) ≡ true) (λ m. tests x.1 m ≡ true) (filter (tests x.1) (below (length c.machines))) (all_filter (λ m. nat_lt m (length c.machines) ≡ true) (tests x.1) (below (length c.machines)) (below_less (length c.machines)))
       (all_passed (λ m. tests x.1 m ≡ true) (tests x.1) (below (length c.machines)) (λ m t. t))))
 
-  candidates_are : AllByRecursion (IsCandidate c M) all_candidates
+  pub candidates_are : AllByRecursion (IsCandidate c M) all_candidates
   candidates_are = all_flat_of (λ n. Unit {0}) (IsCandidate c M) group (λ n _. all_flat_of (IsPlaced n 0) (IsCandidate c M) spots (spots_are n) (placed n 0 M.line) (placed_are n 0 M.line at_start)) falling_priorities (all_each (λ _. Unit {0}) (λ _. tt) falling_priorities)
 
   -- they stand in order

@@ -1,16 +1,19 @@
 -- A master serves once every machine is reported, or when it is told to begin.
-use Rattle.std.proofs.Common.{◌≡◌, ◌⊎◌, inl, inr, ℕ, Bool, true, false, cond, nat_eq, List, [], ◌∷◌, Ok, refl, sym, ◌∙◌, ap, subst, arith}
+use Rattle.std.proofs.Common.{◌≡◌, ◌⊎◌, inl, inr, ℕ, Bool, true, false, nat_eq, List, [], ◌∷◌, Ok, refl, sym, ◌∙◌, ap, subst}
 use Rattle.std.specs.Prelude.{◌&&◌, ◌||◌, length}
 use Rattle.std.specs.List.{list_all}
+use Rattle.std.specs.Ordering.{nat_cmp}
+use Rattle.std.specs.FinMap.Entries.{put}
+use Rattle.fuxi_terms.specs.Jobs.{is_live}
 use Rattle.fuxi_terms.specs.Cluster.{ClusterRecord, has_machine}
 use Rattle.fuxi_terms.specs.Lists.{below}
 use Rattle.fuxi_terms.specs.Numbers.{has_number}
 use Rattle.fuxi_terms.proofs.Booleans.{both_true, either}
 use Rattle.fuxi_terms.proofs.Members.{In, in_below}
 use Rattle.written_net.specs.Net.{Id}
-use Rattle.written_net.specs.Ledgers.{Ledger}
-use Rattle.written_roles.specs.Masters.{Master}
-use Rattle.written_roles.specs.MasterSteps.{phased, ready, is_all_reported, take_demand, meet_app, told_of, MasterChange, Begins, Changed, change_of}
+use Rattle.written_net.specs.Ledgers.{Ledger, nothing}
+use Rattle.written_roles.specs.Masters.{Master, credited_of}
+use Rattle.written_roles.specs.MasterSteps.{ready, is_all_reported, credit, raise_credited, take_demand, meet_app, told_of, MasterChange, Begins, Changed, change_of}
 use Rattle.written_roles.specs.Transitions.{HasAllReports}
 use Rattle.written_roles.proofs.MapLemmas.{with_keeps}
 use Rattle.written_roles.proofs.TransitionsLemmas.{EachChange, changed_has, EachHeard, heard_has, ready_besides}
@@ -77,7 +80,10 @@ each_heard M fresh from l = record {
 }
   where
     demanded : (N : Master) → KeepsReports M N → KeepsReports M (take_demand N from.number l)
-    demanded N k = either (KeepsReports M) _ _ _ (λ _. record { phase = k.phase; reported = k.reported }) (λ _. record { phase = k.phase; reported = k.reported })
+    demanded N k = either (KeepsReports M) (nat_eq l.head N.epoch && is_live N.jobs from.number)
+        (record N { demands = put nat_cmp from.number l N.demands; table = credit from.number (credited_of N from.number) l.entries N.table; credited = put nat_cmp from.number (raise_credited (credited_of N from.number) l.entries) N.credited })
+        (record N { demands = put nat_cmp from.number nothing N.demands })
+        (λ _. record { phase = k.phase; reported = k.reported }) (λ _. record { phase = k.phase; reported = k.reported })
 
 pub hearing_serves : (c : ClusterRecord) (M : Master) (fresh taken : Bool) (from : Id) (l : Ledger) → M.serving ≡ false → (ready c (told_of M fresh taken from l)).serving ≡ true → HasAllReports c (ready c (told_of M fresh taken from l))
 hearing_serves c M fresh taken from l before behind = ready_serves c (told_of M fresh taken from l) ((heard_has M fresh taken from l (KeepsReports M) (each_heard M fresh from l)).phase ∙ before) behind

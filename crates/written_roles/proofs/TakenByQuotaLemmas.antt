@@ -8,11 +8,11 @@ use Rattle.fuxi_terms.specs.Jobs.{size_at, group_of, priority_of}
 use Rattle.fuxi_terms.specs.Keys.{Spot}
 use Rattle.fuxi_terms.specs.Tables.{total_at, usage_at}
 use Rattle.fuxi_terms.proofs.Alls.{all_append}
-use Rattle.fuxi_terms.proofs.Booleans.{both_true, either, either_case, number_is, nat_itself}
+use Rattle.fuxi_terms.proofs.Booleans.{both_true, either, either_case, number_is}
 use Rattle.fuxi_terms.proofs.Members.{each_place, in_each_is}
 use Rattle.written_roles.specs.Masters.{Master}
-use Rattle.written_roles.specs.Preemption.{walk, is_enough, is_spared, is_guaranteed, may_take, taken_of, without_one, Plan, first_plan, part_at, set_at_place}
-use Rattle.written_roles.specs.Losses.{KeepsQuota, KeepsQuotas}
+use Rattle.written_roles.specs.Preemption.{walk, is_enough, is_spared, is_guaranteed, may_take, taken_of, Plan, first_plan, part_at, set_at_place}
+use Rattle.written_roles.specs.Losses.{KeepsQuota}
 use Rattle.written_roles.specs.TakenByQuota.{HasQuotaLeft, IsTakenByQuota, AreTakenByQuota}
 use Rattle.written_roles.proofs.LossesLemmas.{all_fewer, needed_has, taken, plan_has}
 use Rattle.written_roles.proofs.LossesSpared.{plan_spared}

@@ -1,37 +1,33 @@
 -- The cases of a master's step, and what each leaves of the counts of its table.
-use Rattle.std.proofs.Common.{◌≡◌, ◌⊎◌, inl, inr, ℕ, zero, suc, ◌+◌, ◌-◌, ◌<◌, ◌≤◌, Bool, true, false, cond, not, nat_eq, nat_lt, List, [], ◌∷◌, ◌++◌, length, map, filter, Option, Some, None, Result, Ok, Err, slice_get, refl, sym, ◌∙◌, ap, subst, arith, min}
-use Rattle.std.specs.Prelude.{◌&&◌, ◌||◌, T}
+use Rattle.std.proofs.Common.{◌≡◌, ℕ, zero, suc, ◌+◌, ◌-◌, ◌≤◌, Bool, true, false, cond, not, nat_eq, List, [], ◌∷◌, Option, Some, None, Result, Ok, Err, refl, sym, ◌∙◌, ap, subst, arith, min}
+use Rattle.std.specs.Prelude.{T}
 use Rattle.std.specs.Option.{unwrap_or}
-use Rattle.std.specs.List.{AllByRecursion, sum_by}
-use Rattle.std.specs.Ordering.{eq_by_cmp, is_eq}
-use Rattle.std.specs.Cmp.{tied_itself}
+use Rattle.std.specs.List.{AllByRecursion}
+use Rattle.std.specs.Ordering.{eq_by_cmp}
 use Rattle.std.specs.FinMap.Entries.{find, put, where_key, is_sorted, is_sorted-put, is_sorted-where_key, find-put}
 use Rattle.std.proofs.lemmas.Bool.Decides.{nat_tests}
-use Rattle.std.proofs.lemmas.List.Sums.{sum_by-cons}
 use Rattle.fuxi_terms.specs.declared.Key.{Key}
 use Rattle.fuxi_terms.specs.Cluster.{ClusterRecord, JobRecord}
 use Rattle.fuxi_terms.specs.Counts.{count, set_count}
-use Rattle.fuxi_terms.specs.Jobs.{KnownJob, is_live}
+use Rattle.fuxi_terms.specs.Jobs.{KnownJob}
 use Rattle.fuxi_terms.specs.Keys.{key_cmp, RowKey, Spot, spot_cmp}
 use Rattle.fuxi_terms.specs.Numbers.{has_number, with_number, without_number}
 use Rattle.fuxi_terms.specs.TallyKeys.{credited_key, is_back}
 use Rattle.fuxi_terms.specs.Tables.{spot, with_grant, without_grants}
 use Rattle.fuxi_terms.proofs.Alls.{all_mapped, all_more}
-use Rattle.fuxi_terms.proofs.Booleans.{both_true, either, not_false, number_is}
+use Rattle.fuxi_terms.proofs.Booleans.{either, not_false}
 use Rattle.fuxi_terms.proofs.Counting.{count_where, count-set_count, tied}
 use Rattle.fuxi_terms.proofs.KeyOrders.{spot_total, same_spot}
 use Rattle.written_net.specs.Net.{Id}
 use Rattle.written_net.specs.Ledgers.{Ledger}
 use Rattle.written_net.specs.Channels.{app_id, is_agent}
 use Rattle.written_roles.specs.HardState.{with_job}
-use Rattle.written_roles.specs.Losses.{often, one_if}
 use Rattle.written_roles.specs.Masters.{Master}
 use Rattle.written_roles.specs.MasterSteps.{phased, ready, is_kept, adopted, adopts, take_report, credit, take_demand, meet_app, told_of, ended_in, banned_in, MasterChange, Admits, Ends, Bans, Unbans, Begins, Preempts, Changed, changed_to, change_of}
-use Rattle.written_roles.specs.Placing.{first_placeable, granted, settle, settled, all_out, line_up, placeable}
+use Rattle.written_roles.specs.Placing.{first_placeable, granted, settle, settled, all_out, line_up}
 use Rattle.written_roles.specs.Preemption.{Plan, victims, tried, first_plan, plan_of, preempted}
 use Rattle.written_roles.specs.Refusals.{Refusal, AlreadyServing, NotServing, NothingToPreempt, first_refusal, with_found}
 use Rattle.written_roles.specs.ServedInOrder.{IsCandidate}
-use Rattle.written_roles.proofs.PlacingEnds.{is_placeable}
 use Rattle.written_roles.proofs.ServedInOrderLemmas.{all_candidates, candidates_are, candidates_spots}
 
 -- Changes: what holds of each that is made holds of every one that is not refused

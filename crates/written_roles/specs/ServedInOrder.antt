@@ -7,7 +7,7 @@ use Rattle.fuxi_terms.specs.Jobs.{KnownJob, priority_of, most_of}
 use Rattle.fuxi_terms.specs.Keys.{Spot, spot_cmp}
 use Rattle.fuxi_terms.specs.Numbers.{has_number}
 use Rattle.fuxi_terms.specs.TallyKeys.{avoid_key}
-use Rattle.fuxi_terms.specs.Tables.{spot, held_on}
+use Rattle.fuxi_terms.specs.Tables.{held_on}
 use Rattle.written_roles.specs.Losses.{often}
 use Rattle.written_roles.specs.Masters.{Master, asked}
 use Rattle.written_roles.specs.Preemption.{tried, walk}
