@@ -58,14 +58,15 @@ ready_bare c M h = let N = line_up (phased c M) in let k : IsBare N = record { b
 pub new_bare : (h : HardState) (e : ℕ) → IsBare (new_master h e)
 new_bare h e = record { bare = λ a u m b. refl }
 
-abbrev ChangedBare : MasterChange → Master → Type 0
+abbrev pub ChangedBare : MasterChange → Master → Type 0
 ChangedBare x N = IsBare N
 
 left_bare : (b : Bool) (n : ℕ) → n ≡ 0 → cond b n 0 ≡ 0
 left_bare true n e = e
 left_bare false n e = refl
 
-each_change : (c : ClusterRecord) (M : Master) → IsBare M → EachChange c M ChangedBare
+-- each change
+pub each_change : (c : ClusterRecord) (M : Master) → IsBare M → EachChange c M ChangedBare
 each_change c M h = record {
   admits = λ j. record { bare = h.bare };
   ends = λ a. record { bare = λ b u m k. count_left (λ s. not (nat_eq s.job a)) M.table (spot b u m) ∙ left_bare (not (nat_eq b a)) _ (h.bare b u m k) };

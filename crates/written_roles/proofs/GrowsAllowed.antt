@@ -117,7 +117,7 @@ module _ (groups : ℕ → ℕ) (sizes : ℕ → ℕ → ℕ → ℕ) (p i : ℕ
   usage_without ss table k few = sum_without (λ s n. cond (nat_eq (groups s.job) p) (n * sizes s.job s.unit i) 0) (λ s. cond (nat_eq (groups s.job) p) (sizes s.job s.unit i) 0) none_used one_used ss table k few
 
 -- what is wanted is of a live job and of a unit that it has
-abbrev Wanted : Master → Type 0
+abbrev pub Wanted : Master → Type 0
 Wanted M = (a u : ℕ) → 0 < asked M a (want_key u) → (is_live M.jobs a ≡ true) × (u < unit_count M.jobs a)
 
 turned : (b : Bool) → not b ≡ true → b ≡ false
@@ -239,16 +239,16 @@ ready_grows c M N k wanted g =
     phased_allowed a u m h = record { serves = or_left N.serving _ h.serves; live = h.live; unit = h.unit; banned = h.banned; avoided = h.avoided; wanted = h.wanted; limit = h.limit }
 
 -- Changes and what is heard: where no count rises, all is allowed
-fewer_grow : (c : ClusterRecord) (M N : Master) → ((a u m : ℕ) → held_on N.table a u m ≤ held_on M.table a u m) → GrowsAsAllowed c M N
+pub fewer_grow : (c : ClusterRecord) (M N : Master) → ((a u m : ℕ) → held_on N.table a u m ≤ held_on M.table a u m) → GrowsAsAllowed c M N
 fewer_grow c M N h = record { reported = λ a u m r lt. absurd (let x = h a u m in omega (arith, x, lt)); adopted = λ a u m r lt. absurd (let x = h a u m in omega (arith, x, lt)) }
 
 -- a master before the end of its step
-record IsReadied (c : ClusterRecord) (M N : Master) : Type 0 where
-  sorted : IsSorted N.table
-  wanted : Wanted N
-  grows : GrowsAsAllowed c M N
+pub record IsReadied (c : ClusterRecord) (M N : Master) : Type 0 where
+  pub sorted : IsSorted N.table
+  pub wanted : Wanted N
+  pub grows : GrowsAsAllowed c M N
 
-abbrev ChangedGrows : ClusterRecord → Master → MasterChange → Master → Type 0
+abbrev pub ChangedGrows : ClusterRecord → Master → MasterChange → Master → Type 0
 ChangedGrows c M x N = IsReadied c M N
 
 -- a job more, and a job that ends, leave the others
@@ -290,7 +290,8 @@ no_wants jobs a u h = absurd (omega (arith, h))
 left_fewer : (p : Spot → Bool) (table : List (Spot × ℕ)) (q : Spot) → cond (p q) (count spot_cmp table q) 0 ≤ count spot_cmp table q
 left_fewer p table q = elim (p q) as (λ b. cond b (count spot_cmp table q) 0 ≤ count spot_cmp table q) [ true ↦ omega arith | false ↦ omega arith ]
 
-each_change : (c : ClusterRecord) (M : Master) → IsOrderly M → EachChange c M (ChangedGrows c M)
+-- each change
+pub each_change : (c : ClusterRecord) (M : Master) → IsOrderly M → EachChange c M (ChangedGrows c M)
 each_change c M h = record {
   admits = λ j. record { sorted = h.sorted; wanted = λ a u some. (let w = h.wanted a u some in (ap live_in (added_job M.jobs j a w.0) ∙ w.0, subst (λ (o : Option KnownJob). u < units_in o) (sym (added_job M.jobs j a w.0)) w.1)); grows = fewer_grow c M (record M { jobs = with_job j M.jobs }) (λ a u m. omega arith) };
   ends = λ a. record { sorted = is_sorted-where_key spot_cmp _ M.table h.sorted; wanted = λ b u some. ended a b u some (nat_eq b a) refl; grows = fewer_grow c M (ended_in M a) (λ b u m. (let x = count_left (λ s. not (nat_eq s.job a)) M.table (spot b u m) in let y = left_fewer (λ s. not (nat_eq s.job a)) M.table (spot b u m) in omega (arith, x, y))) };

@@ -21,7 +21,7 @@ use Rattle.written_net.specs.Net.{Id}
 use Rattle.written_net.specs.Ledgers.{Ledger, nothing}
 use Rattle.written_net.specs.Channels.{app_id, is_agent, is_app}
 use Rattle.written_roles.specs.Masters.{Master, credited_of}
-use Rattle.written_roles.specs.MasterSteps.{talks, said, ready, adopted, adopts, credit, raise_credited, take_demand, meet_app, told_of, MasterChange, Changed, change_of, Admits, Ends, Bans, Unbans, Begins, Preempts}
+use Rattle.written_roles.specs.MasterSteps.{counted, talks, said, ready, adopted, adopts, credit, raise_credited, take_demand, meet_app, told_of, MasterChange, Changed, change_of, Admits, Ends, Bans, Unbans, Begins, Preempts}
 use Rattle.written_roles.specs.Transitions.{IsOrderly, credited_at, LosesOnlyCredited, MayLose}
 use Rattle.written_roles.proofs.MapLemmas.{found_put}
 use Rattle.written_roles.proofs.RaisedCredits.{raised}
@@ -90,10 +90,11 @@ credit_loses a cs (e ∷ es) table u m k = by (eq_by_cmp key_cmp (back_key u m) 
     by false t rest = let x = one_beside a cs e table u m t in omega (arith, x, rest)
 
 -- Changes
-record KeepsCounts (M : Master) (x : MasterChange) (N : Master) : Type 0 where
-  keeps : (a u m : ℕ) → (MayLose x a u m → ⊥) → held_on M.table a u m ≤ held_on N.table a u m
+pub record KeepsCounts (M : Master) (x : MasterChange) (N : Master) : Type 0 where
+  pub keeps : (a u m : ℕ) → (MayLose x a u m → ⊥) → held_on M.table a u m ≤ held_on N.table a u m
 
-each_change : (c : ClusterRecord) (M : Master) → EachChange c M (KeepsCounts M)
+-- each change
+pub each_change : (c : ClusterRecord) (M : Master) → EachChange c M (KeepsCounts M)
 each_change c M = record {
   admits = λ j. record { keeps = λ a u m _. omega arith };
   ends = λ b. record { keeps = λ a u m never. left (λ s. not (nat_eq s.job b)) a u m (nat_eq a b) (λ e. never (sym (number_is a b e))) refl };
@@ -107,7 +108,8 @@ each_change c M = record {
     left p a u m true never e = absurd (never refl)
     left p a u m false never e = let x : count spot_cmp (where_key spot_cmp p M.table) (spot a u m) ≡ count spot_cmp M.table (spot a u m) = count_left p M.table (spot a u m) ∙ ap (λ b. cond b (count spot_cmp M.table (spot a u m)) 0) e in omega (arith, x)
 
-numbers : (x y : ℕ) → (x ≡ y) ⊎ (x ≡ y → ⊥)
+-- numbers are the same or not
+pub numbers : (x y : ℕ) → (x ≡ y) ⊎ (x ≡ y → ⊥)
 numbers x y = by (nat_eq x y) refl
   where
     by : (b : Bool) → nat_eq x y ≡ b → (x ≡ y) ⊎ (x ≡ y → ⊥)
@@ -172,12 +174,12 @@ demand_beside N n l a u m other = either (λ (X : Master). held_on N.table a u m
     (record N { demands = put nat_cmp n nothing N.demands })
     (λ _. let same = credit_beside n (credited_of N n) l.entries N.table (spot a u m) other in omega (arith, same)) (λ _. omega arith)
 
-each_heard : (c : ClusterRecord) (M : Master) (fresh : Bool) (from : Id) (l : Ledger) → IsOrderly M → T (is_sorted key_cmp l.entries) → talks c M from ≡ true → EachHeard M fresh from l (Loses fresh from M)
+each_heard : (c : ClusterRecord) (M : Master) (fresh : Bool) (from : Id) (l : Ledger) → IsOrderly M → (is_agent from ≡ false → T (is_sorted key_cmp l.entries)) → talks c M from ≡ true → EachHeard M fresh from l (Loses fresh from M)
 each_heard c M fresh from l h k t = record {
   same = λ agent. record { it = record { own = λ a u m _. omega arith; others = λ a u m _. omega arith } };
   reports = λ agent adopts. record { it = record { own = λ a u m _. (let x = reported a u m adopts (nat_eq m from.number) refl in omega (arith, x)); others = λ a u m _. reported a u m adopts (nat_eq m from.number) refl } };
   meets = λ _. record { it = record { own = λ a u m _. met a u m; others = λ a u m _. met_same a u m } };
-  demands = λ app. record { it = record { own = λ a u m is. demanded a u m is; others = λ a u m never. besides app a u m never } };
+  demands = λ app. record { it = record { own = λ a u m is. demanded app a u m is; others = λ a u m never. besides app a u m never } };
 }
   where
     N : Master
@@ -200,11 +202,11 @@ each_heard c M fresh from l h k t = record {
     reported a u m ad true e = let z : held_on M.table a u m ≡ 0 = h.reported a u m (ap (λ n. has_number n M.reported) (number_is m from.number e) ∙ unreported ad) in omega (arith, z)
     reported a u m ad false e = either (λ t. held_on M.table a u m ≤ held_on t a u m) (has_number from.number M.bans) M.table (adopted M.jobs from.number l.rows M.table) (λ _. omega arith) (λ _. let x = adopted_beside M.jobs from.number l.rows M.table (spot a u m) e in omega (arith, x))
 
-    demanded : (a u m : ℕ) → from ≡ app_id a → held_on M.table a u m ≤ held_on (take_demand N from.number l).table a u m + (credited_at (take_demand N from.number l) a u m - cond fresh 0 (credited_at M a u m))
-    demanded a u m is =
+    demanded : is_agent from ≡ false → (a u m : ℕ) → from ≡ app_id a → held_on M.table a u m ≤ held_on (take_demand N from.number l).table a u m + (credited_at (take_demand N from.number l) a u m - cond fresh 0 (credited_at M a u m))
+    demanded app a u m is =
         let n : from.number ≡ a = ap (λ (d : Id). d.number) is in
         subst (λ a. held_on M.table a u m ≤ held_on (take_demand N from.number l).table a u m + (credited_at (take_demand N from.number l) a u m - cond fresh 0 (credited_at M a u m))) n
-        (let d = demand_loses N from.number l k u m in let e = met_same from.number u m in let x = met_credited fresh M from.number u m in omega (arith, d, e, x))
+        (let d = demand_loses N from.number l (k app) u m in let e = met_same from.number u m in let x = met_credited fresh M from.number u m in omega (arith, d, e, x))
 
     besides : is_agent from ≡ false → (a u m : ℕ) → (from ≡ app_id a → ⊥) → held_on M.table a u m ≤ held_on (take_demand N from.number l).table a u m
     besides app a u m never =
@@ -223,10 +225,10 @@ each_heard c M fresh from l h k t = record {
             by true e = refl
             by false e = cc
 
-pub hearing_loses : (c : ClusterRecord) (M : Master) (fresh taken : Bool) (from : Id) (l : Ledger) → IsOrderly M → T (is_sorted key_cmp l.entries) → talks c M from ≡ true → LosesOnlyCredited fresh from M (ready c (told_of M fresh taken from (said c M from l)))
+pub hearing_loses : (c : ClusterRecord) (M : Master) (fresh taken : Bool) (from : Id) (l : Ledger) → IsOrderly M → (is_agent from ≡ false → T (is_sorted key_cmp l.entries)) → talks c M from ≡ true → LosesOnlyCredited fresh from M (ready c (told_of M fresh taken from (said c M from l)))
 hearing_loses c M fresh taken from l h k t =
     let heard = said c M from l in
-    let sorted : T (is_sorted key_cmp heard.entries) = either (λ (d : Ledger). T (is_sorted key_cmp d.entries)) (is_agent from) l _ (λ _. k) (λ _. is_sorted-where_key key_cmp _ l.entries k) in
+    let sorted : is_agent from ≡ false → T (is_sorted key_cmp heard.entries) = λ app. either (λ (d : Ledger). T (is_sorted key_cmp d.entries)) (is_agent from) l (counted c M.jobs from.number l) (λ _. k app) (λ _. is_sorted-where_key key_cmp _ l.entries (k app)) in
     let X = told_of M fresh taken from heard in
     let g = (heard_has M fresh taken from heard (Loses fresh from M) (each_heard c M fresh from heard h sorted t)).it in
     let s = ready_besides c X in

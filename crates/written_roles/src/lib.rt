@@ -9,6 +9,7 @@ ghost use Rattle.fuxi_terms.specs.Cluster.{ClusterRecord};
 ghost use Rattle.fuxi_terms.specs.Keys.{key_cmp, Spot, spot_cmp};
 ghost use Rattle.fuxi_terms.specs.Numbers.{has_number};
 ghost use Rattle.fuxi_terms.specs.Tables.{held_on};
+ghost use Rattle.written_net.specs.Channels.{is_agent};
 ghost use Rattle.written_net.specs.Ledgers.{Ledger};
 ghost use Rattle.written_net.specs.Net.{Id};
 ghost use Rattle.written_net.specs.Sides.{Side};
@@ -105,5 +106,5 @@ pub fn serves_when_told_of_all()
 /// credited more, from 0 for a new boot (`hearing`).
 pub fn loses_only_what_is_credited()
     ensures changes { (c : ClusterRecord) (M : Master) (x : MasterChange) (d : Changed) → change_of c M x ≡ Ok d → (a u m : ℕ) → held_on (ready c d.state).table a u m < held_on M.table a u m → MayLose x a u m }
-    ensures hearing { (c : ClusterRecord) (M : Master) (fresh taken : Bool) (from : Id) (l : Ledger) → IsOrderly M → T (is_sorted key_cmp l.entries) → talks c M from ≡ true → LosesOnlyCredited fresh from M (ready c (told_of M fresh taken from (said c M from l))) }
+    ensures hearing { (c : ClusterRecord) (M : Master) (fresh taken : Bool) (from : Id) (l : Ledger) → IsOrderly M → (is_agent from ≡ false → T (is_sorted key_cmp l.entries)) → talks c M from ≡ true → LosesOnlyCredited fresh from M (ready c (told_of M fresh taken from (said c M from l))) }
 {}

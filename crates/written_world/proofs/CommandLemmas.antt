@@ -1,5 +1,5 @@
 -- What holds of the refusal of a command and of the step that it makes, holds of the command.
-use Rattle.std.proofs.Common.{◌≡◌, ℕ, Bool, true, not, List, [], ◌∷◌, Option, Some, None, Result, Ok, Err, refl}
+use Rattle.std.proofs.Common.{◌≡◌, ℕ, Bool, true, false, not, List, [], ◌∷◌, Option, Some, None, Result, Ok, Err, refl}
 use Rattle.fuxi_terms.specs.Counts.{then_do}
 use Rattle.written_roles.specs.Refusals.{Refusal, first_refusal, unless_fault, with_found, AlreadyServing, NotServing, NoGroup, NoMachine, NothingToPreempt, job_tests}
 use Rattle.written_roles.specs.HardState.{HardState, HardEvent, hard_tests, hard_after, hard_step, finished, banned, unbanned, submit_tests, submitted, with_job, Finishing, Banning, Unbanning, Submission, finish_tests, ban_tests, unban_tests}

@@ -165,7 +165,7 @@ module _ (P : Event → World → Type 0) (Allowed : Event → Type 0) (w : Worl
   act_steps r (Preempt e) t = master_runs (Preempt e) e _ (λ M f. serving_makes_room_has (StepHolds (P (Preempt e))) w (λ r. record { it = k.same (Preempt e) }) M _ (λ p serves s. record { it = k.preempts e M p f serves s }))
   act_steps r (Want a u n) t = asks_steps a (Wants u n)
   act_steps r (Near a u m n) t = asks_steps a (WantsNear u m n)
-  act_steps r (Rack a u r n) t = asks_steps a (WantsInRack u r n)
+  act_steps r (Rack a u k n) t = asks_steps a (WantsInRack u k n)
   act_steps r (Avoid a u m on) t = asks_steps a (Avoids u m on)
   act_steps r (GiveBack a u m n) t = asks_steps a (GivesBack u m n)
   act_steps r (TurnMaster e) t = master_runs (TurnMaster e) e _ (λ M f. record { it = k.master_turns e M f })

@@ -27,3 +27,4 @@ pub mod ViewsLemmas
 pub mod SettledLemmas
 pub mod RowsShown
 pub mod SettledKept
+pub mod StartsLemmas

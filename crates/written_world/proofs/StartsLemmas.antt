@@ -47,19 +47,19 @@ record IsGone (e : ℕ) (h : HardState) (masters : List (ℕ × Master)) : Type 
   epochs : (k : ℕ) (M : Master) → find nat_cmp k masters ≡ Some M → M.epoch ≡ k
 
 apart : (a b : ℕ) → (a ≡ b → ⊥) → nat_eq a b ≡ false
-apart a b no = by (nat_eq a b) refl
+apart a b never = by (nat_eq a b) refl
   where
     by : (t : Bool) → nat_eq a b ≡ t → nat_eq a b ≡ false
-    by true t = absurd (no (number_is a b t))
+    by true t = absurd (never (number_is a b t))
     by false t = t
 
 -- a master of another epoch takes a step
 ends_gone : (c : ClusterRecord) (e : ℕ) (h h' : HardState) (masters : List (ℕ × Master)) (N : Master) → IsGone e h masters → (e ≡ N.epoch → ⊥) → e ≤ h'.fence → IsGone e h' (with_ready c N masters)
-ends_gone c e h h' masters N g no up =
+ends_gone c e h h' masters N g never up =
     let R = ready c N in
     record {
       below = up;
-      gone = put_beside R.epoch e R masters (subst (λ n. nat_eq e n ≡ false) (sym (ready_epoch c N)) (apart e N.epoch no)) ∙ g.gone;
+      gone = put_beside R.epoch e R masters (subst (λ n. nat_eq e n ≡ false) (sym (ready_epoch c N)) (apart e N.epoch never)) ∙ g.gone;
       epochs = λ k M found. by k M (put_found k R.epoch R M masters found);
     }
   where
@@ -130,8 +130,8 @@ masters_stay c before after e done =
     ∙ (run_keeps (gone_of e) (λ _. ⊤) (events_gone e) after s.world (unasked after) (stops_gone w e (always c before).masters done).it).it.gone
 
 -- Agents and applications. Boots rise: the last one is above a number, and so is the one that runs
-record IsAbove (n last : ℕ) (runs : Option ℕ) : Type 0 where
-  last : n < last
+record IsAbove (n top : ℕ) (runs : Option ℕ) : Type 0 where
+  last : n < top
   boot : (b : ℕ) → runs ≡ Some b → n < b
 
 abbrev agent_boot : World → ℕ → Option ℕ

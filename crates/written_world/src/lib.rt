@@ -19,6 +19,7 @@ ghost use Rattle.written_net.specs.Channels.{shape};
 ghost use Rattle.written_world.specs.Shown.{AllShown, AllCredited, AllGiveBacks};
 ghost use Rattle.written_world.specs.Credits.{AllCreditedOnce};
 ghost use Rattle.written_world.specs.Safe.{Safe};
+ghost use Rattle.written_world.specs.Starts.{StaysStopped, StartsWithNothing};
 ghost use Rattle.written_world.specs.Events.{Event, world_step};
 ghost use Rattle.written_world.specs.Lines.{IsInput, is_from_line};
 ghost use Rattle.written_world.specs.Runs.{run};
@@ -83,4 +84,15 @@ pub fn credited_is_given_back()
 pub fn give_backs_are_credited_once()
     ensures once { (c : ClusterRecord) (events : List Event) → AllCreditedOnce c events }
     ensures demands { (c : ClusterRecord) (events : List Event) → AllGiveBacks (run c events).net }
+{}
+
+/// A stopped master stays so: behind a stop that is not refused no master of its epoch ever runs. And behind a start
+/// that is not refused, what runs of that machine or job has a greater boot than what it replaced.
+pub fn a_stopped_master_stays_so()
+    ensures { (c : ClusterRecord) (before after : List Event) → StaysStopped c before after }
+{}
+
+/// Right behind its start an agent enforces nothing, and an application holds and carries nothing.
+pub fn starts_with_nothing()
+    ensures { (c : ClusterRecord) (events : List Event) → StartsWithNothing (run c events) }
 {}
