@@ -1,22 +1,19 @@
 -- What a master credited is what is given back at its place in each demand.
-use Rattle.std.proofs.Common.{◌≡◌, ℕ, ◌+◌, ◌≤◌, Bool, true, false, cond, not, nat_eq, nat_lt, List, [], ◌∷◌, length, Some, None, refl, sym, ◌∙◌, ap, subst, arith}
+use Rattle.std.proofs.Common.{◌≡◌, ℕ, ◌+◌, ◌≤◌, Bool, true, false, cond, not, nat_eq, nat_lt, List, [], length, Some, None, refl, sym, ◌∙◌, ap, subst, arith}
 use Rattle.std.specs.Prelude.{◌&&◌, ◌||◌, T}
 use Rattle.std.specs.Option.{unwrap_or}
-use Rattle.std.specs.Ordering.{nat_cmp, eq_by_cmp, is_eq}
-use Rattle.std.specs.Cmp.{nat_cmp_total, tied_itself}
-use Rattle.std.specs.FinMap.Entries.{below_all, find, put, where_key, is_sorted, is_sorted-where_key, find-put, find-where_key}
+use Rattle.std.specs.Ordering.{nat_cmp}
+use Rattle.std.specs.FinMap.Entries.{find, put, where_key, is_sorted, is_sorted-where_key, find-where_key}
 use Rattle.std.proofs.lemmas.Bool.Decides.{nat_tests}
-use Rattle.std.proofs.lemmas.Map.Lookups.{exact_unsigned}
 use Rattle.fuxi_terms.specs.declared.Key.{Key}
 use Rattle.fuxi_terms.specs.Cluster.{ClusterRecord, has_machine}
 use Rattle.fuxi_terms.specs.Keys.{key_cmp}
 use Rattle.fuxi_terms.specs.Counts.{count}
-use Rattle.fuxi_terms.proofs.Counting.{both_true as both, tied, below_none}
 use Rattle.written_net.specs.Net.{Net, Party, Id, Link, Packet, Kind, Ack, Delta, Full, Heard, last, met, place_moved, word_of, link_after, unmoved, hear, hear_peer, heard_of, comes, same_id, at_index, is_taken}
 use Rattle.fuxi_terms.specs.declared.answers.What.{What}
 use Rattle.fuxi_terms.specs.declared.answers.What.TheVariants.{Stranger, Stale, Ack as Acked, NotMine, Old, Gap, Taken, Ledger as SaysLedger, Exceeds as SaysExceeds}
 use Rattle.written_net.specs.Ledgers.{Ledger, nothing, at_key}
-use Rattle.fuxi_terms.specs.TallyKeys.{credited_key, back_key, is_back}
+use Rattle.fuxi_terms.specs.TallyKeys.{credited_key, back_key}
 use Rattle.written_net.specs.Channels.{master_id, agent_id, app_id, party, is_agent, is_app, view, content, shape, has_heads}
 use Rattle.fuxi_terms.specs.Jobs.{KnownJob, is_known, is_live, unit_count}
 use Rattle.written_roles.specs.Masters.{Master, credited_of}
@@ -25,7 +22,7 @@ use Rattle.written_world.specs.Parties.{received, told}
 use Rattle.written_net.specs.Sound.{Sound, PacketNames, NamesAt, LinkNames, Rising}
 use Rattle.written_world.specs.Good.{BacksRise, IsCredited, IsRanged, DemandsHold, KnowsMore}
 use Rattle.fuxi_terms.proofs.Booleans.{both_true, either, number_is, nat_itself, not_false}
-use Rattle.fuxi_terms.proofs.KeyOrders.{key_total, same_key}
+use Rattle.fuxi_terms.proofs.KeyOrders.{same_key}
 use Rattle.written_net.proofs.NetLemmas.{id_is}
 use Rattle.written_net.proofs.BoundedLemmas.{met_known}
 use Rattle.written_net.proofs.SoundLemmas.{taken_names, met_names}

@@ -57,7 +57,7 @@ pub record WorldKept (P : World → Type 0) (Allowed : Event → Type 0) (w : Wo
   pub bans : (e : ℕ) (M : Master) (m : ℕ) → find nat_cmp e w.masters ≡ Some M → first_refusal (ban_tests w.hard M.epoch m) ≡ None → P (end_step (record w { hard = banned w.hard m }) w.net (banned_in M m) [])
   pub unbans : (e : ℕ) (M : Master) (m : ℕ) → find nat_cmp e w.masters ≡ Some M → first_refusal (unban_tests w.hard M.epoch m) ≡ None → P (end_step (record w { hard = unbanned w.hard m }) w.net (record M { bans = without_number m M.bans }) [])
   pub begins : (e : ℕ) (M : Master) → find nat_cmp e w.masters ≡ Some M → P (end_step w w.net (record M { serving = true }) [])
-  pub preempts : (e : ℕ) (M : Master) (p : Plan) → find nat_cmp e w.masters ≡ Some M → plan_of w.cluster M ≡ Some p → P (end_step w w.net (preempted M p) [])
+  pub preempts : (e : ℕ) (M : Master) (p : Plan) → find nat_cmp e w.masters ≡ Some M → M.serving ≡ true → plan_of w.cluster M ≡ Some p → P (end_step w w.net (preempted M p) [])
   pub asks : (a : ℕ) (g : App) (x : AppCommand) → find nat_cmp a w.apps ≡ Some g → first_refusal (command_tests w.cluster g.units (usable_now w a g) (given_back w a g) x) ≡ None → P (demanded w a g (command_key x) (command_number (given_back w a g) x)).world
   pub master_turns : (e : ℕ) (M : Master) → find nat_cmp e w.masters ≡ Some M → P (turned w (master_party M) (peers w.cluster M)).world
   pub agent_turns : (m : ℕ) (g : Agent) → find nat_cmp m w.agents ≡ Some g → P (turned w (party (agent_id m) g.boot) (master_id ∷ [])).world
@@ -195,7 +195,7 @@ module _ (P : World → Type 0) (Allowed : Event → Type 0) (kept : (w : World)
     bans = h.bans;
     unbans = h.unbans;
     begins = h.begins;
-    preempts = λ e M p f _ s. h.preempts e M p f s;
+    preempts = h.preempts;
     asks = h.asks;
     master_turns = h.master_turns;
     agent_turns = h.agent_turns;
@@ -236,7 +236,7 @@ pub record KeptBy (P : ClusterRecord → HardState → List (ℕ × Master) → 
   pub bans : (e : ℕ) (M : Master) (m : ℕ) → find nat_cmp e masters ≡ Some M → first_refusal (ban_tests h M.epoch m) ≡ None → P c (banned h m) (with_ready c (banned_in M m) masters)
   pub unbans : (e : ℕ) (M : Master) (m : ℕ) → find nat_cmp e masters ≡ Some M → first_refusal (unban_tests h M.epoch m) ≡ None → P c (unbanned h m) (with_ready c (record M { bans = without_number m M.bans }) masters)
   pub begins : (e : ℕ) (M : Master) → find nat_cmp e masters ≡ Some M → P c h (with_ready c (record M { serving = true }) masters)
-  pub preempts : (e : ℕ) (M : Master) (p : Plan) → find nat_cmp e masters ≡ Some M → plan_of c M ≡ Some p → P c h (with_ready c (preempted M p) masters)
+  pub preempts : (e : ℕ) (M : Master) (p : Plan) → find nat_cmp e masters ≡ Some M → M.serving ≡ true → plan_of c M ≡ Some p → P c h (with_ready c (preempted M p) masters)
   pub hears : (e : ℕ) (M : Master) (net : Net Ledger) (x : Packet) → find nat_cmp e masters ≡ Some M → talks c M x.from.id ≡ true
       → P c h (with_ready c (told M (heard_of net (master_party M) (talks c M) x) x.from.id (received c M net x)) masters)
 

@@ -28,3 +28,4 @@ pub mod SettledLemmas
 pub mod RowsShown
 pub mod SettledKept
 pub mod StartsLemmas
+pub mod StepsLemmas

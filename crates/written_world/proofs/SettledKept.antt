@@ -14,7 +14,7 @@ use Rattle.written_net.specs.Ledgers.{Ledger, nothing, at_key}
 use Rattle.fuxi_terms.specs.TallyKeys.{want_key}
 use Rattle.written_net.specs.Channels.{is_agent, is_app, content}
 use Rattle.fuxi_terms.specs.Jobs.{KnownJob, job_of, is_known, is_live, unit_count, eight_places}
-use Rattle.fuxi_terms.specs.Numbers.{has_number, with_number, without_number}
+use Rattle.fuxi_terms.specs.Numbers.{without_number}
 use Rattle.written_roles.specs.Masters.{Master}
 use Rattle.written_roles.specs.Placing.{placeable}
 use Rattle.written_roles.specs.HardState.{with_job, with_ended, raised, HardState}
@@ -180,7 +180,7 @@ masters_rest c h masters b = record {
   bans = λ e M m f _. end_rests c masters (banned_in M m) b (same_ranged c M (banned_in M m) refl refl refl (ranged e M f));
   unbans = λ e M m f _. end_rests c masters (record M { bans = without_number m M.bans }) b (same_ranged c M (record M { bans = without_number m M.bans }) refl refl refl (ranged e M f));
   begins = λ e M f. end_rests c masters (record M { serving = true }) b (same_ranged c M (record M { serving = true }) refl refl refl (ranged e M f));
-  preempts = λ e M p f _. end_rests c masters (preempted M p) b (same_ranged c M (preempted M p) refl refl refl (ranged e M f));
+  preempts = λ e M p f _ _. end_rests c masters (preempted M p) b (same_ranged c M (preempted M p) refl refl refl (ranged e M f));
   hears = λ e M net x f t. let k = heard_of net (master_party M) (talks c M) x in end_rests c masters (told M k x.from.id (received c M net x)) b (told_ranged c net M k x t (ranged e M f));
 }
   where

@@ -1,5 +1,5 @@
 -- What stopped stays so, and what starts has nothing.
-use Rattle.std.proofs.Common.{◌≡◌, ◌⊎◌, inl, inr, ℕ, zero, suc, ◌+◌, ◌<◌, ◌≤◌, Bool, true, false, cond, not, nat_eq, nat_lt, List, [], ◌∷◌, ◌++◌, length, Option, Some, None, refl, sym, ◌∙◌, ap, subst, arith}
+use Rattle.std.proofs.Common.{◌≡◌, ◌⊎◌, inl, inr, ℕ, ◌<◌, ◌≤◌, Bool, true, false, cond, not, nat_eq, nat_lt, List, [], ◌∷◌, ◌++◌, length, Option, Some, None, refl, sym, ◌∙◌, ap, subst, arith}
 use Rattle.std.specs.Prelude.{⊤, ◌&&◌}
 use Rattle.std.specs.Option.{option_map}
 use Rattle.std.specs.Ordering.{nat_cmp, eq_by_cmp, is_eq}
@@ -9,15 +9,15 @@ use Rattle.std.proofs.lemmas.Bool.Decides.{nat_tests}
 use Rattle.std.proofs.lemmas.Map.Lookups.{exact_unsigned}
 use Rattle.fuxi_terms.specs.Cluster.{ClusterRecord, has_machine}
 use Rattle.fuxi_terms.specs.Jobs.{is_known, has_ended, eight_places, unit_count}
-use Rattle.fuxi_terms.specs.Keys.{RowKey}
+use Rattle.fuxi_terms.specs.Lists.{below}
 use Rattle.fuxi_terms.specs.Limits.{most_masters}
 use Rattle.fuxi_terms.specs.Numbers.{without_number}
-use Rattle.fuxi_terms.proofs.Booleans.{both_true, and_true, nat_itself, number_is}
-use Rattle.written_net.specs.Net.{Net, Party, Id, Link, unknown, same_id, same_party, move, Starts, heard_of, at_index}
+use Rattle.fuxi_terms.proofs.Booleans.{and_true, nat_itself, number_is}
+use Rattle.written_net.specs.Net.{Net, Party, Id, Link, unknown, same_id, move, Starts, heard_of, at_index}
 use Rattle.written_net.specs.Ledgers.{Ledger, nothing}
-use Rattle.written_net.specs.Channels.{master_id, agent_id, app_id, party, view, present}
+use Rattle.written_net.specs.Channels.{master_id, agent_id, app_id, party, is_master, view, present}
 use Rattle.written_net.proofs.NetLemmas.{id_is}
-use Rattle.written_roles.specs.Apps.{held_of, names}
+use Rattle.written_roles.specs.Apps.{Carried, held_of}
 use Rattle.written_roles.specs.Masters.{Master}
 use Rattle.written_roles.specs.HardState.{HardState, raised, submitted, finished, banned, unbanned, with_job}
 use Rattle.written_roles.specs.MasterSteps.{master_party, talks, ready, ended_in, banned_in, new_master}
@@ -25,13 +25,13 @@ use Rattle.written_roles.specs.Preemption.{preempted}
 use Rattle.written_roles.specs.Refusals.{Refusal, NotRising, TooManyMasters, NotRunning, NoMachine, NoJob, Ended, first_refusal, with_found}
 use Rattle.written_roles.proofs.MapLemmas.{put_beside}
 use Rattle.written_world.specs.World.{World, Agent, App, Step, empty_world, prints_nothing, refused, set_boot}
-use Rattle.written_world.specs.Parties.{told, received, agent_table, app_held}
+use Rattle.written_world.specs.Parties.{told, received, agent_table, app_held, carry}
 use Rattle.written_world.specs.Events.{Event, StopMaster, StartAgent, StartApp, counted_in, agent_started, app_started, world_step}
 use Rattle.written_world.specs.Good.{IsShowing}
 use Rattle.written_world.specs.Runs.{run, run_from}
 use Rattle.written_world.specs.Starts.{StaysStopped, IsNewAgent, IsNewApp, StartsWithNothing}
 use Rattle.written_world.specs.Steps.{IsDone}
-use Rattle.written_world.proofs.EventsWalk.{KeptBy, WorldKept, with_ready, of_parts, run_keeps, run_keeps_world, unasked}
+use Rattle.written_world.proofs.EventsWalk.{KeptBy, WorldKept, with_ready, run_keeps, run_keeps_world, unasked}
 use Rattle.written_world.proofs.Invariant.{put_found, ready_epoch}
 use Rattle.written_world.proofs.InvariantKept.{always, not_refused, rising, told_same}
 
@@ -72,11 +72,11 @@ acts_gone c e h h' masters k M N g found same fence = ends_gone c e h h' masters
     (λ is. let here : find nat_cmp e masters ≡ Some M = ap (λ n. find nat_cmp n masters) (is ∙ same ∙ g.epochs k M found) ∙ found in let none = g.gone in absurd (let f : ⊥ = cc in f))
     (let b = g.below in omega (arith, b, fence))
 
-kept_found : (b : Bool) (o : Option Master) (M : Master) → cond b o None ≡ Some M → o ≡ Some M
+pub kept_found : (b : Bool) (o : Option Master) (M : Master) → cond b o None ≡ Some M → o ≡ Some M
 kept_found true o M f = f
 kept_found false o M f = cc
 
-left_out : (e q : ℕ) (masters : List (ℕ × Master)) → find nat_cmp q (where_key nat_cmp (λ k. not (nat_eq k e)) masters) ≡ cond (not (nat_eq q e)) (find nat_cmp q masters) None
+pub left_out : (e q : ℕ) (masters : List (ℕ × Master)) → find nat_cmp q (where_key nat_cmp (λ k. not (nat_eq k e)) masters) ≡ cond (not (nat_eq q e)) (find nat_cmp q masters) None
 left_out e q masters = find-where_key nat_cmp (λ k. not (nat_eq k e)) q (λ x t. ap (λ k. not (nat_eq k e)) (sym (exact_unsigned q x t))) masters
 
 stopped_epochs : (e : ℕ) (masters : List (ℕ × Master)) → ((k : ℕ) (M : Master) → find nat_cmp k masters ≡ Some M → M.epoch ≡ k) → (k : ℕ) (M : Master) → find nat_cmp k (where_key nat_cmp (λ k. not (nat_eq k e)) masters) ≡ Some M → M.epoch ≡ k
@@ -97,7 +97,7 @@ events_gone e c h masters g = record {
   bans = λ k M m f _. acts_gone c e h (banned h m) masters k M (banned_in M m) g f refl refl;
   unbans = λ k M m f _. acts_gone c e h (unbanned h m) masters k M (record M { bans = without_number m M.bans }) g f refl refl;
   begins = λ k M f. acts_gone c e h h masters k M (record M { serving = true }) g f refl refl;
-  preempts = λ k M p f _. acts_gone c e h h masters k M (preempted M p) g f refl refl;
+  preempts = λ k M p f _ _. acts_gone c e h h masters k M (preempted M p) g f refl refl;
   hears = λ k M net x f _. let d = heard_of net (master_party M) (talks c M) x in let l = received c M net x in acts_gone c e h h masters k M (told M d x.from.id l) g f (told_same M d x.from.id l).epoch refl;
 }
   where
@@ -171,7 +171,7 @@ agents_above n m w g = record {
   bans = λ _ _ _ _ _. g;
   unbans = λ _ _ _ _ _. g;
   begins = λ _ _ _. g;
-  preempts = λ _ _ _ _ _. g;
+  preempts = λ _ _ _ _ _ _. g;
   asks = λ _ _ _ _ _. g;
   master_turns = λ _ _ _. g;
   agent_turns = λ _ _ _. g;
@@ -214,7 +214,7 @@ apps_above n a w g = record {
   bans = λ _ _ _ _ _. g;
   unbans = λ _ _ _ _ _. g;
   begins = λ _ _ _. g;
-  preempts = λ _ _ _ _ _. g;
+  preempts = λ _ _ _ _ _ _. g;
   asks = λ _ _ _ _ _. g;
   master_turns = λ _ _ _. g;
   agent_turns = λ _ _ _. g;
@@ -224,7 +224,7 @@ apps_above n a w g = record {
   app_resyncs = λ _ _ _. g;
   hears = λ _ _ _ _ _ _ _ _. g;
   agent_hears = λ _ _ _ _ _ _. g;
-  app_hears = λ k h _ _ f _. record { last = g.last; boot = λ d e. again k h _ f d e };
+  app_hears = λ k h _ x f _. let p = party (app_id k) h.boot in record { last = g.last; boot = λ d e. again k h (cond (heard_of w.net p is_master x).fresh (carry w.net p h.units (below (length w.cluster.machines)) h.carried) h.carried) f d e };
 }
   where
     newer : (k b : ℕ) → same_id (app_id k) (app_id a) ≡ true → w.boots (app_id k) < b → n < b
@@ -240,12 +240,12 @@ apps_above n a w g = record {
             other : nat_eq k a ≡ false → nat_eq a k ≡ false
             other t = grind (arith, nat_tests, t)
 
-    again : (k : ℕ) (h h' : App) → find nat_cmp k w.apps ≡ Some h → (d : ℕ) → option_map (λ (g : App). g.boot) (find nat_cmp a (put nat_cmp k (record h' { boot = h.boot }) w.apps)) ≡ Some d → n < d
-    again k h h' f d e = by (nat_eq k a) refl
+    again : (k : ℕ) (h : App) (carried : List (ℕ × Carried)) → find nat_cmp k w.apps ≡ Some h → (d : ℕ) → option_map (λ (g : App). g.boot) (find nat_cmp a (put nat_cmp k (record h { carried = carried }) w.apps)) ≡ Some d → n < d
+    again k h carried f d e = by (nat_eq k a) refl
       where
         by : (t : Bool) → nat_eq k a ≡ t → n < d
-        by true t = boot_put (λ (g : App). g.boot) n k a (record h' { boot = h.boot }) w.apps (g.boot h.boot (ap (λ x. option_map (λ (g : App). g.boot) (find nat_cmp x w.apps)) (sym (number_is k a t)) ∙ ap (option_map (λ (g : App). g.boot)) f)) g.boot d e
-        by false t = g.boot d (ap (option_map (λ (g : App). g.boot)) (sym (put_beside k a (record h' { boot = h.boot }) w.apps (other t))) ∙ e)
+        by true t = boot_put (λ (g : App). g.boot) n k a (record h { carried = carried }) w.apps (g.boot h.boot (ap (λ x. option_map (λ (g : App). g.boot) (find nat_cmp x w.apps)) (sym (number_is k a t)) ∙ ap (option_map (λ (g : App). g.boot)) f)) g.boot d e
+        by false t = g.boot d (ap (option_map (λ (g : App). g.boot)) (sym (put_beside k a (record h { carried = carried }) w.apps (other t))) ∙ e)
           where
             other : nat_eq k a ≡ false → nat_eq a k ≡ false
             other t = grind (arith, nat_tests, t)

@@ -1,6 +1,6 @@
 -- A master's grants on each machine are within what the machine has, whatever the master does.
 use Rattle.std.proofs.Common.{◌≡◌, ℕ, zero, suc, ◌+◌, ◌-◌, ◌*◌, ◌<◌, ◌≤◌, Bool, true, false, cond, not, nat_eq, nat_lt, List, [], ◌∷◌, length, map, filter, Some, None, refl, sym, ◌∙◌, ap, subst, arith, min}
-use Rattle.std.specs.Prelude.{◌&&◌, ◌||◌, T}
+use Rattle.std.specs.Prelude.{◌&&◌, T}
 use Rattle.std.specs.List.{AllByRecursion, flat_map}
 use Rattle.std.specs.Ordering.{eq_by_cmp, is_eq}
 use Rattle.std.specs.Cmp.{tied_itself}
@@ -31,7 +31,7 @@ use Rattle.written_roles.specs.Settling.{IsWithin}
 use Rattle.fuxi_terms.proofs.Alls.{all_append}
 use Rattle.fuxi_terms.proofs.Members.{in_each_is}
 use Rattle.written_roles.proofs.PlacingFits.{settled_fits}
-use Rattle.fuxi_terms.proofs.Booleans.{both_true, either, number_is, nat_itself}
+use Rattle.fuxi_terms.proofs.Booleans.{both_true, either, number_is}
 use Rattle.fuxi_terms.proofs.KeyOrders.{spot_total, same_spot}
 use Rattle.written_roles.proofs.PlacingEnds.{is_placeable}
 use Rattle.fuxi_terms.proofs.Spots.{Each, each_put, each_where, each_found, each_set}

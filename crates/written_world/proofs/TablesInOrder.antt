@@ -1,9 +1,9 @@
 -- A master's table is in order and has grants of jobs that have not ended alone, whatever the master does.
-use Rattle.std.proofs.Common.{◌≡◌, ℕ, zero, suc, ◌-◌, ◌<◌, Bool, true, false, cond, not, nat_eq, nat_lt, List, [], ◌∷◌, length, map, filter, Option, Some, None, refl, sym, ◌∙◌, ap, subst, arith, min}
+use Rattle.std.proofs.Common.{◌≡◌, ℕ, zero, suc, ◌-◌, ◌<◌, Bool, true, false, cond, not, nat_eq, nat_lt, List, [], ◌∷◌, length, map, filter, Some, None, refl, sym, ◌∙◌, ap, subst, arith, min}
 use Rattle.std.specs.Prelude.{◌&&◌, ◌||◌, T}
 use Rattle.std.specs.Option.{option_map, unwrap_or}
 use Rattle.std.specs.List.{AllByRecursion, flat_map}
-use Rattle.std.specs.Ordering.{nat_cmp, eq_by_cmp}
+use Rattle.std.specs.Ordering.{nat_cmp}
 use Rattle.std.specs.FinMap.Entries.{find, put, where_key, is_sorted, is_sorted-put, is_sorted-where_key, find-put}
 use Rattle.std.proofs.lemmas.Bool.Decides.{nat_tests}
 use Rattle.fuxi_terms.specs.declared.Key.{Key}
@@ -20,7 +20,7 @@ use Rattle.fuxi_terms.specs.Numbers.{has_number}
 use Rattle.written_roles.specs.Masters.{Master, asked, out, credited_of}
 use Rattle.fuxi_terms.specs.Tables.{spot, without_grants}
 use Rattle.written_roles.specs.Placing.{first_placeable, granted, settle, settled, all_out, waiting_pairs, has_pair, line_up, accepts, is_allowed, has_room, may_grow, placeable}
-use Rattle.written_roles.specs.Preemption.{Plan, victims, falling_priorities, by_priority, tried, first_plan, plan_of, preempted}
+use Rattle.written_roles.specs.Preemption.{Plan, falling_priorities, by_priority, tried, plan_of, preempted}
 use Rattle.written_roles.specs.HardState.{with_job, with_ended}
 use Rattle.written_roles.specs.MasterSteps.{phased, ready, is_kept, adopted, adopts, take_report, credit, raise_credited, take_demand, meet_app, ended_in, banned_in}
 use Rattle.written_world.specs.Parties.{told}

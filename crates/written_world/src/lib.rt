@@ -20,6 +20,7 @@ ghost use Rattle.written_world.specs.Shown.{AllShown, AllCredited, AllGiveBacks}
 ghost use Rattle.written_world.specs.Credits.{AllCreditedOnce};
 ghost use Rattle.written_world.specs.Safe.{Safe};
 ghost use Rattle.written_world.specs.Starts.{StaysStopped, StartsWithNothing};
+ghost use Rattle.written_world.specs.Steps.{AllGrow, AllBare, AllLose};
 ghost use Rattle.written_world.specs.Events.{Event, world_step};
 ghost use Rattle.written_world.specs.Lines.{IsInput, is_from_line};
 ghost use Rattle.written_world.specs.Runs.{run};
@@ -95,4 +96,24 @@ pub fn a_stopped_master_stays_so()
 /// Right behind its start an agent enforces nothing, and an application holds and carries nothing.
 pub fn starts_with_nothing()
     ensures { (c : ClusterRecord) (events : List Event) → StartsWithNothing (run c events) }
+{}
+
+/// By one event a count of a unit on a machine that its master has as reported rises only where then the master
+/// serves, the job is live and has the unit, the machine is neither banned nor avoided, what the unit holds is at most
+/// what it wants, and the group's usage is within its limit in every resource. On another machine a count rises only
+/// where its report is adopted.
+pub fn every_run_grows_as_allowed()
+    ensures { (c : ClusterRecord) (events : List Event) → AllGrow (run c events) }
+{}
+
+/// No running master has a grant on a machine that it has banned, and a ban that is not refused is then among its bans
+/// and those of the hard state.
+pub fn every_run_keeps_banned_machines_bare()
+    ensures { (c : ClusterRecord) (events : List Event) → AllBare (run c events) }
+{}
+
+/// By a demand of a job that is delivered, its counts fall at most by what is credited more, from 0 for a new boot. By
+/// other events a count falls only at the ban of its machine, at the end of its job, and by a preemption.
+pub fn every_run_loses_only_what_is_credited()
+    ensures { (c : ClusterRecord) (events : List Event) → AllLose (run c events) }
 {}
