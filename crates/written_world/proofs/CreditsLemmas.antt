@@ -67,7 +67,7 @@ taken_places Delta own l x e = either (λ (w : What). w ≡ Taken → (1 ≤ x.s
     (λ _ e. either (λ (w : What). w ≡ Taken → (1 ≤ x.seq) × (l.seq ≤ x.seq)) (nat_lt l.seq x.seq) Gap Old (λ _ e. cc) (λ _ e. cc) e) e) e
 
 -- a link whose place did not move
-stayed : (own top : ℕ) (x : Packet) (w : What) (m : Link) → is_taken w ≡ false → ((link_after w own top m x).known ≡ m.known) × ((link_after w own top m x).seq ≡ m.seq)
+pub stayed : (own top : ℕ) (x : Packet) (w : What) (m : Link) → is_taken w ≡ false → ((link_after w own top m x).known ≡ m.known) × ((link_after w own top m x).seq ≡ m.seq)
 stayed own top x Taken m e = cc
 stayed own top x Acked m e = either (λ (k : Link). (k.known ≡ m.known) × (k.seq ≡ m.seq)) (nat_eq x.inc own && (nat_lt m.acked x.seq && not (nat_lt top x.seq))) (record { known = m.known; seq = m.seq; acked = x.seq }) m (λ _. (refl, refl)) (λ _. (refl, refl))
 stayed own top x Stranger m e = (refl, refl)

@@ -29,3 +29,5 @@ pub mod RowsShown
 pub mod SettledKept
 pub mod StartsLemmas
 pub mod StepsLemmas
+pub mod ServesLemmas
+pub mod KeepsGrantsLemmas

@@ -50,7 +50,7 @@ pub record WasBegun (c : ClusterRecord) (events : List Event) (e : ℕ) : Type 0
 
 -- Serves when told of all: a serving master has adopted a report of every machine of the cluster, or was told to begin
 abbrev pub AllServe : ClusterRecord → List Event → Type 0
-AllServe c events = (e : ℕ) (M : Master) → find nat_cmp e (run c events).masters ≡ Some M → M.serving ≡ true → HasAllReports c M ⊎ WasBegun c events e
+AllServe c events = (e : ℕ) (M : Master) → find nat_cmp e (run c events).masters ≡ Some M → M.serving ≡ true → HasAllReports (run c events).cluster M ⊎ WasBegun c events e
 
 -- a demand that is delivered, by which a count of its job falls at most by what is credited more, from 0 for a new boot
 pub record IsCreditedLoss (w : World) (k : ℕ) (M N : Master) (a u m : ℕ) : Type 0 where

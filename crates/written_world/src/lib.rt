@@ -20,7 +20,7 @@ ghost use Rattle.written_world.specs.Shown.{AllShown, AllCredited, AllGiveBacks}
 ghost use Rattle.written_world.specs.Credits.{AllCreditedOnce};
 ghost use Rattle.written_world.specs.Safe.{Safe};
 ghost use Rattle.written_world.specs.Starts.{StaysStopped, StartsWithNothing};
-ghost use Rattle.written_world.specs.Steps.{AllGrow, AllBare, AllLose};
+ghost use Rattle.written_world.specs.Steps.{AllGrow, AllBare, AllServe, AllLose};
 ghost use Rattle.written_world.specs.Events.{Event, world_step};
 ghost use Rattle.written_world.specs.Lines.{IsInput, is_from_line};
 ghost use Rattle.written_world.specs.Runs.{run};
@@ -116,4 +116,9 @@ pub fn every_run_keeps_banned_machines_bare()
 /// other events a count falls only at the ban of its machine, at the end of its job, and by a preemption.
 pub fn every_run_loses_only_what_is_credited()
     ensures { (c : ClusterRecord) (events : List Event) → AllLose (run c events) }
+{}
+
+/// A serving master has adopted a report of every machine of the cluster, or was told to begin while it ran.
+pub fn every_master_serves_when_told_of_all()
+    ensures { (c : ClusterRecord) (events : List Event) → AllServe c events }
 {}
