@@ -1,9 +1,9 @@
 -- An agent reports the table that it had, and keeps it until it takes a row.
-use Rattle.std.proofs.Common.{◌≡◌, ◌⊎◌, inl, inr, ℕ, zero, suc, ◌+◌, ◌-◌, ◌<◌, ◌≤◌, Bool, true, false, cond, not, nat_eq, nat_lt, List, [], ◌∷◌, length, Option, Some, None, slice_get, refl, sym, ◌∙◌, ap, subst, arith}
+use Rattle.std.proofs.Common.{◌≡◌, ◌⊎◌, inl, inr, ℕ, zero, suc, ◌+◌, ◌-◌, ◌<◌, ◌≤◌, Bool, true, false, cond, not, nat_eq, nat_lt, List, [], ◌∷◌, ◌++◌, length, map, Option, Some, None, slice_get, refl, sym, ◌∙◌, ap, subst, arith}
 use Rattle.std.specs.Prelude.{⊤, ◌&&◌}
 use Rattle.std.specs.Option.{unwrap_or}
 use Rattle.std.specs.Ordering.{nat_cmp}
-use Rattle.std.specs.FinMap.Entries.{find, put}
+use Rattle.std.specs.FinMap.Entries.{find, put, where_key}
 use Rattle.std.proofs.lemmas.Bool.Decides.{nat_tests}
 use Rattle.fuxi_terms.specs.declared.answers.What.{What}
 use Rattle.fuxi_terms.specs.declared.answers.What.TheVariants.{Stranger, Stale}
@@ -18,20 +18,26 @@ use Rattle.written_net.proofs.NetLemmas.{id_is, party_is}
 use Rattle.written_net.proofs.SoundLemmas.{Grows}
 use Rattle.written_net.proofs.PublishLemmas.{same_id_itself, same_party_itself, set_here, set_beside, Leaves, leaves_nothing, leaves_then, start_leaves, comes_leaves, publish_links, publish_leaves, publish_grows, grows_itself, grows_then, publish_presents, IsWanted, Acted, resync_all_acted}
 use Rattle.written_roles.specs.Agents.{table_of, joined_report}
+use Rattle.written_roles.specs.Apps.{changed_demand, joined_demand, command_key, command_number}
+use Rattle.written_roles.specs.HardState.{raised, submitted, finished, banned, unbanned, with_job}
 use Rattle.written_roles.specs.Masters.{Master}
-use Rattle.written_roles.specs.MasterSteps.{master_party, talks, peers}
+use Rattle.written_roles.specs.Preemption.{preempted}
+use Rattle.written_roles.specs.MasterSteps.{master_party, talks, peers, ready, ended_in, banned_in, new_master}
+use Rattle.fuxi_terms.specs.Jobs.{eight_places, job_numbers}
+use Rattle.fuxi_terms.specs.Numbers.{without_number}
+use Rattle.written_world.proofs.Invariant.{ready_epoch}
 use Rattle.written_roles.specs.Refusals.{Refusal, NoPacket, NotRising, NoMachine, first_refusal, with_found}
 use Rattle.written_roles.proofs.MapLemmas.{put_beside}
 use Rattle.written_world.specs.World.{World, Agent, App, Step, prints_nothing, refused}
-use Rattle.written_world.specs.Parties.{agent_table, agent_hears, app_hears, joined}
-use Rattle.written_world.specs.Events.{Event, StartAgent, Deliver, DeliverRange, act, counted_in, world_step, packet_of, deliver_one, addressed, heard_by, heard_line, master_hears}
+use Rattle.written_world.specs.Parties.{agent_table, agent_hears, app_hears, joined, master_hears, end_step, offers, told, received, adopted_now}
+use Rattle.written_world.specs.Events.{Event, StartMaster, StopMaster, StartAgent, StartApp, Submit, Finish, Ban, Unban, Begin, Preempt, Deliver, DeliverRange, agent_started, app_started, act, counted_in, world_step, packet_of, deliver_one, addressed, heard_by, heard_line, demanded, given_back}
 use Rattle.written_world.specs.Good.{Invariant}
 use Rattle.written_world.specs.KeepsGrants.{AllReport, AllStay}
 use Rattle.written_world.specs.Runs.{run}
 use Rattle.written_world.specs.Steps.{is_single}
 use Rattle.written_world.proofs.CreditsLemmas.{stayed}
 use Rattle.written_world.proofs.EventsWalk.{EventSteps, act_steps}
-use Rattle.written_world.proofs.InvariantKept.{always, counted_holds, not_refused, rising}
+use Rattle.written_world.proofs.InvariantKept.{always, counted_holds, not_refused, rising, told_same}
 use Rattle.written_world.proofs.StartsLemmas.{put_here}
 
 -- What a packet to an agent makes of the world
@@ -194,17 +200,23 @@ module _ (w : World) (h : Invariant w) (m : ℕ) (g : Agent) (found : find nat_c
   left : (v : Event) (x : World) (q : Party) → Leaves q w.net x.net → same_party q (party (agent_id m) g.boot) ≡ false → Grows shape w.net.histories x.net.histories → Stays v x
   left v x q l other grows = record { it = λ _ _. inl (left_table w.net x.net q (party (agent_id m) g.boot) h.sound l other grows) }
 
-  published : (v : Event) (x : World) (q : Party) (os : List Offer) → x.net ≡ publish w.net q os → same_party q (party (agent_id m) g.boot) ≡ false → Stays v x
-  published v x q os e other = record { it = λ _ _. inl (ap (λ (n : Net Ledger). agent_table n (party (agent_id m) g.boot)) e ∙ left_table w.net (publish w.net q os) q (party (agent_id m) g.boot) h.sound (publish_leaves w.net q os) other (publish_grows w.net q os)) }
+  -- a master ends its step
+  ends : (v : Event) (u : World) (net : Net Ledger) (N : Master) (forced : List Id) (e : ℕ) → N.epoch ≡ e → Leaves (party master_id e) w.net net → Grows shape w.net.histories net.histories → Stays v (end_step u net N forced)
+  ends v u net N forced e is l grows =
+      let R = ready u.cluster N in
+      let same : e ≡ R.epoch = sym (ready_epoch u.cluster N ∙ is) in
+      let os = offers u.cluster net R forced in
+      record { it = λ _ _. inl (left_table w.net (publish net (master_party R) os) (master_party R) (party (agent_id m) g.boot) h.sound
+          (leaves_then (master_party R) w.net net (publish net (master_party R) os) (subst (λ n. Leaves (party master_id n) w.net net) same l) (publish_leaves net (master_party R) os)) refl
+          (grows_then w.net net (publish net (master_party R) os) grows (publish_grows net (master_party R) os))) }
+
+  acts : (v : Event) (u : World) (N : Master) (forced : List Id) → Stays v (end_step u w.net N forced)
+  acts v u N forced = ends v u w.net N forced N.epoch refl (leaves_nothing (party master_id N.epoch) w.net) (grows_itself w.net)
 
   same : (v : Event) (x : World) → x.net ≡ w.net → Stays v x
   same v x e = record { it = λ _ _. inl (ap (λ (n : Net Ledger). agent_table n (party (agent_id m) g.boot)) e) }
 
   -- another party hears
-  comes_left : (v : Event) (x : World) (q : Party) (talk : Id → Bool) (y : Packet) (os : List Offer) → x.net ≡ publish (comes w.net q talk (Some y)) q os → same_party q (party (agent_id m) g.boot) ≡ false → Stays v x
-  comes_left v x q talk y os e other = record { it = λ _ _. inl (ap (λ (n : Net Ledger). agent_table n (party (agent_id m) g.boot)) e
-      ∙ left_table w.net (publish (comes w.net q talk (Some y)) q os) q (party (agent_id m) g.boot) h.sound (leaves_then q w.net (comes w.net q talk (Some y)) (publish (comes w.net q talk (Some y)) q os) (comes_leaves w.net q talk y) (publish_leaves (comes w.net q talk (Some y)) q os)) other (publish_grows (comes w.net q talk (Some y)) q os)) }
-
   joined_left : (q : Party) (y : Packet) (l : Ledger) → same_party q (party (agent_id m) g.boot) ≡ false → Same (joined w.net q y l)
   joined_left q y l other = let n = comes w.net q is_master (Some y) in
       either Same (heard_of w.net q is_master y).fresh (publish n q (to_master l)) n
@@ -214,26 +226,28 @@ module _ (w : World) (h : Invariant w) (m : ℕ) (g : Agent) (found : find nat_c
   steps : EventSteps Stays (λ _. ⊤) w
   steps = record {
     same = λ v. same v w refl;
-    starts = λ e _ _. record { it = λ _ _. inl (left_table w.net _ (party master_id e) (party (agent_id m) g.boot) h.sound (leaves_then (party master_id e) w.net (move w.net (Starts (party master_id e))) _ (start_leaves w.net (party master_id e)) (publish_leaves (move w.net (Starts (party master_id e))) _ _)) refl (publish_grows (move w.net (Starts (party master_id e))) _ _)) };
-    stops = λ e. same _ _ refl;
+    starts = λ e _ _. ends (StartMaster e) (record w { hard = raised w.hard e; ran = w.ran ++ party master_id e ∷ [] }) (move w.net (Starts (party master_id e))) (new_master (raised w.hard e) e) (map app_id (job_numbers w.hard.jobs)) e refl (start_leaves w.net (party master_id e)) (grows_itself w.net);
+    stops = λ e. same (StopMaster e) (record w { masters = where_key nat_cmp (λ k. not (nat_eq k e)) w.masters }) refl;
     starts_agent = λ k b t. record { it = λ _ f. inl (replaced k b t f) };
-    starts_app = λ a b _. left _ _ (party (app_id a) b) (start_leaves w.net (party (app_id a) b)) refl (grows_itself w.net);
-    submits = λ e M j f _ _ _. published _ _ _ _ refl refl;
-    finishes = λ e M a f _. published _ _ _ _ refl refl;
-    bans = λ e M n f _. published _ _ _ _ refl refl;
-    unbans = λ e M n f _. published _ _ _ _ refl refl;
-    begins = λ e M f. published _ _ _ _ refl refl;
-    preempts = λ e M d f _ _. published _ _ _ _ refl refl;
-    asks = λ a k x f _. published _ _ (party (app_id a) k.boot) _ refl refl;
+    starts_app = λ a b _. left (StartApp a b) (app_started w a b) (party (app_id a) b) (start_leaves w.net (party (app_id a) b)) refl (grows_itself w.net);
+    submits = λ e M j f _ _ _. acts (Submit e j) (record w { hard = submitted w.hard (eight_places j) }) (record M { jobs = with_job (eight_places j) M.jobs }) (app_id j.number ∷ []);
+    finishes = λ e M a f _. acts (Finish e a) (record w { hard = finished w.hard a }) (ended_in M a) [];
+    bans = λ e M n f _. acts (Ban e n) (record w { hard = banned w.hard n }) (banned_in M n) [];
+    unbans = λ e M n f _. acts (Unban e n) (record w { hard = unbanned w.hard n }) (record M { bans = without_number n M.bans }) [];
+    begins = λ e M f. acts (Begin e) w (record M { serving = true }) [];
+    preempts = λ e M d f _ _. acts (Preempt e) w (preempted M d) [];
+    asks = λ a k x f _. (let os = to_master (changed_demand (present w.net (party (app_id a) k.boot) master_id) (command_key x) (command_number (given_back w a k) x)) in
+        record { it = λ _ _. inl (left_table w.net (publish w.net (party (app_id a) k.boot) os) (party (app_id a) k.boot) (party (agent_id m) g.boot) h.sound (publish_leaves w.net (party (app_id a) k.boot) os) refl (publish_grows w.net (party (app_id a) k.boot) os)) });
     master_turns = λ e M _. record { it = λ _ _. inl (turned_table w.net (master_party M) (peers w.cluster M) (party (agent_id m) g.boot) h.sound) };
     agent_turns = λ k a _. record { it = λ _ _. inl (turned_table w.net (party (agent_id k) a.boot) (master_id ∷ []) (party (agent_id m) g.boot) h.sound) };
     app_turns = λ k a _. record { it = λ _ _. inl (turned_table w.net (party (app_id k) a.boot) (master_id ∷ []) (party (agent_id m) g.boot) h.sound) };
     master_resyncs = λ e M _. record { it = λ _ _. inl (resynced_table w.net (master_party M) (peers w.cluster M) (party (agent_id m) g.boot) h.sound) };
     agent_resyncs = λ k a _. record { it = λ _ _. inl (resynced_table w.net (party (agent_id k) a.boot) (master_id ∷ []) (party (agent_id m) g.boot) h.sound) };
     app_resyncs = λ k a _. record { it = λ _ _. inl (resynced_table w.net (party (app_id k) a.boot) (master_id ∷ []) (party (agent_id m) g.boot) h.sound) };
-    hears = λ M k x f _ _ _. comes_left _ _ _ (talks w.cluster M) x _ refl refl;
+    hears = λ M k x f _ _ _. (let d = heard_of w.net (master_party M) (talks w.cluster M) x in let l = received w.cluster M w.net x in
+        ends (Deliver k) w (comes w.net (master_party M) (talks w.cluster M) (Some x)) (told M d x.from.id l) (adopted_now M d x.from.id l) M.epoch (told_same M d x.from.id l).epoch (comes_leaves w.net (master_party M) (talks w.cluster M) x) (grows_itself w.net));
     agent_hears = λ a k x f sent _. record { it = λ _ _. heard a k x f sent (nat_eq x.to.id.number m) refl };
-    app_hears = λ a k x f sent. record { it = λ _ _. inl (joined_left (party (app_id x.to.id.number) a.boot) x _ refl) };
+    app_hears = λ a k x f sent. record { it = λ _ _. inl (joined_left (party (app_id x.to.id.number) a.boot) x (joined_demand x.from.inc (present w.net (party (app_id x.to.id.number) a.boot) master_id)) refl) };
   }
     where
       other_agent : (k b : ℕ) → nat_eq k m ≡ false → same_party (party (agent_id k) b) (party (agent_id m) g.boot) ≡ false
@@ -256,7 +270,7 @@ module _ (w : World) (h : Invariant w) (m : ℕ) (g : Agent) (found : find nat_c
           by false e = left_table w.net (move w.net (Starts (party (agent_id k) b))) (party (agent_id k) b) (party (agent_id m) g.boot) h.sound (start_leaves w.net (party (agent_id k) b)) (other_agent k b e) (grows_itself w.net)
 
       heard : (a : Agent) (k : ℕ) (x : Packet) → find nat_cmp x.to.id.number w.agents ≡ Some a → packet_of w k ≡ Some x → (t : Bool) → nat_eq x.to.id.number m ≡ t → Same (agent_hears w x.to.id.number a x).net ⊎ IsTakenBy (Deliver k)
-      heard a k x f sent false e = inl (joined_left (party (agent_id x.to.id.number) a.boot) x _ (other_agent x.to.id.number a.boot e))
+      heard a k x f sent false e = inl (joined_left (party (agent_id x.to.id.number) a.boot) x (joined_report x.from.inc (agent_table w.net (party (agent_id x.to.id.number) a.boot))) (other_agent x.to.id.number a.boot e))
       heard a k x f sent true e =
           let here : x.to.id.number ≡ m = number_is x.to.id.number m e in
           let same : Some a ≡ Some g = sym f ∙ ap (λ n. find nat_cmp n w.agents) here ∙ found in
