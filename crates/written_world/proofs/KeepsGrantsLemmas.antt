@@ -39,6 +39,7 @@ use Rattle.written_world.proofs.CreditsLemmas.{stayed}
 use Rattle.written_world.proofs.EventsWalk.{EventSteps, act_steps}
 use Rattle.written_world.proofs.InvariantKept.{always, counted_holds, not_refused, rising, told_same}
 use Rattle.written_world.proofs.StartsLemmas.{put_here}
+use Rattle.written_world.proofs.StepsLemmas.{master_is}
 
 -- What a packet to an agent makes of the world
 got_within : {A : Type 0} (xs : List A) (i : ℕ) (x : A) → slice_get xs i ≡ Some x → i < length xs
@@ -143,9 +144,6 @@ fresh_master p talk top l x e = by (same_id x.to.id p.id) talk e
     by a true e = refl
     by true false e = cc
     by false false e = cc
-
-master_is : (d : Id) → is_master d ≡ true → d ≡ master_id
-master_is d t = let b = both_true (nat_eq d.role 1) (nat_eq d.number 0) t in let role = number_is d.role 1 b.0 in let number = number_is d.number 0 b.1 in (λ i. record { role = role i; number = number i })
 
 -- an agent that hears what it does not take
 heard_table : (net : Net Ledger) (p : Party) (x : Packet) → Sound shape net → is_taken (heard_of net p is_master x).what ≡ false → agent_table (joined net p x (joined_report x.from.inc (agent_table net p))) p ≡ agent_table net p

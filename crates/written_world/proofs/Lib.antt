@@ -31,3 +31,4 @@ pub mod StartsLemmas
 pub mod StepsLemmas
 pub mod ServesLemmas
 pub mod KeepsGrantsLemmas
+pub mod AdoptsLemmas

@@ -243,7 +243,7 @@ fresh_is net p talks x to t = ap (λ b. (cond (not b) (unmoved Stranger l) rest)
     by true e = (let z : nat_lt l.known x.from.inc ≡ false = grind (arith, nat_tests, e) in sym z)
     by false e = refl
 
-master_is : (d : Id) → is_master d ≡ true → d ≡ master_id
+pub master_is : (d : Id) → is_master d ≡ true → d ≡ master_id
 master_is d t = let b = both_true (nat_eq d.role 1) (nat_eq d.number 0) t in let role = number_is d.role 1 b.0 in let number = number_is d.number 0 b.1 in (λ i. record { role = role i; number = number i })
 
 -- whose packet it is

@@ -15,6 +15,7 @@ ghost use Rattle.written_net.specs.Ledgers.{Ledger};
 ghost use Rattle.written_net.specs.Sound.{Bounded, Sound, Allowed};
 ghost use Rattle.written_world.specs.World.{World, empty_world};
 ghost use Rattle.written_world.specs.Good.{Good};
+ghost use Rattle.written_world.specs.KeepsGrants.{AllAdopt, AllReport, AllStay};
 ghost use Rattle.written_net.specs.Channels.{shape};
 ghost use Rattle.written_world.specs.Shown.{AllShown, AllCredited, AllGiveBacks};
 ghost use Rattle.written_world.specs.Credits.{AllCreditedOnce};
@@ -121,4 +122,14 @@ pub fn every_run_loses_only_what_is_credited()
 /// A serving master has adopted a report of every machine of the cluster, or was told to begin while it ran.
 pub fn every_master_serves_when_told_of_all()
     ensures { (c : ClusterRecord) (events : List Event) → AllServe c events }
+{}
+
+/// A failover keeps grants. What an adopted report says of a live job, of a unit that it has, with its size, on a
+/// machine that is not banned, is at most what the master then holds (`adopts`). An agent that hears of a greater epoch
+/// has as its report that epoch and exactly the table that it had before (`reports`). And its table stays until it
+/// takes a row, or is started anew (`stays`).
+pub fn a_failover_keeps_grants()
+    ensures adopts { (c : ClusterRecord) (events : List Event) → AllAdopt (run c events) }
+    ensures reports { (c : ClusterRecord) (events : List Event) → AllReport (run c events) }
+    ensures stays { (c : ClusterRecord) (events : List Event) → AllStay (run c events) }
 {}
