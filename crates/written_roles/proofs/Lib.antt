@@ -5,3 +5,13 @@ pub mod LossesNeeded
 pub mod LossesSpared
 pub mod StepEnds
 pub mod PlacingFirst
+pub mod PlacedInOrderLemmas
+pub mod TakenByQuotaLemmas
+pub mod ServedInOrderLemmas
+pub mod MapLemmas
+pub mod RaisedCredits
+pub mod TransitionsLemmas
+pub mod BareMachines
+pub mod ServesWhenTold
+pub mod LosesCredited
+pub mod GrowsAllowed

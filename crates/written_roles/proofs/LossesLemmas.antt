@@ -22,7 +22,7 @@ use Rattle.fuxi_terms.specs.Tables.{total_at}
 use Rattle.fuxi_terms.proofs.Members.{in_each_is}
 
 -- what entries say of a spot
-abbrev amount : Spot → List (Spot × ℕ) → ℕ
+abbrev pub amount : Spot → List (Spot × ℕ) → ℕ
 amount s es = sum_by (λ e. cond (eq_by_cmp spot_cmp s e.0) e.1 0) es
 
 often_many : (s : Spot) (n : ℕ) (t : Spot) → often s (so_many n t) ≡ cond (eq_by_cmp spot_cmp s t) n 0
@@ -31,7 +31,7 @@ often_many s (suc n) t =
     let rest = often_many s n t in
     rw (sum_by-cons (one_if s) t (so_many n t)) (elim (eq_by_cmp spot_cmp s t) as (λ b. often s (so_many n t) ≡ cond b n 0 → cond b 1 0 + often s (so_many n t) ≡ cond b (suc n) 0) [ true ↦ λ r. omega (arith, r) | false ↦ λ r. omega (arith, r) ] rest)
 
-often_flat : (s : Spot) (es : List (Spot × ℕ)) → often s (flat_map (λ e. so_many e.1 e.0) es) ≡ amount s es
+pub often_flat : (s : Spot) (es : List (Spot × ℕ)) → often s (flat_map (λ e. so_many e.1 e.0) es) ≡ amount s es
 often_flat s [] = refl
 often_flat s (e ∷ es) =
     let rest = often_flat s es in
@@ -54,7 +54,7 @@ put_amount jobs s e (f ∷ fs) =
           omega (arith, rest, a, b, c, d)
     ]
 
-walk_amount : (jobs : List KnownJob) (s : Spot) (es : List (Spot × ℕ)) → amount s (in_walk_order jobs es) ≡ amount s es
+pub walk_amount : (jobs : List KnownJob) (s : Spot) (es : List (Spot × ℕ)) → amount s (in_walk_order jobs es) ≡ amount s es
 walk_amount jobs s [] = refl
 walk_amount jobs s (e ∷ es) =
     let g : Spot × ℕ → ℕ = λ e. cond (eq_by_cmp spot_cmp s e.0) e.1 0 in
@@ -76,7 +76,7 @@ filter_amount s p (e ∷ es) =
     ]
 
 -- keys that rise stand once
-table_amount : (s : Spot) (es : List (Spot × ℕ)) → T (is_sorted spot_cmp es) → amount s es ≡ count spot_cmp es s
+pub table_amount : (s : Spot) (es : List (Spot × ℕ)) → T (is_sorted spot_cmp es) → amount s es ≡ count spot_cmp es s
 table_amount s [] k = refl
 table_amount s (e ∷ es) k =
     let parts = both (below_all spot_cmp e.0 es) (is_sorted spot_cmp es) k in

@@ -9,3 +9,7 @@ pub mod MasterSteps
 pub mod Agents
 pub mod Apps
 pub mod MasterRoles
+pub mod PlacedInOrder
+pub mod TakenByQuota
+pub mod ServedInOrder
+pub mod Transitions

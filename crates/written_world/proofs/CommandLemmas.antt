@@ -1,5 +1,5 @@
 -- What holds of the refusal of a command and of the step that it makes, holds of the command.
-use Rattle.std.proofs.Common.{◌≡◌, ℕ, Bool, true, not, List, [], ◌∷◌, Option, Some, None, Result, Ok, Err, refl}
+use Rattle.std.proofs.Common.{◌≡◌, ℕ, Bool, true, false, not, List, [], ◌∷◌, Option, Some, None, Result, Ok, Err, refl}
 use Rattle.fuxi_terms.specs.Counts.{then_do}
 use Rattle.written_roles.specs.Refusals.{Refusal, first_refusal, unless_fault, with_found, AlreadyServing, NotServing, NoGroup, NoMachine, NothingToPreempt, job_tests}
 use Rattle.written_roles.specs.HardState.{HardState, HardEvent, hard_tests, hard_after, hard_step, finished, banned, unbanned, submit_tests, submitted, with_job, Finishing, Banning, Unbanning, Submission, finish_tests, ban_tests, unban_tests}
@@ -40,15 +40,15 @@ module _ (P : Step → Type 0) (w : World) (stays : (r : Refusal) → P (refused
   ]
 
   -- the same of one that first has to find something
-  pub found_changed_has : {A : Type 0} (tests : List (Bool × Refusal)) (h : HardState) (o : Option A) (r : Refusal) (g : A → Changed) (f : Commanded → Step) → ((x : A) → o ≡ Some x → P (f (record { hard = h; change = g x })))
+  pub found_changed_has : {A : Type 0} (tests : List (Bool × Refusal)) (h : HardState) (o : Option A) (r : Refusal) (g : A → Changed) (f : Commanded → Step) → (first_refusal tests ≡ None → (x : A) → o ≡ Some x → P (f (record { hard = h; change = g x })))
       → P (on_result w (then_do (unless_fault tests (with_found o (Err r) (λ x. Ok (g x)))) (λ (d : Changed). Ok (record { hard = h; change = d }))) f)
-  found_changed_has {A} tests h o r g f made = elim (first_refusal tests) as (λ t. P (on_result w (then_do (elim t as (λ _. Result Changed Refusal) [ None ↦ with_found o (Err r) (λ x. Ok (g x)) | Some r ↦ Err r ]) (λ (d : Changed). Ok (record { hard = h; change = d }))) f)) [
-    | None ↦ elim o as (λ (o' : Option A). o ≡ o' → P (on_result w (then_do (with_found o' (Err r) (λ x. Ok (g x))) (λ (d : Changed). Ok (record { hard = h; change = d }))) f)) [
+  found_changed_has {A} tests h o r g f made = elim (first_refusal tests) as (λ t. first_refusal tests ≡ t → P (on_result w (then_do (elim t as (λ _. Result Changed Refusal) [ None ↦ with_found o (Err r) (λ x. Ok (g x)) | Some r ↦ Err r ]) (λ (d : Changed). Ok (record { hard = h; change = d }))) f)) [
+    | None ↦ λ t. elim o as (λ (o' : Option A). o ≡ o' → P (on_result w (then_do (with_found o' (Err r) (λ x. Ok (g x))) (λ (d : Changed). Ok (record { hard = h; change = d }))) f)) [
       | None ↦ λ _. stays r
-      | Some x ↦ λ e. made x e
+      | Some x ↦ λ e. made t x e
     ] refl
-    | Some s ↦ stays s
-  ]
+    | Some s ↦ λ _. stays s
+  ] refl
 
 -- each command of a master
 module _ (P : Step → Type 0) (w : World) (stays : (r : Refusal) → P (refused w r)) (M : Master) (f : Commanded → Step) where
@@ -73,6 +73,14 @@ module _ (P : Step → Type 0) (w : World) (stays : (r : Refusal) → P (refused
   pub begins_has : P (f (record { hard = w.hard; change = record { state = record M { serving = true }; forced = [] } })) → P (on_result w (command_of w.cluster w.hard M StartsServing) f)
   begins_has made = changed_has P w stays ((M.serving, AlreadyServing) ∷ []) w.hard (record { state = record M { serving = true }; forced = [] }) f made
 
-  -- a preemption
+  -- a preemption, of a master that serves
+  pub serving_makes_room_has : ((p : Plan) → M.serving ≡ true → plan_of w.cluster M ≡ Some p → P (f (record { hard = w.hard; change = record { state = preempted M p; forced = [] } }))) → P (on_result w (command_of w.cluster w.hard M MakesRoom) f)
+  serving_makes_room_has made = found_changed_has P w stays ((not M.serving, NotServing) ∷ []) w.hard (plan_of w.cluster M) NothingToPreempt (λ p. record { state = preempted M p; forced = [] }) f (λ t p e. made p (serves M.serving t) e)
+    where
+      serves : (b : Bool) → first_refusal ((not b, NotServing) ∷ []) ≡ None → b ≡ true
+      serves true t = refl
+      serves false t = cc
+
+  -- of any
   pub makes_room_has : ((p : Plan) → plan_of w.cluster M ≡ Some p → P (f (record { hard = w.hard; change = record { state = preempted M p; forced = [] } }))) → P (on_result w (command_of w.cluster w.hard M MakesRoom) f)
-  makes_room_has made = found_changed_has P w stays ((not M.serving, NotServing) ∷ []) w.hard (plan_of w.cluster M) NothingToPreempt (λ p. record { state = preempted M p; forced = [] }) f made
+  makes_room_has made = serving_makes_room_has (λ p _ e. made p e)

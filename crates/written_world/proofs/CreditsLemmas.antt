@@ -1,22 +1,19 @@
 -- What a master credited is what is given back at its place in each demand.
-use Rattle.std.proofs.Common.{◌≡◌, ℕ, ◌+◌, ◌≤◌, Bool, true, false, cond, not, nat_eq, nat_lt, List, [], ◌∷◌, length, Some, None, refl, sym, ◌∙◌, ap, subst, arith}
+use Rattle.std.proofs.Common.{◌≡◌, ℕ, ◌+◌, ◌≤◌, Bool, true, false, cond, not, nat_eq, nat_lt, List, [], length, Some, None, refl, sym, ◌∙◌, ap, subst, arith}
 use Rattle.std.specs.Prelude.{◌&&◌, ◌||◌, T}
 use Rattle.std.specs.Option.{unwrap_or}
-use Rattle.std.specs.Ordering.{nat_cmp, eq_by_cmp, is_eq}
-use Rattle.std.specs.Cmp.{nat_cmp_total, tied_itself}
-use Rattle.std.specs.FinMap.Entries.{below_all, find, put, where_key, is_sorted, is_sorted-where_key, find-put, find-where_key}
+use Rattle.std.specs.Ordering.{nat_cmp}
+use Rattle.std.specs.FinMap.Entries.{find, put, where_key, is_sorted, is_sorted-where_key, find-where_key}
 use Rattle.std.proofs.lemmas.Bool.Decides.{nat_tests}
-use Rattle.std.proofs.lemmas.Map.Lookups.{exact_unsigned}
 use Rattle.fuxi_terms.specs.declared.Key.{Key}
 use Rattle.fuxi_terms.specs.Cluster.{ClusterRecord, has_machine}
 use Rattle.fuxi_terms.specs.Keys.{key_cmp}
 use Rattle.fuxi_terms.specs.Counts.{count}
-use Rattle.fuxi_terms.proofs.Counting.{both_true as both, tied, below_none}
 use Rattle.written_net.specs.Net.{Net, Party, Id, Link, Packet, Kind, Ack, Delta, Full, Heard, last, met, place_moved, word_of, link_after, unmoved, hear, hear_peer, heard_of, comes, same_id, at_index, is_taken}
 use Rattle.fuxi_terms.specs.declared.answers.What.{What}
 use Rattle.fuxi_terms.specs.declared.answers.What.TheVariants.{Stranger, Stale, Ack as Acked, NotMine, Old, Gap, Taken, Ledger as SaysLedger, Exceeds as SaysExceeds}
 use Rattle.written_net.specs.Ledgers.{Ledger, nothing, at_key}
-use Rattle.fuxi_terms.specs.TallyKeys.{credited_key, back_key, is_back}
+use Rattle.fuxi_terms.specs.TallyKeys.{credited_key, back_key}
 use Rattle.written_net.specs.Channels.{master_id, agent_id, app_id, party, is_agent, is_app, view, content, shape, has_heads}
 use Rattle.fuxi_terms.specs.Jobs.{KnownJob, is_known, is_live, unit_count}
 use Rattle.written_roles.specs.Masters.{Master, credited_of}
@@ -25,12 +22,14 @@ use Rattle.written_world.specs.Parties.{received, told}
 use Rattle.written_net.specs.Sound.{Sound, PacketNames, NamesAt, LinkNames, Rising}
 use Rattle.written_world.specs.Good.{BacksRise, IsCredited, IsRanged, DemandsHold, KnowsMore}
 use Rattle.fuxi_terms.proofs.Booleans.{both_true, either, number_is, nat_itself, not_false}
-use Rattle.fuxi_terms.proofs.KeyOrders.{key_total, same_key}
+use Rattle.fuxi_terms.proofs.KeyOrders.{same_key}
 use Rattle.written_net.proofs.NetLemmas.{id_is}
 use Rattle.written_net.proofs.BoundedLemmas.{met_known}
 use Rattle.written_net.proofs.SoundLemmas.{taken_names, met_names}
 use Rattle.written_net.proofs.PublishLemmas.{set_here, set_beside}
 use Rattle.written_world.proofs.DemandsLemmas.{backs_between}
+pub use Rattle.written_roles.proofs.MapLemmas.{found_put, put_beside}
+use Rattle.written_roles.proofs.RaisedCredits.{raised}
 
 -- A master whose views stay
 pub credited_view : (net net' : Net Ledger) (M : Master) → ((a : ℕ) → view net' (master_party M) (app_id a) ≡ view net (master_party M) (app_id a))
@@ -50,68 +49,6 @@ credited_like net M N epoch jobs credited h = record {
   uncredited = λ a none. ap (λ cs. unwrap_or (find nat_cmp a cs) []) credited ∙ h.uncredited a (subst (λ js. is_known js a ≡ false) jobs none);
 }
 
--- One entry of a map by numbers
-pub found_put : {A : Type 0} (a : ℕ) (x d : A) (es : List (ℕ × A)) → unwrap_or (find nat_cmp a (put nat_cmp a x es)) d ≡ x
-found_put a x d es = ap (λ o. unwrap_or o d) (find-put nat_cmp nat_cmp_total a a x es ∙ ap (λ r. cond (is_eq r) (Some x) (find nat_cmp a es)) (tied_itself nat_cmp_total a))
-
--- another entry of the map
-pub put_beside : {A : Type 0} (a b : ℕ) (x : A) (es : List (ℕ × A)) → nat_eq b a ≡ false → find nat_cmp b (put nat_cmp a x es) ≡ find nat_cmp b es
-put_beside a b x es e = find-put nat_cmp nat_cmp_total b a x es ∙ ap (λ t. cond t (Some x) (find nat_cmp b es)) (apart (eq_by_cmp nat_cmp b a) refl)
-  where
-    apart : (t : Bool) → eq_by_cmp nat_cmp b a ≡ t → eq_by_cmp nat_cmp b a ≡ false
-    apart false t = t
-    apart true t = let same : b ≡ a = exact_unsigned b a (tied _ t) in let yes : nat_eq b a ≡ true = grind (arith, nat_tests, same) in cc
-
--- Raising takes the greater number
-last_one : (a b c : ℕ) → a ≡ 0 → b ≡ c → cond (nat_lt b a) a b ≡ c
-last_one a b c e f = let no : nat_lt b a ≡ false = grind (arith, nat_tests) in ap (λ t. cond t a b) no ∙ f
-
-chosen : (cs : List (Key × ℕ)) (k : Key) (v : ℕ) (b : Bool) → count key_cmp (cond b (put key_cmp k v cs) cs) k ≡ cond b v (count key_cmp cs k)
-chosen cs k v true = ap (λ o. unwrap_or o 0) (find-put key_cmp key_total k k v cs) ∙ ap (λ o. unwrap_or (cond (is_eq o) (Some v) (find key_cmp k cs)) 0) (tied_itself key_total k)
-chosen cs k v false = refl
-
--- a number given back elsewhere
-elsewhere : (cs : List (Key × ℕ)) (e : Key × ℕ) (u m : ℕ) → eq_by_cmp key_cmp (back_key u m) e.0 ≡ false
-    → count key_cmp (cond (is_back e.0 && nat_lt (count key_cmp cs (credited_key e.0.unit e.0.number)) e.1) (put key_cmp (credited_key e.0.unit e.0.number) e.1 cs) cs) (credited_key u m) ≡ count key_cmp cs (credited_key u m)
-elsewhere cs e u m other = either (λ es. count key_cmp es (credited_key u m) ≡ count key_cmp cs (credited_key u m)) (is_back e.0 && nat_lt (count key_cmp cs (credited_key e.0.unit e.0.number)) e.1) (put key_cmp (credited_key e.0.unit e.0.number) e.1 cs) cs
-    (λ t. ap (λ o. unwrap_or o 0) (find-put key_cmp key_total (credited_key u m) (credited_key e.0.unit e.0.number) e.1 cs)
-    ∙ ap (λ b. unwrap_or (cond b (Some e.1) (find key_cmp (credited_key u m) cs)) 0) (apart (both_true (is_back e.0) _ t).0 (eq_by_cmp key_cmp (credited_key u m) (credited_key e.0.unit e.0.number)) refl))
-    (λ _. refl)
-  where
-    apart : is_back e.0 ≡ true → (b : Bool) → eq_by_cmp key_cmp (credited_key u m) (credited_key e.0.unit e.0.number) ≡ b → eq_by_cmp key_cmp (credited_key u m) (credited_key e.0.unit e.0.number) ≡ false
-    apart back false t = t
-    apart back true t =
-        let same : credited_key u m ≡ credited_key e.0.unit e.0.number = same_key _ _ (tied _ t) in
-        let what : 5 ≡ e.0.what = sym (number_is e.0.what 5 back) in
-        let unit : u ≡ e.0.unit = ap (λ (k : Key). k.unit) same in
-        let number : m ≡ e.0.number = ap (λ (k : Key). k.number) same in
-        let key : back_key u m ≡ e.0 = (λ i. record { what = what i; unit = unit i; number = number i }) in
-        let yes : eq_by_cmp key_cmp (back_key u m) e.0 ≡ true = ap (λ k. eq_by_cmp key_cmp (back_key u m) k) (sym key) ∙ ap is_eq (tied_itself key_total (back_key u m)) in
-        absurd (let f : ⊥ = cc in f)
-
-raised : (cs es : List (Key × ℕ)) → T (is_sorted key_cmp es) → (u m : ℕ)
-    → count key_cmp (raise_credited cs es) (credited_key u m) ≡ cond (nat_lt (count key_cmp cs (credited_key u m)) (count key_cmp es (back_key u m))) (count key_cmp es (back_key u m)) (count key_cmp cs (credited_key u m))
-raised cs [] s u m = ap (λ b. cond b 0 (count key_cmp cs (credited_key u m))) (sym (none (count key_cmp cs (credited_key u m))))
-  where
-    none : (n : ℕ) → nat_lt n 0 ≡ false
-    none n = grind (arith, nat_tests)
-raised cs (e ∷ es) s u m =
-    let parts = both (below_all key_cmp e.0 es) (is_sorted key_cmp es) s in
-    let k = credited_key e.0.unit e.0.number in
-    let cs1 = cond (is_back e.0 && nat_lt (count key_cmp cs k) e.1) (put key_cmp k e.1 cs) cs in
-    raised cs1 es parts.1 u m
-    ∙ elim (eq_by_cmp key_cmp (back_key u m) e.0) as (λ t. eq_by_cmp key_cmp (back_key u m) e.0 ≡ t → cond (nat_lt (count key_cmp cs1 (credited_key u m)) (count key_cmp es (back_key u m))) (count key_cmp es (back_key u m)) (count key_cmp cs1 (credited_key u m))
-    ≡ cond (nat_lt (count key_cmp cs (credited_key u m)) (unwrap_or (cond t (Some e.1) (find key_cmp (back_key u m) es)) 0)) (unwrap_or (cond t (Some e.1) (find key_cmp (back_key u m) es)) 0) (count key_cmp cs (credited_key u m))) [
-      | true ↦ λ t.
-          let same : back_key u m ≡ e.0 = same_key (back_key u m) e.0 (tied _ t) in
-          let gone : count key_cmp es (back_key u m) ≡ 0 = ap (λ q. count key_cmp es q) same ∙ ap (λ o. unwrap_or o 0) (below_none key_cmp e.0 es parts.0) in
-          let here : count key_cmp cs1 (credited_key u m) ≡ cond (nat_lt (count key_cmp cs (credited_key u m)) e.1) e.1 (count key_cmp cs (credited_key u m)) =
-          ap (λ (q : Key). count key_cmp (cond (is_back q && nat_lt (count key_cmp cs (credited_key q.unit q.number)) e.1) (put key_cmp (credited_key q.unit q.number) e.1 cs) cs) (credited_key u m)) (sym same)
-          ∙ chosen cs (credited_key u m) e.1 (nat_lt (count key_cmp cs (credited_key u m)) e.1) in
-          last_one (count key_cmp es (back_key u m)) (count key_cmp cs1 (credited_key u m)) _ gone here
-      | false ↦ λ t. ap (λ n. cond (nat_lt n (count key_cmp es (back_key u m))) (count key_cmp es (back_key u m)) n) (elsewhere cs e u m t)
-    ] refl
-
 -- and where no number falls, the numbers given back
 raised_is : (cs es : List (Key × ℕ)) → T (is_sorted key_cmp es) → (u m : ℕ) → count key_cmp cs (credited_key u m) ≤ count key_cmp es (back_key u m) → count key_cmp (raise_credited cs es) (credited_key u m) ≡ count key_cmp es (back_key u m)
 raised_is cs es s u m le = raised cs es s u m ∙ greater (count key_cmp cs (credited_key u m)) (count key_cmp es (back_key u m)) le
@@ -130,7 +67,7 @@ taken_places Delta own l x e = either (λ (w : What). w ≡ Taken → (1 ≤ x.s
     (λ _ e. either (λ (w : What). w ≡ Taken → (1 ≤ x.seq) × (l.seq ≤ x.seq)) (nat_lt l.seq x.seq) Gap Old (λ _ e. cc) (λ _ e. cc) e) e) e
 
 -- a link whose place did not move
-stayed : (own top : ℕ) (x : Packet) (w : What) (m : Link) → is_taken w ≡ false → ((link_after w own top m x).known ≡ m.known) × ((link_after w own top m x).seq ≡ m.seq)
+pub stayed : (own top : ℕ) (x : Packet) (w : What) (m : Link) → is_taken w ≡ false → ((link_after w own top m x).known ≡ m.known) × ((link_after w own top m x).seq ≡ m.seq)
 stayed own top x Taken m e = cc
 stayed own top x Acked m e = either (λ (k : Link). (k.known ≡ m.known) × (k.seq ≡ m.seq)) (nat_eq x.inc own && (nat_lt m.acked x.seq && not (nat_lt top x.seq))) (record { known = m.known; seq = m.seq; acked = x.seq }) m (λ _. (refl, refl)) (λ _. (refl, refl))
 stayed own top x Stranger m e = (refl, refl)

@@ -22,7 +22,7 @@ use Rattle.written_world.specs.Parties.{end_step, told, received, adopted_now, m
 use Rattle.written_world.specs.Events.{Event, StartMaster, StopMaster, StartAgent, StartApp, Submit, Finish, Ban, Unban, Begin, Preempt, Want, Near, Rack, Avoid, GiveBack, TurnMaster, TurnAgent, TurnApp, ResyncMaster, ResyncAgent, ResyncApp, Deliver, DeliverRange, Dump, ShowState, at_master, at_agent, at_app, demanded, turned, turn_to_master, addressed, packet_of, deliver_one, deliver_all, given_back, agent_started, app_started, act, counted_in, world_step, asks, usable_now, resynced}
 use Rattle.written_world.specs.Runs.{run_from}
 use Rattle.fuxi_terms.proofs.Booleans.{either}
-use Rattle.written_world.proofs.CommandLemmas.{hard_has, submits_has, finishes_has, bans_has, unbans_has, begins_has, makes_room_has}
+use Rattle.written_world.proofs.CommandLemmas.{hard_has, submits_has, finishes_has, bans_has, unbans_has, begins_has, serving_makes_room_has}
 use Rattle.written_roles.specs.Apps.{AppCommand, command_tests, command_key, command_number, Wants, WantsNear, WantsInRack, Avoids, GivesBack}
 
 -- what holds of what is found, and where nothing is
@@ -57,7 +57,7 @@ pub record WorldKept (P : World → Type 0) (Allowed : Event → Type 0) (w : Wo
   pub bans : (e : ℕ) (M : Master) (m : ℕ) → find nat_cmp e w.masters ≡ Some M → first_refusal (ban_tests w.hard M.epoch m) ≡ None → P (end_step (record w { hard = banned w.hard m }) w.net (banned_in M m) [])
   pub unbans : (e : ℕ) (M : Master) (m : ℕ) → find nat_cmp e w.masters ≡ Some M → first_refusal (unban_tests w.hard M.epoch m) ≡ None → P (end_step (record w { hard = unbanned w.hard m }) w.net (record M { bans = without_number m M.bans }) [])
   pub begins : (e : ℕ) (M : Master) → find nat_cmp e w.masters ≡ Some M → P (end_step w w.net (record M { serving = true }) [])
-  pub preempts : (e : ℕ) (M : Master) (p : Plan) → find nat_cmp e w.masters ≡ Some M → plan_of w.cluster M ≡ Some p → P (end_step w w.net (preempted M p) [])
+  pub preempts : (e : ℕ) (M : Master) (p : Plan) → find nat_cmp e w.masters ≡ Some M → M.serving ≡ true → plan_of w.cluster M ≡ Some p → P (end_step w w.net (preempted M p) [])
   pub asks : (a : ℕ) (g : App) (x : AppCommand) → find nat_cmp a w.apps ≡ Some g → first_refusal (command_tests w.cluster g.units (usable_now w a g) (given_back w a g) x) ≡ None → P (demanded w a g (command_key x) (command_number (given_back w a g) x)).world
   pub master_turns : (e : ℕ) (M : Master) → find nat_cmp e w.masters ≡ Some M → P (turned w (master_party M) (peers w.cluster M)).world
   pub agent_turns : (m : ℕ) (g : Agent) → find nat_cmp m w.agents ≡ Some g → P (turned w (party (agent_id m) g.boot) (master_id ∷ [])).world
@@ -70,82 +70,151 @@ pub record WorldKept (P : World → Type 0) (Allowed : Event → Type 0) (w : Wo
   pub agent_hears : (m : ℕ) (g : Agent) (k : ℕ) (x : Packet) → find nat_cmp m w.agents ≡ Some g → packet_of w k ≡ Some x → P (agent_hears w m g x)
   pub app_hears : (a : ℕ) (g : App) (k : ℕ) (x : Packet) → find nat_cmp a w.apps ≡ Some g → packet_of w k ≡ Some x → P (app_hears w a g x)
 
-module _ (P : World → Type 0) (Allowed : Event → Type 0) (kept : (w : World) → P w → WorldKept P Allowed w) where
-  checked : (w : World) (o : Option Refusal) (s : Step) → P w → (o ≡ None → StepHolds P s) → StepHolds P (elim o as (λ _. Step) [ None ↦ s | Some r ↦ refused w r ])
-  checked w None s b k = k refl
-  checked w (Some r) s b k = record { it = b }
+-- the event by which an application asks
+abbrev pub asking : ℕ → AppCommand → Event
+asking a (Wants u n) = Want a u n
+asking a (WantsNear u m n) = Near a u m n
+asking a (WantsInRack u r n) = Rack a u r n
+asking a (Avoids u m on) = Avoid a u m on
+asking a (GivesBack u m n) = GiveBack a u m n
 
-  master_runs : (w : World) (e : ℕ) (f : Master → Step) → P w → ((M : Master) → find nat_cmp e w.masters ≡ Some M → StepHolds P (f M)) → StepHolds P (at_master w e f)
-  master_runs w e f b k = found_has (StepHolds P) (find nat_cmp e w.masters) _ f (record { it = b }) k
+-- P of each event and of what it makes of one world, where its tests passed
+pub record EventSteps (P : Event → World → Type 0) (Allowed : Event → Type 0) (w : World) : Type 0 where
+  pub same : (v : Event) → P v w
+  pub starts : (e : ℕ) → first_refusal (is_not_rising w.hard e ∷ (not (nat_lt (length w.masters) most_masters), TooManyMasters most_masters) ∷ []) ≡ None → first_refusal (hard_tests w.hard e Raise) ≡ None
+      → P (StartMaster e) (end_step (record w { hard = raised w.hard e; ran = w.ran ++ party master_id e ∷ [] }) (move w.net (Starts (party master_id e))) (new_master (raised w.hard e) e) (map app_id (job_numbers w.hard.jobs)))
+  pub stops : (e : ℕ) → P (StopMaster e) (record w { masters = where_key nat_cmp (λ k. not (nat_eq k e)) w.masters })
+  pub starts_agent : (m n : ℕ) → first_refusal ((not (has_machine w.cluster m), NoMachine) ∷ (not (nat_lt (w.boots (agent_id m)) n), NotRising (w.boots (agent_id m))) ∷ []) ≡ None → P (StartAgent m n) (agent_started w m n)
+  pub starts_app : (a n : ℕ) → first_refusal ((not (is_known w.hard.jobs a), NoJob) ∷ (has_ended w.hard.jobs a, Ended) ∷ (not (nat_lt (w.boots (app_id a)) n), NotRising (w.boots (app_id a))) ∷ []) ≡ None → P (StartApp a n) (app_started w a n)
+  pub submits : (e : ℕ) (M : Master) (j : JobRecord) → find nat_cmp e w.masters ≡ Some M → Allowed (Submit e j) → first_refusal ((not (has_group w.cluster j.group), NoGroup) ∷ job_tests w.cluster.resources j) ≡ None → first_refusal (submit_tests w.hard M.epoch (eight_places j)) ≡ None
+      → P (Submit e j) (end_step (record w { hard = submitted w.hard (eight_places j) }) w.net (record M { jobs = with_job (eight_places j) M.jobs }) (app_id j.number ∷ []))
+  pub finishes : (e : ℕ) (M : Master) (a : ℕ) → find nat_cmp e w.masters ≡ Some M → first_refusal (finish_tests w.hard M.epoch a) ≡ None → P (Finish e a) (end_step (record w { hard = finished w.hard a }) w.net (ended_in M a) [])
+  pub bans : (e : ℕ) (M : Master) (m : ℕ) → find nat_cmp e w.masters ≡ Some M → first_refusal (ban_tests w.hard M.epoch m) ≡ None → P (Ban e m) (end_step (record w { hard = banned w.hard m }) w.net (banned_in M m) [])
+  pub unbans : (e : ℕ) (M : Master) (m : ℕ) → find nat_cmp e w.masters ≡ Some M → first_refusal (unban_tests w.hard M.epoch m) ≡ None → P (Unban e m) (end_step (record w { hard = unbanned w.hard m }) w.net (record M { bans = without_number m M.bans }) [])
+  pub begins : (e : ℕ) (M : Master) → find nat_cmp e w.masters ≡ Some M → P (Begin e) (end_step w w.net (record M { serving = true }) [])
+  pub preempts : (e : ℕ) (M : Master) (p : Plan) → find nat_cmp e w.masters ≡ Some M → M.serving ≡ true → plan_of w.cluster M ≡ Some p → P (Preempt e) (end_step w w.net (preempted M p) [])
+  pub asks : (a : ℕ) (g : App) (x : AppCommand) → find nat_cmp a w.apps ≡ Some g → first_refusal (command_tests w.cluster g.units (usable_now w a g) (given_back w a g) x) ≡ None → P (asking a x) (demanded w a g (command_key x) (command_number (given_back w a g) x)).world
+  pub master_turns : (e : ℕ) (M : Master) → find nat_cmp e w.masters ≡ Some M → P (TurnMaster e) (turned w (master_party M) (peers w.cluster M)).world
+  pub agent_turns : (m : ℕ) (g : Agent) → find nat_cmp m w.agents ≡ Some g → P (TurnAgent m) (turned w (party (agent_id m) g.boot) (master_id ∷ [])).world
+  pub app_turns : (a : ℕ) (g : App) → find nat_cmp a w.apps ≡ Some g → P (TurnApp a) (turned w (party (app_id a) g.boot) (master_id ∷ [])).world
+  pub master_resyncs : (e : ℕ) (M : Master) → find nat_cmp e w.masters ≡ Some M → P (ResyncMaster e) (resynced w (master_party M) (peers w.cluster M)).world
+  pub agent_resyncs : (m : ℕ) (g : Agent) → find nat_cmp m w.agents ≡ Some g → P (ResyncAgent m) (resynced w (party (agent_id m) g.boot) (master_id ∷ [])).world
+  pub app_resyncs : (a : ℕ) (g : App) → find nat_cmp a w.apps ≡ Some g → P (ResyncApp a) (resynced w (party (app_id a) g.boot) (master_id ∷ [])).world
+  pub hears : (M : Master) (k : ℕ) (x : Packet) → find nat_cmp x.to.inc w.masters ≡ Some M → packet_of w k ≡ Some x → is_master x.to.id ≡ true → talks w.cluster M x.from.id ≡ true
+      → P (Deliver k) (let h = heard_of w.net (master_party M) (talks w.cluster M) x in let l = received w.cluster M w.net x in end_step w (comes w.net (master_party M) (talks w.cluster M) (Some x)) (told M h x.from.id l) (adopted_now M h x.from.id l))
+  pub agent_hears : (g : Agent) (k : ℕ) (x : Packet) → find nat_cmp x.to.id.number w.agents ≡ Some g → packet_of w k ≡ Some x → is_agent x.to.id ≡ true → P (Deliver k) (agent_hears w x.to.id.number g x)
+  pub app_hears : (g : App) (k : ℕ) (x : Packet) → find nat_cmp x.to.id.number w.apps ≡ Some g → packet_of w k ≡ Some x → P (Deliver k) (app_hears w x.to.id.number g x)
 
-  agent_runs : (w : World) (m : ℕ) (f : Agent → Step) → P w → ((g : Agent) → find nat_cmp m w.agents ≡ Some g → StepHolds P (f g)) → StepHolds P (at_agent w m f)
-  agent_runs w m f b k = found_has (StepHolds P) (find nat_cmp m w.agents) _ f (record { it = b }) k
+module _ (P : Event → World → Type 0) (Allowed : Event → Type 0) (w : World) (k : EventSteps P Allowed w) where
+  checked : (v : Event) (o : Option Refusal) (s : Step) → (o ≡ None → StepHolds (P v) s) → StepHolds (P v) (elim o as (λ _. Step) [ None ↦ s | Some r ↦ refused w r ])
+  checked v None s h = h refl
+  checked v (Some r) s h = record { it = k.same v }
 
-  app_runs : (w : World) (a : ℕ) (f : App → Step) → P w → ((g : App) → find nat_cmp a w.apps ≡ Some g → StepHolds P (f g)) → StepHolds P (at_app w a f)
-  app_runs w a f b k = found_has (StepHolds P) (find nat_cmp a w.apps) _ f (record { it = b }) k
+  master_runs : (v : Event) (e : ℕ) (f : Master → Step) → ((M : Master) → find nat_cmp e w.masters ≡ Some M → StepHolds (P v) (f M)) → StepHolds (P v) (at_master w e f)
+  master_runs v e f h = found_has (StepHolds (P v)) (find nat_cmp e w.masters) _ f (record { it = k.same v }) h
+
+  agent_runs : (v : Event) (m : ℕ) (f : Agent → Step) → ((g : Agent) → find nat_cmp m w.agents ≡ Some g → StepHolds (P v) (f g)) → StepHolds (P v) (at_agent w m f)
+  agent_runs v m f h = found_has (StepHolds (P v)) (find nat_cmp m w.agents) _ f (record { it = k.same v }) h
+
+  app_runs : (v : Event) (a : ℕ) (f : App → Step) → ((g : App) → find nat_cmp a w.apps ≡ Some g → StepHolds (P v) (f g)) → StepHolds (P v) (at_app w a f)
+  app_runs v a f h = found_has (StepHolds (P v)) (find nat_cmp a w.apps) _ f (record { it = k.same v }) h
 
   -- a packet
-  hears_kept : (w : World) (e : ℕ) (M : Master) (k : ℕ) (x : Packet) → P w → find nat_cmp e w.masters ≡ Some M → packet_of w k ≡ Some x → is_master x.to.id ≡ true → Holds P (master_hears w M x)
-  hears_kept w e M k x b found sent to =
+  hears_steps : (M : Master) (n : ℕ) (x : Packet) → find nat_cmp x.to.inc w.masters ≡ Some M → packet_of w n ≡ Some x → is_master x.to.id ≡ true → Holds (P (Deliver n)) (master_hears w M x)
+  hears_steps M n x found sent to =
       let h = heard_of w.net (master_party M) (talks w.cluster M) x in
       let l = received w.cluster M w.net x in
-      let n = comes w.net (master_party M) (talks w.cluster M) (Some x) in
-      either (Holds P) (talks w.cluster M x.from.id) (end_step w n (told M h x.from.id l) (adopted_now M h x.from.id l)) w
-      (λ t. record { it = (kept w b).hears e M k x found sent to t }) (λ _. record { it = b })
+      let net = comes w.net (master_party M) (talks w.cluster M) (Some x) in
+      either (Holds (P (Deliver n))) (talks w.cluster M x.from.id) (end_step w net (told M h x.from.id l) (adopted_now M h x.from.id l)) w
+      (λ t. record { it = k.hears M n x found sent to t }) (λ _. record { it = k.same (Deliver n) })
 
-  addressed_kept : (w : World) (k : ℕ) (x : Packet) → P w → packet_of w k ≡ Some x → Holds P (addressed w x)
-  addressed_kept w k x b sent =
-      let same : Holds P w = record { it = b } in
+  addressed_steps : (n : ℕ) (x : Packet) → packet_of w n ≡ Some x → Holds (P (Deliver n)) (addressed w x)
+  addressed_steps n x sent =
+      let Q = Holds (P (Deliver n)) in
+      let same : Q w = record { it = k.same (Deliver n) } in
       let to_master = with_found (find nat_cmp x.to.inc w.masters) w (λ M. master_hears w M x) in
       let to_agent = with_found (find nat_cmp x.to.id.number w.agents) w (λ g. agent_hears w x.to.id.number g x) in
       let to_app = with_found (find nat_cmp x.to.id.number w.apps) w (λ g. app_hears w x.to.id.number g x) in
-      let master : is_master x.to.id ≡ true → Holds P to_master = λ to. found_has (Holds P) (find nat_cmp x.to.inc w.masters) w (λ M. master_hears w M x) same (λ M e. hears_kept w x.to.inc M k x b e sent to) in
-      let agent : Holds P to_agent = found_has (Holds P) (find nat_cmp x.to.id.number w.agents) w (λ g. agent_hears w x.to.id.number g x) same (λ g e. record { it = (kept w b).agent_hears x.to.id.number g k x e sent }) in
-      let app : Holds P to_app = found_has (Holds P) (find nat_cmp x.to.id.number w.apps) w (λ g. app_hears w x.to.id.number g x) same (λ g e. record { it = (kept w b).app_hears x.to.id.number g k x e sent }) in
-      either (Holds P) (is_master x.to.id) to_master (cond (is_agent x.to.id) to_agent (cond (is_app x.to.id) to_app w)) master
-      (λ _. either (Holds P) (is_agent x.to.id) to_agent (cond (is_app x.to.id) to_app w) (λ _. agent)
-      (λ _. either (Holds P) (is_app x.to.id) to_app w (λ _. app) (λ _. same)))
+      let master : is_master x.to.id ≡ true → Q to_master = λ to. found_has Q (find nat_cmp x.to.inc w.masters) w (λ M. master_hears w M x) same (λ M e. hears_steps M n x e sent to) in
+      let agent : is_agent x.to.id ≡ true → Q to_agent = λ to. found_has Q (find nat_cmp x.to.id.number w.agents) w (λ g. agent_hears w x.to.id.number g x) same (λ g e. record { it = k.agent_hears g n x e sent to }) in
+      let app : Q to_app = found_has Q (find nat_cmp x.to.id.number w.apps) w (λ g. app_hears w x.to.id.number g x) same (λ g e. record { it = k.app_hears g n x e sent }) in
+      either Q (is_master x.to.id) to_master (cond (is_agent x.to.id) to_agent (cond (is_app x.to.id) to_app w)) master
+      (λ _. either Q (is_agent x.to.id) to_agent (cond (is_app x.to.id) to_app w) agent
+      (λ _. either Q (is_app x.to.id) to_app w (λ _. app) (λ _. same)))
 
-  deliver_kept : (k : ℕ) (w : World) → P w → StepHolds P (deliver_one k w)
-  deliver_kept k w b = found_has (StepHolds P) (packet_of w k) _ _ (record { it = b }) (λ x e. record { it = (addressed_kept w k x b e).it })
+  pub deliver_steps : (n : ℕ) → StepHolds (P (Deliver n)) (deliver_one n w)
+  deliver_steps n = found_has (StepHolds (P (Deliver n))) (packet_of w n) _ _ (record { it = k.same (Deliver n) }) (λ x e. record { it = (addressed_steps n x e).it })
+
+  to_master_steps : (v : Event) (p : Party) → P v (turned w p (master_id ∷ [])).world → StepHolds (P v) (turn_to_master w p)
+  to_master_steps v p h = either (StepHolds (P v)) (nat_eq (w.net.links p master_id).known 0) (prints_nothing w) (turned w p (master_id ∷ [])) (λ _. record { it = k.same v }) (λ _. record { it = h })
+
+  asks_steps : (a : ℕ) (x : AppCommand) → StepHolds (P (asking a x)) (asks w a x)
+  asks_steps a x = app_runs (asking a x) a _ (λ g f. checked (asking a x) _ _ (λ t. record { it = k.asks a g x f t }))
+
+  -- every event, with what it is of a range of deliveries
+  pub act_steps : ((n k l : ℕ) → P (DeliverRange k l) (deliver_all n k w).world) → (v : Event) → Allowed v → StepHolds (P v) (act w v)
+  act_steps r (StartMaster e) t = checked (StartMaster e) _ _ (λ n. hard_has (StepHolds (P (StartMaster e))) w (λ r. record { it = k.same (StartMaster e) }) w.hard e Raise _ (λ s. record { it = k.starts e n s }))
+  act_steps r (StopMaster e) t = master_runs (StopMaster e) e _ (λ M f. record { it = k.stops e })
+  act_steps r (StartAgent m n) t = checked (StartAgent m n) _ (prints_nothing (agent_started w m n)) (λ s. record { it = k.starts_agent m n s })
+  act_steps r (StartApp a n) t = checked (StartApp a n) _ (prints_nothing (app_started w a n)) (λ s. record { it = k.starts_app a n s })
+  act_steps r (Submit e j) t = master_runs (Submit e j) e _ (λ M f. submits_has (StepHolds (P (Submit e j))) w (λ r. record { it = k.same (Submit e j) }) M _ j (λ own s. record { it = k.submits e M j f t own s }))
+  act_steps r (Finish e a) t = master_runs (Finish e a) e _ (λ M f. finishes_has (StepHolds (P (Finish e a))) w (λ r. record { it = k.same (Finish e a) }) M _ a (λ s. record { it = k.finishes e M a f s }))
+  act_steps r (Ban e m) t = master_runs (Ban e m) e _ (λ M f. bans_has (StepHolds (P (Ban e m))) w (λ r. record { it = k.same (Ban e m) }) M _ m (λ s. record { it = k.bans e M m f s }))
+  act_steps r (Unban e m) t = master_runs (Unban e m) e _ (λ M f. unbans_has (StepHolds (P (Unban e m))) w (λ r. record { it = k.same (Unban e m) }) M _ m (λ s. record { it = k.unbans e M m f s }))
+  act_steps r (Begin e) t = master_runs (Begin e) e _ (λ M f. begins_has (StepHolds (P (Begin e))) w (λ r. record { it = k.same (Begin e) }) M _ (record { it = k.begins e M f }))
+  act_steps r (Preempt e) t = master_runs (Preempt e) e _ (λ M f. serving_makes_room_has (StepHolds (P (Preempt e))) w (λ r. record { it = k.same (Preempt e) }) M _ (λ p serves s. record { it = k.preempts e M p f serves s }))
+  act_steps r (Want a u n) t = asks_steps a (Wants u n)
+  act_steps r (Near a u m n) t = asks_steps a (WantsNear u m n)
+  act_steps r (Rack a u k n) t = asks_steps a (WantsInRack u k n)
+  act_steps r (Avoid a u m on) t = asks_steps a (Avoids u m on)
+  act_steps r (GiveBack a u m n) t = asks_steps a (GivesBack u m n)
+  act_steps r (TurnMaster e) t = master_runs (TurnMaster e) e _ (λ M f. record { it = k.master_turns e M f })
+  act_steps r (TurnAgent m) t = agent_runs (TurnAgent m) m _ (λ g f. to_master_steps (TurnAgent m) (party (agent_id m) g.boot) (k.agent_turns m g f))
+  act_steps r (TurnApp a) t = app_runs (TurnApp a) a _ (λ g f. to_master_steps (TurnApp a) (party (app_id a) g.boot) (k.app_turns a g f))
+  act_steps r (ResyncMaster e) t = master_runs (ResyncMaster e) e _ (λ M f. record { it = k.master_resyncs e M f })
+  act_steps r (ResyncAgent m) t = agent_runs (ResyncAgent m) m _ (λ g f. record { it = k.agent_resyncs m g f })
+  act_steps r (ResyncApp a) t = app_runs (ResyncApp a) a _ (λ g f. record { it = k.app_resyncs a g f })
+  act_steps r (Deliver n) t = checked (Deliver n) _ _ (λ _. deliver_steps n)
+  act_steps r (DeliverRange n l) t = checked (DeliverRange n l) _ _ (λ _. record { it = r (l + 1 - n) n l })
+  act_steps r (Dump n) t = checked (Dump n) _ _ (λ _. found_has (StepHolds (P (Dump n))) (packet_of w n) _ _ (record { it = k.same (Dump n) }) (λ x _. record { it = k.same (Dump n) }))
+  act_steps r ShowState t = record { it = k.same ShowState }
+
+module _ (P : World → Type 0) (Allowed : Event → Type 0) (kept : (w : World) → P w → WorldKept P Allowed w) where
+  abbrev of_any : Event → World → Type 0
+  of_any v w = P w
+
+  steps_of : (w : World) → P w → EventSteps of_any Allowed w
+  steps_of w b = let h = kept w b in record {
+    same = λ _. b;
+    starts = h.starts;
+    stops = h.stops;
+    starts_agent = h.starts_agent;
+    starts_app = h.starts_app;
+    submits = h.submits;
+    finishes = h.finishes;
+    bans = h.bans;
+    unbans = h.unbans;
+    begins = h.begins;
+    preempts = h.preempts;
+    asks = h.asks;
+    master_turns = h.master_turns;
+    agent_turns = h.agent_turns;
+    app_turns = h.app_turns;
+    master_resyncs = h.master_resyncs;
+    agent_resyncs = h.agent_resyncs;
+    app_resyncs = h.app_resyncs;
+    hears = λ M n x f s to t. h.hears x.to.inc M n x f s to t;
+    agent_hears = λ g n x f s _. h.agent_hears x.to.id.number g n x f s;
+    app_hears = λ g n x f s. h.app_hears x.to.id.number g n x f s;
+  }
 
   deliver_all_kept : (n k : ℕ) (w : World) → P w → StepHolds P (deliver_all n k w)
   deliver_all_kept zero k w b = record { it = b }
-  deliver_all_kept (suc n) k w b = record { it = (deliver_all_kept n (k + 1) (deliver_one k w).world (deliver_kept k w b).it).it }
-
-  to_master_kept : (w : World) (p : Party) → P w → P (turned w p (master_id ∷ [])).world → StepHolds P (turn_to_master w p)
-  to_master_kept w p b k = either (StepHolds P) (nat_eq (w.net.links p master_id).known 0) (prints_nothing w) (turned w p (master_id ∷ [])) (λ _. record { it = b }) (λ _. record { it = k })
-
-  asks_kept : (w : World) (a : ℕ) (x : AppCommand) → P w → StepHolds P (asks w a x)
-  asks_kept w a x b = app_runs w a _ b (λ g f. checked w _ _ b (λ t. record { it = (kept w b).asks a g x f t }))
+  deliver_all_kept (suc n) k w b = record { it = (deliver_all_kept n (k + 1) (deliver_one k w).world (deliver_steps of_any Allowed w (steps_of w b) k).it).it }
 
   -- every event keeps P
   pub act_keeps_world : (w : World) (e : Event) → Allowed e → P w → StepHolds P (act w e)
-  act_keeps_world w (StartMaster e) t b = checked w _ _ b (λ n. hard_has (StepHolds P) w (λ r. record { it = b }) w.hard e Raise _ (λ s. record { it = (kept w b).starts e n s }))
-  act_keeps_world w (StopMaster e) t b = master_runs w e _ b (λ M f. record { it = (kept w b).stops e })
-  act_keeps_world w (StartAgent m n) t b = checked w _ (prints_nothing (agent_started w m n)) b (λ s. record { it = (kept w b).starts_agent m n s })
-  act_keeps_world w (StartApp a n) t b = checked w _ (prints_nothing (app_started w a n)) b (λ s. record { it = (kept w b).starts_app a n s })
-  act_keeps_world w (Submit e j) t b = master_runs w e _ b (λ M f. submits_has (StepHolds P) w (λ r. record { it = b }) M _ j (λ own s. record { it = (kept w b).submits e M j f t own s }))
-  act_keeps_world w (Finish e a) t b = master_runs w e _ b (λ M f. finishes_has (StepHolds P) w (λ r. record { it = b }) M _ a (λ s. record { it = (kept w b).finishes e M a f s }))
-  act_keeps_world w (Ban e m) t b = master_runs w e _ b (λ M f. bans_has (StepHolds P) w (λ r. record { it = b }) M _ m (λ s. record { it = (kept w b).bans e M m f s }))
-  act_keeps_world w (Unban e m) t b = master_runs w e _ b (λ M f. unbans_has (StepHolds P) w (λ r. record { it = b }) M _ m (λ s. record { it = (kept w b).unbans e M m f s }))
-  act_keeps_world w (Begin e) t b = master_runs w e _ b (λ M f. begins_has (StepHolds P) w (λ r. record { it = b }) M _ (record { it = (kept w b).begins e M f }))
-  act_keeps_world w (Preempt e) t b = master_runs w e _ b (λ M f. makes_room_has (StepHolds P) w (λ r. record { it = b }) M _ (λ p s. record { it = (kept w b).preempts e M p f s }))
-  act_keeps_world w (Want a u n) t b = asks_kept w a (Wants u n) b
-  act_keeps_world w (Near a u m n) t b = asks_kept w a (WantsNear u m n) b
-  act_keeps_world w (Rack a u r n) t b = asks_kept w a (WantsInRack u r n) b
-  act_keeps_world w (Avoid a u m on) t b = asks_kept w a (Avoids u m on) b
-  act_keeps_world w (GiveBack a u m n) t b = asks_kept w a (GivesBack u m n) b
-  act_keeps_world w (TurnMaster e) t b = master_runs w e _ b (λ M f. record { it = (kept w b).master_turns e M f })
-  act_keeps_world w (TurnAgent m) t b = agent_runs w m _ b (λ g f. to_master_kept w (party (agent_id m) g.boot) b ((kept w b).agent_turns m g f))
-  act_keeps_world w (TurnApp a) t b = app_runs w a _ b (λ g f. to_master_kept w (party (app_id a) g.boot) b ((kept w b).app_turns a g f))
-  act_keeps_world w (ResyncMaster e) t b = master_runs w e _ b (λ M f. record { it = (kept w b).master_resyncs e M f })
-  act_keeps_world w (ResyncAgent m) t b = agent_runs w m _ b (λ g f. record { it = (kept w b).agent_resyncs m g f })
-  act_keeps_world w (ResyncApp a) t b = app_runs w a _ b (λ g f. record { it = (kept w b).app_resyncs a g f })
-  act_keeps_world w (Deliver k) t b = checked w _ _ b (λ _. deliver_kept k w b)
-  act_keeps_world w (DeliverRange k l) t b = checked w _ _ b (λ _. deliver_all_kept (l + 1 - k) k w b)
-  act_keeps_world w (Dump k) t b = checked w _ _ b (λ _. found_has (StepHolds P) (packet_of w k) _ _ (record { it = b }) (λ x _. record { it = b }))
-  act_keeps_world w ShowState t b = record { it = b }
+  act_keeps_world w e t b = record { it = (act_steps of_any Allowed w (steps_of w b) (λ n k l. (deliver_all_kept n k w b).it) e t).it }
 
   -- and every run
   pub run_keeps_world : (es : List Event) (w : World) → AllByRecursion Allowed es → P w → Holds P (run_from es w).world
@@ -167,7 +236,7 @@ pub record KeptBy (P : ClusterRecord → HardState → List (ℕ × Master) → 
   pub bans : (e : ℕ) (M : Master) (m : ℕ) → find nat_cmp e masters ≡ Some M → first_refusal (ban_tests h M.epoch m) ≡ None → P c (banned h m) (with_ready c (banned_in M m) masters)
   pub unbans : (e : ℕ) (M : Master) (m : ℕ) → find nat_cmp e masters ≡ Some M → first_refusal (unban_tests h M.epoch m) ≡ None → P c (unbanned h m) (with_ready c (record M { bans = without_number m M.bans }) masters)
   pub begins : (e : ℕ) (M : Master) → find nat_cmp e masters ≡ Some M → P c h (with_ready c (record M { serving = true }) masters)
-  pub preempts : (e : ℕ) (M : Master) (p : Plan) → find nat_cmp e masters ≡ Some M → plan_of c M ≡ Some p → P c h (with_ready c (preempted M p) masters)
+  pub preempts : (e : ℕ) (M : Master) (p : Plan) → find nat_cmp e masters ≡ Some M → M.serving ≡ true → plan_of c M ≡ Some p → P c h (with_ready c (preempted M p) masters)
   pub hears : (e : ℕ) (M : Master) (net : Net Ledger) (x : Packet) → find nat_cmp e masters ≡ Some M → talks c M x.from.id ≡ true
       → P c h (with_ready c (told M (heard_of net (master_party M) (talks c M) x) x.from.id (received c M net x)) masters)
 

@@ -360,7 +360,7 @@ events_hold w h = record {
   bans = λ e M m f _. master_changes w (banned w.hard m) e M (banned_in M m) [] h f (omega arith) refl refl refl refl (banned_in_order M m) (λ _. banned_fits_machines w.cluster M m) (banned_bounded w.cluster M m) refl (λ m. refl);
   unbans = λ e M m f _. master_changes w (unbanned w.hard m) e M (record M { bans = without_number m M.bans }) [] h f (omega arith) refl refl refl refl (same_in_order M (record M { bans = without_number m M.bans }) refl refl refl refl) (λ _. same_fits_machines w.cluster M (record M { bans = without_number m M.bans }) refl refl refl) (same_bounded w.cluster M (record M { bans = without_number m M.bans }) refl refl refl refl refl) refl (λ m. refl);
   begins = λ e M f. master_changes w w.hard e M (record M { serving = true }) [] h f (omega arith) refl refl refl refl (same_in_order M (record M { serving = true }) refl refl refl refl) (λ _. same_fits_machines w.cluster M (record M { serving = true }) refl refl refl) (same_bounded w.cluster M (record M { serving = true }) refl refl refl refl refl) refl (λ m. refl);
-  preempts = λ e M p f planned. master_changes w w.hard e M (preempted M p) [] h f (omega arith) refl refl refl refl (preempted_in_order w.cluster M p planned (h.masters e M f).waits) (preempted_fits_machines w.cluster M p planned) (preempted_bounded w.cluster M p planned (h.masters e M f).waits) refl (λ m. refl);
+  preempts = λ e M p f _ planned. master_changes w w.hard e M (preempted M p) [] h f (omega arith) refl refl refl refl (preempted_in_order w.cluster M p planned (h.masters e M f).waits) (preempted_fits_machines w.cluster M p planned) (preempted_bounded w.cluster M p planned (h.masters e M f).waits) refl (λ m. refl);
   asks = λ a g x f t. asks_hold w a g x h f t;
   master_turns = λ e M f. master_acted w e M _ h f (send_all_acted w.net (master_party M) (peers w.cluster M) (currents w.net M (peers w.cluster M) (h.masters e M f).shows) h.sound);
   agent_turns = λ m g f. agent_turns w m g h f;

@@ -187,7 +187,7 @@ module _ (c : ClusterRecord) (few : c.resources ≤ most_resources) where
         bans = λ e M m _ t. (b.0, record { jobs = jobs; distinct = distinct; few = room h (behind ((nat_lt M.epoch h.fence, Fenced h.fence) ∷ (has_number m h.bans, AlreadyBanned) ∷ []) (is_full h ∷ []) t) });
         unbans = λ e M m _ t. (b.0, record { jobs = jobs; distinct = distinct; few = room h (behind ((nat_lt M.epoch h.fence, Fenced h.fence) ∷ (not (has_number m h.bans), NotBanned) ∷ []) (is_full h ∷ []) t) });
         begins = λ _ _ _. b;
-        preempts = λ _ _ _ _ _. b;
+        preempts = λ _ _ _ _ _ _. b;
         hears = λ _ _ _ _ _ _. b;
       }
 

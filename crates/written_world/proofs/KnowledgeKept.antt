@@ -181,7 +181,7 @@ masters_know c h masters b = record {
   bans = λ e M m f t. writes c h masters (banned h m) [] e M (banned_in M m) b f (not_fenced M h ((has_number m h.bans, AlreadyBanned) ∷ is_full h ∷ []) t) refl refl (behind_nothing (records_of h.jobs)) (λ s. s) (λ s. ap (with_number m) s);
   unbans = λ e M m f t. writes c h masters (unbanned h m) [] e M (record M { bans = without_number m M.bans }) b f (not_fenced M h ((not (has_number m h.bans), NotBanned) ∷ is_full h ∷ []) t) refl refl (behind_nothing (records_of h.jobs)) (λ s. s) (λ s. ap (without_number m) s);
   begins = λ e M f. acts c h masters e M (record M { serving = true }) b f (record { epoch = refl; jobs = refl; bans = refl });
-  preempts = λ e M p f _. acts c h masters e M (preempted M p) b f (record { epoch = refl; jobs = refl; bans = refl });
+  preempts = λ e M p f _ _. acts c h masters e M (preempted M p) b f (record { epoch = refl; jobs = refl; bans = refl });
   hears = λ e M net x f _. let k = heard_of net (master_party M) (talks c M) x in let l = received c M net x in acts c h masters e M (told M k x.from.id l) b f (told_known M k x.from.id l);
 }
 

@@ -27,3 +27,8 @@ pub mod ViewsLemmas
 pub mod SettledLemmas
 pub mod RowsShown
 pub mod SettledKept
+pub mod StartsLemmas
+pub mod StepsLemmas
+pub mod ServesLemmas
+pub mod KeepsGrantsLemmas
+pub mod AdoptsLemmas

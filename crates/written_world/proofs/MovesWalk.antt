@@ -84,7 +84,7 @@ module _ (I : Net Ledger → Type 0) (keeps : (net : Net Ledger) (m : Move Ledge
     bans = λ e M m _ _. end_keeps (record w { hard = banned w.hard m }) w.net (banned_in M m) [] b;
     unbans = λ e M m _ _. end_keeps (record w { hard = unbanned w.hard m }) w.net (record M { bans = without_number m M.bans }) [] b;
     begins = λ e M _. end_keeps w w.net (record M { serving = true }) [] b;
-    preempts = λ e M p _ _. end_keeps w w.net (preempted M p) [] b;
+    preempts = λ e M p _ _ _. end_keeps w w.net (preempted M p) [] b;
     asks = λ a g x _ _. demanded_keeps w a g (command_key x) (command_number (given_back w a g) x) b;
     master_turns = λ e M _. turned_keeps w (master_party M) (peers w.cluster M) b;
     agent_turns = λ m g _. turned_keeps w (party (agent_id m) g.boot) (master_id ∷ []) b;

@@ -274,7 +274,7 @@ recorded_kept w h = record {
   bans = λ e M m f _. acts w (banned w.hard m) e M (banned_in M m) [] h f refl refl;
   unbans = λ e M m f _. acts w (unbanned w.hard m) e M (record M { bans = without_number m M.bans }) [] h f refl refl;
   begins = λ e M f. acts w w.hard e M (record M { serving = true }) [] h f refl refl;
-  preempts = λ e M p f _. acts w w.hard e M (preempted M p) [] h f refl refl;
+  preempts = λ e M p f _ _. acts w w.hard e M (preempted M p) [] h f refl refl;
   asks = λ a g x _ _. netted w _ h (publish_ran w.ran w.net (party (app_id a) g.boot) (to_master (changed_demand (present w.net (party (app_id a) g.boot) master_id) (command_key x) (command_number (given_back w a g) x))) h.net);
   master_turns = λ e M f. netted w _ h (send_all_ran w.ran w.net (master_party M) (peers w.cluster M) (own_ran w e M M h f refl) h.net);
   agent_turns = λ m g f. netted w _ h (send_all_ran w.ran w.net (party (agent_id m) g.boot) (master_id ∷ []) (h.agents m g f).recorded h.net);

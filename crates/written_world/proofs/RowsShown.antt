@@ -19,7 +19,7 @@ use Rattle.fuxi_terms.proofs.Booleans.{both_false, either, number_is, same_tests
 use Rattle.written_net.proofs.NetLemmas.{id_is}
 use Rattle.written_net.proofs.PublishLemmas.{set_here, set_beside, publish_grows}
 use Rattle.written_world.proofs.SettledLemmas.{number_below, number_with}
-use Rattle.written_world.proofs.SettledKept.{with_back}
+use Rattle.written_roles.proofs.MapLemmas.{with_back}
 
 -- what is published to one peer
 module _ (p : Party) (q : Id) where

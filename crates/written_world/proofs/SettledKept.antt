@@ -14,7 +14,7 @@ use Rattle.written_net.specs.Ledgers.{Ledger, nothing, at_key}
 use Rattle.fuxi_terms.specs.TallyKeys.{want_key}
 use Rattle.written_net.specs.Channels.{is_agent, is_app, content}
 use Rattle.fuxi_terms.specs.Jobs.{KnownJob, job_of, is_known, is_live, unit_count, eight_places}
-use Rattle.fuxi_terms.specs.Numbers.{has_number, with_number, without_number}
+use Rattle.fuxi_terms.specs.Numbers.{without_number}
 use Rattle.written_roles.specs.Masters.{Master}
 use Rattle.written_roles.specs.Placing.{placeable}
 use Rattle.written_roles.specs.HardState.{with_job, with_ended, raised, HardState}
@@ -30,6 +30,7 @@ use Rattle.written_world.specs.Events.{Event, act}
 use Rattle.written_world.specs.Runs.{run}
 use Rattle.std.proofs.lemmas.Map.Lookups.{exact_unsigned}
 use Rattle.written_world.specs.Good.{IsRangedMaster, IsResting}
+use Rattle.written_roles.proofs.MapLemmas.{with_back}
 
 -- an entry of a map after a put is the new one or an old one
 pub record Found {A : Type 0} (P : A → Type 0) (o : Option A) : Type 0 where
@@ -74,17 +75,6 @@ counted_wants c jobs a u d h =
     let p = is_there c (unit_count jobs a) in
     ap (λ o. unwrap_or o 0) (find-where_key key_cmp p (want_key u) (λ x t. ap p (sym (same_key (want_key u) x t))) d.entries)
     ∙ ap (λ b. unwrap_or (cond b (find key_cmp (want_key u) d.entries) None) 0) (ap (λ b. b && (nat_eq 1 1 || cond (nat_eq 1 3) (is_there c 0 (want_key u)) (has_machine c 0))) h)
-
--- a number that was not added was there
-pub with_back : (n m : ℕ) (ms : List ℕ) → has_number n (with_number m ms) ≡ true → nat_eq n m ≡ false → has_number n ms ≡ true
-with_back n m [] h e = let no : (nat_eq n m || false) ≡ false = ap (λ b. b || false) e in cc
-with_back n m (k ∷ ks) h e = elim (nat_lt m k) as (λ b. has_number n (cond b (m ∷ k ∷ ks) (cond (nat_eq m k) (k ∷ ks) (k ∷ with_number m ks))) ≡ true → (nat_eq n k || has_number n ks) ≡ true) [
-  | true ↦ λ h. sym (ap (λ b. b || (nat_eq n k || has_number n ks)) e) ∙ h
-  | false ↦ elim (nat_eq m k) as (λ b. has_number n (cond b (k ∷ ks) (k ∷ with_number m ks)) ≡ true → (nat_eq n k || has_number n ks) ≡ true) [
-    | true ↦ λ h. h
-    | false ↦ elim (nat_eq n k) as (λ b. (b || has_number n (with_number m ks)) ≡ true → (b || has_number n ks) ≡ true) [ true ↦ λ h. h | false ↦ λ h. with_back n m ks h e ]
-  ]
-] h
 
 -- a master that takes a report or a demand
 reported_ranged : (c : ClusterRecord) (M : Master) (m : ℕ) (l : Ledger) → has_machine c m ≡ true → IsRangedMaster c M → IsRangedMaster c (take_report M m l)
@@ -190,7 +180,7 @@ masters_rest c h masters b = record {
   bans = λ e M m f _. end_rests c masters (banned_in M m) b (same_ranged c M (banned_in M m) refl refl refl (ranged e M f));
   unbans = λ e M m f _. end_rests c masters (record M { bans = without_number m M.bans }) b (same_ranged c M (record M { bans = without_number m M.bans }) refl refl refl (ranged e M f));
   begins = λ e M f. end_rests c masters (record M { serving = true }) b (same_ranged c M (record M { serving = true }) refl refl refl (ranged e M f));
-  preempts = λ e M p f _. end_rests c masters (preempted M p) b (same_ranged c M (preempted M p) refl refl refl (ranged e M f));
+  preempts = λ e M p f _ _. end_rests c masters (preempted M p) b (same_ranged c M (preempted M p) refl refl refl (ranged e M f));
   hears = λ e M net x f t. let k = heard_of net (master_party M) (talks c M) x in end_rests c masters (told M k x.from.id (received c M net x)) b (told_ranged c net M k x t (ranged e M f));
 }
   where

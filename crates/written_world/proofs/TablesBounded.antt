@@ -34,12 +34,13 @@ use Rattle.fuxi_terms.proofs.Counting.{both_true as both, below_none, tied, coun
 use Rattle.fuxi_terms.proofs.Booleans.{both_true, either, number_is}
 use Rattle.fuxi_terms.proofs.KeyOrders.{key_total, same_key, spot_total, same_spot}
 use Rattle.written_roles.proofs.PlacingEnds.{is_placeable}
-use Rattle.written_world.proofs.CreditsLemmas.{found_put, put_beside}
 use Rattle.written_world.proofs.DemandsLemmas.{more_units, ranged_wider}
 use Rattle.written_world.proofs.KnownJobsLemmas.{job_added}
-use Rattle.written_world.proofs.SettledKept.{with_back, ended_units}
-use Rattle.written_world.proofs.TablesInOrder.{planned, placeable_out}
+use Rattle.written_world.proofs.SettledKept.{ended_units}
+use Rattle.written_world.proofs.TablesInOrder.{placeable_out}
 use Rattle.written_world.proofs.CountsLemmas.{counts_wider, counts_put}
+use Rattle.written_roles.proofs.MapLemmas.{found_put, put_beside, with_back}
+use Rattle.written_roles.proofs.TransitionsLemmas.{planned}
 
 -- Placing
 count_held : (es : List (Spot × ℕ)) (s : Spot) → count spot_cmp es s ≤ held es s.job s.unit

@@ -1,6 +1,6 @@
 -- A master's grants on each machine are within what the machine has, whatever the master does.
 use Rattle.std.proofs.Common.{◌≡◌, ℕ, zero, suc, ◌+◌, ◌-◌, ◌*◌, ◌<◌, ◌≤◌, Bool, true, false, cond, not, nat_eq, nat_lt, List, [], ◌∷◌, length, map, filter, Some, None, refl, sym, ◌∙◌, ap, subst, arith, min}
-use Rattle.std.specs.Prelude.{◌&&◌, ◌||◌, T}
+use Rattle.std.specs.Prelude.{◌&&◌, T}
 use Rattle.std.specs.List.{AllByRecursion, flat_map}
 use Rattle.std.specs.Ordering.{eq_by_cmp, is_eq}
 use Rattle.std.specs.Cmp.{tied_itself}
@@ -31,15 +31,16 @@ use Rattle.written_roles.specs.Settling.{IsWithin}
 use Rattle.fuxi_terms.proofs.Alls.{all_append}
 use Rattle.fuxi_terms.proofs.Members.{in_each_is}
 use Rattle.written_roles.proofs.PlacingFits.{settled_fits}
-use Rattle.fuxi_terms.proofs.Booleans.{both_true, either, number_is, nat_itself}
+use Rattle.fuxi_terms.proofs.Booleans.{both_true, either, number_is}
 use Rattle.fuxi_terms.proofs.KeyOrders.{spot_total, same_spot}
 use Rattle.written_roles.proofs.PlacingEnds.{is_placeable}
 use Rattle.fuxi_terms.proofs.Spots.{Each, each_put, each_where, each_found, each_set}
 use Rattle.written_world.proofs.TotalsLemmas.{load, load_more, set_exact, where_less, nothing_there, added_loads, ended_loads, adopted_loads, row_loads}
 use Rattle.written_roles.proofs.LossesLemmas.{plan_loss}
 use Rattle.written_roles.specs.Losses.{often, one_if, AreGrantsOn, IsLoss}
-use Rattle.written_world.proofs.TablesInOrder.{planned, sorted_set}
 use Rattle.written_world.specs.Good.{FitsMachines, IsInOrder}
+use Rattle.written_roles.proofs.TransitionsLemmas.{planned, sorted_set, sorted_without}
+use Rattle.written_roles.proofs.MapLemmas.{with_here, with_keeps}
 
 abbrev IsReported : List ℕ → Spot → Type 0
 IsReported rs s = has_number s.machine rs ≡ true
@@ -115,32 +116,6 @@ banned_fits_machines c M k h = record {
 }
 
 -- Reports
-with_here : (m : ℕ) (ms : List ℕ) → has_number m (with_number m ms) ≡ true
-with_here m [] = ap (λ b. b || false) (nat_itself m)
-with_here m (k ∷ ks) = by (with_here m ks) (nat_lt m k) (nat_eq m k) refl
-  where
-    or_true : (b : Bool) → (b || true) ≡ true
-    or_true true = refl
-    or_true false = refl
-
-    by : has_number m (with_number m ks) ≡ true → (b d : Bool) → nat_eq m k ≡ d → has_number m (cond b (m ∷ k ∷ ks) (cond d (k ∷ ks) (k ∷ with_number m ks))) ≡ true
-    by rest true d e = ap (λ b. b || has_number m (k ∷ ks)) (nat_itself m)
-    by rest false true e = ap (λ b. b || has_number m ks) e
-    by rest false false e = ap (λ b. nat_eq m k || b) rest ∙ or_true (nat_eq m k)
-
-with_keeps : (n m : ℕ) (ms : List ℕ) → has_number n ms ≡ true → has_number n (with_number m ms) ≡ true
-with_keeps n m [] h = cc
-with_keeps n m (k ∷ ks) h = by (with_keeps n m ks) (nat_lt m k) (nat_eq m k)
-  where
-    or_true : (b : Bool) → (b || true) ≡ true
-    or_true true = refl
-    or_true false = refl
-
-    by : (has_number n ks ≡ true → has_number n (with_number m ks) ≡ true) → (b d : Bool) → has_number n (cond b (m ∷ k ∷ ks) (cond d (k ∷ ks) (k ∷ with_number m ks))) ≡ true
-    by rest true d = ap (λ x. nat_eq n m || x) h ∙ or_true (nat_eq n m)
-    by rest false true = h
-    by rest false false = elim (nat_eq n k) as (λ s. (s || has_number n ks) ≡ true → (s || has_number n (with_number m ks)) ≡ true) [ true ↦ λ _. refl | false ↦ λ h. rest h ] h
-
 adopted_reported : (jobs : List KnownJob) (m : ℕ) (rs : List ℕ) (rows : List (RowKey × ℕ)) (es : List (Spot × ℕ)) → has_number m rs ≡ true → Each (IsReported rs) es → Each (IsReported rs) (adopted jobs m rows es)
 adopted_reported jobs m rs [] es here h = h
 adopted_reported jobs m rs (r ∷ rows) es here h = adopted_reported jobs m rs rows (cond (is_kept jobs r.0) (put spot_cmp (spot r.0.job r.0.unit m) r.1 es) es) here
@@ -262,10 +237,6 @@ loads_fall jobs m i (s ∷ ss) table k =
     let l = load_more jobs m i s (n - 1) n (omega arith) in
     let rest = loads_fall jobs m i ss (set_count spot_cmp table s (n - 1)) (sorted_set table s (n - 1) k) in
     omega (arith, rest, x, l)
-
-sorted_without : (ss : List Spot) (table : List (Spot × ℕ)) → T (is_sorted spot_cmp table) → T (is_sorted spot_cmp (without_grants table ss))
-sorted_without [] table k = k
-sorted_without (s ∷ ss) table k = sorted_without ss (set_count spot_cmp table s (count spot_cmp table s - 1)) (sorted_set table s _ k)
 
 reported_without : (rs : List ℕ) (ss : List Spot) (table : List (Spot × ℕ)) → Each (IsReported rs) table → Each (IsReported rs) (without_grants table ss)
 reported_without rs [] table h = h

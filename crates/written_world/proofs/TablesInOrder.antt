@@ -1,9 +1,9 @@
 -- A master's table is in order and has grants of jobs that have not ended alone, whatever the master does.
-use Rattle.std.proofs.Common.{◌≡◌, ℕ, zero, suc, ◌-◌, ◌<◌, Bool, true, false, cond, not, nat_eq, nat_lt, List, [], ◌∷◌, length, map, filter, Option, Some, None, refl, sym, ◌∙◌, ap, subst, arith, min}
+use Rattle.std.proofs.Common.{◌≡◌, ℕ, zero, suc, ◌-◌, ◌<◌, Bool, true, false, cond, not, nat_eq, nat_lt, List, [], ◌∷◌, length, map, filter, Some, None, refl, sym, ◌∙◌, ap, subst, arith, min}
 use Rattle.std.specs.Prelude.{◌&&◌, ◌||◌, T}
 use Rattle.std.specs.Option.{option_map, unwrap_or}
 use Rattle.std.specs.List.{AllByRecursion, flat_map}
-use Rattle.std.specs.Ordering.{nat_cmp, eq_by_cmp}
+use Rattle.std.specs.Ordering.{nat_cmp}
 use Rattle.std.specs.FinMap.Entries.{find, put, where_key, is_sorted, is_sorted-put, is_sorted-where_key, find-put}
 use Rattle.std.proofs.lemmas.Bool.Decides.{nat_tests}
 use Rattle.fuxi_terms.specs.declared.Key.{Key}
@@ -20,7 +20,7 @@ use Rattle.fuxi_terms.specs.Numbers.{has_number}
 use Rattle.written_roles.specs.Masters.{Master, asked, out, credited_of}
 use Rattle.fuxi_terms.specs.Tables.{spot, without_grants}
 use Rattle.written_roles.specs.Placing.{first_placeable, granted, settle, settled, all_out, waiting_pairs, has_pair, line_up, accepts, is_allowed, has_room, may_grow, placeable}
-use Rattle.written_roles.specs.Preemption.{Plan, victims, falling_priorities, by_priority, tried, first_plan, plan_of, preempted}
+use Rattle.written_roles.specs.Preemption.{Plan, falling_priorities, by_priority, tried, plan_of, preempted}
 use Rattle.written_roles.specs.HardState.{with_job, with_ended}
 use Rattle.written_roles.specs.MasterSteps.{phased, ready, is_kept, adopted, adopts, take_report, credit, raise_credited, take_demand, meet_app, ended_in, banned_in}
 use Rattle.written_world.specs.Parties.{told}
@@ -29,8 +29,9 @@ use Rattle.fuxi_terms.proofs.Alls.{all_append, all_mapped, all_flat, all_passed,
 use Rattle.fuxi_terms.proofs.Booleans.{both_true, either, number_is}
 use Rattle.fuxi_terms.proofs.KeyOrders.{key_total, spot_total}
 use Rattle.written_roles.proofs.PlacingEnds.{is_placeable}
-use Rattle.written_world.proofs.CreditsLemmas.{found_put, put_beside}
 use Rattle.written_world.specs.Good.{AllWait, IsInOrder}
+use Rattle.written_roles.proofs.MapLemmas.{found_put, put_beside}
+use Rattle.written_roles.proofs.TransitionsLemmas.{planned, sorted_set}
 
 abbrev IsSorted : List (Spot × ℕ) → Type 0
 IsSorted table = T (is_sorted spot_cmp table)
@@ -49,10 +50,6 @@ IsOfLive jobs s = is_live jobs s.job ≡ true
 -- what is found is of a live job
 pub live_found : (jobs : List KnownJob) (s : Spot) (es : List (Spot × ℕ)) → 0 < count spot_cmp es s → IsLive jobs es → is_live jobs s.job ≡ true
 live_found jobs s es some h = each_found (IsOfLive jobs) s es some h
-
--- a number set keeps the order
-pub sorted_set : (table : List (Spot × ℕ)) (s : Spot) (n : ℕ) → IsSorted table → IsSorted (set_count spot_cmp table s n)
-sorted_set table s n h = either IsSorted (nat_eq n 0) (where_key spot_cmp (λ x. not (eq_by_cmp spot_cmp s x)) table) (put spot_cmp s n table) (λ _. is_sorted-where_key spot_cmp _ table h) (λ _. is_sorted-put spot_cmp spot_total s n table h)
 
 -- what is out is asked for, so its job has not ended
 out_live : (M : Master) (a u : ℕ) → IsInOrder M → nat_lt 0 (out M a u) ≡ true → is_live M.jobs a ≡ true
@@ -129,20 +126,6 @@ without_in_order jobs table [] h = h
 without_in_order jobs table (s ∷ ss) h =
     let n = count spot_cmp table s - 1 in
     without_in_order jobs (set_count spot_cmp table s n) ss (sorted_set table s n h.0, each_set (IsOfLive jobs) s n table (λ e. live_found jobs s table (let some : 0 < n = grind (arith, nat_tests, e) in omega (arith, some)) h.1) h.1)
-
--- what holds of all that are tried holds of what is served
-pub planned : (P : Spot → Type 0) (ss : List Spot) (c : ClusterRecord) (M : Master) (p : Plan) → AllByRecursion P ss → first_plan ss c M ≡ Some p → P p.served
-planned P [] c M p h e = cc
-planned P (s ∷ ss) c M p h e = elim (victims c M s) as (λ o. (elim o as (λ _. Option Plan) [ None ↦ first_plan ss c M | Some vs ↦ Some (record { served = s; losers = vs }) ]) ≡ Some p → P p.served) [
-  | None ↦ λ e. planned P ss c M p h.1 e
-  | Some vs ↦ λ e. served vs e
-] e
-  where
-    plan : List Spot → Plan
-    plan vs = record { served = s; losers = vs }
-
-    served : (vs : List Spot) → Some (plan vs) ≡ Some p → P p.served
-    served vs e = let same : plan vs ≡ p = cc in subst (λ (q : Plan). P q.served) same h.0
 
 -- a preemption
 pub preempted_in_order : (c : ClusterRecord) (M : Master) (p : Plan) → plan_of c M ≡ Some p → AllWait M M.line → IsInOrder M → IsInOrder (preempted M p)

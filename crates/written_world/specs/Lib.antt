@@ -10,3 +10,7 @@ pub mod Good
 pub mod Shown
 pub mod Credits
 pub mod Lines
+pub mod Steps
+pub mod Starts
+pub mod GivesBack
+pub mod KeepsGrants

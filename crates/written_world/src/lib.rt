@@ -15,10 +15,13 @@ ghost use Rattle.written_net.specs.Ledgers.{Ledger};
 ghost use Rattle.written_net.specs.Sound.{Bounded, Sound, Allowed};
 ghost use Rattle.written_world.specs.World.{World, empty_world};
 ghost use Rattle.written_world.specs.Good.{Good};
+ghost use Rattle.written_world.specs.KeepsGrants.{AllAdopt, AllReport, AllStay};
 ghost use Rattle.written_net.specs.Channels.{shape};
 ghost use Rattle.written_world.specs.Shown.{AllShown, AllCredited, AllGiveBacks};
 ghost use Rattle.written_world.specs.Credits.{AllCreditedOnce};
 ghost use Rattle.written_world.specs.Safe.{Safe};
+ghost use Rattle.written_world.specs.Starts.{StaysStopped, StartsWithNothing};
+ghost use Rattle.written_world.specs.Steps.{AllGrow, AllBare, AllServe, AllLose};
 ghost use Rattle.written_world.specs.Events.{Event, world_step};
 ghost use Rattle.written_world.specs.Lines.{IsInput, is_from_line};
 ghost use Rattle.written_world.specs.Runs.{run};
@@ -83,4 +86,50 @@ pub fn credited_is_given_back()
 pub fn give_backs_are_credited_once()
     ensures once { (c : ClusterRecord) (events : List Event) → AllCreditedOnce c events }
     ensures demands { (c : ClusterRecord) (events : List Event) → AllGiveBacks (run c events).net }
+{}
+
+/// A stopped master stays so: behind a stop that is not refused no master of its epoch ever runs. And behind a start
+/// that is not refused, what runs of that machine or job has a greater boot than what it replaced.
+pub fn a_stopped_master_stays_so()
+    ensures { (c : ClusterRecord) (before after : List Event) → StaysStopped c before after }
+{}
+
+/// Right behind its start an agent enforces nothing, and an application holds and carries nothing.
+pub fn starts_with_nothing()
+    ensures { (c : ClusterRecord) (events : List Event) → StartsWithNothing (run c events) }
+{}
+
+/// By one event a count of a unit on a machine that its master has as reported rises only where then the master
+/// serves, the job is live and has the unit, the machine is neither banned nor avoided, what the unit holds is at most
+/// what it wants, and the group's usage is within its limit in every resource. On another machine a count rises only
+/// where its report is adopted.
+pub fn every_run_grows_as_allowed()
+    ensures { (c : ClusterRecord) (events : List Event) → AllGrow (run c events) }
+{}
+
+/// No running master has a grant on a machine that it has banned, and a ban that is not refused is then among its bans
+/// and those of the hard state.
+pub fn every_run_keeps_banned_machines_bare()
+    ensures { (c : ClusterRecord) (events : List Event) → AllBare (run c events) }
+{}
+
+/// By a demand of a job that is delivered, its counts fall at most by what is credited more, from 0 for a new boot. By
+/// other events a count falls only at the ban of its machine, at the end of its job, and by a preemption.
+pub fn every_run_loses_only_what_is_credited()
+    ensures { (c : ClusterRecord) (events : List Event) → AllLose (run c events) }
+{}
+
+/// A serving master has adopted a report of every machine of the cluster, or was told to begin while it ran.
+pub fn every_master_serves_when_told_of_all()
+    ensures { (c : ClusterRecord) (events : List Event) → AllServe c events }
+{}
+
+/// A failover keeps grants. What an adopted report says of a live job, of a unit that it has, with its size, on a
+/// machine that is not banned, is at most what the master then holds (`adopts`). An agent that hears of a greater epoch
+/// has as its report that epoch and exactly the table that it had before (`reports`). And its table stays until it
+/// takes a row, or is started anew (`stays`).
+pub fn a_failover_keeps_grants()
+    ensures adopts { (c : ClusterRecord) (events : List Event) → AllAdopt (run c events) }
+    ensures reports { (c : ClusterRecord) (events : List Event) → AllReport (run c events) }
+    ensures stays { (c : ClusterRecord) (events : List Event) → AllStay (run c events) }
 {}
