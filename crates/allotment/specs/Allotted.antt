@@ -14,7 +14,7 @@ use Rattle.written_roles.specs.Placing.{has_pair, line_after}
 use Rattle.grant_table.specs.Tables.{TableRecord, IsSound, with_count}
 use Rattle.grant_table.specs.declared.asking.Pick.{Pick}
 use Rattle.place_pass.specs.Best.{spot_of}
-use Rattle.place_pass.specs.Placers.{PlacerRecord, SeenRecord, IsLevelWith, IsSetFrom, asks_seen, line_told}
+use Rattle.place_pass.specs.Placers.{PlacerRecord, SeenRecord, ToldRecord, IsLevelWith, IsSetFrom, asks_seen, line_told, told_of}
 use Rattle.preempt.specs.declared.plan.Victim.{Victim}
 use Rattle.preempt.specs.Plans.{without_victims}
 use Rattle.settling.specs.Placing.{IsPlacing}
@@ -23,11 +23,11 @@ use Rattle.settling.specs.Runs.{AreTouched}
 -- the table, what the placer was told, and the spots that changed
 pub record AllotmentRecord : Type 0 where
   pub table : TableRecord
-  pub placer : PlacerRecord
+  pub placer : ToldRecord
   pub touched : List Spot
 
 abbrev pub allotment_record : TableRecord → PlacerRecord → List Pick → AllotmentRecord
-allotment_record t p touched = record { table = t; placer = p; touched = map spot_of touched }
+allotment_record t p touched = record { table = t; placer = told_of p; touched = map spot_of touched }
 
 -- the placer is level with the table
 pub record IsAllotment (t : TableRecord) (p : PlacerRecord) : Type 0 where

@@ -507,7 +507,8 @@ impl Allotment {
 
     /// The placer.
     pub fn placer(&self) -> &Placer
-        ensures { result.now ≡ self.now.placer }
+        ensures seen { result.now.seen ≡ self.now.placer.seen }
+        ensures idle { result.now.idle ≡ self.now.placer.idle }
     {
         &self.placer
     }

@@ -8,13 +8,13 @@ use Rattle.std.proofs.lemmas.Bool.Decides.{nat_tests}
 use Rattle.std.proofs.lemmas.List.{get_or-set_same}
 use Rattle.std.proofs.lemmas.List.Folds.{list_any-append}
 use Rattle.std.proofs.Math.ListN.{get_or-eq_default}
-use Rattle.fuxi_terms.specs.Cluster.{ClusterRecord, JobRecord, has_at, limit_at, is_narrow, in_each}
+use Rattle.fuxi_terms.specs.Cluster.{ClusterRecord, JobRecord, rack_of, has_at, limit_at, is_narrow, in_each}
 use Rattle.fuxi_terms.specs.Counts.{count}
 use Rattle.fuxi_terms.specs.Jobs.{KnownJob, job_of, is_known, unit_count, group_of, size_at, most_of, no_unit}
 use Rattle.fuxi_terms.specs.Keys.{Spot, key_cmp}
 use Rattle.fuxi_terms.specs.Lists.{below}
-use Rattle.fuxi_terms.specs.Tables.{held, held_on, total_by, usage_by}
-use Rattle.fuxi_terms.specs.TallyKeys.{want_key, avoid_key}
+use Rattle.fuxi_terms.specs.Tables.{held, held_on, held_in, total_by, usage_by}
+use Rattle.fuxi_terms.specs.TallyKeys.{want_key, near_key, rack_key, avoid_key}
 use Rattle.fuxi_terms.specs.Vectors.{at_place}
 use Rattle.fuxi_terms.specs.declared.Key.{Key}
 use Rattle.fuxi_terms.proofs.Booleans.{and_true, both_true, both_false, number_is, or_false}
@@ -23,8 +23,14 @@ use Rattle.written_roles.specs.Masters.{out_of}
 use Rattle.written_roles.specs.Placing.{Board, Ranked, ranked_in, places_in, candidates_in, may_grow_in, accepts_in, has_room_in, is_allowed_in, placeable_in, first_of, first_in, has_pair}
 use Rattle.grant_table.specs.Tables.{TableRecord, as_known, with_admitted}
 use Rattle.place_pass.specs.Best.{AreAdmitted}
-use Rattle.place_pass.specs.Cells.{Cell, no_cell, cell_at, asks_at, asks_in, job_at, taken, taken_all, is_gone, any_gone, asks_more, any_more, AreWishes}
-use Rattle.place_pass.specs.Placers.{AreLevel, AsksNoMore, IsIdle, board_over, is_open_to}
+use Rattle.place_pass.specs.Cells.{Cell, no_cell, cell_at, asks_at, asks_in, job_at, taken, taken_all, is_gone, any_gone, asks_more, any_more, Lifts, AvoidsStill, AreWishes}
+use Rattle.place_pass.specs.Bounds.{MarkRecord, mark_at, turn_at}
+use Rattle.place_pass.specs.Counts.{IsLifted}
+use Rattle.place_pass.specs.Placers.{AreLevel, AsksNoMore, IsIdle, IsKept, IsQuiet, KeptRecord, board_over, is_open_to}
+use Rattle.place_pass.proofs.BoundsLemmas.{NoEarlier, accepts_less, bounded_later}
+use Rattle.place_pass.proofs.SightsLemmas.{place_of}
+use Rattle.place_pass.proofs.BoundsAfterChange.{levels_le}
+use Rattle.fuxi_terms.proofs.Lists.{all_at}
 use Rattle.place_pass.proofs.Asking.{length-taken_all, get_or-taken_all}
 use Rattle.place_pass.proofs.Lining.{or_none}
 use Rattle.place_pass.proofs.Matching.{count_is}
@@ -105,10 +111,6 @@ fewer w l p r true true false r' e f g h k = refl
 fewer w l p r true true true false e f g h k = refl
 fewer w l p r true true true true e f g h k = sym (λ i. (f refl i && g refl i) && (h refl i && k refl i)) ∙ e
 
--- a machine that is open to a unit, on which it holds fewer than its greatest number
-accepts_less : (p n p' n' : Bool) → (p' ≡ true → p ≡ true) → (n' ≡ true → n ≡ true) → (p' && n') ≡ true → (p && n) ≡ true
-accepts_less p n p' n' h k e = let b = both_true p' n' e in and_true p n (h b.0) (k b.1)
-
 -- no unit wants more, and no machine is opened to one
 idle_less : (cells cells' : List (List Cell)) (o o' : List Bool) (t : TableRecord) → IsIdle cells o t
     → ((a u : ℕ) → asks_in cells' a (want_key u) ≤ asks_in cells a (want_key u)) → ((a u m : ℕ) → is_open_to cells' o' a u m ≡ true → is_open_to cells o a u m ≡ true) → IsIdle cells' o' t
@@ -127,29 +129,35 @@ opened_less cells o o' t h less = idle_less cells cells o o' t h (λ a u. omega 
     and_true (get_or o m false) (not (nat_lt 0 (asks_in cells a (avoid_key u m)))) (less m b.0) b.1)
 
 -- no machine is opened that was closed
-pub idle_opened : (cells : List (List Cell)) (o : List Bool) (t : TableRecord) (n : ℕ) (usable was : Bool) → n < length o → was ≡ get_or o n false → (not usable || was) ≡ true → IsIdle cells o t → IsIdle cells (set o n usable) t
-idle_opened cells o t n usable was lt is stays h = opened_less cells o (set o n usable) t h (λ m e. by m (nat_eq n m) refl (sym (one_set o n m usable false lt) ∙ e))
+pub opens_none : (o : List Bool) (n : ℕ) (usable was : Bool) → n < length o → was ≡ get_or o n false → (not usable || was) ≡ true → (m : ℕ) → get_or (set o n usable) m false ≡ true → get_or o m false ≡ true
+opens_none o n usable was lt is stays m e = by (nat_eq n m) refl (sym (one_set o n m usable false lt) ∙ e)
   where
     still : (x y : Bool) → (not x || y) ≡ true → x ≡ true → y ≡ true
     still true y s e = s
     still false y s e = cc
 
-    by : (m : ℕ) (b : Bool) → nat_eq n m ≡ b → cond b usable (get_or o m false) ≡ true → get_or o m false ≡ true
-    by m true t e = subst (λ k. get_or o k false ≡ true) (number_is n m t) (sym is ∙ still usable was stays e)
-    by m false t e = e
+    by : (b : Bool) → nat_eq n m ≡ b → cond b usable (get_or o m false) ≡ true → get_or o m false ≡ true
+    by true t e = subst (λ k. get_or o k false ≡ true) (number_is n m t) (sym is ∙ still usable was stays e)
+    by false t e = e
+
+pub idle_opened : (cells : List (List Cell)) (o : List Bool) (t : TableRecord) (n : ℕ) (usable was : Bool) → n < length o → was ≡ get_or o n false → (not usable || was) ≡ true → IsIdle cells o t → IsIdle cells (set o n usable) t
+idle_opened cells o t n usable was lt is stays h = opened_less cells o (set o n usable) t h (opens_none o n usable was lt is stays)
+
+pub quiet_opened : (cells : List (List Cell)) (o o' : List Bool) (line : List (ℕ × ℕ)) (turns : ℕ) (marks : List MarkRecord) (t : TableRecord) → ((m : ℕ) → get_or o' m false ≡ true → get_or o m false ≡ true) → IsQuiet cells o line turns marks t → IsQuiet cells o' line turns marks t
+quiet_opened cells o o' line turns marks t less h = record { settled = λ m e. h.settled m (less m e); waiting = h.waiting }
+
+none_still : (x y : ℕ) → (0 < x → 0 < y) → not (nat_lt 0 y) ≡ true → not (nat_lt 0 x) ≡ true
+none_still x y k f = elim (cases_lt 0 x) [
+  | inl lt ↦ let s = k lt in absurd (grind (arith, nat_tests, s, f))
+  | inr ge ↦ grind (arith, nat_tests, ge)
+]
 
 asked_less : (cells cells' : List (List Cell)) (o : List Bool) (t : TableRecord) → IsIdle cells o t → ((a : ℕ) → AsksNoMore (asks_in cells) (asks_in cells') a) → IsIdle cells' o t
 asked_less cells cells' o t h no_more = idle_less cells cells' o o t h (λ a u. (no_more a).wants u) (λ a u m e.
     let b = both_true (get_or o m false) (not (nat_lt 0 (asks_in cells' a (avoid_key u m)))) e in
     let f = b.1 in
     let k = (no_more a).avoids u m in
-    and_true (get_or o m false) (not (nat_lt 0 (asks_in cells a (avoid_key u m)))) b.0 (by (asks_in cells a (avoid_key u m)) (asks_in cells' a (avoid_key u m)) k f))
-  where
-    by : (x y : ℕ) → (0 < x → 0 < y) → not (nat_lt 0 y) ≡ true → not (nat_lt 0 x) ≡ true
-    by x y k f = elim (cases_lt 0 x) [
-      | inl lt ↦ let s = k lt in absurd (grind (arith, nat_tests, s, f))
-      | inr ge ↦ grind (arith, nat_tests, ge)
-    ]
+    and_true (get_or o m false) (not (nat_lt 0 (asks_in cells a (avoid_key u m)))) b.0 (none_still (asks_in cells a (avoid_key u m)) (asks_in cells' a (avoid_key u m)) k f))
 
 -- ---- a demand that asks for no more
 module _ (c : ClusterRecord) (es : List (Key × ℕ)) (cells : List (List Cell)) (o : List Bool) (a : ℕ) (w : AreWishes c cells o) (there : a < length cells) where
@@ -227,6 +235,27 @@ module _ (c : ClusterRecord) (es : List (Key × ℕ)) (cells : List (List Cell))
 
   pub idle_asked : (t : TableRecord) → any_more c es xs (length xs) ≡ false → IsIdle cells o t → IsIdle then o t
   idle_asked t e h = asked_less cells then o t h (all_no_more e)
+
+  -- where no unit lifts its avoidance of a machine, the machine is opened to none
+  pub still_open : (m : ℕ) → AvoidsStill es xs m → (b u : ℕ) → is_open_to then o b u m ≡ true → is_open_to cells o b u m ≡ true
+  still_open m still b u e =
+      let f = both_true (get_or o m false) (not (nat_lt 0 (asks_in then b (avoid_key u m)))) e in
+      and_true (get_or o m false) (not (nat_lt 0 (asks_in cells b (avoid_key u m)))) f.0 (none_still (asks_in cells b (avoid_key u m)) (asks_in then b (avoid_key u m)) (avoids (nat_eq a b) refl) f.1)
+    where
+      avoids : (t : Bool) → nat_eq a b ≡ t → 0 < asks_in cells b (avoid_key u m) → 0 < asks_in then b (avoid_key u m)
+      avoids true t = subst (λ z. 0 < asks_in cells z (avoid_key u m) → 0 < asks_in then z (avoid_key u m)) (number_is a b t)
+          (λ some. let at = avoided_there u m some in subst (λ n. 0 < n) (sym (avoids_then u m at.0 at.1)) (still u at.0 some))
+      avoids false f = λ some. subst (λ n. 0 < n) (sym (other_then b (avoid_key u m) f)) some
+
+  -- a unit that lifts it no longer avoids the machine
+  pub lifted_then : (m : ℕ) → Lifts es xs m → IsLifted (asks_in cells) (asks_in then) a m
+  lifted_then m h = let at = avoided_there h.unit m h.was in record { unit = h.unit; was = h.was; gone = avoids_then h.unit m at.0 at.1 ∙ h.gone }
+
+  pub none_lifted : any_more c es xs (length xs) ≡ false → (m : ℕ) → Lifts es xs m → ⊥
+  none_lifted e m h = let l = lifted_then m h in let some = (no_more e).avoids l.unit m l.was in let z = l.gone in absurd (omega (arith, some, z))
+
+  pub waiting_asked : (t : TableRecord) → any_more c es xs (length xs) ≡ false → (b u : ℕ) → 0 < out_of (asks_in then) t.entries b u → 0 < out_of (asks_in cells) t.entries b u
+  waiting_asked t e b u some = let le = (all_no_more e b).wants u in omega (arith, le, some)
 
 -- ---- a job is admitted
 module _ (j : JobRecord) (cells cells' : List (List Cell)) (o : List Bool) (t : TableRecord) (empty : get_or cells j.number [] ≡ []) (asks : (a : ℕ) (k : Key) → asks_in cells' a k ≡ asks_in cells a k)
@@ -311,6 +340,49 @@ module _ (j : JobRecord) (cells cells' : List (List Cell)) (o : List Bool) (t : 
       at_most (has_at t.cluster m i) (total_by (size_at old) m i t.entries) (size_at old a u i) (has_at t.cluster m i) (total_by (size_at now) m i t.entries) (size_at now a u i)
       refl (ap (λ k. size_of k u i) (same a f)) (total_le m i) (each_place t.cluster.resources then i b.1 lt)))
 
+  -- a unit of another job is granted no earlier than before
+  pub admitted_later : (a u m : ℕ) → nat_eq j.number a ≡ false → NoEarlier (board_over cells o t) (board_over cells' o (record t { jobs = with_admitted j t.jobs })) t.entries t.entries (a, u) m
+  admitted_later a u m f = record {
+    priority = ap (λ (k : Option KnownJob). (unwrap_or (slice_get (unwrap_or (option_map (λ (k : KnownJob). k.job.units) k) []) u) no_unit).priority) (same a f);
+    group = ap group_in (same a f);
+    accepts = accepts_less (is_open_to cells o a u m) (nat_lt (held_on t.entries a u m) (most_of old a u)) (is_open_to cells' o a u m) (nat_lt (held_on t.entries a u m) (most_of now a u))
+        (λ p. sym (ap (λ n. get_or o m false && not (nat_lt 0 n)) (asks a (avoid_key u m))) ∙ p) (λ p. sym (ap (λ k. nat_lt (held_on t.entries a u m) (most_in k u)) (same a f)) ∙ p);
+    room = still_room a u m f;
+    allowed = still_allowed a u f;
+    level = levels_le (nat_lt (held_on t.entries a u m) (asks_in cells a (near_key u m))) (nat_lt (held_in t.cluster t.entries a u (rack_of t.cluster m)) (asks_in cells a (rack_key u (rack_of t.cluster m))))
+        (nat_lt (held_on t.entries a u m) (asks_in cells' a (near_key u m))) (nat_lt (held_in t.cluster t.entries a u (rack_of t.cluster m)) (asks_in cells' a (rack_key u (rack_of t.cluster m))))
+        (λ e. ap (nat_lt (held_on t.entries a u m)) (sym (asks a (near_key u m))) ∙ e) (λ e. ap (nat_lt (held_in t.cluster t.entries a u (rack_of t.cluster m))) (sym (asks a (rack_key u (rack_of t.cluster m)))) ∙ e);
+  }
+
+  pub kept_admitted : (line : List (ℕ × ℕ)) (turns : ℕ) (k : KeptRecord) → AreAdmitted cells line → IsKept cells o line turns k t → IsKept cells' o line turns k (record t { jobs = with_admitted j t.jobs })
+  kept_admitted line turns k admitted h = record {
+    bounds = λ m a u opened has lt. bounded_later (board_over cells o t) (board_over cells' o (record t { jobs = with_admitted j t.jobs })) t.entries t.entries (a, u) m
+        (admitted_later a u m (elim (nat_eq j.number a) as (λ b. nat_eq j.number a ≡ b → b ≡ false) [
+          | true ↦ λ b. let p = place_of (a, u) line has in let l = all_at (λ (p : ℕ × ℕ). p.1 < length (get_or cells p.0 [])) line p.place (a, u) admitted p.at in let z = ap length (subst (λ n. get_or cells n [] ≡ []) (number_is j.number a b) empty) in absurd (omega (arith, l, z))
+          | false ↦ λ _. refl
+        ] refl)) (mark_at k.marks m).bound (mark_at k.marks m).groups (turn_at k.turn_of a u) (h.bounds m a u opened has lt);
+    until = h.until;
+    rises = h.rises;
+    below = h.below;
+    held = h.held;
+  }
+
+  none_out : (a u : ℕ) → nat_eq j.number a ≡ true → nat_lt 0 (out_of (asks_in cells') t.entries a u) ≡ false
+  none_out a u b =
+      let z : asks_in cells' a (want_key u) ≡ 0 = asks a (want_key u) ∙ ap (λ ys. (get_or ys u no_cell).want) (subst (λ n. get_or cells n [] ≡ []) (number_is j.number a b) empty) in
+      let none : out_of (asks_in cells') t.entries a u ≤ 0 = omega (arith, z) in
+      grind (arith, nat_tests, none)
+
+  pub quiet_admitted : (line : List (ℕ × ℕ)) (turns : ℕ) (marks : List MarkRecord) → IsQuiet cells o line turns marks t → IsQuiet cells' o line turns marks with_job
+  quiet_admitted line turns marks h = record {
+    settled = h.settled;
+    waiting = λ a u lt some. elim (nat_eq j.number a) as (λ b. nat_eq j.number a ≡ b → has_pair (a, u) line ≡ true) [
+      | true ↦ λ b. let f = none_out a u b in absurd (grind (arith, nat_tests, f, some))
+      | false ↦ λ f. h.waiting a u (subst (λ n. u < n) (ap (λ k. length (unwrap_or (option_map (λ (k : KnownJob). k.job.units) k) [])) (same a f)) lt)
+          (subst (λ n. 0 < n) (ap (λ n. n - held t.entries a u) (asks a (want_key u))) some)
+    ] refl;
+  }
+
   -- nothing is out of the job, and of the others nothing that was not
   pub idle_admitted : IsIdle cells o t → IsIdle cells' o with_job
   idle_admitted h = record {
@@ -325,9 +397,3 @@ module _ (j : JobRecord) (cells cells' : List (List Cell)) (o : List Bool) (t : 
           (still_room a u m f)
     ] refl;
   }
-    where
-      none_out : (a u : ℕ) → nat_eq j.number a ≡ true → nat_lt 0 (out_of (asks_in cells') t.entries a u) ≡ false
-      none_out a u b =
-          let z : asks_in cells' a (want_key u) ≡ 0 = asks a (want_key u) ∙ ap (λ ys. (get_or ys u no_cell).want) (subst (λ n. get_or cells n [] ≡ []) (number_is j.number a b) empty) in
-          let none : out_of (asks_in cells') t.entries a u ≤ 0 = omega (arith, z) in
-          grind (arith, nat_tests, none)

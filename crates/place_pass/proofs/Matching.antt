@@ -5,7 +5,7 @@ use Rattle.std.specs.Option.{option_map, unwrap_or}
 use Rattle.std.specs.List.{list_all}
 use Rattle.std.proofs.lemmas.Bool.Decides.{nat_tests}
 use Rattle.std.proofs.lemmas.List.{length-map, get_or-map, get_or_default}
-use Rattle.fuxi_terms.specs.Cluster.{ClusterRecord, MachineRecord, GroupRecord, is_vector_of, JobRecord, UnitRecord, is_valid_cluster, is_valid_machine, is_valid_group, is_between, limit_at, no_group, no_machine, rack_of}
+use Rattle.fuxi_terms.specs.Cluster.{ClusterRecord, MachineRecord, GroupRecord, is_vector_of, JobRecord, UnitRecord, is_valid_cluster, is_valid_machine, is_valid_group, is_between, limit_at, has_at, no_group, no_machine, rack_of}
 use Rattle.fuxi_terms.specs.Vectors.{at_place}
 use Rattle.std.proofs.Math.ListN.{get_or-eq_default}
 use Rattle.fuxi_terms.proofs.ByPlace.{at_place-get_or}
@@ -98,6 +98,24 @@ limit_past c v g i le =
     by [] g h = refl
     by (x ∷ xs) zero h = none x.limit (both_true (is_vector_of c.resources x.limit) _ (both_true (is_vector_of c.resources x.quota) _ (both_true (is_valid_group c.resources x) _ h).0).1).0
     by (x ∷ xs) (suc g) h = by xs g (both_true (is_valid_group c.resources x) _ h).1
+
+-- a machine has nothing of a resource that the cluster does not have
+pub has_past : (c : ClusterRecord) → IsTrue (is_valid_cluster c) → (m i : ℕ) → c.resources ≤ i → has_at c m i ≡ 0
+has_past c v m i le =
+    let rest : (is_between 1 256 (length c.machines) && (list_all (is_valid_machine c.resources) c.machines && (is_between 1 32 (length c.groups) && list_all (is_valid_group c.resources) c.groups))) ≡ true = (both_true (is_between 1 8 c.resources) _ v).1 in
+    let all : list_all (is_valid_machine c.resources) c.machines ≡ true = (both_true (list_all (is_valid_machine c.resources) c.machines) _ (both_true (is_between 1 256 (length c.machines)) _ rest).1).0 in
+    by c.machines m all
+  where
+    none : (qs : List ℕ) → is_vector_of c.resources qs ≡ true → at_place qs i ≡ 0
+    none qs h =
+        let t : nat_eq (length qs) c.resources ≡ true = (both_true (nat_eq (length qs) c.resources) _ h).0 in
+        let n : length qs ≡ c.resources = number_is _ _ t in
+        at_place-get_or qs i ∙ get_or-eq_default qs 0 (omega (arith, n, le))
+
+    by : (ms : List MachineRecord) (m : ℕ) → list_all (is_valid_machine c.resources) ms ≡ true → at_place (unwrap_or (slice_get ms m) no_machine).has i ≡ 0
+    by [] m h = refl
+    by (x ∷ xs) zero h = none x.has (both_true (nat_lt x.rack 64) _ (both_true (is_valid_machine c.resources x) (list_all (is_valid_machine c.resources) xs) h).0).1
+    by (x ∷ xs) (suc m) h = by xs m (both_true (is_valid_machine c.resources x) (list_all (is_valid_machine c.resources) xs) h).1
 
 -- ---- what is read of a unit
 module _ (w : Wish) (x : Cell) (cell : cell_of w ≡ x) (i y : ℕ) where

@@ -34,7 +34,7 @@ least_has : (P : Ranked → Type 0) (r : Ranked) (rs : List Ranked) → P r → 
 least_has P r [] h k = h
 least_has P r (s ∷ ss) h k = least_has P (cond (is_lt (slice_cmp nat_cmp s.rank r.rank)) s r) ss (either P (is_lt (slice_cmp nat_cmp s.rank r.rank)) s r (λ _. k.0) (λ _. h)) k.1
 
-all_below : (P : Ranked → Type 0) (f : ℕ → Ranked) (q : ℕ → Bool) (n : ℕ) → ((m : ℕ) → m < n → q m ≡ true → P (f m)) → AllByRecursion P (map f (filter q (below n)))
+pub all_below : (P : Ranked → Type 0) (f : ℕ → Ranked) (q : ℕ → Bool) (n : ℕ) → ((m : ℕ) → m < n → q m ≡ true → P (f m)) → AllByRecursion P (map f (filter q (below n)))
 all_below P f q zero h = tt
 all_below P f q (suc n) h = subst (AllByRecursion P) (sym (ap (map f) (filter_append q (below n) (n ∷ [])) ∙ map-append f (filter q (below n)) (filter q (n ∷ []))))
     (all_append P (map f (filter q (below n))) (map f (filter q (n ∷ []))) (all_below P f q n (λ m lt e. h m (omega (arith, lt)) e)) (last (q n) refl))

@@ -8,7 +8,7 @@ use Rattle.fuxi_terms.specs.declared.Key.{Key}
 use Rattle.fuxi_terms.specs.Limits.{greatest_count}
 use Rattle.fuxi_terms.specs.Keys.{key_cmp}
 use Rattle.fuxi_terms.specs.Counts.{count}
-use Rattle.fuxi_terms.specs.TallyKeys.{key, want_key, rack_key}
+use Rattle.fuxi_terms.specs.TallyKeys.{key, want_key, rack_key, avoid_key}
 use Rattle.fuxi_terms.specs.Lists.{below}
 use Rattle.fuxi_terms.specs.Jobs.{no_unit}
 use Rattle.place_pass.specs.declared.wishes.Wish.{Wish}
@@ -94,6 +94,16 @@ asks_more c es u x = nat_lt x.want (count key_cmp es (want_key u)) || any_gone e
 -- one of the first units of a job does
 abbrev pub any_more : ClusterRecord → List (Key × ℕ) → List Cell → ℕ → Bool
 any_more c es xs n = list_any (λ u. asks_more c es u (get_or xs u no_cell)) (below n)
+
+-- by a demand a unit no longer avoids a machine that it avoided, and no unit does so
+pub record Lifts (es : List (Key × ℕ)) (xs : List Cell) (m : ℕ) : Type 0 where
+  pub unit : ℕ
+  pub there : unit < length xs
+  pub was : 0 < get_or (get_or xs unit no_cell).avoided m 0
+  pub gone : count key_cmp es (avoid_key unit m) ≡ 0
+
+abbrev pub AvoidsStill : List (Key × ℕ) → List Cell → ℕ → Type 0
+AvoidsStill es xs m = (u : ℕ) → u < length xs → 0 < get_or (get_or xs u no_cell).avoided m 0 → 0 < count key_cmp es (avoid_key u m)
 
 -- what is asked at each key of each job, and the job of each number, where there is one
 abbrev pub asks_in : List (List Cell) → ℕ → Key → ℕ

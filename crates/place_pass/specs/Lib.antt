@@ -2,3 +2,6 @@ pub mod Cells
 pub mod Placers
 pub mod Lines
 pub mod Best
+pub mod Bounds
+pub mod Sights
+pub mod Counts

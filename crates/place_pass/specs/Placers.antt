@@ -1,10 +1,10 @@
 -- What a placer stands for, and when it is level with a table.
-use Rattle.std.specs.Prelude.{◌≡◌, ℕ, ◌+◌, ◌≤◌, ◌<◌, Bool, true, false, cond, not, nat_eq, nat_lt, ◌&&◌, List, [], length, filter, Option}
+use Rattle.std.specs.Prelude.{◌≡◌, ℕ, ◌+◌, ◌≤◌, ◌<◌, Bool, true, false, cond, not, nat_eq, nat_lt, ◌&&◌, List, [], ◌*◌, length, map, filter, Option, None}
 use Rattle.std.specs.Option.{option_map}
 use Rattle.std.proofs.Common.{get_or}
 use Rattle.fuxi_terms.specs.Cluster.{ClusterRecord, JobRecord, has_rack, has_at}
 use Rattle.fuxi_terms.specs.Limits.{greatest_count}
-use Rattle.fuxi_terms.specs.Tables.{held_on, total_at}
+use Rattle.fuxi_terms.specs.Tables.{held, held_on, total_at}
 use Rattle.fuxi_terms.specs.declared.Key.{Key}
 use Rattle.fuxi_terms.specs.Keys.{Spot, key_cmp, spot_cmp}
 use Rattle.fuxi_terms.specs.Counts.{count, set_count}
@@ -15,6 +15,8 @@ use Rattle.written_roles.specs.Placing.{Board, waiting_in, has_pair, placeable_i
 use Rattle.std.specs.List.{AllByRecursion}
 use Rattle.grant_table.specs.Tables.{TableRecord, IsSound, as_known}
 use Rattle.place_pass.specs.Lines.{LineRecord, units_in_all}
+use Rattle.place_pass.specs.declared.marks.Mark.{Mark}
+use Rattle.place_pass.specs.Bounds.{MarkRecord, mark_of, mark_at, key_of, turn_at, IsRising, IsBounded}
 use Rattle.place_pass.specs.Cells.{Cell, WishesRecord, asks_in, job_at}
 
 -- what a placer was told: the cluster, the admitted units with what is asked of each, by job number and unit, whether each machine is
@@ -26,10 +28,25 @@ pub record SeenRecord : Type 0 where
   pub line : List (ℕ × ℕ)
   pub turns : ℕ
 
+-- what it keeps beside: a mark for each machine, and with 8 places for each job the turn of each pair of the line, and what each unit held when a change of it was told last
+pub record KeptRecord : Type 0 where
+  pub marks : List MarkRecord
+  pub turn_of : List ℕ
+  pub held : List ℕ
+
 -- and with that, whether it knows that nothing is placeable
 pub record PlacerRecord : Type 0 where
   pub seen : SeenRecord
   pub idle : Bool
+  pub kept : KeptRecord
+
+-- a placer without what it keeps beside
+pub record ToldRecord : Type 0 where
+  pub seen : SeenRecord
+  pub idle : Bool
+
+abbrev pub told_of : PlacerRecord → ToldRecord
+told_of p = record { seen = p.seen; idle = p.idle }
 
 -- of what was told: the admitted job of a number, where there is one, what is asked at each key of a job, and whether a machine is open
 abbrev pub job_seen : SeenRecord → ℕ → Option JobRecord
@@ -82,11 +99,27 @@ board_with s t = board_over s.cells s.opened t
 pub record IsIdle (cells : List (List Cell)) (machines : List Bool) (t : TableRecord) : Type 0 where
   pub none : (a u m : ℕ) → u < unit_count (as_known t.jobs) a → m < length t.cluster.machines → placeable_in (board_over cells machines t) t.entries a u m ≡ false
 
+-- What the marks say of the pairs of the line, that turns rise along it, and that what was told of what units hold is so
+pub record IsKept (cells : List (List Cell)) (machines : List Bool) (line : List (ℕ × ℕ)) (turns : ℕ) (k : KeptRecord) (t : TableRecord) : Type 0 where
+  pub bounds : (m a u : ℕ) → get_or machines m false ≡ true → has_pair (a, u) line ≡ true → turn_at k.turn_of a u < (mark_at k.marks m).until
+      → IsBounded (board_over cells machines t) t.entries (mark_at k.marks m).bound (mark_at k.marks m).groups (turn_at k.turn_of a u) (a, u) m
+  pub until : (m : ℕ) → get_or machines m false ≡ true → (mark_at k.marks m).until ≤ turns
+  pub rises : IsRising (λ (p : ℕ × ℕ). turn_at k.turn_of p.0 p.1) line
+  pub below : (a u : ℕ) → has_pair (a, u) line ≡ true → turn_at k.turn_of a u < turns
+  pub held : (a u : ℕ) → a < 256 → u < 8 → get_or k.held (a * 8 + u) 0 ≡ held t.entries a u
+
+-- no pair may be placeable on an open machine, and each unit with something out stands in the line
+pub record IsQuiet (cells : List (List Cell)) (machines : List Bool) (line : List (ℕ × ℕ)) (turns : ℕ) (marks : List MarkRecord) (t : TableRecord) : Type 0 where
+  pub settled : (m : ℕ) → get_or machines m false ≡ true → key_of (mark_at marks m) turns ≡ None
+  pub waiting : (a u : ℕ) → u < unit_count (as_known t.jobs) a → 0 < out_of (asks_in cells) t.entries a u → has_pair (a, u) line ≡ true
+
 -- A placer and a table are of one cluster and have the same jobs, and where the placer is idle nothing is placeable. What a placer keeps beside
 -- may grow, and callers need not look into this
 pub record IsLevel (p : PlacerRecord) (t : TableRecord) : Type 0 where
   pub level : AreLevel p.seen.cluster (job_seen p.seen) t
   pub idle : p.idle ≡ true → IsIdle p.seen.cells p.seen.opened t
+  pub kept : IsKept p.seen.cells p.seen.opened p.seen.line p.seen.turns p.kept t
+  pub quiet : p.idle ≡ true → IsQuiet p.seen.cells p.seen.opened p.seen.line p.seen.turns p.kept.marks t
 
 unfoldable pub IsLevelWith : PlacerRecord → TableRecord → Type 0
 IsLevelWith p t = IsLevel p t
@@ -127,15 +160,18 @@ pub record IsSetFrom (before after : TableRecord) (s : Spot) : Type 0 where
   pub is : after ≡ record before { entries = set_count spot_cmp before.entries s number }
 
 -- what the fields of a placer show, and what they keep: the line has admitted units alone, and both lines have room for all of them
-abbrev pub placer_record : WishesRecord → LineRecord → ℕ → Bool → PlacerRecord
-placer_record w line turns idle = record { seen = record { cluster = w.cluster; cells = w.cells; opened = w.opened; line = line.pairs; turns = turns }; idle = idle }
+abbrev pub placer_record : WishesRecord → LineRecord → ℕ → Bool → List Mark → List ℕ → List ℕ → PlacerRecord
+placer_record w line turns idle marks turn_of held = record { seen = record { cluster = w.cluster; cells = w.cells; opened = w.opened; line = line.pairs; turns = turns }; idle = idle; kept = record { marks = map mark_of marks; turn_of = turn_of; held = held } }
 
-pub record IsPlacer (w : WishesRecord) (line other : LineRecord) (units : ℕ) : Type 0 where
+pub record IsPlacer (w : WishesRecord) (line other : LineRecord) (units marks turn_of held : ℕ) : Type 0 where
   pub admitted : AllByRecursion (λ (p : ℕ × ℕ). p.1 < length (get_or w.cells p.0 [])) line.pairs
   pub places : length w.cells ≡ 256
   pub counted : units ≡ units_in_all w.cells
   pub room : units_in_all w.cells ≤ line.room
   pub other_room : units_in_all w.cells ≤ other.room
+  pub marked : marks ≡ length w.cluster.machines
+  pub turn_places : turn_of ≡ 2048
+  pub held_places : held ≡ 2048
 
 -- one more grant may be made at a spot: the unit is admitted, the machine is there, has room for it, and has fewer than the greatest count
 pub record IsGrantable (t : TableRecord) (s : Spot) : Type 0 where

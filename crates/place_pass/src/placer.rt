@@ -1,8 +1,9 @@
 //! The placer.
 
 use crate::line::Line;
-use crate::search::first;
-use crate::waiting::{join, keep, keep_others};
+use crate::marks::{Mark, forget_groups, fresh_marks, reset_one, tell, tell_demand};
+use crate::search::{first, slot};
+use crate::waiting::{join, keep, keep_others, number_from};
 use crate::wishes::Wishes;
 use cluster_desc::Cluster;
 use fuxi_terms::OutOfMemory;
@@ -28,6 +29,12 @@ pub struct Placer {
     turns: u64,
     /// Nothing is placeable until more is told.
     idle: bool,
+    /// By machine.
+    marks: Vec<Mark>,
+    /// The turn of each pair of the line, 8 places for each job.
+    turn_of: Vec<u64>,
+    /// What each unit held when the last change of it was told, 8 places for each job.
+    held: Vec<u32>,
 }
 
 // Written out, so that who lets one go checks this call and not all of its parts.
@@ -40,6 +47,9 @@ impl Drop for Placer {
             units,
             turns,
             idle,
+            marks,
+            turn_of,
+            held,
         } = self;
     }
 }
@@ -49,9 +59,11 @@ impl Model for Placer {
 
     ghost Value = { PlacerRecord };
 
-    ghost view = { λ p. placer_record p.wishes p.line p.turns p.idle };
+    ghost view = { λ p. placer_record p.wishes p.line p.turns p.idle p.marks.items p.turn_of.items p.held.items };
 
-    ghost invariant = { λ p. IsPlacer p.wishes p.line p.other p.units };
+    ghost use Rattle.std.specs.Prelude.{length};
+
+    ghost invariant = { λ p. IsPlacer p.wishes p.line p.other p.units (length p.marks.items) (length p.turn_of.items) (length p.held.items) };
 }
 
 impl Placer {
@@ -66,6 +78,7 @@ impl Placer {
     ghost use Rattle.written_roles.specs.Placing.{first_in, lined, has_pair};
     ghost use Rattle.grant_table.specs.Tables.{TableRecord, as_known, with_admitted};
     ghost use Rattle.place_pass.specs.Best.{spot_of};
+    ghost use Rattle.place_pass.specs.Counts.{AreAllowed, IsLifted, IsTight, StaysTight, is_unsettled, unsettled_machines};
     ghost use Rattle.place_pass.specs.Placers.{SeenRecord, job_seen, asks_seen, asks_after, is_open, units_seen, IsLevelWith, IsUpToDate, IsSetFrom, IsGrantable, board_with, waiting_with, line_told, AsksNoMore};
 
     /// A placer of a cluster, with no job, and with no machine open. It is level with the empty table.
@@ -74,6 +87,9 @@ impl Placer {
         ensures level { IfOk result (λ placer. IsLevelWith placer (record { cluster = cluster.now; jobs = []; entries = [] })) }
     {
         let wishes = Wishes::start(alloc, cluster)?;
+        let marks = fresh_marks(alloc, cluster.machines() as usize)?;
+        let turn_of = Vec::from_elem(alloc, 0, 2048)?;
+        let held = Vec::from_elem(alloc, 0, 2048)?;
         Ok(Placer {
             wishes,
             line: Line::new(alloc),
@@ -81,6 +97,9 @@ impl Placer {
             units: 0,
             turns: 0,
             idle: false,
+            marks,
+            turn_of,
+            held,
         })
     }
 
@@ -117,9 +136,11 @@ impl Placer {
         ensures rest { self.new.seen ≡ record self.old.seen { cells = self.new.seen.cells } }
         ensures level { IsLevelWith self.old table.now → IsLevelWith self.new table.now }
         ensures idle { AsksNoMore (asks_seen self.old.seen) (asks_seen self.new.seen) app.0 → self.new.idle ≡ self.old.idle }
+        ensures tight { IsTight self.old → StaysTight self.old self.new (IsLifted (asks_seen self.old.seen) (asks_seen self.new.seen) app.0) }
     {
         let counts = demand.entries();
         let _wishes = self.wishes.cluster();
+        tell_demand(&mut self.marks, &self.wishes, app, demand);
         let more = self.wishes.asked(app, demand);
         self.idle &= !more;
     }
@@ -135,8 +156,21 @@ impl Placer {
         ensures level { (before : TableRecord) → IsLevelWith self.old before → IsSetFrom before table.now (spot app.0 unit.0 machine.0) → IsLevelWith self.new table.now }
         ensures up { (before : TableRecord) → IsUpToDate self.old.seen before → (is : IsSetFrom before table.now (spot app.0 unit.0 machine.0)) → count spot_cmp before.entries (spot app.0 unit.0 machine.0) ≤ is.number → IsUpToDate self.new.seen table.now }
         ensures idle { self.new.idle ≡ false }
+        ensures tight { IsTight self.old → StaysTight self.old self.new (λ m. m ≡ machine.0) }
     {
         self.idle = false;
+        let _wishes = self.wishes.cluster();
+        let place = slot(app, unit);
+        tell(
+            &mut self.marks,
+            &self.wishes,
+            table,
+            app,
+            unit,
+            machine,
+            self.held[place],
+        );
+        self.held[place] = table.held(app, unit);
         if self.wishes.outstanding(table, app, unit) == 0 {
             self.other.clear();
             keep_others(&mut self.other, &self.line, &self.wishes, app, unit);
@@ -156,7 +190,12 @@ impl Placer {
         let _cluster = self.wishes.cluster();
         let opened = self.wishes.is_open(machine);
         self.wishes.open(machine, usable);
-        self.idle &= !usable | opened;
+        let stays = !usable | opened;
+        self.idle &= stays;
+        if stays {
+            return;
+        }
+        reset_one(&mut self.marks, machine);
     }
 
     /// Brings the line up to date: the pairs with nothing out leave it, and the others that have something out
@@ -169,13 +208,22 @@ impl Placer {
         ensures level { IsLevelWith self.new table.now }
         ensures up { IsUpToDate self.new.seen table.now }
         ensures idle { self.new.idle ≡ self.old.idle }
+        ensures tight { self.new.seen.turns ≡ self.old.seen.turns → IsTight self.old → StaysTight self.old self.new (λ _. ⊥) }
     {
         admitted_jobs();
         let _cluster = table.cluster();
+        let _wishes = self.wishes.cluster();
         self.other.clear();
         keep(&mut self.other, &self.line, &self.wishes, table);
         let stayed = self.other.len();
         join(&mut self.other, &self.line, &self.wishes, table);
+        number_from(
+            &mut self.turn_of,
+            &self.other,
+            &self.wishes,
+            stayed,
+            self.turns,
+        );
         self.turns += (self.other.len() - stayed) as u64;
         mem::swap(&mut self.line, &mut self.other);
     }
@@ -220,15 +268,30 @@ impl Placer {
         ensures idle { self.old.idle ≡ true → steps.new ≡ steps.old }
         ensures none { self.old.idle ≡ true → result ≡ None }
         ensures found { self.new.idle ≡ is_none result }
+        ensures count { steps.new ≤ steps.old + unsettled_machines self.old }
+        ensures rest { result ≡ None → AreAllowed table.now self.old.seen.line → IsTight self.new }
+        ensures settled { result ≡ None → (m : ℕ) → is_unsettled self.new m ≡ false }
     {
-        if self.idle {
-            return None;
-        }
         let _table = table.cluster();
         let _wishes = self.wishes.cluster();
-        let found = first(&self.wishes, &self.line, table, steps);
-        self.idle = found.is_none();
-        found
+        if self.idle {
+            forget_groups(&mut self.marks, &self.wishes, &self.line, table);
+            return None;
+        }
+        let Some(pick) = first(
+            &self.wishes,
+            &self.line,
+            &self.turn_of,
+            self.turns,
+            table,
+            &mut self.marks,
+            steps,
+        ) else {
+            self.idle = true;
+            forget_groups(&mut self.marks, &self.wishes, &self.line, table);
+            return None;
+        };
+        Some(pick)
     }
 }
 

@@ -1,21 +1,27 @@
-//! The search for the placeable pair of first rank. What is free on each machine is asked once; a unit with
-//! nothing out, or whose group is at its limit, is left before any machine is looked at. A machine on which a unit
-//! has its greatest number is passed like one without room.
+//! The search for the placeable pair of first rank. A machine is looked at only where its bound comes before the best
+//! pair so far; what is free there is then asked once. A unit that has its greatest number on a machine is passed there like one
+//! that does not fit.
 
-ghost use Rattle.std.specs.Prelude.{◌≡◌, ℕ, ◌+◌, ◌-◌, ◌<◌, ◌≤◌, ◌&&◌, true, false, IsTrue, [], ◌∷◌, length};
+ghost use Rattle.std.specs.Prelude.{◌≡◌, ℕ, ◌+◌, ◌-◌, ◌*◌, ◌<◌, ◌≤◌, ◌&&◌, ◌⊎◌, ◌≢◌, Option, List, true, false, IsTrue, [], ◌∷◌, ◌++◌, length, map, None, Some, slice_get, not, nat_eq, cond, IfSome};
 ghost use Rattle.std.proofs.Common.{get_or};
-ghost use Rattle.std.specs.Option.{option_map};
+ghost use Rattle.std.specs.Option.{is_none, option_map};
 ghost use Rattle.std.specs.Ordering.{nat_cmp, is_lt};
 ghost use Rattle.std.specs.Cmp.Lexicographic.{slice_cmp};
 ghost use Rattle.fuxi_terms.specs.Vectors.{at_place};
-ghost use Rattle.fuxi_terms.specs.Cluster.{limit_at};
+ghost use Rattle.fuxi_terms.specs.Cluster.{limit_at, has_at};
+ghost use Rattle.fuxi_terms.specs.Tables.{total_at};
+ghost use Rattle.grant_table.specs.Tables.{as_known};
 ghost use Rattle.written_roles.specs.Masters.{out_of, level_of};
-ghost use Rattle.written_roles.specs.Placing.{first_in, places_in, may_grow_in, accepts_in, has_room_in};
+ghost use Rattle.written_roles.specs.Placing.{first_in, accepts_in, has_room_in, is_allowed_in, has_pair};
 ghost use Rattle.place_pass.specs.Cells.{asks_in, job_at};
-ghost use Rattle.place_pass.specs.Placers.{AreLevel, board_over, IsNarrow};
-ghost use Rattle.place_pass.specs.Best.{best_in, spot_of, ranked_as, IsFree, IsPart, AreAdmitted};
+ghost use Rattle.place_pass.specs.Placers.{AreLevel, board_over};
+ghost use Rattle.place_pass.specs.Best.{spot_of, AreAdmitted};
+ghost use Rattle.place_pass.specs.Bounds.{rank_of, mark_of, mark_at, key_of, turn_at, Rises, IsBounded, is_bound, comes_before};
+ghost use Rattle.place_pass.specs.Counts.{is_unsettled_by, count_below};
+ghost use Rattle.place_pass.specs.Sights.{sight_rank, rank_with, found_rank, turn_in, IsSight, IsFound, IsLeast, AreBounded, is_first};
 
 use crate::line::Line;
+use crate::marks::{Mark, Rank};
 use crate::wishes::Wishes;
 use cluster_desc::{Cluster, Group};
 use grant_table::{GrantTable, Pick, Steps};
@@ -24,23 +30,35 @@ use res_vector::{Res, fits, zero};
 use schedule_unit::{AppNo, GroupNo, MachineNo, UnitNo};
 use std::sync::ledger::Ledger;
 
-/// A placeable pair with its rank: 9 less priority, level, place in the line, machine.
+/// A placeable pair of a unit and a machine, with its rank there.
 #[derive(Clone, Copy, Debug)]
 pub(crate) struct Found {
-    pub(crate) rank: [u64; 4],
+    pub(crate) rank: Rank,
     pub(crate) pick: Pick,
+}
+
+/// The best pair of one machine, with its rank there.
+#[derive(Clone, Copy, Debug)]
+pub(crate) struct Sight {
+    pub(crate) rank: Rank,
+    pub(crate) app: AppNo,
+    pub(crate) unit: UnitNo,
 }
 
 impl Wishes {
     ghost use Rattle.std.specs.Prelude.{◌≡◌, ◌-◌, ◌<◌, ◌≤◌, ◌&&◌, IsTrue, [], length};
     ghost use Rattle.std.proofs.Common.{get_or};
     ghost use Rattle.written_roles.specs.Masters.{out_of, level_of};
-    ghost use Rattle.written_roles.specs.Placing.{may_grow_in, accepts_in, has_room_in};
-    ghost use Rattle.fuxi_terms.specs.Jobs.{unit_count};
+    ghost use Rattle.written_roles.specs.Placing.{is_allowed_in, accepts_in, has_room_in};
+    ghost use Rattle.fuxi_terms.specs.Jobs.{unit_count, group_of, size_at};
+    ghost use Rattle.fuxi_terms.specs.Vectors.{at_place};
+    ghost use Rattle.fuxi_terms.specs.Cluster.{has_at};
+    ghost use Rattle.fuxi_terms.specs.Tables.{total_at};
     ghost use Rattle.grant_table.specs.Tables.{as_known};
     ghost use Rattle.place_pass.specs.Cells.{asks_in, job_at};
-    ghost use Rattle.place_pass.specs.Placers.{AreLevel, board_over, IsNarrow};
-    ghost use Rattle.place_pass.specs.Best.{IsFree};
+    ghost use Rattle.place_pass.specs.Placers.{AreLevel, board_over};
+    ghost use Rattle.place_pass.specs.Bounds.{is_nearer_in};
+    ghost use Rattle.fuxi_terms.specs.Tables.{spot};
 
     /// What a unit still wants.
     pub(crate) fn outstanding(&self, table: &GrantTable, app: AppNo, unit: UnitNo) -> u32
@@ -52,16 +70,23 @@ impl Wishes {
         wish.want.saturating_sub(table.held(app, unit))
     }
 
-    // Whether a unit may be granted once more, wherever that be. Its size then needs no resource that is not there.
-    fn may_grow(&self, table: &GrantTable, app: AppNo, unit: UnitNo) -> bool
+    /// The group of the unit, which is that of its job.
+    pub(crate) fn group(&self, table: &GrantTable, app: AppNo, unit: UnitNo) -> GroupNo
         requires level { AreLevel self.now.cluster (job_at self.now.cells) table.now }
         requires unit { unit.0 < length (get_or self.now.cells app.0 []) }
-        ensures grows { result ≡ may_grow_in (board_over self.now.cells self.now.opened table.now) table.now.entries app.0 unit.0 }
-        ensures narrow { IsTrue result → IsNarrow table.now app.0 unit.0 }
+        ensures group { result.0 ≡ group_of (as_known table.now.jobs) app.0 }
+        ensures small { result.0 < 32 }
     {
-        if self.outstanding(table, app, unit) == 0 {
-            return false;
-        }
+        let _table = table.cluster();
+        self.wish(app, unit).group
+    }
+
+    /// Whether the limit of the unit's group allows one grant more of it.
+    pub(crate) fn allowed(&self, table: &GrantTable, app: AppNo, unit: UnitNo) -> bool
+        requires level { AreLevel self.now.cluster (job_at self.now.cells) table.now }
+        requires unit { unit.0 < length (get_or self.now.cells app.0 []) }
+        ensures { result ≡ is_allowed_in table.now.cluster (group_of (as_known table.now.jobs)) (size_at (as_known table.now.jobs)) table.now.entries app.0 unit.0 }
+    {
         let wish = self.wish(app, unit);
         let group = group_or_none(table.cluster(), wish.group);
         allows(&group, &table.used_by(wish.group), &wish.size)
@@ -72,31 +97,30 @@ impl Wishes {
     fn takes(
         &self,
         table: &GrantTable,
-        parts: &[Res; 256],
+        free: &Res,
         app: AppNo,
         unit: UnitNo,
         machine: MachineNo,
     ) -> bool
-        requires few { length table.now.cluster.machines ≤ 256 }
         requires level { AreLevel self.now.cluster (job_at self.now.cells) table.now }
         requires unit { unit.0 < length (get_or self.now.cells app.0 []) }
         requires machine { machine.0 < length table.now.cluster.machines }
-        requires free { IsFree table.now self.now.opened parts.now }
-        requires narrow { IsNarrow table.now app.0 unit.0 }
+        requires free { (i : ℕ) → at_place free.now.q i ≡ has_at table.now.cluster machine.0 i - total_at (as_known table.now.jobs) machine.0 i table.now.entries }
+        requires within { (i : ℕ) → total_at (as_known table.now.jobs) machine.0 i table.now.entries ≤ has_at table.now.cluster machine.0 i }
         ensures { result ≡ (accepts_in (board_over self.now.cells self.now.opened table.now) table.now.entries app.0 unit.0 machine.0 && has_room_in table.now.cluster (board_over self.now.cells self.now.opened table.now).sizes table.now.entries app.0 unit.0 machine.0) }
     {
+        let _table = table.cluster();
         let wish = self.wish(app, unit);
-        let number = machine.0 as usize;
         if !self.is_open(machine) {
             return false;
         }
-        if wish.avoided[number] > 0 {
+        if wish.avoided[machine.0 as usize] > 0 {
             return false;
         }
         if table.held_on(app, unit, machine) >= wish.most {
             return false;
         }
-        fits(&wish.size, &parts[number])
+        fits(&wish.size, free)
     }
 
     // The level of the unit on the machine.
@@ -116,6 +140,25 @@ impl Wishes {
             2
         }
     }
+
+    /// Whether the unit wants more in the rack of the machine than it has there.
+    pub(crate) fn is_near_rack(
+        &self,
+        table: &GrantTable,
+        app: AppNo,
+        unit: UnitNo,
+        machine: MachineNo,
+    ) -> bool
+        requires cluster { self.now.cluster ≡ table.now.cluster }
+        requires here { unit.0 < length (get_or self.now.cells app.0 []) }
+        requires there { unit.0 < unit_count (as_known table.now.jobs) app.0 }
+        requires machine { machine.0 < length table.now.cluster.machines }
+        ensures { result ≡ is_nearer_in (board_over self.now.cells self.now.opened table.now) table.now.entries (spot app.0 unit.0 machine.0) }
+    {
+        let wish = self.wish(app, unit);
+        let rack = table.cluster().machine(machine).rack;
+        table.held_in_rack(app, unit, rack) < wish.racks[rack.0 as usize]
+    }
 }
 
 // The group of this number. One that the cluster does not have has nothing and may have nothing.
@@ -132,42 +175,6 @@ fn group_or_none(cluster: &Cluster, number: GroupNo) -> Group
     }
 }
 
-// What is free on each open machine. Each is a step.
-fn free_parts<L: Ledger>(
-    wishes: &Wishes,
-    cluster: &Cluster,
-    table: &GrantTable,
-    steps: &mut Steps<L>,
-) -> [Res; 256]
-    requires cluster { cluster.now ≡ table.now.cluster }
-    requires few { length table.now.cluster.machines ≤ 256 }
-    requires level { AreLevel wishes.now.cluster (job_at wishes.now.cells) table.now }
-    ensures { IsFree table.now wishes.now.opened result }
-{
-    let mut parts = [zero(); 256];
-    for number in 0..cluster.machines() {
-        parts[number as usize] = free_part(wishes, table, MachineNo(number), steps);
-    }
-    parts
-}
-
-// What is free on a machine, which is asked where it is open.
-fn free_part<L: Ledger>(
-    wishes: &Wishes,
-    table: &GrantTable,
-    machine: MachineNo,
-    steps: &mut Steps<L>,
-) -> Res
-    requires { machine.0 < length table.now.cluster.machines }
-    ensures { (i : ℕ) → get_or wishes.now.opened machine.0 false ≡ true → IsPart table.now machine.0 i (get_or result.q i 0) }
-{
-    if wishes.is_open(machine) {
-        table.free(machine, steps)
-    } else {
-        zero()
-    }
-}
-
 // Whether a rank comes before another.
 fn is_before(a: &[u64], b: &[u64]) -> bool
     ensures { result ≡ is_lt (slice_cmp nat_cmp a.now b.now) }
@@ -175,13 +182,47 @@ fn is_before(a: &[u64], b: &[u64]) -> bool
     a.cmp(b).is_lt()
 }
 
+// Whether a pair on one machine comes before a pair on another.
+fn is_earlier(rank: &Rank, machine: MachineNo, found: &Found) -> bool
+    ensures { result ≡ comes_before (rank_of rank.now ++ machine.0 ∷ []) (rank_with found.now) }
+{
+    let other = &found.rank;
+    is_before(
+        &[
+            rank.late as u64,
+            rank.level as u64,
+            rank.turn,
+            machine.0 as u64,
+        ],
+        &[
+            other.late as u64,
+            other.level as u64,
+            other.turn,
+            found.pick.machine.0 as u64,
+        ],
+    )
+}
+
+// Whether a rank on one machine comes before another there.
+fn is_earlier_here(rank: &Rank, other: &Rank) -> bool
+    ensures { result ≡ comes_before (rank_of rank.now) (rank_of other.now) }
+{
+    is_before(
+        &[rank.late as u64, rank.level as u64, rank.turn],
+        &[other.late as u64, other.level as u64, other.turn],
+    )
+}
+
 // The better one.
 fn better(best: Option<Found>, found: Found) -> Option<Found>
-    ensures { option_map ranked_as result ≡ best_in (option_map ranked_as best) (ranked_as found ∷ []) }
+    ensures kept { (r : List ℕ) → is_bound (found_rank best) r ≡ true → is_bound (found_rank result) r ≡ true }
+    ensures itself { (r : List ℕ) → is_bound (Some (rank_with found)) r ≡ true → is_bound (found_rank result) r ≡ true }
+    ensures some { is_none result ≡ false }
+    ensures one { IfSome result (λ x. (x ≡ found) ⊎ (Some x ≡ best)) }
 {
     match best {
         Some(best) => {
-            if is_before(&found.rank, &best.rank) {
+            if is_earlier(&found.rank, found.pick.machine, &best) {
                 Some(found)
             } else {
                 Some(best)
@@ -191,58 +232,445 @@ fn better(best: Option<Found>, found: Found) -> Option<Found>
     }
 }
 
-// The best of what was found before and of all placeable pairs of one unit.
-fn best_for(
+// The better one on one machine.
+fn nearer(best: Option<Sight>, sight: Sight) -> Option<Sight>
+    ensures kept { (r : List ℕ) → is_bound (sight_rank best) r ≡ true → is_bound (sight_rank result) r ≡ true }
+    ensures itself { (r : List ℕ) → is_bound (Some (rank_of sight.rank)) r ≡ true → is_bound (sight_rank result) r ≡ true }
+    ensures one { IfSome result (λ x. (x ≡ sight) ⊎ (Some x ≡ best)) }
+{
+    match best {
+        Some(best) => {
+            if is_earlier_here(&sight.rank, &best.rank) {
+                Some(sight)
+            } else {
+                Some(best)
+            }
+        }
+        None => Some(sight),
+    }
+}
+
+// Whether a rank comes before that of the best so far.
+fn may_be_nearer(before: &Option<Sight>, rank: &Rank) -> bool
+    ensures { result ≡ false → is_bound (sight_rank before.now) (rank_of rank.now) ≡ true }
+{
+    match before {
+        Some(best) => is_earlier_here(rank, &best.rank),
+        None => true,
+    }
+}
+
+/// Where the number of a unit stands among 8 places for each job.
+pub(crate) fn slot(app: AppNo, unit: UnitNo) -> usize
+    requires app { app.0 < 256 }
+    requires unit { unit.0 < 8 }
+    ensures { result ≡ app.0 * 8 + unit.0 }
+{
+    app.0 as usize * 8 + unit.0 as usize
+}
+
+// The turn of an admitted unit.
+fn turn_of_unit(wishes: &Wishes, turn_of: &[u64], app: AppNo, unit: UnitNo) -> u64
+    requires unit { unit.0 < length (get_or wishes.now.cells app.0 []) }
+    requires places { length turn_of.now ≡ 2048 }
+    ensures { result ≡ turn_in turn_of.now (app.0, unit.0) }
+{
+    let _wishes = wishes.cluster();
+    turn_of[slot(app, unit)]
+}
+
+// The place from which on the turns are at least this one.
+fn place_from(wishes: &Wishes, line: &Line, turn_of: &[u64], turn: u64) -> usize
+    requires admitted { AreAdmitted wishes.now.cells line.now.pairs }
+    requires places { length turn_of.now ≡ 2048 }
+    requires rises { Rises (turn_in turn_of.now) line.now.pairs }
+    ensures { (k : ℕ) (p : ℕ × ℕ) → k < result → slice_get line.now.pairs k ≡ Some p → turn_in turn_of.now p < turn }
+{
+    let mut place = line.len();
+    while place > 0 {
+        let (app, unit) = line.at(place - 1);
+        if turn_of_unit(wishes, turn_of, app, unit) < turn {
+            return place;
+        }
+        place -= 1;
+    }
+    0
+}
+
+// The better of what was found before and of one unit, where it may be placed. Where it would fit and is not allowed its group
+// is noted.
+fn weigh(
     wishes: &Wishes,
+    turn_of: &[u64],
     table: &GrantTable,
-    parts: &[Res; 256],
-    place: usize,
+    machine: MachineNo,
+    free: &Res,
     app: AppNo,
     unit: UnitNo,
-    before: Option<Found>,
-) -> Option<Found>
-    requires few { length table.now.cluster.machines ≤ 256 }
+    groups: &mut [bool; 32],
+    before: Option<Sight>,
+) -> Option<Sight>
     requires level { AreLevel wishes.now.cluster (job_at wishes.now.cells) table.now }
     requires unit { unit.0 < length (get_or wishes.now.cells app.0 []) }
-    requires free { IsFree table.now wishes.now.opened parts.now }
-    requires narrow { IsNarrow table.now app.0 unit.0 }
-    ensures { option_map ranked_as result ≡ best_in (option_map ranked_as before) (places_in (board_over wishes.now.cells wishes.now.opened table.now) table.now.entries place (app.0, unit.0)) }
+    requires machine { machine.0 < length table.now.cluster.machines }
+    requires places { length turn_of.now ≡ 2048 }
+    requires free { (i : ℕ) → at_place free.now.q i ≡ has_at table.now.cluster machine.0 i - total_at (as_known table.now.jobs) machine.0 i table.now.entries }
+    requires within { (i : ℕ) → total_at (as_known table.now.jobs) machine.0 i table.now.entries ≤ has_at table.now.cluster machine.0 i }
+    ensures here { IsBounded (board_over wishes.now.cells wishes.now.opened table.now) table.now.entries (sight_rank result) groups.new (turn_in turn_of.now (app.0, unit.0)) (app.0, unit.0) machine.0 }
+    ensures kept { (q : ℕ × ℕ) (t : ℕ) → IsBounded (board_over wishes.now.cells wishes.now.opened table.now) table.now.entries (sight_rank before) groups.old t q machine.0 → IsBounded (board_over wishes.now.cells wishes.now.opened table.now) table.now.entries (sight_rank result) groups.new t q machine.0 }
+    ensures sight { (line : List (ℕ × ℕ)) (place : ℕ) → slice_get line place ≡ Some (app.0, unit.0) → out_of (asks_in wishes.now.cells) table.now.entries app.0 unit.0 ≢ 0 → IfSome before (λ x. IsSight (board_over wishes.now.cells wishes.now.opened table.now) table.now.entries (turn_in turn_of.now) line machine.0 x) → IfSome result (λ x. IsSight (board_over wishes.now.cells wishes.now.opened table.now) table.now.entries (turn_in turn_of.now) line machine.0 x) }
 {
     let late = 9_u8.saturating_sub(wishes.wish(app, unit).priority);
-    let mut best = before;
-    for number in 0..table.cluster().machines() {
+    let level = wishes.level(table, app, unit, machine);
+    let turn = turn_of_unit(wishes, turn_of, app, unit);
+    let rank = Rank { late, level, turn };
+    if !may_be_nearer(&before, &rank) {
+        return before;
+    }
+    if !wishes.takes(table, free, app, unit, machine) {
+        return before;
+    }
+    if !wishes.allowed(table, app, unit) {
+        let group = wishes.group(table, app, unit);
+        groups[group.0 as usize] = true;
+        return before;
+    }
+    nearer(before, Sight { rank, app, unit })
+}
+
+// The best placeable pair on one machine among those from a place on.
+fn best_on(
+    wishes: &Wishes,
+    line: &Line,
+    turn_of: &[u64],
+    table: &GrantTable,
+    machine: MachineNo,
+    free: &Res,
+    from: usize,
+    groups: &mut [bool; 32],
+) -> Option<Sight>
+    requires level { AreLevel wishes.now.cluster (job_at wishes.now.cells) table.now }
+    requires machine { machine.0 < length table.now.cluster.machines }
+    requires admitted { AreAdmitted wishes.now.cells line.now.pairs }
+    requires places { length turn_of.now ≡ 2048 }
+    requires waits { (a u : ℕ) → has_pair (a, u) line.now.pairs ≡ true → out_of (asks_in wishes.now.cells) table.now.entries a u ≢ 0 }
+    requires free { (i : ℕ) → at_place free.now.q i ≡ has_at table.now.cluster machine.0 i - total_at (as_known table.now.jobs) machine.0 i table.now.entries }
+    requires within { (i : ℕ) → total_at (as_known table.now.jobs) machine.0 i table.now.entries ≤ has_at table.now.cluster machine.0 i }
+    requires before { (k : ℕ) (p : ℕ × ℕ) → k < from → slice_get line.now.pairs k ≡ Some p → IsBounded (board_over wishes.now.cells wishes.now.opened table.now) table.now.entries None groups.old (turn_in turn_of.now p) p machine.0 }
+    ensures bounded { (k : ℕ) (p : ℕ × ℕ) → slice_get line.now.pairs k ≡ Some p → IsBounded (board_over wishes.now.cells wishes.now.opened table.now) table.now.entries (sight_rank result) groups.new (turn_in turn_of.now p) p machine.0 }
+    ensures sight { IfSome result (λ x. IsSight (board_over wishes.now.cells wishes.now.opened table.now) table.now.entries (turn_in turn_of.now) line.now.pairs machine.0 x) }
+{
+    let mut best = None;
+    for place in from..line.len() {
+        let (app, unit) = line.at(place);
+        best = weigh(
+            wishes, turn_of, table, machine, free, app, unit, groups, best,
+        );
+    }
+    best
+}
+
+// The place from which on the pairs are to be looked at: all of them, but where none was placeable those that were not
+// looked at.
+fn begin(
+    wishes: &Wishes,
+    line: &Line,
+    turn_of: &[u64],
+    table: &GrantTable,
+    machine: MachineNo,
+    mark: &mut Mark,
+) -> usize
+    requires admitted { AreAdmitted wishes.now.cells line.now.pairs }
+    requires places { length turn_of.now ≡ 2048 }
+    requires rises { Rises (turn_in turn_of.now) line.now.pairs }
+    requires old { AreBounded (board_over wishes.now.cells wishes.now.opened table.now) table.now.entries (turn_in turn_of.now) line.now.pairs (mark_of mark.old) machine.0 }
+    ensures { (k : ℕ) (p : ℕ × ℕ) → k < result → slice_get line.now.pairs k ≡ Some p → IsBounded (board_over wishes.now.cells wishes.now.opened table.now) table.now.entries None mark.new.groups (turn_in turn_of.now p) p machine.0 }
+{
+    if mark.bound.is_none() {
+        return place_from(wishes, line, turn_of, mark.until);
+    }
+    mark.groups = [false; 32];
+    0
+}
+
+// The rank of what is seen.
+fn rank_in(best: &Option<Sight>) -> Option<Rank>
+    ensures { option_map rank_of result ≡ sight_rank best.now }
+{
+    match best {
+        Some(sight) => Some(sight.rank),
+        None => None,
+    }
+}
+
+// Looks at one machine, which is a step. Its mark is exact then.
+fn look<L: Ledger>(
+    wishes: &Wishes,
+    line: &Line,
+    turn_of: &[u64],
+    turns: u64,
+    table: &GrantTable,
+    machine: MachineNo,
+    mark: &mut Mark,
+    steps: &mut Steps<L>,
+) -> Option<Sight>
+    requires level { AreLevel wishes.now.cluster (job_at wishes.now.cells) table.now }
+    requires machine { machine.0 < length table.now.cluster.machines }
+    requires admitted { AreAdmitted wishes.now.cells line.now.pairs }
+    requires places { length turn_of.now ≡ 2048 }
+    requires waits { (a u : ℕ) → has_pair (a, u) line.now.pairs ≡ true → out_of (asks_in wishes.now.cells) table.now.entries a u ≢ 0 }
+    requires rises { Rises (turn_in turn_of.now) line.now.pairs }
+    requires old { AreBounded (board_over wishes.now.cells wishes.now.opened table.now) table.now.entries (turn_in turn_of.now) line.now.pairs (mark_of mark.old) machine.0 }
+    ensures bounded { (k : ℕ) (p : ℕ × ℕ) → slice_get line.now.pairs k ≡ Some p → IsBounded (board_over wishes.now.cells wishes.now.opened table.now) table.now.entries (sight_rank result) mark.new.groups (turn_in turn_of.now p) p machine.0 }
+    ensures sight { IfSome result (λ x. IsSight (board_over wishes.now.cells wishes.now.opened table.now) table.now.entries (turn_in turn_of.now) line.now.pairs machine.0 x) }
+    ensures bound { option_map rank_of mark.new.bound ≡ sight_rank result }
+    ensures until { mark.new.until ≡ turns }
+    ensures step { steps.new ≡ steps.old + 1 }
+{
+    let free = table.free(machine, steps);
+    let from = begin(wishes, line, turn_of, table, machine, mark);
+    let best = best_on(
+        wishes,
+        line,
+        turn_of,
+        table,
+        machine,
+        &free,
+        from,
+        &mut mark.groups,
+    );
+    mark.bound = rank_in(&best);
+    mark.until = turns;
+    best
+}
+
+// Whether a pair on this machine may come before the best so far.
+fn may_be_first(best: &Option<Found>, key: &Rank, machine: MachineNo) -> bool
+    ensures { result ≡ is_first best.now (rank_of key.now) machine.0 }
+{
+    match best {
+        Some(found) => is_earlier(key, machine, found),
+        None => true,
+    }
+}
+
+// The best of what was found before and of what is placeable on one machine, which is looked at only where it may be first.
+fn consider<L: Ledger>(
+    wishes: &Wishes,
+    line: &Line,
+    turn_of: &[u64],
+    turns: u64,
+    table: &GrantTable,
+    machine: MachineNo,
+    mark: &mut Mark,
+    steps: &mut Steps<L>,
+    before: Option<Found>,
+) -> Option<Found>
+    requires level { AreLevel wishes.now.cluster (job_at wishes.now.cells) table.now }
+    requires machine { machine.0 < length table.now.cluster.machines }
+    requires admitted { AreAdmitted wishes.now.cells line.now.pairs }
+    requires places { length turn_of.now ≡ 2048 }
+    requires waits { (a u : ℕ) → has_pair (a, u) line.now.pairs ≡ true → out_of (asks_in wishes.now.cells) table.now.entries a u ≢ 0 }
+    requires rises { Rises (turn_in turn_of.now) line.now.pairs }
+    requires below { (q : ℕ × ℕ) → has_pair q line.now.pairs ≡ true → turn_in turn_of.now q < turns }
+    requires old { get_or wishes.now.opened machine.0 false ≡ true → AreBounded (board_over wishes.now.cells wishes.now.opened table.now) table.now.entries (turn_in turn_of.now) line.now.pairs (mark_of mark.old) machine.0 }
+    requires until { get_or wishes.now.opened machine.0 false ≡ true → mark.old.until ≤ turns }
+    ensures bounded { get_or wishes.now.opened machine.0 false ≡ true → AreBounded (board_over wishes.now.cells wishes.now.opened table.now) table.now.entries (turn_in turn_of.now) line.now.pairs (mark_of mark.new) machine.0 }
+    ensures until { get_or wishes.now.opened machine.0 false ≡ true → mark.new.until ≤ turns }
+    ensures least { IsLeast (board_over wishes.now.cells wishes.now.opened table.now) table.now.entries (turn_in turn_of.now) line.now.pairs (found_rank result) machine.0 }
+    ensures kept { (r : List ℕ) → is_bound (found_rank before) r ≡ true → is_bound (found_rank result) r ≡ true }
+    ensures found { IfSome before (λ x. IsFound (board_over wishes.now.cells wishes.now.opened table.now) table.now.entries (turn_in turn_of.now) line.now.pairs x) → IfSome result (λ x. IsFound (board_over wishes.now.cells wishes.now.opened table.now) table.now.entries (turn_in turn_of.now) line.now.pairs x) }
+    ensures count { steps.new ≤ steps.old + cond (is_unsettled_by wishes.now.opened (mark_of mark.old) turns machine.0) 1 0 }
+    ensures settled { result ≡ None → get_or wishes.now.opened machine.0 false ≡ true → key_of (mark_of mark.new) turns ≡ None }
+    ensures empty { result ≡ None → before ≡ None }
+{
+    if !wishes.is_open(machine) {
+        return before;
+    }
+    let Some(key) = mark.key(turns) else {
+        return before;
+    };
+    if !may_be_first(&before, &key, machine) {
+        return before;
+    }
+    match look(wishes, line, turn_of, turns, table, machine, mark, steps) {
+        Some(sight) => {
+            let pick = Pick {
+                app: sight.app,
+                unit: sight.unit,
+                machine,
+            };
+            better(
+                before,
+                Found {
+                    rank: sight.rank,
+                    pick,
+                },
+            )
+        }
+        None => before,
+    }
+}
+
+// The same of a machine by its number.
+fn consider_at<L: Ledger>(
+    wishes: &Wishes,
+    line: &Line,
+    turn_of: &[u64],
+    turns: u64,
+    table: &GrantTable,
+    machine: MachineNo,
+    marks: &mut Vec<Mark>,
+    steps: &mut Steps<L>,
+    before: Option<Found>,
+) -> Option<Found>
+    requires level { AreLevel wishes.now.cluster (job_at wishes.now.cells) table.now }
+    requires machine { machine.0 < length table.now.cluster.machines }
+    requires admitted { AreAdmitted wishes.now.cells line.now.pairs }
+    requires places { length turn_of.now ≡ 2048 }
+    requires waits { (a u : ℕ) → has_pair (a, u) line.now.pairs ≡ true → out_of (asks_in wishes.now.cells) table.now.entries a u ≢ 0 }
+    requires rises { Rises (turn_in turn_of.now) line.now.pairs }
+    requires below { (q : ℕ × ℕ) → has_pair q line.now.pairs ≡ true → turn_in turn_of.now q < turns }
+    requires marked { length marks.old.items ≡ length table.now.cluster.machines }
+    requires old { (m : ℕ) → get_or wishes.now.opened m false ≡ true → AreBounded (board_over wishes.now.cells wishes.now.opened table.now) table.now.entries (turn_in turn_of.now) line.now.pairs (mark_at (map mark_of marks.old.items) m) m }
+    requires until { (m : ℕ) → get_or wishes.now.opened m false ≡ true → (mark_at (map mark_of marks.old.items) m).until ≤ turns }
+    ensures marked { length marks.new.items ≡ length marks.old.items }
+    ensures bounded { (m : ℕ) → get_or wishes.now.opened m false ≡ true → AreBounded (board_over wishes.now.cells wishes.now.opened table.now) table.now.entries (turn_in turn_of.now) line.now.pairs (mark_at (map mark_of marks.new.items) m) m }
+    ensures until { (m : ℕ) → get_or wishes.now.opened m false ≡ true → (mark_at (map mark_of marks.new.items) m).until ≤ turns }
+    ensures least { IsLeast (board_over wishes.now.cells wishes.now.opened table.now) table.now.entries (turn_in turn_of.now) line.now.pairs (found_rank result) machine.0 }
+    ensures kept { (r : List ℕ) → is_bound (found_rank before) r ≡ true → is_bound (found_rank result) r ≡ true }
+    ensures found { IfSome before (λ x. IsFound (board_over wishes.now.cells wishes.now.opened table.now) table.now.entries (turn_in turn_of.now) line.now.pairs x) → IfSome result (λ x. IsFound (board_over wishes.now.cells wishes.now.opened table.now) table.now.entries (turn_in turn_of.now) line.now.pairs x) }
+    ensures others { (m : ℕ) → nat_eq machine.0 m ≡ false → mark_at (map mark_of marks.new.items) m ≡ mark_at (map mark_of marks.old.items) m }
+    ensures count { steps.new ≤ steps.old + cond (is_unsettled_by wishes.now.opened (mark_at (map mark_of marks.old.items) machine.0) turns machine.0) 1 0 }
+    ensures settled { result ≡ None → get_or wishes.now.opened machine.0 false ≡ true → key_of (mark_at (map mark_of marks.new.items) machine.0) turns ≡ None }
+    ensures empty { result ≡ None → before ≡ None }
+{
+    let mark = &mut marks[machine.0 as usize];
+    consider(
+        wishes, line, turn_of, turns, table, machine, mark, steps, before,
+    )
+}
+
+// Whether a rank comes before the least so far.
+fn is_less(least: &Option<Rank>, key: &Rank) -> bool {
+    match least {
+        Some(least) => is_earlier_here(key, least),
+        None => true,
+    }
+}
+
+// The open machine of least bound, where there is one, else the first.
+fn least_machine(wishes: &Wishes, marks: &Vec<Mark>, machines: u32, turns: u64) -> MachineNo
+    requires { length marks.now.items ≡ machines }
+    ensures { 0 < machines → result.0 < machines }
+{
+    let mut least = None;
+    let mut best = MachineNo(0);
+    for number in 0..machines {
         let machine = MachineNo(number);
-        if wishes.takes(table, parts, app, unit, machine) {
-            let level = wishes.level(table, app, unit, machine);
-            let rank = [late as u64, level as u64, place as u64, number as u64];
-            let pick = Pick { app, unit, machine };
-            best = better(best, Found { rank, pick });
+        if !wishes.is_open(machine) {
+            continue;
+        }
+        if let Some(key) = marks[number as usize].key(turns) {
+            if is_less(&least, &key) {
+                least = Some(key);
+                best = machine;
+            }
         }
     }
     best
 }
 
-/// The placeable pair of first rank, and `None` exactly where none is placeable.
+// The best of what was found on the machine that was considered first and of what is placeable on the others, in the order
+// of machines.
+fn best_of_others<L: Ledger>(
+    wishes: &Wishes,
+    line: &Line,
+    turn_of: &[u64],
+    turns: u64,
+    table: &GrantTable,
+    start: MachineNo,
+    marks: &mut Vec<Mark>,
+    steps: &mut Steps<L>,
+    before: Option<Found>,
+) -> Option<Found>
+    requires level { AreLevel wishes.now.cluster (job_at wishes.now.cells) table.now }
+    requires admitted { AreAdmitted wishes.now.cells line.now.pairs }
+    requires places { length turn_of.now ≡ 2048 }
+    requires waits { (a u : ℕ) → has_pair (a, u) line.now.pairs ≡ true → out_of (asks_in wishes.now.cells) table.now.entries a u ≢ 0 }
+    requires rises { Rises (turn_in turn_of.now) line.now.pairs }
+    requires below { (q : ℕ × ℕ) → has_pair q line.now.pairs ≡ true → turn_in turn_of.now q < turns }
+    requires marked { length marks.old.items ≡ length table.now.cluster.machines }
+    requires old { (m : ℕ) → get_or wishes.now.opened m false ≡ true → AreBounded (board_over wishes.now.cells wishes.now.opened table.now) table.now.entries (turn_in turn_of.now) line.now.pairs (mark_at (map mark_of marks.old.items) m) m }
+    requires until { (m : ℕ) → get_or wishes.now.opened m false ≡ true → (mark_at (map mark_of marks.old.items) m).until ≤ turns }
+    requires seen { IsLeast (board_over wishes.now.cells wishes.now.opened table.now) table.now.entries (turn_in turn_of.now) line.now.pairs (found_rank before) start.0 }
+    requires settled { before ≡ None → get_or wishes.now.opened start.0 false ≡ true → key_of (mark_at (map mark_of marks.old.items) start.0) turns ≡ None }
+    ensures marked { length marks.new.items ≡ length marks.old.items }
+    ensures bounded { (m : ℕ) → get_or wishes.now.opened m false ≡ true → AreBounded (board_over wishes.now.cells wishes.now.opened table.now) table.now.entries (turn_in turn_of.now) line.now.pairs (mark_at (map mark_of marks.new.items) m) m }
+    ensures until { (m : ℕ) → get_or wishes.now.opened m false ≡ true → (mark_at (map mark_of marks.new.items) m).until ≤ turns }
+    ensures least { (m : ℕ) → m < length table.now.cluster.machines → IsLeast (board_over wishes.now.cells wishes.now.opened table.now) table.now.entries (turn_in turn_of.now) line.now.pairs (found_rank result) m }
+    ensures found { IfSome before (λ x. IsFound (board_over wishes.now.cells wishes.now.opened table.now) table.now.entries (turn_in turn_of.now) line.now.pairs x) → IfSome result (λ x. IsFound (board_over wishes.now.cells wishes.now.opened table.now) table.now.entries (turn_in turn_of.now) line.now.pairs x) }
+    ensures count { steps.new ≤ steps.old + count_below (λ m. not (nat_eq m start.0) && is_unsettled_by wishes.now.opened (mark_at (map mark_of marks.old.items) m) turns m) (length table.now.cluster.machines) }
+    ensures settled { result ≡ None → (m : ℕ) → m < length table.now.cluster.machines → get_or wishes.now.opened m false ≡ true → key_of (mark_at (map mark_of marks.new.items) m) turns ≡ None }
+{
+    let mut best = before;
+    for number in 0..table.cluster().machines() {
+        if number == start.0 {
+            continue;
+        }
+        best = consider_at(
+            wishes,
+            line,
+            turn_of,
+            turns,
+            table,
+            MachineNo(number),
+            marks,
+            steps,
+            best,
+        );
+    }
+    best
+}
+
+/// The placeable pair of first rank, and `None` exactly where none is placeable. Each machine by whose mark a pair may be
+/// placeable there is looked at at most once, and where there is none, all of them.
 pub(crate) fn first<L: Ledger>(
     wishes: &Wishes,
     line: &Line,
+    turn_of: &[u64],
+    turns: u64,
     table: &GrantTable,
+    marks: &mut Vec<Mark>,
     steps: &mut Steps<L>,
 ) -> Option<Pick>
     requires level { AreLevel wishes.now.cluster (job_at wishes.now.cells) table.now }
     requires admitted { AreAdmitted wishes.now.cells line.now.pairs }
-    ensures { option_map spot_of result ≡ first_in (board_over wishes.now.cells wishes.now.opened table.now) table.now.entries line.now.pairs }
+    requires places { length turn_of.now ≡ 2048 }
+    requires waits { (a u : ℕ) → has_pair (a, u) line.now.pairs ≡ true → out_of (asks_in wishes.now.cells) table.now.entries a u ≢ 0 }
+    requires rises { Rises (turn_in turn_of.now) line.now.pairs }
+    requires below { (q : ℕ × ℕ) → has_pair q line.now.pairs ≡ true → turn_in turn_of.now q < turns }
+    requires marked { length marks.old.items ≡ length table.now.cluster.machines }
+    requires old { (m : ℕ) → get_or wishes.now.opened m false ≡ true → AreBounded (board_over wishes.now.cells wishes.now.opened table.now) table.now.entries (turn_in turn_of.now) line.now.pairs (mark_at (map mark_of marks.old.items) m) m }
+    requires until { (m : ℕ) → get_or wishes.now.opened m false ≡ true → (mark_at (map mark_of marks.old.items) m).until ≤ turns }
+    ensures marked { length marks.new.items ≡ length marks.old.items }
+    ensures bounded { (m : ℕ) → get_or wishes.now.opened m false ≡ true → AreBounded (board_over wishes.now.cells wishes.now.opened table.now) table.now.entries (turn_in turn_of.now) line.now.pairs (mark_at (map mark_of marks.new.items) m) m }
+    ensures until { (m : ℕ) → get_or wishes.now.opened m false ≡ true → (mark_at (map mark_of marks.new.items) m).until ≤ turns }
+    ensures first { option_map spot_of result ≡ first_in (board_over wishes.now.cells wishes.now.opened table.now) table.now.entries line.now.pairs }
+    ensures count { steps.new ≤ steps.old + count_below (λ m. is_unsettled_by wishes.now.opened (mark_at (map mark_of marks.old.items) m) turns m) (length table.now.cluster.machines) }
+    ensures settled { result ≡ None → (m : ℕ) → m < length table.now.cluster.machines → get_or wishes.now.opened m false ≡ true → key_of (mark_at (map mark_of marks.new.items) m) turns ≡ None }
 {
-    let cluster = table.cluster();
-    let parts = free_parts(wishes, cluster, table, steps);
-    let mut best = None;
-    for place in 0..line.len() {
-        let (app, unit) = line.at(place);
-        if wishes.may_grow(table, app, unit) {
-            best = best_for(wishes, table, &parts, place, app, unit, best);
-        }
+    let machines = table.cluster().machines();
+    let start = least_machine(wishes, marks, machines, turns);
+    if start.0 >= machines {
+        return None;
     }
-    match best {
+    let best = consider_at(
+        wishes, line, turn_of, turns, table, start, marks, steps, None,
+    );
+    match best_of_others(
+        wishes, line, turn_of, turns, table, start, marks, steps, best,
+    ) {
         Some(found) => Some(found.pick),
         None => None,
     }

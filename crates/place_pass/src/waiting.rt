@@ -1,7 +1,7 @@
 //! The next line: who stays, and who begins to wait. It is written into a second line whose room was made
 //! when jobs were admitted, so it takes no memory.
 
-ghost use Rattle.std.specs.Prelude.{◌≡◌, ℕ, ◌<◌, ◌≤◌, ◌++◌, ◌∷◌, [], ◌&&◌, false, not, nat_eq, nat_lt, length, filter, map};
+ghost use Rattle.std.specs.Prelude.{◌≡◌, ℕ, ◌+◌, ◌<◌, ◌≤◌, ◌++◌, ◌∷◌, [], ◌&&◌, ◌-◌, ◌^◌, Some, slice_get, false, not, nat_eq, nat_lt, length, filter, map};
 ghost use Rattle.std.proofs.Common.{get_or};
 ghost use Rattle.std.specs.List.{sum_by, flat_map};
 ghost use Rattle.fuxi_terms.specs.Cluster.{JobRecord};
@@ -14,8 +14,10 @@ ghost use Rattle.place_pass.specs.Cells.{asks_in, job_at};
 ghost use Rattle.place_pass.specs.Placers.{AreLevel};
 ghost use Rattle.place_pass.specs.Best.{AreAdmitted};
 ghost use Rattle.place_pass.specs.Lines.{units_in_all, waiting_of};
+ghost use Rattle.place_pass.specs.Bounds.{turn_at};
 
 use crate::line::Line;
+use crate::search::slot;
 use crate::wishes::Wishes;
 use grant_table::GrantTable;
 use schedule_unit::{AppNo, UnitNo};
@@ -116,5 +118,28 @@ pub(crate) fn join(next: &mut Line, line: &Line, wishes: &Wishes, table: &GrantT
 {
     for index in 0..table.jobs() {
         join_units(next, line, wishes, table, table.job(index).app());
+    }
+}
+
+/// The pairs from a place on have the turns from a number on. The turns of others stay.
+pub(crate) fn number_from(
+    turn_of: &mut Vec<u64>,
+    line: &Line,
+    wishes: &Wishes,
+    from: usize,
+    turns: u64,
+)
+    requires admitted { AreAdmitted wishes.now.cells line.now.pairs }
+    requires places { length turn_of.old.items ≡ 2048 }
+    requires small { turns < 2 ^ 63 }
+    ensures places { length turn_of.new.items ≡ 2048 }
+    ensures numbered { (k : ℕ) (p : ℕ × ℕ) → from ≤ k → slice_get line.now.pairs k ≡ Some p → turn_at turn_of.new.items p.0 p.1 ≡ turns + (k - from) }
+    ensures others { (a u : ℕ) → u < 8 → ((k : ℕ) → from ≤ k → slice_get line.now.pairs k ≡ Some (a, u) → ⊥) → turn_at turn_of.new.items a u ≡ turn_at turn_of.old.items a u }
+{
+    line.distinct();
+    let _wishes = wishes.cluster();
+    for place in from..line.len() {
+        let (app, unit) = line.at(place);
+        turn_of[slot(app, unit)] = turns + (place - from) as u64;
     }
 }

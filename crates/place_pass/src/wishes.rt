@@ -56,9 +56,9 @@ impl Model for Wishes {
 }
 
 impl Wishes {
-    ghost use Rattle.std.specs.Prelude.{◌≡◌, ℕ, ◌<◌, ◌≤◌, ◌&&◌, nat_lt, false, List, [], length, set, replicate, IfOk, OnOk, OnErr};
+    ghost use Rattle.std.specs.Prelude.{◌≡◌, ℕ, ◌<◌, ◌≤◌, ◌&&◌, nat_lt, true, false, List, [], length, set, replicate, IfOk, OnOk, OnErr};
     ghost use Rattle.std.proofs.Common.{get_or};
-    ghost use Rattle.place_pass.specs.Cells.{WishesRecord, AreWishes, cell_of, cell_at, fresh_cells, taken_all, any_more};
+    ghost use Rattle.place_pass.specs.Cells.{WishesRecord, AreWishes, Lifts, AvoidsStill, cell_of, cell_at, fresh_cells, taken_all, any_more};
     ghost use Rattle.place_pass.specs.Placers.{is_open_to};
 
     /// No unit, and no open machine.
@@ -144,6 +144,24 @@ impl Wishes {
             return false;
         }
         self.wish(app, unit).avoided[machine.0 as usize] == 0
+    }
+
+    /// Whether by this demand a unit of the job no longer avoids a machine that it avoided.
+    pub(crate) fn lifts(&self, app: AppNo, demand: &Demand, machine: MachineNo) -> bool
+        requires { machine.0 < length self.now.cluster.machines }
+        ensures some { result ≡ true → Lifts demand.now.entries (get_or self.now.cells app.0 []) machine.0 }
+        ensures none { result ≡ false → AvoidsStill demand.now.entries (get_or self.now.cells app.0 []) machine.0 }
+    {
+        for number in 0..self.units(app) as u8 {
+            let wish = self.wish(app, UnitNo(number));
+            if wish.avoided[machine.0 as usize] == 0 {
+                continue;
+            }
+            if number_at(demand, AVOID, number, machine.0) == 0 {
+                return true;
+            }
+        }
+        false
     }
 
     /// An admitted unit.

@@ -6,7 +6,7 @@ ghost use Rattle.fuxi_terms.specs.Tables.{with_grant};
 ghost use Rattle.written_roles.specs.Masters.{Master};
 ghost use Rattle.written_roles.specs.Placing.{first_in, line_up, granted, settled};
 ghost use Rattle.place_pass.specs.Best.{spot_of};
-ghost use Rattle.place_pass.specs.Placers.{IsLevelWith, IsUpToDate, IsGrantable, board_with};
+ghost use Rattle.place_pass.specs.Placers.{IsLevelWith, IsUpToDate, IsGrantable, board_with, told_of};
 ghost use Rattle.settling.specs.Placing.{IsPlacing};
 ghost use Rattle.settling.specs.Runs.{IsSettling, AreTouched, all_out};
 
@@ -52,7 +52,7 @@ pub fn settle<L: Ledger>(
     ensures idle { placer.old.idle ≡ true → steps.new ≡ steps.old }
     ensures none { placer.old.idle ≡ true → picks.new.items ≡ picks.old.items }
     ensures same_table { placer.old.idle ≡ true → table.new ≡ table.old }
-    ensures same_placer { placer.old.idle ≡ true → placer.new ≡ placer.old }
+    ensures same_placer { placer.old.idle ≡ true → told_of placer.new ≡ told_of placer.old }
 {
     settling();
     while let Some(pick) = placer.next(table, steps) {

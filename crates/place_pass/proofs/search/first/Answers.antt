@@ -1,39 +1,56 @@
-use Rattle.std.proofs.Common.{ℕ, ◌≤◌, true, false, List, [], length, take, None, sym, ◌∙◌, ap, arith}
-use Rattle.std.specs.Option.{option_map}
-use Rattle.written_roles.specs.Placing.{Ranked, places_in, candidates_in}
-use Rattle.place_pass.specs.declared.search.Found.{Found}
+use Rattle.std.proofs.Common.{◌≡◌, ℕ, ◌<◌, ◌≤◌, map, Option, sym, ◌∙◌, ap, subst, arith, length}
+use Rattle.std.specs.Prelude.{IfSome}
+use Rattle.fuxi_terms.specs.Cluster.{ClusterRecord}
+use Rattle.place_pass.specs.Bounds.{mark_of}
 use Rattle.place_pass.specs.Placers.{board_over}
-use Rattle.place_pass.specs.Best.{best_in, ranked_as, spot_of}
-use Rattle.place_pass.proofs.Searching.{candidates_more, first_found}
+use Rattle.place_pass.specs.Sights.{found_rank, turn_in, IsFound, IsLeast}
+use Rattle.place_pass.specs.declared.search.Found.{Found}
+use Rattle.place_pass.proofs.CountsLemmas.{both_looks}
+use Rattle.place_pass.proofs.FirstByTurn.{none_first, found_first}
 use Rattle.place_pass.proofs.search.first.Goals as goal
-use Rattle.place_pass.proofs.search.first.Goals.{then-may_grow, else-may_grow}
 
-pub loop-place-preserved : goal.loop-place-preserved
-loop-place-preserved g c =
+-- without machines nothing is placeable
+no_machine : (start machines there m : ℕ) → machines ≡ there → machines ≤ start → (0 < machines → start < machines) → m < there → ⊥
+no_machine start machines there m is le h lt = let l = h (omega (arith, is, lt)) in absurd (omega (arith, l, le))
+
+pub returns-then-start-machines-clause-first : goal.returns-then-start-machines-clause-first
+returns-then-start-machines-clause-first g c =
     let b = board_over c.args.wishes.now.cells c.args.wishes.now.opened c.args.table.now in
-    let table = c.args.table.now.entries in
+    sym (none_first b c.args.table.now.entries (turn_in c.args.turn_of.now) c.args.line.now.pairs (λ m lt. absurd (no_machine c.least_machine-start.result.0 c.machines-machines.result (length c.args.table.now.cluster.machines) m (c.machines-machines.ensures.number ∙ ap (λ (x : ClusterRecord). length x.machines) c.cluster.ensures.cluster) c.if-start-machines.true c.least_machine-start.ensures lt)))
+
+pub returns-then-start-machines-clause-settled : goal.returns-then-start-machines-clause-settled
+returns-then-start-machines-clause-settled g c e m lt = absurd (no_machine c.least_machine-start.result.0 c.machines-machines.result (length c.args.table.now.cluster.machines) m (c.machines-machines.ensures.number ∙ ap (λ (x : ClusterRecord). length x.machines) c.cluster.ensures.cluster) c.if-start-machines.true c.least_machine-start.ensures lt)
+
+pub returns-in-Some-clause-first : goal.returns-in-Some-clause-first
+returns-in-Some-clause-first g c =
+    let b = board_over c.args.wishes.now.cells c.args.wishes.now.opened c.args.table.now in
+    let es = c.args.table.now.entries in
+    let f = turn_in c.args.turn_of.now in
     let line = c.args.line.now.pairs in
-    let place = c.loop-place.place in
-    let p : ℕ × ℕ = (c.at.result.0.0, c.at.result.1.0) in
-    let so_far = best_in None (candidates_in b table 0 (take place line)) in
-    let more = candidates_more b table line place p c.at.ensures in
-    elim c.if-may_grow.branch [
-      | then-may_grow w ↦
-          let test = sym w.if-may_grow.true ∙ c.may_grow.ensures.grows in
-          ap (option_map ranked_as) w.best-is ∙ w.best_for-best.ensures ∙ ap (λ x. best_in x (places_in b table place p)) c.loop-place.invariant
-          ∙ ap (λ t. best_in so_far (elim t as (λ _. List Ranked) [ true ↦ places_in b table place p | false ↦ [] ])) test ∙ sym more
-      | else-may_grow w ↦
-          let test = sym w.if-may_grow.false ∙ c.may_grow.ensures.grows in
-          ap (option_map ranked_as) w.best-is ∙ c.loop-place.invariant
-          ∙ ap (λ t. best_in so_far (elim t as (λ _. List Ranked) [ true ↦ places_in b table place p | false ↦ [] ])) test ∙ sym more
-    ]
+    sym (found_first b es f line c.in-Some.found c.requires.rises (subst (λ (o : Option Found). IfSome o (λ x. IsFound b es f line x)) c.in-Some.is (c.best_of_others.ensures.found (c.consider_at-best.ensures.found tt)))
+    (λ m lt. subst (λ (o : Option Found). IsLeast b es f line (found_rank o) m) c.in-Some.is (c.best_of_others.ensures.least m lt)))
 
-pub returns-in-Some : goal.returns-in-Some
-returns-in-Some g c =
-    let whole : length c.args.line.now.pairs ≤ c.loop-place.place = let e = c.len-place-end.ensures.number in let f = c.loop-place-test.false in omega (arith, e, f) in
-    ap (option_map (λ (f : Found). spot_of f.pick)) (sym c.in-Some.is) ∙ first_found (board_over c.args.wishes.now.cells c.args.wishes.now.opened c.args.table.now) c.args.table.now.entries c.args.line.now.pairs c.loop-place.place c.loop-place.best whole c.loop-place.invariant
+pub returns-in-None-clause-first : goal.returns-in-None-clause-first
+returns-in-None-clause-first g c =
+    let b = board_over c.args.wishes.now.cells c.args.wishes.now.opened c.args.table.now in
+    let es = c.args.table.now.entries in
+    let f = turn_in c.args.turn_of.now in
+    let line = c.args.line.now.pairs in
+    sym (none_first b es f line (λ m lt. subst (λ (o : Option Found). IsLeast b es f line (found_rank o) m) c.in-None.is (c.best_of_others.ensures.least m lt)))
 
-pub returns-in-None : goal.returns-in-None
-returns-in-None g c =
-    let whole : length c.args.line.now.pairs ≤ c.loop-place.place = let e = c.len-place-end.ensures.number in let f = c.loop-place-test.false in omega (arith, e, f) in
-    ap (option_map (λ (f : Found). spot_of f.pick)) (sym c.in-None.is) ∙ first_found (board_over c.args.wishes.now.cells c.args.wishes.now.opened c.args.table.now) c.args.table.now.entries c.args.line.now.pairs c.loop-place.place c.loop-place.best whole c.loop-place.invariant
+pub returns-in-Some-clause-count : goal.returns-in-Some-clause-count
+returns-in-Some-clause-count g c =
+    let lt = c.if-start-machines.false in
+    let n : c.machines-machines.result ≡ length c.args.table.now.cluster.machines = c.machines-machines.ensures.number ∙ ap (λ (x : ClusterRecord). length x.machines) c.cluster.ensures.cluster in
+    both_looks c.args.wishes.now.opened (map mark_of c.args.marks.now.items) (map mark_of c.consider_at-best.new.marks.items) c.args.turns c.least_machine-start.result.0 (length c.args.table.now.cluster.machines)
+    c.args.steps.now c.consider_at-best.new.steps c.best_of_others.new.steps (omega (arith, lt, n)) c.consider_at-best.ensures.count c.best_of_others.ensures.count c.consider_at-best.ensures.others
+
+pub returns-in-None-clause-count : goal.returns-in-None-clause-count
+returns-in-None-clause-count g c =
+    let lt = c.if-start-machines.false in
+    let n : c.machines-machines.result ≡ length c.args.table.now.cluster.machines = c.machines-machines.ensures.number ∙ ap (λ (x : ClusterRecord). length x.machines) c.cluster.ensures.cluster in
+    both_looks c.args.wishes.now.opened (map mark_of c.args.marks.now.items) (map mark_of c.consider_at-best.new.marks.items) c.args.turns c.least_machine-start.result.0 (length c.args.table.now.cluster.machines)
+    c.args.steps.now c.consider_at-best.new.steps c.best_of_others.new.steps (omega (arith, lt, n)) c.consider_at-best.ensures.count c.best_of_others.ensures.count c.consider_at-best.ensures.others
+
+pub returns-in-None-clause-settled : goal.returns-in-None-clause-settled
+returns-in-None-clause-settled g c e m lt opened = c.best_of_others.ensures.settled c.in-None.is m lt opened

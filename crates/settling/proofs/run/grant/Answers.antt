@@ -15,6 +15,12 @@ use Rattle.settling.proofs.run.grant.Goals as goal
 pub changed-requires-clause-here : goal.changed-requires-clause-here
 changed-requires-clause-here c = subst (λ n. c.args.pick.unit.0 < n) (sym (c.levels.ensures.units c.args.placer.now c.args.table.now c.args.pick.app.0 c.requires.level)) c.requires.grantable.unit
 
+pub returns-clause-level : goal.returns-clause-level
+returns-clause-level c =
+    let t = c.args.table.now in
+    let x = spot_of c.args.pick in
+    c.changed.ensures.level t c.requires.level (record { sound = c.cluster-cluster.ensures.sound; number = count spot_cmp t.entries x + 1; is = c.grant.ensures })
+
 pub returns-clause-up : goal.returns-clause-up
 returns-clause-up c =
     let t = c.args.table.now in

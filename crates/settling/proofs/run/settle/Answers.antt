@@ -7,7 +7,7 @@ use Rattle.written_roles.specs.Placing.{first_in, settled}
 use Rattle.grant_table.specs.Tables.{TableRecord}
 use Rattle.grant_table.specs.declared.asking.Pick.{Pick}
 use Rattle.place_pass.specs.Best.{spot_of}
-use Rattle.place_pass.specs.Placers.{PlacerRecord, SeenRecord, board_with}
+use Rattle.place_pass.specs.Placers.{SeenRecord, ToldRecord, board_with}
 use Rattle.settling.specs.Placing.{IsPlacing}
 use Rattle.settling.specs.Runs.{AreTouched}
 use Rattle.settling.proofs.Settling.{settles_on, has_settled, touches_more}
@@ -33,10 +33,10 @@ loop-pick-preserved g c =
       settling = λ k M is serves. settles_on t c.grant.new.table s c.grant.new.placer.seen k M x first (λ N p. c.grant.ensures.grants k N (subst (λ z. IsPlacing t z k N) (sym c.in-Some.ensures.seen) p)) (c.loop-pick.invariant.settling k M is serves);
       turns = c.grant.ensures.turns ∙ ap (λ (z : SeenRecord). z.turns) c.in-Some.ensures.seen ∙ c.loop-pick.invariant.turns;
       table = c.grant.ensures.table ∙ ap {A = TableRecord} (λ u. record u { entries = with_grant t.entries x }) c.loop-pick.invariant.table ∙ ap (λ es. record c.args.table.now { entries = es }) (sym (ap (λ (u : TableRecord). u.entries) c.grant.ensures.table));
-      idle = λ h. absurd (never c.in-Some.pick (c.in-Some.ensures.none (ap (λ (p : PlacerRecord). p.idle) (c.loop-pick.invariant.same_placer h) ∙ h)));
-      none = λ h. absurd (never c.in-Some.pick (c.in-Some.ensures.none (ap (λ (p : PlacerRecord). p.idle) (c.loop-pick.invariant.same_placer h) ∙ h)));
-      same_table = λ h. absurd (never c.in-Some.pick (c.in-Some.ensures.none (ap (λ (p : PlacerRecord). p.idle) (c.loop-pick.invariant.same_placer h) ∙ h)));
-      same_placer = λ h. absurd (never c.in-Some.pick (c.in-Some.ensures.none (ap (λ (p : PlacerRecord). p.idle) (c.loop-pick.invariant.same_placer h) ∙ h)));
+      idle = λ h. absurd (never c.in-Some.pick (c.in-Some.ensures.none (ap (λ (p : ToldRecord). p.idle) (c.loop-pick.invariant.same_placer h) ∙ h)));
+      none = λ h. absurd (never c.in-Some.pick (c.in-Some.ensures.none (ap (λ (p : ToldRecord). p.idle) (c.loop-pick.invariant.same_placer h) ∙ h)));
+      same_table = λ h. absurd (never c.in-Some.pick (c.in-Some.ensures.none (ap (λ (p : ToldRecord). p.idle) (c.loop-pick.invariant.same_placer h) ∙ h)));
+      same_placer = λ h. absurd (never c.in-Some.pick (c.in-Some.ensures.none (ap (λ (p : ToldRecord). p.idle) (c.loop-pick.invariant.same_placer h) ∙ h)));
       touched = subst (λ (q : List (Spot × _) × List Spot). AreTouched old q.0 before q.1) (λ i. (sym (ap (λ (u : TableRecord). u.entries) c.grant.ensures.table) i, sym picks i)) more;
     }
 
@@ -48,22 +48,21 @@ returns-clause-settles g c = λ k M is serves.
     subst (λ z. IsPlacing t z k (settled k M)) (sym c.in_default.ensures.seen) (has_settled t s k M none (c.loop-pick.invariant.settling k M is serves))
 
 pub returns-in_err-push-clause-idle : goal.returns-in_err-push-clause-idle
-returns-in_err-push-clause-idle g c h = absurd (never c.in-Some.pick (c.in-Some.ensures.none (ap (λ (p : PlacerRecord). p.idle) (c.loop-pick.invariant.same_placer h) ∙ h)))
+returns-in_err-push-clause-idle g c h = absurd (never c.in-Some.pick (c.in-Some.ensures.none (ap (λ (p : ToldRecord). p.idle) (c.loop-pick.invariant.same_placer h) ∙ h)))
 
 pub returns-in_err-push-clause-none : goal.returns-in_err-push-clause-none
-returns-in_err-push-clause-none g c h = absurd (never c.in-Some.pick (c.in-Some.ensures.none (ap (λ (p : PlacerRecord). p.idle) (c.loop-pick.invariant.same_placer h) ∙ h)))
+returns-in_err-push-clause-none g c h = absurd (never c.in-Some.pick (c.in-Some.ensures.none (ap (λ (p : ToldRecord). p.idle) (c.loop-pick.invariant.same_placer h) ∙ h)))
 
 pub returns-in_err-push-clause-same_table : goal.returns-in_err-push-clause-same_table
-returns-in_err-push-clause-same_table g c h = absurd (never c.in-Some.pick (c.in-Some.ensures.none (ap (λ (p : PlacerRecord). p.idle) (c.loop-pick.invariant.same_placer h) ∙ h)))
+returns-in_err-push-clause-same_table g c h = absurd (never c.in-Some.pick (c.in-Some.ensures.none (ap (λ (p : ToldRecord). p.idle) (c.loop-pick.invariant.same_placer h) ∙ h)))
 
 pub returns-in_err-push-clause-same_placer : goal.returns-in_err-push-clause-same_placer
-returns-in_err-push-clause-same_placer g c h = absurd (never c.in-Some.pick (c.in-Some.ensures.none (ap (λ (p : PlacerRecord). p.idle) (c.loop-pick.invariant.same_placer h) ∙ h)))
+returns-in_err-push-clause-same_placer g c h = absurd (never c.in-Some.pick (c.in-Some.ensures.none (ap (λ (p : ToldRecord). p.idle) (c.loop-pick.invariant.same_placer h) ∙ h)))
 
 pub returns-clause-idle : goal.returns-clause-idle
-returns-clause-idle g c h = c.in_default.ensures.idle (ap (λ (p : PlacerRecord). p.idle) (c.loop-pick.invariant.same_placer h) ∙ h) ∙ c.loop-pick.invariant.idle h
+returns-clause-idle g c h = c.in_default.ensures.idle (ap (λ (p : ToldRecord). p.idle) (c.loop-pick.invariant.same_placer h) ∙ h) ∙ c.loop-pick.invariant.idle h
 
 pub returns-clause-same_placer : goal.returns-clause-same_placer
 returns-clause-same_placer g c h =
-    let idle = ap (λ (p : PlacerRecord). p.idle) (c.loop-pick.invariant.same_placer h) ∙ h in
-    let still = c.in_default.ensures.found ∙ sym idle in
-    (λ i. record { seen = c.in_default.ensures.seen i; idle = still i }) ∙ c.loop-pick.invariant.same_placer h
+    let was = ap (λ (p : ToldRecord). p.idle) (c.loop-pick.invariant.same_placer h) ∙ h in
+    (λ i. record { seen = c.in_default.ensures.seen i; idle = (c.in_default.ensures.found ∙ sym was) i }) ∙ c.loop-pick.invariant.same_placer h

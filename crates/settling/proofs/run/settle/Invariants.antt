@@ -2,7 +2,7 @@ use Rattle.std.proofs.Common.{◌≡◌, true, map}
 use Rattle.fuxi_terms.specs.Cluster.{ClusterRecord}
 use Rattle.written_roles.specs.Masters.{Master}
 use Rattle.place_pass.specs.Best.{spot_of}
-use Rattle.place_pass.specs.Placers.{IsLevelWith, IsUpToDate}
+use Rattle.place_pass.specs.Placers.{IsLevelWith, IsUpToDate, told_of}
 use Rattle.settling.specs.Placing.{IsPlacing}
 use Rattle.settling.specs.Runs.{IsSettling, AreTouched, all_out}
 use Rattle.settling.proofs.run.settle.Given as goal
@@ -17,7 +17,7 @@ invariant-loop-pick g l = record {
   idle : l.initial.placer.idle ≡ true → l.steps ≡ l.initial.steps;
   none : l.initial.placer.idle ≡ true → l.picks.items ≡ l.initial.picks.items;
   same_table : l.initial.placer.idle ≡ true → l.table ≡ l.initial.table;
-  same_placer : l.initial.placer.idle ≡ true → l.placer ≡ l.initial.placer;
+  same_placer : l.initial.placer.idle ≡ true → told_of l.placer ≡ told_of l.initial.placer;
   touched : AreTouched l.initial.table.entries l.table.entries (map spot_of l.initial.picks.items) (map spot_of l.picks.items);
 }
 

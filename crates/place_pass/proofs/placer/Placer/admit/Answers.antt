@@ -1,11 +1,12 @@
-use Rattle.std.proofs.Common.{◌≡◌, ℕ, ◌+◌, ◌<◌, cond, nat_eq, length, set, Some, None, sym, ◌∙◌, ap, subst, arith, length-set}
+use Rattle.std.proofs.Common.{◌≡◌, ℕ, ◌+◌, ◌<◌, cond, nat_eq, List, length, map, set, Some, None, sym, ◌∙◌, ap, subst, arith, length-set}
 use Rattle.std.proofs.lemmas.List.{length-map}
 use Rattle.grant_table.specs.Tables.{with_admitted}
 use Rattle.place_pass.specs.Cells.{WishesRecord, job_at, asks_in, fresh_cell, fresh_cells}
 use Rattle.place_pass.specs.Best.{AreAdmitted}
-use Rattle.place_pass.specs.Placers.{PlacerRecord, AreLevel, IsIdle, IsLevelWith, IsPlacer, job_seen, asks_seen}
+use Rattle.place_pass.specs.Bounds.{mark_of}
+use Rattle.place_pass.specs.Placers.{PlacerRecord, KeptRecord, IsKept, IsQuiet, AreLevel, IsIdle, IsLevelWith, IsPlacer, job_seen, asks_seen}
 use Rattle.fuxi_terms.proofs.ValidJobs.{job_small, units_few, units_some}
-use Rattle.place_pass.proofs.Idling.{idle_admitted}
+use Rattle.place_pass.proofs.Idling.{idle_admitted, kept_admitted, quiet_admitted}
 use Rattle.place_pass.proofs.Telling.{units_small, units_more, admitted_more, empty_slot, job_admitted, asks_admitted, unknown_there, level_admitted}
 use Rattle.place_pass.proofs.placer.Placer.admit.Goals as goal
 
@@ -34,12 +35,15 @@ invariant_of-self-2 c =
     let k = c.self.invariant.counted in
     let room = c.in_ok-reserve.ensures.ok in
     let other = c.in_ok-reserve-2.ensures.ok in
-    subst (λ (x : WishesRecord). IsPlacer x c.reserve.new.self c.reserve-2.new.self (c.self.inside.units + c.units.result)) (sym c.in_ok-admit.ensures.ok) (record {
+    subst (λ (x : WishesRecord). IsPlacer x c.reserve.new.self c.reserve-2.new.self (c.self.inside.units + c.units.result) (length c.self.inside.marks.items) (length c.self.inside.turn_of.items) (length c.self.inside.held.items)) (sym c.in_ok-admit.ensures.ok) (record {
       admitted = subst (AreAdmitted (set w.cells j.number xs)) (sym c.in_ok-reserve.ensures.pairs) (admitted_more w.cells c.self.inside.line.pairs j.number xs lt (omega (arith, none)) c.self.invariant.admitted);
       places = length-set w.cells j.number xs ∙ places;
       counted = omega (arith, more, long, n, k);
       room = omega (arith, more, long, n, k, room);
       other_room = omega (arith, more, long, n, k, other);
+      marked = c.self.invariant.marked;
+      turn_places = c.self.invariant.turn_places;
+      held_places = c.self.invariant.held_places;
     })
 
 pub returns-clause-jobs : goal.returns-clause-jobs
@@ -77,9 +81,16 @@ returns-clause-level c t l =
     let apart = unknown_there w.cluster (job_at w.cells) t j.number old.level new in
     let found = λ (a : ℕ). c.admitted_jobs.ensures.found j t.jobs a apart in
     let empty = empty_slot w.cells j.number new in
+    let kept : KeptRecord = record { marks = map mark_of c.self.inside.marks.items; turn_of = c.self.inside.turn_of.items; held = c.self.inside.held.items } in
     record {
       level = subst (λ (x : WishesRecord). AreLevel x.cluster (job_at x.cells) (record t { jobs = with_admitted j t.jobs })) (sym c.in_ok-admit.ensures.ok)
           (level_admitted w.cluster (job_at w.cells) (job_at (set w.cells j.number xs)) t j old.level (job_admitted w.cells j (length w.cluster.machines) lt (units_some j c.units.ensures.valid)) found);
       idle = λ e. subst (λ (x : WishesRecord). IsIdle x.cells x.opened (record t { jobs = with_admitted j t.jobs })) (sym c.in_ok-admit.ensures.ok)
           (idle_admitted j w.cells (set w.cells j.number xs) w.opened t empty (asks_admitted w.cells j.number j.group (length w.cluster.machines) j.units lt empty) apart found (old.idle e));
+      kept = subst (λ (l : List (ℕ × ℕ)). IsKept c.admit.new.self.cells c.admit.new.self.opened l c.self.inside.turns kept (record t { jobs = with_admitted j t.jobs })) (sym c.in_ok-reserve.ensures.pairs)
+          (subst (λ (x : WishesRecord). IsKept x.cells x.opened c.self.inside.line.pairs c.self.inside.turns kept (record t { jobs = with_admitted j t.jobs })) (sym c.in_ok-admit.ensures.ok)
+          (kept_admitted j w.cells (set w.cells j.number xs) w.opened t empty (asks_admitted w.cells j.number j.group (length w.cluster.machines) j.units lt empty) apart found c.self.inside.line.pairs c.self.inside.turns kept c.self.invariant.admitted old.kept));
+      quiet = λ e. subst (λ (l : List (ℕ × ℕ)). IsQuiet c.admit.new.self.cells c.admit.new.self.opened l c.self.inside.turns kept.marks (record t { jobs = with_admitted j t.jobs })) (sym c.in_ok-reserve.ensures.pairs)
+          (subst (λ (x : WishesRecord). IsQuiet x.cells x.opened c.self.inside.line.pairs c.self.inside.turns kept.marks (record t { jobs = with_admitted j t.jobs })) (sym c.in_ok-admit.ensures.ok)
+          (quiet_admitted j w.cells (set w.cells j.number xs) w.opened t empty (asks_admitted w.cells j.number j.group (length w.cluster.machines) j.units lt empty) apart found c.self.inside.line.pairs c.self.inside.turns kept.marks (old.quiet e)));
     }

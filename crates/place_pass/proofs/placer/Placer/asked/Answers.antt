@@ -1,14 +1,19 @@
-use Rattle.std.proofs.Common.{◌≡◌, ◌<◌, Bool, true, false, cond, not, nat_eq, [], length, get_or, set, refl, sym, ◌∙◌, ap, subst, arith, length-set}
+use Rattle.std.proofs.Common.{◌≡◌, ℕ, ◌<◌, Bool, true, false, cond, not, nat_eq, [], length, map, get_or, set, refl, sym, ◌∙◌, ap, subst, arith, length-set}
 use Rattle.std.specs.Prelude.{◌&&◌}
 use Rattle.std.proofs.Math.Bool.{and-true}
 use Rattle.fuxi_terms.specs.Keys.{key_cmp}
 use Rattle.fuxi_terms.specs.Counts.{count}
 use Rattle.fuxi_terms.proofs.Booleans.{both_true}
-use Rattle.place_pass.specs.Cells.{WishesRecord, job_at, asks_in, taken_all, any_more}
-use Rattle.place_pass.specs.Placers.{PlacerRecord, AreLevel, AsksNoMore, IsIdle, IsLevelWith, IsPlacer, job_seen, asks_seen, units_seen, is_there}
+use Rattle.place_pass.specs.Cells.{WishesRecord, Lifts, job_at, asks_in, taken_all, any_more}
+use Rattle.place_pass.specs.Placers.{PlacerRecord, AreLevel, AsksNoMore, IsIdle, IsKept, IsQuiet, is_open_to, IsLevelWith, IsPlacer, job_seen, asks_seen, units_seen, is_there}
+use Rattle.place_pass.specs.Bounds.{mark_at, mark_of}
+use Rattle.place_pass.specs.Counts.{IsLifted}
+use Rattle.place_pass.specs.Sights.{IsAsked}
+use Rattle.place_pass.proofs.CountsLemmas.{asked_settled, asked_stays, stays_for, stays_tight}
+use Rattle.place_pass.proofs.KeptLemmas.{kept_demanded, open_there, told_asked}
 use Rattle.place_pass.proofs.Places.{slot_within}
 use Rattle.place_pass.proofs.Asking.{length-taken_all}
-use Rattle.place_pass.proofs.Idling.{idle_asked, more_not}
+use Rattle.place_pass.proofs.Idling.{idle_asked, lifted_then, more_not, none_lifted, still_open, waiting_asked}
 use Rattle.place_pass.proofs.Telling.{units_same, admitted_more, job_taken, asks_taken, level_same}
 use Rattle.place_pass.proofs.placer.Placer.asked.Goals as goal
 
@@ -25,12 +30,15 @@ invariant_of-self c =
     let k = c.self.invariant.counted in
     let room = c.self.invariant.room in
     let other = c.self.invariant.other_room in
-    subst (λ (x : WishesRecord). IsPlacer x c.self.inside.line c.self.inside.other c.self.inside.units) (sym c.asked-more.ensures.cells) (record {
+    subst (λ (x : WishesRecord). IsPlacer x c.self.inside.line c.self.inside.other c.self.inside.units (length c.tell_demand.new.marks.items) (length c.self.inside.turn_of.items) (length c.self.inside.held.items)) (sym c.asked-more.ensures.cells) (record {
       admitted = admitted_more w.cells c.self.inside.line.pairs a xs lt (omega (arith, long)) c.self.invariant.admitted;
       places = length-set w.cells a xs ∙ c.self.invariant.places;
       counted = omega (arith, same, k);
       room = omega (arith, same, room);
       other_room = omega (arith, same, other);
+      marked = c.tell_demand.ensures.long ∙ c.self.invariant.marked;
+      turn_places = c.self.invariant.turn_places;
+      held_places = c.self.invariant.held_places;
     })
 
 pub returns-clause-asks : goal.returns-clause-asks
@@ -51,6 +59,27 @@ returns-clause-jobs c b =
     ap (λ (x : WishesRecord). job_at x.cells b) c.asked-more.ensures.cells ∙ job_taken w.cluster es w.cells a (slot_within w.cells a 0 here) b
     ∙ ap (λ (p : PlacerRecord). job_seen p.seen b) c.self.view_is
 
+-- the mark of an open machine after the demand was told
+told_mark : (c : goal.After-self-1) (m : ℕ) → get_or c.self.inside.wishes.opened m false ≡ true
+    → IsAsked c.args.demand.now.entries (get_or c.self.inside.wishes.cells c.args.app.0 []) m (mark_at (map mark_of c.self.inside.marks.items) m) (mark_at (map mark_of c.tell_demand.new.marks.items) m)
+told_mark c m o =
+    let l = open_there c.self.inside.wishes.opened (length c.self.inside.wishes.cluster.machines) c.cluster-wishes.ensures.sound.opened m o in
+    let n = c.self.invariant.marked in
+    c.tell_demand.ensures.marks m (omega (arith, l, n))
+
+pub returns-clause-tight : goal.returns-clause-tight
+returns-clause-tight c h =
+    let w = c.self.inside.wishes in
+    let a = c.args.app.0 in
+    let es = c.args.demand.now.entries in
+    let xs = get_or w.cells a [] in
+    let here = subst (λ (p : PlacerRecord). 0 < units_seen p.seen a) (sym c.self.view_is) c.requires.here in
+    stays_tight c.self.view_is (ap (λ (x : WishesRecord). x.opened) c.asked-more.ensures.cells) refl
+    (λ m o t. stays_for c.self.inside.turns (Lifts es xs m) (IsLifted (asks_seen c.args.self.now.seen) (asks_in c.asked-more.new.self.cells) a m) (mark_at (map mark_of c.self.inside.marks.items) m) (mark_at (map mark_of c.tell_demand.new.marks.items) m)
+    (λ l. subst (λ (p : PlacerRecord). IsLifted (asks_seen p.seen) (asks_in c.asked-more.new.self.cells) a m) c.self.view_is
+    (subst (λ (x : WishesRecord). IsLifted (asks_in w.cells) (asks_in x.cells) a m) (sym c.asked-more.ensures.cells) (lifted_then w.cluster es w.cells w.opened a c.cluster-wishes.ensures.sound (slot_within w.cells a 0 here) m l)))
+    (asked_stays c.self.inside.turns es xs m (mark_at (map mark_of c.self.inside.marks.items) m) (mark_at (map mark_of c.tell_demand.new.marks.items) m) (told_mark c m o) t)) h
+
 pub returns-clause-level : goal.returns-clause-level
 unfolding IsLevelWith
 returns-clause-level c l =
@@ -67,6 +96,20 @@ returns-clause-level c l =
           let b = both_true c.self.inside.idle (not c.asked-more.result) e in
           let none : any_more w.cluster es (get_or w.cells a []) (length (get_or w.cells a [])) ≡ false = sym c.asked-more.ensures.more ∙ not_true c.asked-more.result b.1 in
           subst (λ (x : WishesRecord). IsIdle x.cells x.opened t) (sym c.asked-more.ensures.cells) (idle_asked w.cluster es w.cells w.opened a c.cluster-wishes.ensures.sound (slot_within w.cells a 0 here) t none (old.idle b.0));
+      kept = subst (λ (x : WishesRecord). IsKept x.cells x.opened c.self.inside.line.pairs c.self.inside.turns (record { marks = map mark_of c.tell_demand.new.marks.items; turn_of = c.self.inside.turn_of.items; held = c.self.inside.held.items }) t) (sym c.asked-more.ensures.cells)
+          (kept_demanded w.cells (set w.cells a (taken_all w.cluster es 0 (get_or w.cells a []))) w.opened w.opened c.self.inside.line.pairs c.self.inside.turns (record { marks = map mark_of c.self.inside.marks.items; turn_of = c.self.inside.turn_of.items; held = c.self.inside.held.items }) t (map mark_of c.tell_demand.new.marks.items)
+          (λ m o. told_asked es (get_or w.cells a []) m (mark_at (map mark_of c.self.inside.marks.items) m) (mark_at (map mark_of c.tell_demand.new.marks.items) m)
+          ((b u : ℕ) → is_open_to (set w.cells a (taken_all w.cluster es 0 (get_or w.cells a []))) w.opened b u m ≡ true → is_open_to w.cells w.opened b u m ≡ true) (told_mark c m o)
+          (λ still b u. still_open w.cluster es w.cells w.opened a c.cluster-wishes.ensures.sound (slot_within w.cells a 0 here) m still b u)) (λ m o. o) old.kept);
+      quiet = λ e.
+          let b = both_true c.self.inside.idle (not c.asked-more.result) e in
+          let none : any_more w.cluster es (get_or w.cells a []) (length (get_or w.cells a [])) ≡ false = sym c.asked-more.ensures.more ∙ not_true c.asked-more.result b.1 in
+          let q = old.quiet b.0 in
+          subst (λ (x : WishesRecord). IsQuiet x.cells x.opened c.self.inside.line.pairs c.self.inside.turns (map mark_of c.tell_demand.new.marks.items) t) (sym c.asked-more.ensures.cells) (record {
+            settled = λ m o. asked_settled c.self.inside.turns es (get_or w.cells a []) m (mark_at (map mark_of c.self.inside.marks.items) m) (mark_at (map mark_of c.tell_demand.new.marks.items) m) (told_mark c m o)
+                (none_lifted w.cluster es w.cells w.opened a c.cluster-wishes.ensures.sound (slot_within w.cells a 0 here) none m) (q.settled m o);
+            waiting = λ b u lt some. q.waiting b u lt (waiting_asked w.cluster es w.cells w.opened a c.cluster-wishes.ensures.sound (slot_within w.cells a 0 here) t none b u some);
+          });
     }
   where
     not_true : (b : Bool) → not b ≡ true → b ≡ false

@@ -1,5 +1,14 @@
-use Rattle.std.proofs.Common.{◌≡◌, ℕ, ◌+◌, ◌-◌, Bool, false, not, nat_lt, ◌++◌, length, map, filter, sym, ◌∙◌, ap, subst, arith}
+use Rattle.std.proofs.Common.{◌≡◌, ℕ, ◌+◌, ◌-◌, Bool, true, false, not, nat_lt, List, ◌++◌, length, map, filter, refl, sym, ◌∙◌, ap, subst, arith}
+use Rattle.std.specs.Prelude.{◌&&◌}
 use Rattle.std.proofs.lemmas.List.{length-append}
+use Rattle.place_pass.specs.Bounds.{key_of, mark_at, mark_of, turn_at}
+use Rattle.std.proofs.lemmas.Bool.Decides.{nat_tests}
+use Rattle.fuxi_terms.proofs.Booleans.{and_true}
+use Rattle.place_pass.proofs.CountsLemmas.{same_stays, stays_tight}
+use Rattle.place_pass.proofs.KeptLemmas.{kept_lined}
+use Rattle.place_pass.proofs.SightsLemmas.{place_of}
+use Rattle.place_pass.proofs.NumberedLemmas.{none_joined, numbered_end, has_end, unit_small}
+use Rattle.place_pass.proofs.FirstByTurn.{has_at}
 use Rattle.fuxi_terms.specs.Cluster.{JobRecord}
 use Rattle.fuxi_terms.specs.Jobs.{unit_count, job_numbers}
 use Rattle.written_roles.specs.Masters.{out_of}
@@ -7,8 +16,8 @@ use Rattle.written_roles.specs.Placing.{has_pair, lined, waiting_in}
 use Rattle.grant_table.specs.Tables.{as_known}
 use Rattle.place_pass.specs.Cells.{asks_in}
 use Rattle.place_pass.specs.Lines.{LineRecord, same_pair}
-use Rattle.place_pass.specs.Placers.{PlacerRecord, SeenRecord, IsLevelWith, asks_seen, waiting_with}
-use Rattle.place_pass.proofs.Lining.{none_filter}
+use Rattle.place_pass.specs.Placers.{PlacerRecord, KeptRecord, IsKept, SeenRecord, IsLevelWith, asks_seen, waiting_with}
+use Rattle.place_pass.proofs.Lining.{none_filter, has_filter}
 use Rattle.place_pass.proofs.Telling.{kept_is, lined_has}
 use Rattle.place_pass.proofs.Turns.{few_begin}
 use Rattle.place_pass.proofs.placer.Placer.line_up.Goals as goal
@@ -65,12 +74,6 @@ returns-clause-turns c =
     let turns = ap (λ (x : SeenRecord). x.turns) (returns-clause-seen c) in
     omega (arith, few, turns)
 
-pub returns-clause-level : goal.returns-clause-level
-unfolding IsLevelWith
-returns-clause-level c =
-    let old = subst (λ (p : PlacerRecord). IsLevelWith p c.args.table.now) (sym c.self.view_is) c.requires.level in
-    record { level = old.level; idle = old.idle }
-
 pub returns-clause-up : goal.returns-clause-up
 unfolding IsLevelWith
 returns-clause-up c a u =
@@ -79,3 +82,47 @@ returns-clause-up c a u =
     let l = (subst (λ (p : PlacerRecord). IsLevelWith p t) (sym c.self.view_is) c.requires.level).level in
     let is = c.admitted_jobs.ensures.numbers t.jobs c.cluster-cluster.ensures.sound.in_order in
     ap (has_pair (a, u)) (line_is c) ∙ lined_has w.cluster w.cells t l (job_numbers (as_known t.jobs)) is c.self.inside.line.pairs a u
+
+pub returns-clause-level : goal.returns-clause-level
+unfolding IsLevelWith
+returns-clause-level c =
+    let old = subst (λ (p : PlacerRecord). IsLevelWith p c.args.table.now) (sym c.self.view_is) c.requires.level in
+    let w = c.self.inside.wishes in
+    let t = c.args.table.now in
+    let line = c.self.inside.line.pairs in
+    let r : ℕ × ℕ → Bool = λ p. not (has_pair p line) in
+    let waits : ℕ × ℕ → Bool = λ p. nat_lt 0 (out_of (asks_in w.cells) t.entries p.0 p.1) in
+    let all = waiting_in (map (λ (j : JobRecord). j.number) t.jobs) (unit_count (as_known t.jobs)) (asks_in w.cells) t.entries in
+    let joined = filter r all in
+    let front = c.keep.new.next.pairs in
+    let pairs : c.join.new.next.pairs ≡ front ++ joined = c.join.ensures.pairs in
+    let n = c.len.ensures.number in
+    let s = c.len-stayed.ensures.number in
+    let long = ap length pairs ∙ length-append front joined in
+    let more : c.len.result - c.len-stayed.result ≡ length joined = omega (arith, long, n, s) in
+    let whole : c.swap.new.x.pairs ≡ front ++ joined = ap (λ (x : LineRecord). x.pairs) c.swap.ensures.x_after ∙ pairs in
+    let k : KeptRecord = record { marks = map mark_of c.self.inside.marks.items; turn_of = c.self.inside.turn_of.items; held = c.self.inside.held.items } in
+    let kept = kept_lined w.cells w.opened line front joined c.self.inside.turns k t c.number_from.new.turn_of.items waits c.keep.ensures.pairs
+    (λ p has. new (has_pair p line) (has_pair p all) (sym (has_filter r p all) ∙ has))
+    (numbered_end (λ (p : ℕ × ℕ). turn_at c.number_from.new.turn_of.items p.0 p.1) c.self.inside.turns c.len-stayed.result front joined c.join.new.next.pairs pairs s (λ i p ge e. c.number_from.ensures.numbered i p ge e))
+    (λ a u has out. c.number_from.ensures.others a u (let place = place_of (a, u) line has in unit_small w.cells line place.place (a, u) c.self.invariant.admitted place.at c.cluster-wishes.ensures.sound.few)
+    (λ i ge e. let f : false ≡ true = sym out ∙ has_end c.len-stayed.result front joined c.join.new.next.pairs pairs s i (a, u) ge e (λ q i g. has_at joined i q g) in let g : ⊥ = cc in g))
+    old.kept in
+    let none = λ (e : c.self.inside.idle ≡ true). none_joined line (map (λ (j : JobRecord). j.number) t.jobs) (unit_count (as_known t.jobs)) (asks_in w.cells) t.entries (old.quiet e).waiting in
+    record {
+      level = old.level;
+      idle = old.idle;
+      quiet = λ e. record {
+        settled = λ m o. let z : c.self.inside.turns + (c.len.result - c.len-stayed.result) ≡ c.self.inside.turns = let y = ap length (none e) in omega (arith, more, y) in ap (key_of (mark_at (map mark_of c.self.inside.marks.items) m)) z ∙ (old.quiet e).settled m o;
+        waiting = λ a u lt some. returns-clause-up c a u ∙ and_true (nat_lt u (unit_count (as_known t.jobs) a)) _ (grind (arith, nat_tests, lt)) (grind (arith, nat_tests, some));
+      };
+      kept = (λ (p : List (ℕ × ℕ)) (n : ℕ) (x : p ≡ front ++ joined) (y : n ≡ length joined). subst (λ (l : List (ℕ × ℕ)). IsKept w.cells w.opened l (c.self.inside.turns + n) (record k { turn_of = c.number_from.new.turn_of.items }) t) (sym x) (subst (λ z. IsKept w.cells w.opened (front ++ joined) (c.self.inside.turns + z) (record k { turn_of = c.number_from.new.turn_of.items }) t) (sym y) kept)) c.swap.new.x.pairs (c.len.result - c.len-stayed.result) whole more;
+    }
+  where
+    new : (x y : Bool) → (y && not x) ≡ true → x ≡ false
+    new true true e = cc
+    new true false e = cc
+    new false y e = refl
+
+pub returns-clause-tight : goal.returns-clause-tight
+returns-clause-tight c e h = stays_tight c.self.view_is refl (e ∙ sym (ap (λ (p : PlacerRecord). p.seen.turns) c.self.view_is)) (λ m o t. same_stays c.self.inside.turns ⊥ (mark_at (map mark_of c.self.inside.marks.items) m) t) h

@@ -1,5 +1,13 @@
-use Rattle.std.proofs.Common.{◌≡◌, ℕ, zero, suc, List, [], get_or, refl, sym, ap, subst}
+use Rattle.std.proofs.Common.{◌≡◌, ℕ, zero, suc, ◌+◌, ◌*◌, true, false, List, [], length, get_or, refl, sym, ◌∙◌, ap, subst, arith, rules}
+use Rattle.written_roles.specs.Placing.{has_pair}
+use Rattle.place_pass.specs.Bounds.{MarkRecord, mark_of, reset_mark, Rises, turn_at}
+use Rattle.place_pass.proofs.FirstByTurn.{rising}
+use Rattle.place_pass.proofs.Places.{zeros}
 use Rattle.std.specs.Prelude.{replicate}
+use Rattle.std.proofs.lemmas.List.{length-replicate, length-map}
+use Rattle.place_pass.specs.Best.{AreAdmitted}
+use Rattle.place_pass.specs.Lines.{units_in_all}
+use Rattle.place_pass.proofs.Telling.{no_units}
 use Rattle.grant_table.specs.Tables.{TableRecord}
 use Rattle.place_pass.specs.Cells.{Cell, WishesRecord, job_in, job_at}
 use Rattle.place_pass.specs.Placers.{AreLevel, IsLevelWith}
@@ -10,6 +18,14 @@ none_in zero a = refl
 none_in (suc n) zero = refl
 none_in (suc n) (suc a) = none_in n a
 
+none_open : (n m : ℕ) → get_or (replicate n false) m false ≡ false
+none_open zero m = refl
+none_open (suc n) zero = refl
+none_open (suc n) (suc m) = none_open n m
+
+zero_at : (xs : List ℕ) (n : ℕ) → xs ≡ replicate n 0 → (i : ℕ) → get_or xs i 0 ≡ 0
+zero_at xs n e i = ap (λ ys. get_or ys i 0) e ∙ zeros n i
+
 pub returns-clause-level : goal.returns-clause-level
 unfolding IsLevelWith
 returns-clause-level c =
@@ -17,4 +33,29 @@ returns-clause-level c =
     record {
       level = subst (λ (w : WishesRecord). AreLevel w.cluster (job_at w.cells) none) (sym c.in_ok-wishes.ensures) (record { cluster_is = refl; jobs_are = λ a. ap (job_in a) (none_in 256 a) });
       idle = λ e. cc;
+      quiet = λ e. cc;
+      kept = record {
+        bounds = λ m a u opened has lt. let f : false ≡ true = sym (ap (λ (ps : List (ℕ × ℕ)). has_pair (a, u) ps) c.new.ensures) ∙ has in cc;
+        until = λ m opened. let f : true ≡ false = sym opened ∙ ap (λ (w : WishesRecord). get_or w.opened m false) c.in_ok-wishes.ensures ∙ none_open (length c.args.cluster.now.machines) m in cc;
+        rises = rising (λ (p : ℕ × ℕ). turn_at c.in_ok-turn_of.turn_of.items p.0 p.1) c.new.result.pairs (subst (Rises (λ (p : ℕ × ℕ). turn_at c.in_ok-turn_of.turn_of.items p.0 p.1)) (sym c.new.ensures) tt);
+        below = λ a u has. let f : false ≡ true = sym (ap (λ (ps : List (ℕ × ℕ)). has_pair (a, u) ps) c.new.ensures) ∙ has in cc;
+        held = λ a u la lu. zero_at c.in_ok-held.held.items 2048 (c.in_ok-held.ensures.items_if_clones_equal (λ y e. search rules)) (a * 8 + u);
+      };
     }
+
+pub invariant_of-result : goal.invariant_of-result
+invariant_of-result c =
+    let none : units_in_all c.in_ok-wishes.wishes.cells ≡ 0 = ap (λ (w : WishesRecord). units_in_all w.cells) c.in_ok-wishes.ensures ∙ no_units 256 in
+    record {
+      admitted = subst (AreAdmitted c.in_ok-wishes.wishes.cells) (sym c.new.ensures) tt;
+      places = ap (λ (w : WishesRecord). length w.cells) c.in_ok-wishes.ensures ∙ length-replicate {A = List Cell} 256 [];
+      counted = sym none;
+      room = omega (arith, none);
+      other_room = omega (arith, none);
+      marked = sym (length-map c.in_ok-marks.marks.items mark_of) ∙ ap length c.in_ok-marks.ensures ∙ length-replicate {A = MarkRecord} c.machines.result (reset_mark 0) ∙ c.machines.ensures.number ∙ ap (λ (w : WishesRecord). length w.cluster.machines) (sym c.in_ok-wishes.ensures);
+      turn_places = ap length (c.in_ok-turn_of.ensures.items_if_clones_equal (λ y e. search rules)) ∙ length-replicate {A = ℕ} 2048 0;
+      held_places = ap length (c.in_ok-held.ensures.items_if_clones_equal (λ y e. search rules)) ∙ length-replicate {A = ℕ} 2048 0;
+    }
+
+pub returns-clause-seen : goal.returns-clause-seen
+returns-clause-seen c = λ i. record { cluster = (c.in_ok-wishes.ensures i).cluster; cells = (c.in_ok-wishes.ensures i).cells; opened = (c.in_ok-wishes.ensures i).opened; line = c.new.ensures i; turns = 0 }

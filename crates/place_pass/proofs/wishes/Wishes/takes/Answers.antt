@@ -1,21 +1,15 @@
-use Rattle.std.proofs.Common.{◌≡◌, ℕ, ◌-◌, Bool, true, false, not, nat_lt, [], length, get_or, refl, sym, ◌∙◌, ap, arith}
+use Rattle.std.proofs.Common.{◌≡◌, Bool, true, false, not, nat_lt, length, get_or, refl, sym, ◌∙◌, ap, arith}
 use Rattle.std.specs.Prelude.{◌&&◌}
 use Rattle.std.proofs.lemmas.Bool.Decides.{nat_tests}
 use Rattle.fuxi_terms.specs.Cluster.{ClusterRecord, UnitRecord}
 use Rattle.fuxi_terms.specs.Jobs.{size_at, most_of}
 use Rattle.written_roles.specs.Placing.{has_room_in}
 use Rattle.grant_table.specs.Tables.{as_known}
-use Rattle.fuxi_terms.specs.Vectors.{at_place}
-use Rattle.fuxi_terms.proofs.ByPlace.{at_place-get_or}
-use Rattle.fuxi_terms.specs.declared.vectors.Res.{Res}
-use Rattle.place_pass.specs.Best.{parts_of}
-use Rattle.fuxi_terms.specs.Cluster.{has_at}
-use Rattle.fuxi_terms.specs.Tables.{held_on, total_at}
+use Rattle.fuxi_terms.specs.Tables.{held_on}
 use Rattle.place_pass.specs.Cells.{Cell, cell_at}
 use Rattle.place_pass.specs.Placers.{is_open_to}
-use Rattle.place_pass.proofs.Matching.{avoided_read, most_is, unit_is}
-use Rattle.place_pass.proofs.Rooms.{room_is}
-use Rattle.place_pass.proofs.Places.{mapped_at}
+use Rattle.place_pass.proofs.Matching.{avoided_read, most_is, unit_is, has_past}
+use Rattle.place_pass.proofs.Rooms.{room_fits}
 use Rattle.place_pass.proofs.wishes.Wishes.takes.Goals as goal
 
 pub index-requires : goal.index-requires
@@ -79,12 +73,7 @@ returns c =
     let is = ap (λ (x : Cell). x.unit.size) c.wish-wish.ensures.cell ∙ ap (λ (x : UnitRecord). x.size) (unit_is c.args.self.now.cluster c.args.self.now.cells t c.requires.level a u c.requires.unit) in
     let eight = (c.wish-wish.ensures.sound.unit a u c.requires.unit).size in
     let long = ap (λ (x : Cell). length x.unit.size) c.wish-wish.ensures.cell in
-    let part = λ (i : ℕ). c.requires.free m i c.requires.machine opened in
-    let d : Res = record { q = [] } in
-    let free = (get_or c.args.parts.now m d).q in
-    let mapped : get_or (parts_of c.args.parts.now) m [] ≡ free = mapped_at (λ (r : Res). r.q) c.args.parts.now m d [] refl in
-    let left : (i : ℕ) → at_place free i ≡ has_at t.cluster m i - total_at (as_known t.jobs) m i t.entries = λ i. at_place-get_or free i ∙ ap (λ xs. get_or xs i 0) (sym mapped) ∙ (part i).free in
-    c.fits.ensures ∙ room_is t a u c.wish-wish.result.now.size.q is (omega (arith, eight, long)) m free c.requires.narrow left (λ i. (part i).fits)
+    c.fits.ensures ∙ room_fits t a u c.wish-wish.result.now.size.q is (omega (arith, eight, long)) m c.args.free.now.q (has_past t.cluster c.cluster-table.ensures.sound.valid m) c.requires.free c.requires.within
     ∙ all (get_or c.args.self.now.opened m false) (nat_lt 0 (get_or (cell_at c.args.self.now.cells a u).avoided m 0)) (nat_lt (held_on t.entries a u m) (most_of (as_known t.jobs) a u)) (has_room_in t.cluster (size_at (as_known t.jobs)) t.entries a u m) opened test fewer
   where
     all : (o b n r : Bool) → o ≡ true → b ≡ false → n ≡ true → r ≡ (((o && not b) && n) && r)

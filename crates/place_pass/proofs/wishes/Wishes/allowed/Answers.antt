@@ -1,17 +1,13 @@
-use Rattle.std.proofs.Common.{◌≡◌, ℕ, ◌≤◌, true, nat_lt, length, sym, ◌∙◌, ap, arith}
-use Rattle.std.specs.Prelude.{◌&&◌}
-use Rattle.std.proofs.lemmas.Bool.Decides.{nat_tests}
+use Rattle.std.proofs.Common.{◌≡◌, ℕ, ◌≤◌, length, sym, ◌∙◌, ap, arith}
 use Rattle.fuxi_terms.specs.Cluster.{UnitRecord, limit_at}
 use Rattle.fuxi_terms.specs.Vectors.{at_place}
-use Rattle.fuxi_terms.specs.Jobs.{group_of, size_at}
-use Rattle.written_roles.specs.Masters.{out_of}
+use Rattle.fuxi_terms.specs.Jobs.{group_of}
 use Rattle.fuxi_terms.specs.Tables.{usage_at}
-use Rattle.written_roles.specs.Placing.{is_allowed_in}
 use Rattle.grant_table.specs.Tables.{as_known}
-use Rattle.place_pass.specs.Cells.{Cell, asks_in}
+use Rattle.place_pass.specs.Cells.{Cell}
 use Rattle.place_pass.proofs.Matching.{group_is, group_small, unit_is, limit_past}
-use Rattle.place_pass.proofs.Rooms.{allowed_is, allowed_narrow}
-use Rattle.place_pass.proofs.wishes.Wishes.may_grow.Goals as goal
+use Rattle.place_pass.proofs.Rooms.{allowed_is}
+use Rattle.place_pass.proofs.wishes.Wishes.allowed.Goals as goal
 
 pub used_by-requires : goal.used_by-requires
 used_by-requires c =
@@ -20,9 +16,8 @@ used_by-requires c =
     let s = group_small t.jobs c.cluster.ensures.sound.in_order c.args.app.0 in
     omega (arith, g, s)
 
--- what the group's test says
-allowed : (c : goal.After-allows) → c.allows.result ≡ is_allowed_in c.args.table.now.cluster (group_of (as_known c.args.table.now.jobs)) (size_at (as_known c.args.table.now.jobs)) c.args.table.now.entries c.args.app.0 c.args.unit.0
-allowed c =
+pub returns : goal.returns
+returns c =
     let t = c.args.table.now in
     let a = c.args.app.0 in
     let u = c.args.unit.0 in
@@ -34,19 +29,3 @@ allowed c =
     let limit : (i : ℕ) → at_place c.group_or_none-group.result.limit.q i ≡ limit_at t.cluster (group_of (as_known t.jobs) a) i = λ i. c.group_or_none-group.ensures i ∙ (λ j. limit_at (c.cluster.ensures.cluster j) (g j) i) in
     let beyond : (i : ℕ) → t.cluster.resources ≤ i → usage_at (as_known t.jobs) (group_of (as_known t.jobs) a) i t.entries ≡ 0 = λ i ge. ap (λ g. usage_at (as_known t.jobs) g i t.entries) (sym g) ∙ c.used_by.ensures.beyond i ge in
     c.allows.ensures ∙ allowed_is t a u c.wish-wish.result.now.size.q is (omega (arith, eight, long)) c.used_by.result.q c.group_or_none-group.result.limit.q used limit beyond (limit_past t.cluster c.cluster.ensures.sound.valid (group_of (as_known t.jobs) a))
-
-pub returns-clause-grows : goal.returns-clause-grows
-returns-clause-grows c =
-    let t = c.args.table.now in
-    let some : nat_lt 0 (out_of (asks_in c.args.self.now.cells) t.entries c.args.app.0 c.args.unit.0) ≡ true = let e = c.outstanding.ensures in let f = c.if-outstanding-eq0.false in grind (arith, nat_tests, e, f) in
-    allowed c ∙ ap (λ b. b && is_allowed_in t.cluster (group_of (as_known t.jobs)) (size_at (as_known t.jobs)) t.entries c.args.app.0 c.args.unit.0) (sym some)
-
-pub returns-clause-narrow : goal.returns-clause-narrow
-returns-clause-narrow c h =
-    let t = c.args.table.now in
-    let a = c.args.app.0 in
-    let u = c.args.unit.0 in
-    let is = ap (λ (x : Cell). x.unit.size) c.wish-wish.ensures.cell ∙ ap (λ (x : UnitRecord). x.size) (unit_is c.args.self.now.cluster c.args.self.now.cells t c.requires.level a u c.requires.unit) in
-    let eight = (c.wish-wish.ensures.sound.unit a u c.requires.unit).size in
-    let long = ap (λ (x : Cell). length x.unit.size) c.wish-wish.ensures.cell in
-    allowed_narrow t a u c.wish-wish.result.now.size.q is (omega (arith, eight, long)) (sym (allowed c) ∙ h)

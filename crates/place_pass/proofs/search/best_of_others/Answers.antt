@@ -1,0 +1,76 @@
+use Rattle.std.proofs.Common.{◌≡◌, ℕ, ◌+◌, Bool, true, false, cond, not, nat_eq, map, get_or, None, sym, ◌∙◌, ap, subst, arith, add-one, inl, inr}
+use Rattle.std.specs.Prelude.{◌&&◌}
+use Rattle.std.proofs.lemmas.Bool.{cases_lt}
+use Rattle.std.proofs.lemmas.Bool.Decides.{nat_tests}
+use Rattle.place_pass.specs.Bounds.{MarkRecord, mark_of, mark_at, key_of, rank_on}
+use Rattle.place_pass.specs.Counts.{is_unsettled_by, count_below}
+use Rattle.place_pass.specs.Placers.{board_over}
+use Rattle.place_pass.specs.Sights.{found_rank, turn_in, IsLeast}
+use Rattle.place_pass.proofs.search.best_of_others.Goals as goal
+
+-- one number more is tested
+count_next : (f : ℕ → Bool) (n : ℕ) → count_below f (n + 1) ≡ count_below f n + cond (f n) 1 0
+count_next f n = ap (count_below f) (add-one n)
+
+pub loop-number-preserved-then-number-start : goal.loop-number-preserved-then-number-start
+loop-number-preserved-then-number-start g c =
+    let b = board_over c.args.wishes.now.cells c.args.wishes.now.opened c.args.table.now in
+    let es = c.args.table.now.entries in
+    let f = turn_in c.args.turn_of.now in
+    let line = c.args.line.now.pairs in
+    let n = c.loop-number.number in
+    let same : c.args.start.0 ≡ n = sym c.if-number-start.true in
+    let marks = c.loop-number.marks.items in
+    let test : ℕ → Bool = λ m. not (nat_eq m c.args.start.0) && is_unsettled_by c.args.wishes.now.opened (mark_at (map mark_of c.args.marks.now.items) m) c.args.turns m in
+    record {
+      least = λ m lt. elim (cases_lt m n) [
+        | inl l ↦ c.loop-number.invariant.least m l
+        | inr ge ↦ subst (λ z. IsLeast b es f line (found_rank c.loop-number.best) z) (omega (arith, lt, ge, same)) c.loop-number.invariant.seen
+      ];
+      seen = c.loop-number.invariant.seen;
+      found = c.loop-number.invariant.found;
+      marked = c.loop-number.invariant.marked;
+      bounded = c.loop-number.invariant.bounded;
+      until = c.loop-number.invariant.until;
+      left = λ m le. c.loop-number.invariant.left m (omega (arith, le));
+      count = let k = c.loop-number.invariant.count in let e = count_next test n in omega (arith, k, e);
+      settled = λ e m lt. elim (cases_lt m n) [
+        | inl l ↦ c.loop-number.invariant.settled e m l
+        | inr ge ↦ subst (λ z. get_or c.args.wishes.now.opened z false ≡ true → key_of (mark_at (map mark_of marks) z) c.args.turns ≡ None) (omega (arith, lt, ge, same)) (c.loop-number.invariant.first e)
+      ];
+      first = c.loop-number.invariant.first;
+    }
+
+pub loop-number-preserved : goal.loop-number-preserved
+loop-number-preserved g c =
+    let b = board_over c.args.wishes.now.cells c.args.wishes.now.opened c.args.table.now in
+    let es = c.args.table.now.entries in
+    let f = turn_in c.args.turn_of.now in
+    let line = c.args.line.now.pairs in
+    let n = c.loop-number.number in
+    let o = c.args.wishes.now.opened in
+    let turns = c.args.turns in
+    let marks = c.consider_at-best.new.marks.items in
+    let differs = c.if-number-start.false in
+    let apart : nat_eq n c.args.start.0 ≡ false = grind (arith, nat_tests, differs) in
+    let test : ℕ → Bool = λ m. not (nat_eq m c.args.start.0) && is_unsettled_by o (mark_at (map mark_of c.args.marks.now.items) m) turns m in
+    let one : ◌≡◌ {A = ℕ} (cond (test n) 1 0) (cond (is_unsettled_by o (mark_at (map mark_of c.loop-number.marks.items) n) turns n) 1 0) = ap (λ x. cond (not x && is_unsettled_by o (mark_at (map mark_of c.args.marks.now.items) n) turns n) 1 0) apart
+    ∙ ap (λ (k : MarkRecord). cond (is_unsettled_by o k turns n) 1 0) (sym (c.loop-number.invariant.left n (omega arith))) in
+    record {
+      least = λ m lt. elim (cases_lt m n) [
+        | inl l ↦ record { least = λ q has p. c.consider_at-best.ensures.kept (rank_on b es (f q) q m) ((c.loop-number.invariant.least m l).least q has p) }
+        | inr ge ↦ subst (λ z. IsLeast b es f line (found_rank c.consider_at-best.result) z) (omega (arith, lt, ge)) c.consider_at-best.ensures.least
+      ];
+      seen = record { least = λ q has p. c.consider_at-best.ensures.kept (rank_on b es (f q) q c.args.start.0) (c.loop-number.invariant.seen.least q has p) };
+      found = λ h. c.consider_at-best.ensures.found (c.loop-number.invariant.found h);
+      marked = c.consider_at-best.ensures.marked ∙ c.loop-number.invariant.marked;
+      bounded = c.consider_at-best.ensures.bounded;
+      until = c.consider_at-best.ensures.until;
+      left = λ m le. c.consider_at-best.ensures.others m (grind (arith, nat_tests, le)) ∙ c.loop-number.invariant.left m (omega (arith, le));
+      count = let k = c.loop-number.invariant.count in let e = count_next test n in let s = c.consider_at-best.ensures.count in omega (arith, k, e, s, one);
+      settled = λ e m lt. elim (cases_lt m n) [
+        | inl l ↦ λ opened. subst (λ (k : MarkRecord). key_of k turns ≡ None) (sym (c.consider_at-best.ensures.others m (grind (arith, nat_tests, l)))) (c.loop-number.invariant.settled (c.consider_at-best.ensures.empty e) m l opened)
+        | inr ge ↦ subst (λ z. get_or o z false ≡ true → key_of (mark_at (map mark_of marks) z) turns ≡ None) (omega (arith, lt, ge)) (c.consider_at-best.ensures.settled e)
+      ];
+      first = λ e opened. subst (λ (k : MarkRecord). key_of k turns ≡ None) (sym (c.consider_at-best.ensures.others c.args.start.0 apart)) (c.loop-number.invariant.first (c.consider_at-best.ensures.empty e) opened);
+    }

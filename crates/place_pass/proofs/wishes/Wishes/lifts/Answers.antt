@@ -1,0 +1,56 @@
+use Rattle.std.proofs.Common.{◌≡◌, ◌<◌, [], length, get_or, sym, ◌∙◌, ap, subst, arith, inl, inr}
+use Rattle.std.proofs.lemmas.Bool.{cases_lt}
+use Rattle.fuxi_terms.specs.Counts.{count}
+use Rattle.fuxi_terms.specs.Keys.{key_cmp}
+use Rattle.fuxi_terms.specs.TallyKeys.{avoid_key}
+use Rattle.place_pass.specs.Cells.{Cell, cell_at}
+use Rattle.place_pass.proofs.Matching.{avoided_read}
+use Rattle.place_pass.proofs.wishes.Wishes.lifts.Goals as goal
+
+pub index-requires : goal.index-requires
+index-requires c =
+    let there : c.loop-number.number < length (get_or c.args.self.now.cells c.args.app.0 []) = let t = c.loop-number-test.true in let e = c.units-number-end.ensures.number in omega (arith, t, e) in
+    let w = (c.wish-wish.ensures.sound.unit c.args.app.0 c.loop-number.number there).avoided in
+    let n = ap (λ (x : Cell). length x.avoided) c.wish-wish.ensures.cell in
+    let l = c.requires in
+    omega (arith, w, n, l)
+
+pub loop-number-preserved-then-index-eq0 : goal.loop-number-preserved-then-index-eq0
+loop-number-preserved-then-index-eq0 c u lt some =
+    let there : c.loop-number.number < length (get_or c.args.self.now.cells c.args.app.0 []) = let t = c.loop-number-test.true in let e = c.units-number-end.ensures.number in omega (arith, t, e) in
+    let w = (c.wish-wish.ensures.sound.unit c.args.app.0 c.loop-number.number there).avoided in
+    let n = ap (λ (x : Cell). length x.avoided) c.wish-wish.ensures.cell in
+    let l = c.requires in
+    let read = avoided_read c.wish-wish.result.now (cell_at c.args.self.now.cells c.args.app.0 c.loop-number.number) c.wish-wish.ensures.cell c.args.machine.0 c.index.result.now (omega (arith, w, n, l)) c.index.ensures in
+    elim (cases_lt u c.loop-number.number) [
+      | inl l ↦ c.loop-number.invariant u l some
+      | inr ge ↦
+          let same : c.loop-number.number ≡ u = omega (arith, lt, ge) in
+          let r = read ∙ ap (λ z. get_or (cell_at c.args.self.now.cells c.args.app.0 z).avoided c.args.machine.0 0) same in
+          let z = c.if-index-eq0.true in
+          absurd (omega (arith, r, z, some))
+    ]
+
+pub loop-number-preserved : goal.loop-number-preserved
+loop-number-preserved c u lt some = elim (cases_lt u c.loop-number.number) [
+  | inl l ↦ c.loop-number.invariant u l some
+  | inr ge ↦
+      let e = c.number_at.ensures in
+      let z = c.if-number_at-eq0.false in
+      let same : c.loop-number.number ≡ u = omega (arith, lt, ge) in
+      let more : 0 < count key_cmp c.args.demand.now.entries (avoid_key c.loop-number.number c.args.machine.0) = omega (arith, e, z) in
+      subst (λ n. 0 < count key_cmp c.args.demand.now.entries (avoid_key n c.args.machine.0)) same more
+]
+
+pub returns-then-number_at-eq0-clause-some : goal.returns-then-number_at-eq0-clause-some
+returns-then-number_at-eq0-clause-some c e =
+    let there : c.loop-number.number < length (get_or c.args.self.now.cells c.args.app.0 []) = let t = c.loop-number-test.true in let e = c.units-number-end.ensures.number in omega (arith, t, e) in
+    let w = (c.wish-wish.ensures.sound.unit c.args.app.0 c.loop-number.number there).avoided in
+    let n = ap (λ (x : Cell). length x.avoided) c.wish-wish.ensures.cell in
+    let l = c.requires in
+    let read = avoided_read c.wish-wish.result.now (cell_at c.args.self.now.cells c.args.app.0 c.loop-number.number) c.wish-wish.ensures.cell c.args.machine.0 c.index.result.now (omega (arith, w, n, l)) c.index.ensures in
+    let z = c.if-index-eq0.false in
+    record { unit = c.loop-number.number; there = there; was = omega (arith, read, z); gone = sym c.number_at.ensures ∙ c.if-number_at-eq0.true }
+
+pub returns-clause-none : goal.returns-clause-none
+returns-clause-none c e u lt some = let t = c.loop-number-test.false in let units = c.units-number-end.ensures.number in c.loop-number.invariant u (omega (arith, lt, t, units)) some

@@ -1,0 +1,65 @@
+-- What is found on machines: real pairs, that no other comes before.
+use Rattle.std.specs.Prelude.{◌≡◌, ℕ, ◌<◌, Bool, true, false, cond, List, [], ◌∷◌, ◌++◌, length, slice_get, Option, Some, None}
+use Rattle.std.specs.Option.{option_map}
+use Rattle.fuxi_terms.specs.Keys.{Spot}
+use Rattle.written_roles.specs.Placing.{Board, has_pair, placeable_in}
+use Rattle.place_pass.specs.declared.search.Found.{Found}
+use Rattle.place_pass.specs.declared.search.Sight.{Sight}
+use Rattle.fuxi_terms.specs.declared.Key.{Key}
+use Rattle.grant_table.specs.Tables.{TableRecord}
+use Rattle.place_pass.specs.Cells.{Cell, Lifts, AvoidsStill}
+use Rattle.place_pass.specs.Counts.{AreAllowed}
+use Rattle.place_pass.specs.Bounds.{MarkRecord, reset_mark, lowered_mark, cleared_mark, rank_of, comes_before, IsBounded, is_bound, rank_at, rank_on, turn_at}
+
+abbrev pub sight_rank : Option Sight → Option (List ℕ)
+sight_rank s = option_map (λ (x : Sight). rank_of x.rank) s
+
+-- the rank with the machine
+abbrev pub rank_with : Found → List ℕ
+rank_with x = rank_of x.rank ++ x.pick.machine.0 ∷ []
+
+abbrev pub found_rank : Option Found → Option (List ℕ)
+found_rank s = option_map rank_with s
+
+-- the turn of a pair
+abbrev pub turn_in : List ℕ → ℕ × ℕ → ℕ
+turn_in turns p = turn_at turns p.0 p.1
+
+-- a placeable pair of the line with its rank on a machine, and the same with the machine
+pub record IsSight (b : Board) (es : List (Spot × ℕ)) (f : ℕ × ℕ → ℕ) (line : List (ℕ × ℕ)) (m : ℕ) (x : Sight) : Type 0 where
+  pub place : ℕ
+  pub at : slice_get line place ≡ Some (x.app.0, x.unit.0)
+  pub placeable : placeable_in b es x.app.0 x.unit.0 m ≡ true
+  pub rank : rank_of x.rank ≡ rank_at b es (f (x.app.0, x.unit.0)) (x.app.0, x.unit.0) m
+
+pub record IsFound (b : Board) (es : List (Spot × ℕ)) (f : ℕ × ℕ → ℕ) (line : List (ℕ × ℕ)) (x : Found) : Type 0 where
+  pub place : ℕ
+  pub at : slice_get line place ≡ Some (x.pick.app.0, x.pick.unit.0)
+  pub there : x.pick.machine.0 < length b.cluster.machines
+  pub placeable : placeable_in b es x.pick.app.0 x.pick.unit.0 x.pick.machine.0 ≡ true
+  pub rank : rank_of x.rank ≡ rank_at b es (f (x.pick.app.0, x.pick.unit.0)) (x.pick.app.0, x.pick.unit.0) x.pick.machine.0
+
+-- no pair of the line that may be placed on the machine comes before a rank, and with no rank none may be placed there
+pub record IsLeast (b : Board) (es : List (Spot × ℕ)) (f : ℕ × ℕ → ℕ) (line : List (ℕ × ℕ)) (best : Option (List ℕ)) (m : ℕ) : Type 0 where
+  pub least : (q : ℕ × ℕ) → has_pair q line ≡ true → placeable_in b es q.0 q.1 m ≡ true → is_bound best (rank_on b es (f q) q m) ≡ true
+
+-- what a mark says of the pairs that were looked at
+pub record AreBounded (b : Board) (es : List (Spot × ℕ)) (f : ℕ × ℕ → ℕ) (line : List (ℕ × ℕ)) (k : MarkRecord) (m : ℕ) : Type 0 where
+  pub bounded : (q : ℕ × ℕ) → has_pair q line ≡ true → f q < k.until → IsBounded b es k.bound k.groups (f q) q m
+
+-- a mark after a demand was told: it is reset where a unit no longer avoids the machine, and else lowered
+pub record IsAsked (es : List (Key × ℕ)) (xs : List Cell) (m : ℕ) (before after : MarkRecord) : Type 0 where
+  pub lifted : Bool
+  pub is : after ≡ cond lifted (reset_mark before.until) (lowered_mark before)
+  pub some : lifted ≡ true → Lifts es xs m
+  pub none : lifted ≡ false → AvoidsStill es xs m
+
+-- a mark that notes no group any more, since each pair of the line is allowed
+pub record IsForgotten (t : TableRecord) (line : List (ℕ × ℕ)) (before after : MarkRecord) : Type 0 where
+  pub allowed : AreAllowed t line
+  pub is : after ≡ cleared_mark before
+
+-- a pair on a machine with this bound may come before the best
+abbrev pub is_first : Option Found → List ℕ → ℕ → Bool
+is_first None key m = true
+is_first (Some f) key m = comes_before (key ++ m ∷ []) (rank_with f)

@@ -1,0 +1,287 @@
+//! What is kept of each machine, so that one on which nothing can be placed earlier than before is not looked at again.
+
+ghost use Rattle.std.specs.Prelude.{◌≡◌, ℕ, ◌<◌, ◌≤◌, ◌&&◌, ◌||◌, ◌⊎◌, cond, nat_lt, nat_eq, true, false, None, Some, IfOk, [], ◌∷◌, length, map, set, replicate};
+ghost use Rattle.std.proofs.Common.{get_or};
+ghost use Rattle.fuxi_terms.specs.Cluster.{rack_of};
+ghost use Rattle.fuxi_terms.specs.Jobs.{unit_count};
+ghost use Rattle.fuxi_terms.specs.Tables.{spot, held};
+ghost use Rattle.grant_table.specs.Tables.{as_known};
+ghost use Rattle.place_pass.specs.Cells.{cell_at, job_at};
+ghost use Rattle.place_pass.specs.Placers.{AreLevel, board_over};
+ghost use Rattle.place_pass.specs.Best.{AreAdmitted};
+ghost use Rattle.place_pass.specs.Bounds.{MarkRecord, rank_of, mark_of, mark_at, key_of, zero_rank, reset_mark, cleared_mark, lowered_mark, after_taking, is_nearer_in};
+ghost use Rattle.place_pass.specs.Counts.{AreAllowed};
+ghost use Rattle.place_pass.specs.Sights.{IsAsked, IsForgotten};
+
+use crate::line::Line;
+use crate::wishes::Wishes;
+use cluster_desc::Cluster;
+use fuxi_terms::OutOfMemory;
+use grant_table::GrantTable;
+use party_ledgers::Demand;
+use schedule_unit::{AppNo, GroupNo, MachineNo, UnitNo};
+use std::alloc::Global;
+
+/// A rank on one machine: 9 less priority, level and turn, compared in this order.
+#[derive(Clone, Copy, Debug)]
+pub(crate) struct Rank {
+    pub(crate) late: u8,
+    pub(crate) level: u8,
+    pub(crate) turn: u64,
+}
+
+// The rank that no other comes before.
+fn earliest() -> Rank
+    ensures { rank_of result ≡ zero_rank }
+{
+    Rank {
+        late: 0,
+        level: 0,
+        turn: 0,
+    }
+}
+
+/// A bound for one machine: no placeable pair of the line that was looked at has an earlier rank.
+#[derive(Clone, Copy, Debug)]
+pub(crate) struct Mark {
+    /// `None` where no pair that was looked at is placeable.
+    pub(crate) bound: Option<Rank>,
+    /// The pairs with a smaller turn were looked at.
+    pub(crate) until: u64,
+    /// By group, whether a pair of it may fit that its limit did not allow.
+    pub(crate) groups: [bool; 32],
+}
+
+impl Mark {
+    ghost use Rattle.std.specs.Prelude.{◌≡◌, ◌<◌, nat_lt, false, cond, map};
+    ghost use Rattle.std.proofs.Common.{get_or};
+    ghost use Rattle.std.specs.Option.{option_map};
+    ghost use Rattle.std.specs.List.{list_any};
+    ghost use Rattle.place_pass.specs.Bounds.{rank_of, mark_of, key_of, reset_mark, cleared_mark, lowered_mark};
+
+    /// Of a machine that was not looked at.
+    pub(crate) fn new() -> Mark
+        ensures { mark_of result ≡ reset_mark 0 }
+    {
+        Mark {
+            bound: Some(earliest()),
+            until: 0,
+            groups: [false; 32],
+        }
+    }
+
+    /// The bound of all pairs, also of those that were not looked at: their turns are below `turns`.
+    pub(crate) fn key(&self, turns: u64) -> Option<Rank>
+        ensures { option_map rank_of result ≡ key_of (mark_of self.now) turns }
+    {
+        if self.until < turns {
+            Some(earliest())
+        } else {
+            self.bound
+        }
+    }
+
+    // Anything may be placeable.
+    fn reset(&mut self)
+        ensures { mark_of self.new ≡ reset_mark self.old.until }
+    {
+        self.bound = Some(earliest());
+        self.groups = [false; 32];
+    }
+
+    // No group is noted any more.
+    fn clear(&mut self)
+        ensures { mark_of self.new ≡ cleared_mark (mark_of self.old) }
+    {
+        self.groups = [false; 32];
+    }
+
+    // Whether a group is noted.
+    fn notes_any(&self) -> bool
+        ensures { result ≡ list_any (λ noted. noted) self.now.groups }
+    {
+        self.groups.iter().any(|noted| *noted)
+    }
+
+    // What is placeable may come earlier.
+    fn lower(&mut self)
+        ensures { mark_of self.new ≡ lowered_mark (mark_of self.old) }
+    {
+        if self.bound.is_some() {
+            self.bound = Some(earliest());
+        }
+    }
+
+    // Whether a pair of this group may fit that the group's limit did not allow.
+    fn notes(&self, group: GroupNo) -> bool
+        ensures { result ≡ get_or self.now.groups group.0 false }
+    {
+        let number = group.0 as usize;
+        number < 32 && self.groups[number]
+    }
+
+    // A unit asks otherwise: it may be nearer, and where an avoidance of the machine was lifted, it may be placed there.
+    fn ask(&mut self, lifted: bool)
+        ensures { mark_of self.new ≡ cond lifted (reset_mark self.old.until) (lowered_mark (mark_of self.old)) }
+    {
+        if lifted {
+            self.reset();
+        } else {
+            self.lower();
+        }
+    }
+
+    // Grants of a unit of this group were taken, on this machine or on another, where the unit may be nearer.
+    fn take(&mut self, here: bool, group: GroupNo, nearer: bool)
+        ensures { mark_of self.new ≡ cond here (reset_mark self.old.until) (cond (get_or self.old.groups group.0 false) (reset_mark self.old.until) (cond nearer (lowered_mark (mark_of self.old)) (mark_of self.old))) }
+    {
+        if here {
+            self.reset();
+        } else if self.notes(group) {
+            self.reset();
+        } else if nearer {
+            self.lower();
+        }
+    }
+}
+
+/// A mark for each machine.
+pub(crate) fn fresh_marks(alloc: Global, machines: usize) -> Result<Vec<Mark>, OutOfMemory>
+    ensures { IfOk result (λ marks. map mark_of marks.items ≡ replicate machines (reset_mark 0)) }
+{
+    Ok(Vec::from_elem(alloc, Mark::new(), machines)?)
+}
+
+/// Told of a demand before the wishes are: what is placeable may come earlier, and on a machine that a unit avoids no
+/// longer anything may be placeable.
+pub(crate) fn tell_demand(marks: &mut Vec<Mark>, wishes: &Wishes, app: AppNo, demand: &Demand)
+    requires { length marks.old.items ≡ length wishes.now.cluster.machines }
+    ensures marks { (m : ℕ) → m < length marks.old.items → IsAsked demand.now.entries (get_or wishes.now.cells app.0 []) m (mark_at (map mark_of marks.old.items) m) (mark_at (map mark_of marks.new.items) m) }
+    ensures long { length marks.new.items ≡ length marks.old.items }
+{
+    for number in 0..wishes.cluster().machines() {
+        let lifted = wishes.lifts(app, demand, MachineNo(number));
+        marks[number as usize].ask(lifted);
+    }
+}
+
+// Whether a mark notes a group.
+fn notes_any_group(marks: &Vec<Mark>) -> bool
+    ensures { result ≡ false → (m g : ℕ) → m < length marks.now.items → get_or (mark_at (map mark_of marks.now.items) m).groups g false ≡ false }
+{
+    for number in 0..marks.len() {
+        if marks[number].notes_any() {
+            return true;
+        }
+    }
+    false
+}
+
+// Whether the limit of its group allows each pair of the line one grant more.
+fn are_allowed(wishes: &Wishes, line: &Line, table: &GrantTable) -> bool
+    requires level { AreLevel wishes.now.cluster (job_at wishes.now.cells) table.now }
+    requires admitted { AreAdmitted wishes.now.cells line.now.pairs }
+    ensures yes { result ≡ true → AreAllowed table.now line.now.pairs }
+    ensures no { AreAllowed table.now line.now.pairs → result ≡ true }
+{
+    for place in 0..line.len() {
+        let (app, unit) = line.at(place);
+        if !wishes.allowed(table, app, unit) {
+            return false;
+        }
+    }
+    true
+}
+
+// No mark notes a group any more.
+fn clear_all(marks: &mut Vec<Mark>)
+    ensures marks { (m : ℕ) → m < length marks.old.items → mark_at (map mark_of marks.new.items) m ≡ cleared_mark (mark_at (map mark_of marks.old.items) m) }
+    ensures long { length marks.new.items ≡ length marks.old.items }
+{
+    for number in 0..marks.len() {
+        marks[number].clear();
+    }
+}
+
+/// Where no group of the line is at its limit any more, the marks note none.
+pub(crate) fn forget_groups(marks: &mut Vec<Mark>, wishes: &Wishes, line: &Line, table: &GrantTable)
+    requires level { AreLevel wishes.now.cluster (job_at wishes.now.cells) table.now }
+    requires admitted { AreAdmitted wishes.now.cells line.now.pairs }
+    ensures marks { (m : ℕ) → m < length marks.old.items → (mark_at (map mark_of marks.new.items) m ≡ mark_at (map mark_of marks.old.items) m) ⊎ IsForgotten table.now line.now.pairs (mark_at (map mark_of marks.old.items) m) (mark_at (map mark_of marks.new.items) m) }
+    ensures clear { AreAllowed table.now line.now.pairs → (m g : ℕ) → m < length marks.old.items → get_or (mark_at (map mark_of marks.new.items) m).groups g false ≡ false }
+    ensures long { length marks.new.items ≡ length marks.old.items }
+{
+    if !notes_any_group(marks) {
+        return;
+    }
+    if !are_allowed(wishes, line, table) {
+        return;
+    }
+    clear_all(marks);
+}
+
+/// Anything may be placeable on this machine.
+pub(crate) fn reset_one(marks: &mut Vec<Mark>, machine: MachineNo)
+    requires { machine.0 < length marks.old.items }
+    ensures marks { (m : ℕ) → mark_at (map mark_of marks.new.items) m ≡ cond (nat_eq machine.0 m) (reset_mark 0) (mark_at (map mark_of marks.old.items) m) }
+    ensures long { length marks.new.items ≡ length marks.old.items }
+{
+    marks[machine.0 as usize] = Mark::new();
+}
+
+// Whether two machines stand in one rack.
+fn is_rack_of(cluster: &Cluster, machine: MachineNo, other: MachineNo) -> bool
+    requires machine { machine.0 < length cluster.now.machines }
+    requires other { other.0 < length cluster.now.machines }
+    ensures { result ≡ nat_eq (rack_of cluster.now machine.0) (rack_of cluster.now other.0) }
+{
+    cluster.machine(machine).rack.0 == cluster.machine(other).rack.0
+}
+
+/// A unit of this group gave a machine back: there is more room there, the group may have more, and where the
+/// unit wants more in the rack than it has it may come earlier on each of its machines.
+pub(crate) fn told_taking(
+    marks: &mut Vec<Mark>,
+    cluster: &Cluster,
+    group: GroupNo,
+    machine: MachineNo,
+    nearer: bool,
+)
+    requires marks { length marks.old.items ≡ length cluster.now.machines }
+    requires machine { machine.0 < length cluster.now.machines }
+    ensures marks { (m : ℕ) → m < length marks.old.items → mark_at (map mark_of marks.new.items) m ≡ after_taking cluster.now group.0 machine.0 nearer m (mark_at (map mark_of marks.old.items) m) }
+    ensures long { length marks.new.items ≡ length marks.old.items }
+{
+    for number in 0..cluster.machines() {
+        let same = is_rack_of(cluster, MachineNo(number), machine);
+        marks[number as usize].take(number == machine.0, group, nearer & same);
+    }
+}
+
+/// The number of grants of a unit on a machine is another one. Before it held so many in all.
+pub(crate) fn tell(
+    marks: &mut Vec<Mark>,
+    wishes: &Wishes,
+    table: &GrantTable,
+    app: AppNo,
+    unit: UnitNo,
+    machine: MachineNo,
+    before: u32,
+)
+    requires cluster { wishes.now.cluster ≡ table.now.cluster }
+    requires here { unit.0 < length (get_or wishes.now.cells app.0 []) }
+    requires there { unit.0 < unit_count (as_known table.now.jobs) app.0 }
+    requires machine { machine.0 < length table.now.cluster.machines }
+    requires marks { length marks.old.items ≡ length table.now.cluster.machines }
+    ensures marks { (m : ℕ) → m < length marks.old.items → mark_at (map mark_of marks.new.items) m
+        ≡ cond (nat_lt (held table.now.entries app.0 unit.0) before)
+        (after_taking table.now.cluster (cell_at wishes.now.cells app.0 unit.0).group machine.0 (is_nearer_in (board_over wishes.now.cells wishes.now.opened table.now) table.now.entries (spot app.0 unit.0 machine.0)) m (mark_at (map mark_of marks.old.items) m)) (mark_at (map mark_of marks.old.items) m) }
+    ensures long { length marks.new.items ≡ length marks.old.items }
+{
+    if table.held(app, unit) >= before {
+        return;
+    }
+    let group = wishes.wish(app, unit).group;
+    let nearer = wishes.is_near_rack(table, app, unit, machine);
+    told_taking(marks, table.cluster(), group, machine, nearer);
+}
