@@ -17,12 +17,17 @@ with_behind behind n = record n { behind = link behind }
 abbrev pub with_before : Option Slot → Node → Node
 with_before before n = record n { before = link before }
 
+-- what stands behind a slot, and where there is none what stands first
+abbrev pub Follows : (Slot → Option Node) → Option Slot → Option Slot → Option Slot → Type 0
+Follows at None first next = first ≡ next
+Follows at (Some s) first next = (n : Node) → at s ≡ Some n → n.behind ≡ link next
+
 -- A walk back from a slot: the nodes up to there are linked and in order, the front ones stand before the entry and the middle ones behind it.
 pub record Walks (at : Slot → Option Node) (start : Option Slot) (key_first : Bool) (e : Entry) (front middle : List Item) (next : Option Slot) : Type 0 where
   pub linked : AreLinked at None (front ++ middle) next
   pub starts : start ≡ last_of None (front ++ middle)
   pub ordered : IsInOrder key_first (front ++ middle)
-  pub in_range : AllByRecursion (λ i. IsInRange i.1) (front ++ middle)
+  pub in_range : AllByRecursion (λ (i : Item). IsInRange i.1) (front ++ middle)
   pub front_before : AreBefore key_first e front
   pub middle_behind : AreBehind key_first e middle
 

@@ -23,10 +23,10 @@ rank key_first e = cond key_first ((255 - e.priority) * 2 ^ 64) 0 + e.turn
 
 -- all stand before the entry; all stand behind it
 abbrev pub AreBefore : Bool → Entry → List Item → Type 0
-AreBefore key_first e items = AllByRecursion (λ i. is_before key_first i.1 e ≡ true) items
+AreBefore key_first e items = AllByRecursion (λ (i : Item). is_before key_first i.1 e ≡ true) items
 
 abbrev pub AreBehind : Bool → Entry → List Item → Type 0
-AreBehind key_first e items = AllByRecursion (λ i. is_before key_first e i.1 ≡ true) items
+AreBehind key_first e items = AllByRecursion (λ (i : Item). is_before key_first e i.1 ≡ true) items
 
 abbrev pub IsInOrder : Bool → List Item → Type 0
 IsInOrder key_first [] = ⊤
@@ -34,11 +34,11 @@ IsInOrder key_first (i ∷ is) = AreBehind key_first i.1 is × IsInOrder key_fir
 
 -- the slot is none of theirs
 abbrev pub IsOutside : Slot → List Item → Type 0
-IsOutside slot items = AllByRecursion (λ i. i.0 ≢ slot) items
+IsOutside slot items = AllByRecursion (λ (i : Item). i.0 ≢ slot) items
 
 -- the two lists share no slot
 abbrev pub Apart : List Item → List Item → Type 0
-Apart items theirs = AllByRecursion (λ i. IsOutside i.0 items) theirs
+Apart items theirs = AllByRecursion (λ (i : Item). IsOutside i.0 items) theirs
 
 -- the first slot of a list, and where there is none this one; the last slot, and where there is none this one
 abbrev pub first_of : List Item → Option Slot → Option Slot
@@ -68,7 +68,7 @@ pub record Stands (at : Slot → Option Node) (q : Queue) (items : List Item) : 
   pub starts : q.first ≡ first_of items None
   pub ends : q.last ≡ last_of None items
   pub ordered : IsInOrder q.key_first items
-  pub in_range : AllByRecursion (λ i. IsInRange i.1) items
+  pub in_range : AllByRecursion (λ (i : Item). IsInRange i.1) items
 
 -- the queue stands as these two lists, and the entry's place is between them
 pub record IsPlace (at : Slot → Option Node) (q : Queue) (e : Entry) (front back : List Item) : Type 0 where
@@ -86,7 +86,7 @@ pub record HasPlace (at : Slot → Option Node) (q : Queue) (e : Entry) : Type 0
 pub record MayEnter (at : Slot → Option Node) (q : Queue) (e : Entry) : Type 0 where
   pub items : List Item
   pub stands : Stands at q items
-  pub new : AllByRecursion (λ i. i.1.turn ≢ e.turn) items
+  pub new : AllByRecursion (λ (i : Item). i.1.turn ≢ e.turn) items
 
 -- a queue stands in the pool, and the slot is in it
 pub record IsIn (at : Slot → Option Node) (q : Queue) (slot : Slot) : Type 0 where

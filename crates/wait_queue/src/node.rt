@@ -4,8 +4,7 @@ ghost use Rattle.std.specs.Prelude.{◌≡◌, ◌≢◌, ℕ, IsSome, IfSome, S
 ghost use Rattle.slot_pool.specs.Pools.{value_at};
 ghost use Rattle.slot_pool.specs.declared.pool.Slot.{Slot as SlotRecord};
 ghost use Rattle.wait_queue.specs.Queues.{Item, is_before, last_of, link, IsInRange};
-ghost use Rattle.wait_queue.specs.Neighbours.{CanWalk, Walks, Relinked, with_behind, with_before};
-ghost use Rattle.wait_queue.specs.declared.node.Node.{Node as NodeRecord};
+ghost use Rattle.wait_queue.specs.Neighbours.{CanWalk, Walks, Follows, Relinked, with_behind, with_before};
 
 use schedule_unit::{AppNo, UnitNo};
 use slot_pool::{Pool, Slot};
@@ -78,8 +77,7 @@ pub(crate) fn slot_of(pool: &Pool<Node>, number: Option<u32>) -> Option<Slot>
 /// What stands behind the slot, and where there is no slot what stands first.
 pub(crate) fn behind_of(pool: &Pool<Node>, slot: Option<Slot>, first: Option<Slot>) -> Option<Slot>
     requires { IfSome slot (λ s. IsSome (value_at pool.now s)) }
-    ensures first { slot ≡ None → result ≡ first }
-    ensures behind { (s : SlotRecord) (n : NodeRecord) (next : Option SlotRecord) → slot ≡ Some s → value_at pool.now s ≡ Some n → n.behind ≡ link next → IfSome next (λ s. IsSome (value_at pool.now s)) → result ≡ next }
+    ensures { (next : Option SlotRecord) → Follows (value_at pool.now) slot first next → IfSome next (λ s. IsSome (value_at pool.now s)) → result ≡ next }
 {
     match slot {
         Some(slot) => slot_of(pool, pool.get(slot).behind),
