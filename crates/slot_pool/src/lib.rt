@@ -6,5 +6,5 @@ mod cell;
 mod law;
 mod pool;
 
-pub use law::{live_slots_are_one, moves_with_its_values};
+pub use law::moves_with_its_values;
 pub use pool::{Pool, Slot};

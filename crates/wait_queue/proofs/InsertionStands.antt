@@ -9,7 +9,7 @@ use Rattle.wait_queue.specs.declared.node.Node.{Node}
 use Rattle.wait_queue.specs.declared.queue.Queue.{Queue}
 use Rattle.wait_queue.specs.Queues.{Item, is_before, IsInRange, AreBehind, IsInOrder, IsOutside, first_of, last_of, link, AreLinked, Stands, IsPlace}
 use Rattle.wait_queue.specs.Neighbours.{Relinked, with_behind, with_before, Follows, Walks}
-use Rattle.wait_queue.proofs.QueuesLemmas.{AreDistinct, order_distinct, order_parts, order_append, linked_parts, linked_append, linked_same, first_append, last_append, first_live, last_live, outside_absent}
+use Rattle.wait_queue.proofs.QueuesLemmas.{order_distinct, order_parts, order_append, linked_parts, linked_append, linked_same, first_append, last_append, first_live, last_live, outside_absent}
 use Rattle.wait_queue.proofs.NeighboursLemmas.{AreParted, parted, back_stays, AreTied, tied, follows_last, first_tied, last_tied}
 
 -- what is known of both sides of a place, once a node stands at a slot that was not live

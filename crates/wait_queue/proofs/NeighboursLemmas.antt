@@ -1,12 +1,11 @@
 -- Two parts of a list whose slots lie apart, and what ties at their seam make of them.
-use Rattle.std.proofs.Common.{◌≡◌, ◌≢◌, Bool, true, false, cond, List, [], ◌∷◌, ◌++◌, Option, Some, None, is_some, IsSome, refl, sym, ap, subst, ◌∙◌}
-use Rattle.std.specs.Prelude.{IfSome}
+use Rattle.std.proofs.Common.{◌≡◌, ◌≢◌, true, cond, List, [], ◌∷◌, ◌++◌, Option, Some, None, is_some, refl, sym, ap, ◌∙◌}
 use Rattle.std.specs.List.{AllByRecursion}
 use Rattle.std.proofs.lemmas.Option.{same_Some}
-use Rattle.fuxi_terms.proofs.Alls.{all_more, all_append, all_front, all_back}
+use Rattle.fuxi_terms.proofs.Alls.{all_more, all_front, all_back}
 use Rattle.slot_pool.specs.declared.pool.Slot.{Slot}
 use Rattle.wait_queue.specs.declared.node.Node.{Node}
-use Rattle.wait_queue.specs.Queues.{Item, IsOutside, Apart, first_of, last_of, link, AreLinked}
+use Rattle.wait_queue.specs.Queues.{Item, IsOutside, first_of, last_of, AreLinked}
 use Rattle.wait_queue.specs.Neighbours.{Relinked, with_behind, with_before, Follows}
 use Rattle.wait_queue.proofs.QueuesLemmas.{AreDistinct, distinct_parts, apart_turned, outside_first, outside_last, linked_same}
 

@@ -1,15 +1,16 @@
 -- Entries in order, items that are linked, and lists as which a queue stands.
-use Rattle.std.proofs.Common.{◌≡◌, ◌≢◌, ◌⊎◌, ℕ, ◌+◌, ◌*◌, ◌-◌, ◌<◌, ◌≤◌, ◌^◌, Bool, true, false, cond, nat_eq, nat_lt, List, [], ◌∷◌, ◌++◌, Option, Some, None, is_some, IsSome, refl, sym, ap, subst, ◌∙◌, inl, inr, arith}
-use Rattle.std.specs.Prelude.{option_map, IfSome}
+use Rattle.std.proofs.Common.{◌≡◌, ◌≢◌, ℕ, ◌-◌, ◌<◌, Bool, true, false, cond, nat_eq, nat_lt, List, [], ◌∷◌, ◌++◌, Option, Some, None, is_some, IsSome, refl, sym, ap, subst, ◌∙◌, inl, inr, arith}
+use Rattle.std.specs.Prelude.{option_map, get_or, IfSome, ⊤}
 use Rattle.std.specs.List.{AllByRecursion}
-use Rattle.std.proofs.lemmas.Bool.Decides.{nat_tests}
+use Rattle.std.proofs.lemmas.Bool.Decides.{nat_tests, eqb_tells}
 use Rattle.std.proofs.lemmas.Option.{same_Some}
 use Rattle.fuxi_terms.proofs.Alls.{all_more, all_append, all_front, all_back}
+use Rattle.slot_pool.specs.Pools.{PoolRecord, value_at, generation_at}
 use Rattle.slot_pool.specs.declared.pool.Slot.{Slot}
 use Rattle.wait_queue.specs.declared.node.Entry.{Entry}
 use Rattle.wait_queue.specs.declared.node.Node.{Node}
 use Rattle.wait_queue.specs.declared.queue.Queue.{Queue}
-use Rattle.wait_queue.specs.Queues.{Item, is_before, IsInRange, rank, AreBefore, AreBehind, IsInOrder, IsOutside, Apart, first_of, last_of, link, entry_at, AreLinked, Stands, IsPlace, HasPlace, MayEnter}
+use Rattle.wait_queue.specs.Queues.{Item, is_before, IsInRange, rank, AreBefore, AreBehind, IsInOrder, IsOutside, Apart, first_of, last_of, link, entry_at, AreLinked, Stands, HasPlace, MayEnter}
 
 -- No entry is before itself, two are not before one another, one of two turns is before the other, and what is before another is before all behind that one.
 pub not_itself : (k : Bool) (a : Entry) → is_before k a a ≡ true → ⊥
@@ -109,7 +110,7 @@ pub order_distinct : (at : Slot → Option Node) (k : Bool) (b : Option Slot) (x
 order_distinct at k b [] f h o = tt
 order_distinct at k b (x ∷ xs) f h o = (
   outside_entries at x.0 x.1 xs (ap (λ (o : Option Node). option_map (λ (n : Node). n.entry) o) h.0) (linked_entries at (Some x.0) xs f h.1)
-  (all_more (λ (i : Item). is_before k x.1 i.1 ≡ true) (λ (i : Item). i.1 ≢ x.1) (λ i before same. not_itself k x.1 (subst (λ (a : Entry). is_before k x.1 a ≡ true) same before)) xs o.0),
+      (all_more (λ (i : Item). is_before k x.1 i.1 ≡ true) (λ (i : Item). i.1 ≢ x.1) (λ i before same. not_itself k x.1 (subst (λ (a : Entry). is_before k x.1 a ≡ true) same before)) xs o.0),
   order_distinct at k (Some x.0) xs f h.1 o.1,
 )
 
@@ -157,6 +158,24 @@ same_item x y s e =
 pub record OnePerNumber (at : Slot → Option Node) : Type 0 where
   pub one : (s t : Slot) → IsSome (at s) → IsSome (at t) → s.number ≡ t.number → s ≡ t
 
+pub pool_one : (p : PoolRecord Node) → OnePerNumber (value_at p)
+pool_one p = record { one = λ s t here there same. same_slot s t same (sym (present s here) ∙ ap (λ (n : ℕ). generation_at p n) same ∙ present t there) }
+  where
+    same_slot : (s t : Slot) → s.number ≡ t.number → s.generation ≡ t.generation → s ≡ t
+    same_slot s t n g =
+        let numbered : ℕ → Slot = λ k. record { number = k; generation = s.generation } in
+        let of_generation : ℕ → Slot = λ k. record { number = t.number; generation = k } in
+        ap numbered n ∙ ap of_generation g
+
+    none_live : (o : Option Node) → IsSome o → o ≡ None → ⊥
+    none_live o live none = cc
+
+    present : (s : Slot) → IsSome (value_at p s) → generation_at p s.number ≡ s.generation
+    present s live = elim (eqb_tells (generation_at p s.number) s.generation) as (λ _. generation_at p s.number ≡ s.generation) [
+      | inl t ↦ t.1
+      | inr f ↦ absurd (none_live (value_at p s) live (ap (λ (b : Bool). cond b (get_or p.values s.number None) None) f.0))
+    ]
+
 -- the slot at one end, where there is one, is live
 pub first_live : (at : Slot → Option Node) (b : Option Slot) (xs : List Item) (f : Option Slot) → AreLinked at b xs f → IfSome (first_of xs None) (λ s. IsSome (at s))
 first_live at b xs f h = first_all (λ (o : Option Slot). IfSome o (λ s. IsSome (at s))) xs None tt (linked_live at b xs f h)
@@ -194,6 +213,10 @@ stands_same at after q items h same = record { linked = linked_same at after Non
 pub all_items : (P : Item → Type 0) → ((i : Item) → P i) → (items : List Item) → AllByRecursion P items
 all_items P f [] = tt
 all_items P f (i ∷ is) = (f i, all_items P f is)
+
+pub all_both : (P Q R : Item → Type 0) → ((i : Item) → P i → Q i → R i) → (items : List Item) → AllByRecursion P items → AllByRecursion Q items → AllByRecursion R items
+all_both P Q R f [] h g = tt
+all_both P Q R f (i ∷ is) h g = (f i h.0 g.0, all_both P Q R f is h.1 g.1)
 
 -- a slot of a queue is outside of the rest
 pub middle_outside : (at : Slot → Option Node) (q : Queue) (front back : List Item) (s : Slot) (e : Entry) → Stands at q (front ++ (s, e) ∷ back) → IsOutside s (front ++ back)

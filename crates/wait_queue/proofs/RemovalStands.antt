@@ -1,16 +1,15 @@
 -- A queue from which an entry was taken out stands as the list without it.
-use Rattle.std.proofs.Common.{◌≡◌, ◌≢◌, Bool, cond, List, [], ◌∷◌, ◌++◌, Option, Some, None, is_some, IsSome, refl, sym, ap, subst, ◌∙◌}
+use Rattle.std.proofs.Common.{◌≡◌, ◌≢◌, Bool, cond, List, [], ◌∷◌, ◌++◌, Option, Some, None, is_some, IsSome, sym, ap, subst, ◌∙◌}
 use Rattle.std.specs.Prelude.{IfSome}
-use Rattle.std.specs.List.{AllByRecursion}
 use Rattle.std.proofs.lemmas.Option.{same_Some}
 use Rattle.fuxi_terms.proofs.Alls.{all_more, all_append, all_front, all_back}
 use Rattle.slot_pool.specs.declared.pool.Slot.{Slot}
 use Rattle.wait_queue.specs.declared.node.Entry.{Entry}
 use Rattle.wait_queue.specs.declared.node.Node.{Node}
 use Rattle.wait_queue.specs.declared.queue.Queue.{Queue}
-use Rattle.wait_queue.specs.Queues.{Item, IsInRange, AreBehind, IsInOrder, IsOutside, first_of, last_of, link, AreLinked, Stands, IsIn}
+use Rattle.wait_queue.specs.Queues.{Item, IsInRange, AreBehind, IsInOrder, IsOutside, first_of, last_of, link, AreLinked, Stands}
 use Rattle.wait_queue.specs.Neighbours.{Relinked, with_behind, with_before}
-use Rattle.wait_queue.proofs.QueuesLemmas.{AreDistinct, order_distinct, order_parts, order_append, linked_parts, linked_append, linked_same, first_append, last_append, first_live, last_live, middle_node, middle_outside, distinct_parts}
+use Rattle.wait_queue.proofs.QueuesLemmas.{AreDistinct, order_distinct, order_parts, order_append, linked_parts, linked_append, linked_same, first_append, last_append, first_live, last_live, middle_node, middle_outside}
 use Rattle.wait_queue.proofs.NeighboursLemmas.{AreParted, parted, back_stays, AreTied, tied, first_tied, last_tied}
 
 -- what is known of both sides of an item, once its node is gone

@@ -1,14 +1,14 @@
 -- The walk back from a slot to the place of an entry.
-use Rattle.std.proofs.Common.{◌≡◌, ◌⊎◌, ℕ, ◌+◌, ◌<◌, Bool, true, false, List, [], ◌∷◌, ◌++◌, Option, Some, None, is_some, IsSome, refl, sym, ap, subst, ◌∙◌, inl, inr, arith}
+use Rattle.std.proofs.Common.{◌≡◌, ◌⊎◌, ℕ, ◌+◌, ◌<◌, Bool, true, false, List, [], ◌∷◌, ◌++◌, Option, Some, None, IsSome, refl, sym, ap, subst, ◌∙◌, inl, inr, arith}
 use Rattle.std.specs.Prelude.{IfSome, option_map}
 use Rattle.std.specs.List.{AllByRecursion}
 use Rattle.std.proofs.lemmas.List.{append_assoc, append-nil}
 use Rattle.std.proofs.lemmas.Option.{same_Some}
-use Rattle.fuxi_terms.proofs.Alls.{all_more, all_append, all_front, all_back}
+use Rattle.fuxi_terms.proofs.Alls.{all_more, all_front, all_back}
 use Rattle.slot_pool.specs.declared.pool.Slot.{Slot}
 use Rattle.wait_queue.specs.declared.node.Entry.{Entry}
 use Rattle.wait_queue.specs.declared.node.Node.{Node}
-use Rattle.wait_queue.specs.Queues.{Item, is_before, IsInRange, rank, AreBefore, AreBehind, IsInOrder, first_of, last_of, link, entry_at, AreLinked}
+use Rattle.wait_queue.specs.Queues.{Item, is_before, IsInRange, rank, AreBehind, IsInOrder, first_of, last_of, link, entry_at, AreLinked}
 use Rattle.wait_queue.specs.Neighbours.{Walks}
 use Rattle.wait_queue.proofs.QueuesLemmas.{not_both, rank_rises, order_parts, last_all, last_append, linked_parts, linked_entries, last_live}
 

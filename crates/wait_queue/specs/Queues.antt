@@ -1,5 +1,5 @@
 -- Queues as lists of slots and entries, and how they stand in a pool.
-use Rattle.std.specs.Prelude.{◌≡◌, ◌≢◌, ℕ, ◌+◌, ◌*◌, ◌-◌, ◌<◌, ◌^◌, ⊤, Bool, true, false, cond, nat_eq, nat_lt, List, [], ◌∷◌, ◌++◌, Option, Some, None, option_map}
+use Rattle.std.specs.Prelude.{◌≡◌, ◌≢◌, ℕ, ◌+◌, ◌*◌, ◌-◌, ◌<◌, ◌^◌, ⊤, Bool, true, cond, nat_eq, nat_lt, List, [], ◌∷◌, ◌++◌, Option, Some, None, option_map}
 use Rattle.std.specs.List.{AllByRecursion}
 use Rattle.slot_pool.specs.declared.pool.Slot.{Slot}
 use Rattle.wait_queue.specs.declared.node.Entry.{Entry}

@@ -9,9 +9,6 @@ ghost use Rattle.wait_queue.specs.declared.node.Node.{Node};
 ghost use Rattle.wait_queue.specs.declared.queue.Queue.{Queue};
 ghost use Rattle.wait_queue.specs.Queues.{Item, Stands, HasPlace, MayEnter, IsOutside, Apart, AreBehind, IsInOrder, IsInRange, is_before, rank, entry_at};
 
-use crate::node::Node as PoolNode;
-use slot_pool::live_slots_are_one;
-
 /// A queue stands as one list alone (`one`); at the slot of each item its entry stands (`entries`); no two
 /// items share a slot (`distinct`); a slot that is not live is none of theirs (`absent`); and where no slot
 /// reads otherwise the list still stands (`stays`).
@@ -21,9 +18,7 @@ pub fn standing_lists()
     ensures distinct { (at : Slot → Option Node) (q : Queue) (front back : List Item) (slot : Slot) (entry : Entry) → Stands at q (front ++ (slot, entry) ∷ back) → IsOutside slot (front ++ back) }
     ensures absent { (at : Slot → Option Node) (q : Queue) (items : List Item) (slot : Slot) → Stands at q items → at slot ≡ None → IsOutside slot items }
     ensures stays { (at after : Slot → Option Node) (q : Queue) (items : List Item) → Stands at q items → ((slot : Slot) → after slot ≡ at slot) → Stands after q items }
-{
-    live_slots_are_one::<PoolNode>();
-}
+{}
 
 /// An entry that may enter a queue has a place there.
 pub fn places()

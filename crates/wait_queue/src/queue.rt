@@ -8,7 +8,9 @@ ghost use Rattle.wait_queue.specs.declared.node.Entry.{Entry as EntryRecord};
 ghost use Rattle.wait_queue.specs.declared.node.Node.{Node as NodeRecord};
 ghost use Rattle.wait_queue.specs.declared.queue.Queue.{Queue as QueueRecord};
 
-use crate::node::{Entry, Node, behind_of, check_range, number_of, place_of, slot_of, tie_before, tie_behind};
+use crate::node::{
+    Entry, Node, behind_of, check_range, number_of, place_of, slot_of, tie_before, tie_behind,
+};
 use slot_pool::{Pool, Slot};
 
 /// A queue whose entries stand in a pool.

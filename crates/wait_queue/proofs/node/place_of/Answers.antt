@@ -1,8 +1,6 @@
-use Rattle.std.proofs.Common.{◌≡◌, ◌<◌, Option, List, sym, subst, ◌∙◌, None, Some}
+use Rattle.std.proofs.Common.{◌<◌, Option, sym, subst, ◌∙◌, Some}
 use Rattle.slot_pool.specs.declared.pool.Slot.{Slot}
 use Rattle.slot_pool.specs.Pools.{value_at}
-use Rattle.wait_queue.specs.Queues.{Item, last_of}
-use Rattle.wait_queue.specs.Neighbours.{Walks}
 use Rattle.wait_queue.proofs.WalksLemmas.{Reached, walk_left, reached_start, reached_live, walk_ends, walk_steps, walk_done}
 use Rattle.wait_queue.proofs.node.place_of.Goals as goal
 

@@ -1,4 +1,4 @@
-use Rattle.std.proofs.Common.{◌≡◌, ℕ, Option, List}
+use Rattle.std.proofs.Common.{Option, List}
 use Rattle.slot_pool.specs.declared.pool.Slot.{Slot}
 use Rattle.slot_pool.specs.Pools.{value_at}
 use Rattle.wait_queue.specs.Queues.{Item}

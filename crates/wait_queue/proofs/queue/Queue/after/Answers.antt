@@ -1,4 +1,4 @@
-use Rattle.std.proofs.Common.{◌≡◌, is_some, ap, sym, ◌∙◌, None}
+use Rattle.std.proofs.Common.{◌∷◌, is_some, ap, sym, ◌∙◌, None}
 use Rattle.std.proofs.lemmas.Option.{same_Some}
 use Rattle.wait_queue.specs.Queues.{first_of}
 use Rattle.wait_queue.proofs.QueuesLemmas.{middle_node, first_live, linked_parts}
