@@ -1,0 +1,5 @@
+pub mod InsertionStands
+pub mod NeighboursLemmas
+pub mod QueuesLemmas
+pub mod RemovalStands
+pub mod WalksLemmas

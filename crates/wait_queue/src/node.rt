@@ -1,0 +1,146 @@
+//! The nodes of queues, and how one of them is tied to another.
+
+ghost use Rattle.std.specs.Prelude.{◌≡◌, ◌≢◌, ℕ, IsSome, IfSome, Some, None, Option, List, cond, is_some};
+ghost use Rattle.slot_pool.specs.Pools.{value_at};
+ghost use Rattle.slot_pool.specs.declared.pool.Slot.{Slot as SlotRecord};
+ghost use Rattle.wait_queue.specs.Queues.{Item, is_before, last_of, link, IsInRange};
+ghost use Rattle.wait_queue.specs.Neighbours.{CanWalk, Walks, Follows, Relinked, with_behind, with_before};
+
+use schedule_unit::{AppNo, UnitNo};
+use slot_pool::{Pool, Slot};
+
+/// A unit that waits, with its priority and the number that it got when it began to wait.
+#[derive(Clone, Copy, Debug, PartialEq, Eq)]
+pub struct Entry {
+    pub app: AppNo,
+    pub unit: UnitNo,
+    pub priority: u8,
+    pub turn: u64,
+}
+
+/// An entry in a queue, with the numbers of the slots next to it.
+#[derive(Clone, Copy, Debug)]
+pub struct Node {
+    pub(crate) entry: Entry,
+    pub(crate) before: Option<u32>,
+    pub(crate) behind: Option<u32>,
+}
+
+// With its tag, its generation and its number while that is free it takes 52 bytes of a pool.
+const _: () = prove!(size_of::<Node>() == 32);
+
+impl Node {
+    /// The entry that stands here.
+    pub fn entry(&self) -> &Entry
+        ensures { result.now ≡ self.now.entry }
+    {
+        &self.entry
+    }
+}
+
+/// Whether the one entry stands before the other: by greater priority where that comes first, then by
+/// smaller turn.
+fn stands_before(key_first: bool, one: &Entry, other: &Entry) -> bool
+    ensures { result ≡ is_before key_first one.now other.now }
+{
+    if key_first && one.priority != other.priority {
+        return one.priority > other.priority;
+    }
+    one.turn < other.turn
+}
+
+/// Tells that the numbers of the entry are those of their types.
+pub(crate) fn check_range(entry: &Entry)
+    ensures { IsInRange entry.now }
+{
+    let _turn = entry.turn;
+    let _priority = entry.priority;
+}
+
+/// The number by which a node links to the slot.
+pub(crate) fn number_of(slot: Option<Slot>) -> Option<u32>
+    ensures { result ≡ link slot }
+{
+    match slot {
+        Some(slot) => Some(slot.number),
+        None => None,
+    }
+}
+
+/// The slot of the number, where there is one. It is the one that was linked, where that is live.
+pub(crate) fn slot_of(pool: &Pool<Node>, number: Option<u32>) -> Option<Slot>
+    ensures { (slot : Option SlotRecord) → number ≡ link slot → IfSome slot (λ s. IsSome (value_at pool.now s)) → result ≡ slot }
+{
+    match number {
+        Some(number) => Some(pool.slot(number)),
+        None => None,
+    }
+}
+
+/// What stands behind the slot, and where there is no slot what stands first.
+pub(crate) fn behind_of(pool: &Pool<Node>, slot: Option<Slot>, first: Option<Slot>) -> Option<Slot>
+    requires { IfSome slot (λ s. IsSome (value_at pool.now s)) }
+    ensures { (next : Option SlotRecord) → Follows (value_at pool.now) slot first next → IfSome next (λ s. IsSome (value_at pool.now s)) → result ≡ next }
+{
+    match slot {
+        Some(slot) => slot_of(pool, pool.get(slot).behind),
+        None => first,
+    }
+}
+
+/// What now stands behind the slot, or first in the queue where there is no slot.
+pub(crate) fn tie_behind(
+    pool: &mut Pool<Node>,
+    first: &mut Option<Slot>,
+    slot: Option<Slot>,
+    behind: Option<Slot>,
+)
+    requires { IfSome slot (λ s. IsSome (value_at pool.old s)) }
+    ensures tied { Relinked (value_at pool.old) (value_at pool.new) slot (with_behind behind) }
+    ensures first { first.new ≡ cond (is_some slot) first.old behind }
+    ensures spare { pool.new.spare ≡ pool.old.spare }
+{
+    match slot {
+        Some(slot) => pool.get_mut(slot).behind = number_of(behind),
+        None => *first = behind,
+    }
+}
+
+/// What now stands before the slot, or last in the queue where there is no slot.
+pub(crate) fn tie_before(
+    pool: &mut Pool<Node>,
+    last: &mut Option<Slot>,
+    slot: Option<Slot>,
+    before: Option<Slot>,
+)
+    requires { IfSome slot (λ s. IsSome (value_at pool.old s)) }
+    ensures tied { Relinked (value_at pool.old) (value_at pool.new) slot (with_before before) }
+    ensures last { last.new ≡ cond (is_some slot) last.old before }
+    ensures spare { pool.new.spare ≡ pool.old.spare }
+{
+    match slot {
+        Some(slot) => pool.get_mut(slot).before = number_of(before),
+        None => *last = before,
+    }
+}
+
+/// The last slot before the place of the entry, walking back from a slot.
+pub(crate) fn place_of(
+    pool: &Pool<Node>,
+    start: Option<Slot>,
+    key_first: bool,
+    entry: &Entry,
+) -> Option<Slot>
+    requires { CanWalk (value_at pool.now) start key_first entry.now }
+    ensures { (front middle : List Item) (next : Option SlotRecord) → Walks (value_at pool.now) start key_first entry.now front middle next → result ≡ last_of None front }
+{
+    let mut place = start;
+    while let Some(slot) = place {
+        let node = pool.get(slot);
+        if stands_before(key_first, &node.entry, entry) {
+            return place;
+        }
+        place = slot_of(pool, node.before);
+    }
+    place
+}
