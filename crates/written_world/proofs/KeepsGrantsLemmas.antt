@@ -204,9 +204,11 @@ module _ (w : World) (h : Invariant w) (m : ℕ) (g : Agent) (found : find nat_c
       let R = ready u.cluster N in
       let same : e ≡ R.epoch = sym (ready_epoch u.cluster N ∙ is) in
       let os = offers u.cluster net R forced in
-      record { it = λ _ _. inl (left_table w.net (publish net (master_party R) os) (master_party R) (party (agent_id m) g.boot) h.sound
-          (leaves_then (master_party R) w.net net (publish net (master_party R) os) (subst (λ n. Leaves (party master_id n) w.net net) same l) (publish_leaves net (master_party R) os)) refl
-          (grows_then w.net net (publish net (master_party R) os) grows (publish_grows net (master_party R) os))) }
+      record {
+        it = λ _ _. inl (left_table w.net (publish net (master_party R) os) (master_party R) (party (agent_id m) g.boot) h.sound
+            (leaves_then (master_party R) w.net net (publish net (master_party R) os) (subst (λ n. Leaves (party master_id n) w.net net) same l) (publish_leaves net (master_party R) os)) refl
+            (grows_then w.net net (publish net (master_party R) os) grows (publish_grows net (master_party R) os)));
+      }
 
   acts : (v : Event) (u : World) (N : Master) (forced : List Id) → Stays v (end_step u w.net N forced)
   acts v u N forced = ends v u w.net N forced N.epoch refl (leaves_nothing (party master_id N.epoch) w.net) (grows_itself w.net)
