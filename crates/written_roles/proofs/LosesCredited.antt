@@ -142,8 +142,8 @@ is_this_app q e = let role = number_is q.role 3 e in (λ i. record { role = role
 record Loses (fresh : Bool) (from : Id) (M N : Master) : Type 0 where
   it : LosesOnlyCredited fresh from M N
 
--- what a new boot is credited
-met_credited : (fresh : Bool) (M : Master) (a u m : ℕ) → credited_at (meet_app fresh M a) a u m ≡ cond fresh 0 (credited_at M a u m)
+-- what is credited to a new boot
+pub met_credited : (fresh : Bool) (M : Master) (a u m : ℕ) → credited_at (meet_app fresh M a) a u m ≡ cond fresh 0 (credited_at M a u m)
 met_credited true M a u m = ap (λ cs. count key_cmp cs (credited_key u m)) (found_put a [] [] M.credited)
 met_credited false M a u m = refl
 

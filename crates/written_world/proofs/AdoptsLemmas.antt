@@ -1,5 +1,5 @@
 -- What an adopted report says is kept.
-use Rattle.std.proofs.Common.{◌≡◌, ◌⊎◌, inl, inr, ℕ, ◌+◌, ◌<◌, ◌≤◌, Bool, true, false, cond, not, nat_eq, nat_lt, List, [], ◌∷◌, Option, Some, None, slice_get, refl, sym, ◌∙◌, ap, subst, arith}
+use Rattle.std.proofs.Common.{◌≡◌, ℕ, ◌<◌, ◌≤◌, Bool, true, false, cond, not, nat_lt, List, [], ◌∷◌, Option, Some, None, slice_get, refl, sym, ◌∙◌, ap, subst, arith}
 use Rattle.std.specs.Prelude.{◌&&◌, T}
 use Rattle.std.specs.Option.{unwrap_or}
 use Rattle.std.specs.List.{AllByRecursion}
@@ -9,7 +9,7 @@ use Rattle.std.specs.FinMap.Entries.{below_all, find, put, is_sorted, find-put}
 use Rattle.std.proofs.lemmas.Bool.Decides.{nat_tests}
 use Rattle.fuxi_terms.specs.Cluster.{ClusterRecord}
 use Rattle.fuxi_terms.specs.Counts.{count}
-use Rattle.fuxi_terms.specs.Jobs.{KnownJob, is_known, is_live, units_of, unit_count, unit_of, no_unit, job_of}
+use Rattle.fuxi_terms.specs.Jobs.{KnownJob, is_known, is_live, unit_count, unit_of, no_unit, job_of}
 use Rattle.fuxi_terms.specs.Keys.{RowKey, row_cmp, Spot, spot_cmp}
 use Rattle.fuxi_terms.specs.Numbers.{has_number}
 use Rattle.fuxi_terms.specs.Tables.{spot, held_on}
@@ -18,17 +18,17 @@ use Rattle.fuxi_terms.proofs.Alls.{all_more}
 use Rattle.fuxi_terms.proofs.VectorLaws.{fits_places}
 use Rattle.fuxi_terms.proofs.Booleans.{and_true, both_true, either}
 use Rattle.fuxi_terms.proofs.Counting.{both_true as both, tied, below_none}
-use Rattle.fuxi_terms.proofs.KeyOrders.{spot_total, same_spot, row_key_total, same_row_key}
-use Rattle.written_net.specs.Net.{Id, Packet, Heard, at_index, heard_of, is_taken}
-use Rattle.written_net.specs.Ledgers.{Ledger, nothing}
+use Rattle.fuxi_terms.proofs.KeyOrders.{spot_total, same_spot, row_key_total}
+use Rattle.written_net.specs.Net.{Id, Packet, at_index, heard_of, is_taken}
+use Rattle.written_net.specs.Ledgers.{nothing}
 use Rattle.written_net.specs.Channels.{agent_id, party, is_master, is_agent, content}
 use Rattle.written_roles.specs.Masters.{Master}
-use Rattle.written_roles.specs.MasterSteps.{master_party, talks, counted, same_size, is_kept, adopted, ready, ended_in, banned_in}
+use Rattle.written_roles.specs.MasterSteps.{master_party, talks, counted, same_size, is_kept, adopted, ready}
 use Rattle.written_roles.proofs.TransitionsLemmas.{EachHeard, heard_has, reported_in, ready_besides, ready_rises}
 use Rattle.written_world.specs.World.{World}
 use Rattle.written_world.specs.Parties.{told, received}
 use Rattle.written_world.specs.Events.{Event, Deliver, counted_in, packet_of}
-use Rattle.written_world.specs.Good.{Invariant, IsOfJob, NamesJobs, ReportHolds, KnowsMore}
+use Rattle.written_world.specs.Good.{Invariant, IsOfJob, ReportHolds, KnowsMore}
 use Rattle.written_world.specs.KeepsGrants.{IsKept, IsAdopted, AllAdopt}
 use Rattle.written_world.specs.Runs.{run}
 use Rattle.written_world.proofs.InvariantKept.{always, counted_holds}

@@ -165,7 +165,8 @@ all_with P n (m ∷ ms) h = by (all_with P n ms) (nat_lt n m) (nat_eq n m) refl 
     by rest false true e h = (subst P (sym (number_is n m e)) h.0, h)
     by rest false false e h = let r = rest h.1 in (r.0, (h.0, r.1))
 
-at_numbers : (P : ℕ → Type 0) (jobs : List KnownJob) (a : ℕ) → AllByRecursion P (job_numbers jobs) → is_known jobs a ≡ true → P a
+-- what holds of each number of the known jobs holds of a known job
+pub at_numbers : (P : ℕ → Type 0) (jobs : List KnownJob) (a : ℕ) → AllByRecursion P (job_numbers jobs) → is_known jobs a ≡ true → P a
 at_numbers P [] a h e = cc
 at_numbers P (j ∷ js) a h e =
     let k = all_with P j.job.number (job_numbers js) h in

@@ -81,6 +81,12 @@ counts_found : (a u m : ℕ) (es : List (Spot × ℕ)) → find key_cmp (count_k
 counts_found a u m [] = refl
 counts_found a u m (e ∷ es) = one_count a u m e es (counts_found a u m es)
 
+-- what is credited in the grants of a job
+pub credits_in_grants : (M : Master) (boot a u m : ℕ) → at_key (grants M boot a) (credited_key u m) ≡ count key_cmp (credited_of M a) (credited_key u m)
+credits_in_grants M boot a u m = ap (λ o. unwrap_or o 0)
+    (find_behind key_cmp (credited_key u m) (reported_entries M.reported) (count_entries a M.table ++ credited_of M a) (no_reported (credited_key u m) refl M.reported)
+    ∙ find_behind key_cmp (credited_key u m) (count_entries a M.table) (credited_of M a) (no_counts (credited_key u m) refl a M.table))
+
 -- what the grants of a job say
 module _ (M : Master) (boot a : ℕ) (h : IsInOrder M) where
   pub grants_counts : (u m : ℕ) → at_key (grants M boot a) (count_key u m) ≡ held_on M.table a u m
@@ -90,9 +96,7 @@ module _ (M : Master) (boot a : ℕ) (h : IsInOrder M) where
 
   -- the credits of the grants are those of the master
   pub grants_credits : (u m : ℕ) → at_key (grants M boot a) (credited_key u m) ≡ count key_cmp (credited_of M a) (credited_key u m)
-  grants_credits u m = ap (λ o. unwrap_or o 0)
-      (find_behind key_cmp (credited_key u m) (reported_entries M.reported) (count_entries a M.table ++ credited_of M a) (no_reported (credited_key u m) refl M.reported)
-      ∙ find_behind key_cmp (credited_key u m) (count_entries a M.table) (credited_of M a) (no_counts (credited_key u m) refl a M.table))
+  grants_credits u m = credits_in_grants M boot a u m
 
 -- a job that has ended has nothing on any machine
 pub nothing_held : (M : Master) (a u m : ℕ) → IsInOrder M → is_live M.jobs a ≡ false → held_on M.table a u m ≡ 0

@@ -337,7 +337,7 @@ pub counted_holds : (w : World) → Invariant w → Invariant (counted_in w)
 counted_holds w h = record { sound = h.sound; unstarted = h.unstarted; masters = h.masters; agents = h.agents; apps = h.apps; machines = h.machines; origins = h.origins; units = h.units; written = h.written; entries = h.entries; reports = h.reports }
 
 -- Each event
-events_hold : (w : World) → Invariant w → WorldKept Invariant (λ _. ⊤) w
+pub events_hold : (w : World) → Invariant w → WorldKept Invariant (λ _. ⊤) w
 events_hold w h = record {
   counted = counted_holds w h;
   starts = λ e n _. new_holds w e h (rising (not_refused (not (nat_lt w.hard.fence e)) (NotRising w.hard.fence) ((not (nat_lt (length w.masters) most_masters), TooManyMasters most_masters) ∷ []) n).0);

@@ -1,23 +1,21 @@
 -- An agent reports the table that it had, and keeps it until it takes a row.
-use Rattle.std.proofs.Common.{◌≡◌, ◌⊎◌, inl, inr, ℕ, zero, suc, ◌+◌, ◌-◌, ◌<◌, ◌≤◌, Bool, true, false, cond, not, nat_eq, nat_lt, List, [], ◌∷◌, ◌++◌, length, map, Option, Some, None, slice_get, refl, sym, ◌∙◌, ap, subst, arith}
+use Rattle.std.proofs.Common.{◌≡◌, ◌⊎◌, inl, inr, ℕ, zero, suc, ◌-◌, ◌<◌, Bool, true, false, cond, not, nat_eq, nat_lt, List, [], ◌∷◌, ◌++◌, length, map, Option, Some, None, slice_get, refl, sym, ◌∙◌, ap, subst, arith}
 use Rattle.std.specs.Prelude.{⊤, ◌&&◌}
 use Rattle.std.specs.Option.{unwrap_or}
 use Rattle.std.specs.Ordering.{nat_cmp}
 use Rattle.std.specs.FinMap.Entries.{find, put, where_key}
 use Rattle.std.proofs.lemmas.Bool.Decides.{nat_tests}
-use Rattle.fuxi_terms.specs.declared.answers.What.{What}
 use Rattle.fuxi_terms.specs.declared.answers.What.TheVariants.{Stranger, Stale}
 use Rattle.fuxi_terms.specs.Cluster.{ClusterRecord, has_machine}
-use Rattle.fuxi_terms.specs.Keys.{RowKey}
-use Rattle.fuxi_terms.proofs.Booleans.{both_true, either, number_is}
-use Rattle.written_net.specs.Net.{Net, Party, Id, Link, Packet, Heard, met, word_of, link_after, unmoved, hear, hear_peer, heard_of, is_taken, comes, move, Starts, Turns, same_id, same_party, last, at_index, set_at}
+use Rattle.fuxi_terms.proofs.Booleans.{either, number_is}
+use Rattle.written_net.specs.Net.{Net, Party, Id, Link, Packet, Heard, met, word_of, unmoved, hear, hear_peer, heard_of, is_taken, comes, move, Starts, Turns, same_id, same_party, last, at_index, set_at}
 use Rattle.written_net.specs.Ledgers.{Ledger, nothing}
-use Rattle.written_net.specs.Channels.{master_id, agent_id, app_id, party, is_master, is_agent, is_app, view, present, to_master, Offer, publish, send_all, resync_all, shape}
+use Rattle.written_net.specs.Channels.{master_id, agent_id, app_id, party, is_master, is_agent, is_app, view, present, to_master, publish, send_all, resync_all, shape}
 use Rattle.written_net.specs.Sound.{Sound}
 use Rattle.written_net.proofs.NetLemmas.{id_is, party_is}
 use Rattle.written_net.proofs.SoundLemmas.{Grows}
-use Rattle.written_net.proofs.PublishLemmas.{same_id_itself, same_party_itself, set_here, set_beside, Leaves, leaves_nothing, leaves_then, start_leaves, comes_leaves, publish_links, publish_leaves, publish_grows, grows_itself, grows_then, publish_presents, IsWanted, Acted, resync_all_acted}
-use Rattle.written_roles.specs.Agents.{table_of, joined_report}
+use Rattle.written_net.proofs.PublishLemmas.{set_here, set_beside, Leaves, leaves_nothing, leaves_then, start_leaves, comes_leaves, publish_links, publish_leaves, publish_grows, grows_itself, grows_then, publish_presents, Acted, resync_all_acted}
+use Rattle.written_roles.specs.Agents.{joined_report}
 use Rattle.written_roles.specs.Apps.{changed_demand, joined_demand, command_key, command_number}
 use Rattle.written_roles.specs.HardState.{raised, submitted, finished, banned, unbanned, with_job}
 use Rattle.written_roles.specs.Masters.{Master}
@@ -26,11 +24,10 @@ use Rattle.written_roles.specs.MasterSteps.{master_party, talks, peers, ready, e
 use Rattle.fuxi_terms.specs.Jobs.{eight_places, job_numbers}
 use Rattle.fuxi_terms.specs.Numbers.{without_number}
 use Rattle.written_world.proofs.Invariant.{ready_epoch}
-use Rattle.written_roles.specs.Refusals.{Refusal, NoPacket, NotRising, NoMachine, first_refusal, with_found}
-use Rattle.written_roles.proofs.MapLemmas.{put_beside}
-use Rattle.written_world.specs.World.{World, Agent, App, Step, prints_nothing, refused}
+use Rattle.written_roles.specs.Refusals.{NoPacket, NotRising, NoMachine, first_refusal, with_found}
+use Rattle.written_world.specs.World.{World, Agent, Step, prints_nothing, refused}
 use Rattle.written_world.specs.Parties.{agent_table, agent_hears, app_hears, joined, master_hears, end_step, offers, told, received, adopted_now}
-use Rattle.written_world.specs.Events.{Event, StartMaster, StopMaster, StartAgent, StartApp, Submit, Finish, Ban, Unban, Begin, Preempt, Deliver, DeliverRange, agent_started, app_started, act, counted_in, world_step, packet_of, deliver_one, addressed, heard_by, heard_line, demanded, given_back}
+use Rattle.written_world.specs.Events.{Event, StartMaster, StopMaster, StartApp, Submit, Finish, Ban, Unban, Begin, Preempt, Deliver, app_started, act, counted_in, packet_of, deliver_one, addressed, heard_by, heard_line, given_back}
 use Rattle.written_world.specs.Good.{Invariant}
 use Rattle.written_world.specs.KeepsGrants.{AllReport, AllStay}
 use Rattle.written_world.specs.Runs.{run}
@@ -94,7 +91,7 @@ sent_links : (net : Net Ledger) (q : Party) (qs : List Id) → (send_all net q q
 sent_links net q [] = refl
 sent_links net q (d ∷ ds) = sent_links (move net (Turns q d)) q ds
 
-sent_histories : (net : Net Ledger) (q : Party) (qs : List Id) → (send_all net q qs).histories ≡ net.histories
+pub sent_histories : (net : Net Ledger) (q : Party) (qs : List Id) → (send_all net q qs).histories ≡ net.histories
 sent_histories net q [] = refl
 sent_histories net q (d ∷ ds) = sent_histories (move net (Turns q d)) q ds
 

@@ -32,3 +32,4 @@ pub mod StepsLemmas
 pub mod ServesLemmas
 pub mod KeepsGrantsLemmas
 pub mod AdoptsLemmas
+pub mod GivesBackLemmas

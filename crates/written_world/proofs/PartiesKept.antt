@@ -25,7 +25,7 @@ use Rattle.written_world.proofs.Invariant.{stepped, put_found}
 use Rattle.written_world.specs.Good.{DemandsHold, HasUnits, Invariant, IsJoined, Origins, ReportHolds}
 
 -- Hearing: what is known afterwards
-after_known : (w : What) (own top : ℕ) (m : Link) (x : Packet) → (link_after w own top m x).known ≡ m.known
+pub after_known : (w : What) (own top : ℕ) (m : Link) (x : Packet) → (link_after w own top m x).known ≡ m.known
 after_known Taken own top m x = refl
 after_known Acked own top m x = either (λ (l : Link). l.known ≡ m.known) (nat_eq x.inc own && (nat_lt m.acked x.seq && not (nat_lt top x.seq))) (record { known = m.known; seq = m.seq; acked = x.seq }) m (λ _. refl) (λ _. refl)
 after_known Stranger own top m x = refl

@@ -1,16 +1,15 @@
 -- A serving master was told of all, or told to begin.
-use Rattle.std.proofs.Common.{◌≡◌, ◌⊎◌, inl, inr, ℕ, zero, suc, ◌+◌, ◌<◌, ◌≤◌, Bool, true, false, cond, not, nat_eq, nat_lt, List, [], ◌∷◌, ◌++◌, length, take, Option, Some, None, slice_get, refl, sym, ◌∙◌, ap, subst, arith}
+use Rattle.std.proofs.Common.{◌≡◌, ◌⊎◌, inl, inr, ℕ, zero, suc, ◌+◌, Bool, true, false, not, nat_eq, List, [], ◌∷◌, ◌++◌, length, take, Some, slice_get, refl, sym, ◌∙◌, ap, subst}
 use Rattle.std.specs.Prelude.{⊤, is_some}
 use Rattle.std.specs.Ordering.{nat_cmp}
-use Rattle.std.specs.FinMap.Entries.{find, put, where_key}
+use Rattle.std.specs.FinMap.Entries.{find}
 use Rattle.fuxi_terms.specs.Cluster.{ClusterRecord}
 use Rattle.fuxi_terms.specs.Jobs.{eight_places}
 use Rattle.fuxi_terms.specs.Numbers.{has_number, without_number}
 use Rattle.written_net.specs.Net.{Packet, heard_of, is_taken}
-use Rattle.written_net.specs.Channels.{content}
 use Rattle.written_roles.specs.HardState.{raised, with_job}
 use Rattle.written_roles.specs.Masters.{Master}
-use Rattle.written_roles.specs.MasterSteps.{master_party, talks, phased, ready, ended_in, banned_in, new_master}
+use Rattle.written_roles.specs.MasterSteps.{master_party, talks, ready, ended_in, banned_in, new_master}
 use Rattle.written_roles.specs.Preemption.{preempted}
 use Rattle.written_roles.specs.Transitions.{HasAllReports}
 use Rattle.written_roles.proofs.ServesWhenTold.{ready_serves, hearing_serves, hearing_reports}
@@ -18,7 +17,7 @@ use Rattle.written_roles.proofs.TransitionsLemmas.{ready_besides}
 use Rattle.written_world.specs.World.{World, empty_world}
 use Rattle.written_world.specs.Parties.{told, received}
 use Rattle.written_world.specs.Events.{Event, StartMaster, StopMaster, Submit, Finish, Ban, Unban, Begin, Preempt, Deliver, DeliverRange, counted_in, world_step, act, deliver_one, deliver_all}
-use Rattle.written_world.specs.Runs.{run, run_from}
+use Rattle.written_world.specs.Runs.{run}
 use Rattle.written_world.specs.Steps.{WasBegun, AllServe}
 use Rattle.written_world.proofs.EventsWalk.{EventSteps, StepHolds, act_steps, deliver_steps, with_ready}
 use Rattle.written_world.proofs.Invariant.{put_found, ready_epoch}

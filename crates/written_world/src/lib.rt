@@ -14,6 +14,7 @@ ghost use Rattle.written_net.specs.Net.{Net, Move, move};
 ghost use Rattle.written_net.specs.Ledgers.{Ledger};
 ghost use Rattle.written_net.specs.Sound.{Bounded, Sound, Allowed};
 ghost use Rattle.written_world.specs.World.{World, empty_world};
+ghost use Rattle.written_world.specs.GivesBack.{AllGiveBack};
 ghost use Rattle.written_world.specs.Good.{Good};
 ghost use Rattle.written_world.specs.KeepsGrants.{AllAdopt, AllReport, AllStay};
 ghost use Rattle.written_net.specs.Channels.{shape};
@@ -132,4 +133,10 @@ pub fn a_failover_keeps_grants()
     ensures adopts { (c : ClusterRecord) (events : List Event) → AllAdopt (run c events) }
     ensures reports { (c : ClusterRecord) (events : List Event) → AllReport (run c events) }
     ensures stays { (c : ClusterRecord) (events : List Event) → AllStay (run c events) }
+{}
+
+/// A give-back that is not refused takes exactly its number from what the application holds of that unit on that
+/// machine, and nothing of others.
+pub fn gives_back_what_is_held()
+    ensures { (c : ClusterRecord) (events : List Event) → AllGiveBack (run c events) }
 {}
