@@ -164,6 +164,12 @@ asked_settled turns es xs m k k' a none e = ap (λ x. key_of x turns) a.is ∙ e
     by false None e = refl
     by false (Some b) e = cc
 
+pub asked_clear : (es : List (Key × ℕ)) (xs : List Cell) (m : ℕ) (k k' : MarkRecord) → IsAsked es xs m k k' → (Lifts es xs m → ⊥) → (g : ℕ) → get_or k.groups g false ≡ false → get_or k'.groups g false ≡ false
+asked_clear es xs m k k' a none g e = ap (λ (x : MarkRecord). get_or x.groups g false) a.is ∙ elim a.lifted as (λ b. a.lifted ≡ b → get_or (cond b (reset_mark k.until) (lowered_mark k)).groups g false ≡ false) [
+  | true ↦ λ is. absurd (none (a.some is))
+  | false ↦ λ _. e
+] refl
+
 pub none_some : {A : Type 0} (o : Option A) → o ≡ None → is_some o ≡ false
 none_some None e = refl
 none_some (Some x) e = cc

@@ -26,7 +26,7 @@ use Rattle.place_pass.specs.Best.{AreAdmitted}
 use Rattle.place_pass.specs.Cells.{Cell, no_cell, cell_at, asks_at, asks_in, job_at, taken, taken_all, is_gone, any_gone, asks_more, any_more, Lifts, AvoidsStill, AreWishes}
 use Rattle.place_pass.specs.Bounds.{MarkRecord, mark_at, turn_at}
 use Rattle.place_pass.specs.Counts.{IsLifted}
-use Rattle.place_pass.specs.Placers.{AreLevel, AsksNoMore, IsIdle, IsKept, IsQuiet, KeptRecord, board_over, is_open_to}
+use Rattle.place_pass.specs.Placers.{AreLevel, AsksNoMore, IsIdle, IsClear, IsKept, IsQuiet, KeptRecord, board_over, is_open_to}
 use Rattle.place_pass.proofs.BoundsLemmas.{NoEarlier, accepts_less, bounded_later}
 use Rattle.place_pass.proofs.SightsLemmas.{place_of}
 use Rattle.place_pass.proofs.BoundsAfterChange.{levels_le}
@@ -354,13 +354,20 @@ module _ (j : JobRecord) (cells cells' : List (List Cell)) (o : List Bool) (t : 
         (λ e. ap (nat_lt (held_on t.entries a u m)) (sym (asks a (near_key u m))) ∙ e) (λ e. ap (nat_lt (held_in t.cluster t.entries a u (rack_of t.cluster m))) (sym (asks a (rack_key u (rack_of t.cluster m)))) ∙ e);
   }
 
+  -- a pair of the line is of another job
+  apart_in : (line : List (ℕ × ℕ)) → AreAdmitted cells line → (a u : ℕ) → has_pair (a, u) line ≡ true → nat_eq j.number a ≡ false
+  apart_in line admitted a u has = elim (nat_eq j.number a) as (λ b. nat_eq j.number a ≡ b → b ≡ false) [
+    | true ↦ λ b. let p = place_of (a, u) line has in let l = all_at (λ (p : ℕ × ℕ). p.1 < length (get_or cells p.0 [])) line p.place (a, u) admitted p.at in let z = ap length (subst (λ n. get_or cells n [] ≡ []) (number_is j.number a b) empty) in absurd (omega (arith, l, z))
+    | false ↦ λ _. refl
+  ] refl
+
+  pub clear_admitted : (line : List (ℕ × ℕ)) (marks : List MarkRecord) → AreAdmitted cells line → IsClear o line marks t → IsClear o line marks with_job
+  clear_admitted line marks admitted h = record { clear = λ allowed m g opened. h.clear (λ a u has. still_allowed a u (apart_in line admitted a u has) (allowed a u has)) m g opened }
+
   pub kept_admitted : (line : List (ℕ × ℕ)) (turns : ℕ) (k : KeptRecord) → AreAdmitted cells line → IsKept cells o line turns k t → IsKept cells' o line turns k (record t { jobs = with_admitted j t.jobs })
   kept_admitted line turns k admitted h = record {
     bounds = λ m a u opened has lt. bounded_later (board_over cells o t) (board_over cells' o (record t { jobs = with_admitted j t.jobs })) t.entries t.entries (a, u) m
-        (admitted_later a u m (elim (nat_eq j.number a) as (λ b. nat_eq j.number a ≡ b → b ≡ false) [
-          | true ↦ λ b. let p = place_of (a, u) line has in let l = all_at (λ (p : ℕ × ℕ). p.1 < length (get_or cells p.0 [])) line p.place (a, u) admitted p.at in let z = ap length (subst (λ n. get_or cells n [] ≡ []) (number_is j.number a b) empty) in absurd (omega (arith, l, z))
-          | false ↦ λ _. refl
-        ] refl)) (mark_at k.marks m).bound (mark_at k.marks m).groups (turn_at k.turn_of a u) (h.bounds m a u opened has lt);
+        (admitted_later a u m (apart_in line admitted a u has)) (mark_at k.marks m).bound (mark_at k.marks m).groups (turn_at k.turn_of a u) (h.bounds m a u opened has lt);
     until = h.until;
     rises = h.rises;
     below = h.below;

@@ -1,5 +1,5 @@
 -- New turns along the end of a line.
-use Rattle.std.proofs.Common.{◌≡◌, ◌≢◌, ℕ, zero, suc, ◌+◌, ◌-◌, ◌*◌, ◌<◌, ◌≤◌, Bool, true, false, not, nat_eq, nat_lt, filter, List, [], ◌∷◌, ◌++◌, length, get_or, set, slice_get, refl, sym, ◌∙◌, ap, subst, arith, Some}
+use Rattle.std.proofs.Common.{◌≡◌, ◌≢◌, ℕ, zero, suc, ◌+◌, ◌-◌, ◌*◌, ◌<◌, ◌≤◌, Bool, true, false, cond, not, nat_eq, nat_lt, filter, List, [], ◌∷◌, ◌++◌, length, get_or, set, slice_get, refl, sym, ◌∙◌, ap, subst, arith, Some}
 use Rattle.std.specs.Prelude.{◌&&◌, ◌||◌}
 use Rattle.std.specs.List.{IsDistinct}
 use Rattle.std.proofs.lemmas.Bool.Decides.{nat_tests}
@@ -68,3 +68,15 @@ none_joined line numbers units asks table h = none_had (filter (λ p. not (has_p
     let l : has_pair p line ≡ true = h p.0 p.1 (grind (arith, nat_tests, lt)) (grind (arith, nat_tests, some)) in
     let no : false ≡ true = sym (ap not l) ∙ b.1 in
     let z : ⊥ = cc in z)
+
+filter_most : (q : ℕ × ℕ → Bool) (xs : List (ℕ × ℕ)) → length (filter q xs) ≤ length xs
+filter_most q [] = omega arith
+filter_most q (x ∷ xs) = let le = filter_most q xs in elim (q x) as (λ b. length (cond b (x ∷ filter q xs) (filter q xs)) ≤ length (x ∷ xs)) [ true ↦ omega (arith, le) | false ↦ omega (arith, le) ]
+
+-- where as many are left, all are
+pub filter_whole : (q : ℕ × ℕ → Bool) (xs : List (ℕ × ℕ)) → length (filter q xs) ≡ length xs → filter q xs ≡ xs
+filter_whole q [] e = refl
+filter_whole q (x ∷ xs) e = elim (q x) as (λ b. length (cond b (x ∷ filter q xs) (filter q xs)) ≡ length (x ∷ xs) → cond b (x ∷ filter q xs) (filter q xs) ≡ x ∷ xs) [
+  | true ↦ λ e. ap (λ ys. x ∷ ys) (filter_whole q xs (omega (arith, e)))
+  | false ↦ λ e. let le = filter_most q xs in absurd (omega (arith, e, le))
+] e

@@ -2,10 +2,7 @@
 use Rattle.std.specs.Prelude.{◌≡◌, ℕ, zero, suc, ◌+◌, ◌<◌, Bool, true, false, cond, ◌&&◌, ◌⊎◌, List, length, is_some}
 use Rattle.std.proofs.Common.{get_or}
 use Rattle.fuxi_terms.specs.declared.Key.{Key}
-use Rattle.fuxi_terms.specs.Jobs.{group_of, size_at}
 use Rattle.fuxi_terms.specs.TallyKeys.{avoid_key}
-use Rattle.written_roles.specs.Placing.{has_pair, is_allowed_in}
-use Rattle.grant_table.specs.Tables.{TableRecord, as_known}
 use Rattle.place_pass.specs.Bounds.{MarkRecord, mark_at, key_of}
 use Rattle.place_pass.specs.Placers.{PlacerRecord, is_open}
 
@@ -32,10 +29,6 @@ pub record IsTight (p : PlacerRecord) : Type 0 where
 pub record StaysTight (before after : PlacerRecord) (more : ℕ → Type 0) : Type 0 where
   pub tight : IsTight after
   pub few : (m : ℕ) → is_unsettled after m ≡ true → (is_unsettled before m ≡ true) ⊎ more m
-
--- the limit of its group allows each pair of a line one grant more
-abbrev pub AreAllowed : TableRecord → List (ℕ × ℕ) → Type 0
-AreAllowed t line = (a u : ℕ) → has_pair (a, u) line ≡ true → is_allowed_in t.cluster (group_of (as_known t.jobs)) (size_at (as_known t.jobs)) t.entries a u ≡ true
 
 -- a unit of a job no longer avoids a machine that it avoided
 pub record IsLifted (before after : ℕ → Key → ℕ) (a m : ℕ) : Type 0 where

@@ -11,7 +11,7 @@ use Rattle.fuxi_terms.specs.Counts.{count, set_count}
 use Rattle.fuxi_terms.specs.TallyKeys.{want_key, avoid_key}
 use Rattle.fuxi_terms.specs.Jobs.{KnownJob, job_of, job_numbers, unit_count, priority_of, size_at, most_of, group_of}
 use Rattle.written_roles.specs.Masters.{out_of}
-use Rattle.written_roles.specs.Placing.{Board, waiting_in, has_pair, placeable_in}
+use Rattle.written_roles.specs.Placing.{Board, waiting_in, has_pair, is_allowed_in, placeable_in}
 use Rattle.std.specs.List.{AllByRecursion}
 use Rattle.grant_table.specs.Tables.{TableRecord, IsSound, as_known}
 use Rattle.place_pass.specs.Lines.{LineRecord, units_in_all}
@@ -34,11 +34,12 @@ pub record KeptRecord : Type 0 where
   pub turn_of : List ℕ
   pub held : List ℕ
 
--- and with that, whether it knows that nothing is placeable
+-- and with that, whether it knows that nothing is placeable, and whether then its marks note no group for nothing
 pub record PlacerRecord : Type 0 where
   pub seen : SeenRecord
   pub idle : Bool
   pub kept : KeptRecord
+  pub forgotten : Bool
 
 -- a placer without what it keeps beside
 pub record ToldRecord : Type 0 where
@@ -113,6 +114,14 @@ pub record IsQuiet (cells : List (List Cell)) (machines : List Bool) (line : Lis
   pub settled : (m : ℕ) → get_or machines m false ≡ true → key_of (mark_at marks m) turns ≡ None
   pub waiting : (a u : ℕ) → u < unit_count (as_known t.jobs) a → 0 < out_of (asks_in cells) t.entries a u → has_pair (a, u) line ≡ true
 
+-- the limit of its group allows each pair of a line one grant more
+abbrev pub AreAllowed : TableRecord → List (ℕ × ℕ) → Type 0
+AreAllowed t line = (a u : ℕ) → has_pair (a, u) line ≡ true → is_allowed_in t.cluster (group_of (as_known t.jobs)) (size_at (as_known t.jobs)) t.entries a u ≡ true
+
+-- where they are, no mark of an open machine notes a group
+pub record IsClear (machines : List Bool) (line : List (ℕ × ℕ)) (marks : List MarkRecord) (t : TableRecord) : Type 0 where
+  pub clear : AreAllowed t line → (m g : ℕ) → get_or machines m false ≡ true → get_or (mark_at marks m).groups g false ≡ false
+
 -- A placer and a table are of one cluster and have the same jobs, and where the placer is idle nothing is placeable. What a placer keeps beside
 -- may grow, and callers need not look into this
 pub record IsLevel (p : PlacerRecord) (t : TableRecord) : Type 0 where
@@ -120,6 +129,7 @@ pub record IsLevel (p : PlacerRecord) (t : TableRecord) : Type 0 where
   pub idle : p.idle ≡ true → IsIdle p.seen.cells p.seen.opened t
   pub kept : IsKept p.seen.cells p.seen.opened p.seen.line p.seen.turns p.kept t
   pub quiet : p.idle ≡ true → IsQuiet p.seen.cells p.seen.opened p.seen.line p.seen.turns p.kept.marks t
+  pub clear : p.idle ≡ true → p.forgotten ≡ true → IsClear p.seen.opened p.seen.line p.kept.marks t
 
 unfoldable pub IsLevelWith : PlacerRecord → TableRecord → Type 0
 IsLevelWith p t = IsLevel p t
@@ -160,8 +170,8 @@ pub record IsSetFrom (before after : TableRecord) (s : Spot) : Type 0 where
   pub is : after ≡ record before { entries = set_count spot_cmp before.entries s number }
 
 -- what the fields of a placer show, and what they keep: the line has admitted units alone, and both lines have room for all of them
-abbrev pub placer_record : WishesRecord → LineRecord → ℕ → Bool → List Mark → List ℕ → List ℕ → PlacerRecord
-placer_record w line turns idle marks turn_of held = record { seen = record { cluster = w.cluster; cells = w.cells; opened = w.opened; line = line.pairs; turns = turns }; idle = idle; kept = record { marks = map mark_of marks; turn_of = turn_of; held = held } }
+abbrev pub placer_record : WishesRecord → LineRecord → ℕ → Bool → List Mark → List ℕ → List ℕ → Bool → PlacerRecord
+placer_record w line turns idle marks turn_of held forgotten = record { seen = record { cluster = w.cluster; cells = w.cells; opened = w.opened; line = line.pairs; turns = turns }; idle = idle; kept = record { marks = map mark_of marks; turn_of = turn_of; held = held }; forgotten = forgotten }
 
 pub record IsPlacer (w : WishesRecord) (line other : LineRecord) (units marks turn_of held : ℕ) : Type 0 where
   pub admitted : AllByRecursion (λ (p : ℕ × ℕ). p.1 < length (get_or w.cells p.0 [])) line.pairs

@@ -8,7 +8,7 @@ use Rattle.place_pass.specs.declared.search.Sight.{Sight}
 use Rattle.fuxi_terms.specs.declared.Key.{Key}
 use Rattle.grant_table.specs.Tables.{TableRecord}
 use Rattle.place_pass.specs.Cells.{Cell, Lifts, AvoidsStill}
-use Rattle.place_pass.specs.Counts.{AreAllowed}
+use Rattle.place_pass.specs.Placers.{AreAllowed}
 use Rattle.place_pass.specs.Bounds.{MarkRecord, reset_mark, lowered_mark, cleared_mark, rank_of, comes_before, IsBounded, is_bound, rank_at, rank_on, turn_at}
 
 abbrev pub sight_rank : Option Sight → Option (List ℕ)

@@ -7,10 +7,9 @@ ghost use Rattle.fuxi_terms.specs.Jobs.{unit_count};
 ghost use Rattle.fuxi_terms.specs.Tables.{spot, held};
 ghost use Rattle.grant_table.specs.Tables.{as_known};
 ghost use Rattle.place_pass.specs.Cells.{cell_at, job_at};
-ghost use Rattle.place_pass.specs.Placers.{AreLevel, board_over};
+ghost use Rattle.place_pass.specs.Placers.{AreAllowed, AreLevel, board_over};
 ghost use Rattle.place_pass.specs.Best.{AreAdmitted};
 ghost use Rattle.place_pass.specs.Bounds.{MarkRecord, rank_of, mark_of, mark_at, key_of, zero_rank, reset_mark, cleared_mark, lowered_mark, after_taking, is_nearer_in};
-ghost use Rattle.place_pass.specs.Counts.{AreAllowed};
 ghost use Rattle.place_pass.specs.Sights.{IsAsked, IsForgotten};
 
 use crate::line::Line;

@@ -35,6 +35,8 @@ pub struct Placer {
     turn_of: Vec<u64>,
     /// What each unit held when the last change of it was told, 8 places for each job.
     held: Vec<u32>,
+    /// While the placer is idle: whether groups were forgotten where that can be, and the line lost no pair since.
+    forgotten: bool,
 }
 
 // Written out, so that who lets one go checks this call and not all of its parts.
@@ -50,6 +52,7 @@ impl Drop for Placer {
             marks,
             turn_of,
             held,
+            forgotten,
         } = self;
     }
 }
@@ -59,7 +62,7 @@ impl Model for Placer {
 
     ghost Value = { PlacerRecord };
 
-    ghost view = { λ p. placer_record p.wishes p.line p.turns p.idle p.marks.items p.turn_of.items p.held.items };
+    ghost view = { λ p. placer_record p.wishes p.line p.turns p.idle p.marks.items p.turn_of.items p.held.items p.forgotten };
 
     ghost use Rattle.std.specs.Prelude.{length};
 
@@ -78,8 +81,8 @@ impl Placer {
     ghost use Rattle.written_roles.specs.Placing.{first_in, lined, has_pair};
     ghost use Rattle.grant_table.specs.Tables.{TableRecord, as_known, with_admitted};
     ghost use Rattle.place_pass.specs.Best.{spot_of};
-    ghost use Rattle.place_pass.specs.Counts.{AreAllowed, IsLifted, IsTight, StaysTight, is_unsettled, unsettled_machines};
-    ghost use Rattle.place_pass.specs.Placers.{SeenRecord, job_seen, asks_seen, asks_after, is_open, units_seen, IsLevelWith, IsUpToDate, IsSetFrom, IsGrantable, board_with, waiting_with, line_told, AsksNoMore};
+    ghost use Rattle.place_pass.specs.Counts.{IsLifted, IsTight, StaysTight, is_unsettled, unsettled_machines};
+    ghost use Rattle.place_pass.specs.Placers.{AreAllowed, SeenRecord, job_seen, asks_seen, asks_after, is_open, units_seen, IsLevelWith, IsUpToDate, IsSetFrom, IsGrantable, board_with, waiting_with, line_told, AsksNoMore};
 
     /// A placer of a cluster, with no job, and with no machine open. It is level with the empty table.
     pub fn start(alloc: Global, cluster: &Cluster) -> Result<Placer, OutOfMemory>
@@ -100,6 +103,7 @@ impl Placer {
             marks,
             turn_of,
             held,
+            forgotten: false,
         })
     }
 
@@ -213,6 +217,7 @@ impl Placer {
         admitted_jobs();
         let _cluster = table.cluster();
         let _wishes = self.wishes.cluster();
+        let before = self.line.len();
         self.other.clear();
         keep(&mut self.other, &self.line, &self.wishes, table);
         let stayed = self.other.len();
@@ -225,6 +230,7 @@ impl Placer {
             self.turns,
         );
         self.turns += (self.other.len() - stayed) as u64;
+        self.forgotten &= stayed == before;
         mem::swap(&mut self.line, &mut self.other);
     }
 
@@ -274,8 +280,13 @@ impl Placer {
     {
         let _table = table.cluster();
         let _wishes = self.wishes.cluster();
+        let rests = self.idle & self.forgotten;
+        if rests {
+            return None;
+        }
         if self.idle {
             forget_groups(&mut self.marks, &self.wishes, &self.line, table);
+            self.forgotten = true;
             return None;
         }
         let Some(pick) = first(
@@ -287,8 +298,9 @@ impl Placer {
             &mut self.marks,
             steps,
         ) else {
-            self.idle = true;
             forget_groups(&mut self.marks, &self.wishes, &self.line, table);
+            self.idle = true;
+            self.forgotten = true;
             return None;
         };
         Some(pick)

@@ -318,6 +318,7 @@ fn weigh(
     requires within { (i : ℕ) → total_at (as_known table.now.jobs) machine.0 i table.now.entries ≤ has_at table.now.cluster machine.0 i }
     ensures here { IsBounded (board_over wishes.now.cells wishes.now.opened table.now) table.now.entries (sight_rank result) groups.new (turn_in turn_of.now (app.0, unit.0)) (app.0, unit.0) machine.0 }
     ensures kept { (q : ℕ × ℕ) (t : ℕ) → IsBounded (board_over wishes.now.cells wishes.now.opened table.now) table.now.entries (sight_rank before) groups.old t q machine.0 → IsBounded (board_over wishes.now.cells wishes.now.opened table.now) table.now.entries (sight_rank result) groups.new t q machine.0 }
+    ensures passed { (accepts_in (board_over wishes.now.cells wishes.now.opened table.now) table.now.entries app.0 unit.0 machine.0 && has_room_in table.now.cluster (board_over wishes.now.cells wishes.now.opened table.now).sizes table.now.entries app.0 unit.0 machine.0) ≡ false → groups.new ≡ groups.old }
     ensures sight { (line : List (ℕ × ℕ)) (place : ℕ) → slice_get line place ≡ Some (app.0, unit.0) → out_of (asks_in wishes.now.cells) table.now.entries app.0 unit.0 ≢ 0 → IfSome before (λ x. IsSight (board_over wishes.now.cells wishes.now.opened table.now) table.now.entries (turn_in turn_of.now) line machine.0 x) → IfSome result (λ x. IsSight (board_over wishes.now.cells wishes.now.opened table.now) table.now.entries (turn_in turn_of.now) line machine.0 x) }
 {
     let late = 9_u8.saturating_sub(wishes.wish(app, unit).priority);

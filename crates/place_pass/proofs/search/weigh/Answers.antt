@@ -1,4 +1,4 @@
-use Rattle.std.proofs.Common.{◌≡◌, ℕ, ◌-◌, true, nat_lt, Some, [], ◌∷◌, sym, ◌∙◌, ap, subst, arith}
+use Rattle.std.proofs.Common.{◌≡◌, ℕ, ◌-◌, true, nat_lt, Some, [], ◌∷◌, false, sym, ◌∙◌, ap, subst, arith}
 use Rattle.std.proofs.lemmas.Bool.Decides.{nat_tests}
 use Rattle.fuxi_terms.specs.Cluster.{UnitRecord}
 use Rattle.fuxi_terms.specs.Jobs.{priority_of}
@@ -54,3 +54,6 @@ returns-clause-sight c line place at some before =
       placeable = and_true _ _ (and_true (nat_lt 0 (out_of (asks_in c.args.wishes.now.cells) es c.args.app.0 c.args.unit.0)) _ out (sym c.allowed.ensures ∙ c.if-not-allowed.false)) (sym c.takes.ensures ∙ c.if-not-takes.false);
       rank = rank_is c;
     }) before
+
+pub returns-then-not-allowed-clause-passed : goal.returns-then-not-allowed-clause-passed
+returns-then-not-allowed-clause-passed c out = let f : false ≡ true = sym out ∙ sym c.takes.ensures ∙ c.if-not-takes.false in cc

@@ -4,9 +4,9 @@ use Rattle.grant_table.specs.Tables.{with_admitted}
 use Rattle.place_pass.specs.Cells.{WishesRecord, job_at, asks_in, fresh_cell, fresh_cells}
 use Rattle.place_pass.specs.Best.{AreAdmitted}
 use Rattle.place_pass.specs.Bounds.{mark_of}
-use Rattle.place_pass.specs.Placers.{PlacerRecord, KeptRecord, IsKept, IsQuiet, AreLevel, IsIdle, IsLevelWith, IsPlacer, job_seen, asks_seen}
+use Rattle.place_pass.specs.Placers.{PlacerRecord, KeptRecord, IsClear, IsKept, IsQuiet, AreLevel, IsIdle, IsLevelWith, IsPlacer, job_seen, asks_seen}
 use Rattle.fuxi_terms.proofs.ValidJobs.{job_small, units_few, units_some}
-use Rattle.place_pass.proofs.Idling.{idle_admitted, kept_admitted, quiet_admitted}
+use Rattle.place_pass.proofs.Idling.{clear_admitted, idle_admitted, kept_admitted, quiet_admitted}
 use Rattle.place_pass.proofs.Telling.{units_small, units_more, admitted_more, empty_slot, job_admitted, asks_admitted, unknown_there, level_admitted}
 use Rattle.place_pass.proofs.placer.Placer.admit.Goals as goal
 
@@ -90,6 +90,9 @@ returns-clause-level c t l =
       kept = subst (λ (l : List (ℕ × ℕ)). IsKept c.admit.new.self.cells c.admit.new.self.opened l c.self.inside.turns kept (record t { jobs = with_admitted j t.jobs })) (sym c.in_ok-reserve.ensures.pairs)
           (subst (λ (x : WishesRecord). IsKept x.cells x.opened c.self.inside.line.pairs c.self.inside.turns kept (record t { jobs = with_admitted j t.jobs })) (sym c.in_ok-admit.ensures.ok)
           (kept_admitted j w.cells (set w.cells j.number xs) w.opened t empty (asks_admitted w.cells j.number j.group (length w.cluster.machines) j.units lt empty) apart found c.self.inside.line.pairs c.self.inside.turns kept c.self.invariant.admitted old.kept));
+      clear = λ e f. subst (λ (l : List (ℕ × ℕ)). IsClear c.admit.new.self.opened l kept.marks (record t { jobs = with_admitted j t.jobs })) (sym c.in_ok-reserve.ensures.pairs)
+          (subst (λ (x : WishesRecord). IsClear x.opened c.self.inside.line.pairs kept.marks (record t { jobs = with_admitted j t.jobs })) (sym c.in_ok-admit.ensures.ok)
+          (clear_admitted j w.cells (set w.cells j.number xs) w.opened t empty (asks_admitted w.cells j.number j.group (length w.cluster.machines) j.units lt empty) apart found c.self.inside.line.pairs kept.marks c.self.invariant.admitted (old.clear e f)));
       quiet = λ e. subst (λ (l : List (ℕ × ℕ)). IsQuiet c.admit.new.self.cells c.admit.new.self.opened l c.self.inside.turns kept.marks (record t { jobs = with_admitted j t.jobs })) (sym c.in_ok-reserve.ensures.pairs)
           (subst (λ (x : WishesRecord). IsQuiet x.cells x.opened c.self.inside.line.pairs c.self.inside.turns kept.marks (record t { jobs = with_admitted j t.jobs })) (sym c.in_ok-admit.ensures.ok)
           (quiet_admitted j w.cells (set w.cells j.number xs) w.opened t empty (asks_admitted w.cells j.number j.group (length w.cluster.machines) j.units lt empty) apart found c.self.inside.line.pairs c.self.inside.turns kept.marks (old.quiet e)));

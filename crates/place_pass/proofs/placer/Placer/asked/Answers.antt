@@ -5,11 +5,11 @@ use Rattle.fuxi_terms.specs.Keys.{key_cmp}
 use Rattle.fuxi_terms.specs.Counts.{count}
 use Rattle.fuxi_terms.proofs.Booleans.{both_true}
 use Rattle.place_pass.specs.Cells.{WishesRecord, Lifts, job_at, asks_in, taken_all, any_more}
-use Rattle.place_pass.specs.Placers.{PlacerRecord, AreLevel, AsksNoMore, IsIdle, IsKept, IsQuiet, is_open_to, IsLevelWith, IsPlacer, job_seen, asks_seen, units_seen, is_there}
+use Rattle.place_pass.specs.Placers.{PlacerRecord, AreLevel, AsksNoMore, IsIdle, IsClear, IsKept, IsQuiet, is_open_to, IsLevelWith, IsPlacer, job_seen, asks_seen, units_seen, is_there}
 use Rattle.place_pass.specs.Bounds.{mark_at, mark_of}
 use Rattle.place_pass.specs.Counts.{IsLifted}
 use Rattle.place_pass.specs.Sights.{IsAsked}
-use Rattle.place_pass.proofs.CountsLemmas.{asked_settled, asked_stays, stays_for, stays_tight}
+use Rattle.place_pass.proofs.CountsLemmas.{asked_clear, asked_settled, asked_stays, stays_for, stays_tight}
 use Rattle.place_pass.proofs.KeptLemmas.{kept_demanded, open_there, told_asked}
 use Rattle.place_pass.proofs.Places.{slot_within}
 use Rattle.place_pass.proofs.Asking.{length-taken_all}
@@ -101,6 +101,13 @@ returns-clause-level c l =
           (λ m o. told_asked es (get_or w.cells a []) m (mark_at (map mark_of c.self.inside.marks.items) m) (mark_at (map mark_of c.tell_demand.new.marks.items) m)
           ((b u : ℕ) → is_open_to (set w.cells a (taken_all w.cluster es 0 (get_or w.cells a []))) w.opened b u m ≡ true → is_open_to w.cells w.opened b u m ≡ true) (told_mark c m o)
           (λ still b u. still_open w.cluster es w.cells w.opened a c.cluster-wishes.ensures.sound (slot_within w.cells a 0 here) m still b u)) (λ m o. o) old.kept);
+      clear = λ e f.
+          let b = both_true c.self.inside.idle (not c.asked-more.result) e in
+          let none : any_more w.cluster es (get_or w.cells a []) (length (get_or w.cells a [])) ≡ false = sym c.asked-more.ensures.more ∙ not_true c.asked-more.result b.1 in
+          subst (λ (x : WishesRecord). IsClear x.opened c.self.inside.line.pairs (map mark_of c.tell_demand.new.marks.items) t) (sym c.asked-more.ensures.cells) (record {
+            clear = λ allowed m g o. asked_clear es (get_or w.cells a []) m (mark_at (map mark_of c.self.inside.marks.items) m) (mark_at (map mark_of c.tell_demand.new.marks.items) m) (told_mark c m o)
+                (none_lifted w.cluster es w.cells w.opened a c.cluster-wishes.ensures.sound (slot_within w.cells a 0 here) none m) g ((old.clear b.0 f).clear allowed m g o);
+          });
       quiet = λ e.
           let b = both_true c.self.inside.idle (not c.asked-more.result) e in
           let none : any_more w.cluster es (get_or w.cells a []) (length (get_or w.cells a [])) ≡ false = sym c.asked-more.ensures.more ∙ not_true c.asked-more.result b.1 in

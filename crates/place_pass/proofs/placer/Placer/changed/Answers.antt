@@ -62,6 +62,7 @@ returns-then-outstanding-eq0-clause-level c before l is =
       level = level_set w.cluster (job_at w.cells) before c.args.table.now (spot c.args.app.0 c.args.unit.0 c.args.machine.0) is old.level;
       idle = λ e. cc;
       quiet = λ e. cc;
+      clear = λ e f. cc;
       kept = subst (λ (hs : List ℕ). IsKept w.cells w.opened (c.swap.new.x.pairs) c.self.inside.turns (record { marks = map mark_of c.tell.new.marks.items; turn_of = c.self.inside.turn_of.items; held = hs }) c.args.table.now) (λ i. set c.self.inside.held.items (sym c.slot-place.ensures i) (sym c.held.ensures i))
           (kept_told w.cells w.opened c.self.inside.line.pairs (c.swap.new.x.pairs) c.self.inside.turns (length w.cluster.machines) (record { marks = map mark_of c.self.inside.marks.items; turn_of = c.self.inside.turn_of.items; held = c.self.inside.held.items }) (map mark_of c.tell.new.marks.items)
           (λ p has. (both_true (has_pair p c.self.inside.line.pairs) _ (sym (has_filter others p c.self.inside.line.pairs) ∙ ap (has_pair p) (sym line_is) ∙ has)).0) (subst (Rises (λ (p : ℕ × ℕ). turn_at c.self.inside.turn_of.items p.0 p.1)) (sym line_is) (rises_filter (λ (p : ℕ × ℕ). turn_at c.self.inside.turn_of.items p.0 p.1) others c.self.inside.line.pairs (rising_all (λ (p : ℕ × ℕ). turn_at c.self.inside.turn_of.items p.0 p.1) c.self.inside.line.pairs old.kept.rises))) (open_there w.opened (length w.cluster.machines) c.cluster-wishes.ensures.sound.opened) before c.args.table.now c.args.app.0 c.args.unit.0 c.args.machine.0 is
@@ -91,6 +92,7 @@ returns-else-outstanding-eq0-clause-level c before l is =
       level = level_set w.cluster (job_at w.cells) before c.args.table.now (spot c.args.app.0 c.args.unit.0 c.args.machine.0) is old.level;
       idle = λ e. cc;
       quiet = λ e. cc;
+      clear = λ e f. cc;
       kept = subst (λ (hs : List ℕ). IsKept w.cells w.opened (c.self.inside.line.pairs) c.self.inside.turns (record { marks = map mark_of c.tell.new.marks.items; turn_of = c.self.inside.turn_of.items; held = hs }) c.args.table.now) (λ i. set c.self.inside.held.items (sym c.slot-place.ensures i) (sym c.held.ensures i))
           (kept_told w.cells w.opened c.self.inside.line.pairs (c.self.inside.line.pairs) c.self.inside.turns (length w.cluster.machines) (record { marks = map mark_of c.self.inside.marks.items; turn_of = c.self.inside.turn_of.items; held = c.self.inside.held.items }) (map mark_of c.tell.new.marks.items)
           (λ p has. has) (rising_all (λ (p : ℕ × ℕ). turn_at c.self.inside.turn_of.items p.0 p.1) c.self.inside.line.pairs old.kept.rises) (open_there w.opened (length w.cluster.machines) c.cluster-wishes.ensures.sound.opened) before c.args.table.now c.args.app.0 c.args.unit.0 c.args.machine.0 is

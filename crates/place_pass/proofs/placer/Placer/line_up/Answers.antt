@@ -1,13 +1,13 @@
 use Rattle.std.proofs.Common.{◌≡◌, ℕ, ◌+◌, ◌-◌, Bool, true, false, not, nat_lt, List, ◌++◌, length, map, filter, refl, sym, ◌∙◌, ap, subst, arith}
-use Rattle.std.specs.Prelude.{◌&&◌}
+use Rattle.std.specs.Prelude.{◌&&◌, ◌||◌}
 use Rattle.std.proofs.lemmas.List.{length-append}
 use Rattle.place_pass.specs.Bounds.{key_of, mark_at, mark_of, turn_at}
 use Rattle.std.proofs.lemmas.Bool.Decides.{nat_tests}
-use Rattle.fuxi_terms.proofs.Booleans.{and_true}
+use Rattle.fuxi_terms.proofs.Booleans.{and_true, both_true}
 use Rattle.place_pass.proofs.CountsLemmas.{same_stays, stays_tight}
 use Rattle.place_pass.proofs.KeptLemmas.{kept_lined}
 use Rattle.place_pass.proofs.SightsLemmas.{place_of}
-use Rattle.place_pass.proofs.NumberedLemmas.{none_joined, numbered_end, has_end, unit_small}
+use Rattle.place_pass.proofs.NumberedLemmas.{filter_whole, none_joined, numbered_end, has_end, unit_small}
 use Rattle.place_pass.proofs.FirstByTurn.{has_at}
 use Rattle.fuxi_terms.specs.Cluster.{JobRecord}
 use Rattle.fuxi_terms.specs.Jobs.{unit_count, job_numbers}
@@ -17,7 +17,7 @@ use Rattle.grant_table.specs.Tables.{as_known}
 use Rattle.place_pass.specs.Cells.{asks_in}
 use Rattle.place_pass.specs.Lines.{LineRecord, same_pair}
 use Rattle.place_pass.specs.Placers.{PlacerRecord, KeptRecord, IsKept, SeenRecord, IsLevelWith, asks_seen, waiting_with}
-use Rattle.place_pass.proofs.Lining.{none_filter, has_filter}
+use Rattle.place_pass.proofs.Lining.{any_append, none_filter, has_filter}
 use Rattle.place_pass.proofs.Telling.{kept_is, lined_has}
 use Rattle.place_pass.proofs.Turns.{few_begin}
 use Rattle.place_pass.proofs.placer.Placer.line_up.Goals as goal
@@ -112,6 +112,15 @@ returns-clause-level c =
     record {
       level = old.level;
       idle = old.idle;
+      clear = λ e f.
+          let b = both_true c.self.inside.forgotten _ f in
+          let test = b.1 in
+          let was = c.len-before.ensures.number in
+          let keeps = ap length c.keep.ensures.pairs in
+          let all_stay : length (filter waits line) ≡ length line = grind (arith, nat_tests, test, was, s, keeps) in
+          let same : front ≡ line = c.keep.ensures.pairs ∙ filter_whole waits line all_stay in
+          let still = λ (a u : ℕ) (has : has_pair (a, u) line ≡ true). ap (has_pair (a, u)) whole ∙ any_append (same_pair (a, u)) front joined ∙ ap (λ x. x || has_pair (a, u) joined) (ap (has_pair (a, u)) same ∙ has) in
+          record { clear = λ allowed m g o. (old.clear e b.0).clear (λ a u has. allowed a u (still a u has)) m g o };
       quiet = λ e. record {
         settled = λ m o. let z : c.self.inside.turns + (c.len.result - c.len-stayed.result) ≡ c.self.inside.turns = let y = ap length (none e) in omega (arith, more, y) in ap (key_of (mark_at (map mark_of c.self.inside.marks.items) m)) z ∙ (old.quiet e).settled m o;
         waiting = λ a u lt some. returns-clause-up c a u ∙ and_true (nat_lt u (unit_count (as_known t.jobs) a)) _ (grind (arith, nat_tests, lt)) (grind (arith, nat_tests, some));

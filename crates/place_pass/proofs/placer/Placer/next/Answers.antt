@@ -4,7 +4,7 @@ use Rattle.std.specs.Option.{option_map}
 use Rattle.fuxi_terms.specs.Jobs.{unit_count}
 use Rattle.fuxi_terms.proofs.Booleans.{and_true}
 use Rattle.grant_table.specs.Tables.{as_known}
-use Rattle.place_pass.specs.Counts.{AreAllowed, count_below, is_unsettled, unsettled_machines}
+use Rattle.place_pass.specs.Counts.{IsTight, count_below, is_unsettled, unsettled_machines}
 use Rattle.place_pass.proofs.CountsLemmas.{is_settled}
 use Rattle.place_pass.proofs.KeptLemmas.{forgotten_key, kept_forgotten, open_there}
 use Rattle.std.proofs.lemmas.Bool.Decides.{nat_tests}
@@ -17,7 +17,7 @@ use Rattle.place_pass.specs.Best.{spot_of}
 use Rattle.place_pass.specs.Bounds.{mark_of, mark_at, Rises}
 use Rattle.place_pass.specs.Sights.{turn_in, AreBounded}
 use Rattle.place_pass.specs.Cells.{asks_in}
-use Rattle.place_pass.specs.Placers.{IsGrantable, PlacerRecord, KeptRecord, placer_record, IsLevelWith, IsUpToDate, board_over, board_with}
+use Rattle.place_pass.specs.Placers.{AreAllowed, IsGrantable, PlacerRecord, KeptRecord, placer_record, IsLevelWith, IsUpToDate, board_over, board_with}
 use Rattle.place_pass.proofs.Idling.{idle_first, idle_found}
 use Rattle.place_pass.proofs.FirstByTurn.{rising_all}
 use Rattle.place_pass.proofs.Picking.{pick_grantable}
@@ -76,6 +76,30 @@ unfolding IsLevelWith
 forget_groups-requires-in_default-clause-level g c = (subst (λ (p : PlacerRecord). IsLevelWith p c.args.table.now) (sym c.self.view_is) c.requires.level).level
 
 -- nothing is placeable on any machine, so the line has no first pair
+pub returns-then-rests-clause-first : goal.returns-then-rests-clause-first
+unfolding IsLevelWith
+returns-then-rests-clause-first g c =
+    let w = c.self.inside.wishes in
+    let t = c.args.table.now in
+    let l = subst (λ (p : PlacerRecord). IsLevelWith p t) (sym c.self.view_is) c.requires.level in
+    let idle = (both_true c.self.inside.idle c.self.inside.forgotten c.if-rests.true).0 in
+    subst (λ (p : PlacerRecord). None ≡ first_in (board_with p.seen t) t.entries p.seen.line) c.self.view_is (sym (idle_first w.cluster w.cells w.opened t l.level c.self.inside.line.pairs c.self.invariant.admitted (l.idle idle)))
+
+pub returns-then-rests-clause-rest : goal.returns-then-rests-clause-rest
+unfolding IsLevelWith
+returns-then-rests-clause-rest g c e allowed =
+    let l = subst (λ (p : PlacerRecord). IsLevelWith p c.args.table.now) (sym c.self.view_is) c.requires.level in
+    let b = both_true c.self.inside.idle c.self.inside.forgotten c.if-rests.true in
+    subst IsTight c.self.view_is (record { clear = λ m n o settled. (l.clear b.0 b.1).clear (subst (λ (p : PlacerRecord). AreAllowed c.args.table.now p.seen.line) (sym c.self.view_is) allowed) m n o })
+
+pub returns-then-rests-clause-settled : goal.returns-then-rests-clause-settled
+unfolding IsLevelWith
+returns-then-rests-clause-settled g c e m =
+    let l = subst (λ (p : PlacerRecord). IsLevelWith p c.args.table.now) (sym c.self.view_is) c.requires.level in
+    let idle = (both_true c.self.inside.idle c.self.inside.forgotten c.if-rests.true).0 in
+    subst (λ (p : PlacerRecord). is_unsettled p m ≡ false) c.self.view_is (is_settled (get_or c.self.inside.wishes.opened m false) (mark_at (map mark_of c.self.inside.marks.items) m) c.self.inside.turns (λ o. (l.quiet idle).settled m o))
+
+-- nothing is placeable on any machine, so the line has no first pair
 pub returns-then-self-clause-first : goal.returns-then-self-clause-first
 unfolding IsLevelWith
 returns-then-self-clause-first g c =
@@ -105,6 +129,7 @@ returns-then-self-clause-level g c =
         settled = λ m o. forgotten_key c.self.inside.turns t c.self.inside.line.pairs (mark_at k.marks m) (mark_at marks m) (forgotten m o) ∙ (l.quiet e).settled m o;
         waiting = (l.quiet e).waiting;
       };
+      clear = λ e f. record { clear = λ allowed m g o. c.forget_groups.ensures.clear allowed m g (open_marked w.opened (length w.cluster.machines) (length c.self.inside.marks.items) m c.cluster-wishes.ensures.sound.opened c.self.invariant.marked o) };
     }
 
 pub returns-then-self-clause-rest : goal.returns-then-self-clause-rest
@@ -144,6 +169,7 @@ returns-clause-level g c =
         held = l.kept.held;
       };
       quiet = λ e. let f : false ≡ true = sym c.if-self.false ∙ e in cc;
+      clear = λ e _. let f : false ≡ true = sym c.if-self.false ∙ e in cc;
     }
 
 -- no search looks at a machine twice
@@ -151,7 +177,7 @@ pub returns-clause-count : goal.returns-clause-count
 unfolding IsLevelWith
 returns-clause-count g c =
     let l = subst (λ (p : PlacerRecord). IsLevelWith p c.args.table.now) (sym c.self.view_is) c.requires.level in
-    let inside = placer_record c.self.inside.wishes c.self.inside.line c.self.inside.turns c.self.inside.idle c.self.inside.marks.items c.self.inside.turn_of.items c.self.inside.held.items in
+    let inside = placer_record c.self.inside.wishes c.self.inside.line c.self.inside.turns c.self.inside.idle c.self.inside.marks.items c.self.inside.turn_of.items c.self.inside.held.items c.self.inside.forgotten in
     subst (λ (p : PlacerRecord). c.first.new.steps ≤ c.args.steps.now + unsettled_machines p) c.self.view_is
     (subst (λ (x : ClusterRecord). c.first.new.steps ≤ c.args.steps.now + count_below (is_unsettled inside) (length x.machines)) (sym l.level.cluster_is) c.first.ensures.count)
 
@@ -159,7 +185,7 @@ pub returns-in_default-clause-count : goal.returns-in_default-clause-count
 unfolding IsLevelWith
 returns-in_default-clause-count g c =
     let l = subst (λ (p : PlacerRecord). IsLevelWith p c.args.table.now) (sym c.self.view_is) c.requires.level in
-    let inside = placer_record c.self.inside.wishes c.self.inside.line c.self.inside.turns c.self.inside.idle c.self.inside.marks.items c.self.inside.turn_of.items c.self.inside.held.items in
+    let inside = placer_record c.self.inside.wishes c.self.inside.line c.self.inside.turns c.self.inside.idle c.self.inside.marks.items c.self.inside.turn_of.items c.self.inside.held.items c.self.inside.forgotten in
     subst (λ (p : PlacerRecord). c.first.new.steps ≤ c.args.steps.now + unsettled_machines p) c.self.view_is
     (subst (λ (x : ClusterRecord). c.first.new.steps ≤ c.args.steps.now + count_below (is_unsettled inside) (length x.machines)) (sym l.level.cluster_is) c.first.ensures.count)
 
@@ -188,6 +214,7 @@ returns-in_default-clause-level g c =
         settled = λ m o. forgotten_key c.self.inside.turns t c.self.inside.line.pairs (mark_at k.marks m) (mark_at marks m) (forgotten m o) ∙ c.first.ensures.settled c.in_default.is m (subst (λ (x : ClusterRecord). m < length x.machines) l.level.cluster_is (open_there w.opened (length w.cluster.machines) c.cluster-wishes.ensures.sound.opened m o)) o;
         waiting = λ a u lt some. up a u ∙ and_true (nat_lt u (unit_count (as_known t.jobs) a)) _ (grind (arith, nat_tests, lt)) (grind (arith, nat_tests, some));
       };
+      clear = λ e f. record { clear = λ allowed m g o. c.forget_groups-in_default.ensures.clear allowed m g (open_marked w.opened (length w.cluster.machines) (length c.first.new.marks.items) m c.cluster-wishes.ensures.sound.opened (c.first.ensures.marked ∙ c.self.invariant.marked) o) };
     }
 
 pub returns-in_default-clause-first : goal.returns-in_default-clause-first

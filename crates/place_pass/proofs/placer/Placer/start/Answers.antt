@@ -34,6 +34,7 @@ returns-clause-level c =
       level = subst (λ (w : WishesRecord). AreLevel w.cluster (job_at w.cells) none) (sym c.in_ok-wishes.ensures) (record { cluster_is = refl; jobs_are = λ a. ap (job_in a) (none_in 256 a) });
       idle = λ e. cc;
       quiet = λ e. cc;
+      clear = λ e f. cc;
       kept = record {
         bounds = λ m a u opened has lt. let f : false ≡ true = sym (ap (λ (ps : List (ℕ × ℕ)). has_pair (a, u) ps) c.new.ensures) ∙ has in cc;
         until = λ m opened. let f : true ≡ false = sym opened ∙ ap (λ (w : WishesRecord). get_or w.opened m false) c.in_ok-wishes.ensures ∙ none_open (length c.args.cluster.now.machines) m in cc;
