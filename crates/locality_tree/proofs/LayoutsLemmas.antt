@@ -1,10 +1,9 @@
 -- What one unit's entering and leaving a queue keeps of a layout.
-use Rattle.std.proofs.Common.{◌≡◌, ◌≢◌, ◌⊎◌, ℕ, ◌+◌, ◌*◌, ◌<◌, ◌≤◌, zero, suc, Bool, true, false, cond, nat_eq, List, [], ◌∷◌, ◌++◌, Option, Some, None, is_some, length, get_or, set, count_by, refl, sym, ap, subst, ◌∙◌, inl, inr, arith}
+use Rattle.std.proofs.Common.{◌≡◌, ◌≢◌, ◌⊎◌, ℕ, ◌+◌, ◌<◌, ◌≤◌, zero, suc, Bool, true, false, cond, nat_eq, List, [], ◌∷◌, ◌++◌, Option, Some, None, is_some, length, get_or, set, count_by, refl, sym, ap, subst, ◌∙◌, inl, inr, arith}
 use Rattle.std.proofs.lemmas.Bool.{cases_eq}
-use Rattle.std.specs.List.{sum_by, AllByRecursion}
 use Rattle.std.specs.Option.{is_none}
 use Rattle.std.proofs.lemmas.Bool.Decides.{eqb_tells}
-use Rattle.std.proofs.lemmas.List.{set-get_or, get_or-set_same, get_or-set_other, get_or_past, length-set}
+use Rattle.std.proofs.lemmas.List.{set-get_or, get_or-set_same, get_or-set_other, length-set}
 use Rattle.std.proofs.lemmas.List.Sums.{sum_by-set}
 use Rattle.fuxi_terms.proofs.Members.{In}
 use Rattle.slot_pool.specs.declared.pool.Slot.{Slot}
@@ -14,7 +13,7 @@ use Rattle.wait_queue.specs.declared.queue.Queue.{Queue}
 use Rattle.wait_queue.specs.Queues.{Item, Stands, IsIn, MayEnter, HasPlace, IsPlace, Apart, entry_at}
 use Rattle.locality_tree.specs.declared.unit_set.UnitSet.{UnitSet}
 use Rattle.locality_tree.specs.UnitSets.{has_unit, no_set}
-use Rattle.locality_tree.specs.Layouts.{Slots, slot_in, with_slot, number_of, HasNumber, vacancies, entry_in, AreApart, IsQueueAt, AreKept, EntryFits, Turned, Left, IsNoted}
+use Rattle.locality_tree.specs.Layouts.{Slots, slot_in, with_slot, number_of, HasNumber, vacancies, entry_in, AreApart, IsQueueAt, AreKept, EntryFits, Turned, IsNoted}
 use Rattle.locality_tree.proofs.MembersLemmas.{in_here, in_wider, in_middle, Parted, parted, all_from}
 use Rattle.locality_tree.proofs.QueueLaws.{Entries, Distinct, Absent, HavePlaces, member_entry, not_outside, are_apart, same_entry, same_slot, none_some}
 
@@ -302,8 +301,8 @@ module _ (entries : Entries) (at0 : Slot → Option Node) (queues : List Queue) 
             noted = λ i g.
                 let old = was.noted i (was_in i g) in
                 read_other slots n place (number_of i.1) place None fits.inside (λ m _.
-                    let is_s : i.0 ≡ s = same_slot i.0 s (sym (subst (λ (k : ℕ). slot_in slots k place ≡ Some i.0) m old) ∙ some) in
-                    not_outside s (front ++ back) i.1 outside (subst (λ (r : Slot). In (r, i.1) (front ++ back)) is_s g)) ∙ old;
+                let is_s : i.0 ≡ s = same_slot i.0 s (sym (subst (λ (k : ℕ). slot_in slots k place ≡ Some i.0) m old) ∙ some) in
+                not_outside s (front ++ back) i.1 outside (subst (λ (r : Slot). In (r, i.1) (front ++ back)) is_s g)) ∙ old;
             all = λ m t g. elim (cases_eq m n) as (λ _. (a : Entry) × In (t, a) (front ++ back) × (number_of a ≡ m)) [
               | inl h ↦ absurd (none_some (slot_in (with_slot slots n place None) n place) t (read_same slots n place None fits.inside) (subst (λ (k : ℕ). slot_in (with_slot slots n place None) k place ≡ Some t) h g))
               | inr h ↦

@@ -1,4 +1,4 @@
-pub mod ClusterRacks
+pub mod ClusterLemmas
 pub mod LayoutsLemmas
 pub mod LeftLemmas
 pub mod MembersLemmas

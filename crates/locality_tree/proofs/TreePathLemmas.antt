@@ -1,6 +1,5 @@
 -- The units that wait, in the order of their ranks, are those that the walk over three queues gives.
-use Rattle.std.proofs.Common.{◌≡◌, ◌⊎◌, ℕ, ◌+◌, ◌*◌, ◌<◌, ◌||◌, Bool, true, false, cond, List, [], ◌∷◌, ◌++◌, Option, Some, None, is_some, length, map, get_or, refl, sym, ap, subst, ◌∙◌, inl, inr, arith}
-use Rattle.std.proofs.lemmas.Bool.{cases_eq}
+use Rattle.std.proofs.Common.{◌≡◌, ℕ, ◌+◌, ◌*◌, ◌<◌, ◌||◌, Bool, true, false, cond, List, [], ◌∷◌, ◌++◌, Option, Some, None, is_some, length, map, get_or, refl, sym, ap, subst, ◌∙◌, inl, inr, arith}
 use Rattle.fuxi_terms.proofs.Booleans.{both_false}
 use Rattle.fuxi_terms.proofs.Members.{In}
 use Rattle.slot_pool.specs.declared.pool.Slot.{Slot}
@@ -12,13 +11,13 @@ use Rattle.wait_queue.specs.Queues.{Item, IsInOrder}
 use Rattle.locality_tree.specs.declared.layout.Layout.{Layout}
 use Rattle.locality_tree.specs.declared.unit_set.UnitSet.{UnitSet}
 use Rattle.locality_tree.specs.UnitSets.{has_unit, no_set}
-use Rattle.locality_tree.specs.Trees.{Pair, UnitState, no_unit, unit_at, level_at, rack_place, cluster_place, IsPath, HasPath}
-use Rattle.locality_tree.specs.Layouts.{Slots, slots_of, slot_in, number_of, entry_in, IsQueueAt, states_in, tree_record, IsTree}
+use Rattle.locality_tree.specs.Trees.{Pair, UnitState, unit_at, level_at, rack_place, cluster_place, HasPath}
+use Rattle.locality_tree.specs.Layouts.{Slots, slots_of, slot_in, number_of, entry_in, IsQueueAt, tree_record, IsTree}
 use Rattle.locality_tree.specs.Paths.{is_in_either, nothing, unskipped, IsRanking, pairs_of}
 use Rattle.locality_tree.proofs.MembersLemmas.{in_left, in_right, in_append}
 use Rattle.locality_tree.proofs.QueueLaws.{Entries, member_entry, same_entry}
-use Rattle.locality_tree.proofs.LayoutsLemmas.{Listed, listed}
-use Rattle.locality_tree.proofs.RanksLemmas.{Sorted, sorted, with_levels}
+use Rattle.locality_tree.proofs.LayoutsLemmas.{listed}
+use Rattle.locality_tree.proofs.RanksLemmas.{sorted, with_levels}
 use Rattle.locality_tree.proofs.TreesLemmas.{state_at, entry_of}
 
 -- an entry with its slot among the items
@@ -219,5 +218,5 @@ module _ (law : Entries) (racks : List ℕ) (p : Layout) (t : IsTree racks p) (m
               let same : level e ≡ level_at (tree_record racks p) a u m = ap (λ (n : ℕ). cond (is_some (slot_in slots n m)) 0 (cond (is_some (slot_in slots n rack)) 1 2)) (sym number) ∙ sym (level_is a u) in
               subst (λ (l : ℕ). In (e, l) s.pairs) same (r.complete (e, level e) (levels_in level (t.kept.lists last) e (in_cluster e own)));
         };
-        leads = leads s.pairs (record { ranked = r.ranked; sound = λ q g. into_levels q (r.sound q g); complete = λ q g. r.complete q (from_levels q g) });
+        leads = leads s.pairs (record { ranked = r.ranked; sound = λ q g. from_levels q (r.sound q g); complete = λ q g. r.complete q (into_levels q g) });
       }

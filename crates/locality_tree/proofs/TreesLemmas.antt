@@ -1,19 +1,19 @@
 -- What a change of a layout leaves of a tree, and what a contract sees of it.
-use Rattle.std.proofs.Common.{◌≡◌, ◌≢◌, ◌⊎◌, ℕ, zero, suc, ◌+◌, ◌*◌, ◌<◌, ◌≤◌, Bool, true, false, cond, nat_lt, List, [], ◌∷◌, Option, Some, None, is_some, length, map, get_or, set, replicate, option_map, refl, sym, ap, subst, ◌∙◌, inl, inr, arith}
+use Rattle.std.proofs.Common.{◌≡◌, ◌≢◌, ◌⊎◌, ℕ, zero, suc, ◌+◌, ◌*◌, ◌<◌, ◌≤◌, Bool, true, false, cond, List, [], ◌∷◌, Option, Some, None, is_some, length, map, get_or, set, replicate, option_map, refl, sym, ap, subst, ◌∙◌, inl, inr, arith}
 use Rattle.std.proofs.lemmas.Bool.{cases_eq, cases_lt}
 use Rattle.std.proofs.lemmas.Bool.Decides.{nat_tests}
 use Rattle.std.proofs.lemmas.List.{map-set, length-map, length-set, length-replicate, get_or-set_same, get_or-set_other, get_or_past, ext_get_or}
 use Rattle.std.specs.Global.{Vec}
-use Rattle.std.specs.Prelude.{IsTrue}
+use Rattle.std.specs.Prelude.{IsTrue, Result, Ok, Err, OnOk, OnErr}
 use Rattle.slot_pool.specs.declared.pool.Slot.{Slot}
-use Rattle.slot_pool.specs.Pools.{value_at, SameSlots}
+use Rattle.slot_pool.specs.Pools.{value_at}
 use Rattle.wait_queue.specs.declared.node.Entry.{Entry}
 use Rattle.wait_queue.specs.declared.node.Node.{Node}
 use Rattle.wait_queue.specs.declared.queue.Queue.{Queue}
 use Rattle.locality_tree.specs.declared.layout.Layout.{Layout}
 use Rattle.locality_tree.specs.Trees.{UnitState, TreeRecord, most_units, no_unit, idle, with_idle, unit_at, is_admitted, with_unit, cluster_place, place_count, refreshed, MayWait}
-use Rattle.locality_tree.specs.Layouts.{Slots, slots_of, slot_in, with_slot, with_vacant, number_of, HasNumber, entry_in, AreKept, AreKeptIn, EntryFitsIn, TurnedIn, LeftIn, state_of, states_in, tree_record, IsOwn, IsTree}
-use Rattle.locality_tree.proofs.LayoutsLemmas.{read_same, unit_inside, Listed, listed}
+use Rattle.locality_tree.specs.Layouts.{Slots, slots_of, slot_in, with_vacant, number_of, entry_in, AreKeptIn, EntryFitsIn, TurnedIn, LeftIn, Admits, state_of, states_in, tree_record, IsOwn, IsTree}
+use Rattle.locality_tree.proofs.LayoutsLemmas.{read_same, unit_inside, listed}
 use Rattle.locality_tree.proofs.VacantLemmas.{none_in, none_at, vacant_reads, vacant_count}
 use Rattle.locality_tree.proofs.QueueLaws.{Entries, same_entry, none_some}
 
@@ -50,7 +50,7 @@ unit_changed at after last olds slots n state count inside others entries is =
       | inr a ↦ states_same (state_of after last (get_or slots m [])) (state_of at last (get_or olds m [])) (entries m a) (ap (map is_some) (others m a)) ∙ sym (state_in at last olds m) ∙ sym (get_or-set_other units n m state no_unit a)
     ]))
 
-pub with_units : List ℕ → List UnitState → TreeRecord
+abbrev pub with_units : List ℕ → List UnitState → TreeRecord
 with_units racks us = record { racks = racks; units = us }
 
 -- an entry that waits fits every place
@@ -160,13 +160,16 @@ module _ (racks : List ℕ) (p p2 : Layout) (e : Entry) (place : ℕ) (stands : 
 
     pub tree_marked : IsTree racks p2
     tree_marked = tree_turned
-        (λ k f h. (elim (cases_eq k place) as (λ _. f ≡ e) [
-          | inl a ↦
-              let here : entry_in (value_at p2.pool) (slot_in (slots_of p2.slots.items) (number_of e) k) ≡ cond stands (Some e) None = ap (λ (i : ℕ). entry_in (value_at p2.pool) (slot_in (slots_of p2.slots.items) (number_of e) i)) a
-              ∙ ap (λ (s : Slots). entry_in (value_at p2.pool) (slot_in s (number_of e) place)) turned.noted ∙ ap (entry_in (value_at p2.pool)) (read_same (slots_of p.slots.items) (number_of e) place turned.slot inside) ∙ turned.here in
-              by stands f (sym here ∙ h)
-          | inr a ↦ same_entry (entry_in (value_at p.pool) (slot_in (slots_of p.slots.items) (number_of e) last_of)) f e (t.one_entry (number_of e) k f (sym (turned.others (number_of e) k (λ _ g. a g)) ∙ h)).1 there
-        ], still))
+        (λ k f h. (
+          elim (cases_eq k place) as (λ _. f ≡ e) [
+            | inl a ↦
+                let here : entry_in (value_at p2.pool) (slot_in (slots_of p2.slots.items) (number_of e) k) ≡ cond stands (Some e) None = ap (λ (i : ℕ). entry_in (value_at p2.pool) (slot_in (slots_of p2.slots.items) (number_of e) i)) a
+                ∙ ap (λ (s : Slots). entry_in (value_at p2.pool) (slot_in s (number_of e) place)) turned.noted ∙ ap (entry_in (value_at p2.pool)) (read_same (slots_of p.slots.items) (number_of e) place turned.slot inside) ∙ turned.here in
+                by stands f (sym here ∙ h)
+            | inr a ↦ same_entry (entry_in (value_at p.pool) (slot_in (slots_of p.slots.items) (number_of e) last_of)) f e (t.one_entry (number_of e) k f (sym (turned.others (number_of e) k (λ _ g. a g)) ∙ h)).1 there
+          ],
+          still,
+        ))
         (λ m f h q. t.turns m (number_of e) f e h there q)
       where
         by : (b : Bool) (f : Entry) → cond b (Some e) None ≡ Some f → f ≡ e
@@ -186,10 +189,13 @@ module _ (racks : List ℕ) (p p2 : Layout) (e : Entry) (t : IsTree racks p) (ke
 
   pub tree_begun : MayWait (tree_record racks p) e → IsTree racks p2
   tree_begun m = tree_turned racks p p2 e (cluster_place racks) true t kept count turned inside
-      (λ k f h. (elim (cases_eq k (cluster_place racks)) as (λ _. f ≡ e) [
-        | inl a ↦ same_entry (entry_in (value_at p2.pool) (slot_in (slots_of p2.slots.items) (number_of e) (cluster_place racks))) f e (subst (λ (i : ℕ). entry_in (value_at p2.pool) (slot_in (slots_of p2.slots.items) (number_of e) i) ≡ Some f) a h) now_waits
-        | inr a ↦ m.same f (entry_of racks p (number_of e) ∙ (t.one_entry (number_of e) k f (sym (turned.others (number_of e) k (λ _ g. a g)) ∙ h)).1)
-      ], now_waits))
+      (λ k f h. (
+        elim (cases_eq k (cluster_place racks)) as (λ _. f ≡ e) [
+          | inl a ↦ same_entry (entry_in (value_at p2.pool) (slot_in (slots_of p2.slots.items) (number_of e) (cluster_place racks))) f e (subst (λ (i : ℕ). entry_in (value_at p2.pool) (slot_in (slots_of p2.slots.items) (number_of e) i) ≡ Some f) a h) now_waits
+          | inr a ↦ m.same f (entry_of racks p (number_of e) ∙ (t.one_entry (number_of e) k f (sym (turned.others (number_of e) k (λ _ g. a g)) ∙ h)).1)
+        ],
+        now_waits,
+      ))
       (λ j f h q. m.alone j f (entry_of racks p j ∙ h) q)
 
   pub begun_view : tree_record racks p2 ≡ refreshed (tree_record racks p) e true
@@ -270,22 +276,22 @@ module _ (racks : List ℕ) (p : Layout) (is : slots_of p.slots.items ≡ replic
   started_view = ap (with_units racks) (by_slots (value_at p.pool) (cluster_place racks) p.slots.items ∙ ap (map (state_of (value_at p.pool) (cluster_place racks))) is ∙ no_states (value_at p.pool) (cluster_place racks) most_units)
 
 -- The tree with a job more: no unit's entry changes.
-module _ (racks : List ℕ) (p p2 : Layout) (first units : ℕ) (t : IsTree racks p) (kept : AreKeptIn p2) (count : length p2.queues.items ≡ length p.queues.items) (is : slots_of p2.slots.items ≡ with_vacant (slots_of p.slots.items) first (length p.queues.items) units)
-    (same : SameSlots p.pool p2.pool) (long : first + units ≤ length (slots_of p.slots.items)) (new : (k : ℕ) → k < units → length (get_or (slots_of p.slots.items) (first + k) []) ≡ 0) where
+module _ (racks : List ℕ) (p p2 : Layout) (first units : ℕ) (t : IsTree racks p) (a : Admits p p2 first units)
+    (long : first + units ≤ length (slots_of p.slots.items)) (new : (k : ℕ) → k < units → length (get_or (slots_of p.slots.items) (first + k) []) ≡ 0) where
   entry_same : (o : Option Slot) → entry_in (value_at p2.pool) o ≡ entry_in (value_at p.pool) o
   entry_same None = refl
-  entry_same (Some s) = ap (option_map (λ (n : Node). n.entry)) (same.values s)
+  entry_same (Some s) = ap (option_map (λ (n : Node). n.entry)) (a.same.values s)
 
   entry_stays : (m k : ℕ) → entry_in (value_at p2.pool) (slot_in (slots_of p2.slots.items) m k) ≡ entry_in (value_at p.pool) (slot_in (slots_of p.slots.items) m k)
-  entry_stays m k = ap (λ (s : Slots). entry_in (value_at p2.pool) (slot_in s m k)) is ∙ ap (entry_in (value_at p2.pool)) (vacant_reads (slots_of p.slots.items) first (length p.queues.items) units long new m k) ∙ entry_same (slot_in (slots_of p.slots.items) m k)
+  entry_stays m k = ap (λ (s : Slots). entry_in (value_at p2.pool) (slot_in s m k)) a.slots ∙ ap (entry_in (value_at p2.pool)) (vacant_reads (slots_of p.slots.items) first (length p.queues.items) units long new m k) ∙ entry_same (slot_in (slots_of p.slots.items) m k)
 
   pub tree_admitted : IsTree racks p2
   tree_admitted = record {
-    kept = kept;
+    kept = a.kept;
     machines = t.machines;
     in_racks = t.in_racks;
-    queue_count = count ∙ t.queue_count;
-    unit_count = sym (length-map p2.slots.items (λ v. v.items)) ∙ ap length is ∙ vacant_count (slots_of p.slots.items) first (length p.queues.items) units ∙ length-map p.slots.items (λ v. v.items) ∙ t.unit_count;
+    queue_count = a.count ∙ t.queue_count;
+    unit_count = sym (length-map p2.slots.items (λ v. v.items)) ∙ ap length a.slots ∙ vacant_count (slots_of p.slots.items) first (length p.queues.items) units ∙ length-map p.slots.items (λ v. v.items) ∙ t.unit_count;
     one_entry = λ n k e h. let o = t.one_entry n k e (sym (entry_stays n k) ∙ h) in (o.0, entry_stays n (cluster_place racks) ∙ o.1);
     turns = λ n m e f h g q. t.turns n m e f (sym (entry_stays n (cluster_place racks)) ∙ h) (sym (entry_stays m (cluster_place racks)) ∙ g) q;
   }
@@ -309,5 +315,20 @@ module _ (racks : List ℕ) (p p2 : Layout) (first units : ℕ) (t : IsTree rack
   pub admitted_view : tree_record racks p2 ≡ record (tree_record racks p) { units = with_idle (states_in racks p) first (place_count racks) units }
   admitted_view =
       let last : ℕ = cluster_place racks in
-      ap (with_units racks) (by_slots (value_at p2.pool) last p2.slots.items ∙ ap (map (state_of (value_at p2.pool) last)) is ∙ states_vacant last (length p.queues.items) units (slots_of p.slots.items)
+      ap (with_units racks) (by_slots (value_at p2.pool) last p2.slots.items ∙ ap (map (state_of (value_at p2.pool) last)) a.slots ∙ states_vacant last (length p.queues.items) units (slots_of p.slots.items)
       ∙ ap (λ (k : ℕ). with_idle (map (state_of (value_at p.pool) last) (slots_of p.slots.items)) first k units) t.queue_count ∙ ap (λ (us : List UnitState). with_idle us first (place_count racks) units) (sym (by_slots (value_at p.pool) last p.slots.items)))
+
+-- a unit that is not admitted has no place
+pub not_admitted : (racks : List ℕ) (p : Layout) (a u : ℕ) → is_admitted (tree_record racks p) a u ≡ false → length (get_or (slots_of p.slots.items) (8 * a + u) []) ≡ 0
+not_admitted racks p a u h =
+    let none : length (unit_at (tree_record racks p) a u).stands ≡ 0 = grind (arith, nat_tests, h) in
+    sym (length-map (get_or (slots_of p.slots.items) (8 * a + u) []) is_some) ∙ sym (ap (λ (x : UnitState). length x.stands) (state_at racks p (8 * a + u))) ∙ none
+
+-- what a result tells
+pub ok_or_err : {A E : Type 0} (r : Result A E) (P Q : Type 0) → OnOk r P → OnErr r Q → P ⊎ Q
+ok_or_err (Ok x) P Q h g = inl h
+ok_or_err (Err x) P Q h g = inr g
+
+pub on_ok : {A E : Type 0} (r : Result A E) (P Q : Type 0) → (P → Q) → OnOk r P → OnOk r Q
+on_ok (Ok x) P Q f h = f h
+on_ok (Err x) P Q f h = h

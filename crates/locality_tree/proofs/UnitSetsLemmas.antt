@@ -1,5 +1,5 @@
 -- Sets of units, bit by bit.
-use Rattle.std.proofs.Common.{◌≡◌, ◌≢◌, ℕ, zero, suc, ◌+◌, ◌*◌, ◌/◌, ◌%◌, ◌^◌, ◌<◌, Bool, true, false, not, nat_eq, List, [], length, get_or, set, replicate, refl, sym, ap, subst, ◌∙◌, inl, inr, arith}
+use Rattle.std.proofs.Common.{◌≡◌, ◌≢◌, ℕ, zero, suc, ◌+◌, ◌*◌, ◌/◌, ◌%◌, ◌^◌, ◌<◌, Bool, true, false, not, nat_eq, List, length, get_or, set, replicate, refl, sym, ap, ◌∙◌, inl, inr, arith}
 use mathlib.Core.Bool.{beq}
 use Rattle.std.proofs.lemmas.Bool.{cases_eq, cases_lt}
 use Rattle.std.proofs.lemmas.List.{get_or-set_same, get_or-set_other, set_past}
@@ -7,8 +7,7 @@ use Rattle.std.proofs.lemmas.Nat.{shl_whole}
 use Rattle.std.proofs.lemmas.Nat.Bits.{bit_at-zero, bit_at_xor, bit_at-pow_same, bit_at-pow_other}
 use lib.Bits.{bit_xor}
 use Rattle.std.specs.Int.{bit_at}
-use Rattle.locality_tree.specs.declared.unit_set.UnitSet.{UnitSet}
-use Rattle.locality_tree.specs.UnitSets.{has_unit, no_set}
+use Rattle.locality_tree.specs.UnitSets.{has_unit}
 
 zeros : (k i : ℕ) → get_or {A = ℕ} (replicate k 0) i 0 ≡ 0
 zeros zero i = refl

@@ -1,7 +1,7 @@
 -- Units that get places without a slot, and a layout without a unit.
-use Rattle.std.proofs.Common.{◌≡◌, ◌≢◌, ◌⊎◌, ℕ, ◌+◌, ◌*◌, ◌<◌, ◌≤◌, zero, suc, Bool, true, false, cond, List, [], ◌∷◌, ◌++◌, Option, Some, None, is_some, length, get_or, set, map, replicate, count_by, refl, sym, ap, subst, ◌∙◌, inl, inr, arith}
+use Rattle.std.proofs.Common.{◌≡◌, ◌⊎◌, ℕ, ◌+◌, ◌*◌, ◌<◌, ◌≤◌, zero, suc, false, cond, List, [], ◌∷◌, ◌++◌, Option, None, is_some, length, get_or, replicate, count_by, refl, sym, ap, ◌∙◌, inl, inr, arith}
 use Rattle.std.proofs.lemmas.Bool.{cases_eq}
-use Rattle.std.specs.List.{sum_by, AllByRecursion}
+use Rattle.std.specs.List.{AllByRecursion}
 use Rattle.std.specs.Option.{is_none}
 use Rattle.std.specs.Global.{Vec}
 use Rattle.std.proofs.lemmas.List.{get_or-set_same, get_or-set_other, get_or_past, length-set, length-replicate, length_push, map_push, same_from_push, replicate_more}
@@ -9,11 +9,10 @@ use Rattle.std.proofs.lemmas.List.Sums.{sum_by-cons, sum_by-set}
 use Rattle.slot_pool.specs.declared.pool.Slot.{Slot}
 use Rattle.wait_queue.specs.declared.node.Node.{Node}
 use Rattle.wait_queue.specs.declared.queue.Queue.{Queue}
-use Rattle.wait_queue.specs.Queues.{Item, Stands}
 use Rattle.locality_tree.specs.declared.unit_set.UnitSet.{UnitSet}
 use Rattle.locality_tree.specs.Trees.{most_units}
 use Rattle.locality_tree.specs.UnitSets.{has_unit, no_set}
-use Rattle.locality_tree.specs.Layouts.{Slots, slots_of, slot_in, with_vacant, vacancies, IsEmptyQueue, IsQueueAt, AreKept}
+use Rattle.locality_tree.specs.Layouts.{Slots, slots_of, slot_in, with_vacant, vacancies, IsEmptyQueue, AreKept}
 use Rattle.locality_tree.proofs.MembersLemmas.{all_get}
 use Rattle.locality_tree.proofs.QueueLaws.{Stays, none_some}
 

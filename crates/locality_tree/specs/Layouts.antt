@@ -1,11 +1,11 @@
 -- How a tree lays out its units and queues. No public clause cites this module.
-use Rattle.std.specs.Prelude.{◌≡◌, ◌≢◌, ℕ, zero, suc, ◌+◌, ◌*◌, ◌<◌, ◌≤◌, Bool, true, false, cond, List, [], ◌∷◌, length, map, replicate, Option, Some, None, is_some, ◌⊎◌}
+use Rattle.std.specs.Prelude.{◌≡◌, ◌≢◌, ℕ, zero, suc, ◌+◌, ◌*◌, ◌<◌, ◌≤◌, Bool, true, cond, List, [], length, map, replicate, Option, Some, None, is_some, ◌⊎◌}
 use Rattle.std.specs.Global.{Vec}
-use Rattle.std.specs.List.{sum_by, count_by, AllByRecursion}
+use Rattle.std.specs.List.{sum_by, count_by}
 use Rattle.std.specs.Option.{is_none}
 use Rattle.std.proofs.Common.{get_or, set}
 use Rattle.fuxi_terms.proofs.Members.{In}
-use Rattle.slot_pool.specs.Pools.{value_at}
+use Rattle.slot_pool.specs.Pools.{value_at, SameSlots}
 use Rattle.slot_pool.specs.declared.pool.Slot.{Slot}
 use Rattle.wait_queue.specs.declared.node.Entry.{Entry}
 use Rattle.wait_queue.specs.declared.node.Node.{Node}
@@ -111,6 +111,13 @@ pub record Left (before : Slot → Option Node) (olds : Slots) (after : Slot →
 
 abbrev pub LeftIn : Layout → Layout → Entry → ℕ → Type 0
 LeftIn old new e below = Left (value_at old.pool) (slots_of old.slots.items) (value_at new.pool) (slots_of new.slots.items) e below
+
+-- so many units from the first on have places, at none of which they stand, and nothing else changes
+pub record Admits (old new : Layout) (first units : ℕ) : Type 0 where
+  pub kept : AreKeptIn new
+  pub count : length new.queues.items ≡ length old.queues.items
+  pub slots : slots_of new.slots.items ≡ with_vacant (slots_of old.slots.items) first (length old.queues.items) units
+  pub same : SameSlots old.pool new.pool
 
 -- one unit is in the set of a place or is not, and nothing else changes
 pub record IsNoted (olds news : List UnitSet) (place n : ℕ) (stands : Bool) : Type 0 where

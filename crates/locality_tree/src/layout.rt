@@ -3,10 +3,9 @@
 ghost use Rattle.std.specs.Prelude.{◌≡◌, ℕ, ◌+◌, ◌*◌, ◌^◌, ◌<◌, ◌≤◌, [], length, replicate, None, Some, is_some, true, false, IfOk, OnOk, OnErr};
 ghost use Rattle.std.specs.List.{AllByRecursion};
 ghost use Rattle.std.proofs.Common.{get_or};
-ghost use Rattle.slot_pool.specs.Pools.{SameSlots};
 ghost use Rattle.locality_tree.specs.Trees.{most_units};
 ghost use Rattle.locality_tree.specs.UnitSets.{has_unit, no_set};
-ghost use Rattle.locality_tree.specs.Layouts.{slots_of, slot_in, with_slot, with_vacant, number_of, HasNumber, IsEmptyQueue, AreKeptIn, EntryFitsIn, TurnedIn, LeftIn, IsNoted};
+ghost use Rattle.locality_tree.specs.Layouts.{slots_of, slot_in, with_slot, with_vacant, number_of, HasNumber, IsEmptyQueue, AreKeptIn, EntryFitsIn, TurnedIn, LeftIn, Admits, IsNoted};
 
 use crate::unit_set::UnitSet;
 use fuxi_terms::OutOfMemory;
@@ -201,15 +200,17 @@ impl Layout {
 
     /// The units of a job, from this number on, get places, and room for a node at each. The layout is as before
     /// after the refusal.
-    pub(crate) fn admit(&mut self, alloc: Global, first: usize, units: usize) -> Result<(), OutOfMemory>
+    pub(crate) fn admit(
+        &mut self,
+        alloc: Global,
+        first: usize,
+        units: usize,
+    ) -> Result<(), OutOfMemory>
         requires kept { AreKeptIn self.old }
         requires inside { first + units ≤ length self.old.slots.items }
         requires few { units * length self.old.queues.items < 2 ^ 64 }
         requires new { (k : ℕ) → k < units → length (get_or (slots_of self.old.slots.items) (first + k) []) ≡ 0 }
-        ensures kept { OnOk result (AreKeptIn self.new) }
-        ensures count { OnOk result (length self.new.queues.items ≡ length self.old.queues.items) }
-        ensures slots { OnOk result (slots_of self.new.slots.items ≡ with_vacant (slots_of self.old.slots.items) first (length self.old.queues.items) units) }
-        ensures same { OnOk result (SameSlots self.old.pool self.new.pool) }
+        ensures ok { OnOk result (Admits self.old self.new first units) }
         ensures err { OnErr result (self.new ≡ self.old) }
     {
         standing_lists();

@@ -178,7 +178,13 @@ impl<'a> Path<'a> {
             None => return None,
         };
         let (entry, behind) = take(self.pool, self.cluster, slot);
-        self.at_cluster = skip(self.pool, self.cluster, self.near_set, self.rack_set, behind);
+        self.at_cluster = skip(
+            self.pool,
+            self.cluster,
+            self.near_set,
+            self.rack_set,
+            behind,
+        );
         Some((entry, 2))
     }
 }

@@ -1,6 +1,7 @@
 //! The tree.
 
 ghost use Rattle.std.specs.Prelude.{◌≡◌, ℕ, ◌<◌, ◌≤◌, Some, length, map, false, IfOk, OnOk, OnErr, IsTrue};
+ghost use Rattle.fuxi_terms.specs.Cluster.{is_valid_cluster};
 ghost use Rattle.locality_tree.specs.Trees.{unit_at, is_admitted, with_stand, with_job, started, refreshed, rack_place, racks_of, MayWait, HasPath};
 ghost use Rattle.locality_tree.specs.Paths.{Leads};
 
@@ -38,7 +39,8 @@ impl Model for Tree {
 
 /// The rack of each machine.
 fn racks_of(alloc: Global, cluster: &Cluster) -> Result<Vec<u32>, OutOfMemory>
-    ensures { IfOk result (λ racks. racks.items ≡ racks_of cluster.now) }
+    ensures racks { IfOk result (λ racks. racks.items ≡ racks_of cluster.now) }
+    ensures valid { IsTrue (is_valid_cluster cluster.now) }
 {
     let mut racks = Vec::new(alloc);
     for number in 0..cluster.machines() {

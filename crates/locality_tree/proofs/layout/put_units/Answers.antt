@@ -1,4 +1,4 @@
-use Rattle.std.proofs.Common.{◌≡◌, ◌∷◌, ◌++◌, ◌+◌, ℕ, suc, [], length, replicate, None, List, Option, set, sym, ap, subst, ◌∙◌, arith, add-one}
+use Rattle.std.proofs.Common.{◌≡◌, ◌∷◌, ◌++◌, ◌+◌, ℕ, [], length, replicate, None, List, Option, set, sym, ap, ◌∙◌, arith, add-one}
 use Rattle.std.specs.Option.{option_to_list}
 use Rattle.std.specs.Global.{Vec}
 use Rattle.std.proofs.lemmas.List.{map-set, length-set}
@@ -21,8 +21,8 @@ loop-index-preserved c =
           let l = last_unit c.loop-index.left.items rest c.in-Some.places (replicate k None) e i.0 in (
             l.0,
             map-set (λ (v : Vec (Option Slot)). v.items) c.loop-index.slots.items at c.in-Some.places
-            ∙ ap (λ (s : Slots). set s at c.in-Some.places.items) i.1
-            ∙ ap (λ (r : List (Option Slot)). set (with_vacant (slots_of c.args.slots.now.items) c.args.first k c.loop-index.index) at r) l.1
-            ∙ ap (with_vacant (slots_of c.args.slots.now.items) c.args.first k) (sym (add-one c.loop-index.index)),
+                ∙ ap (λ (s : Slots). set s at c.in-Some.places.items) i.1
+                ∙ ap (λ (r : List (Option Slot)). set (with_vacant (slots_of c.args.slots.now.items) c.args.first k c.loop-index.index) at r) l.1
+                ∙ ap (with_vacant (slots_of c.args.slots.now.items) c.args.first k) (sym (add-one c.loop-index.index)),
           );
     }

@@ -6,5 +6,5 @@ abbrev pub invariant-loop-index : goal.invariant-loop-index
 invariant-loop-index l = record {
   count : length l.left.items + l.index ≡ length l.fn.units.items;
   long : length l.slots.items ≡ length l.fn.slots.items;
-  put : (places : ℕ) → slots_of l.fn.units.items ≡ replicate (length l.fn.units.items) (replicate places None) → (slots_of l.left.items ≡ replicate (length l.left.items) (replicate places None)) × (slots_of l.slots.items ≡ with_vacant (slots_of l.fn.slots.items) l.first places l.index)
+  put : (places : ℕ) → slots_of l.fn.units.items ≡ replicate (length l.fn.units.items) (replicate places None) → (slots_of l.left.items ≡ replicate (length l.left.items) (replicate places None)) × (slots_of l.slots.items ≡ with_vacant (slots_of l.fn.slots.items) l.first places l.index);
 }

@@ -1,4 +1,4 @@
-use Rattle.std.proofs.Common.{◌≡◌, ◌∷◌, ◌++◌, ◌+◌, [], length, replicate, None, List, Option, sym, ap, subst, ◌∙◌, rules}
+use Rattle.std.proofs.Common.{◌∷◌, ◌++◌, [], replicate, None, List, Option, ap, ◌∙◌, rules}
 use Rattle.std.proofs.lemmas.List.{map_push, replicate_more}
 use Rattle.std.specs.Global.{Vec}
 use Rattle.slot_pool.specs.declared.pool.Slot.{Slot}

@@ -1,6 +1,5 @@
-use Rattle.std.proofs.Common.{◌≡◌, ◌<◌, sym, subst, ap, ◌∙◌}
+use Rattle.std.proofs.Common.{◌<◌, sym, subst, ap, ◌∙◌}
 use Rattle.slot_pool.specs.Pools.{value_at}
-use Rattle.wait_queue.specs.declared.node.Entry.{Entry}
 use Rattle.wait_queue.specs.Queues.{entry_at}
 use Rattle.locality_tree.specs.Layouts.{HasNumber}
 use Rattle.locality_tree.specs.Paths.{Passed, SkipsTo, is_in_either}

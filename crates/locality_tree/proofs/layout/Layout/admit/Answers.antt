@@ -1,12 +1,12 @@
-use Rattle.std.proofs.Common.{◌≡◌, ◌+◌, ◌*◌, ◌≤◌, ℕ, length, replicate, None, List, subst, sym, ap, ◌∙◌, arith}
+use Rattle.std.proofs.Common.{◌≡◌, ◌+◌, ◌*◌, ◌≤◌, ℕ, length, replicate, None, refl, subst, sym, ap, ◌∙◌, arith}
 use Rattle.std.proofs.lemmas.List.{length-map, length-replicate}
 use Rattle.slot_pool.specs.Pools.{value_at}
 use Rattle.locality_tree.specs.Layouts.{Slots, slots_of, with_vacant, AreKept}
 use Rattle.locality_tree.proofs.VacantLemmas.{kept_admitted}
 use Rattle.locality_tree.proofs.layout.Layout.admit.Goals as goal
 
-pub returns-clause-kept : goal.returns-clause-kept
-returns-clause-kept c =
+pub returns-clause-ok : goal.returns-clause-ok
+returns-clause-ok c =
     let l = c.args.self.now in
     let slots : Slots = slots_of l.slots.items in
     let places : ℕ = c.len-places.result in
@@ -20,5 +20,11 @@ returns-clause-kept c =
     let need : c.args.units * places ≡ c.args.units * length l.queues.items = ap (λ (k : ℕ). c.args.units * k) places_are in
     let room = c.in_ok-reserve.ensures.room in
     let more : l.pool.spare + c.args.units * length l.queues.items ≤ c.reserve.new.self.spare = let sum = c.in-Some.ensures in omega (arith, need, room, sum) in
-    subst (λ (s : Slots). AreKept (value_at c.reserve.new.self) c.reserve.new.self.spare l.queues.items s l.sets.items) (sym put)
-    (kept_admitted c.standing_lists.ensures.stays (value_at l.pool) (value_at c.reserve.new.self) l.pool.spare c.reserve.new.self.spare l.queues.items slots l.sets.items c.args.first c.args.units c.requires.kept c.in_ok-reserve.ensures.same.values long c.requires.new more)
+    record {
+      kept =
+          subst (λ (s : Slots). AreKept (value_at c.reserve.new.self) c.reserve.new.self.spare l.queues.items s l.sets.items) (sym put)
+          (kept_admitted c.standing_lists.ensures.stays (value_at l.pool) (value_at c.reserve.new.self) l.pool.spare c.reserve.new.self.spare l.queues.items slots l.sets.items c.args.first c.args.units c.requires.kept c.in_ok-reserve.ensures.same.values long c.requires.new more);
+      count = refl;
+      slots = put;
+      same = c.in_ok-reserve.ensures.same;
+    }

@@ -1,6 +1,6 @@
-use Rattle.std.proofs.Common.{◌≡◌, ℕ, Some, true, length, set, sym, ap, subst, ◌∙◌}
+use Rattle.std.proofs.Common.{ℕ, Some, true, set, sym, ap, subst, ◌∙◌}
 use Rattle.slot_pool.specs.Pools.{value_at}
-use Rattle.locality_tree.specs.Layouts.{Slots, slots_of, with_slot, number_of, AreKept, Turned, IsNoted}
+use Rattle.locality_tree.specs.Layouts.{Slots, slots_of, with_slot, AreKept, Turned, IsNoted}
 use Rattle.locality_tree.proofs.LayoutsLemmas.{may_enter, kept_entered, turned_entered}
 use Rattle.locality_tree.proofs.layout.Layout.enter.Goals as goal
 

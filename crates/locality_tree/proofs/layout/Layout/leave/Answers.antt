@@ -1,6 +1,6 @@
-use Rattle.std.proofs.Common.{◌≡◌, ℕ, None, false, length, set, sym, ap, subst, ◌∙◌}
+use Rattle.std.proofs.Common.{ℕ, None, false, set, sym, ap, subst, ◌∙◌}
 use Rattle.slot_pool.specs.Pools.{value_at}
-use Rattle.locality_tree.specs.Layouts.{Slots, slots_of, with_slot, number_of, AreKept, Turned, IsNoted}
+use Rattle.locality_tree.specs.Layouts.{Slots, slots_of, with_slot, AreKept, Turned, IsNoted}
 use Rattle.locality_tree.proofs.LayoutsLemmas.{stands_in, kept_left, turned_left}
 use Rattle.locality_tree.proofs.layout.Layout.leave.Goals as goal
 

@@ -1,6 +1,6 @@
-use Rattle.std.proofs.Common.{◌≡◌, ◌<◌, ◌+◌, ℕ, [], length, get_or, sym, subst, refl, ◌∙◌, arith}
+use Rattle.std.proofs.Common.{◌<◌, ℕ, [], length, get_or, sym, subst, refl, ◌∙◌, arith}
 use Rattle.slot_pool.specs.Pools.{value_at}
-use Rattle.locality_tree.specs.Layouts.{slots_of, number_of, EntryFits, LeftIn}
+use Rattle.locality_tree.specs.Layouts.{slots_of, number_of}
 use Rattle.locality_tree.proofs.LayoutsLemmas.{entry_queued}
 use Rattle.locality_tree.proofs.LeftLemmas.{left_start, left_more, fits_on}
 use Rattle.locality_tree.proofs.layout.Layout.leave_all.Goals as goal

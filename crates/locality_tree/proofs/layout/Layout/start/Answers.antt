@@ -1,4 +1,4 @@
-use Rattle.std.proofs.Common.{◌≡◌, ◌<◌, ℕ, length, replicate, get_or, [], List, subst, sym, ap, ◌∙◌, arith, rules}
+use Rattle.std.proofs.Common.{◌<◌, ℕ, length, replicate, get_or, [], List, sym, ap, ◌∙◌, arith, rules}
 use Rattle.std.proofs.lemmas.List.{length-replicate, get_or-replicate}
 use Rattle.slot_pool.specs.Pools.{value_at}
 use Rattle.locality_tree.specs.declared.unit_set.UnitSet.{UnitSet}
@@ -16,8 +16,8 @@ returns-clause-kept c =
     let count = c.in_ok-empty_queues.ensures.count in
     kept_empty (value_at pool) pool.spare queues (slots_of c.in_ok-vacant_units.field-0.items) sets 2048 c.in_ok-vacant_units.ensures c.in_ok-empty_queues.ensures.empty (ap length same ∙ length-replicate c.args.count c.new.result ∙ sym count)
     (λ n place h.
-        let inside : place < c.args.count = omega (arith, h, count) in
-        ap (λ (ss : List UnitSet). has_unit (get_or ss place no_set) n) same ∙ ap (λ (s : UnitSet). has_unit s n) (get_or-replicate c.args.count place c.new.result no_set inside) ∙ c.new.ensures n)
+    let inside : place < c.args.count = omega (arith, h, count) in
+    ap (λ (ss : List UnitSet). has_unit (get_or ss place no_set) n) same ∙ ap (λ (s : UnitSet). has_unit s n) (get_or-replicate c.args.count place c.new.result no_set inside) ∙ c.new.ensures n)
 
 pub returns-clause-slots : goal.returns-clause-slots
 returns-clause-slots c = c.in_ok-vacant_units.ensures ∙ ap (λ (k : ℕ). replicate k []) (sym units_are)

@@ -1,4 +1,4 @@
-use Rattle.std.proofs.Common.{◌≡◌, ℕ, Some, true, is_some, length, subst, sym, ap, ◌∙◌}
+use Rattle.std.proofs.Common.{◌≡◌, Some, true, is_some, subst, sym, ap, ◌∙◌}
 use Rattle.slot_pool.specs.Pools.{value_at}
 use Rattle.locality_tree.specs.Layouts.{slots_of, slot_in, number_of, Turned}
 use Rattle.locality_tree.proofs.LayoutsLemmas.{turned_not, entry_here}

@@ -1,4 +1,4 @@
-use Rattle.std.proofs.Common.{◌≡◌, ◌+◌, ◌<◌, ◌≢◌, length, Some, sym, subst, ap, ◌∙◌, arith}
+use Rattle.std.proofs.Common.{◌≡◌, ◌<◌, ◌≢◌, length, Some, sym, subst, ap, ◌∙◌, arith}
 use Rattle.locality_tree.specs.Trees.{TreeRecord, unit_at, with_stand, cluster_place}
 use Rattle.locality_tree.specs.Layouts.{number_of}
 use Rattle.locality_tree.proofs.TreesLemmas.{entry_of, waiting_fits, tree_marked, marked_view}

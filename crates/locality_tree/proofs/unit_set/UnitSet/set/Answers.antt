@@ -1,4 +1,4 @@
-use Rattle.std.proofs.Common.{◌≡◌, ◌≢◌, ◌+◌, ◌*◌, ◌/◌, ◌%◌, ◌^◌, ◌<◌, ℕ, Bool, true, false, not, List, length, get_or, set, refl, sym, ap, subst, ◌∙◌, arith}
+use Rattle.std.proofs.Common.{◌≡◌, ◌/◌, ◌%◌, ◌<◌, ℕ, true, not, length, get_or, set, ap, subst, ◌∙◌, arith}
 use lib.Bits.{bit_xor}
 use mathlib.Core.Bool.{beq}
 use Rattle.locality_tree.specs.UnitSets.{has_unit}
