@@ -1,10 +1,10 @@
 -- What each call leaves of the layout of a pool.
 use Rattle.std.proofs.Common.{◌≡◌, ◌≢◌, ℕ, zero, suc, ◌<◌, ◌≤◌, cond, List, [], ◌∷◌, ◌++◌, length, get_or, set, map, Option, Some, None, refl, sym, ap, subst, ◌∙◌, arith}
-use Rattle.std.specs.Prelude.{is_none, count_by, All}
+use Rattle.std.specs.Prelude.{option_to_list, is_none, count_by, All}
 use Rattle.std.proofs.lemmas.List.{get_or-set_same, get_or-set_other, length-set, get_or_append_left, get_or_push, length_push}
 use Rattle.std.proofs.lemmas.List.Elements.{All-push}
 use Rattle.std.proofs.lemmas.List.Quantifiers.{all_pairs_push}
-use Rattle.std.proofs.lemmas.List.Sums.{sum_by-set, count_by-le-length, sum_by-append}
+use Rattle.std.proofs.lemmas.List.Sums.{sum_by-set, count_by-le-length}
 use Rattle.slot_pool.specs.declared.cell.Cell.{Cell}
 use Rattle.slot_pool.specs.declared.cell.Cell.TheVariants.{Vacant}
 use Rattle.slot_pool.specs.Cells.{value_of, IsPool}
@@ -25,10 +25,6 @@ module _ {T : Type 0} where
   abbrev weight : Option T → ℕ
   weight o = cond {A = ℕ} (is_none o) 1 0
 
-  -- no more numbers are free than are in use
-  pub free_few : (values : List (Option T)) (generations free : List ℕ) (room : ℕ) → IsPool values generations free room → length free ≤ length values
-  free_few values generations free room p = let c = p.counted in let e = count_by-le-length is_none values in omega arith
-
   -- where a value stands, some number of the room is not free
   pub live_room : (values : List (Option T)) (generations free : List ℕ) (n room : ℕ) (v : T) → IsPool values generations free room → get_or values n None ≡ Some v → length free < room
   live_room values generations free n room v p is =
@@ -47,10 +43,6 @@ module _ {T : Type 0} where
   still_vacant : (values : List (Option T)) (free : List ℕ) (n : ℕ) (x : Option T) → All (λ m. (m < length values) × (get_or values m None ≡ None)) free → All (λ m. m ≢ n) free → All (λ m. (m < length (set values n x)) × (get_or (set values n x) m None ≡ None)) free
   still_vacant values free n x vacant apart = λ k d h. (rw length-set (vacant k d h).0, get_or-set_other values n (get_or free k d) x None (apart k d h) ∙ (vacant k d h).1)
 
-  -- more room
-  pub wider : (values : List (Option T)) (generations free : List ℕ) (room more : ℕ) → IsPool values generations free room → room ≤ more → IsPool values generations free more
-  wider values generations free room more p h = record { numbered = p.numbered; within = let w = p.within in omega arith; counted = p.counted; vacant = p.vacant; apart = p.apart }
-
   -- another value under a number where one stands
   pub rewritten : (values : List (Option T)) (generations free : List ℕ) (n room : ℕ) (v w : T) → IsPool values generations free room → get_or values n None ≡ Some v → IsPool (set values n (Some w)) generations free room
   rewritten values generations free n room v w p is =
@@ -64,6 +56,10 @@ module _ {T : Type 0} where
         vacant = still_vacant values free n (Some w) p.vacant (live_apart values generations free n room v p is);
         apart = p.apart;
       }
+
+  -- the last of the free numbers, as it is taken off the others
+  pub last_free : (values : List (Option T)) (generations free front : List ℕ) (n room : ℕ) (popped : Option ℕ) → IsPool values generations free room → free ≡ front ++ option_to_list popped → popped ≡ Some n → IsPool values generations (front ++ n ∷ []) room
+  last_free values generations free front n room popped p e some = subst (λ (ns : List ℕ). IsPool values generations ns room) (e ∙ ap (λ (o : Option ℕ). front ++ option_to_list o) some) p
 
   -- a value comes under the last of the free numbers
   pub refilled : (values : List (Option T)) (generations front : List ℕ) (n room : ℕ) (v : T) → IsPool values generations (front ++ n ∷ []) room → IsPool (set values n (Some v)) generations front room
@@ -90,18 +86,6 @@ module _ {T : Type 0} where
   last_vacant values generations front n room p =
       let longer = length_push front n in
       subst (λ (m : ℕ). (m < length values) × (get_or values m None ≡ None)) (get_or_push front n n (length front) refl) (p.vacant (length front) n (omega arith))
-
-  -- a value comes under a number that was never used
-  pub appended : (values : List (Option T)) (generations free : List ℕ) (room : ℕ) (v : T) → IsPool values generations free room → length values < room → IsPool (values ++ Some v ∷ []) (generations ++ 0 ∷ []) free room
-  appended values generations free room v p less =
-      let longer = length_push values (Some v) in
-      record {
-        numbered = let e = p.numbered in omega (arith, length_push generations 0);
-        within = omega arith;
-        counted = let c = p.counted in omega (arith, sum_by-append weight values (Some v ∷ []));
-        vacant = λ k d h. let was = p.vacant k d h in (omega (arith, was.0), get_or_append_left values (Some v ∷ []) None (get_or free k d) was.0 ∙ was.1);
-        apart = p.apart;
-      }
 
   -- a value goes, and its number is free again
   pub emptied : (values : List (Option T)) (generations free : List ℕ) (n room g : ℕ) (v : T) → IsPool values generations free room → get_or values n None ≡ Some v → IsPool (set values n None) (set generations n g) (free ++ n ∷ []) room

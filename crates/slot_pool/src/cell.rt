@@ -11,6 +11,9 @@ pub(crate) enum Cell<T> {
     Live(T),
 }
 
+// A tag of one place beside the value, and nothing else.
+const _: () = prove!(size_of::<Cell<[u64; 4]>>() == 40);
+
 impl<T> Cell<T> {
     ghost use Rattle.slot_pool.specs.contracts.cell.Cell.{the_row};
 

@@ -8,3 +8,6 @@ mod pool;
 
 pub use law::moves_with_its_values;
 pub use pool::{Pool, Slot};
+
+#[cfg(test)]
+mod tests;

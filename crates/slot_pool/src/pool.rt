@@ -1,6 +1,6 @@
 //! The pool.
 
-ghost use Rattle.std.specs.Prelude.{◌≡◌, ◌≢◌, ℕ, ◌+◌, ◌%◌, ◌^◌, ◌<◌, ◌≤◌, None, Some, is_some, IsSome, IfOk, OnOk, OnErr};
+ghost use Rattle.std.specs.Prelude.{◌≡◌, ◌≢◌, ℕ, ◌+◌, ◌%◌, ◌^◌, ◌<◌, ◌≤◌, None, Some, is_some, IsSome, IfOk, IsOk, OnOk, OnErr};
 ghost use Rattle.std.specs.Borrow.{sem};
 ghost use Rattle.slot_pool.specs.Pools.{value_at, generation_at, slot_at, IsEmptyPool, SameSlots};
 ghost use Rattle.slot_pool.specs.declared.pool.Slot.{Slot as SlotRecord};
@@ -74,6 +74,7 @@ impl<T> Pool<T> {
     pub fn reserve(&mut self, n: usize) -> Result<(), OutOfMemory>
         ensures room { OnOk result (n ≤ self.new.spare) }
         ensures no_less { OnOk result (self.old.spare ≤ self.new.spare) }
+        ensures enough { n ≤ self.old.spare → IsOk result }
         ensures same { OnOk result (SameSlots self.old self.new) }
         ensures err { OnErr result (self.new ≡ self.old) }
     {

@@ -26,6 +26,9 @@ pub struct Node {
     pub(crate) behind: Option<u32>,
 }
 
+// With its tag, its generation and its number while that is free it takes 52 bytes of a pool.
+const _: () = prove!(size_of::<Node>() == 32);
+
 impl Node {
     /// The entry that stands here.
     pub fn entry(&self) -> &Entry

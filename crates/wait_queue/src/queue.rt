@@ -69,12 +69,16 @@ impl Queue {
         ensures order { self.new.key_first ≡ self.old.key_first }
         ensures spare { pool.new.spare ≡ pool.old.spare + 1 }
     {
-        let node = pool.take(slot);
-        let before = slot_of(pool, node.before);
-        let behind = slot_of(pool, node.behind);
+        let Node {
+            entry,
+            before,
+            behind,
+        } = pool.take(slot);
+        let before = slot_of(pool, before);
+        let behind = slot_of(pool, behind);
         tie_behind(pool, &mut self.first, before, behind);
         tie_before(pool, &mut self.last, behind, before);
-        node.entry
+        entry
     }
 
     /// The first slot, and `None` exactly where the queue is empty.

@@ -9,28 +9,28 @@ use Rattle.wait_queue.proofs.QueuesLemmas.{middle_node, pool_one, same_stands, s
 use Rattle.wait_queue.proofs.RemovalStands.{before_is, behind_is, before_live, behind_live, entry_is, Removes, left_stands, others_stay, slot_gone}
 use Rattle.wait_queue.proofs.queue.Queue.remove.Goals as goal
 
-pub take-node-requires : goal.take-node-requires
-take-node-requires c = ap is_some (middle_node _ _ c.requires.front _ c.requires.entry c.requires.back c.requires.stands)
+pub take-before-requires : goal.take-before-requires
+take-before-requires c = ap is_some (middle_node _ _ c.requires.front _ c.requires.entry c.requires.back c.requires.stands)
 
 pub tie_behind-requires : goal.tie_behind-requires
 tie_behind-requires c =
     let h = c.requires in
-    before_live (value_at c.args.pool.now) (value_at c.take-node.new.self) c.args.self.now h.front c.args.slot h.entry h.back c.take-node.result h.stands c.take-node.ensures.value c.take-node.ensures.others c.slot_of-before.result
-    (before_is (value_at c.args.pool.now) (value_at c.take-node.new.self) c.args.self.now h.front c.args.slot h.entry h.back c.take-node.result h.stands c.take-node.ensures.value c.take-node.ensures.others c.slot_of-before.result c.slot_of-before.ensures)
+    before_live (value_at c.args.pool.now) (value_at c.take-before.new.self) c.args.self.now h.front c.args.slot h.entry h.back c.take-before.result h.stands c.take-before.ensures.value c.take-before.ensures.others c.slot_of-before.result
+    (before_is (value_at c.args.pool.now) (value_at c.take-before.new.self) c.args.self.now h.front c.args.slot h.entry h.back c.take-before.result h.stands c.take-before.ensures.value c.take-before.ensures.others c.slot_of-before.result c.slot_of-before.ensures)
 
 pub tie_before-requires : goal.tie_before-requires
 tie_before-requires c =
     let h = c.requires in
-    behind_live (value_at c.args.pool.now) (value_at c.take-node.new.self) c.args.self.now h.front c.args.slot h.entry h.back c.take-node.result h.stands c.take-node.ensures.value c.take-node.ensures.others (value_at c.tie_behind.new.pool) c.slot_of-before.result c.slot_of-behind.result (with_behind c.slot_of-behind.result)
-    (before_is (value_at c.args.pool.now) (value_at c.take-node.new.self) c.args.self.now h.front c.args.slot h.entry h.back c.take-node.result h.stands c.take-node.ensures.value c.take-node.ensures.others c.slot_of-before.result c.slot_of-before.ensures)
-    (behind_is (value_at c.args.pool.now) (value_at c.take-node.new.self) c.args.self.now h.front c.args.slot h.entry h.back c.take-node.result h.stands c.take-node.ensures.value c.take-node.ensures.others c.slot_of-behind.result c.slot_of-behind.ensures)
+    behind_live (value_at c.args.pool.now) (value_at c.take-before.new.self) c.args.self.now h.front c.args.slot h.entry h.back c.take-before.result h.stands c.take-before.ensures.value c.take-before.ensures.others (value_at c.tie_behind.new.pool) c.slot_of-before.result c.slot_of-behind.result (with_behind c.slot_of-behind.result)
+    (before_is (value_at c.args.pool.now) (value_at c.take-before.new.self) c.args.self.now h.front c.args.slot h.entry h.back c.take-before.result h.stands c.take-before.ensures.value c.take-before.ensures.others c.slot_of-before.result c.slot_of-before.ensures)
+    (behind_is (value_at c.args.pool.now) (value_at c.take-before.new.self) c.args.self.now h.front c.args.slot h.entry h.back c.take-before.result h.stands c.take-before.ensures.value c.take-before.ensures.others c.slot_of-behind.result c.slot_of-behind.ensures)
     c.tie_behind.ensures.tied
 
 -- the removal as its calls tell it, and what stands before and behind the item
-removes : (c : goal.After-result-1) → Removes (value_at c.args.pool.now) (value_at c.take-node.new.self) (value_at c.tie_behind.new.pool) (value_at c.tie_before.new.pool) c.args.self.now (record { key_first = c.args.self.now.key_first; first = c.tie_behind.new.first; last = c.tie_before.new.last }) c.args.slot c.slot_of-before.result c.slot_of-behind.result
+removes : (c : goal.After-tie_before) → Removes (value_at c.args.pool.now) (value_at c.take-before.new.self) (value_at c.tie_behind.new.pool) (value_at c.tie_before.new.pool) c.args.self.now (record { key_first = c.args.self.now.key_first; first = c.tie_behind.new.first; last = c.tie_before.new.last }) c.args.slot c.slot_of-before.result c.slot_of-behind.result
 removes c = record {
-  taken = c.take-node.ensures.gone;
-  kept = c.take-node.ensures.others;
+  taken = c.take-before.ensures.gone;
+  kept = c.take-before.ensures.others;
   one = c.tie_behind.ensures.tied;
   two = c.tie_before.ensures.tied;
   key_first = refl;
@@ -38,14 +38,14 @@ removes c = record {
   last = c.tie_before.ensures.last;
 }
 
-before : (c : goal.After-result-1) (front back : List Item) (e : Entry) → Stands (value_at c.args.pool.now) c.args.self.now (front ++ (c.args.slot, e) ∷ back) → c.slot_of-before.result ≡ last_of None front
-before c front back e h = before_is (value_at c.args.pool.now) (value_at c.take-node.new.self) c.args.self.now front c.args.slot e back c.take-node.result h c.take-node.ensures.value c.take-node.ensures.others c.slot_of-before.result c.slot_of-before.ensures
+before : (c : goal.After-tie_before) (front back : List Item) (e : Entry) → Stands (value_at c.args.pool.now) c.args.self.now (front ++ (c.args.slot, e) ∷ back) → c.slot_of-before.result ≡ last_of None front
+before c front back e h = before_is (value_at c.args.pool.now) (value_at c.take-before.new.self) c.args.self.now front c.args.slot e back c.take-before.result h c.take-before.ensures.value c.take-before.ensures.others c.slot_of-before.result c.slot_of-before.ensures
 
-behind : (c : goal.After-result-1) (front back : List Item) (e : Entry) → Stands (value_at c.args.pool.now) c.args.self.now (front ++ (c.args.slot, e) ∷ back) → c.slot_of-behind.result ≡ first_of back None
-behind c front back e h = behind_is (value_at c.args.pool.now) (value_at c.take-node.new.self) c.args.self.now front c.args.slot e back c.take-node.result h c.take-node.ensures.value c.take-node.ensures.others c.slot_of-behind.result c.slot_of-behind.ensures
+behind : (c : goal.After-tie_before) (front back : List Item) (e : Entry) → Stands (value_at c.args.pool.now) c.args.self.now (front ++ (c.args.slot, e) ∷ back) → c.slot_of-behind.result ≡ first_of back None
+behind c front back e h = behind_is (value_at c.args.pool.now) (value_at c.take-before.new.self) c.args.self.now front c.args.slot e back c.take-before.result h c.take-before.ensures.value c.take-before.ensures.others c.slot_of-behind.result c.slot_of-behind.ensures
 
 -- no slot changes but those of a list as which the queue stood
-stays : (c : goal.After-result-1) (items : List Item) → Stands (value_at c.args.pool.now) c.args.self.now items → (other : Slot) → IsOutside other items → value_at c.tie_before.new.pool other ≡ value_at c.args.pool.now other
+stays : (c : goal.After-tie_before) (items : List Item) → Stands (value_at c.args.pool.now) c.args.self.now items → (other : Slot) → IsOutside other items → value_at c.tie_before.new.pool other ≡ value_at c.args.pool.now other
 stays c items stands other outside =
     let h = c.requires in
     let same : items ≡ h.front ++ (c.args.slot, h.entry) ∷ h.back = same_stands (value_at c.args.pool.now) (pool_one c.args.pool.now) c.args.self.now items _ stands h.stands in
@@ -55,7 +55,7 @@ pub returns-clause-removed : goal.returns-clause-removed
 returns-clause-removed c = λ front back entry h. left_stands _ _ _ _ _ _ _ _ _ (removes c) front entry back h (before c front back entry h) (behind c front back entry h)
 
 pub returns-clause-entry : goal.returns-clause-entry
-returns-clause-entry c = λ front back entry h. entry_is (value_at c.args.pool.now) (value_at c.take-node.new.self) c.args.self.now front c.args.slot entry back c.take-node.result h c.take-node.ensures.value c.take-node.ensures.others
+returns-clause-entry c = λ front back entry h. entry_is (value_at c.args.pool.now) (value_at c.take-before.new.self) c.args.self.now front c.args.slot entry back c.take-before.result h c.take-before.ensures.value c.take-before.ensures.others
 
 pub returns-clause-rest : goal.returns-clause-rest
 returns-clause-rest c = stays c
