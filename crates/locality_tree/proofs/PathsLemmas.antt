@@ -322,6 +322,7 @@ module _ (law : Entries) (parts : Parts) (p : Path) (pairs : List Pair) (l : Lea
   pub near_step : (slot : Slot) (entry : Entry) (behind : Option Slot) → p.at_near ≡ Some slot → entry_at map_of slot ≡ Some entry → IsBehind map_of p.near.now slot behind → FirstTest true → Gives pairs (Some (entry, 0)) (Leads (record p { at_near = behind }))
   near_step slot entry behind here entry_is behind_is first =
       let h = head law map_of p.near.now slot l.near (subst (λ (x : Option Slot). IsTail map_of p.near.now x l.near) here l.at_near) in
+      let behind_at : behind ≡ first_of h.back None = behind_is h.done h.back h.entry h.stands in
       let is : near_pairs ≡ (h.entry, 0) ∷ unskipped nothing 0 h.back = ap (unskipped nothing 0) h.is in
       let s = pick_near pairs (h.entry, 0) (unskipped nothing 0 h.back) rack_pairs cluster_pairs (subst (λ (x : List Pair). AreLevels x rack_pairs cluster_pairs) is levels) (subst (λ (x : List Pair). IsRanking pairs (x ++ (rack_pairs ++ cluster_pairs))) is l.ranking) (subst (λ (x : List Pair). is_best (prio x) (prio rack_pairs) (prio cluster_pairs) ≡ true) is (first_test true first)) in
       subst (λ (ps : List Pair). Gives ps (Some (entry, 0)) (Leads (record p { at_near = behind }))) (sym s.is) (
@@ -330,7 +331,7 @@ module _ (law : Entries) (parts : Parts) (p : Path) (pairs : List Pair) (l : Lea
           near = h.back;
           rack = l.rack;
           cluster = l.cluster;
-          at_near = subst (λ (x : Option Slot). IsTail map_of p.near.now x h.back) (sym (behind_is h.done h.back h.entry h.stands)) h.onward;
+          at_near = subst (λ (x : Option Slot). IsTail map_of p.near.now x h.back) (sym behind_at) h.onward;
           at_rack = l.at_rack;
           at_cluster = l.at_cluster;
           rack_stops = l.rack_stops;
@@ -343,9 +344,10 @@ module _ (law : Entries) (parts : Parts) (p : Path) (pairs : List Pair) (l : Lea
       Gives pairs (Some (entry, 1)) (Leads (record p { at_rack = next }))
   rack_step slot entry behind next here entry_is behind_is skips first second =
       let h = head law map_of p.rack.now slot l.rack (subst (λ (x : Option Slot). IsTail map_of p.rack.now x l.rack) here l.at_rack) in
+      let behind_at : behind ≡ first_of h.back None = behind_is h.done h.back h.entry h.stands in
       let stops : at_rack_skips h.entry ≡ false = subst (λ (x : List Item). Stops at_rack_skips x) h.is l.rack_stops in
       let is : rack_pairs ≡ (h.entry, 1) ∷ unskipped at_rack_skips 1 h.back = ap (unskipped at_rack_skips 1) h.is ∙ unskipped_head at_rack_skips 1 (slot, h.entry) h.back stops in
-      let k = skips h.back (subst (λ (x : Option Slot). IsTail map_of p.rack.now x h.back) (sym (behind_is h.done h.back h.entry h.stands)) h.onward) in
+      let k = skips h.back (subst (λ (x : Option Slot). IsTail map_of p.rack.now x h.back) (sym behind_at) h.onward) in
       let s = pick_rack pairs (h.entry, 1) near_pairs (unskipped at_rack_skips 1 h.back) cluster_pairs (subst (λ (x : List Pair). AreLevels near_pairs x cluster_pairs) is levels) (subst (λ (x : List Pair). IsRanking pairs (near_pairs ++ (x ++ cluster_pairs))) is l.ranking) (subst (λ (x : List Pair). is_best (prio near_pairs) (prio x) (prio cluster_pairs) ≡ false) is (first_test false first)) (subst (λ (x : List Pair). is_best (prio x) None (prio cluster_pairs) ≡ true) is (second_test true second)) in
       subst (λ (ps : List Pair). Gives ps (Some (entry, 1)) (Leads (record p { at_rack = next }))) (sym s.is) (
         ap (λ (e : Entry). Some (e, 1)) (same_entry (entry_at map_of slot) entry h.entry entry_is h.here),
@@ -366,9 +368,10 @@ module _ (law : Entries) (parts : Parts) (p : Path) (pairs : List Pair) (l : Lea
       Gives pairs (Some (entry, 2)) (Leads (record p { at_cluster = next }))
   cluster_step slot entry behind next here entry_is behind_is skips first second =
       let h = head law map_of p.cluster.now slot l.cluster (subst (λ (x : Option Slot). IsTail map_of p.cluster.now x l.cluster) here l.at_cluster) in
+      let behind_at : behind ≡ first_of h.back None = behind_is h.done h.back h.entry h.stands in
       let stops : at_cluster_skips h.entry ≡ false = subst (λ (x : List Item). Stops at_cluster_skips x) h.is l.cluster_stops in
       let is : cluster_pairs ≡ (h.entry, 2) ∷ unskipped at_cluster_skips 2 h.back = ap (unskipped at_cluster_skips 2) h.is ∙ unskipped_head at_cluster_skips 2 (slot, h.entry) h.back stops in
-      let k = skips h.back (subst (λ (x : Option Slot). IsTail map_of p.cluster.now x h.back) (sym (behind_is h.done h.back h.entry h.stands)) h.onward) in
+      let k = skips h.back (subst (λ (x : Option Slot). IsTail map_of p.cluster.now x h.back) (sym behind_at) h.onward) in
       let s = pick_cluster pairs (h.entry, 2) near_pairs rack_pairs (unskipped at_cluster_skips 2 h.back) (subst (λ (x : List Pair). AreLevels near_pairs rack_pairs x) is levels) (subst (λ (x : List Pair). IsRanking pairs (near_pairs ++ (rack_pairs ++ x))) is l.ranking) (subst (λ (x : List Pair). is_best (prio near_pairs) (prio rack_pairs) (prio x) ≡ false) is (first_test false first)) (subst (λ (x : List Pair). is_best (prio rack_pairs) None (prio x) ≡ false) is (second_test false second)) in
       subst (λ (ps : List Pair). Gives ps (Some (entry, 2)) (Leads (record p { at_cluster = next }))) (sym s.is) (
         ap (λ (e : Entry). Some (e, 2)) (same_entry (entry_at map_of slot) entry h.entry entry_is h.here),

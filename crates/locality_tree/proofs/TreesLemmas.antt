@@ -11,7 +11,7 @@ use Rattle.wait_queue.specs.declared.node.Entry.{Entry}
 use Rattle.wait_queue.specs.declared.node.Node.{Node}
 use Rattle.wait_queue.specs.declared.queue.Queue.{Queue}
 use Rattle.locality_tree.specs.declared.layout.Layout.{Layout}
-use Rattle.locality_tree.specs.Trees.{UnitState, TreeRecord, most_units, no_unit, idle, with_idle, unit_at, is_admitted, with_unit, cluster_place, place_count, refreshed, MayWait}
+use Rattle.locality_tree.specs.Trees.{UnitState, TreeRecord, all_units, no_unit, idle, with_idle, unit_at, is_admitted, with_unit, cluster_place, place_count, refreshed, MayWait}
 use Rattle.locality_tree.specs.Layouts.{Slots, slots_of, slot_in, with_vacant, number_of, entry_in, AreKeptIn, EntryFitsIn, TurnedIn, LeftIn, Admits, state_of, states_in, tree_record, IsOwn, IsTree}
 use Rattle.locality_tree.proofs.LayoutsLemmas.{read_same, unit_inside, listed}
 use Rattle.locality_tree.proofs.VacantLemmas.{none_in, none_at, vacant_reads, vacant_count}
@@ -257,9 +257,9 @@ no_states at last zero = refl
 no_states at last (suc count) = ap (λ (us : List UnitState). no_unit ∷ us) (no_states at last count)
 
 -- the tree without a job
-module _ (racks : List ℕ) (p : Layout) (is : slots_of p.slots.items ≡ replicate most_units []) where
+module _ (racks : List ℕ) (p : Layout) (is : slots_of p.slots.items ≡ replicate all_units []) where
   no_entry : (n k : ℕ) (e : Entry) → entry_in (value_at p.pool) (slot_in (slots_of p.slots.items) n k) ≡ Some e → ⊥
-  no_entry n k e h = none_some (entry_in (value_at p.pool) (slot_in (slots_of p.slots.items) n k)) e (ap (λ (s : Slots). entry_in (value_at p.pool) (slot_in s n k)) is ∙ ap (λ (r : List (Option Slot)). entry_in (value_at p.pool) (get_or r k None)) (none_in most_units n)) h
+  no_entry n k e h = none_some (entry_in (value_at p.pool) (slot_in (slots_of p.slots.items) n k)) e (ap (λ (s : Slots). entry_in (value_at p.pool) (slot_in s n k)) is ∙ ap (λ (r : List (Option Slot)). entry_in (value_at p.pool) (get_or r k None)) (none_in all_units n)) h
 
   pub tree_started : AreKeptIn p → length racks ≤ 256 → ((m : ℕ) → m < length racks → get_or racks m 0 < 64) → length p.queues.items ≡ place_count racks → IsTree racks p
   tree_started kept few low count = record {
@@ -267,13 +267,13 @@ module _ (racks : List ℕ) (p : Layout) (is : slots_of p.slots.items ≡ replic
     machines = few;
     in_racks = low;
     queue_count = count;
-    unit_count = sym (length-map p.slots.items (λ v. v.items)) ∙ ap length is ∙ length-replicate most_units [];
+    unit_count = sym (length-map p.slots.items (λ v. v.items)) ∙ ap length is ∙ length-replicate all_units [];
     one_entry = λ n k e h. absurd (no_entry n k e h);
     turns = λ n m e f h g q. absurd (no_entry n (cluster_place racks) e h);
   }
 
-  pub started_view : tree_record racks p ≡ record { racks = racks; units = replicate most_units no_unit }
-  started_view = ap (with_units racks) (by_slots (value_at p.pool) (cluster_place racks) p.slots.items ∙ ap (map (state_of (value_at p.pool) (cluster_place racks))) is ∙ no_states (value_at p.pool) (cluster_place racks) most_units)
+  pub started_view : tree_record racks p ≡ record { racks = racks; units = replicate all_units no_unit }
+  started_view = ap (with_units racks) (by_slots (value_at p.pool) (cluster_place racks) p.slots.items ∙ ap (map (state_of (value_at p.pool) (cluster_place racks))) is ∙ no_states (value_at p.pool) (cluster_place racks) all_units)
 
 -- The tree with a job more: no unit's entry changes.
 module _ (racks : List ℕ) (p p2 : Layout) (first units : ℕ) (t : IsTree racks p) (a : Admits p p2 first units)

@@ -10,7 +10,7 @@ use Rattle.slot_pool.specs.declared.pool.Slot.{Slot}
 use Rattle.wait_queue.specs.declared.node.Node.{Node}
 use Rattle.wait_queue.specs.declared.queue.Queue.{Queue}
 use Rattle.locality_tree.specs.declared.unit_set.UnitSet.{UnitSet}
-use Rattle.locality_tree.specs.Trees.{most_units}
+use Rattle.locality_tree.specs.Trees.{all_units}
 use Rattle.locality_tree.specs.UnitSets.{has_unit, no_set}
 use Rattle.locality_tree.specs.Layouts.{Slots, slots_of, slot_in, with_vacant, vacancies, IsEmptyQueue, AreKept}
 use Rattle.locality_tree.proofs.MembersLemmas.{all_get}
@@ -130,6 +130,6 @@ kept_empty at spare queues slots sets count is empty sets_count none =
 pub last_unit : (left rest : List (Vec (Option Slot))) (v : Vec (Option Slot)) (y : List (Option Slot)) → left ≡ rest ++ v ∷ [] → slots_of left ≡ replicate (length left) y → (slots_of rest ≡ replicate (length rest) y) × (v.items ≡ y)
 last_unit left rest v y e h = same_from_push (slots_of rest) (replicate (length rest) y) v.items y (sym (map_push (λ (u : Vec (Option Slot)). u.items) rest v) ∙ sym (ap slots_of e) ∙ h ∙ ap (λ (n : ℕ). replicate n y) (ap length e ∙ length_push rest v) ∙ sym (replicate_more (length rest) y))
 
-pub units_are : most_units ≡ 2048
-unfolding most_units
+pub units_are : all_units ≡ 2048
+unfolding all_units
 units_are = refl

@@ -5,6 +5,7 @@ use Rattle.std.specs.List.{sum_by, count_by}
 use Rattle.std.specs.Option.{is_none}
 use Rattle.std.proofs.Common.{get_or, set}
 use Rattle.fuxi_terms.proofs.Members.{In}
+use Rattle.fuxi_terms.specs.Limits.{most_jobs, most_units, most_machines, most_racks}
 use Rattle.slot_pool.specs.Pools.{value_at, SameSlots}
 use Rattle.slot_pool.specs.declared.pool.Slot.{Slot}
 use Rattle.wait_queue.specs.declared.node.Entry.{Entry}
@@ -13,7 +14,7 @@ use Rattle.wait_queue.specs.declared.queue.Queue.{Queue}
 use Rattle.wait_queue.specs.Queues.{Item, Stands, entry_at}
 use Rattle.locality_tree.specs.declared.layout.Layout.{Layout}
 use Rattle.locality_tree.specs.declared.unit_set.UnitSet.{UnitSet}
-use Rattle.locality_tree.specs.Trees.{UnitState, TreeRecord, most_units, place_count, cluster_place}
+use Rattle.locality_tree.specs.Trees.{UnitState, TreeRecord, unit_number, all_units, place_count, cluster_place}
 use Rattle.locality_tree.specs.UnitSets.{has_unit, no_set}
 
 -- the slots of the units, by the unit's number and then by place
@@ -35,10 +36,10 @@ with_vacant slots first places zero = slots
 with_vacant slots first places (suc n) = set (with_vacant slots first places n) (first + n) (replicate places None)
 
 abbrev pub number_of : Entry → ℕ
-number_of e = 8 * e.app.0 + e.unit.0
+number_of e = unit_number e.app.0 e.unit.0
 
 abbrev pub HasNumber : Entry → Type 0
-HasNumber e = (e.app.0 < 256) × (e.unit.0 < 8)
+HasNumber e = (e.app.0 < most_jobs) × (e.unit.0 < most_units)
 
 -- a queue by priority with no entry, whatever pool it stands in
 abbrev pub IsEmptyQueue : Queue → Type 0
@@ -141,9 +142,9 @@ IsOwn at slots last n e = (n ≡ number_of e) × (entry_in at (slot_in slots n l
 -- What is always so of a tree.
 pub record IsTree (racks : List ℕ) (p : Layout) : Type 0 where
   pub kept : AreKeptIn p
-  pub machines : length racks ≤ 256
-  pub in_racks : (m : ℕ) → m < length racks → get_or racks m 0 < 64
+  pub machines : length racks ≤ most_machines
+  pub in_racks : (m : ℕ) → m < length racks → get_or racks m 0 < most_racks
   pub queue_count : length p.queues.items ≡ place_count racks
-  pub unit_count : length p.slots.items ≡ most_units
+  pub unit_count : length p.slots.items ≡ all_units
   pub one_entry : (n k : ℕ) (e : Entry) → entry_in (value_at p.pool) (slot_in (slots_of p.slots.items) n k) ≡ Some e → IsOwn (value_at p.pool) (slots_of p.slots.items) (cluster_place racks) n e
   pub turns : (n m : ℕ) (e f : Entry) → entry_in (value_at p.pool) (slot_in (slots_of p.slots.items) n (cluster_place racks)) ≡ Some e → entry_in (value_at p.pool) (slot_in (slots_of p.slots.items) m (cluster_place racks)) ≡ Some f → e.turn ≡ f.turn → n ≡ m

@@ -3,49 +3,54 @@ use Rattle.std.specs.Prelude.{◌≡◌, ℕ, zero, suc, ◌+◌, ◌*◌, ◌<�
 use Rattle.std.proofs.Common.{get_or, set}
 use Rattle.std.specs.List.{AllByRecursion}
 use Rattle.fuxi_terms.specs.Cluster.{ClusterRecord, JobRecord}
+use Rattle.fuxi_terms.specs.Limits.{most_jobs, most_units, most_racks}
 use Rattle.fuxi_terms.proofs.Members.{In}
 use Rattle.wait_queue.specs.declared.node.Entry.{Entry}
 
--- A unit: the entry with which it waits, and in which queues it stands, by their places: those of the machines, those of 64 racks, and that of the cluster.
+-- A unit: the entry with which it waits, and in which queues it stands, by their places.
 pub record UnitState : Type 0 where
   pub entry : Option Entry
   pub stands : List Bool
 
--- The rack of each machine, and the units by eight times the job's number and the unit's. A unit that is not admitted has no place.
+-- The rack of each machine, and the units by their numbers. A unit that is not admitted has no place.
 pub record TreeRecord : Type 0 where
   pub racks : List ℕ
   pub units : List UnitState
 
--- as many units as 256 jobs of 8 can have
-unfoldable pub most_units : ℕ
-most_units = 2048
+-- the number of a unit among all that jobs can have, and how many these are
+abbrev pub unit_number : ℕ → ℕ → ℕ
+unit_number a u = most_units * a + u
+
+unfoldable pub all_units : ℕ
+all_units = most_jobs * most_units
 
 abbrev pub no_unit : UnitState
 no_unit = record { entry = None; stands = [] }
 
-abbrev pub place_count : List ℕ → ℕ
-place_count racks = length racks + 65
-
+-- the place of a machine's queue is its number; then come those of the racks, whether there or not, and of the cluster
 abbrev pub rack_place : List ℕ → ℕ → ℕ
 rack_place racks r = length racks + r
 
 abbrev pub cluster_place : List ℕ → ℕ
-cluster_place racks = length racks + 64
+cluster_place racks = length racks + most_racks
+
+abbrev pub place_count : List ℕ → ℕ
+place_count racks = cluster_place racks + 1
 
 abbrev pub unit_at : TreeRecord → ℕ → ℕ → UnitState
-unit_at t a u = get_or t.units (8 * a + u) no_unit
+unit_at t a u = get_or t.units (unit_number a u) no_unit
 
 abbrev pub is_admitted : TreeRecord → ℕ → ℕ → Bool
 is_admitted t a u = nat_lt 0 (length (unit_at t a u).stands)
 
 abbrev pub with_unit : TreeRecord → Entry → UnitState → TreeRecord
-with_unit t e state = record t { units = set t.units (8 * e.app.0 + e.unit.0) state }
+with_unit t e state = record t { units = set t.units (unit_number e.app.0 e.unit.0) state }
 
 abbrev pub racks_of : ClusterRecord → List ℕ
 racks_of c = map (λ m. m.rack) c.machines
 
 abbrev pub started : ClusterRecord → TreeRecord
-started c = record { racks = racks_of c; units = replicate most_units no_unit }
+started c = record { racks = racks_of c; units = replicate all_units no_unit }
 
 -- a unit that stands in none of so many queues
 abbrev pub idle : ℕ → UnitState
@@ -57,7 +62,7 @@ with_idle units first places zero = units
 with_idle units first places (suc n) = set (with_idle units first places n) (first + n) (idle places)
 
 abbrev pub with_job : TreeRecord → JobRecord → TreeRecord
-with_job t j = record t { units = with_idle t.units (8 * j.number) (place_count t.racks) (length j.units) }
+with_job t j = record t { units = with_idle t.units (most_units * j.number) (place_count t.racks) (length j.units) }
 
 -- the unit stands in this queue or does not
 abbrev pub with_stand : TreeRecord → Entry → ℕ → Bool → TreeRecord
@@ -72,10 +77,10 @@ refreshed t e false = with_unit t e (idle (place_count t.racks))
 
 -- Where the unit waits already it does so with this entry, and no other unit waits with its turn.
 pub record MayWait (t : TreeRecord) (e : Entry) : Type 0 where
-  pub app : e.app.0 < 256
-  pub unit : e.unit.0 < 8
+  pub app : e.app.0 < most_jobs
+  pub unit : e.unit.0 < most_units
   pub same : (f : Entry) → (unit_at t e.app.0 e.unit.0).entry ≡ Some f → f ≡ e
-  pub alone : (n : ℕ) (f : Entry) → (get_or t.units n no_unit).entry ≡ Some f → f.turn ≡ e.turn → n ≡ 8 * e.app.0 + e.unit.0
+  pub alone : (n : ℕ) (f : Entry) → (get_or t.units n no_unit).entry ≡ Some f → f.turn ≡ e.turn → n ≡ unit_number e.app.0 e.unit.0
 
 -- an entry with a level
 abbrev pub Pair : Type 0

@@ -3,18 +3,16 @@
 ghost use Rattle.std.specs.Prelude.{◌≡◌, ℕ, ◌+◌, ◌*◌, ◌^◌, ◌<◌, ◌≤◌, [], length, replicate, None, Some, is_some, true, false, IfOk, OnOk, OnErr};
 ghost use Rattle.std.specs.List.{AllByRecursion};
 ghost use Rattle.std.proofs.Common.{get_or};
-ghost use Rattle.locality_tree.specs.Trees.{most_units};
+ghost use Rattle.locality_tree.specs.Trees.{all_units};
 ghost use Rattle.locality_tree.specs.UnitSets.{has_unit, no_set};
 ghost use Rattle.locality_tree.specs.Layouts.{slots_of, slot_in, with_slot, with_vacant, number_of, HasNumber, IsEmptyQueue, AreKeptIn, EntryFitsIn, TurnedIn, LeftIn, Admits, IsNoted};
 
 use crate::unit_set::UnitSet;
 use fuxi_terms::OutOfMemory;
+use fuxi_terms::limits::{MOST_JOBS, MOST_UNITS};
 use slot_pool::{Pool, Slot};
 use std::alloc::Global;
 use wait_queue::{Entry, Node, Queue, orders, places, standing_lists};
-
-/// As many units as 256 jobs of 8 can have.
-const MOST_UNITS: usize = 2048;
 
 /// The slots of one unit, by place.
 pub(crate) type UnitSlots = Vec<Option<Slot>>;
@@ -26,7 +24,7 @@ pub(crate) struct Layout {
     pub(crate) queues: Vec<Queue>,
     /// By the unit's number.
     pub(crate) slots: Vec<UnitSlots>,
-    /// By place: the units that stand there. They say what `slots` says, in a hundredth of the room.
+    /// By place: the units that stand there. They say in a bit what `slots` says in a slot.
     pub(crate) sets: Vec<UnitSet>,
 }
 
@@ -35,7 +33,7 @@ pub(crate) fn number_of(entry: &Entry) -> usize
     requires { HasNumber entry.now }
     ensures { result ≡ number_of entry.now }
 {
-    8 * entry.app.0 as usize + entry.unit.0 as usize
+    MOST_UNITS * entry.app.0 as usize + entry.unit.0 as usize
 }
 
 /// The slot of a unit at a place.
@@ -108,21 +106,14 @@ impl Layout {
     pub(crate) fn start(alloc: Global, count: usize) -> Result<Layout, OutOfMemory>
         ensures kept { IfOk result AreKeptIn }
         ensures count { IfOk result (λ layout. length layout.queues.items ≡ count) }
-        ensures slots { IfOk result (λ layout. slots_of layout.slots.items ≡ replicate most_units []) }
+        ensures slots { IfOk result (λ layout. slots_of layout.slots.items ≡ replicate all_units []) }
     {
         Ok(Layout {
             pool: Pool::with_room(alloc, 0)?,
             queues: empty_queues(alloc, count)?,
-            slots: vacant_units(alloc, MOST_UNITS, 0)?,
+            slots: vacant_units(alloc, MOST_JOBS as usize * MOST_UNITS, 0)?,
             sets: Vec::from_elem(alloc, UnitSet::new(), count)?,
         })
-    }
-
-    /// How many places there are.
-    pub(crate) fn places(&self) -> usize
-        ensures { result ≡ length self.now.queues.items }
-    {
-        self.queues.len()
     }
 
     /// The unit stands at a place where it did not.

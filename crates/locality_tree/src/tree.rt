@@ -9,13 +9,11 @@ use crate::layout::Layout;
 use crate::path::Path;
 use cluster_desc::Cluster;
 use fuxi_terms::OutOfMemory;
+use fuxi_terms::limits::{MOST_RACKS, MOST_UNITS};
 use schedule_unit::{Job, MachineNo, RackNo};
 use std::alloc::Global;
 use std::marker::Model;
 use wait_queue::{Entry, standing_lists};
-
-/// A rack has a number below this, so that there are as many queues for racks.
-const MOST_RACKS: usize = 64;
 
 /// The units that wait, and the queues that they stand in. Contracts see each machine's rack, and of each
 /// unit the entry with which it waits and in which of the queues it stands.
@@ -55,7 +53,7 @@ impl Tree {
         ensures { IfOk result (λ tree. tree ≡ started cluster.now) }
     {
         let racks = racks_of(alloc, cluster)?;
-        let places = racks.len() + MOST_RACKS + 1;
+        let places = racks.len() + MOST_RACKS as usize + 1;
         Ok(Tree {
             racks,
             layout: Layout::start(alloc, places)?,
@@ -71,7 +69,7 @@ impl Tree {
         ensures err { OnErr result (self.new ≡ self.old) }
     {
         standing_lists();
-        let first = 8 * job.app().0 as usize;
+        let first = MOST_UNITS * job.app().0 as usize;
         self.layout.admit(alloc, first, job.units() as usize)
     }
 
@@ -83,7 +81,7 @@ impl Tree {
         ensures { self.new ≡ refreshed self.old entry.now waits }
     {
         if waits {
-            let place = self.racks.len() + MOST_RACKS;
+            let place = self.racks.len() + MOST_RACKS as usize;
             self.layout.turn_to(place, entry, true);
             return;
         }

@@ -12,7 +12,7 @@ turn_to-requires-clause-fits c =
     let admitted = subst (λ (t : TreeRecord). IsTrue (is_admitted t e.app.0 e.unit.0)) (sym c.self.view_is) c.requires.admitted in
     let may = subst (λ (t : TreeRecord). MayWait t e) (sym c.self.view_is) c.requires.entry in
     let count = c.self.invariant.queue_count in
-    may_wait_fits racks c.self.inside.layout c.self.invariant e admitted may (c.len-place.result + 64) (omega arith)
+    may_wait_fits racks c.self.inside.layout c.self.invariant e admitted may (c.len.result + 64) (omega arith)
 
 pub invariant_of-self : goal.invariant_of-self
 invariant_of-self c =
@@ -22,7 +22,7 @@ invariant_of-self c =
     let admitted = subst (λ (t : TreeRecord). IsTrue (is_admitted t e.app.0 e.unit.0)) (sym c.self.view_is) c.requires.admitted in
     let may = subst (λ (t : TreeRecord). MayWait t e) (sym c.self.view_is) c.requires.entry in
     let count = c.self.invariant.queue_count in
-    let place : c.len-place.result + 64 ≡ cluster_place racks = omega arith in
+    let place : c.len.result + 64 ≡ cluster_place racks = omega arith in
     let turned = subst (λ (k : ℕ). TurnedIn l c.turn_to.new.self e k true) place c.turn_to.ensures.turned in
     let fits = may_wait_fits racks l c.self.invariant e admitted may (cluster_place racks) (omega arith) in
     tree_begun racks l c.turn_to.new.self e c.self.invariant c.turn_to.ensures.kept c.turn_to.ensures.count turned fits.inside may
@@ -35,7 +35,7 @@ returns-then-waits c =
     let admitted = subst (λ (t : TreeRecord). IsTrue (is_admitted t e.app.0 e.unit.0)) (sym c.self.view_is) c.requires.admitted in
     let may = subst (λ (t : TreeRecord). MayWait t e) (sym c.self.view_is) c.requires.entry in
     let count = c.self.invariant.queue_count in
-    let place : c.len-place.result + 64 ≡ cluster_place racks = omega arith in
+    let place : c.len.result + 64 ≡ cluster_place racks = omega arith in
     let turned = subst (λ (k : ℕ). TurnedIn l c.turn_to.new.self e k true) place c.turn_to.ensures.turned in
     let fits = may_wait_fits racks l c.self.invariant e admitted may (cluster_place racks) (omega arith) in
     begun_view racks l c.turn_to.new.self e c.self.invariant c.turn_to.ensures.kept c.turn_to.ensures.count turned fits.inside

@@ -1,11 +1,11 @@
 use Rattle.std.proofs.Common.{◌≡◌, ◌<◌, ◌≤◌, ℕ, List, length, get_or, replicate, sym, ap, subst, ◌∙◌, arith}
-use Rattle.locality_tree.specs.Trees.{TreeRecord, most_units, no_unit, place_count}
+use Rattle.locality_tree.specs.Trees.{TreeRecord, all_units, no_unit, place_count}
 use Rattle.locality_tree.proofs.ClusterLemmas.{few_racks, low_racks}
 use Rattle.locality_tree.proofs.TreesLemmas.{tree_started, started_view}
 use Rattle.locality_tree.proofs.tree.Tree.start.Goals as goal
 
 abbrev with_none : List ℕ → TreeRecord
-with_none racks = record { racks = racks; units = replicate most_units no_unit }
+with_none racks = record { racks = racks; units = replicate all_units no_unit }
 
 pub invariant_of-result : goal.invariant_of-result
 invariant_of-result c =
