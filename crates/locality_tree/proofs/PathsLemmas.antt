@@ -15,7 +15,7 @@ use Rattle.locality_tree.specs.declared.path.Path.{Path}
 use Rattle.locality_tree.specs.declared.unit_set.UnitSet.{UnitSet}
 use Rattle.locality_tree.specs.Trees.{Pair, ranks_before, IsRanked}
 use Rattle.locality_tree.specs.Layouts.{Slots, HasNumber, AreKept, IsQueueAt}
-use Rattle.locality_tree.specs.Paths.{is_in_either, nothing, unskipped, Stops, IsTail, HasTail, Passed, SkipsTo, priority_in, at_most, is_best, IsRanking, Leads, Gives}
+use Rattle.locality_tree.specs.Paths.{is_in_either, nothing, unskipped, Stops, IsTail, HasTail, Passed, SkipsTo, priority_in, at_most, is_best, IsRanking, pairs_of, Leads, Gives}
 use Rattle.locality_tree.proofs.MembersLemmas.{in_right, in_append, in_here, all_in}
 use Rattle.locality_tree.proofs.QueueLaws.{Entries, Parts, Rises, member_entry, live, same_entry, same_slot, none_some}
 use Rattle.locality_tree.proofs.RanksLemmas.{by_level, by_priority, by_order, head_most, FirstLeft, first_left, none_left}
@@ -263,6 +263,28 @@ whole_tail at spare queues slots sets place q o kept is queued first =
     let h : IsQueueAt at q slots place (kept.lists place) = subst (λ (r : Queue). IsQueueAt at r slots place (kept.lists place)) (sym is) (kept.queues_stand place q queued) in
     record { done = []; stands = h.stands; by_priority = h.by_priority; here = first at (kept.lists place) h.stands; numbers = h.numbers }
 
+-- a path at the beginning of its queues
+pub leads_whole : (p : Path) (pairs : List Pair) (near rack cluster : List Item) (near_set rack_set : UnitSet) → p.near_set.now ≡ near_set → p.rack_set.now ≡ rack_set → IsTail (value_at p.pool.now) p.near.now p.at_near near →
+    SkipsTo (value_at p.pool.now) p.rack.now (is_in_either p.near_set.now p.near_set.now) rack p.at_rack → SkipsTo (value_at p.pool.now) p.cluster.now (is_in_either p.near_set.now p.rack_set.now) cluster p.at_cluster → IsRanking pairs (pairs_of near_set rack_set near rack cluster) → Leads p pairs
+leads_whole p pairs near rack cluster near_set rack_set near_is rack_is n r k ranking = record {
+  near = near;
+  rack = r.passed.left;
+  cluster = k.passed.left;
+  at_near = n;
+  at_rack = r.passed.is_tail;
+  at_cluster = k.passed.is_tail;
+  rack_stops = r.stops;
+  cluster_stops = k.stops;
+  ranking =
+      subst (λ (ps : List Pair). IsRanking pairs (unskipped nothing 0 near ++ (ps ++ unskipped (is_in_either p.near_set.now p.rack_set.now) 2 k.passed.left))) (r.passed.same 1)
+      (subst (λ (ps : List Pair). IsRanking pairs (unskipped nothing 0 near ++ (unskipped (is_in_either p.near_set.now p.near_set.now) 1 rack ++ ps))) (k.passed.same 2)
+      (subst (λ (s : UnitSet). IsRanking pairs (pairs_of p.near_set.now s near rack cluster)) (sym rack_is) (subst (λ (s : UnitSet). IsRanking pairs (pairs_of s rack_set near rack cluster)) (sym near_is) ranking)));
+}
+
+-- an answer that is the first pair, and a path that leads over the others
+gives_first : (pairs : List Pair) (b : Pair) (others : List Pair) (answer : Option Pair) (IsLeft : List Pair → Type 0) → FirstLeft pairs b others → answer ≡ Some b → ((rest : List Pair) → IsRanking rest others → IsLeft rest) → Gives pairs answer IsLeft
+gives_first pairs b others answer IsLeft f same left = subst (λ (ps : List Pair). Gives ps answer IsLeft) (sym f.is) (same, left f.rest f.ranking)
+
 module _ (law : Entries) (parts : Parts) (p : Path) (pairs : List Pair) (l : Leads p pairs) where
   abbrev pub map_of : Slot → Option Node
   map_of = value_at p.pool.now
@@ -324,21 +346,20 @@ module _ (law : Entries) (parts : Parts) (p : Path) (pairs : List Pair) (l : Lea
       let h = head law map_of p.near.now slot l.near (subst (λ (x : Option Slot). IsTail map_of p.near.now x l.near) here l.at_near) in
       let behind_at : behind ≡ first_of h.back None = behind_is h.done h.back h.entry h.stands in
       let is : near_pairs ≡ (h.entry, 0) ∷ unskipped nothing 0 h.back = ap (unskipped nothing 0) h.is in
-      let s = pick_near pairs (h.entry, 0) (unskipped nothing 0 h.back) rack_pairs cluster_pairs (subst (λ (x : List Pair). AreLevels x rack_pairs cluster_pairs) is levels) (subst (λ (x : List Pair). IsRanking pairs (x ++ (rack_pairs ++ cluster_pairs))) is l.ranking) (subst (λ (x : List Pair). is_best (prio x) (prio rack_pairs) (prio cluster_pairs) ≡ true) is (first_test true first)) in
-      subst (λ (ps : List Pair). Gives ps (Some (entry, 0)) (Leads (record p { at_near = behind }))) (sym s.is) (
-        ap (λ (e : Entry). Some (e, 0)) (same_entry (entry_at map_of slot) entry h.entry entry_is h.here),
-        record {
-          near = h.back;
-          rack = l.rack;
-          cluster = l.cluster;
-          at_near = subst (λ (x : Option Slot). IsTail map_of p.near.now x h.back) (sym behind_at) h.onward;
-          at_rack = l.at_rack;
-          at_cluster = l.at_cluster;
-          rack_stops = l.rack_stops;
-          cluster_stops = l.cluster_stops;
-          ranking = s.ranking;
-        },
-      )
+      gives_first pairs (h.entry, 0) (unskipped nothing 0 h.back ++ (rack_pairs ++ cluster_pairs)) (Some (entry, 0)) (Leads (record p { at_near = behind }))
+      (pick_near pairs (h.entry, 0) (unskipped nothing 0 h.back) rack_pairs cluster_pairs (subst (λ (x : List Pair). AreLevels x rack_pairs cluster_pairs) is levels) (subst (λ (x : List Pair). IsRanking pairs (x ++ (rack_pairs ++ cluster_pairs))) is l.ranking) (subst (λ (x : List Pair). is_best (prio x) (prio rack_pairs) (prio cluster_pairs) ≡ true) is (first_test true first)))
+      (ap (λ (e : Entry). Some (e, 0)) (same_entry (entry_at map_of slot) entry h.entry entry_is h.here))
+      (λ rest ranking. record {
+        near = h.back;
+        rack = l.rack;
+        cluster = l.cluster;
+        at_near = subst (λ (x : Option Slot). IsTail map_of p.near.now x h.back) (sym behind_at) h.onward;
+        at_rack = l.at_rack;
+        at_cluster = l.at_cluster;
+        rack_stops = l.rack_stops;
+        cluster_stops = l.cluster_stops;
+        ranking = ranking;
+      })
 
   pub rack_step : (slot : Slot) (entry : Entry) (behind next : Option Slot) → p.at_rack ≡ Some slot → entry_at map_of slot ≡ Some entry → IsBehind map_of p.rack.now slot behind → ((tail : List Item) → IsTail map_of p.rack.now behind tail → SkipsTo map_of p.rack.now at_rack_skips tail next) → FirstTest false → SecondTest true →
       Gives pairs (Some (entry, 1)) (Leads (record p { at_rack = next }))
@@ -348,21 +369,20 @@ module _ (law : Entries) (parts : Parts) (p : Path) (pairs : List Pair) (l : Lea
       let stops : at_rack_skips h.entry ≡ false = subst (λ (x : List Item). Stops at_rack_skips x) h.is l.rack_stops in
       let is : rack_pairs ≡ (h.entry, 1) ∷ unskipped at_rack_skips 1 h.back = ap (unskipped at_rack_skips 1) h.is ∙ unskipped_head at_rack_skips 1 (slot, h.entry) h.back stops in
       let k = skips h.back (subst (λ (x : Option Slot). IsTail map_of p.rack.now x h.back) (sym behind_at) h.onward) in
-      let s = pick_rack pairs (h.entry, 1) near_pairs (unskipped at_rack_skips 1 h.back) cluster_pairs (subst (λ (x : List Pair). AreLevels near_pairs x cluster_pairs) is levels) (subst (λ (x : List Pair). IsRanking pairs (near_pairs ++ (x ++ cluster_pairs))) is l.ranking) (subst (λ (x : List Pair). is_best (prio near_pairs) (prio x) (prio cluster_pairs) ≡ false) is (first_test false first)) (subst (λ (x : List Pair). is_best (prio x) None (prio cluster_pairs) ≡ true) is (second_test true second)) in
-      subst (λ (ps : List Pair). Gives ps (Some (entry, 1)) (Leads (record p { at_rack = next }))) (sym s.is) (
-        ap (λ (e : Entry). Some (e, 1)) (same_entry (entry_at map_of slot) entry h.entry entry_is h.here),
-        record {
-          near = l.near;
-          rack = k.passed.left;
-          cluster = l.cluster;
-          at_near = l.at_near;
-          at_rack = k.passed.is_tail;
-          at_cluster = l.at_cluster;
-          rack_stops = k.stops;
-          cluster_stops = l.cluster_stops;
-          ranking = subst (λ (x : List Pair). IsRanking s.rest (near_pairs ++ (x ++ cluster_pairs))) (k.passed.same 1) s.ranking;
-        },
-      )
+      gives_first pairs (h.entry, 1) (near_pairs ++ (unskipped at_rack_skips 1 h.back ++ cluster_pairs)) (Some (entry, 1)) (Leads (record p { at_rack = next }))
+      (pick_rack pairs (h.entry, 1) near_pairs (unskipped at_rack_skips 1 h.back) cluster_pairs (subst (λ (x : List Pair). AreLevels near_pairs x cluster_pairs) is levels) (subst (λ (x : List Pair). IsRanking pairs (near_pairs ++ (x ++ cluster_pairs))) is l.ranking) (subst (λ (x : List Pair). is_best (prio near_pairs) (prio x) (prio cluster_pairs) ≡ false) is (first_test false first)) (subst (λ (x : List Pair). is_best (prio x) None (prio cluster_pairs) ≡ true) is (second_test true second)))
+      (ap (λ (e : Entry). Some (e, 1)) (same_entry (entry_at map_of slot) entry h.entry entry_is h.here))
+      (λ rest ranking. record {
+        near = l.near;
+        rack = k.passed.left;
+        cluster = l.cluster;
+        at_near = l.at_near;
+        at_rack = k.passed.is_tail;
+        at_cluster = l.at_cluster;
+        rack_stops = k.stops;
+        cluster_stops = l.cluster_stops;
+        ranking = subst (λ (x : List Pair). IsRanking rest (near_pairs ++ (x ++ cluster_pairs))) (k.passed.same 1) ranking;
+      })
 
   pub cluster_step : (slot : Slot) (entry : Entry) (behind next : Option Slot) → p.at_cluster ≡ Some slot → entry_at map_of slot ≡ Some entry → IsBehind map_of p.cluster.now slot behind → ((tail : List Item) → IsTail map_of p.cluster.now behind tail → SkipsTo map_of p.cluster.now at_cluster_skips tail next) → FirstTest false → SecondTest false →
       Gives pairs (Some (entry, 2)) (Leads (record p { at_cluster = next }))
@@ -372,21 +392,20 @@ module _ (law : Entries) (parts : Parts) (p : Path) (pairs : List Pair) (l : Lea
       let stops : at_cluster_skips h.entry ≡ false = subst (λ (x : List Item). Stops at_cluster_skips x) h.is l.cluster_stops in
       let is : cluster_pairs ≡ (h.entry, 2) ∷ unskipped at_cluster_skips 2 h.back = ap (unskipped at_cluster_skips 2) h.is ∙ unskipped_head at_cluster_skips 2 (slot, h.entry) h.back stops in
       let k = skips h.back (subst (λ (x : Option Slot). IsTail map_of p.cluster.now x h.back) (sym behind_at) h.onward) in
-      let s = pick_cluster pairs (h.entry, 2) near_pairs rack_pairs (unskipped at_cluster_skips 2 h.back) (subst (λ (x : List Pair). AreLevels near_pairs rack_pairs x) is levels) (subst (λ (x : List Pair). IsRanking pairs (near_pairs ++ (rack_pairs ++ x))) is l.ranking) (subst (λ (x : List Pair). is_best (prio near_pairs) (prio rack_pairs) (prio x) ≡ false) is (first_test false first)) (subst (λ (x : List Pair). is_best (prio rack_pairs) None (prio x) ≡ false) is (second_test false second)) in
-      subst (λ (ps : List Pair). Gives ps (Some (entry, 2)) (Leads (record p { at_cluster = next }))) (sym s.is) (
-        ap (λ (e : Entry). Some (e, 2)) (same_entry (entry_at map_of slot) entry h.entry entry_is h.here),
-        record {
-          near = l.near;
-          rack = l.rack;
-          cluster = k.passed.left;
-          at_near = l.at_near;
-          at_rack = l.at_rack;
-          at_cluster = k.passed.is_tail;
-          rack_stops = l.rack_stops;
-          cluster_stops = k.stops;
-          ranking = subst (λ (x : List Pair). IsRanking s.rest (near_pairs ++ (rack_pairs ++ x))) (k.passed.same 2) s.ranking;
-        },
-      )
+      gives_first pairs (h.entry, 2) (near_pairs ++ (rack_pairs ++ unskipped at_cluster_skips 2 h.back)) (Some (entry, 2)) (Leads (record p { at_cluster = next }))
+      (pick_cluster pairs (h.entry, 2) near_pairs rack_pairs (unskipped at_cluster_skips 2 h.back) (subst (λ (x : List Pair). AreLevels near_pairs rack_pairs x) is levels) (subst (λ (x : List Pair). IsRanking pairs (near_pairs ++ (rack_pairs ++ x))) is l.ranking) (subst (λ (x : List Pair). is_best (prio near_pairs) (prio rack_pairs) (prio x) ≡ false) is (first_test false first)) (subst (λ (x : List Pair). is_best (prio rack_pairs) None (prio x) ≡ false) is (second_test false second)))
+      (ap (λ (e : Entry). Some (e, 2)) (same_entry (entry_at map_of slot) entry h.entry entry_is h.here))
+      (λ rest ranking. record {
+        near = l.near;
+        rack = l.rack;
+        cluster = k.passed.left;
+        at_near = l.at_near;
+        at_rack = l.at_rack;
+        at_cluster = k.passed.is_tail;
+        rack_stops = l.rack_stops;
+        cluster_stops = k.stops;
+        ranking = subst (λ (x : List Pair). IsRanking rest (near_pairs ++ (rack_pairs ++ x))) (k.passed.same 2) ranking;
+      })
 
   pub end_step : p.at_cluster ≡ None → FirstTest false → SecondTest false → Gives pairs None (Leads p)
   end_step none first second =

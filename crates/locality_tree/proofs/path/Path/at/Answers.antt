@@ -1,12 +1,10 @@
-use Rattle.std.proofs.Common.{◌≡◌, ◌<◌, ◌-◌, ◌++◌, ℕ, length, List, get_or, subst, sym, arith}
+use Rattle.std.proofs.Common.{◌≡◌, ◌<◌, ◌-◌, ℕ, length, get_or, subst, sym, arith}
 use Rattle.std.proofs.lemmas.List.{get_or_read}
 use Rattle.slot_pool.specs.Pools.{value_at}
-use Rattle.locality_tree.specs.declared.unit_set.UnitSet.{UnitSet}
-use Rattle.locality_tree.specs.Trees.{Pair}
 use Rattle.locality_tree.specs.UnitSets.{no_set}
 use Rattle.locality_tree.specs.Layouts.{slots_of}
-use Rattle.locality_tree.specs.Paths.{IsRanking, unskipped, nothing, is_in_either, pairs_of}
-use Rattle.locality_tree.proofs.PathsLemmas.{whole_tail}
+use Rattle.locality_tree.specs.Paths.{IsRanking, pairs_of}
+use Rattle.locality_tree.proofs.PathsLemmas.{whole_tail, leads_whole}
 use Rattle.locality_tree.proofs.path.Path.at.Goals as goal
 
 pub skip-at_rack-requires : goal.skip-at_rack-requires
@@ -33,23 +31,8 @@ returns c = λ kept pairs ranking.
     let rack_set : c.index-rack_set.result.now ≡ get_or l.sets.items c.args.rack_place no_set = get_or_read l.sets.items c.args.rack_place c.index-rack_set.result.now rack_inside c.index-rack_set.ensures no_set in
     let rack_tail = whole_tail (value_at l.pool) l.pool.spare l.queues.items (slots_of l.slots.items) l.sets.items c.args.rack_place c.index-rack.result.now c.first-first_rack.result kept c.index-rack.ensures c.requires.rack c.first-first_rack.ensures in
     let cluster_tail = whole_tail (value_at l.pool) l.pool.spare l.queues.items (slots_of l.slots.items) l.sets.items (c.len-last.result - 1) c.index-cluster.result.now c.first-first_cluster.result kept c.index-cluster.ensures queued c.first-first_cluster.ensures in
-    let r = c.skip-at_rack.ensures (kept.lists c.args.rack_place) rack_tail in
-    let k = c.skip-at_cluster.ensures (kept.lists (c.len-last.result - 1)) cluster_tail in
-    let near_list = kept.lists c.args.near_place in
-    let by_sets : IsRanking pairs (pairs_of c.index-near_set.result.now c.index-rack_set.result.now near_list (kept.lists c.args.rack_place) (kept.lists (c.len-last.result - 1))) =
-    subst (λ (s : UnitSet). IsRanking pairs (pairs_of s c.index-rack_set.result.now near_list (kept.lists c.args.rack_place) (kept.lists (c.len-last.result - 1)))) (sym near_set)
-    (subst (λ (s : UnitSet). IsRanking pairs (pairs_of (get_or l.sets.items c.args.near_place no_set) s near_list (kept.lists c.args.rack_place) (kept.lists (c.len-last.result - 1)))) (sym rack_set)
-    (subst (λ (n : ℕ). IsRanking pairs (pairs_of (get_or l.sets.items c.args.near_place no_set) (get_or l.sets.items c.args.rack_place no_set) near_list (kept.lists c.args.rack_place) (kept.lists n))) (sym last) ranking)) in
-    record {
-      near = near_list;
-      rack = r.passed.left;
-      cluster = k.passed.left;
-      at_near = whole_tail (value_at l.pool) l.pool.spare l.queues.items (slots_of l.slots.items) l.sets.items c.args.near_place c.index-near.result.now c.first-at_near.result kept c.index-near.ensures near c.first-at_near.ensures;
-      at_rack = r.passed.is_tail;
-      at_cluster = k.passed.is_tail;
-      rack_stops = r.stops;
-      cluster_stops = k.stops;
-      ranking =
-          subst (λ (ps : List Pair). IsRanking pairs (unskipped nothing 0 near_list ++ (ps ++ unskipped (is_in_either c.index-near_set.result.now c.index-rack_set.result.now) 2 k.passed.left))) (r.passed.same 1)
-          (subst (λ (ps : List Pair). IsRanking pairs (unskipped nothing 0 near_list ++ (unskipped (is_in_either c.index-near_set.result.now c.index-near_set.result.now) 1 (kept.lists c.args.rack_place) ++ ps))) (k.passed.same 2) by_sets);
-    }
+    leads_whole _ pairs (kept.lists c.args.near_place) (kept.lists c.args.rack_place) (kept.lists (c.len-last.result - 1)) (get_or l.sets.items c.args.near_place no_set) (get_or l.sets.items c.args.rack_place no_set) near_set rack_set
+    (whole_tail (value_at l.pool) l.pool.spare l.queues.items (slots_of l.slots.items) l.sets.items c.args.near_place c.index-near.result.now c.first-at_near.result kept c.index-near.ensures near c.first-at_near.ensures)
+    (c.skip-at_rack.ensures (kept.lists c.args.rack_place) rack_tail)
+    (c.skip-at_cluster.ensures (kept.lists (c.len-last.result - 1)) cluster_tail)
+    (subst (λ (n : ℕ). IsRanking pairs (pairs_of (get_or l.sets.items c.args.near_place no_set) (get_or l.sets.items c.args.rack_place no_set) (kept.lists c.args.near_place) (kept.lists c.args.rack_place) (kept.lists n))) (sym last) ranking)
