@@ -1,0 +1,11 @@
+pub mod ClusterLemmas
+pub mod LayoutsLemmas
+pub mod LeftLemmas
+pub mod MembersLemmas
+pub mod PathsLemmas
+pub mod QueueLaws
+pub mod RanksLemmas
+pub mod TreePathLemmas
+pub mod TreesLemmas
+pub mod UnitSetsLemmas
+pub mod VacantLemmas

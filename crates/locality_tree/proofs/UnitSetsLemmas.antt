@@ -1,0 +1,64 @@
+-- Sets of units, bit by bit.
+use Rattle.std.proofs.Common.{◌≡◌, ◌≢◌, ℕ, zero, suc, ◌+◌, ◌*◌, ◌/◌, ◌%◌, ◌^◌, ◌<◌, Bool, true, false, not, nat_eq, List, length, get_or, set, replicate, refl, sym, ap, ◌∙◌, inl, inr, arith}
+use mathlib.Core.Bool.{beq}
+use Rattle.std.proofs.lemmas.Bool.{cases_eq, cases_lt}
+use Rattle.std.proofs.lemmas.List.{get_or-set_same, get_or-set_other, set_past}
+use Rattle.std.proofs.lemmas.Nat.{shl_whole}
+use Rattle.std.proofs.lemmas.Nat.Bits.{bit_at-zero, bit_at_xor, bit_at-pow_same, bit_at-pow_other}
+use lib.Bits.{bit_xor}
+use Rattle.std.specs.Int.{bit_at}
+use Rattle.locality_tree.specs.UnitSets.{has_unit}
+
+zeros : (k i : ℕ) → get_or {A = ℕ} (replicate k 0) i 0 ≡ 0
+zeros zero i = refl
+zeros (suc k) zero = refl
+zeros (suc k) (suc i) = zeros k i
+
+pub none_set : (words : List ℕ) (k n : ℕ) → words ≡ replicate k 0 → has_unit (record { words = words }) n ≡ false
+none_set words k n is = ap (λ w. nat_eq (bit_at w (n % 64)) 1) (ap (λ (ws : List ℕ). get_or ws (n / 64) 0) is ∙ zeros k (n / 64)) ∙ ap (λ b. nat_eq b 1) (bit_at-zero (n % 64))
+
+one_more : (r : ℕ) → r < 2 → nat_eq ((r + 1) % 2) 1 ≡ not (nat_eq r 1)
+one_more zero h = refl
+one_more (suc zero) h = refl
+one_more (suc (suc r)) h = absurd (omega arith)
+
+module _ (words : List ℕ) (n : ℕ) where
+  -- the bit of one unit the other way round
+  abbrev pub flipped : List ℕ
+  flipped = set words (n / 64) (bit_xor (get_or words (n / 64) 0) (2 ^ (n % 64)))
+
+  pub flipped_here : n / 64 < length words → has_unit (record { words = flipped }) n ≡ not (has_unit (record { words = words }) n)
+  flipped_here long =
+      let w : ℕ = get_or words (n / 64) 0 in
+      let i : ℕ = n % 64 in
+      let small : bit_at w i < 2 = omega arith in
+      ap (λ x. nat_eq (bit_at x i) 1) (get_or-set_same words (n / 64) (bit_xor w (2 ^ i)) 0 long)
+      ∙ ap (λ b. nat_eq b 1) (bit_at_xor w (2 ^ i) i ∙ ap (λ x. (bit_at w i + x) % 2) (bit_at-pow_same i))
+      ∙ one_more (bit_at w i) small
+
+  pub flipped_other : (m : ℕ) → m ≢ n → has_unit (record { words = flipped }) m ≡ has_unit (record { words = words }) m
+  flipped_other m d = elim (cases_eq (m / 64) (n / 64)) as (λ _. has_unit (record { words = flipped }) m ≡ has_unit (record { words = words }) m) [
+    | inl e ↦ elim (cases_lt (n / 64) (length words)) as (λ _. has_unit (record { words = flipped }) m ≡ has_unit (record { words = words }) m) [
+      | inl long ↦
+          let w : ℕ = get_or words (n / 64) 0 in
+          let i : ℕ = m % 64 in
+          let apart : i ≢ n % 64 = λ f. d (omega (arith, e, f)) in
+          let bit : bit_at (bit_xor w (2 ^ (n % 64))) i ≡ bit_at w i = bit_at_xor w (2 ^ (n % 64)) i ∙ ap (λ x. (bit_at w i + x) % 2) (bit_at-pow_other (n % 64) i apart) ∙ twice (w / 2 ^ i) in
+          ap (λ k. nat_eq (bit_at (get_or flipped k 0) i) 1) e ∙ ap (λ x. nat_eq (bit_at x i) 1) (get_or-set_same words (n / 64) (bit_xor w (2 ^ (n % 64))) 0 long) ∙ ap (λ b. nat_eq b 1) bit ∙ ap (λ k. nat_eq (bit_at (get_or words k 0) i) 1) (sym e)
+      | inr past ↦ ap (λ (ws : List ℕ). nat_eq (bit_at (get_or ws (m / 64) 0) (m % 64)) 1) (set_past words (n / 64) (bit_xor (get_or words (n / 64) 0) (2 ^ (n % 64))) past)
+    ]
+    | inr f ↦ ap (λ x. nat_eq (bit_at x (m % 64)) 1) (get_or-set_other words (n / 64) (m / 64) (bit_xor (get_or words (n / 64) 0) (2 ^ (n % 64))) 0 f)
+  ]
+    where
+      twice : (k : ℕ) → (k % 2 + 0) % 2 ≡ k % 2
+      twice k = omega arith
+
+-- the word with one bit
+pub one_bit : (k : ℕ) → k < 64 → 1 * 2 ^ k % 18446744073709551616 ≡ 2 ^ k
+one_bit k h = shl_whole 1 1 k 64 (omega arith) (omega arith) ∙ omega arith
+
+pub other_bool : (a b : Bool) → not (beq a b) ≡ true → not a ≡ b
+other_bool true true d = absurd (cc)
+other_bool true false d = refl
+other_bool false true d = refl
+other_bool false false d = absurd (cc)

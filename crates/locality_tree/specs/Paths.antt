@@ -1,0 +1,101 @@
+-- What a walk over three queues has left.
+use Rattle.std.specs.Prelude.{◌≡◌, ℕ, ◌&&◌, ◌||◌, ⊤, Bool, true, false, not, cond, nat_lt, List, [], ◌∷◌, ◌++◌, Option, Some, None}
+use Rattle.std.specs.Option.{option_map}
+use Rattle.fuxi_terms.proofs.Members.{In}
+use Rattle.slot_pool.specs.Pools.{value_at}
+use Rattle.slot_pool.specs.declared.pool.Slot.{Slot}
+use Rattle.wait_queue.specs.declared.node.Entry.{Entry}
+use Rattle.wait_queue.specs.declared.node.Node.{Node}
+use Rattle.wait_queue.specs.declared.queue.Queue.{Queue}
+use Rattle.wait_queue.specs.Queues.{Item, Stands, first_of}
+use Rattle.locality_tree.specs.declared.path.Path.{Path}
+use Rattle.locality_tree.specs.declared.unit_set.UnitSet.{UnitSet}
+use Rattle.locality_tree.specs.Trees.{Pair, IsRanked}
+use Rattle.locality_tree.specs.Layouts.{HasNumber, number_of, entry_in}
+use Rattle.locality_tree.specs.UnitSets.{has_unit}
+
+-- whether the entry's unit is in one of two sets
+abbrev pub is_in_either : UnitSet → UnitSet → Entry → Bool
+is_in_either one other e = has_unit one (number_of e) || has_unit other (number_of e)
+
+abbrev pub nothing : Entry → Bool
+nothing e = false
+
+-- the entries of a list that are not skipped, at a level
+abbrev pub unskipped : (Entry → Bool) → ℕ → List Item → List Pair
+unskipped skips level [] = []
+unskipped skips level (i ∷ is) = cond (skips i.1) (unskipped skips level is) ((i.1, level) ∷ unskipped skips level is)
+
+-- nothing is skipped at the head
+abbrev pub Stops : (Entry → Bool) → List Item → Type 0
+Stops skips [] = ⊤
+Stops skips (i ∷ is) = skips i.1 ≡ false
+
+-- a slot in a queue, and what stands there from it on
+pub record IsTail (at : Slot → Option Node) (q : Queue) (o : Option Slot) (tail : List Item) : Type 0 where
+  pub done : List Item
+  pub stands : Stands at q (done ++ tail)
+  pub by_priority : q.key_first ≡ true
+  pub here : o ≡ first_of tail None
+  pub numbers : (i : Item) → In i tail → HasNumber i.1
+
+pub record HasTail (at : Slot → Option Node) (q : Queue) (o : Option Slot) : Type 0 where
+  pub tail : List Item
+  pub is_tail : IsTail at q o tail
+
+-- how far a walk came from a tail on, with nothing passed but what is skipped
+pub record Passed (at : Slot → Option Node) (q : Queue) (skips : Entry → Bool) (tail : List Item) (o : Option Slot) : Type 0 where
+  pub left : List Item
+  pub is_tail : IsTail at q o left
+  pub same : (level : ℕ) → unskipped skips level tail ≡ unskipped skips level left
+
+-- the same, as far as to the first that is not skipped
+pub record SkipsTo (at : Slot → Option Node) (q : Queue) (skips : Entry → Bool) (tail : List Item) (o : Option Slot) : Type 0 where
+  pub passed : Passed at q skips tail o
+  pub stops : Stops skips passed.left
+
+-- the priority of the entry at a slot
+abbrev pub priority_in : (Slot → Option Node) → Option Slot → Option ℕ
+priority_in at o = option_map (λ (e : Entry). e.priority) (entry_in at o)
+
+abbrev pub at_most : Option ℕ → ℕ → Bool
+at_most None most = true
+at_most (Some p) most = not (nat_lt most p)
+
+-- the first priority is there, and none of the others is above it
+abbrev pub is_best : Option ℕ → Option ℕ → Option ℕ → Bool
+is_best None second third = false
+is_best (Some p) second third = at_most second p && at_most third p
+
+-- the pairs of a list, put into the order of ranks
+pub record IsRanking (pairs all : List Pair) : Type 0 where
+  pub ranked : IsRanked pairs
+  pub sound : (p : Pair) → In p pairs → In p all
+  pub complete : (p : Pair) → In p all → In p pairs
+
+-- the pairs of three queues: each unit at the first level where it is
+abbrev pub pairs_of : UnitSet → UnitSet → List Item → List Item → List Item → List Pair
+pairs_of near_set rack_set near rack cluster =
+    unskipped nothing 0 near ++ (unskipped (is_in_either near_set near_set) 1 rack ++ unskipped (is_in_either near_set rack_set) 2 cluster)
+
+-- A path has these pairs left.
+pub record Leads (p : Path) (pairs : List Pair) : Type 0 where
+  pub near : List Item
+  pub rack : List Item
+  pub cluster : List Item
+  pub at_near : IsTail (value_at p.pool.now) p.near.now p.at_near near
+  pub at_rack : IsTail (value_at p.pool.now) p.rack.now p.at_rack rack
+  pub at_cluster : IsTail (value_at p.pool.now) p.cluster.now p.at_cluster cluster
+  pub rack_stops : Stops (is_in_either p.near_set.now p.near_set.now) rack
+  pub cluster_stops : Stops (is_in_either p.near_set.now p.rack_set.now) cluster
+  pub ranking : IsRanking pairs (pairs_of p.near_set.now p.rack_set.now near rack cluster)
+
+-- a path has some pairs left, be it none
+pub record IsWalkable (p : Path) : Type 0 where
+  pub pairs : List Pair
+  pub leads : Leads p pairs
+
+-- An answer is the first of these pairs, and nothing exactly where there is none; then the rest is left.
+abbrev pub Gives : List Pair → Option Pair → (List Pair → Type 0) → Type 0
+Gives [] answer IsLeft = answer ≡ None
+Gives (p ∷ rest) answer IsLeft = (answer ≡ Some p) × IsLeft rest

@@ -1,0 +1,218 @@
+//! Where each unit stands: the queues by their places, and the slots that each unit has there.
+
+ghost use Rattle.std.specs.Prelude.{◌≡◌, ℕ, ◌+◌, ◌*◌, ◌^◌, ◌<◌, ◌≤◌, [], length, replicate, None, Some, is_some, true, false, IfOk, OnOk, OnErr};
+ghost use Rattle.std.specs.List.{AllByRecursion};
+ghost use Rattle.std.proofs.Common.{get_or};
+ghost use Rattle.locality_tree.specs.Trees.{all_units};
+ghost use Rattle.locality_tree.specs.UnitSets.{has_unit, no_set};
+ghost use Rattle.locality_tree.specs.Layouts.{slots_of, slot_in, with_slot, with_vacant, number_of, HasNumber, IsEmptyQueue, AreKeptIn, EntryFitsIn, TurnedIn, LeftIn, Admits, IsNoted};
+
+use crate::unit_set::UnitSet;
+use fuxi_terms::OutOfMemory;
+use fuxi_terms::limits::{MOST_JOBS, MOST_UNITS};
+use slot_pool::{Pool, Slot};
+use std::alloc::Global;
+use wait_queue::{Entry, Node, Queue, orders, places, standing_lists};
+
+/// The slots of one unit, by place.
+pub(crate) type UnitSlots = Vec<Option<Slot>>;
+
+/// The queues by place: one for each machine, one for each of 64 racks, and the cluster's.
+#[derive(Drop)]
+pub(crate) struct Layout {
+    pub(crate) pool: Pool<Node>,
+    pub(crate) queues: Vec<Queue>,
+    /// By the unit's number.
+    pub(crate) slots: Vec<UnitSlots>,
+    /// By place: the units that stand there. They say in a bit what `slots` says in a slot.
+    pub(crate) sets: Vec<UnitSet>,
+}
+
+/// The number of the entry's unit among all units.
+pub(crate) fn number_of(entry: &Entry) -> usize
+    requires { HasNumber entry.now }
+    ensures { result ≡ number_of entry.now }
+{
+    MOST_UNITS * entry.app.0 as usize + entry.unit.0 as usize
+}
+
+/// The slot of a unit at a place.
+fn slot_in(slots: &[UnitSlots], number: usize, place: usize) -> Option<Slot>
+    requires { place < length (get_or (slots_of slots.now) number []) }
+    ensures { result ≡ slot_in (slots_of slots.now) number place }
+{
+    let places = &slots[number];
+    places[place]
+}
+
+/// Notes the slot of a unit at a place.
+fn note_slot(slots: &mut Vec<UnitSlots>, number: usize, place: usize, slot: Option<Slot>)
+    requires { place < length (get_or (slots_of slots.old.items) number []) }
+    ensures { slots_of slots.new.items ≡ with_slot (slots_of slots.old.items) number place slot }
+{
+    let places = &mut slots[number];
+    places[place] = slot;
+}
+
+/// Notes whether a unit stands at a place.
+fn note_unit(sets: &mut Vec<UnitSet>, place: usize, number: usize, stands: bool)
+    requires place { place < length sets.old.items }
+    requires number { number < 2048 }
+    ensures { IsNoted sets.old.items sets.new.items place number stands }
+{
+    let set = &mut sets[place];
+    set.set(number, stands);
+}
+
+/// So many empty queues.
+fn empty_queues(alloc: Global, count: usize) -> Result<Vec<Queue>, OutOfMemory>
+    ensures count { IfOk result (λ queues. length queues.items ≡ count) }
+    ensures empty { IfOk result (λ queues. AllByRecursion IsEmptyQueue queues.items) }
+{
+    let mut queues = Vec::new(alloc);
+    for _ in 0..count {
+        queues.push(Queue::new(true))?;
+    }
+    Ok(queues)
+}
+
+/// So many units, each with so many places at none of which it stands.
+fn vacant_units(alloc: Global, count: usize, places: usize) -> Result<Vec<UnitSlots>, OutOfMemory>
+    ensures { IfOk result (λ units. slots_of units.items ≡ replicate count (replicate places None)) }
+{
+    let mut units = Vec::new(alloc);
+    for _ in 0..count {
+        units.push(Vec::from_elem(alloc, None, places)?)?;
+    }
+    Ok(units)
+}
+
+/// The units from the first on get these places.
+fn put_units(slots: &mut Vec<UnitSlots>, first: usize, units: Vec<UnitSlots>)
+    requires inside { first + length units.items ≤ length slots.old.items }
+    ensures { (places : ℕ) → slots_of units.items ≡ replicate (length units.items) (replicate places None) → slots_of slots.new.items ≡ with_vacant (slots_of slots.old.items) first places (length units.items) }
+{
+    let mut left = units;
+    for index in 0..left.len() {
+        match left.pop() {
+            Some(places) => slots[first + index] = places,
+            None => unreachable!(),
+        }
+    }
+}
+
+impl Layout {
+    /// So many empty queues, and no unit that has places.
+    pub(crate) fn start(alloc: Global, count: usize) -> Result<Layout, OutOfMemory>
+        ensures kept { IfOk result AreKeptIn }
+        ensures count { IfOk result (λ layout. length layout.queues.items ≡ count) }
+        ensures slots { IfOk result (λ layout. slots_of layout.slots.items ≡ replicate all_units []) }
+    {
+        Ok(Layout {
+            pool: Pool::with_room(alloc, 0)?,
+            queues: empty_queues(alloc, count)?,
+            slots: vacant_units(alloc, MOST_JOBS as usize * MOST_UNITS, 0)?,
+            sets: Vec::from_elem(alloc, UnitSet::new(), count)?,
+        })
+    }
+
+    /// The unit stands at a place where it did not.
+    fn enter(&mut self, place: usize, entry: &Entry)
+        requires kept { AreKeptIn self.old }
+        requires fits { EntryFitsIn self.old entry.now place }
+        requires outside { slot_in (slots_of self.old.slots.items) (number_of entry.now) place ≡ None }
+        ensures kept { AreKeptIn self.new }
+        ensures count { length self.new.queues.items ≡ length self.old.queues.items }
+        ensures turned { TurnedIn self.old self.new entry.now place true }
+    {
+        standing_lists();
+        orders();
+        places();
+        let number = number_of(entry);
+        let queue = &mut self.queues[place];
+        let slot = queue.insert(&mut self.pool, *entry);
+        note_slot(&mut self.slots, number, place, Some(slot));
+        note_unit(&mut self.sets, place, number, true);
+    }
+
+    /// The unit stands no more at a place where it has this slot.
+    fn leave(&mut self, place: usize, entry: &Entry, slot: Slot)
+        requires kept { AreKeptIn self.old }
+        requires fits { EntryFitsIn self.old entry.now place }
+        requires inside { slot_in (slots_of self.old.slots.items) (number_of entry.now) place ≡ Some slot }
+        ensures kept { AreKeptIn self.new }
+        ensures count { length self.new.queues.items ≡ length self.old.queues.items }
+        ensures turned { TurnedIn self.old self.new entry.now place false }
+    {
+        standing_lists();
+        orders();
+        let number = number_of(entry);
+        let queue = &mut self.queues[place];
+        queue.remove(&mut self.pool, slot);
+        note_slot(&mut self.slots, number, place, None);
+        note_unit(&mut self.sets, place, number, false);
+    }
+
+    /// The unit stands at the place, or does not.
+    pub(crate) fn turn_to(&mut self, place: usize, entry: &Entry, stands: bool)
+        requires kept { AreKeptIn self.old }
+        requires fits { EntryFitsIn self.old entry.now place }
+        ensures kept { AreKeptIn self.new }
+        ensures count { length self.new.queues.items ≡ length self.old.queues.items }
+        ensures turned { TurnedIn self.old self.new entry.now place stands }
+    {
+        standing_lists();
+        match slot_in(&self.slots, number_of(entry), place) {
+            Some(slot) => {
+                if !stands {
+                    self.leave(place, entry, slot);
+                }
+            }
+            None => {
+                if stands {
+                    self.enter(place, entry);
+                }
+            }
+        }
+    }
+
+    /// The unit stands nowhere.
+    pub(crate) fn leave_all(&mut self, entry: &Entry)
+        requires kept { AreKeptIn self.old }
+        requires fits { (place : ℕ) → place < length self.old.queues.items → EntryFitsIn self.old entry.now place }
+        ensures kept { AreKeptIn self.new }
+        ensures count { length self.new.queues.items ≡ length self.old.queues.items }
+        ensures left { LeftIn self.old self.new entry.now (length self.old.queues.items) }
+    {
+        for place in 0..self.queues.len() {
+            self.turn_to(place, entry, false);
+        }
+    }
+
+    /// The units of a job, from this number on, get places, and room for a node at each. The layout is as before
+    /// after the refusal.
+    pub(crate) fn admit(
+        &mut self,
+        alloc: Global,
+        first: usize,
+        units: usize,
+    ) -> Result<(), OutOfMemory>
+        requires kept { AreKeptIn self.old }
+        requires inside { first + units ≤ length self.old.slots.items }
+        requires few { units * length self.old.queues.items < 2 ^ 64 }
+        requires new { (k : ℕ) → k < units → length (get_or (slots_of self.old.slots.items) (first + k) []) ≡ 0 }
+        ensures ok { OnOk result (Admits self.old self.new first units) }
+        ensures err { OnErr result (self.new ≡ self.old) }
+    {
+        standing_lists();
+        let places = self.queues.len();
+        let fresh = vacant_units(alloc, units, places)?;
+        let room = match self.pool.spare().checked_add(units * places) {
+            Some(room) => room,
+            None => return Err(OutOfMemory),
+        };
+        self.pool.reserve(room)?;
+        put_units(&mut self.slots, first, fresh);
+        Ok(())
+    }
+}

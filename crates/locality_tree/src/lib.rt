@@ -1,0 +1,12 @@
+//! The locality tree: one queue for each machine, one for each rack and one for the cluster, and the walk
+//! over the units that wait, in the order of their ranks on a machine. After a job is admitted no call
+//! takes memory.
+#![tactic(auto)]
+
+mod layout;
+mod path;
+mod tree;
+mod unit_set;
+
+pub use path::Path;
+pub use tree::Tree;

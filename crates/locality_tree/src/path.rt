@@ -1,0 +1,190 @@
+//! The walk over the units that wait, as one machine ranks them.
+
+ghost use Rattle.std.specs.Prelude.{◌≡◌, ◌-◌, ◌<◌, List, length, IsSome, IfSome, Some, ◌++◌, ◌∷◌};
+ghost use Rattle.std.proofs.Common.{get_or};
+ghost use Rattle.slot_pool.specs.Pools.{value_at};
+ghost use Rattle.wait_queue.specs.declared.node.Entry.{Entry as EntryRecord};
+ghost use Rattle.wait_queue.specs.Queues.{Item, Stands, IsIn, first_of, entry_at};
+ghost use Rattle.locality_tree.specs.Trees.{Pair};
+ghost use Rattle.locality_tree.specs.UnitSets.{no_set};
+ghost use Rattle.locality_tree.specs.Layouts.{HasNumber, AreKeptIn};
+ghost use Rattle.locality_tree.specs.Paths.{Leads, Gives, IsWalkable, IsTail, HasTail, SkipsTo, IsRanking, is_in_either, priority_in, at_most, is_best, pairs_of};
+
+use crate::layout::{Layout, number_of};
+use crate::unit_set::UnitSet;
+use slot_pool::{Pool, Slot};
+use wait_queue::{Entry, Node, Queue, orders, standing_lists};
+
+/// A walk over three queues. It gives each unit once, at its smallest level.
+#[derive(Drop)]
+pub struct Path<'a> {
+    pool: &'a Pool<Node>,
+    near_set: &'a UnitSet,
+    rack_set: &'a UnitSet,
+    near: &'a Queue,
+    rack: &'a Queue,
+    cluster: &'a Queue,
+    at_near: Option<Slot>,
+    at_rack: Option<Slot>,
+    at_cluster: Option<Slot>,
+}
+
+/// The entry at a slot.
+fn entry_of(pool: &Pool<Node>, slot: Slot) -> &Entry
+    requires { IsSome (value_at pool.now slot) }
+    ensures { entry_at (value_at pool.now) slot ≡ Some result.now }
+{
+    pool.get(slot).entry()
+}
+
+/// Whether the entry's unit is in one of two sets.
+fn is_in_either(one: &UnitSet, other: &UnitSet, entry: &Entry) -> bool
+    requires { HasNumber entry.now }
+    ensures { result ≡ is_in_either one.now other.now entry.now }
+{
+    let number = number_of(entry);
+    one.contains(number) || other.contains(number)
+}
+
+/// The first slot from this one on whose unit is in neither set.
+fn skip(
+    pool: &Pool<Node>,
+    queue: &Queue,
+    one: &UnitSet,
+    other: &UnitSet,
+    from: Option<Slot>,
+) -> Option<Slot>
+    requires { HasTail (value_at pool.now) queue.now from }
+    ensures { (tail : List Item) → IsTail (value_at pool.now) queue.now from tail → SkipsTo (value_at pool.now) queue.now (is_in_either one.now other.now) tail result }
+{
+    standing_lists();
+    orders();
+    let mut at = from;
+    while let Some(slot) = at {
+        if !is_in_either(one, other, entry_of(pool, slot)) {
+            return at;
+        }
+        at = queue.after(pool, slot);
+    }
+    at
+}
+
+/// The priority of what stands at a slot.
+fn priority_at(pool: &Pool<Node>, at: Option<Slot>) -> Option<u8>
+    requires { IfSome at (λ s. IsSome (value_at pool.now s)) }
+    ensures { result ≡ priority_in (value_at pool.now) at }
+{
+    match at {
+        None => None,
+        Some(slot) => Some(entry_of(pool, slot).priority),
+    }
+}
+
+/// Whether the priority, where there is one, is at most this.
+fn is_at_most(priority: Option<u8>, most: u8) -> bool
+    ensures { result ≡ at_most priority most }
+{
+    match priority {
+        None => true,
+        Some(priority) => priority <= most,
+    }
+}
+
+/// Whether the first priority is there and none of the others is above it.
+fn leads(first: Option<u8>, second: Option<u8>, third: Option<u8>) -> bool
+    ensures { result ≡ is_best first second third }
+{
+    match first {
+        None => false,
+        Some(priority) => is_at_most(second, priority) && is_at_most(third, priority),
+    }
+}
+
+/// What stands at a slot of a queue, and the slot behind it.
+fn take(pool: &Pool<Node>, queue: &Queue, slot: Slot) -> (Entry, Option<Slot>)
+    requires { IsIn (value_at pool.now) queue.now slot }
+    ensures entry { entry_at (value_at pool.now) slot ≡ Some result.0 }
+    ensures behind { (front back : List Item) (entry : EntryRecord) → Stands (value_at pool.now) queue.now (front ++ (slot, entry) ∷ back) → result.1 ≡ first_of back None }
+{
+    standing_lists();
+    let entry = *entry_of(pool, slot);
+    (entry, queue.after(pool, slot))
+}
+
+impl<'a> Path<'a> {
+    /// The walk from the beginning of the queues at two places and of the cluster's.
+    pub(crate) fn at(layout: &'a Layout, near_place: usize, rack_place: usize) -> Path<'a>
+        requires near { near_place < length layout.now.queues.items }
+        requires rack { rack_place < length layout.now.queues.items }
+        requires kept { AreKeptIn layout.now }
+        ensures { (kept : AreKeptIn layout.now) (pairs : List Pair) → IsRanking pairs (pairs_of (get_or layout.now.sets.items near_place no_set) (get_or layout.now.sets.items rack_place no_set) (kept.lists near_place) (kept.lists rack_place) (kept.lists (length layout.now.queues.items - 1))) → Leads result pairs }
+    {
+        let pool = &layout.pool;
+        let near_set = &layout.sets[near_place];
+        let rack_set = &layout.sets[rack_place];
+        let near = &layout.queues[near_place];
+        let rack = &layout.queues[rack_place];
+        let last = layout.queues.len() - 1;
+        let cluster = &layout.queues[last];
+        let at_near = near.first();
+        let first_rack = rack.first();
+        let first_cluster = cluster.first();
+        let at_rack = skip(pool, rack, near_set, near_set, first_rack);
+        let at_cluster = skip(pool, cluster, near_set, rack_set, first_cluster);
+        Path {
+            pool,
+            near_set,
+            rack_set,
+            near,
+            rack,
+            cluster,
+            at_near,
+            at_rack,
+            at_cluster,
+        }
+    }
+
+    /// The next unit with its level: 0 where it stands in the machine's queue, else 1 where it stands in the
+    /// rack's, else 2. None exactly at the end.
+    pub fn next(&mut self) -> Option<(Entry, u8)>
+        requires { IsWalkable self.old }
+        ensures { (rest : List Pair) → Leads self.old rest → Gives rest result (Leads self.new) }
+    {
+        standing_lists();
+        orders();
+        let near = priority_at(self.pool, self.at_near);
+        let rack = priority_at(self.pool, self.at_rack);
+        let cluster = priority_at(self.pool, self.at_cluster);
+        if leads(near, rack, cluster) {
+            let slot = match self.at_near {
+                Some(slot) => slot,
+                None => return None,
+            };
+            let (entry, behind) = take(self.pool, self.near, slot);
+            self.at_near = behind;
+            return Some((entry, 0));
+        }
+        if leads(rack, None, cluster) {
+            let slot = match self.at_rack {
+                Some(slot) => slot,
+                None => return None,
+            };
+            let (entry, behind) = take(self.pool, self.rack, slot);
+            self.at_rack = skip(self.pool, self.rack, self.near_set, self.near_set, behind);
+            return Some((entry, 1));
+        }
+        let slot = match self.at_cluster {
+            Some(slot) => slot,
+            None => return None,
+        };
+        let (entry, behind) = take(self.pool, self.cluster, slot);
+        self.at_cluster = skip(
+            self.pool,
+            self.cluster,
+            self.near_set,
+            self.rack_set,
+            behind,
+        );
+        Some((entry, 2))
+    }
+}
