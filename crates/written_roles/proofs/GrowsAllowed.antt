@@ -252,11 +252,11 @@ abbrev pub ChangedGrows : ClusterRecord → Master → MasterChange → Master �
 ChangedGrows c M x N = IsReadied c M N
 
 -- a job more, and a job that ends, leave the others
-added_job : (jobs : List KnownJob) (j : JobRecord) (a : ℕ) → is_live jobs a ≡ true → job_of (with_job j jobs) a ≡ job_of jobs a
+pub added_job : (jobs : List KnownJob) (j : JobRecord) (a : ℕ) → is_live jobs a ≡ true → job_of (with_job j jobs) a ≡ job_of jobs a
 added_job [] j a e = cc
 added_job (k ∷ ks) j a e = elim (nat_eq k.job.number a) as (λ b. unwrap_or (option_map (λ (i : KnownJob). not i.ended) (cond b (Some k) (job_of ks a))) false ≡ true → cond b (Some k) (job_of (with_job j ks) a) ≡ cond b (Some k) (job_of ks a)) [ true ↦ λ _. refl | false ↦ λ e. added_job ks j a e ] e
 
-ended_job : (jobs : List KnownJob) (a b : ℕ) → nat_eq b a ≡ false → job_of (with_ended a jobs) b ≡ job_of jobs b
+pub ended_job : (jobs : List KnownJob) (a b : ℕ) → nat_eq b a ≡ false → job_of (with_ended a jobs) b ≡ job_of jobs b
 ended_job [] a b n = refl
 ended_job (k ∷ ks) a b n = elim (nat_eq k.job.number a) as (λ t. nat_eq k.job.number a ≡ t → (let k' : KnownJob = cond t (record { job = k.job; ended = true }) k in cond (nat_eq k'.job.number b) (Some k') (job_of (with_ended a ks) b)) ≡ cond (nat_eq k.job.number b) (Some k) (job_of ks b)) [
   | true ↦ λ t. let other : nat_eq k.job.number b ≡ false = grind (arith, nat_tests, t, n) in

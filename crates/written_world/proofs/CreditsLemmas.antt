@@ -57,7 +57,7 @@ raised_is cs es s u m le = raised cs es s u m ∙ greater (count key_cmp cs (cre
     greater a b le = elim (nat_lt a b) as (λ t. nat_lt a b ≡ t → cond t b a ≡ b) [ true ↦ λ _. refl | false ↦ λ t. let ge : b ≤ a = grind (arith, nat_tests) in omega (arith, le, ge) ] refl
 
 -- What is taken has an index, and is not behind the place
-taken_places : (k : Kind) (own : ℕ) (l : Link) (x : Packet) → word_of k own l x ≡ Taken → (1 ≤ x.seq) × (l.seq ≤ x.seq)
+pub taken_places : (k : Kind) (own : ℕ) (l : Link) (x : Packet) → word_of k own l x ≡ Taken → (1 ≤ x.seq) × (l.seq ≤ x.seq)
 taken_places Ack own l x e = cc
 taken_places Full own l x e = either (λ (w : What). w ≡ Taken → (1 ≤ x.seq) × (l.seq ≤ x.seq)) (not (nat_eq x.to.inc own)) NotMine (cond (nat_lt l.seq x.seq) Taken Old) (λ _ e. cc)
     (λ _ e. either (λ (w : What). w ≡ Taken → (1 ≤ x.seq) × (l.seq ≤ x.seq)) (nat_lt l.seq x.seq) Taken Old (λ t _. (grind (arith, nat_tests, t), grind (arith, nat_tests, t))) (λ _ e. cc) e) e

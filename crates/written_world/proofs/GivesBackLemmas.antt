@@ -162,7 +162,7 @@ acts_given : (u : World) (net : Net Ledger) (X : Master) (forced : List Id) → 
 acts_given u net X forced own h = ends_given u.cluster net (ready u.cluster X) forced (given_like net X (ready u.cluster X) (ready_epoch u.cluster X) (ready_besides u.cluster X).credited own) h
 
 -- Hearing. What is taken is of the incarnation that is then known
-taken_known : (p : Party) (talk : Bool) (top : ℕ) (l : Link) (x : Packet) → is_taken (hear p talk top l x).what ≡ true → (hear p talk top l x).link.known ≡ x.from.inc
+pub taken_known : (p : Party) (talk : Bool) (top : ℕ) (l : Link) (x : Packet) → is_taken (hear p talk top l x).what ≡ true → (hear p talk top l x).link.known ≡ x.from.inc
 taken_known p talk top l x e = by (not (same_id x.to.id p.id && talk)) (nat_lt x.from.inc l.known) refl e
   where
     by : (a b : Bool) → nat_lt x.from.inc l.known ≡ b → is_taken (cond a (unmoved Stranger l) (cond b (unmoved Stale l) (hear_peer p.inc top l x))).what ≡ true → (cond a (unmoved Stranger l) (cond b (unmoved Stale l) (hear_peer p.inc top l x))).link.known ≡ x.from.inc
@@ -324,7 +324,7 @@ pub record HoldsGiven (w : World) : Type 0 where
   pub inv : Invariant w
   pub given : AllGiven w.net.histories
 
-reset_histories : (net : Net Ledger) (q : Party) (qs : List Id) → (resync_all net q qs).histories ≡ net.histories
+pub reset_histories : (net : Net Ledger) (q : Party) (qs : List Id) → (resync_all net q qs).histories ≡ net.histories
 reset_histories net q [] = refl
 reset_histories net q (y ∷ ys) = reset_histories (move net (Resyncs q y)) q ys
 

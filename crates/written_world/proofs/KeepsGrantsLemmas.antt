@@ -87,7 +87,7 @@ left_table net net' q p s l other g = let same = l.links p master_id other in ta
 grows_same : (net net' : Net Ledger) → net'.histories ≡ net.histories → Grows shape net.histories net'.histories
 grows_same net net' e = subst (Grows shape net.histories) (sym e) (grows_itself net)
 
-sent_links : (net : Net Ledger) (q : Party) (qs : List Id) → (send_all net q qs).links ≡ net.links
+pub sent_links : (net : Net Ledger) (q : Party) (qs : List Id) → (send_all net q qs).links ≡ net.links
 sent_links net q [] = refl
 sent_links net q (d ∷ ds) = sent_links (move net (Turns q d)) q ds
 
@@ -107,12 +107,12 @@ resynced_table net q qs p s = by (same_party q p) refl (resync_all_acted net q q
     by false e a = left_table net (resync_all net q qs) q p s a.leaves e (grows_same net (resync_all net q qs) a.histories)
 
 -- What is heard and not taken leaves the place, or is of a new incarnation of which nothing is received
-record IsUntaken (l : Link) (h : Heard) : Type 0 where
-  known : h.fresh ≡ false → h.link.known ≡ l.known
-  seq : h.fresh ≡ false → h.link.seq ≡ l.seq
-  new : h.fresh ≡ true → h.link.seq ≡ 0
+pub record IsUntaken (l : Link) (h : Heard) : Type 0 where
+  pub known : h.fresh ≡ false → h.link.known ≡ l.known
+  pub seq : h.fresh ≡ false → h.link.seq ≡ l.seq
+  pub new : h.fresh ≡ true → h.link.seq ≡ 0
 
-untaken : (p : Party) (talk : Bool) (top : ℕ) (l : Link) (x : Packet) → is_taken (hear p talk top l x).what ≡ false → IsUntaken l (hear p talk top l x)
+pub untaken : (p : Party) (talk : Bool) (top : ℕ) (l : Link) (x : Packet) → is_taken (hear p talk top l x).what ≡ false → IsUntaken l (hear p talk top l x)
 untaken p talk top l x e = by (not (same_id x.to.id p.id && talk)) (nat_lt x.from.inc l.known) e
   where
     m : Link

@@ -33,3 +33,5 @@ pub mod ServesLemmas
 pub mod KeepsGrantsLemmas
 pub mod AdoptsLemmas
 pub mod GivesBackLemmas
+pub mod HeedsDemandsLemmas
+pub mod TurnsLemmas

@@ -313,7 +313,7 @@ pub stays_stopped : (c : ClusterRecord) (before after : List Event) → StaysSto
 stays_stopped c before after = record { masters = masters_stay c before after; agents = agents_stay c before after; apps = apps_stay c before after }
 
 -- Starts with nothing: a new incarnation knows nobody, and has sent nothing
-new_link : (net : Net Ledger) (d : Id) (b : ℕ) (q : Id) → same_id d d ≡ true → (move net (Starts (party d b))).links (party d b) q ≡ unknown
+pub new_link : (net : Net Ledger) (d : Id) (b : ℕ) (q : Id) → same_id d d ≡ true → (move net (Starts (party d b))).links (party d b) q ≡ unknown
 new_link net d b q e = ap (λ t. elim t as (λ _. Link) [ true ↦ unknown | false ↦ net.links (party d b) q ]) (and_true (same_id d d) (nat_eq b b) e (nat_itself b))
 
 sent_nothing : (net : Net Ledger) (p : Party) (q : Id) → net.histories p q ≡ [] → present net p q ≡ nothing

@@ -14,3 +14,5 @@ pub mod Steps
 pub mod Starts
 pub mod GivesBack
 pub mod KeepsGrants
+pub mod HeedsDemands
+pub mod Turns

@@ -16,6 +16,7 @@ ghost use Rattle.written_net.specs.Sound.{Bounded, Sound, Allowed};
 ghost use Rattle.written_world.specs.World.{World, empty_world};
 ghost use Rattle.written_world.specs.GivesBack.{AllGiveBack};
 ghost use Rattle.written_world.specs.Good.{Good};
+ghost use Rattle.written_world.specs.HeedsDemands.{AllHeed};
 ghost use Rattle.written_world.specs.KeepsGrants.{AllAdopt, AllReport, AllStay};
 ghost use Rattle.written_net.specs.Channels.{shape};
 ghost use Rattle.written_world.specs.Shown.{AllShown, AllCredited, AllGiveBacks};
@@ -26,6 +27,7 @@ ghost use Rattle.written_world.specs.Steps.{AllGrow, AllBare, AllServe, AllLose}
 ghost use Rattle.written_world.specs.Events.{Event, world_step};
 ghost use Rattle.written_world.specs.Lines.{IsInput, is_from_line};
 ghost use Rattle.written_world.specs.Runs.{run};
+ghost use Rattle.written_world.specs.Turns.{AllTurn};
 
 /// Patching with the difference gives the second value, and only the difference does: for entries by key,
 /// for rows, for tables, and for tallies with a head and a kind of entry that a new head drops.
@@ -139,4 +141,19 @@ pub fn a_failover_keeps_grants()
 /// machine, and nothing of others.
 pub fn gives_back_what_is_held()
     ensures { (c : ClusterRecord) (events : List Event) → AllGiveBack (run c events) }
+{}
+
+/// Demands are heeded. A running master's wishes of a live job are the entries, of units, machines and racks that are
+/// there, of the demand at its place of that application in the boot that it knows. At index 0 there are none, so none
+/// behind a new boot until a demand of it is taken.
+pub fn demands_are_heeded()
+    ensures { (c : ClusterRecord) (events : List Event) → AllHeed (run c events) }
+{}
+
+/// A master's turn goes to the agents of its cluster and to the applications of all jobs that it knows, ended ones too
+/// (`ended`), and sends what each turn to a peer is (`sends`). Where a peer is known, has acknowledged an entry, and 1 to
+/// 256 entries stand behind that, a turn to it has no whole ledger: it is the changes to the next entries in order, all
+/// of them or the first 64, and an acknowledgement (`changes`).
+pub fn turns_go_as_changes()
+    ensures { (c : ClusterRecord) (events : List Event) → AllTurn (run c events) }
 {}
