@@ -23,7 +23,6 @@ pub struct Slot {
 
 /// Values under slots, seen as a finite map from slots to values, the present generation of each number,
 /// and how many values can be put in without memory.
-#[derive(Drop)]
 pub struct Pool<T> {
     /// By number, as far as numbers were used.
     cells: Vec<Cell<T>>,
@@ -33,6 +32,17 @@ pub struct Pool<T> {
     free: Vec<u32>,
     /// So many numbers can be used in all. Each vector has room for them.
     room: usize,
+}
+
+impl<T: Drop> Drop for Pool<T> {
+    fn drop(self) {
+        let Pool {
+            cells,
+            generations,
+            free,
+            room,
+        } = self;
+    }
 }
 
 impl<T> Model for Pool<T> {
