@@ -5,10 +5,12 @@ ghost use Rattle.fuxi_io.specs.Causes.{Rose};
 ghost use Rattle.written_world.specs.Runs.{run};
 ghost use Rattle.written_world.specs.Safe.{AllFit, Views, AllAgree, AllSettled};
 ghost use Rattle.written_world.specs.Credits.{AllCreditedOnce};
+ghost use Rattle.written_world.specs.Starts.{StartsWithNothing};
+ghost use Rattle.written_world.specs.Steps.{AllBare, AllGrow, AllLose};
 ghost use Rattle.schedule_run.specs.Inputs.{Input};
 ghost use Rattle.schedule_run.specs.Runs.{run_of, read_from, pieces, AtEnd, AtBadLine, AtLimit, ReadsWhole, StopsWithin, Ended};
 ghost use Rattle.schedule_run.specs.Told.{IsText, IsTextBefore, IsFrontText, Writes, LeadsTo};
-ghost use Rattle.fuxi_command.specs.States.{AllCountOnce};
+ghost use Rattle.fuxi_command.specs.States.{AllCountOnce, AllKeepGrants, AllTakeByQuota};
 ghost use Rattle.storm_run.specs.Runs.{IsLimit, StormEnded};
 ghost use Rattle.storm_run.specs.Summaries.{storm_of};
 ghost use Rattle.fuxi_command.specs.Storms.{IsStorm, WritesPart};
@@ -32,7 +34,12 @@ use node_door::Door;
 use schedule_run::{run_schedule, runs_are_told};
 use std::alloc::Global;
 use storm_run::run_storm;
-use written_world::{always_safe, give_backs_are_credited_once};
+use written_roles::preempts_by_quota;
+use written_world::{
+    a_failover_keeps_grants, always_safe, every_run_grows_as_allowed,
+    every_run_keeps_banned_machines_bare, every_run_loses_only_what_is_credited,
+    give_backs_are_credited_once, starts_with_nothing,
+};
 
 // Runs a schedule.
 fn run_replay<S: Source, O: Sink>(alloc: Global, input: &mut S, out: &mut O) -> Status
@@ -106,7 +113,7 @@ fn run_command<S: Source, O: Sink, D: Disk, N: Door>(
 /// of the input, and meets its peers through the door: `node master EPOCH ADDR` is called at the address and keeps its hard state on the disk,
 /// `node agent MACHINE BOOT ADDR` and `node app APP BOOT UNITS ADDR` dial it. What is said of the output holds of an input and an
 /// output that tell their bytes, and of nodes of a door that does, and of a disk that does.
-#[tactic(auto, using(crate::proofs::States::all_count_once))]
+#[tactic(auto, using(crate::proofs::States::all_count_once, crate::proofs::States::all_take_by_quota, crate::proofs::States::all_keep_grants))]
 pub fn fuxi<S: Source, O: Sink, E: Sink, D: Disk, N: Door>(
     alloc: Global,
     words: &[String],
@@ -138,8 +145,27 @@ pub fn fuxi<S: Source, O: Sink, E: Sink, D: Disk, N: Door>(
     // no allowed unit waits that fits;
     ensures settled { IfSome (S.left input.old) (λ bytes. (i : Input) → LeadsTo bytes i → (n : ℕ) → AllSettled (run i.cluster (take n i.events))) }
 
-    // and over all masters and epochs what was given back is credited at most once.
+    // over all masters and epochs what was given back is credited at most once.
     ensures credited { IfSome (S.left input.old) (λ bytes. (i : Input) → LeadsTo bytes i → AllCreditedOnce i.cluster i.events) }
+
+    // By one event a count on a machine that its master has as reported rises only where the master serves, the job is live, the machine is neither
+    // banned nor avoided, and what is wanted and the group's limit allow it;
+    ensures grows { IfSome (S.left input.old) (λ bytes. (i : Input) → LeadsTo bytes i → (n : ℕ) → AllGrow (run i.cluster (take n i.events))) }
+
+    // a banned machine has no grant, and a ban that is not refused is the master's and the hard state's;
+    ensures bare { IfSome (S.left input.old) (λ bytes. (i : Input) → LeadsTo bytes i → (n : ℕ) → AllBare (run i.cluster (take n i.events))) }
+
+    // what is preempted is of a lower priority, or of a group that keeps its quota, for one that is within its own;
+    ensures by_quota { IfSome (S.left input.old) (λ bytes. (i : Input) → LeadsTo bytes i → (n : ℕ) → AllTakeByQuota (run i.cluster (take n i.events))) }
+
+    // what a machine reports to a new master is kept, and an agent's table stays until it takes a row;
+    ensures keeps { IfSome (S.left input.old) (λ bytes. (i : Input) → LeadsTo bytes i → (n : ℕ) → AllKeepGrants (run i.cluster (take n i.events))) }
+
+    // who starts has nothing;
+    ensures starts { IfSome (S.left input.old) (λ bytes. (i : Input) → LeadsTo bytes i → (n : ℕ) → StartsWithNothing (run i.cluster (take n i.events))) }
+
+    // and grants are lost only by a ban, the end of their job, a preemption, and by what their job gives back.
+    ensures loses { IfSome (S.left input.old) (λ bytes. (i : Input) → LeadsTo bytes i → (n : ℕ) → AllLose (run i.cluster (take n i.events))) }
 
     // The input was read to its end, and the outputs of all its lines and the state were written.
     ensures done { command_of (map string_bytes words.now) ≡ Some Replay → result ≡ Status.Done → IfSome (S.left input.old) (λ bytes. (S.left input.new ≡ Some [])
@@ -228,6 +254,12 @@ pub fn fuxi<S: Source, O: Sink, E: Sink, D: Disk, N: Door>(
     // The laws of the states of a run, for the clauses on them.
     always_safe();
     give_backs_are_credited_once();
+    every_run_grows_as_allowed();
+    every_run_keeps_banned_machines_bare();
+    preempts_by_quota();
+    a_failover_keeps_grants();
+    starts_with_nothing();
+    every_run_loses_only_what_is_credited();
     let status = run_command(alloc, words, input, out, disk, door);
     let _told = report(err, &status);
     status
