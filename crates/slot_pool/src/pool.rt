@@ -62,7 +62,7 @@ impl<T> Model for Pool<T> {
 impl<T> Pool<T> {
     ghost use Rattle.slot_pool.specs.Lends.{lends_value};
 
-    /// An empty pool into which at least `n` values can be put.
+    /// An empty pool into which at least `n` values can be put. `OutOfMemory` as at `reserve`.
     pub fn with_room(alloc: Global, n: usize) -> Result<Pool<T>, OutOfMemory>
     where
         T: Drop,
@@ -79,8 +79,8 @@ impl<T> Pool<T> {
         Ok(pool)
     }
 
-    /// Makes room, so that at least `n` values can be put in. What is reserved is written as it is used. After
-    /// the refusal the pool is as before; more than 2^32 numbers are refused too.
+    /// Makes room, so that at least `n` values can be put in. What is reserved is written only as it is used.
+    /// `OutOfMemory`: memory was refused, or more than 2^32 numbers are needed; the pool is as before.
     pub fn reserve(&mut self, n: usize) -> Result<(), OutOfMemory>
         ensures room { OnOk result (n ≤ self.new.spare) }
         ensures no_less { OnOk result (self.old.spare ≤ self.new.spare) }
