@@ -15,7 +15,7 @@ use Rattle.locality_tree.specs.declared.path.Path.{Path}
 use Rattle.locality_tree.specs.declared.unit_set.UnitSet.{UnitSet}
 use Rattle.locality_tree.specs.Trees.{Pair, ranks_before, IsRanked}
 use Rattle.locality_tree.specs.Layouts.{Slots, HasNumber, AreKept, IsQueueAt}
-use Rattle.locality_tree.specs.Paths.{is_in_either, nothing, unskipped, Stops, IsTail, HasTail, Passed, SkipsTo, priority_in, at_most, is_best, IsRanking, pairs_of, Leads, Gives}
+use Rattle.locality_tree.specs.Paths.{is_in_either, nothing, unskipped, Stops, IsTail, HasTail, Passed, SkipsTo, priority_in, at_most, is_best, IsRanking, pairs_of, Leads, IsWalkable, Gives}
 use Rattle.locality_tree.proofs.MembersLemmas.{in_right, in_append, in_here, all_in}
 use Rattle.locality_tree.proofs.QueueLaws.{Entries, Parts, Rises, member_entry, live, same_entry, same_slot, none_some}
 use Rattle.locality_tree.proofs.RanksLemmas.{by_level, by_priority, by_order, head_most, FirstLeft, first_left, none_left}
@@ -285,6 +285,11 @@ leads_whole p pairs near rack cluster near_set rack_set near_is rack_is n r k ra
 gives_first : (pairs : List Pair) (b : Pair) (others : List Pair) (answer : Option Pair) (IsLeft : List Pair → Type 0) → FirstLeft pairs b others → answer ≡ Some b → ((rest : List Pair) → IsRanking rest others → IsLeft rest) → Gives pairs answer IsLeft
 gives_first pairs b others answer IsLeft f same left = subst (λ (ps : List Pair). Gives ps answer IsLeft) (sym f.is) (same, left f.rest f.ranking)
 
+-- whatever a path gave, it has some pairs left
+pub goes_on : (p : Path) (pairs : List Pair) (answer : Option Pair) → Gives pairs answer (Leads p) → IsWalkable p
+goes_on p [] answer g = record { pairs = []; leads = g.1 }
+goes_on p (b ∷ bs) answer g = record { pairs = bs; leads = g.1 }
+
 module _ (law : Entries) (parts : Parts) (p : Path) (pairs : List Pair) (l : Leads p pairs) where
   abbrev pub map_of : Slot → Option Node
   map_of = value_at p.pool.now
@@ -411,7 +416,7 @@ module _ (law : Entries) (parts : Parts) (p : Path) (pairs : List Pair) (l : Lea
   end_step none first second =
       let empty : cluster_pairs ≡ [] = no_prio cluster_pairs (sym cluster_prio ∙ ap (priority_in map_of) none) in
       let e = pick_end pairs near_pairs rack_pairs (subst (λ (x : List Pair). IsRanking pairs (near_pairs ++ (rack_pairs ++ x))) empty l.ranking) (subst (λ (x : List Pair). is_best (prio near_pairs) (prio rack_pairs) (prio x) ≡ false) empty (first_test false first)) (subst (λ (x : List Pair). is_best (prio rack_pairs) None (prio x) ≡ false) empty (second_test false second)) in
-      subst (λ (ps : List Pair). Gives ps None (Leads p)) (sym e) refl
+      subst (λ (ps : List Pair). Gives ps None (Leads p)) (sym e) (refl, subst (λ (ps : List Pair). Leads p ps) e l)
     where
       no_prio : (ps : List Pair) → prio ps ≡ None → ps ≡ []
       no_prio [] h = refl

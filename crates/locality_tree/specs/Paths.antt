@@ -95,7 +95,7 @@ pub record IsWalkable (p : Path) : Type 0 where
   pub pairs : List Pair
   pub leads : Leads p pairs
 
--- An answer is the first of these pairs, and nothing exactly where there is none; then the rest is left.
+-- An answer is the first of these pairs, and then the rest is left; it is nothing exactly where there is none.
 abbrev pub Gives : List Pair → Option Pair → (List Pair → Type 0) → Type 0
-Gives [] answer IsLeft = answer ≡ None
+Gives [] answer IsLeft = (answer ≡ None) × IsLeft []
 Gives (p ∷ rest) answer IsLeft = (answer ≡ Some p) × IsLeft rest

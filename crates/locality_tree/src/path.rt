@@ -148,7 +148,8 @@ impl<'a> Path<'a> {
     /// rack's, else 2. None exactly at the end.
     pub fn next(&mut self) -> Option<(Entry, u8)>
         requires { IsWalkable self.old }
-        ensures { (rest : List Pair) → Leads self.old rest → Gives rest result (Leads self.new) }
+        ensures gives { (pairs : List Pair) → Leads self.old pairs → Gives pairs result (Leads self.new) }
+        ensures goes_on { IsWalkable self.new }
     {
         standing_lists();
         orders();
