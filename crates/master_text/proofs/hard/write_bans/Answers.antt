@@ -1,4 +1,4 @@
-use Rattle.std.proofs.Common.{◌≡◌, ◌<◌, map, sym, ap, subst, rules}
+use Rattle.std.proofs.Common.{[], ◌≡◌, ◌<◌, map, sym, ap, subst, rules}
 use Rattle.std.specs.List.{AllByRecursion, flat_map}
 use Rattle.fuxi_terms.specs.Limits.{most_machines}
 use Rattle.fuxi_terms.specs.Lists.{below}

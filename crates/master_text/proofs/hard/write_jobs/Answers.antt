@@ -1,4 +1,4 @@
-use Rattle.std.proofs.Common.{◌≡◌, ℕ, ◌<◌, true, List, sym, ap, subst, rules}
+use Rattle.std.proofs.Common.{[], ◌≡◌, ℕ, ◌<◌, true, List, sym, ap, subst, rules}
 use Rattle.std.specs.List.{AllByRecursion, flat_map}
 use Rattle.fuxi_terms.specs.Jobs.{KnownJob, is_known, job_numbers}
 use Rattle.fuxi_terms.specs.Limits.{most_jobs}
