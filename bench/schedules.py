@@ -116,19 +116,20 @@ def kinds(d, draw, lines):
     d.begin(16, sizes(3))
     while d.lines < lines:
         kind, machine = draw.random(), draw.randrange(d.machines)
-        if kind < 0.6:
+        if kind < 0.5:
             d.say(f"deliver {max(1, d.sent - draw.randrange(60))}")
-        elif kind < 0.76:
-            d.say(f"turn {draw.choice(d.peers())}")
-        elif kind < 0.78:
-            d.say(f"turn master {d.epoch}")
-        elif kind < 0.94:
+        elif kind < 0.545:
+            turn = f"turn {draw.choice(d.peers())}"
+            d.turns(turn[5:]) if draw.random() < 0.9 else d.say(turn)
+        elif kind < 0.548:
+            d.turns(f"master {d.epoch}")
+        elif kind < 0.93:
             d.say(command(draw, d))
-        elif kind < 0.97:
+        elif kind < 0.96:
             d.say(f"ban {d.epoch} {machine}", f"unban {d.epoch} {machine}")
-        elif kind < 0.99:
+        elif kind < 0.98:
             d.say(f"resync agent {machine}")
-        elif kind < 0.9995:
+        elif kind < 0.9999:
             d.say(f"preempt {d.epoch}")
         elif d.epoch < 250:
             d.master()
@@ -178,15 +179,16 @@ def failovers(d, draw, lines):
 
 
 def placing(d, draw, lines):
-    """All machines filled and emptied again."""
+    """All machines filled, emptied and filled again."""
     d.begin(16, sizes(8))
-    while d.lines < lines:
-        for count in (300, 0):
-            d.say(*(f"want {a} {u} {count}" for a in d.jobs for u in range(8)))
-            for a in d.jobs:
-                d.turns(f"app {a}")
-            d.turns(f"master {d.epoch}")
-            d.turns(*d.peers())
+    count = 300
+    while d.lines < lines or count == 0:
+        d.say(*(f"want {a} {u} {count}" for a in d.jobs for u in range(8)))
+        for a in d.jobs:
+            d.turns(f"app {a}")
+        d.turns(f"master {d.epoch}")
+        d.turns(*d.peers())
+        count = 300 - count
 
 
 def preemptions(d, draw, lines):
