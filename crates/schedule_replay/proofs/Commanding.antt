@@ -35,9 +35,25 @@ use Rattle.schedule_text.specs.declared.refusal.Refusal.{Refusal}
 use Rattle.schedule_text.specs.declared.refusal.Refusal.TheVariants as why
 use Rattle.schedule_text.specs.Printing.{as_refusal}
 use Rattle.schedule_text.specs.Asked.{AreTestedAlike, job_named, job_refusal}
-use Rattle.master_text.specs.Refusals.{master_refusal}
-use Rattle.schedule_replay.specs.Commands.{AreGoverned, Governing, GovernsIn, IsGoverned, IsGoverning, IsRefused, GovernsMasters, TakesStep, TellsIn, TellsInWorld, governing, refusal_in}
+use Rattle.schedule_replay.specs.Commands.{AreGoverned, Governing, GovernsIn, IsGoverned, IsGoverning, IsRefused, GovernsMasters, TakesStep, TellsIn, TellsInWorld, governing, hard_refusal, master_refusal, refusal_in}
 use Rattle.schedule_replay.proofs.CommandSteps.{fails, finish_known, group_known, machine_known, not_both, not_none, passes, some_is, start_done, submit_tests_of, submit_unknown, told_is, told_step, writes_done, writes_refused}
+
+-- The refusal that a fault of the hard state is
+hard_refused : (step : Result HardState WrittenRefusal) (f : HardFault) (r : Refusal) → hard_refusal f ≡ Some r → Refuses step f → step ≡ Err (as_refusal r)
+hard_refused step (hard.Stale fence) r is says = says ∙ ap (λ r. Err (as_refusal r)) (some_is (why.NotRising fence) r is)
+hard_refused step (hard.Fenced fence) r is says = says ∙ ap (λ r. Err (as_refusal r)) (some_is (why.Fenced fence) r is)
+hard_refused step hard.Known r is says = says ∙ ap (λ r. Err (as_refusal r)) (some_is why.Known r is)
+hard_refused step hard.NoJob r is says = says ∙ ap (λ r. Err (as_refusal r)) (some_is why.NoJob r is)
+hard_refused step hard.Ended r is says = says ∙ ap (λ r. Err (as_refusal r)) (some_is why.Ended r is)
+hard_refused step hard.AlreadyBanned r is says = says ∙ ap (λ r. Err (as_refusal r)) (some_is why.AlreadyBanned r is)
+hard_refused step hard.NotBanned r is says = says ∙ ap (λ r. Err (as_refusal r)) (some_is why.NotBanned r is)
+hard_refused step hard.Full r is says = says ∙ ap (λ r. Err (as_refusal r)) (some_is (why.HardFull most_records) r is)
+hard_refused step (hard.NotCheckpoint offset) r is says = absurd (not_none r is)
+hard_refused step hard.DiskFault r is says = absurd (not_none r is)
+hard_refused step hard.OutOfMemory r is says = absurd (not_none r is)
+
+not_memory : (f : HardFault) (r : Refusal) → hard_refusal f ≡ Some r → f ≢ hard.OutOfMemory
+not_memory f r is same = not_none r (sym (ap hard_refusal same) ∙ is)
 
 -- that of what a master's answer says
 master_refused : (r : MasterRefusal) → refusal_of r ≡ as_refusal (master_refusal r)
@@ -78,10 +94,10 @@ written_in w e v old ms M s runs =
 
 -- The writing is refused
 pub writing_refused : (w : World) (e : ℕ) (x : MasterCommand) (v : HardEvent) (old new : Held) (ms : MastersRecord) (M : Master) (f : HardFault) (r : Refusal) → IsGoverning w (governing old ms) → find nat_cmp e w.masters ≡ Some M
-    → command_of w.cluster w.hard M x ≡ writes w.cluster w.hard M v (change_in x) → ((step : Result HardState WrittenRefusal) → Refuses step f → step ≡ Err (as_refusal r)) → f ≢ hard.OutOfMemory → Refuses (hard_step old.hard.value e v) f → (f ≢ hard.OutOfMemory → new ≡ old) → IsRefused w (commanded w e x) (governing new ms) r
-writing_refused w e x v old new ms M f r s runs is refused served says unchanged =
-    let step : hard_step w.hard M.epoch v ≡ Err (as_refusal r) = written_in w e v old ms M s runs ∙ refused (hard_step old.hard.value e v) says in
-    tests_refuse w e x (governing new ms) M r (subst (λ y. IsGoverning w (governing y ms)) (sym (unchanged served)) s) runs
+    → command_of w.cluster w.hard M x ≡ writes w.cluster w.hard M v (change_in x) → hard_refusal f ≡ Some r → Refuses (hard_step old.hard.value e v) f → (f ≢ hard.OutOfMemory → new ≡ old) → IsRefused w (commanded w e x) (governing new ms) r
+writing_refused w e x v old new ms M f r s runs is fault says unchanged =
+    let step : hard_step w.hard M.epoch v ≡ Err (as_refusal r) = written_in w e v old ms M s runs ∙ hard_refused (hard_step old.hard.value e v) f r fault says in
+    tests_refuse w e x (governing new ms) M r (subst (λ y. IsGoverning w (governing y ms)) (sym (unchanged (not_memory f r fault))) s) runs
     (is ∙ writes_refused w.cluster w.hard M v (change_in x) (as_refusal r) step)
 
 -- It is done, and the master, which does not refuse what was written, is told

@@ -3,6 +3,7 @@ use Rattle.std.specs.Prelude.{◌≡◌, ℕ, ◌+◌, [], Option, Some, None, R
 use Rattle.std.specs.Ordering.{nat_cmp}
 use Rattle.std.specs.FinMap.Entries.{find}
 use Rattle.fuxi_terms.specs.Cluster.{ClusterRecord}
+use Rattle.fuxi_terms.specs.Limits.{most_records}
 use Rattle.written_net.specs.Channels.{master_id, party}
 use Rattle.written_roles.specs.HardState.{HardState}
 use Rattle.written_roles.specs.Masters.{Master}
@@ -12,14 +13,16 @@ use Rattle.written_world.specs.World.{World, Step, refused}
 use Rattle.written_world.specs.Events.{commanded}
 use Rattle.written_world.specs.Good.{Good}
 use Rattle.written_join.specs.Joins.{OneActs}
+use Rattle.hard_state.specs.declared.fault.HardFault.{HardFault}
+use Rattle.hard_state.specs.declared.fault.HardFault.TheVariants as hard
 use Rattle.memory_checkpoint.specs.Held.{Held, IsOpen}
 use Rattle.fuxi_master.specs.Steps.{told_by}
 use Rattle.fuxi_master.specs.declared.event.MasterEvent.{MasterEvent}
 use Rattle.fuxi_master.specs.declared.event.MasterRefusal.{MasterRefusal}
+use Rattle.fuxi_master.specs.declared.event.MasterRefusal.TheVariants as master
 use Rattle.core_join.specs.Masters.{IsWritten, change_in}
 use Rattle.running_masters.specs.Running.{MastersRecord, AreMastersOf, AreWithin}
 use Rattle.running_masters.specs.Calls.{CommandDoneIn}
-use Rattle.master_text.specs.Refusals.{master_refusal}
 use Rattle.schedule_text.specs.declared.refusal.Refusal.{Refusal}
 use Rattle.schedule_text.specs.declared.refusal.Refusal.TheVariants as why
 use Rattle.schedule_text.specs.Printing.{as_refusal}
@@ -78,7 +81,25 @@ GovernsMasters e step old new answer = (checkpoint : Held) → Governs e step (g
 abbrev pub TakesStep : MastersRecord → MastersRecord → Type 0
 TakesStep old new = (n : ℕ) → AreWithin n old → AreWithin (n + 1) new
 
--- what a master's answer says
+-- Refusals. That of a fault of the hard state, where it is one, and what a master's answer says
+abbrev pub hard_refusal : HardFault → Option Refusal
+hard_refusal (hard.Stale fence) = Some (why.NotRising fence)
+hard_refusal (hard.Fenced fence) = Some (why.Fenced fence)
+hard_refusal hard.Known = Some why.Known
+hard_refusal hard.NoJob = Some why.NoJob
+hard_refusal hard.Ended = Some why.Ended
+hard_refusal hard.AlreadyBanned = Some why.AlreadyBanned
+hard_refusal hard.NotBanned = Some why.NotBanned
+hard_refusal hard.Full = Some (why.HardFull most_records)
+hard_refusal (hard.NotCheckpoint offset) = None
+hard_refusal hard.DiskFault = None
+hard_refusal hard.OutOfMemory = None
+
+abbrev pub master_refusal : MasterRefusal → Refusal
+master_refusal master.AlreadyServing = why.AlreadyServing
+master_refusal master.NotServing = why.NotServing
+master_refusal master.NothingToPreempt = why.NothingToPreempt
+
 abbrev pub refusal_in : Option (Result (Unit {0}) MasterRefusal) → Option Refusal
 refusal_in None = Some why.NotRunning
 refusal_in (Some (Ok done)) = None

@@ -15,7 +15,7 @@ returns-in-Err-clause-world c w cluster s =
     let r = runs_in w e (sym (c.if-not-runs.ensures w s.stand)) in
     let there = machine_there c.args.cluster.now w.cluster m c.machines.result cluster c.machines.ensures.number c.if-machine-machines.false in
     writing_refused w e (BansMachine m) (Banning m) c.args.checkpoint.now c.ban.new.self c.args.masters.now r.master c.in-Err.fault c.in_ok-written_refusal-in-Err.field-0 s r.is (ban_written w r.master m there)
-    c.in_ok-written_refusal-in-Err.ensures.refused c.in_ok-written_refusal-in-Err.ensures.served c.in-Err.ensures.refused c.in-Err.ensures.unchanged
+    c.in_ok-written_refusal-in-Err.ensures c.in-Err.ensures.refused c.in-Err.ensures.unchanged
 
 pub returns-clause-world : goal.returns-clause-world
 returns-clause-world c =

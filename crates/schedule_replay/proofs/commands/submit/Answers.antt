@@ -39,7 +39,7 @@ returns-in-Err-submit-clause-world c w cluster s =
     let same = c.resources.ensures.number ∙ ap (λ (d : ClusterRecord). d.resources) cluster in
     let made = subst (λ l. IsMade a g c.resources.result l (Ok c.in-Ok.job)) c.as_slice.ensures c.in-Ok.ensures.made in
     writing_refused w e (Submits (job_named a g asks)) (Submission c.in-Ok.job) c.args.checkpoint.now c.submit.new.self c.args.masters.now r.master c.in-Err-submit.fault c.in_ok-written_refusal-in-Err-submit.field-0 s r.is
-    (submit_written c.jobs_are_tested_alike.ensures w r.master a g c.resources.result asks c.in-Ok.job same there made) c.in_ok-written_refusal-in-Err-submit.ensures.refused c.in_ok-written_refusal-in-Err-submit.ensures.served c.in-Err-submit.ensures.refused c.in-Err-submit.ensures.unchanged
+    (submit_written c.jobs_are_tested_alike.ensures w r.master a g c.resources.result asks c.in-Ok.job same there made) c.in_ok-written_refusal-in-Err-submit.ensures c.in-Err-submit.ensures.refused c.in-Err-submit.ensures.unchanged
 
 pub tell-requires-clause-fitting : goal.tell-requires-clause-fitting
 tell-requires-clause-fitting c = admit_fits c.args.checkpoint.now c.args.masters.now c.args.epoch c.in-Ok.job c.submit.new.self.hard.value c.requires.governed c.in-Ok-submit.ensures.ok.1
