@@ -23,7 +23,6 @@ pub struct Slot {
 
 /// Values under slots, seen as a finite map from slots to values, the present generation of each number,
 /// and how many values can be put in without memory.
-#[derive(Drop)]
 pub struct Pool<T> {
     /// By number, as far as numbers were used.
     cells: Vec<Cell<T>>,
@@ -33,6 +32,17 @@ pub struct Pool<T> {
     free: Vec<u32>,
     /// So many numbers can be used in all. Each vector has room for them.
     room: usize,
+}
+
+impl<T: Drop> Drop for Pool<T> {
+    fn drop(self) {
+        let Pool {
+            cells,
+            generations,
+            free,
+            room,
+        } = self;
+    }
 }
 
 impl<T> Model for Pool<T> {
@@ -52,7 +62,7 @@ impl<T> Model for Pool<T> {
 impl<T> Pool<T> {
     ghost use Rattle.slot_pool.specs.Lends.{lends_value};
 
-    /// An empty pool into which at least `n` values can be put.
+    /// An empty pool into which at least `n` values can be put. `OutOfMemory` as at `reserve`.
     pub fn with_room(alloc: Global, n: usize) -> Result<Pool<T>, OutOfMemory>
     where
         T: Drop,
@@ -69,8 +79,8 @@ impl<T> Pool<T> {
         Ok(pool)
     }
 
-    /// Makes room, so that at least `n` values can be put in. What is reserved is written as it is used. After
-    /// the refusal the pool is as before; more than 2^32 numbers are refused too.
+    /// Makes room, so that at least `n` values can be put in. What is reserved is written only as it is used.
+    /// `OutOfMemory`: memory was refused, or more than 2^32 numbers are needed; the pool is as before.
     pub fn reserve(&mut self, n: usize) -> Result<(), OutOfMemory>
         ensures room { OnOk result (n ≤ self.new.spare) }
         ensures no_less { OnOk result (self.old.spare ≤ self.new.spare) }

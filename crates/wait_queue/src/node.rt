@@ -88,7 +88,8 @@ pub(crate) fn behind_of(pool: &Pool<Node>, slot: Option<Slot>, first: Option<Slo
     }
 }
 
-/// What now stands behind the slot, or first in the queue where there is no slot.
+/// Ties the node at the slot to what is to stand behind it; where there is no slot, that is to stand first in
+/// the queue.
 pub(crate) fn tie_behind(
     pool: &mut Pool<Node>,
     first: &mut Option<Slot>,
@@ -106,7 +107,8 @@ pub(crate) fn tie_behind(
     }
 }
 
-/// What now stands before the slot, or last in the queue where there is no slot.
+/// Ties the node at the slot to what is to stand before it; where there is no slot, that is to stand last in
+/// the queue.
 pub(crate) fn tie_before(
     pool: &mut Pool<Node>,
     last: &mut Option<Slot>,

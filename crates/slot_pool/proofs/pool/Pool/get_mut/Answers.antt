@@ -17,6 +17,6 @@ returns g c =
     let r = live_reads (map value_of c.self.inside.cells.items) c.self.inside.generations.items c.args.slot (subst (λ p. IsSome (value_at p c.args.slot)) (sym c.self.view_is) c.requires) in
     let inside : c.args.slot.number < length (map value_of c.self.inside.cells.items) = value_inside (map value_of c.self.inside.cells.items) c.args.slot.number r.value r.stands in
     let cell = get_or_read c.self.inside.cells.items c.args.slot.number c.index_mut.result.now (omega (arith, length-map c.self.inside.cells.items value_of)) c.index_mut.ensures.value Vacant in (
-      (refl, λ w. rw (← c.self.view_is, map-set value_of c.self.inside.cells.items c.args.slot.number (Live w))),
+      (refl {a = c.value_mut.result.ghost_name}, λ w. rw (← c.self.view_is, map-set value_of c.self.inside.cells.items c.args.slot.number (Live w))),
       record { writes_back = tt; value = rw (← c.self.view_is) (read_present (map value_of c.self.inside.cells.items) c.self.inside.generations.items c.args.slot r.present ∙ read_value c.self.inside.cells.items c.args.slot.number ∙ sym (ap value_of cell) ∙ c.value_mut.ensures.value) },
     )
