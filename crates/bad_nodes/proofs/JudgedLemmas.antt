@@ -1,9 +1,10 @@
 -- Which machines are judged, in which order, and that sorting the marked ones gives them.
-use Rattle.std.proofs.Common.{◌≡◌, ◌≢◌, ◌⊎◌, inl, inr, ℕ, zero, suc, ◌+◌, ◌-◌, ◌<◌, ◌≤◌, Bool, true, false, not, ◌&&◌, ◌||◌, cond, nat_eq, nat_lt, nat_le, List, [], ◌∷◌, ◌++◌, length, take, map, get_or, filter, All, refl, sym, ap, ◌∙◌, subst, arith, IsPermutation}
+use Rattle.std.proofs.Common.{◌≡◌, ◌≢◌, ◌⊎◌, inl, inr, ℕ, zero, suc, ◌+◌, ◌-◌, ◌<◌, ◌≤◌, Bool, true, false, not, ◌&&◌, ◌||◌, cond, nat_eq, nat_lt, nat_le, List, [], ◌∷◌, ◌++◌, length, take, map, get_or, filter, All, refl, sym, ap, ◌∙◌, subst, add-one, arith, IsPermutation}
 use Rattle.std.specs.List.{AllByRecursion, list_any}
 use Rattle.std.proofs.lemmas.Bool.{cases_Bool, cases_lt}
 use Rattle.std.proofs.lemmas.Bool.Decides.{nat_tests}
-use Rattle.std.proofs.lemmas.List.{get_or_past, length-take-le, take_all}
+use Rattle.std.proofs.lemmas.List.{append-nil, get_or_past, length-take-le, map_push, take_all}
+use Rattle.std.proofs.lemmas.List.Elements.{filter-append}
 use Rattle.std.proofs.lemmas.List.Sorted.{IsPermutation-map}
 use Rattle.fuxi_terms.specs.Lists.{below}
 use Rattle.fuxi_terms.specs.Numbers.{has_number}
@@ -144,3 +145,13 @@ no_members P none (x ∷ xs) h = absurd (none x h.0)
 pub judged_none : (v : VotesRecord) (least percent : ℕ) → All (λ n. n < least) v.votes → judged v least percent ≡ []
 judged_none v least percent under =
     no_members (HasBetween v least (suc most_votes - least)) (λ m h. let few = under m 0 h.0 in omega (arith, few, h.2)) (judged v least percent) (judged_between v least percent)
+
+one_more : (p : ℕ → Bool) (n : ℕ) (b : Bool) → p n ≡ b → filter p (below (n + 1)) ≡ filter p (below n) ++ cond b (n ∷ []) []
+one_more p n b e = ap (λ k. filter p (below k)) (add-one n) ∙ filter-append p (below n) (n ∷ []) ∙ ap (λ t. filter p (below n) ++ cond t (n ∷ []) []) e
+
+-- one machine more that was looked at: it passes, or it does not
+pub one_passes : (p : ℕ → Bool) (n : ℕ) (ms new : List MachineNo) → p n ≡ true → new ≡ ms ++ record { 0 = n } ∷ [] → map number_of ms ≡ filter p (below n) → map number_of new ≡ filter p (below (n + 1))
+one_passes p n ms new e grown is = ap (map number_of) grown ∙ map_push number_of ms (record { 0 = n }) ∙ ap (λ ns. ns ++ n ∷ []) is ∙ sym (one_more p n true e)
+
+pub one_fails : (p : ℕ → Bool) (n : ℕ) (ms : List MachineNo) → p n ≡ false → map number_of ms ≡ filter p (below n) → map number_of ms ≡ filter p (below (n + 1))
+one_fails p n ms e is = is ∙ sym (append-nil (filter p (below n))) ∙ sym (one_more p n false e)

@@ -1,6 +1,6 @@
 //! The votes on machines.
 
-ghost use Rattle.std.specs.Prelude.{◌≡◌, ◌+◌, ◌-◌, ◌<◌, ◌≤◌, false, true, filter, length, map, replicate, set, IfOk};
+ghost use Rattle.std.specs.Prelude.{◌≡◌, ◌+◌, ◌-◌, ◌<◌, ◌≤◌, false, true, filter, length, map, replicate, set, All, IfOk};
 ghost use Rattle.fuxi_terms.specs.Lists.{below};
 ghost use Rattle.bad_nodes.specs.Judged.{cap, judged, most_votes, number_shut, votes_of};
 ghost use Rattle.bad_nodes.specs.Ranks.{is_marked, number_of};
@@ -116,7 +116,8 @@ impl Votes {
     // How many machines may still be banned.
     fn left(&self, percent: u32) -> usize
         requires { percent ≤ 100 }
-        ensures { result ≡ cap self.now percent - number_shut self.now }
+        ensures left { result ≡ cap self.now percent - number_shut self.now }
+        ensures within { All (λ n. n ≤ most_votes) self.now.votes }
     {
         let cap = self.votes.len() * percent as usize / 100;
         let shut = self.shut.iter().filter(|shut| **shut).count();
