@@ -1,7 +1,7 @@
 -- Which machines are judged, in which order, and that sorting the marked ones gives them.
-use Rattle.std.proofs.Common.{◌≡◌, ◌≢◌, ◌⊎◌, inl, inr, ℕ, zero, suc, ◌+◌, ◌-◌, ◌<◌, ◌≤◌, Bool, true, false, not, ◌&&◌, ◌||◌, cond, nat_eq, nat_lt, nat_le, List, [], ◌∷◌, ◌++◌, length, take, map, get_or, filter, All, refl, sym, ap, ◌∙◌, subst, add-one, arith, IsPermutation}
-use Rattle.std.specs.List.{AllByRecursion, list_any}
-use Rattle.std.proofs.lemmas.Bool.{cases_Bool, cases_lt}
+use Rattle.std.proofs.Common.{◌≡◌, ◌≢◌, inl, inr, ℕ, zero, suc, ◌+◌, ◌-◌, ◌<◌, ◌≤◌, Bool, true, false, not, ◌&&◌, cond, nat_eq, nat_lt, nat_le, List, [], ◌∷◌, ◌++◌, length, map, filter, All, refl, sym, ap, ◌∙◌, subst, add-one, arith, IsPermutation}
+use Rattle.std.specs.List.{AllByRecursion}
+use Rattle.std.proofs.lemmas.Bool.{cases_lt}
 use Rattle.std.proofs.lemmas.Bool.Decides.{nat_tests}
 use Rattle.std.proofs.lemmas.List.{append-nil, get_or_past, length-take-le, map_push, take_all}
 use Rattle.std.proofs.lemmas.List.Elements.{filter-append}
@@ -9,12 +9,12 @@ use Rattle.std.proofs.lemmas.List.Sorted.{IsPermutation-map}
 use Rattle.fuxi_terms.specs.Lists.{below}
 use Rattle.fuxi_terms.specs.Numbers.{has_number}
 use Rattle.fuxi_terms.proofs.Alls.{all_more, all_append, all_passed, all_filter}
-use Rattle.fuxi_terms.proofs.Booleans.{number_is, nat_itself, both_true, both_false, not_false}
+use Rattle.fuxi_terms.proofs.Booleans.{number_is, nat_itself, both_false}
 use Rattle.schedule_unit.specs.declared.party.MachineNo.{MachineNo}
 use Rattle.bad_nodes.specs.Judged.{VotesRecord, GoesBefore, cap, is_shut, judged, most_votes, number_shut, open_from, open_with, votes_of}
 use Rattle.bad_nodes.specs.Ranks.{is_marked, number_of}
 use Rattle.bad_nodes.proofs.InOrder.{InOrder, all_both, all_take, order_append, order_filter, order_more, order_take, order_weaker, below_within, below_rises}
-use Rattle.bad_nodes.proofs.OneOrder.{IsNotBehind, one_order, there, times, times-append, times-filter, times_moved}
+use Rattle.bad_nodes.proofs.OneOrder.{IsNotBehind, one_order, times, times-append, times-filter, times_moved}
 
 opened : (b c : Bool) → (not b && c) ≡ true → (b ≡ false) × (c ≡ true)
 opened true c h = cc
@@ -93,7 +93,7 @@ module _ (v : VotesRecord) where
       one_order v (map number_of sorted) (open_from v least (suc most_votes - least)) order
       (order_weaker (IsNotBehind v) (GoesBefore v) (λ x y h. elim h [ inl more ↦ inl more | inr tie ↦ inr (tie.0, omega (arith, tie.1)) ]) (open_from v least (suc most_votes - least)) (from_order least (suc most_votes - least)))
       (λ z. times_moved z (map number_of marked) (map number_of sorted) (IsPermutation-map number_of marked sorted moved)
-        ∙ ap (times z) is ∙ times-filter z (is_marked v least) (below (length v.votes)) ∙ sym (times_marked z least (votes_within within z)))
+      ∙ ap (times z) is ∙ times-filter z (is_marked v least) (below (length v.votes)) ∙ sym (times_marked z least (votes_within within z)))
 
 absent : (z : ℕ) (xs : List ℕ) → has_number z xs ≡ false → times z xs ≡ 0
 absent z [] h = refl

@@ -73,7 +73,12 @@ impl Votes {
     /// The machines to ban, by more votes and then by the smaller number: those that are not shut and have at
     /// least the least votes, cut so that with those that are shut they are at most so many percent of the
     /// machines, rounded down. The percent are at most 100.
-    pub fn judge(&self, alloc: Global, least: u32, percent: u32) -> Result<Vec<MachineNo>, OutOfMemory>
+    pub fn judge(
+        &self,
+        alloc: Global,
+        least: u32,
+        percent: u32,
+    ) -> Result<Vec<MachineNo>, OutOfMemory>
         requires { percent ≤ 100 }
         ensures { IfOk result (λ machines. map number_of machines.items ≡ judged self.now least percent) }
     {
