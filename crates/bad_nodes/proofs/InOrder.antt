@@ -1,4 +1,4 @@
--- What stands in order of a list, each before all behind it.
+-- Lists in which each stands before all that are behind it, by any relation.
 use Rattle.std.proofs.Common.{ℕ, zero, suc, ◌<◌, Bool, true, false, cond, List, [], ◌∷◌, ◌++◌, take, drop, filter, AllPairs, subst, sym, arith}
 use Rattle.std.specs.List.{AllByRecursion}
 use Rattle.std.proofs.lemmas.List.{take-append-drop}
