@@ -1,0 +1,30 @@
+use Rattle.std.proofs.Common.{◌≡◌, ◌≢◌, ◌<◌, ◌≤◌, false, length, suc, ◌-◌}
+use Rattle.std.proofs.lemmas.List.Elements.{All-from_recursion}
+use Rattle.fuxi_terms.proofs.Alls.{all_more}
+use Rattle.bad_nodes.specs.Judged.{GoesBefore, is_shut, judged, most_votes, votes_of}
+use Rattle.bad_nodes.proofs.InOrder.{order_weaker, pairs_in_order}
+use Rattle.bad_nodes.proofs.JudgedLemmas.{HasBetween, apart, judged_all, judged_between, judged_none, judged_order}
+use Rattle.bad_nodes.proofs.law.judges.Goals as goal
+
+pub returns-clause-distinct : goal.returns-clause-distinct
+returns-clause-distinct c = λ v least percent.
+    pairs_in_order (λ m n. m ≢ n) (judged v least percent) (order_weaker (λ m n. m ≢ n) (GoesBefore v) (apart v) (judged v least percent) (judged_order v least percent))
+
+pub returns-clause-there : goal.returns-clause-there
+returns-clause-there c = λ v least percent.
+    All-from_recursion (λ m. m < length v.votes) (judged v least percent)
+    (all_more (HasBetween v least (suc most_votes - least)) (λ m. m < length v.votes) (λ m h. h.0) (judged v least percent) (judged_between v least percent))
+
+pub returns-clause-sound : goal.returns-clause-sound
+returns-clause-sound c = λ v least percent.
+    All-from_recursion (λ m. (least ≤ votes_of v m) × (is_shut v m ≡ false)) (judged v least percent)
+    (all_more (HasBetween v least (suc most_votes - least)) (λ m. (least ≤ votes_of v m) × (is_shut v m ≡ false)) (λ m h. (h.2, h.1)) (judged v least percent) (judged_between v least percent))
+
+pub returns-clause-ordered : goal.returns-clause-ordered
+returns-clause-ordered c = λ v least percent. pairs_in_order (GoesBefore v) (judged v least percent) (judged_order v least percent)
+
+pub returns-clause-complete : goal.returns-clause-complete
+returns-clause-complete c = judged_all
+
+pub returns-clause-none : goal.returns-clause-none
+returns-clause-none c = judged_none
