@@ -30,8 +30,8 @@ use Rattle.written_world.specs.Events.{world_step}
 use Rattle.written_world.specs.Show.{show}
 use Rattle.input_lines.specs.Contents.{content, is_skipped}
 use Rattle.input_lines.specs.Statuses.{event_fault, stop_status}
-use Rattle.input_lines.specs.Wholes.{WritesLast}
-use Rattle.schedule_run.specs.Runs.{Run, Ending, AtEnd, AtBadLine, AtLimit, ended, behind, within_limits, ending_at, unless_past, with_event, run_from, pieces, StopsWithin, Ended}
+use Rattle.input_lines.specs.Wholes.{IsBroken, TakesLines, WritesLast}
+use Rattle.schedule_run.specs.Runs.{Run, Ending, AtEnd, AtBadLine, AtLimit, ended, behind, within_limits, ending_at, unless_past, with_event, run_from, pieces, StopsWithin, Ended, IsOpen, ReadsWhole}
 use Rattle.schedule_run.specs.Progress.{Stands, TakesLine, WritesState, after_line, behind_all, Along}
 use Rattle.schedule_run.proofs.Stepping.{skipped_line, event_line}
 use Rattle.fuxi_terms.specs.Limits.{most_line_bytes, most_lines}
