@@ -118,10 +118,10 @@ def kinds(d, draw, lines):
         kind, machine = draw.random(), draw.randrange(d.machines)
         if kind < 0.5:
             d.say(f"deliver {max(1, d.sent - draw.randrange(60))}")
-        elif kind < 0.545:
+        elif kind < 0.52:
             turn = f"turn {draw.choice(d.peers())}"
             d.turns(turn[5:]) if draw.random() < 0.9 else d.say(turn)
-        elif kind < 0.548:
+        elif kind < 0.521:
             d.turns(f"master {d.epoch}")
         elif kind < 0.93:
             d.say(command(draw, d))
@@ -156,14 +156,14 @@ def commands(d, draw, lines):
 
 
 def changes(d, draw, lines):
-    """Small changes of demands, each told at once and answered."""
+    """Small changes of demands, each told at once, and a round now and then."""
     d.begin(64, sizes(8))
     while d.lines < lines:
         job = draw.randrange(64)
         d.say(f"want {job} {draw.randrange(8)} {draw.randrange(12)}")
         d.turns(f"app {job}")
-        if draw.random() < 0.1:
-            d.turns(f"master {d.epoch}")
+        if draw.random() < 0.02:
+            d.round()
 
 
 def failovers(d, draw, lines):
