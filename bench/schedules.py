@@ -230,7 +230,7 @@ def heard(d, draw, lines):
 
 
 KINDS = {
-    "kinds": (kinds, 16, 1_000_000, {}),
+    "kinds": (kinds, 16, 750_000, {}),
     "turns": (turns, 64, 500_000, {}),
     "commands": (commands, 64, 366_000, {}),
     "changes": (changes, 256, 115_000, {}),
