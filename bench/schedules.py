@@ -179,8 +179,8 @@ def failovers(d, draw, lines):
 
 
 def placing(d, draw, lines):
-    """All machines filled, emptied and filled again."""
-    d.begin(16, sizes(8))
+    """All machines filled, emptied and filled again, with a thousand units that wait."""
+    d.begin(128, sizes(8))
     count = 300
     while d.lines < lines or count == 0:
         d.say(*(f"want {a} {u} {count}" for a in d.jobs for u in range(8)))
