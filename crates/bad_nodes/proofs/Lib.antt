@@ -1,3 +1,2 @@
-pub mod InOrder
 pub mod OneOrder
-pub mod JudgedLemmas
+pub mod MarkedLemmas

@@ -9,46 +9,10 @@ use Rattle.std.proofs.lemmas.List.Sorted.{sum_by-IsPermutation}
 use Rattle.fuxi_terms.proofs.Alls.{all_more}
 use Rattle.fuxi_terms.proofs.Booleans.{number_is, nat_itself}
 use Rattle.schedule_unit.specs.declared.party.MachineNo.{MachineNo}
-use Rattle.bad_nodes.specs.Judged.{VotesRecord, votes_of}
+use Rattle.written_roles.specs.ServedInOrder.{AreOrdered}
+use Rattle.written_roles.specs.Votes.{VotesRecord, votes_of}
 use Rattle.bad_nodes.specs.Ranks.{number_of}
-use Rattle.bad_nodes.proofs.InOrder.{InOrder}
-
--- how many times a number stands in a list
-abbrev pub times : ℕ → List ℕ → ℕ
-times z [] = 0
-times z (x ∷ xs) = cond (nat_eq z x) (1 + times z xs) (times z xs)
-
-pub times_moved : (z : ℕ) (xs ys : List ℕ) → IsPermutation xs ys → times z ys ≡ times z xs
-times_moved z xs ys moved =
-    is_count_by (times z) (nat_eq z) refl (λ x xs. refl) ys ∙ sum_by-IsPermutation (λ x. cond (nat_eq z x) 1 0) xs ys moved ∙ sym (is_count_by (times z) (nat_eq z) refl (λ x xs. refl) xs)
-
-pub times-append : (z : ℕ) (xs ys : List ℕ) → times z (xs ++ ys) ≡ times z xs + times z ys
-times-append z [] ys = omega arith
-times-append z (x ∷ xs) ys =
-    let rest = times-append z xs ys in
-    elim (nat_eq z x) as (λ b. cond b (1 + times z (xs ++ ys)) (times z (xs ++ ys)) ≡ cond b (1 + times z xs) (times z xs) + times z ys) [ true ↦ omega (arith, rest) | false ↦ rest ]
-
-pub times-filter : (z : ℕ) (p : ℕ → Bool) (xs : List ℕ) → times z (filter p xs) ≡ cond (p z) (times z xs) 0
-times-filter z p [] = elim (p z) as (λ b. ◌≡◌ {A = ℕ} 0 (cond b 0 0)) [ true ↦ refl | false ↦ refl ]
-times-filter z p (x ∷ xs) =
-    let rest = times-filter z p xs in
-    elim (cases_Bool (nat_eq z x)) [
-      | inl same ↦
-          let is : z ≡ x = number_is z x same in
-          elim (cases_Bool (p x)) [
-            | inl kept ↦
-                let here : p z ≡ true = ap p is ∙ kept in
-                rw (kept, same, here) (ap (λ n. 1 + n) (rest ∙ ap (λ b. cond b (times z xs) 0) here))
-            | inr cut ↦
-                let here : p z ≡ false = ap p is ∙ cut in
-                rw (cut, same, here) (rest ∙ ap (λ b. cond b (times z xs) 0) here)
-          ]
-      | inr other ↦
-          elim (cases_Bool (p x)) [
-            | inl kept ↦ rw (kept, other) rest
-            | inr cut ↦ rw (cut, other) rest
-          ]
-    ]
+use Rattle.written_roles.proofs.VotesLemmas.{times}
 
 -- what stands in a list is as all in it are
 pub there : (P : ℕ → Type 0) (z : ℕ) (xs : List ℕ) → 0 < times z xs → AllByRecursion P xs → P z
@@ -106,7 +70,7 @@ module _ (v : VotesRecord) where
   alike x y (inr h) (inl k) = absurd (omega (arith, h.0, k))
   alike x y (inr h) (inr k) = omega (arith, h.1, k.1)
 
-  pub one_order : (xs ys : List ℕ) → InOrder IsNotBehind xs → InOrder IsNotBehind ys → ((z : ℕ) → times z xs ≡ times z ys) → xs ≡ ys
+  pub one_order : (xs ys : List ℕ) → AreOrdered IsNotBehind xs → AreOrdered IsNotBehind ys → ((z : ℕ) → times z xs ≡ times z ys) → xs ≡ ys
   one_order [] [] h k same = refl
   one_order [] (y ∷ ys) h k same = absurd (omega (arith, same y, times_head y ys))
   one_order (x ∷ xs) [] h k same = absurd (omega (arith, same x, times_head x xs))
@@ -118,14 +82,14 @@ module _ (v : VotesRecord) where
       ap₂ (λ z zs. z ∷ zs) head (one_order xs ys h.1 k.1 rest)
 
   module _ (lt : MachineNo → MachineNo → Bool) (says : (m n : MachineNo) → lt n m ≡ false → IsNotBehind m.0 n.0) where
-    behind_first : (m : MachineNo) (ms : List MachineNo) → IsSortedBy lt (m ∷ ms) → InOrder IsNotBehind (map number_of ms) → AllByRecursion (IsNotBehind m.0) (map number_of ms)
+    behind_first : (m : MachineNo) (ms : List MachineNo) → IsSortedBy lt (m ∷ ms) → AreOrdered IsNotBehind (map number_of ms) → AllByRecursion (IsNotBehind m.0) (map number_of ms)
     behind_first m [] sorted up = tt
     behind_first m (n ∷ ns) sorted up =
         let first : IsNotBehind m.0 n.0 = says m n (sorted 0 m (omega arith) (omega arith)) in
         (first, all_more (IsNotBehind n.0) (IsNotBehind m.0) (λ z. after m.0 n.0 z first) (map number_of ns) up.0)
 
     -- what a sort leaves
-    pub sorted_order : (ms : List MachineNo) → IsSortedBy lt ms → InOrder IsNotBehind (map number_of ms)
+    pub sorted_order : (ms : List MachineNo) → IsSortedBy lt ms → AreOrdered IsNotBehind (map number_of ms)
     sorted_order [] sorted = tt
     sorted_order (m ∷ ms) sorted =
         let rest : IsSortedBy lt ms = λ k d p q. rw Rattle.std.proofs.Common.add-one (rw Rattle.std.proofs.Common.add-one at (sorted (suc k) d (omega arith) (omega arith))) in

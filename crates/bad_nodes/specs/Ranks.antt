@@ -1,7 +1,7 @@
 -- How votes are laid out. No public clause but for the number of a machine cites this module.
-use Rattle.std.specs.Prelude.{◌≡◌, ℕ, ◌≤◌, Bool, not, ◌&&◌, nat_le, List, length, All}
+use Rattle.std.specs.Prelude.{◌≡◌, ℕ, ◌≤◌, Bool, List, length, All}
 use Rattle.schedule_unit.specs.declared.party.MachineNo.{MachineNo}
-use Rattle.bad_nodes.specs.Judged.{VotesRecord, votes_of, is_shut, most_votes}
+use Rattle.written_roles.specs.Votes.{most_votes}
 
 abbrev pub number_of : MachineNo → ℕ
 number_of m = m.0
@@ -11,7 +11,3 @@ pub record AreVotes (votes : List ℕ) (shut : List Bool) : Type 0 where
   pub numbered : length shut ≡ length votes
   pub machines : length votes ≤ 256
   pub within : All (λ n. n ≤ most_votes) votes
-
--- a machine that may be judged
-abbrev pub is_marked : VotesRecord → ℕ → ℕ → Bool
-is_marked v least m = not (is_shut v m) && nat_le least (votes_of v m)

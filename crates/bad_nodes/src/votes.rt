@@ -2,8 +2,8 @@
 
 ghost use Rattle.std.specs.Prelude.{◌≡◌, ◌+◌, ◌-◌, ◌<◌, ◌≤◌, false, true, filter, length, map, replicate, set, All, IfOk};
 ghost use Rattle.fuxi_terms.specs.Lists.{below};
-ghost use Rattle.bad_nodes.specs.Judged.{cap, judged, most_votes, number_shut, votes_of};
-ghost use Rattle.bad_nodes.specs.Ranks.{is_marked, number_of};
+ghost use Rattle.written_roles.specs.Votes.{cap, is_marked, judged, most_votes, number_shut, votes_of};
+ghost use Rattle.bad_nodes.specs.Ranks.{number_of};
 
 use cluster_desc::Cluster;
 use fuxi_terms::OutOfMemory;
@@ -21,7 +21,7 @@ pub struct Votes {
 }
 
 impl Model for Votes {
-    ghost use Rattle.bad_nodes.specs.Judged.{VotesRecord};
+    ghost use Rattle.written_roles.specs.Votes.{VotesRecord};
 
     ghost Value = { VotesRecord };
 

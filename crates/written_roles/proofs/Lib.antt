@@ -15,3 +15,4 @@ pub mod BareMachines
 pub mod ServesWhenTold
 pub mod LosesCredited
 pub mod GrowsAllowed
+pub mod VotesLemmas

@@ -33,7 +33,7 @@ all_both : {A : Type 0} (P Q : A → Type 0) (xs : List A) → AllByRecursion P 
 all_both P Q [] h k = tt
 all_both P Q (x ∷ xs) h k = ((h.0, k.0), all_both P Q xs h.1 k.1)
 
-ordered_append : {A : Type 0} (R : A → A → Type 0) (xs ys : List A) → AreOrdered R xs → AreOrdered R ys → AllByRecursion (λ x. AllByRecursion (R x) ys) xs → AreOrdered R (xs ++ ys)
+pub ordered_append : {A : Type 0} (R : A → A → Type 0) (xs ys : List A) → AreOrdered R xs → AreOrdered R ys → AllByRecursion (λ x. AllByRecursion (R x) ys) xs → AreOrdered R (xs ++ ys)
 ordered_append R [] ys h k l = k
 ordered_append R (x ∷ xs) ys h k l = (all_append (R x) xs ys h.0 l.0, ordered_append R xs ys h.1 k l.1)
 
@@ -62,7 +62,7 @@ all_flat_of : {A B : Type 0} (Q : A → Type 0) (P : B → Type 0) (f : A → Li
 all_flat_of Q P f g [] h = tt
 all_flat_of Q P f g (x ∷ xs) h = all_append P (f x) (flat_map f xs) (g x h.0) (all_flat_of Q P f g xs h.1)
 
-ordered_filter : {A : Type 0} (R : A → A → Type 0) (p : A → Bool) (xs : List A) → AreOrdered R xs → AreOrdered R (filter p xs)
+pub ordered_filter : {A : Type 0} (R : A → A → Type 0) (p : A → Bool) (xs : List A) → AreOrdered R xs → AreOrdered R (filter p xs)
 ordered_filter R p [] h = tt
 ordered_filter R p (x ∷ xs) h = elim (p x) as (λ b. AreOrdered R (cond b (x ∷ filter p xs) (filter p xs))) [ true ↦ (all_filter (R x) p xs h.0, ordered_filter R p xs h.1) | false ↦ ordered_filter R p xs h.1 ]
 
@@ -70,7 +70,7 @@ ordered_map : {A B : Type 0} (R : B → B → Type 0) (f : A → B) (xs : List A
 ordered_map R f [] h = tt
 ordered_map R f (x ∷ xs) h = (all_mapped (R (f x)) f xs h.0, ordered_map R f xs h.1)
 
-ordered_more : {A : Type 0} (Q R : A → A → Type 0) → ((x y : A) → Q x y → R x y) → (xs : List A) → AreOrdered Q xs → AreOrdered R xs
+pub ordered_more : {A : Type 0} (Q R : A → A → Type 0) → ((x y : A) → Q x y → R x y) → (xs : List A) → AreOrdered Q xs → AreOrdered R xs
 ordered_more Q R g [] h = tt
 ordered_more Q R g (x ∷ xs) h = (all_more (Q x) (R x) (g x) xs h.0, ordered_more Q R g xs h.1)
 
@@ -107,7 +107,7 @@ below_less : (n : ℕ) → AllByRecursion (λ m. nat_lt m n ≡ true) (below n)
 below_less zero = tt
 below_less (suc n) = all_append (λ m. nat_lt m (suc n) ≡ true) (below n) (n ∷ []) (all_more (λ m. nat_lt m n ≡ true) (λ m. nat_lt m (suc n) ≡ true) (λ m t. grind (arith, nat_tests, t)) (below n) (below_less n)) (grind (arith, nat_tests), tt)
 
-below_rises : (n : ℕ) → AreOrdered (λ x y. x < y) (below n)
+pub below_rises : (n : ℕ) → AreOrdered (λ x y. x < y) (below n)
 below_rises zero = tt
 below_rises (suc n) = ordered_append (λ x y. x < y) (below n) (n ∷ []) (below_rises n) (tt, tt) (all_more (λ m. nat_lt m n ≡ true) (λ m. AllByRecursion (λ y. m < y) (n ∷ [])) (λ m t. (grind (arith, nat_tests, t), tt)) (below n) (below_less n))
 

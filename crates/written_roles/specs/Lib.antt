@@ -13,3 +13,4 @@ pub mod PlacedInOrder
 pub mod TakenByQuota
 pub mod ServedInOrder
 pub mod Transitions
+pub mod Votes

@@ -4,7 +4,7 @@
 //! them into the world. Each function here does nothing; its contract is a law of the definitions.
 #![tactic(auto)]
 
-ghost use Rattle.std.specs.Prelude.{◌≡◌, ◌⊎◌, ℕ, ◌<◌, Bool, true, false, List, Some, Ok, T};
+ghost use Rattle.std.specs.Prelude.{◌≡◌, ◌≢◌, ◌⊎◌, ℕ, ◌+◌, ◌<◌, ◌≤◌, Bool, true, false, List, [], length, All, AllPairs, Some, Ok, T};
 ghost use Rattle.fuxi_terms.specs.Cluster.{ClusterRecord};
 ghost use Rattle.fuxi_terms.specs.Keys.{key_cmp, Spot, spot_cmp};
 ghost use Rattle.fuxi_terms.specs.Numbers.{has_number};
@@ -25,6 +25,7 @@ ghost use Rattle.written_roles.specs.PlacedInOrder.{AreValid, IsPlacedInOrder};
 ghost use Rattle.written_roles.specs.ServedInOrder.{AreTriedInOrder, AreWalkedInOrder};
 ghost use Rattle.written_roles.specs.Settling.{NothingPlaceable, Picks, IsWithin, IsFirst};
 ghost use Rattle.written_roles.specs.TakenByQuota.{AreTakenByQuota};
+ghost use Rattle.written_roles.specs.Votes.{VotesRecord, GoesBefore, cap, is_shut, judged, most_votes, number_shut, votes_of};
 ghost use Rattle.written_roles.specs.Transitions.{IsOrderly, GrowsAsAllowed, IsBare, HasAllReports, MayLose, LosesOnlyCredited};
 
 /// Settling ends, and leaves nothing placeable; whoever grants the placeable pair of least rank until there
@@ -107,4 +108,17 @@ pub fn serves_when_told_of_all()
 pub fn loses_only_what_is_credited()
     ensures changes { (c : ClusterRecord) (M : Master) (x : MasterChange) (d : Changed) → change_of c M x ≡ Ok d → (a u m : ℕ) → held_on (ready c d.state).table a u m < held_on M.table a u m → MayLose x a u m }
     ensures hearing { (c : ClusterRecord) (M : Master) (fresh taken : Bool) (from : Id) (l : Ledger) → IsOrderly M → (is_agent from ≡ false → T (is_sorted key_cmp l.entries)) → talks c M from ≡ true → LosesOnlyCredited fresh from M (ready c (told_of M fresh taken from (said c M from l))) }
+{}
+
+/// Of any votes: no machine is judged twice, and each is there. Each has at least the least votes and is not shut. They
+/// stand by more votes and then by the smaller number. A machine that is not shut, has the votes and is not
+/// judged remains only where the judged and the shut together are at least the cap. A least number above
+/// every vote judges none.
+pub fn judges()
+    ensures distinct { (v : VotesRecord) (least percent : ℕ) → AllPairs (λ m n. m ≢ n) (judged v least percent) }
+    ensures there { (v : VotesRecord) (least percent : ℕ) → All (λ m. m < length v.votes) (judged v least percent) }
+    ensures sound { (v : VotesRecord) (least percent : ℕ) → All (λ m. (least ≤ votes_of v m) × (is_shut v m ≡ false)) (judged v least percent) }
+    ensures ordered { (v : VotesRecord) (least percent : ℕ) → AllPairs (GoesBefore v) (judged v least percent) }
+    ensures complete { (v : VotesRecord) (least percent m : ℕ) → m < length v.votes → votes_of v m ≤ most_votes → is_shut v m ≡ false → least ≤ votes_of v m → has_number m (judged v least percent) ≡ false → cap v percent ≤ length (judged v least percent) + number_shut v }
+    ensures none { (v : VotesRecord) (least percent : ℕ) → All (λ n. n < least) v.votes → judged v least percent ≡ [] }
 {}

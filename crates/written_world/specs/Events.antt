@@ -4,18 +4,19 @@ use Rattle.std.specs.Ordering.{nat_cmp}
 use Rattle.std.specs.FinMap.Entries.{put, where_key, find}
 use Rattle.fuxi_terms.specs.declared.Key.{Key}
 use Rattle.fuxi_terms.specs.Cluster.{JobRecord, has_machine}
-use Rattle.fuxi_terms.specs.Limits.{most_masters}
+use Rattle.fuxi_terms.specs.Limits.{most_masters, most_records}
 use Rattle.written_net.specs.Net.{Party, Id, Packet, Heard, move, Starts, heard_of}
 use Rattle.written_net.specs.Channels.{master_id, agent_id, app_id, party, is_master, is_agent, is_app, view, present, to_master, publish, body_of, send_all, resync_all}
 use Rattle.fuxi_terms.specs.Jobs.{is_known, has_ended, unit_count, job_numbers}
 use Rattle.written_roles.specs.Masters.{Master}
-use Rattle.written_roles.specs.Refusals.{Refusal, NotRunning, NotRising, TooManyMasters, NoMachine, NoJob, Ended, NoPacket, with_found}
-use Rattle.written_roles.specs.HardState.{is_not_rising, hard_step, Raise}
+use Rattle.written_roles.specs.Refusals.{Refusal, NotRunning, NotRising, TooManyMasters, HardFull, NoMachine, NoJob, Ended, NoPacket, with_found}
+use Rattle.written_roles.specs.HardState.{HardState, is_fenced, is_not_rising, hard_step, Raise}
+use Rattle.written_roles.specs.Votes.{VotesRecord, judged, votes_in, votes_of}
 use Rattle.written_world.specs.World.{World, Agent, App, set_boot, Step, prints_nothing, refused, then_step, unless_refused, on_result}
 use Rattle.written_roles.specs.MasterSteps.{master_party, talks, peers, MasterCommand, Submits, command_of, Finishes, BansMachine, new_master, UnbansMachine, StartsServing, MakesRoom}
 use Rattle.written_world.specs.Parties.{end_step, master_hears, agent_hears, app_hears}
 use Rattle.written_roles.specs.Apps.{changed_demand, usable_at, given_at, AppCommand, command_tests, command_key, command_number, Wants, WantsNear, WantsInRack, Avoids, GivesBack}
-use Rattle.written_world.specs.Outputs.{Line, Came, Lost, Frame, sent_lines}
+use Rattle.written_world.specs.Outputs.{Line, Judged, Came, Lost, Frame, sent_lines}
 use Rattle.written_world.specs.Show.{show}
 
 -- one constructor for each event line, with its numbers in the line's order
@@ -30,6 +31,7 @@ pub data Event : Type 0 where
   Unban : (epoch machine : ℕ) → Event
   Begin : (epoch : ℕ) → Event
   Preempt : (epoch : ℕ) → Event
+  Judge : (epoch least percent : ℕ) → Event
   Want : (job unit number : ℕ) → Event
   Near : (job unit machine number : ℕ) → Event
   Rack : (job unit rack number : ℕ) → Event
@@ -85,6 +87,20 @@ start_app w a b = unless_refused w ((not (is_known w.hard.jobs a), NoJob) ∷ (h
 -- Commands of a master: what is written to the hard state is written first
 abbrev pub commanded : World → ℕ → MasterCommand → Step
 commanded w e x = at_master w e (λ M. on_result w (command_of w.cluster w.hard M x) (λ k. prints_nothing (end_step (record w { hard = k.hard }) w.net k.change.state k.change.forced)))
+
+-- A judgement: each of these machines is banned, and printed with the votes that were counted before the first ban
+abbrev pub ban_each : ℕ → VotesRecord → List ℕ → World → Step
+ban_each e votes [] w = prints_nothing w
+ban_each e votes (m ∷ ms) w = then_step (record { world = (commanded w e (BansMachine m)).world; lines = Judged m (votes_of votes m) ∷ [] }) (λ w. ban_each e votes ms w)
+
+-- so many records more may be written
+abbrev pub is_too_full : HardState → ℕ → Bool × Refusal
+is_too_full h more = (nat_lt most_records (h.records + more), HardFull most_records)
+
+-- the machines that enough jobs mark are banned, as one event
+abbrev pub judge : World → ℕ → ℕ → ℕ → Step
+judge w e least percent = at_master w e (λ M. let votes = votes_in w.cluster M in let machines = judged votes least percent in
+    unless_refused w (is_fenced w.hard M.epoch ∷ is_too_full w.hard (length machines) ∷ []) (λ w. ban_each e votes machines w))
 
 -- What an application asks for. A demand that does not change is not appended
 abbrev pub demanded : World → ℕ → App → Key → ℕ → Step
@@ -189,6 +205,7 @@ act w (Ban e m) = commanded w e (BansMachine m)
 act w (Unban e m) = commanded w e (UnbansMachine m)
 act w (Begin e) = commanded w e StartsServing
 act w (Preempt e) = commanded w e MakesRoom
+act w (Judge e least percent) = judge w e least percent
 act w (Want a u n) = asks w a (Wants u n)
 act w (Near a u m n) = asks w a (WantsNear u m n)
 act w (Rack a u r n) = asks w a (WantsInRack u r n)

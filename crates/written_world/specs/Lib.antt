@@ -16,3 +16,4 @@ pub mod GivesBack
 pub mod KeepsGrants
 pub mod HeedsDemands
 pub mod Turns
+pub mod Judging

@@ -1,9 +1,10 @@
 -- Events that a line of the input can give: their numbers are in the ranges of the lines' places.
 use Rattle.std.specs.Prelude.{◌≡◌, ℕ, Bool, true, not, nat_lt, ◌&&◌, List}
 use Rattle.std.specs.List.{AllByRecursion}
-use Rattle.fuxi_terms.specs.Cluster.{ClusterRecord, is_valid_cluster}
+use Rattle.fuxi_terms.specs.Cluster.{ClusterRecord, is_valid_cluster, is_between, is_at_most}
 use Rattle.fuxi_terms.specs.Limits.{most_jobs, most_units, most_machines, most_racks, most_groups}
-use Rattle.written_world.specs.Events.{Event, StartMaster, StopMaster, StartAgent, StartApp, Submit, Finish, Ban, Unban, Begin, Preempt, Want, Near, Rack, Avoid, GiveBack, TurnMaster, TurnAgent, TurnApp, ResyncMaster, ResyncAgent, ResyncApp, Deliver, DeliverRange, Dump, ShowState}
+use Rattle.written_roles.specs.Votes.{most_votes}
+use Rattle.written_world.specs.Events.{Event, StartMaster, StopMaster, StartAgent, StartApp, Submit, Finish, Ban, Unban, Begin, Preempt, Judge, Want, Near, Rack, Avoid, GiveBack, TurnMaster, TurnAgent, TurnApp, ResyncMaster, ResyncAgent, ResyncApp, Deliver, DeliverRange, Dump, ShowState}
 
 -- epochs, boots and packets are counted from 1
 abbrev pub is_counted : ℕ → Bool
@@ -20,6 +21,7 @@ is_from_line (Ban e m) = is_counted e && nat_lt m most_machines
 is_from_line (Unban e m) = is_counted e && nat_lt m most_machines
 is_from_line (Begin e) = is_counted e
 is_from_line (Preempt e) = is_counted e
+is_from_line (Judge e least percent) = is_counted e && (is_between 1 most_votes least && is_at_most 100 percent)
 is_from_line (Want a u n) = nat_lt a most_jobs && nat_lt u most_units
 is_from_line (Near a u m n) = nat_lt a most_jobs && (nat_lt u most_units && nat_lt m most_machines)
 is_from_line (Rack a u r n) = nat_lt a most_jobs && (nat_lt u most_units && nat_lt r most_racks)

@@ -15,6 +15,8 @@ pub data Line : Type 0 where
   -- a packet with what it holds, of which the frame's bytes are made
   Frame : (number : ℕ) → (packet : Packet) → (body : Body) → Line
   Refused : (why : Refusal) → Line
+  -- a ban of a judgement, with the votes that were for it
+  Judged : (machine votes : ℕ) → Line
   -- the state
   State : (events : ℕ) → Line
   Fence : (epoch : ℕ) → Line

@@ -11,12 +11,13 @@ use Rattle.written_roles.specs.Masters.{Master}
 use Rattle.written_roles.specs.MasterSteps.{master_party}
 use Rattle.written_roles.specs.Transitions.{GrowsAsAllowed, IsBare, HasAllReports, credited_at}
 use Rattle.written_world.specs.World.{World}
-use Rattle.written_world.specs.Events.{Event, Ban, Finish, Preempt, Begin, Deliver, DeliverRange, packet_of, world_step}
+use Rattle.written_world.specs.Events.{Event, Ban, Finish, Preempt, Begin, Judge, Deliver, DeliverRange, packet_of, world_step}
 use Rattle.written_world.specs.Runs.{run}
 
--- an event is one step, but for a range of deliveries, which is its single ones
+-- an event is one step, but for a range of deliveries and a judgement, which are their single ones
 abbrev pub is_single : Event → Bool
 is_single (DeliverRange k l) = false
+is_single (Judge e least percent) = false
 is_single x = true
 
 -- an event is done: it is one that prints nothing but a refusal, and was not refused

@@ -17,6 +17,7 @@ ghost use Rattle.written_world.specs.World.{World, empty_world};
 ghost use Rattle.written_world.specs.GivesBack.{AllGiveBack};
 ghost use Rattle.written_world.specs.Good.{Good};
 ghost use Rattle.written_world.specs.HeedsDemands.{AllHeed};
+ghost use Rattle.written_world.specs.Judging.{AllJudge};
 ghost use Rattle.written_world.specs.KeepsGrants.{AllAdopt, AllReport, AllStay};
 ghost use Rattle.written_net.specs.Channels.{shape};
 ghost use Rattle.written_world.specs.Shown.{AllShown, AllCredited, AllGiveBacks};
@@ -156,4 +157,11 @@ pub fn demands_are_heeded()
 /// of them or the first 64, and an acknowledgement (`changes`).
 pub fn turns_go_as_changes()
     ensures { (c : ClusterRecord) (events : List Event) → AllTurn (run c events) }
+{}
+
+/// A judgement that is not refused bans exactly the machines that it judges: the bans behind it are those before and the
+/// judged ones, and no others. A machine with at least the least votes stays unbanned only where as many machines as
+/// the percentage allows are banned. One that judges no machine changes nothing but the number of events.
+pub fn every_judgement_bans_what_is_judged()
+    ensures { (c : ClusterRecord) (events : List Event) → IsInput c events → AllJudge (run c events) }
 {}

@@ -3,10 +3,10 @@ use Rattle.std.specs.Ordering.{ordering_then}
 use Rattle.std.proofs.lemmas.List.{take-map}
 use Rattle.std.proofs.lemmas.Fn.{always_returns_same}
 use Rattle.schedule_unit.specs.declared.party.MachineNo.{MachineNo}
-use Rattle.bad_nodes.specs.Judged.{most_votes, open_from, votes_of}
+use Rattle.written_roles.specs.Votes.{most_votes, open_from, votes_of}
 use Rattle.bad_nodes.specs.Ranks.{number_of}
 use Rattle.bad_nodes.proofs.OneOrder.{not_behind, sorted_order}
-use Rattle.bad_nodes.proofs.JudgedLemmas.{marked_sorted}
+use Rattle.bad_nodes.proofs.MarkedLemmas.{marked_sorted}
 use Rattle.bad_nodes.proofs.votes.Votes.judge.Goals as goal
 
 pub returns : goal.returns

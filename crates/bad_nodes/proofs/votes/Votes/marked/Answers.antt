@@ -1,8 +1,9 @@
 use Rattle.std.proofs.Common.{map, sym, ap, ◌∙◌}
 use Rattle.std.specs.Global.{Vec}
 use Rattle.schedule_unit.specs.declared.party.MachineNo.{MachineNo}
-use Rattle.bad_nodes.specs.Ranks.{is_marked, number_of}
-use Rattle.bad_nodes.proofs.JudgedLemmas.{one_fails, one_passes}
+use Rattle.written_roles.specs.Votes.{is_marked}
+use Rattle.bad_nodes.specs.Ranks.{number_of}
+use Rattle.bad_nodes.proofs.MarkedLemmas.{one_fails, one_passes}
 use Rattle.bad_nodes.proofs.votes.Votes.marked.Goals as goal
 use Rattle.bad_nodes.proofs.votes.Votes.marked.Goals.{then-is_marked+in_ok-push, else-is_marked}
 

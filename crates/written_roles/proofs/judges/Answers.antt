@@ -1,14 +1,14 @@
 use Rattle.std.proofs.Common.{◌≡◌, ◌≢◌, ◌<◌, ◌≤◌, false, length, suc, ◌-◌}
 use Rattle.std.proofs.lemmas.List.Elements.{All-from_recursion}
 use Rattle.fuxi_terms.proofs.Alls.{all_more}
-use Rattle.bad_nodes.specs.Judged.{GoesBefore, is_shut, judged, most_votes, votes_of}
-use Rattle.bad_nodes.proofs.InOrder.{order_weaker, pairs_in_order}
-use Rattle.bad_nodes.proofs.JudgedLemmas.{HasBetween, apart, judged_all, judged_between, judged_none, judged_order}
-use Rattle.bad_nodes.proofs.law.judges.Goals as goal
+use Rattle.written_roles.specs.Votes.{GoesBefore, is_shut, judged, most_votes, votes_of}
+use Rattle.written_roles.proofs.ServedInOrderLemmas.{ordered_more}
+use Rattle.written_roles.proofs.VotesLemmas.{HasBetween, apart, judged_all, judged_between, judged_none, judged_order, pairs_ordered}
+use Rattle.written_roles.proofs.judges.Goals as goal
 
 pub returns-clause-distinct : goal.returns-clause-distinct
 returns-clause-distinct c = λ v least percent.
-    pairs_in_order (λ m n. m ≢ n) (judged v least percent) (order_weaker (λ m n. m ≢ n) (GoesBefore v) (apart v) (judged v least percent) (judged_order v least percent))
+    pairs_ordered (λ m n. m ≢ n) (judged v least percent) (ordered_more (GoesBefore v) (λ m n. m ≢ n) (apart v) (judged v least percent) (judged_order v least percent))
 
 pub returns-clause-there : goal.returns-clause-there
 returns-clause-there c = λ v least percent.
@@ -21,7 +21,7 @@ returns-clause-sound c = λ v least percent.
     (all_more (HasBetween v least (suc most_votes - least)) (λ m. (least ≤ votes_of v m) × (is_shut v m ≡ false)) (λ m h. (h.2, h.1)) (judged v least percent) (judged_between v least percent))
 
 pub returns-clause-ordered : goal.returns-clause-ordered
-returns-clause-ordered c = λ v least percent. pairs_in_order (GoesBefore v) (judged v least percent) (judged_order v least percent)
+returns-clause-ordered c = λ v least percent. pairs_ordered (GoesBefore v) (judged v least percent) (judged_order v least percent)
 
 pub returns-clause-complete : goal.returns-clause-complete
 returns-clause-complete c = judged_all

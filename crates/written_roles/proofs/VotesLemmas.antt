@@ -1,20 +1,87 @@
--- Which machines are judged, in which order, and that sorting the marked ones gives them.
-use Rattle.std.proofs.Common.{◌≡◌, ◌≢◌, inl, inr, ℕ, zero, suc, ◌+◌, ◌-◌, ◌<◌, ◌≤◌, Bool, true, false, not, ◌&&◌, cond, nat_eq, nat_lt, nat_le, List, [], ◌∷◌, ◌++◌, length, map, filter, All, refl, sym, ap, ◌∙◌, subst, add-one, arith, IsPermutation}
+-- Which machines are judged, and in which order.
+use Rattle.std.proofs.Common.{◌≡◌, ◌≢◌, inl, inr, ℕ, zero, suc, ◌+◌, ◌-◌, ◌<◌, ◌≤◌, Bool, true, false, not, ◌&&◌, cond, nat_eq, nat_lt, nat_le, List, [], ◌∷◌, ◌++◌, length, take, drop, filter, All, AllPairs, refl, sym, ap, ◌∙◌, subst, arith, IsPermutation}
 use Rattle.std.specs.List.{AllByRecursion}
-use Rattle.std.proofs.lemmas.Bool.{cases_lt}
+use Rattle.std.proofs.lemmas.Bool.{cases_Bool, cases_lt}
 use Rattle.std.proofs.lemmas.Bool.Decides.{nat_tests}
-use Rattle.std.proofs.lemmas.List.{append-nil, get_or_past, length-take-le, map_push, take_all}
-use Rattle.std.proofs.lemmas.List.Elements.{filter-append}
-use Rattle.std.proofs.lemmas.List.Sorted.{IsPermutation-map}
+use Rattle.std.proofs.lemmas.List.{get_or_past, length-take-le, take_all, take-append-drop}
+use Rattle.std.proofs.lemmas.List.Elements.{All-from_recursion}
+use Rattle.std.proofs.lemmas.List.Kept.{AllPairs-cons}
+use Rattle.std.proofs.lemmas.List.Recursion.{is_count_by}
+use Rattle.std.proofs.lemmas.List.Sorted.{sum_by-IsPermutation}
 use Rattle.fuxi_terms.specs.Lists.{below}
 use Rattle.fuxi_terms.specs.Numbers.{has_number}
-use Rattle.fuxi_terms.proofs.Alls.{all_more, all_append, all_passed, all_filter}
+use Rattle.fuxi_terms.proofs.Alls.{all_more, all_append, all_front, all_passed, all_filter}
 use Rattle.fuxi_terms.proofs.Booleans.{number_is, nat_itself, both_false}
-use Rattle.schedule_unit.specs.declared.party.MachineNo.{MachineNo}
-use Rattle.bad_nodes.specs.Judged.{VotesRecord, GoesBefore, cap, is_shut, judged, most_votes, number_shut, open_from, open_with, votes_of}
-use Rattle.bad_nodes.specs.Ranks.{is_marked, number_of}
-use Rattle.bad_nodes.proofs.InOrder.{InOrder, all_both, all_take, order_append, order_filter, order_more, order_take, order_weaker, below_within, below_rises}
-use Rattle.bad_nodes.proofs.OneOrder.{IsNotBehind, one_order, times, times-append, times-filter, times_moved}
+use Rattle.fuxi_terms.proofs.Lists.{all_push}
+use Rattle.written_roles.specs.ServedInOrder.{AreOrdered}
+use Rattle.written_roles.specs.Votes.{VotesRecord, GoesBefore, cap, is_marked, is_shut, judged, most_votes, number_shut, open_from, open_with, votes_of}
+use Rattle.written_roles.proofs.ServedInOrderLemmas.{below_rises, ordered_append, ordered_filter, ordered_more}
+
+-- Lists, each of whose members stands so to all behind it
+module _ {A : Type 0} where
+  all_both : (P Q S : A → Type 0) → ((x : A) → P x → Q x → S x) → (xs : List A) → AllByRecursion P xs → AllByRecursion Q xs → AllByRecursion S xs
+  all_both P Q S f [] h k = tt
+  all_both P Q S f (x ∷ xs) h k = (f x h.0 k.0, all_both P Q S f xs h.1 k.1)
+
+  ordered_front : (R : A → A → Type 0) (xs ys : List A) → AreOrdered R (xs ++ ys) → AreOrdered R xs
+  ordered_front R [] ys h = tt
+  ordered_front R (x ∷ xs) ys h = (all_front (R x) xs ys h.0, ordered_front R xs ys h.1)
+
+  ordered_take : (R : A → A → Type 0) (n : ℕ) (xs : List A) → AreOrdered R xs → AreOrdered R (take n xs)
+  ordered_take R n xs h = ordered_front R (take n xs) (drop n xs) (subst (λ l. AreOrdered R l) (sym (take-append-drop n xs)) h)
+
+  all_take : (P : A → Type 0) (n : ℕ) (xs : List A) → AllByRecursion P xs → AllByRecursion P (take n xs)
+  all_take P n xs h = all_front P (take n xs) (drop n xs) (subst (λ l. AllByRecursion P l) (sym (take-append-drop n xs)) h)
+
+  -- by another relation, of members of which more is known
+  ordered_of : (R S : A → A → Type 0) (Q : A → Type 0) → ((x y : A) → Q x → Q y → S x y → R x y) → (xs : List A) → AllByRecursion Q xs → AreOrdered S xs → AreOrdered R xs
+  ordered_of R S Q f [] q h = tt
+  ordered_of R S Q f (x ∷ xs) q h = (all_both Q (S x) (R x) (λ y. f x y q.0) xs q.1 h.0, ordered_of R S Q f xs q.1 h.1)
+
+  pub pairs_ordered : (R : A → A → Type 0) (xs : List A) → AreOrdered R xs → AllPairs R xs
+  pairs_ordered R [] h = λ i j d low high. absurd (omega (arith, high))
+  pairs_ordered R (x ∷ xs) h = AllPairs-cons R x xs (All-from_recursion (R x) xs h.0) (pairs_ordered R xs h.1)
+
+below_within : (n : ℕ) → AllByRecursion (λ m. m < n) (below n)
+below_within zero = tt
+below_within (suc n) = all_push (λ m. m < suc n) (below n) n (all_more (λ m. m < n) (λ m. m < suc n) (λ m h. omega (arith, h)) (below n) (below_within n)) (omega arith)
+
+-- how many times a number stands in a list
+abbrev pub times : ℕ → List ℕ → ℕ
+times z [] = 0
+times z (x ∷ xs) = cond (nat_eq z x) (1 + times z xs) (times z xs)
+
+pub times_moved : (z : ℕ) (xs ys : List ℕ) → IsPermutation xs ys → times z ys ≡ times z xs
+times_moved z xs ys moved =
+    is_count_by (times z) (nat_eq z) refl (λ x xs. refl) ys ∙ sum_by-IsPermutation (λ x. cond (nat_eq z x) 1 0) xs ys moved ∙ sym (is_count_by (times z) (nat_eq z) refl (λ x xs. refl) xs)
+
+pub times-append : (z : ℕ) (xs ys : List ℕ) → times z (xs ++ ys) ≡ times z xs + times z ys
+times-append z [] ys = omega arith
+times-append z (x ∷ xs) ys =
+    let rest = times-append z xs ys in
+    elim (nat_eq z x) as (λ b. cond b (1 + times z (xs ++ ys)) (times z (xs ++ ys)) ≡ cond b (1 + times z xs) (times z xs) + times z ys) [ true ↦ omega (arith, rest) | false ↦ rest ]
+
+pub times-filter : (z : ℕ) (p : ℕ → Bool) (xs : List ℕ) → times z (filter p xs) ≡ cond (p z) (times z xs) 0
+times-filter z p [] = elim (p z) as (λ b. ◌≡◌ {A = ℕ} 0 (cond b 0 0)) [ true ↦ refl | false ↦ refl ]
+times-filter z p (x ∷ xs) =
+    let rest = times-filter z p xs in
+    elim (cases_Bool (nat_eq z x)) [
+      | inl same ↦
+          let is : z ≡ x = number_is z x same in
+          elim (cases_Bool (p x)) [
+            | inl kept ↦
+                let here : p z ≡ true = ap p is ∙ kept in
+                rw (kept, same, here) (ap (λ n. 1 + n) (rest ∙ ap (λ b. cond b (times z xs) 0) here))
+            | inr cut ↦
+                let here : p z ≡ false = ap p is ∙ cut in
+                rw (cut, same, here) (rest ∙ ap (λ b. cond b (times z xs) 0) here)
+          ]
+      | inr other ↦
+          elim (cases_Bool (p x)) [
+            | inl kept ↦ rw (kept, other) rest
+            | inr cut ↦ rw (cut, other) rest
+          ]
+    ]
 
 opened : (b c : Bool) → (not b && c) ≡ true → (b ≡ false) × (c ≡ true)
 opened true c h = cc
@@ -55,15 +122,15 @@ module _ (v : VotesRecord) where
       (all_more (HasExactly (least + more)) (HasBetween least (suc more)) (λ m h. (h.0, h.1, omega (arith, h.2), omega (arith, h.2))) (open_with v (least + more)) (exactly (least + more)))
       (all_more (HasBetween least more) (HasBetween least (suc more)) (λ m h. (h.0, h.1, h.2, omega (arith, h.3))) (open_from v least more) (between least more))
 
-  with_order : (n : ℕ) → InOrder (GoesBefore v) (open_with v n)
+  with_order : (n : ℕ) → AreOrdered (GoesBefore v) (open_with v n)
   with_order n =
-      order_more (GoesBefore v) (λ x y. x < y) (HasExactly n) (λ x y h k low. inr (h.2 ∙ sym k.2, low)) (open_with v n) (exactly n)
-      (order_filter (λ x y. x < y) (λ m. not (is_shut v m) && nat_eq (votes_of v m) n) (below (length v.votes)) (below_rises (length v.votes)))
+      ordered_of (GoesBefore v) (λ x y. x < y) (HasExactly n) (λ x y h k low. inr (h.2 ∙ sym k.2, low)) (open_with v n) (exactly n)
+      (ordered_filter (λ x y. x < y) (λ m. not (is_shut v m) && nat_eq (votes_of v m) n) (below (length v.votes)) (below_rises (length v.votes)))
 
-  pub from_order : (least more : ℕ) → InOrder (GoesBefore v) (open_from v least more)
+  pub from_order : (least more : ℕ) → AreOrdered (GoesBefore v) (open_from v least more)
   from_order least zero = tt
   from_order least (suc more) =
-      order_append (GoesBefore v) (open_with v (least + more)) (open_from v least more) (with_order (least + more)) (from_order least more)
+      ordered_append (GoesBefore v) (open_with v (least + more)) (open_from v least more) (with_order (least + more)) (from_order least more)
       (all_more (HasExactly (least + more)) (λ m. AllByRecursion (GoesBefore v m) (open_from v least more))
       (λ m h. all_more (HasBetween least more) (GoesBefore v m) (λ n k. inl (omega (arith, h.2, k.3))) (open_from v least more) (between least more))
       (open_with v (least + more)) (exactly (least + more)))
@@ -86,15 +153,6 @@ module _ (v : VotesRecord) where
   pub votes_within : All (λ n. n ≤ most_votes) v.votes → (m : ℕ) → votes_of v m ≤ most_votes
   votes_within all m = elim (cases_lt m (length v.votes)) [ inl low ↦ all m 0 low | inr past ↦ omega (arith, get_or_past v.votes m 0 past) ]
 
-  -- the marked machines in their order, whatever order they were in
-  pub marked_sorted : (least : ℕ) (marked sorted : List MachineNo) → All (λ n. n ≤ most_votes) v.votes → map number_of marked ≡ filter (is_marked v least) (below (length v.votes))
-      → IsPermutation marked sorted → InOrder (IsNotBehind v) (map number_of sorted) → map number_of sorted ≡ open_from v least (suc most_votes - least)
-  marked_sorted least marked sorted within is moved order =
-      one_order v (map number_of sorted) (open_from v least (suc most_votes - least)) order
-      (order_weaker (IsNotBehind v) (GoesBefore v) (λ x y h. elim h [ inl more ↦ inl more | inr tie ↦ inr (tie.0, omega (arith, tie.1)) ]) (open_from v least (suc most_votes - least)) (from_order least (suc most_votes - least)))
-      (λ z. times_moved z (map number_of marked) (map number_of sorted) (IsPermutation-map number_of marked sorted moved)
-      ∙ ap (times z) is ∙ times-filter z (is_marked v least) (below (length v.votes)) ∙ sym (times_marked z least (votes_within within z)))
-
 absent : (z : ℕ) (xs : List ℕ) → has_number z xs ≡ false → times z xs ≡ 0
 absent z [] h = refl
 absent z (x ∷ xs) h =
@@ -116,8 +174,8 @@ times_below (suc n) m low =
 pub judged_between : (v : VotesRecord) (least percent : ℕ) → AllByRecursion (HasBetween v least (suc most_votes - least)) (judged v least percent)
 judged_between v least percent = all_take (HasBetween v least (suc most_votes - least)) (cap v percent - number_shut v) (open_from v least (suc most_votes - least)) (between v least (suc most_votes - least))
 
-pub judged_order : (v : VotesRecord) (least percent : ℕ) → InOrder (GoesBefore v) (judged v least percent)
-judged_order v least percent = order_take (GoesBefore v) (cap v percent - number_shut v) (open_from v least (suc most_votes - least)) (from_order v least (suc most_votes - least))
+pub judged_order : (v : VotesRecord) (least percent : ℕ) → AreOrdered (GoesBefore v) (judged v least percent)
+judged_order v least percent = ordered_take (GoesBefore v) (cap v percent - number_shut v) (open_from v least (suc most_votes - least)) (from_order v least (suc most_votes - least))
 
 pub apart : (v : VotesRecord) (m n : ℕ) → GoesBefore v m n → m ≢ n
 apart v m n (inl more) = λ e. let same = ap (votes_of v) e in absurd (omega (arith, more, same))
@@ -145,13 +203,3 @@ no_members P none (x ∷ xs) h = absurd (none x h.0)
 pub judged_none : (v : VotesRecord) (least percent : ℕ) → All (λ n. n < least) v.votes → judged v least percent ≡ []
 judged_none v least percent under =
     no_members (HasBetween v least (suc most_votes - least)) (λ m h. let few = under m 0 h.0 in omega (arith, few, h.2)) (judged v least percent) (judged_between v least percent)
-
-one_more : (p : ℕ → Bool) (n : ℕ) (b : Bool) → p n ≡ b → filter p (below (n + 1)) ≡ filter p (below n) ++ cond b (n ∷ []) []
-one_more p n b e = ap (λ k. filter p (below k)) (add-one n) ∙ filter-append p (below n) (n ∷ []) ∙ ap (λ t. filter p (below n) ++ cond t (n ∷ []) []) e
-
--- one machine more that was looked at: it passes, or it does not
-pub one_passes : (p : ℕ → Bool) (n : ℕ) (ms new : List MachineNo) → p n ≡ true → new ≡ ms ++ record { 0 = n } ∷ [] → map number_of ms ≡ filter p (below n) → map number_of new ≡ filter p (below (n + 1))
-one_passes p n ms new e grown is = ap (map number_of) grown ∙ map_push number_of ms (record { 0 = n }) ∙ ap (λ ns. ns ++ n ∷ []) is ∙ sym (one_more p n true e)
-
-pub one_fails : (p : ℕ → Bool) (n : ℕ) (ms : List MachineNo) → p n ≡ false → map number_of ms ≡ filter p (below n) → map number_of ms ≡ filter p (below (n + 1))
-one_fails p n ms e is = is ∙ sym (append-nil (filter p (below n))) ∙ sym (one_more p n false e)

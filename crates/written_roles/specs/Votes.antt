@@ -1,6 +1,12 @@
--- Which machines are judged bad.
-use Rattle.std.specs.Prelude.{◌≡◌, ℕ, zero, suc, ◌+◌, ◌-◌, ◌*◌, ◌/◌, ◌<◌, ◌⊎◌, Bool, false, not, ◌&&◌, nat_eq, List, [], ◌++◌, length, get_or, take, filter, count_by}
+-- Which machines enough jobs mark as bad.
+use Rattle.std.specs.Prelude.{◌≡◌, ℕ, zero, suc, ◌+◌, ◌-◌, ◌*◌, ◌/◌, ◌<◌, ◌⊎◌, Bool, false, not, ◌&&◌, ◌||◌, nat_eq, nat_lt, nat_le, List, [], ◌++◌, length, get_or, map, take, filter, count_by}
+use Rattle.std.specs.List.{list_any, list_all}
+use Rattle.fuxi_terms.specs.Cluster.{ClusterRecord}
+use Rattle.fuxi_terms.specs.Jobs.{KnownJob}
 use Rattle.fuxi_terms.specs.Lists.{below}
+use Rattle.fuxi_terms.specs.Numbers.{has_number}
+use Rattle.fuxi_terms.specs.TallyKeys.{want_key}
+use Rattle.written_roles.specs.Masters.{Master, asked, avoids}
 
 -- By the number of a machine: its votes, and whether it counts as banned.
 pub record VotesRecord : Type 0 where
@@ -24,6 +30,10 @@ number_shut v = count_by (λ s. s) v.shut
 abbrev pub cap : VotesRecord → ℕ → ℕ
 cap v percent = length v.votes * percent / 100
 
+-- a machine that may be judged
+abbrev pub is_marked : VotesRecord → ℕ → ℕ → Bool
+is_marked v least m = not (is_shut v m) && nat_le least (votes_of v m)
+
 -- the machines that are not shut and have exactly so many votes, in the order of their numbers
 abbrev pub open_with : VotesRecord → ℕ → List ℕ
 open_with v n = filter (λ m. not (is_shut v m) && nat_eq (votes_of v m) n) (below (length v.votes))
@@ -40,3 +50,17 @@ judged v least percent = take (cap v percent - number_shut v) (open_from v least
 -- a machine has more votes than another, or as many and the smaller number
 abbrev pub GoesBefore : VotesRecord → ℕ → ℕ → Type 0
 GoesBefore v m n = (votes_of v n < votes_of v m) ⊎ ((votes_of v m ≡ votes_of v n) × (m < n))
+
+-- The votes of a master's jobs. A unit of a job is wanted
+abbrev pub is_wanted : Master → ℕ → ℕ → Bool
+is_wanted M a u = nat_lt 0 (asked M a (want_key u))
+
+-- a job marks a machine where it has not ended, a unit of it is wanted, and each that is wanted avoids the machine
+abbrev pub marks : Master → KnownJob → ℕ → Bool
+marks M j m = let a = j.job.number in let units = below (length j.job.units) in
+    not j.ended && (list_any (is_wanted M a) units && list_all (λ u. not (is_wanted M a u) || avoids M a u m) units)
+
+-- how many jobs mark each machine of the cluster, and which of them are banned
+abbrev pub votes_in : ClusterRecord → Master → VotesRecord
+votes_in c M = let machines = below (length c.machines) in
+    record { votes = map (λ m. count_by (λ j. marks M j m) M.jobs) machines; shut = map (λ m. has_number m M.bans) machines }
