@@ -14,7 +14,7 @@ use Rattle.cluster_desc.specs.Faults.{◌>>=◌, holds, given}
 use Rattle.cluster_desc.specs.ClusterLine.{whole_number, each, number_between, numbers_of, quantities, count_of, array_between, object_of, value_at, machine_at, group_no, group_at, cluster_at}
 
 -- where tests one after another give a value, each of them did
-bind_ok : {A B : Type 0} (r : Result A ClusterFault) (f : A → Result B ClusterFault) (b : B) → (r >>= f) ≡ Ok b → (a : A) × (r ≡ Ok a) × (f a ≡ Ok b)
+pub bind_ok : {A B : Type 0} (r : Result A ClusterFault) (f : A → Result B ClusterFault) (b : B) → (r >>= f) ≡ Ok b → (a : A) × (r ≡ Ok a) × (f a ≡ Ok b)
 bind_ok (Ok a) f b h = (a, refl, h)
 bind_ok (Err e) f b h = absurd (let g : ⊥ = cc in g)
 

@@ -8,4 +8,4 @@ mod read;
 
 pub use cluster::{Cluster, Group, Machine};
 pub use fault::ClusterFault;
-pub use read::read_cluster;
+pub use read::{cluster_lines_are_valid, read_cluster};

@@ -1,12 +1,21 @@
 -- What follows of the states of a run.
-use Rattle.std.proofs.Common.{◌≡◌, Some}
+use Rattle.std.proofs.Common.{◌≡◌, ℕ, true, List, take, drop, Option, Some, None, IfSome, sym, subst}
+use Rattle.std.specs.List.{AllByRecursion}
+use Rattle.std.proofs.lemmas.List.{take-append-drop}
+use Rattle.fuxi_terms.proofs.Alls.{all_front}
 use Rattle.fuxi_terms.specs.Cluster.{ClusterRecord}
 use Rattle.written_roles.specs.Masters.{Master}
 use Rattle.written_roles.specs.Preemption.{Plan, plan_of}
 use Rattle.written_roles.specs.TakenByQuota.{AreTakenByQuota}
 use Rattle.written_world.specs.World.{World}
 use Rattle.written_world.specs.KeepsGrants.{AllAdopt, AllReport, AllStay}
+use Rattle.written_world.specs.Events.{Event}
+use Rattle.written_world.specs.Judging.{AllJudge}
+use Rattle.written_world.specs.Lines.{IsInput, is_from_line}
+use Rattle.written_world.specs.Runs.{run}
 use Rattle.written_world.specs.Safe.{Safe}
+use Rattle.schedule_run.specs.Inputs.{Input}
+use Rattle.schedule_run.specs.Told.{LeadsTo}
 use Rattle.fuxi_command.specs.States.{AllCountOnce, AllKeepGrants, AllTakeByQuota}
 
 pub all_count_once : (w : World) → Safe w → AllCountOnce w
@@ -17,3 +26,11 @@ all_take_by_quota law w = record { each = λ e M p runs is. law w.cluster M p is
 
 pub all_keep_grants : (w : World) → AllAdopt w → AllReport w → AllStay w → AllKeepGrants w
 all_keep_grants w adopts reports stays = record { adopts = adopts; reports = reports; stays = stays }
+
+all_judge : (i : Input) (n : ℕ) → ((c : ClusterRecord) (es : List Event) → IsInput c es → AllJudge (run c es)) → IsInput i.cluster i.events → AllJudge (run i.cluster (take n i.events))
+all_judge i n law is = law i.cluster (take n i.events) (record { cluster = is.cluster; lines = all_front (λ e. is_from_line e ≡ true) (take n i.events) (drop n i.events) (subst (λ es. AllByRecursion (λ e. is_from_line e ≡ true) es) (sym (take-append-drop n i.events)) is.lines) })
+
+pub each_judges : (o : Option (List ℕ)) → ((c : ClusterRecord) (es : List Event) → IsInput c es → AllJudge (run c es)) → ((bytes : List ℕ) (i : Input) → LeadsTo bytes i → IsInput i.cluster i.events)
+    → IfSome o (λ bytes. (i : Input) → LeadsTo bytes i → (n : ℕ) → AllJudge (run i.cluster (take n i.events)))
+each_judges (Some bytes) law given = λ i leads n. all_judge i n law (given bytes i leads)
+each_judges None law given = tt

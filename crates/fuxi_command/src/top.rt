@@ -5,6 +5,7 @@ ghost use Rattle.fuxi_io.specs.Causes.{Rose};
 ghost use Rattle.written_world.specs.Runs.{run};
 ghost use Rattle.written_world.specs.Safe.{AllFit, Views, AllAgree, AllSettled};
 ghost use Rattle.written_world.specs.Credits.{AllCreditedOnce};
+ghost use Rattle.written_world.specs.Judging.{AllJudge};
 ghost use Rattle.written_world.specs.Starts.{StartsWithNothing};
 ghost use Rattle.written_world.specs.Steps.{AllBare, AllGrow, AllLose};
 ghost use Rattle.schedule_run.specs.Inputs.{Input};
@@ -31,12 +32,12 @@ use crate::words::{Command, command_of};
 use fuxi_io::{Disk, InputFault, LimitOf, LineReader, Sink, Source, Status};
 use node_command::{NodeKind, run_input};
 use node_door::Door;
-use schedule_run::{run_schedule, runs_are_told};
+use schedule_run::{inputs_are_given, run_schedule, runs_are_told};
 use std::alloc::Global;
 use storm_run::run_storm;
 use written_roles::preempts_by_quota;
 use written_world::{
-    a_failover_keeps_grants, always_safe, every_run_grows_as_allowed,
+    a_failover_keeps_grants, always_safe, every_judgement_bans_what_is_judged, every_run_grows_as_allowed,
     every_run_keeps_banned_machines_bare, every_run_loses_only_what_is_credited,
     give_backs_are_credited_once, starts_with_nothing,
 };
@@ -164,8 +165,11 @@ pub fn fuxi<S: Source, O: Sink, E: Sink, D: Disk, N: Door>(
     // who starts has nothing;
     ensures starts { IfSome (S.left input.old) (λ bytes. (i : Input) → LeadsTo bytes i → (n : ℕ) → StartsWithNothing (run i.cluster (take n i.events))) }
 
-    // and grants are lost only by a ban, the end of their job, a preemption, and by what their job gives back.
+    // grants are lost only by a ban, the end of their job, a preemption, and by what their job gives back;
     ensures loses { IfSome (S.left input.old) (λ bytes. (i : Input) → LeadsTo bytes i → (n : ℕ) → AllLose (run i.cluster (take n i.events))) }
+
+    // and a judgement bans exactly the machines that enough jobs mark, as far as its percentage allows.
+    ensures judges { IfSome (S.left input.old) (λ bytes. (i : Input) → LeadsTo bytes i → (n : ℕ) → AllJudge (run i.cluster (take n i.events))) }
 
     // The input was read to its end, and the outputs of all its lines and the state were written.
     ensures done { command_of (map string_bytes words.now) ≡ Some Replay → result ≡ Status.Done → IfSome (S.left input.old) (λ bytes. (S.left input.new ≡ Some [])
@@ -260,6 +264,8 @@ pub fn fuxi<S: Source, O: Sink, E: Sink, D: Disk, N: Door>(
     a_failover_keeps_grants();
     starts_with_nothing();
     every_run_loses_only_what_is_credited();
+    inputs_are_given();
+    every_judgement_bans_what_is_judged();
     let status = run_command(alloc, words, input, out, disk, door);
     let _told = report(err, &status);
     status

@@ -58,7 +58,7 @@ pub(crate) fn cores_may_step()
     running_apps::steps_left();
 }
 
-// An event that a line can give is one of an input.
-pub(crate) fn events_are_inputs()
+/// An event that a line can give is one of an input.
+pub fn events_are_inputs()
     ensures { (e : Event) → IsLineEvent e → is_from_line (event_as e) ≡ true }
 {}

@@ -16,6 +16,7 @@ mod text;
 mod turns;
 mod world;
 
+pub use laws::events_are_inputs;
 pub use lines::Lines;
 pub use running::Running;
 pub use stop::WorldStop;

@@ -4,7 +4,13 @@ ghost use Rattle.std.specs.Prelude.{◌≡◌, ℕ, List};
 ghost use Rattle.std.specs.List.{concat};
 ghost use Rattle.fuxi_io.specs.declared.status.InputFault.{InputFault};
 ghost use Rattle.schedule_run.specs.Runs.{run_of, pieces, AtEnd, AtBadLine};
-ghost use Rattle.schedule_run.specs.Told.{IsText, IsTextBefore, IsFrontText};
+ghost use Rattle.schedule_run.specs.Told.{IsText, IsTextBefore, IsFrontText, LeadsTo};
+ghost use Rattle.schedule_run.specs.Inputs.{Input};
+ghost use Rattle.written_world.specs.Lines.{IsInput};
+
+use cluster_desc::cluster_lines_are_valid;
+use schedule_replay::events_are_inputs;
+use schedule_text::events_of_lines;
 
 /// A run to the end of an input is that of its cluster and its events, with the state behind it (`whole`). One that
 /// ends at a bad line has told what the lines before it print, and it is the first bad one (`bad`). And whatever a
@@ -14,3 +20,12 @@ pub fn runs_are_told()
     ensures bad { (bytes : List ℕ) (line : ℕ) (fault : InputFault) → (run_of bytes).ending ≡ AtBadLine line fault → IsTextBefore bytes line fault (concat (run_of bytes).outputs) }
     ensures front { (bytes : List ℕ) → IsFrontText bytes (concat (run_of bytes).outputs) }
 {}
+
+/// The cluster of an input is valid, and each of its events is one that a line can give.
+pub fn inputs_are_given()
+    ensures { (bytes : List ℕ) (i : Input) → LeadsTo bytes i → IsInput i.cluster i.events }
+{
+    cluster_lines_are_valid();
+    events_of_lines();
+    events_are_inputs();
+}

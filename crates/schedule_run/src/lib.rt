@@ -4,5 +4,5 @@
 mod laws;
 mod run;
 
-pub use laws::runs_are_told;
+pub use laws::{inputs_are_given, runs_are_told};
 pub use run::run_schedule;

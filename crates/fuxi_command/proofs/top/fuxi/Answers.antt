@@ -3,6 +3,7 @@ use Rattle.node_command.specs.Inputs.{TellsDisk}
 use Rattle.node_command.specs.declared.kind.NodeKind.TheVariants.{Master}
 use Rattle.storm_run.specs.Runs.{StormEnded}
 use Rattle.storm_run.specs.Summaries.{storm_of}
+use Rattle.fuxi_command.proofs.States.{each_judges}
 use Rattle.fuxi_command.proofs.Storming.{ends_well}
 use Rattle.fuxi_command.proofs.top.fuxi.Goals as goal
 
@@ -49,3 +50,6 @@ returns-clause-outcome g c = let r = c.run_command-status.ensures in record {
   disk = r.disk;
   told = r.told;
 }
+
+pub returns-clause-judges : goal.returns-clause-judges
+returns-clause-judges g c = each_judges (g.S.Source.left c.args.input.now) c.every_judgement_bans_what_is_judged.ensures c.inputs_are_given.ensures
