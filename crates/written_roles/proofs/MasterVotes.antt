@@ -1,10 +1,10 @@
 -- What is judged of the votes of a master's jobs, and how many machines are banned with it.
-use Rattle.std.proofs.Common.{◌≡◌, ◌≢◌, ℕ, zero, suc, ◌+◌, ◌*◌, ◌/◌, ◌-◌, ◌<◌, ◌≤◌, inl, inr, Bool, true, false, cond, nat_eq, nat_lt, List, [], ◌∷◌, ◌++◌, length, get_or, map, refl, sym, ap, ◌∙◌, subst, arith, true≢false}
+use Rattle.std.proofs.Common.{◌≡◌, ◌≢◌, ℕ, zero, suc, ◌+◌, ◌*◌, ◌/◌, ◌-◌, ◌<◌, ◌≤◌, inl, inr, Bool, true, false, cond, nat_eq, List, [], ◌∷◌, length, get_or, map, refl, sym, ap, ◌∙◌, subst, arith, true≢false}
 use Rattle.std.specs.Prelude.{◌||◌, count_by, fold}
 use Rattle.std.specs.List.{AllByRecursion}
 use Rattle.std.proofs.lemmas.Bool.{cases_lt}
 use Rattle.std.proofs.lemmas.Bool.Decides.{nat_tests}
-use Rattle.std.proofs.lemmas.List.{get_or_append_left, get_or_push, length-append, length-map, map-append}
+use Rattle.std.proofs.lemmas.List.{get_or_append_left, get_or_push, length-map, map-append}
 use Rattle.std.proofs.lemmas.List.Sums.{count_by-le-length, sum_by-cons}
 use Rattle.fuxi_terms.specs.Cluster.{ClusterRecord, has_machine}
 use Rattle.fuxi_terms.specs.Lists.{below}
@@ -80,7 +80,7 @@ count_mapped f ms = along 0 ms
 read_below : {A : Type 0} (f : ℕ → A) (n m : ℕ) (d : A) → m < n → get_or (map f (below n)) m d ≡ f m
 read_below f zero m d low = absurd (omega (arith, low))
 read_below f (suc n) m d low =
-    let long : length (map f (below n)) ≡ n = length-map f (below n) ∙ length-below n in
+    let long : length (map f (below n)) ≡ n = length-map (below n) f ∙ length-below n in
     ap (λ xs. get_or xs m d) (map-append f (below n) (n ∷ [])) ∙ elim (cases_lt m n) [
       | inl less ↦ get_or_append_left (map f (below n)) (f n ∷ []) d m (omega (arith, long, less)) ∙ read_below f n m d less
       | inr same ↦ let is : n ≡ m = omega (arith, low, same) in get_or_push (map f (below n)) (f n) d m (long ∙ is) ∙ ap f is
@@ -89,7 +89,7 @@ read_below f (suc n) m d low =
 -- The votes of a master's jobs
 module _ (c : ClusterRecord) (M : Master) where
   machines : length (votes_in c M).votes ≡ length c.machines
-  machines = length-map (λ m. count_by (λ j. marks M j m) M.jobs) (below (length c.machines)) ∙ length-below (length c.machines)
+  machines = length-map (below (length c.machines)) (λ m. count_by (λ j. marks M j m) M.jobs) ∙ length-below (length c.machines)
 
   shut : (m : ℕ) → m < length c.machines → is_shut (votes_in c M) m ≡ has_number m M.bans
   shut m low = read_below (λ m. has_number m M.bans) (length c.machines) m false low
@@ -119,6 +119,6 @@ module _ (c : ClusterRecord) (M : Master) where
         let all : cap (votes_in c M) percent ≡ length c.machines * percent / 100 = ap (λ n. n * percent / 100) machines in
         let before : number_shut (votes_in c M) ≡ count_by (λ m. has_number m M.bans) (below (length c.machines)) = count_mapped (λ m. has_number m M.bans) (below (length c.machines)) in
         let more = more_counted (length c.machines) (λ m. has_number m M.bans) (judged (votes_in c M) least percent)
-            (all_more (λ m. (has_machine c m ≡ true) × (has_number m M.bans ≡ false)) (λ m. m < length c.machines) (λ m h. let t = h.0 in grind (arith, nat_tests, t)) (judged (votes_in c M) least percent) judged_free)
-            (all_more (λ m. (has_machine c m ≡ true) × (has_number m M.bans ≡ false)) (λ m. has_number m M.bans ≡ false) (λ m h. h.1) (judged (votes_in c M) least percent) judged_free) judged_distinct in
+        (all_more (λ m. (has_machine c m ≡ true) × (has_number m M.bans ≡ false)) (λ m. m < length c.machines) (λ m h. let t = h.0 in grind (arith, nat_tests, t)) (judged (votes_in c M) least percent) judged_free)
+        (all_more (λ m. (has_machine c m ≡ true) × (has_number m M.bans ≡ false)) (λ m. has_number m M.bans ≡ false) (λ m h. h.1) (judged (votes_in c M) least percent) judged_free) judged_distinct in
         omega (arith, full, all, before, more)

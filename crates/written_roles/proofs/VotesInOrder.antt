@@ -5,7 +5,7 @@ use Rattle.std.proofs.lemmas.Bool.{cases_Bool}
 use Rattle.fuxi_terms.specs.Lists.{below}
 use Rattle.fuxi_terms.proofs.Booleans.{number_is, nat_itself}
 use Rattle.written_roles.specs.ServedInOrder.{AreOrdered}
-use Rattle.written_roles.specs.Votes.{VotesRecord, GoesBefore, IsNotBehind, is_marked, most_votes, open_from, votes_of}
+use Rattle.written_roles.specs.Votes.{VotesRecord, GoesBefore, IsNotBehind, is_marked, most_votes, open_from}
 use Rattle.written_roles.proofs.ServedInOrderLemmas.{ordered_more}
 use Rattle.written_roles.proofs.VotesLemmas.{from_order, times, times-filter, times_marked, times_moved, votes_within}
 

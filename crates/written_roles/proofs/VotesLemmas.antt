@@ -15,7 +15,7 @@ use Rattle.fuxi_terms.proofs.Booleans.{number_is, nat_itself, both_false}
 use Rattle.fuxi_terms.proofs.Lists.{all_push}
 use Rattle.written_roles.specs.ServedInOrder.{AreOrdered}
 use Rattle.written_roles.specs.Votes.{VotesRecord, GoesBefore, cap, is_marked, is_shut, judged, most_votes, number_shut, open_from, open_with, votes_of}
-use Rattle.written_roles.proofs.ServedInOrderLemmas.{below_rises, ordered_append, ordered_filter, ordered_more}
+use Rattle.written_roles.proofs.ServedInOrderLemmas.{below_rises, ordered_append, ordered_filter}
 
 -- Lists, each of whose members stands so to all behind it
 module _ {A : Type 0} where

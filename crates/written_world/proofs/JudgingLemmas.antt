@@ -132,7 +132,7 @@ few_jobs : (c : ClusterRecord) (jobs : List KnownJob) → AreJobs c jobs → Are
 few_jobs c jobs valid distinct =
     let few = few_numbers most_jobs (map (λ (j : KnownJob). j.job.number) jobs)
         (all_mapped (λ n. n < most_jobs) (λ (j : KnownJob). j.job.number) jobs (all_more (λ (j : KnownJob). IsJob c j.job) (λ (j : KnownJob). j.job.number < most_jobs) low jobs valid)) (numbers_apart jobs distinct) in
-    subst (λ n. n ≤ most_votes) (length-map (λ (j : KnownJob). j.job.number) jobs) few
+    subst (λ n. n ≤ most_votes) (length-map jobs (λ (j : KnownJob). j.job.number)) few
   where
     low : (j : KnownJob) → IsJob c j.job → j.job.number < most_jobs
     low j h = let t = (both_true (nat_lt j.job.number most_jobs) _ h.valid).0 in grind (arith, nat_tests, t)

@@ -1,4 +1,4 @@
-use Rattle.std.proofs.Common.{rules, ◌-◌, Bool, List, ℕ, map, nat_cmp, is_lt, sym, subst, take, ap, ◌∙◌, IsSortedBy, IsPermutation}
+use Rattle.std.proofs.Common.{rules, Bool, List, ℕ, map, nat_cmp, is_lt, sym, subst, take, ap, ◌∙◌, IsSortedBy, IsPermutation}
 use Rattle.std.specs.Ordering.{ordering_then}
 use Rattle.std.proofs.lemmas.List.{take-map}
 use Rattle.std.proofs.lemmas.List.Sorted.{IsPermutation-map}
