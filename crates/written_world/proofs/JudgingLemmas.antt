@@ -116,13 +116,13 @@ bans_each e votes (m ∷ ms) w b free distinct room =
     still k f other = (f.0, with_is k m w.hard.bans ∙ ap (λ t. t || has_number k w.hard.bans) (is_other k m other) ∙ f.1)
 
 -- there are at most as many jobs as a machine can have votes
+one_apart : (j : KnownJob) (js : List KnownJob) (a : ℕ) (b : Bool) → nat_eq j.job.number a ≡ b → is_some (cond b (Some j) (job_of js a)) ≡ false → (is_known js a ≡ false → AllByRecursion (λ k. a ≢ k) (map (λ (j : KnownJob). j.job.number) js)) → AllByRecursion (λ k. a ≢ k) (map (λ (j : KnownJob). j.job.number) (j ∷ js))
+one_apart j js a true t none rest = cc
+one_apart j js a false t none rest = (λ same. (let yes : nat_eq j.job.number a ≡ true = grind (arith, nat_tests, same) in let f : ⊥ = cc in f), rest none)
+
 others_apart : (jobs : List KnownJob) (a : ℕ) → is_known jobs a ≡ false → AllByRecursion (λ k. a ≢ k) (map (λ (j : KnownJob). j.job.number) jobs)
 others_apart [] a none = tt
-others_apart (j ∷ js) a none = by (nat_eq j.job.number a) refl none
-  where
-    by : (b : Bool) → nat_eq j.job.number a ≡ b → is_some (cond b (Some j) (job_of js a)) ≡ false → AllByRecursion (λ k. a ≢ k) (map (λ (j : KnownJob). j.job.number) (j ∷ js))
-    by true t never = cc
-    by false t rest = (λ same. (let yes : nat_eq j.job.number a ≡ true = grind (arith, nat_tests, same) in let f : ⊥ = cc in f), others_apart js a rest)
+others_apart (j ∷ js) a none = one_apart j js a (nat_eq j.job.number a) refl none (others_apart js a)
 
 numbers_apart : (jobs : List KnownJob) → AreDistinct jobs → AreOrdered (λ m k. m ≢ k) (map (λ (j : KnownJob). j.job.number) jobs)
 numbers_apart [] h = tt
@@ -131,7 +131,7 @@ numbers_apart (j ∷ js) h = (others_apart js j.job.number h.0, numbers_apart js
 few_jobs : (c : ClusterRecord) (jobs : List KnownJob) → AreJobs c jobs → AreDistinct jobs → length jobs ≤ most_votes
 few_jobs c jobs valid distinct =
     let few = few_numbers most_jobs (map (λ (j : KnownJob). j.job.number) jobs)
-        (all_mapped (λ n. n < most_jobs) (λ (j : KnownJob). j.job.number) jobs (all_more (λ (j : KnownJob). IsJob c j.job) (λ (j : KnownJob). j.job.number < most_jobs) low jobs valid)) (numbers_apart jobs distinct) in
+    (all_mapped (λ n. n < most_jobs) (λ (j : KnownJob). j.job.number) jobs (all_more (λ (j : KnownJob). IsJob c j.job) (λ (j : KnownJob). j.job.number < most_jobs) low jobs valid)) (numbers_apart jobs distinct) in
     subst (λ n. n ≤ most_votes) (length-map jobs (λ (j : KnownJob). j.job.number)) few
   where
     low : (j : KnownJob) → IsJob c j.job → j.job.number < most_jobs
