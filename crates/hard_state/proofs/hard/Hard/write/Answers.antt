@@ -10,6 +10,7 @@ use Rattle.hard_state.specs.Gates.{Appends}
 use Rattle.hard_state.specs.Checkpoints.{behind_gate}
 use Rattle.hard_state.specs.HardFiles.{Kept, event_of}
 use Rattle.hard_state.proofs.Standing.{length-behind}
+use Rattle.hard_state.proofs.MomentsLemmas.{calls_same, all_made, some_made, none_made}
 use Rattle.hard_state.proofs.Stops.{refused_where, failed_where, written_where, takes, at_same}
 use Rattle.hard_state.proofs.hard.Hard.write.Goals as goal
 
@@ -55,3 +56,21 @@ returns-in-Err-append-clause-told g c =
     at_same {E = Failed} before.gate (behind_gate body) _ _ (Err (record {})) _ _ (ap (λ (k : Kept). k.gate) c.self.view_is) bytes c.in-Err-append.ensures.told in
     failed_where before (hard_after before.value epoch event) _ body steps taken_as room (omega (arith, c.encode.ensures.body)) Failed HardFault _ before _ _ (record {}) DiskFault
     c.requires.long (g.met.D.Disk.measured c.args.disk.now) appends
+
+pub returns-in-Err-clause-moments : goal.returns-in-Err-clause-moments
+returns-in-Err-clause-moments g c = none_made _ c.in-Err.fault _ (λ same. c.in-Err.ensures.own (ap Err same))
+
+pub returns-in-Err-encode-clause-moments : goal.returns-in-Err-encode-clause-moments
+returns-in-Err-encode-clause-moments g c = none_made _ OutOfMemory _ (λ same. cc)
+
+pub returns-in-Ok-append-clause-moments : goal.returns-in-Ok-append-clause-moments
+returns-in-Ok-append-clause-moments g c =
+    all_made Failed _ _ _ _
+    (calls_same c.args.self.now.gate _ c.args.epoch c.args.change c.deref.result.now c.requires.asked (ap (λ (k : Kept). k.gate) c.self.view_is) (c.deref.ensures.value ∙ c.in-Ok-encode.ensures.bytes))
+    c.in-Ok-append.ensures.calls
+
+pub returns-in-Err-append-clause-moments : goal.returns-in-Err-append-clause-moments
+returns-in-Err-append-clause-moments g c =
+    some_made Failed _ _ _ _ (record {})
+    (calls_same c.args.self.now.gate _ c.args.epoch c.args.change c.deref.result.now c.requires.asked (ap (λ (k : Kept). k.gate) c.self.view_is) (c.deref.ensures.value ∙ c.in-Ok-encode.ensures.bytes))
+    c.in-Err-append.ensures.calls
