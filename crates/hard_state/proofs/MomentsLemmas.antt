@@ -50,6 +50,10 @@ all_made E made calls a b same w = subst (λ (l : List DiskCall). WhereTold (Mom
 pub some_made : (E : Type 0) (made calls : List DiskCall) (a b : Option Told) (fault : E) → made ≡ calls → WhereTold (MakesCalls made (Err fault)) a b → WhereTold (Moments calls (Err DiskFault)) a b
 some_made E made calls a b fault same w = subst (λ (l : List DiskCall). WhereTold (Moments l (Err DiskFault)) a b) same w
 
+pub nothing_made : (a : Option Told) → WhereTold (λ old new. new ≡ old) a a
+nothing_made None = tt
+nothing_made (Some t) = refl
+
 pub none_made : (calls : List DiskCall) (fault : HardFault) (a : Option Told) → fault ≢ DiskFault → WhereTold (Moments calls (Err fault)) a a
 none_made calls fault None other = tt
 none_made calls fault (Some t) other = go fault other

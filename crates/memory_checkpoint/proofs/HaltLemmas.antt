@@ -42,7 +42,7 @@ after_left (Ok other) before after left step is = let same : after ≡ other = c
 after_left (Err refusal) before after left step is = absurd (cc)
 
 value_is : (file : List ℕ) (left value : HardState) → records_of file ≡ Ok left → records_of file ≡ Ok value → left ≡ value
-value_is file left value a b = let same : Ok {E = ℕ} left ≡ Ok value = sym a ∙ b in cc
+value_is file left value a b = cc
 
 pub left_by_count : (h left : HardState) (epoch : ℕ) (event : HardEvent) (m : Moment) (counts : Bool) → IsOk (hard_step h epoch event) → Leaves (IsBeforeOrAfter h (hard_step h epoch event)) m → MayLeave m left
     → nat_lt h.records left.records ≡ counts → IsLeft (hard_step h epoch event) h counts left
