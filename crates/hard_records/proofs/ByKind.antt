@@ -34,6 +34,9 @@ body_short (Finish app) within = omega arith
 body_short (Ban machine) within = omega arith
 body_short (Unban machine) within = omega arith
 
+pub job_body_long : (job : JobRecord) → is_valid_job 8 job ≡ true → length (body_of (Submission job)) ≡ 11 + 69 * length job.units
+job_body_long job valid = omega (arith, job_long job valid)
+
 units_count : (v n : ℕ) (l : List ℕ) → length (units_in v n l) ≡ n
 units_count v zero l = refl
 units_count v (suc n) l = omega (arith, units_count v n (drop (unit_size v) l))

@@ -1,5 +1,6 @@
-ghost use Rattle.std.specs.Prelude.{◌≡◌, ◌≤◌, ℕ, List, ◌++◌, ◌∷◌, length, IfOk, IfSome, OnOk, Some, ◌<◌, ◌^◌};
+ghost use Rattle.std.specs.Prelude.{◌≡◌, ◌≤◌, ℕ, List, ◌++◌, ◌∷◌, length, IfOk, IfSome, OnOk, Some, true, ◌+◌, ◌*◌, ◌<◌, ◌^◌};
 ghost use Rattle.std.specs.Int.{to_be_bytes, w32};
+ghost use Rattle.fuxi_terms.specs.Cluster.{JobRecord, is_valid_job};
 ghost use Rattle.hard_records.specs.declared.records.Record.{Record as RecordSeen};
 ghost use Rattle.hard_records.specs.Bodies.{body_of, record_in, record_of_kind, is_version, epoch_found, number_found, IsWithinLimits};
 
@@ -148,9 +149,11 @@ fn read_kind(
     Ok(None)
 }
 
-/// What is written of a record within the limits is read back as that record, and has at most 563 bytes.
+/// What is written of a record within the limits is read back as that record, and has at most 563 bytes. A job has 11 and 69
+/// for each unit.
 pub fn written_is_read()
     ensures read { (r : RecordSeen) → IsWithinLimits r → record_in (body_of r) ≡ Some r }
     ensures short { (r : RecordSeen) → IsWithinLimits r → length (body_of r) ≤ 563 }
     ensures only { (body : List ℕ) (r : RecordSeen) → record_in body ≡ Some r → length body ≤ 563 }
+    ensures long { (job : JobRecord) → is_valid_job 8 job ≡ true → length (body_of (Record.Submission job)) ≡ 11 + 69 * length job.units }
 {}

@@ -43,7 +43,7 @@ length-overwritten file bytes at within =
 length-before : (file : List ℕ) (at : ℕ) → at ≤ length file → length (take at file) ≡ at
 length-before file at within = omega (arith, length-take at file, within)
 
-before-overwritten : (file bytes : List ℕ) (at : ℕ) → at ≤ length file → take at (overwritten file at bytes) ≡ take at file
+pub before-overwritten : (file bytes : List ℕ) (at : ℕ) → at ≤ length file → take at (overwritten file at bytes) ≡ take at file
 before-overwritten file bytes at within =
     let rest = drop (at + length bytes) file in
     ap (λ l. take at l) (append_assoc (take at file) bytes rest) ∙ take_at (take at file) (bytes ++ rest) at (length-before file at within)

@@ -7,3 +7,4 @@ pub mod Standing
 pub mod Stops
 pub mod Openings
 pub mod Rising
+pub mod MomentsLemmas

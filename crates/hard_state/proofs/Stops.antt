@@ -1,11 +1,11 @@
 -- What a crash leaves of a checkpoint while a record is written.
-use Rattle.std.proofs.Common.{Bool, true, false, nat_lt, ◌≡◌, ◌⊎◌, inl, inr, ⊎_elim, ℕ, ◌+◌, ◌^◌, ◌<◌, List, [], ◌∷◌, length, not, Option, None, Some, Result, Ok, Err, IfSome, refl, sym, ◌∙◌, ap, subst, arith}
+use Rattle.std.proofs.Common.{Bool, true, false, nat_lt, ◌≡◌, ◌⊎◌, inl, inr, ⊎_elim, ℕ, ◌+◌, ◌^◌, ◌<◌, List, [], ◌∷◌, ◌++◌, length, take, not, Option, None, Some, Result, Ok, Err, IfSome, refl, sym, ◌∙◌, ap, subst, arith}
 use Rattle.std.proofs.lemmas.Bool.Decides.{nat_tests}
 use Rattle.fuxi_io.specs.Disks.{Moment, Told, IsImage, synced_moment, WhereTold, LeavesAlways}
 use Rattle.fuxi_terms.specs.Jobs.{is_known, has_ended}
 use Rattle.fuxi_terms.specs.Limits.{most_records}
 use Rattle.fuxi_terms.specs.Numbers.{has_number}
-use Rattle.written_roles.specs.HardState.{HardState, HardEvent, Raise, Submission as Submitting, Finishing, Banning, Unbanning, hard_step, hard_after, hard_tests, empty_hard, is_full}
+use Rattle.written_roles.specs.HardState.{HardState, HardEvent, Raise, Submission as Submitting, Finishing, Banning, Unbanning, hard_step, hard_after, hard_tests, empty_hard, is_full, is_fenced, is_not_rising}
 use Rattle.written_roles.specs.Refusals.{Refusal, Fenced, Known, NoJob, Ended, AlreadyBanned, NotBanned, first_refusal}
 use Rattle.hard_records.specs.Bodies.{body_of, record_in}
 use Rattle.hard_records.specs.declared.records.Record.{Record}
@@ -14,7 +14,7 @@ use Rattle.hard_state.specs.Gates.{IsAppending, Appends, appended}
 use Rattle.hard_state.specs.Checkpoints.{behind_gate, Opened}
 use Rattle.hard_state.specs.HardFiles.{event_of, epoch_of, made, record_taken, taken, reads_as, value_of, records_of, Kept, opened_as, IsAtRest, IsBeforeOrAfter, WritesStep, IsAskedBy}
 use Rattle.hard_state.proofs.Images.{synced_image, gate_open}
-use Rattle.hard_state.proofs.Standing.{stands, reads_after, reads_either}
+use Rattle.hard_state.proofs.Standing.{stands, reads_before, reads_after, reads_either}
 use Rattle.hard_state.proofs.Runs.{map_where, knowing_first, leaves_first, leaves_more, IsLong, within_bytes}
 
 -- each step writes one record
@@ -62,6 +62,26 @@ at_own h next epoch (Ban machine) asked is =
 at_own h next epoch (Unban machine) asked is =
     passes_first (nat_lt epoch h.fence) (nat_lt h.fence h.fence) (Fenced h.fence) (Fenced h.fence) ((not (has_number machine.0 h.bans), NotBanned) ∷ is_full h ∷ []) (hard_after h epoch (Unbanning machine.0)) next (not_below h.fence) is
 
+-- a step that is not refused has room for its record
+behind_first : (b : Bool) (r : Refusal) (rest : Option Refusal) (after next : HardState) → Stepped (elim b [ true ↦ Some r | false ↦ rest ]) after ≡ Ok next → Stepped rest after ≡ Ok next
+behind_first true r rest after next is = absurd (cc)
+behind_first false r rest after next is = is
+
+passes_last : (tests : List (Bool × Refusal)) (b : Bool) (r : Refusal) (after next : HardState) → Stepped (first_refusal (tests ++ (b, r) ∷ [])) after ≡ Ok next → b ≡ false
+passes_last [] true r after next is = absurd (cc)
+passes_last [] false r after next is = refl
+passes_last (t ∷ tests) b r after next is = passes_last tests b r after next (behind_first t.0 t.1 (first_refusal (tests ++ (b, r) ∷ [])) after next is)
+
+full_last : (h : HardState) (epoch : ℕ) (event : HardEvent) (next : HardState) → hard_step h epoch event ≡ Ok next → (is_full h).0 ≡ false
+full_last h epoch Raise next is = passes_last (is_not_rising h epoch ∷ []) (is_full h).0 (is_full h).1 _ next is
+full_last h epoch (Submitting job) next is = passes_last (is_fenced h epoch ∷ (is_known h.jobs job.number, Known) ∷ []) (is_full h).0 (is_full h).1 _ next is
+full_last h epoch (Finishing app) next is = passes_last (is_fenced h epoch ∷ (not (is_known h.jobs app), NoJob) ∷ (has_ended h.jobs app, Ended) ∷ []) (is_full h).0 (is_full h).1 _ next is
+full_last h epoch (Banning machine) next is = passes_last (is_fenced h epoch ∷ (has_number machine h.bans, AlreadyBanned) ∷ []) (is_full h).0 (is_full h).1 _ next is
+full_last h epoch (Unbanning machine) next is = passes_last (is_fenced h epoch ∷ (not (has_number machine h.bans), NotBanned) ∷ []) (is_full h).0 (is_full h).1 _ next is
+
+pub room_of_step : (h : HardState) (epoch : ℕ) (event : HardEvent) (next : HardState) → hard_step h epoch event ≡ Ok next → h.records < most_records
+room_of_step h epoch event next is = let some : not (nat_lt h.records most_records) ≡ false = full_last h epoch event next is in grind (arith, nat_tests)
+
 -- what is written of a record that is allowed is taken
 pub takes : (h next : HardState) (epoch : ℕ) (r : Record) → IsAskedBy epoch r → record_in (body_of r) ≡ Some r → hard_step h epoch (event_of r) ≡ Ok next → taken h (body_of r) ≡ Some next
 unfolding taken
@@ -95,7 +115,12 @@ module _ (before : Kept) (next : HardState) (step : Result HardState Refusal) (b
   unfolding reads_as
   left_reads file reads within left appending = reads_either taken (λ h. h.records) one_more most_records empty_hard refl before.value next before.gate file body reads within small takes room left appending
 
-  new_reads : (file : List ℕ) → reads_as file ≡ Ok (opened_as before) → before.gate < length file → reads_as (appended file before.gate (behind_gate body)) ≡ Ok (record { value = next; gate = after_gate })
+  pub old_reads : (file : List ℕ) → reads_as file ≡ Ok (opened_as before) → before.gate < length file → (left : List ℕ) → take (before.gate + 1) left ≡ take (before.gate + 1) file
+      → reads_as left ≡ Ok (opened_as before)
+  unfolding reads_as
+  old_reads file reads within left same = reads_before taken (λ h. h.records) one_more most_records empty_hard refl before.value next before.gate file body reads within small takes room left same
+
+  pub new_reads : (file : List ℕ) → reads_as file ≡ Ok (opened_as before) → before.gate < length file → reads_as (appended file before.gate (behind_gate body)) ≡ Ok (record { value = next; gate = after_gate })
   unfolding reads_as
   new_reads file reads within =
       reads_after taken (λ h. h.records) one_more most_records empty_hard refl before.value next before.gate file body reads within small takes room (appended file before.gate (behind_gate body))

@@ -1,6 +1,7 @@
 -- Bytes that are appended behind a closed gate, which is opened once they are on the disk.
 use Rattle.std.specs.Prelude.{◌≡◌, ◌⊎◌, ℕ, ◌+◌, List, [], ◌∷◌, ◌++◌, length, take, Result, Ok, Err, OnOk}
 use Rattle.fuxi_io.specs.Disks.{Moment, Told, synced_moment, then_told, after_write, after_sync, overwritten, Writes, LeavesAlways}
+use Rattle.hard_state.specs.DiskCalls.{DiskCall, Write, Sync}
 
 -- nothing is pending
 abbrev pub IsSynced : Moment → Type 0
@@ -16,6 +17,10 @@ IsAppending file gate bytes left =
 abbrev pub WritesThrough : {E : Type 0} → ℕ → List ℕ → Result (Unit {0}) E → Told → Told → Type 0
 WritesThrough at bytes (Ok done) old new = let moment = after_write at bytes old.now in new ≡ then_told (then_told old moment) (after_sync moment)
 WritesThrough at bytes (Err fault) old new = Writes at bytes (Err fault) old new
+
+-- the four calls of an appending: the bytes are written behind the gate, and synced; the gate is opened, and synced
+abbrev pub appending_calls : ℕ → List ℕ → List DiskCall
+appending_calls gate bytes = Write (gate + 1) bytes ∷ Sync ∷ Write gate (1 ∷ []) ∷ Sync ∷ []
 
 -- the file when they are appended
 abbrev pub appended : List ℕ → ℕ → List ℕ → List ℕ

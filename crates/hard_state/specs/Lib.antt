@@ -1,3 +1,4 @@
+pub mod DiskCalls
 pub mod Gates
 pub mod Checkpoints
 pub mod Index
@@ -5,3 +6,4 @@ pub mod Bans
 pub mod Knowledge
 pub mod Pieces
 pub mod HardFiles
+pub mod Moments

@@ -2,7 +2,8 @@
 ghost use Rattle.std.specs.Prelude.{◌≡◌, ℕ, ◌+◌, ◌^◌, ◌<◌, ◌≤◌, length, max, OnOk};
 ghost use Rattle.fuxi_io.specs.Causes.{HasCause};
 ghost use Rattle.fuxi_io.specs.Disks.{WhereTold};
-ghost use Rattle.hard_state.specs.Gates.{Appends, WritesThrough};
+ghost use Rattle.hard_state.specs.DiskCalls.{MakesCalls};
+ghost use Rattle.hard_state.specs.Gates.{Appends, WritesThrough, appending_calls};
 
 use fuxi_io::{Disk, Failed};
 
@@ -28,6 +29,7 @@ pub fn append<D: Disk>(disk: &mut D, gate: u64, bytes: &[u8]) -> Result<(), Fail
     requires end { gate + 1 + length bytes.now < 2 ^ 63 }
     ensures size { OnOk result (D.size disk.new ≡ max (D.size disk.old) (gate + 1 + length bytes.now)) }
     ensures told { WhereTold (Appends gate bytes.now result) (D.told disk.old) (D.told disk.new) }
+    ensures calls { WhereTold (MakesCalls (appending_calls gate bytes.now) result) (D.told disk.old) (D.told disk.new) }
     ensures cause { HasCause (D.faults disk.old) (D.faults disk.new) result }
 {
     match write_through(disk, gate + 1, bytes) {

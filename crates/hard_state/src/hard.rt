@@ -8,7 +8,8 @@ ghost use Rattle.fuxi_terms.specs.Limits.{most_machines, most_records};
 ghost use Rattle.written_roles.specs.HardState.{Raise, Submission, Finishing, Banning, Unbanning, empty_hard, hard_step};
 ghost use Rattle.hard_records.specs.Bodies.{body_of, record_in, IsWithinLimits};
 ghost use Rattle.hard_state.specs.Checkpoints.{behind_gate};
-ghost use Rattle.hard_state.specs.HardFiles.{event_of, IsAskedBy, Refuses, WritesStep, Opens, OpensAs, IsDamagedAt, IsOpeningFault, Begins};
+ghost use Rattle.hard_state.specs.HardFiles.{event_of, IsAskedBy, Refuses, WritesStep, Opens, OpensAs, IsDamagedAt, IsOpeningFault, Begins, SyncsAll};
+ghost use Rattle.hard_state.specs.Moments.{Moments, writing_calls};
 
 use crate::fault::HardFault;
 use crate::gate::append;
@@ -100,6 +101,7 @@ impl Hard {
         ensures later { D.faults disk.old ≤ D.faults disk.new }
         ensures cause { result ≡ Err HardFault.DiskFault → Rose (D.faults disk.old) (D.faults disk.new) }
         ensures told { WhereTold Opens (D.told disk.old) (D.told disk.new) }
+        ensures untouched { (offset : ℕ) → result ≡ Err (HardFault.NotCheckpoint offset) → WhereTold SyncsAll (D.told disk.old) (D.told disk.new) }
     {
         let len = match settle(disk) {
             Ok(len) => len,
@@ -157,6 +159,7 @@ impl Hard {
         ensures later { D.faults disk.old ≤ D.faults disk.new }
         ensures cause { result ≡ Err HardFault.DiskFault → Rose (D.faults disk.old) (D.faults disk.new) }
         ensures told { WhereTold (WritesStep (hard_step self.old.value epoch (event_of change)) self.old self.new result) (D.told disk.old) (D.told disk.new) }
+        ensures moments { WhereTold (Moments (writing_calls self.old.gate epoch (event_of change)) result) (D.told disk.old) (D.told disk.new) }
     {
         match self.state.may(epoch, &change) {
             Ok(()) => {}
@@ -191,6 +194,7 @@ impl Hard {
         ensures later { D.faults disk.old ≤ D.faults disk.new }
         ensures cause { result ≡ Err HardFault.DiskFault → Rose (D.faults disk.old) (D.faults disk.new) }
         ensures told { WhereTold (WritesStep (hard_step self.old.value epoch Raise) self.old self.new result) (D.told disk.old) (D.told disk.new) }
+        ensures moments { WhereTold (Moments (writing_calls self.old.gate epoch Raise) result) (D.told disk.old) (D.told disk.new) }
     {
         self.write(disk, epoch, Record::Fence(epoch))
     }
@@ -208,6 +212,7 @@ impl Hard {
         ensures later { D.faults disk.old ≤ D.faults disk.new }
         ensures cause { result ≡ Err HardFault.DiskFault → Rose (D.faults disk.old) (D.faults disk.new) }
         ensures told { WhereTold (WritesStep (hard_step self.old.value epoch (Submission job.now)) self.old self.new result) (D.told disk.old) (D.told disk.new) }
+        ensures moments { WhereTold (Moments (writing_calls self.old.gate epoch (Submission job.now)) result) (D.told disk.old) (D.told disk.new) }
     {
         job.app();
         let copy = match job.copy(self.alloc) {
@@ -230,6 +235,7 @@ impl Hard {
         ensures later { D.faults disk.old ≤ D.faults disk.new }
         ensures cause { result ≡ Err HardFault.DiskFault → Rose (D.faults disk.old) (D.faults disk.new) }
         ensures told { WhereTold (WritesStep (hard_step self.old.value epoch (Finishing app.0)) self.old self.new result) (D.told disk.old) (D.told disk.new) }
+        ensures moments { WhereTold (Moments (writing_calls self.old.gate epoch (Finishing app.0)) result) (D.told disk.old) (D.told disk.new) }
     {
         self.write(disk, epoch, Record::Finish(app))
     }
@@ -253,6 +259,7 @@ impl Hard {
         ensures later { D.faults disk.old ≤ D.faults disk.new }
         ensures cause { result ≡ Err HardFault.DiskFault → Rose (D.faults disk.old) (D.faults disk.new) }
         ensures told { WhereTold (WritesStep (hard_step self.old.value epoch (Banning machine.0)) self.old self.new result) (D.told disk.old) (D.told disk.new) }
+        ensures moments { WhereTold (Moments (writing_calls self.old.gate epoch (Banning machine.0)) result) (D.told disk.old) (D.told disk.new) }
     {
         self.write(disk, epoch, Record::Ban(machine))
     }
@@ -275,6 +282,7 @@ impl Hard {
         ensures later { D.faults disk.old ≤ D.faults disk.new }
         ensures cause { result ≡ Err HardFault.DiskFault → Rose (D.faults disk.old) (D.faults disk.new) }
         ensures told { WhereTold (WritesStep (hard_step self.old.value epoch (Unbanning machine.0)) self.old self.new result) (D.told disk.old) (D.told disk.new) }
+        ensures moments { WhereTold (Moments (writing_calls self.old.gate epoch (Unbanning machine.0)) result) (D.told disk.old) (D.told disk.new) }
     {
         self.write(disk, epoch, Record::Unban(machine))
     }

@@ -1,12 +1,15 @@
 //! The checkpoint.
 
-ghost use Rattle.std.specs.Prelude.{◌≡◌, ◌≢◌, ◌<◌, ◌≤◌, Result, Ok, Err, IfOk, IfErr, OnOk};
+ghost use Rattle.std.specs.Prelude.{◌≡◌, ◌≢◌, ◌<◌, ◌≤◌, Result, Ok, Err, IfOk, IfErr, OnOk, IsOk};
+ghost use Rattle.fuxi_io.specs.Disks.{Leaves};
 ghost use Rattle.fuxi_terms.specs.Limits.{most_machines};
 ghost use Rattle.written_roles.specs.HardState.{HardState, empty_hard, hard_step, Raise, Submission, Finishing, Banning, Unbanning};
 ghost use Rattle.written_roles.specs.Refusals.{Refusal};
-ghost use Rattle.hard_state.specs.HardFiles.{Refuses};
+ghost use Rattle.hard_state.specs.HardFiles.{IsBeforeOrAfter, Refuses, records_of};
 ghost use Rattle.memory_checkpoint.specs.Held.{IsOpen};
+ghost use Rattle.memory_checkpoint.specs.Writings.{IsLeft, IsWritable, MayLeave, counts_after, event_of};
 
+use crate::writing::{Writing, room_for, write_on};
 use fuxi_io::MemDisk;
 use fuxi_terms::OutOfMemory;
 use hard_state::{Hard, HardFault};
@@ -16,18 +19,6 @@ use std::marker::Model;
 
 // The room that a disk needs for opening an empty file: a sync, a write of a gate byte, a sync.
 const OPENING_ROOM: usize = 1 + 2 + 1;
-
-// What a record takes beside its body: a write of its length, the body and a gate byte, a sync, a write of a gate byte, a sync.
-const RECORD_ROOM: usize = (4 + 1 + 1) + 1 + 2 + 1;
-
-// The length of a body: of a fence, of a job with no unit, of each unit, and of one that names a job or a machine.
-const FENCE_BODY: usize = 10;
-
-const JOB_BODY: usize = 11;
-
-const UNIT_BODY: usize = 69;
-
-const NUMBER_BODY: usize = 6;
 
 /// A hard state with the disk in memory that it is written to.
 ///
@@ -73,7 +64,15 @@ impl Checkpoint {
         ensures open { IfOk result IsOpen }
         ensures value { IfOk result (λ c. c.hard.value ≡ empty_hard) }
     {
-        let mut disk = MemDisk::of(alloc, Vec::new(alloc), Vec::new(alloc));
+        let disk = MemDisk::of(alloc, Vec::new(alloc), Vec::new(alloc));
+        Checkpoint::opened(alloc, disk)
+    }
+
+    // Opens a disk that has no list of faults.
+    fn opened(alloc: Global, mut disk: MemDisk) -> Result<Checkpoint, OutOfMemory>
+        ensures open { IfOk result IsOpen }
+        ensures value { IfOk result (λ c. records_of disk.told.now.bytes ≡ Ok c.hard.value) }
+    {
         match disk.room(OPENING_ROOM) {
             Ok(()) => {}
             Err(OutOfMemory) => return Err(OutOfMemory),
@@ -88,12 +87,21 @@ impl Checkpoint {
         }
     }
 
-    // Makes room for a record with a body of this length, as far as it lacks.
-    fn make_room(&mut self, body: usize) -> Result<(), OutOfMemory>
-        requires { body ≤ 563 }
+    // Opens what a crash of the disk leaves: all that was written, or what was synced last.
+    fn opened_image(alloc: Global, disk: &MemDisk, all: bool) -> Result<Checkpoint, OutOfMemory>
+        ensures open { IfOk result IsOpen }
+        ensures value { IfOk result (λ c. MayLeave disk.now.told.now c.hard.value) }
+    {
+        match disk.image(alloc, all) {
+            Ok(image) => Checkpoint::opened(alloc, image),
+            Err(OutOfMemory) => Err(OutOfMemory),
+        }
+    }
+
+    // Makes so much room for a record, as far as it lacks.
+    fn make_room(&mut self, needed: usize) -> Result<(), OutOfMemory>
         ensures { self.new ≡ self.old }
     {
-        let needed = RECORD_ROOM + body;
         if self.spare >= needed {
             return Ok(());
         }
@@ -106,12 +114,11 @@ impl Checkpoint {
         }
     }
 
-    // Tells that a record with a body of this length was written.
-    fn used(&mut self, body: usize)
-        requires { body ≤ 563 }
+    // Tells that a record used so much room.
+    fn used(&mut self, room: usize)
         ensures { self.new ≡ self.old }
     {
-        self.spare = self.spare.saturating_sub(RECORD_ROOM + body);
+        self.spare = self.spare.saturating_sub(room);
     }
 
     /// The hard state.
@@ -119,6 +126,97 @@ impl Checkpoint {
         ensures { result.now ≡ self.now.hard }
     {
         &self.hard
+    }
+
+    /// Writes one change of the hard state, for a master of this epoch.
+    pub fn write(&mut self, epoch: u64, writing: &Writing) -> Result<(), HardFault>
+        requires writable { IsWritable writing.now }
+        requires open { IsOpen self.old }
+        ensures ok { OnOk result (IsOpen self.new × (hard_step self.old.hard.value epoch (event_of writing.now) ≡ Ok self.new.hard.value)) }
+        ensures refused { IfErr result (Refuses (hard_step self.old.hard.value epoch (event_of writing.now))) }
+        ensures unchanged { IfErr result (λ fault. fault ≢ HardFault.OutOfMemory → self.new ≡ self.old) }
+        ensures disk { result ≢ Err HardFault.DiskFault }
+    {
+        let room = room_for(writing);
+        match self.make_room(room) {
+            Ok(()) => {}
+            Err(OutOfMemory) => return Err(HardFault::OutOfMemory),
+        }
+        match write_on(&mut self.hard, &mut self.disk, epoch, writing) {
+            Ok(()) => {
+                self.used(room);
+                Ok(())
+            }
+            Err(fault) => Err(unless_disk(fault)),
+        }
+    }
+
+    /// Begins to write one change, stops after so many of the four calls of the disk that this makes, and opens what a crash then
+    /// leaves: all that was written, or what was synced last. It answers whether the change is written.
+    ///
+    /// A refusal is that of [`Checkpoint::write`], and then nothing has changed.
+    pub fn halt(
+        &mut self,
+        alloc: Global,
+        epoch: u64,
+        writing: &Writing,
+        calls: u8,
+        all: bool,
+    ) -> Result<bool, HardFault>
+        requires writable { IsWritable writing.now }
+        requires open { IsOpen self.old }
+        requires some { 1 ≤ calls }
+        requires few { calls ≤ 4 }
+        ensures open { OnOk result (IsOpen self.new) }
+        ensures counts { IfOk result (λ counts. counts ≡ counts_after calls all) }
+        ensures left { IfOk result (λ counts. IsLeft (hard_step self.old.hard.value epoch (event_of writing.now)) self.old.hard.value counts self.new.hard.value) }
+        ensures refused { IfErr result (Refuses (hard_step self.old.hard.value epoch (event_of writing.now))) }
+        ensures unchanged { IfErr result (λ fault. fault ≢ HardFault.OutOfMemory → self.new ≡ self.old) }
+        ensures disk { result ≢ Err HardFault.DiskFault }
+    {
+        let records = self.hard.records();
+        match self.stop(epoch, writing, calls) {
+            Ok(()) => {}
+            Err(fault) => return Err(fault),
+        }
+        let left = match Checkpoint::opened_image(alloc, &self.disk, all) {
+            Ok(left) => left,
+            Err(OutOfMemory) => return Err(HardFault::OutOfMemory),
+        };
+        let counts = counts_after(calls, all);
+        let grown = left.hard.records() > records;
+        // A disk that serves just so many calls leaves what is said.
+        if grown != counts {
+            return Err(HardFault::OutOfMemory);
+        }
+        *self = left;
+        Ok(counts)
+    }
+
+    // Writes one change on the disk, which from now on serves so many writes and syncs.
+    fn stop(&mut self, epoch: u64, writing: &Writing, calls: u8) -> Result<(), HardFault>
+        requires writable { IsWritable writing.now }
+        requires open { IsOpen self.old }
+        ensures step { OnOk result (IsOk (hard_step self.old.hard.value epoch (event_of writing.now))) }
+        ensures left { OnOk result (Leaves (IsBeforeOrAfter self.old.hard.value (hard_step self.old.hard.value epoch (event_of writing.now))) self.new.told.now) }
+        ensures refused { IfErr result (Refuses (hard_step self.old.hard.value epoch (event_of writing.now))) }
+        ensures unchanged { IfErr result (λ fault. fault ≢ HardFault.OutOfMemory → self.new ≡ self.old) }
+        ensures disk { result ≢ Err HardFault.DiskFault }
+    {
+        match self.make_room(room_for(writing)) {
+            Ok(()) => {}
+            Err(OutOfMemory) => return Err(HardFault::OutOfMemory),
+        }
+        self.disk.stop_after(calls as u64);
+        match write_on(&mut self.hard, &mut self.disk, epoch, writing) {
+            Ok(()) => Ok(()),
+            Err(HardFault::DiskFault) => Ok(()),
+            Err(fault) => {
+                // No run makes so many calls.
+                self.disk.stop_after(u64::MAX);
+                Err(fault)
+            }
+        }
     }
 
     /// [`Hard::raise`].
@@ -129,17 +227,7 @@ impl Checkpoint {
         ensures unchanged { IfErr result (λ fault. fault ≢ HardFault.OutOfMemory → self.new ≡ self.old) }
         ensures disk { result ≢ Err HardFault.DiskFault }
     {
-        match self.make_room(FENCE_BODY) {
-            Ok(()) => {}
-            Err(OutOfMemory) => return Err(HardFault::OutOfMemory),
-        }
-        match self.hard.raise(&mut self.disk, epoch) {
-            Ok(()) => {
-                self.used(FENCE_BODY);
-                Ok(())
-            }
-            Err(fault) => Err(unless_disk(fault)),
-        }
+        self.write(epoch, &Writing::Raise)
     }
 
     /// [`Hard::submit`].
@@ -150,18 +238,7 @@ impl Checkpoint {
         ensures unchanged { IfErr result (λ fault. fault ≢ HardFault.OutOfMemory → self.new ≡ self.old) }
         ensures disk { result ≢ Err HardFault.DiskFault }
     {
-        let body = JOB_BODY + UNIT_BODY * job.units() as usize;
-        match self.make_room(body) {
-            Ok(()) => {}
-            Err(OutOfMemory) => return Err(HardFault::OutOfMemory),
-        }
-        match self.hard.submit(&mut self.disk, epoch, job) {
-            Ok(()) => {
-                self.used(body);
-                Ok(())
-            }
-            Err(fault) => Err(unless_disk(fault)),
-        }
+        self.write(epoch, &Writing::Submit(job))
     }
 
     /// [`Hard::finish`].
@@ -172,17 +249,7 @@ impl Checkpoint {
         ensures unchanged { IfErr result (λ fault. fault ≢ HardFault.OutOfMemory → self.new ≡ self.old) }
         ensures disk { result ≢ Err HardFault.DiskFault }
     {
-        match self.make_room(NUMBER_BODY) {
-            Ok(()) => {}
-            Err(OutOfMemory) => return Err(HardFault::OutOfMemory),
-        }
-        match self.hard.finish(&mut self.disk, epoch, app) {
-            Ok(()) => {
-                self.used(NUMBER_BODY);
-                Ok(())
-            }
-            Err(fault) => Err(unless_disk(fault)),
-        }
+        self.write(epoch, &Writing::Finish(app))
     }
 
     /// [`Hard::ban`].
@@ -194,17 +261,7 @@ impl Checkpoint {
         ensures unchanged { IfErr result (λ fault. fault ≢ HardFault.OutOfMemory → self.new ≡ self.old) }
         ensures disk { result ≢ Err HardFault.DiskFault }
     {
-        match self.make_room(NUMBER_BODY) {
-            Ok(()) => {}
-            Err(OutOfMemory) => return Err(HardFault::OutOfMemory),
-        }
-        match self.hard.ban(&mut self.disk, epoch, machine) {
-            Ok(()) => {
-                self.used(NUMBER_BODY);
-                Ok(())
-            }
-            Err(fault) => Err(unless_disk(fault)),
-        }
+        self.write(epoch, &Writing::Ban(machine))
     }
 
     /// [`Hard::unban`].
@@ -215,16 +272,13 @@ impl Checkpoint {
         ensures unchanged { IfErr result (λ fault. fault ≢ HardFault.OutOfMemory → self.new ≡ self.old) }
         ensures disk { result ≢ Err HardFault.DiskFault }
     {
-        match self.make_room(NUMBER_BODY) {
-            Ok(()) => {}
-            Err(OutOfMemory) => return Err(HardFault::OutOfMemory),
-        }
-        match self.hard.unban(&mut self.disk, epoch, machine) {
-            Ok(()) => {
-                self.used(NUMBER_BODY);
-                Ok(())
-            }
-            Err(fault) => Err(unless_disk(fault)),
-        }
+        self.write(epoch, &Writing::Unban(machine))
     }
+}
+
+// Whether the record of a writing counts after so many of its calls.
+fn counts_after(calls: u8, all: bool) -> bool
+    ensures { result ≡ counts_after calls all }
+{
+    calls == 4 || (calls == 3 && all)
 }

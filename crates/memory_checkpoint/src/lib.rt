@@ -2,5 +2,7 @@
 #![tactic(auto)]
 
 mod checkpoint;
+mod writing;
 
 pub use checkpoint::Checkpoint;
+pub use writing::Writing;

@@ -1,5 +1,7 @@
-use Rattle.std.proofs.Common.{◌≡◌, Err, refl, ap, arith}
+use Rattle.std.proofs.Common.{◌≡◌, Err, refl, sym, ap, subst, arith}
 use Rattle.fuxi_io.specs.declared.outside.Failed.{Failed}
+use Rattle.fuxi_io.specs.Disks.{WhereTold}
+use Rattle.hard_state.specs.HardFiles.{SyncsAll}
 use Rattle.hard_state.specs.declared.fault.HardFault.{HardFault}
 use Rattle.hard_state.specs.declared.fault.HardFault.TheVariants.{NotCheckpoint}
 use Rattle.hard_state.proofs.Openings.{opening_rests, opening_begins, opens_begun, opens_read, opens_damaged, settling_fails}
@@ -34,3 +36,6 @@ returns-in-Err-read-clause-damaged g c offset at =
 
 pub returns-in-Err-read-clause-told : goal.returns-in-Err-read-clause-told
 returns-in-Err-read-clause-told g c = opening_rests Failed _ _ (record {}) c.in-Ok.ensures.synced _ c.read.ensures.told
+
+pub returns-in-Err-read-clause-untouched : goal.returns-in-Err-read-clause-untouched
+returns-in-Err-read-clause-untouched g c offset at = subst (WhereTold SyncsAll (g.D.Disk.told c.args.disk.now)) (sym c.read.ensures.told) c.in-Ok.ensures.synced

@@ -6,10 +6,12 @@ use Rattle.written_roles.specs.HardState.{HardState, hard_step, hard_after}
 use Rattle.hard_records.specs.Bodies.{body_of}
 use Rattle.hard_state.specs.declared.fault.HardFault.{HardFault}
 use Rattle.hard_state.specs.declared.fault.HardFault.TheVariants.{DiskFault, OutOfMemory}
-use Rattle.hard_state.specs.Gates.{Appends}
+use Rattle.hard_state.specs.Gates.{Appends, appending_calls}
+use Rattle.hard_state.specs.Moments.{writing_calls}
 use Rattle.hard_state.specs.Checkpoints.{behind_gate}
 use Rattle.hard_state.specs.HardFiles.{Kept, event_of}
 use Rattle.hard_state.proofs.Standing.{length-behind}
+use Rattle.hard_state.proofs.MomentsLemmas.{calls_same, all_made, some_made, none_made, nothing_made}
 use Rattle.hard_state.proofs.Stops.{refused_where, failed_where, written_where, takes, at_same}
 use Rattle.hard_state.proofs.hard.Hard.write.Goals as goal
 
@@ -55,3 +57,23 @@ returns-in-Err-append-clause-told g c =
     at_same {E = Failed} before.gate (behind_gate body) _ _ (Err (record {})) _ _ (ap (λ (k : Kept). k.gate) c.self.view_is) bytes c.in-Err-append.ensures.told in
     failed_where before (hard_after before.value epoch event) _ body steps taken_as room (omega (arith, c.encode.ensures.body)) Failed HardFault _ before _ _ (record {}) DiskFault
     c.requires.long (g.met.D.Disk.measured c.args.disk.now) appends
+
+pub returns-in-Err-clause-moments : goal.returns-in-Err-clause-moments
+returns-in-Err-clause-moments g c = none_made _ c.in-Err.fault _ (λ same. c.in-Err.ensures.own (ap Err same))
+
+pub returns-in-Err-encode-clause-moments : goal.returns-in-Err-encode-clause-moments
+returns-in-Err-encode-clause-moments g c = nothing_made _
+
+pub returns-in-Ok-append-clause-moments : goal.returns-in-Ok-append-clause-moments
+returns-in-Ok-append-clause-moments g c =
+    let gate = ap (λ (k : Kept). k.gate) c.self.view_is in
+    let same : appending_calls c.self.inside.gate c.deref.result.now ≡ writing_calls c.args.self.now.gate c.args.epoch (event_of c.args.change) =
+    calls_same c.args.self.now.gate c.self.inside.gate c.args.epoch c.args.change c.deref.result.now c.requires.asked gate (c.deref.ensures.value ∙ c.in-Ok-encode.ensures.bytes) in
+    all_made Failed _ _ _ _ same c.in-Ok-append.ensures.calls
+
+pub returns-in-Err-append-clause-moments : goal.returns-in-Err-append-clause-moments
+returns-in-Err-append-clause-moments g c =
+    let gate = ap (λ (k : Kept). k.gate) c.self.view_is in
+    let same : appending_calls c.self.inside.gate c.deref.result.now ≡ writing_calls c.args.self.now.gate c.args.epoch (event_of c.args.change) =
+    calls_same c.args.self.now.gate c.self.inside.gate c.args.epoch c.args.change c.deref.result.now c.requires.asked gate (c.deref.ensures.value ∙ c.in-Ok-encode.ensures.bytes) in
+    some_made Failed _ _ _ _ (record {}) same c.in-Err-append.ensures.calls

@@ -1,10 +1,7 @@
 use Rattle.std.proofs.Common.{◌∙◌, ap}
 use Rattle.fuxi_io.specs.MemoryDisks.{DiskStore}
-use Rattle.memory_checkpoint.proofs.Empty.{opened_empty}
+use Rattle.memory_checkpoint.proofs.Empty.{opened_where}
 use Rattle.memory_checkpoint.proofs.checkpoint.Checkpoint.open.Goals as goal
 
-pub returns-in-Ok-open-clause-value : goal.returns-in-Ok-open-clause-value
-returns-in-Ok-open-clause-value c =
-    let told = ap (λ (d : DiskStore). d.told.now.bytes) c.in-Ok.ensures.ok in
-    let made = ap (λ (d : DiskStore). d.told.now.bytes) c.of-disk.ensures in
-    opened_empty _ _ (told ∙ made ∙ c.new.ensures.items) c.in-Ok-open.ensures.opened.0
+pub returns-clause-value : goal.returns-clause-value
+returns-clause-value c = opened_where _ _ c.opened.result (ap (λ (d : DiskStore). d.told.now.bytes) c.of-disk.ensures ∙ c.new.ensures.items) c.opened.ensures.value
