@@ -1,9 +1,9 @@
-//! The start and the stop of masters, and the commands that they are given.
+//! The start and the stop of masters, the commands that they are given, and what they judge.
 //!
 //! Each call answers why the event is refused, or `None` where it is done. A refused one has changed nothing that the world sees. The hard
 //! state is written before a master is told. After `OutOfMemory` what was lent is not to be used.
 
-ghost use Rattle.std.specs.Prelude.{◌≡◌, ◌<◌, Some, IfOk, is_some};
+ghost use Rattle.std.specs.Prelude.{◌≡◌, ◌<◌, ◌≤◌, Some, IfOk, is_some};
 ghost use Rattle.std.specs.Ordering.{nat_cmp};
 ghost use Rattle.std.specs.FinMap.Entries.{find};
 ghost use Rattle.written_roles.specs.MasterSteps.{Submits, Finishes, BansMachine, UnbansMachine, StartsServing, MakesRoom};
@@ -12,8 +12,9 @@ ghost use Rattle.written_world.specs.Events.{commanded, resync_master, start_mas
 ghost use Rattle.running_masters.specs.Running.{AreMastersOf, Fits, MayStep};
 ghost use Rattle.running_masters.specs.Calls.{IsCommand};
 ghost use Rattle.schedule_text.specs.Asked.{job_named};
-ghost use Rattle.schedule_replay.specs.Commands.{AreGoverned, Governs, GovernsMasters, GovernsOn, TakesStep, TellsInWorld, governing, hard_refusal, refusal_in};
+ghost use Rattle.schedule_replay.specs.Commands.{AreGoverned, Decides, Governs, GovernsMasters, GovernsOn, TakesStep, TellsInWorld, governing, hard_refusal, refusal_in};
 
+use bad_nodes::Votes;
 use cluster_desc::Cluster;
 use fuxi_master::{MasterEvent, MasterRefusal};
 use fuxi_terms::OutOfMemory;
@@ -25,6 +26,7 @@ use schedule_text::{Refusal, job_refusal, jobs_are_tested_alike};
 use schedule_unit::{AppNo, Asks, GroupNo, Job, MachineNo};
 use std::alloc::Global;
 use std::mem;
+use written_roles::judges;
 
 /// A master starts in an epoch above the fence.
 pub(crate) fn start_master(
@@ -154,6 +156,43 @@ pub(crate) fn ban(
         Err(fault) => return Ok(Some(written_refusal(fault)?)),
     }
     tell(alloc, masters, epoch, MasterEvent::Ban(machine))
+}
+
+/// The machines that a judgement bans, in its order, with the votes that were counted.
+#[derive(Drop)]
+pub(crate) struct Judgement {
+    pub(crate) votes: Votes,
+    pub(crate) machines: Vec<MachineNo>,
+}
+
+/// The judgement of the master of an epoch, or why it is refused. Nothing changes.
+pub(crate) fn judged(
+    alloc: Global,
+    checkpoint: &Checkpoint,
+    masters: &Masters,
+    epoch: u64,
+    least: u32,
+    percent: u32,
+) -> Result<Result<Judgement, Refusal>, OutOfMemory>
+    requires { percent ≤ 100 }
+    ensures { IfOk result (Decides epoch least percent (governing checkpoint.now masters.now)) }
+{
+    judges();
+    let Some(master) = masters.get(epoch) else {
+        return Ok(Err(Refusal::NotRunning));
+    };
+    let hard = checkpoint.hard();
+    let fence = hard.fence();
+    if epoch < fence {
+        return Ok(Err(Refusal::Fenced(fence)));
+    }
+    let votes = master.votes(alloc)?;
+    let machines = votes.judge(alloc, least, percent)?;
+    let left = MOST_RECORDS - hard.records() as u64;
+    if machines.len() as u64 > left {
+        return Ok(Err(Refusal::HardFull(MOST_RECORDS)));
+    }
+    Ok(Ok(Judgement { votes, machines }))
 }
 
 /// The ban of a machine is lifted by the master of an epoch.
