@@ -14,7 +14,7 @@ use Rattle.schedule_text.specs.declared.event.Event.{Event}
 use Rattle.schedule_text.specs.declared.event.LineFault.{LineFault}
 use Rattle.schedule_text.specs.declared.event.LineFault.TheVariants.{BadNumber, Range}
 use Rattle.schedule_text.specs.declared.form.Head.{Head}
-use Rattle.schedule_text.specs.declared.form.Head.TheVariants.{Master, Stop, Agent, App, Submit, Finish, Ban, Unban, Begin, Preempt, Want, Near, Rack, Avoid, Back, TurnMaster, TurnAgent, TurnApp, ResyncMaster, ResyncAgent, ResyncApp, Deliver, DeliverRange, Dump, Show}
+use Rattle.schedule_text.specs.declared.form.Head.TheVariants.{Master, Stop, Agent, App, Submit, Finish, Ban, Unban, Begin, Preempt, Judge, Want, Near, Rack, Avoid, Back, TurnMaster, TurnAgent, TurnApp, ResyncMaster, ResyncAgent, ResyncApp, Deliver, DeliverRange, Dump, Show}
 use Rattle.schedule_text.specs.declared.form.Place.{Place}
 use Rattle.schedule_text.specs.declared.form.Place.TheVariants.{Count}
 use Rattle.schedule_text.specs.Words.{words_of}
@@ -238,6 +238,7 @@ said h ns asks w u = by h w u (within_length (shape_of h).places 0 ns w)
     by Unban w u n = alone Unban _ ns asks (two ns n) u
     by Begin w u n = alone Begin _ ns asks (one ns n) u
     by Preempt w u n = alone Preempt _ ns asks (one ns n) u
+    by Judge w u n = alone Judge _ ns asks (three ns n) u
     by Want w u n = alone Want _ ns asks (three ns n) u
     by Near w u n = alone Near _ ns asks (four ns n) u
     by Rack w u n = alone Rack _ ns asks (four ns n) u

@@ -15,11 +15,11 @@ use Rattle.fuxi_terms.proofs.Alls.{all_append}
 use Rattle.schedule_unit.specs.Numbers.{is_numeral, number_of}
 use Rattle.schedule_unit.specs.declared.asks.Ask.{Ask}
 use Rattle.schedule_text.specs.declared.event.Event.{Event}
-use Rattle.schedule_text.specs.declared.event.Event.TheVariants.{Master as MasterEvent, Stop as StopEvent, Agent as AgentEvent, App as AppEvent, Submit as SubmitEvent, Finish as FinishEvent, Ban as BanEvent, Unban as UnbanEvent, Begin as BeginEvent, Preempt as PreemptEvent, Want as WantEvent, Near as NearEvent, Rack as RackEvent, Avoid as AvoidEvent, Back as BackEvent, TurnMaster as TurnMasterEvent, TurnAgent as TurnAgentEvent, TurnApp as TurnAppEvent, ResyncMaster as ResyncMasterEvent, ResyncAgent as ResyncAgentEvent, ResyncApp as ResyncAppEvent, Deliver as DeliverEvent, DeliverRange as DeliverRangeEvent, Dump as DumpEvent, Show as ShowEvent}
+use Rattle.schedule_text.specs.declared.event.Event.TheVariants.{Master as MasterEvent, Stop as StopEvent, Agent as AgentEvent, App as AppEvent, Submit as SubmitEvent, Finish as FinishEvent, Ban as BanEvent, Unban as UnbanEvent, Begin as BeginEvent, Preempt as PreemptEvent, Judge as JudgeEvent, Want as WantEvent, Near as NearEvent, Rack as RackEvent, Avoid as AvoidEvent, Back as BackEvent, TurnMaster as TurnMasterEvent, TurnAgent as TurnAgentEvent, TurnApp as TurnAppEvent, ResyncMaster as ResyncMasterEvent, ResyncAgent as ResyncAgentEvent, ResyncApp as ResyncAppEvent, Deliver as DeliverEvent, DeliverRange as DeliverRangeEvent, Dump as DumpEvent, Show as ShowEvent}
 use Rattle.schedule_text.specs.declared.event.LineFault.{LineFault}
 use Rattle.schedule_text.specs.declared.event.LineFault.TheVariants.{BadNumber, Range}
 use Rattle.schedule_text.specs.declared.form.Head.{Head}
-use Rattle.schedule_text.specs.declared.form.Head.TheVariants.{Master, Stop, Agent, App, Submit, Finish, Ban, Unban, Begin, Preempt, Want, Near, Rack, Avoid, Back, TurnMaster, TurnAgent, TurnApp, ResyncMaster, ResyncAgent, ResyncApp, Deliver, DeliverRange, Dump, Show}
+use Rattle.schedule_text.specs.declared.form.Head.TheVariants.{Master, Stop, Agent, App, Submit, Finish, Ban, Unban, Begin, Preempt, Judge, Want, Near, Rack, Avoid, Back, TurnMaster, TurnAgent, TurnApp, ResyncMaster, ResyncAgent, ResyncApp, Deliver, DeliverRange, Dump, Show}
 use Rattle.schedule_text.specs.declared.form.Place.{Place}
 use Rattle.schedule_text.specs.declared.form.Place.TheVariants.{Count}
 use Rattle.schedule_text.specs.Words.{is_word, words_of}
@@ -313,6 +313,7 @@ heads_plain Ban = refl
 heads_plain Unban = refl
 heads_plain Begin = refl
 heads_plain Preempt = refl
+heads_plain Judge = refl
 heads_plain Want = refl
 heads_plain Near = refl
 heads_plain Rack = refl
@@ -373,6 +374,7 @@ head_found w (BanEvent e m) h = refl
 head_found w (UnbanEvent e m) h = refl
 head_found w (BeginEvent e) h = refl
 head_found w (PreemptEvent e) h = refl
+head_found w (JudgeEvent e least percent) h = refl
 head_found w (WantEvent a u n) h = refl
 head_found w (NearEvent a u m n) h = refl
 head_found w (RackEvent a u r n) h = refl
@@ -400,6 +402,7 @@ same_event (BanEvent e m) = refl
 same_event (UnbanEvent e m) = refl
 same_event (BeginEvent e) = refl
 same_event (PreemptEvent e) = refl
+same_event (JudgeEvent e least percent) = refl
 same_event (WantEvent a u n) = refl
 same_event (NearEvent a u m n) = refl
 same_event (RackEvent a u r n) = refl

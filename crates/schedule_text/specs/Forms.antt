@@ -1,11 +1,13 @@
 -- The table of event lines: of each its first words, and what stands behind them.
-use Rattle.std.specs.Prelude.{ℕ, ◌<◌, Bool, true, false, not, nat_eq, nat_lt, List, [], ◌∷◌, map, codes}
+use Rattle.std.specs.Prelude.{ℕ, ◌<◌, ◌≤◌, Bool, true, false, not, nat_eq, nat_lt, List, [], ◌∷◌, map, codes}
+use Rattle.fuxi_terms.specs.Cluster.{is_between, is_at_most}
 use Rattle.fuxi_terms.specs.Limits.{most_jobs, most_units, most_machines, most_racks, most_groups}
+use Rattle.written_roles.specs.Votes.{most_votes}
 use Rattle.schedule_text.specs.declared.form.Form.{Form}
 use Rattle.schedule_text.specs.declared.form.Head.{Head}
-use Rattle.schedule_text.specs.declared.form.Head.TheVariants.{Master, Stop, Agent, App, Submit, Finish, Ban, Unban, Begin, Preempt, Want, Near, Rack, Avoid, Back, TurnMaster, TurnAgent, TurnApp, ResyncMaster, ResyncAgent, ResyncApp, Deliver, DeliverRange, Dump, Show}
+use Rattle.schedule_text.specs.declared.form.Head.TheVariants.{Master, Stop, Agent, App, Submit, Finish, Ban, Unban, Begin, Preempt, Judge, Want, Near, Rack, Avoid, Back, TurnMaster, TurnAgent, TurnApp, ResyncMaster, ResyncAgent, ResyncApp, Deliver, DeliverRange, Dump, Show}
 use Rattle.schedule_text.specs.declared.form.Place.{Place}
-use Rattle.schedule_text.specs.declared.form.Place.TheVariants.{Incarnation, Job, Unit as UnitPlace, Machine, Rack as RackPlace, Group, Switch, Packet, LastPacket, Count}
+use Rattle.schedule_text.specs.declared.form.Place.TheVariants.{Incarnation, Job, Unit as UnitPlace, Machine, Rack as RackPlace, Group, Switch, Packet, LastPacket, Votes, Percent, Count}
 
 -- the first words of a line, the numbers behind them, and whether units stand behind these
 pub record Shape : Type 0 where
@@ -27,6 +29,7 @@ shape_of Ban = line (codes "ban" ∷ []) (Incarnation ∷ Machine ∷ [])
 shape_of Unban = line (codes "unban" ∷ []) (Incarnation ∷ Machine ∷ [])
 shape_of Begin = line (codes "begin" ∷ []) (Incarnation ∷ [])
 shape_of Preempt = line (codes "preempt" ∷ []) (Incarnation ∷ [])
+shape_of Judge = line (codes "judge" ∷ []) (Incarnation ∷ Votes ∷ Percent ∷ [])
 shape_of Want = line (codes "want" ∷ []) (Job ∷ UnitPlace ∷ Count ∷ [])
 shape_of Near = line (codes "near" ∷ []) (Job ∷ UnitPlace ∷ Machine ∷ Count ∷ [])
 shape_of Rack = line (codes "rack" ∷ []) (Job ∷ UnitPlace ∷ RackPlace ∷ Count ∷ [])
@@ -45,7 +48,7 @@ shape_of Show = line (codes "show" ∷ []) []
 
 -- all lines
 abbrev pub heads : List Head
-heads = Master ∷ Stop ∷ Agent ∷ App ∷ Submit ∷ Finish ∷ Ban ∷ Unban ∷ Begin ∷ Preempt ∷ Want ∷ Near ∷ Rack ∷ Avoid ∷ Back ∷ TurnMaster ∷ TurnAgent ∷ TurnApp
+heads = Master ∷ Stop ∷ Agent ∷ App ∷ Submit ∷ Finish ∷ Ban ∷ Unban ∷ Begin ∷ Preempt ∷ Judge ∷ Want ∷ Near ∷ Rack ∷ Avoid ∷ Back ∷ TurnMaster ∷ TurnAgent ∷ TurnApp
     ∷ ResyncMaster ∷ ResyncAgent ∷ ResyncApp ∷ Deliver ∷ DeliverRange ∷ Dump ∷ Show ∷ []
 
 -- the table of the code, as this one
@@ -53,7 +56,7 @@ abbrev pub as_shape : Form → Shape
 as_shape f = record { words = map (λ w. w.now) f.words.now; places = f.places.now; units = f.units }
 
 -- The range of each place, with the number that stands before it: epochs and boots, and packets, are counted from 1, and the
--- last packet is not before the first
+-- last packet is not before the first; a judgement asks for a vote at least
 abbrev pub is_within : Place → ℕ → ℕ → Bool
 is_within Incarnation before n = not (nat_eq n 0)
 is_within Job before n = nat_lt n most_jobs
@@ -64,6 +67,8 @@ is_within Group before n = nat_lt n most_groups
 is_within Switch before n = nat_lt n 2
 is_within Packet before n = not (nat_eq n 0)
 is_within LastPacket before n = not (nat_lt n before)
+is_within Votes before n = is_between 1 most_votes n
+is_within Percent before n = is_at_most 100 n
 is_within Count before n = true
 
 -- a number in range is as narrow as this; epochs, boots, packets and counts are as wide as they come
@@ -77,4 +82,6 @@ IsNarrow Group n = n < most_groups
 IsNarrow Switch n = n < 2
 IsNarrow Packet n = Unit {0}
 IsNarrow LastPacket n = Unit {0}
+IsNarrow Votes n = n ≤ most_votes
+IsNarrow Percent n = n ≤ 100
 IsNarrow Count n = Unit {0}

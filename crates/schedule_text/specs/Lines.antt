@@ -5,7 +5,7 @@ use Rattle.fuxi_terms.specs.declared.answers.What.TheVariants.{Stranger, Stale, 
 use Rattle.written_net.specs.Net.{Party, Packet, Kind, Ack, Delta, Full}
 use Rattle.written_net.specs.Ledgers.{Body}
 use Rattle.written_roles.specs.Refusals.{Refusal, NotRunning, NotRising, TooManyMasters, HardFull, Fenced, NoMachine, NoRack, NoGroup, NoJob, NoUnit, Known, Ended, AlreadyBanned, NotBanned, AlreadyServing, NotServing, NothingToPreempt, WantRange, NotUsable, BackRange, NoPacket, NoUnits, TooManyUnits, Dimensions, PriorityRange, QuantityRange, ZeroSize, MostRange}
-use Rattle.written_world.specs.Outputs.{Line, Sent, Came, Lost, Frame, Refused, State, Fence, Job, Banned, MasterIs, Reported, Grant, Wait, AgentAt, Row, AppAt, Hold, Carry, Packets}
+use Rattle.written_world.specs.Outputs.{Line, Sent, Came, Lost, Frame, Refused, Judged, State, Fence, Job, Banned, MasterIs, Reported, Grant, Wait, AgentAt, Row, AppAt, Hold, Carry, Packets}
 use Rattle.hex.specs.Hex.{encode_lower}
 use Rattle.schedule_text.specs.Writing.{spaced}
 
@@ -77,6 +77,7 @@ line_words frame (Came k fresh what) = codes "heard" ∷ decimal k ∷ cond fres
 line_words frame (Lost k) = codes "heard" ∷ decimal k ∷ codes "lost" ∷ []
 line_words frame (Frame k x body) = frame_words k (frame x body)
 line_words frame (Refused why) = codes "refused" ∷ refusal_words why
+line_words frame (Judged m votes) = codes "banned" ∷ decimal m ∷ decimal votes ∷ []
 line_words frame (State events) = codes "state" ∷ decimal events ∷ []
 line_words frame (Fence epoch) = codes "fence" ∷ decimal epoch ∷ []
 line_words frame (Job a g ended) = codes "job" ∷ decimal a ∷ decimal g ∷ cond ended (codes "ended") (codes "live") ∷ []

@@ -5,7 +5,7 @@ use Rattle.schedule_unit.specs.declared.party.Role.{Role}
 use Rattle.schedule_unit.specs.declared.party.Role.TheVariants.{Master as MasterRole, Agent as AgentRole, App as AppRole}
 use Rattle.written_net.specs.Net.{Party, Kind, Ack, Delta, Full}
 use Rattle.written_roles.specs.Refusals.{Refusal, NotRunning, NotRising, TooManyMasters, HardFull, Fenced, NoMachine, NoRack, NoGroup, NoJob, NoUnit, Known, Ended, AlreadyBanned, NotBanned, AlreadyServing, NotServing, NothingToPreempt, WantRange, NotUsable, BackRange, NoPacket, NoUnits, TooManyUnits, Dimensions, PriorityRange, QuantityRange, ZeroSize, MostRange}
-use Rattle.written_world.specs.Outputs.{Line, Sent, Came, Lost, Refused, State, Fence, Job, Banned, MasterIs, Reported, Grant, Wait, AgentAt, Row, AppAt, Hold, Carry, Packets}
+use Rattle.written_world.specs.Outputs.{Line, Sent, Came, Lost, Refused, Judged, State, Fence, Job, Banned, MasterIs, Reported, Grant, Wait, AgentAt, Row, AppAt, Hold, Carry, Packets}
 use Rattle.schedule_text.specs.declared.output.Kind.{Kind as CodeKind}
 use Rattle.schedule_text.specs.declared.output.Kind.TheVariants.{Ack as CodeAck, Delta as CodeDelta, Full as CodeFull}
 use Rattle.schedule_text.specs.declared.output.Output.{Output}
@@ -62,6 +62,7 @@ as_line (out.Sent number from to kind inc seq bytes) = Sent number (record { fro
 as_line (out.Heard number fresh what) = Came number fresh what
 as_line (out.Lost number) = Lost number
 as_line (out.Refused refusal) = Refused (as_refusal refusal)
+as_line (out.Judged machine votes) = Judged machine.0 votes
 as_line (out.State events) = State events
 as_line (out.Fence epoch) = Fence epoch
 as_line (out.Job app group ended) = Job app.0 group.0 ended
@@ -90,6 +91,7 @@ is_entry (out.Sent number from to kind inc seq bytes) = false
 is_entry (out.Heard number fresh what) = false
 is_entry (out.Lost number) = false
 is_entry (out.Refused refusal) = false
+is_entry (out.Judged machine votes) = false
 is_entry (out.State events) = false
 is_entry (out.Fence epoch) = false
 is_entry (out.Job app group ended) = false

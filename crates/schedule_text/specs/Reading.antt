@@ -17,7 +17,7 @@ use Rattle.schedule_text.specs.declared.event.Event.TheVariants as event
 use Rattle.schedule_text.specs.declared.event.LineFault.{LineFault}
 use Rattle.schedule_text.specs.declared.event.LineFault.TheVariants.{UnknownWord, WrongCount, BadNumber, Range, OutOfMemory}
 use Rattle.schedule_text.specs.declared.form.Head.{Head}
-use Rattle.schedule_text.specs.declared.form.Head.TheVariants.{Master, Stop, Agent, App, Submit, Finish, Ban, Unban, Begin, Preempt, Want, Near, Rack, Avoid, Back, TurnMaster, TurnAgent, TurnApp, ResyncMaster, ResyncAgent, ResyncApp, Deliver, DeliverRange, Dump, Show}
+use Rattle.schedule_text.specs.declared.form.Head.TheVariants.{Master, Stop, Agent, App, Submit, Finish, Ban, Unban, Begin, Preempt, Judge, Want, Near, Rack, Avoid, Back, TurnMaster, TurnAgent, TurnApp, ResyncMaster, ResyncAgent, ResyncApp, Deliver, DeliverRange, Dump, Show}
 use Rattle.schedule_text.specs.declared.form.Place.{Place}
 use Rattle.schedule_text.specs.declared.form.Place.TheVariants.{Count}
 use Rattle.schedule_text.specs.Words.{words_of}
@@ -125,6 +125,7 @@ event_at Ban ns asks = event.Ban (slice_index ns 0) (machine_no (slice_index ns 
 event_at Unban ns asks = event.Unban (slice_index ns 0) (machine_no (slice_index ns 1))
 event_at Begin ns asks = event.Begin (slice_index ns 0)
 event_at Preempt ns asks = event.Preempt (slice_index ns 0)
+event_at Judge ns asks = event.Judge (slice_index ns 0) (slice_index ns 1) (slice_index ns 2)
 event_at Want ns asks = event.Want (app_no (slice_index ns 0)) (unit_no (slice_index ns 1)) (slice_index ns 2)
 event_at Near ns asks = event.Near (app_no (slice_index ns 0)) (unit_no (slice_index ns 1)) (machine_no (slice_index ns 2)) (slice_index ns 3)
 event_at Rack ns asks = event.Rack (app_no (slice_index ns 0)) (unit_no (slice_index ns 1)) (rack_no (slice_index ns 2)) (slice_index ns 3)

@@ -27,6 +27,9 @@ pub enum Event {
     Begin(u64),
     /// The master of this epoch takes grants for the first unit that has victims.
     Preempt(u64),
+    /// The master of this epoch bans each machine with at least so many votes, 1 to 256, by more votes and then by its
+    /// number, as long as no more than so many percent of all machines, 0 to 100, are banned.
+    Judge(u64, u32, u32),
     /// The application wants so many grants of the unit in all.
     Want(AppNo, UnitNo, u64),
     /// The application wants so many grants of the unit on the machine.
@@ -73,6 +76,7 @@ impl Drop for Event {
             Event::Unban(_, _) => {}
             Event::Begin(_) => {}
             Event::Preempt(_) => {}
+            Event::Judge(_, _, _) => {}
             Event::Want(_, _, _) => {}
             Event::Near(_, _, _, _) => {}
             Event::Rack(_, _, _, _) => {}

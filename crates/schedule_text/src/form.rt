@@ -5,6 +5,9 @@ ghost use Rattle.schedule_text.specs.Forms.{shape_of, as_shape, line as shape_li
 
 use fuxi_terms::limits::{MOST_GROUPS, MOST_JOBS, MOST_MACHINES, MOST_RACKS, MOST_UNITS};
 
+// The most votes that a machine can have.
+const MOST_VOTES: u64 = 256;
+
 // One kind of event line.
 #[derive(Clone, Copy, Debug, PartialEq, Eq)]
 pub enum Head {
@@ -18,6 +21,7 @@ pub enum Head {
     Unban,
     Begin,
     Preempt,
+    Judge,
     Want,
     Near,
     Rack,
@@ -47,6 +51,8 @@ pub enum Place {
     Switch,
     Packet,
     LastPacket,
+    Votes,
+    Percent,
     Count,
 }
 
@@ -58,7 +64,7 @@ pub struct Form {
     pub units: bool,
 }
 
-pub const HEADS: [Head; 25] = [
+pub const HEADS: [Head; 26] = [
     Head::Master,
     Head::Stop,
     Head::Agent,
@@ -69,6 +75,7 @@ pub const HEADS: [Head; 25] = [
     Head::Unban,
     Head::Begin,
     Head::Preempt,
+    Head::Judge,
     Head::Want,
     Head::Near,
     Head::Rack,
@@ -116,6 +123,10 @@ pub fn form_of(head: Head) -> Form
         Head::Unban => line(&[b"unban"], &[Place::Incarnation, Place::Machine]),
         Head::Begin => line(&[b"begin"], &[Place::Incarnation]),
         Head::Preempt => line(&[b"preempt"], &[Place::Incarnation]),
+        Head::Judge => line(
+            &[b"judge"],
+            &[Place::Incarnation, Place::Votes, Place::Percent],
+        ),
         Head::Want => line(&[b"want"], &[Place::Job, Place::Unit, Place::Count]),
         Head::Near => line(
             &[b"near"],
@@ -159,6 +170,8 @@ pub fn is_within(place: Place, before: u64, number: u64) -> bool
         Place::Group => number < MOST_GROUPS as u64,
         Place::Switch => number < 2,
         Place::LastPacket => number >= before,
+        Place::Votes => (1..=MOST_VOTES).contains(&number),
+        Place::Percent => number <= 100,
         Place::Count => true,
     }
 }

@@ -1,6 +1,6 @@
 //! Events are made of the numbers of their lines.
 
-ghost use Rattle.std.specs.Prelude.{◌≡◌, ℕ, ◌<◌, length, slice_index, get_or};
+ghost use Rattle.std.specs.Prelude.{◌≡◌, ℕ, ◌<◌, ◌≤◌, length, slice_index, get_or};
 ghost use Rattle.schedule_text.specs.Forms.{shape_of, IsNarrow};
 ghost use Rattle.schedule_text.specs.Reading.{event_at};
 ghost use Rattle.schedule_text.specs.declared.form.Place.TheVariants.{Incarnation as IncarnationPlace};
@@ -26,6 +26,7 @@ pub fn make_event(head: Head, numbers: &[u64], asks: Asks) -> Event
         Head::Unban => Event::Unban(numbers[0], machine(numbers[1])),
         Head::Begin => Event::Begin(numbers[0]),
         Head::Preempt => Event::Preempt(numbers[0]),
+        Head::Judge => Event::Judge(numbers[0], small(numbers[1]), small(numbers[2])),
         Head::Want => Event::Want(job(numbers[0]), unit(numbers[1]), numbers[2]),
         Head::Near => Event::Near(
             job(numbers[0]),
@@ -97,4 +98,12 @@ fn group(number: u64) -> GroupNo
     ensures { result.0 ≡ number }
 {
     GroupNo(number as u32)
+}
+
+// Votes, or a percentage.
+fn small(number: u64) -> u32
+    requires { number ≤ 256 }
+    ensures { result ≡ number }
+{
+    number as u32
 }

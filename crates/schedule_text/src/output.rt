@@ -42,6 +42,8 @@ pub enum Output {
     Lost(u64),
     /// Why an event was refused.
     Refused(Refusal),
+    /// A machine that a judgement banned, and how many votes it had.
+    Judged(MachineNo, u32),
     /// The number of events.
     State(u64),
     /// The greatest epoch that ever started.
@@ -151,6 +153,9 @@ fn push_output(line: &Output, out: &mut Vec<u8>) -> Result<(), OutOfMemory>
         Output::Refused(refusal) => {
             push_numbered(out, b"refused", &[])?;
             push_refusal(out, refusal)
+        }
+        Output::Judged(machine, votes) => {
+            push_numbered(out, b"banned", &[machine.0 as u64, *votes as u64])
         }
         Output::State(events) => push_numbered(out, b"state", &[*events]),
         Output::Fence(epoch) => push_numbered(out, b"fence", &[*epoch]),

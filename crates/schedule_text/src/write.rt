@@ -48,6 +48,9 @@ fn push_event(event: &Event, out: &mut Vec<u8>) -> Result<(), OutOfMemory>
         Event::Unban(epoch, machine) => push_line(out, Head::Unban, &[*epoch, machine.0 as u64]),
         Event::Begin(epoch) => push_line(out, Head::Begin, &[*epoch]),
         Event::Preempt(epoch) => push_line(out, Head::Preempt, &[*epoch]),
+        Event::Judge(epoch, least, percent) => {
+            push_line(out, Head::Judge, &[*epoch, *least as u64, *percent as u64])
+        }
         Event::Want(app, unit, count) => {
             push_line(out, Head::Want, &[app.0 as u64, unit.0 as u64, *count])
         }
