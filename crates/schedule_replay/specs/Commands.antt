@@ -14,16 +14,14 @@ use Rattle.written_world.specs.Events.{commanded, ban_each, judge}
 use Rattle.written_world.specs.Good.{Good}
 use Rattle.written_join.specs.Joins.{OneActs}
 use Rattle.bad_nodes.specs.Ranks.{number_of}
-use Rattle.hard_state.specs.declared.fault.HardFault.{HardFault}
-use Rattle.hard_state.specs.declared.fault.HardFault.TheVariants as hard
 use Rattle.memory_checkpoint.specs.Held.{Held, IsOpen}
 use Rattle.fuxi_master.specs.Steps.{told_by}
 use Rattle.fuxi_master.specs.declared.event.MasterEvent.{MasterEvent}
 use Rattle.fuxi_master.specs.declared.event.MasterRefusal.{MasterRefusal}
-use Rattle.fuxi_master.specs.declared.event.MasterRefusal.TheVariants as master
 use Rattle.core_join.specs.Masters.{IsWritten, change_in}
 use Rattle.running_masters.specs.Running.{MastersRecord, AreMastersOf, AreWithin}
 use Rattle.running_masters.specs.Calls.{CommandDoneIn}
+use Rattle.master_text.specs.Refusals.{master_refusal}
 use Rattle.schedule_text.specs.declared.refusal.Refusal.{Refusal}
 use Rattle.schedule_text.specs.declared.refusal.Refusal.TheVariants as why
 use Rattle.schedule_text.specs.Printing.{as_refusal}
@@ -102,25 +100,7 @@ Decides e least percent g answer = (w : World) → is_valid_cluster w.cluster �
 abbrev pub TakesStep : MastersRecord → MastersRecord → Type 0
 TakesStep old new = (n : ℕ) → AreWithin n old → AreWithin (n + 1) new
 
--- Refusals. That of a fault of the hard state, where it is one, and what a master's answer says
-abbrev pub hard_refusal : HardFault → Option Refusal
-hard_refusal (hard.Stale fence) = Some (why.NotRising fence)
-hard_refusal (hard.Fenced fence) = Some (why.Fenced fence)
-hard_refusal hard.Known = Some why.Known
-hard_refusal hard.NoJob = Some why.NoJob
-hard_refusal hard.Ended = Some why.Ended
-hard_refusal hard.AlreadyBanned = Some why.AlreadyBanned
-hard_refusal hard.NotBanned = Some why.NotBanned
-hard_refusal hard.Full = Some (why.HardFull most_records)
-hard_refusal (hard.NotCheckpoint offset) = None
-hard_refusal hard.DiskFault = None
-hard_refusal hard.OutOfMemory = None
-
-abbrev pub master_refusal : MasterRefusal → Refusal
-master_refusal master.AlreadyServing = why.AlreadyServing
-master_refusal master.NotServing = why.NotServing
-master_refusal master.NothingToPreempt = why.NothingToPreempt
-
+-- what a master's answer says
 abbrev pub refusal_in : Option (Result (Unit {0}) MasterRefusal) → Option Refusal
 refusal_in None = Some why.NotRunning
 refusal_in (Some (Ok done)) = None

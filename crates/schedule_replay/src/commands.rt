@@ -3,16 +3,20 @@
 //! Each call answers why the event is refused, or `None` where it is done. A refused one has changed nothing that the world sees. The hard
 //! state is written before a master is told. After `OutOfMemory` what was lent is not to be used.
 
-ghost use Rattle.std.specs.Prelude.{◌≡◌, ◌<◌, ◌≤◌, Some, IfOk, is_some};
+ghost use Rattle.std.specs.Prelude.{◌≡◌, ◌≢◌, ◌<◌, ◌≤◌, Err, Result, IfOk, is_some};
 ghost use Rattle.std.specs.Ordering.{nat_cmp};
 ghost use Rattle.std.specs.FinMap.Entries.{find};
+ghost use Rattle.written_roles.specs.HardState.{HardState};
+ghost use Rattle.written_roles.specs.Refusals.{Refusal as WrittenRefusal};
 ghost use Rattle.written_roles.specs.MasterSteps.{Submits, Finishes, BansMachine, UnbansMachine, StartsServing, MakesRoom};
 ghost use Rattle.written_world.specs.World.{World};
 ghost use Rattle.written_world.specs.Events.{commanded, resync_master, start_master, stop_master};
 ghost use Rattle.running_masters.specs.Running.{AreMastersOf, Fits, MayStep};
 ghost use Rattle.running_masters.specs.Calls.{IsCommand};
+ghost use Rattle.hard_state.specs.HardFiles.{Refuses};
 ghost use Rattle.schedule_text.specs.Asked.{job_named};
-ghost use Rattle.schedule_replay.specs.Commands.{AreGoverned, Decides, Governs, GovernsMasters, GovernsOn, TakesStep, TellsInWorld, governing, hard_refusal, refusal_in};
+ghost use Rattle.schedule_text.specs.Printing.{as_refusal};
+ghost use Rattle.schedule_replay.specs.Commands.{AreGoverned, Decides, Governs, GovernsMasters, GovernsOn, TakesStep, TellsInWorld, governing, refusal_in};
 
 use bad_nodes::Votes;
 use cluster_desc::Cluster;
@@ -20,6 +24,7 @@ use fuxi_master::{MasterEvent, MasterRefusal};
 use fuxi_terms::OutOfMemory;
 use fuxi_terms::limits::{MOST_MASTERS, MOST_RECORDS};
 use hard_state::HardFault;
+use master_text::{hard_refusal, master_refusal};
 use memory_checkpoint::Checkpoint;
 use running_masters::Masters;
 use schedule_text::{Refusal, job_refusal, jobs_are_tested_alike};
@@ -313,27 +318,17 @@ fn answered_refusal(answer: Option<Result<(), MasterRefusal>>) -> Option<Refusal
     match answer {
         None => Some(Refusal::NotRunning),
         Some(Ok(())) => None,
-        Some(Err(MasterRefusal::AlreadyServing)) => Some(Refusal::AlreadyServing),
-        Some(Err(MasterRefusal::NotServing)) => Some(Refusal::NotServing),
-        Some(Err(MasterRefusal::NothingToPreempt)) => Some(Refusal::NothingToPreempt),
+        Some(Err(refusal)) => Some(master_refusal(refusal)),
     }
 }
 
 // The refusal that a fault of the hard state is. A file that is damaged and a fault of the disk do not come from a checkpoint in memory.
 fn written_refusal(fault: HardFault) -> Result<Refusal, OutOfMemory>
-    ensures { IfOk result (λ refusal. hard_refusal fault ≡ Some refusal) }
+    ensures refused { IfOk result (λ refusal. (step : Result HardState WrittenRefusal) → Refuses step fault → step ≡ Err (as_refusal refusal)) }
+    ensures memory { IfOk result (λ refusal. fault ≢ HardFault.OutOfMemory) }
 {
-    match fault {
-        HardFault::Stale { fence } => Ok(Refusal::NotRising(fence)),
-        HardFault::Fenced { fence } => Ok(Refusal::Fenced(fence)),
-        HardFault::Known => Ok(Refusal::Known),
-        HardFault::NoJob => Ok(Refusal::NoJob),
-        HardFault::Ended => Ok(Refusal::Ended),
-        HardFault::AlreadyBanned => Ok(Refusal::AlreadyBanned),
-        HardFault::NotBanned => Ok(Refusal::NotBanned),
-        HardFault::Full => Ok(Refusal::HardFull(MOST_RECORDS)),
-        HardFault::NotCheckpoint { .. } | HardFault::DiskFault | HardFault::OutOfMemory => {
-            Err(OutOfMemory)
-        }
+    match hard_refusal(fault) {
+        Some(refusal) => Ok(refusal),
+        None => Err(OutOfMemory),
     }
 }
