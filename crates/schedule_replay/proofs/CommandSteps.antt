@@ -19,9 +19,6 @@ use Rattle.written_world.specs.Events.{commanded, start_master}
 use Rattle.written_world.specs.Good.{Good}
 use Rattle.written_join.specs.Joins.{master_starts}
 
-pub some_is : {A : Type 0} (x y : A) → Some x ≡ Some y → x ≡ y
-some_is x y e = subst (λ o. elim o as (λ _. Type 0) [ None ↦ x ≡ x | Some z ↦ x ≡ z ]) e refl
-
 pub not_none : {A : Type 0} (x : A) → None ≡ Some x → ⊥
 not_none x e = subst (λ o. elim o as (λ _. Type 0) [ None ↦ Unit {0} | Some z ↦ ⊥ ]) e tt
 
@@ -110,6 +107,9 @@ start_rises w e above = none_before (is_not_rising w.hard e) ((not (nat_lt (leng
 
 start_tested : (w : World) (e : ℕ) → nat_lt w.hard.fence e ≡ true → nat_lt (length w.masters) most_masters ≡ true → start_master w e ≡ start_step w e (hard_step w.hard e Raise)
 start_tested w e above few = ap (start_at w e) (start_rises w e above ∙ none_before (not (nat_lt (length w.masters) most_masters), TooManyMasters most_masters) [] (ap not few))
+
+pub start_refused : (w : World) (e : ℕ) (r : Refusal) → nat_lt w.hard.fence e ≡ true → nat_lt (length w.masters) most_masters ≡ true → hard_step w.hard e Raise ≡ Err r → start_master w e ≡ refused w r
+start_refused w e r above few is = start_tested w e above few ∙ ap (start_step w e) is
 
 pub start_done : (w : World) (e : ℕ) (k : HardState) → nat_lt w.hard.fence e ≡ true → nat_lt (length w.masters) most_masters ≡ true → hard_step w.hard e Raise ≡ Ok k
     → start_master w e ≡ prints_nothing (master_starts w k (w.ran ++ party master_id e ∷ []) e)

@@ -1,13 +1,12 @@
 -- The commands of masters in each world that the hard state and the masters are of.
 use Rattle.std.proofs.Common.{◌≡◌, ℕ, ◌<◌, true, false, not, nat_lt, List, [], ◌∷◌, length, Option, Some, None, is_some, Result, Ok, Err, refl, sym, ◌∙◌, ap, subst, arith}
-use Rattle.std.specs.Prelude.{◌≢◌}
 use Rattle.std.specs.Ordering.{nat_cmp}
 use Rattle.std.specs.FinMap.Entries.{find}
 use Rattle.std.proofs.lemmas.Bool.Decides.{nat_tests}
 use Rattle.fuxi_terms.specs.Cluster.{ClusterRecord, JobRecord, has_group, has_machine}
 use Rattle.fuxi_terms.specs.Counts.{then_do}
 use Rattle.fuxi_terms.specs.Jobs.{eight_places, is_known}
-use Rattle.fuxi_terms.specs.Limits.{most_masters, most_records}
+use Rattle.fuxi_terms.specs.Limits.{most_masters}
 use Rattle.schedule_unit.specs.declared.asks.Ask.{Ask}
 use Rattle.schedule_unit.specs.declared.job.JobFault.{JobFault}
 use Rattle.schedule_unit.specs.declared.party.AppNo.{AppNo}
@@ -19,9 +18,6 @@ use Rattle.written_roles.specs.MasterSteps.{master_party, peers, Changed, Comman
 use Rattle.written_roles.specs.MasterRoles.{MasterTold, Told}
 use Rattle.written_world.specs.World.{World, Step, refused}
 use Rattle.written_world.specs.Events.{commanded, resynced, resync_master, start_master}
-use Rattle.hard_state.specs.HardFiles.{Refuses}
-use Rattle.hard_state.specs.declared.fault.HardFault.{HardFault}
-use Rattle.hard_state.specs.declared.fault.HardFault.TheVariants as hard
 use Rattle.memory_checkpoint.specs.Held.{Held, IsOpen}
 use Rattle.fuxi_master.specs.Steps.{refusal_of, told_by}
 use Rattle.fuxi_master.specs.declared.event.MasterEvent.{MasterEvent}
@@ -31,31 +27,15 @@ use Rattle.fuxi_master.specs.declared.event.MasterRefusal.TheVariants as master
 use Rattle.core_join.specs.Masters.{IsWritten, change_in}
 use Rattle.running_masters.specs.Running.{MastersRecord, AreWithin, Fits}
 use Rattle.running_masters.specs.Calls.{CommandsIn, CommandsInWorld, ResyncsInWorld, StartsInWorld}
+use Rattle.master_text.specs.Refusals.{master_refusal}
 use Rattle.schedule_text.specs.declared.refusal.Refusal.{Refusal}
 use Rattle.schedule_text.specs.declared.refusal.Refusal.TheVariants as why
 use Rattle.schedule_text.specs.Printing.{as_refusal}
 use Rattle.schedule_text.specs.Asked.{AreTestedAlike, job_named, job_refusal}
-use Rattle.schedule_replay.specs.Commands.{AreGoverned, Governing, GovernsIn, IsGoverned, IsGoverning, IsRefused, GovernsMasters, TakesStep, TellsIn, TellsInWorld, governing, hard_refusal, master_refusal, refusal_in}
-use Rattle.schedule_replay.proofs.CommandSteps.{fails, finish_known, group_known, machine_known, not_both, not_none, passes, some_is, start_done, submit_tests_of, submit_unknown, told_is, told_step, writes_done, writes_refused}
+use Rattle.schedule_replay.specs.Commands.{AreGoverned, Governing, GovernsIn, IsGoverned, IsGoverning, IsRefused, GovernsMasters, TakesStep, TellsIn, TellsInWorld, governing, refusal_in}
+use Rattle.schedule_replay.proofs.CommandSteps.{fails, finish_known, group_known, machine_known, not_both, passes, start_done, start_refused, submit_tests_of, submit_unknown, told_is, told_step, writes_done, writes_refused}
 
--- The refusal that a fault of the hard state is
-hard_refused : (step : Result HardState WrittenRefusal) (f : HardFault) (r : Refusal) → hard_refusal f ≡ Some r → Refuses step f → step ≡ Err (as_refusal r)
-hard_refused step (hard.Stale fence) r is says = says ∙ ap (λ r. Err (as_refusal r)) (some_is (why.NotRising fence) r is)
-hard_refused step (hard.Fenced fence) r is says = says ∙ ap (λ r. Err (as_refusal r)) (some_is (why.Fenced fence) r is)
-hard_refused step hard.Known r is says = says ∙ ap (λ r. Err (as_refusal r)) (some_is why.Known r is)
-hard_refused step hard.NoJob r is says = says ∙ ap (λ r. Err (as_refusal r)) (some_is why.NoJob r is)
-hard_refused step hard.Ended r is says = says ∙ ap (λ r. Err (as_refusal r)) (some_is why.Ended r is)
-hard_refused step hard.AlreadyBanned r is says = says ∙ ap (λ r. Err (as_refusal r)) (some_is why.AlreadyBanned r is)
-hard_refused step hard.NotBanned r is says = says ∙ ap (λ r. Err (as_refusal r)) (some_is why.NotBanned r is)
-hard_refused step hard.Full r is says = says ∙ ap (λ r. Err (as_refusal r)) (some_is (why.HardFull most_records) r is)
-hard_refused step (hard.NotCheckpoint offset) r is says = absurd (not_none r is)
-hard_refused step hard.DiskFault r is says = absurd (not_none r is)
-hard_refused step hard.OutOfMemory r is says = absurd (not_none r is)
-
-not_memory : (f : HardFault) (r : Refusal) → hard_refusal f ≡ Some r → f ≢ hard.OutOfMemory
-not_memory f r is same = not_none r (sym (ap hard_refusal same) ∙ is)
-
--- that of what a master's answer says
+-- What a master's answer says
 master_refused : (r : MasterRefusal) → refusal_of r ≡ as_refusal (master_refusal r)
 master_refused master.AlreadyServing = refl
 master_refused master.NotServing = refl
@@ -93,11 +73,11 @@ written_in w e v old ms M s runs =
     ap (λ n. hard_step w.hard n v) own ∙ ap (λ h. hard_step h e v) (sym same)
 
 -- The writing is refused
-pub writing_refused : (w : World) (e : ℕ) (x : MasterCommand) (v : HardEvent) (old new : Held) (ms : MastersRecord) (M : Master) (f : HardFault) (r : Refusal) → IsGoverning w (governing old ms) → find nat_cmp e w.masters ≡ Some M
-    → command_of w.cluster w.hard M x ≡ writes w.cluster w.hard M v (change_in x) → hard_refusal f ≡ Some r → Refuses (hard_step old.hard.value e v) f → (f ≢ hard.OutOfMemory → new ≡ old) → IsRefused w (commanded w e x) (governing new ms) r
-writing_refused w e x v old new ms M f r s runs is fault says unchanged =
-    let step : hard_step w.hard M.epoch v ≡ Err (as_refusal r) = written_in w e v old ms M s runs ∙ hard_refused (hard_step old.hard.value e v) f r fault says in
-    tests_refuse w e x (governing new ms) M r (subst (λ y. IsGoverning w (governing y ms)) (sym (unchanged (not_memory f r fault))) s) runs
+pub writing_refused : (w : World) (e : ℕ) (x : MasterCommand) (v : HardEvent) (old new : Held) (ms : MastersRecord) (M : Master) (r : Refusal) → IsGoverning w (governing old ms) → find nat_cmp e w.masters ≡ Some M
+    → command_of w.cluster w.hard M x ≡ writes w.cluster w.hard M v (change_in x) → hard_step old.hard.value e v ≡ Err (as_refusal r) → new ≡ old → IsRefused w (commanded w e x) (governing new ms) r
+writing_refused w e x v old new ms M r s runs is says same =
+    let step : hard_step w.hard M.epoch v ≡ Err (as_refusal r) = written_in w e v old ms M s runs ∙ says in
+    tests_refuse w e x (governing new ms) M r (subst (λ y. IsGoverning w (governing y ms)) (sym same) s) runs
     (is ∙ writes_refused w.cluster w.hard M v (change_in x) (as_refusal r) step)
 
 -- It is done, and the master, which does not refuse what was written, is told
@@ -187,6 +167,13 @@ tested_above w e above = grind (arith, nat_tests, above)
 
 tested_few : (w : World) (count : ℕ) → count ≡ length w.masters → count < most_masters → nat_lt (length w.masters) most_masters ≡ true
 tested_few w count is few = grind (arith, nat_tests, is, few)
+
+pub starts_refused : (w : World) (e count : ℕ) (old new : Held) (ms : MastersRecord) (r : Refusal) → IsGoverning w (governing old ms) → w.hard.fence < e → count ≡ length w.masters → count < most_masters → hard_step old.hard.value e Raise ≡ Err (as_refusal r) → new ≡ old
+    → IsRefused w (start_master w e) (governing new ms) r
+starts_refused w e count old new ms r s above is few says same = record {
+  same = subst (λ y. IsGoverning w (governing y ms)) (sym same) s;
+  is = start_refused w e (as_refusal r) (tested_above w e above) (tested_few w count is few) (subst (λ h. hard_step h e Raise ≡ Err (as_refusal r)) s.hard says);
+}
 
 pub starts_done : (w : World) (e count : ℕ) (old new : Held) (ms after : MastersRecord) → IsGoverning w (governing old ms) → w.hard.fence < e → count ≡ length w.masters → count < most_masters → IsOpen new → hard_step old.hard.value e Raise ≡ Ok new.hard.value
     → StartsInWorld w.cluster new.hard.value e ms after → IsGoverned w e (start_master w e) (governing new after)

@@ -11,20 +11,18 @@ use Rattle.core_side.specs.Parcels.{parcel_is, IsSent}
 use Rattle.written_net.specs.Net.{Packet}
 use Rattle.written_join.specs.Seen.{parcel_of}
 use Rattle.written_roles.specs.Refusals.{with_found, NoPacket}
-use Rattle.written_world.specs.World.{World, Step, prints_nothing, refused}
-use Rattle.written_world.specs.Events.{Event, Deliver, world_step, counted_in, addressed, heard_by, heard_line, packet_of, deliver_one, deliver_all, deliver}
+use Rattle.written_world.specs.World.{World, Step, prints_nothing, refused, then_step}
+use Rattle.written_world.specs.Events.{Deliver, addressed, heard_by, heard_line, packet_of, deliver_one, deliver_all, deliver}
 use Rattle.written_world.specs.Lines.{is_from_line}
-use Rattle.written_world.specs.Good.{Good}
 use Rattle.wire_frames.specs.Reading.{Reads}
 use Rattle.wire_frames.specs.declared.fault.FrameFault.{FrameFault}
 use Rattle.packet_pool.specs.Pools.{Stored, Keeps, IsReadAs}
-use Rattle.written_order.specs.Orders.{IsInOrder}
 use Rattle.schedule_replay.specs.Texts.{lines_text}
-use Rattle.schedule_replay.specs.Worlds.{WorldRecord, KeepsPackets, IsWorld, StandsFor, AreWithin}
-use Rattle.schedule_replay.specs.Moves.{HearsIn, Does, GoesThrough, HasDelivered, heard_lines, MovesOnce}
-use Rattle.schedule_replay.proofs.Texting.{lines_append}
+use Rattle.schedule_replay.specs.Worlds.{WorldRecord, KeepsPackets, IsWorld, StandsFor}
+use Rattle.schedule_replay.specs.Moves.{HearsIn, Does, TookSteps, heard_lines}
 use Rattle.schedule_replay.proofs.Sending.{kept_length}
 use Rattle.schedule_replay.proofs.Doing.{first_fails, first_passes}
+use Rattle.schedule_replay.proofs.Walking.{GoodKept, OrderKept, acted_is}
 
 -- The law of stored frames, as it is called for
 abbrev pub StoredIsRead : Type 0
@@ -84,54 +82,11 @@ delivered_as w k is = first_passes w (nat_lt (length w.net.packets) k) (NoPacket
 pub not_delivered : (w : World) (k : ℕ) → nat_lt (length w.net.packets) k ≡ true → deliver w k ≡ refused w (NoPacket (length w.net.packets))
 not_delivered w k is = first_fails w (nat_lt (length w.net.packets) k) (NoPacket (length w.net.packets)) [] (λ v. deliver_one k v) is
 
--- The number of events plays no part in what a good world is
-abbrev numbered : World → ℕ → World
-numbered w n = record w { events = n }
-
-numbered_good : (w : World) (n : ℕ) → Good w → Good (numbered w n)
-numbered_good w n g = record {
-  hard = g.hard;
-  stands = record {
-    sound = g.stands.sound;
-    unstarted = g.stands.unstarted;
-    masters = g.stands.masters;
-    agents = g.stands.agents;
-    apps = g.stands.apps;
-    machines = g.stands.machines;
-    origins = g.stands.origins;
-    units = g.stands.units;
-    written = g.stands.written;
-    entries = g.stands.entries;
-    reports = g.stands.reports;
-  };
-  rests = g.rests;
-  recorded = record { masters = g.recorded.masters; agents = g.recorded.agents; apps = g.recorded.apps; below = g.recorded.below; net = g.recorded.net };
-  knows = g.knows;
-}
-
-pub numbered_is : (w : World) (n : ℕ) → IsWorld w → IsWorld (numbered w n)
-numbered_is w n h = record { valid = h.valid; good = numbered_good w n h.good; order = record { masters = h.order.masters; agents = h.order.agents; apps = h.order.apps; bans = h.order.bans; banned = h.order.banned } }
-
--- The laws of all events, as they are called for
-abbrev pub GoodKept : Type 0
-GoodKept = (w : World) (e : Event) → is_valid_cluster w.cluster ≡ true → is_from_line e ≡ true → Good w → Good (world_step w e).world
-
-abbrev pub OrderKept : Type 0
-OrderKept = (w : World) (e : Event) → is_from_line e ≡ true → IsInOrder w → IsInOrder (world_step w e).world
-
-pub event_is : GoodKept → OrderKept → (w : World) (e : Event) → is_from_line e ≡ true → is_valid_cluster (world_step w e).world.cluster ≡ true → IsWorld w → IsWorld (world_step w e).world
-event_is good order w e line valid h = record { valid = valid; good = good w e h.valid line h.good; order = order w e line h.order }
-
--- a world after a delivery, where an event was counted before
-counted_again : (w : World) → 0 < w.events → counted_in (numbered w (w.events - 1)) ≡ w
-counted_again w some = let e : w.events - 1 + 1 ≡ w.events = omega (arith, some) in λ i. record w { events = e i }
-
 pub delivered_is : GoodKept → OrderKept → (w : World) (k : ℕ) → 0 < w.events → 0 < k → nat_lt (length w.net.packets) k ≡ false → is_valid_cluster (deliver_one k w).world.cluster ≡ true → IsWorld w → IsWorld (deliver_one k w).world
 delivered_is good order w k some first there valid h =
-    let w0 = numbered w (w.events - 1) in
-    let same : (world_step w0 (Deliver k)).world ≡ (deliver_one k w).world = ap (λ v. (deliver v k).world) (counted_again w some) ∙ ap (λ (s : Step). s.world) (delivered_as w k there) in
+    let same : (deliver w k).world ≡ (deliver_one k w).world = ap (λ (s : Step). s.world) (delivered_as w k there) in
     let counted : is_from_line (Deliver k) ≡ true = grind (arith, nat_tests, first) in
-    subst IsWorld same (event_is good order w0 (Deliver k) counted (ap (λ (v : World). is_valid_cluster v.cluster) same ∙ valid) (numbered_is w (w.events - 1) h))
+    subst IsWorld same (acted_is good order w (Deliver k) some counted (ap (λ (v : World). is_valid_cluster v.cluster) same ∙ valid) h)
 
 -- A range, one delivery more
 world_more : (n k : ℕ) (w : World) → (deliver_all (suc n) k w).world ≡ (deliver_one (k + n) (deliver_all n k w).world).world
@@ -139,9 +94,6 @@ world_more zero k w = let e : k ≡ k + 0 = omega arith in ap (λ j. (deliver_on
 world_more (suc n) k w =
     let e : k + 1 + n ≡ k + suc n = omega arith in
     world_more n (k + 1) (deliver_one k w).world ∙ ap (λ j. (deliver_one j (deliver_all n (k + 1) (deliver_one k w).world).world).world) e
-
-pub world_then : (n k : ℕ) (w : World) → (deliver_all (n + 1) k w).world ≡ (deliver_one (k + n) (deliver_all n k w).world).world
-world_then n k w = let e : n + 1 ≡ suc n = omega arith in ap (λ j. (deliver_all j k w).world) e ∙ world_more n k w
 
 lines_more : (n k : ℕ) (w : World) → (deliver_all (suc n) k w).lines ≡ (deliver_all n k w).lines ++ (deliver_one (k + n) (deliver_all n k w).world).lines
 lines_more zero k w = let e : k ≡ k + 0 = omega arith in append-nil (deliver_one k w).lines ∙ ap (λ j. (deliver_one j w).lines) e
@@ -151,33 +103,14 @@ lines_more (suc n) k w =
     ap (λ ls. (deliver_one k w).lines ++ ls) (lines_more n (k + 1) v ∙ ap (λ j. (deliver_all n (k + 1) v).lines ++ (deliver_one j (deliver_all n (k + 1) v).world).lines) e)
     ∙ sym (append_assoc (deliver_one k w).lines (deliver_all n (k + 1) v).lines (deliver_one (k + suc n) (deliver_all n (k + 1) v).world).lines)
 
-pub lines_then : (n k : ℕ) (w : World) → (deliver_all (n + 1) k w).lines ≡ (deliver_all n k w).lines ++ (deliver_one (k + n) (deliver_all n k w).world).lines
-lines_then n k w = let e : n + 1 ≡ suc n = omega arith in ap (λ j. (deliver_all j k w).lines) e ∙ lines_more n k w
+pub all_then : (n k : ℕ) (w : World) → deliver_all (n + 1) k w ≡ then_step (deliver_all n k w) (deliver_one (k + n))
+all_then n k w = let e : n + 1 ≡ suc n = omega arith in ap (λ j. deliver_all j k w) e ∙ (λ i. record { world = world_more n k w i; lines = lines_more n k w i })
 
-pub goes_none : (first : ℕ) (old : WorldRecord) (before : List ℕ) → GoesThrough first 0 old old before before
-goes_none first old before w is s = record { is = is; stands = s; text = sym (append-nil before) }
-
-pub goes_further : GoodKept → OrderKept → (first n : ℕ) (old now new : WorldRecord) (before mid after : List ℕ) → 0 < first → 0 < old.events → first + n ≤ length old.pool.frames → is_valid_cluster old.cluster ≡ true
-    → HasDelivered n old now → MovesOnce now new → GoesThrough first n old now before mid → Does (deliver_one (first + n)) now new mid after → GoesThrough first (n + 1) old new before after
-goes_further good order first n old now new before mid after counted some there valid had moves through does w is s =
-    let t = through w is s in
-    let v = (deliver_all n first w).world in
-    let d = does v t.is t.stands in
-    let events : 0 < v.events = subst (λ k. 0 < k) (sym had.events ∙ t.stands.events) some in
-    let long = kept_length v now.pool t.stands.packets in
-    let same = ap (λ (p : Stored). length p.frames) had.pool in
+-- which leads to a world to which inputs lead
+pub delivery_is : GoodKept → OrderKept → (first n : ℕ) (old now : WorldRecord) → 0 < first → first + n ≤ length old.pool.frames → TookSteps n old now → (v : World) → IsWorld v → StandsFor now v → 0 < v.events
+    → is_valid_cluster (deliver_one (first + n) v).world.cluster ≡ true → IsWorld (deliver_one (first + n) v).world
+delivery_is good order first n old now counted there took v is s events cluster =
+    let long = kept_length v now.pool s.packets in
+    let same = ap (λ (p : Stored). length p.frames) took.pool in
     let few : nat_lt (length v.net.packets) (first + n) ≡ false = grind (arith, nat_tests, there, long, same) in
-    let cluster : is_valid_cluster (deliver_one (first + n) v).world.cluster ≡ true = subst (λ c. is_valid_cluster c ≡ true) (sym had.cluster ∙ sym moves.cluster ∙ d.stands.cluster) valid in
-    let after_is = delivered_is good order v (first + n) events (omega (arith, counted)) few cluster t.is in
-    record {
-      is = subst IsWorld (sym (world_then n first w)) after_is;
-      stands = subst (StandsFor new) (sym (world_then n first w)) d.stands;
-      text = d.text ∙ ap (λ ts. ts ++ lines_text (deliver_one (first + n) v).lines) t.text ∙ append_assoc before (lines_text (deliver_all n first w).lines) (lines_text (deliver_one (first + n) v).lines)
-          ∙ ap (λ ts. before ++ ts) (sym (ap lines_text (lines_then n first w) ∙ lines_append (deliver_all n first w).lines (deliver_one (first + n) v).lines));
-    }
-
-pub has_none : (old : WorldRecord) → HasDelivered 0 old old
-has_none old = record { steps = λ k w. subst (λ n. AreWithin n old) (omega arith) w; events = refl; cluster = refl; pool = refl }
-
-pub has_more : (n : ℕ) (old now new : WorldRecord) → HasDelivered n old now → MovesOnce now new → new.pool ≡ now.pool → HasDelivered (n + 1) old new
-has_more n old now new h m p = record { steps = λ k w. subst (λ j. AreWithin j new) (omega arith) (m.steps (k + n) (h.steps k w)); events = m.events ∙ h.events; cluster = m.cluster ∙ h.cluster; pool = p ∙ h.pool }
+    delivered_is good order v (first + n) events (omega (arith, counted)) few cluster is

@@ -13,7 +13,7 @@ use Rattle.schedule_replay.specs.Texts.{lines_text}
 use Rattle.schedule_replay.specs.Worlds.{WorldRecord, IsWorld, StandsFor}
 use Rattle.schedule_replay.specs.Steps.{IsDone}
 use Rattle.schedule_replay.specs.Moves.{KeepsMore, MasterActs, Acts, refusal_lines}
-use Rattle.schedule_replay.specs.Commands.{IsGoverning, GovernsIn, Governs, GovernsOn, TakesStep, governing}
+use Rattle.schedule_replay.specs.Commands.{Governing, IsGoverning, GovernsIn, Governs, GovernsOn, TakesStep, governing}
 use Rattle.schedule_replay.proofs.Acting.{keeps_none}
 use Rattle.schedule_replay.proofs.Moving.{once_up_to, masters_once}
 
@@ -36,11 +36,11 @@ MastersAct = (w w' : World) (p : Party) (sent : List Packet) (old : WorldRecord)
 pub are_governing : (w : World) (r : WorldRecord) → IsWorld w → StandsFor r w → IsGoverning w (governing r.checkpoint r.masters)
 are_governing w r is s = record { good = is.good; hard = s.hard; rests = s.rests; stand = s.masters }
 
-governed_in : MastersAct → (w : World) (e : ℕ) (s : Step) (old : WorldRecord) (held : Held) (masters : MastersRecord) (answer : Option Refusal) (before after : List ℕ) → StandsFor old w → GovernsIn w e s (governing held masters) answer
-    → after ≡ before ++ lines_text (refusal_lines answer) → IsDone s (record old { checkpoint = held; masters = masters }) before after
-governed_in act w e s old held masters None before after stands g text =
-    is_quiet s (record old { checkpoint = held; masters = masters }) before after
-    (act w s.world (party master_id e) [] old held masters old.pool stands (record {
+-- what runs then stands for the world after it, done or refused
+pub governed_stands : MastersAct → (w : World) (e : ℕ) (s : Step) (old : WorldRecord) (held : Held) (masters : MastersRecord) (answer : Option Refusal) → StandsFor old w → GovernsIn w e s (governing held masters) answer
+    → StandsFor (record old { checkpoint = held; masters = masters }) s.world
+governed_stands act w e s old held masters None stands g =
+    act w s.world (party master_id e) [] old held masters old.pool stands (record {
       role = refl;
       stand = g.stand;
       acts = g.acts;
@@ -51,9 +51,9 @@ governed_in act w e s old held masters None before after stands g text =
       apps = ap (λ (v : World). v.apps) g.rest;
       boots = ap (λ (v : World). v.boots) g.rest;
       events = ap (λ (v : World). v.events) g.rest;
-    }) (keeps_none old.pool)) g.quiet text
-governed_in act w e s old held masters (Some why) before after stands g text =
-    is_refused w s (record old { checkpoint = held; masters = masters }) why before after (record {
+    }) (keeps_none old.pool)
+governed_stands act w e s old held masters (Some why) stands g =
+    subst (StandsFor (record old { checkpoint = held; masters = masters })) (sym (ap (λ (t : Step). t.world) g.is)) (record {
       cluster = stands.cluster;
       hard = g.same.hard;
       rests = g.same.rests;
@@ -62,7 +62,18 @@ governed_in act w e s old held masters (Some why) before after stands g text =
       apps = stands.apps;
       packets = stands.packets;
       events = stands.events;
-    }) g.is text
+    })
+
+governed_lines : (w : World) (e : ℕ) (s : Step) (new : Governing) (answer : Option Refusal) → GovernsIn w e s new answer → s.lines ≡ refusal_lines answer
+governed_lines w e s new None g = g.quiet
+governed_lines w e s new (Some why) g = ap (λ (t : Step). t.lines) g.is
+
+governed_in : MastersAct → (w : World) (e : ℕ) (s : Step) (old : WorldRecord) (held : Held) (masters : MastersRecord) (answer : Option Refusal) (before after : List ℕ) → StandsFor old w → GovernsIn w e s (governing held masters) answer
+    → after ≡ before ++ lines_text (refusal_lines answer) → IsDone s (record old { checkpoint = held; masters = masters }) before after
+governed_in act w e s old held masters answer before after stands g text = record {
+  stands = governed_stands act w e s old held masters answer stands g;
+  text = text ∙ ap (λ ls. before ++ lines_text ls) (sym (governed_lines w e s (governing held masters) answer g));
+}
 
 pub governed_on : MastersAct → (e : ℕ) (f : World → Step) (old : WorldRecord) (held : Held) (masters : MastersRecord) (answer : Option Refusal) (before after : List ℕ)
     → GovernsOn old.cluster e f (governing old.checkpoint old.masters) (governing held masters) answer → TakesStep old.masters masters → after ≡ before ++ lines_text (refusal_lines answer)

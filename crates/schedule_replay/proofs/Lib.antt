@@ -3,13 +3,16 @@ pub mod Commanding
 pub mod LineEvents
 pub mod Acting
 pub mod Moving
+pub mod Answering
 pub mod Governing
 pub mod Doing
 pub mod Hearing
 pub mod Texting
 pub mod Sending
 pub mod Turning
+pub mod Walking
 pub mod Delivering
 pub mod Ranging
+pub mod Judging
 pub mod Stepping
 pub mod Starting

@@ -55,6 +55,7 @@ from_line (line.Ban e m) h = two _ _ (counted e h.numbers.1) h.numbers.2.1
 from_line (line.Unban e m) h = two _ _ (counted e h.numbers.1) h.numbers.2.1
 from_line (line.Begin e) h = counted e h.numbers.1
 from_line (line.Preempt e) h = counted e h.numbers.1
+from_line (line.Judge e least percent) h = three _ _ _ (counted e h.numbers.1) h.numbers.2.1 h.numbers.2.2.1
 from_line (line.Want a u n) h = two _ _ h.numbers.1 h.numbers.2.1
 from_line (line.Near a u m n) h = three _ _ _ h.numbers.1 h.numbers.2.1 h.numbers.2.2.1
 from_line (line.Rack a u r n) h = three _ _ _ h.numbers.1 h.numbers.2.1 h.numbers.2.2.1

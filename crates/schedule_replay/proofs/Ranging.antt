@@ -1,10 +1,8 @@
 -- Deliveries of one and of many, and what is refused of them.
-use Rattle.std.proofs.Common.{◌≡◌, ℕ, zero, suc, ◌+◌, ◌-◌, ◌<◌, ◌≤◌, true, false, nat_lt, List, [], ◌∷◌, ◌++◌, length, slice_get, Option, Some, None, Result, Ok, Err, refl, sym, ◌∙◌, ap, subst, arith}
-use Rattle.std.specs.Prelude.{OnOk, IfErr}
+use Rattle.std.proofs.Common.{◌≡◌, ℕ, zero, suc, ◌+◌, ◌-◌, ◌<◌, ◌≤◌, true, false, nat_lt, List, [], ◌∷◌, ◌++◌, length, slice_get, Option, Some, None, refl, sym, ◌∙◌, ap, subst, arith}
 use Rattle.std.specs.Option.{option_map}
 use Rattle.std.proofs.lemmas.Bool.Decides.{nat_tests}
 use Rattle.std.proofs.lemmas.Option.{slice_get-map, same_Some}
-use Rattle.fuxi_terms.specs.Cluster.{is_valid_cluster}
 use Rattle.party_ledgers.specs.declared.packets.Packet.{Packet as PacketHere}
 use Rattle.core_side.specs.Parcels.{parcel_is, IsSent}
 use Rattle.written_net.specs.Net.{Net, Packet}
@@ -18,29 +16,16 @@ use Rattle.written_world.specs.Outputs.{Frame}
 use Rattle.wire_frames.specs.Frames.{frame}
 use Rattle.packet_pool.specs.Pools.{Stored}
 use Rattle.schedule_text.specs.declared.refusal.Refusal.TheVariants as why
-use Rattle.schedule_replay.specs.declared.stop.WorldStop.{WorldStop}
 use Rattle.schedule_replay.specs.Texts.{lines_text}
 use Rattle.schedule_replay.specs.Worlds.{WorldRecord, KeepsPackets, IsWorld, StandsFor, event_steps}
-use Rattle.schedule_replay.specs.Steps.{IsDone, limit_of}
-use Rattle.schedule_replay.specs.Moves.{Does, Acts, IsActed, CanMove, CanMoveLong, MovesOnce, WantsMemory, GoesThrough, HasDelivered, refusal_lines}
-use Rattle.schedule_replay.proofs.Moving.{once_up_to, none_once, all_wider}
+use Rattle.schedule_replay.specs.Steps.{IsDone}
+use Rattle.schedule_replay.specs.Moves.{IsActed, GoesThrough, TookSteps, refusal_lines}
+use Rattle.schedule_replay.proofs.Answering.{acted_as}
+use Rattle.schedule_replay.proofs.Moving.{once_up_to, none_once}
 use Rattle.schedule_replay.proofs.Sending.{kept_length}
 use Rattle.schedule_replay.proofs.Delivering.{IsFound, kept_found, delivered_as, not_delivered}
 use Rattle.schedule_replay.proofs.Doing.{first_fails, first_passes, refuses}
-
--- what is so where nothing stopped decides, unless memory was refused
-pub acts_if : (f : World → Step) (old new : WorldRecord) (before after : List ℕ) (P : Type 0) (result : Result (Unit {0}) WorldStop) → OnOk result P → IfErr result WantsMemory → (P → IsActed f old new before after) → Acts f old new before after result
-acts_if f old new before after P (Ok done) ok err k = k ok
-acts_if f old new before after P (Err stop) ok err k = λ w is s. err (limit_of w (f w).world)
-
--- a step that is another one of one move
-pub acts_once : (f g : World → Step) (old new : WorldRecord) (before after : List ℕ) (result : Result (Unit {0}) WorldStop) → OnOk result (Does g old new before after) → OnOk result (MovesOnce old new) → IfErr result WantsMemory
-    → ((w : World) → IsWorld w → StandsFor old w → f w ≡ g w) → Acts f old new before after result
-acts_once f g old new before after (Ok done) does once err same = record {
-  does = λ w is s. subst (λ t. IsDone t new before after) (sym (same w is s)) (does w is s);
-  moves = once_up_to old new once;
-}
-acts_once f g old new before after (Err stop) does once err same = λ w is s. err (limit_of w (f w).world)
+use Rattle.schedule_replay.proofs.Walking.{all_done}
 
 -- so many packets were sent
 pub sent_in : (w : World) (old : WorldRecord) (sent : ℕ) → StandsFor old w → sent ≡ length old.pool.frames → length w.net.packets ≡ sent
@@ -82,24 +67,10 @@ range_is w first last sent n one two =
     ∙ first_passes w (nat_lt (length w.net.packets) last) (NoPacket (length w.net.packets)) [] (λ v. deliver_all (last + 1 - first) first v) (test_false (length w.net.packets) sent last n two)
 
 pub range_done : (old now : WorldRecord) (first last n sent : ℕ) (before after : List ℕ) → sent ≡ length old.pool.frames → first ≤ sent → last ≤ sent → n ≡ last + 1 - first → n ≤ event_steps
-    → HasDelivered n old now → GoesThrough first n old now before after → IsActed (λ w. deliver_range w first last) old now before after
-range_done old now first last n sent before after len one two many few had through = record {
-  does = λ w is s.
-      let t = through w is s in
-      let same : deliver_range w first last ≡ deliver_all n first w = range_is w first last sent (sent_in w old sent s len) one two ∙ ap (λ k. deliver_all k first w) (sym many) in
-      subst (λ r. IsDone r now before after) (sym same) (record { stands = t.stands; text = t.text });
-  moves = record { steps = λ k w. all_wider (k + n) (k + event_steps) now (omega (arith, few)) (had.steps k w); events = had.events; cluster = had.cluster };
-}
-
--- each core may take a step still
-pub can_go_on : (old now : WorldRecord) (first n : ℕ) (before mid : List ℕ) → CanMoveLong old → n < event_steps → HasDelivered n old now → GoesThrough first n old now before mid → CanMove now
-can_go_on old now first n before mid can few had through =
-    let t = through can.world can.is can.stands in
-    let long = can.few in
-    record { world = (deliver_all n first can.world).world; is = t.is; stands = t.stands; steps = can.steps + n; few = omega (arith, few, long); within = had.steps can.steps can.within }
-
-pub valid_of : (old : WorldRecord) → CanMoveLong old → is_valid_cluster old.cluster ≡ true
-valid_of old can = subst (λ c. is_valid_cluster c ≡ true) (sym can.stands.cluster) can.is.valid
+    → TookSteps n old now → GoesThrough (deliver_all n first) old now before after → IsActed (λ w. deliver_range w first last) old now before after
+range_done old now first last n sent before after len one two many few took through =
+    acted_as (λ w. deliver_range w first last) (deliver_all n first) old now before after (λ w is s. range_is w first last sent (sent_in w old sent s len) one two ∙ ap (λ k. deliver_all k first w) (sym many))
+    (all_done (deliver_all n first) n old now before after few took through)
 
 -- Dumps. The packet of a world whose frame is kept
 record IsKept (w : World) (i : ℕ) (bytes : List ℕ) : Type 0 where

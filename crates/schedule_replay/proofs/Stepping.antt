@@ -16,7 +16,7 @@ use Rattle.schedule_replay.specs.Steps.{Takes, StopsAt}
 use Rattle.schedule_replay.specs.Moves.{CanMove, CanMoveLong, IsActed, Fails}
 use Rattle.schedule_replay.proofs.Moving.{all_wider}
 use Rattle.schedule_replay.proofs.Sending.{FrameLengths, within_limits}
-use Rattle.schedule_replay.proofs.Delivering.{GoodKept, OrderKept, event_is, numbered_is}
+use Rattle.schedule_replay.proofs.Walking.{GoodKept, OrderKept, event_is, numbered_is}
 
 -- one event more is counted
 abbrev pub counted : WorldRecord → WorldRecord

@@ -32,6 +32,7 @@ same_text (out.Sent number from to kind inc seq bytes) = refl
 same_text (out.Heard number fresh what) = refl
 same_text (out.Lost number) = refl
 same_text (out.Refused refusal) = refl
+same_text (out.Judged machine votes) = refl
 same_text (out.State events) = refl
 same_text (out.Fence epoch) = refl
 same_text (out.Job app group ended) = refl

@@ -1,31 +1,31 @@
 -- What the starts, stops and commands of masters do in each world that the hard state and the masters are of.
-use Rattle.std.specs.Prelude.{◌≡◌, ℕ, ◌+◌, [], Option, Some, None, Result, Ok, Err}
+use Rattle.std.specs.Prelude.{◌≡◌, ℕ, ◌+◌, ◌<◌, ◌≤◌, true, [], length, map, All, Option, Some, None, Result, Ok, Err}
 use Rattle.std.specs.Ordering.{nat_cmp}
 use Rattle.std.specs.FinMap.Entries.{find}
-use Rattle.fuxi_terms.specs.Cluster.{ClusterRecord}
-use Rattle.fuxi_terms.specs.Limits.{most_records}
+use Rattle.fuxi_terms.specs.Cluster.{ClusterRecord, is_valid_cluster}
+use Rattle.fuxi_terms.specs.Limits.{most_machines, most_records}
 use Rattle.written_net.specs.Channels.{master_id, party}
 use Rattle.written_roles.specs.HardState.{HardState}
 use Rattle.written_roles.specs.Masters.{Master}
 use Rattle.written_roles.specs.MasterSteps.{MasterCommand}
 use Rattle.written_roles.specs.MasterRoles.{Told}
 use Rattle.written_world.specs.World.{World, Step, refused}
-use Rattle.written_world.specs.Events.{commanded}
+use Rattle.written_world.specs.Events.{commanded, ban_each, judge}
 use Rattle.written_world.specs.Good.{Good}
 use Rattle.written_join.specs.Joins.{OneActs}
-use Rattle.hard_state.specs.declared.fault.HardFault.{HardFault}
-use Rattle.hard_state.specs.declared.fault.HardFault.TheVariants as hard
+use Rattle.bad_nodes.specs.Ranks.{number_of}
 use Rattle.memory_checkpoint.specs.Held.{Held, IsOpen}
 use Rattle.fuxi_master.specs.Steps.{told_by}
 use Rattle.fuxi_master.specs.declared.event.MasterEvent.{MasterEvent}
 use Rattle.fuxi_master.specs.declared.event.MasterRefusal.{MasterRefusal}
-use Rattle.fuxi_master.specs.declared.event.MasterRefusal.TheVariants as master
 use Rattle.core_join.specs.Masters.{IsWritten, change_in}
 use Rattle.running_masters.specs.Running.{MastersRecord, AreMastersOf, AreWithin}
 use Rattle.running_masters.specs.Calls.{CommandDoneIn}
+use Rattle.master_text.specs.Refusals.{master_refusal}
 use Rattle.schedule_text.specs.declared.refusal.Refusal.{Refusal}
 use Rattle.schedule_text.specs.declared.refusal.Refusal.TheVariants as why
 use Rattle.schedule_text.specs.Printing.{as_refusal}
+use Rattle.schedule_replay.specs.declared.commands.Judgement.{Judgement}
 
 -- the parts that commands of masters change
 pub record Governing : Type 0 where
@@ -77,29 +77,30 @@ governing checkpoint masters = record { checkpoint = checkpoint; masters = maste
 abbrev pub GovernsMasters : ℕ → (World → Step) → MastersRecord → MastersRecord → Option Refusal → Type 0
 GovernsMasters e step old new answer = (checkpoint : Held) → Governs e step (governing checkpoint old) (governing checkpoint new) answer
 
+-- the machines of a judgement are some of those that have votes, which are not more than a cluster has, and not more than records are written
+pub record MayBan (j : Judgement) : Type 0 where
+  pub there : All (λ m. m < length j.votes.votes) (map number_of j.machines.items)
+  pub votes : length j.votes.votes ≤ most_machines
+  pub few : length j.machines.items ≤ most_records
+
+-- A judgement by the master of an epoch: what it bans, with the votes that were counted
+pub record IsDecided (w : World) (e least percent : ℕ) (j : Judgement) : Type 0 where
+  pub bans : judge w e least percent ≡ ban_each e j.votes (map number_of j.machines.items) w
+  pub may : MayBan j
+
+-- or why it is refused
+abbrev pub DecidesIn : World → ℕ → ℕ → ℕ → Result Judgement Refusal → Type 0
+DecidesIn w e least percent (Ok j) = IsDecided w e least percent j
+DecidesIn w e least percent (Err refusal) = judge w e least percent ≡ refused w (as_refusal refusal)
+
+abbrev pub Decides : ℕ → ℕ → ℕ → Governing → Result Judgement Refusal → Type 0
+Decides e least percent g answer = (w : World) → is_valid_cluster w.cluster ≡ true → IsGoverning w g → DecidesIn w e least percent answer
+
 -- no master takes more than one step
 abbrev pub TakesStep : MastersRecord → MastersRecord → Type 0
 TakesStep old new = (n : ℕ) → AreWithin n old → AreWithin (n + 1) new
 
--- Refusals. That of a fault of the hard state, where it is one, and what a master's answer says
-abbrev pub hard_refusal : HardFault → Option Refusal
-hard_refusal (hard.Stale fence) = Some (why.NotRising fence)
-hard_refusal (hard.Fenced fence) = Some (why.Fenced fence)
-hard_refusal hard.Known = Some why.Known
-hard_refusal hard.NoJob = Some why.NoJob
-hard_refusal hard.Ended = Some why.Ended
-hard_refusal hard.AlreadyBanned = Some why.AlreadyBanned
-hard_refusal hard.NotBanned = Some why.NotBanned
-hard_refusal hard.Full = Some (why.HardFull most_records)
-hard_refusal (hard.NotCheckpoint offset) = None
-hard_refusal hard.DiskFault = None
-hard_refusal hard.OutOfMemory = None
-
-abbrev pub master_refusal : MasterRefusal → Refusal
-master_refusal master.AlreadyServing = why.AlreadyServing
-master_refusal master.NotServing = why.NotServing
-master_refusal master.NothingToPreempt = why.NothingToPreempt
-
+-- what a master's answer says
 abbrev pub refusal_in : Option (Result (Unit {0}) MasterRefusal) → Option Refusal
 refusal_in None = Some why.NotRunning
 refusal_in (Some (Ok done)) = None

@@ -3,7 +3,7 @@ use Rattle.schedule_text.specs.Asked.{job_named}
 use Rattle.schedule_text.specs.Writing.{switch}
 use Rattle.schedule_text.specs.declared.event.Event.{Event as LineEvent}
 use Rattle.schedule_text.specs.declared.event.Event.TheVariants as line
-use Rattle.written_world.specs.Events.{Event, StartMaster, StopMaster, StartAgent, StartApp, Submit, Finish, Ban, Unban, Begin, Preempt, Want, Near, Rack, Avoid, GiveBack, TurnMaster, TurnAgent, TurnApp, ResyncMaster, ResyncAgent, ResyncApp, Deliver, DeliverRange, Dump, ShowState}
+use Rattle.written_world.specs.Events.{Event, StartMaster, StopMaster, StartAgent, StartApp, Submit, Finish, Ban, Unban, Begin, Preempt, Judge, Want, Near, Rack, Avoid, GiveBack, TurnMaster, TurnAgent, TurnApp, ResyncMaster, ResyncAgent, ResyncApp, Deliver, DeliverRange, Dump, ShowState}
 
 abbrev pub event_as : LineEvent → Event
 event_as (line.Master e) = StartMaster e
@@ -16,6 +16,7 @@ event_as (line.Ban e m) = Ban e m.0
 event_as (line.Unban e m) = Unban e m.0
 event_as (line.Begin e) = Begin e
 event_as (line.Preempt e) = Preempt e
+event_as (line.Judge e least percent) = Judge e least percent
 event_as (line.Want a u n) = Want a.0 u.0 n
 event_as (line.Near a u m n) = Near a.0 u.0 m.0 n
 event_as (line.Rack a u r n) = Rack a.0 u.0 r.0 n

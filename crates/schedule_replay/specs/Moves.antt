@@ -10,8 +10,9 @@ use Rattle.core_side.specs.Parcels.{parcel_is, IsSent}
 use Rattle.written_net.specs.Net.{Party, Packet as WrittenPacket}
 use Rattle.written_net.specs.Channels.{agent_id, app_id, is_agent, is_app, is_master}
 use Rattle.written_world.specs.World.{World, Step}
-use Rattle.written_world.specs.Outputs.{Line, Refused, Lost, Came}
-use Rattle.written_world.specs.Events.{addressed, heard_by, heard_line, deliver_all}
+use Rattle.written_roles.specs.MasterSteps.{BansMachine}
+use Rattle.written_world.specs.Outputs.{Line, Refused, Judged, Lost, Came}
+use Rattle.written_world.specs.Events.{addressed, commanded, heard_by, heard_line}
 use Rattle.written_join.specs.Seen.{parcel_of}
 use Rattle.written_join.specs.Joins.{OneActs}
 use Rattle.packet_pool.specs.Pools.{Stored, Keeps, limit_of as pool_limit}
@@ -81,6 +82,16 @@ pub record IsActed (f : World → Step) (old new : WorldRecord) (before after : 
 abbrev pub Acts : (World → Step) → WorldRecord → WorldRecord → List ℕ → List ℕ → Result (Unit {0}) WorldStop → Type 0
 Acts f old new before after (Ok done) = IsActed f old new before after
 Acts f old new before after (Err stop) = Fails f old stop
+
+-- a step of the world that is one move and sends no packet is done, or memory was refused
+pub record IsActedOnce (f : World → Step) (old new : WorldRecord) (before after : List ℕ) : Type 0 where
+  pub does : Does f old new before after
+  pub moves : MovesOnce old new
+  pub pool : new.pool ≡ old.pool
+
+abbrev pub ActsOnce : (World → Step) → WorldRecord → WorldRecord → List ℕ → List ℕ → Result (Unit {0}) WorldStop → Type 0
+ActsOnce f old new before after (Ok done) = IsActedOnce f old new before after
+ActsOnce f old new before after (Err stop) = WantsMemory stop
 
 -- the line of a refusal, where there is one
 abbrev pub refusal_lines : Option Refusal → List Line
@@ -152,21 +163,25 @@ pub record IsHeardIn (w : World) (x : WrittenPacket) (new : WorldRecord) (heard 
 abbrev pub HearsIn : Packet → WorldRecord → WorldRecord → Option Heard → Type 0
 HearsIn packet old new heard = (w : World) (which : ℕ) (x : WrittenPacket) → IsWorld w → StandsFor old w → slice_get w.net.packets which ≡ Some x → parcel_is packet ≡ parcel_of w.net x → IsHeardIn w x new heard
 
--- the first n of these packets are delivered
-pub record IsThrough (first n : ℕ) (w : World) (now : WorldRecord) (before after : List ℕ) : Type 0 where
-  pub is : IsWorld (deliver_all n first w).world
-  pub stands : StandsFor now (deliver_all n first w).world
-  pub text : after ≡ before ++ lines_text (deliver_all n first w).lines
+-- a part of an event is done: the world after it is again one to which inputs lead
+pub record IsThrough (s : Step) (now : WorldRecord) (before after : List ℕ) : Type 0 where
+  pub is : IsWorld s.world
+  pub stands : StandsFor now s.world
+  pub text : after ≡ before ++ lines_text s.lines
 
-abbrev pub GoesThrough : ℕ → ℕ → WorldRecord → WorldRecord → List ℕ → List ℕ → Type 0
-GoesThrough first n old now before after = (w : World) → IsWorld w → StandsFor old w → IsThrough first n w now before after
+abbrev pub GoesThrough : (World → Step) → WorldRecord → WorldRecord → List ℕ → List ℕ → Type 0
+GoesThrough f old now before after = (w : World) → IsWorld w → StandsFor old w → IsThrough (f w) now before after
 
--- and so many steps were taken, while the packets stayed
-pub record HasDelivered (n : ℕ) (old now : WorldRecord) : Type 0 where
+-- and no core took more than so many steps, while the packets stayed
+pub record TookSteps (n : ℕ) (old now : WorldRecord) : Type 0 where
   pub steps : (k : ℕ) → AreWithin k old → AreWithin (k + n) now
   pub events : now.events ≡ old.events
   pub cluster : now.cluster ≡ old.cluster
   pub pool : now.pool ≡ old.pool
+
+-- one ban of a judgement, whatever the command answers, with the votes for it
+abbrev pub ban_one : ℕ → ℕ → ℕ → World → Step
+ban_one e m votes w = record { world = (commanded w e (BansMachine m)).world; lines = Judged m votes ∷ [] }
 
 -- the refusal that a fault of an application names; want of memory names none
 abbrev pub IsRefusalOf : AppFault → Option Refusal → Type 0

@@ -10,8 +10,8 @@ use crate::agents::{resync_agent, start_agent};
 use crate::apps::{ask_app, resync_app, start_app};
 use crate::deliveries::{deliver, deliver_range, dump};
 use crate::masters::{
-    ban_machine, begin, finish_job, preempt, resync_master, start_master, stop_master, submit_job,
-    unban_machine,
+    ban_machine, begin, finish_job, judge, preempt, resync_master, start_master, stop_master,
+    submit_job, unban_machine,
 };
 use crate::running::Running;
 use crate::showing::show;
@@ -47,6 +47,9 @@ pub(crate) fn act(
         Event::Unban(epoch, machine) => unban_machine(running, alloc, *epoch, *machine, out),
         Event::Begin(epoch) => begin(running, alloc, *epoch, out),
         Event::Preempt(epoch) => preempt(running, alloc, *epoch, out),
+        Event::Judge(epoch, least, percent) => {
+            judge(running, alloc, *epoch, *least, *percent, out)
+        }
         Event::TurnMaster(epoch) => turn_master(running, alloc, *epoch, out),
         Event::TurnAgent(machine) => turn_agent(running, alloc, *machine, out),
         Event::TurnApp(app) => turn_app(running, alloc, *app, out),

@@ -1,30 +1,37 @@
-//! The start and the stop of masters, and the commands that they are given.
+//! The start and the stop of masters, the commands that they are given, and what they judge.
 //!
 //! Each call answers why the event is refused, or `None` where it is done. A refused one has changed nothing that the world sees. The hard
 //! state is written before a master is told. After `OutOfMemory` what was lent is not to be used.
 
-ghost use Rattle.std.specs.Prelude.{◌≡◌, ◌<◌, Some, IfOk, is_some};
+ghost use Rattle.std.specs.Prelude.{◌≡◌, ◌≢◌, ◌<◌, ◌≤◌, Err, Result, IfOk, is_some};
 ghost use Rattle.std.specs.Ordering.{nat_cmp};
 ghost use Rattle.std.specs.FinMap.Entries.{find};
+ghost use Rattle.written_roles.specs.HardState.{HardState};
+ghost use Rattle.written_roles.specs.Refusals.{Refusal as WrittenRefusal};
 ghost use Rattle.written_roles.specs.MasterSteps.{Submits, Finishes, BansMachine, UnbansMachine, StartsServing, MakesRoom};
 ghost use Rattle.written_world.specs.World.{World};
 ghost use Rattle.written_world.specs.Events.{commanded, resync_master, start_master, stop_master};
 ghost use Rattle.running_masters.specs.Running.{AreMastersOf, Fits, MayStep};
 ghost use Rattle.running_masters.specs.Calls.{IsCommand};
+ghost use Rattle.hard_state.specs.HardFiles.{Refuses};
 ghost use Rattle.schedule_text.specs.Asked.{job_named};
-ghost use Rattle.schedule_replay.specs.Commands.{AreGoverned, Governs, GovernsMasters, GovernsOn, TakesStep, TellsInWorld, governing, hard_refusal, refusal_in};
+ghost use Rattle.schedule_text.specs.Printing.{as_refusal};
+ghost use Rattle.schedule_replay.specs.Commands.{AreGoverned, Decides, Governs, GovernsMasters, GovernsOn, TakesStep, TellsInWorld, governing, refusal_in};
 
+use bad_nodes::Votes;
 use cluster_desc::Cluster;
 use fuxi_master::{MasterEvent, MasterRefusal};
 use fuxi_terms::OutOfMemory;
 use fuxi_terms::limits::{MOST_MASTERS, MOST_RECORDS};
 use hard_state::HardFault;
+use master_text::{hard_refusal, master_refusal};
 use memory_checkpoint::Checkpoint;
 use running_masters::Masters;
 use schedule_text::{Refusal, job_refusal, jobs_are_tested_alike};
 use schedule_unit::{AppNo, Asks, GroupNo, Job, MachineNo};
 use std::alloc::Global;
 use std::mem;
+use written_roles::judges;
 
 /// A master starts in an epoch above the fence.
 pub(crate) fn start_master(
@@ -156,6 +163,43 @@ pub(crate) fn ban(
     tell(alloc, masters, epoch, MasterEvent::Ban(machine))
 }
 
+/// The machines that a judgement bans, in its order, with the votes that were counted.
+#[derive(Drop)]
+pub(crate) struct Judgement {
+    pub(crate) votes: Votes,
+    pub(crate) machines: Vec<MachineNo>,
+}
+
+/// The judgement of the master of an epoch, or why it is refused. Nothing changes.
+pub(crate) fn judged(
+    alloc: Global,
+    checkpoint: &Checkpoint,
+    masters: &Masters,
+    epoch: u64,
+    least: u32,
+    percent: u32,
+) -> Result<Result<Judgement, Refusal>, OutOfMemory>
+    requires { percent ≤ 100 }
+    ensures { IfOk result (Decides epoch least percent (governing checkpoint.now masters.now)) }
+{
+    judges();
+    let Some(master) = masters.get(epoch) else {
+        return Ok(Err(Refusal::NotRunning));
+    };
+    let hard = checkpoint.hard();
+    let fence = hard.fence();
+    if epoch < fence {
+        return Ok(Err(Refusal::Fenced(fence)));
+    }
+    let votes = master.votes(alloc)?;
+    let machines = votes.judge(alloc, least, percent)?;
+    let left = MOST_RECORDS - hard.records() as u64;
+    if machines.len() as u64 > left {
+        return Ok(Err(Refusal::HardFull(MOST_RECORDS)));
+    }
+    Ok(Ok(Judgement { votes, machines }))
+}
+
 /// The ban of a machine is lifted by the master of an epoch.
 pub(crate) fn unban(
     alloc: Global,
@@ -274,27 +318,17 @@ fn answered_refusal(answer: Option<Result<(), MasterRefusal>>) -> Option<Refusal
     match answer {
         None => Some(Refusal::NotRunning),
         Some(Ok(())) => None,
-        Some(Err(MasterRefusal::AlreadyServing)) => Some(Refusal::AlreadyServing),
-        Some(Err(MasterRefusal::NotServing)) => Some(Refusal::NotServing),
-        Some(Err(MasterRefusal::NothingToPreempt)) => Some(Refusal::NothingToPreempt),
+        Some(Err(refusal)) => Some(master_refusal(refusal)),
     }
 }
 
 // The refusal that a fault of the hard state is. A file that is damaged and a fault of the disk do not come from a checkpoint in memory.
 fn written_refusal(fault: HardFault) -> Result<Refusal, OutOfMemory>
-    ensures { IfOk result (λ refusal. hard_refusal fault ≡ Some refusal) }
+    ensures refused { IfOk result (λ refusal. (step : Result HardState WrittenRefusal) → Refuses step fault → step ≡ Err (as_refusal refusal)) }
+    ensures memory { IfOk result (λ refusal. fault ≢ HardFault.OutOfMemory) }
 {
-    match fault {
-        HardFault::Stale { fence } => Ok(Refusal::NotRising(fence)),
-        HardFault::Fenced { fence } => Ok(Refusal::Fenced(fence)),
-        HardFault::Known => Ok(Refusal::Known),
-        HardFault::NoJob => Ok(Refusal::NoJob),
-        HardFault::Ended => Ok(Refusal::Ended),
-        HardFault::AlreadyBanned => Ok(Refusal::AlreadyBanned),
-        HardFault::NotBanned => Ok(Refusal::NotBanned),
-        HardFault::Full => Ok(Refusal::HardFull(MOST_RECORDS)),
-        HardFault::NotCheckpoint { .. } | HardFault::DiskFault | HardFault::OutOfMemory => {
-            Err(OutOfMemory)
-        }
+    match hard_refusal(fault) {
+        Some(refusal) => Ok(refusal),
+        None => Err(OutOfMemory),
     }
 }

@@ -1,9 +1,9 @@
 //! Deliveries: what parties hear.
 
-ghost use Rattle.std.specs.Prelude.{◌≡◌, ◌<◌, ◌≤◌, IfErr, IfOk, OnOk};
+ghost use Rattle.std.specs.Prelude.{◌≡◌, ◌<◌, ◌≤◌, IfOk, OnOk};
 ghost use Rattle.party_ledgers.specs.Packets.{IsFormed};
 ghost use Rattle.written_world.specs.Events.{deliver, deliver_one, deliver_range, dump};
-ghost use Rattle.schedule_replay.specs.Moves.{Acts, CanMove, CanMoveLong, Does, HearsIn, MovesOnce, WantsMemory};
+ghost use Rattle.schedule_replay.specs.Moves.{Acts, ActsOnce, CanMove, CanMoveLong, HearsIn, MovesOnce};
 
 use crate::laws::{agents_act, apps_act, cores_may_step, masters_act};
 use crate::running::Running;
@@ -110,10 +110,7 @@ fn deliver_one(
 ) -> Result<(), WorldStop>
     requires first { 0 < number }
     requires can { CanMove running.old }
-    ensures does { OnOk result (Does (deliver_one number) running.old running.new out.old.items out.new.items) }
-    ensures once { OnOk result (MovesOnce running.old running.new) }
-    ensures pool { OnOk result (running.new.pool ≡ running.old.pool) }
-    ensures err { IfErr result WantsMemory }
+    ensures { ActsOnce (deliver_one number) running.old running.new out.old.items out.new.items result }
 {
     stored_is_read();
     let Some(bytes) = running.pool.frame(number) else {

@@ -1,19 +1,23 @@
 //! The events of masters.
 
-ghost use Rattle.std.specs.Prelude.{◌≡◌, ◌<◌};
+ghost use Rattle.std.specs.Prelude.{◌≡◌, ◌<◌, ◌≤◌, map};
+ghost use Rattle.bad_nodes.specs.Ranks.{number_of};
 ghost use Rattle.fuxi_terms.specs.Limits.{most_jobs, most_groups, most_machines};
 ghost use Rattle.written_roles.specs.MasterSteps.{Submits, Finishes, BansMachine, UnbansMachine, StartsServing, MakesRoom};
-ghost use Rattle.written_world.specs.Events.{start_master, stop_master, commanded, resync_master};
+ghost use Rattle.written_world.specs.Events.{ban_each, commanded, judge, resync_master, start_master, stop_master};
 ghost use Rattle.schedule_text.specs.Asked.{job_named};
-ghost use Rattle.schedule_replay.specs.Moves.{Acts, CanMove};
+ghost use Rattle.schedule_replay.specs.Commands.{MayBan};
+ghost use Rattle.schedule_replay.specs.Moves.{Acts, ActsOnce, CanMove, CanMoveLong, ban_one};
 
-use crate::commands;
+use crate::commands::{self, Judgement};
 use crate::laws::{cores_may_step, masters_act};
 use crate::running::Running;
 use crate::stop::WorldStop;
-use crate::text::write_refusal;
+use crate::text::{write_judged, write_refusal};
 use schedule_unit::{AppNo, Asks, GroupNo, MachineNo};
 use std::alloc::Global;
+use written_order::worlds_in_order;
+use written_world::every_event_keeps_good;
 
 // A master starts in an epoch.
 pub(crate) fn start_master(
@@ -125,6 +129,88 @@ pub(crate) fn ban_machine(
     } = running;
     match commands::ban(alloc, cluster, checkpoint, masters, epoch, machine) {
         Ok(refusal) => write_refusal(refusal, out),
+        Err(_) => Err(WorldStop::OutOfMemory),
+    }
+}
+
+// A machine that is judged is banned by the master of an epoch, and printed with the votes for it.
+fn ban_one(
+    running: &mut Running,
+    alloc: Global,
+    epoch: u64,
+    machine: MachineNo,
+    votes: u32,
+    out: &mut Vec<u8>,
+) -> Result<(), WorldStop>
+    requires can { CanMove running.old }
+    ensures { ActsOnce (ban_one epoch machine.0 votes) running.old running.new out.old.items out.new.items result }
+{
+    masters_act();
+    cores_may_step();
+    let Running {
+        cluster,
+        checkpoint,
+        masters,
+        ..
+    } = running;
+    match commands::ban(alloc, cluster, checkpoint, masters, epoch, machine) {
+        Ok(_) => write_judged(machine, votes, out),
+        Err(_) => Err(WorldStop::OutOfMemory),
+    }
+}
+
+// The machines of a judgement are banned by the master of an epoch, one after another.
+fn ban_each(
+    running: &mut Running,
+    alloc: Global,
+    epoch: u64,
+    judgement: &Judgement,
+    out: &mut Vec<u8>,
+) -> Result<(), WorldStop>
+    requires first { 0 < epoch }
+    requires may { MayBan judgement.now }
+    requires can { CanMoveLong running.old }
+    requires counted { 0 < running.old.events }
+    ensures { Acts (ban_each epoch judgement.now.votes (map number_of judgement.now.machines.items)) running.old running.new out.old.items out.new.items result }
+{
+    every_event_keeps_good();
+    worlds_in_order();
+    for place in 0..judgement.machines.len() {
+        let machine = judgement.machines[place];
+        let votes = judgement.votes.votes(machine);
+        match ban_one(running, alloc, epoch, machine, votes, out) {
+            Ok(()) => {}
+            Err(stop) => return Err(stop),
+        }
+    }
+    Ok(())
+}
+
+// The master of an epoch bans the machines that enough of its jobs mark.
+pub(crate) fn judge(
+    running: &mut Running,
+    alloc: Global,
+    epoch: u64,
+    least: u32,
+    percent: u32,
+    out: &mut Vec<u8>,
+) -> Result<(), WorldStop>
+    requires first { 0 < epoch }
+    requires percent { percent ≤ 100 }
+    requires can { CanMoveLong running.old }
+    requires counted { 0 < running.old.events }
+    ensures { Acts (λ w. judge w epoch least percent) running.old running.new out.old.items out.new.items result }
+{
+    match commands::judged(
+        alloc,
+        &running.checkpoint,
+        &running.masters,
+        epoch,
+        least,
+        percent,
+    ) {
+        Ok(Ok(judgement)) => ban_each(running, alloc, epoch, &judgement, out),
+        Ok(Err(refusal)) => write_refusal(Some(refusal), out),
         Err(_) => Err(WorldStop::OutOfMemory),
     }
 }

@@ -7,7 +7,7 @@ ghost use Rattle.written_net.specs.Net.{Net, Packet as WrittenPacket};
 ghost use Rattle.written_net.specs.Ledgers.{Ledger};
 ghost use Rattle.written_net.specs.Channels.{body_of};
 ghost use Rattle.written_join.specs.Seen.{parcel_of};
-ghost use Rattle.written_world.specs.Outputs.{Frame, sent_lines};
+ghost use Rattle.written_world.specs.Outputs.{Frame, Judged, sent_lines};
 ghost use Rattle.schedule_text.specs.Printing.{as_kind, as_line};
 ghost use Rattle.schedule_replay.specs.Moves.{refusal_lines, heard_lines, WantsMemory};
 ghost use Rattle.schedule_replay.specs.Texts.{lines_text};
@@ -18,6 +18,7 @@ use crate::stop::WorldStop;
 use core_join::written_frame_lengths;
 use party_ledgers::{Heard, Kind, Packet};
 use schedule_text::{Kind as PrintedKind, Output, Refusal, write_frame, write_output};
+use schedule_unit::MachineNo;
 use std::alloc::Global;
 use wire_frames::frame_length;
 
@@ -106,6 +107,18 @@ pub(crate) fn write_heard(
         None => write_line(&Output::Lost(number), out),
         Some(heard) => write_line(&Output::Heard(number, heard.fresh, heard.what), out),
     }
+}
+
+// A machine that a judgement bans, with the votes for it.
+pub(crate) fn write_judged(
+    machine: MachineNo,
+    votes: u32,
+    out: &mut Vec<u8>,
+) -> Result<(), WorldStop>
+    ensures ok { OnOk result (out.new.items ≡ out.old.items ++ lines_text (Judged machine.0 votes ∷ [])) }
+    ensures err { IfErr result WantsMemory }
+{
+    write_line(&Output::Judged(machine, votes), out)
 }
 
 // The frame of the packet of this number.

@@ -34,6 +34,9 @@ returns-in-Begin c = subst (λ e. Acts (λ w. act w (event_as e)) c.args.running
 pub returns-in-Preempt : goal.returns-in-Preempt
 returns-in-Preempt c = subst (λ e. Acts (λ w. act w (event_as e)) c.args.running.now c.preempt.new.running c.args.out.now.items c.preempt.new.out.items c.preempt.result) (sym c.in-Preempt.is) c.preempt.ensures
 
+pub returns-in-Judge : goal.returns-in-Judge
+returns-in-Judge c = subst (λ e. Acts (λ w. act w (event_as e)) c.args.running.now c.judge.new.running c.args.out.now.items c.judge.new.out.items c.judge.result) (sym c.in-Judge.is) c.judge.ensures
+
 pub returns-in-TurnMaster : goal.returns-in-TurnMaster
 returns-in-TurnMaster c = subst (λ e. Acts (λ w. act w (event_as e)) c.args.running.now c.turn_master.new.running c.args.out.now.items c.turn_master.new.out.items c.turn_master.result) (sym c.in-TurnMaster.is) c.turn_master.ensures
 

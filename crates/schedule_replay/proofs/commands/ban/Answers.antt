@@ -1,6 +1,6 @@
 use Rattle.std.proofs.Common.{[], refl, sym}
 use Rattle.std.proofs.lemmas.Result.{IfOk-weaker}
-use Rattle.written_roles.specs.HardState.{Banning}
+use Rattle.written_roles.specs.HardState.{Banning, hard_step}
 use Rattle.written_roles.specs.MasterSteps.{BansMachine, banned_in}
 use Rattle.fuxi_master.specs.declared.event.MasterEvent.TheVariants.{Ban}
 use Rattle.written_world.specs.Events.{commanded}
@@ -14,8 +14,8 @@ returns-in-Err-clause-world c w cluster s =
     let m = c.args.machine.0 in
     let r = runs_in w e (sym (c.if-not-runs.ensures w s.stand)) in
     let there = machine_there c.args.cluster.now w.cluster m c.machines.result cluster c.machines.ensures.number c.if-machine-machines.false in
-    writing_refused w e (BansMachine m) (Banning m) c.args.checkpoint.now c.ban.new.self c.args.masters.now r.master c.in-Err.fault c.in_ok-written_refusal-in-Err.field-0 s r.is (ban_written w r.master m there)
-    c.in_ok-written_refusal-in-Err.ensures c.in-Err.ensures.refused c.in-Err.ensures.unchanged
+    writing_refused w e (BansMachine m) (Banning m) c.args.checkpoint.now c.ban.new.self c.args.masters.now r.master c.in_ok-written_refusal-in-Err.field-0 s r.is (ban_written w r.master m there)
+    (c.in_ok-written_refusal-in-Err.ensures.refused (hard_step c.args.checkpoint.now.hard.value e (Banning m)) c.in-Err.ensures.refused) (c.in-Err.ensures.unchanged c.in_ok-written_refusal-in-Err.ensures.memory)
 
 pub returns-clause-world : goal.returns-clause-world
 returns-clause-world c =

@@ -4,7 +4,7 @@ use Rattle.fuxi_terms.specs.Jobs.{eight_places}
 use Rattle.std.proofs.lemmas.Result.{IfOk-weaker}
 use Rattle.schedule_unit.specs.JobFaults.{IsFault, IsMade, job_fault}
 use Rattle.written_net.specs.Channels.{app_id}
-use Rattle.written_roles.specs.HardState.{Submission, with_job}
+use Rattle.written_roles.specs.HardState.{Submission, with_job, hard_step}
 use Rattle.written_roles.specs.MasterSteps.{Submits}
 use Rattle.fuxi_master.specs.declared.event.MasterEvent.TheVariants.{Admit}
 use Rattle.written_world.specs.Events.{commanded}
@@ -38,8 +38,8 @@ returns-in-Err-submit-clause-world c w cluster s =
     let there = group_there c.args.cluster.now w.cluster g c.groups.result cluster c.groups.ensures.number c.if-group-groups.false in
     let same = c.resources.ensures.number ∙ ap (λ (d : ClusterRecord). d.resources) cluster in
     let made = subst (λ l. IsMade a g c.resources.result l (Ok c.in-Ok.job)) c.as_slice.ensures c.in-Ok.ensures.made in
-    writing_refused w e (Submits (job_named a g asks)) (Submission c.in-Ok.job) c.args.checkpoint.now c.submit.new.self c.args.masters.now r.master c.in-Err-submit.fault c.in_ok-written_refusal-in-Err-submit.field-0 s r.is
-    (submit_written c.jobs_are_tested_alike.ensures w r.master a g c.resources.result asks c.in-Ok.job same there made) c.in_ok-written_refusal-in-Err-submit.ensures c.in-Err-submit.ensures.refused c.in-Err-submit.ensures.unchanged
+    writing_refused w e (Submits (job_named a g asks)) (Submission c.in-Ok.job) c.args.checkpoint.now c.submit.new.self c.args.masters.now r.master c.in_ok-written_refusal-in-Err-submit.field-0 s r.is
+    (submit_written c.jobs_are_tested_alike.ensures w r.master a g c.resources.result asks c.in-Ok.job same there made) (c.in_ok-written_refusal-in-Err-submit.ensures.refused (hard_step c.args.checkpoint.now.hard.value e (Submission c.in-Ok.job)) c.in-Err-submit.ensures.refused) (c.in-Err-submit.ensures.unchanged c.in_ok-written_refusal-in-Err-submit.ensures.memory)
 
 pub tell-requires-clause-fitting : goal.tell-requires-clause-fitting
 tell-requires-clause-fitting c = admit_fits c.args.checkpoint.now c.args.masters.now c.args.epoch c.in-Ok.job c.submit.new.self.hard.value c.requires.governed c.in-Ok-submit.ensures.ok.1

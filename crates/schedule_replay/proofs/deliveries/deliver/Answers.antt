@@ -4,7 +4,8 @@ use Rattle.schedule_text.specs.declared.refusal.Refusal.TheVariants as why
 use Rattle.schedule_replay.specs.Texts.{lines_text}
 use Rattle.schedule_replay.specs.Worlds.{WorldRecord}
 use Rattle.schedule_replay.specs.Moves.{refusal_lines}
-use Rattle.schedule_replay.proofs.Ranging.{acts_if, acts_once, refuses_one, one_is}
+use Rattle.schedule_replay.proofs.Answering.{acts_if, acts_once}
+use Rattle.schedule_replay.proofs.Ranging.{refuses_one, one_is}
 use Rattle.schedule_replay.proofs.deliveries.deliver.Goals as goal
 
 pub returns-then-number-sent : goal.returns-then-number-sent
@@ -23,4 +24,4 @@ returns c =
     let sent = c.len-sent.result in
     let len = subst (λ (r : WorldRecord). sent ≡ length r.pool.frames) c.running.view_is c.len-sent.ensures.len in
     acts_once (λ w. deliver w c.args.number) (deliver_one c.args.number) now c.deliver_one.new.running c.args.out.now.items c.deliver_one.new.out.items c.deliver_one.result
-    c.deliver_one.ensures.does c.deliver_one.ensures.once c.deliver_one.ensures.err (one_is now c.args.number sent len c.if-number-sent.false)
+    (one_is now c.args.number sent len c.if-number-sent.false) c.deliver_one.ensures
