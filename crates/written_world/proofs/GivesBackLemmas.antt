@@ -22,7 +22,7 @@ use Rattle.fuxi_terms.proofs.Counting.{tied, count-set_count}
 use Rattle.fuxi_terms.proofs.KeyOrders.{key_total, same_key}
 use Rattle.written_net.specs.Net.{Net, Party, Id, Link, Packet, Heard, last, at_index, heard_of, is_taken, comes, move, Starts, met, word_of, unmoved, hear, hear_peer, same_id, set_at}
 use Rattle.written_net.specs.Ledgers.{Ledger, nothing, at_key}
-use Rattle.written_net.specs.Channels.{master_id, agent_id, app_id, party, is_app, is_agent, is_master, view, present, Offer, publish, shape, content}
+use Rattle.written_net.specs.Channels.{master_id, agent_id, app_id, party, is_agent, is_master, view, present, Offer, publish, shape, content}
 use Rattle.written_net.proofs.BoundedLemmas.{met_known}
 use Rattle.written_net.proofs.SoundLemmas.{Longer, Grows}
 use Rattle.written_net.proofs.PublishLemmas.{publish_leaves, publish_grows}
@@ -35,7 +35,7 @@ use Rattle.written_roles.proofs.RaisedCredits.{raised}
 use Rattle.written_roles.proofs.TransitionsLemmas.{ready_besides}
 use Rattle.written_world.specs.World.{World}
 use Rattle.written_world.specs.Parties.{end_step, projection, received, told}
-use Rattle.written_world.specs.Good.{Invariant, IsShowing}
+use Rattle.written_world.specs.Good.{AllGiven, EntryGiven, Invariant, IsGiven, IsShowing}
 use Rattle.written_world.proofs.AgreementLemmas.{at_numbers}
 use Rattle.written_world.proofs.Invariant.{ready_epoch}
 use Rattle.written_world.proofs.PartiesKept.{after_known, knows_sender}
@@ -63,18 +63,12 @@ use Rattle.written_world.specs.Events.{Event, GiveBack, act, counted_in, demande
 use Rattle.written_world.specs.GivesBack.{HoldsLess, AllGiveBack}
 use Rattle.written_world.specs.Runs.{run}
 use Rattle.written_world.proofs.DemandsLemmas.{backs_between}
-use Rattle.written_world.proofs.EventsWalk.{WorldKept, run_keeps_world, unasked}
+use Rattle.written_world.proofs.EventsWalk.{StepHolds, WorldKept, act_keeps_world, run_keeps_world, unasked}
 use Rattle.written_world.proofs.InvariantKept.{always, counted_holds, events_hold, not_refused, told_same}
 use Rattle.written_world.proofs.KeepsGrantsLemmas.{sent_histories}
 use Rattle.written_world.proofs.SettledKept.{talks_app}
 
--- A number is given back under an epoch: it is at most that of some demand for it, or 0
-pub record IsGiven (e : ℕ) (h : List Ledger) (u m v : ℕ) : Type 0 where
-  pub place : ℕ
-  pub there : place ≤ length h
-  pub head : 1 ≤ place → (at_index nothing h place).head ≡ e
-  pub within : v ≤ at_key (at_index nothing h place) (back_key u m)
-
+-- A number that is 0 is given back
 no_number : (e : ℕ) (h : List Ledger) (u m v : ℕ) → v ≡ 0 → IsGiven e h u m v
 no_number e h u m v z = record { place = 0; there = omega arith; head = λ l. absurd (omega (arith, l)); within = omega (arith, z) }
 
@@ -83,13 +77,6 @@ given_longer e h h' u m v l g =
     let same = l.same g.place g.there in
     let long = l.long in let there = g.there in
     record { place = g.place; there = omega (arith, long, there); head = λ p. ap (λ (d : Ledger). d.head) same ∙ g.head p; within = subst (λ (d : Ledger). v ≤ at_key d (back_key u m)) (sym same) g.within }
-
--- what each entry of a master's grants credits was given back
-abbrev EntryGiven : (Party → Id → List Ledger) → ℕ → Id → Ledger → Type 0
-EntryGiven hs e q l = is_app q ≡ true → (u m : ℕ) → IsGiven e (hs (party q l.head) master_id) u m (at_key l (credited_key u m))
-
-pub record AllGiven (hs : Party → Id → List Ledger) : Type 0 where
-  pub it : (e : ℕ) (q : Id) (n : ℕ) → EntryGiven hs e q (at_index nothing (hs (party master_id e) q) n)
 
 wider : (hs hs' : Party → Id → List Ledger) (e : ℕ) (q : Id) (l : Ledger) → Grows shape hs hs' → EntryGiven hs e q l → EntryGiven hs' e q l
 wider hs hs' e q l g h = λ app u m. given_longer e (hs (party q l.head) master_id) (hs' (party q l.head) master_id) u m (at_key l (credited_key u m)) (g.longer (party q l.head) master_id) (h app u m)
@@ -363,10 +350,16 @@ events_given w b =
       app_hears = λ a q j x f s. record { inv = k.app_hears a q j x f s; given = joined_given w.net (party (app_id a) q.boot) x (joined_demand x.from.inc (present w.net (party (app_id a) q.boot) master_id)) refl g };
     }
 
-given_at_start : (e : ℕ) (q : Id) (n : ℕ) → EntryGiven (λ p q. []) e q (at_index nothing [] n)
+-- one event
+pub act_given : (w : World) (v : Event) → HoldsGiven w → StepHolds HoldsGiven (act w v)
+act_given w v b = act_keeps_world HoldsGiven (λ _. ⊤) events_given w v tt b
+
+-- the empty world
+pub given_at_start : (e : ℕ) (q : Id) (n : ℕ) → EntryGiven (λ p q. []) e q (at_index nothing [] n)
 given_at_start e q zero = λ app u m. no_number e [] u m 0 refl
 given_at_start e q (suc n) = λ app u m. no_number e [] u m 0 refl
 
+-- every run
 always_given : (c : ClusterRecord) (es : List Event) → HoldsGiven (run c es)
 always_given c es = (run_keeps_world HoldsGiven (λ _. ⊤) events_given es (empty_world c) (unasked es) (record { inv = always c []; given = record { it = given_at_start } })).it
 
@@ -477,9 +470,13 @@ back_done w a g u m n h found = subst (IsGivenBack w a g u m n) (sym (ap (λ o. 
     by None t = record { it = λ _. (found, gives_back w h a g found u m n (few t)) }
     by (Some r) t = record { it = λ d. cc }
 
-pub all_give_back : (c : ClusterRecord) (events : List Event) → AllGiveBack (run c events)
-all_give_back c events = let w = run c events in record {
+-- in every world of which both parts hold, and so in every run
+pub all_give_back : (w : World) → Invariant w → AllGiven w.net.histories → AllGiveBack w
+all_give_back w inv given = record {
   gives = λ a u m n g found done.
-      let r = (back_done (counted_in w) a g u m n (record { inv = counted_holds w (always_given c events).inv; given = (always_given c events).given }) found).it done in
+      let r = (back_done (counted_in w) a g u m n (record { inv = counted_holds w inv; given = given }) found).it done in
       (r.0, record { less = r.1.less; others = r.1.others });
 }
+
+pub runs_give_back : (c : ClusterRecord) (events : List Event) → AllGiveBack (run c events)
+runs_give_back c events = let k = always_given c events in all_give_back (run c events) k.inv k.given

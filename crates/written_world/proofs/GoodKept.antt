@@ -14,7 +14,8 @@ use Rattle.written_world.specs.Good.{IsHard, Good}
 use Rattle.written_world.specs.Safe.{Safe}
 use Rattle.written_world.proofs.AgreementLemmas.{agent_agrees, app_agrees}
 use Rattle.written_world.proofs.CarriedLemmas.{counts_once}
-use Rattle.written_world.proofs.InvariantKept.{act_holds, counted_holds, at_start, table_fits}
+use Rattle.written_world.proofs.GivesBackLemmas.{act_given, given_at_start}
+use Rattle.written_world.proofs.InvariantKept.{counted_holds, at_start, table_fits}
 use Rattle.written_world.proofs.JobsKept.{act_has, few_resources}
 use Rattle.written_world.proofs.SettledKept.{act_rests}
 use Rattle.written_world.proofs.KnowledgeKept.{act_known}
@@ -29,14 +30,16 @@ record StepIsGood (w w' : World) : Type 0 where
 step_good : (w : World) (e : Event) → is_valid_cluster w.cluster ≡ true → is_from_line e ≡ true → Good w → StepIsGood w (world_step w e).world
 step_good w e valid line h =
     let j = (act_has w.cluster (few_resources w.cluster valid) (counted_in w) e line (record { same = refl; hard = h.hard })).it in
+    let g = (act_given (counted_in w) e (record { inv = counted_holds w h.stands; given = h.given })).it in
     let r = (act_rests (counted_in w) e (record { rests = λ k. record { has = λ M f. h.rests k M f } })).all in
     let k = (act_known (counted_in w) e (record { all = λ n M f. let s = h.stands.masters n M f in record { epoch = s.epoch; ran = s.ran; knows = h.knows n M f } })).it in
     record {
       good = record {
         hard = subst (λ c. IsHard c (world_step w e).world.hard) (sym j.same) j.hard;
-        stands = (act_holds (counted_in w) e (counted_holds w h.stands)).it;
+        stands = g.inv;
         rests = λ k M f. (r.rests k).has M f;
         knows = λ n M f. (k.all n M f).knows;
+        given = g.given;
         recorded = (act_recorded (counted_in w) e (record { masters = h.recorded.masters; agents = h.recorded.agents; apps = h.recorded.apps; below = h.recorded.below; net = h.recorded.net })).it;
       };
       same = j.same;
@@ -48,7 +51,7 @@ good_kept w e valid line h = (step_good w e valid line h).good
 
 -- the empty world
 pub good_at_start : (c : ClusterRecord) → Good (empty_world c)
-good_at_start c = record { hard = record { jobs = tt; distinct = tt; few = omega arith }; stands = at_start c; rests = λ e M found. cc; recorded = empty_recorded c; knows = λ e M found. cc }
+good_at_start c = record { hard = record { jobs = tt; distinct = tt; few = omega arith }; stands = at_start c; rests = λ e M found. cc; recorded = empty_recorded c; knows = λ e M found. cc; given = record { it = given_at_start } }
 
 -- every run
 run_good : (es : List Event) (w : World) → is_valid_cluster w.cluster ≡ true → AllByRecursion (λ e. is_from_line e ≡ true) es → Good w → Good (run_from es w).world

@@ -21,11 +21,11 @@ use Rattle.written_roles.specs.Masters.{Master}
 use Rattle.written_roles.specs.HardState.{HardState, is_full, raised, submitted, finished, banned, unbanned, with_job}
 use Rattle.written_roles.specs.Preemption.{preempted}
 use Rattle.written_roles.specs.Refusals.{Refusal, NotRising, TooManyMasters, Fenced, Known, NoMachine, NoRack, NoUnit, NoJob, Ended, WantRange, NotUsable, BackRange, first_refusal}
-use Rattle.written_world.specs.World.{World, Agent, App, Step, empty_world}
+use Rattle.written_world.specs.World.{World, Agent, App, empty_world}
 use Rattle.written_roles.specs.MasterSteps.{master_party, is_there, talks, peers, adopts, take_report, take_demand, meet_app, row, grants, counted, ended_in, banned_in, new_master, is_one_of}
 use Rattle.written_world.specs.Parties.{projection, end_step, told, received, adopted_now, joined, agent_table, agent_hears, app_hears, carry}
 use Rattle.written_roles.specs.Apps.{joined_demand, changed_demand, AppCommand, command_tests, command_key, command_number, Wants, WantsNear, WantsInRack, Avoids, GivesBack}
-use Rattle.written_world.specs.Events.{Event, demanded, turned, given_back, usable_now, act, counted_in}
+use Rattle.written_world.specs.Events.{Event, demanded, turned, given_back, usable_now, counted_in}
 use Rattle.written_world.specs.Runs.{run}
 use Rattle.written_net.specs.Sound.{Sound, Current, PacketNames}
 use Rattle.written_world.specs.Shown.{AllShown, AllCredited, AllGiveBacks}
@@ -55,10 +55,7 @@ use Rattle.written_world.proofs.CreditedOnce.{credited_once}
 use Rattle.written_world.proofs.AgreementLemmas.{agent_agrees, app_agrees}
 use Rattle.written_world.proofs.CarriedLemmas.{carry_origins, counts_once}
 use Rattle.written_world.proofs.PartiesKept.{joined_reports, joins, joined_written, demands, acted, agent_invariant, app_invariant, app_put_invariant, agent_starts, app_starts}
-use Rattle.written_world.proofs.EventsWalk.{WorldKept, act_keeps_world, run_keeps_world, unasked}
-
-pub record StepHolds (s : Step) : Type 0 where
-  pub it : Invariant s.world
+use Rattle.written_world.proofs.EventsWalk.{WorldKept, run_keeps_world, unasked}
 
 -- A master that heard something has its epoch and its jobs
 pub record SameMaster (M N : Master) : Type 0 where
@@ -372,10 +369,6 @@ events_hold w h = record {
   agent_hears = λ m g k x f sent. agent_hears_holds w m (k - 1) g x h f sent;
   app_hears = λ a g k x f sent. app_hears_holds w a (k - 1) g x h f sent;
 }
-
--- so that it is kept
-pub act_holds : (w : World) (e : Event) → Invariant w → StepHolds (act w e)
-act_holds w e h = record { it = (act_keeps_world Invariant (λ _. ⊤) events_hold w e tt h).it }
 
 -- the empty world
 pub at_start : (c : ClusterRecord) → Invariant (empty_world c)

@@ -286,6 +286,22 @@ pub record KnowsHard (h : HardState) (M : Master) : Type 0 where
   pub marks : M.epoch ≡ h.fence → M.jobs ≡ h.jobs
   pub bans : M.epoch ≡ h.fence → M.bans ≡ h.bans
 
+-- A number is given back under an epoch: it is at most that of some demand for it, or 0
+pub record IsGiven (e : ℕ) (h : List Ledger) (u m v : ℕ) : Type 0 where
+  pub place : ℕ
+  pub there : place ≤ length h
+  pub head : 1 ≤ place → (at_index nothing h place).head ≡ e
+  pub within : v ≤ at_key (at_index nothing h place) (back_key u m)
+
+-- what an entry of a master's grants credits was given back, by the boot that they name
+abbrev pub EntryGiven : (Party → Id → List Ledger) → ℕ → Id → Ledger → Type 0
+EntryGiven hs e q l = is_app q ≡ true → (u m : ℕ) → IsGiven e (hs (party q l.head) master_id) u m (at_key l (credited_key u m))
+
+-- what the grants of any master credit was given back under its epoch
+-- Asked by the law on give-backs: where more is credited than was given back, a give-back takes less than its number. No other part rests on it
+pub record AllGiven (hs : Party → Id → List Ledger) : Type 0 where
+  pub it : (e : ℕ) (q : Id) (n : ℕ) → EntryGiven hs e q (at_index nothing (hs (party master_id e) q) n)
+
 -- Good: what each step keeps
 pub record Good (w : World) : Type 0 where
   pub hard : IsHard w.cluster w.hard
@@ -293,3 +309,4 @@ pub record Good (w : World) : Type 0 where
   pub rests : (e : ℕ) (M : Master) → find nat_cmp e w.masters ≡ Some M → IsResting w.cluster M
   pub recorded : IsRecorded w
   pub knows : (e : ℕ) (M : Master) → find nat_cmp e w.masters ≡ Some M → KnowsHard w.hard M
+  pub given : AllGiven w.net.histories

@@ -139,9 +139,10 @@ pub fn a_failover_keeps_grants()
 {}
 
 /// A give-back that is not refused takes exactly its number from what the application holds of that unit on that
-/// machine, and nothing of others.
+/// machine, and nothing of others: in every run, and in every good world.
 pub fn gives_back_what_is_held()
-    ensures { (c : ClusterRecord) (events : List Event) → AllGiveBack (run c events) }
+    ensures always { (c : ClusterRecord) (events : List Event) → AllGiveBack (run c events) }
+    ensures good { (w : World) → Good w → AllGiveBack w }
 {}
 
 /// Demands are heeded. A running master's wishes of a live job are the entries, of units, machines and racks that are
