@@ -1,5 +1,5 @@
 -- The banned machines are shut, one after the other.
-use Rattle.std.proofs.Common.{◌≡◌, ℕ, ◌+◌, ◌<◌, Bool, true, false, nat_eq, nat_lt, List, length, get_or, map, set, replicate, refl, sym, ◌∙◌, ap, subst, arith}
+use Rattle.std.proofs.Common.{◌≡◌, ℕ, ◌+◌, ◌<◌, ◌≤◌, Bool, true, false, nat_eq, nat_lt, List, length, get_or, map, set, replicate, refl, sym, ◌∙◌, ap, subst, arith}
 use Rattle.std.specs.Prelude.{◌&&◌}
 use Rattle.std.proofs.lemmas.Bool.Decides.{nat_tests}
 use Rattle.std.proofs.lemmas.List.{get_or-replicate, get_or-set_other, get_or-set_same, length-replicate, length-set}
@@ -44,8 +44,8 @@ module _ (bans : List ℕ) (machines : ℕ) where
     pub one_usable : has_number n bans ≡ false → AreShut bans machines (n + 1) v
     one_usable usable = record { none = h.none; long = h.long; each = λ m lt. h.each m lt ∙ fails_below (λ k. has_number k bans) n m usable }
 
-  pub all_shut : (n : ℕ) (v : VotesRecord) → machines ≡ n → AreShut bans machines n v → v ≡ record { votes = replicate machines 0; shut = map (λ m. has_number m bans) (below machines) }
-  all_shut n v e h =
+  pub all_shut : (n : ℕ) (v : VotesRecord) → machines ≤ n → AreShut bans machines n v → v ≡ record { votes = replicate machines 0; shut = map (λ m. has_number m bans) (below machines) }
+  all_shut n v past h =
       let flags : v.shut ≡ map (λ m. has_number m bans) (below machines) =
-          by_places machines (λ m. has_number m bans) v.shut false h.long (λ m lt. h.each m lt ∙ all_below m n (has_number m bans) (omega (arith, lt, e))) in
+          by_places machines (λ m. has_number m bans) v.shut false h.long (λ m lt. h.each m lt ∙ all_below m n (has_number m bans) (omega (arith, lt, past))) in
       λ i. record { votes = h.none i; shut = flags i }

@@ -11,7 +11,7 @@ use Rattle.fuxi_terms.specs.Cluster.{ClusterRecord, JobRecord}
 use Rattle.fuxi_terms.specs.Jobs.{KnownJob, has_ended, job_of, unit_count}
 use Rattle.fuxi_terms.specs.Lists.{below}
 use Rattle.fuxi_terms.specs.Numbers.{has_number}
-use Rattle.fuxi_terms.proofs.Alls.{all_filter, all_more}
+use Rattle.fuxi_terms.proofs.Alls.{all_filter, all_map, all_more}
 use Rattle.fuxi_terms.proofs.Booleans.{and_true, false_and, false_right, number_is}
 use Rattle.fuxi_terms.proofs.Lists.{all_push, take_last}
 use Rattle.schedule_unit.specs.declared.party.UnitNo.{UnitNo}
@@ -64,8 +64,8 @@ module _ (p : ℕ → Bool) (n : ℕ) (v w : VotesRecord) (h : AddsVotes (λ m. 
   pub one_unmarked : p n ≡ false → AddsVotes (λ m. nat_lt m (n + 1) && p m) v w
   one_unmarked fails = record { long = h.long; votes = λ m lt. h.votes m lt ∙ ap (λ b. votes_of v m + cond b 1 0) (fails_below p n m fails); shut = h.shut }
 
-  pub all_marked : length v.votes ≡ n → AddsVotes p v w
-  all_marked e = record { long = h.long; votes = λ m lt. h.votes m lt ∙ ap (λ b. votes_of v m + cond b 1 0) (all_below m n (p m) (omega (arith, lt, e))); shut = h.shut }
+  pub all_marked : length v.votes ≤ n → AddsVotes p v w
+  all_marked past = record { long = h.long; votes = λ m lt. h.votes m lt ∙ ap (λ b. votes_of v m + cond b 1 0) (all_below m n (p m) (omega (arith, lt, past))); shut = h.shut }
 
 pub none_yet : (p : ℕ → Bool) (v : VotesRecord) → AddsVotes (λ m. nat_lt m 0 && p m) v v
 none_yet p v = none_marked (λ m. nat_lt m 0 && p m) v (λ m. none_below m (p m))
@@ -75,7 +75,7 @@ abbrev pub number_of : UnitNo → ℕ
 number_of u = u.0
 
 any_found : (p : ℕ → Bool) (xs : List ℕ) → list_any p xs ≡ nat_lt 0 (length (filter p xs))
-any_found p [] = let t : false ≡ nat_lt 0 0 = grind (arith, nat_tests) in t
+any_found p [] = refl
 any_found p (x ∷ xs) = by (p x) (any_found p xs)
   where
     by : (b : Bool) → list_any p xs ≡ nat_lt 0 (length (filter p xs)) → (b || list_any p xs) ≡ nat_lt 0 (length (cond b (x ∷ filter p xs) (filter p xs)))
@@ -99,15 +99,11 @@ each_below : (n : ℕ) → AllByRecursion (λ u. u < n) (below n)
 each_below zero = tt
 each_below (suc n) = all_push (λ u. u < suc n) (below n) n (all_more (λ u. u < n) (λ u. u < suc n) (λ u h. omega (arith, h)) (below n) (each_below n)) (omega arith)
 
-from_numbers : (n : ℕ) (units : List UnitNo) → AllByRecursion (λ u. u < n) (map number_of units) → AllByRecursion (λ (u : UnitNo). u.0 < n) units
-from_numbers n [] h = tt
-from_numbers n (u ∷ us) h = (h.0, from_numbers n us h.1)
-
 -- each unit that was found is there
 pub found_there : (p : ℕ → Bool) (n k : ℕ) (units : List UnitNo) → map number_of units ≡ filter p (below n) → n ≡ k → AllByRecursion (λ (u : UnitNo). u.0 < k) units
 found_there p n k units found e =
     subst (λ l. AllByRecursion (λ (u : UnitNo). u.0 < l) units) e
-    (from_numbers n units (subst (λ us. AllByRecursion (λ u. u < n) us) (sym found) (all_filter (λ u. u < n) p (below n) (each_below n))))
+    (all_map (λ u. u < n) number_of units (subst (λ us. AllByRecursion (λ u. u < n) us) (sym found) (all_filter (λ u. u < n) p (below n) (each_below n))))
 
 module _ (x : CoreRecord) (r : MasterRole) (s : StandsFor x r) (j : KnownJob) (units : List UnitNo) (found : map number_of units ≡ filter (is_asked x j.job.number) (below (length j.job.units))) where
   placed : IsPlacing x.allotment.table x.allotment.placer.seen r.cluster r.state
@@ -162,10 +158,10 @@ module _ (x : CoreRecord) (n : ℕ) (job : JobRecord) (a : ℕ) (at : option_map
   looked_up = ap (job_of x.known.jobs) named ∙ found ∙ own.1
 
   ended_is : has_ended x.known.jobs a ≡ own.0.ended
-  ended_is = ap (λ o. unwrap_or (option_map (λ (k : KnownJob). k.ended) o) false) looked_up
+  ended_is = ap (λ (o : Option KnownJob). unwrap_or (option_map (λ (k : KnownJob). k.ended) o) false) looked_up
 
   pub units_are : length job.units ≡ unit_count x.known.jobs a
-  units_are = sym (ap (λ o. length (unwrap_or (option_map (λ (k : KnownJob). k.job.units) o) [])) looked_up ∙ ap (λ (k : JobRecord). length k.units) own.2)
+  units_are = sym (ap (λ (o : Option KnownJob). length (unwrap_or (option_map (λ (k : KnownJob). k.job.units) o) [])) looked_up ∙ ap (λ (k : JobRecord). length k.units) own.2)
 
   there : (r : MasterRole) → StandsFor x r → slice_get r.state.jobs n ≡ Some own.0
   there r s = ap (λ js. slice_get js n) s.stands.jobs ∙ own.1
@@ -213,12 +209,12 @@ none_counted x c bans v here known e r s =
       shut = ap (λ (y : VotesRecord). y.shut) e ∙ (λ i. map (λ m. has_number m (banned i)) (below (length (cluster i).machines)));
     }
 
-pub all_counted : (x : CoreRecord) (n : ℕ) (v : VotesRecord) → length x.known.jobs ≡ n → HasCounted x n v → (r : MasterRole) → StandsFor x r → v ≡ votes_in r.cluster r.state
-all_counted x n v e counted r s =
+pub all_counted : (x : CoreRecord) (n : ℕ) (v : VotesRecord) → length x.known.jobs ≤ n → HasCounted x n v → (r : MasterRole) → StandsFor x r → v ≡ votes_in r.cluster r.state
+all_counted x n v past counted r s =
     let h = counted r s in
     let long = h.long in
     let jobs = ap (λ (js : List KnownJob). length js) s.stands.jobs in
     let numbers : v.votes ≡ map (λ m. count_by (λ j. marks r.state j m) r.state.jobs) (below (length r.cluster.machines)) =
         by_places (length r.cluster.machines) (λ m. count_by (λ j. marks r.state j m) r.state.jobs) v.votes 0 h.long
-        (λ m lt. h.votes m (omega (arith, lt, long)) ∙ ap (count_by (λ j. marks r.state j m)) (take_all n r.state.jobs (omega (arith, e, jobs)))) in
+        (λ m lt. h.votes m (omega (arith, lt, long)) ∙ ap (count_by (λ j. marks r.state j m)) (take_all n r.state.jobs (omega (arith, past, jobs)))) in
     λ i. record { votes = numbers i; shut = h.shut i }
