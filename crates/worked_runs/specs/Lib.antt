@@ -11,4 +11,5 @@ pub mod Again
 pub mod Taking
 pub mod Carrying
 pub mod Contents
+pub mod Judgements
 pub mod Alone

@@ -15,6 +15,7 @@ ghost use Rattle.worked_runs.specs.HardChanges.{a_report_of_a_banned_machine_run
 ghost use Rattle.worked_runs.specs.Again.{a_new_boot_counts_again_run, an_ack_of_an_older_index_run, resync_sends_the_whole_again_run};
 ghost use Rattle.worked_runs.specs.Taking.{quota_takes_from_a_group_above_its_own_run, the_greater_job_loses_first_run};
 ghost use Rattle.worked_runs.specs.Carrying.{a_give_back_of_what_is_not_wanted_run, carried_over_two_epochs_run};
+ghost use Rattle.worked_runs.specs.Judgements.{a_job_marks_with_all_that_it_wants_run, a_judgement_takes_the_grants_run};
 ghost use Rattle.worked_runs.specs.Alone.{AgentAlone, AppAlone, MasterAlone};
 ghost use Rattle.worked_runs.specs.Contents.{what_packets_hold_run};
 
@@ -212,6 +213,16 @@ pub fn a_give_back_of_what_is_not_wanted()
 /// Starts must rise, a fenced master writes nothing, and no event goes to one that does not run.
 pub fn stops_and_starts_that_are_refused()
     ensures { Computes stops_and_starts_that_are_refused_run }
+{}
+
+/// A judgement bans the machines that enough jobs mark, those with more votes first, and takes the grants there.
+pub fn a_judgement_takes_the_grants()
+    ensures { Computes a_judgement_takes_the_grants_run }
+{}
+
+/// A job marks a machine that each unit of which it wants grants avoids; a job that wants nothing marks none.
+pub fn a_job_marks_with_all_that_it_wants()
+    ensures { Computes a_job_marks_with_all_that_it_wants_run }
 {}
 
 /// What is printed of packets: an Ack holds nothing, a Delta what changed, and the others whole ledgers.

@@ -1,26 +1,30 @@
 -- The parties stand in order after every event, and only machines of a line are banned.
-use Rattle.std.proofs.Common.{◌≡◌, ℕ, zero, suc, ◌+◌, ◌-◌, ◌<◌, Bool, true, false, cond, not, nat_eq, nat_lt, T, List, [], ◌∷◌, ◌++◌, map, Option, Some, None, refl, sym, ap, subst, arith}
+use Rattle.std.proofs.Common.{◌≡◌, ℕ, zero, suc, ◌+◌, ◌-◌, ◌<◌, ◌≤◌, Bool, true, false, cond, not, nat_eq, nat_lt, T, List, [], ◌∷◌, ◌++◌, length, map, Option, Some, None, refl, sym, ap, subst, arith}
 use Rattle.std.specs.List.{AllByRecursion, filter}
 use Rattle.std.specs.Ordering.{nat_cmp}
 use Rattle.std.specs.Cmp.{nat_cmp_total}
 use Rattle.std.specs.FinMap.Entries.{find, where_key, is_sorted, is_sorted-put, is_sorted-where_key}
 use Rattle.std.proofs.lemmas.Bool.Decides.{nat_tests}
-use Rattle.fuxi_terms.specs.Limits.{most_machines}
+use Rattle.fuxi_terms.specs.Cluster.{ClusterRecord, has_machine, is_between, is_valid_cluster}
+use Rattle.fuxi_terms.specs.Limits.{most_machines, most_resources}
 use Rattle.fuxi_terms.specs.Jobs.{job_numbers, eight_places}
-use Rattle.fuxi_terms.specs.Numbers.{without_number}
+use Rattle.fuxi_terms.specs.Numbers.{has_number, without_number}
+use Rattle.fuxi_terms.proofs.Alls.{all_more}
 use Rattle.fuxi_terms.proofs.Booleans.{both_true, either}
 use Rattle.written_net.specs.Net.{Net, Party, Packet, Starts, move, comes, heard_of}
 use Rattle.written_net.specs.Ledgers.{Ledger}
 use Rattle.written_net.specs.Channels.{is_agent, is_app, is_master, master_id, agent_id, app_id, party}
 use Rattle.written_roles.specs.Masters.{Master}
 use Rattle.written_roles.specs.HardState.{HardState, raised, submitted, finished, banned, unbanned, with_job, Raise}
-use Rattle.written_roles.specs.MasterSteps.{master_party, talks, ended_in, banned_in, new_master}
+use Rattle.written_roles.specs.MasterSteps.{BansMachine, master_party, talks, ended_in, banned_in, new_master}
 use Rattle.written_roles.specs.Preemption.{preempted}
 use Rattle.written_roles.specs.Refusals.{Refusal, with_found}
+use Rattle.written_roles.specs.Votes.{VotesRecord, judged, votes_in}
+use Rattle.written_roles.proofs.MasterVotes.{judged_free}
 use Rattle.written_roles.specs.Apps.{AppCommand, Wants, WantsNear, WantsInRack, Avoids, GivesBack}
 use Rattle.written_world.specs.World.{World, Agent, App, Step, prints_nothing, refused}
 use Rattle.written_world.specs.Parties.{end_step, told, received, adopted_now, master_hears, agent_hears, app_hears}
-use Rattle.written_world.specs.Events.{Event, StartMaster, StopMaster, StartAgent, StartApp, Submit, Finish, Ban, Unban, Begin, Preempt, Want, Near, Rack, Avoid, GiveBack, TurnMaster, TurnAgent, TurnApp, ResyncMaster, ResyncAgent, ResyncApp, Deliver, DeliverRange, Dump, ShowState, at_master, at_agent, at_app, turned, turn_to_master, addressed, packet_of, deliver_one, deliver_all, agent_started, app_started, act, counted_in, world_step, asks}
+use Rattle.written_world.specs.Events.{Event, StartMaster, StopMaster, StartAgent, StartApp, Submit, Finish, Ban, Unban, Begin, Preempt, Judge, Want, Near, Rack, Avoid, GiveBack, TurnMaster, TurnAgent, TurnApp, ResyncMaster, ResyncAgent, ResyncApp, Deliver, DeliverRange, Dump, ShowState, at_master, at_agent, at_app, turned, turn_to_master, addressed, packet_of, deliver_one, deliver_all, commanded, ban_each, agent_started, app_started, act, counted_in, world_step, asks}
 use Rattle.written_world.specs.Lines.{is_from_line, is_counted}
 use Rattle.written_world.proofs.CommandLemmas.{hard_has, submits_has, finishes_has, bans_has, unbans_has, begins_has, makes_room_has}
 use Rattle.written_world.proofs.EventsWalk.{found_has}
@@ -124,38 +128,57 @@ agent_starts w m b o = record { masters = o.masters; agents = is_sorted-put nat_
 app_starts : (w : World) (a b : ℕ) → IsInOrder w → IsInOrder (app_started w a b)
 app_starts w a b o = record { masters = o.masters; agents = o.agents; apps = is_sorted-put nat_cmp nat_cmp_total a _ w.apps o.apps; bans = o.bans; banned = o.banned }
 
+-- Bans
+one_ban : (w : World) (e m : ℕ) → m < most_machines → IsInOrder w → StepInOrder (commanded w e (BansMachine m))
+one_ban w e m below o = master_runs w e _ o (λ M. bans_has StepInOrder w (stays w o) M _ m (λ _. record { it = acts w (banned w.hard m) (banned_in M m) [] o (with_rises m w.hard.bans o.bans) (with_all (λ m. m < most_machines) m w.hard.bans below o.banned) }))
+
+bans_each : (e : ℕ) (votes : VotesRecord) (ms : List ℕ) (w : World) → AllByRecursion (λ m. m < most_machines) ms → IsInOrder w → StepInOrder (ban_each e votes ms w)
+bans_each e votes [] w below o = record { it = o }
+bans_each e votes (m ∷ ms) w below o = record { it = (bans_each e votes ms (commanded w e (BansMachine m)).world below.1 (one_ban w e m below.0 o).it).it }
+
+judged_below : (c : ClusterRecord) (M : Master) (least percent : ℕ) → length c.machines ≤ most_machines → AllByRecursion (λ m. m < most_machines) (judged (votes_in c M) least percent)
+judged_below c M least percent few =
+    all_more (λ m. (has_machine c m ≡ true) × (has_number m M.bans ≡ false)) (λ m. m < most_machines) (λ m h. let there = h.0 in let low : m < length c.machines = grind (arith, nat_tests, there) in omega (arith, low, few))
+    (judged (votes_in c M) least percent) (judged_free c M least percent)
+
+few_machines : (c : ClusterRecord) → is_valid_cluster c ≡ true → length c.machines ≤ most_machines
+few_machines c e =
+    let a = both_true (is_between 1 most_resources c.resources) _ e in
+    let b = both_true (is_between 1 most_machines (length c.machines)) _ a.1 in
+    let t = (both_true (not (nat_lt (length c.machines) 1)) (not (nat_lt most_machines (length c.machines))) b.0).1 in
+    grind (arith, nat_tests, t)
+
 -- Every event
-acts_in_order : (w : World) (e : Event) → is_from_line e ≡ true → IsInOrder w → StepInOrder (act w e)
-acts_in_order w (StartMaster e) t o = checked w _ _ o (hard_has StepInOrder w (stays w o) w.hard e Raise _ (λ _. record { it = ends w (raised w.hard e) (w.ran ++ party master_id e ∷ []) (move w.net (Starts (party master_id e))) (new_master (raised w.hard e) e) (map app_id (job_numbers w.hard.jobs)) o o.bans o.banned }))
-acts_in_order w (StopMaster e) t o = master_runs w e _ o (λ M. record { it = record { masters = is_sorted-where_key nat_cmp (λ k. not (nat_eq k e)) w.masters o.masters; agents = o.agents; apps = o.apps; bans = o.bans; banned = o.banned } })
-acts_in_order w (StartAgent m b) t o = checked w _ (prints_nothing (agent_started w m b)) o (record { it = agent_starts w m b o })
-acts_in_order w (StartApp a b) t o = checked w _ (prints_nothing (app_started w a b)) o (record { it = app_starts w a b o })
-acts_in_order w (Submit e j) t o = master_runs w e _ o (λ M. submits_has StepInOrder w (stays w o) M _ j (λ _ _. record { it = acts w (submitted w.hard (eight_places j)) (record M { jobs = with_job (eight_places j) M.jobs }) (app_id j.number ∷ []) o o.bans o.banned }))
-acts_in_order w (Finish e a) t o = master_runs w e _ o (λ M. finishes_has StepInOrder w (stays w o) M _ a (λ _. record { it = acts w (finished w.hard a) (ended_in M a) [] o o.bans o.banned }))
-acts_in_order w (Ban e m) t o =
-    let below : m < most_machines = (let b = (both_true (is_counted e) (nat_lt m most_machines) t).1 in grind (arith, nat_tests, b)) in
-    master_runs w e _ o (λ M. bans_has StepInOrder w (stays w o) M _ m (λ _. record { it = acts w (banned w.hard m) (banned_in M m) [] o (with_rises m w.hard.bans o.bans) (with_all (λ m. m < most_machines) m w.hard.bans below o.banned) }))
-acts_in_order w (Unban e m) t o = master_runs w e _ o (λ M. unbans_has StepInOrder w (stays w o) M _ m (λ _. record {
+acts_in_order : (w : World) (e : Event) → length w.cluster.machines ≤ most_machines → is_from_line e ≡ true → IsInOrder w → StepInOrder (act w e)
+acts_in_order w (StartMaster e) few t o = checked w _ _ o (hard_has StepInOrder w (stays w o) w.hard e Raise _ (λ _. record { it = ends w (raised w.hard e) (w.ran ++ party master_id e ∷ []) (move w.net (Starts (party master_id e))) (new_master (raised w.hard e) e) (map app_id (job_numbers w.hard.jobs)) o o.bans o.banned }))
+acts_in_order w (StopMaster e) few t o = master_runs w e _ o (λ M. record { it = record { masters = is_sorted-where_key nat_cmp (λ k. not (nat_eq k e)) w.masters o.masters; agents = o.agents; apps = o.apps; bans = o.bans; banned = o.banned } })
+acts_in_order w (StartAgent m b) few t o = checked w _ (prints_nothing (agent_started w m b)) o (record { it = agent_starts w m b o })
+acts_in_order w (StartApp a b) few t o = checked w _ (prints_nothing (app_started w a b)) o (record { it = app_starts w a b o })
+acts_in_order w (Submit e j) few t o = master_runs w e _ o (λ M. submits_has StepInOrder w (stays w o) M _ j (λ _ _. record { it = acts w (submitted w.hard (eight_places j)) (record M { jobs = with_job (eight_places j) M.jobs }) (app_id j.number ∷ []) o o.bans o.banned }))
+acts_in_order w (Finish e a) few t o = master_runs w e _ o (λ M. finishes_has StepInOrder w (stays w o) M _ a (λ _. record { it = acts w (finished w.hard a) (ended_in M a) [] o o.bans o.banned }))
+acts_in_order w (Ban e m) few t o = let b = (both_true (is_counted e) (nat_lt m most_machines) t).1 in one_ban w e m (grind (arith, nat_tests, b)) o
+acts_in_order w (Unban e m) few t o = master_runs w e _ o (λ M. unbans_has StepInOrder w (stays w o) M _ m (λ _. record {
   it = acts w (unbanned w.hard m) (record M { bans = without_number m M.bans }) [] o
       (left_rise (λ k. not (nat_eq k m)) w.hard.bans o.bans) (left_all (λ m. m < most_machines) (λ k. not (nat_eq k m)) w.hard.bans o.banned);
 }))
-acts_in_order w (Begin e) t o = master_runs w e _ o (λ M. begins_has StepInOrder w (stays w o) M _ (record { it = acts w w.hard (record M { serving = true }) [] o o.bans o.banned }))
-acts_in_order w (Preempt e) t o = master_runs w e _ o (λ M. makes_room_has StepInOrder w (stays w o) M _ (λ p _. record { it = acts w w.hard (preempted M p) [] o o.bans o.banned }))
-acts_in_order w (Want a u n) t o = asked w a (Wants u n) o
-acts_in_order w (Near a u m n) t o = asked w a (WantsNear u m n) o
-acts_in_order w (Rack a u r n) t o = asked w a (WantsInRack u r n) o
-acts_in_order w (Avoid a u m on) t o = asked w a (Avoids u m on) o
-acts_in_order w (GiveBack a u m n) t o = asked w a (GivesBack u m n) o
-acts_in_order w (TurnMaster e) t o = master_runs w e _ o (λ M. record { it = netted w _ o })
-acts_in_order w (TurnAgent m) t o = agent_runs w m _ o (λ g. turns w (party (agent_id m) g.boot) o)
-acts_in_order w (TurnApp a) t o = app_runs w a _ o (λ g. turns w (party (app_id a) g.boot) o)
-acts_in_order w (ResyncMaster e) t o = master_runs w e _ o (λ M. record { it = netted w _ o })
-acts_in_order w (ResyncAgent m) t o = agent_runs w m _ o (λ g. record { it = netted w _ o })
-acts_in_order w (ResyncApp a) t o = app_runs w a _ o (λ g. record { it = netted w _ o })
-acts_in_order w (Deliver k) t o = checked w _ _ o (delivers k w o)
-acts_in_order w (DeliverRange k l) t o = checked w _ _ o (delivers_all (l + 1 - k) k w o)
-acts_in_order w (Dump k) t o = checked w _ _ o (found_has StepInOrder (packet_of w k) _ _ (record { it = o }) (λ x _. record { it = o }))
-acts_in_order w ShowState t o = record { it = o }
+acts_in_order w (Begin e) few t o = master_runs w e _ o (λ M. begins_has StepInOrder w (stays w o) M _ (record { it = acts w w.hard (record M { serving = true }) [] o o.bans o.banned }))
+acts_in_order w (Preempt e) few t o = master_runs w e _ o (λ M. makes_room_has StepInOrder w (stays w o) M _ (λ p _. record { it = acts w w.hard (preempted M p) [] o o.bans o.banned }))
+acts_in_order w (Judge e least percent) few t o = master_runs w e _ o (λ M. checked w _ _ o (bans_each e (votes_in w.cluster M) (judged (votes_in w.cluster M) least percent) w (judged_below w.cluster M least percent few) o))
+acts_in_order w (Want a u n) few t o = asked w a (Wants u n) o
+acts_in_order w (Near a u m n) few t o = asked w a (WantsNear u m n) o
+acts_in_order w (Rack a u r n) few t o = asked w a (WantsInRack u r n) o
+acts_in_order w (Avoid a u m on) few t o = asked w a (Avoids u m on) o
+acts_in_order w (GiveBack a u m n) few t o = asked w a (GivesBack u m n) o
+acts_in_order w (TurnMaster e) few t o = master_runs w e _ o (λ M. record { it = netted w _ o })
+acts_in_order w (TurnAgent m) few t o = agent_runs w m _ o (λ g. turns w (party (agent_id m) g.boot) o)
+acts_in_order w (TurnApp a) few t o = app_runs w a _ o (λ g. turns w (party (app_id a) g.boot) o)
+acts_in_order w (ResyncMaster e) few t o = master_runs w e _ o (λ M. record { it = netted w _ o })
+acts_in_order w (ResyncAgent m) few t o = agent_runs w m _ o (λ g. record { it = netted w _ o })
+acts_in_order w (ResyncApp a) few t o = app_runs w a _ o (λ g. record { it = netted w _ o })
+acts_in_order w (Deliver k) few t o = checked w _ _ o (delivers k w o)
+acts_in_order w (DeliverRange k l) few t o = checked w _ _ o (delivers_all (l + 1 - k) k w o)
+acts_in_order w (Dump k) few t o = checked w _ _ o (found_has StepInOrder (packet_of w k) _ _ (record { it = o }) (λ x _. record { it = o }))
+acts_in_order w ShowState few t o = record { it = o }
 
-pub kept_in_order : (w : World) (e : Event) → is_from_line e ≡ true → IsInOrder w → IsInOrder (world_step w e).world
-kept_in_order w e t o = (acts_in_order (counted_in w) e t (record { masters = o.masters; agents = o.agents; apps = o.apps; bans = o.bans; banned = o.banned })).it
+pub kept_in_order : (w : World) (e : Event) → is_valid_cluster w.cluster ≡ true → is_from_line e ≡ true → IsInOrder w → IsInOrder (world_step w e).world
+kept_in_order w e valid t o = (acts_in_order (counted_in w) e (few_machines w.cluster valid) t (record { masters = o.masters; agents = o.agents; apps = o.apps; bans = o.bans; banned = o.banned })).it

@@ -16,3 +16,6 @@ pub mod ServesWhenTold
 pub mod LosesCredited
 pub mod GrowsAllowed
 pub mod VotesLemmas
+pub mod VotesInOrder
+pub mod MasterVotes
+pub mod MarksLemmas

@@ -15,11 +15,11 @@ use Rattle.fuxi_terms.proofs.Booleans.{number_is, nat_itself, both_false}
 use Rattle.fuxi_terms.proofs.Lists.{all_push}
 use Rattle.written_roles.specs.ServedInOrder.{AreOrdered}
 use Rattle.written_roles.specs.Votes.{VotesRecord, GoesBefore, cap, is_marked, is_shut, judged, most_votes, number_shut, open_from, open_with, votes_of}
-use Rattle.written_roles.proofs.ServedInOrderLemmas.{below_rises, ordered_append, ordered_filter, ordered_more}
+use Rattle.written_roles.proofs.ServedInOrderLemmas.{below_rises, ordered_append, ordered_filter}
 
 -- Lists, each of whose members stands so to all behind it
 module _ {A : Type 0} where
-  all_both : (P Q S : A → Type 0) → ((x : A) → P x → Q x → S x) → (xs : List A) → AllByRecursion P xs → AllByRecursion Q xs → AllByRecursion S xs
+  pub all_both : (P Q S : A → Type 0) → ((x : A) → P x → Q x → S x) → (xs : List A) → AllByRecursion P xs → AllByRecursion Q xs → AllByRecursion S xs
   all_both P Q S f [] h k = tt
   all_both P Q S f (x ∷ xs) h k = (f x h.0 k.0, all_both P Q S f xs h.1 k.1)
 
@@ -159,7 +159,7 @@ absent z (x ∷ xs) h =
     let parts = both_false (nat_eq z x) (has_number z xs) h in
     ap (λ b. cond b (1 + times z xs) (times z xs)) parts.0 ∙ absent z xs parts.1
 
-times_below : (n m : ℕ) → m < n → 0 < times m (below n)
+pub times_below : (n m : ℕ) → m < n → 0 < times m (below n)
 times_below zero m low = absurd (omega (arith, low))
 times_below (suc n) m low =
     let cut = times-append m (below n) (n ∷ []) in

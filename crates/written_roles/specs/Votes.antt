@@ -1,11 +1,11 @@
 -- Which machines enough jobs mark as bad.
-use Rattle.std.specs.Prelude.{◌≡◌, ℕ, zero, suc, ◌+◌, ◌-◌, ◌*◌, ◌/◌, ◌<◌, ◌⊎◌, Bool, false, not, ◌&&◌, ◌||◌, nat_eq, nat_lt, nat_le, List, [], ◌++◌, length, get_or, map, take, filter, count_by}
+use Rattle.std.specs.Prelude.{◌≡◌, ℕ, zero, suc, ◌+◌, ◌-◌, ◌*◌, ◌/◌, ◌<◌, ◌≤◌, ◌⊎◌, Bool, false, not, ◌&&◌, ◌||◌, nat_eq, nat_lt, nat_le, List, [], ◌++◌, length, get_or, map, take, filter, count_by}
 use Rattle.std.specs.List.{list_any, list_all}
 use Rattle.fuxi_terms.specs.Cluster.{ClusterRecord}
 use Rattle.fuxi_terms.specs.Jobs.{KnownJob}
 use Rattle.fuxi_terms.specs.Lists.{below}
 use Rattle.fuxi_terms.specs.Numbers.{has_number}
-use Rattle.fuxi_terms.specs.TallyKeys.{want_key}
+use Rattle.fuxi_terms.specs.TallyKeys.{want_key, avoid_key}
 use Rattle.written_roles.specs.Masters.{Master, asked, avoids}
 
 -- By the number of a machine: its votes, and whether it counts as banned.
@@ -51,6 +51,10 @@ judged v least percent = take (cap v percent - number_shut v) (open_from v least
 abbrev pub GoesBefore : VotesRecord → ℕ → ℕ → Type 0
 GoesBefore v m n = (votes_of v n < votes_of v m) ⊎ ((votes_of v m ≡ votes_of v n) × (m < n))
 
+-- or it is that one
+abbrev pub IsNotBehind : VotesRecord → ℕ → ℕ → Type 0
+IsNotBehind v m n = (votes_of v n < votes_of v m) ⊎ ((votes_of v m ≡ votes_of v n) × (m ≤ n))
+
 -- The votes of a master's jobs. A unit of a job is wanted
 abbrev pub is_wanted : Master → ℕ → ℕ → Bool
 is_wanted M a u = nat_lt 0 (asked M a (want_key u))
@@ -59,6 +63,14 @@ is_wanted M a u = nat_lt 0 (asked M a (want_key u))
 abbrev pub marks : Master → KnownJob → ℕ → Bool
 marks M j m = let a = j.job.number in let units = below (length j.job.units) in
     not j.ended && (list_any (is_wanted M a) units && list_all (λ u. not (is_wanted M a u) || avoids M a u m) units)
+
+-- Marks where all avoid: the job has not ended, one unit of it at least is wanted, and every unit that is wanted avoids the machine
+pub record IsMark (M : Master) (j : KnownJob) (m : ℕ) : Type 0 where
+  pub live : j.ended ≡ false
+  pub unit : ℕ
+  pub there : unit < length j.job.units
+  pub wanted : 0 < asked M j.job.number (want_key unit)
+  pub avoided : (u : ℕ) → u < length j.job.units → 0 < asked M j.job.number (want_key u) → 0 < asked M j.job.number (avoid_key u m)
 
 -- how many jobs mark each machine of the cluster, and which of them are banned
 abbrev pub votes_in : ClusterRecord → Master → VotesRecord

@@ -4,9 +4,11 @@
 //! them into the world. Each function here does nothing; its contract is a law of the definitions.
 #![tactic(auto)]
 
-ghost use Rattle.std.specs.Prelude.{◌≡◌, ◌≢◌, ◌⊎◌, ℕ, ◌+◌, ◌<◌, ◌≤◌, Bool, true, false, List, [], length, All, AllPairs, Some, Ok, T};
+ghost use Rattle.std.specs.Prelude.{◌≡◌, ◌≢◌, ◌⊎◌, ℕ, ◌+◌, ◌-◌, ◌<◌, ◌≤◌, Bool, true, false, List, [], length, take, filter, All, AllPairs, IsPermutation, Some, Ok, T};
 ghost use Rattle.fuxi_terms.specs.Cluster.{ClusterRecord};
+ghost use Rattle.fuxi_terms.specs.Jobs.{KnownJob};
 ghost use Rattle.fuxi_terms.specs.Keys.{key_cmp, Spot, spot_cmp};
+ghost use Rattle.fuxi_terms.specs.Lists.{below};
 ghost use Rattle.fuxi_terms.specs.Numbers.{has_number};
 ghost use Rattle.fuxi_terms.specs.Tables.{held_on};
 ghost use Rattle.written_net.specs.Channels.{is_agent};
@@ -22,10 +24,10 @@ ghost use Rattle.std.specs.FinMap.Entries.{is_sorted};
 ghost use Rattle.written_roles.specs.Preemption.{Plan, plan_of};
 ghost use Rattle.written_roles.specs.Losses.{IsLoss, LeavesRoom, IsNeeded, KeepsQuotas};
 ghost use Rattle.written_roles.specs.PlacedInOrder.{AreValid, IsPlacedInOrder};
-ghost use Rattle.written_roles.specs.ServedInOrder.{AreTriedInOrder, AreWalkedInOrder};
+ghost use Rattle.written_roles.specs.ServedInOrder.{AreOrdered, AreTriedInOrder, AreWalkedInOrder};
 ghost use Rattle.written_roles.specs.Settling.{NothingPlaceable, Picks, IsWithin, IsFirst};
 ghost use Rattle.written_roles.specs.TakenByQuota.{AreTakenByQuota};
-ghost use Rattle.written_roles.specs.Votes.{VotesRecord, GoesBefore, cap, is_shut, judged, most_votes, number_shut, votes_of};
+ghost use Rattle.written_roles.specs.Votes.{VotesRecord, GoesBefore, IsMark, IsNotBehind, cap, is_marked, is_shut, judged, marks, most_votes, number_shut, votes_of};
 ghost use Rattle.written_roles.specs.Transitions.{IsOrderly, GrowsAsAllowed, IsBare, HasAllReports, MayLose, LosesOnlyCredited};
 
 /// Settling ends, and leaves nothing placeable; whoever grants the placeable pair of least rank until there
@@ -110,10 +112,18 @@ pub fn loses_only_what_is_credited()
     ensures hearing { (c : ClusterRecord) (M : Master) (fresh taken : Bool) (from : Id) (l : Ledger) → IsOrderly M → (is_agent from ≡ false → T (is_sorted key_cmp l.entries)) → talks c M from ≡ true → LosesOnlyCredited fresh from M (ready c (told_of M fresh taken from (said c M from l))) }
 {}
 
+/// A job marks a machine where it has not ended, wants grants of one unit at least, and every unit of which it wants
+/// grants avoids the machine (`only`), and it marks each such machine (`each`).
+pub fn marks_where_all_avoid()
+    ensures only { (M : Master) (j : KnownJob) (m : ℕ) → marks M j m ≡ true → IsMark M j m }
+    ensures each { (M : Master) (j : KnownJob) (m : ℕ) → IsMark M j m → marks M j m ≡ true }
+{}
+
 /// Of any votes: no machine is judged twice, and each is there. Each has at least the least votes and is not shut. They
 /// stand by more votes and then by the smaller number. A machine that is not shut, has the votes and is not
 /// judged remains only where the judged and the shut together are at least the cap. A least number above
-/// every vote judges none.
+/// every vote judges none. And whoever puts the machines that may be judged into that order and cuts them at what
+/// the cap leaves has the judged ones.
 pub fn judges()
     ensures distinct { (v : VotesRecord) (least percent : ℕ) → AllPairs (λ m n. m ≢ n) (judged v least percent) }
     ensures there { (v : VotesRecord) (least percent : ℕ) → All (λ m. m < length v.votes) (judged v least percent) }
@@ -121,4 +131,5 @@ pub fn judges()
     ensures ordered { (v : VotesRecord) (least percent : ℕ) → AllPairs (GoesBefore v) (judged v least percent) }
     ensures complete { (v : VotesRecord) (least percent m : ℕ) → m < length v.votes → votes_of v m ≤ most_votes → is_shut v m ≡ false → least ≤ votes_of v m → has_number m (judged v least percent) ≡ false → cap v percent ≤ length (judged v least percent) + number_shut v }
     ensures none { (v : VotesRecord) (least percent : ℕ) → All (λ n. n < least) v.votes → judged v least percent ≡ [] }
+    ensures sorted { (v : VotesRecord) (least percent : ℕ) (ms : List ℕ) → All (λ n. n ≤ most_votes) v.votes → IsPermutation (filter (is_marked v least) (below (length v.votes))) ms → AreOrdered (IsNotBehind v) ms → judged v least percent ≡ take (cap v percent - number_shut v) ms }
 {}

@@ -14,12 +14,13 @@ use Rattle.written_net.specs.Ledgers.{Ledger}
 use Rattle.written_net.specs.Channels.{is_agent, is_app, is_master, master_id, agent_id, app_id, party}
 use Rattle.written_roles.specs.Masters.{Master}
 use Rattle.written_roles.specs.HardState.{HardState, raised, submitted, finished, banned, unbanned, with_job, Raise, is_not_rising, hard_tests, submit_tests, finish_tests, ban_tests, unban_tests}
-use Rattle.written_roles.specs.MasterSteps.{talks, ready, ended_in, banned_in, new_master, master_party, peers}
+use Rattle.written_roles.specs.MasterSteps.{BansMachine, talks, ready, ended_in, banned_in, new_master, master_party, peers}
 use Rattle.written_roles.specs.Preemption.{Plan, plan_of, preempted}
 use Rattle.written_roles.specs.Refusals.{Refusal, TooManyMasters, NoGroup, first_refusal, job_tests, with_found, NotRising, NoMachine, NoJob, Ended}
+use Rattle.written_roles.specs.Votes.{VotesRecord, judged, votes_in}
 use Rattle.written_world.specs.World.{World, Agent, App, Step, prints_nothing, refused}
 use Rattle.written_world.specs.Parties.{end_step, told, received, adopted_now, master_hears, agent_hears, app_hears}
-use Rattle.written_world.specs.Events.{Event, StartMaster, StopMaster, StartAgent, StartApp, Submit, Finish, Ban, Unban, Begin, Preempt, Want, Near, Rack, Avoid, GiveBack, TurnMaster, TurnAgent, TurnApp, ResyncMaster, ResyncAgent, ResyncApp, Deliver, DeliverRange, Dump, ShowState, at_master, at_agent, at_app, demanded, turned, turn_to_master, addressed, packet_of, deliver_one, deliver_all, given_back, agent_started, app_started, act, counted_in, world_step, asks, usable_now, resynced}
+use Rattle.written_world.specs.Events.{Event, StartMaster, StopMaster, StartAgent, StartApp, Submit, Finish, Ban, Unban, Begin, Preempt, Judge, Want, Near, Rack, Avoid, GiveBack, TurnMaster, TurnAgent, TurnApp, ResyncMaster, ResyncAgent, ResyncApp, Deliver, DeliverRange, Dump, ShowState, at_master, at_agent, at_app, demanded, turned, turn_to_master, addressed, packet_of, deliver_one, deliver_all, commanded, ban_each, given_back, agent_started, app_started, act, counted_in, world_step, asks, usable_now, resynced}
 use Rattle.written_world.specs.Runs.{run_from}
 use Rattle.fuxi_terms.proofs.Booleans.{either}
 use Rattle.written_world.proofs.CommandLemmas.{hard_has, submits_has, finishes_has, bans_has, unbans_has, begins_has, serving_makes_room_has}
@@ -151,33 +152,39 @@ module _ (P : Event → World → Type 0) (Allowed : Event → Type 0) (w : Worl
   asks_steps : (a : ℕ) (x : AppCommand) → StepHolds (P (asking a x)) (asks w a x)
   asks_steps a x = app_runs (asking a x) a _ (λ g f. checked (asking a x) _ _ (λ t. record { it = k.asks a g x f t }))
 
-  -- every event, with what it is of a range of deliveries
-  pub act_steps : ((n k l : ℕ) → P (DeliverRange k l) (deliver_all n k w).world) → (v : Event) → Allowed v → StepHolds (P v) (act w v)
-  act_steps r (StartMaster e) t = checked (StartMaster e) _ _ (λ n. hard_has (StepHolds (P (StartMaster e))) w (λ r. record { it = k.same (StartMaster e) }) w.hard e Raise _ (λ s. record { it = k.starts e n s }))
-  act_steps r (StopMaster e) t = master_runs (StopMaster e) e _ (λ M f. record { it = k.stops e })
-  act_steps r (StartAgent m n) t = checked (StartAgent m n) _ (prints_nothing (agent_started w m n)) (λ s. record { it = k.starts_agent m n s })
-  act_steps r (StartApp a n) t = checked (StartApp a n) _ (prints_nothing (app_started w a n)) (λ s. record { it = k.starts_app a n s })
-  act_steps r (Submit e j) t = master_runs (Submit e j) e _ (λ M f. submits_has (StepHolds (P (Submit e j))) w (λ r. record { it = k.same (Submit e j) }) M _ j (λ own s. record { it = k.submits e M j f t own s }))
-  act_steps r (Finish e a) t = master_runs (Finish e a) e _ (λ M f. finishes_has (StepHolds (P (Finish e a))) w (λ r. record { it = k.same (Finish e a) }) M _ a (λ s. record { it = k.finishes e M a f s }))
-  act_steps r (Ban e m) t = master_runs (Ban e m) e _ (λ M f. bans_has (StepHolds (P (Ban e m))) w (λ r. record { it = k.same (Ban e m) }) M _ m (λ s. record { it = k.bans e M m f s }))
-  act_steps r (Unban e m) t = master_runs (Unban e m) e _ (λ M f. unbans_has (StepHolds (P (Unban e m))) w (λ r. record { it = k.same (Unban e m) }) M _ m (λ s. record { it = k.unbans e M m f s }))
-  act_steps r (Begin e) t = master_runs (Begin e) e _ (λ M f. begins_has (StepHolds (P (Begin e))) w (λ r. record { it = k.same (Begin e) }) M _ (record { it = k.begins e M f }))
-  act_steps r (Preempt e) t = master_runs (Preempt e) e _ (λ M f. serving_makes_room_has (StepHolds (P (Preempt e))) w (λ r. record { it = k.same (Preempt e) }) M _ (λ p serves s. record { it = k.preempts e M p f serves s }))
-  act_steps r (Want a u n) t = asks_steps a (Wants u n)
-  act_steps r (Near a u m n) t = asks_steps a (WantsNear u m n)
-  act_steps r (Rack a u k n) t = asks_steps a (WantsInRack u k n)
-  act_steps r (Avoid a u m on) t = asks_steps a (Avoids u m on)
-  act_steps r (GiveBack a u m n) t = asks_steps a (GivesBack u m n)
-  act_steps r (TurnMaster e) t = master_runs (TurnMaster e) e _ (λ M f. record { it = k.master_turns e M f })
-  act_steps r (TurnAgent m) t = agent_runs (TurnAgent m) m _ (λ g f. to_master_steps (TurnAgent m) (party (agent_id m) g.boot) (k.agent_turns m g f))
-  act_steps r (TurnApp a) t = app_runs (TurnApp a) a _ (λ g f. to_master_steps (TurnApp a) (party (app_id a) g.boot) (k.app_turns a g f))
-  act_steps r (ResyncMaster e) t = master_runs (ResyncMaster e) e _ (λ M f. record { it = k.master_resyncs e M f })
-  act_steps r (ResyncAgent m) t = agent_runs (ResyncAgent m) m _ (λ g f. record { it = k.agent_resyncs m g f })
-  act_steps r (ResyncApp a) t = app_runs (ResyncApp a) a _ (λ g f. record { it = k.app_resyncs a g f })
-  act_steps r (Deliver n) t = checked (Deliver n) _ _ (λ _. deliver_steps n)
-  act_steps r (DeliverRange n l) t = checked (DeliverRange n l) _ _ (λ _. record { it = r (l + 1 - n) n l })
-  act_steps r (Dump n) t = checked (Dump n) _ _ (λ _. found_has (StepHolds (P (Dump n))) (packet_of w n) _ _ (record { it = k.same (Dump n) }) (λ x _. record { it = k.same (Dump n) }))
-  act_steps r ShowState t = record { it = k.same ShowState }
+  -- a ban
+  pub ban_steps : (e m : ℕ) → StepHolds (P (Ban e m)) (commanded w e (BansMachine m))
+  ban_steps e m = master_runs (Ban e m) e _ (λ M f. bans_has (StepHolds (P (Ban e m))) w (λ r. record { it = k.same (Ban e m) }) M _ m (λ s. record { it = k.bans e M m f s }))
+
+  -- every event, with what it is of a range of deliveries and of a judgement
+  pub act_steps : ((n k l : ℕ) → P (DeliverRange k l) (deliver_all n k w).world) → ((e least percent : ℕ) (votes : VotesRecord) (ms : List ℕ) → P (Judge e least percent) (ban_each e votes ms w).world)
+      → (v : Event) → Allowed v → StepHolds (P v) (act w v)
+  act_steps r b (StartMaster e) t = checked (StartMaster e) _ _ (λ n. hard_has (StepHolds (P (StartMaster e))) w (λ r. record { it = k.same (StartMaster e) }) w.hard e Raise _ (λ s. record { it = k.starts e n s }))
+  act_steps r b (StopMaster e) t = master_runs (StopMaster e) e _ (λ M f. record { it = k.stops e })
+  act_steps r b (StartAgent m n) t = checked (StartAgent m n) _ (prints_nothing (agent_started w m n)) (λ s. record { it = k.starts_agent m n s })
+  act_steps r b (StartApp a n) t = checked (StartApp a n) _ (prints_nothing (app_started w a n)) (λ s. record { it = k.starts_app a n s })
+  act_steps r b (Submit e j) t = master_runs (Submit e j) e _ (λ M f. submits_has (StepHolds (P (Submit e j))) w (λ r. record { it = k.same (Submit e j) }) M _ j (λ own s. record { it = k.submits e M j f t own s }))
+  act_steps r b (Finish e a) t = master_runs (Finish e a) e _ (λ M f. finishes_has (StepHolds (P (Finish e a))) w (λ r. record { it = k.same (Finish e a) }) M _ a (λ s. record { it = k.finishes e M a f s }))
+  act_steps r b (Ban e m) t = ban_steps e m
+  act_steps r b (Unban e m) t = master_runs (Unban e m) e _ (λ M f. unbans_has (StepHolds (P (Unban e m))) w (λ r. record { it = k.same (Unban e m) }) M _ m (λ s. record { it = k.unbans e M m f s }))
+  act_steps r b (Begin e) t = master_runs (Begin e) e _ (λ M f. begins_has (StepHolds (P (Begin e))) w (λ r. record { it = k.same (Begin e) }) M _ (record { it = k.begins e M f }))
+  act_steps r b (Preempt e) t = master_runs (Preempt e) e _ (λ M f. serving_makes_room_has (StepHolds (P (Preempt e))) w (λ r. record { it = k.same (Preempt e) }) M _ (λ p serves s. record { it = k.preempts e M p f serves s }))
+  act_steps r b (Judge e least percent) t = master_runs (Judge e least percent) e _ (λ M f. checked (Judge e least percent) _ _ (λ _. record { it = b e least percent (votes_in w.cluster M) (judged (votes_in w.cluster M) least percent) }))
+  act_steps r b (Want a u n) t = asks_steps a (Wants u n)
+  act_steps r b (Near a u m n) t = asks_steps a (WantsNear u m n)
+  act_steps r b (Rack a u k n) t = asks_steps a (WantsInRack u k n)
+  act_steps r b (Avoid a u m on) t = asks_steps a (Avoids u m on)
+  act_steps r b (GiveBack a u m n) t = asks_steps a (GivesBack u m n)
+  act_steps r b (TurnMaster e) t = master_runs (TurnMaster e) e _ (λ M f. record { it = k.master_turns e M f })
+  act_steps r b (TurnAgent m) t = agent_runs (TurnAgent m) m _ (λ g f. to_master_steps (TurnAgent m) (party (agent_id m) g.boot) (k.agent_turns m g f))
+  act_steps r b (TurnApp a) t = app_runs (TurnApp a) a _ (λ g f. to_master_steps (TurnApp a) (party (app_id a) g.boot) (k.app_turns a g f))
+  act_steps r b (ResyncMaster e) t = master_runs (ResyncMaster e) e _ (λ M f. record { it = k.master_resyncs e M f })
+  act_steps r b (ResyncAgent m) t = agent_runs (ResyncAgent m) m _ (λ g f. record { it = k.agent_resyncs m g f })
+  act_steps r b (ResyncApp a) t = app_runs (ResyncApp a) a _ (λ g f. record { it = k.app_resyncs a g f })
+  act_steps r b (Deliver n) t = checked (Deliver n) _ _ (λ _. deliver_steps n)
+  act_steps r b (DeliverRange n l) t = checked (DeliverRange n l) _ _ (λ _. record { it = r (l + 1 - n) n l })
+  act_steps r b (Dump n) t = checked (Dump n) _ _ (λ _. found_has (StepHolds (P (Dump n))) (packet_of w n) _ _ (record { it = k.same (Dump n) }) (λ x _. record { it = k.same (Dump n) }))
+  act_steps r b ShowState t = record { it = k.same ShowState }
 
 module _ (P : World → Type 0) (Allowed : Event → Type 0) (kept : (w : World) → P w → WorldKept P Allowed w) where
   abbrev of_any : Event → World → Type 0
@@ -212,9 +219,13 @@ module _ (P : World → Type 0) (Allowed : Event → Type 0) (kept : (w : World)
   deliver_all_kept zero k w b = record { it = b }
   deliver_all_kept (suc n) k w b = record { it = (deliver_all_kept n (k + 1) (deliver_one k w).world (deliver_steps of_any Allowed w (steps_of w b) k).it).it }
 
+  ban_each_kept : (e : ℕ) (votes : VotesRecord) (ms : List ℕ) (w : World) → P w → StepHolds P (ban_each e votes ms w)
+  ban_each_kept e votes [] w b = record { it = b }
+  ban_each_kept e votes (m ∷ ms) w b = record { it = (ban_each_kept e votes ms (commanded w e (BansMachine m)).world (ban_steps of_any Allowed w (steps_of w b) e m).it).it }
+
   -- every event keeps P
-  pub act_keeps_world : (w : World) (e : Event) → Allowed e → P w → StepHolds P (act w e)
-  act_keeps_world w e t b = record { it = (act_steps of_any Allowed w (steps_of w b) (λ n k l. (deliver_all_kept n k w b).it) e t).it }
+  pub act_keeps_world : (w : World) (v : Event) → Allowed v → P w → StepHolds P (act w v)
+  act_keeps_world w v t b = record { it = (act_steps of_any Allowed w (steps_of w b) (λ n k l. (deliver_all_kept n k w b).it) (λ e least percent votes ms. (ban_each_kept e votes ms w b).it) v t).it }
 
   -- and every run
   pub run_keeps_world : (es : List Event) (w : World) → AllByRecursion Allowed es → P w → Holds P (run_from es w).world

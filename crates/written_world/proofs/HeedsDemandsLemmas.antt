@@ -1,9 +1,9 @@
 -- Demands are heeded.
-use Rattle.std.proofs.Common.{◌≡◌, ◌⊎◌, inl, inr, ℕ, zero, suc, ◌+◌, ◌<◌, ◌≤◌, Bool, true, false, cond, not, nat_eq, nat_lt, List, [], ◌∷◌, ◌++◌, length, map, Option, Some, None, slice_get, refl, sym, ◌∙◌, ap, subst, arith}
+use Rattle.std.proofs.Common.{◌≡◌, ◌⊎◌, inl, inr, ℕ, Bool, true, false, cond, not, nat_eq, nat_lt, List, [], ◌∷◌, ◌++◌, length, map, Option, Some, None, refl, sym, ◌∙◌, ap, subst, arith}
 use Rattle.std.specs.Prelude.{⊤, ◌&&◌, is_some}
 use Rattle.std.specs.Option.{unwrap_or, option_map}
 use Rattle.std.specs.Ordering.{nat_cmp}
-use Rattle.std.specs.FinMap.Entries.{find, put, where_key, find-where_key}
+use Rattle.std.specs.FinMap.Entries.{find, put, find-where_key}
 use Rattle.std.proofs.lemmas.Bool.Decides.{nat_tests}
 use Rattle.fuxi_terms.specs.declared.Key.{Key}
 use Rattle.fuxi_terms.specs.declared.answers.What.{What}
@@ -11,15 +11,14 @@ use Rattle.fuxi_terms.specs.declared.answers.What.TheVariants.{Stranger, Stale, 
 use Rattle.fuxi_terms.specs.Cluster.{ClusterRecord, JobRecord}
 use Rattle.fuxi_terms.specs.Jobs.{KnownJob, job_of, is_known, is_live, unit_count, eight_places, job_numbers}
 use Rattle.fuxi_terms.specs.Keys.{key_cmp}
-use Rattle.fuxi_terms.specs.Limits.{most_masters}
 use Rattle.fuxi_terms.specs.Numbers.{without_number}
-use Rattle.fuxi_terms.proofs.Booleans.{both_true, either, number_is}
+use Rattle.fuxi_terms.proofs.Booleans.{either, number_is}
 use Rattle.fuxi_terms.proofs.KeyOrders.{same_key}
-use Rattle.written_net.specs.Net.{Net, Party, Id, Link, Packet, Heard, met, word_of, link_after, unmoved, hear, hear_peer, heard_of, is_taken, comes, move, Starts, Turns, same_id, same_party, last, at_index, set_at}
+use Rattle.written_net.specs.Net.{Net, Party, Id, Link, Packet, Heard, met, word_of, link_after, unmoved, hear, hear_peer, heard_of, is_taken, comes, move, Starts, same_id, same_party, last, at_index, set_at}
 use Rattle.written_net.specs.Ledgers.{Ledger, nothing, at_key}
 use Rattle.written_net.specs.Channels.{master_id, agent_id, app_id, party, is_master, is_agent, view, present, Offer, publish, to_master, send_all, resync_all, content, shape}
-use Rattle.written_net.specs.Sound.{Sound, PacketNames, NamesAt}
-use Rattle.written_net.proofs.BoundedLemmas.{met_known, found_within}
+use Rattle.written_net.specs.Sound.{Sound, PacketNames}
+use Rattle.written_net.proofs.BoundedLemmas.{found_within}
 use Rattle.written_net.proofs.NetLemmas.{id_is, party_is}
 use Rattle.written_net.proofs.SoundLemmas.{Grows, taken_names}
 use Rattle.written_net.proofs.PublishLemmas.{same_id_itself, set_here, set_beside, Leaves, leaves_nothing, leaves_then, start_leaves, comes_leaves, publish_links, publish_leaves, publish_grows, grows_itself, grows_then, view_grows, Acted, resync_all_acted}
@@ -29,23 +28,21 @@ use Rattle.written_roles.specs.HardState.{HardState, raised, submitted, finished
 use Rattle.written_roles.specs.Masters.{Master, asked, demand_of, credited_of}
 use Rattle.written_roles.specs.MasterSteps.{master_party, talks, peers, ready, is_there, counted, credit, raise_credited, take_report, take_demand, meet_app, ended_in, banned_in, new_master}
 use Rattle.written_roles.specs.Preemption.{preempted}
-use Rattle.written_roles.specs.Refusals.{NotRising, TooManyMasters}
-use Rattle.written_roles.proofs.GrowsAllowed.{added_job, ended_job}
+use Rattle.written_roles.proofs.GrowsAllowed.{ended_job}
 use Rattle.written_roles.proofs.MapLemmas.{found_put, put_beside}
 use Rattle.written_roles.proofs.TransitionsLemmas.{EachHeard, heard_has, ready_besides}
-use Rattle.written_world.specs.World.{World, App, empty_world}
+use Rattle.written_world.specs.World.{World, empty_world}
 use Rattle.written_world.specs.Parties.{end_step, offers, told, received, adopted_now, joined, agent_table}
 use Rattle.written_world.specs.Events.{Event, packet_of, given_back}
 use Rattle.written_world.specs.Good.{Invariant, IsShowing}
-use Rattle.written_world.specs.HeedsDemands.{HeedsDemands, AllHeed}
+use Rattle.written_world.specs.HeedsDemands.{AllHeed}
 use Rattle.written_world.specs.Runs.{run}
-use Rattle.written_world.proofs.CreditsLemmas.{stayed, taken_places}
+use Rattle.written_world.proofs.CreditsLemmas.{taken_places}
 use Rattle.written_world.proofs.EventsWalk.{WorldKept, run_keeps_world, unasked}
-use Rattle.written_world.proofs.GivesBackLemmas.{taken_known, reset_histories}
+use Rattle.written_world.proofs.GivesBackLemmas.{taken_known}
 use Rattle.written_world.proofs.Invariant.{put_found, ready_epoch}
 use Rattle.written_world.proofs.InvariantKept.{SameMaster, always, events_hold, told_same}
 use Rattle.written_world.proofs.KeepsGrantsLemmas.{sent_links, sent_histories, IsUntaken, untaken}
-use Rattle.written_world.proofs.PartiesKept.{knows_sender}
 use Rattle.written_world.proofs.SettledKept.{talks_app}
 use Rattle.written_world.proofs.StartsLemmas.{kept_found, left_out, new_link}
 use Rattle.written_world.proofs.StepsLemmas.{master_is}

@@ -279,7 +279,7 @@ module _ (w : World) (h : Invariant w) (m : ℕ) (g : Agent) (found : find nat_c
           by false t = inl (heard_table w.net (party (agent_id m) g.boot) x h.sound t)
 
   pub stays_so : (v : Event) → is_single v ≡ true → find nat_cmp m (act w v).world.agents ≡ Some g → Same (act w v).world.net ⊎ IsTakenBy v
-  stays_so v one f = (act_steps Stays (λ _. ⊤) w steps (λ n k l. record { it = λ never. cc }) v tt).it.it one f
+  stays_so v one f = (act_steps Stays (λ _. ⊤) w steps (λ n k l. record { it = λ never. cc }) (λ e least percent votes ms. record { it = λ never. cc }) v tt).it.it one f
 
 pub all_stay : (c : ClusterRecord) (events : List Event) → AllStay (run c events)
 all_stay c events = let w = run c events in record { stays = λ v m g one before behind. stays_so (counted_in w) (counted_holds w (always c events)) m g before v one behind }

@@ -35,3 +35,4 @@ pub mod AdoptsLemmas
 pub mod GivesBackLemmas
 pub mod HeedsDemandsLemmas
 pub mod TurnsLemmas
+pub mod JudgingLemmas

@@ -110,7 +110,7 @@ no_agents m [] = refl
 no_agents m (n ∷ ns) = no_agents m ns
 
 -- a number that was added
-with_is : (n m : ℕ) (ms : List ℕ) → has_number n (with_number m ms) ≡ (nat_eq n m || has_number n ms)
+pub with_is : (n m : ℕ) (ms : List ℕ) → has_number n (with_number m ms) ≡ (nat_eq n m || has_number n ms)
 with_is n m ms = same_tests _ _
     (λ h. elim (nat_eq n m) as (λ b. nat_eq n m ≡ b → (b || has_number n ms) ≡ true) [ true ↦ λ _. refl | false ↦ λ e. with_back n m ms h e ] refl)
     (λ h. number_with n m ms h)

@@ -9,17 +9,18 @@ use Rattle.fuxi_terms.specs.Numbers.{has_number, without_number}
 use Rattle.written_net.specs.Net.{Packet, heard_of, is_taken}
 use Rattle.written_roles.specs.HardState.{raised, with_job}
 use Rattle.written_roles.specs.Masters.{Master}
-use Rattle.written_roles.specs.MasterSteps.{master_party, talks, ready, ended_in, banned_in, new_master}
+use Rattle.written_roles.specs.MasterSteps.{BansMachine, master_party, talks, ready, ended_in, banned_in, new_master}
 use Rattle.written_roles.specs.Preemption.{preempted}
 use Rattle.written_roles.specs.Transitions.{HasAllReports}
+use Rattle.written_roles.specs.Votes.{VotesRecord}
 use Rattle.written_roles.proofs.ServesWhenTold.{ready_serves, hearing_serves, hearing_reports}
 use Rattle.written_roles.proofs.TransitionsLemmas.{ready_besides}
 use Rattle.written_world.specs.World.{World, empty_world}
 use Rattle.written_world.specs.Parties.{told, received}
-use Rattle.written_world.specs.Events.{Event, StartMaster, StopMaster, Submit, Finish, Ban, Unban, Begin, Preempt, Deliver, DeliverRange, counted_in, world_step, act, deliver_one, deliver_all}
+use Rattle.written_world.specs.Events.{Event, StartMaster, StopMaster, Submit, Finish, Ban, Unban, Begin, Preempt, Judge, Deliver, DeliverRange, counted_in, world_step, act, commanded, ban_each, deliver_one, deliver_all}
 use Rattle.written_world.specs.Runs.{run}
 use Rattle.written_world.specs.Steps.{WasBegun, AllServe}
-use Rattle.written_world.proofs.EventsWalk.{EventSteps, StepHolds, act_steps, deliver_steps, with_ready}
+use Rattle.written_world.proofs.EventsWalk.{EventSteps, StepHolds, act_steps, ban_steps, deliver_steps, with_ready}
 use Rattle.written_world.proofs.Invariant.{put_found, ready_epoch}
 use Rattle.written_world.proofs.InvariantKept.{told_same}
 use Rattle.written_world.proofs.StartsLemmas.{kept_found, left_out, run_append}
@@ -131,31 +132,36 @@ module _ (G : ℕ → Type 0) (w : World) (b : AllTold G w.cluster w.masters) wh
           by true t s = still (b.told x.to.inc M f t)
           by false t s = inl (hearing_serves w.cluster M fresh taken x.from.id (received w.cluster M w.net x) t s)
 
--- A delivery begins nothing
-not_began : (G : ℕ → Type 0) (w : World) (k : ℕ) (c : ClusterRecord) (masters : List (ℕ × Master)) → AllTold (OrBegan G w (Deliver k)) c masters → AllTold G c masters
-not_began G w k c masters h = record { epochs = h.epochs; told = λ e M f s. by e M (h.told e M f s) }
+-- A delivery and a ban begin nothing
+not_began : (G : ℕ → Type 0) (w : World) (v : Event) (c : ClusterRecord) (masters : List (ℕ × Master)) → ((e : ℕ) → v ≡ Begin e → ⊥) → AllTold (OrBegan G w v) c masters → AllTold G c masters
+not_began G w v c masters never h = record { epochs = h.epochs; told = λ e M f s. by e M (h.told e M f s) }
   where
-    by : (e : ℕ) (M : Master) → HasAllReports c M ⊎ OrBegan G w (Deliver k) e → HasAllReports c M ⊎ G e
+    by : (e : ℕ) (M : Master) → HasAllReports c M ⊎ OrBegan G w v e → HasAllReports c M ⊎ G e
     by e M (inl r) = inl r
     by e M (inr (inl g)) = inr g
-    by e M (inr (inr o)) = let never = o.0 in cc
+    by e M (inr (inr o)) = absurd (never e o.0)
 
 record WorldTold (G : ℕ → Type 0) (w : World) : Type 0 where
   it : AllTold G w.cluster w.masters
 
 delivered : (G : ℕ → Type 0) (n k : ℕ) (w : World) → WorldTold G w → WorldTold G (deliver_all n k w).world
 delivered G zero k w b = b
-delivered G (suc n) k w b = delivered G n (k + 1) (deliver_one k w).world (record { it = not_began G w k _ _ (deliver_steps (ToldBy G w b.it) (λ _. ⊤) w (steps G w b.it) k).it })
+delivered G (suc n) k w b = delivered G n (k + 1) (deliver_one k w).world (record { it = not_began G w (Deliver k) _ _ (λ e same. cc) (deliver_steps (ToldBy G w b.it) (λ _. ⊤) w (steps G w b.it) k).it })
 
-in_range : (G : ℕ → Type 0) (w : World) (v : Event) (c : ClusterRecord) (masters : List (ℕ × Master)) → AllTold G c masters → AllTold (OrBegan G w v) c masters
-in_range G w v c masters h = record { epochs = h.epochs; told = λ e M f s. by e M (h.told e M f s) }
+banned_each : (G : ℕ → Type 0) (e : ℕ) (votes : VotesRecord) (ms : List ℕ) (w : World) → WorldTold G w → WorldTold G (ban_each e votes ms w).world
+banned_each G e votes [] w b = b
+banned_each G e votes (m ∷ ms) w b = banned_each G e votes ms (commanded w e (BansMachine m)).world (record { it = not_began G w (Ban e m) _ _ (λ k same. cc) (ban_steps (ToldBy G w b.it) (λ _. ⊤) w (steps G w b.it) e m).it })
+
+with_more : (G : ℕ → Type 0) (w : World) (v : Event) (c : ClusterRecord) (masters : List (ℕ × Master)) → AllTold G c masters → AllTold (OrBegan G w v) c masters
+with_more G w v c masters h = record { epochs = h.epochs; told = λ e M f s. by e M (h.told e M f s) }
   where
     by : (e : ℕ) (M : Master) → HasAllReports c M ⊎ G e → HasAllReports c M ⊎ OrBegan G w v e
     by e M (inl r) = inl r
     by e M (inr g) = inr (inl g)
 
 one_event : (G : ℕ → Type 0) (w : World) (v : Event) (b : AllTold G w.cluster w.masters) → StepHolds (ToldBy G w b v) (act w v)
-one_event G w v b = act_steps (ToldBy G w b) (λ _. ⊤) w (steps G w b) (λ n k l. in_range G w (DeliverRange k l) _ _ (delivered G n k w (record { it = b })).it) v tt
+one_event G w v b = act_steps (ToldBy G w b) (λ _. ⊤) w (steps G w b) (λ n k l. with_more G w (DeliverRange k l) _ _ (delivered G n k w (record { it = b })).it)
+    (λ e least percent votes ms. with_more G w (Judge e least percent) _ _ (banned_each G e votes ms w (record { it = b })).it) v tt
 
 -- One more event
 got_front : {A : Type 0} (xs ys : List A) (i : ℕ) (x : A) → slice_get xs i ≡ Some x → slice_get (xs ++ ys) i ≡ Some x

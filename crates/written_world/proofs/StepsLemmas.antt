@@ -127,7 +127,7 @@ module _ (w : World) (h : Invariant w) (Q : Event → ℕ → Master → Master 
   }
 
   pub single_steps : (v : Event) → StepHolds (ThroughWorld v) (act w v)
-  single_steps v = act_steps ThroughWorld (λ _. ⊤) w steps (λ n k l. record { it = λ never. cc }) v tt
+  single_steps v = act_steps ThroughWorld (λ _. ⊤) w steps (λ n k l. record { it = λ never. cc }) (λ e least percent votes ms. record { it = λ never. cc }) v tt
 
   pub master_through : (v : Event) (e : ℕ) (M N : Master) → is_single v ≡ true → find nat_cmp e w.masters ≡ Some M → find nat_cmp e (act w v).world.masters ≡ Some N → Q v e M N
   master_through v e M N one f g = (single_steps v).it.it one e M N f g

@@ -1,23 +1,19 @@
 -- What a turn sends.
-use Rattle.std.proofs.Common.{◌≡◌, ℕ, zero, suc, ◌+◌, ◌-◌, ◌<◌, ◌≤◌, Bool, true, false, cond, nat_eq, nat_lt, List, [], ◌∷◌, ◌++◌, length, map, Some, None, slice_get, refl, sym, ◌∙◌, ap, arith, min}
-use Rattle.std.specs.Prelude.{◌&&◌, ◌||◌}
+use Rattle.std.proofs.Common.{◌≡◌, ℕ, zero, suc, ◌+◌, ◌-◌, false, cond, nat_eq, nat_lt, List, [], ◌∷◌, ◌++◌, length, map, Some, slice_get, refl, sym, ◌∙◌, ap, arith, min}
+use Rattle.std.specs.Prelude.{◌||◌}
 use Rattle.std.specs.List.{flat_map}
-use Rattle.std.specs.Ordering.{nat_cmp}
-use Rattle.std.specs.FinMap.Entries.{find}
 use Rattle.std.proofs.lemmas.Bool.Decides.{nat_tests}
-use Rattle.fuxi_terms.specs.Cluster.{ClusterRecord, has_machine}
-use Rattle.fuxi_terms.specs.Jobs.{is_known}
+use Rattle.fuxi_terms.specs.Cluster.{ClusterRecord}
 use Rattle.fuxi_terms.specs.Limits.{kept_changes, turn_deltas}
 use Rattle.fuxi_terms.specs.Lists.{numbers_from}
-use Rattle.written_net.specs.Net.{Net, Party, Id, Link, Packet, Ack, Delta, Full, last, move, Turns, turn, notes}
+use Rattle.written_net.specs.Net.{Net, Party, Id, Link, Packet, Ack, Delta, Full, last, move, Turns, turn}
 use Rattle.written_net.specs.Ledgers.{Ledger}
 use Rattle.written_net.specs.Channels.{app_id, party, send_all}
-use Rattle.written_roles.specs.Masters.{Master}
 use Rattle.written_roles.specs.MasterSteps.{master_party, peers}
 use Rattle.written_roles.specs.Refusals.{NotRunning, with_found}
 use Rattle.written_roles.proofs.StepEnds.{peers_talk}
-use Rattle.written_world.specs.World.{World, refused}
-use Rattle.written_world.specs.Events.{Event, TurnMaster, counted_in, world_step, turned}
+use Rattle.written_world.specs.World.{refused}
+use Rattle.written_world.specs.Events.{Event, counted_in, turned}
 use Rattle.written_world.specs.Runs.{run}
 use Rattle.written_world.specs.Turns.{HasChanges, GoesAsChanges, AllTurn}
 

@@ -1,8 +1,9 @@
-use Rattle.std.proofs.Common.{◌≡◌, ◌≢◌, ◌<◌, ◌≤◌, false, length, suc, ◌-◌}
+use Rattle.std.proofs.Common.{◌≡◌, ◌≢◌, ◌<◌, ◌≤◌, false, length, suc, ◌-◌, sym, ap, take}
 use Rattle.std.proofs.lemmas.List.Elements.{All-from_recursion}
 use Rattle.fuxi_terms.proofs.Alls.{all_more}
-use Rattle.written_roles.specs.Votes.{GoesBefore, is_shut, judged, most_votes, votes_of}
+use Rattle.written_roles.specs.Votes.{GoesBefore, cap, is_shut, judged, most_votes, number_shut, votes_of}
 use Rattle.written_roles.proofs.ServedInOrderLemmas.{ordered_more}
+use Rattle.written_roles.proofs.VotesInOrder.{marked_sorted}
 use Rattle.written_roles.proofs.VotesLemmas.{HasBetween, apart, judged_all, judged_between, judged_none, judged_order, pairs_ordered}
 use Rattle.written_roles.proofs.judges.Goals as goal
 
@@ -28,3 +29,6 @@ returns-clause-complete c = judged_all
 
 pub returns-clause-none : goal.returns-clause-none
 returns-clause-none c = judged_none
+
+pub returns-clause-sorted : goal.returns-clause-sorted
+returns-clause-sorted c = λ v least percent ms within moved order. ap (take (cap v percent - number_shut v)) (sym (marked_sorted v least ms within moved order))
