@@ -1,10 +1,11 @@
 -- The votes of a master's jobs, one job after the other.
-use Rattle.std.proofs.Common.{◌≡◌, ℕ, zero, suc, ◌+◌, ◌<◌, ◌≤◌, Bool, true, false, cond, not, nat_eq, nat_lt, List, [], ◌∷◌, length, get_or, map, filter, set, take, replicate, Option, Some, None, slice_get, refl, sym, ◌∙◌, ap, subst, arith}
+use Rattle.std.proofs.Common.{◌≡◌, ℕ, zero, suc, ◌+◌, ◌<◌, ◌≤◌, Bool, true, false, cond, not, nat_eq, nat_lt, List, [], ◌∷◌, ◌++◌, length, get_or, map, filter, set, take, replicate, Option, Some, None, slice_get, refl, sym, ◌∙◌, ap, subst, arith, add-one}
 use Rattle.std.specs.Prelude.{◌&&◌, ◌||◌, count_by}
 use Rattle.std.specs.List.{AllByRecursion, list_all, list_any}
 use Rattle.std.specs.Option.{option_map, unwrap_or}
 use Rattle.std.proofs.lemmas.Bool.Decides.{nat_tests}
-use Rattle.std.proofs.lemmas.List.{get_or-replicate, get_or-set_other, get_or-set_same, length-map, length-replicate, length-set, length-take-le, take_all}
+use Rattle.std.proofs.lemmas.List.{append-nil, get_or-replicate, get_or-set_other, get_or-set_same, length-map, length-replicate, length-set, length-take-le, map_push, take_all}
+use Rattle.std.proofs.lemmas.List.Elements.{filter-append}
 use Rattle.std.proofs.lemmas.List.Folds.{list_all-map}
 use Rattle.std.proofs.lemmas.List.Sums.{count_by-le-length, sum_by_push}
 use Rattle.fuxi_terms.specs.Cluster.{ClusterRecord, JobRecord}
@@ -98,6 +99,16 @@ all_three false c d e p q r = cc
 each_below : (n : ℕ) → AllByRecursion (λ u. u < n) (below n)
 each_below zero = tt
 each_below (suc n) = all_push (λ u. u < suc n) (below n) n (all_more (λ u. u < n) (λ u. u < suc n) (λ u h. omega (arith, h)) (below n) (each_below n)) (omega arith)
+
+-- one unit more was looked at: it passes, or it does not
+next_found : (p : ℕ → Bool) (n : ℕ) (b : Bool) → p n ≡ b → filter p (below (n + 1)) ≡ filter p (below n) ++ cond b (n ∷ []) []
+next_found p n b e = ap (λ k. filter p (below k)) (add-one n) ∙ filter-append p (below n) (n ∷ []) ∙ ap (λ t. filter p (below n) ++ cond t (n ∷ []) []) e
+
+pub unit_passes : (p : ℕ → Bool) (n : ℕ) (units new : List UnitNo) → p n ≡ true → new ≡ units ++ record { 0 = n } ∷ [] → map number_of units ≡ filter p (below n) → map number_of new ≡ filter p (below (n + 1))
+unit_passes p n units new e grown is = ap (map number_of) grown ∙ map_push number_of units (record { 0 = n }) ∙ ap (λ ns. ns ++ n ∷ []) is ∙ sym (next_found p n true e)
+
+pub unit_fails : (p : ℕ → Bool) (n : ℕ) (units : List UnitNo) → p n ≡ false → map number_of units ≡ filter p (below n) → map number_of units ≡ filter p (below (n + 1))
+unit_fails p n units e is = is ∙ sym (append-nil (filter p (below n))) ∙ sym (next_found p n false e)
 
 -- each unit that was found is there
 pub found_there : (p : ℕ → Bool) (n k : ℕ) (units : List UnitNo) → map number_of units ≡ filter p (below n) → n ≡ k → AllByRecursion (λ (u : UnitNo). u.0 < k) units

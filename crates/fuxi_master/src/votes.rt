@@ -61,11 +61,12 @@ impl Core {
         if self.known.ended(app) {
             return Ok(());
         }
-        let units = self.wanted_units(alloc, app, job.units())?;
-        if units.is_empty() {
+        let units = job.units();
+        let wanted = self.wanted_units(alloc, app, units)?;
+        if wanted.is_empty() {
             return Ok(());
         }
-        self.mark(votes, app, &units);
+        self.mark(votes, app, &wanted);
         Ok(())
     }
 
@@ -83,9 +84,10 @@ impl Core {
         let mut found = Vec::new(alloc);
         for number in 0..units {
             let unit = UnitNo(number);
-            if self.wanted(app, unit) > 0 {
-                found.push(unit)?;
+            if self.wanted(app, unit) == 0 {
+                continue;
             }
+            found.push(unit)?;
         }
         Ok(found)
     }

@@ -1,4 +1,4 @@
-use Rattle.std.proofs.Common.{◌≡◌, ◌<◌, length, sym, ◌∙◌, ap, subst, arith}
+use Rattle.std.proofs.Common.{◌<◌, length, sym, ◌∙◌, ap, arith}
 use Rattle.fuxi_terms.specs.Cluster.{ClusterRecord}
 use Rattle.grant_table.specs.Tables.{TableRecord}
 use Rattle.fuxi_master.specs.Seen.{core_of}

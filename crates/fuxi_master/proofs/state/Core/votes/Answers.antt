@@ -1,4 +1,4 @@
-use Rattle.std.proofs.Common.{refl, ap, ◌∙◌, sym, arith}
+use Rattle.std.proofs.Common.{refl, ap, ◌∙◌, arith}
 use Rattle.fuxi_master.specs.Seen.{core_of}
 use Rattle.fuxi_master.proofs.Voting.{all_counted, none_counted}
 use Rattle.fuxi_master.proofs.state.Core.votes.Goals as goal
