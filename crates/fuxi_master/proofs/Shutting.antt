@@ -47,5 +47,5 @@ module _ (bans : List ℕ) (machines : ℕ) where
   pub all_shut : (n : ℕ) (v : VotesRecord) → machines ≤ n → AreShut bans machines n v → v ≡ record { votes = replicate machines 0; shut = map (λ m. has_number m bans) (below machines) }
   all_shut n v past h =
       let flags : v.shut ≡ map (λ m. has_number m bans) (below machines) =
-          by_places machines (λ m. has_number m bans) v.shut false h.long (λ m lt. h.each m lt ∙ all_below m n (has_number m bans) (omega (arith, lt, past))) in
+      by_places machines (λ m. has_number m bans) v.shut false h.long (λ m lt. h.each m lt ∙ all_below m n (has_number m bans) (omega (arith, lt, past))) in
       λ i. record { votes = h.none i; shut = flags i }

@@ -191,7 +191,7 @@ module _ (x : CoreRecord) (n : ℕ) (job : JobRecord) (a : ℕ) (at : option_map
     pub marked_counted : (v w : VotesRecord) → HasCounted x n v → has_ended x.known.jobs a ≡ false → 0 < length units → AddsVotes (all_avoid x a units) v w → HasCounted x (n + 1) w
     marked_counted v w counted live some adds r s =
         let same : (m : ℕ) → marks r.state own.0 m ≡ all_avoid x a units m =
-            λ m. avoided_marked x r s own.0 units wanted_own (sym ended_is ∙ live) some m ∙ ap (λ b. all_avoid x b units m) (ap (λ (k : JobRecord). k.number) own.2 ∙ sym named) in
+        λ m. avoided_marked x r s own.0 units wanted_own (sym ended_is ∙ live) some m ∙ ap (λ b. all_avoid x b units m) (ap (λ (k : JobRecord). k.number) own.2 ∙ sym named) in
         counted_more r n own.0 v w (there r s) (record { long = adds.long; votes = λ m lt. adds.votes m lt ∙ ap (λ b. votes_of v m + cond b 1 0) (sym (same m)); shut = adds.shut }) (counted r s)
 
 -- ---- the bounds while jobs are left, the beginning, and the end
@@ -226,6 +226,6 @@ all_counted x n v past counted r s =
     let long = h.long in
     let jobs = ap (λ (js : List KnownJob). length js) s.stands.jobs in
     let numbers : v.votes ≡ map (λ m. count_by (λ j. marks r.state j m) r.state.jobs) (below (length r.cluster.machines)) =
-        by_places (length r.cluster.machines) (λ m. count_by (λ j. marks r.state j m) r.state.jobs) v.votes 0 h.long
-        (λ m lt. h.votes m (omega (arith, lt, long)) ∙ ap (count_by (λ j. marks r.state j m)) (take_all n r.state.jobs (omega (arith, past, jobs)))) in
+    by_places (length r.cluster.machines) (λ m. count_by (λ j. marks r.state j m) r.state.jobs) v.votes 0 h.long
+    (λ m lt. h.votes m (omega (arith, lt, long)) ∙ ap (count_by (λ j. marks r.state j m)) (take_all n r.state.jobs (omega (arith, past, jobs)))) in
     λ i. record { votes = numbers i; shut = h.shut i }

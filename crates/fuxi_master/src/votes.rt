@@ -71,12 +71,7 @@ impl Core {
     }
 
     // The units of a known job of which grants are wanted.
-    fn wanted_units(
-        &self,
-        alloc: Global,
-        app: AppNo,
-        units: u8,
-    ) -> Result<Vec<UnitNo>, OutOfMemory>
+    fn wanted_units(&self, alloc: Global, app: AppNo, units: u8) -> Result<Vec<UnitNo>, OutOfMemory>
         requires core { IsCore (core_of self.now) }
         requires units { units ≡ unit_count self.now.known.jobs app.0 }
         ensures { IfOk result (λ found. map (λ (u : UnitSeen). u.0) found.items ≡ filter (is_asked (core_of self.now) app.0) (below units)) }

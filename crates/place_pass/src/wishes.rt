@@ -152,11 +152,7 @@ impl Wishes {
         ensures { result ≡ nat_lt 0 (get_or (cell_at self.now.cells app.0 unit.0).avoided machine.0 0) }
     {
         let wish = self.wish(app, unit);
-        wish.avoided
-            .get(machine.0 as usize)
-            .copied()
-            .unwrap_or(0)
-            > 0
+        wish.avoided.get(machine.0 as usize).copied().unwrap_or(0) > 0
     }
 
     /// Whether by this demand a unit of the job no longer avoids a machine that it avoided.
