@@ -74,6 +74,7 @@ impl Placer {
     ghost use Rattle.std.specs.Option.{is_none, option_map};
     ghost use Rattle.fuxi_terms.specs.declared.Key.{Key};
     ghost use Rattle.fuxi_terms.specs.Keys.{spot_cmp};
+    ghost use Rattle.fuxi_terms.specs.TallyKeys.{want_key, avoid_key};
     ghost use Rattle.fuxi_terms.specs.Counts.{count};
     ghost use Rattle.fuxi_terms.specs.Jobs.{is_known, unit_count};
     ghost use Rattle.fuxi_terms.specs.Tables.{spot, held_on};
@@ -245,6 +246,22 @@ impl Placer {
         let _sound = table.cluster();
         let _wish = self.wishes.wish(app, unit);
         self.wishes.outstanding(table, app, unit)
+    }
+
+    /// How many grants of an admitted unit are wanted in all.
+    pub fn wanted(&self, app: AppNo, unit: UnitNo) -> u32
+        requires { unit.0 < units_seen self.now.seen app.0 }
+        ensures { result ≡ asks_seen self.now.seen app.0 (want_key unit.0) }
+    {
+        self.wishes.wish(app, unit).want
+    }
+
+    /// Whether an admitted unit avoids the machine.
+    pub fn avoids(&self, app: AppNo, unit: UnitNo, machine: MachineNo) -> bool
+        requires { unit.0 < units_seen self.now.seen app.0 }
+        ensures { result ≡ nat_lt 0 (asks_seen self.now.seen app.0 (avoid_key unit.0 machine.0)) }
+    {
+        self.wishes.avoids(app, unit, machine)
     }
 
     /// The number that the next unit gets that begins to wait.

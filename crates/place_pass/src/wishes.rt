@@ -58,7 +58,8 @@ impl Model for Wishes {
 impl Wishes {
     ghost use Rattle.std.specs.Prelude.{◌≡◌, ℕ, ◌<◌, ◌≤◌, ◌&&◌, nat_lt, true, false, List, [], length, set, replicate, IfOk, OnOk, OnErr};
     ghost use Rattle.std.proofs.Common.{get_or};
-    ghost use Rattle.place_pass.specs.Cells.{WishesRecord, AreWishes, Lifts, AvoidsStill, cell_of, cell_at, fresh_cells, taken_all, any_more};
+    ghost use Rattle.fuxi_terms.specs.TallyKeys.{avoid_key};
+    ghost use Rattle.place_pass.specs.Cells.{WishesRecord, AreWishes, Lifts, AvoidsStill, asks_in, cell_of, cell_at, fresh_cells, taken_all, any_more};
     ghost use Rattle.place_pass.specs.Placers.{is_open_to};
 
     /// No unit, and no open machine.
@@ -131,6 +132,19 @@ impl Wishes {
         } else {
             0
         }
+    }
+
+    /// Whether an admitted unit avoids the machine.
+    pub(crate) fn avoids(&self, app: AppNo, unit: UnitNo, machine: MachineNo) -> bool
+        requires { unit.0 < length (get_or self.now.cells app.0 []) }
+        ensures { result ≡ nat_lt 0 (asks_in self.now.cells app.0 (avoid_key unit.0 machine.0)) }
+    {
+        let avoided = &self.wish(app, unit).avoided;
+        let number = machine.0 as usize;
+        if number >= avoided.len() {
+            return false;
+        }
+        avoided[number] > 0
     }
 
     /// Whether there is such a unit and machine, the machine is open, and the unit does not avoid it.
