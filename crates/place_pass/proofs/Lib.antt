@@ -16,3 +16,7 @@ mod CountsLemmas
 mod KeptLemmas
 mod FirstOfLine
 mod FirstByTurn
+mod StandingLemmas
+mod StandsAfterChange
+mod LinedLemmas
+mod AskedLemmas

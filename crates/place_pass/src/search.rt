@@ -269,8 +269,8 @@ pub(crate) fn slot(app: AppNo, unit: UnitNo) -> usize
     app.0 as usize * 8 + unit.0 as usize
 }
 
-// The turn of an admitted unit.
-fn turn_of_unit(wishes: &Wishes, turn_of: &[u64], app: AppNo, unit: UnitNo) -> u64
+/// The turn of an admitted unit.
+pub(crate) fn turn_of_unit(wishes: &Wishes, turn_of: &[u64], app: AppNo, unit: UnitNo) -> u64
     requires unit { unit.0 < length (get_or wishes.now.cells app.0 []) }
     requires places { length turn_of.now ≡ 2048 }
     ensures { result ≡ turn_in turn_of.now (app.0, unit.0) }

@@ -59,7 +59,7 @@ impl Wishes {
     ghost use Rattle.std.specs.Prelude.{◌≡◌, ℕ, ◌<◌, ◌≤◌, ◌&&◌, nat_lt, true, false, List, [], length, set, replicate, IfOk, OnOk, OnErr};
     ghost use Rattle.std.proofs.Common.{get_or};
     ghost use Rattle.fuxi_terms.specs.TallyKeys.{avoid_key};
-    ghost use Rattle.place_pass.specs.Cells.{WishesRecord, AreWishes, Lifts, AvoidsStill, asks_in, cell_of, cell_at, fresh_cells, taken_all, any_more};
+    ghost use Rattle.place_pass.specs.Cells.{WishesRecord, AreWishes, Lifts, AvoidsStill, asks_in, cell_of, cell_at, cells_in, fresh_cells, taken_all, any_more};
     ghost use Rattle.place_pass.specs.Placers.{is_open_to};
 
     /// No unit, and no open machine.
@@ -82,15 +82,12 @@ impl Wishes {
         &self.cluster
     }
 
-    /// A job more, of which nothing is asked.
-    pub(crate) fn admit(&mut self, alloc: Global, job: &Job) -> Result<(), OutOfMemory>
-        ensures ok { OnOk result (self.new ≡ record self.old { cells = set self.old.cells job.now.number (fresh_cells job.now.group (length self.old.cluster.machines) job.now.units) }) }
-        ensures err { OnErr result (self.new ≡ self.old) }
+    /// A job more, of whose units nothing is asked.
+    pub(crate) fn add_job(&mut self, job: &Job, units: Vec<Wish>)
+        requires { cells_in units ≡ fresh_cells job.now.group (length self.old.cluster.machines) job.now.units }
+        ensures { self.new ≡ record self.old { cells = set self.old.cells job.now.number (fresh_cells job.now.group (length self.old.cluster.machines) job.now.units) } }
     {
-        let machines = self.cluster.machines() as usize;
-        let units = fresh_units(alloc, job, machines)?;
         self.slots[job.app().0 as usize] = units;
-        Ok(())
     }
 
     /// The demand of a job is now this one. True where one of its units wants more, or no longer
@@ -197,8 +194,12 @@ fn wish_at(slots: &[Vec<Wish>], app: usize, unit: usize) -> &Wish
     &units[unit]
 }
 
-// The units of a new job, of which nothing is asked.
-fn fresh_units(alloc: Global, job: &Job, machines: usize) -> Result<Vec<Wish>, OutOfMemory>
+/// The units of a new job, of which nothing is asked.
+pub(crate) fn fresh_units(
+    alloc: Global,
+    job: &Job,
+    machines: usize,
+) -> Result<Vec<Wish>, OutOfMemory>
     ensures { IfOk result (λ units. cells_in units ≡ fresh_cells job.now.group machines job.now.units) }
 {
     let group = job.group();

@@ -15,6 +15,7 @@ use Rattle.written_roles.specs.Masters.{out_of}
 use Rattle.written_roles.specs.Placing.{has_pair}
 use Rattle.place_pass.specs.Cells.{job_at, asks_in}
 use Rattle.place_pass.specs.Lines.{LineRecord}
+use Rattle.place_pass.specs.Trees.{HoldsLine, AllStand}
 use Rattle.place_pass.specs.Placers.{PlacerRecord, IsKept, IsLevelWith, IsUpToDate, units_seen, board_over}
 use Rattle.place_pass.proofs.Telling.{level_set, told_up}
 use Rattle.place_pass.proofs.placer.Placer.changed.Goals as goal
@@ -63,6 +64,9 @@ returns-then-outstanding-eq0-clause-level c before l is =
       idle = λ e. cc;
       quiet = λ e. cc;
       clear = λ e f. cc;
+      stands = subst (λ (l : List (ℕ × ℕ)). AllStand w.cluster w.cells t.entries l c.tell_spot.new.tree) (sym line_is)
+          (subst (λ b. AllStand w.cluster w.cells t.entries (cond b c.self.inside.line.pairs (filter others c.self.inside.line.pairs)) c.tell_spot.new.tree) (let e = c.outstanding.ensures in let z = c.if-outstanding-eq0.true in let y : nat_lt 0 (out_of (asks_in w.cells) t.entries c.args.app.0 c.args.unit.0) ≡ false = grind (arith, nat_tests, e, z) in y)
+          (c.tell_spot.ensures.stands before is old.stands));
       kept = subst (λ (hs : List ℕ). IsKept w.cells w.opened (c.swap.new.x.pairs) c.self.inside.turns (record { marks = map mark_of c.tell.new.marks.items; turn_of = c.self.inside.turn_of.items; held = hs }) c.args.table.now) (λ i. set c.self.inside.held.items (sym c.slot-place.ensures i) (sym c.held.ensures i))
           (kept_told w.cells w.opened c.self.inside.line.pairs (c.swap.new.x.pairs) c.self.inside.turns (length w.cluster.machines) (record { marks = map mark_of c.self.inside.marks.items; turn_of = c.self.inside.turn_of.items; held = c.self.inside.held.items }) (map mark_of c.tell.new.marks.items)
           (λ p has. (both_true (has_pair p c.self.inside.line.pairs) _ (sym (has_filter others p c.self.inside.line.pairs) ∙ ap (has_pair p) (sym line_is) ∙ has)).0) (subst (Rises (λ (p : ℕ × ℕ). turn_at c.self.inside.turn_of.items p.0 p.1)) (sym line_is) (rises_filter (λ (p : ℕ × ℕ). turn_at c.self.inside.turn_of.items p.0 p.1) others c.self.inside.line.pairs (rising_all (λ (p : ℕ × ℕ). turn_at c.self.inside.turn_of.items p.0 p.1) c.self.inside.line.pairs old.kept.rises))) (open_there w.opened (length w.cluster.machines) c.cluster-wishes.ensures.sound.opened) before c.args.table.now c.args.app.0 c.args.unit.0 c.args.machine.0 is
@@ -93,6 +97,8 @@ returns-else-outstanding-eq0-clause-level c before l is =
       idle = λ e. cc;
       quiet = λ e. cc;
       clear = λ e f. cc;
+      stands = subst (λ b. AllStand w.cluster w.cells t.entries (cond b c.self.inside.line.pairs (filter (λ p. not (nat_eq p.0 c.args.app.0 && nat_eq p.1 c.args.unit.0)) c.self.inside.line.pairs)) c.tell_spot.new.tree) (let e = c.outstanding.ensures in let z = c.if-outstanding-eq0.false in let y : nat_lt 0 (out_of (asks_in w.cells) t.entries c.args.app.0 c.args.unit.0) ≡ true = grind (arith, nat_tests, e, z) in y)
+          (c.tell_spot.ensures.stands before is old.stands);
       kept = subst (λ (hs : List ℕ). IsKept w.cells w.opened (c.self.inside.line.pairs) c.self.inside.turns (record { marks = map mark_of c.tell.new.marks.items; turn_of = c.self.inside.turn_of.items; held = hs }) c.args.table.now) (λ i. set c.self.inside.held.items (sym c.slot-place.ensures i) (sym c.held.ensures i))
           (kept_told w.cells w.opened c.self.inside.line.pairs (c.self.inside.line.pairs) c.self.inside.turns (length w.cluster.machines) (record { marks = map mark_of c.self.inside.marks.items; turn_of = c.self.inside.turn_of.items; held = c.self.inside.held.items }) (map mark_of c.tell.new.marks.items)
           (λ p has. has) (rising_all (λ (p : ℕ × ℕ). turn_at c.self.inside.turn_of.items p.0 p.1) c.self.inside.line.pairs old.kept.rises) (open_there w.opened (length w.cluster.machines) c.cluster-wishes.ensures.sound.opened) before c.args.table.now c.args.app.0 c.args.unit.0 c.args.machine.0 is

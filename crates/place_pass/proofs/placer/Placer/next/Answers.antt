@@ -124,6 +124,7 @@ returns-then-self-clause-level g c =
     record {
       level = l.level;
       idle = l.idle;
+      stands = l.stands;
       kept = kept_forgotten w.cells w.opened c.self.inside.line.pairs c.self.inside.turns k t marks forgotten l.kept;
       quiet = λ e. record {
         settled = λ m o. forgotten_key c.self.inside.turns t c.self.inside.line.pairs (mark_at k.marks m) (mark_at marks m) (forgotten m o) ∙ (l.quiet e).settled m o;
@@ -161,6 +162,7 @@ returns-clause-level g c =
     record {
       level = l.level;
       idle = λ e. let f : false ≡ true = sym c.if-self.false ∙ e in cc;
+      stands = l.stands;
       kept = record {
         bounds = λ m a u opened has lt. (subst (λ (xs : List ℕ). AreBounded (board_over w.cells w.opened t) t.entries (turn_in xs) c.self.inside.line.pairs (mark_at (map mark_of c.first.new.marks.items) m) m) c.deref.ensures.value (c.first.ensures.bounded m opened)).bounded (a, u) has lt;
         until = c.first.ensures.until;
@@ -203,6 +205,7 @@ returns-in_default-clause-level g c =
     record {
       level = l.level;
       idle = λ e. idle_found w.cells w.opened t c.self.inside.line.pairs up (sym c.first.ensures.first ∙ ap (option_map spot_of) c.in_default.is);
+      stands = l.stands;
       kept = kept_forgotten w.cells w.opened c.self.inside.line.pairs c.self.inside.turns k t marks forgotten (record {
         bounds = λ m a u opened has lt. (subst (λ (xs : List ℕ). AreBounded (board_over w.cells w.opened t) t.entries (turn_in xs) c.self.inside.line.pairs (mark_at (map mark_of c.first.new.marks.items) m) m) c.deref.ensures.value (c.first.ensures.bounded m opened)).bounded (a, u) has lt;
         until = c.first.ensures.until;
