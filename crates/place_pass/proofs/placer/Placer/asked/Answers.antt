@@ -96,7 +96,7 @@ returns-clause-jobs c b =
     ∙ ap (λ (p : PlacerRecord). job_seen p.seen b) c.self.view_is
 
 -- the mark of an open machine after the demand was told
-told_mark : (c : goal.After-self-1) (m : ℕ) → get_or c.self.inside.wishes.opened m false ≡ true
+told_mark : (c : goal.After-tell_asked) (m : ℕ) → get_or c.self.inside.wishes.opened m false ≡ true
     → IsAsked c.args.demand.now.entries (get_or c.self.inside.wishes.cells c.args.app.0 []) m (mark_at (map mark_of c.self.inside.marks.items) m) (mark_at (map mark_of c.tell_demand.new.marks.items) m)
 told_mark c m o =
     let l = open_there c.self.inside.wishes.opened (length c.self.inside.wishes.cluster.machines) c.cluster-wishes.ensures.sound.opened m o in
