@@ -20,3 +20,4 @@ mod StandingLemmas
 mod StandsAfterChange
 mod LinedLemmas
 mod AskedLemmas
+mod PathLemmas

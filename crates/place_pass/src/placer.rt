@@ -368,6 +368,7 @@ impl Placer {
         let Some(pick) = first(
             &self.wishes,
             &self.line,
+            &self.tree,
             &self.turn_of,
             self.turns,
             table,
