@@ -21,6 +21,7 @@ use Rattle.place_pass.specs.Placers.{AreAllowed, IsGrantable, PlacerRecord, Kept
 use Rattle.place_pass.proofs.Idling.{idle_first, idle_found}
 use Rattle.place_pass.proofs.FirstByTurn.{rising_all}
 use Rattle.place_pass.proofs.Picking.{pick_grantable}
+use Rattle.place_pass.specs.Trees.{TreeOf}
 use Rattle.place_pass.proofs.placer.Placer.next.Goals as goal
 
 pub first-requires-clause-level : goal.first-requires-clause-level
@@ -58,6 +59,13 @@ first-requires-clause-old g c m opened =
 pub first-requires-clause-until : goal.first-requires-clause-until
 unfolding IsLevelWith
 first-requires-clause-until g c m opened = (subst (λ (p : PlacerRecord). IsLevelWith p c.args.table.now) (sym c.self.view_is) c.requires.level).kept.until m opened
+
+pub first-requires-clause-tree : goal.first-requires-clause-tree
+unfolding IsLevelWith
+first-requires-clause-tree g c =
+    let l = subst (λ (p : PlacerRecord). IsLevelWith p c.args.table.now) (sym c.self.view_is) c.requires.level in
+    subst (λ (xs : List ℕ). TreeOf c.self.inside.wishes.cluster c.self.inside.wishes.cells c.self.inside.line.pairs xs c.args.table.now.entries c.self.inside.tree) (sym c.deref.ensures.value)
+    (record { waits = c.self.invariant.holds; rises = c.self.invariant.rises; stands = l.stands })
 
 pub returns-clause-grantable : goal.returns-clause-grantable
 unfolding IsLevelWith
