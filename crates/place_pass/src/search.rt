@@ -299,6 +299,40 @@ fn place_from(wishes: &Wishes, line: &Line, turn_of: &[u64], turn: u64) -> usize
     0
 }
 
+// Whether the machine takes the unit and has room for it, and the limit of its group allows it. Where it would fit and is not allowed
+// its group is noted.
+fn may_place(
+    wishes: &Wishes,
+    table: &GrantTable,
+    machine: MachineNo,
+    free: &Res,
+    app: AppNo,
+    unit: UnitNo,
+    groups: &mut [bool; 32],
+) -> bool
+    requires level { AreLevel wishes.now.cluster (job_at wishes.now.cells) table.now }
+    requires unit { unit.0 < length (get_or wishes.now.cells app.0 []) }
+    requires machine { machine.0 < length table.now.cluster.machines }
+    requires free { (i : ℕ) → at_place free.now.q i ≡ has_at table.now.cluster machine.0 i - total_at (as_known table.now.jobs) machine.0 i table.now.entries }
+    requires within { (i : ℕ) → total_at (as_known table.now.jobs) machine.0 i table.now.entries ≤ has_at table.now.cluster machine.0 i }
+    ensures fits { result ≡ true → (accepts_in (board_over wishes.now.cells wishes.now.opened table.now) table.now.entries app.0 unit.0 machine.0 && has_room_in table.now.cluster (board_over wishes.now.cells wishes.now.opened table.now).sizes table.now.entries app.0 unit.0 machine.0) ≡ true }
+    ensures allowed { result ≡ true → is_allowed_in table.now.cluster (board_over wishes.now.cells wishes.now.opened table.now).groups (board_over wishes.now.cells wishes.now.opened table.now).sizes table.now.entries app.0 unit.0 ≡ true }
+    ensures bounded { result ≡ false → (bound : Option (List ℕ)) (t : ℕ) → IsBounded (board_over wishes.now.cells wishes.now.opened table.now) table.now.entries bound groups.new t (app.0, unit.0) machine.0 }
+    ensures kept { (g : ℕ) → get_or groups.old g false ≡ true → get_or groups.new g false ≡ true }
+    ensures same { result ≡ true → groups.new ≡ groups.old }
+    ensures passed { (accepts_in (board_over wishes.now.cells wishes.now.opened table.now) table.now.entries app.0 unit.0 machine.0 && has_room_in table.now.cluster (board_over wishes.now.cells wishes.now.opened table.now).sizes table.now.entries app.0 unit.0 machine.0) ≡ false → groups.new ≡ groups.old }
+{
+    if !wishes.takes(table, free, app, unit, machine) {
+        return false;
+    }
+    if !wishes.allowed(table, app, unit) {
+        let group = wishes.group(table, app, unit);
+        groups[group.0 as usize] = true;
+        return false;
+    }
+    true
+}
+
 // The better of what was found before and of one unit, where it may be placed. Where it would fit and is not allowed its group
 // is noted.
 fn weigh(
@@ -320,7 +354,6 @@ fn weigh(
     requires within { (i : ℕ) → total_at (as_known table.now.jobs) machine.0 i table.now.entries ≤ has_at table.now.cluster machine.0 i }
     ensures here { IsBounded (board_over wishes.now.cells wishes.now.opened table.now) table.now.entries (sight_rank result) groups.new (turn_in turn_of.now (app.0, unit.0)) (app.0, unit.0) machine.0 }
     ensures kept { (q : ℕ × ℕ) (t : ℕ) → IsBounded (board_over wishes.now.cells wishes.now.opened table.now) table.now.entries (sight_rank before) groups.old t q machine.0 → IsBounded (board_over wishes.now.cells wishes.now.opened table.now) table.now.entries (sight_rank result) groups.new t q machine.0 }
-    ensures passed { (accepts_in (board_over wishes.now.cells wishes.now.opened table.now) table.now.entries app.0 unit.0 machine.0 && has_room_in table.now.cluster (board_over wishes.now.cells wishes.now.opened table.now).sizes table.now.entries app.0 unit.0 machine.0) ≡ false → groups.new ≡ groups.old }
     ensures sight { (line : List (ℕ × ℕ)) (place : ℕ) → slice_get line place ≡ Some (app.0, unit.0) → out_of (asks_in wishes.now.cells) table.now.entries app.0 unit.0 ≢ 0 → IfSome before (λ x. IsSight (board_over wishes.now.cells wishes.now.opened table.now) table.now.entries (turn_in turn_of.now) line machine.0 x) → IfSome result (λ x. IsSight (board_over wishes.now.cells wishes.now.opened table.now) table.now.entries (turn_in turn_of.now) line machine.0 x) }
 {
     let late = 9_u8.saturating_sub(wishes.wish(app, unit).priority);
@@ -330,12 +363,7 @@ fn weigh(
     if !may_be_nearer(&before, &rank) {
         return before;
     }
-    if !wishes.takes(table, free, app, unit, machine) {
-        return before;
-    }
-    if !wishes.allowed(table, app, unit) {
-        let group = wishes.group(table, app, unit);
-        groups[group.0 as usize] = true;
+    if !may_place(wishes, table, machine, free, app, unit, groups) {
         return before;
     }
     nearer(before, Sight { rank, app, unit })
@@ -406,12 +434,7 @@ fn best_on(
         };
         let app = entry.app;
         let unit = entry.unit;
-        if !wishes.takes(table, free, app, unit, machine) {
-            continue;
-        }
-        if !wishes.allowed(table, app, unit) {
-            let group = wishes.group(table, app, unit);
-            groups[group.0 as usize] = true;
+        if !may_place(wishes, table, machine, free, app, unit, groups) {
             continue;
         }
         let late = 9_u8.saturating_sub(entry.priority);

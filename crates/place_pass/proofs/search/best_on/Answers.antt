@@ -6,13 +6,13 @@ use Rattle.written_roles.specs.Masters.{out_of}
 use Rattle.wait_queue.specs.declared.node.Entry.{Entry}
 use Rattle.locality_tree.specs.Trees.{Pair, level_at}
 use Rattle.locality_tree.specs.Paths.{Leads}
-use Rattle.place_pass.specs.Bounds.{rank_at}
+use Rattle.place_pass.specs.Bounds.{IsBounded}
 use Rattle.place_pass.specs.Cells.{asks_in}
 use Rattle.place_pass.specs.Placers.{board_over}
 use Rattle.place_pass.specs.Sights.{turn_in}
 use Rattle.place_pass.specs.Trees.{entry_for}
 use Rattle.place_pass.proofs.PathLemmas.{Walk, IsHead, rank_in_path, head_of, none_left, walk_starts, walk_over, walk_on, head_waits, head_level, head_least, admitted_at, path_ranks, path_lows}
-use Rattle.place_pass.proofs.SightsLemmas.{bounded_apart_from, bounded_noted, still_noted, now_noted, place_of}
+use Rattle.place_pass.proofs.SightsLemmas.{place_of}
 use Rattle.place_pass.proofs.search.best_on.Goals as goal
 
 pub loop-left-init : goal.loop-left-init
@@ -35,38 +35,8 @@ returns-in_default-clause-bounded c q has =
     let none = none_left i.rest c.next.result (Leads c.next.new.self) (c.next.ensures.gives i.rest i.leads) c.in_default.is in
     walk_over w.cluster w.cells line c.args.turn_of.now tb.entries c.args.tree.now c.args.machine.0 b c.loop-left.groups c.loop-left.path c.loop-left.left i none q has
 
-pub takes-requires-clause-unit : goal.takes-requires-clause-unit
-takes-requires-clause-unit c =
-    let w = c.args.wishes.now in
-    let line = c.args.line.now.pairs in
-    let turns = c.args.turn_of.now in
-    let tb = c.args.table.now in
-    let t = c.args.tree.now in
-    let m = c.args.machine.0 in
-    let b = board_over w.cells w.opened tb in
-    let i = c.loop-left.invariant in
-    let x : Pair = (c.in-Some.entry, c.in-Some.level) in
-    let h = head_of i.rest c.next.result x (Leads c.next.new.self) (c.next.ensures.gives i.rest i.leads) c.in-Some.is in
-    let of = head_waits w.cluster w.cells line turns tb.entries t m c.requires.tree b c.loop-left.groups c.loop-left.path c.loop-left.left i x (Leads c.next.new.self) h in
-    admitted_at w.cluster w.cells w.opened line turns tb t m c.requires.level c.cluster-table.ensures.sound c.requires.tree c.requires.admitted c.requires.machine c.in-Some.entry.app.0 c.in-Some.entry.unit.0 of.waiting
-
-pub allowed-requires-clause-unit : goal.allowed-requires-clause-unit
-allowed-requires-clause-unit c =
-    let w = c.args.wishes.now in
-    let line = c.args.line.now.pairs in
-    let turns = c.args.turn_of.now in
-    let tb = c.args.table.now in
-    let t = c.args.tree.now in
-    let m = c.args.machine.0 in
-    let b = board_over w.cells w.opened tb in
-    let i = c.loop-left.invariant in
-    let x : Pair = (c.in-Some.entry, c.in-Some.level) in
-    let h = head_of i.rest c.next.result x (Leads c.next.new.self) (c.next.ensures.gives i.rest i.leads) c.in-Some.is in
-    let of = head_waits w.cluster w.cells line turns tb.entries t m c.requires.tree b c.loop-left.groups c.loop-left.path c.loop-left.left i x (Leads c.next.new.self) h in
-    admitted_at w.cluster w.cells w.opened line turns tb t m c.requires.level c.cluster-table.ensures.sound c.requires.tree c.requires.admitted c.requires.machine c.in-Some.entry.app.0 c.in-Some.entry.unit.0 of.waiting
-
-pub group-group-requires-clause-unit : goal.group-group-requires-clause-unit
-group-group-requires-clause-unit c =
+pub may_place-requires-clause-unit : goal.may_place-requires-clause-unit
+may_place-requires-clause-unit c =
     let w = c.args.wishes.now in
     let line = c.args.line.now.pairs in
     let turns = c.args.turn_of.now in
@@ -95,24 +65,6 @@ turn_of_unit-turn-requires-clause-unit c =
     let of = head_waits w.cluster w.cells line turns tb.entries t m c.requires.tree b c.loop-left.groups c.loop-left.path c.loop-left.left i x (Leads c.next.new.self) h in
     admitted_at w.cluster w.cells w.opened line turns tb t m c.requires.level c.cluster-table.ensures.sound c.requires.tree c.requires.admitted c.requires.machine c.in-Some.entry.app.0 c.in-Some.entry.unit.0 of.waiting
 
-pub loop-left-preserved-then-not-takes : goal.loop-left-preserved-then-not-takes
-loop-left-preserved-then-not-takes c =
-    let w = c.args.wishes.now in
-    let line = c.args.line.now.pairs in
-    let turns = c.args.turn_of.now in
-    let tb = c.args.table.now in
-    let t = c.args.tree.now in
-    let m = c.args.machine.0 in
-    let b = board_over w.cells w.opened tb in
-    let i = c.loop-left.invariant in
-    let x : Pair = (c.in-Some.entry, c.in-Some.level) in
-    let h = head_of i.rest c.next.result x (Leads c.next.new.self) (c.next.ensures.gives i.rest i.leads) c.in-Some.is in
-    let of = head_waits w.cluster w.cells line turns tb.entries t m c.requires.tree b c.loop-left.groups c.loop-left.path c.loop-left.left i x (Leads c.next.new.self) h in
-    let q : ℕ × ℕ = (c.in-Some.entry.app.0, c.in-Some.entry.unit.0) in
-    let test = c.loop-left-test.true in
-    walk_on w.cluster w.cells line turns tb.entries t m b c.loop-left.groups c.loop-left.groups c.loop-left.path c.next.new.self c.loop-left.left (c.loop-left.left - 1) i x h (omega (arith, test)) (λ g e. e)
-    (bounded_apart_from b tb.entries None c.loop-left.groups (turn_in turns q) q m (sym c.takes.ensures ∙ c.if-not-takes.true))
-
 pub loop-left-preserved : goal.loop-left-preserved
 loop-left-preserved c =
     let w = c.args.wishes.now in
@@ -128,11 +80,8 @@ loop-left-preserved c =
     let of = head_waits w.cluster w.cells line turns tb.entries t m c.requires.tree b c.loop-left.groups c.loop-left.path c.loop-left.left i x (Leads c.next.new.self) h in
     let q : ℕ × ℕ = (c.in-Some.entry.app.0, c.in-Some.entry.unit.0) in
     let test = c.loop-left-test.true in
-    let g = c.group-group.result.0 in
-    let small = c.group-group.ensures.small in
-    let noted = now_noted c.loop-left.groups g (omega (arith, small)) in
-    walk_on w.cluster w.cells line turns tb.entries t m b c.loop-left.groups (set c.loop-left.groups g true) c.loop-left.path c.next.new.self c.loop-left.left (c.loop-left.left - 1) i x h (omega (arith, test)) (λ k e. still_noted c.loop-left.groups g k e)
-    (bounded_noted b tb.entries None (set c.loop-left.groups g true) (turn_in turns q) q m (subst (λ k. get_or (set c.loop-left.groups g true) k false ≡ true) c.group-group.ensures.group noted) (sym c.allowed.ensures ∙ c.if-not-allowed.true))
+    walk_on w.cluster w.cells line turns tb.entries t m b c.loop-left.groups c.may_place.new.groups c.loop-left.path c.next.new.self c.loop-left.left (c.loop-left.left - 1) i x h (omega (arith, test)) c.may_place.ensures.kept
+    (c.may_place.ensures.bounded c.if-not-may_place.true None (turn_in turns q))
 
 pub returns-in-loop-left-clause-bounded : goal.returns-in-loop-left-clause-bounded
 returns-in-loop-left-clause-bounded c p has =
@@ -152,9 +101,10 @@ returns-in-loop-left-clause-bounded c p has =
     let turn : c.in-Some.entry.turn ≡ c.turn_of_unit-turn.result = ap (λ (e : Entry). e.turn) of.is ∙ sym c.turn_of_unit-turn.ensures in
     let same : rank_in_path x ≡ rank = λ j. sym c.saturating_sub-late.ensures j ∷ c.in-Some.level ∷ turn j ∷ [] in
     let low = subst (λ n. n ≤ 9) (sym (ap (λ (e : Entry). e.priority) of.is)) (path_lows w.cluster w.cells w.opened line turns tb t m c.requires.level c.cluster-table.ensures.sound c.requires.tree c.requires.admitted c.requires.machine q of.waiting) in
-    head_least w.cluster w.cells line turns tb.entries t m b c.loop-left.groups c.loop-left.path c.loop-left.left i x (Leads c.next.new.self) h rank same low
+    subst (λ gs. IsBounded b tb.entries (Some rank) gs (turn_in turns p) p m) (sym (c.may_place.ensures.same c.if-not-may_place.false))
+    (head_least w.cluster w.cells line turns tb.entries t m b c.loop-left.groups c.loop-left.path c.loop-left.left i x (Leads c.next.new.self) h rank same low
     (path_ranks w.cluster w.cells w.opened line turns tb t m c.requires.level c.cluster-table.ensures.sound c.requires.tree c.requires.admitted c.requires.machine)
-    (path_lows w.cluster w.cells w.opened line turns tb t m c.requires.level c.cluster-table.ensures.sound c.requires.tree c.requires.admitted c.requires.machine) p has
+    (path_lows w.cluster w.cells w.opened line turns tb t m c.requires.level c.cluster-table.ensures.sound c.requires.tree c.requires.admitted c.requires.machine) p has)
 
 pub returns-in-loop-left-clause-sight : goal.returns-in-loop-left-clause-sight
 returns-in-loop-left-clause-sight c =
@@ -181,6 +131,6 @@ returns-in-loop-left-clause-sight c =
     record {
       place = place.place;
       at = place.at;
-      placeable = and_true _ _ (and_true (nat_lt 0 (out_of (asks_in w.cells) tb.entries q.0 q.1)) _ out (sym c.allowed.ensures ∙ c.if-not-allowed.false)) (sym c.takes.ensures ∙ c.if-not-takes.false);
+      placeable = and_true _ _ (and_true (nat_lt 0 (out_of (asks_in w.cells) tb.entries q.0 q.1)) _ out (c.may_place.ensures.allowed c.if-not-may_place.false)) (c.may_place.ensures.fits c.if-not-may_place.false);
       rank = sym same ∙ ap rank_in_path pair ∙ path_ranks w.cluster w.cells w.opened line turns tb t m c.requires.level c.cluster-table.ensures.sound c.requires.tree c.requires.admitted c.requires.machine q of.waiting;
     }
