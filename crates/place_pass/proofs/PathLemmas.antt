@@ -1,6 +1,6 @@
 -- The walk over a machine's path: what is left of it, and what is known of the pairs of the line that it passed.
 use Rattle.std.proofs.Common.{◌≡◌, ◌⊎◌, ℕ, zero, suc, ◌+◌, ◌-◌, ◌*◌, ◌<◌, ◌≤◌, Bool, true, false, cond, not, nat_eq, nat_lt, List, [], ◌∷◌, Option, Some, None, length, map, get_or, refl, sym, ap, subst, ◌∙◌, inl, inr, arith}
-use Rattle.std.specs.Prelude.{◌&&◌, ◌||◌, ◌/◌, ◌%◌, IsTrue, slice_get}
+use Rattle.std.specs.Prelude.{◌/◌, ◌%◌, slice_get}
 use Rattle.std.specs.Option.{unwrap_or, option_map}
 use Rattle.std.specs.Cmp.{IsEquivalence, IsTotalOrder, nat_cmp_total}
 use Rattle.std.specs.Cmp.Lexicographic.{slice_cmp, lists_total}
@@ -11,8 +11,8 @@ use Rattle.std.specs.declared.cmp.Ordering.TheVariants.{Less, Equal, Greater}
 use Rattle.std.proofs.lemmas.Bool.Decides.{nat_tests}
 use Rattle.std.proofs.lemmas.List.{length-map}
 use Rattle.std.proofs.lemmas.Map.Made.{length-le_from_is_member}
-use Rattle.fuxi_terms.specs.Cluster.{ClusterRecord, JobRecord, MachineRecord, UnitRecord, no_machine, rack_of, is_priority, is_size, is_most, is_valid_unit, is_valid_job, is_between}
-use Rattle.fuxi_terms.specs.Jobs.{KnownJob, job_of, priority_of, unit_count, no_unit as no_such_unit}
+use Rattle.fuxi_terms.specs.Cluster.{ClusterRecord, JobRecord, MachineRecord, UnitRecord, no_machine, rack_of, is_priority, is_valid_unit, is_between}
+use Rattle.fuxi_terms.specs.Jobs.{KnownJob, job_of, priority_of, no_unit as no_such_unit}
 use Rattle.fuxi_terms.specs.Keys.{Spot}
 use Rattle.fuxi_terms.proofs.Booleans.{both_true, number_is, nat_itself}
 use Rattle.fuxi_terms.proofs.Lists.{all_at}
@@ -30,7 +30,7 @@ use Rattle.place_pass.specs.Cells.{Cell, cell_at, asks_in, job_at}
 use Rattle.place_pass.specs.Placers.{AreLevel, board_over}
 use Rattle.place_pass.specs.Lines.{same_pair}
 use Rattle.place_pass.specs.Sights.{turn_in}
-use Rattle.place_pass.specs.Trees.{Holds, HoldsLine, StandsAs, TreeOf, entry_for}
+use Rattle.place_pass.specs.Trees.{Holds, StandsAs, TreeOf, entry_for}
 use Rattle.place_pass.proofs.FirstByTurn.{less_first, less_rest}
 use Rattle.place_pass.proofs.Lining.{either_one, pair_is, pair_self, pair_turned}
 use Rattle.place_pass.proofs.Matching.{rack_small, unit_is}

@@ -1,5 +1,5 @@
 -- What a tree holds after one unit of it begins to wait, waits no more, or stands in other queues.
-use Rattle.std.proofs.Common.{◌≡◌, ◌≢◌, ℕ, zero, suc, ◌+◌, ◌*◌, ◌<◌, ◌≤◌, Bool, true, false, cond, not, nat_eq, nat_lt, List, [], ◌∷◌, ◌++◌, Option, Some, None, length, filter, take, get_or, set, slice_get, refl, sym, ap, subst, ◌∙◌, inl, inr, arith, length-set}
+use Rattle.std.proofs.Common.{◌≡◌, ◌≢◌, ℕ, zero, suc, ◌+◌, ◌*◌, ◌<◌, Bool, true, false, cond, nat_eq, nat_lt, List, [], ◌∷◌, Option, Some, None, length, take, get_or, set, slice_get, refl, sym, ap, subst, ◌∙◌, inl, inr, arith, length-set}
 use Rattle.std.specs.Prelude.{◌&&◌, ◌||◌, ◌/◌, ◌%◌, replicate}
 use Rattle.std.proofs.lemmas.Bool.{cases_eq, cases_lt}
 use Rattle.std.proofs.lemmas.Bool.Decides.{nat_tests}
@@ -7,7 +7,7 @@ use Rattle.std.proofs.lemmas.List.{get_or-set_same, get_or-set_other, length-map
 use Rattle.std.proofs.Math.ListN.{get_or-eq_default}
 use Rattle.fuxi_terms.specs.Cluster.{ClusterRecord, MachineRecord}
 use Rattle.fuxi_terms.specs.Keys.{Spot}
-use Rattle.fuxi_terms.proofs.Booleans.{both_true, number_is}
+use Rattle.fuxi_terms.proofs.Booleans.{number_is}
 use Rattle.fuxi_terms.proofs.Lists.{take_last}
 use Rattle.written_roles.specs.Placing.{has_pair}
 use Rattle.wait_queue.specs.declared.node.Entry.{Entry}
@@ -15,8 +15,8 @@ use Rattle.locality_tree.specs.Trees.{UnitState, TreeRecord, no_unit, unit_numbe
 use Rattle.place_pass.specs.Bounds.{IsRising, turn_at}
 use Rattle.place_pass.specs.Cells.{Cell}
 use Rattle.place_pass.specs.Lines.{same_pair}
-use Rattle.place_pass.specs.Trees.{entry_for, Holds, HoldsLine, StandsAs, AllStand, WaitsIn, Restood}
-use Rattle.place_pass.proofs.Lining.{any_append, either_one, pair_is, pair_self}
+use Rattle.place_pass.specs.Trees.{entry_for, Holds, StandsAs, WaitsIn, Restood}
+use Rattle.place_pass.proofs.Lining.{any_append, pair_is, pair_self}
 use Rattle.place_pass.proofs.Places.{one_set}
 use Rattle.place_pass.proofs.SightsLemmas.{place_of, same_place}
 

@@ -1,6 +1,6 @@
 -- Where units stand, and who waits, after a change of the table, a demand, or a job more.
-use Rattle.std.proofs.Common.{◌≡◌, ◌≢◌, ℕ, zero, suc, ◌+◌, ◌*◌, ◌<◌, ◌≤◌, Bool, true, false, cond, not, nat_eq, nat_lt, List, [], ◌∷◌, Some, None, length, filter, get_or, set, refl, sym, ap, subst, ◌∙◌, inl, inr, arith, length-set}
-use Rattle.std.specs.Prelude.{◌&&◌, ◌||◌, T, replicate}
+use Rattle.std.proofs.Common.{◌≡◌, ◌≢◌, ℕ, zero, suc, ◌+◌, ◌*◌, ◌<◌, ◌≤◌, Bool, true, false, cond, not, nat_eq, nat_lt, List, [], Some, None, length, filter, get_or, set, refl, sym, ap, subst, ◌∙◌, inl, inr, arith, length-set}
+use Rattle.std.specs.Prelude.{◌&&◌, T, replicate}
 use Rattle.std.specs.FinMap.Entries.{is_sorted}
 use Rattle.std.proofs.lemmas.Bool.{cases_eq, cases_lt}
 use Rattle.std.proofs.lemmas.Bool.Decides.{nat_tests}
@@ -11,18 +11,14 @@ use Rattle.fuxi_terms.specs.Keys.{Spot, spot_cmp}
 use Rattle.fuxi_terms.specs.Tables.{spot, held_on, held_in}
 use Rattle.fuxi_terms.specs.TallyKeys.{near_key, rack_key}
 use Rattle.fuxi_terms.specs.declared.Key.{Key}
-use Rattle.fuxi_terms.proofs.Booleans.{and_true, both_true, number_is, nat_itself}
+use Rattle.fuxi_terms.proofs.Booleans.{and_true, both_true, nat_itself}
 use Rattle.written_roles.specs.Placing.{has_pair}
-use Rattle.grant_table.specs.Tables.{TableRecord}
 use Rattle.locality_tree.specs.Trees.{UnitState, TreeRecord, all_units, no_unit, unit_at, unit_number, idle, with_idle, with_job, started, place_count, rack_place, racks_of}
-use Rattle.place_pass.specs.Best.{AreAdmitted}
 use Rattle.place_pass.specs.Cells.{Cell, cell_at, asks_in, no_cell}
 use Rattle.place_pass.specs.Lines.{same_pair}
-use Rattle.place_pass.specs.Placers.{IsSetFrom}
 use Rattle.place_pass.specs.Trees.{entry_for, Holds, HoldsLine, StandsAs, AllStand, Restood, RestoodAt}
 use Rattle.place_pass.proofs.BoundsAfterChange.{count_stays, rack_stays}
 use Rattle.place_pass.proofs.Lining.{has_filter, pair_is, pair_turned}
-use Rattle.place_pass.proofs.Places.{one_set}
 use Rattle.place_pass.proofs.StandingLemmas.{numbers_apart, racks_long, stands_on}
 
 -- ---- the number at one spot is set

@@ -1,6 +1,7 @@
 //! The search for the placeable pair of first rank. A machine is looked at only where its bound comes before the best
-//! pair so far; what is free there is then asked once. A unit that has its greatest number on a machine is passed there like one
-//! that does not fit.
+//! pair so far; what is free there is then asked once. Where it has a bound its path is walked to the first pair that may be placed
+//! there, and else the pairs that were appended since are looked at. A unit that has its greatest number on a machine is passed there
+//! like one that does not fit.
 
 ghost use Rattle.std.specs.Prelude.{◌≡◌, ℕ, ◌+◌, ◌-◌, ◌*◌, ◌<◌, ◌≤◌, ◌&&◌, ◌⊎◌, ◌≢◌, Option, List, true, false, IsTrue, [], ◌∷◌, ◌++◌, length, map, None, Some, slice_get, not, nat_eq, cond, IfSome};
 ghost use Rattle.std.proofs.Common.{get_or};
@@ -445,7 +446,7 @@ fn best_on(
     None
 }
 
-// The best placeable pair on one machine: of all, but where none was placeable of those that were not looked at.
+// The best placeable pair on one machine: of all pairs of the line, and where none that was looked at is placeable, of the others.
 fn see(
     wishes: &Wishes,
     line: &Line,
@@ -589,7 +590,9 @@ fn consider<L: Ledger>(
     if !may_be_first(&before, &key, machine) {
         return before;
     }
-    match look(wishes, line, tree, turn_of, turns, table, machine, mark, steps) {
+    match look(
+        wishes, line, tree, turn_of, turns, table, machine, mark, steps,
+    ) {
         Some(sight) => {
             let pick = Pick {
                 app: sight.app,

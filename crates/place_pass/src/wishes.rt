@@ -56,7 +56,7 @@ impl Model for Wishes {
 }
 
 impl Wishes {
-    ghost use Rattle.std.specs.Prelude.{◌≡◌, ℕ, ◌<◌, ◌≤◌, ◌&&◌, nat_lt, true, false, List, [], length, set, replicate, IfOk, OnOk, OnErr};
+    ghost use Rattle.std.specs.Prelude.{◌≡◌, ℕ, ◌<◌, ◌≤◌, ◌&&◌, nat_lt, true, false, List, [], length, set, replicate, IfOk};
     ghost use Rattle.std.proofs.Common.{get_or};
     ghost use Rattle.fuxi_terms.specs.TallyKeys.{avoid_key};
     ghost use Rattle.place_pass.specs.Cells.{WishesRecord, AreWishes, Lifts, AvoidsStill, asks_in, cell_of, cell_at, cells_in, fresh_cells, taken_all, any_more};

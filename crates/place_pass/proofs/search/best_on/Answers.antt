@@ -1,5 +1,4 @@
-use Rattle.std.proofs.Common.{◌≡◌, ◌≢◌, ℕ, ◌+◌, ◌-◌, ◌<◌, ◌≤◌, List, [], ◌∷◌, true, false, Some, None, nat_lt, length, get_or, set, refl, sym, ap, subst, ◌∙◌, arith}
-use Rattle.std.specs.Prelude.{◌&&◌}
+use Rattle.std.proofs.Common.{◌≡◌, ℕ, ◌-◌, ◌≤◌, List, [], ◌∷◌, true, Some, None, nat_lt, sym, ap, subst, ◌∙◌, arith}
 use Rattle.std.proofs.lemmas.Bool.Decides.{nat_tests}
 use Rattle.fuxi_terms.proofs.Booleans.{and_true}
 use Rattle.written_roles.specs.Masters.{out_of}
@@ -11,7 +10,7 @@ use Rattle.place_pass.specs.Cells.{asks_in}
 use Rattle.place_pass.specs.Placers.{board_over}
 use Rattle.place_pass.specs.Sights.{turn_in}
 use Rattle.place_pass.specs.Trees.{entry_for}
-use Rattle.place_pass.proofs.PathLemmas.{Walk, IsHead, rank_in_path, head_of, none_left, walk_starts, walk_over, walk_on, head_waits, head_level, head_least, admitted_at, path_ranks, path_lows}
+use Rattle.place_pass.proofs.PathLemmas.{Walk, rank_in_path, head_of, none_left, walk_starts, walk_over, walk_on, head_waits, head_level, head_least, admitted_at, path_ranks, path_lows}
 use Rattle.place_pass.proofs.SightsLemmas.{place_of}
 use Rattle.place_pass.proofs.search.best_on.Goals as goal
 

@@ -1,4 +1,4 @@
-use Rattle.std.proofs.Common.{◌≡◌, ◌<◌, ℕ, true, false, set, get_or, sym, ◌∙◌, subst, arith}
+use Rattle.std.proofs.Common.{◌≡◌, true, false, set, get_or, sym, ◌∙◌, subst, arith}
 use Rattle.place_pass.specs.Placers.{board_over}
 use Rattle.place_pass.proofs.SightsLemmas.{bounded_apart_from, bounded_noted, still_noted, now_noted}
 use Rattle.place_pass.proofs.search.may_place.Goals as goal

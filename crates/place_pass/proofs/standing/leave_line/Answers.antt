@@ -1,16 +1,16 @@
-use Rattle.std.proofs.Common.{◌≡◌, ◌+◌, ◌<◌, ℕ, Bool, List, true, false, not, nat_lt, ◌∷◌, take, length, get_or, [], slice_get, Some, refl, sym, ◌∙◌, ap, subst, arith, inl, inr}
+use Rattle.std.proofs.Common.{◌≡◌, ◌+◌, ◌<◌, ℕ, Bool, List, true, false, not, nat_lt, ◌∷◌, take, length, get_or, [], refl, sym, ◌∙◌, ap, subst, arith}
 use Rattle.std.specs.Prelude.{◌&&◌, ◌||◌}
 use Rattle.std.proofs.lemmas.Bool.Decides.{nat_tests}
 use Rattle.fuxi_terms.proofs.Lists.{all_at}
 use Rattle.wait_queue.specs.declared.node.Entry.{Entry}
-use Rattle.locality_tree.specs.Trees.{is_admitted, refreshed, unit_at, MayWait}
+use Rattle.locality_tree.specs.Trees.{is_admitted, refreshed, MayWait}
 use Rattle.written_roles.specs.Masters.{out_of}
 use Rattle.written_roles.specs.Placing.{has_pair}
 use Rattle.place_pass.specs.Bounds.{turn_at}
 use Rattle.place_pass.specs.Cells.{asks_in}
 use Rattle.place_pass.specs.Lines.{same_pair}
 use Rattle.place_pass.proofs.FirstByTurn.{has_at}
-use Rattle.place_pass.proofs.Lining.{pair_is, pair_self, taken_whole}
+use Rattle.place_pass.proofs.Lining.{pair_is, taken_whole}
 use Rattle.place_pass.proofs.NumberedLemmas.{app_small, unit_small}
 use Rattle.place_pass.proofs.StandingLemmas.{holds_same, holds_left, left_others, admitted_in, may_wait, turn_apart, has_other, has_itself}
 use Rattle.place_pass.proofs.standing.leave_line.Goals as goal

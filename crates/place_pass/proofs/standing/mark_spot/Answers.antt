@@ -1,6 +1,6 @@
-use Rattle.std.proofs.Common.{◌≡◌, ◌<◌, ℕ, false, length, get_or, refl, sym, ◌∙◌, ap, subst, arith}
+use Rattle.std.proofs.Common.{◌≡◌, ◌<◌, length, refl, sym, ◌∙◌, ap, arith}
 use Rattle.fuxi_terms.specs.Cluster.{ClusterRecord, rack_of}
-use Rattle.locality_tree.specs.Trees.{unit_at, unit_number, place_count, rack_place}
+use Rattle.locality_tree.specs.Trees.{unit_number, place_count, rack_place}
 use Rattle.place_pass.specs.Trees.{is_unmet_in}
 use Rattle.place_pass.proofs.Matching.{rack_is, rack_small}
 use Rattle.place_pass.proofs.StandingLemmas.{restood_then, marked, marked_here, marked_apart, marked_waits, racks_long}

@@ -1,15 +1,15 @@
-use Rattle.std.proofs.Common.{◌≡◌, ◌≢◌, ◌<◌, ℕ, Bool, true, false, nat_eq, length, get_or, [], refl, sym, ◌∙◌, ap, subst, arith, inl, inr}
+use Rattle.std.proofs.Common.{◌≡◌, ◌<◌, ℕ, Bool, true, false, nat_eq, length, get_or, [], refl, sym, ◌∙◌, ap, subst, arith, inl, inr}
 use Rattle.std.specs.Prelude.{◌&&◌}
-use Rattle.std.proofs.lemmas.Bool.{cases_eq, cases_lt}
+use Rattle.std.proofs.lemmas.Bool.{cases_eq}
 use Rattle.std.proofs.lemmas.Bool.Decides.{nat_tests}
 use Rattle.fuxi_terms.specs.Jobs.{unit_count}
 use Rattle.fuxi_terms.proofs.Booleans.{number_is}
 use Rattle.fuxi_terms.proofs.Lists.{all_at}
 use Rattle.grant_table.specs.Tables.{as_known}
 use Rattle.wait_queue.specs.declared.node.Entry.{Entry}
-use Rattle.locality_tree.specs.Trees.{unit_at, unit_number}
+use Rattle.locality_tree.specs.Trees.{unit_number}
 use Rattle.written_roles.specs.Placing.{has_pair}
-use Rattle.place_pass.specs.Trees.{AllStand, StandsAs, WaitsIn, Restood}
+use Rattle.place_pass.specs.Trees.{StandsAs, WaitsIn, Restood}
 use Rattle.place_pass.proofs.SightsLemmas.{place_of}
 use Rattle.place_pass.proofs.StandingLemmas.{holds_on, numbers_apart, stands_on, waits_in}
 use Rattle.place_pass.proofs.standing.tell_asked.Goals as goal

@@ -5,7 +5,7 @@ use Rattle.place_pass.specs.Cells.{WishesRecord, job_at, asks_in, fresh_cell, fr
 use Rattle.place_pass.specs.Best.{AreAdmitted}
 use Rattle.place_pass.specs.Bounds.{IsRising, mark_of, turn_at}
 use Rattle.place_pass.specs.Trees.{HoldsLine, AllStand}
-use Rattle.locality_tree.specs.Trees.{TreeRecord, is_admitted, place_count, unit_at}
+use Rattle.locality_tree.specs.Trees.{TreeRecord, place_count}
 use Rattle.fuxi_terms.specs.Cluster.{ClusterRecord}
 use Rattle.fuxi_terms.proofs.Lists.{all_at}
 use Rattle.place_pass.proofs.SightsLemmas.{place_of}

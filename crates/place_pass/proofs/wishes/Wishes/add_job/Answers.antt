@@ -1,4 +1,4 @@
-use Rattle.std.proofs.Common.{◌≡◌, length, set, sym, ◌∙◌, ap, subst, arith}
+use Rattle.std.proofs.Common.{◌≡◌, length, set, sym, ◌∙◌, subst, arith}
 use Rattle.std.proofs.lemmas.List.{map-set, length-map}
 use Rattle.place_pass.specs.Cells.{WishesRecord, AreWishes, cells_in, cells_of, fresh_cell, fresh_cells}
 use Rattle.place_pass.proofs.Asking.{wishes_set, fresh_wishes}

@@ -1,4 +1,4 @@
-use Rattle.std.proofs.Common.{◌≡◌, nat_lt, length, get_or, sym, ◌∙◌, ap, arith}
+use Rattle.std.proofs.Common.{nat_lt, length, get_or, sym, ◌∙◌, ap, arith}
 use Rattle.fuxi_terms.specs.Tables.{held_in}
 use Rattle.place_pass.specs.Cells.{Cell, cell_at}
 use Rattle.place_pass.proofs.Matching.{rack_read}

@@ -1,4 +1,4 @@
-use Rattle.std.proofs.Common.{◌≡◌, nat_lt, length, ap, arith}
+use Rattle.std.proofs.Common.{nat_lt, length, ap, arith}
 use Rattle.fuxi_terms.specs.Cluster.{ClusterRecord}
 use Rattle.place_pass.specs.Cells.{Cell, cell_at}
 use Rattle.place_pass.proofs.Matching.{near_read}
