@@ -1,13 +1,11 @@
 -- The walk over a machine's path: what is left of it, and what is known of the pairs of the line that it passed.
 use Rattle.std.proofs.Common.{◌≡◌, ◌⊎◌, ℕ, zero, suc, ◌+◌, ◌-◌, ◌*◌, ◌<◌, ◌≤◌, Bool, true, false, cond, not, nat_eq, nat_lt, List, [], ◌∷◌, Option, Some, None, length, map, get_or, refl, sym, ap, subst, ◌∙◌, inl, inr, arith}
-use Rattle.std.specs.Prelude.{◌/◌, ◌%◌, slice_get}
+use Rattle.std.specs.Prelude.{slice_get}
 use Rattle.std.specs.Option.{unwrap_or, option_map}
-use Rattle.std.specs.Cmp.{IsEquivalence, IsTotalOrder, nat_cmp_total}
-use Rattle.std.specs.Cmp.Lexicographic.{slice_cmp, lists_total}
+use Rattle.std.specs.Cmp.{IsEquivalence}
+use Rattle.std.specs.Cmp.Lexicographic.{slice_cmp}
 use Rattle.std.specs.List.{AllByRecursion, IsDistinct, list_all}
 use Rattle.std.specs.Ordering.{nat_cmp, is_lt, ordering_reverse}
-use Rattle.std.specs.declared.cmp.Ordering.{Ordering}
-use Rattle.std.specs.declared.cmp.Ordering.TheVariants.{Less, Equal, Greater}
 use Rattle.std.proofs.lemmas.Bool.Decides.{nat_tests}
 use Rattle.std.proofs.lemmas.List.{length-map}
 use Rattle.std.proofs.lemmas.Map.Made.{length-le_from_is_member}
@@ -22,7 +20,7 @@ use Rattle.written_roles.specs.Placing.{Board, has_pair}
 use Rattle.grant_table.specs.Tables.{TableRecord, IsSound, as_known, AreJobs}
 use Rattle.wait_queue.specs.declared.node.Entry.{Entry}
 use Rattle.locality_tree.specs.declared.path.Path.{Path}
-use Rattle.locality_tree.specs.Trees.{TreeRecord, Pair, no_unit, unit_at, level_at, racks_of, ranks_before, IsRanked, HasPath}
+use Rattle.locality_tree.specs.Trees.{TreeRecord, Pair, unit_at, level_at, racks_of, ranks_before, IsRanked, HasPath}
 use Rattle.locality_tree.specs.Paths.{Leads, Gives}
 use Rattle.place_pass.specs.Bounds.{comes_before, is_bound, rank_at, IsBounded}
 use Rattle.place_pass.specs.Best.{AreAdmitted}
@@ -30,21 +28,14 @@ use Rattle.place_pass.specs.Cells.{Cell, cell_at, asks_in, job_at}
 use Rattle.place_pass.specs.Placers.{AreLevel, board_over}
 use Rattle.place_pass.specs.Lines.{same_pair}
 use Rattle.place_pass.specs.Sights.{turn_in}
-use Rattle.place_pass.specs.Trees.{Holds, StandsAs, TreeOf, entry_for}
+use Rattle.place_pass.specs.Trees.{StandsAs, TreeOf, entry_for}
 use Rattle.place_pass.proofs.FirstByTurn.{less_first, less_rest}
 use Rattle.place_pass.proofs.Lining.{either_one, pair_is, pair_self, pair_turned}
 use Rattle.place_pass.proofs.Matching.{rack_small, unit_is}
-use Rattle.place_pass.proofs.SightsLemmas.{bounded_by, bounded_wider, place_of, self_bound}
+use Rattle.place_pass.proofs.SightsLemmas.{bounded_by, bounded_wider, less_is, order, place_of, self_bound}
+use Rattle.place_pass.proofs.StandingLemmas.{IsOfLine, some_same, waiting_is}
 
 -- ---- ranks
-order : IsTotalOrder (slice_cmp nat_cmp)
-order = lists_total nat_cmp_total
-
-less_is : (o : Ordering) → is_lt o ≡ true → o ≡ Less
-less_is Less e = refl
-less_is Equal e = cc
-less_is Greater e = cc
-
 not_after : (r s : List ℕ) → comes_before r s ≡ true → not (comes_before s r) ≡ true
 not_after r s e = ap (λ o. not (is_lt o)) (order.antisymm s r ∙ ap ordering_reverse (less_is (slice_cmp nat_cmp r s) e))
 
@@ -88,28 +79,7 @@ priority_small (j ∷ js) h a u = by (nat_eq j.number a) (priority_small js h.1.
     by true rest = here
     by false rest = rest
 
--- ---- who waits in a tree
-some_same : (o : Option Entry) (e f : Entry) → o ≡ Some e → o ≡ Some f → f ≡ e
-some_same o e f h g = cc
-
-none_some : (o : Option Entry) (e : Entry) → o ≡ None → o ≡ Some e → ⊥
-none_some o e h g = cc
-
-pub record IsOfLine (cells : List (List Cell)) (waits : ℕ × ℕ → Bool) (turns : List ℕ) (e : Entry) : Type 0 where
-  pub waiting : waits (e.app.0, e.unit.0) ≡ true
-  pub is : e ≡ entry_for cells turns e.app.0 e.unit.0
-
-pub waiting_is : (c : ClusterRecord) (cells : List (List Cell)) (waits : ℕ × ℕ → Bool) (turns : List ℕ) (t : TreeRecord) → Holds c cells waits turns t → (n : ℕ) (e : Entry) → (get_or t.units n no_unit).entry ≡ Some e → IsOfLine cells waits turns e
-waiting_is c cells waits turns t h n e g =
-    let back : 8 * (n / 8) + n % 8 ≡ n = omega arith in
-    let low : n % 8 < 8 = omega arith in
-    let found : (unit_at t (n / 8) (n % 8)).entry ≡ Some e = ap (λ k. (get_or t.units k no_unit).entry) back ∙ g in
-    elim (waits (n / 8, n % 8)) as (λ w. waits (n / 8, n % 8) ≡ w → IsOfLine cells waits turns e) [
-      | true ↦ λ w. subst (IsOfLine cells waits turns) (sym (some_same (unit_at t (n / 8) (n % 8)).entry (entry_for cells turns (n / 8) (n % 8)) e (h.entry (n / 8) (n % 8) w) found)) (record { waiting = w; is = refl })
-      | false ↦ λ w. absurd (none_some (unit_at t (n / 8) (n % 8)).entry e (h.none (n / 8) (n % 8) low w) found)
-    ] refl
-
--- the level of a unit in the tree is that of the table
+-- ---- levels: that of a unit in the tree is that of the table
 rack_read : (ms : List MachineRecord) (m : ℕ) → m < length ms → get_or (map (λ (x : MachineRecord). x.rack) ms) m 0 ≡ (unwrap_or (slice_get ms m) no_machine).rack
 rack_read [] m lt = absurd (omega (arith, lt))
 rack_read (x ∷ xs) zero lt = refl
@@ -224,7 +194,7 @@ module _ (c : ClusterRecord) (cells : List (List Cell)) (line : List (ℕ × ℕ
   ]
 
   -- the unit of the head is one of the line, with its level
-  pub head_waits : TreeOf c cells line turns es t → (b : Board) (groups : List Bool) (p : Path) (left : ℕ) (w : Walk b groups p left) (x : Pair) (L : List Pair → Type 0) → IsHead w.rest x L → IsOfLine cells (λ q. has_pair q line) turns x.0
+  pub head_waits : TreeOf c cells line turns es t → (b : Board) (groups : List Bool) (p : Path) (left : ℕ) (w : Walk b groups p left) (x : Pair) (L : List Pair → Type 0) → IsHead w.rest x L → IsOfLine cells (λ q. has_pair q line) turns (8 * x.0.app.0 + x.0.unit.0) x.0
   head_waits of b groups p left w x L h = waiting_is c cells (λ q. has_pair q line) turns t of.waits (8 * x.0.app.0 + x.0.unit.0) x.0 (w.are.waiting x.0 x.1 (subst (In x) (sym h.is) (inl refl))).0
 
   pub head_level : (b : Board) (groups : List Bool) (p : Path) (left : ℕ) (w : Walk b groups p left) (x : Pair) (L : List Pair → Type 0) → IsHead w.rest x L → x.1 ≡ level_at t x.0.app.0 x.0.unit.0 m

@@ -7,7 +7,7 @@ use Rattle.std.proofs.lemmas.List.{get_or-set_same, get_or-set_other, length-map
 use Rattle.std.proofs.Math.ListN.{get_or-eq_default}
 use Rattle.fuxi_terms.specs.Cluster.{ClusterRecord, MachineRecord}
 use Rattle.fuxi_terms.specs.Keys.{Spot}
-use Rattle.fuxi_terms.proofs.Booleans.{number_is}
+use Rattle.fuxi_terms.proofs.Booleans.{number_is, or_false, or_right}
 use Rattle.fuxi_terms.proofs.Lists.{take_last}
 use Rattle.written_roles.specs.Placing.{has_pair}
 use Rattle.wait_queue.specs.declared.node.Entry.{Entry}
@@ -23,7 +23,7 @@ use Rattle.place_pass.proofs.SightsLemmas.{place_of, same_place}
 none_some : (o : Option Entry) (e : Entry) → o ≡ None → o ≡ Some e → ⊥
 none_some o e h g = cc
 
-some_same : (o : Option Entry) (e f : Entry) → o ≡ Some e → o ≡ Some f → f ≡ e
+pub some_same : (o : Option Entry) (e f : Entry) → o ≡ Some e → o ≡ Some f → f ≡ e
 some_same o e f h g = cc
 
 -- ---- numbers of units
@@ -188,6 +188,22 @@ admitted_in c cells waits turns t a u h lu lt =
 pub waits_in : (c : ClusterRecord) (cells : List (List Cell)) (waits : ℕ × ℕ → Bool) (turns : List ℕ) (t : TreeRecord) (a u : ℕ) → Holds c cells waits turns t → waits (a, u) ≡ true → u < length (get_or cells a []) → WaitsIn c (entry_for cells turns a u) t
 waits_in c cells waits turns t a u h w lt = record { racks = h.racks; entry = h.entry a u w; places = places_of c cells waits turns t a u h (h.few a u w) lt }
 
+-- who waits with an entry is one of those that wait, and the entry is its own
+pub record IsOfLine (cells : List (List Cell)) (waits : ℕ × ℕ → Bool) (turns : List ℕ) (n : ℕ) (e : Entry) : Type 0 where
+  pub waiting : waits (e.app.0, e.unit.0) ≡ true
+  pub is : e ≡ entry_for cells turns e.app.0 e.unit.0
+  pub number : n ≡ unit_number e.app.0 e.unit.0
+
+pub waiting_is : (c : ClusterRecord) (cells : List (List Cell)) (waits : ℕ × ℕ → Bool) (turns : List ℕ) (t : TreeRecord) → Holds c cells waits turns t → (n : ℕ) (e : Entry) → (get_or t.units n no_unit).entry ≡ Some e → IsOfLine cells waits turns n e
+waiting_is c cells waits turns t h n e g =
+    let back : 8 * (n / 8) + n % 8 ≡ n = omega arith in
+    let low : n % 8 < 8 = omega arith in
+    let found : (unit_at t (n / 8) (n % 8)).entry ≡ Some e = ap (λ k. (get_or t.units k no_unit).entry) back ∙ g in
+    elim (waits (n / 8, n % 8)) as (λ w. waits (n / 8, n % 8) ≡ w → IsOfLine cells waits turns n e) [
+      | true ↦ λ w. subst (IsOfLine cells waits turns n) (sym (some_same (unit_at t (n / 8) (n % 8)).entry (entry_for cells turns (n / 8) (n % 8)) e (h.entry (n / 8) (n % 8) w) found)) (record { waiting = w; is = refl; number = sym back })
+      | false ↦ λ w. absurd (none_some (unit_at t (n / 8) (n % 8)).entry e (h.none (n / 8) (n % 8) low w) found)
+    ] refl
+
 -- a unit may wait, and wait no more, where no other that waits has its turn
 pub may_wait : (c : ClusterRecord) (cells : List (List Cell)) (waits : ℕ × ℕ → Bool) (turns : List ℕ) (t : TreeRecord) (a u : ℕ) → Holds c cells waits turns t → a < 256 → u < 8
     → ((b v : ℕ) → waits (b, v) ≡ true → turn_at turns b v ≡ turn_at turns a u → same_pair (b, v) (a, u) ≡ true) → MayWait t (entry_for cells turns a u)
@@ -199,39 +215,20 @@ may_wait c cells waits turns t a u h la lu apart = record {
     | false ↦ λ w. absurd (none_some (unit_at t a u).entry f (h.none a u lu w) g)
   ] refl;
   alone = λ n f g q.
-      let back : 8 * (n / 8) + n % 8 ≡ n = omega arith in
-      let low : n % 8 < 8 = omega arith in
-      let found : (unit_at t (n / 8) (n % 8)).entry ≡ Some f = ap (λ k. (get_or t.units k no_unit).entry) back ∙ g in
-      elim (waits (n / 8, n % 8)) as (λ w. waits (n / 8, n % 8) ≡ w → n ≡ unit_number a u) [
-        | true ↦ λ w.
-            let is = some_same (unit_at t (n / 8) (n % 8)).entry (entry_for cells turns (n / 8) (n % 8)) f (h.entry (n / 8) (n % 8) w) found in
-            let pair = pair_is (n / 8, n % 8) (a, u) (apart (n / 8) (n % 8) w (sym (ap (λ (x : Entry). x.turn) is) ∙ q)) in
-            sym back ∙ ap (λ (p : ℕ × ℕ). unit_number p.0 p.1) pair
-        | false ↦ λ w. absurd (none_some (unit_at t (n / 8) (n % 8)).entry f (h.none (n / 8) (n % 8) low w) found)
-      ] refl;
+      let own = waiting_is c cells waits turns t h n f g in
+      let turn : turn_at turns f.app.0 f.unit.0 ≡ turn_at turns a u = sym (ap (λ (x : Entry). x.turn) own.is) ∙ q in
+      own.number ∙ ap (λ (p : ℕ × ℕ). unit_number p.0 p.1) (pair_is (f.app.0, f.unit.0) (a, u) (apart f.app.0 f.unit.0 own.waiting turn));
 }
 
 -- ---- turns along a line
 pub has_more : (xs : List (ℕ × ℕ)) (k : ℕ) (p q : ℕ × ℕ) → slice_get xs k ≡ Some p → has_pair q (take (k + 1) xs) ≡ (has_pair q (take k xs) || same_pair q p)
-has_more xs k p q e = ap (has_pair q) (take_last xs k p e) ∙ any_append (same_pair q) (take k xs) (p ∷ []) ∙ ap (λ b. has_pair q (take k xs) || b) (alone (same_pair q p))
-  where
-    alone : (b : Bool) → (b || false) ≡ b
-    alone true = refl
-    alone false = refl
+has_more xs k p q e = ap (has_pair q) (take_last xs k p e) ∙ any_append (same_pair q) (take k xs) (p ∷ []) ∙ ap (λ b. has_pair q (take k xs) || b) (or_false (same_pair q p))
 
 pub has_other : (xs : List (ℕ × ℕ)) (k : ℕ) (p q : ℕ × ℕ) → slice_get xs k ≡ Some p → same_pair q p ≡ false → has_pair q (take (k + 1) xs) ≡ has_pair q (take k xs)
-has_other xs k p q e f = has_more xs k p q e ∙ ap (λ b. has_pair q (take k xs) || b) f ∙ alone (has_pair q (take k xs))
-  where
-    alone : (b : Bool) → (b || false) ≡ b
-    alone true = refl
-    alone false = refl
+has_other xs k p q e f = has_more xs k p q e ∙ ap (λ b. has_pair q (take k xs) || b) f ∙ or_false (has_pair q (take k xs))
 
 pub has_itself : (xs : List (ℕ × ℕ)) (k : ℕ) (p : ℕ × ℕ) → slice_get xs k ≡ Some p → has_pair p (take (k + 1) xs) ≡ true
-has_itself xs k p e = has_more xs k p p e ∙ ap (λ b. has_pair p (take k xs) || b) (pair_self p) ∙ last (has_pair p (take k xs))
-  where
-    last : (b : Bool) → (b || true) ≡ true
-    last true = refl
-    last false = refl
+has_itself xs k p e = has_more xs k p p e ∙ or_right (has_pair p (take k xs)) (same_pair p p) (pair_self p)
 
 got_taken : (xs : List (ℕ × ℕ)) (k j : ℕ) (q : ℕ × ℕ) → slice_get (take k xs) j ≡ Some q → (slice_get xs j ≡ Some q) × (j < k)
 got_taken [] zero j q e = cc
@@ -258,7 +255,8 @@ turn_apart f xs p q rises hp hq e =
     ]
 
 -- ---- a unit begins to wait, or waits no more
-nowhere_in : (n k : ℕ) → get_or (replicate n false) k false ≡ false
+-- a unit that stands nowhere
+pub nowhere_in : (n k : ℕ) → get_or (replicate n false) k false ≡ false
 nowhere_in zero k = refl
 nowhere_in (suc n) zero = refl
 nowhere_in (suc n) (suc k) = nowhere_in n k

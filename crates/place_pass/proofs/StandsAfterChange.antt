@@ -19,7 +19,7 @@ use Rattle.place_pass.specs.Lines.{same_pair}
 use Rattle.place_pass.specs.Trees.{entry_for, Holds, HoldsLine, StandsAs, AllStand, Restood, RestoodAt}
 use Rattle.place_pass.proofs.BoundsAfterChange.{count_stays, rack_stays}
 use Rattle.place_pass.proofs.Lining.{has_filter, pair_is, pair_turned}
-use Rattle.place_pass.proofs.StandingLemmas.{numbers_apart, racks_long, stands_on}
+use Rattle.place_pass.proofs.StandingLemmas.{nowhere_in, numbers_apart, racks_long, stands_on}
 
 -- ---- the number at one spot is set
 module _ (c : ClusterRecord) (cells : List (List Cell)) (es : List (Spot × ℕ)) (a u m n : ℕ) (sorted : T (is_sorted spot_cmp es)) where
@@ -159,11 +159,6 @@ idle_in units first places (suc n) i long lt = elim (cases_eq i n) as (λ _. get
 idle_out : (units : List UnitState) (first places n k : ℕ) → ((i : ℕ) → i < n → k ≢ first + i) → get_or (with_idle units first places n) k no_unit ≡ get_or units k no_unit
 idle_out units first places zero k h = refl
 idle_out units first places (suc n) k h = get_or-set_other (with_idle units first places n) (first + n) k (idle places) no_unit (h n (omega arith)) ∙ idle_out units first places n k (λ i lt. h i (omega (arith, lt)))
-
-nowhere_in : (n k : ℕ) → get_or (replicate n false) k false ≡ false
-nowhere_in zero k = refl
-nowhere_in (suc n) zero = refl
-nowhere_in (suc n) (suc k) = nowhere_in n k
 
 pub all_are : all_units ≡ 2048
 unfolding all_units
