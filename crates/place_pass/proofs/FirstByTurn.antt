@@ -27,7 +27,7 @@ use Rattle.place_pass.proofs.Lining.{pair_self}
 use Rattle.place_pass.proofs.Picking.{all_below}
 
 -- ---- one place of a rank after another
-is_same : (x : ℕ) → nat_cmp x x ≡ Equal
+pub is_same : (x : ℕ) → nat_cmp x x ≡ Equal
 is_same x =
     let t : nat_lt x x ≡ false = grind (arith, nat_tests) in
     let e : (x == x) ≡ true = grind (arith, nat_tests) in

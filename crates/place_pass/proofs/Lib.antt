@@ -21,3 +21,4 @@ mod StandsAfterChange
 mod LinedLemmas
 mod AskedLemmas
 mod PathLemmas
+mod WalksLemmas

@@ -6,3 +6,4 @@ pub mod Bounds
 pub mod Sights
 pub mod Counts
 pub mod Trees
+pub mod Walks
