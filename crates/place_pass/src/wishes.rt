@@ -363,7 +363,10 @@ fn read_racks(racks: &mut Vec<u32>, cluster: &Cluster, demand: &Demand, unit: u8
             number,
         };
         let wanted = next_number(demand, &mut passed, &key);
-        let there = cluster.has_rack(RackNo(number));
-        racks[number as usize] = if there { wanted } else { 0 };
+        racks[number as usize] = if wanted > 0 && cluster.has_rack(RackNo(number)) {
+            wanted
+        } else {
+            0
+        };
     }
 }
