@@ -83,7 +83,6 @@ impl Placer {
     ghost use Rattle.fuxi_terms.specs.Counts.{count};
     ghost use Rattle.fuxi_terms.specs.Jobs.{is_known, unit_count};
     ghost use Rattle.fuxi_terms.specs.Tables.{spot, held_on};
-    ghost use Rattle.fuxi_terms.specs.TallyKeys.{want_key, avoid_key};
     ghost use Rattle.written_roles.specs.Masters.{out_of};
     ghost use Rattle.written_roles.specs.Placing.{first_in, lined, has_pair};
     ghost use Rattle.grant_table.specs.Tables.{TableRecord, as_known, with_admitted};
@@ -296,7 +295,7 @@ impl Placer {
         self.wishes.outstanding(table, app, unit)
     }
 
-    /// How many grants of an admitted unit are asked for in all. No memory is taken.
+    /// How many grants of an admitted unit are wanted in all. No memory is taken.
     pub fn wanted(&self, app: AppNo, unit: UnitNo) -> u32
         requires { unit.0 < units_seen self.now.seen app.0 }
         ensures { result ≡ asks_seen self.now.seen app.0 (want_key unit.0) }
