@@ -77,6 +77,7 @@ impl Placer {
     ghost use Rattle.fuxi_terms.specs.Counts.{count};
     ghost use Rattle.fuxi_terms.specs.Jobs.{is_known, unit_count};
     ghost use Rattle.fuxi_terms.specs.Tables.{spot, held_on};
+    ghost use Rattle.fuxi_terms.specs.TallyKeys.{want_key, avoid_key};
     ghost use Rattle.written_roles.specs.Masters.{out_of};
     ghost use Rattle.written_roles.specs.Placing.{first_in, lined, has_pair};
     ghost use Rattle.grant_table.specs.Tables.{TableRecord, as_known, with_admitted};
@@ -245,6 +246,23 @@ impl Placer {
         let _sound = table.cluster();
         let _wish = self.wishes.wish(app, unit);
         self.wishes.outstanding(table, app, unit)
+    }
+
+    /// How many grants of an admitted unit are asked for in all. No memory is taken.
+    pub fn wanted(&self, app: AppNo, unit: UnitNo) -> u32
+        requires { unit.0 < units_seen self.now.seen app.0 }
+        ensures { result ≡ asks_seen self.now.seen app.0 (want_key unit.0) }
+    {
+        self.wishes.wish(app, unit).want
+    }
+
+    /// Whether an admitted unit avoids the machine. One that the cluster does not have is not avoided. No memory is
+    /// taken.
+    pub fn avoids(&self, app: AppNo, unit: UnitNo, machine: MachineNo) -> bool
+        requires { unit.0 < units_seen self.now.seen app.0 }
+        ensures { result ≡ nat_lt 0 (asks_seen self.now.seen app.0 (avoid_key unit.0 machine.0)) }
+    {
+        self.wishes.avoids(app, unit, machine)
     }
 
     /// The number that the next unit gets that begins to wait.

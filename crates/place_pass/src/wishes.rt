@@ -146,6 +146,15 @@ impl Wishes {
         self.wish(app, unit).avoided[machine.0 as usize] == 0
     }
 
+    /// Whether an admitted unit avoids the machine. False where the cluster does not have it.
+    pub(crate) fn avoids(&self, app: AppNo, unit: UnitNo, machine: MachineNo) -> bool
+        requires { unit.0 < length (get_or self.now.cells app.0 []) }
+        ensures { result ≡ nat_lt 0 (get_or (cell_at self.now.cells app.0 unit.0).avoided machine.0 0) }
+    {
+        let wish = self.wish(app, unit);
+        wish.avoided.get(machine.0 as usize).copied().unwrap_or(0) > 0
+    }
+
     /// Whether by this demand a unit of the job no longer avoids a machine that it avoided.
     pub(crate) fn lifts(&self, app: AppNo, demand: &Demand, machine: MachineNo) -> bool
         requires { machine.0 < length self.now.cluster.machines }
