@@ -4,8 +4,7 @@ use Rattle.std.specs.Ordering.{nat_cmp}
 use Rattle.std.specs.FinMap.Entries.{find}
 use Rattle.fuxi_terms.specs.Cluster.{ClusterRecord}
 use Rattle.written_world.specs.Outputs.{Halted}
-use Rattle.written_world.specs.World.{World}
-use Rattle.written_world.specs.Events.{Event, StartMaster, Halt, counted_in, is_writing, is_written, without_master, world_step, writer_of}
+use Rattle.written_world.specs.Events.{Event, StartMaster, Halt, counted_in, is_written, without_master, world_step, writer_of}
 use Rattle.written_world.specs.Runs.{run}
 use Rattle.written_world.specs.Steps.{IsDone}
 
