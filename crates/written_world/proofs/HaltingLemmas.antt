@@ -15,7 +15,7 @@ use Rattle.written_roles.specs.Masters.{Master}
 use Rattle.written_roles.specs.MasterSteps.{new_master}
 use Rattle.written_roles.specs.Refusals.{NotRising, NotRunning, Refusal, TooManyMasters, first_refusal, with_found}
 use Rattle.written_world.specs.Events.{Ban, Event, Finish, Halt, StartMaster, Submit, Unban, act, counted_in, halted, is_writing, is_written, without_master, world_step, writer_of}
-use Rattle.written_world.specs.Halting.{Halts, is_start}
+use Rattle.written_world.specs.Halting.{Halts, StopsNobody, is_start}
 use Rattle.written_world.specs.Parties.{end_step}
 use Rattle.written_world.specs.Runs.{run}
 use Rattle.written_world.specs.Steps.{IsDone}
@@ -123,3 +123,7 @@ module _ (c : ClusterRecord) (before : List Event) (calls : ℕ) (all : Bool) (x
     starts = λ start unwritten. start_again x start w (counted_in (run c (before ++ Halt calls all x ∷ []))) (ap (λ (v : World). v.hard) world_is ∙ ap (λ b. cond b (act w x).world.hard (run c before).hard) unwritten)
         (subst (λ (v : World). length v.masters ≤ length w.masters) (sym world_is) (fewer_left (λ k. not (nat_eq k e)) w.masters)) done;
   }
+
+-- of a refused line
+pub stops_nobody : (w : World) (x : Event) (r : Refusal) → StopsNobody w x r
+stops_nobody w x r calls all is = ap (λ ls. halted (counted_in w) (writer_of x) (is_written calls all) (world_step w x).world ls) is
