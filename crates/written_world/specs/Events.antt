@@ -1,5 +1,5 @@
 -- The events, and one function for each.
-use Rattle.std.specs.Prelude.{ℕ, zero, suc, ◌+◌, ◌-◌, Bool, cond, not, nat_eq, nat_lt, List, [], ◌∷◌, ◌++◌, length, map, drop, Option, Some, None, slice_get}
+use Rattle.std.specs.Prelude.{ℕ, zero, suc, ◌+◌, ◌-◌, Bool, true, false, cond, not, nat_eq, nat_lt, ◌&&◌, ◌||◌, List, [], ◌∷◌, ◌++◌, length, map, drop, Option, Some, None, slice_get}
 use Rattle.std.specs.Ordering.{nat_cmp}
 use Rattle.std.specs.FinMap.Entries.{put, where_key, find}
 use Rattle.fuxi_terms.specs.declared.Key.{Key}
@@ -16,7 +16,7 @@ use Rattle.written_world.specs.World.{World, Agent, App, set_boot, Step, prints_
 use Rattle.written_roles.specs.MasterSteps.{master_party, talks, peers, MasterCommand, Submits, command_of, Finishes, BansMachine, new_master, UnbansMachine, StartsServing, MakesRoom}
 use Rattle.written_world.specs.Parties.{end_step, master_hears, agent_hears, app_hears}
 use Rattle.written_roles.specs.Apps.{changed_demand, usable_at, given_at, AppCommand, command_tests, command_key, command_number, Wants, WantsNear, WantsInRack, Avoids, GivesBack}
-use Rattle.written_world.specs.Outputs.{Line, Judged, Came, Lost, Frame, sent_lines}
+use Rattle.written_world.specs.Outputs.{Line, Judged, Came, Lost, Halted, Frame, sent_lines}
 use Rattle.written_world.specs.Show.{show}
 
 -- one constructor for each event line, with its numbers in the line's order
@@ -47,6 +47,8 @@ pub data Event : Type 0 where
   DeliverRange : (first last : ℕ) → Event
   Dump : (number : ℕ) → Event
   ShowState : Event
+  -- the master that the line names stops within the writing of that line, behind so many of the four calls on the disk; and whether what was written since the last sync stands there
+  Halt : (calls : ℕ) → (all : Bool) → (line : Event) → Event
 
 -- Where the party runs; else the event is refused
 abbrev pub at_master : World → ℕ → (Master → Step) → Step
@@ -193,6 +195,37 @@ dump w k = unless_refused w (no_packet w k ∷ [])
 abbrev pub show_state : World → Step
 show_state w = record { world = w; lines = show w }
 
+-- A stop within a writing. The lines that write, and the master that each names
+abbrev pub is_writing : Event → Bool
+is_writing (StartMaster e) = true
+is_writing (Submit e j) = true
+is_writing (Finish e a) = true
+is_writing (Ban e m) = true
+is_writing (Unban e m) = true
+is_writing x = false
+
+abbrev pub writer_of : Event → ℕ
+writer_of (StartMaster e) = e
+writer_of (Submit e j) = e
+writer_of (Finish e a) = e
+writer_of (Ban e m) = e
+writer_of (Unban e m) = e
+writer_of x = 0
+
+-- the third call opens the record's gate, and the fourth syncs that
+abbrev pub is_written : ℕ → Bool → Bool
+is_written calls all = nat_lt 3 calls || (nat_eq calls 3 && all)
+
+-- without that master, over a hard state
+abbrev pub without_master : World → ℕ → HardState → World
+without_master w e h = record w { hard = h; masters = where_key nat_cmp (λ k. not (nat_eq k e)) w.masters }
+
+-- a line leads to a world and prints these lines: where it is refused nothing changes; else its master does not run, the hard state is that behind the line or
+-- that before it, and nothing else changes
+abbrev pub halted : World → ℕ → Bool → World → List Line → Step
+halted w e written behind [] = record { world = without_master w e (cond written behind.hard w.hard); lines = Halted e written ∷ [] }
+halted w e written behind (l ∷ ls) = record { world = w; lines = l ∷ ls }
+
 -- what an event does but for the count of events
 abbrev pub act : World → Event → Step
 act w (StartMaster e) = start_master w e
@@ -221,6 +254,7 @@ act w (Deliver k) = deliver w k
 act w (DeliverRange k l) = deliver_range w k l
 act w (Dump k) = dump w k
 act w ShowState = show_state w
+act w (Halt calls all x) = let s = act w x in halted w (writer_of x) (is_written calls all) s.world s.lines
 
 -- each event counts, a refused one too
 abbrev pub counted_in : World → World

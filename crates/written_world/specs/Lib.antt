@@ -17,3 +17,4 @@ pub mod KeepsGrants
 pub mod HeedsDemands
 pub mod Turns
 pub mod Judging
+pub mod Halting

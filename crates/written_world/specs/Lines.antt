@@ -4,7 +4,7 @@ use Rattle.std.specs.List.{AllByRecursion}
 use Rattle.fuxi_terms.specs.Cluster.{ClusterRecord, is_valid_cluster, is_between, is_at_most}
 use Rattle.fuxi_terms.specs.Limits.{most_jobs, most_units, most_machines, most_racks, most_groups}
 use Rattle.written_roles.specs.Votes.{most_votes}
-use Rattle.written_world.specs.Events.{Event, StartMaster, StopMaster, StartAgent, StartApp, Submit, Finish, Ban, Unban, Begin, Preempt, Judge, Want, Near, Rack, Avoid, GiveBack, TurnMaster, TurnAgent, TurnApp, ResyncMaster, ResyncAgent, ResyncApp, Deliver, DeliverRange, Dump, ShowState}
+use Rattle.written_world.specs.Events.{Event, StartMaster, StopMaster, StartAgent, StartApp, Submit, Finish, Ban, Unban, Begin, Preempt, Judge, Want, Near, Rack, Avoid, GiveBack, TurnMaster, TurnAgent, TurnApp, ResyncMaster, ResyncAgent, ResyncApp, Deliver, DeliverRange, Dump, ShowState, Halt, is_writing}
 
 -- epochs, boots and packets are counted from 1
 abbrev pub is_counted : ℕ → Bool
@@ -37,6 +37,7 @@ is_from_line (Deliver k) = is_counted k
 is_from_line (DeliverRange k l) = is_counted k && not (nat_lt l k)
 is_from_line (Dump k) = is_counted k
 is_from_line ShowState = true
+is_from_line (Halt calls all x) = is_between 1 4 calls && (is_writing x && is_from_line x)
 
 -- an input: a valid cluster, and events that lines can give
 pub record IsInput (c : ClusterRecord) (events : List Event) : Type 0 where

@@ -12,6 +12,8 @@ pub data Line : Type 0 where
   -- a delivery: new first where the sender is a new incarnation, then the word of the rule that ended the hearing
   Came : (number : ℕ) → (fresh : Bool) → (what : What) → Line
   Lost : (number : ℕ) → Line
+  -- a master that stopped within a writing, and whether that is written
+  Halted : (epoch : ℕ) → (written : Bool) → Line
   -- a packet with what it holds, of which the frame's bytes are made
   Frame : (number : ℕ) → (packet : Packet) → (body : Body) → Line
   Refused : (why : Refusal) → Line

@@ -4,11 +4,12 @@
 //! contract is a law of the definitions.
 #![tactic(auto)]
 
-ghost use Rattle.std.specs.Prelude.{◌≡◌, ℕ, true, List};
+ghost use Rattle.std.specs.Prelude.{◌≡◌, ℕ, Bool, true, List};
 ghost use Rattle.fuxi_terms.specs.declared.Key.{Key};
 ghost use Rattle.fuxi_terms.specs.Cluster.{ClusterRecord, is_valid_cluster};
 ghost use Rattle.fuxi_terms.specs.Keys.{key_cmp, RowKey, row_cmp, Spot, spot_cmp};
 ghost use Rattle.written_roles.specs.Masters.{Master};
+ghost use Rattle.written_roles.specs.Refusals.{Refusal};
 ghost use Rattle.fuxi_terms.specs.Patching.{PatchedByDifference, TalliesByDifference};
 ghost use Rattle.written_net.specs.Net.{Net, Move, move};
 ghost use Rattle.written_net.specs.Ledgers.{Ledger};
@@ -24,8 +25,9 @@ ghost use Rattle.written_world.specs.Shown.{AllShown, AllCredited, AllGiveBacks}
 ghost use Rattle.written_world.specs.Credits.{AllCreditedOnce};
 ghost use Rattle.written_world.specs.Safe.{Safe};
 ghost use Rattle.written_world.specs.Starts.{StaysStopped, StartsWithNothing};
-ghost use Rattle.written_world.specs.Steps.{AllGrow, AllBare, AllServe, AllLose};
-ghost use Rattle.written_world.specs.Events.{Event, world_step};
+ghost use Rattle.written_world.specs.Steps.{AllGrow, AllBare, AllServe, AllLose, IsDone};
+ghost use Rattle.written_world.specs.Events.{Event, is_writing, world_step};
+ghost use Rattle.written_world.specs.Halting.{Halts, StopsNobody};
 ghost use Rattle.written_world.specs.Lines.{IsInput, is_from_line};
 ghost use Rattle.written_world.specs.Runs.{run};
 ghost use Rattle.written_world.specs.Turns.{AllTurn};
@@ -165,4 +167,17 @@ pub fn turns_go_as_changes()
 /// the percentage allows are banned. One that judges no machine changes nothing but the number of events.
 pub fn every_judgement_bans_what_is_judged()
     ensures { (c : ClusterRecord) (events : List Event) → IsInput c events → AllJudge (run c events) }
+{}
+
+/// A stop within a writing that would not be refused prints that it came, and whether behind the writing or before it; the
+/// hard state is then the one behind or the one before, the master does not run, and nothing else changes. Behind the
+/// stop of a submission, the end of a job, a ban or the end of a ban its master never runs again; one that stopped
+/// before its start was written may be started.
+pub fn every_halt_stops_its_master()
+    ensures { (c : ClusterRecord) (before after : List Event) (calls : ℕ) (all : Bool) (x : Event) → is_writing x ≡ true → IsDone (run c before) x → Halts c before after calls all x }
+{}
+
+/// A stop within the writing of a line that is refused prints the refusal, and nothing changes but the number of events.
+pub fn a_refused_line_stops_nobody()
+    ensures { (w : World) (x : Event) (r : Refusal) → StopsNobody w x r }
 {}
