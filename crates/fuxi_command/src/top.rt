@@ -37,9 +37,9 @@ use std::alloc::Global;
 use storm_run::run_storm;
 use written_roles::preempts_by_quota;
 use written_world::{
-    a_failover_keeps_grants, always_safe, every_judgement_bans_what_is_judged, every_run_grows_as_allowed,
-    every_run_keeps_banned_machines_bare, every_run_loses_only_what_is_credited,
-    give_backs_are_credited_once, starts_with_nothing,
+    a_failover_keeps_grants, always_safe, every_judgement_bans_what_is_judged,
+    every_run_grows_as_allowed, every_run_keeps_banned_machines_bare,
+    every_run_loses_only_what_is_credited, give_backs_are_credited_once, starts_with_nothing,
 };
 
 // Runs a schedule.
