@@ -335,9 +335,16 @@ record IsWriting (h : Head) : Type 0 where
   writes : (ns : List ℕ) (asks : List Ask) → is_writing (event_at h ns asks) ≡ true
 
 heads_write : AllByRecursion IsWriting writing_heads
-heads_write =
-    (record { some = refl; writes = λ ns asks. refl }, (record { some = refl; writes = λ ns asks. refl }, (record { some = refl; writes = λ ns asks. refl },
-    (record { some = refl; writes = λ ns asks. refl }, (record { some = refl; writes = λ ns asks. refl }, tt)))))
+heads_write = (
+  record { some = refl; writes = λ ns asks. refl },
+  (
+    record { some = refl; writes = λ ns asks. refl },
+    (
+      record { some = refl; writes = λ ns asks. refl },
+      (record { some = refl; writes = λ ns asks. refl }, (record { some = refl; writes = λ ns asks. refl }, tt)),
+    ),
+  ),
+)
 
 stop_within : (words : List (List ℕ)) (stop : ℕ × Bool) → 3 ≤ length words → stop_of words ≡ Ok stop → is_within Calls 0 stop.0 ≡ true
 stop_within words stop long is =
