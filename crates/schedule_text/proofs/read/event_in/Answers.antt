@@ -3,7 +3,7 @@ use Rattle.schedule_text.specs.declared.event.Event.{Event}
 use Rattle.schedule_text.specs.declared.event.LineFault.{LineFault}
 use Rattle.schedule_text.specs.Forms.{Shape, halt_shape}
 use Rattle.schedule_text.specs.Halting.{anywhere}
-use Rattle.schedule_text.specs.Reading.{begins, event_behind, event_of_words, IsFault}
+use Rattle.schedule_text.specs.Reading.{begins, IsFault}
 use Rattle.schedule_text.proofs.Halts.{line_begins}
 use Rattle.schedule_text.proofs.Walks.{fault_is}
 use Rattle.schedule_text.proofs.read.event_in.Goals as goal
