@@ -1,7 +1,9 @@
 -- The events of an input are those that lines give, on a valid cluster.
 use Rattle.std.proofs.Common.{◌≡◌, ℕ, ◌+◌, Bool, true, false, nat_lt, List, [], ◌∷◌, length, take, Result, Ok, Err, refl, subst}
 use Rattle.std.specs.List.{AllByRecursion}
-use Rattle.fuxi_io.specs.Lines.{InputLine, lines_of}
+use Rattle.std.specs.Prelude.{if◌then◌else◌}
+use Rattle.fuxi_io.specs.Lines.{InputLine}
+use Rattle.fuxi_io.specs.declared.status.InputFault.TheVariants.{LineTooLong}
 use Rattle.fuxi_terms.specs.Cluster.{ClusterRecord, is_valid_cluster}
 use Rattle.fuxi_terms.specs.Counts.{then_do}
 use Rattle.fuxi_terms.specs.Limits.{most_line_bytes}
@@ -17,15 +19,17 @@ use Rattle.input_lines.specs.Contents.{content, is_skipped}
 use Rattle.schedule_run.specs.Inputs.{Input, BadLine, cluster_said, event_said, unless_long, events_from, input_from}
 
 -- a line that says something is not too long
+short_by : {A : Type 0} (long : Bool) (bad : BadLine) (said : Result A BadLine) (x : A) → (if long then Err bad else said) ≡ Ok x → said ≡ Ok x
+short_by true bad said x h = absurd (let no : ⊥ = cc in no)
+short_by false bad said x h = h
+
 short : {A : Type 0} (number : ℕ) (line : InputLine) (said : Result A BadLine) (x : A) → unless_long number line said ≡ Ok x → said ≡ Ok x
-short {A} number line said x h = by (nat_lt most_line_bytes (length line.bytes)) refl
-  where
-    by : (b : Bool) → nat_lt most_line_bytes (length line.bytes) ≡ b → said ≡ Ok x
-    by true e = absurd (no (rw e at h))
-      where
-        no : ◌≡◌ {A = Result A BadLine} (Err _) (Ok x) → ⊥
-        no k = cc
-    by false e = rw e at h
+short number line said x h = short_by (nat_lt most_line_bytes (length line.bytes)) (record { line = number; fault = LineTooLong }) said x h
+
+-- one that is skipped, or not
+by_skip : {A : Type 0} (P : Type 0) (b : Bool) (skipped plain : Result A BadLine) (x : A) → (elim b as (λ _. Result A BadLine) [ true ↦ skipped | false ↦ plain ]) ≡ Ok x → (skipped ≡ Ok x → P) → (plain ≡ Ok x → P) → P
+by_skip P true skipped plain x h f g = f h
+by_skip P false skipped plain x h f g = g h
 
 module _ (valid : (line : List ℕ) (c : ClusterRecord) → cluster_of line ≡ Ok c → is_valid_cluster c ≡ true) (given : (line : List ℕ) (e : LineEvent) → event_of line ≡ Ok e → is_from_line (event_as e) ≡ true) where
   abbrev AreGiven : List Event → Type 0
@@ -42,14 +46,11 @@ module _ (valid : (line : List ℕ) (c : ClusterRecord) → cluster_of line ≡ 
 
   events_given : (before : ℕ) (lines : List InputLine) (es : List Event) → events_from before lines ≡ Ok es → AreGiven es
   events_given before [] es h = let same : [] ≡ es = cc in subst AreGiven same tt
-  events_given before (line ∷ lines) es h = by (is_skipped (content line)) (short (before + 1) line _ es h)
-    where
-      by : (b : Bool) → (elim b as (λ _. Result (List Event) BadLine) [
-        | true ↦ events_from (before + 1) lines
-        | false ↦ then_do (event_said (before + 1) (event_of (content line))) (λ e. then_do (events_from (before + 1) lines) (λ es. Ok (e ∷ es)))
-      ]) ≡ Ok es → AreGiven es
-      by true k = events_given (before + 1) lines es k
-      by false k = said (content line) (before + 1) (event_of (content line)) (events_from (before + 1) lines) es refl (λ ts. events_given (before + 1) lines ts) k
+  events_given before (line ∷ lines) es h =
+      by_skip (AreGiven es) (is_skipped (content line)) (events_from (before + 1) lines)
+      (then_do (event_said (before + 1) (event_of (content line))) (λ e. then_do (events_from (before + 1) lines) (λ ts. Ok (e ∷ ts)))) es (short (before + 1) line _ es h)
+      (λ k. events_given (before + 1) lines es k)
+      (λ k. said (content line) (before + 1) (event_of (content line)) (events_from (before + 1) lines) es refl (λ ts t. events_given (before + 1) lines ts t) k)
 
   whole : (c : ClusterRecord) (rest : Result (List Event) BadLine) (i : Input) → is_valid_cluster c ≡ true → ((ts : List Event) → rest ≡ Ok ts → AreGiven ts)
       → then_do rest (λ es. Ok (record { cluster = c; events = es })) ≡ Ok i → IsInput i.cluster i.events
@@ -63,11 +64,8 @@ module _ (valid : (line : List ℕ) (c : ClusterRecord) → cluster_of line ≡ 
 
   pub input_given : (before : ℕ) (lines : List InputLine) (i : Input) → input_from before lines ≡ Ok i → IsInput i.cluster i.events
   input_given before [] i h = absurd (let no : ⊥ = cc in no)
-  input_given before (line ∷ lines) i h = by (is_skipped (content line)) (short (before + 1) line _ i h)
-    where
-      by : (b : Bool) → (elim b as (λ _. Result Input BadLine) [
-        | true ↦ input_from (before + 1) lines
-        | false ↦ then_do (cluster_said (before + 1) (cluster_of (content line))) (λ c. then_do (events_from (before + 1) lines) (λ es. Ok (record { cluster = c; events = es })))
-      ]) ≡ Ok i → IsInput i.cluster i.events
-      by true k = input_given (before + 1) lines i k
-      by false k = described (content line) (before + 1) (cluster_of (content line)) (events_from (before + 1) lines) i refl (λ ts. events_given (before + 1) lines ts) k
+  input_given before (line ∷ lines) i h =
+      by_skip (IsInput i.cluster i.events) (is_skipped (content line)) (input_from (before + 1) lines)
+      (then_do (cluster_said (before + 1) (cluster_of (content line))) (λ c. then_do (events_from (before + 1) lines) (λ es. Ok (record { cluster = c; events = es })))) i (short (before + 1) line _ i h)
+      (λ k. input_given (before + 1) lines i k)
+      (λ k. described (content line) (before + 1) (cluster_of (content line)) (events_from (before + 1) lines) i refl (λ ts t. events_given (before + 1) lines ts t) k)
