@@ -328,6 +328,7 @@ module _ (laws : TakesLines) (s : Start) (bytes : List ℕ) (number : ℕ) (ends
   -- a line at which the disk failed
   pub disk_ended : {C : Type 0} (Fits : Role → Type 0) (FitsOne : Role → Role → Type 0) (failed : DiskFailed) (stands : C → Role → Type 0) (pending : List ℕ) (source w' : Option (List ℕ)) (line : InputLine) (f2 : ℕ) (new : Told) → number < most_lines → length pending ≤ read_ahead → GivesKnown Line rest line (prepend_known pending source)
       → is_skipped (content line) ≡ false → TakesLine {C = C} stands Fits FitsOne s.most s.addr here (node_line (content line)) (number + 1) (Err Disk) w w' f1 f2 mid new → Ended Fits FitsOne s bytes (Err failed) source w0 w' f0 f2 old new
+  unfolding ends_there
   disk_ended {C} Fits FitsOne failed stands pending source w' line f2 new more few gives unskipped h =
       let n = laws.next a.left line rest (prepend_known pending source) a.is_left gives in
       record {
