@@ -110,10 +110,10 @@ one_of q p t has = ⊎_elim (λ first. λ file image. inl ((file_of q t first).l
 
 -- a checkpoint that was opened and raised is at rest, so what is known of a disk from then on is known at the end
 module _ (epoch : ℕ) (x : NodeRecord) (size : ℕ) (old mid new : Option Moments) (rests : RestsAt x size None) (from : WhereMoments (StartsFrom epoch x.hard) old mid) where
-  at_end : (Known Then : Moments → Type 0) → ((t : Moments) → Known t → Then t) → FromRest RestsAt x size Known mid new → WhereMoments (λ before now. Then now) old new
-  at_end Known Then f h = by old mid new from h
+  at_end : (Has Then : Moments → Type 0) → ((t : Moments) → Has t → Then t) → FromRest RestsAt x size Has mid new → WhereMoments (λ before now. Then now) old new
+  at_end Has Then f h = by old mid new from h
     where
-      by : (a b c : Option Moments) → WhereMoments (StartsFrom epoch x.hard) a b → FromRest RestsAt x size Known b c → WhereMoments (λ before now. Then now) a c
+      by : (a b c : Option Moments) → WhereMoments (StartsFrom epoch x.hard) a b → FromRest RestsAt x size Has b c → WhereMoments (λ before now. Then now) a c
       by None b c s h = tt
       by (Some o) None c s h = absurd s
       by (Some o) (Some m) None s h = absurd h
