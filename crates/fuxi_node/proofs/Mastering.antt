@@ -9,16 +9,16 @@ use Rattle.fuxi_io.specs.declared.status.Status.{Status}
 use Rattle.fuxi_io.specs.declared.status.Status.TheVariants.{Done, Usage, BadInput, ReadFault, WriteFault, Limit, OutOfMemory, DiskFault, StaleEpoch, DamagedCheckpoint}
 use Rattle.written_roles.specs.HardState.{HardState}
 use Rattle.hard_state.specs.HardFiles.{Kept, records_of}
-use Rattle.input_lines.specs.Wholes.{whole_lines}
 use Rattle.hard_state.specs.declared.fault.HardFault.{HardFault}
 use Rattle.hard_state.specs.declared.fault.HardFault.TheVariants.{Stale, Fenced, Known, NoJob, Ended as HasEnded, AlreadyBanned, NotBanned, Full, NotCheckpoint, DiskFault as NoDisk, OutOfMemory as NoMemory}
+use Rattle.input_lines.specs.Wholes.{whole_lines}
 use Rattle.master_node.specs.Standing.{DiskHas, NodeRecord, RestsAt}
 use Rattle.master_node.specs.Starting.{IsRaised, IsStartFault, Starts, StartsFrom}
 use Rattle.master_node.specs.Writing.{LeavesEither, hard_in}
 use Rattle.node_door.specs.Doors.{Told, WhereTold}
 use Rattle.node_rounds.specs.Roles.{Role, OfAgent, OfApp, OfMaster}
-use Rattle.node_run.specs.declared.taking.DiskFailed.{DiskFailed}
 use Rattle.node_party.specs.Halts.{FitsEither}
+use Rattle.node_run.specs.declared.taking.DiskFailed.{DiskFailed}
 use Rattle.node_run.specs.Ends.{Start, Ran, EndsWith, Ended, FromRest, FitsNow, FitsOneNow}
 use Rattle.node_run.specs.Runs.{Ending, AtEnd, AtBadLine, AtLimit}
 use Rattle.fuxi_node.proofs.Reading.{rest_leaves, rest_reads}

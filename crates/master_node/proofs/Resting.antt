@@ -3,15 +3,15 @@ use Rattle.std.proofs.Common.{◌≡◌, ◌⊎◌, inl, inr, ⊎_elim, ℕ, Opt
 use Rattle.std.specs.Prelude.{IfOk, OnErr}
 use Rattle.fuxi_io.specs.Disks.{Told, Leaves, LeavesAlways, WhereTold}
 use Rattle.written_roles.specs.HardState.{HardState}
-use Rattle.node_party.specs.declared.party.Answer.{Answer}
-use Rattle.node_party.specs.declared.party.Halt.{Halt}
-use Rattle.master_node.specs.Standing.{DiskHas, HasHard, NodeRecord, Rests, RestsAt, StandsAs}
 use Rattle.hard_state.specs.HardFiles.{IsAtRest}
 use Rattle.node_rounds.specs.Roles.{Role, OfAgent, OfApp, OfMaster}
 use Rattle.node_party.specs.Halts.{FitsEither}
+use Rattle.node_party.specs.declared.party.Answer.{Answer}
+use Rattle.node_party.specs.declared.party.Halt.{Halt}
+use Rattle.master_node.specs.Standing.{DiskHas, NodeRecord, Rests, RestsAt, StandsAs}
+use Rattle.master_node.specs.Telling.{LeavesLine}
 use Rattle.master_node.specs.Writing.{IsEither, LeavesEither, hard_in}
 use Rattle.master_node.proofs.Moments.{leaves_last}
-use Rattle.master_node.specs.Telling.{LeavesLine}
 
 -- behind a line, and where the disk was left alone
 pub line_rests : (x : NodeRecord) (after : HardState) (result : Result (NodeRecord × Answer) Halt) (n m : ℕ) (a b : Option Told) → WhereTold (LeavesLine x.hard after result) a b → IfOk result (λ done. Rests done.0 m)

@@ -1,26 +1,23 @@
 -- A node's run over the lines of an input goes on by one line, or ends.
-use Rattle.std.proofs.Common.{inl, inr, ◌≡◌, ◌≢◌, ℕ, ◌+◌, ◌-◌, ◌<◌, ◌≤◌, Bool, true, false, cond, nat_eq, nat_lt, List, [], ◌∷◌, ◌++◌, length, take, Option, None, Some, Ok, Err, refl, sym, ◌∙◌, ap, subst, arith, append_assoc, append-nil, length-append, slice_get}
-use Rattle.std.specs.Option.{unwrap_or}
+use Rattle.std.proofs.Common.{inl, inr, ◌≡◌, ◌≢◌, ℕ, ◌+◌, ◌-◌, ◌<◌, ◌≤◌, Bool, true, false, nat_lt, List, [], ◌∷◌, ◌++◌, length, Option, Some, Ok, Err, refl, sym, ◌∙◌, ap, subst, arith, append_assoc, append-nil}
 use Rattle.std.specs.List.{concat}
 use Rattle.std.specs.Io.KnownBytes.{Appends, Consumes, IsAtEnd, prepend_known}
 use Rattle.std.proofs.lemmas.Bool.Decides.{nat_tests}
-use Rattle.std.proofs.lemmas.List.Folds.{concat-append}
-use Rattle.std.proofs.Math.Seq.{take-append_seam}
 use Rattle.fuxi_io.specs.Causes.{TakesPart}
-use Rattle.fuxi_io.specs.Lines.{InputLine, lines_of, onto_first, GivesKnown, IsFirst, BreaksOff, FirstLonger, FirstTooLongKnown, MoreKnown}
+use Rattle.fuxi_io.specs.Lines.{InputLine, lines_of, GivesKnown, IsFirst, BreaksOff, FirstLonger, FirstTooLongKnown, MoreKnown}
 use Rattle.fuxi_io.specs.Reading.{read_ahead}
-use Rattle.fuxi_io.specs.declared.lines.Got.TheVariants.{Line, End}
+use Rattle.fuxi_io.specs.declared.lines.Got.TheVariants.{Line}
 use Rattle.fuxi_io.specs.declared.lines.LineStop.{LineStop}
 use Rattle.fuxi_io.specs.declared.lines.LineStop.TheVariants.{ReadFault as ReadStop, LineTooLong as LongStop, TooManyLines as ManyStop}
 use Rattle.fuxi_io.specs.declared.status.InputFault.TheVariants.{LineTooLong}
 use Rattle.fuxi_io.specs.declared.status.Status.{Status}
 use Rattle.fuxi_io.specs.declared.status.Status.TheVariants.{Done, Usage, BadInput, ReadFault, WriteFault, Limit, OutOfMemory, DiskFault, StaleEpoch, DamagedCheckpoint}
 use Rattle.fuxi_terms.specs.Limits.{most_line_bytes, most_lines}
-use Rattle.fuxi_terms.proofs.Appending.{appends_both, appends_none}
+use Rattle.fuxi_terms.proofs.Appending.{appends_none}
 use Rattle.schedule_text.specs.declared.event.LineFault.{LineFault}
 use Rattle.input_lines.specs.Contents.{content, is_skipped}
 use Rattle.input_lines.specs.Statuses.{event_fault, stop_status}
-use Rattle.input_lines.specs.Wholes.{IsNext, TakesLines, TakesSome, WritesLast}
+use Rattle.input_lines.specs.Wholes.{IsNext, TakesLines, TakesSome}
 use Rattle.node_door.specs.Doors.{Told}
 use Rattle.node_rounds.specs.Roles.{Role}
 use Rattle.node_rounds.specs.Rounds.{Breaks}

@@ -23,7 +23,7 @@ use Rattle.std.specs.Prelude.{codes}
 use Rattle.node_party.specs.Texts.{answer_text, round_text}
 use Rattle.node_run.specs.declared.taking.Stop.{Stop}
 use Rattle.node_run.specs.declared.taking.Stop.TheVariants.{Ends, Disk}
-use Rattle.node_run.specs.Runs.{Node, Round, Played, Run, AtEnd, ended, then_is, played_as, behind, meets, takes, role_after}
+use Rattle.node_run.specs.Runs.{Node, Round, Played, Run, AtEnd, ended, then_is, played_as, behind, meets, takes}
 use Rattle.node_run.specs.Visits.{Visit, RoseBy, WasAt}
 use Rattle.node_run.specs.Progress.{Taken, Says, WritesText, TakesQuietly, TakesLine}
 

@@ -2,8 +2,8 @@ use Rattle.std.proofs.Common.{Ok, Err, refl}
 use Rattle.written_roles.specs.MasterRoles.{master_started}
 use Rattle.master_node.specs.Standing.{DiskHas, RestsAt}
 use Rattle.master_node.specs.Writing.{LeavesEither}
-use Rattle.node_run.specs.Ends.{FitsNow, FitsOneNow}
 use Rattle.node_rounds.specs.Roles.{OfMaster}
+use Rattle.node_run.specs.Ends.{FitsNow, FitsOneNow}
 use Rattle.fuxi_node.specs.Starts.{master_start}
 use Rattle.fuxi_node.proofs.Mastering.{either_at_end, file_at_end, not_started, raised_from, started}
 use Rattle.fuxi_node.proofs.masters.run_master.Goals as goal
