@@ -1,5 +1,5 @@
 -- What taking one line does to a run.
-use Rattle.std.proofs.Common.{inl, ◌≡◌, ◌≢◌, ℕ, ◌+◌, ◌≤◌, Bool, true, false, cond, not, nat_eq, length, List, [], ◌∷◌, Option, None, Result, Ok, Err, refl, sym, ap, subst, arith}
+use Rattle.std.proofs.Common.{inl, ◌≡◌, ◌≢◌, ℕ, ◌+◌, ◌≤◌, Bool, true, false, cond, not, nat_eq, length, List, [], ◌∷◌, Option, None, Result, Ok, Err, refl, sym, ap, ◌∙◌, subst, arith}
 use mathlib.Core.Bool.{beq}
 use Rattle.std.specs.Io.KnownBytes.{Appends}
 use Rattle.fuxi_io.specs.Causes.{Rose, TakesPart}
@@ -90,6 +90,26 @@ module _ {C : Type 0} (stands : C → Role → Type 0) (Fits : Role → Type 0) 
   said_err A text role is fits one (StaleEpoch fence) w0 w h = h
   said_err A text role is fits one (DamagedCheckpoint offset) w0 w h = h
 
+-- of a line that leads to the same, wherever its event stands in memory
+module _ {C : Type 0} (stands : C → Role → Type 0) (Fits : Role → Type 0) (FitsOne : Role → Role → Type 0) (n : Node) (what other : Result NodeLine LineFault)
+    (same : (most number : ℕ) (rounds : List Round) (run : Node → List Round → Run) → takes most number n rounds other run ≡ takes most number n rounds what run) where
+  says_same : (now : Role → Type 0) (Writes : List ℕ → Type 0) → Says n what now Writes → Says n other now Writes
+  says_same now Writes s = record { output = s.output; writes = s.writes; role = s.role; stands = s.stands; through = λ most number rounds run. same most number rounds run ∙ s.through most number rounds run }
+
+  pub quietly_same : (result : Result C Stop) (w0 w : Option (List ℕ)) → TakesQuietly stands Fits FitsOne n what result w0 w → TakesQuietly stands Fits FitsOne n other result w0 w
+  quietly_same (Ok core) w0 w h = says_same (stands core) (Appends w0 w) h
+  quietly_same (Err (Ends WriteFault)) w0 w h = says_same Fits (TakesPart w0 w) h
+  quietly_same (Err (Ends OutOfMemory)) w0 w h = (h.0, λ most number. subst (FitsOne n.role) (sym (ap (λ (r : Run). r.node.role) (same most number [] (λ n rounds. ended n AtEnd)))) (h.1 most number))
+  quietly_same (Err (Ends Done)) w0 w h = h
+  quietly_same (Err (Ends Usage)) w0 w h = h
+  quietly_same (Err (Ends (BadInput line fault))) w0 w h = h
+  quietly_same (Err (Ends ReadFault)) w0 w h = h
+  quietly_same (Err (Ends (Limit limit kept))) w0 w h = h
+  quietly_same (Err (Ends DiskFault)) w0 w h = h
+  quietly_same (Err (Ends (StaleEpoch fence))) w0 w h = h
+  quietly_same (Err (Ends (DamagedCheckpoint offset))) w0 w h = h
+  quietly_same (Err Disk) w0 w h = (h.0, λ most number. subst (FitsOne n.role) (sym (ap (λ (r : Run). r.node.role) (same most number [] (λ n rounds. ended n AtEnd)))) (h.1 most number))
+
 -- what is known of the disk at a line that ended the node, seen from before it
 module _ {C : Type 0} (stands : C → Role → Type 0) (Fits More : Role → Type 0) (FitsOne MoreOne : Role → Role → Type 0) (f : (q : Role) → Fits q → More q) (one : (q p : Role) → FitsOne q p → MoreOne q p)
     (most : ℕ) (addr : List ℕ) (n : Node) (what : Result NodeLine LineFault) (number : ℕ) (w0 w : Option (List ℕ)) (before after : ℕ) (old new : Told) where
@@ -151,27 +171,3 @@ taken_round most addr n number now later line Writes before after old new rises 
       stands = keeps (played_as most p).role r.stands;
       through = λ rounds run. own_round most number n (p.round ∷ rounds) run (accepts n.role) refl;
     }
-
--- the event of a line of a node is that of the line
-said_once : (w : NodeLine) (words : List (List ℕ)) (e : LineEvent) → alone w words ≡ Ok (EventLine e) → w ≡ EventLine e
-said_once w words e is = by (nat_eq (length words) 1) is
-  where
-    by : (b : Bool) → cond b (Ok w) (Err WrongCount) ≡ Ok (EventLine e) → w ≡ EventLine e
-    by true is = cc
-    by false is = cc
-
-by_event : (r : Result LineEvent LineFault) (e : LineEvent) → event_line r ≡ Ok (EventLine e) → r ≡ Ok e
-by_event (Ok x) e is = cc
-by_event (Err f) e is = cc
-
-by_words : (words : List (List ℕ)) (r : Result LineEvent LineFault) (e : LineEvent) (a b c : Bool)
-    → cond a (alone RoundWord words) (cond b (alone Serve words) (cond c (alone Show words) (event_line r))) ≡ Ok (EventLine e) → r ≡ Ok e
-by_words words r e true b c is = let h = said_once RoundWord words e is in cc
-by_words words r e false true c is = let h = said_once Serve words e is in cc
-by_words words r e false false true is = let h = said_once Show words e is in cc
-by_words words r e false false false is = by_event r e is
-
-pub event_said : (line : List ℕ) (e : LineEvent) → node_line line ≡ Ok (EventLine e) → event_of line ≡ Ok e
-event_said line e is =
-    let words = words_of line in
-    by_words words (event_of line) e (begins_with (codes "round") words) (begins_with (codes "serve") words) (begins_with (codes "show") words) is

@@ -20,9 +20,12 @@ use fuxi_io::{Disk, Sink, Status, write_all_of};
 use fuxi_terms::OutOfMemory;
 use input_lines::event_status;
 use node_door::Door;
-use node_party::{Answer, Halt, Node, NodeLine, push_answer, push_state, read_line, write_round};
+use node_party::{
+    Answer, Halt, Node, NodeLine, events_command_anywhere, push_answer, push_state, read_line,
+    write_round,
+};
 use node_rounds::{RoundLine, round, serve};
-use schedule_text::{Event, events_of_lines};
+use schedule_text::Event;
 use std::alloc::Global;
 
 /// The disk of a node failed.
@@ -236,7 +239,7 @@ pub(crate) fn take_line<C: Node, O: Sink, N: Door, D: Disk>(
     ensures disk { D.faults disk.old ≤ D.faults disk.new }
     ensures failed { result ≡ Err Stop.Disk → Rose (D.faults disk.old) (D.faults disk.new) }
 {
-    events_of_lines();
+    events_command_anywhere();
     match read_line(alloc, line) {
         Ok(NodeLine::Round) => take_meeting(alloc, core, addr, false, out, door),
         Ok(NodeLine::Serve) => take_meeting(alloc, core, addr, true, out, door),
