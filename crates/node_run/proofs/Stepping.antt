@@ -1,5 +1,5 @@
 -- What taking one line does to a run.
-use Rattle.std.proofs.Common.{inl, ◌≡◌, ◌≢◌, ℕ, ◌+◌, ◌≤◌, Bool, true, false, cond, not, nat_eq, length, List, [], ◌∷◌, Option, None, Result, Ok, Err, refl, sym, ap, ◌∙◌, subst, arith}
+use Rattle.std.proofs.Common.{inl, ◌≡◌, ◌≢◌, ℕ, ◌+◌, ◌≤◌, Bool, true, false, cond, not, List, [], ◌∷◌, Option, None, Result, Ok, Err, refl, sym, ap, ◌∙◌, subst, arith}
 use mathlib.Core.Bool.{beq}
 use Rattle.std.specs.Io.KnownBytes.{Appends}
 use Rattle.fuxi_io.specs.Causes.{Rose, TakesPart}
@@ -12,14 +12,8 @@ use Rattle.node_rounds.specs.declared.rounds.RoundLine.TheVariants.{Done as Roun
 use Rattle.node_rounds.specs.Roles.{Role, OfAgent, OfApp, OfMaster, may_send}
 use Rattle.node_rounds.specs.Rounds.{Rounds, Meets, is_fault}
 use Rattle.node_party.specs.declared.line.NodeLine.{NodeLine}
-use Rattle.node_party.specs.declared.line.NodeLine.TheVariants.{Round as RoundWord, Serve, Show, Event as EventLine}
+use Rattle.node_party.specs.declared.line.NodeLine.TheVariants.{Round as RoundWord, Serve}
 use Rattle.node_party.specs.Commands.{NotHere, accepts}
-use Rattle.node_party.specs.Lines.{begins_with, alone, event_line, node_line}
-use Rattle.schedule_text.specs.Words.{words_of}
-use Rattle.schedule_text.specs.Reading.{event_of}
-use Rattle.schedule_text.specs.declared.event.Event.{Event as LineEvent}
-use Rattle.schedule_text.specs.declared.event.LineFault.TheVariants.{WrongCount}
-use Rattle.std.specs.Prelude.{codes}
 use Rattle.node_party.specs.Texts.{answer_text, round_text}
 use Rattle.node_run.specs.declared.taking.Stop.{Stop}
 use Rattle.node_run.specs.declared.taking.Stop.TheVariants.{Ends, Disk}
