@@ -128,6 +128,8 @@ impl Node for AgentNode {
 
     ghost fits = { λ r moments. ⊤ };
 
+    ghost halts = { λ before after moments. ⊤ };
+
     ghost fitting = { λ core r size moments stands rests. tt };
 
     fn accepts(&self) -> bool {

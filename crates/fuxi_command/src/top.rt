@@ -228,7 +228,7 @@ pub fn fuxi<S: Source, O: Sink, E: Sink, D: Disk, N: Door>(
     ensures storm_complete { (seed steps : ℕ) → command_of (map string_bytes words.now) ≡ Some (Storm seed steps) → (text : List ℕ) → IsStorm seed steps text
         → (Rose (O.faults out.old) (O.faults out.new) → ⊥) → (result ≡ Status.Done) ⊎ (result ≡ Status.OutOfMemory) }
 
-    // Of `node`. What it did and wrote, by the status: before the line of its cluster, at it, or behind it;
+    // Of `node`. What it did and wrote, and what a crash leaves of a master's file at its end, by the status: before the line of its cluster, at it, or behind it;
     ensures node { (kind : NodeKind) (addr : List ℕ) → command_of (map string_bytes words.now) ≡ Some (Node kind addr) → IfSome (S.left input.old) (λ bytes.
         WhereTold (InputEnded kind addr (D.told disk.old) (D.told disk.new) bytes result (S.left input.new) (O.took out.old) (O.took out.new) (N.faults door.old) (N.faults door.new)) (N.told door.old) (N.told door.new)) }
 

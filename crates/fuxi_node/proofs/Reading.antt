@@ -1,7 +1,7 @@
--- A checkpoint at rest: what its file stands for.
-use Rattle.std.proofs.Common.{◌≡◌, refl, ℕ, zero, suc, ◌≤◌, Bool, true, false, cond, nat_lt, List, length, Option, Result, Ok, Err, sym, ◌∙◌, ap, arith}
+-- A checkpoint at rest: what its file stands for, and what a crash leaves of it.
+use Rattle.std.proofs.Common.{◌≡◌, refl, ℕ, zero, suc, ◌<◌, ◌≤◌, Bool, true, false, cond, nat_lt, List, [], ◌∷◌, length, slice_index, Option, Result, Ok, Err, sym, ◌∙◌, ap, subst, arith}
 use Rattle.std.proofs.lemmas.Bool.Decides.{nat_tests}
-use Rattle.fuxi_io.specs.Disks.{Moment}
+use Rattle.fuxi_io.specs.Disks.{Moment, IsImage, Leaves, synced_moment}
 use Rattle.fuxi_terms.specs.Limits.{most_records}
 use Rattle.written_roles.specs.HardState.{empty_hard}
 use Rattle.hard_state.specs.Checkpoints.{Closed, Damaged, Opened, body_at, found_at, found_body, is_open, read_file, read_from, read_on, record_size}
@@ -42,3 +42,17 @@ module _ {S : Type 0} (taken : S → List ℕ → Option S) where
 pub rest_reads : (k : Kept) (m : Moment) → IsAtRest k m → records_of m.bytes ≡ Ok k.value
 unfolding reads_as records_of
 rest_reads k m rest = ap value_of (file_stands taken most_records empty_hard m.bytes (opened_as k) rest.reads)
+
+-- lists of one length with the same at each place are the same
+alike : (a b : List ℕ) → length a ≡ length b → ((i : ℕ) → i < length a → slice_index a i ≡ slice_index b i) → a ≡ b
+alike [] [] len same = refl
+alike [] (y ∷ b) len same = absurd (omega (arith, len))
+alike (x ∷ a) [] len same = absurd (omega (arith, len))
+alike (x ∷ a) (y ∷ b) len same = (λ i. same 0 (omega arith) i ∷ a) ∙ ap (λ l. y ∷ l) (alike a b (omega (arith, len)) (λ i within. same (suc i) (omega (arith, within))))
+
+-- where nothing is pending a crash leaves what a read gives
+synced_image : (file left : List ℕ) → IsImage (synced_moment file) left → left ≡ file
+synced_image file left image = alike left file (omega (arith, image.at_least, image.at_most)) (λ i within. image.stays i (omega (arith, within, image.at_most)) refl)
+
+pub rest_leaves : (k : Kept) (m : Moment) → IsAtRest k m → Leaves (λ file. records_of file ≡ Ok k.value) m
+rest_leaves k m rest file image = ap records_of (synced_image m.bytes file (subst (λ (n : Moment). IsImage n file) rest.synced image)) ∙ rest_reads k m rest

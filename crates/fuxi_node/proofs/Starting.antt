@@ -14,10 +14,10 @@ use Rattle.node_rounds.specs.Roles.{Role}
 use Rattle.node_run.specs.Ends.{Start, Ended}
 
 -- nothing was taken
-pub nothing_taken : (Fits : Role → Type 0) (s : Start) (pending : List ℕ) (source took : Option (List ℕ)) (f : ℕ) (t : Option Told) → length pending ≤ read_ahead → IfSome (prepend_known pending source) (λ bytes. WhereTold (Ended Fits s bytes (Ok OutOfMemory) source took took f f) t t)
-nothing_taken Fits s pending None took f t few = tt
-nothing_taken Fits s pending (Some left) took f None few = tt
-nothing_taken Fits s pending (Some left) took f (Some t) few = record {
+pub nothing_taken : (Fits : Role → Type 0) (FitsOne : Role → Role → Type 0) (s : Start) (pending : List ℕ) (source took : Option (List ℕ)) (f : ℕ) (t : Option Told) → length pending ≤ read_ahead → FitsOne s.node.role s.node.role → IfSome (prepend_known pending source) (λ bytes. WhereTold (Ended Fits FitsOne s bytes (Ok OutOfMemory) source took took f f) t t)
+nothing_taken Fits FitsOne s pending None took f t few one = tt
+nothing_taken Fits FitsOne s pending (Some left) took f None few one = tt
+nothing_taken Fits FitsOne s pending (Some left) took f (Some t) few one = record {
   lines = [];
   next = [];
   one = omega arith;
@@ -29,6 +29,7 @@ nothing_taken Fits s pending (Some left) took f (Some t) few = record {
     rounds = refl;
     holds = ((refl, appends_none took), inl refl);
   };
+  fits = one;
 }
 
 -- what the cluster's line says of it, with eight places

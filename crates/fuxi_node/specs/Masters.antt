@@ -1,7 +1,7 @@
 -- How a node of a master ends.
 use Rattle.std.specs.Prelude.{◌≡◌, ◌⊎◌, ℕ, ◌≤◌, ⊤, List, length, Option, Some, IfSome, Result, Ok, Err}
 use Rattle.std.specs.Io.KnownBytes.{Consumes}
-use Rattle.fuxi_io.specs.Disks.{Told as Moments}
+use Rattle.fuxi_io.specs.Disks.{Told as Moments, Leaves, WhereTold as WhereMoments}
 use Rattle.fuxi_io.specs.Reading.{read_ahead}
 use Rattle.fuxi_io.specs.declared.status.LimitOf.TheVariants.{Lines, Packets, Bytes, Records}
 use Rattle.fuxi_io.specs.declared.status.Status.{Status}
@@ -12,16 +12,29 @@ use Rattle.written_roles.specs.Refusals.{Refusal, NotRising, HardFull}
 use Rattle.hard_state.specs.HardFiles.{records_of}
 use Rattle.hard_state.specs.declared.fault.HardFault.{HardFault}
 use Rattle.hard_state.specs.declared.fault.HardFault.TheVariants.{Stale, Fenced, Known, NoJob, Ended as HasEnded, AlreadyBanned, NotBanned, Full, NotCheckpoint, DiskFault as NoDisk, OutOfMemory as NoMemory}
+use Rattle.master_node.specs.Starting.{Starts}
 use Rattle.node_door.specs.Doors.{Told}
 use Rattle.node_rounds.specs.Roles.{Role, OfAgent, OfApp, OfMaster}
 use Rattle.node_run.specs.declared.taking.DiskFailed.{DiskFailed}
 use Rattle.node_run.specs.Ends.{Start, Ended}
 
--- what the file has of the party at the end: of a master it stands for the hard state
-abbrev pub FileReads : Role → Moments → Type 0
-FileReads (OfAgent r) t = ⊤
-FileReads (OfApp r) t = ⊤
-FileReads (OfMaster h r) t = records_of t.now.bytes ≡ Ok h
+-- a file stands for the hard state of the party, where that is a master
+abbrev pub FileStands : Role → List ℕ → Type 0
+FileStands (OfAgent r) file = ⊤
+FileStands (OfApp r) file = ⊤
+FileStands (OfMaster h r) file = records_of file ≡ Ok h
+
+-- so does the file of the disk with these moments, and whatever file a crash leaves
+pub record HasFile (r : Role) (t : Moments) : Type 0 where
+  pub reads : FileStands r t.now.bytes
+  pub leaves : Leaves (FileStands r) t.now
+
+abbrev pub KeepsFile : Option Moments → Option Moments → Role → Type 0
+KeepsFile disk later r = WhereMoments (λ old now. HasFile r now) disk later
+
+-- whatever file a crash leaves stands for the hard state of the party before a line or of the one behind it
+abbrev pub KeepsEither : Option Moments → Option Moments → Role → Role → Type 0
+KeepsEither disk later before after = WhereMoments (λ old now. Leaves (λ file. FileStands before file ⊎ FileStands after file) now.now) disk later
 
 -- the disk, where it tells its file, had the checkpoint of a hard state of which the raise of the fence to the epoch makes this one
 pub record IsRaisedFrom (epoch : ℕ) (disk : Option Moments) (h : HardState) : Type 0 where
@@ -92,22 +105,25 @@ pub record ReadsAhead (bytes : List ℕ) (left : Option (List ℕ)) : Type 0 whe
   pub gave : Consumes (Some bytes) left ahead
   pub few : length ahead ≤ read_ahead
 
--- it did not start: of the input no line was taken, nothing was written, and the door was left alone
-pub record StaysOut (bytes : List ℕ) (status : Status) (left w0 w : Option (List ℕ)) (old new : Told) : Type 0 where
+-- It did not start: of the input no line was taken, nothing was written, and the door was left alone. A crash leaves a file that stands for what it stood for
+-- before, or for that with the fence at the epoch.
+pub record StaysOut (epoch : ℕ) (disk later : Option Moments) (bytes : List ℕ) (status : Status) (left w0 w : Option (List ℕ)) (old new : Told) : Type 0 where
   pub is : IsStartStatus status
   pub unread : ReadsAhead bytes left
   pub unwritten : w ≡ w0
   pub unmet : new ≡ old
+  pub leaves : WhereMoments (Starts epoch) disk later
 
--- it started with this hard state, and its run ended so
-pub record RunsFrom (Fits : Role → Type 0) (epoch : ℕ) (start : HardState → Start) (disk : Option Moments) (bytes : List ℕ) (status : Status) (left w0 w : Option (List ℕ)) (before now : ℕ) (old new : Told) : Type 0 where
+-- It started with this hard state, and its run ended so. At each end the file, where the disk told it at the start, stands for the hard state of the run over
+-- the lines taken, and so does whatever a crash leaves of it; where the disk failed or memory lacked, the line at which it did may count as taken or not.
+pub record RunsFrom (epoch : ℕ) (start : HardState → Start) (disk later : Option Moments) (bytes : List ℕ) (status : Status) (left w0 w : Option (List ℕ)) (before now : ℕ) (old new : Told) : Type 0 where
   pub hard : HardState
   pub raised : IsRaisedFrom epoch disk hard
   pub outcome : Result Status DiskFailed
   pub is : status ≡ status_of outcome
-  pub ran : Ended Fits (start hard) bytes outcome left w0 w before now old new
+  pub ran : Ended (KeepsFile disk later) (KeepsEither disk later) (start hard) bytes outcome left w0 w before now old new
 
--- what a node of a master did that ended with this status; Fits: what is known of its disk at the end of a whole run
-abbrev pub MasterEnded : (Role → Type 0) → ℕ → (HardState → Start) → Option Moments → List ℕ → Status → Option (List ℕ) → Option (List ℕ) → Option (List ℕ) → ℕ → ℕ → Told → Told → Type 0
-MasterEnded Fits epoch start disk bytes status left w0 w before now old new =
-    StaysOut bytes status left w0 w old new ⊎ RunsFrom Fits epoch start disk bytes status left w0 w before now old new
+-- what a node of a master did that ended with this status; disk, later: the moments of its disk at the start and at the end, where it tells them
+abbrev pub MasterEnded : ℕ → (HardState → Start) → Option Moments → Option Moments → List ℕ → Status → Option (List ℕ) → Option (List ℕ) → Option (List ℕ) → ℕ → ℕ → Told → Told → Type 0
+MasterEnded epoch start disk later bytes status left w0 w before now old new =
+    StaysOut epoch disk later bytes status left w0 w old new ⊎ RunsFrom epoch start disk later bytes status left w0 w before now old new

@@ -42,7 +42,7 @@ pub fn run_app<S: Source, O: Sink, N: Door>(
     requires stop { lines.old.stop ≢ Some LineStop.ReadFault }
     requires ahead { length lines.old.pending ≤ read_ahead }
     // What was written and what the door has been through, by the status. It is said of bytes that are known, and of a door that tells.
-    ensures ended { IsReady lines.old (S.left source.old) → IfSome (rest_of lines.old (S.left source.old)) (λ bytes. WhereTold (Ended (λ q. ⊤) (app_start cluster.now app.0 units boot addr.now lines.old.number) bytes (Ok result) (S.left source.new) (O.took out.old) (O.took out.new) (N.faults door.old) (N.faults door.new)) (N.told door.old) (N.told door.new)) }
+    ensures ended { IsReady lines.old (S.left source.old) → IfSome (rest_of lines.old (S.left source.old)) (λ bytes. WhereTold (Ended (λ q. ⊤) (λ q p. ⊤) (app_start cluster.now app.0 units boot addr.now lines.old.number) bytes (Ok result) (S.left source.new) (O.took out.old) (O.took out.new) (N.faults door.old) (N.faults door.new)) (N.told door.old) (N.told door.new)) }
     ensures unread { lines.old.ended ≡ false → result ≢ Status.ReadFault }
     ensures read { result ≡ Status.ReadFault → Rose (S.faults source.old) (S.faults source.new) }
     ensures write { result ≡ Status.WriteFault → Rose (O.faults out.old) (O.faults out.new) }

@@ -2,13 +2,12 @@
 
 ghost use Rattle.std.specs.Prelude.{◌≡◌, ◌≢◌, ◌⊎◌, ◌<◌, ◌≤◌, ℕ, length, false, Some, None, IfSome};
 ghost use Rattle.fuxi_io.specs.Causes.{Rose};
-ghost use Rattle.fuxi_io.specs.Disks.{WhereTold as WhereMoments};
 ghost use Rattle.fuxi_io.specs.Reading.{rest_of, read_ahead};
 ghost use Rattle.fuxi_terms.specs.Limits.{most_lines};
 ghost use Rattle.input_lines.specs.Wholes.{IsReady};
 ghost use Rattle.node_door.specs.Doors.{WhereTold};
 ghost use Rattle.fuxi_node.specs.Starts.{master_start};
-ghost use Rattle.fuxi_node.specs.Masters.{FileReads, MasterEnded, TellsFile, start_status};
+ghost use Rattle.fuxi_node.specs.Masters.{MasterEnded, TellsFile, start_status};
 
 use cluster_desc::Cluster;
 use fuxi_io::{Disk, LimitOf, LineReader, LineStop, Sink, Source, Status};
@@ -42,6 +41,9 @@ fn start_status(fault: HardFault) -> Status
 /// `DiskFault`: the disk failed, at the start or at a line; the checkpoint has to be opened again. `DamagedCheckpoint`: what stands at this
 /// offset of the file is no record. `StaleEpoch`: the fence in the file is at least the epoch. `Limit` of records: the file has 65,536.
 /// With these three the file stands for what it stood for. The other statuses are those of [`crate::run_agent`].
+///
+/// At every end of a master that started, a crash leaves a file that stands for the hard state of the lines taken. With `DiskFault` and
+/// `OutOfMemory` the line at which it came may count as taken or not.
 pub fn run_master<S: Source, O: Sink, D: Disk, N: Door>(
     alloc: Global,
     cluster: &Cluster,
@@ -59,7 +61,7 @@ pub fn run_master<S: Source, O: Sink, D: Disk, N: Door>(
     requires stop { lines.old.stop ≢ Some LineStop.ReadFault }
     requires ahead { length lines.old.pending ≤ read_ahead }
     // What was written and what the door has been through, by the status. It is said of bytes that are known, and of a door that tells; what is said of the file, of a disk that tells.
-    ensures ended { IsReady lines.old (S.left source.old) → IfSome (rest_of lines.old (S.left source.old)) (λ bytes. WhereTold (MasterEnded (λ q. WhereMoments (λ before now. FileReads q now) (D.told disk.old) (D.told disk.new)) epoch (master_start cluster.now epoch addr.now lines.old.number) (D.told disk.old) bytes result (S.left source.new) (O.took out.old) (O.took out.new) (N.faults door.old) (N.faults door.new)) (N.told door.old) (N.told door.new)) }
+    ensures ended { IsReady lines.old (S.left source.old) → IfSome (rest_of lines.old (S.left source.old)) (λ bytes. WhereTold (MasterEnded epoch (master_start cluster.now epoch addr.now lines.old.number) (D.told disk.old) (D.told disk.new) bytes result (S.left source.new) (O.took out.old) (O.took out.new) (N.faults door.old) (N.faults door.new)) (N.told door.old) (N.told door.new)) }
     ensures file { TellsFile epoch result (D.told disk.old) }
     ensures unread { lines.old.ended ≡ false → result ≢ Status.ReadFault }
     ensures read { result ≡ Status.ReadFault → Rose (S.faults source.old) (S.faults source.new) }

@@ -1,5 +1,5 @@
 -- What a crash leaves, over several calls of a disk.
-use Rattle.std.proofs.Common.{◌≡◌, ℕ, List, [], ◌∷◌, ◌++◌, Option, Some, None, refl, ◌∙◌, ap}
+use Rattle.std.proofs.Common.{◌≡◌, ℕ, List, [], ◌∷◌, ◌++◌, Option, Some, None, refl, sym, ◌∙◌, ap, subst}
 use Rattle.std.specs.List.{AllByRecursion}
 use Rattle.fuxi_io.specs.Disks.{Moment, Told, Leaves, LeavesAlways, WhereTold}
 
@@ -41,3 +41,11 @@ leaves_both P old mid new l m = record {
   first = l.first;
   each = all_both P m.since l.since m.each l.each;
 }
+
+-- at the last moment too
+pub leaves_last : (P : List ℕ → Type 0) (old new : Told) → LeavesAlways P old new → Leaves P new.now
+leaves_last P old new l = by l.since l.reached l.each
+  where
+    by : (since : List Moment) → new.now ∷ new.before ≡ since ++ old.now ∷ old.before → AllByRecursion (Leaves P) since → Leaves P new.now
+    by [] is all = let same : new.now ≡ old.now = cc in subst (Leaves P) (sym same) l.first
+    by (m ∷ ms) is all = let same : new.now ≡ m = cc in subst (Leaves P) (sym same) all.0

@@ -1,6 +1,6 @@
 -- What is written to the hard state before a master is told.
-use Rattle.std.specs.Prelude.{◌≡◌, ◌⊎◌, ◌<◌, ℕ, List, Result, Ok, OnOk}
-use Rattle.fuxi_io.specs.Disks.{Told, LeavesAlways}
+use Rattle.std.specs.Prelude.{◌≡◌, ◌⊎◌, ◌<◌, ℕ, List, Result, Ok, OnOk, ⊤}
+use Rattle.fuxi_io.specs.Disks.{Told, Leaves, LeavesAlways}
 use Rattle.fuxi_terms.specs.Limits.{most_machines}
 use Rattle.written_roles.specs.Refusals.{Refusal}
 use Rattle.written_roles.specs.HardState.{HardState, Submission, Finishing, Banning, Unbanning, empty_hard, hard_step}
@@ -49,3 +49,9 @@ hard_in (OfMaster h r) = h
 -- the file stands for one of two
 abbrev pub IsEither : HardState → HardState → List ℕ → Type 0
 IsEither before after file = (records_of file ≡ Ok before) ⊎ (records_of file ≡ Ok after)
+
+-- what a disk has of a master that ended at a line: whatever file a crash leaves stands for the hard state before the line or for the one behind it
+abbrev pub LeavesEither : Role → Role → Told → Type 0
+LeavesEither (OfAgent r) after t = ⊤
+LeavesEither (OfApp r) after t = ⊤
+LeavesEither (OfMaster h r) after t = Leaves (IsEither h (hard_in after)) t.now

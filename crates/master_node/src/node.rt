@@ -1,6 +1,6 @@
 //! The party of a node that is a master.
 
-ghost use Rattle.std.specs.Prelude.{◌≡◌, ◌+◌, ◌<◌, ◌≤◌, ◌&&◌, ◌++◌, ℕ, true, length, Ok, Err, IfOk, IfErr, IsTrue, Some, None};
+ghost use Rattle.std.specs.Prelude.{◌≡◌, ◌+◌, ◌<◌, ◌≤◌, ◌&&◌, ◌++◌, ℕ, true, length, Ok, Err, IfOk, IfErr, OnErr, IsTrue, Some, None};
 ghost use Rattle.std.specs.List.{flat_map};
 ghost use Rattle.fuxi_io.specs.Causes.{Rose};
 ghost use Rattle.fuxi_io.specs.Disks.{WhereTold};
@@ -17,10 +17,11 @@ ghost use Rattle.fuxi_master.specs.Steps.{IsSentFormed};
 ghost use Rattle.schedule_text.specs.Writing.{IsLineEvent};
 ghost use Rattle.node_rounds.specs.Roles.{IsTurn, OfMaster, Role as RoleSeen, end_packet, heard, id_in, may_be, may_send, turn, Keeps};
 ghost use Rattle.node_party.specs.Commands.{IsCommanded, commanded};
+ghost use Rattle.node_party.specs.Halts.{FitsEither};
 ghost use Rattle.node_party.specs.Texts.{as_answer};
-ghost use Rattle.master_node.specs.Standing.{IsMasterOf, IsTied, Rests, RestsAt, StandsAs};
+ghost use Rattle.master_node.specs.Standing.{DiskHas, IsMasterOf, IsTied, Rests, RestsAt, StandsAs};
 ghost use Rattle.master_node.specs.Starting.{FailsStart, IsRaised, IsStartFault, Starts, StartsFrom};
-ghost use Rattle.master_node.specs.Writing.{IsCommand, hard_in};
+ghost use Rattle.master_node.specs.Writing.{IsCommand, LeavesEither, hard_in};
 ghost use Rattle.master_node.specs.Telling.{Does, LeavesLine, LeavesMade, obeyed, packets_in, Sends};
 
 use crate::refusals::{answer_in, written_refusal};
@@ -285,8 +286,11 @@ impl Core for MasterNode {
 
 impl Node for MasterNode {
     ghost use Rattle.master_node.specs.Standing.{DiskHas, disk_has};
+    ghost use Rattle.master_node.specs.Writing.{LeavesEither};
 
     ghost fits = { DiskHas };
+
+    ghost halts = { LeavesEither };
 
     ghost fitting = { disk_has };
 
@@ -307,6 +311,7 @@ impl Node for MasterNode {
         ensures steps { IfOk result (λ after. after.0.master.steps ≤ self.master.steps + 1) }
         ensures rests { IfOk result (λ after. RestsAt after.0 (D.size disk.new) None) }
         ensures told { WhereTold (λ old new. RestsAt self (D.size disk.old) (Some old) → IfOk result (λ after. RestsAt after.0 (D.size disk.new) (Some new))) (D.told disk.old) (D.told disk.new) }
+        ensures halts { OnErr result ((r : RoleSeen) → StandsAs self r → WhereTold (λ old new. RestsAt self (D.size disk.old) (Some old) → FitsEither DiskHas LeavesEither r (commanded r event.now).role new) (D.told disk.old) (D.told disk.new)) }
         ensures later { D.faults disk.old ≤ D.faults disk.new }
         ensures cause { result ≡ Err Halt.Disk → Rose (D.faults disk.old) (D.faults disk.new) }
         ensures leaves { (r : RoleSeen) → StandsAs self r → WhereTold (LeavesLine self.hard (hard_in (commanded r event.now).role) result) (D.told disk.old) (D.told disk.new) }

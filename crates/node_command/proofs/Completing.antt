@@ -13,10 +13,10 @@ use Rattle.input_cluster.specs.Openings.{Opens, BadAt, TooMany, opening_from}
 use Rattle.node_door.specs.Doors.{Told, WhereTold}
 use Rattle.node_rounds.specs.Roles.{Role}
 use Rattle.node_run.specs.declared.taking.DiskFailed.{DiskFailed}
-use Rattle.node_run.specs.Ends.{Start, Ran, EndsAt, Ended}
+use Rattle.node_run.specs.Ends.{Start, Ran, EndsWith, Ended}
 use Rattle.node_run.specs.Runs.{Node, Round, Ending, AtEnd, AtBadLine, AtLimit, role_run, ending_from}
 use Rattle.node_run.specs.Visits.{rounds_of}
-use Rattle.fuxi_node.specs.Masters.{MasterEnded, StaysOut, RefusesEpoch, status_of}
+use Rattle.fuxi_node.specs.Masters.{KeepsEither, KeepsFile, MasterEnded, StaysOut, RefusesEpoch, status_of}
 use Rattle.node_command.specs.declared.kind.NodeKind.{NodeKind}
 use Rattle.node_command.specs.declared.kind.NodeKind.TheVariants.{Master, Agent, App}
 use Rattle.node_command.specs.Inputs.{IsThere, IsWhole, LetsIn, MayStart, NodeEnded, EndsBefore, EndsBehind, InputEnded, TellsDisk}
@@ -42,54 +42,54 @@ abbrev EndByLines : Type 0
 EndByLines = (most before : ℕ) (n : Node) (rounds : List Round) (lines : List InputLine) → (role_run most before n rounds lines).ending ≡ ending_from before lines
 
 module _ (law : EndByLines) (rest : List ℕ) (left w0 w : Option (List ℕ)) (before now : ℕ) (old new : Told) where
-  ending_is : (s : Start) (ending : Ending) → ending_from s.first (lines_of rest) ≡ AtEnd → Ran s (lines_of rest) (EndsAt ending w0 w) before now old new → ending ≡ AtEnd
-  ending_is s ending good r = sym r.holds.0 ∙ law s.most s.first s.node (rounds_of r.visits) (lines_of rest) ∙ good
+  ending_is : (Fits : Role → Type 0) (s : Start) (ending : Ending) → ending_from s.first (lines_of rest) ≡ AtEnd → Ran s (lines_of rest) (EndsWith Fits ending w0 w) before now old new → ending ≡ AtEnd
+  ending_is Fits s ending good r = sym r.holds.0 ∙ law s.most s.first s.node (rounds_of r.visits) (lines_of rest) ∙ good
 
-  run_whole : (Fits : Role → Type 0) (s : Start) (status : Status) → ending_from s.first (lines_of rest) ≡ AtEnd → IsEarly status → Ended Fits s rest (Ok status) left w0 w before now old new → ⊥
-  run_whole Fits s (BadInput line fault) good early e = let is = ending_is s (AtBadLine line fault) good e in cc
-  run_whole Fits s (Limit Lines kept) good early e = let is = ending_is s (AtLimit kept) good e in cc
-  run_whole Fits s (Limit Packets kept) good early e = e
-  run_whole Fits s (Limit Bytes kept) good early e = e
-  run_whole Fits s (Limit Records kept) good early e = e
-  run_whole Fits s Done good early e = early
-  run_whole Fits s Usage good early e = early
-  run_whole Fits s ReadFault good early e = early
-  run_whole Fits s WriteFault good early e = early
-  run_whole Fits s OutOfMemory good early e = early
-  run_whole Fits s DiskFault good early e = early
-  run_whole Fits s (StaleEpoch fence) good early e = early
-  run_whole Fits s (DamagedCheckpoint offset) good early e = early
+  run_whole : (Fits : Role → Type 0) (FitsOne : Role → Role → Type 0) (s : Start) (status : Status) → ending_from s.first (lines_of rest) ≡ AtEnd → IsEarly status → Ended Fits FitsOne s rest (Ok status) left w0 w before now old new → ⊥
+  run_whole Fits FitsOne s (BadInput line fault) good early e = let is = ending_is Fits s (AtBadLine line fault) good e in cc
+  run_whole Fits FitsOne s (Limit Lines kept) good early e = let is = ending_is Fits s (AtLimit kept) good e in cc
+  run_whole Fits FitsOne s (Limit Packets kept) good early e = e
+  run_whole Fits FitsOne s (Limit Bytes kept) good early e = e
+  run_whole Fits FitsOne s (Limit Records kept) good early e = e
+  run_whole Fits FitsOne s Done good early e = early
+  run_whole Fits FitsOne s Usage good early e = early
+  run_whole Fits FitsOne s ReadFault good early e = early
+  run_whole Fits FitsOne s WriteFault good early e = early
+  run_whole Fits FitsOne s OutOfMemory good early e = early
+  run_whole Fits FitsOne s DiskFault good early e = early
+  run_whole Fits FitsOne s (StaleEpoch fence) good early e = early
+  run_whole Fits FitsOne s (DamagedCheckpoint offset) good early e = early
 
-  out_whole : (status : Status) → IsEarly status → StaysOut rest status left w0 w old new → ⊥
-  out_whole (BadInput line fault) early o = o.is
-  out_whole (Limit Lines kept) early o = o.is
-  out_whole (Limit Packets kept) early o = o.is
-  out_whole (Limit Bytes kept) early o = o.is
-  out_whole (Limit Records kept) early o = early
-  out_whole Done early o = early
-  out_whole Usage early o = early
-  out_whole ReadFault early o = early
-  out_whole WriteFault early o = early
-  out_whole OutOfMemory early o = early
-  out_whole DiskFault early o = early
-  out_whole (StaleEpoch fence) early o = early
-  out_whole (DamagedCheckpoint offset) early o = early
+  out_whole : (epoch : ℕ) (disk later : Option Moments) (status : Status) → IsEarly status → StaysOut epoch disk later rest status left w0 w old new → ⊥
+  out_whole epoch disk later (BadInput line fault) early o = o.is
+  out_whole epoch disk later (Limit Lines kept) early o = o.is
+  out_whole epoch disk later (Limit Packets kept) early o = o.is
+  out_whole epoch disk later (Limit Bytes kept) early o = o.is
+  out_whole epoch disk later (Limit Records kept) early o = early
+  out_whole epoch disk later Done early o = early
+  out_whole epoch disk later Usage early o = early
+  out_whole epoch disk later ReadFault early o = early
+  out_whole epoch disk later WriteFault early o = early
+  out_whole epoch disk later OutOfMemory early o = early
+  out_whole epoch disk later DiskFault early o = early
+  out_whole epoch disk later (StaleEpoch fence) early o = early
+  out_whole epoch disk later (DamagedCheckpoint offset) early o = early
 
-  master_whole : (Fits : Role → Type 0) (epoch : ℕ) (start : HardState → Start) (disk : Option Moments) (status : Status) → ((h : HardState) → ending_from (start h).first (lines_of rest) ≡ AtEnd) → IsEarly status
-      → MasterEnded Fits epoch start disk rest status left w0 w before now old new → ⊥
-  master_whole Fits epoch start disk status good early (inl o) = out_whole status early o
-  master_whole Fits epoch start disk status good early (inr r) = by_outcome r.outcome r.is r.ran
+  master_whole : (epoch : ℕ) (start : HardState → Start) (disk later : Option Moments) (status : Status) → ((h : HardState) → ending_from (start h).first (lines_of rest) ≡ AtEnd) → IsEarly status
+      → MasterEnded epoch start disk later rest status left w0 w before now old new → ⊥
+  master_whole epoch start disk later status good early (inl o) = out_whole epoch disk later status early o
+  master_whole epoch start disk later status good early (inr r) = by_outcome r.outcome r.is r.ran
     where
-      by_outcome : (outcome : Result Status DiskFailed) → status ≡ status_of outcome → Ended Fits (start r.hard) rest outcome left w0 w before now old new → ⊥
-      by_outcome (Ok own) is e = run_whole Fits (start r.hard) own (good r.hard) (subst IsEarly is early) e
+      by_outcome : (outcome : Result Status DiskFailed) → status ≡ status_of outcome → Ended (KeepsFile disk later) (KeepsEither disk later) (start r.hard) rest outcome left w0 w before now old new → ⊥
+      by_outcome (Ok own) is e = run_whole (KeepsFile disk later) (KeepsEither disk later) (start r.hard) own (good r.hard) (subst IsEarly is early) e
       by_outcome (Err failed) is e = subst IsEarly is early
 
   node_whole : (kind : NodeKind) (addr : List ℕ) (disk later : Option Moments) (c : ClusterRecord) (number : ℕ) (status : Status) → IsThere kind c → ending_from number (lines_of rest) ≡ AtEnd → IsEarly status
       → NodeEnded kind addr disk later c number rest status left w0 w before now old new → ⊥
-  node_whole (Master epoch) addr disk later c number status there good early e = master_whole _ epoch _ disk status (λ h. good) early e
-  node_whole (Agent m boot) addr disk later c number status there good early (inl e) = run_whole _ _ status good early e.1
+  node_whole (Master epoch) addr disk later c number status there good early e = master_whole epoch _ disk later status (λ h. good) early e
+  node_whole (Agent m boot) addr disk later c number status there good early (inl e) = run_whole _ _ _ status good early e.1
   node_whole (Agent m boot) addr disk later c number status there good early (inr l) = absurd (omega (arith, there, l.lacks))
-  node_whole (App a boot units) addr disk later c number status there good early e = run_whole _ _ status good early e
+  node_whole (App a boot units) addr disk later c number status there good early e = run_whole _ _ _ status good early e
 
 module _ (law : EndByLines) (kind : NodeKind) (addr : List ℕ) (disk later : Option Moments) (bytes : List ℕ) (left w0 w : Option (List ℕ)) (before now : ℕ) (old new : Told) (whole : IsWhole kind bytes) where
   before_whole : (status : Status) → IsEarly status → EndsBefore bytes status left w0 w old new → ⊥

@@ -17,7 +17,7 @@ use Rattle.node_command.specs.Inputs.{NodeEnded, InputEnded}
 -- an agent whose machine is there
 module _ (m : MachineNo) (boot : ℕ) (addr : List ℕ) (disk later : Option Moments) (c : ClusterRecord) (number : ℕ) (took : Option (List ℕ)) where
   pub has_machine : (known : Option (List ℕ)) (status : Status) (left w : Option (List ℕ)) (before now : ℕ) (old new : Option Told) → m.0 < length c.machines
-      → IfSome known (λ bytes. WhereTold (Ended (λ q. Unit {0}) (agent_start c m.0 boot addr number) bytes (Ok status) left took w before now) old new)
+      → IfSome known (λ bytes. WhereTold (Ended (λ q. Unit {0}) (λ q p. Unit {0}) (agent_start c m.0 boot addr number) bytes (Ok status) left took w before now) old new)
       → IfSome known (λ bytes. WhereTold (NodeEnded (Agent m boot) addr disk later c number bytes status left took w before now) old new)
   has_machine None status left w before now old new there e = tt
   has_machine (Some bytes) status left w before now None new there e = tt

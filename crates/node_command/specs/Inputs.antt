@@ -1,6 +1,6 @@
 -- A node over a whole input: what it does with the line that describes the cluster, and behind it.
 use Rattle.std.specs.Prelude.{◌≡◌, ◌⊎◌, ℕ, ◌<◌, ◌≤◌, ⊤, Bool, List, length, Option, Some, Ok}
-use Rattle.fuxi_io.specs.Disks.{Told as Moments, WhereTold as WhereMoments}
+use Rattle.fuxi_io.specs.Disks.{Told as Moments}
 use Rattle.fuxi_io.specs.Lines.{InputLine, lines_of}
 use Rattle.fuxi_io.specs.declared.status.InputFault.TheVariants.{NoMachine}
 use Rattle.fuxi_io.specs.declared.status.LimitOf.TheVariants.{Lines, Packets, Bytes, Records}
@@ -15,7 +15,7 @@ use Rattle.node_door.specs.Doors.{Told}
 use Rattle.node_run.specs.Ends.{Ended}
 use Rattle.node_run.specs.Runs.{AtEnd, ending_from}
 use Rattle.fuxi_node.specs.Starts.{agent_start, app_start, master_start}
-use Rattle.fuxi_node.specs.Masters.{FileReads, MasterEnded, ReadsAhead, TellsFile}
+use Rattle.fuxi_node.specs.Masters.{MasterEnded, ReadsAhead, TellsFile}
 use Rattle.node_command.specs.declared.kind.NodeKind.{NodeKind}
 use Rattle.node_command.specs.declared.kind.NodeKind.TheVariants.{Master, Agent, App}
 
@@ -43,12 +43,12 @@ pub record LacksMachine (c : ClusterRecord) (m number : ℕ) (bytes : List ℕ) 
 -- bytes behind it. disk, later: the moments of the disk at the start and at the end, where it tells them.
 abbrev pub NodeEnded : NodeKind → List ℕ → Option Moments → Option Moments → ClusterRecord → ℕ → List ℕ → Status → Option (List ℕ) → Option (List ℕ) → Option (List ℕ) → ℕ → ℕ → Told → Told → Type 0
 NodeEnded (Master epoch) addr disk later c number bytes status left w0 w before now old new =
-    MasterEnded (λ q. WhereMoments (λ before now. FileReads q now) disk later) epoch (master_start c epoch addr number) disk bytes status left w0 w before now old new
+    MasterEnded epoch (master_start c epoch addr number) disk later bytes status left w0 w before now old new
 NodeEnded (Agent m boot) addr disk later c number bytes status left w0 w before now old new =
-    ((m.0 < length c.machines) × Ended (λ q. ⊤) (agent_start c m.0 boot addr number) bytes (Ok status) left w0 w before now old new)
+    ((m.0 < length c.machines) × Ended (λ q. ⊤) (λ q p. ⊤) (agent_start c m.0 boot addr number) bytes (Ok status) left w0 w before now old new)
     ⊎ LacksMachine c m.0 number bytes status left w0 w old new
 NodeEnded (App a boot units) addr disk later c number bytes status left w0 w before now old new =
-    Ended (λ q. ⊤) (app_start c a.0 units boot addr number) bytes (Ok status) left w0 w before now old new
+    Ended (λ q. ⊤) (λ q p. ⊤) (app_start c a.0 units boot addr number) bytes (Ok status) left w0 w before now old new
 
 -- it ended at the line of the cluster or before it, and nothing was written
 pub record EndsBefore (bytes : List ℕ) (status : Status) (left w0 w : Option (List ℕ)) (old new : Told) : Type 0 where

@@ -58,6 +58,7 @@ agent_named (event.Deliver k) = None
 agent_named (event.DeliverRange k l) = None
 agent_named (event.Dump k) = None
 agent_named event.Show = None
+agent_named (event.Halt' calls all p x) = None
 
 abbrev pub agent_by : AgentRole → Option ℕ → Commanded
 agent_by r None = stays (OfAgent r) NotHere
@@ -96,6 +97,7 @@ app_named (event.Deliver k) = None
 app_named (event.DeliverRange k l) = None
 app_named (event.Dump k) = None
 app_named event.Show = None
+app_named (event.Halt' calls all p x) = None
 
 abbrev pub app_after : AppRole → Result AppRole Refusal → Commanded
 app_after r (Ok role) = becomes (OfApp role)
@@ -142,6 +144,7 @@ master_named (event.Deliver k) = None
 master_named (event.DeliverRange k l) = None
 master_named (event.Dump k) = None
 master_named event.Show = None
+master_named (event.Halt' calls all p x) = None
 
 abbrev pub master_after : HardState → MasterRole → Result (MasterRole × HardState) Refusal → Commanded
 master_after h r (Ok role) = becomes (OfMaster role.1 role.0)

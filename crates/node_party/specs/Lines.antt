@@ -2,7 +2,9 @@
 use Rattle.std.specs.Prelude.{ℕ, Bool, false, cond, nat_eq, List, [], ◌∷◌, length, Result, Ok, Err, codes}
 use Rattle.std.specs.Str.{bytes_eq}
 use Rattle.schedule_text.specs.Words.{words_of}
+use Rattle.schedule_text.specs.Halting.{anywhere}
 use Rattle.schedule_text.specs.Reading.{event_of}
+use Rattle.schedule_text.specs.Writing.{IsLineEvent}
 use Rattle.schedule_text.specs.declared.event.Event.{Event as LineEvent}
 use Rattle.schedule_text.specs.declared.event.LineFault.{LineFault}
 use Rattle.schedule_text.specs.declared.event.LineFault.TheVariants.{WrongCount}
@@ -29,3 +31,17 @@ line_by words event =
 
 abbrev pub node_line : List ℕ → Result NodeLine LineFault
 node_line line = line_by (words_of line) (event_of line)
+
+-- wherever the event of the line stands in memory
+abbrev pub line_anywhere : NodeLine → NodeLine
+line_anywhere (Event event) = Event (anywhere event)
+line_anywhere Round = Round
+line_anywhere Serve = Serve
+line_anywhere Show = Show
+
+-- its event is one that a line can give
+abbrev pub HasLineEvent : NodeLine → Type 0
+HasLineEvent (Event event) = IsLineEvent event
+HasLineEvent Round = Unit {0}
+HasLineEvent Serve = Unit {0}
+HasLineEvent Show = Unit {0}

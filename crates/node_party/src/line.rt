@@ -3,7 +3,7 @@
 ghost use Rattle.std.specs.Prelude.{◌≡◌, IfOk, IfErr, Ok, Err, map};
 ghost use Rattle.schedule_text.specs.Words.{words_of};
 ghost use Rattle.schedule_text.specs.Reading.{IsFault};
-ghost use Rattle.node_party.specs.Lines.{node_line, begins_with, alone};
+ghost use Rattle.node_party.specs.Lines.{node_line, line_anywhere, begins_with, alone, HasLineEvent};
 
 use fuxi_terms::OutOfMemory;
 use schedule_text::{Event, LineFault, read_event};
@@ -46,7 +46,8 @@ fn begins_with(word: &[u8], words: &[&[u8]]) -> bool
 /// What a line says, which has no newline: `round`, `serve` or `show` alone, or another event. The first test that fails decides, as in a
 /// schedule.
 pub fn read_line(alloc: Global, line: &[u8]) -> Result<NodeLine, LineFault>
-    ensures ok { IfOk result (λ said. node_line line.now ≡ Ok said) }
+    ensures ok { IfOk result (λ said. node_line line.now ≡ Ok (line_anywhere said)) }
+    ensures line { IfOk result HasLineEvent }
     ensures fault { IfErr result (IsFault (node_line line.now)) }
 {
     let words = words_of(alloc, line)?;

@@ -1,12 +1,13 @@
 //! The party of a node.
 
-ghost use Rattle.std.specs.Prelude.{◌≡◌, ◌+◌, ◌<◌, ◌≤◌, ◌++◌, ℕ, Err, IfOk, OnOk, Option, Some, None};
+ghost use Rattle.std.specs.Prelude.{◌≡◌, ◌+◌, ◌<◌, ◌≤◌, ◌++◌, ℕ, Err, IfOk, OnOk, OnErr, Option, Some, None};
 ghost use Rattle.fuxi_io.specs.Causes.{Rose};
 ghost use Rattle.fuxi_io.specs.Disks.{Told as Moments, WhereTold};
 ghost use Rattle.fuxi_terms.specs.Limits.{most_steps};
 ghost use Rattle.schedule_text.specs.Writing.{IsLineEvent};
 ghost use Rattle.node_rounds.specs.Roles.{Role};
 ghost use Rattle.node_party.specs.Commands.{IsCommanded, commanded, accepts};
+ghost use Rattle.node_party.specs.Halts.{FitsEither};
 ghost use Rattle.node_party.specs.Texts.{lines_text, party_lines, as_answer};
 
 use fuxi_io::Disk;
@@ -38,17 +39,21 @@ pub enum Halt {
 /// The party of a node, which takes the lines that are no rounds. What its calls do is said of every party of the definitions that it
 /// stands for. A command is at most one step.
 pub trait Node: Core {
-    ghost use Rattle.std.specs.Prelude.{◌≡◌, ◌+◌, ◌<◌, ◌≤◌, ◌++◌, ℕ, Err, IfOk, OnOk, Option, Some, None};
+    ghost use Rattle.std.specs.Prelude.{◌≡◌, ◌+◌, ◌<◌, ◌≤◌, ◌++◌, ℕ, Err, IfOk, OnOk, OnErr, Option, Some, None};
     ghost use Rattle.fuxi_io.specs.Causes.{Rose};
     ghost use Rattle.fuxi_io.specs.Disks.{Told as Moments, WhereTold};
     ghost use Rattle.fuxi_terms.specs.Limits.{most_steps};
     ghost use Rattle.schedule_text.specs.Writing.{IsLineEvent};
     ghost use Rattle.node_rounds.specs.Roles.{Role};
     ghost use Rattle.node_party.specs.Commands.{IsCommanded, commanded, accepts};
+    ghost use Rattle.node_party.specs.Halts.{FitsEither};
     ghost use Rattle.node_party.specs.Texts.{lines_text, party_lines, as_answer};
 
     /// What a disk with these moments has of this party.
     ghost fits: { Role → Moments → Type 0 };
+
+    /// What one has where a line was broken off, of the party before it or of the one behind it.
+    ghost halts: { Role → Role → Moments → Type 0 };
 
     /// Whether it is called, and does not dial.
     fn accepts(&self) -> bool
@@ -69,6 +74,7 @@ pub trait Node: Core {
         ensures steps { IfOk result (λ after. Self.steps after.0 ≤ Self.steps self + 1) }
         ensures rests { IfOk result (λ after. Self.rests after.0 (D.size disk.new) None) }
         ensures told { WhereTold (λ old new. Self.rests self (D.size disk.old) (Some old) → IfOk result (λ after. Self.rests after.0 (D.size disk.new) (Some new))) (D.told disk.old) (D.told disk.new) }
+        ensures halts { OnErr result ((r : Role) → Self.stands self r → WhereTold (λ old new. Self.rests self (D.size disk.old) (Some old) → FitsEither fits halts r (commanded r event.now).role new) (D.told disk.old) (D.told disk.new)) }
         ensures later { D.faults disk.old ≤ D.faults disk.new }
         ensures cause { result ≡ Err Halt.Disk → Rose (D.faults disk.old) (D.faults disk.new) };
 

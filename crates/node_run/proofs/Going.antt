@@ -1,26 +1,23 @@
 -- A node's run over the lines of an input goes on by one line, or ends.
-use Rattle.std.proofs.Common.{inl, inr, ◌≡◌, ◌≢◌, ℕ, ◌+◌, ◌-◌, ◌<◌, ◌≤◌, Bool, true, false, cond, nat_eq, nat_lt, List, [], ◌∷◌, ◌++◌, length, take, Option, None, Some, Ok, Err, refl, sym, ◌∙◌, ap, subst, arith, append_assoc, append-nil, length-append, slice_get}
-use Rattle.std.specs.Option.{unwrap_or}
+use Rattle.std.proofs.Common.{inl, inr, ◌≡◌, ◌≢◌, ℕ, ◌+◌, ◌<◌, ◌≤◌, Bool, true, false, nat_lt, List, [], ◌∷◌, ◌++◌, length, Option, Some, Ok, Err, refl, sym, ◌∙◌, ap, subst, arith, append_assoc, append-nil}
 use Rattle.std.specs.List.{concat}
 use Rattle.std.specs.Io.KnownBytes.{Appends, Consumes, IsAtEnd, prepend_known}
 use Rattle.std.proofs.lemmas.Bool.Decides.{nat_tests}
-use Rattle.std.proofs.lemmas.List.Folds.{concat-append}
-use Rattle.std.proofs.Math.Seq.{take-append_seam}
 use Rattle.fuxi_io.specs.Causes.{TakesPart}
-use Rattle.fuxi_io.specs.Lines.{InputLine, lines_of, onto_first, GivesKnown, IsFirst, BreaksOff, FirstLonger, FirstTooLongKnown, MoreKnown}
+use Rattle.fuxi_io.specs.Lines.{InputLine, lines_of, GivesKnown, IsFirst, BreaksOff, FirstLonger, FirstTooLongKnown, MoreKnown}
 use Rattle.fuxi_io.specs.Reading.{read_ahead}
-use Rattle.fuxi_io.specs.declared.lines.Got.TheVariants.{Line, End}
+use Rattle.fuxi_io.specs.declared.lines.Got.TheVariants.{Line}
 use Rattle.fuxi_io.specs.declared.lines.LineStop.{LineStop}
 use Rattle.fuxi_io.specs.declared.lines.LineStop.TheVariants.{ReadFault as ReadStop, LineTooLong as LongStop, TooManyLines as ManyStop}
 use Rattle.fuxi_io.specs.declared.status.InputFault.TheVariants.{LineTooLong}
 use Rattle.fuxi_io.specs.declared.status.Status.{Status}
 use Rattle.fuxi_io.specs.declared.status.Status.TheVariants.{Done, Usage, BadInput, ReadFault, WriteFault, Limit, OutOfMemory, DiskFault, StaleEpoch, DamagedCheckpoint}
 use Rattle.fuxi_terms.specs.Limits.{most_line_bytes, most_lines}
-use Rattle.fuxi_terms.proofs.Appending.{appends_both, appends_none}
+use Rattle.fuxi_terms.proofs.Appending.{appends_none}
 use Rattle.schedule_text.specs.declared.event.LineFault.{LineFault}
 use Rattle.input_lines.specs.Contents.{content, is_skipped}
 use Rattle.input_lines.specs.Statuses.{event_fault, stop_status}
-use Rattle.input_lines.specs.Wholes.{IsNext, TakesLines, TakesSome, WritesLast}
+use Rattle.input_lines.specs.Wholes.{IsNext, TakesLines, TakesSome}
 use Rattle.node_door.specs.Doors.{Told}
 use Rattle.node_rounds.specs.Roles.{Role}
 use Rattle.node_rounds.specs.Rounds.{Breaks}
@@ -29,9 +26,9 @@ use Rattle.node_party.specs.Commands.{accepts}
 use Rattle.node_party.specs.Texts.{state_text}
 use Rattle.node_run.specs.declared.taking.DiskFailed.{DiskFailed}
 use Rattle.node_run.specs.declared.taking.Stop.TheVariants.{Ends, Disk}
-use Rattle.node_run.specs.Runs.{Node, Round, Run, Ending, AtEnd, AtBadLine, AtLimit, ended, behind, then_is, takes, within_limits, role_run, pieces}
+use Rattle.node_run.specs.Runs.{Node, Round, Run, Ending, AtEnd, AtBadLine, AtLimit, ended, behind, then_is, takes, within_limits, role_run, role_after, pieces}
 use Rattle.node_run.specs.Visits.{Visit, rounds_of, played_of, WasAt}
-use Rattle.node_run.specs.Ends.{Start, run_of, Ran, EndsAt, EndsWhole, StopsWanting, Ended}
+use Rattle.node_run.specs.Ends.{Start, run_of, Ran, EndsAt, EndsWith, EndsWhole, IsEither, StopsWanting, Ended}
 use Rattle.node_run.specs.Progress.{Taken, TakesLine, WritesEnd, behind_all, Along}
 use Rattle.node_run.proofs.Visiting.{was_both, was_later, rounds_both, played_both}
 use Rattle.node_run.proofs.Stepping.{not_there}
@@ -181,8 +178,25 @@ module _ (laws : TakesLines) (s : Start) (bytes : List ℕ) (number : ℕ) (ends
     holds = subst (EndsAt ending w0 w') (sym is) (refl, subst (λ t. Appends w0 t (concat a.front)) (sym kept) a.writes);
   }
 
-  wants : (source w' : Option (List ℕ)) (next : List InputLine) (f2 : ℕ) (new : Told) → length next ≤ 1 → TakesSome bytes source (a.lines ++ next) → w' ≡ w → f1 ≤ f2 → Breaks (accepts a.role) s.addr a.role mid new → StopsWanting s bytes source w0 w' f0 f2 old new
-  wants source w' next f2 new one takes kept later breaks = record {
+  ends_with : (Fits : Role → Type 0) → Fits a.role → (lines : List InputLine) (ending : Ending) (w' : Option (List ℕ)) (f2 : ℕ) (new : Told) → w' ≡ w → WasAt s.most s.addr a.visits f0 f2 old new
+      → run_of s a.visits lines ≡ record { outputs = a.front; rounds = played_of a.visits; node = here; ending = ending } → Ran s lines (EndsWith Fits ending w0 w') f0 f2 old new
+  ends_with Fits fits lines ending w' f2 new kept was is = record {
+    visits = a.visits;
+    was = was;
+    rounds = ap (λ (r : Run). r.rounds) is;
+    holds = subst (EndsWith Fits ending w0 w') (sym is) (refl, subst (λ t. Appends w0 t (concat a.front)) (sym kept) a.writes, fits);
+  }
+
+  -- the party now, and the one behind a line more
+  one_of : (FitsOne : Role → Role → Type 0) (next : List InputLine) (p : Role) → (run_of s a.visits (a.lines ++ next)).node.role ≡ p → FitsOne a.role p → IsEither FitsOne s a.visits a.lines next
+  one_of FitsOne next p is one = subst (λ q. FitsOne q (run_of s a.visits (a.lines ++ next)).node.role) (sym (ap (λ (r : Run). r.node.role) so_far)) (subst (FitsOne a.role) (sym is) one)
+
+  role_more : (line : InputLine) (behind' : List ℕ) → number < most_lines → IsFirst a.left line behind' → is_skipped (content line) ≡ false → (run_of s a.visits (a.lines ++ line ∷ [])).node.role ≡ role_after s.most (number + 1) here (node_line (content line))
+  role_more line behind' more first unskipped = ap (λ (r : Run). r.node.role) (ap (λ rs. role_run s.most s.first s.node rs (a.lines ++ line ∷ [])) (sym (append-nil (rounds_of a.visits))) ∙ a.through [] (line ∷ [])
+      ∙ ap (behind_all a.front (played_of a.visits)) (run_taken s.most number here [] line [] more first.short unskipped))
+
+  wants : (FitsOne : Role → Role → Type 0) (source w' : Option (List ℕ)) (next : List InputLine) (p : Role) (f2 : ℕ) (new : Told) → (run_of s a.visits (a.lines ++ next)).node.role ≡ p → FitsOne a.role p → length next ≤ 1 → TakesSome bytes source (a.lines ++ next) → w' ≡ w → f1 ≤ f2 → Breaks (accepts a.role) s.addr a.role mid new → StopsWanting FitsOne s bytes source w0 w' f0 f2 old new
+  wants FitsOne source w' next p f2 new is fits one takes kept later breaks = record {
     lines = a.lines;
     next = next;
     one = one;
@@ -194,11 +208,12 @@ module _ (laws : TakesLines) (s : Start) (bytes : List ℕ) (number : ℕ) (ends
       rounds = ap (λ (r : Run). r.rounds) so_far;
       holds = subst (λ (r : Run). EndsAt AtEnd w0 w' r × Breaks (accepts r.node.role) s.addr r.node.role mid new) (sym so_far) ((refl, subst (λ t. Appends w0 t (concat a.front)) (sym kept) a.writes), breaks);
     };
+    fits = one_of FitsOne next p is fits;
   }
 
   -- behind the last line
-  pub state_ended : (Fits : Role → Type 0) → Fits a.role → (source w' : Option (List ℕ)) (status : Status) → a.left ≡ [] → source ≡ Some [] → WritesEnd (state_text events a.role) status w w' → Ended Fits s bytes (Ok status) source w0 w' f0 f1 old mid
-  state_ended Fits fits source w' status end empty = by_status status
+  pub state_ended : (Fits : Role → Type 0) (FitsOne : Role → Role → Type 0) → Fits a.role → FitsOne a.role a.role → (source w' : Option (List ℕ)) (status : Status) → a.left ≡ [] → source ≡ Some [] → WritesEnd (state_text events a.role) status w w' → Ended Fits FitsOne s bytes (Ok status) source w0 w' f0 f1 old mid
+  state_ended Fits FitsOne fits one source w' status end empty = by_status status
     where
       cut : lines_of bytes ≡ a.lines
       cut = a.cut ∙ ap (λ xs. a.lines ++ lines_of xs) end ∙ append-nil a.lines
@@ -215,7 +230,7 @@ module _ (laws : TakesLines) (s : Start) (bytes : List ℕ) (number : ℕ) (ends
         few = omega arith;
       }
 
-      by_status : (status : Status) → WritesEnd (state_text events a.role) status w w' → Ended Fits s bytes (Ok status) source w0 w' f0 f1 old mid
+      by_status : (status : Status) → WritesEnd (state_text events a.role) status w w' → Ended Fits FitsOne s bytes (Ok status) source w0 w' f0 f1 old mid
       by_status Done h = (
         empty,
         record {
@@ -232,10 +247,10 @@ module _ (laws : TakesLines) (s : Start) (bytes : List ℕ) (number : ℕ) (ends
           visits = a.visits;
           was = a.was;
           rounds = ap (λ (r : Run). r.rounds) so_far;
-          holds = inr (cut, laws.last (pieces (run_of s a.visits a.lines)) a.front (state_text events a.role) h.0 w0 w w' (ap pieces so_far) a.writes h.2);
+          holds = (inr (cut, laws.last (pieces (run_of s a.visits a.lines)) a.front (state_text events a.role) h.0 w0 w w' (ap pieces so_far) a.writes h.2), subst Fits (sym (ap (λ (r : Run). r.node.role) so_far)) fits);
         };
       }
-      by_status OutOfMemory h = wants source w' [] f1 mid (omega arith) some h (omega arith) (inl refl)
+      by_status OutOfMemory h = wants FitsOne source w' [] a.role f1 mid (ap (λ (r : Run). r.node.role) (ap (run_of s a.visits) (append-nil a.lines) ∙ so_far)) one (omega arith) some h (omega arith) (inl refl)
       by_status Usage h = h
       by_status (BadInput line fault) h = absurd h
       by_status ReadFault h = absurd h
@@ -245,27 +260,27 @@ module _ (laws : TakesLines) (s : Start) (bytes : List ℕ) (number : ℕ) (ends
       by_status (DamagedCheckpoint offset) h = absurd h
 
   -- the reader stopped
-  pub stop_ended : (Fits : Role → Type 0) (source : Option (List ℕ)) (stop : LineStop) → ends ≡ true → (stop ≡ ReadStop → BreaksOff rest source) → (stop ≡ LongStop → (number < most_lines) × FirstTooLongKnown rest) → (stop ≡ ManyStop → (number ≡ most_lines) × MoreKnown rest)
-      → Ended Fits s bytes (Ok (stop_status stop number)) source w0 w f0 f1 old mid
-  stop_ended Fits source ReadStop ended broke long many =
+  pub stop_ended : (Fits : Role → Type 0) (FitsOne : Role → Role → Type 0) → Fits a.role → (source : Option (List ℕ)) (stop : LineStop) → ends ≡ true → (stop ≡ ReadStop → BreaksOff rest source) → (stop ≡ LongStop → (number < most_lines) × FirstTooLongKnown rest) → (stop ≡ ManyStop → (number ≡ most_lines) × MoreKnown rest)
+      → Ended Fits FitsOne s bytes (Ok (stop_status stop number)) source w0 w f0 f1 old mid
+  stop_ended Fits FitsOne fits source ReadStop ended broke long many =
       let b = laws.broken bytes a.left source a.lines (a.taken.whole ended) (subst (λ r. BreaksOff r source) a.is_left (broke refl)) in
       record {
         given = b.given;
         gave = b.gave;
-        ran = subst (λ ls. Ran s ls (EndsAt AtEnd w0 w) f0 f1 old mid) (sym b.whole) (ends_there a.lines AtEnd w f1 mid refl a.was so_far);
+        ran = subst (λ ls. Ran s ls (EndsWith Fits AtEnd w0 w) f0 f1 old mid) (sym b.whole) (ends_with Fits fits a.lines AtEnd w f1 mid refl a.was so_far);
       }
-  stop_ended Fits source LongStop ended broke long many =
+  stop_ended Fits FitsOne fits source LongStop ended broke long many =
       let l = long refl in
-      ends_there (lines_of bytes) (AtBadLine (number + 1) LineTooLong) w f1 mid refl a.was (known_end (AtBadLine (number + 1) LineTooLong) (run_long s.most number here [] (lines_of a.left) l.0 (subst FirstTooLongKnown a.is_left l.1)))
-  stop_ended Fits source ManyStop ended broke long many =
+      ends_with Fits fits (lines_of bytes) (AtBadLine (number + 1) LineTooLong) w f1 mid refl a.was (known_end (AtBadLine (number + 1) LineTooLong) (run_long s.most number here [] (lines_of a.left) l.0 (subst FirstTooLongKnown a.is_left l.1)))
+  stop_ended Fits FitsOne fits source ManyStop ended broke long many =
       let m = many refl in
-      subst (λ k. Ran s (lines_of bytes) (EndsAt (AtLimit k) w0 w) f0 f1 old mid) (sym m.0)
-      (ends_there (lines_of bytes) (AtLimit most_lines) w f1 mid refl a.was (known_end (AtLimit most_lines) (run_many s.most number here [] (lines_of a.left) m.0 (laws.some a.left (subst MoreKnown a.is_left m.1)))))
+      subst (λ k. Ran s (lines_of bytes) (EndsWith Fits (AtLimit k) w0 w) f0 f1 old mid) (sym m.0)
+      (ends_with Fits fits (lines_of bytes) (AtLimit most_lines) w f1 mid refl a.was (known_end (AtLimit most_lines) (run_many s.most number here [] (lines_of a.left) m.0 (laws.some a.left (subst MoreKnown a.is_left m.1)))))
 
   -- a line at which the node ended
-  pub line_ended : {C : Type 0} (Fits : Role → Type 0) (stands : C → Role → Type 0) (pending : List ℕ) (source w' : Option (List ℕ)) (line : InputLine) (status : Status) (f2 : ℕ) (new : Told) → number < most_lines → length pending ≤ read_ahead → GivesKnown Line rest line (prepend_known pending source)
-      → is_skipped (content line) ≡ false → TakesLine {C = C} stands s.most s.addr here (node_line (content line)) (number + 1) (Err (Ends status)) w w' f1 f2 mid new → Ended Fits s bytes (Ok status) source w0 w' f0 f2 old new
-  line_ended {C} Fits stands pending source w' line status f2 new more few gives unskipped = by_status status
+  pub line_ended : {C : Type 0} (Fits : Role → Type 0) (FitsOne : Role → Role → Type 0) (stands : C → Role → Type 0) (pending : List ℕ) (source w' : Option (List ℕ)) (line : InputLine) (status : Status) (f2 : ℕ) (new : Told) → number < most_lines → length pending ≤ read_ahead → GivesKnown Line rest line (prepend_known pending source)
+      → is_skipped (content line) ≡ false → TakesLine {C = C} stands Fits FitsOne s.most s.addr here (node_line (content line)) (number + 1) (Err (Ends status)) w w' f1 f2 mid new → Ended Fits FitsOne s bytes (Ok status) source w0 w' f0 f2 old new
+  line_ended {C} Fits FitsOne stands pending source w' line status f2 new more few gives unskipped = by_status status
     where
       n : IsNext a.left line (prepend_known pending source)
       n = laws.next a.left line rest (prepend_known pending source) a.is_left gives
@@ -277,28 +292,28 @@ module _ (laws : TakesLines) (s : Start) (bytes : List ℕ) (number : ℕ) (ends
       bad why is = ap (role_run s.most number here []) n.first.first ∙ run_taken s.most number here [] line (lines_of n.behind) more n.first.short unskipped
           ∙ ap (λ what. takes s.most (number + 1) here [] what (λ m rs. role_run s.most (number + 1) m rs (lines_of n.behind))) is
 
-      by_status : (status : Status) → TakesLine {C = C} stands s.most s.addr here (node_line (content line)) (number + 1) (Err (Ends status)) w w' f1 f2 mid new → Ended Fits s bytes (Ok status) source w0 w' f0 f2 old new
+      by_status : (status : Status) → TakesLine {C = C} stands Fits FitsOne s.most s.addr here (node_line (content line)) (number + 1) (Err (Ends status)) w w' f1 f2 mid new → Ended Fits FitsOne s bytes (Ok status) source w0 w' f0 f2 old new
       by_status (BadInput m fault) h =
           let was : WasAt s.most s.addr a.visits f0 f2 old new = subst (λ vs. WasAt s.most s.addr vs f0 f2 old new) (append-nil a.visits) (was_both s.most s.addr a.visits [] f0 f1 f2 old mid new a.was h.3) in
-          subst (λ k. Ran s (lines_of bytes) (EndsAt (AtBadLine k fault) w0 w') f0 f2 old new) (sym h.1)
-          (subst (λ x. Ran s (lines_of bytes) (EndsAt (AtBadLine (number + 1) x) w0 w') f0 f2 old new) (sym h.0.same)
-          (ends_there (lines_of bytes) (AtBadLine (number + 1) (event_fault h.0.why)) w' f2 new h.2 was (known_end (AtBadLine (number + 1) (event_fault h.0.why)) (bad h.0.why h.0.is))))
+          subst (λ k. Ran s (lines_of bytes) (EndsWith Fits (AtBadLine k fault) w0 w') f0 f2 old new) (sym h.1)
+          (subst (λ x. Ran s (lines_of bytes) (EndsWith Fits (AtBadLine (number + 1) x) w0 w') f0 f2 old new) (sym h.0.same)
+          (ends_with Fits h.4 (lines_of bytes) (AtBadLine (number + 1) (event_fault h.0.why)) w' f2 new h.2 was (known_end (AtBadLine (number + 1) (event_fault h.0.why)) (bad h.0.why h.0.is))))
       by_status WriteFault t =
           let vs = a.visits ++ t.visits in
           let over : run_of s vs (a.lines ++ line ∷ []) ≡ behind_all (a.front ++ t.output ∷ []) (played_of vs) (ended (then_is here t.role) AtEnd) =
           ap (λ rs. role_run s.most s.first s.node rs (a.lines ++ line ∷ [])) (sym (append-nil (rounds_of vs))) ∙ ap (role_run s.most s.first s.node (rounds_of vs ++ [])) (sym (append-nil (a.lines ++ line ∷ [])))
-          ∙ through_line line n.behind more n.first unskipped (λ r. Unit {0}) (TakesPart w w') f2 new t [] [] in
+          ∙ through_line line n.behind more n.first unskipped Fits (TakesPart w w') f2 new t [] [] in
           record {
             lines = a.lines ++ line ∷ [];
             takes = some;
             ran = record {
               visits = vs;
-              was = was_all line n.behind more n.first unskipped (λ r. Unit {0}) (TakesPart w w') f2 new t;
+              was = was_all line n.behind more n.first unskipped Fits (TakesPart w w') f2 new t;
               rounds = ap (λ (r : Run). r.rounds) over ∙ append-nil (played_of vs);
-              holds = inl (laws.last (run_of s vs (a.lines ++ line ∷ [])).outputs a.front t.output t.writes.0 w0 w w' (ap (λ (r : Run). r.outputs) over ∙ append-nil (a.front ++ t.output ∷ [])) a.writes t.writes.2);
+              holds = (inl (laws.last (run_of s vs (a.lines ++ line ∷ [])).outputs a.front t.output t.writes.0 w0 w w' (ap (λ (r : Run). r.outputs) over ∙ append-nil (a.front ++ t.output ∷ [])) a.writes t.writes.2), subst Fits (sym (ap (λ (r : Run). r.node.role) over)) t.stands);
             };
           }
-      by_status OutOfMemory h = wants source w' (line ∷ []) f2 new (omega arith) some h.0 h.1 h.2
+      by_status OutOfMemory h = wants FitsOne source w' (line ∷ []) (role_after s.most (number + 1) here (node_line (content line))) f2 new (role_more line n.behind more n.first unskipped) h.3 (omega arith) some h.0 h.1 h.2
       by_status (Limit what kept) h = absurd h
       by_status Done h = absurd h
       by_status Usage h = h
@@ -308,9 +323,10 @@ module _ (laws : TakesLines) (s : Start) (bytes : List ℕ) (number : ℕ) (ends
       by_status (DamagedCheckpoint offset) h = absurd h
 
   -- a line at which the disk failed
-  pub disk_ended : {C : Type 0} (Fits : Role → Type 0) (failed : DiskFailed) (stands : C → Role → Type 0) (pending : List ℕ) (source w' : Option (List ℕ)) (line : InputLine) (f2 : ℕ) (new : Told) → length pending ≤ read_ahead → GivesKnown Line rest line (prepend_known pending source)
-      → TakesLine {C = C} stands s.most s.addr here (node_line (content line)) (number + 1) (Err Disk) w w' f1 f2 mid new → Ended Fits s bytes (Err failed) source w0 w' f0 f2 old new
-  disk_ended {C} Fits failed stands pending source w' line f2 new few gives h =
+  pub disk_ended : {C : Type 0} (Fits : Role → Type 0) (FitsOne : Role → Role → Type 0) (failed : DiskFailed) (stands : C → Role → Type 0) (pending : List ℕ) (source w' : Option (List ℕ)) (line : InputLine) (f2 : ℕ) (new : Told) → number < most_lines → length pending ≤ read_ahead → GivesKnown Line rest line (prepend_known pending source)
+      → is_skipped (content line) ≡ false → TakesLine {C = C} stands Fits FitsOne s.most s.addr here (node_line (content line)) (number + 1) (Err Disk) w w' f1 f2 mid new → Ended Fits FitsOne s bytes (Err failed) source w0 w' f0 f2 old new
+  unfolding ends_there
+  disk_ended {C} Fits FitsOne failed stands pending source w' line f2 new more few gives unskipped h =
       let n = laws.next a.left line rest (prepend_known pending source) a.is_left gives in
       record {
         lines = a.lines;
@@ -318,4 +334,5 @@ module _ (laws : TakesLines) (s : Start) (bytes : List ℕ) (number : ℕ) (ends
         one = omega arith;
         takes = record { behind = n.behind; cut = cut_more line n.behind n.first; ahead = pending; gave = laws.ahead pending n.behind source n.is_left; few = few };
         ran = ends_there a.lines AtEnd w' f2 new h.0 (subst (λ vs. WasAt s.most s.addr vs f0 f2 old new) (append-nil a.visits) (was_both s.most s.addr a.visits [] f0 f1 f2 old mid new a.was h.1)) so_far;
+        fits = one_of FitsOne (line ∷ []) (role_after s.most (number + 1) here (node_line (content line))) (role_more line n.behind more n.first unskipped) h.2;
       }

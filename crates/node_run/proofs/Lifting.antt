@@ -21,6 +21,7 @@ use Rattle.node_run.specs.Runs.{Node}
 use Rattle.node_run.specs.Ends.{Start, Ended, start_of}
 use Rattle.node_run.specs.Progress.{Taken, TakesCounted, WritesEnd, Along}
 use Rattle.node_run.proofs.Telling.{same_told, map_told}
+use Rattle.node_run.proofs.Stepping.{line_more}
 use Rattle.node_run.proofs.Going.{begin, skip, step, state_ended, stop_ended, line_ended, disk_ended}
 
 weaker : (o : Option (List ℕ)) (P Q : List ℕ → Type 0) → ((x : List ℕ) → P x → Q x) → IfSome o P → IfSome o Q
@@ -56,40 +57,44 @@ module _ (laws : TakesLines) (s : Start) (input : Option (List ℕ)) (number : �
       (λ old mid x. (x.role, x.stands)) (λ q. takes (record { role = q.0; events = events }) q.1 refl)
       (λ old mid new x t. step laws s bytes number ends events now rest w0 w f0 f1 old mid x rest' w' line now' f2 new ended more gives unskipped t)) a
 
-  module _ (Fits : Role → Type 0) where
+  module _ (Fits : Role → Type 0) (FitsOne : Role → Role → Type 0) where
     -- the end was told by an answer, or by the last line
-    pub end_along : (pending : List ℕ) (source w' : Option (List ℕ)) (line : InputLine) (status : Status) → GivesKnown End rest line (prepend_known pending source) → ((r : Role) → now r → WritesEnd (state_text events r) status w w') → ((r : Role) → now r → Fits r)
-        → IfSome input (λ bytes. WhereTold (Ended Fits s bytes (Ok status) source w0 w' f0 f1) t0 t1)
-    end_along pending source w' line status gives writes fits = weaker input _ _ (λ bytes. map_told (Along s bytes number ends events now rest w0 w f0 f1) (Ended Fits s bytes (Ok status) source w0 w' f0 f1) t0 t1 (λ old mid x.
+    pub end_along : (pending : List ℕ) (source w' : Option (List ℕ)) (line : InputLine) (status : Status) → GivesKnown End rest line (prepend_known pending source) → ((r : Role) → now r → WritesEnd (state_text events r) status w w') → ((r : Role) → now r → Fits r) → ((q p : Role) → Fits q → FitsOne q p)
+        → IfSome input (λ bytes. WhereTold (Ended Fits FitsOne s bytes (Ok status) source w0 w' f0 f1) t0 t1)
+    end_along pending source w' line status gives writes fits one = weaker input _ _ (λ bytes. map_told (Along s bytes number ends events now rest w0 w f0 f1) (Ended Fits FitsOne s bytes (Ok status) source w0 w' f0 f1) t0 t1 (λ old mid x.
         let e = laws.end x.left line rest (prepend_known pending source) x.is_left gives in
-        state_ended laws s bytes number ends events now rest w0 w f0 f1 old mid x Fits (fits x.role x.stands) source w' status e.0 (laws.no_more pending source e.1) (writes x.role x.stands))) a
+        state_ended laws s bytes number ends events now rest w0 w f0 f1 old mid x Fits FitsOne (fits x.role x.stands) (one x.role x.role (fits x.role x.stands)) source w' status e.0 (laws.no_more pending source e.1) (writes x.role x.stands))) a
 
-    pub last_along : (pending : List ℕ) (source w' : Option (List ℕ)) (status : Status) → rest ≡ prepend_known pending source → ends ≡ false → ((r : Role) → now r → WritesEnd (state_text events r) status w w') → ((r : Role) → now r → Fits r)
-        → IfSome input (λ bytes. WhereTold (Ended Fits s bytes (Ok status) source w0 w' f0 f1) t0 t1)
-    last_along pending source w' status is ended writes fits = weaker input _ _ (λ bytes. map_told (Along s bytes number ends events now rest w0 w f0 f1) (Ended Fits s bytes (Ok status) source w0 w' f0 f1) t0 t1 (λ old mid x.
+    pub last_along : (pending : List ℕ) (source w' : Option (List ℕ)) (status : Status) → rest ≡ prepend_known pending source → ends ≡ false → ((r : Role) → now r → WritesEnd (state_text events r) status w w') → ((r : Role) → now r → Fits r) → ((q p : Role) → Fits q → FitsOne q p)
+        → IfSome input (λ bytes. WhereTold (Ended Fits FitsOne s bytes (Ok status) source w0 w' f0 f1) t0 t1)
+    last_along pending source w' status is ended writes fits one = weaker input _ _ (λ bytes. map_told (Along s bytes number ends events now rest w0 w f0 f1) (Ended Fits FitsOne s bytes (Ok status) source w0 w' f0 f1) t0 t1 (λ old mid x.
         let end = x.taken.last ended in
-        state_ended laws s bytes number ends events now rest w0 w f0 f1 old mid x Fits (fits x.role x.stands) source w' status end (laws.no_more pending source (sym is ∙ x.is_left ∙ ap (λ l. Some l) end)) (writes x.role x.stands))) a
+        state_ended laws s bytes number ends events now rest w0 w f0 f1 old mid x Fits FitsOne (fits x.role x.stands) (one x.role x.role (fits x.role x.stands)) source w' status end (laws.no_more pending source (sym is ∙ x.is_left ∙ ap (λ l. Some l) end)) (writes x.role x.stands))) a
 
-    pub stop_along : (source : Option (List ℕ)) (stop : LineStop) → ends ≡ true → (stop ≡ ReadStop → BreaksOff rest source) → (stop ≡ LongStop → (number < most_lines) × FirstTooLongKnown rest) → (stop ≡ ManyStop → (number ≡ most_lines) × MoreKnown rest)
-        → IfSome input (λ bytes. WhereTold (Ended Fits s bytes (Ok (stop_status stop number)) source w0 w f0 f1) t0 t1)
-    stop_along source stop ended broke long many = weaker input _ _ (λ bytes. map_told (Along s bytes number ends events now rest w0 w f0 f1) (Ended Fits s bytes (Ok (stop_status stop number)) source w0 w f0 f1) t0 t1
-        (λ old mid x. stop_ended laws s bytes number ends events now rest w0 w f0 f1 old mid x Fits source stop ended broke long many)) a
+    pub stop_along : (source : Option (List ℕ)) (stop : LineStop) → ends ≡ true → (stop ≡ ReadStop → BreaksOff rest source) → (stop ≡ LongStop → (number < most_lines) × FirstTooLongKnown rest) → (stop ≡ ManyStop → (number ≡ most_lines) × MoreKnown rest) → ((r : Role) → now r → Fits r)
+        → IfSome input (λ bytes. WhereTold (Ended Fits FitsOne s bytes (Ok (stop_status stop number)) source w0 w f0 f1) t0 t1)
+    stop_along source stop ended broke long many fits = weaker input _ _ (λ bytes. map_told (Along s bytes number ends events now rest w0 w f0 f1) (Ended Fits FitsOne s bytes (Ok (stop_status stop number)) source w0 w f0 f1) t0 t1
+        (λ old mid x. stop_ended laws s bytes number ends events now rest w0 w f0 f1 old mid x Fits FitsOne (fits x.role x.stands) source stop ended broke long many)) a
 
-    pub line_along : {C : Type 0} (stands : C → Role → Type 0) (pending : List ℕ) (source w' : Option (List ℕ)) (line : InputLine) (status : Status) (f2 : ℕ) (t2 : Option Told) → number < most_lines → length pending ≤ read_ahead → GivesKnown Line rest line (prepend_known pending source)
-        → is_skipped (content line) ≡ false → ((n : Node) → now n.role → n.events ≡ events → WhereTold (TakesCounted {C = C} stands s.most s.addr n (node_line (content line)) (number + 1) (Err (Ends status)) w w' f1 f2) t1 t2)
-        → IfSome input (λ bytes. WhereTold (Ended Fits s bytes (Ok status) source w0 w' f0 f2) t0 t2)
-    line_along {C} stands pending source w' line status f2 t2 more few gives unskipped takes = weaker input _ _ (λ bytes. go_told (Along s bytes number ends events now rest w0 w f0 f1) (Ended Fits s bytes (Ok status) source w0 w' f0 f2)
-        ((r : Role) × now r) (λ q. let n : Node = record { role = q.0; events = events } in TakesCounted {C = C} stands s.most s.addr n (node_line (content line)) (number + 1) (Err (Ends status)) w w' f1 f2) t0 t1 t2
-        (λ old mid x. (x.role, x.stands)) (λ q. takes (record { role = q.0; events = events }) q.1 refl)
-        (λ old mid new x t. line_ended laws s bytes number ends events now rest w0 w f0 f1 old mid x {C = C × ℕ} Fits (λ a. stands a.0) pending source w' line status f2 new more few gives unskipped t)) a
+    -- a line ended it; what is known of the disk, from before the line
+    module _ (Now : Role → Type 0) (OneNow : Role → Role → Type 0) (f : (q : Role) → Now q → Fits q) (one : (q p : Role) → OneNow q p → FitsOne q p) where
+      pub line_along : {C : Type 0} (stands : C → Role → Type 0) (pending : List ℕ) (source w' : Option (List ℕ)) (line : InputLine) (status : Status) (f2 : ℕ) (t2 : Option Told) → number < most_lines → length pending ≤ read_ahead → GivesKnown Line rest line (prepend_known pending source)
+          → is_skipped (content line) ≡ false → ((n : Node) → now n.role → n.events ≡ events → WhereTold (TakesCounted {C = C} stands Now OneNow s.most s.addr n (node_line (content line)) (number + 1) (Err (Ends status)) w w' f1 f2) t1 t2)
+          → IfSome input (λ bytes. WhereTold (Ended Fits FitsOne s bytes (Ok status) source w0 w' f0 f2) t0 t2)
+      line_along {C} stands pending source w' line status f2 t2 more few gives unskipped takes = weaker input _ _ (λ bytes. go_told (Along s bytes number ends events now rest w0 w f0 f1) (Ended Fits FitsOne s bytes (Ok status) source w0 w' f0 f2)
+          ((r : Role) × now r) (λ q. let n : Node = record { role = q.0; events = events } in TakesCounted {C = C} stands Now OneNow s.most s.addr n (node_line (content line)) (number + 1) (Err (Ends status)) w w' f1 f2) t0 t1 t2
+          (λ old mid x. (x.role, x.stands)) (λ q. takes (record { role = q.0; events = events }) q.1 refl)
+          (λ old mid new x t. line_ended laws s bytes number ends events now rest w0 w f0 f1 old mid x {C = C × ℕ} Fits FitsOne (λ a. stands a.0) pending source w' line status f2 new more few gives unskipped
+          (line_more (λ (a : C × ℕ). stands a.0) Now Fits OneNow FitsOne f one s.most s.addr _ (node_line (content line)) (number + 1) w w' f1 f2 mid new (Ends status) t))) a
 
-    pub disk_along : {C : Type 0} (failed : DiskFailed) (stands : C → Role → Type 0) (pending : List ℕ) (source w' : Option (List ℕ)) (line : InputLine) (f2 : ℕ) (t2 : Option Told) → length pending ≤ read_ahead → GivesKnown Line rest line (prepend_known pending source)
-        → ((n : Node) → now n.role → n.events ≡ events → WhereTold (TakesCounted {C = C} stands s.most s.addr n (node_line (content line)) (number + 1) (Err Disk) w w' f1 f2) t1 t2)
-        → IfSome input (λ bytes. WhereTold (Ended Fits s bytes (Err failed) source w0 w' f0 f2) t0 t2)
-    disk_along {C} failed stands pending source w' line f2 t2 few gives takes = weaker input _ _ (λ bytes. go_told (Along s bytes number ends events now rest w0 w f0 f1) (Ended Fits s bytes (Err failed) source w0 w' f0 f2)
-        ((r : Role) × now r) (λ q. let n : Node = record { role = q.0; events = events } in TakesCounted {C = C} stands s.most s.addr n (node_line (content line)) (number + 1) (Err Disk) w w' f1 f2) t0 t1 t2
-        (λ old mid x. (x.role, x.stands)) (λ q. takes (record { role = q.0; events = events }) q.1 refl)
-        (λ old mid new x t. disk_ended laws s bytes number ends events now rest w0 w f0 f1 old mid x {C = C × ℕ} Fits failed (λ a. stands a.0) pending source w' line f2 new few gives t)) a
+      pub disk_along : {C : Type 0} (failed : DiskFailed) (stands : C → Role → Type 0) (pending : List ℕ) (source w' : Option (List ℕ)) (line : InputLine) (f2 : ℕ) (t2 : Option Told) → number < most_lines → length pending ≤ read_ahead → GivesKnown Line rest line (prepend_known pending source)
+          → is_skipped (content line) ≡ false → ((n : Node) → now n.role → n.events ≡ events → WhereTold (TakesCounted {C = C} stands Now OneNow s.most s.addr n (node_line (content line)) (number + 1) (Err Disk) w w' f1 f2) t1 t2)
+          → IfSome input (λ bytes. WhereTold (Ended Fits FitsOne s bytes (Err failed) source w0 w' f0 f2) t0 t2)
+      disk_along {C} failed stands pending source w' line f2 t2 more few gives unskipped takes = weaker input _ _ (λ bytes. go_told (Along s bytes number ends events now rest w0 w f0 f1) (Ended Fits FitsOne s bytes (Err failed) source w0 w' f0 f2)
+          ((r : Role) × now r) (λ q. let n : Node = record { role = q.0; events = events } in TakesCounted {C = C} stands Now OneNow s.most s.addr n (node_line (content line)) (number + 1) (Err Disk) w w' f1 f2) t0 t1 t2
+          (λ old mid x. (x.role, x.stands)) (λ q. takes (record { role = q.0; events = events }) q.1 refl)
+          (λ old mid new x t. disk_ended laws s bytes number ends events now rest w0 w f0 f1 old mid x {C = C × ℕ} Fits FitsOne failed (λ a. stands a.0) pending source w' line f2 new more few gives unskipped
+          (line_more (λ (a : C × ℕ). stands a.0) Now Fits OneNow FitsOne f one s.most s.addr _ (node_line (content line)) (number + 1) w w' f1 f2 mid new Disk t))) a
 
 pub running_alone : {A : Type 0} {stop : Option LineStop} {s : LineStop} → stop ≡ None → (stop ≡ Some s) ⊎ A → A
 running_alone {A} {stop} {s} none (inl h) = let e : Some s ≡ None = sym h ∙ none in cc

@@ -1,5 +1,5 @@
 -- What taking one line does to a run.
-use Rattle.std.proofs.Common.{inl, ◌≡◌, ◌≢◌, ℕ, ◌+◌, ◌≤◌, Bool, true, false, cond, not, nat_eq, length, List, [], ◌∷◌, Option, None, Result, Ok, Err, refl, sym, ap, subst, arith}
+use Rattle.std.proofs.Common.{inl, ◌≡◌, ◌≢◌, ℕ, ◌+◌, ◌≤◌, Bool, true, false, cond, not, List, [], ◌∷◌, Option, None, Result, Ok, Err, refl, sym, ap, ◌∙◌, subst, arith}
 use mathlib.Core.Bool.{beq}
 use Rattle.std.specs.Io.KnownBytes.{Appends}
 use Rattle.fuxi_io.specs.Causes.{Rose, TakesPart}
@@ -12,18 +12,12 @@ use Rattle.node_rounds.specs.declared.rounds.RoundLine.TheVariants.{Done as Roun
 use Rattle.node_rounds.specs.Roles.{Role, OfAgent, OfApp, OfMaster, may_send}
 use Rattle.node_rounds.specs.Rounds.{Rounds, Meets, is_fault}
 use Rattle.node_party.specs.declared.line.NodeLine.{NodeLine}
-use Rattle.node_party.specs.declared.line.NodeLine.TheVariants.{Round as RoundWord, Serve, Show, Event as EventLine}
+use Rattle.node_party.specs.declared.line.NodeLine.TheVariants.{Round as RoundWord, Serve}
 use Rattle.node_party.specs.Commands.{NotHere, accepts}
-use Rattle.node_party.specs.Lines.{begins_with, alone, event_line, node_line}
-use Rattle.schedule_text.specs.Words.{words_of}
-use Rattle.schedule_text.specs.Reading.{event_of}
-use Rattle.schedule_text.specs.declared.event.Event.{Event as LineEvent}
-use Rattle.schedule_text.specs.declared.event.LineFault.TheVariants.{WrongCount}
-use Rattle.std.specs.Prelude.{codes}
 use Rattle.node_party.specs.Texts.{answer_text, round_text}
 use Rattle.node_run.specs.declared.taking.Stop.{Stop}
 use Rattle.node_run.specs.declared.taking.Stop.TheVariants.{Ends, Disk}
-use Rattle.node_run.specs.Runs.{Node, Round, Played, Run, then_is, played_as, behind, meets, takes}
+use Rattle.node_run.specs.Runs.{Node, Round, Played, Run, AtEnd, ended, then_is, played_as, behind, meets, takes}
 use Rattle.node_run.specs.Visits.{Visit, RoseBy, WasAt}
 use Rattle.node_run.specs.Progress.{Taken, Says, WritesText, TakesQuietly, TakesLine}
 
@@ -50,7 +44,7 @@ pub not_there : (most : ℕ) (addr : List ℕ) (before after : ℕ) (t : Told) �
 not_there most addr before after t later = record { door = refl; are = tt; faults = omega (arith, later) }
 
 -- a line that is no round
-module _ {C : Type 0} (stands : C → Role → Type 0) (n : Node) (what : Result NodeLine LineFault) where
+module _ {C : Type 0} (stands : C → Role → Type 0) (Fits : Role → Type 0) (FitsOne : Role → Role → Type 0) (n : Node) (what : Result NodeLine LineFault) where
   taken_quietly : (most : ℕ) (addr : List ℕ) (number : ℕ) (now : Role → Type 0) (Writes : List ℕ → Type 0) (before after : ℕ) (t : Told) → before ≤ after → Says n what now Writes → Taken most addr n number what now Writes before after t t
   taken_quietly most addr number now Writes before after t later s = record {
     visits = [];
@@ -62,10 +56,10 @@ module _ {C : Type 0} (stands : C → Role → Type 0) (n : Node) (what : Result
     through = λ rounds run. s.through most number rounds run;
   }
 
-  pub quiet_line : (most : ℕ) (addr : List ℕ) (number : ℕ) (result : Result C Stop) (w0 w : Option (List ℕ)) (before after : ℕ) (t : Told) → before ≤ after → TakesQuietly stands n what result w0 w → TakesLine stands most addr n what number result w0 w before after t t
+  pub quiet_line : (most : ℕ) (addr : List ℕ) (number : ℕ) (result : Result C Stop) (w0 w : Option (List ℕ)) (before after : ℕ) (t : Told) → before ≤ after → TakesQuietly stands Fits FitsOne n what result w0 w → TakesLine stands Fits FitsOne most addr n what number result w0 w before after t t
   quiet_line most addr number (Ok core) w0 w before after t later h = taken_quietly most addr number (stands core) (Appends w0 w) before after t later h
-  quiet_line most addr number (Err (Ends WriteFault)) w0 w before after t later h = taken_quietly most addr number (λ r. Unit {0}) (TakesPart w0 w) before after t later h
-  quiet_line most addr number (Err (Ends OutOfMemory)) w0 w before after t later h = (h, later, inl refl)
+  quiet_line most addr number (Err (Ends WriteFault)) w0 w before after t later h = taken_quietly most addr number Fits (TakesPart w0 w) before after t later h
+  quiet_line most addr number (Err (Ends OutOfMemory)) w0 w before after t later h = (h.0, later, inl refl, h.1 most number)
   quiet_line most addr number (Err (Ends Done)) w0 w before after t later h = absurd h
   quiet_line most addr number (Err (Ends Usage)) w0 w before after t later h = absurd h
   quiet_line most addr number (Err (Ends (BadInput line fault))) w0 w before after t later h = absurd h
@@ -74,21 +68,57 @@ module _ {C : Type 0} (stands : C → Role → Type 0) (n : Node) (what : Result
   quiet_line most addr number (Err (Ends DiskFault)) w0 w before after t later h = absurd h
   quiet_line most addr number (Err (Ends (StaleEpoch fence))) w0 w before after t later h = absurd h
   quiet_line most addr number (Err (Ends (DamagedCheckpoint offset))) w0 w before after t later h = absurd h
-  quiet_line most addr number (Err Disk) w0 w before after t later h = (h, not_there most addr before after t later)
+  quiet_line most addr number (Err Disk) w0 w before after t later h = (h.0, not_there most addr before after t later, h.1 most number)
 
   -- its text could not be written, or memory lacked
   pub said_err : (A : Type 0) (text : List ℕ) (role : Role) → ((most number : ℕ) (rounds : List Round) (run : Node → List Round → Run) → takes most number n rounds what run ≡ behind text [] (run (then_is n role) rounds))
-      → (status : Status) (w0 w : Option (List ℕ)) → WritesText {A = A} text (Err status) w0 w → TakesQuietly stands n what (Err (Ends status)) w0 w
-  said_err A text role is WriteFault w0 w h = record { output = text; writes = h; role = role; stands = tt; through = is }
-  said_err A text role is OutOfMemory w0 w h = h
-  said_err A text role is Done w0 w h = h
-  said_err A text role is Usage w0 w h = h
-  said_err A text role is (BadInput line fault) w0 w h = h
-  said_err A text role is ReadFault w0 w h = h
-  said_err A text role is (Limit limit kept) w0 w h = h
-  said_err A text role is DiskFault w0 w h = h
-  said_err A text role is (StaleEpoch fence) w0 w h = h
-  said_err A text role is (DamagedCheckpoint offset) w0 w h = h
+      → Fits role → FitsOne n.role role → (status : Status) (w0 w : Option (List ℕ)) → WritesText {A = A} text (Err status) w0 w → TakesQuietly stands Fits FitsOne n what (Err (Ends status)) w0 w
+  said_err A text role is fits one WriteFault w0 w h = record { output = text; writes = h; role = role; stands = fits; through = is }
+  said_err A text role is fits one OutOfMemory w0 w h = (h, λ most number. subst (FitsOne n.role) (sym (ap (λ (r : Run). r.node.role) (is most number [] (λ n rounds. ended n AtEnd)))) one)
+  said_err A text role is fits one Done w0 w h = h
+  said_err A text role is fits one Usage w0 w h = h
+  said_err A text role is fits one (BadInput line fault) w0 w h = h
+  said_err A text role is fits one ReadFault w0 w h = h
+  said_err A text role is fits one (Limit limit kept) w0 w h = h
+  said_err A text role is fits one DiskFault w0 w h = h
+  said_err A text role is fits one (StaleEpoch fence) w0 w h = h
+  said_err A text role is fits one (DamagedCheckpoint offset) w0 w h = h
+
+-- of a line that leads to the same, wherever its event stands in memory
+module _ {C : Type 0} (stands : C → Role → Type 0) (Fits : Role → Type 0) (FitsOne : Role → Role → Type 0) (n : Node) (what other : Result NodeLine LineFault)
+    (same : (most number : ℕ) (rounds : List Round) (run : Node → List Round → Run) → takes most number n rounds other run ≡ takes most number n rounds what run) where
+  says_same : (now : Role → Type 0) (Writes : List ℕ → Type 0) → Says n what now Writes → Says n other now Writes
+  says_same now Writes s = record { output = s.output; writes = s.writes; role = s.role; stands = s.stands; through = λ most number rounds run. same most number rounds run ∙ s.through most number rounds run }
+
+  pub quietly_same : (result : Result C Stop) (w0 w : Option (List ℕ)) → TakesQuietly stands Fits FitsOne n what result w0 w → TakesQuietly stands Fits FitsOne n other result w0 w
+  quietly_same (Ok core) w0 w h = says_same (stands core) (Appends w0 w) h
+  quietly_same (Err (Ends WriteFault)) w0 w h = says_same Fits (TakesPart w0 w) h
+  quietly_same (Err (Ends OutOfMemory)) w0 w h = (h.0, λ most number. subst (FitsOne n.role) (sym (ap (λ (r : Run). r.node.role) (same most number [] (λ n rounds. ended n AtEnd)))) (h.1 most number))
+  quietly_same (Err (Ends Done)) w0 w h = h
+  quietly_same (Err (Ends Usage)) w0 w h = h
+  quietly_same (Err (Ends (BadInput line fault))) w0 w h = h
+  quietly_same (Err (Ends ReadFault)) w0 w h = h
+  quietly_same (Err (Ends (Limit limit kept))) w0 w h = h
+  quietly_same (Err (Ends DiskFault)) w0 w h = h
+  quietly_same (Err (Ends (StaleEpoch fence))) w0 w h = h
+  quietly_same (Err (Ends (DamagedCheckpoint offset))) w0 w h = h
+  quietly_same (Err Disk) w0 w h = (h.0, λ most number. subst (FitsOne n.role) (sym (ap (λ (r : Run). r.node.role) (same most number [] (λ n rounds. ended n AtEnd)))) (h.1 most number))
+
+-- what is known of the disk at a line that ended the node, seen from before it
+module _ {C : Type 0} (stands : C → Role → Type 0) (Fits More : Role → Type 0) (FitsOne MoreOne : Role → Role → Type 0) (f : (q : Role) → Fits q → More q) (one : (q p : Role) → FitsOne q p → MoreOne q p)
+    (most : ℕ) (addr : List ℕ) (n : Node) (what : Result NodeLine LineFault) (number : ℕ) (w0 w : Option (List ℕ)) (before after : ℕ) (old new : Told) where
+  pub line_more : (stop : Stop) → TakesLine {C = C} stands Fits FitsOne most addr n what number (Err stop) w0 w before after old new → TakesLine {C = C} stands More MoreOne most addr n what number (Err stop) w0 w before after old new
+  line_more (Ends WriteFault) t = record { visits = t.visits; was = t.was; output = t.output; writes = t.writes; role = t.role; stands = f t.role t.stands; through = t.through }
+  line_more (Ends OutOfMemory) h = (h.0, h.1, h.2, one _ _ h.3)
+  line_more (Ends (BadInput line fault)) h = (h.0, h.1, h.2, h.3, f n.role h.4)
+  line_more (Ends Done) h = absurd h
+  line_more (Ends Usage) h = absurd h
+  line_more (Ends ReadFault) h = absurd h
+  line_more (Ends (Limit limit kept)) h = absurd h
+  line_more (Ends DiskFault) h = absurd h
+  line_more (Ends (StaleEpoch fence)) h = absurd h
+  line_more (Ends (DamagedCheckpoint offset)) h = absurd h
+  line_more Disk h = (h.0, h.1, one _ _ h.2)
 
 -- the line of a round of another kind of node
 pub other_round : (n : Node) (serves : Bool) → accepts n.role ≢ serves → (most number : ℕ) (rounds : List Round) (run : Node → List Round → Run)
@@ -135,27 +165,3 @@ taken_round most addr n number now later line Writes before after old new rises 
       stands = keeps (played_as most p).role r.stands;
       through = λ rounds run. own_round most number n (p.round ∷ rounds) run (accepts n.role) refl;
     }
-
--- the event of a line of a node is that of the line
-said_once : (w : NodeLine) (words : List (List ℕ)) (e : LineEvent) → alone w words ≡ Ok (EventLine e) → w ≡ EventLine e
-said_once w words e is = by (nat_eq (length words) 1) is
-  where
-    by : (b : Bool) → cond b (Ok w) (Err WrongCount) ≡ Ok (EventLine e) → w ≡ EventLine e
-    by true is = cc
-    by false is = cc
-
-by_event : (r : Result LineEvent LineFault) (e : LineEvent) → event_line r ≡ Ok (EventLine e) → r ≡ Ok e
-by_event (Ok x) e is = cc
-by_event (Err f) e is = cc
-
-by_words : (words : List (List ℕ)) (r : Result LineEvent LineFault) (e : LineEvent) (a b c : Bool)
-    → cond a (alone RoundWord words) (cond b (alone Serve words) (cond c (alone Show words) (event_line r))) ≡ Ok (EventLine e) → r ≡ Ok e
-by_words words r e true b c is = let h = said_once RoundWord words e is in cc
-by_words words r e false true c is = let h = said_once Serve words e is in cc
-by_words words r e false false true is = let h = said_once Show words e is in cc
-by_words words r e false false false is = by_event r e is
-
-pub event_said : (line : List ℕ) (e : LineEvent) → node_line line ≡ Ok (EventLine e) → event_of line ≡ Ok e
-event_said line e is =
-    let words = words_of line in
-    by_words words (event_of line) e (begins_with (codes "round") words) (begins_with (codes "serve") words) (begins_with (codes "show") words) is

@@ -2,6 +2,7 @@
 use Rattle.std.specs.Prelude.{Result, Ok, Err, ⊤, ◌≡◌, ◌⊎◌, ℕ, ◌≤◌, List, [], ◌++◌, length, Option, Some}
 use Rattle.std.specs.List.{concat}
 use Rattle.std.specs.Io.KnownBytes.{Appends, Consumes}
+use Rattle.fuxi_io.specs.Disks.{Told as Moments, WhereTold as WhereMoments}
 use Rattle.fuxi_io.specs.Lines.{InputLine, lines_of}
 use Rattle.fuxi_io.specs.declared.status.LimitOf.TheVariants.{Lines, Packets, Bytes, Records}
 use Rattle.fuxi_io.specs.declared.status.Status.{Status}
@@ -11,6 +12,7 @@ use Rattle.node_door.specs.Doors.{Told}
 use Rattle.node_rounds.specs.Roles.{Role}
 use Rattle.node_rounds.specs.Rounds.{Breaks}
 use Rattle.node_party.specs.Commands.{accepts}
+use Rattle.node_party.specs.Halts.{FitsEither}
 use Rattle.node_run.specs.declared.taking.DiskFailed.{DiskFailed}
 use Rattle.node_run.specs.Runs.{Node, Run, Ending, AtEnd, AtBadLine, AtLimit, role_run, pieces}
 use Rattle.node_run.specs.Visits.{Visit, rounds_of, played_of, WasAt}
@@ -36,56 +38,66 @@ pub record Ran (s : Start) (lines : List InputLine) (Holds : Run → Type 0) (be
 abbrev pub EndsAt : Ending → Option (List ℕ) → Option (List ℕ) → Run → Type 0
 EndsAt ending w0 w r = (r.ending ≡ ending) × Appends w0 w (concat r.outputs)
 
+-- the same, and this holds of its party
+abbrev pub EndsWith : (Role → Type 0) → Ending → Option (List ℕ) → Option (List ℕ) → Run → Type 0
+EndsWith Fits ending w0 w r = (r.ending ≡ ending) × Appends w0 w (concat r.outputs) × Fits r.node.role
+
 -- it came to the end of its lines, its outputs and the state are written, and this holds of its party
 abbrev pub EndsWhole : (Role → Type 0) → Option (List ℕ) → Option (List ℕ) → Run → Type 0
 EndsWhole Fits w0 w r = (r.ending ≡ AtEnd) × Appends w0 w (concat (pieces r)) × Fits r.node.role
 
 -- a source failed: the run over all whole lines that it gave before
-pub record ReadsWhole (s : Start) (bytes : List ℕ) (left w0 w : Option (List ℕ)) (before now : ℕ) (old new : Told) : Type 0 where
+pub record ReadsWhole (Fits : Role → Type 0) (s : Start) (bytes : List ℕ) (left w0 w : Option (List ℕ)) (before now : ℕ) (old new : Told) : Type 0 where
   pub given : List ℕ
   pub gave : Consumes (Some bytes) left given
-  pub ran : Ran s (whole_lines (lines_of given)) (EndsAt AtEnd w0 w) before now old new
+  pub ran : Ran s (whole_lines (lines_of given)) (EndsWith Fits AtEnd w0 w) before now old new
 
 -- a write failed: within the output of the last line that was taken, or behind a whole input within the state
-pub record StopsWriting (s : Start) (bytes : List ℕ) (left w0 w : Option (List ℕ)) (before now : ℕ) (old new : Told) : Type 0 where
+pub record StopsWriting (Fits : Role → Type 0) (s : Start) (bytes : List ℕ) (left w0 w : Option (List ℕ)) (before now : ℕ) (old new : Told) : Type 0 where
   pub lines : List InputLine
   pub takes : TakesSome bytes left lines
-  pub ran : Ran s lines (λ r. WritesLast r.outputs w0 w ⊎ ((lines_of bytes ≡ lines) × WritesLast (pieces r) w0 w)) before now old new
+  pub ran : Ran s lines (λ r. (WritesLast r.outputs w0 w ⊎ ((lines_of bytes ≡ lines) × WritesLast (pieces r) w0 w)) × Fits r.node.role) before now old new
+
+-- this holds of the parties behind these lines and behind one more, which may count as taken or not
+abbrev pub IsEither : (Role → Role → Type 0) → Start → List Visit → List InputLine → List InputLine → Type 0
+IsEither FitsOne s visits lines next = FitsOne (run_of s visits lines).node.role (run_of s visits (lines ++ next)).node.role
 
 -- memory lacked behind the output of the lines taken, at the end or at one line more; a round of that line may have been broken off
-pub record StopsWanting (s : Start) (bytes : List ℕ) (left w0 w : Option (List ℕ)) (before now : ℕ) (old new : Told) : Type 0 where
+pub record StopsWanting (FitsOne : Role → Role → Type 0) (s : Start) (bytes : List ℕ) (left w0 w : Option (List ℕ)) (before now : ℕ) (old new : Told) : Type 0 where
   pub lines : List InputLine
   pub next : List InputLine
   pub one : length next ≤ 1
   pub takes : TakesSome bytes left (lines ++ next)
   pub mid : Told
   pub ran : Ran s lines (λ r. EndsAt AtEnd w0 w r × Breaks (accepts r.node.role) s.addr r.node.role mid new) before now old mid
+  pub fits : IsEither FitsOne s ran.visits lines next
 
 -- the disk failed at the line behind the lines taken, whose output is written
-pub record StopsAtDisk (s : Start) (bytes : List ℕ) (left w0 w : Option (List ℕ)) (before now : ℕ) (old new : Told) : Type 0 where
+pub record StopsAtDisk (FitsOne : Role → Role → Type 0) (s : Start) (bytes : List ℕ) (left w0 w : Option (List ℕ)) (before now : ℕ) (old new : Told) : Type 0 where
   pub lines : List InputLine
   pub next : List InputLine
   pub one : length next ≤ 1
   pub takes : TakesSome bytes left (lines ++ next)
   pub ran : Ran s lines (EndsAt AtEnd w0 w) before now old new
+  pub fits : IsEither FitsOne s ran.visits lines next
 
 -- what a node wrote that ended with a status, or since its disk failed; what its source has left then, and what its door has been through.
--- Fits: what is known of its disk at the end.
-abbrev pub Ended : (Role → Type 0) → Start → List ℕ → Result Status DiskFailed → Option (List ℕ) → Option (List ℕ) → Option (List ℕ) → ℕ → ℕ → Told → Told → Type 0
-Ended Fits s bytes (Ok Done) left w0 w before now old new = (left ≡ Some []) × Ran s (lines_of bytes) (EndsWhole Fits w0 w) before now old new
-Ended Fits s bytes (Ok (BadInput line fault)) left w0 w before now old new = Ran s (lines_of bytes) (EndsAt (AtBadLine line fault) w0 w) before now old new
-Ended Fits s bytes (Ok (Limit Lines kept)) left w0 w before now old new = Ran s (lines_of bytes) (EndsAt (AtLimit kept) w0 w) before now old new
-Ended Fits s bytes (Ok (Limit Packets kept)) left w0 w before now old new = ⊥
-Ended Fits s bytes (Ok (Limit Bytes kept)) left w0 w before now old new = ⊥
-Ended Fits s bytes (Ok (Limit Records kept)) left w0 w before now old new = ⊥
-Ended Fits s bytes (Ok ReadFault) left w0 w before now old new = ReadsWhole s bytes left w0 w before now old new
-Ended Fits s bytes (Ok WriteFault) left w0 w before now old new = StopsWriting s bytes left w0 w before now old new
-Ended Fits s bytes (Ok OutOfMemory) left w0 w before now old new = StopsWanting s bytes left w0 w before now old new
-Ended Fits s bytes (Ok Usage) left w0 w before now old new = ⊥
-Ended Fits s bytes (Ok DiskFault) left w0 w before now old new = ⊥
-Ended Fits s bytes (Ok (StaleEpoch fence)) left w0 w before now old new = ⊥
-Ended Fits s bytes (Ok (DamagedCheckpoint offset)) left w0 w before now old new = ⊥
-Ended Fits s bytes (Err failed) left w0 w before now old new = StopsAtDisk s bytes left w0 w before now old new
+-- Fits, FitsOne: what is known of its disk at the end, for the party behind the lines taken, and where one line may count as taken or not.
+abbrev pub Ended : (Role → Type 0) → (Role → Role → Type 0) → Start → List ℕ → Result Status DiskFailed → Option (List ℕ) → Option (List ℕ) → Option (List ℕ) → ℕ → ℕ → Told → Told → Type 0
+Ended Fits FitsOne s bytes (Ok Done) left w0 w before now old new = (left ≡ Some []) × Ran s (lines_of bytes) (EndsWhole Fits w0 w) before now old new
+Ended Fits FitsOne s bytes (Ok (BadInput line fault)) left w0 w before now old new = Ran s (lines_of bytes) (EndsWith Fits (AtBadLine line fault) w0 w) before now old new
+Ended Fits FitsOne s bytes (Ok (Limit Lines kept)) left w0 w before now old new = Ran s (lines_of bytes) (EndsWith Fits (AtLimit kept) w0 w) before now old new
+Ended Fits FitsOne s bytes (Ok (Limit Packets kept)) left w0 w before now old new = ⊥
+Ended Fits FitsOne s bytes (Ok (Limit Bytes kept)) left w0 w before now old new = ⊥
+Ended Fits FitsOne s bytes (Ok (Limit Records kept)) left w0 w before now old new = ⊥
+Ended Fits FitsOne s bytes (Ok ReadFault) left w0 w before now old new = ReadsWhole Fits s bytes left w0 w before now old new
+Ended Fits FitsOne s bytes (Ok WriteFault) left w0 w before now old new = StopsWriting Fits s bytes left w0 w before now old new
+Ended Fits FitsOne s bytes (Ok OutOfMemory) left w0 w before now old new = StopsWanting FitsOne s bytes left w0 w before now old new
+Ended Fits FitsOne s bytes (Ok Usage) left w0 w before now old new = ⊥
+Ended Fits FitsOne s bytes (Ok DiskFault) left w0 w before now old new = ⊥
+Ended Fits FitsOne s bytes (Ok (StaleEpoch fence)) left w0 w before now old new = ⊥
+Ended Fits FitsOne s bytes (Ok (DamagedCheckpoint offset)) left w0 w before now old new = ⊥
+Ended Fits FitsOne s bytes (Err failed) left w0 w before now old new = StopsAtDisk FitsOne s bytes left w0 w before now old new
 
 -- The statuses that a run itself ends with: a command line, a checkpoint that cannot be opened and a disk that failed are told by others.
 abbrev pub IsRunStatus : Status → Type 0
@@ -106,3 +118,15 @@ IsRunStatus (DamagedCheckpoint offset) = ⊥
 -- a node of this party that took no event yet, so many lines having gone before
 abbrev pub start_of : ℕ → List ℕ → ℕ → Role → Start
 start_of most addr first r = record { most = most; addr = addr; first = first; node = record { role = r; events = 0 } }
+
+-- of a disk that tells its moments, and was as a party needs it: this is known of those that it tells now
+abbrev pub FromRest : {C : Type 0} → (C → ℕ → Option Moments → Type 0) → C → ℕ → (Moments → Type 0) → Option Moments → Option Moments → Type 0
+FromRest rests core size Known old new = WhereMoments (λ before now. rests core size (Some before) → Known now) old new
+
+-- it has what it should of a party
+abbrev pub FitsNow : {C : Type 0} → (C → ℕ → Option Moments → Type 0) → (Role → Moments → Type 0) → C → ℕ → Option Moments → Option Moments → Role → Type 0
+FitsNow rests fits core size old new r = FromRest rests core size (fits r) old new
+
+-- or of one of two
+abbrev pub FitsOneNow : {C : Type 0} → (C → ℕ → Option Moments → Type 0) → (Role → Moments → Type 0) → (Role → Role → Moments → Type 0) → C → ℕ → Option Moments → Option Moments → Role → Role → Type 0
+FitsOneNow rests fits halts core size old new before after = FromRest rests core size (FitsEither fits halts before after) old new

@@ -3,7 +3,7 @@ use Rattle.std.specs.Prelude.{◌≡◌, ℕ, ◌≤◌, Bool, List, [], ◌++�
 use Rattle.std.specs.Io.KnownBytes.{Appends}
 use Rattle.std.specs.List.{concat}
 use Rattle.fuxi_io.specs.Causes.{TakesPart}
-use Rattle.fuxi_io.specs.Disks.{Told as Moments, WhereTold as WhereMoments}
+use Rattle.fuxi_io.specs.Disks.{Told as Moments}
 use Rattle.fuxi_io.specs.Lines.{InputLine, lines_of}
 use Rattle.fuxi_io.specs.declared.status.InputFault.{InputFault}
 use Rattle.fuxi_io.specs.declared.status.Status.{Status}
@@ -18,9 +18,9 @@ use Rattle.node_party.specs.declared.line.NodeLine.{NodeLine}
 use Rattle.node_party.specs.Commands.{accepts}
 use Rattle.node_run.specs.declared.taking.Stop.{Stop}
 use Rattle.node_run.specs.declared.taking.Stop.TheVariants.{Ends, Disk}
-use Rattle.node_run.specs.Runs.{Node, Round, Played, Run, then_is, behind, takes, role_run}
+use Rattle.node_run.specs.Runs.{Node, Round, Played, Run, then_is, behind, takes, role_run, role_after}
 use Rattle.node_run.specs.Visits.{Visit, rounds_of, played_of, WasAt}
-use Rattle.node_run.specs.Ends.{Start}
+use Rattle.node_run.specs.Ends.{Start, FromRest}
 
 -- a line was taken that says this: these were its rounds, this was printed, and the run goes on behind it
 pub record Taken (most : ℕ) (addr : List ℕ) (n : Node) (number : ℕ) (what : Result NodeLine LineFault) (now : Role → Type 0) (Writes : List ℕ → Type 0) (before after : ℕ) (old new : Told) : Type 0 where
@@ -67,20 +67,21 @@ WritesEnd text DiskFault w0 w = ⊥
 WritesEnd text (StaleEpoch fence) w0 w = ⊥
 WritesEnd text (DamagedCheckpoint offset) w0 w = ⊥
 
--- what taking a line did that is no round
-abbrev pub TakesQuietly : {C : Type 0} → (C → Role → Type 0) → Node → Result NodeLine LineFault → Result C Stop → Option (List ℕ) → Option (List ℕ) → Type 0
-TakesQuietly stands n what (Ok core) w0 w = Says n what (stands core) (Appends w0 w)
-TakesQuietly stands n what (Err (Ends WriteFault)) w0 w = Says n what (λ r. ⊤) (TakesPart w0 w)
-TakesQuietly stands n what (Err (Ends OutOfMemory)) w0 w = w ≡ w0
-TakesQuietly stands n what (Err (Ends Done)) w0 w = ⊥
-TakesQuietly stands n what (Err (Ends Usage)) w0 w = ⊥
-TakesQuietly stands n what (Err (Ends (BadInput line fault))) w0 w = ⊥
-TakesQuietly stands n what (Err (Ends ReadFault)) w0 w = ⊥
-TakesQuietly stands n what (Err (Ends (Limit limit kept))) w0 w = ⊥
-TakesQuietly stands n what (Err (Ends DiskFault)) w0 w = ⊥
-TakesQuietly stands n what (Err (Ends (StaleEpoch fence))) w0 w = ⊥
-TakesQuietly stands n what (Err (Ends (DamagedCheckpoint offset))) w0 w = ⊥
-TakesQuietly stands n what (Err Disk) w0 w = w ≡ w0
+-- What taking a line did that is no round. Fits, FitsOne: what is known of the disk, for the party behind the line, and where the line may count as taken or
+-- not.
+abbrev pub TakesQuietly : {C : Type 0} → (C → Role → Type 0) → (Role → Type 0) → (Role → Role → Type 0) → Node → Result NodeLine LineFault → Result C Stop → Option (List ℕ) → Option (List ℕ) → Type 0
+TakesQuietly stands Fits FitsOne n what (Ok core) w0 w = Says n what (stands core) (Appends w0 w)
+TakesQuietly stands Fits FitsOne n what (Err (Ends WriteFault)) w0 w = Says n what Fits (TakesPart w0 w)
+TakesQuietly stands Fits FitsOne n what (Err (Ends OutOfMemory)) w0 w = (w ≡ w0) × ((most number : ℕ) → FitsOne n.role (role_after most number n what))
+TakesQuietly stands Fits FitsOne n what (Err (Ends Done)) w0 w = ⊥
+TakesQuietly stands Fits FitsOne n what (Err (Ends Usage)) w0 w = ⊥
+TakesQuietly stands Fits FitsOne n what (Err (Ends (BadInput line fault))) w0 w = ⊥
+TakesQuietly stands Fits FitsOne n what (Err (Ends ReadFault)) w0 w = ⊥
+TakesQuietly stands Fits FitsOne n what (Err (Ends (Limit limit kept))) w0 w = ⊥
+TakesQuietly stands Fits FitsOne n what (Err (Ends DiskFault)) w0 w = ⊥
+TakesQuietly stands Fits FitsOne n what (Err (Ends (StaleEpoch fence))) w0 w = ⊥
+TakesQuietly stands Fits FitsOne n what (Err (Ends (DamagedCheckpoint offset))) w0 w = ⊥
+TakesQuietly stands Fits FitsOne n what (Err Disk) w0 w = (w ≡ w0) × ((most number : ℕ) → FitsOne n.role (role_after most number n what))
 
 -- it is the line of no node, for this reason
 pub record IsNone (what : Result NodeLine LineFault) (fault : InputFault) : Type 0 where
@@ -89,27 +90,27 @@ pub record IsNone (what : Result NodeLine LineFault) (fault : InputFault) : Type
   pub same : fault ≡ event_fault why
 
 -- what taking the line with this number did, which is not skipped and says this
-abbrev pub TakesLine : {C : Type 0} → (C → Role → Type 0) → ℕ → List ℕ → Node → Result NodeLine LineFault → ℕ → Result C Stop → Option (List ℕ) → Option (List ℕ) → ℕ → ℕ → Told → Told → Type 0
-TakesLine stands most addr n what number (Ok core) w0 w before after old new = Taken most addr n number what (stands core) (Appends w0 w) before after old new
-TakesLine stands most addr n what number (Err (Ends (BadInput line fault))) w0 w before after old new = IsNone what fault × (line ≡ number) × (w ≡ w0) × WasAt most addr [] before after old new
-TakesLine stands most addr n what number (Err (Ends WriteFault)) w0 w before after old new = Taken most addr n number what (λ r. ⊤) (TakesPart w0 w) before after old new
-TakesLine stands most addr n what number (Err (Ends OutOfMemory)) w0 w before after old new = (w ≡ w0) × (before ≤ after) × Breaks (accepts n.role) addr n.role old new
-TakesLine stands most addr n what number (Err (Ends (Limit limit kept))) w0 w before after old new = ⊥
-TakesLine stands most addr n what number (Err (Ends Done)) w0 w before after old new = ⊥
-TakesLine stands most addr n what number (Err (Ends Usage)) w0 w before after old new = ⊥
-TakesLine stands most addr n what number (Err (Ends ReadFault)) w0 w before after old new = ⊥
-TakesLine stands most addr n what number (Err (Ends DiskFault)) w0 w before after old new = ⊥
-TakesLine stands most addr n what number (Err (Ends (StaleEpoch fence))) w0 w before after old new = ⊥
-TakesLine stands most addr n what number (Err (Ends (DamagedCheckpoint offset))) w0 w before after old new = ⊥
-TakesLine stands most addr n what number (Err Disk) w0 w before after old new = (w ≡ w0) × WasAt most addr [] before after old new
+abbrev pub TakesLine : {C : Type 0} → (C → Role → Type 0) → (Role → Type 0) → (Role → Role → Type 0) → ℕ → List ℕ → Node → Result NodeLine LineFault → ℕ → Result C Stop → Option (List ℕ) → Option (List ℕ) → ℕ → ℕ → Told → Told → Type 0
+TakesLine stands Fits FitsOne most addr n what number (Ok core) w0 w before after old new = Taken most addr n number what (stands core) (Appends w0 w) before after old new
+TakesLine stands Fits FitsOne most addr n what number (Err (Ends (BadInput line fault))) w0 w before after old new = IsNone what fault × (line ≡ number) × (w ≡ w0) × WasAt most addr [] before after old new × Fits n.role
+TakesLine stands Fits FitsOne most addr n what number (Err (Ends WriteFault)) w0 w before after old new = Taken most addr n number what Fits (TakesPart w0 w) before after old new
+TakesLine stands Fits FitsOne most addr n what number (Err (Ends OutOfMemory)) w0 w before after old new = (w ≡ w0) × (before ≤ after) × Breaks (accepts n.role) addr n.role old new × FitsOne n.role (role_after most number n what)
+TakesLine stands Fits FitsOne most addr n what number (Err (Ends (Limit limit kept))) w0 w before after old new = ⊥
+TakesLine stands Fits FitsOne most addr n what number (Err (Ends Done)) w0 w before after old new = ⊥
+TakesLine stands Fits FitsOne most addr n what number (Err (Ends Usage)) w0 w before after old new = ⊥
+TakesLine stands Fits FitsOne most addr n what number (Err (Ends ReadFault)) w0 w before after old new = ⊥
+TakesLine stands Fits FitsOne most addr n what number (Err (Ends DiskFault)) w0 w before after old new = ⊥
+TakesLine stands Fits FitsOne most addr n what number (Err (Ends (StaleEpoch fence))) w0 w before after old new = ⊥
+TakesLine stands Fits FitsOne most addr n what number (Err (Ends (DamagedCheckpoint offset))) w0 w before after old new = ⊥
+TakesLine stands Fits FitsOne most addr n what number (Err Disk) w0 w before after old new = (w ≡ w0) × WasAt most addr [] before after old new × FitsOne n.role (role_after most number n what)
 
 -- the same with a count of events beside the core
-abbrev pub TakesCounted : {C : Type 0} → (C → Role → Type 0) → ℕ → List ℕ → Node → Result NodeLine LineFault → ℕ → Result (C × ℕ) Stop → Option (List ℕ) → Option (List ℕ) → ℕ → ℕ → Told → Told → Type 0
-TakesCounted {C} stands most addr n what number result w0 w before after old new = TakesLine {C = C × ℕ} (λ a. stands a.0) most addr n what number result w0 w before after old new
+abbrev pub TakesCounted : {C : Type 0} → (C → Role → Type 0) → (Role → Type 0) → (Role → Role → Type 0) → ℕ → List ℕ → Node → Result NodeLine LineFault → ℕ → Result (C × ℕ) Stop → Option (List ℕ) → Option (List ℕ) → ℕ → ℕ → Told → Told → Type 0
+TakesCounted {C} stands Fits FitsOne most addr n what number result w0 w before after old new = TakesLine {C = C × ℕ} (λ a. stands a.0) Fits FitsOne most addr n what number result w0 w before after old new
 
 -- of a disk that tells its moments, what a party needs of them is kept
 abbrev pub KeepsTold : {C : Type 0} → (C → ℕ → Option Moments → Type 0) → C → ℕ → C → ℕ → Option Moments → Option Moments → Type 0
-KeepsTold rests core size after size' old new = WhereMoments (λ o n. rests core size (Some o) → rests after size' (Some n)) old new
+KeepsTold rests core size after size' old new = FromRest rests core size (λ now. rests after size' (Some now)) old new
 
 -- writing ends a node only where it could not be written or where memory lacks
 abbrev pub IsWriteStop : Status → Type 0

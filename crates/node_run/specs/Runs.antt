@@ -85,6 +85,10 @@ takes most number n rounds (Ok (Event event)) run =
     behind (answer_text x.answer) [] (run (then_is n x.role) rounds)
 takes most number n rounds (Err fault) run = ended n (AtBadLine number (event_fault fault))
 
+-- the party behind what a line says, of a round of which nothing is known
+abbrev pub role_after : ℕ → ℕ → Node → Result NodeLine LineFault → Role
+role_after most number n what = (takes most number n [] what (λ n rounds. ended n AtEnd)).node.role
+
 -- a line in its order: the limit on lines, and its length; so many went before it
 abbrev pub within_limits : ℕ → Node → InputLine → Run → Run
 within_limits before n line run =

@@ -2,7 +2,6 @@
 
 ghost use Rattle.std.specs.Prelude.{◌≡◌, ◌≢◌, ◌+◌, ◌^◌, ◌<◌, ◌≤◌, ℕ, length, true, false, Some, None, Ok, Err, IfSome, IfOk, IfErr, OnErr};
 ghost use Rattle.fuxi_io.specs.Causes.{Rose};
-ghost use Rattle.fuxi_io.specs.Disks.{WhereTold as WhereMoments};
 ghost use Rattle.fuxi_io.specs.Reading.{rest_of, read_ahead};
 ghost use Rattle.fuxi_terms.specs.Limits.{most_frames, most_steps, most_lines};
 ghost use Rattle.input_lines.specs.Contents.{is_skipped};
@@ -12,7 +11,7 @@ ghost use Rattle.node_rounds.specs.Roles.{Role};
 ghost use Rattle.node_party.specs.Lines.{node_line};
 ghost use Rattle.node_party.specs.Texts.{state_text};
 ghost use Rattle.node_run.specs.Runs.{Node as WrittenNode};
-ghost use Rattle.node_run.specs.Ends.{Ended, IsRunStatus, start_of};
+ghost use Rattle.node_run.specs.Ends.{Ended, FitsNow, FitsOneNow, IsRunStatus, start_of};
 ghost use Rattle.node_run.specs.Progress.{WritesEnd, TakesCounted, KeepsTold, IsLineStop};
 
 use crate::taking::{DiskFailed, Stop, take_line, write_state};
@@ -40,7 +39,7 @@ fn take_any<C: Node, O: Sink, N: Door, D: Disk>(
     requires steps { C.steps core + most_frames < most_steps }
     requires rests { C.rests core (D.size disk.old) None }
     ensures skips { is_skipped line.now ≡ true → (result ≡ Ok (core, events)) × (out.new ≡ out.old) × (door.new ≡ door.old) }
-    ensures takes { is_skipped line.now ≡ false → (n : WrittenNode) → C.stands core n.role → n.events ≡ events → WhereTold (TakesCounted C.stands most_frames addr.now n (node_line line.now) number result (O.took out.old) (O.took out.new) (N.faults door.old) (N.faults door.new)) (N.told door.old) (N.told door.new) }
+    ensures takes { is_skipped line.now ≡ false → (n : WrittenNode) → C.stands core n.role → n.events ≡ events → WhereTold (TakesCounted C.stands (FitsNow C.rests C.fits core (D.size disk.old) (D.told disk.old) (D.told disk.new)) (FitsOneNow C.rests C.fits C.halts core (D.size disk.old) (D.told disk.old) (D.told disk.new)) most_frames addr.now n (node_line line.now) number result (O.took out.old) (O.took out.new) (N.faults door.old) (N.faults door.new)) (N.told door.old) (N.told door.new) }
     ensures counts { is_skipped line.now ≡ false → IfOk result (λ a. a.1 ≡ events + 1) }
     ensures unskipped { IfErr result (λ status. is_skipped line.now ≡ false) }
     ensures few { IfOk result (λ a. a.1 ≤ events + 1) }
@@ -97,7 +96,7 @@ pub fn run_node<C: Node, S: Source, O: Sink, N: Door, D: Disk>(
     requires steps { C.steps core < 2 ^ 40 }
     requires rests { C.rests core (D.size disk.old) None }
     // What was written and what the door has been through, by the status. It is said of each party that the core stands for, of bytes that are known, and of a door that tells; of the disk, where it tells its moments.
-    ensures ended { IsReady lines.old (S.left source.old) → (r : Role) → C.stands core r → IfSome (rest_of lines.old (S.left source.old)) (λ bytes. WhereTold (Ended (λ q. WhereMoments (λ before now. C.rests core (D.size disk.old) (Some before) → C.fits q now) (D.told disk.old) (D.told disk.new)) (start_of most_frames addr.now lines.old.number r) bytes result (S.left source.new) (O.took out.old) (O.took out.new) (N.faults door.old) (N.faults door.new)) (N.told door.old) (N.told door.new)) }
+    ensures ended { IsReady lines.old (S.left source.old) → (r : Role) → C.stands core r → IfSome (rest_of lines.old (S.left source.old)) (λ bytes. WhereTold (Ended (FitsNow C.rests C.fits core (D.size disk.old) (D.told disk.old) (D.told disk.new)) (FitsOneNow C.rests C.fits C.halts core (D.size disk.old) (D.told disk.old) (D.told disk.new)) (start_of most_frames addr.now lines.old.number r) bytes result (S.left source.new) (O.took out.old) (O.took out.new) (N.faults door.old) (N.faults door.new)) (N.told door.old) (N.told door.new)) }
     ensures unread { lines.old.ended ≡ false → result ≢ Ok Status.ReadFault }
     ensures read { result ≡ Ok Status.ReadFault → Rose (S.faults source.old) (S.faults source.new) }
     ensures write { result ≡ Ok Status.WriteFault → Rose (O.faults out.old) (O.faults out.new) }

@@ -1,7 +1,8 @@
 //! One line of a node.
 
-ghost use Rattle.std.specs.Prelude.{◌≡◌, ◌+◌, ◌<◌, ◌≤◌, ◌≢◌, ℕ, length, None, Ok, Err, IfOk, IfErr, OnErr, cond};
+ghost use Rattle.std.specs.Prelude.{◌≡◌, ◌+◌, ◌<◌, ◌≤◌, ◌≢◌, ℕ, length, Option, None, Ok, Err, IfOk, IfErr, OnErr, cond};
 ghost use Rattle.fuxi_io.specs.Causes.{Rose};
+ghost use Rattle.fuxi_io.specs.Disks.{Told as Moments};
 ghost use Rattle.fuxi_terms.specs.Limits.{most_frames, most_steps};
 ghost use Rattle.schedule_text.specs.Writing.{IsLineEvent};
 ghost use Rattle.node_door.specs.Doors.{WhereTold};
@@ -12,15 +13,19 @@ ghost use Rattle.node_party.specs.Commands.{accepts};
 ghost use Rattle.node_party.specs.Lines.{node_line};
 ghost use Rattle.node_party.specs.Texts.{answer_text, as_answer, state_text};
 ghost use Rattle.node_run.specs.Runs.{Node as WrittenNode};
+ghost use Rattle.node_run.specs.Ends.{FitsNow, FitsOneNow};
 ghost use Rattle.node_run.specs.Progress.{WritesText, TakesQuietly, TakesLine, KeepsTold, IsLineStop, IsWriteStop};
 
 use fuxi_io::{Disk, Sink, Status, write_all_of};
 use fuxi_terms::OutOfMemory;
 use input_lines::event_status;
 use node_door::Door;
-use node_party::{Answer, Halt, Node, NodeLine, push_answer, push_state, read_line, write_round};
+use node_party::{
+    Answer, Halt, Node, NodeLine, events_command_anywhere, push_answer, push_state, read_line,
+    write_round,
+};
 use node_rounds::{RoundLine, round, serve};
-use schedule_text::{Event, events_of_lines};
+use schedule_text::Event;
 use std::alloc::Global;
 
 /// The disk of a node failed.
@@ -88,7 +93,7 @@ fn take_event<C: Node, O: Sink, D: Disk>(
     requires line { IsLineEvent event.now }
     requires steps { C.steps core < most_steps }
     requires rests { C.rests core (D.size disk.old) None }
-    ensures takes { (n : WrittenNode) → C.stands core n.role → TakesQuietly C.stands n (Ok (EventLine event.now)) result (O.took out.old) (O.took out.new) }
+    ensures takes { (n : WrittenNode) → C.stands core n.role → TakesQuietly C.stands (FitsNow C.rests C.fits core (D.size disk.old) (D.told disk.old) (D.told disk.new)) (FitsOneNow C.rests C.fits C.halts core (D.size disk.old) (D.told disk.old) (D.told disk.new)) n (Ok (EventLine event.now)) result (O.took out.old) (O.took out.new) }
     ensures steps { IfOk result (λ after. C.steps after ≤ C.steps core + 1) }
     ensures later { O.faults out.old ≤ O.faults out.new }
     ensures fault { result ≡ Err (Stop.Ends Status.WriteFault) → Rose (O.faults out.old) (O.faults out.new) }
@@ -112,7 +117,7 @@ fn take_event<C: Node, O: Sink, D: Disk>(
 // Prints the state, in which this line counts.
 fn take_show<C: Node, O: Sink>(alloc: Global, core: C, events: u64, out: &mut O) -> Result<C, Stop>
     requires { events < 2000000 }
-    ensures takes { (n : WrittenNode) → C.stands core n.role → n.events ≡ events → TakesQuietly C.stands n (Ok Show) result (O.took out.old) (O.took out.new) }
+    ensures takes { (n : WrittenNode) (size : ℕ) (t : Option Moments) → C.stands core n.role → n.events ≡ events → TakesQuietly C.stands (FitsNow C.rests C.fits core size t t) (FitsOneNow C.rests C.fits C.halts core size t t) n (Ok Show) result (O.took out.old) (O.took out.new) }
     ensures steps { IfOk result (λ after. C.steps after ≡ C.steps core) }
     ensures later { O.faults out.old ≤ O.faults out.new }
     ensures fault { result ≡ Err (Stop.Ends Status.WriteFault) → Rose (O.faults out.old) (O.faults out.new) }
@@ -160,7 +165,7 @@ fn take_round<C: Node, O: Sink, N: Door>(
     requires some { 1 ≤ length addr.now }
     requires short { length addr.now ≤ 255 }
     requires steps { C.steps core + most_frames < most_steps }
-    ensures takes { (n : WrittenNode) (number : ℕ) → C.stands core n.role → WhereTold (TakesLine C.stands most_frames addr.now n (Ok (cond (accepts n.role) Serve Round)) number result (O.took out.old) (O.took out.new) (N.faults door.old) (N.faults door.new)) (N.told door.old) (N.told door.new) }
+    ensures takes { (n : WrittenNode) (number size : ℕ) (t : Option Moments) → C.stands core n.role → WhereTold (TakesLine C.stands (FitsNow C.rests C.fits core size t t) (FitsOneNow C.rests C.fits C.halts core size t t) most_frames addr.now n (Ok (cond (accepts n.role) Serve Round)) number result (O.took out.old) (O.took out.new) (N.faults door.old) (N.faults door.new)) (N.told door.old) (N.told door.new) }
     ensures steps { IfOk result (λ after. C.steps after ≤ C.steps core + most_frames + 1) }
     ensures later { O.faults out.old ≤ O.faults out.new }
     ensures fault { result ≡ Err (Stop.Ends Status.WriteFault) → Rose (O.faults out.old) (O.faults out.new) }
@@ -190,7 +195,7 @@ fn take_meeting<C: Node, O: Sink, N: Door>(
     requires some { 1 ≤ length addr.now }
     requires short { length addr.now ≤ 255 }
     requires steps { C.steps core + most_frames < most_steps }
-    ensures takes { (n : WrittenNode) (number : ℕ) → C.stands core n.role → WhereTold (TakesLine C.stands most_frames addr.now n (Ok (cond serves Serve Round)) number result (O.took out.old) (O.took out.new) (N.faults door.old) (N.faults door.new)) (N.told door.old) (N.told door.new) }
+    ensures takes { (n : WrittenNode) (number size : ℕ) (t : Option Moments) → C.stands core n.role → WhereTold (TakesLine C.stands (FitsNow C.rests C.fits core size t t) (FitsOneNow C.rests C.fits C.halts core size t t) most_frames addr.now n (Ok (cond serves Serve Round)) number result (O.took out.old) (O.took out.new) (N.faults door.old) (N.faults door.new)) (N.told door.old) (N.told door.new) }
     ensures steps { IfOk result (λ after. C.steps after ≤ C.steps core + most_frames + 1) }
     ensures later { O.faults out.old ≤ O.faults out.new }
     ensures fault { result ≡ Err (Stop.Ends Status.WriteFault) → Rose (O.faults out.old) (O.faults out.new) }
@@ -224,7 +229,7 @@ pub(crate) fn take_line<C: Node, O: Sink, N: Door, D: Disk>(
     requires events { events < 2000000 }
     requires steps { C.steps core + most_frames < most_steps }
     requires rests { C.rests core (D.size disk.old) None }
-    ensures takes { (n : WrittenNode) → C.stands core n.role → n.events ≡ events → WhereTold (TakesLine C.stands most_frames addr.now n (node_line line.now) number result (O.took out.old) (O.took out.new) (N.faults door.old) (N.faults door.new)) (N.told door.old) (N.told door.new) }
+    ensures takes { (n : WrittenNode) → C.stands core n.role → n.events ≡ events → WhereTold (TakesLine C.stands (FitsNow C.rests C.fits core (D.size disk.old) (D.told disk.old) (D.told disk.new)) (FitsOneNow C.rests C.fits C.halts core (D.size disk.old) (D.told disk.old) (D.told disk.new)) most_frames addr.now n (node_line line.now) number result (O.took out.old) (O.took out.new) (N.faults door.old) (N.faults door.new)) (N.told door.old) (N.told door.new) }
     ensures steps { IfOk result (λ after. C.steps after ≤ C.steps core + most_frames + 1) }
     ensures later { O.faults out.old ≤ O.faults out.new }
     ensures fault { result ≡ Err (Stop.Ends Status.WriteFault) → Rose (O.faults out.old) (O.faults out.new) }
@@ -234,7 +239,7 @@ pub(crate) fn take_line<C: Node, O: Sink, N: Door, D: Disk>(
     ensures disk { D.faults disk.old ≤ D.faults disk.new }
     ensures failed { result ≡ Err Stop.Disk → Rose (D.faults disk.old) (D.faults disk.new) }
 {
-    events_of_lines();
+    events_command_anywhere();
     match read_line(alloc, line) {
         Ok(NodeLine::Round) => take_meeting(alloc, core, addr, false, out, door),
         Ok(NodeLine::Serve) => take_meeting(alloc, core, addr, true, out, door),

@@ -1,17 +1,17 @@
-use Rattle.std.proofs.Common.{Some, Ok, Err, refl}
-use Rattle.fuxi_io.specs.Disks.{WhereTold as WhereMoments}
+use Rattle.std.proofs.Common.{Ok, Err, refl}
 use Rattle.written_roles.specs.MasterRoles.{master_started}
 use Rattle.master_node.specs.Standing.{DiskHas, RestsAt}
-use Rattle.fuxi_node.specs.Masters.{FileReads}
+use Rattle.master_node.specs.Writing.{LeavesEither}
 use Rattle.node_rounds.specs.Roles.{OfMaster}
+use Rattle.node_run.specs.Ends.{FitsNow, FitsOneNow}
 use Rattle.fuxi_node.specs.Starts.{master_start}
-use Rattle.fuxi_node.proofs.Mastering.{file_at_end, not_started, raised_from, started}
+use Rattle.fuxi_node.proofs.Mastering.{either_at_end, file_at_end, not_started, raised_from, started}
 use Rattle.fuxi_node.proofs.masters.run_master.Goals as goal
 
 pub returns-in-Err-clause-ended : goal.returns-in-Err-clause-ended
 returns-in-Err-clause-ended g c ready =
-    not_started (λ q. WhereMoments (λ before now. FileReads q now) (g.D.Disk.told c.args.disk.now) (g.D.Disk.told c.open.new.disk)) c.args.epoch (master_start c.args.cluster.now c.args.epoch c.args.addr.now c.args.lines.now.number) (g.D.Disk.told c.args.disk.now)
-    c.in-Err.fault c.start_status.result c.args.lines.now.pending (g.S.Source.left c.args.source.now) (g.O.Sink.took c.args.out.now) (g.N.Door.faults c.args.door.now) (g.N.Door.told c.args.door.now) c.start_status.ensures c.in-Err.ensures.faults c.requires.ahead
+    not_started c.args.epoch (master_start c.args.cluster.now c.args.epoch c.args.addr.now c.args.lines.now.number) (g.D.Disk.told c.args.disk.now) (g.D.Disk.told c.open.new.disk)
+    c.in-Err.fault c.start_status.result c.args.lines.now.pending (g.S.Source.left c.args.source.now) (g.O.Sink.took c.args.out.now) (g.N.Door.faults c.args.door.now) (g.N.Door.told c.args.door.now) c.start_status.ensures c.in-Err.ensures.faults c.requires.ahead c.in-Err.ensures.told
 
 pub returns-in-Ok-run_node-clause-ended : goal.returns-in-Ok-run_node-clause-ended
 returns-in-Ok-run_node-clause-ended g c ready =
@@ -20,9 +20,9 @@ returns-in-Ok-run_node-clause-ended g c ready =
     let old = g.D.Disk.told c.args.disk.now in
     let mid = g.D.Disk.told c.open.new.disk in
     let new = g.D.Disk.told c.run_node.new.disk in
-    started (λ q. WhereMoments (λ before now. FileReads q now) old new) c.args.epoch (master_start c.args.cluster.now c.args.epoch c.args.addr.now c.args.lines.now.number) old
-    (λ q. WhereMoments (λ before now. RestsAt node size (Some before) → DiskHas q now) mid new) node.hard.value (Ok c.in-Ok-run_node.status) c.in-Ok-run_node.status _ (g.S.Source.left c.run_node.new.source) (g.O.Sink.took c.args.out.now) (g.O.Sink.took c.run_node.new.out) (g.N.Door.faults c.args.door.now) (g.N.Door.faults c.run_node.new.door) (g.N.Door.told c.args.door.now) (g.N.Door.told c.run_node.new.door)
-    (raised_from c.args.epoch node.hard old mid c.in-Ok.ensures.raised c.in-Ok.ensures.opened) refl (λ q. file_at_end c.args.epoch node size old mid new q c.in-Ok.ensures.rests c.in-Ok.ensures.opened)
+    started c.args.epoch (master_start c.args.cluster.now c.args.epoch c.args.addr.now c.args.lines.now.number) old new
+    (FitsNow RestsAt DiskHas node size mid new) (FitsOneNow RestsAt DiskHas LeavesEither node size mid new) node.hard.value (Ok c.in-Ok-run_node.status) c.in-Ok-run_node.status _ (g.S.Source.left c.run_node.new.source) (g.O.Sink.took c.args.out.now) (g.O.Sink.took c.run_node.new.out) (g.N.Door.faults c.args.door.now) (g.N.Door.faults c.run_node.new.door) (g.N.Door.told c.args.door.now) (g.N.Door.told c.run_node.new.door)
+    (raised_from c.args.epoch node.hard old mid c.in-Ok.ensures.raised c.in-Ok.ensures.opened) refl (file_at_end c.args.epoch node size old mid new c.in-Ok.ensures.rests c.in-Ok.ensures.opened) (either_at_end c.args.epoch node size old mid new c.in-Ok.ensures.rests c.in-Ok.ensures.opened)
     (c.in-Ok-run_node.ensures.ended ready (OfMaster node.hard.value (master_started c.args.cluster.now node.hard.value c.args.epoch)) c.in-Ok.ensures.stands)
 
 pub returns-in-Err-run_node-clause-ended : goal.returns-in-Err-run_node-clause-ended
@@ -32,7 +32,7 @@ returns-in-Err-run_node-clause-ended g c ready =
     let old = g.D.Disk.told c.args.disk.now in
     let mid = g.D.Disk.told c.open.new.disk in
     let new = g.D.Disk.told c.run_node.new.disk in
-    started (λ q. WhereMoments (λ before now. FileReads q now) old new) c.args.epoch (master_start c.args.cluster.now c.args.epoch c.args.addr.now c.args.lines.now.number) old
-    (λ q. WhereMoments (λ before now. RestsAt node size (Some before) → DiskHas q now) mid new) node.hard.value (Err (record {})) _ _ (g.S.Source.left c.run_node.new.source) (g.O.Sink.took c.args.out.now) (g.O.Sink.took c.run_node.new.out) (g.N.Door.faults c.args.door.now) (g.N.Door.faults c.run_node.new.door) (g.N.Door.told c.args.door.now) (g.N.Door.told c.run_node.new.door)
-    (raised_from c.args.epoch node.hard old mid c.in-Ok.ensures.raised c.in-Ok.ensures.opened) refl (λ q. file_at_end c.args.epoch node size old mid new q c.in-Ok.ensures.rests c.in-Ok.ensures.opened)
+    started c.args.epoch (master_start c.args.cluster.now c.args.epoch c.args.addr.now c.args.lines.now.number) old new
+    (FitsNow RestsAt DiskHas node size mid new) (FitsOneNow RestsAt DiskHas LeavesEither node size mid new) node.hard.value (Err (record {})) _ _ (g.S.Source.left c.run_node.new.source) (g.O.Sink.took c.args.out.now) (g.O.Sink.took c.run_node.new.out) (g.N.Door.faults c.args.door.now) (g.N.Door.faults c.run_node.new.door) (g.N.Door.told c.args.door.now) (g.N.Door.told c.run_node.new.door)
+    (raised_from c.args.epoch node.hard old mid c.in-Ok.ensures.raised c.in-Ok.ensures.opened) refl (file_at_end c.args.epoch node size old mid new c.in-Ok.ensures.rests c.in-Ok.ensures.opened) (either_at_end c.args.epoch node size old mid new c.in-Ok.ensures.rests c.in-Ok.ensures.opened)
     (c.in-Err-run_node.ensures.ended ready (OfMaster node.hard.value (master_started c.args.cluster.now node.hard.value c.args.epoch)) c.in-Ok.ensures.stands)

@@ -1,17 +1,17 @@
 use Rattle.std.proofs.Common.{Some, ◌≡◌, ◌+◌, ◌<◌, Ok, Err, sym, ◌∙◌, ap, subst, arith, refl, false}
 use Rattle.std.proofs.lemmas.Bool.{false≢true}
-use Rattle.fuxi_io.specs.Disks.{WhereTold as WhereMoments}
 use Rattle.fuxi_io.specs.Reading.{line_of}
 use Rattle.fuxi_terms.specs.Limits.{most_frames, most_lines}
 use Rattle.input_lines.specs.Contents.{content, is_skipped}
 use Rattle.node_door.specs.Doors.{WhereTold}
+use Rattle.node_party.specs.Halts.{FitsEither}
 use Rattle.node_party.specs.Lines.{node_line}
 use Rattle.node_run.specs.declared.taking.Stop.TheVariants.{Ends, Disk}
-use Rattle.node_run.specs.Ends.{start_of}
+use Rattle.node_run.specs.Ends.{FitsNow, FitsOneNow, start_of}
 use Rattle.node_run.specs.Progress.{Taken, TakesCounted}
 use Rattle.std.specs.Io.KnownBytes.{Appends}
 use Rattle.node_run.proofs.Lifting.{start_along, end_along, last_along, stop_along, line_along, disk_along, on_along, ok_is, running_alone}
-use Rattle.node_run.proofs.Resting.{keeps_same, keeps_on, keeps_fits}
+use Rattle.node_run.proofs.Resting.{fits_first, keeps_same, known_more, known_on}
 use Rattle.node_run.proofs.run.run_node.Goals as goal
 
 pub loop-turn-init : goal.loop-turn-init
@@ -36,15 +36,17 @@ pub returns-then-not-ended-clause-ended : goal.returns-then-not-ended-clause-end
 returns-then-not-ended-clause-ended g c ready r s =
     let i = c.loop-turn.invariant.along ready r s in
     last_along c.lines_are_taken.ensures (start_of most_frames c.args.addr.now c.args.lines.now.number r) _ c.loop-turn.lines.number c.loop-turn.lines.ended c.loop-turn.events (g.C.Core.stands c.loop-turn.core) _ _ _ _ _ _ _ i
-    (λ q. WhereMoments (λ before now. g.C.Core.rests c.args.core (g.D.Disk.size c.args.disk.now) (Some before) → g.C.Node.fits q now) (g.D.Disk.told c.args.disk.now) (g.D.Disk.told c.loop-turn.disk)) c.loop-turn.lines.pending (g.S.Source.left c.loop-turn.source) _ c.end_node.result refl (sym c.if-not-ended.ensures) c.end_node.ensures.writes (λ q t. keeps_fits g.C.Core.rests c.args.core c.loop-turn.core (g.D.Disk.size c.args.disk.now) (g.D.Disk.size c.loop-turn.disk) (g.C.Node.fits q) (g.D.Disk.told c.args.disk.now) (g.D.Disk.told c.loop-turn.disk)
+    (FitsNow g.C.Core.rests g.C.Node.fits c.args.core (g.D.Disk.size c.args.disk.now) (g.D.Disk.told c.args.disk.now) (g.D.Disk.told c.loop-turn.disk)) (FitsOneNow g.C.Core.rests g.C.Node.fits g.C.Node.halts c.args.core (g.D.Disk.size c.args.disk.now) (g.D.Disk.told c.args.disk.now) (g.D.Disk.told c.loop-turn.disk)) c.loop-turn.lines.pending (g.S.Source.left c.loop-turn.source) _ c.end_node.result refl (sym c.if-not-ended.ensures) c.end_node.ensures.writes (λ q t. known_more g.C.Core.rests c.args.core (g.D.Disk.size c.args.disk.now) (λ m. g.C.Core.rests c.loop-turn.core (g.D.Disk.size c.loop-turn.disk) (Some m)) (g.C.Node.fits q) (g.D.Disk.told c.args.disk.now) (g.D.Disk.told c.loop-turn.disk)
     (λ m rests. g.met.C.Node.fitting c.loop-turn.core q (g.D.Disk.size c.loop-turn.disk) m t rests) c.loop-turn.invariant.told)
+    (fits_first g.C.Core.rests c.args.core g.C.Node.fits g.C.Node.halts (g.D.Disk.size c.args.disk.now) (g.D.Disk.told c.args.disk.now) (g.D.Disk.told c.loop-turn.disk))
 
 pub returns-in-Ok-End-clause-ended : goal.returns-in-Ok-End-clause-ended
 returns-in-Ok-End-clause-ended g c ready r s =
     let i = c.loop-turn.invariant.along ready r s in
     end_along c.lines_are_taken.ensures (start_of most_frames c.args.addr.now c.args.lines.now.number r) _ c.loop-turn.lines.number c.loop-turn.lines.ended c.loop-turn.events (g.C.Core.stands c.loop-turn.core) _ _ _ _ _ _ _ i
-    (λ q. WhereMoments (λ before now. g.C.Core.rests c.args.core (g.D.Disk.size c.args.disk.now) (Some before) → g.C.Node.fits q now) (g.D.Disk.told c.args.disk.now) (g.D.Disk.told c.loop-turn.disk)) c.next.new.self.pending (g.S.Source.left c.next.new.source) _ _ c.end_node-in-Ok-End.result (rw c.in-Ok-End.field-0-is at c.in-Ok-End.ensures.gives) c.end_node-in-Ok-End.ensures.writes (λ q t. keeps_fits g.C.Core.rests c.args.core c.loop-turn.core (g.D.Disk.size c.args.disk.now) (g.D.Disk.size c.loop-turn.disk) (g.C.Node.fits q) (g.D.Disk.told c.args.disk.now) (g.D.Disk.told c.loop-turn.disk)
+    (FitsNow g.C.Core.rests g.C.Node.fits c.args.core (g.D.Disk.size c.args.disk.now) (g.D.Disk.told c.args.disk.now) (g.D.Disk.told c.loop-turn.disk)) (FitsOneNow g.C.Core.rests g.C.Node.fits g.C.Node.halts c.args.core (g.D.Disk.size c.args.disk.now) (g.D.Disk.told c.args.disk.now) (g.D.Disk.told c.loop-turn.disk)) c.next.new.self.pending (g.S.Source.left c.next.new.source) _ _ c.end_node-in-Ok-End.result (rw c.in-Ok-End.field-0-is at c.in-Ok-End.ensures.gives) c.end_node-in-Ok-End.ensures.writes (λ q t. known_more g.C.Core.rests c.args.core (g.D.Disk.size c.args.disk.now) (λ m. g.C.Core.rests c.loop-turn.core (g.D.Disk.size c.loop-turn.disk) (Some m)) (g.C.Node.fits q) (g.D.Disk.told c.args.disk.now) (g.D.Disk.told c.loop-turn.disk)
     (λ m rests. g.met.C.Node.fitting c.loop-turn.core q (g.D.Disk.size c.loop-turn.disk) m t rests) c.loop-turn.invariant.told)
+    (fits_first g.C.Core.rests c.args.core g.C.Node.fits g.C.Node.halts (g.D.Disk.size c.args.disk.now) (g.D.Disk.told c.args.disk.now) (g.D.Disk.told c.loop-turn.disk))
 
 pub returns-in-Err-clause-ended : goal.returns-in-Err-clause-ended
 returns-in-Err-clause-ended g c ready r s =
@@ -52,8 +54,10 @@ returns-in-Err-clause-ended g c ready r s =
     let u = c.loop-turn.invariant.running ready.running in
     rw (c.stop_status.ensures, c.number.ensures.value, c.in-Err.ensures.number)
     (stop_along c.lines_are_taken.ensures (start_of most_frames c.args.addr.now c.args.lines.now.number r) _ c.loop-turn.lines.number c.loop-turn.lines.ended c.loop-turn.events (g.C.Core.stands c.loop-turn.core) _ _ _ _ _ _ _ i
-    (λ q. WhereMoments (λ before now. g.C.Core.rests c.args.core (g.D.Disk.size c.args.disk.now) (Some before) → g.C.Node.fits q now) (g.D.Disk.told c.args.disk.now) (g.D.Disk.told c.loop-turn.disk)) (g.S.Source.left c.next.new.source) c.in-Err.stop (sym c.if-not-ended.ensures)
-    (λ e. running_alone u (c.in-Err.ensures.broke (ap (λ s. Err s) e))) (λ e. running_alone u (c.in-Err.ensures.long (ap (λ s. Err s) e))) (λ e. running_alone u (c.in-Err.ensures.many (ap (λ s. Err s) e))))
+    (FitsNow g.C.Core.rests g.C.Node.fits c.args.core (g.D.Disk.size c.args.disk.now) (g.D.Disk.told c.args.disk.now) (g.D.Disk.told c.loop-turn.disk)) (FitsOneNow g.C.Core.rests g.C.Node.fits g.C.Node.halts c.args.core (g.D.Disk.size c.args.disk.now) (g.D.Disk.told c.args.disk.now) (g.D.Disk.told c.loop-turn.disk)) (g.S.Source.left c.next.new.source) c.in-Err.stop (sym c.if-not-ended.ensures)
+    (λ e. running_alone u (c.in-Err.ensures.broke (ap (λ s. Err s) e))) (λ e. running_alone u (c.in-Err.ensures.long (ap (λ s. Err s) e))) (λ e. running_alone u (c.in-Err.ensures.many (ap (λ s. Err s) e)))
+    (λ q t. known_more g.C.Core.rests c.args.core (g.D.Disk.size c.args.disk.now) (λ m. g.C.Core.rests c.loop-turn.core (g.D.Disk.size c.loop-turn.disk) (Some m)) (g.C.Node.fits q) (g.D.Disk.told c.args.disk.now) (g.D.Disk.told c.loop-turn.disk)
+    (λ m rests. g.met.C.Node.fitting c.loop-turn.core q (g.D.Disk.size c.loop-turn.disk) m t rests) c.loop-turn.invariant.told))
 
 pub returns-in-Err-Ends-clause-ended : goal.returns-in-Err-Ends-clause-ended
 returns-in-Err-Ends-clause-ended g c ready r s =
@@ -63,10 +67,14 @@ returns-in-Err-Ends-clause-ended g c ready r s =
     let line : c.content-line.result.now ≡ content (line_of c.next.new.self) = c.content-line.ensures ∙ ap (λ b. content (record { bytes = b; ended = c.ended-in-loop-turn.result })) c.line.ensures ∙ ap (λ b. content (record { bytes = c.next.new.self.line; ended = b })) c.ended-in-loop-turn.ensures in
     let unskipped : is_skipped c.content-line.result.now ≡ false = c.in-Err-Ends.ensures.unskipped in
     rw c.in-Err-Ends.status-is (line_along c.lines_are_taken.ensures start _ c.loop-turn.lines.number c.loop-turn.lines.ended c.loop-turn.events (g.C.Core.stands c.loop-turn.core) _ _ _ _ (g.N.Door.faults c.loop-turn.door) _ (g.N.Door.told c.loop-turn.door) i
-    (λ q. WhereMoments (λ before now. g.C.Core.rests c.args.core (g.D.Disk.size c.args.disk.now) (Some before) → g.C.Node.fits q now) (g.D.Disk.told c.args.disk.now) (g.D.Disk.told c.take_any.new.disk)) g.C.Core.stands c.next.new.self.pending (g.S.Source.left c.next.new.source) _ (line_of c.next.new.self) c.in-Err-Ends.status (g.N.Door.faults c.take_any.new.door) (g.N.Door.told c.take_any.new.door)
+    (FitsNow g.C.Core.rests g.C.Node.fits c.args.core (g.D.Disk.size c.args.disk.now) (g.D.Disk.told c.args.disk.now) (g.D.Disk.told c.take_any.new.disk)) (FitsOneNow g.C.Core.rests g.C.Node.fits g.C.Node.halts c.args.core (g.D.Disk.size c.args.disk.now) (g.D.Disk.told c.args.disk.now) (g.D.Disk.told c.take_any.new.disk))
+    (FitsNow g.C.Core.rests g.C.Node.fits c.loop-turn.core (g.D.Disk.size c.loop-turn.disk) (g.D.Disk.told c.loop-turn.disk) (g.D.Disk.told c.take_any.new.disk)) (FitsOneNow g.C.Core.rests g.C.Node.fits g.C.Node.halts c.loop-turn.core (g.D.Disk.size c.loop-turn.disk) (g.D.Disk.told c.loop-turn.disk) (g.D.Disk.told c.take_any.new.disk))
+    (λ q. known_on g.C.Core.rests c.args.core c.loop-turn.core (g.D.Disk.size c.args.disk.now) (g.D.Disk.size c.loop-turn.disk) (g.C.Node.fits q) (g.D.Disk.told c.args.disk.now) (g.D.Disk.told c.loop-turn.disk) (g.D.Disk.told c.take_any.new.disk) c.loop-turn.invariant.told)
+    (λ q p. known_on g.C.Core.rests c.args.core c.loop-turn.core (g.D.Disk.size c.args.disk.now) (g.D.Disk.size c.loop-turn.disk) (FitsEither g.C.Node.fits g.C.Node.halts q p) (g.D.Disk.told c.args.disk.now) (g.D.Disk.told c.loop-turn.disk) (g.D.Disk.told c.take_any.new.disk) c.loop-turn.invariant.told)
+    g.C.Core.stands c.next.new.self.pending (g.S.Source.left c.next.new.source) _ (line_of c.next.new.self) c.in-Err-Ends.status (g.N.Door.faults c.take_any.new.door) (g.N.Door.told c.take_any.new.door)
     (c.in-Ok-Line.ensures.within (ap (λ l. Ok l) c.in-Ok-Line.field-0-is)) c.in-Ok-Line.ensures.ahead (rw c.in-Ok-Line.field-0-is at c.in-Ok-Line.ensures.gives) (ap is_skipped (sym line) ∙ unskipped)
-    (λ n st is. subst (λ k. WhereTold (TakesCounted g.C.Core.stands most_frames c.args.addr.now n (node_line (content (line_of c.next.new.self))) k (Err (Ends c.in-Err-Ends.status)) (g.O.Sink.took c.loop-turn.out) (g.O.Sink.took c.take_any.new.out) (g.N.Door.faults c.loop-turn.door) (g.N.Door.faults c.take_any.new.door)) (g.N.Door.told c.loop-turn.door) (g.N.Door.told c.take_any.new.door)) next
-    (subst (λ l. WhereTold (TakesCounted g.C.Core.stands most_frames c.args.addr.now n (node_line l) c.number-number.result (Err (Ends c.in-Err-Ends.status)) (g.O.Sink.took c.loop-turn.out) (g.O.Sink.took c.take_any.new.out) (g.N.Door.faults c.loop-turn.door) (g.N.Door.faults c.take_any.new.door)) (g.N.Door.told c.loop-turn.door) (g.N.Door.told c.take_any.new.door)) line
+    (λ n st is. subst (λ k. WhereTold (TakesCounted g.C.Core.stands (FitsNow g.C.Core.rests g.C.Node.fits c.loop-turn.core (g.D.Disk.size c.loop-turn.disk) (g.D.Disk.told c.loop-turn.disk) (g.D.Disk.told c.take_any.new.disk)) (FitsOneNow g.C.Core.rests g.C.Node.fits g.C.Node.halts c.loop-turn.core (g.D.Disk.size c.loop-turn.disk) (g.D.Disk.told c.loop-turn.disk) (g.D.Disk.told c.take_any.new.disk)) most_frames c.args.addr.now n (node_line (content (line_of c.next.new.self))) k (Err (Ends c.in-Err-Ends.status)) (g.O.Sink.took c.loop-turn.out) (g.O.Sink.took c.take_any.new.out) (g.N.Door.faults c.loop-turn.door) (g.N.Door.faults c.take_any.new.door)) (g.N.Door.told c.loop-turn.door) (g.N.Door.told c.take_any.new.door)) next
+    (subst (λ l. WhereTold (TakesCounted g.C.Core.stands (FitsNow g.C.Core.rests g.C.Node.fits c.loop-turn.core (g.D.Disk.size c.loop-turn.disk) (g.D.Disk.told c.loop-turn.disk) (g.D.Disk.told c.take_any.new.disk)) (FitsOneNow g.C.Core.rests g.C.Node.fits g.C.Node.halts c.loop-turn.core (g.D.Disk.size c.loop-turn.disk) (g.D.Disk.told c.loop-turn.disk) (g.D.Disk.told c.take_any.new.disk)) most_frames c.args.addr.now n (node_line l) c.number-number.result (Err (Ends c.in-Err-Ends.status)) (g.O.Sink.took c.loop-turn.out) (g.O.Sink.took c.take_any.new.out) (g.N.Door.faults c.loop-turn.door) (g.N.Door.faults c.take_any.new.door)) (g.N.Door.told c.loop-turn.door) (g.N.Door.told c.take_any.new.door)) line
     (rw c.in-Err-Ends.field-0-is at (c.in-Err-Ends.ensures.takes unskipped n st is)))))
 
 pub returns-in-Err-Disk-clause-ended : goal.returns-in-Err-Disk-clause-ended
@@ -77,10 +85,14 @@ returns-in-Err-Disk-clause-ended g c ready r s =
     let line : c.content-line.result.now ≡ content (line_of c.next.new.self) = c.content-line.ensures ∙ ap (λ b. content (record { bytes = b; ended = c.ended-in-loop-turn.result })) c.line.ensures ∙ ap (λ b. content (record { bytes = c.next.new.self.line; ended = b })) c.ended-in-loop-turn.ensures in
     let unskipped : is_skipped c.content-line.result.now ≡ false = c.in-Err-Disk.ensures.unskipped in
     disk_along c.lines_are_taken.ensures start _ c.loop-turn.lines.number c.loop-turn.lines.ended c.loop-turn.events (g.C.Core.stands c.loop-turn.core) _ _ _ _ (g.N.Door.faults c.loop-turn.door) _ (g.N.Door.told c.loop-turn.door) i
-    (λ q. WhereMoments (λ before now. g.C.Core.rests c.args.core (g.D.Disk.size c.args.disk.now) (Some before) → g.C.Node.fits q now) (g.D.Disk.told c.args.disk.now) (g.D.Disk.told c.take_any.new.disk)) (record {}) g.C.Core.stands c.next.new.self.pending (g.S.Source.left c.next.new.source) _ (line_of c.next.new.self) (g.N.Door.faults c.take_any.new.door) (g.N.Door.told c.take_any.new.door)
-    c.in-Ok-Line.ensures.ahead (rw c.in-Ok-Line.field-0-is at c.in-Ok-Line.ensures.gives)
-    (λ n st is. subst (λ k. WhereTold (TakesCounted g.C.Core.stands most_frames c.args.addr.now n (node_line (content (line_of c.next.new.self))) k (Err Disk) (g.O.Sink.took c.loop-turn.out) (g.O.Sink.took c.take_any.new.out) (g.N.Door.faults c.loop-turn.door) (g.N.Door.faults c.take_any.new.door)) (g.N.Door.told c.loop-turn.door) (g.N.Door.told c.take_any.new.door)) next
-    (subst (λ l. WhereTold (TakesCounted g.C.Core.stands most_frames c.args.addr.now n (node_line l) c.number-number.result (Err Disk) (g.O.Sink.took c.loop-turn.out) (g.O.Sink.took c.take_any.new.out) (g.N.Door.faults c.loop-turn.door) (g.N.Door.faults c.take_any.new.door)) (g.N.Door.told c.loop-turn.door) (g.N.Door.told c.take_any.new.door)) line
+    (FitsNow g.C.Core.rests g.C.Node.fits c.args.core (g.D.Disk.size c.args.disk.now) (g.D.Disk.told c.args.disk.now) (g.D.Disk.told c.take_any.new.disk)) (FitsOneNow g.C.Core.rests g.C.Node.fits g.C.Node.halts c.args.core (g.D.Disk.size c.args.disk.now) (g.D.Disk.told c.args.disk.now) (g.D.Disk.told c.take_any.new.disk))
+    (FitsNow g.C.Core.rests g.C.Node.fits c.loop-turn.core (g.D.Disk.size c.loop-turn.disk) (g.D.Disk.told c.loop-turn.disk) (g.D.Disk.told c.take_any.new.disk)) (FitsOneNow g.C.Core.rests g.C.Node.fits g.C.Node.halts c.loop-turn.core (g.D.Disk.size c.loop-turn.disk) (g.D.Disk.told c.loop-turn.disk) (g.D.Disk.told c.take_any.new.disk))
+    (λ q. known_on g.C.Core.rests c.args.core c.loop-turn.core (g.D.Disk.size c.args.disk.now) (g.D.Disk.size c.loop-turn.disk) (g.C.Node.fits q) (g.D.Disk.told c.args.disk.now) (g.D.Disk.told c.loop-turn.disk) (g.D.Disk.told c.take_any.new.disk) c.loop-turn.invariant.told)
+    (λ q p. known_on g.C.Core.rests c.args.core c.loop-turn.core (g.D.Disk.size c.args.disk.now) (g.D.Disk.size c.loop-turn.disk) (FitsEither g.C.Node.fits g.C.Node.halts q p) (g.D.Disk.told c.args.disk.now) (g.D.Disk.told c.loop-turn.disk) (g.D.Disk.told c.take_any.new.disk) c.loop-turn.invariant.told)
+    (record {}) g.C.Core.stands c.next.new.self.pending (g.S.Source.left c.next.new.source) _ (line_of c.next.new.self) (g.N.Door.faults c.take_any.new.door) (g.N.Door.told c.take_any.new.door)
+    (c.in-Ok-Line.ensures.within (ap (λ l. Ok l) c.in-Ok-Line.field-0-is)) c.in-Ok-Line.ensures.ahead (rw c.in-Ok-Line.field-0-is at c.in-Ok-Line.ensures.gives) (ap is_skipped (sym line) ∙ unskipped)
+    (λ n st is. subst (λ k. WhereTold (TakesCounted g.C.Core.stands (FitsNow g.C.Core.rests g.C.Node.fits c.loop-turn.core (g.D.Disk.size c.loop-turn.disk) (g.D.Disk.told c.loop-turn.disk) (g.D.Disk.told c.take_any.new.disk)) (FitsOneNow g.C.Core.rests g.C.Node.fits g.C.Node.halts c.loop-turn.core (g.D.Disk.size c.loop-turn.disk) (g.D.Disk.told c.loop-turn.disk) (g.D.Disk.told c.take_any.new.disk)) most_frames c.args.addr.now n (node_line (content (line_of c.next.new.self))) k (Err Disk) (g.O.Sink.took c.loop-turn.out) (g.O.Sink.took c.take_any.new.out) (g.N.Door.faults c.loop-turn.door) (g.N.Door.faults c.take_any.new.door)) (g.N.Door.told c.loop-turn.door) (g.N.Door.told c.take_any.new.door)) next
+    (subst (λ l. WhereTold (TakesCounted g.C.Core.stands (FitsNow g.C.Core.rests g.C.Node.fits c.loop-turn.core (g.D.Disk.size c.loop-turn.disk) (g.D.Disk.told c.loop-turn.disk) (g.D.Disk.told c.take_any.new.disk)) (FitsOneNow g.C.Core.rests g.C.Node.fits g.C.Node.halts c.loop-turn.core (g.D.Disk.size c.loop-turn.disk) (g.D.Disk.told c.loop-turn.disk) (g.D.Disk.told c.take_any.new.disk)) most_frames c.args.addr.now n (node_line l) c.number-number.result (Err Disk) (g.O.Sink.took c.loop-turn.out) (g.O.Sink.took c.take_any.new.out) (g.N.Door.faults c.loop-turn.door) (g.N.Door.faults c.take_any.new.door)) (g.N.Door.told c.loop-turn.door) (g.N.Door.told c.take_any.new.door)) line
     (rw c.in-Err-Disk.field-0-is at (c.in-Err-Disk.ensures.takes unskipped n st is))))
 
 pub loop-turn-preserved : goal.loop-turn-preserved
@@ -94,7 +106,7 @@ loop-turn-preserved g c =
           (λ e. let h = c.in-Ok.ensures.skips e in (ok_is _ _ h.0, ap g.O.Sink.took h.1, ap g.N.Door.faults h.2, ap g.N.Door.told h.2))
           c.in-Ok.ensures.counts (λ e n st is. subst (λ k. WhereTold (Taken most_frames c.args.addr.now n k (node_line c.content-line.result.now) (g.C.Core.stands c.in-Ok.both.0) (Appends (g.O.Sink.took c.loop-turn.out) (g.O.Sink.took c.take_any.new.out)) (g.N.Door.faults c.loop-turn.door) (g.N.Door.faults c.take_any.new.door)) (g.N.Door.told c.loop-turn.door) (g.N.Door.told c.take_any.new.door)) c.number-number.ensures.value (c.in-Ok.ensures.takes e n st is)));
       rests = c.in-Ok.ensures.rests;
-      told = keeps_on g.C.Core.rests c.args.core c.loop-turn.core c.in-Ok.both.0 (g.D.Disk.size c.args.disk.now) (g.D.Disk.size c.loop-turn.disk) (g.D.Disk.size c.take_any.new.disk) (g.D.Disk.told c.args.disk.now) (g.D.Disk.told c.loop-turn.disk) (g.D.Disk.told c.take_any.new.disk) c.loop-turn.invariant.told c.in-Ok.ensures.told;
+      told = known_on g.C.Core.rests c.args.core c.loop-turn.core (g.D.Disk.size c.args.disk.now) (g.D.Disk.size c.loop-turn.disk) (λ t. g.C.Core.rests c.in-Ok.both.0 (g.D.Disk.size c.take_any.new.disk) (Some t)) (g.D.Disk.told c.args.disk.now) (g.D.Disk.told c.loop-turn.disk) (g.D.Disk.told c.take_any.new.disk) c.loop-turn.invariant.told c.in-Ok.ensures.told;
       events = omega (arith, c.in-Ok.ensures.few, c.loop-turn.invariant.events);
       steps = omega (arith, c.in-Ok.ensures.steps, c.loop-turn.invariant.steps);
       number = omega (arith, next, c.number-number.ensures.value, c.loop-turn.invariant.number);

@@ -6,7 +6,7 @@ use Rattle.node_party.specs.Commands.{commanded, master_does, master_named}
 use Rattle.master_node.specs.Told.{named_of, told_of}
 use Rattle.master_node.specs.Writing.{hard_in}
 use Rattle.master_node.proofs.Commanding.{all_done, all_left, named_does, named_other, stays_refused}
-use Rattle.master_node.proofs.Resting.{line_rests, stays_rests}
+use Rattle.master_node.proofs.Resting.{line_rests, on_err, stays_rests, told_halts}
 use Rattle.master_node.proofs.node.MasterNodeNode.command.Goals as goal
 
 pub returns-then-epoch-clause-does : goal.returns-then-epoch-clause-does
@@ -44,3 +44,14 @@ returns-clause-told g c =
 
 pub returns-then-epoch-clause-told : goal.returns-then-epoch-clause-told
 returns-then-epoch-clause-told g c = stays_rests c.args.self (g.D.Disk.size c.args.disk.now) (g.D.Disk.told c.args.disk.now)
+
+pub returns-clause-halts : goal.returns-clause-halts
+returns-clause-halts g c = on_err c.tell.result (λ r s.
+    let e = c.in-Some.epoch in
+    let told = told_of c.in-Some.told in
+    let named : master_named c.args.event.now ≡ Some (e, told) = sym c.master_named.ensures.named ∙ ap named_of c.in-Some.is in
+    let old = g.D.Disk.told c.args.disk.now in
+    let new = g.D.Disk.told c.tell.new.disk in
+    told_halts c.args.self r (commanded r c.args.event.now).role c.tell.result (g.D.Disk.size c.args.disk.now) old new s
+    (all_left c.args.event.now (λ h r. master_does h r told) c.args.self c.tell.result old new
+    (λ h r s. named_does h r e told c.args.event.now named (let own = c.epoch.ensures.epoch h r s in let t = c.if-epoch.false in grind (arith, nat_tests, t, own))) c.tell.ensures.told r s))
