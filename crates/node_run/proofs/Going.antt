@@ -28,7 +28,7 @@ use Rattle.node_run.specs.declared.taking.DiskFailed.{DiskFailed}
 use Rattle.node_run.specs.declared.taking.Stop.TheVariants.{Ends, Disk}
 use Rattle.node_run.specs.Runs.{Node, Round, Run, Ending, AtEnd, AtBadLine, AtLimit, ended, behind, then_is, takes, within_limits, role_run, role_after, pieces}
 use Rattle.node_run.specs.Visits.{Visit, rounds_of, played_of, WasAt}
-use Rattle.node_run.specs.Ends.{Start, run_of, Ran, EndsAt, EndsWith, EndsWhole, IsEither, StopsWanting, Ended}
+use Rattle.node_run.specs.Ends.{Start, run_of, Ran, EndsAt, EndsWith, EndsWhole, EitherFits, StopsWanting, Ended}
 use Rattle.node_run.specs.Progress.{Taken, TakesLine, WritesEnd, behind_all, Along}
 use Rattle.node_run.proofs.Visiting.{was_both, was_later, rounds_both, played_both}
 use Rattle.node_run.proofs.Stepping.{not_there}
@@ -188,7 +188,7 @@ module _ (laws : TakesLines) (s : Start) (bytes : List ℕ) (number : ℕ) (ends
   }
 
   -- the party now, and the one behind a line more
-  one_of : (FitsOne : Role → Role → Type 0) (next : List InputLine) (p : Role) → (run_of s a.visits (a.lines ++ next)).node.role ≡ p → FitsOne a.role p → IsEither FitsOne s a.visits a.lines next
+  one_of : (FitsOne : Role → Role → Type 0) (next : List InputLine) (p : Role) → (run_of s a.visits (a.lines ++ next)).node.role ≡ p → FitsOne a.role p → EitherFits FitsOne s a.visits a.lines next
   one_of FitsOne next p is one = subst (λ q. FitsOne q (run_of s a.visits (a.lines ++ next)).node.role) (sym (ap (λ (r : Run). r.node.role) so_far)) (subst (FitsOne a.role) (sym is) one)
 
   role_more : (line : InputLine) (behind' : List ℕ) → number < most_lines → IsFirst a.left line behind' → is_skipped (content line) ≡ false → (run_of s a.visits (a.lines ++ line ∷ [])).node.role ≡ role_after s.most (number + 1) here (node_line (content line))

@@ -59,8 +59,8 @@ pub record StopsWriting (Fits : Role → Type 0) (s : Start) (bytes : List ℕ) 
   pub ran : Ran s lines (λ r. (WritesLast r.outputs w0 w ⊎ ((lines_of bytes ≡ lines) × WritesLast (pieces r) w0 w)) × Fits r.node.role) before now old new
 
 -- this holds of the parties behind these lines and behind one more, which may count as taken or not
-abbrev pub IsEither : (Role → Role → Type 0) → Start → List Visit → List InputLine → List InputLine → Type 0
-IsEither FitsOne s visits lines next = FitsOne (run_of s visits lines).node.role (run_of s visits (lines ++ next)).node.role
+abbrev pub EitherFits : (Role → Role → Type 0) → Start → List Visit → List InputLine → List InputLine → Type 0
+EitherFits FitsOne s visits lines next = FitsOne (run_of s visits lines).node.role (run_of s visits (lines ++ next)).node.role
 
 -- memory lacked behind the output of the lines taken, at the end or at one line more; a round of that line may have been broken off
 pub record StopsWanting (FitsOne : Role → Role → Type 0) (s : Start) (bytes : List ℕ) (left w0 w : Option (List ℕ)) (before now : ℕ) (old new : Told) : Type 0 where
@@ -70,7 +70,7 @@ pub record StopsWanting (FitsOne : Role → Role → Type 0) (s : Start) (bytes 
   pub takes : TakesSome bytes left (lines ++ next)
   pub mid : Told
   pub ran : Ran s lines (λ r. EndsAt AtEnd w0 w r × Breaks (accepts r.node.role) s.addr r.node.role mid new) before now old mid
-  pub fits : IsEither FitsOne s ran.visits lines next
+  pub fits : EitherFits FitsOne s ran.visits lines next
 
 -- the disk failed at the line behind the lines taken, whose output is written
 pub record StopsAtDisk (FitsOne : Role → Role → Type 0) (s : Start) (bytes : List ℕ) (left w0 w : Option (List ℕ)) (before now : ℕ) (old new : Told) : Type 0 where
@@ -79,7 +79,7 @@ pub record StopsAtDisk (FitsOne : Role → Role → Type 0) (s : Start) (bytes :
   pub one : length next ≤ 1
   pub takes : TakesSome bytes left (lines ++ next)
   pub ran : Ran s lines (EndsAt AtEnd w0 w) before now old new
-  pub fits : IsEither FitsOne s ran.visits lines next
+  pub fits : EitherFits FitsOne s ran.visits lines next
 
 -- what a node wrote that ended with a status, or since its disk failed; what its source has left then, and what its door has been through.
 -- Fits, FitsOne: what is known of its disk at the end, for the party behind the lines taken, and where one line may count as taken or not.
