@@ -30,6 +30,7 @@ impl Drop for Bench {
 
 impl Model for Bench {
     ghost use Rattle.grant_table.specs.Tables.{TableRecord};
+    ghost use Rattle.place_pass.specs.Placers.{IsLevelWith};
 
     ghost Value = { TableRecord };
 

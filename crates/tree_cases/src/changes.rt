@@ -4,6 +4,7 @@ use crate::bench::Bench;
 use crate::draw::Draw;
 use crate::plain::{Plain, told};
 use case_words::Stop;
+use fuxi_terms::limits::GREATEST_COUNT;
 use fuxi_terms::tally_keys::{AVOID, NEAR, RACK, WANT};
 use grant_table::Pick;
 use ledger_law::{Change, Key, Ledger};
@@ -27,7 +28,8 @@ pub fn plain_of(alloc: Global, jobs: Vec<Job>) -> Result<Plain, Stop> {
 
 // Sets one number of a demand.
 fn set_number(alloc: Global, demand: &mut Demand, key: Key, number: u32) -> Result<(), Stop> {
-    let by = i64::from(number).wrapping_sub(demand.get(&key) as i64);
+    let before = demand.get(&key).min(GREATEST_COUNT) as i64;
+    let by = i64::from(number) - before;
     if by == 0 {
         return Ok(());
     }

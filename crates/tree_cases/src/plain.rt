@@ -144,10 +144,10 @@ fn look<L: Ledger>(
     table: &GrantTable,
     plain: &Plain,
     place: usize,
+    (app, unit): (AppNo, UnitNo),
     steps: &mut Steps<L>,
     least: &mut Option<(Rank, Pick)>,
 ) -> Option<()> {
-    let (app, unit) = *plain.line.get(place)?;
     let job = plain.jobs.get(app.0 as usize)?;
     let waits = out(table, &plain.demands, app, unit) > 0;
     if !waits || !is_allowed(table, job, unit) || unit.0 as usize >= table.units(app) {
@@ -173,7 +173,7 @@ fn look<L: Ledger>(
 pub fn first<L: Ledger>(table: &GrantTable, plain: &Plain, steps: &mut Steps<L>) -> Option<Pick> {
     let mut least = None;
     for place in 0..plain.line.len() {
-        look(table, plain, place, steps, &mut least);
+        look(table, plain, place, plain.line[place], steps, &mut least);
     }
     match least {
         Some((_, pick)) => Some(pick),
