@@ -40,12 +40,7 @@ impl Model for Bench {
 }
 
 // Admits a job that is not there yet.
-fn admit(
-    alloc: Global,
-    table: &mut GrantTable,
-    placer: &mut Placer,
-    job: &Job,
-) -> Result<(), Stop>
+fn admit(alloc: Global, table: &mut GrantTable, placer: &mut Placer, job: &Job) -> Result<(), Stop>
     requires { IsLevelWith placer.old table.old }
     ensures { OnOk result (IsLevelWith placer.new table.new) }
 {

@@ -45,9 +45,9 @@ fn set_number(alloc: Global, demand: &mut Demand, key: Key, number: u32) -> Resu
 fn draw_number(draw: &mut Draw) -> (Key, u32) {
     let unit = draw.below(4) as u8;
     let (what, number, asked) = match draw.below(8) {
-        0..=3 => (WANT, 0, draw.below(16)),
-        4 => (NEAR, draw.below(9), draw.below(4)),
-        5 => (RACK, draw.below(3), draw.below(6)),
+        0..=2 => (WANT, 0, draw.below(24)),
+        3 => (NEAR, draw.below(9), draw.below(4)),
+        4 | 5 => (RACK, draw.below(3), draw.below(6)),
         6 => (NEAR, draw.below(9), 0),
         _ => (AVOID, draw.below(9), draw.below(2)),
     };
@@ -80,12 +80,7 @@ pub fn open(draw: &mut Draw, bench: &mut Bench, plain: &mut Plain, machine: u32)
 }
 
 // Takes one or two grants of the first of some drawn places that has any.
-fn take(
-    alloc: Global,
-    draw: &mut Draw,
-    bench: &mut Bench,
-    plain: &mut Plain,
-) -> Result<(), Stop> {
+fn take(alloc: Global, draw: &mut Draw, bench: &mut Bench, plain: &mut Plain) -> Result<(), Stop> {
     for _ in 0..12_u32 {
         let pick = Pick {
             app: AppNo(draw.below(6)),
@@ -108,8 +103,8 @@ pub fn change(
 ) -> Result<(), Stop> {
     for _ in 0..1 + draw.below(3) {
         match draw.below(8) {
-            0..=2 => take(alloc, draw, bench, plain)?,
-            3 => {
+            0..=3 => take(alloc, draw, bench, plain)?,
+            4 => {
                 let machine = draw.below(9);
                 open(draw, bench, plain, machine);
             }

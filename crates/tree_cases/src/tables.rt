@@ -109,13 +109,13 @@ fn run_rounds<P: Print, L: Ledger>(
 ) -> Result<(), Stop> {
     prepare(alloc, draw, bench, plain)?;
     let before = tally.different;
-    for round in 0..20_u32 {
-        let most = if round == 19 { 1000 } else { 1 + draw.below(9) };
+    for round in 0..40_u32 {
+        let most = if round == 39 { 1000 } else { 1 + draw.below(3) };
         settle(rt, alloc, most, bench, plain, steps, tally)?;
         if tally.different != before {
             break;
         }
-        if round < 19 {
+        if round < 39 {
             change(alloc, draw, bench, plain)?;
         }
     }
@@ -182,7 +182,9 @@ pub fn compare_tables<L: Ledger, P: Print>(
     if different == 0 {
         println!(rt; "{count} tables, {grants} grants, {compared} compared, all the same")?;
     } else {
-        println!(rt; "{count} tables, {grants} grants, {compared} compared, {different} different")?;
+        println!(rt;
+            "{count} tables, {grants} grants, {compared} compared, {different} different"
+        )?;
     }
     Ok(())
 }
