@@ -1,14 +1,23 @@
-//! Worked cases of the locality tree. Each line of the input names a call with its arguments, and what a path gives is
-//! printed; a line that begins with `#` is printed as it is.
+//! Worked cases of the locality tree and of placing. Each line of the input names a call with its arguments, and what a path
+//! gives is printed, or what was compared over tables that are drawn; a line that begins with `#` is printed as it is.
 #![tactic(auto)]
 
+mod bench;
 mod case;
+mod changes;
+mod draw;
+mod drawn;
+mod plain;
+mod tables;
 
 use case::Case;
 use case_words::{Stop, head_of, number_of};
 use std::alloc::Global;
 use std::io::{BufRead, BufReader};
+use std::marker::Brand;
 use std::process::ExitCode;
+use std::sync::ledger::Blank;
+use tables::compare_tables;
 
 // Two numbers of a line.
 fn numbers_in(rest: &str) -> (usize, u32) {
@@ -51,6 +60,11 @@ fn answer_line<P: Print>(
     if word == "cluster" {
         *case = Case::start(alloc, rest.as_bytes())?;
         return Ok(());
+    }
+    if word == "tables" {
+        let (first, count) = head_of(rest);
+        let seeds = (number_of(first), number_of(count).min(1000));
+        return compare_tables::<Brand, P>(rt, alloc, seeds, Blank::new(1));
     }
     match case {
         Some(case) if !line.is_empty() && !line.starts_with('#') => {
