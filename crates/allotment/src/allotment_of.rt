@@ -62,7 +62,7 @@ impl Allotment {
     ghost use Rattle.written_roles.specs.HardState.{with_job};
     ghost use Rattle.written_roles.specs.Masters.{Master, asked, out_of};
     ghost use Rattle.written_roles.specs.Placing.{granted, line_after, line_up, settled};
-    ghost use Rattle.place_pass.specs.Placers.{IsUpToDate, AsksNoMore, asks_seen, is_open};
+    ghost use Rattle.place_pass.specs.Placers.{IsUpToDate, AsksNoMore, asks_seen, is_open, units_seen};
     ghost use Rattle.std.specs.Prelude.{IfSome, Some, slice_get};
     ghost use Rattle.std.specs.Option.{option_map};
     ghost use Rattle.place_pass.specs.Best.{spot_of};
@@ -505,11 +505,13 @@ impl Allotment {
         &self.table
     }
 
-    /// The placer.
+    /// The placer. It has as many units of each job as the table.
     pub fn placer(&self) -> &Placer
         ensures seen { result.now.seen ≡ self.now.placer.seen }
         ensures idle { result.now.idle ≡ self.now.placer.idle }
+        ensures units { (a : ℕ) → units_seen result.now.seen a ≡ unit_count (as_known self.now.table.jobs) a }
     {
+        levels();
         &self.placer
     }
 }

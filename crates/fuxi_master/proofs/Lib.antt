@@ -34,3 +34,6 @@ pub mod Preempting
 pub mod Adopted
 pub mod Stepping
 pub mod Answering
+pub mod Below
+pub mod Shutting
+pub mod Voting

@@ -7,3 +7,4 @@ pub mod Commands
 pub mod Starts
 pub mod Resyncs
 pub mod Readers
+pub mod Voting

@@ -12,6 +12,7 @@ mod sending;
 mod starting;
 mod state;
 mod step;
+mod votes;
 
 pub use event::{MasterEvent, MasterRefusal, Outcome};
 pub use master::Master;

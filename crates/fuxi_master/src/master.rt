@@ -8,17 +8,20 @@ ghost use Rattle.fuxi_terms.specs.Cluster.{has_at};
 ghost use Rattle.fuxi_terms.specs.Jobs.{is_known, unit_count};
 ghost use Rattle.fuxi_terms.specs.Limits.{most_steps};
 ghost use Rattle.fuxi_terms.specs.Tables.{total_at};
+ghost use Rattle.fuxi_terms.specs.TallyKeys.{want_key};
 ghost use Rattle.core_side.specs.Parcels.{id_of};
 ghost use Rattle.grant_table.specs.Tables.{as_known};
 ghost use Rattle.place_pass.specs.Placers.{asks_seen};
 ghost use Rattle.written_roles.specs.MasterRoles.{MasterRole, master_started};
-ghost use Rattle.written_roles.specs.Masters.{out, out_of};
+ghost use Rattle.written_roles.specs.Masters.{asked, avoids, out, out_of};
+ghost use Rattle.written_roles.specs.Votes.{votes_in};
 ghost use Rattle.fuxi_master.specs.Cores.{StandsFor};
 ghost use Rattle.fuxi_master.specs.Readers.{place_in, last_in, place_of};
 ghost use Rattle.fuxi_master.specs.Steps.{IsFitting, IsSentFormed, StepsAlike, is_peer};
 
 use crate::event::{MasterEvent, Outcome};
 use crate::state::Core;
+use bad_nodes::Votes;
 use cluster_desc::Cluster;
 use delta_channel::Place;
 use failover::{Machines, Phase};
@@ -26,7 +29,7 @@ use fuxi_terms::OutOfMemory;
 use grant_table::GrantTable;
 use hard_state::{Hard, Known};
 use place_pass::Line;
-use schedule_unit::{AppNo, Party, UnitNo};
+use schedule_unit::{AppNo, MachineNo, Party, UnitNo};
 use std::alloc::Global;
 use std::marker::Model;
 
@@ -153,6 +156,30 @@ impl Master {
         ensures stands { (r : MasterRole) → StandsFor self.now.core r → result ≡ out r.state app.0 unit.0 }
     {
         self.core.outstanding(app, unit)
+    }
+
+    /// How many grants of a unit of a job that is known the job wants in all, by the master's demand of it. No memory is taken.
+    pub fn wanted(&self, app: AppNo, unit: UnitNo) -> u32
+        requires { unit.0 < unit_count self.now.core.known.jobs app.0 }
+        ensures stands { (r : MasterRole) → StandsFor self.now.core r → result ≡ asked r.state app.0 (want_key unit.0) }
+    {
+        self.core.wanted(app, unit)
+    }
+
+    /// Whether a unit of a job that is known avoids the machine, by the master's demand of the job. No memory is taken.
+    pub fn avoided(&self, app: AppNo, unit: UnitNo, machine: MachineNo) -> bool
+        requires { unit.0 < unit_count self.now.core.known.jobs app.0 }
+        ensures stands { (r : MasterRole) → StandsFor self.now.core r → result ≡ avoids r.state app.0 unit.0 machine.0 }
+    {
+        self.core.avoided(app, unit, machine)
+    }
+
+    /// How many of its jobs mark each machine of the cluster as bad, and which machines it has banned. What is asked of a job
+    /// is read once for each job.
+    pub fn votes(&self, alloc: Global) -> Result<Votes, OutOfMemory>
+        ensures stands { IfOk result (λ votes. (r : MasterRole) → StandsFor self.now.core r → votes ≡ votes_in r.cluster r.state) }
+    {
+        self.core.votes(alloc)
     }
 
     /// Whether the job is one of this master's, ended or not.

@@ -1,13 +1,14 @@
 //! What is read of a master.
 
-ghost use Rattle.std.specs.Prelude.{◌≡◌, ◌<◌, true, length, Some, slice_get};
+ghost use Rattle.std.specs.Prelude.{◌≡◌, ◌<◌, nat_lt, true, length, Some, slice_get};
 ghost use Rattle.fuxi_terms.specs.Jobs.{unit_count};
 ghost use Rattle.fuxi_terms.specs.Limits.{most_jobs, most_machines};
+ghost use Rattle.fuxi_terms.specs.TallyKeys.{avoid_key, want_key};
 ghost use Rattle.schedule_unit.specs.declared.party.Role.TheVariants.{Agent as AsAgent, App as AsApp};
 ghost use Rattle.core_side.specs.Parcels.{id_of};
 ghost use Rattle.place_pass.specs.Placers.{asks_seen};
 ghost use Rattle.written_roles.specs.MasterRoles.{MasterRole};
-ghost use Rattle.written_roles.specs.Masters.{out, out_of};
+ghost use Rattle.written_roles.specs.Masters.{asked, avoids, out, out_of};
 ghost use Rattle.fuxi_master.specs.Cores.{IsCore, StandsFor};
 ghost use Rattle.fuxi_master.specs.Readers.{place_in, last_in, place_of};
 ghost use Rattle.fuxi_master.specs.Seen.{core_of};
@@ -17,7 +18,7 @@ use crate::state::Core;
 use core_side::Side;
 use delta_channel::Place;
 use party_ledgers::{Demand, Grants, JoinLedger, RowLedger};
-use schedule_unit::{AppNo, Party, Role, UnitNo};
+use schedule_unit::{AppNo, MachineNo, Party, Role, UnitNo};
 
 impl Core {
     // How many grants of a unit of a known job are out: wanted and not held.
@@ -28,6 +29,26 @@ impl Core {
         ensures stands { (r : MasterRole) → StandsFor (core_of self.now) r → result ≡ out r.state app.0 unit.0 }
     {
         self.allotment.outstanding(app, unit)
+    }
+
+    // How many grants a unit of a known job wants in all.
+    pub(crate) fn wanted(&self, app: AppNo, unit: UnitNo) -> u32
+        requires core { IsCore (core_of self.now) }
+        requires unit { unit.0 < unit_count self.now.known.jobs app.0 }
+        ensures wanted { result ≡ asks_seen self.now.allotment.placer.seen app.0 (want_key unit.0) }
+        ensures stands { (r : MasterRole) → StandsFor (core_of self.now) r → result ≡ asked r.state app.0 (want_key unit.0) }
+    {
+        self.allotment.placer().wanted(app, unit)
+    }
+
+    // Whether a unit of a known job avoids the machine.
+    pub(crate) fn avoided(&self, app: AppNo, unit: UnitNo, machine: MachineNo) -> bool
+        requires core { IsCore (core_of self.now) }
+        requires unit { unit.0 < unit_count self.now.known.jobs app.0 }
+        ensures avoided { result ≡ nat_lt 0 (asks_seen self.now.allotment.placer.seen app.0 (avoid_key unit.0 machine.0)) }
+        ensures stands { (r : MasterRole) → StandsFor (core_of self.now) r → result ≡ avoids r.state app.0 unit.0 machine.0 }
+    {
+        self.allotment.placer().avoids(app, unit, machine)
     }
 
     // The end of the channel with the agent of a machine.

@@ -163,10 +163,11 @@ impl Known {
         self.bans.rising();
     }
 
-    /// A job in the order of submission.
+    /// A job in the order of submission. No other has its number.
     pub fn at(&self, index: usize) -> &Job
         requires { index < length self.now.jobs }
-        ensures { option_map (λ known. known.job) (slice_get self.now.jobs index) ≡ Some result.now }
+        ensures at { option_map (λ known. known.job) (slice_get self.now.jobs index) ≡ Some result.now }
+        ensures found { job_of self.now.jobs result.now.number ≡ slice_get self.now.jobs index }
     {
         &self.jobs[index].job
     }

@@ -82,6 +82,17 @@ module _ (es : List (Spot × ℕ)) (s : Spot) (n : ℕ) (sorted : T (is_sorted s
     | false ↦ λ _. refl
   ] refl
 
+  -- the count at another spot, and what another unit holds in a rack or the unit in another rack, stay
+  pub count_stays : (q : Spot) → (q ≡ s → ⊥) → count spot_cmp then q ≡ count spot_cmp es q
+  count_stays q ne = at_other q (apart q ne)
+
+  pub rack_stays : (c : ClusterRecord) (a u r : ℕ) → (nat_eq s.job a && (nat_eq s.unit u && nat_eq (rack_of c s.machine) r)) ≡ false → held_in c then a u r ≡ held_in c es a u r
+  rack_stays c a u r f =
+      let e = rack_then c a u r in
+      let x = ap (λ b. cond b (count spot_cmp es s) 0) f in
+      let y = ap (λ b. cond b n 0) f in
+      omega (arith, e, x, y)
+
   with_more : (b : Bool) (x y k : ℕ) → x * k ≤ y * k → cond b (x * k) 0 ≤ cond b (y * k) 0
   with_more true x y k le = le
   with_more false x y k le = omega arith

@@ -27,7 +27,7 @@ use Rattle.place_pass.proofs.Lining.{pair_self}
 use Rattle.place_pass.proofs.Picking.{all_below}
 
 -- ---- one place of a rank after another
-is_same : (x : ℕ) → nat_cmp x x ≡ Equal
+pub is_same : (x : ℕ) → nat_cmp x x ≡ Equal
 is_same x =
     let t : nat_lt x x ≡ false = grind (arith, nat_tests) in
     let e : (x == x) ≡ true = grind (arith, nat_tests) in
@@ -42,10 +42,10 @@ step x y r s e = elim (cases_lt y x) [
   ]
 ]
 
-less_first : (x y : ℕ) (r s : List ℕ) → y < x → comes_before (y ∷ s) (x ∷ r) ≡ true
+pub less_first : (x y : ℕ) (r s : List ℕ) → y < x → comes_before (y ∷ s) (x ∷ r) ≡ true
 less_first x y r s lt = ap (λ o. is_lt (ordering_then o (slice_cmp nat_cmp s r))) (is_less y x lt)
 
-less_rest : (x y : ℕ) (r s : List ℕ) → x ≡ y → comes_before s r ≡ true → comes_before (y ∷ s) (x ∷ r) ≡ true
+pub less_rest : (x y : ℕ) (r s : List ℕ) → x ≡ y → comes_before s r ≡ true → comes_before (y ∷ s) (x ∷ r) ≡ true
 less_rest x y r s e h = subst (λ z. comes_before (y ∷ s) (z ∷ r) ≡ true) (sym e) (ap (λ o. is_lt (ordering_then o (slice_cmp nat_cmp s r))) (is_same y) ∙ h)
 
 -- a rank that does not come before another by turn does not by place

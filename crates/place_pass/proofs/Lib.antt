@@ -16,3 +16,9 @@ mod CountsLemmas
 mod KeptLemmas
 mod FirstOfLine
 mod FirstByTurn
+mod StandingLemmas
+mod StandsAfterChange
+mod LinedLemmas
+mod AskedLemmas
+mod PathLemmas
+mod WalksLemmas

@@ -22,10 +22,10 @@ use Rattle.place_pass.proofs.BoundsLemmas.{zero_bounds}
 use Rattle.place_pass.proofs.Lining.{pair_is}
 use Rattle.place_pass.proofs.Places.{one_set}
 
-order : IsTotalOrder (slice_cmp nat_cmp)
+pub order : IsTotalOrder (slice_cmp nat_cmp)
 order = lists_total nat_cmp_total
 
-less_is : (o : Ordering) → is_lt o ≡ true → o ≡ Less
+pub less_is : (o : Ordering) → is_lt o ≡ true → o ≡ Less
 less_is Less e = refl
 less_is Equal e = cc
 less_is Greater e = cc

@@ -5,3 +5,5 @@ pub mod Best
 pub mod Bounds
 pub mod Sights
 pub mod Counts
+pub mod Trees
+pub mod Walks

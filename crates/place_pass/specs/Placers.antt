@@ -18,6 +18,8 @@ use Rattle.place_pass.specs.Lines.{LineRecord, units_in_all}
 use Rattle.place_pass.specs.declared.marks.Mark.{Mark}
 use Rattle.place_pass.specs.Bounds.{MarkRecord, mark_of, mark_at, key_of, turn_at, IsRising, IsBounded}
 use Rattle.place_pass.specs.Cells.{Cell, WishesRecord, asks_in, job_at}
+use Rattle.place_pass.specs.Trees.{HoldsLine, AllStand}
+use Rattle.locality_tree.specs.Trees.{TreeRecord}
 
 -- what a placer was told: the cluster, the admitted units with what is asked of each, by job number and unit, whether each machine is
 -- open, the line of waiting pairs, and the number that the next pair of the line gets
@@ -34,11 +36,12 @@ pub record KeptRecord : Type 0 where
   pub turn_of : List ℕ
   pub held : List ℕ
 
--- and with that, whether it knows that nothing is placeable, and whether then its marks note no group for nothing
+-- and with that, the tree of the waiting pairs, whether it knows that nothing is placeable, and whether then its marks note no group for nothing
 pub record PlacerRecord : Type 0 where
   pub seen : SeenRecord
   pub idle : Bool
   pub kept : KeptRecord
+  pub tree : TreeRecord
   pub forgotten : Bool
 
 -- a placer without what it keeps beside
@@ -130,6 +133,7 @@ pub record IsLevel (p : PlacerRecord) (t : TableRecord) : Type 0 where
   pub kept : IsKept p.seen.cells p.seen.opened p.seen.line p.seen.turns p.kept t
   pub quiet : p.idle ≡ true → IsQuiet p.seen.cells p.seen.opened p.seen.line p.seen.turns p.kept.marks t
   pub clear : p.idle ≡ true → p.forgotten ≡ true → IsClear p.seen.opened p.seen.line p.kept.marks t
+  pub stands : AllStand p.seen.cluster p.seen.cells t.entries p.seen.line p.tree
 
 unfoldable pub IsLevelWith : PlacerRecord → TableRecord → Type 0
 IsLevelWith p t = IsLevel p t
@@ -169,19 +173,21 @@ pub record IsSetFrom (before after : TableRecord) (s : Spot) : Type 0 where
   pub number : ℕ
   pub is : after ≡ record before { entries = set_count spot_cmp before.entries s number }
 
--- what the fields of a placer show, and what they keep: the line has admitted units alone, and both lines have room for all of them
-abbrev pub placer_record : WishesRecord → LineRecord → ℕ → Bool → List Mark → List ℕ → List ℕ → Bool → PlacerRecord
-placer_record w line turns idle marks turn_of held forgotten = record { seen = record { cluster = w.cluster; cells = w.cells; opened = w.opened; line = line.pairs; turns = turns }; idle = idle; kept = record { marks = map mark_of marks; turn_of = turn_of; held = held }; forgotten = forgotten }
+-- what the fields of a placer show, and what they keep: the line has admitted units alone, both lines have room for all of them, and exactly the pairs of the line wait in the tree
+abbrev pub placer_record : WishesRecord → LineRecord → ℕ → Bool → List Mark → List ℕ → List ℕ → TreeRecord → Bool → PlacerRecord
+placer_record w line turns idle marks turn_of held tree forgotten = record { seen = record { cluster = w.cluster; cells = w.cells; opened = w.opened; line = line.pairs; turns = turns }; idle = idle; kept = record { marks = map mark_of marks; turn_of = turn_of; held = held }; tree = tree; forgotten = forgotten }
 
-pub record IsPlacer (w : WishesRecord) (line other : LineRecord) (units marks turn_of held : ℕ) : Type 0 where
+pub record IsPlacer (w : WishesRecord) (line other : LineRecord) (units marks : ℕ) (turn_of : List ℕ) (held : ℕ) (tree : TreeRecord) : Type 0 where
   pub admitted : AllByRecursion (λ (p : ℕ × ℕ). p.1 < length (get_or w.cells p.0 [])) line.pairs
   pub places : length w.cells ≡ 256
   pub counted : units ≡ units_in_all w.cells
   pub room : units_in_all w.cells ≤ line.room
   pub other_room : units_in_all w.cells ≤ other.room
   pub marked : marks ≡ length w.cluster.machines
-  pub turn_places : turn_of ≡ 2048
+  pub turn_places : length turn_of ≡ 2048
   pub held_places : held ≡ 2048
+  pub rises : IsRising (λ (p : ℕ × ℕ). turn_at turn_of p.0 p.1) line.pairs
+  pub holds : HoldsLine w.cluster w.cells line.pairs turn_of tree
 
 -- one more grant may be made at a spot: the unit is admitted, the machine is there, has room for it, and has fewer than the greatest count
 pub record IsGrantable (t : TableRecord) (s : Spot) : Type 0 where

@@ -3,11 +3,13 @@
 use crate::line::Line;
 use crate::marks::{Mark, forget_groups, fresh_marks, reset_one, tell, tell_demand};
 use crate::search::{first, slot};
+use crate::standing::{enter_line, leave_line, tell_asked, tell_spot};
 use crate::waiting::{join, keep, keep_others, number_from};
-use crate::wishes::Wishes;
+use crate::wishes::{Wishes, fresh_units};
 use cluster_desc::Cluster;
 use fuxi_terms::OutOfMemory;
 use grant_table::{Asking, GrantTable, Pick, Steps, admitted_jobs, set_numbers};
+use locality_tree::Tree;
 use party_ledgers::Demand;
 use schedule_unit::{AppNo, Job, MachineNo, UnitNo};
 use std::alloc::Global;
@@ -35,6 +37,8 @@ pub struct Placer {
     turn_of: Vec<u64>,
     /// What each unit held when the last change of it was told, 8 places for each job.
     held: Vec<u32>,
+    /// The pairs of the line, by the machines and racks where they ask for more than they have.
+    tree: Tree,
     /// While the placer is idle: whether groups were forgotten where that can be, and the line lost no pair since.
     forgotten: bool,
 }
@@ -52,6 +56,7 @@ impl Drop for Placer {
             marks,
             turn_of,
             held,
+            tree,
             forgotten,
         } = self;
     }
@@ -62,11 +67,11 @@ impl Model for Placer {
 
     ghost Value = { PlacerRecord };
 
-    ghost view = { λ p. placer_record p.wishes p.line p.turns p.idle p.marks.items p.turn_of.items p.held.items p.forgotten };
+    ghost view = { λ p. placer_record p.wishes p.line p.turns p.idle p.marks.items p.turn_of.items p.held.items p.tree p.forgotten };
 
     ghost use Rattle.std.specs.Prelude.{length};
 
-    ghost invariant = { λ p. IsPlacer p.wishes p.line p.other p.units (length p.marks.items) (length p.turn_of.items) (length p.held.items) };
+    ghost invariant = { λ p. IsPlacer p.wishes p.line p.other p.units (length p.marks.items) p.turn_of.items (length p.held.items) p.tree };
 }
 
 impl Placer {
@@ -74,12 +79,14 @@ impl Placer {
     ghost use Rattle.std.specs.Option.{is_none, option_map};
     ghost use Rattle.fuxi_terms.specs.declared.Key.{Key};
     ghost use Rattle.fuxi_terms.specs.Keys.{spot_cmp};
+    ghost use Rattle.fuxi_terms.specs.TallyKeys.{want_key, avoid_key};
     ghost use Rattle.fuxi_terms.specs.Counts.{count};
     ghost use Rattle.fuxi_terms.specs.Jobs.{is_known, unit_count};
     ghost use Rattle.fuxi_terms.specs.Tables.{spot, held_on};
     ghost use Rattle.written_roles.specs.Masters.{out_of};
     ghost use Rattle.written_roles.specs.Placing.{first_in, lined, has_pair};
     ghost use Rattle.grant_table.specs.Tables.{TableRecord, as_known, with_admitted};
+    ghost use Rattle.place_pass.specs.Trees.{TreeOf};
     ghost use Rattle.place_pass.specs.Best.{spot_of};
     ghost use Rattle.place_pass.specs.Counts.{IsLifted, IsTight, StaysTight, is_unsettled, unsettled_machines};
     ghost use Rattle.place_pass.specs.Placers.{AreAllowed, SeenRecord, job_seen, asks_seen, asks_after, is_open, units_seen, IsLevelWith, IsUpToDate, IsSetFrom, IsGrantable, board_with, waiting_with, line_told, AsksNoMore};
@@ -93,6 +100,7 @@ impl Placer {
         let marks = fresh_marks(alloc, cluster.machines() as usize)?;
         let turn_of = Vec::from_elem(alloc, 0, 2048)?;
         let held = Vec::from_elem(alloc, 0, 2048)?;
+        let tree = Tree::start(alloc, cluster)?;
         Ok(Placer {
             wishes,
             line: Line::new(alloc),
@@ -103,6 +111,7 @@ impl Placer {
             marks,
             turn_of,
             held,
+            tree,
             forgotten: false,
         })
     }
@@ -124,13 +133,17 @@ impl Placer {
         let units = self.units + job.units() as usize;
         self.line.reserve(units)?;
         self.other.reserve(units)?;
-        self.wishes.admit(alloc, job)?;
+        let machines = self.wishes.cluster().machines() as usize;
+        let fresh = fresh_units(alloc, job, machines)?;
+        self.tree.admit(alloc, job)?;
+        self.wishes.add_job(job, fresh);
         self.units = units;
         Ok(())
     }
 
     /// The demand of an admitted job is now this one. Its entries for a unit, machine or rack that is not there
     /// count as absent. An idle placer stays so where no want rises and each avoided machine is avoided still.
+    /// Of a tight placer at most the machines that a unit no longer avoids become unsettled.
     pub fn asked(&mut self, table: &GrantTable, app: AppNo, demand: &Demand)
         requires cluster { self.old.seen.cluster ≡ table.now.cluster }
         requires here { 0 < units_seen self.old.seen app.0 }
@@ -147,10 +160,19 @@ impl Placer {
         tell_demand(&mut self.marks, &self.wishes, app, demand);
         let more = self.wishes.asked(app, demand);
         self.idle &= !more;
+        tell_asked(
+            &mut self.tree,
+            &self.line,
+            &self.wishes,
+            &self.turn_of,
+            table,
+            app,
+        );
     }
 
     /// Told after each grant or taking: the number of grants of the unit on the machine is now another one.
-    /// A unit with nothing out any more leaves the line. The placer is idle no more.
+    /// A unit with nothing out any more leaves the line. The placer is idle no more. Of a tight placer at most this
+    /// machine becomes unsettled.
     pub fn changed(&mut self, table: &GrantTable, app: AppNo, unit: UnitNo, machine: MachineNo)
         requires cluster { self.old.seen.cluster ≡ table.now.cluster }
         requires here { unit.0 < units_seen self.old.seen app.0 }
@@ -175,6 +197,16 @@ impl Placer {
             self.held[place],
         );
         self.held[place] = table.held(app, unit);
+        tell_spot(
+            &mut self.tree,
+            &self.line,
+            &self.wishes,
+            &self.turn_of,
+            table,
+            app,
+            unit,
+            machine,
+        );
         if self.wishes.outstanding(table, app, unit) == 0 {
             self.other.clear();
             keep_others(&mut self.other, &self.line, &self.wishes, app, unit);
@@ -203,7 +235,8 @@ impl Placer {
     }
 
     /// Brings the line up to date: the pairs with nothing out leave it, and the others that have something out
-    /// go behind it in the order of job and unit. Those are at most 2,048: 8 units of each of 256 jobs.
+    /// go behind it in the order of job and unit. Those are at most 2,048: 8 units of each of 256 jobs. Where there
+    /// are none, no machine of a tight placer becomes unsettled.
     pub fn line_up(&mut self, table: &GrantTable)
         requires level { IsLevelWith self.old table.now }
         requires turns { self.old.seen.turns < 2 ^ 63 }
@@ -218,6 +251,13 @@ impl Placer {
         let _cluster = table.cluster();
         let _wishes = self.wishes.cluster();
         let before = self.line.len();
+        leave_line(
+            &mut self.tree,
+            &self.line,
+            &self.wishes,
+            &self.turn_of,
+            table,
+        );
         self.other.clear();
         keep(&mut self.other, &self.line, &self.wishes, table);
         let stayed = self.other.len();
@@ -228,6 +268,14 @@ impl Placer {
             &self.wishes,
             stayed,
             self.turns,
+        );
+        enter_line(
+            &mut self.tree,
+            &self.other,
+            &self.wishes,
+            &self.turn_of,
+            table,
+            stayed,
         );
         self.turns += (self.other.len() - stayed) as u64;
         self.forgotten &= stayed == before;
@@ -247,6 +295,23 @@ impl Placer {
         self.wishes.outstanding(table, app, unit)
     }
 
+    /// How many grants of an admitted unit are wanted in all. No memory is taken.
+    pub fn wanted(&self, app: AppNo, unit: UnitNo) -> u32
+        requires { unit.0 < units_seen self.now.seen app.0 }
+        ensures { result ≡ asks_seen self.now.seen app.0 (want_key unit.0) }
+    {
+        self.wishes.wish(app, unit).want
+    }
+
+    /// Whether an admitted unit avoids the machine. One that the cluster does not have is not avoided. No memory is
+    /// taken.
+    pub fn avoids(&self, app: AppNo, unit: UnitNo, machine: MachineNo) -> bool
+        requires { unit.0 < units_seen self.now.seen app.0 }
+        ensures { result ≡ nat_lt 0 (asks_seen self.now.seen app.0 (avoid_key unit.0 machine.0)) }
+    {
+        self.wishes.avoids(app, unit, machine)
+    }
+
     /// The number that the next unit gets that begins to wait.
     pub fn turns(&self) -> u64
         ensures { result ≡ self.now.seen.turns }
@@ -261,9 +326,21 @@ impl Placer {
         &self.line
     }
 
+    /// The tree of the waiting pairs. In it exactly the pairs of the line wait, each with its priority and its turn, and
+    /// stand in the queue of each machine and rack where they ask for more than they have.
+    pub fn tree(&self, table: &GrantTable) -> &Tree
+        requires level { IsLevelWith self.now table.now }
+        requires up { IsUpToDate self.now.seen table.now }
+        ensures { TreeOf self.now.seen.cluster self.now.seen.cells self.now.seen.line self.now.kept.turn_of table.now.entries result.now }
+    {
+        &self.tree
+    }
+
     /// The placeable pair of first rank, taken as serving, and `None` exactly where none is placeable. The line
-    /// is up to date. The table may make that grant. Where none is placeable the placer is idle, and while it is
-    /// idle it looks at no pair and counts no step.
+    /// is up to date. The table may make that grant. At most one step is counted for each machine that was unsettled.
+    /// Where none is placeable the placer is idle and no machine is unsettled, and where the limit of its group then
+    /// allows each pair of the line one grant more, the placer is tight. While it is idle it looks at no pair and
+    /// counts no step.
     pub fn next<L: Ledger>(&mut self, table: &GrantTable, steps: &mut Steps<L>) -> Option<Pick>
         requires level { IsLevelWith self.old table.now }
         requires up { IsUpToDate self.old.seen table.now }
@@ -292,6 +369,7 @@ impl Placer {
         let Some(pick) = first(
             &self.wishes,
             &self.line,
+            &self.tree,
             &self.turn_of,
             self.turns,
             table,

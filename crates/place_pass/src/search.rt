@@ -1,6 +1,7 @@
 //! The search for the placeable pair of first rank. A machine is looked at only where its bound comes before the best
-//! pair so far; what is free there is then asked once. A unit that has its greatest number on a machine is passed there like one
-//! that does not fit.
+//! pair so far; what is free there is then asked once. Where it has a bound its path is walked to the first pair that may be placed
+//! there, and else the pairs that were appended since are looked at. A unit that has its greatest number on a machine is passed there
+//! like one that does not fit.
 
 ghost use Rattle.std.specs.Prelude.{◌≡◌, ℕ, ◌+◌, ◌-◌, ◌*◌, ◌<◌, ◌≤◌, ◌&&◌, ◌⊎◌, ◌≢◌, Option, List, true, false, IsTrue, [], ◌∷◌, ◌++◌, length, map, None, Some, slice_get, not, nat_eq, cond, IfSome};
 ghost use Rattle.std.proofs.Common.{get_or};
@@ -18,6 +19,7 @@ ghost use Rattle.place_pass.specs.Placers.{AreLevel, board_over};
 ghost use Rattle.place_pass.specs.Best.{spot_of, AreAdmitted};
 ghost use Rattle.place_pass.specs.Bounds.{rank_of, mark_of, mark_at, key_of, turn_at, Rises, IsBounded, is_bound, comes_before};
 ghost use Rattle.place_pass.specs.Counts.{is_unsettled_by, count_below};
+ghost use Rattle.place_pass.specs.Trees.{TreeOf};
 ghost use Rattle.place_pass.specs.Sights.{sight_rank, rank_with, found_rank, turn_in, IsSight, IsFound, IsLeast, AreBounded, is_first};
 
 use crate::line::Line;
@@ -25,6 +27,7 @@ use crate::marks::{Mark, Rank};
 use crate::wishes::Wishes;
 use cluster_desc::{Cluster, Group};
 use grant_table::{GrantTable, Pick, Steps};
+use locality_tree::Tree;
 use quota_group::allows;
 use res_vector::{Res, fits, zero};
 use schedule_unit::{AppNo, GroupNo, MachineNo, UnitNo};
@@ -269,8 +272,8 @@ pub(crate) fn slot(app: AppNo, unit: UnitNo) -> usize
     app.0 as usize * 8 + unit.0 as usize
 }
 
-// The turn of an admitted unit.
-fn turn_of_unit(wishes: &Wishes, turn_of: &[u64], app: AppNo, unit: UnitNo) -> u64
+/// The turn of an admitted unit.
+pub(crate) fn turn_of_unit(wishes: &Wishes, turn_of: &[u64], app: AppNo, unit: UnitNo) -> u64
     requires unit { unit.0 < length (get_or wishes.now.cells app.0 []) }
     requires places { length turn_of.now ≡ 2048 }
     ensures { result ≡ turn_in turn_of.now (app.0, unit.0) }
@@ -297,6 +300,40 @@ fn place_from(wishes: &Wishes, line: &Line, turn_of: &[u64], turn: u64) -> usize
     0
 }
 
+// Whether the machine takes the unit and has room for it, and the limit of its group allows it. Where it would fit and is not allowed
+// its group is noted.
+fn may_place(
+    wishes: &Wishes,
+    table: &GrantTable,
+    machine: MachineNo,
+    free: &Res,
+    app: AppNo,
+    unit: UnitNo,
+    groups: &mut [bool; 32],
+) -> bool
+    requires level { AreLevel wishes.now.cluster (job_at wishes.now.cells) table.now }
+    requires unit { unit.0 < length (get_or wishes.now.cells app.0 []) }
+    requires machine { machine.0 < length table.now.cluster.machines }
+    requires free { (i : ℕ) → at_place free.now.q i ≡ has_at table.now.cluster machine.0 i - total_at (as_known table.now.jobs) machine.0 i table.now.entries }
+    requires within { (i : ℕ) → total_at (as_known table.now.jobs) machine.0 i table.now.entries ≤ has_at table.now.cluster machine.0 i }
+    ensures fits { result ≡ true → (accepts_in (board_over wishes.now.cells wishes.now.opened table.now) table.now.entries app.0 unit.0 machine.0 && has_room_in table.now.cluster (board_over wishes.now.cells wishes.now.opened table.now).sizes table.now.entries app.0 unit.0 machine.0) ≡ true }
+    ensures allowed { result ≡ true → is_allowed_in table.now.cluster (board_over wishes.now.cells wishes.now.opened table.now).groups (board_over wishes.now.cells wishes.now.opened table.now).sizes table.now.entries app.0 unit.0 ≡ true }
+    ensures bounded { result ≡ false → (bound : Option (List ℕ)) (t : ℕ) → IsBounded (board_over wishes.now.cells wishes.now.opened table.now) table.now.entries bound groups.new t (app.0, unit.0) machine.0 }
+    ensures kept { (g : ℕ) → get_or groups.old g false ≡ true → get_or groups.new g false ≡ true }
+    ensures same { result ≡ true → groups.new ≡ groups.old }
+    ensures passed { (accepts_in (board_over wishes.now.cells wishes.now.opened table.now) table.now.entries app.0 unit.0 machine.0 && has_room_in table.now.cluster (board_over wishes.now.cells wishes.now.opened table.now).sizes table.now.entries app.0 unit.0 machine.0) ≡ false → groups.new ≡ groups.old }
+{
+    if !wishes.takes(table, free, app, unit, machine) {
+        return false;
+    }
+    if !wishes.allowed(table, app, unit) {
+        let group = wishes.group(table, app, unit);
+        groups[group.0 as usize] = true;
+        return false;
+    }
+    true
+}
+
 // The better of what was found before and of one unit, where it may be placed. Where it would fit and is not allowed its group
 // is noted.
 fn weigh(
@@ -318,7 +355,6 @@ fn weigh(
     requires within { (i : ℕ) → total_at (as_known table.now.jobs) machine.0 i table.now.entries ≤ has_at table.now.cluster machine.0 i }
     ensures here { IsBounded (board_over wishes.now.cells wishes.now.opened table.now) table.now.entries (sight_rank result) groups.new (turn_in turn_of.now (app.0, unit.0)) (app.0, unit.0) machine.0 }
     ensures kept { (q : ℕ × ℕ) (t : ℕ) → IsBounded (board_over wishes.now.cells wishes.now.opened table.now) table.now.entries (sight_rank before) groups.old t q machine.0 → IsBounded (board_over wishes.now.cells wishes.now.opened table.now) table.now.entries (sight_rank result) groups.new t q machine.0 }
-    ensures passed { (accepts_in (board_over wishes.now.cells wishes.now.opened table.now) table.now.entries app.0 unit.0 machine.0 && has_room_in table.now.cluster (board_over wishes.now.cells wishes.now.opened table.now).sizes table.now.entries app.0 unit.0 machine.0) ≡ false → groups.new ≡ groups.old }
     ensures sight { (line : List (ℕ × ℕ)) (place : ℕ) → slice_get line place ≡ Some (app.0, unit.0) → out_of (asks_in wishes.now.cells) table.now.entries app.0 unit.0 ≢ 0 → IfSome before (λ x. IsSight (board_over wishes.now.cells wishes.now.opened table.now) table.now.entries (turn_in turn_of.now) line machine.0 x) → IfSome result (λ x. IsSight (board_over wishes.now.cells wishes.now.opened table.now) table.now.entries (turn_in turn_of.now) line machine.0 x) }
 {
     let late = 9_u8.saturating_sub(wishes.wish(app, unit).priority);
@@ -328,19 +364,14 @@ fn weigh(
     if !may_be_nearer(&before, &rank) {
         return before;
     }
-    if !wishes.takes(table, free, app, unit, machine) {
-        return before;
-    }
-    if !wishes.allowed(table, app, unit) {
-        let group = wishes.group(table, app, unit);
-        groups[group.0 as usize] = true;
+    if !may_place(wishes, table, machine, free, app, unit, groups) {
         return before;
     }
     nearer(before, Sight { rank, app, unit })
 }
 
-// The best placeable pair on one machine among those from a place on.
-fn best_on(
+// The best placeable pair on one machine among those of the line from a place on.
+fn best_from(
     wishes: &Wishes,
     line: &Line,
     turn_of: &[u64],
@@ -371,27 +402,98 @@ fn best_on(
     best
 }
 
-// The place from which on the pairs are to be looked at: all of them, but where none was placeable those that were not
-// looked at.
-fn begin(
+// The best placeable pair on one machine: the first of its path that may be placed there, since the path has the pairs of the line
+// in the order of ranks. Of those before it that would fit and are not allowed the groups are noted.
+fn best_on(
     wishes: &Wishes,
     line: &Line,
+    tree: &Tree,
     turn_of: &[u64],
     table: &GrantTable,
     machine: MachineNo,
-    mark: &mut Mark,
-) -> usize
+    free: &Res,
+    groups: &mut [bool; 32],
+) -> Option<Sight>
+    requires level { AreLevel wishes.now.cluster (job_at wishes.now.cells) table.now }
+    requires machine { machine.0 < length table.now.cluster.machines }
     requires admitted { AreAdmitted wishes.now.cells line.now.pairs }
     requires places { length turn_of.now ≡ 2048 }
+    requires waits { (a u : ℕ) → has_pair (a, u) line.now.pairs ≡ true → out_of (asks_in wishes.now.cells) table.now.entries a u ≢ 0 }
+    requires tree { TreeOf wishes.now.cluster wishes.now.cells line.now.pairs turn_of.now table.now.entries tree.now }
+    requires free { (i : ℕ) → at_place free.now.q i ≡ has_at table.now.cluster machine.0 i - total_at (as_known table.now.jobs) machine.0 i table.now.entries }
+    requires within { (i : ℕ) → total_at (as_known table.now.jobs) machine.0 i table.now.entries ≤ has_at table.now.cluster machine.0 i }
+    ensures bounded { (q : ℕ × ℕ) → has_pair q line.now.pairs ≡ true → IsBounded (board_over wishes.now.cells wishes.now.opened table.now) table.now.entries (sight_rank result) groups.new (turn_in turn_of.now q) q machine.0 }
+    ensures sight { IfSome result (λ x. IsSight (board_over wishes.now.cells wishes.now.opened table.now) table.now.entries (turn_in turn_of.now) line.now.pairs machine.0 x) }
+{
+    let _table = table.cluster();
+    let mut path = tree.path(machine);
+    let mut left = line.len();
+    while left > 0 {
+        left -= 1;
+        let Some((entry, level)) = path.next() else {
+            return None;
+        };
+        let app = entry.app;
+        let unit = entry.unit;
+        if !may_place(wishes, table, machine, free, app, unit, groups) {
+            continue;
+        }
+        let late = 9_u8.saturating_sub(entry.priority);
+        let turn = turn_of_unit(wishes, turn_of, app, unit);
+        let rank = Rank { late, level, turn };
+        return Some(Sight { rank, app, unit });
+    }
+    None
+}
+
+// The best placeable pair on one machine: of all pairs of the line, and where none that was looked at is placeable, of the others.
+fn see(
+    wishes: &Wishes,
+    line: &Line,
+    tree: &Tree,
+    turn_of: &[u64],
+    table: &GrantTable,
+    machine: MachineNo,
+    free: &Res,
+    mark: &mut Mark,
+) -> Option<Sight>
+    requires level { AreLevel wishes.now.cluster (job_at wishes.now.cells) table.now }
+    requires machine { machine.0 < length table.now.cluster.machines }
+    requires admitted { AreAdmitted wishes.now.cells line.now.pairs }
+    requires places { length turn_of.now ≡ 2048 }
+    requires waits { (a u : ℕ) → has_pair (a, u) line.now.pairs ≡ true → out_of (asks_in wishes.now.cells) table.now.entries a u ≢ 0 }
     requires rises { Rises (turn_in turn_of.now) line.now.pairs }
+    requires tree { TreeOf wishes.now.cluster wishes.now.cells line.now.pairs turn_of.now table.now.entries tree.now }
+    requires free { (i : ℕ) → at_place free.now.q i ≡ has_at table.now.cluster machine.0 i - total_at (as_known table.now.jobs) machine.0 i table.now.entries }
+    requires within { (i : ℕ) → total_at (as_known table.now.jobs) machine.0 i table.now.entries ≤ has_at table.now.cluster machine.0 i }
     requires old { AreBounded (board_over wishes.now.cells wishes.now.opened table.now) table.now.entries (turn_in turn_of.now) line.now.pairs (mark_of mark.old) machine.0 }
-    ensures { (k : ℕ) (p : ℕ × ℕ) → k < result → slice_get line.now.pairs k ≡ Some p → IsBounded (board_over wishes.now.cells wishes.now.opened table.now) table.now.entries None mark.new.groups (turn_in turn_of.now p) p machine.0 }
+    ensures bounded { (k : ℕ) (p : ℕ × ℕ) → slice_get line.now.pairs k ≡ Some p → IsBounded (board_over wishes.now.cells wishes.now.opened table.now) table.now.entries (sight_rank result) mark.new.groups (turn_in turn_of.now p) p machine.0 }
+    ensures sight { IfSome result (λ x. IsSight (board_over wishes.now.cells wishes.now.opened table.now) table.now.entries (turn_in turn_of.now) line.now.pairs machine.0 x) }
 {
     if mark.bound.is_none() {
-        return place_from(wishes, line, turn_of, mark.until);
+        let from = place_from(wishes, line, turn_of, mark.until);
+        return best_from(
+            wishes,
+            line,
+            turn_of,
+            table,
+            machine,
+            free,
+            from,
+            &mut mark.groups,
+        );
     }
     mark.groups = [false; 32];
-    0
+    best_on(
+        wishes,
+        line,
+        tree,
+        turn_of,
+        table,
+        machine,
+        free,
+        &mut mark.groups,
+    )
 }
 
 // The rank of what is seen.
@@ -408,6 +510,7 @@ fn rank_in(best: &Option<Sight>) -> Option<Rank>
 fn look<L: Ledger>(
     wishes: &Wishes,
     line: &Line,
+    tree: &Tree,
     turn_of: &[u64],
     turns: u64,
     table: &GrantTable,
@@ -421,6 +524,7 @@ fn look<L: Ledger>(
     requires places { length turn_of.now ≡ 2048 }
     requires waits { (a u : ℕ) → has_pair (a, u) line.now.pairs ≡ true → out_of (asks_in wishes.now.cells) table.now.entries a u ≢ 0 }
     requires rises { Rises (turn_in turn_of.now) line.now.pairs }
+    requires tree { TreeOf wishes.now.cluster wishes.now.cells line.now.pairs turn_of.now table.now.entries tree.now }
     requires old { AreBounded (board_over wishes.now.cells wishes.now.opened table.now) table.now.entries (turn_in turn_of.now) line.now.pairs (mark_of mark.old) machine.0 }
     ensures bounded { (k : ℕ) (p : ℕ × ℕ) → slice_get line.now.pairs k ≡ Some p → IsBounded (board_over wishes.now.cells wishes.now.opened table.now) table.now.entries (sight_rank result) mark.new.groups (turn_in turn_of.now p) p machine.0 }
     ensures sight { IfSome result (λ x. IsSight (board_over wishes.now.cells wishes.now.opened table.now) table.now.entries (turn_in turn_of.now) line.now.pairs machine.0 x) }
@@ -429,17 +533,7 @@ fn look<L: Ledger>(
     ensures step { steps.new ≡ steps.old + 1 }
 {
     let free = table.free(machine, steps);
-    let from = begin(wishes, line, turn_of, table, machine, mark);
-    let best = best_on(
-        wishes,
-        line,
-        turn_of,
-        table,
-        machine,
-        &free,
-        from,
-        &mut mark.groups,
-    );
+    let best = see(wishes, line, tree, turn_of, table, machine, &free, mark);
     mark.bound = rank_in(&best);
     mark.until = turns;
     best
@@ -459,6 +553,7 @@ fn may_be_first(best: &Option<Found>, key: &Rank, machine: MachineNo) -> bool
 fn consider<L: Ledger>(
     wishes: &Wishes,
     line: &Line,
+    tree: &Tree,
     turn_of: &[u64],
     turns: u64,
     table: &GrantTable,
@@ -473,6 +568,7 @@ fn consider<L: Ledger>(
     requires places { length turn_of.now ≡ 2048 }
     requires waits { (a u : ℕ) → has_pair (a, u) line.now.pairs ≡ true → out_of (asks_in wishes.now.cells) table.now.entries a u ≢ 0 }
     requires rises { Rises (turn_in turn_of.now) line.now.pairs }
+    requires tree { TreeOf wishes.now.cluster wishes.now.cells line.now.pairs turn_of.now table.now.entries tree.now }
     requires below { (q : ℕ × ℕ) → has_pair q line.now.pairs ≡ true → turn_in turn_of.now q < turns }
     requires old { get_or wishes.now.opened machine.0 false ≡ true → AreBounded (board_over wishes.now.cells wishes.now.opened table.now) table.now.entries (turn_in turn_of.now) line.now.pairs (mark_of mark.old) machine.0 }
     requires until { get_or wishes.now.opened machine.0 false ≡ true → mark.old.until ≤ turns }
@@ -494,7 +590,9 @@ fn consider<L: Ledger>(
     if !may_be_first(&before, &key, machine) {
         return before;
     }
-    match look(wishes, line, turn_of, turns, table, machine, mark, steps) {
+    match look(
+        wishes, line, tree, turn_of, turns, table, machine, mark, steps,
+    ) {
         Some(sight) => {
             let pick = Pick {
                 app: sight.app,
@@ -517,6 +615,7 @@ fn consider<L: Ledger>(
 fn consider_at<L: Ledger>(
     wishes: &Wishes,
     line: &Line,
+    tree: &Tree,
     turn_of: &[u64],
     turns: u64,
     table: &GrantTable,
@@ -531,6 +630,7 @@ fn consider_at<L: Ledger>(
     requires places { length turn_of.now ≡ 2048 }
     requires waits { (a u : ℕ) → has_pair (a, u) line.now.pairs ≡ true → out_of (asks_in wishes.now.cells) table.now.entries a u ≢ 0 }
     requires rises { Rises (turn_in turn_of.now) line.now.pairs }
+    requires tree { TreeOf wishes.now.cluster wishes.now.cells line.now.pairs turn_of.now table.now.entries tree.now }
     requires below { (q : ℕ × ℕ) → has_pair q line.now.pairs ≡ true → turn_in turn_of.now q < turns }
     requires marked { length marks.old.items ≡ length table.now.cluster.machines }
     requires old { (m : ℕ) → get_or wishes.now.opened m false ≡ true → AreBounded (board_over wishes.now.cells wishes.now.opened table.now) table.now.entries (turn_in turn_of.now) line.now.pairs (mark_at (map mark_of marks.old.items) m) m }
@@ -548,7 +648,7 @@ fn consider_at<L: Ledger>(
 {
     let mark = &mut marks[machine.0 as usize];
     consider(
-        wishes, line, turn_of, turns, table, machine, mark, steps, before,
+        wishes, line, tree, turn_of, turns, table, machine, mark, steps, before,
     )
 }
 
@@ -587,6 +687,7 @@ fn least_machine(wishes: &Wishes, marks: &Vec<Mark>, machines: u32, turns: u64) 
 fn best_of_others<L: Ledger>(
     wishes: &Wishes,
     line: &Line,
+    tree: &Tree,
     turn_of: &[u64],
     turns: u64,
     table: &GrantTable,
@@ -600,6 +701,7 @@ fn best_of_others<L: Ledger>(
     requires places { length turn_of.now ≡ 2048 }
     requires waits { (a u : ℕ) → has_pair (a, u) line.now.pairs ≡ true → out_of (asks_in wishes.now.cells) table.now.entries a u ≢ 0 }
     requires rises { Rises (turn_in turn_of.now) line.now.pairs }
+    requires tree { TreeOf wishes.now.cluster wishes.now.cells line.now.pairs turn_of.now table.now.entries tree.now }
     requires below { (q : ℕ × ℕ) → has_pair q line.now.pairs ≡ true → turn_in turn_of.now q < turns }
     requires marked { length marks.old.items ≡ length table.now.cluster.machines }
     requires old { (m : ℕ) → get_or wishes.now.opened m false ≡ true → AreBounded (board_over wishes.now.cells wishes.now.opened table.now) table.now.entries (turn_in turn_of.now) line.now.pairs (mark_at (map mark_of marks.old.items) m) m }
@@ -622,6 +724,7 @@ fn best_of_others<L: Ledger>(
         best = consider_at(
             wishes,
             line,
+            tree,
             turn_of,
             turns,
             table,
@@ -639,6 +742,7 @@ fn best_of_others<L: Ledger>(
 pub(crate) fn first<L: Ledger>(
     wishes: &Wishes,
     line: &Line,
+    tree: &Tree,
     turn_of: &[u64],
     turns: u64,
     table: &GrantTable,
@@ -650,6 +754,7 @@ pub(crate) fn first<L: Ledger>(
     requires places { length turn_of.now ≡ 2048 }
     requires waits { (a u : ℕ) → has_pair (a, u) line.now.pairs ≡ true → out_of (asks_in wishes.now.cells) table.now.entries a u ≢ 0 }
     requires rises { Rises (turn_in turn_of.now) line.now.pairs }
+    requires tree { TreeOf wishes.now.cluster wishes.now.cells line.now.pairs turn_of.now table.now.entries tree.now }
     requires below { (q : ℕ × ℕ) → has_pair q line.now.pairs ≡ true → turn_in turn_of.now q < turns }
     requires marked { length marks.old.items ≡ length table.now.cluster.machines }
     requires old { (m : ℕ) → get_or wishes.now.opened m false ≡ true → AreBounded (board_over wishes.now.cells wishes.now.opened table.now) table.now.entries (turn_in turn_of.now) line.now.pairs (mark_at (map mark_of marks.old.items) m) m }
@@ -667,10 +772,10 @@ pub(crate) fn first<L: Ledger>(
         return None;
     }
     let best = consider_at(
-        wishes, line, turn_of, turns, table, start, marks, steps, None,
+        wishes, line, tree, turn_of, turns, table, start, marks, steps, None,
     );
     match best_of_others(
-        wishes, line, turn_of, turns, table, start, marks, steps, best,
+        wishes, line, tree, turn_of, turns, table, start, marks, steps, best,
     ) {
         Some(found) => Some(found.pick),
         None => None,

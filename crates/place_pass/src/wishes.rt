@@ -1,11 +1,13 @@
 //! What the admitted units are and what is asked of them, by job number and unit, and the machines that are open.
 
-ghost use Rattle.std.specs.Prelude.{◌≡◌, ℕ, ◌+◌, ◌<◌, ◌≤◌, ◌&&◌, nat_eq, nat_lt, cond, List, [], length, map, replicate, IfOk};
+ghost use Rattle.std.specs.Prelude.{◌≡◌, ℕ, ◌+◌, ◌<◌, ◌≤◌, ◌&&◌, false, nat_eq, nat_lt, cond, List, [], length, map, replicate, IfOk};
 ghost use Rattle.std.proofs.Common.{get_or};
 ghost use Rattle.fuxi_terms.specs.Keys.{key_cmp};
 ghost use Rattle.fuxi_terms.specs.Counts.{count};
 ghost use Rattle.fuxi_terms.specs.Cluster.{has_rack};
 ghost use Rattle.fuxi_terms.specs.TallyKeys.{key, rack_key};
+ghost use Rattle.std.specs.Ordering.{is_lt};
+ghost use Rattle.place_pass.specs.Walks.{IsPast};
 ghost use Rattle.place_pass.specs.Cells.{Cell, cell_of, cells_in, cells_of, cell_at, no_cell, fresh_cells, numbers_at, racks_at, taken, taken_all, any_gone, asks_more, any_more};
 
 use cluster_desc::Cluster;
@@ -56,9 +58,10 @@ impl Model for Wishes {
 }
 
 impl Wishes {
-    ghost use Rattle.std.specs.Prelude.{◌≡◌, ℕ, ◌<◌, ◌≤◌, ◌&&◌, nat_lt, true, false, List, [], length, set, replicate, IfOk, OnOk, OnErr};
+    ghost use Rattle.std.specs.Prelude.{◌≡◌, ℕ, ◌<◌, ◌≤◌, ◌&&◌, nat_lt, true, false, List, [], length, set, replicate, IfOk};
     ghost use Rattle.std.proofs.Common.{get_or};
-    ghost use Rattle.place_pass.specs.Cells.{WishesRecord, AreWishes, Lifts, AvoidsStill, cell_of, cell_at, fresh_cells, taken_all, any_more};
+    ghost use Rattle.fuxi_terms.specs.TallyKeys.{avoid_key};
+    ghost use Rattle.place_pass.specs.Cells.{WishesRecord, AreWishes, Lifts, AvoidsStill, asks_in, cell_of, cell_at, cells_in, fresh_cells, taken_all, any_more};
     ghost use Rattle.place_pass.specs.Placers.{is_open_to};
 
     /// No unit, and no open machine.
@@ -81,15 +84,12 @@ impl Wishes {
         &self.cluster
     }
 
-    /// A job more, of which nothing is asked.
-    pub(crate) fn admit(&mut self, alloc: Global, job: &Job) -> Result<(), OutOfMemory>
-        ensures ok { OnOk result (self.new ≡ record self.old { cells = set self.old.cells job.now.number (fresh_cells job.now.group (length self.old.cluster.machines) job.now.units) }) }
-        ensures err { OnErr result (self.new ≡ self.old) }
+    /// A job more, of whose units nothing is asked.
+    pub(crate) fn add_job(&mut self, job: &Job, units: Vec<Wish>)
+        requires { cells_in units ≡ fresh_cells job.now.group (length self.old.cluster.machines) job.now.units }
+        ensures { self.new ≡ record self.old { cells = set self.old.cells job.now.number (fresh_cells job.now.group (length self.old.cluster.machines) job.now.units) } }
     {
-        let machines = self.cluster.machines() as usize;
-        let units = fresh_units(alloc, job, machines)?;
         self.slots[job.app().0 as usize] = units;
-        Ok(())
     }
 
     /// The demand of a job is now this one. True where one of its units wants more, or no longer
@@ -131,6 +131,19 @@ impl Wishes {
         } else {
             0
         }
+    }
+
+    /// Whether an admitted unit avoids the machine.
+    pub(crate) fn avoids(&self, app: AppNo, unit: UnitNo, machine: MachineNo) -> bool
+        requires { unit.0 < length (get_or self.now.cells app.0 []) }
+        ensures { result ≡ nat_lt 0 (asks_in self.now.cells app.0 (avoid_key unit.0 machine.0)) }
+    {
+        let avoided = &self.wish(app, unit).avoided;
+        let number = machine.0 as usize;
+        if number >= avoided.len() {
+            return false;
+        }
+        avoided[number] > 0
     }
 
     /// Whether there is such a unit and machine, the machine is open, and the unit does not avoid it.
@@ -183,8 +196,12 @@ fn wish_at(slots: &[Vec<Wish>], app: usize, unit: usize) -> &Wish
     &units[unit]
 }
 
-// The units of a new job, of which nothing is asked.
-fn fresh_units(alloc: Global, job: &Job, machines: usize) -> Result<Vec<Wish>, OutOfMemory>
+/// The units of a new job, of which nothing is asked.
+pub(crate) fn fresh_units(
+    alloc: Global,
+    job: &Job,
+    machines: usize,
+) -> Result<Vec<Wish>, OutOfMemory>
     ensures { IfOk result (λ units. cells_in units ≡ fresh_cells job.now.group machines job.now.units) }
 {
     let group = job.group();
@@ -274,6 +291,41 @@ fn is_gone(before: u32, now: u32) -> bool
     before > 0 && now == 0
 }
 
+// The place behind the entries that stand before the key, of which some were passed.
+fn place_of(entries: &[(Key, u64)], from: usize, sought: &Key) -> usize
+    requires past { IsPast entries.now from sought.now }
+    ensures past { IsPast entries.now result sought.now }
+    ensures there { result < length entries.now → is_lt (key_cmp (get_or entries.now result (key 0 0 0, 0)).0 sought.now) ≡ false }
+{
+    for place in from..entries.len() {
+        if entries[place].0.order(sought).is_ge() {
+            return place;
+        }
+    }
+    entries.len().max(from)
+}
+
+// What a demand has at a key that is not given back, in a walk that has passed some of the entries before it.
+fn next_number(demand: &Demand, passed: &mut usize, sought: &Key) -> u32
+    requires kind { sought.now.what < 5 }
+    requires past { IsPast demand.now.entries passed.old sought.now }
+    ensures number { result ≡ count key_cmp demand.now.entries sought.now }
+    ensures past { IsPast demand.now.entries passed.new sought.now }
+{
+    let entries = demand.entries();
+    let place = place_of(entries, *passed, sought);
+    *passed = place;
+    if place >= entries.len() {
+        return 0;
+    }
+    let (found, number) = entries[place];
+    if found.order(sought).is_eq() {
+        number as u32
+    } else {
+        0
+    }
+}
+
 // What a demand has of a kind at each machine. True where it has nothing at one that had a number.
 fn read_numbers(numbers: &mut Vec<u32>, machines: u32, demand: &Demand, what: u8, unit: u8) -> bool
     requires what { what < 5 }
@@ -281,10 +333,16 @@ fn read_numbers(numbers: &mut Vec<u32>, machines: u32, demand: &Demand, what: u8
     ensures numbers { numbers.new.items ≡ numbers_at demand.now.entries what unit machines }
     ensures gone { result ≡ any_gone demand.now.entries what unit numbers.old.items machines }
 {
+    let mut passed = 0;
     let mut gone = false;
     for machine in 0..machines {
         let place = machine as usize;
-        let number = number_at(demand, what, unit, machine);
+        let key = Key {
+            what,
+            unit,
+            number: machine,
+        };
+        let number = next_number(demand, &mut passed, &key);
         let one = is_gone(numbers[place], number);
         gone |= one;
         numbers[place] = number;
@@ -297,10 +355,16 @@ fn read_racks(racks: &mut Vec<u32>, cluster: &Cluster, demand: &Demand, unit: u8
     requires { length racks.old.items ≡ 64 }
     ensures { racks.new.items ≡ racks_at cluster.now demand.now.entries unit }
 {
+    let mut passed = 0;
     for number in 0..64_u32 {
-        let there = cluster.has_rack(RackNo(number));
-        racks[number as usize] = if there {
-            number_at(demand, RACK, unit, number)
+        let key = Key {
+            what: RACK,
+            unit,
+            number,
+        };
+        let wanted = next_number(demand, &mut passed, &key);
+        racks[number as usize] = if wanted > 0 && cluster.has_rack(RackNo(number)) {
+            wanted
         } else {
             0
         };

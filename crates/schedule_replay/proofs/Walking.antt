@@ -35,6 +35,7 @@ numbered_good w n g = record {
   rests = g.rests;
   recorded = record { masters = g.recorded.masters; agents = g.recorded.agents; apps = g.recorded.apps; below = g.recorded.below; net = g.recorded.net };
   knows = g.knows;
+  given = g.given;
 }
 
 pub numbered_is : (w : World) (n : ℕ) → IsWorld w → IsWorld (numbered w n)

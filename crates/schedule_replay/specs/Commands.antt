@@ -77,7 +77,7 @@ governing checkpoint masters = record { checkpoint = checkpoint; masters = maste
 abbrev pub GovernsMasters : ℕ → (World → Step) → MastersRecord → MastersRecord → Option Refusal → Type 0
 GovernsMasters e step old new answer = (checkpoint : Held) → Governs e step (governing checkpoint old) (governing checkpoint new) answer
 
--- the machines of a judgement are some of those that have votes, which are not more than a cluster has, and not more than records are written
+-- the machines of a judgement are among those with votes, which are no more than a cluster may have, and no more than records may be written
 pub record MayBan (j : Judgement) : Type 0 where
   pub there : All (λ m. m < length j.votes.votes) (map number_of j.machines.items)
   pub votes : length j.votes.votes ≤ most_machines

@@ -163,43 +163,6 @@ pub(crate) fn ban(
     tell(alloc, masters, epoch, MasterEvent::Ban(machine))
 }
 
-/// The machines that a judgement bans, in its order, with the votes that were counted.
-#[derive(Drop)]
-pub(crate) struct Judgement {
-    pub(crate) votes: Votes,
-    pub(crate) machines: Vec<MachineNo>,
-}
-
-/// The judgement of the master of an epoch, or why it is refused. Nothing changes.
-pub(crate) fn judged(
-    alloc: Global,
-    checkpoint: &Checkpoint,
-    masters: &Masters,
-    epoch: u64,
-    least: u32,
-    percent: u32,
-) -> Result<Result<Judgement, Refusal>, OutOfMemory>
-    requires { percent ≤ 100 }
-    ensures { IfOk result (Decides epoch least percent (governing checkpoint.now masters.now)) }
-{
-    judges();
-    let Some(master) = masters.get(epoch) else {
-        return Ok(Err(Refusal::NotRunning));
-    };
-    let hard = checkpoint.hard();
-    let fence = hard.fence();
-    if epoch < fence {
-        return Ok(Err(Refusal::Fenced(fence)));
-    }
-    let votes = master.votes(alloc)?;
-    let machines = votes.judge(alloc, least, percent)?;
-    let left = MOST_RECORDS - hard.records() as u64;
-    if machines.len() as u64 > left {
-        return Ok(Err(Refusal::HardFull(MOST_RECORDS)));
-    }
-    Ok(Ok(Judgement { votes, machines }))
-}
-
 /// The ban of a machine is lifted by the master of an epoch.
 pub(crate) fn unban(
     alloc: Global,
@@ -257,6 +220,43 @@ pub(crate) fn preempt(
         return Ok(Some(Refusal::NotRunning));
     }
     tell(alloc, masters, epoch, MasterEvent::Preempt)
+}
+
+/// The machines that a judgement bans, in its order, with the votes that were counted.
+#[derive(Drop)]
+pub(crate) struct Judgement {
+    pub(crate) votes: Votes,
+    pub(crate) machines: Vec<MachineNo>,
+}
+
+/// The judgement of the master of an epoch, or why it is refused. Nothing changes.
+pub(crate) fn judged(
+    alloc: Global,
+    checkpoint: &Checkpoint,
+    masters: &Masters,
+    epoch: u64,
+    least: u32,
+    percent: u32,
+) -> Result<Result<Judgement, Refusal>, OutOfMemory>
+    requires { percent ≤ 100 }
+    ensures { IfOk result (Decides epoch least percent (governing checkpoint.now masters.now)) }
+{
+    judges();
+    let Some(master) = masters.get(epoch) else {
+        return Ok(Err(Refusal::NotRunning));
+    };
+    let hard = checkpoint.hard();
+    let fence = hard.fence();
+    if epoch < fence {
+        return Ok(Err(Refusal::Fenced(fence)));
+    }
+    let votes = master.votes(alloc)?;
+    let machines = votes.judge(alloc, least, percent)?;
+    let left = MOST_RECORDS - hard.records() as u64;
+    if machines.len() as u64 > left {
+        return Ok(Err(Refusal::HardFull(MOST_RECORDS)));
+    }
+    Ok(Ok(Judgement { votes, machines }))
 }
 
 /// The master of an epoch forgets what its peers have acknowledged.

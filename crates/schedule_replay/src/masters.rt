@@ -133,6 +133,67 @@ pub(crate) fn ban_machine(
     }
 }
 
+// The master of an epoch lifts the ban of a machine.
+pub(crate) fn unban_machine(
+    running: &mut Running,
+    alloc: Global,
+    epoch: u64,
+    machine: MachineNo,
+    out: &mut Vec<u8>,
+) -> Result<(), WorldStop>
+    requires can { CanMove running.old }
+    ensures { Acts (λ w. commanded w epoch (UnbansMachine machine.0)) running.old running.new out.old.items out.new.items result }
+{
+    masters_act();
+    cores_may_step();
+    let Running {
+        cluster,
+        checkpoint,
+        masters,
+        ..
+    } = running;
+    match commands::unban(alloc, cluster, checkpoint, masters, epoch, machine) {
+        Ok(refusal) => write_refusal(refusal, out),
+        Err(_) => Err(WorldStop::OutOfMemory),
+    }
+}
+
+// The master of an epoch serves from now on.
+pub(crate) fn begin(
+    running: &mut Running,
+    alloc: Global,
+    epoch: u64,
+    out: &mut Vec<u8>,
+) -> Result<(), WorldStop>
+    requires can { CanMove running.old }
+    ensures { Acts (λ w. commanded w epoch StartsServing) running.old running.new out.old.items out.new.items result }
+{
+    masters_act();
+    cores_may_step();
+    match commands::begin(alloc, &mut running.masters, epoch) {
+        Ok(refusal) => write_refusal(refusal, out),
+        Err(_) => Err(WorldStop::OutOfMemory),
+    }
+}
+
+// The master of an epoch makes room for a unit that waits.
+pub(crate) fn preempt(
+    running: &mut Running,
+    alloc: Global,
+    epoch: u64,
+    out: &mut Vec<u8>,
+) -> Result<(), WorldStop>
+    requires can { CanMove running.old }
+    ensures { Acts (λ w. commanded w epoch MakesRoom) running.old running.new out.old.items out.new.items result }
+{
+    masters_act();
+    cores_may_step();
+    match commands::preempt(alloc, &mut running.masters, epoch) {
+        Ok(refusal) => write_refusal(refusal, out),
+        Err(_) => Err(WorldStop::OutOfMemory),
+    }
+}
+
 // A machine that is judged is banned by the master of an epoch, and printed with the votes for it.
 fn ban_one(
     running: &mut Running,
@@ -211,67 +272,6 @@ pub(crate) fn judge(
     ) {
         Ok(Ok(judgement)) => ban_each(running, alloc, epoch, &judgement, out),
         Ok(Err(refusal)) => write_refusal(Some(refusal), out),
-        Err(_) => Err(WorldStop::OutOfMemory),
-    }
-}
-
-// The master of an epoch lifts the ban of a machine.
-pub(crate) fn unban_machine(
-    running: &mut Running,
-    alloc: Global,
-    epoch: u64,
-    machine: MachineNo,
-    out: &mut Vec<u8>,
-) -> Result<(), WorldStop>
-    requires can { CanMove running.old }
-    ensures { Acts (λ w. commanded w epoch (UnbansMachine machine.0)) running.old running.new out.old.items out.new.items result }
-{
-    masters_act();
-    cores_may_step();
-    let Running {
-        cluster,
-        checkpoint,
-        masters,
-        ..
-    } = running;
-    match commands::unban(alloc, cluster, checkpoint, masters, epoch, machine) {
-        Ok(refusal) => write_refusal(refusal, out),
-        Err(_) => Err(WorldStop::OutOfMemory),
-    }
-}
-
-// The master of an epoch serves from now on.
-pub(crate) fn begin(
-    running: &mut Running,
-    alloc: Global,
-    epoch: u64,
-    out: &mut Vec<u8>,
-) -> Result<(), WorldStop>
-    requires can { CanMove running.old }
-    ensures { Acts (λ w. commanded w epoch StartsServing) running.old running.new out.old.items out.new.items result }
-{
-    masters_act();
-    cores_may_step();
-    match commands::begin(alloc, &mut running.masters, epoch) {
-        Ok(refusal) => write_refusal(refusal, out),
-        Err(_) => Err(WorldStop::OutOfMemory),
-    }
-}
-
-// The master of an epoch makes room for a unit that waits.
-pub(crate) fn preempt(
-    running: &mut Running,
-    alloc: Global,
-    epoch: u64,
-    out: &mut Vec<u8>,
-) -> Result<(), WorldStop>
-    requires can { CanMove running.old }
-    ensures { Acts (λ w. commanded w epoch MakesRoom) running.old running.new out.old.items out.new.items result }
-{
-    masters_act();
-    cores_may_step();
-    match commands::preempt(alloc, &mut running.masters, epoch) {
-        Ok(refusal) => write_refusal(refusal, out),
         Err(_) => Err(WorldStop::OutOfMemory),
     }
 }

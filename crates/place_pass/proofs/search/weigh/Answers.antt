@@ -1,4 +1,4 @@
-use Rattle.std.proofs.Common.{◌≡◌, ℕ, ◌-◌, true, nat_lt, Some, [], ◌∷◌, false, sym, ◌∙◌, ap, subst, arith}
+use Rattle.std.proofs.Common.{◌≡◌, ℕ, ◌-◌, true, nat_lt, Some, [], ◌∷◌, sym, ◌∙◌, ap, subst, arith}
 use Rattle.std.proofs.lemmas.Bool.Decides.{nat_tests}
 use Rattle.fuxi_terms.specs.Cluster.{UnitRecord}
 use Rattle.fuxi_terms.specs.Jobs.{priority_of}
@@ -9,14 +9,17 @@ use Rattle.place_pass.specs.Cells.{Cell, asks_in}
 use Rattle.place_pass.specs.Placers.{board_over}
 use Rattle.place_pass.specs.Bounds.{rank_at, is_bound}
 use Rattle.place_pass.specs.Sights.{sight_rank, turn_in, IsSight}
-use Rattle.place_pass.proofs.SightsLemmas.{bounded_wider, bounded_by, still_noted, self_bound, one_of}
+use Rattle.place_pass.proofs.SightsLemmas.{bounded_wider, bounded_by, self_bound, one_of}
 use Rattle.place_pass.proofs.Matching.{unit_is}
 use Rattle.place_pass.proofs.search.weigh.Goals as goal
 
-pub returns-then-not-allowed-clause-kept : goal.returns-then-not-allowed-clause-kept
-returns-then-not-allowed-clause-kept c q t h =
+pub returns-then-not-may_place-clause-here : goal.returns-then-not-may_place-clause-here
+returns-then-not-may_place-clause-here c = c.may_place.ensures.bounded c.if-not-may_place.true (sight_rank c.args.before) (turn_in c.args.turn_of.now (c.args.app.0, c.args.unit.0))
+
+pub returns-then-not-may_place-clause-kept : goal.returns-then-not-may_place-clause-kept
+returns-then-not-may_place-clause-kept c q t h =
     let b = board_over c.args.wishes.now.cells c.args.wishes.now.opened c.args.table.now in
-    bounded_wider b c.args.table.now.entries (sight_rank c.args.before) (sight_rank c.args.before) c.args.groups.now _ t q c.args.machine.0 (λ r e. e) (still_noted c.args.groups.now c.group-group.result.0 (b.groups q.0)) h
+    bounded_wider b c.args.table.now.entries (sight_rank c.args.before) (sight_rank c.args.before) c.args.groups.now c.may_place.new.groups t q c.args.machine.0 (λ r e. e) (c.may_place.ensures.kept (b.groups q.0)) h
 
 rank_is : (c : goal.After-nearer) → (c.saturating_sub-late.result ∷ c.level-level.result ∷ c.turn_of_unit-turn.result ∷ []) ≡ rank_at (board_over c.args.wishes.now.cells c.args.wishes.now.opened c.args.table.now) c.args.table.now.entries (turn_in c.args.turn_of.now (c.args.app.0, c.args.unit.0)) (c.args.app.0, c.args.unit.0) c.args.machine.0
 rank_is c =
@@ -36,12 +39,12 @@ returns-clause-here c =
     let b = board_over c.args.wishes.now.cells c.args.wishes.now.opened c.args.table.now in
     let p : ℕ × ℕ = (c.args.app.0, c.args.unit.0) in
     let r = rank_at b c.args.table.now.entries (turn_in c.args.turn_of.now p) p c.args.machine.0 in
-    bounded_by b c.args.table.now.entries (sight_rank c.nearer.result) c.args.groups.now (turn_in c.args.turn_of.now p) p c.args.machine.0 (c.nearer.ensures.itself r (subst (λ x. is_bound (Some x) r ≡ true) (sym (rank_is c)) (self_bound r)))
+    bounded_by b c.args.table.now.entries (sight_rank c.nearer.result) c.may_place.new.groups (turn_in c.args.turn_of.now p) p c.args.machine.0 (c.nearer.ensures.itself r (subst (λ x. is_bound (Some x) r ≡ true) (sym (rank_is c)) (self_bound r)))
 
 pub returns-clause-kept : goal.returns-clause-kept
 returns-clause-kept c q t h =
     let b = board_over c.args.wishes.now.cells c.args.wishes.now.opened c.args.table.now in
-    bounded_wider b c.args.table.now.entries (sight_rank c.args.before) (sight_rank c.nearer.result) c.args.groups.now c.args.groups.now t q c.args.machine.0 c.nearer.ensures.kept (λ e. e) h
+    bounded_wider b c.args.table.now.entries (sight_rank c.args.before) (sight_rank c.nearer.result) c.args.groups.now c.may_place.new.groups t q c.args.machine.0 c.nearer.ensures.kept (c.may_place.ensures.kept (b.groups q.0)) h
 
 pub returns-clause-sight : goal.returns-clause-sight
 returns-clause-sight c line place at some before =
@@ -51,9 +54,6 @@ returns-clause-sight c line place at some before =
     one_of (IsSight b es (turn_in c.args.turn_of.now) line c.args.machine.0) c.nearer.result c.args.before _ c.nearer.ensures.one (record {
       place = place;
       at = at;
-      placeable = and_true _ _ (and_true (nat_lt 0 (out_of (asks_in c.args.wishes.now.cells) es c.args.app.0 c.args.unit.0)) _ out (sym c.allowed.ensures ∙ c.if-not-allowed.false)) (sym c.takes.ensures ∙ c.if-not-takes.false);
+      placeable = and_true _ _ (and_true (nat_lt 0 (out_of (asks_in c.args.wishes.now.cells) es c.args.app.0 c.args.unit.0)) _ out (c.may_place.ensures.allowed c.if-not-may_place.false)) (c.may_place.ensures.fits c.if-not-may_place.false);
       rank = rank_is c;
     }) before
-
-pub returns-then-not-allowed-clause-passed : goal.returns-then-not-allowed-clause-passed
-returns-then-not-allowed-clause-passed c out = let f : false ≡ true = sym out ∙ sym c.takes.ensures ∙ c.if-not-takes.false in cc

@@ -1,10 +1,12 @@
-use Rattle.std.proofs.Common.{ℕ, ◌<◌, sym, ◌∙◌, arith}
-use Rattle.std.proofs.lemmas.List.{ext_get_or}
+use Rattle.std.proofs.Common.{rules, ◌≡◌, get_or, ap, ℕ, ◌<◌, sym, ◌∙◌, arith}
+use Rattle.std.proofs.lemmas.List.{ext_get_or, get_or_read}
 use Rattle.fuxi_terms.specs.Keys.{key_cmp}
 use Rattle.fuxi_terms.specs.Counts.{count}
 use Rattle.fuxi_terms.specs.TallyKeys.{key}
-use Rattle.place_pass.specs.Cells.{numbers_at}
+use Rattle.std.specs.Prelude.{◌||◌}
+use Rattle.place_pass.specs.Cells.{any_gone, is_gone, numbers_at}
 use Rattle.place_pass.proofs.Places.{counted_at, counted_long}
+use Rattle.place_pass.proofs.WalksLemmas.{later_past, one_more}
 use Rattle.place_pass.proofs.wishes.read_numbers.Goals as goal
 
 pub returns-clause-numbers : goal.returns-clause-numbers
@@ -16,3 +18,18 @@ returns-clause-numbers c =
     let end = c.loop-machine-test.false in
     ext_get_or 0 c.loop-machine.numbers.items (numbers_at c.args.demand.now.entries c.args.what c.args.unit c.args.machines) (omega (arith, n, long, all))
     (λ i lt. let l : i < c.args.machines = omega (arith, lt, n, long) in c.loop-machine.invariant.done i (omega (arith, l, end)) ∙ sym (counted_at f c.args.machines i l))
+
+pub loop-machine-preserved : goal.loop-machine-preserved
+loop-machine-preserved c = record {
+  long = search rules;
+  left = search rules;
+  gone =
+      let es = c.args.demand.now.entries in
+      let was = λ (m : ℕ). is_gone (get_or c.args.numbers.now.items m 0) (count key_cmp es (key c.args.what c.args.unit m)) in
+      let here : c.index.result.now ≡ get_or c.args.numbers.now.items c.loop-machine.machine 0 = let long = c.loop-machine.invariant.long in let all = c.requires.long in let t = c.loop-machine-test.true in get_or_read c.loop-machine.numbers.items c.loop-machine.machine c.index.result.now (omega (arith, long, all, t)) c.index.ensures 0 ∙ c.loop-machine.invariant.left c.loop-machine.machine (omega arith) in
+      ap (λ b. b || c.is_gone-one.result) c.loop-machine.invariant.gone
+      ∙ ap (λ b. any_gone es c.args.what c.args.unit c.args.numbers.now.items c.loop-machine.machine || b) (c.is_gone-one.ensures ∙ (λ i. is_gone (here i) (c.next_number-number.ensures.number i)))
+      ∙ sym (one_more was c.loop-machine.machine);
+  done = search rules;
+  past = later_past c.args.demand.now.entries c.next_number-number.new.passed c.args.what c.args.unit c.loop-machine.machine c.next_number-number.ensures.past;
+}

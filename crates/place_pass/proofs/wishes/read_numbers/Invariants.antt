@@ -3,6 +3,7 @@ use Rattle.fuxi_terms.specs.Keys.{key_cmp}
 use Rattle.fuxi_terms.specs.Counts.{count}
 use Rattle.fuxi_terms.specs.TallyKeys.{key}
 use Rattle.place_pass.specs.Cells.{any_gone}
+use Rattle.place_pass.specs.Walks.{IsPast}
 use Rattle.place_pass.proofs.wishes.read_numbers.Given as goal
 
 abbrev pub invariant-loop-machine : goal.invariant-loop-machine
@@ -11,4 +12,5 @@ invariant-loop-machine l = record {
   left : (k : ℕ) → l.machine ≤ k → get_or l.numbers.items k 0 ≡ get_or l.initial.numbers.items k 0;
   gone : l.gone ≡ any_gone l.demand.entries l.what l.unit l.initial.numbers.items l.machine;
   done : (k : ℕ) → k < l.machine → get_or l.numbers.items k 0 ≡ count key_cmp l.demand.entries (key l.what l.unit k);
+  past : IsPast l.demand.entries l.passed (key l.what l.unit l.machine);
 }

@@ -3,10 +3,12 @@ use Rattle.fuxi_terms.specs.Cluster.{has_rack}
 use Rattle.fuxi_terms.specs.Keys.{key_cmp}
 use Rattle.fuxi_terms.specs.Counts.{count}
 use Rattle.fuxi_terms.specs.TallyKeys.{rack_key}
+use Rattle.place_pass.specs.Walks.{IsPast}
 use Rattle.place_pass.proofs.wishes.read_racks.Given as goal
 
 abbrev pub invariant-loop-number : goal.invariant-loop-number
 invariant-loop-number l = record {
   long : length l.racks.items ≡ 64;
   done : (k : ℕ) → k < l.number → get_or l.racks.items k 0 ≡ cond (has_rack l.cluster k) (count key_cmp l.demand.entries (rack_key l.unit k)) 0;
+  past : IsPast l.demand.entries l.passed (rack_key l.unit l.number);
 }

@@ -1,9 +1,16 @@
-use Rattle.std.proofs.Common.{◌≡◌, ℕ, ◌+◌, ◌<◌, cond, nat_eq, List, length, map, set, Some, None, sym, ◌∙◌, ap, subst, arith, length-set}
+use Rattle.std.proofs.Common.{◌≡◌, ℕ, ◌+◌, ◌<◌, false, cond, nat_eq, nat_lt, List, [], length, map, set, get_or, Some, None, sym, ◌∙◌, ap, subst, arith, length-set}
 use Rattle.std.proofs.lemmas.List.{length-map}
 use Rattle.grant_table.specs.Tables.{with_admitted}
 use Rattle.place_pass.specs.Cells.{WishesRecord, job_at, asks_in, fresh_cell, fresh_cells}
 use Rattle.place_pass.specs.Best.{AreAdmitted}
-use Rattle.place_pass.specs.Bounds.{mark_of}
+use Rattle.place_pass.specs.Bounds.{IsRising, mark_of, turn_at}
+use Rattle.place_pass.specs.Trees.{HoldsLine, AllStand}
+use Rattle.locality_tree.specs.Trees.{TreeRecord, place_count}
+use Rattle.fuxi_terms.specs.Cluster.{ClusterRecord}
+use Rattle.fuxi_terms.proofs.Lists.{all_at}
+use Rattle.place_pass.proofs.SightsLemmas.{place_of}
+use Rattle.place_pass.proofs.StandsAfterChange.{holds_admitted, stands_admitted}
+use Rattle.std.proofs.lemmas.Bool.Decides.{nat_tests}
 use Rattle.place_pass.specs.Placers.{PlacerRecord, KeptRecord, IsClear, IsKept, IsQuiet, AreLevel, IsIdle, IsLevelWith, IsPlacer, job_seen, asks_seen}
 use Rattle.fuxi_terms.proofs.ValidJobs.{job_small, units_few, units_some}
 use Rattle.place_pass.proofs.Idling.{clear_admitted, idle_admitted, kept_admitted, quiet_admitted}
@@ -35,7 +42,7 @@ invariant_of-self-2 c =
     let k = c.self.invariant.counted in
     let room = c.in_ok-reserve.ensures.ok in
     let other = c.in_ok-reserve-2.ensures.ok in
-    subst (λ (x : WishesRecord). IsPlacer x c.reserve.new.self c.reserve-2.new.self (c.self.inside.units + c.units.result) (length c.self.inside.marks.items) (length c.self.inside.turn_of.items) (length c.self.inside.held.items)) (sym c.in_ok-admit.ensures.ok) (record {
+    subst (λ (x : WishesRecord). IsPlacer x c.reserve.new.self c.reserve-2.new.self (c.self.inside.units + c.units.result) (length c.self.inside.marks.items) c.self.inside.turn_of.items (length c.self.inside.held.items) c.admit.new.self) (sym c.add_job.ensures) (record {
       admitted = subst (AreAdmitted (set w.cells j.number xs)) (sym c.in_ok-reserve.ensures.pairs) (admitted_more w.cells c.self.inside.line.pairs j.number xs lt (omega (arith, none)) c.self.invariant.admitted);
       places = length-set w.cells j.number xs ∙ places;
       counted = omega (arith, more, long, n, k);
@@ -44,7 +51,26 @@ invariant_of-self-2 c =
       marked = c.self.invariant.marked;
       turn_places = c.self.invariant.turn_places;
       held_places = c.self.invariant.held_places;
+      rises = subst (λ (l : List (ℕ × ℕ)). IsRising (λ (p : ℕ × ℕ). turn_at c.self.inside.turn_of.items p.0 p.1) l) (sym c.in_ok-reserve.ensures.pairs) c.self.invariant.rises;
+      holds = subst (λ (l : List (ℕ × ℕ)). HoldsLine w.cluster (set w.cells j.number xs) l c.self.inside.turn_of.items c.admit.new.self) (sym c.in_ok-reserve.ensures.pairs)
+          (subst (λ (t : TreeRecord). HoldsLine w.cluster (set w.cells j.number xs) c.self.inside.line.pairs c.self.inside.turn_of.items t) (sym c.in_ok-admit.ensures.ok)
+          (holds_admitted w.cluster w.cells xs c.self.inside.line.pairs c.self.inside.turn_of.items c.self.inside.tree j c.self.invariant.holds small places (units_few j c.units.ensures.valid) long empty
+          (λ a u has. let place = place_of (a, u) c.self.inside.line.pairs has in all_at (λ (p : ℕ × ℕ). p.1 < length (get_or w.cells p.0 [])) c.self.inside.line.pairs place.place (a, u) c.self.invariant.admitted place.at)));
     })
+
+pub admit-requires : goal.admit-requires
+admit-requires c u lu =
+    let w = c.self.inside.wishes in
+    let j = c.args.job.now in
+    let empty = empty_slot w.cells j.number (subst (λ (p : PlacerRecord). job_seen p.seen j.number ≡ None) (sym c.self.view_is) c.requires.new) in
+    let none : nat_lt u 0 ≡ false = grind (arith, nat_tests) in
+    let width = c.self.invariant.holds.places j.number u lu ∙ ap (λ ys. cond (nat_lt u (length ys)) (place_count c.self.inside.tree.racks) 0) empty ∙ ap (λ b. cond b (place_count c.self.inside.tree.racks) 0) none in
+    ap (nat_lt 0) width
+
+pub add_job-requires : goal.add_job-requires
+add_job-requires c =
+    let j = c.args.job.now in
+    c.in_ok-fresh.ensures ∙ ap (λ n. fresh_cells j.group n j.units) (c.machines-machines.ensures.number ∙ ap (λ (x : ClusterRecord). length x.machines) c.cluster.ensures.cluster)
 
 pub returns-clause-jobs : goal.returns-clause-jobs
 returns-clause-jobs c a =
@@ -53,7 +79,7 @@ returns-clause-jobs c a =
     let small = job_small j c.units.ensures.valid in
     let places = c.self.invariant.places in
     let lt : j.number < length w.cells = omega (arith, small, places) in
-    ap (λ (x : WishesRecord). job_at x.cells a) c.in_ok-admit.ensures.ok ∙ job_admitted w.cells j (length w.cluster.machines) lt (units_some j c.units.ensures.valid) a
+    ap (λ (x : WishesRecord). job_at x.cells a) c.add_job.ensures ∙ job_admitted w.cells j (length w.cluster.machines) lt (units_some j c.units.ensures.valid) a
     ∙ ap (λ (p : PlacerRecord). cond (nat_eq j.number a) (Some j) (job_seen p.seen a)) c.self.view_is
 
 pub returns-clause-asks : goal.returns-clause-asks
@@ -64,7 +90,7 @@ returns-clause-asks c a k =
     let small = job_small j c.units.ensures.valid in
     let places = c.self.invariant.places in
     let lt : j.number < length w.cells = omega (arith, small, places) in
-    ap (λ (x : WishesRecord). asks_in x.cells a k) c.in_ok-admit.ensures.ok ∙ asks_admitted w.cells j.number j.group (length w.cluster.machines) j.units lt empty a k
+    ap (λ (x : WishesRecord). asks_in x.cells a k) c.add_job.ensures ∙ asks_admitted w.cells j.number j.group (length w.cluster.machines) j.units lt empty a k
     ∙ ap (λ (p : PlacerRecord). asks_seen p.seen a k) c.self.view_is
 
 pub returns-clause-level : goal.returns-clause-level
@@ -83,17 +109,23 @@ returns-clause-level c t l =
     let empty = empty_slot w.cells j.number new in
     let kept : KeptRecord = record { marks = map mark_of c.self.inside.marks.items; turn_of = c.self.inside.turn_of.items; held = c.self.inside.held.items } in
     record {
-      level = subst (λ (x : WishesRecord). AreLevel x.cluster (job_at x.cells) (record t { jobs = with_admitted j t.jobs })) (sym c.in_ok-admit.ensures.ok)
+      level = subst (λ (x : WishesRecord). AreLevel x.cluster (job_at x.cells) (record t { jobs = with_admitted j t.jobs })) (sym c.add_job.ensures)
           (level_admitted w.cluster (job_at w.cells) (job_at (set w.cells j.number xs)) t j old.level (job_admitted w.cells j (length w.cluster.machines) lt (units_some j c.units.ensures.valid)) found);
-      idle = λ e. subst (λ (x : WishesRecord). IsIdle x.cells x.opened (record t { jobs = with_admitted j t.jobs })) (sym c.in_ok-admit.ensures.ok)
+      idle = λ e. subst (λ (x : WishesRecord). IsIdle x.cells x.opened (record t { jobs = with_admitted j t.jobs })) (sym c.add_job.ensures)
           (idle_admitted j w.cells (set w.cells j.number xs) w.opened t empty (asks_admitted w.cells j.number j.group (length w.cluster.machines) j.units lt empty) apart found (old.idle e));
-      kept = subst (λ (l : List (ℕ × ℕ)). IsKept c.admit.new.self.cells c.admit.new.self.opened l c.self.inside.turns kept (record t { jobs = with_admitted j t.jobs })) (sym c.in_ok-reserve.ensures.pairs)
-          (subst (λ (x : WishesRecord). IsKept x.cells x.opened c.self.inside.line.pairs c.self.inside.turns kept (record t { jobs = with_admitted j t.jobs })) (sym c.in_ok-admit.ensures.ok)
+      kept = subst (λ (l : List (ℕ × ℕ)). IsKept c.add_job.new.self.cells c.add_job.new.self.opened l c.self.inside.turns kept (record t { jobs = with_admitted j t.jobs })) (sym c.in_ok-reserve.ensures.pairs)
+          (subst (λ (x : WishesRecord). IsKept x.cells x.opened c.self.inside.line.pairs c.self.inside.turns kept (record t { jobs = with_admitted j t.jobs })) (sym c.add_job.ensures)
           (kept_admitted j w.cells (set w.cells j.number xs) w.opened t empty (asks_admitted w.cells j.number j.group (length w.cluster.machines) j.units lt empty) apart found c.self.inside.line.pairs c.self.inside.turns kept c.self.invariant.admitted old.kept));
-      clear = λ e f. subst (λ (l : List (ℕ × ℕ)). IsClear c.admit.new.self.opened l kept.marks (record t { jobs = with_admitted j t.jobs })) (sym c.in_ok-reserve.ensures.pairs)
-          (subst (λ (x : WishesRecord). IsClear x.opened c.self.inside.line.pairs kept.marks (record t { jobs = with_admitted j t.jobs })) (sym c.in_ok-admit.ensures.ok)
+      clear = λ e f. subst (λ (l : List (ℕ × ℕ)). IsClear c.add_job.new.self.opened l kept.marks (record t { jobs = with_admitted j t.jobs })) (sym c.in_ok-reserve.ensures.pairs)
+          (subst (λ (x : WishesRecord). IsClear x.opened c.self.inside.line.pairs kept.marks (record t { jobs = with_admitted j t.jobs })) (sym c.add_job.ensures)
           (clear_admitted j w.cells (set w.cells j.number xs) w.opened t empty (asks_admitted w.cells j.number j.group (length w.cluster.machines) j.units lt empty) apart found c.self.inside.line.pairs kept.marks c.self.invariant.admitted (old.clear e f)));
-      quiet = λ e. subst (λ (l : List (ℕ × ℕ)). IsQuiet c.admit.new.self.cells c.admit.new.self.opened l c.self.inside.turns kept.marks (record t { jobs = with_admitted j t.jobs })) (sym c.in_ok-reserve.ensures.pairs)
-          (subst (λ (x : WishesRecord). IsQuiet x.cells x.opened c.self.inside.line.pairs c.self.inside.turns kept.marks (record t { jobs = with_admitted j t.jobs })) (sym c.in_ok-admit.ensures.ok)
+      quiet = λ e. subst (λ (l : List (ℕ × ℕ)). IsQuiet c.add_job.new.self.cells c.add_job.new.self.opened l c.self.inside.turns kept.marks (record t { jobs = with_admitted j t.jobs })) (sym c.in_ok-reserve.ensures.pairs)
+          (subst (λ (x : WishesRecord). IsQuiet x.cells x.opened c.self.inside.line.pairs c.self.inside.turns kept.marks (record t { jobs = with_admitted j t.jobs })) (sym c.add_job.ensures)
           (quiet_admitted j w.cells (set w.cells j.number xs) w.opened t empty (asks_admitted w.cells j.number j.group (length w.cluster.machines) j.units lt empty) apart found c.self.inside.line.pairs c.self.inside.turns kept.marks (old.quiet e)));
+      stands = subst (λ (l : List (ℕ × ℕ)). AllStand c.add_job.new.self.cluster c.add_job.new.self.cells t.entries l c.admit.new.self) (sym c.in_ok-reserve.ensures.pairs)
+          (subst (λ (x : WishesRecord). AllStand x.cluster x.cells t.entries c.self.inside.line.pairs c.admit.new.self) (sym c.add_job.ensures)
+          (subst (λ (y : TreeRecord). AllStand w.cluster (set w.cells j.number xs) t.entries c.self.inside.line.pairs y) (sym c.in_ok-admit.ensures.ok)
+          (stands_admitted w.cluster w.cells xs c.self.inside.line.pairs c.self.inside.turn_of.items c.self.inside.tree j c.self.invariant.holds small places (units_few j c.units.ensures.valid) (length-map j.units (fresh_cell j.group (length w.cluster.machines))) empty
+          (λ a u has. let place = place_of (a, u) c.self.inside.line.pairs has in all_at (λ (p : ℕ × ℕ). p.1 < length (get_or w.cells p.0 [])) c.self.inside.line.pairs place.place (a, u) c.self.invariant.admitted place.at)
+          t.entries (asks_admitted w.cells j.number j.group (length w.cluster.machines) j.units lt empty) old.stands)));
     }

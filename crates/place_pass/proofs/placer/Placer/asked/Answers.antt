@@ -8,6 +8,14 @@ use Rattle.place_pass.specs.Cells.{WishesRecord, Lifts, job_at, asks_in, taken_a
 use Rattle.place_pass.specs.Placers.{PlacerRecord, AreLevel, AsksNoMore, IsIdle, IsClear, IsKept, IsQuiet, is_open_to, IsLevelWith, IsPlacer, job_seen, asks_seen, units_seen, is_there}
 use Rattle.place_pass.specs.Bounds.{mark_at, mark_of}
 use Rattle.place_pass.specs.Counts.{IsLifted}
+use Rattle.place_pass.specs.Best.{AreAdmitted}
+use Rattle.place_pass.specs.Trees.{HoldsLine, StandsAs}
+use Rattle.fuxi_terms.specs.Jobs.{unit_count}
+use Rattle.grant_table.specs.Tables.{as_known}
+use Rattle.written_roles.specs.Placing.{has_pair}
+use Rattle.place_pass.proofs.Matching.{count_is}
+use Rattle.place_pass.proofs.AskedLemmas.{asked_long, asked_priority, asked_others}
+use Rattle.place_pass.proofs.StandsAfterChange.{holds_cells, stands_asked}
 use Rattle.place_pass.specs.Sights.{IsAsked}
 use Rattle.place_pass.proofs.CountsLemmas.{asked_clear, asked_settled, asked_stays, stays_for, stays_tight}
 use Rattle.place_pass.proofs.KeptLemmas.{kept_demanded, open_there, told_asked}
@@ -30,7 +38,7 @@ invariant_of-self c =
     let k = c.self.invariant.counted in
     let room = c.self.invariant.room in
     let other = c.self.invariant.other_room in
-    subst (λ (x : WishesRecord). IsPlacer x c.self.inside.line c.self.inside.other c.self.inside.units (length c.tell_demand.new.marks.items) (length c.self.inside.turn_of.items) (length c.self.inside.held.items)) (sym c.asked-more.ensures.cells) (record {
+    subst (λ (x : WishesRecord). IsPlacer x c.self.inside.line c.self.inside.other c.self.inside.units (length c.tell_demand.new.marks.items) c.self.inside.turn_of.items (length c.self.inside.held.items) c.tell_asked.new.tree) (sym c.asked-more.ensures.cells) (record {
       admitted = admitted_more w.cells c.self.inside.line.pairs a xs lt (omega (arith, long)) c.self.invariant.admitted;
       places = length-set w.cells a xs ∙ c.self.invariant.places;
       counted = omega (arith, same, k);
@@ -39,7 +47,35 @@ invariant_of-self c =
       marked = c.tell_demand.ensures.long ∙ c.self.invariant.marked;
       turn_places = c.self.invariant.turn_places;
       held_places = c.self.invariant.held_places;
+      rises = c.self.invariant.rises;
+      holds = subst (λ (x : WishesRecord). HoldsLine x.cluster x.cells c.self.inside.line.pairs c.self.inside.turn_of.items c.tell_asked.new.tree) c.asked-more.ensures.cells c.tell_asked.ensures.holds;
     })
+
+pub tell_asked-requires-clause-cluster : goal.tell_asked-requires-clause-cluster
+tell_asked-requires-clause-cluster c = ap (λ (x : WishesRecord). x.cluster) c.asked-more.ensures.cells ∙ subst (λ (p : PlacerRecord). p.seen.cluster ≡ c.args.table.now.cluster) (sym c.self.view_is) c.requires.cluster
+
+pub tell_asked-requires-clause-admitted : goal.tell_asked-requires-clause-admitted
+tell_asked-requires-clause-admitted c =
+    let w = c.self.inside.wishes in
+    let a = c.args.app.0 in
+    let es = c.args.demand.now.entries in
+    let xs = taken_all w.cluster es 0 (get_or w.cells a []) in
+    let here = subst (λ (p : PlacerRecord). 0 < units_seen p.seen a) (sym c.self.view_is) c.requires.here in
+    let long = length-taken_all w.cluster es 0 (get_or w.cells a []) in
+    subst (λ (x : WishesRecord). AreAdmitted x.cells c.self.inside.line.pairs) (sym c.asked-more.ensures.cells) (admitted_more w.cells c.self.inside.line.pairs a xs (slot_within w.cells a 0 here) (omega (arith, long)) c.self.invariant.admitted)
+
+pub tell_asked-requires-clause-places : goal.tell_asked-requires-clause-places
+tell_asked-requires-clause-places c = c.self.invariant.turn_places
+
+pub tell_asked-requires-clause-holds : goal.tell_asked-requires-clause-holds
+tell_asked-requires-clause-holds c =
+    let w = c.self.inside.wishes in
+    let a = c.args.app.0 in
+    let es = c.args.demand.now.entries in
+    let here = subst (λ (p : PlacerRecord). 0 < units_seen p.seen a) (sym c.self.view_is) c.requires.here in
+    let lt = slot_within w.cells a 0 here in
+    subst (λ (x : WishesRecord). HoldsLine x.cluster x.cells c.self.inside.line.pairs c.self.inside.turn_of.items c.self.inside.tree) (sym c.asked-more.ensures.cells)
+    (holds_cells w.cluster w.cells (set w.cells a (taken_all w.cluster es 0 (get_or w.cells a []))) (λ p. has_pair p c.self.inside.line.pairs) c.self.inside.turn_of.items c.self.inside.tree (asked_long w.cluster es w.cells a lt) (asked_priority w.cluster es w.cells a lt) c.self.invariant.holds)
 
 pub returns-clause-asks : goal.returns-clause-asks
 returns-clause-asks c b k =
@@ -60,7 +96,7 @@ returns-clause-jobs c b =
     ∙ ap (λ (p : PlacerRecord). job_seen p.seen b) c.self.view_is
 
 -- the mark of an open machine after the demand was told
-told_mark : (c : goal.After-self-1) (m : ℕ) → get_or c.self.inside.wishes.opened m false ≡ true
+told_mark : (c : goal.After-tell_asked) (m : ℕ) → get_or c.self.inside.wishes.opened m false ≡ true
     → IsAsked c.args.demand.now.entries (get_or c.self.inside.wishes.cells c.args.app.0 []) m (mark_at (map mark_of c.self.inside.marks.items) m) (mark_at (map mark_of c.tell_demand.new.marks.items) m)
 told_mark c m o =
     let l = open_there c.self.inside.wishes.opened (length c.self.inside.wishes.cluster.machines) c.cluster-wishes.ensures.sound.opened m o in
@@ -117,6 +153,10 @@ returns-clause-level c l =
                 (none_lifted w.cluster es w.cells w.opened a c.cluster-wishes.ensures.sound (slot_within w.cells a 0 here) none m) (q.settled m o);
             waiting = λ b u lt some. q.waiting b u lt (waiting_asked w.cluster es w.cells w.opened a c.cluster-wishes.ensures.sound (slot_within w.cells a 0 here) t none b u some);
           });
+      stands = c.tell_asked.ensures.stands
+          (subst (λ (x : WishesRecord). length (get_or x.cells a []) ≡ unit_count (as_known t.jobs) a) (sym c.asked-more.ensures.cells) (asked_long w.cluster es w.cells a (slot_within w.cells a 0 here) a ∙ count_is w.cluster w.cells t old.level a))
+          (λ b v has d. subst (λ (x : WishesRecord). StandsAs x.cluster x.cells t.entries b v c.self.inside.tree) (sym c.asked-more.ensures.cells)
+          (stands_asked w.cluster w.cells (set w.cells a (taken_all w.cluster es 0 (get_or w.cells a []))) t.entries b v c.self.inside.tree (λ k. asked_others w.cluster es w.cells a (slot_within w.cells a 0 here) b k d) (old.stands b v has)));
     }
   where
     not_true : (b : Bool) → not b ≡ true → b ≡ false

@@ -1,12 +1,13 @@
 use Rattle.std.proofs.Common.{◌≡◌, ℕ, ◌+◌, ◌*◌, ◌<◌, Bool, List, [], true, false, cond, not, nat_eq, nat_lt, length, map, set, get_or, filter, sym, ◌∙◌, ap, subst, arith}
-use Rattle.std.proofs.lemmas.List.{get_or_default}
+use Rattle.std.proofs.lemmas.List.{get_or_default, length-set}
 use Rattle.fuxi_terms.proofs.Booleans.{both_true}
-use Rattle.place_pass.specs.Bounds.{mark_of, mark_at, turn_at, Rises, after_taking, is_nearer_in}
+use Rattle.place_pass.specs.Best.{AreAdmitted}
+use Rattle.place_pass.specs.Bounds.{IsRising, mark_of, mark_at, turn_at, Rises, after_taking, is_nearer_in}
 use Rattle.place_pass.proofs.CountsLemmas.{MarkStays, stays_tight, told_stays}
 use Rattle.place_pass.proofs.KeptLemmas.{kept_told, open_there, rises_filter}
 use Rattle.place_pass.proofs.Lining.{has_filter}
 use Rattle.place_pass.proofs.Matching.{group_is}
-use Rattle.place_pass.proofs.FirstByTurn.{rising_all}
+use Rattle.place_pass.proofs.FirstByTurn.{rising, rising_all}
 use Rattle.place_pass.proofs.Places.{slot_within}
 use Rattle.std.specs.Prelude.{◌&&◌}
 use Rattle.std.proofs.lemmas.Bool.Decides.{nat_tests}
@@ -15,9 +16,40 @@ use Rattle.written_roles.specs.Masters.{out_of}
 use Rattle.written_roles.specs.Placing.{has_pair}
 use Rattle.place_pass.specs.Cells.{job_at, asks_in}
 use Rattle.place_pass.specs.Lines.{LineRecord}
+use Rattle.place_pass.specs.Trees.{HoldsLine, AllStand}
 use Rattle.place_pass.specs.Placers.{PlacerRecord, IsKept, IsLevelWith, IsUpToDate, units_seen, board_over}
 use Rattle.place_pass.proofs.Telling.{level_set, told_up}
 use Rattle.place_pass.proofs.placer.Placer.changed.Goals as goal
+
+pub invariant_of-self : goal.invariant_of-self
+invariant_of-self c =
+    let w = c.self.inside.wishes in
+    let line = c.self.inside.line.pairs in
+    let turns = c.self.inside.turn_of.items in
+    let others : ℕ × ℕ → Bool = λ p. not (nat_eq p.0 c.args.app.0 && nat_eq p.1 c.args.unit.0) in
+    let same = ap (λ (l : LineRecord). l.pairs) c.swap.ensures.x_after in
+    let line_is : c.swap.new.x.pairs ≡ filter others line = same ∙ c.keep_others.ensures.pairs in
+    let test : nat_lt 0 (out_of (asks_in w.cells) c.args.table.now.entries c.args.app.0 c.args.unit.0) ≡ false = let e = c.outstanding.ensures in let z = c.if-outstanding-eq0.true in grind (arith, nat_tests, e, z) in
+    let room = c.self.invariant.room in
+    let other_room = c.self.invariant.other_room in
+    let x = ap (λ (l : LineRecord). l.room) c.swap.ensures.x_after in
+    let y = ap (λ (l : LineRecord). l.room) c.swap.ensures.y_after in
+    let r1 = c.clear.ensures.room in
+    let r2 = c.keep_others.ensures.room in
+    record {
+      admitted = subst (AreAdmitted w.cells) (sym same) c.keep_others.ensures.admitted;
+      places = c.self.invariant.places;
+      counted = c.self.invariant.counted;
+      room = omega (arith, other_room, x, r1, r2);
+      other_room = omega (arith, room, y);
+      marked = c.tell.ensures.long ∙ c.self.invariant.marked;
+      turn_places = c.self.invariant.turn_places;
+      held_places = length-set c.self.inside.held.items c.slot-place.result c.held.result ∙ c.self.invariant.held_places;
+      rises = subst (λ (l : List (ℕ × ℕ)). IsRising (λ (p : ℕ × ℕ). turn_at turns p.0 p.1) l) (sym line_is)
+          (rising (λ (p : ℕ × ℕ). turn_at turns p.0 p.1) (filter others line) (rises_filter (λ (p : ℕ × ℕ). turn_at turns p.0 p.1) others line (rising_all (λ (p : ℕ × ℕ). turn_at turns p.0 p.1) line c.self.invariant.rises)));
+      holds = subst (λ (l : List (ℕ × ℕ)). HoldsLine w.cluster w.cells l turns c.tell_spot.new.tree) (sym line_is)
+          (subst (λ b. HoldsLine w.cluster w.cells (cond b line (filter others line)) turns c.tell_spot.new.tree) test c.tell_spot.ensures.holds);
+    }
 
 -- a mark changes as after a taking, or not at all
 pub returns-then-outstanding-eq0-clause-tight : goal.returns-then-outstanding-eq0-clause-tight
@@ -63,6 +95,9 @@ returns-then-outstanding-eq0-clause-level c before l is =
       idle = λ e. cc;
       quiet = λ e. cc;
       clear = λ e f. cc;
+      stands = subst (λ (l : List (ℕ × ℕ)). AllStand w.cluster w.cells t.entries l c.tell_spot.new.tree) (sym line_is)
+          (subst (λ b. AllStand w.cluster w.cells t.entries (cond b c.self.inside.line.pairs (filter others c.self.inside.line.pairs)) c.tell_spot.new.tree) (let e = c.outstanding.ensures in let z = c.if-outstanding-eq0.true in let y : nat_lt 0 (out_of (asks_in w.cells) t.entries c.args.app.0 c.args.unit.0) ≡ false = grind (arith, nat_tests, e, z) in y)
+          (c.tell_spot.ensures.stands before is old.stands));
       kept = subst (λ (hs : List ℕ). IsKept w.cells w.opened (c.swap.new.x.pairs) c.self.inside.turns (record { marks = map mark_of c.tell.new.marks.items; turn_of = c.self.inside.turn_of.items; held = hs }) c.args.table.now) (λ i. set c.self.inside.held.items (sym c.slot-place.ensures i) (sym c.held.ensures i))
           (kept_told w.cells w.opened c.self.inside.line.pairs (c.swap.new.x.pairs) c.self.inside.turns (length w.cluster.machines) (record { marks = map mark_of c.self.inside.marks.items; turn_of = c.self.inside.turn_of.items; held = c.self.inside.held.items }) (map mark_of c.tell.new.marks.items)
           (λ p has. (both_true (has_pair p c.self.inside.line.pairs) _ (sym (has_filter others p c.self.inside.line.pairs) ∙ ap (has_pair p) (sym line_is) ∙ has)).0) (subst (Rises (λ (p : ℕ × ℕ). turn_at c.self.inside.turn_of.items p.0 p.1)) (sym line_is) (rises_filter (λ (p : ℕ × ℕ). turn_at c.self.inside.turn_of.items p.0 p.1) others c.self.inside.line.pairs (rising_all (λ (p : ℕ × ℕ). turn_at c.self.inside.turn_of.items p.0 p.1) c.self.inside.line.pairs old.kept.rises))) (open_there w.opened (length w.cluster.machines) c.cluster-wishes.ensures.sound.opened) before c.args.table.now c.args.app.0 c.args.unit.0 c.args.machine.0 is
@@ -93,6 +128,8 @@ returns-else-outstanding-eq0-clause-level c before l is =
       idle = λ e. cc;
       quiet = λ e. cc;
       clear = λ e f. cc;
+      stands = subst (λ b. AllStand w.cluster w.cells t.entries (cond b c.self.inside.line.pairs (filter (λ p. not (nat_eq p.0 c.args.app.0 && nat_eq p.1 c.args.unit.0)) c.self.inside.line.pairs)) c.tell_spot.new.tree) (let e = c.outstanding.ensures in let z = c.if-outstanding-eq0.false in let y : nat_lt 0 (out_of (asks_in w.cells) t.entries c.args.app.0 c.args.unit.0) ≡ true = grind (arith, nat_tests, e, z) in y)
+          (c.tell_spot.ensures.stands before is old.stands);
       kept = subst (λ (hs : List ℕ). IsKept w.cells w.opened (c.self.inside.line.pairs) c.self.inside.turns (record { marks = map mark_of c.tell.new.marks.items; turn_of = c.self.inside.turn_of.items; held = hs }) c.args.table.now) (λ i. set c.self.inside.held.items (sym c.slot-place.ensures i) (sym c.held.ensures i))
           (kept_told w.cells w.opened c.self.inside.line.pairs (c.self.inside.line.pairs) c.self.inside.turns (length w.cluster.machines) (record { marks = map mark_of c.self.inside.marks.items; turn_of = c.self.inside.turn_of.items; held = c.self.inside.held.items }) (map mark_of c.tell.new.marks.items)
           (λ p has. has) (rising_all (λ (p : ℕ × ℕ). turn_at c.self.inside.turn_of.items p.0 p.1) c.self.inside.line.pairs old.kept.rises) (open_there w.opened (length w.cluster.machines) c.cluster-wishes.ensures.sound.opened) before c.args.table.now c.args.app.0 c.args.unit.0 c.args.machine.0 is

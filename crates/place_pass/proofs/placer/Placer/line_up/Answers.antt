@@ -1,7 +1,10 @@
 use Rattle.std.proofs.Common.{◌≡◌, ℕ, ◌+◌, ◌-◌, Bool, true, false, not, nat_lt, List, ◌++◌, length, map, filter, refl, sym, ◌∙◌, ap, subst, arith}
 use Rattle.std.specs.Prelude.{◌&&◌, ◌||◌}
 use Rattle.std.proofs.lemmas.List.{length-append}
-use Rattle.place_pass.specs.Bounds.{key_of, mark_at, mark_of, turn_at}
+use Rattle.place_pass.specs.Bounds.{IsRising, key_of, mark_at, mark_of, turn_at}
+use Rattle.place_pass.specs.Best.{AreAdmitted}
+use Rattle.place_pass.specs.Trees.{HoldsLine, AllStand}
+use Rattle.place_pass.proofs.LinedLemmas.{lined_kept, front_inside, front_holds, front_stands}
 use Rattle.std.proofs.lemmas.Bool.Decides.{nat_tests}
 use Rattle.fuxi_terms.proofs.Booleans.{and_true, both_true}
 use Rattle.place_pass.proofs.CountsLemmas.{same_stays, stays_tight}
@@ -34,6 +37,94 @@ pub join-requires-clause-apart : goal.join-requires-clause-apart
 join-requires-clause-apart c p h =
     let q : ℕ × ℕ → Bool = λ p. nat_lt 0 (out_of (asks_in c.self.inside.wishes.cells) c.args.table.now.entries p.0 p.1) in
     subst (λ ks. has_pair p ks ≡ false) (sym c.keep.ensures.pairs) (none_filter (same_pair p) q c.self.inside.line.pairs h)
+
+pub leave_line-requires-clause-level : goal.leave_line-requires-clause-level
+unfolding IsLevelWith
+leave_line-requires-clause-level c = (subst (λ (p : PlacerRecord). IsLevelWith p c.args.table.now) (sym c.self.view_is) c.requires.level).level
+
+pub enter_line-requires-clause-level : goal.enter_line-requires-clause-level
+unfolding IsLevelWith
+enter_line-requires-clause-level c = (subst (λ (p : PlacerRecord). IsLevelWith p c.args.table.now) (sym c.self.view_is) c.requires.level).level
+
+pub enter_line-requires-clause-rises : goal.enter_line-requires-clause-rises
+unfolding IsLevelWith
+enter_line-requires-clause-rises c =
+    let old = subst (λ (p : PlacerRecord). IsLevelWith p c.args.table.now) (sym c.self.view_is) c.requires.level in
+    let w = c.self.inside.wishes in
+    let t = c.args.table.now in
+    let line = c.self.inside.line.pairs in
+    let waits : ℕ × ℕ → Bool = λ p. nat_lt 0 (out_of (asks_in w.cells) t.entries p.0 p.1) in
+    let all = waiting_in (map (λ (j : JobRecord). j.number) t.jobs) (unit_count (as_known t.jobs)) (asks_in w.cells) t.entries in
+    let k : KeptRecord = record { marks = map mark_of c.self.inside.marks.items; turn_of = c.self.inside.turn_of.items; held = c.self.inside.held.items } in
+    let small = λ (a u : ℕ) (has : has_pair (a, u) line ≡ true). let place = place_of (a, u) line has in unit_small w.cells line place.place (a, u) c.self.invariant.admitted place.at c.cluster-wishes.ensures.sound.few in
+    (lined_kept line c.keep.new.next.pairs all c.join.new.next.pairs c.len-stayed.result waits k c.number_from.new.turn_of.items c.keep.ensures.pairs c.join.ensures.pairs c.len-stayed.ensures.number small (λ a u lu out. c.number_from.ensures.others a u lu out) w.cells w.opened c.self.inside.turns t (λ i p ge e. c.number_from.ensures.numbered i p ge e) old.kept).rises
+
+pub enter_line-requires-clause-inside : goal.enter_line-requires-clause-inside
+enter_line-requires-clause-inside c =
+    let w = c.self.inside.wishes in
+    let t = c.args.table.now in
+    let line = c.self.inside.line.pairs in
+    let waits : ℕ × ℕ → Bool = λ p. nat_lt 0 (out_of (asks_in w.cells) t.entries p.0 p.1) in
+    let all = waiting_in (map (λ (j : JobRecord). j.number) t.jobs) (unit_count (as_known t.jobs)) (asks_in w.cells) t.entries in
+    let k : KeptRecord = record { marks = map mark_of c.self.inside.marks.items; turn_of = c.self.inside.turn_of.items; held = c.self.inside.held.items } in
+    let small = λ (a u : ℕ) (has : has_pair (a, u) line ≡ true). let place = place_of (a, u) line has in unit_small w.cells line place.place (a, u) c.self.invariant.admitted place.at c.cluster-wishes.ensures.sound.few in
+    front_inside line c.keep.new.next.pairs all c.join.new.next.pairs c.len-stayed.result waits k c.number_from.new.turn_of.items c.keep.ensures.pairs c.join.ensures.pairs c.len-stayed.ensures.number small (λ a u lu out. c.number_from.ensures.others a u lu out)
+
+pub enter_line-requires-clause-holds : goal.enter_line-requires-clause-holds
+enter_line-requires-clause-holds c =
+    let w = c.self.inside.wishes in
+    let t = c.args.table.now in
+    let line = c.self.inside.line.pairs in
+    let waits : ℕ × ℕ → Bool = λ p. nat_lt 0 (out_of (asks_in w.cells) t.entries p.0 p.1) in
+    let all = waiting_in (map (λ (j : JobRecord). j.number) t.jobs) (unit_count (as_known t.jobs)) (asks_in w.cells) t.entries in
+    let k : KeptRecord = record { marks = map mark_of c.self.inside.marks.items; turn_of = c.self.inside.turn_of.items; held = c.self.inside.held.items } in
+    let small = λ (a u : ℕ) (has : has_pair (a, u) line ≡ true). let place = place_of (a, u) line has in unit_small w.cells line place.place (a, u) c.self.invariant.admitted place.at c.cluster-wishes.ensures.sound.few in
+    front_holds line c.keep.new.next.pairs all c.join.new.next.pairs c.len-stayed.result waits k c.number_from.new.turn_of.items c.keep.ensures.pairs c.join.ensures.pairs c.len-stayed.ensures.number small (λ a u lu out. c.number_from.ensures.others a u lu out) w.cluster w.cells c.leave_line.new.tree c.leave_line.ensures.holds
+
+pub enter_line-requires-clause-stands : goal.enter_line-requires-clause-stands
+unfolding IsLevelWith
+enter_line-requires-clause-stands c =
+    let old = subst (λ (p : PlacerRecord). IsLevelWith p c.args.table.now) (sym c.self.view_is) c.requires.level in
+    let w = c.self.inside.wishes in
+    let t = c.args.table.now in
+    let line = c.self.inside.line.pairs in
+    let waits : ℕ × ℕ → Bool = λ p. nat_lt 0 (out_of (asks_in w.cells) t.entries p.0 p.1) in
+    let all = waiting_in (map (λ (j : JobRecord). j.number) t.jobs) (unit_count (as_known t.jobs)) (asks_in w.cells) t.entries in
+    let k : KeptRecord = record { marks = map mark_of c.self.inside.marks.items; turn_of = c.self.inside.turn_of.items; held = c.self.inside.held.items } in
+    let small = λ (a u : ℕ) (has : has_pair (a, u) line ≡ true). let place = place_of (a, u) line has in unit_small w.cells line place.place (a, u) c.self.invariant.admitted place.at c.cluster-wishes.ensures.sound.few in
+    front_stands line c.keep.new.next.pairs all c.join.new.next.pairs c.len-stayed.result waits k c.number_from.new.turn_of.items c.keep.ensures.pairs c.join.ensures.pairs c.len-stayed.ensures.number small (λ a u lu out. c.number_from.ensures.others a u lu out) w.cluster w.cells t.entries c.self.inside.tree c.leave_line.new.tree (c.leave_line.ensures.holds.racks ∙ sym c.self.invariant.holds.racks) (λ a u lu some. c.leave_line.ensures.others a u lu some) old.stands
+
+pub invariant_of-self : goal.invariant_of-self
+unfolding IsLevelWith
+invariant_of-self c =
+    let old = subst (λ (p : PlacerRecord). IsLevelWith p c.args.table.now) (sym c.self.view_is) c.requires.level in
+    let w = c.self.inside.wishes in
+    let t = c.args.table.now in
+    let line = c.self.inside.line.pairs in
+    let waits : ℕ × ℕ → Bool = λ p. nat_lt 0 (out_of (asks_in w.cells) t.entries p.0 p.1) in
+    let all = waiting_in (map (λ (j : JobRecord). j.number) t.jobs) (unit_count (as_known t.jobs)) (asks_in w.cells) t.entries in
+    let k : KeptRecord = record { marks = map mark_of c.self.inside.marks.items; turn_of = c.self.inside.turn_of.items; held = c.self.inside.held.items } in
+    let small = λ (a u : ℕ) (has : has_pair (a, u) line ≡ true). let place = place_of (a, u) line has in unit_small w.cells line place.place (a, u) c.self.invariant.admitted place.at c.cluster-wishes.ensures.sound.few in
+    let same = ap (λ (x : LineRecord). x.pairs) c.swap.ensures.x_after in
+    let room = c.self.invariant.room in
+    let other_room = c.self.invariant.other_room in
+    let b = ap (λ (x : LineRecord). x.room) c.swap.ensures.x_after in
+    let d = ap (λ (x : LineRecord). x.room) c.swap.ensures.y_after in
+    let r1 = c.clear.ensures.room in
+    let r2 = c.keep.ensures.room in
+    let r3 = c.join.ensures.room in
+    record {
+      admitted = subst (AreAdmitted w.cells) (sym same) c.join.ensures.admitted;
+      places = c.self.invariant.places;
+      counted = c.self.invariant.counted;
+      room = omega (arith, other_room, b, r1, r2, r3);
+      other_room = omega (arith, room, d);
+      marked = c.self.invariant.marked;
+      turn_places = c.number_from.ensures.places;
+      held_places = c.self.invariant.held_places;
+      rises = subst (λ (l : List (ℕ × ℕ)). IsRising (λ (p : ℕ × ℕ). turn_at c.number_from.new.turn_of.items p.0 p.1) l) (sym same) (lined_kept line c.keep.new.next.pairs all c.join.new.next.pairs c.len-stayed.result waits k c.number_from.new.turn_of.items c.keep.ensures.pairs c.join.ensures.pairs c.len-stayed.ensures.number small (λ a u lu out. c.number_from.ensures.others a u lu out) w.cells w.opened c.self.inside.turns t (λ i p ge e. c.number_from.ensures.numbered i p ge e) old.kept).rises;
+      holds = subst (λ (l : List (ℕ × ℕ)). HoldsLine w.cluster w.cells l c.number_from.new.turn_of.items c.enter_line.new.tree) (sym same) c.enter_line.ensures.holds;
+    }
 
 -- the line is that of the definition
 line_is : (c : goal.After-swap) → c.swap.new.x.pairs ≡ lined c.self.inside.line.pairs (waiting_in (job_numbers (as_known c.args.table.now.jobs)) (unit_count (as_known c.args.table.now.jobs)) (asks_in c.self.inside.wishes.cells) c.args.table.now.entries)
@@ -112,6 +203,7 @@ returns-clause-level c =
     record {
       level = old.level;
       idle = old.idle;
+      stands = subst (λ (l : List (ℕ × ℕ)). AllStand w.cluster w.cells t.entries l c.enter_line.new.tree) (sym (ap (λ (x : LineRecord). x.pairs) c.swap.ensures.x_after)) c.enter_line.ensures.stands;
       clear = λ e f.
           let b = both_true c.self.inside.forgotten _ f in
           let test = b.1 in

@@ -21,6 +21,7 @@ use Rattle.place_pass.specs.Placers.{AreAllowed, IsGrantable, PlacerRecord, Kept
 use Rattle.place_pass.proofs.Idling.{idle_first, idle_found}
 use Rattle.place_pass.proofs.FirstByTurn.{rising_all}
 use Rattle.place_pass.proofs.Picking.{pick_grantable}
+use Rattle.place_pass.specs.Trees.{TreeOf}
 use Rattle.place_pass.proofs.placer.Placer.next.Goals as goal
 
 pub first-requires-clause-level : goal.first-requires-clause-level
@@ -58,6 +59,13 @@ first-requires-clause-old g c m opened =
 pub first-requires-clause-until : goal.first-requires-clause-until
 unfolding IsLevelWith
 first-requires-clause-until g c m opened = (subst (λ (p : PlacerRecord). IsLevelWith p c.args.table.now) (sym c.self.view_is) c.requires.level).kept.until m opened
+
+pub first-requires-clause-tree : goal.first-requires-clause-tree
+unfolding IsLevelWith
+first-requires-clause-tree g c =
+    let l = subst (λ (p : PlacerRecord). IsLevelWith p c.args.table.now) (sym c.self.view_is) c.requires.level in
+    subst (λ (xs : List ℕ). TreeOf c.self.inside.wishes.cluster c.self.inside.wishes.cells c.self.inside.line.pairs xs c.args.table.now.entries c.self.inside.tree) (sym c.deref.ensures.value)
+    (record { waits = c.self.invariant.holds; rises = c.self.invariant.rises; stands = l.stands })
 
 pub returns-clause-grantable : goal.returns-clause-grantable
 unfolding IsLevelWith
@@ -124,6 +132,7 @@ returns-then-self-clause-level g c =
     record {
       level = l.level;
       idle = l.idle;
+      stands = l.stands;
       kept = kept_forgotten w.cells w.opened c.self.inside.line.pairs c.self.inside.turns k t marks forgotten l.kept;
       quiet = λ e. record {
         settled = λ m o. forgotten_key c.self.inside.turns t c.self.inside.line.pairs (mark_at k.marks m) (mark_at marks m) (forgotten m o) ∙ (l.quiet e).settled m o;
@@ -161,6 +170,7 @@ returns-clause-level g c =
     record {
       level = l.level;
       idle = λ e. let f : false ≡ true = sym c.if-self.false ∙ e in cc;
+      stands = l.stands;
       kept = record {
         bounds = λ m a u opened has lt. (subst (λ (xs : List ℕ). AreBounded (board_over w.cells w.opened t) t.entries (turn_in xs) c.self.inside.line.pairs (mark_at (map mark_of c.first.new.marks.items) m) m) c.deref.ensures.value (c.first.ensures.bounded m opened)).bounded (a, u) has lt;
         until = c.first.ensures.until;
@@ -177,7 +187,7 @@ pub returns-clause-count : goal.returns-clause-count
 unfolding IsLevelWith
 returns-clause-count g c =
     let l = subst (λ (p : PlacerRecord). IsLevelWith p c.args.table.now) (sym c.self.view_is) c.requires.level in
-    let inside = placer_record c.self.inside.wishes c.self.inside.line c.self.inside.turns c.self.inside.idle c.self.inside.marks.items c.self.inside.turn_of.items c.self.inside.held.items c.self.inside.forgotten in
+    let inside = placer_record c.self.inside.wishes c.self.inside.line c.self.inside.turns c.self.inside.idle c.self.inside.marks.items c.self.inside.turn_of.items c.self.inside.held.items c.self.inside.tree c.self.inside.forgotten in
     subst (λ (p : PlacerRecord). c.first.new.steps ≤ c.args.steps.now + unsettled_machines p) c.self.view_is
     (subst (λ (x : ClusterRecord). c.first.new.steps ≤ c.args.steps.now + count_below (is_unsettled inside) (length x.machines)) (sym l.level.cluster_is) c.first.ensures.count)
 
@@ -185,7 +195,7 @@ pub returns-in_default-clause-count : goal.returns-in_default-clause-count
 unfolding IsLevelWith
 returns-in_default-clause-count g c =
     let l = subst (λ (p : PlacerRecord). IsLevelWith p c.args.table.now) (sym c.self.view_is) c.requires.level in
-    let inside = placer_record c.self.inside.wishes c.self.inside.line c.self.inside.turns c.self.inside.idle c.self.inside.marks.items c.self.inside.turn_of.items c.self.inside.held.items c.self.inside.forgotten in
+    let inside = placer_record c.self.inside.wishes c.self.inside.line c.self.inside.turns c.self.inside.idle c.self.inside.marks.items c.self.inside.turn_of.items c.self.inside.held.items c.self.inside.tree c.self.inside.forgotten in
     subst (λ (p : PlacerRecord). c.first.new.steps ≤ c.args.steps.now + unsettled_machines p) c.self.view_is
     (subst (λ (x : ClusterRecord). c.first.new.steps ≤ c.args.steps.now + count_below (is_unsettled inside) (length x.machines)) (sym l.level.cluster_is) c.first.ensures.count)
 
@@ -203,6 +213,7 @@ returns-in_default-clause-level g c =
     record {
       level = l.level;
       idle = λ e. idle_found w.cells w.opened t c.self.inside.line.pairs up (sym c.first.ensures.first ∙ ap (option_map spot_of) c.in_default.is);
+      stands = l.stands;
       kept = kept_forgotten w.cells w.opened c.self.inside.line.pairs c.self.inside.turns k t marks forgotten (record {
         bounds = λ m a u opened has lt. (subst (λ (xs : List ℕ). AreBounded (board_over w.cells w.opened t) t.entries (turn_in xs) c.self.inside.line.pairs (mark_at (map mark_of c.first.new.marks.items) m) m) c.deref.ensures.value (c.first.ensures.bounded m opened)).bounded (a, u) has lt;
         until = c.first.ensures.until;

@@ -11,6 +11,9 @@ use Rattle.place_pass.proofs.Telling.{no_units}
 use Rattle.grant_table.specs.Tables.{TableRecord}
 use Rattle.place_pass.specs.Cells.{Cell, WishesRecord, job_in, job_at}
 use Rattle.place_pass.specs.Placers.{AreLevel, IsLevelWith}
+use Rattle.place_pass.specs.Trees.{HoldsLine}
+use Rattle.place_pass.proofs.StandsAfterChange.{holds_started}
+use Rattle.locality_tree.specs.Trees.{TreeRecord}
 use Rattle.place_pass.proofs.placer.Placer.start.Goals as goal
 
 none_in : (n a : ℕ) → get_or {A = List Cell} (replicate n []) a [] ≡ []
@@ -35,6 +38,7 @@ returns-clause-level c =
       idle = λ e. cc;
       quiet = λ e. cc;
       clear = λ e f. cc;
+      stands = λ a u has. let f : false ≡ true = sym (ap (λ (ps : List (ℕ × ℕ)). has_pair (a, u) ps) c.new.ensures) ∙ has in cc;
       kept = record {
         bounds = λ m a u opened has lt. let f : false ≡ true = sym (ap (λ (ps : List (ℕ × ℕ)). has_pair (a, u) ps) c.new.ensures) ∙ has in cc;
         until = λ m opened. let f : true ≡ false = sym opened ∙ ap (λ (w : WishesRecord). get_or w.opened m false) c.in_ok-wishes.ensures ∙ none_open (length c.args.cluster.now.machines) m in cc;
@@ -56,6 +60,10 @@ invariant_of-result c =
       marked = sym (length-map c.in_ok-marks.marks.items mark_of) ∙ ap length c.in_ok-marks.ensures ∙ length-replicate {A = MarkRecord} c.machines.result (reset_mark 0) ∙ c.machines.ensures.number ∙ ap (λ (w : WishesRecord). length w.cluster.machines) (sym c.in_ok-wishes.ensures);
       turn_places = ap length (c.in_ok-turn_of.ensures.items_if_clones_equal (λ y e. search rules)) ∙ length-replicate {A = ℕ} 2048 0;
       held_places = ap length (c.in_ok-held.ensures.items_if_clones_equal (λ y e. search rules)) ∙ length-replicate {A = ℕ} 2048 0;
+      rises = rising (λ (p : ℕ × ℕ). turn_at c.in_ok-turn_of.turn_of.items p.0 p.1) c.new.result.pairs (subst (Rises (λ (p : ℕ × ℕ). turn_at c.in_ok-turn_of.turn_of.items p.0 p.1)) (sym c.new.ensures) tt);
+      holds = subst (λ (w : WishesRecord). HoldsLine w.cluster w.cells c.new.result.pairs c.in_ok-turn_of.turn_of.items c.in_ok-tree.tree) (sym c.in_ok-wishes.ensures)
+          (subst (λ (l : List (ℕ × ℕ)). HoldsLine c.args.cluster.now (replicate 256 []) l c.in_ok-turn_of.turn_of.items c.in_ok-tree.tree) (sym c.new.ensures)
+          (subst (λ (t : TreeRecord). HoldsLine c.args.cluster.now (replicate 256 []) [] c.in_ok-turn_of.turn_of.items t) (sym c.in_ok-tree.ensures) (holds_started c.args.cluster.now (replicate 256 []) c.in_ok-turn_of.turn_of.items (λ a. ap length (none_in 256 a)))));
     }
 
 pub returns-clause-seen : goal.returns-clause-seen

@@ -1,0 +1,29 @@
+use Rattle.std.proofs.Common.{◌≡◌, length, set, sym, ◌∙◌, subst, arith}
+use Rattle.std.proofs.lemmas.List.{map-set, length-map}
+use Rattle.place_pass.specs.Cells.{WishesRecord, AreWishes, cells_in, cells_of, fresh_cell, fresh_cells}
+use Rattle.place_pass.proofs.Asking.{wishes_set, fresh_wishes}
+use Rattle.fuxi_terms.proofs.ValidJobs.{job_small, units_few}
+use Rattle.place_pass.proofs.ValidJobs.{sizes_eight}
+use Rattle.place_pass.proofs.wishes.Wishes.add_job.Goals as goal
+
+pub invariant_of-self : goal.invariant_of-self
+invariant_of-self c =
+    let v = c.self.inside in
+    let j = c.args.job.now in
+    let is : cells_in c.args.units ≡ fresh_cells j.group (length v.cluster.machines) j.units = subst (λ (w : WishesRecord). cells_in c.args.units ≡ fresh_cells j.group (length w.cluster.machines) j.units) (sym c.self.view_is) c.requires in
+    let small = job_small j c.app.ensures.valid in
+    let few = units_few j c.app.ensures.valid in
+    let places = c.self.invariant.places in
+    let long = length-map j.units (fresh_cell j.group (length v.cluster.machines)) in
+    let set_is : cells_of (set v.slots.items c.app.result.0 c.args.units) ≡ set (cells_of v.slots.items) j.number (fresh_cells j.group (length v.cluster.machines) j.units) = map-set cells_in v.slots.items c.app.result.0 c.args.units ∙ (λ i. set (cells_of v.slots.items) (c.app.ensures.number i) (is i)) in
+    subst (λ x. AreWishes v.cluster x v.opened.items) (sym set_is)
+    (wishes_set v.cluster (cells_of v.slots.items) v.opened.items j.number (fresh_cells j.group (length v.cluster.machines) j.units) c.self.invariant (omega (arith, small, places)) (omega (arith, few, long)) (fresh_wishes v.cluster j.group j.units (sizes_eight j c.app.ensures.valid)))
+
+pub returns : goal.returns
+returns c =
+    let v = c.self.inside in
+    let j = c.args.job.now in
+    let is : cells_in c.args.units ≡ fresh_cells j.group (length v.cluster.machines) j.units = subst (λ (w : WishesRecord). cells_in c.args.units ≡ fresh_cells j.group (length w.cluster.machines) j.units) (sym c.self.view_is) c.requires in
+    let set_is : cells_of (set v.slots.items c.app.result.0 c.args.units) ≡ set (cells_of v.slots.items) j.number (fresh_cells j.group (length v.cluster.machines) j.units) = map-set cells_in v.slots.items c.app.result.0 c.args.units ∙ (λ i. set (cells_of v.slots.items) (c.app.ensures.number i) (is i)) in
+    subst (λ (w : WishesRecord). record { cluster = v.cluster; cells = cells_of (set v.slots.items c.app.result.0 c.args.units); opened = v.opened.items } ≡ record w { cells = set w.cells j.number (fresh_cells j.group (length w.cluster.machines) j.units) }) c.self.view_is
+    (λ i. record { cluster = v.cluster; cells = set_is i; opened = v.opened.items })

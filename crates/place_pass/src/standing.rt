@@ -1,0 +1,265 @@
+//! The tree of the waiting pairs: who waits in it, and in which queues. No call takes memory.
+
+ghost use Rattle.std.specs.Prelude.{◌≡◌, ℕ, ◌<◌, ◌≤◌, ◌&&◌, cond, nat_lt, nat_eq, not, [], true, false, length, filter, take};
+ghost use Rattle.std.proofs.Common.{get_or};
+ghost use Rattle.fuxi_terms.specs.Cluster.{rack_of};
+ghost use Rattle.fuxi_terms.specs.Jobs.{unit_count};
+ghost use Rattle.fuxi_terms.specs.Tables.{spot};
+ghost use Rattle.written_roles.specs.Masters.{out_of};
+ghost use Rattle.written_roles.specs.Placing.{has_pair};
+ghost use Rattle.grant_table.specs.Tables.{TableRecord, as_known};
+ghost use Rattle.locality_tree.specs.Trees.{unit_at, unit_number, rack_place};
+ghost use Rattle.place_pass.specs.Best.{AreAdmitted};
+ghost use Rattle.place_pass.specs.Bounds.{IsRising, turn_at};
+ghost use Rattle.place_pass.specs.Cells.{asks_in, job_at};
+ghost use Rattle.place_pass.specs.Placers.{AreLevel, IsSetFrom};
+ghost use Rattle.place_pass.specs.Trees.{Holds, HoldsLine, AllStand, StandsAs, WaitsIn, Restood, RestoodAt, entry_for, is_unmet_on, is_unmet_in};
+
+use crate::line::Line;
+use crate::search::turn_of_unit;
+use crate::wishes::Wishes;
+use fuxi_terms::limits::MOST_RACKS;
+use grant_table::GrantTable;
+use locality_tree::Tree;
+use schedule_unit::{AppNo, MachineNo, RackNo, UnitNo};
+use wait_queue::Entry;
+
+impl Wishes {
+    ghost use Rattle.std.specs.Prelude.{◌≡◌, ◌<◌, [], length};
+    ghost use Rattle.std.proofs.Common.{get_or};
+    ghost use Rattle.fuxi_terms.specs.Jobs.{unit_count};
+    ghost use Rattle.grant_table.specs.Tables.{as_known};
+    ghost use Rattle.place_pass.specs.Trees.{is_unmet_on, is_unmet_in};
+
+    // Whether the unit asks for more on the machine than it has there.
+    fn is_unmet_on(&self, table: &GrantTable, app: AppNo, unit: UnitNo, machine: MachineNo) -> bool
+        requires cluster { self.now.cluster ≡ table.now.cluster }
+        requires here { unit.0 < length (get_or self.now.cells app.0 []) }
+        requires there { unit.0 < unit_count (as_known table.now.jobs) app.0 }
+        requires machine { machine.0 < length self.now.cluster.machines }
+        ensures { result ≡ is_unmet_on self.now.cells table.now.entries app.0 unit.0 machine.0 }
+    {
+        let wish = self.wish(app, unit);
+        table.held_on(app, unit, machine) < wish.near[machine.0 as usize]
+    }
+
+    // Whether the unit asks for more in the rack than it has there.
+    fn is_unmet_in(&self, table: &GrantTable, app: AppNo, unit: UnitNo, rack: RackNo) -> bool
+        requires cluster { self.now.cluster ≡ table.now.cluster }
+        requires here { unit.0 < length (get_or self.now.cells app.0 []) }
+        requires there { unit.0 < unit_count (as_known table.now.jobs) app.0 }
+        requires rack { rack.0 < 64 }
+        ensures { result ≡ is_unmet_in self.now.cluster self.now.cells table.now.entries app.0 unit.0 rack.0 }
+    {
+        let wish = self.wish(app, unit);
+        table.held_in_rack(app, unit, rack) < wish.racks[rack.0 as usize]
+    }
+}
+
+// The entry with which a unit waits.
+fn entry_for(wishes: &Wishes, turn_of: &Vec<u64>, app: AppNo, unit: UnitNo) -> Entry
+    requires unit { unit.0 < length (get_or wishes.now.cells app.0 []) }
+    requires places { length turn_of.now.items ≡ 2048 }
+    ensures { result ≡ entry_for wishes.now.cells turn_of.now.items app.0 unit.0 }
+{
+    let priority = wishes.wish(app, unit).priority;
+    let turn = turn_of_unit(wishes, turn_of, app, unit);
+    Entry {
+        app,
+        unit,
+        priority,
+        turn,
+    }
+}
+
+// A unit that waits stands in the queues of the machines on which it asks for more than it has.
+fn mark_machines(tree: &mut Tree, entry: &Entry, wishes: &Wishes, table: &GrantTable)
+    requires cluster { wishes.now.cluster ≡ table.now.cluster }
+    requires here { entry.now.unit.0 < length (get_or wishes.now.cells entry.now.app.0 []) }
+    requires there { entry.now.unit.0 < unit_count (as_known table.now.jobs) entry.now.app.0 }
+    requires waits { WaitsIn wishes.now.cluster entry.now tree.old }
+    ensures restood { Restood (unit_number entry.now.app.0 entry.now.unit.0) tree.old tree.new }
+    ensures near { (m : ℕ) → m < length wishes.now.cluster.machines → get_or (unit_at tree.new entry.now.app.0 entry.now.unit.0).stands m false ≡ is_unmet_on wishes.now.cells table.now.entries entry.now.app.0 entry.now.unit.0 m }
+    ensures rest { (place : ℕ) → length wishes.now.cluster.machines ≤ place → get_or (unit_at tree.new entry.now.app.0 entry.now.unit.0).stands place false ≡ get_or (unit_at tree.old entry.now.app.0 entry.now.unit.0).stands place false }
+{
+    for number in 0..wishes.cluster().machines() {
+        let machine = MachineNo(number);
+        let unmet = wishes.is_unmet_on(table, entry.app, entry.unit, machine);
+        tree.mark_machine(entry, machine, unmet);
+    }
+}
+
+// A unit that waits stands in the queues of the racks in which it asks for more than it has.
+fn mark_racks(tree: &mut Tree, entry: &Entry, wishes: &Wishes, table: &GrantTable)
+    requires cluster { wishes.now.cluster ≡ table.now.cluster }
+    requires here { entry.now.unit.0 < length (get_or wishes.now.cells entry.now.app.0 []) }
+    requires there { entry.now.unit.0 < unit_count (as_known table.now.jobs) entry.now.app.0 }
+    requires waits { WaitsIn wishes.now.cluster entry.now tree.old }
+    ensures restood { Restood (unit_number entry.now.app.0 entry.now.unit.0) tree.old tree.new }
+    ensures racks { (r : ℕ) → r < 64 → get_or (unit_at tree.new entry.now.app.0 entry.now.unit.0).stands (rack_place tree.new.racks r) false ≡ is_unmet_in wishes.now.cluster wishes.now.cells table.now.entries entry.now.app.0 entry.now.unit.0 r }
+    ensures rest { (place : ℕ) → place < length wishes.now.cluster.machines → get_or (unit_at tree.new entry.now.app.0 entry.now.unit.0).stands place false ≡ get_or (unit_at tree.old entry.now.app.0 entry.now.unit.0).stands place false }
+{
+    for number in 0..MOST_RACKS {
+        let rack = RackNo(number);
+        let unmet = wishes.is_unmet_in(table, entry.app, entry.unit, rack);
+        tree.mark_rack(entry, rack, unmet);
+    }
+}
+
+// A unit that waits stands in the queues where it asks for more than it has.
+fn mark_unit(tree: &mut Tree, entry: &Entry, wishes: &Wishes, table: &GrantTable)
+    requires cluster { wishes.now.cluster ≡ table.now.cluster }
+    requires here { entry.now.unit.0 < length (get_or wishes.now.cells entry.now.app.0 []) }
+    requires there { entry.now.unit.0 < unit_count (as_known table.now.jobs) entry.now.app.0 }
+    requires waits { WaitsIn wishes.now.cluster entry.now tree.old }
+    ensures restood { Restood (unit_number entry.now.app.0 entry.now.unit.0) tree.old tree.new }
+    ensures stands { StandsAs wishes.now.cluster wishes.now.cells table.now.entries entry.now.app.0 entry.now.unit.0 tree.new }
+{
+    mark_machines(tree, entry, wishes, table);
+    mark_racks(tree, entry, wishes, table);
+}
+
+// A unit that waits stands in the queues of one machine and of its rack where it asks for more there than it has.
+fn mark_spot(
+    tree: &mut Tree,
+    entry: &Entry,
+    wishes: &Wishes,
+    table: &GrantTable,
+    machine: MachineNo,
+)
+    requires cluster { wishes.now.cluster ≡ table.now.cluster }
+    requires here { entry.now.unit.0 < length (get_or wishes.now.cells entry.now.app.0 []) }
+    requires there { entry.now.unit.0 < unit_count (as_known table.now.jobs) entry.now.app.0 }
+    requires machine { machine.0 < length wishes.now.cluster.machines }
+    requires waits { WaitsIn wishes.now.cluster entry.now tree.old }
+    ensures restood { Restood (unit_number entry.now.app.0 entry.now.unit.0) tree.old tree.new }
+    ensures spot { RestoodAt wishes.now.cluster wishes.now.cells table.now.entries entry.now.app.0 entry.now.unit.0 machine.0 (rack_of wishes.now.cluster machine.0) tree.old tree.new }
+{
+    let unmet = wishes.is_unmet_on(table, entry.app, entry.unit, machine);
+    tree.mark_machine(entry, machine, unmet);
+    let rack = table.cluster().machine(machine).rack;
+    let in_rack = wishes.is_unmet_in(table, entry.app, entry.unit, rack);
+    tree.mark_rack(entry, rack, in_rack);
+}
+
+/// Told that a unit has another number on a machine: with nothing out it waits no more, and else it stands in the queues of
+/// the machine and of its rack where it asks for more there.
+pub(crate) fn tell_spot(
+    tree: &mut Tree,
+    line: &Line,
+    wishes: &Wishes,
+    turn_of: &Vec<u64>,
+    table: &GrantTable,
+    app: AppNo,
+    unit: UnitNo,
+    machine: MachineNo,
+)
+    requires cluster { wishes.now.cluster ≡ table.now.cluster }
+    requires here { unit.0 < length (get_or wishes.now.cells app.0 []) }
+    requires there { unit.0 < unit_count (as_known table.now.jobs) app.0 }
+    requires machine { machine.0 < length table.now.cluster.machines }
+    requires places { length turn_of.now.items ≡ 2048 }
+    requires rises { IsRising (λ (p : ℕ × ℕ). turn_at turn_of.now.items p.0 p.1) line.now.pairs }
+    requires holds { HoldsLine wishes.now.cluster wishes.now.cells line.now.pairs turn_of.now.items tree.old }
+    ensures holds { HoldsLine wishes.now.cluster wishes.now.cells (cond (nat_lt 0 (out_of (asks_in wishes.now.cells) table.now.entries app.0 unit.0)) line.now.pairs (filter (λ p. not (nat_eq p.0 app.0 && nat_eq p.1 unit.0)) line.now.pairs)) turn_of.now.items tree.new }
+    ensures stands { (before : TableRecord) → IsSetFrom before table.now (spot app.0 unit.0 machine.0) → AllStand wishes.now.cluster wishes.now.cells before.entries line.now.pairs tree.old
+        → AllStand wishes.now.cluster wishes.now.cells table.now.entries (cond (nat_lt 0 (out_of (asks_in wishes.now.cells) table.now.entries app.0 unit.0)) line.now.pairs (filter (λ p. not (nat_eq p.0 app.0 && nat_eq p.1 unit.0)) line.now.pairs)) tree.new }
+{
+    let _table = table.cluster();
+    let _wishes = wishes.cluster();
+    if !line.has(app.0, unit.0) {
+        return;
+    }
+    let entry = entry_for(wishes, turn_of, app, unit);
+    if wishes.outstanding(table, app, unit) == 0 {
+        tree.refresh(&entry, false);
+        return;
+    }
+    mark_spot(tree, &entry, wishes, table, machine);
+}
+
+/// Told that a job asks otherwise: its units of the line stand where they ask for more than they have.
+pub(crate) fn tell_asked(
+    tree: &mut Tree,
+    line: &Line,
+    wishes: &Wishes,
+    turn_of: &Vec<u64>,
+    table: &GrantTable,
+    app: AppNo,
+)
+    requires cluster { wishes.now.cluster ≡ table.now.cluster }
+    requires admitted { AreAdmitted wishes.now.cells line.now.pairs }
+    requires places { length turn_of.now.items ≡ 2048 }
+    requires holds { HoldsLine wishes.now.cluster wishes.now.cells line.now.pairs turn_of.now.items tree.old }
+    ensures holds { HoldsLine wishes.now.cluster wishes.now.cells line.now.pairs turn_of.now.items tree.new }
+    ensures stands { length (get_or wishes.now.cells app.0 []) ≡ unit_count (as_known table.now.jobs) app.0
+        → ((a u : ℕ) → has_pair (a, u) line.now.pairs ≡ true → nat_eq a app.0 ≡ false → StandsAs wishes.now.cluster wishes.now.cells table.now.entries a u tree.old)
+        → AllStand wishes.now.cluster wishes.now.cells table.now.entries line.now.pairs tree.new }
+{
+    let _wishes = wishes.cluster();
+    for number in 0..wishes.units(app) as u8 {
+        if number as usize >= table.units(app) {
+            return;
+        }
+        if !line.has(app.0, number) {
+            continue;
+        }
+        let entry = entry_for(wishes, turn_of, app, UnitNo(number));
+        mark_unit(tree, &entry, wishes, table);
+    }
+}
+
+/// The units of the line with nothing out wait no more.
+pub(crate) fn leave_line(
+    tree: &mut Tree,
+    line: &Line,
+    wishes: &Wishes,
+    turn_of: &Vec<u64>,
+    table: &GrantTable,
+)
+    requires level { AreLevel wishes.now.cluster (job_at wishes.now.cells) table.now }
+    requires admitted { AreAdmitted wishes.now.cells line.now.pairs }
+    requires places { length turn_of.now.items ≡ 2048 }
+    requires rises { IsRising (λ (p : ℕ × ℕ). turn_at turn_of.now.items p.0 p.1) line.now.pairs }
+    requires holds { HoldsLine wishes.now.cluster wishes.now.cells line.now.pairs turn_of.now.items tree.old }
+    ensures holds { Holds wishes.now.cluster wishes.now.cells (λ p. has_pair p line.now.pairs && nat_lt 0 (out_of (asks_in wishes.now.cells) table.now.entries p.0 p.1)) turn_of.now.items tree.new }
+    ensures others { (a u : ℕ) → u < 8 → nat_lt 0 (out_of (asks_in wishes.now.cells) table.now.entries a u) ≡ true → unit_at tree.new a u ≡ unit_at tree.old a u }
+{
+    let _wishes = wishes.cluster();
+    for place in 0..line.len() {
+        let (app, unit) = line.at(place);
+        if wishes.outstanding(table, app, unit) > 0 {
+            continue;
+        }
+        let entry = entry_for(wishes, turn_of, app, unit);
+        tree.refresh(&entry, false);
+    }
+}
+
+/// The units of the line from a place on begin to wait.
+pub(crate) fn enter_line(
+    tree: &mut Tree,
+    line: &Line,
+    wishes: &Wishes,
+    turn_of: &Vec<u64>,
+    table: &GrantTable,
+    from: usize,
+)
+    requires level { AreLevel wishes.now.cluster (job_at wishes.now.cells) table.now }
+    requires admitted { AreAdmitted wishes.now.cells line.now.pairs }
+    requires places { length turn_of.now.items ≡ 2048 }
+    requires rises { IsRising (λ (p : ℕ × ℕ). turn_at turn_of.now.items p.0 p.1) line.now.pairs }
+    requires inside { from ≤ length line.now.pairs }
+    requires holds { HoldsLine wishes.now.cluster wishes.now.cells (take from line.now.pairs) turn_of.now.items tree.old }
+    requires stands { AllStand wishes.now.cluster wishes.now.cells table.now.entries (take from line.now.pairs) tree.old }
+    ensures holds { HoldsLine wishes.now.cluster wishes.now.cells line.now.pairs turn_of.now.items tree.new }
+    ensures stands { AllStand wishes.now.cluster wishes.now.cells table.now.entries line.now.pairs tree.new }
+{
+    let _wishes = wishes.cluster();
+    for place in from..line.len() {
+        let (app, unit) = line.at(place);
+        let entry = entry_for(wishes, turn_of, app, unit);
+        tree.refresh(&entry, true);
+        mark_unit(tree, &entry, wishes, table);
+    }
+}
