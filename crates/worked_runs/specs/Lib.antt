@@ -12,4 +12,5 @@ pub mod Taking
 pub mod Carrying
 pub mod Contents
 pub mod Judgements
+pub mod Stops
 pub mod Alone

@@ -16,6 +16,7 @@ ghost use Rattle.worked_runs.specs.Again.{a_new_boot_counts_again_run, an_ack_of
 ghost use Rattle.worked_runs.specs.Taking.{quota_takes_from_a_group_above_its_own_run, the_greater_job_loses_first_run};
 ghost use Rattle.worked_runs.specs.Carrying.{a_give_back_of_what_is_not_wanted_run, carried_over_two_epochs_run};
 ghost use Rattle.worked_runs.specs.Judgements.{a_job_marks_with_all_that_it_wants_run, a_judgement_takes_the_grants_run};
+ghost use Rattle.worked_runs.specs.Stops.{a_submission_before_and_behind_run, each_writing_stops_run};
 ghost use Rattle.worked_runs.specs.Alone.{AgentAlone, AppAlone, MasterAlone};
 ghost use Rattle.worked_runs.specs.Contents.{what_packets_hold_run};
 
@@ -223,6 +224,16 @@ pub fn a_judgement_takes_the_grants()
 /// A job marks a machine that each unit of which it wants grants avoids; a job that wants nothing marks none.
 pub fn a_job_marks_with_all_that_it_wants()
     ensures { Computes a_job_marks_with_all_that_it_wants_run }
+{}
+
+/// A submission that stops before it is written and one that stops behind, with their masters, and a start that stops behind.
+pub fn a_submission_before_and_behind()
+    ensures { Computes a_submission_before_and_behind_run }
+{}
+
+/// Each of the five writings stops its master, a refused one nobody's; one that stopped before its start is started.
+pub fn each_writing_stops()
+    ensures { Computes each_writing_stops_run }
 {}
 
 /// What is printed of packets: an Ack holds nothing, a Delta what changed, and the others whole ledgers.

@@ -22,12 +22,12 @@ use Rattle.written_roles.specs.Refusals.{Refusal, with_found}
 use Rattle.written_roles.specs.Votes.{VotesRecord, judged, votes_in}
 use Rattle.written_roles.proofs.MasterVotes.{judged_free}
 use Rattle.written_roles.specs.Apps.{AppCommand, Wants, WantsNear, WantsInRack, Avoids, GivesBack}
+use Rattle.written_world.specs.Outputs.{Line}
 use Rattle.written_world.specs.World.{World, Agent, App, Step, prints_nothing, refused}
 use Rattle.written_world.specs.Parties.{end_step, told, received, adopted_now, master_hears, agent_hears, app_hears}
-use Rattle.written_world.specs.Events.{Event, StartMaster, StopMaster, StartAgent, StartApp, Submit, Finish, Ban, Unban, Begin, Preempt, Judge, Want, Near, Rack, Avoid, GiveBack, TurnMaster, TurnAgent, TurnApp, ResyncMaster, ResyncAgent, ResyncApp, Deliver, DeliverRange, Dump, ShowState, at_master, at_agent, at_app, turned, turn_to_master, addressed, packet_of, deliver_one, deliver_all, commanded, ban_each, agent_started, app_started, act, counted_in, world_step, asks}
+use Rattle.written_world.specs.Events.{Event, StartMaster, StopMaster, StartAgent, StartApp, Submit, Finish, Ban, Unban, Begin, Preempt, Judge, Want, Near, Rack, Avoid, GiveBack, TurnMaster, TurnAgent, TurnApp, ResyncMaster, ResyncAgent, ResyncApp, Deliver, DeliverRange, Dump, ShowState, Halt, halted, is_writing, is_written, writer_of, at_master, at_agent, at_app, turned, turn_to_master, addressed, packet_of, deliver_one, deliver_all, commanded, ban_each, agent_started, app_started, act, counted_in, world_step, asks}
 use Rattle.written_world.specs.Lines.{is_from_line, is_counted}
-use Rattle.written_world.proofs.CommandLemmas.{hard_has, submits_has, finishes_has, bans_has, unbans_has, begins_has, makes_room_has}
-use Rattle.written_world.proofs.EventsWalk.{found_has}
+use Rattle.written_world.proofs.CommandLemmas.{found_has, hard_has, submits_has, finishes_has, bans_has, unbans_has, begins_has, makes_room_has}
 use Rattle.written_order.specs.Orders.{Rise, IsInOrder}
 use Rattle.written_order.proofs.Numbers.{with_all, with_rises}
 
@@ -148,6 +148,12 @@ few_machines c e =
     let t = (both_true (not (nat_lt (length c.machines) 1)) (not (nat_lt most_machines (length c.machines))) b.0).1 in
     grind (arith, nat_tests, t)
 
+-- A stop within a writing
+halts : (w : World) (e : ℕ) (written : Bool) (v : World) (ls : List Line) → IsInOrder w → IsInOrder v → StepInOrder (halted w e written v ls)
+halts w e true v [] o k = record { it = record { masters = is_sorted-where_key nat_cmp (λ k. not (nat_eq k e)) w.masters o.masters; agents = o.agents; apps = o.apps; bans = k.bans; banned = k.banned } }
+halts w e false v [] o k = record { it = record { masters = is_sorted-where_key nat_cmp (λ k. not (nat_eq k e)) w.masters o.masters; agents = o.agents; apps = o.apps; bans = o.bans; banned = o.banned } }
+halts w e written v (l ∷ ls) o k = record { it = o }
+
 -- Every event
 acts_in_order : (w : World) (e : Event) → length w.cluster.machines ≤ most_machines → is_from_line e ≡ true → IsInOrder w → StepInOrder (act w e)
 acts_in_order w (StartMaster e) few t o = checked w _ _ o (hard_has StepInOrder w (stays w o) w.hard e Raise _ (λ _. record { it = ends w (raised w.hard e) (w.ran ++ party master_id e ∷ []) (move w.net (Starts (party master_id e))) (new_master (raised w.hard e) e) (map app_id (job_numbers w.hard.jobs)) o o.bans o.banned }))
@@ -179,6 +185,7 @@ acts_in_order w (Deliver k) few t o = checked w _ _ o (delivers k w o)
 acts_in_order w (DeliverRange k l) few t o = checked w _ _ o (delivers_all (l + 1 - k) k w o)
 acts_in_order w (Dump k) few t o = checked w _ _ o (found_has StepInOrder (packet_of w k) _ _ (record { it = o }) (λ x _. record { it = o }))
 acts_in_order w ShowState few t o = record { it = o }
+acts_in_order w (Halt calls all x) few t o = halts w (writer_of x) (is_written calls all) (act w x).world (act w x).lines o (acts_in_order w x few (both_true (is_writing x) _ (both_true (is_between 1 4 calls) _ t).1).1 o).it
 
 pub kept_in_order : (w : World) (e : Event) → is_valid_cluster w.cluster ≡ true → is_from_line e ≡ true → IsInOrder w → IsInOrder (world_step w e).world
 kept_in_order w e valid t o = (acts_in_order (counted_in w) e (few_machines w.cluster valid) t (record { masters = o.masters; agents = o.agents; apps = o.apps; bans = o.bans; banned = o.banned })).it

@@ -12,6 +12,11 @@ use Rattle.fuxi_terms.specs.Numbers.{without_number}
 use Rattle.fuxi_terms.specs.Jobs.{eight_places}
 use Rattle.written_net.specs.Channels.{app_id}
 
+-- what holds of what is found, and where nothing is
+pub found_has : {A B : Type 0} (P : B → Type 0) (o : Option A) (b : B) (f : A → B) → P b → ((x : A) → o ≡ Some x → P (f x)) → P (with_found o b f)
+found_has P None b f h k = h
+found_has P (Some x) b f h k = k x refl
+
 module _ (P : Step → Type 0) (w : World) (stays : (r : Refusal) → P (refused w r)) where
   -- one writing to the hard state
   pub hard_has : (h : HardState) (e : ℕ) (v : HardEvent) (f : HardState → Step) → (first_refusal (hard_tests h e v) ≡ None → P (f (hard_after h e v))) → P (on_result w (hard_step h e v) f)

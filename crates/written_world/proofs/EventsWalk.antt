@@ -1,6 +1,6 @@
 -- What each thing that changes a world keeps, every event keeps. Of the cluster, the hard state and the running masters, which few things change,
 -- only these few are to be shown.
-use Rattle.std.proofs.Common.{◌≡◌, ℕ, zero, suc, ◌+◌, ◌-◌, true, cond, not, nat_eq, nat_lt, List, [], ◌∷◌, length, Option, Some, None, refl, ◌++◌, map}
+use Rattle.std.proofs.Common.{◌≡◌, ℕ, zero, suc, ◌+◌, ◌-◌, Bool, true, false, cond, not, nat_eq, nat_lt, List, [], ◌∷◌, length, Option, Some, None, refl, sym, subst, ◌++◌, map}
 use Rattle.std.specs.Prelude.{⊤}
 use Rattle.std.specs.List.{AllByRecursion}
 use Rattle.std.specs.Ordering.{nat_cmp}
@@ -18,18 +18,15 @@ use Rattle.written_roles.specs.MasterSteps.{BansMachine, talks, ready, ended_in,
 use Rattle.written_roles.specs.Preemption.{Plan, plan_of, preempted}
 use Rattle.written_roles.specs.Refusals.{Refusal, TooManyMasters, NoGroup, first_refusal, job_tests, with_found, NotRising, NoMachine, NoJob, Ended}
 use Rattle.written_roles.specs.Votes.{VotesRecord, judged, votes_in}
+use Rattle.written_world.specs.Outputs.{Line}
 use Rattle.written_world.specs.World.{World, Agent, App, Step, prints_nothing, refused}
 use Rattle.written_world.specs.Parties.{end_step, told, received, adopted_now, master_hears, agent_hears, app_hears}
-use Rattle.written_world.specs.Events.{Event, StartMaster, StopMaster, StartAgent, StartApp, Submit, Finish, Ban, Unban, Begin, Preempt, Judge, Want, Near, Rack, Avoid, GiveBack, TurnMaster, TurnAgent, TurnApp, ResyncMaster, ResyncAgent, ResyncApp, Deliver, DeliverRange, Dump, ShowState, at_master, at_agent, at_app, demanded, turned, turn_to_master, addressed, packet_of, deliver_one, deliver_all, commanded, ban_each, given_back, agent_started, app_started, act, counted_in, world_step, asks, usable_now, resynced}
+use Rattle.written_world.specs.Events.{Event, StartMaster, StopMaster, StartAgent, StartApp, Submit, Finish, Ban, Unban, Begin, Preempt, Judge, Want, Near, Rack, Avoid, GiveBack, TurnMaster, TurnAgent, TurnApp, ResyncMaster, ResyncAgent, ResyncApp, Deliver, DeliverRange, Dump, ShowState, Halt, at_master, at_agent, at_app, demanded, turned, turn_to_master, addressed, packet_of, deliver_one, deliver_all, commanded, ban_each, given_back, agent_started, app_started, act, counted_in, world_step, halted, is_written, without_master, writer_of, asks, usable_now, resynced}
 use Rattle.written_world.specs.Runs.{run_from}
 use Rattle.fuxi_terms.proofs.Booleans.{either}
-use Rattle.written_world.proofs.CommandLemmas.{hard_has, submits_has, finishes_has, bans_has, unbans_has, begins_has, serving_makes_room_has}
+use Rattle.written_world.proofs.CommandLemmas.{found_has, hard_has, submits_has, finishes_has, bans_has, unbans_has, begins_has, serving_makes_room_has}
+use Rattle.written_world.proofs.LeftLemmas.{HasLeft, Left, Unwritten, left_by, left_hard}
 use Rattle.written_roles.specs.Apps.{AppCommand, command_tests, command_key, command_number, Wants, WantsNear, WantsInRack, Avoids, GivesBack}
-
--- what holds of what is found, and where nothing is
-pub found_has : {A B : Type 0} (P : B → Type 0) (o : Option A) (b : B) (f : A → B) → P b → ((x : A) → o ≡ Some x → P (f x)) → P (with_found o b f)
-found_has P None b f h k = h
-found_has P (Some x) b f h k = k x refl
 
 -- events of which no more need be known
 pub unasked : (es : List Event) → AllByRecursion (λ (_ : Event). ⊤) es
@@ -44,12 +41,12 @@ pub record Holds (P : World → Type 0) (w : World) : Type 0 where
 pub record StepHolds (P : World → Type 0) (s : Step) : Type 0 where
   pub it : P s.world
 
--- P after all that changes a world, where the event's tests passed. Of a submit it may be known that it is of a line
+-- P after all that changes a world, where the event's tests passed; of a master that stops, also within a writing. Of a submit it may be known that it is of a line
 pub record WorldKept (P : World → Type 0) (Allowed : Event → Type 0) (w : World) : Type 0 where
   pub counted : P (counted_in w)
   pub starts : (e : ℕ) → first_refusal (is_not_rising w.hard e ∷ (not (nat_lt (length w.masters) most_masters), TooManyMasters most_masters) ∷ []) ≡ None → first_refusal (hard_tests w.hard e Raise) ≡ None
       → P (end_step (record w { hard = raised w.hard e; ran = w.ran ++ party master_id e ∷ [] }) (move w.net (Starts (party master_id e))) (new_master (raised w.hard e) e) (map app_id (job_numbers w.hard.jobs)))
-  pub stops : (e : ℕ) → P (record w { masters = where_key nat_cmp (λ k. not (nat_eq k e)) w.masters })
+  pub stops : (e : ℕ) (l : Left Allowed w.cluster w.hard w.masters e) → P (without_master w e (left_hard w.hard l))
   pub starts_agent : (m n : ℕ) → first_refusal ((not (has_machine w.cluster m), NoMachine) ∷ (not (nat_lt (w.boots (agent_id m)) n), NotRising (w.boots (agent_id m))) ∷ []) ≡ None → P (agent_started w m n)
   pub starts_app : (a n : ℕ) → first_refusal ((not (is_known w.hard.jobs a), NoJob) ∷ (has_ended w.hard.jobs a, Ended) ∷ (not (nat_lt (w.boots (app_id a)) n), NotRising (w.boots (app_id a))) ∷ []) ≡ None → P (app_started w a n)
   pub submits : (e : ℕ) (M : Master) (j : JobRecord) → find nat_cmp e w.masters ≡ Some M → Allowed (Submit e j) → first_refusal ((not (has_group w.cluster j.group), NoGroup) ∷ job_tests w.cluster.resources j) ≡ None → first_refusal (submit_tests w.hard M.epoch (eight_places j)) ≡ None
@@ -84,7 +81,8 @@ pub record EventSteps (P : Event → World → Type 0) (Allowed : Event → Type
   pub same : (v : Event) → P v w
   pub starts : (e : ℕ) → first_refusal (is_not_rising w.hard e ∷ (not (nat_lt (length w.masters) most_masters), TooManyMasters most_masters) ∷ []) ≡ None → first_refusal (hard_tests w.hard e Raise) ≡ None
       → P (StartMaster e) (end_step (record w { hard = raised w.hard e; ran = w.ran ++ party master_id e ∷ [] }) (move w.net (Starts (party master_id e))) (new_master (raised w.hard e) e) (map app_id (job_numbers w.hard.jobs)))
-  pub stops : (e : ℕ) → P (StopMaster e) (record w { masters = where_key nat_cmp (λ k. not (nat_eq k e)) w.masters })
+  pub stops : (e : ℕ) → P (StopMaster e) (without_master w e w.hard)
+  pub halts : (calls : ℕ) (all : Bool) (x : Event) (l : Left Allowed w.cluster w.hard w.masters (writer_of x)) → P (Halt calls all x) (without_master w (writer_of x) (left_hard w.hard l))
   pub starts_agent : (m n : ℕ) → first_refusal ((not (has_machine w.cluster m), NoMachine) ∷ (not (nat_lt (w.boots (agent_id m)) n), NotRising (w.boots (agent_id m))) ∷ []) ≡ None → P (StartAgent m n) (agent_started w m n)
   pub starts_app : (a n : ℕ) → first_refusal ((not (is_known w.hard.jobs a), NoJob) ∷ (has_ended w.hard.jobs a, Ended) ∷ (not (nat_lt (w.boots (app_id a)) n), NotRising (w.boots (app_id a))) ∷ []) ≡ None → P (StartApp a n) (app_started w a n)
   pub submits : (e : ℕ) (M : Master) (j : JobRecord) → find nat_cmp e w.masters ≡ Some M → Allowed (Submit e j) → first_refusal ((not (has_group w.cluster j.group), NoGroup) ∷ job_tests w.cluster.resources j) ≡ None → first_refusal (submit_tests w.hard M.epoch (eight_places j)) ≡ None
@@ -156,6 +154,12 @@ module _ (P : Event → World → Type 0) (Allowed : Event → Type 0) (w : Worl
   pub ban_steps : (e m : ℕ) → StepHolds (P (Ban e m)) (commanded w e (BansMachine m))
   ban_steps e m = master_runs (Ban e m) e _ (λ M f. bans_has (StepHolds (P (Ban e m))) w (λ r. record { it = k.same (Ban e m) }) M _ m (λ s. record { it = k.bans e M m f s }))
 
+  -- a stop within a writing
+  halts_steps : (calls : ℕ) (all : Bool) (x : Event) (written : Bool) (v : World) (ls : List Line) → (ls ≡ [] → HasLeft Allowed w (writer_of x) v.hard) → StepHolds (P (Halt calls all x)) (halted w (writer_of x) written v ls)
+  halts_steps calls all x true v [] h = let l = h refl in record { it = subst (λ hard. P (Halt calls all x) (without_master w (writer_of x) hard)) (sym l.is) (k.halts calls all x l.which) }
+  halts_steps calls all x false v [] h = record { it = k.halts calls all x Unwritten }
+  halts_steps calls all x written v (l ∷ ls) h = record { it = k.same (Halt calls all x) }
+
   -- every event, with what it is of a range of deliveries and of a judgement
   pub act_steps : ((n k l : ℕ) → P (DeliverRange k l) (deliver_all n k w).world) → ((e least percent : ℕ) (votes : VotesRecord) (ms : List ℕ) → P (Judge e least percent) (ban_each e votes ms w).world)
       → (v : Event) → Allowed v → StepHolds (P v) (act w v)
@@ -185,6 +189,7 @@ module _ (P : Event → World → Type 0) (Allowed : Event → Type 0) (w : Worl
   act_steps r b (DeliverRange n l) t = checked (DeliverRange n l) _ _ (λ _. record { it = r (l + 1 - n) n l })
   act_steps r b (Dump n) t = checked (Dump n) _ _ (λ _. found_has (StepHolds (P (Dump n))) (packet_of w n) _ _ (record { it = k.same (Dump n) }) (λ x _. record { it = k.same (Dump n) }))
   act_steps r b ShowState t = record { it = k.same ShowState }
+  act_steps r b (Halt calls all x) t = halts_steps calls all x (is_written calls all) (act w x).world (act w x).lines (left_by Allowed w calls all x t).it
 
 module _ (P : World → Type 0) (Allowed : Event → Type 0) (kept : (w : World) → P w → WorldKept P Allowed w) where
   abbrev of_any : Event → World → Type 0
@@ -194,7 +199,8 @@ module _ (P : World → Type 0) (Allowed : Event → Type 0) (kept : (w : World)
   steps_of w b = let h = kept w b in record {
     same = λ _. b;
     starts = h.starts;
-    stops = h.stops;
+    stops = λ e. h.stops e Unwritten;
+    halts = λ calls all x l. h.stops (writer_of x) l;
     starts_agent = h.starts_agent;
     starts_app = h.starts_app;
     submits = h.submits;
@@ -240,7 +246,7 @@ with_ready c N masters = let R = ready c N in put nat_cmp R.epoch R masters
 pub record KeptBy (P : ClusterRecord → HardState → List (ℕ × Master) → Type 0) (Allowed : Event → Type 0) (c : ClusterRecord) (h : HardState) (masters : List (ℕ × Master)) : Type 0 where
   pub starts : (e : ℕ) → first_refusal (is_not_rising h e ∷ (not (nat_lt (length masters) most_masters), TooManyMasters most_masters) ∷ []) ≡ None → first_refusal (hard_tests h e Raise) ≡ None
       → P c (raised h e) (with_ready c (new_master (raised h e) e) masters)
-  pub stops : (e : ℕ) → P c h (where_key nat_cmp (λ k. not (nat_eq k e)) masters)
+  pub stops : (e : ℕ) (l : Left Allowed c h masters e) → P c (left_hard h l) (where_key nat_cmp (λ k. not (nat_eq k e)) masters)
   pub submits : (e : ℕ) (M : Master) (j : JobRecord) → find nat_cmp e masters ≡ Some M → Allowed (Submit e j) → first_refusal ((not (has_group c j.group), NoGroup) ∷ job_tests c.resources j) ≡ None → first_refusal (submit_tests h M.epoch (eight_places j)) ≡ None
       → P c (submitted h (eight_places j)) (with_ready c (record M { jobs = with_job (eight_places j) M.jobs }) masters)
   pub finishes : (e : ℕ) (M : Master) (a : ℕ) → find nat_cmp e masters ≡ Some M → first_refusal (finish_tests h M.epoch a) ≡ None → P c (finished h a) (with_ready c (ended_in M a) masters)

@@ -329,7 +329,7 @@ events_given w b =
     record {
       counted = record { inv = k.counted; given = g };
       starts = λ e n s. record { inv = k.starts e n s; given = acts_given (record w { hard = raised_to w.hard e; ran = w.ran ++ party master_id e ∷ [] }) (move w.net (Starts (party master_id e))) (new_master (raised_to w.hard e) e) (map app_id (job_numbers w.hard.jobs)) (record { it = λ a u m. no_number e _ u m 0 refl }) g };
-      stops = λ e. record { inv = k.stops e; given = g };
+      stops = λ e l. record { inv = k.stops e l; given = g };
       starts_agent = λ m n s. record { inv = k.starts_agent m n s; given = g };
       starts_app = λ a n s. record { inv = k.starts_app a n s; given = g };
       submits = λ e M j f q o s. record { inv = k.submits e M j f q o s; given = acts_given (record w { hard = submitted w.hard (eight_places j) }) w.net (record M { jobs = with_job (eight_places j) M.jobs }) (app_id j.number ∷ []) (given_like w.net M (record M { jobs = with_job (eight_places j) M.jobs }) refl refl (masters_given w e M b.inv g f)) g };

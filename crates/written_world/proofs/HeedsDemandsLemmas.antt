@@ -44,7 +44,8 @@ use Rattle.written_world.proofs.Invariant.{put_found, ready_epoch}
 use Rattle.written_world.proofs.InvariantKept.{SameMaster, always, events_hold, told_same}
 use Rattle.written_world.proofs.KeepsGrantsLemmas.{sent_links, sent_histories, IsUntaken, untaken}
 use Rattle.written_world.proofs.SettledKept.{talks_app}
-use Rattle.written_world.proofs.StartsLemmas.{kept_found, left_out, new_link}
+use Rattle.written_world.proofs.StartsLemmas.{new_link}
+use Rattle.written_world.proofs.LeftLemmas.{still_runs}
 use Rattle.written_world.proofs.StepsLemmas.{master_is}
 
 -- what a master's wishes are
@@ -373,7 +374,7 @@ events_heed w b =
     record {
       counted = record { inv = k.counted; heeds = g };
       starts = λ e n s. record { inv = k.starts e n s; heeds = ends w h g (move w.net (Starts (party master_id e))) (new_master (raised w.hard e) e) (map app_id (job_numbers w.hard.jobs)) (record w { hard = raised w.hard e; ran = w.ran ++ party master_id e ∷ [] }) e refl refl refl (start_leaves w.net (party master_id e)) (grows_itself w.net) (new_heeds w.cluster (move w.net (Starts (party master_id e))) (raised w.hard e) e (λ a. ap (λ (l : Link). l.seq) (new_link w.net master_id e (app_id a) refl))) };
-      stops = λ e. record { inv = k.stops e; heeds = record { it = λ q M f. g.it q M (kept_found (not (nat_eq q e)) (find nat_cmp q w.masters) M (sym (left_out e q w.masters) ∙ f)) } };
+      stops = λ e l. record { inv = k.stops e l; heeds = record { it = λ q M f. g.it q M (still_runs e q M w.masters f).1 } };
       starts_agent = λ m n s. record { inv = k.starts_agent m n s; heeds = others w h g (move w.net (Starts (party (agent_id m) n))) (party (agent_id m) n) refl (start_leaves w.net (party (agent_id m) n)) (grows_itself w.net) };
       starts_app = λ a n s. record { inv = k.starts_app a n s; heeds = others w h g (move w.net (Starts (party (app_id a) n))) (party (app_id a) n) refl (start_leaves w.net (party (app_id a) n)) (grows_itself w.net) };
       submits = λ e M j f q o s. record { inv = k.submits e M j f q o s; heeds = acts w h g (record w { hard = submitted w.hard (eight_places j) }) (record M { jobs = with_job (eight_places j) M.jobs }) (app_id j.number ∷ []) refl refl (added_heeds w.cluster w.hard w.net e M (eight_places j) (h.masters e M f) (g.it e M f)) };

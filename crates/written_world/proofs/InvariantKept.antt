@@ -1,11 +1,10 @@
 -- Each event keeps the invariant.
-use Rattle.std.proofs.Common.{◌≡◌, ◌⊎◌, inl, inr, ℕ, ◌+◌, ◌-◌, ◌<◌, ◌≤◌, Bool, true, false, cond, not, nat_eq, nat_lt, List, [], ◌∷◌, ◌++◌, length, map, Option, Some, None, slice_get, refl, sym, ◌∙◌, ap, subst, arith}
+use Rattle.std.proofs.Common.{◌≡◌, ◌⊎◌, inl, inr, ℕ, ◌+◌, ◌-◌, ◌<◌, ◌≤◌, Bool, true, false, cond, not, nat_eq, nat_lt, List, [], ◌∷◌, ◌++◌, length, map, Some, None, slice_get, refl, sym, ◌∙◌, ap, subst, arith}
 use Rattle.std.specs.Prelude.{⊤, ◌&&◌, min}
 use Rattle.std.specs.List.{AllByRecursion}
 use Rattle.std.specs.Ordering.{nat_cmp}
-use Rattle.std.specs.FinMap.Entries.{find, where_key, find-where_key}
+use Rattle.std.specs.FinMap.Entries.{find}
 use Rattle.std.proofs.lemmas.Bool.Decides.{nat_tests}
-use Rattle.std.proofs.lemmas.Map.Lookups.{exact_unsigned}
 use Rattle.fuxi_terms.specs.declared.Key.{Key}
 use Rattle.fuxi_terms.specs.Cluster.{ClusterRecord, has_rack, has_machine}
 use Rattle.fuxi_terms.specs.Limits.{greatest_count, greatest_back, most_masters}
@@ -25,7 +24,7 @@ use Rattle.written_world.specs.World.{World, Agent, App, empty_world}
 use Rattle.written_roles.specs.MasterSteps.{master_party, is_there, talks, peers, adopts, take_report, take_demand, meet_app, row, grants, counted, ended_in, banned_in, new_master, is_one_of}
 use Rattle.written_world.specs.Parties.{projection, end_step, told, received, adopted_now, joined, agent_table, agent_hears, app_hears, carry}
 use Rattle.written_roles.specs.Apps.{joined_demand, changed_demand, AppCommand, command_tests, command_key, command_number, Wants, WantsNear, WantsInRack, Avoids, GivesBack}
-use Rattle.written_world.specs.Events.{Event, demanded, turned, given_back, usable_now, counted_in}
+use Rattle.written_world.specs.Events.{Event, demanded, turned, given_back, usable_now, counted_in, without_master}
 use Rattle.written_world.specs.Runs.{run}
 use Rattle.written_net.specs.Sound.{Sound, Current, PacketNames}
 use Rattle.written_world.specs.Shown.{AllShown, AllCredited, AllGiveBacks}
@@ -55,6 +54,7 @@ use Rattle.written_world.proofs.CreditedOnce.{credited_once}
 use Rattle.written_world.proofs.AgreementLemmas.{agent_agrees, app_agrees}
 use Rattle.written_world.proofs.CarriedLemmas.{carry_origins, counts_once}
 use Rattle.written_world.proofs.PartiesKept.{joined_reports, joins, joined_written, demands, acted, agent_invariant, app_invariant, app_put_invariant, agent_starts, app_starts}
+use Rattle.written_world.proofs.LeftLemmas.{BanWritten, FinishWritten, Left, StartWritten, SubmitWritten, UnbanWritten, Unwritten, left_hard, still_runs}
 use Rattle.written_world.proofs.EventsWalk.{WorldKept, run_keeps_world, unasked}
 
 -- A master that heard something has its epoch and its jobs
@@ -269,24 +269,46 @@ new_holds w e h lt = finish_invariant w (raised w.hard e) (w.ran ++ party master
       uncredited = λ a none. refl;
     }
 
-stopped_holds : (w : World) (e : ℕ) → Invariant w → Invariant (record w { masters = where_key nat_cmp (λ k. not (nat_eq k e)) w.masters })
-stopped_holds w e h = record {
+-- a master stops and the hard state grows, which is a step of no party
+abbrev nobody : Party
+nobody = record { id = record { role = 0; number = 0 }; inc = 0 }
+
+stopped_holds : (w : World) (hard : HardState) (e : ℕ) → w.hard.fence ≤ hard.fence → KnowsMore w.hard.jobs hard.jobs → Invariant w → Invariant (without_master w e hard)
+stopped_holds w hard e up more h = stepped w (without_master w e hard) nobody h (record {
+  cluster = refl;
   sound = h.sound;
-  unstarted = h.unstarted;
-  masters = λ q M found. h.masters q M (kept (not (nat_eq q e)) (find nat_cmp q w.masters) M (sym (find-where_key nat_cmp (λ k. not (nat_eq k e)) q (λ x t. ap (λ k. not (nat_eq k e)) (sym (exact_unsigned q x t))) w.masters) ∙ found));
-  agents = h.agents;
-  apps = h.apps;
+  leaves = leaves_nothing nobody w.net;
+  grows = grows_itself w.net;
+  fence = up;
+  more = more;
+  boots = λ d. omega arith;
+  own = omega arith;
+  masters = λ q M f. inl (refl, (still_runs e q M w.masters f).1);
+  agents = λ m g f. inl (refl, f);
+  apps = λ b g f. inl (refl, f);
   machines = h.machines;
-  origins = h.origins;
-  units = h.units;
-  written = h.written;
-  entries = h.entries;
-  reports = h.reports;
-}
-  where
-    kept : (b : Bool) (o : Option Master) (M : Master) → cond b o None ≡ Some M → o ≡ Some M
-    kept true o M f = f
-    kept false o M f = cc
+  origins = λ b g f. inl f;
+  written = λ b n. inl refl;
+  entries = λ k. inl refl;
+  reports = λ m b. inl refl;
+})
+
+-- what a stop leaves
+pub left_fence : (A : Event → Type 0) (c : ClusterRecord) (h : HardState) (masters : List (ℕ × Master)) (e : ℕ) (l : Left A c h masters e) → h.fence ≤ (left_hard h l).fence
+left_fence A c h masters e Unwritten = omega arith
+left_fence A c h masters e (StartWritten n t) = let up = rising (not_refused (not (nat_lt h.fence e)) (NotRising h.fence) ((not (nat_lt (length masters) most_masters), TooManyMasters most_masters) ∷ []) n).0 in omega (arith, up)
+left_fence A c h masters e (SubmitWritten M j calls all f line own t) = omega arith
+left_fence A c h masters e (FinishWritten M a f t) = omega arith
+left_fence A c h masters e (BanWritten M m f t) = omega arith
+left_fence A c h masters e (UnbanWritten M m f t) = omega arith
+
+left_more : (A : Event → Type 0) (c : ClusterRecord) (h : HardState) (masters : List (ℕ × Master)) (e : ℕ) (l : Left A c h masters e) → KnowsMore h.jobs (left_hard h l).jobs
+left_more A c h masters e Unwritten = knows_itself h.jobs
+left_more A c h masters e (StartWritten n t) = knows_itself h.jobs
+left_more A c h masters e (SubmitWritten M j calls all f line own t) = job_added h.jobs (eight_places j)
+left_more A c h masters e (FinishWritten M a f t) = ended_knows a h.jobs h.jobs (knows_itself h.jobs)
+left_more A c h masters e (BanWritten M m f t) = knows_itself h.jobs
+left_more A c h masters e (UnbanWritten M m f t) = knows_itself h.jobs
 
 -- What applications ask for, and give back
 unit_there : (w : World) (g : App) (u : ℕ) (rest : Bool) → nat_lt u g.units ≡ true → rest ≡ true → (nat_lt u g.units && rest) ≡ true
@@ -338,7 +360,7 @@ pub events_hold : (w : World) → Invariant w → WorldKept Invariant (λ _. ⊤
 events_hold w h = record {
   counted = counted_holds w h;
   starts = λ e n _. new_holds w e h (rising (not_refused (not (nat_lt w.hard.fence e)) (NotRising w.hard.fence) ((not (nat_lt (length w.masters) most_masters), TooManyMasters most_masters) ∷ []) n).0);
-  stops = λ e. stopped_holds w e h;
+  stops = λ e l. stopped_holds w (left_hard w.hard l) e (left_fence (λ _. ⊤) w.cluster w.hard w.masters e l) (left_more (λ _. ⊤) w.cluster w.hard w.masters e l) h;
   starts_agent = λ m b n.
       let rest = not (nat_lt (w.boots (agent_id m)) b) in
       let first = not_refused (not (has_machine w.cluster m)) NoMachine ((rest, NotRising (w.boots (agent_id m))) ∷ []) n in

@@ -10,7 +10,7 @@ use Rattle.fuxi_terms.specs.Cluster.{ClusterRecord, JobRecord, UnitRecord, is_va
 use Rattle.fuxi_terms.specs.Jobs.{KnownJob, job_of, is_known, has_ended, eight_places}
 use Rattle.fuxi_terms.specs.Numbers.{has_number}
 use Rattle.written_roles.specs.Masters.{Master}
-use Rattle.written_roles.specs.HardState.{HardState, with_job, with_ended, submitted, finished, is_full, is_not_rising}
+use Rattle.written_roles.specs.HardState.{HardState, raised, with_job, with_ended, submitted, finished, banned, unbanned, is_full, is_not_rising}
 use Rattle.written_roles.specs.Refusals.{Refusal, HardFull, Fenced, Known, NoJob, Ended, AlreadyBanned, NotBanned, NoGroup, NoUnits, TooManyUnits, Dimensions, PriorityRange, QuantityRange, ZeroSize, MostRange, first_refusal, job_tests, units_tests}
 use Rattle.written_world.specs.World.{World, Step, empty_world}
 use Rattle.written_world.specs.Events.{Event, act}
@@ -20,6 +20,7 @@ use Rattle.written_world.specs.Good.{IsNarrow, IsJob, AreJobs, AreDistinct, IsHa
 use Rattle.fuxi_terms.proofs.Booleans.{both_true, and_true, either}
 use Rattle.fuxi_terms.proofs.Alls.{all_append}
 use Rattle.fuxi_terms.proofs.VectorLaws.{fits_places, length-padded, at_place-padded, quantities-padded}
+use Rattle.written_world.proofs.LeftLemmas.{BanWritten, FinishWritten, Left, StartWritten, SubmitWritten, UnbanWritten, Unwritten, left_hard}
 use Rattle.written_world.proofs.EventsWalk.{KeptBy, act_keeps, run_keeps}
 
 -- A job that passes the tests is valid in eight places
@@ -156,6 +157,10 @@ hard_added c h j new e k =
 hard_ended : (c : ClusterRecord) (a : ℕ) (h : HardState) → first_refusal (is_full h ∷ []) ≡ None → IsHard c h → IsHard c (finished h a)
 hard_ended c a h e k = record { jobs = jobs_ended c a h.jobs k.jobs; distinct = distinct_ended a h.jobs k.distinct; few = room h e }
 
+-- one record more
+written : (c : ClusterRecord) (h h' : HardState) → h'.jobs ≡ h.jobs → h'.records ≡ h.records + 1 → first_refusal (is_full h ∷ []) ≡ None → IsHard c h → IsHard c h'
+written c h h' jobs more e k = record { jobs = subst (AreJobs c) (sym jobs) k.jobs; distinct = subst AreDistinct (sym jobs) k.distinct; few = (let r = room h e in omega (arith, more, r)) }
+
 -- The walk
 pub record HasJobs (c : ClusterRecord) (w : World) : Type 0 where
   pub same : w.cluster ≡ c
@@ -173,23 +178,30 @@ abbrev of_line : Event → Type 0
 of_line e = is_from_line e ≡ true
 
 module _ (c : ClusterRecord) (few : c.resources ≤ most_resources) where
+  -- what a writing leaves
+  left_valid : (d : ClusterRecord) (h : HardState) (masters : List (ℕ × Master)) (e : ℕ) → d ≡ c → IsHard c h → (l : Left of_line d h masters e) → IsHard c (left_hard h l)
+  left_valid d h masters e same b Unwritten = b
+  left_valid d h masters e same b (StartWritten n t) = written c h (raised h e) refl refl (behind (is_not_rising h e ∷ []) (is_full h ∷ []) t) b
+  left_valid d h masters e same b (SubmitWritten M j calls all f line own t) =
+      let parts = both_true (nat_lt j.number most_jobs) (nat_lt j.group most_groups) (both_true (is_counted e) _ (both_true (is_between 1 4 calls) _ line).1).1 in
+      let job : IsJob c (eight_places j) = wide_job c j few parts.0 parts.1 (subst (λ (d : ClusterRecord). first_refusal ((not (has_group d j.group), NoGroup) ∷ job_tests d.resources j) ≡ None) same own) in
+      hard_added c h (eight_places j) job (passed _ _ ((is_known h.jobs j.number, Known) ∷ is_full h ∷ []) t).1 b
+  left_valid d h masters e same b (FinishWritten M a f t) = hard_ended c a h (behind ((nat_lt M.epoch h.fence, Fenced h.fence) ∷ (not (is_known h.jobs a), NoJob) ∷ (has_ended h.jobs a, Ended) ∷ []) (is_full h ∷ []) t) b
+  left_valid d h masters e same b (BanWritten M m f t) = written c h (banned h m) refl refl (behind ((nat_lt M.epoch h.fence, Fenced h.fence) ∷ (has_number m h.bans, AlreadyBanned) ∷ []) (is_full h ∷ []) t) b
+  left_valid d h masters e same b (UnbanWritten M m f t) = written c h (unbanned h m) refl refl (behind ((nat_lt M.epoch h.fence, Fenced h.fence) ∷ (not (has_number m h.bans), NotBanned) ∷ []) (is_full h ∷ []) t) b
+
   jobs_kept : (d : ClusterRecord) (h : HardState) (masters : List (ℕ × Master)) → (d ≡ c) × IsHard c h → KeptBy (has_jobs c) of_line d h masters
-  jobs_kept d h masters b =
-      let jobs = b.1.jobs in
-      let distinct = b.1.distinct in record {
-        starts = λ e _ t. (b.0, record { jobs = jobs; distinct = distinct; few = room h (behind (is_not_rising h e ∷ []) (is_full h ∷ []) t) });
-        stops = λ _. b;
-        submits = λ e M j _ line own t.
-            let parts = both_true (nat_lt j.number most_jobs) (nat_lt j.group most_groups) (both_true (is_counted e) _ line).1 in
-            let job : IsJob c (eight_places j) = wide_job c j few parts.0 parts.1 (subst (λ (d : ClusterRecord). first_refusal ((not (has_group d j.group), NoGroup) ∷ job_tests d.resources j) ≡ None) b.0 own) in
-            (b.0, hard_added c h (eight_places j) job (passed _ _ ((is_known h.jobs j.number, Known) ∷ is_full h ∷ []) t).1 b.1);
-        finishes = λ e M a _ t. (b.0, hard_ended c a h (behind ((nat_lt M.epoch h.fence, Fenced h.fence) ∷ (not (is_known h.jobs a), NoJob) ∷ (has_ended h.jobs a, Ended) ∷ []) (is_full h ∷ []) t) b.1);
-        bans = λ e M m _ t. (b.0, record { jobs = jobs; distinct = distinct; few = room h (behind ((nat_lt M.epoch h.fence, Fenced h.fence) ∷ (has_number m h.bans, AlreadyBanned) ∷ []) (is_full h ∷ []) t) });
-        unbans = λ e M m _ t. (b.0, record { jobs = jobs; distinct = distinct; few = room h (behind ((nat_lt M.epoch h.fence, Fenced h.fence) ∷ (not (has_number m h.bans), NotBanned) ∷ []) (is_full h ∷ []) t) });
-        begins = λ _ _ _. b;
-        preempts = λ _ _ _ _ _ _. b;
-        hears = λ _ _ _ _ _ _. b;
-      }
+  jobs_kept d h masters b = record {
+    starts = λ e n t. (b.0, left_valid d h masters e b.0 b.1 (StartWritten n t));
+    stops = λ e l. (b.0, left_valid d h masters e b.0 b.1 l);
+    submits = λ e M j f line own t. (b.0, left_valid d h masters e b.0 b.1 (SubmitWritten M j 1 true f line own t));
+    finishes = λ e M a f t. (b.0, left_valid d h masters e b.0 b.1 (FinishWritten M a f t));
+    bans = λ e M m f t. (b.0, left_valid d h masters e b.0 b.1 (BanWritten M m f t));
+    unbans = λ e M m f t. (b.0, left_valid d h masters e b.0 b.1 (UnbanWritten M m f t));
+    begins = λ _ _ _. b;
+    preempts = λ _ _ _ _ _ _. b;
+    hears = λ _ _ _ _ _ _. b;
+  }
 
   -- each event
   pub act_has : (w : World) (e : Event) → is_from_line e ≡ true → HasJobs c w → StepHasJobs c (act w e)

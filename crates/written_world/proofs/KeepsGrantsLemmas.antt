@@ -3,7 +3,7 @@ use Rattle.std.proofs.Common.{◌≡◌, ◌⊎◌, inl, inr, ℕ, zero, suc, �
 use Rattle.std.specs.Prelude.{⊤, ◌&&◌}
 use Rattle.std.specs.Option.{unwrap_or}
 use Rattle.std.specs.Ordering.{nat_cmp}
-use Rattle.std.specs.FinMap.Entries.{find, put, where_key}
+use Rattle.std.specs.FinMap.Entries.{find, put}
 use Rattle.std.proofs.lemmas.Bool.Decides.{nat_tests}
 use Rattle.fuxi_terms.specs.declared.answers.What.TheVariants.{Stranger, Stale}
 use Rattle.fuxi_terms.specs.Cluster.{ClusterRecord, has_machine}
@@ -27,12 +27,13 @@ use Rattle.written_world.proofs.Invariant.{ready_epoch}
 use Rattle.written_roles.specs.Refusals.{NoPacket, NotRising, NoMachine, first_refusal, with_found}
 use Rattle.written_world.specs.World.{World, Agent, Step, prints_nothing, refused}
 use Rattle.written_world.specs.Parties.{agent_table, agent_hears, app_hears, joined, master_hears, end_step, offers, told, received, adopted_now}
-use Rattle.written_world.specs.Events.{Event, StartMaster, StopMaster, StartApp, Submit, Finish, Ban, Unban, Begin, Preempt, Deliver, app_started, act, counted_in, packet_of, deliver_one, addressed, heard_by, heard_line, given_back}
+use Rattle.written_world.specs.Events.{Event, StartMaster, StopMaster, StartApp, Submit, Finish, Ban, Unban, Begin, Preempt, Deliver, Halt, app_started, act, counted_in, packet_of, deliver_one, addressed, heard_by, heard_line, given_back, without_master, writer_of}
 use Rattle.written_world.specs.Good.{Invariant}
 use Rattle.written_world.specs.KeepsGrants.{AllReport, AllStay}
 use Rattle.written_world.specs.Runs.{run}
 use Rattle.written_world.specs.Steps.{is_single}
 use Rattle.written_world.proofs.CreditsLemmas.{stayed}
+use Rattle.written_world.proofs.LeftLemmas.{left_hard}
 use Rattle.written_world.proofs.EventsWalk.{EventSteps, act_steps}
 use Rattle.written_world.proofs.InvariantKept.{always, counted_holds, not_refused, rising, told_same}
 use Rattle.written_world.proofs.StartsLemmas.{put_here}
@@ -224,7 +225,8 @@ module _ (w : World) (h : Invariant w) (m : ℕ) (g : Agent) (found : find nat_c
   steps = record {
     same = λ v. same v w refl;
     starts = λ e _ _. ends (StartMaster e) (record w { hard = raised w.hard e; ran = w.ran ++ party master_id e ∷ [] }) (move w.net (Starts (party master_id e))) (new_master (raised w.hard e) e) (map app_id (job_numbers w.hard.jobs)) e refl (start_leaves w.net (party master_id e)) (grows_itself w.net);
-    stops = λ e. same (StopMaster e) (record w { masters = where_key nat_cmp (λ k. not (nat_eq k e)) w.masters }) refl;
+    stops = λ e. same (StopMaster e) (without_master w e w.hard) refl;
+    halts = λ calls all x l. same (Halt calls all x) (without_master w (writer_of x) (left_hard w.hard l)) refl;
     starts_agent = λ k b t. record { it = λ _ f. inl (replaced k b t f) };
     starts_app = λ a b _. left (StartApp a b) (app_started w a b) (party (app_id a) b) (start_leaves w.net (party (app_id a) b)) refl (grows_itself w.net);
     submits = λ e M j f _ _ _. acts (Submit e j) (record w { hard = submitted w.hard (eight_places j) }) (record M { jobs = with_job (eight_places j) M.jobs }) (app_id j.number ∷ []);

@@ -1,10 +1,9 @@
 -- What each running master knows of the hard state.
-use Rattle.std.proofs.Common.{◌≡◌, ◌⊎◌, inl, inr, ℕ, zero, suc, ◌<◌, ◌≤◌, Bool, true, false, cond, not, nat_eq, nat_lt, List, [], ◌∷◌, ◌++◌, length, map, Option, Some, None, refl, sym, ◌∙◌, ap, subst, arith}
+use Rattle.std.proofs.Common.{◌≡◌, ◌⊎◌, inl, inr, ℕ, zero, suc, ◌<◌, ◌≤◌, Bool, true, false, cond, not, nat_eq, nat_lt, List, [], ◌∷◌, ◌++◌, length, map, Some, None, refl, sym, ◌∙◌, ap, subst, arith}
 use Rattle.std.specs.Prelude.{⊤, ◌&&◌}
 use Rattle.std.specs.Ordering.{nat_cmp}
-use Rattle.std.specs.FinMap.Entries.{find, where_key, find-where_key}
+use Rattle.std.specs.FinMap.Entries.{find, where_key}
 use Rattle.std.proofs.lemmas.Bool.Decides.{nat_tests}
-use Rattle.std.proofs.lemmas.Map.Lookups.{exact_unsigned}
 use Rattle.fuxi_terms.specs.Cluster.{ClusterRecord, JobRecord}
 use Rattle.fuxi_terms.specs.Limits.{most_masters}
 use Rattle.fuxi_terms.specs.Jobs.{KnownJob, is_known, has_ended, is_live, eight_places}
@@ -25,6 +24,7 @@ use Rattle.written_world.specs.Good.{KnowsHard}
 use Rattle.fuxi_terms.proofs.Booleans.{either}
 use Rattle.written_world.proofs.Invariant.{put_found, ready_epoch}
 use Rattle.written_world.proofs.InvariantKept.{not_refused, rising}
+use Rattle.written_world.proofs.LeftLemmas.{BanWritten, FinishWritten, Left, StartWritten, SubmitWritten, UnbanWritten, Unwritten, left_hard, still_runs}
 use Rattle.written_world.proofs.EventsWalk.{KeptBy, with_ready, act_keeps}
 
 -- a running master of an epoch, and what it knows
@@ -160,12 +160,31 @@ starts_known : (c : ClusterRecord) (h : HardState) (masters : List (ℕ × Maste
 starts_known c h masters e all lt = ends c (raised h e) masters (new_master (raised h e) e) (omega arith) (exact (raised h e) (new_master (raised h e) e) refl refl)
     (λ e' M' other f. let k = all.all e' M' f in let r = k.ran in older h (raised h e) [] e' M' (behind_nothing (records_of h.jobs)) (omega (arith, lt)) (λ is. omega (arith, is, r, lt)) k)
 
-stopped_known : (h : HardState) (masters : List (ℕ × Master)) (e : ℕ) → AllKnow h masters → AllKnow h (where_key nat_cmp (λ k. not (nat_eq k e)) masters)
-stopped_known h masters e b = record { all = λ q M found. b.all q M (kept (not (nat_eq q e)) (find nat_cmp q masters) M (sym (find-where_key nat_cmp (λ k. not (nat_eq k e)) q (λ x t. ap (λ k. not (nat_eq k e)) (sym (exact_unsigned q x t))) masters) ∙ found)) }
-  where
-    kept : (b : Bool) (o : Option Master) (M : Master) → cond b o None ≡ Some M → o ≡ Some M
-    kept true o M f = f
-    kept false o M f = cc
+-- a master stops, and the hard state grows: those that are left are of other epochs than the fence
+stopped_known : (h h' : HardState) (masters : List (ℕ × Master)) (e : ℕ) (more : List JobRecord) → AllKnow h masters → records_of h'.jobs ≡ records_of h.jobs ++ more → h.fence ≤ h'.fence → ((q : ℕ) → q ≤ h.fence → nat_eq q e ≡ false → q ≡ h'.fence → ⊥)
+    → AllKnow h' (where_key nat_cmp (λ k. not (nat_eq k e)) masters)
+stopped_known h h' masters e more b grown up apart = record { all = λ q M found. let o = still_runs e q M masters found in let k = b.all q M o.1 in older h h' more q M grown up (apart q k.ran o.0) k }
+
+-- a master that may write is of the fence
+last_epoch : (h : HardState) (masters : List (ℕ × Master)) (e : ℕ) (M : Master) → AllKnow h masters → find nat_cmp e masters ≡ Some M → nat_lt M.epoch h.fence ≡ false → e ≡ h.fence
+last_epoch h masters e M b f unfenced = let k = b.all e M f in let r = k.ran in let ep = k.epoch in (let least : h.fence ≤ M.epoch = grind (arith, nat_tests, unfenced) in omega (arith, r, ep, least))
+
+others : (e f q : ℕ) → e ≡ f → nat_eq q e ≡ false → q ≡ f → ⊥
+others e f q last apart same = let yes : nat_eq q e ≡ true = grind (arith, nat_tests, last, same) in cc
+
+left_known : (A : Event → Type 0) (c : ClusterRecord) (h : HardState) (masters : List (ℕ × Master)) (e : ℕ) → AllKnow h masters → (l : Left A c h masters e) → AllKnow (left_hard h l) (where_key nat_cmp (λ k. not (nat_eq k e)) masters)
+left_known A c h masters e b Unwritten = record { all = λ q M found. b.all q M (still_runs e q M masters found).1 }
+left_known A c h masters e b (StartWritten n t) =
+    let up = rising (not_refused (not (nat_lt h.fence e)) (NotRising h.fence) ((not (nat_lt (length masters) most_masters), TooManyMasters most_masters) ∷ []) n).0 in
+    stopped_known h (raised h e) masters e [] b (behind_nothing (records_of h.jobs)) (omega (arith, up)) (λ q ran apart same. omega (arith, ran, same, up))
+left_known A c h masters e b (SubmitWritten M j calls all f line own t) =
+    stopped_known h (submitted h (eight_places j)) masters e (eight_places j ∷ []) b (records_added h.jobs (eight_places j)) (omega arith) (λ q ran apart same. others e h.fence q (last_epoch h masters e M b f (not_fenced M h ((is_known h.jobs j.number, Known) ∷ is_full h ∷ []) t)) apart same)
+left_known A c h masters e b (FinishWritten M a f t) =
+    stopped_known h (finished h a) masters e [] b (records_ended a h.jobs) (omega arith) (λ q ran apart same. others e h.fence q (last_epoch h masters e M b f (not_fenced M h ((not (is_known h.jobs a), NoJob) ∷ (has_ended h.jobs a, Ended) ∷ is_full h ∷ []) t)) apart same)
+left_known A c h masters e b (BanWritten M m f t) =
+    stopped_known h (banned h m) masters e [] b (behind_nothing (records_of h.jobs)) (omega arith) (λ q ran apart same. others e h.fence q (last_epoch h masters e M b f (not_fenced M h ((has_number m h.bans, AlreadyBanned) ∷ is_full h ∷ []) t)) apart same)
+left_known A c h masters e b (UnbanWritten M m f t) =
+    stopped_known h (unbanned h m) masters e [] b (behind_nothing (records_of h.jobs)) (omega arith) (λ q ran apart same. others e h.fence q (last_epoch h masters e M b f (not_fenced M h ((not (has_number m h.bans), NotBanned) ∷ is_full h ∷ []) t)) apart same)
 
 -- of a world
 abbrev all_know : ClusterRecord → HardState → List (ℕ × Master) → Type 0
@@ -174,7 +193,7 @@ all_know = λ _ h masters. AllKnow h masters
 masters_know : (c : ClusterRecord) (h : HardState) (masters : List (ℕ × Master)) → AllKnow h masters → KeptBy all_know (λ _. ⊤) c h masters
 masters_know c h masters b = record {
   starts = λ e n _. starts_known c h masters e b (rising (not_refused (not (nat_lt h.fence e)) (NotRising h.fence) ((not (nat_lt (length masters) most_masters), TooManyMasters most_masters) ∷ []) n).0);
-  stops = λ e. stopped_known h masters e b;
+  stops = λ e l. left_known (λ _. ⊤) c h masters e b l;
   submits = λ e M j f _ _ t.
       writes c h masters (submitted h (eight_places j)) (eight_places j ∷ []) e M (record M { jobs = with_job (eight_places j) M.jobs }) b f (not_fenced M h ((is_known h.jobs j.number, Known) ∷ is_full h ∷ []) t) refl refl (records_added h.jobs (eight_places j)) (λ s. ap (with_job (eight_places j)) s) (λ s. s);
   finishes = λ e M a f t. writes c h masters (finished h a) [] e M (ended_in M a) b f (not_fenced M h ((not (is_known h.jobs a), NoJob) ∷ (has_ended h.jobs a, Ended) ∷ is_full h ∷ []) t) refl refl (records_ended a h.jobs) (λ s. ap (with_ended a) s) (λ s. s);

@@ -1,4 +1,5 @@
 pub mod CommandLemmas
+pub mod LeftLemmas
 pub mod MovesWalk
 pub mod EventsWalk
 pub mod GoodAtStart
@@ -36,3 +37,4 @@ pub mod GivesBackLemmas
 pub mod HeedsDemandsLemmas
 pub mod TurnsLemmas
 pub mod JudgingLemmas
+pub mod HaltingLemmas

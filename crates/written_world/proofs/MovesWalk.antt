@@ -76,7 +76,7 @@ module _ (I : Net Ledger → Type 0) (keeps : (net : Net Ledger) (m : Move Ledge
   net_kept w h = let b = h.net in record {
     counted = record { net = b };
     starts = λ e _ _. end_keeps (record w { hard = raised w.hard e; ran = w.ran ++ party master_id e ∷ [] }) (move w.net (Starts (party master_id e))) (new_master (raised w.hard e) e) (map app_id (job_numbers w.hard.jobs)) (keeps w.net (Starts (party master_id e)) b);
-    stops = λ e. record { net = b };
+    stops = λ e l. record { net = b };
     starts_agent = λ m n _. record { net = keeps w.net (Starts (party (agent_id m) n)) b };
     starts_app = λ a n _. record { net = keeps w.net (Starts (party (app_id a) n)) b };
     submits = λ e M j _ _ _ _. end_keeps (record w { hard = submitted w.hard (eight_places j) }) w.net (record M { jobs = with_job (eight_places j) M.jobs }) (app_id j.number ∷ []) b;

@@ -1,10 +1,9 @@
 -- What runs has run, and so has all that a party knows or a packet names.
-use Rattle.std.proofs.Common.{◌≡◌, ◌⊎◌, inl, inr, ℕ, ◌+◌, ◌-◌, ◌<◌, ◌≤◌, Bool, true, false, cond, not, nat_eq, nat_lt, List, [], ◌∷◌, ◌++◌, length, map, Option, Some, None, refl, sym, ◌∙◌, ap, subst, arith}
+use Rattle.std.proofs.Common.{◌≡◌, ◌⊎◌, inl, inr, ℕ, ◌+◌, ◌-◌, ◌<◌, ◌≤◌, Bool, true, false, cond, not, nat_eq, nat_lt, List, [], ◌∷◌, ◌++◌, length, map, Some, refl, sym, ◌∙◌, ap, subst, arith}
 use Rattle.std.specs.Prelude.{⊤, ◌||◌, min}
 use Rattle.std.specs.List.{AllByRecursion, list_any}
 use Rattle.std.specs.Ordering.{nat_cmp}
-use Rattle.std.specs.FinMap.Entries.{find, put, where_key, find-where_key}
-use Rattle.std.proofs.lemmas.Map.Lookups.{exact_unsigned}
+use Rattle.std.specs.FinMap.Entries.{find, put}
 use Rattle.fuxi_terms.specs.Cluster.{ClusterRecord, has_machine}
 use Rattle.fuxi_terms.specs.Limits.{most_masters, kept_changes, turn_deltas}
 use Rattle.fuxi_terms.specs.Lists.{numbers_from}
@@ -21,7 +20,7 @@ use Rattle.written_roles.specs.Refusals.{Refusal, NotRising, TooManyMasters, NoM
 use Rattle.written_roles.specs.Apps.{changed_demand, command_key, command_number}
 use Rattle.written_world.specs.World.{World, Agent, App, Step, top, set_boot, empty_world}
 use Rattle.written_world.specs.Parties.{offers, end_step, told, received, adopted_now, joined, app_hears}
-use Rattle.written_world.specs.Events.{Event, packet_of, given_back, agent_started, app_started, act}
+use Rattle.written_world.specs.Events.{Event, packet_of, given_back, agent_started, app_started, act, without_master}
 use Rattle.written_world.specs.Good.{has_run, placed, HasRunPacket, AllRan, IsBooted, IsRecorded}
 use Rattle.fuxi_terms.proofs.Booleans.{either, either_case, or_right}
 use Rattle.fuxi_terms.proofs.Alls.{all_append, all_more}
@@ -29,7 +28,8 @@ use Rattle.written_net.proofs.BoundedLemmas.{found_within, in_numbers}
 use Rattle.written_net.proofs.NetLemmas.{set_at_all}
 use Rattle.written_net.proofs.PublishLemmas.{same_party_itself, same_id_itself}
 use Rattle.written_world.proofs.Invariant.{put_found, ready_epoch}
-use Rattle.written_world.proofs.InvariantKept.{told_same, not_refused, rising}
+use Rattle.written_world.proofs.InvariantKept.{left_fence, told_same, not_refused, rising}
+use Rattle.written_world.proofs.LeftLemmas.{left_hard, still_runs}
 use Rattle.written_world.proofs.EventsWalk.{WorldKept, act_keeps_world}
 use Rattle.written_world.proofs.PartiesKept.{knows_sender, boots_rise}
 
@@ -241,24 +241,20 @@ master_starts_recorded w e h lt =
     (all_append (λ (p : Party). p.inc ≤ top (record w { hard = raised w.hard e }) p.id) w.ran (p ∷ []) (below_more w (record w { hard = raised w.hard e }) w.ran up h.below) (omega arith, tt))
     (start_ran ran w.net p (all_more_ran w.ran ran w.net more h.net))
 
-stopped_recorded : (w : World) (e : ℕ) → IsRecorded w → IsRecorded (record w { masters = where_key nat_cmp (λ k. not (nat_eq k e)) w.masters })
-stopped_recorded w e h = record {
-  masters = λ q M found. h.masters q M (kept (not (nat_eq q e)) (find nat_cmp q w.masters) M (sym (find-where_key nat_cmp (λ k. not (nat_eq k e)) q (λ x t. ap (λ k. not (nat_eq k e)) (sym (exact_unsigned q x t))) w.masters) ∙ found));
+stopped_recorded : (w : World) (hard : HardState) (e : ℕ) → w.hard.fence ≤ hard.fence → IsRecorded w → IsRecorded (without_master w e hard)
+stopped_recorded w hard e up h = record {
+  masters = λ q M found. h.masters q M (still_runs e q M w.masters found).1;
   agents = h.agents;
   apps = h.apps;
-  below = h.below;
+  below = below_more w (without_master w e hard) w.ran (λ d. elim (same_id master_id d) as (λ t. cond t w.hard.fence (w.boots d) ≤ cond t hard.fence (w.boots d)) [ true ↦ up | false ↦ omega arith ]) h.below;
   net = h.net;
 }
-  where
-    kept : (b : Bool) (o : Option Master) (M : Master) → cond b o None ≡ Some M → o ≡ Some M
-    kept true o M f = f
-    kept false o M f = cc
 
 recorded_kept : (w : World) → IsRecorded w → WorldKept IsRecorded (λ _. ⊤) w
 recorded_kept w h = record {
   counted = record { masters = h.masters; agents = h.agents; apps = h.apps; below = h.below; net = h.net };
   starts = λ e n _. master_starts_recorded w e h (rising (not_refused (not (nat_lt w.hard.fence e)) (NotRising w.hard.fence) ((not (nat_lt (length w.masters) most_masters), TooManyMasters most_masters) ∷ []) n).0);
-  stops = λ e. stopped_recorded w e h;
+  stops = λ e l. stopped_recorded w (left_hard w.hard l) e (left_fence (λ _. ⊤) w.cluster w.hard w.masters e l) h;
   starts_agent = λ m b n.
       let rest = not (nat_lt (w.boots (agent_id m)) b) in
       let first = not_refused (not (has_machine w.cluster m)) NoMachine ((rest, NotRising (w.boots (agent_id m))) ∷ []) n in

@@ -2,7 +2,7 @@
 use Rattle.std.proofs.Common.{◌≡◌, ◌⊎◌, inl, inr, ℕ, zero, suc, ◌+◌, Bool, true, false, not, nat_eq, List, [], ◌∷◌, ◌++◌, length, take, Some, slice_get, refl, sym, ◌∙◌, ap, subst}
 use Rattle.std.specs.Prelude.{⊤, is_some}
 use Rattle.std.specs.Ordering.{nat_cmp}
-use Rattle.std.specs.FinMap.Entries.{find}
+use Rattle.std.specs.FinMap.Entries.{find, where_key}
 use Rattle.fuxi_terms.specs.Cluster.{ClusterRecord}
 use Rattle.fuxi_terms.specs.Jobs.{eight_places}
 use Rattle.fuxi_terms.specs.Numbers.{has_number, without_number}
@@ -17,13 +17,14 @@ use Rattle.written_roles.proofs.ServesWhenTold.{ready_serves, hearing_serves, he
 use Rattle.written_roles.proofs.TransitionsLemmas.{ready_besides}
 use Rattle.written_world.specs.World.{World, empty_world}
 use Rattle.written_world.specs.Parties.{told, received}
-use Rattle.written_world.specs.Events.{Event, StartMaster, StopMaster, Submit, Finish, Ban, Unban, Begin, Preempt, Judge, Deliver, DeliverRange, counted_in, world_step, act, commanded, ban_each, deliver_one, deliver_all}
+use Rattle.written_world.specs.Events.{Event, StartMaster, StopMaster, Submit, Finish, Ban, Unban, Begin, Preempt, Judge, Deliver, DeliverRange, Halt, writer_of, counted_in, world_step, act, commanded, ban_each, deliver_one, deliver_all}
 use Rattle.written_world.specs.Runs.{run}
 use Rattle.written_world.specs.Steps.{WasBegun, AllServe}
 use Rattle.written_world.proofs.EventsWalk.{EventSteps, StepHolds, act_steps, ban_steps, deliver_steps, with_ready}
 use Rattle.written_world.proofs.Invariant.{put_found, ready_epoch}
 use Rattle.written_world.proofs.InvariantKept.{told_same}
-use Rattle.written_world.proofs.StartsLemmas.{kept_found, left_out, run_append}
+use Rattle.written_world.proofs.StartsLemmas.{run_append}
+use Rattle.written_world.proofs.LeftLemmas.{still_runs}
 
 -- each running master that serves was told of all, or began
 record AllTold (G : ℕ → Type 0) (c : ClusterRecord) (masters : List (ℕ × Master)) : Type 0 where
@@ -81,14 +82,16 @@ module _ (G : ℕ → Type 0) (w : World) (b : AllTold G w.cluster w.masters) wh
   began : (e : ℕ) (M : Master) → find nat_cmp e w.masters ≡ Some M → AllTold (OrBegan G w (Begin e)) w.cluster (with_ready w.cluster (record M { serving = true }) w.masters)
   began e M f = acted (Begin e) (record M { serving = true }) (λ _. inr (subst (OrBegan G w (Begin e)) (sym (b.epochs e M f)) (inr (refl, ap is_some f))))
 
+  -- a master stops
+  stopped : (v : Event) (e : ℕ) → AllTold (OrBegan G w v) w.cluster (where_key nat_cmp (λ k. not (nat_eq k e)) w.masters)
+  stopped v e = record { epochs = λ k M f. b.epochs k M (still_runs e k M w.masters f).1; told = λ k M f s. more v k M (b.told k M (still_runs e k M w.masters f).1 s) }
+
   steps : EventSteps ToldBy (λ _. ⊤) w
   steps = record {
     same = same;
     starts = λ e _ _. acted (StartMaster e) (new_master (raised w.hard e) e) (λ s. inl (ready_serves w.cluster (new_master (raised w.hard e) e) refl s));
-    stops = λ e. record {
-      epochs = λ k M f. b.epochs k M (kept_found (not (nat_eq k e)) (find nat_cmp k w.masters) M (sym (left_out e k w.masters) ∙ f));
-      told = λ k M f s. more (StopMaster e) k M (b.told k M (kept_found (not (nat_eq k e)) (find nat_cmp k w.masters) M (sym (left_out e k w.masters) ∙ f)) s);
-    };
+    stops = λ e. stopped (StopMaster e) e;
+    halts = λ calls all x _. stopped (Halt calls all x) (writer_of x);
     starts_agent = λ m n _. same _;
     starts_app = λ a n _. same _;
     submits = λ e M j f _ _ _. kept (Submit e j) e M (record M { jobs = with_job (eight_places j) M.jobs }) f refl refl (λ m h. h);

@@ -23,12 +23,12 @@ use Rattle.written_world.specs.Parties.{told, received}
 use Rattle.fuxi_terms.proofs.Booleans.{either, number_is}
 use Rattle.fuxi_terms.proofs.KeyOrders.{same_key}
 use Rattle.written_world.proofs.SettledLemmas.{ranged_same, ready_rests}
+use Rattle.written_world.proofs.LeftLemmas.{left_out}
 use Rattle.written_world.proofs.EventsWalk.{KeptBy, with_ready, act_keeps, run_keeps, unasked}
 use Rattle.written_roles.specs.Preemption.{preempted}
 use Rattle.written_world.specs.World.{World, Step, empty_world}
 use Rattle.written_world.specs.Events.{Event, act}
 use Rattle.written_world.specs.Runs.{run}
-use Rattle.std.proofs.lemmas.Map.Lookups.{exact_unsigned}
 use Rattle.written_world.specs.Good.{IsRangedMaster, IsResting}
 use Rattle.written_roles.proofs.MapLemmas.{with_back}
 
@@ -148,7 +148,7 @@ end_rests c masters N s r = let R = ready c N in record { rests = λ e. put_foun
 stopped_rests : (c : ClusterRecord) (masters : List (ℕ × Master)) (e : ℕ) → AllRest c masters → AllRest c (where_key nat_cmp (λ k. not (nat_eq k e)) masters)
 stopped_rests c masters e b = record {
   rests = λ q.
-      subst (Found (IsResting c)) (sym (find-where_key nat_cmp (λ k. not (nat_eq k e)) q (λ x t. ap (λ k. not (nat_eq k e)) (sym (exact_unsigned q x t))) masters))
+      subst (Found (IsResting c)) (sym (left_out e q masters))
       (elim (not (nat_eq q e)) as (λ t. Found (IsResting c) (cond t (find nat_cmp q masters) None)) [ true ↦ b.rests q | false ↦ record { has = λ x none. cc } ]);
 }
 
@@ -174,7 +174,7 @@ all_rest = λ c _ masters. AllRest c masters
 masters_rest : (c : ClusterRecord) (h : HardState) (masters : List (ℕ × Master)) → AllRest c masters → KeptBy all_rest (λ _. ⊤) c h masters
 masters_rest c h masters b = record {
   starts = λ e _ _. end_rests c masters (new_master (raised h e) e) b (new_ranged c (raised h e) e);
-  stops = λ e. stopped_rests c masters e b;
+  stops = λ e _. stopped_rests c masters e b;
   submits = λ e M j f _ _ _. end_rests c masters (record M { jobs = with_job (eight_places j) M.jobs }) b (job_ranged c M (eight_places j) (ranged e M f));
   finishes = λ e M a f _. end_rests c masters (ended_in M a) b (ended_ranged c M a (ranged e M f));
   bans = λ e M m f _. end_rests c masters (banned_in M m) b (same_ranged c M (banned_in M m) refl refl refl (ranged e M f));

@@ -4,9 +4,8 @@ use Rattle.std.specs.Prelude.{⊤, ◌&&◌}
 use Rattle.std.specs.Option.{option_map}
 use Rattle.std.specs.Ordering.{nat_cmp, eq_by_cmp, is_eq}
 use Rattle.std.specs.Cmp.{nat_cmp_total, tied_itself}
-use Rattle.std.specs.FinMap.Entries.{find, put, where_key, find-put, find-where_key}
+use Rattle.std.specs.FinMap.Entries.{find, put, where_key, find-put}
 use Rattle.std.proofs.lemmas.Bool.Decides.{nat_tests}
-use Rattle.std.proofs.lemmas.Map.Lookups.{exact_unsigned}
 use Rattle.fuxi_terms.specs.Cluster.{ClusterRecord, has_machine}
 use Rattle.fuxi_terms.specs.Jobs.{is_known, has_ended, eight_places, unit_count}
 use Rattle.fuxi_terms.specs.Lists.{below}
@@ -31,9 +30,10 @@ use Rattle.written_world.specs.Good.{IsShowing}
 use Rattle.written_world.specs.Runs.{run, run_from}
 use Rattle.written_world.specs.Starts.{StaysStopped, IsNewAgent, IsNewApp, StartsWithNothing}
 use Rattle.written_world.specs.Steps.{IsDone}
+use Rattle.written_world.proofs.LeftLemmas.{left_out, still_runs}
 use Rattle.written_world.proofs.EventsWalk.{KeptBy, WorldKept, with_ready, run_keeps, run_keeps_world, unasked}
 use Rattle.written_world.proofs.Invariant.{put_found, ready_epoch}
-use Rattle.written_world.proofs.InvariantKept.{always, not_refused, rising, told_same}
+use Rattle.written_world.proofs.InvariantKept.{always, left_fence, not_refused, rising, told_same}
 
 -- A run goes on from where its beginning led
 pub run_append : (es fs : List Event) (w : World) → (run_from (es ++ fs) w).world ≡ (run_from fs (run_from es w).world).world
@@ -41,10 +41,10 @@ run_append [] fs w = refl
 run_append (e ∷ es) fs w = run_append es fs (world_step w e).world
 
 -- Masters. None of the epoch runs, nor will: a new one is above the fence
-record IsGone (e : ℕ) (h : HardState) (masters : List (ℕ × Master)) : Type 0 where
-  below : e ≤ h.fence
-  gone : find nat_cmp e masters ≡ None
-  epochs : (k : ℕ) (M : Master) → find nat_cmp k masters ≡ Some M → M.epoch ≡ k
+pub record IsGone (e : ℕ) (h : HardState) (masters : List (ℕ × Master)) : Type 0 where
+  pub below : e ≤ h.fence
+  pub gone : find nat_cmp e masters ≡ None
+  pub epochs : (k : ℕ) (M : Master) → find nat_cmp k masters ≡ Some M → M.epoch ≡ k
 
 apart : (a b : ℕ) → (a ≡ b → ⊥) → nat_eq a b ≡ false
 apart a b never = by (nat_eq a b) refl
@@ -72,26 +72,19 @@ acts_gone c e h h' masters k M N g found same fence = ends_gone c e h h' masters
     (λ is. let here : find nat_cmp e masters ≡ Some M = ap (λ n. find nat_cmp n masters) (is ∙ same ∙ g.epochs k M found) ∙ found in let none = g.gone in absurd (let f : ⊥ = cc in f))
     (let b = g.below in omega (arith, b, fence))
 
-pub kept_found : (b : Bool) (o : Option Master) (M : Master) → cond b o None ≡ Some M → o ≡ Some M
-kept_found true o M f = f
-kept_found false o M f = cc
+pub stopped_epochs : (e : ℕ) (masters : List (ℕ × Master)) → ((k : ℕ) (M : Master) → find nat_cmp k masters ≡ Some M → M.epoch ≡ k) → (k : ℕ) (M : Master) → find nat_cmp k (where_key nat_cmp (λ k. not (nat_eq k e)) masters) ≡ Some M → M.epoch ≡ k
+stopped_epochs e masters h k M found = h k M (still_runs e k M masters found).1
 
-pub left_out : (e q : ℕ) (masters : List (ℕ × Master)) → find nat_cmp q (where_key nat_cmp (λ k. not (nat_eq k e)) masters) ≡ cond (not (nat_eq q e)) (find nat_cmp q masters) None
-left_out e q masters = find-where_key nat_cmp (λ k. not (nat_eq k e)) q (λ x t. ap (λ k. not (nat_eq k e)) (sym (exact_unsigned q x t))) masters
-
-stopped_epochs : (e : ℕ) (masters : List (ℕ × Master)) → ((k : ℕ) (M : Master) → find nat_cmp k masters ≡ Some M → M.epoch ≡ k) → (k : ℕ) (M : Master) → find nat_cmp k (where_key nat_cmp (λ k. not (nat_eq k e)) masters) ≡ Some M → M.epoch ≡ k
-stopped_epochs e masters h k M found = h k M (kept_found (not (nat_eq k e)) (find nat_cmp k masters) M (sym (left_out e k masters) ∙ found))
-
-abbrev gone_of : ℕ → ClusterRecord → HardState → List (ℕ × Master) → Type 0
+abbrev pub gone_of : ℕ → ClusterRecord → HardState → List (ℕ × Master) → Type 0
 gone_of e = λ _ h masters. IsGone e h masters
 
-events_gone : (e : ℕ) (c : ClusterRecord) (h : HardState) (masters : List (ℕ × Master)) → IsGone e h masters → KeptBy (gone_of e) (λ _. ⊤) c h masters
+pub events_gone : (e : ℕ) (c : ClusterRecord) (h : HardState) (masters : List (ℕ × Master)) → IsGone e h masters → KeptBy (gone_of e) (λ _. ⊤) c h masters
 events_gone e c h masters g = record {
   starts = λ k t _.
       let up = rising (not_refused (not (nat_lt h.fence k)) (NotRising h.fence) ((not (nat_lt (length masters) most_masters), TooManyMasters most_masters) ∷ []) t).0 in
       let b = g.below in
       ends_gone c e h (raised h k) masters (new_master (raised h k) k) g (λ is. omega (arith, is, up, b)) (omega (arith, up, b));
-  stops = λ k. record { below = g.below; gone = left_out k e masters ∙ none (not (nat_eq e k)); epochs = stopped_epochs k masters g.epochs };
+  stops = λ k l. record { below = (let b = g.below in let up = left_fence (λ _. ⊤) c h masters k l in omega (arith, b, up)); gone = left_out k e masters ∙ none (not (nat_eq e k)); epochs = stopped_epochs k masters g.epochs };
   submits = λ k M j f _ _ _. acts_gone c e h (submitted h (eight_places j)) masters k M (record M { jobs = with_job (eight_places j) M.jobs }) g f refl refl;
   finishes = λ k M a f _. acts_gone c e h (finished h a) masters k M (ended_in M a) g f refl refl;
   bans = λ k M m f _. acts_gone c e h (banned h m) masters k M (banned_in M m) g f refl refl;
@@ -158,7 +151,7 @@ agents_above : (n m : ℕ) (w : World) → IsAbove n (w.boots (agent_id m)) (age
 agents_above n m w g = record {
   counted = g;
   starts = λ _ _ _. g;
-  stops = λ _. g;
+  stops = λ _ _. g;
   starts_agent = λ k b t.
       let up = rising (not_refused (not (nat_lt (w.boots (agent_id k)) b)) (NotRising (w.boots (agent_id k))) [] (not_refused (not (has_machine w.cluster k)) NoMachine ((not (nat_lt (w.boots (agent_id k)) b), NotRising (w.boots (agent_id k))) ∷ []) t).1).0 in
       record {
@@ -201,7 +194,7 @@ apps_above : (n a : ℕ) (w : World) → IsAbove n (w.boots (app_id a)) (app_boo
 apps_above n a w g = record {
   counted = g;
   starts = λ _ _ _. g;
-  stops = λ _. g;
+  stops = λ _ _. g;
   starts_agent = λ _ _ _. record { last = g.last; boot = g.boot };
   starts_app = λ k b t.
       let up = rising (not_refused (not (nat_lt (w.boots (app_id k)) b)) (NotRising (w.boots (app_id k))) [] (not_refused (has_ended w.hard.jobs k) Ended ((not (nat_lt (w.boots (app_id k)) b), NotRising (w.boots (app_id k))) ∷ []) (not_refused (not (is_known w.hard.jobs k)) NoJob ((has_ended w.hard.jobs k, Ended) ∷ (not (nat_lt (w.boots (app_id k)) b), NotRising (w.boots (app_id k))) ∷ []) t).1).1).0 in

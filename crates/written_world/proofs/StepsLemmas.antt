@@ -33,16 +33,16 @@ use Rattle.written_roles.proofs.MapLemmas.{with_here}
 use Rattle.written_roles.proofs.TransitionsLemmas.{ready_besides, ready_rises}
 use Rattle.written_world.specs.World.{World, Step, refused, empty_world}
 use Rattle.written_world.specs.Parties.{told, received}
-use Rattle.written_world.specs.Events.{Event, StartMaster, StopMaster, Submit, Finish, Ban, Unban, Begin, Preempt, Deliver, act, counted_in, packet_of}
+use Rattle.written_world.specs.Events.{Event, StartMaster, StopMaster, Submit, Finish, Ban, Unban, Begin, Preempt, Deliver, Halt, writer_of, act, counted_in, packet_of}
 use Rattle.written_world.specs.Good.{Invariant, IsShowing}
 use Rattle.written_world.specs.Runs.{run}
 use Rattle.written_world.specs.Steps.{is_single, AllGrow, AllBare, MayFall, AllLose}
-use Rattle.written_world.proofs.CommandLemmas.{bans_has}
-use Rattle.written_world.proofs.EventsWalk.{EventSteps, KeptBy, StepHolds, act_steps, found_has, with_ready, run_keeps, unasked}
+use Rattle.written_world.proofs.CommandLemmas.{bans_has, found_has}
+use Rattle.written_world.proofs.LeftLemmas.{still_runs}
+use Rattle.written_world.proofs.EventsWalk.{EventSteps, KeptBy, StepHolds, act_steps, with_ready, run_keeps, unasked}
 use Rattle.written_world.proofs.Invariant.{put_found, ready_epoch}
 use Rattle.written_world.proofs.InvariantKept.{always, counted_holds, not_refused, rising, told_same}
 use Rattle.written_world.proofs.SettledKept.{talks_app}
-use Rattle.written_world.proofs.StartsLemmas.{kept_found, left_out}
 
 -- A running master before and behind one event is the same, or it took a step
 pub record MasterSteps (w : World) (Q : Event → ℕ → Master → Master → Type 0) : Type 0 where
@@ -98,14 +98,15 @@ module _ (w : World) (h : Invariant w) (Q : Event → ℕ → Master → Master 
       by k K N f (inl o) = stays (StartMaster e) k K N f o.1
       by k K N f (inr o) = let a = o.0 in let b = ready_epoch w.cluster X in let r = (h.masters k K f).ran in absurd (omega (arith, a, b, epoch, r, up))
 
-  stopped : (e : ℕ) → Through (StopMaster e) (where_key nat_cmp (λ k. not (nat_eq k e)) w.masters)
-  stopped e = record { it = λ _ k K N f g. stays (StopMaster e) k K N f (kept_found (not (nat_eq k e)) (find nat_cmp k w.masters) N (sym (left_out e k w.masters) ∙ g)) }
+  stopped : (v : Event) (e : ℕ) → Through v (where_key nat_cmp (λ k. not (nat_eq k e)) w.masters)
+  stopped v e = record { it = λ _ k K N f g. stays v k K N f (still_runs e k N w.masters g).1 }
 
   steps : EventSteps ThroughWorld (λ _. ⊤) w
   steps = record {
     same = unchanged;
     starts = λ e t _. started e (new_master (raised w.hard e) e) (rising (not_refused (not (nat_lt w.hard.fence e)) (NotRising w.hard.fence) ((not (nat_lt (length w.masters) most_masters), TooManyMasters most_masters) ∷ []) t).0) refl;
-    stops = stopped;
+    stops = λ e. stopped (StopMaster e) e;
+    halts = λ calls all x _. stopped (Halt calls all x) (writer_of x);
     starts_agent = λ m n _. record { it = (unchanged _).it };
     starts_app = λ a n _. record { it = (unchanged _).it };
     submits = λ e M j f _ _ _. acted (Submit e j) e M (record M { jobs = with_job (eight_places j) M.jobs }) f refl (s.submits e M j f);
@@ -191,7 +192,7 @@ bare_of = λ _ _ masters. AreBare masters
 events_bare : (c : ClusterRecord) (h : HardState) (masters : List (ℕ × Master)) → AreBare masters → KeptBy bare_of (λ _. ⊤) c h masters
 events_bare c h masters b = record {
   starts = λ e _ _. bare_put c (new_master (raised h e) e) masters b (ready_bare c (new_master (raised h e) e) (new_bare (raised h e) e));
-  stops = λ e. record { it = λ k M f. b.it k M (kept_found (not (nat_eq k e)) (find nat_cmp k masters) M (sym (left_out e k masters) ∙ f)) };
+  stops = λ e _. record { it = λ k M f. b.it k M (still_runs e k M masters f).1 };
   submits = λ e M j f _ _ _. bare_put c (record M { jobs = with_job (eight_places j) M.jobs }) masters b (ready_bare c _ ((each_bare c M (b.it e M f)).admits (eight_places j)));
   finishes = λ e M a f _. bare_put c (ended_in M a) masters b (ready_bare c (ended_in M a) ((each_bare c M (b.it e M f)).ends a));
   bans = λ e M m f _. bare_put c (banned_in M m) masters b (ready_bare c (banned_in M m) ((each_bare c M (b.it e M f)).bans m));

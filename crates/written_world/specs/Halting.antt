@@ -3,9 +3,10 @@ use Rattle.std.specs.Prelude.{◌≡◌, ℕ, Bool, true, false, cond, List, [],
 use Rattle.std.specs.Ordering.{nat_cmp}
 use Rattle.std.specs.FinMap.Entries.{find}
 use Rattle.fuxi_terms.specs.Cluster.{ClusterRecord}
-use Rattle.written_world.specs.Outputs.{Halted}
-use Rattle.written_world.specs.World.{World}
-use Rattle.written_world.specs.Events.{Event, StartMaster, Halt, counted_in, is_writing, is_written, without_master, world_step, writer_of}
+use Rattle.written_roles.specs.Refusals.{Refusal}
+use Rattle.written_world.specs.Outputs.{Halted, Refused}
+use Rattle.written_world.specs.World.{World, refused}
+use Rattle.written_world.specs.Events.{Event, StartMaster, Halt, counted_in, is_written, without_master, world_step, writer_of}
 use Rattle.written_world.specs.Runs.{run}
 use Rattle.written_world.specs.Steps.{IsDone}
 
@@ -24,3 +25,7 @@ pub record Halts (c : ClusterRecord) (before after : List Event) (calls : ℕ) (
   pub gone : find nat_cmp (writer_of x) (run c (before ++ Halt calls all x ∷ [])).masters ≡ None
   pub stays : is_start x ≡ false → find nat_cmp (writer_of x) (run c (before ++ Halt calls all x ∷ after)).masters ≡ None
   pub starts : is_start x ≡ true → is_written calls all ≡ false → IsDone (run c (before ++ Halt calls all x ∷ [])) x
+
+-- of a refused line the stop prints the refusal, and nothing changes but the number of events
+abbrev pub StopsNobody : World → Event → Refusal → Type 0
+StopsNobody w x r = (calls : ℕ) (all : Bool) → (world_step w x).lines ≡ Refused r ∷ [] → world_step w (Halt calls all x) ≡ refused (counted_in w) r

@@ -9,6 +9,7 @@ ghost use Rattle.fuxi_terms.specs.declared.Key.{Key};
 ghost use Rattle.fuxi_terms.specs.Cluster.{ClusterRecord, is_valid_cluster};
 ghost use Rattle.fuxi_terms.specs.Keys.{key_cmp, RowKey, row_cmp, Spot, spot_cmp};
 ghost use Rattle.written_roles.specs.Masters.{Master};
+ghost use Rattle.written_roles.specs.Refusals.{Refusal};
 ghost use Rattle.fuxi_terms.specs.Patching.{PatchedByDifference, TalliesByDifference};
 ghost use Rattle.written_net.specs.Net.{Net, Move, move};
 ghost use Rattle.written_net.specs.Ledgers.{Ledger};
@@ -26,7 +27,7 @@ ghost use Rattle.written_world.specs.Safe.{Safe};
 ghost use Rattle.written_world.specs.Starts.{StaysStopped, StartsWithNothing};
 ghost use Rattle.written_world.specs.Steps.{AllGrow, AllBare, AllServe, AllLose, IsDone};
 ghost use Rattle.written_world.specs.Events.{Event, is_writing, world_step};
-ghost use Rattle.written_world.specs.Halting.{Halts};
+ghost use Rattle.written_world.specs.Halting.{Halts, StopsNobody};
 ghost use Rattle.written_world.specs.Lines.{IsInput, is_from_line};
 ghost use Rattle.written_world.specs.Runs.{run};
 ghost use Rattle.written_world.specs.Turns.{AllTurn};
@@ -174,4 +175,9 @@ pub fn every_judgement_bans_what_is_judged()
 /// before its start was written may be started.
 pub fn every_halt_stops_its_master()
     ensures { (c : ClusterRecord) (before after : List Event) (calls : ℕ) (all : Bool) (x : Event) → is_writing x ≡ true → IsDone (run c before) x → Halts c before after calls all x }
+{}
+
+/// A stop within the writing of a line that is refused prints the refusal, and nothing changes but the number of events.
+pub fn a_refused_line_stops_nobody()
+    ensures { (w : World) (x : Event) (r : Refusal) → StopsNobody w x r }
 {}
