@@ -1,5 +1,5 @@
 -- What is given back is taken, entry by entry.
-use Rattle.std.proofs.Common.{◌≡◌, ℕ, ◌+◌, ◌-◌, ◌<◌, min, Bool, true, cond, nat_eq, nat_lt, List, [], ◌∷◌, ◌++◌, length, filter, take, Some, slice_get, refl, sym, ◌∙◌, ap, subst, arith}
+use Rattle.std.proofs.Common.{◌≡◌, ℕ, ◌+◌, ◌-◌, ◌<◌, min, Bool, true, false, cond, nat_eq, nat_lt, List, [], ◌∷◌, ◌++◌, length, filter, take, Some, slice_get, refl, sym, ◌∙◌, ap, subst, arith}
 use Rattle.std.specs.Prelude.{◌&&◌, ◌||◌}
 use Rattle.std.proofs.lemmas.Bool.Decides.{nat_tests}
 use Rattle.std.proofs.lemmas.List.Elements.{filter-append}
@@ -10,7 +10,7 @@ use Rattle.fuxi_terms.specs.Jobs.{unit_count}
 use Rattle.fuxi_terms.specs.Keys.{Spot, key_cmp, spot_cmp}
 use Rattle.fuxi_terms.specs.TallyKeys.{credited_key}
 use Rattle.fuxi_terms.specs.Tables.{spot, held_on}
-use Rattle.fuxi_terms.proofs.Booleans.{and_true}
+use Rattle.fuxi_terms.proofs.Booleans.{and_true, both_true, number_is}
 use Rattle.fuxi_terms.proofs.Lists.{take_last}
 use Rattle.written_roles.specs.Masters.{Master}
 use Rattle.written_roles.specs.MasterSteps.{credit, is_there}
@@ -67,3 +67,36 @@ module _ (a : ℕ) (g : List (Key × ℕ)) (k : Key) (n taken : ℕ) (x y : Allo
     touches = touches;
     table = table ∙ ap (λ es. record x.table { entries = es }) (sym (ap (λ (t : TableRecord). t.entries) table));
   }
+
+-- one entry that is no number given back, or of a unit or a machine that is not there
+pub credits_passed : (a : ℕ) (g : List (Key × ℕ)) (k : Key) (n : ℕ) (x : AllotmentRecord) → AllWait x → (nat_eq k.what 5 && (nat_lt k.unit (unit_count (as_known x.table.jobs) a) && nat_lt k.number (length x.table.cluster.machines))) ≡ false → CreditsBack a ((k, n) ∷ []) g x x
+credits_passed a g k n x w out = record {
+  stands = λ c M cs h agree. subst (λ t. Allots x c (record M { table = t })) (sym (same c M cs h)) h;
+  waits = w;
+  touches = untouched x;
+  table = refl;
+}
+  where
+    none : (b : Bool) (t u : List (Spot × ℕ)) → b ≡ false → cond b t u ≡ u
+    none true t u e = cc
+    none false t u e = refl
+
+    same : (c : ClusterRecord) (M : Master) (cs : List (Key × ℕ)) → Allots x c M → credit a cs (filter (λ f. is_there c (unit_count M.jobs a) f.0) ((k, n) ∷ [])) M.table ≡ M.table
+    same c M cs h = elim (is_there c (unit_count M.jobs a) k) as (λ b. is_there c (unit_count M.jobs a) k ≡ b → credit a cs (cond b ((k, n) ∷ []) []) M.table ≡ M.table) [
+      | true ↦ λ t.
+          let s = spot a k.unit k.number in
+          none (nat_eq k.what 5) (set_count spot_cmp M.table s (count spot_cmp M.table s - min (n - count key_cmp cs (credited_key k.unit k.number)) (count spot_cmp M.table s))) M.table
+          (elim (nat_eq k.what 5) as (λ b. nat_eq k.what 5 ≡ b → b ≡ false) [
+            | true ↦ λ e.
+                let units = same_units (as_known x.table.jobs) M.jobs a (h.placing.jobs a) in
+                let machines : length x.table.cluster.machines ≡ length c.machines = ap (λ (d : ClusterRecord). length d.machines) h.placing.cluster in
+                let both = both_true (nat_lt k.unit (unit_count M.jobs a)) _ t in
+                let first = both.0 in
+                let last : has_machine c k.number ≡ true = subst (λ w. (nat_eq w 1 || cond (nat_eq w 3) (has_rack c k.number) (has_machine c k.number)) ≡ true) (number_is k.what 5 e) both.1 in
+                let u : nat_lt k.unit (unit_count (as_known x.table.jobs) a) ≡ true = grind (arith, nat_tests, first, units) in
+                let m : nat_lt k.number (length x.table.cluster.machines) ≡ true = grind (arith, nat_tests, last, machines) in
+                sym (and_true (nat_eq k.what 5) _ e (and_true _ _ u m)) ∙ out
+            | false ↦ λ _. refl
+          ] refl)
+      | false ↦ λ _. refl
+    ] refl

@@ -4,8 +4,8 @@ use Rattle.fuxi_terms.specs.Cluster.{ClusterRecord, JobRecord}
 use Rattle.fuxi_terms.specs.Jobs.{unit_count}
 use Rattle.grant_table.specs.Tables.{TableRecord, IsSound, as_known}
 use Rattle.allotment.specs.Allotted.{AllotmentRecord, Clears}
-use Rattle.allotment.proofs.Clearing.{cleared_as, cleared_both}
-use Rattle.allotment.proofs.Cleared.{LeftWithout, is_admitted, machine_more, job_left}
+use Rattle.allotment.proofs.Clearing.{cleared_as, cleared_both, cleared_none}
+use Rattle.allotment.proofs.Cleared.{LeftWithout, is_admitted, machine_more, none_on, job_left}
 use Rattle.allotment.proofs.allotment_of.Allotment.clear_job.Goals as goal
 use Rattle.allotment.proofs.allotment_of.Allotment.clear_job.Goals.{After-cluster-after}
 
@@ -32,3 +32,6 @@ returns-clause-stands c = (left c).stands
 
 pub returns-clause-table : goal.returns-clause-table
 returns-clause-table c = (left c).table
+
+pub loop-number-init : goal.loop-number-init
+loop-number-init c = cleared_as _ _ _ _ (λ s. none_on s _ _) (cleared_none c.args.self c.requires)
