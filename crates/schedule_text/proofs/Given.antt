@@ -16,11 +16,12 @@ use Rattle.schedule_text.specs.declared.event.LineFault.TheVariants.{BadNumber, 
 use Rattle.schedule_text.specs.declared.form.Head.{Head}
 use Rattle.schedule_text.specs.declared.form.Head.TheVariants.{Master, Stop, Agent, App, Submit, Finish, Ban, Unban, Begin, Preempt, Judge, Want, Near, Rack, Avoid, Back, TurnMaster, TurnAgent, TurnApp, ResyncMaster, ResyncAgent, ResyncApp, Deliver, DeliverRange, Dump, Show}
 use Rattle.schedule_text.specs.declared.form.Place.{Place}
-use Rattle.schedule_text.specs.declared.form.Place.TheVariants.{Count}
+use Rattle.schedule_text.specs.declared.form.Place.TheVariants.{Switch, Calls, Count}
 use Rattle.schedule_text.specs.Words.{words_of}
-use Rattle.schedule_text.specs.Forms.{shape_of, heads, is_within}
-use Rattle.schedule_text.specs.Reading.{front, units_of, is_bounded, own_count, is_unit, has_count, is_head, head_of, number_at, numbers_at, counts_at, most_at, ask_of, ask_at, asks_at, asks_of, event_at, event_behind, event_of_words, event_of}
-use Rattle.schedule_text.specs.Writing.{Saying, says, switch, saying_of, AreWithin, IsAsk, AreAsks, IsLineEvent}
+use Rattle.schedule_text.specs.Forms.{shape_of, heads, halt_shape, writing_heads, is_within}
+use Rattle.schedule_text.specs.Halting.{is_writing, halting}
+use Rattle.schedule_text.specs.Reading.{front, units_of, is_bounded, own_count, is_unit, begins, has_count, is_head, head_of, number_at, numbers_at, counts_at, most_at, ask_of, ask_at, asks_at, asks_of, event_at, event_behind, stop_of, halt_of, event_of_words, event_of}
+use Rattle.schedule_text.specs.Writing.{Saying, says, switch, saying_of, AreWithin, IsAsk, AreAsks, MayStop, IsLineEvent}
 use Rattle.schedule_text.proofs.RoundTrip.{within_length}
 
 -- One thing after another was done: the first, and then the second
@@ -48,13 +49,21 @@ found_does p (y ∷ ys) x h = tested (p y) refl h (found_does p ys x)
     tested true is h later = let same : y ≡ x = cc in subst (λ z. p z ≡ true) same is
     tested false is h later = later h
 
+found_holds : {A : Type 0} (Q : A → Type 0) (p : A → Bool) (xs : List A) (x : A) → AllByRecursion Q xs → find p xs ≡ Some x → Q x
+found_holds Q p [] x all h = absurd cc
+found_holds Q p (y ∷ ys) x all h = tested (p y) h (found_holds Q p ys x all.1)
+  where
+    tested : (b : Bool) → cond b (Some y) (find p ys) ≡ Some x → (find p ys ≡ Some x → Q x) → Q x
+    tested true h later = let same : y ≡ x = cc in subst Q same all.0
+    tested false h later = later h
+
 head_found : (o : Option Head) (fault : LineFault) (h : Head) → elim o as (λ _. Result Head LineFault) [ Some h ↦ Ok h | None ↦ Err fault ] ≡ Ok h → o ≡ Some h
 head_found (Some k) fault h is = cc
 head_found None fault h is = absurd cc
 
-head_counts : (words : List (List ℕ)) (h : Head) → head_of words ≡ Ok h → has_count (shape_of h) words ≡ true
-head_counts words h is =
-    second_true _ (has_count (shape_of h) words) (found_does (is_head words) heads h (head_found (find (is_head words) heads) _ h is))
+head_counts : (hs : List Head) (words : List (List ℕ)) (h : Head) → head_of hs words ≡ Ok h → has_count (shape_of h) words ≡ true
+head_counts hs words h is =
+    second_true _ (has_count (shape_of h) words) (found_does (is_head words) hs h (head_found (find (is_head words) hs) _ h is))
 
 -- Numbers. Each fits 64 bits and is in the range of its place
 number_fits : (word : List ℕ) (n : ℕ) → number_of word ≡ Some n → n < 2 ^ 64
@@ -174,13 +183,13 @@ long_enough h words is = counted (shape_of h).units is
     counted true is = let some = units_some (drop (front (shape_of h)) words) is in let e = length-drop (front (shape_of h)) words in omega (arith, some, e)
     counted false is = grind (arith, nat_tests, is)
 
-asks_are : (h : Head) (words : List (List ℕ)) (asks : List Ask) → has_count (shape_of h) words ≡ true → asks_of (shape_of h) words ≡ Ok asks → AreAsks (shape_of h).units asks
-asks_are h words asks counted is = of (shape_of h).units counted is
+asks_are : (h : Head) (place : ℕ) (words : List (List ℕ)) (asks : List Ask) → has_count (shape_of h) words ≡ true → asks_of (shape_of h) place words ≡ Ok asks → AreAsks (shape_of h).units asks
+asks_are h place words asks counted is = of (shape_of h).units counted is
   where
     of : (b : Bool) → elim b as (λ _. Bool) [ true ↦ list_all is_unit (units_of (drop (front (shape_of h)) words)) | false ↦ nat_eq (length words) (front (shape_of h)) ] ≡ true
-        → elim b as (λ _. Result (List Ask) LineFault) [ true ↦ asks_at (front (shape_of h)) (units_of (drop (front (shape_of h)) words)) | false ↦ Ok [] ] ≡ Ok asks → AreAsks b asks
+        → elim b as (λ _. Result (List Ask) LineFault) [ true ↦ asks_at (place + front (shape_of h)) (units_of (drop (front (shape_of h)) words)) | false ↦ Ok [] ] ≡ Ok asks → AreAsks b asks
     of true sized is =
-        let made = asks_made (front (shape_of h)) (units_of (drop (front (shape_of h)) words)) asks sized is in
+        let made = asks_made (place + front (shape_of h)) (units_of (drop (front (shape_of h)) words)) asks sized is in
         let some = split_some (λ w. bytes_eq w (codes "/")) (drop (front (shape_of h)) words) in
         let same = made.0 in
         (omega (arith, some, same), made.1)
@@ -267,26 +276,115 @@ said h ns asks w u = by h w u (within_length (shape_of h).places 0 ns w)
         none [] e = refl
         none (a ∷ ns) e = absurd (omega (arith, e))
 
-given_behind : (h : Head) (words : List (List ℕ)) (e : Event) → has_count (shape_of h) words ≡ true → event_behind h words ≡ Ok e → IsLineEvent e
-given_behind h words e counted is =
+plain_stops : (h : Head) (ns : List ℕ) (asks : List Ask) → MayStop (event_at h ns asks)
+plain_stops Master ns asks = tt
+plain_stops Stop ns asks = tt
+plain_stops Agent ns asks = tt
+plain_stops App ns asks = tt
+plain_stops Submit ns asks = tt
+plain_stops Finish ns asks = tt
+plain_stops Ban ns asks = tt
+plain_stops Unban ns asks = tt
+plain_stops Begin ns asks = tt
+plain_stops Preempt ns asks = tt
+plain_stops Judge ns asks = tt
+plain_stops Want ns asks = tt
+plain_stops Near ns asks = tt
+plain_stops Rack ns asks = tt
+plain_stops Avoid ns asks = tt
+plain_stops Back ns asks = tt
+plain_stops TurnMaster ns asks = tt
+plain_stops TurnAgent ns asks = tt
+plain_stops TurnApp ns asks = tt
+plain_stops ResyncMaster ns asks = tt
+plain_stops ResyncAgent ns asks = tt
+plain_stops ResyncApp ns asks = tt
+plain_stops Deliver ns asks = tt
+plain_stops DeliverRange ns asks = tt
+plain_stops Dump ns asks = tt
+plain_stops Show ns asks = tt
+
+given_behind : (h : Head) (place : ℕ) (words : List (List ℕ)) (e : Event) → has_count (shape_of h) words ≡ true → event_behind h place words ≡ Ok e → IsLineEvent e
+given_behind h place words e counted is =
     let s = shape_of h in
-    let first = done (numbers_at s.places (length s.words) 0 (drop (length s.words) words)) _ e is in
-    let second = done (asks_of s words) (λ asks. Ok (event_at h first.0 asks)) e first.2 in
+    let first = done (numbers_at s.places (place + length s.words) 0 (drop (length s.words) words)) _ e is in
+    let second = done (asks_of s place words) (λ asks. Ok (event_at h first.0 asks)) e first.2 in
     let long = long_enough h words counted in
     let left = length-drop (length s.words) words in
-    let within = numbers_within s.places (length s.words) 0 (drop (length s.words) words) first.0 (omega (arith, long, left)) first.1 in
-    let asks = asks_are h words second.0 counted second.1 in
+    let within = numbers_within s.places (place + length s.words) 0 (drop (length s.words) words) first.0 (omega (arith, long, left)) first.1 in
+    let asks = asks_are h place words second.0 counted second.1 in
     let same : event_at h first.0 second.0 ≡ e = ok_same (Ok (event_at h first.0 second.0)) _ _ refl second.2 in
     subst IsLineEvent same (record {
       numbers = subst (λ (s : Saying). AreWithin 0 (shape_of s.head).places s.numbers) (sym (said h first.0 second.0 within asks)) within;
       asks = subst (λ (s : Saying). AreAsks (shape_of s.head).units s.asks) (sym (said h first.0 second.0 within asks)) asks;
+      stop = plain_stops h first.0 second.0;
+    })
+
+-- what holds of each event of a line holds of the one that is read
+behind_holds : (Q : Event → Type 0) (h : Head) (place : ℕ) (words : List (List ℕ)) (e : Event) → ((ns : List ℕ) (asks : List Ask) → Q (event_at h ns asks)) → event_behind h place words ≡ Ok e → Q e
+behind_holds Q h place words e all is =
+    let s = shape_of h in
+    let first = done (numbers_at s.places (place + length s.words) 0 (drop (length s.words) words)) _ e is in
+    let second = done (asks_of s place words) (λ asks. Ok (event_at h first.0 asks)) e first.2 in
+    let same : event_at h first.0 second.0 ≡ e = ok_same (Ok (event_at h first.0 second.0)) _ _ refl second.2 in
+    subst Q same (all first.0 second.0)
+
+-- Behind a stop stands a line that writes, and it has words
+record IsWriting (h : Head) : Type 0 where
+  some : nat_lt 0 (front (shape_of h)) ≡ true
+  writes : (ns : List ℕ) (asks : List Ask) → is_writing (event_at h ns asks) ≡ true
+
+heads_write : AllByRecursion IsWriting writing_heads
+heads_write = (
+  record { some = refl; writes = λ ns asks. refl },
+  (
+    record { some = refl; writes = λ ns asks. refl },
+    (
+      record { some = refl; writes = λ ns asks. refl },
+      (record { some = refl; writes = λ ns asks. refl }, (record { some = refl; writes = λ ns asks. refl }, tt)),
+    ),
+  ),
+)
+
+stop_within : (words : List (List ℕ)) (stop : ℕ × Bool) → 3 ≤ length words → stop_of words ≡ Ok stop → is_within Calls 0 stop.0 ≡ true
+stop_within words stop long is =
+    let read = done (numbers_at (Calls ∷ Switch ∷ []) 1 0 (drop 1 words)) (λ ns. Ok (slice_index ns 0, nat_eq (slice_index ns 1) 1)) stop is in
+    let left = length-drop 1 words in
+    let same : (slice_index read.0 0, nat_eq (slice_index read.0 1) 1) ≡ stop = ok_same (Ok (slice_index read.0 0, nat_eq (slice_index read.0 1) 1)) _ _ refl read.2 in
+    subst (λ (s : ℕ × Bool). is_within Calls 0 s.0 ≡ true) same (first read.0 (numbers_within (Calls ∷ Switch ∷ []) 1 0 (drop 1 words) read.0 (omega (arith, long, left)) read.1))
+  where
+    first : (ns : List ℕ) → AreWithin 0 (Calls ∷ Switch ∷ []) ns → is_within Calls 0 (slice_index ns 0) ≡ true
+    first [] w = absurd w
+    first (n ∷ ns) w = w.1
+
+given_halt : (words : List (List ℕ)) (e : Event) → halt_of words ≡ Ok e → IsLineEvent e
+given_halt words e is =
+    let inner = drop (front halt_shape) words in
+    let head = done (head_of writing_heads inner) _ e is in
+    let stop = done (stop_of words) _ e head.2 in
+    let line = done (event_behind head.0 (front halt_shape) inner) (λ x. Ok (halting stop.0.0 stop.0.1 x)) e stop.2 in
+    let same : halting stop.0.0 stop.0.1 line.0 ≡ e = ok_same (Ok (halting stop.0.0 stop.0.1 line.0)) _ _ refl line.2 in
+    let writing = found_holds IsWriting (is_head inner) writing_heads head.0 heads_write (head_found (find (is_head inner) writing_heads) _ head.0 head.1) in
+    let counted = head_counts writing_heads inner head.0 head.1 in
+    let within = given_behind head.0 (front halt_shape) inner line.0 counted line.1 in
+    let long = long_enough head.0 inner counted in
+    let left = length-drop 3 words in
+    let some : 1 ≤ front (shape_of head.0) = grind (arith, nat_tests, writing.some) in
+    subst IsLineEvent same (record {
+      numbers = within.numbers;
+      asks = within.asks;
+      stop = (stop_within words stop.0 (omega (arith, some, long, left)) stop.1, behind_holds (λ x. is_writing x ≡ true) head.0 (front halt_shape) inner line.0 writing.writes line.1);
     })
 
 pub given : (line : List ℕ) (e : Event) → event_of line ≡ Ok e → IsLineEvent e
 given line e is = of (words_of line) is
   where
+    by_halt : (w : List ℕ) (ws : List (List ℕ)) (b : Bool) → elim b as (λ _. Result Event LineFault) [ true ↦ halt_of (w ∷ ws) | false ↦ then_do (head_of heads (w ∷ ws)) (λ h. event_behind h 0 (w ∷ ws)) ] ≡ Ok e → IsLineEvent e
+    by_halt w ws true is = given_halt (w ∷ ws) e is
+    by_halt w ws false is =
+        let head = done (head_of heads (w ∷ ws)) (λ h. event_behind h 0 (w ∷ ws)) e is in
+        given_behind head.0 0 (w ∷ ws) e (head_counts heads (w ∷ ws) head.0 head.1) head.2
+
     of : (words : List (List ℕ)) → event_of_words words ≡ Ok e → IsLineEvent e
     of [] is = absurd cc
-    of (w ∷ ws) is =
-        let head = done (head_of (w ∷ ws)) (λ h. event_behind h (w ∷ ws)) e is in
-        given_behind head.0 (w ∷ ws) e (head_counts (w ∷ ws) head.0 head.1) head.2
+    of (w ∷ ws) is = by_halt w ws (begins halt_shape (w ∷ ws)) is

@@ -5,13 +5,12 @@ use Rattle.std.specs.Option.{option_or}
 use Rattle.std.proofs.lemmas.List.{length-map}
 use Rattle.fuxi_terms.specs.Vectors.{is_zero}
 use Rattle.fuxi_terms.specs.Cluster.{UnitRecord, are_quantities, is_priority, is_most}
-use Rattle.fuxi_terms.specs.Jobs.{eight_places}
 use Rattle.fuxi_terms.specs.Padded.{padded}
 use Rattle.fuxi_terms.specs.Limits.{most_units}
 use Rattle.schedule_unit.specs.declared.asks.Ask.{Ask}
 use Rattle.schedule_unit.specs.declared.job.JobFault.{JobFault}
 use Rattle.schedule_unit.specs.declared.job.JobFault.TheVariants as fault
-use Rattle.schedule_unit.specs.JobFaults.{IsFault, first_unit_fault, job_asked, job_fault, unit_asked, unit_no}
+use Rattle.schedule_unit.specs.JobFaults.{IsFault, first_unit_fault, job_fault, unit_asked, unit_no}
 use Rattle.written_roles.specs.Refusals.{Refusal, NoUnits, TooManyUnits, Dimensions, PriorityRange, QuantityRange, ZeroSize, MostRange, first_refusal, job_tests, units_tests}
 use Rattle.schedule_text.specs.declared.refusal.Refusal.{Refusal as CodeRefusal}
 use Rattle.schedule_text.specs.Printing.{as_refusal}

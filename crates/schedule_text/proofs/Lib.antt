@@ -5,3 +5,5 @@ pub mod Texts
 pub mod RoundTrip
 pub mod Given
 pub mod JobTests
+pub mod Anywhere
+pub mod Halts

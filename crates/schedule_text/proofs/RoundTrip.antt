@@ -1,7 +1,8 @@
 -- What is written of an event is read as that event.
-use Rattle.std.proofs.Common.{◌≡◌, ℕ, zero, suc, ◌+◌, ◌-◌, ◌<◌, ◌≤◌, ◌^◌, ◌==◌, Bool, true, false, not, cond, nat_eq, nat_lt, ◌&&◌, List, [], ◌∷◌, ◌++◌, length, get_or, drop, map, filter, codes, decimal, Some, None, Result, Ok, Err, refl, ap, sym, ◌∙◌, subst, arith, append_assoc}
+use Rattle.std.proofs.Common.{◌≡◌, ℕ, zero, suc, ◌+◌, ◌-◌, ◌<◌, ◌≤◌, ◌^◌, ◌==◌, Bool, true, false, not, cond, nat_eq, nat_lt, ◌&&◌, List, [], ◌∷◌, ◌++◌, length, get_or, slice_index, drop, map, filter, codes, decimal, Some, None, Result, Ok, Err, refl, ap, sym, ◌∙◌, subst, arith, append_assoc}
 use Rattle.std.proofs.lemmas.Bool.{eqb-true}
 use Rattle.std.proofs.lemmas.Bool.Decides.{nat_tests}
+use Rattle.std.proofs.lemmas.Grind.{flat_map-append}
 use Rattle.std.proofs.lemmas.List.{length-map, length-append, append-nil, get_or_at, take_at, drop_at}
 use Rattle.std.specs.List.{list_all, flat_map, slice_split, onto_first, AllByRecursion}
 use Rattle.std.specs.Char.{is_ascii_digit}
@@ -15,17 +16,18 @@ use Rattle.fuxi_terms.proofs.Alls.{all_append}
 use Rattle.schedule_unit.specs.Numbers.{is_numeral, number_of}
 use Rattle.schedule_unit.specs.declared.asks.Ask.{Ask}
 use Rattle.schedule_text.specs.declared.event.Event.{Event}
-use Rattle.schedule_text.specs.declared.event.Event.TheVariants.{Master as MasterEvent, Stop as StopEvent, Agent as AgentEvent, App as AppEvent, Submit as SubmitEvent, Finish as FinishEvent, Ban as BanEvent, Unban as UnbanEvent, Begin as BeginEvent, Preempt as PreemptEvent, Judge as JudgeEvent, Want as WantEvent, Near as NearEvent, Rack as RackEvent, Avoid as AvoidEvent, Back as BackEvent, TurnMaster as TurnMasterEvent, TurnAgent as TurnAgentEvent, TurnApp as TurnAppEvent, ResyncMaster as ResyncMasterEvent, ResyncAgent as ResyncAgentEvent, ResyncApp as ResyncAppEvent, Deliver as DeliverEvent, DeliverRange as DeliverRangeEvent, Dump as DumpEvent, Show as ShowEvent}
+use Rattle.schedule_text.specs.declared.event.Event.TheVariants.{Master as MasterEvent, Stop as StopEvent, Agent as AgentEvent, App as AppEvent, Submit as SubmitEvent, Finish as FinishEvent, Ban as BanEvent, Unban as UnbanEvent, Begin as BeginEvent, Preempt as PreemptEvent, Judge as JudgeEvent, Want as WantEvent, Near as NearEvent, Rack as RackEvent, Avoid as AvoidEvent, Back as BackEvent, TurnMaster as TurnMasterEvent, TurnAgent as TurnAgentEvent, TurnApp as TurnAppEvent, ResyncMaster as ResyncMasterEvent, ResyncAgent as ResyncAgentEvent, ResyncApp as ResyncAppEvent, Deliver as DeliverEvent, DeliverRange as DeliverRangeEvent, Dump as DumpEvent, Show as ShowEvent, Halt' as HaltEvent}
 use Rattle.schedule_text.specs.declared.event.LineFault.{LineFault}
 use Rattle.schedule_text.specs.declared.event.LineFault.TheVariants.{BadNumber, Range}
 use Rattle.schedule_text.specs.declared.form.Head.{Head}
 use Rattle.schedule_text.specs.declared.form.Head.TheVariants.{Master, Stop, Agent, App, Submit, Finish, Ban, Unban, Begin, Preempt, Judge, Want, Near, Rack, Avoid, Back, TurnMaster, TurnAgent, TurnApp, ResyncMaster, ResyncAgent, ResyncApp, Deliver, DeliverRange, Dump, Show}
 use Rattle.schedule_text.specs.declared.form.Place.{Place}
-use Rattle.schedule_text.specs.declared.form.Place.TheVariants.{Count}
+use Rattle.schedule_text.specs.declared.form.Place.TheVariants.{Calls, Count}
 use Rattle.schedule_text.specs.Words.{is_word, words_of}
-use Rattle.schedule_text.specs.Forms.{shape_of, is_within}
-use Rattle.schedule_text.specs.Reading.{front, units_of, is_bounded, own_count, is_unit, number_at, numbers_at, counts_at, most_at, ask_at, asks_at, asks_of, event_at, event_behind, event_of_words, event_of}
-use Rattle.schedule_text.specs.Writing.{Saying, saying_of, saying_words, most_words, ask_words, asks_words, spaced, event_text, AreWithin, IsAsk, AreAsks, IsLineEvent}
+use Rattle.schedule_text.specs.Forms.{shape_of, halt_shape, writing_heads, is_within}
+use Rattle.schedule_text.specs.Halting.{is_writing, halting, anywhere}
+use Rattle.schedule_text.specs.Reading.{front, units_of, is_bounded, own_count, is_unit, number_at, numbers_at, counts_at, most_at, ask_at, asks_at, asks_of, head_of, event_at, event_behind, stop_of, event_of_words, event_of}
+use Rattle.schedule_text.specs.Writing.{Saying, switch, saying_of, saying_words, halt_words, most_words, ask_words, asks_words, blanked, spaced, event_text, AreWithin, IsAsk, AreAsks, IsLineEvent}
 use Rattle.schedule_text.proofs.Walks.{ask_read}
 
 -- Splitting what was joined. The elements at which nothing is split
@@ -350,77 +352,125 @@ asks_case : Written → (b : Bool) (place : ℕ) (asks : List Ask) → AreAsks b
 asks_case w true place asks h = asks_read w place asks h.0 h.1
 asks_case w false place asks h = ap (λ l. Ok l) (sym h)
 
-saying_behind : Written → (s : Saying) → AreWithin 0 (shape_of s.head).places s.numbers → AreAsks (shape_of s.head).units s.asks
-    → event_behind s.head (saying_words s) ≡ Ok (event_at s.head s.numbers s.asks)
-saying_behind w s within asks =
+saying_behind : Written → (s : Saying) (place : ℕ) → AreWithin 0 (shape_of s.head).places s.numbers → AreAsks (shape_of s.head).units s.asks
+    → event_behind s.head place (saying_words s) ≡ Ok (event_at s.head s.numbers s.asks)
+saying_behind w s place within asks =
     let f = shape_of s.head in
     let ms = map decimal s.numbers in
     let counted : length ms ≡ length f.places = length-map s.numbers decimal ∙ within_length f.places 0 s.numbers within in
-    ap (λ l. then_do (numbers_at f.places (length f.words) 0 l) (λ ns. then_do (asks_of f (saying_words s)) (λ as_. Ok (event_at s.head ns as_)))) (drop_at f.words (ms ++ asks_words s.asks) (length f.words) refl)
-    ∙ ap (λ r. then_do r (λ ns. then_do (asks_of f (saying_words s)) (λ as_. Ok (event_at s.head ns as_)))) (numbers_back w f.places (length f.words) 0 s.numbers (asks_words s.asks) within)
-    ∙ ap (λ l. then_do (elim f.units as (λ _. Result (List Ask) LineFault) [ true ↦ asks_at (front f) (units_of l) | false ↦ Ok [] ]) (λ as_. Ok (event_at s.head s.numbers as_)))
+    ap (λ l. then_do (numbers_at f.places (place + length f.words) 0 l) (λ ns. then_do (asks_of f place (saying_words s)) (λ as_. Ok (event_at s.head ns as_)))) (drop_at f.words (ms ++ asks_words s.asks) (length f.words) refl)
+    ∙ ap (λ r. then_do r (λ ns. then_do (asks_of f place (saying_words s)) (λ as_. Ok (event_at s.head ns as_)))) (numbers_back w f.places (place + length f.words) 0 s.numbers (asks_words s.asks) within)
+    ∙ ap (λ l. then_do (elim f.units as (λ _. Result (List Ask) LineFault) [ true ↦ asks_at (place + front f) (units_of l) | false ↦ Ok [] ]) (λ as_. Ok (event_at s.head s.numbers as_)))
     (front_dropped f.words ms (asks_words s.asks) (length f.places) counted)
-    ∙ ap (λ r. then_do r (λ as_. Ok (event_at s.head s.numbers as_))) (asks_case w f.units (front f) s.asks asks)
+    ∙ ap (λ r. then_do r (λ as_. Ok (event_at s.head s.numbers as_))) (asks_case w f.units (place + front f) s.asks asks)
 
--- its first words and the number of its words tell which line it is
-head_found : Written → (e : Event) → IsLineEvent e → event_of_words (saying_words (saying_of e)) ≡ event_behind (saying_of e).head (saying_words (saying_of e))
-head_found w (MasterEvent e) h = refl
-head_found w (StopEvent e) h = refl
-head_found w (AgentEvent m b) h = refl
-head_found w (AppEvent a b) h = refl
-head_found w (SubmitEvent e a g asks) h = rw (units_counted w asks h.asks.0 h.asks.1) refl
-head_found w (FinishEvent e a) h = refl
-head_found w (BanEvent e m) h = refl
-head_found w (UnbanEvent e m) h = refl
-head_found w (BeginEvent e) h = refl
-head_found w (PreemptEvent e) h = refl
-head_found w (JudgeEvent e least percent) h = refl
-head_found w (WantEvent a u n) h = refl
-head_found w (NearEvent a u m n) h = refl
-head_found w (RackEvent a u r n) h = refl
-head_found w (AvoidEvent a u m on) h = refl
-head_found w (BackEvent a u m n) h = refl
-head_found w (TurnMasterEvent e) h = refl
-head_found w (TurnAgentEvent m) h = refl
-head_found w (TurnAppEvent a) h = refl
-head_found w (ResyncMasterEvent e) h = refl
-head_found w (ResyncAgentEvent m) h = refl
-head_found w (ResyncAppEvent a) h = refl
-head_found w (DeliverEvent k) h = refl
-head_found w (DeliverRangeEvent k l) h = refl
-head_found w (DumpEvent k) h = refl
-head_found w ShowEvent h = refl
-
-same_event : (e : Event) → event_at (saying_of e).head (saying_of e).numbers (saying_of e).asks ≡ e
-same_event (MasterEvent e) = refl
-same_event (StopEvent e) = refl
-same_event (AgentEvent m b) = refl
-same_event (AppEvent a b) = refl
-same_event (SubmitEvent e a g asks) = refl
-same_event (FinishEvent e a) = refl
-same_event (BanEvent e m) = refl
-same_event (UnbanEvent e m) = refl
-same_event (BeginEvent e) = refl
-same_event (PreemptEvent e) = refl
-same_event (JudgeEvent e least percent) = refl
-same_event (WantEvent a u n) = refl
-same_event (NearEvent a u m n) = refl
-same_event (RackEvent a u r n) = refl
-same_event (AvoidEvent a u m true) = refl
-same_event (AvoidEvent a u m false) = refl
-same_event (BackEvent a u m n) = refl
-same_event (TurnMasterEvent e) = refl
-same_event (TurnAgentEvent m) = refl
-same_event (TurnAppEvent a) = refl
-same_event (ResyncMasterEvent e) = refl
-same_event (ResyncAgentEvent m) = refl
-same_event (ResyncAppEvent a) = refl
-same_event (DeliverEvent k) = refl
-same_event (DeliverRangeEvent k l) = refl
-same_event (DumpEvent k) = refl
-same_event ShowEvent = refl
-
-pub event_back : Written → (e : Event) → IsLineEvent e → event_of (event_text e) ≡ Ok e
-event_back w e h =
+-- Where its first words and the number of its words tell which line it is
+plain_back : Written → (e : Event) → IsLineEvent e → event_of_words (saying_words (saying_of e)) ≡ event_behind (saying_of e).head 0 (saying_words (saying_of e))
+    → event_at (saying_of e).head (saying_of e).numbers (saying_of e).asks ≡ e → event_of (spaced (saying_words (saying_of e))) ≡ Ok e
+plain_back w e h found same =
     ap event_of_words (spaced_words (saying_words (saying_of e)) (saying_plain w (saying_of e) h.numbers h.asks))
-    ∙ head_found w e h ∙ saying_behind w (saying_of e) h.numbers h.asks ∙ ap (λ e. Ok e) (same_event e)
+    ∙ found ∙ saying_behind w (saying_of e) 0 h.numbers h.asks ∙ ap (λ e. Ok e) same
+
+-- A stop within a writing. Its own numbers
+calls_fit : (n : ℕ) → is_within Calls 0 n ≡ true → n < 2 ^ 64
+calls_fit n h = grind (arith, nat_tests, h)
+
+stop_numbers : (calls : ℕ) (all : Bool) → is_within Calls 0 calls ≡ true → AreWithin 0 halt_shape.places (calls ∷ switch all ∷ [])
+stop_numbers calls true h = (calls_fit calls h, h, (grind (arith), refl, record {}))
+stop_numbers calls false h = (calls_fit calls h, h, (grind (arith), refl, record {}))
+
+switched_back : (all : Bool) → nat_eq (switch all) 1 ≡ all
+switched_back true = refl
+switched_back false = refl
+
+halt_plain : Written → (calls : ℕ) (all : Bool) → is_within Calls 0 calls ≡ true → AllByRecursion IsPlain (halt_words calls all)
+unfolding is_plain
+halt_plain w calls all h =
+    (plain_test (codes "halt") refl, plain_numbers w (calls ∷ switch all ∷ []) (within_range halt_shape.places 0 (calls ∷ switch all ∷ []) (stop_numbers calls all h)))
+
+stop_back : Written → (calls : ℕ) (all : Bool) (words : List (List ℕ)) → is_within Calls 0 calls ≡ true → stop_of (halt_words calls all ++ words) ≡ Ok (calls, all)
+stop_back w calls all words h =
+    ap (λ r. then_do r (λ ns. Ok (slice_index ns 0, nat_eq (slice_index ns 1) 1))) (numbers_back w halt_shape.places 1 0 (calls ∷ switch all ∷ []) words (stop_numbers calls all h))
+    ∙ ap {A = Bool} {B = Result (ℕ × Bool) LineFault} (λ b. Ok (calls, b)) (switched_back all)
+
+-- its words are those of the line behind its own
+halt_joined : (calls : ℕ) (all : Bool) (v : List ℕ) (vs : List (List ℕ)) → spaced (halt_words calls all) ++ (32 ∷ spaced (v ∷ vs)) ≡ spaced (halt_words calls all ++ v ∷ vs)
+halt_joined calls all v vs =
+    append_assoc (codes "halt") (blanked (decimal calls ∷ decimal (switch all) ∷ [])) (32 ∷ spaced (v ∷ vs))
+    ∙ ap (λ l. codes "halt" ++ l) (sym (flat_map-append (λ u. 32 ∷ u) (decimal calls ∷ decimal (switch all) ∷ []) (v ∷ vs)))
+
+halt_back : Written → (calls : ℕ) (all : Bool) (x : Event) → is_within Calls 0 calls ≡ true → AreWithin 0 (shape_of (saying_of x).head).places (saying_of x).numbers
+    → AreAsks (shape_of (saying_of x).head).units (saying_of x).asks
+    → spaced (halt_words calls all) ++ (32 ∷ event_text x) ≡ spaced (halt_words calls all ++ saying_words (saying_of x))
+    → head_of writing_heads (saying_words (saying_of x)) ≡ Ok (saying_of x).head
+    → event_at (saying_of x).head (saying_of x).numbers (saying_of x).asks ≡ x
+    → event_of (spaced (halt_words calls all) ++ (32 ∷ event_text x)) ≡ Ok (halting calls all x)
+halt_back w calls all x within numbers asks joined found same =
+    let words = saying_words (saying_of x) in
+    ap event_of joined
+    ∙ ap event_of_words (spaced_words (halt_words calls all ++ words) (all_append IsPlain (halt_words calls all) words (halt_plain w calls all within) (saying_plain w (saying_of x) numbers asks)))
+    ∙ ap (λ r. then_do r (λ h. then_do (stop_of (halt_words calls all ++ words)) (λ stop. then_do (event_behind h (front halt_shape) words) (λ x. Ok (halting stop.0 stop.1 x))))) found
+    ∙ ap {A = Result (ℕ × Bool) LineFault} (λ r. then_do r (λ stop. then_do (event_behind (saying_of x).head (front halt_shape) words) (λ x. Ok (halting stop.0 stop.1 x)))) (stop_back w calls all words within)
+    ∙ ap (λ r. then_do r (λ x. Ok (halting calls all x))) (saying_behind w (saying_of x) (front halt_shape) numbers asks)
+    ∙ ap (λ x. Ok (halting calls all x)) same
+
+stopped_back : Written → (calls : ℕ) (all : Bool) (x : Event) → is_within Calls 0 calls ≡ true → is_writing x ≡ true → AreWithin 0 (shape_of (saying_of x).head).places (saying_of x).numbers
+    → AreAsks (shape_of (saying_of x).head).units (saying_of x).asks → event_of (spaced (halt_words calls all) ++ (32 ∷ event_text x)) ≡ Ok (halting calls all (anywhere x))
+stopped_back w calls all (MasterEvent e) h is numbers asks = halt_back w calls all (MasterEvent e) h numbers asks (halt_joined calls all (codes "master") (map decimal (e ∷ []) ++ [])) refl refl
+stopped_back w calls all (SubmitEvent e a g us) h is numbers asks =
+    halt_back w calls all (SubmitEvent e a g us) h numbers asks (halt_joined calls all (codes "submit") (map decimal (e ∷ a.0 ∷ g.0 ∷ []) ++ asks_words us)) (rw (units_counted w us asks.0 asks.1) refl) refl
+stopped_back w calls all (FinishEvent e a) h is numbers asks = halt_back w calls all (FinishEvent e a) h numbers asks (halt_joined calls all (codes "finish") (map decimal (e ∷ a.0 ∷ []) ++ [])) refl refl
+stopped_back w calls all (BanEvent e m) h is numbers asks = halt_back w calls all (BanEvent e m) h numbers asks (halt_joined calls all (codes "ban") (map decimal (e ∷ m.0 ∷ []) ++ [])) refl refl
+stopped_back w calls all (UnbanEvent e m) h is numbers asks = halt_back w calls all (UnbanEvent e m) h numbers asks (halt_joined calls all (codes "unban") (map decimal (e ∷ m.0 ∷ []) ++ [])) refl refl
+stopped_back w calls all (StopEvent e) h is numbers asks = absurd cc
+stopped_back w calls all (AgentEvent m b) h is numbers asks = absurd cc
+stopped_back w calls all (AppEvent a b) h is numbers asks = absurd cc
+stopped_back w calls all (BeginEvent e) h is numbers asks = absurd cc
+stopped_back w calls all (PreemptEvent e) h is numbers asks = absurd cc
+stopped_back w calls all (JudgeEvent e least percent) h is numbers asks = absurd cc
+stopped_back w calls all (WantEvent a u n) h is numbers asks = absurd cc
+stopped_back w calls all (NearEvent a u m n) h is numbers asks = absurd cc
+stopped_back w calls all (RackEvent a u r n) h is numbers asks = absurd cc
+stopped_back w calls all (AvoidEvent a u m on) h is numbers asks = absurd cc
+stopped_back w calls all (BackEvent a u m n) h is numbers asks = absurd cc
+stopped_back w calls all (TurnMasterEvent e) h is numbers asks = absurd cc
+stopped_back w calls all (TurnAgentEvent m) h is numbers asks = absurd cc
+stopped_back w calls all (TurnAppEvent a) h is numbers asks = absurd cc
+stopped_back w calls all (ResyncMasterEvent e) h is numbers asks = absurd cc
+stopped_back w calls all (ResyncAgentEvent m) h is numbers asks = absurd cc
+stopped_back w calls all (ResyncAppEvent a) h is numbers asks = absurd cc
+stopped_back w calls all (DeliverEvent k) h is numbers asks = absurd cc
+stopped_back w calls all (DeliverRangeEvent k l) h is numbers asks = absurd cc
+stopped_back w calls all (DumpEvent k) h is numbers asks = absurd cc
+stopped_back w calls all ShowEvent h is numbers asks = absurd cc
+stopped_back w calls all (HaltEvent k on p x) h is numbers asks = absurd cc
+
+pub event_back : Written → (e : Event) → IsLineEvent e → event_of (event_text e) ≡ Ok (anywhere e)
+event_back w (MasterEvent e) h = plain_back w (MasterEvent e) h refl refl
+event_back w (StopEvent e) h = plain_back w (StopEvent e) h refl refl
+event_back w (AgentEvent m b) h = plain_back w (AgentEvent m b) h refl refl
+event_back w (AppEvent a b) h = plain_back w (AppEvent a b) h refl refl
+event_back w (SubmitEvent e a g asks) h = plain_back w (SubmitEvent e a g asks) h (rw (units_counted w asks h.asks.0 h.asks.1) refl) refl
+event_back w (FinishEvent e a) h = plain_back w (FinishEvent e a) h refl refl
+event_back w (BanEvent e m) h = plain_back w (BanEvent e m) h refl refl
+event_back w (UnbanEvent e m) h = plain_back w (UnbanEvent e m) h refl refl
+event_back w (BeginEvent e) h = plain_back w (BeginEvent e) h refl refl
+event_back w (PreemptEvent e) h = plain_back w (PreemptEvent e) h refl refl
+event_back w (JudgeEvent e least percent) h = plain_back w (JudgeEvent e least percent) h refl refl
+event_back w (WantEvent a u n) h = plain_back w (WantEvent a u n) h refl refl
+event_back w (NearEvent a u m n) h = plain_back w (NearEvent a u m n) h refl refl
+event_back w (RackEvent a u r n) h = plain_back w (RackEvent a u r n) h refl refl
+event_back w (AvoidEvent a u m true) h = plain_back w (AvoidEvent a u m true) h refl refl
+event_back w (AvoidEvent a u m false) h = plain_back w (AvoidEvent a u m false) h refl refl
+event_back w (BackEvent a u m n) h = plain_back w (BackEvent a u m n) h refl refl
+event_back w (TurnMasterEvent e) h = plain_back w (TurnMasterEvent e) h refl refl
+event_back w (TurnAgentEvent m) h = plain_back w (TurnAgentEvent m) h refl refl
+event_back w (TurnAppEvent a) h = plain_back w (TurnAppEvent a) h refl refl
+event_back w (ResyncMasterEvent e) h = plain_back w (ResyncMasterEvent e) h refl refl
+event_back w (ResyncAgentEvent m) h = plain_back w (ResyncAgentEvent m) h refl refl
+event_back w (ResyncAppEvent a) h = plain_back w (ResyncAppEvent a) h refl refl
+event_back w (DeliverEvent k) h = plain_back w (DeliverEvent k) h refl refl
+event_back w (DeliverRangeEvent k l) h = plain_back w (DeliverRangeEvent k l) h refl refl
+event_back w (DumpEvent k) h = plain_back w (DumpEvent k) h refl refl
+event_back w ShowEvent h = plain_back w ShowEvent h refl refl
+event_back w (HaltEvent calls all p x) h = stopped_back w calls all x h.stop.0 h.stop.1 h.numbers h.asks

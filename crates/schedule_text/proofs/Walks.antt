@@ -4,7 +4,7 @@ use Rattle.fuxi_terms.specs.Counts.{then_do}
 use Rattle.schedule_text.specs.declared.event.LineFault.{LineFault}
 use Rattle.schedule_text.specs.declared.event.LineFault.TheVariants.{UnknownWord, WrongCount, BadNumber, Range, OutOfMemory}
 use Rattle.schedule_text.specs.declared.form.Place.{Place}
-use Rattle.schedule_text.specs.declared.form.Place.TheVariants.{Incarnation, Job, Unit as UnitPlace, Machine, Rack as RackPlace, Group, Switch, Packet, LastPacket, Votes, Percent, Count}
+use Rattle.schedule_text.specs.declared.form.Place.TheVariants.{Incarnation, Job, Unit as UnitPlace, Machine, Rack as RackPlace, Group, Switch, Packet, LastPacket, Votes, Percent, Calls, Count}
 use Rattle.std.proofs.lemmas.Bool.Decides.{nat_tests}
 use Rattle.std.specs.List.{list_all}
 use Rattle.schedule_unit.specs.declared.asks.Ask.{Ask}
@@ -108,6 +108,7 @@ narrow_within Packet before n h = tt
 narrow_within LastPacket before n h = tt
 narrow_within Votes before n h = grind (arith, nat_tests, h)
 narrow_within Percent before n h = grind (arith, nat_tests, h)
+narrow_within Calls before n h = grind (arith, nat_tests, h)
 narrow_within Count before n h = tt
 
 -- Units. Its own words and its bound

@@ -7,7 +7,7 @@ use Rattle.schedule_text.specs.declared.form.Form.{Form}
 use Rattle.schedule_text.specs.declared.form.Head.{Head}
 use Rattle.schedule_text.specs.declared.form.Head.TheVariants.{Master, Stop, Agent, App, Submit, Finish, Ban, Unban, Begin, Preempt, Judge, Want, Near, Rack, Avoid, Back, TurnMaster, TurnAgent, TurnApp, ResyncMaster, ResyncAgent, ResyncApp, Deliver, DeliverRange, Dump, Show}
 use Rattle.schedule_text.specs.declared.form.Place.{Place}
-use Rattle.schedule_text.specs.declared.form.Place.TheVariants.{Incarnation, Job, Unit as UnitPlace, Machine, Rack as RackPlace, Group, Switch, Packet, LastPacket, Votes, Percent, Count}
+use Rattle.schedule_text.specs.declared.form.Place.TheVariants.{Incarnation, Job, Unit as UnitPlace, Machine, Rack as RackPlace, Group, Switch, Packet, LastPacket, Votes, Percent, Calls, Count}
 
 -- the first words of a line, the numbers behind them, and whether units stand behind these
 pub record Shape : Type 0 where
@@ -51,12 +51,19 @@ abbrev pub heads : List Head
 heads = Master ∷ Stop ∷ Agent ∷ App ∷ Submit ∷ Finish ∷ Ban ∷ Unban ∷ Begin ∷ Preempt ∷ Judge ∷ Want ∷ Near ∷ Rack ∷ Avoid ∷ Back ∷ TurnMaster ∷ TurnAgent ∷ TurnApp
     ∷ ResyncMaster ∷ ResyncAgent ∷ ResyncApp ∷ Deliver ∷ DeliverRange ∷ Dump ∷ Show ∷ []
 
+-- A stop within a writing: its own word and numbers, and behind them a line that writes
+abbrev pub halt_shape : Shape
+halt_shape = line (codes "halt" ∷ []) (Calls ∷ Switch ∷ [])
+
+abbrev pub writing_heads : List Head
+writing_heads = Master ∷ Submit ∷ Finish ∷ Ban ∷ Unban ∷ []
+
 -- the table of the code, as this one
 abbrev pub as_shape : Form → Shape
 as_shape f = record { words = map (λ w. w.now) f.words.now; places = f.places.now; units = f.units }
 
 -- The range of each place, with the number that stands before it: epochs and boots, and packets, are counted from 1, and the
--- last packet is not before the first; a judgement asks for a vote at least
+-- last packet is not before the first; a judgement asks for a vote at least, and a writing is four calls
 abbrev pub is_within : Place → ℕ → ℕ → Bool
 is_within Incarnation before n = not (nat_eq n 0)
 is_within Job before n = nat_lt n most_jobs
@@ -69,6 +76,7 @@ is_within Packet before n = not (nat_eq n 0)
 is_within LastPacket before n = not (nat_lt n before)
 is_within Votes before n = is_between 1 most_votes n
 is_within Percent before n = is_at_most 100 n
+is_within Calls before n = is_between 1 4 n
 is_within Count before n = true
 
 -- a number in range is as narrow as this; epochs, boots, packets and counts are as wide as they come
@@ -84,4 +92,5 @@ IsNarrow Packet n = Unit {0}
 IsNarrow LastPacket n = Unit {0}
 IsNarrow Votes n = n ≤ most_votes
 IsNarrow Percent n = n ≤ 100
+IsNarrow Calls n = n ≤ 4
 IsNarrow Count n = Unit {0}

@@ -1,5 +1,6 @@
 pub mod Words
 pub mod Forms
+pub mod Halting
 pub mod Reading
 pub mod Writing
 pub mod Lines

@@ -5,7 +5,7 @@ use Rattle.fuxi_terms.specs.declared.answers.What.TheVariants.{Stranger, Stale, 
 use Rattle.written_net.specs.Net.{Party, Packet, Kind, Ack, Delta, Full}
 use Rattle.written_net.specs.Ledgers.{Body}
 use Rattle.written_roles.specs.Refusals.{Refusal, NotRunning, NotRising, TooManyMasters, HardFull, Fenced, NoMachine, NoRack, NoGroup, NoJob, NoUnit, Known, Ended, AlreadyBanned, NotBanned, AlreadyServing, NotServing, NothingToPreempt, WantRange, NotUsable, BackRange, NoPacket, NoUnits, TooManyUnits, Dimensions, PriorityRange, QuantityRange, ZeroSize, MostRange}
-use Rattle.written_world.specs.Outputs.{Line, Sent, Came, Lost, Frame, Refused, Judged, State, Fence, Job, Banned, MasterIs, Reported, Grant, Wait, AgentAt, Row, AppAt, Hold, Carry, Packets}
+use Rattle.written_world.specs.Outputs.{Line, Sent, Came, Lost, Halted, Frame, Refused, Judged, State, Fence, Job, Banned, MasterIs, Reported, Grant, Wait, AgentAt, Row, AppAt, Hold, Carry, Packets}
 use Rattle.hex.specs.Hex.{encode_lower}
 use Rattle.schedule_text.specs.Writing.{spaced}
 
@@ -75,6 +75,7 @@ abbrev pub line_words : (Packet → Body → List ℕ) → Line → List (List �
 line_words frame (Sent k x bytes) = codes "sent" ∷ decimal k ∷ party_word x.from ∷ party_word x.to ∷ kind_word x.kind ∷ place_word x.inc x.seq ∷ decimal bytes ∷ []
 line_words frame (Came k fresh what) = codes "heard" ∷ decimal k ∷ cond fresh (codes "new" ∷ what_word what ∷ []) (what_word what ∷ [])
 line_words frame (Lost k) = codes "heard" ∷ decimal k ∷ codes "lost" ∷ []
+line_words frame (Halted e written) = codes "halted" ∷ decimal e ∷ cond written (codes "after") (codes "before") ∷ []
 line_words frame (Frame k x body) = frame_words k (frame x body)
 line_words frame (Refused why) = codes "refused" ∷ refusal_words why
 line_words frame (Judged m votes) = codes "banned" ∷ decimal m ∷ decimal votes ∷ []

@@ -5,7 +5,7 @@ use Rattle.schedule_unit.specs.declared.party.Role.{Role}
 use Rattle.schedule_unit.specs.declared.party.Role.TheVariants.{Master as MasterRole, Agent as AgentRole, App as AppRole}
 use Rattle.written_net.specs.Net.{Party, Kind, Ack, Delta, Full}
 use Rattle.written_roles.specs.Refusals.{Refusal, NotRunning, NotRising, TooManyMasters, HardFull, Fenced, NoMachine, NoRack, NoGroup, NoJob, NoUnit, Known, Ended, AlreadyBanned, NotBanned, AlreadyServing, NotServing, NothingToPreempt, WantRange, NotUsable, BackRange, NoPacket, NoUnits, TooManyUnits, Dimensions, PriorityRange, QuantityRange, ZeroSize, MostRange}
-use Rattle.written_world.specs.Outputs.{Line, Sent, Came, Lost, Refused, Judged, State, Fence, Job, Banned, MasterIs, Reported, Grant, Wait, AgentAt, Row, AppAt, Hold, Carry, Packets}
+use Rattle.written_world.specs.Outputs.{Line, Sent, Came, Lost, Halted, Refused, Judged, State, Fence, Job, Banned, MasterIs, Reported, Grant, Wait, AgentAt, Row, AppAt, Hold, Carry, Packets}
 use Rattle.schedule_text.specs.declared.output.Kind.{Kind as CodeKind}
 use Rattle.schedule_text.specs.declared.output.Kind.TheVariants.{Ack as CodeAck, Delta as CodeDelta, Full as CodeFull}
 use Rattle.schedule_text.specs.declared.output.Output.{Output}
@@ -61,6 +61,7 @@ abbrev pub as_line : Output → Line
 as_line (out.Sent number from to kind inc seq bytes) = Sent number (record { from = as_party from; to = as_party to; kind = as_kind kind; inc = inc; seq = seq }) bytes
 as_line (out.Heard number fresh what) = Came number fresh what
 as_line (out.Lost number) = Lost number
+as_line (out.Halted epoch written) = Halted epoch written
 as_line (out.Refused refusal) = Refused (as_refusal refusal)
 as_line (out.Judged machine votes) = Judged machine.0 votes
 as_line (out.State events) = State events
@@ -90,6 +91,7 @@ abbrev pub is_entry : Output → Bool
 is_entry (out.Sent number from to kind inc seq bytes) = false
 is_entry (out.Heard number fresh what) = false
 is_entry (out.Lost number) = false
+is_entry (out.Halted epoch written) = false
 is_entry (out.Refused refusal) = false
 is_entry (out.Judged machine votes) = false
 is_entry (out.State events) = false

@@ -21,7 +21,8 @@ use Rattle.schedule_text.specs.declared.form.Head.TheVariants.{Master, Stop, Age
 use Rattle.schedule_text.specs.declared.form.Place.{Place}
 use Rattle.schedule_text.specs.declared.form.Place.TheVariants.{Count}
 use Rattle.schedule_text.specs.Words.{words_of}
-use Rattle.schedule_text.specs.Forms.{Shape, shape_of, heads, is_within}
+use Rattle.schedule_text.specs.Forms.{Shape, shape_of, heads, halt_shape, writing_heads, is_within}
+use Rattle.schedule_text.specs.Halting.{halting}
 
 -- Which line it is. As far as the line has words, the first ones are those of the form
 abbrev pub begins : Shape → List (List ℕ) → Bool
@@ -54,8 +55,9 @@ has_count s words = elim s.units [ true ↦ list_all is_unit (units_of (drop (fr
 abbrev pub is_head : List (List ℕ) → Head → Bool
 is_head words h = begins (shape_of h) words && has_count (shape_of h) words
 
-abbrev pub head_of : List (List ℕ) → Result Head LineFault
-head_of words = elim (find (is_head words) heads) [
+-- which of these lines
+abbrev pub head_of : List Head → List (List ℕ) → Result Head LineFault
+head_of heads words = elim (find (is_head words) heads) [
   | Some h ↦ Ok h
   | None ↦ Err (cond (list_any (λ h. begins (shape_of h) words) heads) WrongCount UnknownWord)
 ]
@@ -142,19 +144,28 @@ event_at DeliverRange ns asks = event.DeliverRange (slice_index ns 0) (slice_ind
 event_at Dump ns asks = event.Dump (slice_index ns 0)
 event_at Show ns asks = event.Show
 
--- the units behind the numbers, where the line has units
-abbrev pub asks_of : Shape → List (List ℕ) → Result (List Ask) LineFault
-asks_of s words = elim s.units [ true ↦ asks_at (front s) (units_of (drop (front s) words)) | false ↦ Ok [] ]
+-- Of the words of a line that begins at a place of the whole line. The units behind the numbers, where the line has units
+abbrev pub asks_of : Shape → ℕ → List (List ℕ) → Result (List Ask) LineFault
+asks_of s place words = elim s.units [ true ↦ asks_at (place + front s) (units_of (drop (front s) words)) | false ↦ Ok [] ]
 
-abbrev pub event_behind : Head → List (List ℕ) → Result Event LineFault
-event_behind h words = let s = shape_of h in
-    then_do (numbers_at s.places (length s.words) 0 (drop (length s.words) words)) (λ ns. then_do (asks_of s words) (λ asks. Ok (event_at h ns asks)))
+abbrev pub event_behind : Head → ℕ → List (List ℕ) → Result Event LineFault
+event_behind h place words = let s = shape_of h in
+    then_do (numbers_at s.places (place + length s.words) 0 (drop (length s.words) words)) (λ ns. then_do (asks_of s place words) (λ asks. Ok (event_at h ns asks)))
+
+-- A stop within a writing. Its own numbers
+abbrev pub stop_of : List (List ℕ) → Result (ℕ × Bool) LineFault
+stop_of words = then_do (numbers_at halt_shape.places (length halt_shape.words) 0 (drop (length halt_shape.words) words)) (λ ns. Ok (slice_index ns 0, nat_eq (slice_index ns 1) 1))
+
+-- which line stands behind them, then they, and then what that line has
+abbrev pub halt_of : List (List ℕ) → Result Event LineFault
+halt_of words = let inner = drop (front halt_shape) words in
+    then_do (head_of writing_heads inner) (λ h. then_do (stop_of words) (λ stop. then_do (event_behind h (front halt_shape) inner) (λ x. Ok (halting stop.0 stop.1 x))))
 
 abbrev pub event_of_words : List (List ℕ) → Result Event LineFault
 event_of_words [] = Err UnknownWord
-event_of_words (w ∷ ws) = then_do (head_of (w ∷ ws)) (λ h. event_behind h (w ∷ ws))
+event_of_words (w ∷ ws) = elim (begins halt_shape (w ∷ ws)) [ true ↦ halt_of (w ∷ ws) | false ↦ then_do (head_of heads (w ∷ ws)) (λ h. event_behind h 0 (w ∷ ws)) ]
 
--- the event of a line, or the first fault: the first words, then the count of words, and then place by place
+-- the event of a line, or the first fault: the first words, then the count of words, and then place by place. It is nowhere in memory
 abbrev pub event_of : List ℕ → Result Event LineFault
 event_of line = event_of_words (words_of line)
 

@@ -4,13 +4,15 @@ use Rattle.std.specs.List.{flat_map, AllByRecursion}
 use Rattle.fuxi_terms.specs.Limits.{greatest_count}
 use Rattle.schedule_unit.specs.declared.asks.Ask.{Ask}
 use Rattle.schedule_text.specs.declared.event.Event.{Event}
-use Rattle.schedule_text.specs.declared.event.Event.TheVariants.{Master as MasterEvent, Stop as StopEvent, Agent as AgentEvent, App as AppEvent, Submit as SubmitEvent, Finish as FinishEvent, Ban as BanEvent, Unban as UnbanEvent, Begin as BeginEvent, Preempt as PreemptEvent, Judge as JudgeEvent, Want as WantEvent, Near as NearEvent, Rack as RackEvent, Avoid as AvoidEvent, Back as BackEvent, TurnMaster as TurnMasterEvent, TurnAgent as TurnAgentEvent, TurnApp as TurnAppEvent, ResyncMaster as ResyncMasterEvent, ResyncAgent as ResyncAgentEvent, ResyncApp as ResyncAppEvent, Deliver as DeliverEvent, DeliverRange as DeliverRangeEvent, Dump as DumpEvent, Show as ShowEvent}
+use Rattle.schedule_text.specs.declared.event.Event.TheVariants.{Master as MasterEvent, Stop as StopEvent, Agent as AgentEvent, App as AppEvent, Submit as SubmitEvent, Finish as FinishEvent, Ban as BanEvent, Unban as UnbanEvent, Begin as BeginEvent, Preempt as PreemptEvent, Judge as JudgeEvent, Want as WantEvent, Near as NearEvent, Rack as RackEvent, Avoid as AvoidEvent, Back as BackEvent, TurnMaster as TurnMasterEvent, TurnAgent as TurnAgentEvent, TurnApp as TurnAppEvent, ResyncMaster as ResyncMasterEvent, ResyncAgent as ResyncAgentEvent, ResyncApp as ResyncAppEvent, Deliver as DeliverEvent, DeliverRange as DeliverRangeEvent, Dump as DumpEvent, Show as ShowEvent, Halt' as HaltEvent}
 use Rattle.schedule_text.specs.declared.form.Head.{Head}
 use Rattle.schedule_text.specs.declared.form.Head.TheVariants.{Master, Stop, Agent, App, Submit, Finish, Ban, Unban, Begin, Preempt, Judge, Want, Near, Rack, Avoid, Back, TurnMaster, TurnAgent, TurnApp, ResyncMaster, ResyncAgent, ResyncApp, Deliver, DeliverRange, Dump, Show}
 use Rattle.schedule_text.specs.declared.form.Place.{Place}
-use Rattle.schedule_text.specs.Forms.{shape_of, is_within}
+use Rattle.schedule_text.specs.declared.form.Place.TheVariants.{Calls}
+use Rattle.schedule_text.specs.Forms.{shape_of, halt_shape, is_within}
+use Rattle.schedule_text.specs.Halting.{is_writing}
 
--- what an event says: its line, the numbers of that line, and the units behind them
+-- what an event says: its line, the numbers of that line, and the units behind them; of a stop within a writing what the line within says
 pub record Saying : Type 0 where
   pub head : Head
   pub numbers : List ℕ
@@ -49,6 +51,7 @@ saying_of (DeliverEvent k) = says Deliver (k ∷ [])
 saying_of (DeliverRangeEvent k l) = says DeliverRange (k ∷ l ∷ [])
 saying_of (DumpEvent k) = says Dump (k ∷ [])
 saying_of ShowEvent = says Show []
+saying_of (HaltEvent calls all p x) = saying_of x
 
 -- The words of an event: those of its line, its numbers, and the units with a slash between two of them. The bound of a unit is written where
 -- its number is not the greatest
@@ -73,11 +76,16 @@ abbrev pub spaced : List (List ℕ) → List ℕ
 spaced [] = []
 spaced (w ∷ ws) = w ++ blanked ws
 
-abbrev pub event_text : Event → List ℕ
-event_text e = spaced (saying_words (saying_of e))
+-- of a stop within a writing its own words, and behind a blank the line within
+abbrev pub halt_words : ℕ → Bool → List (List ℕ)
+halt_words calls all = halt_shape.words ++ map decimal (calls ∷ switch all ∷ [])
 
--- The events that a line can give: each number is in the range of its place, and a submission has units, each with a priority,
--- 1 to 8 quantities and the number of a bound
+abbrev pub event_text : Event → List ℕ
+event_text (HaltEvent calls all p x) = spaced (halt_words calls all) ++ (32 ∷ event_text x)
+event_text x = spaced (saying_words (saying_of x))
+
+-- The events that a line can give: each number is in the range of its place, a submission has units, each with a priority,
+-- 1 to 8 quantities and the number of a bound, and a stop within a writing has a line that writes
 abbrev pub AreWithin : ℕ → List Place → List ℕ → Type 0
 AreWithin before [] [] = Unit {0}
 AreWithin before [] (n ∷ ns) = ⊥
@@ -96,9 +104,14 @@ abbrev pub AreAsks : Bool → List Ask → Type 0
 AreAsks false asks = asks ≡ []
 AreAsks true asks = (1 ≤ length asks) × AllByRecursion IsAsk asks
 
+abbrev pub MayStop : Event → Type 0
+MayStop (HaltEvent calls all p x) = (is_within Calls 0 calls ≡ true) × (is_writing x ≡ true)
+MayStop x = Unit {0}
+
 pub record IsLineEvent (e : Event) : Type 0 where
   pub numbers : AreWithin 0 (shape_of (saying_of e).head).places (saying_of e).numbers
   pub asks : AreAsks (shape_of (saying_of e).head).units (saying_of e).asks
+  pub stop : MayStop e
 
 -- what was there is there still, with or without more behind it
 abbrev pub Begins : List ℕ → List ℕ → Type 0

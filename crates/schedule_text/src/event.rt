@@ -60,6 +60,10 @@ pub enum Event {
     Dump(u64),
     /// The state is printed.
     Show,
+    /// The master that the event within names stops behind so many calls, 1 to 4, of its writing, and what is not synced
+    /// then stands or does not. The event within is a start of a master, a submission, the end of a job, a ban or the
+    /// end of a ban.
+    Halt(u8, bool, Box<Event>),
 }
 
 // Written out, so that who lets one go checks this call and not all of its parts.
@@ -92,6 +96,7 @@ impl Drop for Event {
             Event::DeliverRange(_, _) => {}
             Event::Dump(_) => {}
             Event::Show => {}
+            Event::Halt(_, _, _) => {}
         }
     }
 }

@@ -1,7 +1,7 @@
 //! The table of event lines.
 
 ghost use Rattle.std.specs.Prelude.{◌≡◌, ◌≤◌, length, map};
-ghost use Rattle.schedule_text.specs.Forms.{shape_of, as_shape, line as shape_line, is_within};
+ghost use Rattle.schedule_text.specs.Forms.{shape_of, as_shape, halt_shape, line as shape_line, is_within};
 
 use fuxi_terms::limits::{MOST_GROUPS, MOST_JOBS, MOST_MACHINES, MOST_RACKS, MOST_UNITS};
 
@@ -53,6 +53,7 @@ pub enum Place {
     LastPacket,
     Votes,
     Percent,
+    Calls,
     Count,
 }
 
@@ -91,6 +92,15 @@ pub const HEADS: [Head; 26] = [
     Head::DeliverRange,
     Head::Dump,
     Head::Show,
+];
+
+// The lines that write.
+pub const WRITING_HEADS: [Head; 5] = [
+    Head::Master,
+    Head::Submit,
+    Head::Finish,
+    Head::Ban,
+    Head::Unban,
 ];
 
 fn line(words: &'static [&'static [u8]], places: &'static [Place]) -> Form
@@ -157,6 +167,14 @@ pub fn form_of(head: Head) -> Form
     }
 }
 
+// What stands before the line within a stop of a writing.
+pub fn halt_form() -> Form
+    ensures shape { as_shape result ≡ halt_shape }
+    ensures few { length result.places.now ≤ 4 }
+{
+    line(&[b"halt"], &[Place::Calls, Place::Switch])
+}
+
 // Whether a number is in the range of its place, with the number that stands before it.
 pub fn is_within(place: Place, before: u64, number: u64) -> bool
     ensures { result ≡ is_within place before number }
@@ -172,6 +190,7 @@ pub fn is_within(place: Place, before: u64, number: u64) -> bool
         Place::LastPacket => number >= before,
         Place::Votes => (1..=MOST_VOTES).contains(&number),
         Place::Percent => number <= 100,
+        Place::Calls => (1..=4).contains(&number),
         Place::Count => true,
     }
 }

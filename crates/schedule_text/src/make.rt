@@ -2,6 +2,7 @@
 
 ghost use Rattle.std.specs.Prelude.{◌≡◌, ℕ, ◌<◌, ◌≤◌, length, slice_index, get_or};
 ghost use Rattle.schedule_text.specs.Forms.{shape_of, IsNarrow};
+ghost use Rattle.schedule_text.specs.Halting.{anywhere};
 ghost use Rattle.schedule_text.specs.Reading.{event_at};
 ghost use Rattle.schedule_text.specs.declared.form.Place.TheVariants.{Incarnation as IncarnationPlace};
 
@@ -13,7 +14,8 @@ use schedule_unit::{AppNo, Asks, GroupNo, MachineNo, RackNo, UnitNo};
 pub fn make_event(head: Head, numbers: &[u64], asks: Asks) -> Event
     requires count { length numbers.now ≡ length (shape_of head).places }
     requires narrow { (i : ℕ) → i < length (shape_of head).places → IsNarrow (get_or (shape_of head).places i IncarnationPlace) (slice_index numbers.now i) }
-    ensures { result ≡ event_at head numbers.now asks }
+    ensures event { result ≡ event_at head numbers.now asks }
+    ensures anywhere { anywhere result ≡ result }
 {
     match head {
         Head::Master => Event::Master(numbers[0]),

@@ -40,6 +40,8 @@ pub enum Output {
     Heard(u64, bool, What),
     /// A packet that was delivered where nobody runs.
     Lost(u64),
+    /// A master that stopped within a writing, and whether that is written.
+    Halted(u64, bool),
     /// Why an event was refused.
     Refused(Refusal),
     /// A machine that a judgement banned, and how many votes it had.
@@ -150,6 +152,16 @@ fn push_output(line: &Output, out: &mut Vec<u8>) -> Result<(), OutOfMemory>
             push_heard(out, *fresh, what)
         }
         Output::Lost(number) => push_word(out, b"heard", &[*number], b"lost"),
+        Output::Halted(epoch, written) => push_word(
+            out,
+            b"halted",
+            &[*epoch],
+            if *written {
+                b"after".as_slice()
+            } else {
+                b"before".as_slice()
+            },
+        ),
         Output::Refused(refusal) => {
             push_numbered(out, b"refused", &[])?;
             push_refusal(out, refusal)

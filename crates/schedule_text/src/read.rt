@@ -3,14 +3,15 @@
 ghost use Rattle.std.specs.Prelude.{◌≡◌, true, ℕ, ◌+◌, ◌^◌, ◌<◌, ◌≤◌, List, ◌∷◌, IfOk, IfErr, IfSome, Ok, Err, map, length, take, drop, slice_index, slice_get, get_or, Some};
 ghost use Rattle.std.specs.List.{find, list_all, list_any};
 ghost use Rattle.fuxi_terms.specs.Counts.{then_do};
-ghost use Rattle.schedule_text.specs.Forms.{Shape, shape_of, heads, as_shape, IsNarrow};
-ghost use Rattle.schedule_text.specs.Reading.{begins, is_head, has_count, own_count, is_unit, units_of, head_of, number_at, numbers_at, counts_at, most_at, ask_at, asks_at, asks_of, event_at, event_behind, event_of, front, IsFault};
+ghost use Rattle.schedule_text.specs.Forms.{Shape, shape_of, as_shape, IsNarrow};
+ghost use Rattle.schedule_text.specs.Reading.{begins, is_head, has_count, own_count, is_unit, units_of, head_of, number_at, numbers_at, counts_at, most_at, ask_at, asks_at, asks_of, event_at, event_behind, stop_of, halt_of, event_of_words, event_of, front, IsFault};
+ghost use Rattle.schedule_text.specs.Halting.{anywhere};
 ghost use Rattle.schedule_text.specs.Writing.{IsLineEvent};
 ghost use Rattle.schedule_text.specs.declared.event.Event.{Event as AnyEvent};
 ghost use Rattle.schedule_text.specs.declared.form.Place.TheVariants.{Incarnation as IncarnationPlace};
 
 use crate::event::{Event, LineFault};
-use crate::form::{Form, HEADS, Head, Place, form_of, is_within};
+use crate::form::{Form, HEADS, Head, Place, WRITING_HEADS, form_of, halt_form, is_within};
 use crate::make::make_event;
 use crate::word::words_of;
 use fuxi_terms::OutOfMemory;
@@ -18,46 +19,63 @@ use fuxi_terms::limits::GREATEST_COUNT;
 use schedule_unit::{Ask, Asks, Quantities, read_number};
 use std::alloc::Global;
 
-/// The event of a line, which has no newline. The first test that fails decides: the first word, and the
-/// second of a turn or a resync, is known; the line has as many words as its event; and place by place the word
-/// is a number, and within its range. The last two words of a unit may be `most` and a number.
+/// The event of a line, which has no newline. The first test that fails decides: the first word, the second of a turn
+/// or a resync, and the first of the line within a stop is known; the line has as many words as its event; and place
+/// by place the word is a number, and within its range. The last two words of a unit may be `most` and a number.
 pub fn read_event(alloc: Global, line: &[u8]) -> Result<Event, LineFault>
-    ensures ok { IfOk result (λ event. event_of line.now ≡ Ok event) }
+    ensures ok { IfOk result (λ event. event_of line.now ≡ Ok (anywhere event)) }
+    ensures line { IfOk result IsLineEvent }
     ensures fault { IfErr result (IsFault (event_of line.now)) }
 {
     let words = words_of(alloc, line)?;
-    let words = words.as_slice();
+    match event_in(alloc, words.as_slice()) {
+        Ok(event) => Ok(event),
+        Err(fault) => Err(fault),
+    }
+}
+
+// The event of the words of a line.
+fn event_in(alloc: Global, words: &[&[u8]]) -> Result<Event, LineFault>
+    requires { length words.now < 2 ^ 60 }
+    ensures ok { IfOk result (λ event. event_of_words (map (λ w. w.now) words.now) ≡ Ok (anywhere event)) }
+    ensures fault { IfErr result (IsFault (event_of_words (map (λ w. w.now) words.now))) }
+{
     if words.is_empty() {
         return Err(LineFault::UnknownWord);
     }
-    let head = head_of(words)?;
-    event_behind(alloc, head, words)
+    if begins(&halt_form(), words) {
+        return halt_of(alloc, words);
+    }
+    match head_of(&HEADS, words) {
+        Ok(head) => event_behind(alloc, head, 0, words),
+        Err(fault) => Err(fault),
+    }
 }
 
-// Which event line it is.
-fn head_of(words: &[&[u8]]) -> Result<Head, LineFault>
-    ensures value { result ≡ head_of (map (λ w. w.now) words.now) }
+// Which of these event lines it is.
+fn head_of(heads: &[Head], words: &[&[u8]]) -> Result<Head, LineFault>
+    ensures value { result ≡ head_of heads.now (map (λ w. w.now) words.now) }
     ensures count { IfOk result (λ head. has_count (shape_of head) (map (λ w. w.now) words.now) ≡ true) }
 {
-    match find_head(words) {
+    match find_head(heads, words) {
         Some(head) => Ok(head),
-        None if is_begun(words) => Err(LineFault::WrongCount),
+        None if is_begun(heads, words) => Err(LineFault::WrongCount),
         None => Err(LineFault::UnknownWord),
     }
 }
 
-fn find_head(words: &[&[u8]]) -> Option<Head>
-    ensures value { result ≡ find (is_head (map (λ w. w.now) words.now)) heads }
+fn find_head(heads: &[Head], words: &[&[u8]]) -> Option<Head>
+    ensures value { result ≡ find (is_head (map (λ w. w.now) words.now)) heads.now }
     ensures count { IfSome result (λ head. has_count (shape_of head) (map (λ w. w.now) words.now) ≡ true) }
 {
-    HEADS.iter().copied().find(|head| is_head(*head, words))
+    heads.iter().copied().find(|head| is_head(*head, words))
 }
 
-// Whether some event line begins with these words.
-fn is_begun(words: &[&[u8]]) -> bool
-    ensures { result ≡ list_any (λ head. begins (shape_of head) (map (λ w. w.now) words.now)) heads }
+// Whether one of these lines begins with these words.
+fn is_begun(heads: &[Head], words: &[&[u8]]) -> bool
+    ensures { result ≡ list_any (λ head. begins (shape_of head) (map (λ w. w.now) words.now)) heads.now }
 {
-    HEADS.iter().any(|head| begins(&form_of(*head), words))
+    heads.iter().any(|head| begins(&form_of(*head), words))
 }
 
 fn is_head(head: Head, words: &[&[u8]]) -> bool
@@ -146,26 +164,73 @@ fn numbers_at(places: &[Place], first: usize, words: &[&[u8]]) -> Result<[u64; 4
     Ok(numbers)
 }
 
-// The event with the numbers and units of the line, which has as many words as it must.
-fn event_behind(alloc: Global, head: Head, words: &[&[u8]]) -> Result<Event, LineFault>
+// The event with the numbers and units of the line, which begins at a place and has as many words as it must.
+fn event_behind(
+    alloc: Global,
+    head: Head,
+    first: usize,
+    words: &[&[u8]],
+) -> Result<Event, LineFault>
     requires count { has_count (shape_of head) (map (λ w. w.now) words.now) ≡ true }
-    requires range { length words.now < 2 ^ 61 }
-    ensures ok { IfOk result (λ event. event_behind head (map (λ w. w.now) words.now) ≡ Ok event) }
-    ensures fault { IfErr result (IsFault (event_behind head (map (λ w. w.now) words.now))) }
+    requires range { first + length words.now < 2 ^ 61 }
+    ensures ok { IfOk result (λ event. event_behind head first (map (λ w. w.now) words.now) ≡ Ok (anywhere event)) }
+    ensures fault { IfErr result (IsFault (event_behind head first (map (λ w. w.now) words.now))) }
 {
     let form = form_of(head);
     let (_, behind) = words.split_at(form.words.len());
     let count = form.places.len();
-    let numbers = numbers_at(form.places, form.words.len(), behind)?;
+    let numbers = numbers_at(form.places, first + form.words.len(), behind)?;
     let (numbers, _) = numbers.as_slice().split_at(count);
     if !form.units {
         return Ok(make_event(head, numbers, Asks::new(alloc)));
     }
     let front = form.words.len() + count;
     let (_, units) = words.split_at(front);
-    match asks_at(alloc, front, units) {
+    match asks_at(alloc, first + front, units) {
         Ok(asks) => Ok(make_event(head, numbers, asks)),
         Err(fault) => Err(fault),
+    }
+}
+
+// The numbers of a stop within a writing, behind its word.
+fn stop_of(words: &[&[u8]]) -> Result<(u8, bool), LineFault>
+    requires there { 3 ≤ length words.now }
+    ensures ok { IfOk result (λ stop. stop_of (map (λ w. w.now) words.now) ≡ Ok stop) }
+    ensures fault { IfErr result (λ fault. stop_of (map (λ w. w.now) words.now) ≡ Err fault) }
+{
+    let form = halt_form();
+    let (_, behind) = words.split_at(1);
+    match numbers_at(form.places, 1, behind) {
+        Ok(numbers) => Ok((numbers[0] as u8, numbers[1] == 1)),
+        Err(fault) => Err(fault),
+    }
+}
+
+// A stop within a writing: which line stands behind its numbers, then they, and then what that line has.
+fn halt_of(alloc: Global, words: &[&[u8]]) -> Result<Event, LineFault>
+    requires range { length words.now < 2 ^ 60 }
+    ensures ok { IfOk result (λ event. halt_of (map (λ w. w.now) words.now) ≡ Ok (anywhere event)) }
+    ensures fault { IfErr result (IsFault (halt_of (map (λ w. w.now) words.now))) }
+{
+    if words.len() < 3 {
+        return Err(LineFault::WrongCount);
+    }
+    let (_, inner) = words.split_at(3);
+    let head = match head_of(&WRITING_HEADS, inner) {
+        Ok(head) => head,
+        Err(fault) => return Err(fault),
+    };
+    let (calls, all) = match stop_of(words) {
+        Ok(stop) => stop,
+        Err(fault) => return Err(fault),
+    };
+    let line = match event_behind(alloc, head, 3, inner) {
+        Ok(line) => line,
+        Err(fault) => return Err(fault),
+    };
+    match Box::new(alloc, line) {
+        Ok(line) => Ok(Event::Halt(calls, all, line)),
+        Err(_) => Err(LineFault::OutOfMemory),
     }
 }
 

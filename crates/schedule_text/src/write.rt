@@ -3,8 +3,9 @@
 ghost use Rattle.std.specs.Prelude.{◌≡◌, ◌<◌, ◌≤◌, ◌++◌, ◌∷◌, [], map, length, take, OnOk, OnErr, decimal, codes, Ok};
 ghost use Rattle.std.specs.List.{flat_map};
 ghost use Rattle.schedule_text.specs.Forms.{shape_of};
+ghost use Rattle.schedule_text.specs.Halting.{anywhere};
 ghost use Rattle.schedule_text.specs.Reading.{event_of};
-ghost use Rattle.schedule_text.specs.Writing.{says, saying_of, saying_words, most_words, ask_words, asks_words, blanked, spaced, event_text, Begins, IsLineEvent};
+ghost use Rattle.schedule_text.specs.Writing.{says, saying_of, saying_words, halt_words, most_words, ask_words, asks_words, blanked, spaced, event_text, Begins, IsLineEvent};
 ghost use Rattle.schedule_text.specs.declared.event.Event.{Event as AnyEvent};
 
 use crate::event::Event;
@@ -84,7 +85,21 @@ fn push_event(event: &Event, out: &mut Vec<u8>) -> Result<(), OutOfMemory>
         Event::DeliverRange(first, last) => push_line(out, Head::DeliverRange, &[*first, *last]),
         Event::Dump(packet) => push_line(out, Head::Dump, &[*packet]),
         Event::Show => push_line(out, Head::Show, &[]),
+        Event::Halt(calls, all, line) => {
+            push_halt(out, *calls, *all)?;
+            push_event(line, out)
+        }
     }
+}
+
+// What stands before the line within a stop of a writing, and a blank.
+fn push_halt(out: &mut Vec<u8>, calls: u8, all: bool) -> Result<(), OutOfMemory>
+    ensures ok { OnOk result (out.new.items ≡ out.old.items ++ (spaced (halt_words calls all) ++ 32 ∷ [])) }
+    ensures err { OnErr result (Begins out.old.items out.new.items) }
+{
+    out.extend_from_slice(b"halt")?;
+    push_numbers(out, &[calls as u64, all as u64])?;
+    Ok(out.push(b' ')?)
 }
 
 // The first words and the numbers of a line.
@@ -195,9 +210,9 @@ fn push_most(out: &mut Vec<u8>, most: u64) -> Result<(), OutOfMemory>
     push_numbers(out, &[most])
 }
 
-/// Each event that a line can give is read back from its line.
+/// Each event that a line can give is read back from its line, wherever it stands in memory.
 pub fn event_lines()
-    ensures { (event : AnyEvent) → IsLineEvent event → event_of (event_text event) ≡ Ok event }
+    ensures { (event : AnyEvent) → IsLineEvent event → event_of (event_text event) ≡ Ok (anywhere event) }
 {
     numbers();
 }
