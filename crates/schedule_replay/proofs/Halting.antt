@@ -12,7 +12,7 @@ use Rattle.written_net.specs.Ledgers.{Ledger}
 use Rattle.written_join.specs.Seen.{parcel_of}
 use Rattle.written_join.specs.Joins.{OneActs}
 use Rattle.written_roles.specs.HardState.{HardState, HardEvent, Raise, hard_step}
-use Rattle.written_roles.specs.MasterSteps.{MasterCommand, writes}
+use Rattle.written_roles.specs.MasterSteps.{MasterCommand}
 use Rattle.written_roles.specs.Refusals.{Refusal as WrittenRefusal}
 use Rattle.core_join.specs.Masters.{change_in}
 use Rattle.written_world.specs.Outputs.{Halted}

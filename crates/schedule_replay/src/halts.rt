@@ -16,7 +16,7 @@ ghost use Rattle.schedule_replay.specs.Events.{event_as};
 ghost use Rattle.schedule_replay.specs.Commands.{AreGoverned, TakesStep, governing};
 ghost use Rattle.schedule_replay.specs.Halts.{Halts, HaltsWithin, IsWithin};
 
-use crate::commands::{machine_tests, named_job, finish_tests, start_tests, written_refusal};
+use crate::commands::{finish_tests, machine_tests, named_job, start_tests, written_refusal};
 use cluster_desc::Cluster;
 use fuxi_terms::OutOfMemory;
 use memory_checkpoint::{Checkpoint, Writing};
@@ -52,9 +52,7 @@ pub(crate) fn halt(
             let named = (*epoch, *app, *group);
             halt_submission(alloc, cluster, checkpoint, masters, named, asks, stop)
         }
-        Event::Finish(epoch, app) => {
-            halt_finish(alloc, checkpoint, masters, *epoch, *app, stop)
-        }
+        Event::Finish(epoch, app) => { halt_finish(alloc, checkpoint, masters, *epoch, *app, stop) }
         Event::Ban(epoch, machine) => {
             halt_ban(alloc, cluster, checkpoint, masters, *epoch, *machine, stop)
         }
