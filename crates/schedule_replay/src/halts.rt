@@ -52,7 +52,7 @@ pub(crate) fn halt(
             let named = (*epoch, *app, *group);
             halt_submission(alloc, cluster, checkpoint, masters, named, asks, stop)
         }
-        Event::Finish(epoch, app) => { halt_finish(alloc, checkpoint, masters, *epoch, *app, stop) }
+        Event::Finish(epoch, app) => halt_finish(alloc, checkpoint, masters, *epoch, *app, stop),
         Event::Ban(epoch, machine) => {
             halt_ban(alloc, cluster, checkpoint, masters, *epoch, *machine, stop)
         }
