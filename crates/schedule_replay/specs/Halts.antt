@@ -1,5 +1,5 @@
 -- What a stop within the writing of a line does, in each world that the hard state and the masters are of.
-use Rattle.std.specs.Prelude.{◌≡◌, ◌≤◌, ℕ, [], ◌∷◌, Result, Ok, Err}
+use Rattle.std.specs.Prelude.{◌≡◌, ◌≤◌, ℕ, [], ◌∷◌, Ok, Err}
 use Rattle.fuxi_terms.specs.Cluster.{ClusterRecord}
 use Rattle.written_roles.specs.HardState.{HardState, HardEvent, hard_step}
 use Rattle.written_roles.specs.Refusals.{Refusal}
