@@ -12,6 +12,7 @@ use Rattle.written_roles.specs.HardState.{HardState}
 use Rattle.written_roles.specs.Masters.{Master}
 use Rattle.written_roles.specs.Refusals.{NotRunning, with_found}
 use Rattle.written_world.specs.World.{World, Step, prints_nothing, refused}
+use Rattle.written_world.specs.Events.{without_master}
 use Rattle.written_join.specs.Joins.{master_starts}
 use Rattle.fuxi_master.specs.Cores.{MasterRecord}
 use Rattle.core_join.specs.Masters.{MasterStartsInWorld}
@@ -53,26 +54,29 @@ start_in c h e x m kept above world w good s cluster later =
     }
 
 -- Stops. Those that are left
-each_left : (w : World) (x : MastersRecord) (e : ℕ) → AreMastersOf w x → (e' : ℕ) (m : MasterRecord) → find nat_cmp e' (where_key nat_cmp (λ k. not (nat_eq k e)) x.masters) ≡ Some m
-    → MasterRunsAs (record w { masters = where_key nat_cmp (λ k. not (nat_eq k e)) w.masters }) e' m.core
-each_left w x e s e' m is = by (nat_eq e' e) refl (sym (find_without x.masters e e') ∙ is)
+each_left : (w : World) (x : MastersRecord) (e : ℕ) (h : HardState) → AreMastersOf w x → (e' : ℕ) (m : MasterRecord) → find nat_cmp e' (where_key nat_cmp (λ k. not (nat_eq k e)) x.masters) ≡ Some m
+    → MasterRunsAs (without_master w e h) e' m.core
+each_left w x e h s e' m is = by (nat_eq e' e) refl (sym (find_without x.masters e e') ∙ is)
   where
-    by : (b : Bool) → nat_eq e' e ≡ b → cond b None (find nat_cmp e' x.masters) ≡ Some m → MasterRunsAs (record w { masters = where_key nat_cmp (λ k. not (nat_eq k e)) w.masters }) e' m.core
+    by : (b : Bool) → nat_eq e' e ≡ b → cond b None (find nat_cmp e' x.masters) ≡ Some m → MasterRunsAs (without_master w e h) e' m.core
     by true t is = absurd (not_none m is)
     by false t is =
         let r = s.each e' m is in
         record { master = r.master; runs = find_without w.masters e e' ∙ ap (λ b. cond b None (find nat_cmp e' w.masters)) t ∙ r.runs; stands = r.stands }
+
+left_over : (w : World) (x : MastersRecord) (e : ℕ) (h : HardState) → AreMastersOf w x → AreMastersOf (without_master w e h) (record { masters = where_key nat_cmp (λ k. not (nat_eq k e)) x.masters })
+left_over w x e h s = record { epochs = without_alike w.masters x.masters _ s.epochs; each = each_left w x e h s }
 
 stopped : World → ℕ → Option Master → Step
 stopped w e o = with_found o (refused w NotRunning) (λ M. prints_nothing (record w { masters = where_key nat_cmp (λ k. not (nat_eq k e)) w.masters }))
 
 left : (w : World) (x : MastersRecord) (e : ℕ) (o : Option Master) → AreMastersOf w x → find nat_cmp e w.masters ≡ o → AreMastersOf (stopped w e o).world (record { masters = where_key nat_cmp (λ k. not (nat_eq k e)) x.masters })
 unfolding stopped
-left w x e (Some M) s is = record { epochs = without_alike w.masters x.masters _ s.epochs; each = each_left w x e s }
+left w x e (Some M) s is = left_over w x e w.hard s
 left w x e None s is =
     let none : running x e ≡ None = none_is _ (sym (found_alike w.masters x.masters e s.epochs) ∙ ap is_some is) in
     subst (λ l. AreMastersOf w (record { masters = l })) (sym (without_none x.masters e none)) s
 
 pub stop_in : (e : ℕ) (x : MastersRecord) (b : Bool) → b ≡ is_some (running x e) → StopsInWorld e x (record { masters = where_key nat_cmp (λ k. not (nat_eq k e)) x.masters }) b
 unfolding stopped
-stop_in e x b is w s = record { stand = left w x e (find nat_cmp e w.masters) s refl; answers = is ∙ sym (found_alike w.masters x.masters e s.epochs) }
+stop_in e x b is w s = record { stand = left w x e (find nat_cmp e w.masters) s refl; left = λ h. left_over w x e h s; answers = is ∙ sym (found_alike w.masters x.masters e s.epochs) }

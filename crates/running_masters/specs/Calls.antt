@@ -14,7 +14,7 @@ use Rattle.written_roles.specs.MasterSteps.{MasterCommand, master_party, peers}
 use Rattle.written_roles.specs.Refusals.{NotRunning}
 use Rattle.written_world.specs.World.{World, refused}
 use Rattle.written_world.specs.Good.{Good}
-use Rattle.written_world.specs.Events.{addressed, commanded, heard_by, resynced, stop_master, turned}
+use Rattle.written_world.specs.Events.{addressed, commanded, heard_by, resynced, stop_master, turned, without_master}
 use Rattle.written_join.specs.Seen.{parcel_of}
 use Rattle.written_join.specs.Joins.{OneActs, master_starts}
 use Rattle.written_join.specs.Leading.{AllLead}
@@ -42,9 +42,10 @@ pub record NoneIn (w : World) (e : ℕ) (new : MastersRecord) : Type 0 where
 abbrev pub StartsInWorld : ClusterRecord → HardState → ℕ → MastersRecord → MastersRecord → Type 0
 StartsInWorld c h e old new = (w : World) → Good w → AreMastersOf w old → c ≡ w.cluster → w.hard.fence < e → ActIn w (master_starts w h (w.ran ++ party master_id e ∷ []) e) e new []
 
--- A stop, and whether one ran
+-- A stop, and whether one ran. Those that are left stand too in the world without that master over any hard state
 pub record StopsIn (w : World) (e : ℕ) (new : MastersRecord) (stopped : Bool) : Type 0 where
   pub stand : AreMastersOf (stop_master w e).world new
+  pub left : (h : HardState) → AreMastersOf (without_master w e h) new
   pub answers : stopped ≡ is_some (find nat_cmp e w.masters)
 
 abbrev pub StopsInWorld : ℕ → MastersRecord → MastersRecord → Bool → Type 0

@@ -1,5 +1,5 @@
 -- The commands of masters in each world that the hard state and the masters are of.
-use Rattle.std.proofs.Common.{◌≡◌, ℕ, ◌<◌, true, false, not, nat_lt, List, [], ◌∷◌, length, Option, Some, None, is_some, Result, Ok, Err, refl, sym, ◌∙◌, ap, subst, arith}
+use Rattle.std.proofs.Common.{◌≡◌, ℕ, ◌<◌, true, false, not, nat_lt, List, [], ◌∷◌, ◌++◌, length, Option, Some, None, is_some, Result, Ok, Err, refl, sym, ◌∙◌, ap, subst, arith}
 use Rattle.std.specs.Ordering.{nat_cmp}
 use Rattle.std.specs.FinMap.Entries.{find}
 use Rattle.std.proofs.lemmas.Bool.Decides.{nat_tests}
@@ -7,17 +7,20 @@ use Rattle.fuxi_terms.specs.Cluster.{ClusterRecord, JobRecord, has_group, has_ma
 use Rattle.fuxi_terms.specs.Counts.{then_do}
 use Rattle.fuxi_terms.specs.Jobs.{eight_places, is_known}
 use Rattle.fuxi_terms.specs.Limits.{most_masters}
+use Rattle.fuxi_terms.specs.Numbers.{without_number}
+use Rattle.written_net.specs.Channels.{app_id, master_id, party}
 use Rattle.schedule_unit.specs.declared.asks.Ask.{Ask}
 use Rattle.schedule_unit.specs.declared.job.JobFault.{JobFault}
 use Rattle.schedule_unit.specs.declared.party.AppNo.{AppNo}
 use Rattle.schedule_unit.specs.JobFaults.{IsFault, IsMade, job_fault}
 use Rattle.written_roles.specs.Refusals.{Refusal as WrittenRefusal, NoMachine, NotRunning, with_found}
-use Rattle.written_roles.specs.HardState.{HardState, HardEvent, Raise, Submission, Finishing, Banning, Unbanning, hard_step}
+use Rattle.written_roles.specs.HardState.{HardState, HardEvent, Raise, Submission, Finishing, Banning, Unbanning, hard_step, with_job}
 use Rattle.written_roles.specs.Masters.{Master}
-use Rattle.written_roles.specs.MasterSteps.{master_party, peers, Changed, Commanded, MasterCommand, Submits, BansMachine, UnbansMachine, StartsServing, MakesRoom, Admits, change_of, command_of, writes}
+use Rattle.written_roles.specs.MasterSteps.{master_party, peers, Changed, Commanded, MasterCommand, Submits, Finishes, BansMachine, UnbansMachine, StartsServing, MakesRoom, Admits, banned_in, command_of, ended_in, writes}
 use Rattle.written_roles.specs.MasterRoles.{MasterTold, Told}
-use Rattle.written_world.specs.World.{World, Step, refused}
+use Rattle.written_world.specs.World.{World, Step, prints_nothing, refused}
 use Rattle.written_world.specs.Events.{commanded, resynced, resync_master, start_master}
+use Rattle.written_join.specs.Joins.{master_starts}
 use Rattle.memory_checkpoint.specs.Held.{Held, IsOpen}
 use Rattle.fuxi_master.specs.Steps.{refusal_of, told_by}
 use Rattle.fuxi_master.specs.declared.event.MasterEvent.{MasterEvent}
@@ -32,7 +35,7 @@ use Rattle.schedule_text.specs.declared.refusal.Refusal.{Refusal}
 use Rattle.schedule_text.specs.declared.refusal.Refusal.TheVariants as why
 use Rattle.schedule_text.specs.Printing.{as_refusal}
 use Rattle.schedule_text.specs.Asked.{AreTestedAlike, job_named, job_refusal}
-use Rattle.schedule_replay.specs.Commands.{AreGoverned, Governing, GovernsIn, IsGoverned, IsGoverning, IsRefused, GovernsMasters, TakesStep, TellsIn, TellsInWorld, governing, refusal_in}
+use Rattle.schedule_replay.specs.Commands.{AreGoverned, Governing, GovernsIn, IsGoverned, IsGoverning, IsRefused, GovernsMasters, MayStart, MayWrite, TakesStep, TellsIn, TellsInWorld, governing, refusal_in}
 use Rattle.schedule_replay.proofs.CommandSteps.{fails, finish_known, group_known, machine_known, not_both, passes, start_done, start_refused, submit_tests_of, submit_unknown, told_is, told_step, writes_done, writes_refused}
 
 -- What a master's answer says
@@ -72,26 +75,25 @@ written_in w e v old ms M s runs =
     let same = s.hard in
     ap (λ n. hard_step w.hard n v) own ∙ ap (λ h. hard_step h e v) (sym same)
 
--- The writing is refused
-pub writing_refused : (w : World) (e : ℕ) (x : MasterCommand) (v : HardEvent) (old new : Held) (ms : MastersRecord) (M : Master) (r : Refusal) → IsGoverning w (governing old ms) → find nat_cmp e w.masters ≡ Some M
-    → command_of w.cluster w.hard M x ≡ writes w.cluster w.hard M v (change_in x) → hard_step old.hard.value e v ≡ Err (as_refusal r) → new ≡ old → IsRefused w (commanded w e x) (governing new ms) r
-writing_refused w e x v old new ms M r s runs is says same =
-    let step : hard_step w.hard M.epoch v ≡ Err (as_refusal r) = written_in w e v old ms M s runs ∙ says in
-    tests_refuse w e x (governing new ms) M r (subst (λ y. IsGoverning w (governing y ms)) (sym same) s) runs
-    (is ∙ writes_refused w.cluster w.hard M v (change_in x) (as_refusal r) step)
+-- The tests have passed. The writing is refused
+pub writing_refused : (w : World) (e : ℕ) (x : MasterCommand) (v : HardEvent) (old new : Held) (ms : MastersRecord) (r : Refusal) → MayWrite w e x v → IsGoverning w (governing old ms) → hard_step old.hard.value e v ≡ Err (as_refusal r) → new ≡ old
+    → IsRefused w (commanded w e x) (governing new ms) r
+writing_refused w e x v old new ms r may s says same =
+    let step : hard_step w.hard may.master.epoch v ≡ Err (as_refusal r) = written_in w e v old ms may.master s may.runs ∙ says in
+    tests_refuse w e x (governing new ms) may.master r (subst (λ y. IsGoverning w (governing y ms)) (sym same) s) may.runs
+    (may.is ∙ writes_refused w.cluster w.hard may.master v (change_in x) (as_refusal r) step)
 
 -- It is done, and the master, which does not refuse what was written, is told
-pub written_done : (w : World) (e : ℕ) (x : MasterCommand) (v : HardEvent) (old new : Held) (ms after : MastersRecord) (M : Master) (d : Changed) → IsGoverning w (governing old ms) → find nat_cmp e w.masters ≡ Some M
-    → command_of w.cluster w.hard M x ≡ writes w.cluster w.hard M v (change_in x) → IsOpen new → hard_step old.hard.value e v ≡ Ok new.hard.value → change_of w.cluster M (change_in x) ≡ Ok d → (answer : Option Refusal) → TellsIn w e x after answer
-    → GovernsIn w e (commanded w e x) (governing new after) answer
-written_done w e x v old new ms after M d s runs is rests done changes None tells =
-    let step : hard_step w.hard M.epoch v ≡ Ok new.hard.value = written_in w e v old ms M s runs ∙ done in
-    let h = tells M new.hard.value runs (λ d to. is ∙ writes_done w.cluster w.hard M v (change_in x) new.hard.value d step to) in
+pub written_done : (w : World) (e : ℕ) (x : MasterCommand) (v : HardEvent) (old new : Held) (ms after : MastersRecord) → MayWrite w e x v → IsGoverning w (governing old ms) → IsOpen new → hard_step old.hard.value e v ≡ Ok new.hard.value
+    → (answer : Option Refusal) → TellsIn w e x after answer → GovernsIn w e (commanded w e x) (governing new after) answer
+written_done w e x v old new ms after may s rests done None tells =
+    let step : hard_step w.hard may.master.epoch v ≡ Ok new.hard.value = written_in w e v old ms may.master s may.runs ∙ done in
+    let h = tells may.master new.hard.value may.runs (λ d to. may.is ∙ writes_done w.cluster w.hard may.master v (change_in x) new.hard.value d step to) in
     record { hard = sym h.hard; rests = rests; stand = h.world.stand; acts = h.world.acts; rest = h.world.rest; quiet = h.quiet }
-written_done w e x v old new ms after M d s runs is rests done changes (Some r) tells =
-    let step : hard_step w.hard M.epoch v ≡ Ok new.hard.value = written_in w e v old ms M s runs ∙ done in
-    let k : Commanded = record { hard = new.hard.value; change = d } in
-    absurd (not_both w e x k (as_refusal r) (told_is w e x M runs ∙ ap (told_step w) (is ∙ writes_done w.cluster w.hard M v (change_in x) new.hard.value d step changes)) tells.same)
+written_done w e x v old new ms after may s rests done (Some r) tells =
+    let step : hard_step w.hard may.master.epoch v ≡ Ok new.hard.value = written_in w e v old ms may.master s may.runs ∙ done in
+    let k : Commanded = record { hard = new.hard.value; change = may.changed } in
+    absurd (not_both w e x k (as_refusal r) (told_is w e x may.master may.runs ∙ ap (told_step w) (may.is ∙ writes_done w.cluster w.hard may.master v (change_in x) new.hard.value may.changed step may.changes)) tells.same)
 
 -- A command for which nothing is written
 pub told_alone : (w : World) (e : ℕ) (x : MasterCommand) (checkpoint : Held) (ms after : MastersRecord) (M : Master) → IsGoverning w (governing checkpoint ms) → find nat_cmp e w.masters ≡ Some M → IsWritten w M x w.hard
@@ -115,10 +117,10 @@ machine_there c c' m n same is below = subst (λ (y : ClusterRecord). has_machin
 pub group_there : (c c' : ClusterRecord) (g n : ℕ) → c ≡ c' → n ≡ length c.groups → g < n → has_group c' g ≡ true
 group_there c c' g n same is below = subst (λ (y : ClusterRecord). has_group y g ≡ true) same (grind (arith, nat_tests, is, below))
 
-pub ban_written : (w : World) (M : Master) (m : ℕ) → has_machine w.cluster m ≡ true → command_of w.cluster w.hard M (BansMachine m) ≡ writes w.cluster w.hard M (Banning m) (change_in (BansMachine m))
+ban_written : (w : World) (M : Master) (m : ℕ) → has_machine w.cluster m ≡ true → command_of w.cluster w.hard M (BansMachine m) ≡ writes w.cluster w.hard M (Banning m) (change_in (BansMachine m))
 ban_written w M m there = passes ((not (has_machine w.cluster m), NoMachine) ∷ []) (writes w.cluster w.hard M (Banning m) (change_in (BansMachine m))) (machine_known w.cluster m there)
 
-pub unban_written : (w : World) (M : Master) (m : ℕ) → has_machine w.cluster m ≡ true → command_of w.cluster w.hard M (UnbansMachine m) ≡ writes w.cluster w.hard M (Unbanning m) (change_in (UnbansMachine m))
+unban_written : (w : World) (M : Master) (m : ℕ) → has_machine w.cluster m ≡ true → command_of w.cluster w.hard M (UnbansMachine m) ≡ writes w.cluster w.hard M (Unbanning m) (change_in (UnbansMachine m))
 unban_written w M m there = passes ((not (has_machine w.cluster m), NoMachine) ∷ []) (writes w.cluster w.hard M (Unbanning m) (change_in (UnbansMachine m))) (machine_known w.cluster m there)
 
 -- a group, and what is asked for a job
@@ -132,7 +134,7 @@ submit_faulty law w M app group resources asks f r same there is fault =
     let fault_there = subst (λ n. IsFault (job_fault n asks) f) same fault in
     fails (submit_tests_of w.cluster j) (submit_writes w M j) (as_refusal r) (group_known w.cluster j there ∙ law.refused w.cluster.resources app group asks f r fault_there is)
 
-pub submit_written : AreTestedAlike → (w : World) (M : Master) (app group resources : ℕ) (asks : List Ask) (made : JobRecord) → resources ≡ w.cluster.resources → has_group w.cluster group ≡ true → IsMade app group resources asks (Ok made)
+submit_written : AreTestedAlike → (w : World) (M : Master) (app group resources : ℕ) (asks : List Ask) (made : JobRecord) → resources ≡ w.cluster.resources → has_group w.cluster group ≡ true → IsMade app group resources asks (Ok made)
     → command_of w.cluster w.hard M (Submits (job_named app group asks)) ≡ writes w.cluster w.hard M (Submission made) (change_in (Submits (job_named app group asks)))
 submit_written law w M app group resources asks made same there is =
     let j = job_named app group asks in
@@ -140,8 +142,28 @@ submit_written law w M app group resources asks made same there is =
     let kept : eight_places j ≡ made = sym (is.1 ∙ law.made app group asks) in
     passes (submit_tests_of w.cluster j) (submit_writes w M j) (group_known w.cluster j there ∙ none) ∙ ap (λ y. writes w.cluster w.hard M (Submission y) (Admits (eight_places j))) kept
 
-pub submit_told : AreTestedAlike → (app group resources : ℕ) (asks : List Ask) (made : JobRecord) → IsMade app group resources asks (Ok made) → told_by (Admit made) ≡ Told (change_in (Submits (job_named app group asks)))
-submit_told law app group resources asks made is = ap {B = MasterTold} (λ y. Told (Admits y)) (is.1 ∙ law.made app group asks)
+pub submit_told : (j made : JobRecord) → made ≡ eight_places j → told_by (Admit made) ≡ Told (change_in (Submits j))
+submit_told j made is = ap {B = MasterTold} (λ y. Told (Admits y)) is
+
+-- so each may be written
+pub may_submit : AreTestedAlike → (w : World) (e app group resources : ℕ) (asks : List Ask) (made : JobRecord) → RunsIn w e → resources ≡ w.cluster.resources → has_group w.cluster group ≡ true → IsMade app group resources asks (Ok made)
+    → MayWrite w e (Submits (job_named app group asks)) (Submission made)
+may_submit law w e app group resources asks made r same there is = record {
+  master = r.master;
+  runs = r.is;
+  is = submit_written law w r.master app group resources asks made same there is;
+  changed = record { state = record r.master { jobs = with_job (eight_places (job_named app group asks)) r.master.jobs }; forced = app_id app ∷ [] };
+  changes = refl;
+}
+
+pub may_finish : (w : World) (e app : ℕ) → RunsIn w e → MayWrite w e (Finishes app) (Finishing app)
+may_finish w e app r = record { master = r.master; runs = r.is; is = refl; changed = record { state = ended_in r.master app; forced = [] }; changes = refl }
+
+pub may_ban : (w : World) (e m : ℕ) → RunsIn w e → has_machine w.cluster m ≡ true → MayWrite w e (BansMachine m) (Banning m)
+may_ban w e m r there = record { master = r.master; runs = r.is; is = ban_written w r.master m there; changed = record { state = banned_in r.master m; forced = [] }; changes = refl }
+
+pub may_unban : (w : World) (e m : ℕ) → RunsIn w e → has_machine w.cluster m ≡ true → MayWrite w e (UnbansMachine m) (Unbanning m)
+may_unban w e m r there = record { master = r.master; runs = r.is; is = unban_written w r.master m there; changed = record { state = record r.master { bans = without_number m r.master.bans }; forced = [] }; changes = refl }
 
 -- What may be told once it is written
 pub finish_fits : (checkpoint : Held) (ms : MastersRecord) (e : ℕ) (app : AppNo) (k : HardState) → AreGoverned (governing checkpoint ms) → hard_step checkpoint.hard.value e (Finishing app.0) ≡ Ok k → Fits e (Finish app) ms
@@ -157,31 +179,36 @@ admit_fits checkpoint ms e j k g done m runs =
     ap (λ jobs. is_known jobs j.number) (sym jobs) ∙ submit_unknown g.world e j k r.master g.of.good r.runs (subst (λ h. hard_step h e (Submission j) ≡ Ok k) g.of.hard done)
 
 -- Starts
-pub rises : (w : World) (e fence : ℕ) (checkpoint : Held) (ms : MastersRecord) → IsGoverning w (governing checkpoint ms) → fence ≡ checkpoint.hard.value.fence → fence < e → w.hard.fence < e
-rises w e fence checkpoint ms s is above =
+pub may_start : (w : World) (e fence count : ℕ) (checkpoint : Held) (ms : MastersRecord) → IsGoverning w (governing checkpoint ms) → fence ≡ checkpoint.hard.value.fence → fence < e → count ≡ length w.masters → count < most_masters → MayStart w e
+may_start w e fence count checkpoint ms s is above counted few =
     let same : fence ≡ w.hard.fence = is ∙ ap (λ (h : HardState). h.fence) s.hard in
-    subst (λ n. n < e) same above
+    record { above = subst (λ n. n < e) same above; few = subst (λ n. n < most_masters) counted few }
 
 tested_above : (w : World) (e : ℕ) → w.hard.fence < e → nat_lt w.hard.fence e ≡ true
 tested_above w e above = grind (arith, nat_tests, above)
 
-tested_few : (w : World) (count : ℕ) → count ≡ length w.masters → count < most_masters → nat_lt (length w.masters) most_masters ≡ true
-tested_few w count is few = grind (arith, nat_tests, is, few)
+tested_few : (w : World) → length w.masters < most_masters → nat_lt (length w.masters) most_masters ≡ true
+tested_few w few = grind (arith, nat_tests, few)
 
-pub starts_refused : (w : World) (e count : ℕ) (old new : Held) (ms : MastersRecord) (r : Refusal) → IsGoverning w (governing old ms) → w.hard.fence < e → count ≡ length w.masters → count < most_masters → hard_step old.hard.value e Raise ≡ Err (as_refusal r) → new ≡ old
-    → IsRefused w (start_master w e) (governing new ms) r
-starts_refused w e count old new ms r s above is few says same = record {
+pub raise_refused : (w : World) (e : ℕ) (r : WrittenRefusal) → MayStart w e → hard_step w.hard e Raise ≡ Err r → start_master w e ≡ refused w r
+raise_refused w e r may says = start_refused w e r (tested_above w e may.above) (tested_few w may.few) says
+
+pub raise_done : (w : World) (e : ℕ) (k : HardState) → MayStart w e → hard_step w.hard e Raise ≡ Ok k → start_master w e ≡ prints_nothing (master_starts w k (w.ran ++ party master_id e ∷ []) e)
+raise_done w e k may is = start_done w e k (tested_above w e may.above) (tested_few w may.few) is
+
+pub starts_refused : (w : World) (e : ℕ) (old new : Held) (ms : MastersRecord) (r : Refusal) → IsGoverning w (governing old ms) → MayStart w e → hard_step old.hard.value e Raise ≡ Err (as_refusal r) → new ≡ old → IsRefused w (start_master w e) (governing new ms) r
+starts_refused w e old new ms r s may says same = record {
   same = subst (λ y. IsGoverning w (governing y ms)) (sym same) s;
-  is = start_refused w e (as_refusal r) (tested_above w e above) (tested_few w count is few) (subst (λ h. hard_step h e Raise ≡ Err (as_refusal r)) s.hard says);
+  is = raise_refused w e (as_refusal r) may (subst (λ h. hard_step h e Raise ≡ Err (as_refusal r)) s.hard says);
 }
 
-pub starts_done : (w : World) (e count : ℕ) (old new : Held) (ms after : MastersRecord) → IsGoverning w (governing old ms) → w.hard.fence < e → count ≡ length w.masters → count < most_masters → IsOpen new → hard_step old.hard.value e Raise ≡ Ok new.hard.value
+pub starts_done : (w : World) (e : ℕ) (old new : Held) (ms after : MastersRecord) → IsGoverning w (governing old ms) → MayStart w e → IsOpen new → hard_step old.hard.value e Raise ≡ Ok new.hard.value
     → StartsInWorld w.cluster new.hard.value e ms after → IsGoverned w e (start_master w e) (governing new after)
-starts_done w e count old new ms after s above is few rests done starts =
+starts_done w e old new ms after s may rests done starts =
     let same = s.hard in
     let k = new.hard.value in
-    let h = starts w s.good s.stand refl above in
-    let step = start_done w e k (tested_above w e above) (tested_few w count is few) (ap (λ h. hard_step h e Raise) (sym same) ∙ done) in
+    let h = starts w s.good s.stand refl may.above in
+    let step = raise_done w e k may (ap (λ h. hard_step h e Raise) (sym same) ∙ done) in
     subst (λ y. IsGoverned w e y (governing new after)) (sym step) (record { hard = refl; rests = rests; stand = h.stand; acts = h.acts; rest = h.rest; quiet = refl })
 
 -- Steps: a start and a stop take none

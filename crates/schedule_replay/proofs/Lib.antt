@@ -16,3 +16,4 @@ pub mod Ranging
 pub mod Judging
 pub mod Stepping
 pub mod Starting
+pub mod Halting

@@ -3,9 +3,12 @@ use Rattle.std.proofs.Common.{◌≡◌, ◌≤◌, ℕ, ◌<◌, Bool, true, fa
 use Rattle.std.specs.Prelude.{◌&&◌}
 use Rattle.std.proofs.lemmas.Bool.Decides.{nat_tests}
 use Rattle.fuxi_terms.proofs.Booleans.{and_true}
-use Rattle.schedule_text.specs.Writing.{IsLineEvent}
+use Rattle.schedule_text.specs.Forms.{shape_of}
+use Rattle.schedule_text.specs.Halting.{is_writing as is_writing_line}
+use Rattle.schedule_text.specs.Writing.{AreWithin, IsLineEvent, MayStop, saying_of}
 use Rattle.schedule_text.specs.declared.event.Event.{Event}
 use Rattle.schedule_text.specs.declared.event.Event.TheVariants as line
+use Rattle.written_world.specs.Events.{is_writing}
 use Rattle.written_world.specs.Lines.{is_from_line, is_counted}
 use Rattle.schedule_replay.specs.Events.{event_as}
 
@@ -44,30 +47,47 @@ three a b c x y z = and_true a (b && c) x (and_true b c y z)
 four : (a b c d : Bool) → a ≡ true → b ≡ true → c ≡ true → d ≡ true → (a && (b && (c && d))) ≡ true
 four a b c d x y z t = and_true a (b && (c && d)) x (three b c d y z t)
 
+-- a line within a stop is one of an input, which writes
+stops_none : (x : Event) → is_writing_line x ≡ true → MayStop x
+stops_none (line.Halt' calls all p x) is = absurd cc
+stops_none x is = tt
+
+writes_as : (x : Event) → is_writing_line x ≡ true → is_writing (event_as x) ≡ true
+writes_as (line.Master e) is = refl
+writes_as (line.Submit e a g asks) is = refl
+writes_as (line.Finish e a) is = refl
+writes_as (line.Ban e m) is = refl
+writes_as (line.Unban e m) is = refl
+writes_as x is = cc
+
+numbered : (e : Event) → AreWithin 0 (shape_of (saying_of e).head).places (saying_of e).numbers → MayStop e → is_from_line (event_as e) ≡ true
+numbered (line.Master e) w s = counted e w.1
+numbered (line.Stop e) w s = counted e w.1
+numbered (line.Agent m b) w s = two _ _ w.1 (counted b w.2.1)
+numbered (line.App a b) w s = two _ _ w.1 (counted b w.2.1)
+numbered (line.Submit e a g asks) w s = three _ _ _ (counted e w.1) w.2.1 w.2.2.1
+numbered (line.Finish e a) w s = two _ _ (counted e w.1) w.2.1
+numbered (line.Ban e m) w s = two _ _ (counted e w.1) w.2.1
+numbered (line.Unban e m) w s = two _ _ (counted e w.1) w.2.1
+numbered (line.Begin e) w s = counted e w.1
+numbered (line.Preempt e) w s = counted e w.1
+numbered (line.Judge e least percent) w s = three _ _ _ (counted e w.1) w.2.1 w.2.2.1
+numbered (line.Want a u n) w s = two _ _ w.1 w.2.1
+numbered (line.Near a u m n) w s = three _ _ _ w.1 w.2.1 w.2.2.1
+numbered (line.Rack a u r n) w s = three _ _ _ w.1 w.2.1 w.2.2.1
+numbered (line.Avoid a u m on) w s = four _ _ _ _ w.1 w.2.1 w.2.2.1 w.2.2.2.1
+numbered (line.Back a u m n) w s = three _ _ _ w.1 w.2.1 w.2.2.1
+numbered (line.TurnMaster e) w s = counted e w.1
+numbered (line.TurnAgent m) w s = w.1
+numbered (line.TurnApp a) w s = w.1
+numbered (line.ResyncMaster e) w s = counted e w.1
+numbered (line.ResyncAgent m) w s = w.1
+numbered (line.ResyncApp a) w s = w.1
+numbered (line.Deliver k) w s = counted k w.1
+numbered (line.DeliverRange k l) w s = two _ _ (counted k w.1) w.2.1
+numbered (line.Dump k) w s = counted k w.1
+numbered line.Show w s = refl
+numbered (line.Halt' calls all p x) w s = three _ _ _ s.0 (writes_as x s.1) (numbered x w (stops_none x s.1))
+
 pub from_line : (e : Event) → IsLineEvent e → is_from_line (event_as e) ≡ true
-from_line (line.Master e) h = counted e h.numbers.1
-from_line (line.Stop e) h = counted e h.numbers.1
-from_line (line.Agent m b) h = two _ _ h.numbers.1 (counted b h.numbers.2.1)
-from_line (line.App a b) h = two _ _ h.numbers.1 (counted b h.numbers.2.1)
-from_line (line.Submit e a g asks) h = three _ _ _ (counted e h.numbers.1) h.numbers.2.1 h.numbers.2.2.1
-from_line (line.Finish e a) h = two _ _ (counted e h.numbers.1) h.numbers.2.1
-from_line (line.Ban e m) h = two _ _ (counted e h.numbers.1) h.numbers.2.1
-from_line (line.Unban e m) h = two _ _ (counted e h.numbers.1) h.numbers.2.1
-from_line (line.Begin e) h = counted e h.numbers.1
-from_line (line.Preempt e) h = counted e h.numbers.1
-from_line (line.Judge e least percent) h = three _ _ _ (counted e h.numbers.1) h.numbers.2.1 h.numbers.2.2.1
-from_line (line.Want a u n) h = two _ _ h.numbers.1 h.numbers.2.1
-from_line (line.Near a u m n) h = three _ _ _ h.numbers.1 h.numbers.2.1 h.numbers.2.2.1
-from_line (line.Rack a u r n) h = three _ _ _ h.numbers.1 h.numbers.2.1 h.numbers.2.2.1
-from_line (line.Avoid a u m on) h = four _ _ _ _ h.numbers.1 h.numbers.2.1 h.numbers.2.2.1 h.numbers.2.2.2.1
-from_line (line.Back a u m n) h = three _ _ _ h.numbers.1 h.numbers.2.1 h.numbers.2.2.1
-from_line (line.TurnMaster e) h = counted e h.numbers.1
-from_line (line.TurnAgent m) h = h.numbers.1
-from_line (line.TurnApp a) h = h.numbers.1
-from_line (line.ResyncMaster e) h = counted e h.numbers.1
-from_line (line.ResyncAgent m) h = h.numbers.1
-from_line (line.ResyncApp a) h = h.numbers.1
-from_line (line.Deliver k) h = counted k h.numbers.1
-from_line (line.DeliverRange k l) h = two _ _ (counted k h.numbers.1) h.numbers.2.1
-from_line (line.Dump k) h = counted k h.numbers.1
-from_line line.Show h = refl
+from_line e h = numbered e h.numbers h.stop

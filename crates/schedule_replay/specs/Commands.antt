@@ -2,15 +2,15 @@
 use Rattle.std.specs.Prelude.{◌≡◌, ℕ, ◌+◌, ◌<◌, ◌≤◌, true, [], length, map, All, Option, Some, None, Result, Ok, Err}
 use Rattle.std.specs.Ordering.{nat_cmp}
 use Rattle.std.specs.FinMap.Entries.{find}
-use Rattle.fuxi_terms.specs.Cluster.{ClusterRecord, is_valid_cluster}
-use Rattle.fuxi_terms.specs.Limits.{most_machines, most_records}
+use Rattle.fuxi_terms.specs.Cluster.{ClusterRecord, JobRecord, is_valid_cluster}
+use Rattle.fuxi_terms.specs.Limits.{most_machines, most_masters, most_records}
 use Rattle.written_net.specs.Channels.{master_id, party}
-use Rattle.written_roles.specs.HardState.{HardState}
+use Rattle.written_roles.specs.HardState.{HardState, HardEvent, Submission}
 use Rattle.written_roles.specs.Masters.{Master}
-use Rattle.written_roles.specs.MasterSteps.{MasterCommand}
+use Rattle.written_roles.specs.MasterSteps.{Changed, MasterCommand, Submits, change_of, command_of, writes}
 use Rattle.written_roles.specs.MasterRoles.{Told}
 use Rattle.written_world.specs.World.{World, Step, refused}
-use Rattle.written_world.specs.Events.{commanded, ban_each, judge}
+use Rattle.written_world.specs.Events.{commanded, ban_each, judge, start_master}
 use Rattle.written_world.specs.Good.{Good}
 use Rattle.written_join.specs.Joins.{OneActs}
 use Rattle.bad_nodes.specs.Ranks.{number_of}
@@ -76,6 +76,32 @@ governing checkpoint masters = record { checkpoint = checkpoint; masters = maste
 
 abbrev pub GovernsMasters : ℕ → (World → Step) → MastersRecord → MastersRecord → Option Refusal → Type 0
 GovernsMasters e step old new answer = (checkpoint : Held) → Governs e step (governing checkpoint old) (governing checkpoint new) answer
+
+-- The tests before a writing. Of a start in an epoch
+pub record MayStart (w : World) (e : ℕ) : Type 0 where
+  pub above : w.hard.fence < e
+  pub few : length w.masters < most_masters
+
+abbrev pub StartsIn : World → ℕ → Result (Unit {0}) Refusal → Type 0
+StartsIn w e (Ok passed) = MayStart w e
+StartsIn w e (Err refusal) = start_master w e ≡ refused w (as_refusal refusal)
+
+-- of a command: its master runs, it is this writing and what it then changes of the master, and that is not refused
+pub record MayWrite (w : World) (e : ℕ) (x : MasterCommand) (v : HardEvent) : Type 0 where
+  pub master : Master
+  pub runs : find nat_cmp e w.masters ≡ Some master
+  pub is : command_of w.cluster w.hard master x ≡ writes w.cluster w.hard master v (change_in x)
+  pub changed : Changed
+  pub changes : change_of w.cluster master (change_in x) ≡ Ok changed
+
+abbrev pub WritesIn : World → ℕ → MasterCommand → HardEvent → Result (Unit {0}) Refusal → Type 0
+WritesIn w e x v (Ok passed) = MayWrite w e x v
+WritesIn w e x v (Err refusal) = commanded w e x ≡ refused w (as_refusal refusal)
+
+-- of a submission: the job is the one that is written
+abbrev pub SubmitsIn : World → ℕ → JobRecord → Result JobRecord Refusal → Type 0
+SubmitsIn w e j (Ok job) = MayWrite w e (Submits j) (Submission job)
+SubmitsIn w e j (Err refusal) = commanded w e (Submits j) ≡ refused w (as_refusal refusal)
 
 -- the machines of a judgement are among those with votes, which are no more than a cluster may have, and no more than records may be written
 pub record MayBan (j : Judgement) : Type 0 where

@@ -3,7 +3,7 @@ use Rattle.schedule_text.specs.Asked.{job_named}
 use Rattle.schedule_text.specs.Writing.{switch}
 use Rattle.schedule_text.specs.declared.event.Event.{Event as LineEvent}
 use Rattle.schedule_text.specs.declared.event.Event.TheVariants as line
-use Rattle.written_world.specs.Events.{Event, StartMaster, StopMaster, StartAgent, StartApp, Submit, Finish, Ban, Unban, Begin, Preempt, Judge, Want, Near, Rack, Avoid, GiveBack, TurnMaster, TurnAgent, TurnApp, ResyncMaster, ResyncAgent, ResyncApp, Deliver, DeliverRange, Dump, ShowState}
+use Rattle.written_world.specs.Events.{Event, StartMaster, StopMaster, StartAgent, StartApp, Submit, Finish, Ban, Unban, Begin, Preempt, Judge, Want, Near, Rack, Avoid, GiveBack, TurnMaster, TurnAgent, TurnApp, ResyncMaster, ResyncAgent, ResyncApp, Deliver, DeliverRange, Dump, ShowState, Halt}
 
 abbrev pub event_as : LineEvent → Event
 event_as (line.Master e) = StartMaster e
@@ -32,3 +32,4 @@ event_as (line.Deliver k) = Deliver k
 event_as (line.DeliverRange k l) = DeliverRange k l
 event_as (line.Dump k) = Dump k
 event_as line.Show = ShowState
+event_as (line.Halt' calls all p x) = Halt calls all (event_as x)

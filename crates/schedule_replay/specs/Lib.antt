@@ -4,3 +4,4 @@ pub mod Worlds
 pub mod Steps
 pub mod Moves
 pub mod Commands
+pub mod Halts

@@ -9,8 +9,9 @@ ghost use Rattle.schedule_replay.specs.Moves.{Acts, CanMove, CanMoveLong};
 use crate::agents::{resync_agent, start_agent};
 use crate::apps::{ask_app, resync_app, start_app};
 use crate::deliveries::{deliver, deliver_range, dump};
+use crate::halts::Stop;
 use crate::masters::{
-    ban_machine, begin, finish_job, judge, preempt, resync_master, start_master, stop_master,
+    ban_machine, begin, finish_job, halt, judge, preempt, resync_master, start_master, stop_master,
     submit_job, unban_machine,
 };
 use crate::running::Running;
@@ -49,6 +50,13 @@ pub(crate) fn act(
         Event::Preempt(epoch) => preempt(running, alloc, *epoch, out),
         Event::Judge(epoch, least, percent) => {
             judge(running, alloc, *epoch, *least, *percent, out)
+        }
+        Event::Halt(calls, all, line) => {
+            let stop = Stop {
+                calls: *calls,
+                all: *all,
+            };
+            halt(running, alloc, line, stop, out)
         }
         Event::TurnMaster(epoch) => turn_master(running, alloc, *epoch, out),
         Event::TurnAgent(machine) => turn_agent(running, alloc, *machine, out),

@@ -3,10 +3,12 @@
 //! Each call answers why the event is refused, or `None` where it is done. A refused one has changed nothing that the world sees. The hard
 //! state is written before a master is told. After `OutOfMemory` what was lent is not to be used.
 
-ghost use Rattle.std.specs.Prelude.{◌≡◌, ◌≢◌, ◌<◌, ◌≤◌, Err, Result, IfOk, is_some};
+ghost use Rattle.std.specs.Prelude.{◌≡◌, ◌≢◌, ℕ, ◌<◌, ◌≤◌, length, Err, Result, IfOk, OnOk, is_some};
 ghost use Rattle.std.specs.Ordering.{nat_cmp};
 ghost use Rattle.std.specs.FinMap.Entries.{find};
-ghost use Rattle.written_roles.specs.HardState.{HardState};
+ghost use Rattle.fuxi_terms.specs.Jobs.{eight_places};
+ghost use Rattle.fuxi_terms.specs.Limits.{most_machines, most_masters};
+ghost use Rattle.written_roles.specs.HardState.{HardState, Banning, Finishing, Unbanning};
 ghost use Rattle.written_roles.specs.Refusals.{Refusal as WrittenRefusal};
 ghost use Rattle.written_roles.specs.MasterSteps.{Submits, Finishes, BansMachine, UnbansMachine, StartsServing, MakesRoom};
 ghost use Rattle.written_world.specs.World.{World};
@@ -16,7 +18,7 @@ ghost use Rattle.running_masters.specs.Calls.{IsCommand};
 ghost use Rattle.hard_state.specs.HardFiles.{Refuses};
 ghost use Rattle.schedule_text.specs.Asked.{job_named};
 ghost use Rattle.schedule_text.specs.Printing.{as_refusal};
-ghost use Rattle.schedule_replay.specs.Commands.{AreGoverned, Decides, Governs, GovernsMasters, GovernsOn, TakesStep, TellsInWorld, governing, refusal_in};
+ghost use Rattle.schedule_replay.specs.Commands.{AreGoverned, Decides, Governs, GovernsMasters, GovernsOn, IsGoverning, StartsIn, SubmitsIn, TakesStep, TellsInWorld, WritesIn, governing, refusal_in};
 
 use bad_nodes::Votes;
 use cluster_desc::Cluster;
@@ -33,6 +35,26 @@ use std::alloc::Global;
 use std::mem;
 use written_roles::judges;
 
+/// The tests of a start before its writing.
+pub(crate) fn start_tests(
+    checkpoint: &Checkpoint,
+    masters: &Masters,
+    epoch: u64,
+) -> Result<(), Refusal>
+    ensures world { (w : World) → IsGoverning w (governing checkpoint.now masters.now) → StartsIn w epoch result }
+    ensures above { OnOk result (checkpoint.now.hard.value.fence < epoch) }
+    ensures few { OnOk result (length masters.now.masters < most_masters) }
+{
+    let fence = checkpoint.hard().fence();
+    if epoch <= fence {
+        return Err(Refusal::NotRising(fence));
+    }
+    if masters.len() >= MOST_MASTERS {
+        return Err(Refusal::TooManyMasters(MOST_MASTERS as u64));
+    }
+    Ok(())
+}
+
 /// A master starts in an epoch above the fence.
 pub(crate) fn start_master(
     alloc: Global,
@@ -46,12 +68,9 @@ pub(crate) fn start_master(
     ensures steps { IfOk result (λ answer. TakesStep masters.old masters.new) }
 {
     let _newest = masters.newest();
-    let fence = checkpoint.hard().fence();
-    if epoch <= fence {
-        return Ok(Some(Refusal::NotRising(fence)));
-    }
-    if masters.len() >= MOST_MASTERS {
-        return Ok(Some(Refusal::TooManyMasters(MOST_MASTERS as u64)));
+    match start_tests(checkpoint, masters, epoch) {
+        Ok(()) => {}
+        Err(refusal) => return Ok(Some(refusal)),
     }
     match checkpoint.raise(epoch) {
         Ok(()) => {}
@@ -75,6 +94,36 @@ pub(crate) fn stop_master(masters: &mut Masters, epoch: u64) -> Option<Refusal>
     }
 }
 
+/// The job that a submission names, or why that is refused before its writing.
+pub(crate) fn named_job(
+    alloc: Global,
+    cluster: &Cluster,
+    masters: &Masters,
+    epoch: u64,
+    app: AppNo,
+    group: GroupNo,
+    asks: &Asks,
+) -> Result<Result<Job, Refusal>, OutOfMemory>
+    requires { app.0 < 256 }
+    ensures world { IfOk result (λ answer. (w : World) → cluster.now ≡ w.cluster → AreMastersOf w masters.now → SubmitsIn w epoch (job_named app.0 group.0 asks.now) answer) }
+    ensures job { IfOk result (λ answer. IfOk answer (λ job. job ≡ eight_places (job_named app.0 group.0 asks.now))) }
+{
+    jobs_are_tested_alike();
+    if !runs(masters, epoch) {
+        return Ok(Err(Refusal::NotRunning));
+    }
+    if group.0 >= cluster.groups() {
+        return Ok(Err(Refusal::NoGroup));
+    }
+    match Job::make(alloc, app, group, cluster.resources(), asks.as_slice()) {
+        Ok(job) => Ok(Ok(job)),
+        Err(fault) => match job_refusal(fault) {
+            Some(refusal) => Ok(Err(refusal)),
+            None => Err(OutOfMemory),
+        },
+    }
+}
+
 /// A job is submitted by the master of an epoch.
 pub(crate) fn submit(
     alloc: Global,
@@ -92,25 +141,26 @@ pub(crate) fn submit(
     ensures world { IfOk result (GovernsOn cluster.now epoch (λ w. commanded w epoch (Submits (job_named app.0 group.0 asks.now))) (governing checkpoint.old masters.old) (governing checkpoint.new masters.new)) }
     ensures steps { IfOk result (λ answer. TakesStep masters.old masters.new) }
 {
-    jobs_are_tested_alike();
-    if !runs(masters, epoch) {
-        return Ok(Some(Refusal::NotRunning));
-    }
-    if group.0 >= cluster.groups() {
-        return Ok(Some(Refusal::NoGroup));
-    }
-    let job = match Job::make(alloc, app, group, cluster.resources(), asks.as_slice()) {
-        Ok(job) => job,
-        Err(fault) => match job_refusal(fault) {
-            Some(refusal) => return Ok(Some(refusal)),
-            None => return Err(OutOfMemory),
-        },
+    let job = match named_job(alloc, cluster, masters, epoch, app, group, asks) {
+        Ok(Ok(job)) => job,
+        Ok(Err(refusal)) => return Ok(Some(refusal)),
+        Err(OutOfMemory) => return Err(OutOfMemory),
     };
     match checkpoint.submit(epoch, &job) {
         Ok(()) => {}
         Err(fault) => return Ok(Some(written_refusal(fault)?)),
     }
     tell(alloc, masters, epoch, MasterEvent::Admit(job))
+}
+
+/// The test of the end of a job before its writing.
+pub(crate) fn finish_tests(masters: &Masters, epoch: u64) -> Result<(), Refusal>
+    ensures { (w : World) (app : ℕ) → AreMastersOf w masters.now → WritesIn w epoch (Finishes app) (Finishing app) result }
+{
+    if !runs(masters, epoch) {
+        return Err(Refusal::NotRunning);
+    }
+    Ok(())
 }
 
 /// A job is ended by the master of an epoch.
@@ -126,14 +176,35 @@ pub(crate) fn finish(
     ensures world { IfOk result (Governs epoch (λ w. commanded w epoch (Finishes app.0)) (governing checkpoint.old masters.old) (governing checkpoint.new masters.new)) }
     ensures steps { IfOk result (λ answer. TakesStep masters.old masters.new) }
 {
-    if !runs(masters, epoch) {
-        return Ok(Some(Refusal::NotRunning));
+    match finish_tests(masters, epoch) {
+        Ok(()) => {}
+        Err(refusal) => return Ok(Some(refusal)),
     }
     match checkpoint.finish(epoch, app) {
         Ok(()) => {}
         Err(fault) => return Ok(Some(written_refusal(fault)?)),
     }
     tell(alloc, masters, epoch, MasterEvent::Finish(app))
+}
+
+/// The tests of a ban, and of its end, before their writing.
+pub(crate) fn machine_tests(
+    cluster: &Cluster,
+    masters: &Masters,
+    epoch: u64,
+    machine: MachineNo,
+) -> Result<(), Refusal>
+    ensures ban { (w : World) → cluster.now ≡ w.cluster → AreMastersOf w masters.now → WritesIn w epoch (BansMachine machine.0) (Banning machine.0) result }
+    ensures unban { (w : World) → cluster.now ≡ w.cluster → AreMastersOf w masters.now → WritesIn w epoch (UnbansMachine machine.0) (Unbanning machine.0) result }
+    ensures there { OnOk result (machine.0 < most_machines) }
+{
+    if !runs(masters, epoch) {
+        return Err(Refusal::NotRunning);
+    }
+    if machine.0 >= cluster.machines() {
+        return Err(Refusal::NoMachine);
+    }
+    Ok(())
 }
 
 /// A machine is banned by the master of an epoch.
@@ -150,11 +221,9 @@ pub(crate) fn ban(
     ensures world { IfOk result (GovernsOn cluster.now epoch (λ w. commanded w epoch (BansMachine machine.0)) (governing checkpoint.old masters.old) (governing checkpoint.new masters.new)) }
     ensures steps { IfOk result (λ answer. TakesStep masters.old masters.new) }
 {
-    if !runs(masters, epoch) {
-        return Ok(Some(Refusal::NotRunning));
-    }
-    if machine.0 >= cluster.machines() {
-        return Ok(Some(Refusal::NoMachine));
+    match machine_tests(cluster, masters, epoch, machine) {
+        Ok(()) => {}
+        Err(refusal) => return Ok(Some(refusal)),
     }
     match checkpoint.ban(epoch, machine) {
         Ok(()) => {}
@@ -177,11 +246,9 @@ pub(crate) fn unban(
     ensures world { IfOk result (GovernsOn cluster.now epoch (λ w. commanded w epoch (UnbansMachine machine.0)) (governing checkpoint.old masters.old) (governing checkpoint.new masters.new)) }
     ensures steps { IfOk result (λ answer. TakesStep masters.old masters.new) }
 {
-    if !runs(masters, epoch) {
-        return Ok(Some(Refusal::NotRunning));
-    }
-    if machine.0 >= cluster.machines() {
-        return Ok(Some(Refusal::NoMachine));
+    match machine_tests(cluster, masters, epoch, machine) {
+        Ok(()) => {}
+        Err(refusal) => return Ok(Some(refusal)),
     }
     match checkpoint.unban(epoch, machine) {
         Ok(()) => {}
@@ -322,8 +389,8 @@ fn answered_refusal(answer: Option<Result<(), MasterRefusal>>) -> Option<Refusal
     }
 }
 
-// The refusal that a fault of the hard state is. A file that is damaged and a fault of the disk do not come from a checkpoint in memory.
-fn written_refusal(fault: HardFault) -> Result<Refusal, OutOfMemory>
+/// The refusal that a fault of the hard state is. A file that is damaged and a fault of the disk do not come from a checkpoint in memory.
+pub(crate) fn written_refusal(fault: HardFault) -> Result<Refusal, OutOfMemory>
     ensures refused { IfOk result (λ refusal. (step : Result HardState WrittenRefusal) → Refuses step fault → step ≡ Err (as_refusal refusal)) }
     ensures memory { IfOk result (λ refusal. fault ≢ HardFault.OutOfMemory) }
 {

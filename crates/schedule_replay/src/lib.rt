@@ -6,6 +6,7 @@ mod agents;
 mod apps;
 mod commands;
 mod deliveries;
+mod halts;
 mod laws;
 mod lines;
 mod masters;

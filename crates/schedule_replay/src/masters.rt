@@ -4,16 +4,21 @@ ghost use Rattle.std.specs.Prelude.{◌≡◌, ◌<◌, ◌≤◌, map};
 ghost use Rattle.bad_nodes.specs.Ranks.{number_of};
 ghost use Rattle.fuxi_terms.specs.Limits.{most_jobs, most_groups, most_machines};
 ghost use Rattle.written_roles.specs.MasterSteps.{Submits, Finishes, BansMachine, UnbansMachine, StartsServing, MakesRoom};
-ghost use Rattle.written_world.specs.Events.{ban_each, commanded, judge, resync_master, start_master, stop_master};
+ghost use Rattle.written_world.specs.Events.{Halt, act, ban_each, commanded, judge, resync_master, start_master, stop_master};
 ghost use Rattle.schedule_text.specs.Asked.{job_named};
+ghost use Rattle.schedule_text.specs.Halting.{halting};
+ghost use Rattle.schedule_text.specs.Writing.{IsLineEvent};
+ghost use Rattle.schedule_replay.specs.Events.{event_as};
 ghost use Rattle.schedule_replay.specs.Commands.{MayBan};
 ghost use Rattle.schedule_replay.specs.Moves.{Acts, ActsOnce, CanMove, CanMoveLong, ban_one};
 
 use crate::commands::{self, Judgement};
+use crate::halts::{self, Stop};
 use crate::laws::{cores_may_step, masters_act};
 use crate::running::Running;
 use crate::stop::WorldStop;
-use crate::text::{write_judged, write_refusal};
+use crate::text::{write_judged, write_line, write_refusal};
+use schedule_text::Event;
 use schedule_unit::{AppNo, Asks, GroupNo, MachineNo};
 use std::alloc::Global;
 use written_order::worlds_in_order;
@@ -272,6 +277,31 @@ pub(crate) fn judge(
     ) {
         Ok(Ok(judgement)) => ban_each(running, alloc, epoch, &judgement, out),
         Ok(Err(refusal)) => write_refusal(Some(refusal), out),
+        Err(_) => Err(WorldStop::OutOfMemory),
+    }
+}
+
+// The master that a line names stops within the writing of that line.
+pub(crate) fn halt(
+    running: &mut Running,
+    alloc: Global,
+    line: &Event,
+    stop: Stop,
+    out: &mut Vec<u8>,
+) -> Result<(), WorldStop>
+    requires line { IsLineEvent (halting stop.calls stop.all line.now) }
+    requires can { CanMove running.old }
+    ensures { Acts (λ w. act w (Halt stop.calls stop.all (event_as line.now))) running.old running.new out.old.items out.new.items result }
+{
+    masters_act();
+    let Running {
+        cluster,
+        checkpoint,
+        masters,
+        ..
+    } = running;
+    match halts::halt(alloc, cluster, checkpoint, masters, line, stop) {
+        Ok(printed) => write_line(&printed, out),
         Err(_) => Err(WorldStop::OutOfMemory),
     }
 }

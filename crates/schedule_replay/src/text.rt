@@ -23,7 +23,7 @@ use std::alloc::Global;
 use wire_frames::frame_length;
 
 // A line that is none of a frame.
-fn write_line(line: &Output, out: &mut Vec<u8>) -> Result<(), WorldStop>
+pub(crate) fn write_line(line: &Output, out: &mut Vec<u8>) -> Result<(), WorldStop>
     ensures ok { OnOk result (out.new.items ≡ out.old.items ++ lines_text (as_line line.now ∷ [])) }
     ensures err { IfErr result WantsMemory }
 {

@@ -1,5 +1,7 @@
 use Rattle.std.proofs.Common.{sym, subst}
-use Rattle.written_world.specs.Events.{act}
+use Rattle.written_world.specs.Events.{Halt, act}
+use Rattle.schedule_text.specs.Halting.{halting}
+use Rattle.schedule_text.specs.Writing.{IsLineEvent}
 use Rattle.schedule_replay.specs.Events.{event_as}
 use Rattle.schedule_replay.specs.Moves.{Acts}
 use Rattle.schedule_replay.proofs.acts.act.Goals as goal
@@ -81,3 +83,13 @@ returns-in-Avoid c = subst (λ e. Acts (λ w. act w (event_as e)) c.args.running
 
 pub returns-in-Back : goal.returns-in-Back
 returns-in-Back c = subst (λ e. Acts (λ w. act w (event_as e)) c.args.running.now c.ask_app-in-Back.new.running c.args.out.now.items c.ask_app-in-Back.new.out.items c.ask_app-in-Back.result) (sym c.in-Back.is) c.ask_app-in-Back.ensures
+
+pub returns-in-Halt : goal.returns-in-Halt
+returns-in-Halt c =
+    subst (λ e. Acts (λ w. act w (event_as e)) c.args.running.now c.halt.new.running c.args.out.now.items c.halt.new.out.items c.halt.result) (sym c.in-Halt.is)
+    (subst (λ x. Acts (λ w. act w (Halt c.in-Halt.calls c.in-Halt.all (event_as x))) c.args.running.now c.halt.new.running c.args.out.now.items c.halt.new.out.items c.halt.result) c.deref.ensures c.halt.ensures)
+
+pub halt-requires-clause-line : goal.halt-requires-clause-line
+halt-requires-clause-line c =
+    let h = subst IsLineEvent c.in-Halt.is c.requires.line in
+    subst (λ x. IsLineEvent (halting c.in-Halt.calls c.in-Halt.all x)) (sym c.deref.ensures) (record { numbers = h.numbers; asks = h.asks; stop = h.stop })

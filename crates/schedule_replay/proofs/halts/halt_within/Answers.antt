@@ -1,0 +1,24 @@
+use Rattle.written_roles.specs.HardState.{hard_step}
+use Rattle.memory_checkpoint.specs.Writings.{event_of}
+use Rattle.schedule_replay.proofs.Commanding.{may_step}
+use Rattle.schedule_replay.proofs.Halting.{halt_done, halt_unwritten}
+use Rattle.schedule_replay.proofs.halts.halt_within.Goals as goal
+
+pub returns-in-Ok-clause-world : goal.returns-in-Ok-clause-world
+returns-in-Ok-clause-world c w x s named writes =
+    let stop = c.args.stop in
+    let left = c.stop-ran.ensures.world w s.stand in
+    halt_done w x c.args.epoch stop.calls stop.all c.in-Ok.written (event_of c.args.writing.now) c.args.checkpoint.now c.halt.new.self c.args.masters.now c.stop-ran.new.self s named writes
+    c.requires.within.few c.in-Ok.ensures.counts c.in-Ok.ensures.open c.in-Ok.ensures.left left.left
+
+pub returns-in-Ok-clause-steps : goal.returns-in-Ok-clause-steps
+returns-in-Ok-clause-steps c = may_step c.args.masters.now c.stop-ran.new.self c.stop-ran.ensures.steps
+
+pub returns-in_ok-refusal-in-Err-clause-world : goal.returns-in_ok-refusal-in-Err-clause-world
+returns-in_ok-refusal-in-Err-clause-world c w x s named writes =
+    let stop = c.args.stop in
+    let v = event_of c.args.writing.now in
+    let old = c.args.checkpoint.now in
+    let refusal = c.in_ok-refusal-in-Err.ensures in
+    halt_unwritten w x c.args.epoch stop.calls stop.all v old c.halt.new.self c.args.masters.now c.in_ok-refusal-in-Err.refusal s named writes
+    (refusal.refused (hard_step old.hard.value c.args.epoch v) c.in-Err.ensures.refused) (c.in-Err.ensures.unchanged refusal.memory)

@@ -1,0 +1,208 @@
+//! A stop of a master within the writing of a line.
+//!
+//! Each call answers the line that is printed: why the line within is refused, and then nothing has changed; or that its master has stopped.
+//! After `OutOfMemory` what was lent is not to be used.
+
+ghost use Rattle.std.specs.Prelude.{◌≡◌, ◌<◌, IfOk};
+ghost use Rattle.fuxi_terms.specs.Cluster.{ClusterRecord};
+ghost use Rattle.fuxi_terms.specs.Limits.{most_jobs};
+ghost use Rattle.written_world.specs.Events.{StartMaster, Submit, Finish, Ban, Unban};
+ghost use Rattle.memory_checkpoint.specs.Held.{IsOpen};
+ghost use Rattle.memory_checkpoint.specs.Writings.{IsWritable, event_of};
+ghost use Rattle.schedule_text.specs.Asked.{job_named};
+ghost use Rattle.schedule_text.specs.Halting.{halting};
+ghost use Rattle.schedule_text.specs.Writing.{IsLineEvent};
+ghost use Rattle.schedule_replay.specs.Events.{event_as};
+ghost use Rattle.schedule_replay.specs.Commands.{AreGoverned, TakesStep, governing};
+ghost use Rattle.schedule_replay.specs.Halts.{Halts, HaltsWithin, IsWithin};
+
+use crate::commands::{finish_tests, machine_tests, named_job, start_tests, written_refusal};
+use cluster_desc::Cluster;
+use fuxi_terms::OutOfMemory;
+use memory_checkpoint::{Checkpoint, Writing};
+use running_masters::Masters;
+use schedule_text::{Event, Output};
+use schedule_unit::{AppNo, Asks, GroupNo, MachineNo};
+use std::alloc::Global;
+
+/// Where a writing stops: behind so many of its four calls of the disk, and whether what was written since the last sync stands there.
+#[derive(Clone, Copy)]
+pub(crate) struct Stop {
+    pub(crate) calls: u8,
+    pub(crate) all: bool,
+}
+
+/// The master that a line names stops within the writing of that line.
+pub(crate) fn halt(
+    alloc: Global,
+    cluster: &Cluster,
+    checkpoint: &mut Checkpoint,
+    masters: &mut Masters,
+    line: &Event,
+    stop: Stop,
+) -> Result<Output, OutOfMemory>
+    requires line { IsLineEvent (halting stop.calls stop.all line.now) }
+    requires governed { AreGoverned (governing checkpoint.old masters.old) }
+    ensures world { IfOk result (Halts cluster.now (event_as line.now) stop (governing checkpoint.old masters.old) (governing checkpoint.new masters.new)) }
+    ensures steps { IfOk result (λ printed. TakesStep masters.old masters.new) }
+{
+    match line {
+        Event::Master(epoch) => halt_start(alloc, checkpoint, masters, *epoch, stop),
+        Event::Submit(epoch, app, group, asks) => {
+            let named = (*epoch, *app, *group);
+            halt_submission(alloc, cluster, checkpoint, masters, named, asks, stop)
+        }
+        Event::Finish(epoch, app) => halt_finish(alloc, checkpoint, masters, *epoch, *app, stop),
+        Event::Ban(epoch, machine) => {
+            halt_ban(alloc, cluster, checkpoint, masters, *epoch, *machine, stop)
+        }
+        Event::Unban(epoch, machine) => {
+            halt_unban(alloc, cluster, checkpoint, masters, *epoch, *machine, stop)
+        }
+        _ => unreachable!(),
+    }
+}
+
+// The master that starts stops within that writing, and never began.
+fn halt_start(
+    alloc: Global,
+    checkpoint: &mut Checkpoint,
+    masters: &mut Masters,
+    epoch: u64,
+    stop: Stop,
+) -> Result<Output, OutOfMemory>
+    requires within { IsWithin stop }
+    requires governed { AreGoverned (governing checkpoint.old masters.old) }
+    ensures world { (c : ClusterRecord) → IfOk result (Halts c (StartMaster epoch) stop (governing checkpoint.old masters.old) (governing checkpoint.new masters.new)) }
+    ensures steps { IfOk result (λ printed. TakesStep masters.old masters.new) }
+{
+    match start_tests(checkpoint, masters, epoch) {
+        Ok(()) => halt_within(alloc, checkpoint, masters, epoch, &Writing::Raise, stop),
+        Err(refusal) => Ok(Output::Refused(refusal)),
+    }
+}
+
+// The master that a job is submitted to stops within that writing.
+fn halt_submission(
+    alloc: Global,
+    cluster: &Cluster,
+    checkpoint: &mut Checkpoint,
+    masters: &mut Masters,
+    named: (u64, AppNo, GroupNo),
+    asks: &Asks,
+    stop: Stop,
+) -> Result<Output, OutOfMemory>
+    requires app { named.1.0 < most_jobs }
+    requires within { IsWithin stop }
+    requires governed { AreGoverned (governing checkpoint.old masters.old) }
+    ensures world { IfOk result (Halts cluster.now (Submit named.0 (job_named named.1.0 named.2.0 asks.now)) stop (governing checkpoint.old masters.old) (governing checkpoint.new masters.new)) }
+    ensures steps { IfOk result (λ printed. TakesStep masters.old masters.new) }
+{
+    let (epoch, app, group) = named;
+    match named_job(alloc, cluster, masters, epoch, app, group, asks) {
+        Ok(Ok(job)) => {
+            let writing = Writing::Submit(&job);
+            halt_within(alloc, checkpoint, masters, epoch, &writing, stop)
+        }
+        Ok(Err(refusal)) => Ok(Output::Refused(refusal)),
+        Err(OutOfMemory) => Err(OutOfMemory),
+    }
+}
+
+// The master that ends a job stops within that writing.
+fn halt_finish(
+    alloc: Global,
+    checkpoint: &mut Checkpoint,
+    masters: &mut Masters,
+    epoch: u64,
+    app: AppNo,
+    stop: Stop,
+) -> Result<Output, OutOfMemory>
+    requires within { IsWithin stop }
+    requires governed { AreGoverned (governing checkpoint.old masters.old) }
+    ensures world { (c : ClusterRecord) → IfOk result (Halts c (Finish epoch app.0) stop (governing checkpoint.old masters.old) (governing checkpoint.new masters.new)) }
+    ensures steps { IfOk result (λ printed. TakesStep masters.old masters.new) }
+{
+    match finish_tests(masters, epoch) {
+        Ok(()) => {
+            let writing = Writing::Finish(app);
+            halt_within(alloc, checkpoint, masters, epoch, &writing, stop)
+        }
+        Err(refusal) => Ok(Output::Refused(refusal)),
+    }
+}
+
+// The master that bans a machine stops within that writing.
+fn halt_ban(
+    alloc: Global,
+    cluster: &Cluster,
+    checkpoint: &mut Checkpoint,
+    masters: &mut Masters,
+    epoch: u64,
+    machine: MachineNo,
+    stop: Stop,
+) -> Result<Output, OutOfMemory>
+    requires within { IsWithin stop }
+    requires governed { AreGoverned (governing checkpoint.old masters.old) }
+    ensures world { IfOk result (Halts cluster.now (Ban epoch machine.0) stop (governing checkpoint.old masters.old) (governing checkpoint.new masters.new)) }
+    ensures steps { IfOk result (λ printed. TakesStep masters.old masters.new) }
+{
+    match machine_tests(cluster, masters, epoch, machine) {
+        Ok(()) => {
+            let writing = Writing::Ban(machine);
+            halt_within(alloc, checkpoint, masters, epoch, &writing, stop)
+        }
+        Err(refusal) => Ok(Output::Refused(refusal)),
+    }
+}
+
+// The master that lifts the ban of a machine stops within that writing.
+fn halt_unban(
+    alloc: Global,
+    cluster: &Cluster,
+    checkpoint: &mut Checkpoint,
+    masters: &mut Masters,
+    epoch: u64,
+    machine: MachineNo,
+    stop: Stop,
+) -> Result<Output, OutOfMemory>
+    requires within { IsWithin stop }
+    requires governed { AreGoverned (governing checkpoint.old masters.old) }
+    ensures world { IfOk result (Halts cluster.now (Unban epoch machine.0) stop (governing checkpoint.old masters.old) (governing checkpoint.new masters.new)) }
+    ensures steps { IfOk result (λ printed. TakesStep masters.old masters.new) }
+{
+    match machine_tests(cluster, masters, epoch, machine) {
+        Ok(()) => {
+            let writing = Writing::Unban(machine);
+            halt_within(alloc, checkpoint, masters, epoch, &writing, stop)
+        }
+        Err(refusal) => Ok(Output::Refused(refusal)),
+    }
+}
+
+// A writing whose tests before it have passed begins and stops, and what it left on the disk is opened. The master does not run then.
+fn halt_within(
+    alloc: Global,
+    checkpoint: &mut Checkpoint,
+    masters: &mut Masters,
+    epoch: u64,
+    writing: &Writing,
+    stop: Stop,
+) -> Result<Output, OutOfMemory>
+    requires writable { IsWritable writing.now }
+    requires within { IsWithin stop }
+    requires open { IsOpen checkpoint.old }
+    ensures world { IfOk result (HaltsWithin epoch (event_of writing.now) stop (governing checkpoint.old masters.old) (governing checkpoint.new masters.new)) }
+    ensures steps { IfOk result (λ printed. TakesStep masters.old masters.new) }
+{
+    match checkpoint.halt(alloc, epoch, writing, stop.calls, stop.all) {
+        Ok(written) => {
+            let _ran = masters.stop(epoch);
+            Ok(Output::Halted(epoch, written))
+        }
+        Err(fault) => {
+            let refusal = written_refusal(fault)?;
+            Ok(Output::Refused(refusal))
+        }
+    }
+}
