@@ -1,14 +1,14 @@
 -- What a line can give is an event of an input.
-use Rattle.std.proofs.Common.{◌≡◌, ◌≤◌, ℕ, ◌<◌, Bool, true, false, not, nat_eq, nat_lt, refl, arith}
+use Rattle.std.proofs.Common.{◌≡◌, ◌≤◌, ℕ, ◌<◌, Bool, true, false, not, nat_eq, nat_lt, refl, arith, ap}
 use Rattle.std.specs.Prelude.{◌&&◌}
 use Rattle.std.proofs.lemmas.Bool.Decides.{nat_tests}
 use Rattle.fuxi_terms.proofs.Booleans.{and_true}
 use Rattle.schedule_text.specs.Forms.{shape_of}
-use Rattle.schedule_text.specs.Halting.{is_writing as is_writing_line}
+use Rattle.schedule_text.specs.Halting.{anywhere, is_writing as is_writing_line}
 use Rattle.schedule_text.specs.Writing.{AreWithin, IsLineEvent, MayStop, saying_of}
 use Rattle.schedule_text.specs.declared.event.Event.{Event}
 use Rattle.schedule_text.specs.declared.event.Event.TheVariants as line
-use Rattle.written_world.specs.Events.{is_writing}
+use Rattle.written_world.specs.Events.{Halt, is_writing}
 use Rattle.written_world.specs.Lines.{is_from_line, is_counted}
 use Rattle.schedule_replay.specs.Events.{event_as}
 
@@ -91,3 +91,33 @@ numbered (line.Halt' calls all p x) w s = three _ _ _ s.0 (writes_as x s.1) (num
 
 pub from_line : (e : Event) → IsLineEvent e → is_from_line (event_as e) ≡ true
 from_line e h = numbered e h.numbers h.stop
+
+-- where what is within an event stands in memory says nothing of it
+pub as_anywhere : (e : Event) → event_as (anywhere e) ≡ event_as e
+as_anywhere (line.Master e) = refl
+as_anywhere (line.Stop e) = refl
+as_anywhere (line.Agent m b) = refl
+as_anywhere (line.App a b) = refl
+as_anywhere (line.Submit e a g asks) = refl
+as_anywhere (line.Finish e a) = refl
+as_anywhere (line.Ban e m) = refl
+as_anywhere (line.Unban e m) = refl
+as_anywhere (line.Begin e) = refl
+as_anywhere (line.Preempt e) = refl
+as_anywhere (line.Judge e least percent) = refl
+as_anywhere (line.Want a u n) = refl
+as_anywhere (line.Near a u m n) = refl
+as_anywhere (line.Rack a u r n) = refl
+as_anywhere (line.Avoid a u m on) = refl
+as_anywhere (line.Back a u m n) = refl
+as_anywhere (line.TurnMaster e) = refl
+as_anywhere (line.TurnAgent m) = refl
+as_anywhere (line.TurnApp a) = refl
+as_anywhere (line.ResyncMaster e) = refl
+as_anywhere (line.ResyncAgent m) = refl
+as_anywhere (line.ResyncApp a) = refl
+as_anywhere (line.Deliver k) = refl
+as_anywhere (line.DeliverRange k l) = refl
+as_anywhere (line.Dump k) = refl
+as_anywhere line.Show = refl
+as_anywhere (line.Halt' calls all p x) = ap (Halt calls all) (as_anywhere x)

@@ -2,6 +2,7 @@
 
 ghost use Rattle.std.specs.Prelude.{◌≡◌, ◌≤◌, ℕ, true, List};
 ghost use Rattle.party_ledgers.specs.declared.packets.Packet.{Packet};
+ghost use Rattle.schedule_text.specs.Halting.{anywhere};
 ghost use Rattle.schedule_text.specs.Writing.{IsLineEvent};
 ghost use Rattle.schedule_text.specs.declared.event.Event.{Event};
 ghost use Rattle.written_world.specs.Lines.{is_from_line};
@@ -61,4 +62,9 @@ pub(crate) fn cores_may_step()
 /// An event that a line can give is one of an input.
 pub fn events_are_inputs()
     ensures { (e : Event) → IsLineEvent e → is_from_line (event_as e) ≡ true }
+{}
+
+/// Where the event within a stop stands in memory says nothing of it.
+pub fn events_stand_anywhere()
+    ensures { (e : Event) → event_as (anywhere e) ≡ event_as e }
 {}

@@ -17,7 +17,7 @@ mod text;
 mod turns;
 mod world;
 
-pub use laws::events_are_inputs;
+pub use laws::{events_are_inputs, events_stand_anywhere};
 pub use lines::Lines;
 pub use running::Running;
 pub use stop::WorldStop;

@@ -13,8 +13,8 @@ use fuxi_io::{Got, LimitOf, LineReader, LineStop, Sink, Source, Status, write_al
 use fuxi_terms::OutOfMemory;
 use input_cluster::read_cluster_line;
 use input_lines::{content, event_status, is_skipped, lines_are_taken, stop_status};
-use schedule_replay::{Running, WorldStop};
-use schedule_text::{events_of_lines, read_event};
+use schedule_replay::{Running, WorldStop, events_stand_anywhere};
+use schedule_text::read_event;
 use std::alloc::Global;
 
 // Takes a line: makes its event and writes what that prints, where it is not skipped.
@@ -44,7 +44,7 @@ fn take_line<O: Sink>(
     if is_skipped(line) {
         return Ok(());
     }
-    events_of_lines();
+    events_stand_anywhere();
     let event = match read_event(alloc, line) {
         Ok(event) => event,
         Err(fault) => return Err(event_status(fault, number)),

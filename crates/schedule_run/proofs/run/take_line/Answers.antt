@@ -1,26 +1,33 @@
 use Rattle.std.proofs.Common.{sym, subst}
+use Rattle.schedule_text.specs.Halting.{anywhere}
+use Rattle.schedule_replay.specs.Steps.{IsTaken, Stops, limit_of}
+use Rattle.written_world.specs.Events.{Event, world_step}
 use Rattle.schedule_run.specs.Progress.{Stands}
 use Rattle.schedule_run.proofs.Stepping.{event_line, stopped_at, took_line, took_part}
 use Rattle.schedule_run.proofs.run.take_line.Goals as goal
 
-pub step-requires-clause-line : goal.step-requires-clause-line
-step-requires-clause-line g c = c.events_of_lines.ensures c.args.line.now c.in-Ok.event c.in-Ok.ensures.ok
-
 pub returns-in-Err-step-clause-takes : goal.returns-in-Err-step-clause-takes
 returns-in-Err-step-clause-takes g c w s =
-    rw c.world_status.ensures (stopped_at c.args.line.now c.args.number w c.in-Ok.event (g.O.Sink.took c.args.out.now) (sym c.if-is_skipped.ensures) c.in-Ok.ensures.ok c.in-Err-step.stop (c.in-Err-step.ensures.stops w s.is s.stands))
+    let e = c.in-Ok.event in
+    let past = subst (λ (x : Event). Stops (limit_of w (world_step w x).world) c.in-Err-step.stop) (sym (c.events_stand_anywhere.ensures e)) (c.in-Err-step.ensures.stops w s.is s.stands) in
+    rw c.world_status.ensures (stopped_at c.args.line.now c.args.number w (anywhere e) (g.O.Sink.took c.args.out.now) (sym c.if-is_skipped.ensures) c.in-Ok.ensures.ok c.in-Err-step.stop past)
 
 pub returns-in-Ok-write_all_of-clause-stands : goal.returns-in-Ok-write_all_of-clause-stands
 returns-in-Ok-write_all_of-clause-stands g c w s =
-    let t = c.in-Ok-step.ensures.takes w s.is s.stands in
-    subst (Stands c.step.new.self) (sym (event_line w c.args.line.now c.in-Ok.event (sym c.if-is_skipped.ensures) c.in-Ok.ensures.ok)) (record { is = t.is; stands = t.stands })
+    let e = c.in-Ok.event in
+    let t = subst (λ (x : Event). IsTaken w x c.step.new.self c.in-Ok-step.lines) (sym (c.events_stand_anywhere.ensures e)) (c.in-Ok-step.ensures.takes w s.is s.stands) in
+    subst (Stands c.step.new.self) (sym (event_line w c.args.line.now (anywhere e) (sym c.if-is_skipped.ensures) c.in-Ok.ensures.ok)) (record { is = t.is; stands = t.stands })
 
 pub returns-in-Ok-write_all_of-clause-takes : goal.returns-in-Ok-write_all_of-clause-takes
 returns-in-Ok-write_all_of-clause-takes g c w s =
-    took_line c.args.line.now c.args.number w c.in-Ok.event c.step.new.self c.in-Ok-step.lines c.bytes.result.now (g.O.Sink.took c.args.out.now) (g.O.Sink.took c.write_all_of.new.out)
-    (sym c.if-is_skipped.ensures) c.in-Ok.ensures.ok (c.in-Ok-step.ensures.takes w s.is s.stands) c.bytes.ensures c.in-Ok-write_all_of.ensures.ok
+    let e = c.in-Ok.event in
+    let t = subst (λ (x : Event). IsTaken w x c.step.new.self c.in-Ok-step.lines) (sym (c.events_stand_anywhere.ensures e)) (c.in-Ok-step.ensures.takes w s.is s.stands) in
+    took_line c.args.line.now c.args.number w (anywhere e) c.step.new.self c.in-Ok-step.lines c.bytes.result.now (g.O.Sink.took c.args.out.now) (g.O.Sink.took c.write_all_of.new.out)
+    (sym c.if-is_skipped.ensures) c.in-Ok.ensures.ok t c.bytes.ensures c.in-Ok-write_all_of.ensures.ok
 
 pub returns-clause-takes : goal.returns-clause-takes
 returns-clause-takes g c w s =
-    took_part c.args.line.now c.args.number w c.in-Ok.event c.step.new.self c.in-Ok-step.lines c.bytes.result.now (g.O.Sink.took c.args.out.now) (g.O.Sink.took c.write_all_of.new.out)
-    (sym c.if-is_skipped.ensures) c.in-Ok.ensures.ok (c.in-Ok-step.ensures.takes w s.is s.stands) c.bytes.ensures c.in-Err-write_all_of.ensures.err
+    let e = c.in-Ok.event in
+    let t = subst (λ (x : Event). IsTaken w x c.step.new.self c.in-Ok-step.lines) (sym (c.events_stand_anywhere.ensures e)) (c.in-Ok-step.ensures.takes w s.is s.stands) in
+    took_part c.args.line.now c.args.number w (anywhere e) c.step.new.self c.in-Ok-step.lines c.bytes.result.now (g.O.Sink.took c.args.out.now) (g.O.Sink.took c.write_all_of.new.out)
+    (sym c.if-is_skipped.ensures) c.in-Ok.ensures.ok t c.bytes.ensures c.in-Err-write_all_of.ensures.err
