@@ -33,6 +33,7 @@ same_text (out.Heard number fresh what) = refl
 same_text (out.Lost number) = refl
 same_text (out.Refused refusal) = refl
 same_text (out.Judged machine votes) = refl
+same_text (out.Halted epoch written) = refl
 same_text (out.State events) = refl
 same_text (out.Fence epoch) = refl
 same_text (out.Job app group ended) = refl
