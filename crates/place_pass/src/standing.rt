@@ -39,8 +39,8 @@ impl Wishes {
         requires machine { machine.0 < length self.now.cluster.machines }
         ensures { result ≡ is_unmet_on self.now.cells table.now.entries app.0 unit.0 machine.0 }
     {
-        let wish = self.wish(app, unit);
-        table.held_on(app, unit, machine) < wish.near[machine.0 as usize]
+        let near = self.wish(app, unit).near[machine.0 as usize];
+        near > 0 && table.held_on(app, unit, machine) < near
     }
 
     // Whether the unit asks for more in the rack than it has there.
@@ -51,8 +51,8 @@ impl Wishes {
         requires rack { rack.0 < 64 }
         ensures { result ≡ is_unmet_in self.now.cluster self.now.cells table.now.entries app.0 unit.0 rack.0 }
     {
-        let wish = self.wish(app, unit);
-        table.held_in_rack(app, unit, rack) < wish.racks[rack.0 as usize]
+        let wanted = self.wish(app, unit).racks[rack.0 as usize];
+        wanted > 0 && table.held_in_rack(app, unit, rack) < wanted
     }
 }
 
