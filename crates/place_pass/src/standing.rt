@@ -12,16 +12,19 @@ ghost use Rattle.locality_tree.specs.Trees.{unit_at, unit_number, rack_place};
 ghost use Rattle.place_pass.specs.Best.{AreAdmitted};
 ghost use Rattle.place_pass.specs.Bounds.{IsRising, turn_at};
 ghost use Rattle.place_pass.specs.Cells.{asks_in, job_at};
+ghost use Rattle.place_pass.specs.Lines.{units_in_all};
 ghost use Rattle.place_pass.specs.Placers.{AreLevel, IsSetFrom};
 ghost use Rattle.place_pass.specs.Trees.{Holds, HoldsLine, AllStand, StandsAs, WaitsIn, Restood, RestoodAt, entry_for, is_unmet_on, is_unmet_in};
 
 use crate::line::Line;
 use crate::search::turn_of_unit;
+use crate::waiting::{any_leaves, keep};
 use crate::wishes::Wishes;
 use fuxi_terms::limits::MOST_RACKS;
 use grant_table::GrantTable;
 use locality_tree::Tree;
 use schedule_unit::{AppNo, MachineNo, RackNo, UnitNo};
+use std::mem;
 use wait_queue::Entry;
 
 impl Wishes {
@@ -209,8 +212,8 @@ pub(crate) fn tell_asked(
     }
 }
 
-/// The units of the line with nothing out wait no more.
-pub(crate) fn leave_line(
+// The units of the line with nothing out wait no more.
+fn leave_line(
     tree: &mut Tree,
     line: &Line,
     wishes: &Wishes,
@@ -234,6 +237,42 @@ pub(crate) fn leave_line(
         let entry = entry_for(wishes, turn_of, app, unit);
         tree.refresh(&entry, false);
     }
+}
+
+/// The units of the line with nothing out leave it, and wait no more. Where there are any the line is written anew into another one, whose
+/// room was made when jobs were admitted.
+pub(crate) fn leave(
+    tree: &mut Tree,
+    line: &mut Line,
+    other: &mut Line,
+    wishes: &Wishes,
+    turn_of: &Vec<u64>,
+    table: &GrantTable,
+    stirred: &Vec<bool>,
+)
+    requires level { AreLevel wishes.now.cluster (job_at wishes.now.cells) table.now }
+    requires admitted { AreAdmitted wishes.now.cells line.old.pairs }
+    requires cells { length wishes.now.cells ≡ 256 }
+    requires still { (a u : ℕ) → get_or stirred.now.items a true ≡ false → has_pair (a, u) line.old.pairs ≡ true → nat_lt 0 (out_of (asks_in wishes.now.cells) table.now.entries a u) ≡ true }
+    requires room { units_in_all wishes.now.cells ≤ line.old.room }
+    requires other_room { units_in_all wishes.now.cells ≤ other.old.room }
+    requires places { length turn_of.now.items ≡ 2048 }
+    requires rises { IsRising (λ (p : ℕ × ℕ). turn_at turn_of.now.items p.0 p.1) line.old.pairs }
+    requires holds { HoldsLine wishes.now.cluster wishes.now.cells line.old.pairs turn_of.now.items tree.old }
+    ensures pairs { line.new.pairs ≡ filter (λ p. nat_lt 0 (out_of (asks_in wishes.now.cells) table.now.entries p.0 p.1)) line.old.pairs }
+    ensures admitted { AreAdmitted wishes.now.cells line.new.pairs }
+    ensures room { units_in_all wishes.now.cells ≤ line.new.room }
+    ensures other_room { units_in_all wishes.now.cells ≤ other.new.room }
+    ensures holds { Holds wishes.now.cluster wishes.now.cells (λ p. has_pair p line.old.pairs && nat_lt 0 (out_of (asks_in wishes.now.cells) table.now.entries p.0 p.1)) turn_of.now.items tree.new }
+    ensures others { (a u : ℕ) → u < 8 → nat_lt 0 (out_of (asks_in wishes.now.cells) table.now.entries a u) ≡ true → unit_at tree.new a u ≡ unit_at tree.old a u }
+{
+    if !any_leaves(line, wishes, table, stirred) {
+        return;
+    }
+    leave_line(tree, line, wishes, turn_of, table);
+    other.clear();
+    keep(other, line, wishes, table);
+    mem::swap(line, other);
 }
 
 /// The units of the line from a place on begin to wait.
