@@ -17,6 +17,7 @@ mod KeptLemmas
 mod FirstOfLine
 mod FirstByTurn
 mod StandingLemmas
+mod StillLemmas
 mod StandsAfterChange
 mod LinedLemmas
 mod AskedLemmas

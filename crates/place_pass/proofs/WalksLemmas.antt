@@ -111,6 +111,7 @@ behind_all what unit n k above other = by_what (nat_cmp k.what what) refl above
     by_unit Less q t h = absurd (true≢false (sym (ap (λ o. is_lt (ordering_then o (nat_cmp k.number 0))) t) ∙ h))
     by_unit Equal q t h = absurd (other q (exact_unsigned k.unit unit t))
     by_unit Greater q t h = ap (λ o. ordering_then o (nat_cmp k.number n)) t
+
     by_what : (o : Ordering) → nat_cmp k.what what ≡ o → is_lt (ordering_then (nat_cmp k.what what) (ordering_then (nat_cmp k.unit unit) (nat_cmp k.number 0))) ≡ false → ordering_then (nat_cmp k.what what) (ordering_then (nat_cmp k.unit unit) (nat_cmp k.number n)) ≡ Greater
     by_what Less t h = absurd (true≢false (sym (ap (λ o. is_lt (ordering_then o (ordering_then (nat_cmp k.unit unit) (nat_cmp k.number 0)))) t) ∙ h))
     by_what Equal t h = ap (λ o. ordering_then o (ordering_then (nat_cmp k.unit unit) (nat_cmp k.number n))) t ∙ by_unit (nat_cmp k.unit unit) (exact_unsigned k.what what t) refl (sym (ap (λ o. is_lt (ordering_then o (ordering_then (nat_cmp k.unit unit) (nat_cmp k.number 0)))) t) ∙ h)

@@ -213,13 +213,7 @@ pub(crate) fn tell_asked(
 }
 
 // The units of the line with nothing out wait no more.
-fn leave_line(
-    tree: &mut Tree,
-    line: &Line,
-    wishes: &Wishes,
-    turn_of: &Vec<u64>,
-    table: &GrantTable,
-)
+fn leave_line(tree: &mut Tree, line: &Line, wishes: &Wishes, turn_of: &Vec<u64>, table: &GrantTable)
     requires level { AreLevel wishes.now.cluster (job_at wishes.now.cells) table.now }
     requires admitted { AreAdmitted wishes.now.cells line.now.pairs }
     requires places { length turn_of.now.items ≡ 2048 }
