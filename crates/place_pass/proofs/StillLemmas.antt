@@ -1,5 +1,5 @@
 -- Of a job of which nothing was told the line has exactly the units with something out.
-use Rattle.std.proofs.Common.{◌≡◌, ℕ, ◌<◌, zero, suc, Bool, true, false, cond, nat_eq, nat_lt, List, length, get_or, set, refl, sym, ◌∙◌, ap}
+use Rattle.std.proofs.Common.{◌≡◌, ℕ, ◌<◌, zero, suc, Bool, true, false, cond, nat_eq, nat_lt, List, length, get_or, set, refl, sym, ◌∙◌}
 use Rattle.std.specs.Prelude.{◌&&◌, replicate}
 use Rattle.fuxi_terms.specs.Jobs.{unit_count}
 use Rattle.written_roles.specs.Masters.{out_of}

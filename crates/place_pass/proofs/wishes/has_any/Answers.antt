@@ -1,10 +1,10 @@
-use Rattle.std.proofs.Common.{◌≡◌, ℕ, List, true, false, nat_eq, get_or, sym, ◌∙◌, ap, subst, arith}
+use Rattle.std.proofs.Common.{◌≡◌, ℕ, List, false, nat_eq, get_or, sym, ◌∙◌, ap, subst, arith}
 use Rattle.std.proofs.lemmas.Bool.Decides.{nat_tests}
 use Rattle.fuxi_terms.specs.declared.Key.{Key}
 use Rattle.fuxi_terms.specs.Counts.{AreCounts, count}
 use Rattle.fuxi_terms.specs.Keys.{key_cmp}
 use Rattle.fuxi_terms.specs.TallyKeys.{greatest_demand, key}
-use Rattle.place_pass.proofs.WalksLemmas.{none_left, none_next}
+use Rattle.place_pass.proofs.WalksLemmas.{none_next}
 use Rattle.place_pass.proofs.wishes.has_any.Goals as goal
 
 apart : (a b : ℕ) → nat_eq a b ≡ false → a ≡ b → ⊥

@@ -1,9 +1,7 @@
 use Rattle.std.proofs.Common.{◌≡◌, ℕ, ◌+◌, ◌-◌, Bool, true, false, not, nat_lt, List, ◌++◌, length, map, filter, refl, sym, ◌∙◌, ap, subst, arith}
 use Rattle.std.specs.Prelude.{◌&&◌, ◌||◌}
 use Rattle.std.proofs.lemmas.List.{length-append}
-use Rattle.place_pass.specs.Bounds.{IsRising, key_of, mark_at, mark_of, turn_at}
-use Rattle.place_pass.specs.Best.{AreAdmitted}
-use Rattle.place_pass.specs.Trees.{HoldsLine, AllStand}
+use Rattle.place_pass.specs.Bounds.{key_of, mark_at, mark_of, turn_at}
 use Rattle.place_pass.proofs.LinedLemmas.{joined_is, lined_kept, front_inside, front_holds, front_stands}
 use Rattle.std.proofs.lemmas.Bool.Decides.{nat_tests}
 use Rattle.fuxi_terms.proofs.Booleans.{and_true, both_true}
@@ -18,9 +16,9 @@ use Rattle.written_roles.specs.Masters.{out_of}
 use Rattle.written_roles.specs.Placing.{has_pair, lined, waiting_in}
 use Rattle.grant_table.specs.Tables.{as_known}
 use Rattle.place_pass.specs.Cells.{asks_in}
-use Rattle.place_pass.specs.Lines.{LineRecord, same_pair}
+use Rattle.place_pass.specs.Lines.{same_pair}
 use Rattle.place_pass.specs.Placers.{PlacerRecord, KeptRecord, IsKept, SeenRecord, IsLevelWith, asks_seen, waiting_with}
-use Rattle.place_pass.proofs.Lining.{any_append, none_filter, has_filter}
+use Rattle.place_pass.proofs.Lining.{any_append, has_filter}
 use Rattle.place_pass.proofs.Telling.{kept_is, lined_has}
 use Rattle.place_pass.proofs.Turns.{few_begin}
 use Rattle.place_pass.proofs.placer.Placer.line_up.Goals as goal
