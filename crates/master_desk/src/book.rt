@@ -1,0 +1,165 @@
+//! The journal: calls are taken one after another by the master.
+
+ghost use Rattle.std.specs.Prelude.{◌≡◌, ◌+◌, ◌<◌, ◌≤◌, ℕ, true, length, not, replicate, IfOk, IfSome, OnOk, OnErr, Some, is_some, slice_get};
+ghost use Rattle.fuxi_terms.specs.Limits.{most_steps};
+ghost use Rattle.master_desk.specs.Calls.{calls_of, most_sessions};
+ghost use Rattle.master_desk.specs.Runs.{order_of, times};
+ghost use Rattle.master_desk.specs.Books.{IsBook, IsMore, IsNextCall, new_book, without_master};
+
+use crate::calls::Decoded;
+use crate::journal::Entry;
+use crate::sessions::{SESSIONS, Sessions};
+use crate::taking::take_call;
+use fuxi_master::Master;
+use fuxi_terms::OutOfMemory;
+use std::alloc::Global;
+use std::marker::Model;
+use std::snapshot::Snapshot;
+
+/// The calls that were taken, in their order, and the master that took them.
+///
+/// What is proved of it (`IsBook`): the order of its entries fits the sessions, and of each master by itself that the opening one stands
+/// for, the entries and the master are those of the run over that order (`DeskRun`).
+pub struct Book {
+    sessions: Snapshot<Sessions>,
+    opening: Snapshot<Master>,
+    master: Option<Master>,
+    journal: Vec<Entry>,
+    taken: Vec<u32>,
+}
+
+impl Model for Book {
+    ghost use Rattle.master_desk.specs.Books.{AreTaken, BookRecord, IsBook};
+    ghost use Rattle.master_desk.specs.Runs.{order_of};
+
+    ghost Value = { BookRecord };
+
+    ghost view = { λ b. record { sessions = b.sessions.value; opening = b.opening.value; entries = b.journal.items; master = b.master } };
+
+    ghost invariant = { λ b. IsBook (record { sessions = b.sessions.value; opening = b.opening.value; entries = b.journal.items; master = b.master }) × AreTaken b.taken.items (order_of b.journal.items) };
+}
+
+// Written out, so that who lets one go checks this call and not all of its parts.
+impl Drop for Book {
+    fn drop(self) {
+        let Book {
+            sessions,
+            opening,
+            master,
+            journal,
+            taken,
+        } = self;
+    }
+}
+
+// No call of any session.
+fn none_taken(alloc: Global) -> Result<Vec<u32>, OutOfMemory>
+    ensures { IfOk result (λ taken. taken.items ≡ replicate most_sessions 0) }
+{
+    let mut taken = Vec::new(alloc);
+    for session in 0..SESSIONS {
+        taken.push(0)?;
+    }
+    Ok(taken)
+}
+
+impl Book {
+    /// An empty journal.
+    pub fn start(alloc: Global, master: Master, sessions: &Sessions) -> Result<Book, OutOfMemory>
+        ensures { IfOk result (λ b. b ≡ new_book sessions.now master) }
+    {
+        let _first = sessions.calls(0);
+        let taken = match none_taken(alloc) {
+            Ok(taken) => taken,
+            Err(OutOfMemory) => return Err(OutOfMemory),
+        };
+        Ok(Book {
+            sessions: Snapshot::of(sessions),
+            opening: Snapshot::of(&master),
+            master: Some(master),
+            journal: Vec::new(alloc),
+            taken,
+        })
+    }
+
+    /// The next call of a session, which is there, goes to the end of the journal. The call is what `decode` gives for it. It is moved, so
+    /// that nothing of it is copied.
+    ///
+    /// After the refusal the journal is as before, and the master is gone.
+    pub fn take(&mut self, alloc: Global, session: u32, call: Decoded) -> Result<(), OutOfMemory>
+        requires left { times session (order_of self.old.entries) < length (calls_of self.old.sessions session) }
+        requires call { IsNextCall self.old session call }
+        requires there { is_some self.old.master ≡ true }
+        requires steps { IfSome self.old.master (λ m. m.steps + 1 < most_steps) }
+        ensures more { OnOk result (IsMore session self.old self.new) }
+        ensures gone { OnErr result (self.new ≡ without_master self.old) }
+        ensures book { IsBook self.new }
+    {
+        let Some(master) = self.master.take() else {
+            unreachable!()
+        };
+        let (master, words, heads) = match take_call(alloc, master, call) {
+            Ok(after) => after,
+            Err(OutOfMemory) => return Err(OutOfMemory),
+        };
+        let before = self.taken[session as usize];
+        let entry = Entry {
+            session,
+            call: before + 1,
+            words,
+            heads,
+        };
+        match self.journal.push(entry) {
+            Ok(()) => {}
+            Err(_) => return Err(OutOfMemory),
+        }
+        self.taken[session as usize] = before + 1;
+        self.master = Some(master);
+        Ok(())
+    }
+
+    /// Whether the master is gone: exactly after a refusal of `take`.
+    pub fn gone(&self) -> bool
+        ensures gone { result ≡ not (is_some self.now.master) }
+        ensures book { IsBook self.now }
+    {
+        self.master.is_none()
+    }
+
+    /// How many calls of a session, which is below 64, were taken.
+    pub fn taken(&self, session: u32) -> u32
+        requires { session < most_sessions }
+        ensures taken { result ≡ times session (order_of self.now.entries) }
+        ensures book { IsBook self.now }
+    {
+        self.taken[session as usize]
+    }
+
+    /// How many calls were taken in all.
+    pub fn len(&self) -> u32
+        ensures len { result ≡ length self.now.entries }
+        ensures book { IsBook self.now }
+    {
+        self.journal.len() as u32
+    }
+
+    /// The call at a place of the order, which is below the length.
+    pub fn at(&self, index: u32) -> &Entry
+        requires { index < length self.now.entries }
+        ensures { slice_get self.now.entries index ≡ Some result.now }
+    {
+        &self.journal[index as usize]
+    }
+
+    /// The master, which is not gone.
+    pub fn master(&self) -> &Master
+        requires { is_some self.now.master ≡ true }
+        ensures master { self.now.master ≡ Some result.now }
+        ensures book { IsBook self.now }
+    {
+        match &self.master {
+            Some(master) => master,
+            None => unreachable!(),
+        }
+    }
+}
