@@ -14,9 +14,9 @@ use Rattle.epoch_lease.specs.declared.event.LeaseOut.{LeaseOut}
 use Rattle.epoch_lease.specs.declared.event.LeaseOut.TheVariants.{Granted}
 use Rattle.epoch_lease.specs.declared.event.LeaseFault.{LeaseFault}
 use Rattle.epoch_lease.specs.declared.event.LeaseFault.TheVariants.{DiskFault, OutOfMemory}
-use Rattle.epoch_lease.specs.Files.{KeptLease, LeavesStep, OpensAs, HasFence, IsSafe, lease_of}
+use Rattle.epoch_lease.specs.Files.{KeptLease, LeavesStep, OpensAs, HasFence, Endures, lease_of}
 use Rattle.epoch_lease.specs.Leases.{LeaseState, Stepped, becomes, granted, greatest_epoch, lease_step}
-use Rattle.epoch_lease.proofs.Resting.{rest_is_safe, rest_leaves}
+use Rattle.epoch_lease.proofs.Resting.{rest_endures, rest_leaves}
 
 all_leave : (P Q : List ℕ → Type 0) → ((file : List ℕ) → P file → Q file) → (ms : List Moment) → AllByRecursion (Leaves P) ms → AllByRecursion (Leaves Q) ms
 all_leave P Q f [] all = tt
@@ -35,13 +35,13 @@ at_once : (P : List ℕ → Type 0) (t : Told) → Leaves P t.now → LeavesAlwa
 at_once P t leaves = record { since = []; reached = refl; first = leaves; each = tt }
 
 module _ (before after : KeptLease) (behind : LeaseState) (same : after.hard ≡ before.hard) where
-  still : (t : Told) → IsAtRest before.hard t.now → IsSafe after t.now
-  still t rest = rest_is_safe after t.now (subst (λ (k : Kept). IsAtRest k t.now) (sym same) rest)
+  still : (t : Told) → IsAtRest before.hard t.now → Endures after t.now
+  still t rest = rest_endures after t.now (subst (λ (k : Kept). IsAtRest k t.now) (sym same) rest)
 
   quiet_at : (result : Result LeaseOut LeaseFault) (t : Told) → IsAtRest before.hard t.now
       → (LeavesAlways (λ file. OpensAs (lease_of before) file ⊎ OpensAs behind file) t t) × LeavesAlways (HasFence before.hard.value.fence) t t
   quiet_at result t rest = (
-    at_once _ t (λ file image. inl ((rest_is_safe before t.now rest).leaves file image)),
+    at_once _ t (λ file image. inl ((rest_endures before t.now rest).leaves file image)),
     at_once _ t (λ file image. record { value = before.hard.value; reads = rest_leaves before.hard t.now rest file image; least = omega arith }),
   )
 
@@ -97,7 +97,7 @@ module _ (before : KeptLease) (h e : ℕ) (free : before.holder ≡ None) (next 
   wrote after answer (Some t) (Some u) writes = λ rest. let w = writes rest in record {
     either = always _ _ t u (λ file at. (either_file file at).0) w.0;
     fenced = always _ _ t u (λ file at. (either_file file at).1) w.0;
-    answered = rest_is_safe after u.now w.1;
+    answered = rest_endures after u.now w.1;
   }
 
   pub failed : (after : KeptLease) (k : Kept) (old new : Option Told)

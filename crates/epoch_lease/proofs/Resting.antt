@@ -6,7 +6,7 @@ use Rattle.fuxi_terms.specs.Limits.{most_records}
 use Rattle.written_roles.specs.HardState.{empty_hard}
 use Rattle.hard_state.specs.Checkpoints.{Closed, Damaged, Opened, body_at, found_at, found_body, is_open, read_file, read_from, read_on, record_size}
 use Rattle.hard_state.specs.HardFiles.{IsAtRest, Kept, OpensAs as HardOpensAs, opened_as, reads_as, records_of, taken, value_of}
-use Rattle.epoch_lease.specs.Files.{IsSafe, KeptLease, OpensLease}
+use Rattle.epoch_lease.specs.Files.{Endures, KeptLease, OpensLease}
 
 -- What is read from the first gate on is what the file stands for. A file of at most one byte has no whole record.
 module _ {S : Type 0} (taken : S → List ℕ → Option S) where
@@ -59,8 +59,8 @@ pub rest_leaves : (k : Kept) (m : Moment) → IsAtRest k m → Leaves (λ file. 
 rest_leaves k m rest file image = ap records_of (synced_image m.bytes file (subst (λ (n : Moment). IsImage n file) rest.synced image)) ∙ rest_reads k m rest
 
 -- so it opens as the lease that is kept
-pub rest_is_safe : (k : KeptLease) (m : Moment) → IsAtRest k.hard m → IsSafe k m
-rest_is_safe k m rest = record {
+pub rest_endures : (k : KeptLease) (m : Moment) → IsAtRest k.hard m → Endures k m
+rest_endures k m rest = record {
   rest = rest;
   leaves = λ file image. record { value = k.hard.value; reads = rest_leaves k.hard m rest file image; last = refl; records = refl };
 }
@@ -68,4 +68,4 @@ rest_is_safe k m rest = record {
 pub opens : (k : KeptLease) (old new : Option Told) → WhereTold (HardOpensAs k.hard) old new → WhereTold (OpensLease k) old new
 opens k None new opened = tt
 opens k (Some t) None opened = absurd opened
-opens k (Some t) (Some u) opened = record { reads = opened.0; safe = rest_is_safe k u.now opened.1 }
+opens k (Some t) (Some u) opened = record { reads = opened.0; endures = rest_endures k u.now opened.1 }

@@ -31,15 +31,15 @@ pub record HasFence (epoch : ℕ) (file : List ℕ) : Type 0 where
   pub least : epoch ≤ value.fence
 
 -- the file stands for what is kept, and nothing is pending; so whatever file a crash leaves opens as this lease
-pub record IsSafe (k : KeptLease) (moment : Moment) : Type 0 where
+pub record Endures (k : KeptLease) (moment : Moment) : Type 0 where
   pub rest : IsAtRest k.hard moment
   pub leaves : Leaves (OpensAs (lease_of k)) moment
 
 abbrev pub IsAnswered : Result LeaseOut LeaseFault → KeptLease → Told → Type 0
 IsAnswered (Err DiskFault) after new = Unit {0}
-IsAnswered (Err OutOfMemory) after new = IsSafe after new.now
-IsAnswered (Err (NotCheckpoint offset)) after new = IsSafe after new.now
-IsAnswered (Ok answer) after new = IsSafe after new.now
+IsAnswered (Err OutOfMemory) after new = Endures after new.now
+IsAnswered (Err (NotCheckpoint offset)) after new = Endures after new.now
+IsAnswered (Ok answer) after new = Endures after new.now
 
 -- From a file that stands for what is kept, with nothing pending: at each moment of the step whatever file a crash leaves opens as the lease before the
 -- step or as the one behind it, and has a fence that is at least each epoch granted before. Once it is answered, it opens as the one behind it.
@@ -54,4 +54,4 @@ LeavesStep before after behind result old new = IsAtRest before.hard old.now →
 -- what is kept of a lease that was opened is what the file stood for, which it still does; nobody holds
 pub record OpensLease (k : KeptLease) (old new : Told) : Type 0 where
   pub reads : records_of old.now.bytes ≡ Ok k.hard.value
-  pub safe : IsSafe k new.now
+  pub endures : Endures k new.now

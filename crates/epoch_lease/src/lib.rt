@@ -7,6 +7,6 @@ mod lease;
 mod read;
 
 pub use event::{LeaseEvent, LeaseFault, LeaseOut};
-pub use laws::{epochs_rise, rests_through_a_crash};
+pub use laws::{epochs_rise, leases_at_rest_endure};
 pub use lease::Lease;
 pub use read::read_lease;

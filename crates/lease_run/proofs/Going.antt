@@ -23,7 +23,7 @@ use Rattle.input_lines.specs.Wholes.{IsBroken, TakesLines}
 use Rattle.epoch_lease.specs.declared.event.LeaseEvent.{LeaseEvent}
 use Rattle.epoch_lease.specs.Leases.{LeaseState, lease_step}
 use Rattle.epoch_lease.specs.Reading.{lease_event}
-use Rattle.lease_run.specs.Ends.{Ended, Grants, HasFile, HasEither, ReadsWhole, StopsAt}
+use Rattle.lease_run.specs.Ends.{Ended, IsGranted, HasFile, HasEither, ReadsWhole, StopsAt}
 use Rattle.lease_run.specs.Progress.{after_said, Along, behind_all, TakesLine, WritesEnd}
 use Rattle.lease_run.specs.Runs.{Run, Ending, AtEnd, AtBadLine, AtManyLines, behind, ended, pieces, run_from, with_event, within_limits}
 use Rattle.lease_run.specs.Texts.{answer_text, last_text}
@@ -282,7 +282,7 @@ module _ (laws : TakesLines) (bytes : List ℕ) (first : LeaseState) (number : �
             let same = ap (λ (r : Run). r.state) (one_more h.0 g.event g.is) in
             record {
               stops = stops h.3;
-              grants = subst (λ (x : LeaseState). Grants (content line) x) (sym front) g;
+              grants = subst (λ (x : LeaseState). IsGranted (content line) x) (sym front) g;
               file = subst (λ (x : LeaseState). HasEither old new x (run_from 0 first (a.lines ++ line ∷ [])).state) (sym front)
                   (subst (HasEither old new s) (ap (after_said s) g.is ∙ sym same) file);
             }

@@ -11,7 +11,7 @@ use Rattle.input_lines.specs.Statuses.{event_status}
 use Rattle.epoch_lease.specs.declared.event.LeaseEvent.{LeaseEvent}
 use Rattle.epoch_lease.specs.declared.event.LeaseFault.{LeaseFault}
 use Rattle.epoch_lease.specs.declared.event.LeaseFault.TheVariants.{NotCheckpoint, DiskFault as NoDisk, OutOfMemory as NoMemory}
-use Rattle.epoch_lease.specs.Files.{KeptLease, IsSafe, LeavesStep, OpensAs, OpensLease, lease_of}
+use Rattle.epoch_lease.specs.Files.{KeptLease, Endures, LeavesStep, OpensAs, OpensLease, lease_of}
 use Rattle.epoch_lease.specs.Leases.{LeaseState, lease_step}
 use Rattle.epoch_lease.specs.Reading.{lease_event}
 use Rattle.lease_run.specs.Ends.{HasFile, HasEither}
@@ -26,14 +26,14 @@ always_now P old new all = go all.since all.reached all.each
     go (m ∷ ms) reached each = let same : m ≡ new.now = cc in subst (Leaves P) same each.0
 
 -- a checkpoint at rest is safe, which is a law
-abbrev pub AreSafe : Type 0
-AreSafe = (k : KeptLease) (moment : Moment) → IsAtRest k.hard moment → IsSafe k moment
+abbrev pub AllEndure : Type 0
+AllEndure = (k : KeptLease) (moment : Moment) → IsAtRest k.hard moment → Endures k moment
 
-pub skips : AreSafe → (line : List ℕ) (k : KeptLease) (told : Option Told) → WhereTold (LeavesLine line (Ok tt) k k) told told
+pub skips : AllEndure → (line : List ℕ) (k : KeptLease) (told : Option Told) → WhereTold (LeavesLine line (Ok tt) k k) told told
 skips safe line k None = tt
 skips safe line k (Some t) = safe k t.now
 
-pub is_bad : AreSafe → (line : List ℕ) (fault : LineFault) (number : ℕ) (k : KeptLease) (told : Option Told) → WhereTold (LeavesLine line (Err (event_status fault number)) k k) told told
+pub is_bad : AllEndure → (line : List ℕ) (fault : LineFault) (number : ℕ) (k : KeptLease) (told : Option Told) → WhereTold (LeavesLine line (Err (event_status fault number)) k k) told told
 is_bad safe line fault number k None = tt
 is_bad safe line UnknownWord number k (Some t) = safe k t.now
 is_bad safe line WrongCount number k (Some t) = safe k t.now
@@ -51,7 +51,7 @@ fails line event NoDisk before after (Some t) (Some u) is leaves = λ rest.
 fails line event NoMemory before after (Some t) (Some u) is leaves = λ rest. (leaves rest).answered
 
 -- from a file that stands for the lease: it stands for the lease behind a line
-pub goes_on : (k after : KeptLease) (before old new : Option Told) → Rests before k old → WhereTold (λ t u. IsAtRest k.hard t.now → IsSafe after u.now) old new → Rests before after new
+pub goes_on : (k after : KeptLease) (before old new : Option Told) → Rests before k old → WhereTold (λ t u. IsAtRest k.hard t.now → Endures after u.now) old new → Rests before after new
 goes_on k after None old new rests leaves = tt
 goes_on k after (Some t) None new rests leaves = absurd rests
 goes_on k after (Some t) (Some u) None rests leaves = absurd leaves
@@ -87,4 +87,4 @@ file_behind (DamagedCheckpoint offset) line k after before old new rests leaves 
 pub opened : (k : KeptLease) (old new : Option Told) → WhereTold (OpensLease k) old new → Rests old k new
 opened k None new opens = tt
 opened k (Some t) None opens = absurd opens
-opened k (Some t) (Some u) opens = opens.safe
+opened k (Some t) (Some u) opens = opens.endures

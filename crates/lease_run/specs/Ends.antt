@@ -66,7 +66,7 @@ pub record LacksMemory (run : List InputLine → Run) (bytes : List ℕ) (left b
   pub file : HasFile old new (run stops.front).state
 
 -- the event of a line is granted an epoch
-pub record Grants (line : List ℕ) (s : LeaseState) : Type 0 where
+pub record IsGranted (line : List ℕ) (s : LeaseState) : Type 0 where
   pub event : LeaseEvent
   pub is : lease_event line ≡ Ok event
   pub grants : IsGrant (lease_step s event).answer
@@ -74,7 +74,7 @@ pub record Grants (line : List ℕ) (s : LeaseState) : Type 0 where
 -- the disk failed within a grant, whose record a crash leaves or not
 pub record LosesDisk (run : List InputLine → Run) (bytes : List ℕ) (left before after : Option (List ℕ)) (old new : Option Told) : Type 0 where
   pub stops : StopsAt run bytes left before after
-  pub grants : Grants (content stops.line) (run stops.front).state
+  pub grants : IsGranted (content stops.line) (run stops.front).state
   pub file : HasEither old new (run stops.front).state (run (stops.front ++ stops.line ∷ [])).state
 
 -- What a run from an open lease wrote that ended with a status, what its source has left then, and what a crash leaves of the file

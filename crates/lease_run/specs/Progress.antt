@@ -16,10 +16,10 @@ use Rattle.input_lines.specs.Wholes.{AreTaken}
 use Rattle.epoch_lease.specs.declared.event.LeaseEvent.{LeaseEvent}
 use Rattle.epoch_lease.specs.declared.event.LeaseFault.{LeaseFault}
 use Rattle.epoch_lease.specs.declared.event.LeaseFault.TheVariants.{NotCheckpoint, DiskFault as NoDisk, OutOfMemory as NoMemory}
-use Rattle.epoch_lease.specs.Files.{KeptLease, IsSafe, OpensAs, lease_of}
+use Rattle.epoch_lease.specs.Files.{KeptLease, Endures, OpensAs, lease_of}
 use Rattle.epoch_lease.specs.Leases.{LeaseState, lease_step}
 use Rattle.epoch_lease.specs.Reading.{lease_event}
-use Rattle.lease_run.specs.Ends.{Grants}
+use Rattle.lease_run.specs.Ends.{IsGranted}
 use Rattle.lease_run.specs.Runs.{Run, run_from}
 use Rattle.lease_run.specs.Texts.{answer_text, last_text}
 
@@ -49,7 +49,7 @@ TakesLine line number s after (Ok done) w0 w =
 TakesLine line number s after (Err (BadInput n fault)) w0 w = (is_skipped line ≡ false) × IsNone line fault × (n ≡ number) × (after ≡ s) × (w ≡ w0)
 TakesLine line number s after (Err WriteFault) w0 w = (is_skipped line ≡ false) × ((text : List ℕ) × Answers line s after text × TakesPart w0 w text)
 TakesLine line number s after (Err OutOfMemory) w0 w = (is_skipped line ≡ false) × (after ≡ s) × (w ≡ w0)
-TakesLine line number s after (Err DiskFault) w0 w = (is_skipped line ≡ false) × Grants line s × (after ≡ s) × (w ≡ w0)
+TakesLine line number s after (Err DiskFault) w0 w = (is_skipped line ≡ false) × IsGranted line s × (after ≡ s) × (w ≡ w0)
 TakesLine line number s after (Err Done) w0 w = ⊥
 TakesLine line number s after (Err Usage) w0 w = ⊥
 TakesLine line number s after (Err ReadFault) w0 w = ⊥
@@ -66,7 +66,7 @@ after_said s (Err fault) = s
 abbrev pub LeavesLine : List ℕ → Result (Unit {0}) Status → KeptLease → KeptLease → Told → Told → Type 0
 LeavesLine line (Err DiskFault) before after old new =
     IsAtRest before.hard old.now → Leaves (λ file. OpensAs (lease_of before) file ⊎ OpensAs (after_said (lease_of before) (lease_event line)) file) new.now
-LeavesLine line result before after old new = IsAtRest before.hard old.now → IsSafe after new.now
+LeavesLine line result before after old new = IsAtRest before.hard old.now → Endures after new.now
 
 -- what ending a run with this status wrote behind its last line
 abbrev pub WritesEnd : LeaseState → Status → Option (List ℕ) → Option (List ℕ) → Type 0
@@ -83,7 +83,7 @@ WritesEnd s (DamagedCheckpoint offset) w0 w = ⊥
 
 -- of a disk that told its moments at the start: its file stands now for what is kept, and nothing is pending
 abbrev pub Rests : Option Told → KeptLease → Option Told → Type 0
-Rests old k now = WhereTold (λ before t. IsSafe k t.now) old now
+Rests old k now = WhereTold (λ before t. Endures k t.now) old now
 
 abbrev pub behind_all : List (List ℕ) → Run → Run
 behind_all front r = record { answers = front ++ r.answers; state = r.state; ending = r.ending }

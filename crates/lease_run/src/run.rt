@@ -10,7 +10,7 @@ ghost use Rattle.lease_run.specs.Progress.{fault_status, LeavesLine, Rests, Take
 ghost use Rattle.lease_run.specs.Runs.{run_from, run_of, AtEnd};
 
 use crate::print::{write_answer, write_number};
-use epoch_lease::{Lease, LeaseFault, read_lease, rests_through_a_crash};
+use epoch_lease::{Lease, LeaseFault, leases_at_rest_endure, read_lease};
 use fuxi_io::{Disk, Got, LimitOf, LineReader, Sink, Source, Status};
 use input_lines::{content, event_status, is_skipped, lines_are_taken, stop_status};
 use std::alloc::Global;
@@ -46,7 +46,7 @@ fn take_line<O: Sink, D: Disk>(
     ensures write { result ≡ Err Status.WriteFault → Rose (O.faults out.old) (O.faults out.new) }
     ensures disk { result ≡ Err Status.DiskFault → Rose (D.faults disk.old) (D.faults disk.new) }
 {
-    rests_through_a_crash();
+    leases_at_rest_endure();
     if is_skipped(line) {
         return Ok(());
     }
