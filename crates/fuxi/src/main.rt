@@ -1,16 +1,13 @@
-//! The program: the words of its command line, over standard input, output and error, the file of a master, and TCP.
+//! The program: the words of its command line, over standard input, output and error, the file of a master or a lease, and TCP.
 #![tactic(auto)]
 
-use fuxi_command::{exit_of, run, wants_file, words_of};
+use fuxi_command::{exit_of, file_of, run, words_of};
 use fuxi_io::{FileDisk, StdSink, StdSource};
 use node_door::TcpDoor;
 use std::env;
 use std::fs::File;
 use std::os::fd::AsRawFd;
 use std::process::ExitCode;
-
-// The file of a master's hard state, in the folder that the program is run in.
-const STATE: &str = "fuxi.state";
 
 // Whether the file is none of the three streams. A stream that was closed at the start leaves its number to the next file that is opened.
 fn is_apart(file: &File) -> bool {
@@ -48,10 +45,9 @@ fn open_alone(rt: &HostRuntime, path: &str) -> Option<File> {
 fn main(rt: HostRuntime) -> ExitCode {
     let _streams = [open_nothing(&rt), open_nothing(&rt), open_nothing(&rt)];
     let words = words_of(rt.alloc(), env::args(&rt));
-    let file = if wants_file(&words) {
-        open_alone(&rt, STATE)
-    } else {
-        None
+    let file = match file_of(&words) {
+        Some(name) => open_alone(&rt, name),
+        None => None,
     };
     let mut input = StdSource::of(rt.stdin());
     let mut out = StdSink::of(rt.stdout());

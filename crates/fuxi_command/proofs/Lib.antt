@@ -3,3 +3,4 @@ pub mod Untouched
 pub mod Texts
 pub mod States
 pub mod Storming
+pub mod Leasing

@@ -1,18 +1,23 @@
 -- What a command made of what it was handed, and with which status.
-use Rattle.std.specs.Prelude.{◌≡◌, ◌⊎◌, ◌↔◌, ℕ, List, Option, Some, IfSome, false}
+use Rattle.std.specs.Prelude.{◌≡◌, ◌⊎◌, ◌↔◌, ℕ, List, Option, Some, Ok, Err, IfSome, false}
 use Rattle.fuxi_io.specs.Causes.{Rose}
 use Rattle.fuxi_io.specs.Disks.{Told as DiskTold}
+use Rattle.fuxi_io.specs.declared.status.LimitOf.{LimitOf}
 use Rattle.fuxi_io.specs.declared.status.LimitOf.TheVariants.{Lines}
 use Rattle.fuxi_io.specs.declared.status.Status.{Status}
-use Rattle.fuxi_io.specs.declared.status.Status.TheVariants.{Done, Usage, ReadFault, WriteFault, Limit, OutOfMemory, DiskFault}
+use Rattle.fuxi_io.specs.declared.status.Status.TheVariants.{Done, Usage, ReadFault, WriteFault, Limit, OutOfMemory, DiskFault, StaleEpoch, DamagedCheckpoint}
 use Rattle.fuxi_terms.specs.Limits.{most_lines}
 use Rattle.schedule_run.specs.Runs.{read_from, Ended}
 use Rattle.storm_run.specs.Runs.{StormEnded}
 use Rattle.storm_run.specs.Summaries.{storm_of}
+use Rattle.written_roles.specs.HardState.{HardState}
+use Rattle.hard_state.specs.HardFiles.{records_of}
+use Rattle.lease_run.specs.Ends.{LeaseEnded}
+use Rattle.lease_run.specs.Runs.{run_of, AtEnd}
 use Rattle.node_command.specs.declared.kind.NodeKind.{NodeKind}
 use Rattle.node_command.specs.Inputs.{InputEnded, IsDiskless, IsWhole, MayStart, TellsDisk}
 use Rattle.node_door.specs.Doors.{Told, WhereTold}
-use Rattle.fuxi_command.specs.Words.{Node, Replay, Storm, command_of, has_file, is_command, is_node}
+use Rattle.fuxi_command.specs.Words.{Lease, Node, Replay, Storm, command_of, has_file, is_command, is_node}
 
 -- what an input has left, what an output took, what a disk and a door told, and how many calls of each failed
 pub record Seen : Type 0 where
@@ -28,6 +33,12 @@ pub record Seen : Type 0 where
 abbrev pub seen : Option (List ℕ) → Option (List ℕ) → Option DiskTold → Option Told → ℕ → ℕ → ℕ → ℕ → Seen
 seen left took disk door reads writes disks doors =
     record { left = left; took = took; disk = disk; door = door; reads_failed = reads; writes_failed = writes; disk_failed = disks; door_failed = doors }
+
+-- what a status of a lease says of the file at the start
+pub record TellsLease (status : Status) (disk : Option DiskTold) : Type 0 where
+  pub damaged : (offset : ℕ) → status ≡ DamagedCheckpoint offset → IfSome disk (λ t. records_of t.now.bytes ≡ Err offset)
+  pub limit : (what : LimitOf) (kept : ℕ) → status ≡ Limit what kept → what ≡ Lines
+  pub fresh : (fence : ℕ) → status ≡ StaleEpoch fence → ⊥
 
 -- By the words and the status, from what was seen before to what is seen now. That one of the four is as it was is said of itself, since not all of it is
 -- seen
@@ -48,3 +59,7 @@ pub record IsOutcome (words : List (List ℕ)) (status : Status) (input_stays ou
   pub diskless : has_file (command_of words) ≡ false → IsDiskless status
   pub disk : status ≡ DiskFault → Rose old.disk_failed new.disk_failed
   pub told : (kind : NodeKind) (addr : List ℕ) → command_of words ≡ Some (Node kind addr) → TellsDisk kind status old.disk
+  pub lease : command_of words ≡ Some Lease → IfSome old.left (λ bytes. LeaseEnded bytes status new.left old.took new.took old.disk new.disk)
+  pub lease_told : command_of words ≡ Some Lease → TellsLease status old.disk
+  pub lease_complete : command_of words ≡ Some Lease → (bytes : List ℕ) (t : DiskTold) (value : HardState) → old.left ≡ Some bytes → old.disk ≡ Some t → records_of t.now.bytes ≡ Ok value → (run_of value bytes).ending ≡ AtEnd
+      → (Rose old.reads_failed new.reads_failed → ⊥) → (Rose old.writes_failed new.writes_failed → ⊥) → (Rose old.disk_failed new.disk_failed → ⊥) → (status ≡ Done) ⊎ (status ≡ OutOfMemory)

@@ -18,11 +18,12 @@ use Rattle.node_command.specs.declared.kind.NodeKind.TheVariants.{Master, Agent,
 use Rattle.fuxi_command.specs.declared.words.Command.{Command as Parsed}
 use Rattle.fuxi_command.specs.declared.words.Command.TheVariants as parsed
 
--- a schedule that is replayed, a storm of a seed with so many steps, or a node and the address of its connections
+-- a schedule that is replayed, a storm of a seed with so many steps, a node and the address of its connections, or a lease
 pub data Command : Type 0 where
   Replay : Command
   Storm : (seed steps : ℕ) → Command
   Node : (kind : NodeKind) → (addr : List ℕ) → Command
+  Lease : Command
 
 -- a storm, where both words are numbers and the steps are not too many
 abbrev pub storm_of_words : Option ℕ → Option ℕ → Option Command
@@ -53,10 +54,15 @@ abbrev pub node_at : List ℕ → Option NodeKind → Option Command
 node_at addr (Some kind) = cond (nat_eq (length addr) 0 || nat_lt most_address_bytes (length addr)) None (Some (Node kind addr))
 node_at addr None = None
 
--- The command that words are, where they are one: `replay`; `storm` and two numbers; or `node` and a kind of party, its numbers, and an address
+-- The commands of one word
+abbrev pub one_word : List ℕ → Option Command
+one_word word = cond (bytes_eq word (codes "replay")) (Some Replay) (cond (bytes_eq word (codes "lease")) (Some Lease) None)
+
+-- The command that words are, where they are one: `replay` or `lease`; `storm` and two numbers; or `node` and a kind of party, its numbers, and an
+-- address
 abbrev pub command_of : List (List ℕ) → Option Command
 command_of [] = None
-command_of (word ∷ []) = cond (bytes_eq word (codes "replay")) (Some Replay) None
+command_of (word ∷ []) = one_word word
 command_of (word ∷ second ∷ []) = None
 command_of (word ∷ seed ∷ steps ∷ []) = cond (bytes_eq word (codes "storm")) (storm_of_words (number_of seed) (number_of steps)) None
 command_of (word ∷ party ∷ epoch ∷ addr ∷ []) = cond (bytes_eq word (codes "node") && bytes_eq party (codes "master")) (node_at addr (master_of (number_of epoch))) None
@@ -71,16 +77,21 @@ abbrev pub is_node : Option Command → Bool
 is_node (Some (Node kind addr)) = true
 is_node (Some Replay) = false
 is_node (Some (Storm seed steps)) = false
+is_node (Some Lease) = false
 is_node None = false
 
--- the words are those of a master's node, which alone has a file
+-- the file that a command has, by its name: a master's node and a lease have one each, and the others none
+abbrev pub file_of : Option Command → Option (List ℕ)
+file_of (Some (Node (Master epoch) addr)) = Some (codes "fuxi.state")
+file_of (Some (Node (Agent machine boot) addr)) = None
+file_of (Some (Node (App app boot units) addr)) = None
+file_of (Some Replay) = None
+file_of (Some (Storm seed steps)) = None
+file_of (Some Lease) = Some (codes "fuxi.lease")
+file_of None = None
+
 abbrev pub has_file : Option Command → Bool
-has_file (Some (Node (Master epoch) addr)) = true
-has_file (Some (Node (Agent machine boot) addr)) = false
-has_file (Some (Node (App app boot units) addr)) = false
-has_file (Some Replay) = false
-has_file (Some (Storm seed steps)) = false
-has_file None = false
+has_file c = is_some (file_of c)
 
 -- the command as it was parsed
 abbrev pub as_command : Option Parsed → Option Command
@@ -88,6 +99,7 @@ as_command None = None
 as_command (Some parsed.Replay) = Some Replay
 as_command (Some (parsed.Storm seed steps)) = Some (Storm seed steps)
 as_command (Some (parsed.Node kind addr)) = Some (Node kind addr.now)
+as_command (Some parsed.Lease) = Some Lease
 
 -- the words are the arguments behind the program's name
 abbrev pub HasWords : {X Z : Type 0} → Result (IntoIter X Z) Error → List X → Type 0
@@ -108,3 +120,4 @@ abbrev pub AreWithin : Parsed → Type 0
 AreWithin parsed.Replay = ⊤
 AreWithin (parsed.Storm seed steps) = steps ≤ most_storm_steps
 AreWithin (parsed.Node kind addr) = IsKind kind × (1 ≤ length addr.now) × (length addr.now ≤ 255)
+AreWithin parsed.Lease = ⊤

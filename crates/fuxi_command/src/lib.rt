@@ -7,6 +7,6 @@ mod telling;
 mod top;
 mod words;
 
-pub use program::{exit_of, run, wants_file, words_of};
+pub use program::{exit_of, file_of, run, words_of};
 pub use telling::report;
 pub use top::fuxi;

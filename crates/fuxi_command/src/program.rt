@@ -1,8 +1,14 @@
-ghost use Rattle.std.specs.Prelude.{◌≡◌, IfOk, IfErr, IfSome, Some, false, map, string_bytes};
+ghost use Rattle.std.specs.Prelude.{◌≡◌, ℕ, List, Ok, IfOk, IfErr, IfSome, Some, None, map, string_bytes};
 ghost use Rattle.std.specs.Process.{exit_status};
+ghost use Rattle.std.specs.Option.{option_map};
+ghost use Rattle.std.specs.Io.KnownBytes.{Appends};
+ghost use Rattle.fuxi_io.specs.Disks.{Told};
 ghost use Rattle.fuxi_io.specs.Statuses.{code_of};
+ghost use Rattle.hard_state.specs.HardFiles.{records_of};
+ghost use Rattle.lease_run.specs.Runs.{text_of};
+ghost use Rattle.written_roles.specs.HardState.{HardState};
 ghost use Rattle.schedule_run.specs.Told.{IsText, Writes};
-ghost use Rattle.fuxi_command.specs.Words.{Replay, command_of, has_file, HasWords, NoWords, WhyNoWords};
+ghost use Rattle.fuxi_command.specs.Words.{Lease, Replay, command_of, file_of, HasWords, NoWords, WhyNoWords};
 ghost use Rattle.fuxi_command.specs.Reports.{report_line, TakesReport};
 ghost use Rattle.fuxi_command.specs.Outcomes.{IsOutcome, seen};
 
@@ -49,19 +55,20 @@ pub fn words_of(alloc: Global, args: io::Result<Args>) -> Result<Vec<String>, St
     Ok(words)
 }
 
-/// Whether the words are those of a master's node, which alone has a file.
-pub fn wants_file(words: &Result<Vec<String>, Status>) -> bool
-    ensures ok { IfOk words.now (λ words. result ≡ has_file (command_of (map string_bytes words.items))) }
-    ensures err { IfErr words.now (λ status. result ≡ false) }
+/// The name of the file that the command of the words has, in the folder that it is run in: `fuxi.state` of a master's node, and
+/// `fuxi.lease` of a lease. No other command has one.
+pub fn file_of(words: &Result<Vec<String>, Status>) -> Option<&'static str>
+    ensures ok { IfOk words.now (λ words. option_map (λ name. name.now) result ≡ file_of (command_of (map string_bytes words.items))) }
+    ensures err { IfErr words.now (λ status. result ≡ None) }
 {
     match words {
-        Ok(words) => is_master(words),
-        Err(_) => false,
+        Ok(words) => name_of(words),
+        Err(_) => None,
     }
 }
 
-fn is_master(words: &[String]) -> bool
-    ensures { result ≡ has_file (command_of (map string_bytes words.now)) }
+fn name_of(words: &[String]) -> Option<&'static str>
+    ensures { option_map (λ name. name.now) result ≡ file_of (command_of (map string_bytes words.now)) }
 {
     match command_of(words) {
         Some(
@@ -69,8 +76,9 @@ fn is_master(words: &[String]) -> bool
                 kind: NodeKind::Master { .. },
                 ..
             },
-        ) => true,
-        _ => false,
+        ) => Some("fuxi.state"),
+        Some(Command::Lease) => Some("fuxi.lease"),
+        _ => None,
     }
 }
 
@@ -86,11 +94,13 @@ pub fn run<S: Source, O: Sink, E: Sink, D: Disk, N: Door>(
 ) -> Status
     // Without words the status is that of their want, and nothing was read or written but the line that tells it.
     ensures none { IfErr words (λ status. (result ≡ status) × (input.new ≡ input.old) × (out.new ≡ out.old) × (disk.new ≡ disk.old) × (door.new ≡ door.old)) }
-    // With words it is what `fuxi` makes of them, all of it by one relation; for a replay also by its text.
+    // With words it is what `fuxi` makes of them, all of it by one relation; for a replay and a lease also by their texts.
     ensures outcome { IfOk words (λ words. IsOutcome (map string_bytes words.items) result (input.new ≡ input.old) (out.new ≡ out.old) (disk.new ≡ disk.old) (door.new ≡ door.old)
         (seen (S.left input.old) (O.took out.old) (D.told disk.old) (N.told door.old) (S.faults input.old) (O.faults out.old) (D.faults disk.old) (N.faults door.old))
         (seen (S.left input.new) (O.took out.new) (D.told disk.new) (N.told door.new) (S.faults input.new) (O.faults out.new) (D.faults disk.new) (N.faults door.new))) }
     ensures text { IfOk words (λ words. command_of (map string_bytes words.items) ≡ Some Replay → result ≡ Status.Done → IfSome (S.left input.old) (λ bytes. Writes (IsText bytes) (O.took out.old) (O.took out.new))) }
+    ensures lease_text { IfOk words (λ words. command_of (map string_bytes words.items) ≡ Some Lease → result ≡ Status.Done → (bytes : List ℕ) (t : Told) (value : HardState) → S.left input.old ≡ Some bytes → D.told disk.old ≡ Some t
+        → records_of t.now.bytes ≡ Ok value → Appends (O.took out.old) (O.took out.new) (text_of value bytes)) }
     ensures report { TakesReport (report_line result) (E.took err.old) (E.took err.new) (E.faults err.old) (E.faults err.new) }
 {
     match words {

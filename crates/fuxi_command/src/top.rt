@@ -1,4 +1,4 @@
-ghost use Rattle.std.specs.Prelude.{◌≡◌, ◌≢◌, ◌+◌, ◌≤◌, ◌⊎◌, ◌↔◌, ℕ, List, [], Option, Some, None, Err, IfSome, true, false, map, string_bytes, take};
+ghost use Rattle.std.specs.Prelude.{◌≡◌, ◌≢◌, ◌+◌, ◌≤◌, ◌⊎◌, ◌↔◌, ℕ, List, [], Option, Some, None, Ok, Err, IfSome, true, false, map, string_bytes, take};
 ghost use Rattle.std.specs.List.{concat};
 ghost use Rattle.std.specs.Io.KnownBytes.{Appends};
 ghost use Rattle.fuxi_io.specs.Causes.{Rose};
@@ -15,21 +15,26 @@ ghost use Rattle.fuxi_command.specs.States.{AllCountOnce, AllKeepGrants, AllTake
 ghost use Rattle.storm_run.specs.Runs.{IsLimit, StormEnded};
 ghost use Rattle.storm_run.specs.Summaries.{storm_of};
 ghost use Rattle.fuxi_command.specs.Storms.{IsStorm, WritesPart};
-ghost use Rattle.fuxi_command.specs.Words.{Node, Replay, Storm, command_of, has_file, is_command, is_node};
+ghost use Rattle.fuxi_command.specs.Words.{Lease, Node, Replay, Storm, command_of, has_file, is_command, is_node};
 ghost use Rattle.node_command.specs.declared.kind.NodeKind.{NodeKind};
 ghost use Rattle.node_command.specs.declared.kind.NodeKind.TheVariants.{Master};
 ghost use Rattle.node_command.specs.Inputs.{InputEnded, IsDiskless, IsWhole, MayStart, TellsDisk};
 ghost use Rattle.node_door.specs.Doors.{Told, WhereTold};
+ghost use Rattle.fuxi_io.specs.Disks.{Told as Moments};
+ghost use Rattle.written_roles.specs.HardState.{HardState};
+ghost use Rattle.lease_run.specs.Ends.{LeaseEnded};
+ghost use Rattle.lease_run.specs.Runs.{run_of as lease_run_of, text_of, AtEnd as LeaseAtEnd};
 ghost use Rattle.fuxi_node.specs.Masters.{RefusesEpoch};
 ghost use Rattle.hard_state.specs.HardFiles.{records_of};
 ghost use Rattle.written_roles.specs.Refusals.{NotRising, HardFull};
 ghost use Rattle.fuxi_command.specs.Reports.{report_line, TakesReport};
-ghost use Rattle.fuxi_command.specs.Outcomes.{IsOutcome, seen};
+ghost use Rattle.fuxi_command.specs.Outcomes.{IsOutcome, TellsLease, seen};
 ghost use Rattle.fuxi_terms.specs.Limits.{most_lines, most_records};
 
 use crate::telling::report;
 use crate::words::{Command, command_of};
 use fuxi_io::{Disk, InputFault, LimitOf, LineReader, Sink, Source, Status};
+use lease_run::run_lease;
 use node_command::{NodeKind, run_input};
 use node_door::Door;
 use schedule_run::{inputs_are_given, run_schedule, runs_are_told};
@@ -96,12 +101,18 @@ fn run_command<S: Source, O: Sink, D: Disk, N: Door>(
     ensures complete { (kind : NodeKind) (addr : List ℕ) → command_of (map string_bytes words.now) ≡ Some (Node kind addr) → (bytes : List ℕ) (t : Told) → S.left input.old ≡ Some bytes → N.told door.old ≡ Some t
         → IsWhole kind bytes → MayStart kind (D.told disk.old) → (Rose (S.faults input.old) (S.faults input.new) → ⊥) → (Rose (O.faults out.old) (O.faults out.new) → ⊥) → (Rose (D.faults disk.old) (D.faults disk.new) → ⊥)
         → (result ≡ Status.Done) ⊎ (result ≡ Status.OutOfMemory) }
+    ensures lease { command_of (map string_bytes words.now) ≡ Some Lease → IfSome (S.left input.old) (λ bytes. LeaseEnded bytes result (S.left input.new) (O.took out.old) (O.took out.new) (D.told disk.old) (D.told disk.new)) }
+    ensures lease_told { command_of (map string_bytes words.now) ≡ Some Lease → TellsLease result (D.told disk.old) }
+    ensures lease_complete { command_of (map string_bytes words.now) ≡ Some Lease → (bytes : List ℕ) (t : Moments) (value : HardState) → S.left input.old ≡ Some bytes → D.told disk.old ≡ Some t → records_of t.now.bytes ≡ Ok value
+        → (lease_run_of value bytes).ending ≡ LeaseAtEnd → (Rose (S.faults input.old) (S.faults input.new) → ⊥) → (Rose (O.faults out.old) (O.faults out.new) → ⊥) → (Rose (D.faults disk.old) (D.faults disk.new) → ⊥)
+        → (result ≡ Status.Done) ⊎ (result ≡ Status.OutOfMemory) }
 {
     match command_of(words) {
         None => Status::Usage,
         Some(Command::Replay) => run_replay(alloc, input, out),
         Some(Command::Storm { seed, steps }) => run_storm(alloc, seed, steps, out),
         Some(Command::Node { kind, addr }) => run_input(alloc, kind, addr, input, out, disk, door),
+        Some(Command::Lease) => run_lease(alloc, input, out, disk),
     }
 }
 
@@ -112,8 +123,9 @@ fn run_command<S: Source, O: Sink, D: Disk, N: Door>(
 /// `replay` runs the lines of the input and writes the text of each event after it, and at the end of the
 /// input the state. `storm SEED STEPS` runs a storm and writes its summary; it reads nothing. `node` runs one party of a cluster over the lines
 /// of the input, and meets its peers through the door: `node master EPOCH ADDR` is called at the address and keeps its hard state on the disk,
-/// `node agent MACHINE BOOT ADDR` and `node app APP BOOT UNITS ADDR` dial it. What is said of the output holds of an input and an
-/// output that tell their bytes, and of nodes of a door that does, and of a disk that does.
+/// `node agent MACHINE BOOT ADDR` and `node app APP BOOT UNITS ADDR` dial it. `lease` hands out epochs by the lines of the input, and keeps the
+/// last one on the disk. What is said of the output holds of an input and an output that tell their bytes, and of nodes of a door that does, and
+/// of a disk that does.
 #[tactic(auto, using(crate::proofs::States::all_count_once, crate::proofs::States::all_take_by_quota, crate::proofs::States::all_keep_grants))]
 pub fn fuxi<S: Source, O: Sink, E: Sink, D: Disk, N: Door>(
     alloc: Global,
@@ -232,18 +244,33 @@ pub fn fuxi<S: Source, O: Sink, E: Sink, D: Disk, N: Door>(
     ensures node { (kind : NodeKind) (addr : List ℕ) → command_of (map string_bytes words.now) ≡ Some (Node kind addr) → IfSome (S.left input.old) (λ bytes.
         WhereTold (InputEnded kind addr (D.told disk.old) (D.told disk.new) bytes result (S.left input.new) (O.took out.old) (O.took out.new) (N.faults door.old) (N.faults door.new)) (N.told door.old) (N.told door.new)) }
 
-    // only a node meets anybody at the door, and only a master has a file.
+    // only a node meets anybody at the door, and only a master and a lease have a file.
     ensures no_door { is_node (command_of (map string_bytes words.now)) ≡ false → door.new ≡ door.old }
     ensures no_file { has_file (command_of (map string_bytes words.now)) ≡ false → disk.new ≡ disk.old }
     ensures diskless { has_file (command_of (map string_bytes words.now)) ≡ false → IsDiskless result }
 
-    // The disk failed in this call, of a master.
+    // The disk failed in this call, of a master or a lease.
     ensures disk { result ≡ Status.DiskFault → Rose (D.faults disk.old) (D.faults disk.new) }
 
     // Of a master: the fence in its file is at least the epoch, what stands at this offset of the file is no record, or it has 65,536 records.
     ensures stale { (epoch : ℕ) (addr : List ℕ) → command_of (map string_bytes words.now) ≡ Some (Node (Master epoch) addr) → (fence : ℕ) → result ≡ Status.StaleEpoch fence → IfSome (D.told disk.old) (RefusesEpoch epoch (NotRising fence)) }
     ensures damaged { (epoch : ℕ) (addr : List ℕ) → command_of (map string_bytes words.now) ≡ Some (Node (Master epoch) addr) → (offset : ℕ) → result ≡ Status.DamagedCheckpoint offset → IfSome (D.told disk.old) (λ t. records_of t.now.bytes ≡ Err offset) }
     ensures full { (epoch : ℕ) (addr : List ℕ) → command_of (map string_bytes words.now) ≡ Some (Node (Master epoch) addr) → (kept : ℕ) → result ≡ Status.Limit LimitOf.Records kept → (kept ≡ most_records) × IfSome (D.told disk.old) (RefusesEpoch epoch (HardFull most_records)) }
+
+    // Of `lease`. What was read and written, and what a crash leaves of its file at its end, by the status;
+    ensures lease { command_of (map string_bytes words.now) ≡ Some Lease → IfSome (S.left input.old) (λ bytes. LeaseEnded bytes result (S.left input.new) (O.took out.old) (O.took out.new) (D.told disk.old) (D.told disk.new)) }
+
+    // done: the answers to all lines and the last epoch were written, from the fence and the records of the file;
+    ensures lease_text { command_of (map string_bytes words.now) ≡ Some Lease → result ≡ Status.Done → (bytes : List ℕ) (t : Moments) (value : HardState) → S.left input.old ≡ Some bytes → D.told disk.old ≡ Some t
+        → records_of t.now.bytes ≡ Ok value → Appends (O.took out.old) (O.took out.new) (text_of value bytes) }
+
+    // what stands at this offset of the file is no record; no other status tells of the file, and the limit is that on lines.
+    ensures lease_told { command_of (map string_bytes words.now) ≡ Some Lease → TellsLease result (D.told disk.old) }
+
+    // A lease over lines that are all good, with a file without a damaged record, and with no fault of input, output and disk, is done, but for want of memory.
+    ensures lease_complete { command_of (map string_bytes words.now) ≡ Some Lease → (bytes : List ℕ) (t : Moments) (value : HardState) → S.left input.old ≡ Some bytes → D.told disk.old ≡ Some t → records_of t.now.bytes ≡ Ok value
+        → (lease_run_of value bytes).ending ≡ LeaseAtEnd → (Rose (S.faults input.old) (S.faults input.new) → ⊥) → (Rose (O.faults out.old) (O.faults out.new) → ⊥) → (Rose (D.faults disk.old) (D.faults disk.new) → ⊥)
+        → (result ≡ Status.Done) ⊎ (result ≡ Status.OutOfMemory) }
 
     // All of this as one relation, for who calls the command.
     ensures outcome { IsOutcome (map string_bytes words.now) result (input.new ≡ input.old) (out.new ≡ out.old) (disk.new ≡ disk.old) (door.new ≡ door.old)

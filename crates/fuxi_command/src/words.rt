@@ -3,7 +3,7 @@
 ghost use Rattle.std.specs.Prelude.{◌≡◌, ◌≤◌, ◌<◌, length, map, string_bytes, IfSome};
 ghost use Rattle.fuxi_terms.specs.Limits.{most_jobs, most_machines, most_units};
 ghost use Rattle.schedule_unit.specs.Numbers.{number_of};
-ghost use Rattle.fuxi_command.specs.Words.{agent_of, app_of, as_command, command_of, master_of, node_at, storm_of_words, AreWithin};
+ghost use Rattle.fuxi_command.specs.Words.{agent_of, app_of, as_command, command_of, master_of, node_at, one_word, storm_of_words, AreWithin};
 ghost use Rattle.node_command.specs.Inputs.{IsKind};
 
 use fuxi_terms::limits::{MOST_ADDRESS_BYTES, MOST_JOBS, MOST_MACHINES, MOST_UNITS};
@@ -17,6 +17,7 @@ pub enum Command<'a> {
     Replay,
     Storm { seed: u64, steps: u64 },
     Node { kind: NodeKind, addr: &'a [u8] },
+    Lease,
 }
 
 // A storm, where both words are numbers and the steps are not too many.
@@ -116,18 +117,25 @@ fn number(word: &String) -> Option<u64>
     read_number(word.as_str().as_bytes())
 }
 
+// The commands of one word.
+fn one_word<'a>(word: &str) -> Option<Command<'a>>
+    ensures is { as_command result ≡ one_word word.now }
+    ensures within { IfSome result AreWithin }
+{
+    match word {
+        "replay" => Some(Command::Replay),
+        "lease" => Some(Command::Lease),
+        _ => None,
+    }
+}
+
 // The command that words are, where they are one.
 pub(crate) fn command_of(words: &[String]) -> Option<Command>
     ensures is { as_command result ≡ command_of (map string_bytes words.now) }
     ensures within { IfSome result AreWithin }
 {
     match words {
-        [word] => {
-            if word.as_str() == "replay" {
-                return Some(Command::Replay);
-            }
-            None
-        }
+        [word] => one_word(word.as_str()),
         [word, seed, steps] => {
             if word.as_str() == "storm" {
                 return storm_of_words(number(seed), number(steps));

@@ -1,4 +1,4 @@
-//! Worked cases of nodes, over doors, disks, sources and sinks that fail. Each line
+//! Worked cases of nodes and of leases, over doors, disks, sources and sinks that fail. Each line
 //! of the input is a case, and what came of it is printed; an empty line and one that begins with `#` are printed as
 //! they are.
 #![tactic(auto)]
@@ -17,6 +17,7 @@ fn answer<P: Print>(rt: &P, alloc: Global, head: &str, text: &str) -> Result<(),
     let words: Vec<&str> = head.split_whitespace().collect(alloc)?;
     match words.as_slice() {
         ["each", what, rest @ ..] => running::each(rt, alloc, what, rest, text),
+        ["stops", rest @ ..] => running::stops(rt, alloc, rest, text),
         rest => running::once(rt, alloc, rest, text),
     }
 }

@@ -22,15 +22,16 @@ struct Ran {
     faults: u64,
 }
 
-// The input: the text behind the line of the cluster, which `~` before it leaves out; a call of this number fails.
-fn source_of(alloc: Global, text: &str, fail: u64) -> Result<MemSource, Stop> {
+// The input: the text behind the line of the cluster, which `~` before it leaves out, and a lease has none; a call of this number fails.
+fn source_of(alloc: Global, setting: &Setting, text: &str) -> Result<MemSource, Stop> {
     let (cluster, text) = match text.split_once('~') {
         Some(("", text)) => ("", text),
+        _ if setting.is_lease() => ("", text),
         _ => (CLUSTER, text),
     };
     let mut bytes = Vec::from_slice(alloc, cluster.as_bytes())?;
     push_text(&mut bytes, text)?;
-    Ok(MemSource::of(bytes, Vec::from_slice(alloc, &[fail])?))
+    Ok(MemSource::of(bytes, Vec::from_slice(alloc, &[setting.source])?))
 }
 
 // A disk with this file, and of whose calls one fails.
@@ -46,9 +47,13 @@ fn sink_of(alloc: Global, fail: u64) -> Result<MemSink, Stop> {
     Ok(sink)
 }
 
-// The words of the command: `node`, those of the node, and the address.
+// The words of the command: `node`, those of the node, and the address; of a lease its own.
 fn words_of(alloc: Global, setting: &Setting) -> Result<Vec<String>, Stop> {
     let mut words = Vec::new(alloc);
+    if setting.is_lease() {
+        words.push(String::from_str(alloc, setting.node)?)?;
+        return Ok(words);
+    }
     words.push(String::from_str(alloc, "node")?)?;
     for word in setting.node.split(':') {
         words.push(String::from_str(alloc, word)?)?;
@@ -93,7 +98,7 @@ fn run_over<P: Print>(
     (disk, door): (&mut MemDisk, &mut Watched),
 ) -> Result<Status, Stop> {
     let words = words_of(alloc, setting)?;
-    let mut source = source_of(alloc, text, setting.source)?;
+    let mut source = source_of(alloc, setting, text)?;
     let (mut out, mut err) = (sink_of(alloc, setting.sink)?, sink_of(alloc, 0)?);
     let status = fuxi_command::run(
         alloc,
@@ -122,7 +127,7 @@ fn run_with<P: Print>(
     let mut disk = disk_of(alloc, file, setting.disk)?;
     let status = run_over(rt, alloc, setting, text, (&mut disk, &mut door))?;
     tell_door(rt, alloc, &door)?;
-    if setting.node.starts_with("master") {
+    if setting.has_file() {
         print!(rt; " file")?;
         tell_bytes(rt, alloc, disk.bytes())?;
     }
@@ -193,6 +198,47 @@ pub fn each<P: Print>(
         match run(rt, alloc, &now, connections, text)? {
             Some(ran) if has_failed(what, &ran) => {}
             _ => break,
+        }
+    }
+    Ok(())
+}
+
+// Runs a case over a disk that serves so many writes and syncs, and behind it what a crash leaves, with all that was written and with what was
+// synced alone: each is opened by a run without lines.
+fn run_stopped<P: Print>(
+    rt: &P,
+    alloc: Global,
+    setting: &Setting,
+    text: &str,
+    calls: u64,
+) -> Result<Option<Status>, Stop> {
+    let Some(file) = file_of(alloc, setting.file)? else {
+        return Ok(None);
+    };
+    let mut disk = disk_of(alloc, file, 0)?;
+    disk.stop_after(calls);
+    let mut door = Watched::of(alloc, Vec::new(alloc), 0)?;
+    let status = run_over(rt, alloc, setting, text, (&mut disk, &mut door))?;
+    for (word, all) in [(" all ", true), (" synced ", false)] {
+        print!(rt; "{word}")?;
+        let mut image = disk.image(alloc, all)?;
+        image.room(100)?;
+        run_over(rt, alloc, setting, "", (&mut image, &mut door))?;
+    }
+    println!(rt;)?;
+    Ok(Some(status))
+}
+
+/// A case without connections where the disk serves no write and no sync, one, and so on, until it serves all: each in a line, behind the number of
+/// those that it serves, with what is found behind a crash.
+pub fn stops<P: Print>(rt: &P, alloc: Global, words: &[&str], text: &str) -> Result<(), Stop> {
+    let Some((setting, [])) = setting_of(words) else {
+        return Ok(println!(rt; "no such case")?);
+    };
+    for calls in 0..MOST {
+        print!(rt; "{calls} ")?;
+        if run_stopped(rt, alloc, &setting, text, calls)? != Some(Status::DiskFault) {
+            break;
         }
     }
     Ok(())

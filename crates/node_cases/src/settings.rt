@@ -18,6 +18,16 @@ pub struct Setting<'a> {
 }
 
 impl<'a> Setting<'a> {
+    /// Whether it is a lease, which has no cluster and no address.
+    pub fn is_lease(&self) -> bool {
+        self.node == "lease"
+    }
+
+    /// Whether it has a file.
+    pub fn has_file(&self) -> bool {
+        self.is_lease() || self.node.starts_with("master")
+    }
+
     /// Has the call of this number fail, of the sink, the source, the disk, or else the door.
     pub fn fail(&mut self, what: &str, call: u64) {
         match what {
@@ -34,6 +44,7 @@ fn node_of(word: &str) -> Option<&str> {
     match word {
         "agent" => Some("agent:0:1"),
         "app" => Some("app:0:1:2"),
+        "lease" => Some("lease"),
         word if word.starts_with("agent:") => Some(word),
         word if word.starts_with("app:") => Some(word),
         word if word.starts_with("master:") => Some(word),

@@ -5,3 +5,6 @@ returns-in-Ok-clause-outcome g c = rw c.in-Ok.is (rw c.deref.ensures.value at c.
 
 pub returns-in-Ok-clause-text : goal.returns-in-Ok-clause-text
 returns-in-Ok-clause-text g c = rw c.in-Ok.is (rw c.deref.ensures.value at c.fuxi.ensures.text)
+
+pub returns-in-Ok-clause-lease_text : goal.returns-in-Ok-clause-lease_text
+returns-in-Ok-clause-lease_text g c = rw c.in-Ok.is (rw c.deref.ensures.value at c.fuxi.ensures.lease_text)

@@ -4,6 +4,7 @@ use Rattle.node_command.specs.declared.kind.NodeKind.TheVariants.{Master}
 use Rattle.storm_run.specs.Runs.{StormEnded}
 use Rattle.storm_run.specs.Summaries.{storm_of}
 use Rattle.fuxi_command.proofs.States.{each_judges}
+use Rattle.fuxi_command.proofs.Leasing.{lease_done}
 use Rattle.fuxi_command.proofs.Storming.{ends_well}
 use Rattle.fuxi_command.proofs.top.fuxi.Goals as goal
 
@@ -49,7 +50,15 @@ returns-clause-outcome g c = let r = c.run_command-status.ensures in record {
   diskless = r.diskless;
   disk = r.disk;
   told = r.told;
+  lease = r.lease;
+  lease_told = r.lease_told;
+  lease_complete = r.lease_complete;
 }
+
+pub returns-clause-lease_text : goal.returns-clause-lease_text
+returns-clause-lease_text g c is done bytes t value known told reads =
+    lease_done value bytes t (g.S.Source.left c.args.input.now) (g.S.Source.left c.run_command-status.new.input) (g.O.Sink.took c.args.out.now) (g.O.Sink.took c.run_command-status.new.out) (g.D.Disk.told c.args.disk.now) (g.D.Disk.told c.run_command-status.new.disk)
+    c.run_command-status.result done known told reads (c.run_command-status.ensures.lease is)
 
 pub returns-clause-judges : goal.returns-clause-judges
 returns-clause-judges g c = each_judges (g.S.Source.left c.args.input.now) c.every_judgement_bans_what_is_judged.ensures c.inputs_are_given.ensures

@@ -1,0 +1,5 @@
+use Rattle.epoch_lease.proofs.Resting.{rest_endures}
+use Rattle.epoch_lease.proofs.laws.leases_at_rest_endure.Goals as goal
+
+pub returns : goal.returns
+returns c = rest_endures

@@ -1,0 +1,4 @@
+pub mod Leases
+pub mod Histories
+pub mod Files
+pub mod Reading

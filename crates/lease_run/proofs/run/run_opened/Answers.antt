@@ -1,0 +1,21 @@
+use Rattle.std.proofs.Common.{ap, Err, sym, ◌∙◌}
+use Rattle.lease_run.proofs.Ending.{at_once, damaged_by, ran, shut, stays_shut}
+use Rattle.lease_run.proofs.Leaving.{opened}
+use Rattle.lease_run.proofs.run.run_opened.Goals as goal
+
+pub returns-in-Err-clause-ended : goal.returns-in-Err-clause-ended
+returns-in-Err-clause-ended g c = at_once (g.S.Source.left c.args.source.now) (g.O.Sink.took c.args.out.now) (g.D.Disk.told c.args.disk.now)
+
+pub returns-in-Err-open-clause-ended : goal.returns-in-Err-open-clause-ended
+returns-in-Err-open-clause-ended g c =
+    rw c.fault_status.ensures (shut _ (g.S.Source.left c.args.source.now) (g.O.Sink.took c.args.out.now) (g.D.Disk.told c.args.disk.now) (g.D.Disk.told c.open.new.disk)
+    (stays_shut c.in-Err-open.fault (g.D.Disk.told c.args.disk.now) (g.D.Disk.told c.open.new.disk) (λ offset is. c.in-Err-open.ensures.damaged offset (ap (λ f. Err f) is)) (λ offset is. c.in-Err-open.ensures.untouched offset (ap (λ f. Err f) is))) c.in-Err-open.ensures.told)
+
+pub returns-clause-ended : goal.returns-clause-ended
+returns-clause-ended g c =
+    ran c.in-Ok-open.lease c.run_lines.result (g.S.Source.left c.args.source.now) (g.S.Source.left c.run_lines.new.source) (g.O.Sink.took c.args.out.now) (g.O.Sink.took c.run_lines.new.out) (g.D.Disk.told c.args.disk.now) (g.D.Disk.told c.open.new.disk) (g.D.Disk.told c.run_lines.new.disk)
+    c.in-Ok-open.ensures.free c.in-Ok-open.ensures.opened (c.run_lines.ensures.ended (g.D.Disk.told c.args.disk.now) (opened c.in-Ok-open.lease (g.D.Disk.told c.args.disk.now) (g.D.Disk.told c.open.new.disk) c.in-Ok-open.ensures.opened))
+
+pub returns-in-Err-open-clause-damaged : goal.returns-in-Err-open-clause-damaged
+returns-in-Err-open-clause-damaged g c offset is =
+    damaged_by c.in-Err-open.fault offset (g.D.Disk.told c.args.disk.now) (g.D.Disk.told c.open.new.disk) (λ o h. c.in-Err-open.ensures.damaged o (ap (λ f. Err f) h)) (sym c.fault_status.ensures ∙ is)
