@@ -75,7 +75,7 @@ def of_quantities(value, key, path, resources):
 
 
 def places(text):
-    """Where each value of a JSON line begins, by its path."""
+    """Where each value of a JSON line begins, by its path; one that has a key, where the key does."""
     found, path, is_key = {}, [], False
     for token in TOKEN.finditer(text):
         word, at = token[1], token.start(1)

@@ -6,32 +6,55 @@ import socket
 HELP = "submit JOB GROUP P Q .. · finish JOB · ban M · unban M · preempt · begin · want|near|rack|avoid|back JOB .. · kill master|agent M|app JOB · show · end"
 
 
-class Control:
-    """The socket `control` of a folder."""
+class Listener:
+    """The socket `control` of a folder: each that comes has one line, which `answer` answers by lines."""
 
-    def __init__(self, living, folder):
-        self.living, self.path, self.is_ended = living, os.path.join(folder, "control"), False
+    def __init__(self, folder, answer):
+        self.path, self.answer = os.path.join(folder, "control"), answer
         if os.path.exists(self.path):
             os.remove(self.path)
-        self.listener = socket.socket(socket.AF_UNIX, socket.SOCK_STREAM)
-        self.listener.bind(self.path)
-        self.listener.listen()
-        self.listener.setblocking(False)
+        self.socket = socket.socket(socket.AF_UNIX, socket.SOCK_STREAM)
+        self.socket.bind(self.path)
+        self.socket.listen()
+        self.socket.setblocking(False)
 
     def serve(self):
         """Answers who has come."""
         while True:
             try:
-                side, _ = self.listener.accept()
+                side, _ = self.socket.accept()
             except BlockingIOError:
                 return
             with side:
                 side.settimeout(1)
-                try:
-                    line = side.makefile().readline().strip()
-                    side.sendall("".join(f"{it}\n" for it in self.answer(line)).encode())
-                except (OSError, ValueError, IndexError, KeyError) as why:
-                    side.sendall(f"no such command here ({why!r}); there are: {HELP}\n".encode())
+                self.serve_one(side)
+
+    def serve_one(self, side):
+        try:
+            line = side.makefile().readline().strip()
+            side.sendall("".join(f"{it}\n" for it in self.answer(line)).encode())
+        except (ValueError, IndexError, KeyError, TypeError):
+            side.sendall(f"no such command here; there are: {HELP}\n".encode())
+        except OSError:
+            pass
+
+    def close(self):
+        self.socket.close()
+        if os.path.exists(self.path):
+            os.remove(self.path)
+
+
+class Control:
+    """Commands to a living cluster."""
+
+    def __init__(self, living, folder):
+        self.living, self.listener, self.is_ended = living, Listener(folder, self.answer), False
+
+    def serve(self):
+        self.listener.serve()
+
+    def close(self):
+        self.listener.close()
 
     def answer(self, line):
         living, words = self.living, line.split()
@@ -58,11 +81,6 @@ class Control:
         else:
             self.living.restart({"agent": self.living.agents, "app": self.living.apps}[kind][int(number)])
         return ["killed, and started again"]
-
-    def close(self):
-        self.listener.close()
-        if os.path.exists(self.path):
-            os.remove(self.path)
 
 
 def tell(folder, line):

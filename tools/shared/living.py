@@ -144,7 +144,7 @@ class Living:
             party.node.tell("round")
             line = party.node.next_line()
             # (a master that does not listen yet, or that is gone, has not served this round, and waits for the next)
-            if line != "round fault" or self.master.has_line():
+            if line != "round fault" or self.master.has_line_within(0):
                 self.master.next_line()
                 self.pending = 0
         except Difference:

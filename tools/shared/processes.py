@@ -69,9 +69,9 @@ class Node:
         self.note(f"prints {line.decode()}")
         return line.decode()
 
-    def has_line(self):
-        """Whether it has printed something that was not read."""
-        return bool(self.unread or select.select([self.process.stdout], [], [], 0)[0])
+    def has_line_within(self, seconds):
+        """Whether it prints something that was not read, and so long at most it takes to know."""
+        return bool(self.unread or select.select([self.process.stdout], [], [], seconds)[0])
 
     def next_line(self):
         """The next line that it prints: it has to print one."""
