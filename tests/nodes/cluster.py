@@ -1,44 +1,16 @@
 """The processes of a cluster, and the file of its masters."""
 
 import copy
-import json
 import os
 from collections import Counter
 
-from nodes.frames import AGENT, APP
 from nodes.hard_file import HardFile
-from nodes.process import Difference, Node, new_journal
-from nodes.wire import Wire, text_of
+from nodes.wire import Wire
+from shared.parties import Party, text_of
+from shared.processes import Difference, Node, new_journal
 
 # So many applications of jobs that have ended stay, and so many earlier boots, since these are heard too.
 MOST_ENDED, MOST_EARLIER = 2, 2
-
-
-class Shape:
-    """What the cluster line says. A machine is its rack and its quantities, a group its quota and its limit."""
-
-    def __init__(self, machines, groups):
-        self.resources, self.machines, self.groups = len(machines[0][1]), machines, groups
-
-    def line(self):
-        machines = [{"rack": rack, "has": has} for rack, has in self.machines]
-        groups = [{"quota": quota, "limit": limit} for quota, limit in self.groups]
-        return json.dumps({"resources": self.resources, "machines": machines, "groups": groups})
-
-
-class Party:
-    """An agent or an application, which is a process in each of its boots, and what an application asks for in this one."""
-
-    def __init__(self, kind, number, *units):
-        self.kind, self.number, self.units, self.boot, self.node = kind, number, units, 0, None
-        self.wants, self.avoided = {}, set()
-
-    def words(self):
-        return [self.kind, self.number, self.boot, *self.units]
-
-    def identity(self):
-        """Its role and its number in frames."""
-        return {"agent": AGENT, "app": APP}[self.kind], self.number
 
 
 class Cluster:

@@ -4,10 +4,10 @@ import statistics
 import tempfile
 import time
 
-from nodes.cluster import Party, Shape
 from nodes.frames import ACK, AGENT, MASTER, bare_frame
-from nodes.process import Difference, Node, new_journal
-from nodes.wire import dial, free_address, receive, text_of
+from shared.processes import Difference, Node, new_journal
+from nodes.wire import dial, free_address, receive
+from shared.parties import Party, Shape, text_of
 
 IDLE_ROUNDS = 2000
 JOBS, UNITS = 256, 8

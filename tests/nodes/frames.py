@@ -2,7 +2,7 @@
 
 import struct
 
-from nodes.process import Difference
+from shared.processes import Difference
 
 # Roles and kinds, and the length of a frame without a body.
 MASTER, AGENT, APP = 1, 2, 3

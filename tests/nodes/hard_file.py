@@ -5,7 +5,7 @@ import time
 
 import checkpoint
 
-from nodes.process import Difference
+from shared.processes import Difference
 
 GREATEST_QUANTITY = 10**12
 GREATEST_PRIORITY = 9

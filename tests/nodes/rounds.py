@@ -4,7 +4,7 @@ import re
 import time
 
 from nodes.frames import ACK, AGENT, APP, BARE_LENGTH, END, MASTER, bare_frame, has_end, packets, sender, whole_frames
-from nodes.process import Difference
+from shared.processes import Difference
 
 # Where chance decides how far a master has come, it is killed after this many seconds at most.
 LONGEST_DELAY = 0.006

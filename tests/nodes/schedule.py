@@ -4,9 +4,9 @@ import random
 import time
 
 from nodes.lines import Lines
-from nodes.process import NOT_HERE, Difference
+from shared.processes import NOT_HERE, Difference
 from nodes.rounds import LONGEST_DELAY, Rounds
-from nodes.tables import Tables
+from shared.tables import Tables
 
 # A cluster that is left alone has nothing to tell any more after so many rounds of each party.
 MOST_PASSES = 20

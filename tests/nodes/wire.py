@@ -5,7 +5,8 @@ import struct
 import time
 
 from nodes.frames import has_end
-from nodes.process import PATIENCE, Difference
+from shared.parties import text_of
+from shared.processes import PATIENCE, Difference
 
 # Peers dial at the first address, and masters listen at the second: no connection that goes out has a port of the second one, so the port of a
 # master that is down stays free.
@@ -16,10 +17,6 @@ def free_address():
     """An address for masters at which nobody listens."""
     with socket.create_server((MASTERS, 0)) as listener:
         return listener.getsockname()
-
-
-def text_of(address):
-    return "%s:%d" % address
 
 
 def dial(address):

@@ -22,14 +22,16 @@ def new_journal():
 
 
 class Node:
-    """A node as a process. Whatever is waited for has a time limit: a node that hangs is a difference, and no script that hangs."""
+    """A node as a process of the program, or of these words that run it. Whatever is waited for has a time limit: a node that hangs is a difference, and no script that hangs."""
 
     def __init__(self, program, folder, words, cluster_line, journal):
         self.name, self.journal, self.events, self.unread = " ".join(map(str, words)), journal, 0, b""
         # (refused by each node of this kind: once that is printed, all that was told before is done)
         self.aside = "round" if words[0] == "master" else "serve"
-        pipes = {"stdin": subprocess.PIPE, "stdout": subprocess.PIPE, "stderr": subprocess.PIPE, "bufsize": 0}
-        self.process = subprocess.Popen([program, "node", *map(str, words)], cwd=folder, **pipes)
+        # (a session of its own: Ctrl-C at a terminal is for whoever drives it)
+        pipes = {"stdin": subprocess.PIPE, "stdout": subprocess.PIPE, "stderr": subprocess.PIPE, "bufsize": 0, "start_new_session": True}
+        front = [program] if isinstance(program, str) else list(program)
+        self.process = subprocess.Popen([*front, "node", *map(str, words)], cwd=folder, **pipes)
         self.note("starts")
         self.write([cluster_line])
 
@@ -66,6 +68,10 @@ class Node:
         line, _, self.unread = self.unread.partition(b"\n")
         self.note(f"prints {line.decode()}")
         return line.decode()
+
+    def has_line_within(self, seconds):
+        """Whether it prints something that was not read, and so long at most it takes to know."""
+        return bool(self.unread or select.select([self.process.stdout], [], [], seconds)[0])
 
     def next_line(self):
         """The next line that it prints: it has to print one."""

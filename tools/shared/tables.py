@@ -1,6 +1,6 @@
 """What the parties print of their grants, and in what all of it has to agree where nothing is left to tell."""
 
-from nodes.process import Difference
+from shared.processes import Difference
 
 
 def table(lines, word, first):

@@ -1,0 +1,151 @@
+"""Where the epochs of masters are from. Each is greater than all before it; who has the latest is the master."""
+
+import base64
+import json
+import select
+import subprocess
+import time
+import urllib.error
+import urllib.request
+
+from shared.processes import Difference
+
+
+# An answer of `fuxi lease` comes at once.
+LEASE_SECONDS = 10.0
+
+
+class CountedEpochs:
+    """One more than the last. That is enough where one tool starts all masters."""
+
+    name = "counted"
+
+    def __init__(self):
+        self.last = 0
+
+    def acquire(self, _holder):
+        self.last += 1
+        return self.last
+
+    def renew(self, _epoch):
+        return True
+
+    def expire(self, _epoch):
+        """The holder is known to be gone."""
+
+    def passed(self, fence):
+        """A file has a greater fence than was known."""
+        self.last = max(self.last, fence)
+
+    def close(self):
+        pass
+
+
+class LeaseEpochs:
+    """From `fuxi lease`, which keeps them in its file. There are no clocks in it: this tool says when a lease has run out."""
+
+    name = "fuxi lease"
+
+    def __init__(self, program, folder):
+        pipes = {"stdin": subprocess.PIPE, "stdout": subprocess.PIPE, "stderr": subprocess.DEVNULL, "text": True, "bufsize": 1, "start_new_session": True}
+        self.process, self.holder = subprocess.Popen([program, "lease"], cwd=folder, **pipes), 0
+
+    def ask(self, line):
+        try:
+            self.process.stdin.write(f"{line}\n")
+            self.process.stdin.flush()
+        except BrokenPipeError:
+            raise Difference("`fuxi lease` has ended by itself") from None
+        if not select.select([self.process.stdout], [], [], LEASE_SECONDS)[0]:
+            raise Difference(f"`fuxi lease` does not answer {line!r}")
+        return self.process.stdout.readline().split()
+
+    def acquire(self, holder):
+        """The epoch, or None where somebody holds the lease."""
+        self.holder = holder
+        answer = self.ask(f"acquire {holder}")
+        if answer[:1] == ["refused"]:
+            raise Difference(f"`fuxi lease` refuses: {' '.join(answer)}")
+        return int(answer[1]) if answer[0] == "granted" else None
+
+    def renew(self, epoch):
+        return self.ask(f"renew {self.holder} {epoch}")[:1] == ["renewed"]
+
+    def expire(self, _epoch):
+        self.ask("expire")
+
+    def passed(self, fence):
+        """Epochs up to the fence are taken and let go, one after the other: the file of the masters is older than that of the lease."""
+        while self.holder is not None:
+            epoch = self.acquire(0)
+            self.expire(epoch)
+            if epoch >= fence:
+                return
+
+    def close(self):
+        self.process.kill()
+        self.process.wait(5)
+
+
+def has_lease(program):
+    """Whether this program hands out epochs: one that does not prints how it is used."""
+    usage = subprocess.run([program], stdin=subprocess.DEVNULL, capture_output=True, text=True).stderr
+    return "lease" in usage
+
+
+class EtcdEpochs:
+    """From an etcd, over its JSON gateway: who makes the key holds it for as long as its lease lives, and the revision at which it did is the
+    epoch. Revisions rise over the life of the etcd."""
+
+    name, key, seconds = "etcd", "/fuxi/master", 2
+
+    def __init__(self, endpoint):
+        self.endpoint, self.lease = endpoint, None
+
+    def call(self, path, **body):
+        request = urllib.request.Request(f"{self.endpoint}/v3/{path}", json.dumps(body).encode())
+        try:
+            with urllib.request.urlopen(request, timeout=2) as answer:
+                return json.load(answer)
+        except (urllib.error.URLError, OSError, ValueError) as why:
+            raise Difference(f"no answer of etcd at {self.endpoint}: {why}") from None
+
+    def coded(self, text):
+        return base64.b64encode(text.encode()).decode()
+
+    def acquire(self, holder):
+        """The epoch, or None where somebody holds the key."""
+        lease = self.call("lease/grant", TTL=str(self.seconds))["ID"]
+        is_free = {"key": self.coded(self.key), "target": "CREATE", "create_revision": "0"}
+        put = {"request_put": {"key": self.coded(self.key), "value": self.coded(str(holder)), "lease": lease}}
+        answer = self.call("kv/txn", compare=[is_free], success=[put])
+        if not answer.get("succeeded"):
+            self.call("lease/revoke", ID=lease)
+            return None
+        self.lease = lease
+        return int(answer["header"]["revision"])
+
+    def renew(self, _epoch):
+        """Whether the lease still lives, for some seconds more."""
+        return int(self.call("lease/keepalive", ID=self.lease)["result"].get("TTL", 0)) > 0
+
+    def expire(self, _epoch):
+        """Nothing: a lease of who is gone runs out by itself, and nobody takes the key before."""
+
+    def passed(self, fence):
+        raise Difference(f"the file of the masters has the fence {fence}, which this etcd has not reached: it belongs to another etcd")
+
+    def close(self):
+        if self.lease:
+            self.call("lease/revoke", ID=self.lease)
+
+
+def wait_for_etcd(endpoint, seconds=20):
+    limit = time.monotonic() + seconds
+    while True:
+        try:
+            return EtcdEpochs(endpoint).call("maintenance/status")
+        except Difference:
+            if time.monotonic() > limit:
+                raise
+            time.sleep(0.1)

@@ -1,0 +1,228 @@
+"""A cluster of node processes with timers around them: rounds in turn, a standby that goes on when the master ends, restarts. It invents no
+protocol: it tells proved parties their lines at the right times."""
+
+import re
+import time
+
+from shared.parties import Party
+from shared.processes import Difference, Node, new_journal
+from shared.tables import table
+
+ROUND_DONE = "round done "
+# A cluster that is left alone has nothing to tell any more after so many rounds of each party.
+MOST_PASSES = 40
+# A node reads 1,000,000 lines at most.
+HANDOVER_BEFORE = 900_000
+
+
+def present_boot():
+    """Boots rise with the time: whoever starts a party again needs to know no earlier boot."""
+    return time.time_ns() // 1_000_000
+
+
+class Failover:
+    """When the master before ended, when the next one started, and when it served."""
+
+    def __init__(self, epoch, ended):
+        self.epoch, self.ended, self.started, self.served = epoch, ended, None, None
+
+    def seconds(self):
+        return self.served - self.ended if self.served else None
+
+
+class Living:
+    """One master after the other, an agent on each machine, an application for each job."""
+
+    def __init__(self, program, folder, jobs, epochs, sites, most_lines=HANDOVER_BEFORE):
+        self.program, self.folder, self.jobs, self.shape, self.epochs, self.sites = program, folder, jobs, jobs.shape, epochs, sites
+        self.most_lines, self.journal, self.apps, self.started = most_lines, new_journal(), {}, []
+        self.epoch = self.site = self.rounds = self.faults = self.handovers = self.restarts = 0
+        self.master, self.is_serving, self.failovers, self.pending = None, False, [], 0
+        self.agents = [Party("agent", number) for number in range(len(self.shape.machines))]
+
+    def start(self):
+        """Starts all parties, and hands the jobs to the first master. Jobs that its file has already are refused, which is as it should be."""
+        for agent in self.agents:
+            self.start_party(agent)
+        self.start_master()
+        for job in self.jobs.submitted:
+            self.submit(job)
+
+    def node(self, words, program):
+        self.started = [it for it in self.started if it.is_running()]
+        self.started.append(Node(program, self.folder, [*words, self.sites.address], self.shape.line(), self.journal))
+        return self.started[-1]
+
+    def start_party(self, party):
+        """Starts an agent or an application, with the time as its boot."""
+        party.boot = max(party.boot + 1, present_boot())
+        party.wants, party.avoided = {}, set()
+        party.node = self.node(party.words(), self.program)
+        if party.kind == "app":
+            for line in self.jobs.demands[party.number]:
+                self.demand(party, line)
+
+    def restart(self, party):
+        party.node.kill()
+        self.restarts += 1
+        self.start_party(party)
+
+    def submit(self, job):
+        refused = self.master.ask(f"submit {self.epoch} {self.jobs.submitted[job]}")
+        if job not in self.apps and (not refused or refused == ["refused Known"]):
+            self.apps[job] = Party("app", job, self.jobs.units(job))
+            self.start_party(self.apps[job])
+        return refused
+
+    def demand(self, app, line):
+        """Tells an application a line of its own, and keeps what it asks for with it."""
+        printed, words = app.node.ask(line), line.split()
+        if not printed and words[0] == "want":
+            app.wants[int(words[2])] = int(words[3])
+        if not printed and words[0] == "avoid":
+            (app.avoided.add if words[4] == "1" else app.avoided.discard)((int(words[2]), int(words[3])))
+        return printed
+
+    # One master after the other.
+
+    def start_master(self):
+        """Starts a master with the next epoch, as soon as there is one."""
+        while (epoch := self.epochs.acquire(self.site)) is None:
+            time.sleep(0.02)
+        self.sites.move(self.site)
+        self.epoch, self.is_serving, self.pending = epoch, False, 0
+        self.master = self.node(["master", epoch], self.sites.words(self.program, self.site))
+        try:
+            self.master.show()
+        except Difference as why:
+            # (its epoch is not above the fence of a file that is there from before: a greater one is tried)
+            stale = re.search(r"stale epoch (\d+)", str(why))
+            if not stale:
+                raise
+            self.epochs.expire(self.epoch)
+            self.epochs.passed(int(stale[1]))
+            self.start_master()
+
+    def fail_over(self, ended):
+        """The standby goes on: the next epoch, at the next site, over the file that all share."""
+        failover = Failover(self.epoch, ended)
+        self.failovers.append(failover)
+        self.epochs.expire(self.epoch)
+        self.site = (self.site + 1) % self.sites.count
+        self.start_master()
+        failover.started = time.monotonic()
+
+    def kill_master(self):
+        """Kills the master in the middle of a round."""
+        party = self.agents[self.rounds % len(self.agents)]
+        if not self.pending:
+            self.master.tell("serve")
+        party.node.tell("round")
+        ended = time.monotonic()
+        self.master.kill()
+        party.node.next_line()
+        self.fail_over(ended)
+
+    def hand_over(self):
+        """A master that has read nearly as many lines as a node may ends, and the next one goes on."""
+        ended = time.monotonic()
+        self.master.kill()
+        self.handovers += 1
+        self.fail_over(ended)
+
+    # Rounds.
+
+    def parties(self):
+        return [*self.agents, *self.apps.values()]
+
+    def round(self, party):
+        """One round: the line that the party printed."""
+        try:
+            if not self.pending:
+                self.master.tell("serve")
+                self.pending = 1
+            party.node.tell("round")
+            line = party.node.next_line()
+            # (a master that does not listen yet, or that is gone, has not served this round, and waits for the next)
+            if line != "round fault" or self.master.has_line_within(0):
+                self.master.next_line()
+                self.pending = 0
+        except Difference:
+            if party.node.is_running() and self.master.is_running():
+                raise
+            return self.mend(party)
+        self.rounds += 1
+        self.faults += not line.startswith(ROUND_DONE)
+        if line == "round fault" and not self.master.is_running():
+            return self.mend(party)
+        return line
+
+    def mend(self, party):
+        """Something has ended by itself: it is started again."""
+        if not self.master.is_running():
+            self.master.kill()
+            self.fail_over(time.monotonic())
+        if not party.node.is_running():
+            self.restart(party)
+        return "round fault"
+
+    def tick(self):
+        """A round of each party. Whoever nears the limit on lines is started again before."""
+        for party in self.parties():
+            self.round(party)
+            if party.node.events > self.most_lines:
+                self.restart(party)
+        if self.master.events > self.most_lines:
+            self.hand_over()
+        if not self.is_serving:
+            self.look_for_service()
+
+    def look_for_service(self):
+        if f"master {self.epoch} serving" in self.ask_master("show"):
+            self.is_serving = True
+            if self.failovers and not self.failovers[-1].served:
+                self.failovers[-1].served = time.monotonic()
+
+    def ask_master(self, line):
+        """What the master prints to a line. One that waits for a peer gets one first."""
+        self.free_master()
+        return self.master.ask(line)
+
+    def free_master(self):
+        """A master that waits for a peer gets one. (At its first `serve` it may not listen yet when the peer dials.)"""
+        while self.pending:
+            if self.round(self.agents[0]) == "round fault":
+                time.sleep(0.002)
+
+    def settle(self):
+        """Rounds of all, until only acknowledgements go over the wire: whether that came."""
+        for _ in range(MOST_PASSES):
+            self.look_for_service()
+            if {self.round(party) for party in self.parties()} == {f"{ROUND_DONE}1 1"}:
+                self.look_for_service()
+                return True
+        return False
+
+    def agrees(self):
+        """Whether what the master grants is what the agents enforce, and what the applications hold."""
+        granted = table(self.ask_master("show"), "grant", 1)
+        rows = table([line for agent in self.agents for line in agent.node.show()], "row", 0)
+        holds = table([line for app in self.apps.values() for line in app.node.show()], "hold", 0)
+        return granted == {(job, unit, machine): count for (machine, job, unit), count in rows.items()} == holds
+
+    def end(self):
+        """Ends all by the end of their input, and stops at the first that has something else to say."""
+        self.free_master()
+        for node in [*(party.node for party in self.parties()), self.master]:
+            node.end_quietly()
+
+    def close(self):
+        """Leaves nothing behind, however the run ended."""
+        for node in self.started:
+            if node.is_running():
+                node.kill()
+        for it in (self.epochs, self.sites):
+            try:
+                it.close()
+            except (Difference, OSError):
+                pass

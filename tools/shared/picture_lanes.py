@@ -1,0 +1,121 @@
+"""The upper part of a picture: a line for each party, and the packets as arrows between them."""
+
+from shared.picture_style import LABELLED_COLUMN
+
+LANE, MOST_LANES = 24.0, 40
+# Past so many arrows, those of acknowledgements are left out.
+MOST_ARROWS = 700
+
+
+class Lanes:
+    def __init__(self, picture):
+        self.picture, self.drawing, self.places = picture, picture.drawing, {}
+
+    def parties(self):
+        """All that ever ran: masters, agents, applications."""
+        masters = sorted({epoch for state in self.picture.states for epoch in state.masters})
+        agents = sorted({machine for state in self.picture.states for machine in state.agents})
+        apps = sorted({job for state in self.picture.states for job in state.apps})
+        return [*(("master", it) for it in masters), *(("agent", it) for it in agents), *(("app", it) for it in apps)]
+
+    def draw(self):
+        parties = self.parties()
+        if len(parties) > MOST_LANES:
+            self.picture.left_out.append(f"the lines of {len(parties) - MOST_LANES} parties, with their packets")
+        top = self.picture.y
+        for party in parties[:MOST_LANES]:
+            self.picture.y += LANE
+            self.places[party] = self.picture.y
+            self.draw_lane(*party)
+        self.draw_columns(top)
+        self.draw_packets()
+        self.picture.y += 14
+
+    def draw_columns(self, top):
+        if self.picture.width >= LABELLED_COLUMN:
+            for column in range(len(self.picture.events)):
+                x = self.picture.x(column)
+                self.drawing.line(x, top + 8, x, self.picture.y + 6, "column")
+
+    def draw_lane(self, role, number):
+        y, names = self.picture.y, {"master": "master {}", "agent": "agent of machine {}", "app": "application {}"}
+        self.drawing.text(12, y + 4, names[role].format(number), "name")
+        self.drawing.line(self.picture.x(0, 0), y, self.picture.right(), y, "lane")
+        if role == "master":
+            self.draw_master(number, y)
+        else:
+            self.draw_boots(role, number, y)
+
+    def draw_master(self, epoch, y):
+        for first, behind, phase in self.picture.runs_of(lambda state: state.masters[epoch].phase if epoch in state.masters else None):
+            if phase:
+                self.drawing.rect(self.picture.x(first, 0.5), y - 4, (behind - first - 0.5) * self.picture.width, 8, phase)
+                if (behind - first) * self.picture.width > 70:
+                    self.drawing.text(self.picture.x(first, 0.5) + 3, y - 6, phase, "small")
+
+    def draw_boots(self, role, number, y):
+        """A line while it runs, with a circle at each start; and red while its machine is banned."""
+        if role == "agent":
+            for first, behind, is_banned in self.picture.runs_of(lambda state: number in state.bans):
+                if is_banned:
+                    self.drawing.rect(self.picture.x(first, 0), y - 9, (behind - first) * self.picture.width, 18, "banned")
+        running = {"agent": lambda state: state.agents, "app": lambda state: state.apps}[role]
+        for first, behind, boot in self.picture.runs_of(lambda state: running(state)[number].boot if number in running(state) else None):
+            if boot:
+                self.drawing.line(self.picture.x(first), y, self.picture.x(behind, 0), y, "runs")
+                self.drawing.add("circle", cx=self.picture.x(first), cy=float(y), r=3.2, kind="start")
+                if boot > 1:
+                    self.drawing.text(self.picture.x(first) + 4, y - 5, f"boot {boot}", "small")
+
+    def at(self, event, place, of):
+        """Where in the column of an event one of its packets stands; nothing where the event is not drawn."""
+        column = self.picture.columns.get(event)
+        return None if column is None else self.picture.x(column, 0.2 + 0.6 * (place + 0.5) / max(1, of))
+
+    def draw_packets(self):
+        packets = [it for it in self.picture.packets if it.sender in self.places and it.receiver in self.places or it.receiver[0] == "master"]
+        count = sum(len(it.heard) for it in packets)
+        leaves_acks, skipped, outside = count > MOST_ARROWS, 0, 0
+        for packet in packets:
+            for heard in packet.heard:
+                if leaves_acks and heard.word == "ack":
+                    skipped += 1
+                else:
+                    outside += not self.draw_arrow(packet, heard)
+            if not packet.heard:
+                if leaves_acks and packet.kind == "ack":
+                    skipped += 1
+                else:
+                    outside += not self.draw_undelivered(packet)
+        if skipped:
+            self.picture.left_out.append(f"the arrows of {skipped} acknowledgements")
+        if outside:
+            self.picture.left_out.append(f"{outside} packets that were sent or heard outside of what is drawn")
+
+    def draw_arrow(self, packet, heard):
+        start, end = self.at(packet.event, packet.place, packet.of), self.at(heard.event, heard.place, heard.of)
+        if start is None or end is None or packet.sender not in self.places or packet.receiver not in self.places:
+            return False
+        y, to = self.places[packet.sender], self.places[packet.receiver]
+        title = f"packet {packet.number}: {packet.kind} {packet.index}, {packet.size} bytes, heard: {' '.join(heard.words)}"
+        self.drawing.path([(start, y), (end, to)], f"heard {heard.word}", title, marker_end=f"url(#{heard.word})")
+        if heard.words[0] == "new":
+            self.drawing.add("circle", cx=end, cy=to, r=2.6, kind=f"fresh {heard.word}")
+        if heard.word == "lost":
+            self.cross(end, to, "cross lost")
+        return True
+
+    def draw_undelivered(self, packet):
+        """A short dashed line that ends in a cross."""
+        start = self.at(packet.event, packet.place, packet.of)
+        if start is None or packet.sender not in self.places:
+            return False
+        y = self.places[packet.sender]
+        away = 1 if self.places.get(packet.receiver, y + 1) > y else -1
+        end = (start + 3, y + 11 * away)
+        self.drawing.path([(start, y), end], "never", f"packet {packet.number}: {packet.kind} {packet.index}, {packet.size} bytes, not delivered", stroke_dasharray="2 2")
+        self.cross(*end, "cross never")
+        return True
+
+    def cross(self, x, y, kind):
+        self.drawing.add("path", d=f"M{x - 2.5:.1f} {y - 2.5:.1f} l5 5 m0 -5 l-5 5", kind=kind)

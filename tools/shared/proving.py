@@ -1,0 +1,198 @@
+"""Proves one crate after the other by the toolchain's public commands, each in a room of its own, as many side by side as there are processors.
+
+A room is a repository of the crate and those below it, with their libraries. `rt` locks the crates below the one that it works on, so two runs
+in one repository would wait for each other."""
+
+import os
+import shutil
+import signal
+import subprocess
+import threading
+import time
+from concurrent.futures import FIRST_COMPLETED, ThreadPoolExecutor, wait
+
+from shared import kept
+from shared.crates import PARTS, TOP, below, direct, listed, own_sum, program_of, sources, sum_file, sum_of
+
+# So much memory a run may take, by a rule of thumb.
+BYTES_FOR_A_RUN = 3 << 30
+# Seconds for a crate, for each line of its code, and for each visit of a crate by the toolchain, which goes along each path of the graph.
+BASE_SECONDS, LINE_SECONDS, VISIT_SECONDS = 20.0, 0.12, 0.001
+
+
+class NotProved(Exception):
+    """A crate was not proved: its name, and what the toolchain said last."""
+
+
+def workers():
+    """How many runs have a processor and memory."""
+    memory = os.sysconf("SC_PAGE_SIZE") * os.sysconf("SC_PHYS_PAGES")
+    return max(1, min(len(os.sched_getaffinity(0)), memory // BYTES_FOR_A_RUN))
+
+
+def forget_sums():
+    """Sources are read again for the next sum."""
+    own_sum.cache_clear()
+
+
+class Build:
+    """A program with all crates below it."""
+
+    def __init__(self, name, toolchain, room, say):
+        self.name, self.toolchain, self.room, self.say = name, toolchain, room, say
+        self.libraries = below(name)
+        self.sums = {it: sum_of(it, toolchain) for it in [*self.libraries, name]}
+        self.moment, self.running, self.lock, self.spent = time.time(), set(), threading.Lock(), {}
+        self.is_stopped, self.paths = False, {}
+        for it in self.sums:
+            self.paths[it] = 1 + sum(self.paths[dep] for dep in direct(it))
+
+    def copy_sources(self):
+        """One copy of all sources, so that an edit meanwhile is no matter: rooms have these files under second names."""
+        for it in self.sums:
+            for path in sources(it):
+                target = f"{self.room}/sources/{os.path.relpath(path, TOP)}"
+                os.makedirs(os.path.dirname(target), exist_ok=True)
+                shutil.copyfile(path, target)
+        forget_sums()
+        if any(sum_of(it, self.toolchain) != made_of for it, made_of in self.sums.items()):
+            raise NotProved("the sources change while they are copied: begin again")
+
+    def seconds(self, name):
+        """About how long a crate takes, before anything is known of this machine."""
+        lines = 0
+        for path in sources(name):
+            if path.endswith(".rt"):
+                with open(path, "rb") as file:
+                    lines += file.read().count(b"\n")
+        visits = 0 if name == self.name else 3 * sum(self.paths[it] for it in below(name)) + 2 * self.paths[name]
+        return BASE_SECONDS + LINE_SECONDS * lines + VISIT_SECONDS * visits
+
+    def enter(self, name, libraries, lines):
+        """Makes a room for a crate over these libraries."""
+        room = f"{self.room}/{name}"
+        os.makedirs(f"{room}/crates")
+        shutil.copyfile(f"{TOP}/HANDLES", f"{room}/HANDLES")
+        with open(f"{room}/crates.txt", "w", encoding="utf-8") as file:
+            file.writelines(f"{it}: {' '.join(deps)}\n" for it, deps in lines.items())
+        for it in lines:
+            for part in PARTS:
+                source = f"{self.room}/sources/crates/{it}/{part}"
+                if os.path.isdir(source):
+                    shutil.copytree(source, f"{room}/crates/{it}/{part}", copy_function=kept.link)
+        for it in libraries:
+            kept.take(it, self.sums[it], f"{room}/crates/{it}/out/rlib")
+        return f"{room}/crates/{name}"
+
+    def call(self, words, folder):
+        """Runs `rt` and answers what it said; it ends with this build, however that ends."""
+        began = time.monotonic()
+        with self.lock:
+            if self.is_stopped:
+                raise NotProved("stopped")
+            run = subprocess.Popen(["rt", *words], cwd=folder, stdin=subprocess.DEVNULL, stdout=subprocess.PIPE, stderr=subprocess.STDOUT, text=True, errors="replace", start_new_session=True)
+            self.running.add(run)
+        said = run.communicate()[0]
+        with self.lock:
+            self.running.discard(run)
+        return run.returncode, said, time.monotonic() - began
+
+    def stop(self):
+        with self.lock:
+            self.is_stopped = True
+            for run in self.running:
+                try:
+                    os.killpg(run.pid, signal.SIGKILL)
+                except ProcessLookupError:
+                    pass
+
+    def prove_library(self, name):
+        lines = {it: listed()[it] for it in [*below(name), name]}
+        folder = self.enter(name, below(name), lines)
+        status, said, self.spent[name] = self.call(["lib", "--jobs", "1"], folder)
+        if status or not os.path.isdir(f"{folder}/out/rlib/{name}.rlib"):
+            raise NotProved(f"{name} was not proved:\n{last_lines(said)}")
+        kept.keep(name, self.sums[name], f"{folder}/out/rlib")
+        shutil.rmtree(f"{self.room}/{name}", ignore_errors=True)
+
+    def prove_program(self):
+        """Proves, compiles and links the program. Its libraries are handed in by name, so that the toolchain need not look at each path to them."""
+        of_toolchain = [it for it in listed()[self.name] if it not in listed()]
+        folder = self.enter(self.name, (), {self.name: of_toolchain})
+        words = ["run", "--jobs", "1"]
+        for it in direct(self.name):
+            words += ["--extern", f"{it}={kept.place(it, self.sums[it])}/{it}.rlib"]
+        for it in self.libraries:
+            words += ["-L", f"dependency={kept.place(it, self.sums[it])}"]
+        # (run with a word that is no command, so that it reads nothing and only says how it is used)
+        _, said, self.spent[self.name] = self.call([*words, "--", "-"], folder)
+        made = f"{folder}/out/{self.name}"
+        if not os.access(made, os.X_OK):
+            raise NotProved(f"{self.name} was not proved, compiled and linked:\n{last_lines(said)}")
+        self.place(made)
+
+    def place(self, made):
+        """Puts the program where the launcher looks. Its time is that of the sources, so that an edit meanwhile is newer."""
+        program = program_of(self.name)
+        os.makedirs(os.path.dirname(program), exist_ok=True)
+        shutil.copyfile(made, f"{program}.new")
+        os.chmod(f"{program}.new", 0o755)
+        os.utime(f"{program}.new", (self.moment, self.moment))
+        with open(sum_file(self.name), "w", encoding="utf-8") as file:
+            file.write(self.sums[self.name])
+        os.replace(f"{program}.new", program)
+
+    def prove_all(self, side_by_side):
+        """Proves all libraries that are not kept, those with the longest chain above them first, and then the program."""
+        done = {it for it in self.libraries if kept.has(it, self.sums[it])}
+        progress = Progress(self, done, side_by_side)
+        left = sorted((it for it in self.libraries if it not in done), key=progress.chains.get, reverse=True)
+        self.copy_sources()
+        futures = {}
+        with ThreadPoolExecutor(side_by_side) as pool:
+            try:
+                while left or futures:
+                    for it in [it for it in left if done.issuperset(below(it))][: side_by_side - len(futures)]:
+                        left.remove(it)
+                        futures[pool.submit(self.prove_library, it)] = it
+                    for ended in wait(futures, return_when=FIRST_COMPLETED).done:
+                        name = futures.pop(ended)
+                        ended.result()
+                        done.add(name)
+                        progress.tell(name)
+            except BaseException:
+                self.stop()
+                raise
+        self.prove_program()
+
+
+def last_lines(said):
+    return "\n".join(said.splitlines()[-30:])
+
+
+class Progress:
+    """How many crates are done of all, and about how many minutes are left."""
+
+    def __init__(self, build, done, side_by_side):
+        self.build, self.done, self.side_by_side = build, done, side_by_side
+        self.guesses = {it: build.seconds(it) for it in build.sums if it not in done}
+        above = {it: [other for other in self.guesses if it in direct(other)] for it in self.guesses}
+        self.chains = {}
+        for it in reversed(list(self.guesses)):
+            self.chains[it] = self.guesses[it] + max((self.chains[other] for other in above[it]), default=0)
+        build.say(f"{len(build.sums)} crates, of which {len(done)} are kept from before; {side_by_side} side by side; {self.left()}")
+
+    def pace(self):
+        """How much longer than guessed the crates took that are done."""
+        spent = self.build.spent
+        guessed = sum(self.guesses[it] for it in spent)
+        return sum(spent.values()) / guessed if guessed else 1.0
+
+    def left(self):
+        rest = {it: guess for it, guess in self.guesses.items() if it not in self.done}
+        seconds = max(sum(rest.values()) / self.side_by_side, max((self.chains[it] for it in rest), default=0))
+        minutes = self.pace() * seconds / 60
+        return f"about {minutes:.0f} minutes left" if minutes >= 1 else "less than a minute left"
+
+    def tell(self, name):
+        self.build.say(f"{len(self.done)} of {len(self.build.sums)}: {name}, {self.build.spent[name]:.0f} s; {self.left()}")

@@ -1,0 +1,83 @@
+"""Scenarios: blocks of lines, each with a line `----` behind it and then what it prints, up to an empty line. A line of a cluster begins a run
+anew, so many scenarios stand in one file."""
+
+from shared.macros import BadMacro, Script, is_macro
+from shared.schedules import Line, is_skipped
+
+RULE = "----"
+
+
+class Block:
+    """The lines of a block with their numbers, what is expected of it, and comments and empty lines before it."""
+
+    def __init__(self, lines, expected):
+        self.lines, self.expected = lines, expected
+
+
+def read_blocks(text):
+    """The blocks of a file, and what stands behind the last one."""
+    blocks, lines, rest = [], [], enumerate(text.split("\n"), 1)
+    for number, line in rest:
+        if line != RULE:
+            lines.append(Line(number, line))
+            continue
+        expected = []
+        for _, printed in rest:
+            if not printed:
+                break
+            expected.append(printed)
+        blocks.append(Block(lines, expected))
+        lines = []
+    return blocks, [it.text for it in lines]
+
+
+def write_blocks(blocks, printed, tail):
+    parts = []
+    for block, found in zip(blocks, printed):
+        parts += [*(it.text for it in block.lines), RULE, *found, ""]
+    return "\n".join([*parts, *tail])
+
+
+class Player:
+    """Runs the blocks of a file, one after the other."""
+
+    def __init__(self, program):
+        self.program, self.script = program, None
+
+    def play(self, block):
+        """What a block prints: the plain lines that its macros stand for, and all that the program prints."""
+        printed = []
+        for lines in parts_of([it for it in block.lines if not is_skipped(it.text)]):
+            try:
+                printed += self.take(lines)
+            except BadMacro as why:
+                raise BadMacro(f"line {lines[0].number}: {why}") from None
+        return printed
+
+    def take(self, lines):
+        if lines[0].text.startswith("{"):
+            self.script = Script(self.program, lines[0])
+            return []
+        if not self.script:
+            raise BadMacro("the first line of a scenario is that of a cluster")
+        printed = []
+        if is_macro(lines[0].words):
+            for plain, told in self.script.take(lines[0].words):
+                printed += [f"> {plain}", *told]
+        else:
+            for _, told in self.script.each(it.text for it in lines):
+                printed += told
+        return printed
+
+
+def parts_of(lines):
+    """Plain lines that stand together are done together; each macro and each cluster by itself."""
+    parts, joins = [], False
+    for line in lines:
+        is_alone = line.text.startswith("{") or is_macro(line.words)
+        if joins and not is_alone:
+            parts[-1].append(line)
+        else:
+            parts.append([line])
+        joins = not is_alone
+    return parts

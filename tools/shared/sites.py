@@ -1,0 +1,90 @@
+"""Where masters run: on this machine, or by turns in network namespaces as on machines of their own, with one address that moves to who leads."""
+
+import shutil
+import socket
+import subprocess
+
+from shared.processes import Difference
+from shared.parties import text_of
+
+MASTERS = "127.0.0.2"
+# The namespaces hang on a bridge; its address is that of the agents and applications.
+BRIDGE, NET, MOVING = "fuxi-br", "10.77.61", "10.77.61.100"
+PORT = 7000
+
+
+def free_address():
+    """An address for masters at which nobody listens. No connection that goes out has a port of this address, so it stays free."""
+    with socket.create_server((MASTERS, 0)) as listener:
+        return listener.getsockname()
+
+
+class Loopback:
+    """All masters listen at one address of this machine."""
+
+    count = 1
+
+    def __init__(self):
+        self.address = text_of(free_address())
+
+    def words(self, program, _site):
+        return program
+
+    def move(self, _site):
+        pass
+
+    def close(self):
+        pass
+
+
+def ip(*words):
+    ran = subprocess.run(["ip", *map(str, words)], capture_output=True, text=True)
+    if ran.returncode:
+        raise Difference(f"ip {' '.join(map(str, words))}: {ran.stderr.strip()}")
+
+
+class Namespaces:
+    """So many network namespaces, with links to a bridge. It needs root, and ip of Debian's package iproute2."""
+
+    def __init__(self, count):
+        if not shutil.which("ip"):
+            raise Difference("the command ip was not found: Debian has it in iproute2")
+        self.count, self.address, self.site, self.made = count, f"{MOVING}:{PORT}", None, []
+        try:
+            self.make()
+        except Difference:
+            self.close()
+            raise
+
+    def make(self):
+        ip("link", "add", BRIDGE, "type", "bridge")
+        self.made.append(("link", "del", BRIDGE))
+        ip("addr", "add", f"{NET}.1/24", "dev", BRIDGE)
+        ip("link", "set", BRIDGE, "up")
+        for site in range(self.count):
+            name = self.name(site)
+            ip("netns", "add", name)
+            self.made.append(("netns", "del", name))
+            ip("link", "add", f"{name}-out", "type", "veth", "peer", "name", "eth0", "netns", name)
+            ip("link", "set", f"{name}-out", "master", BRIDGE, "up")
+            for words in [("link", "set", "lo", "up"), ("addr", "add", f"{NET}.{10 + site}/24", "dev", "eth0"), ("link", "set", "eth0", "up")]:
+                ip("-n", name, *words)
+
+    def name(self, site):
+        return f"fuxi-{site}"
+
+    def words(self, program, site):
+        return ["ip", "netns", "exec", self.name(site), program]
+
+    def move(self, site):
+        """The address goes to this namespace, and who knew another link for it asks anew."""
+        if self.site is not None:
+            ip("-n", self.name(self.site), "addr", "del", f"{MOVING}/24", "dev", "eth0")
+        ip("-n", self.name(site), "addr", "add", f"{MOVING}/24", "dev", "eth0")
+        subprocess.run(["ip", "neigh", "flush", "to", MOVING], capture_output=True)
+        self.site = site
+
+    def close(self):
+        for words in reversed(self.made):
+            subprocess.run(["ip", *words], capture_output=True)
+        self.made = []

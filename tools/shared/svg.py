@@ -1,0 +1,37 @@
+"""A drawing, element by element, as the text of an SVG file."""
+
+from xml.sax.saxutils import escape, quoteattr
+
+
+def number(value):
+    return f"{value:.1f}".rstrip("0").rstrip(".")
+
+
+class Drawing:
+    def __init__(self, style):
+        self.style, self.parts, self.definitions = style, [], []
+
+    def add(self, tag, content=None, **attributes):
+        """An element. `kind` is its class; numbers are rounded to a tenth."""
+        attributes = {{"kind": "class"}.get(key, key.replace("_", "-")): value for key, value in attributes.items() if value is not None}
+        words = "".join(f" {key}={quoteattr(number(value) if isinstance(value, float) else str(value))}" for key, value in attributes.items())
+        self.parts.append(f"<{tag}{words}/>" if content is None else f"<{tag}{words}>{content}</{tag}>")
+
+    def rect(self, x, y, width, height, kind, **more):
+        self.add("rect", x=float(x), y=float(y), width=float(width), height=float(height), kind=kind, **more)
+
+    def line(self, x1, y1, x2, y2, kind, **more):
+        self.add("line", x1=float(x1), y1=float(y1), x2=float(x2), y2=float(y2), kind=kind, **more)
+
+    def path(self, points, kind, title=None, **more):
+        shape = "M" + " L".join(f"{number(x)} {number(y)}" for x, y in points)
+        self.add("path", None if title is None else f"<title>{escape(title)}</title>", d=shape, kind=kind, **more)
+
+    def text(self, x, y, words, kind, **more):
+        self.add("text", escape(words), x=float(x), y=float(y), kind=kind, **more)
+
+    def whole(self, width, height):
+        head = f'<svg xmlns="http://www.w3.org/2000/svg" width="{number(width)}" height="{number(height)}" viewBox="0 0 {number(width)} {number(height)}">'
+        rules = f"<style>{self.style}</style><defs>{''.join(self.definitions)}</defs>"
+        ground = '<rect width="100%" height="100%" fill="#ffffff"/>'
+        return "\n".join([head, rules, ground, *self.parts, "</svg>"]) + "\n"
