@@ -7,24 +7,24 @@ use Rattle.fuxi_terms.specs.Limits.{most_steps}
 use Rattle.std.proofs.lemmas.List.{length-append, length-replicate, get_or-replicate}
 use Rattle.std.proofs.lemmas.List.Folds.{sum_by-replicate}
 use Rattle.std.proofs.lemmas.List.Sums.{sum_by-cons}
-use Rattle.std.proofs.lemmas.Option.{slice_get-get_or, slice_get_past}
+use Rattle.std.proofs.lemmas.Option.{slice_get-get_or, slice_get_past, slice_get_within}
 use Rattle.written_roles.specs.MasterRoles.{MasterRole}
 use Rattle.fuxi_master.specs.Cores.{MasterRecord, StandsFor}
 use Rattle.master_desk.specs.Calls.{AreSessions, Decodes, calls_of, most_calls, most_sessions}
 use Rattle.master_desk.specs.Runs.{Fits, IsNext, IsWhole, order_of, times}
-use Rattle.master_desk.specs.Books.{AreTaken, BookRecord, HasRun, HasRunTo, IsBook, Ran, TakesTo, new_book, without_master}
+use Rattle.master_desk.specs.Books.{AreTaken, BookRecord, Continues, HasRun, HasRunTo, IsBook, JournalRecord, Ran, TakesTo}
 use Rattle.master_desk.specs.declared.calls.Decoded.{Decoded}
 use Rattle.master_desk.specs.declared.journal.Entry.{Entry}
 use Rattle.master_desk.proofs.RunsLemmas.{few_taken, fits_then, has_calls, order_then, runs_then, times_then}
 
-pub gone_book : (b : BookRecord) → IsBook b → IsBook (without_master b)
+pub gone_book : (b : BookRecord) → IsBook b → IsBook (record { sessions = b.sessions; opening = b.opening; entries = b.entries; master = None })
 gone_book b k = record { sessions = k.sessions; fits = k.fits; few = k.few; ran = λ r stands. gone b.master r (k.ran r stands); steps = tt }
   where
     gone : (m : Option MasterRecord) (r : MasterRole) → Ran b.sessions r b.entries m → HasRun b.sessions r b.entries
     gone None r h = h
     gone (Some m) r h = record { after = h.after; runs = h.runs }
 
-pub new_is_book : (sessions : List (List (List ℕ))) (m : MasterRecord) → AreSessions sessions → IsBook (new_book sessions m)
+pub new_is_book : (sessions : List (List (List ℕ))) (m : MasterRecord) → AreSessions sessions → IsBook (record { sessions = sessions; opening = m; entries = []; master = Some m })
 new_is_book sessions m are = record {
   sessions = are;
   fits = λ c. omega arith;
@@ -68,11 +68,12 @@ calls_le (s ∷ sessions) (suc c) = omega (arith, sum_by-cons length s sessions,
 
 module _ (sessions : List (List (List ℕ))) (opening m after : MasterRecord) (es : List Entry) (e : Entry) (call : Decoded) (bytes taken : List ℕ) where
   pub more_book : IsBook (record { sessions = sessions; opening = opening; entries = es; master = Some m }) → AreTaken taken (order_of es ++ e.session ∷ [])
-      → times e.session (order_of es) < length (calls_of sessions e.session) → e.call ≡ times e.session (order_of es) + 1
+      → e.call ≡ times e.session (order_of es) + 1
       → slice_get (calls_of sessions e.session) (times e.session (order_of es)) ≡ Some bytes → Decodes bytes call
       → ((r : MasterRole) (bytes : List ℕ) → StandsFor m.core r → Decodes bytes call → TakesTo bytes r e.words e.heads after.core) → after.steps ≤ m.steps + 2
       → IsBook (record { sessions = sessions; opening = opening; entries = es ++ e ∷ []; master = Some after })
-  more_book k t left number at decodes takes steps =
+  more_book k t number at decodes takes steps =
+      let left : times e.session (order_of es) < length (calls_of sessions e.session) = slice_get_within (calls_of sessions e.session) _ bytes at in
       let fits : Fits sessions (order_of es ++ e.session ∷ []) = fits_then sessions (order_of es) e.session k.fits left in
       record {
         sessions = k.sessions;
@@ -122,3 +123,7 @@ whole_order sessions order are fits all c = by_place (nat_lt c most_sessions) re
         let past : most_sessions ≤ c = grind (arith, nat_tests) in
         let none : length (calls_of sessions c) ≡ 0 = ap (λ o. length (unwrap_or o [])) (slice_get_past sessions c (omega (arith, past, are.wide))) in
         omega (arith, none, fits c)
+
+-- the session of a next call is one of those that there are
+pub small_session : (j : JournalRecord) (session : ℕ) (call : Decoded) → Continues j session call → session < most_sessions
+small_session j session call n = is_session n.sessions (order_of j.entries) session n.book.sessions (slice_get_within (calls_of n.sessions session) _ n.next.bytes n.next.at)

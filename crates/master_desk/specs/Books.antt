@@ -1,5 +1,5 @@
 -- A journal of calls with the master that took them.
-use Rattle.std.specs.Prelude.{◌≡◌, ◌+◌, ◌*◌, ◌<◌, ◌≤◌, ℕ, true, List, [], ◌∷◌, ◌++◌, length, sum_by, Option, Some, None, is_some, slice_get, slice_index, IfSome}
+use Rattle.std.specs.Prelude.{◌≡◌, ◌+◌, ◌*◌, ◌^◌, ◌<◌, ◌≤◌, ℕ, true, List, [], ◌∷◌, ◌++◌, length, sum_by, Option, Some, None, is_some, slice_get, slice_index, IfSome}
 use Rattle.schedule_unit.specs.declared.party.Party.{Party}
 use Rattle.party_ledgers.specs.declared.packets.Packet.{Packet}
 use Rattle.party_ledgers.specs.declared.packets.Heard.{Heard}
@@ -13,12 +13,20 @@ use Rattle.master_desk.specs.declared.journal.Entry.{Entry}
 use Rattle.master_desk.specs.declared.journal.Head.{Head}
 use Rattle.master_desk.specs.declared.journal.Words.{Words}
 
--- the sessions, the master at the beginning, the calls that were taken, and the master now, which is gone once memory was refused
+-- the calls that were taken, and the master now, which is gone once memory was refused
+pub record JournalRecord : Type 0 where
+  pub entries : List Entry
+  pub master : Option MasterRecord
+
+-- the same as a book of these sessions and this opening master
 pub record BookRecord : Type 0 where
   pub sessions : List (List (List ℕ))
   pub opening : MasterRecord
   pub entries : List Entry
   pub master : Option MasterRecord
+
+abbrev pub book_of : List (List (List ℕ)) → MasterRecord → JournalRecord → BookRecord
+book_of sessions opening j = record { sessions = sessions; opening = opening; entries = j.entries; master = j.master }
 
 -- the entries are those of the run, which leads to some master
 pub record HasRun (sessions : List (List (List ℕ))) (r : MasterRole) (entries : List Entry) : Type 0 where
@@ -66,37 +74,48 @@ pub record TakesTo (bytes : List ℕ) (r : MasterRole) (words : Words) (heads : 
   pub stands : StandsFor core after
 
 -- a call is what the next one of a session decodes to
-pub record IsNextCall (b : BookRecord) (session : ℕ) (call : Decoded) : Type 0 where
+pub record IsNextCall (sessions : List (List (List ℕ))) (es : List Entry) (session : ℕ) (call : Decoded) : Type 0 where
   pub bytes : List ℕ
-  pub at : slice_get (calls_of b.sessions session) (times session (order_of b.entries)) ≡ Some bytes
+  pub at : slice_get (calls_of sessions session) (times session (order_of es)) ≡ Some bytes
   pub decodes : Decodes bytes call
 
+-- of some sessions and some opening master
+pub record Continues (j : JournalRecord) (session : ℕ) (call : Decoded) : Type 0 where
+  pub sessions : List (List (List ℕ))
+  pub opening : MasterRecord
+  pub book : IsBook (book_of sessions opening j)
+  pub next : IsNextCall sessions j.entries session call
+
 -- the next call of a session stands at the end of the journal, and the master is kept
-pub record IsMore (session : ℕ) (old new : BookRecord) : Type 0 where
+pub record IsMore (session : ℕ) (old new : JournalRecord) : Type 0 where
   pub entry : Entry
   pub names : entry.session ≡ session
   pub number : entry.call ≡ times session (order_of old.entries) + 1
   pub entries : new.entries ≡ old.entries ++ entry ∷ []
-  pub sessions : new.sessions ≡ old.sessions
-  pub opening : new.opening ≡ old.opening
   pub kept : is_some new.master ≡ true
 
-abbrev pub without_master : BookRecord → BookRecord
-without_master b = record { sessions = b.sessions; opening = b.opening; entries = b.entries; master = None }
+abbrev pub without_master : JournalRecord → JournalRecord
+without_master j = record { entries = j.entries; master = None }
 
-abbrev pub new_book : List (List (List ℕ)) → MasterRecord → BookRecord
-new_book sessions m = record { sessions = sessions; opening = m; entries = []; master = Some m }
+-- whatever sessions and opening master it is of, it still is
+abbrev pub StaysBook : JournalRecord → JournalRecord → List (List (List ℕ)) → Type 0
+StaysBook old new sessions = (o : MasterRecord) → IsBook (book_of sessions o old) → IsBook (book_of sessions o new)
 
--- a book of the same sessions and the same opening master, whose master is kept
-pub record IsLater (old new : BookRecord) : Type 0 where
-  pub sessions : new.sessions ≡ old.sessions
-  pub opening : new.opening ≡ old.opening
-  pub kept : is_some new.master ≡ true
+-- a book of these sessions, of whose opening master few steps were taken
+pub record IsBegun (j : JournalRecord) (sessions : List (List (List ℕ))) : Type 0 where
+  pub opening : MasterRecord
+  pub book : IsBook (book_of sessions opening j)
+  pub small : opening.steps < 2 ^ 49
 
 -- all calls of these sessions were taken, each once, by what was this master
-pub record HasAll (sessions : List (List (List ℕ))) (opening : MasterRecord) (b : BookRecord) : Type 0 where
-  pub sessions_are : b.sessions ≡ sessions
-  pub opening_is : b.opening ≡ opening
-  pub kept : is_some b.master ≡ true
-  pub whole : IsWhole sessions (order_of b.entries)
-  pub book : IsBook b
+pub record HasAll (sessions : List (List (List ℕ))) (opening : MasterRecord) (j : JournalRecord) : Type 0 where
+  pub kept : is_some j.master ≡ true
+  pub whole : IsWhole sessions (order_of j.entries)
+  pub book : IsBook (book_of sessions opening j)
+
+-- the book behind the lock: of these sessions and this opening master, of which few steps were taken
+pub record IsDesk (sessions : List (List (List ℕ))) (opening : Option MasterRecord) (j : JournalRecord) : Type 0 where
+  pub master : MasterRecord
+  pub names : Some master ≡ opening
+  pub book : IsBook (book_of sessions master j)
+  pub small : master.steps < 2 ^ 49

@@ -1,10 +1,11 @@
 //! The journal: calls are taken one after another by the master.
 
-ghost use Rattle.std.specs.Prelude.{◌≡◌, ◌+◌, ◌<◌, ◌≤◌, ℕ, true, length, not, replicate, IfOk, IfSome, OnOk, OnErr, Some, is_some, slice_get};
+ghost use Rattle.std.specs.Prelude.{◌≡◌, ◌+◌, ◌<◌, ◌≤◌, List, [], ℕ, true, length, not, replicate, IfOk, IfSome, OnOk, OnErr, Some, is_some, slice_get};
 ghost use Rattle.fuxi_terms.specs.Limits.{most_steps};
-ghost use Rattle.master_desk.specs.Calls.{calls_of, most_sessions};
+ghost use Rattle.master_desk.specs.Calls.{most_sessions};
 ghost use Rattle.master_desk.specs.Runs.{order_of, times};
-ghost use Rattle.master_desk.specs.Books.{IsBook, IsMore, IsNextCall, new_book, without_master};
+ghost use Rattle.fuxi_master.specs.Cores.{MasterRecord};
+ghost use Rattle.master_desk.specs.Books.{Continues, IsBook, IsMore, IsNextCall, book_of, without_master};
 
 use crate::calls::Decoded;
 use crate::journal::Entry;
@@ -14,37 +15,34 @@ use fuxi_master::Master;
 use fuxi_terms::OutOfMemory;
 use std::alloc::Global;
 use std::marker::Model;
-use std::snapshot::Snapshot;
 
 /// The calls that were taken, in their order, and the master that took them.
 ///
-/// What is proved of it (`IsBook`): the order of its entries fits the sessions, and of each master by itself that the opening one stands
-/// for, the entries and the master are those of the run over that order (`DeskRun`).
+/// It is said to be of sessions and an opening master (`IsBook`) where the order of its entries fits the sessions, and of each master by
+/// itself that the opening one stands for, the entries and the master are those of the run over that order (`DeskRun`).
 pub struct Book {
-    sessions: Snapshot<Sessions>,
-    opening: Snapshot<Master>,
     master: Option<Master>,
     journal: Vec<Entry>,
     taken: Vec<u32>,
 }
 
 impl Model for Book {
-    ghost use Rattle.master_desk.specs.Books.{AreTaken, BookRecord, IsBook};
+    ghost use Rattle.std.specs.Prelude.{◌≤◌, length};
+    ghost use Rattle.master_desk.specs.Calls.{most_calls};
+    ghost use Rattle.master_desk.specs.Books.{AreTaken, JournalRecord};
     ghost use Rattle.master_desk.specs.Runs.{order_of};
 
-    ghost Value = { BookRecord };
+    ghost Value = { JournalRecord };
 
-    ghost view = { λ b. record { sessions = b.sessions.value; opening = b.opening.value; entries = b.journal.items; master = b.master } };
+    ghost view = { λ b. record { entries = b.journal.items; master = b.master } };
 
-    ghost invariant = { λ b. IsBook (record { sessions = b.sessions.value; opening = b.opening.value; entries = b.journal.items; master = b.master }) × AreTaken b.taken.items (order_of b.journal.items) };
+    ghost invariant = { λ b. AreTaken b.taken.items (order_of b.journal.items) × (length b.journal.items ≤ most_calls) };
 }
 
 // Written out, so that who lets one go checks this call and not all of its parts.
 impl Drop for Book {
     fn drop(self) {
         let Book {
-            sessions,
-            opening,
             master,
             journal,
             taken,
@@ -66,7 +64,8 @@ fn none_taken(alloc: Global) -> Result<Vec<u32>, OutOfMemory>
 impl Book {
     /// An empty journal.
     pub fn start(alloc: Global, master: Master, sessions: &Sessions) -> Result<Book, OutOfMemory>
-        ensures { IfOk result (λ b. b ≡ new_book sessions.now master) }
+        ensures empty { IfOk result (λ b. b ≡ record { entries = []; master = Some master }) }
+        ensures book { IfOk result (λ b. IsBook (book_of sessions.now master b)) }
     {
         let _first = sessions.calls(0);
         let taken = match none_taken(alloc) {
@@ -74,8 +73,6 @@ impl Book {
             Err(OutOfMemory) => return Err(OutOfMemory),
         };
         Ok(Book {
-            sessions: Snapshot::of(sessions),
-            opening: Snapshot::of(&master),
             master: Some(master),
             journal: Vec::new(alloc),
             taken,
@@ -87,13 +84,12 @@ impl Book {
     ///
     /// After the refusal the journal is as before, and the master is gone.
     pub fn take(&mut self, alloc: Global, session: u32, call: Decoded) -> Result<(), OutOfMemory>
-        requires left { times session (order_of self.old.entries) < length (calls_of self.old.sessions session) }
-        requires call { IsNextCall self.old session call }
+        requires next { Continues self.old session call }
         requires there { is_some self.old.master ≡ true }
         requires steps { IfSome self.old.master (λ m. m.steps + 1 < most_steps) }
         ensures more { OnOk result (IsMore session self.old self.new) }
         ensures gone { OnErr result (self.new ≡ without_master self.old) }
-        ensures book { IsBook self.new }
+        ensures book { (sessions : List (List (List ℕ))) (o : MasterRecord) → IsBook (book_of sessions o self.old) → IsNextCall sessions self.old.entries session call → IsBook (book_of sessions o self.new) }
     {
         let Some(master) = self.master.take() else {
             unreachable!()
@@ -120,8 +116,7 @@ impl Book {
 
     /// Whether the master is gone: exactly after a refusal of `take`.
     pub fn gone(&self) -> bool
-        ensures gone { result ≡ not (is_some self.now.master) }
-        ensures book { IsBook self.now }
+        ensures { result ≡ not (is_some self.now.master) }
     {
         self.master.is_none()
     }
@@ -129,16 +124,14 @@ impl Book {
     /// How many calls of a session, which is below 64, were taken.
     pub fn taken(&self, session: u32) -> u32
         requires { session < most_sessions }
-        ensures taken { result ≡ times session (order_of self.now.entries) }
-        ensures book { IsBook self.now }
+        ensures { result ≡ times session (order_of self.now.entries) }
     {
         self.taken[session as usize]
     }
 
     /// How many calls were taken in all.
     pub fn len(&self) -> u32
-        ensures len { result ≡ length self.now.entries }
-        ensures book { IsBook self.now }
+        ensures { result ≡ length self.now.entries }
     {
         self.journal.len() as u32
     }
@@ -154,8 +147,7 @@ impl Book {
     /// The master, which is not gone.
     pub fn master(&self) -> &Master
         requires { is_some self.now.master ≡ true }
-        ensures master { self.now.master ≡ Some result.now }
-        ensures book { IsBook self.now }
+        ensures { self.now.master ≡ Some result.now }
     {
         match &self.master {
             Some(master) => master,

@@ -2,6 +2,7 @@
 
 ghost use Rattle.std.specs.Prelude.{◌≡◌, ◌+◌, ◌<◌, ◌^◌, List, ℕ, Some, slice_get};
 ghost use Rattle.master_desk.specs.Calls.{Decodes, calls_of, most_sessions};
+ghost use Rattle.master_desk.specs.Books.{IsDesk};
 
 use crate::book::Book;
 use crate::calls::Decoded;
@@ -34,14 +35,13 @@ pub(crate) struct Desk<J: Naming> {
 }
 
 impl<J: Naming> Model for Desk<J> {
-    ghost use Rattle.std.specs.Prelude.{◌≡◌, ◌<◌, ◌^◌, Some};
-    ghost use Rattle.master_desk.specs.Books.{BookRecord};
+    ghost use Rattle.master_desk.specs.Books.{IsDesk, JournalRecord};
 
-    ghost Value = { BookRecord };
+    ghost Value = { JournalRecord };
 
     ghost view = { λ d. d.book };
 
-    ghost invariant = { λ d. (d.book.sessions ≡ J.sessions) × (Some d.book.opening ≡ J.opening) × (d.book.opening.steps < 2 ^ 49) };
+    ghost invariant = { λ d. IsDesk J.sessions J.opening d.book };
 }
 
 // Written out, so that who lets one go checks this call and not all of its parts.
@@ -53,9 +53,7 @@ impl<J: Naming> Drop for Desk<J> {
 
 impl<J: Naming> Desk<J> {
     pub(crate) fn new(book: Book) -> Desk<J>
-        requires sessions { book.sessions ≡ J.sessions }
-        requires opening { Some book.opening ≡ J.opening }
-        requires steps { book.opening.steps < 2 ^ 49 }
+        requires { IsDesk J.sessions J.opening book }
         ensures { result ≡ book }
     {
         Desk {
@@ -65,9 +63,7 @@ impl<J: Naming> Desk<J> {
     }
 
     pub(crate) fn into_book(self) -> Book
-        ensures same { result ≡ self }
-        ensures sessions { result.sessions ≡ J.sessions }
-        ensures opening { Some result.opening ≡ J.opening }
+        ensures { IsDesk J.sessions J.opening result }
     {
         let Desk { book, of } = self;
         book

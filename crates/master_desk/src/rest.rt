@@ -3,7 +3,7 @@
 ghost use Rattle.std.specs.Prelude.{◌≡◌, ◌+◌, ◌<◌, ◌^◌, ℕ, true, false, cond, nat_eq, length, OnOk, is_some};
 ghost use Rattle.master_desk.specs.Calls.{calls_of, most_sessions};
 ghost use Rattle.master_desk.specs.Runs.{IsWhole, order_of, times};
-ghost use Rattle.master_desk.specs.Books.{IsBook, IsLater};
+ghost use Rattle.master_desk.specs.Books.{IsBegun, StaysBook};
 
 use crate::book::Book;
 use crate::calls::decode;
@@ -18,12 +18,12 @@ fn take_next(
     sessions: &Sessions,
     session: u32,
 ) -> Result<(), OutOfMemory>
-    requires sessions { book.old.sessions ≡ sessions.now }
+    requires begun { IsBegun book.old sessions.now }
     requires there { is_some book.old.master ≡ true }
-    requires steps { book.old.opening.steps < 2 ^ 49 }
     requires left { times session (order_of book.old.entries) < length (calls_of sessions.now session) }
     requires session { session < most_sessions }
-    ensures later { OnOk result (IsLater book.old book.new) }
+    ensures kept { OnOk result (is_some book.new.master ≡ true) }
+    ensures book { OnOk result (StaysBook book.old book.new sessions.now) }
     ensures more { OnOk result ((c : ℕ) → times c (order_of book.new.entries) ≡ times c (order_of book.old.entries) + cond (nat_eq session c) 1 0) }
 {
     let number = book.taken(session) + 1;
@@ -44,11 +44,11 @@ fn take_session(
     sessions: &Sessions,
     session: u32,
 ) -> Result<(), OutOfMemory>
-    requires sessions { book.old.sessions ≡ sessions.now }
+    requires begun { IsBegun book.old sessions.now }
     requires there { is_some book.old.master ≡ true }
-    requires steps { book.old.opening.steps < 2 ^ 49 }
     requires session { session < most_sessions }
-    ensures later { OnOk result (IsLater book.old book.new) }
+    ensures kept { OnOk result (is_some book.new.master ≡ true) }
+    ensures book { OnOk result (StaysBook book.old book.new sessions.now) }
     ensures all { OnOk result (times session (order_of book.new.entries) ≡ length (calls_of sessions.now session)) }
     ensures others { OnOk result ((c : ℕ) → nat_eq session c ≡ false → times c (order_of book.new.entries) ≡ times c (order_of book.old.entries)) }
 {
@@ -67,12 +67,11 @@ pub(crate) fn take_rest(
     book: &mut Book,
     sessions: &Sessions,
 ) -> Result<(), OutOfMemory>
-    requires sessions { book.old.sessions ≡ sessions.now }
+    requires begun { IsBegun book.old sessions.now }
     requires there { is_some book.old.master ≡ true }
-    requires steps { book.old.opening.steps < 2 ^ 49 }
-    ensures later { OnOk result (IsLater book.old book.new) }
+    ensures kept { OnOk result (is_some book.new.master ≡ true) }
+    ensures book { OnOk result (StaysBook book.old book.new sessions.now) }
     ensures whole { OnOk result (IsWhole sessions.now (order_of book.new.entries)) }
-    ensures book { OnOk result (IsBook book.new) }
 {
     for session in 0..SESSIONS {
         match take_session(alloc, book, sessions, session) {
@@ -80,6 +79,5 @@ pub(crate) fn take_rest(
             Err(OutOfMemory) => return Err(OutOfMemory),
         }
     }
-    let _gone = book.gone();
     Ok(())
 }

@@ -33,8 +33,9 @@ fn work<J: Naming, R: Wait, G: Gate>(
     for before in 0..sessions.calls(session) {
         let number = before + 1;
         gate.before(session, number);
-        let Ok(call) = decode(alloc, sessions.bytes(session, number)) else {
-            return;
+        let call = match decode(alloc, sessions.bytes(session, number)) {
+            Ok(call) => call,
+            Err(OutOfMemory) => return,
         };
         match desk.lock(rt).take(alloc, session, number, call) {
             Ok(()) => {}
@@ -54,19 +55,25 @@ fn work_all<J: Naming + Send + Sync, R: Threads + Wait + Sync, G: Gate + Sync>(
 )
     requires { sessions.now ≡ J.sessions }
 {
-    thread::scope(thread::scope_env(), rt, |scope| {
-        for session in 0..SESSIONS {
-            if sessions.calls(session) == 0 {
-                continue;
+    thread::scope(
+        thread::scope_env(),
+        rt,
+        |scope| -> ()
+            requires { sessions.now ≡ J.sessions }
+        {
+            for session in 0..SESSIONS {
+                if sessions.calls(session) == 0 {
+                    continue;
+                }
+                let worker = move || -> ()
+                    requires { (sessions.now ≡ J.sessions) × (session < most_sessions) }
+                { work(rt, alloc, desk, sessions, gate, session) };
+                if scope.spawn(worker).is_err() {
+                    work(rt, alloc, desk, sessions, gate, session);
+                }
             }
-            if scope
-                .spawn(move || work(rt, alloc, desk, sessions, gate, session))
-                .is_err()
-            {
-                work(rt, alloc, desk, sessions, gate, session);
-            }
-        }
-    });
+        },
+    );
 }
 
 // The run of the sessions and the master that `J` names.

@@ -1,5 +1,3 @@
-use Rattle.core_side.specs.Parcels.{parcel_is}
-use Rattle.written_roles.specs.MasterRoles.{master_hears_alone, report_excess}
 use Rattle.master_desk.proofs.Outcomes.{is_heard, heard_is}
 use Rattle.master_desk.proofs.taking.hear.Goals as goal
 

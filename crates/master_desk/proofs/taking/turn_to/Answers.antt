@@ -1,13 +1,10 @@
 use Rattle.std.proofs.Common.{◌≡◌, List, [], cond, map, ap, subst, sym, ◌∙◌}
-use Rattle.std.specs.List.{AllByRecursion}
-use Rattle.core_side.specs.Parcels.{id_of, parcel_is, IsSent}
+use Rattle.core_side.specs.Parcels.{id_of}
 use Rattle.written_net.specs.Sides.{Parcel, turn_parcels}
-use Rattle.written_roles.specs.MasterSteps.{master_party, talks}
-use Rattle.party_ledgers.specs.declared.packets.Packet.{Packet}
+use Rattle.written_roles.specs.MasterSteps.{master_party}
 use Rattle.fuxi_master.specs.Steps.{IsSentFormed}
-use Rattle.fuxi_master.specs.declared.event.Outcome.{Outcome}
 use Rattle.master_desk.specs.Runs.{head_of, turn_to}
-use Rattle.master_desk.proofs.Outcomes.{is_sent, sent_is}
+use Rattle.master_desk.proofs.Outcomes.{sent_is}
 use Rattle.master_desk.proofs.taking.turn_to.Goals as goal
 
 pub returns-in-Ok-of-clause-turns : goal.returns-in-Ok-of-clause-turns
