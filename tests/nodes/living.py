@@ -3,15 +3,18 @@ limit on lines; and at the end all of it is compared, as where the wire is carri
 
 import os
 import random
+import subprocess
 import sys
 import tempfile
+import time
 
 from nodes.hard_file import HardState
+from shared.control import tell
 from shared.crates import TOP
 from shared.epochs import CountedEpochs, LeaseEpochs, has_lease
 from shared.jobs_file import Jobs
 from shared.living import Living
-from shared.processes import Difference
+from shared.processes import PATIENCE, Difference
 from shared.sites import Loopback
 from shared.tables import Tables
 
@@ -79,6 +82,71 @@ def compare(living, model):
     Tables(living).compare()
     if not living.agrees():
         raise Difference("what the summary compares differs, and the tables do not")
+
+
+def start_party(program, folder, name, address, *words):
+    """A node under `tools/party`, in a folder of its own."""
+    place = os.path.join(folder, name)
+    os.makedirs(place, exist_ok=True)
+    words = [f"{TOP}/tools/party", *words[:1], address, *words[1:], "--cluster", f"{TOP}/tools/cluster.jobs", "--round", "5", "--folder", place]
+    return subprocess.Popen(words, env={**os.environ, "FUXI": program}, stdin=subprocess.DEVNULL), place
+
+
+def ask(place, line):
+    """Tells a party a line, as soon as it can be reached."""
+    limit = time.monotonic() + PATIENCE
+    while True:
+        try:
+            return tell(place, line).splitlines()
+        except OSError:
+            if time.monotonic() > limit:
+                raise Difference(f"{place} is not reached") from None
+            time.sleep(0.01)
+
+
+def shown(places, words):
+    """The counts that parties show under these words, without who shows them."""
+    found = [line.split() for place in places for line in ask(place, "show")]
+    return sorted(tuple(map(int, it[1:])) for it in found if it[0] in words)
+
+
+def compare_parties(places):
+    """Parties that are left alone come to the same table."""
+    limit = time.monotonic() + PATIENCE
+    while time.monotonic() < limit:
+        granted = sorted((machine, job, unit, count) for _, job, unit, machine, count in shown(places[:1], ["grant"]))
+        rows = shown(places[1:-1], ["row"])
+        holds = sorted((machine, job, unit, count) for job, unit, machine, count in shown(places[-1:], ["hold"]))
+        if granted and sum(it[3] for it in granted) == 16 and granted == rows == holds:
+            return
+        time.sleep(0.05)
+    raise Difference(f"under tools/party {granted} is granted, {rows} enforced and {holds} held")
+
+
+def serve_parties(program):
+    """Whether nodes under `tools/party` find each other, and their grants again when the master ends and is started again as a unit does that."""
+    processes, machines = [], 5
+    with tempfile.TemporaryDirectory() as folder:
+        address = Loopback().address
+        try:
+            for name, *words in [("master", "master"), *((f"agent{it}", "agent", "--number", str(it)) for it in range(machines))]:
+                processes.append(start_party(program, folder, name, address, *words))
+            ask(processes[0][1], "submit * 0 0 5 100 400 most 4")
+            processes.append(start_party(program, folder, "app", address, "app", "--number", "0", "--units", "1"))
+            compare_parties([place for _, place in processes])
+            processes[0][0].kill()
+            processes[0][0].wait()
+            processes[0] = start_party(program, folder, "master", address, "master")
+            compare_parties([place for _, place in processes])
+        except Difference as fault:
+            print(f"tests/cluster: {fault}", file=sys.stderr)
+            return False
+        finally:
+            for process, _ in processes:
+                process.kill()
+                process.wait()
+    print("nodes under tools/party: ok")
+    return True
 
 
 def live(program, seed):
