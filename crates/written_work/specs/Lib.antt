@@ -1,0 +1,5 @@
+pub mod World
+pub mod Lines
+pub mod Settling
+pub mod Events
+pub mod Runs
