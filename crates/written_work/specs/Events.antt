@@ -48,7 +48,7 @@ row_set a u n w = record { events = w.events; agent = w.agent; apps = w.apps; co
 
 -- a worker is wanted, or not; the plan is appended where it differs
 abbrev pub plan_with : TallyRecord → ℕ → ℕ → Bool → TallyRecord
-plan_with plan u n wanted = record { head = 0; entries = set_count key_cmp plan.entries (worker_key u n) (cond wanted 1 0) }
+plan_with plan u n wanted = record { head = plan.head; entries = set_count key_cmp plan.entries (worker_key u n) (cond wanted 1 0) }
 
 abbrev pub plan_set : ℕ → ℕ → ℕ → Bool → World → World
 plan_set a u n wanted w = let p = app_party w a in let h = w.net.histories p agent_id in
