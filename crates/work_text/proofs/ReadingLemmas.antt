@@ -1,16 +1,10 @@
 -- Numbers are read one after another: what is read of a line is what was read and what is left.
-use Rattle.std.proofs.Common.{◌≡◌, ℕ, zero, suc, ◌+◌, ◌<◌, ◌≤◌, List, [], ◌∷◌, ◌++◌, length, get_or, set, map, take, drop, drop-cons, Result, Ok, Err, Option, Some, None, Bool, true, false, cond, not, nat_eq, nat_lt, ◌&&◌, Bor, refl, ap, sym, ◌∙◌, subst, arith, add-one, append_assoc, slice_index}
+use Rattle.std.proofs.Common.{◌≡◌, ℕ, zero, suc, ◌+◌, ◌<◌, List, [], ◌∷◌, ◌++◌, length, get_or, set, map, take, drop, drop-cons, Result, Ok, Err, Bool, ◌&&◌, Bor, refl, ap, sym, ◌∙◌, arith, add-one, append_assoc}
 use Rattle.fuxi_terms.specs.Counts.{then_do}
-use Rattle.schedule_unit.specs.Numbers.{number_of}
 use Rattle.schedule_text.specs.declared.event.LineFault.{LineFault}
-use Rattle.schedule_text.specs.declared.event.LineFault.TheVariants.{BadNumber, Range}
-use Rattle.std.proofs.lemmas.Bool.Decides.{nat_tests}
 use Rattle.std.specs.List.{list_all, zip}
-use Rattle.work_text.specs.declared.form.Head.{Head}
-use Rattle.work_text.specs.declared.form.Head.TheVariants.{Agent, App, Row, Plan, TurnAgent, TurnApp, Deliver, DeliverRange, Show}
 use Rattle.work_text.specs.declared.form.Place.{Place}
-use Rattle.work_text.specs.Forms.{is_within, shape_of}
-use Rattle.work_text.specs.Reading.{number_at, numbers_at, event_at, IsGiven}
+use Rattle.work_text.specs.Reading.{number_at, numbers_at}
 
 -- what stands from an index on, as it is read
 map_at : {A B : Type 0} (f : A → B) (xs : List A) (i : ℕ) (d : A) → i < length xs → drop i (map f xs) ≡ f (get_or xs i d) ∷ drop (suc i) (map f xs)
@@ -68,76 +62,3 @@ pub pairs_mapped : {A B C : Type 0} (test : C × C → Bool) (f : A → C) (g : 
 pairs_mapped test f g [] ys = refl
 pairs_mapped test f g (x ∷ xs) [] = refl
 pairs_mapped test f g (x ∷ xs) (y ∷ ys) = ap (λ b. test (f x, g y) && b) (pairs_mapped test f g xs ys)
-
--- The numbers that were read are in the range of their places
-abbrev pub AreWithin : ℕ → List Place → List ℕ → Type 0
-AreWithin before [] [] = Unit {0}
-AreWithin before [] (n ∷ ns) = ⊥
-AreWithin before (p ∷ ps) [] = ⊥
-AreWithin before (p ∷ ps) (n ∷ ns) = (is_within p before n ≡ true) × AreWithin n ps ns
-
-one_within : (p : Place) (place before : ℕ) (word : List ℕ) (n : ℕ) → number_at p place before word ≡ Ok n → is_within p before n ≡ true
-one_within p place before word n h = by (number_of word) h
-  where
-    inside : (m : ℕ) (b : Bool) → is_within p before m ≡ b → cond b (Ok m) (Err (Range place)) ≡ Ok n → is_within p before n ≡ true
-    inside m true t e = let same : m ≡ n = cc in subst (λ k. is_within p before k ≡ true) same t
-    inside m false t e = cc
-
-    by : (o : Option ℕ) → elim o as (λ _. Result ℕ LineFault) [ None ↦ Err (BadNumber place) | Some m ↦ cond (is_within p before m) (Ok m) (Err (Range place)) ] ≡ Ok n → is_within p before n ≡ true
-    by None e = cc
-    by (Some m) e = inside m (is_within p before m) refl e
-
-pub numbers_within : (ps : List Place) (place before : ℕ) (ws : List (List ℕ)) (ns : List ℕ) → length ps ≤ length ws → numbers_at ps place before ws ≡ Ok ns → AreWithin before ps ns
-numbers_within [] place before ws [] le h = tt
-numbers_within [] place before ws (n ∷ ns) le h = cc
-numbers_within (p ∷ ps) place before [] ns le h = absurd (omega (arith, le))
-numbers_within (p ∷ ps) place before (w ∷ ws) ns le h = first (number_at p place before w) refl h
-  where
-    rest : (n : ℕ) (r : Result (List ℕ) LineFault) → number_at p place before w ≡ Ok n → numbers_at ps (place + 1) n ws ≡ r → then_do r (λ ns. Ok (n ∷ ns)) ≡ Ok ns → AreWithin before (p ∷ ps) ns
-    rest n (Err e) is later h = cc
-    rest n (Ok ms) is later h = let same : n ∷ ms ≡ ns = cc in subst (AreWithin before (p ∷ ps)) same (one_within p place before w n is, numbers_within ps (place + 1) n ws ms (omega (arith, le)) later)
-
-    first : (r : Result ℕ LineFault) → number_at p place before w ≡ r → then_do r (λ n. then_do (numbers_at ps (place + 1) n ws) (λ ns. Ok (n ∷ ns))) ≡ Ok ns → AreWithin before (p ∷ ps) ns
-    first (Err e) is h = cc
-    first (Ok n) is h = rest n (numbers_at ps (place + 1) n ws) is refl h
-
-not_zero : (n : ℕ) → not (nat_eq n 0) ≡ true → 1 ≤ n
-not_zero n h = grind (arith, nat_tests)
-
-is_below : (n m : ℕ) → nat_lt n m ≡ true → n < m
-is_below n m h = grind (arith, nat_tests)
-
-is_upto : (n m : ℕ) → not (nat_lt m n) ≡ true → n ≤ m
-is_upto n m h = grind (arith, nat_tests)
-
-pub given_of : (h : Head) (ns : List ℕ) → AreWithin 0 (shape_of h).places ns → IsGiven (event_at h ns)
-given_of Agent (b ∷ []) w = not_zero b w.0
-given_of App (a ∷ b ∷ []) w = (is_below a 256 w.0, not_zero b w.1.0)
-given_of Row (a ∷ u ∷ n ∷ []) w = (is_below a 256 w.0, is_below u 8 w.1.0, is_upto n 100000 w.1.1.0)
-given_of Plan (a ∷ u ∷ n ∷ x ∷ []) w = (is_below a 256 w.0, is_below u 8 w.1.0, is_below n 256 w.1.1.0)
-given_of TurnAgent ns w = tt
-given_of TurnApp (a ∷ []) w = is_below a 256 w.0
-given_of Deliver (k ∷ []) w = not_zero k w.0
-given_of DeliverRange (k ∷ l ∷ []) w = (not_zero k w.0, is_upto k l w.1.0)
-given_of Show ns w = tt
-given_of Agent [] w = absurd w
-given_of Agent (b ∷ c ∷ ns) w = absurd w.1
-given_of App [] w = absurd w
-given_of App (a ∷ []) w = absurd w.1
-given_of App (a ∷ b ∷ c ∷ ns) w = absurd w.1.1
-given_of Row [] w = absurd w
-given_of Row (a ∷ []) w = absurd w.1
-given_of Row (a ∷ u ∷ []) w = absurd w.1.1
-given_of Row (a ∷ u ∷ n ∷ m ∷ ns) w = absurd w.1.1.1
-given_of Plan [] w = absurd w
-given_of Plan (a ∷ []) w = absurd w.1
-given_of Plan (a ∷ u ∷ []) w = absurd w.1.1
-given_of Plan (a ∷ u ∷ n ∷ []) w = absurd w.1.1.1
-given_of Plan (a ∷ u ∷ n ∷ x ∷ y ∷ ns) w = absurd w.1.1.1.1
-given_of TurnApp [] w = absurd w
-given_of TurnApp (a ∷ b ∷ ns) w = absurd w.1
-given_of Deliver [] w = absurd w
-given_of Deliver (k ∷ l ∷ ns) w = absurd w.1
-given_of DeliverRange [] w = absurd w
-given_of DeliverRange (k ∷ []) w = absurd w.1
-given_of DeliverRange (k ∷ l ∷ m ∷ ns) w = absurd w.1.1

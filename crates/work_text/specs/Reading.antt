@@ -1,5 +1,5 @@
 -- What an event line says, or why it is none.
-use Rattle.std.specs.Prelude.{◌≡◌, ℕ, ◌+◌, ◌<◌, ◌≤◌, Bool, true, false, cond, nat_eq, ◌&&◌, List, [], ◌∷◌, length, drop, slice_index, Some, None, Result, Ok, Err}
+use Rattle.std.specs.Prelude.{ℕ, ◌+◌, ◌<◌, ◌≤◌, Bool, cond, nat_eq, ◌&&◌, List, [], ◌∷◌, length, drop, slice_index, Some, None, Result, Ok, Err}
 use Rattle.std.specs.List.{find, list_any, list_all, zip}
 use Rattle.std.specs.Str.{bytes_eq}
 use Rattle.fuxi_terms.specs.Counts.{then_do}
