@@ -112,13 +112,15 @@ pub unmarked : (k : ℕ) → Marks (replicate k false) []
 unmarked k = record { each = λ n h. unmarked_at k n }
 
 pub marked_more : (marks : List Bool) (x : ℕ) (front : List ℕ) → length marks ≡ 256 → x < 256 → Marks marks front → Marks (set marks x true) (front ++ x ∷ [])
-marked_more marks x front long lt m = record { each = λ n h. elim (nat_eq n x) as (λ t. nat_eq n x ≡ t → get_or (set marks x true) n false ≡ has_number n (front ++ x ∷ [])) [
-  | true ↦ λ e. let same = number_is n x e in
-      let here : x < length marks = omega (arith, long, lt) in
-      ap (λ k. get_or (set marks x true) k false) same ∙ get_or-set_same marks x true false here ∙ sym (has_append n front (x ∷ []) ∙ ap (λ b. has_number n front || (b || false)) e ∙ either (has_number n front))
-  | false ↦ λ e. let ne : n ≢ x = grind (arith, nat_tests) in
-      get_or-set_other marks x n true false ne ∙ m.each n h ∙ sym (has_append n front (x ∷ []) ∙ ap (λ b. has_number n front || (b || false)) e ∙ or_false (has_number n front))
-] refl }
+marked_more marks x front long lt m = record {
+  each = λ n h. elim (nat_eq n x) as (λ t. nat_eq n x ≡ t → get_or (set marks x true) n false ≡ has_number n (front ++ x ∷ [])) [
+    | true ↦ λ e. let same = number_is n x e in
+        let here : x < length marks = omega (arith, long, lt) in
+        ap (λ k. get_or (set marks x true) k false) same ∙ get_or-set_same marks x true false here ∙ sym (has_append n front (x ∷ []) ∙ ap (λ b. has_number n front || (b || false)) e ∙ either (has_number n front))
+    | false ↦ λ e. let ne : n ≢ x = grind (arith, nat_tests) in
+        get_or-set_other marks x n true false ne ∙ m.each n h ∙ sym (has_append n front (x ∷ []) ∙ ap (λ b. has_number n front || (b || false)) e ∙ or_false (has_number n front))
+  ] refl;
+}
   where
     either : (b : Bool) → (b || true) ≡ true
     either true = refl
@@ -171,9 +173,10 @@ module _ (pool after : PoolRecord ℕ) (slot : Slot) (others_stay : (other : Slo
       → AllByRecursion (λ (m : Member). value_at pool m.slot ≡ Some m.worker) members → AllByRecursion (λ (m : Member). value_at after m.slot ≡ Some m.worker) members
   stay_placed worker [] here free h = tt
   stay_placed worker (m ∷ ms) here free h =
-      let b = neither (nat_eq worker m.worker) (has_number worker (workers_of ms)) free in
-      (others_stay m.slot (λ same. let e : Some m.worker ≡ Some worker = sym h.0 ∙ ap (value_at pool) same ∙ here in let k : m.worker ≡ worker = cc in let f = sym b.0 ∙ ap (λ n. nat_eq worker n) k ∙ nat_itself worker in let g : false ≡ true = f in cc) ∙ h.0,
-       stay_placed worker ms here b.1 h.1)
+      let b = neither (nat_eq worker m.worker) (has_number worker (workers_of ms)) free in (
+        others_stay m.slot (λ same. let e : Some m.worker ≡ Some worker = sym h.0 ∙ ap (value_at pool) same ∙ here in let k : m.worker ≡ worker = cc in let f = sym b.0 ∙ ap (λ n. nat_eq worker n) k ∙ nat_itself worker in let g : false ≡ true = f in cc) ∙ h.0,
+        stay_placed worker ms here b.1 h.1,
+      )
 
   -- those that are placed while this slot is not live stand as they did
   stay_while_absent : (members : List Member) → value_at pool slot ≡ None → AllByRecursion (λ (m : Member). value_at pool m.slot ≡ Some m.worker) members → AllByRecursion (λ (m : Member). value_at after m.slot ≡ Some m.worker) members

@@ -150,10 +150,10 @@ unit_part u es first count le in' before from upto behind =
     let own = take count back in
     let whole : take first es ++ (own ++ drop count back) ≡ es = ap (λ ys. take first es ++ ys) (take-append-drop count back) ∙ take-append-drop first es in
     sym (sym (ap (filter p) whole) ∙ passes_part p (take first es) own (drop count back)
-        (passes_none p (take first es) (λ i d lt. let l = length-take first es in let h : i < first = omega (arith, l, lt) in let b = before i d h in let e = ap (λ (x : Key × ℕ). x.0.unit) (get_or-take first es i d h) in is_other (get_or (take first es) i d).0.unit (omega (arith, b, e))))
-        (passes_all p own (λ i d lt. let l = length-take count back in let h : i < count = omega (arith, l, lt) in let b = upto i d h in let e = ap (λ (x : Key × ℕ). x.0.unit) (get_or-take count back i d h) in
-            let g = get_or-drop first es i d in let f = ap (λ (x : Key × ℕ). x.0.unit) g in let long = length-drop first es in let k = from (first + i) d (omega arith) (omega (arith, long, h, in', le)) in is_one (get_or own i d).0.unit (omega (arith, b, e)) (omega (arith, e, f, k))))
-        (passes_none p (drop count back) (λ i d lt. let l = length-drop count back in let h = behind (count + i) d (omega arith) (omega (arith, l, lt)) in let e = ap (λ (x : Key × ℕ). x.0.unit) (get_or-drop count back i d) in is_more (get_or (drop count back) i d).0.unit (omega (arith, h, e)))))
+    (passes_none p (take first es) (λ i d lt. let l = length-take first es in let h : i < first = omega (arith, l, lt) in let b = before i d h in let e = ap (λ (x : Key × ℕ). x.0.unit) (get_or-take first es i d h) in is_other (get_or (take first es) i d).0.unit (omega (arith, b, e))))
+    (passes_all p own (λ i d lt. let l = length-take count back in let h : i < count = omega (arith, l, lt) in let b = upto i d h in let e = ap (λ (x : Key × ℕ). x.0.unit) (get_or-take count back i d h) in
+    let g = get_or-drop first es i d in let f = ap (λ (x : Key × ℕ). x.0.unit) g in let long = length-drop first es in let k = from (first + i) d (omega arith) (omega (arith, long, h, in', le)) in is_one (get_or own i d).0.unit (omega (arith, b, e)) (omega (arith, e, f, k))))
+    (passes_none p (drop count back) (λ i d lt. let l = length-drop count back in let h = behind (count + i) d (omega arith) (omega (arith, l, lt)) in let e = ap (λ (x : Key × ℕ). x.0.unit) (get_or-drop count back i d) in is_more (get_or (drop count back) i d).0.unit (omega (arith, h, e)))))
   where
     is_other : (n : ℕ) → n < u → nat_eq n u ≡ false
     is_other n lt = grind (arith, nat_tests)

@@ -3,10 +3,12 @@
 #![tactic(auto)]
 
 mod crew;
+mod law;
 mod plan;
 mod squad;
 mod workers;
 
+pub use law::plans_name_once;
 pub use plan::{Plan, PlanShape, Running};
 pub use squad::Member;
 pub use workers::Workers;

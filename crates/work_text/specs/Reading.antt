@@ -3,8 +3,6 @@ use Rattle.std.specs.Prelude.{ℕ, ◌+◌, ◌<◌, ◌≤◌, Bool, cond, nat_
 use Rattle.std.specs.List.{find, list_any, list_all, zip}
 use Rattle.std.specs.Str.{bytes_eq}
 use Rattle.fuxi_terms.specs.Counts.{then_do}
-use Rattle.fuxi_terms.specs.Limits.{most_jobs, most_units, greatest_count}
-use Rattle.work_plan.specs.Plans.{most_workers}
 use Rattle.schedule_unit.specs.Numbers.{number_of}
 use Rattle.schedule_unit.specs.declared.party.AppNo.{AppNo}
 use Rattle.schedule_unit.specs.declared.party.UnitNo.{UnitNo}
@@ -76,15 +74,3 @@ work_of_words (w ∷ ws) = then_do (head_of heads (w ∷ ws)) (λ h. event_behin
 -- the event that a line says
 abbrev pub work_of : List ℕ → Result WorkEvent LineFault
 work_of line = work_of_words (words_of line)
-
--- The events that a line can give
-abbrev pub IsGiven : WorkEvent → Type 0
-IsGiven (event.Agent b) = 1 ≤ b
-IsGiven (event.App a b) = (a.0 < most_jobs) × (1 ≤ b)
-IsGiven (event.Row a u n) = (a.0 < most_jobs) × (u.0 < most_units) × (n ≤ greatest_count)
-IsGiven (event.Plan a u w wanted) = (a.0 < most_jobs) × (u.0 < most_units) × (w < most_workers)
-IsGiven event.TurnAgent = Unit {0}
-IsGiven (event.TurnApp a) = a.0 < most_jobs
-IsGiven (event.Deliver k) = 1 ≤ k
-IsGiven (event.DeliverRange k l) = (1 ≤ k) × (k ≤ l)
-IsGiven event.Show = Unit {0}

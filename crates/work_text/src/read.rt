@@ -4,7 +4,8 @@ ghost use Rattle.std.specs.Prelude.{◌≡◌, true, ℕ, ◌+◌, ◌^◌, ◌<
 ghost use Rattle.std.specs.List.{find, list_any};
 ghost use Rattle.schedule_text.specs.Reading.{IsFault};
 ghost use Rattle.work_text.specs.Forms.{shape_of, as_shape, IsNarrow};
-ghost use Rattle.work_text.specs.Reading.{begins, is_head, has_count, head_of, number_at, numbers_at, event_behind, work_of_words, work_of, IsGiven};
+ghost use Rattle.work_text.specs.Reading.{begins, is_head, has_count, head_of, number_at, numbers_at, event_behind, work_of_words, work_of};
+ghost use Rattle.written_work.specs.Given.{IsGiven};
 ghost use Rattle.work_text.specs.declared.form.Place.TheVariants.{Boot as BootPlace};
 
 use crate::form::{Form, HEADS, Head, Place, form_of, is_within};

@@ -3,3 +3,5 @@ pub mod Lines
 pub mod Settling
 pub mod Events
 pub mod Runs
+pub mod Given
+pub mod States

@@ -39,10 +39,10 @@ returns-clause-entries c =
     let two = IsPartitionPoint-from_clause (λ (e : Key × ℕ). leb e.0.unit u) back count c.partition_point-count.ensures.partitioned (IsPartitionedBy-leb unit_is back u later) (λ a r q k. search (rules, tests)) in
     c.split_at-2.ensures.front ∙ ap (take count) behind
     ∙ unit_part u es first count c.partition_point-first.ensures.bound (subst (λ xs. count ≤ length xs) behind c.partition_point-count.ensures.bound)
-        (λ i d lt. is_below (get_or es i d).0.unit u (one.0 i d (omega arith) lt))
-        (λ i d le lt. is_not_below (get_or es i d).0.unit u (one.1 i d le lt))
-        (λ i d lt. is_upto (get_or (drop first es) i d).0.unit u (subst (λ (xs : List (Key × ℕ)). leb (get_or xs i d).0.unit u ≡ true) behind (two.0 i d (omega arith) lt)))
-        (λ i d le lt. is_above (get_or (drop first es) i d).0.unit u (subst (λ (xs : List (Key × ℕ)). leb (get_or xs i d).0.unit u ≡ false) behind (two.1 i d le (subst (λ xs. i < length xs) (sym behind) lt))))
+    (λ i d lt. is_below (get_or es i d).0.unit u (one.0 i d (omega arith) lt))
+    (λ i d le lt. is_not_below (get_or es i d).0.unit u (one.1 i d le lt))
+    (λ i d lt. is_upto (get_or (drop first es) i d).0.unit u (subst (λ (xs : List (Key × ℕ)). leb (get_or xs i d).0.unit u ≡ true) behind (two.0 i d (omega arith) lt)))
+    (λ i d le lt. is_above (get_or (drop first es) i d).0.unit u (subst (λ (xs : List (Key × ℕ)). leb (get_or xs i d).0.unit u ≡ false) behind (two.1 i d le (subst (λ xs. i < length xs) (sym behind) lt))))
     ∙ ap (of_unit u) same
 
 pub returns-clause-numbers : goal.returns-clause-numbers
