@@ -106,9 +106,10 @@ turn_sends d from to ns p q l hs e is_p is_to le marks brings =
     let here : turn_of d.outgoing.last d.acked d.incoming.place ≡ turn_of (length (hs p q)) l.acked (place_at l) = λ i. turn_of (e.last i) (e.acked i) (e.place i) in
     let few : l.acked ≤ length (hs p q) = subst (λ n. n ≤ length (hs p q)) e.acked (subst (λ n. d.acked ≤ n) e.last le) in
     let are = subst (AllByRecursion (IsMarked (length (hs p q)))) (sym (marks ∙ here)) (turn_marked (length (hs p q)) l.acked (place_at l) few) in
-    let same : hs (party_of from) (party_of to).id ≡ hs p q = λ i. hs (is_p i) (is_to i).id in
-    (by_marks from to ns ∙ (λ i. map (packet_by (is_p i) (is_to i)) ((marks ∙ here) i)) ∙ turn_by_marks p q (length (hs p q)) l,
-     all_brought from to hs ns (subst (λ h. AllByRecursion (Brings patched_names (empty_tally ∷ h)) ns) (sym same) (brings (empty_tally ∷ hs p q) e.stands)) (subst (λ h. AllByRecursion (IsMarked (length h)) (map mark_of ns)) (sym same) are))
+    let same : hs (party_of from) (party_of to).id ≡ hs p q = λ i. hs (is_p i) (is_to i).id in (
+      by_marks from to ns ∙ (λ i. map (packet_by (is_p i) (is_to i)) ((marks ∙ here) i)) ∙ turn_by_marks p q (length (hs p q)) l,
+      all_brought from to hs ns (subst (λ h. AllByRecursion (Brings patched_names (empty_tally ∷ h)) ns) (sym same) (brings (empty_tally ∷ hs p q) e.stands)) (subst (λ h. AllByRecursion (IsMarked (length h)) (map mark_of ns)) (sym same) are),
+    )
 
 -- A packet that is not taken leaves the link
 link_left : (v : Verdict) (own top : ℕ) (l : Link) (x : Packet) → (v ≡ Take → ⊥) → link_after (told_as v) own top l x ≡ l
@@ -296,7 +297,11 @@ present_is d p q l hs e = entry_is (hs p q) (length (hs p q)) d.outgoing.present
 -- An end stands for other histories too that have the same towards each other
 pub kept_end : (d : Endpoint TallyRecord ChangeRecord TallyRecord) (p : Party) (q : Id) (l : Link) (hs hs' : Party → Id → List TallyRecord) → IsEnd d p q l hs → hs' p q ≡ hs p q → hs' (record { id = q; inc = l.known }) p.id ≡ hs (record { id = q; inc = l.known }) p.id → IsEnd d p q l hs'
 kept_end d p q l hs hs' e own theirs = record {
-  own = e.own; also = e.also; apart = e.apart; place = e.place; acked = e.acked;
+  own = e.own;
+  also = e.also;
+  apart = e.apart;
+  place = e.place;
+  acked = e.acked;
   last = e.last ∙ ap length (sym own);
   stands = subst (λ h. StandsFor empty_tally patched_names d.outgoing (empty_tally ∷ h)) (sym own) e.stands;
   entry = subst (λ h. HasEntry d.incoming (empty_tally ∷ h)) (sym theirs) e.entry;

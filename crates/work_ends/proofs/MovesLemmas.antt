@@ -77,4 +77,3 @@ module _ {K : Type 0} (R : K → K → Ordering) where
       below = subst (AllByRecursion (λ c. T (below_all R c.0 rest))) (sym put) (all_push (λ c. T (below_all R c.0 rest)) change (n.0, change_between (count R es n.0) n.1) (tails n rest change here.below) (both_true (below_all R n.0 rest) (is_sorted R rest) here.sorted).0);
       sorted = (both_true (below_all R n.0 rest) (is_sorted R rest) here.sorted).1;
     }
-
