@@ -1,0 +1,4 @@
+pub mod SettingLemmas
+pub mod MovesLemmas
+pub mod NamesLemmas
+pub mod EndsLemmas

@@ -1,0 +1,2 @@
+pub mod CrewsLemmas
+pub mod PlansLemmas

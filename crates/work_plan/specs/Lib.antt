@@ -1,0 +1,4 @@
+pub mod Plans
+pub mod RunAfter
+pub mod Shapes
+pub mod Crews

@@ -1,0 +1,2 @@
+pub mod RunAfterLemmas
+pub mod StatesLemmas
