@@ -21,19 +21,6 @@ def has(name, made_of):
     return os.path.isdir(place(name, made_of))
 
 
-def link(source, target):
-    """Gives a file a second name, or copies it where that cannot be."""
-    try:
-        os.link(source, target)
-    except OSError:
-        shutil.copyfile(source, target)
-
-
-def take(name, made_of, to):
-    """Gives a room the library of a crate. Nobody writes into its files, so they need not be copied."""
-    shutil.copytree(place(name, made_of), to, copy_function=link)
-
-
 def keep(name, made_of, library):
     """Keeps a library that was just made. It stands under its name whole or not at all."""
     os.makedirs(os.path.dirname(place(name, made_of)), exist_ok=True)
@@ -66,10 +53,4 @@ def forget():
 
 
 def mebibytes():
-    """How much is kept: a file with several names counts once."""
-    sizes = {}
-    for at, _, files in os.walk(folder()):
-        for name in files:
-            stat = os.stat(f"{at}/{name}")
-            sizes[stat.st_ino] = stat.st_size
-    return sum(sizes.values()) >> 20
+    return sum(os.path.getsize(f"{at}/{name}") for at, _, files in os.walk(folder()) for name in files) >> 20

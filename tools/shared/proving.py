@@ -1,7 +1,8 @@
-"""Proves one crate after the other by the toolchain's public commands, each in a room of its own, as many side by side as there are processors.
+"""Proves one crate after the other, lowest first, as many side by side as there are processors.
 
-A room is a repository of the crate and those below it, with their libraries. `rt` locks the crates below the one that it works on, so two runs
-in one repository would wait for each other."""
+A library is proved and written by the toolchain's `rattle build`, with its statements alone: those above it then load no proof again. The command
+`rt lib` of the toolchain would do the same in a repository, but keeps whole proofs, locks the folders of all crates below, and goes along each path
+of the graph of crates. The program is proved, compiled and linked by `rt run`."""
 
 import os
 import shutil
@@ -11,13 +12,13 @@ import threading
 import time
 from concurrent.futures import FIRST_COMPLETED, ThreadPoolExecutor, wait
 
-from shared import kept
-from shared.crates import PARTS, TOP, below, direct, listed, own_sum, program_of, sources, sum_file, sum_of
+from shared import kept, toolchain
+from shared.crates import TOP, below, direct, listed, own_sum, program_of, sources, sum_file, sum_of
 
 # So much memory a run may take, by a rule of thumb.
 BYTES_FOR_A_RUN = 3 << 30
-# Seconds for a crate, for each line of its code, and for each visit of a crate by the toolchain, which goes along each path of the graph.
-BASE_SECONDS, LINE_SECONDS, VISIT_SECONDS = 20.0, 0.12, 0.001
+# Seconds for a crate, and for each line of its code.
+BASE_SECONDS, LINE_SECONDS = 20.0, 0.12
 
 
 class NotProved(Exception):
@@ -38,24 +39,22 @@ def forget_sums():
 class Build:
     """A program with all crates below it."""
 
-    def __init__(self, name, toolchain, room, say):
-        self.name, self.toolchain, self.room, self.say = name, toolchain, room, say
-        self.libraries = below(name)
-        self.sums = {it: sum_of(it, toolchain) for it in [*self.libraries, name]}
+    def __init__(self, name, room, say):
+        self.name, self.room, self.say = name, room, say
+        self.version, self.libraries = toolchain.version(), below(name)
+        self.sums = {it: sum_of(it, self.version) for it in [*self.libraries, name]}
         self.moment, self.running, self.lock, self.spent = time.time(), set(), threading.Lock(), {}
-        self.is_stopped, self.paths = False, {}
-        for it in self.sums:
-            self.paths[it] = 1 + sum(self.paths[dep] for dep in direct(it))
+        self.is_stopped, self.kit = False, toolchain.folder()
 
     def copy_sources(self):
-        """One copy of all sources, so that an edit meanwhile is no matter: rooms have these files under second names."""
+        """One copy of all sources, so that an edit meanwhile is no matter."""
         for it in self.sums:
             for path in sources(it):
                 target = f"{self.room}/sources/{os.path.relpath(path, TOP)}"
                 os.makedirs(os.path.dirname(target), exist_ok=True)
                 shutil.copyfile(path, target)
         forget_sums()
-        if any(sum_of(it, self.toolchain) != made_of for it, made_of in self.sums.items()):
+        if any(sum_of(it, self.version) != made_of for it, made_of in self.sums.items()):
             raise NotProved("the sources change while they are copied: begin again")
 
     def seconds(self, name):
@@ -65,32 +64,15 @@ class Build:
             if path.endswith(".rt"):
                 with open(path, "rb") as file:
                     lines += file.read().count(b"\n")
-        visits = 0 if name == self.name else 3 * sum(self.paths[it] for it in below(name)) + 2 * self.paths[name]
-        return BASE_SECONDS + LINE_SECONDS * lines + VISIT_SECONDS * visits
-
-    def enter(self, name, libraries, lines):
-        """Makes a room for a crate over these libraries."""
-        room = f"{self.room}/{name}"
-        os.makedirs(f"{room}/crates")
-        shutil.copyfile(f"{TOP}/HANDLES", f"{room}/HANDLES")
-        with open(f"{room}/crates.txt", "w", encoding="utf-8") as file:
-            file.writelines(f"{it}: {' '.join(deps)}\n" for it, deps in lines.items())
-        for it in lines:
-            for part in PARTS:
-                source = f"{self.room}/sources/crates/{it}/{part}"
-                if os.path.isdir(source):
-                    shutil.copytree(source, f"{room}/crates/{it}/{part}", copy_function=kept.link)
-        for it in libraries:
-            kept.take(it, self.sums[it], f"{room}/crates/{it}/out/rlib")
-        return f"{room}/crates/{name}"
+        return BASE_SECONDS + LINE_SECONDS * lines
 
     def call(self, words, folder):
-        """Runs `rt` and answers what it said; it ends with this build, however that ends."""
+        """Runs a command of the toolchain and answers what it said; it ends with this build, however that ends."""
         began = time.monotonic()
         with self.lock:
             if self.is_stopped:
                 raise NotProved("stopped")
-            run = subprocess.Popen(["rt", *words], cwd=folder, stdin=subprocess.DEVNULL, stdout=subprocess.PIPE, stderr=subprocess.STDOUT, text=True, errors="replace", start_new_session=True)
+            run = subprocess.Popen(words, cwd=folder, stdin=subprocess.DEVNULL, stdout=subprocess.PIPE, stderr=subprocess.STDOUT, text=True, errors="replace", start_new_session=True)
             self.running.add(run)
         said = run.communicate()[0]
         with self.lock:
@@ -106,26 +88,36 @@ class Build:
                 except ProcessLookupError:
                     pass
 
+    def libraries_of(self, name):
+        """The words that name the libraries of a crate: those of the toolchain, those of this checkout, and where the ones below them are."""
+        words = []
+        for it in ["std", *(it for it in listed()[name] if it not in listed())]:
+            words += ["--extern", f"{it}={self.kit}/rlibs/{it}.rlib"]
+        for it in direct(name):
+            words += ["--extern", f"{it}={kept.place(it, self.sums[it])}/{it}.rlib"]
+        for it in below(name):
+            words += ["-L", f"dependency={kept.place(it, self.sums[it])}"]
+        return words
+
     def prove_library(self, name):
-        lines = {it: listed()[it] for it in [*below(name), name]}
-        folder = self.enter(name, below(name), lines)
-        status, said, self.spent[name] = self.call(["lib", "--jobs", "1"], folder)
-        if status or not os.path.isdir(f"{folder}/out/rlib/{name}.rlib"):
+        made = f"{self.room}/{name}"
+        os.mkdir(made)
+        words = [f"{self.kit}/bin/rattle", "build", "--crate-name", name, "src/lib.rt", *self.libraries_of(name), "-L", f"dependency={self.kit}/rlibs"]
+        words += ["--antt-project", f"{self.kit}/rattle/logic/antt-project.json", "--logic-built", f"{self.kit}/logic_built", "--jobs", "1", "--statements"]
+        status, said, self.spent[name] = self.call([*words, "-o", f"{made}/{name}.rlib"], f"{self.room}/sources/crates/{name}")
+        if status or "\nlogic=proved " not in f"\n{said}":
             raise NotProved(f"{name} was not proved:\n{last_lines(said)}")
-        kept.keep(name, self.sums[name], f"{folder}/out/rlib")
-        shutil.rmtree(f"{self.room}/{name}", ignore_errors=True)
+        kept.keep(name, self.sums[name], made)
 
     def prove_program(self):
-        """Proves, compiles and links the program. Its libraries are handed in by name, so that the toolchain need not look at each path to them."""
-        of_toolchain = [it for it in listed()[self.name] if it not in listed()]
-        folder = self.enter(self.name, (), {self.name: of_toolchain})
-        words = ["run", "--jobs", "1"]
-        for it in direct(self.name):
-            words += ["--extern", f"{it}={kept.place(it, self.sums[it])}/{it}.rlib"]
-        for it in self.libraries:
-            words += ["-L", f"dependency={kept.place(it, self.sums[it])}"]
+        """Proves, compiles and links the program, in a small repository of its own."""
+        folder = f"{self.room}/program/crates/{self.name}"
+        shutil.copytree(f"{self.room}/sources/crates/{self.name}", folder)
+        shutil.copyfile(f"{TOP}/HANDLES", f"{self.room}/program/HANDLES")
+        with open(f"{self.room}/program/crates.txt", "w", encoding="utf-8") as file:
+            file.write(f"{self.name}:\n")
         # (run with a word that is no command, so that it reads nothing and only says how it is used)
-        _, said, self.spent[self.name] = self.call([*words, "--", "-"], folder)
+        _, said, self.spent[self.name] = self.call(["rt", "run", "--jobs", "1", *self.libraries_of(self.name)[2:], "--", "-"], folder)
         made = f"{folder}/out/{self.name}"
         if not os.access(made, os.X_OK):
             raise NotProved(f"{self.name} was not proved, compiled and linked:\n{last_lines(said)}")

@@ -1,5 +1,6 @@
 """The toolchain's command `rt`, by what it says of itself."""
 
+import os
 import shutil
 import subprocess
 import sys
@@ -15,6 +16,12 @@ def fail(name, why, status=NO_PROGRAM):
 
 def is_there():
     return shutil.which("rt") is not None
+
+
+def folder():
+    """Where the toolchain is: its first page stands at its top."""
+    page = subprocess.run(["rt", "doc"], stdin=subprocess.DEVNULL, capture_output=True, text=True).stdout.strip()
+    return os.path.dirname(page)
 
 
 def version():
