@@ -56,7 +56,6 @@ fn limit_word(what: &LimitOf) -> &'static str
         LimitOf::Packets => "packets",
         LimitOf::Bytes => "bytes",
         LimitOf::Records => "records",
-        LimitOf::Calls => "calls",
     }
 }
 

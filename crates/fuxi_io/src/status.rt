@@ -39,8 +39,6 @@ pub enum LimitOf {
     Bytes,
     /// The records of a checkpoint, at most 65,536.
     Records,
-    /// The calls of a desk's sessions, at most 10,000.
-    Calls,
 }
 
 /// Why a line of the input was refused.

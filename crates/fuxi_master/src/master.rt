@@ -99,9 +99,8 @@ impl Master {
         ))
     }
 
-    /// Its epoch. Every master stands for one by itself (`role`).
+    /// Its epoch.
     pub fn epoch(&self) -> u64
-        ensures role { (r : MasterRole) × StandsFor self.now.core r }
         ensures epoch { result ≡ self.now.core.epoch }
         ensures stands { (r : MasterRole) → StandsFor self.now.core r → result ≡ r.state.epoch }
     {

@@ -3,7 +3,7 @@ use Rattle.std.specs.Prelude.{◌≡◌, ◌⊎◌, ℕ, ◌≤◌, ⊤, List, l
 use Rattle.std.specs.Io.KnownBytes.{Consumes}
 use Rattle.fuxi_io.specs.Disks.{Told as Moments, Leaves, WhereTold as WhereMoments}
 use Rattle.fuxi_io.specs.Reading.{read_ahead}
-use Rattle.fuxi_io.specs.declared.status.LimitOf.TheVariants.{Lines, Packets, Bytes, Records, Calls}
+use Rattle.fuxi_io.specs.declared.status.LimitOf.TheVariants.{Lines, Packets, Bytes, Records}
 use Rattle.fuxi_io.specs.declared.status.Status.{Status}
 use Rattle.fuxi_io.specs.declared.status.Status.TheVariants.{Done, Usage, BadInput, ReadFault, WriteFault, Limit, OutOfMemory, DiskFault, StaleEpoch, DamagedCheckpoint}
 use Rattle.fuxi_terms.specs.Limits.{most_records}
@@ -55,7 +55,6 @@ TellsFile epoch (StaleEpoch fence) disk = IfSome disk (RefusesEpoch epoch (NotRi
 TellsFile epoch (Limit Records kept) disk = (kept ≡ most_records) × IfSome disk (RefusesEpoch epoch (HardFull most_records))
 TellsFile epoch (Limit Lines kept) disk = ⊤
 TellsFile epoch (Limit Packets kept) disk = ⊤
-TellsFile epoch (Limit Calls kept) disk = ⊤
 TellsFile epoch (Limit Bytes kept) disk = ⊤
 TellsFile epoch Done disk = ⊤
 TellsFile epoch Usage disk = ⊤
@@ -73,7 +72,6 @@ IsStartStatus (StaleEpoch fence) = ⊤
 IsStartStatus (Limit Records kept) = ⊤
 IsStartStatus (Limit Lines kept) = ⊥
 IsStartStatus (Limit Packets kept) = ⊥
-IsStartStatus (Limit Calls kept) = ⊥
 IsStartStatus (Limit Bytes kept) = ⊥
 IsStartStatus OutOfMemory = ⊤
 IsStartStatus Done = ⊥

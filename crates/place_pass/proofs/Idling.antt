@@ -26,8 +26,7 @@ use Rattle.place_pass.specs.Best.{AreAdmitted}
 use Rattle.place_pass.specs.Cells.{Cell, no_cell, cell_at, asks_at, asks_in, job_at, taken, taken_all, is_gone, any_gone, asks_more, any_more, Lifts, AvoidsStill, AreWishes}
 use Rattle.place_pass.specs.Bounds.{MarkRecord, mark_at, turn_at}
 use Rattle.place_pass.specs.Counts.{IsLifted}
-use Rattle.place_pass.proofs.StillLemmas.{still_elsewhere}
-use Rattle.place_pass.specs.Placers.{AreLevel, AsksNoMore, IsIdle, IsClear, IsKept, IsQuiet, KeptRecord, board_over, is_open_to, IsStill}
+use Rattle.place_pass.specs.Placers.{AreLevel, AsksNoMore, IsIdle, IsClear, IsKept, IsQuiet, KeptRecord, board_over, is_open_to}
 use Rattle.place_pass.proofs.BoundsLemmas.{NoEarlier, accepts_less, bounded_later}
 use Rattle.place_pass.proofs.SightsLemmas.{place_of}
 use Rattle.place_pass.proofs.BoundsAfterChange.{levels_le}
@@ -380,10 +379,6 @@ module _ (j : JobRecord) (cells cells' : List (List Cell)) (o : List Bool) (t : 
       let z : asks_in cells' a (want_key u) ≡ 0 = asks a (want_key u) ∙ ap (λ ys. (get_or ys u no_cell).want) (subst (λ n. get_or cells n [] ≡ []) (number_is j.number a b) empty) in
       let none : out_of (asks_in cells') t.entries a u ≤ 0 = omega (arith, z) in
       grind (arith, nat_tests, none)
-
-  pub still_admitted : (xs : List Bool) (line : List (ℕ × ℕ)) → j.number < length xs → IsStill xs cells line t → IsStill (set xs j.number true) cells' line with_job
-  still_admitted xs line lt h = still_elsewhere xs j.number cells cells' line line t with_job lt (λ b u d. refl)
-      (λ b d. ap (λ k. length (unwrap_or (option_map (λ (k : KnownJob). k.job.units) k) [])) (same b d)) (λ b u d. ap (λ n. n - held t.entries b u) (asks b (want_key u))) h
 
   pub quiet_admitted : (line : List (ℕ × ℕ)) (turns : ℕ) (marks : List MarkRecord) → IsQuiet cells o line turns marks t → IsQuiet cells' o line turns marks with_job
   quiet_admitted line turns marks h = record {

@@ -17,7 +17,6 @@ mod KeptLemmas
 mod FirstOfLine
 mod FirstByTurn
 mod StandingLemmas
-mod StillLemmas
 mod StandsAfterChange
 mod LinedLemmas
 mod AskedLemmas

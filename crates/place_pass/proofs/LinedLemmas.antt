@@ -1,20 +1,16 @@
 -- A line that loses pairs and to whose end others are appended with new turns: what is kept of it, and what the tree holds meanwhile.
-use Rattle.std.proofs.Common.{◌≡◌, ℕ, ◌+◌, ◌-◌, ◌<◌, ◌≤◌, Bool, true, false, not, nat_lt, List, ◌++◌, length, filter, take, slice_get, Some, refl, sym, ap, subst, ◌∙◌, arith}
+use Rattle.std.proofs.Common.{◌≡◌, ℕ, ◌+◌, ◌-◌, ◌<◌, ◌≤◌, Bool, true, false, not, List, ◌++◌, length, filter, take, slice_get, Some, refl, sym, ap, subst, ◌∙◌, arith}
 use Rattle.std.specs.Prelude.{◌&&◌}
-use Rattle.std.proofs.Math.Bool.{and-true}
 use Rattle.std.proofs.lemmas.List.{length-append}
 use Rattle.std.proofs.Math.Seq.{take-append_seam}
 use Rattle.fuxi_terms.specs.Cluster.{ClusterRecord}
 use Rattle.fuxi_terms.specs.Keys.{Spot}
-use Rattle.fuxi_terms.specs.declared.Key.{Key}
 use Rattle.fuxi_terms.proofs.Booleans.{both_true}
-use Rattle.written_roles.specs.Masters.{out_of}
 use Rattle.written_roles.specs.Placing.{has_pair}
 use Rattle.grant_table.specs.Tables.{TableRecord}
 use Rattle.locality_tree.specs.Trees.{TreeRecord, unit_at}
 use Rattle.place_pass.specs.Bounds.{turn_at}
 use Rattle.place_pass.specs.Cells.{Cell}
-use Rattle.place_pass.specs.Lines.{WaitAlike}
 use Rattle.place_pass.specs.Placers.{KeptRecord, IsKept}
 use Rattle.place_pass.specs.Trees.{Holds, HoldsLine, AllStand}
 use Rattle.place_pass.proofs.FirstByTurn.{has_at}
@@ -23,11 +19,6 @@ use Rattle.place_pass.proofs.Lining.{has_filter}
 use Rattle.place_pass.proofs.NumberedLemmas.{numbered_end, has_end}
 use Rattle.place_pass.proofs.StandingLemmas.{holds_same, stands_on}
 use Rattle.place_pass.proofs.StandsAfterChange.{holds_turned}
-
--- those that join are the same, whether they are told from the line as it was or from what stayed
-pub joined_is : (asks : ℕ → Key → ℕ) (es : List (Spot × ℕ)) (line kept next all : List (ℕ × ℕ)) → kept ≡ filter (λ p. nat_lt 0 (out_of asks es p.0 p.1)) line
-    → ((l : List (ℕ × ℕ)) → ((a : ℕ) → WaitAlike asks es a l kept) → next ≡ kept ++ filter (λ p. not (has_pair p l)) all) → next ≡ kept ++ filter (λ p. not (has_pair p line)) all
-joined_is asks es line kept next all is h = h line (λ a u some. sym (ap (has_pair (a, u)) is ∙ has_filter (λ p. nat_lt 0 (out_of asks es p.0 p.1)) (a, u) line ∙ ap (λ b. has_pair (a, u) line && b) some ∙ and-true (has_pair (a, u) line)))
 
 module _ (line front all other : List (ℕ × ℕ)) (stayed : ℕ) (q : ℕ × ℕ → Bool) (k : KeptRecord) (turn_of : List ℕ) (kept : front ≡ filter q line) (is : other ≡ front ++ filter (λ p. not (has_pair p line)) all) (long : stayed ≡ length front)
     (small : (a u : ℕ) → has_pair (a, u) line ≡ true → u < 8) (others : (a u : ℕ) → u < 8 → ((i : ℕ) → stayed ≤ i → slice_get other i ≡ Some (a, u) → ⊥) → turn_at turn_of a u ≡ turn_at k.turn_of a u) where

@@ -69,25 +69,6 @@ none_joined line numbers units asks table h = none_had (filter (λ p. not (has_p
     let no : false ≡ true = sym (ap not l) ∙ b.1 in
     let z : ⊥ = cc in z)
 
--- of one job no unit begins to wait where each with something out stands in the line
-pub none_of_job : (line : List (ℕ × ℕ)) (b : ℕ) (units : ℕ → ℕ) (asks : ℕ → Key → ℕ) (table : List (Spot × ℕ)) → ((u : ℕ) → nat_lt u (units b) ≡ true → nat_lt 0 (out_of asks table b u) ≡ true → has_pair (b, u) line ≡ true)
-    → filter (λ p. not (has_pair p line)) (waiting_in (b ∷ []) units asks table) ≡ []
-none_of_job line b units asks table h = none_had (filter (λ p. not (has_pair p line)) (waiting_in (b ∷ []) units asks table)) (λ p has.
-    let k = both_true (has_pair p (waiting_in (b ∷ []) units asks table)) (not (has_pair p line)) (sym (has_filter (λ p. not (has_pair p line)) p (waiting_in (b ∷ []) units asks table)) ∙ has) in
-    let f = both_true (has_number p.0 (b ∷ [])) _ (sym (has_flat units (λ a u. nat_lt 0 (out_of asks table a u)) p.0 p.1 (b ∷ [])) ∙ k.0) in
-    let is : p.0 ≡ b = only p.0 b f.0 in
-    let g = both_true (nat_lt p.1 (units p.0)) (nat_lt 0 (out_of asks table p.0 p.1)) f.1 in
-    let l : has_pair p line ≡ true = ap (λ a. has_pair (a, p.1) line) is ∙ h p.1 (ap (λ a. nat_lt p.1 (units a)) (sym is) ∙ g.0) (ap (λ a. nat_lt 0 (out_of asks table a p.1)) (sym is) ∙ g.1) in
-    let no : false ≡ true = sym (ap not l) ∙ k.1 in
-    let z : ⊥ = cc in z)
-  where
-    only : (a b : ℕ) → has_number a (b ∷ []) ≡ true → a ≡ b
-    only a b e = number_is a b (sym (whole (nat_eq a b)) ∙ e)
-      where
-        whole : (x : Bool) → (x || false) ≡ x
-        whole true = refl
-        whole false = refl
-
 filter_most : (q : ℕ × ℕ → Bool) (xs : List (ℕ × ℕ)) → length (filter q xs) ≤ length xs
 filter_most q [] = omega arith
 filter_most q (x ∷ xs) = let le = filter_most q xs in elim (q x) as (λ b. length (cond b (x ∷ filter q xs) (filter q xs)) ≤ length (x ∷ xs)) [ true ↦ omega (arith, le) | false ↦ omega (arith, le) ]

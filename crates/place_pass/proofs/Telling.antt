@@ -277,32 +277,22 @@ module _ (c : ClusterRecord) (cells : List (List Cell)) (t : TableRecord) (l : A
 pub level_set : (c : ClusterRecord) (job : ℕ → Option JobRecord) (before after : TableRecord) (s : Spot) → IsSetFrom before after s → AreLevel c job before → AreLevel c job after
 level_set c job before after s is l = subst (AreLevel c job) (sym is.is) (record { cluster_is = l.cluster_is; jobs_are = l.jobs_are })
 
-module _ (asks : ℕ → Key → ℕ) (before after : TableRecord) (a u m : ℕ) (is : IsSetFrom before after (spot a u m)) where
-  pub held_after : (b v : ℕ) → held after.entries b v + cond (nat_eq a b && nat_eq u v) (count spot_cmp before.entries (spot a u m)) 0 ≡ held before.entries b v + cond (nat_eq a b && nat_eq u v) is.number 0
-  held_after b v = subst (λ (t : TableRecord). held t.entries b v + cond (nat_eq a b && nat_eq u v) (count spot_cmp before.entries (spot a u m)) 0 ≡ held before.entries b v + cond (nat_eq a b && nat_eq u v) is.number 0) (sym is.is)
+module _ (asks : ℕ → Key → ℕ) (before after : TableRecord) (a u m : ℕ) (is : IsSetFrom before after (spot a u m)) (more : count spot_cmp before.entries (spot a u m) ≤ is.number) (line : List (ℕ × ℕ))
+    (up : (b v : ℕ) → has_pair (b, v) line ≡ (nat_lt v (unit_count (as_known before.jobs) b) && nat_lt 0 (out_of asks before.entries b v))) where
+  held_then : (b v : ℕ) → held after.entries b v + cond (nat_eq a b && nat_eq u v) (count spot_cmp before.entries (spot a u m)) 0 ≡ held before.entries b v + cond (nat_eq a b && nat_eq u v) is.number 0
+  held_then b v = subst (λ (t : TableRecord). held t.entries b v + cond (nat_eq a b && nat_eq u v) (count spot_cmp before.entries (spot a u m)) 0 ≡ held before.entries b v + cond (nat_eq a b && nat_eq u v) is.number 0) (sym is.is)
       (sum_set (λ s n. cond (nat_eq s.job b && nat_eq s.unit v) n 0) (λ s. none (nat_eq s.job b && nat_eq s.unit v)) (spot a u m) is.number before.entries is.sound.counts.sorted)
     where
       none : (t : Bool) → ◌≡◌ {A = ℕ} (cond t 0 0) 0
       none true = refl
       none false = refl
 
-  pub units_after : (b : ℕ) → unit_count (as_known after.jobs) b ≡ unit_count (as_known before.jobs) b
-  units_after b = ap (λ (t : TableRecord). unit_count (as_known t.jobs) b) is.is
+  units_then : (b : ℕ) → unit_count (as_known after.jobs) b ≡ unit_count (as_known before.jobs) b
+  units_then b = ap (λ (t : TableRecord). unit_count (as_known t.jobs) b) is.is
 
   -- another unit waits as before
-  pub other_after : (b v : ℕ) → (nat_eq a b && nat_eq u v) ≡ false → out_of asks after.entries b v ≡ out_of asks before.entries b v
-  other_after b v f = let h : held after.entries b v + 0 ≡ held before.entries b v + 0 = subst (λ t. held after.entries b v + cond t (count spot_cmp before.entries (spot a u m)) 0 ≡ held before.entries b v + cond t is.number 0) f (held_after b v) in omega (arith, h)
-
-module _ (asks : ℕ → Key → ℕ) (before after : TableRecord) (a u m : ℕ) (is : IsSetFrom before after (spot a u m)) (more : count spot_cmp before.entries (spot a u m) ≤ is.number) (line : List (ℕ × ℕ))
-    (up : (b v : ℕ) → has_pair (b, v) line ≡ (nat_lt v (unit_count (as_known before.jobs) b) && nat_lt 0 (out_of asks before.entries b v))) where
-  held_then : (b v : ℕ) → held after.entries b v + cond (nat_eq a b && nat_eq u v) (count spot_cmp before.entries (spot a u m)) 0 ≡ held before.entries b v + cond (nat_eq a b && nat_eq u v) is.number 0
-  held_then b v = held_after asks before after a u m is b v
-
-  units_then : (b : ℕ) → unit_count (as_known after.jobs) b ≡ unit_count (as_known before.jobs) b
-  units_then b = units_after asks before after a u m is b
-
   other_out : (b v : ℕ) → (nat_eq a b && nat_eq u v) ≡ false → out_of asks after.entries b v ≡ out_of asks before.entries b v
-  other_out b v f = other_after asks before after a u m is b v f
+  other_out b v f = let h : held after.entries b v + 0 ≡ held before.entries b v + 0 = subst (λ t. held after.entries b v + cond t (count spot_cmp before.entries (spot a u m)) 0 ≡ held before.entries b v + cond t is.number 0) f (held_then b v) in omega (arith, h)
 
   turned : (b v : ℕ) → (nat_eq b a && nat_eq v u) ≡ (nat_eq a b && nat_eq u v)
   turned b v = λ i. eq_turned b a i && eq_turned v u i

@@ -1,26 +1,25 @@
 -- A walk along entries in order finds at each key what stands there.
-use Rattle.std.proofs.Common.{◌≡◌, ℕ, zero, suc, ◌+◌, ◌<◌, ◌≤◌, Bool, true, false, cond, List, [], ◌∷◌, length, map, drop, get_or, Some, refl, sym, ◌∙◌, ap, subst, arith, add-one, true≢false}
+use Rattle.std.proofs.Common.{◌≡◌, ℕ, zero, suc, ◌+◌, ◌<◌, ◌≤◌, Bool, true, false, cond, List, [], ◌∷◌, length, drop, get_or, Some, refl, sym, ◌∙◌, ap, subst, arith, add-one, true≢false}
 use Rattle.std.specs.Prelude.{T, ◌||◌}
 use Rattle.std.specs.List.{list_any}
 use Rattle.std.specs.Option.{unwrap_or}
 use Rattle.std.specs.Ordering.{nat_cmp, is_eq, is_lt, ordering_then, ordering_reverse}
+use Rattle.std.specs.Cmp.{IsTotalOrder, nat_cmp_total}
 use Rattle.std.specs.declared.cmp.Ordering.{Ordering}
 use Rattle.std.specs.declared.cmp.Ordering.TheVariants.{Less, Equal, Greater}
 use Rattle.std.specs.FinMap.Entries.{below_all, find, is_sorted}
-use Rattle.std.proofs.lemmas.List.{drop_more, drop_all, ext_get_or}
-use Rattle.std.proofs.lemmas.Map.Lookups.{exact_unsigned}
+use Rattle.std.proofs.lemmas.List.{drop_more, drop_all}
 use Rattle.fuxi_terms.specs.Counts.{count}
 use Rattle.fuxi_terms.specs.declared.Key.{Key}
 use Rattle.fuxi_terms.specs.Keys.{key_cmp}
 use Rattle.fuxi_terms.specs.Lists.{below}
 use Rattle.fuxi_terms.specs.TallyKeys.{key}
-use Rattle.fuxi_terms.proofs.Counting.{both_true, find_below_head}
+use Rattle.fuxi_terms.proofs.Counting.{both_true, lesser, find_below_head}
 use Rattle.fuxi_terms.proofs.KeyOrders.{key_total, same_key}
 use Rattle.place_pass.specs.Walks.{IsPast}
 use Rattle.place_pass.proofs.BoundsLemmas.{is_less}
 use Rattle.place_pass.proofs.FirstByTurn.{is_same}
 use Rattle.place_pass.proofs.Lining.{any_append}
-use Rattle.place_pass.proofs.Places.{counted_at, counted_long}
 
 tied : (k : Key) → key_cmp k k ≡ Equal
 tied k = ap (λ o. ordering_then o (ordering_then (nat_cmp k.unit k.unit) (nat_cmp k.number k.number))) (is_same k.what) ∙ ap (λ o. ordering_then o (nat_cmp k.number k.number)) (is_same k.unit) ∙ is_same k.number
@@ -97,35 +96,6 @@ found_later es at k d sorted lt other above past =
     stands_later es at k (get_or es at d) (drop (at + 1) es) (drop_more es at d lt) (subst (λ l. T (is_sorted key_cmp l)) (drop_more es at d lt) (sorted_rest at es sorted))
     (key_total.antisymm k (get_or es at d).0 ∙ ap ordering_reverse (greater (key_cmp (get_or es at d).0 k) other above)) (itself k) past
 
--- what is past the first key of a kind of a unit is past each
-past_all : (es : List (Key × ℕ)) (at what unit : ℕ) → IsPast es at (key what unit 0) → (n : ℕ) → IsPast es at (key what unit n)
-past_all es at what unit past zero = past
-past_all es at what unit past (suc n) = subst (λ k. IsPast es at (key what unit k)) (add-one n) (later_past es at what unit n (past_all es at what unit past n))
-
--- of another kind or unit, and not before all of this one
-behind_all : (what unit n : ℕ) (k : Key) → is_lt (key_cmp k (key what unit 0)) ≡ false → (k.what ≡ what → k.unit ≡ unit → ⊥) → key_cmp k (key what unit n) ≡ Greater
-behind_all what unit n k above other = by_what (nat_cmp k.what what) refl above
-  where
-    by_unit : (o : Ordering) → k.what ≡ what → nat_cmp k.unit unit ≡ o → is_lt (ordering_then (nat_cmp k.unit unit) (nat_cmp k.number 0)) ≡ false → ordering_then (nat_cmp k.unit unit) (nat_cmp k.number n) ≡ Greater
-    by_unit Less q t h = absurd (true≢false (sym (ap (λ o. is_lt (ordering_then o (nat_cmp k.number 0))) t) ∙ h))
-    by_unit Equal q t h = absurd (other q (exact_unsigned k.unit unit t))
-    by_unit Greater q t h = ap (λ o. ordering_then o (nat_cmp k.number n)) t
-
-    by_what : (o : Ordering) → nat_cmp k.what what ≡ o → is_lt (ordering_then (nat_cmp k.what what) (ordering_then (nat_cmp k.unit unit) (nat_cmp k.number 0))) ≡ false → ordering_then (nat_cmp k.what what) (ordering_then (nat_cmp k.unit unit) (nat_cmp k.number n)) ≡ Greater
-    by_what Less t h = absurd (true≢false (sym (ap (λ o. is_lt (ordering_then o (ordering_then (nat_cmp k.unit unit) (nat_cmp k.number 0)))) t) ∙ h))
-    by_what Equal t h = ap (λ o. ordering_then o (ordering_then (nat_cmp k.unit unit) (nat_cmp k.number n))) t ∙ by_unit (nat_cmp k.unit unit) (exact_unsigned k.what what t) refl (sym (ap (λ o. is_lt (ordering_then o (ordering_then (nat_cmp k.unit unit) (nat_cmp k.number 0)))) t) ∙ h)
-    by_what Greater t h = ap (λ o. ordering_then o (ordering_then (nat_cmp k.unit unit) (nat_cmp k.number n))) t
-
--- where all entries are passed, or the next one is of another kind or unit, there is nothing of this one
-pub none_left : (es : List (Key × ℕ)) (at what unit n : ℕ) → length es ≤ at → IsPast es at (key what unit 0) → count key_cmp es (key what unit n) ≡ 0
-none_left es at what unit n all past = past_all es at what unit past n (key what unit n) (ap is_lt (tied (key what unit n))) ∙ ap (λ l. count key_cmp l (key what unit n)) (drop_all at es all)
-
-pub none_next : (es : List (Key × ℕ)) (at what unit n : ℕ) (d : Key × ℕ) → T (is_sorted key_cmp es) → at < length es → is_lt (key_cmp (get_or es at d).0 (key what unit 0)) ≡ false
-    → ((get_or es at d).0.what ≡ what → (get_or es at d).0.unit ≡ unit → ⊥) → IsPast es at (key what unit 0) → count key_cmp es (key what unit n) ≡ 0
-none_next es at what unit n d sorted lt above other past =
-    let greater_is = behind_all what unit n (get_or es at d).0 above other in
-    found_later es at (key what unit n) d sorted lt (ap is_eq greater_is) (ap is_lt greater_is) (past_all es at what unit past n)
-
 -- one number more that was looked at
 pub one_more : (f : ℕ → Bool) (n : ℕ) → list_any f (below (n + 1)) ≡ (list_any f (below n) || f n)
 one_more f n = ap (λ k. list_any f (below k)) (add-one n) ∙ any_append f (below n) (n ∷ []) ∙ ap (λ b. list_any f (below n) || b) (or_false (f n))
@@ -133,11 +103,3 @@ one_more f n = ap (λ k. list_any f (below k)) (add-one n) ∙ any_append f (bel
     or_false : (b : Bool) → (b || false) ≡ b
     or_false true = refl
     or_false false = refl
-
--- numbers that are all 0 are those of a function that is 0 everywhere
-pub all_zero : (f : ℕ → ℕ) (xs : List ℕ) (n : ℕ) → length xs ≡ n → ((i : ℕ) → get_or xs i 0 ≡ 0) → ((i : ℕ) → f i ≡ 0) → xs ≡ map f (below n)
-all_zero f xs n long zeros none = ext_get_or 0 xs (map f (below n)) (long ∙ sym (counted_long f n)) (λ i lt. zeros i ∙ sym (counted_at f n i (omega (arith, lt, long)) ∙ none i))
-
-pub never_any : (p : ℕ → Bool) (xs : List ℕ) → ((i : ℕ) → p i ≡ false) → list_any p xs ≡ false
-never_any p [] never = refl
-never_any p (x ∷ xs) never = ap (λ b. b || list_any p xs) (never x) ∙ never_any p xs never

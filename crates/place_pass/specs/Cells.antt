@@ -105,10 +105,6 @@ pub record Lifts (es : List (Key × ℕ)) (xs : List Cell) (m : ℕ) : Type 0 wh
 abbrev pub AvoidsStill : List (Key × ℕ) → List Cell → ℕ → Type 0
 AvoidsStill es xs m = (u : ℕ) → u < length xs → 0 < get_or (get_or xs u no_cell).avoided m 0 → 0 < count key_cmp es (avoid_key u m)
 
--- no unit of a job avoids any machine
-abbrev pub AvoidsNone : List Cell → Type 0
-AvoidsNone xs = (u m : ℕ) → u < length xs → get_or (get_or xs u no_cell).avoided m 0 ≡ 0
-
 -- what is asked at each key of each job, and the job of each number, where there is one
 abbrev pub asks_in : List (List Cell) → ℕ → Key → ℕ
 asks_in cells a k = asks_at (cell_at cells a k.unit) k

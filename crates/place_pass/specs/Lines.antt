@@ -1,5 +1,5 @@
 -- A line of pairs of a job and a unit, and its room.
-use Rattle.std.specs.Prelude.{◌≡◌, true, ℕ, ◌+◌, Bool, nat_eq, nat_lt, ◌&&◌, List, length, map, filter}
+use Rattle.std.specs.Prelude.{ℕ, ◌+◌, Bool, nat_eq, nat_lt, ◌&&◌, List, length, map, filter}
 use Rattle.std.specs.List.{sum_by}
 use Rattle.std.specs.HashSet.{HashSet}
 use Rattle.indexmap.specs.IndexSet.{index_set_len, spare}
@@ -7,7 +7,6 @@ use Rattle.fuxi_terms.specs.declared.Key.{Key}
 use Rattle.fuxi_terms.specs.Keys.{Spot}
 use Rattle.fuxi_terms.specs.Lists.{below}
 use Rattle.written_roles.specs.Masters.{out_of}
-use Rattle.written_roles.specs.Placing.{has_pair}
 use Rattle.place_pass.specs.Cells.{Cell}
 
 -- the pairs in order, and for how many pairs there is room in all
@@ -28,7 +27,3 @@ units_in_all cells = sum_by (λ (xs : List Cell). length xs) cells
 -- of the first units of one job, those with something out
 abbrev pub waiting_of : (ℕ → Key → ℕ) → List (Spot × ℕ) → ℕ → ℕ → List (ℕ × ℕ)
 waiting_of asks table a n = map (λ u. (a, u)) (filter (λ u. nat_lt 0 (out_of asks table a u)) (below n))
-
--- of the units of a job with something out, two lines have the same
-abbrev pub WaitAlike : (ℕ → Key → ℕ) → List (Spot × ℕ) → ℕ → List (ℕ × ℕ) → List (ℕ × ℕ) → Type 0
-WaitAlike asks table a line other = (u : ℕ) → nat_lt 0 (out_of asks table a u) ≡ true → has_pair (a, u) line ≡ has_pair (a, u) other

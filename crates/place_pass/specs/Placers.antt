@@ -36,15 +36,13 @@ pub record KeptRecord : Type 0 where
   pub turn_of : List ℕ
   pub held : List ℕ
 
--- and with that, the tree of the waiting pairs, whether it knows that nothing is placeable, whether then its marks note no group for nothing, and by job
--- whether anything of it was told since the line was brought up to date
+-- and with that, the tree of the waiting pairs, whether it knows that nothing is placeable, and whether then its marks note no group for nothing
 pub record PlacerRecord : Type 0 where
   pub seen : SeenRecord
   pub idle : Bool
   pub kept : KeptRecord
   pub tree : TreeRecord
   pub forgotten : Bool
-  pub stirred : List Bool
 
 -- a placer without what it keeps beside
 pub record ToldRecord : Type 0 where
@@ -127,10 +125,6 @@ AreAllowed t line = (a u : ℕ) → has_pair (a, u) line ≡ true → is_allowed
 pub record IsClear (machines : List Bool) (line : List (ℕ × ℕ)) (marks : List MarkRecord) (t : TableRecord) : Type 0 where
   pub clear : AreAllowed t line → (m g : ℕ) → get_or machines m false ≡ true → get_or (mark_at marks m).groups g false ≡ false
 
--- of a job of which nothing was told since, the line has exactly the units with something out
-abbrev pub IsStill : List Bool → List (List Cell) → List (ℕ × ℕ) → TableRecord → Type 0
-IsStill stirred cells line t = (a u : ℕ) → get_or stirred a true ≡ false → has_pair (a, u) line ≡ (nat_lt u (unit_count (as_known t.jobs) a) && nat_lt 0 (out_of (asks_in cells) t.entries a u))
-
 -- A placer and a table are of one cluster and have the same jobs, and where the placer is idle nothing is placeable. What a placer keeps beside
 -- may grow, and callers need not look into this
 pub record IsLevel (p : PlacerRecord) (t : TableRecord) : Type 0 where
@@ -140,7 +134,6 @@ pub record IsLevel (p : PlacerRecord) (t : TableRecord) : Type 0 where
   pub quiet : p.idle ≡ true → IsQuiet p.seen.cells p.seen.opened p.seen.line p.seen.turns p.kept.marks t
   pub clear : p.idle ≡ true → p.forgotten ≡ true → IsClear p.seen.opened p.seen.line p.kept.marks t
   pub stands : AllStand p.seen.cluster p.seen.cells t.entries p.seen.line p.tree
-  pub still : IsStill p.stirred p.seen.cells p.seen.line t
 
 unfoldable pub IsLevelWith : PlacerRecord → TableRecord → Type 0
 IsLevelWith p t = IsLevel p t
@@ -181,10 +174,10 @@ pub record IsSetFrom (before after : TableRecord) (s : Spot) : Type 0 where
   pub is : after ≡ record before { entries = set_count spot_cmp before.entries s number }
 
 -- what the fields of a placer show, and what they keep: the line has admitted units alone, both lines have room for all of them, and exactly the pairs of the line wait in the tree
-abbrev pub placer_record : WishesRecord → LineRecord → ℕ → Bool → List Mark → List ℕ → List ℕ → TreeRecord → Bool → List Bool → PlacerRecord
-placer_record w line turns idle marks turn_of held tree forgotten stirred = record { seen = record { cluster = w.cluster; cells = w.cells; opened = w.opened; line = line.pairs; turns = turns }; idle = idle; kept = record { marks = map mark_of marks; turn_of = turn_of; held = held }; tree = tree; forgotten = forgotten; stirred = stirred }
+abbrev pub placer_record : WishesRecord → LineRecord → ℕ → Bool → List Mark → List ℕ → List ℕ → TreeRecord → Bool → PlacerRecord
+placer_record w line turns idle marks turn_of held tree forgotten = record { seen = record { cluster = w.cluster; cells = w.cells; opened = w.opened; line = line.pairs; turns = turns }; idle = idle; kept = record { marks = map mark_of marks; turn_of = turn_of; held = held }; tree = tree; forgotten = forgotten }
 
-pub record IsPlacer (w : WishesRecord) (line other : LineRecord) (units marks : ℕ) (turn_of : List ℕ) (held : ℕ) (tree : TreeRecord) (stirred : ℕ) : Type 0 where
+pub record IsPlacer (w : WishesRecord) (line other : LineRecord) (units marks : ℕ) (turn_of : List ℕ) (held : ℕ) (tree : TreeRecord) : Type 0 where
   pub admitted : AllByRecursion (λ (p : ℕ × ℕ). p.1 < length (get_or w.cells p.0 [])) line.pairs
   pub places : length w.cells ≡ 256
   pub counted : units ≡ units_in_all w.cells
@@ -193,7 +186,6 @@ pub record IsPlacer (w : WishesRecord) (line other : LineRecord) (units marks : 
   pub marked : marks ≡ length w.cluster.machines
   pub turn_places : length turn_of ≡ 2048
   pub held_places : held ≡ 2048
-  pub stirred_places : stirred ≡ 256
   pub rises : IsRising (λ (p : ℕ × ℕ). turn_at turn_of p.0 p.1) line.pairs
   pub holds : HoldsLine w.cluster w.cells line.pairs turn_of tree
 

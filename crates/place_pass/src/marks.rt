@@ -158,9 +158,8 @@ pub(crate) fn tell_demand(marks: &mut Vec<Mark>, wishes: &Wishes, app: AppNo, de
     ensures marks { (m : ℕ) → m < length marks.old.items → IsAsked demand.now.entries (get_or wishes.now.cells app.0 []) m (mark_at (map mark_of marks.old.items) m) (mark_at (map mark_of marks.new.items) m) }
     ensures long { length marks.new.items ≡ length marks.old.items }
 {
-    let avoids = wishes.avoids_any(app);
     for number in 0..wishes.cluster().machines() {
-        let lifted = wishes.lifts(app, demand, MachineNo(number), avoids);
+        let lifted = wishes.lifts(app, demand, MachineNo(number));
         marks[number as usize].ask(lifted);
     }
 }

@@ -3,8 +3,8 @@
 use crate::line::Line;
 use crate::marks::{Mark, forget_groups, fresh_marks, reset_one, tell, tell_demand};
 use crate::search::{first, slot};
-use crate::standing::{enter_line, leave, tell_asked, tell_spot};
-use crate::waiting::{join, keep_others, number_from, rest};
+use crate::standing::{enter_line, leave_line, tell_asked, tell_spot};
+use crate::waiting::{join, keep, keep_others, number_from};
 use crate::wishes::{Wishes, fresh_units};
 use cluster_desc::Cluster;
 use fuxi_terms::OutOfMemory;
@@ -41,8 +41,6 @@ pub struct Placer {
     tree: Tree,
     /// While the placer is idle: whether groups were forgotten where that can be, and the line lost no pair since.
     forgotten: bool,
-    /// By job number, whether anything of it was told since the line was brought up to date.
-    stirred: Vec<bool>,
 }
 
 // Written out, so that who lets one go checks this call and not all of its parts.
@@ -60,7 +58,6 @@ impl Drop for Placer {
             held,
             tree,
             forgotten,
-            stirred,
         } = self;
     }
 }
@@ -70,11 +67,11 @@ impl Model for Placer {
 
     ghost Value = { PlacerRecord };
 
-    ghost view = { λ p. placer_record p.wishes p.line p.turns p.idle p.marks.items p.turn_of.items p.held.items p.tree p.forgotten p.stirred.items };
+    ghost view = { λ p. placer_record p.wishes p.line p.turns p.idle p.marks.items p.turn_of.items p.held.items p.tree p.forgotten };
 
     ghost use Rattle.std.specs.Prelude.{length};
 
-    ghost invariant = { λ p. IsPlacer p.wishes p.line p.other p.units (length p.marks.items) p.turn_of.items (length p.held.items) p.tree (length p.stirred.items) };
+    ghost invariant = { λ p. IsPlacer p.wishes p.line p.other p.units (length p.marks.items) p.turn_of.items (length p.held.items) p.tree };
 }
 
 impl Placer {
@@ -104,7 +101,6 @@ impl Placer {
         let turn_of = Vec::from_elem(alloc, 0, 2048)?;
         let held = Vec::from_elem(alloc, 0, 2048)?;
         let tree = Tree::start(alloc, cluster)?;
-        let stirred = Vec::from_elem(alloc, true, 256)?;
         Ok(Placer {
             wishes,
             line: Line::new(alloc),
@@ -117,7 +113,6 @@ impl Placer {
             held,
             tree,
             forgotten: false,
-            stirred,
         })
     }
 
@@ -143,7 +138,6 @@ impl Placer {
         self.tree.admit(alloc, job)?;
         self.wishes.add_job(job, fresh);
         self.units = units;
-        self.stirred[job.app().0 as usize] = true;
         Ok(())
     }
 
@@ -166,7 +160,6 @@ impl Placer {
         tell_demand(&mut self.marks, &self.wishes, app, demand);
         let more = self.wishes.asked(app, demand);
         self.idle &= !more;
-        self.stirred[app.0 as usize] = true;
         tell_asked(
             &mut self.tree,
             &self.line,
@@ -204,7 +197,6 @@ impl Placer {
             self.held[place],
         );
         self.held[place] = table.held(app, unit);
-        self.stirred[app.0 as usize] = true;
         tell_spot(
             &mut self.tree,
             &self.line,
@@ -259,35 +251,35 @@ impl Placer {
         let _cluster = table.cluster();
         let _wishes = self.wishes.cluster();
         let before = self.line.len();
-        leave(
+        leave_line(
             &mut self.tree,
-            &mut self.line,
-            &mut self.other,
+            &self.line,
             &self.wishes,
             &self.turn_of,
             table,
-            &self.stirred,
         );
-        let stayed = self.line.len();
-        join(&mut self.line, &self.wishes, table, &self.stirred);
+        self.other.clear();
+        keep(&mut self.other, &self.line, &self.wishes, table);
+        let stayed = self.other.len();
+        join(&mut self.other, &self.line, &self.wishes, table);
         number_from(
             &mut self.turn_of,
-            &self.line,
+            &self.other,
             &self.wishes,
             stayed,
             self.turns,
         );
         enter_line(
             &mut self.tree,
-            &self.line,
+            &self.other,
             &self.wishes,
             &self.turn_of,
             table,
             stayed,
         );
-        self.turns += (self.line.len() - stayed) as u64;
+        self.turns += (self.other.len() - stayed) as u64;
         self.forgotten &= stayed == before;
-        rest(&mut self.stirred);
+        mem::swap(&mut self.line, &mut self.other);
     }
 
     /// How many grants of an admitted unit are out: wanted and not held.

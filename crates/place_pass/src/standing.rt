@@ -12,19 +12,16 @@ ghost use Rattle.locality_tree.specs.Trees.{unit_at, unit_number, rack_place};
 ghost use Rattle.place_pass.specs.Best.{AreAdmitted};
 ghost use Rattle.place_pass.specs.Bounds.{IsRising, turn_at};
 ghost use Rattle.place_pass.specs.Cells.{asks_in, job_at};
-ghost use Rattle.place_pass.specs.Lines.{units_in_all};
 ghost use Rattle.place_pass.specs.Placers.{AreLevel, IsSetFrom};
 ghost use Rattle.place_pass.specs.Trees.{Holds, HoldsLine, AllStand, StandsAs, WaitsIn, Restood, RestoodAt, entry_for, is_unmet_on, is_unmet_in};
 
 use crate::line::Line;
 use crate::search::turn_of_unit;
-use crate::waiting::{any_leaves, keep};
 use crate::wishes::Wishes;
 use fuxi_terms::limits::MOST_RACKS;
 use grant_table::GrantTable;
 use locality_tree::Tree;
 use schedule_unit::{AppNo, MachineNo, RackNo, UnitNo};
-use std::mem;
 use wait_queue::Entry;
 
 impl Wishes {
@@ -42,8 +39,8 @@ impl Wishes {
         requires machine { machine.0 < length self.now.cluster.machines }
         ensures { result ≡ is_unmet_on self.now.cells table.now.entries app.0 unit.0 machine.0 }
     {
-        let near = self.wish(app, unit).near[machine.0 as usize];
-        near > 0 && table.held_on(app, unit, machine) < near
+        let wish = self.wish(app, unit);
+        table.held_on(app, unit, machine) < wish.near[machine.0 as usize]
     }
 
     // Whether the unit asks for more in the rack than it has there.
@@ -54,8 +51,8 @@ impl Wishes {
         requires rack { rack.0 < 64 }
         ensures { result ≡ is_unmet_in self.now.cluster self.now.cells table.now.entries app.0 unit.0 rack.0 }
     {
-        let wanted = self.wish(app, unit).racks[rack.0 as usize];
-        wanted > 0 && table.held_in_rack(app, unit, rack) < wanted
+        let wish = self.wish(app, unit);
+        table.held_in_rack(app, unit, rack) < wish.racks[rack.0 as usize]
     }
 }
 
@@ -212,8 +209,14 @@ pub(crate) fn tell_asked(
     }
 }
 
-// The units of the line with nothing out wait no more.
-fn leave_line(tree: &mut Tree, line: &Line, wishes: &Wishes, turn_of: &Vec<u64>, table: &GrantTable)
+/// The units of the line with nothing out wait no more.
+pub(crate) fn leave_line(
+    tree: &mut Tree,
+    line: &Line,
+    wishes: &Wishes,
+    turn_of: &Vec<u64>,
+    table: &GrantTable,
+)
     requires level { AreLevel wishes.now.cluster (job_at wishes.now.cells) table.now }
     requires admitted { AreAdmitted wishes.now.cells line.now.pairs }
     requires places { length turn_of.now.items ≡ 2048 }
@@ -231,42 +234,6 @@ fn leave_line(tree: &mut Tree, line: &Line, wishes: &Wishes, turn_of: &Vec<u64>,
         let entry = entry_for(wishes, turn_of, app, unit);
         tree.refresh(&entry, false);
     }
-}
-
-/// The units of the line with nothing out leave it, and wait no more. Where there are any the line is written anew into another one, whose
-/// room was made when jobs were admitted.
-pub(crate) fn leave(
-    tree: &mut Tree,
-    line: &mut Line,
-    other: &mut Line,
-    wishes: &Wishes,
-    turn_of: &Vec<u64>,
-    table: &GrantTable,
-    stirred: &Vec<bool>,
-)
-    requires level { AreLevel wishes.now.cluster (job_at wishes.now.cells) table.now }
-    requires admitted { AreAdmitted wishes.now.cells line.old.pairs }
-    requires cells { length wishes.now.cells ≡ 256 }
-    requires still { (a u : ℕ) → get_or stirred.now.items a true ≡ false → has_pair (a, u) line.old.pairs ≡ true → nat_lt 0 (out_of (asks_in wishes.now.cells) table.now.entries a u) ≡ true }
-    requires room { units_in_all wishes.now.cells ≤ line.old.room }
-    requires other_room { units_in_all wishes.now.cells ≤ other.old.room }
-    requires places { length turn_of.now.items ≡ 2048 }
-    requires rises { IsRising (λ (p : ℕ × ℕ). turn_at turn_of.now.items p.0 p.1) line.old.pairs }
-    requires holds { HoldsLine wishes.now.cluster wishes.now.cells line.old.pairs turn_of.now.items tree.old }
-    ensures pairs { line.new.pairs ≡ filter (λ p. nat_lt 0 (out_of (asks_in wishes.now.cells) table.now.entries p.0 p.1)) line.old.pairs }
-    ensures admitted { AreAdmitted wishes.now.cells line.new.pairs }
-    ensures room { units_in_all wishes.now.cells ≤ line.new.room }
-    ensures other_room { units_in_all wishes.now.cells ≤ other.new.room }
-    ensures holds { Holds wishes.now.cluster wishes.now.cells (λ p. has_pair p line.old.pairs && nat_lt 0 (out_of (asks_in wishes.now.cells) table.now.entries p.0 p.1)) turn_of.now.items tree.new }
-    ensures others { (a u : ℕ) → u < 8 → nat_lt 0 (out_of (asks_in wishes.now.cells) table.now.entries a u) ≡ true → unit_at tree.new a u ≡ unit_at tree.old a u }
-{
-    if !any_leaves(line, wishes, table, stirred) {
-        return;
-    }
-    leave_line(tree, line, wishes, turn_of, table);
-    other.clear();
-    keep(other, line, wishes, table);
-    mem::swap(line, other);
 }
 
 /// The units of the line from a place on begin to wait.

@@ -1,7 +1,7 @@
 //! The next line: who stays, and who begins to wait. It is written into a second line whose room was made
 //! when jobs were admitted, so it takes no memory.
 
-ghost use Rattle.std.specs.Prelude.{◌≡◌, ℕ, ◌+◌, ◌<◌, ◌≤◌, ◌++◌, ◌∷◌, [], ◌&&◌, ◌-◌, ◌^◌, Some, slice_get, true, false, not, List, nat_eq, nat_lt, length, filter, map};
+ghost use Rattle.std.specs.Prelude.{◌≡◌, ℕ, ◌+◌, ◌<◌, ◌≤◌, ◌++◌, ◌∷◌, [], ◌&&◌, ◌-◌, ◌^◌, Some, slice_get, false, not, nat_eq, nat_lt, length, filter, map};
 ghost use Rattle.std.proofs.Common.{get_or};
 ghost use Rattle.std.specs.List.{sum_by, flat_map};
 ghost use Rattle.fuxi_terms.specs.Cluster.{JobRecord};
@@ -13,7 +13,7 @@ ghost use Rattle.grant_table.specs.Tables.{as_known, AreJobs};
 ghost use Rattle.place_pass.specs.Cells.{asks_in, job_at};
 ghost use Rattle.place_pass.specs.Placers.{AreLevel};
 ghost use Rattle.place_pass.specs.Best.{AreAdmitted};
-ghost use Rattle.place_pass.specs.Lines.{units_in_all, waiting_of, WaitAlike};
+ghost use Rattle.place_pass.specs.Lines.{units_in_all, waiting_of};
 ghost use Rattle.place_pass.specs.Bounds.{turn_at};
 
 use crate::line::Line;
@@ -82,14 +82,13 @@ pub(crate) fn keep_others(next: &mut Line, line: &Line, wishes: &Wishes, app: Ap
     }
 }
 
-// The units of one job that begin to wait go last, in their order. They are told from any line that has of the units with something out
-// the same ones.
-fn join_units(next: &mut Line, wishes: &Wishes, table: &GrantTable, app: AppNo)
+// The units of one job that begin to wait go last, in their order.
+fn join_units(next: &mut Line, line: &Line, wishes: &Wishes, table: &GrantTable, app: AppNo)
     requires level { AreLevel wishes.now.cluster (job_at wishes.now.cells) table.now }
+    requires apart { (u : ℕ) → has_pair (app.0, u) line.now.pairs ≡ false → has_pair (app.0, u) next.old.pairs ≡ false }
     requires admitted { AreAdmitted wishes.now.cells next.old.pairs }
     requires room { units_in_all wishes.now.cells ≤ next.old.room }
-    ensures pairs { (line : List (ℕ × ℕ)) → WaitAlike (asks_in wishes.now.cells) table.now.entries app.0 line next.old.pairs
-        → next.new.pairs ≡ next.old.pairs ++ filter (λ p. not (has_pair p line)) (waiting_of (asks_in wishes.now.cells) table.now.entries app.0 (length (get_or wishes.now.cells app.0 []))) }
+    ensures pairs { next.new.pairs ≡ next.old.pairs ++ filter (λ p. not (has_pair p line.now.pairs)) (waiting_of (asks_in wishes.now.cells) table.now.entries app.0 (length (get_or wishes.now.cells app.0 []))) }
     ensures admitted { AreAdmitted wishes.now.cells next.new.pairs }
     ensures room { next.old.room ≤ next.new.room }
 {
@@ -99,92 +98,26 @@ fn join_units(next: &mut Line, wishes: &Wishes, table: &GrantTable, app: AppNo)
         if wishes.outstanding(table, app, unit) == 0 {
             continue;
         }
-        if next.has(app.0, number) {
+        if line.has(app.0, number) {
             continue;
         }
         add_unit(next, wishes, app, unit);
     }
 }
 
-/// The units of stirred jobs that begin to wait go last, in the order of job and unit. Of all other jobs each unit with something out stands in
-/// the line. They are told from any line that has of the units with something out the same ones.
-pub(crate) fn join(next: &mut Line, wishes: &Wishes, table: &GrantTable, stirred: &Vec<bool>)
+/// The units that begin to wait go last, in the order of job and unit.
+pub(crate) fn join(next: &mut Line, line: &Line, wishes: &Wishes, table: &GrantTable)
     requires level { AreLevel wishes.now.cluster (job_at wishes.now.cells) table.now }
     requires jobs { AreJobs table.now.jobs }
-    requires still { (a u : ℕ) → get_or stirred.now.items a true ≡ false → nat_lt u (unit_count (as_known table.now.jobs) a) ≡ true → nat_lt 0 (out_of (asks_in wishes.now.cells) table.now.entries a u) ≡ true → has_pair (a, u) next.old.pairs ≡ true }
+    requires apart { (p : ℕ × ℕ) → has_pair p line.now.pairs ≡ false → has_pair p next.old.pairs ≡ false }
     requires admitted { AreAdmitted wishes.now.cells next.old.pairs }
     requires room { units_in_all wishes.now.cells ≤ next.old.room }
-    ensures pairs { (line : List (ℕ × ℕ)) → ((a : ℕ) → WaitAlike (asks_in wishes.now.cells) table.now.entries a line next.old.pairs)
-        → next.new.pairs ≡ next.old.pairs ++ filter (λ p. not (has_pair p line)) (waiting_in (map (λ (j : JobRecord). j.number) table.now.jobs) (unit_count (as_known table.now.jobs)) (asks_in wishes.now.cells) table.now.entries) }
+    ensures pairs { next.new.pairs ≡ next.old.pairs ++ filter (λ p. not (has_pair p line.now.pairs)) (waiting_in (map (λ (j : JobRecord). j.number) table.now.jobs) (unit_count (as_known table.now.jobs)) (asks_in wishes.now.cells) table.now.entries) }
     ensures admitted { AreAdmitted wishes.now.cells next.new.pairs }
     ensures room { next.old.room ≤ next.new.room }
 {
     for index in 0..table.jobs() {
-        let app = table.job(index).app();
-        if is_still(stirred, app) {
-            continue;
-        }
-        join_units(next, wishes, table, app);
-    }
-}
-
-// Whether nothing was told of a job.
-fn is_still(stirred: &Vec<bool>, app: AppNo) -> bool
-    ensures { result ≡ not (get_or stirred.now.items app.0 true) }
-{
-    let number = app.0 as usize;
-    number < stirred.len() && !stirred[number]
-}
-
-// Whether a unit of the job stands in the line with nothing out.
-fn one_leaves(line: &Line, wishes: &Wishes, table: &GrantTable, app: AppNo) -> bool
-    requires level { AreLevel wishes.now.cluster (job_at wishes.now.cells) table.now }
-    ensures { result ≡ false → (u : ℕ) → u < length (get_or wishes.now.cells app.0 []) → has_pair (app.0, u) line.now.pairs ≡ true → nat_lt 0 (out_of (asks_in wishes.now.cells) table.now.entries app.0 u) ≡ true }
-{
-    let units = wishes.units(app) as u8;
-    for number in 0..units {
-        if wishes.outstanding(table, app, UnitNo(number)) > 0 {
-            continue;
-        }
-        if line.has(app.0, number) {
-            return true;
-        }
-    }
-    false
-}
-
-/// Whether a unit stands in the line with nothing out. Of jobs that are not stirred none does.
-pub(crate) fn any_leaves(
-    line: &Line,
-    wishes: &Wishes,
-    table: &GrantTable,
-    stirred: &Vec<bool>,
-) -> bool
-    requires level { AreLevel wishes.now.cluster (job_at wishes.now.cells) table.now }
-    requires admitted { AreAdmitted wishes.now.cells line.now.pairs }
-    requires places { length wishes.now.cells ≡ 256 }
-    requires still { (a u : ℕ) → get_or stirred.now.items a true ≡ false → has_pair (a, u) line.now.pairs ≡ true → nat_lt 0 (out_of (asks_in wishes.now.cells) table.now.entries a u) ≡ true }
-    ensures { result ≡ false → (a u : ℕ) → has_pair (a, u) line.now.pairs ≡ true → nat_lt 0 (out_of (asks_in wishes.now.cells) table.now.entries a u) ≡ true }
-{
-    for number in 0..256_u32 {
-        let app = AppNo(number);
-        if is_still(stirred, app) {
-            continue;
-        }
-        if one_leaves(line, wishes, table, app) {
-            return true;
-        }
-    }
-    false
-}
-
-/// Nothing was told of any job.
-pub(crate) fn rest(stirred: &mut Vec<bool>)
-    ensures long { length stirred.new.items ≡ length stirred.old.items }
-    ensures still { (a : ℕ) → a < length stirred.old.items → get_or stirred.new.items a true ≡ false }
-{
-    for number in 0..stirred.len() {
-        stirred[number] = false;
+        join_units(next, line, wishes, table, table.job(index).app());
     }
 }
 

@@ -8,7 +8,7 @@ ghost use Rattle.fuxi_terms.specs.Cluster.{has_rack};
 ghost use Rattle.fuxi_terms.specs.TallyKeys.{key, rack_key};
 ghost use Rattle.std.specs.Ordering.{is_lt};
 ghost use Rattle.place_pass.specs.Walks.{IsPast};
-ghost use Rattle.place_pass.specs.Cells.{Cell, cell_of, cells_in, cells_of, cell_at, no_cell, fresh_cells, numbers_at, racks_at, taken, taken_all, any_gone, asks_more, any_more, AvoidsNone};
+ghost use Rattle.place_pass.specs.Cells.{Cell, cell_of, cells_in, cells_of, cell_at, no_cell, fresh_cells, numbers_at, racks_at, taken, taken_all, any_gone, asks_more, any_more};
 
 use cluster_desc::Cluster;
 use fuxi_terms::limits::MOST_RACKS;
@@ -159,39 +159,8 @@ impl Wishes {
         self.wish(app, unit).avoided[machine.0 as usize] == 0
     }
 
-    /// Whether a unit of the job avoids any machine.
-    pub(crate) fn avoids_any(&self, app: AppNo) -> bool
-        ensures { result ≡ false → AvoidsNone (get_or self.now.cells app.0 []) }
-    {
-        for number in 0..self.units(app) as u8 {
-            if is_any(&self.wish(app, UnitNo(number)).avoided) {
-                return true;
-            }
-        }
-        false
-    }
-
-    /// Whether by this demand a unit of the job, of which some unit may avoid a machine, no longer avoids one that it avoided.
-    pub(crate) fn lifts(
-        &self,
-        app: AppNo,
-        demand: &Demand,
-        machine: MachineNo,
-        avoids: bool,
-    ) -> bool
-        requires machine { machine.0 < length self.now.cluster.machines }
-        requires avoids { avoids ≡ false → AvoidsNone (get_or self.now.cells app.0 []) }
-        ensures some { result ≡ true → Lifts demand.now.entries (get_or self.now.cells app.0 []) machine.0 }
-        ensures none { result ≡ false → AvoidsStill demand.now.entries (get_or self.now.cells app.0 []) machine.0 }
-    {
-        if !avoids {
-            return false;
-        }
-        self.lifts_one(app, demand, machine)
-    }
-
-    // Whether by this demand a unit of the job no longer avoids a machine that it avoided.
-    fn lifts_one(&self, app: AppNo, demand: &Demand, machine: MachineNo) -> bool
+    /// Whether by this demand a unit of the job no longer avoids a machine that it avoided.
+    pub(crate) fn lifts(&self, app: AppNo, demand: &Demand, machine: MachineNo) -> bool
         requires { machine.0 < length self.now.cluster.machines }
         ensures some { result ≡ true → Lifts demand.now.entries (get_or self.now.cells app.0 []) machine.0 }
         ensures none { result ≡ false → AvoidsStill demand.now.entries (get_or self.now.cells app.0 []) machine.0 }
@@ -315,35 +284,6 @@ fn number_at(demand: &Demand, what: u8, unit: u8, number: u32) -> u32
     demand.get(&Key { what, unit, number }) as u32
 }
 
-// Whether a demand has anything of a kind of a unit.
-fn has_any(demand: &Demand, what: u8, unit: u8) -> bool
-    ensures { result ≡ false → (number : ℕ) → count key_cmp demand.now.entries (key what unit number) ≡ 0 }
-{
-    let entries = demand.entries();
-    let first = Key {
-        what,
-        unit,
-        number: 0,
-    };
-    let place = place_of(entries, 0, &first);
-    if place >= entries.len() {
-        return false;
-    }
-    let (found, _) = entries[place];
-    found.what == what && found.unit == unit
-}
-
-// Whether any of these numbers is not 0. It reads them all, which is faster than to stop at the first.
-fn is_any(numbers: &[u32]) -> bool
-    ensures { result ≡ false → (i : ℕ) → get_or numbers.now i 0 ≡ 0 }
-{
-    let mut any = false;
-    for number in numbers {
-        any |= *number > 0;
-    }
-    any
-}
-
 // Whether nothing is left of a number.
 fn is_gone(before: u32, now: u32) -> bool
     ensures { result ≡ (nat_lt 0 before && nat_eq now 0) }
@@ -393,11 +333,6 @@ fn read_numbers(numbers: &mut Vec<u32>, machines: u32, demand: &Demand, what: u8
     ensures numbers { numbers.new.items ≡ numbers_at demand.now.entries what unit machines }
     ensures gone { result ≡ any_gone demand.now.entries what unit numbers.old.items machines }
 {
-    if !has_any(demand, what, unit) {
-        if !is_any(numbers) {
-            return false;
-        }
-    }
     let mut passed = 0;
     let mut gone = false;
     for machine in 0..machines {
@@ -420,11 +355,6 @@ fn read_racks(racks: &mut Vec<u32>, cluster: &Cluster, demand: &Demand, unit: u8
     requires { length racks.old.items ≡ 64 }
     ensures { racks.new.items ≡ racks_at cluster.now demand.now.entries unit }
 {
-    if !has_any(demand, RACK, unit) {
-        if !is_any(racks) {
-            return;
-        }
-    }
     let mut passed = 0;
     for number in 0..64_u32 {
         let key = Key {

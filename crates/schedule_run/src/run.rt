@@ -40,7 +40,6 @@ fn take_line<O: Sink>(
     ensures stale { (fence : ℕ) → result ≢ Err (Status.StaleEpoch fence) }
     ensures damaged { (offset : ℕ) → result ≢ Err (Status.DamagedCheckpoint offset) }
     ensures records { (kept : ℕ) → result ≢ Err (Status.Limit LimitOf.Records kept) }
-    ensures calls { (kept : ℕ) → result ≢ Err (Status.Limit LimitOf.Calls kept) }
 {
     if is_skipped(line) {
         return Ok(());
@@ -120,7 +119,6 @@ fn run_lines<S: Source, O: Sink>(
     ensures stale { (fence : ℕ) → result ≢ Status.StaleEpoch fence }
     ensures damaged { (offset : ℕ) → result ≢ Status.DamagedCheckpoint offset }
     ensures records { lines.old.stop ≡ None → (kept : ℕ) → result ≢ Status.Limit LimitOf.Records kept }
-    ensures calls { lines.old.stop ≡ None → (kept : ℕ) → result ≢ Status.Limit LimitOf.Calls kept }
 {
     lines_are_taken();
     let Ok(mut running) = Running::start(alloc, cluster) else {
@@ -165,7 +163,6 @@ pub fn run_schedule<S: Source, O: Sink>(
     ensures stale { (fence : ℕ) → result ≢ Status.StaleEpoch fence }
     ensures damaged { (offset : ℕ) → result ≢ Status.DamagedCheckpoint offset }
     ensures records { lines.old.stop ≡ None → (kept : ℕ) → result ≢ Status.Limit LimitOf.Records kept }
-    ensures calls { lines.old.stop ≡ None → (kept : ℕ) → result ≢ Status.Limit LimitOf.Calls kept }
 {
     match read_cluster_line(alloc, lines, source) {
         Ok(cluster) => run_lines(alloc, cluster, lines, source, out),

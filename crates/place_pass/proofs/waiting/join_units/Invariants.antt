@@ -1,14 +1,13 @@
-use Rattle.std.proofs.Common.{◌≡◌, ◌≤◌, ℕ, List, ◌++◌, not, filter}
+use Rattle.std.proofs.Common.{◌≡◌, ◌≤◌, ◌++◌, not, filter}
 use Rattle.written_roles.specs.Placing.{has_pair}
 use Rattle.place_pass.specs.Cells.{asks_in}
 use Rattle.place_pass.specs.Best.{AreAdmitted}
-use Rattle.place_pass.specs.Lines.{waiting_of, WaitAlike}
+use Rattle.place_pass.specs.Lines.{waiting_of}
 use Rattle.place_pass.proofs.waiting.join_units.Given as goal
 
 abbrev pub invariant-loop-number : goal.invariant-loop-number
 invariant-loop-number l = record {
-  pairs : (line : List (ℕ × ℕ)) → WaitAlike (asks_in l.wishes.cells) l.table.entries l.app.0 line l.initial.next.pairs
-      → l.next.pairs ≡ l.initial.next.pairs ++ filter (λ p. not (has_pair p line)) (waiting_of (asks_in l.wishes.cells) l.table.entries l.app.0 l.number);
+  pairs : l.next.pairs ≡ l.initial.next.pairs ++ filter (λ p. not (has_pair p l.line.pairs)) (waiting_of (asks_in l.wishes.cells) l.table.entries l.app.0 l.number);
   admitted : AreAdmitted l.wishes.cells l.next.pairs;
   room : l.initial.next.room ≤ l.next.room;
 }

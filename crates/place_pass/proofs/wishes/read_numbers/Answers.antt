@@ -6,19 +6,8 @@ use Rattle.fuxi_terms.specs.TallyKeys.{key}
 use Rattle.std.specs.Prelude.{◌||◌}
 use Rattle.place_pass.specs.Cells.{any_gone, is_gone, numbers_at}
 use Rattle.place_pass.proofs.Places.{counted_at, counted_long}
-use Rattle.fuxi_terms.specs.Lists.{below}
-use Rattle.place_pass.proofs.WalksLemmas.{all_zero, later_past, never_any, one_more}
+use Rattle.place_pass.proofs.WalksLemmas.{later_past, one_more}
 use Rattle.place_pass.proofs.wishes.read_numbers.Goals as goal
-
-pub returns-then-not-is_any-clause-numbers : goal.returns-then-not-is_any-clause-numbers
-returns-then-not-is_any-clause-numbers c =
-    all_zero (λ m. count key_cmp c.args.demand.now.entries (key c.args.what c.args.unit m)) c.args.numbers.now.items c.args.machines c.requires.long
-    (λ i. ap (λ xs. get_or xs i 0) (sym c.deref.ensures.value) ∙ c.is_any.ensures c.if-not-is_any.true i) (c.has_any.ensures c.if-not-has_any.true)
-
-pub returns-then-not-is_any-clause-gone : goal.returns-then-not-is_any-clause-gone
-returns-then-not-is_any-clause-gone c =
-    sym (never_any (λ m. is_gone (get_or c.args.numbers.now.items m 0) (count key_cmp c.args.demand.now.entries (key c.args.what c.args.unit m))) (below c.args.machines)
-    (λ m. ap (λ n. is_gone n (count key_cmp c.args.demand.now.entries (key c.args.what c.args.unit m))) (ap (λ xs. get_or xs m 0) (sym c.deref.ensures.value) ∙ c.is_any.ensures c.if-not-is_any.true m)))
 
 pub returns-clause-numbers : goal.returns-clause-numbers
 returns-clause-numbers c =

@@ -1,4 +1,4 @@
-use Rattle.std.proofs.Common.{rules, ◌≡◌, ℕ, ◌<◌, Bool, true, false, cond, get_or, refl, sym, ◌∙◌, ap, arith}
+use Rattle.std.proofs.Common.{rules, ℕ, ◌<◌, cond, sym, ◌∙◌, arith}
 use Rattle.std.proofs.lemmas.List.{ext_get_or}
 use Rattle.fuxi_terms.specs.Cluster.{has_rack}
 use Rattle.fuxi_terms.specs.Keys.{key_cmp}
@@ -6,19 +6,8 @@ use Rattle.fuxi_terms.specs.Counts.{count}
 use Rattle.fuxi_terms.specs.TallyKeys.{rack_key}
 use Rattle.place_pass.specs.Cells.{racks_at}
 use Rattle.place_pass.proofs.Places.{counted_at, counted_long}
-use Rattle.place_pass.proofs.WalksLemmas.{all_zero, later_past}
+use Rattle.place_pass.proofs.WalksLemmas.{later_past}
 use Rattle.place_pass.proofs.wishes.read_racks.Goals as goal
-
-kept : (b : Bool) (n : ℕ) → n ≡ 0 → cond b n 0 ≡ 0
-kept true n z = z
-kept false n z = refl
-
-pub returns-then-not-is_any : goal.returns-then-not-is_any
-returns-then-not-is_any c =
-    let f : ℕ → ℕ = λ r. cond (has_rack c.args.cluster.now r) (count key_cmp c.args.demand.now.entries (rack_key c.args.unit r)) 0 in
-    all_zero f c.args.racks.now.items 64 c.requires
-    (λ i. ap (λ xs. get_or xs i 0) (sym c.deref.ensures.value) ∙ c.is_any.ensures c.if-not-is_any.true i)
-    (λ r. kept (has_rack c.args.cluster.now r) _ (c.has_any.ensures c.if-not-has_any.true r))
 
 pub returns : goal.returns
 returns c =

@@ -1,4 +1,4 @@
-use Rattle.std.proofs.Common.{◌≡◌, true, ℕ, ◌+◌, ◌<◌, false, cond, nat_eq, nat_lt, List, [], length, map, set, get_or, Some, None, sym, ◌∙◌, ap, subst, arith, length-set}
+use Rattle.std.proofs.Common.{◌≡◌, ℕ, ◌+◌, ◌<◌, false, cond, nat_eq, nat_lt, List, [], length, map, set, get_or, Some, None, sym, ◌∙◌, ap, subst, arith, length-set}
 use Rattle.std.proofs.lemmas.List.{length-map}
 use Rattle.grant_table.specs.Tables.{with_admitted}
 use Rattle.place_pass.specs.Cells.{WishesRecord, job_at, asks_in, fresh_cell, fresh_cells}
@@ -11,9 +11,9 @@ use Rattle.fuxi_terms.proofs.Lists.{all_at}
 use Rattle.place_pass.proofs.SightsLemmas.{place_of}
 use Rattle.place_pass.proofs.StandsAfterChange.{holds_admitted, stands_admitted}
 use Rattle.std.proofs.lemmas.Bool.Decides.{nat_tests}
-use Rattle.place_pass.specs.Placers.{PlacerRecord, KeptRecord, IsClear, IsKept, IsQuiet, AreLevel, IsIdle, IsLevelWith, IsPlacer, job_seen, asks_seen, IsStill}
+use Rattle.place_pass.specs.Placers.{PlacerRecord, KeptRecord, IsClear, IsKept, IsQuiet, AreLevel, IsIdle, IsLevelWith, IsPlacer, job_seen, asks_seen}
 use Rattle.fuxi_terms.proofs.ValidJobs.{job_small, units_few, units_some}
-use Rattle.place_pass.proofs.Idling.{clear_admitted, idle_admitted, kept_admitted, quiet_admitted, still_admitted}
+use Rattle.place_pass.proofs.Idling.{clear_admitted, idle_admitted, kept_admitted, quiet_admitted}
 use Rattle.place_pass.proofs.Telling.{units_small, units_more, admitted_more, empty_slot, job_admitted, asks_admitted, unknown_there, level_admitted}
 use Rattle.place_pass.proofs.placer.Placer.admit.Goals as goal
 
@@ -42,7 +42,7 @@ invariant_of-self-2 c =
     let k = c.self.invariant.counted in
     let room = c.in_ok-reserve.ensures.ok in
     let other = c.in_ok-reserve-2.ensures.ok in
-    subst (λ (x : WishesRecord). IsPlacer x c.reserve.new.self c.reserve-2.new.self (c.self.inside.units + c.units.result) (length c.self.inside.marks.items) c.self.inside.turn_of.items (length c.self.inside.held.items) c.admit.new.self (length (set c.self.inside.stirred.items c.app.result.0 true))) (sym c.add_job.ensures) (record {
+    subst (λ (x : WishesRecord). IsPlacer x c.reserve.new.self c.reserve-2.new.self (c.self.inside.units + c.units.result) (length c.self.inside.marks.items) c.self.inside.turn_of.items (length c.self.inside.held.items) c.admit.new.self) (sym c.add_job.ensures) (record {
       admitted = subst (AreAdmitted (set w.cells j.number xs)) (sym c.in_ok-reserve.ensures.pairs) (admitted_more w.cells c.self.inside.line.pairs j.number xs lt (omega (arith, none)) c.self.invariant.admitted);
       places = length-set w.cells j.number xs ∙ places;
       counted = omega (arith, more, long, n, k);
@@ -51,7 +51,6 @@ invariant_of-self-2 c =
       marked = c.self.invariant.marked;
       turn_places = c.self.invariant.turn_places;
       held_places = c.self.invariant.held_places;
-      stirred_places = length-set c.self.inside.stirred.items c.app.result.0 true ∙ c.self.invariant.stirred_places;
       rises = subst (λ (l : List (ℕ × ℕ)). IsRising (λ (p : ℕ × ℕ). turn_at c.self.inside.turn_of.items p.0 p.1) l) (sym c.in_ok-reserve.ensures.pairs) c.self.invariant.rises;
       holds = subst (λ (l : List (ℕ × ℕ)). HoldsLine w.cluster (set w.cells j.number xs) l c.self.inside.turn_of.items c.admit.new.self) (sym c.in_ok-reserve.ensures.pairs)
           (subst (λ (t : TreeRecord). HoldsLine w.cluster (set w.cells j.number xs) c.self.inside.line.pairs c.self.inside.turn_of.items t) (sym c.in_ok-admit.ensures.ok)
@@ -123,11 +122,6 @@ returns-clause-level c t l =
       quiet = λ e. subst (λ (l : List (ℕ × ℕ)). IsQuiet c.add_job.new.self.cells c.add_job.new.self.opened l c.self.inside.turns kept.marks (record t { jobs = with_admitted j t.jobs })) (sym c.in_ok-reserve.ensures.pairs)
           (subst (λ (x : WishesRecord). IsQuiet x.cells x.opened c.self.inside.line.pairs c.self.inside.turns kept.marks (record t { jobs = with_admitted j t.jobs })) (sym c.add_job.ensures)
           (quiet_admitted j w.cells (set w.cells j.number xs) w.opened t empty (asks_admitted w.cells j.number j.group (length w.cluster.machines) j.units lt empty) apart found c.self.inside.line.pairs c.self.inside.turns kept.marks (old.quiet e)));
-      still = subst (λ n. IsStill (set c.self.inside.stirred.items n true) c.add_job.new.self.cells c.reserve.new.self.pairs (record t { jobs = with_admitted j t.jobs })) (sym c.app.ensures.number)
-          (subst (λ (l : List (ℕ × ℕ)). IsStill (set c.self.inside.stirred.items j.number true) c.add_job.new.self.cells l (record t { jobs = with_admitted j t.jobs })) (sym c.in_ok-reserve.ensures.pairs)
-          (subst (λ (x : WishesRecord). IsStill (set c.self.inside.stirred.items j.number true) x.cells c.self.inside.line.pairs (record t { jobs = with_admitted j t.jobs })) (sym c.add_job.ensures)
-          (still_admitted j w.cells (set w.cells j.number xs) w.opened t empty (asks_admitted w.cells j.number j.group (length w.cluster.machines) j.units lt empty) apart found c.self.inside.stirred.items c.self.inside.line.pairs
-          (let stirred = c.self.invariant.stirred_places in omega (arith, small, stirred)) old.still)));
       stands = subst (λ (l : List (ℕ × ℕ)). AllStand c.add_job.new.self.cluster c.add_job.new.self.cells t.entries l c.admit.new.self) (sym c.in_ok-reserve.ensures.pairs)
           (subst (λ (x : WishesRecord). AllStand x.cluster x.cells t.entries c.self.inside.line.pairs c.admit.new.self) (sym c.add_job.ensures)
           (subst (λ (y : TreeRecord). AllStand w.cluster (set w.cells j.number xs) t.entries c.self.inside.line.pairs y) (sym c.in_ok-admit.ensures.ok)

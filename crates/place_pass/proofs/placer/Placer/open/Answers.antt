@@ -7,7 +7,7 @@ use Rattle.std.specs.Prelude.{◌||◌, not}
 use Rattle.fuxi_terms.proofs.Booleans.{both_true}
 use Rattle.place_pass.specs.Cells.{WishesRecord, job_at}
 use Rattle.place_pass.specs.Trees.{AllStand}
-use Rattle.place_pass.specs.Placers.{PlacerRecord, AreLevel, KeptRecord, IsIdle, IsClear, IsKept, IsQuiet, IsLevelWith, is_open, IsStill}
+use Rattle.place_pass.specs.Placers.{PlacerRecord, AreLevel, KeptRecord, IsIdle, IsClear, IsKept, IsQuiet, IsLevelWith, is_open}
 use Rattle.place_pass.proofs.Idling.{idle_opened, opens_none, quiet_opened}
 use Rattle.place_pass.proofs.Places.{one_set}
 use Rattle.place_pass.proofs.placer.Placer.open.Goals as goal
@@ -46,7 +46,6 @@ returns-then-stays-clause-level c t l =
       kept = subst (λ (x : WishesRecord). IsKept x.cells x.opened c.self.inside.line.pairs c.self.inside.turns kept t) (sym c.open.ensures)
           (kept_opened w.cells w.opened (set w.opened c.args.machine.0 c.args.usable) c.self.inside.line.pairs c.self.inside.turns kept t kept.marks (λ m o. inr (none m o, refl)) old.kept);
       stands = subst (λ (x : WishesRecord). AllStand x.cluster x.cells t.entries c.self.inside.line.pairs c.self.inside.tree) (sym c.open.ensures) old.stands;
-      still = subst (λ (x : WishesRecord). IsStill c.self.inside.stirred.items x.cells c.self.inside.line.pairs t) (sym c.open.ensures) old.still;
       clear = λ e f. subst (λ (x : WishesRecord). IsClear x.opened c.self.inside.line.pairs kept.marks t) (sym c.open.ensures)
           (record { clear = λ allowed m g o. (old.clear (both_true c.self.inside.idle (not c.args.usable || c.is_open-opened.result) e).0 f).clear allowed m g (none m o) });
       quiet = λ e. subst (λ (x : WishesRecord). IsQuiet x.cells x.opened c.self.inside.line.pairs c.self.inside.turns kept.marks t) (sym c.open.ensures)
@@ -65,7 +64,6 @@ returns-clause-level c t l =
           (kept_opened w.cells w.opened (set w.opened c.args.machine.0 c.args.usable) c.self.inside.line.pairs c.self.inside.turns (record { marks = map mark_of c.self.inside.marks.items; turn_of = c.self.inside.turn_of.items; held = c.self.inside.held.items }) t (map mark_of c.reset_one.new.marks.items)
           (λ m o. by m o (nat_eq c.args.machine.0 m) refl) old.kept);
       stands = subst (λ (x : WishesRecord). AllStand x.cluster x.cells t.entries c.self.inside.line.pairs c.self.inside.tree) (sym c.open.ensures) old.stands;
-      still = subst (λ (x : WishesRecord). IsStill c.self.inside.stirred.items x.cells c.self.inside.line.pairs t) (sym c.open.ensures) old.still;
       clear = λ e _. let f : false ≡ true = sym c.if-stays.false ∙ (both_true c.self.inside.idle (not c.args.usable || c.is_open-opened.result) e).1 in cc;
       quiet = λ e. let f : false ≡ true = sym c.if-stays.false ∙ (both_true c.self.inside.idle (not c.args.usable || c.is_open-opened.result) e).1 in cc;
     }

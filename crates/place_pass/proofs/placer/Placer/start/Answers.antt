@@ -1,4 +1,4 @@
-use Rattle.std.proofs.Common.{◌≡◌, ℕ, zero, suc, ◌+◌, ◌*◌, Bool, true, false, List, [], length, get_or, refl, sym, ◌∙◌, ap, subst, arith, rules}
+use Rattle.std.proofs.Common.{◌≡◌, ℕ, zero, suc, ◌+◌, ◌*◌, true, false, List, [], length, get_or, refl, sym, ◌∙◌, ap, subst, arith, rules}
 use Rattle.written_roles.specs.Placing.{has_pair}
 use Rattle.place_pass.specs.Bounds.{MarkRecord, mark_of, reset_mark, Rises, turn_at}
 use Rattle.place_pass.proofs.FirstByTurn.{rising}
@@ -14,7 +14,6 @@ use Rattle.place_pass.specs.Placers.{AreLevel, IsLevelWith}
 use Rattle.place_pass.specs.Trees.{HoldsLine}
 use Rattle.place_pass.proofs.StandsAfterChange.{holds_started}
 use Rattle.locality_tree.specs.Trees.{TreeRecord}
-use Rattle.place_pass.proofs.StillLemmas.{all_stirred}
 use Rattle.place_pass.proofs.placer.Placer.start.Goals as goal
 
 none_in : (n a : ℕ) → get_or {A = List Cell} (replicate n []) a [] ≡ []
@@ -38,7 +37,6 @@ returns-clause-level c =
       level = subst (λ (w : WishesRecord). AreLevel w.cluster (job_at w.cells) none) (sym c.in_ok-wishes.ensures) (record { cluster_is = refl; jobs_are = λ a. ap (job_in a) (none_in 256 a) });
       idle = λ e. cc;
       quiet = λ e. cc;
-      still = λ a u quiet. let f : true ≡ false = sym (ap (λ (xs : List Bool). get_or xs a true) (c.in_ok-stirred.ensures.items_if_clones_equal (λ y e. search rules)) ∙ all_stirred 256 a) ∙ quiet in cc;
       clear = λ e f. cc;
       stands = λ a u has. let f : false ≡ true = sym (ap (λ (ps : List (ℕ × ℕ)). has_pair (a, u) ps) c.new.ensures) ∙ has in cc;
       kept = record {
@@ -62,7 +60,6 @@ invariant_of-result c =
       marked = sym (length-map c.in_ok-marks.marks.items mark_of) ∙ ap length c.in_ok-marks.ensures ∙ length-replicate {A = MarkRecord} c.machines.result (reset_mark 0) ∙ c.machines.ensures.number ∙ ap (λ (w : WishesRecord). length w.cluster.machines) (sym c.in_ok-wishes.ensures);
       turn_places = ap length (c.in_ok-turn_of.ensures.items_if_clones_equal (λ y e. search rules)) ∙ length-replicate {A = ℕ} 2048 0;
       held_places = ap length (c.in_ok-held.ensures.items_if_clones_equal (λ y e. search rules)) ∙ length-replicate {A = ℕ} 2048 0;
-      stirred_places = ap length (c.in_ok-stirred.ensures.items_if_clones_equal (λ y e. search rules)) ∙ length-replicate {A = Bool} 256 true;
       rises = rising (λ (p : ℕ × ℕ). turn_at c.in_ok-turn_of.turn_of.items p.0 p.1) c.new.result.pairs (subst (Rises (λ (p : ℕ × ℕ). turn_at c.in_ok-turn_of.turn_of.items p.0 p.1)) (sym c.new.ensures) tt);
       holds = subst (λ (w : WishesRecord). HoldsLine w.cluster w.cells c.new.result.pairs c.in_ok-turn_of.turn_of.items c.in_ok-tree.tree) (sym c.in_ok-wishes.ensures)
           (subst (λ (l : List (ℕ × ℕ)). HoldsLine c.args.cluster.now (replicate 256 []) l c.in_ok-turn_of.turn_of.items c.in_ok-tree.tree) (sym c.new.ensures)

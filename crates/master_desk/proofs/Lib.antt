@@ -1,3 +1,0 @@
-pub mod RunsLemmas
-pub mod Outcomes
-pub mod BookLemmas
