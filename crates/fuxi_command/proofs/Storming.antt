@@ -1,7 +1,7 @@
 -- What a storm that ended has written.
 use Rattle.std.proofs.Common.{◌≡◌, ◌⊎◌, inl, inr, ℕ, List, Option, Ok, refl}
 use Rattle.fuxi_io.specs.declared.status.LimitOf.{LimitOf}
-use Rattle.fuxi_io.specs.declared.status.LimitOf.TheVariants.{Lines, Packets, Bytes, Records}
+use Rattle.fuxi_io.specs.declared.status.LimitOf.TheVariants.{Lines, Packets, Bytes, Records, Calls}
 use Rattle.fuxi_io.specs.declared.status.Status.{Status}
 use Rattle.fuxi_io.specs.declared.status.Status.TheVariants.{Done, Usage, BadInput, ReadFault, WriteFault, Limit, OutOfMemory, DiskFault, StaleEpoch, DamagedCheckpoint}
 use Rattle.storm_run.specs.Runs.{IsLimit, StormEnded}
@@ -12,6 +12,7 @@ no_limit seed steps text Lines kept is limit = limit
 no_limit seed steps text Packets kept is limit = cc
 no_limit seed steps text Bytes kept is limit = cc
 no_limit seed steps text Records kept is limit = limit
+no_limit seed steps text Calls kept is limit = limit
 
 pub ends_well : (seed steps : ℕ) (text : List ℕ) (status : Status) (before after : Option (List ℕ)) → storm_of seed steps ≡ Ok text → (status ≡ WriteFault → ⊥) → StormEnded (storm_of seed steps) status before after → (status ≡ Done) ⊎ (status ≡ OutOfMemory)
 ends_well seed steps text Done before after is sound ended = inl refl

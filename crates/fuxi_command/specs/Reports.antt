@@ -6,7 +6,7 @@ use Rattle.fuxi_terms.specs.ClusterKeys.{word_of}
 use Rattle.fuxi_io.specs.declared.status.InputFault.{InputFault}
 use Rattle.fuxi_io.specs.declared.status.InputFault.TheVariants.{UnknownWord, WrongCount, BadNumber, Range, LineTooLong, NoCluster, NotJson, WrongKind, UnknownKey, MissingKey, Count, LengthDiffers, QuantityRange, QuotaOverLimit, NoMachine}
 use Rattle.fuxi_io.specs.declared.status.LimitOf.{LimitOf}
-use Rattle.fuxi_io.specs.declared.status.LimitOf.TheVariants.{Lines, Packets, Bytes, Records}
+use Rattle.fuxi_io.specs.declared.status.LimitOf.TheVariants.{Lines, Packets, Bytes, Records, Calls}
 use Rattle.fuxi_io.specs.declared.status.Status.{Status}
 use Rattle.fuxi_io.specs.declared.status.Status.TheVariants.{Done, Usage, BadInput, ReadFault, WriteFault, Limit, OutOfMemory, DiskFault, StaleEpoch, DamagedCheckpoint}
 
@@ -50,6 +50,7 @@ limit_word Lines = codes "lines"
 limit_word Packets = codes "packets"
 limit_word Bytes = codes "bytes"
 limit_word Records = codes "records"
+limit_word Calls = codes "calls"
 
 abbrev pub report_line : Status → List ℕ
 report_line Done = []

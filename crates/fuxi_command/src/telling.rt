@@ -56,6 +56,7 @@ fn limit_word(what: &LimitOf) -> &'static str
         LimitOf::Packets => "packets",
         LimitOf::Bytes => "bytes",
         LimitOf::Records => "records",
+        LimitOf::Calls => "calls",
     }
 }
 

@@ -39,6 +39,8 @@ pub enum LimitOf {
     Bytes,
     /// The records of a checkpoint, at most 65,536.
     Records,
+    /// The calls of all sessions of a desk, at most 10,000.
+    Calls,
 }
 
 /// Why a line of the input was refused.

@@ -4,7 +4,7 @@ use Rattle.std.specs.Io.KnownBytes.{prepend_known}
 use Rattle.fuxi_io.specs.Disks.{Told as Moments, Leaves, WhereTold as WhereMoments}
 use Rattle.fuxi_io.specs.Lines.{InputLine, lines_of}
 use Rattle.fuxi_io.specs.Reading.{read_ahead}
-use Rattle.fuxi_io.specs.declared.status.LimitOf.TheVariants.{Lines, Packets, Bytes, Records}
+use Rattle.fuxi_io.specs.declared.status.LimitOf.TheVariants.{Lines, Packets, Bytes, Records, Calls}
 use Rattle.fuxi_io.specs.declared.status.Status.{Status}
 use Rattle.fuxi_io.specs.declared.status.Status.TheVariants.{Done, Usage, BadInput, ReadFault, WriteFault, Limit, OutOfMemory, DiskFault, StaleEpoch, DamagedCheckpoint}
 use Rattle.written_roles.specs.HardState.{HardState}
@@ -57,6 +57,7 @@ module _ (Fits More : Role → Type 0) (FitsOne MoreOne : Role → Role → Type
   fits_on (Ok (Limit Lines kept)) e = ran_on (lines_of bytes) (AtLimit kept) e
   fits_on (Ok (Limit Packets kept)) e = e
   fits_on (Ok (Limit Bytes kept)) e = e
+  fits_on (Ok (Limit Calls kept)) e = e
   fits_on (Ok (Limit Records kept)) e = e
   fits_on (Ok OutOfMemory) e = record { lines = e.lines; next = e.next; one = e.one; takes = e.takes; mid = e.mid; ran = e.ran; fits = one _ _ e.fits }
   fits_on (Ok Usage) e = e

@@ -3,7 +3,7 @@ use Rattle.std.specs.Prelude.{◌≡◌, ◌⊎◌, ℕ, ◌≤◌, ⊤, List, l
 use Rattle.std.specs.Io.KnownBytes.{Consumes}
 use Rattle.fuxi_io.specs.Disks.{Told as Moments, Leaves, WhereTold as WhereMoments}
 use Rattle.fuxi_io.specs.Reading.{read_ahead}
-use Rattle.fuxi_io.specs.declared.status.LimitOf.TheVariants.{Lines, Packets, Bytes, Records}
+use Rattle.fuxi_io.specs.declared.status.LimitOf.TheVariants.{Lines, Packets, Bytes, Records, Calls}
 use Rattle.fuxi_io.specs.declared.status.Status.{Status}
 use Rattle.fuxi_io.specs.declared.status.Status.TheVariants.{Done, Usage, BadInput, ReadFault, WriteFault, Limit, OutOfMemory, DiskFault, StaleEpoch, DamagedCheckpoint}
 use Rattle.fuxi_terms.specs.Limits.{most_records}
@@ -56,6 +56,7 @@ TellsFile epoch (Limit Records kept) disk = (kept ≡ most_records) × IfSome di
 TellsFile epoch (Limit Lines kept) disk = ⊤
 TellsFile epoch (Limit Packets kept) disk = ⊤
 TellsFile epoch (Limit Bytes kept) disk = ⊤
+TellsFile epoch (Limit Calls kept) disk = ⊤
 TellsFile epoch Done disk = ⊤
 TellsFile epoch Usage disk = ⊤
 TellsFile epoch (BadInput line fault) disk = ⊤
@@ -73,6 +74,7 @@ IsStartStatus (Limit Records kept) = ⊤
 IsStartStatus (Limit Lines kept) = ⊥
 IsStartStatus (Limit Packets kept) = ⊥
 IsStartStatus (Limit Bytes kept) = ⊥
+IsStartStatus (Limit Calls kept) = ⊥
 IsStartStatus OutOfMemory = ⊤
 IsStartStatus Done = ⊥
 IsStartStatus Usage = ⊥

@@ -5,7 +5,7 @@ use Rattle.fuxi_io.specs.Lines.{InputLine, lines_of}
 use Rattle.fuxi_io.specs.Reading.{Reading, rest_of}
 use Rattle.fuxi_io.specs.declared.status.InputFault.{InputFault}
 use Rattle.fuxi_io.specs.declared.status.InputFault.TheVariants.{LineTooLong, NoCluster, NotJson, WrongKind, UnknownKey, MissingKey, Count, LengthDiffers, QuantityRange, QuotaOverLimit}
-use Rattle.fuxi_io.specs.declared.status.LimitOf.TheVariants.{Lines, Packets, Bytes, Records}
+use Rattle.fuxi_io.specs.declared.status.LimitOf.TheVariants.{Lines, Packets, Bytes, Records, Calls}
 use Rattle.fuxi_io.specs.declared.status.Status.{Status}
 use Rattle.fuxi_io.specs.declared.status.Status.TheVariants.{Done, Usage, BadInput, ReadFault, WriteFault, Limit, OutOfMemory, DiskFault, StaleEpoch, DamagedCheckpoint}
 use Rattle.fuxi_terms.specs.Cluster.{ClusterRecord}
@@ -88,6 +88,7 @@ StopsBefore first bytes (BadInput line fault) left = opening_from first (lines_o
 StopsBefore first bytes (Limit Lines kept) left = opening_from first (lines_of bytes) ≡ TooMany kept
 StopsBefore first bytes (Limit Packets kept) left = ⊥
 StopsBefore first bytes (Limit Bytes kept) left = ⊥
+StopsBefore first bytes (Limit Calls kept) left = ⊥
 StopsBefore first bytes (Limit Records kept) left = ⊥
 StopsBefore first bytes ReadFault left = ReadsNone first bytes left
 StopsBefore first bytes OutOfMemory left = StopsAtCluster first bytes left

@@ -1,7 +1,7 @@
 -- How a run that opens its lease ends.
 use Rattle.std.proofs.Common.{◌⊎◌, inl, inr, ◌≡◌, ℕ, List, Option, None, Some, IfSome, Ok, Err, refl, sym, ◌∙◌, subst}
 use Rattle.fuxi_io.specs.Disks.{Told, WhereTold}
-use Rattle.fuxi_io.specs.declared.status.LimitOf.TheVariants.{Lines, Packets, Bytes, Records}
+use Rattle.fuxi_io.specs.declared.status.LimitOf.TheVariants.{Lines, Packets, Bytes, Records, Calls}
 use Rattle.fuxi_io.specs.declared.status.Status.{Status}
 use Rattle.fuxi_io.specs.declared.status.Status.TheVariants.{Done, Usage, BadInput, ReadFault, WriteFault, Limit, OutOfMemory, DiskFault, StaleEpoch, DamagedCheckpoint}
 use Rattle.written_roles.specs.HardState.{HardState}
@@ -91,6 +91,7 @@ completes bytes t value status left before after new reads good unread unwritten
     by_status (Limit Lines kept) h r w d = absurd (let two = sym good ∙ h.1 in let no : ⊥ = cc in no)
     by_status (Limit Packets kept) h r w d = absurd h
     by_status (Limit Bytes kept) h r w d = absurd h
+    by_status (Limit Calls kept) h r w d = absurd h
     by_status (Limit Records kept) h r w d = absurd h
     by_status Usage h r w d = absurd h
     by_status (StaleEpoch fence) h r w d = absurd h

@@ -5,7 +5,7 @@ use Rattle.std.specs.Io.KnownBytes.{Appends, Consumes}
 use Rattle.fuxi_io.specs.Disks.{Told, Leaves, WhereTold}
 use Rattle.fuxi_io.specs.Lines.{InputLine, lines_of}
 use Rattle.fuxi_io.specs.Reading.{read_ahead}
-use Rattle.fuxi_io.specs.declared.status.LimitOf.TheVariants.{Lines, Packets, Bytes, Records}
+use Rattle.fuxi_io.specs.declared.status.LimitOf.TheVariants.{Lines, Packets, Bytes, Records, Calls}
 use Rattle.fuxi_io.specs.declared.status.Status.{Status}
 use Rattle.fuxi_io.specs.declared.status.Status.TheVariants.{Done, Usage, BadInput, ReadFault, WriteFault, Limit, OutOfMemory, DiskFault, StaleEpoch, DamagedCheckpoint}
 use Rattle.fuxi_terms.specs.Limits.{most_lines}
@@ -87,6 +87,7 @@ Ended run bytes (Limit Lines kept) left before after old new =
     (kept ≡ most_lines) × ((run (lines_of bytes)).ending ≡ AtManyLines) × Appends before after (concat (run (lines_of bytes)).answers) × HasFile old new (run (lines_of bytes)).state
 Ended run bytes (Limit Packets kept) left before after old new = ⊥
 Ended run bytes (Limit Bytes kept) left before after old new = ⊥
+Ended run bytes (Limit Calls kept) left before after old new = ⊥
 Ended run bytes (Limit Records kept) left before after old new = ⊥
 Ended run bytes ReadFault left before after old new = ReadsWhole run bytes left before after old new
 Ended run bytes WriteFault left before after old new = BreaksOff run bytes left before after old new

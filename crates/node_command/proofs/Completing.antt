@@ -2,7 +2,7 @@
 use Rattle.std.proofs.Common.{◌≡◌, ◌⊎◌, inl, inr, ℕ, List, Option, Some, None, IfSome, Result, Ok, Err, refl, sym, ◌∙◌, ap, subst, arith}
 use Rattle.fuxi_io.specs.Disks.{Told as Moments}
 use Rattle.fuxi_io.specs.Lines.{InputLine, lines_of}
-use Rattle.fuxi_io.specs.declared.status.LimitOf.TheVariants.{Lines, Packets, Bytes, Records}
+use Rattle.fuxi_io.specs.declared.status.LimitOf.TheVariants.{Lines, Packets, Bytes, Records, Calls}
 use Rattle.fuxi_io.specs.declared.status.Status.{Status}
 use Rattle.fuxi_io.specs.declared.status.Status.TheVariants.{Done, Usage, BadInput, ReadFault, WriteFault, Limit, OutOfMemory, DiskFault, StaleEpoch, DamagedCheckpoint}
 use Rattle.fuxi_terms.specs.Cluster.{ClusterRecord}
@@ -27,6 +27,7 @@ IsEarly (BadInput line fault) = Unit {0}
 IsEarly (Limit Lines kept) = Unit {0}
 IsEarly (Limit Packets kept) = Unit {0}
 IsEarly (Limit Bytes kept) = Unit {0}
+IsEarly (Limit Calls kept) = Unit {0}
 IsEarly (Limit Records kept) = ⊥
 IsEarly Done = ⊥
 IsEarly Usage = ⊥
@@ -50,6 +51,7 @@ module _ (law : EndByLines) (rest : List ℕ) (left w0 w : Option (List ℕ)) (b
   run_whole Fits FitsOne s (Limit Lines kept) good early e = let is = ending_is Fits s (AtLimit kept) good e in cc
   run_whole Fits FitsOne s (Limit Packets kept) good early e = e
   run_whole Fits FitsOne s (Limit Bytes kept) good early e = e
+  run_whole Fits FitsOne s (Limit Calls kept) good early e = e
   run_whole Fits FitsOne s (Limit Records kept) good early e = e
   run_whole Fits FitsOne s Done good early e = early
   run_whole Fits FitsOne s Usage good early e = early
@@ -65,6 +67,7 @@ module _ (law : EndByLines) (rest : List ℕ) (left w0 w : Option (List ℕ)) (b
   out_whole epoch disk later (Limit Lines kept) early o = o.is
   out_whole epoch disk later (Limit Packets kept) early o = o.is
   out_whole epoch disk later (Limit Bytes kept) early o = o.is
+  out_whole epoch disk later (Limit Calls kept) early o = o.is
   out_whole epoch disk later (Limit Records kept) early o = early
   out_whole epoch disk later Done early o = early
   out_whole epoch disk later Usage early o = early
@@ -97,6 +100,7 @@ module _ (law : EndByLines) (kind : NodeKind) (addr : List ℕ) (disk later : Op
   before_whole (Limit Lines kept) early e = let is : Opens whole.cluster whole.number whole.behind ≡ TooMany kept = sym whole.opens ∙ e.stops in cc
   before_whole (Limit Packets kept) early e = e.stops
   before_whole (Limit Bytes kept) early e = e.stops
+  before_whole (Limit Calls kept) early e = e.stops
   before_whole (Limit Records kept) early e = early
   before_whole Done early e = early
   before_whole Usage early e = early
@@ -167,6 +171,7 @@ completes law kind addr disk later bytes status left w0 w before now old new who
     by_status (Limit Lines kept) tells usage read write failed early = absurd (early tt)
     by_status (Limit Packets kept) tells usage read write failed early = absurd (early tt)
     by_status (Limit Bytes kept) tells usage read write failed early = absurd (early tt)
+    by_status (Limit Calls kept) tells usage read write failed early = absurd (early tt)
     by_status (Limit Records kept) tells usage read write failed early = absurd (no_full kind disk kept may tells)
     by_status (StaleEpoch fence) tells usage read write failed early = absurd (no_stale kind disk fence may tells)
     by_status (DamagedCheckpoint offset) tells usage read write failed early = absurd (no_damage kind disk offset may tells)

@@ -3,7 +3,7 @@ use Rattle.std.specs.Prelude.{◌≡◌, ◌⊎◌, ℕ, ◌<◌, ◌≤◌, ⊤
 use Rattle.fuxi_io.specs.Disks.{Told as Moments}
 use Rattle.fuxi_io.specs.Lines.{InputLine, lines_of}
 use Rattle.fuxi_io.specs.declared.status.InputFault.TheVariants.{NoMachine}
-use Rattle.fuxi_io.specs.declared.status.LimitOf.TheVariants.{Lines, Packets, Bytes, Records}
+use Rattle.fuxi_io.specs.declared.status.LimitOf.TheVariants.{Lines, Packets, Bytes, Records, Calls}
 use Rattle.fuxi_io.specs.declared.status.Status.{Status}
 use Rattle.fuxi_io.specs.declared.status.Status.TheVariants.{Done, Usage, BadInput, ReadFault, WriteFault, Limit, OutOfMemory, DiskFault, StaleEpoch, DamagedCheckpoint}
 use Rattle.fuxi_terms.specs.Cluster.{ClusterRecord}
@@ -79,6 +79,7 @@ IsDiskless (Limit Records kept) = ⊥
 IsDiskless (Limit Lines kept) = ⊤
 IsDiskless (Limit Packets kept) = ⊤
 IsDiskless (Limit Bytes kept) = ⊤
+IsDiskless (Limit Calls kept) = ⊤
 IsDiskless Done = ⊤
 IsDiskless Usage = ⊤
 IsDiskless (BadInput line fault) = ⊤

@@ -4,7 +4,7 @@ use Rattle.std.specs.List.{concat}
 use Rattle.std.specs.Io.KnownBytes.{Appends, Consumes}
 use Rattle.fuxi_io.specs.Disks.{Told as Moments, WhereTold as WhereMoments}
 use Rattle.fuxi_io.specs.Lines.{InputLine, lines_of}
-use Rattle.fuxi_io.specs.declared.status.LimitOf.TheVariants.{Lines, Packets, Bytes, Records}
+use Rattle.fuxi_io.specs.declared.status.LimitOf.TheVariants.{Lines, Packets, Bytes, Records, Calls}
 use Rattle.fuxi_io.specs.declared.status.Status.{Status}
 use Rattle.fuxi_io.specs.declared.status.Status.TheVariants.{Done, Usage, BadInput, ReadFault, WriteFault, Limit, OutOfMemory, DiskFault, StaleEpoch, DamagedCheckpoint}
 use Rattle.input_lines.specs.Wholes.{whole_lines, TakesSome, WritesLast}
@@ -89,6 +89,7 @@ Ended Fits FitsOne s bytes (Ok (BadInput line fault)) left w0 w before now old n
 Ended Fits FitsOne s bytes (Ok (Limit Lines kept)) left w0 w before now old new = Ran s (lines_of bytes) (EndsWith Fits (AtLimit kept) w0 w) before now old new
 Ended Fits FitsOne s bytes (Ok (Limit Packets kept)) left w0 w before now old new = ⊥
 Ended Fits FitsOne s bytes (Ok (Limit Bytes kept)) left w0 w before now old new = ⊥
+Ended Fits FitsOne s bytes (Ok (Limit Calls kept)) left w0 w before now old new = ⊥
 Ended Fits FitsOne s bytes (Ok (Limit Records kept)) left w0 w before now old new = ⊥
 Ended Fits FitsOne s bytes (Ok ReadFault) left w0 w before now old new = ReadsWhole Fits s bytes left w0 w before now old new
 Ended Fits FitsOne s bytes (Ok WriteFault) left w0 w before now old new = StopsWriting Fits s bytes left w0 w before now old new
@@ -108,6 +109,7 @@ IsRunStatus WriteFault = ⊤
 IsRunStatus (Limit Lines kept) = ⊤
 IsRunStatus (Limit Packets kept) = ⊥
 IsRunStatus (Limit Bytes kept) = ⊥
+IsRunStatus (Limit Calls kept) = ⊥
 IsRunStatus (Limit Records kept) = ⊥
 IsRunStatus OutOfMemory = ⊤
 IsRunStatus Usage = ⊥

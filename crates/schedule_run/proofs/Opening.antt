@@ -6,7 +6,7 @@ use Rattle.std.proofs.lemmas.List.Elements.{filter-append}
 use Rattle.fuxi_io.specs.Lines.{InputLine, lines_of}
 use Rattle.fuxi_io.specs.Reading.{Reading}
 use Rattle.fuxi_io.specs.declared.status.InputFault.TheVariants.{NoCluster}
-use Rattle.fuxi_io.specs.declared.status.LimitOf.TheVariants.{Lines, Packets, Bytes, Records}
+use Rattle.fuxi_io.specs.declared.status.LimitOf.TheVariants.{Lines, Packets, Bytes, Records, Calls}
 use Rattle.fuxi_io.specs.declared.status.Status.{Status}
 use Rattle.fuxi_io.specs.declared.status.Status.TheVariants.{Done, Usage, BadInput, ReadFault, WriteFault, Limit, OutOfMemory, DiskFault, StaleEpoch, DamagedCheckpoint}
 use Rattle.fuxi_terms.specs.Cluster.{ClusterRecord}
@@ -36,6 +36,7 @@ module _ (first : ℕ) (bytes : List ℕ) (reading : Reading) (source took : Opt
   never_begun (Limit Lines kept) is = over (TooMany kept) (AtLimit Lines kept) refl is
   never_begun (Limit Packets kept) is = absurd is
   never_begun (Limit Bytes kept) is = absurd is
+  never_begun (Limit Calls kept) is = absurd is
   never_begun (Limit Records kept) is = absurd is
   never_begun ReadFault n =
       let same : read_from first (whole_lines (lines_of n.given)) ≡ ended None (AtBadLine n.line NoCluster) = ap run_opened n.none in

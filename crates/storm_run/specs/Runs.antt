@@ -3,7 +3,7 @@ use Rattle.std.specs.Prelude.{◌≡◌, ℕ, List, [], ◌∷◌, ◌++◌, Opt
 use Rattle.std.specs.Io.KnownBytes.{Appends}
 use Rattle.fuxi_io.specs.Causes.{TakesPart}
 use Rattle.fuxi_io.specs.declared.status.LimitOf.{LimitOf}
-use Rattle.fuxi_io.specs.declared.status.LimitOf.TheVariants.{Lines, Packets, Bytes, Records}
+use Rattle.fuxi_io.specs.declared.status.LimitOf.TheVariants.{Lines, Packets, Bytes, Records, Calls}
 use Rattle.fuxi_io.specs.declared.status.Status.{Status}
 use Rattle.fuxi_io.specs.declared.status.Status.TheVariants.{Done, Usage, BadInput, ReadFault, WriteFault, Limit, OutOfMemory as NoMemory, DiskFault, StaleEpoch, DamagedCheckpoint}
 use Rattle.schedule_text.specs.Writing.{IsLineEvent}
@@ -95,6 +95,7 @@ IsLimit r Lines kept = ⊥
 IsLimit r Packets kept = r ≡ Err (TooManyPackets kept)
 IsLimit r Bytes kept = r ≡ Err (PoolBytes kept)
 IsLimit r Records kept = ⊥
+IsLimit r Calls kept = ⊥
 
 -- what a storm wrote that ended with a status: the whole text with Done, a part from its front after a fault of the sink, and else nothing
 abbrev pub StormEnded : Result (List ℕ) WorldStop → Status → Option (List ℕ) → Option (List ℕ) → Type 0
