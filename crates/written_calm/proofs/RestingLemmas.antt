@@ -1,13 +1,14 @@
 -- A master that is done with a step has nothing to do at the end of the next one, where nothing changes.
 use Rattle.std.proofs.Common.{◌≡◌, ℕ, zero, suc, ◌<◌, Bool, true, false, cond, not, nat_eq, nat_lt, List, [], ◌∷◌, ◌++◌, length, map, Option, Some, None, refl, sym, ◌∙◌, ap, subst, arith}
 use Rattle.std.specs.Prelude.{◌&&◌, ◌||◌, filter}
+use Rattle.std.specs.Option.{option_map, unwrap_or}
 use Rattle.std.specs.List.{AllByRecursion, flat_map, list_all}
 use Rattle.std.proofs.lemmas.Bool.Decides.{nat_tests}
 use Rattle.fuxi_terms.specs.Cluster.{ClusterRecord}
-use Rattle.fuxi_terms.specs.Jobs.{unit_count, job_numbers}
+use Rattle.fuxi_terms.specs.Jobs.{KnownJob, job_of, unit_count, job_numbers}
 use Rattle.fuxi_terms.specs.Keys.{Spot}
 use Rattle.fuxi_terms.specs.Lists.{below}
-use Rattle.fuxi_terms.specs.Numbers.{has_number}
+use Rattle.fuxi_terms.specs.Numbers.{has_number, with_number}
 use Rattle.fuxi_terms.specs.TallyKeys.{want_key}
 use Rattle.fuxi_terms.proofs.Alls.{all_flat, all_mapped, all_more, all_passed}
 use Rattle.fuxi_terms.proofs.Booleans.{nat_itself, number_is, or_left, or_right}
@@ -17,26 +18,31 @@ use Rattle.written_roles.specs.Placing.{waiting_pairs, has_pair, lined, line_up,
 use Rattle.written_roles.proofs.PlacingEnds.{is_placeable}
 use Rattle.written_roles.proofs.TransitionsLemmas.{ready_besides}
 use Rattle.written_world.specs.Good.{AllWait, IsBounded, IsRangedMaster, IsResting}
-use Rattle.written_world.proofs.SettledLemmas.{job_listed, number_below, ranged_same, ready_rests}
+use Rattle.written_world.proofs.SettledLemmas.{number_below, number_with, ranged_same, ready_rests}
 use Rattle.written_world.proofs.TablesInOrder.{ready_waits}
+
+-- a job with a unit is one of the known ones
+job_listed : (jobs : List KnownJob) (a u : ℕ) → nat_lt u (unit_count jobs a) ≡ true → has_number a (job_numbers jobs) ≡ true
+job_listed [] a u h = absurd (let f : u < 0 = grind (arith, nat_tests, h) in omega (arith, f))
+job_listed (j ∷ js) a u h = elim (nat_eq j.job.number a) as (λ b. nat_eq j.job.number a ≡ b → nat_lt u (length (unwrap_or (option_map (λ j. j.job.units) (cond b (Some j) (job_of js a))) [])) ≡ true → has_number a (with_number j.job.number (job_numbers js)) ≡ true) [
+  | true ↦ λ e _. let same : j.job.number ≡ a = number_is _ _ e in number_with a j.job.number (job_numbers js) (or_left (nat_eq a j.job.number) _ (subst (λ x. nat_eq a x ≡ true) (sym same) (nat_itself a)))
+  | false ↦ λ e h. number_with a j.job.number (job_numbers js) (or_right (nat_eq a j.job.number) _ (job_listed js a u h))
+] refl h
 
 -- a pair with something out is among those that wait
 number_passes : (n : ℕ) (test : ℕ → Bool) (ns : List ℕ) → test n ≡ true → has_number n ns ≡ true → has_number n (filter test ns) ≡ true
 number_passes n test [] t h = cc
-number_passes n test (m ∷ ms) t h = by (nat_eq n m) refl h
+number_passes n test (m ∷ ms) t h = by (λ k. number_passes n test ms t k) (nat_eq n m) refl h
   where
-    by : (b : Bool) → nat_eq n m ≡ b → (b || has_number n ms) ≡ true → has_number n (cond (test m) (m ∷ filter test ms) (filter test ms)) ≡ true
-    by true e _ =
+    by : (has_number n ms ≡ true → has_number n (filter test ms) ≡ true) → (b : Bool) → nat_eq n m ≡ b → (b || has_number n ms) ≡ true → has_number n (cond (test m) (m ∷ filter test ms) (filter test ms)) ≡ true
+    by rest true e _ =
         let passes : test m ≡ true = subst (λ k. test k ≡ true) (number_is n m e) t in
         ap (λ b. has_number n (cond b (m ∷ filter test ms) (filter test ms))) passes ∙ or_left (nat_eq n m) (has_number n (filter test ms)) e
-    by false e h = again (test m)
+    by rest false e h = again (test m)
       where
-        rest : has_number n (filter test ms) ≡ true
-        rest = number_passes n test ms t h
-
         again : (b : Bool) → has_number n (cond b (m ∷ filter test ms) (filter test ms)) ≡ true
-        again true = or_right (nat_eq n m) (has_number n (filter test ms)) rest
-        again false = rest
+        again true = or_right (nat_eq n m) (has_number n (filter test ms)) (rest h)
+        again false = rest h
 
 pair_append : (p : ℕ × ℕ) (xs ys : List (ℕ × ℕ)) → has_pair p (xs ++ ys) ≡ (has_pair p xs || has_pair p ys)
 pair_append p [] ys = refl
@@ -44,19 +50,19 @@ pair_append p (x ∷ xs) ys = elim (nat_eq p.0 x.0 && nat_eq p.1 x.1) as (λ b. 
 
 pair_made : (a u : ℕ) (us : List ℕ) → has_number u us ≡ true → has_pair (a, u) (map (λ u. (a, u)) us) ≡ true
 pair_made a u [] h = cc
-pair_made a u (v ∷ vs) h = by (nat_eq u v) refl h
+pair_made a u (v ∷ vs) h = by (λ k. pair_made a u vs k) (nat_eq u v) refl h
   where
-    by : (b : Bool) → nat_eq u v ≡ b → (b || has_number u vs) ≡ true → has_pair (a, u) ((a, v) ∷ map (λ u. (a, u)) vs) ≡ true
-    by true e _ = or_left (nat_eq a a && nat_eq u v) (has_pair (a, u) (map (λ u. (a, u)) vs)) (ap (λ b. b && nat_eq u v) (nat_itself a) ∙ e)
-    by false e h = or_right (nat_eq a a && nat_eq u v) (has_pair (a, u) (map (λ u. (a, u)) vs)) (pair_made a u vs h)
+    by : (has_number u vs ≡ true → has_pair (a, u) (map (λ u. (a, u)) vs) ≡ true) → (b : Bool) → nat_eq u v ≡ b → (b || has_number u vs) ≡ true → has_pair (a, u) ((a, v) ∷ map (λ u. (a, u)) vs) ≡ true
+    by rest true e _ = or_left (nat_eq a a && nat_eq u v) (has_pair (a, u) (map (λ u. (a, u)) vs)) (ap (λ b. b && nat_eq u v) (nat_itself a) ∙ e)
+    by rest false e h = or_right (nat_eq a a && nat_eq u v) (has_pair (a, u) (map (λ u. (a, u)) vs)) (rest h)
 
 pair_in : (a u : ℕ) (f : ℕ → List (ℕ × ℕ)) (ns : List ℕ) → has_number a ns ≡ true → has_pair (a, u) (f a) ≡ true → has_pair (a, u) (flat_map f ns) ≡ true
 pair_in a u f [] h k = cc
-pair_in a u f (n ∷ ns) h k = pair_append (a, u) (f n) (flat_map f ns) ∙ by (nat_eq a n) refl h
+pair_in a u f (n ∷ ns) h k = pair_append (a, u) (f n) (flat_map f ns) ∙ by (λ g. pair_in a u f ns g k) (nat_eq a n) refl h
   where
-    by : (b : Bool) → nat_eq a n ≡ b → (b || has_number a ns) ≡ true → (has_pair (a, u) (f n) || has_pair (a, u) (flat_map f ns)) ≡ true
-    by true e _ = or_left (has_pair (a, u) (f n)) (has_pair (a, u) (flat_map f ns)) (subst (λ x. has_pair (a, u) (f x) ≡ true) (number_is a n e) k)
-    by false e h = or_right (has_pair (a, u) (f n)) (has_pair (a, u) (flat_map f ns)) (pair_in a u f ns h k)
+    by : (has_number a ns ≡ true → has_pair (a, u) (flat_map f ns) ≡ true) → (b : Bool) → nat_eq a n ≡ b → (b || has_number a ns) ≡ true → (has_pair (a, u) (f n) || has_pair (a, u) (flat_map f ns)) ≡ true
+    by rest true e _ = or_left (has_pair (a, u) (f n)) (has_pair (a, u) (flat_map f ns)) (subst (λ x. has_pair (a, u) (f x) ≡ true) (number_is a n e) k)
+    by rest false e h = or_right (has_pair (a, u) (f n)) (has_pair (a, u) (flat_map f ns)) (rest h)
 
 waits : (c : ClusterRecord) (M : Master) → IsRangedMaster c M → (a u : ℕ) → nat_lt 0 (out M a u) ≡ true → has_pair (a, u) (waiting_pairs M) ≡ true
 waits c M r a u h =
