@@ -38,19 +38,19 @@ pub record Cut {A : Type 0} (x : A) (xs : List A) : Type 0 where
 
 pub cut_at : (q : Id) (qs : List Id) → is_one_of q qs ≡ true → Cut q qs
 cut_at q [] e = cc
-cut_at q (r ∷ rs) e = by (same_id r q) refl e
+cut_at q (r ∷ rs) e = by (λ k. cut_at q rs k) (same_id r q) refl e
   where
-    by : (b : Bool) → same_id r q ≡ b → (b || is_one_of q rs) ≡ true → Cut q (r ∷ rs)
-    by true t e = let same = id_is r q t in record { before = []; behind = rs; is = ap (λ d. d ∷ rs) same }
-    by false t e = let c = cut_at q rs e in record { before = r ∷ c.before; behind = c.behind; is = ap (λ l. r ∷ l) c.is }
+    by : (is_one_of q rs ≡ true → Cut q rs) → (b : Bool) → same_id r q ≡ b → (b || is_one_of q rs) ≡ true → Cut q (r ∷ rs)
+    by rest true t e = let same = id_is r q t in record { before = []; behind = rs; is = ap (λ d. d ∷ rs) same }
+    by rest false t e = let c = rest e in record { before = r ∷ c.before; behind = c.behind; is = ap (λ l. r ∷ l) c.is }
 
 pub flat_cut : {A : Type 0} (f : A → List Packet) (xs ys : List A) → flat_map f (xs ++ ys) ≡ flat_map f xs ++ flat_map f ys
 flat_cut f [] ys = refl
 flat_cut f (x ∷ xs) ys = ap (λ l. f x ++ l) (flat_cut f xs ys) ∙ sym (assoc (f x) (flat_map f xs) (flat_map f ys))
   where
-    assoc : (as bs cs : List Packet) → (as ++ bs) ++ cs ≡ as ++ (bs ++ cs)
-    assoc [] bs cs = refl
-    assoc (a ∷ as) bs cs = ap (λ l. a ∷ l) (assoc as bs cs)
+    assoc : (ks ls ms : List Packet) → (ks ++ ls) ++ ms ≡ ks ++ (ls ++ ms)
+    assoc [] ls ms = refl
+    assoc (k ∷ ks) ls ms = ap (λ l. k ∷ l) (assoc ks ls ms)
 
 -- all packets of a list stand behind others
 pub all_sent : (ps xs : List Packet) → AllByRecursion (IsSent (ps ++ xs)) xs
@@ -218,7 +218,7 @@ module _ (w : World) (s : Steady w) (M : Master) (found : find nat_cmp w.hard.fe
     record Fine (u : World) : Type 0 where
       steady : Steady u
       fence : u.hard.fence ≡ w.hard.fence
-      runs : boot_of u q ≡ Some b
+      still : boot_of u q ≡ Some b
       sent : u.net.packets ≡ w.net.packets ++ all
       grows : last w.net p master_id ≤ last u.net p master_id
 
@@ -230,10 +230,10 @@ module _ (w : World) (s : Steady w) (M : Master) (found : find nat_cmp w.hard.fe
         let a = arrives u x in
         let long = (a.grows.longer p master_id).long in
         let before = f.grows in
-        (peer_link u x q b f.runs m.1.1 (ap (λ (r : Party). r.id) m.1.0), record {
+        (peer_link u x q b f.still m.1.1 (ap (λ (r : Party). r.id) m.1.0), record {
           steady = steady_hears u x (subst (λ l. IsSent l x) (sym f.sent) m.0) f.steady;
           fence = ap (λ (h : HardState). h.fence) a.hard ∙ f.fence;
-          runs = a.runs q ∙ f.runs;
+          still = a.runs q ∙ f.still;
           sent = a.packets ∙ f.sent;
           grows = omega (arith, long, before);
         })
@@ -262,7 +262,7 @@ module _ (w : World) (s : Steady w) (M : Master) (found : find nat_cmp w.hard.fe
       fine = record {
         steady = first.steady;
         fence = ap (λ (h : HardState). h.fence) first.arrived.hard;
-        runs = first.arrived.runs q ∙ runs;
+        still = first.arrived.runs q ∙ runs;
         sent = first.arrived.packets;
         grows = (first.arrived.grows.longer p master_id).long;
       }
@@ -283,7 +283,7 @@ module _ (w : World) (s : Steady w) (M : Master) (found : find nat_cmp w.hard.fe
 
       is_told : IsTold w.hard.fence w (hear_each zs u2) q b
       is_told =
-          let k = (last_part.sent q b told.goes.fine.runs told.known).1 in
+          let k = (last_part.sent q b told.goes.fine.still told.known).1 in
           let same : (u2.net.links p master_id).known ≡ ((hear_each zs u2).net.links p master_id).known = told.known ∙ sym k in
           let f = last_part.arrived.links p master_id in
           record {

@@ -79,11 +79,11 @@ some_sent (x ∷ xs) le = omega arith
 -- what a master shows to one of its applications
 shown_at : (w : World) (M : Master) (qs : List Id) (a : ℕ) → is_one_of (app_id a) qs ≡ true → AllByRecursion (λ q. present w.net (master_party M) q ≡ projection w.net M q) qs → (present w.net (master_party M) (app_id a)).head ≡ (w.net.links (master_party M) (app_id a)).known
 shown_at w M [] a e h = cc
-shown_at w M (r ∷ rs) a e h = by (same_id r (app_id a)) refl e
+shown_at w M (r ∷ rs) a e h = by (λ k. shown_at w M rs a k h.1) (same_id r (app_id a)) refl e
   where
-    by : (b : Bool) → same_id r (app_id a) ≡ b → (b || is_one_of (app_id a) rs) ≡ true → (present w.net (master_party M) (app_id a)).head ≡ (w.net.links (master_party M) (app_id a)).known
-    by true t e = subst (λ q. present w.net (master_party M) q ≡ projection w.net M q → (present w.net (master_party M) (app_id a)).head ≡ (w.net.links (master_party M) (app_id a)).known) (sym (id_is r (app_id a) t)) (λ same. ap (λ (l : Ledger). l.head) same) h.0
-    by false t e = shown_at w M rs a e h.1
+    by : (is_one_of (app_id a) rs ≡ true → (present w.net (master_party M) (app_id a)).head ≡ (w.net.links (master_party M) (app_id a)).known) → (b : Bool) → same_id r (app_id a) ≡ b → (b || is_one_of (app_id a) rs) ≡ true → (present w.net (master_party M) (app_id a)).head ≡ (w.net.links (master_party M) (app_id a)).known
+    by rest true t e = subst (λ q. present w.net (master_party M) q ≡ projection w.net M q → (present w.net (master_party M) (app_id a)).head ≡ (w.net.links (master_party M) (app_id a)).known) (sym (id_is r (app_id a) t)) (λ same. ap (λ (l : Ledger). l.head) same) h.0
+    by rest false t e = rest e
 
 module _ (e : ℕ) (w : World) (h : Caught e w) where
   m : TheMaster w

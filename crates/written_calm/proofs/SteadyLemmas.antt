@@ -126,11 +126,11 @@ the_master w s = by (find nat_cmp w.hard.fence w.masters) refl s.manned.master
 -- Nobody knows a later incarnation than the last
 any_below : (w : World) (p : Party) (ps : List Party) → AllByRecursion (λ p. p.inc ≤ top w p.id) ps → list_any (same_party p) ps ≡ true → p.inc ≤ top w p.id
 any_below w p [] h e = cc
-any_below w p (x ∷ xs) h e = by (same_party p x) refl e
+any_below w p (x ∷ xs) h e = by (λ k. any_below w p xs h.1 k) (same_party p x) refl e
   where
-    by : (b : Bool) → same_party p x ≡ b → (b || list_any (same_party p) xs) ≡ true → p.inc ≤ top w p.id
-    by true t e = let same = party_is p x t in subst (λ (r : Party). r.inc ≤ top w r.id) (sym same) h.0
-    by false t e = any_below w p xs h.1 e
+    by : (list_any (same_party p) xs ≡ true → p.inc ≤ top w p.id) → (b : Bool) → same_party p x ≡ b → (b || list_any (same_party p) xs) ≡ true → p.inc ≤ top w p.id
+    by rest true t e = let same = party_is p x t in subst (λ (r : Party). r.inc ≤ top w r.id) (sym same) h.0
+    by rest false t e = rest e
 
 pub known_below : (w : World) → Good w → (p : Party) (q : Id) → (w.net.links p q).known ≤ top w q
 known_below w g p q = by (nat_eq (w.net.links p q).known 0) refl (g.recorded.net.links p q)

@@ -274,9 +274,9 @@ agents_to w joined (m ∷ ms) = all_append (IsTo w) (agent_sends w m) (flat_map 
     by None e = tt
     by (Some g) e = one_to w joined (agent_id m) g.boot (ap (option_map (λ (g : Agent). g.boot)) e)
 
-apps_to : (w : World) → AllJoined w.hard.fence w → (as : List ℕ) → AllByRecursion (IsTo w) (flat_map (app_sends w) as)
+apps_to : (w : World) → AllJoined w.hard.fence w → (ns : List ℕ) → AllByRecursion (IsTo w) (flat_map (app_sends w) ns)
 apps_to w joined [] = tt
-apps_to w joined (a ∷ as) = all_append (IsTo w) (app_sends w a) (flat_map (app_sends w) as) (by (find nat_cmp a w.apps) refl) (apps_to w joined as)
+apps_to w joined (a ∷ ns) = all_append (IsTo w) (app_sends w a) (flat_map (app_sends w) ns) (by (find nat_cmp a w.apps) refl) (apps_to w joined ns)
   where
     by : (o : Option App) → find nat_cmp a w.apps ≡ o → AllByRecursion (IsTo w) (with_found o [] (λ g. told_master w (party (app_id a) g.boot)))
     by None e = tt
@@ -285,11 +285,11 @@ apps_to w joined (a ∷ as) = all_append (IsTo w) (app_sends w a) (flat_map (app
 -- where one stands among them
 cut_number : (n : ℕ) (ns : List ℕ) → has_number n ns ≡ true → Cut n ns
 cut_number n [] e = cc
-cut_number n (m ∷ ms) e = by (nat_eq n m) refl e
+cut_number n (m ∷ ms) e = by (λ k. cut_number n ms k) (nat_eq n m) refl e
   where
-    by : (b : Bool) → nat_eq n m ≡ b → (b || has_number n ms) ≡ true → Cut n (m ∷ ms)
-    by true t e = record { before = []; behind = ms; is = ap (λ k. k ∷ ms) (sym (number_is n m t)) }
-    by false t e = let c = cut_number n ms e in record { before = m ∷ c.before; behind = c.behind; is = ap (λ l. m ∷ l) c.is }
+    by : (has_number n ms ≡ true → Cut n ms) → (b : Bool) → nat_eq n m ≡ b → (b || has_number n ms) ≡ true → Cut n (m ∷ ms)
+    by rest true t e = record { before = []; behind = ms; is = ap (λ k. k ∷ ms) (sym (number_is n m t)) }
+    by rest false t e = let c = rest e in record { before = m ∷ c.before; behind = c.behind; is = ap (λ l. m ∷ l) c.is }
 
 record Within (ys all : List Packet) : Type 0 where
   before : List Packet
@@ -299,9 +299,9 @@ record Within (ys all : List Packet) : Type 0 where
 flat_within : (f : ℕ → List Packet) (n : ℕ) (ns : List ℕ) → has_number n ns ≡ true → Within (f n) (flat_map f ns)
 flat_within f n ns e = let c = cut_number n ns e in record { before = flat_map f c.before; behind = flat_map f c.behind; is = ap (flat_map f) c.is ∙ flat_cut f c.before (n ∷ c.behind) }
 
-assoc : (as bs cs : List Packet) → (as ++ bs) ++ cs ≡ as ++ (bs ++ cs)
-assoc [] bs cs = refl
-assoc (a ∷ as) bs cs = ap (λ l. a ∷ l) (assoc as bs cs)
+assoc : (ks ls ms : List Packet) → (ks ++ ls) ++ ms ≡ ks ++ (ls ++ ms)
+assoc [] ls ms = refl
+assoc (k ∷ ks) ls ms = ap (λ l. k ∷ l) (assoc ks ls ms)
 
 within_left : (ys xs zs : List Packet) → Within ys xs → Within ys (xs ++ zs)
 within_left ys xs zs c = record { before = c.before; behind = c.behind ++ zs; is = ap (λ l. l ++ zs) c.is ∙ assoc c.before (ys ++ c.behind) zs ∙ ap (λ l. c.before ++ l) (assoc ys c.behind zs) }
@@ -361,7 +361,7 @@ module _ (w : World) (s : Steady w) (apps : List ℕ) (named : AreNamed apps w) 
     record Fine (u : World) : Type 0 where
       steady : Steady u
       fence : u.hard.fence ≡ w.hard.fence
-      runs : (r : Id) → boot_of u r ≡ boot_of w r
+      still : (r : Id) → boot_of u r ≡ boot_of w r
       sent : u.net.packets ≡ w.net.packets ++ all
       grows : last w.net P q ≤ last u.net P q
 
@@ -371,7 +371,7 @@ module _ (w : World) (s : Steady w) (apps : List ℕ) (named : AreNamed apps w) 
     hears_one : (x : Packet) (u : World) → Fine u → May x → ((addressed u x).net.links P q ≡ (hear P true (last u.net P q) (u.net.links P q) x).link) × Fine (addressed u x)
     hears_one x u f y =
         let a = arrives u x in
-        let h = hearer u x q b f.steady (y.2 ∙ ap (λ k. party master_id k) (sym f.fence)) y.1 (f.runs q ∙ runs) in
+        let h = hearer u x q b f.steady (y.2 ∙ ap (λ k. party master_id k) (sym f.fence)) y.1 (f.still q ∙ runs) in
         let from : x.from.id ≡ q = ap (λ (r : Party). r.id) y.1 in
         let is : master_party h.master ≡ P = h.epoch ∙ ap (λ k. party master_id k) f.fence in
         let long = (a.grows.longer P q).long in
@@ -380,13 +380,13 @@ module _ (w : World) (s : Steady w) (apps : List ℕ) (named : AreNamed apps w) 
         (subst (λ d. (addressed u x).net.links (master_party h.master) d ≡ (hear (master_party h.master) true (last u.net (master_party h.master) d) (u.net.links (master_party h.master) d) x).link) from (master_link u x h.master h.runs h.to h.talks)), record {
           steady = steady_hears u x (subst (λ l. IsSent l x) (sym f.sent) y.0) f.steady;
           fence = ap (λ (h : HardState). h.fence) a.hard ∙ f.fence;
-          runs = λ r. a.runs r ∙ f.runs r;
+          still = λ r. a.runs r ∙ f.still r;
           sent = a.packets ∙ f.sent;
           grows = omega (arith, long, before);
         })
 
     bounded : (u : World) → Fine u → (u.net.links P q).known ≤ b
-    bounded u f = let k = the_master u f.steady in (is_peer u f.steady k.master k.runs q b (f.runs q ∙ runs)).last_boot P
+    bounded u f = let k = the_master u f.steady in (is_peer u f.steady k.master k.runs q b (f.still q ∙ runs)).last_boot P
 
     module _ (xs zs : List Packet) (cut : all ≡ xs ++ (own ++ zs)) where
       parts : AllByRecursion (IsUp v w.hard.fence (w.net.packets ++ all)) (xs ++ (own ++ zs))
@@ -408,7 +408,7 @@ module _ (w : World) (s : Steady w) (apps : List ℕ) (named : AreNamed apps w) 
       fine = record {
         steady = first.steady;
         fence = ap (λ (h : HardState). h.fence) first.arrived.hard;
-        runs = first.arrived.runs;
+        still = first.arrived.runs;
         sent = first.arrived.packets;
         grows = (first.arrived.grows.longer P q).long;
       }
@@ -419,30 +419,30 @@ module _ (w : World) (s : Steady w) (apps : List ℕ) (named : AreNamed apps w) 
       abbrev l : Link
       l = w.net.links (party q b) master_id
 
-      told : Turned (λ x u. addressed u x) (λ u. u.net.links P q) (λ u. last u.net P q) Fine May p P (λ x y. (y.1, ap (λ (r : Party). r.id) y.2)) hears_one bounded (last w.net p master_id) l u1 u2
-      told = turned_whole (λ x u. addressed u x) (λ u. u.net.links P q) (λ u. last u.net P q) Fine May p P (λ x y. (y.1, ap (λ (r : Party). r.id) y.2)) hears_one bounded (last w.net p master_id) l u1 fine
+      turned : Turned (λ x u. addressed u x) (λ u. u.net.links P q) (λ u. last u.net P q) Fine May p P (λ x y. (y.1, ap (λ (r : Party). r.id) y.2)) hears_one bounded (last w.net p master_id) l u1 u2
+      turned = turned_whole (λ x u. addressed u x) (λ u. u.net.links P q) (λ u. last u.net P q) Fine May p P (λ x y. (y.1, ap (λ (r : Party). r.id) y.2)) hears_one bounded (last w.net p master_id) l u1 fine
           (s.good.stands.sound.links p master_id).acked.there
           (λ knows. still_reaches (w.net.links P q) (u1.net.links P q) b l.acked (first.arrived.links P q) (subst (λ i. Reaches (w.net.links (party master_id i) q) b l.acked) knows (s.can.reached.links p master_id)))
           (λ knows u f. let there = subst (λ i. l.seq ≤ last w.net (party master_id i) q) knows (s.good.stands.sound.links p master_id).place.there in let g = f.grows in omega (arith, there, g))
           may
 
       last_part : WentUp u2 (hear_each zs u2)
-      last_part = up_each w.hard.fence (w.net.packets ++ all) zs u2 told.goes.fine.steady told.goes.fine.fence told.goes.fine.sent
-          (all_more (IsUp v w.hard.fence (w.net.packets ++ all)) (IsUp u2 w.hard.fence (w.net.packets ++ all)) (up_same v u2 w.hard.fence (w.net.packets ++ all) told.goes.fine.runs) zs (all_back (IsUp v w.hard.fence (w.net.packets ++ all)) own zs rest))
+      last_part = up_each w.hard.fence (w.net.packets ++ all) zs u2 turned.goes.fine.steady turned.goes.fine.fence turned.goes.fine.sent
+          (all_more (IsUp v w.hard.fence (w.net.packets ++ all)) (IsUp u2 w.hard.fence (w.net.packets ++ all)) (up_same v u2 w.hard.fence (w.net.packets ++ all) turned.goes.fine.still) zs (all_back (IsUp v w.hard.fence (w.net.packets ++ all)) own zs rest))
 
       has_told : HasTold w.hard.fence w (hear_each zs u2) q b
       has_told =
           let f = last_part.arrived.links P q in
           let up = f.known in
-          let at = told.known in
+          let at = turned.known in
           let k = the_master (hear_each zs u2) last_part.steady in
-          let down = (is_peer (hear_each zs u2) last_part.steady k.master k.runs q b (last_part.arrived.runs q ∙ told.goes.fine.runs q ∙ runs)).last_boot P in
+          let down = (is_peer (hear_each zs u2) last_part.steady k.master k.runs q b (last_part.arrived.runs q ∙ turned.goes.fine.still q ∙ runs)).last_boot P in
           let known : ((hear_each zs u2).net.links P q).known ≡ b = omega (arith, up, at, down) in
-          let same : (u2.net.links P q).known ≡ ((hear_each zs u2).net.links P q).known = told.known ∙ sym known in
+          let same : (u2.net.links P q).known ≡ ((hear_each zs u2).net.links P q).known = turned.known ∙ sym known in
           record {
             known = known;
-            place = comes_more (last w.net p master_id) l.acked (u2.net.links P q).seq ((hear_each zs u2).net.links P q).seq (f.seq same) (told.place (joined q b runs) m.first);
-            acked = let a = told.acked (joined q b runs) in let c = f.acked same in omega (arith, a, c);
+            place = comes_more (last w.net p master_id) l.acked (u2.net.links P q).seq ((hear_each zs u2).net.links P q).seq (f.seq same) (turned.place (joined q b runs) m.first);
+            acked = let a = turned.acked (joined q b runs) in let c = f.acked same in omega (arith, a, c);
           }
 
     one_told : HasTold w.hard.fence w (hear_each all v) q b
