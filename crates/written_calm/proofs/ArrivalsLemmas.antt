@@ -1,20 +1,17 @@
 -- What one delivery leaves, whoever it is for.
-use Rattle.std.proofs.Common.{◌≡◌, ℕ, ◌+◌, ◌-◌, ◌<◌, ◌≤◌, Bool, true, false, cond, not, nat_eq, nat_lt, T, List, [], ◌∷◌, ◌++◌, length, map, Option, Some, None, is_some, slice_get, refl, sym, ◌∙◌, ap, subst, arith}
+use Rattle.std.proofs.Common.{◌≡◌, ℕ, Bool, true, false, cond, nat_eq, T, List, [], ◌∷◌, Option, Some, None, is_some, refl, sym, ◌∙◌, ap, subst, arith}
 use Rattle.std.specs.Prelude.{◌&&◌}
 use Rattle.std.specs.Option.{option_map}
 use Rattle.std.specs.Ordering.{nat_cmp, eq_by_cmp}
 use Rattle.std.specs.Cmp.{nat_cmp_total}
 use Rattle.std.specs.FinMap.Entries.{find, put, find-put, is_sorted, is_sorted-put}
 use Rattle.std.proofs.lemmas.Bool.Decides.{nat_tests}
-use Rattle.fuxi_terms.specs.Cluster.{ClusterRecord}
-use Rattle.fuxi_terms.specs.Lists.{below}
-use Rattle.fuxi_terms.proofs.Booleans.{both_true, either, number_is}
-use Rattle.written_net.specs.Net.{Net, Party, Id, Link, Packet, Heard, hear, heard_of, comes, last, same_id, same_party, is_taken}
+use Rattle.fuxi_terms.proofs.Booleans.{either, number_is}
+use Rattle.written_net.specs.Net.{Net, Party, Id, Link, Packet, hear, heard_of, comes, last, same_id, same_party}
 use Rattle.written_net.specs.Ledgers.{Ledger}
 use Rattle.written_net.specs.Channels.{master_id, agent_id, app_id, party, is_master, is_agent, is_app, present, Offer, publish, publish_one, to_master, shape}
-use Rattle.written_net.proofs.NetLemmas.{id_is}
 use Rattle.written_net.proofs.SoundLemmas.{Grows}
-use Rattle.written_net.proofs.PublishLemmas.{Leaves, leaves_then, comes_leaves, publish_leaves, publish_links, publish_grows, grows_itself, set_here, same_id_itself}
+use Rattle.written_net.proofs.PublishLemmas.{Leaves, leaves_then, comes_leaves, publish_leaves, publish_links, publish_grows, grows_itself, set_here}
 use Rattle.written_roles.specs.Agents.{joined_report}
 use Rattle.written_roles.specs.Apps.{joined_demand}
 use Rattle.written_roles.specs.Masters.{Master}

@@ -1,19 +1,17 @@
 -- What the turn of the master of the fence brings to those who run.
-use Rattle.std.proofs.Common.{◌≡◌, ℕ, zero, suc, ◌+◌, ◌-◌, ◌<◌, ◌≤◌, Bool, true, false, cond, not, nat_eq, nat_lt, List, [], ◌∷◌, ◌++◌, length, map, Option, Some, None, slice_get, refl, sym, ◌∙◌, ap, subst, arith}
-use Rattle.std.specs.Prelude.{◌&&◌, ◌||◌}
+use Rattle.std.proofs.Common.{◌≡◌, ℕ, ◌≤◌, Bool, true, false, List, [], ◌∷◌, ◌++◌, length, map, Some, slice_get, refl, sym, ◌∙◌, ap, subst, arith}
+use Rattle.std.specs.Prelude.{◌||◌}
 use Rattle.std.specs.List.{AllByRecursion, flat_map}
 use Rattle.std.specs.Ordering.{nat_cmp}
 use Rattle.std.specs.FinMap.Entries.{find}
-use Rattle.std.proofs.lemmas.Bool.Decides.{nat_tests}
 use Rattle.fuxi_terms.specs.Jobs.{job_numbers}
 use Rattle.fuxi_terms.specs.Lists.{below}
 use Rattle.fuxi_terms.proofs.Alls.{all_append, all_back, all_front, all_more}
-use Rattle.fuxi_terms.proofs.Booleans.{both_true, false_and}
-use Rattle.written_net.specs.Net.{Net, Party, Id, Link, Packet, hear, heard_of, last, same_id, same_party, turn, turn_packets}
+use Rattle.written_net.specs.Net.{Net, Party, Id, Link, Packet, hear, last, same_id, turn}
 use Rattle.written_net.specs.Ledgers.{Ledger}
 use Rattle.written_net.specs.Channels.{master_id, agent_id, app_id, party, is_master}
 use Rattle.written_net.proofs.NetLemmas.{id_is}
-use Rattle.written_net.proofs.PublishLemmas.{grows_then, same_id_itself}
+use Rattle.written_net.proofs.PublishLemmas.{grows_then}
 use Rattle.written_roles.specs.HardState.{HardState}
 use Rattle.written_roles.specs.Masters.{Master}
 use Rattle.written_roles.specs.MasterSteps.{master_party, peers, is_one_of}
@@ -25,8 +23,8 @@ use Rattle.written_world.proofs.PartiesKept.{knows_sender}
 use Rattle.written_calm.specs.Places.{ComesTo, Reaches}
 use Rattle.written_calm.specs.Rounds.{master_tells}
 use Rattle.written_calm.proofs.ArrivalsLemmas.{Arrived, Spares, arrived_itself, arrives, boot_of, peer_appends_nothing, peer_link, spares}
-use Rattle.written_calm.proofs.FurtherLemmas.{Further, further_then, still_reaches}
-use Rattle.written_calm.proofs.PhasesLemmas.{AllHeard, after, all_heard, append_none, hear_each, master_turns}
+use Rattle.written_calm.proofs.FurtherLemmas.{further_then, still_reaches}
+use Rattle.written_calm.proofs.PhasesLemmas.{after, all_heard, hear_each, master_turns}
 use Rattle.written_calm.proofs.SteadyLemmas.{IsPeer, IsSent, Steady, is_peer, master_known, steady_hears, the_master}
 use Rattle.written_calm.proofs.TurnsLemmas.{IsOf, Turned, comes_more, deliver_append, turn_of, turned_whole}
 

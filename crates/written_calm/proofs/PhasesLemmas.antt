@@ -1,5 +1,5 @@
 -- Turns, and one delivery of all that they sent, are these packets heard one after the other.
-use Rattle.std.proofs.Common.{◌≡◌, ℕ, zero, suc, ◌+◌, ◌-◌, ◌<◌, ◌≤◌, Bool, true, false, cond, not, nat_eq, nat_lt, List, [], ◌∷◌, ◌++◌, append_assoc, length, length-append, map, Option, Some, None, is_some, slice_get, refl, sym, ◌∙◌, ap, subst, arith}
+use Rattle.std.proofs.Common.{◌≡◌, ℕ, suc, ◌+◌, ◌-◌, Bool, true, false, cond, nat_eq, nat_lt, List, [], ◌∷◌, ◌++◌, append_assoc, length, length-append, map, Option, Some, None, slice_get, refl, sym, ◌∙◌, ap, subst, arith}
 use Rattle.std.specs.List.{flat_map}
 use Rattle.std.specs.Ordering.{nat_cmp}
 use Rattle.std.specs.FinMap.Entries.{find}
@@ -10,12 +10,12 @@ use Rattle.written_net.specs.Ledgers.{Ledger}
 use Rattle.written_net.specs.Channels.{master_id, agent_id, app_id, party, send_all}
 use Rattle.written_roles.specs.Masters.{Master}
 use Rattle.written_roles.specs.MasterSteps.{master_party, peers}
-use Rattle.written_roles.specs.Refusals.{NoPacket, NotRunning, Refusal, first_refusal, with_found}
-use Rattle.written_world.specs.World.{World, Agent, App, Step, prints_nothing, refused, then_step}
-use Rattle.written_world.specs.Events.{Event, DeliverRange, TurnAgent, TurnApp, TurnMaster, act, addressed, counted_in, deliver_all, deliver_one, heard_by, heard_line, packet_of, turn_to_master, turned, world_step}
+use Rattle.written_roles.specs.Refusals.{NoPacket, NotRunning, first_refusal, with_found}
+use Rattle.written_world.specs.World.{World, Agent, App, Step, prints_nothing, refused}
+use Rattle.written_world.specs.Events.{Event, DeliverRange, TurnAgent, TurnApp, TurnMaster, addressed, counted_in, deliver_all, deliver_one, heard_by, heard_line, turn_to_master, turned, world_step}
 use Rattle.written_world.specs.Runs.{run_from}
 use Rattle.written_calm.specs.Progress.{CanProgress}
-use Rattle.written_calm.specs.Rounds.{IsManned, delivered_since, with_delivery, peers_turn, master_tells, peers_tell}
+use Rattle.written_calm.specs.Rounds.{delivered_since, peers_turn}
 use Rattle.written_calm.proofs.ArrivalsLemmas.{arrives}
 use Rattle.written_calm.proofs.SteadyLemmas.{Steady, can_acts, can_counts, good_acts, good_counts, steady_counts}
 use Rattle.written_calm.proofs.TurnsLemmas.{deliver_each}

@@ -1,7 +1,6 @@
 -- What progress rests on holds in every state.
-use Rattle.std.proofs.Common.{◌≡◌, ◌⊎◌, inl, inr, ℕ, ◌+◌, ◌-◌, ◌<◌, ◌≤◌, Bool, true, false, cond, not, nat_eq, nat_lt, List, [], ◌∷◌, ◌++◌, length, map, Some, None, slice_get, refl, sym, ◌∙◌, ap, subst, arith}
+use Rattle.std.proofs.Common.{◌≡◌, ◌⊎◌, inl, inr, ℕ, ◌-◌, ◌<◌, ◌≤◌, Bool, true, false, cond, not, nat_eq, nat_lt, List, [], ◌∷◌, ◌++◌, length, map, Some, refl, sym, ◌∙◌, ap, subst, arith}
 use Rattle.std.specs.Prelude.{⊤, ◌&&◌}
-use Rattle.std.specs.List.{AllByRecursion}
 use Rattle.std.specs.Ordering.{nat_cmp, eq_by_cmp}
 use Rattle.std.specs.Cmp.{nat_cmp_total}
 use Rattle.std.specs.FinMap.Entries.{find, put, find-put}
@@ -11,8 +10,8 @@ use Rattle.fuxi_terms.specs.Limits.{most_masters}
 use Rattle.fuxi_terms.specs.Jobs.{is_known, has_ended, eight_places, job_numbers, unit_count}
 use Rattle.fuxi_terms.specs.Lists.{below}
 use Rattle.fuxi_terms.specs.Numbers.{has_number, without_number}
-use Rattle.fuxi_terms.proofs.Booleans.{either, either_case, number_is}
-use Rattle.written_net.specs.Net.{Net, Party, Id, Link, Packet, Kind, Heard, Starts, Turns, Resyncs, move, comes, heard_of, last, unknown, same_id, same_party, set_at, is_taken}
+use Rattle.fuxi_terms.proofs.Booleans.{either, either_case}
+use Rattle.written_net.specs.Net.{Net, Party, Id, Link, Packet, Starts, Turns, Resyncs, move, comes, heard_of, unknown, same_id, same_party}
 use Rattle.written_net.specs.Ledgers.{Ledger}
 use Rattle.written_net.specs.Channels.{master_id, agent_id, app_id, party, is_master, present, Offer, publish, to_master, send_all, resync_all, shape}
 use Rattle.written_net.specs.Sound.{PacketNames}
@@ -27,11 +26,11 @@ use Rattle.written_roles.specs.Refusals.{Refusal, NotRising, TooManyMasters, NoM
 use Rattle.written_roles.specs.Agents.{joined_report}
 use Rattle.written_roles.specs.Apps.{changed_demand, command_key, command_number, joined_demand}
 use Rattle.written_roles.proofs.TransitionsLemmas.{ready_besides}
-use Rattle.written_world.specs.World.{World, Agent, App, Step, top, set_boot, empty_world}
+use Rattle.written_world.specs.World.{World, Agent, App, top, set_boot, empty_world}
 use Rattle.written_world.specs.Parties.{offers, end_step, told, received, adopted_now, joined, agent_table, app_hears, carry}
 use Rattle.written_world.specs.Events.{Event, packet_of, given_back, agent_started, app_started, act, without_master}
 use Rattle.written_world.specs.Runs.{run}
-use Rattle.written_world.specs.Good.{Invariant, IsShowing}
+use Rattle.written_world.specs.Good.{Invariant}
 use Rattle.written_world.proofs.Invariant.{put_found, ready_epoch}
 use Rattle.written_world.proofs.InvariantKept.{at_start, events_hold, left_fence, not_refused, rising, told_same}
 use Rattle.written_world.proofs.LeftLemmas.{left_hard, still_runs}

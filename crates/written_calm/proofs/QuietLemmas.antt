@@ -1,5 +1,5 @@
 -- A world in which all channels between the master of the fence and those who run are caught up is quiet.
-use Rattle.std.proofs.Common.{◌≡◌, ℕ, zero, suc, ◌+◌, ◌<◌, ◌≤◌, Bool, true, false, cond, not, nat_eq, nat_lt, T, List, [], ◌∷◌, ◌++◌, length, Option, Some, None, is_some, refl, sym, ◌∙◌, ap, subst, arith}
+use Rattle.std.proofs.Common.{◌≡◌, ℕ, zero, suc, ◌<◌, ◌≤◌, Bool, true, false, cond, not, nat_eq, nat_lt, T, List, [], ◌∷◌, length, Option, Some, None, is_some, refl, sym, ◌∙◌, ap, subst, arith}
 use Rattle.std.specs.Prelude.{◌&&◌, ◌||◌}
 use Rattle.std.specs.Option.{option_map}
 use Rattle.std.specs.List.{AllByRecursion, list_all}
@@ -12,7 +12,7 @@ use Rattle.fuxi_terms.specs.Lists.{below}
 use Rattle.fuxi_terms.specs.Numbers.{has_number}
 use Rattle.fuxi_terms.proofs.Alls.{all_append, all_more}
 use Rattle.fuxi_terms.proofs.Booleans.{and_true, or_right}
-use Rattle.written_net.specs.Net.{Net, Party, Id, Link, last, same_id, at_index}
+use Rattle.written_net.specs.Net.{Party, Id, last, same_id, at_index}
 use Rattle.written_net.proofs.NetLemmas.{id_is}
 use Rattle.written_net.specs.Ledgers.{Ledger, nothing}
 use Rattle.written_net.specs.Channels.{master_id, agent_id, app_id, party, present}
@@ -31,7 +31,7 @@ use Rattle.written_world.proofs.JobsKept.{act_has, few_resources}
 use Rattle.written_world.specs.Good.{Good}
 use Rattle.written_order.specs.Orders.{IsInOrder}
 use Rattle.written_order.proofs.OrdersKept.{kept_in_order}
-use Rattle.written_calm.specs.Rounds.{AreNamed, CalmBringsQuiet, IsManned, calm_rounds, closed, master_tells}
+use Rattle.written_calm.specs.Rounds.{CalmBringsQuiet, calm_rounds, closed}
 use Rattle.written_calm.proofs.ArrivalsLemmas.{boot_of}
 use Rattle.written_calm.proofs.ProgressKept.{always_progresses}
 use Rattle.written_calm.proofs.RoundsLemmas.{Caught, heard_after, last_turn}

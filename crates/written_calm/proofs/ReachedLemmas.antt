@@ -1,15 +1,14 @@
 -- What is acknowledged was reached, whatever is heard, sent and resynced.
-use Rattle.std.proofs.Common.{◌≡◌, ℕ, ◌+◌, ◌-◌, ◌<◌, ◌≤◌, Bool, true, false, cond, not, nat_eq, nat_lt, List, [], ◌∷◌, ◌++◌, map, min, Some, refl, sym, ◌∙◌, ap, subst, arith}
+use Rattle.std.proofs.Common.{◌≡◌, ℕ, ◌+◌, ◌-◌, Bool, true, false, cond, not, nat_eq, nat_lt, List, [], ◌∷◌, map, min, Some, refl, sym, ◌∙◌, subst, arith}
 use Rattle.std.specs.Prelude.{◌&&◌, ◌||◌}
 use Rattle.std.specs.List.{AllByRecursion}
-use Rattle.std.proofs.lemmas.Bool.Decides.{nat_tests}
 use Rattle.fuxi_terms.specs.declared.answers.What.{What}
 use Rattle.fuxi_terms.specs.declared.answers.What.TheVariants.{Taken, Ack as Acked, Stranger, Stale, NotMine, Old, Gap, Ledger as SaysLedger, Exceeds as SaysExceeds}
 use Rattle.fuxi_terms.specs.Limits.{kept_changes, turn_deltas}
 use Rattle.fuxi_terms.specs.Lists.{numbers_from}
-use Rattle.fuxi_terms.proofs.Alls.{all_append, all_more}
+use Rattle.fuxi_terms.proofs.Alls.{all_append}
 use Rattle.fuxi_terms.proofs.Booleans.{both_true, either, not_false, number_is}
-use Rattle.written_net.specs.Net.{Net, Party, Id, Link, Packet, Kind, Heard, Ack, Delta, Full, last, met, acknowledge, unmoved, unacknowledged, hear, hear_peer, heard_of, word_of, link_after, notes, turn, Move, Turns, Resyncs, Posts, comes, move, set_at, same_id, silent, unknown}
+use Rattle.written_net.specs.Net.{Net, Party, Id, Link, Packet, Kind, Heard, Ack, Delta, Full, last, met, acknowledge, unmoved, unacknowledged, hear, hear_peer, heard_of, word_of, link_after, notes, turn, Turns, Resyncs, Posts, comes, move, set_at, same_id, silent, unknown}
 use Rattle.written_net.specs.Ledgers.{Ledger, same_ledger}
 use Rattle.written_net.specs.Channels.{Offer, is_master, present, publish_one, publish, send_all, resync_all, to_master}
 use Rattle.written_net.proofs.NetLemmas.{id_is, set_at_all}

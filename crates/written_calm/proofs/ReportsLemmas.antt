@@ -1,24 +1,22 @@
 -- A master has as reported each machine of whose agent it took a report.
-use Rattle.std.proofs.Common.{◌≡◌, ℕ, ◌<◌, ◌≤◌, Bool, true, false, cond, not, nat_eq, nat_lt, List, [], ◌∷◌, Some, refl, sym, ◌∙◌, ap, subst, arith}
-use Rattle.std.specs.Prelude.{◌&&◌, ◌||◌}
-use Rattle.std.proofs.lemmas.Bool.Decides.{nat_tests}
+use Rattle.std.proofs.Common.{◌≡◌, ℕ, ◌≤◌, Bool, true, false, cond, not, nat_eq, nat_lt, Some, refl, sym, ◌∙◌, ap, subst, arith}
+use Rattle.std.specs.Prelude.{◌&&◌}
 use Rattle.fuxi_terms.specs.declared.answers.What.{What}
 use Rattle.fuxi_terms.specs.declared.answers.What.TheVariants.{Taken, Ack as Acked, Stranger, Stale, NotMine, Old, Gap, Ledger as SaysLedger, Exceeds as SaysExceeds}
 use Rattle.fuxi_terms.specs.Cluster.{ClusterRecord}
 use Rattle.fuxi_terms.specs.Jobs.{is_live}
-use Rattle.fuxi_terms.specs.Numbers.{has_number, with_number}
-use Rattle.fuxi_terms.proofs.Booleans.{and_true, both_true, either, nat_itself, not_false, number_is, or_left, or_right}
-use Rattle.written_net.specs.Net.{Net, Id, Link, Packet, Heard, met, hear, hear_peer, heard_of, word_of, link_after, unmoved, is_taken, comes, same_id, last, at_index}
-use Rattle.written_net.specs.Ledgers.{Ledger, nothing}
-use Rattle.written_net.specs.Channels.{master_id, agent_id, app_id, party, is_agent, content, shape, has_heads}
-use Rattle.written_net.specs.Sound.{Sound, PacketNames, NamesAt}
+use Rattle.fuxi_terms.specs.Numbers.{has_number}
+use Rattle.fuxi_terms.proofs.Booleans.{and_true, both_true, either, nat_itself, not_false, or_left, or_right}
+use Rattle.written_net.specs.Net.{Net, Id, Link, Packet, Heard, met, hear_peer, heard_of, word_of, link_after, unmoved, is_taken, comes, same_id, last}
+use Rattle.written_net.specs.Ledgers.{Ledger}
+use Rattle.written_net.specs.Channels.{master_id, agent_id, is_agent, content, shape, has_heads}
+use Rattle.written_net.specs.Sound.{Sound, PacketNames}
 use Rattle.written_net.proofs.NetLemmas.{id_is}
-use Rattle.written_net.proofs.BoundedLemmas.{met_known}
 use Rattle.written_net.proofs.SoundLemmas.{taken_names}
-use Rattle.written_net.proofs.PublishLemmas.{same_id_itself, set_here, set_beside}
+use Rattle.written_net.proofs.PublishLemmas.{set_here, set_beside}
 use Rattle.written_roles.specs.Masters.{Master}
 use Rattle.written_roles.specs.MasterSteps.{master_party, talks, counted, adopts, take_report, take_demand, meet_app}
-use Rattle.written_roles.proofs.TransitionsLemmas.{EachHeard, heard_has, reported_in}
+use Rattle.written_roles.proofs.TransitionsLemmas.{heard_has, reported_in}
 use Rattle.written_world.specs.Parties.{told, received}
 use Rattle.written_world.proofs.CreditsLemmas.{stayed, taken_places}
 use Rattle.written_world.proofs.RowsShown.{with_is}

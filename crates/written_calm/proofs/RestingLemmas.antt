@@ -12,8 +12,8 @@ use Rattle.fuxi_terms.specs.Numbers.{has_number, with_number}
 use Rattle.fuxi_terms.specs.TallyKeys.{want_key}
 use Rattle.fuxi_terms.proofs.Alls.{all_flat, all_mapped, all_more, all_passed}
 use Rattle.fuxi_terms.proofs.Booleans.{nat_itself, number_is, or_left, or_right}
-use Rattle.written_roles.specs.Masters.{Master, asked, out}
-use Rattle.written_roles.specs.MasterSteps.{phased, settled_if_serving, ready, is_all_reported}
+use Rattle.written_roles.specs.Masters.{Master, out}
+use Rattle.written_roles.specs.MasterSteps.{settled_if_serving, ready, is_all_reported}
 use Rattle.written_roles.specs.Placing.{waiting_pairs, has_pair, lined, line_up, placeable, first_placeable, granted, settle, settled, all_out}
 use Rattle.written_roles.proofs.PlacingEnds.{is_placeable}
 use Rattle.written_roles.proofs.TransitionsLemmas.{ready_besides}

@@ -1,23 +1,19 @@
 -- Behind seven calm rounds and a last turn of the master of the fence all channels are caught up.
-use Rattle.std.proofs.Common.{◌≡◌, ◌⊎◌, inl, inr, ℕ, zero, suc, ◌+◌, ◌-◌, ◌<◌, ◌≤◌, Bool, true, false, cond, nat_eq, nat_lt, T, List, [], ◌∷◌, ◌++◌, length, Option, Some, None, is_some, refl, sym, ◌∙◌, ap, subst, arith}
-use Rattle.std.specs.Prelude.{◌&&◌}
+use Rattle.std.proofs.Common.{◌≡◌, inl, inr, ℕ, zero, suc, ◌+◌, ◌-◌, ◌≤◌, Bool, true, false, nat_lt, List, length, Option, Some, None, refl, sym, ◌∙◌, ap, subst, arith}
 use Rattle.std.specs.Option.{option_map}
-use Rattle.std.specs.List.{AllByRecursion, list_all}
 use Rattle.std.specs.Ordering.{nat_cmp}
 use Rattle.std.specs.FinMap.Entries.{find}
 use Rattle.std.proofs.lemmas.Bool.Decides.{nat_tests}
-use Rattle.fuxi_terms.specs.Limits.{kept_changes, turn_deltas}
 use Rattle.fuxi_terms.specs.Numbers.{has_number}
-use Rattle.written_net.specs.Net.{Net, Party, Id, Link, last}
-use Rattle.written_net.specs.Ledgers.{Ledger}
+use Rattle.written_net.specs.Net.{Id, Link, last}
 use Rattle.written_net.specs.Channels.{master_id, app_id, party}
 use Rattle.written_roles.specs.HardState.{HardState}
 use Rattle.written_world.specs.World.{World, App}
 use Rattle.written_calm.specs.Places.{ComesTo}
-use Rattle.written_calm.specs.Rounds.{AreNamed, calm_round, calm_rounds, closed, master_tells, peers_tell}
+use Rattle.written_calm.specs.Rounds.{AreNamed, calm_round, calm_rounds, master_tells, peers_tell}
 use Rattle.written_calm.proofs.ArrivalsLemmas.{boot_of}
 use Rattle.written_calm.proofs.DownLemmas.{ToldPeers, master_tells_peers}
-use Rattle.written_calm.proofs.SteadyLemmas.{IsPeer, Steady, TheMaster, is_peer, the_master}
+use Rattle.written_calm.proofs.SteadyLemmas.{Steady, is_peer, the_master}
 use Rattle.written_calm.proofs.UpLemmas.{AllJoined, AreCaught, ToldMaster, peers_tell_master}
 
 -- How far a place is behind after a turn

@@ -1,5 +1,5 @@
 -- Worlds from which calm rounds go on: good ones, in which the master of the fence and all agents run. And who knows whom there.
-use Rattle.std.proofs.Common.{◌≡◌, ℕ, zero, suc, ◌+◌, ◌-◌, ◌<◌, ◌≤◌, Bool, true, false, cond, not, nat_eq, nat_lt, T, List, [], ◌∷◌, ◌++◌, length, Option, Some, None, is_some, slice_get, refl, sym, ◌∙◌, ap, subst, arith}
+use Rattle.std.proofs.Common.{◌≡◌, ℕ, zero, suc, ◌+◌, ◌-◌, ◌<◌, ◌≤◌, Bool, true, false, nat_eq, nat_lt, T, List, [], ◌∷◌, length, Option, Some, None, is_some, slice_get, refl, sym, ◌∙◌, ap, subst, arith}
 use Rattle.std.specs.Prelude.{◌&&◌, ◌||◌}
 use Rattle.std.specs.List.{AllByRecursion, list_any}
 use Rattle.std.specs.Ordering.{nat_cmp}
@@ -7,26 +7,24 @@ use Rattle.std.specs.FinMap.Entries.{find, is_sorted}
 use Rattle.std.proofs.lemmas.Bool.Decides.{nat_tests}
 use Rattle.fuxi_terms.specs.Cluster.{ClusterRecord, has_machine}
 use Rattle.fuxi_terms.specs.Jobs.{is_known}
-use Rattle.fuxi_terms.proofs.Booleans.{number_is, or_left, or_right}
-use Rattle.written_net.specs.Net.{Net, Party, Id, Link, Packet, last, same_id, same_party, at_index}
-use Rattle.written_net.specs.Ledgers.{Ledger, nothing}
-use Rattle.written_net.specs.Channels.{master_id, agent_id, app_id, party, is_master, is_agent, is_app, present, HasJoined}
+use Rattle.fuxi_terms.proofs.Booleans.{number_is}
+use Rattle.written_net.specs.Net.{Party, Id, Packet, same_id, same_party}
+use Rattle.written_net.specs.Channels.{master_id, agent_id, app_id, party, HasJoined}
 use Rattle.written_net.proofs.NetLemmas.{party_is}
 use Rattle.written_roles.specs.Masters.{Master}
-use Rattle.written_roles.specs.MasterSteps.{master_party, talks}
+use Rattle.written_roles.specs.MasterSteps.{talks}
 use Rattle.written_roles.specs.HardState.{HardState}
-use Rattle.written_roles.specs.Refusals.{NoPacket, Refusal, first_refusal, with_found}
-use Rattle.written_world.specs.World.{World, Agent, App, Step, top, prints_nothing, refused}
-use Rattle.written_world.specs.Events.{Event, Deliver, act, addressed, counted_in, deliver_one, heard_by, heard_line, packet_of, world_step}
-use Rattle.written_world.specs.Good.{Good, IsHard, has_run}
+use Rattle.written_roles.specs.Refusals.{NoPacket, first_refusal, with_found}
+use Rattle.written_world.specs.World.{World, Step, top, prints_nothing, refused}
+use Rattle.written_world.specs.Events.{Event, Deliver, act, addressed, deliver_one, heard_by, heard_line}
+use Rattle.written_world.specs.Good.{Good, IsHard}
 use Rattle.written_world.proofs.GivesBackLemmas.{act_given}
-use Rattle.written_world.proofs.InvariantKept.{counted_holds}
 use Rattle.written_world.proofs.KnowledgeKept.{act_known}
 use Rattle.written_world.proofs.RecordsKept.{act_recorded}
 use Rattle.written_world.proofs.SettledKept.{act_rests}
 use Rattle.written_calm.specs.Progress.{CanProgress}
 use Rattle.written_calm.specs.Rounds.{IsManned}
-use Rattle.written_calm.proofs.ArrivalsLemmas.{Arrived, IsAgentOf, IsAppOf, arrives, boot_of, running_has}
+use Rattle.written_calm.proofs.ArrivalsLemmas.{arrives, boot_of, running_has}
 use Rattle.written_calm.proofs.ProgressKept.{act_progresses}
 
 pub record Steady (w : World) : Type 0 where

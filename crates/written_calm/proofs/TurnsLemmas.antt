@@ -1,5 +1,5 @@
 -- What one turn that is delivered whole brings its receiver to, whatever the world is in which it is heard.
-use Rattle.std.proofs.Common.{◌≡◌, ◌⊎◌, inl, inr, ℕ, zero, suc, ◌+◌, ◌-◌, ◌<◌, ◌≤◌, Bool, true, false, cond, nat_eq, nat_lt, List, [], ◌∷◌, ◌++◌, map, min, refl, sym, ◌∙◌, ap, subst, arith}
+use Rattle.std.proofs.Common.{◌≡◌, inl, inr, ℕ, zero, suc, ◌+◌, ◌-◌, ◌<◌, ◌≤◌, Bool, true, false, cond, nat_eq, nat_lt, List, [], ◌∷◌, ◌++◌, map, min, refl, sym, ◌∙◌, ap, subst, arith}
 use Rattle.std.specs.Prelude.{◌||◌}
 use Rattle.std.specs.List.{AllByRecursion}
 use Rattle.std.proofs.lemmas.Bool.Decides.{nat_tests}
@@ -10,8 +10,8 @@ use Rattle.fuxi_terms.proofs.Booleans.{both_false, either, nat_itself, number_is
 use Rattle.written_net.specs.Net.{Party, Id, Link, Packet, Ack, Delta, Full, hear, notes, turn_packets, same_id}
 use Rattle.written_net.proofs.BoundedLemmas.{in_numbers}
 use Rattle.written_net.proofs.PublishLemmas.{same_id_itself}
-use Rattle.written_calm.specs.Places.{Reaches, ComesTo, hears_each, IsBroughtForward, MayTurn, TurnsBringForward}
-use Rattle.written_calm.proofs.FurtherLemmas.{Further, further_itself, further_then, hear_further, still_reaches, reaches_none, known_after, place_after_whole, place_after_change, acked_after}
+use Rattle.written_calm.specs.Places.{Reaches, ComesTo, hears_each, IsBroughtForward, TurnsBringForward}
+use Rattle.written_calm.proofs.FurtherLemmas.{Further, further_itself, further_then, hear_further, still_reaches, known_after, place_after_whole, place_after_change, acked_after}
 
 -- packets that are delivered one after the other
 abbrev pub deliver_each : {W : Type 0} → (Packet → W → W) → List Packet → W → W

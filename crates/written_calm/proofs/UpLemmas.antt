@@ -1,5 +1,5 @@
 -- What the turns of those who run bring to the master of the fence.
-use Rattle.std.proofs.Common.{◌≡◌, ℕ, zero, suc, ◌+◌, ◌-◌, ◌<◌, ◌≤◌, Bool, true, false, cond, not, nat_eq, nat_lt, List, [], ◌∷◌, ◌++◌, length, map, Option, Some, None, slice_get, refl, sym, ◌∙◌, ap, subst, arith}
+use Rattle.std.proofs.Common.{◌≡◌, ℕ, ◌+◌, ◌≤◌, Bool, true, false, cond, not, nat_eq, nat_lt, List, [], ◌∷◌, ◌++◌, length, map, Option, Some, None, refl, sym, ◌∙◌, ap, subst, arith}
 use Rattle.std.specs.Prelude.{◌&&◌, ◌||◌}
 use Rattle.std.specs.List.{AllByRecursion, flat_map}
 use Rattle.std.specs.Option.{option_map}
@@ -7,8 +7,7 @@ use Rattle.std.specs.Ordering.{nat_cmp}
 use Rattle.std.specs.FinMap.Entries.{find}
 use Rattle.std.proofs.lemmas.Bool.Decides.{nat_tests}
 use Rattle.fuxi_terms.specs.declared.answers.What.{What}
-use Rattle.fuxi_terms.specs.declared.answers.What.TheVariants.{Taken, Ack as Acked, Stranger, Stale, NotMine, Old, Gap}
-use Rattle.fuxi_terms.specs.Cluster.{ClusterRecord, has_machine}
+use Rattle.fuxi_terms.specs.declared.answers.What.TheVariants.{Taken, Stranger, Stale, NotMine, Old, Gap}
 use Rattle.fuxi_terms.specs.Keys.{key_cmp, row_cmp}
 use Rattle.fuxi_terms.specs.Counts.{is_same}
 use Rattle.fuxi_terms.specs.Lists.{below}
@@ -17,27 +16,27 @@ use Rattle.fuxi_terms.proofs.Alls.{all_append, all_back, all_front, all_more}
 use Rattle.fuxi_terms.proofs.Booleans.{and_false, and_true, either, nat_itself, number_is}
 use Rattle.fuxi_terms.proofs.KeyOrders.{key_total, row_key_total}
 use Rattle.fuxi_terms.proofs.SameEntries.{same_itself}
-use Rattle.written_net.specs.Net.{Net, Party, Id, Link, Packet, Kind, Ack, Delta, Full, Heard, met, hear, hear_peer, heard_of, word_of, unmoved, is_taken, comes, last, same_id, same_party, turn, turn_packets, move, Posts, at_index}
+use Rattle.written_net.specs.Net.{Net, Party, Id, Link, Packet, Kind, Ack, Delta, Full, Heard, hear, hear_peer, heard_of, word_of, unmoved, is_taken, comes, last, same_id, same_party, turn, move, Posts, at_index}
 use Rattle.written_net.specs.Ledgers.{Ledger, nothing, same_ledger}
-use Rattle.written_net.specs.Channels.{master_id, agent_id, app_id, party, is_master, is_agent, present, Offer, publish, publish_one, shape}
+use Rattle.written_net.specs.Channels.{master_id, agent_id, app_id, party, is_agent, present, Offer, publish, publish_one, shape}
 use Rattle.written_net.specs.Sound.{PacketNames}
 use Rattle.written_net.proofs.NetLemmas.{set_at_all}
 use Rattle.written_net.proofs.BoundedLemmas.{found_within}
 use Rattle.written_roles.specs.HardState.{HardState}
 use Rattle.written_roles.specs.Masters.{Master}
-use Rattle.written_roles.specs.MasterSteps.{master_party, peers, talks, projected, ready, told_of, adopted_of, take_report, take_demand, meet_app, adopts}
+use Rattle.written_roles.specs.MasterSteps.{master_party, peers, talks, projected, ready, told_of, adopted_of, adopts}
 use Rattle.written_roles.specs.Refusals.{with_found}
 use Rattle.written_world.specs.World.{World, Agent, App}
-use Rattle.written_world.specs.Parties.{offers, end_step, projection, told, received, adopted_now}
+use Rattle.written_world.specs.Parties.{offers, end_step, projection, received, adopted_now}
 use Rattle.written_world.specs.Events.{addressed}
 use Rattle.written_world.specs.Runs.{run_from}
 use Rattle.written_world.proofs.PartiesKept.{knows_sender}
 use Rattle.written_world.proofs.SettledLemmas.{number_below}
 use Rattle.written_calm.specs.Places.{ComesTo, Reaches}
 use Rattle.written_calm.specs.Rounds.{AreNamed, peers_tell, peers_turn}
-use Rattle.written_calm.proofs.ArrivalsLemmas.{Arrived, IsAgentOf, IsAppOf, arrived_itself, arrives, boot_of, master_is_told, master_leaves, master_link, running_has}
+use Rattle.written_calm.proofs.ArrivalsLemmas.{Arrived, arrived_itself, arrives, boot_of, master_is_told, master_leaves, master_link, running_has}
 use Rattle.written_calm.proofs.DownLemmas.{Cut, all_sent, arrived_then, both_all, flat_cut, fresh_none}
-use Rattle.written_calm.proofs.FurtherLemmas.{Further, still_reaches}
+use Rattle.written_calm.proofs.FurtherLemmas.{still_reaches}
 use Rattle.written_calm.proofs.PhasesLemmas.{after, agent_sends, all_heard, app_sends, append_none, hear_each, peers_turns, told_master}
 use Rattle.written_calm.proofs.SteadyLemmas.{IsPeer, IsSent, Steady, TheMaster, is_peer, steady_hears, the_master}
 use Rattle.written_calm.proofs.TurnsLemmas.{IsOf, Turned, comes_more, deliver_append, turn_between, turn_of, turned_whole}

@@ -1,5 +1,5 @@
 -- Calm rounds, in which nothing is lost: the master of the fence tells all that it has to tell, and then all others do.
-use Rattle.std.specs.Prelude.{◌≡◌, ℕ, zero, suc, ◌+◌, ◌≤◌, Bool, true, cond, nat_lt, List, [], ◌∷◌, ◌++◌, length, map, Some, is_some}
+use Rattle.std.specs.Prelude.{◌≡◌, ℕ, zero, suc, ◌+◌, ◌≤◌, true, cond, nat_lt, List, [], ◌∷◌, ◌++◌, length, map, Some, is_some}
 use Rattle.std.specs.Ordering.{nat_cmp}
 use Rattle.std.specs.FinMap.Entries.{find}
 use Rattle.fuxi_terms.specs.Cluster.{ClusterRecord, has_machine}
@@ -7,7 +7,6 @@ use Rattle.fuxi_terms.specs.Lists.{below}
 use Rattle.fuxi_terms.specs.Numbers.{has_number}
 use Rattle.written_world.specs.World.{World, App}
 use Rattle.written_world.specs.Events.{Event, TurnMaster, TurnAgent, TurnApp, DeliverRange, world_step}
-use Rattle.written_world.specs.Lines.{IsInput}
 use Rattle.written_world.specs.Quiet.{is_quiet}
 use Rattle.written_world.specs.Runs.{run_from, run}
 use Rattle.written_world.specs.Safe.{Safe}
