@@ -30,11 +30,10 @@ use Rattle.written_world.proofs.GoodKept.{always_good, good_at_start, good_kept,
 use Rattle.written_world.proofs.JobsKept.{act_has, few_resources}
 use Rattle.written_world.specs.Good.{Good}
 use Rattle.written_order.specs.Orders.{IsInOrder}
-use Rattle.written_order.proofs.OrdersKept.{kept_in_order}
-use Rattle.written_calm.specs.Rounds.{CalmBringsQuiet, calm_rounds, closed}
+use Rattle.written_calm.specs.Rounds.{CalmBringsQuiet, CalmKeeps, IsManned, calm_rounds, closed}
 use Rattle.written_calm.proofs.ArrivalsLemmas.{boot_of}
 use Rattle.written_calm.proofs.ProgressKept.{always_progresses}
-use Rattle.written_calm.proofs.RoundsLemmas.{Caught, heard_after, last_turn}
+use Rattle.written_calm.proofs.RoundsLemmas.{Caught, heard_after, last_turn, rounds_keep}
 use Rattle.written_calm.proofs.SteadyLemmas.{IsPeer, Steady, TheMaster, is_peer, the_master}
 
 -- Lists
@@ -186,21 +185,29 @@ module _ (e : ℕ) (w : World) (h : Caught e w) where
           by None f t = cc
           by (Some g) f t = agent_rests k g f
 
--- Every input
-in_order : (es : List Event) (w : World) → is_valid_cluster w.cluster ≡ true → AllByRecursion (λ e. is_from_line e ≡ true) es → Good w → IsInOrder w → IsInOrder (run_from es w).world
-in_order [] w valid lines g o = o
-in_order (e ∷ es) w valid lines g o =
-    let j = (act_has w.cluster (few_resources w.cluster valid) (counted_in w) e lines.0 (record { same = refl; hard = g.hard })).it in
-    in_order es (world_step w e).world (ap is_valid_cluster j.same ∙ valid) lines.1 (good_kept w e valid lines.0 g) (kept_in_order w e valid lines.0 o)
+-- Every input. That parties stand in order is a law of another crate
+abbrev pub KeepsOrder : Type 0
+KeepsOrder = (w : World) (e : Event) → is_valid_cluster w.cluster ≡ true → is_from_line e ≡ true → IsInOrder w → IsInOrder (world_step w e).world
 
-pub calm_brings_quiet : (c : ClusterRecord) (es : List Event) → IsInput c es → CalmBringsQuiet c es
-calm_brings_quiet c es input manned apps named n le =
+in_order : KeepsOrder → (es : List Event) (w : World) → is_valid_cluster w.cluster ≡ true → AllByRecursion (λ e. is_from_line e ≡ true) es → Good w → IsInOrder w → IsInOrder (run_from es w).world
+in_order kept [] w valid lines g o = o
+in_order kept (e ∷ es) w valid lines g o =
+    let j = (act_has w.cluster (few_resources w.cluster valid) (counted_in w) e lines.0 (record { same = refl; hard = g.hard })).it in
+    in_order kept es (world_step w e).world (ap is_valid_cluster j.same ∙ valid) lines.1 (good_kept w e valid lines.0 g) (kept w e valid lines.0 o)
+
+input_steady : KeepsOrder → (c : ClusterRecord) (es : List Event) → IsInput c es → IsInOrder (empty_world c) → IsManned (run c es) → Steady (run c es)
+input_steady kept c es input start manned = record {
+  good = always_good c es input;
+  can = (always_progresses c es).can;
+  sorted = (in_order kept es (empty_world c) input.cluster input.lines (good_at_start c) start).apps;
+  manned = manned;
+}
+
+pub calm_brings_quiet : KeepsOrder → (c : ClusterRecord) (es : List Event) → IsInput c es → IsInOrder (empty_world c) → CalmBringsQuiet c es
+calm_brings_quiet kept c es input start manned apps named n le =
     let w = run c es in
-    let s : Steady w = record {
-      good = always_good c es input;
-      can = (always_progresses c es).can;
-      sorted = (in_order es (empty_world c) input.cluster input.lines (good_at_start c) (record { masters = tt; agents = tt; apps = tt; bans = tt; banned = tt })).apps;
-      manned = manned;
-    } in
-    let k = last_turn w.hard.fence apps (calm_rounds n apps w) (heard_after w.hard.fence apps w s refl named n le) in
+    let k = last_turn w.hard.fence apps (calm_rounds n apps w) (heard_after w.hard.fence apps w (input_steady kept c es input start manned) refl named n le) in
     record { quiet = caught_quiet w.hard.fence (closed n apps w) k; safe = safe_of (closed n apps w) k.steady.good }
+
+pub calm_keeps : KeepsOrder → (c : ClusterRecord) (es : List Event) → IsInput c es → IsInOrder (empty_world c) → CalmKeeps c es
+calm_keeps kept c es input start manned apps named n = rounds_keep apps (run c es) (input_steady kept c es input start manned) named n

@@ -10,7 +10,7 @@ use Rattle.written_net.specs.Channels.{master_id, app_id, party}
 use Rattle.written_roles.specs.HardState.{HardState}
 use Rattle.written_world.specs.World.{World, App}
 use Rattle.written_calm.specs.Places.{ComesTo}
-use Rattle.written_calm.specs.Rounds.{AreNamed, calm_round, calm_rounds, master_tells, peers_tell}
+use Rattle.written_calm.specs.Rounds.{AreNamed, IsAsBefore, calm_round, calm_rounds, closed, master_tells, peers_tell}
 use Rattle.written_calm.proofs.ArrivalsLemmas.{boot_of}
 use Rattle.written_calm.proofs.DownLemmas.{ToldPeers, master_tells_peers}
 use Rattle.written_calm.proofs.SteadyLemmas.{Steady, is_peer, the_master}
@@ -50,6 +50,12 @@ named_stays apps w w' same n = record { named = λ a g f. by a (find nat_cmp a w
     by : {b : ℕ} (a : ℕ) (o : Option App) → find nat_cmp a w.apps ≡ o → option_map (λ (g : App). g.boot) o ≡ Some b → has_number a apps ≡ true
     by a None f e = absurd (let z : ⊥ = cc in z)
     by a (Some g) f e = n.named a g f
+
+-- a world between rounds, with the cluster and the hard state of the first one
+pub record Going (apps : List ℕ) (u w : World) : Type 0 where
+  pub steady : Steady w
+  pub named : AreNamed apps w
+  pub same : IsAsBefore u w
 
 -- One round
 module _ (e : ℕ) (apps : List ℕ) (w : World) (s : Steady w) (fence : w.hard.fence ≡ e) (named : AreNamed apps w) where
@@ -140,6 +146,10 @@ module _ (e : ℕ) (apps : List ℕ) (w : World) (s : Steady w) (fence : w.hard.
     pub first_heard : Heard e 192 apps w'
     first_heard = heard_by 192 (λ q b runs. near (last w.net (party master_id e) q) (w.net.links (party master_id e) q).acked (v.net.links (party q b) master_id).seq (place q b runs))
 
+  -- whatever was told, these stay
+  pub goes_on : (u : World) → w.cluster ≡ u.cluster → w.hard ≡ u.hard → Going apps u w'
+  goes_on u cluster hard = record { steady = g.steady; named = named_stays apps v w' g.runs (named_stays apps w v t.runs named); same = record { cluster = g.cluster ∙ t.cluster ∙ cluster; hard = g.hard ∙ t.hard ∙ hard } }
+
   pub next_heard : (k : ℕ) → Heard e k apps w → Heard e (k - 64) apps w'
   next_heard k h = heard_by h.told (k - 64) (λ q b runs.
       let d = h.down q b (before q b runs) in
@@ -214,3 +224,15 @@ last_turn e apps w h = record {
 
     was : (q : Id) (b : ℕ) → boot_of (master_tells w) q ≡ Some b → boot_of w q ≡ Some b
     was q b runs = sym (t.runs q) ∙ runs
+
+-- Rounds leave the cluster and the hard state
+rounds_go : (apps : List ℕ) (w : World) → Steady w → AreNamed apps w → (n : ℕ) → Going apps w (calm_rounds n apps w)
+rounds_go apps w s named zero = record { steady = s; named = named; same = record { cluster = refl; hard = refl } }
+rounds_go apps w s named (suc n) = let r = rounds_go apps w s named n in let u = calm_rounds n apps w in goes_on u.hard.fence apps u r.steady refl r.named w r.same.cluster r.same.hard
+
+pub rounds_keep : (apps : List ℕ) (w : World) → Steady w → AreNamed apps w → (n : ℕ) → IsAsBefore w (calm_rounds n apps w) × IsAsBefore w (closed n apps w)
+rounds_keep apps w s named n =
+    let r = rounds_go apps w s named n in
+    let u = calm_rounds n apps w in
+    let t = master_tells_peers u.hard.fence u refl r.steady in
+    (r.same, record { cluster = t.cluster ∙ r.same.cluster; hard = t.hard ∙ r.same.hard })

@@ -61,3 +61,11 @@ pub record IsCalm (e : ℕ) (w : World) : Type 0 where
 -- from a state to which an input leads and in which these run, the world is at rest behind so many rounds or more and a last turn of the master
 abbrev pub CalmBringsQuiet : ClusterRecord → List Event → Type 0
 CalmBringsQuiet c es = IsManned (run c es) → (apps : List ℕ) → AreNamed apps (run c es) → (n : ℕ) → most_rounds ≤ n → IsCalm (run c es).hard.fence (closed n apps (run c es))
+
+-- and so many rounds leave the cluster and the hard state as they were
+pub record IsAsBefore (w w' : World) : Type 0 where
+  pub cluster : w'.cluster ≡ w.cluster
+  pub hard : w'.hard ≡ w.hard
+
+abbrev pub CalmKeeps : ClusterRecord → List Event → Type 0
+CalmKeeps c es = IsManned (run c es) → (apps : List ℕ) → AreNamed apps (run c es) → (n : ℕ) → IsAsBefore (run c es) (calm_rounds n apps (run c es)) × IsAsBefore (run c es) (closed n apps (run c es))

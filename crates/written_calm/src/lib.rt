@@ -9,7 +9,9 @@ ghost use Rattle.written_world.specs.Lines.{IsInput};
 ghost use Rattle.written_world.specs.Runs.{run};
 ghost use Rattle.written_calm.specs.Places.{TurnsBringForward};
 ghost use Rattle.written_calm.specs.Progress.{CanProgress};
-ghost use Rattle.written_calm.specs.Rounds.{CalmBringsQuiet};
+ghost use Rattle.written_calm.specs.Rounds.{CalmBringsQuiet, CalmKeeps};
+
+use written_order::worlds_in_order;
 
 /// One turn of one channel that is delivered whole and in order, whatever was lost before. The receiver knows the sender then. Where the
 /// sender knows the receiver's running incarnation, the receiver has come to the last entry, or behind changes, of which at most 256 were
@@ -27,7 +29,11 @@ pub fn every_run_can_progress()
 
 /// From every state to which an input leads and in which the master of the fence and every machine's agent run: behind seven calm rounds or
 /// more, and one more turn of that master with its delivery, the world is quiet for it, and safe, so that all parties have the same
-/// numbers. Other masters may run, and applications may run or not; nothing is assumed of what was sent before.
+/// numbers (`quiet`). Other masters may run, and applications may run or not; nothing is assumed of what was sent before. Calm rounds leave
+/// the cluster and the hard state as they were (`keeps`).
 pub fn calm_rounds_bring_quiet()
-    ensures { (c : ClusterRecord) (events : List Event) → IsInput c events → CalmBringsQuiet c events }
-{}
+    ensures quiet { (c : ClusterRecord) (events : List Event) → IsInput c events → CalmBringsQuiet c events }
+    ensures keeps { (c : ClusterRecord) (events : List Event) → IsInput c events → CalmKeeps c events }
+{
+    worlds_in_order();
+}
