@@ -4,3 +4,4 @@ pub mod Texts
 pub mod States
 pub mod Storming
 pub mod Leasing
+pub mod Calming

@@ -2,6 +2,7 @@ ghost use Rattle.std.specs.Prelude.{◌≡◌, ◌≢◌, ◌+◌, ◌≤◌, �
 ghost use Rattle.std.specs.List.{concat};
 ghost use Rattle.std.specs.Io.KnownBytes.{Appends};
 ghost use Rattle.fuxi_io.specs.Causes.{Rose};
+ghost use Rattle.written_calm.specs.Rounds.{CalmBringsQuiet};
 ghost use Rattle.written_world.specs.Runs.{run};
 ghost use Rattle.written_world.specs.Safe.{AllFit, Views, AllAgree, AllSettled};
 ghost use Rattle.written_world.specs.Credits.{AllCreditedOnce};
@@ -40,6 +41,7 @@ use node_door::Door;
 use schedule_run::{inputs_are_given, run_schedule, runs_are_told};
 use std::alloc::Global;
 use storm_run::run_storm;
+use written_calm::calm_rounds_bring_quiet;
 use written_roles::preempts_by_quota;
 use written_world::{
     a_failover_keeps_grants, always_safe, every_judgement_bans_what_is_judged,
@@ -180,8 +182,11 @@ pub fn fuxi<S: Source, O: Sink, E: Sink, D: Disk, N: Door>(
     // grants are lost only by a ban, the end of their job, a preemption, and by what their job gives back;
     ensures loses { IfSome (S.left input.old) (λ bytes. (i : Input) → LeadsTo bytes i → (n : ℕ) → AllLose (run i.cluster (take n i.events))) }
 
-    // and a judgement bans exactly the machines that enough jobs mark, as far as its percentage allows.
+    // a judgement bans exactly the machines that enough jobs mark, as far as its percentage allows;
     ensures judges { IfSome (S.left input.old) (λ bytes. (i : Input) → LeadsTo bytes i → (n : ℕ) → AllJudge (run i.cluster (take n i.events))) }
+
+    // and where the master of the fence and all agents run, seven calm rounds and a last turn of that master bring the world to rest.
+    ensures calms { IfSome (S.left input.old) (λ bytes. (i : Input) → LeadsTo bytes i → (n : ℕ) → CalmBringsQuiet i.cluster (take n i.events)) }
 
     // The input was read to its end, and the outputs of all its lines and the state were written.
     ensures done { command_of (map string_bytes words.now) ≡ Some Replay → result ≡ Status.Done → IfSome (S.left input.old) (λ bytes. (S.left input.new ≡ Some [])
@@ -293,6 +298,7 @@ pub fn fuxi<S: Source, O: Sink, E: Sink, D: Disk, N: Door>(
     every_run_loses_only_what_is_credited();
     inputs_are_given();
     every_judgement_bans_what_is_judged();
+    calm_rounds_bring_quiet();
     let status = run_command(alloc, words, input, out, disk, door);
     let _told = report(err, &status);
     status

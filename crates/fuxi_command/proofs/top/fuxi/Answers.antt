@@ -3,6 +3,7 @@ use Rattle.node_command.specs.Inputs.{TellsDisk}
 use Rattle.node_command.specs.declared.kind.NodeKind.TheVariants.{Master}
 use Rattle.storm_run.specs.Runs.{StormEnded}
 use Rattle.storm_run.specs.Summaries.{storm_of}
+use Rattle.fuxi_command.proofs.Calming.{each_calms}
 use Rattle.fuxi_command.proofs.States.{each_judges}
 use Rattle.fuxi_command.proofs.Leasing.{lease_done}
 use Rattle.fuxi_command.proofs.Storming.{ends_well}
@@ -62,3 +63,6 @@ returns-clause-lease_text g c is done bytes t value known told reads =
 
 pub returns-clause-judges : goal.returns-clause-judges
 returns-clause-judges g c = each_judges (g.S.Source.left c.args.input.now) c.every_judgement_bans_what_is_judged.ensures c.inputs_are_given.ensures
+
+pub returns-clause-calms : goal.returns-clause-calms
+returns-clause-calms g c = each_calms (g.S.Source.left c.args.input.now) c.calm_rounds_bring_quiet.ensures c.inputs_are_given.ensures

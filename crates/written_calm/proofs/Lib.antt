@@ -1,0 +1,13 @@
+pub mod FurtherLemmas
+pub mod TurnsLemmas
+pub mod ReachedLemmas
+pub mod ReportsLemmas
+pub mod RestingLemmas
+pub mod ProgressKept
+pub mod ArrivalsLemmas
+pub mod SteadyLemmas
+pub mod PhasesLemmas
+pub mod DownLemmas
+pub mod UpLemmas
+pub mod RoundsLemmas
+pub mod QuietLemmas
