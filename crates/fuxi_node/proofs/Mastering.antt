@@ -1,5 +1,5 @@
 -- A master that did not start, and one that did.
-use Rattle.std.proofs.Common.{inl, inr, ◌⊎◌, ⊎_elim, ◌≡◌, ℕ, ◌≤◌, List, length, Option, None, Some, IfSome, Result, Ok, Err, refl, ap, ◌∙◌}
+use Rattle.std.proofs.Common.{inl, inr, ◌⊎◌, ⊎_elim, ◌≡◌, ℕ, ◌≤◌, List, length, Option, None, Some, IfSome, Result, Ok, Err, refl, sym, ap, subst, ◌∙◌}
 use Rattle.std.specs.Io.KnownBytes.{prepend_known}
 use Rattle.fuxi_io.specs.Disks.{Told as Moments, Leaves, WhereTold as WhereMoments}
 use Rattle.fuxi_io.specs.Lines.{InputLine, lines_of}
@@ -8,7 +8,7 @@ use Rattle.fuxi_io.specs.declared.status.LimitOf.TheVariants.{Lines, Packets, By
 use Rattle.fuxi_io.specs.declared.status.Status.{Status}
 use Rattle.fuxi_io.specs.declared.status.Status.TheVariants.{Done, Usage, BadInput, ReadFault, WriteFault, Limit, OutOfMemory, DiskFault, StaleEpoch, DamagedCheckpoint}
 use Rattle.written_roles.specs.HardState.{HardState}
-use Rattle.hard_state.specs.HardFiles.{Kept, records_of}
+use Rattle.hard_state.specs.HardFiles.{Kept, SyncsAll, records_of}
 use Rattle.hard_state.specs.declared.fault.HardFault.{HardFault}
 use Rattle.hard_state.specs.declared.fault.HardFault.TheVariants.{Stale, Fenced, Known, NoJob, Ended as HasEnded, AlreadyBanned, NotBanned, Full, NotCheckpoint, DiskFault as NoDisk, OutOfMemory as NoMemory}
 use Rattle.input_lines.specs.Wholes.{whole_lines}
@@ -19,10 +19,10 @@ use Rattle.node_door.specs.Doors.{Told, WhereTold}
 use Rattle.node_rounds.specs.Roles.{Role, OfAgent, OfApp, OfMaster}
 use Rattle.node_party.specs.Halts.{FitsEither}
 use Rattle.node_run.specs.declared.taking.DiskFailed.{DiskFailed}
-use Rattle.node_run.specs.Ends.{Start, Ran, EndsWith, Ended, FromRest, FitsNow, FitsOneNow}
+use Rattle.node_run.specs.Ends.{Start, Ran, EndsByLines, EndsWith, Ended, FromRest, FitsNow, FitsOneNow, IsRunStatus}
 use Rattle.node_run.specs.Runs.{Ending, AtEnd, AtBadLine, AtLimit}
 use Rattle.fuxi_node.proofs.Reading.{rest_leaves, rest_reads}
-use Rattle.fuxi_node.specs.Masters.{FileStands, HasFile, KeepsFile, KeepsEither, IsRaisedFrom, IsStartStatus, MasterEnded, start_status, status_of}
+use Rattle.fuxi_node.specs.Masters.{FileStands, LeavesFile, HasFile, KeepsFile, KeepsEither, IsRaisedFrom, IsStartStatus, MasterEnded, start_status, status_of}
 
 -- The faults of a start
 is_start : (fault : HardFault) → IsStartFault fault → IsStartStatus (start_status fault)
@@ -37,6 +37,57 @@ is_start NoJob is = tt
 is_start HasEnded is = tt
 is_start AlreadyBanned is = tt
 is_start NotBanned is = tt
+
+-- the file of one that did not start
+pub leaves_file : (epoch : ℕ) (fault : HardFault) (status : Status) (a b : Option Moments) → status ≡ start_status fault → ((offset : ℕ) → fault ≡ NotCheckpoint offset → WhereMoments SyncsAll a b) → WhereMoments (Starts epoch) a b → LeavesFile epoch status a b
+leaves_file epoch fault status a b is damaged told = subst (λ s. LeavesFile epoch s a b) (sym is) (by fault damaged)
+  where
+    by : (fault : HardFault) → ((offset : ℕ) → fault ≡ NotCheckpoint offset → WhereMoments SyncsAll a b) → LeavesFile epoch (start_status fault) a b
+    by (Stale fence) damaged = told
+    by (NotCheckpoint offset) damaged = damaged offset refl
+    by Full damaged = told
+    by NoDisk damaged = tt
+    by NoMemory damaged = tt
+    by (Fenced fence) damaged = tt
+    by Known damaged = tt
+    by NoJob damaged = tt
+    by HasEnded damaged = tt
+    by AlreadyBanned damaged = tt
+    by NotBanned damaged = tt
+
+pub runs_on_file : (epoch : ℕ) (status : Status) (a b : Option Moments) → IsRunStatus status → LeavesFile epoch status a b
+runs_on_file epoch Done a b is = tt
+runs_on_file epoch (BadInput line fault) a b is = tt
+runs_on_file epoch ReadFault a b is = tt
+runs_on_file epoch WriteFault a b is = tt
+runs_on_file epoch (Limit Lines kept) a b is = tt
+runs_on_file epoch (Limit Packets kept) a b is = tt
+runs_on_file epoch (Limit Bytes kept) a b is = tt
+runs_on_file epoch (Limit Calls kept) a b is = tt
+runs_on_file epoch (Limit Records kept) a b is = absurd is
+runs_on_file epoch OutOfMemory a b is = tt
+runs_on_file epoch Usage a b is = tt
+runs_on_file epoch DiskFault a b is = tt
+runs_on_file epoch (StaleEpoch fence) a b is = absurd is
+runs_on_file epoch (DamagedCheckpoint offset) a b is = absurd is
+
+-- a start that failed ends at no line
+pub start_placed : (fault : HardFault) (status : Status) (first : ℕ) (known left : Option (List ℕ)) → status ≡ start_status fault → IfSome known (λ bytes. EndsByLines first bytes (Ok status) left)
+start_placed fault status first known left is = subst (λ s. IfSome known (λ bytes. EndsByLines first bytes (Ok s) left)) (sym is) (by known fault)
+  where
+    by : (known : Option (List ℕ)) (fault : HardFault) → IfSome known (λ bytes. EndsByLines first bytes (Ok (start_status fault)) left)
+    by None fault = tt
+    by (Some bytes) (Stale fence) = tt
+    by (Some bytes) (NotCheckpoint offset) = tt
+    by (Some bytes) Full = tt
+    by (Some bytes) NoDisk = tt
+    by (Some bytes) NoMemory = tt
+    by (Some bytes) (Fenced fence) = tt
+    by (Some bytes) Known = tt
+    by (Some bytes) NoJob = tt
+    by (Some bytes) HasEnded = tt
+    by (Some bytes) AlreadyBanned = tt
+    by (Some bytes) NotBanned = tt
 
 -- where the disk tells its file, the hard state is of that
 pub raised_from : (epoch : ℕ) (k : Kept) (old new : Option Moments) → IsRaised epoch k.value → WhereMoments (StartsFrom epoch k) old new → IsRaisedFrom epoch old k.value

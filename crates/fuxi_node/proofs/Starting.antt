@@ -11,7 +11,7 @@ use Rattle.cluster_desc.specs.declared.cluster.Machine.{Machine}
 use Rattle.cluster_desc.specs.Records.{machine_of as machine_from}
 use Rattle.node_door.specs.Doors.{Told, WhereTold}
 use Rattle.node_rounds.specs.Roles.{Role}
-use Rattle.node_run.specs.Ends.{Start, Ended}
+use Rattle.node_run.specs.Ends.{Start, Ended, EndsByLines}
 
 -- nothing was taken
 pub nothing_taken : (Fits : Role → Type 0) (FitsOne : Role → Role → Type 0) (s : Start) (pending : List ℕ) (source took : Option (List ℕ)) (f : ℕ) (t : Option Told) → length pending ≤ read_ahead → FitsOne s.node.role s.node.role → IfSome (prepend_known pending source) (λ bytes. WhereTold (Ended Fits FitsOne s bytes (Ok OutOfMemory) source took took f f) t t)
@@ -31,6 +31,10 @@ nothing_taken Fits FitsOne s pending (Some left) took f (Some t) few one = recor
   };
   fits = one;
 }
+
+pub nothing_placed : (first : ℕ) (known left : Option (List ℕ)) → IfSome known (λ bytes. EndsByLines first bytes (Ok OutOfMemory) left)
+nothing_placed first None left = tt
+nothing_placed first (Some bytes) left = tt
 
 -- what the cluster's line says of it, with eight places
 pub has_is : (c : ClusterRecord) (m : ℕ) (machine : Machine) → option_map machine_from (slice_get c.machines m) ≡ Some machine → machine.has.q ≡ padded (machine_of c m).has

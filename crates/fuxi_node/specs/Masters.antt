@@ -9,7 +9,7 @@ use Rattle.fuxi_io.specs.declared.status.Status.TheVariants.{Done, Usage, BadInp
 use Rattle.fuxi_terms.specs.Limits.{most_records}
 use Rattle.written_roles.specs.HardState.{HardState, Raise, hard_step}
 use Rattle.written_roles.specs.Refusals.{Refusal, NotRising, HardFull}
-use Rattle.hard_state.specs.HardFiles.{records_of}
+use Rattle.hard_state.specs.HardFiles.{SyncsAll, records_of}
 use Rattle.hard_state.specs.declared.fault.HardFault.{HardFault}
 use Rattle.hard_state.specs.declared.fault.HardFault.TheVariants.{Stale, Fenced, Known, NoJob, Ended as HasEnded, AlreadyBanned, NotBanned, Full, NotCheckpoint, DiskFault as NoDisk, OutOfMemory as NoMemory}
 use Rattle.master_node.specs.Starting.{Starts}
@@ -64,6 +64,24 @@ TellsFile epoch ReadFault disk = ⊤
 TellsFile epoch WriteFault disk = ⊤
 TellsFile epoch OutOfMemory disk = ⊤
 TellsFile epoch DiskFault disk = ⊤
+
+-- What a status says of the file of a master that did not get to its lines, from what the disk told at the start to what it tells at the end. A file with a
+-- damaged record was synced and no more; of one that refuses the epoch a crash leaves what stands for the same.
+abbrev pub LeavesFile : ℕ → Status → Option Moments → Option Moments → Type 0
+LeavesFile epoch (DamagedCheckpoint offset) disk later = WhereMoments SyncsAll disk later
+LeavesFile epoch (StaleEpoch fence) disk later = WhereMoments (Starts epoch) disk later
+LeavesFile epoch (Limit Records kept) disk later = WhereMoments (Starts epoch) disk later
+LeavesFile epoch (Limit Lines kept) disk later = ⊤
+LeavesFile epoch (Limit Packets kept) disk later = ⊤
+LeavesFile epoch (Limit Bytes kept) disk later = ⊤
+LeavesFile epoch (Limit Calls kept) disk later = ⊤
+LeavesFile epoch Done disk later = ⊤
+LeavesFile epoch Usage disk later = ⊤
+LeavesFile epoch (BadInput line fault) disk later = ⊤
+LeavesFile epoch ReadFault disk later = ⊤
+LeavesFile epoch WriteFault disk later = ⊤
+LeavesFile epoch OutOfMemory disk later = ⊤
+LeavesFile epoch DiskFault disk later = ⊤
 
 -- the statuses of a master that does not start
 abbrev pub IsStartStatus : Status → Type 0

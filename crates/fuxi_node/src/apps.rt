@@ -6,7 +6,7 @@ ghost use Rattle.fuxi_io.specs.Reading.{rest_of, read_ahead};
 ghost use Rattle.fuxi_terms.specs.Limits.{most_jobs, most_lines, most_units};
 ghost use Rattle.input_lines.specs.Wholes.{IsReady};
 ghost use Rattle.node_door.specs.Doors.{WhereTold};
-ghost use Rattle.node_run.specs.Ends.{Ended, IsRunStatus};
+ghost use Rattle.node_run.specs.Ends.{Ended, EndsByLines, IsRunStatus};
 ghost use Rattle.fuxi_node.specs.Starts.{app_start};
 
 use app_node::AppNode;
@@ -43,6 +43,8 @@ pub fn run_app<S: Source, O: Sink, N: Door>(
     requires ahead { length lines.old.pending ≤ read_ahead }
     // What was written and what the door has been through, by the status. It is said of bytes that are known, and of a door that tells.
     ensures ended { IsReady lines.old (S.left source.old) → IfSome (rest_of lines.old (S.left source.old)) (λ bytes. WhereTold (Ended (λ q. ⊤) (λ q p. ⊤) (app_start cluster.now app.0 units boot addr.now lines.old.number) bytes (Ok result) (S.left source.new) (O.took out.old) (O.took out.new) (N.faults door.old) (N.faults door.new)) (N.told door.old) (N.told door.new)) }
+    // Where the lines end, by the status. It is said over any door.
+    ensures places { IsReady lines.old (S.left source.old) → IfSome (rest_of lines.old (S.left source.old)) (λ bytes. EndsByLines lines.old.number bytes (Ok result) (S.left source.new)) }
     ensures unread { lines.old.ended ≡ false → result ≢ Status.ReadFault }
     ensures read { result ≡ Status.ReadFault → Rose (S.faults source.old) (S.faults source.new) }
     ensures write { result ≡ Status.WriteFault → Rose (O.faults out.old) (O.faults out.new) }

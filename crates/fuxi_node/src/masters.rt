@@ -1,13 +1,14 @@
 //! The node of a master.
 
-ghost use Rattle.std.specs.Prelude.{◌≡◌, ◌≢◌, ◌⊎◌, ◌<◌, ◌≤◌, ℕ, length, false, Some, None, IfSome};
+ghost use Rattle.std.specs.Prelude.{◌≡◌, ◌≢◌, ◌⊎◌, ◌<◌, ◌≤◌, ℕ, length, false, Some, None, Ok, IfSome};
 ghost use Rattle.fuxi_io.specs.Causes.{Rose};
 ghost use Rattle.fuxi_io.specs.Reading.{rest_of, read_ahead};
 ghost use Rattle.fuxi_terms.specs.Limits.{most_lines};
 ghost use Rattle.input_lines.specs.Wholes.{IsReady};
 ghost use Rattle.node_door.specs.Doors.{WhereTold};
+ghost use Rattle.node_run.specs.Ends.{EndsByLines};
 ghost use Rattle.fuxi_node.specs.Starts.{master_start};
-ghost use Rattle.fuxi_node.specs.Masters.{MasterEnded, TellsFile, start_status};
+ghost use Rattle.fuxi_node.specs.Masters.{LeavesFile, MasterEnded, TellsFile, start_status};
 
 use cluster_desc::Cluster;
 use fuxi_io::{Disk, LimitOf, LineReader, LineStop, Sink, Source, Status};
@@ -63,6 +64,9 @@ pub fn run_master<S: Source, O: Sink, D: Disk, N: Door>(
     // What was written and what the door has been through, by the status. It is said of bytes that are known, and of a door that tells; what is said of the file, of a disk that tells.
     ensures ended { IsReady lines.old (S.left source.old) → IfSome (rest_of lines.old (S.left source.old)) (λ bytes. WhereTold (MasterEnded epoch (master_start cluster.now epoch addr.now lines.old.number) (D.told disk.old) (D.told disk.new) bytes result (S.left source.new) (O.took out.old) (O.took out.new) (N.faults door.old) (N.faults door.new)) (N.told door.old) (N.told door.new)) }
     ensures file { TellsFile epoch result (D.told disk.old) }
+    ensures stays { LeavesFile epoch result (D.told disk.old) (D.told disk.new) }
+    // Where the lines end, by the status. It is said over any door.
+    ensures places { IsReady lines.old (S.left source.old) → IfSome (rest_of lines.old (S.left source.old)) (λ bytes. EndsByLines lines.old.number bytes (Ok result) (S.left source.new)) }
     ensures unread { lines.old.ended ≡ false → result ≢ Status.ReadFault }
     ensures read { result ≡ Status.ReadFault → Rose (S.faults source.old) (S.faults source.new) }
     ensures write { result ≡ Status.WriteFault → Rose (O.faults out.old) (O.faults out.new) }

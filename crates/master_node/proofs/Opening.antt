@@ -1,11 +1,12 @@
 -- A checkpoint that is opened and raised to an epoch, and a master that starts with it.
-use Rattle.std.proofs.Common.{◌≡◌, ◌⊎◌, inl, inr, ⊎_elim, ℕ, ◌<◌, List, Option, Result, Ok, refl, sym, ◌∙◌, ap, subst}
+use Rattle.std.proofs.Common.{◌≡◌, ◌⊎◌, inl, inr, ⊎_elim, ℕ, ◌<◌, List, Option, Result, Ok, Err, refl, sym, ◌∙◌, ap, subst}
 use Rattle.fuxi_io.specs.Disks.{Told, LeavesAlways, WhereTold, after_sync, then_told}
 use Rattle.fuxi_terms.specs.Cluster.{ClusterRecord}
 use Rattle.written_roles.specs.HardState.{HardState, Raise, hard_step}
 use Rattle.written_roles.specs.MasterSteps.{new_master}
+use Rattle.written_roles.specs.Refusals.{Refusal}
 use Rattle.written_roles.specs.MasterRoles.{master_started}
-use Rattle.hard_state.specs.HardFiles.{Kept, IsBeforeOrAfter, IsDamagedAt, IsOpeningFault, Opens, OpensAs, WritesStep, records_of}
+use Rattle.hard_state.specs.HardFiles.{Kept, IsBeforeOrAfter, IsDamagedAt, IsOpeningFault, Opens, OpensAs, Refuses, WritesStep, records_of}
 use Rattle.hard_state.specs.declared.fault.HardFault.{HardFault}
 use Rattle.hard_state.specs.declared.fault.HardFault.TheVariants.{Stale, Fenced, Known, NoJob, Ended, AlreadyBanned, NotBanned, Full, NotCheckpoint, DiskFault, OutOfMemory}
 use Rattle.fuxi_master.specs.Cores.{MasterRecord, StandsFor}
@@ -28,6 +29,10 @@ open_fails epoch Full a b is damaged told = elim is [ ]
 open_fails epoch (NotCheckpoint offset) a b is damaged told = damaged offset refl
 open_fails epoch DiskFault a b is damaged told = map_where {R = Opens} {S = FailsStart epoch DiskFault} a b (λ old new opens. tt) told
 open_fails epoch OutOfMemory a b is damaged told = map_where {R = Opens} {S = FailsStart epoch OutOfMemory} a b (λ old new opens. tt) told
+
+-- a writing finds no damaged record
+pub no_damage : {A : Type 0} (fault : HardFault) (offset : ℕ) (step : Result HardState Refusal) → Refuses step fault → ◌≡◌ {A = Result A HardFault} (Err fault) (Err (NotCheckpoint offset)) → ⊥
+no_damage fault offset step refused is = let same : fault ≡ NotCheckpoint offset = cc in subst (Refuses step) same refused
 
 -- an opening alone
 pub open_starts : (epoch : ℕ) (a b : Option Told) → WhereTold Opens a b → WhereTold (Starts epoch) a b

@@ -20,6 +20,7 @@ ghost use Rattle.node_party.specs.Commands.{IsCommanded, commanded};
 ghost use Rattle.node_party.specs.Halts.{FitsEither};
 ghost use Rattle.node_party.specs.Texts.{as_answer};
 ghost use Rattle.master_node.specs.Standing.{DiskHas, IsMasterOf, IsTied, Rests, RestsAt, StandsAs};
+ghost use Rattle.hard_state.specs.HardFiles.{SyncsAll};
 ghost use Rattle.master_node.specs.Starting.{FailsStart, IsRaised, IsStartFault, Starts, StartsFrom};
 ghost use Rattle.master_node.specs.Writing.{IsCommand, LeavesEither, hard_in};
 ghost use Rattle.master_node.specs.Telling.{Does, LeavesLine, LeavesMade, obeyed, packets_in, Sends};
@@ -86,6 +87,7 @@ impl MasterNode {
         ensures later { D.faults disk.old ≤ D.faults disk.new }
         ensures cause { result ≡ Err HardFault.DiskFault → Rose (D.faults disk.old) (D.faults disk.new) }
         ensures told { WhereTold (Starts epoch) (D.told disk.old) (D.told disk.new) }
+        ensures untouched { (offset : ℕ) → result ≡ Err (HardFault.NotCheckpoint offset) → WhereTold SyncsAll (D.told disk.old) (D.told disk.new) }
     {
         let mut hard = match Hard::open(alloc, disk) {
             Ok(hard) => hard,

@@ -25,12 +25,12 @@ module _ (m : MachineNo) (boot : ℕ) (addr : List ℕ) (disk later : Option Mom
   has_machine (Some bytes) status left w before now (Some o) (Some n) there e = inl (there, e)
 
 -- nothing was read, written or met
-module _ (kind : NodeKind) (addr : List ℕ) (disk later : Option Moments) (took : Option (List ℕ)) (f : ℕ) (told : Option Told) where
-  stays : (bytes : List ℕ) (status : Status) (left : Option (List ℕ)) (t : Option Told) → StopsBefore 0 bytes status left → WhereTold (InputEnded kind addr disk later bytes status left took took f f) t t
+module _ (kind : NodeKind) (addr : List ℕ) (disk : Option Moments) (took : Option (List ℕ)) (f : ℕ) (told : Option Told) where
+  stays : (bytes : List ℕ) (status : Status) (left : Option (List ℕ)) (t : Option Told) → StopsBefore 0 bytes status left → WhereTold (InputEnded kind addr disk disk bytes status left took took f f) t t
   stays bytes status left None stops = tt
-  stays bytes status left (Some t) stops = inl (record { stops = stops; unwritten = refl; unmet = refl })
+  stays bytes status left (Some t) stops = inl (record { stops = stops; unwritten = refl; unmet = refl; untouched = refl })
 
-  pub no_memory : (input : Option (List ℕ)) → IfSome input (λ bytes. WhereTold (InputEnded kind addr disk later bytes OutOfMemory input took took f f) told told)
+  pub no_memory : (input : Option (List ℕ)) → IfSome input (λ bytes. WhereTold (InputEnded kind addr disk disk bytes OutOfMemory input took took f f) told told)
   no_memory None = tt
   no_memory (Some bytes) = stays bytes OutOfMemory (Some bytes) told (record {
     lines = [];
@@ -38,7 +38,7 @@ module _ (kind : NodeKind) (addr : List ℕ) (disk later : Option Moments) (took
     last = tt;
   })
 
-  pub no_cluster : (input : Option (List ℕ)) (status : Status) (left : Option (List ℕ)) → IfSome (prepend_known [] input) (λ bytes. StopsBefore 0 bytes status left) → IfSome input (λ bytes. WhereTold (InputEnded kind addr disk later bytes status left took took f f) told told)
+  pub no_cluster : (input : Option (List ℕ)) (status : Status) (left : Option (List ℕ)) → IfSome (prepend_known [] input) (λ bytes. StopsBefore 0 bytes status left) → IfSome input (λ bytes. WhereTold (InputEnded kind addr disk disk bytes status left took took f f) told told)
   no_cluster None status left stops = tt
   no_cluster (Some bytes) status left stops = stays bytes status left told stops
 

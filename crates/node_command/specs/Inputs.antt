@@ -1,7 +1,7 @@
 -- A node over a whole input: what it does with the line that describes the cluster, and behind it.
-use Rattle.std.specs.Prelude.{◌≡◌, ◌⊎◌, ℕ, ◌<◌, ◌≤◌, ⊤, Bool, List, length, Option, Some, Ok}
+use Rattle.std.specs.Prelude.{◌≡◌, ◌⊎◌, ℕ, ◌<◌, ◌≤◌, ⊤, Bool, true, cond, nat_lt, List, length, Option, Some, Ok}
 use Rattle.fuxi_io.specs.Disks.{Told as Moments}
-use Rattle.fuxi_io.specs.Lines.{InputLine, lines_of}
+use Rattle.fuxi_io.specs.Lines.{lines_of}
 use Rattle.fuxi_io.specs.declared.status.InputFault.TheVariants.{NoMachine}
 use Rattle.fuxi_io.specs.declared.status.LimitOf.TheVariants.{Lines, Packets, Bytes, Records, Calls}
 use Rattle.fuxi_io.specs.declared.status.Status.{Status}
@@ -10,12 +10,12 @@ use Rattle.fuxi_terms.specs.Cluster.{ClusterRecord}
 use Rattle.fuxi_terms.specs.Limits.{most_jobs, most_machines, most_units}
 use Rattle.written_roles.specs.HardState.{HardState, Raise, hard_step}
 use Rattle.hard_state.specs.HardFiles.{records_of}
-use Rattle.input_cluster.specs.Openings.{Opens, opening_from, HasCluster, StopsBefore}
+use Rattle.input_cluster.specs.Openings.{Opening, Opens, BadAt, TooMany, opening_from, HasCluster, StopsBefore}
 use Rattle.node_door.specs.Doors.{Told}
-use Rattle.node_run.specs.Ends.{Ended}
-use Rattle.node_run.specs.Runs.{AtEnd, ending_from}
+use Rattle.node_run.specs.Ends.{Ended, EndsBy}
+use Rattle.node_run.specs.Runs.{Ending, AtEnd, AtBadLine, AtLimit, ending_from}
 use Rattle.fuxi_node.specs.Starts.{agent_start, app_start, master_start}
-use Rattle.fuxi_node.specs.Masters.{MasterEnded, ReadsAhead, TellsFile}
+use Rattle.fuxi_node.specs.Masters.{LeavesFile, MasterEnded, ReadsAhead, TellsFile}
 use Rattle.node_command.specs.declared.kind.NodeKind.{NodeKind}
 use Rattle.node_command.specs.declared.kind.NodeKind.TheVariants.{Master, Agent, App}
 
@@ -50,11 +50,12 @@ NodeEnded (Agent m boot) addr disk later c number bytes status left w0 w before 
 NodeEnded (App a boot units) addr disk later c number bytes status left w0 w before now old new =
     Ended (λ q. ⊤) (λ q p. ⊤) (app_start c a.0 units boot addr number) bytes (Ok status) left w0 w before now old new
 
--- it ended at the line of the cluster or before it, and nothing was written
-pub record EndsBefore (bytes : List ℕ) (status : Status) (left w0 w : Option (List ℕ)) (old new : Told) : Type 0 where
+-- it ended at the line of the cluster or before it, nothing was written, and its disk was left alone
+pub record EndsBefore (disk later : Option Moments) (bytes : List ℕ) (status : Status) (left w0 w : Option (List ℕ)) (old new : Told) : Type 0 where
   pub stops : StopsBefore 0 bytes status left
   pub unwritten : w ≡ w0
   pub unmet : new ≡ old
+  pub untouched : later ≡ disk
 
 -- it ended behind that line
 pub record EndsBehind (kind : NodeKind) (addr : List ℕ) (disk later : Option Moments) (bytes : List ℕ) (status : Status) (left w0 w : Option (List ℕ)) (before now : ℕ) (old new : Told) : Type 0 where
@@ -68,7 +69,7 @@ pub record EndsBehind (kind : NodeKind) (addr : List ℕ) (disk later : Option M
 -- what a node did with the bytes of an input
 abbrev pub InputEnded : NodeKind → List ℕ → Option Moments → Option Moments → List ℕ → Status → Option (List ℕ) → Option (List ℕ) → Option (List ℕ) → ℕ → ℕ → Told → Told → Type 0
 InputEnded kind addr disk later bytes status left w0 w before now old new =
-    EndsBefore bytes status left w0 w old new ⊎ EndsBehind kind addr disk later bytes status left w0 w before now old new
+    EndsBefore disk later bytes status left w0 w old new ⊎ EndsBehind kind addr disk later bytes status left w0 w before now old new
 
 -- a status of a node without a disk
 abbrev pub IsDiskless : Status → Type 0
@@ -93,14 +94,45 @@ TellsDisk (Master epoch) status disk = TellsFile epoch status disk
 TellsDisk (Agent m boot) status disk = IsDiskless status
 TellsDisk (App a boot units) status disk = IsDiskless status
 
--- Of an input for a node all lines are good: one describes a cluster that has its machine, and those behind it are lines of a node within the limit
-pub record IsWhole (kind : NodeKind) (bytes : List ℕ) : Type 0 where
-  pub cluster : ClusterRecord
-  pub number : ℕ
-  pub behind : List InputLine
-  pub opens : opening_from 0 (lines_of bytes) ≡ Opens cluster number behind
-  pub there : IsThere kind cluster
-  pub ends : ending_from number behind ≡ AtEnd
+-- what it says of the disk of a master that did not get to its lines, at the start and at the end
+abbrev pub LeavesDisk : NodeKind → Status → Option Moments → Option Moments → Type 0
+LeavesDisk (Master epoch) status disk later = LeavesFile epoch status disk later
+LeavesDisk (Agent m boot) status disk later = ⊤
+LeavesDisk (App a boot units) status disk later = ⊤
+
+-- the cluster has its machine, as a test
+abbrev pub is_there : NodeKind → ClusterRecord → Bool
+is_there (Master epoch) c = true
+is_there (Agent m boot) c = nat_lt m.0 (length c.machines)
+is_there (App a boot units) c = true
+
+-- Where an input ends by its lines: at the first that is bad, where a cluster that lacks the machine is one; at the limit; or at their end
+abbrev pub ending_behind : NodeKind → Opening → Ending
+ending_behind kind (Opens c number behind) = cond (is_there kind c) (ending_from number behind) (AtBadLine number NoMachine)
+ending_behind kind (BadAt line fault) = AtBadLine line fault
+ending_behind kind (TooMany kept) = AtLimit kept
+
+abbrev pub ending_of : NodeKind → List ℕ → Ending
+ending_of kind bytes = ending_behind kind (opening_from 0 (lines_of bytes))
+
+-- the status of a node whose lines end there, and whose input, output, disk and memory allow it
+abbrev pub status_at : Ending → Status
+status_at AtEnd = Done
+status_at (AtBadLine line fault) = BadInput line fault
+status_at (AtLimit kept) = Limit Lines kept
+
+-- what a status says of where the lines of an input end, and of what its source has left
+abbrev pub InputEndsBy : NodeKind → List ℕ → Status → Option (List ℕ) → Type 0
+InputEndsBy kind bytes status left = EndsBy (ending_of kind bytes) status left
+
+-- no line describes a cluster
+abbrev pub HasNone : Opening → Type 0
+HasNone (Opens c number behind) = ⊥
+HasNone (BadAt line fault) = ⊤
+HasNone (TooMany kept) = ⊤
+
+abbrev pub HasNoCluster : List ℕ → Type 0
+HasNoCluster bytes = HasNone (opening_from 0 (lines_of bytes))
 
 -- the file of the disk lets the epoch in
 pub record LetsIn (epoch : ℕ) (disk : Option Moments) : Type 0 where

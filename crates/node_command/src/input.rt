@@ -5,8 +5,11 @@ ghost use Rattle.fuxi_io.specs.Causes.{Rose};
 ghost use Rattle.fuxi_io.specs.Reading.{rest_of, read_ahead};
 ghost use Rattle.fuxi_terms.specs.Limits.{most_lines, most_machines};
 ghost use Rattle.input_lines.specs.Wholes.{IsReady};
-ghost use Rattle.node_door.specs.Doors.{Told, WhereTold};
-ghost use Rattle.node_command.specs.Inputs.{IsKind, IsWhole, MayStart, NodeEnded, InputEnded, TellsDisk};
+ghost use Rattle.node_door.specs.Doors.{WhereTold};
+ghost use Rattle.fuxi_io.specs.Lines.{lines_of};
+ghost use Rattle.input_cluster.specs.Openings.{Opens};
+ghost use Rattle.node_run.specs.Ends.{EndsBy};
+ghost use Rattle.node_command.specs.Inputs.{HasNoCluster, IsKind, LeavesDisk, MayStart, NodeEnded, InputEnded, InputEndsBy, TellsDisk, ending_behind, ending_of, status_at};
 ghost use Rattle.node_command.specs.declared.kind.NodeKind.TheVariants.{Master, Agent};
 
 use crate::kind::NodeKind;
@@ -15,7 +18,6 @@ use fuxi_io::{Disk, InputFault, LimitOf, LineReader, LineStop, Sink, Source, Sta
 use fuxi_node::{run_agent, run_app, run_master};
 use input_cluster::read_cluster_line;
 use node_door::Door;
-use node_run::runs_end_by_their_lines;
 use schedule_unit::MachineNo;
 use std::alloc::Global;
 
@@ -38,6 +40,7 @@ fn run_machine<S: Source, O: Sink, N: Door>(
     requires stop { lines.old.stop ≢ Some LineStop.ReadFault }
     requires ahead { length lines.old.pending ≤ read_ahead }
     ensures ended { IsReady lines.old (S.left source.old) → IfSome (rest_of lines.old (S.left source.old)) (λ bytes. WhereTold (NodeEnded (Agent machine boot) addr.now None None cluster.now lines.old.number bytes result (S.left source.new) (O.took out.old) (O.took out.new) (N.faults door.old) (N.faults door.new)) (N.told door.old) (N.told door.new)) }
+    ensures places { IsReady lines.old (S.left source.old) → IfSome (rest_of lines.old (S.left source.old)) (λ bytes. EndsBy (ending_behind (Agent machine boot) (Opens cluster.now lines.old.number (lines_of bytes))) result (S.left source.new)) }
     ensures disk { TellsDisk (Agent machine boot) result None }
     ensures unread { lines.old.ended ≡ false → result ≢ Status.ReadFault }
     ensures read { result ≡ Status.ReadFault → Rose (S.faults source.old) (S.faults source.new) }
@@ -74,7 +77,9 @@ fn run_kind<S: Source, O: Sink, D: Disk, N: Door>(
     requires stop { lines.old.stop ≢ Some LineStop.ReadFault }
     requires ahead { length lines.old.pending ≤ read_ahead }
     ensures ended { IsReady lines.old (S.left source.old) → IfSome (rest_of lines.old (S.left source.old)) (λ bytes. WhereTold (NodeEnded kind addr.now (D.told disk.old) (D.told disk.new) cluster.now lines.old.number bytes result (S.left source.new) (O.took out.old) (O.took out.new) (N.faults door.old) (N.faults door.new)) (N.told door.old) (N.told door.new)) }
+    ensures places { IsReady lines.old (S.left source.old) → IfSome (rest_of lines.old (S.left source.old)) (λ bytes. EndsBy (ending_behind kind (Opens cluster.now lines.old.number (lines_of bytes))) result (S.left source.new)) }
     ensures told { TellsDisk kind result (D.told disk.old) }
+    ensures stays { LeavesDisk kind result (D.told disk.old) (D.told disk.new) }
     ensures unused { ((epoch : ℕ) → kind ≢ Master epoch) → disk.new ≡ disk.old }
     ensures unread { lines.old.ended ≡ false → result ≢ Status.ReadFault }
     ensures read { result ≡ Status.ReadFault → Rose (S.faults source.old) (S.faults source.new) }
@@ -110,7 +115,10 @@ fn run_lines<S: Source, O: Sink, D: Disk, N: Door>(
     requires some { 1 ≤ length addr.now }
     requires short { length addr.now ≤ 255 }
     ensures ended { IfSome (S.left source.old) (λ bytes. WhereTold (InputEnded kind addr.now (D.told disk.old) (D.told disk.new) bytes result (S.left source.new) (O.took out.old) (O.took out.new) (N.faults door.old) (N.faults door.new)) (N.told door.old) (N.told door.new)) }
+    ensures places { IfSome (S.left source.old) (λ bytes. InputEndsBy kind bytes result (S.left source.new)) }
     ensures told { TellsDisk kind result (D.told disk.old) }
+    ensures stays { LeavesDisk kind result (D.told disk.old) (D.told disk.new) }
+    ensures unopened { (bytes : List ℕ) → S.left source.old ≡ Some bytes → HasNoCluster bytes → disk.new ≡ disk.old }
     ensures unused { ((epoch : ℕ) → kind ≢ Master epoch) → disk.new ≡ disk.old }
     ensures read { result ≡ Status.ReadFault → Rose (S.faults source.old) (S.faults source.new) }
     ensures write { result ≡ Status.WriteFault → Rose (O.faults out.old) (O.faults out.new) }
@@ -150,19 +158,22 @@ pub fn run_input<S: Source, O: Sink, D: Disk, N: Door>(
     requires short { length addr.now ≤ 255 }
     // What was written and what the door has been through, by the status. It is said of bytes that are known, and of a door that tells; what is said of the file, of a disk that tells.
     ensures ended { IfSome (S.left source.old) (λ bytes. WhereTold (InputEnded kind addr.now (D.told disk.old) (D.told disk.new) bytes result (S.left source.new) (O.took out.old) (O.took out.new) (N.faults door.old) (N.faults door.new)) (N.told door.old) (N.told door.new)) }
+    // Where the lines end, by the status. It is said over any door.
+    ensures places { IfSome (S.left source.old) (λ bytes. InputEndsBy kind bytes result (S.left source.new)) }
     ensures told { TellsDisk kind result (D.told disk.old) }
+    // The file of a master that did not get to its lines: by the status, and where no line describes a cluster.
+    ensures stays { LeavesDisk kind result (D.told disk.old) (D.told disk.new) }
+    ensures unopened { (bytes : List ℕ) → S.left source.old ≡ Some bytes → HasNoCluster bytes → disk.new ≡ disk.old }
     ensures unused { ((epoch : ℕ) → kind ≢ Master epoch) → disk.new ≡ disk.old }
     ensures read { result ≡ Status.ReadFault → Rose (S.faults source.old) (S.faults source.new) }
     ensures write { result ≡ Status.WriteFault → Rose (O.faults out.old) (O.faults out.new) }
     ensures disk { result ≡ Status.DiskFault → Rose (D.faults disk.old) (D.faults disk.new) }
     ensures limit { (kept : ℕ) → result ≡ Status.Limit LimitOf.Lines kept → kept ≡ most_lines }
     ensures usage { result ≢ Status.Usage }
-    // A node over lines that are all good, with a file that lets its epoch in and no fault of the source, the sink and the disk, is done, but for want of memory, over a door that tells.
-    ensures complete { (bytes : List ℕ) (t : Told) → S.left source.old ≡ Some bytes → N.told door.old ≡ Some t → IsWhole kind bytes → MayStart kind (D.told disk.old)
+    // A node with a file that lets its epoch in, and with no fault of the source, the sink and the disk, ends as its lines say, but for want of memory. It is said over any door.
+    ensures complete { (bytes : List ℕ) → S.left source.old ≡ Some bytes → MayStart kind (D.told disk.old)
         → (Rose (S.faults source.old) (S.faults source.new) → ⊥) → (Rose (O.faults out.old) (O.faults out.new) → ⊥) → (Rose (D.faults disk.old) (D.faults disk.new) → ⊥)
-        → (result ≡ Status.Done) ⊎ (result ≡ Status.OutOfMemory) }
+        → (result ≡ status_at (ending_of kind bytes)) ⊎ (result ≡ Status.OutOfMemory) }
 {
-    // The law of where runs end, for the last clause.
-    runs_end_by_their_lines();
     run_lines(alloc, kind, addr, source, out, disk, door)
 }

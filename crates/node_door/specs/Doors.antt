@@ -1,16 +1,19 @@
 -- What a door has been through, and what its calls add to it.
 use Rattle.std.specs.Prelude.{◌≡◌, ℕ, Bool, false, ◌||◌, cond, nat_eq, List, [], ◌∷◌, ◌++◌, length, take, Option, Some, None, ⊤, Result, Ok, Err}
+use Rattle.node_door.specs.declared.order.Order.{Order}
+use Rattle.node_door.specs.Orders.{unused, order_read, order_written, order_failed, order_closed}
 
 -- an address that was handed to the door, to `accept` or else to `dial`
 pub record Knock : Type 0 where
   pub accepts : Bool
   pub addr : List ℕ
 
--- a connection: what it gave so far, what it took so far, and whether a read on it answered 0
+-- a connection: what it gave so far, what it took so far, whether a read on it answered 0, and in which order it was used
 pub record Talk : Type 0 where
   pub gave : List ℕ
   pub took : List ℕ
   pub ended : Bool
+  pub order : Order
 
 -- the last address, and all connections that were opened, the newest first
 pub record Told : Type 0 where
@@ -21,15 +24,23 @@ abbrev pub untold : Told
 untold = record { knock = None; talks = [] }
 
 abbrev pub new_talk : Talk
-new_talk = record { gave = []; took = []; ended = false }
+new_talk = record { gave = []; took = []; ended = false; order = unused }
 
--- these bytes more came of it, and with them perhaps its end
+-- a read gave these bytes more, or its end
 abbrev pub given : List ℕ → Bool → Talk → Talk
-given bytes ended talk = record { gave = talk.gave ++ bytes; took = talk.took; ended = talk.ended || ended }
+given bytes ended talk = record { gave = talk.gave ++ bytes; took = talk.took; ended = talk.ended || ended; order = order_read talk.order }
 
--- it took these bytes more
+-- a write had it take these bytes more
 abbrev pub taken : List ℕ → Talk → Talk
-taken bytes talk = record { gave = talk.gave; took = talk.took ++ bytes; ended = talk.ended }
+taken bytes talk = record { gave = talk.gave; took = talk.took ++ bytes; ended = talk.ended; order = order_written talk.order }
+
+-- a read or a write failed
+abbrev pub failing : Talk → Talk
+failing talk = record { gave = talk.gave; took = talk.took; ended = talk.ended; order = order_failed talk.order }
+
+-- it was closed
+abbrev pub shut : Talk → Talk
+shut talk = record { gave = talk.gave; took = talk.took; ended = talk.ended; order = order_closed talk.order }
 
 abbrev pub on_first : (Talk → Talk) → List Talk → List Talk
 on_first f [] = []
@@ -49,18 +60,22 @@ WhereTold step None new = ⊤
 WhereTold step (Some old) None = ⊥
 WhereTold step (Some old) (Some new) = step old new
 
--- The calls. The address is told whatever came of it. A write that failed may have taken a part from the front.
+-- The calls. The address is told whatever came of it. A write that failed may have taken a part from the front. A connection that could not be closed is
+-- none any more either.
 abbrev pub Opens : {E : Type 0} → Bool → List ℕ → Result (Unit {0}) E → Told → Told → Type 0
 Opens accepts addr (Ok done) old new = new ≡ knocked accepts addr (new_talk ∷ old.talks)
 Opens accepts addr (Err fault) old new = new ≡ knocked accepts addr old.talks
 
 abbrev pub Reads : {E : Type 0} → List ℕ → Result ℕ E → Told → Told → Type 0
 Reads buf (Ok n) old new = new ≡ on_last (given (take n buf) (nat_eq n 0)) old
-Reads buf (Err fault) old new = new ≡ old
+Reads buf (Err fault) old new = new ≡ on_last failing old
 
 abbrev pub Writes : {E : Type 0} → List ℕ → Result (Unit {0}) E → Told → Told → Type 0
 Writes bytes (Ok done) old new = new ≡ on_last (taken bytes) old
-Writes bytes (Err fault) old new = (n : ℕ) × (new ≡ on_last (taken (take n bytes)) old)
+Writes bytes (Err fault) old new = (n : ℕ) × (new ≡ on_last (λ talk. failing (taken (take n bytes) talk)) old)
+
+abbrev pub Closes : Told → Told → Type 0
+Closes old new = new ≡ on_last shut old
 
 -- what the connection of this number took, counted from 0 at the oldest; nothing where it was not opened
 abbrev pub took_by : List Talk → ℕ → List ℕ

@@ -18,7 +18,7 @@ pub record Doorway : Type 0 where
 
 -- of all bytes that were taken, those of the last connection stand at the end
 abbrev pub talk_of : List ℕ → Opened → Talk
-talk_of took c = record { gave = take c.at c.bytes.items; took = drop c.from took; ended = c.ended }
+talk_of took c = record { gave = take c.at c.bytes.items; took = drop c.from took; ended = c.ended; order = c.order }
 
 -- connections, the newest first
 abbrev pub talks_of : List ℕ → List Opened → List Talk

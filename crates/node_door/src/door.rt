@@ -1,21 +1,21 @@
 ghost use Rattle.std.specs.Prelude.{◌≡◌, ℕ, ◌<◌, ◌≤◌, true, false, List, length, Option};
 ghost use Rattle.std.specs.Io.{ReadsAtMost};
 ghost use Rattle.fuxi_io.specs.Causes.{HasCause};
-ghost use Rattle.node_door.specs.Doors.{Told, Opens, Reads, Writes, WhereTold};
+ghost use Rattle.node_door.specs.Doors.{Told, Opens, Reads, Writes, Closes, WhereTold};
 
 use fuxi_io::Failed;
 
 /// Where connections come from, one at a time. It counts its faults; the count never falls, and stands still
 /// at `u64::MAX`. No call takes memory.
 ///
-/// It may tell the last address that it was handed, and of each connection which bytes it gave and took, and
-/// whether a read on it answered 0.
+/// It may tell the last address that it was handed, and of each connection which bytes it gave and took,
+/// whether a read on it answered 0, and in which order it was read, written to and closed.
 pub trait Door {
     ghost use Rattle.std.specs.Prelude.{ℕ, ◌≡◌, ◌<◌, ◌≤◌, true, false, List, length};
     ghost use Rattle.std.specs.declared.option.Option.{Option};
     ghost use Rattle.std.specs.Io.{ReadsAtMost};
     ghost use Rattle.fuxi_io.specs.Causes.{HasCause};
-    ghost use Rattle.node_door.specs.Doors.{Told, Opens, Reads, Writes, WhereTold};
+    ghost use Rattle.node_door.specs.Doors.{Told, Opens, Reads, Writes, Closes, WhereTold};
 
     /// What it has been through, where it tells it.
     ghost told: { Self → Option Told };
@@ -40,20 +40,20 @@ pub trait Door {
         ensures cause { HasCause (faults self.old) (faults self.new) result };
 
     /// Reads bytes of the last connection into the front of `buf` and answers how many; 0 only at its end.
-    /// After `Failed` nothing was read.
+    /// After `Failed` nothing was read, which is told.
     fn read(&mut self, buf: &mut [u8]) -> Result<usize, Failed>
         requires { 0 < length buf.old }
         ensures bound { ReadsAtMost result buf.new }
         ensures told { WhereTold (Reads buf.new result) (told self.old) (told self.new) }
         ensures cause { HasCause (faults self.old) (faults self.new) result };
 
-    /// Writes all of the bytes to the last connection. After `Failed` it may have taken a part from the front.
+    /// Writes all of the bytes to the last connection. After `Failed`, which is told, it may have taken a part from the front.
     fn write(&mut self, bytes: &[u8]) -> Result<(), Failed>
         ensures told { WhereTold (Writes bytes.now result) (told self.old) (told self.new) }
         ensures cause { HasCause (faults self.old) (faults self.new) result };
 
-    /// Closes the last connection. What is told stays as it is, also after `Failed`.
+    /// Closes the last connection. That is told, also after `Failed`.
     fn close(&mut self) -> Result<(), Failed>
-        ensures told { told self.new ≡ told self.old }
+        ensures told { WhereTold Closes (told self.old) (told self.new) }
         ensures cause { HasCause (faults self.old) (faults self.new) result };
 }

@@ -1,23 +1,25 @@
-ghost use Rattle.std.specs.Prelude.{◌≡◌, ℕ, ◌+◌, ◌-◌, ◌<◌, ◌≤◌, ◌↔◌, true, false, List, [], ◌∷◌, ◌++◌, length, map, take, drop, min, reverse, IfOk, OnOk, OnErr, IsErr, Some, Option, vec_len, vec_capacity};
+ghost use Rattle.std.specs.Prelude.{◌≡◌, ℕ, ◌+◌, ◌-◌, ◌<◌, ◌≤◌, ◌↔◌, nat_eq, true, false, List, [], ◌∷◌, ◌++◌, length, map, take, drop, min, reverse, IfOk, OnOk, OnErr, IsErr, Some, Option, vec_len, vec_capacity};
 ghost use Rattle.std.specs.Io.{ReadsAtMost};
 ghost use Rattle.fuxi_io.specs.Causes.{HasCause, raised};
-ghost use Rattle.node_door.specs.Doors.{Told, Opens, Reads, Writes, untold, on_last, taken, took_by};
+ghost use Rattle.node_door.specs.Doors.{Told, Opens, Reads, Writes, Closes, untold, on_last, given, taken, failing, shut, took_by};
 ghost use Rattle.node_door.specs.MemoryDoors.{CallFails, OpenFails, ReadFails, WriteFails, AreCut, IsSpan};
 
 use crate::door::Door;
+use crate::order::Order;
 use fuxi_io::{Failed, OutOfMemory};
 use std::alloc::Global;
 use std::marker::Model;
 use std::mem;
 
 // A connection that was opened: its bytes, how many of them it gave, where those that it took begin among all
-// that were taken, and whether a read on it answered 0.
+// that were taken, whether a read on it answered 0, and in which order it was used.
 #[derive(Drop)]
 pub struct Opened {
     bytes: Vec<u8>,
     at: usize,
     from: usize,
     ended: bool,
+    order: Order,
 }
 
 /// A door over memory that tells what it has been through. Its connections come in the order of a list, each
@@ -105,6 +107,7 @@ impl MemDoor {
                 at: 0,
                 from: 0,
                 ended: false,
+                order: Order::new(),
             },
             past: Vec::new(alloc),
             coming: gives,
@@ -166,6 +169,39 @@ impl MemDoor {
         Ok(())
     }
 
+    // So many bytes more were read of the last connection, or its end.
+    fn advance(&mut self, n: usize)
+        requires { n ≤ length self.old.left }
+        ensures { self.new ≡ record self.old { told = on_last (given (take n self.old.left) (nat_eq n 0)) self.old.told; left = drop n self.old.left } }
+    {
+        self.last.at += n;
+        self.last.order = self.last.order.after_read();
+        if n == 0 {
+            self.last.ended = true;
+        }
+    }
+
+    // A read on the last connection failed.
+    fn miss_read(&mut self)
+        ensures { self.new ≡ record self.old { told = on_last failing self.old.told } }
+    {
+        self.last.order = self.last.order.after_fault();
+    }
+
+    // A write on the last connection failed, which took nothing.
+    fn miss_write(&mut self)
+        ensures { self.new ≡ record self.old { told = on_last (λ talk. failing (taken [] talk)) self.old.told } }
+    {
+        self.last.order = self.last.order.after_write().after_fault();
+    }
+
+    // The last connection is closed.
+    fn shut(&mut self)
+        ensures { self.new ≡ record self.old { told = on_last shut self.old.told } }
+    {
+        self.last.order = self.last.order.after_close();
+    }
+
     // Opens the next connection at this address.
     fn open(&mut self, accepts: bool, addr: &[u8]) -> Result<(), Failed>
         requires short { length addr.now ≤ 255 }
@@ -197,6 +233,7 @@ impl MemDoor {
             at: 0,
             from: self.took.len(),
             ended: false,
+            order: Order::new(),
         };
         if !self.begun {
             self.last = next;
@@ -263,19 +300,20 @@ impl Door for MemDoor {
     {
         match self.call() {
             Ok(()) => {}
-            Err(Failed) => return Err(Failed),
+            Err(Failed) => {
+                self.miss_read();
+                return Err(Failed);
+            }
         }
         if !self.begun {
             self.faults = self.faults.saturating_add(1);
+            self.miss_read();
             return Err(Failed);
         }
         let rest = &self.last.bytes[self.last.at..];
         let n = buf.len().min(rest.len());
         buf[..n].copy_from_slice(&rest[..n]);
-        self.last.at += n;
-        if n == 0 {
-            self.last.ended = true;
-        }
+        self.advance(n);
         Ok(n)
     }
 
@@ -286,32 +324,38 @@ impl Door for MemDoor {
         ensures cause { HasCause self.old.faults self.new.faults result }
         ensures fails { IsErr result ↔ WriteFails self.old bytes.now }
         ensures room { OnOk result (self.new.room ≡ self.old.room - (length bytes.now + 1)) }
-        ensures failed { OnErr result ((self.new.told ≡ self.old.told) × (self.new.room ≡ self.old.room)) }
+        ensures failed { OnErr result ((self.new.told ≡ on_last (λ talk. failing (taken [] talk)) self.old.told) × (self.new.room ≡ self.old.room)) }
         ensures rest { self.new ≡ record self.old { told = self.new.told; room = self.new.room; calls = raised self.old.calls; faults = self.new.faults } }
     {
         match self.call() {
             Ok(()) => {}
-            Err(Failed) => return Err(Failed),
+            Err(Failed) => {
+                self.miss_write();
+                return Err(Failed);
+            }
         }
         if !self.begun || self.room <= bytes.len() {
             self.faults = self.faults.saturating_add(1);
+            self.miss_write();
             return Err(Failed);
         }
         match self.took.extend_from_slice(bytes) {
             Ok(()) => {}
             Err(_) => unreachable!(),
         }
+        self.last.order = self.last.order.after_write();
         self.room -= bytes.len() + 1;
         Ok(())
     }
 
-    /// It fails exactly where the number of the call stands in the list.
+    /// It fails exactly where the number of the call stands in the list. Closing a connection once more is no fault.
     fn close(&mut self) -> Result<(), Failed>
-        ensures told { Some self.new.told ≡ Some self.old.told }
+        ensures told { Closes self.old.told self.new.told }
         ensures cause { HasCause self.old.faults self.new.faults result }
         ensures fails { IsErr result ↔ CallFails self.old }
-        ensures rest { self.new ≡ record self.old { calls = raised self.old.calls; faults = self.new.faults } }
+        ensures rest { self.new ≡ record self.old { told = self.new.told; calls = raised self.old.calls; faults = self.new.faults } }
     {
+        self.shut();
         self.call()
     }
 }

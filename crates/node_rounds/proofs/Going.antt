@@ -1,6 +1,6 @@
 -- The hearing of a connection goes on, or ends.
 use Rattle.std.proofs.Common.{◌≡◌, ◌≢◌, ℕ, ◌+◌, ◌-◌, ◌<◌, ◌≤◌, true, false, List, [], ◌∷◌, ◌++◌, append_assoc, append-nil, length, length-drop, drop, Option, Some, None, refl, sym, ap, subst, ◌∙◌, arith}
-use Rattle.node_door.specs.Doors.{Told, given, on_last}
+use Rattle.node_door.specs.Doors.{Told, given, failing, on_last}
 use Rattle.schedule_unit.specs.declared.party.Party.{Party}
 use Rattle.party_ledgers.specs.declared.packets.Packet.{Packet}
 use Rattle.wire_frames.specs.declared.fault.FrameFault.{FrameFault}
@@ -13,14 +13,15 @@ use Rattle.node_rounds.specs.declared.listening.Step.{Step}
 use Rattle.node_rounds.specs.declared.listening.Step.TheVariants.{Nothing, Stopped}
 use Rattle.node_rounds.specs.Roles.{Role, heard, allowed}
 use Rattle.node_rounds.specs.Hearing.{hear_on, hear_all, stops, is_end}
-use Rattle.node_rounds.specs.Listening.{Ear, new_ear, hear_from, how_of, behind_of, is_short, step_at, Steps, Advances, Halts, Listening, Listens, Broken}
-use Rattle.node_rounds.proofs.Telling.{nothing_given, given_both}
+use Rattle.node_rounds.specs.Listening.{Ear, new_ear, hear_from, how_of, behind_of, is_short, is_failed, step_at, read_on, broken_by, Steps, Advances, Halts, Listening, Listens, Broken}
+use Rattle.node_rounds.proofs.Telling.{nothing_given, given_both, given_whole, given_part}
 use Rattle.node_rounds.proofs.Packets.{no_packet, splits_both, splits_one, splits_fed, size_some}
 use Rattle.node_rounds.proofs.Hearing.{with_behind, hears_more, hears_end, hears_stranger, hears_rest, hears_most}
 
 module _ (most : ℕ) (r : Role) where
   pub begins : (now : Role → Type 0) (t : Told) → now r → Listening most now r new_ear t t
   begins now t stands = record {
+    reads = false;
     bytes = [];
     door = nothing_given t;
     packets = [];
@@ -34,6 +35,7 @@ module _ (most : ℕ) (r : Role) where
   goes_on now now' e e' old new step l =
       let a = step l.role l.stands in
       record {
+        reads = l.reads;
         bytes = l.bytes;
         door = l.door;
         packets = l.packets ++ a.packet ∷ [];
@@ -46,8 +48,9 @@ module _ (most : ℕ) (r : Role) where
   pub is_fed : (now : Role → Type 0) (e e' : Ear) (piece : List ℕ) (old mid new : Told) → e'.bytes ≡ e.bytes ++ piece → e'.count ≡ e.count → e'.peer ≡ e.peer → Listening most now r e old mid → new ≡ on_last (given piece false) mid
       → Listening most now r e' old new
   is_fed now e e' piece old mid new bytes count peer l came = record {
+    reads = true;
     bytes = l.bytes ++ piece;
-    door = came ∙ ap (on_last (given piece false)) l.door ∙ given_both old l.bytes piece false;
+    door = came ∙ ap (on_last (given piece false)) l.door ∙ given_both old l.reads l.bytes piece false;
     packets = l.packets;
     splits = subst (λ left. Splits (l.bytes ++ piece) l.packets left) (sym bytes) (splits_fed l.bytes e.bytes piece l.packets l.splits);
     role = l.role;
@@ -56,13 +59,15 @@ module _ (most : ℕ) (r : Role) where
         l.same more behind ∙ ap (λ n. hear_on (most - n) behind e.peer l.role n more) (sym count) ∙ ap (λ p. hear_on (most - e'.count) behind p l.role e'.count more) (sym peer);
   }
 
-  pub halts : (now now' : Role → Type 0) (e e' : Ear) (stop : Stop) (old new : Told) → is_short stop ≡ false → ((q : Role) → now q → Halts most now' q stop e e') → Listening most now r e old new
+  pub halts : (now now' : Role → Type 0) (e e' : Ear) (stop : Stop) (old new : Told) → is_short stop ≡ false → is_failed stop ≡ false → ((q : Role) → now q → Halts most now' q stop e e') → Listening most now r e old new
       → Listens most now' r (record { count = e'.count; peer = e'.peer; stop = stop }) old new
-  halts now now' e e' stop old new long step l =
+  halts now now' e e' stop old new long sound step l =
       let h = step l.role l.stands in
       record {
+        reads = l.reads;
         bytes = l.bytes;
-        door = l.door ∙ ap (λ b. on_last (given l.bytes b) old) (sym long);
+        door = l.door ∙ given_whole old (read_on l.reads l.bytes false) ∙ ap (λ b. on_last (λ talk. broken_by b (read_on l.reads l.bytes false talk)) old) (sym sound)
+            ∙ ap (λ b. on_last (λ talk. broken_by (is_failed stop) (read_on l.reads l.bytes b talk)) old) (sym long);
         packets = l.packets ++ h.packets;
         gives = record { left = h.gives.left; splits = splits_both l.bytes e.bytes h.gives.left l.packets h.packets l.splits h.gives.splits; rest = h.gives.rest };
         role = l.role;
@@ -77,8 +82,9 @@ module _ (most : ℕ) (r : Role) where
   pub ends_short : (now : Role → Type 0) (e : Ear) (old mid new : Told) → e.count < most → HasFault e.bytes ShortFrame → Listening most now r e old mid → new ≡ on_last (given [] true) mid
       → Listens most now r (record { count = e.count; peer = e.peer; stop = Short }) old new
   ends_short now e old mid new few short l came = record {
+    reads = true;
     bytes = l.bytes;
-    door = came ∙ ap (on_last (given [] true)) l.door ∙ given_both old l.bytes [] true ∙ ap (λ bs. on_last (given bs true) old) (append-nil l.bytes);
+    door = came ∙ ap (on_last (given [] true)) l.door ∙ given_both old l.reads l.bytes [] true ∙ ap (λ bs. on_last (read_on true bs true) old) (append-nil l.bytes) ∙ given_whole old (read_on true l.bytes true);
     packets = l.packets;
     gives = record { left = e.bytes; splits = l.splits; rest = short };
     role = l.role;
@@ -86,22 +92,24 @@ module _ (most : ℕ) (r : Role) where
     hears = all_of now e old mid l ∙ hears_rest most e few l.role None;
   }
 
-  pub ends_fault : (now : Role → Type 0) (e : Ear) (old new : Told) → e.count < most → HasFault e.bytes ShortFrame → Listening most now r e old new
+  pub ends_fault : (now : Role → Type 0) (e : Ear) (old mid new : Told) → e.count < most → HasFault e.bytes ShortFrame → Listening most now r e old mid → new ≡ on_last failing mid
       → Listens most now r (record { count = e.count; peer = e.peer; stop = Fault }) old new
-  ends_fault now e old new few short l = record {
+  ends_fault now e old mid new few short l broke = record {
+    reads = l.reads;
     bytes = l.bytes;
-    door = l.door;
+    door = broke ∙ ap (on_last failing) l.door ∙ given_part old (read_on l.reads l.bytes false);
     packets = l.packets;
     gives = record { left = e.bytes; splits = l.splits; rest = short };
     role = l.role;
     stands = l.stands;
-    hears = all_of now e old new l ∙ hears_rest most e few l.role None;
+    hears = all_of now e old mid l ∙ hears_rest most e few l.role None;
   }
 
   pub ends_long : (now : Role → Type 0) (e : Ear) (old new : Told) → most ≤ e.count → Listening most now r e old new → Listens most now r (record { count = e.count; peer = e.peer; stop = Long }) old new
   ends_long now e old new full l = record {
+    reads = l.reads;
     bytes = l.bytes;
-    door = l.door;
+    door = l.door ∙ given_whole old (read_on l.reads l.bytes false);
     packets = l.packets;
     gives = record { left = e.bytes; splits = l.splits; rest = tt };
     role = l.role;
@@ -117,11 +125,19 @@ not_short Long other = refl
 not_short Short other = absurd (other refl)
 not_short Fault other = refl
 
+pub not_failed : (stop : Stop) → stop ≢ Fault → is_failed stop ≡ false
+not_failed Ended other = refl
+not_failed (Wrong fault) other = refl
+not_failed Stranger other = refl
+not_failed Long other = refl
+not_failed Short other = refl
+not_failed Fault other = absurd (other refl)
+
 pub broken_same : (t : Told) → Broken t t
-broken_same t = record { bytes = []; door = nothing_given t }
+broken_same t = record { reads = false; bytes = []; door = nothing_given t }
 
 pub broken_more : (piece : List ℕ) (old mid new : Told) → Broken old mid → new ≡ on_last (given piece false) mid → Broken old new
-broken_more piece old mid new b came = record { bytes = b.bytes ++ piece; door = came ∙ ap (on_last (given piece false)) b.door ∙ given_both old b.bytes piece false }
+broken_more piece old mid new b came = record { reads = true; bytes = b.bytes ++ piece; door = came ∙ ap (on_last (given piece false)) b.door ∙ given_both old b.reads b.bytes piece false }
 
 -- one pull, of an ear that is seen as e
 module _ (most : ℕ) (now : Role → Type 0) (old e : Ear) (view : e ≡ old) (few : old.count < most) (r : Role) where

@@ -10,7 +10,7 @@ use Rattle.node_rounds.specs.declared.listening.Listened.{Listened}
 use Rattle.node_rounds.specs.Roles.{Role}
 use Rattle.node_rounds.specs.Listening.{Ear, new_ear, Advances, Halts, Listening, Listens, Broken}
 use Rattle.node_rounds.proofs.Telling.{same_told, map_told, then_told}
-use Rattle.node_rounds.proofs.Going.{begins, goes_on, is_fed, halts, ends_short, ends_fault, ends_long, not_short, broken_same, broken_more}
+use Rattle.node_rounds.proofs.Going.{begins, goes_on, is_fed, halts, ends_short, ends_fault, ends_long, not_short, not_failed, broken_same, broken_more}
 
 pub broken_told : (a : Option Told) → WhereTold Broken a a
 broken_told a = same_told Broken a broken_same
@@ -26,7 +26,7 @@ module _ (a b c : Option Told) where
 module _ (most : ℕ) (r : Role) (a b c : Option Told) where
   -- the core is another value, and stands for the same party
   lifted : (now now' : Role → Type 0) (e : Ear) (old new : Told) → ((q : Role) → now q → now' q) → Listening most now r e old new → Listening most now' r e old new
-  lifted now now' e old new stands k = record { bytes = k.bytes; door = k.door; packets = k.packets; splits = k.splits; role = k.role; stands = stands k.role k.stands; same = k.same }
+  lifted now now' e old new stands k = record { reads = k.reads; bytes = k.bytes; door = k.door; packets = k.packets; splits = k.splits; role = k.role; stands = stands k.role k.stands; same = k.same }
 
   pub told_begins : (now : Role → Type 0) (e : Ear) → e ≡ new_ear → now r → WhereTold (Listening most now r e) a a
   told_begins now e is stands = subst (λ (e : Ear). WhereTold (Listening most now r e) a a) (sym is) (same_told (Listening most now r new_ear) a (λ t. begins most r now t stands))
@@ -42,11 +42,11 @@ module _ (most : ℕ) (r : Role) (a b c : Option Told) where
       (ap (λ (e : Ear). e.bytes) is ∙ ap (λ (e : Ear). e.bytes ++ take n buf) same) (ap (λ (e : Ear). e.count) is ∙ ap (λ (e : Ear). e.count) same) (ap (λ (e : Ear). e.peer) is ∙ ap (λ (e : Ear). e.peer) same)
       (lifted now now' e old mid stands l) (came_by b b c buf n mid new some reads))
 
-  pub told_halts : (now now' : Role → Type 0) (e e' : Ear) (stop : Stop) (l : Listened) → stop ≢ Short → l ≡ record { count = e'.count; peer = e'.peer; stop = stop } → ((q : Role) → now q → Halts most now' q stop e e')
+  pub told_halts : (now now' : Role → Type 0) (e e' : Ear) (stop : Stop) (l : Listened) → stop ≢ Short → stop ≢ Fault → l ≡ record { count = e'.count; peer = e'.peer; stop = stop } → ((q : Role) → now q → Halts most now' q stop e e')
       → WhereTold (Listening most now r e) a b → WhereTold (Listens most now' r l) a b
-  told_halts now now' e e' stop l other is step h =
+  told_halts now now' e e' stop l other sound is step h =
       subst (λ l. WhereTold (Listens most now' r l) a b) (sym is)
-      (map_told (Listening most now r e) (Listens most now' r (record { count = e'.count; peer = e'.peer; stop = stop })) a b (λ old new. halts most r now now' e e' stop old new (not_short stop other) step) h)
+      (map_told (Listening most now r e) (Listens most now' r (record { count = e'.count; peer = e'.peer; stop = stop })) a b (λ old new. halts most r now now' e e' stop old new (not_short stop other) (not_failed stop sound) step) h)
 
   pub told_short : (now now' : Role → Type 0) (e m : Ear) (l : Listened) (buf : List ℕ) → e.count < most → m ≡ e → ((q : Role) → now q → now' q) → HasFault e.bytes ShortFrame → l ≡ record { count = m.count; peer = m.peer; stop = Short }
       → WhereTold (Listening most now r e) a b → WhereTold (Reads {E = Failed} buf (Ok 0)) b c → WhereTold (Listens most now' r l) a c
@@ -60,8 +60,7 @@ module _ (most : ℕ) (r : Role) (a b c : Option Told) where
   told_fault now now' e m l buf failed few same stands short is h reads =
       subst (λ l. WhereTold (Listens most now' r l) a c) (sym (is ∙ ap (λ (e : Ear). let x : Listened = record { count = e.count; peer = e.peer; stop = Fault } in x) same))
       (then_told (Listening most now r e) (Reads {E = Failed} buf (Err failed)) (Listens most now' r (record { count = e.count; peer = e.peer; stop = Fault })) a b c
-      (λ old mid new k came. subst (λ t. Listens most now' r (record { count = e.count; peer = e.peer; stop = Fault }) old t) (sym came)
-      (ends_fault most r now' e old mid few short (lifted now now' e old mid stands k))) h reads)
+      (λ old mid new k broke. ends_fault most r now' e old mid new few short (lifted now now' e old mid stands k) broke) h reads)
 
   pub told_long : (now : Role → Type 0) (e : Ear) (l : Listened) → most ≤ e.count → l ≡ record { count = e.count; peer = e.peer; stop = Long } → WhereTold (Listening most now r e) a b → WhereTold (Listens most now r l) a b
   told_long now e l full is h =

@@ -1,7 +1,7 @@
 -- What a round is, from what its calls did.
-use Rattle.std.proofs.Common.{inl, inr, ◌≡◌, ℕ, zero, suc, ◌≤◌, Bool, true, false, List, [], ◌∷◌, length, take, Option, Some, None, Ok, Err, refl, sym, ap, subst, ◌∙◌, arith}
+use Rattle.std.proofs.Common.{inl, inr, ◌≡◌, ℕ, zero, suc, ◌≤◌, Bool, true, false, ◌||◌, List, [], ◌∷◌, length, take, Option, Some, None, Ok, Err, refl, sym, ap, subst, ◌∙◌, arith}
 use Rattle.fuxi_io.specs.declared.outside.Failed.{Failed}
-use Rattle.node_door.specs.Doors.{Told, given, taken, on_last, Opens, Writes}
+use Rattle.node_door.specs.Doors.{Told, new_talk, taken, failing, shut, on_last, Opens, Writes, Closes}
 use Rattle.schedule_unit.specs.declared.party.Party.{Party}
 use Rattle.wire_frames.specs.declared.fault.FrameFault.{FrameFault}
 use Rattle.wire_frames.specs.declared.fault.FrameFault.TheVariants.{Short as ShortFrame, Length, Version, Kind, Role as NoRole, Place, Body, OutOfMemory}
@@ -13,7 +13,7 @@ use Rattle.node_rounds.specs.declared.rounds.RoundLine.{RoundLine}
 use Rattle.node_rounds.specs.declared.rounds.RoundLine.TheVariants.{Done, Fault}
 use Rattle.node_rounds.specs.Roles.{Role, turn, IsTurn}
 use Rattle.node_rounds.specs.Hearing.{Hearing, AtEnd, AtOpen, Came, stops, hear_all, IsRest, Gives}
-use Rattle.node_rounds.specs.Listening.{how_of, behind_of, is_short, is_failed, is_ended, Listens, Broken}
+use Rattle.node_rounds.specs.Listening.{how_of, behind_of, is_short, is_failed, is_ended, read_on, broken_by, Listens, Broken}
 use Rattle.node_rounds.specs.Rounds.{line_by, Sending, answer_by, is_fault, is_short_fault, says_short, Takes, TakesOf, Rounds, Breaks}
 use Rattle.node_rounds.proofs.Packets.{no_packet, none_short}
 
@@ -87,6 +87,15 @@ is_end LongStop over = cc
 is_end Short over = cc
 is_end FaultStop over = cc
 
+-- no call failed before
+late_after : (b : Bool) → b ≡ false → b || false ≡ false
+late_after true sound = cc
+late_after false sound = refl
+
+late_twice : (b : Bool) → b ≡ false → (b || false) || (b || false) ≡ false
+late_twice true sound = cc
+late_twice false sound = refl
+
 abbrev pub Opened : Bool → List ℕ → Told → Told → Type 0
 Opened accepts addr = Opens {E = Failed} accepts addr (Ok (record {}))
 
@@ -107,7 +116,7 @@ module _ (most : ℕ) (addr : List ℕ) (r : Role) (first : 1 ≤ most) where
     door = is;
     came = none_came;
     stands = role_none now stands;
-    meets = record { gives = gives_none; says = ap (λ (h : Hearing). line_by true (length (turn r None)) h.count h.how) (nothing_heard most r first); took = inl refl; ended = refl };
+    meets = record { gives = gives_none; says = ap (λ (h : Hearing). line_by true (length (turn r None)) h.count h.how) (nothing_heard most r first); took = inl refl; ended = refl; failed = refl; order = tt; closed = refl };
   }
   missed true now old new failed stands is =
       let h = nothing_heard most r first in
@@ -121,14 +130,17 @@ module _ (most : ℕ) (addr : List ℕ) (r : Role) (first : 1 ≤ most) where
           says = ap (λ (h : Hearing). line_by true (length (turn h.role h.peer)) h.count h.how) h;
           took = subst (λ (h : Hearing). Takes true [] (answer_by h.role h.peer h.how)) (sym h) refl;
           ended = refl;
+          failed = refl;
+          order = tt;
+          closed = refl;
         };
       }
 
-  pub unsent : (now : Role → Type 0) (out : List ℕ) (old mid new : Told) (failed : Failed) → now r → IsTurn r None out → Opened false addr old mid → Writes out (Err failed) mid new
+  pub unsent : (now : Role → Type 0) (out : List ℕ) (old m1 m2 new : Told) (failed : Failed) → now r → IsTurn r None out → Opened false addr old m1 → Writes out (Err failed) m1 m2 → Closes m2 new
       → Rounds false most addr now r Fault old new
-  unsent now out old mid new failed stands made opens writes = record {
-    visit = Some (record { gave = []; took = take writes.0 out; ended = false });
-    door = writes.1 ∙ ap (on_last (taken (take writes.0 out))) opens;
+  unsent now out old m1 m2 new failed stands made opens writes closes = record {
+    visit = Some (shut (failing (taken (take writes.0 out) new_talk)));
+    door = closes ∙ ap (on_last shut) (writes.1 ∙ ap (on_last (λ talk. failing (taken (take writes.0 out) talk))) opens);
     came = none_came;
     stands = role_none now stands;
     meets = record {
@@ -136,17 +148,20 @@ module _ (most : ℕ) (addr : List ℕ) (r : Role) (first : 1 ≤ most) where
       says = ap (λ (h : Hearing). line_by true (length (turn r None)) h.count h.how) (nothing_heard most r first);
       took = inr (record { bytes = out; turn = made; count = writes.0; part = refl });
       ended = refl;
+      failed = refl;
+      order = record { turns = refl; late = refl };
+      closed = refl;
     };
   }
 
   -- what was heard behind a whole turn
-  pub heard_dialed : (now : Role → Type 0) (out : List ℕ) (sent : ℕ) (l : Listened) (line : RoundLine) (old m1 m2 new : Told) → IsTurn r None out → sent ≡ length (turn r None)
-      → line ≡ line_by (is_failed l.stop) sent l.count (how_of l.stop) → Opened false addr old m1 → Wrote out m1 m2 → Listens most now r l m2 new → Rounds false most addr now r line old new
-  heard_dialed now out sent l line old m1 m2 new made count is opens writes h =
+  pub heard_dialed : (now : Role → Type 0) (out : List ℕ) (sent : ℕ) (l : Listened) (line : RoundLine) (old m1 m2 m3 new : Told) → IsTurn r None out → sent ≡ length (turn r None)
+      → line ≡ line_by (is_failed l.stop) sent l.count (how_of l.stop) → Opened false addr old m1 → Wrote out m1 m2 → Listens most now r l m2 m3 → Closes m3 new → Rounds false most addr now r line old new
+  heard_dialed now out sent l line old m1 m2 m3 new made count is opens writes h closes =
       let mark : is_fault line ≡ is_failed l.stop = ap is_fault is ∙ marked sent l.count l.stop in
       record {
-        visit = Some (record { gave = h.bytes; took = out; ended = is_short l.stop });
-        door = h.door ∙ ap (on_last (given h.bytes (is_short l.stop))) (writes ∙ ap (on_last (taken out)) opens);
+        visit = Some (shut (broken_by (is_failed l.stop) (read_on h.reads h.bytes (is_short l.stop) (taken out new_talk))));
+        door = closes ∙ ap (on_last shut) (h.door ∙ ap (on_last (λ talk. broken_by (is_failed l.stop) (read_on h.reads h.bytes (is_short l.stop) talk))) (writes ∙ ap (on_last (taken out)) opens));
         came = record { packets = h.packets; behind = behind_of l.stop };
         stands = subst (λ (h : Hearing). now h.role) (sym h.hears) h.stands;
         meets = record {
@@ -155,24 +170,29 @@ module _ (most : ℕ) (addr : List ℕ) (r : Role) (first : 1 ≤ most) where
               ∙ ap (λ n. line_by (is_failed l.stop) n l.count (how_of l.stop)) (sym count) ∙ sym is;
           took = takes_all (is_fault line) out (record { role = r; peer = None }) made;
           ended = ap says_short is ∙ short_said h.gives.left sent l.count l.stop h.gives.rest;
+          failed = mark;
+          order = record { turns = refl; late = refl };
+          closed = refl;
         };
       }
 
   pub cut_dialed : (out : List ℕ) (old m1 m2 new : Told) → IsTurn r None out → Opened false addr old m1 → Wrote out m1 m2 → Broken m2 new → Breaks false addr r old new
   cut_dialed out old m1 m2 new made opens writes b = inr (record {
-    visit = Some (record { gave = b.bytes; took = out; ended = false });
-    door = b.door ∙ ap (on_last (given b.bytes false)) (writes ∙ ap (on_last (taken out)) opens);
+    visit = Some (read_on b.reads b.bytes false (taken out new_talk));
+    door = b.door ∙ ap (on_last (read_on b.reads b.bytes false)) (writes ∙ ap (on_last (taken out)) opens);
     took = takes_all true out (record { role = r; peer = None }) made;
+    sound = refl;
+    order = record { turns = refl; late = refl };
   })
 
   -- what was heard of a connection that was accepted, where no End packet came
-  pub heard_served : (now : Role → Type 0) (sent : ℕ) (l : Listened) (line : RoundLine) (old mid new : Told) → is_ended l.stop ≡ false
-      → line ≡ line_by (is_failed l.stop) sent l.count (how_of l.stop) → Opened true addr old mid → Listens most now r l mid new → Rounds true most addr now r line old new
-  heard_served now sent l line old mid new more is opens h =
+  pub heard_served : (now : Role → Type 0) (sent : ℕ) (l : Listened) (line : RoundLine) (old m1 m2 new : Told) → is_ended l.stop ≡ false
+      → line ≡ line_by (is_failed l.stop) sent l.count (how_of l.stop) → Opened true addr old m1 → Listens most now r l m1 m2 → Closes m2 new → Rounds true most addr now r line old new
+  heard_served now sent l line old m1 m2 new more is opens h closes =
       let mark : is_fault line ≡ is_failed l.stop = ap is_fault is ∙ marked sent l.count l.stop in
       record {
-        visit = Some (record { gave = h.bytes; took = []; ended = is_short l.stop });
-        door = h.door ∙ ap (on_last (given h.bytes (is_short l.stop))) opens;
+        visit = Some (shut (broken_by (is_failed l.stop) (read_on h.reads h.bytes (is_short l.stop) new_talk)));
+        door = closes ∙ ap (on_last shut) (h.door ∙ ap (on_last (λ talk. broken_by (is_failed l.stop) (read_on h.reads h.bytes (is_short l.stop) talk))) opens);
         came = record { packets = h.packets; behind = behind_of l.stop };
         stands = subst (λ (h : Hearing). now h.role) (sym h.hears) h.stands;
         meets = record {
@@ -181,6 +201,9 @@ module _ (most : ℕ) (addr : List ℕ) (r : Role) (first : 1 ≤ most) where
               ∙ sent_free (is_failed l.stop) (length (turn h.role l.peer)) sent l.count l.stop more ∙ sym is;
           took = subst (λ (g : Hearing). Takes (is_fault line) [] (answer_by g.role g.peer g.how)) (sym h.hears) (subst (Takes (is_fault line) []) (no_answer h.role l.peer l.stop more) refl);
           ended = ap says_short is ∙ short_said h.gives.left sent l.count l.stop h.gives.rest;
+          failed = mark;
+          order = record { turns = refl; late = refl };
+          closed = refl;
         };
       }
 
@@ -189,14 +212,14 @@ module _ (most : ℕ) (addr : List ℕ) (r : Role) (first : 1 ≤ most) where
   ends now l old new h over = h.hears ∙ ap (λ s. stops h.role l.peer l.count (how_of s)) (is_end l.stop over)
 
   -- what was heard to an End packet, and answered
-  pub answered : (now later : Role → Type 0) (out : List ℕ) (sent : ℕ) (l : Listened) (old m1 m2 new : Told) → is_ended l.stop ≡ true → ((q : Role) → now q → later q)
+  pub answered : (now later : Role → Type 0) (out : List ℕ) (sent : ℕ) (l : Listened) (old m1 m2 m3 new : Told) → is_ended l.stop ≡ true → ((q : Role) → now q → later q)
       → ((q : Role) → now q → IsTurn q l.peer out) → ((q : Role) → now q → sent ≡ length (turn q l.peer))
-      → Opened true addr old m1 → Listens most now r l m1 m2 → Wrote out m2 new → Rounds true most addr later r (Done l.count sent) old new
-  answered now later out sent l old m1 m2 new over keeps made count opens h writes =
+      → Opened true addr old m1 → Listens most now r l m1 m2 → Wrote out m2 m3 → Closes m3 new → Rounds true most addr later r (Done l.count sent) old new
+  answered now later out sent l old m1 m2 m3 new over keeps made count opens h writes closes =
       let hears = ends now l m1 m2 h over in
       record {
-        visit = Some (record { gave = h.bytes; took = out; ended = is_short l.stop });
-        door = writes ∙ ap (on_last (taken out)) (h.door ∙ ap (on_last (given h.bytes (is_short l.stop))) opens);
+        visit = Some (shut (taken out (broken_by (is_failed l.stop) (read_on h.reads h.bytes (is_short l.stop) new_talk))));
+        door = closes ∙ ap (on_last shut) (writes ∙ ap (on_last (taken out)) (h.door ∙ ap (on_last (λ talk. broken_by (is_failed l.stop) (read_on h.reads h.bytes (is_short l.stop) talk))) opens));
         came = record { packets = h.packets; behind = behind_of l.stop };
         stands = subst (λ (h : Hearing). later h.role) (sym hears) (keeps h.role h.stands);
         meets = record {
@@ -204,17 +227,20 @@ module _ (most : ℕ) (addr : List ℕ) (r : Role) (first : 1 ≤ most) where
           says = ap (λ (g : Hearing). line_by false (length (turn g.role g.peer)) g.count g.how) hears ∙ ap (λ n. Done l.count n) (sym (count h.role h.stands));
           took = subst (λ (g : Hearing). Takes false out (answer_by g.role g.peer g.how)) (sym hears) (made h.role h.stands);
           ended = sym (ap is_short (is_end l.stop over));
+          failed = sym (ap is_failed (is_end l.stop over));
+          order = record { turns = refl; late = late_after (is_failed l.stop) (ap is_failed (is_end l.stop over)) };
+          closed = refl;
         };
       }
 
   -- the same where the answer failed
-  pub unanswered : (now later : Role → Type 0) (out : List ℕ) (l : Listened) (old m1 m2 new : Told) (failed : Failed) → is_ended l.stop ≡ true → ((q : Role) → now q → later q)
-      → ((q : Role) → now q → IsTurn q l.peer out) → Opened true addr old m1 → Listens most now r l m1 m2 → Writes out (Err failed) m2 new → Rounds true most addr later r Fault old new
-  unanswered now later out l old m1 m2 new failed over keeps made opens h writes =
+  pub unanswered : (now later : Role → Type 0) (out : List ℕ) (l : Listened) (old m1 m2 m3 new : Told) (failed : Failed) → is_ended l.stop ≡ true → ((q : Role) → now q → later q)
+      → ((q : Role) → now q → IsTurn q l.peer out) → Opened true addr old m1 → Listens most now r l m1 m2 → Writes out (Err failed) m2 m3 → Closes m3 new → Rounds true most addr later r Fault old new
+  unanswered now later out l old m1 m2 m3 new failed over keeps made opens h writes closes =
       let hears = ends now l m1 m2 h over in
       record {
-        visit = Some (record { gave = h.bytes; took = take writes.0 out; ended = is_short l.stop });
-        door = writes.1 ∙ ap (on_last (taken (take writes.0 out))) (h.door ∙ ap (on_last (given h.bytes (is_short l.stop))) opens);
+        visit = Some (shut (failing (taken (take writes.0 out) (broken_by (is_failed l.stop) (read_on h.reads h.bytes (is_short l.stop) new_talk)))));
+        door = closes ∙ ap (on_last shut) (writes.1 ∙ ap (on_last (λ talk. failing (taken (take writes.0 out) talk))) (h.door ∙ ap (on_last (λ talk. broken_by (is_failed l.stop) (read_on h.reads h.bytes (is_short l.stop) talk))) opens));
         came = record { packets = h.packets; behind = behind_of l.stop };
         stands = subst (λ (h : Hearing). later h.role) (sym hears) (keeps h.role h.stands);
         meets = record {
@@ -222,12 +248,21 @@ module _ (most : ℕ) (addr : List ℕ) (r : Role) (first : 1 ≤ most) where
           says = ap (λ (g : Hearing). line_by true (length (turn g.role g.peer)) g.count g.how) hears;
           took = subst (λ (g : Hearing). Takes true (take writes.0 out) (answer_by g.role g.peer g.how)) (sym hears) (inr (record { bytes = out; turn = made h.role h.stands; count = writes.0; part = refl }));
           ended = sym (ap is_short (is_end l.stop over));
+          failed = refl;
+          order = record { turns = refl; late = late_twice (is_failed l.stop) (ap is_failed (is_end l.stop over)) };
+          closed = refl;
         };
       }
 
   pub cut_served : (old mid new : Told) → Opened true addr old mid → Broken mid new → Breaks true addr r old new
-  cut_served old mid new opens b = inr (record { visit = Some (record { gave = b.bytes; took = []; ended = false }); door = b.door ∙ ap (on_last (given b.bytes false)) opens; took = refl })
+  cut_served old mid new opens b = inr (record { visit = Some (read_on b.reads b.bytes false new_talk); door = b.door ∙ ap (on_last (read_on b.reads b.bytes false)) opens; took = refl; sound = refl; order = record { turns = refl; late = refl } })
 
-  pub cut_unanswered : (now : Role → Type 0) (l : Listened) (old mid new : Told) → Opened true addr old mid → Listens most now r l mid new → Breaks true addr r old new
-  cut_unanswered now l old mid new opens h =
-      inr (record { visit = Some (record { gave = h.bytes; took = []; ended = is_short l.stop }); door = h.door ∙ ap (on_last (given h.bytes (is_short l.stop))) opens; took = refl })
+  pub cut_unanswered : (now : Role → Type 0) (l : Listened) (old mid new : Told) → is_ended l.stop ≡ true → Opened true addr old mid → Listens most now r l mid new → Breaks true addr r old new
+  cut_unanswered now l old mid new over opens h =
+      inr (record {
+        visit = Some (broken_by (is_failed l.stop) (read_on h.reads h.bytes (is_short l.stop) new_talk));
+        door = h.door ∙ ap (on_last (λ talk. broken_by (is_failed l.stop) (read_on h.reads h.bytes (is_short l.stop) talk))) opens;
+        took = refl;
+        sound = ap is_failed (is_end l.stop over);
+        order = record { turns = refl; late = refl };
+      })

@@ -1,6 +1,7 @@
 -- How far the hearing of a connection has come.
-use Rattle.std.specs.Prelude.{◌≡◌, ℕ, ◌-◌, Bool, true, false, List, [], ◌∷◌, ◌++◌, drop, Option, Some, None}
-use Rattle.node_door.specs.Doors.{Told, given, on_last}
+use Rattle.std.specs.Prelude.{◌≡◌, ℕ, ◌-◌, Bool, true, false, ◌||◌, ◌&&◌, List, [], ◌∷◌, ◌++◌, drop, Option, Some, None}
+use Rattle.node_door.specs.Doors.{Talk, Told, on_last}
+use Rattle.node_door.specs.declared.order.Order.{Order}
 use Rattle.schedule_unit.specs.declared.party.Party.{Party}
 use Rattle.party_ledgers.specs.declared.packets.Packet.{Packet}
 use Rattle.wire_frames.specs.declared.fault.FrameFault.{FrameFault}
@@ -14,6 +15,37 @@ use Rattle.node_rounds.specs.declared.listening.Stop.TheVariants.{Ended, Wrong, 
 use Rattle.node_rounds.specs.declared.listening.Listened.{Listened}
 use Rattle.node_rounds.specs.declared.listening.Step.{Step}
 use Rattle.node_rounds.specs.declared.listening.Step.TheVariants.{Heard, Nothing, Stopped}
+
+-- a connection was read, or it was not
+abbrev pub order_on : Bool → Order → Order
+order_on reads o = record {
+  read = o.read || reads;
+  written = o.written;
+  asked = o.asked || (o.written && reads);
+  answered = o.answered;
+  failed = o.failed;
+  closed = o.closed;
+  late = o.late || ((o.failed || o.closed) && reads);
+}
+
+-- a call on it failed, or none did
+abbrev pub order_broken : Bool → Order → Order
+order_broken fails o = record {
+  read = o.read;
+  written = o.written;
+  asked = o.asked;
+  answered = o.answered;
+  failed = o.failed || fails;
+  closed = o.closed;
+  late = o.late || ((o.failed || o.closed) && fails);
+}
+
+-- reads gave these bytes of it, and perhaps its end; or it was not read
+abbrev pub read_on : Bool → List ℕ → Bool → Talk → Talk
+read_on reads bytes ended talk = record { gave = talk.gave ++ bytes; took = talk.took; ended = talk.ended || ended; order = order_on reads talk.order }
+
+abbrev pub broken_by : Bool → Talk → Talk
+broken_by fails talk = record { gave = talk.gave; took = talk.took; ended = talk.ended; order = order_broken fails talk.order }
 
 -- the bytes that wait, how many packets without End were heard, the sender of the last one, and the fault at which the stream stays
 pub record Ear : Type 0 where
@@ -110,8 +142,9 @@ Steps most now r (Stopped stop) old new = Halts most now r stop old new
 
 -- of a connection these bytes came so far, and their hearing is the hearing from here on
 pub record Listening (most : ℕ) (now : Role → Type 0) (r : Role) (e : Ear) (old new : Told) : Type 0 where
+  pub reads : Bool
   pub bytes : List ℕ
-  pub door : new ≡ on_last (given bytes false) old
+  pub door : new ≡ on_last (read_on reads bytes false) old
   pub packets : List Packet
   pub splits : Splits bytes packets e.bytes
   pub role : Role
@@ -121,8 +154,9 @@ pub record Listening (most : ℕ) (now : Role → Type 0) (r : Role) (e : Ear) (
 
 -- of a connection these bytes came, and what was heard is what they say
 pub record Listens (most : ℕ) (now : Role → Type 0) (r : Role) (l : Listened) (old new : Told) : Type 0 where
+  pub reads : Bool
   pub bytes : List ℕ
-  pub door : new ≡ on_last (given bytes (is_short l.stop)) old
+  pub door : new ≡ on_last (λ talk. broken_by (is_failed l.stop) (read_on reads bytes (is_short l.stop) talk)) old
   pub packets : List Packet
   pub gives : Gives bytes packets (how_of l.stop)
   pub role : Role
@@ -131,5 +165,6 @@ pub record Listens (most : ℕ) (now : Role → Type 0) (r : Role) (l : Listened
 
 -- the same where memory lacked
 pub record Broken (old new : Told) : Type 0 where
+  pub reads : Bool
   pub bytes : List ℕ
-  pub door : new ≡ on_last (given bytes false) old
+  pub door : new ≡ on_last (read_on reads bytes false) old

@@ -1,6 +1,7 @@
 -- One round of a node: of one that dials, and of one that accepts.
-use Rattle.std.specs.Prelude.{◌≡◌, ◌⊎◌, ℕ, ◌+◌, Bool, true, false, cond, List, [], ◌∷◌, length, take, Option, Some, None}
+use Rattle.std.specs.Prelude.{◌≡◌, ◌⊎◌, ℕ, ◌+◌, Bool, true, false, cond, List, [], ◌∷◌, length, take, Option, Some, None, ⊤}
 use Rattle.node_door.specs.Doors.{Talk, Told, knocked}
+use Rattle.node_door.specs.declared.order.Order.{Order}
 use Rattle.schedule_unit.specs.declared.party.Party.{Party}
 use Rattle.wire_frames.specs.declared.fault.FrameFault.{FrameFault}
 use Rattle.wire_frames.specs.declared.fault.FrameFault.TheVariants.{Short, Length, Version, Kind, Role as NoRole, Place, Body, OutOfMemory}
@@ -92,6 +93,24 @@ abbrev pub ended_in : Option Talk → Bool
 ended_in None = false
 ended_in (Some talk) = talk.ended
 
+-- where no connection came, the call failed that was to open one
+abbrev pub failed_in : Option Talk → Bool
+failed_in None = true
+failed_in (Some talk) = talk.order.failed
+
+abbrev pub closed_in : Option Talk → Bool
+closed_in None = true
+closed_in (Some talk) = talk.order.closed
+
+-- Who dials speaks before it hears, who accepts hears before it speaks, and behind a call that failed, and behind its end, the connection is left alone
+pub record InOrder (accepts : Bool) (o : Order) : Type 0 where
+  pub turns : cond accepts o.asked o.answered ≡ false
+  pub late : o.late ≡ false
+
+abbrev pub WentInOrder : Bool → Option Talk → Type 0
+WentInOrder accepts None = ⊤
+WentInOrder accepts (Some talk) = InOrder accepts talk.order
+
 -- some bytes from the front of a turn
 pub record TakesPart (took : List ℕ) (s : Sending) : Type 0 where
   pub bytes : List ℕ
@@ -108,12 +127,16 @@ abbrev pub Takes : Bool → List ℕ → Option Sending → Type 0
 Takes mark took None = took ≡ []
 Takes mark took (Some s) = TakesOf mark took s
 
--- what a visit and a line have to do with the round of a party
+-- What a visit and a line have to do with the round of a party. The line is that of a fault exactly where a call of the door failed before the connection was
+-- closed, and it is closed then.
 pub record Meets (accepts : Bool) (most : ℕ) (r : Role) (came : Came) (visit : Option Talk) (line : RoundLine) : Type 0 where
   pub gives : Gives (gave_in visit) came.packets (hear_all most r came).how
   pub says : (rounded accepts most r came (is_fault line)).line ≡ line
   pub took : Takes (is_fault line) (took_in visit) (rounded accepts most r came (is_fault line)).out
   pub ended : says_short line ≡ ended_in visit
+  pub failed : is_fault line ≡ failed_in visit
+  pub order : WentInOrder accepts visit
+  pub closed : closed_in visit ≡ true
 
 -- a round with this line
 pub record Rounds (accepts : Bool) (most : ℕ) (addr : List ℕ) (now : Role → Type 0) (r : Role) (line : RoundLine) (old new : Told) : Type 0 where
@@ -128,11 +151,13 @@ abbrev pub cut_out : Bool → Role → Option Sending
 cut_out false r = Some (record { role = r; peer = None })
 cut_out true r = None
 
--- a round in which memory lacked
+-- a round in which memory lacked, and no call failed: its connection may be open
 pub record Cut (accepts : Bool) (addr : List ℕ) (r : Role) (old new : Told) : Type 0 where
   pub visit : Option Talk
   pub door : new ≡ visited accepts addr visit old
   pub took : Takes true (took_in visit) (cut_out accepts r)
+  pub sound : failed_in visit ≡ false
+  pub order : WentInOrder accepts visit
 
 -- it was not begun, or it was cut
 abbrev pub Breaks : Bool → List ℕ → Role → Told → Told → Type 0

@@ -1,7 +1,7 @@
 ghost use Rattle.std.specs.Prelude.{◌≡◌, ◌+◌, ◌^◌, ◌<◌, ◌≤◌, true, false, length, IfOk, OnErr, None};
 ghost use Rattle.fuxi_io.specs.Causes.{Rose};
 ghost use Rattle.fuxi_terms.specs.Limits.{most_frames, most_steps};
-ghost use Rattle.node_door.specs.Doors.{WhereTold};
+ghost use Rattle.node_door.specs.Doors.{Closes, WhereTold};
 ghost use Rattle.node_rounds.specs.Roles.{Role, may_send, Keeps};
 ghost use Rattle.node_rounds.specs.Listening.{how_of, is_failed};
 ghost use Rattle.node_rounds.specs.Rounds.{Rounds, Breaks, line_by};
@@ -47,7 +47,7 @@ fn line_of(listened: Listened, sent: u64) -> RoundLine
 
 // Closes the connection; that it fails changes nothing.
 fn shut<N: Door>(door: &mut N)
-    ensures told { N.told door.new ≡ N.told door.old }
+    ensures told { WhereTold Closes (N.told door.old) (N.told door.new) }
     ensures later { N.faults door.old ≤ N.faults door.new }
 {
     match door.close() {

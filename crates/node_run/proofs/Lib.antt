@@ -5,3 +5,4 @@ pub mod Going
 pub mod Lifting
 pub mod Endings
 pub mod Resting
+pub mod Placing

@@ -14,7 +14,7 @@ use Rattle.node_rounds.specs.Rounds.{Breaks}
 use Rattle.node_party.specs.Commands.{accepts}
 use Rattle.node_party.specs.Halts.{FitsEither}
 use Rattle.node_run.specs.declared.taking.DiskFailed.{DiskFailed}
-use Rattle.node_run.specs.Runs.{Node, Run, Ending, AtEnd, AtBadLine, AtLimit, role_run, pieces}
+use Rattle.node_run.specs.Runs.{Node, Run, Ending, AtEnd, AtBadLine, AtLimit, role_run, ending_from, pieces}
 use Rattle.node_run.specs.Visits.{Visit, rounds_of, played_of, WasAt}
 
 -- the input before a node's lines: so many lines, and what the source and the sink have
@@ -116,6 +116,33 @@ IsRunStatus Usage = ⊥
 IsRunStatus DiskFault = ⊥
 IsRunStatus (StaleEpoch fence) = ⊥
 IsRunStatus (DamagedCheckpoint offset) = ⊥
+
+-- What a status says of where the lines end, and of what the source has left: a whole input, the first bad line, the limit on lines. The other statuses
+-- come at any line.
+abbrev pub EndsBy : Ending → Status → Option (List ℕ) → Type 0
+EndsBy ending Done left = (ending ≡ AtEnd) × (left ≡ Some [])
+EndsBy ending (BadInput line fault) left = ending ≡ AtBadLine line fault
+EndsBy ending (Limit Lines kept) left = ending ≡ AtLimit kept
+EndsBy ending (Limit Packets kept) left = ⊥
+EndsBy ending (Limit Bytes kept) left = ⊥
+EndsBy ending (Limit Calls kept) left = ⊥
+EndsBy ending (Limit Records kept) left = ⊤
+EndsBy ending ReadFault left = ⊤
+EndsBy ending WriteFault left = ⊤
+EndsBy ending OutOfMemory left = ⊤
+EndsBy ending Usage left = ⊤
+EndsBy ending DiskFault left = ⊤
+EndsBy ending (StaleEpoch fence) left = ⊤
+EndsBy ending (DamagedCheckpoint offset) left = ⊤
+
+-- the same of a run, whose disk may have failed
+abbrev pub RunEndsBy : Ending → Result Status DiskFailed → Option (List ℕ) → Type 0
+RunEndsBy ending (Ok status) left = EndsBy ending status left
+RunEndsBy ending (Err failed) left = ⊤
+
+-- so many lines having gone before
+abbrev pub EndsByLines : ℕ → List ℕ → Result Status DiskFailed → Option (List ℕ) → Type 0
+EndsByLines first bytes result left = RunEndsBy (ending_from first (lines_of bytes)) result left
 
 -- a node of this party that took no event yet, so many lines having gone before
 abbrev pub start_of : ℕ → List ℕ → ℕ → Role → Start

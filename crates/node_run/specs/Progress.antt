@@ -1,5 +1,5 @@
 -- How far a node's run has come, and what taking one line does.
-use Rattle.std.specs.Prelude.{◌≡◌, ℕ, ◌≤◌, Bool, List, [], ◌++◌, Option, Some, Result, Ok, Err, ⊤}
+use Rattle.std.specs.Prelude.{◌≡◌, ℕ, ◌≤◌, Bool, false, List, [], ◌++◌, Option, Some, Result, Ok, Err, ⊤}
 use Rattle.std.specs.Io.KnownBytes.{Appends}
 use Rattle.std.specs.List.{concat}
 use Rattle.fuxi_io.specs.Causes.{TakesPart}
@@ -18,7 +18,7 @@ use Rattle.node_party.specs.declared.line.NodeLine.{NodeLine}
 use Rattle.node_party.specs.Commands.{accepts}
 use Rattle.node_run.specs.declared.taking.Stop.{Stop}
 use Rattle.node_run.specs.declared.taking.Stop.TheVariants.{Ends, Disk}
-use Rattle.node_run.specs.Runs.{Node, Round, Played, Run, then_is, behind, takes, role_run, role_after}
+use Rattle.node_run.specs.Runs.{Node, Round, Played, Run, then_is, behind, takes, role_run, role_after, ending_from}
 use Rattle.node_run.specs.Visits.{Visit, rounds_of, played_of, WasAt}
 use Rattle.node_run.specs.Ends.{Start, FromRest}
 
@@ -89,6 +89,11 @@ pub record IsNone (what : Result NodeLine LineFault) (fault : InputFault) : Type
   pub is : what ≡ Err why
   pub same : fault ≡ event_fault why
 
+-- it is the line of a node
+abbrev pub IsSaid : Result NodeLine LineFault → Type 0
+IsSaid (Ok said) = ⊤
+IsSaid (Err fault) = ⊥
+
 -- what taking the line with this number did, which is not skipped and says this
 abbrev pub TakesLine : {C : Type 0} → (C → Role → Type 0) → (Role → Type 0) → (Role → Role → Type 0) → ℕ → List ℕ → Node → Result NodeLine LineFault → ℕ → Result C Stop → Option (List ℕ) → Option (List ℕ) → ℕ → ℕ → Told → Told → Type 0
 TakesLine stands Fits FitsOne most addr n what number (Ok core) w0 w before after old new = Taken most addr n number what (stands core) (Appends w0 w) before after old new
@@ -111,6 +116,19 @@ TakesCounted {C} stands Fits FitsOne most addr n what number result w0 w before 
 -- of a disk that tells its moments, what a party needs of them is kept
 abbrev pub KeepsTold : {C : Type 0} → (C → ℕ → Option Moments → Type 0) → C → ℕ → C → ℕ → Option Moments → Option Moments → Type 0
 KeepsTold rests core size after size' old new = FromRest rests core size (λ now. rests after size' (Some now)) old new
+
+-- its last line behind it, a node is done, or its state could not be written, or memory lacks
+abbrev pub IsLastStatus : Status → Type 0
+IsLastStatus Done = ⊤
+IsLastStatus WriteFault = ⊤
+IsLastStatus OutOfMemory = ⊤
+IsLastStatus (BadInput line fault) = ⊥
+IsLastStatus Usage = ⊥
+IsLastStatus ReadFault = ⊥
+IsLastStatus (Limit what kept) = ⊥
+IsLastStatus DiskFault = ⊥
+IsLastStatus (StaleEpoch fence) = ⊥
+IsLastStatus (DamagedCheckpoint offset) = ⊥
 
 -- writing ends a node only where it could not be written or where memory lacks
 abbrev pub IsWriteStop : Status → Type 0
@@ -157,3 +175,10 @@ pub record Along (s : Start) (bytes : List ℕ) (number : ℕ) (ended : Bool) (e
   pub stands : now role
   pub through : (rounds : List Round) (more : List InputLine)
       → role_run s.most s.first s.node (rounds_of visits ++ rounds) (lines ++ more) ≡ behind_all front (played_of visits) (role_run s.most number (record { role = role; events = events }) rounds more)
+
+-- of the bytes of an input: the lines taken end no run, and these bytes are left, so many lines having gone before
+pub record Reaches (first : ℕ) (bytes : List ℕ) (number : ℕ) (ended : Bool) (rest : Option (List ℕ)) : Type 0 where
+  pub left : List ℕ
+  pub is_left : rest ≡ Some left
+  pub same : ending_from first (lines_of bytes) ≡ ending_from number (lines_of left)
+  pub last : ended ≡ false → left ≡ []

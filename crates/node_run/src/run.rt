@@ -11,11 +11,11 @@ ghost use Rattle.node_rounds.specs.Roles.{Role};
 ghost use Rattle.node_party.specs.Lines.{node_line};
 ghost use Rattle.node_party.specs.Texts.{state_text};
 ghost use Rattle.node_run.specs.Runs.{Node as WrittenNode};
-ghost use Rattle.node_run.specs.Ends.{Ended, FitsNow, FitsOneNow, IsRunStatus, start_of};
-ghost use Rattle.node_run.specs.Progress.{WritesEnd, TakesCounted, KeepsTold, IsLineStop};
+ghost use Rattle.node_run.specs.Ends.{Ended, EndsByLines, FitsNow, FitsOneNow, IsRunStatus, start_of};
+ghost use Rattle.node_run.specs.Progress.{WritesEnd, TakesCounted, KeepsTold, IsLastStatus, IsLineStop, IsNone, IsSaid};
 
 use crate::taking::{DiskFailed, Stop, take_line, write_state};
-use fuxi_io::{Disk, Got, LimitOf, LineReader, LineStop, Sink, Source, Status};
+use fuxi_io::{Disk, Got, InputFault, LimitOf, LineReader, LineStop, Sink, Source, Status};
 use input_lines::{content, is_skipped, lines_are_taken, stop_status};
 use node_door::Door;
 use node_party::Node;
@@ -47,6 +47,8 @@ fn take_any<C: Node, O: Sink, N: Door, D: Disk>(
     ensures later { O.faults out.old ≤ O.faults out.new }
     ensures fault { result ≡ Err (Stop.Ends Status.WriteFault) → Rose (O.faults out.old) (O.faults out.new) }
     ensures ends { IfErr result IsLineStop }
+    ensures good { is_skipped line.now ≡ false → IfOk result (λ a. IsSaid (node_line line.now)) }
+    ensures bad { (at : ℕ) (fault : InputFault) → result ≡ Err (Stop.Ends (Status.BadInput at fault)) → (at ≡ number) × IsNone (node_line line.now) fault }
     ensures rests { IfOk result (λ a. C.rests a.0 (D.size disk.new) None) }
     ensures told { IfOk result (λ a. KeepsTold C.rests core (D.size disk.old) a.0 (D.size disk.new) (D.told disk.old) (D.told disk.new)) }
     ensures disk { D.faults disk.old ≤ D.faults disk.new }
@@ -66,6 +68,7 @@ fn end_node<C: Node, O: Sink>(alloc: Global, core: &C, events: u64, out: &mut O)
     ensures writes { (r : Role) → C.stands core.now r → WritesEnd (state_text events r) result (O.took out.old) (O.took out.new) }
     ensures fault { result ≡ Status.WriteFault → Rose (O.faults out.old) (O.faults out.new) }
     ensures own { IsRunStatus result }
+    ensures last { IsLastStatus result }
     ensures read { result ≢ Status.ReadFault }
     ensures limit { (what : LimitOf) (kept : ℕ) → result ≢ Status.Limit what kept }
     ensures later { O.faults out.old ≤ O.faults out.new }
@@ -97,6 +100,8 @@ pub fn run_node<C: Node, S: Source, O: Sink, N: Door, D: Disk>(
     requires rests { C.rests core (D.size disk.old) None }
     // What was written and what the door has been through, by the status. It is said of each party that the core stands for, of bytes that are known, and of a door that tells; of the disk, where it tells its moments.
     ensures ended { IsReady lines.old (S.left source.old) → (r : Role) → C.stands core r → IfSome (rest_of lines.old (S.left source.old)) (λ bytes. WhereTold (Ended (FitsNow C.rests C.fits core (D.size disk.old) (D.told disk.old) (D.told disk.new)) (FitsOneNow C.rests C.fits C.halts core (D.size disk.old) (D.told disk.old) (D.told disk.new)) (start_of most_frames addr.now lines.old.number r) bytes result (S.left source.new) (O.took out.old) (O.took out.new) (N.faults door.old) (N.faults door.new)) (N.told door.old) (N.told door.new)) }
+    // Where the lines end, by the status. It is said over any door.
+    ensures places { IsReady lines.old (S.left source.old) → IfSome (rest_of lines.old (S.left source.old)) (λ bytes. EndsByLines lines.old.number bytes result (S.left source.new)) }
     ensures unread { lines.old.ended ≡ false → result ≢ Ok Status.ReadFault }
     ensures read { result ≡ Ok Status.ReadFault → Rose (S.faults source.old) (S.faults source.new) }
     ensures write { result ≡ Ok Status.WriteFault → Rose (O.faults out.old) (O.faults out.new) }

@@ -14,9 +14,9 @@ ghost use Rattle.node_party.specs.Lines.{node_line};
 ghost use Rattle.node_party.specs.Texts.{answer_text, as_answer, state_text};
 ghost use Rattle.node_run.specs.Runs.{Node as WrittenNode};
 ghost use Rattle.node_run.specs.Ends.{FitsNow, FitsOneNow};
-ghost use Rattle.node_run.specs.Progress.{WritesText, TakesQuietly, TakesLine, KeepsTold, IsLineStop, IsWriteStop};
+ghost use Rattle.node_run.specs.Progress.{WritesText, TakesQuietly, TakesLine, KeepsTold, IsLineStop, IsNone, IsSaid, IsWriteStop};
 
-use fuxi_io::{Disk, Sink, Status, write_all_of};
+use fuxi_io::{Disk, InputFault, Sink, Status, write_all_of};
 use fuxi_terms::OutOfMemory;
 use input_lines::event_status;
 use node_door::Door;
@@ -98,6 +98,7 @@ fn take_event<C: Node, O: Sink, D: Disk>(
     ensures later { O.faults out.old ≤ O.faults out.new }
     ensures fault { result ≡ Err (Stop.Ends Status.WriteFault) → Rose (O.faults out.old) (O.faults out.new) }
     ensures ends { IfErr result IsLineStop }
+    ensures unsaid { (at : ℕ) (fault : InputFault) → result ≢ Err (Stop.Ends (Status.BadInput at fault)) }
     ensures rests { IfOk result (λ after. C.rests after (D.size disk.new) None) }
     ensures told { IfOk result (λ after. KeepsTold C.rests core (D.size disk.old) after (D.size disk.new) (D.told disk.old) (D.told disk.new)) }
     ensures disk { D.faults disk.old ≤ D.faults disk.new }
@@ -122,6 +123,7 @@ fn take_show<C: Node, O: Sink>(alloc: Global, core: C, events: u64, out: &mut O)
     ensures later { O.faults out.old ≤ O.faults out.new }
     ensures fault { result ≡ Err (Stop.Ends Status.WriteFault) → Rose (O.faults out.old) (O.faults out.new) }
     ensures ends { IfErr result IsLineStop }
+    ensures unsaid { (at : ℕ) (fault : InputFault) → result ≢ Err (Stop.Ends (Status.BadInput at fault)) }
     ensures rests { IfOk result (λ after. Keeps (C.rests core) (C.rests after)) }
     ensures disk { result ≢ Err Stop.Disk }
 {
@@ -170,6 +172,7 @@ fn take_round<C: Node, O: Sink, N: Door>(
     ensures later { O.faults out.old ≤ O.faults out.new }
     ensures fault { result ≡ Err (Stop.Ends Status.WriteFault) → Rose (O.faults out.old) (O.faults out.new) }
     ensures ends { IfErr result IsLineStop }
+    ensures unsaid { (at : ℕ) (fault : InputFault) → result ≢ Err (Stop.Ends (Status.BadInput at fault)) }
     ensures rests { IfOk result (λ after. Keeps (C.rests core) (C.rests after)) }
     ensures disk { result ≢ Err Stop.Disk }
 {
@@ -200,6 +203,7 @@ fn take_meeting<C: Node, O: Sink, N: Door>(
     ensures later { O.faults out.old ≤ O.faults out.new }
     ensures fault { result ≡ Err (Stop.Ends Status.WriteFault) → Rose (O.faults out.old) (O.faults out.new) }
     ensures ends { IfErr result IsLineStop }
+    ensures unsaid { (at : ℕ) (fault : InputFault) → result ≢ Err (Stop.Ends (Status.BadInput at fault)) }
     ensures rests { IfOk result (λ after. Keeps (C.rests core) (C.rests after)) }
     ensures disk { result ≢ Err Stop.Disk }
 {
@@ -234,6 +238,9 @@ pub(crate) fn take_line<C: Node, O: Sink, N: Door, D: Disk>(
     ensures later { O.faults out.old ≤ O.faults out.new }
     ensures fault { result ≡ Err (Stop.Ends Status.WriteFault) → Rose (O.faults out.old) (O.faults out.new) }
     ensures ends { IfErr result IsLineStop }
+    // Whether it is the line of a node, whatever the door tells.
+    ensures good { IfOk result (λ after. IsSaid (node_line line.now)) }
+    ensures bad { (at : ℕ) (fault : InputFault) → result ≡ Err (Stop.Ends (Status.BadInput at fault)) → (at ≡ number) × IsNone (node_line line.now) fault }
     ensures rests { IfOk result (λ after. C.rests after (D.size disk.new) None) }
     ensures told { IfOk result (λ after. KeepsTold C.rests core (D.size disk.old) after (D.size disk.new) (D.told disk.old) (D.told disk.new)) }
     ensures disk { D.faults disk.old ≤ D.faults disk.new }

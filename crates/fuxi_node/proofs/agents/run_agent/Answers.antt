@@ -5,7 +5,7 @@ use Rattle.written_roles.specs.Agents.{new_agent}
 use Rattle.node_rounds.specs.Roles.{OfAgent}
 use Rattle.agent_node.specs.Standing.{StandsAs}
 use Rattle.fuxi_node.specs.Starts.{agent_start}
-use Rattle.fuxi_node.proofs.Starting.{nothing_taken, has_is}
+use Rattle.fuxi_node.proofs.Starting.{nothing_placed, nothing_taken, has_is}
 use Rattle.fuxi_node.proofs.agents.run_agent.Goals as goal
 
 pub returns-in-Ok-run_node-clause-ended : goal.returns-in-Ok-run_node-clause-ended
@@ -17,3 +17,6 @@ returns-in-Ok-run_node-clause-ended g c ready =
 pub returns-in-Err-clause-ended : goal.returns-in-Err-clause-ended
 returns-in-Err-clause-ended g c ready =
     nothing_taken (λ q. Unit {0}) (λ q p. Unit {0}) (agent_start c.args.cluster.now c.args.machine.0 c.args.boot c.args.addr.now c.args.lines.now.number) c.args.lines.now.pending (g.S.Source.left c.args.source.now) (g.O.Sink.took c.args.out.now) (g.N.Door.faults c.args.door.now) (g.N.Door.told c.args.door.now) c.requires.ahead tt
+
+pub returns-in-Err-clause-places : goal.returns-in-Err-clause-places
+returns-in-Err-clause-places g c ready = nothing_placed c.args.lines.now.number _ (g.S.Source.left c.args.source.now)

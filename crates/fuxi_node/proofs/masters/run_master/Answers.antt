@@ -1,11 +1,11 @@
-use Rattle.std.proofs.Common.{Ok, Err, refl}
+use Rattle.std.proofs.Common.{Ok, Err, refl, ap}
 use Rattle.written_roles.specs.MasterRoles.{master_started}
 use Rattle.master_node.specs.Standing.{DiskHas, RestsAt}
 use Rattle.master_node.specs.Writing.{LeavesEither}
 use Rattle.node_rounds.specs.Roles.{OfMaster}
 use Rattle.node_run.specs.Ends.{FitsNow, FitsOneNow}
 use Rattle.fuxi_node.specs.Starts.{master_start}
-use Rattle.fuxi_node.proofs.Mastering.{either_at_end, file_at_end, not_started, raised_from, started}
+use Rattle.fuxi_node.proofs.Mastering.{either_at_end, file_at_end, leaves_file, not_started, raised_from, runs_on_file, start_placed, started}
 use Rattle.fuxi_node.proofs.masters.run_master.Goals as goal
 
 pub returns-in-Err-clause-ended : goal.returns-in-Err-clause-ended
@@ -36,3 +36,13 @@ returns-in-Err-run_node-clause-ended g c ready =
     (FitsNow RestsAt DiskHas node size mid new) (FitsOneNow RestsAt DiskHas LeavesEither node size mid new) node.hard.value (Err (record {})) _ _ (g.S.Source.left c.run_node.new.source) (g.O.Sink.took c.args.out.now) (g.O.Sink.took c.run_node.new.out) (g.N.Door.faults c.args.door.now) (g.N.Door.faults c.run_node.new.door) (g.N.Door.told c.args.door.now) (g.N.Door.told c.run_node.new.door)
     (raised_from c.args.epoch node.hard old mid c.in-Ok.ensures.raised c.in-Ok.ensures.opened) refl (file_at_end c.args.epoch node size old mid new c.in-Ok.ensures.rests c.in-Ok.ensures.opened) (either_at_end c.args.epoch node size old mid new c.in-Ok.ensures.rests c.in-Ok.ensures.opened)
     (c.in-Err-run_node.ensures.ended ready (OfMaster node.hard.value (master_started c.args.cluster.now node.hard.value c.args.epoch)) c.in-Ok.ensures.stands)
+
+pub returns-in-Err-clause-stays : goal.returns-in-Err-clause-stays
+returns-in-Err-clause-stays g c =
+    leaves_file c.args.epoch c.in-Err.fault c.start_status.result (g.D.Disk.told c.args.disk.now) (g.D.Disk.told c.open.new.disk) c.start_status.ensures (λ offset is. c.in-Err.ensures.untouched offset (ap (λ f. Err f) is)) c.in-Err.ensures.told
+
+pub returns-in-Ok-run_node-clause-stays : goal.returns-in-Ok-run_node-clause-stays
+returns-in-Ok-run_node-clause-stays g c = runs_on_file c.args.epoch c.in-Ok-run_node.status (g.D.Disk.told c.args.disk.now) (g.D.Disk.told c.run_node.new.disk) c.in-Ok-run_node.ensures.own
+
+pub returns-in-Err-clause-places : goal.returns-in-Err-clause-places
+returns-in-Err-clause-places g c ready = start_placed c.in-Err.fault c.start_status.result c.args.lines.now.number _ (g.S.Source.left c.args.source.now) c.start_status.ensures

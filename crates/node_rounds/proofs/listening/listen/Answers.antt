@@ -44,7 +44,7 @@ returns-in-Stopped-clause-listens g c r s =
     let a = g.N.Door.told c.args.door.now in
     let b = g.N.Door.told c.loop-alloc.door in
     told_halts c.args.most r a b b (g.C.Core.stands c.loop-alloc.now) (g.C.Core.stands c.in-Ok.both.0) c.loop-alloc.ear c.hear_one.new.ear c.in-Stopped.stop c.listened.result
-    (λ h. c.in-Ok.ensures.short (c.in-Stopped.is ∙ ap (λ s. Stopped s) h))
+    (λ h. c.in-Ok.ensures.short (c.in-Stopped.is ∙ ap (λ s. Stopped s) h)) (λ h. c.in-Ok.ensures.fault (c.in-Stopped.is ∙ ap (λ s. Stopped s) h))
     c.listened.ensures (rw c.in-Stopped.is at c.in-Ok.ensures.steps) (c.loop-alloc.invariant.listening r s)
 
 pub returns-in-Ok-eq0-clause-listens : goal.returns-in-Ok-eq0-clause-listens

@@ -11,12 +11,14 @@ use Rattle.node_run.specs.Ends.{FitsNow, FitsOneNow, start_of}
 use Rattle.node_run.specs.Progress.{Taken, TakesCounted}
 use Rattle.std.specs.Io.KnownBytes.{Appends}
 use Rattle.node_run.proofs.Lifting.{start_along, end_along, last_along, stop_along, line_along, disk_along, on_along, ok_is, running_alone}
+use Rattle.node_run.proofs.Placing.{start_reaches, on_reaches, end_placed, last_placed, stop_placed, line_placed, disk_placed}
 use Rattle.node_run.proofs.Resting.{fits_first, keeps_same, known_more, known_on}
 use Rattle.node_run.proofs.run.run_node.Goals as goal
 
 pub loop-turn-init : goal.loop-turn-init
 loop-turn-init g c = record {
   along = λ ready r s. start_along c.lines_are_taken.ensures most_frames c.args.lines.now.number c.args.addr.now r _ _ c.args.lines.now.ended (g.C.Core.stands c.args.core) (g.N.Door.faults c.args.door.now) (g.N.Door.told c.args.door.now) s ready.last;
+  reaches = λ ready. start_reaches c.args.lines.now.number _ c.args.lines.now.ended ready.last;
   rests = c.requires.rests;
   told = keeps_same g.C.Core.rests c.args.core (g.D.Disk.size c.args.disk.now) (g.D.Disk.told c.args.disk.now);
   events = omega arith;
@@ -105,6 +107,8 @@ loop-turn-preserved g c =
           _ _ (line_of c.next.new.self) c.content-line.result.now c.in-Ok.both c.next.new.self.number _ _ (sym c.if-not-ended.ensures) (sym c.number-number.ensures.value ∙ next) more (rw c.in-Ok-Line.field-0-is at c.in-Ok-Line.ensures.gives) line
           (λ e. let h = c.in-Ok.ensures.skips e in (ok_is _ _ h.0, ap g.O.Sink.took h.1, ap g.N.Door.faults h.2, ap g.N.Door.told h.2))
           c.in-Ok.ensures.counts (λ e n st is. subst (λ k. WhereTold (Taken most_frames c.args.addr.now n k (node_line c.content-line.result.now) (g.C.Core.stands c.in-Ok.both.0) (Appends (g.O.Sink.took c.loop-turn.out) (g.O.Sink.took c.take_any.new.out)) (g.N.Door.faults c.loop-turn.door) (g.N.Door.faults c.take_any.new.door)) (g.N.Door.told c.loop-turn.door) (g.N.Door.told c.take_any.new.door)) c.number-number.ensures.value (c.in-Ok.ensures.takes e n st is)));
+      reaches = λ ready. on_reaches c.lines_are_taken.ensures c.args.lines.now.number _ c.loop-turn.lines.number c.loop-turn.lines.ended _ (c.loop-turn.invariant.reaches ready)
+          _ (line_of c.next.new.self) c.content-line.result.now c.next.new.self.number (sym c.number-number.ensures.value ∙ next) more (rw c.in-Ok-Line.field-0-is at c.in-Ok-Line.ensures.gives) line c.in-Ok.ensures.good;
       rests = c.in-Ok.ensures.rests;
       told = known_on g.C.Core.rests c.args.core c.loop-turn.core (g.D.Disk.size c.args.disk.now) (g.D.Disk.size c.loop-turn.disk) (λ t. g.C.Core.rests c.in-Ok.both.0 (g.D.Disk.size c.take_any.new.disk) (Some t)) (g.D.Disk.told c.args.disk.now) (g.D.Disk.told c.loop-turn.disk) (g.D.Disk.told c.take_any.new.disk) c.loop-turn.invariant.told c.in-Ok.ensures.told;
       events = omega (arith, c.in-Ok.ensures.few, c.loop-turn.invariant.events);
@@ -119,3 +123,30 @@ loop-turn-preserved g c =
       disk = omega (arith, c.loop-turn.invariant.disk, c.in-Ok.ensures.disk);
       wrote = omega (arith, c.loop-turn.invariant.wrote, c.in-Ok.ensures.later);
     }
+
+pub returns-then-not-ended-clause-places : goal.returns-then-not-ended-clause-places
+returns-then-not-ended-clause-places g c ready =
+    last_placed c.lines_are_taken.ensures c.args.lines.now.number _ c.loop-turn.lines.number c.loop-turn.lines.ended _ (c.loop-turn.invariant.reaches ready) c.loop-turn.lines.pending (g.S.Source.left c.loop-turn.source) c.end_node.result refl (sym c.if-not-ended.ensures) c.end_node.ensures.last
+
+pub returns-in-Ok-End-clause-places : goal.returns-in-Ok-End-clause-places
+returns-in-Ok-End-clause-places g c ready =
+    end_placed c.lines_are_taken.ensures c.args.lines.now.number _ c.loop-turn.lines.number c.loop-turn.lines.ended _ (c.loop-turn.invariant.reaches ready) c.next.new.self.pending (g.S.Source.left c.next.new.source) _ c.end_node-in-Ok-End.result (rw c.in-Ok-End.field-0-is at c.in-Ok-End.ensures.gives) c.end_node-in-Ok-End.ensures.last
+
+pub returns-in-Err-clause-places : goal.returns-in-Err-clause-places
+returns-in-Err-clause-places g c ready =
+    let u = c.loop-turn.invariant.running ready.running in
+    rw (c.stop_status.ensures, c.number.ensures.value, c.in-Err.ensures.number)
+    (stop_placed c.lines_are_taken.ensures c.args.lines.now.number _ c.loop-turn.lines.number c.loop-turn.lines.ended _ (c.loop-turn.invariant.reaches ready) (g.S.Source.left c.next.new.source) c.in-Err.stop
+    (λ e. running_alone u (c.in-Err.ensures.long (ap (λ s. Err s) e))) (λ e. running_alone u (c.in-Err.ensures.many (ap (λ s. Err s) e))))
+
+pub returns-in-Err-Ends-clause-places : goal.returns-in-Err-Ends-clause-places
+returns-in-Err-Ends-clause-places g c ready =
+    let next : c.number-number.result ≡ c.loop-turn.lines.number + 1 = c.number-number.ensures.value ∙ (rw c.in-Ok-Line.field-0-is at c.in-Ok-Line.ensures.number) in
+    let line : c.content-line.result.now ≡ content (line_of c.next.new.self) = c.content-line.ensures ∙ ap (λ b. content (record { bytes = b; ended = c.ended-in-loop-turn.result })) c.line.ensures ∙ ap (λ b. content (record { bytes = c.next.new.self.line; ended = b })) c.ended-in-loop-turn.ensures in
+    rw c.in-Err-Ends.status-is
+    (line_placed c.lines_are_taken.ensures c.args.lines.now.number _ c.loop-turn.lines.number c.loop-turn.lines.ended _ (c.loop-turn.invariant.reaches ready) c.next.new.self.pending (g.S.Source.left c.next.new.source) (line_of c.next.new.self) c.content-line.result.now c.number-number.result c.in-Err-Ends.status next
+    (c.in-Ok-Line.ensures.within (ap (λ l. Ok l) c.in-Ok-Line.field-0-is)) (rw c.in-Ok-Line.field-0-is at c.in-Ok-Line.ensures.gives) line c.in-Err-Ends.ensures.unskipped
+    (rw c.in-Err-Ends.field-0-is at c.in-Err-Ends.ensures.ends) (λ at fault is. c.in-Err-Ends.ensures.bad at fault (ap (λ s. Err s) c.in-Err-Ends.field-0-is ∙ ap (λ s. Err (Ends s)) is)))
+
+pub returns-in-Err-Disk-clause-places : goal.returns-in-Err-Disk-clause-places
+returns-in-Err-Disk-clause-places g c ready = disk_placed _

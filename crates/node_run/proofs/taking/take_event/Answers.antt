@@ -5,6 +5,7 @@ use Rattle.node_party.specs.Texts.{answer_text}
 use Rattle.node_run.specs.Ends.{FitsNow, FitsOneNow}
 use Rattle.node_run.specs.Progress.{WritesText}
 use Rattle.node_run.proofs.Resting.{fits_second, known_more}
+use Rattle.node_run.proofs.Placing.{not_bad}
 use Rattle.node_run.proofs.Stepping.{said_err}
 use Rattle.node_run.proofs.taking.take_event.Goals as goal
 
@@ -21,3 +22,6 @@ returns-in-Err-clause-takes g c n s =
     said_err g.C.Core.stands (FitsNow g.C.Core.rests g.C.Node.fits c.args.core size old new) (FitsOneNow g.C.Core.rests g.C.Node.fits g.C.Node.halts c.args.core size old new) n (Ok (Event c.args.event.now)) (Unit {0}) (answer_text x.answer) x.role (λ most number rounds run. refl)
     fits (fits_second g.C.Core.rests c.args.core g.C.Node.fits g.C.Node.halts size old new n.role x.role fits) c.in-Err.status _ _
     (subst (λ a. WritesText {A = Unit {0}} (answer_text a) (Err c.in-Err.status) (g.O.Sink.took c.args.out.now) (g.O.Sink.took c.write_answer.new.out)) does.answers c.in-Err.ensures.writes)
+
+pub returns-in-Err-clause-unsaid : goal.returns-in-Err-clause-unsaid
+returns-in-Err-clause-unsaid g c at fault = not_bad c.in-Err.status at fault c.in-Err.ensures.ends

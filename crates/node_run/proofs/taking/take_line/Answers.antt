@@ -10,6 +10,8 @@ use Rattle.node_run.specs.Runs.{behind, then_is}
 use Rattle.node_run.specs.Ends.{FitsNow, FitsOneNow}
 use Rattle.node_run.specs.Progress.{TakesLine}
 use Rattle.node_run.proofs.Telling.{same_told}
+use Rattle.node_run.specs.Progress.{IsSaid}
+use Rattle.node_run.proofs.Placing.{bad_said, ok_always}
 use Rattle.node_run.proofs.Stepping.{quiet_line, quietly_same}
 use Rattle.node_run.proofs.taking.take_line.Goals as goal
 
@@ -47,3 +49,38 @@ returns-in-Ok-Event-clause-takes g c n s counts =
     c.take_event.result (g.O.Sink.took c.args.out.now) (g.O.Sink.took c.take_event.new.out) (c.take_event.ensures.takes n s) in
     same_told _ (g.N.Door.told c.args.door.now) (λ t. subst (λ what. TakesLine g.C.Core.stands fits one most_frames c.args.addr.now n what c.args.number c.take_event.result (g.O.Sink.took c.args.out.now) (g.O.Sink.took c.take_event.new.out) f f t t) (sym is)
     (quiet_line g.C.Core.stands fits one n (Ok (Event (anywhere e))) most_frames c.args.addr.now c.args.number c.take_event.result (g.O.Sink.took c.args.out.now) (g.O.Sink.took c.take_event.new.out) f f t (omega arith) said))
+
+pub returns-in-Ok-Round-clause-good : goal.returns-in-Ok-Round-clause-good
+returns-in-Ok-Round-clause-good g c =
+    let is : node_line c.args.line.now ≡ Ok Round = c.in-Ok-Round.ensures.ok ∙ ap (λ l. Ok (line_anywhere l)) c.in-Ok-Round.field-0-is in
+    ok_always (IsSaid (node_line c.args.line.now)) c.take_meeting.result (subst IsSaid (sym is) tt)
+
+pub returns-in-Ok-Serve-clause-good : goal.returns-in-Ok-Serve-clause-good
+returns-in-Ok-Serve-clause-good g c =
+    let is : node_line c.args.line.now ≡ Ok Serve = c.in-Ok-Serve.ensures.ok ∙ ap (λ l. Ok (line_anywhere l)) c.in-Ok-Serve.field-0-is in
+    ok_always (IsSaid (node_line c.args.line.now)) c.take_meeting-in-Ok-Serve.result (subst IsSaid (sym is) tt)
+
+pub returns-in-Ok-Show-clause-good : goal.returns-in-Ok-Show-clause-good
+returns-in-Ok-Show-clause-good g c =
+    let is : node_line c.args.line.now ≡ Ok Show = c.in-Ok-Show.ensures.ok ∙ ap (λ l. Ok (line_anywhere l)) c.in-Ok-Show.field-0-is in
+    ok_always (IsSaid (node_line c.args.line.now)) c.take_show.result (subst IsSaid (sym is) tt)
+
+pub returns-in-Ok-Event-clause-good : goal.returns-in-Ok-Event-clause-good
+returns-in-Ok-Event-clause-good g c =
+    let is : node_line c.args.line.now ≡ Ok (Event (anywhere c.in-Ok-Event.event)) = c.in-Ok-Event.ensures.ok ∙ ap (λ l. Ok (line_anywhere l)) c.in-Ok-Event.field-0-is in
+    ok_always (IsSaid (node_line c.args.line.now)) c.take_event.result (subst IsSaid (sym is) tt)
+
+pub returns-in-Ok-Round-clause-bad : goal.returns-in-Ok-Round-clause-bad
+returns-in-Ok-Round-clause-bad g c at fault is = absurd (c.take_meeting.ensures.unsaid at fault is)
+
+pub returns-in-Ok-Serve-clause-bad : goal.returns-in-Ok-Serve-clause-bad
+returns-in-Ok-Serve-clause-bad g c at fault is = absurd (c.take_meeting-in-Ok-Serve.ensures.unsaid at fault is)
+
+pub returns-in-Ok-Show-clause-bad : goal.returns-in-Ok-Show-clause-bad
+returns-in-Ok-Show-clause-bad g c at fault is = absurd (c.take_show.ensures.unsaid at fault is)
+
+pub returns-in-Ok-Event-clause-bad : goal.returns-in-Ok-Event-clause-bad
+returns-in-Ok-Event-clause-bad g c at fault is = absurd (c.take_event.ensures.unsaid at fault is)
+
+pub returns-in-Err-clause-bad : goal.returns-in-Err-clause-bad
+returns-in-Err-clause-bad g c at fault is = bad_said (node_line c.args.line.now) c.in-Err.fault c.args.number at fault c.event_status.result c.in-Err.ensures.fault c.event_status.ensures is

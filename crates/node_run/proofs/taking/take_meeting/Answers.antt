@@ -9,6 +9,7 @@ use Rattle.node_run.specs.Ends.{FitsNow, FitsOneNow}
 use Rattle.node_run.specs.Progress.{TakesLine}
 use Rattle.node_run.proofs.Telling.{same_told}
 use Rattle.node_run.proofs.Resting.{fits_first, known_same}
+use Rattle.node_run.proofs.Placing.{not_bad}
 use Rattle.node_run.proofs.Stepping.{same_bool, other_bool, quiet_line, said_err, other_round}
 use Rattle.node_run.proofs.taking.take_meeting.Goals as goal
 
@@ -30,3 +31,6 @@ returns-in-Err-clause-takes g c n number size t s =
     same_told _ (g.N.Door.told c.args.door.now) (λ u. quiet_line g.C.Core.stands (FitsNow g.C.Core.rests g.C.Node.fits c.args.core size t t) (FitsOneNow g.C.Core.rests g.C.Node.fits g.C.Node.halts c.args.core size t t) n (Ok (cond c.args.serves Serve Round)) most_frames c.args.addr.now number (Err (Ends c.in-Err.status)) (g.O.Sink.took c.args.out.now) (g.O.Sink.took c.write_answer.new.out) (g.N.Door.faults c.args.door.now) (g.N.Door.faults c.args.door.now) u (omega arith)
     (said_err g.C.Core.stands (FitsNow g.C.Core.rests g.C.Node.fits c.args.core size t t) (FitsOneNow g.C.Core.rests g.C.Node.fits g.C.Node.halts c.args.core size t t) n (Ok (cond c.args.serves Serve Round)) (Unit {0}) (answer_text NotHere) n.role (other_round n c.args.serves other)
     fits (fits_first g.C.Core.rests c.args.core g.C.Node.fits g.C.Node.halts size t t n.role n.role fits) c.in-Err.status _ _ c.in-Err.ensures.writes))
+
+pub returns-in-Err-clause-unsaid : goal.returns-in-Err-clause-unsaid
+returns-in-Err-clause-unsaid g c at fault = not_bad c.in-Err.status at fault c.in-Err.ensures.ends

@@ -1,6 +1,6 @@
 use Rattle.std.proofs.Common.{Ok, Err, ap}
 use Rattle.written_roles.specs.MasterRoles.{master_started}
-use Rattle.master_node.proofs.Opening.{open_fails, open_starts, raise_starts, starts_master}
+use Rattle.master_node.proofs.Opening.{no_damage, open_fails, open_starts, raise_starts, starts_master}
 use Rattle.master_node.proofs.node.MasterNode.open.Goals as goal
 
 pub returns-in-Err-clause-fails : goal.returns-in-Err-clause-fails
@@ -14,6 +14,9 @@ pub returns-in-Err-raise-clause-told : goal.returns-in-Err-raise-clause-told
 returns-in-Err-raise-clause-told g c =
     raise_starts c.args.epoch c.in-Ok.hard c.raise.new.self (Err c.in-Err-raise.fault) (g.D.Disk.told c.args.disk.now) (g.D.Disk.told c.open.new.disk) (g.D.Disk.told c.raise.new.disk)
     c.in-Ok.ensures.opened c.in-Ok.ensures.told c.in-Err-raise.ensures.told
+
+pub returns-in-Err-raise-clause-untouched : goal.returns-in-Err-raise-clause-untouched
+returns-in-Err-raise-clause-untouched g c offset is = absurd (no_damage c.in-Err-raise.fault offset _ c.in-Err-raise.ensures.refused is)
 
 pub invariant_of-result : goal.invariant_of-result
 invariant_of-result g c =

@@ -1,0 +1,22 @@
+-- In which order a connection was read, written to and closed.
+use Rattle.std.specs.Prelude.{true, false, ◌||◌}
+use Rattle.node_door.specs.declared.order.Order.{Order}
+
+abbrev pub unused : Order
+unused = record { read = false; written = false; asked = false; answered = false; failed = false; closed = false; late = false }
+
+-- once it is read
+abbrev pub order_read : Order → Order
+order_read o = record { read = true; written = o.written; asked = o.asked || o.written; answered = o.answered; failed = o.failed; closed = o.closed; late = o.late || (o.failed || o.closed) }
+
+-- once it is written to
+abbrev pub order_written : Order → Order
+order_written o = record { read = o.read; written = true; asked = o.asked; answered = o.answered || o.read; failed = o.failed; closed = o.closed; late = o.late || (o.failed || o.closed) }
+
+-- once a read or a write failed
+abbrev pub order_failed : Order → Order
+order_failed o = record { read = o.read; written = o.written; asked = o.asked; answered = o.answered; failed = true; closed = o.closed; late = o.late || (o.failed || o.closed) }
+
+-- once it is closed, whatever came of that
+abbrev pub order_closed : Order → Order
+order_closed o = record { read = o.read; written = o.written; asked = o.asked; answered = o.answered; failed = o.failed; closed = true; late = o.late }
