@@ -52,7 +52,7 @@ pub(crate) struct Mark {
 }
 
 impl Mark {
-    ghost use Rattle.std.specs.Prelude.{◌≡◌, ◌<◌, nat_lt, false, cond, map};
+    ghost use Rattle.std.specs.Prelude.{◌≡◌, ◌<◌, nat_lt, false, cond, map, is_some};
     ghost use Rattle.std.proofs.Common.{get_or};
     ghost use Rattle.std.specs.Option.{option_map};
     ghost use Rattle.std.specs.List.{list_any};
@@ -78,6 +78,13 @@ impl Mark {
         } else {
             self.bound
         }
+    }
+
+    /// Whether a pair may be placeable, also one that was not looked at.
+    pub(crate) fn may_have(&self, turns: u64) -> bool
+        ensures { result ≡ is_some (key_of (mark_of self.now) turns) }
+    {
+        (self.until < turns) | self.bound.is_some()
     }
 
     // Anything may be placeable.
