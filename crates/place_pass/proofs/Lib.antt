@@ -23,3 +23,4 @@ mod StillLemmas
 mod AskedLemmas
 mod PathLemmas
 mod WalksLemmas
+mod PlainLemmas

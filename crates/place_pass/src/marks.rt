@@ -158,6 +158,16 @@ pub(crate) fn fresh_marks(alloc: Global, machines: usize) -> Result<Vec<Mark>, O
     Ok(Vec::from_elem(alloc, Mark::new(), machines)?)
 }
 
+// On each machine what is placeable may come earlier.
+fn lower_all(marks: &mut Vec<Mark>)
+    ensures marks { (m : ℕ) → m < length marks.old.items → mark_at (map mark_of marks.new.items) m ≡ lowered_mark (mark_at (map mark_of marks.old.items) m) }
+    ensures long { length marks.new.items ≡ length marks.old.items }
+{
+    for number in 0..marks.len() {
+        marks[number].lower();
+    }
+}
+
 /// Told of a demand before the wishes are: what is placeable may come earlier, and on a machine that a unit avoids no
 /// longer anything may be placeable.
 pub(crate) fn tell_demand(marks: &mut Vec<Mark>, wishes: &Wishes, app: AppNo, demand: &Demand)
@@ -165,6 +175,10 @@ pub(crate) fn tell_demand(marks: &mut Vec<Mark>, wishes: &Wishes, app: AppNo, de
     ensures marks { (m : ℕ) → m < length marks.old.items → IsAsked demand.now.entries (get_or wishes.now.cells app.0 []) m (mark_at (map mark_of marks.old.items) m) (mark_at (map mark_of marks.new.items) m) }
     ensures long { length marks.new.items ≡ length marks.old.items }
 {
+    if !wishes.avoids_any(app) {
+        lower_all(marks);
+        return;
+    }
     for number in 0..wishes.cluster().machines() {
         let lifted = wishes.lifts(app, demand, MachineNo(number));
         marks[number as usize].ask(lifted);

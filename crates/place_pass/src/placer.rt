@@ -165,6 +165,7 @@ impl Placer {
         let counts = demand.entries();
         let _wishes = self.wishes.cluster();
         tell_demand(&mut self.marks, &self.wishes, app, demand);
+        let preferred = self.wishes.prefers_any(app);
         let more = self.wishes.asked(app, demand);
         stir(&mut self.calm, app);
         self.idle &= !more;
@@ -175,6 +176,7 @@ impl Placer {
             &self.turn_of,
             table,
             app,
+            preferred,
         );
     }
 

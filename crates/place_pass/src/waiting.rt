@@ -2,7 +2,7 @@
 //! leaves the line is not written again. A line that loses pairs is written into a second one whose room was made when jobs were
 //! admitted, so it takes no memory.
 
-ghost use Rattle.std.specs.Prelude.{◌≡◌, ℕ, ◌+◌, ◌<◌, ◌≤◌, ◌++◌, ◌∷◌, [], ◌&&◌, ◌-◌, ◌^◌, Some, slice_get, false, not, nat_eq, nat_lt, length, filter, map};
+ghost use Rattle.std.specs.Prelude.{◌≡◌, ℕ, ◌+◌, ◌<◌, ◌≤◌, ◌++◌, ◌∷◌, [], ◌&&◌, ◌-◌, ◌^◌, Some, slice_get, true, false, not, nat_eq, nat_lt, length, filter, map};
 ghost use Rattle.std.proofs.Common.{get_or};
 ghost use Rattle.std.specs.List.{sum_by, flat_map};
 ghost use Rattle.fuxi_terms.specs.Cluster.{JobRecord};

@@ -1,4 +1,4 @@
-use Rattle.std.proofs.Common.{◌≡◌, Bool, true, false, map, get_or, refl, sym, ◌∙◌, ap}
+use Rattle.std.proofs.Common.{◌≡◌, Bool, true, false, get_or, refl, ◌∙◌, ap}
 use Rattle.std.specs.Prelude.{◌&&◌, is_some}
 use Rattle.place_pass.specs.Bounds.{MarkRecord, mark_of, key_of}
 use Rattle.place_pass.proofs.SightsLemmas.{mark_read}

@@ -1,4 +1,4 @@
-use Rattle.std.proofs.Common.{◌≡◌, ℕ, ◌+◌, Bool, true, false, not, nat_lt, List, [], ◌∷◌, ◌++◌, length, map, filter, get_or, take, sym, ◌∙◌, ap, subst, arith, append_assoc}
+use Rattle.std.proofs.Common.{◌≡◌, ℕ, ◌+◌, Bool, true, false, not, nat_lt, List, [], ◌∷◌, ◌++◌, length, map, filter, get_or, take, sym, ◌∙◌, ap, arith, append_assoc}
 use Rattle.std.specs.Prelude.{◌&&◌, ◌||◌}
 use Rattle.fuxi_terms.specs.Cluster.{JobRecord}
 use Rattle.fuxi_terms.specs.Jobs.{unit_count}
@@ -32,11 +32,11 @@ loop-index-preserved-then-is_calm c =
     let t = c.args.table.now in
     let asks = asks_in c.args.wishes.now.cells in
     let i = c.loop-index.index in
-    let a = c.app.result.0 in
+    let a = c.app-app.result.0 in
     let units = unit_count (as_known t.jobs) in
     let joined = waiting_in (map (λ (j : JobRecord). j.number) (take i t.jobs)) units asks t.entries in
     let calm : get_or c.args.calm.now.items a false ≡ true = sym c.is_calm.ensures ∙ c.if-is_calm.true in
-    let more = one_more (take i t.jobs) (take (i + 1) t.jobs) r units asks t.entries a (numbers_more t.jobs i c.job.result.now c.job.ensures ∙ ap (λ n. map (λ (j : JobRecord). j.number) (take i t.jobs) ++ n ∷ []) (sym c.app.ensures.number)) in
+    let more = one_more (take i t.jobs) (take (i + 1) t.jobs) r units asks t.entries a (numbers_more t.jobs i c.job.result.now c.job.ensures ∙ ap (λ n. map (λ (j : JobRecord). j.number) (take i t.jobs) ++ n ∷ []) (sym c.app-app.ensures.number)) in
     let none = none_new old a (units a) (λ u. nat_lt 0 (out_of asks t.entries a u)) (λ u l w. c.requires.still.still a u calm ∙ and_true (nat_lt u (units a)) (nat_lt 0 (out_of asks t.entries a u)) l w) in
     record {
       pairs = c.loop-index.invariant.pairs ∙ ap (λ xs. old ++ xs) (sym (more ∙ ap (λ xs. filter r joined ++ xs) none ∙ append_nil (filter r joined)));
@@ -51,16 +51,16 @@ loop-index-preserved c =
     let t = c.args.table.now in
     let asks = asks_in c.args.wishes.now.cells in
     let i = c.loop-index.index in
-    let a = c.app.result.0 in
+    let a = c.app-app.result.0 in
     let n = length (get_or c.args.wishes.now.cells a []) in
     let units = unit_count (as_known t.jobs) in
     let line = c.loop-index.line.pairs in
     let joined = waiting_in (map (λ (j : JobRecord). j.number) (take i t.jobs)) units asks t.entries in
-    let more = one_more (take i t.jobs) (take (i + 1) t.jobs) r units asks t.entries a (numbers_more t.jobs i c.job.result.now c.job.ensures ∙ ap (λ n. map (λ (j : JobRecord). j.number) (take i t.jobs) ++ n ∷ []) (sym c.app.ensures.number)) in
+    let more = one_more (take i t.jobs) (take (i + 1) t.jobs) r units asks t.entries a (numbers_more t.jobs i c.job.result.now c.job.ensures ∙ ap (λ n. map (λ (j : JobRecord). j.number) (take i t.jobs) ++ n ∷ []) (sym c.app-app.ensures.number)) in
     let count = count_is c.args.wishes.now.cluster c.args.wishes.now.cells t c.requires.level a in
     let apart = rising_apart t.jobs i c.job.result.now c.requires.jobs c.job.ensures in
     let none = λ (u : ℕ). has_flat units (λ b v. nat_lt 0 (out_of asks t.entries b v)) a u (map (λ (j : JobRecord). j.number) (take i t.jobs))
-        ∙ ap (λ x. has_number x (map (λ (j : JobRecord). j.number) (take i t.jobs)) && (nat_lt u (units a) && nat_lt 0 (out_of asks t.entries a u))) c.app.ensures.number ∙ ap (λ b. b && (nat_lt u (units a) && nat_lt 0 (out_of asks t.entries a u))) apart in
+    ∙ ap (λ x. has_number x (map (λ (j : JobRecord). j.number) (take i t.jobs)) && (nat_lt u (units a) && nat_lt 0 (out_of asks t.entries a u))) c.app-app.ensures.number ∙ ap (λ b. b && (nat_lt u (units a) && nat_lt 0 (out_of asks t.entries a u))) apart in
     let same = λ (u : ℕ). ap (has_pair (a, u)) c.loop-index.invariant.pairs ∙ any_append (same_pair (a, u)) old (filter r joined) ∙ ap (λ b. has_pair (a, u) old || b) (none_filter (same_pair (a, u)) r joined (none u)) ∙ or_false (has_pair (a, u) old) in
     record {
       pairs = c.join_units.ensures.pairs

@@ -1,10 +1,10 @@
-use Rattle.std.proofs.Common.{◌≡◌, ℕ, ◌≤◌, Bool, true, false, nat_lt, List, sym, ◌∙◌, ap, subst, arith}
-use Rattle.std.specs.Prelude.{◌&&◌, not}
+use Rattle.std.proofs.Common.{ℕ, Bool, nat_lt, sym, ◌∙◌, ap, subst, arith}
+use Rattle.std.specs.Prelude.{◌&&◌}
 use Rattle.written_roles.specs.Masters.{out_of}
 use Rattle.written_roles.specs.Placing.{has_pair}
 use Rattle.place_pass.specs.Best.{AreAdmitted}
 use Rattle.place_pass.specs.Cells.{asks_in}
-use Rattle.place_pass.specs.Lines.{LineRecord, units_in_all}
+use Rattle.place_pass.specs.Lines.{LineRecord}
 use Rattle.place_pass.proofs.StandingLemmas.{holds_same}
 use Rattle.place_pass.proofs.StillLemmas.{all_kept, filter_all}
 use Rattle.place_pass.proofs.waiting.leave.Goals as goal

@@ -9,11 +9,14 @@ use Rattle.place_pass.specs.Placers.{PlacerRecord, AreLevel, AsksNoMore, IsIdle,
 use Rattle.place_pass.specs.Bounds.{mark_at, mark_of}
 use Rattle.place_pass.specs.Counts.{IsLifted}
 use Rattle.place_pass.specs.Best.{AreAdmitted}
-use Rattle.place_pass.specs.Trees.{HoldsLine, StandsAs}
+use Rattle.place_pass.specs.Trees.{HoldsLine, StandsAs, StandsNowhere}
 use Rattle.fuxi_terms.specs.Jobs.{unit_count}
 use Rattle.grant_table.specs.Tables.{as_known}
 use Rattle.written_roles.specs.Placing.{has_pair}
+use Rattle.fuxi_terms.proofs.Lists.{all_at}
 use Rattle.place_pass.proofs.Matching.{count_is}
+use Rattle.place_pass.proofs.PlainLemmas.{plain_nowhere}
+use Rattle.place_pass.proofs.SightsLemmas.{place_of}
 use Rattle.place_pass.proofs.AskedLemmas.{asked_long, asked_priority, asked_others}
 use Rattle.place_pass.proofs.StandsAfterChange.{holds_cells, stands_asked}
 use Rattle.place_pass.proofs.StillLemmas.{still_asked}
@@ -168,7 +171,12 @@ returns-clause-level c l =
       stands = c.tell_asked.ensures.stands
           (subst (λ (x : WishesRecord). length (get_or x.cells a []) ≡ unit_count (as_known t.jobs) a) (sym c.asked-more.ensures.cells) (asked_long w.cluster es w.cells a (slot_within w.cells a 0 here) a ∙ count_is w.cluster w.cells t old.level a))
           (λ b v has d. subst (λ (x : WishesRecord). StandsAs x.cluster x.cells t.entries b v c.self.inside.tree) (sym c.asked-more.ensures.cells)
-          (stands_asked w.cluster w.cells (set w.cells a (taken_all w.cluster es 0 (get_or w.cells a []))) t.entries b v c.self.inside.tree (λ k. asked_others w.cluster es w.cells a (slot_within w.cells a 0 here) b k d) (old.stands b v has)));
+          (stands_asked w.cluster w.cells (set w.cells a (taken_all w.cluster es 0 (get_or w.cells a []))) t.entries b v c.self.inside.tree (λ k. asked_others w.cluster es w.cells a (slot_within w.cells a 0 here) b k d) (old.stands b v has)))
+          (λ e u has.
+          let place = place_of (a, u) c.self.inside.line.pairs has in
+          let l = all_at (λ (p : ℕ × ℕ). p.1 < length (get_or w.cells p.0 [])) c.self.inside.line.pairs place.place (a, u) c.self.invariant.admitted place.at in
+          subst (λ (x : WishesRecord). StandsNowhere x.cluster a u c.self.inside.tree) (sym c.asked-more.ensures.cells)
+          (plain_nowhere w.cluster w.cells t.entries a u c.self.inside.tree (λ m. c.prefers_any-preferred.ensures.near e u m l) (λ r. c.prefers_any-preferred.ensures.racks e u r l) (old.stands a u has)));
     }
   where
     not_true : (b : Bool) → not b ≡ true → b ≡ false

@@ -1,4 +1,4 @@
-use Rattle.std.proofs.Common.{◌≡◌, ℕ, ◌+◌, ◌*◌, ◌<◌, Bool, List, [], true, false, cond, not, nat_eq, nat_lt, length, map, set, get_or, filter, sym, ◌∙◌, ap, subst, arith}
+use Rattle.std.proofs.Common.{◌≡◌, ℕ, ◌+◌, ◌*◌, ◌<◌, Bool, List, [], true, false, cond, not, nat_eq, nat_lt, length, map, set, get_or, filter, refl, sym, ◌∙◌, ap, subst, arith}
 use Rattle.std.proofs.lemmas.List.{get_or_default, length-set}
 use Rattle.fuxi_terms.proofs.Booleans.{both_true}
 use Rattle.place_pass.specs.Best.{AreAdmitted}

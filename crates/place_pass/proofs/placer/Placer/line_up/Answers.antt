@@ -124,7 +124,7 @@ invariant_of-self c =
     }
 
 -- the line is that of the definition
-line_is : (c : goal.After-calm_all) → c.join.new.line.pairs ≡ lined c.self.inside.line.pairs (waiting_in (job_numbers (as_known c.args.table.now.jobs)) (unit_count (as_known c.args.table.now.jobs)) (asks_in c.self.inside.wishes.cells) c.args.table.now.entries)
+line_is : (c : goal.After-self-2-1) → c.join.new.line.pairs ≡ lined c.self.inside.line.pairs (waiting_in (job_numbers (as_known c.args.table.now.jobs)) (unit_count (as_known c.args.table.now.jobs)) (asks_in c.self.inside.wishes.cells) c.args.table.now.entries)
 unfolding IsLevelWith
 line_is c =
     let w = c.self.inside.wishes in
