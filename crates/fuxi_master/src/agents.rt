@@ -80,53 +80,31 @@ fn is_due(heard: &Heard, side: &Side<RowLedger, JoinLedger>, epoch: u64, reporte
 impl Core {
     // Hears a packet of the agent of a machine. Whether it brought a report that is adopted now.
     pub(crate) fn hear_agent(
-        self,
+        &mut self,
         alloc: Global,
         packet: Packet,
-    ) -> Result<(Core, Heard, bool), OutOfMemory>
-        requires core { IsCore (core_of self) }
+    ) -> Result<(Heard, bool), OutOfMemory>
+        requires core { IsCore (core_of self.old) }
         requires formed { IsFormed packet }
         requires no_end { packet.kind ≡ Kind.End → ⊥ }
         requires from { packet.from.role ≡ AsAgent }
-        requires machine { packet.from.number < length self.allotment.table.cluster.machines }
+        requires machine { packet.from.number < length self.old.allotment.table.cluster.machines }
         requires to { packet.to.role ≡ AsMaster }
         requires zero { packet.to.number ≡ 0 }
-        ensures { IfOk result (λ after. IsAgentHeard packet.from.number packet after.1 after.2 (core_of self) (core_of after.0)) }
+        ensures { IfOk result (λ after. IsAgentHeard packet.from.number packet after.0 after.1 (core_of self.old) (core_of self.new)) }
     {
-        let Core {
-            epoch,
-            known,
-            serving,
-            reported,
-            allotment,
-            agents,
-            apps,
-        } = self;
-        let mut agents = agents;
         let machine = MachineNo(packet.from.number);
         let limit = ReportLimit {
-            known: &known,
-            has: allotment.table().cluster().machine(machine).has,
-            epoch,
-            reported: reported.has(machine),
-            banned: known.banned(machine),
+            known: &self.known,
+            has: self.allotment.table().cluster().machine(machine).has,
+            epoch: self.epoch,
+            reported: self.reported.has(machine),
+            banned: self.known.banned(machine),
         };
-        let side = &mut agents[machine.0 as usize];
+        let side = &mut self.agents[machine.0 as usize];
         let heard = side.hear_moved(alloc, packet, &limit, &mut ())?;
-        let due = is_due(&heard, side, epoch, limit.reported);
-        Ok((
-            Core {
-                epoch,
-                known,
-                serving,
-                reported,
-                allotment,
-                agents,
-                apps,
-            },
-            heard,
-            due,
-        ))
+        let due = is_due(&heard, side, limit.epoch, limit.reported);
+        Ok((heard, due))
     }
 
     // Adopts the report of a machine.

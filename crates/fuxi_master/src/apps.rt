@@ -28,46 +28,21 @@ use std::alloc::Global;
 
 impl Core {
     // Hears a packet of the application of a known job.
-    pub(crate) fn hear_app(
-        self,
-        alloc: Global,
-        packet: Packet,
-    ) -> Result<(Core, Heard), OutOfMemory>
-        requires core { IsCore (core_of self) }
+    pub(crate) fn hear_app(&mut self, alloc: Global, packet: Packet) -> Result<Heard, OutOfMemory>
+        requires core { IsCore (core_of self.old) }
         requires formed { IsFormed packet }
         requires no_end { packet.kind ≡ Kind.End → ⊥ }
         requires from { packet.from.role ≡ AsApp }
-        requires known { is_known self.known.jobs packet.from.number ≡ true }
+        requires known { is_known self.old.known.jobs packet.from.number ≡ true }
         requires to { packet.to.role ≡ AsMaster }
         requires zero { packet.to.number ≡ 0 }
-        ensures { IfOk result (λ after. IsAppHeard packet.from.number packet after.1 (core_of self) (core_of after.0)) }
+        ensures { IfOk result (λ heard. IsAppHeard packet.from.number packet heard (core_of self.old) (core_of self.new)) }
     {
-        let Core {
-            epoch,
-            known,
-            serving,
-            reported,
-            allotment,
-            agents,
-            apps,
-        } = self;
-        let mut apps = apps;
-        let heard = match &mut apps[packet.from.number as usize] {
+        let heard = match &mut self.apps[packet.from.number as usize] {
             Some(side) => side.hear_moved(alloc, packet, &NoLimit, &mut ())?,
             None => unreachable!(),
         };
-        Ok((
-            Core {
-                epoch,
-                known,
-                serving,
-                reported,
-                allotment,
-                agents,
-                apps,
-            },
-            heard,
-        ))
+        Ok(heard)
     }
 
     // Takes what came of an application that is new, or whose demand was taken.

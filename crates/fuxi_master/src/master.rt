@@ -38,7 +38,8 @@ use std::marker::Model;
 /// What its calls do is said of every master of the definitions that it stands for (`StandsFor`). Each call that changes it is a
 /// step; fewer than 2^50 may be taken.
 pub struct Master {
-    core: Core,
+    /// On the heap, so that who hands a master on hands on a pointer.
+    core: Box<Core>,
     steps: u64,
 }
 
@@ -55,9 +56,9 @@ impl Model for Master {
 
     ghost Value = { MasterRecord };
 
-    ghost view = { λ m. record { core = core_of m.core; steps = m.steps } };
+    ghost view = { λ m. record { core = core_of m.core.value; steps = m.steps } };
 
-    ghost invariant = { λ m. IsMaster (record { core = core_of m.core; steps = m.steps }) };
+    ghost invariant = { λ m. IsMaster (record { core = core_of m.core.value; steps = m.steps }) };
 }
 
 impl Master {
@@ -74,7 +75,8 @@ impl Master {
         ensures steps { IfOk result (λ m. m.steps ≡ 0) }
     {
         let known = Known::of(alloc, hard)?;
-        let core = Core::start(alloc, cluster, epoch, known)?;
+        let started = Core::start(alloc, cluster, epoch, known)?;
+        let core = Box::new(alloc, started)?;
         Ok(Master { core, steps: 0 })
     }
 
@@ -89,7 +91,8 @@ impl Master {
         ensures formed { IfOk result (λ after. IsSentFormed after.1) }
     {
         let Master { core, steps } = self;
-        let (core, outcome) = core.step(alloc, event, steps + 1)?;
+        let (after, outcome) = Box::into_inner(core).step(alloc, event, steps + 1)?;
+        let core = Box::new(alloc, after)?;
         Ok((
             Master {
                 core,

@@ -117,7 +117,7 @@ impl Core {
 
     // A packet of an agent of the cluster.
     fn heard_agent(
-        self,
+        mut self,
         alloc: Global,
         packet: Packet,
         steps: u64,
@@ -135,18 +135,18 @@ impl Core {
     {
         step_ends();
         let machine = MachineNo(packet.from.number);
-        let (core, heard, due) = self.hear_agent(alloc, packet)?;
+        let (heard, due) = self.hear_agent(alloc, packet)?;
         if !due {
-            return Ok((core, heard));
+            return Ok((self, heard));
         }
-        let (changed, news) = core.adopt_report(alloc, machine)?;
+        let (changed, news) = self.adopt_report(alloc, machine)?;
         let after = changed.finished(alloc, &news, steps)?;
         Ok((after, heard))
     }
 
     // A packet of the application of a known job.
     fn heard_app(
-        self,
+        mut self,
         alloc: Global,
         packet: Packet,
         steps: u64,
@@ -164,12 +164,12 @@ impl Core {
     {
         step_ends();
         let app = AppNo(packet.from.number);
-        let (core, heard) = self.hear_app(alloc, packet)?;
+        let heard = self.hear_app(alloc, packet)?;
         let taken = is_taken(&heard);
         if !heard.fresh && !taken {
-            return Ok((core, heard));
+            return Ok((self, heard));
         }
-        let (changed, news) = core.take_demand(alloc, app, heard.fresh, taken)?;
+        let (changed, news) = self.take_demand(alloc, app, heard.fresh, taken)?;
         let after = changed.finished(alloc, &news, steps)?;
         Ok((after, heard))
     }

@@ -1,5 +1,5 @@
 // Jobs in the order of their submission, with the place of each by its number.
-ghost use Rattle.std.specs.Prelude.{◌≡◌, ◌≤◌, ◌<◌, map, get_or, true, false, Some, None, IfOk, IfSome, IsNone, vec_capacity};
+ghost use Rattle.std.specs.Prelude.{◌≡◌, ◌≤◌, ◌<◌, length, map, get_or, true, false, Some, None, IfOk, IfSome, IsNone, vec_capacity};
 ghost use Rattle.fuxi_terms.specs.Cluster.{is_valid_job};
 ghost use Rattle.fuxi_terms.specs.Jobs.{job_of, is_known};
 ghost use Rattle.written_roles.specs.HardState.{with_job, with_ended};
@@ -17,9 +17,9 @@ pub struct Entry {
     pub ended: bool,
 }
 
-fn place_of(places: &[u16; 256], number: u32) -> u16
+fn place_of(places: &[u16], number: u32) -> u16
     ensures place { result ≡ get_or places.now number 0 }
-    ensures below { 0 < result → number < 256 }
+    ensures below { 0 < result → number < length places.now }
 {
     match places.get(number as usize) {
         Some(place) => *place,
@@ -27,7 +27,7 @@ fn place_of(places: &[u16; 256], number: u32) -> u16
     }
 }
 
-pub fn find<'a>(jobs: &'a [Entry], places: &[u16; 256], number: u32) -> Option<&'a Entry>
+pub fn find<'a>(jobs: &'a [Entry], places: &[u16], number: u32) -> Option<&'a Entry>
     requires index { IsIndex places.now (map known_job jobs.now) }
     ensures some { IfSome result (λ entry. job_of (map known_job jobs.now) number ≡ Some (known_job entry.now)) }
     ensures none { IsNone result → job_of (map known_job jobs.now) number ≡ None }
@@ -41,13 +41,13 @@ pub fn find<'a>(jobs: &'a [Entry], places: &[u16; 256], number: u32) -> Option<&
 }
 
 // One job more, of a number that no other has. There is room for all numbers, so it takes no memory.
-pub fn add(jobs: &mut Vec<Entry>, places: &mut [u16; 256], job: Job)
-    requires index { IsIndex places.old (map known_job jobs.old.items) }
+pub fn add(jobs: &mut Vec<Entry>, places: &mut Vec<u16>, job: Job)
+    requires index { IsIndex places.old.items (map known_job jobs.old.items) }
     requires room { 256 ≤ vec_capacity jobs.old }
     requires valid { is_valid_job 8 job ≡ true }
     requires unknown { is_known (map known_job jobs.old.items) job.number ≡ false }
     ensures jobs { map known_job jobs.new.items ≡ with_job job (map known_job jobs.old.items) }
-    ensures index { IsIndex places.new (map known_job jobs.new.items) }
+    ensures index { IsIndex places.new.items (map known_job jobs.new.items) }
     ensures room { 256 ≤ vec_capacity jobs.new }
 {
     let number = job.app().0 as usize;
@@ -59,7 +59,7 @@ pub fn add(jobs: &mut Vec<Entry>, places: &mut [u16; 256], job: Job)
 }
 
 // The job of this number has ended.
-pub fn end(jobs: &mut [Entry], places: &[u16; 256], number: u32)
+pub fn end(jobs: &mut [Entry], places: &[u16], number: u32)
     requires index { IsIndex places.now (map known_job jobs.old) }
     requires known { is_known (map known_job jobs.old) number ≡ true }
     ensures jobs { map known_job jobs.new ≡ with_ended number (map known_job jobs.old) }

@@ -15,6 +15,7 @@ ghost use Rattle.hard_state.specs.HardFiles.{known_job};
 use crate::bans::NumberSet;
 use crate::jobs::{Entry, add, copies, end, find};
 use fuxi_terms::OutOfMemory;
+use fuxi_terms::limits::MOST_JOBS;
 use schedule_unit::{AppNo, Job, MachineNo};
 use std::alloc::Global;
 use std::marker::Model;
@@ -24,7 +25,8 @@ use std::marker::Model;
 /// a ban are found by number, with no walk. There is room for a job of each number.
 pub struct Known {
     jobs: Vec<Entry>,
-    places: [u16; 256],
+    /// On the heap, so that who hands this on does not hand on a place for each job.
+    places: Vec<u16>,
     bans: NumberSet,
 }
 
@@ -45,7 +47,7 @@ impl Model for Known {
 
     ghost view = { λ k. record { jobs = map known_job k.jobs.items; bans = k.bans } };
 
-    ghost invariant = { λ k. IsIndex k.places (map known_job k.jobs.items) × (256 ≤ vec_capacity k.jobs) };
+    ghost invariant = { λ k. IsIndex k.places.items (map known_job k.jobs.items) × (256 ≤ vec_capacity k.jobs) };
 }
 
 impl Known {
@@ -53,9 +55,11 @@ impl Known {
     pub fn nothing(alloc: Global) -> Result<Known, OutOfMemory>
         ensures { IfOk result (λ known. known ≡ record { jobs = []; bans = [] }) }
     {
+        let jobs = Vec::with_capacity(alloc, MOST_JOBS as usize)?;
+        let places = Vec::from_elem(alloc, 0, MOST_JOBS as usize)?;
         Ok(Known {
-            jobs: Vec::with_capacity(alloc, 256)?,
-            places: [0; 256],
+            jobs,
+            places,
             bans: NumberSet::none(),
         })
     }
@@ -64,9 +68,11 @@ impl Known {
     pub fn copy(&self, alloc: Global) -> Result<Known, OutOfMemory>
         ensures { IfOk result (λ copy. copy ≡ self.now) }
     {
+        let jobs = copies(alloc, &self.jobs)?;
+        let places = Vec::from_slice(alloc, &self.places)?;
         Ok(Known {
-            jobs: copies(alloc, &self.jobs)?,
-            places: self.places,
+            jobs,
+            places,
             bans: self.bans.copy(),
         })
     }

@@ -26,7 +26,7 @@ use Rattle.place_pass.specs.Best.{AreAdmitted}
 use Rattle.place_pass.specs.Cells.{Cell, no_cell, cell_at, asks_at, asks_in, job_at, taken, taken_all, is_gone, any_gone, asks_more, any_more, Lifts, AvoidsStill, AreWishes}
 use Rattle.place_pass.specs.Bounds.{MarkRecord, mark_at, turn_at}
 use Rattle.place_pass.specs.Counts.{IsLifted}
-use Rattle.place_pass.specs.Placers.{AreLevel, AsksNoMore, IsIdle, IsClear, IsKept, IsQuiet, KeptRecord, board_over, is_open_to}
+use Rattle.place_pass.specs.Placers.{AreLevel, AsksNoMore, IsIdle, IsClear, IsKept, IsQuiet, IsStill, KeptRecord, board_over, is_open_to}
 use Rattle.place_pass.proofs.BoundsLemmas.{NoEarlier, accepts_less, bounded_later}
 use Rattle.place_pass.proofs.SightsLemmas.{place_of}
 use Rattle.place_pass.proofs.BoundsAfterChange.{levels_le}
@@ -36,6 +36,7 @@ use Rattle.place_pass.proofs.Lining.{or_none}
 use Rattle.place_pass.proofs.Matching.{count_is}
 use Rattle.place_pass.proofs.Picking.{all_candidates}
 use Rattle.place_pass.proofs.Places.{one_set, counted_at}
+use Rattle.place_pass.proofs.StillLemmas.{still_asked}
 
 -- ---- a test of each number below a number
 pub any_last : (p : ℕ → Bool) (n : ℕ) → list_any p (below (n + 1)) ≡ (list_any p (below n) || p n)
@@ -389,6 +390,10 @@ module _ (j : JobRecord) (cells cells' : List (List Cell)) (o : List Bool) (t : 
           (subst (λ n. 0 < n) (ap (λ n. n - held t.entries a u) (asks a (want_key u))) some)
     ] refl;
   }
+
+  -- the others wait as they did
+  pub still_admitted : (calm calm' : List Bool) → ((b : ℕ) → get_or calm' b false ≡ (not (nat_eq j.number b) && get_or calm b false)) → (line : List (ℕ × ℕ)) → IsStill cells line calm t → IsStill cells' line calm' with_job
+  still_admitted calm calm' less line h = still_asked calm calm' j.number less cells cells' line t with_job (λ b k _. asks b k) refl (λ b f. ap (λ k. length (unwrap_or (option_map (λ (k : KnownJob). k.job.units) k) [])) (same b f)) h
 
   -- nothing is out of the job, and of the others nothing that was not
   pub idle_admitted : IsIdle cells o t → IsIdle cells' o with_job

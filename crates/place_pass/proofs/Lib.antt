@@ -19,6 +19,8 @@ mod FirstByTurn
 mod StandingLemmas
 mod StandsAfterChange
 mod LinedLemmas
+mod StillLemmas
 mod AskedLemmas
 mod PathLemmas
 mod WalksLemmas
+mod PlainLemmas

@@ -19,11 +19,15 @@ use Rattle.place_pass.proofs.Lining.{has_filter}
 use Rattle.place_pass.proofs.NumberedLemmas.{numbered_end, has_end}
 use Rattle.place_pass.proofs.StandingLemmas.{holds_same, stands_on}
 use Rattle.place_pass.proofs.StandsAfterChange.{holds_turned}
+use Rattle.place_pass.proofs.StillLemmas.{joined_is}
 
-module _ (line front all other : List (ℕ × ℕ)) (stayed : ℕ) (q : ℕ × ℕ → Bool) (k : KeptRecord) (turn_of : List ℕ) (kept : front ≡ filter q line) (is : other ≡ front ++ filter (λ p. not (has_pair p line)) all) (long : stayed ≡ length front)
+module _ (line front all other : List (ℕ × ℕ)) (stayed : ℕ) (q : ℕ × ℕ → Bool) (k : KeptRecord) (turn_of : List ℕ) (kept : front ≡ filter q line) (waits : (p : ℕ × ℕ) → has_pair p all ≡ true → q p ≡ true) (appended : other ≡ front ++ filter (λ p. not (has_pair p front)) all) (long : stayed ≡ length front)
     (small : (a u : ℕ) → has_pair (a, u) line ≡ true → u < 8) (others : (a u : ℕ) → u < 8 → ((i : ℕ) → stayed ≤ i → slice_get other i ≡ Some (a, u) → ⊥) → turn_at turn_of a u ≡ turn_at k.turn_of a u) where
   abbrev joined : List (ℕ × ℕ)
   joined = filter (λ p. not (has_pair p line)) all
+
+  is : other ≡ front ++ joined
+  is = joined_is line front all other q kept waits appended
 
   not_had : (p : ℕ × ℕ) → has_pair p joined ≡ true → has_pair p line ≡ false
   not_had p has = new (has_pair p line) (has_pair p all) (sym (has_filter (λ p. not (has_pair p line)) p all) ∙ has)

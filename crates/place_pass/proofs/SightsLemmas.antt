@@ -1,6 +1,6 @@
 -- The better of two ranks, bounds on one machine, and what they say of its pairs.
 use Rattle.std.proofs.Common.{◌≡◌, ℕ, zero, suc, ◌+◌, ◌-◌, ◌<◌, ◌≤◌, Bool, true, false, cond, not, nat_eq, nat_lt, List, [], ◌∷◌, ◌++◌, length, get_or, set, map, slice_get, refl, sym, ◌∙◌, ap, subst, arith, inl, inr, ◌⊎◌, Option, None, Some}
-use Rattle.std.specs.Prelude.{◌&&◌, ◌||◌, ◌==◌, IfSome, replicate}
+use Rattle.std.specs.Prelude.{◌&&◌, ◌||◌, ◌==◌, IfSome, replicate, is_some}
 use Rattle.std.specs.Ordering.{nat_cmp, is_lt, ordering_then, ordering_reverse}
 use Rattle.std.specs.Cmp.{IsTotalOrder, nat_cmp_total}
 use Rattle.std.specs.declared.cmp.Ordering.{Ordering}
@@ -9,14 +9,21 @@ use Rattle.std.specs.Cmp.Lexicographic.{slice_cmp, lists_total}
 use Rattle.std.proofs.lemmas.Bool.{cases_lt}
 use Rattle.std.proofs.lemmas.Bool.Decides.{nat_tests}
 use Rattle.std.proofs.lemmas.List.{set_past, map-set, length-map, get_or-map}
+use Rattle.fuxi_terms.specs.Jobs.{most_of}
 use Rattle.fuxi_terms.specs.Keys.{Spot}
+use Rattle.fuxi_terms.specs.Tables.{held_on}
+use Rattle.fuxi_terms.specs.TallyKeys.{avoid_key}
 use Rattle.fuxi_terms.proofs.Booleans.{both_true, and_true, nat_itself}
+use Rattle.grant_table.specs.Tables.{TableRecord, as_known}
 use Rattle.written_roles.specs.Masters.{level_of}
 use Rattle.written_roles.specs.Placing.{Board, has_pair, accepts_in, has_room_in, is_allowed_in, may_grow_in, placeable_in}
 use Rattle.place_pass.specs.declared.marks.Mark.{Mark}
 use Rattle.place_pass.specs.declared.search.Found.{Found}
 use Rattle.place_pass.specs.Bounds.{MarkRecord, mark_of, mark_at, no_mark, rank_of, key_of, zero_rank, rank_at, rank_on, comes_before, is_bound, IsBounded}
+use Rattle.place_pass.specs.Cells.{Cell, asks_in}
+use Rattle.place_pass.specs.Counts.{is_unsettled_by}
 use Rattle.place_pass.specs.Lines.{same_pair}
+use Rattle.place_pass.specs.Placers.{board_over}
 use Rattle.place_pass.specs.Sights.{found_rank, IsLeast, AreBounded, is_first}
 use Rattle.place_pass.proofs.BoundsLemmas.{zero_bounds}
 use Rattle.place_pass.proofs.Lining.{pair_is}
@@ -174,6 +181,23 @@ pub least_closed : (b : Board) (es : List (Spot × ℕ)) (f : ℕ × ℕ → ℕ
 least_closed b es f line m best h = record {
   least = λ q has p. let x = both_true (may_grow_in b es q.0 q.1) _ p in let f : false ≡ true = sym (h q) ∙ (both_true (accepts_in b es q.0 q.1 m) (has_room_in b.cluster b.sizes es q.0 q.1 m) x.1).0 in cc;
 }
+
+-- a machine that is closed, or on which by its mark nothing is placeable
+pub least_settled : (cells : List (List Cell)) (o : List Bool) (t : TableRecord) (f : ℕ × ℕ → ℕ) (line : List (ℕ × ℕ)) (k : MarkRecord) (m turns : ℕ) (best : Option (List ℕ)) → is_unsettled_by o k turns m ≡ false → ((q : ℕ × ℕ) → has_pair q line ≡ true → f q < turns)
+    → (get_or o m false ≡ true → AreBounded (board_over cells o t) t.entries f line k m) → IsLeast (board_over cells o t) t.entries f line best m
+least_settled cells o t f line k m turns best settled below h = elim (get_or o m false) as (λ x. get_or o m false ≡ x → (x && is_some (key_of k turns)) ≡ false → IsLeast (board_over cells o t) t.entries f line best m) [
+  | true ↦ λ opened none. least_none (board_over cells o t) t.entries f line m best k.groups (λ q has. subst (λ b. IsBounded (board_over cells o t) t.entries b k.groups (f q) q m) (nothing (key_of k turns) none) (key_bounds (board_over cells o t) t.entries f line k m turns below (h opened) q has))
+  | false ↦ λ closed _. least_closed (board_over cells o t) t.entries f line m best (λ q. ap (λ x. (x && not (nat_lt 0 (asks_in cells q.0 (avoid_key q.1 m)))) && nat_lt (held_on t.entries q.0 q.1 m) (most_of (as_known t.jobs) q.0 q.1)) closed)
+] refl settled
+  where
+    nothing : (b : Option (List ℕ)) → is_some b ≡ false → b ≡ None
+    nothing None e = refl
+    nothing (Some r) e = cc
+
+pub settled_key : (opened : Bool) (b : Option (List ℕ)) → (opened && is_some b) ≡ false → opened ≡ true → b ≡ None
+settled_key true None e o = refl
+settled_key true (Some r) e o = cc
+settled_key false b e o = cc
 
 pub least_seen : (b : Board) (es : List (Spot × ℕ)) (f : ℕ × ℕ → ℕ) (line : List (ℕ × ℕ)) (m : ℕ) (best : Option (List ℕ)) (key : List ℕ) (groups : List Bool) → length key ≡ 3 → ((r : List ℕ) → is_bound (Some (key ++ m ∷ [])) r ≡ true → is_bound best r ≡ true)
     → ((q : ℕ × ℕ) → has_pair q line ≡ true → IsBounded b es (Some key) groups (f q) q m) → IsLeast b es f line best m

@@ -36,13 +36,15 @@ pub record KeptRecord : Type 0 where
   pub turn_of : List ℕ
   pub held : List ℕ
 
--- and with that, the tree of the waiting pairs, whether it knows that nothing is placeable, and whether then its marks note no group for nothing
+-- and with that, the tree of the waiting pairs, whether it knows that nothing is placeable, whether then its marks note no group for nothing, and by job number
+-- whether nothing was told of the job since the line was brought up to date
 pub record PlacerRecord : Type 0 where
   pub seen : SeenRecord
   pub idle : Bool
   pub kept : KeptRecord
   pub tree : TreeRecord
   pub forgotten : Bool
+  pub calm : List Bool
 
 -- a placer without what it keeps beside
 pub record ToldRecord : Type 0 where
@@ -125,6 +127,10 @@ AreAllowed t line = (a u : ℕ) → has_pair (a, u) line ≡ true → is_allowed
 pub record IsClear (machines : List Bool) (line : List (ℕ × ℕ)) (marks : List MarkRecord) (t : TableRecord) : Type 0 where
   pub clear : AreAllowed t line → (m g : ℕ) → get_or machines m false ≡ true → get_or (mark_at marks m).groups g false ≡ false
 
+-- Of a job of which nothing was told since, exactly the units with something out stand in the line
+pub record IsStill (cells : List (List Cell)) (line : List (ℕ × ℕ)) (calm : List Bool) (t : TableRecord) : Type 0 where
+  pub still : (a u : ℕ) → get_or calm a false ≡ true → has_pair (a, u) line ≡ (nat_lt u (unit_count (as_known t.jobs) a) && nat_lt 0 (out_of (asks_in cells) t.entries a u))
+
 -- A placer and a table are of one cluster and have the same jobs, and where the placer is idle nothing is placeable. What a placer keeps beside
 -- may grow, and callers need not look into this
 pub record IsLevel (p : PlacerRecord) (t : TableRecord) : Type 0 where
@@ -134,6 +140,7 @@ pub record IsLevel (p : PlacerRecord) (t : TableRecord) : Type 0 where
   pub quiet : p.idle ≡ true → IsQuiet p.seen.cells p.seen.opened p.seen.line p.seen.turns p.kept.marks t
   pub clear : p.idle ≡ true → p.forgotten ≡ true → IsClear p.seen.opened p.seen.line p.kept.marks t
   pub stands : AllStand p.seen.cluster p.seen.cells t.entries p.seen.line p.tree
+  pub still : IsStill p.seen.cells p.seen.line p.calm t
 
 unfoldable pub IsLevelWith : PlacerRecord → TableRecord → Type 0
 IsLevelWith p t = IsLevel p t
@@ -174,10 +181,10 @@ pub record IsSetFrom (before after : TableRecord) (s : Spot) : Type 0 where
   pub is : after ≡ record before { entries = set_count spot_cmp before.entries s number }
 
 -- what the fields of a placer show, and what they keep: the line has admitted units alone, both lines have room for all of them, and exactly the pairs of the line wait in the tree
-abbrev pub placer_record : WishesRecord → LineRecord → ℕ → Bool → List Mark → List ℕ → List ℕ → TreeRecord → Bool → PlacerRecord
-placer_record w line turns idle marks turn_of held tree forgotten = record { seen = record { cluster = w.cluster; cells = w.cells; opened = w.opened; line = line.pairs; turns = turns }; idle = idle; kept = record { marks = map mark_of marks; turn_of = turn_of; held = held }; tree = tree; forgotten = forgotten }
+abbrev pub placer_record : WishesRecord → LineRecord → ℕ → Bool → List Mark → List ℕ → List ℕ → TreeRecord → Bool → List Bool → PlacerRecord
+placer_record w line turns idle marks turn_of held tree forgotten calm = record { seen = record { cluster = w.cluster; cells = w.cells; opened = w.opened; line = line.pairs; turns = turns }; idle = idle; kept = record { marks = map mark_of marks; turn_of = turn_of; held = held }; tree = tree; forgotten = forgotten; calm = calm }
 
-pub record IsPlacer (w : WishesRecord) (line other : LineRecord) (units marks : ℕ) (turn_of : List ℕ) (held : ℕ) (tree : TreeRecord) : Type 0 where
+pub record IsPlacer (w : WishesRecord) (line other : LineRecord) (units marks : ℕ) (turn_of : List ℕ) (held : ℕ) (tree : TreeRecord) (calm : ℕ) : Type 0 where
   pub admitted : AllByRecursion (λ (p : ℕ × ℕ). p.1 < length (get_or w.cells p.0 [])) line.pairs
   pub places : length w.cells ≡ 256
   pub counted : units ≡ units_in_all w.cells
@@ -186,6 +193,7 @@ pub record IsPlacer (w : WishesRecord) (line other : LineRecord) (units marks : 
   pub marked : marks ≡ length w.cluster.machines
   pub turn_places : length turn_of ≡ 2048
   pub held_places : held ≡ 2048
+  pub calm_places : calm ≡ 256
   pub rises : IsRising (λ (p : ℕ × ℕ). turn_at turn_of p.0 p.1) line.pairs
   pub holds : HoldsLine w.cluster w.cells line.pairs turn_of tree
 

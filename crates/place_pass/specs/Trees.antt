@@ -42,7 +42,12 @@ pub record StandsAs (c : ClusterRecord) (cells : List (List Cell)) (es : List (S
   pub near : (m : ℕ) → m < length c.machines → get_or (unit_at t a u).stands m false ≡ is_unmet_on cells es a u m
   pub racks : (r : ℕ) → r < 64 → get_or (unit_at t a u).stands (rack_place t.racks r) false ≡ is_unmet_in c cells es a u r
 
--- each unit of a line does
+-- it stands in none of these queues
+pub record StandsNowhere (c : ClusterRecord) (a u : ℕ) (t : TreeRecord) : Type 0 where
+  pub near : (m : ℕ) → m < length c.machines → get_or (unit_at t a u).stands m false ≡ false
+  pub racks : (r : ℕ) → r < 64 → get_or (unit_at t a u).stands (rack_place t.racks r) false ≡ false
+
+-- each unit of a line stands as it has to
 abbrev pub AllStand : ClusterRecord → List (List Cell) → List (Spot × ℕ) → List (ℕ × ℕ) → TreeRecord → Type 0
 AllStand c cells es line t = (a u : ℕ) → has_pair (a, u) line ≡ true → StandsAs c cells es a u t
 

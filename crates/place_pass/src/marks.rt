@@ -52,7 +52,7 @@ pub(crate) struct Mark {
 }
 
 impl Mark {
-    ghost use Rattle.std.specs.Prelude.{◌≡◌, ◌<◌, nat_lt, false, cond, map};
+    ghost use Rattle.std.specs.Prelude.{◌≡◌, ◌<◌, nat_lt, false, cond, map, is_some};
     ghost use Rattle.std.proofs.Common.{get_or};
     ghost use Rattle.std.specs.Option.{option_map};
     ghost use Rattle.std.specs.List.{list_any};
@@ -78,6 +78,13 @@ impl Mark {
         } else {
             self.bound
         }
+    }
+
+    /// Whether a pair may be placeable, also one that was not looked at.
+    pub(crate) fn may_have(&self, turns: u64) -> bool
+        ensures { result ≡ is_some (key_of (mark_of self.now) turns) }
+    {
+        (self.until < turns) | self.bound.is_some()
     }
 
     // Anything may be placeable.
@@ -151,6 +158,16 @@ pub(crate) fn fresh_marks(alloc: Global, machines: usize) -> Result<Vec<Mark>, O
     Ok(Vec::from_elem(alloc, Mark::new(), machines)?)
 }
 
+// On each machine what is placeable may come earlier.
+fn lower_all(marks: &mut Vec<Mark>)
+    ensures marks { (m : ℕ) → m < length marks.old.items → mark_at (map mark_of marks.new.items) m ≡ lowered_mark (mark_at (map mark_of marks.old.items) m) }
+    ensures long { length marks.new.items ≡ length marks.old.items }
+{
+    for number in 0..marks.len() {
+        marks[number].lower();
+    }
+}
+
 /// Told of a demand before the wishes are: what is placeable may come earlier, and on a machine that a unit avoids no
 /// longer anything may be placeable.
 pub(crate) fn tell_demand(marks: &mut Vec<Mark>, wishes: &Wishes, app: AppNo, demand: &Demand)
@@ -158,6 +175,10 @@ pub(crate) fn tell_demand(marks: &mut Vec<Mark>, wishes: &Wishes, app: AppNo, de
     ensures marks { (m : ℕ) → m < length marks.old.items → IsAsked demand.now.entries (get_or wishes.now.cells app.0 []) m (mark_at (map mark_of marks.old.items) m) (mark_at (map mark_of marks.new.items) m) }
     ensures long { length marks.new.items ≡ length marks.old.items }
 {
+    if !wishes.avoids_any(app) {
+        lower_all(marks);
+        return;
+    }
     for number in 0..wishes.cluster().machines() {
         let lifted = wishes.lifts(app, demand, MachineNo(number));
         marks[number as usize].ask(lifted);

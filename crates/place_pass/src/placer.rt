@@ -3,11 +3,12 @@
 use crate::line::Line;
 use crate::marks::{Mark, forget_groups, fresh_marks, reset_one, tell, tell_demand};
 use crate::search::{first, slot};
-use crate::standing::{enter_line, leave_line, tell_asked, tell_spot};
-use crate::waiting::{join, keep, keep_others, number_from};
+use crate::standing::{enter_line, tell_asked, tell_spot};
+use crate::waiting::{calm_all, join, keep_others, leave, number_from, stir};
 use crate::wishes::{Wishes, fresh_units};
 use cluster_desc::Cluster;
 use fuxi_terms::OutOfMemory;
+use fuxi_terms::limits::MOST_JOBS;
 use grant_table::{Asking, GrantTable, Pick, Steps, admitted_jobs, set_numbers};
 use locality_tree::Tree;
 use party_ledgers::Demand;
@@ -41,6 +42,8 @@ pub struct Placer {
     tree: Tree,
     /// While the placer is idle: whether groups were forgotten where that can be, and the line lost no pair since.
     forgotten: bool,
+    /// By job number: nothing was told of the job since the line was brought up to date.
+    calm: Vec<bool>,
 }
 
 // Written out, so that who lets one go checks this call and not all of its parts.
@@ -58,6 +61,7 @@ impl Drop for Placer {
             held,
             tree,
             forgotten,
+            calm,
         } = self;
     }
 }
@@ -67,11 +71,11 @@ impl Model for Placer {
 
     ghost Value = { PlacerRecord };
 
-    ghost view = { λ p. placer_record p.wishes p.line p.turns p.idle p.marks.items p.turn_of.items p.held.items p.tree p.forgotten };
+    ghost view = { λ p. placer_record p.wishes p.line p.turns p.idle p.marks.items p.turn_of.items p.held.items p.tree p.forgotten p.calm.items };
 
     ghost use Rattle.std.specs.Prelude.{length};
 
-    ghost invariant = { λ p. IsPlacer p.wishes p.line p.other p.units (length p.marks.items) p.turn_of.items (length p.held.items) p.tree };
+    ghost invariant = { λ p. IsPlacer p.wishes p.line p.other p.units (length p.marks.items) p.turn_of.items (length p.held.items) p.tree (length p.calm.items) };
 }
 
 impl Placer {
@@ -101,6 +105,7 @@ impl Placer {
         let turn_of = Vec::from_elem(alloc, 0, 2048)?;
         let held = Vec::from_elem(alloc, 0, 2048)?;
         let tree = Tree::start(alloc, cluster)?;
+        let calm = Vec::from_elem(alloc, false, MOST_JOBS as usize)?;
         Ok(Placer {
             wishes,
             line: Line::new(alloc),
@@ -113,6 +118,7 @@ impl Placer {
             held,
             tree,
             forgotten: false,
+            calm,
         })
     }
 
@@ -137,6 +143,7 @@ impl Placer {
         let fresh = fresh_units(alloc, job, machines)?;
         self.tree.admit(alloc, job)?;
         self.wishes.add_job(job, fresh);
+        stir(&mut self.calm, job.app());
         self.units = units;
         Ok(())
     }
@@ -158,7 +165,9 @@ impl Placer {
         let counts = demand.entries();
         let _wishes = self.wishes.cluster();
         tell_demand(&mut self.marks, &self.wishes, app, demand);
+        let preferred = self.wishes.prefers_any(app);
         let more = self.wishes.asked(app, demand);
+        stir(&mut self.calm, app);
         self.idle &= !more;
         tell_asked(
             &mut self.tree,
@@ -167,6 +176,7 @@ impl Placer {
             &self.turn_of,
             table,
             app,
+            preferred,
         );
     }
 
@@ -187,6 +197,7 @@ impl Placer {
         self.idle = false;
         let _wishes = self.wishes.cluster();
         let place = slot(app, unit);
+        stir(&mut self.calm, app);
         tell(
             &mut self.marks,
             &self.wishes,
@@ -251,35 +262,35 @@ impl Placer {
         let _cluster = table.cluster();
         let _wishes = self.wishes.cluster();
         let before = self.line.len();
-        leave_line(
+        leave(
+            &mut self.line,
+            &mut self.other,
             &mut self.tree,
-            &self.line,
             &self.wishes,
             &self.turn_of,
+            &self.calm,
             table,
         );
-        self.other.clear();
-        keep(&mut self.other, &self.line, &self.wishes, table);
-        let stayed = self.other.len();
-        join(&mut self.other, &self.line, &self.wishes, table);
+        let stayed = self.line.len();
+        join(&mut self.line, &self.wishes, &self.calm, table);
         number_from(
             &mut self.turn_of,
-            &self.other,
+            &self.line,
             &self.wishes,
             stayed,
             self.turns,
         );
         enter_line(
             &mut self.tree,
-            &self.other,
+            &self.line,
             &self.wishes,
             &self.turn_of,
             table,
             stayed,
         );
-        self.turns += (self.other.len() - stayed) as u64;
+        calm_all(&mut self.calm);
+        self.turns += (self.line.len() - stayed) as u64;
         self.forgotten &= stayed == before;
-        mem::swap(&mut self.line, &mut self.other);
     }
 
     /// How many grants of an admitted unit are out: wanted and not held.

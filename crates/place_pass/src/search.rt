@@ -652,6 +652,15 @@ fn consider_at<L: Ledger>(
     )
 }
 
+// Whether the machine is open and by its mark a pair may be placeable there. The others are passed before they are considered.
+fn is_unsettled(wishes: &Wishes, marks: &Vec<Mark>, machine: MachineNo, turns: u64) -> bool
+    requires { machine.0 < length marks.now.items }
+    ensures { result ≡ is_unsettled_by wishes.now.opened (mark_at (map mark_of marks.now.items) machine.0) turns machine.0 }
+{
+    let mark = &marks[machine.0 as usize];
+    mark.may_have(turns) & wishes.is_open(machine)
+}
+
 // Whether a rank comes before the least so far.
 fn is_less(least: &Option<Rank>, key: &Rank) -> bool {
     match least {
@@ -719,6 +728,9 @@ fn best_of_others<L: Ledger>(
     let mut best = before;
     for number in 0..table.cluster().machines() {
         if number == start.0 {
+            continue;
+        }
+        if !is_unsettled(wishes, marks, MachineNo(number), turns) {
             continue;
         }
         best = consider_at(

@@ -13,7 +13,7 @@ ghost use Rattle.place_pass.specs.Best.{AreAdmitted};
 ghost use Rattle.place_pass.specs.Bounds.{IsRising, turn_at};
 ghost use Rattle.place_pass.specs.Cells.{asks_in, job_at};
 ghost use Rattle.place_pass.specs.Placers.{AreLevel, IsSetFrom};
-ghost use Rattle.place_pass.specs.Trees.{Holds, HoldsLine, AllStand, StandsAs, WaitsIn, Restood, RestoodAt, entry_for, is_unmet_on, is_unmet_in};
+ghost use Rattle.place_pass.specs.Trees.{Holds, HoldsLine, AllStand, StandsAs, StandsNowhere, WaitsIn, Restood, RestoodAt, entry_for, is_unmet_on, is_unmet_in};
 
 use crate::line::Line;
 use crate::search::turn_of_unit;
@@ -178,7 +178,8 @@ pub(crate) fn tell_spot(
     mark_spot(tree, &entry, wishes, table, machine);
 }
 
-/// Told that a job asks otherwise: its units of the line stand where they ask for more than they have.
+/// Told that a job asks otherwise: its units of the line stand where they ask for more than they have. Where none of them asked for a
+/// machine or a rack before, and none does, they stand as they did.
 pub(crate) fn tell_asked(
     tree: &mut Tree,
     line: &Line,
@@ -186,6 +187,7 @@ pub(crate) fn tell_asked(
     turn_of: &Vec<u64>,
     table: &GrantTable,
     app: AppNo,
+    preferred: bool,
 )
     requires cluster { wishes.now.cluster ≡ table.now.cluster }
     requires admitted { AreAdmitted wishes.now.cells line.now.pairs }
@@ -194,9 +196,14 @@ pub(crate) fn tell_asked(
     ensures holds { HoldsLine wishes.now.cluster wishes.now.cells line.now.pairs turn_of.now.items tree.new }
     ensures stands { length (get_or wishes.now.cells app.0 []) ≡ unit_count (as_known table.now.jobs) app.0
         → ((a u : ℕ) → has_pair (a, u) line.now.pairs ≡ true → nat_eq a app.0 ≡ false → StandsAs wishes.now.cluster wishes.now.cells table.now.entries a u tree.old)
+        → (preferred ≡ false → (u : ℕ) → has_pair (app.0, u) line.now.pairs ≡ true → StandsNowhere wishes.now.cluster app.0 u tree.old)
         → AllStand wishes.now.cluster wishes.now.cells table.now.entries line.now.pairs tree.new }
 {
     let _wishes = wishes.cluster();
+    let prefers = preferred | wishes.prefers_any(app);
+    if !prefers {
+        return;
+    }
     for number in 0..wishes.units(app) as u8 {
         if number as usize >= table.units(app) {
             return;

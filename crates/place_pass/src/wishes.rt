@@ -1,7 +1,8 @@
 //! What the admitted units are and what is asked of them, by job number and unit, and the machines that are open.
 
-ghost use Rattle.std.specs.Prelude.{◌≡◌, ℕ, ◌+◌, ◌<◌, ◌≤◌, ◌&&◌, false, nat_eq, nat_lt, cond, List, [], length, map, replicate, IfOk};
+ghost use Rattle.std.specs.Prelude.{◌≡◌, ℕ, ◌+◌, ◌<◌, ◌≤◌, ◌&&◌, true, false, nat_eq, nat_lt, cond, List, [], length, map, replicate, IfOk};
 ghost use Rattle.std.proofs.Common.{get_or};
+ghost use Rattle.std.specs.List.{list_any};
 ghost use Rattle.fuxi_terms.specs.Keys.{key_cmp};
 ghost use Rattle.fuxi_terms.specs.Counts.{count};
 ghost use Rattle.fuxi_terms.specs.Cluster.{has_rack};
@@ -11,7 +12,7 @@ ghost use Rattle.place_pass.specs.Walks.{IsPast};
 ghost use Rattle.place_pass.specs.Cells.{Cell, cell_of, cells_in, cells_of, cell_at, no_cell, fresh_cells, numbers_at, racks_at, taken, taken_all, any_gone, asks_more, any_more};
 
 use cluster_desc::Cluster;
-use fuxi_terms::limits::MOST_RACKS;
+use fuxi_terms::limits::{MOST_JOBS, MOST_RACKS};
 use fuxi_terms::tally_keys::{AVOID, NEAR, RACK, WANT};
 use fuxi_terms::{Key, OutOfMemory};
 use party_ledgers::Demand;
@@ -159,6 +160,35 @@ impl Wishes {
         self.wish(app, unit).avoided[machine.0 as usize] == 0
     }
 
+    /// Whether a unit of the job avoids a machine.
+    pub(crate) fn avoids_any(&self, app: AppNo) -> bool
+        ensures { result ≡ false → (u m : ℕ) → u < length (get_or self.now.cells app.0 []) → get_or (cell_at self.now.cells app.0 u).avoided m 0 ≡ 0 }
+    {
+        for number in 0..self.units(app) as u8 {
+            if has_some(&self.wish(app, UnitNo(number)).avoided) {
+                return true;
+            }
+        }
+        false
+    }
+
+    /// Whether a unit of the job asks for a machine or a rack.
+    pub(crate) fn prefers_any(&self, app: AppNo) -> bool
+        ensures near { result ≡ false → (u m : ℕ) → u < length (get_or self.now.cells app.0 []) → get_or (cell_at self.now.cells app.0 u).near m 0 ≡ 0 }
+        ensures racks { result ≡ false → (u r : ℕ) → u < length (get_or self.now.cells app.0 []) → get_or (cell_at self.now.cells app.0 u).racks r 0 ≡ 0 }
+    {
+        for number in 0..self.units(app) as u8 {
+            let wish = self.wish(app, UnitNo(number));
+            if has_some(&wish.near) {
+                return true;
+            }
+            if has_some(&wish.racks) {
+                return true;
+            }
+        }
+        false
+    }
+
     /// Whether by this demand a unit of the job no longer avoids a machine that it avoided.
     pub(crate) fn lifts(&self, app: AppNo, demand: &Demand, machine: MachineNo) -> bool
         requires { machine.0 < length self.now.cluster.machines }
@@ -233,7 +263,7 @@ fn empty_slots(alloc: Global) -> Result<Vec<Vec<Wish>>, OutOfMemory>
     ensures { IfOk result (λ slots. cells_of slots.items ≡ replicate 256 []) }
 {
     let mut slots = Vec::new(alloc);
-    for _ in 0..256_usize {
+    for _ in 0..MOST_JOBS {
         slots.push(Vec::new(alloc))?;
     }
     Ok(slots)
@@ -326,6 +356,48 @@ fn next_number(demand: &Demand, passed: &mut usize, sought: &Key) -> u32
     }
 }
 
+// Whether one of these numbers is not 0.
+fn has_some(numbers: &Vec<u32>) -> bool
+    ensures { result ≡ list_any (λ n. nat_lt 0 n) numbers.now.items }
+{
+    numbers.iter().any(|number| *number > 0)
+}
+
+// Whether a key is of this kind and unit.
+fn is_of(key: &Key, what: u8, unit: u8) -> bool
+    ensures { result ≡ (nat_eq key.now.what what && nat_eq key.now.unit unit) }
+{
+    key.what == what && key.unit == unit
+}
+
+// Whether a demand has something of a kind of a unit, at whichever machine or rack.
+fn has_any(demand: &Demand, what: u8, unit: u8) -> bool
+    ensures { result ≡ false → (n : ℕ) → count key_cmp demand.now.entries (key what unit n) ≡ 0 }
+{
+    let entries = demand.entries();
+    let first = Key {
+        what,
+        unit,
+        number: 0,
+    };
+    let place = place_of(entries, 0, &first);
+    if place >= entries.len() {
+        return false;
+    }
+    is_of(&entries[place].0, what, unit)
+}
+
+// Whether numbers are 0 and stay so, since a demand has nothing of their kind.
+fn stay_zero(numbers: &Vec<u32>, demand: &Demand, what: u8, unit: u8) -> bool
+    ensures zero { result ≡ true → (n : ℕ) → get_or numbers.now.items n 0 ≡ 0 }
+    ensures none { result ≡ true → (n : ℕ) → count key_cmp demand.now.entries (key what unit n) ≡ 0 }
+{
+    if has_any(demand, what, unit) {
+        return false;
+    }
+    !has_some(numbers)
+}
+
 // What a demand has of a kind at each machine. True where it has nothing at one that had a number.
 fn read_numbers(numbers: &mut Vec<u32>, machines: u32, demand: &Demand, what: u8, unit: u8) -> bool
     requires what { what < 5 }
@@ -333,6 +405,9 @@ fn read_numbers(numbers: &mut Vec<u32>, machines: u32, demand: &Demand, what: u8
     ensures numbers { numbers.new.items ≡ numbers_at demand.now.entries what unit machines }
     ensures gone { result ≡ any_gone demand.now.entries what unit numbers.old.items machines }
 {
+    if stay_zero(numbers, demand, what, unit) {
+        return false;
+    }
     let mut passed = 0;
     let mut gone = false;
     for machine in 0..machines {
@@ -355,8 +430,11 @@ fn read_racks(racks: &mut Vec<u32>, cluster: &Cluster, demand: &Demand, unit: u8
     requires { length racks.old.items ≡ 64 }
     ensures { racks.new.items ≡ racks_at cluster.now demand.now.entries unit }
 {
+    if stay_zero(racks, demand, RACK, unit) {
+        return;
+    }
     let mut passed = 0;
-    for number in 0..64_u32 {
+    for number in 0..MOST_RACKS {
         let key = Key {
             what: RACK,
             unit,

@@ -8,6 +8,14 @@ use Rattle.place_pass.specs.Sights.{IsAsked}
 use Rattle.place_pass.proofs.SightsLemmas.{mark_read, marks_set}
 use Rattle.place_pass.proofs.marks.tell_demand.Goals as goal
 
+pub returns-then-not-avoids_any-clause-marks : goal.returns-then-not-avoids_any-clause-marks
+returns-then-not-avoids_any-clause-marks c m l = record {
+  lifted = false;
+  is = c.lower_all.ensures.marks m l;
+  some = λ e. cc;
+  none = λ _ u lt was. let z = c.avoids_any.ensures c.if-not-avoids_any.true u m lt in absurd (omega (arith, z, was));
+}
+
 pub loop-number-preserved : goal.loop-number-preserved
 loop-number-preserved c =
     let items = c.loop-number.marks.items in

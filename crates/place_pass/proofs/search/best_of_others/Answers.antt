@@ -1,4 +1,4 @@
-use Rattle.std.proofs.Common.{◌≡◌, ℕ, ◌+◌, Bool, true, false, cond, not, nat_eq, map, get_or, None, sym, ◌∙◌, ap, subst, arith, add-one, inl, inr}
+use Rattle.std.proofs.Common.{◌≡◌, ℕ, ◌+◌, Bool, true, false, cond, not, nat_eq, map, get_or, None, refl, sym, ◌∙◌, ap, subst, arith, add-one, inl, inr}
 use Rattle.std.specs.Prelude.{◌&&◌}
 use Rattle.std.proofs.lemmas.Bool.{cases_lt}
 use Rattle.std.proofs.lemmas.Bool.Decides.{nat_tests}
@@ -6,6 +6,7 @@ use Rattle.place_pass.specs.Bounds.{MarkRecord, mark_of, mark_at, key_of, rank_o
 use Rattle.place_pass.specs.Counts.{is_unsettled_by, count_below}
 use Rattle.place_pass.specs.Placers.{board_over}
 use Rattle.place_pass.specs.Sights.{found_rank, turn_in, IsLeast}
+use Rattle.place_pass.proofs.SightsLemmas.{least_settled, settled_key}
 use Rattle.place_pass.proofs.search.best_of_others.Goals as goal
 
 -- one number more is tested
@@ -40,6 +41,45 @@ loop-number-preserved-then-number-start g c =
       ];
       first = c.loop-number.invariant.first;
     }
+
+-- a machine that is passed has nothing placeable, and costs no look
+pub loop-number-preserved-then-not-is_unsettled : goal.loop-number-preserved-then-not-is_unsettled
+loop-number-preserved-then-not-is_unsettled g c =
+    let b = board_over c.args.wishes.now.cells c.args.wishes.now.opened c.args.table.now in
+    let es = c.args.table.now.entries in
+    let f = turn_in c.args.turn_of.now in
+    let line = c.args.line.now.pairs in
+    let n = c.loop-number.number in
+    let o = c.args.wishes.now.opened in
+    let turns = c.args.turns in
+    let marks = map mark_of c.loop-number.marks.items in
+    let settled : is_unsettled_by o (mark_at marks n) turns n ≡ false = sym c.is_unsettled.ensures ∙ c.if-not-is_unsettled.true in
+    let test : ℕ → Bool = λ m. not (nat_eq m c.args.start.0) && is_unsettled_by o (mark_at (map mark_of c.args.marks.now.items) m) turns m in
+    let one : ◌≡◌ {A = ℕ} (cond (test n) 1 0) 0 = passed (not (nat_eq n c.args.start.0)) (is_unsettled_by o (mark_at (map mark_of c.args.marks.now.items) n) turns n)
+    (ap (λ (k : MarkRecord). is_unsettled_by o k turns n) (sym (c.loop-number.invariant.left n (omega arith))) ∙ settled) in
+    record {
+      least = λ m lt. elim (cases_lt m n) [
+        | inl l ↦ c.loop-number.invariant.least m l
+        | inr ge ↦ subst (λ z. IsLeast b es f line (found_rank c.loop-number.best) z) (let same : n ≡ m = omega (arith, lt, ge) in same)
+            (least_settled c.args.wishes.now.cells o c.args.table.now f line (mark_at marks n) n turns (found_rank c.loop-number.best) settled c.requires.below (c.loop-number.invariant.bounded n))
+      ];
+      seen = c.loop-number.invariant.seen;
+      found = c.loop-number.invariant.found;
+      marked = c.loop-number.invariant.marked;
+      bounded = c.loop-number.invariant.bounded;
+      until = c.loop-number.invariant.until;
+      left = λ m le. c.loop-number.invariant.left m (omega (arith, le));
+      count = let k = c.loop-number.invariant.count in let e = count_next test n in omega (arith, k, e, one);
+      settled = λ e m lt. elim (cases_lt m n) [
+        | inl l ↦ c.loop-number.invariant.settled e m l
+        | inr ge ↦ subst (λ z. get_or o z false ≡ true → key_of (mark_at marks z) turns ≡ None) (let same : n ≡ m = omega (arith, lt, ge) in same) (settled_key (get_or o n false) (key_of (mark_at marks n) turns) settled)
+      ];
+      first = c.loop-number.invariant.first;
+    }
+  where
+    passed : (x y : Bool) → y ≡ false → ◌≡◌ {A = ℕ} (cond (x && y) 1 0) 0
+    passed true y e = ap (λ b. cond b 1 0) e
+    passed false y e = refl
 
 pub loop-number-preserved : goal.loop-number-preserved
 loop-number-preserved g c =

@@ -3,13 +3,14 @@ use Rattle.std.specs.Prelude.{◌&&◌}
 use Rattle.std.proofs.lemmas.Bool.{cases_eq}
 use Rattle.std.proofs.lemmas.Bool.Decides.{nat_tests}
 use Rattle.fuxi_terms.specs.Jobs.{unit_count}
-use Rattle.fuxi_terms.proofs.Booleans.{number_is}
+use Rattle.fuxi_terms.proofs.Booleans.{both_false, number_is}
 use Rattle.fuxi_terms.proofs.Lists.{all_at}
 use Rattle.grant_table.specs.Tables.{as_known}
 use Rattle.wait_queue.specs.declared.node.Entry.{Entry}
 use Rattle.locality_tree.specs.Trees.{unit_number}
 use Rattle.written_roles.specs.Placing.{has_pair}
 use Rattle.place_pass.specs.Trees.{StandsAs, WaitsIn, Restood}
+use Rattle.place_pass.proofs.PlainLemmas.{plain_stands}
 use Rattle.place_pass.proofs.SightsLemmas.{place_of}
 use Rattle.place_pass.proofs.StandingLemmas.{holds_on, numbers_apart, stands_on, waits_in}
 use Rattle.place_pass.proofs.standing.tell_asked.Goals as goal
@@ -82,7 +83,7 @@ loop-number-preserved c =
     last false y e = refl
 
 pub returns-clause-stands : goal.returns-clause-stands
-returns-clause-stands c same before a u has =
+returns-clause-stands c same before _ a u has =
     let w = c.args.wishes.now in
     let line = c.args.line.now.pairs in
     let es = c.args.table.now.entries in
@@ -101,7 +102,25 @@ returns-clause-stands c same before a u has =
     ] refl
 
 pub returns-then-number-units-clause-stands : goal.returns-then-number-units-clause-stands
-returns-then-number-units-clause-stands c same before a u has =
+returns-then-number-units-clause-stands c same before _ a u has =
     let e = c.units.ensures.number in let ge = c.if-number-units.true in
     let t = c.loop-number-test.true in let n = c.units-number-end.ensures.number in
     absurd (omega (arith, same, e, ge, t, n))
+
+pub returns-then-not-prefers-clause-stands : goal.returns-then-not-prefers-clause-stands
+returns-then-not-prefers-clause-stands c same before nowhere a u has =
+    let w = c.args.wishes.now in
+    let line = c.args.line.now.pairs in
+    let es = c.args.table.now.entries in
+    let t = c.args.tree.now in
+    let none = both_false c.args.preferred c.prefers_any.result c.if-not-prefers.true in
+    elim (nat_eq a c.args.app.0) as (λ x. nat_eq a c.args.app.0 ≡ x → StandsAs w.cluster w.cells es a u t) [
+      | true ↦ λ x.
+          let is = number_is a c.args.app.0 x in
+          let place = place_of (a, u) line has in
+          let l = all_at (λ (p : ℕ × ℕ). p.1 < length (get_or w.cells p.0 [])) line place.place (a, u) c.requires.admitted place.at in
+          let lt = subst (λ b. u < length (get_or w.cells b [])) is l in
+          subst (λ b. StandsAs w.cluster w.cells es b u t) (sym is)
+          (plain_stands w.cluster w.cells es c.args.app.0 u t (λ m. c.prefers_any.ensures.near none.1 u m lt) (λ r. c.prefers_any.ensures.racks none.1 u r lt) (nowhere none.0 u (subst (λ b. has_pair (b, u) line ≡ true) is has)))
+      | false ↦ λ x. before a u has x
+    ] refl

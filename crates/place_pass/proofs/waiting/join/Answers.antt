@@ -1,53 +1,74 @@
-use Rattle.std.proofs.Common.{◌≡◌, ℕ, ◌+◌, Bool, false, not, nat_lt, List, [], ◌∷◌, ◌++◌, length, map, filter, get_or, take, sym, ◌∙◌, ap, subst, arith, append_assoc}
-use Rattle.std.specs.Prelude.{◌&&◌}
+use Rattle.std.proofs.Common.{◌≡◌, ℕ, ◌+◌, Bool, true, false, not, nat_lt, List, [], ◌∷◌, ◌++◌, length, map, filter, get_or, take, sym, ◌∙◌, ap, arith, append_assoc}
+use Rattle.std.specs.Prelude.{◌&&◌, ◌||◌}
 use Rattle.fuxi_terms.specs.Cluster.{JobRecord}
 use Rattle.fuxi_terms.specs.Jobs.{unit_count}
+use Rattle.fuxi_terms.specs.Keys.{Spot}
 use Rattle.fuxi_terms.specs.Numbers.{has_number}
+use Rattle.fuxi_terms.specs.declared.Key.{Key}
+use Rattle.fuxi_terms.proofs.Booleans.{and_true, or_false}
 use Rattle.written_roles.specs.Masters.{out_of}
 use Rattle.written_roles.specs.Placing.{has_pair, waiting_in}
 use Rattle.grant_table.specs.Tables.{as_known}
 use Rattle.place_pass.specs.Cells.{asks_in}
 use Rattle.place_pass.specs.Lines.{same_pair, waiting_of}
 use Rattle.place_pass.proofs.Matching.{count_is}
-use Rattle.place_pass.proofs.Lining.{any_append, or_none, none_filter, append_nil, has_flat, flat_append, filter_append, rising_apart, numbers_more}
+use Rattle.place_pass.proofs.Lining.{any_append, none_filter, append_nil, has_flat, flat_append, filter_append, rising_apart, numbers_more}
+use Rattle.place_pass.proofs.StillLemmas.{none_new, paired_same}
 use Rattle.place_pass.proofs.waiting.join.Goals as goal
 
-pub join_units-requires-clause-apart : goal.join_units-requires-clause-apart
-join_units-requires-clause-apart c u h =
-    let r : ℕ × ℕ → Bool = λ p. not (has_pair p c.args.line.now.pairs) in
+-- the pairs of one job more
+one_more : (old js : List JobRecord) (r : ℕ × ℕ → Bool) (units : ℕ → ℕ) (asks : ℕ → Key → ℕ) (entries : List (Spot × ℕ)) (a : ℕ) → map (λ (j : JobRecord). j.number) js ≡ map (λ (j : JobRecord). j.number) old ++ a ∷ []
+    → filter r (waiting_in (map (λ (j : JobRecord). j.number) js) units asks entries) ≡ filter r (waiting_in (map (λ (j : JobRecord). j.number) old) units asks entries) ++ filter r (waiting_of asks entries a (units a))
+one_more old js r units asks entries a is =
+    let f : ℕ → List (ℕ × ℕ) = λ b. waiting_of asks entries b (units b) in
+    let numbers = map (λ (j : JobRecord). j.number) old in
+    ap (filter r) (ap (λ ns. waiting_in ns units asks entries) is ∙ flat_append f numbers (a ∷ []) ∙ ap (λ xs. waiting_in numbers units asks entries ++ xs) (append_nil (f a)))
+    ∙ filter_append r (waiting_in numbers units asks entries) (f a)
+
+pub loop-index-preserved-then-is_calm : goal.loop-index-preserved-then-is_calm
+loop-index-preserved-then-is_calm c =
+    let old = c.args.line.now.pairs in
+    let r : ℕ × ℕ → Bool = λ p. not (has_pair p old) in
     let t = c.args.table.now in
     let asks = asks_in c.args.wishes.now.cells in
     let i = c.loop-index.index in
-    let a = c.app.result.0 in
-    let numbers = map (λ (j : JobRecord). j.number) (take i t.jobs) in
-    let joined = waiting_in numbers (unit_count (as_known t.jobs)) asks t.entries in
-    let apart = rising_apart t.jobs i c.job.result.now c.requires.jobs c.job.ensures in
-    let none : has_pair (a, u) joined ≡ false = has_flat (unit_count (as_known t.jobs)) (λ b v. nat_lt 0 (out_of asks t.entries b v)) a u numbers
-    ∙ ap (λ x. has_number x numbers && (nat_lt u (unit_count (as_known t.jobs) a) && nat_lt 0 (out_of asks t.entries a u))) c.app.ensures.number ∙ ap (λ b. b && (nat_lt u (unit_count (as_known t.jobs) a) && nat_lt 0 (out_of asks t.entries a u))) apart in
-    subst (λ ks. has_pair (a, u) ks ≡ false) (sym c.loop-index.invariant.pairs)
-    (any_append (same_pair (a, u)) c.args.next.now.pairs (filter r joined)
-    ∙ or_none (has_pair (a, u) c.args.next.now.pairs) (has_pair (a, u) (filter r joined)) (c.requires.apart (a, u) h) (none_filter (same_pair (a, u)) r joined none))
+    let a = c.app-app.result.0 in
+    let units = unit_count (as_known t.jobs) in
+    let joined = waiting_in (map (λ (j : JobRecord). j.number) (take i t.jobs)) units asks t.entries in
+    let calm : get_or c.args.calm.now.items a false ≡ true = sym c.is_calm.ensures ∙ c.if-is_calm.true in
+    let more = one_more (take i t.jobs) (take (i + 1) t.jobs) r units asks t.entries a (numbers_more t.jobs i c.job.result.now c.job.ensures ∙ ap (λ n. map (λ (j : JobRecord). j.number) (take i t.jobs) ++ n ∷ []) (sym c.app-app.ensures.number)) in
+    let none = none_new old a (units a) (λ u. nat_lt 0 (out_of asks t.entries a u)) (λ u l w. c.requires.still.still a u calm ∙ and_true (nat_lt u (units a)) (nat_lt 0 (out_of asks t.entries a u)) l w) in
+    record {
+      pairs = c.loop-index.invariant.pairs ∙ ap (λ xs. old ++ xs) (sym (more ∙ ap (λ xs. filter r joined ++ xs) none ∙ append_nil (filter r joined)));
+      admitted = c.loop-index.invariant.admitted;
+      room = c.loop-index.invariant.room;
+    }
 
 pub loop-index-preserved : goal.loop-index-preserved
 loop-index-preserved c =
-    let r : ℕ × ℕ → Bool = λ p. not (has_pair p c.args.line.now.pairs) in
+    let old = c.args.line.now.pairs in
+    let r : ℕ × ℕ → Bool = λ p. not (has_pair p old) in
     let t = c.args.table.now in
     let asks = asks_in c.args.wishes.now.cells in
     let i = c.loop-index.index in
-    let a = c.app.result.0 in
+    let a = c.app-app.result.0 in
+    let n = length (get_or c.args.wishes.now.cells a []) in
     let units = unit_count (as_known t.jobs) in
-    let old = c.args.next.now.pairs in
-    let numbers = map (λ (j : JobRecord). j.number) (take i t.jobs) in
-    let joined = waiting_in numbers units asks t.entries in
-    let f : ℕ → List (ℕ × ℕ) = λ b. waiting_of asks t.entries b (units b) in
-    let more : waiting_in (map (λ (j : JobRecord). j.number) (take (i + 1) t.jobs)) units asks t.entries ≡ joined ++ waiting_of asks t.entries a (units a) =
-    ap (λ ns. waiting_in ns units asks t.entries) (numbers_more t.jobs i c.job.result.now c.job.ensures ∙ ap (λ n. numbers ++ n ∷ []) (sym c.app.ensures.number)) ∙ flat_append f numbers (a ∷ []) ∙ ap (λ xs. joined ++ xs) (append_nil (f a)) in
+    let line = c.loop-index.line.pairs in
+    let joined = waiting_in (map (λ (j : JobRecord). j.number) (take i t.jobs)) units asks t.entries in
+    let more = one_more (take i t.jobs) (take (i + 1) t.jobs) r units asks t.entries a (numbers_more t.jobs i c.job.result.now c.job.ensures ∙ ap (λ n. map (λ (j : JobRecord). j.number) (take i t.jobs) ++ n ∷ []) (sym c.app-app.ensures.number)) in
     let count = count_is c.args.wishes.now.cluster c.args.wishes.now.cells t c.requires.level a in
+    let apart = rising_apart t.jobs i c.job.result.now c.requires.jobs c.job.ensures in
+    let none = λ (u : ℕ). has_flat units (λ b v. nat_lt 0 (out_of asks t.entries b v)) a u (map (λ (j : JobRecord). j.number) (take i t.jobs))
+    ∙ ap (λ x. has_number x (map (λ (j : JobRecord). j.number) (take i t.jobs)) && (nat_lt u (units a) && nat_lt 0 (out_of asks t.entries a u))) c.app-app.ensures.number ∙ ap (λ b. b && (nat_lt u (units a) && nat_lt 0 (out_of asks t.entries a u))) apart in
+    let same = λ (u : ℕ). ap (has_pair (a, u)) c.loop-index.invariant.pairs ∙ any_append (same_pair (a, u)) old (filter r joined) ∙ ap (λ b. has_pair (a, u) old || b) (none_filter (same_pair (a, u)) r joined (none u)) ∙ or_false (has_pair (a, u) old) in
     record {
-      pairs = c.join_units.ensures.pairs ∙ ap (λ ks. ks ++ filter r (waiting_of asks t.entries a (length (get_or c.args.wishes.now.cells a [])))) c.loop-index.invariant.pairs
+      pairs = c.join_units.ensures.pairs
+          ∙ ap (λ xs. line ++ xs) (paired_same (λ p. not (has_pair p line)) r a _ (λ u. ap not (same u)))
+          ∙ ap (λ ks. ks ++ filter r (waiting_of asks t.entries a n)) c.loop-index.invariant.pairs
           ∙ ap (λ n. (old ++ filter r joined) ++ filter r (waiting_of asks t.entries a n)) count
           ∙ append_assoc old (filter r joined) (filter r (waiting_of asks t.entries a (units a)))
-          ∙ ap (λ xs. old ++ xs) (sym (ap (filter r) more ∙ filter_append r joined (waiting_of asks t.entries a (units a))));
+          ∙ ap (λ xs. old ++ xs) (sym more);
       admitted = c.join_units.ensures.admitted;
       room = let x = c.loop-index.invariant.room in let y = c.join_units.ensures.room in omega (arith, x, y);
     }

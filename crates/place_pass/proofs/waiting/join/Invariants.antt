@@ -9,7 +9,7 @@ use Rattle.place_pass.proofs.waiting.join.Given as goal
 
 abbrev pub invariant-loop-index : goal.invariant-loop-index
 invariant-loop-index l = record {
-  pairs : l.next.pairs ≡ l.initial.next.pairs ++ filter (λ p. not (has_pair p l.line.pairs)) (waiting_in (map (λ (j : JobRecord). j.number) (take l.index l.table.jobs)) (unit_count (as_known l.table.jobs)) (asks_in l.wishes.cells) l.table.entries);
-  admitted : AreAdmitted l.wishes.cells l.next.pairs;
-  room : l.initial.next.room ≤ l.next.room;
+  pairs : l.line.pairs ≡ l.initial.line.pairs ++ filter (λ p. not (has_pair p l.initial.line.pairs)) (waiting_in (map (λ (j : JobRecord). j.number) (take l.index l.table.jobs)) (unit_count (as_known l.table.jobs)) (asks_in l.wishes.cells) l.table.entries);
+  admitted : AreAdmitted l.wishes.cells l.line.pairs;
+  room : l.initial.line.room ≤ l.line.room;
 }

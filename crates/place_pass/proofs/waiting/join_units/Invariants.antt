@@ -7,7 +7,7 @@ use Rattle.place_pass.proofs.waiting.join_units.Given as goal
 
 abbrev pub invariant-loop-number : goal.invariant-loop-number
 invariant-loop-number l = record {
-  pairs : l.next.pairs ≡ l.initial.next.pairs ++ filter (λ p. not (has_pair p l.line.pairs)) (waiting_of (asks_in l.wishes.cells) l.table.entries l.app.0 l.number);
-  admitted : AreAdmitted l.wishes.cells l.next.pairs;
-  room : l.initial.next.room ≤ l.next.room;
+  pairs : l.line.pairs ≡ l.initial.line.pairs ++ filter (λ p. not (has_pair p l.initial.line.pairs)) (waiting_of (asks_in l.wishes.cells) l.table.entries l.app.0 l.number);
+  admitted : AreAdmitted l.wishes.cells l.line.pairs;
+  room : l.initial.line.room ≤ l.line.room;
 }

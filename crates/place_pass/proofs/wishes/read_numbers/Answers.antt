@@ -6,8 +6,23 @@ use Rattle.fuxi_terms.specs.TallyKeys.{key}
 use Rattle.std.specs.Prelude.{◌||◌}
 use Rattle.place_pass.specs.Cells.{any_gone, is_gone, numbers_at}
 use Rattle.place_pass.proofs.Places.{counted_at, counted_long}
+use Rattle.place_pass.proofs.PlainLemmas.{none_any}
+use Rattle.fuxi_terms.specs.Lists.{below}
 use Rattle.place_pass.proofs.WalksLemmas.{later_past, one_more}
 use Rattle.place_pass.proofs.wishes.read_numbers.Goals as goal
+
+pub returns-then-stay_zero-clause-numbers : goal.returns-then-stay_zero-clause-numbers
+returns-then-stay_zero-clause-numbers c =
+    let f : ℕ → ℕ = λ m. count key_cmp c.args.demand.now.entries (key c.args.what c.args.unit m) in
+    let long = c.requires.long in
+    let all = counted_long f c.args.machines in
+    ext_get_or 0 c.args.numbers.now.items (numbers_at c.args.demand.now.entries c.args.what c.args.unit c.args.machines) (omega (arith, long, all))
+    (λ i lt. c.stay_zero.ensures.zero c.if-stay_zero.true i ∙ sym (counted_at f c.args.machines i (omega (arith, lt, long)) ∙ c.stay_zero.ensures.none c.if-stay_zero.true i))
+
+pub returns-then-stay_zero-clause-gone : goal.returns-then-stay_zero-clause-gone
+returns-then-stay_zero-clause-gone c =
+    sym (none_any (λ m. is_gone (get_or c.args.numbers.now.items m 0) (count key_cmp c.args.demand.now.entries (key c.args.what c.args.unit m))) (below c.args.machines)
+    (λ m. ap (λ n. is_gone n (count key_cmp c.args.demand.now.entries (key c.args.what c.args.unit m))) (c.stay_zero.ensures.zero c.if-stay_zero.true m)))
 
 pub returns-clause-numbers : goal.returns-clause-numbers
 returns-clause-numbers c =

@@ -1,4 +1,4 @@
-use Rattle.std.proofs.Common.{rules, ℕ, ◌<◌, cond, sym, ◌∙◌, arith}
+use Rattle.std.proofs.Common.{rules, ◌≡◌, ℕ, ◌<◌, Bool, true, false, cond, refl, sym, ap, ◌∙◌, arith}
 use Rattle.std.proofs.lemmas.List.{ext_get_or}
 use Rattle.fuxi_terms.specs.Cluster.{has_rack}
 use Rattle.fuxi_terms.specs.Keys.{key_cmp}
@@ -8,6 +8,19 @@ use Rattle.place_pass.specs.Cells.{racks_at}
 use Rattle.place_pass.proofs.Places.{counted_at, counted_long}
 use Rattle.place_pass.proofs.WalksLemmas.{later_past}
 use Rattle.place_pass.proofs.wishes.read_racks.Goals as goal
+
+pub returns-then-stay_zero : goal.returns-then-stay_zero
+returns-then-stay_zero c =
+    let f : ℕ → ℕ = λ r. cond (has_rack c.args.cluster.now r) (count key_cmp c.args.demand.now.entries (rack_key c.args.unit r)) 0 in
+    let long = c.requires in
+    let all = counted_long f 64 in
+    ext_get_or 0 c.args.racks.now.items (racks_at c.args.cluster.now c.args.demand.now.entries c.args.unit) (omega (arith, long, all))
+    (λ i lt. c.stay_zero.ensures.zero c.if-stay_zero.true i
+    ∙ sym (counted_at f 64 i (omega (arith, lt, long)) ∙ ap (λ n. cond (has_rack c.args.cluster.now i) n 0) (c.stay_zero.ensures.none c.if-stay_zero.true i) ∙ nothing (has_rack c.args.cluster.now i)))
+  where
+    nothing : (b : Bool) → ◌≡◌ {A = ℕ} (cond b 0 0) 0
+    nothing true = refl
+    nothing false = refl
 
 pub returns : goal.returns
 returns c =

@@ -8,7 +8,7 @@ use Rattle.fuxi_master.proofs.state.Core.hear_agent.Goals as goal
 
 pub returns : goal.returns
 returns c =
-    let x = core_of c.args.self in
+    let x = core_of c.args.self.now in
     let m = c.args.packet.from.number in
     let old = c.index_mut-side.result.now in
     let new = c.hear_moved.new.self in

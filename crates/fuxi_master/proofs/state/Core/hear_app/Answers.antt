@@ -7,7 +7,7 @@ use Rattle.fuxi_master.proofs.state.Core.hear_app.Goals as goal
 
 pub unreachable-requires : goal.unreachable-requires
 unreachable-requires c =
-    let x = core_of c.args.self in
+    let x = core_of c.args.self.now in
     let a = c.args.packet.from.number in
     let small = app_number c.args.packet c.requires.formed c.requires.from in
     let n = c.requires.core.near.kept.apps in
@@ -18,7 +18,7 @@ unreachable-requires c =
 
 pub returns : goal.returns
 returns c =
-    let x = core_of c.args.self in
+    let x = core_of c.args.self.now in
     let a = c.args.packet.from.number in
     let old = c.in-Some.side in
     let new = c.hear_moved.new.self in

@@ -8,36 +8,36 @@ use Rattle.fuxi_master.proofs.state.Core.heard_app.Goals as goal
 pub returns-then-not-taken : goal.returns-then-not-taken
 returns-then-not-taken c =
     let x = core_of c.args.self in
-    let y = core_of c.in_ok-core.core in
-    let e = c.in_ok-core.ensures in
+    let y = core_of c.hear_app.new.self in
+    let e = c.in_ok-heard.ensures in
     let a = c.args.packet.from.number in
-    let old : c.in_ok-core.heard.fresh ≡ false = search rules in
+    let old : c.in_ok-heard.heard.fresh ≡ false = search rules in
     let kept : c.is_taken-taken.result ≡ false = search rules in
     record {
-      core = app_quiet_core c.step_ends.ensures y e.near c.in_ok-core.heard.fresh a e.boots old;
+      core = app_quiet_core c.step_ends.ensures y e.near c.in_ok-heard.heard.fresh a e.boots old;
       within = wider c.args.steps y (e.within c.args.steps c.requires.within);
-      hears = λ r h. app_quiet c.step_ends.ensures y e.near a c.args.packet c.in_ok-core.heard r (e.hears r h) e.boots old (sym c.is_taken-taken.ensures ∙ kept) (ap (λ q. id_of q a) c.requires.from) (app_talks x r h a c.requires.known);
+      hears = λ r h. app_quiet c.step_ends.ensures y e.near a c.args.packet c.in_ok-heard.heard r (e.hears r h) e.boots old (sym c.is_taken-taken.ensures ∙ kept) (ap (λ q. id_of q a) c.requires.from) (app_talks x r h a c.requires.known);
     }
 
 pub take_demand-requires-clause-small : goal.take_demand-requires-clause-small
 take_demand-requires-clause-small c = app_number c.args.packet c.requires.formed c.requires.from
 
 pub finished-requires-clause-role : goal.finished-requires-clause-role
-finished-requires-clause-role c = has_role c.in_ok-changed.news _ (core_of c.in_ok-core.core) (core_of c.in_ok-changed.changed) c.in_ok-core.ensures.near c.in_ok-changed.ensures.changes
+finished-requires-clause-role c = has_role c.in_ok-changed.news _ (core_of c.hear_app.new.self) (core_of c.in_ok-changed.changed) c.in_ok-heard.ensures.near c.in_ok-changed.ensures.changes
 
 pub finished-requires-clause-within : goal.finished-requires-clause-within
-finished-requires-clause-within c = c.in_ok-changed.ensures.changes.within c.args.steps (c.in_ok-core.ensures.within c.args.steps c.requires.within)
+finished-requires-clause-within c = c.in_ok-changed.ensures.changes.within c.args.steps (c.in_ok-heard.ensures.within c.args.steps c.requires.within)
 
 pub returns : goal.returns
 returns c =
     let x = core_of c.args.self in
-    let y = core_of c.in_ok-core.core in
-    let e = c.in_ok-core.ensures in
+    let y = core_of c.hear_app.new.self in
+    let e = c.in_ok-heard.ensures in
     let a = c.args.packet.from.number in
     let d = c.in_ok-changed.ensures in
     record {
       core = c.in_ok-after.ensures.core;
       within = c.in_ok-after.ensures.within;
-      hears = λ r h. app_changed c.step_ends.ensures y (core_of c.in_ok-changed.changed) (core_of c.in_ok-after.after) a c.args.packet c.in_ok-core.heard c.is_taken-taken.result c.in_ok-changed.news r (e.hears r h) c.is_taken-taken.ensures
+      hears = λ r h. app_changed c.step_ends.ensures y (core_of c.in_ok-changed.changed) (core_of c.in_ok-after.after) a c.args.packet c.in_ok-heard.heard c.is_taken-taken.result c.in_ok-changed.news r (e.hears r h) c.is_taken-taken.ensures
           (ap (λ q. id_of q a) c.requires.from) (app_talks x r h a c.requires.known) d.none d.changes c.in_ok-after.ensures.ends;
     }

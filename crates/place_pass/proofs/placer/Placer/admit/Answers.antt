@@ -1,4 +1,5 @@
 use Rattle.std.proofs.Common.{◌≡◌, ℕ, ◌+◌, ◌<◌, false, cond, nat_eq, nat_lt, List, [], length, map, set, get_or, Some, None, sym, ◌∙◌, ap, subst, arith, length-set}
+use Rattle.std.specs.Prelude.{◌&&◌, not}
 use Rattle.std.proofs.lemmas.List.{length-map}
 use Rattle.grant_table.specs.Tables.{with_admitted}
 use Rattle.place_pass.specs.Cells.{WishesRecord, job_at, asks_in, fresh_cell, fresh_cells}
@@ -11,9 +12,9 @@ use Rattle.fuxi_terms.proofs.Lists.{all_at}
 use Rattle.place_pass.proofs.SightsLemmas.{place_of}
 use Rattle.place_pass.proofs.StandsAfterChange.{holds_admitted, stands_admitted}
 use Rattle.std.proofs.lemmas.Bool.Decides.{nat_tests}
-use Rattle.place_pass.specs.Placers.{PlacerRecord, KeptRecord, IsClear, IsKept, IsQuiet, AreLevel, IsIdle, IsLevelWith, IsPlacer, job_seen, asks_seen}
+use Rattle.place_pass.specs.Placers.{PlacerRecord, KeptRecord, IsClear, IsKept, IsQuiet, IsStill, AreLevel, IsIdle, IsLevelWith, IsPlacer, job_seen, asks_seen}
 use Rattle.fuxi_terms.proofs.ValidJobs.{job_small, units_few, units_some}
-use Rattle.place_pass.proofs.Idling.{clear_admitted, idle_admitted, kept_admitted, quiet_admitted}
+use Rattle.place_pass.proofs.Idling.{clear_admitted, idle_admitted, kept_admitted, quiet_admitted, still_admitted}
 use Rattle.place_pass.proofs.Telling.{units_small, units_more, admitted_more, empty_slot, job_admitted, asks_admitted, unknown_there, level_admitted}
 use Rattle.place_pass.proofs.placer.Placer.admit.Goals as goal
 
@@ -42,7 +43,7 @@ invariant_of-self-2 c =
     let k = c.self.invariant.counted in
     let room = c.in_ok-reserve.ensures.ok in
     let other = c.in_ok-reserve-2.ensures.ok in
-    subst (λ (x : WishesRecord). IsPlacer x c.reserve.new.self c.reserve-2.new.self (c.self.inside.units + c.units.result) (length c.self.inside.marks.items) c.self.inside.turn_of.items (length c.self.inside.held.items) c.admit.new.self) (sym c.add_job.ensures) (record {
+    subst (λ (x : WishesRecord). IsPlacer x c.reserve.new.self c.reserve-2.new.self (c.self.inside.units + c.units.result) (length c.self.inside.marks.items) c.self.inside.turn_of.items (length c.self.inside.held.items) c.admit.new.self (length c.stir.new.calm.items)) (sym c.add_job.ensures) (record {
       admitted = subst (AreAdmitted (set w.cells j.number xs)) (sym c.in_ok-reserve.ensures.pairs) (admitted_more w.cells c.self.inside.line.pairs j.number xs lt (omega (arith, none)) c.self.invariant.admitted);
       places = length-set w.cells j.number xs ∙ places;
       counted = omega (arith, more, long, n, k);
@@ -51,12 +52,20 @@ invariant_of-self-2 c =
       marked = c.self.invariant.marked;
       turn_places = c.self.invariant.turn_places;
       held_places = c.self.invariant.held_places;
+      calm_places = c.stir.ensures.long ∙ c.self.invariant.calm_places;
       rises = subst (λ (l : List (ℕ × ℕ)). IsRising (λ (p : ℕ × ℕ). turn_at c.self.inside.turn_of.items p.0 p.1) l) (sym c.in_ok-reserve.ensures.pairs) c.self.invariant.rises;
       holds = subst (λ (l : List (ℕ × ℕ)). HoldsLine w.cluster (set w.cells j.number xs) l c.self.inside.turn_of.items c.admit.new.self) (sym c.in_ok-reserve.ensures.pairs)
           (subst (λ (t : TreeRecord). HoldsLine w.cluster (set w.cells j.number xs) c.self.inside.line.pairs c.self.inside.turn_of.items t) (sym c.in_ok-admit.ensures.ok)
           (holds_admitted w.cluster w.cells xs c.self.inside.line.pairs c.self.inside.turn_of.items c.self.inside.tree j c.self.invariant.holds small places (units_few j c.units.ensures.valid) long empty
           (λ a u has. let place = place_of (a, u) c.self.inside.line.pairs has in all_at (λ (p : ℕ × ℕ). p.1 < length (get_or w.cells p.0 [])) c.self.inside.line.pairs place.place (a, u) c.self.invariant.admitted place.at)));
     })
+
+pub stir-requires : goal.stir-requires
+stir-requires c =
+    let number = c.app.ensures.number in
+    let small = job_small c.args.job.now c.units.ensures.valid in
+    let long = c.self.invariant.calm_places in
+    omega (arith, number, small, long)
 
 pub admit-requires : goal.admit-requires
 admit-requires c u lu =
@@ -122,6 +131,10 @@ returns-clause-level c t l =
       quiet = λ e. subst (λ (l : List (ℕ × ℕ)). IsQuiet c.add_job.new.self.cells c.add_job.new.self.opened l c.self.inside.turns kept.marks (record t { jobs = with_admitted j t.jobs })) (sym c.in_ok-reserve.ensures.pairs)
           (subst (λ (x : WishesRecord). IsQuiet x.cells x.opened c.self.inside.line.pairs c.self.inside.turns kept.marks (record t { jobs = with_admitted j t.jobs })) (sym c.add_job.ensures)
           (quiet_admitted j w.cells (set w.cells j.number xs) w.opened t empty (asks_admitted w.cells j.number j.group (length w.cluster.machines) j.units lt empty) apart found c.self.inside.line.pairs c.self.inside.turns kept.marks (old.quiet e)));
+      still = subst (λ (l : List (ℕ × ℕ)). IsStill c.add_job.new.self.cells l c.stir.new.calm.items (record t { jobs = with_admitted j t.jobs })) (sym c.in_ok-reserve.ensures.pairs)
+          (subst (λ (x : WishesRecord). IsStill x.cells c.self.inside.line.pairs c.stir.new.calm.items (record t { jobs = with_admitted j t.jobs })) (sym c.add_job.ensures)
+          (still_admitted j w.cells (set w.cells j.number xs) w.opened t empty (asks_admitted w.cells j.number j.group (length w.cluster.machines) j.units lt empty) apart found c.self.inside.calm.items c.stir.new.calm.items
+          (λ b. c.stir.ensures.stirred b ∙ ap (λ n. not (nat_eq n b) && get_or c.self.inside.calm.items b false) c.app.ensures.number) c.self.inside.line.pairs old.still));
       stands = subst (λ (l : List (ℕ × ℕ)). AllStand c.add_job.new.self.cluster c.add_job.new.self.cells t.entries l c.admit.new.self) (sym c.in_ok-reserve.ensures.pairs)
           (subst (λ (x : WishesRecord). AllStand x.cluster x.cells t.entries c.self.inside.line.pairs c.admit.new.self) (sym c.add_job.ensures)
           (subst (λ (y : TreeRecord). AllStand w.cluster (set w.cells j.number xs) t.entries c.self.inside.line.pairs y) (sym c.in_ok-admit.ensures.ok)

@@ -3,19 +3,23 @@ use Rattle.std.specs.Prelude.{◌&&◌}
 use Rattle.std.proofs.Math.Bool.{and-true}
 use Rattle.fuxi_terms.specs.Keys.{key_cmp}
 use Rattle.fuxi_terms.specs.Counts.{count}
-use Rattle.fuxi_terms.proofs.Booleans.{both_true}
+use Rattle.fuxi_terms.proofs.Booleans.{both_true, eq_turned}
 use Rattle.place_pass.specs.Cells.{WishesRecord, Lifts, job_at, asks_in, taken_all, any_more}
-use Rattle.place_pass.specs.Placers.{PlacerRecord, AreLevel, AsksNoMore, IsIdle, IsClear, IsKept, IsQuiet, is_open_to, IsLevelWith, IsPlacer, job_seen, asks_seen, units_seen, is_there}
+use Rattle.place_pass.specs.Placers.{PlacerRecord, AreLevel, AsksNoMore, IsIdle, IsClear, IsKept, IsQuiet, IsStill, is_open_to, IsLevelWith, IsPlacer, job_seen, asks_seen, units_seen, is_there}
 use Rattle.place_pass.specs.Bounds.{mark_at, mark_of}
 use Rattle.place_pass.specs.Counts.{IsLifted}
 use Rattle.place_pass.specs.Best.{AreAdmitted}
-use Rattle.place_pass.specs.Trees.{HoldsLine, StandsAs}
+use Rattle.place_pass.specs.Trees.{HoldsLine, StandsAs, StandsNowhere}
 use Rattle.fuxi_terms.specs.Jobs.{unit_count}
 use Rattle.grant_table.specs.Tables.{as_known}
 use Rattle.written_roles.specs.Placing.{has_pair}
+use Rattle.fuxi_terms.proofs.Lists.{all_at}
 use Rattle.place_pass.proofs.Matching.{count_is}
+use Rattle.place_pass.proofs.PlainLemmas.{plain_nowhere}
+use Rattle.place_pass.proofs.SightsLemmas.{place_of}
 use Rattle.place_pass.proofs.AskedLemmas.{asked_long, asked_priority, asked_others}
 use Rattle.place_pass.proofs.StandsAfterChange.{holds_cells, stands_asked}
+use Rattle.place_pass.proofs.StillLemmas.{still_asked}
 use Rattle.place_pass.specs.Sights.{IsAsked}
 use Rattle.place_pass.proofs.CountsLemmas.{asked_clear, asked_settled, asked_stays, stays_for, stays_tight}
 use Rattle.place_pass.proofs.KeptLemmas.{kept_demanded, open_there, told_asked}
@@ -24,6 +28,13 @@ use Rattle.place_pass.proofs.Asking.{length-taken_all}
 use Rattle.place_pass.proofs.Idling.{idle_asked, lifted_then, more_not, none_lifted, still_open, waiting_asked}
 use Rattle.place_pass.proofs.Telling.{units_same, admitted_more, job_taken, asks_taken, level_same}
 use Rattle.place_pass.proofs.placer.Placer.asked.Goals as goal
+
+pub stir-requires : goal.stir-requires
+stir-requires c =
+    let slots = slot_within c.self.inside.wishes.cells c.args.app.0 0 (subst (λ (p : PlacerRecord). 0 < units_seen p.seen c.args.app.0) (sym c.self.view_is) c.requires.here) in
+    let places = c.self.invariant.places in
+    let long = c.self.invariant.calm_places in
+    omega (arith, slots, places, long)
 
 pub invariant_of-self : goal.invariant_of-self
 invariant_of-self c =
@@ -38,7 +49,7 @@ invariant_of-self c =
     let k = c.self.invariant.counted in
     let room = c.self.invariant.room in
     let other = c.self.invariant.other_room in
-    subst (λ (x : WishesRecord). IsPlacer x c.self.inside.line c.self.inside.other c.self.inside.units (length c.tell_demand.new.marks.items) c.self.inside.turn_of.items (length c.self.inside.held.items) c.tell_asked.new.tree) (sym c.asked-more.ensures.cells) (record {
+    subst (λ (x : WishesRecord). IsPlacer x c.self.inside.line c.self.inside.other c.self.inside.units (length c.tell_demand.new.marks.items) c.self.inside.turn_of.items (length c.self.inside.held.items) c.tell_asked.new.tree (length c.stir.new.calm.items)) (sym c.asked-more.ensures.cells) (record {
       admitted = admitted_more w.cells c.self.inside.line.pairs a xs lt (omega (arith, long)) c.self.invariant.admitted;
       places = length-set w.cells a xs ∙ c.self.invariant.places;
       counted = omega (arith, same, k);
@@ -47,6 +58,7 @@ invariant_of-self c =
       marked = c.tell_demand.ensures.long ∙ c.self.invariant.marked;
       turn_places = c.self.invariant.turn_places;
       held_places = c.self.invariant.held_places;
+      calm_places = c.stir.ensures.long ∙ c.self.invariant.calm_places;
       rises = c.self.invariant.rises;
       holds = subst (λ (x : WishesRecord). HoldsLine x.cluster x.cells c.self.inside.line.pairs c.self.inside.turn_of.items c.tell_asked.new.tree) c.asked-more.ensures.cells c.tell_asked.ensures.holds;
     })
@@ -153,10 +165,18 @@ returns-clause-level c l =
                 (none_lifted w.cluster es w.cells w.opened a c.cluster-wishes.ensures.sound (slot_within w.cells a 0 here) none m) (q.settled m o);
             waiting = λ b u lt some. q.waiting b u lt (waiting_asked w.cluster es w.cells w.opened a c.cluster-wishes.ensures.sound (slot_within w.cells a 0 here) t none b u some);
           });
+      still = subst (λ (x : WishesRecord). IsStill x.cells c.self.inside.line.pairs c.stir.new.calm.items t) (sym c.asked-more.ensures.cells)
+          (still_asked c.self.inside.calm.items c.stir.new.calm.items a c.stir.ensures.stirred w.cells (set w.cells a (taken_all w.cluster es 0 (get_or w.cells a []))) c.self.inside.line.pairs t t
+          (λ b k f. asked_others w.cluster es w.cells a (slot_within w.cells a 0 here) b k (eq_turned b a ∙ f)) refl (λ b _. refl) old.still);
       stands = c.tell_asked.ensures.stands
           (subst (λ (x : WishesRecord). length (get_or x.cells a []) ≡ unit_count (as_known t.jobs) a) (sym c.asked-more.ensures.cells) (asked_long w.cluster es w.cells a (slot_within w.cells a 0 here) a ∙ count_is w.cluster w.cells t old.level a))
           (λ b v has d. subst (λ (x : WishesRecord). StandsAs x.cluster x.cells t.entries b v c.self.inside.tree) (sym c.asked-more.ensures.cells)
-          (stands_asked w.cluster w.cells (set w.cells a (taken_all w.cluster es 0 (get_or w.cells a []))) t.entries b v c.self.inside.tree (λ k. asked_others w.cluster es w.cells a (slot_within w.cells a 0 here) b k d) (old.stands b v has)));
+          (stands_asked w.cluster w.cells (set w.cells a (taken_all w.cluster es 0 (get_or w.cells a []))) t.entries b v c.self.inside.tree (λ k. asked_others w.cluster es w.cells a (slot_within w.cells a 0 here) b k d) (old.stands b v has)))
+          (λ e u has.
+          let place = place_of (a, u) c.self.inside.line.pairs has in
+          let l = all_at (λ (p : ℕ × ℕ). p.1 < length (get_or w.cells p.0 [])) c.self.inside.line.pairs place.place (a, u) c.self.invariant.admitted place.at in
+          subst (λ (x : WishesRecord). StandsNowhere x.cluster a u c.self.inside.tree) (sym c.asked-more.ensures.cells)
+          (plain_nowhere w.cluster w.cells t.entries a u c.self.inside.tree (λ m. c.prefers_any-preferred.ensures.near e u m l) (λ r. c.prefers_any-preferred.ensures.racks e u r l) (old.stands a u has)));
     }
   where
     not_true : (b : Bool) → not b ≡ true → b ≡ false

@@ -1,4 +1,4 @@
-use Rattle.std.proofs.Common.{◌≡◌, ℕ, ◌+◌, ◌*◌, ◌<◌, Bool, List, [], true, false, cond, not, nat_eq, nat_lt, length, map, set, get_or, filter, sym, ◌∙◌, ap, subst, arith}
+use Rattle.std.proofs.Common.{◌≡◌, ℕ, ◌+◌, ◌*◌, ◌<◌, Bool, List, [], true, false, cond, not, nat_eq, nat_lt, length, map, set, get_or, filter, refl, sym, ◌∙◌, ap, subst, arith}
 use Rattle.std.proofs.lemmas.List.{get_or_default, length-set}
 use Rattle.fuxi_terms.proofs.Booleans.{both_true}
 use Rattle.place_pass.specs.Best.{AreAdmitted}
@@ -18,8 +18,17 @@ use Rattle.place_pass.specs.Cells.{job_at, asks_in}
 use Rattle.place_pass.specs.Lines.{LineRecord}
 use Rattle.place_pass.specs.Trees.{HoldsLine, AllStand}
 use Rattle.place_pass.specs.Placers.{PlacerRecord, IsKept, IsLevelWith, IsUpToDate, units_seen, board_over}
+use Rattle.place_pass.proofs.StillLemmas.{others_stay, still_told}
 use Rattle.place_pass.proofs.Telling.{level_set, told_up}
 use Rattle.place_pass.proofs.placer.Placer.changed.Goals as goal
+
+pub stir-requires : goal.stir-requires
+stir-requires c =
+    let w = c.self.inside.wishes in
+    let slots = slot_within w.cells c.args.app.0 c.args.unit.0 (subst (λ (p : PlacerRecord). c.args.unit.0 < units_seen p.seen c.args.app.0) (sym c.self.view_is) c.requires.here) in
+    let places = c.self.invariant.places in
+    let long = c.self.invariant.calm_places in
+    omega (arith, slots, places, long)
 
 pub invariant_of-self : goal.invariant_of-self
 invariant_of-self c =
@@ -45,6 +54,7 @@ invariant_of-self c =
       marked = c.tell.ensures.long ∙ c.self.invariant.marked;
       turn_places = c.self.invariant.turn_places;
       held_places = length-set c.self.inside.held.items c.slot-place.result c.held.result ∙ c.self.invariant.held_places;
+      calm_places = c.stir.ensures.long ∙ c.self.invariant.calm_places;
       rises = subst (λ (l : List (ℕ × ℕ)). IsRising (λ (p : ℕ × ℕ). turn_at turns p.0 p.1) l) (sym line_is)
           (rising (λ (p : ℕ × ℕ). turn_at turns p.0 p.1) (filter others line) (rises_filter (λ (p : ℕ × ℕ). turn_at turns p.0 p.1) others line (rising_all (λ (p : ℕ × ℕ). turn_at turns p.0 p.1) line c.self.invariant.rises)));
       holds = subst (λ (l : List (ℕ × ℕ)). HoldsLine w.cluster w.cells l turns c.tell_spot.new.tree) (sym line_is)
@@ -95,6 +105,7 @@ returns-then-outstanding-eq0-clause-level c before l is =
       idle = λ e. cc;
       quiet = λ e. cc;
       clear = λ e f. cc;
+      still = still_told c.self.inside.calm.items c.stir.new.calm.items c.args.app.0 c.stir.ensures.stirred w.cells c.self.inside.line.pairs c.swap.new.x.pairs before t c.args.unit.0 c.args.machine.0 is (λ b v f. ap (has_pair (b, v)) line_is ∙ others_stay c.self.inside.line.pairs c.args.app.0 c.args.unit.0 b v f) old.still;
       stands = subst (λ (l : List (ℕ × ℕ)). AllStand w.cluster w.cells t.entries l c.tell_spot.new.tree) (sym line_is)
           (subst (λ b. AllStand w.cluster w.cells t.entries (cond b c.self.inside.line.pairs (filter others c.self.inside.line.pairs)) c.tell_spot.new.tree) (let e = c.outstanding.ensures in let z = c.if-outstanding-eq0.true in let y : nat_lt 0 (out_of (asks_in w.cells) t.entries c.args.app.0 c.args.unit.0) ≡ false = grind (arith, nat_tests, e, z) in y)
           (c.tell_spot.ensures.stands before is old.stands));
@@ -128,6 +139,7 @@ returns-else-outstanding-eq0-clause-level c before l is =
       idle = λ e. cc;
       quiet = λ e. cc;
       clear = λ e f. cc;
+      still = still_told c.self.inside.calm.items c.stir.new.calm.items c.args.app.0 c.stir.ensures.stirred w.cells c.self.inside.line.pairs c.self.inside.line.pairs before t c.args.unit.0 c.args.machine.0 is (λ b v f. refl) old.still;
       stands = subst (λ b. AllStand w.cluster w.cells t.entries (cond b c.self.inside.line.pairs (filter (λ p. not (nat_eq p.0 c.args.app.0 && nat_eq p.1 c.args.unit.0)) c.self.inside.line.pairs)) c.tell_spot.new.tree) (let e = c.outstanding.ensures in let z = c.if-outstanding-eq0.false in let y : nat_lt 0 (out_of (asks_in w.cells) t.entries c.args.app.0 c.args.unit.0) ≡ true = grind (arith, nat_tests, e, z) in y)
           (c.tell_spot.ensures.stands before is old.stands);
       kept = subst (λ (hs : List ℕ). IsKept w.cells w.opened (c.self.inside.line.pairs) c.self.inside.turns (record { marks = map mark_of c.tell.new.marks.items; turn_of = c.self.inside.turn_of.items; held = hs }) c.args.table.now) (λ i. set c.self.inside.held.items (sym c.slot-place.ensures i) (sym c.held.ensures i))

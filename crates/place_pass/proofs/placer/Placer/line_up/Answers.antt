@@ -1,9 +1,7 @@
 use Rattle.std.proofs.Common.{◌≡◌, ℕ, ◌+◌, ◌-◌, Bool, true, false, not, nat_lt, List, ◌++◌, length, map, filter, refl, sym, ◌∙◌, ap, subst, arith}
 use Rattle.std.specs.Prelude.{◌&&◌, ◌||◌}
 use Rattle.std.proofs.lemmas.List.{length-append}
-use Rattle.place_pass.specs.Bounds.{IsRising, key_of, mark_at, mark_of, turn_at}
-use Rattle.place_pass.specs.Best.{AreAdmitted}
-use Rattle.place_pass.specs.Trees.{HoldsLine, AllStand}
+use Rattle.place_pass.specs.Bounds.{key_of, mark_at, mark_of, turn_at}
 use Rattle.place_pass.proofs.LinedLemmas.{lined_kept, front_inside, front_holds, front_stands}
 use Rattle.std.proofs.lemmas.Bool.Decides.{nat_tests}
 use Rattle.fuxi_terms.proofs.Booleans.{and_true, both_true}
@@ -18,29 +16,33 @@ use Rattle.written_roles.specs.Masters.{out_of}
 use Rattle.written_roles.specs.Placing.{has_pair, lined, waiting_in}
 use Rattle.grant_table.specs.Tables.{as_known}
 use Rattle.place_pass.specs.Cells.{asks_in}
-use Rattle.place_pass.specs.Lines.{LineRecord, same_pair}
-use Rattle.place_pass.specs.Placers.{PlacerRecord, KeptRecord, IsKept, SeenRecord, IsLevelWith, asks_seen, waiting_with}
-use Rattle.place_pass.proofs.Lining.{any_append, none_filter, has_filter}
+use Rattle.place_pass.specs.Lines.{same_pair}
+use Rattle.place_pass.specs.Placers.{PlacerRecord, KeptRecord, IsKept, IsStill, SeenRecord, IsLevelWith, asks_seen, waiting_with}
+use Rattle.place_pass.proofs.Lining.{any_append, has_filter}
+use Rattle.place_pass.proofs.StillLemmas.{joined_is, still_left, waiting_waits}
 use Rattle.place_pass.proofs.Telling.{kept_is, lined_has}
 use Rattle.place_pass.proofs.Turns.{few_begin}
 use Rattle.place_pass.proofs.placer.Placer.line_up.Goals as goal
 
-pub keep-requires-clause-level : goal.keep-requires-clause-level
+pub leave-requires-clause-level : goal.leave-requires-clause-level
 unfolding IsLevelWith
-keep-requires-clause-level c = (subst (λ (p : PlacerRecord). IsLevelWith p c.args.table.now) (sym c.self.view_is) c.requires.level).level
+leave-requires-clause-level c = (subst (λ (p : PlacerRecord). IsLevelWith p c.args.table.now) (sym c.self.view_is) c.requires.level).level
+
+pub leave-requires-clause-still : goal.leave-requires-clause-still
+unfolding IsLevelWith
+leave-requires-clause-still c = (subst (λ (p : PlacerRecord). IsLevelWith p c.args.table.now) (sym c.self.view_is) c.requires.level).still
 
 pub join-requires-clause-level : goal.join-requires-clause-level
 unfolding IsLevelWith
 join-requires-clause-level c = (subst (λ (p : PlacerRecord). IsLevelWith p c.args.table.now) (sym c.self.view_is) c.requires.level).level
 
-pub join-requires-clause-apart : goal.join-requires-clause-apart
-join-requires-clause-apart c p h =
-    let q : ℕ × ℕ → Bool = λ p. nat_lt 0 (out_of (asks_in c.self.inside.wishes.cells) c.args.table.now.entries p.0 p.1) in
-    subst (λ ks. has_pair p ks ≡ false) (sym c.keep.ensures.pairs) (none_filter (same_pair p) q c.self.inside.line.pairs h)
-
-pub leave_line-requires-clause-level : goal.leave_line-requires-clause-level
+pub join-requires-clause-still : goal.join-requires-clause-still
 unfolding IsLevelWith
-leave_line-requires-clause-level c = (subst (λ (p : PlacerRecord). IsLevelWith p c.args.table.now) (sym c.self.view_is) c.requires.level).level
+join-requires-clause-still c =
+    let w = c.self.inside.wishes in
+    let t = c.args.table.now in
+    let old = subst (λ (p : PlacerRecord). IsLevelWith p t) (sym c.self.view_is) c.requires.level in
+    subst (λ (l : List (ℕ × ℕ)). IsStill w.cells l c.self.inside.calm.items t) (sym c.leave.ensures.pairs) (still_left w.cells c.self.inside.line.pairs c.self.inside.calm.items t old.still)
 
 pub enter_line-requires-clause-level : goal.enter_line-requires-clause-level
 unfolding IsLevelWith
@@ -57,7 +59,7 @@ enter_line-requires-clause-rises c =
     let all = waiting_in (map (λ (j : JobRecord). j.number) t.jobs) (unit_count (as_known t.jobs)) (asks_in w.cells) t.entries in
     let k : KeptRecord = record { marks = map mark_of c.self.inside.marks.items; turn_of = c.self.inside.turn_of.items; held = c.self.inside.held.items } in
     let small = λ (a u : ℕ) (has : has_pair (a, u) line ≡ true). let place = place_of (a, u) line has in unit_small w.cells line place.place (a, u) c.self.invariant.admitted place.at c.cluster-wishes.ensures.sound.few in
-    (lined_kept line c.keep.new.next.pairs all c.join.new.next.pairs c.len-stayed.result waits k c.number_from.new.turn_of.items c.keep.ensures.pairs c.join.ensures.pairs c.len-stayed.ensures.number small (λ a u lu out. c.number_from.ensures.others a u lu out) w.cells w.opened c.self.inside.turns t (λ i p ge e. c.number_from.ensures.numbered i p ge e) old.kept).rises
+    (lined_kept line c.leave.new.line.pairs all c.join.new.line.pairs c.len-stayed.result waits k c.number_from.new.turn_of.items c.leave.ensures.pairs (waiting_waits (map (λ (j : JobRecord). j.number) t.jobs) (unit_count (as_known t.jobs)) (asks_in w.cells) t.entries) c.join.ensures.pairs c.len-stayed.ensures.number small (λ a u lu out. c.number_from.ensures.others a u lu out) w.cells w.opened c.self.inside.turns t (λ i p ge e. c.number_from.ensures.numbered i p ge e) old.kept).rises
 
 pub enter_line-requires-clause-inside : goal.enter_line-requires-clause-inside
 enter_line-requires-clause-inside c =
@@ -68,7 +70,7 @@ enter_line-requires-clause-inside c =
     let all = waiting_in (map (λ (j : JobRecord). j.number) t.jobs) (unit_count (as_known t.jobs)) (asks_in w.cells) t.entries in
     let k : KeptRecord = record { marks = map mark_of c.self.inside.marks.items; turn_of = c.self.inside.turn_of.items; held = c.self.inside.held.items } in
     let small = λ (a u : ℕ) (has : has_pair (a, u) line ≡ true). let place = place_of (a, u) line has in unit_small w.cells line place.place (a, u) c.self.invariant.admitted place.at c.cluster-wishes.ensures.sound.few in
-    front_inside line c.keep.new.next.pairs all c.join.new.next.pairs c.len-stayed.result waits k c.number_from.new.turn_of.items c.keep.ensures.pairs c.join.ensures.pairs c.len-stayed.ensures.number small (λ a u lu out. c.number_from.ensures.others a u lu out)
+    front_inside line c.leave.new.line.pairs all c.join.new.line.pairs c.len-stayed.result waits k c.number_from.new.turn_of.items c.leave.ensures.pairs (waiting_waits (map (λ (j : JobRecord). j.number) t.jobs) (unit_count (as_known t.jobs)) (asks_in w.cells) t.entries) c.join.ensures.pairs c.len-stayed.ensures.number small (λ a u lu out. c.number_from.ensures.others a u lu out)
 
 pub enter_line-requires-clause-holds : goal.enter_line-requires-clause-holds
 enter_line-requires-clause-holds c =
@@ -79,7 +81,7 @@ enter_line-requires-clause-holds c =
     let all = waiting_in (map (λ (j : JobRecord). j.number) t.jobs) (unit_count (as_known t.jobs)) (asks_in w.cells) t.entries in
     let k : KeptRecord = record { marks = map mark_of c.self.inside.marks.items; turn_of = c.self.inside.turn_of.items; held = c.self.inside.held.items } in
     let small = λ (a u : ℕ) (has : has_pair (a, u) line ≡ true). let place = place_of (a, u) line has in unit_small w.cells line place.place (a, u) c.self.invariant.admitted place.at c.cluster-wishes.ensures.sound.few in
-    front_holds line c.keep.new.next.pairs all c.join.new.next.pairs c.len-stayed.result waits k c.number_from.new.turn_of.items c.keep.ensures.pairs c.join.ensures.pairs c.len-stayed.ensures.number small (λ a u lu out. c.number_from.ensures.others a u lu out) w.cluster w.cells c.leave_line.new.tree c.leave_line.ensures.holds
+    front_holds line c.leave.new.line.pairs all c.join.new.line.pairs c.len-stayed.result waits k c.number_from.new.turn_of.items c.leave.ensures.pairs (waiting_waits (map (λ (j : JobRecord). j.number) t.jobs) (unit_count (as_known t.jobs)) (asks_in w.cells) t.entries) c.join.ensures.pairs c.len-stayed.ensures.number small (λ a u lu out. c.number_from.ensures.others a u lu out) w.cluster w.cells c.leave.new.tree c.leave.ensures.holds
 
 pub enter_line-requires-clause-stands : goal.enter_line-requires-clause-stands
 unfolding IsLevelWith
@@ -92,7 +94,7 @@ enter_line-requires-clause-stands c =
     let all = waiting_in (map (λ (j : JobRecord). j.number) t.jobs) (unit_count (as_known t.jobs)) (asks_in w.cells) t.entries in
     let k : KeptRecord = record { marks = map mark_of c.self.inside.marks.items; turn_of = c.self.inside.turn_of.items; held = c.self.inside.held.items } in
     let small = λ (a u : ℕ) (has : has_pair (a, u) line ≡ true). let place = place_of (a, u) line has in unit_small w.cells line place.place (a, u) c.self.invariant.admitted place.at c.cluster-wishes.ensures.sound.few in
-    front_stands line c.keep.new.next.pairs all c.join.new.next.pairs c.len-stayed.result waits k c.number_from.new.turn_of.items c.keep.ensures.pairs c.join.ensures.pairs c.len-stayed.ensures.number small (λ a u lu out. c.number_from.ensures.others a u lu out) w.cluster w.cells t.entries c.self.inside.tree c.leave_line.new.tree (c.leave_line.ensures.holds.racks ∙ sym c.self.invariant.holds.racks) (λ a u lu some. c.leave_line.ensures.others a u lu some) old.stands
+    front_stands line c.leave.new.line.pairs all c.join.new.line.pairs c.len-stayed.result waits k c.number_from.new.turn_of.items c.leave.ensures.pairs (waiting_waits (map (λ (j : JobRecord). j.number) t.jobs) (unit_count (as_known t.jobs)) (asks_in w.cells) t.entries) c.join.ensures.pairs c.len-stayed.ensures.number small (λ a u lu out. c.number_from.ensures.others a u lu out) w.cluster w.cells t.entries c.self.inside.tree c.leave.new.tree (c.leave.ensures.holds.racks ∙ sym c.self.invariant.holds.racks) (λ a u lu some. c.leave.ensures.others a u lu some) old.stands
 
 pub invariant_of-self : goal.invariant_of-self
 unfolding IsLevelWith
@@ -105,40 +107,37 @@ invariant_of-self c =
     let all = waiting_in (map (λ (j : JobRecord). j.number) t.jobs) (unit_count (as_known t.jobs)) (asks_in w.cells) t.entries in
     let k : KeptRecord = record { marks = map mark_of c.self.inside.marks.items; turn_of = c.self.inside.turn_of.items; held = c.self.inside.held.items } in
     let small = λ (a u : ℕ) (has : has_pair (a, u) line ≡ true). let place = place_of (a, u) line has in unit_small w.cells line place.place (a, u) c.self.invariant.admitted place.at c.cluster-wishes.ensures.sound.few in
-    let same = ap (λ (x : LineRecord). x.pairs) c.swap.ensures.x_after in
-    let room = c.self.invariant.room in
-    let other_room = c.self.invariant.other_room in
-    let b = ap (λ (x : LineRecord). x.room) c.swap.ensures.x_after in
-    let d = ap (λ (x : LineRecord). x.room) c.swap.ensures.y_after in
-    let r1 = c.clear.ensures.room in
-    let r2 = c.keep.ensures.room in
-    let r3 = c.join.ensures.room in
+    let room = c.leave.ensures.room in
+    let more = c.join.ensures.room in
     record {
-      admitted = subst (AreAdmitted w.cells) (sym same) c.join.ensures.admitted;
+      admitted = c.join.ensures.admitted;
       places = c.self.invariant.places;
       counted = c.self.invariant.counted;
-      room = omega (arith, other_room, b, r1, r2, r3);
-      other_room = omega (arith, room, d);
+      room = omega (arith, room, more);
+      other_room = c.leave.ensures.other_room;
       marked = c.self.invariant.marked;
       turn_places = c.number_from.ensures.places;
       held_places = c.self.invariant.held_places;
-      rises = subst (λ (l : List (ℕ × ℕ)). IsRising (λ (p : ℕ × ℕ). turn_at c.number_from.new.turn_of.items p.0 p.1) l) (sym same) (lined_kept line c.keep.new.next.pairs all c.join.new.next.pairs c.len-stayed.result waits k c.number_from.new.turn_of.items c.keep.ensures.pairs c.join.ensures.pairs c.len-stayed.ensures.number small (λ a u lu out. c.number_from.ensures.others a u lu out) w.cells w.opened c.self.inside.turns t (λ i p ge e. c.number_from.ensures.numbered i p ge e) old.kept).rises;
-      holds = subst (λ (l : List (ℕ × ℕ)). HoldsLine w.cluster w.cells l c.number_from.new.turn_of.items c.enter_line.new.tree) (sym same) c.enter_line.ensures.holds;
+      calm_places = c.calm_all.ensures ∙ c.self.invariant.calm_places;
+      rises = (lined_kept line c.leave.new.line.pairs all c.join.new.line.pairs c.len-stayed.result waits k c.number_from.new.turn_of.items c.leave.ensures.pairs (waiting_waits (map (λ (j : JobRecord). j.number) t.jobs) (unit_count (as_known t.jobs)) (asks_in w.cells) t.entries) c.join.ensures.pairs c.len-stayed.ensures.number small (λ a u lu out. c.number_from.ensures.others a u lu out) w.cells w.opened c.self.inside.turns t (λ i p ge e. c.number_from.ensures.numbered i p ge e) old.kept).rises;
+      holds = c.enter_line.ensures.holds;
     }
 
 -- the line is that of the definition
-line_is : (c : goal.After-swap) → c.swap.new.x.pairs ≡ lined c.self.inside.line.pairs (waiting_in (job_numbers (as_known c.args.table.now.jobs)) (unit_count (as_known c.args.table.now.jobs)) (asks_in c.self.inside.wishes.cells) c.args.table.now.entries)
+line_is : (c : goal.After-self-2-1) → c.join.new.line.pairs ≡ lined c.self.inside.line.pairs (waiting_in (job_numbers (as_known c.args.table.now.jobs)) (unit_count (as_known c.args.table.now.jobs)) (asks_in c.self.inside.wishes.cells) c.args.table.now.entries)
 unfolding IsLevelWith
 line_is c =
     let w = c.self.inside.wishes in
     let t = c.args.table.now in
     let line = c.self.inside.line.pairs in
     let r : ℕ × ℕ → Bool = λ p. not (has_pair p line) in
+    let waits : ℕ × ℕ → Bool = λ p. nat_lt 0 (out_of (asks_in w.cells) t.entries p.0 p.1) in
+    let all = waiting_in (map (λ (j : JobRecord). j.number) t.jobs) (unit_count (as_known t.jobs)) (asks_in w.cells) t.entries in
     let l = (subst (λ (p : PlacerRecord). IsLevelWith p t) (sym c.self.view_is) c.requires.level).level in
     let is = c.admitted_jobs.ensures.numbers t.jobs c.cluster-cluster.ensures.sound.in_order in
-    let kept = c.keep.ensures.pairs ∙ kept_is w.cluster w.cells t l (job_numbers (as_known t.jobs)) is line c.self.invariant.admitted in
+    let kept = c.leave.ensures.pairs ∙ kept_is w.cluster w.cells t l (job_numbers (as_known t.jobs)) is line c.self.invariant.admitted in
     let joined = ap (λ ns. filter r (waiting_in ns (unit_count (as_known t.jobs)) (asks_in w.cells) t.entries)) (sym is) in
-    ap (λ (x : LineRecord). x.pairs) c.swap.ensures.x_after ∙ c.join.ensures.pairs ∙ (λ i. kept i ++ joined i)
+    joined_is line c.leave.new.line.pairs all c.join.new.line.pairs waits c.leave.ensures.pairs (waiting_waits (map (λ (j : JobRecord). j.number) t.jobs) (unit_count (as_known t.jobs)) (asks_in w.cells) t.entries) c.join.ensures.pairs ∙ (λ i. kept i ++ joined i)
 
 pub returns-clause-seen : goal.returns-clause-seen
 returns-clause-seen c =
@@ -147,13 +146,14 @@ returns-clause-seen c =
     let line = c.self.inside.line.pairs in
     let r : ℕ × ℕ → Bool = λ p. not (has_pair p line) in
     let is = c.admitted_jobs.ensures.numbers t.jobs c.cluster-cluster.ensures.sound.in_order in
-    let old = waiting_in (map (λ (j : JobRecord). j.number) t.jobs) (unit_count (as_known t.jobs)) (asks_in w.cells) t.entries in
-    let all = ap length c.join.ensures.pairs ∙ length-append c.keep.new.next.pairs (filter r old) in
+    let waits : ℕ × ℕ → Bool = λ p. nat_lt 0 (out_of (asks_in w.cells) t.entries p.0 p.1) in
+    let all = waiting_in (map (λ (j : JobRecord). j.number) t.jobs) (unit_count (as_known t.jobs)) (asks_in w.cells) t.entries in
+    let long = ap length (joined_is line c.leave.new.line.pairs all c.join.new.line.pairs waits c.leave.ensures.pairs (waiting_waits (map (λ (j : JobRecord). j.number) t.jobs) (unit_count (as_known t.jobs)) (asks_in w.cells) t.entries) c.join.ensures.pairs) ∙ length-append c.leave.new.line.pairs (filter r all) in
     let n = c.len.ensures.number in
     let s = c.len-stayed.ensures.number in
-    let joined : c.len.result - c.len-stayed.result ≡ length (filter r old) = omega (arith, all, n, s) in
+    let joined : c.len.result - c.len-stayed.result ≡ length (filter r all) = omega (arith, long, n, s) in
     let turns = joined ∙ ap (λ ns. length (filter r (waiting_in ns (unit_count (as_known t.jobs)) (asks_in w.cells) t.entries))) (sym is) in
-    subst (λ (p : PlacerRecord). ◌≡◌ {A = SeenRecord} (record { cluster = w.cluster; cells = w.cells; opened = w.opened; line = c.swap.new.x.pairs; turns = c.self.inside.turns + (c.len.result - c.len-stayed.result) }) (record p.seen { line = lined p.seen.line (waiting_with p.seen t); turns = p.seen.turns + length (filter (λ q. not (has_pair q p.seen.line)) (waiting_with p.seen t)) })) c.self.view_is
+    subst (λ (p : PlacerRecord). ◌≡◌ {A = SeenRecord} (record { cluster = w.cluster; cells = w.cells; opened = w.opened; line = c.join.new.line.pairs; turns = c.self.inside.turns + (c.len.result - c.len-stayed.result) }) (record p.seen { line = lined p.seen.line (waiting_with p.seen t); turns = p.seen.turns + length (filter (λ q. not (has_pair q p.seen.line)) (waiting_with p.seen t)) })) c.self.view_is
     (λ i. record { cluster = w.cluster; cells = w.cells; opened = w.opened; line = line_is c i; turns = c.self.inside.turns + turns i })
 
 pub returns-clause-turns : goal.returns-clause-turns
@@ -185,39 +185,39 @@ returns-clause-level c =
     let waits : ℕ × ℕ → Bool = λ p. nat_lt 0 (out_of (asks_in w.cells) t.entries p.0 p.1) in
     let all = waiting_in (map (λ (j : JobRecord). j.number) t.jobs) (unit_count (as_known t.jobs)) (asks_in w.cells) t.entries in
     let joined = filter r all in
-    let front = c.keep.new.next.pairs in
-    let pairs : c.join.new.next.pairs ≡ front ++ joined = c.join.ensures.pairs in
+    let front = c.leave.new.line.pairs in
+    let pairs : c.join.new.line.pairs ≡ front ++ joined = joined_is line c.leave.new.line.pairs all c.join.new.line.pairs waits c.leave.ensures.pairs (waiting_waits (map (λ (j : JobRecord). j.number) t.jobs) (unit_count (as_known t.jobs)) (asks_in w.cells) t.entries) c.join.ensures.pairs in
     let n = c.len.ensures.number in
     let s = c.len-stayed.ensures.number in
     let long = ap length pairs ∙ length-append front joined in
     let more : c.len.result - c.len-stayed.result ≡ length joined = omega (arith, long, n, s) in
-    let whole : c.swap.new.x.pairs ≡ front ++ joined = ap (λ (x : LineRecord). x.pairs) c.swap.ensures.x_after ∙ pairs in
     let k : KeptRecord = record { marks = map mark_of c.self.inside.marks.items; turn_of = c.self.inside.turn_of.items; held = c.self.inside.held.items } in
-    let kept = kept_lined w.cells w.opened line front joined c.self.inside.turns k t c.number_from.new.turn_of.items waits c.keep.ensures.pairs
+    let kept = kept_lined w.cells w.opened line front joined c.self.inside.turns k t c.number_from.new.turn_of.items waits c.leave.ensures.pairs
     (λ p has. new (has_pair p line) (has_pair p all) (sym (has_filter r p all) ∙ has))
-    (numbered_end (λ (p : ℕ × ℕ). turn_at c.number_from.new.turn_of.items p.0 p.1) c.self.inside.turns c.len-stayed.result front joined c.join.new.next.pairs pairs s (λ i p ge e. c.number_from.ensures.numbered i p ge e))
+    (numbered_end (λ (p : ℕ × ℕ). turn_at c.number_from.new.turn_of.items p.0 p.1) c.self.inside.turns c.len-stayed.result front joined c.join.new.line.pairs pairs s (λ i p ge e. c.number_from.ensures.numbered i p ge e))
     (λ a u has out. c.number_from.ensures.others a u (let place = place_of (a, u) line has in unit_small w.cells line place.place (a, u) c.self.invariant.admitted place.at c.cluster-wishes.ensures.sound.few)
-    (λ i ge e. let f : false ≡ true = sym out ∙ has_end c.len-stayed.result front joined c.join.new.next.pairs pairs s i (a, u) ge e (λ q i g. has_at joined i q g) in let g : ⊥ = cc in g))
+    (λ i ge e. let f : false ≡ true = sym out ∙ has_end c.len-stayed.result front joined c.join.new.line.pairs pairs s i (a, u) ge e (λ q i g. has_at joined i q g) in let g : ⊥ = cc in g))
     old.kept in
     let none = λ (e : c.self.inside.idle ≡ true). none_joined line (map (λ (j : JobRecord). j.number) t.jobs) (unit_count (as_known t.jobs)) (asks_in w.cells) t.entries (old.quiet e).waiting in
     record {
       level = old.level;
       idle = old.idle;
-      stands = subst (λ (l : List (ℕ × ℕ)). AllStand w.cluster w.cells t.entries l c.enter_line.new.tree) (sym (ap (λ (x : LineRecord). x.pairs) c.swap.ensures.x_after)) c.enter_line.ensures.stands;
+      stands = c.enter_line.ensures.stands;
+      still = record { still = λ a u _. returns-clause-up c a u };
       clear = λ e f.
           let b = both_true c.self.inside.forgotten _ f in
           let test = b.1 in
           let was = c.len-before.ensures.number in
-          let keeps = ap length c.keep.ensures.pairs in
+          let keeps = ap length c.leave.ensures.pairs in
           let all_stay : length (filter waits line) ≡ length line = grind (arith, nat_tests, test, was, s, keeps) in
-          let same : front ≡ line = c.keep.ensures.pairs ∙ filter_whole waits line all_stay in
-          let still = λ (a u : ℕ) (has : has_pair (a, u) line ≡ true). ap (has_pair (a, u)) whole ∙ any_append (same_pair (a, u)) front joined ∙ ap (λ x. x || has_pair (a, u) joined) (ap (has_pair (a, u)) same ∙ has) in
+          let same : front ≡ line = c.leave.ensures.pairs ∙ filter_whole waits line all_stay in
+          let still = λ (a u : ℕ) (has : has_pair (a, u) line ≡ true). ap (has_pair (a, u)) pairs ∙ any_append (same_pair (a, u)) front joined ∙ ap (λ x. x || has_pair (a, u) joined) (ap (has_pair (a, u)) same ∙ has) in
           record { clear = λ allowed m g o. (old.clear e b.0).clear (λ a u has. allowed a u (still a u has)) m g o };
       quiet = λ e. record {
         settled = λ m o. let z : c.self.inside.turns + (c.len.result - c.len-stayed.result) ≡ c.self.inside.turns = let y = ap length (none e) in omega (arith, more, y) in ap (key_of (mark_at (map mark_of c.self.inside.marks.items) m)) z ∙ (old.quiet e).settled m o;
         waiting = λ a u lt some. returns-clause-up c a u ∙ and_true (nat_lt u (unit_count (as_known t.jobs) a)) _ (grind (arith, nat_tests, lt)) (grind (arith, nat_tests, some));
       };
-      kept = (λ (p : List (ℕ × ℕ)) (n : ℕ) (x : p ≡ front ++ joined) (y : n ≡ length joined). subst (λ (l : List (ℕ × ℕ)). IsKept w.cells w.opened l (c.self.inside.turns + n) (record k { turn_of = c.number_from.new.turn_of.items }) t) (sym x) (subst (λ z. IsKept w.cells w.opened (front ++ joined) (c.self.inside.turns + z) (record k { turn_of = c.number_from.new.turn_of.items }) t) (sym y) kept)) c.swap.new.x.pairs (c.len.result - c.len-stayed.result) whole more;
+      kept = (λ (p : List (ℕ × ℕ)) (n : ℕ) (x : p ≡ front ++ joined) (y : n ≡ length joined). subst (λ (l : List (ℕ × ℕ)). IsKept w.cells w.opened l (c.self.inside.turns + n) (record k { turn_of = c.number_from.new.turn_of.items }) t) (sym x) (subst (λ z. IsKept w.cells w.opened (front ++ joined) (c.self.inside.turns + z) (record k { turn_of = c.number_from.new.turn_of.items }) t) (sym y) kept)) c.join.new.line.pairs (c.len.result - c.len-stayed.result) pairs more;
     }
   where
     new : (x y : Bool) → (y && not x) ≡ true → x ≡ false

@@ -133,6 +133,7 @@ returns-then-self-clause-level g c =
       level = l.level;
       idle = l.idle;
       stands = l.stands;
+      still = l.still;
       kept = kept_forgotten w.cells w.opened c.self.inside.line.pairs c.self.inside.turns k t marks forgotten l.kept;
       quiet = λ e. record {
         settled = λ m o. forgotten_key c.self.inside.turns t c.self.inside.line.pairs (mark_at k.marks m) (mark_at marks m) (forgotten m o) ∙ (l.quiet e).settled m o;
@@ -171,6 +172,7 @@ returns-clause-level g c =
       level = l.level;
       idle = λ e. let f : false ≡ true = sym c.if-self.false ∙ e in cc;
       stands = l.stands;
+      still = l.still;
       kept = record {
         bounds = λ m a u opened has lt. (subst (λ (xs : List ℕ). AreBounded (board_over w.cells w.opened t) t.entries (turn_in xs) c.self.inside.line.pairs (mark_at (map mark_of c.first.new.marks.items) m) m) c.deref.ensures.value (c.first.ensures.bounded m opened)).bounded (a, u) has lt;
         until = c.first.ensures.until;
@@ -187,7 +189,7 @@ pub returns-clause-count : goal.returns-clause-count
 unfolding IsLevelWith
 returns-clause-count g c =
     let l = subst (λ (p : PlacerRecord). IsLevelWith p c.args.table.now) (sym c.self.view_is) c.requires.level in
-    let inside = placer_record c.self.inside.wishes c.self.inside.line c.self.inside.turns c.self.inside.idle c.self.inside.marks.items c.self.inside.turn_of.items c.self.inside.held.items c.self.inside.tree c.self.inside.forgotten in
+    let inside = placer_record c.self.inside.wishes c.self.inside.line c.self.inside.turns c.self.inside.idle c.self.inside.marks.items c.self.inside.turn_of.items c.self.inside.held.items c.self.inside.tree c.self.inside.forgotten c.self.inside.calm.items in
     subst (λ (p : PlacerRecord). c.first.new.steps ≤ c.args.steps.now + unsettled_machines p) c.self.view_is
     (subst (λ (x : ClusterRecord). c.first.new.steps ≤ c.args.steps.now + count_below (is_unsettled inside) (length x.machines)) (sym l.level.cluster_is) c.first.ensures.count)
 
@@ -195,7 +197,7 @@ pub returns-in_default-clause-count : goal.returns-in_default-clause-count
 unfolding IsLevelWith
 returns-in_default-clause-count g c =
     let l = subst (λ (p : PlacerRecord). IsLevelWith p c.args.table.now) (sym c.self.view_is) c.requires.level in
-    let inside = placer_record c.self.inside.wishes c.self.inside.line c.self.inside.turns c.self.inside.idle c.self.inside.marks.items c.self.inside.turn_of.items c.self.inside.held.items c.self.inside.tree c.self.inside.forgotten in
+    let inside = placer_record c.self.inside.wishes c.self.inside.line c.self.inside.turns c.self.inside.idle c.self.inside.marks.items c.self.inside.turn_of.items c.self.inside.held.items c.self.inside.tree c.self.inside.forgotten c.self.inside.calm.items in
     subst (λ (p : PlacerRecord). c.first.new.steps ≤ c.args.steps.now + unsettled_machines p) c.self.view_is
     (subst (λ (x : ClusterRecord). c.first.new.steps ≤ c.args.steps.now + count_below (is_unsettled inside) (length x.machines)) (sym l.level.cluster_is) c.first.ensures.count)
 
@@ -214,6 +216,7 @@ returns-in_default-clause-level g c =
       level = l.level;
       idle = λ e. idle_found w.cells w.opened t c.self.inside.line.pairs up (sym c.first.ensures.first ∙ ap (option_map spot_of) c.in_default.is);
       stands = l.stands;
+      still = l.still;
       kept = kept_forgotten w.cells w.opened c.self.inside.line.pairs c.self.inside.turns k t marks forgotten (record {
         bounds = λ m a u opened has lt. (subst (λ (xs : List ℕ). AreBounded (board_over w.cells w.opened t) t.entries (turn_in xs) c.self.inside.line.pairs (mark_at (map mark_of c.first.new.marks.items) m) m) c.deref.ensures.value (c.first.ensures.bounded m opened)).bounded (a, u) has lt;
         until = c.first.ensures.until;

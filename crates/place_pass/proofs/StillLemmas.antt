@@ -1,0 +1,136 @@
+-- Jobs of which nothing was told: none of their units leaves the line, and none is appended.
+use Rattle.std.proofs.Common.{◌≡◌, ℕ, ◌+◌, ◌-◌, Bool, true, false, cond, not, nat_eq, nat_lt, List, [], ◌∷◌, ◌++◌, map, filter, get_or, refl, sym, ◌∙◌, ap, subst, arith}
+use Rattle.std.specs.Prelude.{◌&&◌, ◌||◌}
+use Rattle.std.proofs.lemmas.Bool.Decides.{nat_tests}
+use Rattle.fuxi_terms.specs.Counts.{count}
+use Rattle.fuxi_terms.specs.Jobs.{unit_count}
+use Rattle.fuxi_terms.specs.Keys.{Spot, spot_cmp}
+use Rattle.fuxi_terms.specs.declared.Key.{Key}
+use Rattle.fuxi_terms.specs.Lists.{below}
+use Rattle.fuxi_terms.specs.Numbers.{has_number}
+use Rattle.fuxi_terms.specs.TallyKeys.{want_key}
+use Rattle.fuxi_terms.specs.Tables.{spot, held}
+use Rattle.fuxi_terms.proofs.Booleans.{both_true, number_is, or_right}
+use Rattle.fuxi_terms.proofs.Sums.{sum_set}
+use Rattle.written_roles.specs.Masters.{out_of}
+use Rattle.written_roles.specs.Placing.{has_pair, waiting_in}
+use Rattle.grant_table.specs.Tables.{TableRecord, as_known}
+use Rattle.place_pass.specs.Cells.{Cell, asks_in}
+use Rattle.place_pass.specs.Lines.{same_pair}
+use Rattle.place_pass.specs.Placers.{IsSetFrom, IsStill}
+use Rattle.place_pass.proofs.Lining.{has_below, has_filter, has_flat, has_mapped, pair_self}
+use Rattle.place_pass.proofs.NumberedLemmas.{none_had}
+
+-- ---- a job less is calm
+pub still_calm : (calm calm' : List Bool) (n a : ℕ) → get_or calm' a false ≡ (not (nat_eq n a) && get_or calm a false) → get_or calm' a false ≡ true → (nat_eq n a ≡ false) × (get_or calm a false ≡ true)
+still_calm calm calm' n a is t = let b = both_true (not (nat_eq n a)) (get_or calm a false) (sym is ∙ t) in (off (nat_eq n a) b.0, b.1)
+  where
+    off : (x : Bool) → not x ≡ true → x ≡ false
+    off true e = cc
+    off false e = refl
+
+pub one_stirred : (x y : Bool) → cond x false y ≡ (not x && y)
+one_stirred true y = refl
+one_stirred false y = refl
+
+-- ---- who leaves
+pub filter_all : (q : ℕ × ℕ → Bool) (xs : List (ℕ × ℕ)) → ((p : ℕ × ℕ) → has_pair p xs ≡ true → q p ≡ true) → filter q xs ≡ xs
+filter_all q [] h = refl
+filter_all q (x ∷ xs) h =
+    ap (λ b. cond b (x ∷ filter q xs) (filter q xs)) (h x (ap (λ b. b || has_pair x xs) (pair_self x)))
+    ∙ ap (λ ys. x ∷ ys) (filter_all q xs (λ p e. h p (or_right (same_pair p x) (has_pair p xs) e)))
+
+pub all_kept : (x w : Bool) → (x ≡ true → w ≡ true) → (x && w) ≡ x
+all_kept true w f = f refl
+all_kept false w f = refl
+
+pub still_left : (cells : List (List Cell)) (line : List (ℕ × ℕ)) (calm : List Bool) (t : TableRecord) → IsStill cells line calm t → IsStill cells (filter (λ p. nat_lt 0 (out_of (asks_in cells) t.entries p.0 p.1)) line) calm t
+still_left cells line calm t h = record {
+  still = λ a u c.
+      let w = nat_lt 0 (out_of (asks_in cells) t.entries a u) in
+      has_filter (λ p. nat_lt 0 (out_of (asks_in cells) t.entries p.0 p.1)) (a, u) line ∙ ap (λ x. x && w) (h.still a u c) ∙ twice (nat_lt u (unit_count (as_known t.jobs) a)) w;
+}
+  where
+    twice : (x w : Bool) → ((x && w) && w) ≡ (x && w)
+    twice true true = refl
+    twice true false = refl
+    twice false w = refl
+
+-- ---- who joins
+pub paired_same : (r s : ℕ × ℕ → Bool) (a : ℕ) (vs : List ℕ) → ((u : ℕ) → r (a, u) ≡ s (a, u)) → filter r (map (λ u. (a, u)) vs) ≡ filter s (map (λ u. (a, u)) vs)
+paired_same r s a [] e = refl
+paired_same r s a (v ∷ vs) e =
+    ap (λ b. cond b ((a, v) ∷ filter r (map (λ u. (a, u)) vs)) (filter r (map (λ u. (a, u)) vs))) (e v) ∙ ap (λ zs. cond (s (a, v)) ((a, v) ∷ zs) zs) (paired_same r s a vs e)
+
+pub none_new : (line : List (ℕ × ℕ)) (a n : ℕ) (w : ℕ → Bool) → ((u : ℕ) → nat_lt u n ≡ true → w u ≡ true → has_pair (a, u) line ≡ true) → filter (λ p. not (has_pair p line)) (map (λ u. (a, u)) (filter w (below n))) ≡ []
+none_new line a n w h = none_had (filter (λ p. not (has_pair p line)) (map (λ u. (a, u)) (filter w (below n)))) (λ p has.
+    let b = both_true (has_pair p (map (λ u. (a, u)) (filter w (below n)))) (not (has_pair p line)) (sym (has_filter (λ p. not (has_pair p line)) p (map (λ u. (a, u)) (filter w (below n)))) ∙ has) in
+    let m = both_true (nat_eq p.0 a) (has_number p.1 (below n) && w p.1) (sym (has_mapped p.0 a p.1 w (below n)) ∙ b.0) in
+    let k = both_true (has_number p.1 (below n)) (w p.1) m.1 in
+    let l : has_pair p line ≡ true = subst (λ x. has_pair (x, p.1) line ≡ true) (sym (number_is p.0 a m.0)) (h p.1 (sym (has_below n p.1) ∙ k.0) k.1) in
+    let f : false ≡ true = sym (ap not l) ∙ b.1 in
+    let z : ⊥ = cc in z)
+
+-- of those that wait none has nothing out, so who was in the line is in what is left of it
+pub waiting_waits : (numbers : List ℕ) (units : ℕ → ℕ) (asks : ℕ → Key → ℕ) (table : List (Spot × ℕ)) (p : ℕ × ℕ) → has_pair p (waiting_in numbers units asks table) ≡ true → nat_lt 0 (out_of asks table p.0 p.1) ≡ true
+waiting_waits numbers units asks table p has =
+    let f = both_true (has_number p.0 numbers) (nat_lt p.1 (units p.0) && nat_lt 0 (out_of asks table p.0 p.1)) (sym (has_flat units (λ a u. nat_lt 0 (out_of asks table a u)) p.0 p.1 numbers) ∙ has) in
+    (both_true (nat_lt p.1 (units p.0)) (nat_lt 0 (out_of asks table p.0 p.1)) f.1).1
+
+joined_same : (line front : List (ℕ × ℕ)) (q : ℕ × ℕ → Bool) (all : List (ℕ × ℕ)) → front ≡ filter q line → ((p : ℕ × ℕ) → has_pair p all ≡ true → q p ≡ true) → filter (λ p. not (has_pair p front)) all ≡ filter (λ p. not (has_pair p line)) all
+joined_same line front q [] is w = refl
+joined_same line front q (x ∷ xs) is w =
+    let here : has_pair x front ≡ has_pair x line = ap (has_pair x) is ∙ has_filter q x line ∙ ap (λ b. has_pair x line && b) (w x (ap (λ b. b || has_pair x xs) (pair_self x))) ∙ on (has_pair x line) in
+    ap (λ b. cond (not b) (x ∷ filter (λ p. not (has_pair p front)) xs) (filter (λ p. not (has_pair p front)) xs)) here
+    ∙ ap (λ zs. cond (not (has_pair x line)) (x ∷ zs) zs) (joined_same line front q xs is (λ p e. w p (or_right (same_pair p x) (has_pair p xs) e)))
+  where
+    on : (b : Bool) → (b && true) ≡ b
+    on true = refl
+    on false = refl
+
+pub joined_is : (line front all next : List (ℕ × ℕ)) (q : ℕ × ℕ → Bool) → front ≡ filter q line → ((p : ℕ × ℕ) → has_pair p all ≡ true → q p ≡ true) → next ≡ front ++ filter (λ p. not (has_pair p front)) all → next ≡ front ++ filter (λ p. not (has_pair p line)) all
+joined_is line front all next q is w next_is = next_is ∙ ap (λ xs. front ++ xs) (joined_same line front q all is w)
+
+-- ---- what is told of one job leaves the others as they are
+module _ (calm calm' : List Bool) (a : ℕ) (less : (b : ℕ) → get_or calm' b false ≡ (not (nat_eq a b) && get_or calm b false)) where
+  pub still_told : (cells : List (List Cell)) (line line' : List (ℕ × ℕ)) (before after : TableRecord) (u m : ℕ) → IsSetFrom before after (spot a u m) → ((b v : ℕ) → nat_eq a b ≡ false → has_pair (b, v) line' ≡ has_pair (b, v) line)
+      → IsStill cells line calm before → IsStill cells line' calm' after
+  still_told cells line line' before after u m is same h = record {
+    still = λ b v c.
+        let s = still_calm calm calm' a b (less b) c in
+        same b v s.0 ∙ h.still b v s.1 ∙ (λ i. nat_lt v (sym (units_then b) i) && nat_lt 0 (sym (out_then b v s.0) i));
+  }
+    where
+      units_then : (b : ℕ) → unit_count (as_known after.jobs) b ≡ unit_count (as_known before.jobs) b
+      units_then b = ap (λ (t : TableRecord). unit_count (as_known t.jobs) b) is.is
+
+      none : (t : Bool) → ◌≡◌ {A = ℕ} (cond t 0 0) 0
+      none true = refl
+      none false = refl
+
+      held_then : (b v : ℕ) → held after.entries b v + cond (nat_eq a b && nat_eq u v) (count spot_cmp before.entries (spot a u m)) 0 ≡ held before.entries b v + cond (nat_eq a b && nat_eq u v) is.number 0
+      held_then b v = subst (λ (t : TableRecord). held t.entries b v + cond (nat_eq a b && nat_eq u v) (count spot_cmp before.entries (spot a u m)) 0 ≡ held before.entries b v + cond (nat_eq a b && nat_eq u v) is.number 0) (sym is.is)
+          (sum_set (λ s n. cond (nat_eq s.job b && nat_eq s.unit v) n 0) (λ s. none (nat_eq s.job b && nat_eq s.unit v)) (spot a u m) is.number before.entries is.sound.counts.sorted)
+
+      out_then : (b v : ℕ) → nat_eq a b ≡ false → out_of (asks_in cells) after.entries b v ≡ out_of (asks_in cells) before.entries b v
+      out_then b v f =
+          let h : held after.entries b v + 0 ≡ held before.entries b v + 0 = subst (λ t. held after.entries b v + cond (t && nat_eq u v) (count spot_cmp before.entries (spot a u m)) 0 ≡ held before.entries b v + cond (t && nat_eq u v) is.number 0) f (held_then b v) in
+          omega (arith, h)
+
+  pub still_asked : (cells cells' : List (List Cell)) (line : List (ℕ × ℕ)) (before after : TableRecord) → ((b : ℕ) (k : Key) → nat_eq a b ≡ false → asks_in cells' b k ≡ asks_in cells b k) → after.entries ≡ before.entries
+      → ((b : ℕ) → nat_eq a b ≡ false → unit_count (as_known after.jobs) b ≡ unit_count (as_known before.jobs) b) → IsStill cells line calm before → IsStill cells' line calm' after
+  still_asked cells cells' line before after asks entries units h = record {
+    still = λ b v c.
+        let s = still_calm calm calm' a b (less b) c in
+        h.still b v s.1 ∙ (λ i. nat_lt v (sym (units b s.0) i) && nat_lt 0 (sym (asks b (want_key v) s.0) i - held (sym entries i) b v));
+  }
+
+-- of the line loses only pairs of the job
+pub others_stay : (line : List (ℕ × ℕ)) (a u b v : ℕ) → nat_eq a b ≡ false → has_pair (b, v) (filter (λ p. not (nat_eq p.0 a && nat_eq p.1 u)) line) ≡ has_pair (b, v) line
+others_stay line a u b v f =
+    let g : nat_eq b a ≡ false = grind (arith, nat_tests, f) in
+    has_filter (λ p. not (nat_eq p.0 a && nat_eq p.1 u)) (b, v) line ∙ ap (λ t. has_pair (b, v) line && not (t && nat_eq v u)) g ∙ on (has_pair (b, v) line)
+  where
+    on : (x : Bool) → (x && true) ≡ x
+    on true = refl
+    on false = refl
