@@ -19,11 +19,16 @@ def built_program():
 
 
 @functools.lru_cache(maxsize=None)
-def runnable(name="fuxi"):
-    """The path of the program. Where it is not built, standard error says that what runs is not proved."""
-    named = os.environ.get("FUXI") if name == "fuxi" else None
-    if named:
-        return named if os.access(named, os.X_OK) else fail(name, f"{named}, which the environment has as FUXI, cannot be run")
+def runnable():
+    """The program fuxi, for a tool."""
+    named = os.environ.get("FUXI")
+    if named and not os.access(named, os.X_OK):
+        fail("fuxi", f"{named}, which the environment has as FUXI, cannot be run")
+    return named or current("fuxi")
+
+
+def current(name):
+    """The program of the sources as they are. Where it is not built, standard error says that what runs is not proved."""
     program = program_of(name)
     if not is_current(name, toolchain.version):
         return without_proof(name)
