@@ -127,7 +127,7 @@ class Charts:
         self.drawing.text(12, self.picture.y, "jobs", "name")
         for number, job in sorted(self.picture.jobs.items()):
             words = f"{number}: group {job.group}, " + " / ".join(f"priority {unit.priority} size {' '.join(map(str, unit.size))}" for unit in job.units)
-            if x > 150 and x + 6.2 * len(words) > max(self.picture.right(), 640.0):
+            if x > 150 and x + 6.2 * len(words) > self.picture.whole_width():
                 x, self.picture.y = 150.0, self.picture.y + 16
             self.drawing.rect(x, self.picture.y - 9, 10, 10, "job", fill=self.picture.job_colour(number))
             self.drawing.text(x + 14, self.picture.y, words, "note")

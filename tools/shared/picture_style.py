@@ -2,8 +2,10 @@
 
 # (words on a slant go out to the right of their column)
 LEFT, RIGHT, TOP_OF_LABELS = 165, 84, 4
-# A picture of all events is so wide at most and at least, and a column has these widths.
-WIDEST, NARROWEST_COLUMN, WIDEST_COLUMN = 1500, 1.0, 24.0
+# A picture of all events is so wide at most, whatever its columns, and so wide at least; a column has these widths.
+WIDEST, NARROWEST, NARROWEST_COLUMN, WIDEST_COLUMN = 1500, 640.0, 1.0, 24.0
+# So wide is a letter of a note, at most.
+NOTE_LETTER = 6.0
 # Narrower columns have no room for the words of each event.
 LABELLED_COLUMN = 11.0
 SLANT = "rotate(-55 {x} {y})"
