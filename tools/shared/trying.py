@@ -1,24 +1,24 @@
 """A program without its proof, for who has not built it. `rt try` of the toolchain compiles all its crates with tests of each step (an index, a sum,
-an unwrap, an access) and no proof, runs it over a folder of cases, and throws it away again. While the cases run, a copy of the program is taken. It
+an unwrap, an access) and no proof, runs it over a folder of cases, and throws it away again. While a case runs, a copy of the program is taken. It
 is kept beside the libraries of a build, under the sum of all that it is made of."""
 
-import contextlib
 import fcntl
+import glob
 import os
 import shutil
-import signal
 import subprocess
 import tempfile
+import time
 
 from shared import kept, toolchain
 from shared.crates import TOP, sum_of
 
-# How many inputs there are, which are all empty: the copy is taken behind the first one.
+# How many inputs there are, which are all empty: the copy is taken at one of the first.
 CASES = 200
+# A run over a case takes some twenty times as long.
+LOOK_SECONDS = 0.002
 # So many programs without a proof are kept, of all checkouts of one user.
 MOST_KEPT = 4
-# (`rt try` writes a line that begins so behind each case)
-CASE = "case="
 
 
 class NotMade(Exception):
@@ -50,49 +50,49 @@ def program(name, say):
 
 def make(name, made):
     with tempfile.TemporaryDirectory(prefix="fuxi-") as room:
-        os.mkdir(f"{room}/cases")
+        for part in ("cases", "runs"):
+            os.mkdir(f"{room}/{part}")
         for number in range(CASES):
             open(f"{room}/cases/{number}", "wb").close()
-        words = ["rt", "try", "--cases", f"{room}/cases"]
-        run = subprocess.Popen(words, cwd=f"{TOP}/crates/{name}", env={**os.environ, "TMPDIR": room}, stdin=subprocess.DEVNULL, stdout=subprocess.DEVNULL, stderr=subprocess.PIPE, text=True, errors="replace", start_new_session=True)
+        with open(f"{room}/said", "wb") as said:
+            words, environment = ["rt", "try", "--cases", f"{room}/cases"], {**os.environ, "TMPDIR": f"{room}/runs"}
+            run = subprocess.Popen(words, cwd=f"{TOP}/crates/{name}", env=environment, stdin=subprocess.DEVNULL, stdout=subprocess.DEVNULL, stderr=said, start_new_session=True)
         try:
-            said = wait_for_case(run.stderr)
-            found = found_below(room) if said is None else None
-            if not found:
-                raise NotMade("\n".join(said or ["rt try ran it, and it was not found where that has it"]))
-            shutil.copyfile(found, f"{made}.new")
-            os.chmod(f"{made}.new", 0o755)
-            os.replace(f"{made}.new", made)
+            while not take(f"{room}/runs", f"{made}.new"):
+                if run.poll() is not None:
+                    raise NotMade(last_lines(f"{room}/said"))
+                time.sleep(LOOK_SECONDS)
         finally:
             end(run)
+    os.chmod(f"{made}.new", 0o755)
+    os.replace(f"{made}.new", made)
 
 
-def wait_for_case(lines):
-    """Waits until the program has run once; or the last lines that were said, where it does not come to that."""
-    said = []
-    for line in lines:
-        if line.startswith(CASE):
-            return None
-        said = [*said[-29:], line.rstrip("\n")]
-    return said or ["rt try said nothing"]
+def take(runs, copy):
+    """Copies the program of a run, if there is one: it is whole once the file for its output stands beside it, and goes when the run has ended."""
+    for output in glob.glob(f"{runs}/**/stdout", recursive=True):
+        try:
+            with open(f"{os.path.dirname(output)}/program", "rb") as made, open(copy, "wb") as file:
+                shutil.copyfileobj(made, file)
+            return True
+        except FileNotFoundError:
+            pass
+    return False
 
 
-def found_below(room):
-    """The program among the files of a run: the largest that can be run."""
-    paths = [f"{at}/{name}" for at, _, names in os.walk(room) for name in names]
-    programs = [it for it in paths if os.path.isfile(it) and os.access(it, os.X_OK)]
-    return max(programs, key=os.path.getsize, default=None)
+def last_lines(path):
+    with open(path, encoding="utf-8", errors="replace") as said:
+        return "".join(said.readlines()[-30:]).strip() or "rt try said nothing"
 
 
 def end(run):
     """Ends `rt try`, which ends what it has started and takes its folder away."""
-    with contextlib.suppress(ProcessLookupError):
-        run.send_signal(signal.SIGTERM)
+    run.terminate()
     try:
-        run.communicate(timeout=20)
+        run.wait(20)
     except subprocess.TimeoutExpired:
         run.kill()
-        run.communicate()
+        run.wait()
 
 
 def forget_oldest():
