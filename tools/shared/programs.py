@@ -4,11 +4,14 @@ import contextlib
 import functools
 import os
 import sys
+import time
 
 from shared import toolchain, trying
 from shared.crates import is_current, program_of
 from shared.toolchain import fail
 
+# The times of files are not finer than this.
+CLOCK_SECONDS = 0.05
 HOW_TO_BUILD = "`./{0} build` proves and builds it, once: half an hour to an hour on four processors, and it goes on where it was interrupted"
 
 
@@ -29,12 +32,12 @@ def runnable():
 
 def current(name):
     """The program of the sources as they are. Where it is not built, standard error says that what runs is not proved."""
-    program = program_of(name)
+    program, moment = program_of(name), time.time() - CLOCK_SECONDS
     if not is_current(name, toolchain.version):
         return without_proof(name)
-    # (a source that is newer says the same as before, or is of no crate below the program: the next call need not look again)
+    # (a source that is newer says the same as before, or is of no crate below the program: the next call need not look again, but at an edit that comes meanwhile)
     with contextlib.suppress(OSError):
-        os.utime(program)
+        os.utime(program, (moment, moment))
     return program
 
 
