@@ -43,7 +43,7 @@ class Charts:
 
     def machine(self, machine):
         _, has = self.cluster.machines[machine]
-        for resource, y in self.rows(f"machine {machine}  {' '.join(map(str, has))}"):
+        for resource, y in self.rows(f"machine {machine}: {' '.join(map(str, has))}"):
             self.background(machine, y)
             self.enforced(machine, resource, has[resource], y)
             for epoch in self.epochs:
@@ -89,7 +89,7 @@ class Charts:
 
     def group(self, group):
         quota, limit = self.cluster.groups[group]
-        for resource, y in self.rows(f"group {group}  limit {' '.join(map(str, limit))}"):
+        for resource, y in self.rows(f"group {group}: limit {' '.join(map(str, limit))}"):
             if not limit[resource]:
                 continue
             for first, behind, share in self.picture.runs_of(lambda state: self.share(state, group, resource, limit[resource])):

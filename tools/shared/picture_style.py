@@ -25,7 +25,8 @@ WORDS = {
 }
 NOTES = [
     "a circle at the end of an arrow: its sender was new there · grey: no agent runs · red: the machine is banned",
-    "machines: filled what the agent enforces, by job; the line is what the newest master grants, dashed an older one · groups: the dashes are the quota",
+    "machines: filled what the agent enforces, by job; the line is what the newest master grants, dashed an older one",
+    "groups: filled what the newest master grants of the limit; the dashes are the quota",
 ]
 STYLE = """
 text { font-family: DejaVu Sans, Verdana, sans-serif; font-size: 11px; fill: #222 }

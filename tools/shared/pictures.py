@@ -78,8 +78,10 @@ class Picture:
     def foot(self):
         """What the colours mean, and what was left out."""
         self.y += 16
-        x = 12.0
+        x, seen = 12.0, {heard.word for packet in self.packets for heard in packet.heard} | {"never" for packet in self.packets if not packet.heard}
         for word, (_, meaning) in WORDS.items():
+            if word not in seen:
+                continue
             width = 48 + 6.2 * len(meaning)
             if x + width > self.whole_width():
                 x, self.y = 12.0, self.y + 17
