@@ -11,7 +11,7 @@ import time
 from nodes.hard_file import HardState
 from shared.control import tell
 from shared.crates import TOP
-from shared.epochs import CountedEpochs, LeaseEpochs, has_lease
+from shared.epochs import LeaseEpochs
 from shared.jobs_file import Jobs
 from shared.living import Living
 from shared.processes import PATIENCE, Difference
@@ -154,8 +154,7 @@ def live(program, seed):
     with open(f"{TOP}/tools/cluster.jobs", "rb") as file:
         jobs = Jobs(file.read(), "tools/cluster.jobs")
     with tempfile.TemporaryDirectory() as folder:
-        epochs = LeaseEpochs(program, folder) if has_lease(program) else CountedEpochs()
-        living = Living(os.path.abspath(program), folder, jobs, epochs, Loopback(), FEW_LINES)
+        living = Living(os.path.abspath(program), folder, jobs, LeaseEpochs(program, folder), Loopback(), FEW_LINES)
         try:
             living.start()
             driver = Driver(living, seed)
@@ -169,5 +168,5 @@ def live(program, seed):
             return False
         finally:
             living.close()
-    print(f"a cluster that lives: {living.epoch} epochs by {epochs.name}, {len(living.failovers)} failovers, {living.restarts} restarts, {living.handovers} handovers, {living.rounds} rounds; ok")
+    print(f"a cluster that lives: {living.epoch} epochs by {living.epochs.name}, {len(living.failovers)} failovers, {living.restarts} restarts, {living.handovers} handovers, {living.rounds} rounds; ok")
     return True

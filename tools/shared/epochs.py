@@ -13,32 +13,8 @@ from shared.processes import Difference
 
 # An answer of `fuxi lease` comes at once.
 LEASE_SECONDS = 10.0
-
-
-class CountedEpochs:
-    """One more than the last. That is enough where one tool starts all masters."""
-
-    name = "counted"
-
-    def __init__(self):
-        self.last = 0
-
-    def acquire(self, _holder):
-        self.last += 1
-        return self.last
-
-    def renew(self, _epoch):
-        return True
-
-    def expire(self, _epoch):
-        """The holder is known to be gone."""
-
-    def passed(self, fence):
-        """A file has a greater fence than was known."""
-        self.last = max(self.last, fence)
-
-    def close(self):
-        pass
+# Epochs that are let go, for a file of masters that is older than that of the lease.
+MOST_PASSED = 10_000
 
 
 class LeaseEpochs:
@@ -76,6 +52,8 @@ class LeaseEpochs:
 
     def passed(self, fence):
         """Epochs up to the fence are taken and let go, one after the other: the file of the masters is older than that of the lease."""
+        if fence > MOST_PASSED:
+            raise Difference(f"the file of the masters has the fence {fence}: its epochs are not from a lease, as the time is not, which tools/party takes")
         while self.holder is not None:
             epoch = self.acquire(0)
             self.expire(epoch)
@@ -85,12 +63,6 @@ class LeaseEpochs:
     def close(self):
         self.process.kill()
         self.process.wait(5)
-
-
-def has_lease(program):
-    """Whether this program hands out epochs: one that does not prints how it is used."""
-    usage = subprocess.run([program], stdin=subprocess.DEVNULL, capture_output=True, text=True).stderr
-    return "lease" in usage
 
 
 class EtcdEpochs:

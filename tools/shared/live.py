@@ -1,10 +1,8 @@
 """A replay that grows: its lines so far are run again whenever lines come to it, and what the new ones printed is told."""
 
-import os
 import re
 import subprocess
 
-from shared.crates import program_of
 from shared.states import State
 
 # A delivery of a packet that no run has: it is refused, and tells how many packets were sent. It stands behind each line.
@@ -19,12 +17,6 @@ class NotTaken(Exception):
     def __init__(self, place, why):
         super().__init__(why)
         self.place = place
-
-
-def built_program():
-    """The built program, or another one that the environment names; None where there is none."""
-    program = os.environ.get("FUXI") or program_of("fuxi")
-    return program if os.access(program, os.X_OK) else None
 
 
 class Live:

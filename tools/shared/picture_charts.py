@@ -43,7 +43,7 @@ class Charts:
 
     def machine(self, machine):
         _, has = self.cluster.machines[machine]
-        for resource, y in self.rows(f"machine {machine}  {' '.join(map(str, has))}"):
+        for resource, y in self.rows(f"machine {machine}: {' '.join(map(str, has))}"):
             self.background(machine, y)
             self.enforced(machine, resource, has[resource], y)
             for epoch in self.epochs:
@@ -89,7 +89,7 @@ class Charts:
 
     def group(self, group):
         quota, limit = self.cluster.groups[group]
-        for resource, y in self.rows(f"group {group}  limit {' '.join(map(str, limit))}"):
+        for resource, y in self.rows(f"group {group}: limit {' '.join(map(str, limit))}"):
             if not limit[resource]:
                 continue
             for first, behind, share in self.picture.runs_of(lambda state: self.share(state, group, resource, limit[resource])):
@@ -127,7 +127,7 @@ class Charts:
         self.drawing.text(12, self.picture.y, "jobs", "name")
         for number, job in sorted(self.picture.jobs.items()):
             words = f"{number}: group {job.group}, " + " / ".join(f"priority {unit.priority} size {' '.join(map(str, unit.size))}" for unit in job.units)
-            if x > 150 and x + 6.2 * len(words) > max(self.picture.right(), 640.0):
+            if x > 150 and x + 6.2 * len(words) > self.picture.whole_width():
                 x, self.picture.y = 150.0, self.picture.y + 16
             self.drawing.rect(x, self.picture.y - 9, 10, 10, "job", fill=self.picture.job_colour(number))
             self.drawing.text(x + 14, self.picture.y, words, "note")

@@ -22,20 +22,20 @@ class Lanes:
         parties = self.parties()
         if len(parties) > MOST_LANES:
             self.picture.left_out.append(f"the lines of {len(parties) - MOST_LANES} parties, with their packets")
-        top = self.picture.y
-        for party in parties[:MOST_LANES]:
+        drawn = parties[:MOST_LANES]
+        self.draw_columns(self.picture.y, self.picture.y + LANE * len(drawn))
+        for party in drawn:
             self.picture.y += LANE
             self.places[party] = self.picture.y
             self.draw_lane(*party)
-        self.draw_columns(top)
         self.draw_packets()
         self.picture.y += 14
 
-    def draw_columns(self, top):
+    def draw_columns(self, top, bottom):
         if self.picture.width >= LABELLED_COLUMN:
             for column in range(len(self.picture.events)):
                 x = self.picture.x(column)
-                self.drawing.line(x, top + 8, x, self.picture.y + 6, "column")
+                self.drawing.line(x, top + 8, x, bottom + 6, "column")
 
     def draw_lane(self, role, number):
         y, names = self.picture.y, {"master": "master {}", "agent": "agent of machine {}", "app": "application {}"}

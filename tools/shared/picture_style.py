@@ -2,8 +2,10 @@
 
 # (words on a slant go out to the right of their column)
 LEFT, RIGHT, TOP_OF_LABELS = 165, 84, 4
-# A picture of all events is so wide at most and at least, and a column has these widths.
-WIDEST, NARROWEST_COLUMN, WIDEST_COLUMN = 1500, 1.0, 24.0
+# A picture of all events is so wide at most, whatever its columns, and so wide at least; a column has these widths.
+WIDEST, NARROWEST, NARROWEST_COLUMN, WIDEST_COLUMN = 1500, 640.0, 1.0, 24.0
+# So wide is a letter of a note, at most.
+NOTE_LETTER = 6.0
 # Narrower columns have no room for the words of each event.
 LABELLED_COLUMN = 11.0
 SLANT = "rotate(-55 {x} {y})"
@@ -23,7 +25,8 @@ WORDS = {
 }
 NOTES = [
     "a circle at the end of an arrow: its sender was new there · grey: no agent runs · red: the machine is banned",
-    "machines: filled what the agent enforces, by job; the line is what the newest master grants, dashed an older one · groups: the dashes are the quota",
+    "machines: filled what the agent enforces, by job; the line is what the newest master grants, dashed an older one",
+    "groups: filled what the newest master grants of the limit; the dashes are the quota",
 ]
 STYLE = """
 text { font-family: DejaVu Sans, Verdana, sans-serif; font-size: 11px; fill: #222 }

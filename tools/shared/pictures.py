@@ -1,10 +1,13 @@
 """A run as a picture: parties and their packets above, and below over the same events what machines, groups and waiting units have."""
 
+import textwrap
+
 from shared.packets import packets_of
 from shared.picture_charts import Charts
 from shared.picture_lanes import Lanes
-from shared.picture_style import JOB_COLOURS, LABELLED_COLUMN, LEFT, NARROWEST_COLUMN, NOTES, RIGHT, SLANT, STYLE, TOP_OF_LABELS, WIDEST, WIDEST_COLUMN, WORDS, arrow_head, word_style
+from shared.picture_style import JOB_COLOURS, LABELLED_COLUMN, LEFT, NARROWEST, NARROWEST_COLUMN, NOTE_LETTER, NOTES, RIGHT, SLANT, STYLE, TOP_OF_LABELS, WIDEST, WIDEST_COLUMN, WORDS, arrow_head, word_style
 from shared.svg import Drawing
+
 
 class Picture:
     """What all parts of a picture share: the columns of the events, the colours, and what was left out."""
@@ -27,6 +30,9 @@ class Picture:
     def right(self):
         return LEFT + max(1, len(self.events)) * self.width
 
+    def whole_width(self):
+        return max(self.right() + RIGHT, NARROWEST)
+
     def job_colour(self, job):
         return JOB_COLOURS[job % len(JOB_COLOURS)]
 
@@ -47,7 +53,7 @@ class Picture:
         Lanes(self).draw()
         Charts(self).draw()
         self.foot()
-        return self.drawing.whole(max(self.right() + RIGHT, 640.0), self.y + 10)
+        return self.drawing.whole(self.whole_width(), self.y + 10)
 
     def head(self):
         """The title, and above the columns what each event is."""
@@ -72,19 +78,21 @@ class Picture:
     def foot(self):
         """What the colours mean, and what was left out."""
         self.y += 16
-        x = 12.0
+        x, seen = 12.0, {heard.word for packet in self.packets for heard in packet.heard} | {"never" for packet in self.packets if not packet.heard}
         for word, (_, meaning) in WORDS.items():
-            if x > max(self.right(), 640.0) - 190:
+            if word not in seen:
+                continue
+            width = 48 + 6.2 * len(meaning)
+            if x + width > self.whole_width():
                 x, self.y = 12.0, self.y + 17
             self.drawing.path([(x, self.y - 4), (x + 24, self.y - 4)], f"sample {word}", marker_end=f"url(#{word})")
             self.drawing.text(x + 32, self.y, meaning, "note")
-            x += 48 + 6.2 * len(meaning)
-        for line in NOTES:
-            self.y += 17
-            self.drawing.text(12, self.y, line, "note")
-        for what in self.left_out:
-            self.y += 16
-            self.drawing.text(12, self.y, f"left out: {what}", "note")
+            x += width
+        for note in [*NOTES, *(f"left out: {what}" for what in self.left_out)]:
+            self.y += 3
+            for line in textwrap.wrap(note, int((self.whole_width() - 24) / NOTE_LETTER)):
+                self.y += 14
+                self.drawing.text(12, self.y, line, "note")
 
 
 def is_important(event):

@@ -1,8 +1,8 @@
 """Proves one crate after the other, lowest first, as many side by side as there are processors.
 
 A library is proved and written by the toolchain's `rattle build`, with its statements alone: those above it then load no proof again. The command
-`rt lib` of the toolchain would do the same in a repository, but keeps whole proofs, locks the folders of all crates below, and goes along each path
-of the graph of crates. The program is proved, compiled and linked by `rt run`."""
+`rt lib` of the toolchain would do the same in a repository, but keeps whole proofs, and locks the folders of all crates below. The program is proved,
+compiled and linked by `rt run`."""
 
 import os
 import shutil

@@ -1,10 +1,9 @@
 """A schedule run by the program, event by event, with the state behind each. All that is known of a run is the program's own text."""
 
-import os
 import re
 import subprocess
 
-from shared.crates import TOP
+from shared.programs import runnable
 from shared.schedules import Cluster, Job, read_lines
 from shared.states import State
 
@@ -20,11 +19,6 @@ class BadRun(Exception):
         self.status, self.said = status, said
 
 
-def launcher():
-    """What runs a schedule: the launcher, with a built program or without, or another program that the environment names."""
-    return os.environ.get("FUXI") or f"{TOP}/fuxi"
-
-
 def read_file(path):
     with open(0 if path == STREAM else path, "rb") as file:
         return file.read()
@@ -32,7 +26,7 @@ def read_file(path):
 
 def run_program(data):
     """The status, the lines of the output and the error text of a run."""
-    ran = subprocess.run([launcher(), "replay"], input=data, stdout=subprocess.PIPE, stderr=subprocess.PIPE)
+    ran = subprocess.run([runnable(), "replay"], input=data, stdout=subprocess.PIPE, stderr=subprocess.PIPE)
     said = ran.stderr.decode(errors="replace").strip().splitlines()
     return ran.returncode, ran.stdout.decode("latin-1").splitlines(), said[-1] if said else ""
 
