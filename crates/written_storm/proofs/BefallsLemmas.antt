@@ -1,15 +1,14 @@
 -- What befalls the world in the steps of a storm leaves the master of the fence and all agents running.
-use Rattle.std.proofs.Common.{◌≡◌, ◌⊎◌, inl, inr, ℕ, zero, suc, ◌+◌, ◌-◌, ◌<◌, ◌≤◌, ◌^◌, Bool, true, false, cond, not, nat_eq, nat_lt, List, [], ◌∷◌, ◌++◌, length, map, Option, Some, None, is_some, refl, sym, ◌∙◌, ap, subst, arith}
-use Rattle.std.specs.Prelude.{⊤, ◌&&◌}
+use Rattle.std.proofs.Common.{◌≡◌, ◌⊎◌, inl, inr, ℕ, ◌<◌, ◌≤◌, ◌^◌, Bool, true, false, cond, not, nat_eq, List, [], ◌∷◌, length, Option, Some, None, is_some, refl, sym, ◌∙◌, ap, subst, arith}
+use Rattle.std.specs.Prelude.{⊤}
 use Rattle.std.specs.Ordering.{nat_cmp, eq_by_cmp}
 use Rattle.std.specs.Cmp.{nat_cmp_total}
 use Rattle.std.specs.FinMap.Entries.{find, put, find-put}
 use Rattle.std.proofs.lemmas.Bool.Decides.{nat_tests}
-use Rattle.fuxi_terms.specs.Cluster.{has_machine}
-use Rattle.fuxi_terms.specs.Jobs.{eight_places, job_numbers}
+use Rattle.fuxi_terms.specs.Jobs.{eight_places}
 use Rattle.fuxi_terms.specs.Lists.{below}
 use Rattle.fuxi_terms.specs.Numbers.{has_number, without_number}
-use Rattle.written_net.specs.Net.{Net, Party, Id, Packet, comes, heard_of}
+use Rattle.written_net.specs.Net.{Net, Id, Packet, comes, heard_of}
 use Rattle.written_net.specs.Ledgers.{Ledger}
 use Rattle.written_net.specs.Channels.{agent_id, app_id, is_master, master_id, party, present, publish, resync_all, send_all, to_master}
 use Rattle.written_roles.specs.HardState.{HardState, banned, finished, raised, submitted, unbanned, with_job}
@@ -17,9 +16,9 @@ use Rattle.written_roles.specs.Apps.{changed_demand, command_key, command_number
 use Rattle.written_roles.specs.Masters.{Master}
 use Rattle.written_roles.specs.MasterSteps.{banned_in, ended_in, master_party, new_master, peers, ready, talks}
 use Rattle.written_roles.specs.Preemption.{preempted}
-use Rattle.written_world.specs.World.{World, Agent, App}
+use Rattle.written_world.specs.World.{World, App}
 use Rattle.written_world.specs.Parties.{adopted_now, agent_hears, carry, end_step, received, told}
-use Rattle.written_world.specs.Events.{Event, DeliverRange, Halt, Judge, StartApp, StartMaster, StopMaster, act, counted_in, given_back, without_master}
+use Rattle.written_world.specs.Events.{Event, DeliverRange, Halt, Judge, StartApp, StartMaster, StopMaster, act, given_back}
 use Rattle.written_world.proofs.EventsWalk.{EventSteps, act_steps}
 use Rattle.written_world.proofs.Invariant.{put_found, ready_epoch}
 use Rattle.written_world.proofs.LeftLemmas.{left_out}
@@ -83,20 +82,25 @@ module _ (w : World) (f : Facts w) where
   steps : EventSteps P (λ _. ⊤) w
   steps = record {
     same = λ v. record { it = λ _. f };
-    starts = λ e n t. record { it = λ of_line. record {
-      manned = record { master = let R = ready w.cluster (new_master (raised w.hard e) e) in now_some e R.epoch R w.masters (ready_epoch w.cluster (new_master (raised w.hard e) e)); agents = f.manned.agents };
-      named = record { named = f.named.named };
-      first = of_line.0;
-      few = of_line.1;
-    } };
-    stops = λ e. record { it = λ less. record {
-      manned = record {
-        master = ap is_some (left_out e w.hard.fence w.masters) ∙ (let t : not (nat_eq w.hard.fence e) ≡ true = grind (arith, nat_tests, less) in ap (λ b. is_some (cond b (find nat_cmp w.hard.fence w.masters) None)) t) ∙ f.manned.master;
-        agents = f.manned.agents;
+    starts = λ e n t. record {
+      it = λ of_line. record {
+        manned = record { master = let R = ready w.cluster (new_master (raised w.hard e) e) in now_some e R.epoch R w.masters (ready_epoch w.cluster (new_master (raised w.hard e) e)); agents = f.manned.agents };
+        named = record { named = f.named.named };
+        first = of_line.0;
+        few = of_line.1;
       };
-      named = record { named = f.named.named };
-      first = f.first; few = f.few;
-    } };
+    };
+    stops = λ e. record {
+      it = λ less. record {
+        manned = record {
+          master = ap is_some (left_out e w.hard.fence w.masters) ∙ (let t : not (nat_eq w.hard.fence e) ≡ true = grind (arith, nat_tests, less) in ap (λ b. is_some (cond b (find nat_cmp w.hard.fence w.masters) None)) t) ∙ f.manned.master;
+          agents = f.manned.agents;
+        };
+        named = record { named = f.named.named };
+        first = f.first;
+        few = f.few;
+      };
+    };
     halts = λ calls all x l. record { it = λ never. absurd never };
     starts_agent = λ m n t. record { it = λ _. record { manned = record { master = f.manned.master; agents = λ k there. still_some k m (record { boot = n }) w.agents (f.manned.agents k there) }; named = record { named = f.named.named }; first = f.first; few = f.few } };
     starts_app = λ a n t. record { it = λ never. absurd never };

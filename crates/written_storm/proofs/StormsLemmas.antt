@@ -1,5 +1,5 @@
 -- A storm ends quiet.
-use Rattle.std.proofs.Common.{◌≡◌, ℕ, zero, suc, ◌+◌, ◌-◌, ◌<◌, ◌≤◌, ◌^◌, Bool, true, false, cond, nat_eq, nat_lt, List, [], ◌∷◌, ◌++◌, length, map, mod-lt, Option, Some, None, Result, Ok, Err, is_some, codes, refl, sym, ◌∙◌, ap, subst, arith}
+use Rattle.std.proofs.Common.{◌≡◌, ℕ, zero, suc, ◌+◌, ◌-◌, ◌<◌, ◌≤◌, ◌^◌, Bool, true, false, cond, nat_eq, nat_lt, List, [], ◌∷◌, ◌++◌, length, map, mod-lt, Option, Some, None, Ok, is_some, codes, refl, sym, ◌∙◌, ap, subst, arith}
 use Rattle.std.specs.Prelude.{◌&&◌}
 use Rattle.std.specs.List.{AllByRecursion, list_all}
 use Rattle.std.specs.Ordering.{nat_cmp, eq_by_cmp}
@@ -10,21 +10,20 @@ use Rattle.fuxi_terms.specs.Counts.{then_do}
 use Rattle.fuxi_terms.specs.Lists.{below}
 use Rattle.fuxi_terms.specs.Numbers.{has_number}
 use Rattle.fuxi_terms.proofs.Alls.{all_append}
-use Rattle.fuxi_terms.proofs.Booleans.{both_true, either}
+use Rattle.fuxi_terms.proofs.Booleans.{both_true}
 use Rattle.written_net.specs.Channels.{agent_id}
 use Rattle.written_roles.specs.HardState.{HardState}
 use Rattle.written_roles.specs.Refusals.{with_found}
 use Rattle.written_world.specs.World.{World, Agent, App, empty_world}
-use Rattle.written_world.specs.Events.{Event, StartMaster, StopMaster, StartAgent, StartApp, Submit, Begin, Preempt, Want, Near, GiveBack, TurnMaster, TurnAgent, TurnApp, ResyncMaster, Deliver, act, counted_in, world_step}
+use Rattle.written_world.specs.Events.{Event, StartMaster, StopMaster, StartAgent, StartApp, Submit, Begin, Preempt, Want, Near, GiveBack, TurnMaster, TurnAgent, TurnApp, ResyncMaster, Deliver, counted_in, world_step}
 use Rattle.written_world.specs.Lines.{IsInput, is_from_line}
 use Rattle.written_world.specs.Quiet.{is_quiet}
 use Rattle.written_world.specs.Runs.{run, run_from}
 use Rattle.written_world.proofs.JobsKept.{run_cluster}
-use Rattle.schedule_replay.specs.declared.stop.WorldStop.{WorldStop}
 use Rattle.storm_run.specs.declared.choices.Move.{Move}
 use Rattle.storm_run.specs.declared.choices.Move.TheVariants as move
 use Rattle.storm_run.specs.declared.counts.Count.TheVariants.{Granted, Held, Rows}
-use Rattle.storm_run.specs.Choices.{Chosen, chosen, chosen_by, counted, delivery, failover, move_at, restart, trouble}
+use Rattle.storm_run.specs.Choices.{Chosen, chosen, chosen_by, counted, failover, move_at, restart, trouble}
 use Rattle.storm_run.specs.Clusters.{storm_cluster}
 use Rattle.storm_run.specs.Generators.{drawn, next, number}
 use Rattle.storm_run.specs.Storms.{Storm, all_stepped, all_taken, closed, each, job, opened, stepped, storm, storm_at, submitted, taken}

@@ -1,6 +1,5 @@
 -- What the parts of a storm make of the world, where no event passes a limit.
-use Rattle.std.proofs.Common.{◌≡◌, ℕ, zero, suc, ◌+◌, ◌<◌, ◌^◌, Bool, true, false, cond, nat_eq, nat_lt, List, [], ◌∷◌, ◌++◌, length, map, Option, Some, None, Result, Ok, Err, refl, sym, ◌∙◌, ap, subst, arith}
-use Rattle.std.specs.Prelude.{◌&&◌}
+use Rattle.std.proofs.Common.{◌≡◌, ℕ, zero, suc, ◌+◌, ◌<◌, ◌^◌, Bool, true, false, cond, nat_lt, List, [], ◌∷◌, ◌++◌, length, map, Option, Some, None, Result, Ok, Err, refl, sym, ◌∙◌, ap, subst, arith}
 use Rattle.std.proofs.lemmas.Bool.Decides.{nat_tests}
 use Rattle.std.proofs.lemmas.List.{map-append}
 use Rattle.fuxi_terms.specs.Cluster.{ClusterRecord}
@@ -9,7 +8,7 @@ use Rattle.fuxi_terms.specs.Lists.{below}
 use Rattle.fuxi_terms.proofs.Booleans.{and_true}
 use Rattle.written_roles.specs.HardState.{HardState}
 use Rattle.written_world.specs.World.{World}
-use Rattle.written_world.specs.Events.{Event, DeliverRange, StartAgent, StartApp, StartMaster, TurnAgent, TurnApp, TurnMaster, world_step}
+use Rattle.written_world.specs.Events.{Event, DeliverRange, TurnAgent, TurnApp, TurnMaster, world_step}
 use Rattle.written_world.specs.Runs.{run_from}
 use Rattle.schedule_replay.specs.declared.stop.WorldStop.{WorldStop}
 use Rattle.schedule_replay.specs.Steps.{limit_of}
