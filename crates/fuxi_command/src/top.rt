@@ -3,6 +3,7 @@ ghost use Rattle.std.specs.List.{concat};
 ghost use Rattle.std.specs.Io.KnownBytes.{Appends};
 ghost use Rattle.fuxi_io.specs.Causes.{Rose};
 ghost use Rattle.written_calm.specs.Rounds.{CalmBringsQuiet};
+ghost use Rattle.written_storm.specs.Ends.{EndsQuiet};
 ghost use Rattle.written_world.specs.Runs.{run};
 ghost use Rattle.written_world.specs.Safe.{AllFit, Views, AllAgree, AllSettled};
 ghost use Rattle.written_world.specs.Credits.{AllCreditedOnce};
@@ -43,6 +44,7 @@ use std::alloc::Global;
 use storm_run::run_storm;
 use written_calm::calm_rounds_bring_quiet;
 use written_roles::preempts_by_quota;
+use written_storm::storms_end_quiet;
 use written_world::{
     a_failover_keeps_grants, always_safe, every_judgement_bans_what_is_judged,
     every_run_grows_as_allowed, every_run_keeps_banned_machines_bare,
@@ -231,6 +233,9 @@ pub fn fuxi<S: Source, O: Sink, E: Sink, D: Disk, N: Door>(
     ensures storm_text { (seed steps : ℕ) → command_of (map string_bytes words.now) ≡ Some (Storm seed steps) → result ≡ Status.Done
         → Writes (IsStorm seed steps) (O.took out.old) (O.took out.new) }
 
+    // its last line is `quiet yes`, whatever the seed;
+    ensures storm_quiet { (seed steps : ℕ) → command_of (map string_bytes words.now) ≡ Some (Storm seed steps) → result ≡ Status.Done → Writes EndsQuiet (O.took out.old) (O.took out.new) }
+
     // where the output failed a part of it from its front, and where memory was refused nothing;
     ensures storm_so_far { (seed steps : ℕ) → command_of (map string_bytes words.now) ≡ Some (Storm seed steps) → result ≡ Status.WriteFault
         → WritesPart (IsStorm seed steps) (O.took out.old) (O.took out.new) }
@@ -299,6 +304,7 @@ pub fn fuxi<S: Source, O: Sink, E: Sink, D: Disk, N: Door>(
     inputs_are_given();
     every_judgement_bans_what_is_judged();
     calm_rounds_bring_quiet();
+    storms_end_quiet();
     let status = run_command(alloc, words, input, out, disk, door);
     let _told = report(err, &status);
     status

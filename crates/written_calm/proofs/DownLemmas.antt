@@ -227,14 +227,16 @@ module _ (w : World) (s : Steady w) (M : Master) (found : find nat_cmp w.hard.fe
     hears_one x u f m =
         let a = arrives u x in
         let long = (a.grows.longer p master_id).long in
-        let before = f.grows in
-        (peer_link u x q b f.still m.1.1 (ap (λ (r : Party). r.id) m.1.0), record {
-          steady = steady_hears u x (subst (λ l. IsSent l x) (sym f.sent) m.0) f.steady;
-          fence = ap (λ (h : HardState). h.fence) a.hard ∙ f.fence;
-          still = a.runs q ∙ f.still;
-          sent = a.packets ∙ f.sent;
-          grows = omega (arith, long, before);
-        })
+        let before = f.grows in (
+          peer_link u x q b f.still m.1.1 (ap (λ (r : Party). r.id) m.1.0),
+          record {
+            steady = steady_hears u x (subst (λ l. IsSent l x) (sym f.sent) m.0) f.steady;
+            fence = ap (λ (h : HardState). h.fence) a.hard ∙ f.fence;
+            still = a.runs q ∙ f.still;
+            sent = a.packets ∙ f.sent;
+            grows = omega (arith, long, before);
+          },
+        )
 
     bounded : (u : World) → Fine u → (u.net.links p master_id).known ≤ w.hard.fence
     bounded u f = let k = master_known u f.steady.good p in let z = f.fence in omega (arith, k, z)

@@ -11,13 +11,14 @@ use Rattle.fuxi_terms.specs.Jobs.{is_known}
 use Rattle.fuxi_terms.specs.Lists.{below}
 use Rattle.fuxi_terms.specs.Numbers.{has_number}
 use Rattle.fuxi_terms.proofs.Alls.{all_append, all_more}
-use Rattle.fuxi_terms.proofs.Booleans.{and_true, or_right}
+use Rattle.fuxi_terms.proofs.Booleans.{and_true, both_true, or_right}
 use Rattle.written_net.specs.Net.{Party, Id, last, same_id, at_index}
 use Rattle.written_net.proofs.NetLemmas.{id_is}
 use Rattle.written_net.specs.Ledgers.{Ledger, nothing}
 use Rattle.written_net.specs.Channels.{master_id, agent_id, app_id, party, present}
 use Rattle.written_roles.specs.Masters.{Master}
-use Rattle.written_roles.specs.MasterSteps.{master_party, peers, is_one_of}
+use Rattle.written_roles.specs.MasterSteps.{master_party, peers, is_all_reported, is_one_of}
+use Rattle.written_roles.proofs.TransitionsLemmas.{ready_besides}
 use Rattle.written_roles.specs.Refusals.{with_found}
 use Rattle.written_roles.proofs.StepEnds.{peers_talk}
 use Rattle.written_world.specs.World.{World, Agent, App, empty_world}
@@ -172,6 +173,21 @@ module _ (e : ℕ) (w : World) (h : Caught e w) where
       let head : (at_index nothing (w.net.histories P q) (last w.net P q)).head ≡ (w.net.links P q).known = subst (λ n. (present w.net (party master_id n) q).head ≡ (w.net.links (party master_id n) q).known) epoch shown in
       or_right (not (is_known m.master.jobs a)) (is_at_rest w.net m.master (party q g.boot)) (rests q g.boot runs (some_sent (w.net.histories P q) (omega (arith, head, k, one))))
 
+  -- every machine is reported, so the master serves
+  all_agents : (R : ℕ → Bool) → ((k : ℕ) (g : Agent) → find nat_cmp k w.agents ≡ Some g → R k ≡ true) → AllByRecursion (λ k. R k ≡ true) (below (length w.cluster.machines))
+  all_agents R has = all_below (λ k. R k ≡ true) (length w.cluster.machines) (λ k lt. by k (find nat_cmp k w.agents) refl (h.steady.manned.agents k (grind (arith, nat_tests, lt))))
+    where
+      by : (k : ℕ) (o : Option Agent) → find nat_cmp k w.agents ≡ o → is_some o ≡ true → R k ≡ true
+      by k None f t = cc
+      by k (Some g) f t = has k g f
+
+  pub master_serves : (M : Master) → find nat_cmp e w.masters ≡ Some M → M.serving ≡ true
+  master_serves M f =
+      let one : m.master ≡ M = (let z : Some m.master ≡ Some M = sym found ∙ f in cc) in
+      let all : is_all_reported w.cluster m.master ≡ true = all_list (λ k. has_number k m.master.reported) (below (length w.cluster.machines)) (all_agents (λ k. has_number k m.master.reported) (λ k g r. (both_true (has_number k m.master.reported) (is_at_rest w.net m.master (party (agent_id k) g.boot)) (agent_rests k g r)).0)) in
+      let done = (h.steady.can.masters w.hard.fence m.master m.runs).done in
+      subst (λ (N : Master). N.serving ≡ true) one (sym (ap (λ (N : Master). N.serving) done) ∙ (ready_besides w.cluster m.master).serving ∙ or_right m.master.serving (is_all_reported w.cluster m.master) all)
+
   pub caught_quiet : is_quiet w e ≡ true
   caught_quiet = ap (λ o. with_found o false (λ M. list_all (is_agent_quiet w M) (below (length w.cluster.machines)) && list_all (λ (g : ℕ × App). is_app_quiet w M g.0 g.1) w.apps)) found
       ∙ and_true (list_all (is_agent_quiet w m.master) (below (length w.cluster.machines))) (list_all (λ (g : ℕ × App). is_app_quiet w m.master g.0 g.1) w.apps)
@@ -207,7 +223,7 @@ pub calm_brings_quiet : KeepsOrder → (c : ClusterRecord) (es : List Event) →
 calm_brings_quiet kept c es input start manned apps named n le =
     let w = run c es in
     let k = last_turn w.hard.fence apps (calm_rounds n apps w) (heard_after w.hard.fence apps w (input_steady kept c es input start manned) refl named n le) in
-    record { quiet = caught_quiet w.hard.fence (closed n apps w) k; safe = safe_of (closed n apps w) k.steady.good }
+    record { quiet = caught_quiet w.hard.fence (closed n apps w) k; serves = master_serves w.hard.fence (closed n apps w) k; safe = safe_of (closed n apps w) k.steady.good }
 
 pub calm_keeps : KeepsOrder → (c : ClusterRecord) (es : List Event) → IsInput c es → IsInOrder (empty_world c) → CalmKeeps c es
 calm_keeps kept c es input start manned apps named n = rounds_keep apps (run c es) (input_steady kept c es input start manned) named n

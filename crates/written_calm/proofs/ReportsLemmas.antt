@@ -113,7 +113,7 @@ module _ (c : ClusterRecord) (net : Net Ledger) (M : Master) (x : Packet) (s : S
           let d = heard_of net (master_party M) (talks c M) x in
           let at : 1 ≤ d.link.seq = subst (λ (k : Link). 1 ≤ k.seq) (set_here net.links (master_party M) x.from.id d.link) (subst (λ q. 1 ≤ ((comes net (master_party M) (talks c M) (Some x)).links (master_party M) q).seq) (sym from) some) in
           let is : told M d x.from.id (received c M net x) ≡ cond (is_taken d.what) (take_report M m (content net x)) M =
-              ap (λ b. cond b (cond (is_taken d.what) (take_report M x.from.id.number (received c M net x)) M) (cond (is_taken d.what) (take_demand (meet_app d.fresh M x.from.id.number) x.from.id.number (received c M net x)) (meet_app d.fresh M x.from.id.number))) agent
-              ∙ ap (λ b. cond (is_taken d.what) (take_report M x.from.id.number (cond b (content net x) (counted c M.jobs x.from.id.number (content net x)))) M) agent
-              ∙ ap (λ k. cond (is_taken d.what) (take_report M k (content net x)) M) number in
+          ap (λ b. cond b (cond (is_taken d.what) (take_report M x.from.id.number (received c M net x)) M) (cond (is_taken d.what) (take_demand (meet_app d.fresh M x.from.id.number) x.from.id.number (received c M net x)) (meet_app d.fresh M x.from.id.number))) agent
+          ∙ ap (λ b. cond (is_taken d.what) (take_report M x.from.id.number (cond b (content net x) (counted c M.jobs x.from.id.number (content net x)))) M) agent
+          ∙ ap (λ k. cond (is_taken d.what) (take_report M k (content net x)) M) number in
           subst (λ (N : Master). has_number m N.reported ≡ true) (sym is) ((heard from).it at).it

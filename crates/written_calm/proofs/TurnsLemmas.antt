@@ -62,7 +62,6 @@ module _ {W : Type 0} (step : Packet → W → W) (link : W → Link) (top : W �
     (whose : (x : Packet) → May x → IsOf s r.id x)
     (heard : (x : Packet) (w : W) → Fine w → May x → (link (step x w) ≡ (hear r true (top w) (link w) x).link) × Fine (step x w))
     (bounded : (w : W) → Fine w → (link w).known ≤ s.inc) where
-
   pub record Goes (w w' : W) : Type 0 where
     pub fine : Fine w'
     pub further : Further (link w) (link w')
@@ -211,7 +210,7 @@ pub turns_bring_forward : TurnsBringForward
 turns_bring_forward s r last top sender receiver h =
     let step : Packet → Link → Link = λ x l. (hear r true top l x).link in
     let t = turned_whole step (λ l. l) (λ _. top) (λ l. l.known ≤ s.inc) (IsOf s r.id) s r (λ x m. m)
-        (λ x l le m. (refl, heard_bounded x l le m)) (λ l le. le) last sender receiver h.known h.acked h.reached (λ knows _ _. h.place knows) (turn_of s r.id last sender) in
+    (λ x l le m. (refl, heard_bounded x l le m)) (λ l le. le) last sender receiver h.known h.acked h.reached (λ knows _ _. h.place knows) (turn_of s r.id last sender) in
     subst (IsBroughtForward s r last sender) (each_is r top (turn_packets s r.id last sender) receiver) (record { known = t.known; place = t.place; acked = t.acked })
   where
     heard_bounded : (x : Packet) (l : Link) → l.known ≤ s.inc → IsOf s r.id x → (hear r true top l x).link.known ≤ s.inc

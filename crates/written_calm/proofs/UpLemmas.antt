@@ -156,9 +156,9 @@ shown_already : (net : Net Ledger) (p : Party) (os : List Offer) → AllByRecurs
 shown_already net p [] h = refl
 shown_already net p (o ∷ os) h =
     let one : publish_one net p o ≡ net =
-        ap (λ b. cond (b || not (same_ledger (present net p o.to) o.ledger)) (move net (Posts p o.to o.ledger)) net) h.0.0
-        ∙ ap (λ l. cond (not (same_ledger l o.ledger)) (move net (Posts p o.to o.ledger)) net) h.0.1
-        ∙ ap (λ b. cond (not b) (move net (Posts p o.to o.ledger)) net) (ledger_itself o.ledger) in
+    ap (λ b. cond (b || not (same_ledger (present net p o.to) o.ledger)) (move net (Posts p o.to o.ledger)) net) h.0.0
+    ∙ ap (λ l. cond (not (same_ledger l o.ledger)) (move net (Posts p o.to o.ledger)) net) h.0.1
+    ∙ ap (λ b. cond (not b) (move net (Posts p o.to o.ledger)) net) (ledger_itself o.ledger) in
     ap (λ n. publish n p os) one ∙ shown_already net p os h.1
 
 shown_offers : (net n : Net Ledger) (M : Master) (qs : List Id) → n.histories ≡ net.histories → ((q : Id) → (n.links (master_party M) q).known ≡ (net.links (master_party M) q).known) → AllByRecursion (λ q. present net (master_party M) q ≡ projection net M q) qs
@@ -182,10 +182,10 @@ idle_one w x s caught u =
     let inc : x.from.inc ≡ u.boot = ap (λ (r : Party). r.inc) u.from in
     let known : (w.net.links (master_party M) x.from.id).known ≡ x.from.inc = (λ i. (w.net.links (h.epoch i) (from i)).known) ∙ c.0 ∙ sym inc in
     let all : length (w.net.histories x.from x.to.id) ≤ (w.net.links (master_party M) x.from.id).seq =
-        subst (λ (r : Party). length (w.net.histories r x.to.id) ≤ (w.net.links (master_party M) x.from.id).seq) (sym u.from)
-        (subst (λ i. length (w.net.histories (party u.id u.boot) i) ≤ (w.net.links (master_party M) x.from.id).seq) (sym h.to)
-        (subst (λ (r : Party). last w.net (party u.id u.boot) master_id ≤ (w.net.links r x.from.id).seq) (sym h.epoch)
-        (subst (λ i. last w.net (party u.id u.boot) master_id ≤ (w.net.links (party master_id w.hard.fence) i).seq) (sym from) c.1))) in
+    subst (λ (r : Party). length (w.net.histories r x.to.id) ≤ (w.net.links (master_party M) x.from.id).seq) (sym u.from)
+    (subst (λ i. length (w.net.histories (party u.id u.boot) i) ≤ (w.net.links (master_party M) x.from.id).seq) (sym h.to)
+    (subst (λ (r : Party). last w.net (party u.id u.boot) master_id ≤ (w.net.links r x.from.id).seq) (sym h.epoch)
+    (subst (λ i. last w.net (party u.id u.boot) master_id ≤ (w.net.links (party master_id w.hard.fence) i).seq) (sym from) c.1))) in
     let names = found_within (λ y. PacketNames shape w.net.histories y.kind y) w.net.packets u.sent.place x s.good.stands.sound.packets u.sent.there in
     let old : d.fresh ≡ false = fresh_none (master_party M) (talks w.cluster M x.from.id) (last w.net (master_party M) x.from.id) (w.net.links (master_party M) x.from.id) x known in
     let not_new : is_taken d.what ≡ false = not_taken w.net.histories (master_party M) (talks w.cluster M x.from.id) (last w.net (master_party M) x.from.id) (w.net.links (master_party M) x.from.id) x names all known in
@@ -374,15 +374,17 @@ module _ (w : World) (s : Steady w) (apps : List ℕ) (named : AreNamed apps w) 
         let from : x.from.id ≡ q = ap (λ (r : Party). r.id) y.1 in
         let is : master_party h.master ≡ P = h.epoch ∙ ap (λ k. party master_id k) f.fence in
         let long = (a.grows.longer P q).long in
-        let before = f.grows in
-        (subst (λ (r : Party). (addressed u x).net.links r q ≡ (hear r true (last u.net r q) (u.net.links r q) x).link) is
-        (subst (λ d. (addressed u x).net.links (master_party h.master) d ≡ (hear (master_party h.master) true (last u.net (master_party h.master) d) (u.net.links (master_party h.master) d) x).link) from (master_link u x h.master h.runs h.to h.talks)), record {
-          steady = steady_hears u x (subst (λ l. IsSent l x) (sym f.sent) y.0) f.steady;
-          fence = ap (λ (h : HardState). h.fence) a.hard ∙ f.fence;
-          still = λ r. a.runs r ∙ f.still r;
-          sent = a.packets ∙ f.sent;
-          grows = omega (arith, long, before);
-        })
+        let before = f.grows in (
+          subst (λ (r : Party). (addressed u x).net.links r q ≡ (hear r true (last u.net r q) (u.net.links r q) x).link) is
+              (subst (λ d. (addressed u x).net.links (master_party h.master) d ≡ (hear (master_party h.master) true (last u.net (master_party h.master) d) (u.net.links (master_party h.master) d) x).link) from (master_link u x h.master h.runs h.to h.talks)),
+          record {
+            steady = steady_hears u x (subst (λ l. IsSent l x) (sym f.sent) y.0) f.steady;
+            fence = ap (λ (h : HardState). h.fence) a.hard ∙ f.fence;
+            still = λ r. a.runs r ∙ f.still r;
+            sent = a.packets ∙ f.sent;
+            grows = omega (arith, long, before);
+          },
+        )
 
     bounded : (u : World) → Fine u → (u.net.links P q).known ≤ b
     bounded u f = let k = the_master u f.steady in (is_peer u f.steady k.master k.runs q b (f.still q ∙ runs)).last_boot P

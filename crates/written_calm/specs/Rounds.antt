@@ -5,6 +5,7 @@ use Rattle.std.specs.FinMap.Entries.{find}
 use Rattle.fuxi_terms.specs.Cluster.{ClusterRecord, has_machine}
 use Rattle.fuxi_terms.specs.Lists.{below}
 use Rattle.fuxi_terms.specs.Numbers.{has_number}
+use Rattle.written_roles.specs.Masters.{Master}
 use Rattle.written_world.specs.World.{World, App}
 use Rattle.written_world.specs.Events.{Event, TurnMaster, TurnAgent, TurnApp, DeliverRange, world_step}
 use Rattle.written_world.specs.Quiet.{is_quiet}
@@ -53,9 +54,10 @@ pub record AreNamed (apps : List ℕ) (w : World) : Type 0 where
 abbrev pub most_rounds : ℕ
 most_rounds = 7
 
--- a world at rest: quiet for the master of an epoch, and safe, so that in it all parties have the same numbers
+-- a world at rest: quiet for the master of an epoch, which serves, and safe: so all parties have the same numbers, and no allowed unit waits that fits
 pub record IsCalm (e : ℕ) (w : World) : Type 0 where
   pub quiet : is_quiet w e ≡ true
+  pub serves : (M : Master) → find nat_cmp e w.masters ≡ Some M → M.serving ≡ true
   pub safe : Safe w
 
 -- from a state to which an input leads and in which these run, the world is at rest behind so many rounds or more and a last turn of the master

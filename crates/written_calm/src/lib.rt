@@ -28,8 +28,8 @@ pub fn every_run_can_progress()
 {}
 
 /// From every state to which an input leads and in which the master of the fence and every machine's agent run: behind seven calm rounds or
-/// more, and one more turn of that master with its delivery, the world is quiet for it, and safe, so that all parties have the same
-/// numbers (`quiet`). Other masters may run, and applications may run or not; nothing is assumed of what was sent before. Calm rounds leave
+/// more, and one more turn of that master with its delivery, the world is quiet for it, it serves, and the world is safe, so that all
+/// parties have the same numbers and no allowed unit waits that fits (`quiet`). Other masters may run, and applications may run or not; nothing is assumed of what was sent before. Calm rounds leave
 /// the cluster and the hard state as they were (`keeps`).
 pub fn calm_rounds_bring_quiet()
     ensures quiet { (c : ClusterRecord) (events : List Event) → IsInput c events → CalmBringsQuiet c events }

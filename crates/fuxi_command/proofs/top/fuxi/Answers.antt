@@ -3,7 +3,7 @@ use Rattle.node_command.specs.Inputs.{TellsDisk}
 use Rattle.node_command.specs.declared.kind.NodeKind.TheVariants.{Master}
 use Rattle.storm_run.specs.Runs.{StormEnded}
 use Rattle.storm_run.specs.Summaries.{storm_of}
-use Rattle.fuxi_command.proofs.Calming.{each_calms}
+use Rattle.fuxi_command.proofs.Calming.{each_calms, quiet_storm}
 use Rattle.fuxi_command.proofs.States.{each_judges}
 use Rattle.fuxi_command.proofs.Leasing.{lease_done}
 use Rattle.fuxi_command.proofs.Storming.{ends_well}
@@ -65,4 +65,9 @@ pub returns-clause-judges : goal.returns-clause-judges
 returns-clause-judges g c = each_judges (g.S.Source.left c.args.input.now) c.every_judgement_bans_what_is_judged.ensures c.inputs_are_given.ensures
 
 pub returns-clause-calms : goal.returns-clause-calms
-returns-clause-calms g c = each_calms (g.S.Source.left c.args.input.now) c.calm_rounds_bring_quiet.ensures c.inputs_are_given.ensures
+returns-clause-calms g c = each_calms (g.S.Source.left c.args.input.now) c.calm_rounds_bring_quiet.ensures.quiet c.inputs_are_given.ensures
+
+pub returns-clause-storm_quiet : goal.returns-clause-storm_quiet
+returns-clause-storm_quiet g c seed steps is done =
+    quiet_storm seed steps (g.O.Sink.took c.args.out.now) (g.O.Sink.took c.run_command-status.new.out) c.storms_end_quiet.ensures
+    (subst (λ s. StormEnded (storm_of seed steps) s (g.O.Sink.took c.args.out.now) (g.O.Sink.took c.run_command-status.new.out)) done (c.run_command-status.ensures.storm seed steps is).1)

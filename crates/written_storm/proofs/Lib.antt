@@ -1,0 +1,3 @@
+pub mod TakenLemmas
+pub mod BefallsLemmas
+pub mod StormsLemmas
