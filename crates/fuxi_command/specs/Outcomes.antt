@@ -15,7 +15,7 @@ use Rattle.hard_state.specs.HardFiles.{records_of}
 use Rattle.lease_run.specs.Ends.{LeaseEnded}
 use Rattle.lease_run.specs.Runs.{run_of, AtEnd}
 use Rattle.node_command.specs.declared.kind.NodeKind.{NodeKind}
-use Rattle.node_command.specs.Inputs.{InputEnded, IsDiskless, IsWhole, MayStart, TellsDisk}
+use Rattle.node_command.specs.Inputs.{HasNoCluster, InputEnded, InputEndsBy, IsDiskless, LeavesDisk, MayStart, TellsDisk, ending_of, status_at}
 use Rattle.node_door.specs.Doors.{Told, WhereTold}
 use Rattle.fuxi_command.specs.Words.{Lease, Node, Replay, Storm, command_of, has_file, is_command, is_node}
 
@@ -52,8 +52,11 @@ pub record IsOutcome (words : List (List ℕ)) (status : Status) (input_stays ou
   pub storm : (seed steps : ℕ) → command_of words ≡ Some (Storm seed steps) → input_stays × StormEnded (storm_of seed steps) status old.took new.took
   pub node : (kind : NodeKind) (addr : List ℕ) → command_of words ≡ Some (Node kind addr) → IfSome old.left (λ bytes.
       WhereTold (InputEnded kind addr old.disk new.disk bytes status new.left old.took new.took old.door_failed new.door_failed) old.door new.door)
-  pub complete : (kind : NodeKind) (addr : List ℕ) → command_of words ≡ Some (Node kind addr) → (bytes : List ℕ) (t : Told) → old.left ≡ Some bytes → old.door ≡ Some t → IsWhole kind bytes → MayStart kind old.disk
-      → (Rose old.reads_failed new.reads_failed → ⊥) → (Rose old.writes_failed new.writes_failed → ⊥) → (Rose old.disk_failed new.disk_failed → ⊥) → (status ≡ Done) ⊎ (status ≡ OutOfMemory)
+  pub places : (kind : NodeKind) (addr : List ℕ) → command_of words ≡ Some (Node kind addr) → IfSome old.left (λ bytes. InputEndsBy kind bytes status new.left)
+  pub complete : (kind : NodeKind) (addr : List ℕ) → command_of words ≡ Some (Node kind addr) → (bytes : List ℕ) → old.left ≡ Some bytes → MayStart kind old.disk
+      → (Rose old.reads_failed new.reads_failed → ⊥) → (Rose old.writes_failed new.writes_failed → ⊥) → (Rose old.disk_failed new.disk_failed → ⊥) → (status ≡ status_at (ending_of kind bytes)) ⊎ (status ≡ OutOfMemory)
+  pub stays : (kind : NodeKind) (addr : List ℕ) → command_of words ≡ Some (Node kind addr) → LeavesDisk kind status old.disk new.disk
+  pub unopened : (kind : NodeKind) (addr : List ℕ) → command_of words ≡ Some (Node kind addr) → (bytes : List ℕ) → old.left ≡ Some bytes → HasNoCluster bytes → disk_stays
   pub no_door : is_node (command_of words) ≡ false → door_stays
   pub no_file : has_file (command_of words) ≡ false → disk_stays
   pub diskless : has_file (command_of words) ≡ false → IsDiskless status

@@ -20,8 +20,8 @@ ghost use Rattle.fuxi_command.specs.Storms.{IsStorm, WritesPart};
 ghost use Rattle.fuxi_command.specs.Words.{Lease, Node, Replay, Storm, command_of, has_file, is_command, is_node};
 ghost use Rattle.node_command.specs.declared.kind.NodeKind.{NodeKind};
 ghost use Rattle.node_command.specs.declared.kind.NodeKind.TheVariants.{Master};
-ghost use Rattle.node_command.specs.Inputs.{InputEnded, IsDiskless, IsWhole, MayStart, TellsDisk};
-ghost use Rattle.node_door.specs.Doors.{Told, WhereTold};
+ghost use Rattle.node_command.specs.Inputs.{HasNoCluster, InputEnded, InputEndsBy, IsDiskless, LeavesDisk, MayStart, TellsDisk, ending_of, status_at};
+ghost use Rattle.node_door.specs.Doors.{WhereTold};
 ghost use Rattle.fuxi_io.specs.Disks.{Told as Moments};
 ghost use Rattle.written_roles.specs.HardState.{HardState};
 ghost use Rattle.lease_run.specs.Ends.{LeaseEnded};
@@ -102,9 +102,12 @@ fn run_command<S: Source, O: Sink, D: Disk, N: Door>(
     ensures told { (kind : NodeKind) (addr : List ℕ) → command_of (map string_bytes words.now) ≡ Some (Node kind addr) → TellsDisk kind result (D.told disk.old) }
     ensures node { (kind : NodeKind) (addr : List ℕ) → command_of (map string_bytes words.now) ≡ Some (Node kind addr) → IfSome (S.left input.old) (λ bytes.
         WhereTold (InputEnded kind addr (D.told disk.old) (D.told disk.new) bytes result (S.left input.new) (O.took out.old) (O.took out.new) (N.faults door.old) (N.faults door.new)) (N.told door.old) (N.told door.new)) }
-    ensures complete { (kind : NodeKind) (addr : List ℕ) → command_of (map string_bytes words.now) ≡ Some (Node kind addr) → (bytes : List ℕ) (t : Told) → S.left input.old ≡ Some bytes → N.told door.old ≡ Some t
-        → IsWhole kind bytes → MayStart kind (D.told disk.old) → (Rose (S.faults input.old) (S.faults input.new) → ⊥) → (Rose (O.faults out.old) (O.faults out.new) → ⊥) → (Rose (D.faults disk.old) (D.faults disk.new) → ⊥)
-        → (result ≡ Status.Done) ⊎ (result ≡ Status.OutOfMemory) }
+    ensures places { (kind : NodeKind) (addr : List ℕ) → command_of (map string_bytes words.now) ≡ Some (Node kind addr) → IfSome (S.left input.old) (λ bytes. InputEndsBy kind bytes result (S.left input.new)) }
+    ensures complete { (kind : NodeKind) (addr : List ℕ) → command_of (map string_bytes words.now) ≡ Some (Node kind addr) → (bytes : List ℕ) → S.left input.old ≡ Some bytes → MayStart kind (D.told disk.old)
+        → (Rose (S.faults input.old) (S.faults input.new) → ⊥) → (Rose (O.faults out.old) (O.faults out.new) → ⊥) → (Rose (D.faults disk.old) (D.faults disk.new) → ⊥)
+        → (result ≡ status_at (ending_of kind bytes)) ⊎ (result ≡ Status.OutOfMemory) }
+    ensures stays { (kind : NodeKind) (addr : List ℕ) → command_of (map string_bytes words.now) ≡ Some (Node kind addr) → LeavesDisk kind result (D.told disk.old) (D.told disk.new) }
+    ensures unopened { (kind : NodeKind) (addr : List ℕ) → command_of (map string_bytes words.now) ≡ Some (Node kind addr) → (bytes : List ℕ) → S.left input.old ≡ Some bytes → HasNoCluster bytes → disk.new ≡ disk.old }
     ensures lease { command_of (map string_bytes words.now) ≡ Some Lease → IfSome (S.left input.old) (λ bytes. LeaseEnded bytes result (S.left input.new) (O.took out.old) (O.took out.new) (D.told disk.old) (D.told disk.new)) }
     ensures lease_told { command_of (map string_bytes words.now) ≡ Some Lease → TellsLease result (D.told disk.old) }
     ensures lease_complete { command_of (map string_bytes words.now) ≡ Some Lease → (bytes : List ℕ) (t : Moments) (value : HardState) → S.left input.old ≡ Some bytes → D.told disk.old ≡ Some t → records_of t.now.bytes ≡ Ok value
@@ -267,6 +270,10 @@ pub fn fuxi<S: Source, O: Sink, E: Sink, D: Disk, N: Door>(
     ensures damaged { (epoch : ℕ) (addr : List ℕ) → command_of (map string_bytes words.now) ≡ Some (Node (Master epoch) addr) → (offset : ℕ) → result ≡ Status.DamagedCheckpoint offset → IfSome (D.told disk.old) (λ t. records_of t.now.bytes ≡ Err offset) }
     ensures full { (epoch : ℕ) (addr : List ℕ) → command_of (map string_bytes words.now) ≡ Some (Node (Master epoch) addr) → (kept : ℕ) → result ≡ Status.Limit LimitOf.Records kept → (kept ≡ most_records) × IfSome (D.told disk.old) (RefusesEpoch epoch (HardFull most_records)) }
 
+    // A master that did not get to its lines leaves a file with a damaged record as it was, and one that refuses its epoch for the same; one whose input describes no cluster has not opened it.
+    ensures node_stays { (kind : NodeKind) (addr : List ℕ) → command_of (map string_bytes words.now) ≡ Some (Node kind addr) → LeavesDisk kind result (D.told disk.old) (D.told disk.new) }
+    ensures node_unopened { (kind : NodeKind) (addr : List ℕ) → command_of (map string_bytes words.now) ≡ Some (Node kind addr) → (bytes : List ℕ) → S.left input.old ≡ Some bytes → HasNoCluster bytes → disk.new ≡ disk.old }
+
     // Of `lease`. What was read and written, and what a crash leaves of its file at its end, by the status;
     ensures lease { command_of (map string_bytes words.now) ≡ Some Lease → IfSome (S.left input.old) (λ bytes. LeaseEnded bytes result (S.left input.new) (O.took out.old) (O.took out.new) (D.told disk.old) (D.told disk.new)) }
 
@@ -287,10 +294,12 @@ pub fn fuxi<S: Source, O: Sink, E: Sink, D: Disk, N: Door>(
         (seen (S.left input.old) (O.took out.old) (D.told disk.old) (N.told door.old) (S.faults input.old) (O.faults out.old) (D.faults disk.old) (N.faults door.old))
         (seen (S.left input.new) (O.took out.new) (D.told disk.new) (N.told door.new) (S.faults input.new) (O.faults out.new) (D.faults disk.new) (N.faults door.new)) }
 
-    // A node over lines that are all good, with a file that lets its epoch in, and with no fault of input, output and disk, is done, but for want of memory, over a door that tells.
-    ensures node_complete { (kind : NodeKind) (addr : List ℕ) → command_of (map string_bytes words.now) ≡ Some (Node kind addr) → (bytes : List ℕ) (t : Told) → S.left input.old ≡ Some bytes → N.told door.old ≡ Some t
-        → IsWhole kind bytes → MayStart kind (D.told disk.old) → (Rose (S.faults input.old) (S.faults input.new) → ⊥) → (Rose (O.faults out.old) (O.faults out.new) → ⊥) → (Rose (D.faults disk.old) (D.faults disk.new) → ⊥)
-        → (result ≡ Status.Done) ⊎ (result ≡ Status.OutOfMemory) }
+    // Where the lines of a node end, by the status. With a file that lets its epoch in, and with no fault of input, output and disk, it ends as they say, but for want of memory. It
+    // is said over any door.
+    ensures node_places { (kind : NodeKind) (addr : List ℕ) → command_of (map string_bytes words.now) ≡ Some (Node kind addr) → IfSome (S.left input.old) (λ bytes. InputEndsBy kind bytes result (S.left input.new)) }
+    ensures node_complete { (kind : NodeKind) (addr : List ℕ) → command_of (map string_bytes words.now) ≡ Some (Node kind addr) → (bytes : List ℕ) → S.left input.old ≡ Some bytes → MayStart kind (D.told disk.old)
+        → (Rose (S.faults input.old) (S.faults input.new) → ⊥) → (Rose (O.faults out.old) (O.faults out.new) → ⊥) → (Rose (D.faults disk.old) (D.faults disk.new) → ⊥)
+        → (result ≡ status_at (ending_of kind bytes)) ⊎ (result ≡ Status.OutOfMemory) }
 {
     // The laws of the states of a run, for the clauses on them.
     always_safe();

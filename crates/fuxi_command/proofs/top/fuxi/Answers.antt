@@ -45,7 +45,10 @@ returns-clause-outcome g c = let r = c.run_command-status.ensures in record {
   replay = r.ended;
   storm = r.storm;
   node = r.node;
+  places = r.places;
   complete = r.complete;
+  stays = r.stays;
+  unopened = r.unopened;
   no_door = r.no_door;
   no_file = r.no_file;
   diskless = r.diskless;
