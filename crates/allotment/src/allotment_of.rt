@@ -11,6 +11,7 @@ ghost use Rattle.allotment.specs.Allotted.{IsSetAt, told_at};
 
 use crate::law::lines_alike;
 use cluster_desc::Cluster;
+use fuxi_terms::limits::MOST_JOBS;
 use fuxi_terms::tally_keys::{BACK, CREDITED};
 use fuxi_terms::{Key, OutOfMemory};
 use grant_table::{GrantTable, Pick, Steps, admitted_jobs, set_numbers};
@@ -204,6 +205,21 @@ impl Allotment {
         self.take(app, unit, machine, held)
     }
 
+    // Whether the job has a grant on the machine. Where it has none, none is to be taken.
+    fn holds_any(&self, app: AppNo, machine: MachineNo) -> bool
+        requires waits { AllWait self.now }
+        requires machine { machine.0 < length self.now.table.cluster.machines }
+        ensures { result ≡ false → Clears (λ s. nat_eq s.job app.0 && (nat_lt s.unit (unit_count (as_known self.now.table.jobs) app.0) && nat_eq s.machine machine.0)) self.now self.now }
+    {
+        let units = self.table.units(app);
+        for number in 0..units.min(255) as u8 {
+            if self.table.held_on(app, UnitNo(number), machine) > 0 {
+                return true;
+            }
+        }
+        false
+    }
+
     // All grants of a job on a machine are gone.
     fn clear_units(self, app: AppNo, machine: MachineNo) -> Result<Allotment, OutOfMemory>
         requires waits { AllWait self }
@@ -275,7 +291,10 @@ impl Allotment {
     {
         let _before = self.table.cluster();
         let mut left = self;
-        for number in 0..256_u32 {
+        for number in 0..MOST_JOBS {
+            if !left.holds_any(AppNo(number), machine) {
+                continue;
+            }
             left = left.clear_units(AppNo(number), machine)?;
         }
         let _after = left.table.cluster();
