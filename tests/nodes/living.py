@@ -149,6 +149,27 @@ def serve_parties(program):
     return True
 
 
+def hears_nonsense(program):
+    """Whether a line that a node cannot read ends that node alone, and the cluster goes on."""
+    with tempfile.TemporaryDirectory() as folder:
+        process = subprocess.Popen([f"{TOP}/tools/cluster", "--folder", folder, "--calm"], env={**os.environ, "FUXI": program}, stdin=subprocess.DEVNULL, stdout=subprocess.DEVNULL)
+        try:
+            for line, wanted in [("nonsense", "no such command here"), ("ban x", "status 3"), ("want 0 0 x", "status 3"), ("show", "state "), ("end", "ends")]:
+                said = ask(folder, line)
+                if not said or wanted not in said[0]:
+                    raise Difference(f"to {line!r} tools/cluster says {said}")
+            if process.wait(PATIENCE):
+                raise Difference(f"tools/cluster ends with status {process.returncode}")
+        except Difference as fault:
+            print(f"tests/cluster: {fault}", file=sys.stderr)
+            return False
+        finally:
+            process.kill()
+            process.wait()
+    print("commands to tools/cluster: ok")
+    return True
+
+
 def live(program, seed):
     """Whether a living cluster was without a difference."""
     with open(f"{TOP}/tools/cluster.jobs", "rb") as file:

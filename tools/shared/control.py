@@ -3,6 +3,8 @@
 import os
 import socket
 
+from shared.processes import Difference
+
 HELP = "submit JOB GROUP P Q .. · finish JOB · ban M · unban M · preempt · begin · want|near|rack|avoid|back JOB .. · kill master|agent M|app JOB · show · end"
 
 
@@ -57,6 +59,15 @@ class Control:
         self.listener.close()
 
     def answer(self, line):
+        """What comes of a command. A node that cannot read its line ends, and is started again."""
+        try:
+            return self.done(line)
+        except Difference as why:
+            if not self.living.mend():
+                raise
+            return [str(why), "started again"]
+
+    def done(self, line):
         living, words = self.living, line.split()
         if words == ["end"]:
             self.is_ended = True

@@ -148,23 +148,24 @@ class Living:
                 self.master.next_line()
                 self.pending = 0
         except Difference:
-            if party.node.is_running() and self.master.is_running():
+            if not self.mend():
                 raise
-            return self.mend(party)
+            return "round fault"
         self.rounds += 1
         self.faults += not line.startswith(ROUND_DONE)
         if line == "round fault" and not self.master.is_running():
-            return self.mend(party)
+            self.mend()
         return line
 
-    def mend(self, party):
-        """Something has ended by itself: it is started again."""
-        if not self.master.is_running():
+    def mend(self):
+        """Starts again who has ended by itself: whether there was anybody."""
+        ended, is_leaderless = [it for it in self.parties() if not it.node.is_running()], not self.master.is_running()
+        if is_leaderless:
             self.master.kill()
             self.fail_over(time.monotonic())
-        if not party.node.is_running():
+        for party in ended:
             self.restart(party)
-        return "round fault"
+        return is_leaderless or bool(ended)
 
     def tick(self):
         """A round of each party. Whoever nears the limit on lines is started again before."""
