@@ -49,7 +49,7 @@ impl Model for Agent {
 
 impl Agent {
     /// The agent of a machine that has so much, in a boot. It knows no master and carries nothing. The machine is at most 255 and
-    /// the boot at least 1.
+    /// the boot at least 1. Where memory is refused there is no agent.
     pub fn start(
         alloc: Global,
         machine: MachineNo,
@@ -108,7 +108,8 @@ impl Agent {
         Ok((self, heard))
     }
 
-    /// What the next turn sends: nothing where no master is known. It changes nothing.
+    /// What the next turn sends: nothing where no master is known. It changes nothing. Where memory is refused there
+    /// are no packets.
     pub fn turn(&self, alloc: Global) -> Result<Packets, OutOfMemory>
         ensures sends { IfOk result (SendsAlike self.now) }
         ensures formed { IfOk result (AllByRecursion IsSent) }

@@ -42,7 +42,7 @@ impl Model for AgentNode {
 
 impl AgentNode {
     /// The agent of a machine that has so much, in a boot. It knows no master and carries nothing. The machine is at most 255 and
-    /// the boot at least 1.
+    /// the boot at least 1. Where memory is refused there is no agent.
     pub fn start(
         alloc: Global,
         machine: MachineNo,

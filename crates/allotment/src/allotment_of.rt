@@ -81,7 +81,7 @@ impl Allotment {
     ghost use Rattle.allotment.specs.Allotted.{Adds, AddsRow, Allots, AllWait, Clears, CreditsBack, OnlyTakes, TakesVictims, Touches, rows_put};
 
     /// The allotment of a cluster, with no job, no grant and no open machine. It stands for a master that knows
-    /// of no job and of no machine.
+    /// of no job and of no machine. Where memory is refused there is no allotment.
     pub fn start(alloc: Global, cluster: &Cluster) -> Result<Allotment, OutOfMemory>
         ensures stands { IfOk result (λ x. (M : Master) → M.jobs ≡ [] → M.table ≡ [] → M.demands ≡ [] → M.line ≡ [] → M.reported ≡ [] → Allots x cluster.now M) }
         ensures waits { IfOk result AllWait }
@@ -98,7 +98,8 @@ impl Allotment {
         })
     }
 
-    /// Admits a job that is not there yet, with nothing granted or asked.
+    /// Admits a job that is not there yet, with nothing granted or asked. Where memory is refused the allotment is
+    /// gone.
     pub fn admit(self, alloc: Global, job: &Job) -> Result<Allotment, OutOfMemory>
         requires { is_known (as_known self.table.jobs) job.now.number ≡ false }
         ensures stands { IfOk result (λ x. (c : ClusterRecord) (M : Master) → Allots self c M → Allots x c (record M { jobs = with_job job.now M.jobs })) }
@@ -158,7 +159,7 @@ impl Allotment {
     }
 
     /// So many grants fewer. Where the pairs of the line have something out the line stays as it is, and where the
-    /// number is 0 everything does.
+    /// number is 0 everything does. Where memory is refused the allotment is gone.
     pub fn take(
         self,
         app: AppNo,
@@ -260,6 +261,7 @@ impl Allotment {
 
     /// Of what a demand of a job gives back and is not yet credited, the table loses what it has. The grants that the job
     /// was shown say what is credited. Entries count that name one of the job's units and a machine of the cluster.
+    /// Where memory is refused the allotment is gone.
     pub fn credit(
         self,
         app: AppNo,
@@ -280,6 +282,7 @@ impl Allotment {
     }
 
     /// All grants on a machine are gone. Where the pairs of the line have something out the line stays as it is.
+    /// Where memory is refused the allotment is gone.
     pub fn clear_machine(self, machine: MachineNo) -> Result<Allotment, OutOfMemory>
         requires waits { AllWait self }
         requires machine { machine.0 < length self.table.cluster.machines }
@@ -301,7 +304,8 @@ impl Allotment {
         Ok(left)
     }
 
-    /// All grants of a job are gone. Where the pairs of the line have something out the line stays as it is.
+    /// All grants of a job are gone. Where the pairs of the line have something out the line stays as it is. Where
+    /// memory is refused the allotment is gone.
     pub fn clear_job(self, app: AppNo) -> Result<Allotment, OutOfMemory>
         requires { AllWait self }
         ensures stands { IfOk result (λ x. (c : ClusterRecord) (M : Master) → Allots self c M → Allots x c (record M { table = where_key spot_cmp (λ s. not (nat_eq s.job app.0)) M.table })) }
@@ -335,7 +339,8 @@ impl Allotment {
     }
 
     /// Makes grants, always of the placeable pair of first rank, until no pair is placeable. The line is up to date.
-    /// The placer is idle then. Where it was idle before nothing changes, and no step is counted.
+    /// The placer is idle then. Where it was idle before nothing changes, and no step is counted. Where memory is
+    /// refused the allotment is gone.
     pub fn settle<L: Ledger>(self, steps: &mut Steps<L>) -> Result<Allotment, OutOfMemory>
         requires { IsUpToDate self.placer.seen self.table }
         ensures stands { IfOk result (λ x. (c : ClusterRecord) (M : Master) → Allots self c M → M.serving ≡ true → Allots x c (settled c M)) }
@@ -363,6 +368,7 @@ impl Allotment {
     }
 
     /// The plan of the first pair that has victims, and `None` exactly where no pair has any. The line is up to date.
+    /// Where memory is refused it answers neither.
     pub fn plan<L: Ledger>(
         &self,
         alloc: Global,
@@ -447,7 +453,8 @@ impl Allotment {
     }
 
     /// Grants that a machine reports, on a machine that has none yet, enter the table; then the line is brought up to date. The
-    /// entries name units that are there, with their sizes, and fit what the machine has.
+    /// entries name units that are there, with their sizes, and fit what the machine has. Where memory is refused the
+    /// allotment is gone.
     pub fn adopt(self, machine: MachineNo, kept: &RowLedger) -> Result<Allotment, OutOfMemory>
         requires waits { AllWait self }
         requires machine { machine.0 < length self.table.cluster.machines }
@@ -469,7 +476,8 @@ impl Allotment {
     }
 
     /// Carries a plan out: its victims are taken, and its grant is made; then the line is brought up to date. The plan can be
-    /// carried out, and the unit that it serves has fewer than 100,000 grants on the machine.
+    /// carried out, and the unit that it serves has fewer than 100,000 grants on the machine. Where memory is refused
+    /// the allotment is gone.
     pub fn carry_out(self, plan: &Plan) -> Result<Allotment, OutOfMemory>
         requires waits { AllWait self }
         requires made { CanBeMade self.table plan.now }

@@ -57,7 +57,7 @@ impl Model for AppMaster {
 
 impl AppMaster {
     /// The application of a job, in a boot from 1 on: it knows no master, asks for nothing and holds nothing. The job's number
-    /// is at most 255, and it has 1 to 8 units.
+    /// is at most 255, and it has 1 to 8 units. Where memory is refused there is no application.
     pub fn start(
         alloc: Global,
         app: AppNo,
@@ -84,6 +84,9 @@ impl AppMaster {
     }
 
     /// Wants so many grants of a unit in all.
+    ///
+    /// `NoUnit` comes where the job has no such unit, and then `WantRange` where the number is above 100,000.
+    /// `OutOfMemory` may come in place of any answer. After each fault the application is as it was.
     pub fn want(&mut self, alloc: Global, unit: UnitNo, count: u64) -> Result<(), AppFault>
         requires { self.old.steps < most_steps }
         ensures answers { Commands (Wants unit.0 count) self.old result self.new }
@@ -96,6 +99,10 @@ impl AppMaster {
     }
 
     /// Wants so many grants of a unit on a machine.
+    ///
+    /// `NoUnit` comes where the job has no such unit, then `NoMachine` where the cluster has no such machine, and
+    /// then `WantRange` where the number is above 100,000. `OutOfMemory` may come in place of any answer. After each
+    /// fault the application is as it was.
     pub fn near(
         &mut self,
         alloc: Global,
@@ -115,6 +122,10 @@ impl AppMaster {
     }
 
     /// Wants so many grants of a unit in a rack.
+    ///
+    /// `NoUnit` comes where the job has no such unit, then `NoRack` where no machine stands in the rack, and then
+    /// `WantRange` where the number is above 100,000. `OutOfMemory` may come in place of any answer. After each fault
+    /// the application is as it was.
     pub fn rack(
         &mut self,
         alloc: Global,
@@ -136,6 +147,9 @@ impl AppMaster {
     }
 
     /// Refuses a machine for new grants of a unit, or no longer.
+    ///
+    /// `NoUnit` comes where the job has no such unit, and then `NoMachine` where the cluster has no such machine.
+    /// `OutOfMemory` may come in place of any answer. After each fault the application is as it was.
     pub fn avoid(
         &mut self,
         alloc: Global,
@@ -156,6 +170,11 @@ impl AppMaster {
 
     /// Gives back so many grants of a unit on a machine. Only what is held on a machine that the master names as
     /// reported may be given back.
+    ///
+    /// `NoUnit` comes where the job has no such unit, then `NoMachine` where the cluster has no such machine, then
+    /// `NotUsable` where the number is above what may be given back there, which it tells, and then `BackRange` where
+    /// with it more than 1,000,000,000,000 would be given back in this epoch. `OutOfMemory` may come in place of any
+    /// answer. After each fault the application is as it was.
     pub fn give_back(
         &mut self,
         alloc: Global,
@@ -218,7 +237,7 @@ impl AppMaster {
         Ok((self, heard))
     }
 
-    /// What the next turn sends. It changes nothing.
+    /// What the next turn sends. It changes nothing. Where memory is refused there are no packets.
     pub fn turn(&self, alloc: Global) -> Result<Packets, OutOfMemory>
         ensures sends { IfOk result (SendsAlike self.now) }
         ensures formed { IfOk result (AllByRecursion IsSent) }

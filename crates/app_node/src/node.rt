@@ -42,7 +42,7 @@ impl Model for AppNode {
 
 impl AppNode {
     /// The application of a job, in a boot from 1 on: it knows no master, asks for nothing and holds nothing. The job's number is at
-    /// most 255, and it has at most 8 units.
+    /// most 255, and it has at most 8 units. Where memory is refused there is no application.
     pub fn start(
         alloc: Global,
         app: AppNo,

@@ -34,7 +34,8 @@ impl Model for Votes {
 }
 
 impl Votes {
-    /// No votes on the machines of the cluster, and none of these shut.
+    /// No votes on the machines of the cluster, and none of these shut. Where memory is refused the record is not
+    /// made.
     pub fn start(alloc: Global, cluster: &Cluster) -> Result<Votes, OutOfMemory>
         ensures { IfOk result (λ votes. votes ≡ record { votes = replicate (length cluster.now.machines) 0; shut = replicate (length cluster.now.machines) false }) }
     {
@@ -73,7 +74,7 @@ impl Votes {
 
     /// The machines to ban, by more votes and then by the smaller number: those that are not shut and have at
     /// least the least votes, cut so that with those that are shut they are at most so many percent of the
-    /// machines, rounded down. The percent are at most 100.
+    /// machines, rounded down. The percent are at most 100. Where memory is refused there is no list of them.
     pub fn judge(
         &self,
         alloc: Global,

@@ -12,7 +12,7 @@ use schedule_unit::{AppNo, MachineNo, UnitNo};
 use std::alloc::{AllocError, Global};
 use std::collections::BTreeSet;
 
-/// The spots, each once, in the order of job, unit and machine.
+/// The spots, each once, in the order of job, unit and machine. Where memory is refused there is no list of them.
 pub fn in_order(alloc: Global, spots: &[Pick]) -> Result<Vec<Pick>, OutOfMemory>
     ensures order { IfOk result (λ ordered. AreInOrder (map spot_of ordered.items)) }
     ensures same { IfOk result (λ ordered. (s : Spot) → has_spot s (map spot_of ordered.items) ≡ has_spot s (map spot_of spots.now)) }

@@ -62,7 +62,7 @@ impl Cluster {
         }
     }
 
-    /// The same cluster once more.
+    /// The same cluster once more. Where memory is refused there is no copy.
     pub fn copy(&self, alloc: Global) -> Result<Cluster, OutOfMemory>
         ensures { IfOk result (λ copy. copy ≡ self.now) }
     {

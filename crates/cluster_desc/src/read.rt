@@ -20,7 +20,7 @@ use schedule_unit::{GroupNo, RackNo};
 use serde_json::{Category, Map, Value};
 use std::alloc::Global;
 
-/// The cluster that the line describes, or the first fault of it.
+/// The cluster that the line describes, or the first fault of it. `OutOfMemory` may come in place of any answer.
 #[tactic(auto, using(crate::proofs::Steps::fault_bind), unfolding(crate::specs::ClusterLine::cluster_of))]
 pub fn read_cluster(alloc: Global, line: &[u8]) -> Result<Cluster, ClusterFault>
     ensures ok { IfOk result (λ cluster. cluster_of line.now ≡ Ok cluster) }

@@ -17,7 +17,8 @@ use std::alloc::Global;
 use written_join::apps_join;
 
 /// [`AppMaster::on_packet`]: a packet of the world that is for the application is heard as the world hears it. The words
-/// for a change that the grants refuse and for a ledger that is too much do not come.
+/// for a change that the grants refuse and for a ledger that is too much do not come. Where memory is refused the
+/// application is gone.
 pub fn app_hears(
     app: AppMaster,
     alloc: Global,
@@ -34,7 +35,8 @@ pub fn app_hears(
     Ok((app, heard))
 }
 
-/// [`AppMaster::want`].
+/// [`AppMaster::want`]: it is done as the world does it, or refused as the world refuses it. After a refusal, and where memory
+/// is refused, the application is as it was.
 pub fn app_wants(
     app: &mut AppMaster,
     alloc: Global,
@@ -50,7 +52,8 @@ pub fn app_wants(
     app.want(alloc, unit, count)
 }
 
-/// [`AppMaster::near`].
+/// [`AppMaster::near`]: it is done as the world does it, or refused as the world refuses it. After a refusal, and where memory
+/// is refused, the application is as it was.
 pub fn app_wants_near(
     app: &mut AppMaster,
     alloc: Global,
@@ -67,7 +70,8 @@ pub fn app_wants_near(
     app.near(alloc, unit, machine, count)
 }
 
-/// [`AppMaster::rack`].
+/// [`AppMaster::rack`]: it is done as the world does it, or refused as the world refuses it. After a refusal, and where memory
+/// is refused, the application is as it was.
 pub fn app_wants_in_rack(
     app: &mut AppMaster,
     alloc: Global,
@@ -84,7 +88,8 @@ pub fn app_wants_in_rack(
     app.rack(alloc, unit, rack, count)
 }
 
-/// [`AppMaster::avoid`].
+/// [`AppMaster::avoid`]: it is done as the world does it, or refused as the world refuses it. After a refusal, and where memory
+/// is refused, the application is as it was.
 pub fn app_avoids(
     app: &mut AppMaster,
     alloc: Global,
@@ -101,7 +106,8 @@ pub fn app_avoids(
     app.avoid(alloc, unit, machine, yes)
 }
 
-/// [`AppMaster::give_back`].
+/// [`AppMaster::give_back`]: it is done as the world does it, or refused as the world refuses it. After a refusal, and where memory
+/// is refused, the application is as it was.
 pub fn app_gives_back(
     app: &mut AppMaster,
     alloc: Global,
@@ -118,7 +124,7 @@ pub fn app_gives_back(
     app.give_back(alloc, unit, machine, count)
 }
 
-/// [`AppMaster::turn`]: the packets are those that the world sends.
+/// [`AppMaster::turn`]: the packets are those that the world sends. Where memory is refused there are none.
 pub fn app_turns(app: &AppMaster, alloc: Global) -> Result<Packets, OutOfMemory>
     ensures world { IfOk result (AppTurnsInWorld app.now) }
     ensures formed { IfOk result (AllByRecursion IsSent) }
@@ -138,7 +144,8 @@ pub fn app_resyncs(app: &mut AppMaster)
     app.resync();
 }
 
-/// [`AppMaster::start`]: it stands for the application that the start puts into the world.
+/// [`AppMaster::start`]: it stands for the application that the start puts into the world. Where memory is refused
+/// there is no application.
 pub fn app_starts(
     alloc: Global,
     app: AppNo,

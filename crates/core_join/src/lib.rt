@@ -30,7 +30,7 @@ use std::alloc::Global;
 use written_join::agents_join;
 
 /// [`Agent::on_packet`]: a packet of the world that is for the agent is heard as the world hears it. The words for a change that the row
-/// refuses and for a row that is too much do not come.
+/// refuses and for a row that is too much do not come. Where memory is refused the agent is gone.
 pub fn agent_hears(
     agent: Agent,
     alloc: Global,
@@ -47,7 +47,7 @@ pub fn agent_hears(
     Ok((agent, heard))
 }
 
-/// [`Agent::turn`]: the packets are those that the world sends.
+/// [`Agent::turn`]: the packets are those that the world sends. Where memory is refused there are none.
 pub fn agent_turns(agent: &Agent, alloc: Global) -> Result<Packets, OutOfMemory>
     ensures world { IfOk result (TurnsInWorld agent.now) }
     ensures formed { IfOk result (AllByRecursion IsSent) }
@@ -67,7 +67,8 @@ pub fn agent_resyncs(agent: &mut Agent)
     agent.resync();
 }
 
-/// [`Agent::start`]: it stands for the agent that the start puts into the world.
+/// [`Agent::start`]: it stands for the agent that the start puts into the world. Where memory is refused there is no
+/// agent.
 pub fn agent_starts(
     alloc: Global,
     machine: MachineNo,

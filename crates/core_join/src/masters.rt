@@ -14,7 +14,7 @@ use written_join::{kept_reports_lead, masters_join};
 
 /// [`Master::step`]: a packet of the world that is for the master is heard as the world hears it, and the words for a refused change
 /// and for a report that is too much do not come; a command is done as the world does it once the hard state is written, or
-/// refused as the event is; a turn sends what the world sends; a resync.
+/// refused as the event is; a turn sends what the world sends; a resync. Where memory is refused the master is gone.
 pub fn master_steps(
     master: Master,
     alloc: Global,
@@ -33,7 +33,7 @@ pub fn master_steps(
 }
 
 /// [`Master::start`]: it stands for the master that a start above the fence puts into the world, with the hard state that the start
-/// has written.
+/// has written. Where memory is refused there is no master.
 pub fn master_starts(
     alloc: Global,
     cluster: &Cluster,

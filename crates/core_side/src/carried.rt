@@ -82,6 +82,7 @@ pub trait Carried: Ledger {
     /// Both bodies may be sent.
     ghost whole_formed: { (v : Self) → IsBodyOf (whole v) IsFull from_role to_role };
 
+    /// The body of a change may be sent where the change has a written form.
     ghost change_formed: { (c : Self.Delta) → Self.has_delta_form c → IsBodyOf (changed c) IsDelta from_role to_role };
 
     /// A whole ledger replaces what was received.

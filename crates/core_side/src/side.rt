@@ -45,7 +45,8 @@ impl<A: Carried, B: Carried> Model for Side<A, B> {
 }
 
 impl<A: Carried, B: Carried> Side<A, B> {
-    /// The side of a party of incarnation `own` that has sent nothing and knows no peer.
+    /// The side of a party of incarnation `own` that has sent nothing and knows no peer. Where memory is refused
+    /// there is no side.
     pub fn start(alloc: Global, own: u64) -> Result<Side<A, B>, OutOfMemory>
         ensures value { IfOk result (λ s. s ≡ new_endpoint A.nothing B.nothing own) }
         ensures stands { IfOk result (λ s. IsSide A.nothing A.patched A.has_form A.stated B.stated s own new_side) }
@@ -89,7 +90,8 @@ impl<A: Carried, B: Carried> Side<A, B> {
         Ok(Heard { fresh, what })
     }
 
-    /// Hears a packet as [`Side::hear`] does. A whole ledger that is taken is moved out of it.
+    /// Hears a packet as [`Side::hear`] does. A whole ledger that is taken is moved out of it. Where memory is
+    /// refused the side and the measure are lost, as there. The packet is gone in each case.
     pub fn hear_moved<L: Limit<B>>(
         &mut self,
         alloc: Global,

@@ -9,7 +9,9 @@ use std::marker::Model;
 /// A place in the history of a sender: its incarnation (0: none is known) and an index (0: nothing came).
 #[derive(Clone, Copy, Debug, PartialEq, Eq)]
 pub struct Place {
+    /// The incarnation of the sender, or 0 where none is known.
     pub inc: u64,
+    /// The index in its history, or 0 where nothing came.
     pub seq: u64,
 }
 
@@ -17,9 +19,13 @@ pub struct Place {
 /// a whole ledger or a change, and the place that it leads to.
 #[derive(Clone, Copy, Debug, PartialEq, Eq)]
 pub struct Stamp {
+    /// The incarnation of its sender.
     pub from: u64,
+    /// The incarnation of the one that it is for.
     pub to: u64,
+    /// Whether it brings a whole ledger, and no change.
     pub full: bool,
+    /// The place that it leads to.
     pub place: Place,
 }
 

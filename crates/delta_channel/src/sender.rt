@@ -34,7 +34,7 @@ impl<L: Ledger> Model for Sender<L> {
 
 impl<L: Ledger> Sender<L> {
     /// A sender of incarnation `own`, whose history is the ledger with no entry alone. It takes the room for
-    /// the changes that it will keep.
+    /// the changes that it will keep. Where memory is refused there is no sender.
     pub fn start(alloc: Global, own: u64) -> Result<Sender<L>, OutOfMemory>
         ensures value { IfOk result (λ s. s ≡ new_sending L.nothing own) }
         ensures stands { IfOk result (λ s. StandsFor L.nothing L.patched s (L.nothing ∷ [])) }

@@ -85,7 +85,8 @@ impl<A: Ledger, B: Ledger> Model for Duplex<A, B> {
 }
 
 impl<A: Ledger, B: Ledger> Duplex<A, B> {
-    /// A party of incarnation `own` that has posted nothing and knows no peer.
+    /// A party of incarnation `own` that has posted nothing and knows no peer. Where memory is refused it is not
+    /// made.
     pub fn start(alloc: Global, own: u64) -> Result<Duplex<A, B>, OutOfMemory>
         ensures value { IfOk result (λ d. d ≡ new_endpoint A.nothing B.nothing own) }
         ensures stands { IfOk result (λ d. StandsFor A.nothing A.patched d.outgoing (A.nothing ∷ [])) }
@@ -184,6 +185,7 @@ impl<A: Ledger, B: Ledger> Duplex<A, B> {
     ///
     /// Nothing is lacking where no peer is known, nothing was posted or all is acknowledged. The whole ledger
     /// goes where nothing is acknowledged or more than 256 changes are not, and else the next changes, at most 64.
+    /// Where memory is refused there are no notes.
     pub fn turn(&self, alloc: Global) -> Result<Notes<A>, OutOfMemory>
         ensures marks { IfOk result (λ notes. map mark_of notes ≡ turn_of self.now.outgoing.last self.now.acked self.now.incoming.place) }
         ensures sends { IfOk result (AllByRecursion (IsNoteOf self.now.outgoing)) }

@@ -63,7 +63,7 @@ impl Model for Master {
 
 impl Master {
     /// The master of a cluster and an epoch, which is at least 1, with the jobs and bans of the hard state, ended jobs too. It is
-    /// rebuilding: it knows of no grant and no peer.
+    /// rebuilding: it knows of no grant and no peer. Where memory is refused there is no master.
     pub fn start(
         alloc: Global,
         cluster: &Cluster,
@@ -178,7 +178,7 @@ impl Master {
     }
 
     /// How many of its jobs mark each machine of the cluster as bad, and which machines it has banned. What is asked of a job
-    /// is read once for each job.
+    /// is read once for each job. Where memory is refused it tells nothing of them.
     pub fn votes(&self, alloc: Global) -> Result<Votes, OutOfMemory>
         ensures stands { IfOk result (λ votes. (r : MasterRole) → StandsFor self.now.core r → votes ≡ votes_in r.cluster r.state) }
     {

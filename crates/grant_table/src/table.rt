@@ -61,7 +61,7 @@ impl GrantTable {
     ghost use Rattle.fuxi_terms.specs.Tables.{with_grant};
     ghost use Rattle.grant_table.specs.Tables.{TableRecord, as_known, with_count, without_count, with_admitted, IsSound};
 
-    /// The empty table of a cluster, with no job.
+    /// The empty table of a cluster, with no job. Where memory is refused there is no table.
     pub fn start(alloc: Global, cluster: &Cluster) -> Result<GrantTable, OutOfMemory>
         ensures { IfOk result (λ table. table ≡ record { cluster = cluster.now; jobs = []; entries = [] }) }
     {

@@ -91,7 +91,8 @@ impl Hard {
     ///
     /// `NotCheckpoint` tells the offset of the first damaged record: the length of its body runs past the end of the file or no
     /// byte follows the body, the body is that of no record, or the record is one that no master could have written there.
-    /// It takes memory for a piece of the file and for what it stands for.
+    /// It takes memory for a piece of the file and for what it stands for. `DiskFault` comes where the disk failed,
+    /// and `OutOfMemory` where memory was refused.
     pub fn open<D: Disk>(alloc: Global, disk: &mut D) -> Result<Hard, HardFault>
         ensures opened { IfOk result (λ hard. WhereTold (OpensAs hard) (D.told disk.old) (D.told disk.new)) }
         ensures damaged { (offset : ℕ) → result ≡ Err (HardFault.NotCheckpoint offset) → WhereTold (IsDamagedAt offset) (D.told disk.old) (D.told disk.new) }
@@ -340,7 +341,7 @@ impl Hard {
 }
 
 impl Known {
-    /// What the hard state has of jobs and bans.
+    /// What the hard state has of jobs and bans. Where memory is refused there is no copy of it.
     pub fn of(alloc: Global, hard: &Hard) -> Result<Known, OutOfMemory>
         ensures { IfOk result (λ known. known ≡ record { jobs = hard.now.value.jobs; bans = hard.now.value.bans }) }
     {

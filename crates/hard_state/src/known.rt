@@ -51,7 +51,7 @@ impl Model for Known {
 }
 
 impl Known {
-    /// Nothing. It takes the memory for all jobs that there can be.
+    /// Nothing. It takes the memory for all jobs that there can be. Where that is refused it is not made.
     pub fn nothing(alloc: Global) -> Result<Known, OutOfMemory>
         ensures { IfOk result (λ known. known ≡ record { jobs = []; bans = [] }) }
     {
@@ -64,7 +64,7 @@ impl Known {
         })
     }
 
-    /// The same once more.
+    /// The same once more. Where memory is refused there is no copy.
     pub fn copy(&self, alloc: Global) -> Result<Known, OutOfMemory>
         ensures { IfOk result (λ copy. copy ≡ self.now) }
     {

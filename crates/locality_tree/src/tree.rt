@@ -54,7 +54,7 @@ fn racks_of(alloc: Global, cluster: &Cluster) -> Result<Vec<u32>, OutOfMemory>
 }
 
 impl Tree {
-    /// The tree of a cluster, with no job.
+    /// The tree of a cluster, with no job. Where memory is refused there is no tree.
     pub fn start(alloc: Global, cluster: &Cluster) -> Result<Tree, OutOfMemory>
         ensures { IfOk result (λ tree. tree ≡ started cluster.now) }
     {

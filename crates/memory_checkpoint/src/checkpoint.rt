@@ -59,7 +59,7 @@ fn unless_disk(fault: HardFault) -> HardFault
 }
 
 impl Checkpoint {
-    /// An empty hard state, on an empty disk.
+    /// An empty hard state, on an empty disk. Where memory is refused there is no checkpoint.
     pub fn open(alloc: Global) -> Result<Checkpoint, OutOfMemory>
         ensures open { IfOk result IsOpen }
         ensures value { IfOk result (λ c. c.hard.value ≡ empty_hard) }
@@ -129,6 +129,10 @@ impl Checkpoint {
     }
 
     /// Writes one change of the hard state, for a master of this epoch.
+    ///
+    /// The first refusal of the hard state comes, in the order of [`HardFault`], and then nothing has changed.
+    /// `OutOfMemory` may come in place of any answer, and then the checkpoint is not to be used. `DiskFault` does not
+    /// come.
     pub fn write(&mut self, epoch: u64, writing: &Writing) -> Result<(), HardFault>
         requires writable { IsWritable writing.now }
         requires open { IsOpen self.old }
@@ -154,7 +158,8 @@ impl Checkpoint {
     /// Begins to write one change, stops after so many of the four calls of the disk that this makes, and opens what a crash then
     /// leaves: all that was written, or what was synced last. It answers whether the change is written.
     ///
-    /// A refusal is that of [`Checkpoint::write`], and then nothing has changed.
+    /// A refusal is that of [`Checkpoint::write`], and then nothing has changed. After `OutOfMemory`, which may come
+    /// in place of any answer, the checkpoint is not to be used.
     pub fn halt(
         &mut self,
         alloc: Global,
@@ -219,7 +224,8 @@ impl Checkpoint {
         }
     }
 
-    /// [`Hard::raise`].
+    /// [`Hard::raise`]: `Stale` comes where the fence is at least the epoch, and then `Full`. After each of these
+    /// nothing has changed. `OutOfMemory` may come in place of any answer, and then the checkpoint is not to be used.
     pub fn raise(&mut self, epoch: u64) -> Result<(), HardFault>
         requires { IsOpen self.old }
         ensures ok { OnOk result (IsOpen self.new × (hard_step self.old.hard.value epoch Raise ≡ Ok self.new.hard.value)) }
@@ -230,7 +236,9 @@ impl Checkpoint {
         self.write(epoch, &Writing::Raise)
     }
 
-    /// [`Hard::submit`].
+    /// [`Hard::submit`]: `Fenced` comes where the fence is above the epoch, then `Known` where a job of its number
+    /// was submitted, and then `Full`. After each of these nothing has changed. `OutOfMemory` may come in place of
+    /// any answer, and then the checkpoint is not to be used.
     pub fn submit(&mut self, epoch: u64, job: &Job) -> Result<(), HardFault>
         requires { IsOpen self.old }
         ensures ok { OnOk result (IsOpen self.new × (hard_step self.old.hard.value epoch (Submission job.now) ≡ Ok self.new.hard.value)) }
@@ -241,7 +249,9 @@ impl Checkpoint {
         self.write(epoch, &Writing::Submit(job))
     }
 
-    /// [`Hard::finish`].
+    /// [`Hard::finish`]: `Fenced` comes where the fence is above the epoch, then `NoJob` where no job of this number
+    /// was submitted, then `Ended`, and then `Full`. After each of these nothing has changed. `OutOfMemory` may come
+    /// in place of any answer, and then the checkpoint is not to be used.
     pub fn finish(&mut self, epoch: u64, app: AppNo) -> Result<(), HardFault>
         requires { IsOpen self.old }
         ensures ok { OnOk result (IsOpen self.new × (hard_step self.old.hard.value epoch (Finishing app.0) ≡ Ok self.new.hard.value)) }
@@ -252,7 +262,9 @@ impl Checkpoint {
         self.write(epoch, &Writing::Finish(app))
     }
 
-    /// [`Hard::ban`].
+    /// [`Hard::ban`]: `Fenced` comes where the fence is above the epoch, then `AlreadyBanned`, and then `Full`. After
+    /// each of these nothing has changed. `OutOfMemory` may come in place of any answer, and then the checkpoint is
+    /// not to be used.
     pub fn ban(&mut self, epoch: u64, machine: MachineNo) -> Result<(), HardFault>
         requires machine { machine.0 < most_machines }
         requires open { IsOpen self.old }
@@ -264,7 +276,9 @@ impl Checkpoint {
         self.write(epoch, &Writing::Ban(machine))
     }
 
-    /// [`Hard::unban`].
+    /// [`Hard::unban`]: `Fenced` comes where the fence is above the epoch, then `NotBanned`, and then `Full`. After
+    /// each of these nothing has changed. `OutOfMemory` may come in place of any answer, and then the checkpoint is
+    /// not to be used.
     pub fn unban(&mut self, epoch: u64, machine: MachineNo) -> Result<(), HardFault>
         requires { IsOpen self.old }
         ensures ok { OnOk result (IsOpen self.new × (hard_step self.old.hard.value epoch (Unbanning machine.0) ≡ Ok self.new.hard.value)) }

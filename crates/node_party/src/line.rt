@@ -44,7 +44,7 @@ fn begins_with(word: &[u8], words: &[&[u8]]) -> bool
 }
 
 /// What a line says, which has no newline: `round`, `serve` or `show` alone, or another event. The first test that fails decides, as in a
-/// schedule.
+/// schedule. `OutOfMemory` may come in place of any answer.
 pub fn read_line(alloc: Global, line: &[u8]) -> Result<NodeLine, LineFault>
     ensures ok { IfOk result (λ said. node_line line.now ≡ Ok (line_anywhere said)) }
     ensures line { IfOk result HasLineEvent }

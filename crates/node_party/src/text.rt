@@ -36,6 +36,7 @@ fn found_text<'a>(found: Option<u32>, buffer: &'a mut Buffer) -> (&'static str, 
 }
 
 /// Writes the line of a round. It takes no memory, so a round that came to its end is told unless the sink fails.
+/// Where it fails it has taken less than the line, from its front.
 pub fn write_round<O: Sink>(out: &mut O, line: &RoundLine) -> Result<(), WriteFault>
     ensures ok { OnOk result (Appends (O.took out.old) (O.took out.new) (round_text line.now)) }
     ensures err { OnErr result (TakesPart (O.took out.old) (O.took out.new) (round_text line.now)) }
@@ -78,7 +79,7 @@ pub fn write_round<O: Sink>(out: &mut O, line: &RoundLine) -> Result<(), WriteFa
     }
 }
 
-/// Appends the state of a node that took so many events.
+/// Appends the state of a node that took so many events. Where memory is refused a part of it may stand there.
 pub fn push_state<C: Node>(events: u64, core: &C, out: &mut Vec<u8>) -> Result<(), OutOfMemory>
     ensures { OnOk result ((r : Role) → C.stands core.now r → out.new.items ≡ out.old.items ++ state_text events r) }
 {

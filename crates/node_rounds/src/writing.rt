@@ -13,7 +13,8 @@ use schedule_unit::Party;
 use std::alloc::Global;
 use wire_frames::write_packet;
 
-/// The frames of the packets of a turn, and behind them that of the End packet from one party to the other.
+/// The frames of the packets of a turn, and behind them that of the End packet from one party to the other. Where
+/// memory is refused there is no turn.
 pub fn write_turn(
     alloc: Global,
     packets: &Packets,

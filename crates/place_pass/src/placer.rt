@@ -95,7 +95,8 @@ impl Placer {
     ghost use Rattle.place_pass.specs.Counts.{IsLifted, IsTight, StaysTight, is_unsettled, unsettled_machines};
     ghost use Rattle.place_pass.specs.Placers.{AreAllowed, SeenRecord, job_seen, asks_seen, asks_after, is_open, units_seen, IsLevelWith, IsUpToDate, IsSetFrom, IsGrantable, board_with, waiting_with, line_told, AsksNoMore};
 
-    /// A placer of a cluster, with no job, and with no machine open. It is level with the empty table.
+    /// A placer of a cluster, with no job, and with no machine open. It is level with the empty table. Where memory
+    /// is refused there is no placer.
     pub fn start(alloc: Global, cluster: &Cluster) -> Result<Placer, OutOfMemory>
         ensures seen { IfOk result (λ placer. placer.seen ≡ record { cluster = cluster.now; cells = replicate 256 []; opened = replicate (length cluster.now.machines) false; line = []; turns = 0 }) }
         ensures level { IfOk result (λ placer. IsLevelWith placer (record { cluster = cluster.now; jobs = []; entries = [] })) }

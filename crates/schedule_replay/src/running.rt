@@ -64,7 +64,8 @@ impl Model for Running {
 }
 
 impl Running {
-    /// What runs on a cluster in which nothing has happened.
+    /// What runs on a cluster in which nothing has happened. Where memory is refused nothing runs, and the cluster is
+    /// gone.
     pub fn start(alloc: Global, cluster: Cluster) -> Result<Running, OutOfMemory>
         ensures world { IsWorld (empty_world cluster) }
         ensures stands { IfOk result (λ running. StandsFor running (empty_world cluster)) }
@@ -88,6 +89,10 @@ impl Running {
     }
 
     /// One event, and what it prints. The event is one that a line can give, and fewer than 2^29 were taken. After a stop it is not to be used.
+    ///
+    /// `TooManyPackets` comes where with the packets of the event more than 1,000,000 would have been sent, and then
+    /// `PoolBytes` where the frames of all would have more than 2^30 bytes together. `OutOfMemory` may come in place
+    /// of any answer.
     pub fn step(&mut self, alloc: Global, event: &Event) -> Result<Lines, WorldStop>
         requires line { IsLineEvent event.now }
         requires reached { IsReached self.old }

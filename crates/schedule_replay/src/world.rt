@@ -57,7 +57,8 @@ impl Model for World {
 }
 
 impl World {
-    /// The world of a cluster in which nothing has happened.
+    /// The world of a cluster in which nothing has happened. Where memory is refused there is no world, and the
+    /// cluster is gone.
     pub fn start(alloc: Global, cluster: Cluster) -> Result<World, OutOfMemory>
         ensures world { IsWorld (empty_world cluster) }
         ensures stands { IfOk result (λ world. StandsFor world (empty_world cluster)) }
@@ -70,6 +71,10 @@ impl World {
     }
 
     /// One event, and what it prints. The event is one that a line can give, and fewer than 2^29 were taken. After a stop the world is gone.
+    ///
+    /// `TooManyPackets` comes where with the packets of the event more than 1,000,000 would have been sent, and then
+    /// `PoolBytes` where the frames of all would have more than 2^30 bytes together. `OutOfMemory` may come in place
+    /// of any answer.
     pub fn step(self, alloc: Global, event: &Event) -> Result<(World, Lines), WorldStop>
         requires line { IsLineEvent event.now }
         requires events { self.events < 2 ^ 29 }

@@ -22,6 +22,7 @@ use std::alloc::Global;
 /// The event of a line, which has no newline. The first test that fails decides: the first word, the second of a turn
 /// or a resync, and the first of the line within a stop is known; the line has as many words as its event; and place
 /// by place the word is a number, and within its range. The last two words of a unit may be `most` and a number.
+/// `OutOfMemory` may come in place of any answer.
 pub fn read_event(alloc: Global, line: &[u8]) -> Result<Event, LineFault>
     ensures ok { IfOk result (λ event. event_of line.now ≡ Ok (anywhere event)) }
     ensures line { IfOk result IsLineEvent }

@@ -83,6 +83,7 @@ impl Job {
     ghost use Rattle.schedule_unit.specs.Units.{unit_record};
 
     /// The job that is asked for, in a cluster of so many resources, or the first fault of what is asked.
+    /// `OutOfMemory` may come in place of any answer.
     pub fn make(
         alloc: Global,
         app: AppNo,
@@ -140,7 +141,7 @@ impl Job {
         &self.units[unit.0 as usize]
     }
 
-    /// The same job once more.
+    /// The same job once more. Where memory is refused there is no copy.
     pub fn copy(&self, alloc: Global) -> Result<Job, OutOfMemory>
         ensures { IfOk result (λ copy. copy ≡ self.now) }
     {

@@ -18,7 +18,9 @@ use std::marker::Model;
 /// A worker that runs, by its number, and the slot that it keeps while it does.
 #[derive(Clone, Copy, Debug, PartialEq, Eq)]
 pub struct Member {
+    /// Its number, below 256.
     pub worker: u32,
+    /// The slot that it keeps while it runs.
     pub slot: Slot,
 }
 

@@ -35,7 +35,7 @@ impl Model for Workers {
 }
 
 impl Workers {
-    /// Nobody is admitted.
+    /// Nobody is admitted. Where memory is refused there is no such list.
     pub fn start(alloc: Global) -> Result<Workers, OutOfMemory>
         ensures { IfOk result (λ workers. workers ≡ []) }
     {

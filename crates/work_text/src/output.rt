@@ -37,11 +37,17 @@ pub enum Why {
 pub enum Output {
     /// A packet of a turn.
     Sent {
+        /// Its number, from 1 on.
         number: u64,
+        /// Who sends it.
         from: Party,
+        /// Whom it is for.
         to: Party,
+        /// What it is.
         kind: Kind,
+        /// The incarnation of its place.
         inc: u64,
+        /// The index of its place.
         seq: u64,
     },
     /// A packet that was heard, whether its sender is a new incarnation, and as what.

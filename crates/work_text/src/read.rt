@@ -18,6 +18,7 @@ use written_work::WorkEvent;
 
 /// The event of a line, which has no newline. The first test that fails decides: the first word, and the second of a turn, is
 /// known; the line has as many words as its event; and place by place the word is a number, and within its range.
+/// `OutOfMemory` may come in place of any answer.
 pub fn read_work(alloc: Global, line: &[u8]) -> Result<WorkEvent, LineFault>
     ensures ok { IfOk result (λ event. work_of line.now ≡ Ok event) }
     ensures given { IfOk result IsGiven }
