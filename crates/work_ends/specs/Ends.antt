@@ -72,6 +72,7 @@ NamesBrought hs x names = slice_get (empty_tally ∷ hs x.from x.to.id) x.seq �
 
 pub record ChangeBrought (hs : Party → Id → List TallyRecord) (x : Packet) (change : ChangeRecord) : Type 0 where
   pub leads : IsChangeAt patched_names change (x.seq - 1) (empty_tally ∷ hs x.from x.to.id)
+  pub first : 1 ≤ x.seq
   pub there : x.seq ≤ length (hs x.from x.to.id)
 
 abbrev pub NoteBrought : (Party → Id → List TallyRecord) → Packet → Note TallyRecord ChangeRecord → Type 0
