@@ -70,15 +70,15 @@ turn_by_marks p q top l =
     cases false false false true = refl
     cases false false false false = mapped (packet_by p (record { id = q; inc = l.known })) MarkDelta (λ n. record { from = p; to = record { id = q; inc = l.known }; kind = IsDelta; inc = p.inc; seq = n }) (λ n. refl) (numbers_from (l.acked + 1) (min turn_deltas (top - l.acked)))
 
--- no change leads past the last index
+-- a change leads to an index from 1 to the last one
 abbrev IsMarked : ℕ → Mark → Type 0
 IsMarked top (MarkFull n) = Unit {0}
-IsMarked top (MarkDelta n) = n ≤ top
+IsMarked top (MarkDelta n) = (1 ≤ n) × (n ≤ top)
 IsMarked top (MarkAck place) = Unit {0}
 
-numbers_marked : (top a n : ℕ) → a + n ≤ top + 1 → AllByRecursion (IsMarked top) (map MarkDelta (numbers_from a n))
-numbers_marked top a zero le = tt
-numbers_marked top a (suc n) le = (omega (arith, le), numbers_marked top (a + 1) n (omega (arith, le)))
+numbers_marked : (top a n : ℕ) → 1 ≤ a → a + n ≤ top + 1 → AllByRecursion (IsMarked top) (map MarkDelta (numbers_from a n))
+numbers_marked top a zero first le = tt
+numbers_marked top a (suc n) first le = ((first, omega (arith, le)), numbers_marked top (a + 1) n (omega arith) (omega (arith, le)))
 
 turn_marked : (top acked : ℕ) (place : Place) → acked ≤ top → AllByRecursion (IsMarked top) (turn_of top acked place)
 turn_marked top acked place le = all_append (IsMarked top) (news place.inc top acked) (MarkAck place ∷ []) (cases (nat_eq place.inc 0 || nat_eq top 0 || nat_eq acked top) (nat_eq acked 0 || nat_lt kept_changes (top - acked))) (tt, tt)
@@ -86,12 +86,12 @@ turn_marked top acked place le = all_append (IsMarked top) (news place.inc top a
     cases : (a b : Bool) → AllByRecursion (IsMarked top) (cond a [] (cond b (MarkFull top ∷ []) (map MarkDelta (numbers_from (acked + 1) (min turn_deltas (top - acked))))))
     cases true b = tt
     cases false true = (tt, tt)
-    cases false false = numbers_marked top (acked + 1) (min turn_deltas (top - acked)) (omega (arith, le))
+    cases false false = numbers_marked top (acked + 1) (min turn_deltas (top - acked)) (omega arith) (omega (arith, le))
 
 module _ (from to : PartyHere) (hs : Party → Id → List TallyRecord) where
   one_brought : (note : Note TallyRecord ChangeRecord) → Brings patched_names (empty_tally ∷ hs (party_of from) (party_of to).id) note → IsMarked (length (hs (party_of from) (party_of to).id)) (mark_of note) → Brought hs (parcel_of from to note)
   one_brought (Full n names) b m = b
-  one_brought (Delta n change) b m = record { leads = b; there = m }
+  one_brought (Delta n change) b m = record { leads = b; first = m.0; there = m.1 }
   one_brought (Ack place) b m = tt
 
   all_brought : (ns : List (Note TallyRecord ChangeRecord)) → AllByRecursion (Brings patched_names (empty_tally ∷ hs (party_of from) (party_of to).id)) ns → AllByRecursion (IsMarked (length (hs (party_of from) (party_of to).id))) (map mark_of ns) → AllByRecursion (Brought hs) (map (parcel_of from to) ns)

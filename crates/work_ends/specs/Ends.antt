@@ -66,12 +66,18 @@ packet_of x = note_packet x.from x.to x.note
 abbrev pub parcel_of : PartyHere → PartyHere → Note TallyRecord ChangeRecord → Parcel
 parcel_of from to note = record { from = from; to = to; note = note }
 
+-- some packets from the one party to the other stand behind the others
+pub record AppendsParcels (from to : PartyHere) (old new : List Parcel) : Type 0 where
+  pub notes : List (Note TallyRecord ChangeRecord)
+  pub behind : new ≡ old ++ map (parcel_of from to) notes
+
 -- what a packet brings is the entry of its sender's history, or the change that leads to it
 abbrev pub NamesBrought : (Party → Id → List TallyRecord) → Packet → TallyRecord → Type 0
 NamesBrought hs x names = slice_get (empty_tally ∷ hs x.from x.to.id) x.seq ≡ Some names
 
 pub record ChangeBrought (hs : Party → Id → List TallyRecord) (x : Packet) (change : ChangeRecord) : Type 0 where
   pub leads : IsChangeAt patched_names change (x.seq - 1) (empty_tally ∷ hs x.from x.to.id)
+  pub first : 1 ≤ x.seq
   pub there : x.seq ≤ length (hs x.from x.to.id)
 
 abbrev pub NoteBrought : (Party → Id → List TallyRecord) → Packet → Note TallyRecord ChangeRecord → Type 0

@@ -4,7 +4,7 @@ ghost use Rattle.std.specs.Prelude.{◌≡◌, ◌++◌, ℕ, List, map, length,
 ghost use Rattle.std.specs.List.{AllByRecursion};
 ghost use Rattle.fuxi_terms.specs.Tallies.{TallyRecord};
 ghost use Rattle.written_net.specs.Net.{Party as WrittenParty, Id, Link, turn_packets};
-ghost use Rattle.work_ends.specs.Ends.{IsEnd, Brought, party_of, packet_of, parcel_of, histories};
+ghost use Rattle.work_ends.specs.Ends.{AppendsParcels, IsEnd, Brought, party_of, packet_of, parcel_of, histories};
 
 use delta_channel::Place;
 use full_sync::{Duplex, Note};
@@ -34,6 +34,7 @@ pub fn turn(
 ) -> Result<(), OutOfMemory>
     ensures turns { OnOk result ((p : WrittenParty) (q : Id) (l : Link) (hs : histories) → IsEnd ends.now p q l hs → party_of from ≡ p → party_of to ≡ record { id = q; inc = l.known }
         → (map packet_of parcels.new.items ≡ map packet_of parcels.old.items ++ turn_packets p q (length (hs p q)) l) × (AllByRecursion (Brought hs) parcels.old.items → AllByRecursion (Brought hs) parcels.new.items)) }
+    ensures between { OnOk result (AppendsParcels from to parcels.old.items parcels.new.items) }
 {
     let notes = ends.turn(alloc)?;
     let _acked = ends.acked();

@@ -20,4 +20,5 @@ returns c = record {
         ap (map packet_of) appended ∙ map-append packet_of old (map (parcel_of from to) ns) ∙ ap (λ xs. map packet_of old ++ xs) sends.0,
         λ olds. subst (AllByRecursion (Brought hs)) (sym appended) (all_append (Brought hs) old (map (parcel_of from to) ns) olds sends.1),
       );
+  between = record { notes = c.into_vec.result.items; behind = c.in_ok-append.ensures };
 }
