@@ -1,0 +1,4 @@
+pub mod CallsLemmas
+pub mod OrdersLemmas
+pub mod DesksLemmas
+pub mod BooksLemmas
