@@ -1,0 +1,6 @@
+//! The run of named workers over the lines of an input, to the text that it prints.
+#![tactic(auto)]
+
+mod run;
+
+pub use run::run_work;

@@ -1,0 +1,15 @@
+mod Growing
+mod Naming
+mod Marking
+mod Texts
+mod Peers
+mod Agents
+mod Settling
+mod Hearing
+mod Events
+mod Told
+mod Delivering
+mod Ranging
+mod StateLines
+mod Sending
+mod Acting

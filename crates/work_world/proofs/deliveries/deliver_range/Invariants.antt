@@ -1,0 +1,12 @@
+use Rattle.std.proofs.Common.{◌≡◌}
+use Rattle.written_work.specs.World.{World}
+use Rattle.work_world.specs.Moves.{Delivers}
+use Rattle.work_world.specs.Worlds.{IsKept, Stands}
+use Rattle.work_world.proofs.deliveries.deliver_range.Given as goal
+
+abbrev pub invariant-loop-number : goal.invariant-loop-number
+invariant-loop-number l = record {
+  held : IsKept l.working;
+  packets : l.working.packets ≡ l.fn.working.packets;
+  goes : (w : World) → Stands l.fn.working w → Delivers l.first l.last l.number l.working l.fn.out.items l.out.items w;
+}

@@ -1,0 +1,10 @@
+use Rattle.std.proofs.Common.{◌≤◌, List, length, refl, sym, subst, arith}
+use Rattle.work_ends.specs.declared.ends.Parcel.{Parcel}
+use Rattle.written_work.specs.Runs.{most_work_packets}
+use Rattle.written_work.specs.States.{AtStart}
+use Rattle.written_work.specs.World.{empty_world}
+use Rattle.work_world.proofs.Acting.{begun}
+use Rattle.work_world.proofs.working.Working.start.Goals as goal
+
+pub returns-clause-reached : goal.returns-clause-reached
+returns-clause-reached c = record { world = empty_world; is = AtStart; stands = begun _ refl refl c.new.ensures.items c.new-2.ensures.items; few = subst (λ (xs : List Parcel). length xs ≤ most_work_packets) (sym c.new-2.ensures.items) (omega arith) }

@@ -1,0 +1,5 @@
+pub mod Numbers
+pub mod Worlds
+pub mod Settles
+pub mod Moves
+pub mod Steps
