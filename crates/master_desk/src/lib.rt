@@ -21,3 +21,6 @@ pub use left::take_left;
 pub use limits::{MOST_CALLS, MOST_SESSIONS};
 pub use run::run_all;
 pub use sessions::Sessions;
+
+#[cfg(test)]
+mod tests;
