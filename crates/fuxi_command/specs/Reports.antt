@@ -54,7 +54,7 @@ limit_word Calls = codes "calls"
 
 abbrev pub report_line : Status → List ℕ
 report_line Done = []
-report_line Usage = codes "usage: fuxi replay | storm SEED STEPS | node master EPOCH ADDR | node agent MACHINE BOOT ADDR | node app APP BOOT UNITS ADDR | lease\n"
+report_line Usage = codes "usage: fuxi replay | storm SEED STEPS | node master EPOCH ADDR | node agent MACHINE BOOT ADDR | node app APP BOOT UNITS ADDR | lease | work\n"
 report_line (BadInput line fault) = codes "line " ++ decimal line ++ codes ": " ++ fault_name fault ++ fault_value fault ++ codes "\n"
 report_line ReadFault = codes "read fault\n"
 report_line WriteFault = codes "write fault\n"

@@ -18,12 +18,13 @@ use Rattle.node_command.specs.declared.kind.NodeKind.TheVariants.{Master, Agent,
 use Rattle.fuxi_command.specs.declared.words.Command.{Command as Parsed}
 use Rattle.fuxi_command.specs.declared.words.Command.TheVariants as parsed
 
--- a schedule that is replayed, a storm of a seed with so many steps, a node and the address of its connections, or a lease
+-- a schedule that is replayed, a storm of a seed with so many steps, a node and the address of its connections, a lease, or named workers
 pub data Command : Type 0 where
   Replay : Command
   Storm : (seed steps : ℕ) → Command
   Node : (kind : NodeKind) → (addr : List ℕ) → Command
   Lease : Command
+  Work : Command
 
 -- a storm, where both words are numbers and the steps are not too many
 abbrev pub storm_of_words : Option ℕ → Option ℕ → Option Command
@@ -56,9 +57,9 @@ node_at addr None = None
 
 -- The commands of one word
 abbrev pub one_word : List ℕ → Option Command
-one_word word = cond (bytes_eq word (codes "replay")) (Some Replay) (cond (bytes_eq word (codes "lease")) (Some Lease) None)
+one_word word = cond (bytes_eq word (codes "replay")) (Some Replay) (cond (bytes_eq word (codes "lease")) (Some Lease) (cond (bytes_eq word (codes "work")) (Some Work) None))
 
--- The command that words are, where they are one: `replay` or `lease`; `storm` and two numbers; or `node` and a kind of party, its numbers, and an
+-- The command that words are, where they are one: `replay`, `lease` or `work`; `storm` and two numbers; or `node` and a kind of party, its numbers, and an
 -- address
 abbrev pub command_of : List (List ℕ) → Option Command
 command_of [] = None
@@ -78,6 +79,7 @@ is_node (Some (Node kind addr)) = true
 is_node (Some Replay) = false
 is_node (Some (Storm seed steps)) = false
 is_node (Some Lease) = false
+is_node (Some Work) = false
 is_node None = false
 
 -- the file that a command has, by its name: a master's node and a lease have one each, and the others none
@@ -88,6 +90,7 @@ file_of (Some (Node (App app boot units) addr)) = None
 file_of (Some Replay) = None
 file_of (Some (Storm seed steps)) = None
 file_of (Some Lease) = Some (codes "fuxi.lease")
+file_of (Some Work) = None
 file_of None = None
 
 abbrev pub has_file : Option Command → Bool
@@ -100,6 +103,7 @@ as_command (Some parsed.Replay) = Some Replay
 as_command (Some (parsed.Storm seed steps)) = Some (Storm seed steps)
 as_command (Some (parsed.Node kind addr)) = Some (Node kind addr.now)
 as_command (Some parsed.Lease) = Some Lease
+as_command (Some parsed.Work) = Some Work
 
 -- the words are the arguments behind the program's name
 abbrev pub HasWords : {X Z : Type 0} → Result (IntoIter X Z) Error → List X → Type 0
@@ -121,3 +125,4 @@ AreWithin parsed.Replay = ⊤
 AreWithin (parsed.Storm seed steps) = steps ≤ most_storm_steps
 AreWithin (parsed.Node kind addr) = IsKind kind × (1 ≤ length addr.now) × (length addr.now ≤ 255)
 AreWithin parsed.Lease = ⊤
+AreWithin parsed.Work = ⊤

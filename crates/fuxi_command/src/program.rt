@@ -6,9 +6,10 @@ ghost use Rattle.fuxi_io.specs.Disks.{Told};
 ghost use Rattle.fuxi_io.specs.Statuses.{code_of};
 ghost use Rattle.hard_state.specs.HardFiles.{records_of};
 ghost use Rattle.lease_run.specs.Runs.{text_of};
+ghost use Rattle.work_run.specs.Runs.{text_of as work_text_of};
 ghost use Rattle.written_roles.specs.HardState.{HardState};
 ghost use Rattle.schedule_run.specs.Told.{IsText, Writes};
-ghost use Rattle.fuxi_command.specs.Words.{Lease, Replay, command_of, file_of, HasWords, NoWords, WhyNoWords};
+ghost use Rattle.fuxi_command.specs.Words.{Lease, Replay, Work, command_of, file_of, HasWords, NoWords, WhyNoWords};
 ghost use Rattle.fuxi_command.specs.Reports.{report_line, TakesReport};
 ghost use Rattle.fuxi_command.specs.Outcomes.{IsOutcome, seen};
 
@@ -94,13 +95,14 @@ pub fn run<S: Source, O: Sink, E: Sink, D: Disk, N: Door>(
 ) -> Status
     // Without words the status is that of their want, and nothing was read or written but the line that tells it.
     ensures none { IfErr words (λ status. (result ≡ status) × (input.new ≡ input.old) × (out.new ≡ out.old) × (disk.new ≡ disk.old) × (door.new ≡ door.old)) }
-    // With words it is what `fuxi` makes of them, all of it by one relation; for a replay and a lease also by their texts.
+    // With words it is what `fuxi` makes of them, all of it by one relation; for a replay, a lease and named workers also by their texts.
     ensures outcome { IfOk words (λ words. IsOutcome (map string_bytes words.items) result (input.new ≡ input.old) (out.new ≡ out.old) (disk.new ≡ disk.old) (door.new ≡ door.old)
         (seen (S.left input.old) (O.took out.old) (D.told disk.old) (N.told door.old) (S.faults input.old) (O.faults out.old) (D.faults disk.old) (N.faults door.old))
         (seen (S.left input.new) (O.took out.new) (D.told disk.new) (N.told door.new) (S.faults input.new) (O.faults out.new) (D.faults disk.new) (N.faults door.new))) }
     ensures text { IfOk words (λ words. command_of (map string_bytes words.items) ≡ Some Replay → result ≡ Status.Done → IfSome (S.left input.old) (λ bytes. Writes (IsText bytes) (O.took out.old) (O.took out.new))) }
     ensures lease_text { IfOk words (λ words. command_of (map string_bytes words.items) ≡ Some Lease → result ≡ Status.Done → (bytes : List ℕ) (t : Told) (value : HardState) → S.left input.old ≡ Some bytes → D.told disk.old ≡ Some t
         → records_of t.now.bytes ≡ Ok value → Appends (O.took out.old) (O.took out.new) (text_of value bytes)) }
+    ensures work_text { IfOk words (λ words. command_of (map string_bytes words.items) ≡ Some Work → result ≡ Status.Done → IfSome (S.left input.old) (λ bytes. Appends (O.took out.old) (O.took out.new) (work_text_of bytes))) }
     ensures report { TakesReport (report_line result) (E.took err.old) (E.took err.new) (E.faults err.old) (E.faults err.new) }
 {
     match words {

@@ -9,7 +9,7 @@ use output_pieces::write_pieces;
 
 // The commands, as they are told where words are none.
 const USAGE: &[u8] =
-    b"usage: fuxi replay | storm SEED STEPS | node master EPOCH ADDR | node agent MACHINE BOOT ADDR | node app APP BOOT UNITS ADDR | lease\n";
+    b"usage: fuxi replay | storm SEED STEPS | node master EPOCH ADDR | node agent MACHINE BOOT ADDR | node app APP BOOT UNITS ADDR | lease | work\n";
 
 fn fault_name(fault: &InputFault) -> &'static str
     ensures { result.now ≡ fault_name fault.now }

@@ -17,7 +17,7 @@ ghost use Rattle.fuxi_command.specs.States.{AllCountOnce, AllKeepGrants, AllTake
 ghost use Rattle.storm_run.specs.Runs.{IsLimit, StormEnded};
 ghost use Rattle.storm_run.specs.Summaries.{storm_of};
 ghost use Rattle.fuxi_command.specs.Storms.{IsStorm, WritesPart};
-ghost use Rattle.fuxi_command.specs.Words.{Lease, Node, Replay, Storm, command_of, has_file, is_command, is_node};
+ghost use Rattle.fuxi_command.specs.Words.{Lease, Node, Replay, Storm, Work, command_of, has_file, is_command, is_node};
 ghost use Rattle.node_command.specs.declared.kind.NodeKind.{NodeKind};
 ghost use Rattle.node_command.specs.declared.kind.NodeKind.TheVariants.{Master};
 ghost use Rattle.node_command.specs.Inputs.{HasNoCluster, InputEnded, InputEndsBy, IsDiskless, LeavesDisk, MayStart, TellsDisk, ending_of, status_at};
@@ -26,6 +26,8 @@ ghost use Rattle.fuxi_io.specs.Disks.{Told as Moments};
 ghost use Rattle.written_roles.specs.HardState.{HardState};
 ghost use Rattle.lease_run.specs.Ends.{LeaseEnded};
 ghost use Rattle.lease_run.specs.Runs.{run_of as lease_run_of, text_of, AtEnd as LeaseAtEnd};
+ghost use Rattle.written_work.specs.World.{empty_world as empty_work};
+ghost use Rattle.work_run.specs.Runs.{Ended as WorkEnded, run_from as work_run_from, run_of as work_run_of, AtEnd as WorkAtEnd, text_of as work_text_of};
 ghost use Rattle.fuxi_node.specs.Masters.{RefusesEpoch};
 ghost use Rattle.hard_state.specs.HardFiles.{records_of};
 ghost use Rattle.written_roles.specs.Refusals.{NotRising, HardFull};
@@ -42,6 +44,7 @@ use node_door::Door;
 use schedule_run::{inputs_are_given, run_schedule, runs_are_told};
 use std::alloc::Global;
 use storm_run::run_storm;
+use work_run::run_work;
 use written_calm::calm_rounds_bring_quiet;
 use written_roles::preempts_by_quota;
 use written_storm::storms_end_quiet;
@@ -113,6 +116,9 @@ fn run_command<S: Source, O: Sink, D: Disk, N: Door>(
     ensures lease_complete { command_of (map string_bytes words.now) ≡ Some Lease → (bytes : List ℕ) (t : Moments) (value : HardState) → S.left input.old ≡ Some bytes → D.told disk.old ≡ Some t → records_of t.now.bytes ≡ Ok value
         → (lease_run_of value bytes).ending ≡ LeaseAtEnd → (Rose (S.faults input.old) (S.faults input.new) → ⊥) → (Rose (O.faults out.old) (O.faults out.new) → ⊥) → (Rose (D.faults disk.old) (D.faults disk.new) → ⊥)
         → (result ≡ Status.Done) ⊎ (result ≡ Status.OutOfMemory) }
+    ensures work { command_of (map string_bytes words.now) ≡ Some Work → IfSome (S.left input.old) (λ bytes. WorkEnded (work_run_from 0 empty_work) bytes result (S.left input.new) (O.took out.old) (O.took out.new)) }
+    ensures work_complete { command_of (map string_bytes words.now) ≡ Some Work → (bytes : List ℕ) → S.left input.old ≡ Some bytes → (work_run_of bytes).ending ≡ WorkAtEnd
+        → (Rose (S.faults input.old) (S.faults input.new) → ⊥) → (Rose (O.faults out.old) (O.faults out.new) → ⊥) → (result ≡ Status.Done) ⊎ (result ≡ Status.OutOfMemory) }
 {
     match command_of(words) {
         None => Status::Usage,
@@ -120,6 +126,7 @@ fn run_command<S: Source, O: Sink, D: Disk, N: Door>(
         Some(Command::Storm { seed, steps }) => run_storm(alloc, seed, steps, out),
         Some(Command::Node { kind, addr }) => run_input(alloc, kind, addr, input, out, disk, door),
         Some(Command::Lease) => run_lease(alloc, input, out, disk),
+        Some(Command::Work) => run_work(alloc, input, out),
     }
 }
 
@@ -131,7 +138,7 @@ fn run_command<S: Source, O: Sink, D: Disk, N: Door>(
 /// input the state. `storm SEED STEPS` runs a storm and writes its summary; it reads nothing. `node` runs one party of a cluster over the lines
 /// of the input, and meets its peers through the door: `node master EPOCH ADDR` is called at the address and keeps its hard state on the disk,
 /// `node agent MACHINE BOOT ADDR` and `node app APP BOOT UNITS ADDR` dial it. `lease` hands out epochs by the lines of the input, and keeps the
-/// last one on the disk. What is said of the output holds of an input and an output that tell their bytes, and of nodes of a door that does, and
+/// last one on the disk. `work` runs named workers by the lines of the input. What is said of the output holds of an input and an output that tell their bytes, and of nodes of a door that does, and
 /// of a disk that does.
 #[tactic(auto, using(crate::proofs::States::all_count_once, crate::proofs::States::all_take_by_quota, crate::proofs::States::all_keep_grants))]
 pub fn fuxi<S: Source, O: Sink, E: Sink, D: Disk, N: Door>(
@@ -288,6 +295,16 @@ pub fn fuxi<S: Source, O: Sink, E: Sink, D: Disk, N: Door>(
     ensures lease_complete { command_of (map string_bytes words.now) ≡ Some Lease → (bytes : List ℕ) (t : Moments) (value : HardState) → S.left input.old ≡ Some bytes → D.told disk.old ≡ Some t → records_of t.now.bytes ≡ Ok value
         → (lease_run_of value bytes).ending ≡ LeaseAtEnd → (Rose (S.faults input.old) (S.faults input.new) → ⊥) → (Rose (O.faults out.old) (O.faults out.new) → ⊥) → (Rose (D.faults disk.old) (D.faults disk.new) → ⊥)
         → (result ≡ Status.Done) ⊎ (result ≡ Status.OutOfMemory) }
+
+    // Of `work`. What was read and written, by the status;
+    ensures work { command_of (map string_bytes words.now) ≡ Some Work → IfSome (S.left input.old) (λ bytes. WorkEnded (work_run_from 0 empty_work) bytes result (S.left input.new) (O.took out.old) (O.took out.new)) }
+
+    // done: the lines of the events and the state were written.
+    ensures work_text { command_of (map string_bytes words.now) ≡ Some Work → result ≡ Status.Done → IfSome (S.left input.old) (λ bytes. Appends (O.took out.old) (O.took out.new) (work_text_of bytes)) }
+
+    // Named workers over lines that are all good, within the limits, with no fault of input and output, are done, but for want of memory.
+    ensures work_complete { command_of (map string_bytes words.now) ≡ Some Work → (bytes : List ℕ) → S.left input.old ≡ Some bytes → (work_run_of bytes).ending ≡ WorkAtEnd
+        → (Rose (S.faults input.old) (S.faults input.new) → ⊥) → (Rose (O.faults out.old) (O.faults out.new) → ⊥) → (result ≡ Status.Done) ⊎ (result ≡ Status.OutOfMemory) }
 
     // All of this as one relation, for who calls the command.
     ensures outcome { IsOutcome (map string_bytes words.now) result (input.new ≡ input.old) (out.new ≡ out.old) (disk.new ≡ disk.old) (door.new ≡ door.old)

@@ -18,6 +18,7 @@ pub enum Command<'a> {
     Storm { seed: u64, steps: u64 },
     Node { kind: NodeKind, addr: &'a [u8] },
     Lease,
+    Work,
 }
 
 // A storm, where both words are numbers and the steps are not too many.
@@ -125,6 +126,7 @@ fn one_word<'a>(word: &str) -> Option<Command<'a>>
     match word {
         "replay" => Some(Command::Replay),
         "lease" => Some(Command::Lease),
+        "work" => Some(Command::Work),
         _ => None,
     }
 }

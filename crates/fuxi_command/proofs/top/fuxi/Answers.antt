@@ -57,6 +57,8 @@ returns-clause-outcome g c = let r = c.run_command-status.ensures in record {
   lease = r.lease;
   lease_told = r.lease_told;
   lease_complete = r.lease_complete;
+  work = r.work;
+  work_complete = r.work_complete;
 }
 
 pub returns-clause-lease_text : goal.returns-clause-lease_text
