@@ -39,7 +39,8 @@ impl Gate for Meeting {
 // The workers of two sessions come to their first calls at once.
 #[test]
 fn two_sessions_meet(rt: HostRuntime) -> Result<(), OutOfMemory> {
-    let line = br#"{"resources":1,"machines":[{"rack":0,"has":[1]}],"groups":[{"quota":[1],"limit":[1]}]}"#;
+    let line =
+        br#"{"resources":1,"machines":[{"rack":0,"has":[1]}],"groups":[{"quota":[1],"limit":[1]}]}"#;
     let Ok(cluster) = read_cluster(rt.alloc(), line) else {
         return Err(OutOfMemory);
     };

@@ -109,6 +109,16 @@ impl MasterNode {
         }
     }
 
+    /// The master, without its hard state.
+    pub fn into_master(self) -> Master
+        ensures stands { (h : HardState) (r : MasterRole) → IsMasterOf h r self → StandsFor result.core r }
+        ensures steps { result.steps ≡ self.master.steps }
+    {
+        let MasterNode { master, hard } = self;
+        drop(hard);
+        master
+    }
+
     // Its cluster.
     pub(crate) fn cluster(&self) -> &Cluster
         ensures { (h : HardState) (r : MasterRole) → IsMasterOf h r self.now → result.now ≡ r.cluster }

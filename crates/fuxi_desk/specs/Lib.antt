@@ -1,0 +1,7 @@
+pub mod Lines
+pub mod Saying
+pub mod Preparing
+pub mod Texts
+pub mod Runs
+pub mod Progress
+pub mod Reports
