@@ -80,15 +80,22 @@ fn tell<P: Print>(
     Ok(())
 }
 
-fn replayed<P: Print>(rt: &P, alloc: Global, bytes: Vec<u8>, fails: [u64; 3]) -> Result<(), Stop> {
+// A command of one word over these lines, where a read, a write and a write of the error stream fail.
+fn over_lines<P: Print>(
+    rt: &P,
+    alloc: Global,
+    name: &str,
+    bytes: Vec<u8>,
+    fails: [u64; 3],
+) -> Result<(), Stop> {
     let [read, write, report] = fails;
     let mut input = source(alloc, bytes, read)?;
-    tell(rt, alloc, &["replay"], &mut input, [write, report])
+    tell(rt, alloc, &[name], &mut input, [write, report])
 }
 
-/// A schedule.
-pub fn run<P: Print>(rt: &P, alloc: Global, text: &str) -> Result<(), Stop> {
-    replayed(rt, alloc, bytes_of(alloc, text)?, [0, 0, 0])
+/// A schedule, or lines of another command.
+pub fn run<P: Print>(rt: &P, alloc: Global, name: &str, text: &str) -> Result<(), Stop> {
+    over_lines(rt, alloc, name, bytes_of(alloc, text)?, [0, 0, 0])
 }
 
 /// A schedule behind an application whose master has acknowledged its first demand, and so many wants of the numbers from 1 up.
@@ -99,7 +106,7 @@ pub fn behind_wants<P: Print>(rt: &P, alloc: Global, rest: &str) -> Result<(), S
         bytes.extend_from_slice(format!(in alloc; "want 0 0 {number}\n")?.as_bytes())?;
     }
     bytes.extend_from_slice(&bytes_of(alloc, text)?)?;
-    replayed(rt, alloc, bytes, [0, 0, 0])
+    over_lines(rt, alloc, "replay", bytes, [0, 0, 0])
 }
 
 /// Words that are no command, `,` between them, over streams whose every call fails but for the error stream's.
@@ -128,16 +135,16 @@ pub fn storm<P: Print>(rt: &P, alloc: Global, rest: &str) -> Result<(), Stop> {
     )
 }
 
-/// A schedule where the read, the write and the write of the error stream with these numbers fail; 0 for none.
-pub fn failing<P: Print>(rt: &P, alloc: Global, rest: &str) -> Result<(), Stop> {
+/// Lines of a command where the read, the write and the write of the error stream with these numbers fail; 0 for none.
+pub fn failing<P: Print>(rt: &P, alloc: Global, name: &str, rest: &str) -> Result<(), Stop> {
     let (numbers, text) = rest.split_once(" = ").unwrap_or((rest, ""));
     let mut fails = [0; 3];
     put_numbers(&mut fails, numbers);
-    replayed(rt, alloc, bytes_of(alloc, text)?, fails)
+    over_lines(rt, alloc, name, bytes_of(alloc, text)?, fails)
 }
 
-// A schedule that is read byte by byte, where a read fails: whether a read failed, and what is printed of it.
-fn read_once(alloc: Global, text: &str, fail: u64) -> Result<(bool, String), Stop> {
+// Lines of a command that are read byte by byte, where a read fails: whether a read failed, and what is printed of it.
+fn read_once(alloc: Global, name: &str, text: &str, fail: u64) -> Result<(bool, String), Stop> {
     let mut input = Drops {
         bytes: bytes_of(alloc, text)?,
         at: 0,
@@ -146,17 +153,17 @@ fn read_once(alloc: Global, text: &str, fail: u64) -> Result<(bool, String), Sto
         faults: 0,
     };
     let (mut out, mut err) = (sink(alloc, 0)?, sink(alloc, 0)?);
-    let status = command(alloc, &["replay"], &mut input, &mut out, &mut err)?;
+    let status = command(alloc, &[name], &mut input, &mut out, &mut err)?;
     let told = shown(alloc, &status, out.bytes(), err.bytes())?;
     Ok((status == Status::ReadFault, told))
 }
 
-/// A schedule that is read byte by byte, where the first read fails, the second, and so on: each answer that is
-/// another one than that before, with the number of the read.
-pub fn each_read<P: Print>(rt: &P, alloc: Global, text: &str) -> Result<(), Stop> {
+/// Lines of a command that are read byte by byte, where the first read fails, the second, and so on: each answer that
+/// is another one than that before, with the number of the read.
+pub fn each_read<P: Print>(rt: &P, alloc: Global, name: &str, text: &str) -> Result<(), Stop> {
     let mut last = String::new(alloc);
     for fail in 1..=MOST {
-        let (failed, now) = read_once(alloc, text, fail)?;
+        let (failed, now) = read_once(alloc, name, text, fail)?;
         if now != last {
             print!(rt; "from {fail} {now} ")?;
             last = now;
@@ -168,18 +175,18 @@ pub fn each_read<P: Print>(rt: &P, alloc: Global, text: &str) -> Result<(), Stop
     Ok(())
 }
 
-// Runs a schedule whose output is narrow, or its error stream: the status, and what the other of these took.
+// Runs a command whose output is narrow, or its error stream: the status, and what the other of these took.
 fn run_narrow(
     alloc: Global,
-    text: &str,
+    (name, text): (&str, &str),
     is_err: bool,
     narrow: &mut Narrow,
 ) -> Result<(Status, Vec<u8>), Stop> {
     let (mut input, mut other) = (source(alloc, bytes_of(alloc, text)?, 0)?, sink(alloc, 0)?);
     let status = if is_err {
-        command(alloc, &["replay"], &mut input, &mut other, narrow)?
+        command(alloc, &[name], &mut input, &mut other, narrow)?
     } else {
-        command(alloc, &["replay"], &mut input, narrow, &mut other)?
+        command(alloc, &[name], &mut input, narrow, &mut other)?
     };
     Ok((status, other.bytes().to_vec(alloc)?))
 }
@@ -188,12 +195,12 @@ fn run_narrow(
 fn tell_part<P: Print>(
     rt: &P,
     alloc: Global,
-    text: &str,
+    lines: (&str, &str),
     is_err: bool,
     (limit, whole): (usize, &[u8]),
 ) -> Result<(), Stop> {
     let mut narrow = Narrow::of(alloc, limit);
-    let (status, other) = run_narrow(alloc, text, is_err, &mut narrow)?;
+    let (status, other) = run_narrow(alloc, lines, is_err, &mut narrow)?;
     if whole.get(..limit.min(whole.len())) != Some(narrow.took.as_slice()) {
         print!(rt; " another text at {limit}")?;
     } else if Some(limit) == whole.len().checked_sub(1) || limit == 0 {
@@ -202,14 +209,19 @@ fn tell_part<P: Print>(
     Ok(())
 }
 
-/// A schedule whose output takes so many bytes and no more, from more than enough down to none: what it took is
+/// A command whose output takes so many bytes and no more, from more than enough down to none: what it took is
 /// the front of the whole text each time, or else it is told. Or the same of the error stream.
-pub fn each_write<P: Print>(rt: &P, alloc: Global, text: &str, is_err: bool) -> Result<(), Stop> {
+pub fn each_write<P: Print>(
+    rt: &P,
+    alloc: Global,
+    lines: (&str, &str),
+    is_err: bool,
+) -> Result<(), Stop> {
     let mut wide = Narrow::of(alloc, MOST as usize);
-    let (status, other) = run_narrow(alloc, text, is_err, &mut wide)?;
+    let (status, other) = run_narrow(alloc, lines, is_err, &mut wide)?;
     print!(rt; "{}", shown(alloc, &status, &wide.took, &other)?)?;
     for limit in (0..MOST as usize).rev() {
-        tell_part(rt, alloc, text, is_err, (limit, &wide.took))?;
+        tell_part(rt, alloc, lines, is_err, (limit, &wide.took))?;
     }
     Ok(())
 }

@@ -1,6 +1,6 @@
 //! Worked cases of the call that runs a command, over sources and sinks that fail. Each line of the input is a
-//! case, and what came of it is printed; a line that begins with `#` is printed as it is. In a text, `$` stands
-//! for the line of a cluster, `|` for a newline and `^` for a carriage return.
+//! case, and what came of it is printed; a line that begins with `#` is printed as it is. Behind `work` it is one of
+//! named workers. In a text, `$` stands for the line of a cluster, `|` for a newline and `^` for a carriage return.
 #![tactic(auto)]
 
 mod cases;
@@ -11,16 +11,22 @@ use std::alloc::Global;
 use std::io::{BufRead, BufReader};
 use std::process::ExitCode;
 
-fn answer<P: Print>(rt: &P, alloc: Global, kind: &str, rest: &str) -> Result<(), Stop> {
+fn answer<P: Print>(
+    rt: &P,
+    alloc: Global,
+    name: &str,
+    kind: &str,
+    rest: &str,
+) -> Result<(), Stop> {
     match kind {
-        "run" => cases::run(rt, alloc, rest),
+        "run" => cases::run(rt, alloc, name, rest),
         "wants" => cases::behind_wants(rt, alloc, rest),
         "words" => cases::words(rt, alloc, rest),
         "storm" => cases::storm(rt, alloc, rest),
-        "fails" => cases::failing(rt, alloc, rest),
-        "reads" => cases::each_read(rt, alloc, rest),
-        "writes" => cases::each_write(rt, alloc, rest, false),
-        "tells" => cases::each_write(rt, alloc, rest, true),
+        "fails" => cases::failing(rt, alloc, name, rest),
+        "reads" => cases::each_read(rt, alloc, name, rest),
+        "writes" => cases::each_write(rt, alloc, (name, rest), false),
+        "tells" => cases::each_write(rt, alloc, (name, rest), true),
         _ => Ok(print!(rt; "no such case")?),
     }
 }
@@ -29,8 +35,13 @@ fn answer_line<P: Print>(rt: &P, alloc: Global, line: &str) -> Result<(), Stop> 
     if line.starts_with('#') {
         return Ok(println!(rt; "{line}")?);
     }
-    let (kind, rest) = head_of(line);
-    answer(rt, alloc, kind, rest)?;
+    let (head, rest) = head_of(line);
+    if head == "work" {
+        let (kind, rest) = head_of(rest);
+        answer(rt, alloc, head, kind, rest)?;
+    } else {
+        answer(rt, alloc, "replay", head, rest)?;
+    }
     Ok(println!(rt;)?)
 }
 
