@@ -8,4 +8,4 @@ mod read;
 mod word;
 
 pub use output::{Kind, Output, Why, write_line};
-pub use read::read_work;
+pub use read::{lines_give_events, read_work};

@@ -1,6 +1,6 @@
 //! Event lines are read.
 
-ghost use Rattle.std.specs.Prelude.{◌≡◌, true, ℕ, ◌+◌, ◌^◌, ◌<◌, ◌≤◌, IfOk, IfErr, IfSome, Ok, Err, map, length, take, slice_index, get_or};
+ghost use Rattle.std.specs.Prelude.{◌≡◌, true, ℕ, ◌+◌, ◌^◌, ◌<◌, ◌≤◌, IfOk, IfErr, IfSome, Ok, Err, List, map, length, take, slice_index, get_or};
 ghost use Rattle.std.specs.List.{find, list_any};
 ghost use Rattle.schedule_text.specs.Reading.{IsFault};
 ghost use Rattle.work_text.specs.Forms.{shape_of, as_shape, IsNarrow};
@@ -30,6 +30,11 @@ pub fn read_work(alloc: Global, line: &[u8]) -> Result<WorkEvent, LineFault>
         Err(fault) => Err(fault),
     }
 }
+
+/// What is read of a line is an event that a line can give, as a law of the definition. It does nothing.
+pub fn lines_give_events()
+    ensures { (line : List ℕ) → IfOk (work_of line) IsGiven }
+{}
 
 // The event of the words of a line.
 fn event_in(words: &[&[u8]]) -> Result<WorkEvent, LineFault>
