@@ -11,13 +11,7 @@ use std::alloc::Global;
 use std::io::{BufRead, BufReader};
 use std::process::ExitCode;
 
-fn answer<P: Print>(
-    rt: &P,
-    alloc: Global,
-    name: &str,
-    kind: &str,
-    rest: &str,
-) -> Result<(), Stop> {
+fn answer<P: Print>(rt: &P, alloc: Global, name: &str, kind: &str, rest: &str) -> Result<(), Stop> {
     match kind {
         "run" => cases::run(rt, alloc, name, rest),
         "wants" => cases::behind_wants(rt, alloc, rest),

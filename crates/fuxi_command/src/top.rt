@@ -28,6 +28,7 @@ ghost use Rattle.lease_run.specs.Ends.{LeaseEnded};
 ghost use Rattle.lease_run.specs.Runs.{run_of as lease_run_of, text_of, AtEnd as LeaseAtEnd};
 ghost use Rattle.written_work.specs.World.{empty_world as empty_work};
 ghost use Rattle.work_run.specs.Runs.{Ended as WorkEnded, run_from as work_run_from, run_of as work_run_of, AtEnd as WorkAtEnd, text_of as work_text_of};
+ghost use Rattle.work_run.specs.States.{AllPlanned};
 ghost use Rattle.fuxi_node.specs.Masters.{RefusesEpoch};
 ghost use Rattle.hard_state.specs.HardFiles.{records_of};
 ghost use Rattle.written_roles.specs.Refusals.{NotRising, HardFull};
@@ -44,7 +45,7 @@ use node_door::Door;
 use schedule_run::{inputs_are_given, run_schedule, runs_are_told};
 use std::alloc::Global;
 use storm_run::run_storm;
-use work_run::run_work;
+use work_run::{run_work, runs_go_as_planned};
 use written_calm::calm_rounds_bring_quiet;
 use written_roles::preempts_by_quota;
 use written_storm::storms_end_quiet;
@@ -302,6 +303,9 @@ pub fn fuxi<S: Source, O: Sink, E: Sink, D: Disk, N: Door>(
     // done: the lines of the events and the state were written.
     ensures work_text { command_of (map string_bytes words.now) ≡ Some Work → result ≡ Status.Done → IfSome (S.left input.old) (λ bytes. Appends (O.took out.old) (O.took out.new) (work_text_of bytes)) }
 
+    // In every state of its run in which an agent runs, just the workers run that the plans in force and the counts allow.
+    ensures work_planned { command_of (map string_bytes words.now) ≡ Some Work → IfSome (S.left input.old) (λ bytes. AllPlanned bytes) }
+
     // Named workers over lines that are all good, within the limits, with no fault of input and output, are done, but for want of memory.
     ensures work_complete { command_of (map string_bytes words.now) ≡ Some Work → (bytes : List ℕ) → S.left input.old ≡ Some bytes → (work_run_of bytes).ending ≡ WorkAtEnd
         → (Rose (S.faults input.old) (S.faults input.new) → ⊥) → (Rose (O.faults out.old) (O.faults out.new) → ⊥) → (result ≡ Status.Done) ⊎ (result ≡ Status.OutOfMemory) }
@@ -328,6 +332,7 @@ pub fn fuxi<S: Source, O: Sink, E: Sink, D: Disk, N: Door>(
     starts_with_nothing();
     every_run_loses_only_what_is_credited();
     inputs_are_given();
+    runs_go_as_planned();
     every_judgement_bans_what_is_judged();
     calm_rounds_bring_quiet();
     storms_end_quiet();
