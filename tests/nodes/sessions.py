@@ -1,5 +1,7 @@
 """Inputs of a desk, drawn so that much depends on the order in which the calls of its sessions are taken."""
 
+from collections import Counter
+
 from nodes.frames import ACK, AGENT, APP, END, MASTER
 from nodes.hostile import Draws
 from nodes.packets import DELTA, FULL, Packet, padded, read_frame
@@ -14,6 +16,8 @@ MASTER_HERE = (MASTER, 0, 1)
 # Parties for which one session speaks, so that their changes come in their order; and those for which all do, with two of which nobody knows.
 ALONE = [*((AGENT, machine) for machine in range(4)), *((APP, job) for job in range(12))]
 SHARED = [(AGENT, 4), (AGENT, 5), *((APP, job) for job in range(12, JOBS))] * 4 + [(AGENT, len(HAS)), (APP, 255)]
+# Parties with this number modulo 8 acknowledge their first packets alone, so that all changes are open behind these.
+SILENT = 1
 
 
 def submit_line(job):
@@ -29,12 +33,12 @@ def opening():
 
 
 class Speaker:
-    """A party, with its boot and the place up to which its ledgers were drawn."""
+    """A party, with its boot, the place up to which its ledgers were drawn, and what these gave back."""
 
     def __init__(self, chance, role, number):
         sizes = {(job, unit): padded(size) for job in range(JOBS) for unit, size in enumerate(SIZES[job % 2])}
         self.chance, self.draws = chance, Draws(chance, sizes, len(HAS))
-        self.role, self.number, self.boot, self.index, self.said = role, number, 1, 0, []
+        self.role, self.number, self.boot, self.index, self.given, self.said = role, number, 1, 0, Counter(), []
 
     def call(self):
         """The bytes of its next call: now and then the same again, and now and then none that is a call."""
@@ -46,29 +50,36 @@ class Speaker:
         if draw < 0.12:
             return self.chance.choice(self.said)
         if draw < 0.125:
-            self.boot, self.index = self.boot + 1, 0
+            self.boot, self.index, self.given = self.boot + 1, 0, Counter()
         return self.say(self.next())
 
     def first(self):
-        """What an agent runs as it joins, which is too much now and then; and an application that wants some of its first unit."""
-        job, count = self.chance.randrange(JOBS), self.chance.choice([1, 1, 100])
-        body = (1, {(job, 0, padded(SIZES[job % 2][0])): count}) if self.role == AGENT else (1, {(1, 0, 0): 3})
-        return Packet(FULL, (self.role, self.number, 1), MASTER_HERE, (1, 1), body).frame()
+        """A small demand, and a report that is too much now and then."""
+        return self.report() if self.role == AGENT else self.ledger(1, {(1, 0, 0): 3})
+
+    def report(self):
+        job, count = self.chance.randrange(JOBS), self.chance.choice([0, 1, 1, 100])
+        return self.ledger(self.index + 1, {(job, 0, padded(SIZES[job % 2][0])): count} if count else {})
+
+    def ledger(self, index, entries):
+        return Packet(FULL, (self.role, self.number, self.boot), MASTER_HERE, (self.boot, index), (1, entries)).frame()
 
     def next(self):
-        if self.role == APP and self.chance.random() < 0.5:
-            return self.demand()
+        if self.chance.random() < 0.5:
+            return self.demand() if self.role == APP else self.report()
         sender = (self.role, self.number, max(1, self.boot - (self.chance.random() < 0.05)))
         receiver = (MASTER, 0, self.chance.choice([1] * 10 + [0, 2]))
-        return self.draws.packet(sender, receiver, self.index, self.chance.randrange(2 + len(self.said)), 1)
+        acknowledged = self.chance.randrange(2 + (len(self.said) if self.number % 8 != SILENT else 2))
+        return self.draws.packet(sender, receiver, self.index, acknowledged, 1)
 
     def demand(self):
-        """How many of its units it wants now, of which machines are short; and sometimes which machine it avoids."""
+        """How many of its units it wants now, of which machines are short; what it gave back; and sometimes which machine it avoids."""
         entries = {(1, unit, 0): wanted for unit in range(2) if (wanted := self.chance.choice([0, 1, 2, 4, 9]))}
         if self.chance.random() < 0.2:
             entries[4, 0, self.chance.randrange(len(HAS))] = 1
-        place = (self.boot, self.index + self.chance.choice([1, 1, 1, 3]))
-        return Packet(FULL, (self.role, self.number, self.boot), MASTER_HERE, place, (1, entries)).frame()
+        if self.chance.random() < 0.7:
+            self.given[5, self.chance.randrange(2), self.chance.randrange(len(HAS))] += self.chance.choice([1, 1, 2, 5])
+        return self.ledger(self.index + self.chance.choice([1, 1, 1, 3]), {**entries, **self.given})
 
     def bad(self):
         frame, sender = self.chance.choice(self.said), (self.role, self.number, self.boot)
