@@ -73,6 +73,17 @@ class Master:
             adopted = take(number, side, packet)
         self.end_step(adopted, set())
 
+    def heard_as(self, packet):
+        """Hears a packet, whoever sent it: the words that say as what."""
+        if not self.allows(packet, None):
+            return "stranger"
+        side = self.sides[packet.sender[:2]]
+        fresh, word = "new " if packet.sender[2] > side.known else "", side.word(self.epoch, packet)
+        self.hear(packet)
+        if word == "taken" and side.index != packet.place[1]:
+            word = "exceeds" if packet.sender[0] == AGENT else "ledger"
+        return fresh + word
+
     def kept(self, machine, row):
         """What of a report enters the table."""
         found = {}
@@ -216,9 +227,13 @@ class Master:
         difference = row_change if peer[0] == AGENT else lambda old, new: tally_change(old, new, "grants")
         return [*side.turn(own, other, difference), Packet(END, own, other)]
 
-    def shown(self):
+    def state(self):
+        """Its own lines in a state, behind those of the hard state."""
         epoch = self.epoch
         reported = [f"reported {epoch} {machine}" for machine in sorted(self.reported)]
         grants = [f"grant {epoch} {job} {unit} {machine} {count}" for (job, unit, machine), count in sorted(self.table.items())]
         waits = [f"wait {epoch} {job} {unit} {self.out(job, unit)}" for job, unit in self.line]
-        return [*self.hard.shown(), f"master {epoch} {'serving' if self.serving else 'rebuilding'}", *reported, *grants, *waits]
+        return [f"master {epoch} {'serving' if self.serving else 'rebuilding'}", *reported, *grants, *waits]
+
+    def shown(self):
+        return [*self.hard.shown(), *self.state()]

@@ -29,6 +29,20 @@ class Side:
         index = packet.place[1]
         return self.index < index if packet.kind == FULL else self.index == index - 1
 
+    def word(self, own, packet):
+        """As what a packet to the incarnation `own` of the party is heard, before it is known whether its ledger is refused."""
+        incarnation, index = packet.sender[2], packet.place[1]
+        received = self.index if incarnation == self.known else 0
+        if incarnation < self.known:
+            return "stale"
+        if packet.kind == ACK:
+            return "ack"
+        if packet.receiver[2] != own:
+            return "not-mine"
+        if index <= received:
+            return "old"
+        return "taken" if packet.kind == FULL or index == received + 1 else "gap"
+
     def turn(self, own, peer, difference):
         """The packets that are sent: whole, or as changes, and an acknowledgement."""
         last, packets = len(self.history) - 1, []
