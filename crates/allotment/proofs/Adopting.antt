@@ -19,7 +19,7 @@ use Rattle.fuxi_terms.specs.Tables.{spot, held_on, total_at}
 use Rattle.fuxi_terms.specs.Totals.{total_of}
 use Rattle.fuxi_terms.specs.Vectors.{at_place, is_zero, times}
 use Rattle.fuxi_terms.proofs.Booleans.{both_true, number_is, nat_itself, eq_turned, or_right}
-use Rattle.fuxi_terms.proofs.Counting.{both_true as both, lesser, tied, below_none}
+use Rattle.fuxi_terms.proofs.CountsLemmas.{both_true as both, lesser, tied, below_none}
 use Rattle.fuxi_terms.proofs.KeyOrders.{spot_total, same_spot, row_key_total}
 use Rattle.fuxi_terms.proofs.Lists.{all_at, take_last}
 use Rattle.fuxi_terms.proofs.VectorLaws.{at_place-plus, at_place-times, at_place-padded, same_at_places}

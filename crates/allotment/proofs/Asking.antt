@@ -13,7 +13,7 @@ use Rattle.fuxi_terms.specs.Jobs.{KnownJob, unit_count, job_of}
 use Rattle.fuxi_terms.specs.Keys.{key_cmp}
 use Rattle.fuxi_terms.specs.TallyKeys.{want_key, near_key, rack_key, avoid_key}
 use Rattle.fuxi_terms.proofs.Booleans.{number_is, nat_itself}
-use Rattle.fuxi_terms.proofs.Counting.{tied}
+use Rattle.fuxi_terms.proofs.CountsLemmas.{tied}
 use Rattle.fuxi_terms.proofs.KeyOrders.{same_key}
 use Rattle.written_net.specs.Ledgers.{Ledger, nothing, tally_ledger}
 use Rattle.written_roles.specs.Masters.{Master, asked, demand_of}

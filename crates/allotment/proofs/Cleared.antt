@@ -11,7 +11,7 @@ use Rattle.fuxi_terms.specs.Jobs.{KnownJob, job_of, unit_count}
 use Rattle.fuxi_terms.specs.Keys.{Spot, spot_cmp}
 use Rattle.fuxi_terms.specs.Limits.{greatest_count}
 use Rattle.fuxi_terms.proofs.Booleans.{both_true, number_is}
-use Rattle.fuxi_terms.proofs.Counting.{same_counts, counts-where_key}
+use Rattle.fuxi_terms.proofs.CountsLemmas.{same_counts, counts-where_key}
 use Rattle.fuxi_terms.proofs.KeyOrders.{spot_total, same_spot}
 use Rattle.fuxi_terms.proofs.Spots.{each_found}
 use Rattle.written_roles.specs.Masters.{Master}

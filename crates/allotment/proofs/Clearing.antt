@@ -11,7 +11,7 @@ use Rattle.fuxi_terms.specs.Counts.{count}
 use Rattle.fuxi_terms.specs.Keys.{Spot, spot_cmp}
 use Rattle.fuxi_terms.specs.Tables.{spot, held_on}
 use Rattle.fuxi_terms.proofs.Booleans.{both_true, and_true, number_is, nat_itself, same_tests, and_false}
-use Rattle.fuxi_terms.proofs.Counting.{tied, count-set_count}
+use Rattle.fuxi_terms.proofs.CountsLemmas.{tied, count-set_count}
 use Rattle.fuxi_terms.proofs.KeyOrders.{spot_total, same_spot}
 use Rattle.written_roles.specs.Masters.{Master}
 use Rattle.grant_table.specs.Tables.{TableRecord, AreJobs, as_known, without_count}

@@ -9,7 +9,7 @@ use Rattle.fuxi_terms.specs.Counts.{count, set_count}
 use Rattle.fuxi_terms.specs.Keys.{Spot, spot_cmp}
 use Rattle.fuxi_terms.specs.Tables.{spot, held}
 use Rattle.fuxi_terms.proofs.Booleans.{both_false}
-use Rattle.fuxi_terms.proofs.Counting.{count-set_count}
+use Rattle.fuxi_terms.proofs.CountsLemmas.{count-set_count}
 use Rattle.fuxi_terms.proofs.KeyOrders.{spot_total}
 use Rattle.written_roles.specs.Masters.{Master, out_of}
 use Rattle.written_roles.specs.Placing.{has_pair}

@@ -5,7 +5,7 @@ use Rattle.std.specs.Cmp.{tied_itself}
 use Rattle.fuxi_terms.specs.Counts.{count, set_count, AreCounts}
 use Rattle.fuxi_terms.specs.Keys.{Spot, spot_cmp}
 use Rattle.fuxi_terms.specs.Limits.{greatest_count}
-use Rattle.fuxi_terms.proofs.Counting.{tied, count_le, count-set_count, counts-set_count, same_counts}
+use Rattle.fuxi_terms.proofs.CountsLemmas.{tied, count_le, count-set_count, counts-set_count, same_counts}
 use Rattle.fuxi_terms.proofs.KeyOrders.{spot_total, same_spot}
 use Rattle.grant_table.specs.Tables.{TableRecord, without_count}
 use Rattle.allotment.specs.Allotted.{AllotmentRecord, OnlyTakes}

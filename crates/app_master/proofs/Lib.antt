@@ -1,6 +1,6 @@
 pub mod Numbers
 pub mod Counted
-pub mod Carrying
-pub mod Joining
+pub mod CarriedLemmas
+pub mod AppsLemmas
 pub mod Racks
-pub mod Moving
+pub mod AskingLemmas

@@ -7,7 +7,7 @@ use Rattle.fuxi_terms.specs.Counts.{count, AreCounts}
 use Rattle.fuxi_terms.specs.Limits.{greatest_count, greatest_back}
 use Rattle.fuxi_terms.specs.TallyKeys.{count_key, want_key, near_key, rack_key, avoid_key, back_key, is_place, where_holds, greatest_grant, greatest_demand}
 use Rattle.fuxi_terms.proofs.Booleans.{where_le}
-use Rattle.fuxi_terms.proofs.Counting.{count_le}
+use Rattle.fuxi_terms.proofs.CountsLemmas.{count_le}
 use Rattle.fuxi_terms.proofs.KeyOrders.{key_total, same_key}
 
 pub count_small : (es : List (Key × ℕ)) (u m : ℕ) → AreCounts key_cmp greatest_grant es → count key_cmp es (count_key u m) ≤ greatest_count

@@ -10,7 +10,7 @@ ghost use Rattle.party_ledgers.specs.Packets.{IsFormed};
 ghost use Rattle.party_ledgers.specs.declared.packets.Kind.TheVariants.{End};
 ghost use Rattle.written_roles.specs.Apps.{AppRole, new_app, demands_alone, held_by, usable_by, given_by, app_resynced, names, Wants, WantsNear, WantsInRack, Avoids, GivesBack};
 ghost use Rattle.core_side.specs.Parcels.{role_number, IsSent};
-ghost use Rattle.app_master.specs.Usable.{is_named};
+ghost use Rattle.app_master.specs.Usable.{is_named, usable_in, held_in};
 ghost use Rattle.app_master.specs.Apps.{StandsFor};
 ghost use Rattle.app_master.specs.Commands.{Commands};
 ghost use Rattle.app_master.specs.Hearing.{is_for, HearsAlike, SendsAlike};
@@ -265,7 +265,8 @@ impl AppMaster {
     pub fn held(&self, unit: UnitNo, machine: MachineNo) -> u32
         requires unit { unit.0 < self.now.units }
         requires machine { machine.0 < self.now.machines }
-        ensures { (r : AppRole) → StandsFor self.now r → result ≡ held_by r unit.0 machine.0 }
+        ensures core { result ≡ held_in self.now.up.incoming.received self.now.up.outgoing.present self.now.up.outgoing.own self.now.carried unit.0 machine.0 }
+        ensures alone { (r : AppRole) → StandsFor self.now r → result ≡ held_by r unit.0 machine.0 }
     {
         if self.carried(machine) {
             self.carried.count(unit, machine)
@@ -276,7 +277,8 @@ impl AppMaster {
 
     /// Whether what is held on a machine is carried: the master does not name it as reported.
     pub fn carried(&self, machine: MachineNo) -> bool
-        ensures { (r : AppRole) → StandsFor self.now r → result ≡ not (names r.up.got machine.0) }
+        ensures core { result ≡ not (is_named self.now.up.incoming.received machine.0) }
+        ensures alone { (r : AppRole) → StandsFor self.now r → result ≡ not (names r.up.got machine.0) }
     {
         !is_named(self.up.got(), machine)
     }
@@ -325,6 +327,7 @@ impl AppMaster {
 
     // What may be given back of a unit on a machine.
     fn usable(&self, unit: UnitNo, machine: MachineNo) -> u32
+        ensures core { result ≡ cond (is_named self.now.up.incoming.received machine.0) (usable_in self.now.up.incoming.received self.now.up.outgoing.present self.now.up.outgoing.own unit.0 machine.0) 0 }
         ensures number { (r : AppRole) → StandsFor self.now r → result ≡ usable_by r unit.0 machine.0 }
         ensures within { result ≤ greatest_count }
     {

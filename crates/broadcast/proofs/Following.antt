@@ -18,7 +18,7 @@ use Rattle.fuxi_terms.specs.declared.answers.LedgerFault.TheVariants.{Below, Too
 use Rattle.fuxi_terms.specs.TallyKeys.{reported_key, count_key, credited_key, credited_what, greatest_grant}
 use Rattle.fuxi_terms.proofs.Alls.{all_append, all_mapped, all_filter, all_passed}
 use Rattle.fuxi_terms.proofs.Booleans.{number_is, nat_itself}
-use Rattle.fuxi_terms.proofs.Counting.{counts-where_key, count_where}
+use Rattle.fuxi_terms.proofs.CountsLemmas.{counts-where_key, count_where}
 use Rattle.fuxi_terms.proofs.KeyOrders.{key_total, same_key}
 use Rattle.written_roles.specs.MasterSteps.{count_entries}
 use Rattle.publishing.specs.Setting.{numbers_set, AreNumbers}

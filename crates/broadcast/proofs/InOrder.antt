@@ -13,7 +13,7 @@ use Rattle.fuxi_terms.specs.Keys.{Spot, spot_cmp, key_cmp}
 use Rattle.fuxi_terms.specs.TallyKeys.{reported_key, count_key, greatest_grant}
 use Rattle.fuxi_terms.proofs.Alls.{all_append, all_mapped, all_filter}
 use Rattle.fuxi_terms.proofs.Booleans.{number_is}
-use Rattle.fuxi_terms.proofs.Counting.{both_true}
+use Rattle.fuxi_terms.proofs.CountsLemmas.{both_true}
 use Rattle.schedule_unit.specs.declared.party.MachineNo.{MachineNo}
 use Rattle.written_roles.specs.MasterSteps.{count_entries}
 use Rattle.publishing.specs.Setting.{AreNumbers}

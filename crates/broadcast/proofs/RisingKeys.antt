@@ -10,7 +10,7 @@ use Rattle.std.specs.FinMap.Entries.{below_all, is_sorted}
 use Rattle.fuxi_terms.specs.Jobs.{KnownJob}
 use Rattle.fuxi_terms.specs.Keys.{RowKey, row_cmp, Spot, spot_cmp}
 use Rattle.fuxi_terms.proofs.Booleans.{same_tests}
-use Rattle.fuxi_terms.proofs.Counting.{both_true, lesser, tied}
+use Rattle.fuxi_terms.proofs.CountsLemmas.{both_true, lesser, tied}
 use Rattle.fuxi_terms.proofs.KeyOrders.{row_key_total, same_row_key, spot_total, same_spot}
 use Rattle.written_roles.specs.MasterSteps.{spot_row_key}
 

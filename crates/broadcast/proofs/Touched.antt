@@ -11,7 +11,7 @@ use Rattle.fuxi_terms.specs.Counts.{count}
 use Rattle.fuxi_terms.specs.Jobs.{KnownJob, job_of, unit_count}
 use Rattle.fuxi_terms.specs.Keys.{Spot, spot_cmp}
 use Rattle.fuxi_terms.proofs.Booleans.{both_true as both_are, and_true, and_false}
-use Rattle.fuxi_terms.proofs.Counting.{both_true, tied, count_le}
+use Rattle.fuxi_terms.proofs.CountsLemmas.{both_true, tied, count_le}
 use Rattle.fuxi_terms.proofs.KeyOrders.{spot_total, same_spot}
 use Rattle.fuxi_terms.proofs.Spots.{each_found}
 use Rattle.fuxi_terms.proofs.ValidJobs.{units_valid}

@@ -15,7 +15,7 @@ use Rattle.fuxi_terms.specs.Limits.{greatest_count, most_entries}
 use Rattle.fuxi_terms.specs.Rows.{is_row_key, greatest_row, row_below, row_too_great}
 use Rattle.fuxi_terms.proofs.Alls.{all_more, all_mapped, all_filter, all_passed}
 use Rattle.fuxi_terms.proofs.Booleans.{both_true, number_is, nat_itself, and_false}
-use Rattle.fuxi_terms.proofs.Counting.{tied, count_le, joined_sorted}
+use Rattle.fuxi_terms.proofs.CountsLemmas.{tied, count_le, joined_sorted}
 use Rattle.fuxi_terms.proofs.KeyOrders.{spot_total, same_spot, row_key_total, same_row_key}
 use Rattle.fuxi_terms.proofs.Spots.{each_found}
 use Rattle.written_roles.specs.MasterSteps.{spot_row_key}

@@ -16,7 +16,7 @@ use Rattle.fuxi_terms.specs.Jobs.{KnownJob, job_of, unit_count, unit_of, no_unit
 use Rattle.fuxi_terms.specs.Keys.{RowKey, row_cmp}
 use Rattle.fuxi_terms.specs.Rows.{is_row_key, row_key}
 use Rattle.fuxi_terms.proofs.Booleans.{both_true, and_true, number_is}
-use Rattle.fuxi_terms.proofs.Counting.{both_true as both_parts, lesser}
+use Rattle.fuxi_terms.proofs.CountsLemmas.{both_true as both_parts, lesser}
 use Rattle.fuxi_terms.proofs.KeyOrders.{row_key_total}
 use Rattle.fuxi_terms.proofs.ValidJobs.{job_small, units_valid, units_few}
 use Rattle.grant_table.specs.Tables.{as_known, AreJobs}

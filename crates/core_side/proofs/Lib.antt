@@ -1,3 +1,3 @@
-pub mod Keeping
-pub mod Hearing
-pub mod Sending
+pub mod SidesLemmas
+pub mod HeardAlike
+pub mod SendingLemmas

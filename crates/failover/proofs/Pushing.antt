@@ -17,7 +17,7 @@ use Rattle.fuxi_terms.specs.Limits.{most_entries}
 use Rattle.fuxi_terms.specs.Counts.{count, set_count, then_do, change_one}
 use Rattle.fuxi_terms.specs.Rows.{IsRow, is_row_key, greatest_row, patched_row, within_row, row_below, row_too_great}
 use Rattle.fuxi_terms.proofs.Alls.{all_front, all_back, all_filter}
-use Rattle.fuxi_terms.proofs.Counting.{both_true}
+use Rattle.fuxi_terms.proofs.CountsLemmas.{both_true}
 use Rattle.fuxi_terms.proofs.KeyOrders.{row_key_total}
 use Rattle.fuxi_terms.proofs.Lists.{take_last}
 

@@ -1,6 +1,6 @@
 -- A run that began with no line has taken none.
 use Rattle.std.proofs.Common.{List, ℕ, [], Option, None, Some, IfSome, inl, refl, arith}
-use Rattle.fuxi_terms.proofs.Appending.{appends_none}
+use Rattle.fuxi_terms.proofs.AppendsLemmas.{appends_none}
 use Rattle.fuxi_io.specs.declared.status.Status.TheVariants.{OutOfMemory}
 use Rattle.schedule_run.specs.Runs.{read_from, Ended}
 

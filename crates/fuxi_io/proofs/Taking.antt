@@ -3,7 +3,7 @@ use Rattle.std.proofs.Common.{◌≡◌, ℕ, ◌+◌, ◌<◌, ◌≤◌, List,
 use Rattle.std.proofs.Math.Seq.{take-add}
 use Rattle.std.proofs.lemmas.List.{take_at, drop-drop}
 use Rattle.std.specs.Io.KnownBytes.{Appends}
-use Rattle.fuxi_terms.proofs.Appending.{appends_both}
+use Rattle.fuxi_terms.proofs.AppendsLemmas.{appends_both}
 
 pub appends_more : (a b c : Option (List ℕ)) (bytes : List ℕ) (i n : ℕ) → Appends a b (take i bytes) → Appends b c (take n (drop i bytes)) → Appends a c (take (i + n) bytes)
 appends_more a b c bytes i n h k = subst (Appends a c) (sym (take-add i n bytes)) (appends_both a b c (take i bytes) (take n (drop i bytes)) h k)

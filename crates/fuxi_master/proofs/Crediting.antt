@@ -18,7 +18,7 @@ use Rattle.fuxi_terms.specs.Keys.{key_cmp}
 use Rattle.fuxi_terms.specs.TallyKeys.{credited_key, credited_what, is_back, greatest_grant, greatest_demand}
 use Rattle.fuxi_terms.proofs.Alls.{all_mapped}
 use Rattle.fuxi_terms.proofs.Booleans.{both_true, number_is}
-use Rattle.fuxi_terms.proofs.Counting.{both_true as both_hold, count-set_count, tied, lesser}
+use Rattle.fuxi_terms.proofs.CountsLemmas.{both_true as both_hold, count-set_count, tied, lesser}
 use Rattle.fuxi_terms.proofs.KeyOrders.{key_total, same_key}
 use Rattle.written_roles.specs.MasterSteps.{is_there, raise_credited}
 use Rattle.publishing.specs.Setting.{numbers_set, AreNumbers}

@@ -9,7 +9,7 @@ use Rattle.std.proofs.lemmas.Cmp.{ranked}
 use Rattle.std.proofs.lemmas.Bool.Decides.{nat_tests}
 use Rattle.fuxi_terms.specs.Lists.{numbers_from, below}
 use Rattle.fuxi_terms.specs.Numbers.{has_number}
-use Rattle.fuxi_terms.proofs.Counting.{both_true, lesser}
+use Rattle.fuxi_terms.proofs.CountsLemmas.{both_true, lesser}
 use Rattle.fuxi_terms.proofs.Lists.{one_more}
 use Rattle.fuxi_terms.proofs.Booleans.{number_is}
 

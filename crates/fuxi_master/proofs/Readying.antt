@@ -16,7 +16,7 @@ use Rattle.fuxi_terms.specs.Jobs.{KnownJob, job_of, is_known, unit_count, job_nu
 use Rattle.fuxi_terms.specs.declared.Key.{Key}
 use Rattle.fuxi_terms.specs.Lists.{below}
 use Rattle.fuxi_terms.proofs.Booleans.{both_true, and_true, false_and, or_left, or_right, or_false, number_is, nat_itself, eq_turned}
-use Rattle.fuxi_terms.proofs.Counting.{count-set_count, tied}
+use Rattle.fuxi_terms.proofs.CountsLemmas.{count-set_count, tied}
 use Rattle.fuxi_terms.proofs.KeyOrders.{spot_total, same_spot}
 use Rattle.written_roles.specs.Masters.{Master, asked, out, out_of}
 use Rattle.written_roles.specs.MasterSteps.{phased, ready, settled_if_serving, is_all_reported}

@@ -15,7 +15,7 @@ use Rattle.fuxi_terms.specs.Tables.{spot, without_grants}
 use Rattle.fuxi_terms.specs.TallyKeys.{credited_key, is_back}
 use Rattle.fuxi_terms.proofs.Alls.{all_mapped, all_flat, all_passed}
 use Rattle.fuxi_terms.proofs.Booleans.{both_true, both_false, nat_itself}
-use Rattle.fuxi_terms.proofs.Counting.{count-set_count, tied}
+use Rattle.fuxi_terms.proofs.CountsLemmas.{count-set_count, tied}
 use Rattle.fuxi_terms.proofs.KeyOrders.{spot_total, same_spot}
 use Rattle.written_roles.specs.Masters.{Master}
 use Rattle.written_roles.specs.MasterSteps.{adopted, credit, is_kept}

@@ -2,7 +2,7 @@
 use Rattle.std.proofs.Common.{inl, ◌≡◌, ℕ, ◌≤◌, List, [], ◌++◌, length, Option, None, Some, IfSome, Ok, refl, sym, ◌∙◌, ap, arith, slice_get}
 use Rattle.std.specs.Option.{unwrap_or, option_map}
 use Rattle.std.specs.Io.KnownBytes.{prepend_known}
-use Rattle.fuxi_terms.proofs.Appending.{appends_none}
+use Rattle.fuxi_terms.proofs.AppendsLemmas.{appends_none}
 use Rattle.fuxi_terms.specs.Cluster.{ClusterRecord, MachineRecord, machine_of, no_machine}
 use Rattle.fuxi_terms.specs.Padded.{padded}
 use Rattle.fuxi_io.specs.Reading.{read_ahead}

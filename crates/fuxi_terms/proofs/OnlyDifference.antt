@@ -10,7 +10,7 @@ use Rattle.std.specs.List.{AllByRecursion}
 use Rattle.std.proofs.lemmas.Bool.Decides.{nat_tests}
 use Rattle.std.specs.FinMap.Entries.{below_all, find, is_sorted, is_sorted-put, find-put, same_entries}
 use Rattle.fuxi_terms.specs.Counts.{moved, change_between, is_no_change, count, set_count, set_moved, change_one, then_do, change_all, joined, differences, difference, AreChanges}
-use Rattle.fuxi_terms.proofs.Counting.{both_true, tied, below_none, count-set_count}
+use Rattle.fuxi_terms.proofs.CountsLemmas.{both_true, tied, below_none, count-set_count}
 use Rattle.fuxi_terms.proofs.Booleans.{both_false}
 
 -- what one change says of a number before and after

@@ -11,7 +11,7 @@ use Rattle.fuxi_terms.specs.Tallies.{TallyRecord, ChangeRecord, staying, patched
 use Rattle.std.specs.Prelude.{ℤ}
 use Rattle.fuxi_terms.specs.Patching.{PatchFault, Below, TooGreat, PatchedByDifference, TalliesByDifference}
 use Rattle.fuxi_terms.proofs.KeyOrders.{key_total, same_key}
-use Rattle.fuxi_terms.proofs.Counting.{counts-where_key, difference_law}
+use Rattle.fuxi_terms.proofs.CountsLemmas.{counts-where_key, difference_law}
 use Rattle.fuxi_terms.proofs.OnlyDifference.{only_difference}
 
 pub patched_by_difference : {K : Type 0} {R : K → K → Ordering} → IsTotalOrder R → ((x y : K) → R x y ≡ Equal → x ≡ y) → (greatest : K → ℕ) → PatchedByDifference R greatest

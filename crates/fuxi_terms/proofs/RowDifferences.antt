@@ -9,7 +9,7 @@ use Rattle.std.proofs.lemmas.Bool.Decides.{nat_tests}
 use Rattle.fuxi_terms.specs.Keys.{RowKey, row_cmp}
 use Rattle.fuxi_terms.specs.Counts.{moved, change_between, count, set_count, set_moved, change_one, then_do, change_all, joined, differences, difference, AreCounts, AreChanges}
 use Rattle.fuxi_terms.specs.declared.answers.LedgerFault.{LedgerFault}
-use Rattle.fuxi_terms.proofs.Counting.{both_true, below_none, moved_between, tied, same_counts, count_le, count-set_count, counts-set_count, length-set_count}
+use Rattle.fuxi_terms.proofs.CountsLemmas.{both_true, below_none, moved_between, tied, same_counts, count_le, count-set_count, counts-set_count, length-set_count}
 use Rattle.fuxi_terms.proofs.OnlyDifference.{only_difference}
 use Rattle.fuxi_terms.proofs.KeyOrders.{row_key_total, same_row_key}
 use Rattle.fuxi_terms.specs.Rows.{IsRow, greatest_row, patched_row, change_row_once, within_row, row_below, row_too_great}

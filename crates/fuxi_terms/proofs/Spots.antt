@@ -7,7 +7,7 @@ use Rattle.std.specs.declared.cmp.Ordering.TheVariants.{Less, Equal, Greater}
 use Rattle.std.specs.FinMap.Entries.{by_order, find, put, where_key}
 use Rattle.fuxi_terms.specs.Keys.{Spot, spot_cmp}
 use Rattle.fuxi_terms.specs.Counts.{count, set_count}
-use Rattle.fuxi_terms.proofs.Counting.{tied}
+use Rattle.fuxi_terms.proofs.CountsLemmas.{tied}
 use Rattle.fuxi_terms.proofs.Booleans.{either}
 use Rattle.fuxi_terms.proofs.KeyOrders.{same_spot}
 

@@ -13,7 +13,7 @@ use Rattle.std.proofs.lemmas.Bool.Decides.{nat_tests}
 use Rattle.fuxi_terms.specs.Keys.{Spot, spot_cmp}
 use Rattle.fuxi_terms.specs.Counts.{count, set_count}
 use Rattle.fuxi_terms.specs.Tables.{held}
-use Rattle.fuxi_terms.proofs.Counting.{both_true as both, find_below_head, tied, below_none}
+use Rattle.fuxi_terms.proofs.CountsLemmas.{both_true as both, find_below_head, tied, below_none}
 use Rattle.fuxi_terms.proofs.Booleans.{number_is}
 use Rattle.fuxi_terms.proofs.KeyOrders.{spot_total, same_spot}
 

@@ -13,7 +13,7 @@ use Rattle.fuxi_terms.specs.Cluster.{ClusterRecord, JobRecord, UnitRecord, is_va
 use Rattle.fuxi_terms.specs.Limits.{greatest_count}
 use Rattle.fuxi_terms.specs.Vectors.{at_place}
 use Rattle.fuxi_terms.specs.Keys.{Spot}
-use Rattle.fuxi_terms.proofs.Counting.{same_counts}
+use Rattle.fuxi_terms.proofs.CountsLemmas.{same_counts}
 use Rattle.fuxi_terms.specs.Jobs.{KnownJob, job_numbers, job_of, is_known, unit_count, no_unit}
 use Rattle.fuxi_terms.specs.Numbers.{with_number}
 use Rattle.fuxi_terms.specs.Tables.{held, held_in, total_at, usage_at}

@@ -5,7 +5,7 @@ use Rattle.std.specs.Cmp.{tied_itself}
 use Rattle.fuxi_terms.specs.Limits.{greatest_count}
 use Rattle.fuxi_terms.specs.Keys.{Spot, spot_cmp}
 use Rattle.fuxi_terms.specs.Counts.{count, set_count, AreCounts}
-use Rattle.fuxi_terms.proofs.Counting.{tied, count-set_count, counts-set_count, same_counts}
+use Rattle.fuxi_terms.proofs.CountsLemmas.{tied, count-set_count, counts-set_count, same_counts}
 use Rattle.fuxi_terms.specs.Tables.{spot}
 use Rattle.fuxi_terms.proofs.KeyOrders.{spot_total, same_spot}
 use Rattle.grant_table.specs.Nested.{counts_into, units_into, jobs_into, entries_of, count_at}

@@ -7,7 +7,7 @@ use Rattle.std.proofs.lemmas.Bool.Decides.{nat_tests}
 use Rattle.std.proofs.lemmas.List.Elements.{All-head, All-tail, filter-append}
 use Rattle.std.proofs.lemmas.List.Folds.{concat-append}
 use Rattle.std.proofs.Math.Seq.{take-append_seam, take-length}
-use Rattle.fuxi_terms.proofs.Appending.{appends_both}
+use Rattle.fuxi_terms.proofs.AppendsLemmas.{appends_both}
 use Rattle.fuxi_io.specs.Lines.{InputLine, lines_of, onto_first, bytes_of, BreaksOff, GivesKnown, IsFirst}
 use Rattle.fuxi_io.specs.Pieces.{NoNewline}
 use Rattle.fuxi_io.specs.declared.lines.Got.TheVariants.{Line, End}

@@ -1,6 +1,6 @@
-pub mod Searching
-pub mod Placing
-pub mod Keeping
-pub mod Numbering
-pub mod Rising
-pub mod Refusing
+pub mod SearchFinds
+pub mod PlacesLemmas
+pub mod KeptUnder
+pub mod FormsLemmas
+pub mod KeysRise
+pub mod NoForm

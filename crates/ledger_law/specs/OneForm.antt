@@ -16,7 +16,7 @@ use Rattle.std.specs.FinMap.Entries.{below_all, is_sorted}
 use Rattle.fuxi_terms.specs.declared.Key.{Key}
 use Rattle.fuxi_terms.specs.Keys.{key_cmp}
 use Rattle.fuxi_terms.specs.Counts.{AreCounts, is_no_change}
-use Rattle.fuxi_terms.proofs.Counting.{both_true, lesser}
+use Rattle.fuxi_terms.proofs.CountsLemmas.{both_true, lesser}
 use Rattle.fuxi_terms.specs.Tallies.{TallyRecord, ChangeRecord}
 use Rattle.ledger_law.specs.Forms.{counted, number_entry, change_entry, IsNumberEntry, IsChangeEntry, tally_form, change_form}
 use Rattle.ledger_law.specs.Shapes.{IsWritable, IsTally, IsChange, AreChangesWithin}

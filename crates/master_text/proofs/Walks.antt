@@ -13,7 +13,7 @@ use Rattle.std.proofs.lemmas.List.Folds.{list_any-append}
 use Rattle.fuxi_terms.specs.Lists.{below}
 use Rattle.fuxi_terms.proofs.Alls.{all_append}
 use Rattle.fuxi_terms.proofs.Booleans.{or_left, or_right, eq_turned}
-use Rattle.fuxi_terms.proofs.Counting.{both_true, lesser, find_below_head}
+use Rattle.fuxi_terms.proofs.CountsLemmas.{both_true, lesser, find_below_head}
 use Rattle.fuxi_terms.specs.Jobs.{KnownJob, job_of, is_known, job_numbers}
 use Rattle.fuxi_terms.specs.Numbers.{has_number}
 use Rattle.written_roles.specs.Refusals.{with_found}

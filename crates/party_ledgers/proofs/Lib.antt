@@ -1,5 +1,5 @@
-pub mod Patching
+pub mod PatchedRow
 pub mod Sizes
-pub mod RowReading
+pub mod NoRowForm
 pub mod Totals
 pub mod TotalAfter

@@ -16,16 +16,16 @@ use Rattle.fuxi_terms.specs.Totals.{total_of}
 use Rattle.fuxi_terms.specs.Vectors.{plus, minus, times, fits, at_place}
 use Rattle.fuxi_terms.specs.declared.answers.LedgerFault.{LedgerFault}
 use Rattle.fuxi_terms.proofs.Booleans.{number_is}
-use Rattle.fuxi_terms.proofs.Counting.{both_true, tied, below_none, count-set_count}
+use Rattle.fuxi_terms.proofs.CountsLemmas.{both_true, tied, below_none, count-set_count}
 use Rattle.fuxi_terms.proofs.KeyOrders.{row_key_total, same_row_key}
 use Rattle.fuxi_terms.proofs.Sums.{sum_put_exact}
 use Rattle.fuxi_terms.proofs.ByPlace.{length-plus, length-minus, length-times}
 use Rattle.fuxi_terms.proofs.VectorLaws.{at_place-plus, at_place-minus, at_place-times, at_place-padded, same_at_places, fits_places, length-padded}
 use Rattle.party_ledgers.specs.RowOneForm.{row_entries}
 use Rattle.party_ledgers.proofs.Totals.{sized, total_long, total_fits}
-use Rattle.party_ledgers.proofs.Patching.{differs, row_made_once, count_small}
+use Rattle.party_ledgers.proofs.PatchedRow.{differs, row_made_once, count_small}
 use Rattle.party_ledgers.specs.Weighing.{total_moved}
-use Rattle.fuxi_terms.proofs.Making.{can_move}
+use Rattle.fuxi_terms.proofs.ChangesInTurn.{can_move}
 
 abbrev Entries : Type 0
 Entries = List (RowKey × ℕ)

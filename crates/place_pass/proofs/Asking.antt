@@ -7,7 +7,7 @@ use Rattle.fuxi_terms.specs.Cluster.{ClusterRecord, UnitRecord, has_rack}
 use Rattle.fuxi_terms.specs.declared.Key.{Key}
 use Rattle.fuxi_terms.specs.Keys.{key_cmp}
 use Rattle.fuxi_terms.specs.Counts.{count, AreCounts}
-use Rattle.fuxi_terms.proofs.Counting.{count_le}
+use Rattle.fuxi_terms.proofs.CountsLemmas.{count_le}
 use Rattle.fuxi_terms.specs.TallyKeys.{greatest_demand, is_place, where_holds, key}
 use Rattle.fuxi_terms.specs.Jobs.{no_unit}
 use Rattle.place_pass.specs.Cells.{Cell, AreWishes, IsWish, fresh_cell, fresh_cells, no_cell, taken, taken_all}

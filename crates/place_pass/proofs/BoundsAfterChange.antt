@@ -11,7 +11,7 @@ use Rattle.fuxi_terms.specs.Keys.{Spot, spot_cmp}
 use Rattle.fuxi_terms.specs.Tables.{spot, held_on, held_in, total_by, usage_by}
 use Rattle.fuxi_terms.specs.TallyKeys.{near_key, rack_key}
 use Rattle.fuxi_terms.proofs.Booleans.{both_true, and_true, number_is}
-use Rattle.fuxi_terms.proofs.Counting.{tied, count-set_count}
+use Rattle.fuxi_terms.proofs.CountsLemmas.{tied, count-set_count}
 use Rattle.fuxi_terms.proofs.KeyOrders.{spot_total, same_spot}
 use Rattle.fuxi_terms.proofs.Members.{each_place, each_from}
 use Rattle.fuxi_terms.proofs.Sums.{sum_set}

@@ -19,7 +19,7 @@ use Rattle.fuxi_terms.specs.Numbers.{has_number}
 use Rattle.fuxi_terms.specs.Tables.{spot, held}
 use Rattle.fuxi_terms.proofs.Alls.{all_more}
 use Rattle.fuxi_terms.proofs.Booleans.{number_is, nat_itself, both_true, eq_turned, and_false}
-use Rattle.fuxi_terms.proofs.Counting.{count_le}
+use Rattle.fuxi_terms.proofs.CountsLemmas.{count_le}
 use Rattle.fuxi_terms.proofs.KeyOrders.{key_total, same_key}
 use Rattle.fuxi_terms.proofs.Sums.{sum_set}
 use Rattle.written_roles.specs.Masters.{out_of}

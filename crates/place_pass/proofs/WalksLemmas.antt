@@ -13,7 +13,7 @@ use Rattle.fuxi_terms.specs.declared.Key.{Key}
 use Rattle.fuxi_terms.specs.Keys.{key_cmp}
 use Rattle.fuxi_terms.specs.Lists.{below}
 use Rattle.fuxi_terms.specs.TallyKeys.{key}
-use Rattle.fuxi_terms.proofs.Counting.{both_true, find_below_head}
+use Rattle.fuxi_terms.proofs.CountsLemmas.{both_true, find_below_head}
 use Rattle.fuxi_terms.proofs.KeyOrders.{key_total, same_key}
 use Rattle.place_pass.specs.Walks.{IsPast}
 use Rattle.place_pass.proofs.BoundsLemmas.{is_less}

@@ -17,7 +17,7 @@ use Rattle.fuxi_terms.specs.Tables.{spot, held_on, total_at, without_grants}
 use Rattle.fuxi_terms.proofs.Alls.{all_more}
 use Rattle.fuxi_terms.proofs.Booleans.{both_true, and_true, number_is, nat_itself}
 use Rattle.fuxi_terms.proofs.ByPlace.{at_place-get_or}
-use Rattle.fuxi_terms.proofs.Counting.{tied, count-set_count, counts-set_count, same_counts, count_le}
+use Rattle.fuxi_terms.proofs.CountsLemmas.{tied, count-set_count, counts-set_count, same_counts, count_le}
 use Rattle.fuxi_terms.proofs.KeyOrders.{spot_total, same_spot}
 use Rattle.fuxi_terms.proofs.Members.{each_place}
 use Rattle.fuxi_terms.proofs.Sums.{sum_set}

@@ -14,8 +14,8 @@ use Rattle.fuxi_terms.specs.Limits.{greatest_count}
 use Rattle.fuxi_terms.specs.Tables.{spot, held_on}
 use Rattle.fuxi_terms.proofs.Alls.{all_more}
 use Rattle.fuxi_terms.proofs.Booleans.{both_true, and_true, number_is, nat_itself}
-use Rattle.fuxi_terms.proofs.Changing.{both}
-use Rattle.fuxi_terms.proofs.Counting.{tied, same_counts, counts-where_key, count_le}
+use Rattle.fuxi_terms.proofs.OneChangeMore.{both}
+use Rattle.fuxi_terms.proofs.CountsLemmas.{tied, same_counts, counts-where_key, count_le}
 use Rattle.fuxi_terms.proofs.KeyOrders.{spot_total, same_spot}
 use Rattle.written_roles.specs.Placing.{has_pair}
 use Rattle.preempt.specs.Walks.{entry_on}

@@ -12,7 +12,7 @@ use Rattle.fuxi_terms.specs.Jobs.{KnownJob}
 use Rattle.fuxi_terms.specs.Keys.{RowKey, row_cmp, Spot, spot_cmp}
 use Rattle.fuxi_terms.specs.Rows.{greatest_row}
 use Rattle.fuxi_terms.proofs.Booleans.{same_tests, number_is, nat_itself}
-use Rattle.fuxi_terms.proofs.Counting.{both_true, tied, below_none, same_counts, count-set_count}
+use Rattle.fuxi_terms.proofs.CountsLemmas.{both_true, tied, below_none, same_counts, count-set_count}
 use Rattle.fuxi_terms.proofs.KeyOrders.{row_key_total, same_row_key, spot_total, same_spot}
 use Rattle.written_roles.specs.MasterSteps.{spot_row_key}
 use Rattle.publishing.specs.Setting.{numbers_set, AreNumbers, IsSetTo}

@@ -15,7 +15,7 @@ use Rattle.fuxi_terms.specs.Numbers.{has_number}
 use Rattle.fuxi_terms.specs.Tables.{spot}
 use Rattle.fuxi_terms.specs.TallyKeys.{reported_key, count_key, credited_key, greatest_grant}
 use Rattle.fuxi_terms.proofs.Booleans.{both_true, same_tests, number_is, nat_itself}
-use Rattle.fuxi_terms.proofs.Counting.{tied, count_le}
+use Rattle.fuxi_terms.proofs.CountsLemmas.{tied, count_le}
 use Rattle.fuxi_terms.proofs.KeyOrders.{key_total, same_key, spot_total, same_spot}
 use Rattle.written_roles.specs.MasterSteps.{count_entries}
 use Rattle.publishing.specs.Setting.{numbers_set, AreNumbers}

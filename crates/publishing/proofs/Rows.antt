@@ -11,7 +11,7 @@ use Rattle.fuxi_terms.specs.Limits.{most_entries}
 use Rattle.fuxi_terms.specs.Counts.{change_between, count, set_count, then_do, joined, AreCounts}
 use Rattle.fuxi_terms.specs.Rows.{IsRow, AreRowChanges, is_row_key, greatest_row, patched_row, change_row_once, within_row, row_below, row_too_great}
 use Rattle.fuxi_terms.proofs.Booleans.{number_is, or_right}
-use Rattle.fuxi_terms.proofs.Counting.{both_true, count_le, count-set_count, counts-set_count, in_joined}
+use Rattle.fuxi_terms.proofs.CountsLemmas.{both_true, count_le, count-set_count, counts-set_count, in_joined}
 use Rattle.fuxi_terms.proofs.KeyOrders.{row_key_total, same_row_key}
 use Rattle.fuxi_terms.proofs.RowDifferences.{few_of, counted_has}
 use Rattle.party_ledgers.specs.Differing.{row_by_difference}

@@ -9,7 +9,7 @@ use Rattle.fuxi_terms.specs.Counts.{count, then_do, difference, AreCounts, AreCh
 use Rattle.fuxi_terms.specs.Tallies.{TallyRecord, ChangeRecord, patched_tally, tally_difference, staying}
 use Rattle.fuxi_terms.specs.TallyKeys.{greatest_grant, credited_what}
 use Rattle.fuxi_terms.proofs.Booleans.{nat_itself}
-use Rattle.fuxi_terms.proofs.Counting.{counts-where_key, count_le, count_where}
+use Rattle.fuxi_terms.proofs.CountsLemmas.{counts-where_key, count_le, count_where}
 use Rattle.fuxi_terms.proofs.KeyOrders.{key_total, same_key}
 use Rattle.ledger_law.specs.Differing.{tally_by_difference}
 use Rattle.ledger_law.specs.Shapes.{IsTally, IsChange}

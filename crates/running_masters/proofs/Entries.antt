@@ -11,7 +11,7 @@ use Rattle.std.specs.FinMap.Entries.{by_order, below_all, put, where_key, find, 
 use Rattle.std.proofs.lemmas.List.{length-map}
 use Rattle.std.proofs.lemmas.Option.{slice_get-get_or}
 use Rattle.fuxi_terms.proofs.Booleans.{nat_itself, number_is, eq_turned}
-use Rattle.fuxi_terms.proofs.Counting.{both_true, lesser, find_below_head}
+use Rattle.fuxi_terms.proofs.CountsLemmas.{both_true, lesser, find_below_head}
 use Rattle.running_masters.specs.Running.{epochs_of}
 
 -- an entry is what it is at each place of it

@@ -8,7 +8,7 @@ use Rattle.std.specs.FinMap.Entries.{find, is_sorted, below_all}
 use Rattle.std.proofs.lemmas.Bool.Decides.{nat_tests}
 use Rattle.fuxi_terms.specs.Lists.{below}
 use Rattle.fuxi_terms.proofs.Booleans.{and_true, false_and, false_right, number_is}
-use Rattle.fuxi_terms.proofs.Counting.{both_true, below_none}
+use Rattle.fuxi_terms.proofs.CountsLemmas.{both_true, below_none}
 use Rattle.written_roles.specs.Refusals.{with_found}
 
 all_append : (p : ℕ → Bool) (xs : List ℕ) (y : ℕ) → list_all p (xs ++ y ∷ []) ≡ (list_all p xs && p y)

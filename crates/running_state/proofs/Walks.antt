@@ -8,7 +8,7 @@ use Rattle.std.specs.FinMap.Entries.{find, is_sorted, below_all}
 use Rattle.std.proofs.lemmas.Bool.Decides.{nat_tests}
 use Rattle.std.proofs.lemmas.List.Concat.{flat_map-append}
 use Rattle.fuxi_terms.specs.Lists.{below}
-use Rattle.fuxi_terms.proofs.Counting.{both_true, lesser}
+use Rattle.fuxi_terms.proofs.CountsLemmas.{both_true, lesser}
 use Rattle.written_roles.specs.Refusals.{with_found}
 
 left_over : {X : Type 0} (b : Bool) (x : X) (o : Option X) → cond b (Some x) o ≡ None → o ≡ None

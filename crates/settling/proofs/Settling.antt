@@ -13,7 +13,7 @@ use Rattle.fuxi_terms.specs.Keys.{Spot, spot_cmp}
 use Rattle.fuxi_terms.specs.TallyKeys.{want_key}
 use Rattle.fuxi_terms.specs.Tables.{held, with_grant}
 use Rattle.fuxi_terms.proofs.Booleans.{both_true, both_false}
-use Rattle.fuxi_terms.proofs.Counting.{count-set_count}
+use Rattle.fuxi_terms.proofs.CountsLemmas.{count-set_count}
 use Rattle.fuxi_terms.proofs.KeyOrders.{spot_total}
 use Rattle.written_roles.specs.Masters.{Master, out_of}
 use Rattle.written_roles.specs.Placing.{first_in, has_pair, granted, settled}

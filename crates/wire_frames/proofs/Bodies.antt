@@ -15,7 +15,7 @@ use Rattle.fuxi_terms.specs.Counts.{AreCounts, is_no_change}
 use Rattle.fuxi_terms.specs.Keys.{RowKey}
 use Rattle.fuxi_terms.specs.Rows.{IsRow}
 use Rattle.fuxi_terms.specs.TallyKeys.{greatest_grant, greatest_demand}
-use Rattle.fuxi_terms.proofs.Counting.{both_true, lesser}
+use Rattle.fuxi_terms.proofs.CountsLemmas.{both_true, lesser}
 use Rattle.ledger_law.specs.Forms.{number_entry, change_entry, IsNumberEntry, IsChangeEntry}
 use Rattle.ledger_law.specs.OneForm.{number_wide, change_wide, number_entries, change_entries}
 use Rattle.ledger_law.specs.Shapes.{IsWritable, AreChangesWithin}

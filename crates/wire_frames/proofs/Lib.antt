@@ -1,11 +1,11 @@
-pub mod Joining
+pub mod PartsInTurn
 pub mod Bodies
-pub mod Framing
+pub mod FramesLemmas
 pub mod Parts
 pub mod Found
 pub mod Framed
 pub mod Refused
 pub mod OneBody
-pub mod OneReading
+pub mod ReadingIsOne
 pub mod MoreBytes
-pub mod Splitting
+pub mod StreamsLemmas

@@ -10,7 +10,7 @@ use Rattle.fuxi_terms.specs.Counts.{AreCounts, AreChanges, change_all, then_do, 
 use Rattle.fuxi_terms.specs.Keys.{key_cmp}
 use Rattle.fuxi_terms.specs.Tallies.{TallyRecord, ChangeRecord, staying, tally_difference}
 use Rattle.fuxi_terms.proofs.Booleans.{nat_itself}
-use Rattle.fuxi_terms.proofs.Counting.{count_le}
+use Rattle.fuxi_terms.proofs.CountsLemmas.{count_le}
 use Rattle.fuxi_terms.proofs.KeyOrders.{key_total, same_key}
 use Rattle.fuxi_terms.proofs.SameEntries.{same_entries, same_itself}
 use Rattle.ledger_law.specs.Differing.{tally_by_difference}

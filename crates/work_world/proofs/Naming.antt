@@ -21,7 +21,7 @@ use Rattle.fuxi_terms.specs.Lists.{below}
 use Rattle.fuxi_terms.specs.Numbers.{has_number}
 use Rattle.fuxi_terms.proofs.Alls.{all_append, all_more}
 use Rattle.fuxi_terms.proofs.Booleans.{number_is, nat_itself, both_true, same_tests, or_false}
-use Rattle.fuxi_terms.proofs.Counting.{tied, lesser, count-set_count, counts-set_count, count_le, same_counts}
+use Rattle.fuxi_terms.proofs.CountsLemmas.{tied, lesser, count-set_count, counts-set_count, count_le, same_counts}
 use Rattle.fuxi_terms.proofs.KeyOrders.{key_total, same_key}
 use Rattle.work_plan.specs.Crews.{Marks}
 use Rattle.work_plan.specs.Plans.{greatest_named, most_workers, worker_key}

@@ -35,7 +35,7 @@ use Rattle.written_world.specs.Good.{Good, IsOfJob, NamesJobs, IsNarrow, IsJob, 
 use Rattle.fuxi_terms.proofs.Alls.{all_more}
 use Rattle.fuxi_terms.proofs.Lists.{all_at}
 use Rattle.fuxi_terms.proofs.Booleans.{both_true, and_true, number_is}
-use Rattle.fuxi_terms.proofs.Counting.{both_true as both, lesser}
+use Rattle.fuxi_terms.proofs.CountsLemmas.{both_true as both, lesser}
 use Rattle.fuxi_terms.proofs.KeyOrders.{row_key_total}
 use Rattle.fuxi_terms.proofs.VectorLaws.{fits_places, fits-padded, at_place-plus, at_place-times}
 use Rattle.written_world.proofs.CountsLemmas.{counts_wider}

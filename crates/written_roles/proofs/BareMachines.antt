@@ -10,7 +10,7 @@ use Rattle.fuxi_terms.specs.Keys.{Spot, spot_cmp}
 use Rattle.fuxi_terms.specs.Numbers.{has_number, with_number}
 use Rattle.fuxi_terms.specs.Tables.{spot, with_grant, without_grants}
 use Rattle.fuxi_terms.proofs.Booleans.{both_true, either, number_is}
-use Rattle.fuxi_terms.proofs.Counting.{tied}
+use Rattle.fuxi_terms.proofs.CountsLemmas.{tied}
 use Rattle.fuxi_terms.proofs.KeyOrders.{same_spot}
 use Rattle.written_net.specs.Net.{Id}
 use Rattle.written_net.specs.Ledgers.{Ledger, nothing}

@@ -16,7 +16,7 @@ use Rattle.fuxi_terms.specs.Numbers.{has_number}
 use Rattle.fuxi_terms.specs.TallyKeys.{want_key, avoid_key}
 use Rattle.fuxi_terms.specs.Tables.{spot, held, held_on, usage_by, usage_at, with_grant, without_grants}
 use Rattle.fuxi_terms.proofs.Booleans.{both_true, either, number_is, or_left, nat_itself}
-use Rattle.fuxi_terms.proofs.Counting.{tied, count-set_count}
+use Rattle.fuxi_terms.proofs.CountsLemmas.{tied, count-set_count}
 use Rattle.fuxi_terms.proofs.KeyOrders.{spot_total, same_spot, same_key}
 use Rattle.fuxi_terms.proofs.Lists.{all_at}
 use Rattle.fuxi_terms.proofs.Members.{in_each_is}

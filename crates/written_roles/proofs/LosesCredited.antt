@@ -15,7 +15,7 @@ use Rattle.fuxi_terms.specs.Numbers.{has_number}
 use Rattle.fuxi_terms.specs.TallyKeys.{credited_key, back_key, is_back}
 use Rattle.fuxi_terms.specs.Tables.{spot, held_on}
 use Rattle.fuxi_terms.proofs.Booleans.{both_true, either, number_is}
-use Rattle.fuxi_terms.proofs.Counting.{both_true as both, tied, below_none, count-set_count}
+use Rattle.fuxi_terms.proofs.CountsLemmas.{both_true as both, tied, below_none, count-set_count}
 use Rattle.fuxi_terms.proofs.KeyOrders.{key_total, same_key, spot_total, same_spot}
 use Rattle.written_net.specs.Net.{Id}
 use Rattle.written_net.specs.Ledgers.{Ledger, nothing}

@@ -10,7 +10,7 @@ use Rattle.std.proofs.lemmas.List.Sums.{sum_by-cons, sum_by-append}
 use Rattle.fuxi_terms.specs.Cluster.{ClusterRecord, has_at, in_each_place}
 use Rattle.fuxi_terms.specs.Keys.{Spot, spot_cmp}
 use Rattle.fuxi_terms.specs.Counts.{count}
-use Rattle.fuxi_terms.proofs.Counting.{both_true as both, tied, below_none}
+use Rattle.fuxi_terms.proofs.CountsLemmas.{both_true as both, tied, below_none}
 use Rattle.fuxi_terms.specs.Jobs.{KnownJob, size_at}
 use Rattle.written_roles.specs.Masters.{Master}
 use Rattle.written_roles.specs.Preemption.{goes_before, put_grant, in_walk_order, so_many, walk, is_enough, may_take, taken_of, without_one, needed_of, is_some_set, victims, Plan, first_plan, set_at_place}

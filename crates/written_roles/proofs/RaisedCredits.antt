@@ -11,7 +11,7 @@ use Rattle.fuxi_terms.specs.Keys.{key_cmp}
 use Rattle.fuxi_terms.specs.Counts.{count}
 use Rattle.fuxi_terms.specs.TallyKeys.{credited_key, back_key, is_back}
 use Rattle.fuxi_terms.proofs.Booleans.{both_true, either, number_is}
-use Rattle.fuxi_terms.proofs.Counting.{both_true as both, tied, below_none}
+use Rattle.fuxi_terms.proofs.CountsLemmas.{both_true as both, tied, below_none}
 use Rattle.fuxi_terms.proofs.KeyOrders.{key_total, same_key}
 use Rattle.written_roles.specs.MasterSteps.{raise_credited}
 

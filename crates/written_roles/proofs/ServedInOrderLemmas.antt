@@ -17,7 +17,7 @@ use Rattle.fuxi_terms.specs.TallyKeys.{avoid_key}
 use Rattle.fuxi_terms.specs.Tables.{spot, held_on}
 use Rattle.fuxi_terms.proofs.Alls.{all_append, all_filter, all_passed, all_mapped, all_more}
 use Rattle.fuxi_terms.proofs.Booleans.{both_true, both_false, and_true, number_is, nat_itself}
-use Rattle.fuxi_terms.proofs.Counting.{tied}
+use Rattle.fuxi_terms.proofs.CountsLemmas.{tied}
 use Rattle.fuxi_terms.proofs.KeyOrders.{same_spot}
 use Rattle.fuxi_terms.proofs.Members.{In, in_below}
 use Rattle.written_roles.specs.Masters.{Master, asked, avoids}

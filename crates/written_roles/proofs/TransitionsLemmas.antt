@@ -16,7 +16,7 @@ use Rattle.fuxi_terms.specs.TallyKeys.{credited_key, is_back}
 use Rattle.fuxi_terms.specs.Tables.{spot, with_grant, without_grants}
 use Rattle.fuxi_terms.proofs.Alls.{all_mapped, all_more}
 use Rattle.fuxi_terms.proofs.Booleans.{either, not_false}
-use Rattle.fuxi_terms.proofs.Counting.{count_where, count-set_count, tied}
+use Rattle.fuxi_terms.proofs.CountsLemmas.{count_where, count-set_count, tied}
 use Rattle.fuxi_terms.proofs.KeyOrders.{spot_total, same_spot}
 use Rattle.written_net.specs.Net.{Id}
 use Rattle.written_net.specs.Ledgers.{Ledger}

@@ -12,7 +12,7 @@ use Rattle.fuxi_terms.specs.Limits.{most_units}
 use Rattle.fuxi_terms.specs.Numbers.{has_number}
 use Rattle.fuxi_terms.specs.Tallies.{TallyRecord, empty_tally}
 use Rattle.fuxi_terms.proofs.Booleans.{both_true, number_is, nat_itself}
-use Rattle.fuxi_terms.proofs.Counting.{counts-set_count}
+use Rattle.fuxi_terms.proofs.CountsLemmas.{counts-set_count}
 use Rattle.fuxi_terms.proofs.KeyOrders.{key_total, same_key}
 use Rattle.fuxi_terms.proofs.Lists.{all_push}
 use Rattle.fuxi_terms.proofs.SameEntries.{same_entries}

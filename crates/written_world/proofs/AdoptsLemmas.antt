@@ -17,7 +17,7 @@ use Rattle.fuxi_terms.specs.Vectors.{fits}
 use Rattle.fuxi_terms.proofs.Alls.{all_more}
 use Rattle.fuxi_terms.proofs.VectorLaws.{fits_places}
 use Rattle.fuxi_terms.proofs.Booleans.{and_true, both_true, either}
-use Rattle.fuxi_terms.proofs.Counting.{both_true as both, tied, below_none}
+use Rattle.fuxi_terms.proofs.CountsLemmas.{both_true as both, tied, below_none}
 use Rattle.fuxi_terms.proofs.KeyOrders.{spot_total, same_spot, row_key_total}
 use Rattle.written_net.specs.Net.{Id, Packet, at_index, heard_of, is_taken}
 use Rattle.written_net.specs.Ledgers.{nothing}

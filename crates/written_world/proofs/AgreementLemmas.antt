@@ -12,7 +12,7 @@ use Rattle.std.specs.FinMap.Entries.{find, below_all, is_sorted}
 use Rattle.std.proofs.lemmas.Bool.Decides.{nat_tests}
 use Rattle.std.proofs.lemmas.List.Sums.{sum_by-cons}
 use Rattle.fuxi_terms.specs.Keys.{key_cmp, RowKey, Spot, spot_cmp}
-use Rattle.fuxi_terms.proofs.Counting.{both_true as both, tied, below_none}
+use Rattle.fuxi_terms.proofs.CountsLemmas.{both_true as both, tied, below_none}
 use Rattle.written_net.specs.Net.{Net, Party, last}
 use Rattle.written_net.specs.Ledgers.{Ledger, at_key}
 use Rattle.fuxi_terms.specs.TallyKeys.{reported_key, count_key, credited_key, back_key}

@@ -9,7 +9,7 @@ use Rattle.std.specs.declared.cmp.Ordering.TheVariants.{Less, Equal}
 use Rattle.std.specs.FinMap.Entries.{below_all, is_sorted, put, where_key}
 use Rattle.std.proofs.lemmas.Bool.Decides.{nat_tests}
 use Rattle.fuxi_terms.specs.Counts.{AreCounts}
-use Rattle.fuxi_terms.proofs.Counting.{both_true as both, lesser, counts-set_count}
+use Rattle.fuxi_terms.proofs.CountsLemmas.{both_true as both, lesser, counts-set_count}
 use Rattle.fuxi_terms.proofs.Alls.{all_append}
 
 pub and_both : (a b : Bool) → T a → T b → T (a && b)

@@ -8,7 +8,7 @@ use Rattle.std.proofs.lemmas.Bool.Decides.{nat_tests}
 use Rattle.fuxi_terms.specs.declared.Key.{Key}
 use Rattle.fuxi_terms.specs.Cluster.{ClusterRecord, has_rack, has_machine}
 use Rattle.fuxi_terms.specs.Keys.{key_cmp}
-use Rattle.fuxi_terms.proofs.Counting.{tied, count-set_count, counts-set_count, counts-where_key}
+use Rattle.fuxi_terms.proofs.CountsLemmas.{tied, count-set_count, counts-set_count, counts-where_key}
 use Rattle.written_net.specs.Net.{Net, Party, Id, set_at, same_id, Posts, move, at_index}
 use Rattle.written_net.specs.Ledgers.{Ledger, nothing, same_ledger, at_key}
 use Rattle.written_world.specs.Good.{greatest_in_demand, BacksRise, IsRanged, IsTidy, DemandsHold, KnowsMore, StartsAnew}

@@ -18,7 +18,7 @@ use Rattle.fuxi_terms.specs.Numbers.{without_number}
 use Rattle.fuxi_terms.specs.TallyKeys.{credited_key, back_key}
 use Rattle.fuxi_terms.proofs.Alls.{all_append, all_back, all_map, all_mapped}
 use Rattle.fuxi_terms.proofs.Booleans.{both_true, either, number_is}
-use Rattle.fuxi_terms.proofs.Counting.{tied, count-set_count}
+use Rattle.fuxi_terms.proofs.CountsLemmas.{tied, count-set_count}
 use Rattle.fuxi_terms.proofs.KeyOrders.{key_total, same_key}
 use Rattle.written_net.specs.Net.{Net, Party, Id, Link, Packet, Heard, last, at_index, heard_of, is_taken, comes, move, Starts, met, word_of, unmoved, hear, hear_peer, same_id, set_at}
 use Rattle.written_net.specs.Ledgers.{Ledger, nothing, at_key}

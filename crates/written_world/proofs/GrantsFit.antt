@@ -10,7 +10,7 @@ use Rattle.std.proofs.lemmas.List.Sums.{sum_by-cons, sum_by-append}
 use Rattle.fuxi_terms.specs.Cluster.{ClusterRecord}
 use Rattle.fuxi_terms.specs.Vectors.{at_place}
 use Rattle.fuxi_terms.specs.Keys.{Spot, spot_cmp}
-use Rattle.fuxi_terms.proofs.Counting.{tied}
+use Rattle.fuxi_terms.proofs.CountsLemmas.{tied}
 use Rattle.written_net.specs.Ledgers.{Ledger, nothing, at_key}
 use Rattle.fuxi_terms.specs.TallyKeys.{count_key}
 use Rattle.fuxi_terms.specs.Jobs.{KnownJob, job_of, is_known, is_live, no_unit, units_of, size_at}

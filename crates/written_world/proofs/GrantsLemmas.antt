@@ -9,7 +9,7 @@ use Rattle.fuxi_terms.specs.Counts.{count}
 use Rattle.std.specs.FinMap.Entries.{find}
 use Rattle.std.proofs.lemmas.Bool.Decides.{nat_tests}
 use Rattle.fuxi_terms.specs.Keys.{key_cmp, Spot, spot_cmp}
-use Rattle.fuxi_terms.proofs.Counting.{tied}
+use Rattle.fuxi_terms.proofs.CountsLemmas.{tied}
 use Rattle.written_net.specs.Ledgers.{at_key}
 use Rattle.fuxi_terms.specs.TallyKeys.{reported_key, count_key, credited_key}
 use Rattle.fuxi_terms.specs.Jobs.{is_live}

@@ -40,7 +40,7 @@ use Rattle.written_world.proofs.GrantsFit.{nothing_granted}
 use Rattle.written_world.proofs.TablesFit.{new_fits_machines, same_fits_machines, added_fits_machines, ended_fits_machines, banned_fits_machines, told_fits_machines, preempted_fits_machines}
 use Rattle.fuxi_terms.specs.Keys.{key_cmp}
 use Rattle.fuxi_terms.specs.Counts.{AreCounts}
-use Rattle.fuxi_terms.proofs.Counting.{counts-where_key}
+use Rattle.fuxi_terms.proofs.CountsLemmas.{counts-where_key}
 use Rattle.fuxi_terms.proofs.KeyOrders.{key_total}
 use Rattle.written_world.proofs.TablesBounded.{new_bounded, same_bounded, added_bounded, ended_bounded, banned_bounded, preempted_bounded, told_bounded, counted_ranged}
 use Rattle.written_world.proofs.RowsShown.{rows_same, rows_told, no_agents}

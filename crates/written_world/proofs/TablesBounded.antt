@@ -30,7 +30,7 @@ use Rattle.written_roles.specs.MasterSteps.{phased, ready, counted, is_kept, is_
 use Rattle.written_world.specs.Parties.{told}
 use Rattle.written_world.specs.Good.{greatest_in_demand, greatest_in_credits, greatest_in_table, IsTidy, IsRanged, AllWait, IsBounded, reported_entries}
 use Rattle.fuxi_terms.proofs.Alls.{all_append, all_flat, all_filter}
-use Rattle.fuxi_terms.proofs.Counting.{both_true as both, below_none, tied, count_le, count-set_count, counts-set_count, counts-where_key}
+use Rattle.fuxi_terms.proofs.CountsLemmas.{both_true as both, below_none, tied, count_le, count-set_count, counts-set_count, counts-where_key}
 use Rattle.fuxi_terms.proofs.Booleans.{both_true, either, number_is}
 use Rattle.fuxi_terms.proofs.KeyOrders.{key_total, same_key, spot_total, same_spot}
 use Rattle.written_roles.proofs.PlacingEnds.{is_placeable}

@@ -11,7 +11,7 @@ use Rattle.fuxi_terms.specs.declared.Key.{Key}
 use Rattle.fuxi_terms.specs.Cluster.{ClusterRecord, JobRecord, has_at, in_each_place}
 use Rattle.fuxi_terms.specs.Keys.{key_cmp, RowKey, Spot, spot_cmp}
 use Rattle.fuxi_terms.specs.Counts.{count, set_count}
-use Rattle.fuxi_terms.proofs.Counting.{tied, count-set_count}
+use Rattle.fuxi_terms.proofs.CountsLemmas.{tied, count-set_count}
 use Rattle.written_net.specs.Net.{Id, Heard, is_taken}
 use Rattle.written_net.specs.Ledgers.{Ledger}
 use Rattle.fuxi_terms.specs.TallyKeys.{credited_key, is_back}

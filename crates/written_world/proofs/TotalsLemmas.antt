@@ -11,7 +11,7 @@ use Rattle.fuxi_terms.specs.Cluster.{JobRecord}
 use Rattle.fuxi_terms.specs.Vectors.{at_place, fits}
 use Rattle.fuxi_terms.specs.Keys.{RowKey, Spot, spot_cmp}
 use Rattle.fuxi_terms.specs.Counts.{count, set_count}
-use Rattle.fuxi_terms.proofs.Counting.{both_true as both, tied, below_none}
+use Rattle.fuxi_terms.proofs.CountsLemmas.{both_true as both, tied, below_none}
 use Rattle.fuxi_terms.proofs.VectorLaws.{fits_places}
 use Rattle.fuxi_terms.specs.Jobs.{KnownJob, job_of, is_known, is_live, no_unit, unit_of, unit_count, size_at}
 use Rattle.fuxi_terms.specs.Numbers.{has_number}

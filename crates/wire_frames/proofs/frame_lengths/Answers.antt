@@ -1,5 +1,5 @@
 use Rattle.std.proofs.Common.{◌∙◌, ap, length}
-use Rattle.wire_frames.proofs.Framing.{frame_long}
+use Rattle.wire_frames.proofs.FramesLemmas.{frame_long}
 use Rattle.wire_frames.proofs.frame_lengths.Goals as goal
 
 pub returns : goal.returns

@@ -1,4 +1,4 @@
-use Rattle.wire_frames.proofs.OneReading.{one_frame_at, same_frame}
+use Rattle.wire_frames.proofs.ReadingIsOne.{one_frame_at, same_frame}
 use Rattle.wire_frames.proofs.one_frame.Goals as goal
 
 pub returns : goal.returns

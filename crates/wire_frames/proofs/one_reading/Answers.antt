@@ -1,4 +1,4 @@
-use Rattle.wire_frames.proofs.OneReading.{one_reading}
+use Rattle.wire_frames.proofs.ReadingIsOne.{one_reading}
 use Rattle.wire_frames.proofs.MoreBytes.{more_bytes, short_part}
 use Rattle.wire_frames.proofs.one_reading.Goals as goal
 

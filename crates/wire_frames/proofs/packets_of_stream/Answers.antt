@@ -1,5 +1,5 @@
 use Rattle.std.proofs.Common.{[]}
-use Rattle.wire_frames.proofs.Splitting.{run_splits, one_split}
+use Rattle.wire_frames.proofs.StreamsLemmas.{run_splits, one_split}
 use Rattle.wire_frames.proofs.packets_of_stream.Goals as goal
 
 pub returns : goal.returns

@@ -3,7 +3,7 @@ use Rattle.fuxi_terms.specs.Keys.{key_cmp}
 use Rattle.fuxi_terms.specs.Counts.{AreCounts, count, set_count}
 use Rattle.fuxi_terms.specs.Tallies.{TallyRecord}
 use Rattle.fuxi_terms.specs.TallyKeys.{greatest_demand}
-use Rattle.fuxi_terms.proofs.Counting.{count_le}
+use Rattle.fuxi_terms.proofs.CountsLemmas.{count_le}
 use Rattle.fuxi_terms.proofs.KeyOrders.{key_total, same_key}
 use Rattle.written_net.specs.Ledgers.{tally_ledger, at_key}
 use Rattle.written_net.specs.Sides.{shown, appended}
@@ -11,7 +11,7 @@ use Rattle.written_roles.specs.Apps.{changed_demand}
 use Rattle.core_side.specs.Bodies.{tally_of}
 use Rattle.app_master.specs.Apps.{patched_demand, IsUp}
 use Rattle.app_master.specs.Asking.{IsMove}
-use Rattle.app_master.proofs.Moving.{set_itself, set_here, move_made, changed_is}
+use Rattle.app_master.proofs.AskingLemmas.{set_itself, set_here, move_made, changed_is}
 use Rattle.app_master.proofs.asking.set_number.Goals as goal
 
 pub returns-then-kept-number-clause-sets : goal.returns-then-kept-number-clause-sets

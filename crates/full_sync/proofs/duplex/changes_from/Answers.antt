@@ -1,4 +1,4 @@
-use Rattle.full_sync.proofs.Marking.{marks_more}
+use Rattle.full_sync.proofs.TurnsLemmas.{marks_more}
 use Rattle.fuxi_terms.proofs.Lists.{all_push}
 use Rattle.full_sync.proofs.duplex.changes_from.Goals as goal
 

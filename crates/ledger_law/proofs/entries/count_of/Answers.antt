@@ -1,5 +1,5 @@
 use Rattle.std.proofs.Common.{sym}
-use Rattle.ledger_law.proofs.Placing.{count_here, count_gap}
+use Rattle.ledger_law.proofs.PlacesLemmas.{count_here, count_gap}
 use Rattle.ledger_law.proofs.entries.count_of.Goals as goal
 
 pub returns-in-Ok : goal.returns-in-Ok

@@ -1,6 +1,6 @@
 use Rattle.std.proofs.Common.{◌≡◌, ◌-◌, sym, ◌∙◌, ap, subst, arith, drop, is_lt}
 use Rattle.std.specs.FinMap.Entries.{is_sorted}
-use Rattle.ledger_law.proofs.Rising.{rise_more, rise_all, rise_stops, is_less}
+use Rattle.ledger_law.proofs.KeysRise.{rise_more, rise_all, rise_stops, is_less}
 use Rattle.ledger_law.proofs.entries.keys_rise.Goals as goal
 
 pub returns-then-not-is_lt : goal.returns-then-not-is_lt

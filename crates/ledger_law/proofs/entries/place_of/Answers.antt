@@ -1,6 +1,6 @@
 use Rattle.std.proofs.Common.{rules}
 use Rattle.std.proofs.lemmas.Fn.{always_returns_same}
-use Rattle.ledger_law.proofs.Searching.{searched}
+use Rattle.ledger_law.proofs.SearchFinds.{searched}
 use Rattle.ledger_law.proofs.entries.place_of.Goals as goal
 
 pub returns : goal.returns

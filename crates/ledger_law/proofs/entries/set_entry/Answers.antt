@@ -1,6 +1,6 @@
 use Rattle.std.proofs.Common.{◌≡◌, ◌<◌, sym, ◌∙◌, subst, arith}
 use Rattle.ledger_law.specs.Places.{IsHere, IsGap}
-use Rattle.ledger_law.proofs.Placing.{set_here, set_gap, drop_here, drop_gap}
+use Rattle.ledger_law.proofs.PlacesLemmas.{set_here, set_gap, drop_here, drop_gap}
 use Rattle.ledger_law.proofs.entries.set_entry.Goals as goal
 
 pub returns-then-n-eq0-clause-items : goal.returns-then-n-eq0-clause-items

@@ -1,6 +1,6 @@
 use Rattle.std.proofs.Common.{◌≡◌, ◌*◌, length, sym, ◌∙◌, ap, take}
 use Rattle.std.specs.Int.{from_be_bytes, w32}
-use Rattle.ledger_law.proofs.Numbering.{not_counted}
+use Rattle.ledger_law.proofs.FormsLemmas.{not_counted}
 use Rattle.ledger_law.proofs.forms.read_counted.Goals as goal
 
 pub returns-then-rest-n-clause-none : goal.returns-then-rest-n-clause-none

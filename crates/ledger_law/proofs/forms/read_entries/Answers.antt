@@ -2,7 +2,7 @@ use Rattle.std.proofs.Common.{◌≡◌, ◌+◌, ◌≤◌, ◌++◌, length, s
 use Rattle.std.specs.List.{All, flat_map}
 use Rattle.std.proofs.lemmas.List.Elements.{All-nil, All-push}
 use Rattle.std.proofs.lemmas.List.{length_push}
-use Rattle.ledger_law.proofs.Numbering.{read_more, shorter_by, one_left}
+use Rattle.ledger_law.proofs.FormsLemmas.{read_more, shorter_by, one_left}
 use Rattle.ledger_law.proofs.forms.read_entries.Goals as goal
 
 pub loop-init : goal.loop-init

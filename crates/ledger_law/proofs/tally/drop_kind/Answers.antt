@@ -2,7 +2,7 @@ use Rattle.std.proofs.Common.{◌≡◌, false, rules, not, nat_eq, subst, sym}
 use Rattle.fuxi_terms.specs.Keys.{key_cmp}
 use Rattle.fuxi_terms.specs.Counts.{AreCounts}
 use Rattle.ledger_law.specs.Shapes.{kept_under}
-use Rattle.ledger_law.proofs.Keeping.{kept_counts}
+use Rattle.ledger_law.proofs.KeptUnder.{kept_counts}
 use Rattle.std.proofs.lemmas.Fn.{filter_same}
 use Rattle.ledger_law.proofs.tally.drop_kind.Goals as goal
 

@@ -3,7 +3,7 @@ use Rattle.std.proofs.lemmas.Bool.Decides.{nat_tests}
 use Rattle.fuxi_terms.specs.Keys.{key_cmp}
 use Rattle.fuxi_terms.specs.Counts.{count}
 use Rattle.ledger_law.specs.Shapes.{kept_under}
-use Rattle.ledger_law.proofs.Keeping.{gone, stays}
+use Rattle.ledger_law.proofs.KeptUnder.{gone, stays}
 use Rattle.ledger_law.proofs.tally.kept_at.Goals.{else-not-same-via-then-not-same+else-key-dropped, else-not-same-via-else-not-same}
 use Rattle.ledger_law.proofs.tally.kept_at.Goals as goal
 

@@ -5,8 +5,8 @@ use Rattle.fuxi_terms.specs.Keys.{key_cmp}
 use Rattle.fuxi_terms.specs.Counts.{AreCounts, count, moved}
 use Rattle.fuxi_terms.specs.declared.answers.LedgerFault.TheVariants.{Below, TooGreat}
 use Rattle.fuxi_terms.proofs.KeyOrders.{key_total, same_key}
-use Rattle.fuxi_terms.proofs.Counting.{count_le, counts-set_count}
-use Rattle.fuxi_terms.proofs.Making.{made_one}
+use Rattle.fuxi_terms.proofs.CountsLemmas.{count_le, counts-set_count}
+use Rattle.fuxi_terms.proofs.ChangesInTurn.{made_one}
 use Rattle.ledger_law.proofs.tally.make_change.Goals as goal
 
 pub moved-requires : goal.moved-requires

@@ -7,8 +7,8 @@ use Rattle.std.proofs.lemmas.Result.{err_from_is_err_and}
 use Rattle.fuxi_terms.specs.declared.answers.LedgerFault.TheVariants.{Below, TooGreat}
 use Rattle.fuxi_terms.proofs.KeyOrders.{key_total, same_key}
 use Rattle.ledger_law.specs.Shapes.{kept_under}
-use Rattle.ledger_law.proofs.Keeping.{kept_bound}
-use Rattle.fuxi_terms.proofs.Testing.{refused_at, one_more, all_pass}
+use Rattle.ledger_law.proofs.KeptUnder.{kept_bound}
+use Rattle.fuxi_terms.proofs.TestedAlone.{refused_at, one_more, all_pass}
 use Rattle.ledger_law.proofs.tally.test_changes.Goals as goal
 
 pub moved_within-requires : goal.moved_within-requires

@@ -1,7 +1,7 @@
 use Rattle.fuxi_terms.specs.declared.answers.LedgerFault.TheVariants.{Below, TooGreat}
 use Rattle.fuxi_terms.proofs.KeyOrders.{key_total, same_key}
 use Rattle.ledger_law.specs.Shapes.{kept_under}
-use Rattle.fuxi_terms.proofs.Testing.{IsTestedTo}
+use Rattle.fuxi_terms.proofs.TestedAlone.{IsTestedTo}
 use Rattle.ledger_law.proofs.tally.test_changes.Given as goal
 
 abbrev pub invariant-loop-key : goal.invariant-loop-key

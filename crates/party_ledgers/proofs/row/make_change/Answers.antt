@@ -4,7 +4,7 @@ use Rattle.std.proofs.lemmas.Int.{to_z-of_z}
 use Rattle.fuxi_terms.specs.Keys.{row_cmp}
 use Rattle.fuxi_terms.specs.Counts.{count, moved}
 use Rattle.fuxi_terms.specs.Rows.{IsRow}
-use Rattle.party_ledgers.proofs.Patching.{count_small, row_made_once}
+use Rattle.party_ledgers.proofs.PatchedRow.{count_small, row_made_once}
 use Rattle.party_ledgers.proofs.row.make_change.Goals as goal
 
 pub moved-requires : goal.moved-requires

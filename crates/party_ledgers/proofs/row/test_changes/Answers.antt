@@ -4,7 +4,7 @@ use Rattle.std.specs.Int.RustNames.{FitsSigned}
 use Rattle.std.proofs.lemmas.Int.{to_z-of_z}
 use Rattle.std.proofs.lemmas.Result.{err_from_is_err_and}
 use Rattle.fuxi_terms.specs.declared.answers.LedgerFault.TheVariants.{TooGreat}
-use Rattle.party_ledgers.proofs.Patching.{count_small, row_some, row_refused, row_too_long, row_more}
+use Rattle.party_ledgers.proofs.PatchedRow.{count_small, row_some, row_refused, row_too_long, row_more}
 use Rattle.party_ledgers.proofs.row.test_changes.Goals as goal
 
 pub moved_within-requires : goal.moved_within-requires

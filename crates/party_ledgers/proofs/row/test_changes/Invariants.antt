@@ -1,4 +1,4 @@
-use Rattle.party_ledgers.proofs.Patching.{IsTestedTo}
+use Rattle.party_ledgers.proofs.PatchedRow.{IsTestedTo}
 use Rattle.party_ledgers.proofs.row.test_changes.Given as goal
 
 abbrev pub invariant-loop-key : goal.invariant-loop-key

@@ -7,7 +7,7 @@ use Rattle.std.proofs.lemmas.Int.{to_z-of_z}
 use Rattle.fuxi_terms.specs.Keys.{RowKey}
 use Rattle.fuxi_terms.specs.Vectors.{fits, plus, times}
 use Rattle.party_ledgers.specs.Weighing.{total_moved}
-use Rattle.party_ledgers.proofs.Patching.{count_small}
+use Rattle.party_ledgers.proofs.PatchedRow.{count_small}
 use Rattle.party_ledgers.proofs.TotalAfter.{IsMovedTo, moves, after_small, fewer_fits, more_room, moved_more}
 use Rattle.party_ledgers.proofs.row_totals.total_with.Goals as goal
 

@@ -1,6 +1,6 @@
 use Rattle.std.proofs.Common.{◌+◌, refl, sym, ap, ◌∙◌, arith}
 use Rattle.wire_frames.proofs.Bodies.{body_within}
-use Rattle.wire_frames.proofs.Framing.{frame_long}
+use Rattle.wire_frames.proofs.FramesLemmas.{frame_long}
 use Rattle.wire_frames.proofs.write.frame_length.Goals as goal
 
 pub overflow_add-result : goal.overflow_add-result

@@ -1,5 +1,5 @@
 use Rattle.std.proofs.Common.{◌∙◌, ap, ◌++◌, ◌∷◌, []}
-use Rattle.wire_frames.proofs.Joining.{four_parts}
+use Rattle.wire_frames.proofs.PartsInTurn.{four_parts}
 use Rattle.wire_frames.proofs.write.write_header.Goals as goal
 
 pub returns : goal.returns

@@ -1,6 +1,6 @@
 use Rattle.std.proofs.Common.{◌∙◌, ap, ◌++◌}
 use Rattle.wire_frames.specs.Frames.{frame}
-use Rattle.wire_frames.proofs.Framing.{frame_written}
+use Rattle.wire_frames.proofs.FramesLemmas.{frame_written}
 use Rattle.wire_frames.proofs.write.write_packet.Goals as goal
 
 pub returns-in-Ok-clause-ok : goal.returns-in-Ok-clause-ok

@@ -12,7 +12,7 @@ use Rattle.core_side.specs.Bodies.{tally_of}
 use Rattle.app_master.specs.Usable.{carried_at, is_named, usable_in}
 use Rattle.app_master.specs.Apps.{AppCore, StandsFor, IsUp}
 use Rattle.app_master.specs.Hearing.{is_for}
-use Rattle.app_master.proofs.Joining.{id_is, stays, joins}
+use Rattle.app_master.proofs.AppsLemmas.{id_is, stays, joins}
 use Rattle.app_master.proofs.app.AppMaster.on_packet.Goals as goal
 
 pub returns-then-packet-peer-clause-hears : goal.returns-then-packet-peer-clause-hears

@@ -7,7 +7,7 @@ use Rattle.channel_join.specs.Alike.{told_as}
 use Rattle.written_net.specs.Sides.{patched_by}
 use Rattle.core_side.specs.Parcels.{party_of, content_of}
 use Rattle.core_side.specs.Sides.{HearsAlike, SaysWord}
-use Rattle.core_side.proofs.Hearing.{own_place, left_alike, took_alike, not_made, not_taken, change_makes}
+use Rattle.core_side.proofs.HeardAlike.{own_place, left_alike, took_alike, not_made, not_taken, change_makes}
 use Rattle.core_side.proofs.side.Side.hear_change.Goals as goal
 
 pub returns-then-ne-clause-hears : goal.returns-then-ne-clause-hears

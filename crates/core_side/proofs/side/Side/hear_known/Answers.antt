@@ -2,7 +2,7 @@ use Rattle.std.proofs.Common.{◌≡◌, false, sym, ◌∙◌, ap, subst}
 use Rattle.fuxi_terms.specs.declared.answers.What.TheVariants.{Ack}
 use Rattle.core_side.specs.Parcels.{kind_of}
 use Rattle.core_side.specs.Sides.{HearsAlike}
-use Rattle.core_side.proofs.Hearing.{ack_alike}
+use Rattle.core_side.proofs.HeardAlike.{ack_alike}
 use Rattle.core_side.proofs.side.Side.hear_known.Goals as goal
 
 pub returns-in-Ack-clause-hears : goal.returns-in-Ack-clause-hears

@@ -1,4 +1,4 @@
-use Rattle.core_side.proofs.Hearing.{met_alike}
+use Rattle.core_side.proofs.HeardAlike.{met_alike}
 use Rattle.core_side.proofs.side.Side.hear_moved.Goals as goal
 
 pub returns-clause-hears : goal.returns-clause-hears

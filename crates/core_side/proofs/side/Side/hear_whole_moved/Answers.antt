@@ -6,7 +6,7 @@ use Rattle.written_net.specs.Sides.{patched_by}
 use Rattle.core_side.specs.Parcels.{party_of, content_of}
 use Rattle.core_side.specs.Sides.{HearsAlike, SaysWord}
 use Rattle.core_side.specs.Testing.{Takes}
-use Rattle.core_side.proofs.Hearing.{own_place, left_alike, whole_alike}
+use Rattle.core_side.proofs.HeardAlike.{own_place, left_alike, whole_alike}
 use Rattle.core_side.proofs.side.Side.hear_whole_moved.Goals as goal
 
 pub returns-then-ne-clause-hears : goal.returns-then-ne-clause-hears

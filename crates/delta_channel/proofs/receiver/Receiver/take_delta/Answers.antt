@@ -2,7 +2,7 @@ use Rattle.std.proofs.Common.{◌≡◌, subst}
 use Rattle.delta_channel.specs.Hearing.{Receiving, verdict_of}
 use Rattle.delta_channel.specs.declared.receiver.Verdict.TheVariants.{Take}
 use Rattle.delta_channel.specs.Calls.{IsTaken}
-use Rattle.delta_channel.proofs.Taking.{is_taken}
+use Rattle.delta_channel.proofs.TakenChange.{is_taken}
 use Rattle.delta_channel.proofs.receiver.Receiver.take_delta.Goals as goal
 
 pub returns-clause-takes : goal.returns-clause-takes

@@ -1,7 +1,7 @@
 use Rattle.std.proofs.Common.{◌+◌, refl, subst, ap}
 use Rattle.delta_channel.specs.Standing.{Sending}
 use Rattle.delta_channel.specs.Calls.{IsPosted}
-use Rattle.delta_channel.proofs.Posting.{posted}
+use Rattle.delta_channel.proofs.PostedChange.{posted}
 use Rattle.delta_channel.proofs.sender.Sender.post.Goals as goal
 
 pub returns : goal.returns

@@ -4,7 +4,7 @@ use Rattle.std.specs.Int.{w64}
 use Rattle.std.specs.declared.cmp.Ordering.TheVariants.{Less}
 use Rattle.std.proofs.lemmas.Int.{to_z-of_z}
 use Rattle.fuxi_terms.specs.Keys.{key_cmp}
-use Rattle.fuxi_terms.proofs.Changing.{changes_push}
+use Rattle.fuxi_terms.proofs.OneChangeMore.{changes_push}
 use Rattle.ledger_law.proofs.tally.Change.put.Goals.{in-Ok, in-Err}
 use Rattle.ledger_law.proofs.tally.Change.put.Goals as goal
 

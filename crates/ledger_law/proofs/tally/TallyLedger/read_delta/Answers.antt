@@ -5,7 +5,7 @@ use Rattle.ledger_law.specs.Forms.{change_form}
 use Rattle.ledger_law.specs.Shapes.{IsChange, AreChangesWithin}
 use Rattle.ledger_law.specs.OneForm.{few_changes, change_entries}
 use Rattle.ledger_law.specs.Reading.{refused}
-use Rattle.ledger_law.proofs.Refusing.{not_changes}
+use Rattle.ledger_law.proofs.NoForm.{not_changes}
 use Rattle.ledger_law.proofs.tally.TallyLedger.read_delta.Goals as goal
 
 pub returns-in_err-head : goal.returns-in_err-head

@@ -7,7 +7,7 @@ use Rattle.std.specs.declared.cmp.Ordering.TheVariants.{Less}
 use Rattle.std.proofs.lemmas.Int.{to_z-of_z}
 use Rattle.fuxi_terms.specs.Keys.{row_cmp}
 use Rattle.fuxi_terms.specs.Rows.{AreRowChanges, row_key}
-use Rattle.party_ledgers.proofs.RowReading.{row_changes_push}
+use Rattle.party_ledgers.proofs.NoRowForm.{row_changes_push}
 use Rattle.party_ledgers.proofs.row_ledger.RowChange.put.Goals.{in-Ok, in-Err}
 use Rattle.party_ledgers.proofs.row_ledger.RowChange.put.Goals as goal
 

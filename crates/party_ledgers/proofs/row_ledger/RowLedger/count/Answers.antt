@@ -2,7 +2,7 @@ use Rattle.std.proofs.Common.{◌≡◌, arith, subst}
 use Rattle.fuxi_terms.specs.Keys.{row_cmp}
 use Rattle.fuxi_terms.specs.Counts.{count}
 use Rattle.fuxi_terms.specs.Rows.{row_key}
-use Rattle.party_ledgers.proofs.Patching.{count_small}
+use Rattle.party_ledgers.proofs.PatchedRow.{count_small}
 use Rattle.party_ledgers.proofs.row_ledger.RowLedger.count.Goals as goal
 
 pub overflow_cast-result : goal.overflow_cast-result

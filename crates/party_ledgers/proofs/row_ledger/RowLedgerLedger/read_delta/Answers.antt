@@ -5,7 +5,7 @@ use Rattle.ledger_law.specs.Reading.{refused}
 use Rattle.fuxi_terms.specs.Rows.{IsRowChange}
 use Rattle.party_ledgers.specs.RowForms.{row_change_form}
 use Rattle.party_ledgers.specs.RowOneForm.{row_changes, few_row_changes}
-use Rattle.party_ledgers.proofs.RowReading.{not_row_change}
+use Rattle.party_ledgers.proofs.NoRowForm.{not_row_change}
 use Rattle.party_ledgers.proofs.row_ledger.RowLedgerLedger.read_delta.Goals as goal
 
 pub returns-in_err-entries : goal.returns-in_err-entries

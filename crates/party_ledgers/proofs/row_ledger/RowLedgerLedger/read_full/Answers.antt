@@ -5,7 +5,7 @@ use Rattle.ledger_law.specs.Reading.{refused}
 use Rattle.fuxi_terms.specs.Rows.{IsRow}
 use Rattle.party_ledgers.specs.RowForms.{row_form}
 use Rattle.party_ledgers.specs.RowOneForm.{row_entries, few_entries}
-use Rattle.party_ledgers.proofs.RowReading.{not_row}
+use Rattle.party_ledgers.proofs.NoRowForm.{not_row}
 use Rattle.party_ledgers.proofs.row_ledger.RowLedgerLedger.read_full.Goals as goal
 
 pub returns-in_err-entries : goal.returns-in_err-entries

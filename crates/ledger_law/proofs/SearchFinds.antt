@@ -9,7 +9,7 @@ use Rattle.std.specs.FinMap.Entries.{below_all, is_sorted}
 use Rattle.std.specs.List.Sorted.{IsSearchInRange, IsBinarySearchResult, IsNonDecreasingBy}
 use Rattle.std.proofs.lemmas.List.Sorted.{searchable_from_sorted}
 use Rattle.std.proofs.lemmas.Option.{get_or_from_slice_get, slice_get_within}
-use Rattle.fuxi_terms.proofs.Counting.{both_true, lesser}
+use Rattle.fuxi_terms.proofs.CountsLemmas.{both_true, lesser}
 use Rattle.ledger_law.specs.Places.{IsPlace}
 
 module _ {K X : Type 0} (R : K → K → Ordering) where

@@ -12,7 +12,7 @@ use Rattle.std.specs.FinMap.Entries.{by_order, below_all, put, where_key, find, 
 use Rattle.std.proofs.lemmas.Bool.Decides.{nat_tests}
 use Rattle.fuxi_terms.specs.Counts.{count, set_count}
 use Rattle.ledger_law.specs.Places.{IsHere, IsGap}
-use Rattle.fuxi_terms.proofs.Counting.{both_true, lesser, find_below_head}
+use Rattle.fuxi_terms.proofs.CountsLemmas.{both_true, lesser, find_below_head}
 
 module _ {K : Type 0} {R : K → K → Ordering} (o : IsTotalOrder R) where
   abbrev Below : List (K × ℕ) → K → ℕ → Type 0

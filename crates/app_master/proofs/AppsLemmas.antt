@@ -8,7 +8,7 @@ use Rattle.written_roles.specs.Apps.{AppRole, app_told, joined_demand, names, us
 use Rattle.core_side.specs.Bodies.{tally_of}
 use Rattle.app_master.specs.Usable.{carried_at, is_named, usable_in}
 use Rattle.app_master.specs.Apps.{AppCore, StandsFor, Up, IsUp}
-use Rattle.app_master.proofs.Carrying.{carried_then}
+use Rattle.app_master.proofs.CarriedLemmas.{carried_then}
 
 -- ids that a test finds the same
 pub id_is : (a b : Id) → same_id a b ≡ true → a ≡ b

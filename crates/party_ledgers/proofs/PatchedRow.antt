@@ -10,9 +10,9 @@ use Rattle.std.proofs.lemmas.List.{drop_all}
 use Rattle.fuxi_terms.specs.Keys.{RowKey, row_cmp}
 use Rattle.fuxi_terms.specs.Counts.{moved, in_bounds, moved_within, count, set_count, change_one, then_do, AreCounts}
 use Rattle.fuxi_terms.specs.declared.answers.LedgerFault.{LedgerFault}
-use Rattle.fuxi_terms.proofs.Counting.{both_true, tied, below_none, count_le, count-set_count, counts-set_count, length-set_count}
-use Rattle.fuxi_terms.proofs.Making.{made_one}
-use Rattle.fuxi_terms.proofs.Testing.{change_one_is}
+use Rattle.fuxi_terms.proofs.CountsLemmas.{both_true, tied, below_none, count_le, count-set_count, counts-set_count, length-set_count}
+use Rattle.fuxi_terms.proofs.ChangesInTurn.{made_one}
+use Rattle.fuxi_terms.proofs.TestedAlone.{change_one_is}
 use Rattle.fuxi_terms.proofs.KeyOrders.{row_key_total, same_row_key}
 use Rattle.fuxi_terms.specs.Rows.{IsRow, is_row_key, greatest_row, patched_row, change_row_once, within_row, row_below, row_too_great}
 use Rattle.fuxi_terms.specs.Limits.{most_entries}

@@ -8,7 +8,7 @@ use Rattle.std.specs.declared.cmp.Ordering.TheVariants.{Less}
 use Rattle.std.specs.FinMap.Entries.{below_all, is_sorted}
 use Rattle.std.proofs.lemmas.List.Elements.{recursion_from_All}
 use Rattle.fuxi_terms.specs.Counts.{AreChanges, is_no_change}
-use Rattle.fuxi_terms.proofs.Counting.{both_true}
+use Rattle.fuxi_terms.proofs.CountsLemmas.{both_true}
 use Rattle.fuxi_terms.proofs.Lists.{all_push}
 
 pub both : (a b : Bool) → T a → T b → T (a && b)

@@ -6,7 +6,7 @@ use Rattle.fuxi_terms.specs.Keys.{key_cmp}
 use Rattle.fuxi_terms.specs.Counts.{count, AreCounts}
 use Rattle.fuxi_terms.proofs.KeyOrders.{key_total, same_key}
 use Rattle.ledger_law.specs.Shapes.{kept_under}
-use Rattle.fuxi_terms.proofs.Counting.{counts-where_key, count_le, count_where}
+use Rattle.fuxi_terms.proofs.CountsLemmas.{counts-where_key, count_le, count_where}
 
 pub kept_counts : (greatest : Key → ℕ) (same : Bool) (dropped : ℕ) (es : List (Key × ℕ)) → AreCounts key_cmp greatest es → AreCounts key_cmp greatest (kept_under same dropped es)
 kept_counts greatest true dropped es h = h

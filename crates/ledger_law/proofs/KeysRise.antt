@@ -7,8 +7,8 @@ use Rattle.std.specs.declared.cmp.Ordering.{Ordering}
 use Rattle.std.specs.declared.cmp.Ordering.TheVariants.{Less, Equal, Greater}
 use Rattle.std.specs.FinMap.Entries.{below_all, is_sorted}
 use Rattle.std.proofs.lemmas.List.{length-drop}
-use Rattle.fuxi_terms.proofs.Counting.{both_true, lesser}
-use Rattle.fuxi_terms.proofs.Changing.{both}
+use Rattle.fuxi_terms.proofs.CountsLemmas.{both_true, lesser}
+use Rattle.fuxi_terms.proofs.OneChangeMore.{both}
 use Rattle.fuxi_terms.proofs.Booleans.{and_false}
 
 pub is_less : (r : Ordering) → is_lt r ≡ true → r ≡ Less

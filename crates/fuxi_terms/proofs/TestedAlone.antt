@@ -9,7 +9,7 @@ use Rattle.std.specs.declared.cmp.Ordering.TheVariants.{Equal}
 use Rattle.std.specs.FinMap.Entries.{below_all, find, is_sorted}
 use Rattle.std.proofs.lemmas.List.{drop_all}
 use Rattle.fuxi_terms.specs.Counts.{moved, in_bounds, moved_within, count, set_count, set_moved, change_one, change_all, then_do}
-use Rattle.fuxi_terms.proofs.Counting.{both_true, tied, below_none, count-set_count}
+use Rattle.fuxi_terms.proofs.CountsLemmas.{both_true, tied, below_none, count-set_count}
 
 abbrev pub done : {A E : Type 0} → Result A E → Result (Unit {0}) E
 done (Ok x) = Ok tt

@@ -9,7 +9,7 @@ use Rattle.fuxi_terms.specs.Limits.{greatest_count}
 use Rattle.fuxi_terms.specs.Counts.{is_no_change}
 use Rattle.ledger_law.specs.Forms.{counted}
 use Rattle.ledger_law.specs.OneForm.{counted_one}
-use Rattle.fuxi_terms.proofs.Changing.{changes_push}
+use Rattle.fuxi_terms.proofs.OneChangeMore.{changes_push}
 use Rattle.fuxi_terms.proofs.Lists.{all_push}
 use Rattle.fuxi_terms.specs.Rows.{IsRow, AreRowChanges, IsRowChange, is_row_key, greatest_row}
 use Rattle.party_ledgers.specs.RowForms.{row_entry, row_change_entry, row_form, row_change_form, IsRowEntry, IsRowChangeEntry}

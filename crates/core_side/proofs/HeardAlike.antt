@@ -35,7 +35,7 @@ use Rattle.core_side.specs.Telling.{Tells, TellsWhy}
 use Rattle.core_side.specs.Testing.{WeighsChange, Takes}
 use Rattle.core_side.specs.declared.limit.Refusal.{Refusal}
 use Rattle.core_side.specs.declared.limit.Refusal.TheVariants.{Ledger as RefusesLedger, Exceeds as RefusesMuch}
-use Rattle.core_side.proofs.Keeping.{kept_side}
+use Rattle.core_side.proofs.SidesLemmas.{kept_side}
 
 same_id_itself : (d : Id) → same_id d d ≡ true
 same_id_itself d = and_true (nat_eq d.role d.role) (nat_eq d.number d.number) (nat_itself d.role) (nat_itself d.number)

@@ -5,7 +5,7 @@ use Rattle.std.specs.Int.{to_be_bytes, w32}
 use Rattle.party_ledgers.specs.declared.packets.Packet.{Packet}
 use Rattle.wire_frames.specs.Frames.{frame, header_length, header_bytes, body_bytes, body_length, HasForm}
 use Rattle.wire_frames.proofs.Bodies.{body_long}
-use Rattle.wire_frames.proofs.Joining.{two_parts}
+use Rattle.wire_frames.proofs.PartsInTurn.{two_parts}
 
 pub frame_long : (x : Packet) → HasForm x.body → length (frame x) ≡ 48 + body_length x.body
 unfolding frame

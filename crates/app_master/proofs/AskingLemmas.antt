@@ -12,7 +12,7 @@ use Rattle.fuxi_terms.specs.Counts.{AreCounts, count, set_count, set_moved, chan
 use Rattle.fuxi_terms.specs.Tallies.{TallyRecord, ChangeRecord, staying}
 use Rattle.fuxi_terms.specs.TallyKeys.{greatest_demand, back_what}
 use Rattle.fuxi_terms.proofs.Booleans.{nat_itself}
-use Rattle.fuxi_terms.proofs.Counting.{count_le, is_key, same_counts, counts-set_count, count-set_count}
+use Rattle.fuxi_terms.proofs.CountsLemmas.{count_le, is_key, same_counts, counts-set_count, count-set_count}
 use Rattle.fuxi_terms.proofs.KeyOrders.{key_total, same_key}
 use Rattle.written_net.specs.Ledgers.{Ledger, tally_ledger}
 use Rattle.written_roles.specs.Apps.{changed_demand, joined_demand}

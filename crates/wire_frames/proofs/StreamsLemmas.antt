@@ -7,7 +7,7 @@ use Rattle.wire_frames.specs.Frames.{frame, IsFrame}
 use Rattle.wire_frames.specs.Reading.{Begins, BeginsNone}
 use Rattle.wire_frames.specs.Streams.{Event, Fed, Gave, Runs, bytes_fed, packets_given, HasFrame, Splits}
 use Rattle.wire_frames.proofs.Framed.{split_at_frame}
-use Rattle.wire_frames.proofs.OneReading.{begins_whole, one_frame_at}
+use Rattle.wire_frames.proofs.ReadingIsOne.{begins_whole, one_frame_at}
 
 has_frame : (x : Packet) (bytes : List ℕ) → IsFrame x bytes → HasFrame x
 has_frame x bytes f = record { formed = f.formed; room = f.room; form = f.form; written = refl }
