@@ -14,7 +14,7 @@ use Rattle.hard_state.specs.Gates.{IsAppending, Appends, appended}
 use Rattle.hard_state.specs.Checkpoints.{behind_gate, Opened}
 use Rattle.hard_state.specs.HardFiles.{event_of, epoch_of, made, record_taken, taken, reads_as, value_of, records_of, Kept, opened_as, IsAtRest, IsBeforeOrAfter, WritesStep, IsAskedBy}
 use Rattle.hard_state.proofs.Images.{synced_image, gate_open}
-use Rattle.hard_state.proofs.Standing.{stands, reads_before, reads_after, reads_either}
+use Rattle.hard_state.proofs.StandsWhileAppended.{stands, reads_before, reads_after, reads_either}
 use Rattle.hard_state.proofs.Runs.{map_where, knowing_first, leaves_first, leaves_more, IsLong, within_bytes}
 
 -- each step writes one record

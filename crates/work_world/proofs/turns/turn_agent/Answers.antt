@@ -6,7 +6,7 @@ use Rattle.written_work.specs.declared.event.WorkEvent.TheVariants.{TurnAgent}
 use Rattle.written_work.specs.World.{World}
 use Rattle.work_world.specs.Steps.{Exceeds, Finishes}
 use Rattle.work_world.specs.Worlds.{AgentAt, AppsAt, IsAgent}
-use Rattle.work_world.proofs.Sending.{agent_exceeds, agent_turned, sends_longer, stops_as}
+use Rattle.work_world.proofs.PacketsStandBehind.{agent_exceeds, agent_turned, sends_longer, stops_as}
 use Rattle.work_world.proofs.turns.turn_agent.Goals as goal
 
 pub finish-requires : goal.finish-requires

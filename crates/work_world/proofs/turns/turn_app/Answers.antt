@@ -5,9 +5,9 @@ use Rattle.work_ends.specs.declared.ends.Parcel.{Parcel}
 use Rattle.written_work.specs.Events.{act}
 use Rattle.written_work.specs.declared.event.WorkEvent.TheVariants.{TurnApp}
 use Rattle.work_world.specs.Steps.{Exceeds, Finishes}
-use Rattle.work_world.proofs.Delivering.{app_is}
-use Rattle.work_world.proofs.Growing.{at_there}
-use Rattle.work_world.proofs.Sending.{app_exceeds, app_turned, sends_longer, stops_as}
+use Rattle.work_world.proofs.PacketDelivered.{app_is}
+use Rattle.work_world.proofs.HistoriesGrow.{at_there}
+use Rattle.work_world.proofs.PacketsStandBehind.{app_exceeds, app_turned, sends_longer, stops_as}
 use Rattle.work_world.proofs.turns.turn_app.Goals as goal
 
 pub finish-requires : goal.finish-requires

@@ -10,7 +10,7 @@ use Rattle.hard_state.specs.Gates.{Appends, appending_calls}
 use Rattle.hard_state.specs.Moments.{writing_calls}
 use Rattle.hard_state.specs.Checkpoints.{behind_gate}
 use Rattle.hard_state.specs.HardFiles.{Kept, event_of}
-use Rattle.hard_state.proofs.Standing.{length-behind}
+use Rattle.hard_state.proofs.StandsWhileAppended.{length-behind}
 use Rattle.hard_state.proofs.MomentsLemmas.{calls_same, all_made, some_made, none_made, nothing_made}
 use Rattle.hard_state.proofs.Stops.{refused_where, failed_where, written_where, takes, at_same}
 use Rattle.hard_state.proofs.hard.Hard.write.Goals as goal
