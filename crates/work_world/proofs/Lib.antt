@@ -1,6 +1,5 @@
 mod HistoriesGrow
 mod NamesThatChange
-mod Marking
 mod Texts
 mod Peers
 mod Agents
