@@ -9,9 +9,8 @@ ghost use Rattle.party_ledgers.specs.Packets.{IsFormed};
 ghost use Rattle.core_side.specs.Parcels.{IsSent};
 ghost use Rattle.agent_core.specs.Answering.{AnswersAlike, SendsAlike};
 
-mod stop;
-
 use agent_core::Agent;
+use case_words::Stop;
 use ledger_law::OutOfMemory;
 use party_ledgers::{Heard, Kind, Packet, Packets, What};
 use res_vector::Res;
@@ -19,7 +18,6 @@ use schedule_unit::MachineNo;
 use std::alloc::Global;
 use std::io::{BufRead, BufReader};
 use std::process::ExitCode;
-use stop::Stop;
 use wire_frames::{FrameFault, read_packet, write_packet};
 
 // So many steps an agent may take.

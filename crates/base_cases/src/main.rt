@@ -10,9 +10,8 @@ mod reading;
 mod vectors;
 mod writing;
 
-use case_words::{Stop, head_of};
+use case_words::{Cases, Stop, answer_input, head_of};
 use std::alloc::Global;
-use std::io::{BufRead, BufReader};
 use std::process::ExitCode;
 
 fn answer<P: Print>(rt: &P, alloc: Global, call: &str, rest: &str) -> Result<(), Stop> {
@@ -32,25 +31,24 @@ fn answer<P: Print>(rt: &P, alloc: Global, call: &str, rest: &str) -> Result<(),
     }
 }
 
-fn answer_line<P: Print>(rt: &P, alloc: Global, line: &str) -> Result<(), Stop> {
-    if line.starts_with('#') {
-        return Ok(println!(rt; "{line}")?);
-    }
-    let (call, rest) = head_of(line);
-    answer(rt, alloc, call, rest)
-}
+// The cases of the lower crates keep nothing.
+#[derive(Drop)]
+struct Base;
 
-fn run(rt: &HostRuntime) -> Result<(), Stop> {
-    let alloc = rt.alloc();
-    for line in BufReader::new(alloc, rt.reader())?.lines(alloc) {
-        answer_line(rt, alloc, &line?)?;
+impl Cases for Base {
+    fn start(_alloc: Global) -> Result<Base, Stop> {
+        Ok(Base)
     }
-    Ok(())
+
+    fn answer_line(&mut self, rt: &HostRuntime, alloc: Global, line: &str) -> Result<(), Stop> {
+        if line.starts_with('#') {
+            return Ok(println!(rt; "{line}")?);
+        }
+        let (call, rest) = head_of(line);
+        answer(rt, alloc, call, rest)
+    }
 }
 
 fn main(rt: HostRuntime) -> ExitCode {
-    match run(&rt) {
-        Ok(()) => ExitCode::SUCCESS,
-        Err(_) => ExitCode::FAILURE,
-    }
+    answer_input::<Base>(&rt)
 }

@@ -1,15 +1,17 @@
-//! What programs of worked cases share: the words of a line, numbers, bytes and texts as words, the units of a job, and why a
-//! program stops.
+//! What programs of worked cases share: the table and its lines, the words of a line, numbers, bytes and texts as words, the
+//! units of a job, and why a program stops.
 #![tactic(auto)]
 
 mod asking;
 mod bytes;
+mod cases;
 mod stop;
 mod texts;
 mod words;
 
 pub use asking::asks_of;
 pub use bytes::bytes_of;
+pub use cases::{Cases, answer_input};
 pub use stop::Stop;
 pub use texts::{push_text, text_of};
 pub use words::{head_of, number_of, numbers_of, put_numbers};

@@ -9,11 +9,10 @@ mod parties;
 mod streams;
 mod telling;
 
-use case_words::{Stop, bytes_of};
+use case_words::{Cases, Stop, answer_input, bytes_of};
 use ledgers::Ledgers;
 use parties::Parties;
 use std::alloc::Global;
-use std::io::{BufRead, BufReader};
 use std::process::ExitCode;
 use wire_frames::Stream;
 
@@ -79,46 +78,39 @@ fn answer<P: Print>(
     }
 }
 
-// Prints a line that names no call, or what it answers.
-fn answer_line<P: Print>(
-    rt: &P,
-    alloc: Global,
-    ledgers: &mut Ledgers,
-    parties: &mut Parties,
-    stream: &mut Stream,
-    line: &str,
-) -> Result<(), Stop> {
-    if line.is_empty() || line.starts_with('#') {
-        return Ok(println!(rt; "{line}")?);
-    }
-    let words: Vec<&str> = line.split_whitespace().collect(alloc)?;
-    answer(rt, alloc, ledgers, parties, stream, &words)
+// The ledgers, the parties and the stream that the lines speak of.
+#[derive(Drop)]
+struct Channels {
+    ledgers: Ledgers,
+    parties: Parties,
+    stream: Stream,
 }
 
-fn answer_all(
-    rt: &HostRuntime,
-    alloc: Global,
-    ledgers: &mut Ledgers,
-    parties: &mut Parties,
-    stream: &mut Stream,
-) -> Result<(), Stop> {
-    for line in BufReader::new(alloc, rt.reader())?.lines(alloc) {
-        answer_line(rt, alloc, ledgers, parties, stream, &line?)?;
+impl Cases for Channels {
+    fn start(alloc: Global) -> Result<Channels, Stop> {
+        Ok(Channels {
+            ledgers: Ledgers::new(alloc),
+            parties: Parties::new(alloc)?,
+            stream: Stream::new(alloc),
+        })
     }
-    Ok(())
-}
 
-fn run(rt: &HostRuntime) -> Result<(), Stop> {
-    let alloc = rt.alloc();
-    let mut parties = Parties::new(alloc)?;
-    let mut ledgers = Ledgers::new(alloc);
-    let mut stream = Stream::new(alloc);
-    answer_all(rt, alloc, &mut ledgers, &mut parties, &mut stream)
+    fn answer_line(&mut self, rt: &HostRuntime, alloc: Global, line: &str) -> Result<(), Stop> {
+        if line.is_empty() || line.starts_with('#') {
+            return Ok(println!(rt; "{line}")?);
+        }
+        let words: Vec<&str> = line.split_whitespace().collect(alloc)?;
+        answer(
+            rt,
+            alloc,
+            &mut self.ledgers,
+            &mut self.parties,
+            &mut self.stream,
+            &words,
+        )
+    }
 }
 
 fn main(rt: HostRuntime) -> ExitCode {
-    match run(&rt) {
-        Ok(()) => ExitCode::SUCCESS,
-        Err(_) => ExitCode::FAILURE,
-    }
+    answer_input::<Channels>(&rt)
 }

@@ -1,3 +1,3 @@
 pub mod Resting
-pub mod Leaving
-pub mod Rising
+pub mod StepsLeave
+pub mod EpochsRise

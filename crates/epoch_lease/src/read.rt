@@ -2,12 +2,11 @@
 
 ghost use Rattle.std.specs.Prelude.{◌≡◌, IfOk, IfErr, Ok, map};
 ghost use Rattle.schedule_text.specs.Reading.{IsFault};
-ghost use Rattle.schedule_text.specs.Words.{words_of};
 ghost use Rattle.epoch_lease.specs.Reading.{acquire_of, epoch_at, event_of_words, expire_of, held_at, holder_at, lease_event, release_of, renew_of};
 
 use crate::event::LeaseEvent;
 use fuxi_terms::OutOfMemory;
-use schedule_text::LineFault;
+use schedule_text::{LineFault, words_of};
 use schedule_unit::read_number;
 use std::alloc::Global;
 
@@ -28,17 +27,6 @@ pub fn read_lease(alloc: Global, line: &[u8]) -> Result<LeaseEvent, LineFault>
         Ok(event) => Ok(event),
         Err(fault) => Err(fault),
     }
-}
-
-// The words of a line, which blanks separate.
-fn words_of(alloc: Global, line: &[u8]) -> Result<Vec<&[u8]>, OutOfMemory>
-    ensures { IfOk result (λ words. map (λ w. w.now) words.items ≡ words_of line.now) }
-{
-    Ok(
-        line.split(|byte| *byte == b' ')
-            .filter(|word| !word.is_empty())
-            .collect(alloc)?,
-    )
 }
 
 // Each of the following is about a word at its place in the line, or the words behind the first one.

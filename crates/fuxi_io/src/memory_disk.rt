@@ -263,6 +263,7 @@ impl Disk for MemDisk {
         ensures size { IfOk result (λ n. n ≡ length self.new.told.now.bytes) }
         ensures told { Some self.new.told ≡ Some self.old.told }
         ensures cause { HasCause self.old.faults self.new.faults result }
+        ensures served { OnOk result (self.new.faults ≡ self.old.faults) }
         ensures fails { IsErr result ↔ AccessFails self.old }
         ensures failed { OnErr result (self.new ≡ unserved self.old) }
         ensures accessed { OnOk result (self.new ≡ accessed self.old) }
@@ -279,6 +280,7 @@ impl Disk for MemDisk {
         ensures size { length self.new.told.now.bytes ≡ length self.old.told.now.bytes }
         ensures told { Some self.new.told ≡ Some self.old.told }
         ensures cause { HasCause self.old.faults self.new.faults result }
+        ensures served { OnOk result (self.new.faults ≡ self.old.faults) }
         ensures fails { IsErr result ↔ AccessFails self.old }
         ensures failed { OnErr result (self.new ≡ unserved self.old) }
         ensures accessed { OnOk result (self.new ≡ accessed self.old) }
@@ -297,6 +299,7 @@ impl Disk for MemDisk {
         ensures size { OnOk result (length self.new.told.now.bytes ≡ max (length self.old.told.now.bytes) (at + length bytes.now)) }
         ensures told { Writes at bytes.now result self.old.told self.new.told }
         ensures cause { HasCause self.old.faults self.new.faults result }
+        ensures served { OnOk result (self.new.faults ≡ self.old.faults) }
         ensures fails { IsErr result ↔ ChangeFails self.old (length bytes.now + 1) }
         ensures failed { OnErr result (self.new ≡ unserved self.old) }
         ensures written { OnOk result (self.new ≡ disk_written self.old at bytes.now) }
@@ -325,6 +328,7 @@ impl Disk for MemDisk {
         ensures size { length self.new.told.now.bytes ≡ length self.old.told.now.bytes }
         ensures told { Syncs result self.old.told self.new.told }
         ensures cause { HasCause self.old.faults self.new.faults result }
+        ensures served { OnOk result (self.new.faults ≡ self.old.faults) }
         ensures fails { IsErr result ↔ ChangeFails self.old 1 }
         ensures failed { OnErr result (self.new ≡ unserved self.old) }
         ensures synced { OnOk result (self.new ≡ disk_synced self.old) }

@@ -8,11 +8,10 @@ mod place;
 mod telling;
 
 use calls::{Way, opened, raised};
-use case_words::{Stop, head_of, number_of, numbers_of};
+use case_words::{Cases, Stop, answer_input, head_of, number_of, numbers_of};
 use fuxi_io::MemDisk;
 use place::{Place, ROOM};
 use std::alloc::Global;
-use std::io::{BufRead, BufReader};
 use std::process::ExitCode;
 use telling::tell_bytes;
 
@@ -69,31 +68,20 @@ fn answer<P: Print>(
     }
 }
 
-// Prints a line, and what it answers.
-fn answer_line<P: Print>(rt: &P, alloc: Global, place: &mut Place, line: &str) -> Result<(), Stop> {
-    println!(rt; "{line}")?;
-    if line.is_empty() || line.starts_with('#') {
-        return Ok(());
+impl Cases for Place {
+    fn start(alloc: Global) -> Result<Place, Stop> {
+        Ok(Place::shut(disk_of(alloc, "")?))
     }
-    answer(rt, alloc, place, head_of(line))
-}
 
-fn answer_all(rt: &HostRuntime, alloc: Global, place: &mut Place) -> Result<(), Stop> {
-    for line in BufReader::new(alloc, rt.reader())?.lines(alloc) {
-        answer_line(rt, alloc, place, &line?)?;
+    fn answer_line(&mut self, rt: &HostRuntime, alloc: Global, line: &str) -> Result<(), Stop> {
+        println!(rt; "{line}")?;
+        if line.is_empty() || line.starts_with('#') {
+            return Ok(());
+        }
+        answer(rt, alloc, self, head_of(line))
     }
-    Ok(())
-}
-
-fn run(rt: &HostRuntime) -> Result<(), Stop> {
-    let alloc = rt.alloc();
-    let mut place = Place::shut(disk_of(alloc, "")?);
-    answer_all(rt, alloc, &mut place)
 }
 
 fn main(rt: HostRuntime) -> ExitCode {
-    match run(&rt) {
-        Ok(()) => ExitCode::SUCCESS,
-        Err(_) => ExitCode::FAILURE,
-    }
+    answer_input::<Place>(&rt)
 }

@@ -99,6 +99,16 @@ pub record IsReadOf (version : ℕ) (bytes : List ℕ) (number group : ℕ) (ask
   pub group_is : group ≡ from_be_bytes w32 (drop 4 bytes)
   pub units_are : map unit_of asks ≡ units_in version (slice_index bytes 8) (drop 9 bytes)
 
+-- its parts, as they are read one after another
+pub was_read : (version : ℕ) (bytes : List ℕ) (number group size : ℕ) (asks given : List Ask) → length bytes ≡ 9 + size * slice_index bytes 8 → size ≡ unit_size version → number ≡ from_be_bytes w32 bytes → group ≡ from_be_bytes w32 (drop 4 bytes)
+    → asks ≡ given → map unit_of given ≡ units_in version (slice_index bytes 8) (drop 9 bytes) → IsReadOf version bytes number group asks
+was_read version bytes number group size asks given long size_is number_is group_is same units = record {
+  long = long ∙ ap (λ k. 9 + k * slice_index bytes 8) size_is;
+  number_is = number_is;
+  group_is = group_is;
+  units_are = ap (map unit_of) same ∙ units;
+}
+
 module _ (version : ℕ) (bytes : List ℕ) (number group : ℕ) (asks : List Ask) (read : IsReadOf version bytes number group asks) where
   job_same : job_of number group asks ≡ job_in version bytes
   job_same = (λ i. record { number = read.number_is i; group = read.group_is i; units = read.units_are i })

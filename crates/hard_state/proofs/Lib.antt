@@ -1,10 +1,10 @@
-pub mod Indexing
-pub mod Marking
+pub mod IndexLemmas
+pub mod BansLemmas
 pub mod Images
 pub mod Runs
-pub mod Reading
-pub mod Standing
+pub mod ReadsAlike
+pub mod StandsWhileAppended
 pub mod Stops
-pub mod Openings
-pub mod Rising
+pub mod OpensAsTheFile
+pub mod MarksRise
 pub mod MomentsLemmas

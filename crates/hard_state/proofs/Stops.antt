@@ -14,7 +14,7 @@ use Rattle.hard_state.specs.Gates.{IsAppending, Appends, appended}
 use Rattle.hard_state.specs.Checkpoints.{behind_gate, Opened}
 use Rattle.hard_state.specs.HardFiles.{event_of, epoch_of, made, record_taken, taken, reads_as, value_of, records_of, Kept, opened_as, IsAtRest, IsBeforeOrAfter, WritesStep, IsAskedBy}
 use Rattle.hard_state.proofs.Images.{synced_image, gate_open}
-use Rattle.hard_state.proofs.Standing.{stands, reads_before, reads_after, reads_either}
+use Rattle.hard_state.proofs.StandsWhileAppended.{stands, reads_before, reads_after, reads_either}
 use Rattle.hard_state.proofs.Runs.{map_where, knowing_first, leaves_first, leaves_more, IsLong, within_bytes}
 
 -- each step writes one record
@@ -99,6 +99,22 @@ rest_leaves k m rest file image =
 pub refused_where : (E : Type 0) (k : Kept) (step : Result HardState Refusal) (fault : E) (a : Option Told) → WhereTold (WritesStep step k k (Err fault)) a a
 refused_where E k step fault None = tt
 refused_where E k step fault (Some t) = λ rest. (leaves_first (IsBeforeOrAfter k.value step) t (λ file image. inl (rest_leaves k t.now rest file image)), tt)
+
+-- a record that may be written: the step that it makes, and its body, which is taken for that step
+pub record IsReady (before : Kept) (epoch : ℕ) (change : Record) : Type 0 where
+  pub steps : hard_step before.value epoch (event_of change) ≡ Ok (hard_after before.value epoch (event_of change))
+  pub room : before.value.records < most_records
+  pub taken_as : taken before.value (body_of change) ≡ Some (hard_after before.value epoch (event_of change))
+
+pub ready : (before : Kept) (state : HardState) (epoch : ℕ) (change : Record) → state ≡ before.value → IsAskedBy epoch change → record_in (body_of change) ≡ Some change
+    → hard_step state epoch (event_of change) ≡ Ok (hard_after state epoch (event_of change)) → state.records < most_records → IsReady before epoch change
+ready before state epoch change value asked back step few =
+    let steps : hard_step before.value epoch (event_of change) ≡ Ok (hard_after before.value epoch (event_of change)) = subst (λ (h : HardState). hard_step h epoch (event_of change) ≡ Ok (hard_after h epoch (event_of change))) value step in
+    record {
+      steps = steps;
+      room = subst (λ (h : HardState). h.records < most_records) value few;
+      taken_as = takes before.value _ epoch change asked back steps;
+    }
 
 -- an appending of the same bytes behind the same gate
 pub at_same : {E : Type 0} (gate : ℕ) (bytes : List ℕ) (at : ℕ) (new : List ℕ) (result : Result (Unit {0}) E) (a b : Option Told) → at ≡ gate → new ≡ bytes

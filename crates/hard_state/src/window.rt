@@ -40,6 +40,7 @@ fn read_front<D: Disk>(disk: &mut D, at: u64, buffer: &mut [u8], count: usize) -
     ensures told { D.told disk.new ≡ D.told disk.old }
     ensures size { D.size disk.new ≡ D.size disk.old }
     ensures cause { HasCause (D.faults disk.old) (D.faults disk.new) result }
+    ensures served { OnOk result (D.faults disk.new ≡ D.faults disk.old) }
     ensures length { length buffer.new ≡ length buffer.old }
     ensures bytes { OnOk result (IfSome (D.told disk.old) (λ t. take count buffer.new ≡ take count (drop at t.now.bytes))) }
 {
@@ -67,6 +68,7 @@ impl Window {
         ensures told { D.told disk.new ≡ D.told disk.old }
         ensures size { D.size disk.new ≡ D.size disk.old }
         ensures cause { HasCause (D.faults disk.old) (D.faults disk.new) result }
+        ensures served { OnOk result (D.faults disk.new ≡ D.faults disk.old) }
         ensures reaches { OnOk result (Reaches self.new at len) }
         ensures holds { OnOk result ((t : Told) → D.told disk.old ≡ Some t → IsPieceOf self.old t.now.bytes → IsPieceOf self.new t.now.bytes) }
     {

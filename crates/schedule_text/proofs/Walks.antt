@@ -9,7 +9,8 @@ use Rattle.std.proofs.lemmas.Bool.Decides.{nat_tests}
 use Rattle.std.specs.List.{list_all}
 use Rattle.schedule_unit.specs.declared.asks.Ask.{Ask}
 use Rattle.schedule_text.specs.Forms.{is_within, IsNarrow}
-use Rattle.schedule_text.specs.Reading.{number_at, numbers_at, counts_at, own_count, most_at, ask_of, ask_at, asks_at, IsFault}
+use Rattle.schedule_text.specs.PlaceNumbers.{number_at as number_in, numbers_at as numbers_in}
+use Rattle.schedule_text.specs.Reading.{number_at, counts_at, own_count, most_at, ask_of, ask_at, asks_at, IsFault}
 
 pub then_ok : {A E : Type 0} (r : Result A E) → then_do r (λ x. Ok x) ≡ r
 then_ok (Ok x) = refl
@@ -55,32 +56,33 @@ counts_fault ws place i d front fault all lt is h =
     h ∙ ap (λ l. then_do (counts_at (place + i) l) (λ ns. Ok (front ++ ns))) (behind_word ws i d lt)
     ∙ ap (λ r. then_do (then_do r (λ m. then_do (counts_at (place + i + 1) rest) (λ ns. Ok (m ∷ ns)))) (λ ns. Ok (front ++ ns))) is
 
-behind_place : (ps : List Place) (i : ℕ) (d : Place) → i < length ps → drop i ps ≡ get_or ps i d ∷ drop (i + 1) ps
-behind_place ps i d lt = drop-cons ps i d lt ∙ ap (λ n. get_or ps i d ∷ drop n ps) (sym (add-one i))
+module _ {P : Type 0} (is_within : P → ℕ → ℕ → Bool) where
+  behind_place : (ps : List P) (i : ℕ) (d : P) → i < length ps → drop i ps ≡ get_or ps i d ∷ drop (i + 1) ps
+  behind_place ps i d lt = drop-cons ps i d lt ∙ ap (λ n. get_or ps i d ∷ drop n ps) (sym (add-one i))
 
-pub numbers_step : (ps : List Place) (ws : List (Bor (List ℕ))) (place before i : ℕ) (d : Bor (List ℕ)) (e : Place) (front : List ℕ) (n : ℕ) (all : Result (List ℕ) LineFault)
-    → i < length ps → i < length ws
-    → number_at (get_or ps i e) (place + i) before (get_or ws i d).now ≡ Ok n
-    → all ≡ then_do (numbers_at (drop i ps) (place + i) before (drop i (map (λ w. w.now) ws))) (λ ns. Ok (front ++ ns))
-    → all ≡ then_do (numbers_at (drop (i + 1) ps) (place + (i + 1)) n (drop (i + 1) (map (λ w. w.now) ws))) (λ ns. Ok ((front ++ n ∷ []) ++ ns))
-numbers_step ps ws place before i d e front n all named lt is h =
-    let rest = drop (i + 1) (map (λ (w : Bor (List ℕ)). w.now) ws) in
-    h ∙ ap (λ l. then_do (numbers_at (drop i ps) (place + i) before l) (λ ns. Ok (front ++ ns))) (behind_word ws i d lt)
-    ∙ ap (λ l. then_do (numbers_at l (place + i) before ((get_or ws i d).now ∷ rest)) (λ ns. Ok (front ++ ns))) (behind_place ps i e named)
-    ∙ ap (λ r. then_do (then_do r (λ m. then_do (numbers_at (drop (i + 1) ps) (place + i + 1) m rest) (λ ns. Ok (m ∷ ns)))) (λ ns. Ok (front ++ ns))) is
-    ∙ joined front n (numbers_at (drop (i + 1) ps) (place + i + 1) n rest)
-    ∙ ap (λ p. then_do (numbers_at (drop (i + 1) ps) p n rest) (λ ns. Ok ((front ++ n ∷ []) ++ ns))) (next_place place i)
+  pub numbers_step : (ps : List P) (ws : List (Bor (List ℕ))) (place before i : ℕ) (d : Bor (List ℕ)) (e : P) (front : List ℕ) (n : ℕ) (all : Result (List ℕ) LineFault)
+      → i < length ps → i < length ws
+      → number_in is_within (get_or ps i e) (place + i) before (get_or ws i d).now ≡ Ok n
+      → all ≡ then_do (numbers_in is_within (drop i ps) (place + i) before (drop i (map (λ w. w.now) ws))) (λ ns. Ok (front ++ ns))
+      → all ≡ then_do (numbers_in is_within (drop (i + 1) ps) (place + (i + 1)) n (drop (i + 1) (map (λ w. w.now) ws))) (λ ns. Ok ((front ++ n ∷ []) ++ ns))
+  numbers_step ps ws place before i d e front n all named lt is h =
+      let rest = drop (i + 1) (map (λ (w : Bor (List ℕ)). w.now) ws) in
+      h ∙ ap (λ l. then_do (numbers_in is_within (drop i ps) (place + i) before l) (λ ns. Ok (front ++ ns))) (behind_word ws i d lt)
+      ∙ ap (λ l. then_do (numbers_in is_within l (place + i) before ((get_or ws i d).now ∷ rest)) (λ ns. Ok (front ++ ns))) (behind_place ps i e named)
+      ∙ ap (λ r. then_do (then_do r (λ m. then_do (numbers_in is_within (drop (i + 1) ps) (place + i + 1) m rest) (λ ns. Ok (m ∷ ns)))) (λ ns. Ok (front ++ ns))) is
+      ∙ joined front n (numbers_in is_within (drop (i + 1) ps) (place + i + 1) n rest)
+      ∙ ap (λ p. then_do (numbers_in is_within (drop (i + 1) ps) p n rest) (λ ns. Ok ((front ++ n ∷ []) ++ ns))) (next_place place i)
 
-pub numbers_fault : (ps : List Place) (ws : List (Bor (List ℕ))) (place before i : ℕ) (d : Bor (List ℕ)) (e : Place) (front : List ℕ) (fault : LineFault) (all : Result (List ℕ) LineFault)
-    → i < length ps → i < length ws
-    → number_at (get_or ps i e) (place + i) before (get_or ws i d).now ≡ Err fault
-    → all ≡ then_do (numbers_at (drop i ps) (place + i) before (drop i (map (λ w. w.now) ws))) (λ ns. Ok (front ++ ns))
-    → all ≡ Err fault
-numbers_fault ps ws place before i d e front fault all named lt is h =
-    let rest = drop (i + 1) (map (λ (w : Bor (List ℕ)). w.now) ws) in
-    h ∙ ap (λ l. then_do (numbers_at (drop i ps) (place + i) before l) (λ ns. Ok (front ++ ns))) (behind_word ws i d lt)
-    ∙ ap (λ l. then_do (numbers_at l (place + i) before ((get_or ws i d).now ∷ rest)) (λ ns. Ok (front ++ ns))) (behind_place ps i e named)
-    ∙ ap (λ r. then_do (then_do r (λ m. then_do (numbers_at (drop (i + 1) ps) (place + i + 1) m rest) (λ ns. Ok (m ∷ ns)))) (λ ns. Ok (front ++ ns))) is
+  pub numbers_fault : (ps : List P) (ws : List (Bor (List ℕ))) (place before i : ℕ) (d : Bor (List ℕ)) (e : P) (front : List ℕ) (fault : LineFault) (all : Result (List ℕ) LineFault)
+      → i < length ps → i < length ws
+      → number_in is_within (get_or ps i e) (place + i) before (get_or ws i d).now ≡ Err fault
+      → all ≡ then_do (numbers_in is_within (drop i ps) (place + i) before (drop i (map (λ w. w.now) ws))) (λ ns. Ok (front ++ ns))
+      → all ≡ Err fault
+  numbers_fault ps ws place before i d e front fault all named lt is h =
+      let rest = drop (i + 1) (map (λ (w : Bor (List ℕ)). w.now) ws) in
+      h ∙ ap (λ l. then_do (numbers_in is_within (drop i ps) (place + i) before l) (λ ns. Ok (front ++ ns))) (behind_word ws i d lt)
+      ∙ ap (λ l. then_do (numbers_in is_within l (place + i) before ((get_or ws i d).now ∷ rest)) (λ ns. Ok (front ++ ns))) (behind_place ps i e named)
+      ∙ ap (λ r. then_do (then_do r (λ m. then_do (numbers_in is_within (drop (i + 1) ps) (place + i + 1) m rest) (λ ns. Ok (m ∷ ns)))) (λ ns. Ok (front ++ ns))) is
 
 pub fault_is : {A : Type 0} (outcome : Result A LineFault) (fault : LineFault) → outcome ≡ Err fault → IsFault outcome fault
 fault_is outcome UnknownWord is = is

@@ -1,6 +1,8 @@
 pub mod Words
 pub mod Forms
 pub mod Halting
+pub mod LineHeads
+pub mod PlaceNumbers
 pub mod Reading
 pub mod Writing
 pub mod Lines

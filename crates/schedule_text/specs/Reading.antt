@@ -5,7 +5,6 @@ use Rattle.std.specs.Str.{bytes_eq}
 use Rattle.fuxi_terms.specs.Limits.{greatest_count}
 use Rattle.fuxi_terms.specs.Cluster.{is_between}
 use Rattle.fuxi_terms.specs.Counts.{then_do}
-use Rattle.schedule_unit.specs.Numbers.{number_of}
 use Rattle.schedule_unit.specs.declared.asks.Ask.{Ask}
 use Rattle.schedule_unit.specs.declared.party.AppNo.{AppNo}
 use Rattle.schedule_unit.specs.declared.party.GroupNo.{GroupNo}
@@ -23,6 +22,8 @@ use Rattle.schedule_text.specs.declared.form.Place.TheVariants.{Count}
 use Rattle.schedule_text.specs.Words.{words_of}
 use Rattle.schedule_text.specs.Forms.{Shape, shape_of, heads, halt_shape, writing_heads, is_within}
 use Rattle.schedule_text.specs.Halting.{halting}
+use Rattle.schedule_text.specs.LineHeads.{head_of as head_in}
+use Rattle.schedule_text.specs.PlaceNumbers.{number_at as number_in, numbers_at as numbers_in}
 
 -- Which line it is. As far as the line has words, the first ones are those of the form
 abbrev pub begins : Shape → List (List ℕ) → Bool
@@ -57,23 +58,14 @@ is_head words h = begins (shape_of h) words && has_count (shape_of h) words
 
 -- which of these lines
 abbrev pub head_of : List Head → List (List ℕ) → Result Head LineFault
-head_of heads words = elim (find (is_head words) heads) [
-  | Some h ↦ Ok h
-  | None ↦ Err (cond (list_any (λ h. begins (shape_of h) words) heads) WrongCount UnknownWord)
-]
+head_of heads words = head_in (λ h. begins (shape_of h)) (λ h. has_count (shape_of h)) heads words
 
--- The number at a place: the word has the form of a number, and then it is in range
+-- The number at a place, and the numbers of these places, which stand from a place of the line on
 abbrev pub number_at : Place → ℕ → ℕ → List ℕ → Result ℕ LineFault
-number_at p place before word = elim (number_of word) [
-  | None ↦ Err (BadNumber place)
-  | Some n ↦ cond (is_within p before n) (Ok n) (Err (Range place))
-]
+number_at p place before word = number_in is_within p place before word
 
--- the numbers of these places, which stand from a place of the line on
 abbrev pub numbers_at : List Place → ℕ → ℕ → List (List ℕ) → Result (List ℕ) LineFault
-numbers_at [] place before words = Ok []
-numbers_at (p ∷ ps) place before [] = Ok []
-numbers_at (p ∷ ps) place before (w ∷ ws) = then_do (number_at p place before w) (λ n. then_do (numbers_at ps (place + 1) n ws) (λ ns. Ok (n ∷ ns)))
+numbers_at ps place before words = numbers_in is_within ps place before words
 
 -- Units. Any numbers
 abbrev pub counts_at : ℕ → List (List ℕ) → Result (List ℕ) LineFault

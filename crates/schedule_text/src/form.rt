@@ -1,8 +1,9 @@
 //! The table of event lines.
 
 ghost use Rattle.std.specs.Prelude.{◌≡◌, ◌≤◌, length, map};
-ghost use Rattle.schedule_text.specs.Forms.{shape_of, as_shape, halt_shape, line as shape_line, is_within};
+ghost use Rattle.schedule_text.specs.Forms.{shape_of, as_shape, halt_shape, line as shape_line};
 
+use crate::number::NumberPlace;
 use fuxi_terms::limits::{MOST_GROUPS, MOST_JOBS, MOST_MACHINES, MOST_RACKS, MOST_UNITS};
 
 // The most votes that a machine can have.
@@ -175,22 +176,30 @@ pub fn halt_form() -> Form
     line(&[b"halt"], &[Place::Calls, Place::Switch])
 }
 
-// Whether a number is in the range of its place, with the number that stands before it.
-pub fn is_within(place: Place, before: u64, number: u64) -> bool
-    ensures { result ≡ is_within place before number }
-{
-    match place {
-        Place::Incarnation | Place::Packet => number != 0,
-        Place::Job => number < MOST_JOBS as u64,
-        Place::Machine => number < MOST_MACHINES as u64,
-        Place::Unit => number < MOST_UNITS as u64,
-        Place::Rack => number < MOST_RACKS as u64,
-        Place::Group => number < MOST_GROUPS as u64,
-        Place::Switch => number < 2,
-        Place::LastPacket => number >= before,
-        Place::Votes => (1..=MOST_VOTES).contains(&number),
-        Place::Percent => number <= 100,
-        Place::Calls => (1..=4).contains(&number),
-        Place::Count => true,
+impl NumberPlace for Place {
+    ghost use Rattle.schedule_text.specs.Forms.{is_within, IsNarrow};
+    ghost use Rattle.schedule_text.specs.declared.form.Place.TheVariants.{Incarnation};
+
+    ghost within = { is_within };
+
+    ghost narrow = { IsNarrow };
+
+    ghost other = { Incarnation };
+
+    fn is_within(self, before: u64, number: u64) -> bool {
+        match self {
+            Place::Incarnation | Place::Packet => number != 0,
+            Place::Job => number < MOST_JOBS as u64,
+            Place::Machine => number < MOST_MACHINES as u64,
+            Place::Unit => number < MOST_UNITS as u64,
+            Place::Rack => number < MOST_RACKS as u64,
+            Place::Group => number < MOST_GROUPS as u64,
+            Place::Switch => number < 2,
+            Place::LastPacket => number >= before,
+            Place::Votes => (1..=MOST_VOTES).contains(&number),
+            Place::Percent => number <= 100,
+            Place::Calls => (1..=4).contains(&number),
+            Place::Count => true,
+        }
     }
 }

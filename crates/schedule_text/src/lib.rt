@@ -4,7 +4,9 @@
 mod asked;
 mod event;
 mod form;
+mod head;
 mod make;
+mod number;
 mod output;
 mod read;
 mod refusal;
@@ -13,7 +15,12 @@ mod write;
 
 pub use asked::{job_refusal, jobs_are_tested_alike};
 pub use event::{Event, LineFault};
-pub use output::{Kind, Output, write_frame, write_output};
+pub use head::{LineHead, head_of};
+pub use number::{NumberPlace, begins_with, numbers_at};
+pub use output::{
+    Kind, Output, push_heard, push_numbered, push_place, push_sent, write_frame, write_output,
+};
 pub use read::{events_of_lines, read_event};
 pub use refusal::Refusal;
-pub use write::{event_lines, write_event};
+pub use word::words_of;
+pub use write::{event_lines, push_blanked, push_numbers, write_event};

@@ -257,8 +257,8 @@ fn push_entry(line: &Output, out: &mut Vec<u8>) -> Result<(), OutOfMemory>
     }
 }
 
-// A first word and numbers.
-fn push_numbered(out: &mut Vec<u8>, word: &[u8], numbers: &[u64]) -> Result<(), OutOfMemory>
+/// Appends a first word and numbers.
+pub fn push_numbered(out: &mut Vec<u8>, word: &[u8], numbers: &[u64]) -> Result<(), OutOfMemory>
     ensures ok { OnOk result (out.new.items ≡ out.old.items ++ spaced (word.now ∷ map decimal numbers.now)) }
     ensures err { OnErr result (Begins out.old.items out.new.items) }
 {
@@ -286,8 +286,8 @@ fn push_word(
     }
 }
 
-// What a packet of a turn is, behind its number.
-fn push_sent(
+/// Appends what a packet of a turn is, behind its number.
+pub fn push_sent(
     out: &mut Vec<u8>,
     from: &Party,
     to: &Party,
@@ -304,7 +304,8 @@ fn push_sent(
     push_place(out, inc, seq)
 }
 
-fn push_heard(out: &mut Vec<u8>, fresh: bool, what: &What) -> Result<(), OutOfMemory>
+/// Appends how a packet was heard, behind its number.
+pub fn push_heard(out: &mut Vec<u8>, fresh: bool, what: &What) -> Result<(), OutOfMemory>
     ensures ok { OnOk result (out.new.items ≡ out.old.items ++ blanked (cond fresh (codes "new" ∷ what_word what.now ∷ []) (what_word what.now ∷ []))) }
     ensures err { OnErr result (Begins out.old.items out.new.items) }
 {
@@ -362,7 +363,8 @@ fn push_named(out: &mut Vec<u8>, name: &[u8], number: u32) -> Result<(), OutOfMe
     Ok(out.push(b'/')?)
 }
 
-fn push_place(out: &mut Vec<u8>, inc: u64, seq: u64) -> Result<(), OutOfMemory>
+/// Appends a place, with a blank before it.
+pub fn push_place(out: &mut Vec<u8>, inc: u64, seq: u64) -> Result<(), OutOfMemory>
     ensures ok { OnOk result (out.new.items ≡ out.old.items ++ blanked (place_word inc seq ∷ [])) }
     ensures err { OnErr result (Begins out.old.items out.new.items) }
 {

@@ -11,12 +11,14 @@ ghost use Rattle.schedule_text.specs.declared.event.Event.{Event as AnyEvent};
 ghost use Rattle.schedule_text.specs.declared.form.Place.TheVariants.{Incarnation as IncarnationPlace};
 
 use crate::event::{Event, LineFault};
-use crate::form::{Form, HEADS, Head, Place, WRITING_HEADS, form_of, halt_form, is_within};
+use crate::form::{Form, HEADS, Head, Place, WRITING_HEADS, form_of, halt_form};
+use crate::head::{LineHead, head_of};
 use crate::make::make_event;
+use crate::number::{begins_with, number_at, numbers_at};
 use crate::word::words_of;
 use fuxi_terms::OutOfMemory;
 use fuxi_terms::limits::GREATEST_COUNT;
-use schedule_unit::{Ask, Asks, Quantities, read_number};
+use schedule_unit::{Ask, Asks, Quantities};
 use std::alloc::Global;
 
 /// The event of a line, which has no newline. The first test that fails decides: the first word, the second of a turn
@@ -53,43 +55,27 @@ fn event_in(alloc: Global, words: &[&[u8]]) -> Result<Event, LineFault>
     }
 }
 
-// Which of these event lines it is.
-fn head_of(heads: &[Head], words: &[&[u8]]) -> Result<Head, LineFault>
-    ensures value { result ≡ head_of heads.now (map (λ w. w.now) words.now) }
-    ensures count { IfOk result (λ head. has_count (shape_of head) (map (λ w. w.now) words.now) ≡ true) }
-{
-    match find_head(heads, words) {
-        Some(head) => Ok(head),
-        None if is_begun(heads, words) => Err(LineFault::WrongCount),
-        None => Err(LineFault::UnknownWord),
+impl LineHead for Head {
+    ghost use Rattle.schedule_text.specs.Forms.{shape_of};
+    ghost use Rattle.schedule_text.specs.Reading.{begins, has_count};
+
+    ghost begun = { λ head. begins (shape_of head) };
+
+    ghost counted = { λ head. has_count (shape_of head) };
+
+    fn is_begun(self, words: &[&[u8]]) -> bool {
+        begins(&form_of(self), words)
     }
-}
 
-fn find_head(heads: &[Head], words: &[&[u8]]) -> Option<Head>
-    ensures value { result ≡ find (is_head (map (λ w. w.now) words.now)) heads.now }
-    ensures count { IfSome result (λ head. has_count (shape_of head) (map (λ w. w.now) words.now) ≡ true) }
-{
-    heads.iter().copied().find(|head| is_head(*head, words))
-}
-
-// Whether one of these lines begins with these words.
-fn is_begun(heads: &[Head], words: &[&[u8]]) -> bool
-    ensures { result ≡ list_any (λ head. begins (shape_of head) (map (λ w. w.now) words.now)) heads.now }
-{
-    heads.iter().any(|head| begins(&form_of(*head), words))
-}
-
-fn is_head(head: Head, words: &[&[u8]]) -> bool
-    ensures { result ≡ is_head (map (λ w. w.now) words.now) head }
-{
-    let form = form_of(head);
-    begins(&form, words) && has_count(&form, words)
+    fn is_counted(self, words: &[&[u8]]) -> bool {
+        has_count(&form_of(self), words)
+    }
 }
 
 fn begins(form: &Form, words: &[&[u8]]) -> bool
     ensures { result ≡ begins (as_shape form.now) (map (λ w. w.now) words.now) }
 {
-    form.words.iter().zip(words).all(|(a, b)| *a == *b)
+    begins_with(form.words, words)
 }
 
 fn has_count(form: &Form, words: &[&[u8]]) -> bool
@@ -130,39 +116,6 @@ fn own_count(words: &[&[u8]]) -> usize
         [own @ .., word, _] if *word == b"most".as_slice() => own.len(),
         _ => words.len(),
     }
-}
-
-// The number at a place of the line, with the number before it.
-fn number_at(kind: Place, place: usize, before: u64, word: &[u8]) -> Result<u64, LineFault>
-    ensures value { result ≡ number_at kind place before word.now }
-    ensures narrow { IfOk result (IsNarrow kind) }
-{
-    match read_number(word) {
-        None => Err(LineFault::BadNumber(place as u64)),
-        Some(number) if is_within(kind, before, number) => Ok(number),
-        Some(_) => Err(LineFault::Range(place as u64)),
-    }
-}
-
-// The numbers of these places, which stand from a place of the line on. Behind them stand zeros.
-fn numbers_at(places: &[Place], first: usize, words: &[&[u8]]) -> Result<[u64; 4], LineFault>
-    requires few { length places.now ≤ 4 }
-    requires there { length places.now ≤ length words.now }
-    requires range { first + length places.now < 2 ^ 63 }
-    ensures ok { IfOk result (λ numbers. numbers_at places.now first 0 (map (λ w. w.now) words.now) ≡ Ok (take (length places.now) numbers)) }
-    ensures within { IfOk result (λ numbers. (i : ℕ) → i < length places.now → IsNarrow (get_or places.now i IncarnationPlace) (slice_index numbers i)) }
-    ensures fault { IfErr result (λ fault. numbers_at places.now first 0 (map (λ w. w.now) words.now) ≡ Err fault) }
-{
-    let mut numbers = [0; 4];
-    let mut before = 0;
-    for (index, place) in places.iter().enumerate() {
-        match number_at(*place, first + index, before, words[index]) {
-            Ok(number) => before = number,
-            Err(fault) => return Err(fault),
-        }
-        numbers[index] = before;
-    }
-    Ok(numbers)
 }
 
 // The event with the numbers and units of the line, which begins at a place and has as many words as it must.

@@ -127,7 +127,7 @@ fn push_head(out: &mut Vec<u8>, head: Head) -> Result<(), OutOfMemory>
     }
 }
 
-// A word with a blank before it.
+/// Appends a word with a blank before it.
 pub fn push_blanked(out: &mut Vec<u8>, word: &[u8]) -> Result<(), OutOfMemory>
     ensures ok { OnOk result (out.new.items ≡ out.old.items ++ blanked (word.now ∷ [])) }
     ensures err { OnErr result (Begins out.old.items out.new.items) }
@@ -149,7 +149,7 @@ fn push_words(out: &mut Vec<u8>, words: &[&[u8]]) -> Result<(), OutOfMemory>
     Ok(())
 }
 
-// Each of these numbers, with a blank before it.
+/// Appends each of these numbers, with a blank before it.
 pub fn push_numbers(out: &mut Vec<u8>, numbers: &[u64]) -> Result<(), OutOfMemory>
     ensures ok { OnOk result (out.new.items ≡ out.old.items ++ blanked (map decimal numbers.now)) }
     ensures err { OnErr result (Begins out.old.items out.new.items) }

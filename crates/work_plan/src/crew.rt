@@ -1,6 +1,7 @@
 //! The workers of one application.
 
-ghost use Rattle.std.specs.Prelude.{◌≡◌, [], length, IfOk, ℕ, ◌≤◌, ◌≢◌, get_or};
+ghost use Rattle.std.specs.Prelude.{◌≡◌, [], length, IfOk, ℕ, ◌<◌, ◌≤◌, ◌≢◌, get_or};
+ghost use Rattle.std.specs.List.{AllByRecursion};
 ghost use Rattle.work_plan.specs.Crews.{Settled, AreNumbers, Distinct, numbers_of, workers_of, nobody};
 ghost use Rattle.fuxi_terms.specs.Limits.{most_units};
 ghost use Rattle.work_plan.specs.Plans.{most_workers};
@@ -54,6 +55,7 @@ impl Crew {
         ensures members { result.now ≡ get_or self.now unit.0 [] }
         ensures few { length result.now ≤ most_workers }
         ensures distinct { Distinct (workers_of result.now) }
+        ensures within { AllByRecursion (λ n. n < most_workers) (workers_of result.now) }
     {
         let index = unit.0 as usize;
         if index >= self.squads.len() {

@@ -66,6 +66,7 @@ impl Squad {
         ensures members { result.now ≡ self.now }
         ensures few { length result.now ≤ most_workers }
         ensures distinct { Distinct (workers_of self.now) }
+        ensures within { AllByRecursion (λ n. n < most_workers) (workers_of self.now) }
     {
         &self.members
     }
@@ -94,8 +95,8 @@ fn marks_of(entries: &[(Key, u64)]) -> [bool; 256]
     marks
 }
 
-// Which numbers the members have.
-fn taken_of(members: &[Member]) -> [bool; 256]
+/// Which numbers the members have.
+pub(crate) fn taken_of(members: &[Member]) -> [bool; 256]
     requires { AllByRecursion (λ n. n < most_workers) (workers_of members.now) }
     ensures { Marks result (workers_of members.now) }
 {

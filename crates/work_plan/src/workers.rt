@@ -3,11 +3,11 @@
 ghost use Rattle.std.specs.Prelude.{◌≡◌, ◌≢◌, ◌+◌, ◌<◌, ◌≤◌, ℕ, [], None, Some, is_some, IsSome, IfOk, OnOk, OnErr, length, get_or};
 ghost use Rattle.work_plan.specs.Plans.{named};
 ghost use Rattle.work_plan.specs.RunAfter.{run_after};
-ghost use Rattle.work_plan.specs.Crews.{Settled, Distinct, members_at, runs_at, nobody};
+ghost use Rattle.work_plan.specs.Crews.{Settled, Distinct, Marks, members_at, runs_at, nobody};
 
 use crate::crew::Crew;
 use crate::plan::{Plan, of_unit};
-use crate::squad::Member;
+use crate::squad::{Member, taken_of};
 use fuxi_terms::OutOfMemory;
 use schedule_unit::{AppNo, UnitNo};
 use std::alloc::Global;
@@ -106,6 +106,14 @@ impl Workers {
         ensures distinct { Distinct (runs_at self.now app.0 unit.0) }
     {
         self.crew(app).members(unit).len() as u32
+    }
+
+    /// Which numbers the workers of a unit have that run.
+    pub fn marks(&self, app: AppNo, unit: UnitNo) -> [bool; 256]
+        requires { IsSome (get_or self.now app.0 None) }
+        ensures { Marks result (runs_at self.now app.0 unit.0) }
+    {
+        taken_of(self.crew(app).members(unit))
     }
 
     /// The worker of a unit that started as this one of those that run, from 0.

@@ -1,18 +1,10 @@
 -- The lines of the code as those that are written down.
-use Rattle.written_net.specs.Net.{Kind as WrittenKind, Ack, Delta, Full}
-use Rattle.schedule_text.specs.Printing.{as_party}
+use Rattle.schedule_text.specs.Printing.{as_party, as_kind}
 use Rattle.written_work.specs.Lines.{Line, Sent, Came, Lost, Refused, State, AgentIs, PlanAt, Works, AppIs, Seen, Packets, Why as WrittenWhy, NotRunning, NotRising, NoPacket}
-use Rattle.work_text.specs.declared.output.Kind.{Kind}
-use Rattle.work_text.specs.declared.output.Kind.TheVariants as kind
 use Rattle.work_text.specs.declared.output.Why.{Why}
 use Rattle.work_text.specs.declared.output.Why.TheVariants as why
 use Rattle.work_text.specs.declared.output.Output.{Output}
 use Rattle.work_text.specs.declared.output.Output.TheVariants as out
-
-abbrev pub as_kind : Kind → WrittenKind
-as_kind kind.Ack = Ack
-as_kind kind.Delta = Delta
-as_kind kind.Full = Full
 
 abbrev pub as_why : Why → WrittenWhy
 as_why why.NotRunning = NotRunning

@@ -1,13 +1,14 @@
 -- What an event line says, or why it is none.
-use Rattle.std.specs.Prelude.{ℕ, ◌+◌, ◌<◌, ◌≤◌, Bool, cond, nat_eq, ◌&&◌, List, [], ◌∷◌, length, drop, slice_index, Some, None, Result, Ok, Err}
-use Rattle.std.specs.List.{find, list_any, list_all, zip}
+use Rattle.std.specs.Prelude.{ℕ, ◌+◌, Bool, nat_eq, ◌&&◌, List, [], ◌∷◌, length, drop, slice_index, Result, Ok, Err}
+use Rattle.std.specs.List.{list_all, zip}
 use Rattle.std.specs.Str.{bytes_eq}
 use Rattle.fuxi_terms.specs.Counts.{then_do}
-use Rattle.schedule_unit.specs.Numbers.{number_of}
 use Rattle.schedule_unit.specs.declared.party.AppNo.{AppNo}
 use Rattle.schedule_unit.specs.declared.party.UnitNo.{UnitNo}
 use Rattle.schedule_text.specs.declared.event.LineFault.{LineFault}
-use Rattle.schedule_text.specs.declared.event.LineFault.TheVariants.{UnknownWord, WrongCount, BadNumber, Range}
+use Rattle.schedule_text.specs.declared.event.LineFault.TheVariants.{UnknownWord}
+use Rattle.schedule_text.specs.LineHeads.{head_of as head_in}
+use Rattle.schedule_text.specs.PlaceNumbers.{number_at as number_in, numbers_at as numbers_in}
 use Rattle.schedule_text.specs.Words.{words_of}
 use Rattle.written_work.specs.declared.event.WorkEvent.{WorkEvent}
 use Rattle.written_work.specs.declared.event.WorkEvent.TheVariants as event
@@ -27,23 +28,14 @@ abbrev pub is_head : List (List ℕ) → Head → Bool
 is_head words h = begins (shape_of h) words && has_count (shape_of h) words
 
 abbrev pub head_of : List Head → List (List ℕ) → Result Head LineFault
-head_of heads words = elim (find (is_head words) heads) [
-  | Some h ↦ Ok h
-  | None ↦ Err (cond (list_any (λ h. begins (shape_of h) words) heads) WrongCount UnknownWord)
-]
+head_of heads words = head_in (λ h. begins (shape_of h)) (λ h. has_count (shape_of h)) heads words
 
--- The number at a place: the word has the form of a number, and then it is in range
+-- The number at a place, and the numbers of these places, which stand from a place of the line on
 abbrev pub number_at : Place → ℕ → ℕ → List ℕ → Result ℕ LineFault
-number_at p place before word = elim (number_of word) [
-  | None ↦ Err (BadNumber place)
-  | Some n ↦ cond (is_within p before n) (Ok n) (Err (Range place))
-]
+number_at p place before word = number_in is_within p place before word
 
--- the numbers of these places, which stand from a place of the line on
 abbrev pub numbers_at : List Place → ℕ → ℕ → List (List ℕ) → Result (List ℕ) LineFault
-numbers_at [] place before words = Ok []
-numbers_at (p ∷ ps) place before [] = Ok []
-numbers_at (p ∷ ps) place before (w ∷ ws) = then_do (number_at p place before w) (λ n. then_do (numbers_at ps (place + 1) n ws) (λ ns. Ok (n ∷ ns)))
+numbers_at ps place before words = numbers_in is_within ps place before words
 
 -- The event of a line with these numbers
 abbrev pub app_no : ℕ → AppNo

@@ -1,9 +1,10 @@
 //! The table of event lines.
 
 ghost use Rattle.std.specs.Prelude.{◌≡◌, ◌≤◌, length, map};
-ghost use Rattle.work_text.specs.Forms.{shape_of, as_shape, shape as shape_with, is_within};
+ghost use Rattle.work_text.specs.Forms.{shape_of, as_shape, shape as shape_with};
 
 use fuxi_terms::limits::{GREATEST_COUNT, MOST_JOBS, MOST_UNITS};
+use schedule_text::NumberPlace;
 
 // The numbers of workers are below this.
 const MOST_WORKERS: u64 = 256;
@@ -81,17 +82,25 @@ pub fn form_of(head: Head) -> Form
     }
 }
 
-// Whether a number is in the range of its place, with the number that stands before it.
-pub fn is_within(place: Place, before: u64, number: u64) -> bool
-    ensures { result ≡ is_within place before number }
-{
-    match place {
-        Place::Boot | Place::Packet => number != 0,
-        Place::App => number < MOST_JOBS as u64,
-        Place::Unit => number < MOST_UNITS as u64,
-        Place::Count => number <= GREATEST_COUNT,
-        Place::Worker => number < MOST_WORKERS,
-        Place::Switch => number < 2,
-        Place::LastPacket => number >= before,
+impl NumberPlace for Place {
+    ghost use Rattle.work_text.specs.Forms.{is_within, IsNarrow};
+    ghost use Rattle.work_text.specs.declared.form.Place.TheVariants.{Boot};
+
+    ghost within = { is_within };
+
+    ghost narrow = { IsNarrow };
+
+    ghost other = { Boot };
+
+    fn is_within(self, before: u64, number: u64) -> bool {
+        match self {
+            Place::Boot | Place::Packet => number != 0,
+            Place::App => number < MOST_JOBS as u64,
+            Place::Unit => number < MOST_UNITS as u64,
+            Place::Count => number <= GREATEST_COUNT,
+            Place::Worker => number < MOST_WORKERS,
+            Place::Switch => number < 2,
+            Place::LastPacket => number >= before,
+        }
     }
 }

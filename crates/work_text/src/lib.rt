@@ -5,7 +5,7 @@ mod form;
 mod make;
 mod output;
 mod read;
-mod word;
 
-pub use output::{Kind, Output, Why, write_line};
+pub use output::{Output, Why, write_line};
 pub use read::{lines_give_events, read_work};
+pub use schedule_text::Kind;

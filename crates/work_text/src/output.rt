@@ -1,25 +1,15 @@
 //! The lines that are printed.
 
-ghost use Rattle.std.specs.Prelude.{◌≡◌, ◌++◌, ◌∷◌, [], ℕ, cond, codes, map, OnOk, OnErr, decimal};
-ghost use Rattle.schedule_text.specs.Lines.{party_word, place_word, kind_word, what_word};
-ghost use Rattle.schedule_text.specs.Printing.{as_party};
+ghost use Rattle.std.specs.Prelude.{◌≡◌, ◌++◌, ◌∷◌, map, OnOk, OnErr, decimal};
 ghost use Rattle.schedule_text.specs.Writing.{blanked, spaced, Begins};
 ghost use Rattle.written_work.specs.Lines.{line_words, line_text, why_words};
-ghost use Rattle.work_text.specs.Printing.{as_kind, as_why, as_line};
+ghost use Rattle.work_text.specs.Printing.{as_why, as_line};
 
 use fuxi_terms::{OutOfMemory, What};
-use schedule_unit::{AppNo, Party, Role, UnitNo, write_number};
-
-/// What a packet of a turn is.
-#[derive(Clone, Copy, Debug, PartialEq, Eq)]
-pub enum Kind {
-    /// How far what came the other way has come.
-    Ack,
-    /// The change that leads to an index.
-    Delta,
-    /// The whole ledger of an index.
-    Full,
-}
+use schedule_text::{
+    Kind, push_blanked, push_heard, push_numbered, push_numbers, push_place, push_sent,
+};
+use schedule_unit::{AppNo, Party, UnitNo};
 
 /// Why an event is refused.
 #[derive(Clone, Copy, Debug, Drop, PartialEq, Eq)]
@@ -144,28 +134,6 @@ fn push_why(out: &mut Vec<u8>, why: &Why) -> Result<(), OutOfMemory>
     }
 }
 
-// A word with a blank before it.
-fn push_blanked(out: &mut Vec<u8>, word: &[u8]) -> Result<(), OutOfMemory>
-    ensures ok { OnOk result (out.new.items ≡ out.old.items ++ blanked (word.now ∷ [])) }
-    ensures err { OnErr result (Begins out.old.items out.new.items) }
-{
-    out.push(b' ')?;
-    out.extend_from_slice(word)?;
-    Ok(())
-}
-
-// Each of these numbers, with a blank before it.
-fn push_numbers(out: &mut Vec<u8>, numbers: &[u64]) -> Result<(), OutOfMemory>
-    ensures ok { OnOk result (out.new.items ≡ out.old.items ++ blanked (map decimal numbers.now)) }
-    ensures err { OnErr result (Begins out.old.items out.new.items) }
-{
-    for number in numbers {
-        out.push(b' ')?;
-        write_number(*number, out)?;
-    }
-    Ok(())
-}
-
 // A name and numbers, each with a blank before it.
 fn push_name(out: &mut Vec<u8>, name: &[u8], numbers: &[u64]) -> Result<(), OutOfMemory>
     ensures ok { OnOk result (out.new.items ≡ out.old.items ++ blanked (name.now ∷ map decimal numbers.now)) }
@@ -173,101 +141,4 @@ fn push_name(out: &mut Vec<u8>, name: &[u8], numbers: &[u64]) -> Result<(), OutO
 {
     push_blanked(out, name)?;
     push_numbers(out, numbers)
-}
-
-// A first word and numbers.
-fn push_numbered(out: &mut Vec<u8>, word: &[u8], numbers: &[u64]) -> Result<(), OutOfMemory>
-    ensures ok { OnOk result (out.new.items ≡ out.old.items ++ spaced (word.now ∷ map decimal numbers.now)) }
-    ensures err { OnErr result (Begins out.old.items out.new.items) }
-{
-    out.extend_from_slice(word)?;
-    match push_numbers(out, numbers) {
-        Ok(()) => Ok(()),
-        Err(refusal) => Err(refusal),
-    }
-}
-
-// What a packet of a turn is, behind its number.
-fn push_sent(
-    out: &mut Vec<u8>,
-    from: &Party,
-    to: &Party,
-    kind: Kind,
-    inc: u64,
-    seq: u64,
-) -> Result<(), OutOfMemory>
-    ensures ok { OnOk result (out.new.items ≡ out.old.items ++ blanked (party_word (as_party from.now) ∷ party_word (as_party to.now) ∷ kind_word (as_kind kind) ∷ place_word inc seq ∷ [])) }
-    ensures err { OnErr result (Begins out.old.items out.new.items) }
-{
-    push_party(out, from)?;
-    push_party(out, to)?;
-    push_blanked(out, kind_name(kind))?;
-    push_place(out, inc, seq)
-}
-
-fn push_heard(out: &mut Vec<u8>, fresh: bool, what: &What) -> Result<(), OutOfMemory>
-    ensures ok { OnOk result (out.new.items ≡ out.old.items ++ blanked (cond fresh (codes "new" ∷ what_word what.now ∷ []) (what_word what.now ∷ []))) }
-    ensures err { OnErr result (Begins out.old.items out.new.items) }
-{
-    if fresh {
-        push_blanked(out, b"new")?;
-    }
-    push_blanked(out, what_name(what))
-}
-
-fn kind_name(kind: Kind) -> &'static [u8]
-    ensures { result.now ≡ kind_word (as_kind kind) }
-{
-    match kind {
-        Kind::Ack => b"ack",
-        Kind::Delta => b"delta",
-        Kind::Full => b"full",
-    }
-}
-
-fn what_name(what: &What) -> &'static [u8]
-    ensures { result.now ≡ what_word what.now }
-{
-    match what {
-        What::Stranger => b"stranger",
-        What::Stale => b"stale",
-        What::Ack => b"ack",
-        What::NotMine => b"not-mine",
-        What::Old => b"old",
-        What::Gap => b"gap",
-        What::Taken => b"taken",
-        What::Ledger(_) => b"ledger",
-        What::Exceeds { .. } => b"exceeds",
-    }
-}
-
-fn push_party(out: &mut Vec<u8>, party: &Party) -> Result<(), OutOfMemory>
-    ensures ok { OnOk result (out.new.items ≡ out.old.items ++ blanked (party_word (as_party party.now) ∷ [])) }
-    ensures err { OnErr result (Begins out.old.items out.new.items) }
-{
-    match party.role {
-        Role::Master => push_blanked(out, b"master/")?,
-        Role::Agent => push_named(out, b"agent/", party.number)?,
-        Role::App => push_named(out, b"app/", party.number)?,
-    }
-    write_number(party.inc, out)
-}
-
-// The name and the number of a party, up to its incarnation.
-fn push_named(out: &mut Vec<u8>, name: &[u8], number: u32) -> Result<(), OutOfMemory>
-    ensures ok { OnOk result (out.new.items ≡ out.old.items ++ blanked ((name.now ++ (decimal number ++ codes "/")) ∷ [])) }
-    ensures err { OnErr result (Begins out.old.items out.new.items) }
-{
-    push_blanked(out, name)?;
-    write_number(number as u64, out)?;
-    Ok(out.push(b'/')?)
-}
-
-fn push_place(out: &mut Vec<u8>, inc: u64, seq: u64) -> Result<(), OutOfMemory>
-    ensures ok { OnOk result (out.new.items ≡ out.old.items ++ blanked (place_word inc seq ∷ [])) }
-    ensures err { OnErr result (Begins out.old.items out.new.items) }
-{
-    push_numbers(out, &[inc])?;
-    out.push(b'.')?;
-    write_number(seq, out)
 }

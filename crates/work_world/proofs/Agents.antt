@@ -15,7 +15,7 @@ use Rattle.written_work.specs.World.{World, agent_id, app_id, agent_party, app_p
 use Rattle.work_world.specs.Settles.{IsPublished}
 use Rattle.work_world.specs.Worlds.{IsAgent, AgentAt, IsAppOf, AppOf, AppsAt, Carries, IsFresh, PeerAt, agent_of}
 use Rattle.work_world.specs.declared.parts.Agent.{Agent}
-use Rattle.work_world.proofs.Growing.{Grown, brought_grows, end_grows, published_grown, same_grown}
+use Rattle.work_world.proofs.HistoriesGrow.{Grown, brought_grows, end_grows, published_grown, same_grown}
 use Rattle.work_world.proofs.Peers.{at_settled}
 
 -- the agent's history towards an application

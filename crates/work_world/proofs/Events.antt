@@ -18,7 +18,7 @@ use Rattle.work_world.specs.Moves.{StartsApp}
 use Rattle.work_world.specs.Worlds.{IsAgent, AgentAt, IsApp, IsAppOf, AppAt, AppOf, AppsAt, Carries, IsFresh, Crew, PeerAt, agent_of}
 use Rattle.work_world.specs.declared.parts.Agent.{Agent}
 use Rattle.work_world.specs.declared.parts.Peer.{Peer}
-use Rattle.work_world.proofs.Growing.{Grown, brought_grows, end_grows, present_is, published_grown, same_grown}
+use Rattle.work_world.proofs.HistoriesGrow.{Grown, brought_grows, end_grows, present_is, published_grown, same_grown}
 use Rattle.work_world.proofs.Peers.{at_grows, no_peer_settled}
 use Rattle.work_world.proofs.Agents.{published_after}
 

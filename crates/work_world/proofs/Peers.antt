@@ -13,7 +13,7 @@ use Rattle.written_work.specs.World.{agent_id, app_id, all_units, present}
 use Rattle.work_world.specs.Settles.{IsPublished}
 use Rattle.work_world.specs.Worlds.{Crew, HasPeer, IsPeer, IsNoPeer, PeerAt, agent_of, force_at, settled_work}
 use Rattle.work_world.specs.declared.parts.Peer.{Peer}
-use Rattle.work_world.proofs.Growing.{Grown, end_grows, present_is, published_same, received_is, same_grown}
+use Rattle.work_world.proofs.HistoriesGrow.{Grown, end_grows, present_is, published_same, received_is, same_grown}
 
 pub force_grows : (d : Endpoint TallyRecord ChangeRecord TallyRecord) (b a : ℕ) (l : Link) (hs hs' : histories) (plan : TallyRecord) → IsEnd d (agent_of b) (app_id a) l hs → IsEnd d (agent_of b) (app_id a) l hs' → force_at hs' a l plan ≡ force_at hs a l plan
 force_grows d b a l hs hs' plan e e' =

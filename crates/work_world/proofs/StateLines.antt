@@ -15,7 +15,7 @@ use Rattle.written_work.specs.World.{World, agent_id, agent_link, agent_party, a
 use Rattle.work_world.specs.Worlds.{AppOf, AppsAt, Crew, IsAgent, IsAppOf, IsNoPeer, IsPeer, PeerAt}
 use Rattle.work_world.specs.declared.parts.Agent.{Agent}
 use Rattle.work_world.specs.declared.parts.Peer.{Peer}
-use Rattle.work_world.proofs.Growing.{received_is}
+use Rattle.work_world.proofs.HistoriesGrow.{received_is}
 use Rattle.work_world.proofs.Texts.{flat_more, text_then}
 
 abbrev Ends : Type 0

@@ -4,7 +4,7 @@ ghost use Rattle.std.specs.Prelude.{◌≡◌, ◌≤◌, ◌+◌, None, IsSome,
 ghost use Rattle.fuxi_terms.specs.Limits.{most_units};
 ghost use Rattle.work_world.specs.Settles.{SettlesUnit, SettlesUnits, SettlesPeer, force_of};
 
-use crate::numbers::{marks_of, push_changed};
+use crate::numbers::push_changed;
 use crate::parts::Peer;
 use fuxi_terms::OutOfMemory;
 use ledger_law::Key;
@@ -30,9 +30,9 @@ fn settle_unit(
     ensures { OnOk result (SettlesUnit app.0 unit.0 plan.now count workers.old workers.new numbers.old.items numbers.new.items) }
 {
     let _running = workers.running(app, unit);
-    let before = marks_of(workers, app, unit);
+    let before = workers.marks(app, unit);
     workers.settle(app, unit, plan, count);
-    let after = marks_of(workers, app, unit);
+    let after = workers.marks(app, unit);
     push_changed(unit, &before, &after, numbers)
 }
 

@@ -1,5 +1,5 @@
 use Rattle.epoch_lease.specs.Histories.{all_tenures}
-use Rattle.epoch_lease.proofs.Rising.{all_between, all_rise, has_one_holder, one_at_most}
+use Rattle.epoch_lease.proofs.EpochsRise.{all_between, all_rise, has_one_holder, one_at_most}
 use Rattle.epoch_lease.proofs.laws.epochs_rise.Goals as goal
 
 pub returns-clause-rises : goal.returns-clause-rises

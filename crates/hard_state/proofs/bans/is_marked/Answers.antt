@@ -1,5 +1,5 @@
 use Rattle.std.proofs.Common.{arith}
-use Rattle.hard_state.proofs.Marking.{marked_at, none_beyond}
+use Rattle.hard_state.proofs.BansLemmas.{marked_at, none_beyond}
 use Rattle.hard_state.proofs.bans.is_marked.Goals as goal
 
 pub returns-then-number-ge256-clause-marked : goal.returns-then-number-ge256-clause-marked

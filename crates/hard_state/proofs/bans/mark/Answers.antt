@@ -1,5 +1,5 @@
 use Rattle.std.proofs.Common.{◌<◌, length, rules}
-use Rattle.hard_state.proofs.Marking.{marked_more}
+use Rattle.hard_state.proofs.BansLemmas.{marked_more}
 use Rattle.hard_state.proofs.bans.mark.Goals as goal
 
 pub returns : goal.returns

@@ -1,5 +1,5 @@
 use Rattle.std.proofs.Common.{arith}
-use Rattle.hard_state.proofs.Rising.{rises_from, low_from}
+use Rattle.hard_state.proofs.MarksRise.{rises_from, low_from}
 use Rattle.hard_state.proofs.bans.marks_rise.Goals as goal
 
 pub returns-clause-rise : goal.returns-clause-rise

@@ -1,5 +1,5 @@
 use Rattle.std.proofs.Common.{◌<◌, length, rules}
-use Rattle.hard_state.proofs.Marking.{marked_fewer}
+use Rattle.hard_state.proofs.BansLemmas.{marked_fewer}
 use Rattle.hard_state.proofs.bans.unmark.Goals as goal
 
 pub returns : goal.returns

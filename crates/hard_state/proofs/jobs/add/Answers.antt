@@ -4,7 +4,7 @@ use Rattle.fuxi_terms.specs.Jobs.{KnownJob, job_of}
 use Rattle.fuxi_terms.proofs.Lookups.{none_is}
 use Rattle.hard_state.specs.HardFiles.{known_job}
 use Rattle.hard_state.specs.Index.{IsIndex}
-use Rattle.hard_state.proofs.Indexing.{room_of, number_below, index_added}
+use Rattle.hard_state.proofs.IndexLemmas.{room_of, number_below, index_added}
 use Rattle.hard_state.proofs.jobs.add.Goals as goal
 
 pub unreachable-requires : goal.unreachable-requires

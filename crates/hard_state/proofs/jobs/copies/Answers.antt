@@ -2,7 +2,7 @@ use Rattle.std.proofs.Common.{◌≡◌, ap, arith}
 use Rattle.fuxi_terms.specs.Cluster.{JobRecord}
 use Rattle.fuxi_terms.specs.Jobs.{KnownJob}
 use Rattle.hard_state.specs.HardFiles.{known_job}
-use Rattle.hard_state.proofs.Indexing.{copied_more}
+use Rattle.hard_state.proofs.IndexLemmas.{copied_more}
 use Rattle.hard_state.proofs.jobs.copies.Goals as goal
 
 pub loop-entry-preserved : goal.loop-entry-preserved

@@ -3,7 +3,7 @@ use Rattle.fuxi_terms.specs.Jobs.{KnownJob}
 use Rattle.hard_state.specs.declared.jobs.Entry.{Entry}
 use Rattle.hard_state.specs.HardFiles.{known_job}
 use Rattle.hard_state.specs.Index.{IsIndex}
-use Rattle.hard_state.proofs.Indexing.{item_there, mapped_there, mapped_set, ended_there, index_ended, place_within}
+use Rattle.hard_state.proofs.IndexLemmas.{item_there, mapped_there, mapped_set, ended_there, index_ended, place_within}
 use Rattle.hard_state.proofs.jobs.end.Goals as goal
 
 pub returns-clause-jobs : goal.returns-clause-jobs

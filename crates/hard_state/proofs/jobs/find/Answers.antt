@@ -1,6 +1,6 @@
 use Rattle.std.proofs.Common.{◌-◌, map, sym}
 use Rattle.hard_state.specs.HardFiles.{known_job}
-use Rattle.hard_state.proofs.Indexing.{item_there, mapped_there, found_there, place_within}
+use Rattle.hard_state.proofs.IndexLemmas.{item_there, mapped_there, found_there, place_within}
 use Rattle.hard_state.proofs.jobs.find.Goals as goal
 
 pub returns-clause-some : goal.returns-clause-some

@@ -1,4 +1,4 @@
-use Rattle.hard_state.proofs.Openings.{begins_where}
+use Rattle.hard_state.proofs.OpensAsTheFile.{begins_where}
 use Rattle.hard_state.proofs.opening.begin.Goals as goal
 
 pub returns-clause-told : goal.returns-clause-told

@@ -1,14 +1,14 @@
 use Rattle.std.proofs.Common.{◌≡◌, Ok, Err, refl, sym, ap, ◌∙◌, ◌-◌, ◌<◌, arith, length, length-drop, rules}
 use Rattle.fuxi_terms.specs.Limits.{most_records}
 use Rattle.written_roles.specs.HardState.{HardState}
-use Rattle.hard_state.proofs.Openings.{empty_piece, walk_starts, ends_closed, ends_damaged, goes_on}
+use Rattle.hard_state.proofs.OpensAsTheFile.{empty_piece, walk_starts, ends_closed, ends_damaged, goes_on}
 use Rattle.hard_state.proofs.opening.read.Goals as goal
 
 pub loop-number-init : goal.loop-number-init
 loop-number-init g c = record {
   told = refl;
   size = refl;
-  later = omega arith;
+  served = refl;
   holds = λ t is. empty_piece c.in-Ok-new.window t.now.bytes c.in-Ok-new.ensures;
   from = search rules;
   to = omega arith;
@@ -49,7 +49,7 @@ loop-number-preserved g c =
     record {
       told = c.reach.ensures.told ∙ inv.told;
       size = c.reach.ensures.size ∙ inv.size;
-      later = omega (arith, c.reach.ensures.cause.later, inv.later);
+      served = c.in-Ok-reach.ensures.served ∙ inv.served;
       holds = λ u at. c.in-Ok-reach.ensures.holds u (inv.told ∙ at) (inv.holds u at);
       from = omega (arith, reaches.from);
       to = omega (arith, fits, seen, dropped, reaches.to, reaches.from);

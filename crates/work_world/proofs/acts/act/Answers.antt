@@ -2,7 +2,7 @@ use Rattle.std.proofs.Common.{sym, subst, OnOk}
 use Rattle.written_work.specs.Events.{act}
 use Rattle.written_work.specs.declared.event.WorkEvent.{WorkEvent}
 use Rattle.work_world.specs.Steps.{Acts}
-use Rattle.work_world.proofs.Acting.{stopped_well}
+use Rattle.work_world.proofs.StartsAndPlans.{stopped_well}
 use Rattle.work_world.proofs.acts.act.Goals as goal
 
 pub returns-in-Plan-clause-acts : goal.returns-in-Plan-clause-acts

@@ -2,9 +2,9 @@ use Rattle.std.proofs.Common.{◌≡◌, None, Some, get_or, refl, sym, ◌∙�
 use Rattle.std.specs.Option.{is_some}
 use Rattle.std.proofs.lemmas.List.{get_or-set_same, get_or-set_other}
 use Rattle.std.proofs.lemmas.Result.{on_ok_weaker}
-use Rattle.work_world.proofs.Acting.{app_planned}
-use Rattle.work_world.proofs.Delivering.{app_is}
-use Rattle.work_world.proofs.Growing.{at_there, within}
+use Rattle.work_world.proofs.StartsAndPlans.{app_planned}
+use Rattle.work_world.proofs.PacketDelivered.{app_is}
+use Rattle.work_world.proofs.HistoriesGrow.{at_there, within}
 use Rattle.work_world.proofs.acts.plan.Goals as goal
 
 pub returns-clause-acts : goal.returns-clause-acts

@@ -1,7 +1,7 @@
 use Rattle.std.proofs.Common.{None, get_or, refl, sym, ◌∙◌, ap, subst, arith}
 use Rattle.std.proofs.lemmas.Result.{on_ok_weaker}
 use Rattle.work_world.specs.Worlds.{AppOf}
-use Rattle.work_world.proofs.Acting.{app_begun}
+use Rattle.work_world.proofs.StartsAndPlans.{app_begun}
 use Rattle.work_world.proofs.acts.start.Goals as goal
 
 pub returns-clause-acts : goal.returns-clause-acts

@@ -1,5 +1,5 @@
 use Rattle.std.proofs.Common.{refl, sym, ◌∙◌, ap, subst, arith}
-use Rattle.work_world.proofs.Acting.{agent_begun}
+use Rattle.work_world.proofs.StartsAndPlans.{agent_begun}
 use Rattle.work_world.proofs.acts.start_agent.Goals as goal
 
 pub returns-clause-acts : goal.returns-clause-acts

@@ -1,6 +1,6 @@
 use Rattle.std.proofs.Common.{refl, sym, ◌∙◌}
 use Rattle.std.proofs.lemmas.Result.{on_ok_weaker}
-use Rattle.work_world.proofs.Growing.{not_there, on_ok_both}
+use Rattle.work_world.proofs.HistoriesGrow.{not_there, on_ok_both}
 use Rattle.work_world.proofs.Told.{room_made}
 use Rattle.work_world.proofs.agent.ensure_peer.Goals as goal
 

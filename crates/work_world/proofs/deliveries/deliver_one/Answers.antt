@@ -1,7 +1,7 @@
 use Rattle.std.proofs.Common.{◌≡◌, ◌-◌, Some, slice_get, refl, sym, ◌∙◌, ap, subst}
 use Rattle.std.proofs.lemmas.Result.{on_ok_weaker}
-use Rattle.work_world.proofs.Growing.{got_at}
-use Rattle.work_world.proofs.Ranging.{one_delivered}
+use Rattle.work_world.proofs.HistoriesGrow.{got_at}
+use Rattle.work_world.proofs.RangesDelivered.{one_delivered}
 use Rattle.work_world.proofs.deliveries.deliver_one.Goals as goal
 
 pub returns-clause-acts : goal.returns-clause-acts

@@ -2,7 +2,7 @@ use Rattle.std.proofs.Common.{◌≡◌, ◌+◌, ◌-◌, true, false, nat_lt, 
 use Rattle.written_work.specs.Events.{Step, deliveries, refused}
 use Rattle.written_work.specs.Lines.{NoPacket}
 use Rattle.work_world.specs.Steps.{StepsTo}
-use Rattle.work_world.proofs.Ranging.{enough, range_begins, range_ends, range_goes}
+use Rattle.work_world.proofs.RangesDelivered.{enough, range_begins, range_ends, range_goes}
 use Rattle.work_world.proofs.deliveries.deliver_range.Goals as goal
 
 pub loop-number-preserved : goal.loop-number-preserved

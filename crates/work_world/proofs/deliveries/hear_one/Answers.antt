@@ -4,8 +4,8 @@ use Rattle.schedule_unit.specs.declared.party.Role.{Role}
 use Rattle.work_ends.specs.Ends.{packet_of}
 use Rattle.written_net.specs.Net.{Party}
 use Rattle.work_world.specs.Worlds.{Between}
-use Rattle.work_world.proofs.Delivering.{agent_stays, apps_stay}
-use Rattle.work_world.proofs.Growing.{packet_to}
+use Rattle.work_world.proofs.PacketDelivered.{agent_stays, apps_stay}
+use Rattle.work_world.proofs.HistoriesGrow.{packet_to}
 use Rattle.work_world.proofs.deliveries.hear_one.Goals as goal
 
 pub returns-in-Agent : goal.returns-in-Agent

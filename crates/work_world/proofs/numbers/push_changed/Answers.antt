@@ -1,6 +1,6 @@
 use Rattle.std.proofs.Common.{◌++◌, ◌∷◌, [], None, Some, refl, sym, ◌∙◌, ap, arith, append-nil, append_assoc}
 use Rattle.work_world.specs.Numbers.{changed, name_of}
-use Rattle.work_world.proofs.Naming.{changed_more, none_changed}
+use Rattle.work_world.proofs.NamesThatChange.{changed_more, none_changed}
 use Rattle.work_world.proofs.numbers.push_changed.Goals as goal
 
 pub loop-number-init : goal.loop-number-init

@@ -2,7 +2,7 @@ use Rattle.std.proofs.Common.{◌≡◌, true, nat_eq, refl, sym, ◌∙◌, ap,
 use Rattle.std.proofs.lemmas.Bool.Decides.{nat_tests}
 use Rattle.fuxi_terms.proofs.Booleans.{both_true, number_is}
 use Rattle.delta_channel.specs.declared.receiver.Place.{Place}
-use Rattle.work_world.proofs.Hearing.{heard_none, heard_same, heard_settled}
+use Rattle.work_world.proofs.AgentHearsApps.{heard_none, heard_same, heard_settled}
 use Rattle.work_world.proofs.peer.hear_peer.Goals as goal
 
 pub returns-then-after-eq0 : goal.returns-then-after-eq0

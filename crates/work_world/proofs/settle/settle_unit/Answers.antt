@@ -10,9 +10,9 @@ returns c = on_ok_weaker c.push_changed.result (λ changes. record {
   others = c.settle.ensures.others;
   admitted = c.settle.ensures.admitted;
   distinct = c.running-running.ensures.distinct;
-  ran = c.marks_of-before.result;
-  run = c.marks_of-after.result;
-  marks_before = c.marks_of-before.ensures;
-  marks_after = c.marks_of-after.ensures;
+  ran = c.marks-before.result;
+  run = c.marks-after.result;
+  marks_before = c.marks-before.ensures;
+  marks_after = c.marks-after.ensures;
   changes = changes;
 }) c.push_changed.ensures

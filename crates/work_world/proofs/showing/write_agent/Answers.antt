@@ -5,7 +5,7 @@ use Rattle.fuxi_terms.specs.Lists.{below}
 use Rattle.written_work.specs.Events.{agent_app_lines}
 use Rattle.written_work.specs.Lines.{AgentIs, line_text, lines_text}
 use Rattle.work_world.proofs.Texts.{one_text}
-use Rattle.work_world.proofs.Growing.{at_there, not_there}
+use Rattle.work_world.proofs.HistoriesGrow.{at_there, not_there}
 use Rattle.work_world.proofs.StateLines.{agent_more, agent_none, agent_whole, no_app, no_peer_lines, there_app}
 use Rattle.work_world.proofs.showing.write_agent.Goals as goal
 

@@ -5,8 +5,8 @@ use Rattle.fuxi_terms.specs.Lists.{below}
 use Rattle.written_work.specs.Events.{app_lines}
 use Rattle.written_work.specs.Lines.{lines_text}
 use Rattle.written_work.specs.World.{all_apps}
-use Rattle.work_world.proofs.Delivering.{app_is}
-use Rattle.work_world.proofs.Growing.{at_there, not_there}
+use Rattle.work_world.proofs.PacketDelivered.{app_is}
+use Rattle.work_world.proofs.HistoriesGrow.{at_there, not_there}
 use Rattle.work_world.proofs.StateLines.{no_app, no_app_lines, text_none}
 use Rattle.work_world.proofs.Texts.{text_more}
 use Rattle.work_world.proofs.showing.write_apps.Goals as goal

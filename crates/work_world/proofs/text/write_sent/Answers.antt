@@ -1,7 +1,7 @@
 use Rattle.std.proofs.Common.{◌≡◌, ◌+◌, ◌++◌, get_or, sym, ◌∙◌, ap}
 use Rattle.work_ends.specs.Ends.{packet_of}
 use Rattle.written_work.specs.Lines.{Line, Sent, line_text}
-use Rattle.work_world.proofs.Sending.{sent_more}
+use Rattle.work_world.proofs.PacketsStandBehind.{sent_more}
 use Rattle.work_world.proofs.text.write_sent.Goals as goal
 
 pub loop-index-preserved : goal.loop-index-preserved

@@ -6,7 +6,7 @@ use Rattle.written_work.specs.declared.event.WorkEvent.TheVariants.{TurnAgent}
 use Rattle.written_work.specs.World.{World}
 use Rattle.work_world.specs.Steps.{Exceeds, Finishes}
 use Rattle.work_world.specs.Worlds.{AgentAt, AppsAt, IsAgent}
-use Rattle.work_world.proofs.Sending.{agent_exceeds, agent_turned, sends_longer, stops_as}
+use Rattle.work_world.proofs.PacketsStandBehind.{agent_exceeds, agent_turned, kept_within, stops_as}
 use Rattle.work_world.proofs.turns.turn_agent.Goals as goal
 
 pub finish-requires : goal.finish-requires
@@ -15,10 +15,8 @@ finish-requires c =
     let w = c.requires.held.0 in
     let s = c.requires.held.1 in
     let g : IsAgent c.in-Some.agent w = subst (λ o. AgentAt o w) c.in-Some.is s.agent in
-    let longer = sends_longer r.packets.items c.send_to_all.new.packets.items w.net.histories _ (c.in-Ok.ensures.sends w g (subst (λ xs. AppsAt xs w) (sym c.deref-2.ensures.value) s.apps)) in
-    let kept = c.sent_so_far-kept.ensures ∙ ap (λ (xs : List Parcel). length xs) c.deref.ensures.value in
-    let now = ap (λ (xs : List Parcel). length xs) c.deref-3.ensures.value in
-    omega (arith, longer, kept, now)
+    kept_within r.packets.items c.send_to_all.new.packets.items _ _ c.sent_so_far-kept.result w.net.histories _ (c.in-Ok.ensures.sends w g (subst (λ xs. AppsAt xs w) (sym c.deref-2.ensures.value) s.apps))
+    c.sent_so_far-kept.ensures c.deref.ensures.value c.deref-3.ensures.value
 
 pub returns-clause-acts : goal.returns-clause-acts
 returns-clause-acts c =

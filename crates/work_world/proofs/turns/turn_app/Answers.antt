@@ -5,9 +5,9 @@ use Rattle.work_ends.specs.declared.ends.Parcel.{Parcel}
 use Rattle.written_work.specs.Events.{act}
 use Rattle.written_work.specs.declared.event.WorkEvent.TheVariants.{TurnApp}
 use Rattle.work_world.specs.Steps.{Exceeds, Finishes}
-use Rattle.work_world.proofs.Delivering.{app_is}
-use Rattle.work_world.proofs.Growing.{at_there}
-use Rattle.work_world.proofs.Sending.{app_exceeds, app_turned, sends_longer, stops_as}
+use Rattle.work_world.proofs.PacketDelivered.{app_is}
+use Rattle.work_world.proofs.HistoriesGrow.{at_there}
+use Rattle.work_world.proofs.PacketsStandBehind.{app_exceeds, app_turned, kept_within, stops_as}
 use Rattle.work_world.proofs.turns.turn_app.Goals as goal
 
 pub finish-requires : goal.finish-requires
@@ -17,10 +17,8 @@ finish-requires c =
     let was : get_or r.apps.items app None ≡ Some c.in-Some.ends = at_there r.apps.items app c.index.result.now (sym (c.has.ensures ∙ ap (λ xs. is_some (get_or xs app None)) c.deref-2.ensures.value) ∙ c.if-not-has.false) c.index.ensures ∙ c.in-Some.is in
     let w = c.requires.held.0 in
     let s = c.requires.held.1 in
-    let longer = sends_longer r.packets.items c.send_to_agent.new.packets.items w.net.histories _ (c.in-Ok.ensures w (app_is r.apps.items w app c.in-Some.ends was s.apps)) in
-    let kept = c.sent_so_far-kept.ensures ∙ ap (λ (xs : List Parcel). length xs) c.deref.ensures.value in
-    let now = ap (λ (xs : List Parcel). length xs) c.deref-3.ensures.value in
-    omega (arith, longer, kept, now)
+    kept_within r.packets.items c.send_to_agent.new.packets.items _ _ c.sent_so_far-kept.result w.net.histories _ (c.in-Ok.ensures w (app_is r.apps.items w app c.in-Some.ends was s.apps))
+    c.sent_so_far-kept.ensures c.deref.ensures.value c.deref-3.ensures.value
 
 pub returns-clause-acts : goal.returns-clause-acts
 returns-clause-acts c =

@@ -5,7 +5,7 @@ use Rattle.epoch_lease.specs.declared.event.LeaseOut.TheVariants.{Granted}
 use Rattle.epoch_lease.specs.declared.event.LeaseFault.TheVariants.{DiskFault, OutOfMemory}
 use Rattle.epoch_lease.specs.Files.{KeptLease, LeavesStep, lease_of}
 use Rattle.epoch_lease.specs.Leases.{lease_step}
-use Rattle.epoch_lease.proofs.Leaving.{quiet, quiet_fault, wrote, failed}
+use Rattle.epoch_lease.proofs.StepsLeave.{quiet, quiet_fault, wrote, failed}
 use Rattle.epoch_lease.proofs.lease.Lease.acquire.Goals as goal
 
 pub returns-in-Some-clause-told : goal.returns-in-Some-clause-told

@@ -1,5 +1,5 @@
 use Rattle.std.proofs.Common.{refl}
-use Rattle.epoch_lease.proofs.Leaving.{quiet}
+use Rattle.epoch_lease.proofs.StepsLeave.{quiet}
 use Rattle.epoch_lease.proofs.lease.Lease.step.Goals as goal
 
 pub returns-in-Renew-clause-told : goal.returns-in-Renew-clause-told

@@ -1,4 +1,4 @@
-use Rattle.hard_state.proofs.Marking.{none_marked}
+use Rattle.hard_state.proofs.BansLemmas.{none_marked}
 use Rattle.hard_state.proofs.bans.NumberSet.none.Goals as goal
 
 pub returns : goal.returns

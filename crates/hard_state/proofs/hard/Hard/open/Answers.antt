@@ -4,7 +4,7 @@ use Rattle.fuxi_io.specs.Disks.{WhereTold}
 use Rattle.hard_state.specs.HardFiles.{SyncsAll}
 use Rattle.hard_state.specs.declared.fault.HardFault.{HardFault}
 use Rattle.hard_state.specs.declared.fault.HardFault.TheVariants.{NotCheckpoint}
-use Rattle.hard_state.proofs.Openings.{opening_rests, opening_begins, opens_begun, opens_read, opens_damaged, settling_fails}
+use Rattle.hard_state.proofs.OpensAsTheFile.{opening_rests, opening_begins, opens_begun, opens_read, opens_damaged, settling_fails}
 use Rattle.hard_state.proofs.hard.Hard.open.Goals as goal
 
 pub returns-in-Err-clause-told : goal.returns-in-Err-clause-told

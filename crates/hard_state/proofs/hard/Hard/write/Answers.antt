@@ -1,8 +1,7 @@
-use Rattle.std.proofs.Common.{◌≡◌, ◌+◌, ◌<◌, length, Ok, Err, ◌∙◌, ap, rules, subst, arith}
+use Rattle.std.proofs.Common.{◌≡◌, ◌+◌, length, Ok, Err, ◌∙◌, ap, rules, arith}
 use Rattle.fuxi_io.specs.declared.outside.Failed.{Failed}
 use Rattle.fuxi_io.specs.Disks.{WhereTold}
-use Rattle.fuxi_terms.specs.Limits.{most_records}
-use Rattle.written_roles.specs.HardState.{HardState, hard_step, hard_after}
+use Rattle.written_roles.specs.HardState.{hard_after}
 use Rattle.hard_records.specs.Bodies.{body_of}
 use Rattle.hard_state.specs.declared.fault.HardFault.{HardFault}
 use Rattle.hard_state.specs.declared.fault.HardFault.TheVariants.{DiskFault, OutOfMemory}
@@ -10,9 +9,9 @@ use Rattle.hard_state.specs.Gates.{Appends, appending_calls}
 use Rattle.hard_state.specs.Moments.{writing_calls}
 use Rattle.hard_state.specs.Checkpoints.{behind_gate}
 use Rattle.hard_state.specs.HardFiles.{Kept, event_of}
-use Rattle.hard_state.proofs.Standing.{length-behind}
+use Rattle.hard_state.proofs.StandsWhileAppended.{length-behind}
 use Rattle.hard_state.proofs.MomentsLemmas.{calls_same, all_made, some_made, none_made, nothing_made}
-use Rattle.hard_state.proofs.Stops.{refused_where, failed_where, written_where, takes, at_same}
+use Rattle.hard_state.proofs.Stops.{refused_where, failed_where, written_where, ready, at_same}
 use Rattle.hard_state.proofs.hard.Hard.write.Goals as goal
 
 pub returns-in-Err-clause-told : goal.returns-in-Err-clause-told
@@ -27,18 +26,14 @@ returns-in-Ok-append-clause-told g c =
     let epoch = c.args.epoch in
     let event = event_of c.args.change in
     let body = body_of c.args.change in
-    let value : c.self.inside.state ≡ before.value = ap (λ (k : Kept). k.value) c.self.view_is in
-    let steps : hard_step before.value epoch event ≡ Ok (hard_after before.value epoch event) =
-    subst (λ (h : HardState). hard_step h epoch event ≡ Ok (hard_after h epoch event)) value c.in-Ok.ensures.ok in
-    let room : before.value.records < most_records = subst (λ (h : HardState). h.records < most_records) value c.in-Ok.ensures.room in
-    let taken_as = takes before.value _ epoch c.args.change c.requires.asked c.encode.ensures.back steps in
+    let r = ready before c.self.inside.state epoch c.args.change (ap (λ (k : Kept). k.value) c.self.view_is) c.requires.asked c.encode.ensures.back c.in-Ok.ensures.ok c.in-Ok.ensures.room in
     let bytes : c.deref.result.now ≡ behind_gate body = c.deref.ensures.value ∙ c.in-Ok-encode.ensures.bytes in
     let appends : WhereTold (Appends {E = Failed} before.gate (behind_gate body) (Ok (record {}))) (g.D.Disk.told c.args.disk.now) (g.D.Disk.told c.append.new.disk) =
     at_same {E = Failed} before.gate (behind_gate body) _ _ (Ok (record {})) _ _ (ap (λ (k : Kept). k.gate) c.self.view_is) bytes c.in-Ok-append.ensures.told in
     let made : length c.in-Ok-encode.bytes.items ≡ 5 + length body = ap length c.in-Ok-encode.ensures.bytes ∙ length-behind body in
     let size : c.len.result ≡ 5 + length body = search (rules, made) in
-    written_where before (hard_after before.value epoch event) _ body steps taken_as room (omega (arith, c.encode.ensures.body)) Failed HardFault _ _ _ _ _ _
-    (c.make.ensures ∙ ap (λ (h : HardState). hard_after h epoch event) value) (ap (λ n. c.self.inside.gate + n) size ∙ ap (λ (k : Kept). k.gate + (5 + length body)) c.self.view_is)
+    written_where before (hard_after before.value epoch event) _ body r.steps r.taken_as r.room (omega (arith, c.encode.ensures.body)) Failed HardFault _ _ _ _ _ _
+    (c.make.ensures ∙ ap (λ (k : Kept). hard_after k.value epoch event) c.self.view_is) (ap (λ n. c.self.inside.gate + n) size ∙ ap (λ (k : Kept). k.gate + (5 + length body)) c.self.view_is)
     c.requires.long (g.met.D.Disk.measured c.args.disk.now) appends
 
 pub returns-in-Err-append-clause-told : goal.returns-in-Err-append-clause-told
@@ -47,15 +42,11 @@ returns-in-Err-append-clause-told g c =
     let epoch = c.args.epoch in
     let event = event_of c.args.change in
     let body = body_of c.args.change in
-    let value : c.self.inside.state ≡ before.value = ap (λ (k : Kept). k.value) c.self.view_is in
-    let steps : hard_step before.value epoch event ≡ Ok (hard_after before.value epoch event) =
-    subst (λ (h : HardState). hard_step h epoch event ≡ Ok (hard_after h epoch event)) value c.in-Ok.ensures.ok in
-    let room : before.value.records < most_records = subst (λ (h : HardState). h.records < most_records) value c.in-Ok.ensures.room in
-    let taken_as = takes before.value _ epoch c.args.change c.requires.asked c.encode.ensures.back steps in
+    let r = ready before c.self.inside.state epoch c.args.change (ap (λ (k : Kept). k.value) c.self.view_is) c.requires.asked c.encode.ensures.back c.in-Ok.ensures.ok c.in-Ok.ensures.room in
     let bytes : c.deref.result.now ≡ behind_gate body = c.deref.ensures.value ∙ c.in-Ok-encode.ensures.bytes in
     let appends : WhereTold (Appends {E = Failed} before.gate (behind_gate body) (Err (record {}))) (g.D.Disk.told c.args.disk.now) (g.D.Disk.told c.append.new.disk) =
     at_same {E = Failed} before.gate (behind_gate body) _ _ (Err (record {})) _ _ (ap (λ (k : Kept). k.gate) c.self.view_is) bytes c.in-Err-append.ensures.told in
-    failed_where before (hard_after before.value epoch event) _ body steps taken_as room (omega (arith, c.encode.ensures.body)) Failed HardFault _ before _ _ (record {}) DiskFault
+    failed_where before (hard_after before.value epoch event) _ body r.steps r.taken_as r.room (omega (arith, c.encode.ensures.body)) Failed HardFault _ before _ _ (record {}) DiskFault
     c.requires.long (g.met.D.Disk.measured c.args.disk.now) appends
 
 pub returns-in-Err-clause-moments : goal.returns-in-Err-clause-moments

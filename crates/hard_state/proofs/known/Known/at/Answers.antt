@@ -5,7 +5,7 @@ use Rattle.fuxi_terms.specs.Jobs.{job_of}
 use Rattle.hard_state.specs.HardFiles.{known_job}
 use Rattle.hard_state.specs.Index.{job_at}
 use Rattle.hard_state.specs.Knowledge.{Knowledge}
-use Rattle.hard_state.proofs.Indexing.{mapped_there}
+use Rattle.hard_state.proofs.IndexLemmas.{mapped_there}
 use Rattle.hard_state.proofs.known.Known.at.Goals as goal
 
 pub returns-clause-found : goal.returns-clause-found

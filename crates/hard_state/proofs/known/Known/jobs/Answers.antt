@@ -2,7 +2,7 @@ use Rattle.std.proofs.Common.{map, ap, ◌∙◌, rules}
 use Rattle.fuxi_terms.specs.Jobs.{is_known}
 use Rattle.hard_state.specs.HardFiles.{known_job}
 use Rattle.hard_state.specs.Knowledge.{Knowledge}
-use Rattle.hard_state.proofs.Indexing.{most_known, known_small}
+use Rattle.hard_state.proofs.IndexLemmas.{most_known, known_small}
 use Rattle.hard_state.proofs.known.Known.jobs.Goals as goal
 
 pub returns-clause-few : goal.returns-clause-few

@@ -1,6 +1,6 @@
 use Rattle.std.proofs.Common.{ap, map, rules}
 use Rattle.hard_state.specs.HardFiles.{known_job}
-use Rattle.hard_state.proofs.Indexing.{first_index}
+use Rattle.hard_state.proofs.IndexLemmas.{first_index}
 use Rattle.hard_state.proofs.known.Known.nothing.Goals as goal
 
 pub invariant_of-result : goal.invariant_of-result

@@ -1,4 +1,5 @@
-use Rattle.std.proofs.Common.{List, length, ap, subst, arith}
+use Rattle.std.proofs.Common.{◌<◌, List, length, ap, subst, arith}
+use Rattle.std.specs.List.{AllByRecursion}
 use Rattle.std.proofs.lemmas.List.{length-map}
 use Rattle.work_plan.specs.Plans.{most_workers}
 use Rattle.work_plan.specs.Crews.{workers_of, Distinct}
@@ -16,3 +17,6 @@ returns-clause-few c =
 
 pub returns-clause-distinct : goal.returns-clause-distinct
 returns-clause-distinct c = subst (λ (ms : List Member). Distinct (workers_of ms)) c.self.view_is c.self.invariant.0.distinct
+
+pub returns-clause-within : goal.returns-clause-within
+returns-clause-within c = subst (λ (ms : List Member). AllByRecursion (λ n. n < most_workers) (workers_of ms)) c.self.view_is c.self.invariant.0.within

@@ -3,7 +3,7 @@ use Rattle.work_ends.specs.declared.ends.Parcel.{Parcel}
 use Rattle.written_work.specs.Runs.{most_work_packets}
 use Rattle.written_work.specs.States.{AtStart}
 use Rattle.written_work.specs.World.{empty_world}
-use Rattle.work_world.proofs.Acting.{begun}
+use Rattle.work_world.proofs.StartsAndPlans.{begun}
 use Rattle.work_world.proofs.working.Working.start.Goals as goal
 
 pub returns-clause-reached : goal.returns-clause-reached

@@ -1,7 +1,7 @@
 use Rattle.std.proofs.Common.{refl}
 use Rattle.std.proofs.lemmas.Result.{IfErr-weaker, on_ok_weaker}
-use Rattle.work_world.proofs.Acting.{step_events, step_kept, step_reached, step_stops, step_taken}
-use Rattle.work_world.proofs.Growing.{on_ok_both}
+use Rattle.work_world.proofs.StartsAndPlans.{step_events, step_kept, step_reached, step_stops, step_taken}
+use Rattle.work_world.proofs.HistoriesGrow.{on_ok_both}
 use Rattle.work_world.proofs.working.Working.step.Goals as goal
 
 pub act-requires-clause-held : goal.act-requires-clause-held

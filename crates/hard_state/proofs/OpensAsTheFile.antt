@@ -12,9 +12,9 @@ use Rattle.hard_state.specs.Checkpoints.{Opened, Closed, Damaged, Whole, found_a
 use Rattle.hard_state.specs.Pieces.{Piece, IsPieceOf, Reaches, end_of}
 use Rattle.hard_state.specs.HardFiles.{record_taken, taken, reads_as, value_of, records_of, Kept, opened_as, Opens, OpensAs, IsDamagedAt, Begins}
 use Rattle.hard_state.proofs.Images.{synced_image, length-overwritten}
-use Rattle.hard_state.proofs.Reading.{reads_closed, reads_damaged, reads_whole, found_piece}
+use Rattle.hard_state.proofs.ReadsAlike.{reads_closed, reads_damaged, reads_whole, found_piece}
 use Rattle.hard_state.proofs.Runs.{Then, then_where, map_where, knowing_first, knowing_second, IsLong, leaves_first, leaves_write, leaves_sync}
-use Rattle.hard_state.proofs.Standing.{closed_reads}
+use Rattle.hard_state.proofs.StandsWhileAppended.{closed_reads}
 
 -- a record is found in a piece of the file
 record_bounded : (h : HardState) (o : Option Record) (next : HardState) (P : Type 0) → record_taken h o ≡ Some next → ((r : Record) → o ≡ Some r → P) → P

@@ -7,7 +7,7 @@ use Rattle.std.proofs.lemmas.Nat.{from_be_bytes-to_be_bytes_4}
 use Rattle.std.specs.Int.{to_be_bytes, w32}
 use Rattle.hard_state.specs.Gates.{IsAppending}
 use Rattle.hard_state.specs.Checkpoints.{behind_gate, is_open, Found, Closed, Damaged, Whole, Opened, read_from, found_record, found_at, read_on, read_file}
-use Rattle.hard_state.proofs.Reading.{cond_cases, makes_whole, whole_is, ok_is, reads_closed, Continues, continues}
+use Rattle.hard_state.proofs.ReadsAlike.{cond_cases, makes_whole, whole_is, ok_is, reads_closed, Continues, continues}
 
 pub length-behind : (body : List ℕ) → length (behind_gate body) ≡ 5 + length body
 length-behind body = omega (arith, length-append body (0 ∷ []))

@@ -22,7 +22,7 @@ use Rattle.work_world.specs.Moves.{HeardPeer, HearsPeer, KeepsPlan}
 use Rattle.work_world.specs.Settles.{Crews, IsPublished, SettlesPeer, is_outside}
 use Rattle.work_world.specs.Worlds.{Crew, HasPeer, IsPeer, agent_of, force_at, settled_work}
 use Rattle.work_world.specs.declared.parts.Peer.{Peer}
-use Rattle.work_world.proofs.Growing.{packet_from, received_is}
+use Rattle.work_world.proofs.HistoriesGrow.{packet_from, received_is}
 use Rattle.work_world.proofs.Peers.{peer_settled}
 
 -- A packet of the known incarnation, or of an earlier one, leaves no place that is none

@@ -26,8 +26,8 @@ use Rattle.work_world.specs.Numbers.{Tells}
 use Rattle.work_world.specs.Settles.{Crews, IsPublished, SettlesPeer, SettlesUnit, SettlesUnits, force_of, is_outside}
 use Rattle.work_world.specs.Worlds.{Crew, HasPeer, IsPeer, agent_of, force_at, settled_work}
 use Rattle.work_world.specs.declared.parts.Peer.{Peer}
-use Rattle.work_world.proofs.Growing.{received_is}
-use Rattle.work_world.proofs.Naming.{InOrder, running_count, told_is, unit_in_order, unit_told}
+use Rattle.work_world.proofs.HistoriesGrow.{received_is}
+use Rattle.work_world.proofs.NamesThatChange.{InOrder, running_count, told_is, unit_in_order, unit_told}
 
 -- Units, one after another
 outside_all : (first u : ℕ) → is_outside first first u ≡ true

@@ -6,7 +6,7 @@ use Rattle.full_sync.specs.Turns.{Endpoint}
 use Rattle.schedule_unit.specs.declared.party.AppNo.{AppNo}
 use Rattle.schedule_unit.specs.declared.party.UnitNo.{UnitNo}
 use Rattle.written_net.specs.Net.{Packet}
-use Rattle.work_world.proofs.Delivering.{events_delivered}
+use Rattle.work_world.proofs.PacketDelivered.{events_delivered}
 use Rattle.work_ends.specs.Ends.{Sets}
 use Rattle.work_ends.specs.declared.ends.Parcel.{Parcel}
 use Rattle.written_work.specs.Events.{Step, act, agent_packets, agent_starts, app_packets, app_starts, counted, deliver, deliveries, done, plan_set, plan_with, refused, row_set, sends, with_net, work_step}
@@ -22,7 +22,7 @@ use Rattle.work_world.specs.Moves.{StartsApp}
 use Rattle.work_world.specs.Steps.{Acts, StepsTo, StopsAs, Takes, stopped}
 use Rattle.work_world.specs.declared.stop.WorkStop.{WorkStop}
 use Rattle.work_world.specs.declared.stop.WorkStop.TheVariants.{TooManyPackets, OutOfMemory}
-use Rattle.work_world.proofs.Ranging.{as_many}
+use Rattle.work_world.proofs.RangesDelivered.{as_many}
 use Rattle.work_world.specs.Worlds.{AgentAt, AppOf, AppsAt, Carries, IsAgent, IsFresh, IsKept, IsReached, Stands}
 use Rattle.work_world.specs.declared.parts.Agent.{Agent}
 use Rattle.work_world.specs.declared.working.Working.{Working}

@@ -15,7 +15,7 @@ use Rattle.work_world.specs.Moves.{Delivers, HearsOne, heard_line}
 use Rattle.work_world.specs.Steps.{StepsTo}
 use Rattle.work_world.specs.Worlds.{AgentAt, AppsAt, Carries, Stands}
 use Rattle.work_world.specs.declared.working.Working.{Working}
-use Rattle.work_world.proofs.Delivering.{carries_delivered, events_delivered}
+use Rattle.work_world.proofs.PacketDelivered.{carries_delivered, events_delivered}
 use Rattle.work_world.proofs.Texts.{text_both}
 
 pub mapped_at : {A B : Type 0} (f : A → B) (xs : List A) (i : ℕ) (x : A) → slice_get xs i ≡ Some x → slice_get (map f xs) i ≡ Some (f x)

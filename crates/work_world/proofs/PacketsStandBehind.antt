@@ -159,12 +159,20 @@ pub app_exceeds : (r : Working) (qs : List Parcel) (w : World) (app : AppNo) (st
 app_exceeds r qs w app (TooManyPackets kept) s runs sent e = subst (λ b. past w (elim b as (λ _. Step) [ true ↦ refused w NotRunning | false ↦ sends w (app_packets w app.0) ]) ≡ Some kept) (sym runs) (too_many r qs w (app_packets w app.0) kept s sent e.0 e.1)
 app_exceeds r qs w app OutOfMemory s runs sent e = tt
 
-pub sends_longer : (ps qs : List Parcel) (hs : histories) (xs : List Packet) → Sends ps qs hs xs → length ps ≤ length qs
+sends_longer : (ps qs : List Parcel) (hs : histories) (xs : List Packet) → Sends ps qs hs xs → length ps ≤ length qs
 sends_longer ps qs hs xs s =
     let a = length-map qs packet_of in
     let b = length-map ps packet_of in
     let e = ap length s.sent ∙ length-append (map packet_of ps) xs in
     omega (arith, a, b, e)
+
+-- those that were there are among those that are
+pub kept_within : (ps qs was now : List Parcel) (kept : ℕ) (hs : histories) (xs : List Packet) → Sends ps qs hs xs → kept ≡ length was → was ≡ ps → now ≡ qs → kept ≤ length now
+kept_within ps qs was now kept hs xs s count same same_now =
+    let longer = sends_longer ps qs hs xs s in
+    let old = ap (λ (xs : List Parcel). length xs) same in
+    let new = ap (λ (xs : List Parcel). length xs) same_now in
+    omega (arith, longer, count, old, new)
 
 pub stops_as : (step : World → Step) (r : Working) (stop : WorkStop) → ((w : World) → Stands r w → StopsHere (past w (step w)) stop) → StopsAs step r stop
 stops_as step r (TooManyPackets kept) h = h
