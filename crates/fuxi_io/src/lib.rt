@@ -4,6 +4,7 @@
 
 mod disk;
 mod file_disk;
+pub mod law;
 mod lines;
 mod memory;
 mod memory_disk;
