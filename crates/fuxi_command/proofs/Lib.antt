@@ -1,4 +1,3 @@
-pub mod Writing
 pub mod Untouched
 pub mod Texts
 pub mod States

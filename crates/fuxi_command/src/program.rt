@@ -10,7 +10,8 @@ ghost use Rattle.work_run.specs.Runs.{text_of as work_text_of};
 ghost use Rattle.written_roles.specs.HardState.{HardState};
 ghost use Rattle.schedule_run.specs.Told.{IsText, Writes};
 ghost use Rattle.fuxi_command.specs.Words.{Lease, Replay, Work, command_of, file_of, HasWords, NoWords, WhyNoWords};
-ghost use Rattle.fuxi_command.specs.Reports.{report_line, TakesReport};
+ghost use Rattle.fuxi_io.specs.Reports.{TakesReport};
+ghost use Rattle.fuxi_command.specs.Reports.{report_line};
 ghost use Rattle.fuxi_command.specs.Outcomes.{IsOutcome, seen};
 
 use crate::telling::report;

@@ -32,7 +32,8 @@ ghost use Rattle.work_run.specs.States.{AllPlanned};
 ghost use Rattle.fuxi_node.specs.Masters.{RefusesEpoch};
 ghost use Rattle.hard_state.specs.HardFiles.{records_of};
 ghost use Rattle.written_roles.specs.Refusals.{NotRising, HardFull};
-ghost use Rattle.fuxi_command.specs.Reports.{report_line, TakesReport};
+ghost use Rattle.fuxi_io.specs.Reports.{TakesReport};
+ghost use Rattle.fuxi_command.specs.Reports.{report_line};
 ghost use Rattle.fuxi_command.specs.Outcomes.{IsOutcome, TellsLease, seen};
 ghost use Rattle.fuxi_terms.specs.Limits.{most_lines, most_records};
 

@@ -4,6 +4,5 @@ pub mod Opening
 pub mod Ending
 pub mod Finishing
 pub mod Beginning
-pub mod Writing
 pub mod Reading
 pub mod Texting

@@ -4,7 +4,6 @@
 mod prepare;
 mod read;
 mod run;
-mod telling;
 mod text;
 mod top;
 

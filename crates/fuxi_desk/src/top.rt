@@ -2,16 +2,19 @@
 
 ghost use Rattle.std.specs.Prelude.{◌≡◌, ◌≢◌, ◌<◌, ◌⊎◌, ◌↔◌, ℕ, List, length, Some, IfSome};
 ghost use Rattle.fuxi_io.specs.Causes.{Rose};
-ghost use Rattle.fuxi_desk.specs.Reports.{TakesReport, report_line};
+ghost use Rattle.fuxi_io.specs.Reports.{TakesReport};
+ghost use Rattle.fuxi_desk.specs.Reports.{report_line};
 ghost use Rattle.fuxi_desk.specs.Runs.{AtEnd, Ended, read_from, run_of};
 
 use crate::run::run_desk;
-use crate::telling::report;
-use fuxi_io::{Sink, Source, Status};
+use fuxi_io::{Sink, Source, Status, report};
 use master_desk::Gate;
 use std::alloc::Global;
 use std::sync::Wait;
 use std::thread::Threads;
+
+// What is told where there are words.
+const USAGE: &[u8] = b"usage: fuxi_desk\n";
 
 /// Runs the sessions of an input at once on one master, and writes one history of one thread that they may have had.
 ///
@@ -49,7 +52,7 @@ pub fn desk<R: Threads + Wait + Sync, S: Source, O: Sink, E: Sink, G: Gate + Syn
     } else {
         Status::Usage
     };
-    let _told = report(err, &status);
+    let _told = report(err, USAGE, &status);
     status
 }
 
@@ -58,6 +61,6 @@ pub fn untold<E: Sink>(err: &mut E, status: Status) -> Status
     ensures same { result ≡ status }
     ensures report { TakesReport (report_line status) (E.took err.old) (E.took err.new) (E.faults err.old) (E.faults err.new) }
 {
-    let _told = report(err, &status);
+    let _told = report(err, USAGE, &status);
     status
 }

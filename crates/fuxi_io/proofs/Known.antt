@@ -4,7 +4,7 @@ use Rattle.std.specs.Io.KnownBytes.{prepend_known, Consumes, IsAtEnd}
 use Rattle.fuxi_io.specs.Lines.{lines_of, GivesKnown, MoreKnown}
 use Rattle.fuxi_io.specs.Pieces.{NoNewline}
 use Rattle.fuxi_io.specs.declared.lines.Got.TheVariants.{Line}
-use Rattle.fuxi_io.proofs.Cutting.{lines_of-cut, lines_of-last}
+use Rattle.fuxi_io.proofs.LinesLemmas.{lines_of-cut, lines_of-last}
 use Rattle.fuxi_terms.specs.Limits.{most_line_bytes}
 
 pub gives_cut : (old left : Option (List ℕ)) (line piece made rest : List ℕ) → Consumes old (prepend_known piece left) line → line ++ piece ≡ made ++ 10 ∷ rest → NoNewline made → length made ≤ most_line_bytes → GivesKnown Line old (record { bytes = made; ended = true }) (prepend_known rest left)

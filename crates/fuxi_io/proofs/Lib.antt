@@ -1,4 +1,6 @@
-pub mod Cutting
+pub mod LinesLemmas
 pub mod Known
-pub mod Taking
-pub mod Imaging
+pub mod AppendsLemmas
+pub mod DisksLemmas
+pub mod WrittenLemmas
+pub mod ReportsLemmas

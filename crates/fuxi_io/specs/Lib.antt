@@ -7,3 +7,5 @@ pub mod Statuses
 pub mod Adapters
 pub mod Disks
 pub mod MemoryDisks
+pub mod Written
+pub mod Reports

@@ -192,3 +192,10 @@ impl LineReader {
         self.stop == Some(LineStop::ReadFault)
     }
 }
+
+/// A reader has read at most 16,384 bytes before they are needed, whatever was done with it.
+pub fn is_little_ahead(lines: &LineReader)
+    ensures { length lines.now.pending ≤ read_ahead }
+{
+    let _piece = &lines.piece;
+}

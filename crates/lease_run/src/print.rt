@@ -6,9 +6,8 @@ ghost use Rattle.fuxi_io.specs.Causes.{HasCause, TakesPart};
 ghost use Rattle.lease_run.specs.Texts.{answer_text};
 
 use epoch_lease::LeaseOut;
-use fuxi_io::{Sink, WriteFault, write_all_of};
+use fuxi_io::{Sink, WriteFault, write_all_of, write_pieces};
 use itoa::Buffer;
-use output_pieces::write_pieces;
 
 // Writes a line that ends with a number.
 pub fn write_number<O: Sink>(out: &mut O, words: &[u8], number: u64) -> Result<(), WriteFault>

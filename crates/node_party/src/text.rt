@@ -7,11 +7,10 @@ ghost use Rattle.node_rounds.specs.Roles.{Role};
 ghost use Rattle.node_party.specs.Texts.{answer_text, as_answer, found_text, round_text, state_text};
 
 use crate::party::{Answer, Node};
-use fuxi_io::{Sink, WriteFault, write_all_of};
+use fuxi_io::{Sink, WriteFault, write_all_of, write_pieces};
 use fuxi_terms::OutOfMemory;
 use itoa::Buffer;
 use node_rounds::RoundLine;
-use output_pieces::write_pieces;
 use schedule_text::{Output, write_output};
 
 /// Appends the line of an answer, where it has one. Where memory is refused a part of it may stand there.

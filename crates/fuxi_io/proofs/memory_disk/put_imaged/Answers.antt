@@ -1,7 +1,7 @@
 use Rattle.std.proofs.Common.{sym, ap, subst, reverse}
 use Rattle.fuxi_io.specs.Disks.{Moment, Told, IsImage}
 use Rattle.fuxi_io.specs.MemoryDisks.{moment_of}
-use Rattle.fuxi_io.proofs.Imaging.{written_is_image}
+use Rattle.fuxi_io.proofs.DisksLemmas.{written_is_image}
 use Rattle.fuxi_io.proofs.memory_disk.put_imaged.Goals as goal
 
 pub returns-clause-image : goal.returns-clause-image

@@ -1,7 +1,7 @@
 use Rattle.std.proofs.Common.{◌≤◌, arith, take, length, length-drop, subst}
 use Rattle.std.proofs.lemmas.List.{take_rest}
 use Rattle.std.specs.Io.KnownBytes.{Appends}
-use Rattle.fuxi_io.proofs.Taking.{appends_more}
+use Rattle.fuxi_io.proofs.AppendsLemmas.{appends_more}
 use Rattle.fuxi_io.proofs.outside.write_all_of.Goals as goal
 
 pub loop-at-preserved : goal.loop-at-preserved

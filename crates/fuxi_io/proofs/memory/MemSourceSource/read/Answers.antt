@@ -1,6 +1,6 @@
 use Rattle.std.proofs.Common.{◌≡◌, min, length, take, drop, sym, ap, ◌∙◌}
 use Rattle.std.proofs.lemmas.List.{take_rest}
-use Rattle.fuxi_io.proofs.Taking.{read_at}
+use Rattle.fuxi_io.proofs.AppendsLemmas.{read_at}
 use Rattle.fuxi_io.proofs.memory.MemSourceSource.read.Goals as goal
 
 pub returns-clause-bytes : goal.returns-clause-bytes

@@ -1,6 +1,6 @@
 use Rattle.std.proofs.Common.{◌≡◌, ◌++◌, ap, subst, ◌∙◌, Result, Ok, Err, OnErr, slice_range}
 use Rattle.fuxi_io.specs.Lines.{FirstLonger, lines_of}
-use Rattle.fuxi_io.proofs.Cutting.{moved_line, FirstLonger-append, FirstLonger-whole}
+use Rattle.fuxi_io.proofs.LinesLemmas.{moved_line, FirstLonger-append, FirstLonger-whole}
 use Rattle.fuxi_io.proofs.piece.Piece.move_line.Goals as goal
 use Rattle.fuxi_terms.specs.Limits.{most_line_bytes}
 

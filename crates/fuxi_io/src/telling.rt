@@ -1,14 +1,12 @@
 ghost use Rattle.std.specs.Prelude.{◌≡◌, ◌++◌, OnOk, OnErr, codes, decimal};
 ghost use Rattle.std.specs.Io.KnownBytes.{Appends};
 ghost use Rattle.fuxi_io.specs.Causes.{HasCause, TakesPart};
-ghost use Rattle.fuxi_desk.specs.Reports.{fault_name, fault_value, limit_word, report_line};
+ghost use Rattle.fuxi_io.specs.Reports.{fault_name, fault_value, limit_word, status_line};
 
-use fuxi_io::{InputFault, LimitOf, Sink, Status, WriteFault, write_all_of};
+use crate::outside::{Sink, WriteFault, write_all_of};
+use crate::pieces::write_pieces;
+use crate::status::{InputFault, LimitOf, Status};
 use itoa::Buffer;
-use output_pieces::write_pieces;
-
-// What is told where there are words.
-const USAGE: &[u8] = b"usage: fuxi_desk\n";
 
 fn fault_name(fault: &InputFault) -> &'static str
     ensures { result.now ≡ fault_name fault.now }
@@ -69,15 +67,16 @@ fn write_number<E: Sink>(err: &mut E, words: &[u8], number: u64) -> Result<(), W
     write_pieces(err, &[words, buffer.format(number).as_bytes(), b"\n"])
 }
 
-/// Writes the line that tells of an outcome, in pieces; `Done` has none. It takes no memory.
-pub fn report<E: Sink>(err: &mut E, status: &Status) -> Result<(), WriteFault>
-    ensures ok { OnOk result (Appends (E.took err.old) (E.took err.new) (report_line status.now)) }
-    ensures err { OnErr result (TakesPart (E.took err.old) (E.took err.new) (report_line status.now)) }
+/// Writes the line that tells of an outcome, in pieces; `Done` has none. Where words are no command, that
+/// is the line `usage`. It takes no memory.
+pub fn report<E: Sink>(err: &mut E, usage: &[u8], status: &Status) -> Result<(), WriteFault>
+    ensures ok { OnOk result (Appends (E.took err.old) (E.took err.new) (status_line usage.now status.now)) }
+    ensures err { OnErr result (TakesPart (E.took err.old) (E.took err.new) (status_line usage.now status.now)) }
     ensures cause { HasCause (E.faults err.old) (E.faults err.new) result }
 {
     match status {
         Status::Done => Ok(()),
-        Status::Usage => write_all_of(err, USAGE),
+        Status::Usage => write_all_of(err, usage),
         Status::BadInput { line, fault } => {
             let mut number = Buffer::new();
             let mut buffer = Buffer::new();

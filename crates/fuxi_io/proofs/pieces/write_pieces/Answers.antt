@@ -1,6 +1,6 @@
 use Rattle.std.proofs.Common.{arith, ℕ, List, Bor}
-use Rattle.output_pieces.proofs.Writing.{more_written, part_written}
-use Rattle.output_pieces.proofs.pieces.write_pieces.Goals as goal
+use Rattle.fuxi_io.proofs.WrittenLemmas.{more_written, part_written}
+use Rattle.fuxi_io.proofs.pieces.write_pieces.Goals as goal
 
 pub loop-piece-preserved : goal.loop-piece-preserved
 loop-piece-preserved g c = record {

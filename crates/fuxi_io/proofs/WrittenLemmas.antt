@@ -5,8 +5,8 @@ use Rattle.std.specs.Io.KnownBytes.{Appends}
 use Rattle.std.proofs.lemmas.List.{length-append, take-append-le}
 use Rattle.std.proofs.Math.Seq.{take-append-add}
 use Rattle.fuxi_io.specs.Causes.{TakesPart}
-use Rattle.fuxi_terms.proofs.AppendsLemmas.{appends_both, appends_none}
-use Rattle.output_pieces.specs.Pieces.{Written}
+use Rattle.fuxi_terms.proofs.Appending.{appends_both, appends_none}
+use Rattle.fuxi_io.specs.Written.{Written}
 
 module _ {A : Type 0} (f : A → List ℕ) where
   next_piece : (ps : List A) (i : ℕ) (d : A) → i < length ps → concat (map f (drop i ps)) ≡ f (get_or ps i d) ++ concat (map f (drop (i + 1) ps))

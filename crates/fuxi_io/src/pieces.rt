@@ -1,11 +1,9 @@
-//! Pieces of a text.
-
 ghost use Rattle.std.specs.Prelude.{◌≡◌, ◌++◌, ◌+◌, ◌≤◌, OnOk, OnErr, List, ℕ, map};
 ghost use Rattle.std.specs.List.{concat};
 ghost use Rattle.std.specs.Io.KnownBytes.{Appends};
 ghost use Rattle.fuxi_io.specs.Causes.{HasCause, TakesPart};
 
-use fuxi_io::{Sink, WriteFault, write_all_of};
+use crate::outside::{Sink, WriteFault, write_all_of};
 
 /// Writes pieces one after another. After a fault a part of them all is out, from the front.
 pub fn write_pieces<O: Sink>(out: &mut O, pieces: &[&[u8]]) -> Result<(), WriteFault>

@@ -1,7 +1,7 @@
 use Rattle.std.proofs.Common.{◌≤◌, drop, map}
 use Rattle.std.specs.List.{concat}
-use Rattle.output_pieces.specs.Pieces.{Written}
-use Rattle.output_pieces.proofs.pieces.write_pieces.Given as goal
+use Rattle.fuxi_io.specs.Written.{Written}
+use Rattle.fuxi_io.proofs.pieces.write_pieces.Given as goal
 
 abbrev pub invariant-loop-piece : goal.invariant-loop-piece
 invariant-loop-piece g l = record {

@@ -1,6 +1,0 @@
-//! A text is written in pieces, without memory.
-#![tactic(auto)]
-
-mod pieces;
-
-pub use pieces::write_pieces;
