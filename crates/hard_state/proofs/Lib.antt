@@ -4,6 +4,7 @@ pub mod Images
 pub mod Runs
 pub mod Reading
 pub mod Standing
+pub mod HardFilesLemmas
 pub mod Stops
 pub mod Openings
 pub mod Rising
