@@ -6,16 +6,17 @@ ghost use Rattle.fuxi_io.specs.Reading.{rest_of, read_ahead};
 ghost use Rattle.fuxi_terms.specs.Limits.{most_lines, most_machines};
 ghost use Rattle.input_lines.specs.Wholes.{IsReady};
 ghost use Rattle.node_door.specs.Doors.{WhereTold};
-ghost use Rattle.node_run.specs.Ends.{Ended, EndsByLines, IsRunStatus};
+ghost use Rattle.fuxi_node.specs.Ends.{Ended, EndsByLines, IsRunStatus};
 ghost use Rattle.fuxi_node.specs.Starts.{agent_start};
 
-use agent_node::AgentNode;
+use crate::run::run_node;
+use crate::taking::DiskFailed;
 use cluster_desc::Cluster;
 use fuxi_io::{LimitOf, LineReader, LineStop, Sink, Source, Status};
 use fuxi_terms::OutOfMemory;
 use node_door::Door;
 use node_party::NoDisk;
-use node_run::{DiskFailed, run_node};
+use peer_nodes::AgentNode;
 use schedule_unit::MachineNo;
 use std::alloc::Global;
 

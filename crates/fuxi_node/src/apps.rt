@@ -6,16 +6,17 @@ ghost use Rattle.fuxi_io.specs.Reading.{rest_of, read_ahead};
 ghost use Rattle.fuxi_terms.specs.Limits.{most_jobs, most_lines, most_units};
 ghost use Rattle.input_lines.specs.Wholes.{IsReady};
 ghost use Rattle.node_door.specs.Doors.{WhereTold};
-ghost use Rattle.node_run.specs.Ends.{Ended, EndsByLines, IsRunStatus};
+ghost use Rattle.fuxi_node.specs.Ends.{Ended, EndsByLines, IsRunStatus};
 ghost use Rattle.fuxi_node.specs.Starts.{app_start};
 
-use app_node::AppNode;
+use crate::run::run_node;
+use crate::taking::DiskFailed;
 use cluster_desc::Cluster;
 use fuxi_io::{LimitOf, LineReader, LineStop, Sink, Source, Status};
 use fuxi_terms::OutOfMemory;
 use node_door::Door;
 use node_party::NoDisk;
-use node_run::{DiskFailed, run_node};
+use peer_nodes::AppNode;
 use schedule_unit::AppNo;
 use std::alloc::Global;
 

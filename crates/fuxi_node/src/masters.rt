@@ -6,17 +6,18 @@ ghost use Rattle.fuxi_io.specs.Reading.{rest_of, read_ahead};
 ghost use Rattle.fuxi_terms.specs.Limits.{most_lines};
 ghost use Rattle.input_lines.specs.Wholes.{IsReady};
 ghost use Rattle.node_door.specs.Doors.{WhereTold};
-ghost use Rattle.node_run.specs.Ends.{EndsByLines};
+ghost use Rattle.fuxi_node.specs.Ends.{EndsByLines};
 ghost use Rattle.fuxi_node.specs.Starts.{master_start};
 ghost use Rattle.fuxi_node.specs.Masters.{LeavesFile, MasterEnded, TellsFile, start_status};
 
+use crate::run::run_node;
+use crate::taking::DiskFailed;
 use cluster_desc::Cluster;
 use fuxi_io::{Disk, LimitOf, LineReader, LineStop, Sink, Source, Status};
 use fuxi_terms::limits::MOST_RECORDS;
 use hard_state::HardFault;
 use master_node::MasterNode;
 use node_door::Door;
-use node_run::{DiskFailed, run_node};
 use std::alloc::Global;
 
 // The status of a master that did not start.

@@ -3,9 +3,9 @@ use Rattle.fuxi_terms.specs.Cluster.{machine_of}
 use Rattle.fuxi_terms.specs.Padded.{padded}
 use Rattle.written_roles.specs.Agents.{new_agent}
 use Rattle.node_rounds.specs.Roles.{OfAgent}
-use Rattle.agent_node.specs.Standing.{StandsAs}
+use Rattle.peer_nodes.specs.Agents.{StandsAs}
 use Rattle.fuxi_node.specs.Starts.{agent_start}
-use Rattle.fuxi_node.proofs.Starting.{nothing_placed, nothing_taken, has_is}
+use Rattle.fuxi_node.proofs.StartsLemmas.{nothing_placed, nothing_taken, has_is}
 use Rattle.fuxi_node.proofs.agents.run_agent.Goals as goal
 
 pub returns-in-Ok-run_node-clause-ended : goal.returns-in-Ok-run_node-clause-ended
