@@ -1,6 +1,7 @@
 -- A node whose file lets its epoch in, and that meets no fault, ends as its lines say.
-use Rattle.std.proofs.Common.{◌≡◌, ◌⊎◌, inl, inr, ℕ, List, Option, Some, IfSome, Err, refl, sym, ap, subst}
+use Rattle.std.proofs.Common.{◌≡◌, ◌⊎◌, inl, inr, ℕ, List, Option, Some, IfSome, Err, refl, sym, ◌∙◌, ap, subst}
 use Rattle.fuxi_io.specs.Disks.{Told as Moments}
+use Rattle.fuxi_io.specs.declared.status.LimitOf.{LimitOf}
 use Rattle.fuxi_io.specs.declared.status.LimitOf.TheVariants.{Lines, Packets, Bytes, Records, Calls}
 use Rattle.fuxi_io.specs.declared.status.Status.{Status}
 use Rattle.fuxi_io.specs.declared.status.Status.TheVariants.{Done, Usage, BadInput, ReadFault, WriteFault, Limit, OutOfMemory, DiskFault, StaleEpoch, DamagedCheckpoint}
@@ -8,7 +9,6 @@ use Rattle.written_roles.specs.Refusals.{Refusal}
 use Rattle.written_roles.specs.HardState.{Raise, hard_step}
 use Rattle.hard_state.specs.HardFiles.{records_of}
 use Rattle.fuxi_node.specs.Ends.{EndsBy}
-use Rattle.fuxi_node.specs.Runs.{Ending}
 use Rattle.fuxi_node.specs.Masters.{RefusesEpoch}
 use Rattle.fuxi_node.specs.declared.kind.NodeKind.{NodeKind}
 use Rattle.fuxi_node.specs.declared.kind.NodeKind.TheVariants.{Master, Agent, App}
@@ -44,26 +44,43 @@ no_full (Master epoch) disk kept may tells = lets_no_refusal epoch _ disk may te
 no_full (Agent m boot) disk kept may tells = tells
 no_full (App a boot units) disk kept may tells = tells
 
-pub completes : (kind : NodeKind) (disk : Option Moments) (ending : Ending) (status : Status) (left : Option (List ℕ))
-    → MayStart kind disk → TellsDisk kind status disk → (status ≡ Usage → ⊥) → (status ≡ ReadFault → ⊥) → (status ≡ WriteFault → ⊥) → (status ≡ DiskFault → ⊥) → EndsBy ending status left → (status ≡ status_at ending) ⊎ (status ≡ OutOfMemory)
-completes kind disk ending Done left may tells usage read write failed e = inl (sym (ap status_at e.0))
-completes kind disk ending (BadInput line fault) left may tells usage read write failed e = inl (sym (ap status_at e))
-completes kind disk ending (Limit Lines kept) left may tells usage read write failed e = inl (sym (ap status_at e))
-completes kind disk ending (Limit Packets kept) left may tells usage read write failed e = absurd e
-completes kind disk ending (Limit Bytes kept) left may tells usage read write failed e = absurd e
-completes kind disk ending (Limit Calls kept) left may tells usage read write failed e = absurd e
-completes kind disk ending (Limit Records kept) left may tells usage read write failed e = absurd (no_full kind disk kept may tells)
-completes kind disk ending OutOfMemory left may tells usage read write failed e = inr refl
-completes kind disk ending Usage left may tells usage read write failed e = absurd (usage refl)
-completes kind disk ending ReadFault left may tells usage read write failed e = absurd (read refl)
-completes kind disk ending WriteFault left may tells usage read write failed e = absurd (write refl)
-completes kind disk ending DiskFault left may tells usage read write failed e = absurd (failed refl)
-completes kind disk ending (StaleEpoch fence) left may tells usage read write failed e = absurd (no_stale kind disk fence may tells)
-completes kind disk ending (DamagedCheckpoint offset) left may tells usage read write failed e = absurd (no_damage kind disk offset may tells)
+-- no limit on records is one on lines
+no_records : Records ≡ Lines → ⊥
+no_records same = cc
 
--- the same over an input that is known
-pub completes_known : (kind : NodeKind) (disk : Option Moments) (bytes : List ℕ) (status : Status) (input left : Option (List ℕ)) → input ≡ Some bytes
-    → MayStart kind disk → TellsDisk kind status disk → (status ≡ Usage → ⊥) → (status ≡ ReadFault → ⊥) → (status ≡ WriteFault → ⊥) → (status ≡ DiskFault → ⊥) → IfSome input (λ bytes. EndsBy (ending_of kind bytes) status left)
-    → (status ≡ status_at (ending_of kind bytes)) ⊎ (status ≡ OutOfMemory)
-completes_known kind disk bytes status input left is may tells usage read write failed e =
-    completes kind disk (ending_of kind bytes) status left may tells usage read write failed (subst (λ i. IfSome i (λ bytes. EndsBy (ending_of kind bytes) status left)) is e)
+module _ (kind : NodeKind) (bytes : List ℕ) (status : Status) (input left : Option (List ℕ)) (is : input ≡ Some bytes)
+    (usage : status ≡ Usage → ⊥) (read : status ≡ ReadFault → ⊥) (write : status ≡ WriteFault → ⊥) (failed : status ≡ DiskFault → ⊥)
+    (placed : IfSome input (λ bytes. EndsBy (ending_of kind bytes) status left)) where
+  abbrev Completes : Type 0
+  Completes = (status ≡ status_at (ending_of kind bytes)) ⊎ (status ≡ OutOfMemory)
+
+  -- a status that tells nothing of a file
+  pub completes : ((fence : ℕ) → status ≡ StaleEpoch fence → ⊥) → ((offset : ℕ) → status ≡ DamagedCheckpoint offset → ⊥) → ((kept : ℕ) → status ≡ Limit Records kept → ⊥) → Completes
+  completes stale damaged full = by status refl (subst (λ i. IfSome i (λ bytes. EndsBy (ending_of kind bytes) status left)) is placed)
+    where
+      by : (s : Status) → status ≡ s → EndsBy (ending_of kind bytes) status left → Completes
+      by Done same e = inl (same ∙ sym (ap status_at (subst (λ s. EndsBy (ending_of kind bytes) s left) same e).0))
+      by (BadInput line fault) same e = inl (same ∙ sym (ap status_at (subst (λ s. EndsBy (ending_of kind bytes) s left) same e)))
+      by (Limit Lines kept) same e = inl (same ∙ sym (ap status_at (subst (λ s. EndsBy (ending_of kind bytes) s left) same e)))
+      by (Limit Packets kept) same e = absurd (subst (λ s. EndsBy (ending_of kind bytes) s left) same e)
+      by (Limit Bytes kept) same e = absurd (subst (λ s. EndsBy (ending_of kind bytes) s left) same e)
+      by (Limit Calls kept) same e = absurd (subst (λ s. EndsBy (ending_of kind bytes) s left) same e)
+      by (Limit Records kept) same e = absurd (full kept same)
+      by OutOfMemory same e = inr same
+      by Usage same e = absurd (usage same)
+      by ReadFault same e = absurd (read same)
+      by WriteFault same e = absurd (write same)
+      by DiskFault same e = absurd (failed same)
+      by (StaleEpoch fence) same e = absurd (stale fence same)
+      by (DamagedCheckpoint offset) same e = absurd (damaged offset same)
+
+  -- one of an input that ended at the line of the cluster or before it
+  pub completes_before : ((fence : ℕ) → status ≡ StaleEpoch fence → ⊥) → ((offset : ℕ) → status ≡ DamagedCheckpoint offset → ⊥) → ((what : LimitOf) (kept : ℕ) → status ≡ Limit what kept → what ≡ Lines) → Completes
+  completes_before stale damaged limit = completes stale damaged (λ kept same. no_records (limit Records kept same))
+
+  -- one of a node whose file lets its epoch in
+  pub completes_behind : (disk : Option Moments) → MayStart kind disk → TellsDisk kind status disk → Completes
+  completes_behind disk may tells = completes
+      (λ fence same. no_stale kind disk fence may (subst (λ s. TellsDisk kind s disk) same tells))
+      (λ offset same. no_damage kind disk offset may (subst (λ s. TellsDisk kind s disk) same tells))
+      (λ kept same. no_full kind disk kept may (subst (λ s. TellsDisk kind s disk) same tells))

@@ -17,17 +17,12 @@ use Rattle.fuxi_node.specs.declared.kind.NodeKind.{NodeKind}
 use Rattle.fuxi_node.specs.declared.kind.NodeKind.TheVariants.{Master, Agent, App}
 use Rattle.fuxi_node.specs.Inputs.{HasNone, HasNoCluster, LeavesDisk, ending_behind, ending_of}
 
--- an agent whose machine is there, and one whose machine is not
+-- an agent whose machine is there
 module _ (m : MachineNo) (boot number : ℕ) (c : ClusterRecord) (status : Status) (left : Option (List ℕ)) where
   pub machine_placed : (known : Option (List ℕ)) → nat_lt m.0 (length c.machines) ≡ true → IfSome known (λ bytes. EndsBy (ending_from number (lines_of bytes)) status left)
       → IfSome known (λ bytes. EndsBy (ending_behind (Agent m boot) (Opens c number (lines_of bytes))) status left)
   machine_placed None there e = tt
   machine_placed (Some bytes) there e = subst (λ b. EndsBy (cond b (ending_from number (lines_of bytes)) (AtBadLine number NoMachine)) status left) (sym there) e
-
-pub machine_lacks : (m : MachineNo) (boot number line : ℕ) (c : ClusterRecord) (left known : Option (List ℕ)) → nat_lt m.0 (length c.machines) ≡ false → line ≡ number
-    → IfSome known (λ bytes. EndsBy (ending_behind (Agent m boot) (Opens c number (lines_of bytes))) (BadInput line NoMachine) left)
-machine_lacks m boot number line c left None lacks is = tt
-machine_lacks m boot number line c left (Some bytes) lacks is = ap (λ b. cond b (ending_from number (lines_of bytes)) (AtBadLine number NoMachine)) lacks ∙ ap (λ n. AtBadLine n NoMachine) (sym is)
 
 -- before the line of the cluster, or at it
 stops_placed : (kind : NodeKind) (bytes : List ℕ) (status : Status) (left : Option (List ℕ)) → StopsBefore 0 bytes status left → EndsBy (ending_of kind bytes) status left

@@ -22,7 +22,7 @@ use std::alloc::Global;
 
 /// Runs the application of a job that has so many units, 1 to 8, in a boot of at least 1, over the lines behind that of the cluster, which
 /// is the last one that the reader gave. It dials its master at the address, which has 1 to 255 bytes. The reader has not stopped. The
-/// statuses are those of [`crate::run_agent`].
+/// statuses are those of `run_agent`.
 pub fn run_app<S: Source, O: Sink, N: Door>(
     alloc: Global,
     cluster: &Cluster,

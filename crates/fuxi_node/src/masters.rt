@@ -42,7 +42,7 @@ fn start_status(fault: HardFault) -> Status
 ///
 /// `DiskFault`: the disk failed, at the start or at a line; the checkpoint has to be opened again. `DamagedCheckpoint`: what stands at this
 /// offset of the file is no record. `StaleEpoch`: the fence in the file is at least the epoch. `Limit` of records: the file has 65,536.
-/// With these three the file stands for what it stood for. The other statuses are those of [`crate::run_agent`].
+/// With these three the file stands for what it stood for. The other statuses are those of `run_agent`.
 ///
 /// At every end of a master that started, a crash leaves a file that stands for the hard state of the lines taken. With `DiskFault` and
 /// `OutOfMemory` the line at which it came may count as taken or not.
