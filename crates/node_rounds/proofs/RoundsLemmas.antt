@@ -88,11 +88,11 @@ is_end Short over = cc
 is_end FaultStop over = cc
 
 -- no call failed before
-late_after : (b : Bool) → b ≡ false → b || false ≡ false
+late_after : (b : Bool) → b ≡ false → (b || false) || false ≡ false
 late_after true sound = cc
 late_after false sound = refl
 
-late_twice : (b : Bool) → b ≡ false → (b || false) || (b || false) ≡ false
+late_twice : (b : Bool) → b ≡ false → ((b || false) || (b || false)) || false ≡ false
 late_twice true sound = cc
 late_twice false sound = refl
 

@@ -102,7 +102,7 @@ abbrev pub closed_in : Option Talk → Bool
 closed_in None = true
 closed_in (Some talk) = talk.order.closed
 
--- Who dials speaks before it hears, who accepts hears before it speaks, and behind a call that failed, and behind its end, the connection is left alone
+-- Who dials speaks before it hears, who accepts hears before it speaks, and behind a call that failed, and behind its end, the connection is left alone, so it is closed once
 pub record InOrder (accepts : Bool) (o : Order) : Type 0 where
   pub turns : cond accepts o.asked o.answered ≡ false
   pub late : o.late ≡ false
