@@ -2,7 +2,7 @@
 
 ghost use Rattle.std.specs.Prelude.{◌≡◌, ◌≢◌, ◌+◌, ◌^◌, ◌<◌, ◌≤◌, ℕ, length, true, false, Some, None, Ok, Err, IfSome, IfOk, IfErr, OnErr};
 ghost use Rattle.fuxi_io.specs.Causes.{Rose};
-ghost use Rattle.fuxi_io.specs.Reading.{rest_of, read_ahead};
+ghost use Rattle.fuxi_io.specs.Reading.{rest_of};
 ghost use Rattle.fuxi_terms.specs.Limits.{most_frames, most_steps, most_lines};
 ghost use Rattle.input_lines.specs.Contents.{is_skipped};
 ghost use Rattle.input_lines.specs.Wholes.{IsReady};
@@ -93,7 +93,6 @@ pub fn run_node<C: Node, S: Source, O: Sink, N: Door, D: Disk>(
     disk: &mut D,
 ) -> Result<Status, DiskFailed>
     requires stop { lines.old.stop ≢ Some LineStop.ReadFault }
-    requires ahead { length lines.old.pending ≤ read_ahead }
     requires some { 1 ≤ length addr.now }
     requires short { length addr.now ≤ 255 }
     requires steps { C.steps core < 2 ^ 40 }

@@ -25,7 +25,6 @@ loop-turn-init g c = record {
   steps = omega arith;
   number = omega arith;
   small = λ h. absurd (omega (arith, h));
-  ahead = c.requires.ahead;
   last = λ e. e;
   running = λ e. e;
   unstopped = c.requires.stop;
@@ -115,7 +114,6 @@ loop-turn-preserved g c =
       steps = omega (arith, c.in-Ok.ensures.steps, c.loop-turn.invariant.steps);
       number = omega (arith, next, c.number-number.ensures.value, c.loop-turn.invariant.number);
       small = λ h. omega (arith, next, c.number-number.ensures.value, more);
-      ahead = c.in-Ok-Line.ensures.ahead;
       last = λ e. absurd (false≢true (sym (c.loop-turn.invariant.last e) ∙ sym c.if-not-ended.ensures));
       running = λ none. c.in-Ok-Line.ensures.stop;
       unstopped = λ e. let f = sym c.in-Ok-Line.ensures.stop ∙ e in cc;

@@ -1,5 +1,5 @@
-use Rattle.std.proofs.Common.{◌≡◌, ◌≢◌, ◌≤◌, ◌+◌, ◌*◌, false, length, Some, None, IfSome}
-use Rattle.fuxi_io.specs.Reading.{rest_of, read_ahead}
+use Rattle.std.proofs.Common.{◌≡◌, ◌≢◌, ◌≤◌, ◌+◌, ◌*◌, false, Some, None, IfSome}
+use Rattle.fuxi_io.specs.Reading.{rest_of}
 use Rattle.fuxi_io.specs.declared.lines.LineStop.TheVariants.{ReadFault}
 use Rattle.fuxi_terms.specs.Limits.{most_frames, most_lines}
 use Rattle.input_lines.specs.Wholes.{IsReady}
@@ -20,7 +20,6 @@ invariant-loop-turn g l = record {
   steps : g.C.Core.steps l.core ≤ g.C.Core.steps l.fn.core + l.turn * 4097;
   number : l.turn ≤ l.lines.number;
   small : 1 ≤ l.turn → l.lines.number ≤ most_lines;
-  ahead : length l.lines.pending ≤ read_ahead;
   last : l.fn.lines.ended ≡ false → l.lines.ended ≡ false;
   running : l.fn.lines.stop ≡ None → l.lines.stop ≡ None;
   unstopped : l.lines.stop ≢ Some ReadFault;
