@@ -1,3 +1,3 @@
-pub mod Resting
-pub mod StepsLeave
-pub mod EpochsRise
+pub mod FilesLemmas
+pub mod Leaving
+pub mod Rising

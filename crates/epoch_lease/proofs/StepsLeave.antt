@@ -16,7 +16,8 @@ use Rattle.epoch_lease.specs.declared.event.LeaseFault.{LeaseFault}
 use Rattle.epoch_lease.specs.declared.event.LeaseFault.TheVariants.{DiskFault, OutOfMemory}
 use Rattle.epoch_lease.specs.Files.{KeptLease, LeavesStep, OpensAs, HasFence, Endures, lease_of}
 use Rattle.epoch_lease.specs.Leases.{LeaseState, Stepped, becomes, granted, greatest_epoch, lease_step}
-use Rattle.epoch_lease.proofs.Resting.{rest_endures, rest_leaves}
+use Rattle.epoch_lease.proofs.FilesLemmas.{rest_endures}
+use Rattle.hard_state.proofs.HardFilesLemmas.{rest_leaves}
 
 all_leave : (P Q : List ℕ → Type 0) → ((file : List ℕ) → P file → Q file) → (ms : List Moment) → AllByRecursion (Leaves P) ms → AllByRecursion (Leaves Q) ms
 all_leave P Q f [] all = tt

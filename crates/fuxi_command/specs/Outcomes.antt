@@ -16,8 +16,8 @@ use Rattle.lease_run.specs.Ends.{LeaseEnded}
 use Rattle.lease_run.specs.Runs.{run_of, AtEnd}
 use Rattle.written_work.specs.World.{empty_world as empty_work}
 use Rattle.work_run.specs.Runs.{Ended as WorkEnded, run_from as work_run_from, run_of as work_run_of, AtEnd as WorkAtEnd}
-use Rattle.node_command.specs.declared.kind.NodeKind.{NodeKind}
-use Rattle.node_command.specs.Inputs.{HasNoCluster, InputEnded, InputEndsBy, IsDiskless, LeavesDisk, MayStart, TellsDisk, ending_of, status_at}
+use Rattle.fuxi_node.specs.declared.kind.NodeKind.{NodeKind}
+use Rattle.fuxi_node.specs.Inputs.{HasNoCluster, InputEnded, InputEndsBy, IsDiskless, LeavesDisk, MayStart, TellsDisk, ending_of, status_at}
 use Rattle.node_door.specs.Doors.{Told, WhereTold}
 use Rattle.fuxi_command.specs.Words.{Lease, Node, Replay, Storm, Work, command_of, has_file, is_command, is_node}
 

@@ -12,9 +12,9 @@ use Rattle.fuxi_io.specs.declared.status.Status.TheVariants.{Usage, OutOfMemory}
 use Rattle.fuxi_terms.specs.Limits.{most_machines, most_jobs, most_units, most_address_bytes}
 use Rattle.schedule_unit.specs.Numbers.{number_of}
 use Rattle.storm_run.specs.Storms.{most_storm_steps}
-use Rattle.node_command.specs.Inputs.{IsKind}
-use Rattle.node_command.specs.declared.kind.NodeKind.{NodeKind}
-use Rattle.node_command.specs.declared.kind.NodeKind.TheVariants.{Master, Agent, App}
+use Rattle.fuxi_node.specs.Inputs.{IsKind}
+use Rattle.fuxi_node.specs.declared.kind.NodeKind.{NodeKind}
+use Rattle.fuxi_node.specs.declared.kind.NodeKind.TheVariants.{Master, Agent, App}
 use Rattle.fuxi_command.specs.declared.words.Command.{Command as Parsed}
 use Rattle.fuxi_command.specs.declared.words.Command.TheVariants as parsed
 

@@ -18,7 +18,7 @@ use crate::telling::report;
 use crate::top::fuxi;
 use crate::words::{Command, command_of};
 use fuxi_io::{Disk, Sink, Source, Status};
-use node_command::NodeKind;
+use fuxi_node::NodeKind;
 use node_door::Door;
 use std::alloc::Global;
 use std::env::Args;

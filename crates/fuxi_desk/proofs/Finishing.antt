@@ -9,7 +9,7 @@ use Rattle.written_roles.specs.HardState.{HardState}
 use Rattle.written_roles.specs.MasterRoles.{MasterRole}
 use Rattle.fuxi_master.specs.Cores.{MasterRecord, StandsFor}
 use Rattle.node_rounds.specs.Roles.{Role, OfAgent, OfApp, OfMaster}
-use Rattle.master_node.specs.Standing.{NodeRecord, StandsAs}
+use Rattle.master_node.specs.Masters.{NodeRecord, StandsAs}
 use Rattle.master_desk.specs.Orders.{IsWhole}
 use Rattle.master_desk.specs.Desks.{IsDeskRun}
 use Rattle.master_desk.specs.Books.{BookRecord, HasRun, entry_line, order_in}

@@ -6,7 +6,7 @@ use Rattle.written_roles.specs.MasterRoles.{master_started}
 use Rattle.node_rounds.specs.Roles.{Role, OfMaster}
 use Rattle.node_party.specs.Commands.{commanded}
 use Rattle.node_party.specs.Texts.{answer_text}
-use Rattle.master_node.specs.Standing.{NodeRecord, StandsAs}
+use Rattle.master_node.specs.Masters.{NodeRecord, StandsAs}
 use Rattle.master_desk.specs.Orders.{calls_of, most_calls, most_sessions, total}
 use Rattle.fuxi_desk.specs.Lines.{DeskEvent, Submits, Calls}
 

@@ -7,7 +7,7 @@ ghost use Rattle.written_roles.specs.MasterRoles.{MasterRole};
 ghost use Rattle.schedule_text.specs.Halting.{anywhere};
 ghost use Rattle.schedule_text.specs.Writing.{IsLineEvent};
 ghost use Rattle.node_rounds.specs.Roles.{OfMaster};
-ghost use Rattle.master_node.specs.Standing.{StandsAs};
+ghost use Rattle.master_node.specs.Masters.{StandsAs};
 ghost use Rattle.master_desk.specs.Orders.{most_calls, most_sessions, total};
 ghost use Rattle.fuxi_master.specs.Cores.{StandsFor};
 ghost use Rattle.fuxi_desk.specs.Lines.{Submits, Calls};
@@ -49,7 +49,7 @@ impl Drop for Prepared {
 
 impl Model for Prepared {
     ghost use Rattle.std.specs.Prelude.{length, None};
-    ghost use Rattle.master_node.specs.Standing.{RestsAt};
+    ghost use Rattle.master_node.specs.Masters.{RestsAt};
     ghost use Rattle.fuxi_desk.specs.Preparing.{PreparedRecord};
 
     ghost Value = { PreparedRecord };

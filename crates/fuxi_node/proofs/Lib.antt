@@ -1,3 +1,12 @@
-pub mod Starting
-pub mod Reading
-pub mod Mastering
+pub mod VisitsLemmas
+pub mod ProgressLemmas
+pub mod RunsLemmas
+pub mod KnownRuns
+pub mod Endings
+pub mod EndsLemmas
+pub mod DiskKept
+pub mod StartsLemmas
+pub mod MastersLemmas
+pub mod InputsLemmas
+pub mod InputEnds
+pub mod CompleteInputs

@@ -1,2 +1,7 @@
+pub mod Runs
+pub mod Visits
+pub mod Ends
+pub mod Progress
 pub mod Starts
 pub mod Masters
+pub mod Inputs

@@ -12,11 +12,11 @@ use Rattle.written_roles.specs.Refusals.{Refusal, NotRising, HardFull}
 use Rattle.hard_state.specs.HardFiles.{SyncsAll, records_of}
 use Rattle.hard_state.specs.declared.fault.HardFault.{HardFault}
 use Rattle.hard_state.specs.declared.fault.HardFault.TheVariants.{Stale, Fenced, Known, NoJob, Ended as HasEnded, AlreadyBanned, NotBanned, Full, NotCheckpoint, DiskFault as NoDisk, OutOfMemory as NoMemory}
-use Rattle.master_node.specs.Starting.{Starts}
+use Rattle.master_node.specs.Starts.{Starts}
 use Rattle.node_door.specs.Doors.{Told}
 use Rattle.node_rounds.specs.Roles.{Role, OfAgent, OfApp, OfMaster}
-use Rattle.node_run.specs.declared.taking.DiskFailed.{DiskFailed}
-use Rattle.node_run.specs.Ends.{Start, Ended}
+use Rattle.fuxi_node.specs.declared.taking.DiskFailed.{DiskFailed}
+use Rattle.fuxi_node.specs.Ends.{Start, Ended}
 
 -- a file stands for the hard state of the party, where that is a master
 abbrev pub FileStands : Role → List ℕ → Type 0

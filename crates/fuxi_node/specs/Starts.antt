@@ -8,7 +8,7 @@ use Rattle.written_roles.specs.Apps.{new_app}
 use Rattle.written_roles.specs.HardState.{HardState}
 use Rattle.written_roles.specs.MasterRoles.{master_started}
 use Rattle.node_rounds.specs.Roles.{OfAgent, OfApp, OfMaster}
-use Rattle.node_run.specs.Ends.{Start, start_of}
+use Rattle.fuxi_node.specs.Ends.{Start, start_of}
 
 -- the agent of a machine of the cluster, so many lines having gone before
 abbrev pub agent_start : ClusterRecord → ℕ → ℕ → List ℕ → ℕ → Start

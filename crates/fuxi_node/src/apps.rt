@@ -6,22 +6,23 @@ ghost use Rattle.fuxi_io.specs.Reading.{rest_of, read_ahead};
 ghost use Rattle.fuxi_terms.specs.Limits.{most_jobs, most_lines, most_units};
 ghost use Rattle.input_lines.specs.Wholes.{IsReady};
 ghost use Rattle.node_door.specs.Doors.{WhereTold};
-ghost use Rattle.node_run.specs.Ends.{Ended, EndsByLines, IsRunStatus};
+ghost use Rattle.fuxi_node.specs.Ends.{Ended, EndsByLines, IsRunStatus};
 ghost use Rattle.fuxi_node.specs.Starts.{app_start};
 
-use app_node::AppNode;
+use crate::run::run_node;
+use crate::taking::DiskFailed;
 use cluster_desc::Cluster;
 use fuxi_io::{LimitOf, LineReader, LineStop, Sink, Source, Status};
 use fuxi_terms::OutOfMemory;
 use node_door::Door;
 use node_party::NoDisk;
-use node_run::{DiskFailed, run_node};
+use peer_nodes::AppNode;
 use schedule_unit::AppNo;
 use std::alloc::Global;
 
 /// Runs the application of a job that has so many units, 1 to 8, in a boot of at least 1, over the lines behind that of the cluster, which
 /// is the last one that the reader gave. It dials its master at the address, which has 1 to 255 bytes. The reader has not stopped. The
-/// statuses are those of [`crate::run_agent`].
+/// statuses are those of `run_agent`.
 pub fn run_app<S: Source, O: Sink, N: Door>(
     alloc: Global,
     cluster: &Cluster,

@@ -1,10 +1,15 @@
-//! A node: one party of a cluster, its lines, and its peers over a door.
+//! A node: one party of a cluster, over the lines of an input, with its peers behind a door.
 #![tactic(auto)]
 
 mod agents;
 mod apps;
+mod input;
+mod kind;
+mod law;
 mod masters;
+mod run;
+mod taking;
 
-pub use agents::run_agent;
-pub use apps::run_app;
-pub use masters::run_master;
+pub use input::run_input;
+pub use kind::NodeKind;
+pub use law::runs_end_by_their_lines;

@@ -6,17 +6,18 @@ ghost use Rattle.fuxi_io.specs.Reading.{rest_of, read_ahead};
 ghost use Rattle.fuxi_terms.specs.Limits.{most_lines};
 ghost use Rattle.input_lines.specs.Wholes.{IsReady};
 ghost use Rattle.node_door.specs.Doors.{WhereTold};
-ghost use Rattle.node_run.specs.Ends.{EndsByLines};
+ghost use Rattle.fuxi_node.specs.Ends.{EndsByLines};
 ghost use Rattle.fuxi_node.specs.Starts.{master_start};
 ghost use Rattle.fuxi_node.specs.Masters.{LeavesFile, MasterEnded, TellsFile, start_status};
 
+use crate::run::run_node;
+use crate::taking::DiskFailed;
 use cluster_desc::Cluster;
 use fuxi_io::{Disk, LimitOf, LineReader, LineStop, Sink, Source, Status};
 use fuxi_terms::limits::MOST_RECORDS;
 use hard_state::HardFault;
 use master_node::MasterNode;
 use node_door::Door;
-use node_run::{DiskFailed, run_node};
 use std::alloc::Global;
 
 // The status of a master that did not start.
@@ -41,7 +42,7 @@ fn start_status(fault: HardFault) -> Status
 ///
 /// `DiskFault`: the disk failed, at the start or at a line; the checkpoint has to be opened again. `DamagedCheckpoint`: what stands at this
 /// offset of the file is no record. `StaleEpoch`: the fence in the file is at least the epoch. `Limit` of records: the file has 65,536.
-/// With these three the file stands for what it stood for. The other statuses are those of [`crate::run_agent`].
+/// With these three the file stands for what it stood for. The other statuses are those of `run_agent`.
 ///
 /// At every end of a master that started, a crash leaves a file that stands for the hard state of the lines taken. With `DiskFault` and
 /// `OutOfMemory` the line at which it came may count as taken or not.

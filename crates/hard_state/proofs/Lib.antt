@@ -2,8 +2,9 @@ pub mod IndexLemmas
 pub mod BansLemmas
 pub mod Images
 pub mod Runs
-pub mod ReadsAlike
-pub mod StandsWhileAppended
+pub mod Reading
+pub mod Standing
+pub mod HardFilesLemmas
 pub mod Stops
 pub mod OpensAsTheFile
 pub mod MarksRise

@@ -15,7 +15,8 @@ use Rattle.hard_state.specs.declared.fault.HardFault.{HardFault}
 use Rattle.hard_state.specs.declared.fault.HardFault.TheVariants.{DiskFault}
 use Rattle.hard_state.proofs.Images.{before-overwritten}
 use Rattle.hard_state.proofs.Runs.{map_where, then_where}
-use Rattle.hard_state.proofs.Stops.{takes, room_of_step, stands_for, old_reads, new_reads}
+use Rattle.hard_state.proofs.HardFilesLemmas.{stands_for}
+use Rattle.hard_state.proofs.Stops.{takes, room_of_step, old_reads, new_reads}
 
 -- two writes, each with a sync behind it, are the four calls
 pub first_fails : {E : Type 0} (gate : ℕ) (bytes : List ℕ) (a b : Option Told) (fault : E) → WhereTold (WritesThrough (gate + 1) bytes (Err fault)) a b → WhereTold (MakesCalls (appending_calls gate bytes) (Err fault)) a b

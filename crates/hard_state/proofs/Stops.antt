@@ -1,7 +1,7 @@
 -- What a crash leaves of a checkpoint while a record is written.
 use Rattle.std.proofs.Common.{Bool, true, false, nat_lt, ◌≡◌, ◌⊎◌, inl, inr, ⊎_elim, ℕ, ◌+◌, ◌^◌, ◌<◌, List, [], ◌∷◌, ◌++◌, length, take, not, Option, None, Some, Result, Ok, Err, IfSome, refl, sym, ◌∙◌, ap, subst, arith}
 use Rattle.std.proofs.lemmas.Bool.Decides.{nat_tests}
-use Rattle.fuxi_io.specs.Disks.{Moment, Told, IsImage, synced_moment, WhereTold, LeavesAlways}
+use Rattle.fuxi_io.specs.Disks.{Moment, Told, synced_moment, WhereTold, LeavesAlways}
 use Rattle.fuxi_terms.specs.Jobs.{is_known, has_ended}
 use Rattle.fuxi_terms.specs.Limits.{most_records}
 use Rattle.fuxi_terms.specs.Numbers.{has_number}
@@ -11,10 +11,11 @@ use Rattle.hard_records.specs.Bodies.{body_of, record_in}
 use Rattle.hard_records.specs.declared.records.Record.{Record}
 use Rattle.hard_records.specs.declared.records.Record.TheVariants.{Fence, Submission, Finish, Ban, Unban}
 use Rattle.hard_state.specs.Gates.{IsAppending, Appends, appended}
-use Rattle.hard_state.specs.Checkpoints.{behind_gate, Opened}
-use Rattle.hard_state.specs.HardFiles.{event_of, epoch_of, made, record_taken, taken, reads_as, value_of, records_of, Kept, opened_as, IsAtRest, IsBeforeOrAfter, WritesStep, IsAskedBy}
-use Rattle.hard_state.proofs.Images.{synced_image, gate_open}
-use Rattle.hard_state.proofs.StandsWhileAppended.{stands, reads_before, reads_after, reads_either}
+use Rattle.hard_state.specs.Checkpoints.{behind_gate}
+use Rattle.hard_state.specs.HardFiles.{event_of, epoch_of, made, record_taken, taken, reads_as, Kept, opened_as, IsBeforeOrAfter, WritesStep, IsAskedBy}
+use Rattle.hard_state.proofs.HardFilesLemmas.{rest_leaves, stands_for}
+use Rattle.hard_state.proofs.Images.{gate_open}
+use Rattle.hard_state.proofs.Standing.{reads_before, reads_after, reads_either}
 use Rattle.hard_state.proofs.Runs.{map_where, knowing_first, leaves_first, leaves_more, IsLong, within_bytes}
 
 -- each step writes one record
@@ -86,14 +87,6 @@ room_of_step h epoch event next is = let some : not (nat_lt h.records most_recor
 pub takes : (h next : HardState) (epoch : ℕ) (r : Record) → IsAskedBy epoch r → record_in (body_of r) ≡ Some r → hard_step h epoch (event_of r) ≡ Ok next → taken h (body_of r) ≡ Some next
 unfolding taken
 takes h next epoch r asked back is = ap (record_taken h) back ∙ ap made (at_own h next epoch r asked is)
-
-pub stands_for : (file : List ℕ) (o : Opened HardState) → reads_as file ≡ Ok o → records_of file ≡ Ok o.value
-unfolding reads_as records_of
-stands_for file o is = ap value_of (stands taken most_records empty_hard file o is)
-
-rest_leaves : (k : Kept) (m : Moment) → IsAtRest k m → (file : List ℕ) → IsImage m file → records_of file ≡ Ok k.value
-rest_leaves k m rest file image =
-    ap records_of (synced_image m.bytes file (subst (λ (n : Moment). IsImage n file) rest.synced image)) ∙ stands_for m.bytes (opened_as k) rest.reads
 
 -- a refusal makes no call of the disk
 pub refused_where : (E : Type 0) (k : Kept) (step : Result HardState Refusal) (fault : E) (a : Option Told) → WhereTold (WritesStep step k k (Err fault)) a a

@@ -1,7 +1,7 @@
-pub mod Commanding
-pub mod Knowing
+pub mod CommandsLemmas
+pub mod KnowledgeKept
 pub mod Moments
-pub mod Obeying
-pub mod Opening
-pub mod Resting
-pub mod Turning
+pub mod WrittenIsDone
+pub mod StartsLemmas
+pub mod RestKept
+pub mod SentToPeers

@@ -1,5 +1,5 @@
-pub mod Standing
-pub mod Starting
-pub mod Telling
+pub mod Masters
+pub mod Starts
+pub mod Commands
 pub mod Told
-pub mod Writing
+pub mod Writes

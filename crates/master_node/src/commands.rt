@@ -6,9 +6,9 @@ ghost use Rattle.fuxi_terms.specs.Limits.{most_jobs, most_steps};
 ghost use Rattle.written_roles.specs.MasterSteps.{Submits, BansMachine, UnbansMachine};
 ghost use Rattle.schedule_text.specs.Asked.{job_named};
 ghost use Rattle.node_party.specs.Commands.{MasterCommands, master_does};
-ghost use Rattle.master_node.specs.Standing.{Rests};
+ghost use Rattle.master_node.specs.Masters.{Rests};
 ghost use Rattle.master_node.specs.Told.{IsTold, told_of};
-ghost use Rattle.master_node.specs.Telling.{Does, LeavesMade};
+ghost use Rattle.master_node.specs.Commands.{Does, LeavesMade};
 
 use crate::MasterNode;
 use crate::told::Told;

@@ -19,11 +19,11 @@ ghost use Rattle.node_rounds.specs.Roles.{IsTurn, OfMaster, Role as RoleSeen, en
 ghost use Rattle.node_party.specs.Commands.{IsCommanded, commanded};
 ghost use Rattle.node_party.specs.Halts.{FitsEither};
 ghost use Rattle.node_party.specs.Texts.{as_answer};
-ghost use Rattle.master_node.specs.Standing.{DiskHas, IsMasterOf, IsTied, Rests, RestsAt, StandsAs};
+ghost use Rattle.master_node.specs.Masters.{DiskHas, IsMasterOf, IsTied, Rests, RestsAt, StandsAs};
 ghost use Rattle.hard_state.specs.HardFiles.{SyncsAll};
-ghost use Rattle.master_node.specs.Starting.{FailsStart, IsRaised, IsStartFault, Starts, StartsFrom};
-ghost use Rattle.master_node.specs.Writing.{IsCommand, LeavesEither, hard_in};
-ghost use Rattle.master_node.specs.Telling.{Does, LeavesLine, LeavesMade, obeyed, packets_in, Sends};
+ghost use Rattle.master_node.specs.Starts.{FailsStart, IsRaised, IsStartFault, Starts, StartsFrom};
+ghost use Rattle.master_node.specs.Writes.{IsCommand, LeavesEither, hard_in};
+ghost use Rattle.master_node.specs.Commands.{Does, LeavesLine, LeavesMade, obeyed, packets_in, Sends};
 
 use crate::refusals::{answer_in, written_refusal};
 use crate::told::master_named;
@@ -56,7 +56,7 @@ impl Drop for MasterNode {
 }
 
 impl Model for MasterNode {
-    ghost use Rattle.master_node.specs.Standing.{NodeRecord, IsTied};
+    ghost use Rattle.master_node.specs.Masters.{NodeRecord, IsTied};
 
     ghost Value = { NodeRecord };
 
@@ -222,7 +222,7 @@ fn write_sent(alloc: Global, outcome: Outcome, from: Party, to: Party) -> Result
 }
 
 impl Core for MasterNode {
-    ghost use Rattle.master_node.specs.Standing.{RestsAt, StandsAs};
+    ghost use Rattle.master_node.specs.Masters.{RestsAt, StandsAs};
 
     ghost stands = { StandsAs };
 
@@ -297,8 +297,8 @@ impl Core for MasterNode {
 }
 
 impl Node for MasterNode {
-    ghost use Rattle.master_node.specs.Standing.{DiskHas, disk_has};
-    ghost use Rattle.master_node.specs.Writing.{LeavesEither};
+    ghost use Rattle.master_node.specs.Masters.{DiskHas, disk_has};
+    ghost use Rattle.master_node.specs.Writes.{LeavesEither};
 
     ghost fits = { DiskHas };
 

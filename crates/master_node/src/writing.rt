@@ -4,7 +4,7 @@ ghost use Rattle.std.specs.Prelude.{◌≡◌, ◌≢◌, ◌<◌, ◌≤◌, fa
 ghost use Rattle.fuxi_io.specs.Causes.{Rose};
 ghost use Rattle.fuxi_io.specs.Disks.{WhereTold};
 ghost use Rattle.hard_state.specs.HardFiles.{Refuses};
-ghost use Rattle.master_node.specs.Writing.{IsCommand, Writes, written_by};
+ghost use Rattle.master_node.specs.Writes.{IsCommand, Writes, written_by};
 
 use fuxi_io::Disk;
 use fuxi_master::MasterEvent;

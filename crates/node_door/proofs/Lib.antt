@@ -1,2 +1,2 @@
-pub mod Giving
-pub mod Taking
+pub mod MemoryReads
+pub mod ConnectionsTook

@@ -1,3 +1,4 @@
 pub mod Orders
 pub mod Doors
 pub mod MemoryDoors
+pub mod DoorsLemmas

@@ -19,4 +19,4 @@ order_failed o = record { read = o.read; written = o.written; asked = o.asked; a
 
 -- once it is closed, whatever came of that
 abbrev pub order_closed : Order → Order
-order_closed o = record { read = o.read; written = o.written; asked = o.asked; answered = o.answered; failed = o.failed; closed = true; late = o.late }
+order_closed o = record { read = o.read; written = o.written; asked = o.asked; answered = o.answered; failed = o.failed; closed = true; late = o.late || o.closed }

@@ -16,7 +16,7 @@ pub struct Order {
     pub failed: bool,
     /// It was closed.
     pub closed: bool,
-    /// It was read or written to after that failed, or after it was closed.
+    /// It was read or written to after that failed, or after it was closed, or it was closed again.
     pub late: bool,
 }
 
@@ -92,7 +92,7 @@ impl Order {
             answered: self.answered,
             failed: self.failed,
             closed: true,
-            late: self.late,
+            late: self.late | self.closed,
         }
     }
 }

@@ -8,9 +8,9 @@ use Rattle.node_rounds.specs.declared.listening.Stop.{Stop}
 use Rattle.node_rounds.specs.declared.listening.Stop.TheVariants.{Short, Long, Fault}
 use Rattle.node_rounds.specs.declared.listening.Listened.{Listened}
 use Rattle.node_rounds.specs.Roles.{Role}
-use Rattle.node_rounds.specs.Listening.{Ear, new_ear, Advances, Halts, Listening, Listens, Broken}
-use Rattle.node_rounds.proofs.Telling.{same_told, map_told, then_told}
-use Rattle.node_rounds.proofs.Going.{begins, goes_on, is_fed, halts, ends_short, ends_fault, ends_long, not_short, not_failed, broken_same, broken_more}
+use Rattle.node_rounds.specs.Ears.{Ear, new_ear, Advances, Halts, Listening, Listens, Broken}
+use Rattle.node_door.specs.DoorsLemmas.{same_told, map_told, then_told}
+use Rattle.node_rounds.proofs.EarsLemmas.{begins, goes_on, is_fed, halts, ends_short, ends_fault, ends_long, not_short, not_failed, broken_same, broken_more}
 
 pub broken_told : (a : Option Told) → WhereTold Broken a a
 broken_told a = same_told Broken a broken_same

@@ -1,8 +1,8 @@
-pub mod Telling
+pub mod TalksLemmas
 pub mod Packets
-pub mod Hearing
-pub mod Going
+pub mod HeardLemmas
+pub mod EarsLemmas
 pub mod Hears
-pub mod Rounding
+pub mod RoundsLemmas
 pub mod Served
-pub mod OneHearing
+pub mod HeardOfBytes

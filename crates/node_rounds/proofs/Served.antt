@@ -6,10 +6,10 @@ use Rattle.node_rounds.specs.declared.listening.Listened.{Listened}
 use Rattle.node_rounds.specs.declared.rounds.RoundLine.{RoundLine}
 use Rattle.node_rounds.specs.declared.rounds.RoundLine.TheVariants.{Done, Fault}
 use Rattle.node_rounds.specs.Roles.{Role, turn, IsTurn}
-use Rattle.node_rounds.specs.Listening.{how_of, is_failed, is_ended, Listens, Broken}
+use Rattle.node_rounds.specs.Ears.{how_of, is_failed, is_ended, Listens, Broken}
 use Rattle.node_rounds.specs.Rounds.{line_by, Rounds, Breaks}
-use Rattle.node_rounds.proofs.Telling.{same_told, map_told, then_told}
-use Rattle.node_rounds.proofs.Rounding.{Opened, Wrote, missed, unsent, heard_dialed, cut_dialed, heard_served, answered, unanswered, cut_served, cut_unanswered}
+use Rattle.node_door.specs.DoorsLemmas.{same_told, map_told, then_told}
+use Rattle.node_rounds.proofs.RoundsLemmas.{Opened, Wrote, missed, unsent, heard_dialed, cut_dialed, heard_served, answered, unanswered, cut_served, cut_unanswered}
 
 record Both (R S : Told → Told → Type 0) (old new : Told) : Type 0 where
   mid : Told

@@ -1,4 +1,4 @@
 pub mod Roles
-pub mod Hearing
-pub mod Listening
+pub mod Heard
+pub mod Ears
 pub mod Rounds

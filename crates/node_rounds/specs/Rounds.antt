@@ -8,7 +8,7 @@ use Rattle.wire_frames.specs.declared.fault.FrameFault.TheVariants.{Short, Lengt
 use Rattle.node_rounds.specs.declared.rounds.RoundLine.{RoundLine}
 use Rattle.node_rounds.specs.declared.rounds.RoundLine.TheVariants.{Done, Fault, Bad, Stranger, Long}
 use Rattle.node_rounds.specs.Roles.{Role, turn, IsTurn}
-use Rattle.node_rounds.specs.Hearing.{Hearing, How, AtEnd, AtWrong, AtStranger, AtMost, AtOpen, Came, hear_all, Gives}
+use Rattle.node_rounds.specs.Heard.{Hearing, How, AtEnd, AtWrong, AtStranger, AtMost, AtOpen, Came, hear_all, Gives}
 
 -- The line of a round in which so many packets were sent and so many heard. Where it is marked, the door failed in it. A bad frame, a
 -- stranger and too many packets decide first.
@@ -102,7 +102,7 @@ abbrev pub closed_in : Option Talk → Bool
 closed_in None = true
 closed_in (Some talk) = talk.order.closed
 
--- Who dials speaks before it hears, who accepts hears before it speaks, and behind a call that failed, and behind its end, the connection is left alone
+-- Who dials speaks before it hears, who accepts hears before it speaks, and behind a call that failed, and behind its end, the connection is left alone, so it is closed once
 pub record InOrder (accepts : Bool) (o : Order) : Type 0 where
   pub turns : cond accepts o.asked o.answered ≡ false
   pub late : o.late ≡ false

@@ -4,8 +4,8 @@ ghost use Rattle.fuxi_terms.specs.Limits.{most_steps};
 ghost use Rattle.node_door.specs.Doors.{WhereTold};
 ghost use Rattle.wire_frames.specs.Reading.{HasFault};
 ghost use Rattle.node_rounds.specs.Roles.{Role, may_send, Keeps};
-ghost use Rattle.node_rounds.specs.Hearing.{is_end};
-ghost use Rattle.node_rounds.specs.Listening.{Steps, Listens, Broken, new_ear, is_ended, step_at};
+ghost use Rattle.node_rounds.specs.Heard.{is_end};
+ghost use Rattle.node_rounds.specs.Ears.{Steps, Listens, Broken, new_ear, is_ended, step_at};
 
 use crate::party::Core;
 use fuxi_io::Failed;
@@ -71,7 +71,7 @@ pub struct Ear {
 }
 
 impl Model for Ear {
-    ghost use Rattle.node_rounds.specs.Listening.{Ear as EarRecord};
+    ghost use Rattle.node_rounds.specs.Ears.{Ear as EarRecord};
 
     ghost Value = { EarRecord };
 

@@ -3,7 +3,7 @@ ghost use Rattle.fuxi_io.specs.Causes.{Rose};
 ghost use Rattle.fuxi_terms.specs.Limits.{most_frames, most_steps};
 ghost use Rattle.node_door.specs.Doors.{Closes, WhereTold};
 ghost use Rattle.node_rounds.specs.Roles.{Role, may_send, Keeps};
-ghost use Rattle.node_rounds.specs.Listening.{how_of, is_failed};
+ghost use Rattle.node_rounds.specs.Ears.{how_of, is_failed};
 ghost use Rattle.node_rounds.specs.Rounds.{Rounds, Breaks, line_by};
 
 use crate::listening::{Listened, Stop, listen};

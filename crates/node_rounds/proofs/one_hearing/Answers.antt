@@ -1,4 +1,4 @@
-use Rattle.node_rounds.proofs.OneHearing.{heard_once}
+use Rattle.node_rounds.proofs.HeardOfBytes.{heard_once}
 use Rattle.node_rounds.proofs.one_hearing.Goals as goal
 
 pub returns : goal.returns

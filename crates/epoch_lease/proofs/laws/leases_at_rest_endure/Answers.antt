@@ -1,4 +1,4 @@
-use Rattle.epoch_lease.proofs.Resting.{rest_endures}
+use Rattle.epoch_lease.proofs.FilesLemmas.{rest_endures}
 use Rattle.epoch_lease.proofs.laws.leases_at_rest_endure.Goals as goal
 
 pub returns : goal.returns

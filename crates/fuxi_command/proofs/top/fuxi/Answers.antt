@@ -1,6 +1,6 @@
 use Rattle.std.proofs.Common.{subst}
-use Rattle.node_command.specs.Inputs.{TellsDisk}
-use Rattle.node_command.specs.declared.kind.NodeKind.TheVariants.{Master}
+use Rattle.fuxi_node.specs.Inputs.{TellsDisk}
+use Rattle.fuxi_node.specs.declared.kind.NodeKind.TheVariants.{Master}
 use Rattle.storm_run.specs.Runs.{StormEnded}
 use Rattle.storm_run.specs.Summaries.{storm_of}
 use Rattle.fuxi_command.proofs.Calming.{each_calms, quiet_storm}

@@ -1,6 +1,6 @@
 use Rattle.std.proofs.Common.{◌≡◌, ◌⊎◌, ◌∙◌, IfSome, sym, subst, Option, Some}
 use Rattle.fuxi_io.specs.declared.status.Status.TheVariants.{OutOfMemory}
-use Rattle.node_command.specs.Inputs.{InputEndsBy, LeavesDisk, MayStart, ending_of, status_at}
+use Rattle.fuxi_node.specs.Inputs.{InputEndsBy, LeavesDisk, MayStart, ending_of, status_at}
 use Rattle.fuxi_command.specs.Words.{Command, Node}
 use Rattle.fuxi_command.proofs.top.run_command.Goals as goal
 

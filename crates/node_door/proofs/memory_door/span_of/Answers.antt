@@ -1,5 +1,5 @@
 use Rattle.std.proofs.Common.{arith}
-use Rattle.node_door.proofs.Taking.{span_last, span_second, span_earlier}
+use Rattle.node_door.proofs.ConnectionsTook.{span_last, span_second, span_earlier}
 use Rattle.node_door.proofs.memory_door.span_of.Goals as goal
 
 pub returns-then-number-past : goal.returns-then-number-past

@@ -1,7 +1,7 @@
 use Rattle.std.proofs.Common.{◌+◌, ◌<◌, length, refl, sym, ap, subst, ◌∙◌}
 use Rattle.wire_frames.specs.Streams.{Streaming}
-use Rattle.node_rounds.specs.Listening.{Ear}
-use Rattle.node_rounds.proofs.Going.{advances, at_end, at_stranger, fault_steps, shorter}
+use Rattle.node_rounds.specs.Ears.{Ear}
+use Rattle.node_rounds.proofs.EarsLemmas.{advances, at_end, at_stranger, fault_steps, shorter}
 use Rattle.node_rounds.proofs.listening.hear_one.Goals as goal
 
 pub returns-in-Ok-hear-clause-steps : goal.returns-in-Ok-hear-clause-steps

@@ -3,7 +3,7 @@ use Rattle.std.proofs.lemmas.Bool.Decides.{nat_tests}
 use Rattle.fuxi_io.specs.declared.outside.Failed.{Failed}
 use Rattle.node_door.specs.Doors.{WhereTold, Reads}
 use Rattle.node_rounds.specs.declared.listening.Step.TheVariants.{Stopped}
-use Rattle.node_rounds.specs.Listening.{Ear}
+use Rattle.node_rounds.specs.Ears.{Ear}
 use Rattle.node_rounds.proofs.Packets.{short_size}
 use Rattle.node_rounds.proofs.Hears.{told_begins, told_goes_on, told_fed, told_halts, told_short, told_fault, told_long, broken_told, broken_read}
 use Rattle.node_rounds.proofs.listening.listen.Goals as goal

@@ -1,7 +1,7 @@
 use Rattle.std.proofs.Common.{◌≡◌, ◌+◌, ◌-◌, ◌*◌, ◌<◌, ◌≤◌, length, None}
 use Rattle.node_door.specs.Doors.{WhereTold}
 use Rattle.node_rounds.specs.Roles.{Role, Keeps}
-use Rattle.node_rounds.specs.Listening.{Listening, Broken}
+use Rattle.node_rounds.specs.Ears.{Listening, Broken}
 use Rattle.node_rounds.proofs.listening.listen.Given as goal
 
 abbrev pub invariant-loop-alloc : goal.invariant-loop-alloc

@@ -1,5 +1,5 @@
 use Rattle.std.proofs.Common.{None}
-use Rattle.epoch_lease.proofs.Resting.{opens}
+use Rattle.epoch_lease.proofs.FilesLemmas.{opens}
 use Rattle.epoch_lease.proofs.lease.Lease.open.Goals as goal
 
 pub returns-in-Ok-clause-opened : goal.returns-in-Ok-clause-opened

@@ -1,7 +1,7 @@
 use Rattle.std.proofs.Common.{◌++◌, sym, ◌∙◌, ap, subst}
 use Rattle.node_party.specs.Commands.{Commanded}
 use Rattle.node_party.specs.Texts.{answer_text}
-use Rattle.master_node.specs.Standing.{StandsAs}
+use Rattle.master_node.specs.Masters.{StandsAs}
 use Rattle.fuxi_desk.specs.Preparing.{PreparedRecord}
 use Rattle.fuxi_desk.proofs.prepare.Prepared.submit.Goals as goal
 

@@ -4,11 +4,11 @@ use Rattle.schedule_text.specs.Printing.{as_refusal}
 use Rattle.node_party.specs.Commands.{IsCommanded, RefusedAs}
 use Rattle.node_party.specs.Texts.{as_answer}
 use Rattle.node_party.specs.declared.party.Halt.TheVariants.{Memory}
-use Rattle.master_node.specs.Standing.{NodeRecord, IsMasterOf, StandsAs}
-use Rattle.master_node.specs.Writing.{written_by}
-use Rattle.master_node.specs.Telling.{obeyed}
-use Rattle.master_node.proofs.Knowing.{tied_by}
-use Rattle.master_node.proofs.Obeying.{fits, leaves_obeyed, obeys, refuses}
+use Rattle.master_node.specs.Masters.{NodeRecord, IsMasterOf, StandsAs}
+use Rattle.master_node.specs.Writes.{written_by}
+use Rattle.master_node.specs.Commands.{obeyed}
+use Rattle.master_node.proofs.KnowledgeKept.{tied_by}
+use Rattle.master_node.proofs.WrittenIsDone.{fits, leaves_obeyed, obeys, refuses}
 use Rattle.master_node.proofs.node.MasterNode.obey.Goals as goal
 
 pub returns-in-Ok-written_refusal-clause-does : goal.returns-in-Ok-written_refusal-clause-does

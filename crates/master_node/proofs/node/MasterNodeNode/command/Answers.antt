@@ -4,9 +4,9 @@ use Rattle.written_roles.specs.Refusals.{NotRunning}
 use Rattle.node_rounds.specs.Roles.{OfAgent, OfApp, OfMaster}
 use Rattle.node_party.specs.Commands.{commanded, master_does, master_named}
 use Rattle.master_node.specs.Told.{named_of, told_of}
-use Rattle.master_node.specs.Writing.{hard_in}
-use Rattle.master_node.proofs.Commanding.{all_done, all_left, named_does, named_other, stays_refused}
-use Rattle.master_node.proofs.Resting.{line_rests, on_err, stays_rests, told_halts}
+use Rattle.master_node.specs.Writes.{hard_in}
+use Rattle.master_node.proofs.CommandsLemmas.{all_done, all_left, named_does, named_other, stays_refused}
+use Rattle.master_node.proofs.RestKept.{line_rests, on_err, stays_rests, told_halts}
 use Rattle.master_node.proofs.node.MasterNodeNode.command.Goals as goal
 
 pub returns-then-epoch-clause-does : goal.returns-then-epoch-clause-does

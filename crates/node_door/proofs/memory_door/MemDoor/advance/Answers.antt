@@ -1,6 +1,6 @@
 use Rattle.std.proofs.Common.{◌≡◌, false, nat_eq, take, reverse, arith}
 use Rattle.std.proofs.lemmas.Bool.Decides.{nat_tests}
-use Rattle.node_door.proofs.Giving.{read_more}
+use Rattle.node_door.proofs.MemoryReads.{read_more}
 use Rattle.node_door.proofs.memory_door.MemDoor.advance.Goals as goal
 
 pub returns-else-n-eq0 : goal.returns-else-n-eq0

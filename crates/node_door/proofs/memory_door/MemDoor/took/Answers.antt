@@ -2,7 +2,7 @@ use Rattle.std.proofs.Common.{◌≡◌, reverse, ◌∷◌, ap, sym, ◌∙◌,
 use Rattle.std.proofs.lemmas.List.{length-reverse}
 use Rattle.node_door.specs.MemoryDoors.{talks_of}
 use Rattle.node_door.specs.Doors.{took_by}
-use Rattle.node_door.proofs.Taking.{took_none}
+use Rattle.node_door.proofs.ConnectionsTook.{took_none}
 use Rattle.node_door.proofs.memory_door.MemDoor.took.Goals as goal
 
 pub returns-then-connection-len : goal.returns-then-connection-len

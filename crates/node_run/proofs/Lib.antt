@@ -1,8 +1,0 @@
-pub mod Telling
-pub mod Stepping
-pub mod Visiting
-pub mod Going
-pub mod Lifting
-pub mod Endings
-pub mod Resting
-pub mod Placing

@@ -1,5 +1,0 @@
-use Rattle.node_run.proofs.Endings.{run_ends}
-use Rattle.node_run.proofs.law.runs_end_by_their_lines.Goals as goal
-
-pub returns : goal.returns
-returns c = run_ends

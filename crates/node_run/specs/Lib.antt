@@ -1,4 +1,0 @@
-pub mod Runs
-pub mod Visits
-pub mod Ends
-pub mod Progress
