@@ -1,3 +1,3 @@
 pub mod FilesLemmas
-pub mod Leaving
-pub mod Rising
+pub mod StepsLeave
+pub mod EpochsRise

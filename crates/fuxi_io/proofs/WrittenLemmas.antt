@@ -5,7 +5,7 @@ use Rattle.std.specs.Io.KnownBytes.{Appends}
 use Rattle.std.proofs.lemmas.List.{length-append, take-append-le}
 use Rattle.std.proofs.Math.Seq.{take-append-add}
 use Rattle.fuxi_io.specs.Causes.{TakesPart}
-use Rattle.fuxi_terms.proofs.Appending.{appends_both, appends_none}
+use Rattle.fuxi_terms.proofs.AppendsLemmas.{appends_both, appends_none}
 use Rattle.fuxi_io.specs.Written.{Written}
 
 module _ {A : Type 0} (f : A → List ℕ) where

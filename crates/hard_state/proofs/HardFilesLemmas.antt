@@ -6,7 +6,7 @@ use Rattle.written_roles.specs.HardState.{HardState, empty_hard}
 use Rattle.hard_state.specs.Checkpoints.{Opened}
 use Rattle.hard_state.specs.HardFiles.{IsAtRest, Kept, opened_as, reads_as, records_of, taken, value_of}
 use Rattle.hard_state.proofs.Images.{synced_image}
-use Rattle.hard_state.proofs.Standing.{stands}
+use Rattle.hard_state.proofs.StandsWhileAppended.{stands}
 
 pub stands_for : (file : List ℕ) (o : Opened HardState) → reads_as file ≡ Ok o → records_of file ≡ Ok o.value
 unfolding reads_as records_of

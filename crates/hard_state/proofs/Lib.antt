@@ -2,8 +2,8 @@ pub mod IndexLemmas
 pub mod BansLemmas
 pub mod Images
 pub mod Runs
-pub mod Reading
-pub mod Standing
+pub mod ReadsAlike
+pub mod StandsWhileAppended
 pub mod HardFilesLemmas
 pub mod Stops
 pub mod OpensAsTheFile

@@ -15,7 +15,7 @@ use Rattle.hard_state.specs.Checkpoints.{behind_gate}
 use Rattle.hard_state.specs.HardFiles.{event_of, epoch_of, made, record_taken, taken, reads_as, Kept, opened_as, IsBeforeOrAfter, WritesStep, IsAskedBy}
 use Rattle.hard_state.proofs.HardFilesLemmas.{rest_leaves, stands_for}
 use Rattle.hard_state.proofs.Images.{gate_open}
-use Rattle.hard_state.proofs.Standing.{reads_before, reads_after, reads_either}
+use Rattle.hard_state.proofs.StandsWhileAppended.{reads_before, reads_after, reads_either}
 use Rattle.hard_state.proofs.Runs.{map_where, knowing_first, leaves_first, leaves_more, IsLong, within_bytes}
 
 -- each step writes one record
