@@ -6,9 +6,8 @@
 mod cases;
 mod edges;
 
-use case_words::{Stop, head_of};
+use case_words::{Cases, Stop, answer_input, head_of};
 use std::alloc::Global;
-use std::io::{BufRead, BufReader};
 use std::process::ExitCode;
 
 fn answer<P: Print>(rt: &P, alloc: Global, name: &str, kind: &str, rest: &str) -> Result<(), Stop> {
@@ -25,31 +24,30 @@ fn answer<P: Print>(rt: &P, alloc: Global, name: &str, kind: &str, rest: &str) -
     }
 }
 
-fn answer_line<P: Print>(rt: &P, alloc: Global, line: &str) -> Result<(), Stop> {
-    if line.starts_with('#') {
-        return Ok(println!(rt; "{line}")?);
-    }
-    let (head, rest) = head_of(line);
-    if head == "work" {
-        let (kind, rest) = head_of(rest);
-        answer(rt, alloc, head, kind, rest)?;
-    } else {
-        answer(rt, alloc, "replay", head, rest)?;
-    }
-    Ok(println!(rt;)?)
-}
+// The cases of commands keep nothing.
+#[derive(Drop)]
+struct Commands;
 
-fn run(rt: &HostRuntime) -> Result<(), Stop> {
-    let alloc = rt.alloc();
-    for line in BufReader::new(alloc, rt.reader())?.lines(alloc) {
-        answer_line(rt, alloc, &line?)?;
+impl Cases for Commands {
+    fn start(_alloc: Global) -> Result<Commands, Stop> {
+        Ok(Commands)
     }
-    Ok(())
+
+    fn answer_line(&mut self, rt: &HostRuntime, alloc: Global, line: &str) -> Result<(), Stop> {
+        if line.starts_with('#') {
+            return Ok(println!(rt; "{line}")?);
+        }
+        let (head, rest) = head_of(line);
+        if head == "work" {
+            let (kind, rest) = head_of(rest);
+            answer(rt, alloc, head, kind, rest)?;
+        } else {
+            answer(rt, alloc, "replay", head, rest)?;
+        }
+        Ok(println!(rt;)?)
+    }
 }
 
 fn main(rt: HostRuntime) -> ExitCode {
-    match run(&rt) {
-        Ok(()) => ExitCode::SUCCESS,
-        Err(_) => ExitCode::FAILURE,
-    }
+    answer_input::<Commands>(&rt)
 }

@@ -15,7 +15,6 @@ pub fn write_through<D: Disk>(disk: &mut D, at: u64, bytes: &[u8]) -> Result<(),
     ensures size { OnOk result (D.size disk.new ≡ max (D.size disk.old) (at + length bytes.now)) }
     ensures told { WhereTold (WritesThrough at bytes.now result) (D.told disk.old) (D.told disk.new) }
     ensures cause { HasCause (D.faults disk.old) (D.faults disk.new) result }
-    ensures served { OnOk result (D.faults disk.new ≡ D.faults disk.old) }
 {
     match disk.write_at(at, bytes) {
         Ok(()) => {}

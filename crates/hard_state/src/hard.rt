@@ -101,7 +101,7 @@ impl Hard {
         ensures long { IfOk result (λ hard. hard.gate < D.size disk.new) }
         ensures later { D.faults disk.old ≤ D.faults disk.new }
         ensures cause { result ≡ Err HardFault.DiskFault → Rose (D.faults disk.old) (D.faults disk.new) }
-        ensures served { result ≢ Err HardFault.DiskFault → D.faults disk.new ≡ D.faults disk.old }
+        ensures served { IfErr result (λ fault. fault ≢ HardFault.DiskFault → D.faults disk.new ≡ D.faults disk.old) }
         ensures told { WhereTold Opens (D.told disk.old) (D.told disk.new) }
         ensures untouched { (offset : ℕ) → result ≡ Err (HardFault.NotCheckpoint offset) → WhereTold SyncsAll (D.told disk.old) (D.told disk.new) }
     {
@@ -132,7 +132,7 @@ impl Hard {
         ensures long { OnOk result (0 < D.size disk.new) }
         ensures later { D.faults disk.old ≤ D.faults disk.new }
         ensures cause { result ≡ Err HardFault.DiskFault → Rose (D.faults disk.old) (D.faults disk.new) }
-        ensures served { result ≢ Err HardFault.DiskFault → D.faults disk.new ≡ D.faults disk.old }
+        ensures served { IfErr result (λ fault. fault ≢ HardFault.DiskFault → D.faults disk.new ≡ D.faults disk.old) }
     {
         let state = match State::nothing(alloc) {
             Ok(state) => state,

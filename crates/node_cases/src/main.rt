@@ -8,9 +8,8 @@ mod running;
 mod settings;
 mod watched;
 
-use case_words::Stop;
+use case_words::{Cases, Stop, answer_input};
 use std::alloc::Global;
-use std::io::{BufRead, BufReader};
 use std::process::ExitCode;
 
 fn answer<P: Print>(rt: &P, alloc: Global, head: &str, text: &str) -> Result<(), Stop> {
@@ -22,25 +21,24 @@ fn answer<P: Print>(rt: &P, alloc: Global, head: &str, text: &str) -> Result<(),
     }
 }
 
-fn answer_line<P: Print>(rt: &P, alloc: Global, line: &str) -> Result<(), Stop> {
-    if line.is_empty() || line.starts_with('#') {
-        return Ok(println!(rt; "{line}")?);
-    }
-    let (head, text) = line.split_once(" : ").unwrap_or((line, ""));
-    answer(rt, alloc, head, text)
-}
+// The cases of nodes keep nothing.
+#[derive(Drop)]
+struct Nodes;
 
-fn run(rt: &HostRuntime) -> Result<(), Stop> {
-    let alloc = rt.alloc();
-    for line in BufReader::new(alloc, rt.reader())?.lines(alloc) {
-        answer_line(rt, alloc, &line?)?;
+impl Cases for Nodes {
+    fn start(_alloc: Global) -> Result<Nodes, Stop> {
+        Ok(Nodes)
     }
-    Ok(())
+
+    fn answer_line(&mut self, rt: &HostRuntime, alloc: Global, line: &str) -> Result<(), Stop> {
+        if line.is_empty() || line.starts_with('#') {
+            return Ok(println!(rt; "{line}")?);
+        }
+        let (head, text) = line.split_once(" : ").unwrap_or((line, ""));
+        answer(rt, alloc, head, text)
+    }
 }
 
 fn main(rt: HostRuntime) -> ExitCode {
-    match run(&rt) {
-        Ok(()) => ExitCode::SUCCESS,
-        Err(_) => ExitCode::FAILURE,
-    }
+    answer_input::<Nodes>(&rt)
 }

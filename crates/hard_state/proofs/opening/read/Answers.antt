@@ -8,6 +8,7 @@ pub loop-number-init : goal.loop-number-init
 loop-number-init g c = record {
   told = refl;
   size = refl;
+  later = omega arith;
   served = refl;
   holds = λ t is. empty_piece c.in-Ok-new.window t.now.bytes c.in-Ok-new.ensures;
   from = search rules;
@@ -49,6 +50,7 @@ loop-number-preserved g c =
     record {
       told = c.reach.ensures.told ∙ inv.told;
       size = c.reach.ensures.size ∙ inv.size;
+      later = omega (arith, c.reach.ensures.cause.later, inv.later);
       served = c.in-Ok-reach.ensures.served ∙ inv.served;
       holds = λ u at. c.in-Ok-reach.ensures.holds u (inv.told ∙ at) (inv.holds u at);
       from = omega (arith, reaches.from);

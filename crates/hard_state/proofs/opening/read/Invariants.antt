@@ -10,6 +10,7 @@ abbrev pub invariant-loop-number : goal.invariant-loop-number
 invariant-loop-number g l = record {
   told : g.D.Disk.told l.disk ≡ g.D.Disk.told l.fn.disk;
   size : g.D.Disk.size l.disk ≡ g.D.Disk.size l.fn.disk;
+  later : g.D.Disk.faults l.fn.disk ≤ g.D.Disk.faults l.disk;
   served : g.D.Disk.faults l.disk ≡ g.D.Disk.faults l.fn.disk;
   holds : (t : Told) → g.D.Disk.told l.fn.disk ≡ Some t → IsPieceOf l.window t.now.bytes;
   from : l.window.begin ≤ l.at;
