@@ -44,17 +44,15 @@ returns-in-Err-clause-complete g c bytes is may read write failed = inr refl
 
 pub returns-in-Err-read_cluster_line-clause-complete : goal.returns-in-Err-read_cluster_line-clause-complete
 returns-in-Err-read_cluster_line-clause-complete g c bytes is may read write failed =
-    let e = c.in-Err-read_cluster_line.ensures in
     completes_before c.args.kind bytes c.in-Err-read_cluster_line.status (g.S.Source.left c.args.source.now) (g.S.Source.left c.read_cluster_line.new.source) is
-    (λ same. e.usage (ap (λ s. Err s) same)) (λ same. read (e.read (ap (λ s. Err s) same))) (λ same. e.write (ap (λ s. Err s) same)) (λ same. e.disk (ap (λ s. Err s) same))
+    (λ same. c.in-Err-read_cluster_line.ensures.usage (ap (λ s. Err s) same)) (λ same. read (c.in-Err-read_cluster_line.ensures.read (ap (λ s. Err s) same))) (λ same. c.in-Err-read_cluster_line.ensures.write (ap (λ s. Err s) same)) (λ same. c.in-Err-read_cluster_line.ensures.disk (ap (λ s. Err s) same))
     (before_placed c.args.kind (g.S.Source.left c.args.source.now) c.in-Err-read_cluster_line.status (g.S.Source.left c.read_cluster_line.new.source) ((rw c.in-Ok.ensures at c.in-Err-read_cluster_line.ensures.opened) refl))
-    (λ fence same. e.stale fence (ap (λ s. Err s) same)) (λ offset same. e.damaged offset (ap (λ s. Err s) same)) (λ what kept same. ((rw c.in-Ok.ensures at c.in-Err-read_cluster_line.ensures.limit) refl what kept (ap (λ s. Err s) same)).0)
+    (λ fence same. c.in-Err-read_cluster_line.ensures.stale fence (ap (λ s. Err s) same)) (λ offset same. c.in-Err-read_cluster_line.ensures.damaged offset (ap (λ s. Err s) same)) (λ what kept same. ((rw c.in-Ok.ensures at c.in-Err-read_cluster_line.ensures.limit) refl what kept (ap (λ s. Err s) same)).0)
 
 pub returns-clause-complete : goal.returns-clause-complete
 returns-clause-complete g c bytes is may read write failed =
-    let r = c.run_kind.ensures in
     completes_behind c.args.kind bytes c.run_kind.result (g.S.Source.left c.args.source.now) (g.S.Source.left c.run_kind.new.source) is
-    r.usage (λ same. let rose = r.read same in let later = c.in-Ok-read_cluster_line.ensures.later in read (omega (arith, rose, later))) (λ same. write (r.write same)) (λ same. failed (r.disk same))
+    c.run_kind.ensures.usage (λ same. let rose = c.run_kind.ensures.read same in let later = c.in-Ok-read_cluster_line.ensures.later in read (omega (arith, rose, later))) (λ same. write (c.run_kind.ensures.write same)) (λ same. failed (c.run_kind.ensures.disk same))
     (behind_placed c.args.kind c.in-Ok-read_cluster_line.cluster c.read_cluster_line.new.lines.number c.read_cluster_line.new.lines.ended (g.S.Source.left c.args.source.now) _ c.run_kind.result (g.S.Source.left c.run_kind.new.source)
-    ((rw c.in-Ok.ensures at c.in-Ok-read_cluster_line.ensures.opened) refl) (λ last. r.places (record { running = c.in-Ok-read_cluster_line.ensures.running; last = last })))
-    (g.D.Disk.told c.args.disk.now) may r.told
+    ((rw c.in-Ok.ensures at c.in-Ok-read_cluster_line.ensures.opened) refl) (λ last. c.run_kind.ensures.places (record { running = c.in-Ok-read_cluster_line.ensures.running; last = last })))
+    (g.D.Disk.told c.args.disk.now) may c.run_kind.ensures.told
