@@ -15,7 +15,7 @@ use Rattle.written_roles.specs.HardState.{with_job}
 use Rattle.written_roles.specs.Masters.{Master}
 use Rattle.grant_table.specs.Tables.{TableRecord, as_known, with_admitted}
 use Rattle.place_pass.specs.Placers.{SeenRecord, asks_seen}
-use Rattle.settling.specs.Placing.{IsPlacing}
+use Rattle.allotment.specs.PlacingReads.{IsPlacing}
 
 -- ---- numbers go into a rising list in any order
 with_less : (n x : ℕ) (xs : List ℕ) → n < x → with_number n (x ∷ xs) ≡ n ∷ x ∷ xs

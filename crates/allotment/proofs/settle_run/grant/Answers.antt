@@ -6,11 +6,11 @@ use Rattle.written_roles.specs.Placing.{granted}
 use Rattle.grant_table.specs.Tables.{TableRecord}
 use Rattle.place_pass.specs.Best.{spot_of}
 use Rattle.place_pass.specs.Placers.{SeenRecord, board_with, line_told}
-use Rattle.settling.specs.Placing.{IsPlacing}
-use Rattle.settling.specs.Runs.{all_out}
-use Rattle.settling.proofs.Granting.{first_waits}
-use Rattle.settling.proofs.Settling.{granted_is, fewer_is}
-use Rattle.settling.proofs.run.grant.Goals as goal
+use Rattle.allotment.specs.PlacingReads.{IsPlacing}
+use Rattle.allotment.specs.SettlingRuns.{all_out}
+use Rattle.allotment.proofs.LineGranted.{first_waits}
+use Rattle.allotment.proofs.SettlingRunsLemmas.{granted_is, fewer_is}
+use Rattle.allotment.proofs.settle_run.grant.Goals as goal
 
 pub changed-requires-clause-here : goal.changed-requires-clause-here
 changed-requires-clause-here c = subst (λ n. c.args.pick.unit.0 < n) (sym (c.levels.ensures.units c.args.placer.now c.args.table.now c.args.pick.app.0 c.requires.level)) c.requires.grantable.unit

@@ -20,7 +20,7 @@ use Rattle.written_roles.specs.Masters.{Master, asked, demand_of}
 use Rattle.written_roles.specs.MasterSteps.{counted, is_there as counts_there}
 use Rattle.grant_table.specs.Tables.{TableRecord, as_known}
 use Rattle.place_pass.specs.Placers.{SeenRecord, asks_seen, asks_after, units_seen, is_there}
-use Rattle.settling.specs.Placing.{IsPlacing, record_of}
+use Rattle.allotment.specs.PlacingReads.{IsPlacing, record_of}
 
 -- the demand of a job after one is put
 same_number : (a b : ℕ) → eq_by_cmp nat_cmp b a ≡ nat_eq a b

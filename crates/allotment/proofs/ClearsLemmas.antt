@@ -16,11 +16,11 @@ use Rattle.fuxi_terms.proofs.KeyOrders.{spot_total, same_spot}
 use Rattle.written_roles.specs.Masters.{Master}
 use Rattle.grant_table.specs.Tables.{TableRecord, AreJobs, as_known, without_count}
 use Rattle.place_pass.specs.Placers.{SeenRecord}
-use Rattle.settling.specs.Placing.{IsPlacing, has_spot}
-use Rattle.settling.specs.Runs.{AreTouched}
+use Rattle.allotment.specs.PlacingReads.{IsPlacing, has_spot}
+use Rattle.allotment.specs.SettlingRuns.{AreTouched}
 use Rattle.allotment.specs.Allotted.{AllotmentRecord, Allots, AllWait, Clears, OnlyTakes, Touches}
 use Rattle.fuxi_terms.proofs.ValidJobs.{units_few}
-use Rattle.allotment.proofs.Taking.{takes_none, takes_again}
+use Rattle.allotment.proofs.OnlyTakesLemmas.{takes_none, takes_again}
 
 -- the same table, named by itself
 retable : (t : TableRecord) (s : SeenRecord) (c : ClusterRecord) (M : Master) → IsPlacing t s c M → IsPlacing t s c (record M { table = t.entries })

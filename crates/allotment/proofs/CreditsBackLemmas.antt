@@ -16,8 +16,8 @@ use Rattle.written_roles.specs.Masters.{Master}
 use Rattle.written_roles.specs.MasterSteps.{credit, is_there}
 use Rattle.grant_table.specs.Tables.{TableRecord, as_known, without_count}
 use Rattle.allotment.specs.Allotted.{AllotmentRecord, Allots, AllWait, Touches, CreditsBack}
-use Rattle.allotment.proofs.Asking.{same_units}
-use Rattle.allotment.proofs.Clearing.{touched_again, untouched}
+use Rattle.allotment.proofs.AskedStands.{same_units}
+use Rattle.allotment.proofs.ClearsLemmas.{touched_again, untouched}
 
 credit_behind : (a : ℕ) (cs es fs : List (Key × ℕ)) (t : List (Spot × ℕ)) → credit a cs (es ++ fs) t ≡ credit a cs fs (credit a cs es t)
 credit_behind a cs [] fs t = refl

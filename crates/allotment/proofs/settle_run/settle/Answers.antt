@@ -8,10 +8,10 @@ use Rattle.grant_table.specs.Tables.{TableRecord}
 use Rattle.grant_table.specs.declared.asking.Pick.{Pick}
 use Rattle.place_pass.specs.Best.{spot_of}
 use Rattle.place_pass.specs.Placers.{SeenRecord, ToldRecord, board_with}
-use Rattle.settling.specs.Placing.{IsPlacing}
-use Rattle.settling.specs.Runs.{AreTouched}
-use Rattle.settling.proofs.Settling.{settles_on, has_settled, touches_more}
-use Rattle.settling.proofs.run.settle.Goals as goal
+use Rattle.allotment.specs.PlacingReads.{IsPlacing}
+use Rattle.allotment.specs.SettlingRuns.{AreTouched}
+use Rattle.allotment.proofs.SettlingRunsLemmas.{settles_on, has_settled, touches_more}
+use Rattle.allotment.proofs.settle_run.settle.Goals as goal
 
 -- an idle placer finds no pair
 never : (p : Pick) → Some p ≡ None → ⊥

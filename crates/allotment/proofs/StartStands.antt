@@ -10,7 +10,7 @@ use Rattle.written_roles.specs.Masters.{Master, asked}
 use Rattle.grant_table.specs.Tables.{TableRecord}
 use Rattle.place_pass.specs.Cells.{Cell, no_cell, asks_at, asks_in}
 use Rattle.place_pass.specs.Placers.{SeenRecord}
-use Rattle.settling.specs.Placing.{IsPlacing, record_of}
+use Rattle.allotment.specs.PlacingReads.{IsPlacing, record_of}
 
 none_at : {A : Type 0} (d : A) (n i : ℕ) → get_or (replicate n d) i d ≡ d
 none_at d zero i = refl

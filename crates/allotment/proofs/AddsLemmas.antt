@@ -12,7 +12,7 @@ use Rattle.written_roles.specs.Masters.{Master, asked, out_of}
 use Rattle.written_roles.specs.Placing.{has_pair, line_after}
 use Rattle.grant_table.specs.Tables.{TableRecord, with_count}
 use Rattle.place_pass.specs.Placers.{SeenRecord, asks_seen, line_told}
-use Rattle.settling.specs.Placing.{IsPlacing}
+use Rattle.allotment.specs.PlacingReads.{IsPlacing}
 use Rattle.allotment.specs.Allotted.{AllotmentRecord, AllWait, Adds, told_at}
 use Rattle.allotment.proofs.Fewer.{HeldLaw, set_touched}
 

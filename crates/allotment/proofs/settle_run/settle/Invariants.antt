@@ -3,9 +3,9 @@ use Rattle.fuxi_terms.specs.Cluster.{ClusterRecord}
 use Rattle.written_roles.specs.Masters.{Master}
 use Rattle.place_pass.specs.Best.{spot_of}
 use Rattle.place_pass.specs.Placers.{IsLevelWith, IsUpToDate, told_of}
-use Rattle.settling.specs.Placing.{IsPlacing}
-use Rattle.settling.specs.Runs.{IsSettling, AreTouched, all_out}
-use Rattle.settling.proofs.run.settle.Given as goal
+use Rattle.allotment.specs.PlacingReads.{IsPlacing}
+use Rattle.allotment.specs.SettlingRuns.{IsSettling, AreTouched, all_out}
+use Rattle.allotment.proofs.settle_run.settle.Given as goal
 
 abbrev pub invariant-loop-pick : goal.invariant-loop-pick
 invariant-loop-pick g l = record {

@@ -9,7 +9,7 @@ use Rattle.written_roles.specs.Placing.{settled}
 use Rattle.written_roles.specs.Settling.{Picks}
 use Rattle.grant_table.specs.Tables.{TableRecord}
 use Rattle.place_pass.specs.Placers.{SeenRecord, asks_seen}
-use Rattle.settling.specs.Placing.{IsPlacing, has_spot}
+use Rattle.allotment.specs.PlacingReads.{IsPlacing, has_spot}
 
 -- on the way: the master to which the grants so far lead, and whoever goes on from it until nothing is placeable settles the first one
 pub record IsSettling (t : TableRecord) (s : SeenRecord) (c : ClusterRecord) (M : Master) : Type 0 where

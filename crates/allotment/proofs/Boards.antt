@@ -14,10 +14,14 @@ use Rattle.fuxi_terms.specs.Jobs.{KnownJob, job_of, units_of, no_unit, group_of}
 use Rattle.fuxi_terms.specs.TallyKeys.{want_key, near_key, rack_key, avoid_key}
 use Rattle.fuxi_terms.proofs.Lookups.{by_record}
 use Rattle.written_roles.specs.Masters.{Master, asked}
-use Rattle.written_roles.specs.Placing.{Board, board, first_in, first_of, candidates_in, places_in, may_grow_in, first_placeable, waiting_pairs, is_usable}
+use Rattle.written_roles.specs.Placing.{Board, board, line_up, lined, first_in, first_of, candidates_in, places_in, may_grow_in, first_placeable, waiting_pairs, is_usable}
 use Rattle.grant_table.specs.Tables.{TableRecord, as_known}
 use Rattle.place_pass.specs.Placers.{SeenRecord, board_with, waiting_with, is_open_to}
-use Rattle.settling.specs.Placing.{record_of, IsPlacing}
+use Rattle.allotment.specs.PlacingReads.{record_of, IsPlacing}
+
+pub and_grouped : (a b d : Bool) → ((a && b) && d) ≡ (a && (b && d))
+and_grouped true b d = refl
+and_grouped false b d = refl
 
 -- ---- jobs with the same records have the same units, priorities, groups, sizes and greatest numbers per machine
 module _ (js ks : List KnownJob) (same : (a : ℕ) → record_of js a ≡ record_of ks a) where
@@ -47,11 +51,7 @@ first_reads b table line = ap first_of (candidates_read b table 0 line)
 -- ---- the placeable pair of first rank is the master's
 module _ (t : TableRecord) (s : SeenRecord) (c : ClusterRecord) (M : Master) (is : IsPlacing t s c M) where
   usable_is : (a u m : ℕ) → is_open_to s.cells s.opened a u m ≡ is_usable M a u m
-  usable_is a u m = (λ i. is.usable m i && not (nat_lt 0 (is.avoids a u m i))) ∙ grouped (has_number m M.reported) (not (has_number m M.bans)) (not (nat_lt 0 (asked M a (avoid_key u m))))
-    where
-      grouped : (r n o : Bool) → ((r && n) && o) ≡ (r && (n && o))
-      grouped true n o = refl
-      grouped false n o = refl
+  usable_is a u m = (λ i. is.usable m i && not (nat_lt 0 (is.avoids a u m i))) ∙ and_grouped (has_number m M.reported) (not (has_number m M.bans)) (not (nat_lt 0 (asked M a (avoid_key u m))))
 
   boards_same : M.serving ≡ true → with_wishes (board_with s t) ≡ with_wishes (board c M)
   boards_same serves = λ i. record {
@@ -69,5 +69,20 @@ module _ (t : TableRecord) (s : SeenRecord) (c : ClusterRecord) (M : Master) (is
   first_same serves = first_reads (board_with s t) t.entries s.line ∙ (λ i. first_in (boards_same serves i) (is.entries i) (is.line i)) ∙ sym (first_reads (board c M) M.table M.line)
 
   -- the pairs with something out are the master's
-  pub waiting_same : waiting_with s t ≡ waiting_pairs M
+  waiting_same : waiting_with s t ≡ waiting_pairs M
   waiting_same = λ i. flat_map (λ a. map (λ u. (a, u)) (filter (λ u. nat_lt 0 (is.wants a u i - held (is.entries i) a u)) (below (length (units_same (as_known t.jobs) M.jobs is.jobs a i))))) (is.numbers i)
+
+  -- so where the line is brought up to date it stands for the master whose line is
+  pub lined_is : (n : ℕ) → IsPlacing t (record s { line = lined s.line (waiting_with s t); turns = n }) c (line_up M)
+  lined_is n = record {
+    cluster = is.cluster;
+    numbers = is.numbers;
+    jobs = is.jobs;
+    entries = is.entries;
+    wants = is.wants;
+    near = is.near;
+    racks = is.racks;
+    avoids = is.avoids;
+    usable = is.usable;
+    line = λ i. lined (is.line i) (waiting_same i);
+  }

@@ -19,11 +19,11 @@ use Rattle.written_roles.specs.Masters.{Master, out_of}
 use Rattle.written_roles.specs.Placing.{first_in, has_pair, granted, settled}
 use Rattle.grant_table.specs.Tables.{TableRecord, as_known}
 use Rattle.place_pass.specs.Placers.{SeenRecord, asks_seen, board_with, line_told, IsUpToDate}
-use Rattle.settling.specs.Placing.{IsPlacing}
-use Rattle.settling.specs.Placing.{has_spot}
-use Rattle.settling.specs.Runs.{IsSettling, AreTouched, all_out}
-use Rattle.settling.proofs.Boards.{first_same}
-use Rattle.settling.proofs.Granting.{IsWaiting, pair_flipped, line_granted, fewer_out}
+use Rattle.allotment.specs.PlacingReads.{IsPlacing}
+use Rattle.allotment.specs.PlacingReads.{has_spot}
+use Rattle.allotment.specs.SettlingRuns.{IsSettling, AreTouched, all_out}
+use Rattle.allotment.proofs.Boards.{first_same}
+use Rattle.allotment.proofs.LineGranted.{IsWaiting, pair_flipped, line_granted, fewer_out}
 
 -- how what is held changes where one number is set
 abbrev pub SetsHeld : Type 0

@@ -1,34 +1,20 @@
-//! The line is brought up to date, and grants are made until no pair is placeable.
+//! Grants are made until no pair is placeable: the run that settles.
 
-ghost use Rattle.std.specs.Prelude.{◌≡◌, ◌+◌, ◌<◌, ◌≤◌, ◌^◌, true, Some, map, OnOk};
+ghost use Rattle.std.specs.Prelude.{◌≡◌, ◌<◌, true, Some, map, OnOk};
 ghost use Rattle.fuxi_terms.specs.Cluster.{ClusterRecord};
 ghost use Rattle.fuxi_terms.specs.Tables.{with_grant};
 ghost use Rattle.written_roles.specs.Masters.{Master};
-ghost use Rattle.written_roles.specs.Placing.{first_in, line_up, granted, settled};
+ghost use Rattle.written_roles.specs.Placing.{first_in, granted, settled};
 ghost use Rattle.place_pass.specs.Best.{spot_of};
 ghost use Rattle.place_pass.specs.Placers.{IsLevelWith, IsUpToDate, IsGrantable, board_with, told_of};
-ghost use Rattle.settling.specs.Placing.{IsPlacing};
-ghost use Rattle.settling.specs.Runs.{IsSettling, AreTouched, all_out};
+ghost use Rattle.allotment.specs.PlacingReads.{IsPlacing};
+ghost use Rattle.allotment.specs.SettlingRuns.{IsSettling, AreTouched, all_out};
 
 use fuxi_terms::OutOfMemory;
 use grant_table::{GrantTable, Pick, Steps, set_numbers};
 use place_pass::{Placer, levels};
 use std::sync::ledger::Ledger;
 use written_roles::settling;
-
-/// Brings the line up to date: the pairs with nothing out leave it, and the others that have something out go behind it
-/// in the order of job and unit.
-pub fn line_up(table: &GrantTable, placer: &mut Placer)
-    requires level { IsLevelWith placer.old table.now }
-    requires turns { placer.old.seen.turns < 2 ^ 63 }
-    ensures level { IsLevelWith placer.new table.now }
-    ensures up { IsUpToDate placer.new.seen table.now }
-    ensures turns { placer.new.seen.turns ≤ placer.old.seen.turns + 2048 }
-    ensures placing { (c : ClusterRecord) (M : Master) → IsPlacing table.now placer.old.seen c M → IsPlacing table.now placer.new.seen c (line_up M) }
-    ensures idle { placer.new.idle ≡ placer.old.idle }
-{
-    placer.line_up(table);
-}
 
 /// Makes grants, always of the placeable pair of first rank, until no pair is placeable. The line is up to date. The grants made are
 /// added to `picks`. The placer is idle then. Where it was idle before there is none, and no step is counted.

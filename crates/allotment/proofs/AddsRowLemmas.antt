@@ -27,9 +27,9 @@ use Rattle.written_roles.specs.Masters.{Master, asked, out_of}
 use Rattle.written_roles.specs.Placing.{has_pair, line_after}
 use Rattle.grant_table.specs.Tables.{TableRecord, as_known, with_count}
 use Rattle.allotment.specs.Allotted.{AllotmentRecord, Allots, AllWait, Adds, AddsRow, rows_put}
-use Rattle.allotment.proofs.Clearing.{is_spot, touched_again, untouched}
+use Rattle.allotment.proofs.ClearsLemmas.{is_spot, touched_again, untouched}
 use Rattle.allotment.proofs.Fewer.{HeldLaw}
-use Rattle.allotment.proofs.Granting.{filter_twice}
+use Rattle.allotment.proofs.AddsLemmas.{filter_twice}
 
 -- an entry is of this unit
 abbrev is_of : ℕ → ℕ → RowKey × ℕ → Bool
