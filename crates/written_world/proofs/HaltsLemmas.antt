@@ -15,7 +15,7 @@ use Rattle.written_roles.specs.Masters.{Master}
 use Rattle.written_roles.specs.MasterSteps.{new_master}
 use Rattle.written_roles.specs.Refusals.{NotRising, NotRunning, Refusal, TooManyMasters, first_refusal, with_found}
 use Rattle.written_world.specs.Events.{Ban, Event, Finish, Halt, StartMaster, Submit, Unban, act, counted_in, halted, is_writing, is_written, without_master, world_step, writer_of}
-use Rattle.written_world.specs.Halting.{Halts, StopsNobody, is_start}
+use Rattle.written_world.specs.Halts.{Halts, StopsNobody, is_start}
 use Rattle.written_world.specs.Parties.{end_step}
 use Rattle.written_world.specs.Runs.{run}
 use Rattle.written_world.specs.Steps.{IsDone}

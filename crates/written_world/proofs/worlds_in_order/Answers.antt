@@ -1,5 +1,5 @@
-use Rattle.written_order.proofs.OrdersKept.{kept_in_order}
-use Rattle.written_order.proofs.worlds_in_order.Goals as goal
+use Rattle.written_world.proofs.OrdersKept.{kept_in_order}
+use Rattle.written_world.proofs.worlds_in_order.Goals as goal
 
 pub returns-clause-start : goal.returns-clause-start
 returns-clause-start c = λ c. record { masters = tt; agents = tt; apps = tt; bans = tt; banned = tt }
