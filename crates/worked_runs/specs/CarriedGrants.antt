@@ -1,11 +1,13 @@
 -- What is carried from epoch to epoch, and what is given back.
-use Rattle.std.specs.Prelude.{true, false, [], ◌∷◌}
+use Rattle.std.specs.Prelude.{true, false, [], ◌∷◌, ◌++◌}
 use Rattle.written_net.specs.Net.{Ack, Delta, Full}
 use Rattle.fuxi_terms.specs.declared.answers.What.TheVariants.{Ack as Acked, Old, Taken}
 use Rattle.written_roles.specs.Refusals.{NotUsable}
 use Rattle.written_world.specs.Outputs.{Lost, Refused, State, Fence, Job, MasterIs, Reported, Grant, Wait, AgentAt, Row, AppAt, Hold, Carry, Packets}
 use Rattle.written_world.specs.Events.{StartMaster, StopMaster, StartAgent, StartApp, Submit, Begin, Want, GiveBack, TurnMaster, TurnAgent, TurnApp, Deliver, DeliverRange, ShowState}
-use Rattle.worked_runs.specs.Reading.{machine, group, cluster, unit, job, master, agent, app, sent, heard, heard_new, Run}
+use Rattle.worked_runs.specs.RunWords.{machine, group, cluster, unit, job, master, agent, app, sent, heard, heard_new, Run}
+use Rattle.worked_runs.specs.Failover.{failover_with_a_missing_report_run}
+use Rattle.worked_runs.specs.FirstPackets.{one_machine_granted}
 
 -- what an application holds on a machine that two masters in turn have no report of is carried under both, from its first place
 abbrev pub carried_over_two_epochs_run : Run
@@ -17,19 +19,7 @@ carried_over_two_epochs_run = record {
       TurnMaster 2 ∷ Deliver 16 ∷ Deliver 18 ∷ TurnAgent 0 ∷ TurnApp 0 ∷ DeliverRange 19 22 ∷ TurnMaster 2 ∷ DeliverRange 26 27 ∷ ShowState ∷
       GiveBack 0 0 1 1 ∷ GiveBack 0 0 0 1 ∷ StopMaster 2 ∷ StartMaster 3 ∷ TurnMaster 3 ∷ Deliver 30 ∷ ShowState ∷ TurnApp 0 ∷ DeliverRange 31 32 ∷
       TurnAgent 1 ∷ Deliver 29 ∷ TurnAgent 1 ∷ DeliverRange 33 34 ∷ Begin 3 ∷ TurnMaster 3 ∷ DeliverRange 36 40 ∷ TurnAgent 0 ∷ DeliverRange 41 42 ∷ [];
-  lines =
-      sent 1 (master 1) (agent 0 0) Ack 0 0 48 ∷ sent 2 (master 1) (agent 1 0) Ack 0 0 48 ∷ sent 3 (master 1) (app 0 0) Ack 0 0 48 ∷
-      heard_new 1 Acked ∷ heard_new 2 Acked ∷ heard_new 3 Acked ∷ sent 4 (agent 0 1) (master 1) Full 1 1 60 ∷
-      sent 5 (agent 0 1) (master 1) Ack 1 0 48 ∷ sent 6 (agent 1 1) (master 1) Full 1 1 60 ∷ sent 7 (agent 1 1) (master 1) Ack 1 0 48 ∷
-      sent 8 (app 0 1) (master 1) Full 1 2 72 ∷ sent 9 (app 0 1) (master 1) Ack 1 0 48 ∷ heard_new 4 Taken ∷ heard 5 Acked ∷ heard_new 6 Taken ∷
-      heard 7 Acked ∷ heard_new 8 Taken ∷ heard 9 Acked ∷ sent 10 (master 1) (agent 0 1) Full 1 2 125 ∷ sent 11 (master 1) (agent 0 1) Ack 1 1 48 ∷
-      sent 12 (master 1) (agent 1 1) Full 1 2 125 ∷ sent 13 (master 1) (agent 1 1) Ack 1 1 48 ∷ sent 14 (master 1) (app 0 1) Full 1 4 108 ∷
-      sent 15 (master 1) (app 0 1) Ack 1 2 48 ∷ heard 10 Taken ∷ heard 11 Acked ∷ heard 12 Taken ∷ heard 13 Acked ∷ heard 14 Taken ∷ heard 15 Acked ∷
-      sent 16 (master 2) (agent 0 0) Ack 0 0 48 ∷ sent 17 (master 2) (agent 1 0) Ack 0 0 48 ∷ sent 18 (master 2) (app 0 0) Ack 0 0 48 ∷
-      heard_new 16 Acked ∷ heard_new 18 Acked ∷ sent 19 (agent 0 1) (master 2) Full 1 2 133 ∷ sent 20 (agent 0 1) (master 2) Ack 2 0 48 ∷
-      sent 21 (app 0 1) (master 2) Full 1 3 72 ∷ sent 22 (app 0 1) (master 2) Ack 2 0 48 ∷ heard_new 19 Taken ∷ heard 20 Acked ∷ heard_new 21 Taken ∷
-      heard 22 Acked ∷ sent 23 (master 2) (agent 0 1) Full 2 1 125 ∷ sent 24 (master 2) (agent 0 1) Ack 1 2 48 ∷
-      sent 25 (master 2) (agent 1 0) Ack 0 0 48 ∷ sent 26 (master 2) (app 0 1) Full 2 3 84 ∷ sent 27 (master 2) (app 0 1) Ack 1 3 48 ∷ heard 26 Taken ∷
+  lines = failover_with_a_missing_report_run.lines ++ (
       heard 27 Acked ∷ State 25 ∷ Fence 2 ∷ Job 0 0 false ∷ MasterIs 2 false ∷ Reported 2 0 ∷ Grant 2 0 0 0 1 ∷ Wait 2 0 0 2 ∷ AgentAt 0 1 2 0 ∷
       Row 0 0 0 1 ∷ AgentAt 1 1 1 2 ∷ Row 1 0 0 2 ∷ AppAt 0 1 2 3 ∷ Hold 0 0 0 1 ∷ Carry 0 0 1 2 ∷ Packets 27 ∷ Refused (NotUsable 0) ∷
       sent 28 (master 3) (agent 0 0) Ack 0 0 48 ∷ sent 29 (master 3) (agent 1 0) Ack 0 0 48 ∷ sent 30 (master 3) (app 0 0) Ack 0 0 48 ∷
@@ -40,7 +30,7 @@ carried_over_two_epochs_run = record {
       sent 36 (master 3) (agent 0 0) Ack 0 0 48 ∷ sent 37 (master 3) (agent 1 1) Full 3 1 125 ∷ sent 38 (master 3) (agent 1 1) Ack 1 2 48 ∷
       sent 39 (master 3) (app 0 1) Full 3 3 84 ∷ sent 40 (master 3) (app 0 1) Ack 1 5 48 ∷ heard_new 36 Acked ∷ heard 37 Taken ∷ heard 38 Acked ∷
       heard 39 Taken ∷ heard 40 Acked ∷ sent 41 (agent 0 1) (master 3) Full 1 3 133 ∷ sent 42 (agent 0 1) (master 3) Ack 3 0 48 ∷ heard_new 41 Taken ∷
-      heard 42 Acked ∷ [];
+      heard 42 Acked ∷ []);
   state =
       State 43 ∷ Fence 3 ∷ Job 0 0 false ∷ MasterIs 3 true ∷ Reported 3 0 ∷ Reported 3 1 ∷ Grant 3 0 0 0 1 ∷ Grant 3 0 0 1 2 ∷ AgentAt 0 1 3 0 ∷
       Row 0 0 0 1 ∷ AgentAt 1 1 3 1 ∷ Row 1 0 0 2 ∷ AppAt 0 1 3 3 ∷ Hold 0 0 1 2 ∷ Packets 42 ∷ [];
@@ -55,19 +45,15 @@ a_give_back_of_what_is_not_wanted_run = record {
       TurnAgent 0 ∷ TurnApp 0 ∷ DeliverRange 3 6 ∷ TurnMaster 1 ∷ DeliverRange 7 10 ∷ GiveBack 0 0 0 2 ∷ Want 0 0 2 ∷ GiveBack 0 0 0 2 ∷ TurnApp 0 ∷
       DeliverRange 11 13 ∷ TurnMaster 1 ∷ DeliverRange 16 17 ∷ Want 0 0 0 ∷ GiveBack 0 0 0 2 ∷ GiveBack 0 0 0 1 ∷ TurnApp 0 ∷ DeliverRange 18 20 ∷
       TurnMaster 1 ∷ DeliverRange 23 24 ∷ [];
-  lines =
-      sent 1 (master 1) (agent 0 0) Ack 0 0 48 ∷ sent 2 (master 1) (app 0 0) Ack 0 0 48 ∷ heard_new 1 Acked ∷ heard_new 2 Acked ∷
-      sent 3 (agent 0 1) (master 1) Full 1 1 60 ∷ sent 4 (agent 0 1) (master 1) Ack 1 0 48 ∷ sent 5 (app 0 1) (master 1) Full 1 2 72 ∷
-      sent 6 (app 0 1) (master 1) Ack 1 0 48 ∷ heard_new 3 Taken ∷ heard 4 Acked ∷ heard_new 5 Taken ∷ heard 6 Acked ∷
-      sent 7 (master 1) (agent 0 1) Full 1 2 125 ∷ sent 8 (master 1) (agent 0 1) Ack 1 1 48 ∷ sent 9 (master 1) (app 0 1) Full 1 3 84 ∷
-      sent 10 (master 1) (app 0 1) Ack 1 2 48 ∷ heard 7 Taken ∷ heard 8 Acked ∷ heard 9 Taken ∷ heard 10 Acked ∷ Refused (NotUsable 1) ∷
-      sent 11 (app 0 1) (master 1) Delta 1 3 72 ∷ sent 12 (app 0 1) (master 1) Delta 1 4 72 ∷ sent 13 (app 0 1) (master 1) Ack 1 3 48 ∷
-      heard 11 Taken ∷ heard 12 Taken ∷ heard 13 Acked ∷ sent 14 (master 1) (agent 0 1) Full 1 2 125 ∷ sent 15 (master 1) (agent 0 1) Ack 1 1 48 ∷
-      sent 16 (master 1) (app 0 1) Delta 1 4 72 ∷ sent 17 (master 1) (app 0 1) Ack 1 4 48 ∷ heard 16 Taken ∷ heard 17 Acked ∷
-      sent 18 (app 0 1) (master 1) Delta 1 5 72 ∷ sent 19 (app 0 1) (master 1) Delta 1 6 72 ∷ sent 20 (app 0 1) (master 1) Delta 1 7 72 ∷
-      sent 21 (app 0 1) (master 1) Ack 1 4 48 ∷ heard 18 Taken ∷ heard 19 Taken ∷ heard 20 Taken ∷ sent 22 (master 1) (agent 0 1) Full 1 4 52 ∷
-      sent 23 (master 1) (agent 0 1) Ack 1 1 48 ∷ sent 24 (master 1) (app 0 1) Delta 1 4 72 ∷ sent 25 (master 1) (app 0 1) Delta 1 5 84 ∷
-      sent 26 (master 1) (app 0 1) Delta 1 6 84 ∷ sent 27 (master 1) (app 0 1) Ack 1 7 48 ∷ heard 23 Acked ∷ heard 24 Old ∷ [];
+  lines = one_machine_granted ++ (
+      Refused (NotUsable 1) ∷ sent 11 (app 0 1) (master 1) Delta 1 3 72 ∷ sent 12 (app 0 1) (master 1) Delta 1 4 72 ∷
+      sent 13 (app 0 1) (master 1) Ack 1 3 48 ∷ heard 11 Taken ∷ heard 12 Taken ∷ heard 13 Acked ∷ sent 14 (master 1) (agent 0 1) Full 1 2 125 ∷
+      sent 15 (master 1) (agent 0 1) Ack 1 1 48 ∷ sent 16 (master 1) (app 0 1) Delta 1 4 72 ∷ sent 17 (master 1) (app 0 1) Ack 1 4 48 ∷
+      heard 16 Taken ∷ heard 17 Acked ∷ sent 18 (app 0 1) (master 1) Delta 1 5 72 ∷ sent 19 (app 0 1) (master 1) Delta 1 6 72 ∷
+      sent 20 (app 0 1) (master 1) Delta 1 7 72 ∷ sent 21 (app 0 1) (master 1) Ack 1 4 48 ∷ heard 18 Taken ∷ heard 19 Taken ∷ heard 20 Taken ∷
+      sent 22 (master 1) (agent 0 1) Full 1 4 52 ∷ sent 23 (master 1) (agent 0 1) Ack 1 1 48 ∷ sent 24 (master 1) (app 0 1) Delta 1 4 72 ∷
+      sent 25 (master 1) (app 0 1) Delta 1 5 84 ∷ sent 26 (master 1) (app 0 1) Delta 1 6 84 ∷ sent 27 (master 1) (app 0 1) Ack 1 7 48 ∷
+      heard 23 Acked ∷ heard 24 Old ∷ []);
   state =
       State 26 ∷ Fence 1 ∷ Job 0 0 false ∷ MasterIs 1 true ∷ Reported 1 0 ∷ AgentAt 0 1 1 2 ∷ Row 0 0 0 3 ∷ AppAt 0 1 1 4 ∷ Packets 27 ∷ [];
 }
