@@ -2,7 +2,7 @@
 use Rattle.std.proofs.Common.{◌≡◌, ℕ, ◌+◌, ◌-◌, ◌*◌, ◌<◌, ◌≤◌, Bool, true, false, cond, nat_eq, List, [], length, get_or, refl, sym, ◌∙◌, ap, subst, arith}
 use Rattle.std.specs.Prelude.{◌&&◌, Some, None, Option, slice_get}
 use Rattle.std.specs.Option.{option_map, unwrap_or}
-use Rattle.std.proofs.lemmas.List.{get_or-map}
+use Rattle.std.proofs.lemmas.List.{get_or-map, length-map}
 use Rattle.std.proofs.lemmas.List.Sums.{get_or-le-sum_by}
 use Rattle.fuxi_terms.specs.Cluster.{ClusterRecord, MachineRecord, JobRecord, no_machine, has_at, rack_of}
 use Rattle.fuxi_terms.specs.Vectors.{plus, minus, times, at_place}
@@ -18,7 +18,7 @@ use Rattle.cluster_desc.specs.Records.{machine_of}
 use Rattle.grant_table.specs.Tables.{TableRecord, Cell, cell_at, with_cell, raised, lowered, with_count, without_count, entries_in, loads_of, as_known, IsUnit, IsLevel}
 use Rattle.fuxi_terms.proofs.Booleans.{nat_itself}
 use Rattle.grant_table.proofs.Totals.{held_in_set, total_set, usage_set}
-use Rattle.grant_table.proofs.Setting.{MaySet, counts_all, count_in, set_entries}
+use Rattle.grant_table.proofs.SetTotals.{MaySet, counts_all, count_in, set_entries}
 use Rattle.grant_table.proofs.Bounds.{few_machines, rack_small, has_small, held_small, usage_small}
 
 -- ---- what is read
@@ -196,3 +196,12 @@ module _ (c : ClusterRecord) (jobs : List JobRecord) (cells : List (List Cell)) 
         (λ i. get_or-minus (get_or loads m []) (times k old.size) i ∙ ap (λ x. get_or (get_or loads m []) i 0 - x) (get_or-times k old.size i ∙ ap (λ x. k * x) (size_is i)))
         (λ i. get_or-minus (get_or spent (group_of (as_known jobs) a) []) (times k old.size) i ∙ ap (λ x. get_or (get_or spent (group_of (as_known jobs) a) []) i 0 - x) (get_or-times k old.size i ∙ ap (λ x. k * x) (size_is i))))
         ∙ ap (λ x. set_count spot_cmp es (spot a u m) (x - k)) (sym before)
+
+-- the usage of the unit's group, as the program reads it
+pub usage_read : (c : ClusterRecord) (jobs : List JobRecord) (cells : List (List Cell)) (loads : List (List ℕ)) (usages : List Res) (a u m : ℕ) → IsThere c jobs cells loads (loads_of usages) a u m
+    → (g : ℕ) → g ≡ group_of (as_known jobs) a → (r : Res) → r ≡ get_or usages g r → get_or (loads_of usages) g [] ≡ r.q
+usage_read c jobs cells loads usages a u m h g is r e =
+    let small = group_there c jobs cells loads (loads_of usages) a u m h in
+    let n = h.level.groups in
+    let l = length-map usages (λ (r : Res). r.q) in
+    load_at usages g r (omega (arith, is, small, n, l)) e

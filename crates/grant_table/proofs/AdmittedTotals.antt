@@ -21,9 +21,9 @@ use Rattle.grant_table.specs.Nested.{count_at}
 use Rattle.grant_table.specs.Tables.{Cell, no_cell, cell_at, rows_of, entries_in, fresh_cell, fresh_cells, as_known, with_admitted, AreJobs, IsUnit, IsLevel}
 use Rattle.fuxi_terms.proofs.Booleans.{number_is, nat_itself, both_true}
 use Rattle.fuxi_terms.proofs.KeyOrders.{spot_total, same_spot}
-use Rattle.grant_table.proofs.Nesting.{count_is, are_counts, limit}
+use Rattle.grant_table.proofs.NestedLemmas.{count_is, are_counts, limit}
 use Rattle.grant_table.proofs.Cells.{one_set, count_of_cell}
-use Rattle.grant_table.proofs.Setting.{cell_past, within_all}
+use Rattle.grant_table.proofs.SetTotals.{cell_past, within_all}
 use Rattle.fuxi_terms.proofs.Spots.{Each}
 use Rattle.fuxi_terms.proofs.Alls.{all_more}
 use Rattle.fuxi_terms.proofs.Lookups.{none_is}
