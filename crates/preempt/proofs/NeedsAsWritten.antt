@@ -16,7 +16,7 @@ use Rattle.preempt.specs.Given.{board_of, IsEntry, IsGroup, IsNeed}
 use Rattle.preempt.specs.Numbers.{narrow_at, reach_in}
 use Rattle.preempt.specs.Shelves.{IsWanted, IsShelf}
 use Rattle.preempt.proofs.Admitted.{job_found}
-use Rattle.preempt.proofs.Linking.{each_same, size_is}
+use Rattle.preempt.proofs.CountedAsWritten.{each_same, size_is}
 
 pub drop_job : (js : List JobRecord) (i : ℕ) (j : JobRecord) (a : ℕ) → slice_get js i ≡ Some j → nat_eq j.number a ≡ false → job_of (as_known (drop i js)) a ≡ job_of (as_known (drop (i + 1) js)) a
 drop_job [] i j a e f = cc

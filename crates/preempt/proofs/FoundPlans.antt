@@ -20,7 +20,7 @@ use Rattle.preempt.specs.Given.{board_of, written, IsEntry, IsNeed, AreGiven, Is
 use Rattle.preempt.specs.Numbers.{total_in, part_in, has_grants, reach_in, are_enough}
 use Rattle.preempt.proofs.Whole.{victims_whole}
 use Rattle.preempt.proofs.Sums.{fit_test, limit_test}
-use Rattle.preempt.proofs.Linking.{each_same, total_is, part_is}
+use Rattle.preempt.proofs.CountedAsWritten.{each_same, total_is, part_is}
 
 -- entries without grants are no single grants
 by_count : (n : ℕ) (b : Bool) → nat_lt 0 n ≡ b → (s : Spot) (xs : List Spot) → is_some_set (so_many n s ++ xs) ≡ (b || is_some_set xs)
@@ -73,6 +73,14 @@ module _ (tab : TableRecord) (t : Spot) where
       pub few : n.resources ≤ 8
       pub sums_are : (i : ℕ) → i < 8 → slice_index sums i ≡ total_in i set
       pub own_are : (i : ℕ) → i < 8 → slice_index own i ≡ part_in n.group i set
+
+    -- where the sums are of what was lent of the set
+    pub is_ready : n.resources ≤ 8 → (all part : List Entry) → all ≡ set → part ≡ set → ((i : ℕ) → i < 8 → slice_index sums i ≡ total_in i all) → ((i : ℕ) → i < 8 → slice_index own i ≡ part_in n.group i part) → IsReady
+    is_ready few all part same alike totals parts = record {
+      few = few;
+      sums_are = λ i lt. totals i lt ∙ ap (λ x. total_in i x) same;
+      own_are = λ i lt. parts i lt ∙ ap (λ x. part_in n.group i x) alike;
+    }
 
     pub not_enough : IsReady → AreGiven tab t entries n groups → T (is_sorted spot_cmp tab.entries) → IsTaken tab t entries set → are_enough n sums own ≡ false → victims_in (board_of tab) tab.entries t ≡ None
     not_enough r given k taken h =

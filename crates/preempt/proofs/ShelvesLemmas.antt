@@ -28,8 +28,8 @@ use Rattle.preempt.specs.declared.shelf.Loose.TheVariants.{Nobody, One, Several}
 use Rattle.preempt.specs.declared.shelf.Shelf.{Shelf}
 use Rattle.preempt.specs.Given.{board_of, no_group, written, IsEntry, AreGroups}
 use Rattle.preempt.specs.Shelves.{spares, spares_at, is_loose, is_other_loose, IsLow, IsLoose, IsShelf, IsWanted, may_take_some}
-use Rattle.preempt.proofs.Linking.{each_same, size_is}
-use Rattle.preempt.proofs.Walking.{got}
+use Rattle.preempt.proofs.CountedAsWritten.{each_same, size_is}
+use Rattle.preempt.proofs.UnitSteps.{got}
 
 -- ---- one entry more
 pub all_more_one : (P : Entry → Type 0) (es : List Entry) (k : ℕ) (d : Entry) → k < length es → AllByRecursion P (take k es) → P (get_or es k d) → AllByRecursion P (take (k + 1) es)
