@@ -15,8 +15,8 @@ use Rattle.written_roles.specs.Masters.{Master, out_of}
 use Rattle.written_roles.specs.Placing.{has_pair}
 use Rattle.grant_table.specs.Tables.{TableRecord, without_count}
 use Rattle.place_pass.specs.Placers.{SeenRecord, asks_seen, line_told}
-use Rattle.settling.specs.Placing.{IsPlacing, has_spot}
-use Rattle.settling.specs.Runs.{AreTouched}
+use Rattle.allotment.specs.PlacingReads.{IsPlacing, has_spot}
+use Rattle.allotment.specs.SettlingRuns.{AreTouched}
 use Rattle.allotment.specs.Allotted.{AllotmentRecord, Allots, AllWait, Touches, told_at}
 
 -- ---- what is said of the sums when a number is set

@@ -1,12 +1,15 @@
-mod Starting
+mod StartStands
 mod Fewer
-mod Asking
-mod Admitting
-mod Clearing
+mod AskedStands
+mod AdmittedStands
+mod ClearsLemmas
 mod Cleared
-mod Planning
+mod PlanBoards
 mod Victims
-mod Granting
-mod Crediting
-mod Adopting
-pub mod Taking
+mod AddsLemmas
+mod CreditsBackLemmas
+mod AddsRowLemmas
+pub mod OnlyTakesLemmas
+mod Boards
+mod LineGranted
+mod SettlingRunsLemmas

@@ -14,7 +14,7 @@ use Rattle.grant_table.specs.Tables.{TableRecord, as_known, without_count}
 use Rattle.preempt.specs.declared.plan.Victim.{Victim}
 use Rattle.preempt.specs.Plans.{without_victims, is_unit, same_unit, IsTakable, AreTakable}
 use Rattle.allotment.specs.Allotted.{AllotmentRecord, Allots, AllWait, Touches, TakesVictims}
-use Rattle.allotment.proofs.Clearing.{touched_again, untouched}
+use Rattle.allotment.proofs.ClearsLemmas.{touched_again, untouched}
 
 behind : (vs : List Victim) (es : List (Spot × ℕ)) (m : ℕ) (v : Victim) → without_victims es m (vs ++ v ∷ []) ≡ without_count (without_victims es m vs) (spot v.app.0 v.unit.0 m) v.count
 behind [] es m v = refl

@@ -17,8 +17,8 @@ use Rattle.place_pass.specs.Best.{spot_of}
 use Rattle.place_pass.specs.Placers.{PlacerRecord, SeenRecord, ToldRecord, IsLevelWith, IsSetFrom, asks_seen, line_told, told_of}
 use Rattle.preempt.specs.declared.plan.Victim.{Victim}
 use Rattle.preempt.specs.Plans.{without_victims}
-use Rattle.settling.specs.Placing.{IsPlacing}
-use Rattle.settling.specs.Runs.{AreTouched}
+use Rattle.allotment.specs.PlacingReads.{IsPlacing}
+use Rattle.allotment.specs.SettlingRuns.{AreTouched}
 
 -- the table, what the placer was told, and the spots that changed
 pub record AllotmentRecord : Type 0 where

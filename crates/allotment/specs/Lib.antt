@@ -1,1 +1,3 @@
 pub mod Allotted
+pub mod PlacingReads
+pub mod SettlingRuns

@@ -10,6 +10,7 @@ ghost use Rattle.place_pass.specs.Best.{spot_of};
 ghost use Rattle.allotment.specs.Allotted.{IsSetAt, told_at};
 
 use crate::law::lines_alike;
+use crate::settle_run::settle;
 use cluster_desc::Cluster;
 use fuxi_terms::limits::MOST_JOBS;
 use fuxi_terms::tally_keys::{BACK, CREDITED};
@@ -19,7 +20,6 @@ use party_ledgers::{Demand, Grants, RowLedger};
 use place_pass::{Placer, levels};
 use preempt::{Plan, Victims, find, lines, planning, taking};
 use schedule_unit::{AppNo, Job, MachineNo, UnitNo};
-use settling::{line_up, settle};
 use std::alloc::Global;
 use std::marker::Model;
 use std::sync::ledger::Ledger;
@@ -77,7 +77,7 @@ impl Allotment {
     ghost use Rattle.std.specs.List.{AllByRecursion};
     ghost use Rattle.fuxi_terms.specs.Vectors.{at_place};
     ghost use Rattle.fuxi_terms.specs.Rows.{row_total};
-    ghost use Rattle.settling.specs.Runs.{AreTouched};
+    ghost use Rattle.allotment.specs.SettlingRuns.{AreTouched};
     ghost use Rattle.allotment.specs.Allotted.{Adds, AddsRow, Allots, AllWait, Clears, CreditsBack, OnlyTakes, TakesVictims, Touches, rows_put};
 
     /// The allotment of a cluster, with no job, no grant and no open machine. It stands for a master that knows
@@ -317,6 +317,9 @@ impl Allotment {
         let machines = self.table.cluster().machines();
         let mut left = self;
         for number in 0..machines {
+            if !left.holds_any(app, MachineNo(number)) {
+                continue;
+            }
             left = left.clear_units(app, MachineNo(number))?;
         }
         let _after = left.table.cluster();
@@ -335,7 +338,8 @@ impl Allotment {
         ensures turns { self.new.placer.seen.turns ≤ self.old.placer.seen.turns + 2048 }
         ensures idle { self.new.placer.idle ≡ self.old.placer.idle }
     {
-        line_up(&self.table, &mut self.placer);
+        levels();
+        self.placer.line_up(&self.table);
     }
 
     /// Makes grants, always of the placeable pair of first rank, until no pair is placeable. The line is up to date.

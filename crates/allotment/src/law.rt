@@ -6,7 +6,7 @@ ghost use Rattle.fuxi_terms.specs.Jobs.{KnownJob, job_numbers};
 ghost use Rattle.written_roles.specs.HardState.{with_ended};
 ghost use Rattle.allotment.specs.Allotted.{AllotmentRecord, Allots};
 ghost use Rattle.written_roles.specs.Masters.{Master, asked};
-ghost use Rattle.settling.specs.Placing.{record_of};
+ghost use Rattle.allotment.specs.PlacingReads.{record_of};
 ghost use Rattle.written_roles.specs.Placing.{line_after, line_up};
 
 /// A line is brought up to date alike whether the units with nothing out have left it before or not. So it plays no

@@ -3,6 +3,7 @@
 
 mod allotment_of;
 mod law;
+mod settle_run;
 
 pub use allotment_of::Allotment;
 pub use law::{ends_alike, lines_alike};

@@ -23,7 +23,7 @@ use Rattle.written_roles.specs.Masters.{Master, credited_of}
 use Rattle.written_roles.specs.MasterRoles.{MasterRole}
 use Rattle.written_roles.specs.MasterSteps.{count_entries}
 use Rattle.grant_table.specs.Tables.{TableRecord, as_known, with_admitted, IsSound}
-use Rattle.settling.specs.Placing.{record_of}
+use Rattle.allotment.specs.PlacingReads.{record_of}
 use Rattle.allotment.specs.Allotted.{AllotmentRecord, Allots}
 use Rattle.publishing.specs.Projecting.{row_of}
 use Rattle.publishing.specs.Setting.{numbers_set, AreNumbers}

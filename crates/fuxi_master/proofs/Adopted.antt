@@ -12,7 +12,7 @@ use Rattle.schedule_unit.specs.declared.party.MachineNo.{MachineNo}
 use Rattle.grant_table.specs.Tables.{IsSound}
 use Rattle.failover.specs.Adopting.{kept_of}
 use Rattle.failover.specs.Reported.{Reported}
-use Rattle.settling.specs.Runs.{AreTouched}
+use Rattle.allotment.specs.SettlingRuns.{AreTouched}
 use Rattle.written_net.specs.Ledgers.{Ledger}
 use Rattle.written_net.specs.Channels.{agent_id}
 use Rattle.fuxi_terms.specs.Jobs.{unit_count}

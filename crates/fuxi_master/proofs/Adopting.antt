@@ -18,7 +18,7 @@ use Rattle.fuxi_terms.proofs.VectorLaws.{fits_places, at_place-padded}
 use Rattle.hard_state.specs.Knowledge.{Knowledge}
 use Rattle.failover.specs.Adopting.{kept_entries, kept_of}
 use Rattle.written_roles.specs.MasterSteps.{is_kept, same_size, adopted}
-use Rattle.settling.specs.Placing.{record_of}
+use Rattle.allotment.specs.PlacingReads.{record_of}
 use Rattle.allotment.specs.Allotted.{rows_put}
 use Rattle.fuxi_master.proofs.Numbers.{with_is}
 use Rattle.fuxi_master.proofs.Projected.{units_alike}

@@ -7,7 +7,7 @@ use Rattle.fuxi_terms.specs.Numbers.{has_number}
 use Rattle.fuxi_terms.specs.TallyKeys.{want_key, near_key, rack_key, avoid_key}
 use Rattle.written_net.specs.Ledgers.{at_key}
 use Rattle.written_roles.specs.Masters.{Master, demand_of}
-use Rattle.settling.specs.Placing.{record_of}
+use Rattle.allotment.specs.PlacingReads.{record_of}
 use Rattle.allotment.specs.Allotted.{AllotmentRecord, Allots}
 
 -- two masters that placing cannot tell apart

@@ -17,7 +17,7 @@ use Rattle.written_roles.specs.MasterSteps.{banned_in, ended_in, counted}
 use Rattle.written_net.specs.Ledgers.{nothing, tally_ledger}
 use Rattle.grant_table.specs.Tables.{TableRecord, IsSound}
 use Rattle.hard_state.specs.Knowledge.{Knowledge}
-use Rattle.settling.specs.Placing.{record_of}
+use Rattle.allotment.specs.PlacingReads.{record_of}
 use Rattle.allotment.specs.Allotted.{AllotmentRecord, Allots, Touches}
 use Rattle.publishing.specs.Setting.{AreNumbers}
 use Rattle.broadcast.specs.declared.grants.News.{News}

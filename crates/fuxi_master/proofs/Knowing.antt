@@ -14,7 +14,7 @@ use Rattle.written_roles.specs.HardState.{with_job}
 use Rattle.written_roles.specs.MasterSteps.{spot_row_key, count_entries}
 use Rattle.publishing.specs.Projecting.{row_of}
 use Rattle.grant_table.specs.Tables.{TableRecord, as_known}
-use Rattle.settling.specs.Placing.{record_of}
+use Rattle.allotment.specs.PlacingReads.{record_of}
 use Rattle.fuxi_master.proofs.Projected.{known_alike}
 
 pub some_units : (n : ℕ) → nat_lt 0 n ≡ true → 0 < n

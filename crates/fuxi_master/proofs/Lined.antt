@@ -7,8 +7,8 @@ use Rattle.written_roles.specs.Masters.{Master}
 use Rattle.written_roles.specs.Placing.{line_up, settled}
 use Rattle.grant_table.specs.Tables.{TableRecord}
 use Rattle.place_pass.specs.Placers.{IsUpToDate}
-use Rattle.settling.specs.Placing.{has_spot}
-use Rattle.settling.specs.Runs.{AreTouched}
+use Rattle.allotment.specs.PlacingReads.{has_spot}
+use Rattle.allotment.specs.SettlingRuns.{AreTouched}
 use Rattle.allotment.specs.Allotted.{AllotmentRecord, Allots, AllWait, Touches}
 use Rattle.fuxi_master.specs.Ends.{IsReadied}
 

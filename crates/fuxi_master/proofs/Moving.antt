@@ -15,8 +15,8 @@ use Rattle.schedule_unit.specs.declared.party.MachineNo.{MachineNo}
 use Rattle.grant_table.specs.Tables.{TableRecord, as_known, IsSound}
 use Rattle.hard_state.specs.Knowledge.{Knowledge}
 use Rattle.failover.specs.Reported.{Reported}
-use Rattle.settling.specs.Placing.{record_of}
-use Rattle.settling.specs.Runs.{AreTouched}
+use Rattle.allotment.specs.PlacingReads.{record_of}
+use Rattle.allotment.specs.SettlingRuns.{AreTouched}
 use Rattle.allotment.specs.Allotted.{AllotmentRecord, Touches}
 use Rattle.publishing.specs.Projecting.{row_of}
 use Rattle.publishing.specs.Setting.{numbers_set, AreNumbers}

@@ -7,7 +7,7 @@ use Rattle.written_roles.specs.Placing.{line_up}
 use Rattle.written_roles.specs.Preemption.{Plan, plan_of, preempted}
 use Rattle.grant_table.specs.Tables.{IsSound}
 use Rattle.place_pass.specs.Placers.{IsUpToDate}
-use Rattle.settling.specs.Runs.{AreTouched}
+use Rattle.allotment.specs.SettlingRuns.{AreTouched}
 use Rattle.allotment.specs.Allotted.{AllotmentRecord, Allots, AllWait}
 use Rattle.broadcast.specs.declared.grants.News.{News}
 use Rattle.broadcast.specs.Showing.{with_reported, credited_after}

@@ -24,7 +24,7 @@ use Rattle.written_roles.specs.MasterSteps.{ready, settled_if_serving, is_one_of
 use Rattle.written_roles.specs.MasterRoles.{MasterRole, publish_alone, offers_alone, side_after, ends_alone, master_started}
 use Rattle.written_roles.specs.Placing.{has_pair, line_up}
 use Rattle.grant_table.specs.Tables.{as_known}
-use Rattle.settling.specs.Placing.{record_of}
+use Rattle.allotment.specs.PlacingReads.{record_of}
 use Rattle.allotment.specs.Allotted.{AllotmentRecord, Allots}
 use Rattle.place_pass.specs.Placers.{IsUpToDate}
 use Rattle.publishing.specs.Projecting.{row_of, grant_entries}

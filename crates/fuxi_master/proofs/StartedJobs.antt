@@ -16,7 +16,7 @@ use Rattle.fuxi_terms.proofs.CountsLemmas.{tied}
 use Rattle.written_roles.specs.HardState.{with_job}
 use Rattle.written_roles.specs.Masters.{Master}
 use Rattle.grant_table.specs.Tables.{TableRecord, as_known, with_admitted}
-use Rattle.settling.specs.Placing.{record_of}
+use Rattle.allotment.specs.PlacingReads.{record_of}
 use Rattle.allotment.specs.Allotted.{AllotmentRecord, Allots, AllWait}
 use Rattle.fuxi_master.specs.Starts.{AreAdmitted}
 use Rattle.fuxi_master.proofs.Allotting.{allots_alike}

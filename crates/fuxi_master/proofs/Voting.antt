@@ -19,7 +19,7 @@ use Rattle.schedule_unit.specs.declared.party.UnitNo.{UnitNo}
 use Rattle.written_roles.specs.Masters.{avoids}
 use Rattle.written_roles.specs.MasterRoles.{MasterRole}
 use Rattle.written_roles.specs.Votes.{VotesRecord, is_wanted, marks, most_votes, votes_in, votes_of}
-use Rattle.settling.specs.Placing.{IsPlacing}
+use Rattle.allotment.specs.PlacingReads.{IsPlacing}
 use Rattle.fuxi_master.specs.Cores.{CoreRecord, IsCore, StandsFor}
 use Rattle.fuxi_master.specs.Voting.{AddsVotes, HasCounted, IsCounted, all_avoid, is_asked}
 use Rattle.fuxi_master.proofs.Below.{all_below, apart, by_places, fails_below, none_below, same_below}

@@ -9,7 +9,7 @@ use Rattle.written_roles.specs.Masters.{Master}
 use Rattle.written_roles.specs.Placing.{line_up}
 use Rattle.written_roles.specs.Preemption.{Plan, plan_of, preempted}
 use Rattle.written_roles.specs.MasterRoles.{MasterRole}
-use Rattle.settling.specs.Runs.{AreTouched}
+use Rattle.allotment.specs.SettlingRuns.{AreTouched}
 use Rattle.allotment.specs.Allotted.{AllotmentRecord, Allots, AllWait, Touches}
 use Rattle.broadcast.specs.declared.grants.News.{News}
 use Rattle.place_pass.specs.Placers.{IsUpToDate}

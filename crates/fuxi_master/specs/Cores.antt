@@ -27,7 +27,7 @@ use Rattle.grant_table.specs.Tables.{as_known}
 use Rattle.hard_state.specs.Knowledge.{Knowledge}
 use Rattle.failover.specs.Reported.{Reported}
 use Rattle.place_pass.specs.Placers.{IsUpToDate}
-use Rattle.settling.specs.Placing.{record_of}
+use Rattle.allotment.specs.PlacingReads.{record_of}
 use Rattle.allotment.specs.Allotted.{AllotmentRecord, Allots, AllWait}
 use Rattle.publishing.specs.Projecting.{row_of}
 use Rattle.broadcast.specs.Showing.{Down, App, ShowsJob, credited_in}

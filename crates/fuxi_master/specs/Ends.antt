@@ -11,7 +11,7 @@ use Rattle.grant_table.specs.Tables.{as_known}
 use Rattle.publishing.specs.Projecting.{row_of}
 use Rattle.broadcast.specs.declared.grants.News.{News}
 use Rattle.place_pass.specs.Placers.{IsUpToDate}
-use Rattle.settling.specs.Runs.{AreTouched}
+use Rattle.allotment.specs.SettlingRuns.{AreTouched}
 use Rattle.allotment.specs.Allotted.{AllotmentRecord, Allots, AllWait}
 use Rattle.broadcast.specs.Showing.{Down, App, ShowsJob}
 use Rattle.fuxi_master.specs.Cores.{CoreRecord, IsKept, StandsWith, shown_credited}

@@ -7,7 +7,7 @@ use Rattle.written_net.specs.Ledgers.{nothing, tally_ledger}
 use Rattle.written_net.specs.Sides.{Side, new_side}
 use Rattle.written_roles.specs.Masters.{Master}
 use Rattle.grant_table.specs.Tables.{as_known}
-use Rattle.settling.specs.Placing.{record_of}
+use Rattle.allotment.specs.PlacingReads.{record_of}
 use Rattle.allotment.specs.Allotted.{AllotmentRecord, Allots, AllWait}
 use Rattle.broadcast.specs.Showing.{Down, App}
 use Rattle.fuxi_master.specs.Cores.{IsDown, IsApp}

@@ -22,7 +22,7 @@ use Rattle.fuxi_terms.proofs.Spots.{Each}
 use Rattle.fuxi_terms.proofs.Alls.{all_more}
 use Rattle.grant_table.proofs.Entries.{entries_each}
 use Rattle.grant_table.proofs.Cells.{count_of_cell}
-use Rattle.grant_table.proofs.Setting.{cell_past, counts_all}
+use Rattle.grant_table.proofs.SetTotals.{cell_past, counts_all}
 use Rattle.grant_table.proofs.Totals.{usage_bound}
 
 -- ---- what a valid cluster says of its machines

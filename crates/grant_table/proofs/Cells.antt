@@ -74,3 +74,11 @@ cell_read slots a u v h la e lu f = ap (λ xs. get_or xs u no_cell) (units_of_sl
 pub cell_written : (slots : List (Vec Holding)) (a u : ℕ) (v w : Vec Holding) (k : Holding) → a < length slots → v ≡ get_or slots a v → w.items ≡ set v.items u k → cells_of (set slots a w) ≡ with_cell (cells_of slots) a u (cell_of k)
 cell_written slots a u v w k la e is =
     map-set cells_in slots a w ∙ ap (λ x. set (cells_of slots) a x) (ap (map cell_of) is ∙ map-set cell_of v.items u k ∙ ap (λ xs. set xs u (cell_of k)) (sym (units_of_slot slots a v la e)))
+
+-- a cell that the program changes in its place
+pub cell_changed : (slots : List (Vec Holding)) (a u : ℕ) (v w : Vec Holding) (h k : Holding) (f : Cell → Cell) → u < length (get_or (cells_of slots) a []) → v ≡ get_or slots a v → h ≡ get_or v.items u h → w.items ≡ set v.items u k → cell_of k ≡ f (cell_of h)
+    → cells_of (set slots a w) ≡ with_cell (cells_of slots) a u (f (cell_at (cells_of slots) a u))
+cell_changed slots a u v w h k f there row unit is new =
+    let la = slot_there slots a u there in
+    let read = cell_read slots a u v h la row (unit_there slots a u v la row there) unit in
+    cell_written slots a u v w k la row is ∙ ap (with_cell (cells_of slots) a u) (new ∙ ap f (sym read))

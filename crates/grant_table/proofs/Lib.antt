@@ -1,9 +1,9 @@
-pub mod Nesting
+pub mod NestedLemmas
 pub mod Cells
 pub mod Totals
-pub mod Setting
+pub mod SetTotals
 pub mod Entries
 pub mod Bounds
-pub mod Admitting
-pub mod Changing
-pub mod Starting
+pub mod AdmittedTotals
+pub mod ChangedCounts
+pub mod StartTotals

@@ -17,7 +17,7 @@ use Rattle.fuxi_terms.proofs.CountsLemmas.{both_true, lesser, find_below_head}
 use Rattle.fuxi_terms.specs.Jobs.{KnownJob, job_of, is_known, job_numbers}
 use Rattle.fuxi_terms.specs.Numbers.{has_number}
 use Rattle.written_roles.specs.Refusals.{with_found}
-use Rattle.written_order.specs.Orders.{Rise}
+use Rattle.written_world.specs.Orders.{Rise}
 use Rattle.master_text.proofs.Numbers.{with_is, with_rises}
 
 -- keys that rise: each is below all behind it

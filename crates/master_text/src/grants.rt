@@ -40,7 +40,7 @@ fn write_grant(
 }
 
 // The grants of a unit, machine by machine.
-#[tactic(auto, using(written_state::proofs::ShowsLemmas::begins_then))]
+#[tactic(auto, using(written_join::proofs::ShowsLemmas::begins_then))]
 fn write_unit_grants(
     epoch: u64,
     table: &GrantTable,
@@ -70,7 +70,7 @@ fn units_of(table: &GrantTable, app: AppNo) -> u8
 }
 
 // The grants of a job, unit by unit.
-#[tactic(auto, using(written_state::proofs::ShowsLemmas::begins_then))]
+#[tactic(auto, using(written_join::proofs::ShowsLemmas::begins_then))]
 fn write_job_grants(
     epoch: u64,
     table: &GrantTable,
@@ -90,7 +90,7 @@ fn write_job_grants(
 }
 
 // The grants of the jobs whose numbers are below one.
-#[tactic(auto, using(written_state::proofs::ShowsLemmas::begins_then))]
+#[tactic(auto, using(written_join::proofs::ShowsLemmas::begins_then))]
 fn write_jobs_grants(
     epoch: u64,
     table: &GrantTable,

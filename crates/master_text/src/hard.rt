@@ -4,7 +4,7 @@ ghost use Rattle.std.specs.Prelude.{[], ◌∷◌, ◌++◌, map, OnOk};
 ghost use Rattle.written_world.specs.Outputs.{Banned};
 ghost use Rattle.written_world.specs.Show.{show_jobs};
 ghost use Rattle.schedule_text.specs.Writing.{Begins};
-ghost use Rattle.written_state.specs.States.{hard_lines};
+ghost use Rattle.written_join.specs.States.{hard_lines};
 ghost use Rattle.party_text.specs.Texts.{Shows};
 ghost use Rattle.master_text.specs.Lines.{job_lines, ban_lines};
 
@@ -70,7 +70,7 @@ fn write_bans(hard: &Hard, out: &mut Vec<u8>) -> Result<(), OutOfMemory>
 }
 
 // The jobs, and then the bans.
-#[tactic(auto, using(written_state::proofs::ShowsLemmas::begins_then))]
+#[tactic(auto, using(written_join::proofs::ShowsLemmas::begins_then))]
 fn write_lists(hard: &Hard, out: &mut Vec<u8>) -> Result<(), OutOfMemory>
     ensures ok { OnOk result (Shows (show_jobs hard.now.value.jobs ++ map (λ m. Banned m) hard.now.value.bans) out.old.items out.new.items) }
     ensures begins { Begins out.old.items out.new.items }
@@ -87,7 +87,7 @@ fn write_lists(hard: &Hard, out: &mut Vec<u8>) -> Result<(), OutOfMemory>
 
 /// Appends the lines of a hard state: its fence, its jobs in the order of their numbers, and the machines that are banned. A refusal may
 /// leave some of them behind what was there.
-#[tactic(auto, using(written_state::proofs::ShowsLemmas::begins_then))]
+#[tactic(auto, using(written_join::proofs::ShowsLemmas::begins_then))]
 pub fn write_hard(hard: &Hard, out: &mut Vec<u8>) -> Result<(), OutOfMemory>
     ensures ok { OnOk result (Shows (hard_lines hard.now.value) out.old.items out.new.items) }
     ensures begins { Begins out.old.items out.new.items }

@@ -37,7 +37,7 @@ fn write_report(
 }
 
 // The machines that are reported, in their order.
-#[tactic(auto, using(written_state::proofs::ShowsLemmas::begins_then))]
+#[tactic(auto, using(written_join::proofs::ShowsLemmas::begins_then))]
 fn write_reports(master: &Master, out: &mut Vec<u8>) -> Result<(), OutOfMemory>
     ensures ok { OnOk result ((r : MasterRole) → StandsFor master.now.core r → Shows (map (Reported r.state.epoch) r.state.reported) out.old.items out.new.items) }
     ensures begins { Begins out.old.items out.new.items }
@@ -74,7 +74,7 @@ fn write_wait(master: &Master, index: usize, out: &mut Vec<u8>) -> Result<(), Ou
 }
 
 // The line of a master.
-#[tactic(auto, using(written_state::proofs::ShowsLemmas::begins_then))]
+#[tactic(auto, using(written_join::proofs::ShowsLemmas::begins_then))]
 fn write_waits(master: &Master, out: &mut Vec<u8>) -> Result<(), OutOfMemory>
     ensures ok { OnOk result ((r : MasterRole) → StandsFor master.now.core r → Shows (map (wait_line r.state) r.state.line) out.old.items out.new.items) }
     ensures begins { Begins out.old.items out.new.items }
@@ -89,7 +89,7 @@ fn write_waits(master: &Master, out: &mut Vec<u8>) -> Result<(), OutOfMemory>
 }
 
 // The table of a master, and its line.
-#[tactic(auto, using(written_state::proofs::ShowsLemmas::begins_then))]
+#[tactic(auto, using(written_join::proofs::ShowsLemmas::begins_then))]
 fn write_grants(master: &Master, out: &mut Vec<u8>) -> Result<(), OutOfMemory>
     ensures ok { OnOk result ((r : MasterRole) → StandsFor master.now.core r → Shows (map (grant_line r.state.epoch) r.state.table ++ map (wait_line r.state) r.state.line) out.old.items out.new.items) }
     ensures begins { Begins out.old.items out.new.items }
@@ -115,7 +115,7 @@ fn serves(master: &Master) -> bool
 }
 
 // A master, and the machines that are reported to it.
-#[tactic(auto, using(written_state::proofs::ShowsLemmas::begins_then))]
+#[tactic(auto, using(written_join::proofs::ShowsLemmas::begins_then))]
 fn write_head(master: &Master, out: &mut Vec<u8>) -> Result<(), OutOfMemory>
     ensures ok { OnOk result ((r : MasterRole) → StandsFor master.now.core r → Shows (MasterIs r.state.epoch r.state.serving ∷ map (Reported r.state.epoch) r.state.reported) out.old.items out.new.items) }
     ensures begins { Begins out.old.items out.new.items }
@@ -132,7 +132,7 @@ fn write_head(master: &Master, out: &mut Vec<u8>) -> Result<(), OutOfMemory>
 
 /// Appends the lines of a master: its epoch and whether it serves, the machines that are reported to it, its grants in the order of job,
 /// unit and machine, and the pairs that wait. A refusal may leave some of them behind what was there.
-#[tactic(auto, using(written_state::proofs::ShowsLemmas::begins_then))]
+#[tactic(auto, using(written_join::proofs::ShowsLemmas::begins_then))]
 pub fn write_master(master: &Master, out: &mut Vec<u8>) -> Result<(), OutOfMemory>
     ensures ok { OnOk result ((r : MasterRole) → StandsFor master.now.core r → Shows (show_master r.state) out.old.items out.new.items) }
     ensures begins { Begins out.old.items out.new.items }

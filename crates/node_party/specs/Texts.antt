@@ -6,7 +6,7 @@ use Rattle.written_net.specs.Net.{Packet}
 use Rattle.written_net.specs.Ledgers.{Body}
 use Rattle.written_world.specs.Outputs.{Line, Refused, State}
 use Rattle.written_world.specs.Show.{show_master}
-use Rattle.written_state.specs.States.{agent_lines, app_lines, hard_lines}
+use Rattle.written_join.specs.States.{agent_lines, app_lines, hard_lines}
 use Rattle.schedule_text.specs.Lines.{line_text}
 use Rattle.schedule_text.specs.Printing.{as_refusal}
 use Rattle.node_rounds.specs.declared.rounds.RoundLine.{RoundLine}

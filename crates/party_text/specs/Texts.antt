@@ -6,7 +6,7 @@ use Rattle.written_net.specs.Ledgers.{Body}
 use Rattle.written_roles.specs.Apps.{AppRole, held_by}
 use Rattle.written_world.specs.Outputs.{Line}
 use Rattle.schedule_text.specs.Lines.{line_text}
-use Rattle.written_state.specs.States.{hold_line}
+use Rattle.written_join.specs.States.{hold_line}
 
 -- The text of these lines was appended, whatever the bytes of frames are, since no line is of a frame
 abbrev pub Shows : List Line → List ℕ → List ℕ → Type 0

@@ -6,7 +6,7 @@ ghost use Rattle.fuxi_terms.specs.Lists.{below};
 ghost use Rattle.written_roles.specs.Apps.{AppRole};
 ghost use Rattle.schedule_text.specs.Writing.{Begins};
 ghost use Rattle.app_master.specs.Apps.{StandsFor};
-ghost use Rattle.written_state.specs.States.{unit_lines, app_lines};
+ghost use Rattle.written_join.specs.States.{unit_lines, app_lines};
 ghost use Rattle.party_text.specs.Texts.{Shows, held_lines};
 
 use crate::line::write_line;
@@ -46,7 +46,7 @@ fn write_hold(
 }
 
 // What is held of a unit, machine by machine.
-#[tactic(auto, using(written_state::proofs::ShowsLemmas::begins_then))]
+#[tactic(auto, using(written_join::proofs::ShowsLemmas::begins_then))]
 fn write_unit(
     app: &AppMaster,
     job: AppNo,
@@ -68,7 +68,7 @@ fn write_unit(
 }
 
 // What is held, unit by unit.
-#[tactic(auto, using(written_state::proofs::ShowsLemmas::begins_then))]
+#[tactic(auto, using(written_join::proofs::ShowsLemmas::begins_then))]
 fn write_units(app: &AppMaster, job: AppNo, out: &mut Vec<u8>) -> Result<(), OutOfMemory>
     requires number { job.0 ≡ app.now.job }
     ensures ok { OnOk result ((r : AppRole) → StandsFor app.now r → Shows (flat_map (unit_lines r) (below r.units)) out.old.items out.new.items) }
@@ -85,7 +85,7 @@ fn write_units(app: &AppMaster, job: AppNo, out: &mut Vec<u8>) -> Result<(), Out
 
 /// Appends the lines of the application of a job: its boot and its place, and what it holds of each unit on each machine. A refusal may
 /// leave some of them behind what was there.
-#[tactic(auto, using(written_state::proofs::ShowsLemmas::begins_then))]
+#[tactic(auto, using(written_join::proofs::ShowsLemmas::begins_then))]
 pub fn write_app(app: &AppMaster, job: AppNo, out: &mut Vec<u8>) -> Result<(), OutOfMemory>
     requires number { job.0 ≡ app.now.job }
     ensures ok { OnOk result ((r : AppRole) → StandsFor app.now r → Shows (app_lines r) out.old.items out.new.items) }

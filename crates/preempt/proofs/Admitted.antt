@@ -20,7 +20,7 @@ use Rattle.preempt.specs.Counted.{entries_on}
 use Rattle.preempt.specs.Given.{board_of}
 use Rattle.preempt.specs.Walks.{units_in, all_units, backward, pairs_by_priority, entry_on}
 use Rattle.preempt.proofs.Buckets.{IsAfter, IsRising, walked}
-use Rattle.preempt.proofs.Listing.{listed_all}
+use Rattle.preempt.proofs.EntriesListed.{listed_all}
 use Rattle.fuxi_terms.proofs.ValidJobs.{group_valid, units_valid, units_few}
 use Rattle.fuxi_terms.proofs.Lists.{length-below}
 

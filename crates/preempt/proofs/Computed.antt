@@ -7,12 +7,12 @@ use Rattle.fuxi_terms.specs.Keys.{Spot}
 use Rattle.fuxi_terms.specs.Cluster.{has_at, limit_at, quota_at, is_narrow}
 use Rattle.fuxi_terms.specs.Tables.{total_by, usage_by}
 use Rattle.fuxi_terms.proofs.Members.{each_from}
-use Rattle.fuxi_terms.proofs.Booleans.{and_false}
+use Rattle.fuxi_terms.proofs.Booleans.{and_false, and_true}
 use Rattle.written_roles.specs.Placing.{Board}
 use Rattle.written_roles.specs.Preemption.{so_many, set_by, part_by, is_enough_in, is_guaranteed_in, is_spared_in, may_take_in}
 use Rattle.preempt.specs.Counted.{times_to_reach, least_of, own_size, enough_at, enough_times, spared_at, may_times, taken_count}
 use Rattle.preempt.proofs.Runs.{is_open, IsTake}
-use Rattle.preempt.proofs.Leaving.{IsKeep}
+use Rattle.preempt.proofs.RunsLeft.{IsKeep}
 use Rattle.preempt.proofs.Numbers.{at_least, too_small, each_false, reach_most, reached, not_reached, within, not_within, greatest_most, greatest_at, Reaches, greatest_some, least_most, least_at, least_some, times_le}
 use Rattle.preempt.proofs.Sums.{set_run, part_run, enough_by, narrow_enough, not_fit, not_allowed}
 
@@ -143,10 +143,6 @@ module _ (B : Board) (table : List (Spot × ℕ)) (t : Spot) where
       least : ℕ
       least = least_of k B.cluster.resources (spared_at B table set s k)
 
-      and_true : (x : Bool) → x ≡ true → (x && true) ≡ true
-      and_true true e = refl
-      and_true false e = cc
-
       made : (x : List Spot) (a b d : Bool) → nat_eq (B.groups s.job) (B.groups t.job) ≡ a → nat_lt (B.priorities s.job s.unit) (B.priorities t.job t.unit) ≡ b → is_guaranteed_in B table t ≡ d → may_take_in B table t x s ≡ cond a b (is_spared_in B table x s && d)
       made x a b d ea eb ed = λ i. cond (ea i) (eb i) (is_spared_in B table x s && ed i)
 
@@ -166,7 +162,7 @@ module _ (B : Board) (table : List (Spot × ℕ)) (t : Spot) where
       })
       by false ea b eb true ed = at _ least (λ i. cond (ea i) (cond (eb i) k 0) (cond (ed i) least 0)) (record {
         most = least_most k B.cluster.resources (spared_at B table set s k);
-        below = λ j lt. made (set ++ so_many j s) false b true ea eb ed ∙ and_true (is_spared_in B table (set ++ so_many j s) s) (spared_below set s k j lt);
+        below = λ j lt. made (set ++ so_many j s) false b true ea eb ed ∙ and_true (is_spared_in B table (set ++ so_many j s) s) true (spared_below set s k j lt) refl;
         stops = λ lt. made (set ++ so_many least s) false b true ea eb ed ∙ ap (λ x. x && true) (not_spared_at set s k lt);
       })
       by false ea b eb false ed = at _ 0 (λ i. cond (ea i) (cond (eb i) k 0) (cond (ed i) least 0)) (record {

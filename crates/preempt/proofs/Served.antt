@@ -1,5 +1,6 @@
 -- The steps of the search, from machine to machine, unit to unit and priority to priority.
 use Rattle.std.proofs.Common.{◌≡◌, ℕ, zero, suc, ◌+◌, ◌-◌, ◌<◌, Bool, true, false, cond, nat_eq, nat_lt, List, [], ◌∷◌, ◌++◌, length, map, filter, take, drop, get_or, Some, None, refl, sym, ◌∙◌, ap, subst, arith}
+use Rattle.std.proofs.lemmas.Bool.Decides.{nat_tests}
 use Rattle.fuxi_terms.specs.declared.Key.{Key}
 use Rattle.std.specs.Prelude.{◌&&◌, Option, slice_get}
 use Rattle.std.specs.List.{AllByRecursion, flat_map}
@@ -20,13 +21,14 @@ use Rattle.preempt.specs.declared.entry.Entry.{Entry}
 use Rattle.preempt.specs.declared.shelf.Shelf.{Shelf}
 use Rattle.preempt.specs.declared.plan.Plan.{Plan}
 use Rattle.preempt.specs.declared.plan.Victim.{Victim}
-use Rattle.preempt.specs.Given.{board_at, board_of, pair_of}
+use Rattle.preempt.specs.Given.{IsEntry, board_at, board_of, pair_of}
 use Rattle.preempt.specs.Plans.{IsBoardOf, IsTakable, AreTakable, losers_of, plan_as}
 use Rattle.preempt.specs.Search.{accepts_at, pairs_to, pairs_on, pairs_at, IsFound}
-use Rattle.preempt.proofs.Carrying.{room_after}
+use Rattle.preempt.proofs.VictimsTaken.{room_after}
 use Rattle.preempt.proofs.Promised.{promised, other_units}
-use Rattle.preempt.proofs.Searching.{first_behind, first_before, one_without, one_with, none_from, wide_none, pairs_more, pairs_begin}
-use Rattle.preempt.proofs.Walking.{got}
+use Rattle.preempt.proofs.SearchLemmas.{first_behind, first_before, one_without, one_with, none_from, wide_none, pairs_more, pairs_begin}
+use Rattle.preempt.proofs.UnitSteps.{got}
+use Rattle.preempt.proofs.CountedAsWritten.{at_index}
 
 -- ---- the victims of a pair read neither what is asked nor where a unit may be granted
 module _ (B : Board) (asks : ℕ → Key → ℕ) (may_use : ℕ → ℕ → ℕ → Bool) (serving : Bool) (table : List (Spot × ℕ)) (t : Spot) where
@@ -247,3 +249,11 @@ module _ (B : Board) (t : TableRecord) (usable : ℕ → ℕ → ℕ → Bool) (
           each : (n : ℕ) → flat_map (λ (p : ℕ × ℕ). map (spot p.0 p.1) (filter (accepts_in B t.entries p.0 p.1) (below (length B.cluster.machines)))) (of n) ≡ pairs_at t usable n line
           each n = flat_same (λ (p : ℕ × ℕ). p.1 < unit_count (as_known t.jobs) p.0) (λ (p : ℕ × ℕ). map (spot p.0 p.1) (filter (accepts_in B t.entries p.0 p.1) (below (length B.cluster.machines)))) (pairs_on t usable) same_pairs (of n)
               (all_filter (λ (p : ℕ × ℕ). p.1 < unit_count (as_known t.jobs) p.0) (λ p. nat_eq (priority_of (as_known t.jobs) p.0 p.1) n) line admitted)
+
+-- ---- a unit of the line that has the priority which is searched
+abbrev pub no_entry : Entry
+no_entry = record { app = record { 0 = 0 }; unit = record { 0 = 0 }; group = 0; priority = 0; count = 0; size = [] }
+
+pub of_priority_at : (t : TableRecord) (n : ℕ) (es : List Entry) (k : ℕ) → k < length es → AllByRecursion (IsEntry t) es → nat_eq (get_or es k no_entry).priority n ≡ true
+    → nat_eq (priority_of (as_known t.jobs) (get_or es k no_entry).app.0 (get_or es k no_entry).unit.0) n ≡ true
+of_priority_at t n es k lt all is = let p = (at_index (IsEntry t) es k no_entry lt all).priority in grind (arith, nat_tests, p, is)

@@ -19,10 +19,10 @@ use Rattle.preempt.specs.Given.{board_of, written, victim_of, IsEntry, AreGiven,
 use Rattle.preempt.specs.Numbers.{has_grants}
 use Rattle.preempt.specs.Plans.{AreTakable, IsTakable, same_unit, losers_of}
 use Rattle.preempt.specs.Walks.{all_units, pairs_by_priority, entry_on}
-use Rattle.preempt.proofs.Leaving.{is_same_unit}
+use Rattle.preempt.proofs.RunsLeft.{is_same_unit}
 use Rattle.preempt.proofs.Computed.{enough_most, may_is}
 use Rattle.preempt.proofs.Whole.{AreDistinct, entries_distinct}
-use Rattle.preempt.proofs.Listing.{IsHeld, listed_held}
+use Rattle.preempt.proofs.EntriesListed.{IsHeld, listed_held}
 use Rattle.preempt.proofs.Admitted.{walk_is}
 
 -- the same keys with counts that are no greater

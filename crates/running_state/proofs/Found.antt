@@ -4,7 +4,7 @@ use Rattle.written_roles.specs.Refusals.{with_found}
 use Rattle.written_world.specs.Outputs.{Line}
 use Rattle.schedule_text.specs.Lines.{line_text}
 use Rattle.party_text.specs.Texts.{Shows}
-use Rattle.written_state.proofs.ShowsLemmas.{shows_same}
+use Rattle.written_join.proofs.ShowsLemmas.{shows_same}
 
 -- the lines of what is found, and none where nothing is
 pub shows_found : {A : Type 0} (F : A → List Line) (o : Option A) (x : A) (ls : List Line) (a b : List ℕ) → o ≡ Some x → F x ≡ ls → Shows ls a b → Shows (with_found o [] F) a b

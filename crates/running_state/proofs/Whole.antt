@@ -4,7 +4,7 @@ use Rattle.std.specs.Ordering.{nat_cmp}
 use Rattle.std.specs.FinMap.Entries.{find}
 use Rattle.std.proofs.lemmas.List.{get_or_past}
 use Rattle.written_roles.specs.HardState.{HardState}
-use Rattle.written_state.specs.States.{hard_lines}
+use Rattle.written_join.specs.States.{hard_lines}
 use Rattle.written_world.specs.Outputs.{Line, State, Fence, Banned, Packets}
 use Rattle.written_world.specs.Show.{show, show_jobs}
 use Rattle.written_world.specs.World.{World}

@@ -7,7 +7,7 @@ use Rattle.written_world.specs.Good.{Good}
 use Rattle.running_agents.specs.Running.{AgentsRecord, AreAgentsOf}
 use Rattle.running_apps.specs.Running.{AppsRecord, AreAppsOf}
 use Rattle.running_masters.specs.Running.{MastersRecord, AreMastersOf}
-use Rattle.written_order.specs.Orders.{IsInOrder}
+use Rattle.written_world.specs.Orders.{IsInOrder}
 
 pub record Running : Type 0 where
   pub cluster : ClusterRecord

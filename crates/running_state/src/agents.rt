@@ -13,7 +13,7 @@ use fuxi_terms::OutOfMemory;
 use party_text::write_agent;
 use running_agents::Agents;
 use schedule_unit::MachineNo;
-use written_state::states_are_alone;
+use written_join::states_are_alone;
 
 // The agent of a machine, where one runs.
 fn write_agent_of(agents: &Agents, machine: MachineNo, out: &mut Vec<u8>) -> Result<(), OutOfMemory>
@@ -33,7 +33,7 @@ fn write_agent_of(agents: &Agents, machine: MachineNo, out: &mut Vec<u8>) -> Res
 }
 
 // The agents, machine by machine.
-#[tactic(auto, using(written_state::proofs::ShowsLemmas::begins_then))]
+#[tactic(auto, using(written_join::proofs::ShowsLemmas::begins_then))]
 pub(crate) fn write_agents(
     agents: &Agents,
     machines: u32,

@@ -14,7 +14,7 @@ use fuxi_terms::limits::MOST_JOBS;
 use party_text::write_app;
 use running_apps::{Apps, none_beyond};
 use schedule_unit::AppNo;
-use written_state::states_are_alone;
+use written_join::states_are_alone;
 
 // The application of a job, where one runs.
 fn write_app_of(apps: &Apps, app: AppNo, out: &mut Vec<u8>) -> Result<(), OutOfMemory>
@@ -34,7 +34,7 @@ fn write_app_of(apps: &Apps, app: AppNo, out: &mut Vec<u8>) -> Result<(), OutOfM
 }
 
 // The applications, job by job.
-#[tactic(auto, using(written_state::proofs::ShowsLemmas::begins_then))]
+#[tactic(auto, using(written_join::proofs::ShowsLemmas::begins_then))]
 pub(crate) fn write_apps(apps: &Apps, out: &mut Vec<u8>) -> Result<(), OutOfMemory>
     requires { AreOfJobs apps.now }
     ensures ok { OnOk result ((w : World) → AreAppsOf w apps.now → T (is_sorted nat_cmp w.apps) → Shows (show_apps w) out.old.items out.new.items) }

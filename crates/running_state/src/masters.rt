@@ -14,7 +14,7 @@ use master_text::write_master;
 use running_masters::Masters;
 
 // The masters, in the order of their epochs.
-#[tactic(auto, using(written_state::proofs::ShowsLemmas::begins_then))]
+#[tactic(auto, using(written_join::proofs::ShowsLemmas::begins_then))]
 pub(crate) fn write_masters(masters: &Masters, out: &mut Vec<u8>) -> Result<(), OutOfMemory>
     ensures ok { OnOk result ((w : World) → AreMastersOf w masters.now → T (is_sorted nat_cmp w.masters) → Shows (show_masters w) out.old.items out.new.items) }
     ensures begins { Begins out.old.items out.new.items }

@@ -3,7 +3,7 @@
 ghost use Rattle.std.specs.Prelude.{◌≡◌, length, OnOk, OnErr};
 ghost use Rattle.written_world.specs.World.{World};
 ghost use Rattle.written_world.specs.Show.{show};
-ghost use Rattle.written_order.specs.Orders.{IsInOrder};
+ghost use Rattle.written_world.specs.Orders.{IsInOrder};
 ghost use Rattle.schedule_text.specs.Writing.{Begins};
 ghost use Rattle.party_text.specs.Texts.{Shows};
 ghost use Rattle.running_agents.specs.Running.{AreAgentsOf};
@@ -26,7 +26,7 @@ use running_masters::Masters;
 use schedule_text::Output;
 
 // The parties that run on so many machines.
-#[tactic(auto, using(written_state::proofs::ShowsLemmas::begins_then))]
+#[tactic(auto, using(written_join::proofs::ShowsLemmas::begins_then))]
 fn write_parties(
     machines: u32,
     masters: &Masters,
@@ -56,7 +56,7 @@ fn write_parties(
 
 /// Appends the lines of the state: how many events there were, the hard state, the masters, the agents and the applications that run,
 /// and how many packets were sent. A refusal may leave some of them behind what was there.
-#[tactic(auto, using(written_state::proofs::ShowsLemmas::begins_then))]
+#[tactic(auto, using(written_join::proofs::ShowsLemmas::begins_then))]
 pub fn write_state(
     cluster: &Cluster,
     hard: &Hard,

@@ -6,7 +6,7 @@ use Rattle.fuxi_terms.specs.Cluster.{ClusterRecord, is_valid_cluster}
 use Rattle.written_roles.specs.HardState.{empty_hard}
 use Rattle.written_world.specs.World.{empty_world}
 use Rattle.written_world.specs.Good.{Good}
-use Rattle.written_order.specs.Orders.{IsInOrder}
+use Rattle.written_world.specs.Orders.{IsInOrder}
 use Rattle.fuxi_master.specs.Cores.{MasterRecord}
 use Rattle.packet_pool.specs.Pools.{Keeps, no_frames}
 use Rattle.memory_checkpoint.specs.Held.{IsOpen}

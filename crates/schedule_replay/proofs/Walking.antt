@@ -5,7 +5,7 @@ use Rattle.written_world.specs.World.{World, Step, prints_nothing, then_step}
 use Rattle.written_world.specs.Events.{Event, act, world_step, counted_in}
 use Rattle.written_world.specs.Lines.{is_from_line}
 use Rattle.written_world.specs.Good.{Good}
-use Rattle.written_order.specs.Orders.{IsInOrder}
+use Rattle.written_world.specs.Orders.{IsInOrder}
 use Rattle.schedule_replay.specs.Texts.{lines_text}
 use Rattle.schedule_replay.specs.Worlds.{WorldRecord, IsWorld, StandsFor, AreWithin, event_steps}
 use Rattle.schedule_replay.specs.Moves.{CanMove, CanMoveLong, IsActed, IsActedOnce, IsThrough, GoesThrough, TookSteps}

@@ -12,7 +12,7 @@ use Rattle.memory_checkpoint.specs.Held.{Held, IsOpen}
 use Rattle.running_agents.specs.Running.{AgentsRecord, AreAgentsOf, AreWithin as AgentsWithin}
 use Rattle.running_apps.specs.Running.{AppsRecord, AreAppsOf, AreWithin as AppsWithin}
 use Rattle.running_masters.specs.Running.{MastersRecord, AreMastersOf, AreWithin as MastersWithin}
-use Rattle.written_order.specs.Orders.{IsInOrder}
+use Rattle.written_world.specs.Orders.{IsInOrder}
 
 -- the cluster, the hard state on its disk, the cores that run, the frames of all packets that were sent, and the number of events
 pub record WorldRecord : Type 0 where

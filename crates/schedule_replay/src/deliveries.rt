@@ -19,7 +19,7 @@ use std::alloc::Global;
 use std::mem;
 use wire_frames::read_packet;
 use written_join::every_change_is_taken;
-use written_order::worlds_in_order;
+use written_world::worlds_in_order;
 use written_world::every_event_keeps_good;
 
 // A packet is heard by the master of the epoch that it names.

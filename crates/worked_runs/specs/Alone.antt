@@ -15,7 +15,7 @@ use Rattle.written_roles.specs.HardState.{HardState}
 use Rattle.written_roles.specs.Agents.{AgentHeard, new_agent, table_by, agent_hears_alone, agent_turn}
 use Rattle.written_roles.specs.Apps.{AppRole, AppHeard, GivesBack, new_app, names, held_by, app_hears_alone, commands_alone, app_turn}
 use Rattle.written_roles.specs.MasterRoles.{MasterRole, MasterTold, Comes, HeardAs, MasterStepped, master_steps_alone, master_started, master_turn}
-use Rattle.worked_runs.specs.Reading.{cluster, machine, group, unit, job}
+use Rattle.worked_runs.specs.RunWords.{cluster, machine, group, unit, job}
 
 -- one resource in eight places
 abbrev pub only : ℕ → List ℕ

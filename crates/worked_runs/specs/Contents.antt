@@ -6,7 +6,7 @@ use Rattle.fuxi_terms.specs.TallyKeys.{want_key, reported_key, count_key}
 use Rattle.written_roles.specs.Refusals.{NoPacket}
 use Rattle.written_world.specs.Outputs.{Line, Frame, Refused, State, Fence, Job, MasterIs, Reported, Grant, Wait, AgentAt, Row, AppAt, Hold, Packets}
 use Rattle.written_world.specs.Events.{Want, TurnApp, Dump}
-use Rattle.worked_runs.specs.Reading.{master, agent, app, sent, Run}
+use Rattle.worked_runs.specs.RunWords.{master, agent, app, sent, Run}
 use Rattle.worked_runs.specs.FirstGrants.{one_machine, four_fit_and_one_waits_run}
 
 abbrev pub frame : ℕ → Party → Party → Kind → ℕ → ℕ → Body → Line

@@ -5,7 +5,7 @@ use Rattle.fuxi_terms.specs.declared.answers.What.TheVariants.{Ack as Acked, Old
 use Rattle.written_roles.specs.Refusals.{NoPacket}
 use Rattle.written_world.specs.Outputs.{Lost, Refused, State, Fence, Job, MasterIs, Reported, Grant, Wait, AgentAt, Row, AppAt, Hold, Packets}
 use Rattle.written_world.specs.Events.{StopMaster, Want, TurnApp, Deliver}
-use Rattle.worked_runs.specs.Reading.{master, app, sent, heard, repeated, Run}
+use Rattle.worked_runs.specs.RunWords.{master, app, sent, heard, repeated, Run}
 use Rattle.worked_runs.specs.FirstGrants.{four_fit_and_one_waits_run, one_machine}
 
 -- a Delta is taken in its turn alone: past a gap it is not taken, and a second time it is old

@@ -6,7 +6,8 @@ use Rattle.fuxi_terms.specs.declared.answers.What.TheVariants.{Stale, Ack as Ack
 use Rattle.written_roles.specs.Refusals.{AlreadyServing}
 use Rattle.written_world.specs.Outputs.{Refused, State, Fence, Job, MasterIs, Reported, Grant, Wait, AgentAt, Row, AppAt, Hold, Carry, Packets}
 use Rattle.written_world.specs.Events.{StartMaster, StopMaster, StartAgent, StartApp, Submit, Begin, Want, GiveBack, TurnMaster, TurnAgent, TurnApp, Deliver, DeliverRange, ShowState}
-use Rattle.worked_runs.specs.Reading.{machine, group, cluster, unit, job, master, agent, app, sent, heard, heard_new, Run}
+use Rattle.worked_runs.specs.RunWords.{machine, group, cluster, unit, job, master, agent, app, sent, heard, heard_new, Run}
+use Rattle.worked_runs.specs.FirstPackets.{two_machines_granted}
 use Rattle.worked_runs.specs.FirstGrants.{four_fit_and_one_waits_run, one_machine}
 
 -- a restarted agent reports nothing, and the report changes nothing
@@ -56,19 +57,13 @@ failover_with_a_missing_report_run = record {
       StartMaster 1 ∷ StartAgent 0 1 ∷ StartAgent 1 1 ∷ Submit 1 (job 0 0 (unit 5 (100 ∷ []) ∷ [])) ∷ StartApp 0 1 ∷ Want 0 0 2 ∷ TurnMaster 1 ∷
       DeliverRange 1 3 ∷ TurnAgent 0 ∷ TurnAgent 1 ∷ TurnApp 0 ∷ DeliverRange 4 9 ∷ TurnMaster 1 ∷ DeliverRange 10 15 ∷ StopMaster 1 ∷ StartMaster 2 ∷
       TurnMaster 2 ∷ Deliver 16 ∷ Deliver 18 ∷ TurnAgent 0 ∷ TurnApp 0 ∷ DeliverRange 19 22 ∷ TurnMaster 2 ∷ Deliver 26 ∷ [];
-  lines =
-      sent 1 (master 1) (agent 0 0) Ack 0 0 48 ∷ sent 2 (master 1) (agent 1 0) Ack 0 0 48 ∷ sent 3 (master 1) (app 0 0) Ack 0 0 48 ∷
-      heard_new 1 Acked ∷ heard_new 2 Acked ∷ heard_new 3 Acked ∷ sent 4 (agent 0 1) (master 1) Full 1 1 60 ∷
-      sent 5 (agent 0 1) (master 1) Ack 1 0 48 ∷ sent 6 (agent 1 1) (master 1) Full 1 1 60 ∷ sent 7 (agent 1 1) (master 1) Ack 1 0 48 ∷
-      sent 8 (app 0 1) (master 1) Full 1 2 72 ∷ sent 9 (app 0 1) (master 1) Ack 1 0 48 ∷ heard_new 4 Taken ∷ heard 5 Acked ∷ heard_new 6 Taken ∷
-      heard 7 Acked ∷ heard_new 8 Taken ∷ heard 9 Acked ∷ sent 10 (master 1) (agent 0 1) Full 1 2 125 ∷ sent 11 (master 1) (agent 0 1) Ack 1 1 48 ∷
-      sent 12 (master 1) (agent 1 1) Full 1 2 125 ∷ sent 13 (master 1) (agent 1 1) Ack 1 1 48 ∷ sent 14 (master 1) (app 0 1) Full 1 4 108 ∷
-      sent 15 (master 1) (app 0 1) Ack 1 2 48 ∷ heard 10 Taken ∷ heard 11 Acked ∷ heard 12 Taken ∷ heard 13 Acked ∷ heard 14 Taken ∷ heard 15 Acked ∷
+  lines = two_machines_granted ++ (
       sent 16 (master 2) (agent 0 0) Ack 0 0 48 ∷ sent 17 (master 2) (agent 1 0) Ack 0 0 48 ∷ sent 18 (master 2) (app 0 0) Ack 0 0 48 ∷
       heard_new 16 Acked ∷ heard_new 18 Acked ∷ sent 19 (agent 0 1) (master 2) Full 1 2 133 ∷ sent 20 (agent 0 1) (master 2) Ack 2 0 48 ∷
       sent 21 (app 0 1) (master 2) Full 1 3 72 ∷ sent 22 (app 0 1) (master 2) Ack 2 0 48 ∷ heard_new 19 Taken ∷ heard 20 Acked ∷ heard_new 21 Taken ∷
       heard 22 Acked ∷ sent 23 (master 2) (agent 0 1) Full 2 1 125 ∷ sent 24 (master 2) (agent 0 1) Ack 1 2 48 ∷
-      sent 25 (master 2) (agent 1 0) Ack 0 0 48 ∷ sent 26 (master 2) (app 0 1) Full 2 3 84 ∷ sent 27 (master 2) (app 0 1) Ack 1 3 48 ∷ heard 26 Taken ∷ [];
+      sent 25 (master 2) (agent 1 0) Ack 0 0 48 ∷ sent 26 (master 2) (app 0 1) Full 2 3 84 ∷ sent 27 (master 2) (app 0 1) Ack 1 3 48 ∷
+      heard 26 Taken ∷ []);
   state =
       State 24 ∷ Fence 2 ∷ Job 0 0 false ∷ MasterIs 2 false ∷ Reported 2 0 ∷ Grant 2 0 0 0 1 ∷ Wait 2 0 0 1 ∷ AgentAt 0 1 2 0 ∷ Row 0 0 0 1 ∷
       AgentAt 1 1 1 2 ∷ Row 1 0 0 1 ∷ AppAt 0 1 2 3 ∷ Hold 0 0 0 1 ∷ Carry 0 0 1 1 ∷ Packets 27 ∷ [];

@@ -1,11 +1,12 @@
 -- The first grants: what fits, what does not, and who goes first.
-use Rattle.std.specs.Prelude.{true, false, [], ◌∷◌}
+use Rattle.std.specs.Prelude.{true, false, [], ◌∷◌, ◌++◌}
 use Rattle.fuxi_terms.specs.Cluster.{ClusterRecord}
 use Rattle.written_net.specs.Net.{Ack, Full}
 use Rattle.fuxi_terms.specs.declared.answers.What.TheVariants.{Ack as Acked, Taken}
 use Rattle.written_world.specs.Outputs.{State, Fence, Job, MasterIs, Reported, Grant, Wait, AgentAt, Row, AppAt, Hold, Packets}
 use Rattle.written_world.specs.Events.{StartMaster, StartAgent, StartApp, Submit, Want, Near, TurnMaster, TurnAgent, TurnApp, DeliverRange}
-use Rattle.worked_runs.specs.Reading.{machine, group, cluster, unit, bounded_unit, job, master, agent, app, sent, heard, heard_new, Run}
+use Rattle.worked_runs.specs.RunWords.{machine, group, cluster, unit, bounded_unit, job, master, agent, app, sent, heard, heard_new, Run}
+use Rattle.worked_runs.specs.FirstPackets.{one_machine_joins, one_machine_granted, four_machines_join}
 
 abbrev pub one_machine : ClusterRecord
 one_machine = cluster 2 (machine 0 (400 ∷ 1000 ∷ []) ∷ []) (group (400 ∷ 1000 ∷ []) (400 ∷ 1000 ∷ []) ∷ [])
@@ -29,12 +30,7 @@ four_fit_and_one_waits_run = record {
   events =
       StartMaster 1 ∷ StartAgent 0 1 ∷ Submit 1 (job 0 0 (unit 5 (100 ∷ 250 ∷ []) ∷ [])) ∷ StartApp 0 1 ∷ Want 0 0 5 ∷ TurnMaster 1 ∷
       DeliverRange 1 2 ∷ TurnAgent 0 ∷ TurnApp 0 ∷ DeliverRange 3 6 ∷ TurnMaster 1 ∷ DeliverRange 7 10 ∷ [];
-  lines =
-      sent 1 (master 1) (agent 0 0) Ack 0 0 48 ∷ sent 2 (master 1) (app 0 0) Ack 0 0 48 ∷ heard_new 1 Acked ∷ heard_new 2 Acked ∷
-      sent 3 (agent 0 1) (master 1) Full 1 1 60 ∷ sent 4 (agent 0 1) (master 1) Ack 1 0 48 ∷ sent 5 (app 0 1) (master 1) Full 1 2 72 ∷
-      sent 6 (app 0 1) (master 1) Ack 1 0 48 ∷ heard_new 3 Taken ∷ heard 4 Acked ∷ heard_new 5 Taken ∷ heard 6 Acked ∷
-      sent 7 (master 1) (agent 0 1) Full 1 2 125 ∷ sent 8 (master 1) (agent 0 1) Ack 1 1 48 ∷ sent 9 (master 1) (app 0 1) Full 1 3 84 ∷
-      sent 10 (master 1) (app 0 1) Ack 1 2 48 ∷ heard 7 Taken ∷ heard 8 Acked ∷ heard 9 Taken ∷ heard 10 Acked ∷ [];
+  lines = one_machine_granted;
   state =
       State 12 ∷ Fence 1 ∷ Job 0 0 false ∷ MasterIs 1 true ∷ Reported 1 0 ∷ Grant 1 0 0 0 4 ∷ Wait 1 0 0 1 ∷ AgentAt 0 1 1 2 ∷ Row 0 0 0 4 ∷
       AppAt 0 1 1 3 ∷ Hold 0 0 0 4 ∷ Packets 10 ∷ [];
@@ -63,12 +59,9 @@ one_resource_is_too_small_run = record {
   events =
       StartMaster 1 ∷ StartAgent 0 1 ∷ Submit 1 (job 0 0 (unit 5 (400 ∷ 1001 ∷ []) ∷ [])) ∷ StartApp 0 1 ∷ Want 0 0 1 ∷ TurnMaster 1 ∷
       DeliverRange 1 2 ∷ TurnAgent 0 ∷ TurnApp 0 ∷ DeliverRange 3 6 ∷ TurnMaster 1 ∷ DeliverRange 7 10 ∷ [];
-  lines =
-      sent 1 (master 1) (agent 0 0) Ack 0 0 48 ∷ sent 2 (master 1) (app 0 0) Ack 0 0 48 ∷ heard_new 1 Acked ∷ heard_new 2 Acked ∷
-      sent 3 (agent 0 1) (master 1) Full 1 1 60 ∷ sent 4 (agent 0 1) (master 1) Ack 1 0 48 ∷ sent 5 (app 0 1) (master 1) Full 1 2 72 ∷
-      sent 6 (app 0 1) (master 1) Ack 1 0 48 ∷ heard_new 3 Taken ∷ heard 4 Acked ∷ heard_new 5 Taken ∷ heard 6 Acked ∷
+  lines = one_machine_joins ++ (
       sent 7 (master 1) (agent 0 1) Full 1 1 52 ∷ sent 8 (master 1) (agent 0 1) Ack 1 1 48 ∷ sent 9 (master 1) (app 0 1) Full 1 3 72 ∷
-      sent 10 (master 1) (app 0 1) Ack 1 2 48 ∷ heard 7 Taken ∷ heard 8 Acked ∷ heard 9 Taken ∷ heard 10 Acked ∷ [];
+      sent 10 (master 1) (app 0 1) Ack 1 2 48 ∷ heard 7 Taken ∷ heard 8 Acked ∷ heard 9 Taken ∷ heard 10 Acked ∷ []);
   state =
       State 12 ∷ Fence 1 ∷ Job 0 0 false ∷ MasterIs 1 true ∷ Reported 1 0 ∷ Wait 1 0 0 1 ∷ AgentAt 0 1 1 1 ∷ AppAt 0 1 1 3 ∷ Packets 10 ∷ [];
 }
@@ -84,16 +77,7 @@ near_goes_first_run = record {
       StartMaster 1 ∷ StartAgent 0 1 ∷ StartAgent 1 1 ∷ StartAgent 2 1 ∷ StartAgent 3 1 ∷ Submit 1 (job 0 0 (unit 5 (100 ∷ []) ∷ [])) ∷
       Submit 1 (job 1 0 (unit 5 (100 ∷ []) ∷ [])) ∷ StartApp 0 1 ∷ StartApp 1 1 ∷ Want 0 0 2 ∷ Want 1 0 2 ∷ Near 1 0 3 1 ∷ TurnMaster 1 ∷
       DeliverRange 1 6 ∷ TurnApp 0 ∷ TurnApp 1 ∷ TurnAgent 0 ∷ TurnAgent 1 ∷ TurnAgent 2 ∷ TurnAgent 3 ∷ DeliverRange 7 18 ∷ [];
-  lines =
-      sent 1 (master 1) (agent 0 0) Ack 0 0 48 ∷ sent 2 (master 1) (agent 1 0) Ack 0 0 48 ∷ sent 3 (master 1) (agent 2 0) Ack 0 0 48 ∷
-      sent 4 (master 1) (agent 3 0) Ack 0 0 48 ∷ sent 5 (master 1) (app 0 0) Ack 0 0 48 ∷ sent 6 (master 1) (app 1 0) Ack 0 0 48 ∷ heard_new 1 Acked ∷
-      heard_new 2 Acked ∷ heard_new 3 Acked ∷ heard_new 4 Acked ∷ heard_new 5 Acked ∷ heard_new 6 Acked ∷ sent 7 (app 0 1) (master 1) Full 1 2 72 ∷
-      sent 8 (app 0 1) (master 1) Ack 1 0 48 ∷ sent 9 (app 1 1) (master 1) Full 1 3 84 ∷ sent 10 (app 1 1) (master 1) Ack 1 0 48 ∷
-      sent 11 (agent 0 1) (master 1) Full 1 1 60 ∷ sent 12 (agent 0 1) (master 1) Ack 1 0 48 ∷ sent 13 (agent 1 1) (master 1) Full 1 1 60 ∷
-      sent 14 (agent 1 1) (master 1) Ack 1 0 48 ∷ sent 15 (agent 2 1) (master 1) Full 1 1 60 ∷ sent 16 (agent 2 1) (master 1) Ack 1 0 48 ∷
-      sent 17 (agent 3 1) (master 1) Full 1 1 60 ∷ sent 18 (agent 3 1) (master 1) Ack 1 0 48 ∷ heard_new 7 Taken ∷ heard 8 Acked ∷ heard_new 9 Taken ∷
-      heard 10 Acked ∷ heard_new 11 Taken ∷ heard 12 Acked ∷ heard_new 13 Taken ∷ heard 14 Acked ∷ heard_new 15 Taken ∷ heard 16 Acked ∷
-      heard_new 17 Taken ∷ heard 18 Acked ∷ [];
+  lines = four_machines_join;
   state =
       State 21 ∷ Fence 1 ∷ Job 0 0 false ∷ Job 1 0 false ∷ MasterIs 1 true ∷ Reported 1 0 ∷ Reported 1 1 ∷ Reported 1 2 ∷ Reported 1 3 ∷
       Grant 1 0 0 0 1 ∷ Grant 1 0 0 1 1 ∷ Grant 1 1 0 2 1 ∷ Grant 1 1 0 3 1 ∷ AgentAt 0 1 1 0 ∷ AgentAt 1 1 1 0 ∷ AgentAt 2 1 1 0 ∷ AgentAt 3 1 1 0 ∷
@@ -108,16 +92,7 @@ level_goes_before_the_line_run = record {
       StartMaster 1 ∷ StartAgent 0 1 ∷ StartAgent 1 1 ∷ StartAgent 2 1 ∷ StartAgent 3 1 ∷ Submit 1 (job 0 0 (unit 5 (100 ∷ []) ∷ [])) ∷
       Submit 1 (job 1 0 (unit 5 (100 ∷ []) ∷ [])) ∷ StartApp 0 1 ∷ StartApp 1 1 ∷ Want 0 0 4 ∷ Want 1 0 2 ∷ Near 1 0 3 1 ∷ TurnMaster 1 ∷
       DeliverRange 1 6 ∷ TurnApp 0 ∷ TurnApp 1 ∷ TurnAgent 0 ∷ TurnAgent 1 ∷ TurnAgent 2 ∷ TurnAgent 3 ∷ DeliverRange 7 18 ∷ [];
-  lines =
-      sent 1 (master 1) (agent 0 0) Ack 0 0 48 ∷ sent 2 (master 1) (agent 1 0) Ack 0 0 48 ∷ sent 3 (master 1) (agent 2 0) Ack 0 0 48 ∷
-      sent 4 (master 1) (agent 3 0) Ack 0 0 48 ∷ sent 5 (master 1) (app 0 0) Ack 0 0 48 ∷ sent 6 (master 1) (app 1 0) Ack 0 0 48 ∷ heard_new 1 Acked ∷
-      heard_new 2 Acked ∷ heard_new 3 Acked ∷ heard_new 4 Acked ∷ heard_new 5 Acked ∷ heard_new 6 Acked ∷ sent 7 (app 0 1) (master 1) Full 1 2 72 ∷
-      sent 8 (app 0 1) (master 1) Ack 1 0 48 ∷ sent 9 (app 1 1) (master 1) Full 1 3 84 ∷ sent 10 (app 1 1) (master 1) Ack 1 0 48 ∷
-      sent 11 (agent 0 1) (master 1) Full 1 1 60 ∷ sent 12 (agent 0 1) (master 1) Ack 1 0 48 ∷ sent 13 (agent 1 1) (master 1) Full 1 1 60 ∷
-      sent 14 (agent 1 1) (master 1) Ack 1 0 48 ∷ sent 15 (agent 2 1) (master 1) Full 1 1 60 ∷ sent 16 (agent 2 1) (master 1) Ack 1 0 48 ∷
-      sent 17 (agent 3 1) (master 1) Full 1 1 60 ∷ sent 18 (agent 3 1) (master 1) Ack 1 0 48 ∷ heard_new 7 Taken ∷ heard 8 Acked ∷ heard_new 9 Taken ∷
-      heard 10 Acked ∷ heard_new 11 Taken ∷ heard 12 Acked ∷ heard_new 13 Taken ∷ heard 14 Acked ∷ heard_new 15 Taken ∷ heard 16 Acked ∷
-      heard_new 17 Taken ∷ heard 18 Acked ∷ [];
+  lines = four_machines_join;
   state =
       State 21 ∷ Fence 1 ∷ Job 0 0 false ∷ Job 1 0 false ∷ MasterIs 1 true ∷ Reported 1 0 ∷ Reported 1 1 ∷ Reported 1 2 ∷ Reported 1 3 ∷
       Grant 1 0 0 0 1 ∷ Grant 1 0 0 1 1 ∷ Grant 1 0 0 2 1 ∷ Grant 1 1 0 3 1 ∷ Wait 1 0 0 1 ∷ Wait 1 1 0 1 ∷ AgentAt 0 1 1 0 ∷ AgentAt 1 1 1 0 ∷

@@ -1,11 +1,12 @@
 -- Jobs that end, bans, and what is refused at starts and stops.
-use Rattle.std.specs.Prelude.{true, false, [], ◌∷◌}
+use Rattle.std.specs.Prelude.{true, false, [], ◌∷◌, ◌++◌}
 use Rattle.written_net.specs.Net.{Ack, Delta, Full}
 use Rattle.fuxi_terms.specs.declared.answers.What.TheVariants.{Ack as Acked, Old, Taken}
 use Rattle.written_roles.specs.Refusals.{NotRunning, NotRising, Fenced, NoMachine, NoGroup, NoJob, Known, Ended, AlreadyBanned, NotBanned, AlreadyServing, NotServing, NothingToPreempt, Dimensions, PriorityRange, QuantityRange, ZeroSize}
 use Rattle.written_world.specs.Outputs.{Refused, State, Fence, Job, Banned, MasterIs, Reported, Grant, Wait, AgentAt, Row, AppAt, Hold, Carry, Packets}
 use Rattle.written_world.specs.Events.{StartMaster, StopMaster, StartAgent, StartApp, Submit, Finish, Ban, Unban, Begin, Preempt, Want, TurnMaster, TurnAgent, TurnApp, ResyncApp, DeliverRange, ShowState}
-use Rattle.worked_runs.specs.Reading.{machine, group, cluster, unit, job, master, agent, app, sent, heard, heard_new, Run}
+use Rattle.worked_runs.specs.RunWords.{machine, group, cluster, unit, job, master, agent, app, sent, heard, heard_new, Run}
+use Rattle.worked_runs.specs.FirstPackets.{two_machines_granted, two_jobs_join}
 
 -- finishing a job takes its grants at once, gives them to others, and its application holds none once it hears
 abbrev pub finish_with_grants_out_run : Run
@@ -16,20 +17,15 @@ finish_with_grants_out_run = record {
       StartApp 1 1 ∷ Want 0 0 2 ∷ Want 1 0 2 ∷ TurnMaster 1 ∷ DeliverRange 1 3 ∷ TurnAgent 0 ∷ TurnApp 0 ∷ TurnApp 1 ∷ DeliverRange 4 9 ∷
       TurnMaster 1 ∷ DeliverRange 10 15 ∷ Finish 1 0 ∷ ShowState ∷ TurnMaster 1 ∷ DeliverRange 16 21 ∷ Want 0 0 1 ∷ TurnApp 0 ∷ DeliverRange 22 23 ∷
       StartApp 0 2 ∷ Finish 1 0 ∷ [];
-  lines =
-      sent 1 (master 1) (agent 0 0) Ack 0 0 48 ∷ sent 2 (master 1) (app 0 0) Ack 0 0 48 ∷ sent 3 (master 1) (app 1 0) Ack 0 0 48 ∷ heard_new 1 Acked ∷
-      heard_new 2 Acked ∷ heard_new 3 Acked ∷ sent 4 (agent 0 1) (master 1) Full 1 1 60 ∷ sent 5 (agent 0 1) (master 1) Ack 1 0 48 ∷
-      sent 6 (app 0 1) (master 1) Full 1 2 72 ∷ sent 7 (app 0 1) (master 1) Ack 1 0 48 ∷ sent 8 (app 1 1) (master 1) Full 1 2 72 ∷
-      sent 9 (app 1 1) (master 1) Ack 1 0 48 ∷ heard_new 4 Taken ∷ heard 5 Acked ∷ heard_new 6 Taken ∷ heard 7 Acked ∷ heard_new 8 Taken ∷
-      heard 9 Acked ∷ sent 10 (master 1) (agent 0 1) Full 1 2 125 ∷ sent 11 (master 1) (agent 0 1) Ack 1 1 48 ∷
-      sent 12 (master 1) (app 0 1) Full 1 3 84 ∷ sent 13 (master 1) (app 0 1) Ack 1 2 48 ∷ sent 14 (master 1) (app 1 1) Full 1 3 72 ∷
-      sent 15 (master 1) (app 1 1) Ack 1 2 48 ∷ heard 10 Taken ∷ heard 11 Acked ∷ heard 12 Taken ∷ heard 13 Acked ∷ heard 14 Taken ∷ heard 15 Acked ∷
-      State 18 ∷ Fence 1 ∷ Job 0 0 true ∷ Job 1 0 false ∷ MasterIs 1 true ∷ Reported 1 0 ∷ Grant 1 1 0 0 2 ∷ AgentAt 0 1 1 2 ∷ Row 0 0 0 2 ∷
-      AppAt 0 1 1 3 ∷ Hold 0 0 0 2 ∷ AppAt 1 1 1 3 ∷ Packets 15 ∷ sent 16 (master 1) (agent 0 1) Full 1 3 125 ∷
-      sent 17 (master 1) (agent 0 1) Ack 1 1 48 ∷ sent 18 (master 1) (app 0 1) Full 1 4 72 ∷ sent 19 (master 1) (app 0 1) Ack 1 2 48 ∷
-      sent 20 (master 1) (app 1 1) Full 1 4 84 ∷ sent 21 (master 1) (app 1 1) Ack 1 2 48 ∷ heard 16 Taken ∷ heard 17 Acked ∷ heard 18 Taken ∷
-      heard 19 Acked ∷ heard 20 Taken ∷ heard 21 Acked ∷ sent 22 (app 0 1) (master 1) Delta 1 3 72 ∷ sent 23 (app 0 1) (master 1) Ack 1 4 48 ∷
-      heard 22 Taken ∷ heard 23 Acked ∷ Refused Ended ∷ Refused Ended ∷ [];
+  lines = two_jobs_join ++ (
+      sent 10 (master 1) (agent 0 1) Full 1 2 125 ∷ sent 11 (master 1) (agent 0 1) Ack 1 1 48 ∷ sent 12 (master 1) (app 0 1) Full 1 3 84 ∷
+      sent 13 (master 1) (app 0 1) Ack 1 2 48 ∷ sent 14 (master 1) (app 1 1) Full 1 3 72 ∷ sent 15 (master 1) (app 1 1) Ack 1 2 48 ∷ heard 10 Taken ∷
+      heard 11 Acked ∷ heard 12 Taken ∷ heard 13 Acked ∷ heard 14 Taken ∷ heard 15 Acked ∷ State 18 ∷ Fence 1 ∷ Job 0 0 true ∷ Job 1 0 false ∷
+      MasterIs 1 true ∷ Reported 1 0 ∷ Grant 1 1 0 0 2 ∷ AgentAt 0 1 1 2 ∷ Row 0 0 0 2 ∷ AppAt 0 1 1 3 ∷ Hold 0 0 0 2 ∷ AppAt 1 1 1 3 ∷ Packets 15 ∷
+      sent 16 (master 1) (agent 0 1) Full 1 3 125 ∷ sent 17 (master 1) (agent 0 1) Ack 1 1 48 ∷ sent 18 (master 1) (app 0 1) Full 1 4 72 ∷
+      sent 19 (master 1) (app 0 1) Ack 1 2 48 ∷ sent 20 (master 1) (app 1 1) Full 1 4 84 ∷ sent 21 (master 1) (app 1 1) Ack 1 2 48 ∷ heard 16 Taken ∷
+      heard 17 Acked ∷ heard 18 Taken ∷ heard 19 Acked ∷ heard 20 Taken ∷ heard 21 Acked ∷ sent 22 (app 0 1) (master 1) Delta 1 3 72 ∷
+      sent 23 (app 0 1) (master 1) Ack 1 4 48 ∷ heard 22 Taken ∷ heard 23 Acked ∷ Refused Ended ∷ Refused Ended ∷ []);
   state =
       State 25 ∷ Fence 1 ∷ Job 0 0 true ∷ Job 1 0 false ∷ MasterIs 1 true ∷ Reported 1 0 ∷ Grant 1 1 0 0 2 ∷ AgentAt 0 1 1 3 ∷ Row 0 1 0 2 ∷
       AppAt 0 1 1 4 ∷ AppAt 1 1 1 4 ∷ Hold 1 0 0 2 ∷ Packets 23 ∷ [];
@@ -43,21 +39,15 @@ unban_settles_run = record {
       StartMaster 1 ∷ StartAgent 0 1 ∷ StartAgent 1 1 ∷ Submit 1 (job 0 0 (unit 5 (10 ∷ []) ∷ [])) ∷ StartApp 0 1 ∷ Want 0 0 4 ∷ TurnMaster 1 ∷
       DeliverRange 1 3 ∷ TurnAgent 0 ∷ TurnAgent 1 ∷ TurnApp 0 ∷ DeliverRange 4 9 ∷ TurnMaster 1 ∷ DeliverRange 10 15 ∷ Ban 1 0 ∷ Ban 1 0 ∷ ShowState ∷
       TurnMaster 1 ∷ DeliverRange 16 17 ∷ Unban 1 0 ∷ Unban 1 0 ∷ TurnMaster 1 ∷ DeliverRange 20 25 ∷ [];
-  lines =
-      sent 1 (master 1) (agent 0 0) Ack 0 0 48 ∷ sent 2 (master 1) (agent 1 0) Ack 0 0 48 ∷ sent 3 (master 1) (app 0 0) Ack 0 0 48 ∷
-      heard_new 1 Acked ∷ heard_new 2 Acked ∷ heard_new 3 Acked ∷ sent 4 (agent 0 1) (master 1) Full 1 1 60 ∷
-      sent 5 (agent 0 1) (master 1) Ack 1 0 48 ∷ sent 6 (agent 1 1) (master 1) Full 1 1 60 ∷ sent 7 (agent 1 1) (master 1) Ack 1 0 48 ∷
-      sent 8 (app 0 1) (master 1) Full 1 2 72 ∷ sent 9 (app 0 1) (master 1) Ack 1 0 48 ∷ heard_new 4 Taken ∷ heard 5 Acked ∷ heard_new 6 Taken ∷
-      heard 7 Acked ∷ heard_new 8 Taken ∷ heard 9 Acked ∷ sent 10 (master 1) (agent 0 1) Full 1 2 125 ∷ sent 11 (master 1) (agent 0 1) Ack 1 1 48 ∷
-      sent 12 (master 1) (agent 1 1) Full 1 2 125 ∷ sent 13 (master 1) (agent 1 1) Ack 1 1 48 ∷ sent 14 (master 1) (app 0 1) Full 1 4 108 ∷
-      sent 15 (master 1) (app 0 1) Ack 1 2 48 ∷ heard 10 Taken ∷ heard 11 Acked ∷ heard 12 Taken ∷ heard 13 Acked ∷ heard 14 Taken ∷ heard 15 Acked ∷
+  lines = two_machines_granted ++ (
       Refused AlreadyBanned ∷ State 17 ∷ Fence 1 ∷ Job 0 0 false ∷ Banned 0 ∷ MasterIs 1 true ∷ Reported 1 0 ∷ Reported 1 1 ∷ Grant 1 0 0 1 1 ∷
       Wait 1 0 0 3 ∷ AgentAt 0 1 1 2 ∷ Row 0 0 0 2 ∷ AgentAt 1 1 1 2 ∷ Row 1 0 0 1 ∷ AppAt 0 1 1 4 ∷ Hold 0 0 0 2 ∷ Hold 0 0 1 1 ∷ Packets 15 ∷
       sent 16 (master 1) (agent 0 1) Full 1 3 52 ∷ sent 17 (master 1) (agent 0 1) Ack 1 1 48 ∷ sent 18 (master 1) (agent 1 1) Full 1 2 125 ∷
-      sent 19 (master 1) (agent 1 1) Ack 1 1 48 ∷ sent 20 (master 1) (app 0 1) Full 1 5 96 ∷ sent 21 (master 1) (app 0 1) Ack 1 2 48 ∷ heard 16 Taken ∷
-      heard 17 Acked ∷ Refused NotBanned ∷ sent 22 (master 1) (agent 0 1) Full 1 4 125 ∷ sent 23 (master 1) (agent 0 1) Ack 1 1 48 ∷
+      sent 19 (master 1) (agent 1 1) Ack 1 1 48 ∷ sent 20 (master 1) (app 0 1) Full 1 5 96 ∷ sent 21 (master 1) (app 0 1) Ack 1 2 48 ∷
+      heard 16 Taken ∷ heard 17 Acked ∷ Refused NotBanned ∷ sent 22 (master 1) (agent 0 1) Full 1 4 125 ∷ sent 23 (master 1) (agent 0 1) Ack 1 1 48 ∷
       sent 24 (master 1) (agent 1 1) Full 1 2 125 ∷ sent 25 (master 1) (agent 1 1) Ack 1 1 48 ∷ sent 26 (master 1) (app 0 1) Full 1 6 108 ∷
-      sent 27 (master 1) (app 0 1) Ack 1 2 48 ∷ heard 20 Taken ∷ heard 21 Acked ∷ heard 22 Taken ∷ heard 23 Acked ∷ heard 24 Old ∷ heard 25 Acked ∷ [];
+      sent 27 (master 1) (app 0 1) Ack 1 2 48 ∷ heard 20 Taken ∷ heard 21 Acked ∷ heard 22 Taken ∷ heard 23 Acked ∷ heard 24 Old ∷ heard 25 Acked ∷
+      []);
   state =
       State 23 ∷ Fence 1 ∷ Job 0 0 false ∷ MasterIs 1 true ∷ Reported 1 0 ∷ Reported 1 1 ∷ Grant 1 0 0 0 2 ∷ Grant 1 0 0 1 1 ∷ Wait 1 0 0 1 ∷
       AgentAt 0 1 1 4 ∷ Row 0 0 0 2 ∷ AgentAt 1 1 1 2 ∷ Row 1 0 0 1 ∷ AppAt 0 1 1 5 ∷ Hold 0 0 1 1 ∷ Packets 27 ∷ [];

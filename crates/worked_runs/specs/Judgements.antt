@@ -1,10 +1,11 @@
 -- Machines that are banned since jobs mark them.
-use Rattle.std.specs.Prelude.{false, true, [], ◌∷◌}
+use Rattle.std.specs.Prelude.{false, true, [], ◌∷◌, ◌++◌}
 use Rattle.written_net.specs.Net.{Ack, Full}
 use Rattle.fuxi_terms.specs.declared.answers.What.TheVariants.{Ack as Acked, Taken}
 use Rattle.written_world.specs.Outputs.{Judged, State, Fence, Job, Banned, MasterIs, Reported, Grant, Wait, AgentAt, AppAt, Packets}
 use Rattle.written_world.specs.Events.{StartMaster, StartAgent, StartApp, Submit, Judge, Want, Near, Avoid, TurnMaster, TurnAgent, TurnApp, Deliver, DeliverRange}
-use Rattle.worked_runs.specs.Reading.{machine, group, cluster, unit, job, master, agent, app, sent, heard, heard_new, Run}
+use Rattle.worked_runs.specs.RunWords.{machine, group, cluster, unit, job, master, agent, app, sent, heard, heard_new, Run}
+use Rattle.worked_runs.specs.FirstPackets.{four_machines_join}
 use Rattle.worked_runs.specs.FirstGrants.{four_machines}
 
 -- two jobs mark a machine and one of them another: of four machines half may be banned, and their grants are taken
@@ -16,17 +17,9 @@ a_judgement_takes_the_grants_run = record {
       Submit 1 (job 1 0 (unit 5 (100 ∷ []) ∷ [])) ∷ StartApp 0 1 ∷ StartApp 1 1 ∷ Want 0 0 2 ∷ Want 1 0 2 ∷ Near 1 0 3 1 ∷ TurnMaster 1 ∷
       DeliverRange 1 6 ∷ TurnApp 0 ∷ TurnApp 1 ∷ TurnAgent 0 ∷ TurnAgent 1 ∷ TurnAgent 2 ∷ TurnAgent 3 ∷ DeliverRange 7 18 ∷ Avoid 0 0 0 1 ∷
       Avoid 1 0 0 1 ∷ Avoid 1 0 1 1 ∷ TurnApp 0 ∷ TurnApp 1 ∷ Deliver 19 ∷ Deliver 21 ∷ Judge 1 1 50 ∷ [];
-  lines =
-      sent 1 (master 1) (agent 0 0) Ack 0 0 48 ∷ sent 2 (master 1) (agent 1 0) Ack 0 0 48 ∷ sent 3 (master 1) (agent 2 0) Ack 0 0 48 ∷
-      sent 4 (master 1) (agent 3 0) Ack 0 0 48 ∷ sent 5 (master 1) (app 0 0) Ack 0 0 48 ∷ sent 6 (master 1) (app 1 0) Ack 0 0 48 ∷ heard_new 1 Acked ∷
-      heard_new 2 Acked ∷ heard_new 3 Acked ∷ heard_new 4 Acked ∷ heard_new 5 Acked ∷ heard_new 6 Acked ∷ sent 7 (app 0 1) (master 1) Full 1 2 72 ∷
-      sent 8 (app 0 1) (master 1) Ack 1 0 48 ∷ sent 9 (app 1 1) (master 1) Full 1 3 84 ∷ sent 10 (app 1 1) (master 1) Ack 1 0 48 ∷
-      sent 11 (agent 0 1) (master 1) Full 1 1 60 ∷ sent 12 (agent 0 1) (master 1) Ack 1 0 48 ∷ sent 13 (agent 1 1) (master 1) Full 1 1 60 ∷
-      sent 14 (agent 1 1) (master 1) Ack 1 0 48 ∷ sent 15 (agent 2 1) (master 1) Full 1 1 60 ∷ sent 16 (agent 2 1) (master 1) Ack 1 0 48 ∷
-      sent 17 (agent 3 1) (master 1) Full 1 1 60 ∷ sent 18 (agent 3 1) (master 1) Ack 1 0 48 ∷ heard_new 7 Taken ∷ heard 8 Acked ∷ heard_new 9 Taken ∷
-      heard 10 Acked ∷ heard_new 11 Taken ∷ heard 12 Acked ∷ heard_new 13 Taken ∷ heard 14 Acked ∷ heard_new 15 Taken ∷ heard 16 Acked ∷
-      heard_new 17 Taken ∷ heard 18 Acked ∷ sent 19 (app 0 1) (master 1) Full 1 3 84 ∷ sent 20 (app 0 1) (master 1) Ack 1 0 48 ∷
-      sent 21 (app 1 1) (master 1) Full 1 5 108 ∷ sent 22 (app 1 1) (master 1) Ack 1 0 48 ∷ heard 19 Taken ∷ heard 21 Taken ∷ Judged 0 2 ∷ Judged 1 1 ∷ [];
+  lines = four_machines_join ++ (
+      sent 19 (app 0 1) (master 1) Full 1 3 84 ∷ sent 20 (app 0 1) (master 1) Ack 1 0 48 ∷ sent 21 (app 1 1) (master 1) Full 1 5 108 ∷
+      sent 22 (app 1 1) (master 1) Ack 1 0 48 ∷ heard 19 Taken ∷ heard 21 Taken ∷ Judged 0 2 ∷ Judged 1 1 ∷ []);
   state =
       State 29 ∷ Fence 1 ∷ Job 0 0 false ∷ Job 1 0 false ∷ Banned 0 ∷ Banned 1 ∷ MasterIs 1 true ∷ Reported 1 0 ∷ Reported 1 1 ∷ Reported 1 2 ∷
       Reported 1 3 ∷ Grant 1 1 0 2 1 ∷ Grant 1 1 0 3 1 ∷ Wait 1 0 0 2 ∷ AgentAt 0 1 1 0 ∷ AgentAt 1 1 1 0 ∷ AgentAt 2 1 1 0 ∷ AgentAt 3 1 1 0 ∷

@@ -1,4 +1,5 @@
-pub mod Reading
+pub mod RunWords
+pub mod FirstPackets
 pub mod FirstGrants
 pub mod Deltas
 pub mod Failover
@@ -8,8 +9,8 @@ pub mod Realistic
 pub mod Limits
 pub mod HardChanges
 pub mod Again
-pub mod Taking
-pub mod Carrying
+pub mod TakenFirst
+pub mod CarriedGrants
 pub mod Contents
 pub mod Judgements
 pub mod Stops

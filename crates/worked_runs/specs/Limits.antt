@@ -1,10 +1,11 @@
 -- Limits, racks and machines that are avoided.
-use Rattle.std.specs.Prelude.{true, false, [], ◌∷◌}
+use Rattle.std.specs.Prelude.{true, false, [], ◌∷◌, ◌++◌}
 use Rattle.written_net.specs.Net.{Ack, Delta, Full}
 use Rattle.fuxi_terms.specs.declared.answers.What.TheVariants.{Ack as Acked, Old, Taken}
 use Rattle.written_world.specs.Outputs.{State, Fence, Job, MasterIs, Reported, Grant, Wait, AgentAt, Row, AppAt, Hold, Packets}
 use Rattle.written_world.specs.Events.{StartMaster, StartAgent, StartApp, Submit, Want, Near, Rack, Avoid, Begin, TurnMaster, TurnAgent, TurnApp, Deliver, DeliverRange, ShowState}
-use Rattle.worked_runs.specs.Reading.{machine, group, cluster, unit, job, master, agent, app, sent, heard, heard_new, Run}
+use Rattle.worked_runs.specs.RunWords.{machine, group, cluster, unit, job, master, agent, app, sent, heard, heard_new, Run}
+use Rattle.worked_runs.specs.FirstPackets.{two_machines_join, two_jobs_join}
 
 -- a group that has reached its limit gets no more, though its machine has room; another group goes on
 abbrev pub a_limit_stops_placing_run : Run
@@ -14,14 +15,10 @@ a_limit_stops_placing_run = record {
       StartMaster 1 ∷ StartAgent 0 1 ∷ Submit 1 (job 0 0 (unit 5 (10 ∷ 1 ∷ []) ∷ [])) ∷ Submit 1 (job 1 1 (unit 4 (1 ∷ 10 ∷ []) ∷ [])) ∷ StartApp 0 1 ∷
       StartApp 1 1 ∷ Want 0 0 5 ∷ Want 1 0 5 ∷ TurnMaster 1 ∷ DeliverRange 1 3 ∷ TurnAgent 0 ∷ TurnApp 0 ∷ TurnApp 1 ∷ DeliverRange 4 9 ∷
       TurnMaster 1 ∷ DeliverRange 10 15 ∷ [];
-  lines =
-      sent 1 (master 1) (agent 0 0) Ack 0 0 48 ∷ sent 2 (master 1) (app 0 0) Ack 0 0 48 ∷ sent 3 (master 1) (app 1 0) Ack 0 0 48 ∷ heard_new 1 Acked ∷
-      heard_new 2 Acked ∷ heard_new 3 Acked ∷ sent 4 (agent 0 1) (master 1) Full 1 1 60 ∷ sent 5 (agent 0 1) (master 1) Ack 1 0 48 ∷
-      sent 6 (app 0 1) (master 1) Full 1 2 72 ∷ sent 7 (app 0 1) (master 1) Ack 1 0 48 ∷ sent 8 (app 1 1) (master 1) Full 1 2 72 ∷
-      sent 9 (app 1 1) (master 1) Ack 1 0 48 ∷ heard_new 4 Taken ∷ heard 5 Acked ∷ heard_new 6 Taken ∷ heard 7 Acked ∷ heard_new 8 Taken ∷
-      heard 9 Acked ∷ sent 10 (master 1) (agent 0 1) Full 1 3 198 ∷ sent 11 (master 1) (agent 0 1) Ack 1 1 48 ∷
-      sent 12 (master 1) (app 0 1) Full 1 3 84 ∷ sent 13 (master 1) (app 0 1) Ack 1 2 48 ∷ sent 14 (master 1) (app 1 1) Full 1 3 84 ∷
-      sent 15 (master 1) (app 1 1) Ack 1 2 48 ∷ heard 10 Taken ∷ heard 11 Acked ∷ heard 12 Taken ∷ heard 13 Acked ∷ heard 14 Taken ∷ heard 15 Acked ∷ [];
+  lines = two_jobs_join ++ (
+      sent 10 (master 1) (agent 0 1) Full 1 3 198 ∷ sent 11 (master 1) (agent 0 1) Ack 1 1 48 ∷ sent 12 (master 1) (app 0 1) Full 1 3 84 ∷
+      sent 13 (master 1) (app 0 1) Ack 1 2 48 ∷ sent 14 (master 1) (app 1 1) Full 1 3 84 ∷ sent 15 (master 1) (app 1 1) Ack 1 2 48 ∷ heard 10 Taken ∷
+      heard 11 Acked ∷ heard 12 Taken ∷ heard 13 Acked ∷ heard 14 Taken ∷ heard 15 Acked ∷ []);
   state =
       State 16 ∷ Fence 1 ∷ Job 0 0 false ∷ Job 1 1 false ∷ MasterIs 1 true ∷ Reported 1 0 ∷ Grant 1 0 0 0 3 ∷ Grant 1 1 0 0 2 ∷ Wait 1 0 0 2 ∷
       Wait 1 1 0 3 ∷ AgentAt 0 1 1 3 ∷ Row 0 0 0 3 ∷ Row 0 1 0 2 ∷ AppAt 0 1 1 3 ∷ Hold 0 0 0 3 ∷ AppAt 1 1 1 3 ∷ Hold 1 0 0 2 ∷ Packets 15 ∷ [];
@@ -111,14 +108,10 @@ an_avoided_machine_gets_nothing_new_run = record {
       StartMaster 1 ∷ StartAgent 0 1 ∷ StartAgent 1 1 ∷ Submit 1 (job 0 0 (unit 5 (10 ∷ []) ∷ [])) ∷ StartApp 0 1 ∷ Want 0 0 1 ∷ TurnMaster 1 ∷
       DeliverRange 1 3 ∷ TurnAgent 0 ∷ TurnAgent 1 ∷ TurnApp 0 ∷ DeliverRange 4 9 ∷ TurnMaster 1 ∷ DeliverRange 10 15 ∷ Avoid 0 0 0 1 ∷ Want 0 0 3 ∷
       TurnApp 0 ∷ DeliverRange 16 18 ∷ ShowState ∷ Avoid 0 0 0 0 ∷ Avoid 0 0 0 0 ∷ TurnApp 0 ∷ DeliverRange 19 20 ∷ TurnMaster 1 ∷ DeliverRange 21 24 ∷ [];
-  lines =
-      sent 1 (master 1) (agent 0 0) Ack 0 0 48 ∷ sent 2 (master 1) (agent 1 0) Ack 0 0 48 ∷ sent 3 (master 1) (app 0 0) Ack 0 0 48 ∷
-      heard_new 1 Acked ∷ heard_new 2 Acked ∷ heard_new 3 Acked ∷ sent 4 (agent 0 1) (master 1) Full 1 1 60 ∷
-      sent 5 (agent 0 1) (master 1) Ack 1 0 48 ∷ sent 6 (agent 1 1) (master 1) Full 1 1 60 ∷ sent 7 (agent 1 1) (master 1) Ack 1 0 48 ∷
-      sent 8 (app 0 1) (master 1) Full 1 2 72 ∷ sent 9 (app 0 1) (master 1) Ack 1 0 48 ∷ heard_new 4 Taken ∷ heard 5 Acked ∷ heard_new 6 Taken ∷
-      heard 7 Acked ∷ heard_new 8 Taken ∷ heard 9 Acked ∷ sent 10 (master 1) (agent 0 1) Full 1 2 125 ∷ sent 11 (master 1) (agent 0 1) Ack 1 1 48 ∷
-      sent 12 (master 1) (agent 1 1) Full 1 1 52 ∷ sent 13 (master 1) (agent 1 1) Ack 1 1 48 ∷ sent 14 (master 1) (app 0 1) Full 1 4 96 ∷
-      sent 15 (master 1) (app 0 1) Ack 1 2 48 ∷ heard 10 Taken ∷ heard 11 Acked ∷ heard 12 Taken ∷ heard 13 Acked ∷ heard 14 Taken ∷ heard 15 Acked ∷
+  lines = two_machines_join ++ (
+      sent 10 (master 1) (agent 0 1) Full 1 2 125 ∷ sent 11 (master 1) (agent 0 1) Ack 1 1 48 ∷ sent 12 (master 1) (agent 1 1) Full 1 1 52 ∷
+      sent 13 (master 1) (agent 1 1) Ack 1 1 48 ∷ sent 14 (master 1) (app 0 1) Full 1 4 96 ∷ sent 15 (master 1) (app 0 1) Ack 1 2 48 ∷
+      heard 10 Taken ∷ heard 11 Acked ∷ heard 12 Taken ∷ heard 13 Acked ∷ heard 14 Taken ∷ heard 15 Acked ∷
       sent 16 (app 0 1) (master 1) Delta 1 3 72 ∷ sent 17 (app 0 1) (master 1) Delta 1 4 72 ∷ sent 18 (app 0 1) (master 1) Ack 1 4 48 ∷
       heard 16 Taken ∷ heard 17 Taken ∷ heard 18 Acked ∷ State 19 ∷ Fence 1 ∷ Job 0 0 false ∷ MasterIs 1 true ∷ Reported 1 0 ∷ Reported 1 1 ∷
       Grant 1 0 0 0 1 ∷ Grant 1 0 0 1 1 ∷ Wait 1 0 0 1 ∷ AgentAt 0 1 1 2 ∷ Row 0 0 0 1 ∷ AgentAt 1 1 1 1 ∷ AppAt 0 1 1 4 ∷ Hold 0 0 0 1 ∷ Packets 18 ∷
@@ -126,7 +119,7 @@ an_avoided_machine_gets_nothing_new_run = record {
       sent 22 (app 0 1) (master 1) Ack 1 4 48 ∷ heard 19 Old ∷ heard 20 Old ∷ sent 23 (master 1) (agent 0 1) Full 1 2 125 ∷
       sent 24 (master 1) (agent 0 1) Ack 1 1 48 ∷ sent 25 (master 1) (agent 1 1) Full 1 2 125 ∷ sent 26 (master 1) (agent 1 1) Ack 1 1 48 ∷
       sent 27 (master 1) (app 0 1) Delta 1 5 72 ∷ sent 28 (master 1) (app 0 1) Ack 1 4 48 ∷ heard 21 Taken ∷ heard 22 Acked ∷ heard 23 Old ∷
-      heard 24 Acked ∷ [];
+      heard 24 Acked ∷ []);
   state =
       State 25 ∷ Fence 1 ∷ Job 0 0 false ∷ MasterIs 1 true ∷ Reported 1 0 ∷ Reported 1 1 ∷ Grant 1 0 0 0 2 ∷ Grant 1 0 0 1 1 ∷ AgentAt 0 1 1 2 ∷
       Row 0 0 0 1 ∷ AgentAt 1 1 1 1 ∷ AppAt 0 1 1 4 ∷ Hold 0 0 0 1 ∷ Packets 28 ∷ [];

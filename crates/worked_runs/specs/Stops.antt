@@ -4,7 +4,7 @@ use Rattle.written_roles.specs.Refusals.{Fenced, Known, NoJob, NotRising, NotRun
 use Rattle.written_world.specs.Outputs.{AgentAt, AppAt, Fence, Halted, Hold, Job, MasterIs, Packets, Refused, Row, State}
 use Rattle.written_world.specs.Events.{Ban, Finish, Halt, StartMaster, Submit, Unban}
 use Rattle.worked_runs.specs.FirstGrants.{four_fit_and_one_waits_run, one_machine}
-use Rattle.worked_runs.specs.Reading.{job, unit, Run}
+use Rattle.worked_runs.specs.RunWords.{job, unit, Run}
 
 -- the first submission stops before it is written, so its master does not run and the job is not known; behind the start of 2 the fence is 2; and the second
 -- submission stops behind it, so the job is known to the next master

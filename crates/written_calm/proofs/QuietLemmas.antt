@@ -30,7 +30,7 @@ use Rattle.written_world.specs.Runs.{run, run_from}
 use Rattle.written_world.proofs.GoodKept.{always_good, good_at_start, good_kept, safe_of}
 use Rattle.written_world.proofs.JobsKept.{act_has, few_resources}
 use Rattle.written_world.specs.Good.{Good}
-use Rattle.written_order.specs.Orders.{IsInOrder}
+use Rattle.written_world.specs.Orders.{IsInOrder}
 use Rattle.written_calm.specs.Rounds.{CalmBringsQuiet, CalmKeeps, IsManned, calm_rounds, closed}
 use Rattle.written_calm.proofs.ArrivalsLemmas.{boot_of}
 use Rattle.written_calm.proofs.ProgressKept.{always_progresses}

@@ -13,6 +13,7 @@ use Rattle.written_net.specs.Ledgers.{Ledger, same_ledger}
 use Rattle.written_net.specs.Channels.{Offer, is_master, present, publish_one, publish, send_all, resync_all, to_master}
 use Rattle.written_net.proofs.NetLemmas.{id_is, set_at_all}
 use Rattle.written_net.proofs.BoundedLemmas.{in_numbers, met_known}
+use Rattle.written_net.proofs.SoundLemmas.{acked_is}
 use Rattle.written_world.specs.Parties.{joined}
 use Rattle.written_calm.specs.Places.{Reaches, AckReaches, AreReached}
 use Rattle.written_calm.proofs.FurtherLemmas.{Further, further_itself, hear_further, still_reaches, reaches_none}
@@ -27,22 +28,9 @@ record HeardCounts (links : Party → Id → Link) (p : Party) (q : Id) (r : Hea
 met_counts : (links : Party → Id → Link) (p : Party) (q : Id) (l : Link) (inc : ℕ) → Counts links p q l → Counts links p q (met l inc)
 met_counts links p q l inc h = either (Counts links p q) (nat_lt l.known inc) (record { known = inc; seq = 0; acked = 0 }) l (λ _. reaches_none (links (record { id = q; inc = inc }) p.id) p.inc) (λ _. h)
 
--- what is heard as acknowledged is an Ack
+-- so what is heard as acknowledged was reached
 acked_reaches : (links : Party → Id → Link) (k : Kind) (own : ℕ) (l : Link) (x : Packet) → word_of k own l x ≡ Acked → AckReaches links k x → Reaches (links x.from x.to.id) x.inc x.seq
-acked_reaches links Ack own l x e h = h
-acked_reaches links Delta own l x e h = absurd (no (not (nat_eq x.to.inc own)) (nat_eq x.seq (l.seq + 1) && nat_lt 1 x.seq) (nat_lt l.seq x.seq) e)
-  where
-    no : (a b c : Bool) → cond a NotMine (cond b Taken (cond c Gap Old)) ≡ Acked → ⊥
-    no true b c e = cc
-    no false true c e = cc
-    no false false true e = cc
-    no false false false e = cc
-acked_reaches links Full own l x e h = absurd (no (not (nat_eq x.to.inc own)) (nat_lt l.seq x.seq) e)
-  where
-    no : (a b : Bool) → cond a NotMine (cond b Taken Old) ≡ Acked → ⊥
-    no true b e = cc
-    no false true e = cc
-    no false false e = cc
+acked_reaches links k own l x e h = subst (λ k. AckReaches links k x) (acked_is k own l x e) h
 
 counted_ack : (links : Party → Id → Link) (p : Party) (top : ℕ) (l : Link) (x : Packet) → l.known ≡ x.from.inc → x.to.id ≡ p.id → Reaches (links x.from x.to.id) x.inc x.seq → Counts links p x.from.id l → Counts links p x.from.id (acknowledge p.inc top l x)
 counted_ack links p top l x known to n h = either (Counts links p x.from.id) (nat_eq x.inc p.inc && (nat_lt l.acked x.seq && not (nat_lt top x.seq))) (record { known = l.known; seq = l.seq; acked = x.seq }) l

@@ -18,16 +18,8 @@ use Rattle.written_roles.specs.Placing.{waiting_pairs, has_pair, lined, line_up,
 use Rattle.written_roles.proofs.PlacingEnds.{is_placeable}
 use Rattle.written_roles.proofs.TransitionsLemmas.{ready_besides}
 use Rattle.written_world.specs.Good.{AllWait, IsBounded, IsRangedMaster, IsResting}
-use Rattle.written_world.proofs.SettledLemmas.{number_below, number_with, ranged_same, ready_rests}
+use Rattle.written_world.proofs.SettledLemmas.{job_listed, number_below, number_with, ranged_same, ready_rests}
 use Rattle.written_world.proofs.TablesInOrder.{ready_waits}
-
--- a job with a unit is one of the known ones
-job_listed : (jobs : List KnownJob) (a u : ℕ) → nat_lt u (unit_count jobs a) ≡ true → has_number a (job_numbers jobs) ≡ true
-job_listed [] a u h = absurd (let f : u < 0 = grind (arith, nat_tests, h) in omega (arith, f))
-job_listed (j ∷ js) a u h = elim (nat_eq j.job.number a) as (λ b. nat_eq j.job.number a ≡ b → nat_lt u (length (unwrap_or (option_map (λ j. j.job.units) (cond b (Some j) (job_of js a))) [])) ≡ true → has_number a (with_number j.job.number (job_numbers js)) ≡ true) [
-  | true ↦ λ e _. let same : j.job.number ≡ a = number_is _ _ e in number_with a j.job.number (job_numbers js) (or_left (nat_eq a j.job.number) _ (subst (λ x. nat_eq a x ≡ true) (sym same) (nat_itself a)))
-  | false ↦ λ e h. number_with a j.job.number (job_numbers js) (or_right (nat_eq a j.job.number) _ (job_listed js a u h))
-] refl h
 
 -- a pair with something out is among those that wait
 number_passes : (n : ℕ) (test : ℕ → Bool) (ns : List ℕ) → test n ≡ true → has_number n ns ≡ true → has_number n (filter test ns) ≡ true

@@ -11,7 +11,7 @@ ghost use Rattle.written_calm.specs.Places.{TurnsBringForward};
 ghost use Rattle.written_calm.specs.Progress.{CanProgress};
 ghost use Rattle.written_calm.specs.Rounds.{CalmBringsQuiet, CalmKeeps};
 
-use written_order::worlds_in_order;
+use written_world::worlds_in_order;
 
 /// One turn of one channel that is delivered whole and in order, whatever was lost before. The receiver knows the sender then. Where the
 /// sender knows the receiver's running incarnation, the receiver has come to the last entry, or behind changes, of which at most 256 were

@@ -7,3 +7,4 @@ pub mod MastersJoin
 pub mod LeadingLemmas
 pub mod EntriesLead
 pub mod KeptReports
+pub mod ShowsLemmas

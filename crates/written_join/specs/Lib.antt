@@ -1,3 +1,4 @@
 pub mod Seen
 pub mod Joins
 pub mod Leading
+pub mod States

@@ -3,7 +3,7 @@
 //! `specs/`. Each function here does nothing; its contract is a law of the definitions.
 #![tactic(auto)]
 
-ghost use Rattle.std.specs.Prelude.{◌≡◌, ℕ, List, Option, Some, true, [], ◌∷◌, slice_get};
+ghost use Rattle.std.specs.Prelude.{◌≡◌, ℕ, List, Option, Some, true, [], ◌∷◌, length, slice_get};
 ghost use Rattle.std.specs.Ordering.{nat_cmp};
 ghost use Rattle.std.specs.FinMap.Entries.{find};
 ghost use Rattle.fuxi_terms.specs.declared.vectors.Res.{Res};
@@ -19,11 +19,14 @@ ghost use Rattle.written_roles.specs.Agents.{row_excess, agent_turn, agent_resyn
 ghost use Rattle.written_roles.specs.Apps.{AppCommand, no_excess, commands_alone, app_turn, app_resynced};
 ghost use Rattle.written_roles.specs.MasterRoles.{master_turn, master_resynced, master_commanded, report_excess as kept_excess};
 ghost use Rattle.written_world.specs.World.{World, Agent, App};
+ghost use Rattle.written_world.specs.Show.{show_agent, show_app};
 ghost use Rattle.written_world.specs.Events.{asks, commanded, turned, turn_to_master, resynced};
 ghost use Rattle.written_join.specs.Seen.{has_of, agent_seen, app_seen, master_seen};
 ghost use Rattle.written_join.specs.Joins.{AgentActs, AppActs, MasterActs, AgentHearsAlike, AppHearsAlike, MasterHearsAlike, AgentStarts, AppStarts, MasterStarts, AppCommanded, MasterCommanded, Leads};
 ghost use Rattle.written_join.specs.Leading.{RowsLead, TalliesLead, ReportsFit, AllLead, report_excess};
+ghost use Rattle.written_join.specs.States.{agent_lines, app_lines};
 ghost use Rattle.fuxi_terms.specs.Cluster.{ClusterRecord, is_valid_cluster};
+ghost use Rattle.fuxi_terms.specs.Lists.{below};
 ghost use Rattle.written_world.specs.Good.{Good};
 ghost use Rattle.written_world.specs.Events.{Event};
 ghost use Rattle.written_world.specs.Lines.{IsInput};
@@ -82,4 +85,11 @@ pub fn kept_reports_lead()
 pub fn every_change_is_taken()
     ensures good { (w : World) → is_valid_cluster w.cluster ≡ true → Good w → AllLead w }
     ensures always { (c : ClusterRecord) (events : List Event) → IsInput c events → AllLead (run c events) }
+{}
+
+/// What the world prints of the state of an agent or of an application is what that one prints by itself: who runs one party
+/// alone has no world to ask.
+pub fn states_are_alone()
+    ensures agent { (w : World) (m : ℕ) (g : Agent) → show_agent w.net m g ≡ agent_lines (agent_seen w m g) }
+    ensures app { (w : World) (a : ℕ) (g : App) → show_app w.net (below (length w.cluster.machines)) a g ≡ app_lines (app_seen w a g) }
 {}

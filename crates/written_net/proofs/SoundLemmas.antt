@@ -15,6 +15,23 @@ use Rattle.fuxi_terms.proofs.Booleans.{both_true, either, either_case, number_is
 use Rattle.written_net.proofs.NetLemmas.{id_is, party_is, set_at_all}
 use Rattle.written_net.proofs.BoundedLemmas.{met_known, in_numbers, found_within}
 
+-- what is heard as acknowledged is an Ack
+pub acked_is : (k : Kind) (own : ℕ) (l : Link) (x : Packet) → word_of k own l x ≡ Acked → k ≡ Ack
+acked_is Ack own l x e = refl
+acked_is Delta own l x e = absurd (no (not (nat_eq x.to.inc own)) (nat_eq x.seq (l.seq + 1) && nat_lt 1 x.seq) (nat_lt l.seq x.seq) e)
+  where
+    no : (a b c : Bool) → cond a NotMine (cond b Taken (cond c Gap Old)) ≡ Acked → ⊥
+    no true b c e = cc
+    no false true c e = cc
+    no false false true e = cc
+    no false false false e = cc
+acked_is Full own l x e = absurd (no (not (nat_eq x.to.inc own)) (nat_lt l.seq x.seq) e)
+  where
+    no : (a b : Bool) → cond a NotMine (cond b Taken Old) ≡ Acked → ⊥
+    no true b e = cc
+    no false true e = cc
+    no false false e = cc
+
 -- a history with more entries behind it
 pub record Longer {L : Type 0} (d : L) (h h' : List L) : Type 0 where
   pub long : length h ≤ length h'
@@ -93,22 +110,8 @@ module _ {L : Type 0} (S : Shape L) where
       (λ t e. cc)
       (λ t e. let same : x.to.inc ≡ own = grind (arith, nat_tests) in subst (NamesAt S hs x.from x.to.id x.seq) same h.names) e
 
-  -- what is heard as acknowledged is an Ack
   acked_names : (hs : Party → Id → List L) (k : Kind) (own : ℕ) (l : Link) (x : Packet) → word_of k own l x ≡ Acked → PacketNames S hs k x → NamesAt S hs (record { id = x.to.id; inc = x.inc }) x.from.id x.seq x.from.inc
-  acked_names hs Ack own l x e h = h
-  acked_names hs Delta own l x e h = absurd (no (not (nat_eq x.to.inc own)) (nat_eq x.seq (l.seq + 1) && nat_lt 1 x.seq) (nat_lt l.seq x.seq) e)
-    where
-      no : (a b c : Bool) → cond a NotMine (cond b Taken (cond c Gap Old)) ≡ Acked → ⊥
-      no true b c e = cc
-      no false true c e = cc
-      no false false true e = cc
-      no false false false e = cc
-  acked_names hs Full own l x e h = absurd (no (not (nat_eq x.to.inc own)) (nat_lt l.seq x.seq) e)
-    where
-      no : (a b : Bool) → cond a NotMine (cond b Taken Old) ≡ Acked → ⊥
-      no true b e = cc
-      no false true e = cc
-      no false false e = cc
+  acked_names hs k own l x e h = subst (λ k. PacketNames S hs k x) (acked_is k own l x e) h
 
   moved_names : (hs : Party → Id → List L) (p : Party) (l : Link) (x : Packet) → l.known ≡ x.from.inc → x.to.id ≡ p.id → NamesAt S hs x.from x.to.id x.seq p.inc → LinkNames S hs p x.from.id l → LinkNames S hs p x.from.id (place_moved l x.seq)
   moved_names hs p l x known to n h = record {

@@ -8,8 +8,8 @@ use Rattle.std.specs.FinMap.Entries.{find, put, find-put}
 use Rattle.std.proofs.lemmas.Bool.Decides.{nat_tests}
 use Rattle.std.proofs.lemmas.Map.Lookups.{exact_unsigned}
 use Rattle.fuxi_terms.specs.Numbers.{has_number, with_number, without_number}
-use Rattle.fuxi_terms.proofs.Booleans.{nat_itself}
-use Rattle.fuxi_terms.proofs.CountsLemmas.{tied}
+use Rattle.fuxi_terms.proofs.Booleans.{nat_itself, or_right}
+use Rattle.fuxi_terms.proofs.Counting.{tied}
 
 -- One entry of a map by numbers
 pub found_put : {A : Type 0} (a : ℕ) (x d : A) (es : List (ℕ × A)) → unwrap_or (find nat_cmp a (put nat_cmp a x es)) d ≡ x
@@ -28,26 +28,18 @@ pub with_here : (m : ℕ) (ms : List ℕ) → has_number m (with_number m ms) �
 with_here m [] = ap (λ b. b || false) (nat_itself m)
 with_here m (k ∷ ks) = by (with_here m ks) (nat_lt m k) (nat_eq m k) refl
   where
-    or_true : (b : Bool) → (b || true) ≡ true
-    or_true true = refl
-    or_true false = refl
-
     by : has_number m (with_number m ks) ≡ true → (b d : Bool) → nat_eq m k ≡ d → has_number m (cond b (m ∷ k ∷ ks) (cond d (k ∷ ks) (k ∷ with_number m ks))) ≡ true
     by rest true d e = ap (λ b. b || has_number m (k ∷ ks)) (nat_itself m)
     by rest false true e = ap (λ b. b || has_number m ks) e
-    by rest false false e = ap (λ b. nat_eq m k || b) rest ∙ or_true (nat_eq m k)
+    by rest false false e = ap (λ b. nat_eq m k || b) rest ∙ or_right (nat_eq m k) true refl
 
 -- one that was there stays
 pub with_keeps : (n m : ℕ) (ms : List ℕ) → has_number n ms ≡ true → has_number n (with_number m ms) ≡ true
 with_keeps n m [] h = cc
 with_keeps n m (k ∷ ks) h = by (with_keeps n m ks) (nat_lt m k) (nat_eq m k)
   where
-    or_true : (b : Bool) → (b || true) ≡ true
-    or_true true = refl
-    or_true false = refl
-
     by : (has_number n ks ≡ true → has_number n (with_number m ks) ≡ true) → (b d : Bool) → has_number n (cond b (m ∷ k ∷ ks) (cond d (k ∷ ks) (k ∷ with_number m ks))) ≡ true
-    by rest true d = ap (λ x. nat_eq n m || x) h ∙ or_true (nat_eq n m)
+    by rest true d = ap (λ x. nat_eq n m || x) h ∙ or_right (nat_eq n m) true refl
     by rest false true = h
     by rest false false = elim (nat_eq n k) as (λ s. (s || has_number n ks) ≡ true → (s || has_number n (with_number m ks)) ≡ true) [ true ↦ λ _. refl | false ↦ λ h. rest h ] h
 
@@ -66,10 +58,6 @@ with_back n m (k ∷ ks) h e = elim (nat_lt m k) as (λ b. has_number n (cond b 
 pub without_back : (n m : ℕ) (ms : List ℕ) → has_number n (without_number m ms) ≡ true → has_number n ms ≡ true
 without_back n m [] h = cc
 without_back n m (k ∷ ks) h = elim (nat_eq k m) as (λ b. has_number n (cond (not b) (k ∷ without_number m ks) (without_number m ks)) ≡ true → (nat_eq n k || has_number n ks) ≡ true) [
-  | true ↦ λ h. or_true (nat_eq n k) (without_back n m ks h)
+  | true ↦ λ h. or_right (nat_eq n k) (has_number n ks) (without_back n m ks h)
   | false ↦ elim (nat_eq n k) as (λ b. (b || has_number n (without_number m ks)) ≡ true → (b || has_number n ks) ≡ true) [ true ↦ λ _. refl | false ↦ λ h. without_back n m ks h ]
 ] h
-  where
-    or_true : (b : Bool) → has_number n ks ≡ true → (b || has_number n ks) ≡ true
-    or_true true e = refl
-    or_true false e = e

@@ -61,12 +61,12 @@ other_least r (s ∷ ss) x (inl e) = subst (λ (y : Ranked). NotBefore y (least 
 other_least r (s ∷ ss) x (inr i) = other_least (cond (is_lt (slice_cmp nat_cmp s.rank r.rank)) s r) ss x i
 
 -- members
-in_left : {A : Type 0} (x : A) (xs ys : List A) → In x xs → In x (xs ++ ys)
+pub in_left : {A : Type 0} (x : A) (xs ys : List A) → In x xs → In x (xs ++ ys)
 in_left x [] ys i = absurd i
 in_left x (z ∷ xs) ys (inl e) = inl e
 in_left x (z ∷ xs) ys (inr i) = inr (in_left x xs ys i)
 
-in_right : {A : Type 0} (x : A) (xs ys : List A) → In x ys → In x (xs ++ ys)
+pub in_right : {A : Type 0} (x : A) (xs ys : List A) → In x ys → In x (xs ++ ys)
 in_right x [] ys i = i
 in_right x (z ∷ xs) ys i = inr (in_right x xs ys i)
 

@@ -27,6 +27,7 @@ use Rattle.written_roles.specs.PlacedInOrder.{AreValid}
 use Rattle.written_roles.specs.ServedInOrder.{AreOrdered, IsUsable, IsCandidate, IsTriedBefore, AreTriedInOrder, IsNotAfter, AreWalkedInOrder}
 use Rattle.written_roles.proofs.LossesLemmas.{amount, often_flat, walk_amount, table_amount}
 use Rattle.written_roles.proofs.PlacedInOrderLemmas.{valid_priority}
+use Rattle.written_roles.proofs.PlacingFirst.{in_left, in_right}
 
 -- Lists in order
 all_both : {A : Type 0} (P Q : A → Type 0) (xs : List A) → AllByRecursion P xs → AllByRecursion Q xs → AllByRecursion (λ x. P x × Q x) xs
@@ -79,15 +80,6 @@ in_at : {A : Type 0} (x : A) (xs : List A) → In x xs → (k : ℕ) × (slice_g
 in_at x [] i = absurd i
 in_at x (y ∷ ys) (inl e) = (0, ap Some (sym e))
 in_at x (y ∷ ys) (inr i) = let k = in_at x ys i in (suc k.0, k.1)
-
-in_left : {A : Type 0} (x : A) (xs ys : List A) → In x xs → In x (xs ++ ys)
-in_left x [] ys i = absurd i
-in_left x (z ∷ xs) ys (inl e) = inl e
-in_left x (z ∷ xs) ys (inr i) = inr (in_left x xs ys i)
-
-in_right : {A : Type 0} (x : A) (xs ys : List A) → In x ys → In x (xs ++ ys)
-in_right x [] ys i = i
-in_right x (z ∷ xs) ys i = inr (in_right x xs ys i)
 
 in_flat : {A B : Type 0} (f : A → List B) (x : A) (b : B) (xs : List A) → In x xs → In b (f x) → In b (flat_map f xs)
 in_flat f x b [] i j = absurd i

@@ -21,7 +21,7 @@ use Rattle.fuxi_terms.specs.Numbers.{has_number}
 use Rattle.written_roles.specs.Masters.{Master, credited_of}
 use Rattle.written_roles.specs.MasterSteps.{spot_row_key, row, count_entries, grants}
 use Rattle.written_world.specs.Good.{greatest_in_credits, greatest_in_grants, greatest_in_table, NamesJobs, IsOfJob, FitsMachines, IsBounded, IsInOrder, KnowsMore, reported_entries}
-use Rattle.fuxi_terms.proofs.Booleans.{number_is, nat_itself, where_le}
+use Rattle.fuxi_terms.proofs.Booleans.{number_is, nat_itself, or_right, where_le}
 use Rattle.fuxi_terms.proofs.Alls.{all_more}
 use Rattle.written_world.proofs.CountsLemmas.{and_both, below_append, counts_append, counts_mapped, counts_wider, all_kept}
 use Rattle.written_world.proofs.TablesBounded.{holds_more}
@@ -95,16 +95,12 @@ below_kind k w less (e ∷ es) h =
     let here : key_cmp k e.0 ≡ Less = ap (λ r. ordering_then r (ordering_then (nat_cmp k.unit e.0.unit) (nat_cmp k.number e.0.number))) (ap (nat_cmp k.what) h.0 ∙ less) in
     and_both (is_lt (key_cmp k e.0)) (below_all key_cmp k es) (subst (λ r. T (is_lt r)) (sym here) tt) (below_kind k w less es h.1)
 
-or_true : (b : Bool) → (b || true) ≡ true
-or_true true = refl
-or_true false = refl
-
 reported_counts : (c : ClusterRecord) (units : ℕ) (ms : List ℕ) → ((m : ℕ) → has_number m ms ≡ true → has_machine c m ≡ true) → AllByRecursion (λ e. (0 < e.1) × (e.1 ≤ greatest_in_grants c units e.0)) (reported_entries ms)
 reported_counts c units [] h = tt
 reported_counts c units (m ∷ ms) h =
     let there = h m (ap (λ b. b || has_number m ms) (nat_itself m)) in
     let one : greatest_in_grants c units (reported_key m) ≡ 1 = ap (λ b. where_holds b 1) there in
-    ((omega arith, omega (arith, one)), reported_counts c units ms (λ k e. h k (ap (λ b. nat_eq k m || b) e ∙ or_true (nat_eq k m))))
+    ((omega arith, omega (arith, one)), reported_counts c units ms (λ k e. h k (ap (λ b. nat_eq k m || b) e ∙ or_right (nat_eq k m) true refl)))
 
 all_below : (es ys : List (Key × ℕ)) (v w : ℕ) → nat_cmp v w ≡ Less → AllByRecursion (λ e. e.0.what ≡ v) es → AllByRecursion (λ y. y.0.what ≡ w) ys → AllByRecursion (λ x. T (below_all key_cmp x.0 ys)) es
 all_below [] ys v w less h k = tt

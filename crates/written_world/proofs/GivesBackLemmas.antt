@@ -186,6 +186,26 @@ counted_backs c jobs a d u m =
     less true o e = omega (arith, e)
     less false o e = omega (arith, e)
 
+-- a packet of an application that is not this one names another job
+pub other_app : (x : Packet) (a : ℕ) → x.from.id ≡ app_id x.from.id.number → same_id x.from.id (app_id a) ≡ false → nat_eq a x.from.id.number ≡ false
+other_app x a this e = by (nat_eq a x.from.id.number) refl
+  where
+    by : (b : Bool) → nat_eq a x.from.id.number ≡ b → nat_eq a x.from.id.number ≡ false
+    by true f = let same : x.from.id ≡ app_id a = this ∙ ap app_id (sym (number_is a x.from.id.number f)) in let yes : same_id x.from.id (app_id a) ≡ true = ap (λ (q : Id). same_id q (app_id a)) same ∙ same_id_itself (app_id a) in absurd (let z : ⊥ = cc in z)
+    by false f = f
+
+-- what a master makes of a packet of an application: it meets it, and takes what counts of the demand
+pub told_app : (c : ClusterRecord) (net : Net Ledger) (M : Master) (d : Heard) (x : Packet) (a : ℕ) → x.from.id ≡ app_id a
+    → told M d x.from.id (received c M net x) ≡ cond (is_taken d.what) (take_demand (meet_app d.fresh M a) a (counted c M.jobs a (content net x))) (meet_app d.fresh M a)
+told_app c net M d x a is =
+    let l = received c M net x in
+    let agent : is_agent x.from.id ≡ false = ap is_agent is in
+    let N = meet_app d.fresh M x.from.id.number in
+    let L : l ≡ counted c M.jobs x.from.id.number (content net x) = ap (λ b. cond b (content net x) (counted c M.jobs x.from.id.number (content net x))) agent in
+    ap (λ b. cond b (cond (is_taken d.what) (take_report M x.from.id.number l) M) (cond (is_taken d.what) (take_demand N x.from.id.number l) N)) agent
+    ∙ ap (λ q. cond (is_taken d.what) (take_demand N x.from.id.number q) N) L
+    ∙ ap (λ n. cond (is_taken d.what) (take_demand (meet_app d.fresh M n) n (counted c M.jobs n (content net x))) (meet_app d.fresh M n)) (ap (λ (q : Id). q.number) is)
+
 -- what is credited to another application stays
 record KeepsCredits (M : Master) (a : ℕ) (N : Master) : Type 0 where
   it : credited_of N a ≡ credited_of M a
@@ -275,21 +295,11 @@ module _ (w : World) (h : Invariant w) (g : AllGiven w.net.histories) (at_epoch 
       this_app other = let role = number_is x.from.id.role 3 (talks_app w.cluster M x.from.id t other) in (λ i. record { role = role i; number = x.from.id.number })
 
       apart : (a : ℕ) → same_id x.from.id (app_id a) ≡ false → is_agent x.from.id ≡ false → nat_eq a x.from.id.number ≡ false
-      apart a e other = by (nat_eq a x.from.id.number) refl
-        where
-          by : (b : Bool) → nat_eq a x.from.id.number ≡ b → nat_eq a x.from.id.number ≡ false
-          by true f = let same : x.from.id ≡ app_id a = this_app other ∙ ap app_id (sym (number_is a x.from.id.number f)) in let yes : same_id x.from.id (app_id a) ≡ true = ap (λ (q : Id). same_id q (app_id a)) same ∙ same_id_itself (app_id a) in absurd (let z : ⊥ = cc in z)
-          by false f = f
+      apart a e other = other_app x a (this_app other) e
 
       told_this : (a u m : ℕ) (is : x.from.id ≡ app_id a) → Gives a u m is X
       told_this a u m is =
-          let agent : is_agent x.from.id ≡ false = ap is_agent is in
-          let N = meet_app d.fresh M x.from.id.number in
-          let L : l ≡ counted w.cluster M.jobs x.from.id.number (content w.net x) = ap (λ b. cond b (content w.net x) (counted w.cluster M.jobs x.from.id.number (content w.net x))) agent in
-          let path : X ≡ cond (is_taken d.what) (take_demand (meet_app d.fresh M a) a (counted w.cluster M.jobs a (content w.net x))) (meet_app d.fresh M a) =
-          ap (λ b. cond b (cond (is_taken d.what) (take_report M x.from.id.number l) M) (cond (is_taken d.what) (take_demand N x.from.id.number l) N)) agent
-          ∙ ap (λ q. cond (is_taken d.what) (take_demand N x.from.id.number q) N) L
-          ∙ ap (λ n. cond (is_taken d.what) (take_demand (meet_app d.fresh M n) n (counted w.cluster M.jobs n (content w.net x))) (meet_app d.fresh M n)) (ap (λ (q : Id). q.number) is) in
+          let path = told_app w.cluster w.net M d x a is in
           subst (Gives a u m is) (sym path) (either (Gives a u m is) (is_taken d.what) (take_demand (meet_app d.fresh M a) a (counted w.cluster M.jobs a (content w.net x))) (meet_app d.fresh M a)
           (λ taken. taken_gives a u m is taken (meet_app d.fresh M a) (met_epoch d.fresh) (met_gives a u m is d.fresh refl)) (λ _. met_gives a u m is d.fresh refl))
         where

@@ -39,7 +39,7 @@ use Rattle.written_world.specs.HeedsDemands.{AllHeed}
 use Rattle.written_world.specs.Runs.{run}
 use Rattle.written_world.proofs.CreditsLemmas.{taken_places}
 use Rattle.written_world.proofs.EventsWalk.{WorldKept, run_keeps_world, unasked}
-use Rattle.written_world.proofs.GivesBackLemmas.{taken_known}
+use Rattle.written_world.proofs.GivesBackLemmas.{other_app, taken_known, told_app}
 use Rattle.written_world.proofs.Invariant.{put_found, ready_epoch}
 use Rattle.written_world.proofs.InvariantKept.{SameMaster, always, events_hold, told_same}
 use Rattle.written_world.proofs.KeepsGrantsLemmas.{sent_links, sent_histories, IsUntaken, untaken}
@@ -317,24 +317,14 @@ module _ (w : World) (h : Invariant w) (e : ℕ) (M : Master) (n : ℕ) (x : Pac
   this_app other = let role = number_is x.from.id.role 3 (talks_app w.cluster M x.from.id t other) in (λ i. record { role = role i; number = x.from.id.number })
 
   apart : (a : ℕ) → same_id x.from.id (app_id a) ≡ false → is_agent x.from.id ≡ false → nat_eq a x.from.id.number ≡ false
-  apart a f other = by (nat_eq a x.from.id.number) refl
-    where
-      by : (b : Bool) → nat_eq a x.from.id.number ≡ b → nat_eq a x.from.id.number ≡ false
-      by true g = let same : x.from.id ≡ app_id a = this_app other ∙ ap app_id (sym (number_is a x.from.id.number g)) in let yes : same_id x.from.id (app_id a) ≡ true = ap (λ (q : Id). same_id q (app_id a)) same ∙ same_id_itself (app_id a) in absurd (let z : ⊥ = cc in z)
-      by false g = g
+  apart a e other = other_app x a (this_app other) e
 
   abbrev X : Master
   X = told M d x.from.id l
 
   told_right : (a : ℕ) (is : x.from.id ≡ app_id a) (live : is_live M.jobs a ≡ true) (k : Key) → Right a is live k X
   told_right a is live k =
-      let agent : is_agent x.from.id ≡ false = ap is_agent is in
-      let N = meet_app d.fresh M x.from.id.number in
-      let L : l ≡ counted w.cluster M.jobs x.from.id.number (content w.net x) = ap (λ b. cond b (content w.net x) (counted w.cluster M.jobs x.from.id.number (content w.net x))) agent in
-      let path : X ≡ cond (is_taken d.what) (take_demand (meet_app d.fresh M a) a (counted w.cluster M.jobs a (content w.net x))) (meet_app d.fresh M a) =
-      ap (λ b. cond b (cond (is_taken d.what) (take_report M x.from.id.number l) M) (cond (is_taken d.what) (take_demand N x.from.id.number l) N)) agent
-      ∙ ap (λ q. cond (is_taken d.what) (take_demand N x.from.id.number q) N) L
-      ∙ ap (λ n. cond (is_taken d.what) (take_demand (meet_app d.fresh M n) n (counted w.cluster M.jobs n (content w.net x))) (meet_app d.fresh M n)) (ap (λ (q : Id). q.number) is) in
+      let path = told_app w.cluster w.net M d x a is in
       subst (Right a is live k) (sym path) (either (Right a is live k) (is_taken d.what) (take_demand (meet_app d.fresh M a) a (counted w.cluster M.jobs a (content w.net x))) (meet_app d.fresh M a) (λ taken. taken_right a is live k taken) (λ not_taken. untaken_right a is live k not_taken))
 
   heard_heeds : Heeds w.cluster net0 X

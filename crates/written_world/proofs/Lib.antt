@@ -37,4 +37,6 @@ pub mod GivesBackLemmas
 pub mod HeedsDemandsLemmas
 pub mod TurnsLemmas
 pub mod JudgingLemmas
-pub mod HaltingLemmas
+pub mod HaltsLemmas
+pub mod NumbersLemmas
+pub mod OrdersKept

@@ -12,7 +12,7 @@ use Rattle.fuxi_terms.specs.Lists.{below}
 use Rattle.fuxi_terms.specs.Limits.{most_masters}
 use Rattle.fuxi_terms.specs.Numbers.{without_number}
 use Rattle.fuxi_terms.proofs.Booleans.{and_true, nat_itself, number_is}
-use Rattle.written_net.specs.Net.{Net, Party, Id, Link, unknown, same_id, move, Starts, heard_of, at_index}
+use Rattle.written_net.specs.Net.{Net, Party, Id, Link, unknown, same_id, move, Starts, heard_of, at_index, Packet}
 use Rattle.written_net.specs.Ledgers.{Ledger, nothing}
 use Rattle.written_net.specs.Channels.{master_id, agent_id, app_id, party, is_master, view, present}
 use Rattle.written_net.proofs.NetLemmas.{id_is}
@@ -24,8 +24,8 @@ use Rattle.written_roles.specs.Preemption.{preempted}
 use Rattle.written_roles.specs.Refusals.{Refusal, NotRising, TooManyMasters, NotRunning, NoMachine, NoJob, Ended, first_refusal, with_found}
 use Rattle.written_roles.proofs.MapLemmas.{put_beside}
 use Rattle.written_world.specs.World.{World, Agent, App, Step, empty_world, prints_nothing, refused, set_boot}
-use Rattle.written_world.specs.Parties.{told, received, agent_table, app_held, carry}
-use Rattle.written_world.specs.Events.{Event, StopMaster, StartAgent, StartApp, counted_in, agent_started, app_started, world_step}
+use Rattle.written_world.specs.Parties.{told, received, agent_table, app_held, carry, app_hears}
+use Rattle.written_world.specs.Events.{Event, StopMaster, StartAgent, StartApp, counted_in, agent_started, app_started, world_step, packet_of}
 use Rattle.written_world.specs.Good.{IsShowing}
 use Rattle.written_world.specs.Runs.{run, run_from}
 use Rattle.written_world.specs.Starts.{StaysStopped, IsNewAgent, IsNewApp, StartsWithNothing}
@@ -147,18 +147,21 @@ boot_set boots d b n q old new = by (same_id d q) new
     by true h = h refl
     by false h = old
 
-agents_above : (n m : ℕ) (w : World) → IsAbove n (w.boots (agent_id m)) (agent_boot w m) → WorldKept (λ v. IsAbove n (v.boots (agent_id m)) (agent_boot v m)) (λ _. ⊤) w
-agents_above n m w g = record {
+-- what holds of boots that rise is kept by every event, where it is by the starts of agents and of applications, and by what an application hears
+abbrev Above : ℕ → Id → (List (ℕ × Agent) → List (ℕ × App) → Option ℕ) → World → Type 0
+Above n d runs v = IsAbove n (v.boots d) (runs v.agents v.apps)
+
+above_kept : (n : ℕ) (d : Id) (runs : List (ℕ × Agent) → List (ℕ × App) → Option ℕ) (w : World) → Above n d runs w
+    → ((m b : ℕ) → first_refusal ((not (has_machine w.cluster m), NoMachine) ∷ (not (nat_lt (w.boots (agent_id m)) b), NotRising (w.boots (agent_id m))) ∷ []) ≡ None → Above n d runs (agent_started w m b))
+    → ((a b : ℕ) → first_refusal ((not (is_known w.hard.jobs a), NoJob) ∷ (has_ended w.hard.jobs a, Ended) ∷ (not (nat_lt (w.boots (app_id a)) b), NotRising (w.boots (app_id a))) ∷ []) ≡ None → Above n d runs (app_started w a b))
+    → ((a : ℕ) (g : App) (k : ℕ) (x : Packet) → find nat_cmp a w.apps ≡ Some g → packet_of w k ≡ Some x → Above n d runs (app_hears w a g x))
+    → WorldKept (Above n d runs) (λ _. ⊤) w
+above_kept n d runs w g agent_starts app_starts hears = record {
   counted = g;
   starts = λ _ _ _. g;
   stops = λ _ _. g;
-  starts_agent = λ k b t.
-      let up = rising (not_refused (not (nat_lt (w.boots (agent_id k)) b)) (NotRising (w.boots (agent_id k))) [] (not_refused (not (has_machine w.cluster k)) NoMachine ((not (nat_lt (w.boots (agent_id k)) b), NotRising (w.boots (agent_id k))) ∷ []) t).1).0 in
-      record {
-        last = boot_set w.boots (agent_id k) b n (agent_id m) g.last (λ same. newer k b same up);
-        boot = λ d e. put_agent k b up d e;
-      };
-  starts_app = λ _ _ _. record { last = g.last; boot = g.boot };
+  starts_agent = agent_starts;
+  starts_app = app_starts;
   submits = λ _ _ _ _ _ _ _. g;
   finishes = λ _ _ _ _ _. g;
   bans = λ _ _ _ _ _. g;
@@ -174,8 +177,15 @@ agents_above n m w g = record {
   app_resyncs = λ _ _ _. g;
   hears = λ _ _ _ _ _ _ _ _. g;
   agent_hears = λ _ _ _ _ _ _. g;
-  app_hears = λ _ _ _ _ _ _. g;
+  app_hears = hears;
 }
+
+agents_above : (n m : ℕ) (w : World) → IsAbove n (w.boots (agent_id m)) (agent_boot w m) → WorldKept (λ v. IsAbove n (v.boots (agent_id m)) (agent_boot v m)) (λ _. ⊤) w
+agents_above n m w g = above_kept n (agent_id m) (λ agents _. option_map (λ (g : Agent). g.boot) (find nat_cmp m agents)) w g
+    (λ k b t.
+      let up = rising (not_refused (not (nat_lt (w.boots (agent_id k)) b)) (NotRising (w.boots (agent_id k))) [] (not_refused (not (has_machine w.cluster k)) NoMachine ((not (nat_lt (w.boots (agent_id k)) b), NotRising (w.boots (agent_id k))) ∷ []) t).1).0 in
+      record { last = boot_set w.boots (agent_id k) b n (agent_id m) g.last (λ same. newer k b same up); boot = λ d e. put_agent k b up d e })
+    (λ _ _ _. record { last = g.last; boot = g.boot }) (λ _ _ _ _ _ _. g)
   where
     newer : (k b : ℕ) → same_id (agent_id k) (agent_id m) ≡ true → w.boots (agent_id k) < b → n < b
     newer k b same up = let here : w.boots (agent_id k) ≡ w.boots (agent_id m) = ap w.boots (id_is (agent_id k) (agent_id m) same) in let old = g.last in omega (arith, here, old, up)
@@ -191,34 +201,11 @@ agents_above n m w g = record {
             other t = grind (arith, nat_tests, t)
 
 apps_above : (n a : ℕ) (w : World) → IsAbove n (w.boots (app_id a)) (app_boot w a) → WorldKept (λ v. IsAbove n (v.boots (app_id a)) (app_boot v a)) (λ _. ⊤) w
-apps_above n a w g = record {
-  counted = g;
-  starts = λ _ _ _. g;
-  stops = λ _ _. g;
-  starts_agent = λ _ _ _. record { last = g.last; boot = g.boot };
-  starts_app = λ k b t.
+apps_above n a w g = above_kept n (app_id a) (λ _ apps. option_map (λ (g : App). g.boot) (find nat_cmp a apps)) w g (λ _ _ _. record { last = g.last; boot = g.boot })
+    (λ k b t.
       let up = rising (not_refused (not (nat_lt (w.boots (app_id k)) b)) (NotRising (w.boots (app_id k))) [] (not_refused (has_ended w.hard.jobs k) Ended ((not (nat_lt (w.boots (app_id k)) b), NotRising (w.boots (app_id k))) ∷ []) (not_refused (not (is_known w.hard.jobs k)) NoJob ((has_ended w.hard.jobs k, Ended) ∷ (not (nat_lt (w.boots (app_id k)) b), NotRising (w.boots (app_id k))) ∷ []) t).1).1).0 in
-      record {
-        last = boot_set w.boots (app_id k) b n (app_id a) g.last (λ same. newer k b same up);
-        boot = λ d e. put_app k b up d e;
-      };
-  submits = λ _ _ _ _ _ _ _. g;
-  finishes = λ _ _ _ _ _. g;
-  bans = λ _ _ _ _ _. g;
-  unbans = λ _ _ _ _ _. g;
-  begins = λ _ _ _. g;
-  preempts = λ _ _ _ _ _ _. g;
-  asks = λ _ _ _ _ _. g;
-  master_turns = λ _ _ _. g;
-  agent_turns = λ _ _ _. g;
-  app_turns = λ _ _ _. g;
-  master_resyncs = λ _ _ _. g;
-  agent_resyncs = λ _ _ _. g;
-  app_resyncs = λ _ _ _. g;
-  hears = λ _ _ _ _ _ _ _ _. g;
-  agent_hears = λ _ _ _ _ _ _. g;
-  app_hears = λ k h _ x f _. let p = party (app_id k) h.boot in record { last = g.last; boot = λ d e. again k h (cond (heard_of w.net p is_master x).fresh (carry w.net p h.units (below (length w.cluster.machines)) h.carried) h.carried) f d e };
-}
+      record { last = boot_set w.boots (app_id k) b n (app_id a) g.last (λ same. newer k b same up); boot = λ d e. put_app k b up d e })
+    (λ k h _ x f _. let p = party (app_id k) h.boot in record { last = g.last; boot = λ d e. again k h (cond (heard_of w.net p is_master x).fresh (carry w.net p h.units (below (length w.cluster.machines)) h.carried) h.carried) f d e })
   where
     newer : (k b : ℕ) → same_id (app_id k) (app_id a) ≡ true → w.boots (app_id k) < b → n < b
     newer k b same up = let here : w.boots (app_id k) ≡ w.boots (app_id a) = ap w.boots (id_is (app_id k) (app_id a) same) in let old = g.last in omega (arith, here, old, up)

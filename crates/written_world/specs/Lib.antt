@@ -17,4 +17,5 @@ pub mod KeepsGrants
 pub mod HeedsDemands
 pub mod Turns
 pub mod Judging
-pub mod Halting
+pub mod Halts
+pub mod Orders

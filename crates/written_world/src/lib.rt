@@ -27,8 +27,9 @@ ghost use Rattle.written_world.specs.Safe.{Safe};
 ghost use Rattle.written_world.specs.Starts.{StaysStopped, StartsWithNothing};
 ghost use Rattle.written_world.specs.Steps.{AllGrow, AllBare, AllServe, AllLose, IsDone};
 ghost use Rattle.written_world.specs.Events.{Event, is_writing, world_step};
-ghost use Rattle.written_world.specs.Halting.{Halts, StopsNobody};
+ghost use Rattle.written_world.specs.Halts.{Halts, StopsNobody};
 ghost use Rattle.written_world.specs.Lines.{IsInput, is_from_line};
+ghost use Rattle.written_world.specs.Orders.{IsInOrder};
 ghost use Rattle.written_world.specs.Runs.{run};
 ghost use Rattle.written_world.specs.Turns.{AllTurn};
 
@@ -180,4 +181,11 @@ pub fn every_halt_stops_its_master()
 /// A stop within the writing of a line that is refused prints the refusal, and nothing changes but the number of events.
 pub fn a_refused_line_stops_nobody()
     ensures { (w : World) (x : Event) (r : Refusal) → StopsNobody w x r }
+{}
+
+/// The parties of the empty world stand in the order of their numbers, as the bans do, and on a valid cluster each event
+/// that a line can give keeps it so. Nothing else of the definitions rests on it: what is printed in that order does.
+pub fn worlds_in_order()
+    ensures start { (c : ClusterRecord) → IsInOrder (empty_world c) }
+    ensures kept { (w : World) (e : Event) → is_valid_cluster w.cluster ≡ true → is_from_line e ≡ true → IsInOrder w → IsInOrder (world_step w e).world }
 {}

@@ -1,4 +1,4 @@
-use Rattle.written_world.proofs.HaltingLemmas.{stops_nobody}
+use Rattle.written_world.proofs.HaltsLemmas.{stops_nobody}
 use Rattle.written_world.proofs.a_refused_line_stops_nobody.Goals as goal
 
 pub returns : goal.returns

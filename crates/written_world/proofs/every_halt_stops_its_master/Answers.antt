@@ -1,4 +1,4 @@
-use Rattle.written_world.proofs.HaltingLemmas.{halts_so}
+use Rattle.written_world.proofs.HaltsLemmas.{halts_so}
 use Rattle.written_world.proofs.every_halt_stops_its_master.Goals as goal
 
 pub returns : goal.returns

@@ -4,7 +4,7 @@ use Rattle.fuxi_terms.specs.Cluster.{JobRecord}
 use Rattle.fuxi_terms.specs.Jobs.{KnownJob, job_of, job_numbers}
 use Rattle.fuxi_terms.specs.Numbers.{with_number}
 use Rattle.written_roles.specs.HardState.{with_ended}
-use Rattle.settling.specs.Placing.{record_of}
+use Rattle.allotment.specs.PlacingReads.{record_of}
 use Rattle.allotment.proofs.law.ends_alike.Goals as goal
 
 marked : (b : Bool) (x : KnownJob) → (cond b (record { job = x.job; ended = true }) x).job ≡ x.job

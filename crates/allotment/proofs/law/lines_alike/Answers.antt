@@ -9,7 +9,7 @@ use Rattle.fuxi_terms.proofs.Alls.{all_append}
 use Rattle.fuxi_terms.proofs.Booleans.{both_true, number_is}
 use Rattle.written_roles.specs.Masters.{asked, out_of}
 use Rattle.written_roles.specs.Placing.{has_pair, waiting_in, waiting_pairs}
-use Rattle.allotment.proofs.Granting.{filter_twice}
+use Rattle.allotment.proofs.AddsLemmas.{filter_twice}
 use Rattle.allotment.proofs.law.lines_alike.Goals as goal
 
 -- a pair that passes the test is found alike

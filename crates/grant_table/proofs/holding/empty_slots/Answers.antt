@@ -1,7 +1,7 @@
 use Rattle.std.proofs.Common.{[], ◌∷◌, ◌++◌, map, sym, ◌∙◌, ap}
 use Rattle.std.proofs.lemmas.List.{map-append}
 use Rattle.grant_table.specs.Tables.{cell_of, cells_in}
-use Rattle.grant_table.proofs.Admitting.{repeated_last}
+use Rattle.grant_table.proofs.AdmittedTotals.{repeated_last}
 use Rattle.grant_table.proofs.holding.empty_slots.Goals as goal
 
 pub loop-preserved : goal.loop-preserved

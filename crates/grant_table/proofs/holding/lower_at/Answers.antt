@@ -1,14 +1,9 @@
-use Rattle.std.proofs.Common.{refl, sym, ◌∙◌, ap}
-use Rattle.grant_table.specs.Tables.{Cell, cells_of, with_cell, lowered}
-use Rattle.grant_table.proofs.Cells.{slot_there, unit_there, cell_read, cell_written}
+use Rattle.std.proofs.Common.{refl}
+use Rattle.grant_table.specs.Tables.{Cell, lowered}
+use Rattle.grant_table.proofs.Cells.{cell_changed}
 use Rattle.grant_table.proofs.holding.lower_at.Goals as goal
 
 pub returns : goal.returns
 returns c =
-    let slots = c.args.slots.now.items in
-    let v = c.index_mut-units.result.now in
-    let la = slot_there slots c.args.app c.args.unit c.requires.unit in
-    let lu = unit_there slots c.args.app c.args.unit v la c.index_mut-units.ensures.value c.requires.unit in
-    let read = cell_read slots c.args.app c.args.unit v c.index_mut-holding.result.now la c.index_mut-units.ensures.value lu c.index_mut-holding.ensures.value in
-    cell_written slots c.args.app c.args.unit v _ c.lower.new.self la c.index_mut-units.ensures.value refl
-    ∙ ap (with_cell (cells_of slots) c.args.app c.args.unit) (c.lower.ensures ∙ ap (λ (x : Cell). lowered x c.args.machine c.args.rack c.args.count) (sym read))
+    cell_changed c.args.slots.now.items c.args.app c.args.unit c.index_mut-units.result.now _ c.index_mut-holding.result.now c.lower.new.self (λ (x : Cell). lowered x c.args.machine c.args.rack c.args.count)
+    c.requires.unit c.index_mut-units.ensures.value c.index_mut-holding.ensures.value refl c.lower.ensures

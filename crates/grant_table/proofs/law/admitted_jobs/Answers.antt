@@ -1,4 +1,4 @@
-use Rattle.grant_table.proofs.Admitting.{found_admitted, numbers_rise}
+use Rattle.grant_table.proofs.AdmittedTotals.{found_admitted, numbers_rise}
 use Rattle.grant_table.proofs.law.admitted_jobs.Goals as goal
 
 pub returns : goal.returns

@@ -5,7 +5,7 @@ use Rattle.fuxi_terms.specs.Keys.{spot_cmp}
 use Rattle.fuxi_terms.specs.Tables.{spot}
 use Rattle.master_text.specs.Lines.{grant_line, grant_lines}
 use Rattle.schedule_text.specs.Lines.{line_text}
-use Rattle.written_state.proofs.ShowsLemmas.{shows_same, shows_none}
+use Rattle.written_join.proofs.ShowsLemmas.{shows_same, shows_none}
 use Rattle.master_text.proofs.grants.write_grant.Goals as goal
 
 pub returns-then-count-eq0-clause-ok : goal.returns-then-count-eq0-clause-ok

@@ -5,7 +5,7 @@ use Rattle.fuxi_terms.specs.Lists.{below}
 use Rattle.grant_table.specs.Tables.{as_known}
 use Rattle.master_text.specs.Lines.{grants_of_unit, grants_of_job}
 use Rattle.schedule_text.specs.Lines.{line_text}
-use Rattle.written_state.proofs.ShowsLemmas.{shows_same}
+use Rattle.written_join.proofs.ShowsLemmas.{shows_same}
 use Rattle.master_text.proofs.grants.write_job_grants.Goals as goal
 
 pub returns-clause-ok : goal.returns-clause-ok

@@ -4,7 +4,7 @@ use Rattle.fuxi_terms.specs.Cluster.{ClusterRecord}
 use Rattle.fuxi_terms.specs.Lists.{below}
 use Rattle.master_text.specs.Lines.{grant_lines, grants_of_unit}
 use Rattle.schedule_text.specs.Lines.{line_text}
-use Rattle.written_state.proofs.ShowsLemmas.{shows_same}
+use Rattle.written_join.proofs.ShowsLemmas.{shows_same}
 use Rattle.master_text.proofs.grants.write_unit_grants.Goals as goal
 
 pub returns-clause-ok : goal.returns-clause-ok

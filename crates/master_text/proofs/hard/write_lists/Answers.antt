@@ -2,7 +2,7 @@ use Rattle.std.proofs.Common.{map}
 use Rattle.written_world.specs.Outputs.{Banned}
 use Rattle.written_world.specs.Show.{show_jobs}
 use Rattle.schedule_text.specs.Lines.{line_text}
-use Rattle.written_state.proofs.ShowsLemmas.{shows_then}
+use Rattle.written_join.proofs.ShowsLemmas.{shows_then}
 use Rattle.master_text.proofs.hard.write_lists.Goals as goal
 
 pub returns-in-Ok-write_bans-clause-ok : goal.returns-in-Ok-write_bans-clause-ok

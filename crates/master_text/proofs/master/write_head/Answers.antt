@@ -1,7 +1,7 @@
 use Rattle.std.proofs.Common.{map, [], ◌∷◌, sym, ◌∙◌}
 use Rattle.written_world.specs.Outputs.{MasterIs, Reported}
 use Rattle.schedule_text.specs.Lines.{line_text}
-use Rattle.written_state.proofs.ShowsLemmas.{shows_same, shows_then}
+use Rattle.written_join.proofs.ShowsLemmas.{shows_same, shows_then}
 use Rattle.master_text.proofs.master.write_head.Goals as goal
 
 pub returns-in-Ok-write_reports-clause-ok : goal.returns-in-Ok-write_reports-clause-ok

@@ -2,7 +2,7 @@ use Rattle.std.proofs.Common.{map, ◌∷◌, ◌++◌}
 use Rattle.written_world.specs.Outputs.{MasterIs, Reported}
 use Rattle.master_text.specs.Lines.{grant_line, wait_line}
 use Rattle.schedule_text.specs.Lines.{line_text}
-use Rattle.written_state.proofs.ShowsLemmas.{shows_then}
+use Rattle.written_join.proofs.ShowsLemmas.{shows_then}
 use Rattle.master_text.proofs.master.write_master.Goals as goal
 
 pub returns-in-Ok-write_grants-clause-ok : goal.returns-in-Ok-write_grants-clause-ok

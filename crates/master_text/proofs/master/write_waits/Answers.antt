@@ -3,7 +3,7 @@ use Rattle.std.specs.List.{flat_map}
 use Rattle.std.proofs.lemmas.List.Concat.{flat_map_single}
 use Rattle.master_text.specs.Lines.{wait_line}
 use Rattle.schedule_text.specs.Lines.{line_text}
-use Rattle.written_state.proofs.ShowsLemmas.{shows_same, shows_item, shows_all, begins_then}
+use Rattle.written_join.proofs.ShowsLemmas.{shows_same, shows_item, shows_all, begins_then}
 use Rattle.master_text.proofs.master.write_waits.Goals as goal
 
 pub loop-index-preserved : goal.loop-index-preserved

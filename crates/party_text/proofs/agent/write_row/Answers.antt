@@ -1,8 +1,8 @@
 use Rattle.std.proofs.Common.{[], ◌∷◌, sym, ◌∙◌, ap}
 use Rattle.party_ledgers.specs.Entries.{entry_of}
-use Rattle.written_state.specs.States.{row_line}
+use Rattle.written_join.specs.States.{row_line}
 use Rattle.schedule_text.specs.Lines.{line_text}
-use Rattle.written_state.proofs.ShowsLemmas.{shows_same, then_ok, one_item}
+use Rattle.written_join.proofs.ShowsLemmas.{shows_same, then_ok, one_item}
 use Rattle.party_text.proofs.agent.write_row.Goals as goal
 
 pub returns-clause-ok : goal.returns-clause-ok

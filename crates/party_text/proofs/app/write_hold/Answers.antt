@@ -3,10 +3,10 @@ use Rattle.std.proofs.lemmas.Bool.Decides.{nat_tests}
 use Rattle.fuxi_terms.proofs.Booleans.{not_false}
 use Rattle.written_roles.specs.Apps.{names, held_by}
 use Rattle.written_world.specs.Outputs.{Hold, Carry}
-use Rattle.written_state.specs.States.{hold_line}
+use Rattle.written_join.specs.States.{hold_line}
 use Rattle.party_text.specs.Texts.{held_lines}
 use Rattle.schedule_text.specs.Lines.{line_text}
-use Rattle.written_state.proofs.ShowsLemmas.{shows_same, shows_none}
+use Rattle.written_join.proofs.ShowsLemmas.{shows_same, shows_none}
 use Rattle.party_text.proofs.app.write_hold.Goals as goal
 
 not_true : (b : Bool) → not b ≡ true → b ≡ false

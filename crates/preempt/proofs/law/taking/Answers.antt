@@ -1,4 +1,4 @@
-use Rattle.preempt.proofs.Carrying.{taken_singly, kept_others}
+use Rattle.preempt.proofs.VictimsTaken.{taken_singly, kept_others}
 use Rattle.preempt.proofs.law.taking.Goals as goal
 
 pub returns : goal.returns

@@ -4,9 +4,9 @@ use Rattle.fuxi_terms.specs.Cluster.{ClusterRecord, is_narrow, limit_at}
 use Rattle.fuxi_terms.specs.Jobs.{size_at}
 use Rattle.fuxi_terms.specs.Tables.{usage_at}
 use Rattle.grant_table.specs.Tables.{as_known}
-use Rattle.preempt.proofs.Linking.{size_is, zeros_at}
-use Rattle.preempt.proofs.Shelving.{resources_few}
-use Rattle.preempt.proofs.Wanting.{narrow_is, guaranteed_is}
+use Rattle.preempt.proofs.CountedAsWritten.{size_is, zeros_at}
+use Rattle.preempt.proofs.ShelvesLemmas.{resources_few}
+use Rattle.preempt.proofs.NeedsAsWritten.{narrow_is, guaranteed_is}
 use Rattle.preempt.proofs.need.need_of.Goals as goal
 
 pub returns : goal.returns

@@ -1,6 +1,6 @@
 use Rattle.std.proofs.Common.{◌≡◌, nat_eq, false, arith, ◌∙◌}
 use Rattle.std.proofs.lemmas.Bool.Decides.{nat_tests}
-use Rattle.preempt.proofs.Wanting.{drop_job}
+use Rattle.preempt.proofs.NeedsAsWritten.{drop_job}
 use Rattle.preempt.proofs.need.place_of.Goals as goal
 
 pub loop-index-preserved : goal.loop-index-preserved

@@ -1,4 +1,4 @@
-use Rattle.preempt.proofs.Wanting.{unit_there}
+use Rattle.preempt.proofs.NeedsAsWritten.{unit_there}
 use Rattle.preempt.proofs.need.unit_of.Goals as goal
 
 pub entry_of-requires : goal.entry_of-requires

@@ -6,8 +6,8 @@ use Rattle.grant_table.specs.Tables.{TableRecord, IsSound}
 use Rattle.preempt.specs.declared.plan.Victim.{Victim}
 use Rattle.preempt.specs.Given.{AreGiven, AreGroups, IsEntry}
 use Rattle.preempt.specs.Shelves.{IsShelf, IsWanted}
-use Rattle.preempt.proofs.Shelving.{none_to_take, resources_few}
-use Rattle.preempt.proofs.Wanting.{if_ok}
+use Rattle.preempt.proofs.ShelvesLemmas.{none_to_take, resources_few}
+use Rattle.preempt.proofs.NeedsAsWritten.{if_ok}
 use Rattle.preempt.proofs.need.victims_for.Goals as goal
 
 pub returns-then-not-may_take_some-clause-found : goal.returns-then-not-may_take_some-clause-found

@@ -5,7 +5,7 @@ use Rattle.fuxi_terms.specs.Tables.{spot}
 use Rattle.written_roles.specs.Preemption.{victims_in}
 use Rattle.preempt.specs.Given.{board_of, pair_of}
 use Rattle.preempt.specs.Plans.{AreTakable, losers_of}
-use Rattle.preempt.proofs.Linking.{at_index}
+use Rattle.preempt.proofs.CountedAsWritten.{at_index}
 use Rattle.preempt.proofs.Served.{shelf_at, wide_found, passed_closed, passed_without, found_here}
 use Rattle.preempt.proofs.search.first_machine.Goals as goal
 

@@ -2,7 +2,7 @@ use Rattle.std.proofs.Common.{◌<◌, [], get_or, set, take, ◌∙◌}
 use Rattle.std.proofs.lemmas.List.{length-set}
 use Rattle.preempt.specs.declared.entry.Entry.{Entry}
 use Rattle.preempt.specs.Shelves.{IsLow}
-use Rattle.preempt.proofs.Shelving.{all_more_one, low_more, low_here}
+use Rattle.preempt.proofs.ShelvesLemmas.{all_more_one, low_more, low_here}
 use Rattle.preempt.proofs.shelf.lowest_of.Goals as goal
 
 pub loop-e-preserved : goal.loop-e-preserved

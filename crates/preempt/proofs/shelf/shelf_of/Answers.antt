@@ -5,7 +5,7 @@ use Rattle.fuxi_terms.proofs.ByPlace.{at_place-get_or}
 use Rattle.preempt.specs.Shelves.{IsLow, IsLoose}
 use Rattle.preempt.specs.Walks.{entry_on}
 use Rattle.preempt.proofs.Admitted.{walk_is}
-use Rattle.preempt.proofs.Shelving.{has_is, resources_few}
+use Rattle.preempt.proofs.ShelvesLemmas.{has_is, resources_few}
 use Rattle.preempt.proofs.shelf.shelf_of.Goals as goal
 
 pub returns-clause-shelf : goal.returns-clause-shelf

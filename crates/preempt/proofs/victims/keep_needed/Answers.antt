@@ -2,7 +2,7 @@ use Rattle.std.proofs.Common.{◌≡◌, ℕ, ◌+◌, ◌*◌, ◌<◌, [], ◌
 use Rattle.preempt.specs.declared.entry.Entry.{Entry}
 use Rattle.preempt.specs.Numbers.{total_in, part_in}
 use Rattle.preempt.specs.Given.{recounted}
-use Rattle.preempt.proofs.Linking.{AtKeeping, keeping_goes_on, total_push, part_push, total_first, part_first}
+use Rattle.preempt.proofs.CountedAsWritten.{AtKeeping, keeping_goes_on, total_push, part_push, total_first, part_first}
 use Rattle.preempt.proofs.victims.keep_needed.Goals as goal
 
 pub loop-e-preserved : goal.loop-e-preserved

@@ -4,7 +4,7 @@ use Rattle.fuxi_terms.specs.Keys.{Spot}
 use Rattle.grant_table.specs.Tables.{TableRecord}
 use Rattle.preempt.specs.Given.{IsNeed, IsEntry}
 use Rattle.preempt.specs.Numbers.{total_in, part_in}
-use Rattle.preempt.proofs.Linking.{AtKeeping}
+use Rattle.preempt.proofs.CountedAsWritten.{AtKeeping}
 use Rattle.preempt.proofs.victims.keep_needed.Given as goal
 
 abbrev pub invariant-loop-e : goal.invariant-loop-e

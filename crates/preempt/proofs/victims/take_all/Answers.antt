@@ -3,7 +3,7 @@ use Rattle.preempt.specs.declared.entry.Entry.{Entry}
 use Rattle.preempt.specs.Given.{recounted}
 use Rattle.preempt.specs.Numbers.{total_in}
 use Rattle.preempt.specs.Parts.{no_sums, ArePartsOf}
-use Rattle.preempt.proofs.Linking.{AtTaking, taking_starts, taking_goes_on, total_push, parts_more, parts_start, zeros_at}
+use Rattle.preempt.proofs.CountedAsWritten.{AtTaking, taking_starts, taking_goes_on, total_push, parts_more, parts_start, zeros_at}
 use Rattle.preempt.proofs.victims.take_all.Goals as goal
 
 pub loop-e-init : goal.loop-e-init

@@ -4,7 +4,7 @@ use Rattle.grant_table.specs.Tables.{TableRecord}
 use Rattle.preempt.specs.Given.{AreGiven}
 use Rattle.preempt.specs.Numbers.{total_in}
 use Rattle.preempt.specs.Parts.{ArePartsOf}
-use Rattle.preempt.proofs.Linking.{AtTaking}
+use Rattle.preempt.proofs.CountedAsWritten.{AtTaking}
 use Rattle.preempt.proofs.victims.take_all.Given as goal
 
 abbrev pub invariant-loop-e : goal.invariant-loop-e

@@ -3,30 +3,22 @@ use Rattle.std.specs.List.{list_any, AllByRecursion}
 use Rattle.fuxi_terms.specs.Keys.{Spot}
 use Rattle.grant_table.specs.Tables.{TableRecord}
 use Rattle.preempt.specs.Given.{victim_of, AreGiven, IsEntry, IsKept}
-use Rattle.preempt.specs.Numbers.{total_in, part_in, has_grants}
+use Rattle.preempt.specs.Numbers.{has_grants}
 use Rattle.preempt.specs.Plans.{AreTakable, losers_of}
-use Rattle.preempt.proofs.Finding.{IsReady, not_enough, none_taken, some_found}
+use Rattle.preempt.proofs.FoundPlans.{is_ready, not_enough, none_taken, some_found}
 use Rattle.preempt.proofs.Takable.{takable, losers_are}
 use Rattle.preempt.proofs.victims.victims_on.Goals as goal
 
 pub returns-then-not-are_enough-clause-found : goal.returns-then-not-are_enough-clause-found
 returns-then-not-are_enough-clause-found c = λ t s given sound.
     let set = c.take_all.new.set.items in
-    let ready : IsReady t s c.args.entries.now set c.args.need.now c.args.groups.now c.total_of-all.result c.part_of-own.result = record {
-      few = c.requires.resources;
-      sums_are = λ i lt. c.total_of-all.ensures.is i lt ∙ ap (λ x. total_in i x) c.deref.ensures.value;
-      own_are = λ i lt. c.part_of-own.ensures.is i lt ∙ ap (λ x. part_in c.args.need.now.group i x) c.deref-2.ensures.value;
-    } in
+    let ready = is_ready t s c.args.entries.now set c.args.need.now c.args.groups.now c.total_of-all.result c.part_of-own.result c.requires.resources _ _ c.deref.ensures.value c.deref-2.ensures.value c.total_of-all.ensures.is c.part_of-own.ensures.is in
     not_enough t s c.args.entries.now set c.args.need.now c.args.groups.now c.total_of-all.result c.part_of-own.result ready given sound.counts.sorted (c.in_ok-take_all.ensures.is t s given) (sym c.are_enough.ensures ∙ c.if-not-are_enough.true)
 
 pub returns-then-not-has_any-clause-found : goal.returns-then-not-has_any-clause-found
 returns-then-not-has_any-clause-found c = λ t s given sound.
     let set = c.take_all.new.set.items in
-    let ready : IsReady t s c.args.entries.now set c.args.need.now c.args.groups.now c.total_of-all.result c.part_of-own.result = record {
-      few = c.requires.resources;
-      sums_are = λ i lt. c.total_of-all.ensures.is i lt ∙ ap (λ x. total_in i x) c.deref.ensures.value;
-      own_are = λ i lt. c.part_of-own.ensures.is i lt ∙ ap (λ x. part_in c.args.need.now.group i x) c.deref-2.ensures.value;
-    } in
+    let ready = is_ready t s c.args.entries.now set c.args.need.now c.args.groups.now c.total_of-all.result c.part_of-own.result c.requires.resources _ _ c.deref.ensures.value c.deref-2.ensures.value c.total_of-all.ensures.is c.part_of-own.ensures.is in
     none_taken t s c.args.entries.now set c.args.need.now c.args.groups.now c.total_of-all.result c.part_of-own.result ready given sound.counts.sorted (c.in_ok-take_all.ensures.is t s given)
     (ap (λ x. list_any has_grants x) (sym c.deref-3.ensures.value) ∙ (sym c.has_any.ensures ∙ c.if-not-has_any.true))
 
@@ -39,11 +31,7 @@ kept_is c t s given =
 pub returns-clause-found : goal.returns-clause-found
 returns-clause-found c = λ t s given sound.
     let set = c.take_all.new.set.items in
-    let ready : IsReady t s c.args.entries.now set c.args.need.now c.args.groups.now c.total_of-all.result c.part_of-own.result = record {
-      few = c.requires.resources;
-      sums_are = λ i lt. c.total_of-all.ensures.is i lt ∙ ap (λ x. total_in i x) c.deref.ensures.value;
-      own_are = λ i lt. c.part_of-own.ensures.is i lt ∙ ap (λ x. part_in c.args.need.now.group i x) c.deref-2.ensures.value;
-    } in
+    let ready = is_ready t s c.args.entries.now set c.args.need.now c.args.groups.now c.total_of-all.result c.part_of-own.result c.requires.resources _ _ c.deref.ensures.value c.deref-2.ensures.value c.total_of-all.ensures.is c.part_of-own.ensures.is in
     let taken = c.in_ok-take_all.ensures.is t s given in
     let kept = c.in_ok-kept.kept.items in
     let some = c.in_ok-victims_of.ensures ∙ ap (λ x. map victim_of (filter has_grants x)) c.deref-5.ensures.value in

@@ -1,6 +1,6 @@
 use Rattle.std.proofs.Common.{◌++◌, length, sym, ◌∙◌, ap}
 use Rattle.preempt.specs.Walks.{units_in}
-use Rattle.preempt.proofs.Walking.{units_more}
+use Rattle.preempt.proofs.UnitSteps.{units_more}
 use Rattle.preempt.proofs.walk.all_units.Goals as goal
 
 pub loop-index-preserved : goal.loop-index-preserved

@@ -1,5 +1,5 @@
 use Rattle.std.proofs.Common.{refl}
-use Rattle.preempt.proofs.Walking.{entry_found}
+use Rattle.preempt.proofs.UnitSteps.{entry_found}
 use Rattle.schedule_unit.specs.Units.{unit_record}
 use Rattle.preempt.proofs.walk.entry_of.Goals as goal
 

@@ -3,7 +3,7 @@ use Rattle.std.proofs.lemmas.Bool.Decides.{nat_tests}
 use Rattle.std.specs.Global.{Vec}
 use Rattle.preempt.specs.declared.entry.Entry.{Entry}
 use Rattle.preempt.specs.Walks.{backward, of_priority}
-use Rattle.preempt.proofs.Walking.{backward_step}
+use Rattle.preempt.proofs.UnitSteps.{backward_step}
 use Rattle.preempt.proofs.walk.push_priority.Goals as goal
 use Rattle.preempt.proofs.walk.push_priority.Goals.{then-e-priority+in_ok-push, else-e-priority}
 

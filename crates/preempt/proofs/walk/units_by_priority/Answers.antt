@@ -4,7 +4,7 @@ use Rattle.fuxi_terms.specs.Jobs.{priority_of}
 use Rattle.grant_table.specs.Tables.{as_known}
 use Rattle.preempt.specs.Given.{IsEntry, pair_of}
 use Rattle.preempt.specs.Walks.{entries_by_priority, pairs_by_priority}
-use Rattle.preempt.proofs.Walking.{pairs_ordered, all_ordered, ordered_few}
+use Rattle.preempt.proofs.UnitSteps.{pairs_ordered, all_ordered, ordered_few}
 use Rattle.preempt.proofs.walk.units_by_priority.Goals as goal
 
 pub returns-clause-pairs : goal.returns-clause-pairs

@@ -4,7 +4,7 @@ use Rattle.fuxi_terms.specs.Lists.{below}
 use Rattle.written_world.specs.Show.{show_agent}
 use Rattle.running_state.specs.Parts.{machine_lines, show_agents}
 use Rattle.schedule_text.specs.Lines.{line_text}
-use Rattle.written_state.proofs.ShowsLemmas.{shows_same}
+use Rattle.written_join.proofs.ShowsLemmas.{shows_same}
 use Rattle.running_state.proofs.Walks.{each_below}
 use Rattle.running_state.proofs.Whole.{no_agent_beyond}
 use Rattle.running_state.proofs.agents.write_agents.Goals as goal

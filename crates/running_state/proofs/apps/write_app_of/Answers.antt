@@ -4,7 +4,7 @@ use Rattle.std.specs.FinMap.Entries.{find}
 use Rattle.fuxi_terms.specs.Lists.{below}
 use Rattle.written_world.specs.Show.{show_app}
 use Rattle.written_join.specs.Seen.{app_seen}
-use Rattle.written_state.specs.States.{app_lines}
+use Rattle.written_join.specs.States.{app_lines}
 use Rattle.running_apps.specs.Running.{AppRunsAs, AppStandsAt}
 use Rattle.running_state.proofs.Found.{shows_found, shows_none}
 use Rattle.running_state.proofs.apps.write_app_of.Goals as goal

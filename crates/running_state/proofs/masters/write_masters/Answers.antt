@@ -8,7 +8,7 @@ use Rattle.written_join.specs.Seen.{master_seen}
 use Rattle.fuxi_master.specs.Cores.{MasterRecord}
 use Rattle.running_state.specs.Parts.{epoch_lines, show_masters}
 use Rattle.schedule_text.specs.Lines.{line_text}
-use Rattle.written_state.proofs.ShowsLemmas.{shows_same, shows_one, shows_all, begins_then}
+use Rattle.written_join.proofs.ShowsLemmas.{shows_same, shows_one, shows_all, begins_then}
 use Rattle.running_state.proofs.Found.{shows_found}
 use Rattle.running_state.proofs.Walks.{each_key}
 use Rattle.running_state.proofs.masters.write_masters.Goals as goal

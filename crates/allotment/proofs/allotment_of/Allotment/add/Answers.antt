@@ -8,8 +8,8 @@ use Rattle.fuxi_terms.specs.Tables.{total_at}
 use Rattle.grant_table.specs.Tables.{TableRecord, as_known, with_count}
 use Rattle.place_pass.specs.Best.{spot_of}
 use Rattle.allotment.specs.Allotted.{AllotmentRecord, Adds, told_at}
-use Rattle.allotment.proofs.Granting.{adds_told}
-use Rattle.allotment.proofs.Planning.{if_ok}
+use Rattle.allotment.proofs.AddsLemmas.{adds_told}
+use Rattle.allotment.proofs.PlanBoards.{if_ok}
 use Rattle.allotment.proofs.allotment_of.Allotment.add.Goals as goal
 
 pub add-requires-clause-room : goal.add-requires-clause-room

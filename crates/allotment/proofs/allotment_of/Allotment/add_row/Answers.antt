@@ -4,7 +4,7 @@ use Rattle.std.specs.FinMap.Entries.{is_sorted}
 use Rattle.fuxi_terms.specs.Keys.{spot_cmp}
 use Rattle.party_ledgers.specs.Entries.{entry_of}
 use Rattle.allotment.specs.Allotted.{AllotmentRecord}
-use Rattle.allotment.proofs.Adopting.{adds_none, unit_there, few_there, room_there, adds_more}
+use Rattle.allotment.proofs.AddsRowLemmas.{adds_none, unit_there, few_there, room_there, adds_more}
 use Rattle.allotment.proofs.allotment_of.Allotment.add_row.Goals as goal
 
 sorted : (r x : AllotmentRecord) → r ≡ x → T (is_sorted spot_cmp r.table.entries) → T (is_sorted spot_cmp x.table.entries)

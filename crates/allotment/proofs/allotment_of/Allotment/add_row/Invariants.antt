@@ -1,5 +1,5 @@
 use Rattle.std.proofs.Common.{take}
-use Rattle.allotment.proofs.Adopting.{AddsSome}
+use Rattle.allotment.proofs.AddsRowLemmas.{AddsSome}
 use Rattle.allotment.proofs.allotment_of.Allotment.add_row.Given as goal
 
 abbrev pub invariant-loop-index : goal.invariant-loop-index

@@ -6,9 +6,9 @@ use Rattle.written_roles.specs.HardState.{with_job}
 use Rattle.written_roles.specs.Placing.{has_pair}
 use Rattle.grant_table.specs.Tables.{TableRecord, as_known}
 use Rattle.place_pass.specs.Placers.{SeenRecord}
-use Rattle.settling.specs.Placing.{IsPlacing}
+use Rattle.allotment.specs.PlacingReads.{IsPlacing}
 use Rattle.allotment.specs.Allotted.{AllotmentRecord, AllWait}
-use Rattle.allotment.proofs.Admitting.{admitted_placing}
+use Rattle.allotment.proofs.AdmittedStands.{admitted_placing}
 use Rattle.allotment.proofs.allotment_of.Allotment.admit.Goals as goal
 
 pub returns-clause-stands : goal.returns-clause-stands

@@ -2,7 +2,7 @@ use Rattle.std.proofs.Common.{List, ◌≡◌, ◌∙◌, ap, subst}
 use Rattle.written_roles.specs.Placing.{line_up}
 use Rattle.grant_table.specs.Tables.{TableRecord}
 use Rattle.allotment.specs.Allotted.{Allots, rows_put}
-use Rattle.allotment.proofs.Clearing.{touched_still}
+use Rattle.allotment.proofs.ClearsLemmas.{touched_still}
 use Rattle.allotment.proofs.allotment_of.Allotment.adopt.Goals as goal
 
 pub returns-clause-stands : goal.returns-clause-stands

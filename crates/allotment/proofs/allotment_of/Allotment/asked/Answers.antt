@@ -1,8 +1,8 @@
 use Rattle.std.proofs.Common.{sym, subst, ap}
 use Rattle.place_pass.specs.Placers.{SeenRecord}
-use Rattle.settling.specs.Placing.{IsPlacing}
+use Rattle.allotment.specs.PlacingReads.{IsPlacing}
 use Rattle.allotment.specs.Allotted.{AllotmentRecord}
-use Rattle.allotment.proofs.Asking.{asked_placing}
+use Rattle.allotment.proofs.AskedStands.{asked_placing}
 use Rattle.allotment.proofs.allotment_of.Allotment.asked.Goals as goal
 
 pub returns-clause-stands : goal.returns-clause-stands

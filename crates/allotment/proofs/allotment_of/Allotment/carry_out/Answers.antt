@@ -11,7 +11,7 @@ use Rattle.grant_table.specs.Tables.{TableRecord, as_known}
 use Rattle.place_pass.specs.Best.{spot_of}
 use Rattle.preempt.specs.Plans.{without_victims}
 use Rattle.allotment.specs.Allotted.{AllotmentRecord, Allots}
-use Rattle.allotment.proofs.Clearing.{touched_again, touched_still}
+use Rattle.allotment.proofs.ClearsLemmas.{touched_again, touched_still}
 use Rattle.allotment.proofs.allotment_of.Allotment.carry_out.Goals as goal
 
 pub add-requires-clause-room : goal.add-requires-clause-room

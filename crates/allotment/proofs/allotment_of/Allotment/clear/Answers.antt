@@ -1,7 +1,7 @@
 use Rattle.std.proofs.Common.{◌≡◌, sym, ◌∙◌, ap}
 use Rattle.fuxi_terms.specs.Tables.{held_on}
 use Rattle.allotment.specs.Allotted.{AllotmentRecord}
-use Rattle.allotment.proofs.Clearing.{cleared_spot, cleared_already, if_ok_five}
+use Rattle.allotment.proofs.ClearsLemmas.{cleared_spot, cleared_already, if_ok_five}
 use Rattle.allotment.proofs.allotment_of.Allotment.clear.Goals as goal
 
 pub returns : goal.returns

@@ -4,10 +4,17 @@ use Rattle.fuxi_terms.specs.Cluster.{ClusterRecord, JobRecord}
 use Rattle.fuxi_terms.specs.Jobs.{unit_count}
 use Rattle.grant_table.specs.Tables.{TableRecord, IsSound, as_known}
 use Rattle.allotment.specs.Allotted.{AllotmentRecord, Clears}
-use Rattle.allotment.proofs.Clearing.{cleared_as, cleared_both, cleared_none}
+use Rattle.allotment.proofs.ClearsLemmas.{cleared_as, cleared_both, cleared_none}
 use Rattle.allotment.proofs.Cleared.{LeftWithout, is_admitted, machine_more, none_on, job_left}
 use Rattle.allotment.proofs.allotment_of.Allotment.clear_job.Goals as goal
 use Rattle.allotment.proofs.allotment_of.Allotment.clear_job.Goals.{After-cluster-after}
+
+pub loop-number-preserved-then-not-holds_any : goal.loop-number-preserved-then-not-holds_any
+loop-number-preserved-then-not-holds_any c =
+    let n = c.loop-number.number in
+    let a = c.args.app.0 in
+    let none = subst (λ (js : List JobRecord). Clears (λ s. nat_eq s.job a && (nat_lt s.unit (unit_count (as_known js) a) && nat_eq s.machine n)) c.loop-number.left c.loop-number.left) (ap (λ (t : TableRecord). t.jobs) c.loop-number.invariant.table) (c.holds_any.ensures c.if-not-holds_any.true) in
+    cleared_as _ _ _ _ (machine_more c.args.self.table a n) (cleared_both _ _ _ _ _ c.loop-number.invariant none)
 
 pub loop-number-preserved : goal.loop-number-preserved
 loop-number-preserved c =

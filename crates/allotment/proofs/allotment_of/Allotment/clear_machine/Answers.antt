@@ -4,7 +4,7 @@ use Rattle.fuxi_terms.specs.Cluster.{JobRecord}
 use Rattle.fuxi_terms.specs.Jobs.{unit_count}
 use Rattle.grant_table.specs.Tables.{TableRecord, IsSound, as_known}
 use Rattle.allotment.specs.Allotted.{AllotmentRecord, Clears}
-use Rattle.allotment.proofs.Clearing.{cleared_as, cleared_both}
+use Rattle.allotment.proofs.ClearsLemmas.{cleared_as, cleared_both}
 use Rattle.allotment.proofs.Cleared.{LeftWithout, is_admitted, job_more, machine_left}
 use Rattle.allotment.proofs.allotment_of.Allotment.clear_machine.Goals as goal
 use Rattle.allotment.proofs.allotment_of.Allotment.clear_machine.Goals.{After-cluster-after}

@@ -3,7 +3,7 @@ use Rattle.std.specs.Prelude.{◌&&◌}
 use Rattle.fuxi_terms.specs.Jobs.{unit_count}
 use Rattle.grant_table.specs.Tables.{as_known}
 use Rattle.allotment.specs.Allotted.{AllotmentRecord, Clears}
-use Rattle.allotment.proofs.Clearing.{cleared_as, cleared_both, unit_more, table_units_few}
+use Rattle.allotment.proofs.ClearsLemmas.{cleared_as, cleared_both, unit_more, table_units_few}
 use Rattle.allotment.proofs.allotment_of.Allotment.clear_units.Goals as goal
 
 pub loop-number-preserved : goal.loop-number-preserved
@@ -13,9 +13,5 @@ pub returns : goal.returns
 returns c =
     let same = ap (λ (x : AllotmentRecord). unit_count (as_known x.table.jobs) c.args.app.0) c.self.view_is in
     let few = table_units_few c.self.inside.table.jobs c.self.invariant.sound.in_order c.args.app.0 in
-    let number = c.units-units.ensures.number in
-    let end = c.min-number-end.ensures in
-    let over = c.loop-number-test.false in
-    let most = c.loop-number.auto.number-end in
-    let all : c.loop-number.number ≡ unit_count (as_known c.args.self.table.jobs) c.args.app.0 = omega (arith, same, few, number, end, over, most) in
+    let all : c.loop-number.number ≡ unit_count (as_known c.args.self.table.jobs) c.args.app.0 = omega (arith, same, few, c.units-units.ensures.number, c.min-number-end.ensures, c.loop-number-test.false, c.loop-number.auto.number-end) in
     subst (λ n. Clears (λ s. nat_eq s.job c.args.app.0 && (nat_lt s.unit n && nat_eq s.machine c.args.machine.0)) c.args.self c.loop-number.left) all c.loop-number.invariant

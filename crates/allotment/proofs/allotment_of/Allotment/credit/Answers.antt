@@ -3,8 +3,8 @@ use Rattle.std.proofs.lemmas.List.{take_all}
 use Rattle.std.proofs.lemmas.Option.{slice_get-get_or}
 use Rattle.fuxi_terms.specs.declared.Key.{Key}
 use Rattle.allotment.specs.Allotted.{CreditsBack}
-use Rattle.allotment.proofs.Crediting.{credits_more}
-use Rattle.allotment.proofs.Taking.{takes_again}
+use Rattle.allotment.proofs.CreditsBackLemmas.{credits_more}
+use Rattle.allotment.proofs.OnlyTakesLemmas.{takes_again}
 use Rattle.allotment.proofs.allotment_of.Allotment.credit.Goals as goal
 
 pub loop-index-preserved : goal.loop-index-preserved

@@ -4,8 +4,8 @@ use Rattle.fuxi_terms.specs.Jobs.{unit_count}
 use Rattle.fuxi_terms.specs.Tables.{held_on}
 use Rattle.grant_table.specs.Tables.{as_known}
 use Rattle.allotment.specs.Allotted.{AllotmentRecord}
-use Rattle.allotment.proofs.Clearing.{if_ok_four}
-use Rattle.allotment.proofs.Crediting.{credits_passed, credits_taken}
+use Rattle.allotment.proofs.ClearsLemmas.{if_ok_four}
+use Rattle.allotment.proofs.CreditsBackLemmas.{credits_passed, credits_taken}
 use Rattle.std.proofs.lemmas.Bool.Decides.{nat_tests}
 use Rattle.fuxi_terms.proofs.Booleans.{false_and, false_right}
 use Rattle.allotment.proofs.allotment_of.Allotment.credit_one.Goals.{then-key-ne-BACK-via-then-key-ne-BACK, then-key-ne-BACK-via-else-key-ne-BACK+then-key-units, then-key-ne-BACK-via-else-key-ne-BACK+else-key-units+then-key-machines}

@@ -9,9 +9,9 @@ use Rattle.written_roles.specs.Preemption.{plan_in}
 use Rattle.place_pass.specs.Placers.{IsUpToDate, usable_in}
 use Rattle.preempt.specs.declared.plan.Plan.{Plan}
 use Rattle.preempt.specs.Plans.{IsBoardOf, plan_as}
-use Rattle.settling.specs.Placing.{IsPlacing}
+use Rattle.allotment.specs.PlacingReads.{IsPlacing}
 use Rattle.allotment.specs.Allotted.{AllotmentRecord}
-use Rattle.allotment.proofs.Planning.{line_admitted, planned, served_waits}
+use Rattle.allotment.proofs.PlanBoards.{line_admitted, planned, served_waits}
 use Rattle.allotment.proofs.allotment_of.Allotment.plan.Goals as goal
 
 pub find-requires : goal.find-requires

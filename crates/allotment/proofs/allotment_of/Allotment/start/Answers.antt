@@ -1,8 +1,8 @@
 use Rattle.std.proofs.Common.{sym, subst}
 use Rattle.grant_table.specs.Tables.{TableRecord}
 use Rattle.place_pass.specs.Placers.{SeenRecord}
-use Rattle.settling.specs.Placing.{IsPlacing}
-use Rattle.allotment.proofs.Starting.{starts, first_table}
+use Rattle.allotment.specs.PlacingReads.{IsPlacing}
+use Rattle.allotment.proofs.StartStands.{starts, first_table}
 use Rattle.allotment.proofs.allotment_of.Allotment.start.Goals as goal
 
 pub returns-clause-stands : goal.returns-clause-stands

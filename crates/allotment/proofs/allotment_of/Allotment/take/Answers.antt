@@ -9,8 +9,8 @@ use Rattle.grant_table.specs.Tables.{TableRecord, without_count}
 use Rattle.place_pass.specs.Best.{spot_of}
 use Rattle.allotment.specs.Allotted.{AllotmentRecord, Allots, told_at}
 use Rattle.allotment.proofs.Fewer.{IsFewer, fewer_told}
-use Rattle.allotment.proofs.Planning.{if_ok}
-use Rattle.allotment.proofs.Taking.{takes_some, none_fewer}
+use Rattle.allotment.proofs.PlanBoards.{if_ok}
+use Rattle.allotment.proofs.OnlyTakesLemmas.{takes_some, none_fewer}
 use Rattle.allotment.proofs.allotment_of.Allotment.take.Goals as goal
 use Rattle.allotment.proofs.allotment_of.Allotment.take.Goals.{After-cluster-sound}
 

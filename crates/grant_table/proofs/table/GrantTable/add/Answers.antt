@@ -6,8 +6,8 @@ use Rattle.fuxi_terms.specs.Tables.{spot, held_on, total_at}
 use Rattle.fuxi_terms.specs.declared.vectors.Res.{Res}
 use Rattle.grant_table.specs.Tables.{TableRecord, Cell, cell_of, cell_at, cells_of, with_cell, with_count, raised, entries_in, loads_of, as_known, IsLevel}
 use Rattle.grant_table.proofs.Totals.{in_rack_within}
-use Rattle.grant_table.proofs.Setting.{set_level}
-use Rattle.grant_table.proofs.Changing.{load_at, rack_is, there_from, us, rack_there, held_few, size_is, group_there, load_room, usage_room, may_add, added_entries}
+use Rattle.grant_table.proofs.SetTotals.{set_level}
+use Rattle.grant_table.proofs.ChangedCounts.{load_at, usage_read, rack_is, there_from, us, rack_there, held_few, size_is, load_room, usage_room, may_add, added_entries}
 use Rattle.grant_table.proofs.table.GrantTable.add.Goals as goal
 
 pub raise_at-requires-clause-rack : goal.raise_at-requires-clause-rack
@@ -59,9 +59,7 @@ with_more-requires-2 c =
     let room = subst (λ (t : TableRecord). (i : ℕ) → total_at (as_known t.jobs) c.args.machine.0 i t.entries + c.args.count * size_at (as_known t.jobs) c.args.app.0 c.args.unit.0 i ≤ has_at t.cluster c.args.machine.0 i) (sym c.self.view_is) c.requires.room in
     let cell : cell_of c.holding_at-holding.result.now ≡ cell_at (cells_of c.self.inside.slots.items) c.args.app.0 c.args.unit.0 = rw (← c.deref.ensures.value) c.holding_at-holding.ensures in
     let group : c.holding_at-holding.result.now.group.0 ≡ group_of (as_known c.self.inside.jobs.items) c.args.app.0 = ap (λ (x : Cell). x.group) cell ∙ (us _ _ _ _ _ _ _ _ h).grouped in
-    let small = group_there _ _ _ _ _ _ _ _ h in
-    let there : c.holding_at-holding.result.now.group.0 < length c.self.inside.usages.items = let n = c.self.invariant.groups in let l = length-map c.self.inside.usages.items (λ (r : Res). r.q) in omega (arith, group, small, n, l) in
-    let load = load_at c.self.inside.usages.items c.holding_at-holding.result.now.group.0 c.index_mut-usage.result.now there c.index_mut-usage.ensures.value in
+    let load = usage_read _ _ _ _ c.self.inside.usages.items _ _ _ h c.holding_at-holding.result.now.group.0 group c.index_mut-usage.result.now c.index_mut-usage.ensures.value in
     let size : (i : ℕ) → get_or c.holding_at-holding.result.now.size.q i 0 ≡ size_at (as_known c.self.inside.jobs.items) c.args.app.0 c.args.unit.0 i = λ i. ap (λ (x : Cell). get_or x.size i 0) cell ∙ size_is _ _ _ _ _ _ _ _ h i in
     λ i.
     let r = usage_room _ _ _ _ _ _ _ _ h c.args.count few room i in
@@ -77,11 +75,9 @@ invariant_of-self c =
     let room = subst (λ (t : TableRecord). (i : ℕ) → total_at (as_known t.jobs) c.args.machine.0 i t.entries + c.args.count * size_at (as_known t.jobs) c.args.app.0 c.args.unit.0 i ≤ has_at t.cluster c.args.machine.0 i) (sym c.self.view_is) c.requires.room in
     let cell : cell_of c.holding_at-holding.result.now ≡ cell_at (cells_of c.self.inside.slots.items) c.args.app.0 c.args.unit.0 = rw (← c.deref.ensures.value) c.holding_at-holding.ensures in
     let group : c.holding_at-holding.result.now.group.0 ≡ group_of (as_known c.self.inside.jobs.items) c.args.app.0 = ap (λ (x : Cell). x.group) cell ∙ (us _ _ _ _ _ _ _ _ h).grouped in
-    let small = group_there _ _ _ _ _ _ _ _ h in
-    let there : c.holding_at-holding.result.now.group.0 < length c.self.inside.usages.items = let n = c.self.invariant.groups in let l = length-map c.self.inside.usages.items (λ (r : Res). r.q) in omega (arith, group, small, n, l) in
     let here = subst (λ n. c.args.machine.0 < n) (sym c.self.invariant.machines ∙ length-map c.self.inside.used.items _) h.machine in
     let load = load_at c.self.inside.used.items c.args.machine.0 c.index_mut-used.result.now here c.index_mut-used.ensures.value in
-    let usage = load_at c.self.inside.usages.items c.holding_at-holding.result.now.group.0 c.index_mut-usage.result.now there c.index_mut-usage.ensures.value in
+    let usage = usage_read _ _ _ _ c.self.inside.usages.items _ _ _ h c.holding_at-holding.result.now.group.0 group c.index_mut-usage.result.now c.index_mut-usage.ensures.value in
     let size : (i : ℕ) → get_or c.holding_at-holding.result.now.size.q i 0 ≡ size_at (as_known c.self.inside.jobs.items) c.args.app.0 c.args.unit.0 i = λ i. ap (λ (x : Cell). get_or x.size i 0) cell ∙ size_is _ _ _ _ _ _ _ _ h i in
     let q : (i : ℕ) → get_or c.with_more.result.q i 0 ≡ get_or (get_or (loads_of c.self.inside.used.items) c.args.machine.0 []) i 0 + c.args.count * size_at (as_known c.self.inside.jobs.items) c.args.app.0 c.args.unit.0 i = λ i.
     c.with_more.ensures i ∙ (λ j. get_or (sym load j) i 0 + c.args.count * size i j) in

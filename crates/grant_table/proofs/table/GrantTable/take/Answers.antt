@@ -4,8 +4,8 @@ use Rattle.fuxi_terms.specs.Jobs.{size_at, group_of}
 use Rattle.fuxi_terms.specs.Tables.{spot, held_on}
 use Rattle.fuxi_terms.specs.declared.vectors.Res.{Res}
 use Rattle.grant_table.specs.Tables.{TableRecord, Cell, cell_of, cell_at, cells_of, with_cell, lowered, entries_in, loads_of, as_known, without_count, IsLevel}
-use Rattle.grant_table.proofs.Setting.{set_level}
-use Rattle.grant_table.proofs.Changing.{load_at, rack_is, there_from, us, rack_there, part_held, part_rack, fewer, size_is, group_there, taken_load, taken_usage, may_take, taken_entries}
+use Rattle.grant_table.proofs.SetTotals.{set_level}
+use Rattle.grant_table.proofs.ChangedCounts.{load_at, usage_read, rack_is, there_from, us, rack_there, part_held, part_rack, fewer, size_is, taken_load, taken_usage, may_take, taken_entries}
 use Rattle.grant_table.proofs.table.GrantTable.take.Goals as goal
 
 pub lower_at-requires-clause-rack : goal.lower_at-requires-clause-rack
@@ -58,9 +58,7 @@ without-requires-2 c =
     let held = subst (λ (t : TableRecord). c.args.count ≤ held_on t.entries c.args.app.0 c.args.unit.0 c.args.machine.0) (sym c.self.view_is) c.requires.held in
     let cell : cell_of c.holding_at-holding.result.now ≡ cell_at (cells_of c.self.inside.slots.items) c.args.app.0 c.args.unit.0 = rw (← c.deref.ensures.value) c.holding_at-holding.ensures in
     let group : c.holding_at-holding.result.now.group.0 ≡ group_of (as_known c.self.inside.jobs.items) c.args.app.0 = ap (λ (x : Cell). x.group) cell ∙ (us _ _ _ _ _ _ _ _ h).grouped in
-    let small = group_there _ _ _ _ _ _ _ _ h in
-    let there : c.holding_at-holding.result.now.group.0 < length c.self.inside.usages.items = let n = c.self.invariant.groups in let l = length-map c.self.inside.usages.items (λ (r : Res). r.q) in omega (arith, group, small, n, l) in
-    let usage = load_at c.self.inside.usages.items c.holding_at-holding.result.now.group.0 c.index_mut-usage.result.now there c.index_mut-usage.ensures.value in
+    let usage = usage_read _ _ _ _ c.self.inside.usages.items _ _ _ h c.holding_at-holding.result.now.group.0 group c.index_mut-usage.result.now c.index_mut-usage.ensures.value in
     let size : (i : ℕ) → get_or c.holding_at-holding.result.now.size.q i 0 ≡ size_at (as_known c.self.inside.jobs.items) c.args.app.0 c.args.unit.0 i = λ i. ap (λ (x : Cell). get_or x.size i 0) cell ∙ size_is _ _ _ _ _ _ _ _ h i in
     λ i.
     let t = taken_usage _ _ _ _ _ _ _ _ h c.args.count held i in
@@ -73,9 +71,7 @@ invariant_of-self c =
     let held = subst (λ (t : TableRecord). c.args.count ≤ held_on t.entries c.args.app.0 c.args.unit.0 c.args.machine.0) (sym c.self.view_is) c.requires.held in
     let cell : cell_of c.holding_at-holding.result.now ≡ cell_at (cells_of c.self.inside.slots.items) c.args.app.0 c.args.unit.0 = rw (← c.deref.ensures.value) c.holding_at-holding.ensures in
     let group : c.holding_at-holding.result.now.group.0 ≡ group_of (as_known c.self.inside.jobs.items) c.args.app.0 = ap (λ (x : Cell). x.group) cell ∙ (us _ _ _ _ _ _ _ _ h).grouped in
-    let small = group_there _ _ _ _ _ _ _ _ h in
-    let there : c.holding_at-holding.result.now.group.0 < length c.self.inside.usages.items = let n = c.self.invariant.groups in let l = length-map c.self.inside.usages.items (λ (r : Res). r.q) in omega (arith, group, small, n, l) in
-    let usage = load_at c.self.inside.usages.items c.holding_at-holding.result.now.group.0 c.index_mut-usage.result.now there c.index_mut-usage.ensures.value in
+    let usage = usage_read _ _ _ _ c.self.inside.usages.items _ _ _ h c.holding_at-holding.result.now.group.0 group c.index_mut-usage.result.now c.index_mut-usage.ensures.value in
     let here = subst (λ n. c.args.machine.0 < n) (sym c.self.invariant.machines ∙ length-map c.self.inside.used.items _) h.machine in
     let load = load_at c.self.inside.used.items c.args.machine.0 c.index_mut-used.result.now here c.index_mut-used.ensures.value in
     let size : (i : ℕ) → get_or c.holding_at-holding.result.now.size.q i 0 ≡ size_at (as_known c.self.inside.jobs.items) c.args.app.0 c.args.unit.0 i = λ i. ap (λ (x : Cell). get_or x.size i 0) cell ∙ size_is _ _ _ _ _ _ _ _ h i in

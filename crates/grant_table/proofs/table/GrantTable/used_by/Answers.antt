@@ -4,7 +4,7 @@ use Rattle.fuxi_terms.proofs.ByPlace.{at_place-get_or}
 use Rattle.fuxi_terms.specs.Tables.{usage_at}
 use Rattle.grant_table.specs.Tables.{TableRecord, as_known}
 use Rattle.grant_table.proofs.Bounds.{usage_small, usage_past}
-use Rattle.grant_table.proofs.Changing.{load_at}
+use Rattle.grant_table.proofs.ChangedCounts.{load_at}
 use Rattle.grant_table.proofs.table.GrantTable.used_by.Goals as goal
 
 pub returns-clause-used : goal.returns-clause-used

@@ -1,0 +1,102 @@
+-- What is given back is taken, entry by entry.
+use Rattle.std.proofs.Common.{◌≡◌, ℕ, ◌+◌, ◌-◌, ◌<◌, min, Bool, true, false, cond, nat_eq, nat_lt, List, [], ◌∷◌, ◌++◌, length, filter, take, Some, slice_get, refl, sym, ◌∙◌, ap, subst, arith}
+use Rattle.std.specs.Prelude.{◌&&◌, ◌||◌}
+use Rattle.std.proofs.lemmas.Bool.Decides.{nat_tests}
+use Rattle.std.proofs.lemmas.List.Elements.{filter-append}
+use Rattle.fuxi_terms.specs.Cluster.{ClusterRecord, has_rack, has_machine}
+use Rattle.fuxi_terms.specs.declared.Key.{Key}
+use Rattle.fuxi_terms.specs.Counts.{count, set_count}
+use Rattle.fuxi_terms.specs.Jobs.{unit_count}
+use Rattle.fuxi_terms.specs.Keys.{Spot, key_cmp, spot_cmp}
+use Rattle.fuxi_terms.specs.TallyKeys.{credited_key}
+use Rattle.fuxi_terms.specs.Tables.{spot, held_on}
+use Rattle.fuxi_terms.proofs.Booleans.{and_true, both_true, number_is}
+use Rattle.fuxi_terms.proofs.Lists.{take_last}
+use Rattle.written_roles.specs.Masters.{Master}
+use Rattle.written_roles.specs.MasterSteps.{credit, is_there}
+use Rattle.grant_table.specs.Tables.{TableRecord, as_known, without_count}
+use Rattle.allotment.specs.Allotted.{AllotmentRecord, Allots, AllWait, Touches, CreditsBack}
+use Rattle.allotment.proofs.AskedStands.{same_units}
+use Rattle.allotment.proofs.ClearsLemmas.{touched_again, untouched}
+
+credit_behind : (a : ℕ) (cs es fs : List (Key × ℕ)) (t : List (Spot × ℕ)) → credit a cs (es ++ fs) t ≡ credit a cs fs (credit a cs es t)
+credit_behind a cs [] fs t = refl
+credit_behind a cs (e ∷ es) fs t = credit_behind a cs es fs _
+
+pub credits_none : (a : ℕ) (g : List (Key × ℕ)) (x : AllotmentRecord) → AllWait x → CreditsBack a [] g x x
+credits_none a g x w = record { stands = λ c M cs h agree. h; waits = w; touches = untouched x; table = refl }
+
+pub credits_more : (a : ℕ) (es g : List (Key × ℕ)) (i : ℕ) (e : Key × ℕ) (x y z : AllotmentRecord) → slice_get es i ≡ Some e → CreditsBack a (take i es) g x y → CreditsBack a (e ∷ []) g y z → CreditsBack a (take (i + 1) es) g x z
+credits_more a es g i e x y z at before last = record {
+  stands = λ c M cs h agree.
+      let p : Key × ℕ → Bool = λ f. is_there c (unit_count M.jobs a) f.0 in
+      let all : filter p (take (i + 1) es) ≡ filter p (take i es) ++ filter p (e ∷ []) = ap (filter p) (take_last es i e at) ∙ filter-append p (take i es) (e ∷ []) in
+      subst (λ t. Allots z c (record M { table = t })) (sym (ap (λ fs. credit a cs fs M.table) all ∙ credit_behind a cs (filter p (take i es)) (filter p (e ∷ [])) M.table))
+      (last.stands c (record M { table = credit a cs (filter p (take i es)) M.table }) cs (before.stands c M cs h agree) agree);
+  waits = last.waits;
+  touches = touched_again x y z before.touches last.touches;
+  table = last.table ∙ ap (λ (t : TableRecord). record t { entries = z.table.entries }) before.table;
+}
+
+-- one entry, of a unit and a machine that are there
+module _ (a : ℕ) (g : List (Key × ℕ)) (k : Key) (n taken : ℕ) (x y : AllotmentRecord) (back : k.what ≡ 5) (unit : k.unit < unit_count (as_known x.table.jobs) a) (machine : k.number < length x.table.cluster.machines)
+    (fewer : taken ≡ min (n - count key_cmp g (credited_key k.unit k.number)) (held_on x.table.entries a k.unit k.number)) where
+  module _ (c : ClusterRecord) (M : Master) (cs : List (Key × ℕ)) (h : Allots x c M) (agree : (u m : ℕ) → count key_cmp cs (credited_key u m) ≡ count key_cmp g (credited_key u m)) where
+    there : is_there c (unit_count M.jobs a) k ≡ true
+    there =
+        let units = same_units (as_known x.table.jobs) M.jobs a (h.placing.jobs a) in
+        let u : nat_lt k.unit (unit_count M.jobs a) ≡ true = grind (arith, nat_tests, unit, units) in
+        let machines : length x.table.cluster.machines ≡ length c.machines = ap (λ (d : ClusterRecord). length d.machines) h.placing.cluster in
+        let m : nat_lt k.number (length c.machines) ≡ true = grind (arith, nat_tests, machine, machines) in
+        (λ i. nat_lt k.unit (unit_count M.jobs a) && (nat_eq (back i) 1 || cond (nat_eq (back i) 3) (has_rack c k.number) (has_machine c k.number))) ∙ and_true _ _ u m
+
+    same : min (n - count key_cmp cs (credited_key k.unit k.number)) (count spot_cmp M.table (spot a k.unit k.number)) ≡ taken
+    same = (λ i. min (n - agree k.unit k.number i) (count spot_cmp (sym h.placing.entries i) (spot a k.unit k.number))) ∙ sym fewer
+
+    lost : credit a cs (filter (λ f. is_there c (unit_count M.jobs a) f.0) ((k, n) ∷ [])) M.table ≡ without_count M.table (spot a k.unit k.number) taken
+    lost =
+        let s = spot a k.unit k.number in
+        ap (λ b. credit a cs (cond b ((k, n) ∷ []) []) M.table) there
+        ∙ (λ i. cond (nat_eq (back i) 5) (set_count spot_cmp M.table s (count spot_cmp M.table s - same i)) M.table)
+
+  pub credits_taken : ((c : ClusterRecord) (M : Master) → Allots x c M → Allots y c (record M { table = without_count M.table (spot a k.unit k.number) taken })) → AllWait y → Touches x y
+      → y.table ≡ record x.table { entries = without_count x.table.entries (spot a k.unit k.number) taken } → CreditsBack a ((k, n) ∷ []) g x y
+  credits_taken stands waits touches table = record {
+    stands = λ c M cs h agree. subst (λ t. Allots y c (record M { table = t })) (sym (lost c M cs h agree)) (stands c M h);
+    waits = waits;
+    touches = touches;
+    table = table ∙ ap (λ es. record x.table { entries = es }) (sym (ap (λ (t : TableRecord). t.entries) table));
+  }
+
+-- one entry that is no number given back, or of a unit or a machine that is not there
+pub credits_passed : (a : ℕ) (g : List (Key × ℕ)) (k : Key) (n : ℕ) (x : AllotmentRecord) → AllWait x → (nat_eq k.what 5 && (nat_lt k.unit (unit_count (as_known x.table.jobs) a) && nat_lt k.number (length x.table.cluster.machines))) ≡ false → CreditsBack a ((k, n) ∷ []) g x x
+credits_passed a g k n x w out = record {
+  stands = λ c M cs h agree. subst (λ t. Allots x c (record M { table = t })) (sym (same c M cs h)) h;
+  waits = w;
+  touches = untouched x;
+  table = refl;
+}
+  where
+    none : (b : Bool) (t u : List (Spot × ℕ)) → b ≡ false → cond b t u ≡ u
+    none true t u e = cc
+    none false t u e = refl
+
+    same : (c : ClusterRecord) (M : Master) (cs : List (Key × ℕ)) → Allots x c M → credit a cs (filter (λ f. is_there c (unit_count M.jobs a) f.0) ((k, n) ∷ [])) M.table ≡ M.table
+    same c M cs h = elim (is_there c (unit_count M.jobs a) k) as (λ b. is_there c (unit_count M.jobs a) k ≡ b → credit a cs (cond b ((k, n) ∷ []) []) M.table ≡ M.table) [
+      | true ↦ λ t.
+          let s = spot a k.unit k.number in
+          none (nat_eq k.what 5) (set_count spot_cmp M.table s (count spot_cmp M.table s - min (n - count key_cmp cs (credited_key k.unit k.number)) (count spot_cmp M.table s))) M.table
+          (elim (nat_eq k.what 5) as (λ b. nat_eq k.what 5 ≡ b → b ≡ false) [
+            | true ↦ λ e.
+                let units = same_units (as_known x.table.jobs) M.jobs a (h.placing.jobs a) in
+                let machines : length x.table.cluster.machines ≡ length c.machines = ap (λ (d : ClusterRecord). length d.machines) h.placing.cluster in
+                let both = both_true (nat_lt k.unit (unit_count M.jobs a)) _ t in
+                let first = both.0 in
+                let last : has_machine c k.number ≡ true = subst (λ w. (nat_eq w 1 || cond (nat_eq w 3) (has_rack c k.number) (has_machine c k.number)) ≡ true) (number_is k.what 5 e) both.1 in
+                let u : nat_lt k.unit (unit_count (as_known x.table.jobs) a) ≡ true = grind (arith, nat_tests, first, units) in
+                let m : nat_lt k.number (length x.table.cluster.machines) ≡ true = grind (arith, nat_tests, last, machines) in
+                sym (and_true (nat_eq k.what 5) _ e (and_true _ _ u m)) ∙ out
+            | false ↦ λ _. refl
+          ] refl)
+      | false ↦ λ _. refl
+    ] refl

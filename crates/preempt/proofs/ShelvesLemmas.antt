@@ -1,0 +1,156 @@
+-- What is kept of a machine is what the table says of it, and its bounds tell when nothing may be taken.
+use Rattle.std.proofs.Common.{◌≡◌, ◌≢◌, ℕ, zero, suc, ◌+◌, ◌<◌, ◌≤◌, Bool, true, false, cond, not, nat_eq, nat_lt, List, [], ◌∷◌, ◌++◌, length, map, get_or, set, take, min, Some, None, refl, sym, ◌∙◌, ap, subst, arith, get_or-set_same, get_or-set_other}
+use Rattle.std.specs.Prelude.{◌&&◌, IsTrue, slice_get, slice_index, Option}
+use Rattle.std.specs.Option.{unwrap_or, option_map}
+use Rattle.std.specs.List.{AllByRecursion}
+use Rattle.std.proofs.lemmas.Bool.Decides.{nat_tests}
+use Rattle.fuxi_terms.specs.Cluster.{ClusterRecord, MachineRecord, is_valid_cluster, is_between, no_machine, quota_at}
+use Rattle.fuxi_terms.specs.Jobs.{priority_of, group_of, size_at}
+use Rattle.fuxi_terms.specs.Keys.{Spot}
+use Rattle.fuxi_terms.specs.Tables.{spot, usage_at}
+use Rattle.fuxi_terms.specs.Vectors.{at_place}
+use Rattle.fuxi_terms.proofs.Alls.{all_append}
+use Rattle.fuxi_terms.proofs.Booleans.{both_true, not_false, number_is, both_false, and_false}
+use Rattle.fuxi_terms.proofs.ByPlace.{at_place-get_or}
+use Rattle.fuxi_terms.proofs.VectorLaws.{get_or-padded}
+use Rattle.fuxi_terms.proofs.Lists.{take_last}
+use Rattle.cluster_desc.specs.Records.{machine_of}
+use Rattle.cluster_desc.specs.declared.cluster.Machine.{Machine}
+use Rattle.written_roles.specs.Placing.{Board}
+use Rattle.written_roles.specs.Preemption.{needed_in, so_many, is_enough_in, is_spared_in, is_guaranteed_in, may_take_in, taken_in, walk_in, is_some_set, victims_in}
+use Rattle.grant_table.specs.Tables.{TableRecord, as_known}
+use Rattle.preempt.specs.Counted.{singles}
+use Rattle.preempt.specs.declared.entry.Entry.{Entry}
+use Rattle.preempt.specs.declared.entry.Need.{Need}
+use Rattle.preempt.specs.declared.entry.GroupUse.{GroupUse}
+use Rattle.preempt.specs.declared.shelf.Loose.{Loose}
+use Rattle.preempt.specs.declared.shelf.Loose.TheVariants.{Nobody, One, Several}
+use Rattle.preempt.specs.declared.shelf.Shelf.{Shelf}
+use Rattle.preempt.specs.Given.{board_of, no_group, written, IsEntry, AreGroups}
+use Rattle.preempt.specs.Shelves.{spares, spares_at, is_loose, is_other_loose, IsLow, IsLoose, IsShelf, IsWanted, may_take_some}
+use Rattle.preempt.proofs.CountedAsWritten.{each_same, size_is}
+use Rattle.preempt.proofs.UnitSteps.{got}
+
+-- ---- one entry more
+pub all_more_one : (P : Entry → Type 0) (es : List Entry) (k : ℕ) (d : Entry) → k < length es → AllByRecursion P (take k es) → P (get_or es k d) → AllByRecursion P (take (k + 1) es)
+all_more_one P es k d lt h x = subst (AllByRecursion P) (sym (take_last es k (get_or es k d) (got (λ _. true) es k d lt))) (all_append P (take k es) (get_or es k d ∷ []) h (x, tt))
+
+pub low_more : (lowest : List ℕ) (g p n : ℕ) → length lowest ≡ 32 → g < 32 → n ≡ min p (get_or lowest g 0) → (es : List Entry) → AllByRecursion (IsLow lowest) es → AllByRecursion (IsLow (set lowest g n)) es
+low_more lowest g p n long lt is [] h = tt
+low_more lowest g p n long lt is (e ∷ es) h = (record { least = by (nat_eq e.group g) refl }, low_more lowest g p n long lt is es h.1)
+  where
+    by : (b : Bool) → nat_eq e.group g ≡ b → get_or (set lowest g n) e.group 0 ≤ e.priority
+    by true t =
+        let same = number_is e.group g t in
+        let a : get_or (set lowest g n) e.group 0 ≡ n = ap (λ k. get_or (set lowest g n) k 0) same ∙ get_or-set_same lowest g n 0 (omega (arith, long, lt)) in
+        let l = h.0.least in
+        let b : get_or lowest e.group 0 ≡ get_or lowest g 0 = ap (λ k. get_or lowest k 0) same in
+        omega (arith, a, is, l, b)
+    by false f =
+        let other : e.group ≢ g = grind (arith, nat_tests, f) in
+        let a = get_or-set_other lowest g e.group n 0 other in
+        let l = h.0.least in
+        omega (arith, a, l)
+
+pub low_here : (lowest : List ℕ) (e : Entry) (n : ℕ) → length lowest ≡ 32 → e.group < 32 → n ≡ min e.priority (get_or lowest e.group 0) → IsLow (set lowest e.group n) e
+low_here lowest e n long lt is = record { least = let a = get_or-set_same lowest e.group n 0 (omega (arith, long, lt)) in omega (arith, a, is) }
+
+-- ---- a machine
+pub resources_few : (c : ClusterRecord) → IsTrue (is_valid_cluster c) → c.resources ≤ 8
+resources_few c v = let t : not (nat_lt 8 c.resources) ≡ true = (both_true (not (nat_lt c.resources 1)) _ (both_true (is_between 1 8 c.resources) _ v).0).1 in grind (arith, nat_tests, t)
+
+pub has_is : (ms : List MachineRecord) (m : ℕ) (x : Machine) → option_map machine_of (slice_get ms m) ≡ Some x → (i : ℕ) → get_or x.has.q i 0 ≡ at_place (unwrap_or (slice_get ms m) no_machine).has i
+has_is ms m x e i = by (slice_get ms m) e
+  where
+    by : (o : Option MachineRecord) → option_map machine_of o ≡ Some x → get_or x.has.q i 0 ≡ at_place (unwrap_or o no_machine).has i
+    by None e = cc
+    by (Some r) e = let same : machine_of r ≡ x = cc in subst (λ (y : Machine). get_or y.has.q i 0 ≡ at_place r.has i) same (get_or-padded r.has i ∙ sym (at_place-get_or r.has i))
+
+-- ---- when nothing may be taken
+module _ (B : Board) (table : List (Spot × ℕ)) (t : Spot) where
+  abbrev IsClosed : Spot → Type 0
+  IsClosed s = may_take_in B table t [] s ≡ false
+
+  nothing_taken : (ss : List Spot) → AllByRecursion IsClosed ss → taken_in ss B table t [] ≡ []
+  nothing_taken [] h = refl
+  nothing_taken (s ∷ ss) h = elim (is_enough_in B table t []) as (λ b. elim b as (λ _. List Spot) [ true ↦ [] | false ↦ taken_in ss B table t (cond (may_take_in B table t [] s) ([] ++ s ∷ []) []) ] ≡ []) [
+    | true ↦ refl
+    | false ↦ ap (λ b. taken_in ss B table t (cond b ([] ++ s ∷ []) [])) h.0 ∙ nothing_taken ss h.1
+  ]
+
+  closed_none : AllByRecursion IsClosed (walk_in B.priorities table t.machine) → victims_in B table t ≡ None
+  closed_none h = ap (λ set. elim (is_enough_in B table t set && is_some_set set) as (λ _. Option (List Spot)) [ true ↦ Some (needed_in set B table t set) | false ↦ None ]) (nothing_taken (walk_in B.priorities table t.machine) h) ∙ ap (λ b. elim b as (λ _. Option (List Spot)) [ true ↦ Some [] | false ↦ None ]) (and_false (is_enough_in B table t []))
+
+closed_run : (P : Spot → Type 0) (n : ℕ) (s : Spot) → P s → AllByRecursion P (so_many n s)
+closed_run P zero s h = tt
+closed_run P (suc n) s h = (h, closed_run P n s h)
+
+closed_singles : (P : Spot → Type 0) (m : ℕ) (es : List Entry) → AllByRecursion (λ (e : Entry). P (spot e.app.0 e.unit.0 m)) es → AllByRecursion P (singles (map (written m) es))
+closed_singles P m [] h = tt
+closed_singles P m (e ∷ es) h = all_append P (so_many e.count (spot e.app.0 e.unit.0 m)) (singles (map (written m) es)) (closed_run P e.count (spot e.app.0 e.unit.0 m) h.0) (closed_singles P m es h.1)
+
+not_both : (loose : Loose) (g h : ℕ) → nat_eq g h ≡ false → is_loose loose g ≡ true → is_other_loose loose h ≡ false → ⊥
+not_both Nobody g h d a b = cc
+not_both Several g h d a b = cc
+not_both (One x) g h d a b = let e = number_is x g a in let f : nat_eq x h ≡ true = not_false (nat_eq x h) b in let k = number_is x h f in let t : nat_eq g h ≡ true = grind (arith, nat_tests, e, k) in cc
+
+module _ (t : TableRecord) (groups : List GroupUse) (are : AreGroups t groups) (few : t.cluster.resources ≤ 8) where
+  -- a group spares one grant beside nothing
+  spared_is : (m : ℕ) (e : Entry) → IsEntry t e → is_spared_in (board_of t) t.entries [] (spot e.app.0 e.unit.0 m) ≡ spares t.cluster.resources (get_or groups e.group no_group) e.size
+  spared_is m e h =
+      let g = are.each e.group h.small in
+      let gr = group_of (as_known t.jobs) e.app.0 in
+      let x = get_or groups e.group no_group in
+      each_same t.cluster.resources (λ i. not (nat_lt (usage_at (as_known t.jobs) gr i t.entries) (quota_at t.cluster gr i + 0 + size_at (as_known t.jobs) e.app.0 e.unit.0 i))) (spares_at x e.size)
+      (λ i lt.
+      let u = g.used i lt ∙ ap (λ k. usage_at (as_known t.jobs) k i t.entries) h.group in
+      let q = g.quota i lt ∙ ap (λ k. quota_at t.cluster k i) h.group in
+      let s = size_is t e h i in
+      let z : quota_at t.cluster gr i + 0 + size_at (as_known t.jobs) e.app.0 e.unit.0 i ≡ slice_index x.quota i + slice_index e.size i = omega (arith, q, s) in
+      λ k. not (nat_lt (sym u k) (z k)))
+
+  closed_entry : (s : Spot) (n : Need) (shelf : Shelf) (e : Entry) → IsWanted t s.job s.unit n → may_take_some n shelf.lowest shelf.loose ≡ false → IsEntry t e → IsLow shelf.lowest e → IsLoose t.cluster.resources groups shelf.loose e
+      → may_take_in (board_of t) t.entries s [] (spot e.app.0 e.unit.0 s.machine) ≡ false
+  closed_entry s n shelf e w none h low loose = by (nat_eq (group_of (as_known t.jobs) e.app.0) (group_of (as_known t.jobs) s.job)) refl
+    where
+      gr : ℕ
+      gr = group_of (as_known t.jobs) e.app.0
+
+      both : (nat_lt (get_or shelf.lowest n.group 0) n.priority ≡ false) × ((n.guaranteed && is_other_loose shelf.loose n.group) ≡ false)
+      both = both_false (nat_lt (get_or shelf.lowest n.group 0) n.priority) (n.guaranteed && is_other_loose shelf.loose n.group) none
+
+      spared : Bool
+      spared = is_spared_in (board_of t) t.entries [] (spot e.app.0 e.unit.0 s.machine)
+
+      other : (a b : Bool) → spared ≡ a → n.guaranteed ≡ b → nat_eq gr (group_of (as_known t.jobs) s.job) ≡ false → (a && b) ≡ false
+      other false b e f d = refl
+      other true false e f d = refl
+      other true true sp gu d =
+          let l : is_loose shelf.loose e.group ≡ true = loose.loosened (sym (spared_is s.machine e h) ∙ sp) in
+          let o : is_other_loose shelf.loose n.group ≡ false = ap (λ b. b && is_other_loose shelf.loose n.group) (sym gu) ∙ both.1 in
+          let d' : nat_eq e.group n.group ≡ false = (λ k. nat_eq (h.group k) (w.group k)) ∙ d in
+          absurd (not_both shelf.loose e.group n.group d' l o)
+
+      by : (b : Bool) → nat_eq gr (group_of (as_known t.jobs) s.job) ≡ b
+          → cond b (nat_lt (priority_of (as_known t.jobs) e.app.0 e.unit.0) (priority_of (as_known t.jobs) s.job s.unit)) (spared && is_guaranteed_in (board_of t) t.entries s) ≡ false
+      by true same =
+          let g : e.group ≡ n.group = h.group ∙ number_is gr (group_of (as_known t.jobs) s.job) same ∙ sym w.group in
+          let l = low.least in
+          let k : get_or shelf.lowest e.group 0 ≡ get_or shelf.lowest n.group 0 = ap (λ k. get_or shelf.lowest k 0) g in
+          let p = h.priority in
+          let q = w.priority in
+          let f = both.0 in
+          let le : n.priority ≤ get_or shelf.lowest n.group 0 = grind (arith, nat_tests, f) in
+          let ge : priority_of (as_known t.jobs) s.job s.unit ≤ priority_of (as_known t.jobs) e.app.0 e.unit.0 = omega (arith, l, k, p, q, le) in
+          grind (arith, nat_tests, ge)
+      by false d = ap (λ b. spared && b) (sym w.guaranteed) ∙ other spared n.guaranteed refl refl d
+
+  closed_all : (s : Spot) (n : Need) (shelf : Shelf) (es : List Entry) → IsWanted t s.job s.unit n → may_take_some n shelf.lowest shelf.loose ≡ false → AllByRecursion (IsEntry t) es → AllByRecursion (IsLow shelf.lowest) es → AllByRecursion (IsLoose t.cluster.resources groups shelf.loose) es
+      → AllByRecursion (λ (e : Entry). may_take_in (board_of t) t.entries s [] (spot e.app.0 e.unit.0 s.machine) ≡ false) es
+  closed_all s n shelf [] w none h low loose = tt
+  closed_all s n shelf (e ∷ es) w none h low loose = (closed_entry s n shelf e w none h.0 low.0 loose.0, closed_all s n shelf es w none h.1 low.1 loose.1)
+
+  pub none_to_take : (s : Spot) (n : Need) (shelf : Shelf) → IsShelf t groups s.machine shelf → IsWanted t s.job s.unit n → may_take_some n shelf.lowest shelf.loose ≡ false → victims_in (board_of t) t.entries s ≡ None
+  none_to_take s n shelf is w none = closed_none (board_of t) t.entries s
+      (subst (λ xs. AllByRecursion (λ x. may_take_in (board_of t) t.entries s [] x ≡ false) (singles xs)) is.walk
+      (closed_singles (λ x. may_take_in (board_of t) t.entries s [] x ≡ false) s.machine shelf.entries.items (closed_all s n shelf shelf.entries.items w none is.each is.low is.loose_are)))

@@ -1,2 +1,0 @@
-mod Numbers
-pub mod OrdersKept
