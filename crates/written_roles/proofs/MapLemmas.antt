@@ -9,7 +9,7 @@ use Rattle.std.proofs.lemmas.Bool.Decides.{nat_tests}
 use Rattle.std.proofs.lemmas.Map.Lookups.{exact_unsigned}
 use Rattle.fuxi_terms.specs.Numbers.{has_number, with_number, without_number}
 use Rattle.fuxi_terms.proofs.Booleans.{nat_itself, or_right}
-use Rattle.fuxi_terms.proofs.Counting.{tied}
+use Rattle.fuxi_terms.proofs.CountsLemmas.{tied}
 
 -- One entry of a map by numbers
 pub found_put : {A : Type 0} (a : ℕ) (x d : A) (es : List (ℕ × A)) → unwrap_or (find nat_cmp a (put nat_cmp a x es)) d ≡ x
