@@ -10,7 +10,7 @@ use Rattle.place_pass.specs.Placers.{board_over}
 use Rattle.place_pass.specs.Bounds.{rank_at, is_bound}
 use Rattle.place_pass.specs.Sights.{sight_rank, turn_in, IsSight}
 use Rattle.place_pass.proofs.SightsLemmas.{bounded_wider, bounded_by, self_bound, one_of}
-use Rattle.place_pass.proofs.Matching.{unit_is}
+use Rattle.place_pass.proofs.CellsMatchTable.{unit_is}
 use Rattle.place_pass.proofs.search.weigh.Goals as goal
 
 pub returns-then-not-may_place-clause-here : goal.returns-then-not-may_place-clause-here

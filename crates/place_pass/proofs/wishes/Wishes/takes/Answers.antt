@@ -8,7 +8,7 @@ use Rattle.grant_table.specs.Tables.{as_known}
 use Rattle.fuxi_terms.specs.Tables.{held_on}
 use Rattle.place_pass.specs.Cells.{Cell, cell_at}
 use Rattle.place_pass.specs.Placers.{is_open_to}
-use Rattle.place_pass.proofs.Matching.{avoided_read, most_is, unit_is, has_past}
+use Rattle.place_pass.proofs.CellsMatchTable.{avoided_read, most_is, unit_is, has_past}
 use Rattle.place_pass.proofs.Rooms.{room_fits}
 use Rattle.place_pass.proofs.wishes.Wishes.takes.Goals as goal
 
