@@ -24,3 +24,4 @@ mod AskedLemmas
 mod PathLemmas
 mod WalksLemmas
 mod PlainLemmas
+mod ScenesLemmas
