@@ -23,8 +23,8 @@ use Rattle.place_pass.specs.Sights.{rank_with, IsFound, IsLeast}
 use Rattle.place_pass.specs.Lines.{same_pair}
 use Rattle.place_pass.proofs.BoundsLemmas.{is_less}
 use Rattle.place_pass.proofs.FirstOfLine.{first_is}
-use Rattle.place_pass.proofs.Lining.{pair_self}
-use Rattle.place_pass.proofs.Picking.{all_below}
+use Rattle.place_pass.proofs.LinesLemmas.{pair_self}
+use Rattle.place_pass.proofs.FirstIsGrantable.{all_below}
 
 -- ---- one place of a rank after another
 pub is_same : (x : ℕ) → nat_cmp x x ≡ Equal

@@ -23,7 +23,7 @@ use Rattle.place_pass.specs.Lines.{same_pair}
 use Rattle.place_pass.specs.Placers.{KeptRecord, IsKept, IsSetFrom, board_over, is_open_to}
 use Rattle.place_pass.specs.Sights.{IsAsked, IsForgotten}
 use Rattle.place_pass.proofs.BoundsLemmas.{accepts_less, allowed_bounds, bounded_later, lowered_later, reset_bounds}
-use Rattle.place_pass.proofs.Lining.{pair_self, any_append, either_one, has_filter}
+use Rattle.place_pass.proofs.LinesLemmas.{pair_self, any_append, either_one, has_filter}
 use Rattle.place_pass.proofs.FirstByTurn.{rising, rising_all}
 use Rattle.place_pass.proofs.Places.{one_set}
 use Rattle.place_pass.proofs.BoundsAfterChange.{granted_later, taken_bounds}

@@ -1,13 +1,13 @@
 pub mod Places
-pub mod Asking
+pub mod CellsLemmas
 pub mod ValidJobs
-pub mod Matching
+pub mod CellsMatchTable
 pub mod Rooms
-pub mod Lining
-pub mod Telling
-pub mod Picking
+pub mod LinesLemmas
+pub mod PlacersLemmas
+pub mod FirstIsGrantable
 pub mod Turns
-pub mod Idling
+pub mod IdleKept
 mod BoundsLemmas
 mod BoundsAfterChange
 mod NumberedLemmas
@@ -16,7 +16,7 @@ mod CountsLemmas
 mod KeptLemmas
 mod FirstOfLine
 mod FirstByTurn
-mod StandingLemmas
+mod TreesLemmas
 mod StandsAfterChange
 mod LinedLemmas
 mod StillLemmas
@@ -24,3 +24,4 @@ mod AskedLemmas
 mod PathLemmas
 mod WalksLemmas
 mod PlainLemmas
+mod ScenesLemmas

@@ -15,9 +15,9 @@ use Rattle.place_pass.specs.Placers.{KeptRecord, IsKept}
 use Rattle.place_pass.specs.Trees.{Holds, HoldsLine, AllStand}
 use Rattle.place_pass.proofs.FirstByTurn.{has_at}
 use Rattle.place_pass.proofs.KeptLemmas.{kept_lined}
-use Rattle.place_pass.proofs.Lining.{has_filter}
+use Rattle.place_pass.proofs.LinesLemmas.{has_filter}
 use Rattle.place_pass.proofs.NumberedLemmas.{numbered_end, has_end}
-use Rattle.place_pass.proofs.StandingLemmas.{holds_same, stands_on}
+use Rattle.place_pass.proofs.TreesLemmas.{holds_same, stands_on}
 use Rattle.place_pass.proofs.StandsAfterChange.{holds_turned}
 use Rattle.place_pass.proofs.StillLemmas.{joined_is}
 

@@ -14,7 +14,7 @@ use Rattle.written_roles.specs.Masters.{out_of}
 use Rattle.place_pass.specs.Best.{AreAdmitted}
 use Rattle.place_pass.specs.Bounds.{Numbered}
 use Rattle.place_pass.specs.Cells.{Cell}
-use Rattle.place_pass.proofs.Lining.{has_filter, has_flat, pair_self}
+use Rattle.place_pass.proofs.LinesLemmas.{has_filter, has_flat, pair_self}
 use Rattle.place_pass.proofs.Places.{slot_within}
 use Rattle.place_pass.specs.Lines.{same_pair}
 

@@ -30,10 +30,10 @@ use Rattle.place_pass.specs.Lines.{same_pair}
 use Rattle.place_pass.specs.Sights.{turn_in}
 use Rattle.place_pass.specs.Trees.{StandsAs, TreeOf, entry_for}
 use Rattle.place_pass.proofs.FirstByTurn.{less_first, less_rest}
-use Rattle.place_pass.proofs.Lining.{either_one, pair_is, pair_self, pair_turned}
-use Rattle.place_pass.proofs.Matching.{rack_small, unit_is}
+use Rattle.place_pass.proofs.LinesLemmas.{either_one, pair_is, pair_self, pair_turned}
+use Rattle.place_pass.proofs.CellsMatchTable.{rack_small, unit_is}
 use Rattle.place_pass.proofs.SightsLemmas.{bounded_by, bounded_wider, less_is, order, place_of, self_bound}
-use Rattle.place_pass.proofs.StandingLemmas.{IsOfLine, some_same, waiting_is}
+use Rattle.place_pass.proofs.TreesLemmas.{IsOfLine, some_same, waiting_is}
 
 -- ---- ranks
 not_after : (r s : List ℕ) → comes_before r s ≡ true → not (comes_before s r) ≡ true

@@ -26,7 +26,7 @@ use Rattle.place_pass.specs.Lines.{same_pair}
 use Rattle.place_pass.specs.Placers.{board_over}
 use Rattle.place_pass.specs.Sights.{found_rank, IsLeast, AreBounded, is_first}
 use Rattle.place_pass.proofs.BoundsLemmas.{zero_bounds}
-use Rattle.place_pass.proofs.Lining.{pair_is}
+use Rattle.place_pass.proofs.LinesLemmas.{pair_is}
 use Rattle.place_pass.proofs.Places.{one_set}
 
 pub order : IsTotalOrder (slice_cmp nat_cmp)

@@ -18,8 +18,8 @@ use Rattle.place_pass.specs.Cells.{Cell, cell_at, asks_in, no_cell}
 use Rattle.place_pass.specs.Lines.{same_pair}
 use Rattle.place_pass.specs.Trees.{entry_for, Holds, HoldsLine, StandsAs, AllStand, Restood, RestoodAt}
 use Rattle.place_pass.proofs.BoundsAfterChange.{count_stays, rack_stays}
-use Rattle.place_pass.proofs.Lining.{has_filter, pair_is, pair_turned}
-use Rattle.place_pass.proofs.StandingLemmas.{nowhere_in, numbers_apart, racks_long, stands_on}
+use Rattle.place_pass.proofs.LinesLemmas.{has_filter, pair_is, pair_turned}
+use Rattle.place_pass.proofs.TreesLemmas.{nowhere_in, numbers_apart, racks_long, stands_on}
 
 -- ---- the number at one spot is set
 module _ (c : ClusterRecord) (cells : List (List Cell)) (es : List (Spot × ℕ)) (a u m n : ℕ) (sorted : T (is_sorted spot_cmp es)) where

@@ -18,7 +18,7 @@ use Rattle.grant_table.specs.Tables.{TableRecord, as_known}
 use Rattle.place_pass.specs.Cells.{Cell, asks_in}
 use Rattle.place_pass.specs.Lines.{same_pair}
 use Rattle.place_pass.specs.Placers.{IsSetFrom, IsStill}
-use Rattle.place_pass.proofs.Lining.{has_below, has_filter, has_flat, has_mapped, pair_self}
+use Rattle.place_pass.proofs.LinesLemmas.{has_below, has_filter, has_flat, has_mapped, pair_self}
 use Rattle.place_pass.proofs.NumberedLemmas.{none_had}
 
 -- ---- a job less is calm

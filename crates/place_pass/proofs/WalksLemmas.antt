@@ -18,7 +18,7 @@ use Rattle.fuxi_terms.proofs.KeyOrders.{key_total, same_key}
 use Rattle.place_pass.specs.Walks.{IsPast}
 use Rattle.place_pass.proofs.BoundsLemmas.{is_less}
 use Rattle.place_pass.proofs.FirstByTurn.{is_same}
-use Rattle.place_pass.proofs.Lining.{any_append}
+use Rattle.place_pass.proofs.LinesLemmas.{any_append}
 
 tied : (k : Key) → key_cmp k k ≡ Equal
 tied k = ap (λ o. ordering_then o (ordering_then (nat_cmp k.unit k.unit) (nat_cmp k.number k.number))) (is_same k.what) ∙ ap (λ o. ordering_then o (nat_cmp k.number k.number)) (is_same k.unit) ∙ is_same k.number

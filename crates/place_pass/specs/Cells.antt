@@ -1,11 +1,11 @@
 -- What the program keeps of one unit, and what is asked at a key.
-use Rattle.std.specs.Prelude.{◌≡◌, ℕ, ◌+◌, ◌<◌, ◌≤◌, Bool, cond, nat_eq, nat_lt, ◌&&◌, ◌||◌, List, [], ◌∷◌, length, map, replicate, Option, Some, None}
+use Rattle.std.specs.Prelude.{◌≡◌, ℕ, ◌+◌, ◌*◌, ◌<◌, ◌≤◌, Bool, cond, nat_eq, nat_lt, ◌&&◌, ◌||◌, List, [], ◌∷◌, length, map, replicate, Option, Some, None}
 use Rattle.std.specs.Global.{Vec}
 use Rattle.std.specs.List.{list_any}
 use Rattle.std.proofs.Common.{get_or}
 use Rattle.fuxi_terms.specs.Cluster.{ClusterRecord, JobRecord, UnitRecord, has_rack}
 use Rattle.fuxi_terms.specs.declared.Key.{Key}
-use Rattle.fuxi_terms.specs.Limits.{greatest_count}
+use Rattle.fuxi_terms.specs.Limits.{greatest_count, most_jobs, most_units}
 use Rattle.fuxi_terms.specs.Keys.{key_cmp}
 use Rattle.fuxi_terms.specs.Counts.{count}
 use Rattle.fuxi_terms.specs.TallyKeys.{key, want_key, rack_key, avoid_key}
@@ -36,6 +36,10 @@ no_cell = record { unit = no_unit; group = 0; want = 0; near = []; racks = []; a
 
 abbrev pub cell_at : List (List Cell) → ℕ → ℕ → Cell
 cell_at cells a u = get_or (get_or cells a []) u no_cell
+
+-- a place for each unit that may be admitted
+abbrev pub unit_places : ℕ
+unit_places = most_jobs * most_units
 
 -- what is asked at a key of this unit
 abbrev pub asks_at : Cell → Key → ℕ
@@ -131,7 +135,7 @@ pub record IsWish (c : ClusterRecord) (first : Cell) (x : Cell) : Type 0 where
   pub avoided : length x.avoided ≡ length c.machines
 
 pub record AreWishes (c : ClusterRecord) (cells : List (List Cell)) (open_machines : List Bool) : Type 0 where
-  pub places : length cells ≡ 256
+  pub places : length cells ≡ most_jobs
   pub few : (a : ℕ) → length (get_or cells a []) ≤ 8
   pub unit : (a u : ℕ) → u < length (get_or cells a []) → IsWish c (cell_at cells a 0) (cell_at cells a u)
   pub opened : length open_machines ≡ length c.machines

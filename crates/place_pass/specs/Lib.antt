@@ -7,3 +7,4 @@ pub mod Sights
 pub mod Counts
 pub mod Trees
 pub mod Walks
+pub mod Scenes

@@ -3,7 +3,7 @@ use Rattle.std.specs.Prelude.{◌≡◌, ℕ, ◌+◌, ◌≤◌, ◌<◌, Bool,
 use Rattle.std.specs.Option.{option_map}
 use Rattle.std.proofs.Common.{get_or}
 use Rattle.fuxi_terms.specs.Cluster.{ClusterRecord, JobRecord, has_rack, has_at}
-use Rattle.fuxi_terms.specs.Limits.{greatest_count}
+use Rattle.fuxi_terms.specs.Limits.{greatest_count, most_jobs}
 use Rattle.fuxi_terms.specs.Tables.{held, held_on, total_at}
 use Rattle.fuxi_terms.specs.declared.Key.{Key}
 use Rattle.fuxi_terms.specs.Keys.{Spot, key_cmp, spot_cmp}
@@ -17,7 +17,7 @@ use Rattle.grant_table.specs.Tables.{TableRecord, IsSound, as_known}
 use Rattle.place_pass.specs.Lines.{LineRecord, units_in_all}
 use Rattle.place_pass.specs.declared.marks.Mark.{Mark}
 use Rattle.place_pass.specs.Bounds.{MarkRecord, mark_of, mark_at, key_of, turn_at, IsRising, IsBounded}
-use Rattle.place_pass.specs.Cells.{Cell, WishesRecord, asks_in, job_at}
+use Rattle.place_pass.specs.Cells.{Cell, WishesRecord, asks_in, job_at, unit_places}
 use Rattle.place_pass.specs.Trees.{HoldsLine, AllStand}
 use Rattle.locality_tree.specs.Trees.{TreeRecord}
 
@@ -112,7 +112,7 @@ pub record IsKept (cells : List (List Cell)) (machines : List Bool) (line : List
   pub until : (m : ℕ) → get_or machines m false ≡ true → (mark_at k.marks m).until ≤ turns
   pub rises : IsRising (λ (p : ℕ × ℕ). turn_at k.turn_of p.0 p.1) line
   pub below : (a u : ℕ) → has_pair (a, u) line ≡ true → turn_at k.turn_of a u < turns
-  pub held : (a u : ℕ) → a < 256 → u < 8 → get_or k.held (a * 8 + u) 0 ≡ held t.entries a u
+  pub held : (a u : ℕ) → a < most_jobs → u < 8 → get_or k.held (a * 8 + u) 0 ≡ held t.entries a u
 
 -- no pair may be placeable on an open machine, and each unit with something out stands in the line
 pub record IsQuiet (cells : List (List Cell)) (machines : List Bool) (line : List (ℕ × ℕ)) (turns : ℕ) (marks : List MarkRecord) (t : TableRecord) : Type 0 where
@@ -186,14 +186,14 @@ placer_record w line turns idle marks turn_of held tree forgotten calm = record 
 
 pub record IsPlacer (w : WishesRecord) (line other : LineRecord) (units marks : ℕ) (turn_of : List ℕ) (held : ℕ) (tree : TreeRecord) (calm : ℕ) : Type 0 where
   pub admitted : AllByRecursion (λ (p : ℕ × ℕ). p.1 < length (get_or w.cells p.0 [])) line.pairs
-  pub places : length w.cells ≡ 256
+  pub places : length w.cells ≡ most_jobs
   pub counted : units ≡ units_in_all w.cells
   pub room : units_in_all w.cells ≤ line.room
   pub other_room : units_in_all w.cells ≤ other.room
   pub marked : marks ≡ length w.cluster.machines
-  pub turn_places : length turn_of ≡ 2048
-  pub held_places : held ≡ 2048
-  pub calm_places : calm ≡ 256
+  pub turn_places : length turn_of ≡ unit_places
+  pub held_places : held ≡ unit_places
+  pub calm_places : calm ≡ most_jobs
   pub rises : IsRising (λ (p : ℕ × ℕ). turn_at turn_of p.0 p.1) line.pairs
   pub holds : HoldsLine w.cluster w.cells line.pairs turn_of tree
 

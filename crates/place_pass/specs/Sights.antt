@@ -1,12 +1,15 @@
 -- What is found on machines: real pairs, that no other comes before.
-use Rattle.std.specs.Prelude.{◌≡◌, ℕ, ◌<◌, Bool, true, false, cond, List, [], ◌∷◌, ◌++◌, length, slice_get, Option, Some, None}
+use Rattle.std.specs.Prelude.{◌≡◌, ℕ, ◌-◌, ◌<◌, ◌≤◌, Bool, true, false, cond, List, [], ◌∷◌, ◌++◌, length, slice_get, Option, Some, None}
 use Rattle.std.specs.Option.{option_map}
+use Rattle.fuxi_terms.specs.Cluster.{has_at}
 use Rattle.fuxi_terms.specs.Keys.{Spot}
+use Rattle.fuxi_terms.specs.Tables.{total_at}
+use Rattle.fuxi_terms.specs.Vectors.{at_place}
 use Rattle.written_roles.specs.Placing.{Board, has_pair, placeable_in}
 use Rattle.place_pass.specs.declared.search.Found.{Found}
 use Rattle.place_pass.specs.declared.search.Sight.{Sight}
 use Rattle.fuxi_terms.specs.declared.Key.{Key}
-use Rattle.grant_table.specs.Tables.{TableRecord}
+use Rattle.grant_table.specs.Tables.{TableRecord, as_known}
 use Rattle.place_pass.specs.Cells.{Cell, Lifts, AvoidsStill}
 use Rattle.place_pass.specs.Placers.{AreAllowed}
 use Rattle.place_pass.specs.Bounds.{MarkRecord, reset_mark, lowered_mark, cleared_mark, rank_of, comes_before, IsBounded, is_bound, rank_at, rank_on, turn_at}
@@ -24,6 +27,11 @@ found_rank s = option_map rank_with s
 -- the turn of a pair
 abbrev pub turn_in : List ℕ → ℕ × ℕ → ℕ
 turn_in turns p = turn_at turns p.0 p.1
+
+-- this is what the machine has and does not hold
+pub record IsFree (t : TableRecord) (m : ℕ) (free : List ℕ) : Type 0 where
+  pub is : (i : ℕ) → at_place free i ≡ has_at t.cluster m i - total_at (as_known t.jobs) m i t.entries
+  pub within : (i : ℕ) → total_at (as_known t.jobs) m i t.entries ≤ has_at t.cluster m i
 
 -- a placeable pair of the line with its rank on a machine, and the same with the machine
 pub record IsSight (b : Board) (es : List (Spot × ℕ)) (f : ℕ × ℕ → ℕ) (line : List (ℕ × ℕ)) (m : ℕ) (x : Sight) : Type 0 where

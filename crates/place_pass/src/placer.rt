@@ -5,7 +5,7 @@ use crate::marks::{Mark, forget_groups, fresh_marks, reset_one, tell, tell_deman
 use crate::search::{first, slot};
 use crate::standing::{enter_line, tell_asked, tell_spot};
 use crate::waiting::{calm_all, join, keep_others, leave, number_from, stir};
-use crate::wishes::{Wishes, fresh_units};
+use crate::wishes::{UNIT_PLACES, Wishes, fresh_units};
 use cluster_desc::Cluster;
 use fuxi_terms::OutOfMemory;
 use fuxi_terms::limits::MOST_JOBS;
@@ -103,8 +103,8 @@ impl Placer {
     {
         let wishes = Wishes::start(alloc, cluster)?;
         let marks = fresh_marks(alloc, cluster.machines() as usize)?;
-        let turn_of = Vec::from_elem(alloc, 0, 2048)?;
-        let held = Vec::from_elem(alloc, 0, 2048)?;
+        let turn_of = Vec::from_elem(alloc, 0, UNIT_PLACES)?;
+        let held = Vec::from_elem(alloc, 0, UNIT_PLACES)?;
         let tree = Tree::start(alloc, cluster)?;
         let calm = Vec::from_elem(alloc, false, MOST_JOBS as usize)?;
         Ok(Placer {

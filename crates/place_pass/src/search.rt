@@ -3,24 +3,24 @@
 //! there, and else the pairs that were appended since are looked at. A unit that has its greatest number on a machine is passed there
 //! like one that does not fit.
 
-ghost use Rattle.std.specs.Prelude.{◌≡◌, ℕ, ◌+◌, ◌-◌, ◌*◌, ◌<◌, ◌≤◌, ◌&&◌, ◌⊎◌, ◌≢◌, Option, List, true, false, IsTrue, [], ◌∷◌, ◌++◌, length, map, None, Some, slice_get, not, nat_eq, cond, IfSome};
+ghost use Rattle.std.specs.Prelude.{◌≡◌, ℕ, ◌+◌, ◌*◌, ◌<◌, ◌≤◌, ◌&&◌, ◌⊎◌, ◌≢◌, Option, List, true, false, IsTrue, [], ◌∷◌, ◌++◌, length, map, None, Some, slice_get, not, nat_eq, cond, IfSome};
 ghost use Rattle.std.proofs.Common.{get_or};
 ghost use Rattle.std.specs.Option.{is_none, option_map};
 ghost use Rattle.std.specs.Ordering.{nat_cmp, is_lt};
 ghost use Rattle.std.specs.Cmp.Lexicographic.{slice_cmp};
 ghost use Rattle.fuxi_terms.specs.Vectors.{at_place};
-ghost use Rattle.fuxi_terms.specs.Cluster.{limit_at, has_at};
-ghost use Rattle.fuxi_terms.specs.Tables.{total_at};
-ghost use Rattle.grant_table.specs.Tables.{as_known};
-ghost use Rattle.written_roles.specs.Masters.{out_of, level_of};
+ghost use Rattle.fuxi_terms.specs.Cluster.{limit_at};
+ghost use Rattle.fuxi_terms.specs.Limits.{most_jobs};
+ghost use Rattle.written_roles.specs.Masters.{out_of};
 ghost use Rattle.written_roles.specs.Placing.{first_in, accepts_in, has_room_in, is_allowed_in, has_pair};
-ghost use Rattle.place_pass.specs.Cells.{asks_in, job_at};
+ghost use Rattle.place_pass.specs.Cells.{asks_in, job_at, unit_places};
 ghost use Rattle.place_pass.specs.Placers.{AreLevel, board_over};
 ghost use Rattle.place_pass.specs.Best.{spot_of, AreAdmitted};
-ghost use Rattle.place_pass.specs.Bounds.{rank_of, mark_of, mark_at, key_of, turn_at, Rises, IsBounded, is_bound, comes_before};
+ghost use Rattle.place_pass.specs.Bounds.{rank_of, mark_of, mark_at, key_of, Rises, IsBounded, is_bound, comes_before};
 ghost use Rattle.place_pass.specs.Counts.{is_unsettled_by, count_below};
 ghost use Rattle.place_pass.specs.Trees.{TreeOf};
-ghost use Rattle.place_pass.specs.Sights.{sight_rank, rank_with, found_rank, turn_in, IsSight, IsFound, IsLeast, AreBounded, is_first};
+ghost use Rattle.place_pass.specs.Sights.{sight_rank, rank_with, found_rank, turn_in, IsFree, IsSight, AreBounded, is_first};
+ghost use Rattle.place_pass.specs.Scenes.{board_in, CanSearch, IsBestOn, IsMarked, IsSettledBy, AreMarked, IsFoundIn, IsLeastOn};
 
 use crate::line::Line;
 use crate::marks::{Mark, Rank};
@@ -48,19 +48,28 @@ pub(crate) struct Sight {
     pub(crate) unit: UnitNo,
 }
 
+/// What a search reads: what is asked, the line with its tree and the turns of its pairs, the next turn, and the table.
+#[derive(Clone, Copy)]
+pub(crate) struct Scene<'a> {
+    pub(crate) wishes: &'a Wishes,
+    pub(crate) line: &'a Line,
+    pub(crate) tree: &'a Tree,
+    pub(crate) turn_of: &'a [u64],
+    pub(crate) turns: u64,
+    pub(crate) table: &'a GrantTable,
+}
+
 impl Wishes {
-    ghost use Rattle.std.specs.Prelude.{◌≡◌, ◌-◌, ◌<◌, ◌≤◌, ◌&&◌, IsTrue, [], length};
+    ghost use Rattle.std.specs.Prelude.{◌≡◌, ◌<◌, ◌&&◌, [], length};
     ghost use Rattle.std.proofs.Common.{get_or};
     ghost use Rattle.written_roles.specs.Masters.{out_of, level_of};
     ghost use Rattle.written_roles.specs.Placing.{is_allowed_in, accepts_in, has_room_in};
     ghost use Rattle.fuxi_terms.specs.Jobs.{unit_count, group_of, size_at};
-    ghost use Rattle.fuxi_terms.specs.Vectors.{at_place};
-    ghost use Rattle.fuxi_terms.specs.Cluster.{has_at};
-    ghost use Rattle.fuxi_terms.specs.Tables.{total_at};
     ghost use Rattle.grant_table.specs.Tables.{as_known};
     ghost use Rattle.place_pass.specs.Cells.{asks_in, job_at};
     ghost use Rattle.place_pass.specs.Placers.{AreLevel, board_over};
     ghost use Rattle.place_pass.specs.Bounds.{is_nearer_in};
+    ghost use Rattle.place_pass.specs.Sights.{IsFree};
     ghost use Rattle.fuxi_terms.specs.Tables.{spot};
 
     /// What a unit still wants.
@@ -108,8 +117,7 @@ impl Wishes {
         requires level { AreLevel self.now.cluster (job_at self.now.cells) table.now }
         requires unit { unit.0 < length (get_or self.now.cells app.0 []) }
         requires machine { machine.0 < length table.now.cluster.machines }
-        requires free { (i : ℕ) → at_place free.now.q i ≡ has_at table.now.cluster machine.0 i - total_at (as_known table.now.jobs) machine.0 i table.now.entries }
-        requires within { (i : ℕ) → total_at (as_known table.now.jobs) machine.0 i table.now.entries ≤ has_at table.now.cluster machine.0 i }
+        requires free { IsFree table.now machine.0 free.now.q }
         ensures { result ≡ (accepts_in (board_over self.now.cells self.now.opened table.now) table.now.entries app.0 unit.0 machine.0 && has_room_in table.now.cluster (board_over self.now.cells self.now.opened table.now).sizes table.now.entries app.0 unit.0 machine.0) }
     {
         let _table = table.cluster();
@@ -265,7 +273,7 @@ fn may_be_nearer(before: &Option<Sight>, rank: &Rank) -> bool
 
 /// Where the number of a unit stands among 8 places for each job.
 pub(crate) fn slot(app: AppNo, unit: UnitNo) -> usize
-    requires app { app.0 < 256 }
+    requires app { app.0 < most_jobs }
     requires unit { unit.0 < 8 }
     ensures { result ≡ app.0 * 8 + unit.0 }
 {
@@ -275,7 +283,7 @@ pub(crate) fn slot(app: AppNo, unit: UnitNo) -> usize
 /// The turn of an admitted unit.
 pub(crate) fn turn_of_unit(wishes: &Wishes, turn_of: &[u64], app: AppNo, unit: UnitNo) -> u64
     requires unit { unit.0 < length (get_or wishes.now.cells app.0 []) }
-    requires places { length turn_of.now ≡ 2048 }
+    requires places { length turn_of.now ≡ unit_places }
     ensures { result ≡ turn_in turn_of.now (app.0, unit.0) }
 {
     let _wishes = wishes.cluster();
@@ -283,16 +291,14 @@ pub(crate) fn turn_of_unit(wishes: &Wishes, turn_of: &[u64], app: AppNo, unit: U
 }
 
 // The place from which on the turns are at least this one.
-fn place_from(wishes: &Wishes, line: &Line, turn_of: &[u64], turn: u64) -> usize
-    requires admitted { AreAdmitted wishes.now.cells line.now.pairs }
-    requires places { length turn_of.now ≡ 2048 }
-    requires rises { Rises (turn_in turn_of.now) line.now.pairs }
-    ensures { (k : ℕ) (p : ℕ × ℕ) → k < result → slice_get line.now.pairs k ≡ Some p → turn_in turn_of.now p < turn }
+fn place_from(scene: &Scene<'_>, turn: u64) -> usize
+    requires ready { CanSearch scene.now }
+    ensures { (k : ℕ) (p : ℕ × ℕ) → k < result → slice_get scene.now.line.now.pairs k ≡ Some p → turn_in scene.now.turn_of.now p < turn }
 {
-    let mut place = line.len();
+    let mut place = scene.line.len();
     while place > 0 {
-        let (app, unit) = line.at(place - 1);
-        if turn_of_unit(wishes, turn_of, app, unit) < turn {
+        let (app, unit) = scene.line.at(place - 1);
+        if turn_of_unit(scene.wishes, scene.turn_of, app, unit) < turn {
             return place;
         }
         place -= 1;
@@ -303,31 +309,29 @@ fn place_from(wishes: &Wishes, line: &Line, turn_of: &[u64], turn: u64) -> usize
 // Whether the machine takes the unit and has room for it, and the limit of its group allows it. Where it would fit and is not allowed
 // its group is noted.
 fn may_place(
-    wishes: &Wishes,
-    table: &GrantTable,
+    scene: &Scene<'_>,
     machine: MachineNo,
     free: &Res,
     app: AppNo,
     unit: UnitNo,
     groups: &mut [bool; 32],
 ) -> bool
-    requires level { AreLevel wishes.now.cluster (job_at wishes.now.cells) table.now }
-    requires unit { unit.0 < length (get_or wishes.now.cells app.0 []) }
-    requires machine { machine.0 < length table.now.cluster.machines }
-    requires free { (i : ℕ) → at_place free.now.q i ≡ has_at table.now.cluster machine.0 i - total_at (as_known table.now.jobs) machine.0 i table.now.entries }
-    requires within { (i : ℕ) → total_at (as_known table.now.jobs) machine.0 i table.now.entries ≤ has_at table.now.cluster machine.0 i }
-    ensures fits { result ≡ true → (accepts_in (board_over wishes.now.cells wishes.now.opened table.now) table.now.entries app.0 unit.0 machine.0 && has_room_in table.now.cluster (board_over wishes.now.cells wishes.now.opened table.now).sizes table.now.entries app.0 unit.0 machine.0) ≡ true }
-    ensures allowed { result ≡ true → is_allowed_in table.now.cluster (board_over wishes.now.cells wishes.now.opened table.now).groups (board_over wishes.now.cells wishes.now.opened table.now).sizes table.now.entries app.0 unit.0 ≡ true }
-    ensures bounded { result ≡ false → (bound : Option (List ℕ)) (t : ℕ) → IsBounded (board_over wishes.now.cells wishes.now.opened table.now) table.now.entries bound groups.new t (app.0, unit.0) machine.0 }
+    requires level { AreLevel scene.now.wishes.now.cluster (job_at scene.now.wishes.now.cells) scene.now.table.now }
+    requires unit { unit.0 < length (get_or scene.now.wishes.now.cells app.0 []) }
+    requires machine { machine.0 < length scene.now.table.now.cluster.machines }
+    requires free { IsFree scene.now.table.now machine.0 free.now.q }
+    ensures fits { result ≡ true → (accepts_in (board_in scene.now) scene.now.table.now.entries app.0 unit.0 machine.0 && has_room_in scene.now.table.now.cluster (board_in scene.now).sizes scene.now.table.now.entries app.0 unit.0 machine.0) ≡ true }
+    ensures allowed { result ≡ true → is_allowed_in scene.now.table.now.cluster (board_in scene.now).groups (board_in scene.now).sizes scene.now.table.now.entries app.0 unit.0 ≡ true }
+    ensures bounded { result ≡ false → (bound : Option (List ℕ)) (t : ℕ) → IsBounded (board_in scene.now) scene.now.table.now.entries bound groups.new t (app.0, unit.0) machine.0 }
     ensures kept { (g : ℕ) → get_or groups.old g false ≡ true → get_or groups.new g false ≡ true }
     ensures same { result ≡ true → groups.new ≡ groups.old }
-    ensures passed { (accepts_in (board_over wishes.now.cells wishes.now.opened table.now) table.now.entries app.0 unit.0 machine.0 && has_room_in table.now.cluster (board_over wishes.now.cells wishes.now.opened table.now).sizes table.now.entries app.0 unit.0 machine.0) ≡ false → groups.new ≡ groups.old }
+    ensures passed { (accepts_in (board_in scene.now) scene.now.table.now.entries app.0 unit.0 machine.0 && has_room_in scene.now.table.now.cluster (board_in scene.now).sizes scene.now.table.now.entries app.0 unit.0 machine.0) ≡ false → groups.new ≡ groups.old }
 {
-    if !wishes.takes(table, free, app, unit, machine) {
+    if !scene.wishes.takes(scene.table, free, app, unit, machine) {
         return false;
     }
-    if !wishes.allowed(table, app, unit) {
-        let group = wishes.group(table, app, unit);
+    if !scene.wishes.allowed(scene.table, app, unit) {
+        let group = scene.wishes.group(scene.table, app, unit);
         groups[group.0 as usize] = true;
         return false;
     }
@@ -337,9 +341,7 @@ fn may_place(
 // The better of what was found before and of one unit, where it may be placed. Where it would fit and is not allowed its group
 // is noted.
 fn weigh(
-    wishes: &Wishes,
-    turn_of: &[u64],
-    table: &GrantTable,
+    scene: &Scene<'_>,
     machine: MachineNo,
     free: &Res,
     app: AppNo,
@@ -347,24 +349,23 @@ fn weigh(
     groups: &mut [bool; 32],
     before: Option<Sight>,
 ) -> Option<Sight>
-    requires level { AreLevel wishes.now.cluster (job_at wishes.now.cells) table.now }
-    requires unit { unit.0 < length (get_or wishes.now.cells app.0 []) }
-    requires machine { machine.0 < length table.now.cluster.machines }
-    requires places { length turn_of.now ≡ 2048 }
-    requires free { (i : ℕ) → at_place free.now.q i ≡ has_at table.now.cluster machine.0 i - total_at (as_known table.now.jobs) machine.0 i table.now.entries }
-    requires within { (i : ℕ) → total_at (as_known table.now.jobs) machine.0 i table.now.entries ≤ has_at table.now.cluster machine.0 i }
-    ensures here { IsBounded (board_over wishes.now.cells wishes.now.opened table.now) table.now.entries (sight_rank result) groups.new (turn_in turn_of.now (app.0, unit.0)) (app.0, unit.0) machine.0 }
-    ensures kept { (q : ℕ × ℕ) (t : ℕ) → IsBounded (board_over wishes.now.cells wishes.now.opened table.now) table.now.entries (sight_rank before) groups.old t q machine.0 → IsBounded (board_over wishes.now.cells wishes.now.opened table.now) table.now.entries (sight_rank result) groups.new t q machine.0 }
-    ensures sight { (line : List (ℕ × ℕ)) (place : ℕ) → slice_get line place ≡ Some (app.0, unit.0) → out_of (asks_in wishes.now.cells) table.now.entries app.0 unit.0 ≢ 0 → IfSome before (λ x. IsSight (board_over wishes.now.cells wishes.now.opened table.now) table.now.entries (turn_in turn_of.now) line machine.0 x) → IfSome result (λ x. IsSight (board_over wishes.now.cells wishes.now.opened table.now) table.now.entries (turn_in turn_of.now) line machine.0 x) }
+    requires ready { CanSearch scene.now }
+    requires unit { unit.0 < length (get_or scene.now.wishes.now.cells app.0 []) }
+    requires machine { machine.0 < length scene.now.table.now.cluster.machines }
+    requires free { IsFree scene.now.table.now machine.0 free.now.q }
+    ensures here { IsBounded (board_in scene.now) scene.now.table.now.entries (sight_rank result) groups.new (turn_in scene.now.turn_of.now (app.0, unit.0)) (app.0, unit.0) machine.0 }
+    ensures kept { (q : ℕ × ℕ) (t : ℕ) → IsBounded (board_in scene.now) scene.now.table.now.entries (sight_rank before) groups.old t q machine.0 → IsBounded (board_in scene.now) scene.now.table.now.entries (sight_rank result) groups.new t q machine.0 }
+    ensures sight { (line : List (ℕ × ℕ)) (place : ℕ) → slice_get line place ≡ Some (app.0, unit.0) → out_of (asks_in scene.now.wishes.now.cells) scene.now.table.now.entries app.0 unit.0 ≢ 0 → IfSome before (λ x. IsSight (board_in scene.now) scene.now.table.now.entries (turn_in scene.now.turn_of.now) line machine.0 x) → IfSome result (λ x. IsSight (board_in scene.now) scene.now.table.now.entries (turn_in scene.now.turn_of.now) line machine.0 x) }
 {
+    let wishes = scene.wishes;
     let late = 9_u8.saturating_sub(wishes.wish(app, unit).priority);
-    let level = wishes.level(table, app, unit, machine);
-    let turn = turn_of_unit(wishes, turn_of, app, unit);
+    let level = wishes.level(scene.table, app, unit, machine);
+    let turn = turn_of_unit(wishes, scene.turn_of, app, unit);
     let rank = Rank { late, level, turn };
     if !may_be_nearer(&before, &rank) {
         return before;
     }
-    if !may_place(wishes, table, machine, free, app, unit, groups) {
+    if !may_place(scene, machine, free, app, unit, groups) {
         return before;
     }
     nearer(before, Sight { rank, app, unit })
@@ -372,32 +373,22 @@ fn weigh(
 
 // The best placeable pair on one machine among those of the line from a place on.
 fn best_from(
-    wishes: &Wishes,
-    line: &Line,
-    turn_of: &[u64],
-    table: &GrantTable,
+    scene: &Scene<'_>,
     machine: MachineNo,
     free: &Res,
     from: usize,
     groups: &mut [bool; 32],
 ) -> Option<Sight>
-    requires level { AreLevel wishes.now.cluster (job_at wishes.now.cells) table.now }
-    requires machine { machine.0 < length table.now.cluster.machines }
-    requires admitted { AreAdmitted wishes.now.cells line.now.pairs }
-    requires places { length turn_of.now ≡ 2048 }
-    requires waits { (a u : ℕ) → has_pair (a, u) line.now.pairs ≡ true → out_of (asks_in wishes.now.cells) table.now.entries a u ≢ 0 }
-    requires free { (i : ℕ) → at_place free.now.q i ≡ has_at table.now.cluster machine.0 i - total_at (as_known table.now.jobs) machine.0 i table.now.entries }
-    requires within { (i : ℕ) → total_at (as_known table.now.jobs) machine.0 i table.now.entries ≤ has_at table.now.cluster machine.0 i }
-    requires before { (k : ℕ) (p : ℕ × ℕ) → k < from → slice_get line.now.pairs k ≡ Some p → IsBounded (board_over wishes.now.cells wishes.now.opened table.now) table.now.entries None groups.old (turn_in turn_of.now p) p machine.0 }
-    ensures bounded { (k : ℕ) (p : ℕ × ℕ) → slice_get line.now.pairs k ≡ Some p → IsBounded (board_over wishes.now.cells wishes.now.opened table.now) table.now.entries (sight_rank result) groups.new (turn_in turn_of.now p) p machine.0 }
-    ensures sight { IfSome result (λ x. IsSight (board_over wishes.now.cells wishes.now.opened table.now) table.now.entries (turn_in turn_of.now) line.now.pairs machine.0 x) }
+    requires ready { CanSearch scene.now }
+    requires machine { machine.0 < length scene.now.table.now.cluster.machines }
+    requires free { IsFree scene.now.table.now machine.0 free.now.q }
+    requires before { (k : ℕ) (p : ℕ × ℕ) → k < from → slice_get scene.now.line.now.pairs k ≡ Some p → IsBounded (board_in scene.now) scene.now.table.now.entries None groups.old (turn_in scene.now.turn_of.now p) p machine.0 }
+    ensures { IsBestOn scene.now machine.0 groups.new result }
 {
     let mut best = None;
-    for place in from..line.len() {
-        let (app, unit) = line.at(place);
-        best = weigh(
-            wishes, turn_of, table, machine, free, app, unit, groups, best,
-        );
+    for place in from..scene.line.len() {
+        let (app, unit) = scene.line.at(place);
+        best = weigh(scene, machine, free, app, unit, groups, best);
     }
     best
 }
@@ -405,29 +396,20 @@ fn best_from(
 // The best placeable pair on one machine: the first of its path that may be placed there, since the path has the pairs of the line
 // in the order of ranks. Of those before it that would fit and are not allowed the groups are noted.
 fn best_on(
-    wishes: &Wishes,
-    line: &Line,
-    tree: &Tree,
-    turn_of: &[u64],
-    table: &GrantTable,
+    scene: &Scene<'_>,
     machine: MachineNo,
     free: &Res,
     groups: &mut [bool; 32],
 ) -> Option<Sight>
-    requires level { AreLevel wishes.now.cluster (job_at wishes.now.cells) table.now }
-    requires machine { machine.0 < length table.now.cluster.machines }
-    requires admitted { AreAdmitted wishes.now.cells line.now.pairs }
-    requires places { length turn_of.now ≡ 2048 }
-    requires waits { (a u : ℕ) → has_pair (a, u) line.now.pairs ≡ true → out_of (asks_in wishes.now.cells) table.now.entries a u ≢ 0 }
-    requires tree { TreeOf wishes.now.cluster wishes.now.cells line.now.pairs turn_of.now table.now.entries tree.now }
-    requires free { (i : ℕ) → at_place free.now.q i ≡ has_at table.now.cluster machine.0 i - total_at (as_known table.now.jobs) machine.0 i table.now.entries }
-    requires within { (i : ℕ) → total_at (as_known table.now.jobs) machine.0 i table.now.entries ≤ has_at table.now.cluster machine.0 i }
-    ensures bounded { (q : ℕ × ℕ) → has_pair q line.now.pairs ≡ true → IsBounded (board_over wishes.now.cells wishes.now.opened table.now) table.now.entries (sight_rank result) groups.new (turn_in turn_of.now q) q machine.0 }
-    ensures sight { IfSome result (λ x. IsSight (board_over wishes.now.cells wishes.now.opened table.now) table.now.entries (turn_in turn_of.now) line.now.pairs machine.0 x) }
+    requires ready { CanSearch scene.now }
+    requires machine { machine.0 < length scene.now.table.now.cluster.machines }
+    requires free { IsFree scene.now.table.now machine.0 free.now.q }
+    ensures bounded { (q : ℕ × ℕ) → has_pair q scene.now.line.now.pairs ≡ true → IsBounded (board_in scene.now) scene.now.table.now.entries (sight_rank result) groups.new (turn_in scene.now.turn_of.now q) q machine.0 }
+    ensures sight { IfSome result (λ x. IsSight (board_in scene.now) scene.now.table.now.entries (turn_in scene.now.turn_of.now) scene.now.line.now.pairs machine.0 x) }
 {
-    let _table = table.cluster();
-    let mut path = tree.path(machine);
-    let mut left = line.len();
+    let _table = scene.table.cluster();
+    let mut path = scene.tree.path(machine);
+    let mut left = scene.line.len();
     while left > 0 {
         left -= 1;
         let Some((entry, level)) = path.next() else {
@@ -435,11 +417,11 @@ fn best_on(
         };
         let app = entry.app;
         let unit = entry.unit;
-        if !may_place(wishes, table, machine, free, app, unit, groups) {
+        if !may_place(scene, machine, free, app, unit, groups) {
             continue;
         }
         let late = 9_u8.saturating_sub(entry.priority);
-        let turn = turn_of_unit(wishes, turn_of, app, unit);
+        let turn = turn_of_unit(scene.wishes, scene.turn_of, app, unit);
         let rank = Rank { late, level, turn };
         return Some(Sight { rank, app, unit });
     }
@@ -447,53 +429,19 @@ fn best_on(
 }
 
 // The best placeable pair on one machine: of all pairs of the line, and where none that was looked at is placeable, of the others.
-fn see(
-    wishes: &Wishes,
-    line: &Line,
-    tree: &Tree,
-    turn_of: &[u64],
-    table: &GrantTable,
-    machine: MachineNo,
-    free: &Res,
-    mark: &mut Mark,
-) -> Option<Sight>
-    requires level { AreLevel wishes.now.cluster (job_at wishes.now.cells) table.now }
-    requires machine { machine.0 < length table.now.cluster.machines }
-    requires admitted { AreAdmitted wishes.now.cells line.now.pairs }
-    requires places { length turn_of.now ≡ 2048 }
-    requires waits { (a u : ℕ) → has_pair (a, u) line.now.pairs ≡ true → out_of (asks_in wishes.now.cells) table.now.entries a u ≢ 0 }
-    requires rises { Rises (turn_in turn_of.now) line.now.pairs }
-    requires tree { TreeOf wishes.now.cluster wishes.now.cells line.now.pairs turn_of.now table.now.entries tree.now }
-    requires free { (i : ℕ) → at_place free.now.q i ≡ has_at table.now.cluster machine.0 i - total_at (as_known table.now.jobs) machine.0 i table.now.entries }
-    requires within { (i : ℕ) → total_at (as_known table.now.jobs) machine.0 i table.now.entries ≤ has_at table.now.cluster machine.0 i }
-    requires old { AreBounded (board_over wishes.now.cells wishes.now.opened table.now) table.now.entries (turn_in turn_of.now) line.now.pairs (mark_of mark.old) machine.0 }
-    ensures bounded { (k : ℕ) (p : ℕ × ℕ) → slice_get line.now.pairs k ≡ Some p → IsBounded (board_over wishes.now.cells wishes.now.opened table.now) table.now.entries (sight_rank result) mark.new.groups (turn_in turn_of.now p) p machine.0 }
-    ensures sight { IfSome result (λ x. IsSight (board_over wishes.now.cells wishes.now.opened table.now) table.now.entries (turn_in turn_of.now) line.now.pairs machine.0 x) }
+fn see(scene: &Scene<'_>, machine: MachineNo, free: &Res, mark: &mut Mark) -> Option<Sight>
+    requires ready { CanSearch scene.now }
+    requires machine { machine.0 < length scene.now.table.now.cluster.machines }
+    requires free { IsFree scene.now.table.now machine.0 free.now.q }
+    requires old { AreBounded (board_in scene.now) scene.now.table.now.entries (turn_in scene.now.turn_of.now) scene.now.line.now.pairs (mark_of mark.old) machine.0 }
+    ensures { IsBestOn scene.now machine.0 mark.new.groups result }
 {
     if mark.bound.is_none() {
-        let from = place_from(wishes, line, turn_of, mark.until);
-        return best_from(
-            wishes,
-            line,
-            turn_of,
-            table,
-            machine,
-            free,
-            from,
-            &mut mark.groups,
-        );
+        let from = place_from(scene, mark.until);
+        return best_from(scene, machine, free, from, &mut mark.groups);
     }
     mark.groups = [false; 32];
-    best_on(
-        wishes,
-        line,
-        tree,
-        turn_of,
-        table,
-        machine,
-        free,
-        &mut mark.groups,
-    )
+    best_on(scene, machine, free, &mut mark.groups)
 }
 
 // The rank of what is seen.
@@ -508,34 +456,23 @@ fn rank_in(best: &Option<Sight>) -> Option<Rank>
 
 // Looks at one machine, which is a step. Its mark is exact then.
 fn look<L: Ledger>(
-    wishes: &Wishes,
-    line: &Line,
-    tree: &Tree,
-    turn_of: &[u64],
-    turns: u64,
-    table: &GrantTable,
+    scene: &Scene<'_>,
     machine: MachineNo,
     mark: &mut Mark,
     steps: &mut Steps<L>,
 ) -> Option<Sight>
-    requires level { AreLevel wishes.now.cluster (job_at wishes.now.cells) table.now }
-    requires machine { machine.0 < length table.now.cluster.machines }
-    requires admitted { AreAdmitted wishes.now.cells line.now.pairs }
-    requires places { length turn_of.now ≡ 2048 }
-    requires waits { (a u : ℕ) → has_pair (a, u) line.now.pairs ≡ true → out_of (asks_in wishes.now.cells) table.now.entries a u ≢ 0 }
-    requires rises { Rises (turn_in turn_of.now) line.now.pairs }
-    requires tree { TreeOf wishes.now.cluster wishes.now.cells line.now.pairs turn_of.now table.now.entries tree.now }
-    requires old { AreBounded (board_over wishes.now.cells wishes.now.opened table.now) table.now.entries (turn_in turn_of.now) line.now.pairs (mark_of mark.old) machine.0 }
-    ensures bounded { (k : ℕ) (p : ℕ × ℕ) → slice_get line.now.pairs k ≡ Some p → IsBounded (board_over wishes.now.cells wishes.now.opened table.now) table.now.entries (sight_rank result) mark.new.groups (turn_in turn_of.now p) p machine.0 }
-    ensures sight { IfSome result (λ x. IsSight (board_over wishes.now.cells wishes.now.opened table.now) table.now.entries (turn_in turn_of.now) line.now.pairs machine.0 x) }
+    requires ready { CanSearch scene.now }
+    requires machine { machine.0 < length scene.now.table.now.cluster.machines }
+    requires old { AreBounded (board_in scene.now) scene.now.table.now.entries (turn_in scene.now.turn_of.now) scene.now.line.now.pairs (mark_of mark.old) machine.0 }
+    ensures best { IsBestOn scene.now machine.0 mark.new.groups result }
     ensures bound { option_map rank_of mark.new.bound ≡ sight_rank result }
-    ensures until { mark.new.until ≡ turns }
+    ensures until { mark.new.until ≡ scene.now.turns }
     ensures step { steps.new ≡ steps.old + 1 }
 {
-    let free = table.free(machine, steps);
-    let best = see(wishes, line, tree, turn_of, table, machine, &free, mark);
+    let free = scene.table.free(machine, steps);
+    let best = see(scene, machine, &free, mark);
     mark.bound = rank_in(&best);
-    mark.until = turns;
+    mark.until = scene.turns;
     best
 }
 
@@ -551,48 +488,33 @@ fn may_be_first(best: &Option<Found>, key: &Rank, machine: MachineNo) -> bool
 
 // The best of what was found before and of what is placeable on one machine, which is looked at only where it may be first.
 fn consider<L: Ledger>(
-    wishes: &Wishes,
-    line: &Line,
-    tree: &Tree,
-    turn_of: &[u64],
-    turns: u64,
-    table: &GrantTable,
+    scene: &Scene<'_>,
     machine: MachineNo,
     mark: &mut Mark,
     steps: &mut Steps<L>,
     before: Option<Found>,
 ) -> Option<Found>
-    requires level { AreLevel wishes.now.cluster (job_at wishes.now.cells) table.now }
-    requires machine { machine.0 < length table.now.cluster.machines }
-    requires admitted { AreAdmitted wishes.now.cells line.now.pairs }
-    requires places { length turn_of.now ≡ 2048 }
-    requires waits { (a u : ℕ) → has_pair (a, u) line.now.pairs ≡ true → out_of (asks_in wishes.now.cells) table.now.entries a u ≢ 0 }
-    requires rises { Rises (turn_in turn_of.now) line.now.pairs }
-    requires tree { TreeOf wishes.now.cluster wishes.now.cells line.now.pairs turn_of.now table.now.entries tree.now }
-    requires below { (q : ℕ × ℕ) → has_pair q line.now.pairs ≡ true → turn_in turn_of.now q < turns }
-    requires old { get_or wishes.now.opened machine.0 false ≡ true → AreBounded (board_over wishes.now.cells wishes.now.opened table.now) table.now.entries (turn_in turn_of.now) line.now.pairs (mark_of mark.old) machine.0 }
-    requires until { get_or wishes.now.opened machine.0 false ≡ true → mark.old.until ≤ turns }
-    ensures bounded { get_or wishes.now.opened machine.0 false ≡ true → AreBounded (board_over wishes.now.cells wishes.now.opened table.now) table.now.entries (turn_in turn_of.now) line.now.pairs (mark_of mark.new) machine.0 }
-    ensures until { get_or wishes.now.opened machine.0 false ≡ true → mark.new.until ≤ turns }
-    ensures least { IsLeast (board_over wishes.now.cells wishes.now.opened table.now) table.now.entries (turn_in turn_of.now) line.now.pairs (found_rank result) machine.0 }
+    requires ready { CanSearch scene.now }
+    requires machine { machine.0 < length scene.now.table.now.cluster.machines }
+    requires old { IsMarked scene.now machine.0 (mark_of mark.old) }
+    ensures mark { IsMarked scene.now machine.0 (mark_of mark.new) }
+    ensures least { IsLeastOn scene.now result machine.0 }
     ensures kept { (r : List ℕ) → is_bound (found_rank before) r ≡ true → is_bound (found_rank result) r ≡ true }
-    ensures found { IfSome before (λ x. IsFound (board_over wishes.now.cells wishes.now.opened table.now) table.now.entries (turn_in turn_of.now) line.now.pairs x) → IfSome result (λ x. IsFound (board_over wishes.now.cells wishes.now.opened table.now) table.now.entries (turn_in turn_of.now) line.now.pairs x) }
-    ensures count { steps.new ≤ steps.old + cond (is_unsettled_by wishes.now.opened (mark_of mark.old) turns machine.0) 1 0 }
-    ensures settled { result ≡ None → get_or wishes.now.opened machine.0 false ≡ true → key_of (mark_of mark.new) turns ≡ None }
+    ensures found { IfSome before (λ x. IsFoundIn scene.now x) → IfSome result (λ x. IsFoundIn scene.now x) }
+    ensures count { steps.new ≤ steps.old + cond (is_unsettled_by scene.now.wishes.now.opened (mark_of mark.old) scene.now.turns machine.0) 1 0 }
+    ensures settled { result ≡ None → IsSettledBy scene.now machine.0 (mark_of mark.new) }
     ensures empty { result ≡ None → before ≡ None }
 {
-    if !wishes.is_open(machine) {
+    if !scene.wishes.is_open(machine) {
         return before;
     }
-    let Some(key) = mark.key(turns) else {
+    let Some(key) = mark.key(scene.turns) else {
         return before;
     };
     if !may_be_first(&before, &key, machine) {
         return before;
     }
-    match look(
-        wishes, line, tree, turn_of, turns, table, machine, mark, steps,
-    ) {
+    match look(scene, machine, mark, steps) {
         Some(sight) => {
             let pick = Pick {
                 app: sight.app,
@@ -613,43 +535,28 @@ fn consider<L: Ledger>(
 
 // The same of a machine by its number.
 fn consider_at<L: Ledger>(
-    wishes: &Wishes,
-    line: &Line,
-    tree: &Tree,
-    turn_of: &[u64],
-    turns: u64,
-    table: &GrantTable,
+    scene: &Scene<'_>,
     machine: MachineNo,
     marks: &mut Vec<Mark>,
     steps: &mut Steps<L>,
     before: Option<Found>,
 ) -> Option<Found>
-    requires level { AreLevel wishes.now.cluster (job_at wishes.now.cells) table.now }
-    requires machine { machine.0 < length table.now.cluster.machines }
-    requires admitted { AreAdmitted wishes.now.cells line.now.pairs }
-    requires places { length turn_of.now ≡ 2048 }
-    requires waits { (a u : ℕ) → has_pair (a, u) line.now.pairs ≡ true → out_of (asks_in wishes.now.cells) table.now.entries a u ≢ 0 }
-    requires rises { Rises (turn_in turn_of.now) line.now.pairs }
-    requires tree { TreeOf wishes.now.cluster wishes.now.cells line.now.pairs turn_of.now table.now.entries tree.now }
-    requires below { (q : ℕ × ℕ) → has_pair q line.now.pairs ≡ true → turn_in turn_of.now q < turns }
-    requires marked { length marks.old.items ≡ length table.now.cluster.machines }
-    requires old { (m : ℕ) → get_or wishes.now.opened m false ≡ true → AreBounded (board_over wishes.now.cells wishes.now.opened table.now) table.now.entries (turn_in turn_of.now) line.now.pairs (mark_at (map mark_of marks.old.items) m) m }
-    requires until { (m : ℕ) → get_or wishes.now.opened m false ≡ true → (mark_at (map mark_of marks.old.items) m).until ≤ turns }
+    requires ready { CanSearch scene.now }
+    requires machine { machine.0 < length scene.now.table.now.cluster.machines }
+    requires marked { length marks.old.items ≡ length scene.now.table.now.cluster.machines }
+    requires old { AreMarked scene.now (map mark_of marks.old.items) }
     ensures marked { length marks.new.items ≡ length marks.old.items }
-    ensures bounded { (m : ℕ) → get_or wishes.now.opened m false ≡ true → AreBounded (board_over wishes.now.cells wishes.now.opened table.now) table.now.entries (turn_in turn_of.now) line.now.pairs (mark_at (map mark_of marks.new.items) m) m }
-    ensures until { (m : ℕ) → get_or wishes.now.opened m false ≡ true → (mark_at (map mark_of marks.new.items) m).until ≤ turns }
-    ensures least { IsLeast (board_over wishes.now.cells wishes.now.opened table.now) table.now.entries (turn_in turn_of.now) line.now.pairs (found_rank result) machine.0 }
+    ensures marks { AreMarked scene.now (map mark_of marks.new.items) }
+    ensures least { IsLeastOn scene.now result machine.0 }
     ensures kept { (r : List ℕ) → is_bound (found_rank before) r ≡ true → is_bound (found_rank result) r ≡ true }
-    ensures found { IfSome before (λ x. IsFound (board_over wishes.now.cells wishes.now.opened table.now) table.now.entries (turn_in turn_of.now) line.now.pairs x) → IfSome result (λ x. IsFound (board_over wishes.now.cells wishes.now.opened table.now) table.now.entries (turn_in turn_of.now) line.now.pairs x) }
+    ensures found { IfSome before (λ x. IsFoundIn scene.now x) → IfSome result (λ x. IsFoundIn scene.now x) }
     ensures others { (m : ℕ) → nat_eq machine.0 m ≡ false → mark_at (map mark_of marks.new.items) m ≡ mark_at (map mark_of marks.old.items) m }
-    ensures count { steps.new ≤ steps.old + cond (is_unsettled_by wishes.now.opened (mark_at (map mark_of marks.old.items) machine.0) turns machine.0) 1 0 }
-    ensures settled { result ≡ None → get_or wishes.now.opened machine.0 false ≡ true → key_of (mark_at (map mark_of marks.new.items) machine.0) turns ≡ None }
+    ensures count { steps.new ≤ steps.old + cond (is_unsettled_by scene.now.wishes.now.opened (mark_at (map mark_of marks.old.items) machine.0) scene.now.turns machine.0) 1 0 }
+    ensures settled { result ≡ None → IsSettledBy scene.now machine.0 (mark_at (map mark_of marks.new.items) machine.0) }
     ensures empty { result ≡ None → before ≡ None }
 {
     let mark = &mut marks[machine.0 as usize];
-    consider(
-        wishes, line, tree, turn_of, turns, table, machine, mark, steps, before,
-    )
+    consider(scene, machine, mark, steps, before)
 }
 
 // Whether the machine is open and by its mark a pair may be placeable there. The others are passed before they are considered.
@@ -694,57 +601,33 @@ fn least_machine(wishes: &Wishes, marks: &Vec<Mark>, machines: u32, turns: u64) 
 // The best of what was found on the machine that was considered first and of what is placeable on the others, in the order
 // of machines.
 fn best_of_others<L: Ledger>(
-    wishes: &Wishes,
-    line: &Line,
-    tree: &Tree,
-    turn_of: &[u64],
-    turns: u64,
-    table: &GrantTable,
+    scene: &Scene<'_>,
     start: MachineNo,
     marks: &mut Vec<Mark>,
     steps: &mut Steps<L>,
     before: Option<Found>,
 ) -> Option<Found>
-    requires level { AreLevel wishes.now.cluster (job_at wishes.now.cells) table.now }
-    requires admitted { AreAdmitted wishes.now.cells line.now.pairs }
-    requires places { length turn_of.now ≡ 2048 }
-    requires waits { (a u : ℕ) → has_pair (a, u) line.now.pairs ≡ true → out_of (asks_in wishes.now.cells) table.now.entries a u ≢ 0 }
-    requires rises { Rises (turn_in turn_of.now) line.now.pairs }
-    requires tree { TreeOf wishes.now.cluster wishes.now.cells line.now.pairs turn_of.now table.now.entries tree.now }
-    requires below { (q : ℕ × ℕ) → has_pair q line.now.pairs ≡ true → turn_in turn_of.now q < turns }
-    requires marked { length marks.old.items ≡ length table.now.cluster.machines }
-    requires old { (m : ℕ) → get_or wishes.now.opened m false ≡ true → AreBounded (board_over wishes.now.cells wishes.now.opened table.now) table.now.entries (turn_in turn_of.now) line.now.pairs (mark_at (map mark_of marks.old.items) m) m }
-    requires until { (m : ℕ) → get_or wishes.now.opened m false ≡ true → (mark_at (map mark_of marks.old.items) m).until ≤ turns }
-    requires seen { IsLeast (board_over wishes.now.cells wishes.now.opened table.now) table.now.entries (turn_in turn_of.now) line.now.pairs (found_rank before) start.0 }
-    requires settled { before ≡ None → get_or wishes.now.opened start.0 false ≡ true → key_of (mark_at (map mark_of marks.old.items) start.0) turns ≡ None }
+    requires ready { CanSearch scene.now }
+    requires marked { length marks.old.items ≡ length scene.now.table.now.cluster.machines }
+    requires old { AreMarked scene.now (map mark_of marks.old.items) }
+    requires seen { IsLeastOn scene.now before start.0 }
+    requires settled { before ≡ None → IsSettledBy scene.now start.0 (mark_at (map mark_of marks.old.items) start.0) }
     ensures marked { length marks.new.items ≡ length marks.old.items }
-    ensures bounded { (m : ℕ) → get_or wishes.now.opened m false ≡ true → AreBounded (board_over wishes.now.cells wishes.now.opened table.now) table.now.entries (turn_in turn_of.now) line.now.pairs (mark_at (map mark_of marks.new.items) m) m }
-    ensures until { (m : ℕ) → get_or wishes.now.opened m false ≡ true → (mark_at (map mark_of marks.new.items) m).until ≤ turns }
-    ensures least { (m : ℕ) → m < length table.now.cluster.machines → IsLeast (board_over wishes.now.cells wishes.now.opened table.now) table.now.entries (turn_in turn_of.now) line.now.pairs (found_rank result) m }
-    ensures found { IfSome before (λ x. IsFound (board_over wishes.now.cells wishes.now.opened table.now) table.now.entries (turn_in turn_of.now) line.now.pairs x) → IfSome result (λ x. IsFound (board_over wishes.now.cells wishes.now.opened table.now) table.now.entries (turn_in turn_of.now) line.now.pairs x) }
-    ensures count { steps.new ≤ steps.old + count_below (λ m. not (nat_eq m start.0) && is_unsettled_by wishes.now.opened (mark_at (map mark_of marks.old.items) m) turns m) (length table.now.cluster.machines) }
-    ensures settled { result ≡ None → (m : ℕ) → m < length table.now.cluster.machines → get_or wishes.now.opened m false ≡ true → key_of (mark_at (map mark_of marks.new.items) m) turns ≡ None }
+    ensures marks { AreMarked scene.now (map mark_of marks.new.items) }
+    ensures least { (m : ℕ) → m < length scene.now.table.now.cluster.machines → IsLeastOn scene.now result m }
+    ensures found { IfSome before (λ x. IsFoundIn scene.now x) → IfSome result (λ x. IsFoundIn scene.now x) }
+    ensures count { steps.new ≤ steps.old + count_below (λ m. not (nat_eq m start.0) && is_unsettled_by scene.now.wishes.now.opened (mark_at (map mark_of marks.old.items) m) scene.now.turns m) (length scene.now.table.now.cluster.machines) }
+    ensures settled { result ≡ None → (m : ℕ) → m < length scene.now.table.now.cluster.machines → IsSettledBy scene.now m (mark_at (map mark_of marks.new.items) m) }
 {
     let mut best = before;
-    for number in 0..table.cluster().machines() {
+    for number in 0..scene.table.cluster().machines() {
         if number == start.0 {
             continue;
         }
-        if !is_unsettled(wishes, marks, MachineNo(number), turns) {
+        if !is_unsettled(scene.wishes, marks, MachineNo(number), scene.turns) {
             continue;
         }
-        best = consider_at(
-            wishes,
-            line,
-            tree,
-            turn_of,
-            turns,
-            table,
-            MachineNo(number),
-            marks,
-            steps,
-            best,
-        );
+        best = consider_at(scene, MachineNo(number), marks, steps, best);
     }
     best
 }
@@ -763,7 +646,7 @@ pub(crate) fn first<L: Ledger>(
 ) -> Option<Pick>
     requires level { AreLevel wishes.now.cluster (job_at wishes.now.cells) table.now }
     requires admitted { AreAdmitted wishes.now.cells line.now.pairs }
-    requires places { length turn_of.now ≡ 2048 }
+    requires places { length turn_of.now ≡ unit_places }
     requires waits { (a u : ℕ) → has_pair (a, u) line.now.pairs ≡ true → out_of (asks_in wishes.now.cells) table.now.entries a u ≢ 0 }
     requires rises { Rises (turn_in turn_of.now) line.now.pairs }
     requires tree { TreeOf wishes.now.cluster wishes.now.cells line.now.pairs turn_of.now table.now.entries tree.now }
@@ -783,12 +666,16 @@ pub(crate) fn first<L: Ledger>(
     if start.0 >= machines {
         return None;
     }
-    let best = consider_at(
-        wishes, line, tree, turn_of, turns, table, start, marks, steps, None,
-    );
-    match best_of_others(
-        wishes, line, tree, turn_of, turns, table, start, marks, steps, best,
-    ) {
+    let scene = Scene {
+        wishes,
+        line,
+        tree,
+        turn_of,
+        turns,
+        table,
+    };
+    let best = consider_at(&scene, start, marks, steps, None);
+    match best_of_others(&scene, start, marks, steps, best) {
         Some(found) => Some(found.pick),
         None => None,
     }

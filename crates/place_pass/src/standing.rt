@@ -11,7 +11,7 @@ ghost use Rattle.grant_table.specs.Tables.{TableRecord, as_known};
 ghost use Rattle.locality_tree.specs.Trees.{unit_at, unit_number, rack_place};
 ghost use Rattle.place_pass.specs.Best.{AreAdmitted};
 ghost use Rattle.place_pass.specs.Bounds.{IsRising, turn_at};
-ghost use Rattle.place_pass.specs.Cells.{asks_in, job_at};
+ghost use Rattle.place_pass.specs.Cells.{asks_in, job_at, unit_places};
 ghost use Rattle.place_pass.specs.Placers.{AreLevel, IsSetFrom};
 ghost use Rattle.place_pass.specs.Trees.{Holds, HoldsLine, AllStand, StandsAs, StandsNowhere, WaitsIn, Restood, RestoodAt, entry_for, is_unmet_on, is_unmet_in};
 
@@ -59,7 +59,7 @@ impl Wishes {
 // The entry with which a unit waits.
 fn entry_for(wishes: &Wishes, turn_of: &Vec<u64>, app: AppNo, unit: UnitNo) -> Entry
     requires unit { unit.0 < length (get_or wishes.now.cells app.0 []) }
-    requires places { length turn_of.now.items ≡ 2048 }
+    requires places { length turn_of.now.items ≡ unit_places }
     ensures { result ≡ entry_for wishes.now.cells turn_of.now.items app.0 unit.0 }
 {
     let priority = wishes.wish(app, unit).priority;
@@ -158,7 +158,7 @@ pub(crate) fn tell_spot(
     requires here { unit.0 < length (get_or wishes.now.cells app.0 []) }
     requires there { unit.0 < unit_count (as_known table.now.jobs) app.0 }
     requires machine { machine.0 < length table.now.cluster.machines }
-    requires places { length turn_of.now.items ≡ 2048 }
+    requires places { length turn_of.now.items ≡ unit_places }
     requires rises { IsRising (λ (p : ℕ × ℕ). turn_at turn_of.now.items p.0 p.1) line.now.pairs }
     requires holds { HoldsLine wishes.now.cluster wishes.now.cells line.now.pairs turn_of.now.items tree.old }
     ensures holds { HoldsLine wishes.now.cluster wishes.now.cells (cond (nat_lt 0 (out_of (asks_in wishes.now.cells) table.now.entries app.0 unit.0)) line.now.pairs (filter (λ p. not (nat_eq p.0 app.0 && nat_eq p.1 unit.0)) line.now.pairs)) turn_of.now.items tree.new }
@@ -191,7 +191,7 @@ pub(crate) fn tell_asked(
 )
     requires cluster { wishes.now.cluster ≡ table.now.cluster }
     requires admitted { AreAdmitted wishes.now.cells line.now.pairs }
-    requires places { length turn_of.now.items ≡ 2048 }
+    requires places { length turn_of.now.items ≡ unit_places }
     requires holds { HoldsLine wishes.now.cluster wishes.now.cells line.now.pairs turn_of.now.items tree.old }
     ensures holds { HoldsLine wishes.now.cluster wishes.now.cells line.now.pairs turn_of.now.items tree.new }
     ensures stands { length (get_or wishes.now.cells app.0 []) ≡ unit_count (as_known table.now.jobs) app.0
@@ -226,7 +226,7 @@ pub(crate) fn leave_line(
 )
     requires level { AreLevel wishes.now.cluster (job_at wishes.now.cells) table.now }
     requires admitted { AreAdmitted wishes.now.cells line.now.pairs }
-    requires places { length turn_of.now.items ≡ 2048 }
+    requires places { length turn_of.now.items ≡ unit_places }
     requires rises { IsRising (λ (p : ℕ × ℕ). turn_at turn_of.now.items p.0 p.1) line.now.pairs }
     requires holds { HoldsLine wishes.now.cluster wishes.now.cells line.now.pairs turn_of.now.items tree.old }
     ensures holds { Holds wishes.now.cluster wishes.now.cells (λ p. has_pair p line.now.pairs && nat_lt 0 (out_of (asks_in wishes.now.cells) table.now.entries p.0 p.1)) turn_of.now.items tree.new }
@@ -254,7 +254,7 @@ pub(crate) fn enter_line(
 )
     requires level { AreLevel wishes.now.cluster (job_at wishes.now.cells) table.now }
     requires admitted { AreAdmitted wishes.now.cells line.now.pairs }
-    requires places { length turn_of.now.items ≡ 2048 }
+    requires places { length turn_of.now.items ≡ unit_places }
     requires rises { IsRising (λ (p : ℕ × ℕ). turn_at turn_of.now.items p.0 p.1) line.now.pairs }
     requires inside { from ≤ length line.now.pairs }
     requires holds { HoldsLine wishes.now.cluster wishes.now.cells (take from line.now.pairs) turn_of.now.items tree.old }

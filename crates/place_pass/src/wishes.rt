@@ -7,12 +7,13 @@ ghost use Rattle.fuxi_terms.specs.Keys.{key_cmp};
 ghost use Rattle.fuxi_terms.specs.Counts.{count};
 ghost use Rattle.fuxi_terms.specs.Cluster.{has_rack};
 ghost use Rattle.fuxi_terms.specs.TallyKeys.{key, rack_key};
+ghost use Rattle.fuxi_terms.specs.Limits.{most_jobs};
 ghost use Rattle.std.specs.Ordering.{is_lt};
 ghost use Rattle.place_pass.specs.Walks.{IsPast};
 ghost use Rattle.place_pass.specs.Cells.{Cell, cell_of, cells_in, cells_of, cell_at, no_cell, fresh_cells, numbers_at, racks_at, taken, taken_all, any_gone, asks_more, any_more};
 
 use cluster_desc::Cluster;
-use fuxi_terms::limits::{MOST_JOBS, MOST_RACKS};
+use fuxi_terms::limits::{MOST_JOBS, MOST_RACKS, MOST_UNITS};
 use fuxi_terms::tally_keys::{AVOID, NEAR, RACK, WANT};
 use fuxi_terms::{Key, OutOfMemory};
 use party_ledgers::Demand;
@@ -20,6 +21,9 @@ use res_vector::Res;
 use schedule_unit::{AppNo, GroupNo, Job, MachineNo, RackNo, UnitNo};
 use std::alloc::Global;
 use std::marker::Model;
+
+/// A place for each unit that may be admitted.
+pub(crate) const UNIT_PLACES: usize = MOST_JOBS as usize * MOST_UNITS;
 
 /// A unit, and what is asked of it.
 #[derive(Drop)]
@@ -61,13 +65,14 @@ impl Model for Wishes {
 impl Wishes {
     ghost use Rattle.std.specs.Prelude.{◌≡◌, ℕ, ◌<◌, ◌≤◌, ◌&&◌, nat_lt, true, false, List, [], length, set, replicate, IfOk};
     ghost use Rattle.std.proofs.Common.{get_or};
+    ghost use Rattle.fuxi_terms.specs.Limits.{most_jobs};
     ghost use Rattle.fuxi_terms.specs.TallyKeys.{avoid_key};
     ghost use Rattle.place_pass.specs.Cells.{WishesRecord, AreWishes, Lifts, AvoidsStill, asks_in, cell_of, cell_at, cells_in, fresh_cells, taken_all, any_more};
     ghost use Rattle.place_pass.specs.Placers.{is_open_to};
 
     /// No unit, and no open machine.
     pub(crate) fn start(alloc: Global, cluster: &Cluster) -> Result<Wishes, OutOfMemory>
-        ensures { IfOk result (λ wishes. wishes ≡ record { cluster = cluster.now; cells = replicate 256 []; opened = replicate (length cluster.now.machines) false }) }
+        ensures { IfOk result (λ wishes. wishes ≡ record { cluster = cluster.now; cells = replicate most_jobs []; opened = replicate (length cluster.now.machines) false }) }
     {
         let machines = cluster.machines() as usize;
         Ok(Wishes {
@@ -96,7 +101,7 @@ impl Wishes {
     /// The demand of a job is now this one. True where one of its units wants more, or no longer
     /// avoids a machine.
     pub(crate) fn asked(&mut self, app: AppNo, demand: &Demand) -> bool
-        requires { app.0 < 256 }
+        requires { app.0 < most_jobs }
         ensures cells { self.new ≡ record self.old { cells = set self.old.cells app.0 (taken_all self.old.cluster demand.now.entries 0 (get_or self.old.cells app.0 [])) } }
         ensures more { result ≡ any_more self.old.cluster demand.now.entries (get_or self.old.cells app.0 []) (length (get_or self.old.cells app.0 [])) }
     {
@@ -260,7 +265,7 @@ pub(crate) fn fresh_units(
 
 // A place for each job number, with no unit at any.
 fn empty_slots(alloc: Global) -> Result<Vec<Vec<Wish>>, OutOfMemory>
-    ensures { IfOk result (λ slots. cells_of slots.items ≡ replicate 256 []) }
+    ensures { IfOk result (λ slots. cells_of slots.items ≡ replicate most_jobs []) }
 {
     let mut slots = Vec::new(alloc);
     for _ in 0..MOST_JOBS {

@@ -1,5 +1,5 @@
 use Rattle.place_pass.specs.Placers.{IsLevelWith}
-use Rattle.place_pass.proofs.Matching.{count_is}
+use Rattle.place_pass.proofs.CellsMatchTable.{count_is}
 use Rattle.place_pass.proofs.law.levels.Goals as goal
 
 pub returns : goal.returns

@@ -1,30 +1,32 @@
 use Rattle.std.proofs.Common.{ℕ, subst, arith, inl, inr}
 use Rattle.std.proofs.lemmas.Bool.{cases_lt}
 use Rattle.place_pass.specs.Bounds.{IsBounded}
-use Rattle.place_pass.specs.Placers.{board_over}
+use Rattle.place_pass.specs.Scenes.{board_in}
 use Rattle.place_pass.specs.Sights.{sight_rank, turn_in}
-use Rattle.place_pass.proofs.SightsLemmas.{same_place, index_within}
+use Rattle.place_pass.proofs.SightsLemmas.{same_place, index_within, place_of}
 use Rattle.place_pass.proofs.FirstByTurn.{has_at}
 use Rattle.place_pass.proofs.search.best_from.Goals as goal
 
 pub loop-place-preserved : goal.loop-place-preserved
 loop-place-preserved c =
-    let b = board_over c.args.wishes.now.cells c.args.wishes.now.opened c.args.table.now in
-    let line = c.args.line.now.pairs in
-    let f = turn_in c.args.turn_of.now in
+    let s = c.args.scene.now in
+    let line = s.line.now.pairs in
+    let f = turn_in s.turn_of.now in
     let place = c.loop-place.place in
     let q : ℕ × ℕ = (c.at.result.0.0, c.at.result.1.0) in
     record {
       bounded = λ k p lt e. elim (cases_lt k place) [
         | inl l ↦ c.weigh-best.ensures.kept p (f p) (c.loop-place.invariant.bounded k p l e)
-        | inr ge ↦ subst (λ z. IsBounded b c.args.table.now.entries (sight_rank c.weigh-best.result) c.weigh-best.new.groups (f z) z c.args.machine.0) (same_place line k place p q (omega (arith, lt, ge)) e c.at.ensures) c.weigh-best.ensures.here
+        | inr ge ↦ subst (λ z. IsBounded (board_in s) s.table.now.entries (sight_rank c.weigh-best.result) c.weigh-best.new.groups (f z) z c.args.machine.0) (same_place line k place p q (omega (arith, lt, ge)) e c.at.ensures) c.weigh-best.ensures.here
       ];
-      sight = c.weigh-best.ensures.sight line place c.at.ensures (c.requires.waits q.0 q.1 (has_at line place q c.at.ensures)) c.loop-place.invariant.sight;
+      sight = c.weigh-best.ensures.sight line place c.at.ensures (c.requires.ready.waits q.0 q.1 (has_at line place q c.at.ensures)) c.loop-place.invariant.sight;
     }
 
-pub returns-clause-bounded : goal.returns-clause-bounded
-returns-clause-bounded c k p e =
-    let w = index_within c.args.line.now.pairs k p e in
-    let n = c.len-place-end.ensures.number in
-    let end = c.loop-place-test.false in
-    c.loop-place.invariant.bounded k p (omega (arith, w, n, end)) e
+pub returns : goal.returns
+returns c =
+    let line = c.args.scene.now.line.now.pairs in
+    record {
+      bounded = λ q has. let p = place_of q line has in let w = index_within line p.place q p.at in let n = c.len-place-end.ensures.number in let end = c.loop-place-test.false in
+          c.loop-place.invariant.bounded p.place q (omega (arith, w, n, end)) p.at;
+      sight = c.loop-place.invariant.sight;
+    }

@@ -1,36 +1,29 @@
-use Rattle.std.proofs.Common.{◌≡◌, ℕ, ◌+◌, ◌<◌, ◌≤◌, true, false, cond, nat_eq, length, map, get_or, None, refl, sym, ◌∙◌, ap, subst, arith}
-use Rattle.fuxi_terms.proofs.Booleans.{number_is, nat_itself}
+use Rattle.std.proofs.Common.{◌≡◌, ℕ, ◌+◌, ◌<◌, ◌≤◌, true, cond, nat_eq, length, map, set, None, sym, ◌∙◌, ap, subst, arith}
+use Rattle.fuxi_terms.proofs.Booleans.{nat_itself}
 use Rattle.place_pass.specs.Counts.{is_unsettled_by}
-use Rattle.place_pass.specs.Bounds.{MarkRecord, key_of, mark_of, mark_at}
-use Rattle.place_pass.specs.Placers.{board_over}
-use Rattle.place_pass.specs.Sights.{turn_in, AreBounded}
+use Rattle.place_pass.specs.Bounds.{MarkRecord, mark_of, mark_at}
+use Rattle.place_pass.specs.Scenes.{IsMarked, IsSettledBy}
+use Rattle.place_pass.proofs.ScenesLemmas.{marked_then}
 use Rattle.place_pass.proofs.SightsLemmas.{mark_read, marks_set}
 use Rattle.place_pass.proofs.search.consider_at.Goals as goal
 
-pub returns-clause-bounded : goal.returns-clause-bounded
-returns-clause-bounded g c m opened =
-    let b = board_over c.args.wishes.now.cells c.args.wishes.now.opened c.args.table.now in
-    let es = c.args.table.now.entries in
-    let f = turn_in c.args.turn_of.now in
-    let line = c.args.line.now.pairs in
-    let n = c.args.machine.0 in
-    let lt : n < length c.args.marks.now.items = let x = c.requires.machine in let y = c.requires.marked in omega (arith, x, y) in
-    subst (λ (k : MarkRecord). AreBounded b es f line k m) (sym (marks_set c.args.marks.now.items n c.consider.new.mark m lt)) (elim (nat_eq n m) as (λ t. nat_eq n m ≡ t → AreBounded b es f line (cond t (mark_of c.consider.new.mark) (mark_at (map mark_of c.args.marks.now.items) m)) m) [
-      | true ↦ λ t. let e = number_is n m t in subst (λ z. AreBounded b es f line (mark_of c.consider.new.mark) z) e (c.consider.ensures.bounded (subst (λ z. get_or c.args.wishes.now.opened z false ≡ true) (sym e) opened))
-      | false ↦ λ _. c.requires.old m opened
-    ] refl)
-
-pub returns-clause-until : goal.returns-clause-until
-returns-clause-until g c m opened =
-    let n = c.args.machine.0 in
-    let lt : n < length c.args.marks.now.items = let x = c.requires.machine in let y = c.requires.marked in omega (arith, x, y) in
-    subst (λ (k : MarkRecord). k.until ≤ c.args.turns) (sym (marks_set c.args.marks.now.items n c.consider.new.mark m lt)) (elim (nat_eq n m) as (λ t. nat_eq n m ≡ t → (cond t (mark_of c.consider.new.mark) (mark_at (map mark_of c.args.marks.now.items) m)).until ≤ c.args.turns) [
-      | true ↦ λ t. c.consider.ensures.until (subst (λ z. get_or c.args.wishes.now.opened z false ≡ true) (sym (number_is n m t)) opened)
-      | false ↦ λ _. c.requires.until m opened
-    ] refl)
-
 lt_of : (n long machines : ℕ) → n < machines → long ≡ machines → n < long
 lt_of n long machines l e = omega (arith, l, e)
+
+pub consider-requires-clause-old : goal.consider-requires-clause-old
+consider-requires-clause-old g c =
+    let n = c.args.machine.0 in
+    let old = mark_read c.args.marks.now.items n c.index_mut-mark.result.now (lt_of n _ _ c.requires.machine c.requires.marked) c.index_mut-mark.ensures.value in
+    subst (IsMarked c.args.scene.now n) (sym old) (c.requires.old n)
+
+pub returns-clause-marks : goal.returns-clause-marks
+returns-clause-marks g c m =
+    let n = c.args.machine.0 in
+    let new = map mark_of (set c.args.marks.now.items n c.consider.new.mark) in
+    let at = λ (j : ℕ). marks_set c.args.marks.now.items n c.consider.new.mark j (lt_of n _ _ c.requires.machine c.requires.marked) in
+    let here = at n ∙ ap (λ t. cond t (mark_of c.consider.new.mark) (mark_at (map mark_of c.args.marks.now.items) n)) (nat_itself n) in
+    marked_then c.args.scene.now (map mark_of c.args.marks.now.items) new n c.requires.old (subst (IsMarked c.args.scene.now n) (sym here) c.consider.ensures.mark)
+    (λ j f. at j ∙ ap (λ t. cond t (mark_of c.consider.new.mark) (mark_at (map mark_of c.args.marks.now.items) j)) f) m
 
 pub returns-clause-others : goal.returns-clause-others
 returns-clause-others g c m f =
@@ -41,10 +34,10 @@ pub returns-clause-count : goal.returns-clause-count
 returns-clause-count g c =
     let n = c.args.machine.0 in
     let old : mark_of c.index_mut-mark.result.now ≡ mark_at (map mark_of c.args.marks.now.items) n = mark_read c.args.marks.now.items n c.index_mut-mark.result.now (lt_of n _ _ c.requires.machine c.requires.marked) c.index_mut-mark.ensures.value in
-    subst (λ (k : MarkRecord). c.consider.new.steps ≤ c.args.steps.now + cond (is_unsettled_by c.args.wishes.now.opened k c.args.turns n) 1 0) old c.consider.ensures.count
+    subst (λ (k : MarkRecord). c.consider.new.steps ≤ c.args.steps.now + cond (is_unsettled_by c.args.scene.now.wishes.now.opened k c.args.scene.now.turns n) 1 0) old c.consider.ensures.count
 
 pub returns-clause-settled : goal.returns-clause-settled
-returns-clause-settled g c e opened =
+returns-clause-settled g c e =
     let n = c.args.machine.0 in
-    subst (λ (k : MarkRecord). key_of k c.args.turns ≡ None) (sym (marks_set c.args.marks.now.items n c.consider.new.mark n (lt_of n _ _ c.requires.machine c.requires.marked)
-    ∙ ap (λ t. cond t (mark_of c.consider.new.mark) (mark_at (map mark_of c.args.marks.now.items) n)) (nat_itself n))) (c.consider.ensures.settled e opened)
+    subst (IsSettledBy c.args.scene.now n) (sym (marks_set c.args.marks.now.items n c.consider.new.mark n (lt_of n _ _ c.requires.machine c.requires.marked)
+    ∙ ap (λ t. cond t (mark_of c.consider.new.mark) (mark_at (map mark_of c.args.marks.now.items) n)) (nat_itself n))) (c.consider.ensures.settled e)

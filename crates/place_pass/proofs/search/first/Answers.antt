@@ -33,10 +33,28 @@ returns-in-Some-clause-first g c =
 pub returns-in-None-clause-first : goal.returns-in-None-clause-first
 returns-in-None-clause-first g c =
     let b = board_over c.args.wishes.now.cells c.args.wishes.now.opened c.args.table.now in
-    let es = c.args.table.now.entries in
-    let f = turn_in c.args.turn_of.now in
-    let line = c.args.line.now.pairs in
-    sym (none_first b es f line (λ m lt. subst (λ (o : Option Found). IsLeast b es f line (found_rank o) m) c.in-None.is (c.best_of_others.ensures.least m lt)))
+    sym (none_first b c.args.table.now.entries (turn_in c.args.turn_of.now) c.args.line.now.pairs (λ m lt. subst (λ (o : Option Found). IsLeast b c.args.table.now.entries (turn_in c.args.turn_of.now) c.args.line.now.pairs (found_rank o) m) c.in-None.is (c.best_of_others.ensures.least m lt)))
+
+pub consider_at-best-requires-clause-ready : goal.consider_at-best-requires-clause-ready
+consider_at-best-requires-clause-ready g c = record { level = c.requires.level; admitted = c.requires.admitted; places = c.requires.places; waits = c.requires.waits; rises = c.requires.rises; below = c.requires.below; tree = c.requires.tree }
+
+pub consider_at-best-requires-clause-old : goal.consider_at-best-requires-clause-old
+consider_at-best-requires-clause-old g c m = record { bounded = c.requires.old m; until = c.requires.until m }
+
+pub best_of_others-requires-clause-ready : goal.best_of_others-requires-clause-ready
+best_of_others-requires-clause-ready g c = record { level = c.requires.level; admitted = c.requires.admitted; places = c.requires.places; waits = c.requires.waits; rises = c.requires.rises; below = c.requires.below; tree = c.requires.tree }
+
+pub returns-in-Some-clause-bounded : goal.returns-in-Some-clause-bounded
+returns-in-Some-clause-bounded g c m opened = (c.best_of_others.ensures.marks m).bounded opened
+
+pub returns-in-Some-clause-until : goal.returns-in-Some-clause-until
+returns-in-Some-clause-until g c m opened = (c.best_of_others.ensures.marks m).until opened
+
+pub returns-in-None-clause-bounded : goal.returns-in-None-clause-bounded
+returns-in-None-clause-bounded g c m opened = (c.best_of_others.ensures.marks m).bounded opened
+
+pub returns-in-None-clause-until : goal.returns-in-None-clause-until
+returns-in-None-clause-until g c m opened = (c.best_of_others.ensures.marks m).until opened
 
 pub returns-in-Some-clause-count : goal.returns-in-Some-clause-count
 returns-in-Some-clause-count g c =

@@ -6,54 +6,54 @@ use Rattle.fuxi_terms.proofs.Booleans.{and_true}
 use Rattle.grant_table.specs.Tables.{as_known}
 use Rattle.written_roles.specs.Masters.{out_of}
 use Rattle.place_pass.specs.Cells.{Cell, asks_in}
-use Rattle.place_pass.specs.Placers.{board_over}
+use Rattle.place_pass.specs.Scenes.{board_in}
 use Rattle.place_pass.specs.Bounds.{rank_at, is_bound}
 use Rattle.place_pass.specs.Sights.{sight_rank, turn_in, IsSight}
 use Rattle.place_pass.proofs.SightsLemmas.{bounded_wider, bounded_by, self_bound, one_of}
-use Rattle.place_pass.proofs.Matching.{unit_is}
+use Rattle.place_pass.proofs.CellsMatchTable.{unit_is}
 use Rattle.place_pass.proofs.search.weigh.Goals as goal
 
 pub returns-then-not-may_place-clause-here : goal.returns-then-not-may_place-clause-here
-returns-then-not-may_place-clause-here c = c.may_place.ensures.bounded c.if-not-may_place.true (sight_rank c.args.before) (turn_in c.args.turn_of.now (c.args.app.0, c.args.unit.0))
+returns-then-not-may_place-clause-here c = c.may_place.ensures.bounded c.if-not-may_place.true (sight_rank c.args.before) (turn_in c.args.scene.now.turn_of.now (c.args.app.0, c.args.unit.0))
 
 pub returns-then-not-may_place-clause-kept : goal.returns-then-not-may_place-clause-kept
 returns-then-not-may_place-clause-kept c q t h =
-    let b = board_over c.args.wishes.now.cells c.args.wishes.now.opened c.args.table.now in
-    bounded_wider b c.args.table.now.entries (sight_rank c.args.before) (sight_rank c.args.before) c.args.groups.now c.may_place.new.groups t q c.args.machine.0 (λ r e. e) (c.may_place.ensures.kept (b.groups q.0)) h
+    let b = board_in c.args.scene.now in
+    bounded_wider b c.args.scene.now.table.now.entries (sight_rank c.args.before) (sight_rank c.args.before) c.args.groups.now c.may_place.new.groups t q c.args.machine.0 (λ r e. e) (c.may_place.ensures.kept (b.groups q.0)) h
 
-rank_is : (c : goal.After-nearer) → (c.saturating_sub-late.result ∷ c.level-level.result ∷ c.turn_of_unit-turn.result ∷ []) ≡ rank_at (board_over c.args.wishes.now.cells c.args.wishes.now.opened c.args.table.now) c.args.table.now.entries (turn_in c.args.turn_of.now (c.args.app.0, c.args.unit.0)) (c.args.app.0, c.args.unit.0) c.args.machine.0
+rank_is : (c : goal.After-nearer) → (c.saturating_sub-late.result ∷ c.level-level.result ∷ c.turn_of_unit-turn.result ∷ []) ≡ rank_at (board_in c.args.scene.now) c.args.scene.now.table.now.entries (turn_in c.args.scene.now.turn_of.now (c.args.app.0, c.args.unit.0)) (c.args.app.0, c.args.unit.0) c.args.machine.0
 rank_is c =
-    let late : c.saturating_sub-late.result ≡ 9 - priority_of (as_known c.args.table.now.jobs) c.args.app.0 c.args.unit.0 = c.saturating_sub-late.ensures ∙ ap (λ k. 9 - k) (ap (λ (x : Cell). x.unit.priority) c.wish.ensures.cell ∙ ap (λ (x : UnitRecord). x.priority) (unit_is c.args.wishes.now.cluster c.args.wishes.now.cells c.args.table.now c.requires.level c.args.app.0 c.args.unit.0 c.requires.unit)) in
+    let late : c.saturating_sub-late.result ≡ 9 - priority_of (as_known c.args.scene.now.table.now.jobs) c.args.app.0 c.args.unit.0 = c.saturating_sub-late.ensures ∙ ap (λ k. 9 - k) (ap (λ (x : Cell). x.unit.priority) c.wish.ensures.cell ∙ ap (λ (x : UnitRecord). x.priority) (unit_is c.args.scene.now.wishes.now.cluster c.args.scene.now.wishes.now.cells c.args.scene.now.table.now c.requires.ready.level c.args.app.0 c.args.unit.0 c.requires.unit)) in
     λ i. late i ∷ c.level-level.ensures i ∷ c.turn_of_unit-turn.ensures i ∷ []
 
 pub returns-then-not-may_be_nearer-clause-here : goal.returns-then-not-may_be_nearer-clause-here
 returns-then-not-may_be_nearer-clause-here c =
-    let b = board_over c.args.wishes.now.cells c.args.wishes.now.opened c.args.table.now in
+    let b = board_in c.args.scene.now in
     let p : ℕ × ℕ = (c.args.app.0, c.args.unit.0) in
-    let late : c.saturating_sub-late.result ≡ 9 - priority_of (as_known c.args.table.now.jobs) c.args.app.0 c.args.unit.0 = c.saturating_sub-late.ensures ∙ ap (λ k. 9 - k) (ap (λ (x : Cell). x.unit.priority) c.wish.ensures.cell ∙ ap (λ (x : UnitRecord). x.priority) (unit_is c.args.wishes.now.cluster c.args.wishes.now.cells c.args.table.now c.requires.level c.args.app.0 c.args.unit.0 c.requires.unit)) in
-    bounded_by b c.args.table.now.entries (sight_rank c.args.before) c.args.groups.now (turn_in c.args.turn_of.now p) p c.args.machine.0
+    let late : c.saturating_sub-late.result ≡ 9 - priority_of (as_known c.args.scene.now.table.now.jobs) c.args.app.0 c.args.unit.0 = c.saturating_sub-late.ensures ∙ ap (λ k. 9 - k) (ap (λ (x : Cell). x.unit.priority) c.wish.ensures.cell ∙ ap (λ (x : UnitRecord). x.priority) (unit_is c.args.scene.now.wishes.now.cluster c.args.scene.now.wishes.now.cells c.args.scene.now.table.now c.requires.ready.level c.args.app.0 c.args.unit.0 c.requires.unit)) in
+    bounded_by b c.args.scene.now.table.now.entries (sight_rank c.args.before) c.args.groups.now (turn_in c.args.scene.now.turn_of.now p) p c.args.machine.0
     (subst (λ r. is_bound (sight_rank c.args.before) r ≡ true) (λ i. late i ∷ c.level-level.ensures i ∷ c.turn_of_unit-turn.ensures i ∷ []) (c.may_be_nearer.ensures c.if-not-may_be_nearer.true))
 
 pub returns-clause-here : goal.returns-clause-here
 returns-clause-here c =
-    let b = board_over c.args.wishes.now.cells c.args.wishes.now.opened c.args.table.now in
+    let b = board_in c.args.scene.now in
     let p : ℕ × ℕ = (c.args.app.0, c.args.unit.0) in
-    let r = rank_at b c.args.table.now.entries (turn_in c.args.turn_of.now p) p c.args.machine.0 in
-    bounded_by b c.args.table.now.entries (sight_rank c.nearer.result) c.may_place.new.groups (turn_in c.args.turn_of.now p) p c.args.machine.0 (c.nearer.ensures.itself r (subst (λ x. is_bound (Some x) r ≡ true) (sym (rank_is c)) (self_bound r)))
+    let r = rank_at b c.args.scene.now.table.now.entries (turn_in c.args.scene.now.turn_of.now p) p c.args.machine.0 in
+    bounded_by b c.args.scene.now.table.now.entries (sight_rank c.nearer.result) c.may_place.new.groups (turn_in c.args.scene.now.turn_of.now p) p c.args.machine.0 (c.nearer.ensures.itself r (subst (λ x. is_bound (Some x) r ≡ true) (sym (rank_is c)) (self_bound r)))
 
 pub returns-clause-kept : goal.returns-clause-kept
 returns-clause-kept c q t h =
-    let b = board_over c.args.wishes.now.cells c.args.wishes.now.opened c.args.table.now in
-    bounded_wider b c.args.table.now.entries (sight_rank c.args.before) (sight_rank c.nearer.result) c.args.groups.now c.may_place.new.groups t q c.args.machine.0 c.nearer.ensures.kept (c.may_place.ensures.kept (b.groups q.0)) h
+    let b = board_in c.args.scene.now in
+    bounded_wider b c.args.scene.now.table.now.entries (sight_rank c.args.before) (sight_rank c.nearer.result) c.args.groups.now c.may_place.new.groups t q c.args.machine.0 c.nearer.ensures.kept (c.may_place.ensures.kept (b.groups q.0)) h
 
 pub returns-clause-sight : goal.returns-clause-sight
 returns-clause-sight c line place at some before =
-    let b = board_over c.args.wishes.now.cells c.args.wishes.now.opened c.args.table.now in
-    let es = c.args.table.now.entries in
-    let out : nat_lt 0 (out_of (asks_in c.args.wishes.now.cells) es c.args.app.0 c.args.unit.0) ≡ true = grind (arith, nat_tests, some) in
-    one_of (IsSight b es (turn_in c.args.turn_of.now) line c.args.machine.0) c.nearer.result c.args.before _ c.nearer.ensures.one (record {
+    let b = board_in c.args.scene.now in
+    let es = c.args.scene.now.table.now.entries in
+    let out : nat_lt 0 (out_of (asks_in c.args.scene.now.wishes.now.cells) es c.args.app.0 c.args.unit.0) ≡ true = grind (arith, nat_tests, some) in
+    one_of (IsSight b es (turn_in c.args.scene.now.turn_of.now) line c.args.machine.0) c.nearer.result c.args.before _ c.nearer.ensures.one (record {
       place = place;
       at = at;
-      placeable = and_true _ _ (and_true (nat_lt 0 (out_of (asks_in c.args.wishes.now.cells) es c.args.app.0 c.args.unit.0)) _ out (c.may_place.ensures.allowed c.if-not-may_place.false)) (c.may_place.ensures.fits c.if-not-may_place.false);
+      placeable = and_true _ _ (and_true (nat_lt 0 (out_of (asks_in c.args.scene.now.wishes.now.cells) es c.args.app.0 c.args.unit.0)) _ out (c.may_place.ensures.allowed c.if-not-may_place.false)) (c.may_place.ensures.fits c.if-not-may_place.false);
       rank = rank_is c;
     }) before

@@ -8,10 +8,10 @@ use Rattle.written_roles.specs.Placing.{has_pair}
 use Rattle.place_pass.specs.Bounds.{turn_at}
 use Rattle.place_pass.specs.Lines.{same_pair}
 use Rattle.place_pass.specs.Trees.{HoldsLine, AllStand, StandsAs, WaitsIn, Restood}
-use Rattle.place_pass.proofs.Lining.{pair_is, taken_whole}
-use Rattle.place_pass.proofs.Matching.{count_is}
+use Rattle.place_pass.proofs.LinesLemmas.{pair_is, taken_whole}
+use Rattle.place_pass.proofs.CellsMatchTable.{count_is}
 use Rattle.place_pass.proofs.NumberedLemmas.{app_small, unit_small}
-use Rattle.place_pass.proofs.StandingLemmas.{holds_begun, begun_others, holds_on, numbers_apart, stands_on, admitted_in, may_wait, waits_in, turn_before, has_other, has_itself}
+use Rattle.place_pass.proofs.TreesLemmas.{holds_begun, begun_others, holds_on, numbers_apart, stands_on, admitted_in, may_wait, waits_in, turn_before, has_other, has_itself}
 use Rattle.place_pass.proofs.standing.enter_line.Goals as goal
 
 pub entry_for-entry-requires-clause-unit : goal.entry_for-entry-requires-clause-unit

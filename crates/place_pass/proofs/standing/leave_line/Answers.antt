@@ -10,9 +10,9 @@ use Rattle.place_pass.specs.Bounds.{turn_at}
 use Rattle.place_pass.specs.Cells.{asks_in}
 use Rattle.place_pass.specs.Lines.{same_pair}
 use Rattle.place_pass.proofs.FirstByTurn.{has_at}
-use Rattle.place_pass.proofs.Lining.{pair_is, taken_whole}
+use Rattle.place_pass.proofs.LinesLemmas.{pair_is, taken_whole}
 use Rattle.place_pass.proofs.NumberedLemmas.{app_small, unit_small}
-use Rattle.place_pass.proofs.StandingLemmas.{holds_same, holds_left, left_others, admitted_in, may_wait, turn_apart, has_other, has_itself}
+use Rattle.place_pass.proofs.TreesLemmas.{holds_same, holds_left, left_others, admitted_in, may_wait, turn_apart, has_other, has_itself}
 use Rattle.place_pass.proofs.standing.leave_line.Goals as goal
 
 pub loop-place-init : goal.loop-place-init

@@ -12,7 +12,7 @@ use Rattle.written_roles.specs.Placing.{has_pair}
 use Rattle.place_pass.specs.Trees.{StandsAs, WaitsIn, Restood}
 use Rattle.place_pass.proofs.PlainLemmas.{plain_stands}
 use Rattle.place_pass.proofs.SightsLemmas.{place_of}
-use Rattle.place_pass.proofs.StandingLemmas.{holds_on, numbers_apart, stands_on, waits_in}
+use Rattle.place_pass.proofs.TreesLemmas.{holds_on, numbers_apart, stands_on, waits_in}
 use Rattle.place_pass.proofs.standing.tell_asked.Goals as goal
 
 pub loop-number-init : goal.loop-number-init

@@ -14,10 +14,10 @@ use Rattle.written_roles.specs.Placing.{has_pair}
 use Rattle.place_pass.specs.Bounds.{turn_at}
 use Rattle.place_pass.specs.Cells.{asks_in}
 use Rattle.place_pass.specs.Trees.{HoldsLine, AllStand, WaitsIn, Restood, RestoodAt}
-use Rattle.place_pass.proofs.Lining.{pair_self, pair_turned}
-use Rattle.place_pass.proofs.Matching.{rack_small}
+use Rattle.place_pass.proofs.LinesLemmas.{pair_self, pair_turned}
+use Rattle.place_pass.proofs.CellsMatchTable.{rack_small}
 use Rattle.place_pass.proofs.Places.{slot_within}
-use Rattle.place_pass.proofs.StandingLemmas.{apart_when, holds_same, holds_on, holds_left, left_others, admitted_in, may_wait, waits_in, turn_apart}
+use Rattle.place_pass.proofs.TreesLemmas.{apart_when, holds_same, holds_on, holds_left, left_others, admitted_in, may_wait, waits_in, turn_apart}
 use Rattle.place_pass.proofs.StandsAfterChange.{others_in, has_others, none_leaves, apart_from, all_left, all_told}
 use Rattle.place_pass.proofs.standing.tell_spot.Goals as goal
 

@@ -1,5 +1,5 @@
 use Rattle.std.proofs.Common.{arith}
-use Rattle.place_pass.proofs.Lining.{room_left}
+use Rattle.place_pass.proofs.LinesLemmas.{room_left}
 use Rattle.place_pass.proofs.waiting.add_unit.Goals as goal
 
 pub push-requires-clause-room : goal.push-requires-clause-room

@@ -6,7 +6,7 @@ use Rattle.written_roles.specs.Masters.{out_of}
 use Rattle.written_roles.specs.Placing.{has_pair}
 use Rattle.place_pass.specs.Cells.{asks_in}
 use Rattle.place_pass.specs.Lines.{same_pair, waiting_of}
-use Rattle.place_pass.proofs.Lining.{any_append, none_filter, append_nil, joined_more, none_yet}
+use Rattle.place_pass.proofs.LinesLemmas.{any_append, none_filter, append_nil, joined_more, none_yet}
 use Rattle.place_pass.proofs.waiting.join_units.Goals as goal
 
 -- a unit whose turn comes is in the line only where it was

@@ -4,7 +4,7 @@ use Rattle.written_roles.specs.Masters.{out_of}
 use Rattle.written_roles.specs.Placing.{has_pair}
 use Rattle.place_pass.specs.Cells.{asks_in}
 use Rattle.place_pass.specs.Lines.{same_pair}
-use Rattle.place_pass.proofs.Lining.{none_filter, filter_more, distinct_at, append_nil}
+use Rattle.place_pass.proofs.LinesLemmas.{none_filter, filter_more, distinct_at, append_nil}
 use Rattle.place_pass.proofs.waiting.keep.Goals as goal
 
 pub loop-place-preserved-then-outstanding-eq0 : goal.loop-place-preserved-then-outstanding-eq0

@@ -3,7 +3,7 @@ use Rattle.std.specs.Prelude.{◌&&◌}
 use Rattle.fuxi_terms.proofs.Lists.{all_at}
 use Rattle.written_roles.specs.Placing.{has_pair}
 use Rattle.place_pass.specs.Lines.{same_pair}
-use Rattle.place_pass.proofs.Lining.{none_filter, filter_more, distinct_at, append_nil}
+use Rattle.place_pass.proofs.LinesLemmas.{none_filter, filter_more, distinct_at, append_nil}
 use Rattle.place_pass.proofs.waiting.keep_others.Goals as goal
 
 pub loop-place-preserved-then-is_pair : goal.loop-place-preserved-then-is_pair

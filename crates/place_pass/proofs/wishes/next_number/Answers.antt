@@ -4,7 +4,7 @@ use Rattle.fuxi_terms.specs.declared.Key.{Key}
 use Rattle.fuxi_terms.specs.Counts.{AreCounts}
 use Rattle.fuxi_terms.specs.Keys.{key_cmp}
 use Rattle.fuxi_terms.specs.TallyKeys.{greatest_demand}
-use Rattle.place_pass.proofs.Asking.{asked_small}
+use Rattle.place_pass.proofs.CellsLemmas.{asked_small}
 use Rattle.place_pass.proofs.WalksLemmas.{found_here, found_later}
 use Rattle.place_pass.proofs.wishes.next_number.Goals as goal
 

@@ -1,5 +1,5 @@
 use Rattle.std.proofs.Common.{arith}
-use Rattle.place_pass.proofs.Asking.{asked_small}
+use Rattle.place_pass.proofs.CellsLemmas.{asked_small}
 use Rattle.place_pass.proofs.wishes.number_at.Goals as goal
 
 pub overflow_cast-result : goal.overflow_cast-result

@@ -6,8 +6,8 @@ use Rattle.place_pass.specs.declared.wishes.Wish.{Wish}
 use Rattle.place_pass.specs.Cells.{Cell, cell_of, cells_in, no_cell, taken, taken_all, asks_more}
 use Rattle.fuxi_terms.proofs.Booleans.{number_is}
 use Rattle.place_pass.proofs.Places.{one_set}
-use Rattle.place_pass.proofs.Idling.{any_last}
-use Rattle.place_pass.proofs.Asking.{length-taken_all, get_or-taken_all}
+use Rattle.place_pass.proofs.IdleKept.{any_last}
+use Rattle.place_pass.proofs.CellsLemmas.{length-taken_all, get_or-taken_all}
 use Rattle.place_pass.proofs.wishes.take_over.Goals as goal
 
 -- the unit is as it was

@@ -14,8 +14,8 @@ use Rattle.place_pass.proofs.StandsAfterChange.{holds_admitted, stands_admitted}
 use Rattle.std.proofs.lemmas.Bool.Decides.{nat_tests}
 use Rattle.place_pass.specs.Placers.{PlacerRecord, KeptRecord, IsClear, IsKept, IsQuiet, IsStill, AreLevel, IsIdle, IsLevelWith, IsPlacer, job_seen, asks_seen}
 use Rattle.fuxi_terms.proofs.ValidJobs.{job_small, units_few, units_some}
-use Rattle.place_pass.proofs.Idling.{clear_admitted, idle_admitted, kept_admitted, quiet_admitted, still_admitted}
-use Rattle.place_pass.proofs.Telling.{units_small, units_more, admitted_more, empty_slot, job_admitted, asks_admitted, unknown_there, level_admitted}
+use Rattle.place_pass.proofs.IdleKept.{clear_admitted, idle_admitted, kept_admitted, quiet_admitted, still_admitted}
+use Rattle.place_pass.proofs.PlacersLemmas.{units_small, units_more, admitted_more, empty_slot, job_admitted, asks_admitted, unknown_there, level_admitted}
 use Rattle.place_pass.proofs.placer.Placer.admit.Goals as goal
 
 pub overflow_add-units : goal.overflow_add-units

@@ -14,7 +14,7 @@ use Rattle.fuxi_terms.specs.Jobs.{unit_count}
 use Rattle.grant_table.specs.Tables.{as_known}
 use Rattle.written_roles.specs.Placing.{has_pair}
 use Rattle.fuxi_terms.proofs.Lists.{all_at}
-use Rattle.place_pass.proofs.Matching.{count_is}
+use Rattle.place_pass.proofs.CellsMatchTable.{count_is}
 use Rattle.place_pass.proofs.PlainLemmas.{plain_nowhere}
 use Rattle.place_pass.proofs.SightsLemmas.{place_of}
 use Rattle.place_pass.proofs.AskedLemmas.{asked_long, asked_priority, asked_others}
@@ -24,9 +24,9 @@ use Rattle.place_pass.specs.Sights.{IsAsked}
 use Rattle.place_pass.proofs.CountsLemmas.{asked_clear, asked_settled, asked_stays, stays_for, stays_tight}
 use Rattle.place_pass.proofs.KeptLemmas.{kept_demanded, open_there, told_asked}
 use Rattle.place_pass.proofs.Places.{slot_within}
-use Rattle.place_pass.proofs.Asking.{length-taken_all}
-use Rattle.place_pass.proofs.Idling.{idle_asked, lifted_then, more_not, none_lifted, still_open, waiting_asked}
-use Rattle.place_pass.proofs.Telling.{units_same, admitted_more, job_taken, asks_taken, level_same}
+use Rattle.place_pass.proofs.CellsLemmas.{length-taken_all}
+use Rattle.place_pass.proofs.IdleKept.{idle_asked, lifted_then, more_not, none_lifted, still_open, waiting_asked}
+use Rattle.place_pass.proofs.PlacersLemmas.{units_same, admitted_more, job_taken, asks_taken, level_same}
 use Rattle.place_pass.proofs.placer.Placer.asked.Goals as goal
 
 pub stir-requires : goal.stir-requires

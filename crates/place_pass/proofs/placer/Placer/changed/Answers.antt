@@ -5,8 +5,8 @@ use Rattle.place_pass.specs.Best.{AreAdmitted}
 use Rattle.place_pass.specs.Bounds.{IsRising, mark_of, mark_at, turn_at, Rises, after_taking, is_nearer_in}
 use Rattle.place_pass.proofs.CountsLemmas.{MarkStays, stays_tight, told_stays}
 use Rattle.place_pass.proofs.KeptLemmas.{kept_told, open_there, rises_filter}
-use Rattle.place_pass.proofs.Lining.{has_filter}
-use Rattle.place_pass.proofs.Matching.{group_is}
+use Rattle.place_pass.proofs.LinesLemmas.{has_filter}
+use Rattle.place_pass.proofs.CellsMatchTable.{group_is}
 use Rattle.place_pass.proofs.FirstByTurn.{rising, rising_all}
 use Rattle.place_pass.proofs.Places.{slot_within}
 use Rattle.std.specs.Prelude.{◌&&◌}
@@ -19,7 +19,7 @@ use Rattle.place_pass.specs.Lines.{LineRecord}
 use Rattle.place_pass.specs.Trees.{HoldsLine, AllStand}
 use Rattle.place_pass.specs.Placers.{PlacerRecord, IsKept, IsLevelWith, IsUpToDate, units_seen, board_over}
 use Rattle.place_pass.proofs.StillLemmas.{others_stay, still_told}
-use Rattle.place_pass.proofs.Telling.{level_set, told_up}
+use Rattle.place_pass.proofs.PlacersLemmas.{level_set, told_up}
 use Rattle.place_pass.proofs.placer.Placer.changed.Goals as goal
 
 pub stir-requires : goal.stir-requires

@@ -18,9 +18,9 @@ use Rattle.grant_table.specs.Tables.{as_known}
 use Rattle.place_pass.specs.Cells.{asks_in}
 use Rattle.place_pass.specs.Lines.{same_pair}
 use Rattle.place_pass.specs.Placers.{PlacerRecord, KeptRecord, IsKept, IsStill, SeenRecord, IsLevelWith, asks_seen, waiting_with}
-use Rattle.place_pass.proofs.Lining.{any_append, has_filter}
+use Rattle.place_pass.proofs.LinesLemmas.{any_append, has_filter}
 use Rattle.place_pass.proofs.StillLemmas.{joined_is, still_left, waiting_waits}
-use Rattle.place_pass.proofs.Telling.{kept_is, lined_has}
+use Rattle.place_pass.proofs.PlacersLemmas.{kept_is, lined_has}
 use Rattle.place_pass.proofs.Turns.{few_begin}
 use Rattle.place_pass.proofs.placer.Placer.line_up.Goals as goal
 

@@ -18,9 +18,9 @@ use Rattle.place_pass.specs.Bounds.{mark_of, mark_at, Rises}
 use Rattle.place_pass.specs.Sights.{turn_in, AreBounded}
 use Rattle.place_pass.specs.Cells.{asks_in}
 use Rattle.place_pass.specs.Placers.{AreAllowed, IsGrantable, PlacerRecord, KeptRecord, placer_record, IsLevelWith, IsUpToDate, board_over, board_with}
-use Rattle.place_pass.proofs.Idling.{idle_first, idle_found}
+use Rattle.place_pass.proofs.IdleKept.{idle_first, idle_found}
 use Rattle.place_pass.proofs.FirstByTurn.{rising_all}
-use Rattle.place_pass.proofs.Picking.{pick_grantable}
+use Rattle.place_pass.proofs.FirstIsGrantable.{pick_grantable}
 use Rattle.place_pass.specs.Trees.{TreeOf}
 use Rattle.place_pass.proofs.placer.Placer.next.Goals as goal
 

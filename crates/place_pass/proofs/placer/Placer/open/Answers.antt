@@ -8,7 +8,7 @@ use Rattle.fuxi_terms.proofs.Booleans.{both_true}
 use Rattle.place_pass.specs.Cells.{WishesRecord, job_at}
 use Rattle.place_pass.specs.Trees.{AllStand}
 use Rattle.place_pass.specs.Placers.{PlacerRecord, AreLevel, KeptRecord, IsIdle, IsClear, IsKept, IsQuiet, IsStill, IsLevelWith, is_open}
-use Rattle.place_pass.proofs.Idling.{idle_opened, opens_none, quiet_opened}
+use Rattle.place_pass.proofs.IdleKept.{idle_opened, opens_none, quiet_opened}
 use Rattle.place_pass.proofs.Places.{one_set}
 use Rattle.place_pass.proofs.placer.Placer.open.Goals as goal
 

@@ -3,7 +3,7 @@ use Rattle.std.specs.Prelude.{◌&&◌, nat_eq}
 use Rattle.fuxi_terms.specs.Tables.{spot, held, held_on}
 use Rattle.fuxi_terms.proofs.Booleans.{and_true, nat_itself}
 use Rattle.place_pass.specs.Placers.{PlacerRecord, IsLevelWith, units_seen}
-use Rattle.place_pass.proofs.Matching.{count_is}
+use Rattle.place_pass.proofs.CellsMatchTable.{count_is}
 use Rattle.place_pass.proofs.placer.Placer.outstanding.Goals as goal
 
 pub outstanding-requires-clause-there : goal.outstanding-requires-clause-there

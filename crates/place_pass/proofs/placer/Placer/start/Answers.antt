@@ -7,7 +7,7 @@ use Rattle.std.specs.Prelude.{replicate}
 use Rattle.std.proofs.lemmas.List.{length-replicate, length-map}
 use Rattle.place_pass.specs.Best.{AreAdmitted}
 use Rattle.place_pass.specs.Lines.{units_in_all}
-use Rattle.place_pass.proofs.Telling.{no_units}
+use Rattle.place_pass.proofs.PlacersLemmas.{no_units}
 use Rattle.grant_table.specs.Tables.{TableRecord}
 use Rattle.place_pass.specs.Cells.{Cell, WishesRecord, job_in, job_at}
 use Rattle.place_pass.specs.Placers.{AreLevel, IsLevelWith}

@@ -1,7 +1,7 @@
 use Rattle.std.proofs.Common.{◌≡◌, length, set, sym, ◌∙◌, subst, arith}
 use Rattle.std.proofs.lemmas.List.{map-set, length-map}
 use Rattle.place_pass.specs.Cells.{WishesRecord, AreWishes, cells_in, cells_of, fresh_cell, fresh_cells}
-use Rattle.place_pass.proofs.Asking.{wishes_set, fresh_wishes}
+use Rattle.place_pass.proofs.CellsLemmas.{wishes_set, fresh_wishes}
 use Rattle.fuxi_terms.proofs.ValidJobs.{job_small, units_few}
 use Rattle.place_pass.proofs.ValidJobs.{sizes_eight}
 use Rattle.place_pass.proofs.wishes.Wishes.add_job.Goals as goal

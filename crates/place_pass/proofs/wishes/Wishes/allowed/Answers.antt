@@ -5,7 +5,7 @@ use Rattle.fuxi_terms.specs.Jobs.{group_of}
 use Rattle.fuxi_terms.specs.Tables.{usage_at}
 use Rattle.grant_table.specs.Tables.{as_known}
 use Rattle.place_pass.specs.Cells.{Cell}
-use Rattle.place_pass.proofs.Matching.{group_is, group_small, unit_is, limit_past}
+use Rattle.place_pass.proofs.CellsMatchTable.{group_is, group_small, unit_is, limit_past}
 use Rattle.place_pass.proofs.Rooms.{allowed_is}
 use Rattle.place_pass.proofs.wishes.Wishes.allowed.Goals as goal
 

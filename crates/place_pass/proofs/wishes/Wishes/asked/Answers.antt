@@ -5,7 +5,7 @@ use Rattle.std.proofs.lemmas.List.{map-set, length-map, get_or-map}
 use Rattle.fuxi_terms.specs.Cluster.{ClusterRecord}
 use Rattle.place_pass.specs.declared.wishes.Wish.{Wish}
 use Rattle.place_pass.specs.Cells.{WishesRecord, AreWishes, IsWish, no_cell, cell_of, cells_in, cells_of, taken_all}
-use Rattle.place_pass.proofs.Asking.{wishes_set, taken_wishes, length-taken_all}
+use Rattle.place_pass.proofs.CellsLemmas.{wishes_set, taken_wishes, length-taken_all}
 use Rattle.place_pass.proofs.wishes.Wishes.asked.Goals as goal
 
 -- the units of the job are those of its slot

@@ -2,7 +2,7 @@ use Rattle.std.proofs.Common.{◌≡◌, nat_lt, length, get_or, ap, arith}
 use Rattle.std.proofs.lemmas.Bool.Decides.{nat_tests}
 use Rattle.std.proofs.Math.ListN.{get_or-eq_default}
 use Rattle.place_pass.specs.Cells.{Cell, cell_at}
-use Rattle.place_pass.proofs.Matching.{avoided_read}
+use Rattle.place_pass.proofs.CellsMatchTable.{avoided_read}
 use Rattle.place_pass.proofs.wishes.Wishes.avoids.Goals as goal
 
 pub returns-then-number-len : goal.returns-then-number-len

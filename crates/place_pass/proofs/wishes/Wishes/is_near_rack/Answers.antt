@@ -2,7 +2,7 @@ use Rattle.std.proofs.Common.{◌≡◌, nat_lt, length, get_or, ◌∙◌, ap, 
 use Rattle.fuxi_terms.specs.Cluster.{ClusterRecord, rack_of}
 use Rattle.fuxi_terms.specs.Tables.{held_in}
 use Rattle.place_pass.specs.Cells.{Cell, cell_at}
-use Rattle.place_pass.proofs.Matching.{rack_read, rack_is, rack_small}
+use Rattle.place_pass.proofs.CellsMatchTable.{rack_read, rack_is, rack_small}
 use Rattle.place_pass.proofs.wishes.Wishes.is_near_rack.Goals as goal
 
 pub held_in_rack-requires-clause-rack : goal.held_in_rack-requires-clause-rack

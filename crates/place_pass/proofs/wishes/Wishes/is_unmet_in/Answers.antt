@@ -1,7 +1,7 @@
 use Rattle.std.proofs.Common.{nat_lt, length, get_or, sym, ◌∙◌, ap, arith}
 use Rattle.fuxi_terms.specs.Tables.{held_in}
 use Rattle.place_pass.specs.Cells.{Cell, cell_at}
-use Rattle.place_pass.proofs.Matching.{rack_read}
+use Rattle.place_pass.proofs.CellsMatchTable.{rack_read}
 use Rattle.place_pass.proofs.wishes.Wishes.is_unmet_in.Goals as goal
 
 pub index-requires : goal.index-requires

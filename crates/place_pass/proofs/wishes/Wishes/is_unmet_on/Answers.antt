@@ -1,7 +1,7 @@
 use Rattle.std.proofs.Common.{nat_lt, length, ap, arith}
 use Rattle.fuxi_terms.specs.Cluster.{ClusterRecord}
 use Rattle.place_pass.specs.Cells.{Cell, cell_at}
-use Rattle.place_pass.proofs.Matching.{near_read}
+use Rattle.place_pass.proofs.CellsMatchTable.{near_read}
 use Rattle.place_pass.proofs.wishes.Wishes.is_unmet_on.Goals as goal
 
 pub held_on-requires-clause-machine : goal.held_on-requires-clause-machine

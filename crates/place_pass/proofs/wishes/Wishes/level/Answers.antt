@@ -3,7 +3,7 @@ use Rattle.std.proofs.lemmas.Bool.Decides.{nat_tests}
 use Rattle.fuxi_terms.specs.Cluster.{ClusterRecord, rack_of}
 use Rattle.fuxi_terms.specs.Tables.{held_on, held_in}
 use Rattle.place_pass.specs.Cells.{Cell, cell_at}
-use Rattle.place_pass.proofs.Matching.{near_read, rack_read, rack_is, rack_small}
+use Rattle.place_pass.proofs.CellsMatchTable.{near_read, rack_read, rack_is, rack_small}
 use Rattle.place_pass.proofs.wishes.Wishes.level.Goals as goal
 
 pub index-requires : goal.index-requires

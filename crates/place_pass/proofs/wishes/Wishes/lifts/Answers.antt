@@ -4,7 +4,7 @@ use Rattle.fuxi_terms.specs.Counts.{count}
 use Rattle.fuxi_terms.specs.Keys.{key_cmp}
 use Rattle.fuxi_terms.specs.TallyKeys.{avoid_key}
 use Rattle.place_pass.specs.Cells.{Cell, cell_at}
-use Rattle.place_pass.proofs.Matching.{avoided_read}
+use Rattle.place_pass.proofs.CellsMatchTable.{avoided_read}
 use Rattle.place_pass.proofs.wishes.Wishes.lifts.Goals as goal
 
 pub index-requires : goal.index-requires

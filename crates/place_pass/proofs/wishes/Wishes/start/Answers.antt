@@ -3,7 +3,7 @@ use Rattle.std.proofs.lemmas.List.{length-replicate}
 use Rattle.std.specs.Prelude.{Bool, false}
 use Rattle.fuxi_terms.specs.Cluster.{ClusterRecord}
 use Rattle.place_pass.specs.Cells.{cells_of}
-use Rattle.place_pass.proofs.Asking.{no_wishes}
+use Rattle.place_pass.proofs.CellsLemmas.{no_wishes}
 use Rattle.place_pass.proofs.wishes.Wishes.start.Goals as goal
 
 pub invariant_of-result : goal.invariant_of-result

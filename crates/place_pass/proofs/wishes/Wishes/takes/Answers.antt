@@ -8,7 +8,7 @@ use Rattle.grant_table.specs.Tables.{as_known}
 use Rattle.fuxi_terms.specs.Tables.{held_on}
 use Rattle.place_pass.specs.Cells.{Cell, cell_at}
 use Rattle.place_pass.specs.Placers.{is_open_to}
-use Rattle.place_pass.proofs.Matching.{avoided_read, most_is, unit_is, has_past}
+use Rattle.place_pass.proofs.CellsMatchTable.{avoided_read, most_is, unit_is, has_past}
 use Rattle.place_pass.proofs.Rooms.{room_fits}
 use Rattle.place_pass.proofs.wishes.Wishes.takes.Goals as goal
 
@@ -73,7 +73,7 @@ returns c =
     let is = ap (λ (x : Cell). x.unit.size) c.wish-wish.ensures.cell ∙ ap (λ (x : UnitRecord). x.size) (unit_is c.args.self.now.cluster c.args.self.now.cells t c.requires.level a u c.requires.unit) in
     let eight = (c.wish-wish.ensures.sound.unit a u c.requires.unit).size in
     let long = ap (λ (x : Cell). length x.unit.size) c.wish-wish.ensures.cell in
-    c.fits.ensures ∙ room_fits t a u c.wish-wish.result.now.size.q is (omega (arith, eight, long)) m c.args.free.now.q (has_past t.cluster c.cluster-table.ensures.sound.valid m) c.requires.free c.requires.within
+    c.fits.ensures ∙ room_fits t a u c.wish-wish.result.now.size.q is (omega (arith, eight, long)) m c.args.free.now.q (has_past t.cluster c.cluster-table.ensures.sound.valid m) c.requires.free.is c.requires.free.within
     ∙ all (get_or c.args.self.now.opened m false) (nat_lt 0 (get_or (cell_at c.args.self.now.cells a u).avoided m 0)) (nat_lt (held_on t.entries a u m) (most_of (as_known t.jobs) a u)) (has_room_in t.cluster (size_at (as_known t.jobs)) t.entries a u m) opened test fewer
   where
     all : (o b n r : Bool) → o ≡ true → b ≡ false → n ≡ true → r ≡ (((o && not b) && n) && r)

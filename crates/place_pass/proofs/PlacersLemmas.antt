@@ -30,9 +30,9 @@ use Rattle.place_pass.specs.Best.{AreAdmitted}
 use Rattle.place_pass.specs.Lines.{same_pair, units_in_all}
 use Rattle.place_pass.specs.Placers.{AreLevel, is_there, IsSetFrom}
 use Rattle.place_pass.proofs.Places.{one_set, zeros, counted_at, counted_past}
-use Rattle.place_pass.proofs.Asking.{length-taken_all, get_or-taken_all}
-use Rattle.place_pass.proofs.Matching.{count_is}
-use Rattle.place_pass.proofs.Lining.{any_append, has_filter, has_flat, known_number, filter_same}
+use Rattle.place_pass.proofs.CellsLemmas.{length-taken_all, get_or-taken_all}
+use Rattle.place_pass.proofs.CellsMatchTable.{count_is}
+use Rattle.place_pass.proofs.LinesLemmas.{any_append, has_filter, has_flat, known_number, filter_same}
 
 -- ---- how many units there are
 pub units_small : (c : ClusterRecord) (cells : List (List Cell)) (o : List Bool) → AreWishes c cells o → units_in_all cells ≤ 2048

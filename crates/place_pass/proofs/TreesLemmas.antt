@@ -16,7 +16,7 @@ use Rattle.place_pass.specs.Bounds.{IsRising, turn_at}
 use Rattle.place_pass.specs.Cells.{Cell}
 use Rattle.place_pass.specs.Lines.{same_pair}
 use Rattle.place_pass.specs.Trees.{entry_for, Holds, StandsAs, WaitsIn, Restood}
-use Rattle.place_pass.proofs.Lining.{any_append, pair_is, pair_self}
+use Rattle.place_pass.proofs.LinesLemmas.{any_append, pair_is, pair_self}
 use Rattle.place_pass.proofs.Places.{one_set}
 use Rattle.place_pass.proofs.SightsLemmas.{place_of, same_place}
 

@@ -25,8 +25,8 @@ use Rattle.grant_table.specs.declared.asking.Pick.{Pick}
 use Rattle.place_pass.specs.Cells.{Cell, cell_at, asks_in, job_at, AreWishes}
 use Rattle.place_pass.specs.Placers.{AreLevel, IsGrantable, board_over}
 use Rattle.place_pass.specs.Best.{AreAdmitted, spot_of}
-use Rattle.place_pass.proofs.Matching.{count_is, unit_is}
-use Rattle.place_pass.proofs.Lining.{filter_append}
+use Rattle.place_pass.proofs.CellsMatchTable.{count_is, unit_is}
+use Rattle.place_pass.proofs.LinesLemmas.{filter_append}
 use Rattle.place_pass.proofs.Rooms.{narrow_past}
 
 -- ---- of many the first has what all have

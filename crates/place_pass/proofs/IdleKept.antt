@@ -31,10 +31,10 @@ use Rattle.place_pass.proofs.BoundsLemmas.{NoEarlier, accepts_less, bounded_late
 use Rattle.place_pass.proofs.SightsLemmas.{place_of}
 use Rattle.place_pass.proofs.BoundsAfterChange.{levels_le}
 use Rattle.fuxi_terms.proofs.Lists.{all_at}
-use Rattle.place_pass.proofs.Asking.{length-taken_all, get_or-taken_all}
-use Rattle.place_pass.proofs.Lining.{or_none}
-use Rattle.place_pass.proofs.Matching.{count_is}
-use Rattle.place_pass.proofs.Picking.{all_candidates}
+use Rattle.place_pass.proofs.CellsLemmas.{length-taken_all, get_or-taken_all}
+use Rattle.place_pass.proofs.LinesLemmas.{or_none}
+use Rattle.place_pass.proofs.CellsMatchTable.{count_is}
+use Rattle.place_pass.proofs.FirstIsGrantable.{all_candidates}
 use Rattle.place_pass.proofs.Places.{one_set, counted_at}
 use Rattle.place_pass.proofs.StillLemmas.{still_asked}
 
