@@ -1,4 +1,8 @@
+pub mod NumbersSet
+pub mod Shown
+pub mod Projections
 pub mod Places
-pub mod Showing
-pub mod Touching
+pub mod AllShown
+pub mod TouchedNumbers
+pub mod Marks
 pub mod OneJob

@@ -14,10 +14,10 @@ use Rattle.fuxi_terms.specs.TallyKeys.{reported_key, credited_what, greatest_gra
 use Rattle.fuxi_terms.specs.declared.Key.{Key}
 use Rattle.schedule_unit.specs.declared.party.MachineNo.{MachineNo}
 use Rattle.written_roles.specs.MasterSteps.{count_entries}
-use Rattle.publishing.specs.Setting.{AreNumbers, IsSetTo}
+use Rattle.broadcast.specs.NumbersSet.{AreNumbers, IsSetTo}
 use Rattle.grant_table.specs.Tables.{TableRecord, as_known, IsSound}
 use Rattle.broadcast.specs.declared.grants.News.{News}
-use Rattle.broadcast.specs.Showing.{App, is_job, ShowsJob, ShowsGrants}
+use Rattle.broadcast.specs.AllShown.{App, is_job, ShowsJob, ShowsGrants}
 
 -- the spot is of an admitted unit and of a machine of the cluster
 abbrev pub has_place : TableRecord → Spot → Bool
@@ -26,14 +26,6 @@ has_place t s = nat_lt s.unit (unit_count (as_known t.jobs) s.job) && nat_lt s.m
 -- what the table has at these spots
 abbrev pub counts_at : TableRecord → List Spot → List (Spot × ℕ)
 counts_at t spots = map (λ s. (s, count spot_cmp t.entries s)) (filter (has_place t) spots)
-
--- the same by job: a list for each number below this
-abbrev pub lists_of : List (Vec (Key × ℕ)) → List (List (Key × ℕ))
-lists_of lists = map (λ (l : Vec (Key × ℕ)). l.items) lists
-
-pub record AreByJob (touched : List (Spot × ℕ)) (jobs : ℕ) (lists : List (Vec (Key × ℕ))) : Type 0 where
-  pub wide : length lists ≡ jobs
-  pub each : (a : ℕ) → a < jobs → get_or (lists_of lists) a [] ≡ count_entries a touched
 
 abbrev pub AreOf : ℕ → List (Key × ℕ) → Type 0
 AreOf what es = AllByRecursion (λ e. nat_eq e.0.what what ≡ true) es

@@ -1,24 +1,20 @@
 //! Rows, by machine.
 
-ghost use Rattle.std.specs.Prelude.{◌≡◌, ◌<◌, ◌^◌, ◌++◌, ◌∷◌, [], length, map, replicate, IfOk, OnOk};
-ghost use Rattle.std.proofs.Common.{get_or, set};
+ghost use Rattle.std.specs.Prelude.{◌≡◌, ◌<◌, ◌^◌, true, false, length, map, IfOk, OnOk};
+ghost use Rattle.std.proofs.Common.{get_or};
 ghost use Rattle.std.specs.List.{AllByRecursion};
 ghost use Rattle.fuxi_terms.specs.Jobs.{unit_count};
-ghost use Rattle.fuxi_terms.specs.Keys.{row_cmp};
-ghost use Rattle.fuxi_terms.specs.Rows.{IsRow, patched_row};
-ghost use Rattle.written_net.specs.Ledgers.{row_ledger};
-ghost use Rattle.core_side.specs.Bodies.{report_of};
 ghost use Rattle.grant_table.specs.Tables.{as_known};
-ghost use Rattle.publishing.specs.Setting.{numbers_set};
-ghost use Rattle.publishing.specs.Showing.{number_of, Shows};
-ghost use Rattle.broadcast.specs.Showing.{Down, spot_of, is_machine, AreInOrder, RowsAreBefore, ShowsRows};
-ghost use Rattle.broadcast.specs.Touching.{number_at, numbers_of, AreTouched, MayBeSet};
+ghost use Rattle.broadcast.specs.Shown.{number_of};
+ghost use Rattle.broadcast.specs.AllShown.{Down, spot_of, is_machine, AreInOrder, RowsAreBefore, ShowsRows};
+ghost use Rattle.broadcast.specs.TouchedNumbers.{number_at, touched_on};
 
+use crate::machine_row::{RowNumber, show_row};
+use crate::marks::{Marks, is_marked, machines_marked};
 use core_side::Side;
 use fuxi_terms::OutOfMemory;
 use grant_table::{GrantTable, Pick};
 use party_ledgers::{JoinLedger, RowLedger};
-use publishing::{RowNumber, rows_follow_tables, show_row};
 use schedule_unit::MachineNo;
 use std::alloc::Global;
 
@@ -41,29 +37,23 @@ pub fn show_all_rows(
     ensures { OnOk result (ShowsRows table.now forced sides.old.items sides.new.items) }
 {
     let _cluster = table.cluster();
-    rows_follow_tables();
-    let numbers = touched(alloc, table, spots)?;
+    let marks = machines_marked(spots);
     for at in 0..sides.len() {
-        show_one(&mut sides[at], alloc, &numbers[at], is_machine(forced, at))?;
+        if is_untouched(&marks, forced, at) {
+            continue;
+        }
+        let numbers = numbers_on(alloc, table, spots, at)?;
+        show_row(&mut sides[at], alloc, &numbers, is_machine(forced, at))?;
     }
     Ok(())
 }
 
-// Shows an agent its row with these numbers. Where there are none and it is not forced, the row stays.
-fn show_one(
-    side: &mut Side<RowLedger, JoinLedger>,
-    alloc: Global,
-    numbers: &[RowNumber],
-    forced: bool,
-) -> Result<(), OutOfMemory>
-    requires last { side.old.outgoing.last < 2 ^ 62 }
-    requires numbers { MayBeSet side.old.outgoing.present (map number_of numbers.now) }
-    ensures { OnOk result (Shows [] patched_row IsRow row_ledger report_of forced (numbers_set row_cmp side.old.outgoing.present (map number_of numbers.now)) side.old side.new) }
+// Whether no grant changed on a machine whose row is not forced.
+fn is_untouched(marks: &Marks, forced: Option<MachineNo>, at: usize) -> bool
+    ensures forced { result ≡ true → is_machine forced at ≡ false }
+    ensures marked { result ≡ true → get_or marks.now at true ≡ false }
 {
-    if numbers.is_empty() && !forced {
-        return Ok(());
-    }
-    show_row(side, alloc, numbers, forced)
+    !is_machine(forced, at) && !is_marked(marks, at)
 }
 
 // Whether it is the machine with this number.
@@ -76,36 +66,24 @@ fn is_machine(machine: Option<MachineNo>, at: usize) -> bool
     }
 }
 
-// What the table has at the spots, in a list for each machine. Spots of no admitted unit or of no machine are passed over: the table has
-// nothing there.
-fn touched(
+// What the table has at the spots of a machine. Those of no admitted unit are passed over: the table has nothing there.
+fn numbers_on(
     alloc: Global,
     table: &GrantTable,
     spots: &[Pick],
-) -> Result<Vec<Vec<RowNumber>>, OutOfMemory>
-    ensures { IfOk result (λ lists. AreTouched table.now (map spot_of spots.now) (numbers_of lists.items)) }
+    at: usize,
+) -> Result<Vec<RowNumber>, OutOfMemory>
+    requires { at < length table.now.cluster.machines }
+    ensures { IfOk result (λ numbers. map number_of numbers.items ≡ touched_on table.now at (map spot_of spots.now)) }
 {
-    let machines = table.cluster().machines() as usize;
-    let mut lists = empty_lists(alloc, machines)?;
+    let mut numbers = Vec::new(alloc);
     for spot in spots {
-        let machine = spot.machine.0 as usize;
-        if machine >= machines || spot.unit.0 as usize >= table.units(spot.app) {
+        if spot.machine.0 as usize != at || spot.unit.0 as usize >= table.units(spot.app) {
             continue;
         }
-        put_number(&mut lists, machine, number_at(table, spot))?;
+        numbers.push(number_at(table, spot))?;
     }
-    Ok(lists)
-}
-
-// So many lists with nothing in them.
-fn empty_lists(alloc: Global, machines: usize) -> Result<Vec<Vec<RowNumber>>, OutOfMemory>
-    ensures { IfOk result (λ lists. numbers_of lists.items ≡ replicate machines []) }
-{
-    let mut lists = Vec::new(alloc);
-    for _ in 0..machines {
-        lists.push(Vec::new(alloc))?;
-    }
-    Ok(lists)
+    Ok(numbers)
 }
 
 // What the table has at a spot.
@@ -120,17 +98,4 @@ fn number_at(table: &GrantTable, spot: &Pick) -> RowNumber
         size: *table.size(spot.app, spot.unit),
         count: table.held_on(spot.app, spot.unit, spot.machine),
     }
-}
-
-// One number more of a machine.
-fn put_number(
-    lists: &mut Vec<Vec<RowNumber>>,
-    machine: usize,
-    number: RowNumber,
-) -> Result<(), OutOfMemory>
-    requires { machine < length lists.old.items }
-    ensures { OnOk result (numbers_of lists.new.items ≡ set (numbers_of lists.old.items) machine (get_or (numbers_of lists.old.items) machine [] ++ number_of number ∷ [])) }
-{
-    lists[machine].push(number)?;
-    Ok(())
 }

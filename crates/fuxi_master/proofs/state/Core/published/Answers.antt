@@ -2,7 +2,7 @@ use Rattle.std.proofs.Common.{◌≡◌, [], map, sym, ◌∙◌, ap, subst}
 use Rattle.fuxi_terms.specs.Keys.{Spot}
 use Rattle.grant_table.specs.Tables.{TableRecord}
 use Rattle.allotment.specs.Allotted.{AllotmentRecord}
-use Rattle.broadcast.specs.Showing.{spot_of, has_spot, RowsAreBefore, GrantsAreBefore, ShowsRows, ShowsAllGrants}
+use Rattle.broadcast.specs.AllShown.{spot_of, has_spot, RowsAreBefore, GrantsAreBefore, ShowsRows, ShowsAllGrants}
 use Rattle.fuxi_master.specs.Ends.{IsPublished}
 use Rattle.fuxi_master.specs.Seen.{core_of}
 use Rattle.fuxi_master.proofs.Ordered.{rows_same, grants_same}
@@ -11,7 +11,7 @@ use Rattle.fuxi_master.proofs.state.Core.published.Goals as goal
 
 pub show_all_rows-requires-clause-before : goal.show_all_rows-requires-clause-before
 show_all_rows-requires-clause-before c =
-    let x = c.args.self in
+    let x = c.args.self.now in
     let ordered = map spot_of c.in_ok-spots.spots.items in
     let same : (s : Spot) → has_spot s ordered ≡ has_spot s x.allotment.touched = λ s. c.in_ok-spots.ensures.same s ∙ ap (has_spot s) c.touched.ensures in
     let rows = rows_same x.allotment.table x.allotment.touched ordered same x.agents.items c.requires.mid.rows in
@@ -20,7 +20,7 @@ show_all_rows-requires-clause-before c =
 
 pub returns : goal.returns
 returns c =
-    let x = c.args.self in
+    let x = c.args.self.now in
     let news = c.args.news.now in
     let ordered = map spot_of c.in_ok-spots.spots.items in
     let same : (s : Spot) → has_spot s ordered ≡ has_spot s x.allotment.touched = λ s. c.in_ok-spots.ensures.same s ∙ ap (has_spot s) c.touched.ensures in

@@ -1,7 +1,0 @@
-use Rattle.std.proofs.Common.{map, take}
-use Rattle.broadcast.specs.Showing.{spot_of}
-use Rattle.broadcast.specs.Touching.{numbers_of, AreTouched}
-use Rattle.broadcast.proofs.rows.touched.Given as goal
-
-abbrev pub invariant-loop-spot : goal.invariant-loop-spot
-invariant-loop-spot l = AreTouched l.table (map spot_of (take l.spot-index l.spots)) (numbers_of l.lists.items)
