@@ -11,7 +11,7 @@ use Rattle.std.specs.FinMap.Entries.{below_all, find, is_sorted}
 use Rattle.std.proofs.lemmas.Bool.Decides.{nat_tests}
 use Rattle.fuxi_terms.specs.Counts.{moved, change_between, is_no_change, count, set_count, set_moved, change_one, change_all, then_do, differences, difference, AreCounts}
 use Rattle.fuxi_terms.proofs.Booleans.{number_is, nat_itself}
-use Rattle.fuxi_terms.proofs.Counting.{both_true, tied, below_none, moved_between, same_counts, count_le, count-set_count, counts-set_count}
+use Rattle.fuxi_terms.proofs.CountsLemmas.{both_true, tied, below_none, moved_between, same_counts, count_le, count-set_count, counts-set_count}
 use Rattle.broadcast.specs.NumbersSet.{numbers_set, moves}
 
 -- the change between two numbers

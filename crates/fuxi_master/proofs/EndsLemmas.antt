@@ -18,7 +18,7 @@ use Rattle.written_roles.specs.MasterSteps.{ready}
 use Rattle.written_roles.specs.MasterRoles.{MasterRole, ends_alone}
 use Rattle.place_pass.specs.Placers.{IsUpToDate}
 use Rattle.allotment.specs.Allotted.{AllotmentRecord, Allots, AllWait}
-use Rattle.settling.specs.Placing.{has_spot, record_of}
+use Rattle.allotment.specs.PlacingReads.{has_spot, record_of}
 use Rattle.broadcast.specs.Projections.{row_of}
 use Rattle.broadcast.specs.declared.grants.News.{News}
 use Rattle.broadcast.specs.AllShown.{Down, App, IsBefore, credited_after}

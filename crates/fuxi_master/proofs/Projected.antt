@@ -10,7 +10,7 @@ use Rattle.schedule_unit.specs.declared.party.AppNo.{AppNo}
 use Rattle.schedule_unit.specs.declared.party.MachineNo.{MachineNo}
 use Rattle.written_net.specs.Channels.{agent_id, app_id}
 use Rattle.written_roles.specs.MasterSteps.{is_one_of, spot_row_key}
-use Rattle.settling.specs.Placing.{record_of}
+use Rattle.allotment.specs.PlacingReads.{record_of}
 use Rattle.broadcast.specs.Projections.{row_of}
 use Rattle.broadcast.specs.declared.grants.News.{News}
 use Rattle.broadcast.specs.AllShown.{is_machine, is_job}

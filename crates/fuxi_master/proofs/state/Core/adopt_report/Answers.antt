@@ -11,7 +11,7 @@ use Rattle.failover.specs.KeptReports.{kept_of}
 use Rattle.failover.specs.Reported.{Reported}
 use Rattle.grant_table.specs.Tables.{TableRecord, IsSound, as_known}
 use Rattle.party_ledgers.specs.Joins.{JoinRecord}
-use Rattle.settling.specs.Placing.{has_spot}
+use Rattle.allotment.specs.PlacingReads.{has_spot}
 use Rattle.fuxi_master.specs.Heard.{Changes, adopting_role}
 use Rattle.fuxi_master.specs.Seen.{core_of}
 use Rattle.fuxi_master.proofs.Adopted.{IsEntered, adopted_changes, adopted_lined}
