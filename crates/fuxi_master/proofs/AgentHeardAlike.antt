@@ -80,8 +80,8 @@ module _ (x : CoreRecord) (m : ℕ) (old new : Down) (packet : Packet) (heard : 
   pub stands_heard : StandsFor after (with_heard r (agent_id m) side)
   stands_heard = stands_at_ends x r h (set x.agents m new) x.apps (set_side r.sides (agent_id m) side.side)
       (each_set (λ n d. IsDown d x.epoch (set_side r.sides (agent_id m) side.side (agent_id n))) x.agents m new lt
-          (subst (λ b. IsDown new x.epoch (elim b as (λ _. Side) [ true ↦ side.side | false ↦ r.sides (agent_id m) ])) (sym (nat_itself m)) (subst (λ n. IsDown new n side.side) h.stands.epoch heard_side.side))
-          (λ n d other e. subst (λ b. IsDown d x.epoch (elim b as (λ _. Side) [ true ↦ side.side | false ↦ r.sides (agent_id n) ])) (sym other) (h.stands.agents n d e)))
+      (subst (λ b. IsDown new x.epoch (elim b as (λ _. Side) [ true ↦ side.side | false ↦ r.sides (agent_id m) ])) (sym (nat_itself m)) (subst (λ n. IsDown new n side.side) h.stands.epoch heard_side.side))
+      (λ n d other e. subst (λ b. IsDown d x.epoch (elim b as (λ _. Side) [ true ↦ side.side | false ↦ r.sides (agent_id n) ])) (sym other) (h.stands.agents n d e)))
       h.stands.apps
       h.stands.credited
       h.stands.unheard

@@ -44,11 +44,11 @@ module _ (x : CoreRecord) (a : ℕ) (old new : App) (packet : Packet) (heard : H
   stands_heard = stands_at_ends x r h x.agents (set x.apps a (Some new)) (set_side r.sides (app_id a) side.side)
       h.stands.agents
       (each_app (λ b d. IsApp d x.epoch (set_side r.sides (app_id a) side.side (app_id b)))
-          (subst (λ b. IsApp new x.epoch (elim b as (λ _. Side) [ true ↦ side.side | false ↦ r.sides (app_id a) ])) (sym (nat_itself a)) (subst (λ n. IsApp new n side.side) h.stands.epoch heard_side.side))
-          (λ b d other e. subst (λ t. IsApp d x.epoch (elim t as (λ _. Side) [ true ↦ side.side | false ↦ r.sides (app_id b) ])) (sym other) (h.stands.apps b d e)))
+      (subst (λ b. IsApp new x.epoch (elim b as (λ _. Side) [ true ↦ side.side | false ↦ r.sides (app_id a) ])) (sym (nat_itself a)) (subst (λ n. IsApp new n side.side) h.stands.epoch heard_side.side))
+      (λ b d other e. subst (λ t. IsApp d x.epoch (elim t as (λ _. Side) [ true ↦ side.side | false ↦ r.sides (app_id b) ])) (sym other) (h.stands.apps b d e)))
       (each_app (λ b d. credited_of r.state b ≡ shown_credited b d)
-          (h.stands.credited a old at ∙ ap (λ o. credited_in o.present.entries) (sym outgoing))
-          (λ b d other e. h.stands.credited b d e))
+      (h.stands.credited a old at ∙ ap (λ o. credited_in o.present.entries) (sym outgoing))
+      (λ b d other e. h.stands.credited b d e))
       (λ b e. elim (nat_eq a b) as (λ t. nat_eq a b ≡ t → elim t as (λ _. Side) [ true ↦ side.side | false ↦ r.sides (app_id b) ] ≡ new_side) [
         | true ↦ λ t. absurd (let f : true ≡ false = sym known ∙ ap (is_known x.known.jobs) (number_is a b t) ∙ e in cc)
         | false ↦ λ _. h.stands.unheard b e

@@ -124,7 +124,13 @@ impl Core {
     {
         step_ends();
         let spots = in_order(alloc, self.allotment.touched())?;
-        show_all_rows(&mut self.agents, alloc, self.allotment.table(), &spots, news.reported)?;
+        show_all_rows(
+            &mut self.agents,
+            alloc,
+            self.allotment.table(),
+            &spots,
+            news.reported,
+        )?;
         show_all_grants(&mut self.apps, alloc, self.allotment.table(), &spots, news)?;
         self.allotment.clear_touched();
         Ok(())

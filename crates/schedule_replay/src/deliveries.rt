@@ -19,8 +19,7 @@ use std::alloc::Global;
 use std::mem;
 use wire_frames::read_packet;
 use written_join::every_change_is_taken;
-use written_world::worlds_in_order;
-use written_world::every_event_keeps_good;
+use written_world::{every_event_keeps_good, worlds_in_order};
 
 // A packet is heard by the master of the epoch that it names.
 fn hear_at_master(

@@ -21,8 +21,7 @@ use crate::text::{write_judged, write_line, write_refusal};
 use schedule_text::Event;
 use schedule_unit::{AppNo, Asks, GroupNo, MachineNo};
 use std::alloc::Global;
-use written_world::worlds_in_order;
-use written_world::every_event_keeps_good;
+use written_world::{every_event_keeps_good, worlds_in_order};
 
 // A master starts in an epoch.
 pub(crate) fn start_master(

@@ -25,8 +25,7 @@ use running_state::write_state;
 use schedule_text::Event;
 use std::alloc::Global;
 use std::marker::Model;
-use written_world::worlds_in_order;
-use written_world::{every_event_keeps_good, good_at_start};
+use written_world::{every_event_keeps_good, good_at_start, worlds_in_order};
 
 /// All that runs at once, with the hard state of the masters and the frames of all packets that were ever sent. Who steps it by events lends
 /// it: what a `World` keeps as its invariant (`IsReached`) is a condition and a clause here, and after a stop nothing is said of it.

@@ -35,7 +35,12 @@ pub fn begins_with(first: &[&[u8]], words: &[&[u8]]) -> bool
 }
 
 /// The number at a place of the line, with the number before it.
-pub fn number_at<P: NumberPlace>(kind: P, place: usize, before: u64, word: &[u8]) -> Result<u64, LineFault>
+pub fn number_at<P: NumberPlace>(
+    kind: P,
+    place: usize,
+    before: u64,
+    word: &[u8],
+) -> Result<u64, LineFault>
     ensures value { result ≡ number_at P.within kind place before word.now }
     ensures narrow { IfOk result (P.narrow kind) }
 {
@@ -47,7 +52,11 @@ pub fn number_at<P: NumberPlace>(kind: P, place: usize, before: u64, word: &[u8]
 }
 
 /// The numbers of these places, which stand from a place of the line on. Behind them stand zeros.
-pub fn numbers_at<P: NumberPlace>(places: &[P], first: usize, words: &[&[u8]]) -> Result<[u64; 4], LineFault>
+pub fn numbers_at<P: NumberPlace>(
+    places: &[P],
+    first: usize,
+    words: &[&[u8]],
+) -> Result<[u64; 4], LineFault>
     requires few { length places.now ≤ 4 }
     requires there { length places.now ≤ length words.now }
     requires range { first + length places.now < 2 ^ 63 }

@@ -183,8 +183,8 @@ above_kept n d runs w g agent_starts app_starts hears = record {
 agents_above : (n m : ℕ) (w : World) → IsAbove n (w.boots (agent_id m)) (agent_boot w m) → WorldKept (λ v. IsAbove n (v.boots (agent_id m)) (agent_boot v m)) (λ _. ⊤) w
 agents_above n m w g = above_kept n (agent_id m) (λ agents _. option_map (λ (g : Agent). g.boot) (find nat_cmp m agents)) w g
     (λ k b t.
-      let up = rising (not_refused (not (nat_lt (w.boots (agent_id k)) b)) (NotRising (w.boots (agent_id k))) [] (not_refused (not (has_machine w.cluster k)) NoMachine ((not (nat_lt (w.boots (agent_id k)) b), NotRising (w.boots (agent_id k))) ∷ []) t).1).0 in
-      record { last = boot_set w.boots (agent_id k) b n (agent_id m) g.last (λ same. newer k b same up); boot = λ d e. put_agent k b up d e })
+    let up = rising (not_refused (not (nat_lt (w.boots (agent_id k)) b)) (NotRising (w.boots (agent_id k))) [] (not_refused (not (has_machine w.cluster k)) NoMachine ((not (nat_lt (w.boots (agent_id k)) b), NotRising (w.boots (agent_id k))) ∷ []) t).1).0 in
+    record { last = boot_set w.boots (agent_id k) b n (agent_id m) g.last (λ same. newer k b same up); boot = λ d e. put_agent k b up d e })
     (λ _ _ _. record { last = g.last; boot = g.boot }) (λ _ _ _ _ _ _. g)
   where
     newer : (k b : ℕ) → same_id (agent_id k) (agent_id m) ≡ true → w.boots (agent_id k) < b → n < b
@@ -203,8 +203,8 @@ agents_above n m w g = above_kept n (agent_id m) (λ agents _. option_map (λ (g
 apps_above : (n a : ℕ) (w : World) → IsAbove n (w.boots (app_id a)) (app_boot w a) → WorldKept (λ v. IsAbove n (v.boots (app_id a)) (app_boot v a)) (λ _. ⊤) w
 apps_above n a w g = above_kept n (app_id a) (λ _ apps. option_map (λ (g : App). g.boot) (find nat_cmp a apps)) w g (λ _ _ _. record { last = g.last; boot = g.boot })
     (λ k b t.
-      let up = rising (not_refused (not (nat_lt (w.boots (app_id k)) b)) (NotRising (w.boots (app_id k))) [] (not_refused (has_ended w.hard.jobs k) Ended ((not (nat_lt (w.boots (app_id k)) b), NotRising (w.boots (app_id k))) ∷ []) (not_refused (not (is_known w.hard.jobs k)) NoJob ((has_ended w.hard.jobs k, Ended) ∷ (not (nat_lt (w.boots (app_id k)) b), NotRising (w.boots (app_id k))) ∷ []) t).1).1).0 in
-      record { last = boot_set w.boots (app_id k) b n (app_id a) g.last (λ same. newer k b same up); boot = λ d e. put_app k b up d e })
+    let up = rising (not_refused (not (nat_lt (w.boots (app_id k)) b)) (NotRising (w.boots (app_id k))) [] (not_refused (has_ended w.hard.jobs k) Ended ((not (nat_lt (w.boots (app_id k)) b), NotRising (w.boots (app_id k))) ∷ []) (not_refused (not (is_known w.hard.jobs k)) NoJob ((has_ended w.hard.jobs k, Ended) ∷ (not (nat_lt (w.boots (app_id k)) b), NotRising (w.boots (app_id k))) ∷ []) t).1).1).0 in
+    record { last = boot_set w.boots (app_id k) b n (app_id a) g.last (λ same. newer k b same up); boot = λ d e. put_app k b up d e })
     (λ k h _ x f _. let p = party (app_id k) h.boot in record { last = g.last; boot = λ d e. again k h (cond (heard_of w.net p is_master x).fresh (carry w.net p h.units (below (length w.cluster.machines)) h.carried) h.carried) f d e })
   where
     newer : (k b : ℕ) → same_id (app_id k) (app_id a) ≡ true → w.boots (app_id k) < b → n < b
