@@ -4,4 +4,4 @@ use Rattle.fuxi_io.specs.Reports.{status_line}
 use Rattle.fuxi_io.specs.declared.status.Status.{Status}
 
 abbrev pub report_line : Status → List ℕ
-report_line = status_line (codes "usage: fuxi_desk\n")
+report_line status = status_line (codes "usage: fuxi_desk\n") status
