@@ -1,3 +1,5 @@
+pub mod Held
+pub mod Writings
 pub mod Events
 pub mod Texts
 pub mod Worlds
@@ -5,3 +7,5 @@ pub mod Steps
 pub mod Moves
 pub mod Commands
 pub mod Halts
+pub mod Numbers
+pub mod Promises

@@ -19,7 +19,7 @@ use Rattle.packet_pool.specs.Pools.{Stored, Keeps, limit_of as pool_limit}
 use Rattle.packet_pool.specs.declared.fault.PoolFault.{PoolFault}
 use Rattle.packet_pool.specs.declared.fault.PoolFault.TheVariants as pool
 use Rattle.wire_frames.specs.Streams.{HasFrame}
-use Rattle.memory_checkpoint.specs.Held.{Held, IsOpen}
+use Rattle.schedule_replay.specs.Held.{Held, IsOpen}
 use Rattle.running_agents.specs.Running.{AgentsRecord, AreAgentsOf}
 use Rattle.running_apps.specs.Running.{AppsRecord, AreAppsOf}
 use Rattle.running_masters.specs.Running.{MastersRecord, AreMastersOf}

@@ -24,7 +24,7 @@ use app_master::AppMaster;
 use cluster_desc::Cluster;
 use fuxi_master::Master;
 use fuxi_terms::OutOfMemory;
-use running_quiet::is_quiet;
+use running_state::is_quiet;
 use schedule_text::Event;
 use schedule_unit::{AppNo, MachineNo};
 use std::alloc::Global;

@@ -5,7 +5,7 @@ use Rattle.written_roles.specs.MasterSteps.{Finishes}
 use Rattle.fuxi_master.specs.declared.event.MasterEvent.TheVariants.{Finish}
 use Rattle.written_world.specs.Events.{commanded}
 use Rattle.schedule_replay.specs.Commands.{Governs, TellsInWorld, governing}
-use Rattle.schedule_replay.proofs.Commanding.{finish_fits, writing_refused, written_done}
+use Rattle.schedule_replay.proofs.CommandsLemmas.{finish_fits, writing_refused, written_done}
 use Rattle.schedule_replay.proofs.commands.finish.Goals as goal
 
 pub returns-in-Err-clause-world : goal.returns-in-Err-clause-world

@@ -2,7 +2,7 @@ use Rattle.std.proofs.Common.{subst}
 use Rattle.hard_state.specs.HardFiles.{Kept}
 use Rattle.written_roles.specs.HardState.{Raise, hard_step}
 use Rattle.running_masters.specs.Calls.{StartsInWorld}
-use Rattle.schedule_replay.proofs.Commanding.{may_step, starts_done, starts_refused}
+use Rattle.schedule_replay.proofs.CommandsLemmas.{may_step, starts_done, starts_refused}
 use Rattle.schedule_replay.proofs.commands.start_master.Goals as goal
 
 pub returns-in-Err-raise-clause-world : goal.returns-in-Err-raise-clause-world

@@ -5,7 +5,7 @@ use Rattle.written_roles.specs.MasterSteps.{UnbansMachine}
 use Rattle.fuxi_master.specs.declared.event.MasterEvent.TheVariants.{Unban}
 use Rattle.written_world.specs.Events.{commanded}
 use Rattle.schedule_replay.specs.Commands.{GovernsOn, TellsInWorld, governing}
-use Rattle.schedule_replay.proofs.Commanding.{writing_refused, written_done}
+use Rattle.schedule_replay.proofs.CommandsLemmas.{writing_refused, written_done}
 use Rattle.schedule_replay.proofs.commands.unban.Goals as goal
 
 pub returns-in-Err-clause-world : goal.returns-in-Err-clause-world

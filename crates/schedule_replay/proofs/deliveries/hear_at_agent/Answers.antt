@@ -3,8 +3,8 @@ use Rattle.std.proofs.Common.{subst}
 use Rattle.running_agents.specs.Running.{HearInWorld}
 use Rattle.schedule_replay.specs.Worlds.{WorldRecord}
 use Rattle.schedule_replay.specs.Moves.{HearsIn, MovesOnce}
-use Rattle.schedule_replay.proofs.Hearing.{agents_hear}
-use Rattle.schedule_replay.proofs.Moving.{agents_once}
+use Rattle.schedule_replay.proofs.HeardInWorld.{agents_hear}
+use Rattle.schedule_replay.proofs.MovesLemmas.{agents_once}
 use Rattle.schedule_replay.proofs.deliveries.hear_at_agent.Goals as goal
 
 pub returns-clause-hears : goal.returns-clause-hears

@@ -3,8 +3,8 @@ use Rattle.std.proofs.Common.{subst}
 use Rattle.running_apps.specs.Running.{HearInWorld}
 use Rattle.schedule_replay.specs.Worlds.{WorldRecord}
 use Rattle.schedule_replay.specs.Moves.{HearsIn, MovesOnce}
-use Rattle.schedule_replay.proofs.Hearing.{apps_hear}
-use Rattle.schedule_replay.proofs.Moving.{apps_once}
+use Rattle.schedule_replay.proofs.HeardInWorld.{apps_hear}
+use Rattle.schedule_replay.proofs.MovesLemmas.{apps_once}
 use Rattle.schedule_replay.proofs.deliveries.hear_at_app.Goals as goal
 
 pub returns-clause-hears : goal.returns-clause-hears

@@ -3,8 +3,8 @@ use Rattle.running_masters.specs.Running.{AreWithin}
 use Rattle.running_masters.specs.Calls.{HearsInWorld}
 use Rattle.schedule_replay.specs.Worlds.{WorldRecord}
 use Rattle.schedule_replay.specs.Moves.{HearsIn, MovesOnce}
-use Rattle.schedule_replay.proofs.Hearing.{masters_hear}
-use Rattle.schedule_replay.proofs.Moving.{masters_once}
+use Rattle.schedule_replay.proofs.HeardInWorld.{masters_hear}
+use Rattle.schedule_replay.proofs.MovesLemmas.{masters_once}
 use Rattle.schedule_replay.proofs.deliveries.hear_at_master.Goals as goal
 
 pub returns-clause-hears : goal.returns-clause-hears

@@ -1,4 +1,4 @@
-use Rattle.schedule_replay.proofs.Turning.{stops_for}
+use Rattle.schedule_replay.proofs.TurnSendsOrStops.{stops_for}
 use Rattle.schedule_replay.proofs.turns.send.Goals as goal
 
 -- the packets are kept, and only memory can lack for their lines
