@@ -145,6 +145,13 @@ impl World {
         self.running.apps.get(app)
     }
 
+    /// How many events it took, refused ones too. It takes no memory.
+    pub fn steps(&self) -> u64
+        ensures { result ≡ self.now.events }
+    {
+        self.running.events
+    }
+
     /// How many packets were sent, at most 1,000,000. It takes no memory.
     pub fn packets(&self) -> u64
         ensures { (w : WrittenWorld) → StandsFor self.now w → result ≡ length w.net.packets }
