@@ -62,15 +62,15 @@ sent_next net first i ps packet xs before mid after same at one two =
     let within = slice_get_within xs i f.written f.there in
     sent_more net first i xs f.written before mid after f.there (length-take-le i xs (omega (arith, within))) one (two net f.written f.same)
 
--- want of memory is no limit
-pub stops_for : (old : Stored) (sent : List PacketHere) (result : Result (Unit {0}) WorldStop) → IfErr result WantsMemory → IfErr result (StopsFor old sent)
-stops_for old sent (Ok done) h = tt
-stops_for old sent (Err OutOfMemory) h = tt
-stops_for old sent (Err (TooManyPackets kept)) h = absurd (none (h None))
+-- behind both limits only memory can lack
+pub stops_for : (old : Stored) (sent : List PacketHere) (result : Result (Unit {0}) WorldStop) → pool_limit old sent ≡ None → IfErr result WantsMemory → IfErr result (StopsFor old sent)
+stops_for old sent (Ok done) within h = tt
+stops_for old sent (Err OutOfMemory) within h = within
+stops_for old sent (Err (TooManyPackets kept)) within h = absurd (none (h None))
   where
     none : None ≡ Some (TooManyPackets kept) → ⊥
     none e = cc
-stops_for old sent (Err (PoolBytes kept)) h = absurd (none (h None))
+stops_for old sent (Err (PoolBytes kept)) within h = absurd (none (h None))
   where
     none : None ≡ Some (PoolBytes kept) → ⊥
     none e = cc
