@@ -1,6 +1,5 @@
 pub mod EmptyFile
 pub mod StoppedWriting
-pub mod WritingsLemmas
 pub mod CommandSteps
 pub mod CommandsLemmas
 pub mod LineEvents

@@ -1,3 +1,4 @@
+pub mod Disks
 pub mod Held
 pub mod Writings
 pub mod Events

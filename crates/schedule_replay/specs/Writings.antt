@@ -25,12 +25,6 @@ IsWritable (Finish app) = Unit {0}
 IsWritable (Ban machine) = machine.0 < most_machines
 IsWritable (Unban machine) = Unit {0}
 
--- the room that calls use of a disk in memory: a write that of its bytes and one more, and a sync one
-abbrev pub room_of : List DiskCall → ℕ
-room_of [] = 0
-room_of (Write at bytes ∷ calls) = length bytes + 1 + room_of calls
-room_of (Sync ∷ calls) = 1 + room_of calls
-
 -- Of the four calls of the disk that a writing makes, the last one makes its record count, and the third where all that was written is left.
 abbrev pub counts_after : ℕ → Bool → Bool
 counts_after calls all = nat_eq calls 4 || (nat_eq calls 3 && all)

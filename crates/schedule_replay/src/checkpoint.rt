@@ -9,32 +9,27 @@ ghost use Rattle.hard_state.specs.HardFiles.{IsBeforeOrAfter, Refuses, records_o
 ghost use Rattle.schedule_replay.specs.Held.{IsOpen};
 ghost use Rattle.schedule_replay.specs.Writings.{IsLeft, IsWritable, MayLeave, counts_after, event_of};
 
-use crate::writing::{Writing, room_for, write_on};
-use fuxi_io::MemDisk;
+use crate::disk::GrowingDisk;
+use crate::writing::{Writing, write_on};
 use fuxi_terms::OutOfMemory;
 use hard_state::{Hard, HardFault};
 use schedule_unit::{AppNo, Job, MachineNo};
 use std::alloc::Global;
 use std::marker::Model;
 
-// The room that a disk needs for opening an empty file: a sync, a write of a gate byte, a sync.
-const OPENING_ROOM: usize = 1 + 2 + 1;
-
 /// A hard state with the disk in memory that it is written to.
 ///
-/// Each writing call makes room for what it writes. It answers the first refusal of the hard state, in the order of [`HardFault`], and
-/// then nothing has changed; or `OutOfMemory`, after which the checkpoint is not to be used. `DiskFault` does not come.
+/// A writing answers the first refusal of the hard state, in the order of [`HardFault`], and then nothing has changed; or `OutOfMemory`,
+/// after which the checkpoint is not to be used. `DiskFault` does not come.
 pub(crate) struct Checkpoint {
     hard: Hard,
-    disk: MemDisk,
-    // the room of the disk that refused calls left
-    spare: usize,
+    disk: GrowingDisk,
 }
 
 // Written out, so that who lets one go checks this call and not all of its parts.
 impl Drop for Checkpoint {
     fn drop(self) {
-        let Checkpoint { hard, disk, spare } = self;
+        let Checkpoint { hard, disk } = self;
     }
 }
 
@@ -46,49 +41,28 @@ impl Model for Checkpoint {
     ghost view = { λ c. record { hard = c.hard; told = c.disk.told } };
 }
 
-// A disk with no list of faults fails only where it lacks room, so memory was refused.
-fn unless_disk(fault: HardFault) -> HardFault
-    ensures same { result ≢ HardFault.OutOfMemory → result ≡ fault }
-    ensures refused { (step : Result HardState Refusal) → Refuses step fault → Refuses step result }
-    ensures disk { result ≢ HardFault.DiskFault }
-{
-    match fault {
-        HardFault::DiskFault => HardFault::OutOfMemory,
-        _ => fault,
-    }
-}
-
 impl Checkpoint {
     /// An empty hard state, on an empty disk. Where memory is refused there is no checkpoint.
     pub(crate) fn open(alloc: Global) -> Result<Checkpoint, OutOfMemory>
         ensures open { IfOk result IsOpen }
         ensures value { IfOk result (λ c. c.hard.value ≡ empty_hard) }
     {
-        let disk = MemDisk::of(alloc, Vec::new(alloc), Vec::new(alloc));
-        Checkpoint::opened(alloc, disk)
+        Checkpoint::opened(alloc, GrowingDisk::empty(alloc))
     }
 
-    // Opens a disk that has no list of faults.
-    fn opened(alloc: Global, mut disk: MemDisk) -> Result<Checkpoint, OutOfMemory>
+    // Opens what is on a disk.
+    fn opened(alloc: Global, mut disk: GrowingDisk) -> Result<Checkpoint, OutOfMemory>
         ensures open { IfOk result IsOpen }
         ensures value { IfOk result (λ c. records_of disk.told.now.bytes ≡ Ok c.hard.value) }
     {
-        match disk.room(OPENING_ROOM) {
-            Ok(()) => {}
-            Err(OutOfMemory) => return Err(OutOfMemory),
-        }
         match Hard::open(alloc, &mut disk) {
-            Ok(hard) => Ok(Checkpoint {
-                hard,
-                disk,
-                spare: 0,
-            }),
+            Ok(hard) => Ok(Checkpoint { hard, disk }),
             Err(_) => Err(OutOfMemory),
         }
     }
 
     // Opens what a crash of the disk leaves: all that was written, or what was synced last.
-    fn opened_image(alloc: Global, disk: &MemDisk, all: bool) -> Result<Checkpoint, OutOfMemory>
+    fn opened_image(alloc: Global, disk: &GrowingDisk, all: bool) -> Result<Checkpoint, OutOfMemory>
         ensures open { IfOk result IsOpen }
         ensures value { IfOk result (λ c. MayLeave disk.now.told.now c.hard.value) }
     {
@@ -96,29 +70,6 @@ impl Checkpoint {
             Ok(image) => Checkpoint::opened(alloc, image),
             Err(OutOfMemory) => Err(OutOfMemory),
         }
-    }
-
-    // Makes so much room for a record, as far as it lacks.
-    fn make_room(&mut self, needed: usize) -> Result<(), OutOfMemory>
-        ensures { self.new ≡ self.old }
-    {
-        if self.spare >= needed {
-            return Ok(());
-        }
-        match self.disk.room(needed - self.spare) {
-            Ok(()) => {
-                self.spare = needed;
-                Ok(())
-            }
-            Err(OutOfMemory) => Err(OutOfMemory),
-        }
-    }
-
-    // Tells that a record used so much room.
-    fn used(&mut self, room: usize)
-        ensures { self.new ≡ self.old }
-    {
-        self.spare = self.spare.saturating_sub(room);
     }
 
     /// The hard state.
@@ -138,21 +89,9 @@ impl Checkpoint {
         requires open { IsOpen self.old }
         ensures ok { OnOk result (IsOpen self.new × (hard_step self.old.hard.value epoch (event_of writing.now) ≡ Ok self.new.hard.value)) }
         ensures refused { IfErr result (Refuses (hard_step self.old.hard.value epoch (event_of writing.now))) }
-        ensures unchanged { IfErr result (λ fault. fault ≢ HardFault.OutOfMemory → self.new ≡ self.old) }
-        ensures disk { result ≢ Err HardFault.DiskFault }
+        ensures unchanged { IfErr result (λ fault. fault ≢ HardFault.DiskFault → self.new ≡ self.old) }
     {
-        let room = room_for(writing);
-        match self.make_room(room) {
-            Ok(()) => {}
-            Err(OutOfMemory) => return Err(HardFault::OutOfMemory),
-        }
-        match write_on(&mut self.hard, &mut self.disk, epoch, writing) {
-            Ok(()) => {
-                self.used(room);
-                Ok(())
-            }
-            Err(fault) => Err(unless_disk(fault)),
-        }
+        write_on(&mut self.hard, &mut self.disk, epoch, writing)
     }
 
     /// Begins to write one change, stops after so many of the four calls of the disk that this makes, and opens what a crash then
@@ -177,7 +116,6 @@ impl Checkpoint {
         ensures left { IfOk result (λ counts. IsLeft (hard_step self.old.hard.value epoch (event_of writing.now)) self.old.hard.value counts self.new.hard.value) }
         ensures refused { IfErr result (Refuses (hard_step self.old.hard.value epoch (event_of writing.now))) }
         ensures unchanged { IfErr result (λ fault. fault ≢ HardFault.OutOfMemory → self.new ≡ self.old) }
-        ensures disk { result ≢ Err HardFault.DiskFault }
     {
         let records = self.hard.records();
         match self.stop(epoch, writing, calls) {
@@ -206,12 +144,7 @@ impl Checkpoint {
         ensures left { OnOk result (Leaves (IsBeforeOrAfter self.old.hard.value (hard_step self.old.hard.value epoch (event_of writing.now))) self.new.told.now) }
         ensures refused { IfErr result (Refuses (hard_step self.old.hard.value epoch (event_of writing.now))) }
         ensures unchanged { IfErr result (λ fault. fault ≢ HardFault.OutOfMemory → self.new ≡ self.old) }
-        ensures disk { result ≢ Err HardFault.DiskFault }
     {
-        match self.make_room(room_for(writing)) {
-            Ok(()) => {}
-            Err(OutOfMemory) => return Err(HardFault::OutOfMemory),
-        }
         self.disk.stop_after(calls as u64);
         match write_on(&mut self.hard, &mut self.disk, epoch, writing) {
             Ok(()) => Ok(()),
@@ -230,8 +163,7 @@ impl Checkpoint {
         requires { IsOpen self.old }
         ensures ok { OnOk result (IsOpen self.new × (hard_step self.old.hard.value epoch Raise ≡ Ok self.new.hard.value)) }
         ensures refused { IfErr result (Refuses (hard_step self.old.hard.value epoch Raise)) }
-        ensures unchanged { IfErr result (λ fault. fault ≢ HardFault.OutOfMemory → self.new ≡ self.old) }
-        ensures disk { result ≢ Err HardFault.DiskFault }
+        ensures unchanged { IfErr result (λ fault. fault ≢ HardFault.DiskFault → self.new ≡ self.old) }
     {
         self.write(epoch, &Writing::Raise)
     }
@@ -243,8 +175,7 @@ impl Checkpoint {
         requires { IsOpen self.old }
         ensures ok { OnOk result (IsOpen self.new × (hard_step self.old.hard.value epoch (Submission job.now) ≡ Ok self.new.hard.value)) }
         ensures refused { IfErr result (Refuses (hard_step self.old.hard.value epoch (Submission job.now))) }
-        ensures unchanged { IfErr result (λ fault. fault ≢ HardFault.OutOfMemory → self.new ≡ self.old) }
-        ensures disk { result ≢ Err HardFault.DiskFault }
+        ensures unchanged { IfErr result (λ fault. fault ≢ HardFault.DiskFault → self.new ≡ self.old) }
     {
         self.write(epoch, &Writing::Submit(job))
     }
@@ -256,8 +187,7 @@ impl Checkpoint {
         requires { IsOpen self.old }
         ensures ok { OnOk result (IsOpen self.new × (hard_step self.old.hard.value epoch (Finishing app.0) ≡ Ok self.new.hard.value)) }
         ensures refused { IfErr result (Refuses (hard_step self.old.hard.value epoch (Finishing app.0))) }
-        ensures unchanged { IfErr result (λ fault. fault ≢ HardFault.OutOfMemory → self.new ≡ self.old) }
-        ensures disk { result ≢ Err HardFault.DiskFault }
+        ensures unchanged { IfErr result (λ fault. fault ≢ HardFault.DiskFault → self.new ≡ self.old) }
     {
         self.write(epoch, &Writing::Finish(app))
     }
@@ -270,8 +200,7 @@ impl Checkpoint {
         requires open { IsOpen self.old }
         ensures ok { OnOk result (IsOpen self.new × (hard_step self.old.hard.value epoch (Banning machine.0) ≡ Ok self.new.hard.value)) }
         ensures refused { IfErr result (Refuses (hard_step self.old.hard.value epoch (Banning machine.0))) }
-        ensures unchanged { IfErr result (λ fault. fault ≢ HardFault.OutOfMemory → self.new ≡ self.old) }
-        ensures disk { result ≢ Err HardFault.DiskFault }
+        ensures unchanged { IfErr result (λ fault. fault ≢ HardFault.DiskFault → self.new ≡ self.old) }
     {
         self.write(epoch, &Writing::Ban(machine))
     }
@@ -283,8 +212,7 @@ impl Checkpoint {
         requires { IsOpen self.old }
         ensures ok { OnOk result (IsOpen self.new × (hard_step self.old.hard.value epoch (Unbanning machine.0) ≡ Ok self.new.hard.value)) }
         ensures refused { IfErr result (Refuses (hard_step self.old.hard.value epoch (Unbanning machine.0))) }
-        ensures unchanged { IfErr result (λ fault. fault ≢ HardFault.OutOfMemory → self.new ≡ self.old) }
-        ensures disk { result ≢ Err HardFault.DiskFault }
+        ensures unchanged { IfErr result (λ fault. fault ≢ HardFault.DiskFault → self.new ≡ self.old) }
     {
         self.write(epoch, &Writing::Unban(machine))
     }

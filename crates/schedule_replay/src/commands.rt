@@ -389,10 +389,12 @@ fn answered_refusal(answer: Option<Result<(), MasterRefusal>>) -> Option<Refusal
     }
 }
 
-/// The refusal that a fault of the hard state is. A file that is damaged and a fault of the disk do not come from a checkpoint in memory.
+/// The refusal that a fault of the hard state is. A fault of a disk in memory is want of memory for its room; a damaged file is none that it
+/// leaves.
 pub(crate) fn written_refusal(fault: HardFault) -> Result<Refusal, OutOfMemory>
     ensures refused { IfOk result (λ refusal. (step : Result HardState WrittenRefusal) → Refuses step fault → step ≡ Err (as_refusal refusal)) }
     ensures memory { IfOk result (λ refusal. fault ≢ HardFault.OutOfMemory) }
+    ensures disk { IfOk result (λ refusal. fault ≢ HardFault.DiskFault) }
 {
     match hard_refusal(fault) {
         Some(refusal) => Ok(refusal),

@@ -7,6 +7,7 @@ mod apps;
 mod checkpoint;
 mod commands;
 mod deliveries;
+mod disk;
 mod halts;
 mod laws;
 mod lines;

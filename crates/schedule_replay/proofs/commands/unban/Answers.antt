@@ -17,7 +17,7 @@ returns-in-Err-unban-clause-world c w cluster s =
     let m = c.args.machine.0 in
     let refusal = c.in_ok-written_refusal-in-Err-unban in
     writing_refused w e (UnbansMachine m) (Unbanning m) c.args.checkpoint.now c.unban.new.self c.args.masters.now refusal.field-0 (c.in-Ok.ensures.unban w cluster s.stand) s
-    (refusal.ensures.refused (hard_step c.args.checkpoint.now.hard.value e (Unbanning m)) c.in-Err-unban.ensures.refused) (c.in-Err-unban.ensures.unchanged refusal.ensures.memory)
+    (refusal.ensures.refused (hard_step c.args.checkpoint.now.hard.value e (Unbanning m)) c.in-Err-unban.ensures.refused) (c.in-Err-unban.ensures.unchanged refusal.ensures.disk)
 
 pub returns-clause-world : goal.returns-clause-world
 returns-clause-world c =
