@@ -2,3 +2,5 @@ mod Walks
 mod Loops
 mod Found
 mod Whole
+mod Lists
+mod Peers

@@ -14,7 +14,7 @@ use Rattle.written_world.specs.Events.{commanded, ban_each, judge, start_master}
 use Rattle.written_world.specs.Good.{Good}
 use Rattle.written_join.specs.Joins.{OneActs}
 use Rattle.bad_nodes.specs.Ranks.{number_of}
-use Rattle.memory_checkpoint.specs.Held.{Held, IsOpen}
+use Rattle.schedule_replay.specs.Held.{Held, IsOpen}
 use Rattle.fuxi_master.specs.Steps.{told_by}
 use Rattle.fuxi_master.specs.declared.event.MasterEvent.{MasterEvent}
 use Rattle.fuxi_master.specs.declared.event.MasterRefusal.{MasterRefusal}

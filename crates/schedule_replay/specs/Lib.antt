@@ -1,3 +1,6 @@
+pub mod Disks
+pub mod Held
+pub mod Writings
 pub mod Events
 pub mod Texts
 pub mod Worlds
@@ -5,3 +8,5 @@ pub mod Steps
 pub mod Moves
 pub mod Commands
 pub mod Halts
+pub mod Numbers
+pub mod Promises

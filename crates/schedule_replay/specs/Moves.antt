@@ -19,7 +19,7 @@ use Rattle.packet_pool.specs.Pools.{Stored, Keeps, limit_of as pool_limit}
 use Rattle.packet_pool.specs.declared.fault.PoolFault.{PoolFault}
 use Rattle.packet_pool.specs.declared.fault.PoolFault.TheVariants as pool
 use Rattle.wire_frames.specs.Streams.{HasFrame}
-use Rattle.memory_checkpoint.specs.Held.{Held, IsOpen}
+use Rattle.schedule_replay.specs.Held.{Held, IsOpen}
 use Rattle.running_agents.specs.Running.{AgentsRecord, AreAgentsOf}
 use Rattle.running_apps.specs.Running.{AppsRecord, AreAppsOf}
 use Rattle.running_masters.specs.Running.{MastersRecord, AreMastersOf}
@@ -149,11 +149,11 @@ StopsAs (pool.TooManyPackets kept) stop = stop ≡ TooManyPackets kept
 StopsAs (pool.PoolBytes kept) stop = stop ≡ PoolBytes kept
 StopsAs pool.OutOfMemory stop = stop ≡ OutOfMemory
 
--- the first limit that these packets would pass, with the bytes of frames that there are
+-- the first limit that these packets would pass, with the bytes of frames that there are; memory lacks only where they would pass none
 abbrev pub StopsFor : Stored → List Packet → WorldStop → Type 0
 StopsFor p sent (TooManyPackets kept) = pool_limit p sent ≡ Some (pool.TooManyPackets kept)
 StopsFor p sent (PoolBytes kept) = (pool_limit p sent ≡ Some (pool.PoolBytes kept)) × AllByRecursion HasFrame sent
-StopsFor p sent OutOfMemory = Unit {0}
+StopsFor p sent OutOfMemory = pool_limit p sent ≡ None
 
 -- A packet of the world is heard by the party that it is for, if that runs, as the world hears it
 pub record IsHeardIn (w : World) (x : WrittenPacket) (new : WorldRecord) (heard : Option Heard) : Type 0 where
@@ -162,6 +162,12 @@ pub record IsHeardIn (w : World) (x : WrittenPacket) (new : WorldRecord) (heard 
 
 abbrev pub HearsIn : Packet → WorldRecord → WorldRecord → Option Heard → Type 0
 HearsIn packet old new heard = (w : World) (which : ℕ) (x : WrittenPacket) → IsWorld w → StandsFor old w → slice_get w.net.packets which ≡ Some x → parcel_is packet ≡ parcel_of w.net x → IsHeardIn w x new heard
+
+-- in one move, and none is sent
+pub record IsHeardBy (packet : Packet) (old new : WorldRecord) (heard : Option Heard) : Type 0 where
+  pub hears : HearsIn packet old new heard
+  pub once : MovesOnce old new
+  pub pool : new.pool ≡ old.pool
 
 -- a part of an event is done: the world after it is again one to which inputs lead
 pub record IsThrough (s : Step) (now : WorldRecord) (before after : List ℕ) : Type 0 where

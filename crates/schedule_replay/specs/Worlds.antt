@@ -8,7 +8,7 @@ use Rattle.written_join.specs.Seen.{parcel_of}
 use Rattle.written_world.specs.World.{World}
 use Rattle.written_world.specs.Good.{Good}
 use Rattle.packet_pool.specs.Pools.{Stored, Keeps}
-use Rattle.memory_checkpoint.specs.Held.{Held, IsOpen}
+use Rattle.schedule_replay.specs.Held.{Held, IsOpen}
 use Rattle.running_agents.specs.Running.{AgentsRecord, AreAgentsOf, AreWithin as AgentsWithin}
 use Rattle.running_apps.specs.Running.{AppsRecord, AreAppsOf, AreWithin as AppsWithin}
 use Rattle.running_masters.specs.Running.{MastersRecord, AreMastersOf, AreWithin as MastersWithin}

@@ -20,6 +20,7 @@ ghost use Rattle.schedule_text.specs.Asked.{job_named};
 ghost use Rattle.schedule_text.specs.Printing.{as_refusal};
 ghost use Rattle.schedule_replay.specs.Commands.{AreGoverned, Decides, Governs, GovernsMasters, GovernsOn, IsGoverning, StartsIn, SubmitsIn, TakesStep, TellsInWorld, WritesIn, governing, refusal_in};
 
+use crate::checkpoint::Checkpoint;
 use bad_nodes::Votes;
 use cluster_desc::Cluster;
 use fuxi_master::{MasterEvent, MasterRefusal};
@@ -27,7 +28,6 @@ use fuxi_terms::OutOfMemory;
 use fuxi_terms::limits::{MOST_MASTERS, MOST_RECORDS};
 use hard_state::HardFault;
 use master_text::{hard_refusal, master_refusal};
-use memory_checkpoint::Checkpoint;
 use running_masters::Masters;
 use schedule_text::{Refusal, job_refusal, jobs_are_tested_alike};
 use schedule_unit::{AppNo, Asks, GroupNo, Job, MachineNo};
@@ -389,10 +389,12 @@ fn answered_refusal(answer: Option<Result<(), MasterRefusal>>) -> Option<Refusal
     }
 }
 
-/// The refusal that a fault of the hard state is. A file that is damaged and a fault of the disk do not come from a checkpoint in memory.
+/// The refusal that a fault of the hard state is. A fault of a disk in memory is want of memory for its room; a damaged file is none that it
+/// leaves.
 pub(crate) fn written_refusal(fault: HardFault) -> Result<Refusal, OutOfMemory>
     ensures refused { IfOk result (λ refusal. (step : Result HardState WrittenRefusal) → Refuses step fault → step ≡ Err (as_refusal refusal)) }
     ensures memory { IfOk result (λ refusal. fault ≢ HardFault.OutOfMemory) }
+    ensures disk { IfOk result (λ refusal. fault ≢ HardFault.DiskFault) }
 {
     match hard_refusal(fault) {
         Some(refusal) => Ok(refusal),

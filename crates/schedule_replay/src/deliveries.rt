@@ -1,9 +1,9 @@
 //! Deliveries: what parties hear.
 
-ghost use Rattle.std.specs.Prelude.{◌≡◌, ◌<◌, ◌≤◌, IfOk, OnOk};
+ghost use Rattle.std.specs.Prelude.{◌≡◌, ◌<◌, ◌≤◌, IfOk};
 ghost use Rattle.party_ledgers.specs.Packets.{IsFormed};
 ghost use Rattle.written_world.specs.Events.{deliver, deliver_one, deliver_range, dump};
-ghost use Rattle.schedule_replay.specs.Moves.{Acts, ActsOnce, CanMove, CanMoveLong, HearsIn, MovesOnce};
+ghost use Rattle.schedule_replay.specs.Moves.{Acts, ActsOnce, CanMove, CanMoveLong, IsHeardBy};
 
 use crate::laws::{agents_act, apps_act, cores_may_step, masters_act};
 use crate::running::Running;
@@ -31,9 +31,7 @@ fn hear_at_master(
     requires formed { IsFormed packet }
     requires no_end { packet.kind ≡ Kind.End → ⊥ }
     requires can { CanMove running.old }
-    ensures hears { IfOk result (HearsIn packet running.old running.new) }
-    ensures once { OnOk result (MovesOnce running.old running.new) }
-    ensures pool { OnOk result (running.new.pool ≡ running.old.pool) }
+    ensures { IfOk result (IsHeardBy packet running.old running.new) }
 {
     masters_act();
     cores_may_step();
@@ -54,9 +52,7 @@ fn hear_at_agent(
     requires formed { IsFormed packet.now }
     requires no_end { packet.now.kind ≡ Kind.End → ⊥ }
     requires can { CanMove running.old }
-    ensures hears { IfOk result (HearsIn packet.now running.old running.new) }
-    ensures once { OnOk result (MovesOnce running.old running.new) }
-    ensures pool { OnOk result (running.new.pool ≡ running.old.pool) }
+    ensures { IfOk result (IsHeardBy packet.now running.old running.new) }
 {
     agents_act();
     cores_may_step();
@@ -74,9 +70,7 @@ fn hear_at_app(
     requires formed { IsFormed packet.now }
     requires no_end { packet.now.kind ≡ Kind.End → ⊥ }
     requires can { CanMove running.old }
-    ensures hears { IfOk result (HearsIn packet.now running.old running.new) }
-    ensures once { OnOk result (MovesOnce running.old running.new) }
-    ensures pool { OnOk result (running.new.pool ≡ running.old.pool) }
+    ensures { IfOk result (IsHeardBy packet.now running.old running.new) }
 {
     apps_act();
     cores_may_step();
@@ -89,9 +83,7 @@ fn hear(running: &mut Running, alloc: Global, packet: Packet) -> Result<Option<H
     requires formed { IsFormed packet }
     requires no_end { packet.kind ≡ Kind.End → ⊥ }
     requires can { CanMove running.old }
-    ensures hears { IfOk result (HearsIn packet running.old running.new) }
-    ensures once { OnOk result (MovesOnce running.old running.new) }
-    ensures pool { OnOk result (running.new.pool ≡ running.old.pool) }
+    ensures { IfOk result (IsHeardBy packet running.old running.new) }
 {
     match packet.to.role {
         Role::Master => hear_at_master(running, alloc, packet),

@@ -10,7 +10,7 @@ ghost use Rattle.schedule_replay.specs.Events.{event_as};
 ghost use Rattle.written_net.specs.Net.{Party};
 ghost use Rattle.written_world.specs.World.{World};
 ghost use Rattle.packet_pool.specs.Pools.{Stored};
-ghost use Rattle.memory_checkpoint.specs.Held.{Held};
+ghost use Rattle.schedule_replay.specs.Held.{Held};
 ghost use Rattle.running_agents.specs.Running.{AgentsRecord, agent_in, MayStep as AgentMayStep};
 ghost use Rattle.running_apps.specs.Running.{AppsRecord, app_in, MayStep as AppMayStep};
 ghost use Rattle.running_masters.specs.Running.{MastersRecord, MayStep as MasterMayStep};

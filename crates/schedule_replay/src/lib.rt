@@ -4,21 +4,26 @@
 mod acts;
 mod agents;
 mod apps;
+mod checkpoint;
 mod commands;
 mod deliveries;
+mod disk;
 mod halts;
 mod laws;
 mod lines;
 mod masters;
+mod promises;
 mod running;
 mod showing;
 mod stop;
 mod text;
 mod turns;
 mod world;
+mod writing;
 
 pub use laws::{events_are_inputs, events_stand_anywhere};
 pub use lines::Lines;
+pub use promises::{cores_are_safe, held_is_answered, quiet_parties_agree};
 pub use running::Running;
 pub use stop::WorldStop;
 pub use world::World;

@@ -10,13 +10,13 @@ ghost use Rattle.schedule_replay.specs.Worlds.{IsReached, IsWorld, StandsFor};
 ghost use Rattle.schedule_replay.specs.Steps.{Takes, StopsAt};
 
 use crate::acts::act;
+use crate::checkpoint::Checkpoint;
 use crate::laws::{cores_may_step, events_are_inputs};
 use crate::lines::Lines;
 use crate::stop::WorldStop;
 use cluster_desc::Cluster;
 use core_join::written_frame_lengths;
 use fuxi_terms::OutOfMemory;
-use memory_checkpoint::Checkpoint;
 use packet_pool::PacketPool;
 use running_agents::Agents;
 use running_apps::Apps;

@@ -24,7 +24,7 @@ use app_master::AppMaster;
 use cluster_desc::Cluster;
 use fuxi_master::Master;
 use fuxi_terms::OutOfMemory;
-use running_quiet::is_quiet;
+use running_state::is_quiet;
 use schedule_text::Event;
 use schedule_unit::{AppNo, MachineNo};
 use std::alloc::Global;
@@ -143,6 +143,13 @@ impl World {
         ensures runs { (w : WrittenWorld) → StandsFor self.now w → is_some result ≡ is_some (find nat_cmp app.0 w.apps) }
     {
         self.running.apps.get(app)
+    }
+
+    /// How many events it took, refused ones too. It takes no memory.
+    pub fn steps(&self) -> u64
+        ensures { result ≡ self.now.events }
+    {
+        self.running.events
     }
 
     /// How many packets were sent, at most 1,000,000. It takes no memory.

@@ -5,9 +5,9 @@ use Rattle.written_world.specs.Events.{resync_agent, resynced}
 use Rattle.schedule_replay.specs.Worlds.{WorldRecord}
 use Rattle.schedule_replay.specs.Steps.{IsDone}
 use Rattle.schedule_replay.specs.Moves.{IsActed}
-use Rattle.schedule_replay.proofs.Governing.{is_refused}
-use Rattle.schedule_replay.proofs.Doing.{acts_by, agent_done, agent_runs, agent_runs_not, with_agents}
-use Rattle.schedule_replay.proofs.Moving.{once_up_to, agents_once}
+use Rattle.schedule_replay.proofs.MastersActInWorld.{is_refused}
+use Rattle.schedule_replay.proofs.PeersActInWorld.{acts_by, agent_done, agent_runs, agent_runs_not, with_agents}
+use Rattle.schedule_replay.proofs.MovesLemmas.{once_up_to, agents_once}
 use Rattle.schedule_replay.proofs.agents.resync_agent.Goals as goal
 use Rattle.schedule_text.specs.declared.refusal.Refusal.TheVariants as why
 use Rattle.running_agents.specs.Running.{ResyncInWorld}

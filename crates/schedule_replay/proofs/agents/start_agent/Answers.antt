@@ -10,8 +10,8 @@ use Rattle.written_world.specs.Events.{start_agent}
 use Rattle.schedule_text.specs.declared.refusal.Refusal.TheVariants as why
 use Rattle.schedule_replay.specs.Worlds.{WorldRecord}
 use Rattle.schedule_replay.specs.Moves.{Acts, IsActed}
-use Rattle.schedule_replay.proofs.Doing.{acts_by, refuses, agent_beyond, agent_too_low, agent_starts, has_as}
-use Rattle.schedule_replay.proofs.Moving.{once_up_to, agents_once, agents_still}
+use Rattle.schedule_replay.proofs.PeersActInWorld.{acts_by, refuses, agent_beyond, agent_too_low, agent_starts, has_as}
+use Rattle.schedule_replay.proofs.MovesLemmas.{once_up_to, agents_once, agents_still}
 use Rattle.schedule_replay.proofs.agents.start_agent.Goals as goal
 use Rattle.schedule_replay.proofs.agents.start_agent.Goals.{in-Ok, in-Err}
 

@@ -4,9 +4,9 @@ use Rattle.written_world.specs.Events.{asks}
 use Rattle.schedule_text.specs.declared.refusal.Refusal.TheVariants as why
 use Rattle.schedule_replay.specs.Worlds.{WorldRecord}
 use Rattle.schedule_replay.specs.Moves.{Acts, IsActed, IsRefusalOf}
-use Rattle.schedule_replay.proofs.Governing.{is_refused}
-use Rattle.schedule_replay.proofs.Doing.{acts_by, asked_done, asked_not, fault_is, with_apps}
-use Rattle.schedule_replay.proofs.Moving.{once_up_to, apps_once}
+use Rattle.schedule_replay.proofs.MastersActInWorld.{is_refused}
+use Rattle.schedule_replay.proofs.PeersActInWorld.{acts_by, asked_done, asked_not, fault_is, with_apps}
+use Rattle.schedule_replay.proofs.MovesLemmas.{once_up_to, apps_once}
 use Rattle.schedule_replay.proofs.apps.ask_app.Goals as goal
 use Rattle.schedule_replay.proofs.apps.ask_app.Goals.{in-Some-refusal_of, in-None}
 

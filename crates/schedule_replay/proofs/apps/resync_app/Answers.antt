@@ -7,9 +7,9 @@ use Rattle.schedule_text.specs.declared.refusal.Refusal.TheVariants as why
 use Rattle.schedule_replay.specs.Worlds.{WorldRecord}
 use Rattle.schedule_replay.specs.Steps.{IsDone}
 use Rattle.schedule_replay.specs.Moves.{IsActed}
-use Rattle.schedule_replay.proofs.Governing.{is_refused}
-use Rattle.schedule_replay.proofs.Doing.{acts_by, app_done, app_runs, app_runs_not, with_apps}
-use Rattle.schedule_replay.proofs.Moving.{once_up_to, apps_once}
+use Rattle.schedule_replay.proofs.MastersActInWorld.{is_refused}
+use Rattle.schedule_replay.proofs.PeersActInWorld.{acts_by, app_done, app_runs, app_runs_not, with_apps}
+use Rattle.schedule_replay.proofs.MovesLemmas.{once_up_to, apps_once}
 use Rattle.schedule_replay.proofs.apps.resync_app.Goals as goal
 
 pub returns-then-resync : goal.returns-then-resync

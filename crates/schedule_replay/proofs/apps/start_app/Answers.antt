@@ -10,8 +10,8 @@ use Rattle.written_world.specs.Events.{start_app}
 use Rattle.schedule_text.specs.declared.refusal.Refusal.TheVariants as why
 use Rattle.schedule_replay.specs.Worlds.{WorldRecord}
 use Rattle.schedule_replay.specs.Moves.{Acts, IsActed}
-use Rattle.schedule_replay.proofs.Doing.{acts_by, refuses, app_unknown, app_over, app_too_low, app_starts, job_known, units_as}
-use Rattle.schedule_replay.proofs.Moving.{once_up_to, apps_once, apps_still}
+use Rattle.schedule_replay.proofs.PeersActInWorld.{acts_by, refuses, app_unknown, app_over, app_too_low, app_starts, job_known, units_as}
+use Rattle.schedule_replay.proofs.MovesLemmas.{once_up_to, apps_once, apps_still}
 use Rattle.schedule_replay.proofs.apps.start_app.Goals as goal
 use Rattle.schedule_replay.proofs.apps.start_app.Goals.{in-Ok, in-Err}
 

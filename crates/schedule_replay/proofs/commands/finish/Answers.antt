@@ -5,7 +5,7 @@ use Rattle.written_roles.specs.MasterSteps.{Finishes}
 use Rattle.fuxi_master.specs.declared.event.MasterEvent.TheVariants.{Finish}
 use Rattle.written_world.specs.Events.{commanded}
 use Rattle.schedule_replay.specs.Commands.{Governs, TellsInWorld, governing}
-use Rattle.schedule_replay.proofs.Commanding.{finish_fits, writing_refused, written_done}
+use Rattle.schedule_replay.proofs.CommandsLemmas.{finish_fits, writing_refused, written_done}
 use Rattle.schedule_replay.proofs.commands.finish.Goals as goal
 
 pub returns-in-Err-clause-world : goal.returns-in-Err-clause-world
@@ -20,7 +20,7 @@ returns-in-Err-finish-clause-world c w s =
     let a = c.args.app.0 in
     let refusal = c.in_ok-written_refusal-in-Err-finish in
     writing_refused w e (Finishes a) (Finishing a) c.args.checkpoint.now c.finish.new.self c.args.masters.now refusal.field-0 (c.in-Ok.ensures w a s.stand) s
-    (refusal.ensures.refused (hard_step c.args.checkpoint.now.hard.value e (Finishing a)) c.in-Err-finish.ensures.refused) (c.in-Err-finish.ensures.unchanged refusal.ensures.memory)
+    (refusal.ensures.refused (hard_step c.args.checkpoint.now.hard.value e (Finishing a)) c.in-Err-finish.ensures.refused) (c.in-Err-finish.ensures.unchanged refusal.ensures.disk)
 
 pub returns-clause-world : goal.returns-clause-world
 returns-clause-world c =

@@ -3,7 +3,7 @@ use Rattle.fuxi_terms.specs.Limits.{most_records}
 use Rattle.hard_state.specs.HardFiles.{Kept}
 use Rattle.written_join.specs.Seen.{master_seen}
 use Rattle.schedule_replay.specs.Commands.{governing}
-use Rattle.schedule_replay.proofs.Judging.{is_below_fence, is_decided, is_too_many, runs_none}
+use Rattle.schedule_replay.proofs.JudgementIsBans.{is_below_fence, is_decided, is_too_many, runs_none}
 use Rattle.schedule_replay.proofs.commands.judged.Goals as goal
 
 pub returns-in_default : goal.returns-in_default

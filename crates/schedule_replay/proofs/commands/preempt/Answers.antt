@@ -4,7 +4,7 @@ use Rattle.written_roles.specs.MasterSteps.{MakesRoom}
 use Rattle.fuxi_master.specs.declared.event.MasterEvent.TheVariants.{Preempt}
 use Rattle.written_world.specs.Events.{commanded}
 use Rattle.schedule_replay.specs.Commands.{GovernsMasters, TellsInWorld}
-use Rattle.schedule_replay.proofs.Commanding.{preempts_written, runs_in, told_alone}
+use Rattle.schedule_replay.proofs.CommandsLemmas.{preempts_written, runs_in, told_alone}
 use Rattle.schedule_replay.proofs.commands.preempt.Goals as goal
 
 pub returns-clause-world : goal.returns-clause-world

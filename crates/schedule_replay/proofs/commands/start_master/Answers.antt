@@ -2,7 +2,7 @@ use Rattle.std.proofs.Common.{subst}
 use Rattle.hard_state.specs.HardFiles.{Kept}
 use Rattle.written_roles.specs.HardState.{Raise, hard_step}
 use Rattle.running_masters.specs.Calls.{StartsInWorld}
-use Rattle.schedule_replay.proofs.Commanding.{may_step, starts_done, starts_refused}
+use Rattle.schedule_replay.proofs.CommandsLemmas.{may_step, starts_done, starts_refused}
 use Rattle.schedule_replay.proofs.commands.start_master.Goals as goal
 
 pub returns-in-Err-raise-clause-world : goal.returns-in-Err-raise-clause-world
@@ -11,7 +11,7 @@ returns-in-Err-raise-clause-world c w cluster s =
     let old = c.args.checkpoint.now in
     let refusal = c.in_ok-written_refusal-in-Err-raise.ensures in
     starts_refused w e old c.raise.new.self c.args.masters.now c.in_ok-written_refusal-in-Err-raise.field-0 s (c.in-Ok.ensures.world w s)
-    (refusal.refused (hard_step old.hard.value e Raise) c.in-Err-raise.ensures.refused) (c.in-Err-raise.ensures.unchanged refusal.memory)
+    (refusal.refused (hard_step old.hard.value e Raise) c.in-Err-raise.ensures.refused) (c.in-Err-raise.ensures.unchanged refusal.disk)
 
 pub returns-in-Ok-start-clause-world : goal.returns-in-Ok-start-clause-world
 returns-in-Ok-start-clause-world c w cluster s =

@@ -8,7 +8,7 @@ use Rattle.fuxi_master.specs.declared.event.MasterEvent.TheVariants.{Admit}
 use Rattle.written_world.specs.Events.{commanded}
 use Rattle.schedule_text.specs.Asked.{job_named}
 use Rattle.schedule_replay.specs.Commands.{GovernsOn, SubmitsIn, TellsInWorld, governing}
-use Rattle.schedule_replay.proofs.Commanding.{admit_fits, submit_told, writing_refused, written_done}
+use Rattle.schedule_replay.proofs.CommandsLemmas.{admit_fits, submit_told, writing_refused, written_done}
 use Rattle.schedule_replay.proofs.commands.submit.Goals as goal
 
 pub returns-in-Ok-Err-clause-world : goal.returns-in-Ok-Err-clause-world
@@ -23,7 +23,7 @@ returns-in-Err-submit-clause-world c w cluster s =
     let refusal = c.in_ok-written_refusal-in-Err-submit in
     let may = subst (SubmitsIn w e j) c.in-Ok-Ok.field-0-is (c.in-Ok-Ok.ensures.world w cluster s.stand) in
     writing_refused w e (Submits j) (Submission c.in-Ok-Ok.job) c.args.checkpoint.now c.submit.new.self c.args.masters.now refusal.field-0 may s
-    (refusal.ensures.refused (hard_step c.args.checkpoint.now.hard.value e (Submission c.in-Ok-Ok.job)) c.in-Err-submit.ensures.refused) (c.in-Err-submit.ensures.unchanged refusal.ensures.memory)
+    (refusal.ensures.refused (hard_step c.args.checkpoint.now.hard.value e (Submission c.in-Ok-Ok.job)) c.in-Err-submit.ensures.refused) (c.in-Err-submit.ensures.unchanged refusal.ensures.disk)
 
 pub tell-requires-clause-fitting : goal.tell-requires-clause-fitting
 tell-requires-clause-fitting c = admit_fits c.args.checkpoint.now c.args.masters.now c.args.epoch c.in-Ok-Ok.job c.submit.new.self.hard.value c.requires.governed c.in-Ok.ensures.ok.1

@@ -5,7 +5,7 @@ use Rattle.written_roles.specs.MasterSteps.{UnbansMachine}
 use Rattle.fuxi_master.specs.declared.event.MasterEvent.TheVariants.{Unban}
 use Rattle.written_world.specs.Events.{commanded}
 use Rattle.schedule_replay.specs.Commands.{GovernsOn, TellsInWorld, governing}
-use Rattle.schedule_replay.proofs.Commanding.{writing_refused, written_done}
+use Rattle.schedule_replay.proofs.CommandsLemmas.{writing_refused, written_done}
 use Rattle.schedule_replay.proofs.commands.unban.Goals as goal
 
 pub returns-in-Err-clause-world : goal.returns-in-Err-clause-world
@@ -17,7 +17,7 @@ returns-in-Err-unban-clause-world c w cluster s =
     let m = c.args.machine.0 in
     let refusal = c.in_ok-written_refusal-in-Err-unban in
     writing_refused w e (UnbansMachine m) (Unbanning m) c.args.checkpoint.now c.unban.new.self c.args.masters.now refusal.field-0 (c.in-Ok.ensures.unban w cluster s.stand) s
-    (refusal.ensures.refused (hard_step c.args.checkpoint.now.hard.value e (Unbanning m)) c.in-Err-unban.ensures.refused) (c.in-Err-unban.ensures.unchanged refusal.ensures.memory)
+    (refusal.ensures.refused (hard_step c.args.checkpoint.now.hard.value e (Unbanning m)) c.in-Err-unban.ensures.refused) (c.in-Err-unban.ensures.unchanged refusal.ensures.disk)
 
 pub returns-clause-world : goal.returns-clause-world
 returns-clause-world c =

@@ -4,8 +4,8 @@ use Rattle.schedule_text.specs.declared.refusal.Refusal.TheVariants as why
 use Rattle.schedule_replay.specs.Texts.{lines_text}
 use Rattle.schedule_replay.specs.Worlds.{WorldRecord}
 use Rattle.schedule_replay.specs.Moves.{refusal_lines}
-use Rattle.schedule_replay.proofs.Answering.{acts_if, acts_once}
-use Rattle.schedule_replay.proofs.Ranging.{refuses_one, one_is}
+use Rattle.schedule_replay.proofs.ActsByOneStep.{acts_if, acts_once}
+use Rattle.schedule_replay.proofs.RangeIsDeliveries.{refuses_one, one_is}
 use Rattle.schedule_replay.proofs.deliveries.deliver.Goals as goal
 
 pub returns-then-number-sent : goal.returns-then-number-sent

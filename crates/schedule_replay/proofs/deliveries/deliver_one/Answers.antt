@@ -3,9 +3,9 @@ use Rattle.written_world.specs.Events.{deliver_one}
 use Rattle.schedule_replay.specs.Texts.{lines_text}
 use Rattle.schedule_replay.specs.Worlds.{WorldRecord}
 use Rattle.schedule_replay.specs.Moves.{heard_lines}
-use Rattle.schedule_replay.proofs.Answering.{once_if}
-use Rattle.schedule_replay.proofs.Moving.{none_once}
-use Rattle.schedule_replay.proofs.Delivering.{delivers, delivers_none, stored_found}
+use Rattle.schedule_replay.proofs.ActsByOneStep.{once_if}
+use Rattle.schedule_replay.proofs.MovesLemmas.{none_once}
+use Rattle.schedule_replay.proofs.StoredIsDelivered.{delivers, delivers_none, stored_found}
 use Rattle.schedule_replay.proofs.deliveries.deliver_one.Goals as goal
 
 pub returns-in_default : goal.returns-in_default

@@ -5,10 +5,10 @@ use Rattle.schedule_replay.specs.Texts.{lines_text}
 use Rattle.schedule_replay.specs.Worlds.{WorldRecord, event_steps}
 use Rattle.schedule_replay.specs.Steps.{limit_of}
 use Rattle.schedule_replay.specs.Moves.{GoesThrough, IsActedOnce, TookSteps, refusal_lines}
-use Rattle.schedule_replay.proofs.Answering.{acts_if}
-use Rattle.schedule_replay.proofs.Walking.{goes_none, goes_on, took_none, took_more, can_go_on, valid_of}
-use Rattle.schedule_replay.proofs.Delivering.{all_then, delivery_is}
-use Rattle.schedule_replay.proofs.Ranging.{refuses_first, refuses_last, range_done}
+use Rattle.schedule_replay.proofs.ActsByOneStep.{acts_if}
+use Rattle.schedule_replay.proofs.StepAfterStep.{goes_none, goes_on, took_none, took_more, can_go_on, valid_of}
+use Rattle.schedule_replay.proofs.StoredIsDelivered.{all_then, delivery_is}
+use Rattle.schedule_replay.proofs.RangeIsDeliveries.{refuses_first, refuses_last, range_done}
 use Rattle.schedule_replay.proofs.deliveries.deliver_range.Goals as goal
 
 pub returns-then-first-sent : goal.returns-then-first-sent

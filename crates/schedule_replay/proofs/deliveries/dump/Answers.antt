@@ -4,8 +4,8 @@ use Rattle.schedule_text.specs.declared.refusal.Refusal.TheVariants as why
 use Rattle.schedule_replay.specs.Texts.{lines_text}
 use Rattle.schedule_replay.specs.Worlds.{WorldRecord}
 use Rattle.schedule_replay.specs.Moves.{refusal_lines}
-use Rattle.schedule_replay.proofs.Answering.{acts_if}
-use Rattle.schedule_replay.proofs.Ranging.{WritesFrame, refuses_dump, dumps}
+use Rattle.schedule_replay.proofs.ActsByOneStep.{acts_if}
+use Rattle.schedule_replay.proofs.RangeIsDeliveries.{WritesFrame, refuses_dump, dumps}
 use Rattle.schedule_replay.proofs.deliveries.dump.Goals as goal
 
 pub returns-in_default : goal.returns-in_default

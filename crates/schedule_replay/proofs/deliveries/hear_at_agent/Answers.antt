@@ -1,22 +1,16 @@
 use Rattle.std.proofs.lemmas.Result.{IfOk-weaker}
-use Rattle.std.proofs.Common.{subst}
+use Rattle.std.proofs.Common.{refl, subst}
 use Rattle.running_agents.specs.Running.{HearInWorld}
 use Rattle.schedule_replay.specs.Worlds.{WorldRecord}
-use Rattle.schedule_replay.specs.Moves.{HearsIn, MovesOnce}
-use Rattle.schedule_replay.proofs.Hearing.{agents_hear}
-use Rattle.schedule_replay.proofs.Moving.{agents_once}
+use Rattle.schedule_replay.specs.Moves.{IsHeardBy}
+use Rattle.schedule_replay.proofs.HeardInWorld.{agents_hear}
+use Rattle.schedule_replay.proofs.MovesLemmas.{agents_once}
 use Rattle.schedule_replay.proofs.deliveries.hear_at_agent.Goals as goal
 
-pub returns-clause-hears : goal.returns-clause-hears
-returns-clause-hears c =
+pub returns : goal.returns
+returns c =
     let old : WorldRecord = record { cluster = c.running.inside.cluster; checkpoint = c.running.inside.checkpoint; masters = c.running.inside.masters; agents = c.running.inside.agents; apps = c.running.inside.apps; pool = c.running.inside.pool; events = c.running.inside.events } in
     let agents = c.hear.new.self in
-    IfOk-weaker c.hear.result (HearInWorld c.args.packet.now old.agents agents) (HearsIn c.args.packet.now c.args.running.now (record old { agents = agents })) (λ heard h.
-    subst (λ r. HearsIn c.args.packet.now r (record old { agents = agents }) heard) c.running.view_is (agents_hear c.agents_act.ensures c.every_change_is_taken.ensures.good c.args.packet.now old agents heard h)) c.hear.ensures.world
-
-pub returns-clause-once : goal.returns-clause-once
-returns-clause-once c =
-    let old : WorldRecord = record { cluster = c.running.inside.cluster; checkpoint = c.running.inside.checkpoint; masters = c.running.inside.masters; agents = c.running.inside.agents; apps = c.running.inside.apps; pool = c.running.inside.pool; events = c.running.inside.events } in
-    let agents = c.hear.new.self in
-    IfOk-weaker c.hear.result (HearInWorld c.args.packet.now old.agents agents) (λ _. MovesOnce c.args.running.now (record old { agents = agents })) (λ heard h.
-    subst (λ r. MovesOnce r (record old { agents = agents })) c.running.view_is (agents_once old agents old.pool c.hear.ensures.within)) c.hear.ensures.world
+    IfOk-weaker c.hear.result (HearInWorld c.args.packet.now old.agents agents) (IsHeardBy c.args.packet.now c.args.running.now (record old { agents = agents })) (λ heard h.
+    subst (λ r. IsHeardBy c.args.packet.now r (record old { agents = agents }) heard) c.running.view_is
+    (record { hears = agents_hear c.agents_act.ensures c.every_change_is_taken.ensures.good c.args.packet.now old agents heard h; once = agents_once old agents old.pool c.hear.ensures.within; pool = refl })) c.hear.ensures.world

@@ -1,24 +1,21 @@
-use Rattle.std.proofs.Common.{ℕ, ◌+◌, subst}
+use Rattle.std.proofs.Common.{ℕ, ◌+◌, subst, refl}
 use Rattle.running_masters.specs.Running.{AreWithin}
 use Rattle.running_masters.specs.Calls.{HearsInWorld}
 use Rattle.schedule_replay.specs.Worlds.{WorldRecord}
-use Rattle.schedule_replay.specs.Moves.{HearsIn, MovesOnce}
-use Rattle.schedule_replay.proofs.Hearing.{masters_hear}
-use Rattle.schedule_replay.proofs.Moving.{masters_once}
+use Rattle.schedule_replay.specs.Moves.{IsHeardBy}
+use Rattle.schedule_replay.proofs.HeardInWorld.{masters_hear}
+use Rattle.schedule_replay.proofs.MovesLemmas.{masters_once}
 use Rattle.schedule_replay.proofs.deliveries.hear_at_master.Goals as goal
 
-pub returns-clause-hears : goal.returns-clause-hears
-returns-clause-hears c =
+pub returns : goal.returns
+returns c =
     let old : WorldRecord = record { cluster = c.running.inside.cluster; checkpoint = c.running.inside.checkpoint; masters = c.running.inside.masters; agents = c.running.inside.agents; apps = c.running.inside.apps; pool = c.running.inside.pool; events = c.running.inside.events } in
     let masters = c.in_ok-masters.masters in
     let heard = c.in_ok-masters.heard in
     let h = subst (λ m. HearsInWorld c.args.packet m masters heard) c.replace-masters.ensures.value c.in_ok-masters.ensures.world in
-    subst (λ r. HearsIn c.args.packet r (record old { masters = masters }) heard) c.running.view_is
-    (masters_hear c.masters_act.ensures c.every_change_is_taken.ensures.good c.args.packet old masters heard c.requires.master c.requires.formed h)
-
-pub returns-clause-once : goal.returns-clause-once
-returns-clause-once c =
-    let old : WorldRecord = record { cluster = c.running.inside.cluster; checkpoint = c.running.inside.checkpoint; masters = c.running.inside.masters; agents = c.running.inside.agents; apps = c.running.inside.apps; pool = c.running.inside.pool; events = c.running.inside.events } in
-    let masters = c.in_ok-masters.masters in
-    let h = subst (λ m. (n : ℕ) → AreWithin n m → AreWithin (n + 1) masters) c.replace-masters.ensures.value c.in_ok-masters.ensures.within in
-    subst (λ r. MovesOnce r (record old { masters = masters })) c.running.view_is (masters_once old old.checkpoint masters old.pool h)
+    let within = subst (λ m. (n : ℕ) → AreWithin n m → AreWithin (n + 1) masters) c.replace-masters.ensures.value c.in_ok-masters.ensures.within in
+    subst (λ r. IsHeardBy c.args.packet r (record old { masters = masters }) heard) c.running.view_is (record {
+      hears = masters_hear c.masters_act.ensures c.every_change_is_taken.ensures.good c.args.packet old masters heard c.requires.master c.requires.formed h;
+      once = masters_once old old.checkpoint masters old.pool within;
+      pool = refl;
+    })

@@ -3,7 +3,7 @@ use Rattle.std.specs.Prelude.{IfOk}
 use Rattle.schedule_replay.specs.Events.{event_as}
 use Rattle.schedule_replay.specs.Commands.{governing}
 use Rattle.schedule_replay.specs.Halts.{Halts}
-use Rattle.schedule_replay.proofs.Halting.{job_below, within_of}
+use Rattle.schedule_replay.proofs.HaltsLemmas.{job_below, within_of}
 use Rattle.schedule_replay.proofs.halts.halt.Goals as goal
 
 pub returns-in-Master-clause-world : goal.returns-in-Master-clause-world

@@ -4,7 +4,7 @@ use Rattle.written_roles.specs.HardState.{Raise}
 use Rattle.written_world.specs.Events.{StartMaster}
 use Rattle.schedule_replay.specs.Commands.{governing}
 use Rattle.schedule_replay.specs.Halts.{Halts, HaltsWithin}
-use Rattle.schedule_replay.proofs.Halting.{halt_refused, start_writes}
+use Rattle.schedule_replay.proofs.HaltsLemmas.{halt_refused, start_writes}
 use Rattle.schedule_replay.proofs.halts.halt_start.Goals as goal
 
 pub returns-in-Ok-clause-world : goal.returns-in-Ok-clause-world

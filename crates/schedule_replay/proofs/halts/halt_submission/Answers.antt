@@ -6,7 +6,7 @@ use Rattle.written_world.specs.Events.{Submit}
 use Rattle.schedule_text.specs.Asked.{job_named}
 use Rattle.schedule_replay.specs.Commands.{SubmitsIn, governing}
 use Rattle.schedule_replay.specs.Halts.{Halts, HaltsWithin}
-use Rattle.schedule_replay.proofs.Halting.{command_writes, halt_refused}
+use Rattle.schedule_replay.proofs.HaltsLemmas.{command_writes, halt_refused}
 use Rattle.schedule_replay.proofs.halts.halt_submission.Goals as goal
 
 pub returns-in-Ok-Ok-clause-world : goal.returns-in-Ok-Ok-clause-world

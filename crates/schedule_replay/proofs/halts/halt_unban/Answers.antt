@@ -5,7 +5,7 @@ use Rattle.written_roles.specs.MasterSteps.{UnbansMachine}
 use Rattle.written_world.specs.Events.{Unban}
 use Rattle.schedule_replay.specs.Commands.{governing}
 use Rattle.schedule_replay.specs.Halts.{Halts, HaltsWithin}
-use Rattle.schedule_replay.proofs.Halting.{command_writes, halt_refused}
+use Rattle.schedule_replay.proofs.HaltsLemmas.{command_writes, halt_refused}
 use Rattle.schedule_replay.proofs.halts.halt_unban.Goals as goal
 
 pub returns-in-Ok-clause-world : goal.returns-in-Ok-clause-world

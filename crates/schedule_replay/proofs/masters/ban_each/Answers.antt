@@ -6,8 +6,8 @@ use Rattle.bad_nodes.specs.Ranks.{number_of}
 use Rattle.schedule_replay.specs.Worlds.{event_steps}
 use Rattle.schedule_replay.specs.Steps.{limit_of}
 use Rattle.schedule_replay.specs.Moves.{GoesThrough, ban_one}
-use Rattle.schedule_replay.proofs.Walking.{goes_none, goes_on, took_none, took_more, can_go_on, valid_of, all_done}
-use Rattle.schedule_replay.proofs.Judging.{ban_is, bans_next, is_there}
+use Rattle.schedule_replay.proofs.StepAfterStep.{goes_none, goes_on, took_none, took_more, can_go_on, valid_of, all_done}
+use Rattle.schedule_replay.proofs.JudgementIsBans.{ban_is, bans_next, is_there}
 use Rattle.schedule_replay.proofs.masters.ban_each.Goals as goal
 
 pub loop-place-init : goal.loop-place-init

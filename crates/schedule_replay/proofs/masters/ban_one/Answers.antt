@@ -4,8 +4,8 @@ use Rattle.written_world.specs.World.{World, Step}
 use Rattle.schedule_replay.specs.Texts.{lines_text}
 use Rattle.schedule_replay.specs.Worlds.{WorldRecord}
 use Rattle.schedule_replay.specs.Moves.{ActsOnce, IsActedOnce, ban_one}
-use Rattle.schedule_replay.proofs.Answering.{once_if}
-use Rattle.schedule_replay.proofs.Judging.{bans_one}
+use Rattle.schedule_replay.proofs.ActsByOneStep.{once_if}
+use Rattle.schedule_replay.proofs.JudgementIsBans.{bans_one}
 use Rattle.schedule_replay.proofs.masters.ban_one.Goals as goal
 use Rattle.schedule_replay.proofs.masters.ban_one.Goals.{in-Ok, in-Err}
 

@@ -4,8 +4,8 @@ use Rattle.written_world.specs.World.{World, Step}
 use Rattle.written_world.specs.Events.{commanded}
 use Rattle.schedule_replay.specs.Worlds.{WorldRecord}
 use Rattle.schedule_replay.specs.Moves.{Acts, IsActed}
-use Rattle.schedule_replay.proofs.Governing.{governed}
-use Rattle.schedule_replay.proofs.Doing.{acts_by}
+use Rattle.schedule_replay.proofs.MastersActInWorld.{governed}
+use Rattle.schedule_replay.proofs.PeersActInWorld.{acts_by}
 use Rattle.schedule_replay.proofs.masters.begin.Goals as goal
 use Rattle.schedule_replay.proofs.masters.begin.Goals.{in-Ok, in-Err}
 

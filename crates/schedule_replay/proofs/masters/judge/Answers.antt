@@ -4,9 +4,9 @@ use Rattle.bad_nodes.specs.Ranks.{number_of}
 use Rattle.schedule_replay.specs.Texts.{lines_text}
 use Rattle.schedule_replay.specs.Worlds.{WorldRecord}
 use Rattle.schedule_replay.specs.Moves.{refusal_lines}
-use Rattle.schedule_replay.proofs.Answering.{acts_as, acts_if}
-use Rattle.schedule_replay.proofs.Doing.{refuses}
-use Rattle.schedule_replay.proofs.Judging.{decides_in}
+use Rattle.schedule_replay.proofs.ActsByOneStep.{acts_as, acts_if}
+use Rattle.schedule_replay.proofs.PeersActInWorld.{refuses}
+use Rattle.schedule_replay.proofs.JudgementIsBans.{decides_in}
 use Rattle.schedule_replay.proofs.masters.judge.Goals as goal
 
 pub ban_each-requires-clause-may : goal.ban_each-requires-clause-may

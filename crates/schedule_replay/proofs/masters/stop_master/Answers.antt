@@ -3,8 +3,8 @@ use Rattle.written_world.specs.World.{World, Step}
 use Rattle.written_world.specs.Events.{stop_master}
 use Rattle.schedule_replay.specs.Worlds.{WorldRecord}
 use Rattle.schedule_replay.specs.Moves.{IsActed}
-use Rattle.schedule_replay.proofs.Governing.{governed}
-use Rattle.schedule_replay.proofs.Doing.{acts_by}
+use Rattle.schedule_replay.proofs.MastersActInWorld.{governed}
+use Rattle.schedule_replay.proofs.PeersActInWorld.{acts_by}
 use Rattle.schedule_replay.proofs.masters.stop_master.Goals as goal
 
 pub returns : goal.returns

@@ -4,8 +4,8 @@ use Rattle.written_world.specs.Events.{show_state}
 use Rattle.schedule_replay.specs.Texts.{frame_of}
 use Rattle.schedule_replay.specs.Worlds.{WorldRecord}
 use Rattle.schedule_replay.specs.Moves.{IsActed}
-use Rattle.schedule_replay.proofs.Moving.{once_up_to, none_once}
-use Rattle.schedule_replay.proofs.Sending.{kept_length}
+use Rattle.schedule_replay.proofs.MovesLemmas.{once_up_to, none_once}
+use Rattle.schedule_replay.proofs.SentIsKept.{kept_length}
 use Rattle.schedule_replay.proofs.showing.show.Goals as goal
 
 -- the lines are those of each world that runs, whatever the bytes of frames are

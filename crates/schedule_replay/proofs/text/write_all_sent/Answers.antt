@@ -1,6 +1,6 @@
 use Rattle.std.proofs.Common.{length, refl}
 use Rattle.std.proofs.lemmas.Option.{slice_get_read}
-use Rattle.schedule_replay.proofs.Turning.{sent_next}
+use Rattle.schedule_replay.proofs.TurnSendsOrStops.{sent_next}
 use Rattle.schedule_replay.proofs.text.write_all_sent.Goals as goal
 
 -- one packet more

@@ -5,8 +5,8 @@ use Rattle.running_agents.specs.Running.{TurnsOneIn}
 use Rattle.schedule_text.specs.declared.refusal.Refusal.TheVariants as why
 use Rattle.schedule_replay.specs.Worlds.{WorldRecord}
 use Rattle.schedule_replay.specs.Moves.{Acts, IsActed}
-use Rattle.schedule_replay.proofs.Doing.{acts_by, refuses, agent_runs_not}
-use Rattle.schedule_replay.proofs.Turning.{agent_turns}
+use Rattle.schedule_replay.proofs.PeersActInWorld.{acts_by, refuses, agent_runs_not}
+use Rattle.schedule_replay.proofs.TurnSendsOrStops.{agent_turns}
 use Rattle.schedule_replay.proofs.turns.turn_agent.Goals as goal
 
 -- none runs

@@ -5,8 +5,8 @@ use Rattle.running_apps.specs.Running.{TurnsOneIn}
 use Rattle.schedule_text.specs.declared.refusal.Refusal.TheVariants as why
 use Rattle.schedule_replay.specs.Worlds.{WorldRecord}
 use Rattle.schedule_replay.specs.Moves.{Acts, IsActed}
-use Rattle.schedule_replay.proofs.Doing.{acts_by, refuses, app_runs_not}
-use Rattle.schedule_replay.proofs.Turning.{app_turns}
+use Rattle.schedule_replay.proofs.PeersActInWorld.{acts_by, refuses, app_runs_not}
+use Rattle.schedule_replay.proofs.TurnSendsOrStops.{app_turns}
 use Rattle.schedule_replay.proofs.turns.turn_app.Goals as goal
 
 -- none runs

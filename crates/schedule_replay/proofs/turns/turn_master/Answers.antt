@@ -4,8 +4,8 @@ use Rattle.running_masters.specs.Running.{MastersRecord, AreWithin}
 use Rattle.running_masters.specs.Calls.{TurnsIn, TurnsInWorld}
 use Rattle.schedule_replay.specs.Worlds.{WorldRecord}
 use Rattle.schedule_replay.specs.Moves.{Acts, IsActed}
-use Rattle.schedule_replay.proofs.Doing.{acts_by}
-use Rattle.schedule_replay.proofs.Turning.{master_turns, no_master_turns}
+use Rattle.schedule_replay.proofs.PeersActInWorld.{acts_by}
+use Rattle.schedule_replay.proofs.TurnSendsOrStops.{master_turns, no_master_turns}
 use Rattle.schedule_replay.proofs.turns.turn_master.Goals as goal
 
 -- none runs

@@ -1,5 +1,5 @@
 use Rattle.std.proofs.Common.{refl}
-use Rattle.schedule_replay.proofs.Starting.{is_empty_world, stands_for_empty, starts_reached}
+use Rattle.schedule_replay.proofs.EmptyWorldStands.{is_empty_world, stands_for_empty, starts_reached}
 use Rattle.schedule_replay.proofs.running.Running.start.Goals as goal
 
 pub returns-in_err-agents-clause-world : goal.returns-in_err-agents-clause-world

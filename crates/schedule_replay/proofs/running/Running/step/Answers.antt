@@ -3,7 +3,7 @@ use Rattle.fuxi_terms.specs.Limits.{most_packets, most_packet_bytes}
 use Rattle.schedule_replay.specs.Events.{event_as}
 use Rattle.schedule_replay.specs.Worlds.{WorldRecord, IsReached}
 use Rattle.schedule_replay.specs.Steps.{StopsAt, Takes}
-use Rattle.schedule_replay.proofs.Stepping.{can_move, can_move_long, reached_by, stops, taken_by}
+use Rattle.schedule_replay.proofs.StepsLemmas.{can_move, can_move_long, reached_by, stops, taken_by}
 use Rattle.schedule_replay.proofs.running.Running.step.Goals as goal
 
 pub act-requires-clause-can : goal.act-requires-clause-can

@@ -1,3 +1,0 @@
-pub mod Empty
-pub mod HaltLemmas
-pub mod RoomLemmas

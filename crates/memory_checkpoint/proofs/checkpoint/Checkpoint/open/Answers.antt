@@ -1,7 +1,0 @@
-use Rattle.std.proofs.Common.{◌∙◌, ap}
-use Rattle.fuxi_io.specs.MemoryDisks.{DiskStore}
-use Rattle.memory_checkpoint.proofs.Empty.{opened_where}
-use Rattle.memory_checkpoint.proofs.checkpoint.Checkpoint.open.Goals as goal
-
-pub returns-clause-value : goal.returns-clause-value
-returns-clause-value c = opened_where _ _ c.opened.result (ap (λ (d : DiskStore). d.told.now.bytes) c.of-disk.ensures ∙ c.new.ensures.items) c.opened.ensures.value

@@ -1,0 +1,15 @@
+use Rattle.std.proofs.Common.{◌≡◌, ◌<◌, ℕ, true}
+use Rattle.std.specs.Ordering.{nat_cmp}
+use Rattle.std.specs.FinMap.Entries.{find}
+use Rattle.written_roles.specs.Masters.{Master}
+use Rattle.written_roles.specs.Refusals.{with_found}
+use Rattle.written_world.specs.World.{World}
+use Rattle.written_world.specs.Quiet.{is_app_quiet}
+use Rattle.written_join.specs.Seen.{master_seen}
+use Rattle.fuxi_master.specs.Cores.{StandsFor}
+use Rattle.running_apps.specs.Running.{AreAppsOf}
+use Rattle.running_state.proofs.quiet.are_apps_quiet.Given as goal
+
+abbrev pub invariant-loop-number : goal.invariant-loop-number
+invariant-loop-number l = (w : World) (m : Master) → StandsFor l.master.core (master_seen w m) → AreAppsOf w l.apps → (k : ℕ) → k < l.number
+    → with_found (find nat_cmp k w.apps) true (is_app_quiet w m k) ≡ true

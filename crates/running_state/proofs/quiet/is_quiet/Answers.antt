@@ -1,0 +1,31 @@
+use Rattle.std.proofs.Common.{ℕ, length, refl, sym, ◌∙◌, ap}
+use Rattle.std.specs.Prelude.{◌&&◌}
+use Rattle.std.specs.List.{list_all}
+use Rattle.fuxi_terms.specs.Cluster.{ClusterRecord}
+use Rattle.written_world.specs.World.{App}
+use Rattle.written_world.specs.Quiet.{is_app_quiet}
+use Rattle.running_state.proofs.Peers.{whole}
+use Rattle.running_state.proofs.quiet.is_quiet.Goals as goal
+
+pub are_agents_quiet-requires : goal.are_agents_quiet-requires
+are_agents_quiet-requires c =
+    let of = c.requires.known.of in
+    let r = of.masters.each c.args.epoch c.in-Some.master.now (sym c.in-Some.ensures.master) in
+    c.machines.ensures.number ∙ ap (λ (cluster : ClusterRecord). length cluster.machines) (of.cluster ∙ sym r.stands.stands.cluster)
+
+pub returns-then-not-are_agents_quiet : goal.returns-then-not-are_agents_quiet
+returns-then-not-are_agents_quiet c w of =
+    let r = of.masters.each c.args.epoch c.in-Some.master.now (sym c.in-Some.ensures.master) in
+    let apps = list_all (λ (g : ℕ × App). is_app_quiet w r.master g.0 g.1) w.apps in
+    ap (λ b. b && apps) (sym c.if-not-are_agents_quiet.true)
+    ∙ whole w c.args.epoch r.master c.are_agents_quiet.result apps c.machines.result r.runs
+    (c.machines.ensures.number ∙ ap (λ (cluster : ClusterRecord). length cluster.machines) of.cluster)
+    (c.are_agents_quiet.ensures w r.master r.stands of.agents) refl
+
+pub returns : goal.returns
+returns c w of =
+    let r = of.masters.each c.args.epoch c.in-Some.master.now (sym c.in-Some.ensures.master) in
+    ap (λ b. b && c.are_apps_quiet.result) (sym c.if-not-are_agents_quiet.false)
+    ∙ whole w c.args.epoch r.master c.are_agents_quiet.result c.are_apps_quiet.result c.machines.result r.runs
+    (c.machines.ensures.number ∙ ap (λ (cluster : ClusterRecord). length cluster.machines) of.cluster)
+    (c.are_agents_quiet.ensures w r.master r.stands of.agents) (c.are_apps_quiet.ensures w r.master r.stands of.apps of.order.apps)

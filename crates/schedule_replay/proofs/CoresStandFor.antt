@@ -1,0 +1,38 @@
+-- For whom a core stands, and the tables of agents.
+use Rattle.std.proofs.Common.{◌≡◌, ℕ, cond, nat_eq, Some, sym, ap, subst}
+use Rattle.delta_channel.specs.declared.receiver.Place.{Place}
+use Rattle.fuxi_terms.specs.Cluster.{ClusterRecord}
+use Rattle.written_net.specs.Net.{Net}
+use Rattle.written_net.specs.Ledgers.{Ledger}
+use Rattle.written_net.specs.Channels.{master_id, agent_id, party}
+use Rattle.written_world.specs.World.{World}
+use Rattle.written_world.specs.Parties.{agent_table}
+use Rattle.written_world.specs.Safe.{Safe, RowsFit}
+use Rattle.written_join.specs.Seen.{side_of}
+use Rattle.agent_core.specs.Standing.{AgentCore, Up, IsUp, table_in}
+use Rattle.app_master.specs.Apps.{AppCore}
+use Rattle.running_agents.specs.Running.{agent_in, RunsAs, StandsAt}
+use Rattle.running_apps.specs.Running.{app_in, AppRunsAs, AppStandsAt}
+use Rattle.schedule_replay.specs.Worlds.{WorldRecord, StandsFor}
+use Rattle.schedule_replay.specs.Promises.{TablesFit}
+
+-- who runs
+pub agent_runs : (r : WorldRecord) (w : World) (m : ℕ) (a : AgentCore) → StandsFor r w → agent_in r.agents m ≡ Some a → RunsAs w m a
+agent_runs r w m a s is = subst (StandsAt w m) is (s.agents.each m)
+
+pub app_runs : (r : WorldRecord) (w : World) (n : ℕ) (a : AppCore) → StandsFor r w → app_in r.apps n ≡ Some a → AppRunsAs w n a
+app_runs r w n a s is = subst (AppStandsAt w n) is (s.apps.each n)
+
+-- the table of a core is that of its agent
+pub table_is : (net : Net Ledger) (m boot : ℕ) (d : Up) → IsUp d boot (side_of net (party (agent_id m) boot) master_id) → agent_table net (party (agent_id m) boot) ≡ table_in d
+table_is net m boot d is =
+    let seq = ap (λ (p : Place). p.seq) (sym is.place) in
+    let own = ap (λ (l : Ledger). l.rows) is.shown in
+    let got = ap (λ (l : Ledger). l.rows) is.got in
+    λ i. cond (nat_eq (seq i) 0) (own i) (got i)
+
+pub tables_fit : (r : WorldRecord) (w : World) → StandsFor r w → Safe w → TablesFit r
+tables_fit r w s safe m a is =
+    let g = agent_runs r w m a s is in
+    subst (λ (c : ClusterRecord). RowsFit c m (table_in a.up)) (sym s.cluster)
+    (subst (RowsFit w.cluster m) (table_is w.net m g.agent.boot a.up g.stands.up) (safe.capacity m g.agent g.runs))

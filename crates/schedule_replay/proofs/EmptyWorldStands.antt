@@ -1,0 +1,42 @@
+-- What runs at the start stands for the empty world.
+use Rattle.std.proofs.Common.{◌≡◌, ℕ, ◌*◌, true, List, [], refl, sym, ◌∙◌, ap, subst}
+use Rattle.std.specs.Ordering.{nat_cmp}
+use Rattle.std.specs.FinMap.Entries.{find}
+use Rattle.fuxi_terms.specs.Cluster.{ClusterRecord, is_valid_cluster}
+use Rattle.written_roles.specs.HardState.{empty_hard}
+use Rattle.written_world.specs.World.{empty_world}
+use Rattle.written_world.specs.Good.{Good}
+use Rattle.written_world.specs.Orders.{IsInOrder}
+use Rattle.fuxi_master.specs.Cores.{MasterRecord}
+use Rattle.packet_pool.specs.Pools.{Keeps, no_frames}
+use Rattle.schedule_replay.specs.Held.{IsOpen}
+use Rattle.running_agents.specs.Running.{AreAgentsOf, AreWithin as AgentsWithin}
+use Rattle.running_apps.specs.Running.{AreAppsOf, AreWithin as AppsWithin}
+use Rattle.running_masters.specs.Running.{AreMastersOf}
+use Rattle.schedule_replay.specs.Worlds.{WorldRecord, IsReached, IsWorld, StandsFor, AreWithin, event_steps}
+use Rattle.schedule_replay.proofs.CommandSteps.{not_none}
+
+pub is_empty_world : (c : ClusterRecord) → is_valid_cluster c ≡ true → Good (empty_world c) → IsInOrder (empty_world c) → IsWorld (empty_world c)
+is_empty_world c valid good order = record { valid = valid; good = good; order = order }
+
+pub stands_for_empty : (c : ClusterRecord) (r : WorldRecord) → r.cluster ≡ c → r.checkpoint.hard.value ≡ empty_hard → IsOpen r.checkpoint → AreMastersOf (empty_world c) r.masters → AreAgentsOf (empty_world c) r.agents → AreAppsOf (empty_world c) r.apps
+    → r.pool ≡ no_frames → r.events ≡ 0 → StandsFor r (empty_world c)
+stands_for_empty c r cluster hard rests masters agents apps pool events = record {
+  cluster = cluster;
+  hard = hard;
+  rests = rests;
+  masters = masters;
+  agents = agents;
+  apps = apps;
+  packets = record { packets = []; kept = subst (λ p. Keeps p []) (sym pool) (record { stored = refl; each = tt }); sent = tt; same = refl };
+  events = events;
+}
+
+-- no core took a step
+pub starts_reached : (c : ClusterRecord) (r : WorldRecord) → IsWorld (empty_world c) → StandsFor r (empty_world c) → r.masters.masters ≡ [] → AgentsWithin 0 r.agents → AppsWithin 0 r.apps → r.events ≡ 0 → IsReached r
+starts_reached c r is stands none agents apps events = record {
+  world = empty_world c;
+  is = is;
+  stands = stands;
+  within = subst (λ n. AreWithin (n * event_steps) r) (sym events) (record { masters = λ e m runs. absurd (not_none m (ap (λ (ms : List (ℕ × MasterRecord)). find nat_cmp e ms) (sym none) ∙ runs)); agents = agents; apps = apps });
+}

@@ -1,0 +1,238 @@
+-- From what an agent or an application does or is refused to the step of the world that it is.
+use Rattle.std.proofs.Common.{◌≡◌, ℕ, ◌<◌, ◌≤◌, Bool, true, false, not, nat_lt, List, [], ◌∷◌, ◌++◌, length, Option, Some, None, is_some, Result, Ok, Err, slice_get, refl, sym, ◌∙◌, ap, subst, arith, append-nil}
+use Rattle.std.specs.Prelude.{OnOk, IfErr}
+use Rattle.std.specs.Option.{option_map, unwrap_or}
+use Rattle.std.specs.Ordering.{nat_cmp}
+use Rattle.std.specs.FinMap.Entries.{find}
+use Rattle.std.proofs.lemmas.Bool.Decides.{nat_tests}
+use Rattle.fuxi_terms.specs.Cluster.{ClusterRecord, JobRecord, MachineRecord, machine_of, no_machine, has_machine}
+use Rattle.fuxi_terms.specs.Jobs.{KnownJob, job_of, is_known, has_ended, unit_count}
+use Rattle.fuxi_terms.specs.Padded.{padded}
+use Rattle.cluster_desc.specs.Records.{machine_of as machine_seen}
+use Rattle.cluster_desc.specs.declared.cluster.Machine.{Machine}
+use Rattle.party_ledgers.specs.declared.packets.Packet.{Packet}
+use Rattle.written_net.specs.Net.{Party}
+use Rattle.written_net.specs.Channels.{agent_id, app_id, party}
+use Rattle.written_roles.specs.Refusals.{Refusal as Written, NoMachine, NoJob, Ended, NotRising, NotRunning, with_found}
+use Rattle.written_world.specs.World.{World, Step, Agent, App, refused, prints_nothing, unless_refused}
+use Rattle.written_world.specs.Events.{start_agent, agent_started, start_app, app_started, at_agent, at_app, asks, usable_now, given_back, demanded}
+use Rattle.packet_pool.specs.Pools.{Stored}
+use Rattle.running_agents.specs.Running.{AgentsRecord, AreAgentsOf, OneActsIn as AgentActsIn, StartsOneIn as AgentStartsIn}
+use Rattle.running_apps.specs.Running.{AppsRecord, AreAppsOf, OneActsIn as AppActsIn, StartsOneIn as AppStartsIn}
+use Rattle.core_join.specs.Agents.{agent_at}
+use Rattle.core_join.specs.Apps.{app_at}
+use Rattle.written_roles.specs.Apps.{AppCommand, command_tests, command_key, command_number}
+use Rattle.app_master.specs.declared.fault.AppFault.{AppFault}
+use Rattle.app_master.specs.declared.fault.AppFault.TheVariants as fault
+use Rattle.core_join.specs.Apps.{IsRefusedAs}
+use Rattle.schedule_text.specs.declared.refusal.Refusal.{Refusal}
+use Rattle.schedule_text.specs.Printing.{as_refusal}
+use Rattle.schedule_replay.specs.declared.stop.WorldStop.{WorldStop}
+use Rattle.schedule_replay.specs.Texts.{lines_text}
+use Rattle.schedule_replay.specs.Worlds.{WorldRecord, IsWorld, StandsFor}
+use Rattle.schedule_replay.specs.Steps.{IsDone, limit_of}
+use Rattle.schedule_replay.specs.Moves.{KeepsMore, AgentActs, AppActs, Acts, IsActed, WantsMemory, IsRefusalOf, refusal_lines}
+use Rattle.schedule_replay.proofs.RestStands.{keeps_none}
+use Rattle.schedule_replay.proofs.MovesLemmas.{once_up_to, none_once}
+use Rattle.schedule_replay.proofs.MastersActInWorld.{is_refused, is_quiet}
+
+-- what was written decides, unless memory was refused
+pub acts_by : (f : World → Step) (old new : WorldRecord) (before after text : List ℕ) (result : Result (Unit {0}) WorldStop) → OnOk result (after ≡ text) → IfErr result WantsMemory → (after ≡ text → IsActed f old new before after) → Acts f old new before after result
+acts_by f old new before after text (Ok done) ok err k = k ok
+acts_by f old new before after text (Err stop) ok err k = λ w is s. err (limit_of w (f w).world)
+
+pub no_text : (before : List ℕ) → before ≡ before ++ lines_text []
+no_text before = sym (append-nil before)
+
+-- A step that is refused in each world
+pub refuses : (f : World → Step) (old : WorldRecord) (why : Refusal) (before after : List ℕ) → ((w : World) → IsWorld w → StandsFor old w → f w ≡ refused w (as_refusal why)) → after ≡ before ++ lines_text (refusal_lines (Some why)) → IsActed f old old before after
+refuses f old why before after is text = record {
+  does = λ w ok s. is_refused w (f w) old why before after s (is w ok s) text;
+  moves = once_up_to old old (none_once old old.pool);
+}
+
+-- Tests, one by one
+pub first_fails : (w : World) (b : Bool) (r : Written) (ts : List (Bool × Written)) (f : World → Step) → b ≡ true → unless_refused w ((b, r) ∷ ts) f ≡ refused w r
+first_fails w true r ts f is = refl
+first_fails w false r ts f is = absurd (no is)
+  where
+    no : false ≡ true → ⊥
+    no e = grind (arith, e)
+
+pub first_passes : (w : World) (b : Bool) (r : Written) (ts : List (Bool × Written)) (f : World → Step) → b ≡ false → unless_refused w ((b, r) ∷ ts) f ≡ unless_refused w ts f
+first_passes w false r ts f is = refl
+first_passes w true r ts f is = absurd (no is)
+  where
+    no : true ≡ false → ⊥
+    no e = grind (arith, e)
+
+-- The laws, as they are called for
+abbrev pub AgentsAct : Type 0
+AgentsAct = (w w' : World) (p : Party) (sent : List Packet) (old : WorldRecord) (agents : AgentsRecord) (pool : Stored)
+    → StandsFor old w → AgentActs w w' p sent agents → KeepsMore old.pool pool sent → StandsFor (record old { agents = agents; pool = pool }) w'
+
+abbrev pub AppsAct : Type 0
+AppsAct = (w w' : World) (p : Party) (sent : List Packet) (old : WorldRecord) (apps : AppsRecord) (pool : Stored)
+    → StandsFor old w → AppActs w w' p sent apps → KeepsMore old.pool pool sent → StandsFor (record old { apps = apps; pool = pool }) w'
+
+-- What one agent did, with what it sent
+pub agent_acts : (w w' : World) (m : ℕ) (g : Agent) (agents : AgentsRecord) (sent : List Packet) → AgentActsIn w w' m g agents sent → AgentActs w w' (agent_at m g) sent agents
+agent_acts w w' m g agents sent a = record {
+  role = refl;
+  stand = a.stand;
+  acts = a.acts;
+  cluster = ap (λ (v : World). v.cluster) a.rest;
+  hard = ap (λ (v : World). v.hard) a.rest;
+  masters = ap (λ (v : World). v.masters) a.rest;
+  apps = ap (λ (v : World). v.apps) a.rest;
+  boots = λ k. ap (λ (v : World). v.boots (app_id k)) a.rest;
+  events = ap (λ (v : World). v.events) a.rest;
+}
+
+pub app_acts : (w w' : World) (a : ℕ) (g : App) (apps : AppsRecord) (sent : List Packet) → AppActsIn w w' a g apps sent → AppActs w w' (app_at a g) sent apps
+app_acts w w' a g apps sent h = record {
+  role = refl;
+  stand = h.stand;
+  acts = h.acts;
+  cluster = ap (λ (v : World). v.cluster) h.rest;
+  hard = ap (λ (v : World). v.hard) h.rest;
+  masters = ap (λ (v : World). v.masters) h.rest;
+  agents = ap (λ (v : World). v.agents) h.rest;
+  boots = λ k. ap (λ (v : World). v.boots (agent_id k)) h.rest;
+  events = ap (λ (v : World). v.events) h.rest;
+}
+
+pub agent_done : AgentsAct → (w : World) (s : Step) (old : WorldRecord) (m : ℕ) (g : Agent) (agents : AgentsRecord) (before : List ℕ) → StandsFor old w → AgentActsIn w s.world m g agents [] → s.lines ≡ [] → IsDone s (record old { agents = agents }) before before
+agent_done act w s old m g agents before stands a none =
+    is_quiet s (record old { agents = agents }) before before (act w s.world (agent_at m g) [] old agents old.pool stands (agent_acts w s.world m g agents [] a) (keeps_none old.pool)) none (no_text before)
+
+pub app_done : AppsAct → (w : World) (s : Step) (old : WorldRecord) (a : ℕ) (g : App) (apps : AppsRecord) (before : List ℕ) → StandsFor old w → AppActsIn w s.world a g apps [] → s.lines ≡ [] → IsDone s (record old { apps = apps }) before before
+app_done act w s old a g apps before stands h none =
+    is_quiet s (record old { apps = apps }) before before (act w s.world (app_at a g) [] old apps old.pool stands (app_acts w s.world a g apps [] h) (keeps_none old.pool)) none (no_text before)
+
+-- the step of an agent or an application that runs, and of one that does not
+pub agent_runs : (w : World) (m : ℕ) (g : Agent) (f : Agent → Step) → find nat_cmp m w.agents ≡ Some g → at_agent w m f ≡ f g
+agent_runs w m g f runs = ap (λ o. with_found o (refused w NotRunning) f) runs
+
+pub agent_runs_not : (w : World) (m : ℕ) (f : Agent → Step) → find nat_cmp m w.agents ≡ None → at_agent w m f ≡ refused w NotRunning
+agent_runs_not w m f runs = ap (λ o. with_found o (refused w NotRunning) f) runs
+
+pub app_runs : (w : World) (a : ℕ) (g : App) (f : App → Step) → find nat_cmp a w.apps ≡ Some g → at_app w a f ≡ f g
+app_runs w a g f runs = ap (λ o. with_found o (refused w NotRunning) f) runs
+
+pub app_runs_not : (w : World) (a : ℕ) (f : App → Step) → find nat_cmp a w.apps ≡ None → at_app w a f ≡ refused w NotRunning
+app_runs_not w a f runs = ap (λ o. with_found o (refused w NotRunning) f) runs
+
+-- the agents, or the applications, are others that stand in the same world
+pub with_agents : (w : World) (old : WorldRecord) (agents : AgentsRecord) → StandsFor old w → AreAgentsOf w agents → StandsFor (record old { agents = agents }) w
+with_agents w old agents s h = record { cluster = s.cluster; hard = s.hard; rests = s.rests; masters = s.masters; agents = h; apps = s.apps; packets = s.packets; events = s.events }
+
+pub with_apps : (w : World) (old : WorldRecord) (apps : AppsRecord) → StandsFor old w → AreAppsOf w apps → StandsFor (record old { apps = apps }) w
+with_apps w old apps s h = record { cluster = s.cluster; hard = s.hard; rests = s.rests; masters = s.masters; agents = s.agents; apps = h; packets = s.packets; events = s.events }
+
+-- The refusal of the world, where there is one
+abbrev named : Option Refusal → Written
+named None = NotRunning
+named (Some r) = as_refusal r
+
+-- The steps of starts, by the tests that pass
+pub agent_beyond : (w : World) (m b : ℕ) → has_machine w.cluster m ≡ false → start_agent w m b ≡ refused w NoMachine
+agent_beyond w m b is = first_fails w (not (has_machine w.cluster m)) NoMachine ((not (nat_lt (w.boots (agent_id m)) b), NotRising (w.boots (agent_id m))) ∷ []) (λ v. prints_nothing (agent_started v m b)) (ap not is)
+
+agent_there : (w : World) (m b : ℕ) → has_machine w.cluster m ≡ true → start_agent w m b ≡ unless_refused w ((not (nat_lt (w.boots (agent_id m)) b), NotRising (w.boots (agent_id m))) ∷ []) (λ v. prints_nothing (agent_started v m b))
+agent_there w m b is = first_passes w (not (has_machine w.cluster m)) NoMachine ((not (nat_lt (w.boots (agent_id m)) b), NotRising (w.boots (agent_id m))) ∷ []) (λ v. prints_nothing (agent_started v m b)) (ap not is)
+
+pub agent_too_low : (w : World) (m b : ℕ) → has_machine w.cluster m ≡ true → b ≤ w.boots (agent_id m) → start_agent w m b ≡ refused w (NotRising (w.boots (agent_id m)))
+agent_too_low w m b is low =
+    let t : nat_lt (w.boots (agent_id m)) b ≡ false = grind (arith, nat_tests, low) in
+    agent_there w m b is ∙ first_fails w (not (nat_lt (w.boots (agent_id m)) b)) (NotRising (w.boots (agent_id m))) [] (λ v. prints_nothing (agent_started v m b)) (ap not t)
+
+pub agent_step : (w : World) (m b : ℕ) → has_machine w.cluster m ≡ true → w.boots (agent_id m) < b → start_agent w m b ≡ prints_nothing (agent_started w m b)
+agent_step w m b is later =
+    let t : nat_lt (w.boots (agent_id m)) b ≡ true = grind (arith, nat_tests, later) in
+    agent_there w m b is ∙ first_passes w (not (nat_lt (w.boots (agent_id m)) b)) (NotRising (w.boots (agent_id m))) [] (λ v. prints_nothing (agent_started v m b)) (ap not t)
+
+abbrev app_tests : World → ℕ → ℕ → List (Bool × Written)
+app_tests w a b = (has_ended w.hard.jobs a, Ended) ∷ (not (nat_lt (w.boots (app_id a)) b), NotRising (w.boots (app_id a))) ∷ []
+
+abbrev last_test : World → ℕ → ℕ → List (Bool × Written)
+last_test w a b = (not (nat_lt (w.boots (app_id a)) b), NotRising (w.boots (app_id a))) ∷ []
+
+pub app_unknown : (w : World) (a b : ℕ) → is_known w.hard.jobs a ≡ false → start_app w a b ≡ refused w NoJob
+app_unknown w a b is = first_fails w (not (is_known w.hard.jobs a)) NoJob (app_tests w a b) (λ v. prints_nothing (app_started v a b)) (ap not is)
+
+app_known : (w : World) (a b : ℕ) → is_known w.hard.jobs a ≡ true → start_app w a b ≡ unless_refused w (app_tests w a b) (λ v. prints_nothing (app_started v a b))
+app_known w a b is = first_passes w (not (is_known w.hard.jobs a)) NoJob (app_tests w a b) (λ v. prints_nothing (app_started v a b)) (ap not is)
+
+pub app_over : (w : World) (a b : ℕ) → is_known w.hard.jobs a ≡ true → has_ended w.hard.jobs a ≡ true → start_app w a b ≡ refused w Ended
+app_over w a b is over = app_known w a b is ∙ first_fails w (has_ended w.hard.jobs a) Ended (last_test w a b) (λ v. prints_nothing (app_started v a b)) over
+
+app_live : (w : World) (a b : ℕ) → is_known w.hard.jobs a ≡ true → has_ended w.hard.jobs a ≡ false → start_app w a b ≡ unless_refused w (last_test w a b) (λ v. prints_nothing (app_started v a b))
+app_live w a b is live = app_known w a b is ∙ first_passes w (has_ended w.hard.jobs a) Ended (last_test w a b) (λ v. prints_nothing (app_started v a b)) live
+
+pub app_too_low : (w : World) (a b : ℕ) → is_known w.hard.jobs a ≡ true → has_ended w.hard.jobs a ≡ false → b ≤ w.boots (app_id a) → start_app w a b ≡ refused w (NotRising (w.boots (app_id a)))
+app_too_low w a b is live low =
+    let t : nat_lt (w.boots (app_id a)) b ≡ false = grind (arith, nat_tests, low) in
+    app_live w a b is live ∙ first_fails w (not (nat_lt (w.boots (app_id a)) b)) (NotRising (w.boots (app_id a))) [] (λ v. prints_nothing (app_started v a b)) (ap not t)
+
+pub app_step : (w : World) (a b : ℕ) → is_known w.hard.jobs a ≡ true → has_ended w.hard.jobs a ≡ false → w.boots (app_id a) < b → start_app w a b ≡ prints_nothing (app_started w a b)
+app_step w a b is live later =
+    let t : nat_lt (w.boots (app_id a)) b ≡ true = grind (arith, nat_tests, later) in
+    app_live w a b is live ∙ first_passes w (not (nat_lt (w.boots (app_id a)) b)) (NotRising (w.boots (app_id a))) [] (λ v. prints_nothing (app_started v a b)) (ap not t)
+
+-- Starts of agents
+pub has_as : (c : ClusterRecord) (m : ℕ) (x : Machine) → option_map machine_seen (slice_get c.machines m) ≡ Some x → x.has.q ≡ padded (machine_of c m).has
+has_as c m x is = by (slice_get c.machines m) is
+  where
+    by : (o : Option MachineRecord) → option_map machine_seen o ≡ Some x → x.has.q ≡ padded (unwrap_or o no_machine).has
+    by None e = let no : ⊥ = cc in absurd no
+    by (Some r) e = let same : machine_seen r ≡ x = cc in sym (ap (λ (y : Machine). y.has.q) same)
+
+pub agent_starts : AgentsAct → (w : World) (old : WorldRecord) (m b : ℕ) (agents : AgentsRecord) (before : List ℕ) → StandsFor old w → has_machine w.cluster m ≡ true → w.boots (agent_id m) < b → AgentStartsIn w (agent_started w m b) m b agents
+    → IsDone (start_agent w m b) (record old { agents = agents }) before before
+agent_starts act w old m b agents before s there later h =
+    subst (λ t. IsDone t (record old { agents = agents }) before before) (sym (agent_step w m b there later))
+    (is_quiet (prints_nothing (agent_started w m b)) (record old { agents = agents }) before before
+    (act w (agent_started w m b) (party (agent_id m) b) [] old agents old.pool s
+    (record { role = refl; stand = h.stand; acts = h.acts; cluster = refl; hard = refl; masters = refl; apps = refl; boots = λ k. refl; events = refl }) (keeps_none old.pool)) refl (no_text before))
+
+-- and of applications
+pub app_starts : AppsAct → (w : World) (old : WorldRecord) (a b : ℕ) (apps : AppsRecord) (before : List ℕ) → StandsFor old w → is_known w.hard.jobs a ≡ true → has_ended w.hard.jobs a ≡ false → w.boots (app_id a) < b → AppStartsIn w (app_started w a b) a b apps
+    → IsDone (start_app w a b) (record old { apps = apps }) before before
+app_starts act w old a b apps before s known live later h =
+    subst (λ t. IsDone t (record old { apps = apps }) before before) (sym (app_step w a b known live later))
+    (is_quiet (prints_nothing (app_started w a b)) (record old { apps = apps }) before before
+    (act w (app_started w a b) (party (app_id a) b) [] old apps old.pool s
+    (record { role = refl; stand = h.stand; acts = h.acts; cluster = refl; hard = refl; masters = refl; agents = refl; boots = λ k. refl; events = refl }) (keeps_none old.pool)) refl (no_text before))
+
+-- an application that is asked
+pub asked_done : AppsAct → (w : World) (old : WorldRecord) (a : ℕ) (g : App) (x : AppCommand) (apps : AppsRecord) (before : List ℕ) → StandsFor old w → AppActsIn w (asks w a x).world a g apps [] → (asks w a x).lines ≡ [] → IsDone (asks w a x) (record old { apps = apps }) before before
+asked_done act w old a g x apps before s h none = app_done act w (asks w a x) old a g apps before s h none
+
+pub asked_not : (w : World) (a : ℕ) (x : AppCommand) → find nat_cmp a w.apps ≡ None → asks w a x ≡ refused w NotRunning
+asked_not w a x none = ap (λ o. with_found o (refused w NotRunning) (λ g. unless_refused w (command_tests w.cluster g.units (usable_now w a g) (given_back w a g) x) (λ w. demanded w a g (command_key x) (command_number (given_back w a g) x)))) none
+
+-- the refusal that a fault names is that of the world
+pub fault_is : (w : World) (s : Step) (fault : AppFault) (r : Refusal) → IsRefusalOf fault (Some r) → IsRefusedAs w s fault → s ≡ refused w (as_refusal r)
+fault_is w s fault.NoUnit r is h = h ∙ ap (λ (o : Option Refusal). refused w (named o)) (sym is)
+fault_is w s fault.NoMachine r is h = h ∙ ap (λ (o : Option Refusal). refused w (named o)) (sym is)
+fault_is w s fault.NoRack r is h = h ∙ ap (λ (o : Option Refusal). refused w (named o)) (sym is)
+fault_is w s fault.WantRange r is h = h ∙ ap (λ (o : Option Refusal). refused w (named o)) (sym is)
+fault_is w s (fault.NotUsable usable) r is h = h ∙ ap (λ (o : Option Refusal). refused w (named o)) (sym is)
+fault_is w s fault.BackRange r is h = h ∙ ap (λ (o : Option Refusal). refused w (named o)) (sym is)
+fault_is w s fault.OutOfMemory r is h = let no : ⊥ = cc in absurd no
+
+-- what is found of a job is one that the world knows
+pub job_known : (jobs : List KnownJob) (a : ℕ) (d : JobRecord) → option_map (λ (k : KnownJob). k.job) (job_of jobs a) ≡ Some d → is_known jobs a ≡ true
+job_known jobs a d is = by (job_of jobs a) is
+  where
+    by : (o : Option KnownJob) → option_map (λ (k : KnownJob). k.job) o ≡ Some d → is_some o ≡ true
+    by None e = let no : ⊥ = cc in absurd no
+    by (Some k) e = refl
+
+pub units_as : (jobs : List KnownJob) (a : ℕ) (d : JobRecord) → option_map (λ (k : KnownJob). k.job) (job_of jobs a) ≡ Some d → length d.units ≡ unit_count jobs a
+units_as jobs a d is = by (job_of jobs a) is
+  where
+    by : (o : Option KnownJob) → option_map (λ (k : KnownJob). k.job) o ≡ Some d → length d.units ≡ length (unwrap_or (option_map (λ (k : KnownJob). k.job.units) o) [])
+    by None e = let no : ⊥ = cc in absurd no
+    by (Some k) e = let same : k.job ≡ d = cc in ap (λ (j : JobRecord). length j.units) (sym same)
