@@ -19,7 +19,6 @@ use Rattle.fuxi_terms.proofs.CountsLemmas.{tied, count_le}
 use Rattle.fuxi_terms.proofs.KeyOrders.{key_total, same_key, spot_total, same_spot}
 use Rattle.written_roles.specs.MasterSteps.{count_entries}
 use Rattle.broadcast.specs.NumbersSet.{numbers_set, AreNumbers}
-use Rattle.broadcast.specs.OneJob.{AreOf}
 use Rattle.broadcast.specs.Projections.{grant_entries, HasNumbers, after_setting, GrantsFollow}
 use Rattle.broadcast.proofs.ProjectionsLemmas.{numbers_are}
 
@@ -40,6 +39,9 @@ or_none None = refl
 or_none (Some x) = refl
 
 -- keys of another kind are not there
+abbrev AreOf : ℕ → List (Key × ℕ) → Type 0
+AreOf w es = AllByRecursion (λ e. nat_eq e.0.what w ≡ true) es
+
 other_kind : (w : ℕ) (es : List (Key × ℕ)) (q : Key) → AreOf w es → nat_eq q.what w ≡ false → find key_cmp q es ≡ None
 other_kind w [] q h differs = refl
 other_kind w (e ∷ es) q h differs = ap (λ b. cond b (Some e.1) (find key_cmp q es)) (by (eq_by_cmp key_cmp q e.0) refl) ∙ other_kind w es q h.1 differs

@@ -5,9 +5,9 @@ pub mod GrantsSetLemmas
 pub mod ShownLemmas
 pub mod ProjectionsLemmas
 pub mod GrantEntriesLemmas
+pub mod ByMachine
 pub mod InPlaces
 pub mod RisingKeys
-pub mod MarksLemmas
 pub mod ShownRows
 pub mod TouchedRows
 pub mod UnitKeys

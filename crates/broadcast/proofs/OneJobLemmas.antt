@@ -32,13 +32,16 @@ use Rattle.core_side.specs.Sides.{IsSide, IsShown}
 use Rattle.broadcast.specs.AllShown.{App, is_job, credited_in, credited_after, grants_after, ShowsGrants}
 use Rattle.broadcast.specs.OneJob.{AreOf, AreNumbersOf, IsNews, machines_of, reported_numbers, credited_to, numbers_of, JobIsBefore}
 use Rattle.broadcast.specs.declared.grants.News.{News}
-use Rattle.broadcast.proofs.GrantEntriesLemmas.{have_numbers, grants_follow}
-use Rattle.broadcast.proofs.GrantsSetLemmas.{stays_counts, kept_as}
-use Rattle.broadcast.proofs.NumbersSetLemmas.{set_counts}
-use Rattle.broadcast.proofs.ProjectionsLemmas.{set_count_is}
-use Rattle.broadcast.proofs.ShownLemmas.{shown_kept}
 use Rattle.broadcast.proofs.InOrder.{three_kinds, machines_in_order, counts_in_order, credits_in_order, numbers_in_order}
 use Rattle.broadcast.proofs.Touched.{table_small}
+
+-- what the laws say of entries of grants and of numbers that are set
+pub record Laws : Type 0 where
+  pub found : (a : ℕ) (reported : List ℕ) (table : List (Spot × ℕ)) (credited : List (Key × ℕ)) → AreOf credited_what credited → HasNumbers a reported table credited
+  pub set : (es ns : List (Key × ℕ)) → T (is_sorted key_cmp ns) → (q : Key) → count key_cmp (numbers_set key_cmp es ns) q ≡ after_setting es ns q
+  pub counts : (es ns : List (Key × ℕ)) → AreCounts key_cmp greatest_grant es → AreNumbers key_cmp greatest_grant ns → AreCounts key_cmp greatest_grant (numbers_set key_cmp es ns)
+  pub follow : (a : ℕ) (es ns : List (Key × ℕ)) (reported : List ℕ) (table : List (Spot × ℕ)) (credited : List (Key × ℕ)) → AreCounts key_cmp greatest_grant es → AreCounts key_cmp greatest_grant (grant_entries a reported table credited) → AreNumbers key_cmp greatest_grant ns
+      → GrantsFollow a es ns reported table credited → numbers_set key_cmp es ns ≡ grant_entries a reported table credited
 
 -- grants are shown
 abbrev pub ShowsNumbers : Bool → TallyRecord → App → App → Type 0
@@ -49,9 +52,28 @@ IsShownAlready d = IsShown empty_tally (patched_tally Below TooGreat greatest_gr
 
 -- where no number is set, under the boot that they have, they are as they are
 pub shown_quiet : (forced : Bool) (d : App) (boot : ℕ) (ns : List (Key × ℕ)) → forced ≡ false → boot ≡ d.outgoing.present.head → ns ≡ [] → IsShownAlready d → ShowsNumbers forced (grants_set d.outgoing.present boot ns) d d
-shown_quiet forced d boot ns not_forced head none shown =
-    let same = kept_as d.outgoing.present boot head ∙ ap (grants_set d.outgoing.present boot) (sym none) in
-    shown_kept empty_tally (patched_tally Below TooGreat greatest_grant credited_what) (IsTally greatest_grant) tally_of tally_of forced (grants_set d.outgoing.present boot ns) d not_forced same shown
+shown_quiet forced d boot ns not_forced head none shown = record {
+  present = same;
+  side = λ inc e s. subst (λ b. IsAppSide inc (appended b (tally_of ledger) e)) (sym not_forced)
+      (subst (λ g. IsAppSide inc (appended false (tally_of g) e)) same (subst (IsAppSide inc) (sym (shown inc e s)) s));
+  last = omega arith;
+  own = refl;
+  rest = refl;
+}
+  where
+    t : TallyRecord
+    t = d.outgoing.present
+
+    ledger : TallyRecord
+    ledger = grants_set t boot ns
+
+    IsAppSide : ℕ → Side → Type 0
+    IsAppSide inc e = IsSide empty_tally (patched_tally Below TooGreat greatest_grant credited_what) (IsTally greatest_grant) tally_of tally_of d inc e
+
+    same : t ≡ ledger
+    same =
+        let is : nat_eq boot t.head ≡ true = ap (λ n. nat_eq n t.head) head ∙ nat_itself t.head in
+        (λ i. record { head = sym head i; entries = sym (ap (λ b. cond b t.entries (where_key key_cmp (λ k. not (nat_eq k.what credited_what)) t.entries)) is) i }) ∙ ap (grants_set t boot) (sym none)
 
 -- Kinds of numbers
 kind_put : (w : ℕ) (k : Key) (n : ℕ) (es : List (Key × ℕ)) → nat_eq k.what w ≡ true → AreOf w es → AreOf w (put key_cmp k n es)
@@ -98,6 +120,13 @@ module _ (present : TallyRecord) (boot : ℕ) where
       by true = count_where key_cmp same_key (λ k. nat_eq k.what credited_what) present.entries (credited_key u m)
       by false = sym (count_where key_cmp same_key (λ k. not (nat_eq k.what credited_what)) present.entries (credited_key u m))
 
+  stays_counts : AreCounts key_cmp greatest_grant present.entries → AreCounts key_cmp greatest_grant (staying credited_what present boot)
+  stays_counts h = by (nat_eq boot present.head)
+    where
+      by : (b : Bool) → AreCounts key_cmp greatest_grant (cond b present.entries (where_key key_cmp (λ k. not (nat_eq k.what credited_what)) present.entries))
+      by true = h
+      by false = counts-where_key key_total greatest_grant (λ k. not (nat_eq k.what credited_what)) present.entries h
+
 -- The entries of grants of a sound table are counts
 module _ (t : TableRecord) (sound : IsSound t) (a : ℕ) (now : List ℕ) (cs : List (Key × ℕ)) (rising : T (is_sorted {X = ℕ} nat_cmp (map (λ m. (m, 0)) now))) (below : AllByRecursion (λ m. m < most_machines) now) (counts : AreCounts key_cmp greatest_grant cs) (kinds : AreOf credited_what cs) where
   entries_are_counts : AreCounts key_cmp greatest_grant (grant_entries a now t.entries cs)
@@ -116,7 +145,7 @@ module _ (t : TableRecord) (sound : IsSound t) (a : ℕ) (now : List ℕ) (cs : 
       ones [] = tt
       ones (m ∷ ms) = (omega arith, ones ms)
 
-module _ (t : TableRecord) (news : News) (now : List ℕ) (a : ℕ) (counts : List (Key × ℕ)) (d : App) (h : JobIsBefore t news now a counts d) (n : IsNews news) (of : AreNumbersOf 2 counts) (present_is : AreCounts key_cmp greatest_grant d.outgoing.present.entries) where
+module _ (laws : Laws) (t : TableRecord) (news : News) (now : List ℕ) (a : ℕ) (counts : List (Key × ℕ)) (d : App) (h : JobIsBefore t news now a counts d) (n : IsNews news) (of : AreNumbersOf 2 counts) (present_is : AreCounts key_cmp greatest_grant d.outgoing.present.entries) where
   abbrev present : TallyRecord
   present = d.outgoing.present
 
@@ -149,7 +178,7 @@ module _ (t : TableRecord) (news : News) (now : List ℕ) (a : ℕ) (counts : Li
 
   -- what is found among the numbers, and in the grants that were shown
   numbers_have : HasNumbers a (machines_of news a) h.touched (credited_to news a)
-  numbers_have = have_numbers a (machines_of news a) h.touched (credited_to news a) (credits_in_order news a n).kinds
+  numbers_have = laws.found a (machines_of news a) h.touched (credited_to news a) (credits_in_order news a n).kinds
 
   abbrev as_entries : List (Key × ℕ)
   as_entries = grant_entries a (machines_of news a) h.touched (credited_to news a)
@@ -158,7 +187,7 @@ module _ (t : TableRecord) (news : News) (now : List ℕ) (a : ℕ) (counts : Li
   numbers_are = ap (λ xs. reported_numbers (machines_of news a) ++ (xs ++ credited_to news a)) h.is
 
   shown_have : HasNumbers a h.reported h.before (credited_in present.entries)
-  shown_have = have_numbers a h.reported h.before (credited_in present.entries) credited_kinds
+  shown_have = laws.found a h.reported h.before (credited_in present.entries) credited_kinds
 
   -- after numbers are set
   abbrev after : Option ℕ → ℕ → ℕ
@@ -178,7 +207,7 @@ module _ (t : TableRecord) (news : News) (now : List ℕ) (a : ℕ) (counts : Li
         other_stays present boot (count_key u m) refl ∙ ap (λ xs. count key_cmp xs (count_key u m)) h.shown ∙ ap (λ r. unwrap_or r 0) (shown_have.counts u m) in
         h.follows (spot a u m) ∙ sym (set_at (count_key u m) (find spot_cmp (spot a u m) h.touched) (count spot_cmp h.before (spot a u m)) (numbers_have.counts u m) was);
     given = λ u m.
-        set_count_is key_total same_key greatest_grant kept (credited_to news a) (credits_in_order news a n).numbers.sorted (credited_key u m)
+        laws.set kept (credited_to news a) (credits_in_order news a n).numbers.sorted (credited_key u m)
         ∙ sym (set_at (credited_key u m) (find key_cmp (credited_key u m) (credited_to news a)) (count key_cmp kept (credited_key u m)) (numbers_have.given u m) (sym (credited_stays present boot u m)));
     kinds = kinds;
   }
@@ -189,10 +218,10 @@ module _ (t : TableRecord) (news : News) (now : List ℕ) (a : ℕ) (counts : Li
       joined false false = refl
 
   credits : AreCounts key_cmp greatest_grant cs
-  credits = set_counts key_total same_key greatest_grant kept (credited_to news a) kept_counts (credits_in_order news a n).numbers.within
+  credits = laws.counts kept (credited_to news a) kept_counts (credits_in_order news a n).numbers
 
   grants_are : grants_set present boot ns ≡ grants_after t news now a d
-  grants_are = ap {A = List (Key × ℕ)} (λ es. record { head = boot; entries = es }) (grants_follow a es ns now t.entries cs (stays_counts present boot present_is) (entries_are_counts t h.sound a now cs h.rising h.below credits kinds) (numbers_in_order news a counts n of) follows)
+  grants_are = ap {A = List (Key × ℕ)} (λ es. record { head = boot; entries = es }) (laws.follow a es ns now t.entries cs (stays_counts present boot present_is) (entries_are_counts t h.sound a now cs h.rising h.below credits kinds) (numbers_in_order news a counts n of) follows)
 
   credited_is : credited_in (grants_after t news now a d).entries ≡ cs
   credited_is =

@@ -2,9 +2,9 @@
 use Rattle.std.proofs.Common.{◌≡◌, ℕ, zero, suc, ◌+◌, ◌<◌, ◌≤◌, Bool, true, false, cond, not, nat_eq, List, [], ◌∷◌, ◌++◌, length, get_or, set, map, Some, refl, sym, ◌∙◌, ap, subst, arith, inl, inr}
 use Rattle.std.specs.Prelude.{Option, slice_get}
 use Rattle.std.specs.Option.{unwrap_or}
-use Rattle.std.specs.List.{list_any}
+use Rattle.std.specs.Global.{Vec}
 use Rattle.std.proofs.lemmas.Bool.{cases_lt}
-use Rattle.std.proofs.lemmas.List.{length-set, get_or-set_same}
+use Rattle.std.proofs.lemmas.List.{length-map, length-set, get_or-map, get_or-set_same}
 use Rattle.std.proofs.lemmas.Option.{slice_get-get_or, slice_get_read, slice_get_within}
 use Rattle.fuxi_terms.specs.Counts.{is_same}
 use Rattle.fuxi_terms.specs.Keys.{RowKey, row_cmp, Spot}
@@ -18,13 +18,13 @@ use Rattle.written_net.specs.Sides.{shown, appended}
 use Rattle.core_side.specs.Bodies.{report_of}
 use Rattle.core_side.specs.Sides.{IsSide}
 use Rattle.grant_table.specs.Tables.{TableRecord, as_known, IsSound}
+use Rattle.broadcast.specs.declared.machine_row.RowNumber.{RowNumber}
 use Rattle.broadcast.specs.Projections.{row_of}
 use Rattle.broadcast.specs.NumbersSet.{numbers_set}
-use Rattle.broadcast.specs.Shown.{Shows}
+use Rattle.broadcast.specs.Shown.{number_of, Shows}
 use Rattle.broadcast.specs.AllShown.{Down, is_machine, AreInOrder, RowsAreBefore, ShowsRows}
-use Rattle.broadcast.specs.TouchedNumbers.{touched_on, MayBeSet}
-use Rattle.broadcast.proofs.MarksLemmas.{none_on}
-use Rattle.broadcast.proofs.TouchedRows.{touched_row, may_be_set}
+use Rattle.broadcast.specs.TouchedNumbers.{touched_on, numbers_in, numbers_of, AreTouched, MayBeSet}
+use Rattle.broadcast.proofs.TouchedRows.{RowsFollow, touched_row, may_be_set}
 
 -- ---- nothing is due
 ledger_itself : (a : Ledger) → same_ledger a a ≡ true
@@ -91,43 +91,32 @@ module _ (t : TableRecord) (forced : Option MachineNo) (old : List Down) where
           let lt = slice_get_within now i d here in
           ap (λ xs. slice_get xs i) is ∙ slice_get-get_or (set now i e) i d (subst (λ n. i < n) (sym (length-set now i e)) lt) ∙ ap (λ x. Some x) (get_or-set_same now i e d lt)
 
-  -- a turn that shows nothing
-  pub shown_skip : (i : ℕ) (now : List Down) → ((d : Down) → slice_get old i ≡ Some d → Shows [] patched_row IsRow row_ledger report_of (is_machine forced i) (row_of (as_known t.jobs) i t.entries) d d)
-      → AreShown t forced old i now → AreShown t forced old (i + 1) now
-  shown_skip i now stay h = record {
-    wide = h.wide;
-    shown = λ m x y lt was there. elim (cases_lt m i) [
-      | inl before ↦ h.shown m x y before was there
-      | inr le ↦
-          let same : m ≡ i = omega (arith, lt, le) in
-          let here : slice_get old i ≡ Some x = ap (slice_get old) (sym same) ∙ was in
-          let both : Some x ≡ Some y = sym here ∙ sym (h.left i (omega arith)) ∙ ap (slice_get now) (sym same) ∙ there in
-          let is : x ≡ y = ap (λ o. unwrap_or o x) both in
-          subst (λ k. Shows [] patched_row IsRow row_ledger report_of (is_machine forced k) (row_of (as_known t.jobs) k t.entries) x y) (sym same)
-          (subst (λ y. Shows [] patched_row IsRow row_ledger report_of (is_machine forced i) (row_of (as_known t.jobs) i t.entries) x y) is (stay x here))
-    ];
-    left = λ m le. h.left m (omega (arith, le));
-  }
-
--- ---- one turn: the side of a machine, as it was at the start
-pub record IsTurn (old now : List Down) (i : ℕ) (d : Down) : Type 0 where
+-- ---- one turn: the side of a machine, as it was at the start, and its numbers
+pub record IsTurn (old now : List Down) (numbers : List (List (RowKey × ℕ))) (i : ℕ) (d : Down) (ns : List (RowKey × ℕ)) : Type 0 where
   pub here : slice_get now i ≡ Some d
   pub was : slice_get old i ≡ Some d
+  pub wide : i < length numbers
+  pub listed : get_or numbers i [] ≡ ns
 
-pub turn : (t : TableRecord) (forced : Option MachineNo) (old now : List Down) (i : ℕ) (d : Down) → AreShown t forced old i now → i < length old → d ≡ get_or now i d → IsTurn old now i d
-turn t forced old now i d shown lt is =
-    let here : slice_get now i ≡ Some d = slice_get_read now (length old) i d (sym shown.wide) lt is in
-    record { here = here; was = sym (shown.left i (omega arith)) ∙ here }
+pub turn : (t : TableRecord) (forced : Option MachineNo) (ss : List Spot) (old now : List Down) (lists : List (Vec RowNumber)) (i : ℕ) (d : Down) (v : Vec RowNumber) (items : List RowNumber) → length old ≡ length t.cluster.machines → AreTouched t ss (numbers_of lists) → AreShown t forced old i now
+    → i < length old → d ≡ get_or now i d → v ≡ get_or lists i v → items ≡ v.items → IsTurn old now (numbers_of lists) i d (map number_of items)
+turn t forced ss old now lists i d v items wide touched shown lt d_is v_is items_are =
+    let here : slice_get now i ≡ Some d = slice_get_read now (length old) i d (sym shown.wide) lt d_is in
+    let among : i < length (numbers_of lists) = omega (arith, lt, wide, touched.wide) in
+    let among_lists : i < length lists = omega (arith, among, length-map lists numbers_in) in
+    record {
+      here = here;
+      was = sym (shown.left i (omega arith)) ∙ here;
+      wide = among;
+      listed = get_or-map numbers_in lists i v [] among_lists ∙ ap numbers_in (sym v_is) ∙ ap (map number_of) (sym items_are);
+    }
 
-module _ (t : TableRecord) (sound : IsSound t) (ss : List Spot) (order : AreInOrder ss) (old : List Down) (before : RowsAreBefore t ss old) (i : ℕ) (d : Down) (was : slice_get old i ≡ Some d) (ns : List (RowKey × ℕ)) (ns_are : ns ≡ touched_on t i ss) where
+module _ (t : TableRecord) (sound : IsSound t) (ss : List Spot) (order : AreInOrder ss) (old now : List Down) (before : RowsAreBefore t ss old) (numbers : List (List (RowKey × ℕ))) (touched : AreTouched t ss numbers) (i : ℕ) (d : Down) (ns : List (RowKey × ℕ)) (at_i : IsTurn old now numbers i d ns) where
+  numbers_are : ns ≡ touched_on t i ss
+  numbers_are = sym at_i.listed ∙ touched.each i at_i.wide
+
   pub set_at : MayBeSet d.outgoing.present ns
-  set_at = subst (λ row. MayBeSet row ns) (sym (before.rows i d was)) (subst (MayBeSet (row_of (as_known t.jobs) i before.before)) (sym ns_are) (may_be_set t sound i ss order before.before before.is))
+  set_at = subst (λ row. MayBeSet row ns) (sym (before.rows i d at_i.was)) (subst (MayBeSet (row_of (as_known t.jobs) i before.before)) (sym numbers_are) (may_be_set t sound i ss order before.before before.is))
 
-  pub row_at : numbers_set row_cmp d.outgoing.present ns ≡ row_of (as_known t.jobs) i t.entries
-  row_at = (λ j. numbers_set row_cmp (before.rows i d was j) (ns_are j)) ∙ touched_row t sound i ss order before.before before.is
-
--- a machine at which no grant changed, and whose row is not forced
-pub untouched : (t : TableRecord) → IsSound t → (ss : List Spot) → AreInOrder ss → (old : List Down) → RowsAreBefore t ss old → (forced : Option MachineNo) (i : ℕ) → is_machine forced i ≡ false → list_any (λ s. nat_eq s.machine i) ss ≡ false
-    → (d : Down) → slice_get old i ≡ Some d → Shows [] patched_row IsRow row_ledger report_of (is_machine forced i) (row_of (as_known t.jobs) i t.entries) d d
-untouched t sound ss order old before forced i not_forced none d was =
-    subst (λ row. Shows [] patched_row IsRow row_ledger report_of (is_machine forced i) row d d) (row_at t sound ss order old before i d was [] (sym (none_on t i ss none))) (stays (is_machine forced i) d not_forced)
+  pub row_at : RowsFollow → numbers_set row_cmp d.outgoing.present ns ≡ row_of (as_known t.jobs) i t.entries
+  row_at follow = (λ j. numbers_set row_cmp (before.rows i d at_i.was j) (numbers_are j)) ∙ touched_row t sound i follow ss order before.before before.is

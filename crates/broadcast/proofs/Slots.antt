@@ -3,7 +3,10 @@ use Rattle.std.proofs.Common.{◌≡◌, ℕ, zero, suc, ◌+◌, ◌<◌, ◌�
 use Rattle.std.specs.Prelude.{◌||◌}
 use Rattle.std.specs.List.{AllByRecursion}
 use Rattle.std.proofs.lemmas.Bool.Decides.{nat_tests}
+use Rattle.std.specs.Global.{Vec}
+use Rattle.std.proofs.lemmas.List.{get_or-map}
 use Rattle.std.proofs.lemmas.Option.{slice_get_within, slice_get-get_or}
+use Rattle.fuxi_terms.specs.declared.Key.{Key}
 use Rattle.fuxi_terms.specs.Keys.{Spot}
 use Rattle.fuxi_terms.specs.Numbers.{has_number, with_number}
 use Rattle.fuxi_terms.proofs.Booleans.{number_is, nat_itself, or_false}
@@ -12,7 +15,7 @@ use Rattle.broadcast.specs.Projections.{grant_entries}
 use Rattle.schedule_unit.specs.declared.party.MachineNo.{MachineNo}
 use Rattle.grant_table.specs.Tables.{TableRecord, IsSound}
 use Rattle.broadcast.specs.AllShown.{App, is_job, credited_in, with_reported, GrantsAreBefore, ShowsAllGrants}
-use Rattle.broadcast.specs.OneJob.{counts_at, reported_now, machines_of, JobIsBefore, SlotIsShown, IsInSlot, AreShown}
+use Rattle.broadcast.specs.OneJob.{counts_at, AreByJob, reported_now, machines_of, JobIsBefore, SlotIsShown, IsInSlot, AreShown}
 use Rattle.broadcast.specs.declared.grants.News.{News}
 use Rattle.broadcast.proofs.Touched.{touched_follow}
 
@@ -28,6 +31,10 @@ got_other (x ∷ xs) zero zero y h = cc
 got_other (x ∷ xs) zero (suc j) y h = refl
 got_other (x ∷ xs) (suc i) zero y h = refl
 got_other (x ∷ xs) (suc i) (suc j) y h = got_other xs i j y (let n : nat_eq (suc i) (suc j) ≡ false = h in grind (arith, nat_tests, n))
+
+-- the counts of a slot
+pub slot_counts : (touched : List (Spot × ℕ)) (jobs : ℕ) (lists : List (Vec (Key × ℕ))) (a : ℕ) (v : Vec (Key × ℕ)) (cs : List (Key × ℕ)) → AreByJob touched jobs lists → a < jobs → v ≡ get_or lists a v → cs ≡ v.items → cs ≡ count_entries a touched
+slot_counts touched jobs lists a v cs h lt is items = items ∙ ap (λ (l : Vec (Key × ℕ)). l.items) is ∙ sym (get_or-map (λ (l : Vec (Key × ℕ)). l.items) lists a v [] (let wide = h.wide in omega (arith, wide, lt))) ∙ h.each a lt
 
 pub in_slot : (slots : List (Option App)) (a : ℕ) (o : Option App) → a < length slots → o ≡ get_or slots a o → slice_get slots a ≡ Some o
 in_slot slots a o lt is = slice_get-get_or slots a o lt ∙ ap (λ x. Some x) (sym is)

@@ -20,17 +20,21 @@ use Rattle.fuxi_terms.proofs.KeyOrders.{spot_total, same_spot, row_key_total, sa
 use Rattle.fuxi_terms.proofs.Spots.{each_found}
 use Rattle.written_roles.specs.MasterSteps.{spot_row_key}
 use Rattle.grant_table.specs.Tables.{TableRecord, as_known, IsSound}
-use Rattle.broadcast.specs.Projections.{row_of, spot_of}
+use Rattle.broadcast.specs.Projections.{row_of, spot_of, RowFollows}
 use Rattle.broadcast.specs.NumbersSet.{numbers_set, AreNumbers}
 use Rattle.broadcast.specs.AllShown.{has_spot, AreInOrder, IsBefore}
 use Rattle.broadcast.specs.TouchedNumbers.{is_touched, number_at, touched_on, MayBeSet}
-use Rattle.broadcast.proofs.ProjectionsLemmas.{row_follows}
 use Rattle.broadcast.proofs.RisingKeys.{one_spot, sorted_keys}
 use Rattle.broadcast.proofs.UnitKeys.{IsUnitKey, key_is, few_keys, all_joined}
 
 pairs_same : (es : List (Spot × ℕ)) → map (λ (e : Spot × ℕ). (e.0, e.1)) es ≡ es
 pairs_same [] = refl
 pairs_same (e ∷ es) = ap (λ fs. e ∷ fs) (pairs_same es)
+
+-- the law by which the row of a table follows from that of an earlier one
+abbrev pub RowsFollow : Type 0
+RowsFollow = (jobs : List KnownJob) (m : ℕ) (old new : List (Spot × ℕ)) (ns : List (RowKey × ℕ)) → AreCounts row_cmp greatest_row (row_of jobs m old) → AreCounts row_cmp greatest_row (row_of jobs m new) → AreNumbers row_cmp greatest_row ns
+    → RowFollows jobs m old new ns → numbers_set row_cmp (row_of jobs m old) ns ≡ row_of jobs m new
 
 module _ (t : TableRecord) (sound : IsSound t) (m : ℕ) where
   abbrev jobs : List KnownJob
@@ -147,8 +151,8 @@ module _ (t : TableRecord) (sound : IsSound t) (m : ℕ) where
     | inr le ↦ omega (arith, le)
   ]
 
-  pub touched_row : (ss : List Spot) → AreInOrder ss → (before : List (Spot × ℕ)) → IsBefore t ss before → numbers_set row_cmp (row_of jobs m before) (touched_on t m ss) ≡ row_of jobs m t.entries
-  touched_row ss order before is = row_follows jobs m before t.entries (touched_on t m ss) (row_counts before is.counts is.admitted) (row_counts t.entries sound.counts sound.admitted) (touched_numbers ss order)
+  pub touched_row : RowsFollow → (ss : List Spot) → AreInOrder ss → (before : List (Spot × ℕ)) → IsBefore t ss before → numbers_set row_cmp (row_of jobs m before) (touched_on t m ss) ≡ row_of jobs m t.entries
+  touched_row follow ss order before is = follow jobs m before t.entries (touched_on t m ss) (row_counts before is.counts is.admitted) (row_counts t.entries sound.counts sound.admitted) (touched_numbers ss order)
       (record { keys = touched_key ss; counts = λ s sm. subst (λ o. count spot_cmp t.entries s ≡ cond (is_some o) (unwrap_or o 0) (count spot_cmp before s)) (sym (touched_find s sm ss)) (by s (has_spot s ss) (is_admitted s) refl refl) })
     where
       by : (s : Spot) (h a : Bool) → has_spot s ss ≡ h → is_admitted s ≡ a → count spot_cmp t.entries s ≡ cond (is_some (cond (h && a) (Some (count spot_cmp t.entries s)) None)) (unwrap_or (cond (h && a) (Some (count spot_cmp t.entries s)) None) 0) (count spot_cmp before s)

@@ -4,5 +4,4 @@ pub mod Projections
 pub mod Places
 pub mod AllShown
 pub mod TouchedNumbers
-pub mod Marks
 pub mod OneJob

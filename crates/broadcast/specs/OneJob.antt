@@ -27,6 +27,14 @@ has_place t s = nat_lt s.unit (unit_count (as_known t.jobs) s.job) && nat_lt s.m
 abbrev pub counts_at : TableRecord → List Spot → List (Spot × ℕ)
 counts_at t spots = map (λ s. (s, count spot_cmp t.entries s)) (filter (has_place t) spots)
 
+-- the same by job: a list for each number below this
+abbrev pub lists_of : List (Vec (Key × ℕ)) → List (List (Key × ℕ))
+lists_of lists = map (λ (l : Vec (Key × ℕ)). l.items) lists
+
+pub record AreByJob (touched : List (Spot × ℕ)) (jobs : ℕ) (lists : List (Vec (Key × ℕ))) : Type 0 where
+  pub wide : length lists ≡ jobs
+  pub each : (a : ℕ) → a < jobs → get_or (lists_of lists) a [] ≡ count_entries a touched
+
 abbrev pub AreOf : ℕ → List (Key × ℕ) → Type 0
 AreOf what es = AllByRecursion (λ e. nat_eq e.0.what what ≡ true) es
 

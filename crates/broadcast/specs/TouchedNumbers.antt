@@ -26,6 +26,17 @@ number_at t s = (spot_row_key (as_known t.jobs) s, count spot_cmp t.entries s)
 abbrev pub touched_on : TableRecord → ℕ → List Spot → List (RowKey × ℕ)
 touched_on t m spots = map (number_at t) (filter (is_touched t m) spots)
 
+-- a list of numbers for each machine
+abbrev pub numbers_in : Vec RowNumber → List (RowKey × ℕ)
+numbers_in v = map number_of v.items
+
+abbrev pub numbers_of : List (Vec RowNumber) → List (List (RowKey × ℕ))
+numbers_of lists = map numbers_in lists
+
+pub record AreTouched (t : TableRecord) (spots : List Spot) (numbers : List (List (RowKey × ℕ))) : Type 0 where
+  pub wide : length numbers ≡ length t.cluster.machines
+  pub each : (m : ℕ) → m < length numbers → get_or numbers m [] ≡ touched_on t m spots
+
 -- numbers that may be set in a row: keys that rise, each within its greatest, and not too many together with those of the row
 pub record MayBeSet (row numbers : List (RowKey × ℕ)) : Type 0 where
   pub numbers_are : AreNumbers row_cmp greatest_row numbers

@@ -1,22 +1,21 @@
 //! Grants, by job.
 
-ghost use Rattle.std.specs.Prelude.{◌≡◌, ◌<◌, ◌^◌, true, false, nat_eq, ℕ, T, IsTrue, List, [], Some, None, length, map, IfOk, OnOk};
+ghost use Rattle.std.specs.Prelude.{◌≡◌, ◌<◌, ◌^◌, ◌++◌, ◌∷◌, true, false, nat_eq, ℕ, T, IsTrue, List, [], Some, None, length, map, IfOk, OnOk};
 ghost use Rattle.std.specs.Ordering.{nat_cmp};
 ghost use Rattle.std.specs.FinMap.Entries.{is_sorted};
 ghost use Rattle.schedule_unit.specs.declared.party.MachineNo.{MachineNo as MachineSeen};
 ghost use Rattle.std.specs.List.{AllByRecursion};
+ghost use Rattle.std.proofs.Common.{set, get_or};
 ghost use Rattle.fuxi_terms.specs.Counts.{count};
 ghost use Rattle.fuxi_terms.specs.Keys.{key_cmp, spot_cmp};
 ghost use Rattle.fuxi_terms.specs.TallyKeys.{reported_key, count_key, greatest_grant, credited_what};
 ghost use Rattle.broadcast.specs.NumbersSet.{AreNumbers};
 ghost use Rattle.grant_table.specs.Tables.{TableRecord};
 ghost use Rattle.broadcast.specs.AllShown.{App, spot_of, is_job, AreInOrder, GrantsAreBefore, ShowsGrants, ShowsAllGrants, HaveRoom};
-ghost use Rattle.written_roles.specs.MasterSteps.{count_entries};
-ghost use Rattle.broadcast.specs.Marks.{AreMarked};
-ghost use Rattle.broadcast.specs.OneJob.{has_place, counts_at, AreNumbersOf, IsNews, machines_of, reported_now, reported_numbers, credited_to, numbers_of, JobIsBefore, SlotIsShown};
+ghost use Rattle.broadcast.specs.OneJob.{has_place, counts_at, lists_of, AreByJob, AreNumbersOf, IsNews, machines_of, reported_now, reported_numbers, credited_to, numbers_of, JobIsBefore, SlotIsShown};
 
 use crate::job_grants::show_grants;
-use crate::marks::{Marks, is_marked, jobs_marked};
+use crate::laws::{grants_follow_tables, grants_have_numbers, numbers_are_set};
 use core_side::Side;
 use fuxi_terms::limits::MOST_MACHINES;
 use fuxi_terms::tally_keys::{COUNT, REPORTED};
@@ -74,10 +73,9 @@ pub fn show_all_grants(
     ensures { OnOk result ((now : List ℕ) → GrantsAreBefore table.now (map spot_of spots.now) news.now now apps.old.items → ShowsAllGrants table.now news.now now apps.old.items apps.new.items) }
 {
     let _cluster = table.cluster();
-    let marks = jobs_marked(spots);
+    let counts = counts_by_job(alloc, table, spots, apps.len())?;
     for app in 0..apps.len() {
-        let counts = counts_of(alloc, table, spots, &marks, app)?;
-        show_slot(&mut apps[app], alloc, app, &counts, news)?;
+        show_slot(&mut apps[app], alloc, app, &counts[app], news)?;
     }
     Ok(())
 }
@@ -117,6 +115,9 @@ fn show_one(
 {
     let boot = side.peer();
     let _entries = side.sent().entries();
+    grants_follow_tables();
+    grants_have_numbers();
+    numbers_are_set();
     if is_quiet(news, app, counts, boot, side.sent().head()) {
         side.is_shown();
         return Ok(());
@@ -222,28 +223,34 @@ fn is_job(job: Option<AppNo>, app: usize) -> bool
     }
 }
 
-// What the table has at the spots of a job. Those of no admitted unit or of no machine are passed over.
-fn counts_of(
+// What the table has at the spots, in a list for each job. Spots of other jobs are passed over.
+fn counts_by_job(
     alloc: Global,
     table: &GrantTable,
     spots: &[Pick],
-    marks: &Marks,
-    app: usize,
-) -> Result<Vec<(Key, u64)>, OutOfMemory>
-    requires { AreMarked (λ s. s.job) (map spot_of spots.now) marks.now }
-    ensures { IfOk result (λ counts. counts.items ≡ count_entries app (counts_at table.now (map spot_of spots.now))) }
+    jobs: usize,
+) -> Result<Vec<Vec<(Key, u64)>>, OutOfMemory>
+    ensures { IfOk result (λ lists. AreByJob (counts_at table.now (map spot_of spots.now)) jobs lists.items) }
 {
-    let mut counts = Vec::new(alloc);
-    if !is_marked(marks, app) {
-        return Ok(counts);
-    }
+    let mut lists = empty_lists(alloc, jobs)?;
     for spot in spots {
-        if spot.app.0 as usize != app || !has_place(table, spot) {
-            continue;
+        let app = spot.app.0 as usize;
+        if app < jobs && has_place(table, spot) {
+            put_count(&mut lists, app, count_at(table, spot))?;
         }
-        counts.push(count_at(table, spot))?;
     }
-    Ok(counts)
+    Ok(lists)
+}
+
+// So many lists with nothing in them.
+fn empty_lists(alloc: Global, jobs: usize) -> Result<Vec<Vec<(Key, u64)>>, OutOfMemory>
+    ensures { IfOk result (λ lists. AreByJob [] jobs lists.items) }
+{
+    let mut lists = Vec::new(alloc);
+    for _ in 0..jobs {
+        lists.push(Vec::new(alloc))?;
+    }
+    Ok(lists)
 }
 
 // Whether a spot is of an admitted unit and of a machine of the cluster.
@@ -265,4 +272,17 @@ fn count_at(table: &GrantTable, spot: &Pick) -> (Key, u64)
     };
     let count = table.held_on(spot.app, spot.unit, spot.machine);
     (key, count as u64)
+}
+
+// One count more of a job.
+fn put_count(
+    lists: &mut Vec<Vec<(Key, u64)>>,
+    app: usize,
+    entry: (Key, u64),
+) -> Result<(), OutOfMemory>
+    requires { app < length lists.old.items }
+    ensures { OnOk result (lists_of lists.new.items ≡ set (lists_of lists.old.items) app (get_or (lists_of lists.old.items) app [] ++ entry ∷ [])) }
+{
+    lists[app].push(entry)?;
+    Ok(())
 }

@@ -4,8 +4,8 @@
 
 mod grants;
 mod job_grants;
+mod laws;
 mod machine_row;
-mod marks;
 mod rows;
 mod spots;
 

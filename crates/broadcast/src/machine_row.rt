@@ -1,16 +1,15 @@
 ghost use Rattle.std.specs.Prelude.{◌≡◌, ◌≤◌, ◌<◌, ◌^◌, [], ℕ, T, IsTrue, List, map, length, not, nat_eq, ◌||◌, IfOk, OnOk, OnErr};
 ghost use Rattle.std.specs.List.{AllByRecursion};
 ghost use Rattle.std.specs.FinMap.Entries.{is_sorted};
-ghost use Rattle.fuxi_terms.specs.Counts.{change_between};
+ghost use Rattle.fuxi_terms.specs.Counts.{joined, change_between};
 ghost use Rattle.fuxi_terms.specs.Keys.{row_cmp};
-ghost use Rattle.fuxi_terms.specs.Limits.{greatest_count};
+ghost use Rattle.fuxi_terms.specs.Limits.{greatest_count, most_entries};
 ghost use Rattle.fuxi_terms.specs.Rows.{IsRow, patched_row, is_row_key, greatest_row};
 ghost use Rattle.party_ledgers.specs.Joins.{no_join};
 ghost use Rattle.written_net.specs.Ledgers.{row_ledger};
 ghost use Rattle.core_side.specs.Bodies.{report_of};
 ghost use Rattle.broadcast.specs.NumbersSet.{numbers_set, moves, AreNumbers};
 ghost use Rattle.broadcast.specs.Shown.{number_of, Shows};
-ghost use Rattle.broadcast.specs.TouchedNumbers.{MayBeSet};
 
 use core_side::Side;
 use ledger_law::OutOfMemory;
@@ -30,7 +29,7 @@ pub(crate) struct RowNumber {
 }
 
 /// From now on the row has these numbers at these keys, which rise. Where nothing differs and it is not forced, nothing is posted.
-/// The keys of the row and of the numbers are together at most 2,048 (`MayBeSet`), and the last index is below 2^62.
+/// The keys of the row and of the numbers are together at most 2,048, and the last index is below 2^62.
 ///
 /// Want of memory leaves all as it was.
 pub(crate) fn show_row(
@@ -40,7 +39,10 @@ pub(crate) fn show_row(
     forced: bool,
 ) -> Result<(), OutOfMemory>
     requires last { side.old.outgoing.last < 2 ^ 62 }
-    requires numbers { MayBeSet side.old.outgoing.present (map number_of numbers.now) }
+    requires numbers { AreNumbers row_cmp greatest_row (map number_of numbers.now) }
+    requires keys { AllByRecursion (λ n. IsTrue (is_row_key n.0)) (map number_of numbers.now) }
+    requires together { length (joined row_cmp side.old.outgoing.present (map number_of numbers.now)) ≤ most_entries }
+    requires few { length numbers.now ≤ most_entries }
     ensures shows { OnOk result (Shows [] patched_row IsRow row_ledger report_of forced (numbers_set row_cmp side.old.outgoing.present (map number_of numbers.now)) side.old side.new) }
     ensures err { OnErr result (side.new ≡ side.old) }
 {

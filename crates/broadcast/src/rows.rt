@@ -1,16 +1,21 @@
 //! Rows, by machine.
 
-ghost use Rattle.std.specs.Prelude.{◌≡◌, ◌<◌, ◌^◌, true, false, length, map, IfOk, OnOk};
-ghost use Rattle.std.proofs.Common.{get_or};
+ghost use Rattle.std.specs.Prelude.{◌≡◌, ◌<◌, ◌^◌, ◌++◌, ◌∷◌, [], length, map, replicate, IfOk, OnOk};
+ghost use Rattle.std.proofs.Common.{get_or, set};
 ghost use Rattle.std.specs.List.{AllByRecursion};
 ghost use Rattle.fuxi_terms.specs.Jobs.{unit_count};
+ghost use Rattle.fuxi_terms.specs.Keys.{row_cmp};
+ghost use Rattle.fuxi_terms.specs.Rows.{IsRow, patched_row};
+ghost use Rattle.written_net.specs.Ledgers.{row_ledger};
+ghost use Rattle.core_side.specs.Bodies.{report_of};
 ghost use Rattle.grant_table.specs.Tables.{as_known};
-ghost use Rattle.broadcast.specs.Shown.{number_of};
+ghost use Rattle.broadcast.specs.NumbersSet.{numbers_set};
+ghost use Rattle.broadcast.specs.Shown.{number_of, Shows};
 ghost use Rattle.broadcast.specs.AllShown.{Down, spot_of, is_machine, AreInOrder, RowsAreBefore, ShowsRows};
-ghost use Rattle.broadcast.specs.TouchedNumbers.{number_at, touched_on};
+ghost use Rattle.broadcast.specs.TouchedNumbers.{number_at, numbers_of, AreTouched, MayBeSet};
 
+use crate::laws::rows_follow_tables;
 use crate::machine_row::{RowNumber, show_row};
-use crate::marks::{Marks, is_marked, machines_marked};
 use core_side::Side;
 use fuxi_terms::OutOfMemory;
 use grant_table::{GrantTable, Pick};
@@ -37,23 +42,29 @@ pub fn show_all_rows(
     ensures { OnOk result (ShowsRows table.now forced sides.old.items sides.new.items) }
 {
     let _cluster = table.cluster();
-    let marks = machines_marked(spots);
+    rows_follow_tables();
+    let numbers = touched(alloc, table, spots)?;
     for at in 0..sides.len() {
-        if is_untouched(&marks, forced, at) {
-            continue;
-        }
-        let numbers = numbers_on(alloc, table, spots, at)?;
-        show_row(&mut sides[at], alloc, &numbers, is_machine(forced, at))?;
+        show_one(&mut sides[at], alloc, &numbers[at], is_machine(forced, at))?;
     }
     Ok(())
 }
 
-// Whether no grant changed on a machine whose row is not forced.
-fn is_untouched(marks: &Marks, forced: Option<MachineNo>, at: usize) -> bool
-    ensures forced { result ≡ true → is_machine forced at ≡ false }
-    ensures marked { result ≡ true → get_or marks.now at true ≡ false }
+// Shows an agent its row with these numbers. Where there are none and it is not forced, the row stays.
+fn show_one(
+    side: &mut Side<RowLedger, JoinLedger>,
+    alloc: Global,
+    numbers: &[RowNumber],
+    forced: bool,
+) -> Result<(), OutOfMemory>
+    requires last { side.old.outgoing.last < 2 ^ 62 }
+    requires numbers { MayBeSet side.old.outgoing.present (map number_of numbers.now) }
+    ensures { OnOk result (Shows [] patched_row IsRow row_ledger report_of forced (numbers_set row_cmp side.old.outgoing.present (map number_of numbers.now)) side.old side.new) }
 {
-    !is_machine(forced, at) && !is_marked(marks, at)
+    if numbers.is_empty() && !forced {
+        return Ok(());
+    }
+    show_row(side, alloc, numbers, forced)
 }
 
 // Whether it is the machine with this number.
@@ -66,24 +77,36 @@ fn is_machine(machine: Option<MachineNo>, at: usize) -> bool
     }
 }
 
-// What the table has at the spots of a machine. Those of no admitted unit are passed over: the table has nothing there.
-fn numbers_on(
+// What the table has at the spots, in a list for each machine. Spots of no admitted unit or of no machine are passed over: the table has
+// nothing there.
+fn touched(
     alloc: Global,
     table: &GrantTable,
     spots: &[Pick],
-    at: usize,
-) -> Result<Vec<RowNumber>, OutOfMemory>
-    requires { at < length table.now.cluster.machines }
-    ensures { IfOk result (λ numbers. map number_of numbers.items ≡ touched_on table.now at (map spot_of spots.now)) }
+) -> Result<Vec<Vec<RowNumber>>, OutOfMemory>
+    ensures { IfOk result (λ lists. AreTouched table.now (map spot_of spots.now) (numbers_of lists.items)) }
 {
-    let mut numbers = Vec::new(alloc);
+    let machines = table.cluster().machines() as usize;
+    let mut lists = empty_lists(alloc, machines)?;
     for spot in spots {
-        if spot.machine.0 as usize != at || spot.unit.0 as usize >= table.units(spot.app) {
+        let machine = spot.machine.0 as usize;
+        if machine >= machines || spot.unit.0 as usize >= table.units(spot.app) {
             continue;
         }
-        numbers.push(number_at(table, spot))?;
+        put_number(&mut lists, machine, number_at(table, spot))?;
     }
-    Ok(numbers)
+    Ok(lists)
+}
+
+// So many lists with nothing in them.
+fn empty_lists(alloc: Global, machines: usize) -> Result<Vec<Vec<RowNumber>>, OutOfMemory>
+    ensures { IfOk result (λ lists. numbers_of lists.items ≡ replicate machines []) }
+{
+    let mut lists = Vec::new(alloc);
+    for _ in 0..machines {
+        lists.push(Vec::new(alloc))?;
+    }
+    Ok(lists)
 }
 
 // What the table has at a spot.
@@ -98,4 +121,17 @@ fn number_at(table: &GrantTable, spot: &Pick) -> RowNumber
         size: *table.size(spot.app, spot.unit),
         count: table.held_on(spot.app, spot.unit, spot.machine),
     }
+}
+
+// One number more of a machine.
+fn put_number(
+    lists: &mut Vec<Vec<RowNumber>>,
+    machine: usize,
+    number: RowNumber,
+) -> Result<(), OutOfMemory>
+    requires { machine < length lists.old.items }
+    ensures { OnOk result (numbers_of lists.new.items ≡ set (numbers_of lists.old.items) machine (get_or (numbers_of lists.old.items) machine [] ++ number_of number ∷ [])) }
+{
+    lists[machine].push(number)?;
+    Ok(())
 }
