@@ -3,9 +3,9 @@ use Rattle.std.proofs.Common.{◌≡◌, ℕ, ◌+◌, ◌<◌, List, [], ◌∷
 use Rattle.std.specs.Prelude.{replicate}
 use Rattle.std.proofs.lemmas.List.{map-append, map-set, get_or-map, replicate-append-replicate}
 use Rattle.std.specs.Global.{Vec}
-use Rattle.publishing.specs.declared.row.RowNumber.{RowNumber}
-use Rattle.publishing.specs.Showing.{number_of}
-use Rattle.broadcast.specs.Touching.{numbers_in, numbers_of}
+use Rattle.broadcast.specs.declared.machine_row.RowNumber.{RowNumber}
+use Rattle.broadcast.specs.Shown.{number_of}
+use Rattle.broadcast.specs.TouchedNumbers.{numbers_in, numbers_of}
 
 pub one_list_more : (lists after : List (Vec RowNumber)) (v : Vec RowNumber) (n : ℕ) → after ≡ lists ++ v ∷ [] → v.items ≡ [] → numbers_of lists ≡ replicate n [] → numbers_of after ≡ replicate (n + 1) []
 one_list_more lists after v n is empty h =

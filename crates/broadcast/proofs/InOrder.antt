@@ -16,8 +16,8 @@ use Rattle.fuxi_terms.proofs.Booleans.{number_is}
 use Rattle.fuxi_terms.proofs.Counting.{both_true}
 use Rattle.schedule_unit.specs.declared.party.MachineNo.{MachineNo}
 use Rattle.written_roles.specs.MasterSteps.{count_entries}
-use Rattle.publishing.specs.Setting.{AreNumbers}
-use Rattle.broadcast.specs.Showing.{is_job}
+use Rattle.broadcast.specs.NumbersSet.{AreNumbers}
+use Rattle.broadcast.specs.AllShown.{is_job}
 use Rattle.broadcast.specs.OneJob.{AreOf, AreNumbersOf, IsNews, reported_now, machines_of, reported_numbers, credited_to, numbers_of}
 use Rattle.broadcast.specs.declared.grants.News.{News}
 

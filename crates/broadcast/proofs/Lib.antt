@@ -1,3 +1,10 @@
+pub mod NumbersSetLemmas
+pub mod MovesLemmas
+pub mod RowSetLemmas
+pub mod GrantsSetLemmas
+pub mod ShownLemmas
+pub mod ProjectionsLemmas
+pub mod GrantEntriesLemmas
 pub mod ByMachine
 pub mod InPlaces
 pub mod RisingKeys
@@ -6,5 +13,5 @@ pub mod TouchedRows
 pub mod UnitKeys
 pub mod InOrder
 pub mod Touched
-pub mod Following
+pub mod OneJobLemmas
 pub mod Slots

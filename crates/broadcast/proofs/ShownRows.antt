@@ -18,12 +18,12 @@ use Rattle.written_net.specs.Sides.{shown, appended}
 use Rattle.core_side.specs.Bodies.{report_of}
 use Rattle.core_side.specs.Sides.{IsSide}
 use Rattle.grant_table.specs.Tables.{TableRecord, as_known, IsSound}
-use Rattle.publishing.specs.declared.row.RowNumber.{RowNumber}
-use Rattle.publishing.specs.Projecting.{row_of}
-use Rattle.publishing.specs.Setting.{numbers_set}
-use Rattle.publishing.specs.Showing.{number_of, Shows}
-use Rattle.broadcast.specs.Showing.{Down, is_machine, AreInOrder, RowsAreBefore, ShowsRows}
-use Rattle.broadcast.specs.Touching.{touched_on, numbers_in, numbers_of, AreTouched, MayBeSet}
+use Rattle.broadcast.specs.declared.machine_row.RowNumber.{RowNumber}
+use Rattle.broadcast.specs.Projections.{row_of}
+use Rattle.broadcast.specs.NumbersSet.{numbers_set}
+use Rattle.broadcast.specs.Shown.{number_of, Shows}
+use Rattle.broadcast.specs.AllShown.{Down, is_machine, AreInOrder, RowsAreBefore, ShowsRows}
+use Rattle.broadcast.specs.TouchedNumbers.{touched_on, numbers_in, numbers_of, AreTouched, MayBeSet}
 use Rattle.broadcast.proofs.TouchedRows.{RowsFollow, touched_row, may_be_set}
 
 -- ---- nothing is due

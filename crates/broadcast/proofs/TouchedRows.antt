@@ -20,10 +20,10 @@ use Rattle.fuxi_terms.proofs.KeyOrders.{spot_total, same_spot, row_key_total, sa
 use Rattle.fuxi_terms.proofs.Spots.{each_found}
 use Rattle.written_roles.specs.MasterSteps.{spot_row_key}
 use Rattle.grant_table.specs.Tables.{TableRecord, as_known, IsSound}
-use Rattle.publishing.specs.Projecting.{row_of, spot_of, RowFollows}
-use Rattle.publishing.specs.Setting.{numbers_set, AreNumbers}
-use Rattle.broadcast.specs.Showing.{has_spot, AreInOrder, IsBefore}
-use Rattle.broadcast.specs.Touching.{is_touched, number_at, touched_on, MayBeSet}
+use Rattle.broadcast.specs.Projections.{row_of, spot_of, RowFollows}
+use Rattle.broadcast.specs.NumbersSet.{numbers_set, AreNumbers}
+use Rattle.broadcast.specs.AllShown.{has_spot, AreInOrder, IsBefore}
+use Rattle.broadcast.specs.TouchedNumbers.{is_touched, number_at, touched_on, MayBeSet}
 use Rattle.broadcast.proofs.RisingKeys.{one_spot, sorted_keys}
 use Rattle.broadcast.proofs.UnitKeys.{IsUnitKey, key_is, few_keys, all_joined}
 

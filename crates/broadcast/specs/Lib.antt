@@ -1,4 +1,7 @@
+pub mod NumbersSet
+pub mod Shown
+pub mod Projections
 pub mod Places
-pub mod Showing
-pub mod Touching
+pub mod AllShown
+pub mod TouchedNumbers
 pub mod OneJob

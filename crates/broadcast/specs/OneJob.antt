@@ -14,10 +14,10 @@ use Rattle.fuxi_terms.specs.TallyKeys.{reported_key, credited_what, greatest_gra
 use Rattle.fuxi_terms.specs.declared.Key.{Key}
 use Rattle.schedule_unit.specs.declared.party.MachineNo.{MachineNo}
 use Rattle.written_roles.specs.MasterSteps.{count_entries}
-use Rattle.publishing.specs.Setting.{AreNumbers, IsSetTo}
+use Rattle.broadcast.specs.NumbersSet.{AreNumbers, IsSetTo}
 use Rattle.grant_table.specs.Tables.{TableRecord, as_known, IsSound}
 use Rattle.broadcast.specs.declared.grants.News.{News}
-use Rattle.broadcast.specs.Showing.{App, is_job, ShowsJob, ShowsGrants}
+use Rattle.broadcast.specs.AllShown.{App, is_job, ShowsJob, ShowsGrants}
 
 -- the spot is of an admitted unit and of a machine of the cluster
 abbrev pub has_place : TableRecord → Spot → Bool

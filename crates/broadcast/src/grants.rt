@@ -9,18 +9,19 @@ ghost use Rattle.std.proofs.Common.{set, get_or};
 ghost use Rattle.fuxi_terms.specs.Counts.{count};
 ghost use Rattle.fuxi_terms.specs.Keys.{key_cmp, spot_cmp};
 ghost use Rattle.fuxi_terms.specs.TallyKeys.{reported_key, count_key, greatest_grant, credited_what};
-ghost use Rattle.publishing.specs.Setting.{AreNumbers};
+ghost use Rattle.broadcast.specs.NumbersSet.{AreNumbers};
 ghost use Rattle.grant_table.specs.Tables.{TableRecord};
-ghost use Rattle.broadcast.specs.Showing.{App, spot_of, is_job, AreInOrder, GrantsAreBefore, ShowsGrants, ShowsAllGrants, HaveRoom};
+ghost use Rattle.broadcast.specs.AllShown.{App, spot_of, is_job, AreInOrder, GrantsAreBefore, ShowsGrants, ShowsAllGrants, HaveRoom};
 ghost use Rattle.broadcast.specs.OneJob.{has_place, counts_at, lists_of, AreByJob, AreNumbersOf, IsNews, machines_of, reported_now, reported_numbers, credited_to, numbers_of, JobIsBefore, SlotIsShown};
 
+use crate::job_grants::show_grants;
+use crate::laws::{grants_follow_tables, grants_have_numbers, numbers_are_set};
 use core_side::Side;
 use fuxi_terms::limits::MOST_MACHINES;
 use fuxi_terms::tally_keys::{COUNT, REPORTED};
 use fuxi_terms::{Key, OutOfMemory};
 use grant_table::{GrantTable, Pick};
 use party_ledgers::{Demand, Grants};
-use publishing::{grants_follow_tables, grants_have_numbers, numbers_are_set, show_grants};
 use schedule_unit::{AppNo, MachineNo};
 use std::alloc::Global;
 

@@ -3,9 +3,13 @@
 #![tactic(auto)]
 
 mod grants;
+mod job_grants;
+mod laws;
+mod machine_row;
 mod rows;
 mod spots;
 
 pub use grants::{News, show_all_grants};
+pub use job_grants::show_grants;
 pub use rows::show_all_rows;
 pub use spots::in_order;

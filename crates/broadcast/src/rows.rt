@@ -9,16 +9,17 @@ ghost use Rattle.fuxi_terms.specs.Rows.{IsRow, patched_row};
 ghost use Rattle.written_net.specs.Ledgers.{row_ledger};
 ghost use Rattle.core_side.specs.Bodies.{report_of};
 ghost use Rattle.grant_table.specs.Tables.{as_known};
-ghost use Rattle.publishing.specs.Setting.{numbers_set};
-ghost use Rattle.publishing.specs.Showing.{number_of, Shows};
-ghost use Rattle.broadcast.specs.Showing.{Down, spot_of, is_machine, AreInOrder, RowsAreBefore, ShowsRows};
-ghost use Rattle.broadcast.specs.Touching.{number_at, numbers_of, AreTouched, MayBeSet};
+ghost use Rattle.broadcast.specs.NumbersSet.{numbers_set};
+ghost use Rattle.broadcast.specs.Shown.{number_of, Shows};
+ghost use Rattle.broadcast.specs.AllShown.{Down, spot_of, is_machine, AreInOrder, RowsAreBefore, ShowsRows};
+ghost use Rattle.broadcast.specs.TouchedNumbers.{number_at, numbers_of, AreTouched, MayBeSet};
 
+use crate::laws::rows_follow_tables;
+use crate::machine_row::{RowNumber, show_row};
 use core_side::Side;
 use fuxi_terms::OutOfMemory;
 use grant_table::{GrantTable, Pick};
 use party_ledgers::{JoinLedger, RowLedger};
-use publishing::{RowNumber, rows_follow_tables, show_row};
 use schedule_unit::MachineNo;
 use std::alloc::Global;
 

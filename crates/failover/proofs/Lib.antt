@@ -1,3 +1,3 @@
 pub mod Everyone
-pub mod Pushing
+pub mod OneEntryMore
 pub mod Totals

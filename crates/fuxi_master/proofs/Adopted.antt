@@ -6,11 +6,11 @@ use Rattle.fuxi_terms.specs.Cluster.{ClusterRecord}
 use Rattle.fuxi_terms.specs.Keys.{RowKey, key_cmp}
 use Rattle.fuxi_terms.specs.TallyKeys.{credited_what, greatest_grant}
 use Rattle.fuxi_terms.specs.declared.Key.{Key}
-use Rattle.publishing.specs.Setting.{AreNumbers}
+use Rattle.broadcast.specs.NumbersSet.{AreNumbers}
 use Rattle.fuxi_terms.specs.Numbers.{has_number, with_number}
 use Rattle.schedule_unit.specs.declared.party.MachineNo.{MachineNo}
 use Rattle.grant_table.specs.Tables.{IsSound}
-use Rattle.failover.specs.Adopting.{kept_of}
+use Rattle.failover.specs.KeptReports.{kept_of}
 use Rattle.failover.specs.Reported.{Reported}
 use Rattle.settling.specs.Runs.{AreTouched}
 use Rattle.written_net.specs.Ledgers.{Ledger}
@@ -24,16 +24,16 @@ use Rattle.written_roles.specs.MasterRoles.{MasterRole}
 use Rattle.core_side.specs.Bodies.{report_of}
 use Rattle.allotment.specs.Allotted.{AllotmentRecord, Allots, rows_put}
 use Rattle.broadcast.specs.declared.grants.News.{News}
-use Rattle.broadcast.specs.Showing.{Down, credited_after, is_job, with_reported}
+use Rattle.broadcast.specs.AllShown.{Down, credited_after, is_job, with_reported}
 use Rattle.fuxi_master.specs.Cores.{CoreRecord, IsCore, StandsFor}
-use Rattle.fuxi_master.specs.Hearing.{IsNews, Changes, adopting, adopting_role}
+use Rattle.fuxi_master.specs.Heard.{IsNews, Changes, adopting, adopting_role}
 use Rattle.fuxi_master.specs.Steps.{StandsMid}
-use Rattle.fuxi_master.proofs.Adopting.{put_adopted, opened_now}
-use Rattle.fuxi_master.proofs.Finishing.{lined_as}
-use Rattle.fuxi_master.proofs.Readying.{lined_again}
-use Rattle.fuxi_master.proofs.Moving.{mid_by, same_jobs, credited_same, within_soon}
+use Rattle.fuxi_master.proofs.ReportAdopted.{put_adopted, opened_now}
+use Rattle.fuxi_master.proofs.EndsLemmas.{lined_as}
+use Rattle.fuxi_master.proofs.Readied.{lined_again}
+use Rattle.fuxi_master.proofs.NotYetShown.{mid_by, same_jobs, credited_same, within_soon}
 use Rattle.fuxi_master.proofs.Numbers.{with_rises, with_all}
-use Rattle.fuxi_master.proofs.Tidying.{adopting_tidy}
+use Rattle.fuxi_master.proofs.UnreportedBare.{adopting_tidy}
 use Rattle.fuxi_master.proofs.Told.{stands_told}
 
 -- the table and the placer after a report entered them, and the machine was opened

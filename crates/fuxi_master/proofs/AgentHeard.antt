@@ -13,7 +13,7 @@ use Rattle.fuxi_terms.proofs.VectorLaws.{fits-zeros}
 use Rattle.cluster_desc.specs.declared.cluster.Machine.{Machine}
 use Rattle.cluster_desc.specs.Records.{machine_of as machine_seen}
 use Rattle.grant_table.specs.Tables.{as_known}
-use Rattle.failover.specs.Adopting.{kept_entries, kept_of}
+use Rattle.failover.specs.KeptReports.{kept_entries, kept_of}
 use Rattle.party_ledgers.specs.declared.packets.Heard.{Heard}
 use Rattle.party_ledgers.specs.declared.packets.Packet.{Packet}
 use Rattle.written_net.specs.Net.{is_taken}
@@ -23,11 +23,11 @@ use Rattle.written_roles.specs.MasterRoles.{MasterRole}
 use Rattle.core_side.specs.Bodies.{report_of}
 use Rattle.core_side.specs.Parcels.{packet_of}
 use Rattle.core_side.specs.Sides.{HearsAlike}
-use Rattle.publishing.specs.Projecting.{row_of}
-use Rattle.broadcast.specs.Showing.{Down}
+use Rattle.broadcast.specs.Projections.{row_of}
+use Rattle.broadcast.specs.AllShown.{Down}
 use Rattle.fuxi_master.specs.Cores.{CoreRecord, IsCore, IsWithin, StandsFor}
-use Rattle.fuxi_master.specs.Hearing.{ReportTest, excess_by, is_too_much, heard_of, with_heard, HearsAgent, IsDue}
-use Rattle.fuxi_master.proofs.AgentHearing.{test_of, stands_heard, heard_side, hears_agent}
+use Rattle.fuxi_master.specs.Heard.{ReportTest, excess_by, is_too_much, heard_of, with_heard, HearsAgent, IsDue}
+use Rattle.fuxi_master.proofs.AgentHeardAlike.{test_of, stands_heard, heard_side, hears_agent}
 use Rattle.fuxi_master.proofs.Indexed.{each_set, length_set, all_from}
 
 -- what a machine has, in eight places

@@ -17,10 +17,10 @@ use Rattle.written_roles.specs.MasterRoles.{MasterRole}
 use Rattle.core_side.specs.Bodies.{tally_of}
 use Rattle.core_side.specs.Parcels.{packet_of}
 use Rattle.core_side.specs.Sides.{HearsAlike}
-use Rattle.broadcast.specs.Showing.{App, ShowsJob}
+use Rattle.broadcast.specs.AllShown.{App, ShowsJob}
 use Rattle.fuxi_master.specs.Cores.{CoreRecord, IsNear, IsCore, HasBoots, IsWithin, StandsFor, patched_grants}
-use Rattle.fuxi_master.specs.Hearing.{heard_of, with_heard, HearsApp}
-use Rattle.fuxi_master.proofs.AppHearing.{each_app, stands_heard, hears_app}
+use Rattle.fuxi_master.specs.Heard.{heard_of, with_heard, HearsApp}
+use Rattle.fuxi_master.proofs.AppHeardAlike.{each_app, stands_heard, hears_app}
 use Rattle.fuxi_master.proofs.Indexed.{each_set, length_set}
 
 module _ (x : CoreRecord) (core : IsCore x) (a : ℕ) (old new : App) (packet : Packet) (heard : Heard)

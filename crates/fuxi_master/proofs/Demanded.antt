@@ -10,15 +10,15 @@ use Rattle.fuxi_terms.specs.Keys.{Spot, key_cmp, spot_cmp}
 use Rattle.fuxi_terms.specs.TallyKeys.{credited_what, greatest_demand, greatest_grant}
 use Rattle.fuxi_terms.specs.declared.Key.{Key}
 use Rattle.grant_table.specs.Tables.{TableRecord, as_known}
-use Rattle.publishing.specs.Setting.{AreNumbers}
+use Rattle.broadcast.specs.NumbersSet.{AreNumbers}
 use Rattle.settling.specs.Placing.{has_spot}
 use Rattle.written_net.specs.Ledgers.{tally_ledger}
 use Rattle.written_roles.specs.Masters.{Master}
 use Rattle.written_roles.specs.MasterSteps.{counted, credit}
 use Rattle.allotment.specs.Allotted.{AllotmentRecord, Allots, Touches, CreditsBack}
-use Rattle.broadcast.specs.Showing.{App}
-use Rattle.fuxi_master.specs.Hearing.{IsCredited, IsDemanded, newly_credited}
-use Rattle.fuxi_master.proofs.Crediting.{are_numbers, are_credited}
+use Rattle.broadcast.specs.AllShown.{App}
+use Rattle.fuxi_master.specs.Heard.{IsCredited, IsDemanded, newly_credited}
+use Rattle.fuxi_master.proofs.NewlyCredited.{are_numbers, are_credited}
 
 abbrev pub AsksAlike : ℕ → List (Key × ℕ) → AllotmentRecord → AllotmentRecord → Type 0
 AsksAlike a es y z = (c : ClusterRecord) (M : Master) (head : ℕ) → Allots y c M → Allots z c (record M { demands = put nat_cmp a (counted c M.jobs a (tally_ledger head es)) M.demands })

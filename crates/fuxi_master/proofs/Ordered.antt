@@ -3,7 +3,7 @@ use Rattle.std.proofs.Common.{◌≡◌, ℕ, List, sym, ◌∙◌}
 use Rattle.fuxi_terms.specs.Keys.{Spot}
 use Rattle.grant_table.specs.Tables.{TableRecord}
 use Rattle.broadcast.specs.declared.grants.News.{News}
-use Rattle.broadcast.specs.Showing.{Down, has_spot, IsBefore, RowsAreBefore, GrantsAreBefore}
+use Rattle.broadcast.specs.AllShown.{Down, has_spot, IsBefore, RowsAreBefore, GrantsAreBefore}
 
 module _ (t : TableRecord) (spots ordered : List Spot) (same : (s : Spot) → has_spot s ordered ≡ has_spot s spots) where
   before_same : (before : List (Spot × ℕ)) → IsBefore t spots before → IsBefore t ordered before

@@ -11,9 +11,9 @@ use Rattle.schedule_unit.specs.declared.party.MachineNo.{MachineNo}
 use Rattle.written_net.specs.Channels.{agent_id, app_id}
 use Rattle.written_roles.specs.MasterSteps.{is_one_of, spot_row_key}
 use Rattle.settling.specs.Placing.{record_of}
-use Rattle.publishing.specs.Projecting.{row_of}
+use Rattle.broadcast.specs.Projections.{row_of}
 use Rattle.broadcast.specs.declared.grants.News.{News}
-use Rattle.broadcast.specs.Showing.{is_machine, is_job}
+use Rattle.broadcast.specs.AllShown.{is_machine, is_job}
 use Rattle.fuxi_master.specs.Steps.{agent_named, app_named, forced_by}
 
 -- the units of a job are those of its record

@@ -16,8 +16,8 @@ use Rattle.written_roles.specs.Masters.{Master, credited_of}
 use Rattle.written_roles.specs.MasterSteps.{ready, talks, projected}
 use Rattle.written_roles.specs.MasterRoles.{MasterRole, publish_alone, offers_alone, side_after, ends_alone}
 use Rattle.grant_table.specs.Tables.{as_known}
-use Rattle.publishing.specs.Projecting.{row_of, grant_entries}
-use Rattle.broadcast.specs.Showing.{Down, App}
+use Rattle.broadcast.specs.Projections.{row_of, grant_entries}
+use Rattle.broadcast.specs.AllShown.{Down, App}
 use Rattle.allotment.specs.Allotted.{Allots}
 use Rattle.fuxi_master.specs.Cores.{CoreRecord, IsCore, IsDown, IsApp, IsTidy, StandsFor}
 use Rattle.fuxi_master.proofs.Projected.{rows_alike}

@@ -27,12 +27,12 @@ use Rattle.grant_table.specs.Tables.{as_known}
 use Rattle.settling.specs.Placing.{record_of}
 use Rattle.allotment.specs.Allotted.{AllotmentRecord, Allots}
 use Rattle.place_pass.specs.Placers.{IsUpToDate}
-use Rattle.publishing.specs.Projecting.{row_of, grant_entries}
-use Rattle.broadcast.specs.Showing.{Down, App, ShowsJob, credited_in}
+use Rattle.broadcast.specs.Projections.{row_of, grant_entries}
+use Rattle.broadcast.specs.AllShown.{Down, App, ShowsJob, credited_in}
 use Rattle.fuxi_master.specs.Cores.{CoreRecord, IsKept, IsCore, IsDown, IsApp, IsWithin, StandsFor}
 use Rattle.fuxi_master.specs.Starts.{IsDownStarted, AreAppsStarted, AreAdmitted, side_started}
-use Rattle.fuxi_master.proofs.Allotting.{allots_alike}
-use Rattle.fuxi_master.proofs.Readying.{lined_again, listed}
+use Rattle.fuxi_master.proofs.AllotsAlike.{allots_alike}
+use Rattle.fuxi_master.proofs.Readied.{lined_again, listed}
 use Rattle.fuxi_master.proofs.StartedJobs.{all_records, same_numbers, no_jobs}
 use Rattle.fuxi_master.proofs.StartedSides.{AreDownsStarted}
 

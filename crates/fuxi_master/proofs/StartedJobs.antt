@@ -19,10 +19,10 @@ use Rattle.grant_table.specs.Tables.{TableRecord, as_known, with_admitted}
 use Rattle.settling.specs.Placing.{record_of}
 use Rattle.allotment.specs.Allotted.{AllotmentRecord, Allots, AllWait}
 use Rattle.fuxi_master.specs.Starts.{AreAdmitted}
-use Rattle.fuxi_master.proofs.Allotting.{allots_alike}
+use Rattle.fuxi_master.proofs.AllotsAlike.{allots_alike}
 use Rattle.fuxi_master.proofs.Numbers.{with_is, with_rises}
 use Rattle.fuxi_master.proofs.Projected.{known_alike}
-use Rattle.fuxi_master.proofs.Readying.{listed}
+use Rattle.fuxi_master.proofs.Readied.{listed}
 
 -- ---- what is found by number
 recorded : (b : Bool) (k : KnownJob) (o : Option KnownJob) → option_map (λ (x : KnownJob). x.job) (cond b (Some k) o) ≡ cond b (Some k.job) (option_map (λ (x : KnownJob). x.job) o)

@@ -15,7 +15,7 @@ use Rattle.failover.specs.Reported.{Reported}
 use Rattle.written_roles.specs.Masters.{Master, credited_of}
 use Rattle.written_roles.specs.MasterRoles.{MasterRole}
 use Rattle.allotment.specs.Allotted.{AllotmentRecord, Allots}
-use Rattle.broadcast.specs.Showing.{App}
+use Rattle.broadcast.specs.AllShown.{App}
 use Rattle.fuxi_master.specs.Cores.{CoreRecord, IsTidy, StandsWith, StandsFor}
 
 same_number : (a b : ℕ) → eq_by_cmp nat_cmp b a ≡ nat_eq a b

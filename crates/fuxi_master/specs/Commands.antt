@@ -15,7 +15,7 @@ use Rattle.broadcast.specs.declared.grants.News.{News}
 use Rattle.place_pass.specs.Placers.{IsUpToDate}
 use Rattle.fuxi_master.specs.Cores.{CoreRecord, StandsFor, IsWithin, IsWithinSoon}
 use Rattle.fuxi_master.specs.Steps.{IsMid, StandsMid}
-use Rattle.fuxi_master.specs.Hearing.{IsNews}
+use Rattle.fuxi_master.specs.Heard.{IsNews}
 
 -- a command changes the state and no side
 abbrev pub changed_by : (Master → Master) → MasterRole → MasterRole

@@ -29,8 +29,8 @@ use Rattle.failover.specs.Reported.{Reported}
 use Rattle.place_pass.specs.Placers.{IsUpToDate}
 use Rattle.settling.specs.Placing.{record_of}
 use Rattle.allotment.specs.Allotted.{AllotmentRecord, Allots, AllWait}
-use Rattle.publishing.specs.Projecting.{row_of}
-use Rattle.broadcast.specs.Showing.{Down, App, ShowsJob, credited_in}
+use Rattle.broadcast.specs.Projections.{row_of}
+use Rattle.broadcast.specs.AllShown.{Down, App, ShowsJob, credited_in}
 
 -- its epoch, what it knows of jobs and bans, whether it serves, the machines that are reported, the grants with their placer, and its ends
 -- of the channels: with each agent by its machine, and with the application of each known job by the job's number

@@ -8,12 +8,12 @@ use Rattle.written_roles.specs.Placing.{line_up}
 use Rattle.written_roles.specs.MasterSteps.{ready, settled_if_serving}
 use Rattle.written_roles.specs.MasterRoles.{MasterRole, publish_alone, offers_alone}
 use Rattle.grant_table.specs.Tables.{as_known}
-use Rattle.publishing.specs.Projecting.{row_of}
+use Rattle.broadcast.specs.Projections.{row_of}
 use Rattle.broadcast.specs.declared.grants.News.{News}
 use Rattle.place_pass.specs.Placers.{IsUpToDate}
 use Rattle.settling.specs.Runs.{AreTouched}
 use Rattle.allotment.specs.Allotted.{AllotmentRecord, Allots, AllWait}
-use Rattle.broadcast.specs.Showing.{Down, App, ShowsJob}
+use Rattle.broadcast.specs.AllShown.{Down, App, ShowsJob}
 use Rattle.fuxi_master.specs.Cores.{CoreRecord, IsKept, StandsWith, shown_credited}
 use Rattle.fuxi_master.specs.Steps.{StandsMid, forced_by}
 

@@ -2,9 +2,9 @@ pub mod Cores
 pub mod Steps
 pub mod Seen
 pub mod Ends
-pub mod Hearing
+pub mod Heard
 pub mod Commands
 pub mod Starts
 pub mod Resyncs
 pub mod Readers
-pub mod Voting
+pub mod VoteCounts

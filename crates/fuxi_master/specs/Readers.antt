@@ -5,7 +5,7 @@ use Rattle.delta_channel.specs.declared.receiver.Place.{Place}
 use Rattle.schedule_unit.specs.declared.party.Role.{Role}
 use Rattle.schedule_unit.specs.declared.party.Role.TheVariants.{Master as AsMaster, Agent as AsAgent, App as AsApp}
 use Rattle.written_net.specs.Sides.{Side}
-use Rattle.broadcast.specs.Showing.{Down, App}
+use Rattle.broadcast.specs.AllShown.{Down, App}
 use Rattle.fuxi_master.specs.Cores.{CoreRecord}
 
 abbrev pub slot_at : List (Option App) → ℕ → Option App

@@ -9,7 +9,7 @@ use Rattle.written_roles.specs.Masters.{Master}
 use Rattle.grant_table.specs.Tables.{as_known}
 use Rattle.settling.specs.Placing.{record_of}
 use Rattle.allotment.specs.Allotted.{AllotmentRecord, Allots, AllWait}
-use Rattle.broadcast.specs.Showing.{Down, App}
+use Rattle.broadcast.specs.AllShown.{Down, App}
 use Rattle.fuxi_master.specs.Cores.{IsDown, IsApp}
 
 -- the end of a channel with an agent that nothing was shown to

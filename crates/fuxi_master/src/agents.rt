@@ -5,7 +5,7 @@ ghost use Rattle.party_ledgers.specs.Packets.{IsFormed};
 ghost use Rattle.schedule_unit.specs.declared.party.Role.TheVariants.{Master as AsMaster, Agent as AsAgent};
 ghost use Rattle.written_net.specs.Net.{is_taken};
 ghost use Rattle.fuxi_master.specs.Cores.{IsCore};
-ghost use Rattle.fuxi_master.specs.Hearing.{IsAgentHeard, IsAdopted, IsDue};
+ghost use Rattle.fuxi_master.specs.Heard.{IsAgentHeard, IsAdopted, IsDue};
 ghost use Rattle.fuxi_master.specs.Seen.{core_of};
 
 use crate::state::{Core, news};
@@ -30,7 +30,7 @@ pub(crate) struct ReportLimit<'a> {
 }
 
 impl<'a> Limit<JoinLedger> for ReportLimit<'a> {
-    ghost use Rattle.fuxi_master.specs.Hearing.{excess_by};
+    ghost use Rattle.fuxi_master.specs.Heard.{excess_by};
 
     type Measure = ();
 

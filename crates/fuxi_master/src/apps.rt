@@ -10,7 +10,7 @@ ghost use Rattle.allotment.specs.Allotted.{AllWait};
 ghost use Rattle.party_ledgers.specs.Packets.{IsFormed};
 ghost use Rattle.schedule_unit.specs.declared.party.Role.TheVariants.{Master as AsMaster, App as AsApp};
 ghost use Rattle.fuxi_master.specs.Cores.{IsCore, IsNear, HasBoots};
-ghost use Rattle.fuxi_master.specs.Hearing.{IsAppHeard, Changes, IsCredited, IsDemanded, demanding, is_new_back, newly_credited};
+ghost use Rattle.fuxi_master.specs.Heard.{IsAppHeard, Changes, IsCredited, IsDemanded, demanding, is_new_back, newly_credited};
 ghost use Rattle.fuxi_master.specs.Seen.{core_of};
 
 use crate::state::Core;

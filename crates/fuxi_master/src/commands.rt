@@ -12,7 +12,7 @@ ghost use Rattle.fuxi_terms.specs.Numbers.{has_number};
 ghost use Rattle.schedule_unit.specs.declared.party.MachineNo.{MachineNo as MachineSeen};
 ghost use Rattle.allotment.specs.Allotted.{AllWait};
 ghost use Rattle.place_pass.specs.Placers.{IsUpToDate};
-ghost use Rattle.fuxi_master.specs.Hearing.{Changes, IsNews};
+ghost use Rattle.fuxi_master.specs.Heard.{Changes, IsNews};
 ghost use Rattle.fuxi_master.specs.Seen.{core_of};
 
 use crate::state::{Core, news};

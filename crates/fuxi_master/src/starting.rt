@@ -19,7 +19,7 @@ use fuxi_terms::OutOfMemory;
 use fuxi_terms::limits::MOST_JOBS;
 use hard_state::Known;
 use party_ledgers::{Demand, Grants, JoinLedger, RowLedger};
-use publishing::show_grants;
+use broadcast::show_grants;
 use schedule_unit::AppNo;
 use std::alloc::Global;
 use written_roles::step_ends;

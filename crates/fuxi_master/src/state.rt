@@ -8,10 +8,10 @@ ghost use Rattle.written_roles.specs.Masters.{Master};
 ghost use Rattle.written_roles.specs.Placing.{settled};
 ghost use Rattle.place_pass.specs.Placers.{IsUpToDate};
 ghost use Rattle.allotment.specs.Allotted.{Allots, AllWait, Touches};
-ghost use Rattle.broadcast.specs.Showing.{Down, HaveRoom};
+ghost use Rattle.broadcast.specs.AllShown.{Down, HaveRoom};
 ghost use Rattle.fuxi_master.specs.Cores.{IsKept, IsCore, IsWithin, IsWithinSoon};
 ghost use Rattle.fuxi_master.specs.Ends.{IsReadied, IsCoreReadied, IsPublished};
-ghost use Rattle.fuxi_master.specs.Hearing.{IsNews};
+ghost use Rattle.fuxi_master.specs.Heard.{IsNews};
 ghost use Rattle.fuxi_master.specs.Seen.{core_of};
 ghost use Rattle.fuxi_master.specs.Steps.{IsMid, HasRole, EndsAlike};
 

@@ -10,7 +10,7 @@ ghost use Rattle.written_roles.specs.MasterRoles.{MasterRole};
 ghost use Rattle.written_roles.specs.Votes.{most_votes, votes_in, votes_of};
 ghost use Rattle.fuxi_master.specs.Cores.{IsCore, StandsFor};
 ghost use Rattle.fuxi_master.specs.Seen.{core_of};
-ghost use Rattle.fuxi_master.specs.Voting.{AddsVotes, HasCounted, all_avoid, is_asked};
+ghost use Rattle.fuxi_master.specs.VoteCounts.{AddsVotes, HasCounted, all_avoid, is_asked};
 
 use crate::state::Core;
 use bad_nodes::Votes;

@@ -3,4 +3,4 @@ mod Walks
 mod Spots
 mod Loops
 mod Jobs
-mod Lining
+mod LineOfKnownJobs

@@ -3,7 +3,7 @@ use Rattle.std.proofs.Common.{ℕ, List, sym, ap, subst}
 use Rattle.fuxi_terms.specs.Keys.{RowKey}
 use Rattle.fuxi_terms.specs.Tallies.{TallyRecord}
 use Rattle.party_ledgers.specs.Joins.{JoinRecord}
-use Rattle.broadcast.specs.Showing.{Down, App as Grants}
+use Rattle.broadcast.specs.AllShown.{Down, App as Grants}
 use Rattle.written_net.specs.Net.{Net}
 use Rattle.written_net.specs.Ledgers.{Ledger}
 use Rattle.written_net.specs.Channels.{master_id, agent_id, app_id, party}

@@ -20,7 +20,7 @@ use Rattle.written_world.specs.Good.{Good}
 use Rattle.written_world.specs.Quiet.{is_quiet}
 use Rattle.written_world.specs.Safe.{RowsFit, place_for, grants_at, units_total_at, row_count}
 use Rattle.place_pass.specs.Placers.{asks_seen}
-use Rattle.broadcast.specs.Showing.{Down, App as Grants}
+use Rattle.broadcast.specs.AllShown.{Down, App as Grants}
 use Rattle.agent_core.specs.Standing.{AgentCore, table_in}
 use Rattle.app_master.specs.Apps.{AppCore}
 use Rattle.app_master.specs.Usable.{is_named}

@@ -1,5 +1,5 @@
 use Rattle.std.proofs.Common.{map, take}
-use Rattle.broadcast.specs.Showing.{spot_of}
+use Rattle.broadcast.specs.AllShown.{spot_of}
 use Rattle.broadcast.specs.OneJob.{counts_at, AreByJob}
 use Rattle.broadcast.proofs.grants.counts_by_job.Given as goal
 

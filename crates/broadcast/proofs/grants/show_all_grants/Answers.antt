@@ -1,5 +1,5 @@
 use Rattle.std.proofs.Common.{◌<◌, length, map, sym, subst, arith}
-use Rattle.broadcast.specs.Showing.{spot_of}
+use Rattle.broadcast.specs.AllShown.{spot_of}
 use Rattle.broadcast.specs.OneJob.{counts_at, AreNumbersOf, SlotIsShown}
 use Rattle.broadcast.proofs.InOrder.{counts_in_order}
 use Rattle.broadcast.proofs.Touched.{touched_sorted, touched_small}

@@ -1,5 +1,5 @@
 use Rattle.std.proofs.Common.{map}
-use Rattle.broadcast.specs.Showing.{spot_of}
+use Rattle.broadcast.specs.AllShown.{spot_of}
 use Rattle.broadcast.specs.OneJob.{counts_at, AreShown}
 use Rattle.broadcast.proofs.grants.show_all_grants.Given as goal
 

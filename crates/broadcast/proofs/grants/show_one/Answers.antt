@@ -4,12 +4,12 @@ use Rattle.fuxi_terms.specs.Counts.{AreCounts}
 use Rattle.fuxi_terms.specs.Keys.{key_cmp}
 use Rattle.fuxi_terms.specs.Tallies.{TallyRecord}
 use Rattle.fuxi_terms.specs.TallyKeys.{greatest_grant}
-use Rattle.publishing.specs.Setting.{AreNumbers}
-use Rattle.publishing.specs.Showing.{grants_set}
-use Rattle.broadcast.specs.Showing.{is_job}
+use Rattle.broadcast.specs.NumbersSet.{AreNumbers}
+use Rattle.broadcast.specs.Shown.{grants_set}
+use Rattle.broadcast.specs.AllShown.{is_job}
 use Rattle.broadcast.specs.OneJob.{numbers_of}
 use Rattle.broadcast.proofs.InOrder.{numbers_in_order}
-use Rattle.broadcast.proofs.Following.{Laws, ShowsNumbers, shown_quiet, grants_are_shown}
+use Rattle.broadcast.proofs.OneJobLemmas.{Laws, ShowsNumbers, shown_quiet, grants_are_shown}
 use Rattle.broadcast.proofs.grants.show_one.Goals as goal
 
 pub show_grants-requires-clause-numbers : goal.show_grants-requires-clause-numbers

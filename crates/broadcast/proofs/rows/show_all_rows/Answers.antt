@@ -1,12 +1,12 @@
 use Rattle.std.proofs.Common.{[], map, refl, subst, arith}
-use Rattle.publishing.specs.Setting.{numbers_set}
-use Rattle.publishing.specs.Showing.{number_of, Shows}
+use Rattle.broadcast.specs.NumbersSet.{numbers_set}
+use Rattle.broadcast.specs.Shown.{number_of, Shows}
 use Rattle.fuxi_terms.specs.Keys.{row_cmp}
 use Rattle.fuxi_terms.specs.Rows.{IsRow, patched_row}
 use Rattle.written_net.specs.Ledgers.{row_ledger}
 use Rattle.core_side.specs.Bodies.{report_of}
-use Rattle.broadcast.specs.Showing.{spot_of, is_machine}
-use Rattle.broadcast.specs.Touching.{numbers_of}
+use Rattle.broadcast.specs.AllShown.{spot_of, is_machine}
+use Rattle.broadcast.specs.TouchedNumbers.{numbers_of}
 use Rattle.broadcast.proofs.ShownRows.{shown_next, shown_all, turn, set_at, row_at}
 use Rattle.broadcast.proofs.rows.show_all_rows.Goals as goal
 

@@ -1,6 +1,6 @@
 use Rattle.std.proofs.Common.{map, take}
-use Rattle.broadcast.specs.Showing.{spot_of}
-use Rattle.broadcast.specs.Touching.{numbers_of, AreTouched}
+use Rattle.broadcast.specs.AllShown.{spot_of}
+use Rattle.broadcast.specs.TouchedNumbers.{numbers_of, AreTouched}
 use Rattle.broadcast.proofs.rows.touched.Given as goal
 
 abbrev pub invariant-loop-spot : goal.invariant-loop-spot

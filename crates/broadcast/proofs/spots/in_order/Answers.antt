@@ -1,5 +1,5 @@
 use Rattle.std.proofs.Common.{map, ◌∙◌, sym, ap, subst}
-use Rattle.broadcast.specs.Showing.{spot_of, has_spot, AreInOrder}
+use Rattle.broadcast.specs.AllShown.{spot_of, has_spot, AreInOrder}
 use Rattle.broadcast.proofs.InPlaces.{in_order, same_spots}
 use Rattle.broadcast.proofs.spots.in_order.Goals as goal
 

@@ -1,7 +1,7 @@
 use Rattle.std.proofs.Common.{◌≡◌, true, false, ◌∙◌, rules}
 use Rattle.written_roles.specs.MasterSteps.{is_kept}
 use Rattle.party_ledgers.specs.Entries.{entry_of}
-use Rattle.failover.proofs.Pushing.{row_with, more_kept, no_more_kept}
+use Rattle.failover.proofs.OneEntryMore.{row_with, more_kept, no_more_kept}
 use Rattle.failover.proofs.adopting.kept_entries.Goals as goal
 use Rattle.failover.proofs.adopting.kept_entries.Goals.{then-is_kept+in_ok-push, else-is_kept}
 

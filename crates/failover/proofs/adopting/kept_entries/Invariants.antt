@@ -1,5 +1,5 @@
 use Rattle.std.proofs.Common.{◌≡◌, take}
-use Rattle.failover.specs.Adopting.{kept_entries}
+use Rattle.failover.specs.KeptReports.{kept_entries}
 use Rattle.failover.proofs.adopting.kept_entries.Given as goal
 
 abbrev pub invariant-loop-index : goal.invariant-loop-index

@@ -5,8 +5,8 @@ use Rattle.fuxi_terms.specs.Vectors.{plus}
 use Rattle.fuxi_terms.specs.Rows.{IsRow, row_total}
 use Rattle.written_roles.specs.MasterSteps.{is_kept}
 use Rattle.party_ledgers.specs.Entries.{entry_of}
-use Rattle.failover.specs.Adopting.{kept_entries}
-use Rattle.failover.proofs.Pushing.{row_with, more_kept, no_more_kept}
+use Rattle.failover.specs.KeptReports.{kept_entries}
+use Rattle.failover.proofs.OneEntryMore.{row_with, more_kept, no_more_kept}
 use Rattle.failover.proofs.Totals.{row_push, room_for}
 use Rattle.failover.proofs.adopting.kept_total.Goals as goal
 use Rattle.failover.proofs.adopting.kept_total.Goals.{then-is_kept, else-is_kept}

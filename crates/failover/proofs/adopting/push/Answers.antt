@@ -7,7 +7,7 @@ use Rattle.std.proofs.lemmas.Int.{to_z_pos}
 use Rattle.fuxi_terms.specs.Keys.{RowKey}
 use Rattle.fuxi_terms.specs.Rows.{patched_row}
 use Rattle.party_ledgers.specs.Entries.{entry_of}
-use Rattle.failover.proofs.Pushing.{pushed, count_small, none_refused}
+use Rattle.failover.proofs.OneEntryMore.{pushed, count_small, none_refused}
 use Rattle.failover.proofs.adopting.push.Goals as goal
 
 pub returns : goal.returns

@@ -5,7 +5,7 @@ use Rattle.grant_table.specs.Tables.{as_known}
 use Rattle.fuxi_terms.specs.Keys.{key_cmp}
 use Rattle.fuxi_terms.specs.TallyKeys.{greatest_demand}
 use Rattle.fuxi_terms.specs.Tallies.{TallyRecord}
-use Rattle.fuxi_master.specs.Hearing.{IsCredited, newly_credited}
+use Rattle.fuxi_master.specs.Heard.{IsCredited, newly_credited}
 use Rattle.fuxi_master.proofs.Demanded.{dead_demanded, alive_demanded}
 use Rattle.fuxi_master.proofs.apps.demanded.Goals as goal
 

@@ -1,5 +1,5 @@
 use Rattle.std.proofs.Common.{◌≡◌, take}
-use Rattle.fuxi_master.specs.Hearing.{newly_credited}
+use Rattle.fuxi_master.specs.Heard.{newly_credited}
 use Rattle.fuxi_master.proofs.apps.newly_credited.Given as goal
 
 abbrev pub invariant-loop-index : goal.invariant-loop-index

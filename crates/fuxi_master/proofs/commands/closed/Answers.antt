@@ -1,7 +1,7 @@
 use Rattle.std.proofs.Common.{rules, ◌≡◌, ◌≤◌, length, ◌∙◌, ap, subst, arith}
 use Rattle.fuxi_terms.specs.Cluster.{ClusterRecord}
 use Rattle.grant_table.specs.Tables.{TableRecord, IsSound}
-use Rattle.fuxi_master.proofs.Closing.{closed_beyond, closed_there}
+use Rattle.fuxi_master.proofs.ClosedMachines.{closed_beyond, closed_there}
 use Rattle.fuxi_master.proofs.commands.closed.Goals as goal
 
 pub returns-then-machine-machines : goal.returns-then-machine-machines

@@ -1,7 +1,7 @@
 use Rattle.std.proofs.Common.{rules, ◌≡◌, ◌≤◌, Bool, length, ◌∙◌, ap, subst, arith}
 use Rattle.fuxi_terms.specs.Cluster.{ClusterRecord}
 use Rattle.grant_table.specs.Tables.{TableRecord}
-use Rattle.fuxi_master.proofs.Closing.{Opens, opened_beyond, opened_there}
+use Rattle.fuxi_master.proofs.ClosedMachines.{Opens, opened_beyond, opened_there}
 use Rattle.fuxi_master.proofs.commands.opened.Goals as goal
 
 pub returns-then-machine-machines : goal.returns-then-machine-machines

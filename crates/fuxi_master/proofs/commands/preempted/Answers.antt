@@ -1,7 +1,7 @@
 use Rattle.std.proofs.Common.{sym, ◌∙◌, ap}
 use Rattle.std.specs.Option.{option_map}
 use Rattle.preempt.specs.Plans.{plan_as}
-use Rattle.fuxi_master.proofs.Preempting.{room_made}
+use Rattle.fuxi_master.proofs.RoomMade.{room_made}
 use Rattle.fuxi_master.proofs.commands.preempted.Goals as goal
 
 pub returns : goal.returns

@@ -1,5 +1,5 @@
 use Rattle.std.proofs.Common.{length, sym, ◌∙◌, arith}
-use Rattle.fuxi_master.proofs.Shutting.{all_shut, none_shut, one_shut, one_usable}
+use Rattle.fuxi_master.proofs.BannedShut.{all_shut, none_shut, one_shut, one_usable}
 use Rattle.fuxi_master.proofs.votes.banned_shut.Goals as goal
 
 pub loop-number-init : goal.loop-number-init

@@ -1,5 +1,5 @@
 use Rattle.std.proofs.Common.{length}
-use Rattle.fuxi_master.proofs.Shutting.{AreShut}
+use Rattle.fuxi_master.proofs.BannedShut.{AreShut}
 use Rattle.fuxi_master.proofs.votes.banned_shut.Given as goal
 
 abbrev pub invariant-loop-number : goal.invariant-loop-number

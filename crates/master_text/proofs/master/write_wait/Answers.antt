@@ -4,7 +4,7 @@ use Rattle.written_world.specs.Outputs.{Wait}
 use Rattle.master_text.specs.Lines.{wait_line}
 use Rattle.schedule_text.specs.Lines.{line_text}
 use Rattle.written_state.proofs.ShowsLemmas.{shows_same, one_item}
-use Rattle.master_text.proofs.Lining.{unit_there}
+use Rattle.master_text.proofs.LineOfKnownJobs.{unit_there}
 use Rattle.master_text.proofs.master.write_wait.Goals as goal
 
 pub returns-in-Ok-clause-ok : goal.returns-in-Ok-clause-ok

@@ -8,9 +8,9 @@ use Rattle.hard_state.specs.Knowledge.{Knowledge}
 use Rattle.broadcast.specs.declared.grants.News.{News}
 use Rattle.std.specs.Prelude.{Some, None}
 use Rattle.fuxi_master.specs.Commands.{changed_by, admitting}
-use Rattle.fuxi_master.specs.Hearing.{Changes}
+use Rattle.fuxi_master.specs.Heard.{Changes}
 use Rattle.fuxi_master.specs.Seen.{core_of}
-use Rattle.fuxi_master.proofs.Admitting.{job_admitted, admitted_at}
+use Rattle.fuxi_master.proofs.JobAdmitted.{job_admitted, admitted_at}
 use Rattle.fuxi_master.proofs.Machines.{kept_below}
 use Rattle.fuxi_master.proofs.state.Core.admit.Goals as goal
 

@@ -7,15 +7,15 @@ use Rattle.fuxi_terms.specs.Numbers.{has_number}
 use Rattle.fuxi_terms.specs.Padded.{padded}
 use Rattle.fuxi_terms.specs.Cluster.{ClusterRecord, machine_of}
 use Rattle.fuxi_terms.specs.Rows.{row_total}
-use Rattle.failover.specs.Adopting.{kept_of}
+use Rattle.failover.specs.KeptReports.{kept_of}
 use Rattle.failover.specs.Reported.{Reported}
 use Rattle.grant_table.specs.Tables.{TableRecord, IsSound, as_known}
 use Rattle.party_ledgers.specs.Joins.{JoinRecord}
 use Rattle.settling.specs.Placing.{has_spot}
-use Rattle.fuxi_master.specs.Hearing.{Changes, adopting_role}
+use Rattle.fuxi_master.specs.Heard.{Changes, adopting_role}
 use Rattle.fuxi_master.specs.Seen.{core_of}
 use Rattle.fuxi_master.proofs.Adopted.{IsEntered, adopted_changes, adopted_lined}
-use Rattle.fuxi_master.proofs.Adopting.{IsUnitOf, kept_units, kept_fits}
+use Rattle.fuxi_master.proofs.ReportAdopted.{IsUnitOf, kept_units, kept_fits}
 use Rattle.fuxi_master.proofs.AgentHeard.{has_is}
 use Rattle.fuxi_master.proofs.Indexed.{got_from}
 use Rattle.fuxi_master.proofs.state.Core.adopt_report.Goals as goal

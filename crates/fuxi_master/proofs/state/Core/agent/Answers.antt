@@ -2,7 +2,7 @@ use Rattle.std.proofs.Common.{length, refl}
 use Rattle.std.proofs.lemmas.Option.{slice_get_read}
 use Rattle.schedule_unit.specs.declared.party.Role.TheVariants.{Agent as AsAgent}
 use Rattle.fuxi_master.specs.Seen.{core_of}
-use Rattle.fuxi_master.proofs.Turning.{agent_peer}
+use Rattle.fuxi_master.proofs.TurnPackets.{agent_peer}
 use Rattle.fuxi_master.proofs.state.Core.agent.Goals as goal
 
 pub returns-clause-there : goal.returns-clause-there

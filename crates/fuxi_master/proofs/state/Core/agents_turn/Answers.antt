@@ -1,7 +1,7 @@
 use Rattle.std.proofs.Common.{length, refl, arith}
 use Rattle.std.proofs.lemmas.Option.{slice_get_read}
 use Rattle.fuxi_master.specs.Seen.{core_of}
-use Rattle.fuxi_master.proofs.Turning.{agent_next}
+use Rattle.fuxi_master.proofs.TurnPackets.{agent_next}
 use Rattle.fuxi_master.proofs.state.Core.agents_turn.Goals as goal
 
 pub loop-number-preserved : goal.loop-number-preserved

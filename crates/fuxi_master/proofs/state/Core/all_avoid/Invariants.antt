@@ -1,6 +1,6 @@
 use Rattle.std.proofs.Common.{◌≡◌, true, take}
 use Rattle.fuxi_master.specs.Seen.{core_of}
-use Rattle.fuxi_master.specs.Voting.{all_avoid}
+use Rattle.fuxi_master.specs.VoteCounts.{all_avoid}
 use Rattle.fuxi_master.proofs.state.Core.all_avoid.Given as goal
 
 abbrev pub invariant-loop-unit : goal.invariant-loop-unit

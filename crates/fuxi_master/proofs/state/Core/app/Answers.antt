@@ -1,7 +1,7 @@
 use Rattle.std.proofs.Common.{Option, Some, length, refl, ◌∙◌, ap}
 use Rattle.std.proofs.lemmas.Option.{slice_get_read}
 use Rattle.fuxi_master.specs.Seen.{core_of}
-use Rattle.fuxi_master.proofs.Turning.{app_below, app_there}
+use Rattle.fuxi_master.proofs.TurnPackets.{app_below, app_there}
 use Rattle.fuxi_master.proofs.state.Core.app.Goals as goal
 
 pub unreachable-requires : goal.unreachable-requires

@@ -6,7 +6,7 @@ use Rattle.fuxi_terms.specs.Jobs.{is_known, job_numbers}
 use Rattle.written_net.specs.Channels.{app_id}
 use Rattle.core_side.specs.Parcels.{parcel_is}
 use Rattle.fuxi_master.specs.Seen.{core_of}
-use Rattle.fuxi_master.proofs.Turning.{sent_to, all_known, app_next, app_passed, slot_known}
+use Rattle.fuxi_master.proofs.TurnPackets.{sent_to, all_known, app_next, app_passed, slot_known}
 use Rattle.fuxi_master.proofs.state.Core.apps_turn.Goals as goal
 
 pub loop-number-preserved-in_default : goal.loop-number-preserved-in_default

@@ -8,7 +8,7 @@ use Rattle.written_roles.specs.MasterRoles.{MasterRole}
 use Rattle.core_side.specs.Parcels.{parcel_is}
 use Rattle.fuxi_master.specs.Cores.{StandsFor}
 use Rattle.fuxi_master.specs.Seen.{core_of}
-use Rattle.fuxi_master.proofs.Turning.{sent_to}
+use Rattle.fuxi_master.proofs.TurnPackets.{sent_to}
 use Rattle.fuxi_master.proofs.state.Core.apps_turn.Given as goal
 
 abbrev pub invariant-loop-number : goal.invariant-loop-number

@@ -3,9 +3,9 @@ use Rattle.grant_table.specs.Tables.{IsSound}
 use Rattle.hard_state.specs.Knowledge.{Knowledge}
 use Rattle.written_roles.specs.MasterSteps.{banned_in}
 use Rattle.fuxi_master.specs.Commands.{changed_by}
-use Rattle.fuxi_master.specs.Hearing.{Changes}
+use Rattle.fuxi_master.specs.Heard.{Changes}
 use Rattle.fuxi_master.specs.Seen.{core_of}
-use Rattle.fuxi_master.proofs.Commanding.{banned}
+use Rattle.fuxi_master.proofs.CommandsLemmas.{banned}
 use Rattle.fuxi_master.proofs.state.Core.ban.Goals as goal
 
 pub returns-clause-changes : goal.returns-clause-changes

@@ -5,8 +5,8 @@ use Rattle.fuxi_terms.specs.Jobs.{unit_count}
 use Rattle.fuxi_terms.specs.Lists.{below}
 use Rattle.schedule_unit.specs.declared.party.UnitNo.{UnitNo}
 use Rattle.fuxi_master.specs.Seen.{core_of}
-use Rattle.fuxi_master.specs.Voting.{AddsVotes, all_avoid, is_asked}
-use Rattle.fuxi_master.proofs.Voting.{as_machines, ended_counted, few_counted, found_there, marked_counted, number_of, units_are, unwanted_counted}
+use Rattle.fuxi_master.specs.VoteCounts.{AddsVotes, all_avoid, is_asked}
+use Rattle.fuxi_master.proofs.VoteCountsLemmas.{as_machines, ended_counted, few_counted, found_there, marked_counted, number_of, units_are, unwanted_counted}
 use Rattle.fuxi_master.proofs.state.Core.count.Goals as goal
 
 pub returns-then-ended : goal.returns-then-ended

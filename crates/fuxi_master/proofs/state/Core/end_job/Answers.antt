@@ -5,10 +5,10 @@ use Rattle.grant_table.specs.Tables.{TableRecord, as_known, IsSound}
 use Rattle.hard_state.specs.Knowledge.{Knowledge}
 use Rattle.written_roles.specs.MasterSteps.{ended_in}
 use Rattle.fuxi_master.specs.Commands.{changed_by}
-use Rattle.fuxi_master.specs.Hearing.{Changes}
+use Rattle.fuxi_master.specs.Heard.{Changes}
 use Rattle.fuxi_master.specs.Seen.{core_of}
-use Rattle.fuxi_master.proofs.Commanding.{job_ended}
-use Rattle.fuxi_master.proofs.Knowing.{has_units}
+use Rattle.fuxi_master.proofs.CommandsLemmas.{job_ended}
+use Rattle.fuxi_master.proofs.KnownJobs.{has_units}
 use Rattle.fuxi_master.proofs.state.Core.end_job.Goals as goal
 
 pub asked-requires : goal.asked-requires

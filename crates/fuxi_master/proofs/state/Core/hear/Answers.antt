@@ -3,7 +3,7 @@ use Rattle.fuxi_terms.specs.Jobs.{is_known}
 use Rattle.written_roles.specs.MasterSteps.{talks}
 use Rattle.core_side.specs.Parcels.{id_of}
 use Rattle.fuxi_master.specs.Seen.{core_of}
-use Rattle.fuxi_master.proofs.Stepping.{wider, stranger_hears, agent_unknown, app_unknown}
+use Rattle.fuxi_master.proofs.StepsLemmas.{wider, stranger_hears, agent_unknown, app_unknown}
 use Rattle.fuxi_master.proofs.state.Core.hear.Goals as goal
 
 pub returns-then-not-is_for_master : goal.returns-then-not-is_for_master

@@ -1,7 +1,7 @@
 use Rattle.std.proofs.Common.{◌<◌, length, ◌∙◌, ap, arith}
 use Rattle.grant_table.specs.Tables.{TableRecord}
 use Rattle.fuxi_master.specs.Seen.{core_of}
-use Rattle.fuxi_master.proofs.AgentHearing.{to_master}
+use Rattle.fuxi_master.proofs.AgentHeardAlike.{to_master}
 use Rattle.fuxi_master.proofs.AgentHeard.{test_in, made_test, heard_core, heard_within, heard_alike, heard_due}
 use Rattle.fuxi_master.proofs.Indexed.{got_from}
 use Rattle.fuxi_master.proofs.state.Core.hear_agent.Goals as goal

@@ -1,6 +1,6 @@
 use Rattle.std.proofs.Common.{◌≡◌, ◌<◌, true, false, length, Some, None, ◌∙◌, ap, arith}
 use Rattle.fuxi_master.specs.Seen.{core_of}
-use Rattle.fuxi_master.proofs.AgentHearing.{to_master}
+use Rattle.fuxi_master.proofs.AgentHeardAlike.{to_master}
 use Rattle.fuxi_master.proofs.AppHeard.{heard_near, heard_boots, heard_within, heard_alike, app_number}
 use Rattle.fuxi_master.proofs.Indexed.{got_from}
 use Rattle.fuxi_master.proofs.state.Core.hear_app.Goals as goal

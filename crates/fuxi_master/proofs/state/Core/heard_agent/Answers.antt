@@ -1,7 +1,7 @@
 use Rattle.std.proofs.Common.{rules, ◌≡◌, true, false, ap}
 use Rattle.core_side.specs.Parcels.{id_of}
 use Rattle.fuxi_master.specs.Seen.{core_of}
-use Rattle.fuxi_master.proofs.Stepping.{wider, has_role, agent_quiet, agent_adopted, agent_talks, few_turns}
+use Rattle.fuxi_master.proofs.StepsLemmas.{wider, has_role, agent_quiet, agent_adopted, agent_talks, few_turns}
 use Rattle.fuxi_master.proofs.state.Core.heard_agent.Goals as goal
 
 pub returns-then-not-due : goal.returns-then-not-due

@@ -2,7 +2,7 @@ use Rattle.std.proofs.Common.{rules, ◌≡◌, false, sym, ◌∙◌, ap}
 use Rattle.core_side.specs.Parcels.{id_of}
 use Rattle.fuxi_master.specs.Seen.{core_of}
 use Rattle.fuxi_master.proofs.AppHeard.{app_number}
-use Rattle.fuxi_master.proofs.Stepping.{wider, has_role, app_quiet, app_quiet_core, app_changed, app_talks}
+use Rattle.fuxi_master.proofs.StepsLemmas.{wider, has_role, app_quiet, app_quiet_core, app_changed, app_talks}
 use Rattle.fuxi_master.proofs.state.Core.heard_app.Goals as goal
 
 pub returns-then-not-taken : goal.returns-then-not-taken

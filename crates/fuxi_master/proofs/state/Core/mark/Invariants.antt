@@ -1,7 +1,7 @@
 use Rattle.std.proofs.Common.{nat_lt}
 use Rattle.std.specs.Prelude.{◌&&◌}
 use Rattle.fuxi_master.specs.Seen.{core_of}
-use Rattle.fuxi_master.specs.Voting.{AddsVotes, all_avoid}
+use Rattle.fuxi_master.specs.VoteCounts.{AddsVotes, all_avoid}
 use Rattle.fuxi_master.proofs.state.Core.mark.Given as goal
 
 abbrev pub invariant-loop-number : goal.invariant-loop-number

@@ -2,7 +2,7 @@ use Rattle.std.proofs.Common.{◌≡◌, [], map, sym, ◌∙◌, ap, subst}
 use Rattle.fuxi_terms.specs.Keys.{Spot}
 use Rattle.grant_table.specs.Tables.{TableRecord}
 use Rattle.allotment.specs.Allotted.{AllotmentRecord}
-use Rattle.broadcast.specs.Showing.{spot_of, has_spot, RowsAreBefore, GrantsAreBefore, ShowsRows, ShowsAllGrants}
+use Rattle.broadcast.specs.AllShown.{spot_of, has_spot, RowsAreBefore, GrantsAreBefore, ShowsRows, ShowsAllGrants}
 use Rattle.fuxi_master.specs.Ends.{IsPublished}
 use Rattle.fuxi_master.specs.Seen.{core_of}
 use Rattle.fuxi_master.proofs.Ordered.{rows_same, grants_same}

@@ -1,7 +1,7 @@
 use Rattle.std.proofs.Common.{rules, ◌≡◌, refl}
 use Rattle.std.specs.Prelude.{◌||◌}
 use Rattle.failover.specs.Reported.{are_all_in}
-use Rattle.fuxi_master.proofs.Standing.{stands_readied}
+use Rattle.fuxi_master.proofs.StepEnds.{stands_readied}
 use Rattle.fuxi_master.specs.Seen.{core_of}
 use Rattle.fuxi_master.proofs.state.Core.readied.Goals as goal
 

@@ -2,7 +2,7 @@ use Rattle.std.proofs.Common.{◌≡◌, sym, subst}
 use Rattle.written_roles.specs.MasterRoles.{master_resynced}
 use Rattle.fuxi_master.specs.Cores.{CoreRecord, IsCore, IsWithin, StandsFor}
 use Rattle.fuxi_master.specs.Seen.{core_of}
-use Rattle.fuxi_master.proofs.Forgetting.{forgotten, core_forgotten, within_forgotten, stands_forgotten}
+use Rattle.fuxi_master.proofs.ResyncsLemmas.{forgotten, core_forgotten, within_forgotten, stands_forgotten}
 use Rattle.fuxi_master.proofs.state.Core.resync.Goals as goal
 
 pub returns-clause-core : goal.returns-clause-core

@@ -3,8 +3,8 @@ use Rattle.fuxi_master.specs.Seen.{core_of}
 use Rattle.fuxi_master.specs.Steps.{IsStep}
 use Rattle.fuxi_master.specs.declared.event.MasterEvent.{MasterEvent}
 use Rattle.fuxi_master.specs.declared.event.Outcome.TheVariants.{Done, Sent, Heard as HeardOne}
-use Rattle.fuxi_master.proofs.Stepping.{wider}
-use Rattle.fuxi_master.proofs.Answering.{heard_one, sent_all, sent_one}
+use Rattle.fuxi_master.proofs.StepsLemmas.{wider}
+use Rattle.fuxi_master.proofs.AnswersAlike.{heard_one, sent_all, sent_one}
 use Rattle.fuxi_master.proofs.state.Core.step.Goals as goal
 
 pub returns-in_ok-core-in-Packet : goal.returns-in_ok-core-in-Packet

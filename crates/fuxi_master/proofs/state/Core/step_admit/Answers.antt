@@ -3,8 +3,8 @@ use Rattle.written_roles.specs.MasterSteps.{Admits}
 use Rattle.written_net.specs.Channels.{app_id}
 use Rattle.fuxi_master.specs.Commands.{admitting}
 use Rattle.fuxi_master.specs.Seen.{core_of}
-use Rattle.fuxi_master.proofs.Stepping.{has_role}
-use Rattle.fuxi_master.proofs.Answering.{commanded, named_by}
+use Rattle.fuxi_master.proofs.StepsLemmas.{has_role}
+use Rattle.fuxi_master.proofs.AnswersAlike.{commanded, named_by}
 use Rattle.fuxi_master.proofs.state.Core.step_admit.Goals as goal
 
 pub finished-requires-clause-role : goal.finished-requires-clause-role

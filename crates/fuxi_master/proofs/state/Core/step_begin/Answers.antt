@@ -5,8 +5,8 @@ use Rattle.fuxi_master.specs.Seen.{core_of}
 use Rattle.fuxi_master.specs.declared.event.MasterEvent.TheVariants.{Begin}
 use Rattle.fuxi_master.specs.declared.event.Outcome.TheVariants.{Refused}
 use Rattle.fuxi_master.specs.declared.event.MasterRefusal.TheVariants.{AlreadyServing}
-use Rattle.fuxi_master.proofs.Stepping.{has_role}
-use Rattle.fuxi_master.proofs.Answering.{commanded, named_by, begins, begins_refused, stays}
+use Rattle.fuxi_master.proofs.StepsLemmas.{has_role}
+use Rattle.fuxi_master.proofs.AnswersAlike.{commanded, named_by, begins, begins_refused, stays}
 use Rattle.fuxi_master.proofs.state.Core.step_begin.Goals as goal
 
 pub returns-then-self : goal.returns-then-self

@@ -1,8 +1,8 @@
 use Rattle.std.proofs.Common.{[], None, refl}
 use Rattle.written_roles.specs.MasterSteps.{Ends, ended_in}
 use Rattle.fuxi_master.specs.Seen.{core_of}
-use Rattle.fuxi_master.proofs.Stepping.{has_role}
-use Rattle.fuxi_master.proofs.Answering.{commanded, named_by}
+use Rattle.fuxi_master.proofs.StepsLemmas.{has_role}
+use Rattle.fuxi_master.proofs.AnswersAlike.{commanded, named_by}
 use Rattle.fuxi_master.proofs.state.Core.step_finish.Goals as goal
 
 pub finished-requires-clause-role : goal.finished-requires-clause-role

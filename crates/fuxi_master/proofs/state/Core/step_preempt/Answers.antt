@@ -5,8 +5,8 @@ use Rattle.fuxi_master.specs.Seen.{core_of}
 use Rattle.fuxi_master.specs.declared.event.MasterEvent.TheVariants.{Preempt}
 use Rattle.fuxi_master.specs.declared.event.Outcome.TheVariants.{Refused}
 use Rattle.fuxi_master.specs.declared.event.MasterRefusal.TheVariants.{NotServing, NothingToPreempt}
-use Rattle.fuxi_master.proofs.Stepping.{few_turns}
-use Rattle.fuxi_master.proofs.Answering.{preempt_not_serving, preempt_nothing, has_room, room_made, stays}
+use Rattle.fuxi_master.proofs.StepsLemmas.{few_turns}
+use Rattle.fuxi_master.proofs.AnswersAlike.{preempt_not_serving, preempt_nothing, has_room, room_made, stays}
 use Rattle.fuxi_master.proofs.state.Core.step_preempt.Goals as goal
 
 pub returns-then-not-self : goal.returns-then-not-self

@@ -4,7 +4,7 @@ use Rattle.written_net.specs.Channels.{agent_id, app_id}
 use Rattle.core_side.specs.Parcels.{id_of, parcel_is}
 use Rattle.fuxi_master.specs.Seen.{core_of}
 use Rattle.fuxi_master.specs.Steps.{is_peer}
-use Rattle.fuxi_master.proofs.Turning.{sent_to, agent_sent, app_sent}
+use Rattle.fuxi_master.proofs.TurnPackets.{sent_to, agent_sent, app_sent}
 use Rattle.fuxi_master.proofs.state.Core.turn_to.Goals as goal
 
 pub agent-requires-clause-peer : goal.agent-requires-clause-peer

@@ -2,9 +2,9 @@ use Rattle.std.proofs.Common.{sym, subst}
 use Rattle.grant_table.specs.Tables.{IsSound}
 use Rattle.hard_state.specs.Knowledge.{Knowledge}
 use Rattle.fuxi_master.specs.Commands.{changed_by, unbanned_in}
-use Rattle.fuxi_master.specs.Hearing.{Changes}
+use Rattle.fuxi_master.specs.Heard.{Changes}
 use Rattle.fuxi_master.specs.Seen.{core_of}
-use Rattle.fuxi_master.proofs.Commanding.{unbanned}
+use Rattle.fuxi_master.proofs.CommandsLemmas.{unbanned}
 use Rattle.fuxi_master.proofs.state.Core.unban.Goals as goal
 
 pub returns-clause-changes : goal.returns-clause-changes

@@ -1,6 +1,6 @@
 use Rattle.std.proofs.Common.{refl, ap, ◌∙◌, arith}
 use Rattle.fuxi_master.specs.Seen.{core_of}
-use Rattle.fuxi_master.proofs.Voting.{all_counted, none_counted}
+use Rattle.fuxi_master.proofs.VoteCountsLemmas.{all_counted, none_counted}
 use Rattle.fuxi_master.proofs.state.Core.votes.Goals as goal
 
 pub loop-index-init : goal.loop-index-init

@@ -1,8 +1,8 @@
 use Rattle.std.proofs.Common.{◌≡◌, true, false, arith}
 use Rattle.std.proofs.lemmas.Bool.Decides.{nat_tests}
 use Rattle.fuxi_master.specs.Seen.{core_of}
-use Rattle.fuxi_master.specs.Voting.{is_asked}
-use Rattle.fuxi_master.proofs.Voting.{unit_fails, unit_passes}
+use Rattle.fuxi_master.specs.VoteCounts.{is_asked}
+use Rattle.fuxi_master.proofs.VoteCountsLemmas.{unit_fails, unit_passes}
 use Rattle.fuxi_master.proofs.state.Core.wanted_units.Goals as goal
 
 pub loop-number-preserved-then-wanted-eq0 : goal.loop-number-preserved-then-wanted-eq0

@@ -1,0 +1,61 @@
+-- When a peer is shown a ledger by a change that is posted, and by none.
+use Rattle.std.proofs.Common.{◌≡◌, ℕ, ◌+◌, Bool, true, false, not, nat_eq, List, [], ◌∷◌, length, Result, Ok, refl, sym, ◌∙◌, ap, subst, arith}
+use Rattle.std.specs.Prelude.{◌||◌}
+use Rattle.std.proofs.lemmas.Bool.Decides.{nat_tests}
+use Rattle.fuxi_terms.specs.declared.answers.LedgerFault.{LedgerFault}
+use Rattle.full_sync.specs.Turns.{Endpoint}
+use Rattle.written_net.specs.Ledgers.{Ledger}
+use Rattle.written_net.specs.Sides.{Side, appended}
+use Rattle.core_side.specs.Sides.{IsSide, PostsAlike, IsShown}
+use Rattle.broadcast.specs.Shown.{Shows}
+
+module _ {V D W : Type 0} (nothing : V) (patched : V → D → Result V LedgerFault) (valid : V → Type 0) (out : V → Ledger) (inward : W → Ledger) where
+  pub shown_posted : (forced : Bool) (ledger : V) (change : D) (old new : Endpoint V D W) → patched old.outgoing.present change ≡ Ok ledger → patched old.outgoing.present change ≡ Ok new.outgoing.present
+      → PostsAlike nothing patched valid out inward old new → (forced ≡ false → out old.outgoing.present ≡ out ledger → ⊥) → new.outgoing.last ≡ old.outgoing.last + 1 → new.outgoing.own ≡ old.outgoing.own → new ≡ record old { outgoing = new.outgoing }
+      → Shows nothing patched valid out inward forced ledger old new
+  shown_posted forced ledger change old new leads made posts differs last own rest =
+      let both : Ok new.outgoing.present ≡ Ok ledger = sym made ∙ leads in
+      let same : new.outgoing.present ≡ ledger = cc in
+      record {
+        present = same;
+        side = λ inc e s. subst (λ l. IsSide nothing patched valid out inward new inc (appended forced (out l) e)) same (by forced refl inc e s);
+        last = omega (arith, last);
+        own = own;
+        rest = rest;
+      }
+    where
+      by : (b : Bool) → forced ≡ b → (inc : ℕ) (e : Side) → IsSide nothing patched valid out inward old inc e → IsSide nothing patched valid out inward new inc (appended b (out new.outgoing.present) e)
+      by true is inc e s = (posts inc e s).forced
+      by false is inc e s = (posts inc e s).differing (λ h. let both : Ok new.outgoing.present ≡ Ok ledger = sym made ∙ leads in let same : new.outgoing.present ≡ ledger = cc in differs is (h ∙ ap out same))
+
+  pub shown_kept : (forced : Bool) (ledger : V) (old : Endpoint V D W) → forced ≡ false → old.outgoing.present ≡ ledger → IsShown nothing patched valid out inward old → Shows nothing patched valid out inward forced ledger old old
+  shown_kept forced ledger old not_forced same shown = record {
+    present = same;
+    side = λ inc e s. subst (λ b. IsSide nothing patched valid out inward old inc (appended b (out ledger) e)) (sym not_forced)
+        (subst (λ l. IsSide nothing patched valid out inward old inc (appended false (out l) e)) same (subst (IsSide nothing patched valid out inward old inc) (sym (shown inc e s)) s));
+    last = omega arith;
+    own = refl;
+    rest = refl;
+  }
+
+-- nothing is due
+pub not_due : {A : Type 0} (forced : Bool) (xs : List A) (other : Bool) → (forced || not (nat_eq (length xs) 0) || other) ≡ false → (forced ≡ false) × (xs ≡ []) × (other ≡ false)
+not_due true xs other h = cc
+not_due false [] true h = cc
+not_due false [] false h = (refl, refl, refl)
+not_due false (x ∷ xs) other h = let t : nat_eq (length (x ∷ xs)) 0 ≡ false = grind (arith, nat_tests) in let f : (not (nat_eq (length (x ∷ xs)) 0) || other) ≡ true = ap (λ b. not b || other) t in cc
+
+pub is_empty_due : {A : Type 0} (forced : Bool) (xs : List A) (other : Bool) → (forced || not (nat_eq (length xs) 0) || other) ≡ true → forced ≡ false → xs ≡ [] → other ≡ true
+is_empty_due true xs other h f e = cc
+is_empty_due false [] other h f e = h
+is_empty_due false (x ∷ xs) other h f e = cc
+
+pub not_due_alone : {A : Type 0} (forced : Bool) (xs : List A) → (forced || not (nat_eq (length xs) 0)) ≡ false → (forced ≡ false) × (xs ≡ [])
+not_due_alone true xs h = cc
+not_due_alone false [] h = (refl, refl)
+not_due_alone false (x ∷ xs) h = let t : nat_eq (length (x ∷ xs)) 0 ≡ false = grind (arith, nat_tests) in let f : not (nat_eq (length (x ∷ xs)) 0) ≡ true = ap not t in cc
+
+pub due_alone : {A : Type 0} (forced : Bool) (xs : List A) → (forced || not (nat_eq (length xs) 0)) ≡ true → forced ≡ false → xs ≡ [] → ⊥
+due_alone true xs h f e = cc
+due_alone false [] h f e = cc
+due_alone false (x ∷ xs) h f e = cc
