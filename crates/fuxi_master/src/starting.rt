@@ -12,6 +12,7 @@ ghost use Rattle.fuxi_master.specs.Starts.{IsDownStarted, IsAppStarted, AreAppsS
 
 use crate::state::Core;
 use allotment::Allotment;
+use broadcast::show_grants;
 use cluster_desc::Cluster;
 use core_side::Side;
 use failover::Machines;
@@ -19,7 +20,6 @@ use fuxi_terms::OutOfMemory;
 use fuxi_terms::limits::MOST_JOBS;
 use hard_state::Known;
 use party_ledgers::{Demand, Grants, JoinLedger, RowLedger};
-use broadcast::show_grants;
 use schedule_unit::AppNo;
 use std::alloc::Global;
 use written_roles::step_ends;
