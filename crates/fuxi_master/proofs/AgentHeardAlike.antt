@@ -27,6 +27,7 @@ use Rattle.core_side.specs.Sides.{HearsAlike, Hears}
 use Rattle.broadcast.specs.AllShown.{Down}
 use Rattle.fuxi_master.specs.Cores.{CoreRecord, IsDown, StandsFor}
 use Rattle.fuxi_master.specs.Heard.{ReportTest, excess_by, heard_of, with_heard, HearsAgent}
+use Rattle.fuxi_master.proofs.EndsOfChannels.{stands_at_ends}
 use Rattle.fuxi_master.proofs.Indexed.{each_set}
 
 -- what is tested of a report, in the words of the master
@@ -77,26 +78,13 @@ module _ (x : CoreRecord) (m : ℕ) (old new : Down) (packet : Packet) (heard : 
       (hears (master_party r.state) (r.sides (agent_id m)) (subst (λ n. IsDown old n (r.sides (agent_id m))) (sym h.stands.epoch) (h.stands.agents m old at)) to)
 
   pub stands_heard : StandsFor after (with_heard r (agent_id m) side)
-  stands_heard = record {
-    stands = record {
-      cluster = h.stands.cluster;
-      epoch = h.stands.epoch;
-      jobs = h.stands.jobs;
-      bans = h.stands.bans;
-      serving = h.stands.serving;
-      reported = h.stands.reported;
-      allots = h.stands.allots;
-      tidy = h.stands.tidy;
-      agents = each_set (λ n d. IsDown d x.epoch (set_side r.sides (agent_id m) side.side (agent_id n))) x.agents m new lt
+  stands_heard = stands_at_ends x r h (set x.agents m new) x.apps (set_side r.sides (agent_id m) side.side)
+      (each_set (λ n d. IsDown d x.epoch (set_side r.sides (agent_id m) side.side (agent_id n))) x.agents m new lt
           (subst (λ b. IsDown new x.epoch (elim b as (λ _. Side) [ true ↦ side.side | false ↦ r.sides (agent_id m) ])) (sym (nat_itself m)) (subst (λ n. IsDown new n side.side) h.stands.epoch heard_side.side))
-          (λ n d other e. subst (λ b. IsDown d x.epoch (elim b as (λ _. Side) [ true ↦ side.side | false ↦ r.sides (agent_id n) ])) (sym other) (h.stands.agents n d e));
-      apps = h.stands.apps;
-      credited = h.stands.credited;
-      unheard = h.stands.unheard;
-      uncredited = h.stands.uncredited;
-    };
-    ready = h.ready;
-  }
+          (λ n d other e. subst (λ b. IsDown d x.epoch (elim b as (λ _. Side) [ true ↦ side.side | false ↦ r.sides (agent_id n) ])) (sym other) (h.stands.agents n d e)))
+      h.stands.apps
+      h.stands.credited
+      h.stands.unheard
 
   pub hears_agent : (due : Bool) → due ≡ (is_taken heard.what && (nat_eq new.incoming.received.epoch x.epoch && not test.reported)) → HearsAgent m packet heard due after r
   hears_agent due made = record {

@@ -1,5 +1,5 @@
 -- What a core answers a command is what the master by itself answers.
-use Rattle.std.proofs.Common.{◌≡◌, ℕ, true, false, not, List, [], ◌∷◌, ◌++◌, map, Option, None, Ok, Err, refl, sym, ◌∙◌, ap, subst}
+use Rattle.std.proofs.Common.{◌≡◌, ℕ, ◌+◌, true, false, not, List, [], ◌∷◌, ◌++◌, map, Option, None, Ok, Err, refl, sym, ◌∙◌, ap, subst}
 use Rattle.std.specs.List.{AllByRecursion}
 use Rattle.schedule_unit.specs.declared.party.AppNo.{AppNo}
 use Rattle.schedule_unit.specs.declared.party.MachineNo.{MachineNo}
@@ -41,6 +41,10 @@ commanded news f forced x y v change changes ends named is r h =
     let ended : StandsFor v (ends_alone r.cluster r.sides (f r.state) (forced_by news)) = ends (changed_by f r) (changes.stands r h) in
     let there : StandsFor v (ends_alone r.cluster r.sides (f r.state) forced) = subst (λ q. StandsFor v (ends_alone r.cluster r.sides (f r.state) q)) named ended in
     subst (Answers v Done) (sym (ap (changes_as r) (is r h))) (record { role = there; says = refl })
+
+-- a step that ends with its change
+pub is_done : (event : MasterEvent) (steps : ℕ) (x v : CoreRecord) → IsCore v → IsWithin (steps + 1) v → StepsAlike event x v Done → IsStep event steps x v Done
+is_done event steps x v core within answers = record { core = core; within = within; answers = answers; formed = tt }
 
 -- the start of service, where it does not serve yet
 pub begins : (x : CoreRecord) → x.serving ≡ false → (r : MasterRole) → StandsFor x r → change_of r.cluster r.state Begins ≡ Ok (record { state = beginning r.state; forced = [] })

@@ -18,6 +18,7 @@ use Rattle.core_side.specs.Sides.{HearsAlike, Hears}
 use Rattle.broadcast.specs.AllShown.{App, credited_in}
 use Rattle.fuxi_master.specs.Cores.{CoreRecord, IsApp, patched_grants, StandsFor, shown_credited}
 use Rattle.fuxi_master.specs.Heard.{heard_of, with_heard, HearsApp}
+use Rattle.fuxi_master.proofs.EndsOfChannels.{stands_at_ends}
 use Rattle.fuxi_master.proofs.Indexed.{each_set}
 
 module _ (x : CoreRecord) (a : ℕ) (old new : App) (packet : Packet) (heard : Heard)
@@ -40,31 +41,18 @@ module _ (x : CoreRecord) (a : ℕ) (old new : App) (packet : Packet) (heard : H
       b (Some d) e d refl
 
   pub stands_heard : StandsFor after (with_heard r (app_id a) side)
-  stands_heard = record {
-    stands = record {
-      cluster = h.stands.cluster;
-      epoch = h.stands.epoch;
-      jobs = h.stands.jobs;
-      bans = h.stands.bans;
-      serving = h.stands.serving;
-      reported = h.stands.reported;
-      allots = h.stands.allots;
-      tidy = h.stands.tidy;
-      agents = h.stands.agents;
-      apps = each_app (λ b d. IsApp d x.epoch (set_side r.sides (app_id a) side.side (app_id b)))
+  stands_heard = stands_at_ends x r h x.agents (set x.apps a (Some new)) (set_side r.sides (app_id a) side.side)
+      h.stands.agents
+      (each_app (λ b d. IsApp d x.epoch (set_side r.sides (app_id a) side.side (app_id b)))
           (subst (λ b. IsApp new x.epoch (elim b as (λ _. Side) [ true ↦ side.side | false ↦ r.sides (app_id a) ])) (sym (nat_itself a)) (subst (λ n. IsApp new n side.side) h.stands.epoch heard_side.side))
-          (λ b d other e. subst (λ t. IsApp d x.epoch (elim t as (λ _. Side) [ true ↦ side.side | false ↦ r.sides (app_id b) ])) (sym other) (h.stands.apps b d e));
-      credited = each_app (λ b d. credited_of r.state b ≡ shown_credited b d)
+          (λ b d other e. subst (λ t. IsApp d x.epoch (elim t as (λ _. Side) [ true ↦ side.side | false ↦ r.sides (app_id b) ])) (sym other) (h.stands.apps b d e)))
+      (each_app (λ b d. credited_of r.state b ≡ shown_credited b d)
           (h.stands.credited a old at ∙ ap (λ o. credited_in o.present.entries) (sym outgoing))
-          (λ b d other e. h.stands.credited b d e);
-      unheard = λ b e. elim (nat_eq a b) as (λ t. nat_eq a b ≡ t → elim t as (λ _. Side) [ true ↦ side.side | false ↦ r.sides (app_id b) ] ≡ new_side) [
+          (λ b d other e. h.stands.credited b d e))
+      (λ b e. elim (nat_eq a b) as (λ t. nat_eq a b ≡ t → elim t as (λ _. Side) [ true ↦ side.side | false ↦ r.sides (app_id b) ] ≡ new_side) [
         | true ↦ λ t. absurd (let f : true ≡ false = sym known ∙ ap (is_known x.known.jobs) (number_is a b t) ∙ e in cc)
         | false ↦ λ _. h.stands.unheard b e
-      ] refl;
-      uncredited = h.stands.uncredited;
-    };
-    ready = h.ready;
-  }
+      ] refl)
 
   pub hears_app : HearsApp a packet heard after r
   hears_app = record { fresh = heard_side.fresh; says = heard_side.says; role = stands_heard }

@@ -8,6 +8,7 @@ pub mod Projected
 pub mod Published
 pub mod NotYetShown
 pub mod UnreportedBare
+pub mod EndsOfChannels
 pub mod AgentHeardAlike
 pub mod AppHeardAlike
 pub mod Quiet

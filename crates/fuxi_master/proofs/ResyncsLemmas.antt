@@ -26,6 +26,7 @@ use Rattle.broadcast.specs.Projections.{row_of}
 use Rattle.broadcast.specs.AllShown.{Down, App, ShowsJob, credited_in}
 use Rattle.fuxi_master.specs.Cores.{CoreRecord, IsDown, IsApp, IsCore, IsKept, IsWithin, StandsFor}
 use Rattle.fuxi_master.specs.Resyncs.{agent_forgotten, app_forgotten}
+use Rattle.fuxi_master.proofs.EndsOfChannels.{stands_at_ends}
 use Rattle.fuxi_master.proofs.Indexed.{all_from}
 use Rattle.fuxi_master.proofs.Numbers.{with_is}
 
@@ -101,28 +102,15 @@ module _ (x : CoreRecord) where
 
   module _ (kept : IsKept x) where
     pub stands_forgotten : (r : MasterRole) → StandsFor x r → StandsFor forgotten (master_resynced r)
-    stands_forgotten r h = record {
-      stands = record {
-        cluster = h.stands.cluster;
-        epoch = h.stands.epoch;
-        jobs = h.stands.jobs;
-        bans = h.stands.bans;
-        serving = h.stands.serving;
-        reported = h.stands.reported;
-        allots = h.stands.allots;
-        tidy = h.stands.tidy;
-        agents = each_was (λ m (d : Down). IsDown d x.epoch (after (agent_id m))) agent_forgotten x.agents (λ m d there.
+    stands_forgotten r h = stands_at_ends x r h (map agent_forgotten x.agents) (map (option_map app_forgotten) x.apps) after
+        (each_was (λ m (d : Down). IsDown d x.epoch (after (agent_id m))) agent_forgotten x.agents (λ m d there.
             subst (IsDown (agent_forgotten d) x.epoch) (sym (at (agent_id m) ∙ ap (λ b. cond b (resynced_side (r.sides (agent_id m))) (r.sides (agent_id m))) (agent_here m d there)))
-            (side_forgotten _ _ _ _ _ d x.epoch (r.sides (agent_id m)) (h.stands.agents m d there)));
-        apps = app_was (λ a (d : App). IsApp d x.epoch (after (app_id a))) x.apps (λ a d there.
+            (side_forgotten _ _ _ _ _ d x.epoch (r.sides (agent_id m)) (h.stands.agents m d there))))
+        (app_was (λ a (d : App). IsApp d x.epoch (after (app_id a))) x.apps (λ a d there.
             subst (IsApp (app_forgotten d) x.epoch) (sym (at (app_id a) ∙ ap (λ b. cond b (resynced_side (r.sides (app_id a))) (r.sides (app_id a))) (app_here a d there)))
-            (side_forgotten _ _ _ _ _ d x.epoch (r.sides (app_id a)) (h.stands.apps a d there)));
-        credited = app_was (λ a (d : App). credited_of r.state a ≡ credited_in d.outgoing.present.entries) x.apps h.stands.credited;
-        unheard = λ a e. at (app_id a) ∙ ap (λ s. cond (is_one_of (app_id a) (peers r.cluster r.state)) (resynced_side s) s) (h.stands.unheard a e) ∙ stays (is_one_of (app_id a) (peers r.cluster r.state));
-        uncredited = h.stands.uncredited;
-      };
-      ready = h.ready;
-    }
+            (side_forgotten _ _ _ _ _ d x.epoch (r.sides (app_id a)) (h.stands.apps a d there))))
+        (app_was (λ a (d : App). credited_of r.state a ≡ credited_in d.outgoing.present.entries) x.apps h.stands.credited)
+        (λ a e. at (app_id a) ∙ ap (λ s. cond (is_one_of (app_id a) (peers r.cluster r.state)) (resynced_side s) s) (h.stands.unheard a e) ∙ stays (is_one_of (app_id a) (peers r.cluster r.state)))
       where
         after : Id → Side
         after = resync_alone r.sides (peers r.cluster r.state)

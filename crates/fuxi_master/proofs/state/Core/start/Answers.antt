@@ -12,32 +12,23 @@ jobs_admitted-requires-clause-empty c = no_jobs_first c.args.cluster.now c.in_ok
 pub returns-clause-core : goal.returns-clause-core
 returns-clause-core c =
     let k = c.args.cluster.now in
-    let x = c.in_ok-allotment in
-    let y = c.in_ok-allotment-2 in
     let agents = c.in_ok-agents.agents.items in
-    let apps = c.in_ok-apps.apps.items in
     let downs : AreDownsStarted c.args.epoch _ agents = record { wide = c.in_ok-agents.ensures.wide ∙ c.machines.ensures.number; each = c.in_ok-agents.ensures.each } in
-    subst (λ (r : Reported). IsCore (record (first_core k c.args.epoch c.args.known y.allotment agents apps) { reported = r })) (sym c.none.ensures)
-    (started_core c.step_ends.ensures k c.machines.ensures.valid c.args.epoch c.args.known c.jobs-jobs.ensures.numbers x.allotment y.allotment x.ensures.stands y.ensures agents downs apps c.in_ok-apps.ensures c.requires x.ensures.touched)
+    subst (λ (r : Reported). IsCore (record (first_core k c.args.epoch c.args.known c.in_ok-allotment-2.allotment agents c.in_ok-apps.apps.items) { reported = r })) (sym c.none.ensures)
+    (started_core c.step_ends.ensures k c.machines.ensures.valid c.args.epoch c.args.known c.jobs-jobs.ensures.numbers c.in_ok-allotment.allotment c.in_ok-allotment-2.allotment c.in_ok-allotment.ensures.stands c.in_ok-allotment-2.ensures agents downs c.in_ok-apps.apps.items c.in_ok-apps.ensures c.requires c.in_ok-allotment.ensures.touched)
 
 pub returns-clause-within : goal.returns-clause-within
 returns-clause-within c =
     let k = c.args.cluster.now in
-    let x = c.in_ok-allotment in
-    let y = c.in_ok-allotment-2 in
     let agents = c.in_ok-agents.agents.items in
-    let apps = c.in_ok-apps.apps.items in
     let downs : AreDownsStarted c.args.epoch _ agents = record { wide = c.in_ok-agents.ensures.wide ∙ c.machines.ensures.number; each = c.in_ok-agents.ensures.each } in
-    subst (λ (r : Reported). IsWithin 1 (record (first_core k c.args.epoch c.args.known y.allotment agents apps) { reported = r })) (sym c.none.ensures)
-    (started_within k c.args.epoch c.args.known x.allotment y.allotment y.ensures agents downs apps c.in_ok-apps.ensures x.ensures.turns)
+    subst (λ (r : Reported). IsWithin 1 (record (first_core k c.args.epoch c.args.known c.in_ok-allotment-2.allotment agents c.in_ok-apps.apps.items) { reported = r })) (sym c.none.ensures)
+    (started_within k c.args.epoch c.args.known c.in_ok-allotment.allotment c.in_ok-allotment-2.allotment c.in_ok-allotment-2.ensures agents downs c.in_ok-apps.apps.items c.in_ok-apps.ensures c.in_ok-allotment.ensures.turns)
 
 pub returns-clause-stands : goal.returns-clause-stands
 returns-clause-stands c = λ h jobs bans.
     let k = c.args.cluster.now in
-    let x = c.in_ok-allotment in
-    let y = c.in_ok-allotment-2 in
     let agents = c.in_ok-agents.agents.items in
-    let apps = c.in_ok-apps.apps.items in
     let downs : AreDownsStarted c.args.epoch _ agents = record { wide = c.in_ok-agents.ensures.wide ∙ c.machines.ensures.number; each = c.in_ok-agents.ensures.each } in
-    subst (λ (r : Reported). StandsFor (record (first_core k c.args.epoch c.args.known y.allotment agents apps) { reported = r }) (master_started k h c.args.epoch)) (sym c.none.ensures)
-    (started_alike c.step_ends.ensures k c.machines.ensures.valid c.args.epoch c.args.known c.jobs-jobs.ensures.numbers x.allotment y.allotment x.ensures.stands y.ensures agents downs apps c.in_ok-apps.ensures h jobs bans)
+    subst (λ (r : Reported). StandsFor (record (first_core k c.args.epoch c.args.known c.in_ok-allotment-2.allotment agents c.in_ok-apps.apps.items) { reported = r }) (master_started k h c.args.epoch)) (sym c.none.ensures)
+    (started_alike c.step_ends.ensures k c.machines.ensures.valid c.args.epoch c.args.known c.jobs-jobs.ensures.numbers c.in_ok-allotment.allotment c.in_ok-allotment-2.allotment c.in_ok-allotment.ensures.stands c.in_ok-allotment-2.ensures agents downs c.in_ok-apps.apps.items c.in_ok-apps.ensures h jobs bans)

@@ -3,8 +3,9 @@ use Rattle.written_roles.specs.MasterSteps.{Admits}
 use Rattle.written_net.specs.Channels.{app_id}
 use Rattle.fuxi_master.specs.Commands.{admitting}
 use Rattle.fuxi_master.specs.Seen.{core_of}
+use Rattle.fuxi_master.specs.declared.event.MasterEvent.TheVariants.{Admit}
 use Rattle.fuxi_master.proofs.StepsLemmas.{has_role}
-use Rattle.fuxi_master.proofs.AnswersAlike.{commanded, named_by}
+use Rattle.fuxi_master.proofs.AnswersAlike.{commanded, named_by, is_done}
 use Rattle.fuxi_master.proofs.state.Core.step_admit.Goals as goal
 
 pub finished-requires-clause-role : goal.finished-requires-clause-role
@@ -14,12 +15,5 @@ pub finished-requires-clause-within : goal.finished-requires-clause-within
 finished-requires-clause-within c = c.in_ok-core.ensures.changes.within c.args.steps c.requires.within
 
 pub returns : goal.returns
-returns c =
-    let d = c.in_ok-core.ensures in
-    record {
-      core = c.in_ok-after.ensures.core;
-      within = c.in_ok-after.ensures.within;
-      answers = commanded c.in_ok-core.news (admitting c.args.job.now) (app_id c.args.job.now.number ∷ []) (core_of c.args.self) (core_of c.in_ok-core.core) (core_of c.in_ok-after.after) (Admits c.args.job.now) d.changes c.in_ok-after.ensures.ends
-          (named_by None (Some (record { 0 = c.args.job.now.number })) c.in_ok-core.news d.none d.admitted) (λ r h. refl);
-      formed = tt;
-    }
+returns c = is_done (Admit c.args.job.now) c.args.steps (core_of c.args.self) (core_of c.in_ok-after.after) c.in_ok-after.ensures.core c.in_ok-after.ensures.within
+    (commanded c.in_ok-core.news (admitting c.args.job.now) (app_id c.args.job.now.number ∷ []) (core_of c.args.self) (core_of c.in_ok-core.core) (core_of c.in_ok-after.after) (Admits c.args.job.now) c.in_ok-core.ensures.changes c.in_ok-after.ensures.ends (named_by None (Some (record { 0 = c.args.job.now.number })) c.in_ok-core.news c.in_ok-core.ensures.none c.in_ok-core.ensures.admitted) (λ r h. refl))

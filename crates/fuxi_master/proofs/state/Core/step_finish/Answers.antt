@@ -1,8 +1,9 @@
 use Rattle.std.proofs.Common.{[], None, refl}
 use Rattle.written_roles.specs.MasterSteps.{Ends, ended_in}
 use Rattle.fuxi_master.specs.Seen.{core_of}
+use Rattle.fuxi_master.specs.declared.event.MasterEvent.TheVariants.{Finish}
 use Rattle.fuxi_master.proofs.StepsLemmas.{has_role}
-use Rattle.fuxi_master.proofs.AnswersAlike.{commanded, named_by}
+use Rattle.fuxi_master.proofs.AnswersAlike.{commanded, named_by, is_done}
 use Rattle.fuxi_master.proofs.state.Core.step_finish.Goals as goal
 
 pub finished-requires-clause-role : goal.finished-requires-clause-role
@@ -12,12 +13,5 @@ pub finished-requires-clause-within : goal.finished-requires-clause-within
 finished-requires-clause-within c = c.in_ok-core.ensures.changes.within c.args.steps c.requires.within
 
 pub returns : goal.returns
-returns c =
-    let d = c.in_ok-core.ensures in
-    record {
-      core = c.in_ok-after.ensures.core;
-      within = c.in_ok-after.ensures.within;
-      answers = commanded c.in_ok-core.news (λ M. ended_in M c.args.app.0) ([]) (core_of c.args.self) (core_of c.in_ok-core.core) (core_of c.in_ok-after.after) (Ends c.args.app.0) d.changes c.in_ok-after.ensures.ends
-          (named_by None None c.in_ok-core.news d.news.reported_is d.news.admitted_is) (λ r h. refl);
-      formed = tt;
-    }
+returns c = is_done (Finish c.args.app) c.args.steps (core_of c.args.self) (core_of c.in_ok-after.after) c.in_ok-after.ensures.core c.in_ok-after.ensures.within
+    (commanded c.in_ok-core.news (λ M. ended_in M c.args.app.0) ([]) (core_of c.args.self) (core_of c.in_ok-core.core) (core_of c.in_ok-after.after) (Ends c.args.app.0) c.in_ok-core.ensures.changes c.in_ok-after.ensures.ends (named_by None None c.in_ok-core.news c.in_ok-core.ensures.news.reported_is c.in_ok-core.ensures.news.admitted_is) (λ r h. refl))
