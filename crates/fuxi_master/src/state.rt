@@ -1,6 +1,6 @@
 //! What a master keeps, and how each of its steps ends.
 
-ghost use Rattle.std.specs.Prelude.{◌≡◌, ◌+◌, ◌*◌, ◌<◌, ◌≤◌, ◌^◌, true, ℕ, IfOk};
+ghost use Rattle.std.specs.Prelude.{◌≡◌, ◌+◌, ◌*◌, ◌<◌, ◌≤◌, ◌^◌, true, ℕ, IfOk, OnOk};
 ghost use Rattle.std.specs.List.{AllByRecursion};
 ghost use Rattle.fuxi_terms.specs.Cluster.{ClusterRecord};
 ghost use Rattle.fuxi_terms.specs.Limits.{most_steps};
@@ -116,36 +116,18 @@ impl Core {
     }
 
     // Shows each peer what it should hold.
-    fn published(self, alloc: Global, news: &News) -> Result<Core, OutOfMemory>
-        requires mid { IsMid (core_of self) news.now }
-        requires agents { AllByRecursion (λ (d : Down). d.outgoing.last < 2 ^ 62) self.agents.items }
-        requires apps { HaveRoom self.apps.items }
-        ensures { IfOk result (λ after. IsPublished news.now (core_of self) (core_of after)) }
+    fn published(&mut self, alloc: Global, news: &News) -> Result<(), OutOfMemory>
+        requires mid { IsMid (core_of self.old) news.now }
+        requires agents { AllByRecursion (λ (d : Down). d.outgoing.last < 2 ^ 62) self.old.agents.items }
+        requires apps { HaveRoom self.old.apps.items }
+        ensures { OnOk result (IsPublished news.now (core_of self.old) (core_of self.new)) }
     {
         step_ends();
-        let Core {
-            epoch,
-            known,
-            serving,
-            reported,
-            allotment,
-            agents,
-            apps,
-        } = self;
-        let (mut allotment, mut agents, mut apps) = (allotment, agents, apps);
-        let spots = in_order(alloc, allotment.touched())?;
-        show_all_rows(&mut agents, alloc, allotment.table(), &spots, news.reported)?;
-        show_all_grants(&mut apps, alloc, allotment.table(), &spots, news)?;
-        allotment.clear_touched();
-        Ok(Core {
-            epoch,
-            known,
-            serving,
-            reported,
-            allotment,
-            agents,
-            apps,
-        })
+        let spots = in_order(alloc, self.allotment.touched())?;
+        show_all_rows(&mut self.agents, alloc, self.allotment.table(), &spots, news.reported)?;
+        show_all_grants(&mut self.apps, alloc, self.allotment.table(), &spots, news)?;
+        self.allotment.clear_touched();
+        Ok(())
     }
 
     // Ends a step.
@@ -164,8 +146,8 @@ impl Core {
         ensures ends { IfOk result (λ after. EndsAlike news.now (core_of self) (core_of after)) }
     {
         settling();
-        let left = self.readied()?;
-        let after = left.published(alloc, news)?;
-        Ok(after)
+        let mut left = self.readied()?;
+        left.published(alloc, news)?;
+        Ok(left)
     }
 }

@@ -12,10 +12,10 @@ pub published-requires-clause-apps : goal.published-requires-clause-apps
 published-requires-clause-apps c = apps_room (core_of c.args.self) (core_of c.in_ok-left.left) c.args.news.now c.in_ok-left.ensures c.args.steps c.requires.within c.requires.steps
 
 pub returns-clause-core : goal.returns-clause-core
-returns-clause-core c = ended_core c.settling.ensures.first c.settling.ensures.ends c.settling.ensures.runs (core_of c.args.self) (core_of c.in_ok-left.left) (core_of c.in_ok-after.after) c.args.news.now c.requires.mid c.in_ok-left.ensures c.in_ok-after.ensures c.requires.role
+returns-clause-core c = ended_core c.settling.ensures.first c.settling.ensures.ends c.settling.ensures.runs (core_of c.args.self) (core_of c.in_ok-left.left) (core_of c.published.new.self) c.args.news.now c.requires.mid c.in_ok-left.ensures c.in_ok-published.ensures c.requires.role
 
 pub returns-clause-within : goal.returns-clause-within
-returns-clause-within c = ended_within c.settling.ensures.first c.settling.ensures.ends c.settling.ensures.runs (core_of c.args.self) (core_of c.in_ok-left.left) (core_of c.in_ok-after.after) c.args.news.now c.requires.mid c.in_ok-left.ensures c.in_ok-after.ensures c.args.steps c.requires.within
+returns-clause-within c = ended_within c.settling.ensures.first c.settling.ensures.ends c.settling.ensures.runs (core_of c.args.self) (core_of c.in_ok-left.left) (core_of c.published.new.self) c.args.news.now c.requires.mid c.in_ok-left.ensures c.in_ok-published.ensures c.args.steps c.requires.within
 
 pub returns-clause-ends : goal.returns-clause-ends
-returns-clause-ends c = ended_stands c.settling.ensures.first c.settling.ensures.ends c.settling.ensures.runs (core_of c.args.self) (core_of c.in_ok-left.left) (core_of c.in_ok-after.after) c.args.news.now c.requires.mid c.in_ok-left.ensures c.in_ok-after.ensures
+returns-clause-ends c = ended_stands c.settling.ensures.first c.settling.ensures.ends c.settling.ensures.runs (core_of c.args.self) (core_of c.in_ok-left.left) (core_of c.published.new.self) c.args.news.now c.requires.mid c.in_ok-left.ensures c.in_ok-published.ensures

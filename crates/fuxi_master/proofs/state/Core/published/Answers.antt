@@ -11,7 +11,7 @@ use Rattle.fuxi_master.proofs.state.Core.published.Goals as goal
 
 pub show_all_rows-requires-clause-before : goal.show_all_rows-requires-clause-before
 show_all_rows-requires-clause-before c =
-    let x = c.args.self in
+    let x = c.args.self.now in
     let ordered = map spot_of c.in_ok-spots.spots.items in
     let same : (s : Spot) → has_spot s ordered ≡ has_spot s x.allotment.touched = λ s. c.in_ok-spots.ensures.same s ∙ ap (has_spot s) c.touched.ensures in
     let rows = rows_same x.allotment.table x.allotment.touched ordered same x.agents.items c.requires.mid.rows in
@@ -20,7 +20,7 @@ show_all_rows-requires-clause-before c =
 
 pub returns : goal.returns
 returns c =
-    let x = c.args.self in
+    let x = c.args.self.now in
     let news = c.args.news.now in
     let ordered = map spot_of c.in_ok-spots.spots.items in
     let same : (s : Spot) → has_spot s ordered ≡ has_spot s x.allotment.touched = λ s. c.in_ok-spots.ensures.same s ∙ ap (has_spot s) c.touched.ensures in
