@@ -5,6 +5,7 @@ use Rattle.std.proofs.lemmas.List.{length-drop}
 use Rattle.fuxi_terms.specs.Counts.{then_do}
 use Rattle.schedule_text.specs.declared.event.LineFault.{LineFault}
 use Rattle.schedule_text.specs.declared.event.LineFault.TheVariants.{BadNumber, Range}
+use Rattle.schedule_text.specs.PlaceNumbers.{number_at, numbers_at}
 use Rattle.schedule_text.specs.Words.{words_of}
 use Rattle.schedule_unit.specs.Numbers.{number_of}
 use Rattle.written_work.specs.Given.{IsGiven}
@@ -12,7 +13,7 @@ use Rattle.work_text.specs.declared.form.Head.{Head}
 use Rattle.work_text.specs.declared.form.Head.TheVariants.{Agent, App, Row, Plan, TurnAgent, TurnApp, Deliver, DeliverRange, Show}
 use Rattle.work_text.specs.declared.form.Place.{Place}
 use Rattle.work_text.specs.Forms.{shape_of, heads, is_within}
-use Rattle.work_text.specs.Reading.{begins, has_count, is_head, head_of, number_at, numbers_at, event_at, event_behind, work_of_words, work_of}
+use Rattle.work_text.specs.Reading.{begins, has_count, is_head, head_of, event_at, event_behind, work_of_words, work_of}
 
 -- one thing after another: what the first gives, the second needs
 then_holds : {A B E : Type 0} (P : A → Type 0) (Q : B → Type 0) (r : Result A E) (f : A → Result B E) → IfOk r P → ((a : A) → P a → IfOk (f a) Q) → IfOk (then_do r f) Q
@@ -46,7 +47,7 @@ AreWithin before [] ns = Unit {0}
 AreWithin before (p ∷ ps) [] = ⊥
 AreWithin before (p ∷ ps) (n ∷ ns) = (is_within p before n ≡ true) × AreWithin n ps ns
 
-number_within : (p : Place) (place before : ℕ) (word : List ℕ) → IfOk (number_at p place before word) (λ n. is_within p before n ≡ true)
+number_within : (p : Place) (place before : ℕ) (word : List ℕ) → IfOk (number_at is_within p place before word) (λ n. is_within p before n ≡ true)
 number_within p place before word = read (number_of word)
   where
     ranged : (n : ℕ) (b : Bool) → is_within p before n ≡ b → IfOk (cond b (Ok n) (Err (Range place))) (λ n. is_within p before n ≡ true)
@@ -57,12 +58,12 @@ number_within p place before word = read (number_of word)
     read None = tt
     read (Some n) = ranged n (is_within p before n) refl
 
-numbers_within : (ps : List Place) (place before : ℕ) (words : List (List ℕ)) → length ps ≤ length words → IfOk (numbers_at ps place before words) (AreWithin before ps)
+numbers_within : (ps : List Place) (place before : ℕ) (words : List (List ℕ)) → length ps ≤ length words → IfOk (numbers_at is_within ps place before words) (AreWithin before ps)
 numbers_within [] place before words long = tt
 numbers_within (p ∷ ps) place before [] long = absurd (omega (arith, long))
 numbers_within (p ∷ ps) place before (w ∷ ws) long =
-    then_holds (λ n. is_within p before n ≡ true) (AreWithin before (p ∷ ps)) (number_at p place before w) _ (number_within p place before w)
-    (λ n within. then_holds (AreWithin n ps) (AreWithin before (p ∷ ps)) (numbers_at ps (place + 1) n ws) _ (numbers_within ps (place + 1) n ws (omega (arith, long))) (λ ns more. (within, more)))
+    then_holds (λ n. is_within p before n ≡ true) (AreWithin before (p ∷ ps)) (number_at is_within p place before w) _ (number_within p place before w)
+    (λ n within. then_holds (AreWithin n ps) (AreWithin before (p ∷ ps)) (numbers_at is_within ps (place + 1) n ws) _ (numbers_within ps (place + 1) n ws (omega (arith, long))) (λ ns more. (within, more)))
 
 -- an event of such numbers
 event_given : (h : Head) (ns : List ℕ) → AreWithin 0 (shape_of h).places ns → IsGiven (event_at h ns)
@@ -98,7 +99,7 @@ behind_given h words count =
     let s = shape_of h in
     let words_behind = drop (length s.words) words in
     let room : length s.places ≤ length words_behind = rw (length-drop (length s.words) words) (room_behind (length s.words) (length s.places) (length words) count) in
-    then_holds (AreWithin 0 s.places) IsGiven (numbers_at s.places (length s.words) 0 words_behind) (λ ns. Ok (event_at h ns)) (numbers_within s.places (length s.words) 0 words_behind room) (λ ns is. event_given h ns is)
+    then_holds (AreWithin 0 s.places) IsGiven (numbers_at is_within s.places (length s.words) 0 words_behind) (λ ns. Ok (event_at h ns)) (numbers_within s.places (length s.words) 0 words_behind room) (λ ns is. event_given h ns is)
 
 words_given : (words : List (List ℕ)) → IfOk (work_of_words words) IsGiven
 words_given [] = tt

@@ -8,13 +8,12 @@ use Rattle.schedule_unit.specs.declared.party.UnitNo.{UnitNo}
 use Rattle.schedule_text.specs.declared.event.LineFault.{LineFault}
 use Rattle.schedule_text.specs.declared.event.LineFault.TheVariants.{UnknownWord}
 use Rattle.schedule_text.specs.LineHeads.{head_of as head_in}
-use Rattle.schedule_text.specs.PlaceNumbers.{number_at as number_in, numbers_at as numbers_in}
+use Rattle.schedule_text.specs.PlaceNumbers.{numbers_at}
 use Rattle.schedule_text.specs.Words.{words_of}
 use Rattle.written_work.specs.declared.event.WorkEvent.{WorkEvent}
 use Rattle.written_work.specs.declared.event.WorkEvent.TheVariants as event
 use Rattle.work_text.specs.declared.form.Head.{Head}
 use Rattle.work_text.specs.declared.form.Head.TheVariants.{Agent, App, Row, Plan, TurnAgent, TurnApp, Deliver, DeliverRange, Show}
-use Rattle.work_text.specs.declared.form.Place.{Place}
 use Rattle.work_text.specs.Forms.{Shape, shape_of, heads, is_within}
 
 -- Which line it is. As far as the line has words, the first ones are those of the form, and the line has as many words as its form
@@ -29,13 +28,6 @@ is_head words h = begins (shape_of h) words && has_count (shape_of h) words
 
 abbrev pub head_of : List Head → List (List ℕ) → Result Head LineFault
 head_of heads words = head_in (λ h. begins (shape_of h)) (λ h. has_count (shape_of h)) heads words
-
--- The number at a place, and the numbers of these places, which stand from a place of the line on
-abbrev pub number_at : Place → ℕ → ℕ → List ℕ → Result ℕ LineFault
-number_at p place before word = number_in is_within p place before word
-
-abbrev pub numbers_at : List Place → ℕ → ℕ → List (List ℕ) → Result (List ℕ) LineFault
-numbers_at ps place before words = numbers_in is_within ps place before words
 
 -- The event of a line with these numbers
 abbrev pub app_no : ℕ → AppNo
@@ -57,7 +49,7 @@ event_at Show ns = event.Show
 
 -- of the words of a line of this kind
 abbrev pub event_behind : Head → List (List ℕ) → Result WorkEvent LineFault
-event_behind h words = let s = shape_of h in then_do (numbers_at s.places (length s.words) 0 (drop (length s.words) words)) (λ ns. Ok (event_at h ns))
+event_behind h words = let s = shape_of h in then_do (numbers_at is_within s.places (length s.words) 0 (drop (length s.words) words)) (λ ns. Ok (event_at h ns))
 
 abbrev pub work_of_words : List (List ℕ) → Result WorkEvent LineFault
 work_of_words [] = Err UnknownWord

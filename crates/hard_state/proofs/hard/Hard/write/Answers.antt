@@ -23,30 +23,26 @@ returns-in-Err-encode-clause-told g c = refused_where HardFault _ _ OutOfMemory 
 pub returns-in-Ok-append-clause-told : goal.returns-in-Ok-append-clause-told
 returns-in-Ok-append-clause-told g c =
     let before = c.args.self.now in
-    let epoch = c.args.epoch in
-    let event = event_of c.args.change in
     let body = body_of c.args.change in
-    let r = ready before c.self.inside.state epoch c.args.change (ap (λ (k : Kept). k.value) c.self.view_is) c.requires.asked c.encode.ensures.back c.in-Ok.ensures.ok c.in-Ok.ensures.room in
+    let r = ready before c.self.inside.state c.args.epoch c.args.change (ap (λ (k : Kept). k.value) c.self.view_is) c.requires.asked c.encode.ensures.back c.in-Ok.ensures.ok c.in-Ok.ensures.room in
     let bytes : c.deref.result.now ≡ behind_gate body = c.deref.ensures.value ∙ c.in-Ok-encode.ensures.bytes in
     let appends : WhereTold (Appends {E = Failed} before.gate (behind_gate body) (Ok (record {}))) (g.D.Disk.told c.args.disk.now) (g.D.Disk.told c.append.new.disk) =
     at_same {E = Failed} before.gate (behind_gate body) _ _ (Ok (record {})) _ _ (ap (λ (k : Kept). k.gate) c.self.view_is) bytes c.in-Ok-append.ensures.told in
     let made : length c.in-Ok-encode.bytes.items ≡ 5 + length body = ap length c.in-Ok-encode.ensures.bytes ∙ length-behind body in
     let size : c.len.result ≡ 5 + length body = search (rules, made) in
-    written_where before (hard_after before.value epoch event) _ body r.steps r.taken_as r.room (omega (arith, c.encode.ensures.body)) Failed HardFault _ _ _ _ _ _
-    (c.make.ensures ∙ ap (λ (k : Kept). hard_after k.value epoch event) c.self.view_is) (ap (λ n. c.self.inside.gate + n) size ∙ ap (λ (k : Kept). k.gate + (5 + length body)) c.self.view_is)
+    written_where before (hard_after before.value c.args.epoch (event_of c.args.change)) _ body r.steps r.taken_as r.room (omega (arith, c.encode.ensures.body)) Failed HardFault _ _ _ _ _ _
+    (c.make.ensures ∙ ap (λ (k : Kept). hard_after k.value c.args.epoch (event_of c.args.change)) c.self.view_is) (ap (λ n. c.self.inside.gate + n) size ∙ ap (λ (k : Kept). k.gate + (5 + length body)) c.self.view_is)
     c.requires.long (g.met.D.Disk.measured c.args.disk.now) appends
 
 pub returns-in-Err-append-clause-told : goal.returns-in-Err-append-clause-told
 returns-in-Err-append-clause-told g c =
     let before = c.args.self.now in
-    let epoch = c.args.epoch in
-    let event = event_of c.args.change in
     let body = body_of c.args.change in
-    let r = ready before c.self.inside.state epoch c.args.change (ap (λ (k : Kept). k.value) c.self.view_is) c.requires.asked c.encode.ensures.back c.in-Ok.ensures.ok c.in-Ok.ensures.room in
+    let r = ready before c.self.inside.state c.args.epoch c.args.change (ap (λ (k : Kept). k.value) c.self.view_is) c.requires.asked c.encode.ensures.back c.in-Ok.ensures.ok c.in-Ok.ensures.room in
     let bytes : c.deref.result.now ≡ behind_gate body = c.deref.ensures.value ∙ c.in-Ok-encode.ensures.bytes in
     let appends : WhereTold (Appends {E = Failed} before.gate (behind_gate body) (Err (record {}))) (g.D.Disk.told c.args.disk.now) (g.D.Disk.told c.append.new.disk) =
     at_same {E = Failed} before.gate (behind_gate body) _ _ (Err (record {})) _ _ (ap (λ (k : Kept). k.gate) c.self.view_is) bytes c.in-Err-append.ensures.told in
-    failed_where before (hard_after before.value epoch event) _ body r.steps r.taken_as r.room (omega (arith, c.encode.ensures.body)) Failed HardFault _ before _ _ (record {}) DiskFault
+    failed_where before (hard_after before.value c.args.epoch (event_of c.args.change)) _ body r.steps r.taken_as r.room (omega (arith, c.encode.ensures.body)) Failed HardFault _ before _ _ (record {}) DiskFault
     c.requires.long (g.met.D.Disk.measured c.args.disk.now) appends
 
 pub returns-in-Err-clause-moments : goal.returns-in-Err-clause-moments
