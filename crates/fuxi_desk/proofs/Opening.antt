@@ -13,7 +13,7 @@ use Rattle.fuxi_terms.specs.Cluster.{ClusterRecord}
 use Rattle.fuxi_terms.proofs.Appending.{appends_none}
 use Rattle.fuxi_desk.specs.Preparing.{prepared_for}
 use Rattle.input_lines.specs.Wholes.{whole_lines, AreWhole, AreTaken, WritesLast}
-use Rattle.input_cluster.specs.Openings.{Opening, Opens, BadAt, TooMany, opening_from, HasCluster, IsLast, Opened}
+use Rattle.input_lines.specs.Openings.{Opening, Opens, BadAt, TooMany, opening_from, HasCluster, IsLast, Opened}
 use Rattle.fuxi_desk.specs.Runs.{Run, Ending, AtEnd, AtBadLine, AtLimit, BreaksText, WritesAll, ended, run_from, run_opened, read_from, IsOpen, StopsWithin, Ended}
 use Rattle.fuxi_desk.proofs.Going.{weaker}
 

@@ -19,7 +19,7 @@ use Rattle.fuxi_desk.specs.Texts.{IsDeskText}
 use Rattle.input_lines.specs.Contents.{content, is_skipped}
 use Rattle.input_lines.specs.Statuses.{event_fault}
 use Rattle.input_lines.specs.Wholes.{whole_lines, WritesLast}
-use Rattle.input_cluster.specs.Openings.{Opening, Opens, BadAt, TooMany, opening_from}
+use Rattle.input_lines.specs.Openings.{Opening, Opens, BadAt, TooMany, opening_from}
 
 -- where a run ends: at the end of the input, at a bad line, or at a limit, with the number that stands so far
 pub data Ending : Type 0 where

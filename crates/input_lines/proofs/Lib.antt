@@ -1,2 +1,4 @@
+pub mod Known
+pub mod OpeningsLemmas
 pub mod Returns
 pub mod WholesLemmas

@@ -1,3 +1,4 @@
 pub mod Contents
+pub mod Openings
 pub mod Statuses
 pub mod Wholes

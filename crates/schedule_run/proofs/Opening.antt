@@ -13,7 +13,7 @@ use Rattle.fuxi_terms.specs.Cluster.{ClusterRecord}
 use Rattle.fuxi_terms.proofs.Appending.{appends_none}
 use Rattle.written_world.specs.World.{empty_world}
 use Rattle.input_lines.specs.Wholes.{whole_lines, AreWhole, AreTaken, WritesLast}
-use Rattle.input_cluster.specs.Openings.{Opening, Opens, BadAt, TooMany, opening_from, HasCluster, IsLast, Opened}
+use Rattle.input_lines.specs.Openings.{Opening, Opens, BadAt, TooMany, opening_from, HasCluster, IsLast, Opened}
 use Rattle.schedule_run.specs.Runs.{Run, Ending, AtEnd, AtBadLine, AtLimit, ended, run_from, run_opened, read_from, pieces, IsOpen, StopsWithin, Ended}
 use Rattle.schedule_run.proofs.Going.{weaker}
 

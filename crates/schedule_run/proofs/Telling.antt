@@ -29,7 +29,7 @@ use Rattle.written_world.specs.Runs.{run_from as written_run, run, outputs}
 use Rattle.written_world.specs.Show.{show}
 use Rattle.input_lines.specs.Contents.{content, is_skipped}
 use Rattle.input_lines.specs.Statuses.{event_fault}
-use Rattle.input_cluster.specs.Openings.{cluster_fault, described}
+use Rattle.input_lines.specs.Openings.{cluster_fault, described}
 use Rattle.schedule_run.specs.Inputs.{Input, BadLine, cluster_said, event_said, unless_long, events_from, input_from, told}
 use Rattle.schedule_run.specs.Runs.{Run, Ending, AtEnd, AtBadLine, AtLimit, ended, ending_at, run_from, run_opened, read_from, run_of, final_text, pieces}
 use Rattle.schedule_run.specs.Told.{IsText, IsTextBefore, IsFrontText}
