@@ -1,9 +1,7 @@
-pub mod Stepping
-pub mod Going
-pub mod Opening
-pub mod Ending
-pub mod Finishing
-pub mod Beginning
+pub mod RunsLemmas
+pub mod EndsLemmas
+pub mod TextsLemmas
+pub mod PreparedLemmas
 pub mod Writing
-pub mod Reading
-pub mod Texting
+pub mod LinesLemmas
+pub mod ScheduleLines
