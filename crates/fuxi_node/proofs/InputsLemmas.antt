@@ -6,7 +6,7 @@ use Rattle.fuxi_io.specs.declared.status.Status.{Status}
 use Rattle.fuxi_io.specs.declared.status.Status.TheVariants.{OutOfMemory}
 use Rattle.fuxi_terms.specs.Cluster.{ClusterRecord}
 use Rattle.schedule_unit.specs.declared.party.MachineNo.{MachineNo}
-use Rattle.input_cluster.specs.Openings.{HasCluster, StopsBefore}
+use Rattle.input_lines.specs.Openings.{HasCluster, StopsBefore}
 use Rattle.node_door.specs.Doors.{Told, WhereTold}
 use Rattle.fuxi_node.specs.Ends.{Ended}
 use Rattle.fuxi_node.specs.Starts.{agent_start}

@@ -10,7 +10,7 @@ use Rattle.fuxi_terms.specs.Cluster.{ClusterRecord}
 use Rattle.fuxi_terms.specs.Limits.{most_jobs, most_machines, most_units}
 use Rattle.written_roles.specs.HardState.{HardState, Raise, hard_step}
 use Rattle.hard_state.specs.HardFiles.{records_of}
-use Rattle.input_cluster.specs.Openings.{Opening, Opens, BadAt, TooMany, opening_from, HasCluster, StopsBefore}
+use Rattle.input_lines.specs.Openings.{Opening, Opens, BadAt, TooMany, opening_from, HasCluster, StopsBefore}
 use Rattle.node_door.specs.Doors.{Told}
 use Rattle.fuxi_node.specs.Ends.{Ended, EndsBy}
 use Rattle.fuxi_node.specs.Runs.{Ending, AtEnd, AtBadLine, AtLimit, ending_from}

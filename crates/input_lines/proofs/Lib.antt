@@ -1,2 +1,6 @@
+pub mod Known
+pub mod LineRunsLemmas
+pub mod OpenedRunsLemmas
+pub mod OpeningsLemmas
 pub mod Returns
 pub mod WholesLemmas

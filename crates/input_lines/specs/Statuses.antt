@@ -9,6 +9,9 @@ use Rattle.fuxi_io.specs.declared.status.Status.{Status}
 use Rattle.fuxi_io.specs.declared.status.Status.TheVariants.{BadInput, ReadFault, Limit, OutOfMemory}
 use Rattle.schedule_text.specs.declared.event.LineFault.{LineFault}
 use Rattle.schedule_text.specs.declared.event.LineFault.TheVariants.{UnknownWord as LineUnknownWord, WrongCount as LineWrongCount, BadNumber as LineBadNumber, Range as LineRange, OutOfMemory as LineOutOfMemory}
+use Rattle.cluster_desc.specs.declared.fault.ClusterFault.{ClusterFault}
+use Rattle.cluster_desc.specs.declared.fault.ClusterFault.TheVariants.{NotJson as ClusterNotJson, WrongKind as ClusterWrongKind, UnknownKey as ClusterUnknownKey, MissingKey as ClusterMissingKey, Count as ClusterCount, LengthDiffers as ClusterLengthDiffers, QuantityRange as ClusterQuantityRange, QuotaOverLimit as ClusterQuotaOverLimit, OutOfMemory as ClusterOutOfMemory}
+use Rattle.input_lines.specs.Openings.{cluster_fault}
 
 -- why a line that is no event is bad; no line wants memory
 abbrev pub event_fault : LineFault → InputFault
@@ -31,3 +34,15 @@ abbrev pub stop_status : LineStop → ℕ → Status
 stop_status ReadStop number = ReadFault
 stop_status LongStop number = BadInput (number + 1) LineTooLong
 stop_status ManyStop number = Limit Lines number
+
+-- the status that this fault of the line with this number means, which describes no cluster
+abbrev pub cluster_status : ClusterFault → ℕ → Status
+cluster_status ClusterNotJson number = BadInput number (cluster_fault ClusterNotJson)
+cluster_status (ClusterWrongKind key) number = BadInput number (cluster_fault (ClusterWrongKind key))
+cluster_status ClusterUnknownKey number = BadInput number (cluster_fault ClusterUnknownKey)
+cluster_status (ClusterMissingKey key) number = BadInput number (cluster_fault (ClusterMissingKey key))
+cluster_status (ClusterCount key) number = BadInput number (cluster_fault (ClusterCount key))
+cluster_status ClusterLengthDiffers number = BadInput number (cluster_fault ClusterLengthDiffers)
+cluster_status ClusterQuantityRange number = BadInput number (cluster_fault ClusterQuantityRange)
+cluster_status (ClusterQuotaOverLimit group) number = BadInput number (cluster_fault (ClusterQuotaOverLimit group))
+cluster_status ClusterOutOfMemory number = OutOfMemory

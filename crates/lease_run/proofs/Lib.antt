@@ -1,3 +1,3 @@
-pub mod Leaving
-pub mod Going
-pub mod Ending
+pub mod EndsLemmas
+pub mod ProgressLemmas
+pub mod RunsLemmas

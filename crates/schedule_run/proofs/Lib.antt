@@ -1,5 +1,3 @@
-pub mod Stepping
-pub mod Going
-pub mod Opening
-pub mod Telling
 pub mod GivenLemmas
+pub mod RunsLemmas
+pub mod ToldLemmas

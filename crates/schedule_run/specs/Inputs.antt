@@ -17,7 +17,7 @@ use Rattle.written_world.specs.Events.{Event}
 use Rattle.written_world.specs.Runs.{outputs}
 use Rattle.input_lines.specs.Contents.{content, is_skipped}
 use Rattle.input_lines.specs.Statuses.{event_fault}
-use Rattle.input_cluster.specs.Openings.{cluster_fault}
+use Rattle.input_lines.specs.Openings.{cluster_fault}
 
 pub record Input : Type 0 where
   pub cluster : ClusterRecord

@@ -1,7 +1,7 @@
-pub mod Describing
-pub mod Running
-pub mod Choosing
+pub mod ClustersLemmas
+pub mod StormsLemmas
+pub mod ChoicesLemmas
 pub mod Units
-pub mod Counting
+pub mod CountsLemmas
 pub mod Texts
 pub mod Calm

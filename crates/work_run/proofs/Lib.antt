@@ -1,3 +1,2 @@
-mod Stepping
-mod Going
-mod StatesLemmas
+pub mod RunsLemmas
+pub mod StatesLemmas

@@ -1,6 +1,6 @@
 use Rattle.std.proofs.Common.{◌≡◌, ◌+◌, ◌∙◌, ap}
-use Rattle.storm_run.proofs.Counting.{agent_here}
-use Rattle.storm_run.proofs.Choosing.{restart_there}
+use Rattle.storm_run.proofs.CountsLemmas.{agent_here}
+use Rattle.storm_run.proofs.ChoicesLemmas.{restart_there}
 use Rattle.storm_run.proofs.choices.restarted.Goals as goal
 
 pub returns-in-Some-checked_add-clause-events : goal.returns-in-Some-checked_add-clause-events

@@ -1,5 +1,5 @@
 use Rattle.storm_run.specs.Storms.{rounds, with_delivery, master_turned, closed}
-use Rattle.storm_run.proofs.Running.{then_ran, then_stopped}
+use Rattle.storm_run.proofs.StormsLemmas.{then_ran, then_stopped}
 use Rattle.storm_run.proofs.closing.close.Goals as goal
 
 pub returns-in-Ok : goal.returns-in-Ok

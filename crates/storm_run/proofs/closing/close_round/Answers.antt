@@ -1,5 +1,5 @@
 use Rattle.storm_run.specs.Storms.{with_delivery, master_turned, peers_turned}
-use Rattle.storm_run.proofs.Running.{then_ran, then_stopped}
+use Rattle.storm_run.proofs.StormsLemmas.{then_ran, then_stopped}
 use Rattle.storm_run.proofs.closing.close_round.Goals as goal
 
 pub returns-in-Ok-clause-runs : goal.returns-in-Ok-clause-runs

@@ -1,7 +1,7 @@
 use Rattle.std.proofs.Common.{◌≡◌, length, sym, subst, arith}
 use Rattle.schedule_replay.specs.Worlds.{StandsFor}
 use Rattle.storm_run.specs.Runs.{Ends}
-use Rattle.storm_run.proofs.Choosing.{none_since, some_since}
+use Rattle.storm_run.proofs.ChoicesLemmas.{none_since, some_since}
 use Rattle.storm_run.proofs.closing.deliver_since.Goals as goal
 
 pub returns-then-before-packets-clause-runs : goal.returns-then-before-packets-clause-runs

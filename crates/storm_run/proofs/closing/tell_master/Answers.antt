@@ -1,7 +1,7 @@
 use Rattle.std.proofs.Common.{sym, subst}
 use Rattle.schedule_replay.specs.Worlds.{StandsFor}
 use Rattle.storm_run.specs.Storms.{peers_turned}
-use Rattle.storm_run.proofs.Choosing.{delivering}
+use Rattle.storm_run.proofs.ChoicesLemmas.{delivering}
 use Rattle.storm_run.proofs.closing.tell_master.Goals as goal
 
 pub returns-in-Ok-clause-runs : goal.returns-in-Ok-clause-runs

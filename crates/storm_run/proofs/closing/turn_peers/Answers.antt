@@ -1,6 +1,6 @@
 use Rattle.storm_run.specs.Storms.{each, taken, peers_turned}
 use Rattle.written_world.specs.Events.{TurnAgent, TurnApp}
-use Rattle.storm_run.proofs.Running.{then_ran, then_stopped}
+use Rattle.storm_run.proofs.StormsLemmas.{then_ran, then_stopped}
 use Rattle.storm_run.proofs.closing.turn_peers.Goals as goal
 
 pub returns-in-Ok-clause-runs : goal.returns-in-Ok-clause-runs

@@ -1,5 +1,5 @@
 use Rattle.std.proofs.Common.{sym}
-use Rattle.storm_run.proofs.Describing.{described, same_ok}
+use Rattle.storm_run.proofs.ClustersLemmas.{described, same_ok}
 use Rattle.storm_run.proofs.cluster.make_cluster.Goals as goal
 
 pub returns-in-Ok : goal.returns-in-Ok

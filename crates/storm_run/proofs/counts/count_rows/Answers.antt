@@ -1,6 +1,6 @@
 use Rattle.std.proofs.Common.{arith, rules}
 use Rattle.party_ledgers.specs.Entries.{entry_of}
-use Rattle.storm_run.proofs.Counting.{rows_more}
+use Rattle.storm_run.proofs.CountsLemmas.{rows_more}
 use Rattle.storm_run.proofs.counts.count_rows.Goals as goal
 
 pub loop-index-preserved : goal.loop-index-preserved

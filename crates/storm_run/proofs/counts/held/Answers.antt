@@ -1,4 +1,4 @@
-use Rattle.storm_run.proofs.Counting.{held_there, held_few}
+use Rattle.storm_run.proofs.CountsLemmas.{held_there, held_few}
 use Rattle.storm_run.proofs.counts.held.Goals as goal
 
 pub returns-in-Some : goal.returns-in-Some

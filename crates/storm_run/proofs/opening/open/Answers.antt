@@ -2,7 +2,7 @@ use Rattle.std.proofs.Common.{Err}
 use Rattle.fuxi_terms.specs.Counts.{then_do}
 use Rattle.written_world.specs.Events.{StartMaster, StartAgent, StartApp}
 use Rattle.storm_run.specs.Storms.{each, taken, submitted, opened}
-use Rattle.storm_run.proofs.Running.{Part, then_ran, then_stopped}
+use Rattle.storm_run.proofs.StormsLemmas.{Part, then_ran, then_stopped}
 use Rattle.storm_run.proofs.opening.open.Goals as goal
 
 abbrev first : Part

@@ -2,7 +2,7 @@ use Rattle.std.proofs.Common.{[], ◌∷◌, Err}
 use Rattle.fuxi_terms.specs.Counts.{then_do}
 use Rattle.written_world.specs.Events.{Submit}
 use Rattle.storm_run.specs.Storms.{taken, job}
-use Rattle.storm_run.proofs.Running.{Part, then_ran, then_stopped}
+use Rattle.storm_run.proofs.StormsLemmas.{Part, then_ran, then_stopped}
 use Rattle.storm_run.proofs.opening.submit_all.Goals as goal
 
 first : Part

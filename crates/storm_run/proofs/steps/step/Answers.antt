@@ -1,6 +1,6 @@
 use Rattle.std.proofs.Common.{sym, subst}
 use Rattle.schedule_replay.specs.Worlds.{StandsFor}
-use Rattle.storm_run.proofs.Running.{stepped_as}
+use Rattle.storm_run.proofs.StormsLemmas.{stepped_as}
 use Rattle.storm_run.proofs.steps.step.Goals as goal
 
 pub returns-clause-steps : goal.returns-clause-steps

@@ -1,7 +1,7 @@
 use Rattle.std.proofs.Common.{◌≡◌, Ok, subst, arith, rules}
 use Rattle.storm_run.specs.Storms.{all_stepped, storm_at}
 use Rattle.storm_run.specs.Runs.{Steps}
-use Rattle.storm_run.proofs.Running.{steps_more, steps_short}
+use Rattle.storm_run.proofs.StormsLemmas.{steps_more, steps_short}
 use Rattle.storm_run.proofs.steps.step_all.Goals as goal
 
 pub returns-in-Err-clause-steps : goal.returns-in-Err-clause-steps

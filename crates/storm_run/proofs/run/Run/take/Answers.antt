@@ -2,7 +2,7 @@ use Rattle.std.proofs.Common.{◌≡◌, Ok, subst}
 use Rattle.schedule_replay.specs.Events.{event_as}
 use Rattle.storm_run.specs.Storms.{taken}
 use Rattle.storm_run.specs.Runs.{Runs}
-use Rattle.storm_run.proofs.Running.{took}
+use Rattle.storm_run.proofs.StormsLemmas.{took}
 use Rattle.storm_run.proofs.run.Run.take.Goals as goal
 
 pub returns-in-Ok-clause-runs : goal.returns-in-Ok-clause-runs

@@ -1,7 +1,7 @@
 use Rattle.std.proofs.Common.{◌≡◌, Ok, Err, subst, arith, rules}
 use Rattle.storm_run.specs.Storms.{taken, each}
 use Rattle.storm_run.specs.Runs.{told, Runs}
-use Rattle.storm_run.proofs.Running.{ran_more, ran_short}
+use Rattle.storm_run.proofs.StormsLemmas.{ran_more, ran_short}
 use Rattle.storm_run.proofs.run.Run.tell_each.Goals as goal
 
 pub returns-in-Err-clause-runs : goal.returns-in-Err-clause-runs

@@ -12,7 +12,7 @@ use Rattle.schedule_replay.specs.Worlds.{WorldRecord, StandsFor}
 use Rattle.storm_run.specs.Choices.{counted, restart}
 use Rattle.storm_run.specs.Storms.{taken, delivered, with_delivery}
 use Rattle.storm_run.specs.Runs.{Runs}
-use Rattle.storm_run.proofs.Running.{Part, then_ran}
+use Rattle.storm_run.proofs.StormsLemmas.{Part, then_ran}
 
 pub counted_some : (n : ℕ) (f : ℕ → Event) → 0 < n → n < 2 ^ 64 → counted n f ≡ f n ∷ []
 counted_some n f low high =

@@ -17,13 +17,9 @@ use Rattle.cluster_desc.specs.Faults.{IsFault}
 use Rattle.input_lines.specs.Contents.{content, is_skipped}
 use Rattle.input_lines.specs.Statuses.{stop_status}
 use Rattle.input_lines.specs.Wholes.{AreWhole, TakesLines}
-use Rattle.input_cluster.specs.Openings.{Opening, BadAt, TooMany, cluster_fault, described, opening_from, HasCluster, IsLast, StopsAtCluster, Opened}
-use Rattle.input_cluster.specs.Statuses.{cluster_status}
-use Rattle.input_cluster.proofs.Known.{weaker}
-
--- what the reader's last line says
-pub line_said : (said bytes : List ℕ) (ended : Bool) (reading : Reading) → said ≡ content (record { bytes = bytes; ended = ended }) → bytes ≡ reading.line → ended ≡ reading.ended → said ≡ content (line_of reading)
-line_said said bytes ended reading is b e = is ∙ ap (λ x. content (record { bytes = x; ended = ended })) b ∙ ap (λ x. content (record { bytes = reading.line; ended = x })) e
+use Rattle.input_lines.specs.Openings.{Opening, BadAt, TooMany, cluster_fault, described, opening_from, HasCluster, IsLast, StopsAtCluster, Opened}
+use Rattle.input_lines.specs.Statuses.{cluster_status}
+use Rattle.input_lines.proofs.Known.{weaker}
 
 -- a line that is skipped, and one that says something
 module _ (before : ℕ) (line : InputLine) (lines : List InputLine) (more : before < most_lines) (short : length line.bytes ≤ most_line_bytes) where

@@ -2,8 +2,8 @@ use Rattle.std.proofs.Common.{◌≡◌, ◌≢◌, ◌≤◌, length, Some, Non
 use Rattle.fuxi_io.specs.Reading.{rest_of, read_ahead}
 use Rattle.fuxi_io.specs.declared.lines.LineStop.TheVariants.{ReadFault}
 use Rattle.fuxi_terms.specs.Limits.{most_lines}
-use Rattle.input_cluster.proofs.Seeking.{Seeking}
-use Rattle.input_cluster.proofs.read.read_cluster_line.Given as goal
+use Rattle.input_lines.proofs.OpeningsLemmas.{Seeking}
+use Rattle.input_lines.proofs.cluster.read_cluster_line.Given as goal
 
 abbrev pub invariant-loop-turn : goal.invariant-loop-turn
 invariant-loop-turn g l = record {

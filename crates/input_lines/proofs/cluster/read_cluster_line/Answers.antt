@@ -3,9 +3,9 @@ use Rattle.fuxi_io.specs.Reading.{line_of}
 use Rattle.cluster_desc.specs.ClusterLine.{cluster_of}
 use Rattle.cluster_desc.specs.Faults.{IsFault}
 use Rattle.input_lines.specs.Contents.{content, is_skipped}
-use Rattle.input_cluster.proofs.Known.{running_alone}
-use Rattle.input_cluster.proofs.Seeking.{line_said, seek_start, seek_more, seek_cluster, seek_fault, seek_last, seek_stop}
-use Rattle.input_cluster.proofs.read.read_cluster_line.Goals as goal
+use Rattle.input_lines.proofs.Known.{line_said, running_alone}
+use Rattle.input_lines.proofs.OpeningsLemmas.{seek_start, seek_more, seek_cluster, seek_fault, seek_last, seek_stop}
+use Rattle.input_lines.proofs.cluster.read_cluster_line.Goals as goal
 
 pub loop-turn-init : goal.loop-turn-init
 loop-turn-init g c = record {

@@ -2,12 +2,13 @@ ghost use Rattle.std.specs.Prelude.{◌≡◌, ◌≢◌, ℕ, ◌≤◌, length
 ghost use Rattle.fuxi_io.specs.Causes.{Rose};
 ghost use Rattle.fuxi_io.specs.Reading.{rest_of, read_ahead};
 ghost use Rattle.fuxi_terms.specs.Limits.{most_lines};
-ghost use Rattle.input_cluster.specs.Openings.{Opened};
+ghost use Rattle.input_lines.specs.Openings.{Opened};
 
-use crate::status::{cluster_status, no_cluster};
+use crate::law::lines_are_taken;
+use crate::line::{content, is_skipped};
+use crate::status::{cluster_status, no_cluster, stop_status};
 use cluster_desc::{Cluster, read_cluster};
 use fuxi_io::{Got, LimitOf, LineReader, LineStop, Source, Status};
-use input_lines::{content, is_skipped, lines_are_taken, stop_status};
 use std::alloc::Global;
 
 /// Reads lines up to the one that describes the cluster, the first that is not skipped. What stands behind it
