@@ -10,7 +10,7 @@ use Rattle.fuxi_io.specs.declared.status.Status.{Status}
 use Rattle.fuxi_io.specs.declared.status.Status.TheVariants.{Done, Usage, BadInput, ReadFault, WriteFault, Limit, OutOfMemory, DiskFault, StaleEpoch, DamagedCheckpoint}
 use Rattle.fuxi_terms.specs.Cluster.{ClusterRecord}
 use Rattle.schedule_unit.specs.declared.party.MachineNo.{MachineNo}
-use Rattle.input_cluster.specs.Openings.{Opens, opening_from, HasCluster, StopsBefore}
+use Rattle.input_lines.specs.Openings.{Opens, opening_from, HasCluster, StopsBefore}
 use Rattle.fuxi_node.specs.Runs.{AtBadLine, ending_from}
 use Rattle.fuxi_node.specs.Ends.{EndsBy}
 use Rattle.fuxi_node.specs.declared.kind.NodeKind.{NodeKind}

@@ -7,7 +7,7 @@ ghost use Rattle.fuxi_terms.specs.Limits.{most_lines, most_machines};
 ghost use Rattle.input_lines.specs.Wholes.{IsReady};
 ghost use Rattle.node_door.specs.Doors.{WhereTold};
 ghost use Rattle.fuxi_io.specs.Lines.{lines_of};
-ghost use Rattle.input_cluster.specs.Openings.{Opens};
+ghost use Rattle.input_lines.specs.Openings.{Opens};
 ghost use Rattle.fuxi_node.specs.Ends.{EndsBy};
 ghost use Rattle.fuxi_node.specs.Inputs.{NodeEnded, TellsDisk, ending_behind};
 ghost use Rattle.fuxi_node.specs.declared.kind.NodeKind.TheVariants.{Agent};

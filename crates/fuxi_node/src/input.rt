@@ -7,7 +7,7 @@ ghost use Rattle.fuxi_terms.specs.Limits.{most_lines};
 ghost use Rattle.input_lines.specs.Wholes.{IsReady};
 ghost use Rattle.node_door.specs.Doors.{WhereTold};
 ghost use Rattle.fuxi_io.specs.Lines.{lines_of};
-ghost use Rattle.input_cluster.specs.Openings.{Opens};
+ghost use Rattle.input_lines.specs.Openings.{Opens};
 ghost use Rattle.fuxi_node.specs.Ends.{EndsBy};
 ghost use Rattle.fuxi_node.specs.Inputs.{HasNoCluster, IsKind, LeavesDisk, MayStart, NodeEnded, InputEnded, InputEndsBy, TellsDisk, ending_behind, ending_of, status_at};
 ghost use Rattle.fuxi_node.specs.declared.kind.NodeKind.TheVariants.{Master};
@@ -18,7 +18,7 @@ use crate::kind::NodeKind;
 use crate::masters::run_master;
 use cluster_desc::Cluster;
 use fuxi_io::{Disk, LimitOf, LineReader, LineStop, Sink, Source, Status};
-use input_cluster::read_cluster_line;
+use input_lines::read_cluster_line;
 use node_door::Door;
 use std::alloc::Global;
 

@@ -10,7 +10,7 @@ use Rattle.fuxi_io.specs.declared.status.LimitOf.TheVariants.{Lines, Packets, By
 use Rattle.fuxi_io.specs.declared.status.Status.{Status}
 use Rattle.fuxi_io.specs.declared.status.Status.TheVariants.{Done, Usage, BadInput, ReadFault, WriteFault, Limit, OutOfMemory, DiskFault, StaleEpoch, DamagedCheckpoint}
 use Rattle.fuxi_terms.specs.Cluster.{ClusterRecord}
-use Rattle.fuxi_terms.proofs.Appending.{appends_none}
+use Rattle.fuxi_terms.proofs.AppendsLemmas.{appends_none}
 use Rattle.input_lines.specs.LineRuns.{Run, Said, Ending, AtEnd, AtBadLine, AtLimit, EndedAs, EndedBehind, IsOpen, StopsWithin, ended, known, read_lines, run_lines, run_opened}
 use Rattle.input_lines.specs.Openings.{Opening, Opens, BadAt, TooMany, opening_from, HasCluster, IsLast, Opened}
 use Rattle.input_lines.specs.Wholes.{whole_lines, AreWhole, AreTaken, WritesLast}
