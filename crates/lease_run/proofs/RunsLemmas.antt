@@ -41,12 +41,15 @@ takes_any line number s after w0 w takes x same = subst (λ (y : LeaseState). Ta
   where
     of : TakesLine line number s after (Ok tt) w0 w → TakesAny {A = Unit {0}} says line number s (Ok tt) w0 w
     of (inl h) = inl (h.0, h.2)
-    of (inr h) = let t = h.1.1 in inr (h.0, record {
-      output = answer_text (lease_step s t.event).answer;
-      after = (lease_step s t.event).state;
-      is = says_taken s line t.event t.is;
-      writes = subst (λ o. Appends w0 w o) t.answers h.1.2;
-    })
+    of (inr h) = let t = h.1.1 in inr (
+      h.0,
+      record {
+        output = answer_text (lease_step s t.event).answer;
+        after = (lease_step s t.event).state;
+        is = says_taken s line t.event t.is;
+        writes = subst (λ o. Appends w0 w o) t.answers h.1.2;
+      },
+    )
 
 pub leads_to : (line : List ℕ) (number : ℕ) (s after : LeaseState) (w0 w : Option (List ℕ)) → TakesLine line number s after (Ok tt) w0 w → (x : LeaseState) → x ≡ s → after_line says x line ≡ after
 leads_to line number s after w0 w takes x same = ap (λ (y : LeaseState). after_line says y line) same ∙ of takes
