@@ -32,7 +32,7 @@ left c =
     let here = ap (λ (r : AllotmentRecord). length r.table.cluster.machines) c.self.view_is in
     let end : c.loop-number.number ≡ length x.table.cluster.machines = let p = c.loop-number-test.false in let q = c.loop-number.auto.number-end in let r = c.machines-machines.ensures.number in omega (arith, p, q, r, same, here) in
     let all = subst (λ n. Clears (λ s. nat_eq s.job a && (is_admitted x.table a s.unit && nat_lt s.machine n)) x c.loop-number.left) end c.loop-number.invariant in
-    job_left a x c.loop-number.left (subst (λ (r : AllotmentRecord). IsSound r.table) c.self.view_is c.cluster.ensures.sound) (subst (λ (r : AllotmentRecord). IsSound r.table) c.left.view_is c.cluster-after.ensures.sound) all
+    job_left a x c.loop-number.left (subst (λ (r : AllotmentRecord). IsSound r.table) c.self.view_is c.cluster.ensures.sound) (subst (λ (r : AllotmentRecord). IsSound r.table) c.left-2.view_is c.cluster-after.ensures.sound) all
 
 pub returns-clause-stands : goal.returns-clause-stands
 returns-clause-stands c = (left c).stands
