@@ -1,5 +1,5 @@
 -- Numbers are read one after another: what is read of a line is what was read and what is left.
-use Rattle.std.proofs.Common.{◌≡◌, ℕ, zero, suc, ◌+◌, ◌<◌, List, [], ◌∷◌, ◌++◌, length, get_or, set, map, take, drop, drop-cons, Result, Ok, Err, Bool, true, false, ◌&&◌, Bor, refl, ap, sym, ◌∙◌, arith, add-one, append_assoc}
+use Rattle.std.proofs.Common.{◌≡◌, ℕ, zero, suc, ◌+◌, ◌<◌, List, [], ◌∷◌, ◌++◌, length, get_or, set, map, take, drop, drop-cons, Result, Ok, Err, Bool, true, false, ◌&&◌, Bor, refl, ap, sym, subst, ◌∙◌, arith, add-one, append_assoc}
 use Rattle.fuxi_terms.specs.Counts.{then_do}
 use Rattle.schedule_text.specs.declared.event.LineFault.{LineFault}
 use Rattle.schedule_text.specs.declared.event.LineFault.TheVariants.{UnknownWord, WrongCount, BadNumber, Range, OutOfMemory}
@@ -60,29 +60,31 @@ module _ {P : Type 0} (is_within : P → ℕ → ℕ → Bool) where
   behind_place : (ps : List P) (i : ℕ) (d : P) → i < length ps → drop i ps ≡ get_or ps i d ∷ drop (i + 1) ps
   behind_place ps i d lt = drop-cons ps i d lt ∙ ap (λ n. get_or ps i d ∷ drop n ps) (sym (add-one i))
 
-  pub numbers_step : (ps : List P) (ws : List (Bor (List ℕ))) (place before i : ℕ) (d : Bor (List ℕ)) (e : P) (front : List ℕ) (n : ℕ) (all : Result (List ℕ) LineFault)
+  pub numbers_step : (ps : List P) (ws : List (Bor (List ℕ))) (place before i : ℕ) (d : Bor (List ℕ)) (e x : P) (front : List ℕ) (n : ℕ) (all : Result (List ℕ) LineFault)
       → i < length ps → i < length ws
-      → number_in is_within (get_or ps i e) (place + i) before (get_or ws i d).now ≡ Ok n
+      → x ≡ get_or ps i e
+      → number_in is_within x (place + i) before (get_or ws i d).now ≡ Ok n
       → all ≡ then_do (numbers_in is_within (drop i ps) (place + i) before (drop i (map (λ w. w.now) ws))) (λ ns. Ok (front ++ ns))
       → all ≡ then_do (numbers_in is_within (drop (i + 1) ps) (place + (i + 1)) n (drop (i + 1) (map (λ w. w.now) ws))) (λ ns. Ok ((front ++ n ∷ []) ++ ns))
-  numbers_step ps ws place before i d e front n all named lt is h =
+  numbers_step ps ws place before i d e x front n all named lt same is h =
       let rest = drop (i + 1) (map (λ (w : Bor (List ℕ)). w.now) ws) in
       h ∙ ap (λ l. then_do (numbers_in is_within (drop i ps) (place + i) before l) (λ ns. Ok (front ++ ns))) (behind_word ws i d lt)
       ∙ ap (λ l. then_do (numbers_in is_within l (place + i) before ((get_or ws i d).now ∷ rest)) (λ ns. Ok (front ++ ns))) (behind_place ps i e named)
-      ∙ ap (λ r. then_do (then_do r (λ m. then_do (numbers_in is_within (drop (i + 1) ps) (place + i + 1) m rest) (λ ns. Ok (m ∷ ns)))) (λ ns. Ok (front ++ ns))) is
+      ∙ ap (λ r. then_do (then_do r (λ m. then_do (numbers_in is_within (drop (i + 1) ps) (place + i + 1) m rest) (λ ns. Ok (m ∷ ns)))) (λ ns. Ok (front ++ ns))) (subst (λ p. number_in is_within p (place + i) before (get_or ws i d).now ≡ Ok n) same is)
       ∙ joined front n (numbers_in is_within (drop (i + 1) ps) (place + i + 1) n rest)
       ∙ ap (λ p. then_do (numbers_in is_within (drop (i + 1) ps) p n rest) (λ ns. Ok ((front ++ n ∷ []) ++ ns))) (next_place place i)
 
-  pub numbers_fault : (ps : List P) (ws : List (Bor (List ℕ))) (place before i : ℕ) (d : Bor (List ℕ)) (e : P) (front : List ℕ) (fault : LineFault) (all : Result (List ℕ) LineFault)
+  pub numbers_fault : (ps : List P) (ws : List (Bor (List ℕ))) (place before i : ℕ) (d : Bor (List ℕ)) (e x : P) (front : List ℕ) (fault : LineFault) (all : Result (List ℕ) LineFault)
       → i < length ps → i < length ws
-      → number_in is_within (get_or ps i e) (place + i) before (get_or ws i d).now ≡ Err fault
+      → x ≡ get_or ps i e
+      → number_in is_within x (place + i) before (get_or ws i d).now ≡ Err fault
       → all ≡ then_do (numbers_in is_within (drop i ps) (place + i) before (drop i (map (λ w. w.now) ws))) (λ ns. Ok (front ++ ns))
       → all ≡ Err fault
-  numbers_fault ps ws place before i d e front fault all named lt is h =
+  numbers_fault ps ws place before i d e x front fault all named lt same is h =
       let rest = drop (i + 1) (map (λ (w : Bor (List ℕ)). w.now) ws) in
       h ∙ ap (λ l. then_do (numbers_in is_within (drop i ps) (place + i) before l) (λ ns. Ok (front ++ ns))) (behind_word ws i d lt)
       ∙ ap (λ l. then_do (numbers_in is_within l (place + i) before ((get_or ws i d).now ∷ rest)) (λ ns. Ok (front ++ ns))) (behind_place ps i e named)
-      ∙ ap (λ r. then_do (then_do r (λ m. then_do (numbers_in is_within (drop (i + 1) ps) (place + i + 1) m rest) (λ ns. Ok (m ∷ ns)))) (λ ns. Ok (front ++ ns))) is
+      ∙ ap (λ r. then_do (then_do r (λ m. then_do (numbers_in is_within (drop (i + 1) ps) (place + i + 1) m rest) (λ ns. Ok (m ∷ ns)))) (λ ns. Ok (front ++ ns))) (subst (λ p. number_in is_within p (place + i) before (get_or ws i d).now ≡ Err fault) same is)
 
 pub fault_is : {A : Type 0} (outcome : Result A LineFault) (fault : LineFault) → outcome ≡ Err fault → IsFault outcome fault
 fault_is outcome UnknownWord is = is
