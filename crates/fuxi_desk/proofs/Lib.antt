@@ -1,6 +1,8 @@
-pub mod RunsLemmas
-pub mod EndsLemmas
-pub mod TextsLemmas
-pub mod PreparedLemmas
-pub mod LinesLemmas
-pub mod ScheduleLines
+pub mod Stepping
+pub mod Going
+pub mod Opening
+pub mod Ending
+pub mod Finishing
+pub mod Beginning
+pub mod Reading
+pub mod Texting

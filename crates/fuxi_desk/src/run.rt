@@ -7,9 +7,8 @@ ghost use Rattle.fuxi_terms.specs.Limits.{most_lines};
 ghost use Rattle.input_lines.specs.Wholes.{IsReady};
 ghost use Rattle.master_desk.specs.Orders.{most_calls};
 ghost use Rattle.fuxi_desk.specs.Preparing.{Prepared as PreparedSeen, Stands, prepared_for};
-ghost use Rattle.input_lines.specs.LineProgress.{TakesLine, after_line};
-ghost use Rattle.fuxi_desk.specs.Runs.{Ended, EndedBehind, read_from, run_from, says};
-ghost use Rattle.fuxi_desk.specs.Progress.{WritesState};
+ghost use Rattle.fuxi_desk.specs.Runs.{Ended, read_from, run_from};
+ghost use Rattle.fuxi_desk.specs.Progress.{TakesLine, WritesState, after_line};
 
 use crate::prepare::Prepared;
 use crate::read::read_line;
@@ -17,7 +16,7 @@ use crate::text::write_desk;
 use cluster_desc::Cluster;
 use fuxi_io::{Got, LimitOf, LineReader, LineStop, Sink, Source, Status, write_all_of};
 use fuxi_terms::OutOfMemory;
-use input_lines::{content, event_status, is_skipped, read_cluster_line, stop_status};
+use input_lines::{content, event_status, is_skipped, lines_are_taken, read_cluster_line, stop_status};
 use master_desk::{Gate, MOST_CALLS, run_all};
 use std::alloc::Global;
 use std::sync::Wait;
@@ -32,8 +31,8 @@ fn take_line<O: Sink>(
     out: &mut O,
 ) -> Result<Prepared, Status>
     requires steps { prepared.node.master.steps < 2 ^ 29 }
-    ensures takes { (w : PreparedSeen) → Stands prepared w → TakesLine says line.now number w result (O.took out.old) (O.took out.new) }
-    ensures stands { IfOk result (λ after. (w : PreparedSeen) → Stands prepared w → Stands after (after_line says w line.now)) }
+    ensures takes { (w : PreparedSeen) → Stands prepared w → TakesLine line.now number w result (O.took out.old) (O.took out.new) }
+    ensures stands { IfOk result (λ after. (w : PreparedSeen) → Stands prepared w → Stands after (after_line w line.now)) }
     ensures steps { IfOk result (λ after. after.node.master.steps ≤ prepared.node.master.steps + 1) }
     ensures later { O.faults out.old ≤ O.faults out.new }
     ensures fault { result ≡ Err Status.WriteFault → Rose (O.faults out.old) (O.faults out.new) }
@@ -122,7 +121,7 @@ fn run_lines<R: Threads + Wait + Sync, S: Source, O: Sink, G: Gate + Sync>(
 ) -> Status
     requires stop { lines.old.stop ≢ Some LineStop.ReadFault }
     requires ahead { length lines.old.pending ≤ read_ahead }
-    ensures ended { IsReady lines.old (S.left source.old) → IfSome (rest_of lines.old (S.left source.old)) (λ bytes. EndedBehind (run_from lines.old.number (prepared_for cluster.now)) bytes result (S.left source.new) (O.took out.old) (O.took out.new)) }
+    ensures ended { IsReady lines.old (S.left source.old) → IfSome (rest_of lines.old (S.left source.old)) (λ bytes. Ended (run_from lines.old.number (prepared_for cluster.now)) bytes result (S.left source.new) (O.took out.old) (O.took out.new)) }
     ensures unread { lines.old.ended ≡ false → result ≢ Status.ReadFault }
     ensures read { result ≡ Status.ReadFault → Rose (S.faults source.old) (S.faults source.new) }
     ensures write { result ≡ Status.WriteFault → Rose (O.faults out.old) (O.faults out.new) }
@@ -131,6 +130,7 @@ fn run_lines<R: Threads + Wait + Sync, S: Source, O: Sink, G: Gate + Sync>(
     ensures stale { (fence : ℕ) → result ≢ Status.StaleEpoch fence }
     ensures damaged { (offset : ℕ) → result ≢ Status.DamagedCheckpoint offset }
 {
+    lines_are_taken();
     let Ok(start) = Prepared::start(alloc, cluster) else {
         return Status::OutOfMemory;
     };

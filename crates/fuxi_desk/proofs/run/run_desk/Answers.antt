@@ -1,4 +1,4 @@
-use Rattle.fuxi_desk.proofs.EndsLemmas.{untouched}
+use Rattle.fuxi_desk.proofs.Ending.{untouched}
 use Rattle.fuxi_desk.proofs.run.run_desk.Goals as goal
 
 pub returns-in-Err-clause-ended : goal.returns-in-Err-clause-ended
