@@ -1,3 +1,5 @@
+pub mod Stepping
+pub mod Going
+pub mod Opening
+pub mod Telling
 pub mod GivenLemmas
-pub mod RunsLemmas
-pub mod ToldLemmas

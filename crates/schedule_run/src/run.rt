@@ -3,18 +3,15 @@ ghost use Rattle.fuxi_io.specs.Causes.{Rose};
 ghost use Rattle.fuxi_io.specs.Reading.{rest_of, read_ahead};
 ghost use Rattle.written_world.specs.World.{World as WrittenWorld, empty_world};
 ghost use Rattle.schedule_replay.specs.Worlds.{IsReached};
-ghost use Rattle.schedule_replay.specs.Texts.{lines_text};
-ghost use Rattle.written_world.specs.Show.{show};
-ghost use Rattle.input_lines.specs.LineProgress.{TakesLine, WritesEnd, after_line};
+ghost use Rattle.schedule_run.specs.Runs.{run_from, read_from, Ended};
+ghost use Rattle.schedule_run.specs.Progress.{Stands, TakesLine, WritesState, after_line, world_status};
 ghost use Rattle.input_lines.specs.Wholes.{IsReady};
-ghost use Rattle.schedule_run.specs.Runs.{run_from, read_from, says, Ended, EndedBehind};
-ghost use Rattle.schedule_run.specs.Progress.{Stands, world_status};
 ghost use Rattle.fuxi_terms.specs.Limits.{most_lines};
 
 use cluster_desc::Cluster;
 use fuxi_io::{Got, LimitOf, LineReader, LineStop, Sink, Source, Status, write_all_of};
 use fuxi_terms::OutOfMemory;
-use input_lines::{content, event_status, is_skipped, read_cluster_line, stop_status};
+use input_lines::{content, event_status, is_skipped, lines_are_taken, read_cluster_line, stop_status};
 use schedule_replay::{Running, WorldStop, events_stand_anywhere};
 use schedule_text::read_event;
 use std::alloc::Global;
@@ -29,8 +26,8 @@ fn take_line<O: Sink>(
 ) -> Result<(), Status>
     requires reached { IsReached running.old }
     requires events { running.old.events < 2 ^ 29 }
-    ensures takes { (w : WrittenWorld) → Stands running.old w → TakesLine says line.now number w result (O.took out.old) (O.took out.new) }
-    ensures stands { OnOk result ((w : WrittenWorld) → Stands running.old w → Stands running.new (after_line says w line.now)) }
+    ensures takes { (w : WrittenWorld) → Stands running.old w → TakesLine line.now number w result (O.took out.old) (O.took out.new) }
+    ensures stands { OnOk result ((w : WrittenWorld) → Stands running.old w → Stands running.new (after_line w line.now)) }
     ensures reached { OnOk result (IsReached running.new) }
     ensures events { OnOk result (running.new.events ≤ running.old.events + 1) }
     ensures later { O.faults out.old ≤ O.faults out.new }
@@ -64,7 +61,7 @@ fn take_line<O: Sink>(
 // Writes the state behind a whole input.
 fn write_state<O: Sink>(alloc: Global, running: &Running, out: &mut O) -> Status
     requires { IsReached running.now }
-    ensures writes { (w : WrittenWorld) → Stands running.now w → WritesEnd (lines_text (show w)) result (O.took out.old) (O.took out.new) }
+    ensures writes { (w : WrittenWorld) → Stands running.now w → WritesState w result (O.took out.old) (O.took out.new) }
     ensures fault { result ≡ Status.WriteFault → Rose (O.faults out.old) (O.faults out.new) }
     ensures read { result ≢ Status.ReadFault }
     ensures usage { result ≢ Status.Usage }
@@ -111,7 +108,7 @@ fn run_lines<S: Source, O: Sink>(
 ) -> Status
     requires stop { lines.old.stop ≢ Some LineStop.ReadFault }
     requires ahead { length lines.old.pending ≤ read_ahead }
-    ensures ended { IsReady lines.old (S.left source.old) → IfSome (rest_of lines.old (S.left source.old)) (λ bytes. EndedBehind (run_from lines.old.number (empty_world cluster)) bytes result (S.left source.new) (O.took out.old) (O.took out.new)) }
+    ensures ended { IsReady lines.old (S.left source.old) → IfSome (rest_of lines.old (S.left source.old)) (λ bytes. Ended (run_from lines.old.number (empty_world cluster)) bytes result (S.left source.new) (O.took out.old) (O.took out.new)) }
     ensures unread { lines.old.ended ≡ false → result ≢ Status.ReadFault }
     ensures read { result ≡ Status.ReadFault → Rose (S.faults source.old) (S.faults source.new) }
     ensures write { result ≡ Status.WriteFault → Rose (O.faults out.old) (O.faults out.new) }
@@ -122,6 +119,7 @@ fn run_lines<S: Source, O: Sink>(
     ensures damaged { (offset : ℕ) → result ≢ Status.DamagedCheckpoint offset }
     ensures records { lines.old.stop ≡ None → (kept : ℕ) → result ≢ Status.Limit LimitOf.Records kept }
 {
+    lines_are_taken();
     let Ok(mut running) = Running::start(alloc, cluster) else {
         return Status::OutOfMemory;
     };

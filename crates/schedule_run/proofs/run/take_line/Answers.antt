@@ -1,19 +1,10 @@
-use Rattle.std.proofs.Common.{inl, sym, refl, subst}
+use Rattle.std.proofs.Common.{sym, subst}
 use Rattle.schedule_text.specs.Halting.{anywhere}
 use Rattle.schedule_replay.specs.Steps.{IsTaken, Stops, limit_of}
 use Rattle.written_world.specs.Events.{Event, world_step}
 use Rattle.schedule_run.specs.Progress.{Stands}
-use Rattle.schedule_run.proofs.RunsLemmas.{event_line, no_event, skipped_line, stopped_at, took_line, took_part}
+use Rattle.schedule_run.proofs.Stepping.{event_line, stopped_at, took_line, took_part}
 use Rattle.schedule_run.proofs.run.take_line.Goals as goal
-
-pub returns-then-is_skipped-clause-takes : goal.returns-then-is_skipped-clause-takes
-returns-then-is_skipped-clause-takes g c w s = inl (sym c.if-is_skipped.ensures, refl)
-
-pub returns-then-is_skipped-clause-stands : goal.returns-then-is_skipped-clause-stands
-returns-then-is_skipped-clause-stands g c w s = skipped_line c.args.line.now c.args.running.now w (sym c.if-is_skipped.ensures) s
-
-pub returns-in-Err-clause-takes : goal.returns-in-Err-clause-takes
-returns-in-Err-clause-takes g c w s = rw c.event_status.ensures (no_event c.args.line.now c.args.number w (g.O.Sink.took c.args.out.now) c.in-Err.fault (sym c.if-is_skipped.ensures) c.in-Err.ensures.fault)
 
 pub returns-in-Err-step-clause-takes : goal.returns-in-Err-step-clause-takes
 returns-in-Err-step-clause-takes g c w s =
@@ -25,7 +16,7 @@ pub returns-in-Ok-write_all_of-clause-stands : goal.returns-in-Ok-write_all_of-c
 returns-in-Ok-write_all_of-clause-stands g c w s =
     let e = c.in-Ok.event in
     let t = subst (λ (x : Event). IsTaken w x c.step.new.self c.in-Ok-step.lines) (sym (c.events_stand_anywhere.ensures e)) (c.in-Ok-step.ensures.takes w s.is s.stands) in
-    subst (Stands c.step.new.self) (sym (event_line w c.args.line.now (anywhere e) c.step.new.self c.in-Ok-step.lines (sym c.if-is_skipped.ensures) c.in-Ok.ensures.ok t)) (record { is = t.is; stands = t.stands })
+    subst (Stands c.step.new.self) (sym (event_line w c.args.line.now (anywhere e) (sym c.if-is_skipped.ensures) c.in-Ok.ensures.ok)) (record { is = t.is; stands = t.stands })
 
 pub returns-in-Ok-write_all_of-clause-takes : goal.returns-in-Ok-write_all_of-clause-takes
 returns-in-Ok-write_all_of-clause-takes g c w s =

@@ -7,7 +7,7 @@ use Rattle.std.proofs.Math.Seq.{take-length}
 use Rattle.fuxi_io.specs.Lines.{InputLine, lines_of}
 use Rattle.fuxi_io.specs.declared.status.InputFault.{InputFault}
 use Rattle.fuxi_io.specs.declared.status.InputFault.TheVariants.{LineTooLong}
-use Rattle.fuxi_io.specs.declared.status.LimitOf.TheVariants.{Lines, Packets, Bytes}
+use Rattle.fuxi_io.specs.declared.status.LimitOf.TheVariants.{Lines}
 use Rattle.fuxi_terms.specs.Cluster.{ClusterRecord}
 use Rattle.fuxi_terms.specs.Counts.{then_do}
 use Rattle.fuxi_terms.specs.Limits.{most_line_bytes, most_lines}
@@ -31,11 +31,9 @@ use Rattle.input_lines.specs.Contents.{content, is_skipped}
 use Rattle.input_lines.specs.Statuses.{event_fault}
 use Rattle.input_lines.specs.Openings.{cluster_fault, described}
 use Rattle.schedule_run.specs.Inputs.{Input, BadLine, cluster_said, event_said, unless_long, events_from, input_from, told}
-use Rattle.input_lines.specs.LineRuns.{Run as LineRun, Bad, Ending, AtEnd, AtBadLine, AtLimit, ended, known, run_opened, with_said}
-use Rattle.input_lines.proofs.LineRunsLemmas.{too_long, run_skipped, run_said}
-use Rattle.schedule_run.specs.Runs.{Run, past_at, run_from, read_from, run_of, final_text, pieces, says, with_event}
+use Rattle.schedule_run.specs.Runs.{Run, Ending, AtEnd, AtBadLine, AtLimit, ended, ending_at, run_from, run_opened, read_from, run_of, final_text, pieces}
 use Rattle.schedule_run.specs.Told.{IsText, IsTextBefore, IsFrontText}
-use Rattle.schedule_run.proofs.RunsLemmas.{run_past, run_taken}
+use Rattle.schedule_run.proofs.Going.{too_long, run_skipped, run_bad, run_past, run_taken}
 
 abbrev bad_line : ℕ → InputFault → BadLine
 bad_line line fault = record { line = line; fault = fault }
@@ -71,23 +69,22 @@ EndsAt before lines taken AtEnd = taken ≡ length lines
 EndsAt before lines taken (AtBadLine n fault) = (n ≡ before + taken + 1) × (events_from before lines ≡ Err (bad_line n fault))
 EndsAt before lines taken (AtLimit what kept) = Unit {0}
 
-record Tells (before : ℕ) (w : World) (lines : List InputLine) (r : LineRun World) : Type 0 where
+record Tells (before : ℕ) (w : World) (lines : List InputLine) (r : Run) : Type 0 where
   pub taken : ℕ
   pub events : List Event
   pub said : events_from before (take taken lines) ≡ Ok events
   pub outputs : concat r.outputs ≡ lines_text (written_run events w).lines
-  pub world : r.state ≡ (written_run events w).world
+  pub world : r.world ≡ Some (written_run events w).world
   pub ending : EndsAt before lines taken r.ending
 
 -- a run that ends at once
-at_once : (before : ℕ) (w : World) (lines : List InputLine) (ending : Ending) → EndsAt before lines 0 ending → Tells before w lines (ended w ending)
+at_once : (before : ℕ) (w : World) (lines : List InputLine) (ending : Ending) → EndsAt before lines 0 ending → Tells before w lines (ended (Some w) ending)
 at_once before w lines ending ends = record { taken = 0; events = []; said = refl; outputs = refl; world = refl; ending = ends }
 
--- or at the limit that an event would pass
-past_tells : (before : ℕ) (w : World) (lines : List InputLine) (stop : WorldStop) (number : ℕ) (run : World → LineRun World) → Tells before w lines (with_said number w (past_at stop) run)
-past_tells before w lines (TooManyPackets kept) number run = at_once before w lines (AtLimit Packets kept) (record {})
-past_tells before w lines (PoolBytes kept) number run = at_once before w lines (AtLimit Bytes kept) (record {})
-past_tells before w lines WantOfMemory number run = at_once before w lines (AtLimit Bytes 0) (record {})
+ends_past : (before : ℕ) (lines : List InputLine) (taken : ℕ) (stop : WorldStop) → EndsAt before lines taken (ending_at stop)
+ends_past before lines taken (TooManyPackets kept) = record {}
+ends_past before lines taken (PoolBytes kept) = record {}
+ends_past before lines taken WantOfMemory = record {}
 
 -- one line more before the others
 ends_more : (before : ℕ) (line : InputLine) (lines : List InputLine) (taken : ℕ) (ending : Ending)
@@ -103,7 +100,7 @@ tells before w (line ∷ lines) = by_many (nat_lt before most_lines) refl (λ v.
     by_limit : (event : LineEvent) → before < most_lines → nat_lt most_line_bytes (length line.bytes) ≡ false → is_skipped (content line) ≡ false → event_of (content line) ≡ Ok event
         → (limit : Option WorldStop) → limit_of w (world_step w (event_as event)).world ≡ limit
         → Tells (before + 1) (world_step w (event_as event)).world lines (run_from (before + 1) (world_step w (event_as event)).world lines) → Tells before w (line ∷ lines) (run_from before w (line ∷ lines))
-    by_limit event more short skip is (Some stop) past t = subst (Tells before w (line ∷ lines)) (sym (run_past before w line lines more (grind (arith, nat_tests, short)) skip event stop is past)) (past_tells before w (line ∷ lines) stop (before + 1) _)
+    by_limit event more short skip is (Some stop) past t = subst (Tells before w (line ∷ lines)) (sym (run_past before w line lines more (grind (arith, nat_tests, short)) skip event is stop past)) (at_once before w (line ∷ lines) (ending_at stop) (ends_past before (line ∷ lines) 0 stop))
     by_limit event more short skip is None free t = subst (Tells before w (line ∷ lines)) (sym (run_taken before w line lines more (grind (arith, nat_tests, short)) skip event is free)) (record {
       taken = suc t.taken;
       events = event_as event ∷ t.events;
@@ -116,13 +113,13 @@ tells before w (line ∷ lines) = by_many (nat_lt before most_lines) refl (λ v.
 
     by_said : before < most_lines → nat_lt most_line_bytes (length line.bytes) ≡ false → is_skipped (content line) ≡ false → (said : Result LineEvent LineFault) → event_of (content line) ≡ said
         → ((w : World) → Tells (before + 1) w lines (run_from (before + 1) w lines)) → Tells before w (line ∷ lines) (run_from before w (line ∷ lines))
-    by_said more short skip (Err fault) is t = subst (Tells before w (line ∷ lines)) (sym (run_said says before w line lines more (grind (arith, nat_tests, short)) skip (Bad (event_fault fault)) (ap (with_event w) is)))
+    by_said more short skip (Err fault) is t = subst (Tells before w (line ∷ lines)) (sym (run_bad before w line lines more (grind (arith, nat_tests, short)) skip fault is))
         (at_once before w (line ∷ lines) (AtBadLine (before + 1) (event_fault fault)) (omega arith, events_said before line lines (Err fault) short skip is))
     by_said more short skip (Ok event) is t = by_limit event more short skip is (limit_of w (world_step w (event_as event)).world) refl (t (world_step w (event_as event)).world)
 
     by_skip : before < most_lines → nat_lt most_line_bytes (length line.bytes) ≡ false → (skipped : Bool) → is_skipped (content line) ≡ skipped
         → ((w : World) → Tells (before + 1) w lines (run_from (before + 1) w lines)) → Tells before w (line ∷ lines) (run_from before w (line ∷ lines))
-    by_skip more short true skip t = let h = t w in subst (Tells before w (line ∷ lines)) (sym (run_skipped says before w line lines more (grind (arith, nat_tests, short)) skip)) (record {
+    by_skip more short true skip t = let h = t w in subst (Tells before w (line ∷ lines)) (sym (run_skipped before w line lines more (grind (arith, nat_tests, short)) skip)) (record {
       taken = suc h.taken;
       events = h.events;
       said = events_skipped before line (take h.taken lines) short skip ∙ h.said;
@@ -169,7 +166,7 @@ module _ (before : ℕ) (line : InputLine) (lines : List InputLine) (more : nat_
   read_skipped short skip = rw (more, short, skip) refl
 
   read_said : (said : Result ClusterRecord ClusterFault) → nat_lt most_line_bytes (length line.bytes) ≡ false → is_skipped (content line) ≡ false → cluster_of (content line) ≡ said
-      → read_from before (line ∷ lines) ≡ run_opened says empty_world (described (before + 1) said lines)
+      → read_from before (line ∷ lines) ≡ run_opened (described (before + 1) said lines)
   read_said said short skip is = rw (more, short, skip, is) refl
 
 -- the lines are an input, and the world is the one to which it leads
@@ -186,27 +183,27 @@ ReadEndsAt before lines taken w (AtLimit what kept) = Unit {0}
 record ReadTells (before : ℕ) (lines : List InputLine) (r : Run) : Type 0 where
   pub taken : ℕ
   pub outputs : concat r.outputs ≡ told (input_from before (take taken lines))
-  pub ending : ReadEndsAt before lines taken r.state r.ending
+  pub ending : ReadEndsAt before lines taken r.world r.ending
 
 take_whole : (lines : List InputLine) (n : ℕ) → n ≡ length lines → take n lines ≡ lines
 take_whole lines n is = ap (λ k. take k lines) is ∙ take-length lines
 
 -- behind the line of a cluster
 behind_told : (c : ClusterRecord) (before : ℕ) (line : InputLine) (lines : List InputLine) → ((ls : List InputLine) → input_from before (line ∷ ls) ≡ then_do (events_from (before + 1) ls) (λ es. Ok (record { cluster = c; events = es })))
-    → (r : LineRun World) → Tells (before + 1) (empty_world c) lines r → ReadTells before (line ∷ lines) (known r)
+    → (r : Run) → Tells (before + 1) (empty_world c) lines r → ReadTells before (line ∷ lines) r
 behind_told c before line lines is r t = record {
   taken = suc t.taken;
   outputs = t.outputs ∙ sym (ap told (is (take t.taken lines) ∙ ap (λ o. then_do o (λ es. Ok (record { cluster = c; events = es }))) t.said));
   ending = ends r.ending t.ending;
 }
   where
-    ends : (ending : Ending) → EndsAt (before + 1) lines t.taken ending → ReadEndsAt before (line ∷ lines) (suc t.taken) (Some r.state) ending
+    ends : (ending : Ending) → EndsAt (before + 1) lines t.taken ending → ReadEndsAt before (line ∷ lines) (suc t.taken) r.world ending
     ends AtEnd e = (
       omega (arith, e),
       record {
         input = record { cluster = c; events = t.events };
         is = is lines ∙ ap (λ o. then_do o (λ es. Ok (record { cluster = c; events = es }))) (sym (ap (events_from (before + 1)) (take_whole lines t.taken e)) ∙ t.said);
-        world = ap (λ w. Some w) t.world;
+        world = t.world;
       },
     )
     ends (AtBadLine n fault) e = (omega (arith, e.0), is lines ∙ ap (λ o. then_do o (λ es. Ok (record { cluster = c; events = es }))) e.1)
@@ -239,7 +236,7 @@ read_tells before (line ∷ lines) = by_many (nat_lt before most_lines) refl (re
     by_skip more short true skip t = subst (ReadTells before (line ∷ lines)) (sym (read_skipped before line lines more short skip)) (record {
       taken = suc t.taken;
       outputs = t.outputs ∙ sym (ap told (input_skipped before line (take t.taken lines) short skip));
-      ending = read_more before line lines t.taken (read_from (before + 1) lines).state (read_from (before + 1) lines).ending (input_skipped before line lines short skip) t.ending;
+      ending = read_more before line lines t.taken (read_from (before + 1) lines).world (read_from (before + 1) lines).ending (input_skipped before line lines short skip) t.ending;
     })
     by_skip more short false skip t = by_cluster more short skip (cluster_of (content line)) refl
 
@@ -256,13 +253,13 @@ read_tells before (line ∷ lines) = by_many (nat_lt before most_lines) refl (re
 pub whole_told : (bytes : List ℕ) → (run_of bytes).ending ≡ AtEnd → IsText bytes (concat (pieces (run_of bytes)))
 whole_told bytes ends =
     let t = read_tells 0 (lines_of bytes) in
-    let e = subst (ReadEndsAt 0 (lines_of bytes) t.taken (run_of bytes).state) ends t.ending in
+    let e = subst (ReadEndsAt 0 (lines_of bytes) t.taken (run_of bytes).world) ends t.ending in
     let l = e.1 in
     record {
       input = l.input;
       is = l.is;
-      whole = concat-append (run_of bytes).outputs (final_text (run_of bytes).state (run_of bytes).ending)
-          ∙ ap (λ x. concat (run_of bytes).outputs ++ concat (final_text (run_of bytes).state x)) ends
+      whole = concat-append (run_of bytes).outputs (final_text (run_of bytes).world (run_of bytes).ending)
+          ∙ ap (λ x. concat (run_of bytes).outputs ++ concat (final_text (run_of bytes).world x)) ends
           ∙ ap (λ w. concat (run_of bytes).outputs ++ concat (final_text w AtEnd)) l.world
           ∙ ap (λ x. concat (run_of bytes).outputs ++ x) (append-nil (lines_text (show (run l.input.cluster l.input.events))))
           ∙ ap (λ x. x ++ lines_text (show (run l.input.cluster l.input.events))) (t.outputs ∙ ap told (ap (input_from 0) (take_whole (lines_of bytes) t.taken e.0) ∙ l.is))
@@ -272,7 +269,7 @@ whole_told bytes ends =
 pub bad_told : (bytes : List ℕ) (line : ℕ) (fault : InputFault) → (run_of bytes).ending ≡ AtBadLine line fault → IsTextBefore bytes line fault (concat (run_of bytes).outputs)
 bad_told bytes line fault ends =
     let t = read_tells 0 (lines_of bytes) in
-    let e = subst (ReadEndsAt 0 (lines_of bytes) t.taken (run_of bytes).state) ends t.ending in
+    let e = subst (ReadEndsAt 0 (lines_of bytes) t.taken (run_of bytes).world) ends t.ending in
     let k : t.taken ≡ line - 1 = omega (arith, e.0) in
     record { bad = e.1; before = t.outputs ∙ ap (λ n. told (input_from 0 (take n (lines_of bytes)))) k }
 
