@@ -1,3 +1,3 @@
-pub mod EndsLemmas
-pub mod ProgressLemmas
-pub mod RunsLemmas
+pub mod Leaving
+pub mod Going
+pub mod Ending

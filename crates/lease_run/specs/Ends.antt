@@ -17,8 +17,7 @@ use Rattle.epoch_lease.specs.declared.event.LeaseEvent.{LeaseEvent}
 use Rattle.epoch_lease.specs.Files.{OpensAs}
 use Rattle.epoch_lease.specs.Leases.{LeaseState, IsGrant, lease_step}
 use Rattle.epoch_lease.specs.Reading.{lease_event}
-use Rattle.input_lines.specs.LineRuns.{AtBadLine}
-use Rattle.lease_run.specs.Runs.{Run, AtEnd, AtManyLines, lease_in, pieces, run_from}
+use Rattle.lease_run.specs.Runs.{Run, AtEnd, AtBadLine, AtManyLines, lease_in, pieces, run_from}
 
 -- of a disk that told its moments at the start: whatever file a crash leaves now opens as this lease
 abbrev pub HasFile : Option Told → Option Told → LeaseState → Type 0
@@ -33,7 +32,7 @@ pub record ReadsWhole (run : List InputLine → Run) (bytes : List ℕ) (left be
   pub given : List ℕ
   pub gave : Consumes (Some bytes) left given
   pub good : (run (whole_lines (lines_of given))).ending ≡ AtEnd
-  pub writes : Appends before after (concat (run (whole_lines (lines_of given))).outputs)
+  pub writes : Appends before after (concat (run (whole_lines (lines_of given))).answers)
   pub file : HasFile old new (run (whole_lines (lines_of given))).state
 
 -- A sink failed: all answers but the last of the lines taken are out whole, and of that a part; or behind a whole input a part of its last line. The
@@ -46,7 +45,7 @@ pub record BreaksOff (run : List InputLine → Run) (bytes : List ℕ) (left bef
   pub gave : Consumes (Some behind) left ahead
   pub few : length ahead ≤ read_ahead
   pub good : (run lines).ending ≡ AtEnd
-  pub writes : WritesLast (run lines).outputs before after ⊎ ((behind ≡ []) × WritesLast (pieces (run lines)) before after)
+  pub writes : WritesLast (run lines).answers before after ⊎ ((behind ≡ []) × WritesLast (pieces (run lines)) before after)
   pub file : HasFile old new (run lines).state
 
 -- it stopped at a line that is not taken: the answers to those in front of it are out, and nothing else; the source gave these and a few bytes ahead
@@ -59,7 +58,7 @@ pub record StopsAt (run : List InputLine → Run) (bytes : List ℕ) (left befor
   pub gave : Consumes (Some behind) left ahead
   pub few : length ahead ≤ read_ahead
   pub good : (run front).ending ≡ AtEnd
-  pub writes : Appends before after (concat (run front).outputs)
+  pub writes : Appends before after (concat (run front).answers)
 
 -- memory was refused
 pub record LacksMemory (run : List InputLine → Run) (bytes : List ℕ) (left before after : Option (List ℕ)) (old new : Option Told) : Type 0 where
@@ -83,9 +82,9 @@ abbrev pub Ended : (List InputLine → Run) → List ℕ → Status → Option (
 Ended run bytes Done left before after old new =
     (left ≡ Some []) × ((run (lines_of bytes)).ending ≡ AtEnd) × Appends before after (concat (pieces (run (lines_of bytes)))) × HasFile old new (run (lines_of bytes)).state
 Ended run bytes (BadInput line fault) left before after old new =
-    ((run (lines_of bytes)).ending ≡ AtBadLine line fault) × Appends before after (concat (run (lines_of bytes)).outputs) × HasFile old new (run (lines_of bytes)).state
+    ((run (lines_of bytes)).ending ≡ AtBadLine line fault) × Appends before after (concat (run (lines_of bytes)).answers) × HasFile old new (run (lines_of bytes)).state
 Ended run bytes (Limit Lines kept) left before after old new =
-    (kept ≡ most_lines) × ((run (lines_of bytes)).ending ≡ AtManyLines) × Appends before after (concat (run (lines_of bytes)).outputs) × HasFile old new (run (lines_of bytes)).state
+    (kept ≡ most_lines) × ((run (lines_of bytes)).ending ≡ AtManyLines) × Appends before after (concat (run (lines_of bytes)).answers) × HasFile old new (run (lines_of bytes)).state
 Ended run bytes (Limit Packets kept) left before after old new = ⊥
 Ended run bytes (Limit Bytes kept) left before after old new = ⊥
 Ended run bytes (Limit Calls kept) left before after old new = ⊥

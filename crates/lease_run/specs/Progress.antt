@@ -4,6 +4,7 @@ use Rattle.std.specs.Io.KnownBytes.{Appends}
 use Rattle.std.specs.List.{concat}
 use Rattle.fuxi_io.specs.Causes.{TakesPart}
 use Rattle.fuxi_io.specs.Disks.{Told, Leaves, WhereTold}
+use Rattle.fuxi_io.specs.Lines.{InputLine, lines_of}
 use Rattle.fuxi_io.specs.declared.status.InputFault.{InputFault}
 use Rattle.fuxi_io.specs.declared.status.Status.{Status}
 use Rattle.fuxi_io.specs.declared.status.Status.TheVariants.{Done, Usage, BadInput, ReadFault, WriteFault, Limit, OutOfMemory, DiskFault, StaleEpoch, DamagedCheckpoint}
@@ -11,6 +12,7 @@ use Rattle.schedule_text.specs.declared.event.LineFault.{LineFault}
 use Rattle.hard_state.specs.HardFiles.{IsAtRest}
 use Rattle.input_lines.specs.Contents.{is_skipped}
 use Rattle.input_lines.specs.Statuses.{event_fault}
+use Rattle.input_lines.specs.Wholes.{AreTaken}
 use Rattle.epoch_lease.specs.declared.event.LeaseEvent.{LeaseEvent}
 use Rattle.epoch_lease.specs.declared.event.LeaseFault.{LeaseFault}
 use Rattle.epoch_lease.specs.declared.event.LeaseFault.TheVariants.{NotCheckpoint, DiskFault as NoDisk, OutOfMemory as NoMemory}
@@ -18,6 +20,7 @@ use Rattle.epoch_lease.specs.Files.{KeptLease, Endures, OpensAs, lease_of}
 use Rattle.epoch_lease.specs.Leases.{LeaseState, lease_step}
 use Rattle.epoch_lease.specs.Reading.{lease_event}
 use Rattle.lease_run.specs.Ends.{IsGranted}
+use Rattle.lease_run.specs.Runs.{Run, run_from}
 use Rattle.lease_run.specs.Texts.{answer_text, last_text}
 
 -- the status that a fault of a lease means
@@ -81,3 +84,17 @@ WritesEnd s (DamagedCheckpoint offset) w0 w = ⊥
 -- of a disk that told its moments at the start: its file stands now for what is kept, and nothing is pending
 abbrev pub Rests : Option Told → KeptLease → Option Told → Type 0
 Rests old k now = WhereTold (λ before t. Endures k t.now) old now
+
+abbrev pub behind_all : List (List ℕ) → Run → Run
+behind_all front r = record { answers = front ++ r.answers; state = r.state; ending = r.ending }
+
+-- of a run over the bytes of an input: the lines taken and the bytes that are left, what was answered, and the lease now
+pub record Along (bytes : List ℕ) (start : LeaseState) (number : ℕ) (ended : Bool) (s : LeaseState) (rest w0 w : Option (List ℕ)) : Type 0 where
+  pub lines : List InputLine
+  pub left : List ℕ
+  pub is_left : rest ≡ Some left
+  pub cut : lines_of bytes ≡ lines ++ lines_of left
+  pub taken : AreTaken ended bytes left lines
+  pub front : List (List ℕ)
+  pub writes : Appends w0 w (concat front)
+  pub through : (more : List InputLine) → run_from 0 start (lines ++ more) ≡ behind_all front (run_from number s more)

@@ -12,7 +12,7 @@ ghost use Rattle.lease_run.specs.Runs.{run_from, run_of, AtEnd};
 use crate::print::{write_answer, write_number};
 use epoch_lease::{Lease, LeaseFault, leases_at_rest_endure, read_lease};
 use fuxi_io::{Disk, Got, LimitOf, LineReader, Sink, Source, Status};
-use input_lines::{content, event_status, is_skipped, stop_status};
+use input_lines::{content, event_status, is_skipped, lines_are_taken, stop_status};
 use std::alloc::Global;
 
 // The status that a fault of a lease means.
@@ -97,6 +97,7 @@ fn run_lines<S: Source, O: Sink, D: Disk>(
     ensures stale { (fence : ℕ) → result ≢ Status.StaleEpoch fence }
     ensures damaged { (offset : ℕ) → result ≢ Status.DamagedCheckpoint offset }
 {
+    lines_are_taken();
     for turn in 0..1_000_001u64 {
         match lines.next(source) {
             Ok(Got::Line) => {}

@@ -1,4 +1,4 @@
-use Rattle.lease_run.proofs.ProgressLemmas.{skips, is_bad, fails}
+use Rattle.lease_run.proofs.Leaving.{skips, is_bad, fails}
 use Rattle.lease_run.proofs.run.take_line.Goals as goal
 
 pub returns-then-is_skipped-clause-leaves : goal.returns-then-is_skipped-clause-leaves

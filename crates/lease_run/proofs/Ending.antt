@@ -13,7 +13,7 @@ use Rattle.epoch_lease.specs.Leases.{LeaseState}
 use Rattle.lease_run.specs.Ends.{Ended, LeaseEnded, StaysShut}
 use Rattle.lease_run.specs.Progress.{fault_status}
 use Rattle.lease_run.specs.Runs.{AtEnd, lease_in, run_from, run_of}
-use Rattle.input_lines.proofs.Known.{weaker}
+use Rattle.lease_run.proofs.Going.{weaker}
 
 untouched : (told : Option Told) → WhereTold Opens told told
 untouched None = tt
