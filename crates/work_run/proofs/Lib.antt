@@ -1,2 +1,3 @@
-pub mod RunsLemmas
-pub mod StatesLemmas
+mod Stepping
+mod Going
+mod StatesLemmas

@@ -1,3 +1,3 @@
 pub mod Runs
-pub mod Stops
+pub mod Progress
 pub mod States

@@ -3,15 +3,12 @@ ghost use Rattle.fuxi_io.specs.Causes.{Rose};
 ghost use Rattle.fuxi_terms.specs.Limits.{most_lines};
 ghost use Rattle.written_work.specs.World.{World, empty_world};
 ghost use Rattle.work_world.specs.Worlds.{IsReached, Stands};
-ghost use Rattle.written_work.specs.Events.{show};
-ghost use Rattle.written_work.specs.Lines.{lines_text};
-ghost use Rattle.input_lines.specs.LineProgress.{TakesLine, WritesEnd, after_line};
-ghost use Rattle.work_run.specs.Runs.{AtEnd, Ended, run_from, run_of, says};
-ghost use Rattle.work_run.specs.Stops.{world_status};
+ghost use Rattle.work_run.specs.Runs.{AtEnd, Ended, run_from, run_of};
+ghost use Rattle.work_run.specs.Progress.{TakesLine, WritesState, after_line, world_status};
 
 use fuxi_io::{Got, LimitOf, LineReader, Sink, Source, Status, write_all_of};
 use fuxi_terms::OutOfMemory;
-use input_lines::{content, event_status, is_skipped, stop_status};
+use input_lines::{content, event_status, is_skipped, lines_are_taken, stop_status};
 use std::alloc::Global;
 use work_text::read_work;
 use work_world::{WorkStop, Working};
@@ -39,8 +36,8 @@ fn take_line<O: Sink>(
 ) -> Result<(), Status>
     requires reached { IsReached working.old }
     requires events { working.old.events < 2 ^ 29 }
-    ensures takes { (w : World) → Stands working.old w → TakesLine says line.now number w result (O.took out.old) (O.took out.new) }
-    ensures stands { OnOk result ((w : World) → Stands working.old w → Stands working.new (after_line says w line.now)) }
+    ensures takes { (w : World) → Stands working.old w → TakesLine line.now number w result (O.took out.old) (O.took out.new) }
+    ensures stands { OnOk result ((w : World) → Stands working.old w → Stands working.new (after_line w line.now)) }
     ensures reached { OnOk result (IsReached working.new) }
     ensures events { OnOk result (working.new.events ≤ working.old.events + 1) }
     ensures later { O.faults out.old ≤ O.faults out.new }
@@ -73,7 +70,7 @@ fn take_line<O: Sink>(
 // Writes the state behind a whole input.
 fn write_state<O: Sink>(alloc: Global, working: &Working, out: &mut O) -> Status
     requires { IsReached working.now }
-    ensures writes { (w : World) → Stands working.now w → WritesEnd (lines_text (show w)) result (O.took out.old) (O.took out.new) }
+    ensures writes { (w : World) → Stands working.now w → WritesState w result (O.took out.old) (O.took out.new) }
     ensures fault { result ≡ Status.WriteFault → Rose (O.faults out.old) (O.faults out.new) }
     ensures read { result ≢ Status.ReadFault }
     ensures usage { result ≢ Status.Usage }
@@ -115,6 +112,7 @@ fn run_lines<S: Source, O: Sink>(
     ensures stale { (fence : ℕ) → result ≢ Status.StaleEpoch fence }
     ensures damaged { (offset : ℕ) → result ≢ Status.DamagedCheckpoint offset }
 {
+    lines_are_taken();
     for turn in 0..1_000_001u64 {
         match lines.next(source) {
             Ok(Got::Line) => {}
@@ -132,6 +130,25 @@ fn run_lines<S: Source, O: Sink>(
         }
     }
     unreachable!()
+}
+
+// Runs a world that was just begun, as `run_work` does.
+fn run_begun<S: Source, O: Sink>(alloc: Global, source: &mut S, out: &mut O) -> Status
+    ensures ended { IfSome (S.left source.old) (λ bytes. Ended (run_from 0 empty_world) bytes result (S.left source.new) (O.took out.old) (O.took out.new)) }
+    ensures read { result ≡ Status.ReadFault → Rose (S.faults source.old) (S.faults source.new) }
+    ensures write { result ≡ Status.WriteFault → Rose (O.faults out.old) (O.faults out.new) }
+    ensures limit { (what : LimitOf) (kept : ℕ) → result ≡ Status.Limit what kept → (what ≡ LimitOf.Packets) ⊎ ((what ≡ LimitOf.Lines) × (kept ≡ most_lines)) }
+    ensures usage { result ≢ Status.Usage }
+    ensures disk { result ≢ Status.DiskFault }
+    ensures stale { (fence : ℕ) → result ≢ Status.StaleEpoch fence }
+    ensures damaged { (offset : ℕ) → result ≢ Status.DamagedCheckpoint offset }
+{
+    let mut lines = match LineReader::new(alloc) {
+        Ok(lines) => lines,
+        Err(_) => return Status::OutOfMemory,
+    };
+    let mut working = Working::start(alloc);
+    run_lines(alloc, &mut working, &mut lines, source, out)
 }
 
 /// Runs named workers over the lines of the source, writes what each prints before the next one is read, and behind the last line the
@@ -154,10 +171,5 @@ pub fn run_work<S: Source, O: Sink>(alloc: Global, source: &mut S, out: &mut O) 
         → (Rose (S.faults source.old) (S.faults source.new) → ⊥) → (Rose (O.faults out.old) (O.faults out.new) → ⊥)
         → (result ≡ Status.Done) ⊎ (result ≡ Status.OutOfMemory) }
 {
-    let mut lines = match LineReader::new(alloc) {
-        Ok(lines) => lines,
-        Err(_) => return Status::OutOfMemory,
-    };
-    let mut working = Working::start(alloc);
-    run_lines(alloc, &mut working, &mut lines, source, out)
+    run_begun(alloc, source, out)
 }

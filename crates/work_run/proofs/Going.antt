@@ -1,0 +1,363 @@
+-- A run over the lines of an input goes on by one line, or ends.
+use Rattle.std.proofs.Common.{◌⊎◌, inl, inr, ◌≡◌, ◌≢◌, ℕ, ◌+◌, ◌-◌, ◌<◌, ◌≤◌, Bool, true, false, cond, nat_eq, nat_lt, List, [], ◌∷◌, ◌++◌, length, take, Option, None, Some, IfSome, Ok, Err, refl, sym, ◌∙◌, ap, subst, arith, append_assoc, append-nil, length-append, slice_get, Result}
+use Rattle.std.specs.Option.{unwrap_or}
+use Rattle.std.specs.List.{concat}
+use Rattle.std.specs.Io.KnownBytes.{Appends, Consumes, IsAtEnd, prepend_known}
+use Rattle.std.proofs.lemmas.Bool.Decides.{nat_tests}
+use Rattle.std.proofs.lemmas.List.Folds.{concat-append}
+use Rattle.std.proofs.Math.Seq.{take-append_seam, take-length}
+use Rattle.fuxi_io.specs.Causes.{TakesPart}
+use Rattle.fuxi_io.specs.Lines.{InputLine, lines_of, onto_first, GivesKnown, IsFirst, BreaksOff, FirstLonger, FirstTooLongKnown, MoreKnown}
+use Rattle.fuxi_io.specs.Reading.{Reading, read_ahead, rest_of}
+use Rattle.std.proofs.lemmas.Bool.{false≢true}
+use Rattle.fuxi_io.specs.declared.lines.Got.TheVariants.{Line, End}
+use Rattle.fuxi_io.specs.declared.lines.LineStop.{LineStop}
+use Rattle.fuxi_io.specs.declared.lines.LineStop.TheVariants.{ReadFault as ReadStop, LineTooLong as LongStop, TooManyLines as ManyStop}
+use Rattle.fuxi_io.specs.declared.status.InputFault.TheVariants.{LineTooLong}
+use Rattle.fuxi_io.specs.declared.status.LimitOf.TheVariants.{Lines, Packets, Bytes, Calls, Records}
+use Rattle.fuxi_io.specs.declared.status.Status.{Status}
+use Rattle.fuxi_io.specs.declared.status.Status.TheVariants.{Done, Usage, BadInput, ReadFault, WriteFault, Limit, OutOfMemory, DiskFault, StaleEpoch, DamagedCheckpoint}
+use Rattle.fuxi_terms.proofs.Appending.{appends_both, appends_none}
+use Rattle.schedule_text.specs.declared.event.LineFault.{LineFault}
+use Rattle.work_text.specs.Reading.{work_of}
+use Rattle.work_world.specs.Worlds.{Stands}
+use Rattle.work_world.specs.declared.working.Working.{Working}
+use Rattle.written_work.specs.declared.event.WorkEvent.{WorkEvent}
+use Rattle.written_work.specs.Events.{show, work_step}
+use Rattle.written_work.specs.Lines.{lines_text}
+use Rattle.written_work.specs.Runs.{past}
+use Rattle.written_work.specs.World.{World, empty_world}
+use Rattle.input_lines.specs.Contents.{content, is_skipped}
+use Rattle.input_lines.specs.Statuses.{event_fault, stop_status}
+use Rattle.input_lines.specs.Wholes.{IsBroken, TakesLines, WritesLast}
+use Rattle.work_run.specs.Runs.{Run, Ending, AtEnd, AtBadLine, AtLimit, ended, behind, within_limits, unless_past, with_event, run_from, pieces, StopsWithin, Ended, ReadsWhole}
+use Rattle.work_run.specs.Progress.{TakesLine, WritesState, after_line, behind_all, Along}
+use Rattle.work_run.proofs.Stepping.{skipped_line, event_line}
+use Rattle.fuxi_terms.specs.Limits.{most_line_bytes, most_lines}
+
+-- one line of a run
+within : (before : ℕ) (w : World) (line : InputLine) (run : Run) → before < most_lines → length line.bytes ≤ most_line_bytes → within_limits before w line run ≡ run
+within before w line run more short =
+    let m : nat_lt before most_lines ≡ true = grind (arith, nat_tests) in
+    let s : nat_lt most_line_bytes (length line.bytes) ≡ false = grind (arith, nat_tests) in
+    rw (m, s) refl
+
+pub too_long : (before : ℕ) (w : World) (line : InputLine) (run : Run) → before < most_lines → most_line_bytes < length line.bytes → within_limits before w line run ≡ ended w (AtBadLine (before + 1) LineTooLong)
+too_long before w line run more long =
+    let m : nat_lt before most_lines ≡ true = grind (arith, nat_tests) in
+    let s : nat_lt most_line_bytes (length line.bytes) ≡ true = grind (arith, nat_tests) in
+    rw (m, s) refl
+
+too_many : (before : ℕ) (w : World) (line : InputLine) (run : Run) → before ≡ most_lines → within_limits before w line run ≡ ended w (AtLimit Lines most_lines)
+too_many before w line run many = let m : nat_lt before most_lines ≡ false = grind (arith, nat_tests) in rw m refl
+
+-- what an event's line makes of a run, by whether it is skipped
+abbrev pub of_line : ℕ → World → List InputLine → Result WorkEvent LineFault → Bool → Run
+of_line before w lines said true = run_from (before + 1) w lines
+of_line before w lines said false = with_event (before + 1) w said (λ w. run_from (before + 1) w lines)
+
+pub run_is : (before : ℕ) (w : World) (line : InputLine) (lines : List InputLine) (skipped : Bool) (said : Result WorkEvent LineFault) → before < most_lines → length line.bytes ≤ most_line_bytes
+    → is_skipped (content line) ≡ skipped → work_of (content line) ≡ said → run_from before w (line ∷ lines) ≡ of_line before w lines said skipped
+run_is before w line lines skipped said more short is_skip is_said =
+    within before w line _ more short
+    ∙ ap (λ b. elim b as (λ _. Run) [
+      | true ↦ run_from (before + 1) w lines
+      | false ↦ with_event (before + 1) w (work_of (content line)) (λ w. run_from (before + 1) w lines)
+    ]) is_skip
+    ∙ by_skip skipped
+  where
+    by_skip : (b : Bool) → (elim b as (λ _. Run) [
+      | true ↦ run_from (before + 1) w lines
+      | false ↦ with_event (before + 1) w (work_of (content line)) (λ w. run_from (before + 1) w lines)
+    ]) ≡ of_line before w lines said b
+    by_skip true = refl
+    by_skip false = ap (λ o. with_event (before + 1) w o (λ w. run_from (before + 1) w lines)) is_said
+
+-- a line that is skipped, one that is no event, an event that passes a limit, and one that is taken
+module _ (before : ℕ) (w : World) (line : InputLine) (lines : List InputLine) (more : before < most_lines) (short : length line.bytes ≤ most_line_bytes) where
+  pub run_skipped : is_skipped (content line) ≡ true → run_from before w (line ∷ lines) ≡ run_from (before + 1) w lines
+  run_skipped skip = run_is before w line lines true (work_of (content line)) more short skip refl
+
+  pub run_bad : is_skipped (content line) ≡ false → (fault : LineFault) → work_of (content line) ≡ Err fault → run_from before w (line ∷ lines) ≡ ended w (AtBadLine (before + 1) (event_fault fault))
+  run_bad skip fault is = run_is before w line lines false (Err fault) more short skip is
+
+  pub run_past : is_skipped (content line) ≡ false → (event : WorkEvent) → work_of (content line) ≡ Ok event → (stop : ℕ) → past w (work_step w event) ≡ Some stop
+      → run_from before w (line ∷ lines) ≡ ended w (AtLimit Packets stop)
+  run_past skip event is stop past = run_is before w line lines false (Ok event) more short skip is
+      ∙ ap (λ o. unless_past w (work_step w event) o (λ w. run_from (before + 1) w lines)) past
+
+  pub run_taken : is_skipped (content line) ≡ false → (event : WorkEvent) → work_of (content line) ≡ Ok event → past w (work_step w event) ≡ None
+      → run_from before w (line ∷ lines) ≡ behind (lines_text (work_step w event).lines) (run_from (before + 1) (work_step w event).world lines)
+  run_taken skip event is free = run_is before w line lines false (Ok event) more short skip is
+      ∙ ap (λ o. unless_past w (work_step w event) o (λ w. run_from (before + 1) w lines)) free
+
+run_long : (before : ℕ) (w : World) (lines : List InputLine) → before < most_lines → FirstLonger most_line_bytes lines → run_from before w lines ≡ ended w (AtBadLine (before + 1) LineTooLong)
+run_long before w [] more long = absurd long
+run_long before w (line ∷ lines) more long = too_long before w line _ more long
+
+run_many : (before : ℕ) (w : World) (lines : List InputLine) → before ≡ most_lines → lines ≢ [] → run_from before w lines ≡ ended w (AtLimit Lines most_lines)
+run_many before w [] many some = absurd (some refl)
+run_many before w (line ∷ lines) many some = too_many before w line _ many
+
+behind_both : (front : List (List ℕ)) (x : List ℕ) (r : Run) → behind_all front (behind x r) ≡ behind_all (front ++ x ∷ []) r
+behind_both front x r = ap (λ os. record { outputs = os; world = r.world; ending = r.ending }) (sym (append_assoc front (x ∷ []) r.outputs))
+
+pub weaker : (o : Option (List ℕ)) (P Q : List ℕ → Type 0) → ((x : List ℕ) → P x → Q x) → IfSome o P → IfSome o Q
+weaker None P Q f h = tt
+weaker (Some x) P Q f h = f x h
+
+reads_whole : (run : List InputLine → Run) (bytes : List ℕ) (left w0 w : Option (List ℕ)) (lines : List InputLine) → IsBroken bytes left lines → (run lines).ending ≡ AtEnd → Appends w0 w (concat (run lines).outputs) → ReadsWhole run bytes left w0 w
+reads_whole run bytes left w0 w lines b unended writes = record {
+  given = b.given;
+  gave = b.gave;
+  good = subst (λ ls. (run ls).ending ≡ AtEnd) (sym b.whole) unended;
+  writes = subst (λ ls. Appends w0 w (concat (run ls).outputs)) (sym b.whole) writes;
+}
+
+-- a reader that has read nothing has all of its source before it
+abbrev fresh : Reading
+fresh = record { pending = []; line = []; ended = false; number = 0; stop = None }
+
+start_fresh : TakesLines → (known took : Option (List ℕ)) (r : Working) → Stands r empty_world → IfSome known (λ bytes. Along bytes 0 true r (prepend_known [] known) took took)
+start_fresh laws None took r stands = tt
+start_fresh laws (Some bytes) took r stands = record {
+  lines = [];
+  left = bytes;
+  is_left = refl;
+  cut = refl;
+  taken = record { whole = λ e. laws.none bytes; last = λ e. absurd (false≢true (sym e)) };
+  front = [];
+  writes = appends_none took;
+  world = empty_world;
+  stands = stands;
+  through = λ more. refl;
+}
+
+pub start : TakesLines → (x : Reading) → x ≡ fresh → (known took : Option (List ℕ)) (r : Working) → Stands r empty_world → IfSome known (λ bytes. Along bytes x.number true r (rest_of x known) took took)
+start laws x is known took r stands = subst (λ (y : Reading). IfSome known (λ bytes. Along bytes y.number true r (rest_of y known) took took)) (sym is) (start_fresh laws known took r stands)
+
+module _ (laws : TakesLines) (bytes : List ℕ) (number : ℕ) (ends : Bool) (r : Working) (rest w0 w : Option (List ℕ)) (a : Along bytes number ends r rest w0 w) where
+  cut_more : (line : InputLine) (behind : List ℕ) → IsFirst a.left line behind → lines_of bytes ≡ (a.lines ++ line ∷ []) ++ lines_of behind
+  cut_more line behind f = a.cut ∙ ap (λ ls. a.lines ++ ls) f.first ∙ sym (append_assoc a.lines (line ∷ []) (lines_of behind))
+
+  through_more : (line : InputLine) (more : List InputLine) → run_from 0 empty_world ((a.lines ++ line ∷ []) ++ more) ≡ behind_all a.front (run_from number a.world (line ∷ more))
+  through_more line more = ap (run_from 0 empty_world) (append_assoc a.lines (line ∷ []) more) ∙ a.through (line ∷ more)
+
+  step : (rest' w' : Option (List ℕ)) (line : InputLine) (r' : Working) → ends ≡ true → number < most_lines → GivesKnown Line rest line rest'
+      → ((v : World) → Stands r v → TakesLine (content line) (number + 1) v (Ok tt) w w')
+      → ((v : World) → Stands r v → Stands r' (after_line v (content line)))
+      → Along bytes (number + 1) line.ended r' rest' w0 w'
+  step rest' w' line r' before more gives takes stands = by_line (takes a.world a.stands)
+    where
+      by_line : TakesLine (content line) (number + 1) a.world (Ok tt) w w' → Along bytes (number + 1) line.ended r' rest' w0 w'
+      by_line (inl h) =
+          let n = laws.next a.left line rest rest' a.is_left gives in
+          record {
+            lines = a.lines ++ line ∷ [];
+            left = n.behind;
+            is_left = n.is_left;
+            cut = cut_more line n.behind n.first;
+            taken = record { whole = λ e. laws.more bytes a.left n.behind a.lines line (a.taken.whole before) n.first e; last = n.first.last };
+            front = a.front;
+            writes = subst (λ t. Appends w0 t (concat a.front)) (sym h.1) a.writes;
+            world = a.world;
+            stands = subst (Stands r') (skipped_line a.world (content line) h.0) (stands a.world a.stands);
+            through = λ ls. through_more line ls ∙ ap (behind_all a.front) (run_skipped number a.world line ls more n.first.short h.0);
+          }
+      by_line (inr h) =
+          let n = laws.next a.left line rest rest' a.is_left gives in
+          let t = h.1 in
+          let s = work_step a.world t.1.event in
+          let x = lines_text s.lines in
+          record {
+            lines = a.lines ++ line ∷ [];
+            left = n.behind;
+            is_left = n.is_left;
+            cut = cut_more line n.behind n.first;
+            taken = record { whole = λ e. laws.more bytes a.left n.behind a.lines line (a.taken.whole before) n.first e; last = n.first.last };
+            front = a.front ++ x ∷ [];
+            writes = laws.both a.front x w0 w w' a.writes (subst (λ o. Appends w w' o) t.1.prints t.2);
+            world = s.world;
+            stands = subst (Stands r') (event_line a.world (content line) t.1.event h.0 t.1.is) (stands a.world a.stands);
+            through = λ ls. through_more line ls ∙ ap (behind_all a.front) (run_taken number a.world line ls more n.first.short h.0 t.1.event t.1.is t.1.within)
+                ∙ behind_both a.front x (run_from (number + 1) s.world ls);
+          }
+
+  -- where the run ends now, and with what is still written
+  known_end : (ending : Ending) → run_from number a.world (lines_of a.left) ≡ ended a.world ending → run_from 0 empty_world (lines_of bytes) ≡ record { outputs = a.front; world = a.world; ending = ending }
+  known_end ending is =
+      ap (run_from 0 empty_world) a.cut ∙ a.through (lines_of a.left) ∙ ap (behind_all a.front) is ∙ ap (λ os. record { outputs = os; world = a.world; ending = ending }) (append-nil a.front)
+
+  -- the run over the lines taken alone
+  so_far : run_from 0 empty_world a.lines ≡ record { outputs = a.front; world = a.world; ending = AtEnd }
+  so_far = ap (run_from 0 empty_world) (sym (append-nil a.lines)) ∙ a.through [] ∙ ap (λ os. record { outputs = os; world = a.world; ending = AtEnd }) (append-nil a.front)
+
+  state_ended : (source w' : Option (List ℕ)) (status : Status) → a.left ≡ [] → source ≡ Some [] → WritesState a.world status w w' → Ended (run_from 0 empty_world) bytes status source w0 w'
+  state_ended source w' status end empty = by_status status
+    where
+      now : Run
+      now = record { outputs = a.front; world = a.world; ending = AtEnd }
+
+      all : run_from 0 empty_world (lines_of bytes) ≡ record { outputs = a.front; world = a.world; ending = AtEnd }
+      all = known_end AtEnd (ap (λ xs. run_from number a.world (lines_of xs)) end)
+
+      stops : (n : ℕ) → Appends w w' (take n (lines_text (show a.world))) → StopsWithin (run_from 0 empty_world) bytes source w0 w'
+      stops n part = record {
+        lines = a.lines;
+        behind = [];
+        cut = a.cut ∙ ap (λ xs. a.lines ++ lines_of xs) end;
+        ahead = [];
+        gave = subst (λ s. Consumes (Some []) s []) (sym empty) refl;
+        few = omega arith;
+        writes = inr (refl, laws.last (pieces (run_from 0 empty_world a.lines)) a.front (lines_text (show a.world)) n w0 w w' (ap pieces so_far) a.writes part);
+      }
+
+      by_status : (status : Status) → WritesState a.world status w w' → Ended (run_from 0 empty_world) bytes status source w0 w'
+      by_status Done h =
+          (empty, ap (λ (r : Run). r.ending) all, subst (λ (r : Run). Appends w0 w' (concat (pieces r))) (sym all) (laws.both a.front (lines_text (show a.world)) w0 w w' a.writes h))
+      by_status WriteFault h = stops h.0 h.2
+      by_status OutOfMemory h = stops 0 (subst (λ t. Appends w t []) (sym h) (appends_none w))
+      by_status Usage h = h
+      by_status (BadInput n fault) h = absurd h
+      by_status ReadFault h = absurd h
+      by_status (Limit what kept) h = absurd h
+      by_status DiskFault h = absurd h
+      by_status (StaleEpoch fence) h = absurd h
+      by_status (DamagedCheckpoint offset) h = absurd h
+
+  stop_ended : (source : Option (List ℕ)) (stop : LineStop) → ends ≡ true → (stop ≡ ReadStop → BreaksOff rest source) → (stop ≡ LongStop → (number < most_lines) × FirstTooLongKnown rest) → (stop ≡ ManyStop → (number ≡ most_lines) × MoreKnown rest)
+      → Ended (run_from 0 empty_world) bytes (stop_status stop number) source w0 w
+  stop_ended source ReadStop before broke long many =
+      reads_whole (run_from 0 empty_world) bytes source w0 w a.lines (laws.broken bytes a.left source a.lines (a.taken.whole before) (subst (λ r. BreaksOff r source) a.is_left (broke refl)))
+      (ap (λ (r : Run). r.ending) so_far) (subst (λ (r : Run). Appends w0 w (concat r.outputs)) (sym so_far) a.writes)
+  stop_ended source LongStop before broke long many =
+      let l = long refl in
+      let same = known_end (AtBadLine (number + 1) LineTooLong) (run_long number a.world (lines_of a.left) l.0 (subst FirstTooLongKnown a.is_left l.1)) in
+      (ap (λ (r : Run). r.ending) same, subst (λ (r : Run). Appends w0 w (concat r.outputs)) (sym same) a.writes)
+  stop_ended source ManyStop before broke long many =
+      let m = many refl in
+      let same = known_end (AtLimit Lines most_lines) (run_many number a.world (lines_of a.left) m.0 (laws.some a.left (subst MoreKnown a.is_left m.1))) in
+      (ap (λ (r : Run). r.ending) same ∙ ap (AtLimit Lines) (sym m.0), subst (λ (r : Run). Appends w0 w (concat r.outputs)) (sym same) a.writes)
+
+  line_ended : (pending : List ℕ) (source w' : Option (List ℕ)) (line : InputLine) (status : Status) → number < most_lines → length pending ≤ read_ahead → GivesKnown Line rest line (prepend_known pending source)
+      → ((v : World) → Stands r v → TakesLine (content line) (number + 1) v (Err status) w w') → Ended (run_from 0 empty_world) bytes status source w0 w'
+  line_ended pending source w' line status more few gives takes = by_status status (takes a.world a.stands)
+    where
+      -- what the run over the lines taken, with this one, has printed
+      same : (run : Run) → ((short : length line.bytes ≤ most_line_bytes) → run_from number a.world (line ∷ []) ≡ run) → run_from 0 empty_world (a.lines ++ line ∷ []) ≡ behind_all a.front run
+      same run is = a.through (line ∷ []) ∙ ap (behind_all a.front) (is (laws.next a.left line rest (prepend_known pending source) a.is_left gives).first.short)
+
+      stops : WritesLast (run_from 0 empty_world (a.lines ++ line ∷ [])).outputs w0 w' → StopsWithin (run_from 0 empty_world) bytes source w0 w'
+      stops writes =
+          let next = laws.next a.left line rest (prepend_known pending source) a.is_left gives in
+          record {
+            lines = a.lines ++ line ∷ [];
+            behind = next.behind;
+            cut = cut_more line next.behind next.first;
+            ahead = pending;
+            gave = laws.ahead pending next.behind source next.is_left;
+            few = few;
+            writes = inl writes;
+          }
+
+      stops_in : (event : WorkEvent) (n : ℕ) → is_skipped (content line) ≡ false → work_of (content line) ≡ Ok event → past a.world (work_step a.world event) ≡ None
+          → Appends w w' (take n (lines_text (work_step a.world event).lines)) → StopsWithin (run_from 0 empty_world) bytes source w0 w'
+      stops_in event n unskipped is free part =
+          let s = work_step a.world event in
+          let x = lines_text s.lines in
+          stops (laws.last (run_from 0 empty_world (a.lines ++ line ∷ [])).outputs a.front x n w0 w w'
+          (ap (λ (r : Run). r.outputs) (same (behind x (run_from (number + 1) s.world [])) (λ short. run_taken number a.world line [] more short unskipped event is free))) a.writes part)
+
+      ends_at : (ending : Ending) → w' ≡ w → ((lines : List InputLine) → (short : length line.bytes ≤ most_line_bytes) → run_from number a.world (line ∷ lines) ≡ ended a.world ending)
+          → ((run_from 0 empty_world (lines_of bytes)).ending ≡ ending) × Appends w0 w' (concat (run_from 0 empty_world (lines_of bytes)).outputs)
+      ends_at ending kept is =
+          let n = laws.next a.left line rest (prepend_known pending source) a.is_left gives in
+          let whole : run_from 0 empty_world (lines_of bytes) ≡ record { outputs = a.front; world = a.world; ending = ending } =
+          known_end ending (ap (run_from number a.world) n.first.first ∙ is (lines_of n.behind) n.first.short) in
+          (ap (λ (r : Run). r.ending) whole, subst (λ (r : Run). Appends w0 w' (concat r.outputs)) (sym whole) (subst (λ t. Appends w0 t (concat a.front)) (sym kept) a.writes))
+
+      -- want of memory at a line that is no event, at one that passes a limit, and at one that would be taken
+      wants : is_skipped (content line) ≡ false → w' ≡ w → StopsWithin (run_from 0 empty_world) bytes source w0 w'
+      wants unskipped kept = by_said (work_of (content line)) refl
+        where
+          silent : (ending : Ending) → ((short : length line.bytes ≤ most_line_bytes) → run_from number a.world (line ∷ []) ≡ ended a.world ending) → StopsWithin (run_from 0 empty_world) bytes source w0 w'
+          silent ending is =
+              let outputs : (run_from 0 empty_world (a.lines ++ line ∷ [])).outputs ≡ a.front = ap (λ (r : Run). r.outputs) (same (ended a.world ending) is) ∙ append-nil a.front in
+              stops (subst (λ ps. WritesLast ps w0 w') (sym outputs) (laws.all a.front w0 w' (subst (λ t. Appends w0 t (concat a.front)) (sym kept) a.writes)))
+
+          by_limit : (event : WorkEvent) → work_of (content line) ≡ Ok event → (limit : Option ℕ) → past a.world (work_step a.world event) ≡ limit → StopsWithin (run_from 0 empty_world) bytes source w0 w'
+          by_limit event is None free = stops_in event 0 unskipped is free (subst (λ t. Appends w t []) (sym kept) (appends_none w))
+          by_limit event is (Some stop) past = silent (AtLimit Packets stop) (λ short. run_past number a.world line [] more short unskipped event is stop past)
+
+          by_said : (said : Result WorkEvent LineFault) → work_of (content line) ≡ said → StopsWithin (run_from 0 empty_world) bytes source w0 w'
+          by_said (Ok event) is = by_limit event is (past a.world (work_step a.world event)) refl
+          by_said (Err fault) is = silent (AtBadLine (number + 1) (event_fault fault)) (λ short. run_bad number a.world line [] more short unskipped fault is)
+
+      by_status : (status : Status) → TakesLine (content line) (number + 1) a.world (Err status) w w' → Ended (run_from 0 empty_world) bytes status source w0 w'
+      by_status (BadInput m fault) h =
+          ends_at (AtBadLine m fault) h.3 (λ lines short. run_bad number a.world line lines more short h.0 h.1.why h.1.is
+          ∙ ap (λ k. ended a.world (AtBadLine k (event_fault h.1.why))) (sym h.2) ∙ ap (λ f. ended a.world (AtBadLine m f)) (sym h.1.same))
+      by_status (Limit Packets kept) h = ends_at (AtLimit Packets kept) h.2 (λ lines short. run_past number a.world line lines more short h.0 h.1.event h.1.is kept h.1.past)
+      by_status (Limit Lines kept) h = absurd h
+      by_status (Limit Bytes kept) h = absurd h
+      by_status (Limit Calls kept) h = absurd h
+      by_status (Limit Records kept) h = absurd h
+      by_status WriteFault h =
+          let t = h.1 in
+          let part = subst (λ o. TakesPart w w' o) t.1.prints t.2 in
+          stops_in t.1.event part.0 h.0 t.1.is t.1.within part.2
+      by_status OutOfMemory h = wants h.0 h.1
+      by_status Done h = absurd h
+      by_status Usage h = h
+      by_status ReadFault h = absurd h
+      by_status DiskFault h = absurd h
+      by_status (StaleEpoch fence) h = absurd h
+      by_status (DamagedCheckpoint offset) h = absurd h
+
+-- the same of an input that may be known
+module _ (laws : TakesLines) (input : Option (List ℕ)) (number : ℕ) (ends : Bool) (r : Working) (rest w0 w : Option (List ℕ)) (a : IfSome input (λ bytes. Along bytes number ends r rest w0 w)) where
+  pub step_along : (rest' w' : Option (List ℕ)) (line : InputLine) (r' : Working) (number' : ℕ) (ended' : Bool) → ends ≡ true → number' ≡ number + 1 → line.ended ≡ ended' → number < most_lines → GivesKnown Line rest line rest'
+      → ((v : World) → Stands r v → TakesLine (content line) (number + 1) v (Ok tt) w w')
+      → ((v : World) → Stands r v → Stands r' (after_line v (content line)))
+      → IfSome input (λ bytes. Along bytes number' ended' r' rest' w0 w')
+  step_along rest' w' line r' number' ended' before next newline more gives takes stands =
+      weaker input _ _ (λ bytes along. subst (λ n. Along bytes n ended' r' rest' w0 w') (sym next) (subst (λ b. Along bytes (number + 1) b r' rest' w0 w') newline (step laws bytes number ends r rest w0 w along rest' w' line r' before more gives takes stands))) a
+
+  -- the end was told by an answer, or by the last line
+  pub end_along : (pending : List ℕ) (source w' : Option (List ℕ)) (line : InputLine) (status : Status) → GivesKnown End rest line (prepend_known pending source) → ((v : World) → Stands r v → WritesState v status w w')
+      → IfSome input (λ bytes. Ended (run_from 0 empty_world) bytes status source w0 w')
+  end_along pending source w' line status gives writes = weaker input _ _ (λ bytes (along : Along bytes number ends r rest w0 w).
+      let e = laws.end along.left line rest (prepend_known pending source) along.is_left gives in
+      state_ended laws bytes number ends r rest w0 w along source w' status e.0 (laws.no_more pending source e.1) (writes along.world along.stands)) a
+
+  pub last_along : (pending : List ℕ) (source w' : Option (List ℕ)) (status : Status) → rest ≡ prepend_known pending source → ends ≡ false → ((v : World) → Stands r v → WritesState v status w w')
+      → IfSome input (λ bytes. Ended (run_from 0 empty_world) bytes status source w0 w')
+  last_along pending source w' status is before writes = weaker input _ _ (λ bytes (along : Along bytes number ends r rest w0 w).
+      let end = along.taken.last before in
+      state_ended laws bytes number ends r rest w0 w along source w' status end (laws.no_more pending source (sym is ∙ along.is_left ∙ ap (λ l. Some l) end)) (writes along.world along.stands)) a
+
+  pub stop_along : (source : Option (List ℕ)) (stop : LineStop) → ends ≡ true → (stop ≡ ReadStop → BreaksOff rest source) → (stop ≡ LongStop → (number < most_lines) × FirstTooLongKnown rest) → (stop ≡ ManyStop → (number ≡ most_lines) × MoreKnown rest)
+      → IfSome input (λ bytes. Ended (run_from 0 empty_world) bytes (stop_status stop number) source w0 w)
+  stop_along source stop before broke long many = weaker input _ _ (λ bytes along. stop_ended laws bytes number ends r rest w0 w along source stop before broke long many) a
+
+  pub line_along : (pending : List ℕ) (source w' : Option (List ℕ)) (line : InputLine) (status : Status) → number < most_lines → length pending ≤ read_ahead → GivesKnown Line rest line (prepend_known pending source)
+      → ((v : World) → Stands r v → TakesLine (content line) (number + 1) v (Err status) w w')
+      → IfSome input (λ bytes. Ended (run_from 0 empty_world) bytes status source w0 w')
+  line_along pending source w' line status more few gives takes = weaker input _ _ (λ bytes along. line_ended laws bytes number ends r rest w0 w along pending source w' line status more few gives takes) a
+
+-- nothing was taken where memory was refused at once
+pub nothing_taken : (source took : Option (List ℕ)) → IfSome source (λ bytes. Ended (run_from 0 empty_world) bytes OutOfMemory source took took)
+nothing_taken None took = tt
+nothing_taken (Some left) took = record {
+  lines = [];
+  behind = left;
+  cut = refl;
+  ahead = [];
+  gave = refl;
+  few = omega arith;
+  writes = inl (record { part = 0; writes = appends_none took });
+}
+
+pub running_alone : {A : Type 0} {stop : Option LineStop} {s : LineStop} → stop ≡ None → (stop ≡ Some s) ⊎ A → A
+running_alone {A} {stop} {s} none (inl h) = let e : Some s ≡ None = sym h ∙ none in cc
+running_alone none (inr x) = x
