@@ -1,6 +1,4 @@
 pub mod Known
-pub mod LineRunsLemmas
-pub mod OpenedRunsLemmas
 pub mod OpeningsLemmas
 pub mod Returns
 pub mod WholesLemmas

@@ -1,6 +1,4 @@
 pub mod Contents
-pub mod LineProgress
-pub mod LineRuns
 pub mod Openings
 pub mod Statuses
 pub mod Wholes
