@@ -16,7 +16,9 @@ use crate::text::write_desk;
 use cluster_desc::Cluster;
 use fuxi_io::{Got, LimitOf, LineReader, LineStop, Sink, Source, Status, write_all_of};
 use fuxi_terms::OutOfMemory;
-use input_lines::{content, event_status, is_skipped, lines_are_taken, read_cluster_line, stop_status};
+use input_lines::{
+    content, event_status, is_skipped, lines_are_taken, read_cluster_line, stop_status,
+};
 use master_desk::{Gate, MOST_CALLS, run_all};
 use std::alloc::Global;
 use std::sync::Wait;

@@ -11,7 +11,9 @@ ghost use Rattle.fuxi_terms.specs.Limits.{most_lines};
 use cluster_desc::Cluster;
 use fuxi_io::{Got, LimitOf, LineReader, LineStop, Sink, Source, Status, write_all_of};
 use fuxi_terms::OutOfMemory;
-use input_lines::{content, event_status, is_skipped, lines_are_taken, read_cluster_line, stop_status};
+use input_lines::{
+    content, event_status, is_skipped, lines_are_taken, read_cluster_line, stop_status,
+};
 use schedule_replay::{Running, WorldStop, events_stand_anywhere};
 use schedule_text::read_event;
 use std::alloc::Global;
