@@ -6,8 +6,8 @@ use Rattle.schedule_replay.specs.Writings.{event_of}
 use Rattle.schedule_replay.proofs.StoppedWriting.{leaves_stopped}
 use Rattle.schedule_replay.proofs.checkpoint.Checkpoint.stop.Goals as goal
 
-pub returns-in-Ok-write_on-clause-left : goal.returns-in-Ok-write_on-clause-left
-returns-in-Ok-write_on-clause-left c =
+pub returns-in-Ok-clause-left : goal.returns-in-Ok-clause-left
+returns-in-Ok-clause-left c =
     let same = c.self.view_is in
     leaves_stopped HardFault c.args.self.now c.args.epoch (event_of c.args.writing.now) c.self.inside.hard _ c.stop_after.new.self.told _ _ c.requires.open (ap (λ (h : Held). h.hard) same)
     (ap (λ (d : Grown). d.told) c.stop_after.ensures ∙ ap (λ (h : Held). h.told) same) c.write_on.ensures.told
