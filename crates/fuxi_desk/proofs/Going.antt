@@ -13,7 +13,7 @@ use Rattle.fuxi_io.specs.declared.status.InputFault.TheVariants.{LineTooLong}
 use Rattle.fuxi_io.specs.declared.status.LimitOf.TheVariants.{Lines, Calls}
 use Rattle.fuxi_io.specs.declared.status.Status.{Status}
 use Rattle.fuxi_io.specs.declared.status.Status.TheVariants.{Done, Usage, BadInput, ReadFault, WriteFault, Limit, OutOfMemory, DiskFault, StaleEpoch, DamagedCheckpoint}
-use Rattle.fuxi_terms.proofs.Appending.{appends_none}
+use Rattle.fuxi_terms.proofs.AppendsLemmas.{appends_none}
 use Rattle.schedule_text.specs.declared.event.LineFault.{LineFault}
 use Rattle.master_desk.specs.Orders.{most_calls}
 use Rattle.fuxi_desk.specs.Lines.{DeskEvent, desk_event}

@@ -10,7 +10,7 @@ use Rattle.fuxi_io.specs.declared.status.LimitOf.TheVariants.{Lines, Packets, By
 use Rattle.fuxi_io.specs.declared.status.Status.{Status}
 use Rattle.fuxi_io.specs.declared.status.Status.TheVariants.{Done, Usage, BadInput, ReadFault, WriteFault, Limit, OutOfMemory, DiskFault, StaleEpoch, DamagedCheckpoint}
 use Rattle.fuxi_terms.specs.Cluster.{ClusterRecord}
-use Rattle.fuxi_terms.proofs.Appending.{appends_none}
+use Rattle.fuxi_terms.proofs.AppendsLemmas.{appends_none}
 use Rattle.fuxi_desk.specs.Preparing.{prepared_for}
 use Rattle.input_lines.specs.Wholes.{whole_lines, AreWhole, AreTaken, WritesLast}
 use Rattle.input_lines.specs.Openings.{Opening, Opens, BadAt, TooMany, opening_from, HasCluster, IsLast, Opened}

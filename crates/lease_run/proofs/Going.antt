@@ -14,7 +14,7 @@ use Rattle.fuxi_io.specs.declared.lines.LineStop.TheVariants.{ReadFault as ReadS
 use Rattle.fuxi_io.specs.declared.status.InputFault.TheVariants.{LineTooLong}
 use Rattle.fuxi_io.specs.declared.status.Status.{Status}
 use Rattle.fuxi_io.specs.declared.status.Status.TheVariants.{Done, Usage, BadInput, ReadFault, WriteFault, Limit, OutOfMemory, DiskFault, StaleEpoch, DamagedCheckpoint}
-use Rattle.fuxi_terms.proofs.Appending.{appends_none}
+use Rattle.fuxi_terms.proofs.AppendsLemmas.{appends_none}
 use Rattle.fuxi_terms.specs.Limits.{most_line_bytes, most_lines}
 use Rattle.schedule_text.specs.declared.event.LineFault.{LineFault}
 use Rattle.input_lines.specs.Contents.{content, is_skipped}

@@ -16,7 +16,7 @@ use Rattle.fuxi_io.specs.declared.status.InputFault.TheVariants.{LineTooLong}
 use Rattle.fuxi_io.specs.declared.status.LimitOf.TheVariants.{Lines}
 use Rattle.fuxi_io.specs.declared.status.Status.{Status}
 use Rattle.fuxi_io.specs.declared.status.Status.TheVariants.{Done, Usage, BadInput, ReadFault, WriteFault, Limit, OutOfMemory, DiskFault, StaleEpoch, DamagedCheckpoint}
-use Rattle.fuxi_terms.proofs.Appending.{appends_both, appends_none}
+use Rattle.fuxi_terms.proofs.AppendsLemmas.{appends_both, appends_none}
 use Rattle.schedule_text.specs.Reading.{event_of}
 use Rattle.schedule_text.specs.declared.event.Event.{Event as LineEvent}
 use Rattle.schedule_text.specs.declared.event.LineFault.{LineFault}

@@ -17,7 +17,7 @@ use Rattle.fuxi_io.specs.declared.status.InputFault.TheVariants.{LineTooLong}
 use Rattle.fuxi_io.specs.declared.status.LimitOf.TheVariants.{Lines, Packets, Bytes, Calls, Records}
 use Rattle.fuxi_io.specs.declared.status.Status.{Status}
 use Rattle.fuxi_io.specs.declared.status.Status.TheVariants.{Done, Usage, BadInput, ReadFault, WriteFault, Limit, OutOfMemory, DiskFault, StaleEpoch, DamagedCheckpoint}
-use Rattle.fuxi_terms.proofs.Appending.{appends_both, appends_none}
+use Rattle.fuxi_terms.proofs.AppendsLemmas.{appends_both, appends_none}
 use Rattle.schedule_text.specs.declared.event.LineFault.{LineFault}
 use Rattle.work_text.specs.Reading.{work_of}
 use Rattle.work_world.specs.Worlds.{Stands}
