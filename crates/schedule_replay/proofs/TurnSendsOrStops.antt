@@ -18,7 +18,7 @@ use Rattle.written_roles.specs.MasterSteps.{master_party, peers}
 use Rattle.written_world.specs.World.{World, Step, refused}
 use Rattle.written_world.specs.Events.{turn_agent, turn_app, turn_master, turn_to_master, turned, at_master}
 use Rattle.written_world.specs.Outputs.{sent_lines}
-use Rattle.packet_pool.specs.Pools.{Stored}
+use Rattle.packet_pool.specs.Pools.{Stored, limit_of as pool_limit}
 use Rattle.core_join.specs.Agents.{agent_at}
 use Rattle.core_join.specs.Apps.{app_at}
 use Rattle.running_agents.specs.Running.{TurnsIn as AgentTurnsIn}

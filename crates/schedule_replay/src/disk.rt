@@ -79,6 +79,7 @@ impl Disk for GrowingDisk {
         ensures size { IfOk result (λ n. n ≡ length self.new.told.now.bytes) }
         ensures told { Some self.new.told ≡ Some self.old.told }
         ensures cause { HasCause self.old.faults self.new.faults result }
+        ensures served { OnOk result (self.new.faults ≡ self.old.faults) }
     {
         self.disk.len()
     }
@@ -89,6 +90,7 @@ impl Disk for GrowingDisk {
         ensures size { length self.new.told.now.bytes ≡ length self.old.told.now.bytes }
         ensures told { Some self.new.told ≡ Some self.old.told }
         ensures cause { HasCause self.old.faults self.new.faults result }
+        ensures served { OnOk result (self.new.faults ≡ self.old.faults) }
     {
         self.disk.read_at(at, buf)
     }
@@ -99,6 +101,7 @@ impl Disk for GrowingDisk {
         ensures size { OnOk result (length self.new.told.now.bytes ≡ max (length self.old.told.now.bytes) (at + length bytes.now)) }
         ensures told { Writes at bytes.now result self.old.told self.new.told }
         ensures cause { HasCause self.old.faults self.new.faults result }
+        ensures served { OnOk result (self.new.faults ≡ self.old.faults) }
         ensures fails { OnErr result (HasNoRoom self.old self.new) }
     {
         match self.disk.room(bytes.len() + 1) {
@@ -114,6 +117,7 @@ impl Disk for GrowingDisk {
         ensures size { length self.new.told.now.bytes ≡ length self.old.told.now.bytes }
         ensures told { Syncs result self.old.told self.new.told }
         ensures cause { HasCause self.old.faults self.new.faults result }
+        ensures served { OnOk result (self.new.faults ≡ self.old.faults) }
         ensures fails { OnErr result (HasNoRoom self.old self.new) }
     {
         match self.disk.room(1) {
