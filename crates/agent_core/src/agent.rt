@@ -21,6 +21,12 @@ use schedule_unit::{MachineNo, Role};
 use std::alloc::Global;
 use std::marker::Model;
 
+// As what the packet of a stranger is heard.
+const STRANGER: Heard = Heard {
+    fresh: false,
+    what: What::Stranger,
+};
+
 /// The agent of one machine, in one boot. Its table fits the machine, whatever packets come.
 ///
 /// What its calls do is said of every agent of the definitions that it stands for (`StandsFor`). Each call that changes it is
@@ -89,13 +95,7 @@ impl Agent {
         self.steps += 1;
         if !is_for(packet, self.machine) {
             strangers_change_nothing();
-            return Ok((
-                self,
-                Heard {
-                    fresh: false,
-                    what: What::Stranger,
-                },
-            ));
+            return Ok((self, STRANGER));
         }
         if packet.from.inc <= self.up.peer() {
             let heard = self.up.hear(alloc, packet, &self.limit, &mut self.total)?;

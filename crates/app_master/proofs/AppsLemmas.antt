@@ -2,21 +2,27 @@
 use Rattle.std.proofs.Common.{◌≡◌, ℕ, ◌<◌, true, false, cond, nat_eq, List, length, sym, ◌∙◌, ap, subst}
 use Rattle.fuxi_terms.specs.Lists.{below}
 use Rattle.fuxi_terms.proofs.Booleans.{both_true, number_is}
-use Rattle.written_net.specs.Net.{Id, same_id}
+use Rattle.party_ledgers.specs.declared.packets.Packet.{Packet}
+use Rattle.written_net.specs.Net.{same_id}
+use Rattle.written_net.specs.Channels.{app_id, is_master}
 use Rattle.written_net.specs.Sides.{HeardSide, shown, appended}
 use Rattle.written_roles.specs.Apps.{AppRole, app_told, joined_demand, names, usable_of, carried_in, carry_of}
 use Rattle.core_side.specs.Bodies.{tally_of}
+use Rattle.core_side.specs.Parcels.{packet_of}
 use Rattle.app_master.specs.Usable.{carried_at, is_named, usable_in}
 use Rattle.app_master.specs.Apps.{AppCore, StandsFor, Up, IsUp}
+use Rattle.app_master.specs.Hearing.{is_for}
 use Rattle.app_master.proofs.CarriedLemmas.{carried_then}
 
--- ids that a test finds the same
-pub id_is : (a b : Id) → same_id a b ≡ true → a ≡ b
-id_is a b t =
-    let h = both_true (nat_eq a.role b.role) (nat_eq a.number b.number) t in
-    let role = number_is a.role b.role h.0 in
-    let number = number_is a.number b.number h.1 in
-    λ i. record { role = role i; number = number i }
+-- a packet that is for the application comes from a master
+pub comes_to : (x : Packet) (a : AppCore) (r : AppRole) → StandsFor a r → is_for x a.job ≡ true → ((packet_of x).to.id ≡ app_id r.job) × (is_master (packet_of x).from.id ≡ true)
+comes_to x a r s mine =
+    let to = (packet_of x).to.id in
+    let parts = both_true (same_id to (app_id a.job)) (is_master (packet_of x).from.id) mine in
+    let same = both_true (nat_eq to.role 3) (nat_eq to.number a.job) parts.0 in
+    let role = number_is to.role 3 same.0 in
+    let number = number_is to.number a.job same.1 ∙ s.job in
+    (λ i. record { role = role i; number = number i }, parts.1)
 
 -- of the known master: nothing but the side changes
 pub stays : (a : AppCore) (up : Up) (steps : ℕ) (r : AppRole) (epoch : ℕ) (h : HeardSide) → h.fresh ≡ false → IsUp up r.boot h.side → StandsFor a r → StandsFor (record a { up = up; steps = steps }) (app_told r epoch h).role

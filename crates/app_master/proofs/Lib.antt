@@ -3,4 +3,4 @@ pub mod Counted
 pub mod CarriedLemmas
 pub mod AppsLemmas
 pub mod Racks
-pub mod AskingLemmas
+pub mod DemandChanges

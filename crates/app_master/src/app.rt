@@ -31,6 +31,12 @@ use schedule_unit::{AppNo, MachineNo, RackNo, Role, UnitNo};
 use std::alloc::Global;
 use std::marker::Model;
 
+// As what the packet of a stranger is heard.
+const STRANGER: Heard = Heard {
+    fresh: false,
+    what: What::Stranger,
+};
+
 /// An application. It asks for grants, holds what its master grants, and gives back.
 ///
 /// What its calls do is said of every application by itself that it stands for (`StandsFor`).
@@ -218,13 +224,7 @@ impl AppMaster {
         strangers_change_nothing();
         self.steps += 1;
         if !is_for(packet, self.app) {
-            return Ok((
-                self,
-                Heard {
-                    fresh: false,
-                    what: What::Stranger,
-                },
-            ));
+            return Ok((self, STRANGER));
         }
         if packet.from.inc <= self.up.peer() {
             let heard = self.up.hear(alloc, packet, &NoLimit, &mut ())?;
@@ -239,8 +239,8 @@ impl AppMaster {
 
     /// What the next turn sends. It changes nothing. Where memory is refused there are no packets.
     pub fn turn(&self, alloc: Global) -> Result<Packets, OutOfMemory>
-        ensures sends { IfOk result (SendsAlike self.now) }
         ensures formed { IfOk result (AllByRecursion IsSent) }
+        ensures sends { IfOk result (SendsAlike self.now) }
     {
         let mut packets = Packets::new(alloc);
         if self.up.peer() == 0 {
@@ -290,18 +290,18 @@ impl AppMaster {
         self.up.place()
     }
 
-    /// Its boot.
-    pub fn boot(&self) -> u64
-        ensures { result ≡ self.now.up.outgoing.own }
-    {
-        self.up.own()
-    }
-
     /// The last index of its own history.
     pub fn last(&self) -> u64
         ensures { result ≡ self.now.up.outgoing.last }
     {
         self.up.last()
+    }
+
+    /// Its boot.
+    pub fn boot(&self) -> u64
+        ensures { result ≡ self.now.up.outgoing.own }
+    {
+        self.up.own()
     }
 
     /// How many units its job has, 1 to 8.

@@ -18,7 +18,7 @@ use Rattle.fuxi_terms.proofs.Booleans.{both_true, same_tests, number_is, nat_its
 use Rattle.fuxi_terms.proofs.CountsLemmas.{tied, count_le}
 use Rattle.fuxi_terms.proofs.KeyOrders.{key_total, same_key, spot_total, same_spot}
 use Rattle.written_roles.specs.MasterSteps.{count_entries}
-use Rattle.broadcast.specs.NumbersSet.{numbers_set, AreNumbers}
+use Rattle.fuxi_terms.specs.NumbersSet.{numbers_set, AreNumbers}
 use Rattle.broadcast.specs.Projections.{grant_entries, HasNumbers, after_setting, GrantsFollow}
 use Rattle.broadcast.proofs.ProjectionsLemmas.{numbers_are}
 

@@ -15,10 +15,10 @@ use Rattle.ledger_law.specs.Differing.{tally_by_difference}
 use Rattle.ledger_law.specs.Shapes.{IsTally, IsChange}
 use Rattle.written_net.specs.Ledgers.{Ledger}
 use Rattle.core_side.specs.Bodies.{tally_of}
-use Rattle.broadcast.specs.NumbersSet.{moves, AreNumbers}
+use Rattle.fuxi_terms.specs.NumbersSet.{moves, AreNumbers}
 use Rattle.broadcast.specs.Shown.{grants_set}
-use Rattle.broadcast.proofs.NumbersSetLemmas.{moves_make, moves_within, no_difference}
-use Rattle.broadcast.proofs.MovesLemmas.{are_others}
+use Rattle.fuxi_terms.proofs.NumbersSetLemmas.{moves_make, moves_within, no_difference}
+use Rattle.fuxi_terms.proofs.MovesLemmas.{are_others}
 
 other_head : (t : TallyRecord) (boot : ℕ) (k : Key) → (boot ≡ t.head → ⊥) → count key_cmp (staying credited_what t boot) k ≡ cond (not (nat_eq k.what credited_what)) (count key_cmp t.entries k) 0
 other_head t boot k differs =

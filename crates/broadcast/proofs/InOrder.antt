@@ -16,7 +16,7 @@ use Rattle.fuxi_terms.proofs.Booleans.{number_is}
 use Rattle.fuxi_terms.proofs.CountsLemmas.{both_true}
 use Rattle.schedule_unit.specs.declared.party.MachineNo.{MachineNo}
 use Rattle.written_roles.specs.MasterSteps.{count_entries}
-use Rattle.broadcast.specs.NumbersSet.{AreNumbers}
+use Rattle.fuxi_terms.specs.NumbersSet.{AreNumbers}
 use Rattle.broadcast.specs.AllShown.{is_job}
 use Rattle.broadcast.specs.OneJob.{AreOf, AreNumbersOf, IsNews, reported_now, machines_of, reported_numbers, credited_to, numbers_of}
 use Rattle.broadcast.specs.declared.grants.News.{News}

@@ -1,5 +1,3 @@
-pub mod NumbersSetLemmas
-pub mod MovesLemmas
 pub mod RowSetLemmas
 pub mod GrantsSetLemmas
 pub mod ShownLemmas

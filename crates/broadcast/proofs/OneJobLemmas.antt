@@ -21,7 +21,7 @@ use Rattle.fuxi_terms.proofs.Booleans.{number_is, nat_itself}
 use Rattle.fuxi_terms.proofs.CountsLemmas.{counts-where_key, count_where}
 use Rattle.fuxi_terms.proofs.KeyOrders.{key_total, same_key}
 use Rattle.written_roles.specs.MasterSteps.{count_entries}
-use Rattle.broadcast.specs.NumbersSet.{numbers_set, AreNumbers}
+use Rattle.fuxi_terms.specs.NumbersSet.{numbers_set, AreNumbers}
 use Rattle.broadcast.specs.Projections.{grant_entries, HasNumbers, after_setting, GrantsFollow}
 use Rattle.broadcast.specs.Shown.{grants_set, Shows}
 use Rattle.grant_table.specs.Tables.{TableRecord, IsSound}

@@ -15,9 +15,9 @@ use Rattle.fuxi_terms.proofs.Booleans.{same_tests, number_is, nat_itself}
 use Rattle.fuxi_terms.proofs.CountsLemmas.{both_true, tied, below_none, same_counts, count-set_count}
 use Rattle.fuxi_terms.proofs.KeyOrders.{row_key_total, same_row_key, spot_total, same_spot}
 use Rattle.written_roles.specs.MasterSteps.{spot_row_key}
-use Rattle.broadcast.specs.NumbersSet.{numbers_set, AreNumbers, IsSetTo}
+use Rattle.fuxi_terms.specs.NumbersSet.{numbers_set, AreNumbers, IsSetTo}
 use Rattle.broadcast.specs.Projections.{row_of, spot_of, RowFollows}
-use Rattle.broadcast.proofs.NumbersSetLemmas.{set_counts}
+use Rattle.fuxi_terms.proofs.NumbersSetLemmas.{set_counts}
 
 module _ {K : Type 0} {R : K → K → Ordering} (o : IsTotalOrder R) (same : (x y : K) → R x y ≡ Equal → x ≡ y) (greatest : K → ℕ) where
   pub set_count_is : (es ns : List (K × ℕ)) → T (is_sorted R ns) → (q : K) → count R (numbers_set R es ns) q ≡ cond (is_some (find R q ns)) (count R ns q) (count R es q)

@@ -16,8 +16,8 @@ use Rattle.fuxi_terms.proofs.KeyOrders.{row_key_total, same_row_key}
 use Rattle.fuxi_terms.proofs.RowDifferences.{few_of, counted_has}
 use Rattle.party_ledgers.specs.Differing.{row_by_difference}
 use Rattle.written_net.specs.Ledgers.{Ledger, row_ledger}
-use Rattle.broadcast.specs.NumbersSet.{numbers_set, moves, AreNumbers}
-use Rattle.broadcast.proofs.NumbersSetLemmas.{no_difference, set_same, later, first_in, untouched, one_made}
+use Rattle.fuxi_terms.specs.NumbersSet.{numbers_set, moves, AreNumbers}
+use Rattle.fuxi_terms.proofs.NumbersSetLemmas.{no_difference, set_same, later, first_in, untouched, one_made}
 
 abbrev Entries : Type 0
 Entries = List (RowKey × ℕ)

@@ -20,7 +20,7 @@ use Rattle.core_side.specs.Sides.{IsSide}
 use Rattle.grant_table.specs.Tables.{TableRecord, as_known, IsSound}
 use Rattle.broadcast.specs.declared.machine_row.RowNumber.{RowNumber}
 use Rattle.broadcast.specs.Projections.{row_of}
-use Rattle.broadcast.specs.NumbersSet.{numbers_set}
+use Rattle.fuxi_terms.specs.NumbersSet.{numbers_set}
 use Rattle.broadcast.specs.Shown.{number_of, Shows}
 use Rattle.broadcast.specs.AllShown.{Down, is_machine, AreInOrder, RowsAreBefore, ShowsRows}
 use Rattle.broadcast.specs.TouchedNumbers.{touched_on, numbers_in, numbers_of, AreTouched, MayBeSet}
@@ -92,29 +92,16 @@ module _ (t : TableRecord) (forced : Option MachineNo) (old : List Down) where
           ap (λ xs. slice_get xs i) is ∙ slice_get-get_or (set now i e) i d (subst (λ n. i < n) (sym (length-set now i e)) lt) ∙ ap (λ x. Some x) (get_or-set_same now i e d lt)
 
 -- ---- one turn: the side of a machine, as it was at the start, and its numbers
-pub record IsTurn (old now : List Down) (numbers : List (List (RowKey × ℕ))) (i : ℕ) (d : Down) (ns : List (RowKey × ℕ)) : Type 0 where
+pub record IsTurn (old now : List Down) (i : ℕ) (d : Down) : Type 0 where
   pub here : slice_get now i ≡ Some d
   pub was : slice_get old i ≡ Some d
-  pub wide : i < length numbers
-  pub listed : get_or numbers i [] ≡ ns
 
-pub turn : (t : TableRecord) (forced : Option MachineNo) (ss : List Spot) (old now : List Down) (lists : List (Vec RowNumber)) (i : ℕ) (d : Down) (v : Vec RowNumber) (items : List RowNumber) → length old ≡ length t.cluster.machines → AreTouched t ss (numbers_of lists) → AreShown t forced old i now
-    → i < length old → d ≡ get_or now i d → v ≡ get_or lists i v → items ≡ v.items → IsTurn old now (numbers_of lists) i d (map number_of items)
-turn t forced ss old now lists i d v items wide touched shown lt d_is v_is items_are =
+pub turn : (t : TableRecord) (forced : Option MachineNo) (old now : List Down) (i : ℕ) (d : Down) → AreShown t forced old i now → i < length old → d ≡ get_or now i d → IsTurn old now i d
+turn t forced old now i d shown lt d_is =
     let here : slice_get now i ≡ Some d = slice_get_read now (length old) i d (sym shown.wide) lt d_is in
-    let among : i < length (numbers_of lists) = omega (arith, lt, wide, touched.wide) in
-    let among_lists : i < length lists = omega (arith, among, length-map lists numbers_in) in
-    record {
-      here = here;
-      was = sym (shown.left i (omega arith)) ∙ here;
-      wide = among;
-      listed = get_or-map numbers_in lists i v [] among_lists ∙ ap numbers_in (sym v_is) ∙ ap (map number_of) (sym items_are);
-    }
+    record { here = here; was = sym (shown.left i (omega arith)) ∙ here }
 
-module _ (t : TableRecord) (sound : IsSound t) (ss : List Spot) (order : AreInOrder ss) (old now : List Down) (before : RowsAreBefore t ss old) (numbers : List (List (RowKey × ℕ))) (touched : AreTouched t ss numbers) (i : ℕ) (d : Down) (ns : List (RowKey × ℕ)) (at_i : IsTurn old now numbers i d ns) where
-  numbers_are : ns ≡ touched_on t i ss
-  numbers_are = sym at_i.listed ∙ touched.each i at_i.wide
-
+module _ (t : TableRecord) (sound : IsSound t) (ss : List Spot) (order : AreInOrder ss) (old now : List Down) (before : RowsAreBefore t ss old) (i : ℕ) (d : Down) (ns : List (RowKey × ℕ)) (at_i : IsTurn old now i d) (numbers_are : ns ≡ touched_on t i ss) where
   pub set_at : MayBeSet d.outgoing.present ns
   set_at = subst (λ row. MayBeSet row ns) (sym (before.rows i d at_i.was)) (subst (MayBeSet (row_of (as_known t.jobs) i before.before)) (sym numbers_are) (may_be_set t sound i ss order before.before before.is))
 

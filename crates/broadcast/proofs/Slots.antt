@@ -15,7 +15,7 @@ use Rattle.broadcast.specs.Projections.{grant_entries}
 use Rattle.schedule_unit.specs.declared.party.MachineNo.{MachineNo}
 use Rattle.grant_table.specs.Tables.{TableRecord, IsSound}
 use Rattle.broadcast.specs.AllShown.{App, is_job, credited_in, with_reported, GrantsAreBefore, ShowsAllGrants}
-use Rattle.broadcast.specs.OneJob.{counts_at, AreByJob, reported_now, machines_of, JobIsBefore, SlotIsShown, IsInSlot, AreShown}
+use Rattle.broadcast.specs.OneJob.{counts_at, lists_of, AreOfJobs, reported_now, machines_of, JobIsBefore, SlotIsShown, IsInSlot, AreShown}
 use Rattle.broadcast.specs.declared.grants.News.{News}
 use Rattle.broadcast.proofs.Touched.{touched_follow}
 
@@ -33,8 +33,8 @@ got_other (x ∷ xs) (suc i) zero y h = refl
 got_other (x ∷ xs) (suc i) (suc j) y h = got_other xs i j y (let n : nat_eq (suc i) (suc j) ≡ false = h in grind (arith, nat_tests, n))
 
 -- the counts of a slot
-pub slot_counts : (touched : List (Spot × ℕ)) (jobs : ℕ) (lists : List (Vec (Key × ℕ))) (a : ℕ) (v : Vec (Key × ℕ)) (cs : List (Key × ℕ)) → AreByJob touched jobs lists → a < jobs → v ≡ get_or lists a v → cs ≡ v.items → cs ≡ count_entries a touched
-slot_counts touched jobs lists a v cs h lt is items = items ∙ ap (λ (l : Vec (Key × ℕ)). l.items) is ∙ sym (get_or-map (λ (l : Vec (Key × ℕ)). l.items) lists a v [] (let wide = h.wide in omega (arith, wide, lt))) ∙ h.each a lt
+pub slot_counts : (touched : List (Spot × ℕ)) (jobs : ℕ) (all : Vec (Vec (Key × ℕ))) (lists : List (Vec (Key × ℕ))) (a : ℕ) (cs : List (Key × ℕ)) → AreOfJobs touched jobs all.items → a < jobs → lists ≡ all.items → cs ≡ get_or (lists_of lists) a [] → cs ≡ count_entries a touched
+slot_counts touched jobs all lists a cs h lt are is = is ∙ ap (λ (l : List (Vec (Key × ℕ))). get_or (lists_of l) a []) are ∙ h a lt
 
 pub in_slot : (slots : List (Option App)) (a : ℕ) (o : Option App) → a < length slots → o ≡ get_or slots a o → slice_get slots a ≡ Some o
 in_slot slots a o lt is = slice_get-get_or slots a o lt ∙ ap (λ x. Some x) (sym is)

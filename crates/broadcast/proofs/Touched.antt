@@ -15,7 +15,7 @@ use Rattle.fuxi_terms.proofs.CountsLemmas.{both_true, tied, count_le}
 use Rattle.fuxi_terms.proofs.KeyOrders.{spot_total, same_spot}
 use Rattle.fuxi_terms.proofs.Spots.{each_found}
 use Rattle.fuxi_terms.proofs.ValidJobs.{units_valid}
-use Rattle.broadcast.specs.NumbersSet.{IsSetTo}
+use Rattle.fuxi_terms.specs.NumbersSet.{IsSetTo}
 use Rattle.grant_table.specs.Tables.{TableRecord, as_known, AreJobs, IsSound}
 use Rattle.broadcast.specs.AllShown.{has_spot, AreInOrder, IsBefore}
 use Rattle.broadcast.specs.OneJob.{has_place, counts_at}

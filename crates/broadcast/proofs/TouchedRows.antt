@@ -21,7 +21,7 @@ use Rattle.fuxi_terms.proofs.Spots.{each_found}
 use Rattle.written_roles.specs.MasterSteps.{spot_row_key}
 use Rattle.grant_table.specs.Tables.{TableRecord, as_known, IsSound}
 use Rattle.broadcast.specs.Projections.{row_of, spot_of, RowFollows}
-use Rattle.broadcast.specs.NumbersSet.{numbers_set, AreNumbers}
+use Rattle.fuxi_terms.specs.NumbersSet.{numbers_set, AreNumbers}
 use Rattle.broadcast.specs.AllShown.{has_spot, AreInOrder, IsBefore}
 use Rattle.broadcast.specs.TouchedNumbers.{is_touched, number_at, touched_on, MayBeSet}
 use Rattle.broadcast.proofs.RisingKeys.{one_spot, sorted_keys}

@@ -23,7 +23,7 @@ use Rattle.written_net.specs.Ledgers.{row_ledger}
 use Rattle.core_side.specs.Bodies.{report_of, tally_of}
 use Rattle.broadcast.specs.Projections.{row_of, grant_entries}
 use Rattle.written_roles.specs.MasterSteps.{count_entries}
-use Rattle.broadcast.specs.NumbersSet.{numbers_set}
+use Rattle.fuxi_terms.specs.NumbersSet.{numbers_set}
 use Rattle.broadcast.specs.Shown.{Shows}
 use Rattle.grant_table.specs.declared.asking.Pick.{Pick}
 use Rattle.grant_table.specs.Tables.{TableRecord, as_known}

@@ -1,4 +1,3 @@
-pub mod NumbersSet
 pub mod Shown
 pub mod Projections
 pub mod Places

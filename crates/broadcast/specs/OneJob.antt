@@ -14,7 +14,7 @@ use Rattle.fuxi_terms.specs.TallyKeys.{reported_key, credited_what, greatest_gra
 use Rattle.fuxi_terms.specs.declared.Key.{Key}
 use Rattle.schedule_unit.specs.declared.party.MachineNo.{MachineNo}
 use Rattle.written_roles.specs.MasterSteps.{count_entries}
-use Rattle.broadcast.specs.NumbersSet.{AreNumbers, IsSetTo}
+use Rattle.fuxi_terms.specs.NumbersSet.{AreNumbers, IsSetTo}
 use Rattle.grant_table.specs.Tables.{TableRecord, as_known, IsSound}
 use Rattle.broadcast.specs.declared.grants.News.{News}
 use Rattle.broadcast.specs.AllShown.{App, is_job, ShowsJob, ShowsGrants}
@@ -34,6 +34,10 @@ lists_of lists = map (λ (l : Vec (Key × ℕ)). l.items) lists
 pub record AreByJob (touched : List (Spot × ℕ)) (jobs : ℕ) (lists : List (Vec (Key × ℕ))) : Type 0 where
   pub wide : length lists ≡ jobs
   pub each : (a : ℕ) → a < jobs → get_or (lists_of lists) a [] ≡ count_entries a touched
+
+-- the counts of each of so many jobs, where a job without a list has none
+abbrev pub AreOfJobs : List (Spot × ℕ) → ℕ → List (Vec (Key × ℕ)) → Type 0
+AreOfJobs touched jobs lists = (a : ℕ) → a < jobs → get_or (lists_of lists) a [] ≡ count_entries a touched
 
 abbrev pub AreOf : ℕ → List (Key × ℕ) → Type 0
 AreOf what es = AllByRecursion (λ e. nat_eq e.0.what what ≡ true) es

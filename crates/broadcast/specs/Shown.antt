@@ -11,7 +11,7 @@ use Rattle.written_net.specs.Ledgers.{Ledger}
 use Rattle.written_net.specs.Sides.{Side, appended}
 use Rattle.core_side.specs.Sides.{IsSide}
 use Rattle.broadcast.specs.declared.machine_row.RowNumber.{RowNumber}
-use Rattle.broadcast.specs.NumbersSet.{numbers_set}
+use Rattle.fuxi_terms.specs.NumbersSet.{numbers_set}
 
 abbrev pub number_of : RowNumber → RowKey × ℕ
 number_of n = (row_key n.app.0 n.unit.0 n.size.q, n.count)

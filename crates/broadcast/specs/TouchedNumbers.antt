@@ -11,7 +11,7 @@ use Rattle.fuxi_terms.specs.Rows.{is_row_key, greatest_row}
 use Rattle.written_roles.specs.MasterSteps.{spot_row_key}
 use Rattle.grant_table.specs.Tables.{TableRecord, as_known}
 use Rattle.broadcast.specs.declared.machine_row.RowNumber.{RowNumber}
-use Rattle.broadcast.specs.NumbersSet.{AreNumbers}
+use Rattle.fuxi_terms.specs.NumbersSet.{AreNumbers}
 use Rattle.broadcast.specs.Shown.{number_of}
 
 -- the spot is of an admitted unit, on this machine
@@ -36,6 +36,10 @@ numbers_of lists = map numbers_in lists
 pub record AreTouched (t : TableRecord) (spots : List Spot) (numbers : List (List (RowKey × ℕ))) : Type 0 where
   pub wide : length numbers ≡ length t.cluster.machines
   pub each : (m : ℕ) → m < length numbers → get_or numbers m [] ≡ touched_on t m spots
+
+-- the numbers of each machine, where a machine without a list has none
+abbrev pub AreByMachine : TableRecord → List Spot → List (List (RowKey × ℕ)) → Type 0
+AreByMachine t spots numbers = (m : ℕ) → m < length t.cluster.machines → get_or numbers m [] ≡ touched_on t m spots
 
 -- numbers that may be set in a row: keys that rise, each within its greatest, and not too many together with those of the row
 pub record MayBeSet (row numbers : List (RowKey × ℕ)) : Type 0 where

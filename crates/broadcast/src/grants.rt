@@ -9,10 +9,10 @@ ghost use Rattle.std.proofs.Common.{set, get_or};
 ghost use Rattle.fuxi_terms.specs.Counts.{count};
 ghost use Rattle.fuxi_terms.specs.Keys.{key_cmp, spot_cmp};
 ghost use Rattle.fuxi_terms.specs.TallyKeys.{reported_key, count_key, greatest_grant, credited_what};
-ghost use Rattle.broadcast.specs.NumbersSet.{AreNumbers};
+ghost use Rattle.fuxi_terms.specs.NumbersSet.{AreNumbers};
 ghost use Rattle.grant_table.specs.Tables.{TableRecord};
 ghost use Rattle.broadcast.specs.AllShown.{App, spot_of, is_job, AreInOrder, GrantsAreBefore, ShowsGrants, ShowsAllGrants, HaveRoom};
-ghost use Rattle.broadcast.specs.OneJob.{has_place, counts_at, lists_of, AreByJob, AreNumbersOf, IsNews, machines_of, reported_now, reported_numbers, credited_to, numbers_of, JobIsBefore, SlotIsShown};
+ghost use Rattle.broadcast.specs.OneJob.{has_place, counts_at, lists_of, AreByJob, AreOfJobs, AreNumbersOf, IsNews, machines_of, reported_now, reported_numbers, credited_to, numbers_of, JobIsBefore, SlotIsShown};
 
 use crate::job_grants::show_grants;
 use crate::laws::{grants_follow_tables, grants_have_numbers, numbers_are_set};
@@ -73,9 +73,9 @@ pub fn show_all_grants(
     ensures { OnOk result ((now : List ℕ) → GrantsAreBefore table.now (map spot_of spots.now) news.now now apps.old.items → ShowsAllGrants table.now news.now now apps.old.items apps.new.items) }
 {
     let _cluster = table.cluster();
-    let counts = counts_by_job(alloc, table, spots, apps.len())?;
+    let counts = by_job(alloc, table, spots, apps.len())?;
     for app in 0..apps.len() {
-        show_slot(&mut apps[app], alloc, app, &counts[app], news)?;
+        show_slot(&mut apps[app], alloc, app, counts_of(&counts, app), news)?;
     }
     Ok(())
 }
@@ -220,6 +220,31 @@ fn is_job(job: Option<AppNo>, app: usize) -> bool
     match job {
         Some(job) => job.0 as usize == app,
         None => false,
+    }
+}
+
+// What the table has at the spots, by job. Most steps change no grant, and make no list.
+fn by_job(
+    alloc: Global,
+    table: &GrantTable,
+    spots: &[Pick],
+    jobs: usize,
+) -> Result<Vec<Vec<(Key, u64)>>, OutOfMemory>
+    ensures { IfOk result (λ lists. AreOfJobs (counts_at table.now (map spot_of spots.now)) jobs lists.items) }
+{
+    if spots.is_empty() {
+        return Ok(Vec::new(alloc));
+    }
+    counts_by_job(alloc, table, spots, jobs)
+}
+
+// The counts of a job, none where it has no list.
+fn counts_of(lists: &[Vec<(Key, u64)>], app: usize) -> &[(Key, u64)]
+    ensures { result.now ≡ get_or (lists_of lists.now) app [] }
+{
+    match lists.get(app) {
+        Some(list) => list,
+        None => &[],
     }
 }
 

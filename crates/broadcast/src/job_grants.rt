@@ -7,7 +7,7 @@ ghost use Rattle.fuxi_terms.specs.TallyKeys.{greatest_grant, credited_what};
 ghost use Rattle.fuxi_terms.specs.declared.answers.LedgerFault.TheVariants.{Below, TooGreat};
 ghost use Rattle.ledger_law.specs.Shapes.{IsTally};
 ghost use Rattle.core_side.specs.Bodies.{tally_of};
-ghost use Rattle.broadcast.specs.NumbersSet.{moves, AreNumbers};
+ghost use Rattle.fuxi_terms.specs.NumbersSet.{moves, AreNumbers};
 ghost use Rattle.broadcast.specs.Shown.{grants_set, Shows};
 
 use core_side::Side;

@@ -9,7 +9,7 @@ ghost use Rattle.fuxi_terms.specs.Keys.{RowKey, row_cmp, Spot, key_cmp};
 ghost use Rattle.fuxi_terms.specs.Rows.{greatest_row};
 ghost use Rattle.fuxi_terms.specs.TallyKeys.{greatest_grant, credited_what};
 ghost use Rattle.fuxi_terms.specs.declared.Key.{Key};
-ghost use Rattle.broadcast.specs.NumbersSet.{numbers_set, AreNumbers};
+ghost use Rattle.fuxi_terms.specs.NumbersSet.{numbers_set, AreNumbers};
 ghost use Rattle.broadcast.specs.Projections.{row_of, RowFollows, grant_entries, HasNumbers, after_setting, GrantsFollow};
 
 /// Where the numbers are those of the spots that were touched on a machine, and all other spots there have the count that they had, the

@@ -8,7 +8,7 @@ ghost use Rattle.fuxi_terms.specs.Rows.{IsRow, patched_row, is_row_key, greatest
 ghost use Rattle.party_ledgers.specs.Joins.{no_join};
 ghost use Rattle.written_net.specs.Ledgers.{row_ledger};
 ghost use Rattle.core_side.specs.Bodies.{report_of};
-ghost use Rattle.broadcast.specs.NumbersSet.{numbers_set, moves, AreNumbers};
+ghost use Rattle.fuxi_terms.specs.NumbersSet.{numbers_set, moves, AreNumbers};
 ghost use Rattle.broadcast.specs.Shown.{number_of, Shows};
 
 use core_side::Side;

@@ -9,10 +9,10 @@ ghost use Rattle.fuxi_terms.specs.Rows.{IsRow, patched_row};
 ghost use Rattle.written_net.specs.Ledgers.{row_ledger};
 ghost use Rattle.core_side.specs.Bodies.{report_of};
 ghost use Rattle.grant_table.specs.Tables.{as_known};
-ghost use Rattle.broadcast.specs.NumbersSet.{numbers_set};
+ghost use Rattle.fuxi_terms.specs.NumbersSet.{numbers_set};
 ghost use Rattle.broadcast.specs.Shown.{number_of, Shows};
 ghost use Rattle.broadcast.specs.AllShown.{Down, spot_of, is_machine, AreInOrder, RowsAreBefore, ShowsRows};
-ghost use Rattle.broadcast.specs.TouchedNumbers.{number_at, numbers_of, AreTouched, MayBeSet};
+ghost use Rattle.broadcast.specs.TouchedNumbers.{number_at, numbers_of, AreTouched, AreByMachine, MayBeSet};
 
 use crate::laws::rows_follow_tables;
 use crate::machine_row::{RowNumber, show_row};
@@ -43,9 +43,14 @@ pub fn show_all_rows(
 {
     let _cluster = table.cluster();
     rows_follow_tables();
-    let numbers = touched(alloc, table, spots)?;
+    let numbers = by_machine(alloc, table, spots)?;
     for at in 0..sides.len() {
-        show_one(&mut sides[at], alloc, &numbers[at], is_machine(forced, at))?;
+        show_one(
+            &mut sides[at],
+            alloc,
+            numbers_at(&numbers, at),
+            is_machine(forced, at),
+        )?;
     }
     Ok(())
 }
@@ -74,6 +79,30 @@ fn is_machine(machine: Option<MachineNo>, at: usize) -> bool
     match machine {
         Some(machine) => machine.0 as usize == at,
         None => false,
+    }
+}
+
+// What the table has at the spots, by machine. Most steps change no grant, and make no list.
+fn by_machine(
+    alloc: Global,
+    table: &GrantTable,
+    spots: &[Pick],
+) -> Result<Vec<Vec<RowNumber>>, OutOfMemory>
+    ensures { IfOk result (λ lists. AreByMachine table.now (map spot_of spots.now) (numbers_of lists.items)) }
+{
+    if spots.is_empty() {
+        return Ok(Vec::new(alloc));
+    }
+    touched(alloc, table, spots)
+}
+
+// The numbers of a machine, none where it has no list.
+fn numbers_at(lists: &[Vec<RowNumber>], machine: usize) -> &[RowNumber]
+    ensures { map number_of result.now ≡ get_or (numbers_of lists.now) machine [] }
+{
+    match lists.get(machine) {
+        Some(list) => list,
+        None => &[],
     }
 }
 

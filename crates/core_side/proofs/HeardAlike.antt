@@ -12,7 +12,7 @@ use Rattle.fuxi_terms.specs.declared.vectors.Sum.{Sum}
 use Rattle.fuxi_terms.proofs.Booleans.{nat_itself, and_true, both_true, number_is}
 use Rattle.ledger_law.specs.Applying.{IsRefusal}
 use Rattle.delta_channel.specs.Calls.{Meets}
-use Rattle.delta_channel.specs.Hearing.{verdict_of}
+use Rattle.delta_channel.specs.Hearing.{Receiving, verdict_of}
 use Rattle.delta_channel.specs.declared.receiver.Place.{Place}
 use Rattle.delta_channel.specs.declared.receiver.Verdict.{Verdict}
 use Rattle.delta_channel.specs.declared.receiver.Verdict.TheVariants.{Take, Old as IsOld, Gap as IsGap, NotMine as IsNotMine, Stale as IsStale}
@@ -130,6 +130,26 @@ stale_heard p excess e x to before =
       link = link_after (word_of x.packet.kind p.inc (met e.link x.packet.from.inc) x.packet) p.inc (length e.sent) (met e.link x.packet.from.inc) x.packet;
     })))
 
+-- a change in a body makes of what was received what it makes in the program
+pub change_makes : (from : Role) (x : PacketHere) (body : BodyHere) (g : Ledger) (made : Result Ledger LedgerFault) → x.from.role ≡ from → IsFormed x → x.body ≡ body
+    → ((m : ℕ) → IsTrue (is_number_of from m) → patched_by (id_of from m) g (content_of body) ≡ made) → patched_by (party_of x.from).id g (content_of x.body) ≡ made
+change_makes from x body g made role formed is law =
+    let parts = (both_true _ (is_number_of x.to.role x.to.number) (both_true _ (nat_lt 0 x.from.inc) formed.parties).0).0 in
+    let number : IsTrue (is_number_of x.from.role x.from.number) = (both_true _ (is_number_of x.from.role x.from.number) parts).1 in
+    ap (λ b. patched_by (party_of x.from).id g (content_of b)) is ∙ subst (λ r. IsTrue (is_number_of r x.from.number) → patched_by (id_of r x.from.number) g (content_of body) ≡ made) (sym role) (λ n. law x.from.number n) number
+
+-- a sender that was met is the known one
+pub met_known : {W : Type 0} (none : W) (from : ℕ) (old mid : Receiving W) (fresh : Bool) → Meets none from old fresh mid → nat_lt from old.place.inc ≡ false → from ≡ mid.place.inc
+met_known none from old mid true meets late = sym (ap (λ r. r.place.inc) meets.after)
+met_known none from old mid false meets late = by (nat_lt old.place.inc from) refl ∙ sym (ap (λ r. r.place.inc) meets.after)
+  where
+    not_true : false ≡ true → ⊥
+    not_true e = cc
+
+    by : (b : Bool) → nat_lt old.place.inc from ≡ b → from ≡ old.place.inc
+    by true is = absurd (not_true (meets.fresh.1 (grind (arith, nat_tests, is))))
+    by false is = grind (arith, nat_tests, is, late)
+
 module _ {V D W : Type 0} (first : V) (patched : V → D → Result V LedgerFault) (valid : V → Type 0) (out : V → Ledger) (inward : W → Ledger) where
   -- what is heard is this, and the new ends stand for its side
   heard_is : (new : Endpoint V D W) (fresh : Bool) (word : What) (inc : ℕ) (h k : HeardSide) → h ≡ k → IsSide first patched valid out inward new inc k.side → fresh ≡ k.fresh → word ≡ k.what
@@ -226,8 +246,8 @@ module _ {V D W : Type 0} (first : V) (patched : V → D → Result V LedgerFaul
           by IsStale other w = heard_is old false Stale p.inc _ _ (by_word Stale p e s to w) s refl refl
 
       -- what is to be taken
-      met_known : (p : Party) (e : Side) → IsSide first patched valid out inward old p.inc e → met e.link x.from.inc ≡ e.link
-      met_known p e s = let late : nat_lt e.link.known x.from.inc ≡ false = let n = known p e s in grind (arith, nat_tests, n) in ap (λ c. cond c (record { known = x.from.inc; seq = 0; acked = 0 }) e.link) late
+      link_known : (p : Party) (e : Side) → IsSide first patched valid out inward old p.inc e → met e.link x.from.inc ≡ e.link
+      link_known p e s = let late : nat_lt e.link.known x.from.inc ≡ false = let n = known p e s in grind (arith, nat_tests, n) in ap (λ c. cond c (record { known = x.from.inc; seq = 0; acked = 0 }) e.link) late
 
       by_taking : (made : Result Ledger LedgerFault) (t : Taking) (p : Party) (e : Side) → IsSide first patched valid out inward old p.inc e → (packet_of x).to.id ≡ p.id → word_of (kind_of x.kind) p.inc e.link (packet_of x) ≡ Taken
           → patched_by (party_of x.from).id (inward old.incoming.received) (content_of x.body) ≡ made → tested excess made ≡ t
@@ -246,7 +266,7 @@ module _ {V D W : Type 0} (first : V) (patched : V → D → Result V LedgerFaul
       kept_alike : (made : Result Ledger LedgerFault) (t : Taking) (word : What) → Words Taken → patched_by (party_of x.from).id (inward old.incoming.received) (content_of x.body) ≡ made → tested excess made ≡ t
           → ((e : Side) → taken_as (record { fresh = false; what = Taken; link = place_moved e.link x.place.seq }) e (packet_of x) t ≡ record { fresh = false; what = word; side = record { link = met e.link x.from.inc; got = e.got; sent = e.sent } }) → SaysAlike old word
       kept_alike made t word words makes is as_ p e s to = heard_is old false word p.inc _ _ (by_taking made t p e s to (words p e s) makes is ∙ as_ e)
-          (subst (λ l. IsSide first patched valid out inward old p.inc (record { link = l; got = e.got; sent = e.sent })) (sym (met_known p e s)) s) refl refl
+          (subst (λ l. IsSide first patched valid out inward old p.inc (record { link = l; got = e.got; sent = e.sent })) (sym (link_known p e s)) s) refl refl
 
       pub refused_alike : (fault : LedgerFault) → Words Taken → patched_by (party_of x.from).id (inward old.incoming.received) (content_of x.body) ≡ Err fault → SaysAlike old (SaysLedger fault)
       refused_alike fault words makes = kept_alike (Err fault) (Refused fault) (SaysLedger fault) words makes refl (λ e. refl)
@@ -254,10 +274,17 @@ module _ {V D W : Type 0} (first : V) (patched : V → D → Result V LedgerFaul
       pub too_much_alike : (v : W) (total : Sum) (has : Res) → Words Taken → patched_by (party_of x.from).id (inward old.incoming.received) (content_of x.body) ≡ Ok (inward v) → excess (inward v) ≡ Some (total, has) → SaysAlike old (SaysExceeds total has)
       too_much_alike v total has words makes much = kept_alike (Ok (inward v)) (TooMuch total has) (SaysExceeds total has) words makes (ap (unless_excess (inward v)) much) (λ e. refl)
 
-      -- a whole ledger is taken where it is not too much
-      pub whole_alike : (new : Endpoint V D W) (v : W) (word : What) → Words Taken → patched_by (party_of x.from).id (inward old.incoming.received) (content_of x.body) ≡ Ok (inward v) → x.place.inc ≡ x.from.inc → Takes (excess (inward v)) x.place v old new word → SaysAlike new word
-      whole_alike new v word words makes place takes = by (excess (inward v)) refl
+      -- a whole ledger that the packet holds is taken where it is not too much
+      pub whole_alike : (put : W → BodyHere) → ((from : Id) (g : Ledger) (v : W) → patched_by from g (content_of (put v)) ≡ Ok (inward v)) → IsFormed x → x.kind ≡ FullHere → (v : W) → x.body ≡ put v → Words Taken
+          → (new : Endpoint V D W) (word : What) → Takes (excess (inward v)) x.place v old new word → SaysAlike new word
+      whole_alike put law formed kind v holds words new word takes = by (excess (inward v)) refl
         where
+          makes : patched_by (party_of x.from).id (inward old.incoming.received) (content_of x.body) ≡ Ok (inward v)
+          makes = ap (λ b. patched_by (party_of x.from).id (inward old.incoming.received) (content_of b)) holds ∙ law (party_of x.from).id (inward old.incoming.received) v
+
+          place : x.place.inc ≡ x.from.inc
+          place = own_place x (subst (λ k. is_bare k ≡ false) (sym kind) refl) formed
+
           by : (o : Option (Sum × Res)) → excess (inward v) ≡ o → SaysAlike new word
           by None is =
               let t = takes.taken is in
@@ -273,8 +300,18 @@ module _ {V D W : Type 0} (first : V) (patched : V → D → Result V LedgerFaul
       told_alike made (Below key n c) (Ok word) words makes refusal tells = subst (SaysAlike old) (sym tells) (refused_alike (Below key n c) words (makes ∙ refusal))
       told_alike made (TooGreat key) (Ok word) words makes refusal tells = subst (SaysAlike old) (sym tells) (refused_alike (TooGreat key) words (makes ∙ refusal))
 
-      -- a change, of which outcome is what it makes of the ledger that was received
-      module _ (outcome : Result W LedgerFault) (words : Words Taken) (makes : patched_by (party_of x.from).id (inward old.incoming.received) (content_of x.body) ≡ then_do outcome (λ w. Ok (inward w))) where
+      -- a change that the packet holds: put is how it stands in a body, and making what it makes of a ledger
+      module _ {C : Type 0} (making : W → C → Result W LedgerFault) (put : C → BodyHere) (role : Role) (law : (m : ℕ) (v : W) (c : C) → IsTrue (is_number_of role m) → patched_by (id_of role m) (inward v) (content_of (put c)) ≡ then_do (making v c) (λ w. Ok (inward w)))
+          (formed : IsFormed x) (sender : x.from.role ≡ role) (change : C) (holds : x.body ≡ put change) (words : Words Taken) where
+        abbrev outcome : Result W LedgerFault
+        outcome = making old.incoming.received change
+
+        makes : patched_by (party_of x.from).id (inward old.incoming.received) (content_of x.body) ≡ then_do outcome (λ w. Ok (inward w))
+        makes = change_makes role x (put change) (inward old.incoming.received) (then_do outcome (λ w. Ok (inward w))) sender formed holds (λ m n. law m old.incoming.received change n)
+
+        pub change_alike : (new : Endpoint V D W) → outcome ≡ Ok new.incoming.received → excess (inward new.incoming.received) ≡ None → x.kind ≡ DeltaHere → new.outgoing ≡ old.outgoing → new.incoming.place ≡ x.place → new.acked ≡ old.acked → SaysAlike new Taken
+        change_alike new made fits kind sent place acked = took_alike new new.incoming.received words (makes ∙ ap (λ o. then_do o (λ w. Ok (inward w))) made) fits (own_place x (subst (λ k. is_bare k ≡ false) (sym kind) refl) formed) sent place refl acked
+
         refuses : (fault : LedgerFault) → IsRefusal outcome fault → IsRefusal (then_do outcome (λ w. Ok (inward w))) fault
         refuses WantOfMemory h = tt
         refuses (Below key n c) h = ap (λ o. then_do o (λ w. Ok (inward w))) h
@@ -293,11 +330,3 @@ module _ {V D W : Type 0} (first : V) (patched : V → D → Result V LedgerFaul
         not_taken measures (RefusesMuch total has) r weighs tells =
             let much = too_much_alike weighs.ledger total has words (makes ∙ ap (λ o. then_do o (λ w. Ok (inward w))) weighs.made) weighs.much in
             subst (λ r. IfOk r (SaysAlike old)) (sym tells) much
-
--- a change in a body makes of what was received what it makes in the program
-pub change_makes : (from : Role) (x : PacketHere) (body : BodyHere) (g : Ledger) (made : Result Ledger LedgerFault) → x.from.role ≡ from → IsFormed x → x.body ≡ body
-    → ((m : ℕ) → IsTrue (is_number_of from m) → patched_by (id_of from m) g (content_of body) ≡ made) → patched_by (party_of x.from).id g (content_of x.body) ≡ made
-change_makes from x body g made role formed is law =
-    let parts = (both_true _ (is_number_of x.to.role x.to.number) (both_true _ (nat_lt 0 x.from.inc) formed.parties).0).0 in
-    let number : IsTrue (is_number_of x.from.role x.from.number) = (both_true _ (is_number_of x.from.role x.from.number) parts).1 in
-    ap (λ b. patched_by (party_of x.from).id g (content_of b)) is ∙ subst (λ r. IsTrue (is_number_of r x.from.number) → patched_by (id_of r x.from.number) g (content_of body) ≡ made) (sym role) (λ n. law x.from.number n) number

@@ -1,3 +1,3 @@
 pub mod SidesLemmas
 pub mod HeardAlike
-pub mod SendingLemmas
+pub mod TurnsAlikeLemmas

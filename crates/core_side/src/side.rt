@@ -86,8 +86,31 @@ impl<A: Carried, B: Carried> Side<A, B> {
             });
         }
         let fresh = self.meet(alloc, packet.from.inc, limit, measure);
-        let what = self.hear_known(alloc, packet, limit, measure)?;
-        Ok(Heard { fresh, what })
+        if packet.kind == Kind::Ack {
+            links_are_one();
+            self.ends.on_ack(packet.from.inc, packet.place);
+            return Ok(Heard {
+                fresh,
+                what: What::Ack,
+            });
+        }
+        let stamp = stamp_of(packet);
+        let verdict = self.judge(packet, &stamp);
+        if verdict != Verdict::Take {
+            return Ok(left(fresh, verdict));
+        }
+        match packet.kind {
+            Kind::Full => {
+                let ledger = B::whole_in(&packet.body).copy(alloc)?;
+                let what = self.take_whole(&stamp, ledger, limit, measure);
+                Ok(Heard { fresh, what })
+            }
+            Kind::Delta => {
+                let what = self.take_change(alloc, packet, &stamp, limit, measure)?;
+                Ok(Heard { fresh, what })
+            }
+            Kind::Ack | Kind::End => unreachable!(),
+        }
     }
 
     /// Hears a packet as [`Side::hear`] does. A whole ledger that is taken is moved out of it. Where memory is
@@ -114,7 +137,12 @@ impl<A: Carried, B: Carried> Side<A, B> {
             return self.hear(alloc, &packet, limit, measure);
         }
         let fresh = self.meet(alloc, packet.from.inc, limit, measure);
-        let what = self.hear_whole_moved(packet, limit, measure);
+        let stamp = stamp_of(&packet);
+        let verdict = self.judge(&packet, &stamp);
+        if verdict != Verdict::Take {
+            return Ok(left(fresh, verdict));
+        }
+        let what = self.take_whole(&stamp, B::whole_of(packet.body), limit, measure);
         Ok(Heard { fresh, what })
     }
 
@@ -138,37 +166,6 @@ impl<A: Carried, B: Carried> Side<A, B> {
         fresh
     }
 
-    // Hears a packet of the known incarnation.
-    fn hear_known<L: Limit<B>>(
-        &mut self,
-        alloc: Global,
-        packet: &Packet,
-        limit: &L,
-        measure: &mut L::Measure,
-    ) -> Result<What, OutOfMemory>
-        requires formed { IsFormed packet.now }
-        requires no_end { packet.now.kind ≡ Kind.End → ⊥ }
-        requires from { packet.now.from.role ≡ B.from_role }
-        requires to { packet.now.to.role ≡ B.to_role }
-        requires known { packet.now.from.inc ≡ self.old.incoming.place.inc }
-        requires measured { L.measures limit.now measure.old self.old.incoming.received }
-        ensures hears { IfOk result (λ what. HearsAlike A.nothing A.patched A.has_form A.stated B.stated (L.excess limit.now) packet.now self.old self.new (record { fresh = false; what = what })) }
-        ensures measured { OnOk result (L.measures limit.now measure.new self.new.incoming.received) }
-        ensures peer { self.new.incoming.place.inc ≡ self.old.incoming.place.inc }
-        ensures outgoing { self.new.outgoing ≡ self.old.outgoing }
-    {
-        match packet.kind {
-            Kind::Ack => {
-                links_are_one();
-                self.ends.on_ack(packet.from.inc, packet.place);
-                Ok(What::Ack)
-            }
-            Kind::Full => self.hear_whole(alloc, packet, limit, measure),
-            Kind::Delta => self.hear_change(alloc, packet, limit, measure),
-            Kind::End => unreachable!(),
-        }
-    }
-
     // The verdict on a Full or a Delta of the known incarnation.
     fn judge(&self, packet: &Packet, stamp: &Stamp) -> Verdict
         requires kind { is_bare packet.now.kind ≡ false }
@@ -181,60 +178,6 @@ impl<A: Carried, B: Carried> Side<A, B> {
         words_are_one();
         let _own = self.ends.own();
         self.ends.verdict(stamp)
-    }
-
-    // Hears a whole ledger.
-    fn hear_whole<L: Limit<B>>(
-        &mut self,
-        alloc: Global,
-        packet: &Packet,
-        limit: &L,
-        measure: &mut L::Measure,
-    ) -> Result<What, OutOfMemory>
-        requires formed { IsFormed packet.now }
-        requires kind { packet.now.kind ≡ Kind.Full }
-        requires from { packet.now.from.role ≡ B.from_role }
-        requires to { packet.now.to.role ≡ B.to_role }
-        requires known { packet.now.from.inc ≡ self.old.incoming.place.inc }
-        requires measured { L.measures limit.now measure.old self.old.incoming.received }
-        ensures hears { IfOk result (λ what. HearsAlike A.nothing A.patched A.has_form A.stated B.stated (L.excess limit.now) packet.now self.old self.new (record { fresh = false; what = what })) }
-        ensures measured { OnOk result (L.measures limit.now measure.new self.new.incoming.received) }
-        ensures peer { self.new.incoming.place.inc ≡ self.old.incoming.place.inc }
-        ensures outgoing { self.new.outgoing ≡ self.old.outgoing }
-    {
-        let stamp = stamp_of(packet);
-        let verdict = self.judge(packet, &stamp);
-        if verdict != Verdict::Take {
-            return Ok(told_as(verdict));
-        }
-        let ledger = B::whole_in(&packet.body).copy(alloc)?;
-        Ok(self.take_whole(&stamp, ledger, limit, measure))
-    }
-
-    // Hears a whole ledger, and moves it out of the packet.
-    fn hear_whole_moved<L: Limit<B>>(
-        &mut self,
-        packet: Packet,
-        limit: &L,
-        measure: &mut L::Measure,
-    ) -> What
-        requires formed { IsFormed packet }
-        requires kind { packet.kind ≡ Kind.Full }
-        requires from { packet.from.role ≡ B.from_role }
-        requires to { packet.to.role ≡ B.to_role }
-        requires known { packet.from.inc ≡ self.old.incoming.place.inc }
-        requires measured { L.measures limit.now measure.old self.old.incoming.received }
-        ensures hears { HearsAlike A.nothing A.patched A.has_form A.stated B.stated (L.excess limit.now) packet self.old self.new (record { fresh = false; what = result }) }
-        ensures measured { L.measures limit.now measure.new self.new.incoming.received }
-        ensures peer { self.new.incoming.place.inc ≡ self.old.incoming.place.inc }
-        ensures outgoing { self.new.outgoing ≡ self.old.outgoing }
-    {
-        let stamp = stamp_of(&packet);
-        let verdict = self.judge(&packet, &stamp);
-        if verdict != Verdict::Take {
-            return told_as(verdict);
-        }
-        self.take_whole(&stamp, B::whole_of(packet.body), limit, measure)
     }
 
     // Takes a whole ledger of which the verdict is to take it, where it is not too much.
@@ -267,11 +210,12 @@ impl<A: Carried, B: Carried> Side<A, B> {
         What::Taken
     }
 
-    // Hears a change.
-    fn hear_change<L: Limit<B>>(
+    // Takes the change of a packet of the known incarnation of which the verdict is to take it, where what it makes is not too much.
+    fn take_change<L: Limit<B>>(
         &mut self,
         alloc: Global,
         packet: &Packet,
+        stamp: &Stamp,
         limit: &L,
         measure: &mut L::Measure,
     ) -> Result<What, OutOfMemory>
@@ -280,23 +224,20 @@ impl<A: Carried, B: Carried> Side<A, B> {
         requires from { packet.now.from.role ≡ B.from_role }
         requires to { packet.now.to.role ≡ B.to_role }
         requires known { packet.now.from.inc ≡ self.old.incoming.place.inc }
+        requires stamp { stamp.now ≡ stamp_of (packet_of packet.now) }
+        requires take { verdict_of self.old.incoming.own self.old.incoming.place stamp.now ≡ Verdict.Take }
         requires measured { L.measures limit.now measure.old self.old.incoming.received }
-        ensures hears { IfOk result (λ what. HearsAlike A.nothing A.patched A.has_form A.stated B.stated (L.excess limit.now) packet.now self.old self.new (record { fresh = false; what = what })) }
-        ensures measured { OnOk result (L.measures limit.now measure.new self.new.incoming.received) }
+        ensures hears { SaysWord A.nothing A.patched A.has_form A.stated B.stated packet.now self.old (told_as Verdict.Take) → IfOk result (λ what. HearsAlike A.nothing A.patched A.has_form A.stated B.stated (L.excess limit.now) packet.now self.old self.new (record { fresh = false; what = what })) }
         ensures peer { self.new.incoming.place.inc ≡ self.old.incoming.place.inc }
         ensures outgoing { self.new.outgoing ≡ self.old.outgoing }
+        ensures measured { OnOk result (L.measures limit.now measure.new self.new.incoming.received) }
     {
-        let stamp = stamp_of(packet);
-        let verdict = self.judge(packet, &stamp);
-        if verdict != Verdict::Take {
-            return Ok(told_as(verdict));
-        }
         let change = B::change_in(&packet.body);
         let next = match limit.change(measure, self.ends.got(), change) {
             Ok(next) => next,
             Err(refusal) => return word_of(refusal),
         };
-        match self.ends.take_delta(alloc, &stamp, change) {
+        match self.ends.take_delta(alloc, stamp, change) {
             Ok(()) => {}
             Err(fault) => return word_of(Refusal::Ledger(fault)),
         }
@@ -425,6 +366,16 @@ fn stamp_of(packet: &Packet) -> Stamp
         to: packet.to.inc,
         full: matches!(packet.kind, Kind::Full),
         place: packet.place,
+    }
+}
+
+// As what a packet is heard that is not taken.
+fn left(fresh: bool, verdict: Verdict) -> Heard
+    ensures { result ≡ record { fresh = fresh; what = told_as verdict } }
+{
+    Heard {
+        fresh,
+        what: told_as(verdict),
     }
 }
 

@@ -1,6 +1,7 @@
 pub mod Untouched
-pub mod Texts
-pub mod States
-pub mod Storming
-pub mod Leasing
-pub mod Calming
+pub mod ReplaysLemmas
+pub mod StatesLemmas
+pub mod StormsLemmas
+pub mod LeaseWritesItsText
+pub mod WorkWritesItsText
+pub mod OutcomesLemmas

@@ -13,9 +13,10 @@ use Rattle.storm_run.specs.Summaries.{storm_of}
 use Rattle.written_roles.specs.HardState.{HardState}
 use Rattle.hard_state.specs.HardFiles.{records_of}
 use Rattle.lease_run.specs.Ends.{LeaseEnded}
-use Rattle.lease_run.specs.Runs.{run_of, AtEnd}
+use Rattle.input_lines.specs.LineRuns.{AtEnd}
+use Rattle.lease_run.specs.Runs.{run_of}
 use Rattle.written_work.specs.World.{empty_world as empty_work}
-use Rattle.work_run.specs.Runs.{Ended as WorkEnded, run_from as work_run_from, run_of as work_run_of, AtEnd as WorkAtEnd}
+use Rattle.work_run.specs.Runs.{Ended as WorkEnded, run_from as work_run_from, run_of as work_run_of}
 use Rattle.fuxi_node.specs.declared.kind.NodeKind.{NodeKind}
 use Rattle.fuxi_node.specs.Inputs.{HasNoCluster, InputEnded, InputEndsBy, IsDiskless, LeavesDisk, MayStart, TellsDisk, ending_of, status_at}
 use Rattle.node_door.specs.Doors.{Told, WhereTold}
@@ -69,4 +70,4 @@ pub record IsOutcome (words : List (List ℕ)) (status : Status) (input_stays ou
   pub lease_complete : command_of words ≡ Some Lease → (bytes : List ℕ) (t : DiskTold) (value : HardState) → old.left ≡ Some bytes → old.disk ≡ Some t → records_of t.now.bytes ≡ Ok value → (run_of value bytes).ending ≡ AtEnd
       → (Rose old.reads_failed new.reads_failed → ⊥) → (Rose old.writes_failed new.writes_failed → ⊥) → (Rose old.disk_failed new.disk_failed → ⊥) → (status ≡ Done) ⊎ (status ≡ OutOfMemory)
   pub work : command_of words ≡ Some Work → IfSome old.left (λ bytes. WorkEnded (work_run_from 0 empty_work) bytes status new.left old.took new.took)
-  pub work_complete : command_of words ≡ Some Work → (bytes : List ℕ) → old.left ≡ Some bytes → (work_run_of bytes).ending ≡ WorkAtEnd → (Rose old.reads_failed new.reads_failed → ⊥) → (Rose old.writes_failed new.writes_failed → ⊥) → (status ≡ Done) ⊎ (status ≡ OutOfMemory)
+  pub work_complete : command_of words ≡ Some Work → (bytes : List ℕ) → old.left ≡ Some bytes → (work_run_of bytes).ending ≡ AtEnd → (Rose old.reads_failed new.reads_failed → ⊥) → (Rose old.writes_failed new.writes_failed → ⊥) → (status ≡ Done) ⊎ (status ≡ OutOfMemory)

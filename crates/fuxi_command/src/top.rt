@@ -1,4 +1,4 @@
-ghost use Rattle.std.specs.Prelude.{◌≡◌, ◌≢◌, ◌+◌, ◌≤◌, ◌⊎◌, ◌↔◌, ℕ, List, [], Option, Some, None, Ok, Err, IfSome, true, false, map, string_bytes, take};
+ghost use Rattle.std.specs.Prelude.{◌≡◌, ◌⊎◌, ◌↔◌, ℕ, List, [], Some, None, Ok, Err, IfSome, false, map, string_bytes, take};
 ghost use Rattle.std.specs.List.{concat};
 ghost use Rattle.std.specs.Io.KnownBytes.{Appends};
 ghost use Rattle.fuxi_io.specs.Causes.{Rose};
@@ -11,23 +11,24 @@ ghost use Rattle.written_world.specs.Judging.{AllJudge};
 ghost use Rattle.written_world.specs.Starts.{StartsWithNothing};
 ghost use Rattle.written_world.specs.Steps.{AllBare, AllGrow, AllLose};
 ghost use Rattle.schedule_run.specs.Inputs.{Input};
-ghost use Rattle.schedule_run.specs.Runs.{run_of, read_from, pieces, AtEnd, AtBadLine, AtLimit, ReadsWhole, StopsWithin, Ended};
+ghost use Rattle.input_lines.specs.LineRuns.{AtEnd, AtBadLine, AtLimit};
+ghost use Rattle.schedule_run.specs.Runs.{run_of, read_from, pieces, ReadsWhole, StopsWithin, Ended};
 ghost use Rattle.schedule_run.specs.Told.{IsText, IsTextBefore, IsFrontText, Writes, LeadsTo};
 ghost use Rattle.fuxi_command.specs.States.{AllCountOnce, AllKeepGrants, AllTakeByQuota};
-ghost use Rattle.storm_run.specs.Runs.{IsLimit, StormEnded};
+ghost use Rattle.storm_run.specs.Runs.{IsLimit};
 ghost use Rattle.storm_run.specs.Summaries.{storm_of};
 ghost use Rattle.fuxi_command.specs.Storms.{IsStorm, WritesPart};
 ghost use Rattle.fuxi_command.specs.Words.{Lease, Node, Replay, Storm, Work, command_of, has_file, is_command, is_node};
 ghost use Rattle.fuxi_node.specs.declared.kind.NodeKind.{NodeKind};
 ghost use Rattle.fuxi_node.specs.declared.kind.NodeKind.TheVariants.{Master};
-ghost use Rattle.fuxi_node.specs.Inputs.{HasNoCluster, InputEnded, InputEndsBy, IsDiskless, LeavesDisk, MayStart, TellsDisk, ending_of, status_at};
+ghost use Rattle.fuxi_node.specs.Inputs.{HasNoCluster, InputEnded, InputEndsBy, IsDiskless, LeavesDisk, MayStart, ending_of, status_at};
 ghost use Rattle.node_door.specs.Doors.{WhereTold};
 ghost use Rattle.fuxi_io.specs.Disks.{Told as Moments};
 ghost use Rattle.written_roles.specs.HardState.{HardState};
 ghost use Rattle.lease_run.specs.Ends.{LeaseEnded};
-ghost use Rattle.lease_run.specs.Runs.{run_of as lease_run_of, text_of, AtEnd as LeaseAtEnd};
+ghost use Rattle.lease_run.specs.Runs.{run_of as lease_run_of, text_of};
 ghost use Rattle.written_work.specs.World.{empty_world as empty_work};
-ghost use Rattle.work_run.specs.Runs.{Ended as WorkEnded, run_from as work_run_from, run_of as work_run_of, AtEnd as WorkAtEnd, text_of as work_text_of};
+ghost use Rattle.work_run.specs.Runs.{Ended as WorkEnded, run_from as work_run_from, run_of as work_run_of, text_of as work_text_of};
 ghost use Rattle.work_run.specs.States.{AllPlanned};
 ghost use Rattle.fuxi_node.specs.Masters.{RefusesEpoch};
 ghost use Rattle.hard_state.specs.HardFiles.{records_of};
@@ -56,28 +57,6 @@ use written_world::{
     every_run_loses_only_what_is_credited, give_backs_are_credited_once, starts_with_nothing,
 };
 
-// Runs a schedule.
-fn run_replay<S: Source, O: Sink>(alloc: Global, input: &mut S, out: &mut O) -> Status
-    ensures usage { result ≢ Status.Usage }
-    ensures diskless { IsDiskless result }
-    ensures ended { IfSome (S.left input.old) (λ bytes. Ended (read_from 0) bytes result (S.left input.new) (O.took out.old) (O.took out.new)) }
-    ensures read { result ≡ Status.ReadFault → Rose (S.faults input.old) (S.faults input.new) }
-    ensures write { result ≡ Status.WriteFault → Rose (O.faults out.old) (O.faults out.new) }
-    ensures limit { (kept : ℕ) → result ≡ Status.Limit LimitOf.Lines kept → kept ≡ most_lines }
-    ensures text { result ≡ Status.Done → IfSome (S.left input.old) (λ bytes. Writes (IsText bytes) (O.took out.old) (O.took out.new)) }
-    ensures bad_text { (line : ℕ) (fault : InputFault) → result ≡ Status.BadInput line fault
-        → IfSome (S.left input.old) (λ bytes. Writes (IsTextBefore bytes line fault) (O.took out.old) (O.took out.new)) }
-    ensures limited_text { (what : LimitOf) (kept : ℕ) → result ≡ Status.Limit what kept
-        → IfSome (S.left input.old) (λ bytes. Writes (IsFrontText bytes) (O.took out.old) (O.took out.new)) }
-{
-    // The law of what a run tells, for the clauses on texts.
-    runs_are_told();
-    match LineReader::new(alloc) {
-        Ok(mut lines) => run_schedule(alloc, &mut lines, input, out),
-        Err(_) => Status::OutOfMemory,
-    }
-}
-
 // Runs the command of the words.
 fn run_command<S: Source, O: Sink, D: Disk, N: Door>(
     alloc: Global,
@@ -87,44 +66,16 @@ fn run_command<S: Source, O: Sink, D: Disk, N: Door>(
     disk: &mut D,
     door: &mut N,
 ) -> Status
-    ensures usage { result ≡ Status.Usage ↔ (is_command (map string_bytes words.now) ≡ false) }
-    ensures unused { result ≡ Status.Usage → (out.new ≡ out.old) × (input.new ≡ input.old) }
-    ensures read { result ≡ Status.ReadFault → Rose (S.faults input.old) (S.faults input.new) }
-    ensures write { result ≡ Status.WriteFault → Rose (O.faults out.old) (O.faults out.new) }
-    ensures ended { command_of (map string_bytes words.now) ≡ Some Replay → IfSome (S.left input.old) (λ bytes. Ended (read_from 0) bytes result (S.left input.new) (O.took out.old) (O.took out.new)) }
-    ensures limit { (kept : ℕ) → result ≡ Status.Limit LimitOf.Lines kept → kept ≡ most_lines }
-    ensures text { command_of (map string_bytes words.now) ≡ Some Replay → result ≡ Status.Done → IfSome (S.left input.old) (λ bytes. Writes (IsText bytes) (O.took out.old) (O.took out.new)) }
-    ensures bad_text { command_of (map string_bytes words.now) ≡ Some Replay → (line : ℕ) (fault : InputFault) → result ≡ Status.BadInput line fault
-        → IfSome (S.left input.old) (λ bytes. Writes (IsTextBefore bytes line fault) (O.took out.old) (O.took out.new)) }
-    ensures limited_text { command_of (map string_bytes words.now) ≡ Some Replay → (what : LimitOf) (kept : ℕ) → result ≡ Status.Limit what kept
-        → IfSome (S.left input.old) (λ bytes. Writes (IsFrontText bytes) (O.took out.old) (O.took out.new)) }
-    ensures storm { (seed steps : ℕ) → command_of (map string_bytes words.now) ≡ Some (Storm seed steps)
-        → (input.new ≡ input.old) × StormEnded (storm_of seed steps) result (O.took out.old) (O.took out.new) }
-    ensures no_file { has_file (command_of (map string_bytes words.now)) ≡ false → disk.new ≡ disk.old }
-    ensures no_door { is_node (command_of (map string_bytes words.now)) ≡ false → door.new ≡ door.old }
-    ensures diskless { has_file (command_of (map string_bytes words.now)) ≡ false → IsDiskless result }
-    ensures disk { result ≡ Status.DiskFault → Rose (D.faults disk.old) (D.faults disk.new) }
-    ensures told { (kind : NodeKind) (addr : List ℕ) → command_of (map string_bytes words.now) ≡ Some (Node kind addr) → TellsDisk kind result (D.told disk.old) }
-    ensures node { (kind : NodeKind) (addr : List ℕ) → command_of (map string_bytes words.now) ≡ Some (Node kind addr) → IfSome (S.left input.old) (λ bytes.
-        WhereTold (InputEnded kind addr (D.told disk.old) (D.told disk.new) bytes result (S.left input.new) (O.took out.old) (O.took out.new) (N.faults door.old) (N.faults door.new)) (N.told door.old) (N.told door.new)) }
-    ensures places { (kind : NodeKind) (addr : List ℕ) → command_of (map string_bytes words.now) ≡ Some (Node kind addr) → IfSome (S.left input.old) (λ bytes. InputEndsBy kind bytes result (S.left input.new)) }
-    ensures complete { (kind : NodeKind) (addr : List ℕ) → command_of (map string_bytes words.now) ≡ Some (Node kind addr) → (bytes : List ℕ) → S.left input.old ≡ Some bytes → MayStart kind (D.told disk.old)
-        → (Rose (S.faults input.old) (S.faults input.new) → ⊥) → (Rose (O.faults out.old) (O.faults out.new) → ⊥) → (Rose (D.faults disk.old) (D.faults disk.new) → ⊥)
-        → (result ≡ status_at (ending_of kind bytes)) ⊎ (result ≡ Status.OutOfMemory) }
-    ensures stays { (kind : NodeKind) (addr : List ℕ) → command_of (map string_bytes words.now) ≡ Some (Node kind addr) → LeavesDisk kind result (D.told disk.old) (D.told disk.new) }
-    ensures unopened { (kind : NodeKind) (addr : List ℕ) → command_of (map string_bytes words.now) ≡ Some (Node kind addr) → (bytes : List ℕ) → S.left input.old ≡ Some bytes → HasNoCluster bytes → disk.new ≡ disk.old }
-    ensures lease { command_of (map string_bytes words.now) ≡ Some Lease → IfSome (S.left input.old) (λ bytes. LeaseEnded bytes result (S.left input.new) (O.took out.old) (O.took out.new) (D.told disk.old) (D.told disk.new)) }
-    ensures lease_told { command_of (map string_bytes words.now) ≡ Some Lease → TellsLease result (D.told disk.old) }
-    ensures lease_complete { command_of (map string_bytes words.now) ≡ Some Lease → (bytes : List ℕ) (t : Moments) (value : HardState) → S.left input.old ≡ Some bytes → D.told disk.old ≡ Some t → records_of t.now.bytes ≡ Ok value
-        → (lease_run_of value bytes).ending ≡ LeaseAtEnd → (Rose (S.faults input.old) (S.faults input.new) → ⊥) → (Rose (O.faults out.old) (O.faults out.new) → ⊥) → (Rose (D.faults disk.old) (D.faults disk.new) → ⊥)
-        → (result ≡ Status.Done) ⊎ (result ≡ Status.OutOfMemory) }
-    ensures work { command_of (map string_bytes words.now) ≡ Some Work → IfSome (S.left input.old) (λ bytes. WorkEnded (work_run_from 0 empty_work) bytes result (S.left input.new) (O.took out.old) (O.took out.new)) }
-    ensures work_complete { command_of (map string_bytes words.now) ≡ Some Work → (bytes : List ℕ) → S.left input.old ≡ Some bytes → (work_run_of bytes).ending ≡ WorkAtEnd
-        → (Rose (S.faults input.old) (S.faults input.new) → ⊥) → (Rose (O.faults out.old) (O.faults out.new) → ⊥) → (result ≡ Status.Done) ⊎ (result ≡ Status.OutOfMemory) }
+    ensures { IsOutcome (map string_bytes words.now) result (input.new ≡ input.old) (out.new ≡ out.old) (disk.new ≡ disk.old) (door.new ≡ door.old)
+        (seen (S.left input.old) (O.took out.old) (D.told disk.old) (N.told door.old) (S.faults input.old) (O.faults out.old) (D.faults disk.old) (N.faults door.old))
+        (seen (S.left input.new) (O.took out.new) (D.told disk.new) (N.told door.new) (S.faults input.new) (O.faults out.new) (D.faults disk.new) (N.faults door.new)) }
 {
     match command_of(words) {
         None => Status::Usage,
-        Some(Command::Replay) => run_replay(alloc, input, out),
+        Some(Command::Replay) => match LineReader::new(alloc) {
+            Ok(mut lines) => run_schedule(alloc, &mut lines, input, out),
+            Err(_) => Status::OutOfMemory,
+        },
         Some(Command::Storm { seed, steps }) => run_storm(alloc, seed, steps, out),
         Some(Command::Node { kind, addr }) => run_input(alloc, kind, addr, input, out, disk, door),
         Some(Command::Lease) => run_lease(alloc, input, out, disk),
@@ -142,7 +93,7 @@ fn run_command<S: Source, O: Sink, D: Disk, N: Door>(
 /// `node agent MACHINE BOOT ADDR` and `node app APP BOOT UNITS ADDR` dial it. `lease` hands out epochs by the lines of the input, and keeps the
 /// last one on the disk. `work` runs named workers by the lines of the input. What is said of the output holds of an input and an output that tell their bytes, and of nodes of a door that does, and
 /// of a disk that does.
-#[tactic(auto, using(crate::proofs::States::all_count_once, crate::proofs::States::all_take_by_quota, crate::proofs::States::all_keep_grants))]
+#[tactic(auto, using(crate::proofs::StatesLemmas::all_count_once, crate::proofs::StatesLemmas::all_take_by_quota, crate::proofs::StatesLemmas::all_keep_grants))]
 pub fn fuxi<S: Source, O: Sink, E: Sink, D: Disk, N: Door>(
     alloc: Global,
     words: &[String],
@@ -295,7 +246,7 @@ pub fn fuxi<S: Source, O: Sink, E: Sink, D: Disk, N: Door>(
 
     // A lease over lines that are all good, with a file without a damaged record, and with no fault of input, output and disk, is done, but for want of memory.
     ensures lease_complete { command_of (map string_bytes words.now) ≡ Some Lease → (bytes : List ℕ) (t : Moments) (value : HardState) → S.left input.old ≡ Some bytes → D.told disk.old ≡ Some t → records_of t.now.bytes ≡ Ok value
-        → (lease_run_of value bytes).ending ≡ LeaseAtEnd → (Rose (S.faults input.old) (S.faults input.new) → ⊥) → (Rose (O.faults out.old) (O.faults out.new) → ⊥) → (Rose (D.faults disk.old) (D.faults disk.new) → ⊥)
+        → (lease_run_of value bytes).ending ≡ AtEnd → (Rose (S.faults input.old) (S.faults input.new) → ⊥) → (Rose (O.faults out.old) (O.faults out.new) → ⊥) → (Rose (D.faults disk.old) (D.faults disk.new) → ⊥)
         → (result ≡ Status.Done) ⊎ (result ≡ Status.OutOfMemory) }
 
     // Of `work`. What was read and written, by the status;
@@ -308,7 +259,7 @@ pub fn fuxi<S: Source, O: Sink, E: Sink, D: Disk, N: Door>(
     ensures work_planned { command_of (map string_bytes words.now) ≡ Some Work → IfSome (S.left input.old) (λ bytes. AllPlanned bytes) }
 
     // Named workers over lines that are all good, within the limits, with no fault of input and output, are done, but for want of memory.
-    ensures work_complete { command_of (map string_bytes words.now) ≡ Some Work → (bytes : List ℕ) → S.left input.old ≡ Some bytes → (work_run_of bytes).ending ≡ WorkAtEnd
+    ensures work_complete { command_of (map string_bytes words.now) ≡ Some Work → (bytes : List ℕ) → S.left input.old ≡ Some bytes → (work_run_of bytes).ending ≡ AtEnd
         → (Rose (S.faults input.old) (S.faults input.new) → ⊥) → (Rose (O.faults out.old) (O.faults out.new) → ⊥) → (result ≡ Status.Done) ⊎ (result ≡ Status.OutOfMemory) }
 
     // All of this as one relation, for who calls the command.
@@ -337,6 +288,8 @@ pub fn fuxi<S: Source, O: Sink, E: Sink, D: Disk, N: Door>(
     every_judgement_bans_what_is_judged();
     calm_rounds_bring_quiet();
     storms_end_quiet();
+    // The law of what a run tells, for the clauses on texts.
+    runs_are_told();
     let status = run_command(alloc, words, input, out, disk, door);
     let _told = report(err, &status);
     status

@@ -1,8 +1,5 @@
-pub mod Stepping
-pub mod Going
-pub mod Opening
-pub mod Ending
-pub mod Finishing
-pub mod Beginning
-pub mod Reading
-pub mod Texting
+pub mod LinesLemmas
+pub mod PreparingLemmas
+pub mod ProgressLemmas
+pub mod RunsLemmas
+pub mod TextsLemmas

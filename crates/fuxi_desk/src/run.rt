@@ -8,7 +8,7 @@ ghost use Rattle.input_lines.specs.Wholes.{IsReady};
 ghost use Rattle.master_desk.specs.Orders.{most_calls};
 ghost use Rattle.fuxi_desk.specs.Preparing.{Prepared as PreparedSeen, Stands, prepared_for};
 ghost use Rattle.fuxi_desk.specs.Runs.{Ended, read_from, run_from};
-ghost use Rattle.fuxi_desk.specs.Progress.{TakesLine, WritesState, after_line};
+ghost use Rattle.fuxi_desk.specs.Progress.{TakesLine, WritesState};
 
 use crate::prepare::Prepared;
 use crate::read::read_line;
@@ -34,7 +34,6 @@ fn take_line<O: Sink>(
 ) -> Result<Prepared, Status>
     requires steps { prepared.node.master.steps < 2 ^ 29 }
     ensures takes { (w : PreparedSeen) → Stands prepared w → TakesLine line.now number w result (O.took out.old) (O.took out.new) }
-    ensures stands { IfOk result (λ after. (w : PreparedSeen) → Stands prepared w → Stands after (after_line w line.now)) }
     ensures steps { IfOk result (λ after. after.node.master.steps ≤ prepared.node.master.steps + 1) }
     ensures later { O.faults out.old ≤ O.faults out.new }
     ensures fault { result ≡ Err Status.WriteFault → Rose (O.faults out.old) (O.faults out.new) }

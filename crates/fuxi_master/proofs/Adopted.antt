@@ -6,7 +6,7 @@ use Rattle.fuxi_terms.specs.Cluster.{ClusterRecord}
 use Rattle.fuxi_terms.specs.Keys.{RowKey, key_cmp}
 use Rattle.fuxi_terms.specs.TallyKeys.{credited_what, greatest_grant}
 use Rattle.fuxi_terms.specs.declared.Key.{Key}
-use Rattle.broadcast.specs.NumbersSet.{AreNumbers}
+use Rattle.fuxi_terms.specs.NumbersSet.{AreNumbers}
 use Rattle.fuxi_terms.specs.Numbers.{has_number, with_number}
 use Rattle.schedule_unit.specs.declared.party.MachineNo.{MachineNo}
 use Rattle.grant_table.specs.Tables.{IsSound}
@@ -32,7 +32,7 @@ use Rattle.fuxi_master.proofs.ReportAdopted.{put_adopted, opened_now}
 use Rattle.fuxi_master.proofs.EndsLemmas.{lined_as}
 use Rattle.fuxi_master.proofs.Readied.{lined_again}
 use Rattle.fuxi_master.proofs.NotYetShown.{mid_by, same_jobs, credited_same, within_soon}
-use Rattle.fuxi_master.proofs.Numbers.{with_rises, with_all}
+use Rattle.fuxi_terms.proofs.NumbersLemmas.{with_rises, with_all}
 use Rattle.fuxi_master.proofs.UnreportedBare.{adopting_tidy}
 use Rattle.fuxi_master.proofs.Told.{stands_told}
 

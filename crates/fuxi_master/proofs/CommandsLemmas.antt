@@ -19,7 +19,7 @@ use Rattle.grant_table.specs.Tables.{TableRecord, IsSound}
 use Rattle.hard_state.specs.Knowledge.{Knowledge}
 use Rattle.allotment.specs.PlacingReads.{record_of}
 use Rattle.allotment.specs.Allotted.{AllotmentRecord, Allots, Touches}
-use Rattle.broadcast.specs.NumbersSet.{AreNumbers}
+use Rattle.fuxi_terms.specs.NumbersSet.{AreNumbers}
 use Rattle.broadcast.specs.declared.grants.News.{News}
 use Rattle.broadcast.specs.AllShown.{with_reported, is_job, credited_after}
 use Rattle.fuxi_master.specs.Cores.{CoreRecord, IsCore, IsTidy, StandsFor}
@@ -29,7 +29,7 @@ use Rattle.fuxi_master.proofs.AllotsAlike.{allots_alike}
 use Rattle.fuxi_master.proofs.ClosedMachines.{without_is, untouched, still_touches}
 use Rattle.fuxi_master.proofs.Projected.{known_alike}
 use Rattle.fuxi_master.proofs.NotYetShown.{KnowsAlike, same_jobs, AreCredits, moved_mid, credited_same, within_soon}
-use Rattle.fuxi_master.proofs.Numbers.{among, with_is}
+use Rattle.fuxi_terms.proofs.NumbersLemmas.{among, with_is}
 use Rattle.fuxi_master.proofs.UnreportedBare.{where_none}
 use Rattle.fuxi_master.proofs.Told.{IsTold, stands_told}
 

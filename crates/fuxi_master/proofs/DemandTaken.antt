@@ -22,7 +22,7 @@ use Rattle.written_roles.specs.MasterRoles.{MasterRole}
 use Rattle.grant_table.specs.Tables.{as_known, IsSound}
 use Rattle.allotment.specs.PlacingReads.{record_of}
 use Rattle.allotment.specs.Allotted.{AllotmentRecord, Allots}
-use Rattle.broadcast.specs.NumbersSet.{numbers_set, AreNumbers}
+use Rattle.fuxi_terms.specs.NumbersSet.{numbers_set, AreNumbers}
 use Rattle.broadcast.specs.declared.grants.News.{News}
 use Rattle.broadcast.specs.AllShown.{App, is_job, with_reported, credited_in, credited_after}
 use Rattle.schedule_unit.specs.declared.party.AppNo.{AppNo}

@@ -10,7 +10,7 @@ use Rattle.fuxi_terms.specs.Keys.{Spot, key_cmp, spot_cmp}
 use Rattle.fuxi_terms.specs.TallyKeys.{credited_what, greatest_demand, greatest_grant}
 use Rattle.fuxi_terms.specs.declared.Key.{Key}
 use Rattle.grant_table.specs.Tables.{TableRecord, as_known}
-use Rattle.broadcast.specs.NumbersSet.{AreNumbers}
+use Rattle.fuxi_terms.specs.NumbersSet.{AreNumbers}
 use Rattle.allotment.specs.PlacingReads.{has_spot}
 use Rattle.written_net.specs.Ledgers.{tally_ledger}
 use Rattle.written_roles.specs.Masters.{Master}

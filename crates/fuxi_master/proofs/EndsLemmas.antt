@@ -25,7 +25,7 @@ use Rattle.broadcast.specs.AllShown.{Down, App, IsBefore, credited_after}
 use Rattle.fuxi_master.specs.Cores.{CoreRecord, IsKept, IsCore, IsWithin, IsWithinSoon, StandsWith, StandsFor}
 use Rattle.fuxi_master.specs.Ends.{IsCoreReadied, IsPublished}
 use Rattle.fuxi_master.specs.Steps.{IsMid, HasRole, StandsMid, forced_by}
-use Rattle.fuxi_master.proofs.Numbers.{among}
+use Rattle.fuxi_terms.proofs.NumbersLemmas.{among}
 use Rattle.fuxi_master.proofs.Projected.{units_alike}
 use Rattle.fuxi_master.proofs.Readied.{ready_again}
 

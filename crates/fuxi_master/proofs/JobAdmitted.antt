@@ -26,7 +26,7 @@ use Rattle.grant_table.specs.Tables.{TableRecord, as_known, with_admitted, IsSou
 use Rattle.allotment.specs.PlacingReads.{record_of}
 use Rattle.allotment.specs.Allotted.{AllotmentRecord, Allots}
 use Rattle.broadcast.specs.Projections.{row_of}
-use Rattle.broadcast.specs.NumbersSet.{numbers_set, AreNumbers}
+use Rattle.fuxi_terms.specs.NumbersSet.{numbers_set, AreNumbers}
 use Rattle.broadcast.specs.declared.grants.News.{News}
 use Rattle.broadcast.specs.AllShown.{App, IsBefore, ShowsJob, with_reported, is_job, credited_after}
 use Rattle.fuxi_master.specs.Cores.{CoreRecord, IsKept, IsCore, IsApp, StandsFor, IsWithin, IsWithinSoon}

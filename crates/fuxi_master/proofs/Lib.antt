@@ -1,4 +1,3 @@
-pub mod Numbers
 pub mod Indexed
 pub mod AllotsAlike
 pub mod Readied

@@ -21,7 +21,7 @@ use Rattle.fuxi_terms.proofs.Booleans.{both_true, number_is}
 use Rattle.fuxi_terms.proofs.CountsLemmas.{both_true as both_hold, count-set_count, tied, lesser}
 use Rattle.fuxi_terms.proofs.KeyOrders.{key_total, same_key}
 use Rattle.written_roles.specs.MasterSteps.{is_there, raise_credited}
-use Rattle.broadcast.specs.NumbersSet.{numbers_set, AreNumbers}
+use Rattle.fuxi_terms.specs.NumbersSet.{numbers_set, AreNumbers}
 use Rattle.broadcast.specs.AllShown.{credited_in}
 use Rattle.fuxi_master.specs.Heard.{is_new_back, newly_credited}
 

@@ -19,7 +19,7 @@ use Rattle.allotment.specs.PlacingReads.{record_of}
 use Rattle.allotment.specs.SettlingRuns.{AreTouched}
 use Rattle.allotment.specs.Allotted.{AllotmentRecord, Touches}
 use Rattle.broadcast.specs.Projections.{row_of}
-use Rattle.broadcast.specs.NumbersSet.{numbers_set, AreNumbers}
+use Rattle.fuxi_terms.specs.NumbersSet.{numbers_set, AreNumbers}
 use Rattle.broadcast.specs.declared.grants.News.{News}
 use Rattle.broadcast.specs.AllShown.{Down, App, IsBefore, is_job, with_reported, credited_in, credited_after}
 use Rattle.fuxi_master.specs.Cores.{CoreRecord, IsKept, IsNear, IsWithin, IsWithinSoon, shown_credited}

@@ -23,7 +23,7 @@ use Rattle.written_roles.specs.MasterSteps.{phased, ready, settled_if_serving, i
 use Rattle.written_roles.specs.Placing.{has_pair, lined, waiting_in, waiting_pairs, line_up, placeable, may_grow, accepts, has_room, is_usable, first_placeable, granted, settle, settled, all_out}
 use Rattle.written_roles.specs.Settling.{NothingPlaceable, Picks, IsFirst}
 use Rattle.fuxi_master.specs.Cores.{IsTidy}
-use Rattle.fuxi_master.proofs.Numbers.{with_is}
+use Rattle.fuxi_terms.proofs.NumbersLemmas.{with_is}
 
 -- all of a master but its grants and its line
 pub record SameBut (M N : Master) : Type 0 where

@@ -20,7 +20,7 @@ use Rattle.failover.specs.KeptReports.{kept_entries, kept_of}
 use Rattle.written_roles.specs.MasterSteps.{is_kept, same_size, adopted}
 use Rattle.allotment.specs.PlacingReads.{record_of}
 use Rattle.allotment.specs.Allotted.{rows_put}
-use Rattle.fuxi_master.proofs.Numbers.{with_is}
+use Rattle.fuxi_terms.proofs.NumbersLemmas.{with_is}
 use Rattle.fuxi_master.proofs.Projected.{units_alike}
 
 -- a unit that is admitted, with its size

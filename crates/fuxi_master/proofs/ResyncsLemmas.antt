@@ -28,7 +28,7 @@ use Rattle.fuxi_master.specs.Cores.{CoreRecord, IsDown, IsApp, IsCore, IsKept, I
 use Rattle.fuxi_master.specs.Resyncs.{agent_forgotten, app_forgotten}
 use Rattle.fuxi_master.proofs.EndsOfChannels.{stands_at_ends}
 use Rattle.fuxi_master.proofs.Indexed.{all_from}
-use Rattle.fuxi_master.proofs.Numbers.{with_is}
+use Rattle.fuxi_terms.proofs.NumbersLemmas.{with_is}
 
 -- A peer's side is resynced once
 pub same_peer : (a q : Id) → same_id a q ≡ true → a ≡ q

@@ -20,7 +20,7 @@ use Rattle.allotment.specs.PlacingReads.{record_of}
 use Rattle.allotment.specs.Allotted.{AllotmentRecord, Allots, AllWait}
 use Rattle.fuxi_master.specs.Starts.{AreAdmitted}
 use Rattle.fuxi_master.proofs.AllotsAlike.{allots_alike}
-use Rattle.fuxi_master.proofs.Numbers.{with_is, with_rises}
+use Rattle.fuxi_terms.proofs.NumbersLemmas.{with_is, with_rises}
 use Rattle.fuxi_master.proofs.Projected.{known_alike}
 use Rattle.fuxi_master.proofs.Readied.{listed}
 

@@ -22,7 +22,7 @@ use Rattle.written_roles.specs.MasterSteps.{adopted, credit, is_kept}
 use Rattle.written_roles.specs.Placing.{Board, board, accepts, is_usable}
 use Rattle.written_roles.specs.Preemption.{Plan, by_priority_in, tried, victims_in, first_plan_in, plan_of, preempted}
 use Rattle.fuxi_master.specs.Cores.{IsTidy}
-use Rattle.fuxi_master.proofs.Numbers.{with_is}
+use Rattle.fuxi_terms.proofs.NumbersLemmas.{with_is}
 
 fewer_none : (table : List (Spot × ℕ)) (s : Spot) (n : ℕ) → (count spot_cmp table s ≡ 0 → n ≡ 0) → (t : Spot) → count spot_cmp table t ≡ 0 → count spot_cmp (set_count spot_cmp table s n) t ≡ 0
 fewer_none table s n less t none =

@@ -19,7 +19,7 @@ use Rattle.written_roles.specs.Masters.{Master}
 use Rattle.written_roles.specs.Placing.{line_up}
 use Rattle.std.specs.Ordering.{nat_cmp}
 use Rattle.std.specs.FinMap.Entries.{put, is_sorted}
-use Rattle.broadcast.specs.NumbersSet.{AreNumbers}
+use Rattle.fuxi_terms.specs.NumbersSet.{AreNumbers}
 use Rattle.written_net.specs.Ledgers.{Ledger, nothing, tally_ledger}
 use Rattle.allotment.specs.Allotted.{AllotmentRecord, Allots, Touches}
 use Rattle.written_roles.specs.MasterSteps.{master_party, adopts, adopted, told_of, said, counted, credit}

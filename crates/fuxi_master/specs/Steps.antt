@@ -21,7 +21,7 @@ use Rattle.written_roles.specs.Refusals.{Refusal, AlreadyServing as SaysAlready,
 use Rattle.written_roles.specs.MasterSteps.{Admits, Ends, Bans, Unbans, Begins, Preempts}
 use Rattle.written_roles.specs.MasterRoles.{MasterRole, ends_alone, MasterTold, Comes, Told, TurnAll, TurnTo as TurnToOne, ResyncAll, MasterAnswer, Done as IsDone, RefusedAs, Sent as SentAs, HeardAs, MasterStepped, master_steps_alone, master_hears_alone, report_excess}
 use Rattle.core_side.specs.Parcels.{id_of, parcel_is, IsSent}
-use Rattle.broadcast.specs.NumbersSet.{AreNumbers}
+use Rattle.fuxi_terms.specs.NumbersSet.{AreNumbers}
 use Rattle.broadcast.specs.declared.grants.News.{News}
 use Rattle.broadcast.specs.AllShown.{RowsAreBefore, GrantsAreBefore, credited_after}
 use Rattle.fuxi_master.specs.declared.event.MasterEvent.{MasterEvent}

@@ -2,7 +2,7 @@
 
 ghost use Rattle.std.specs.Prelude.{◌≡◌, ◌≢◌, ◌<◌, ◌≤◌, ℕ, length, false, Some, None, IfSome};
 ghost use Rattle.fuxi_io.specs.Causes.{Rose};
-ghost use Rattle.fuxi_io.specs.Reading.{rest_of, read_ahead};
+ghost use Rattle.fuxi_io.specs.Reading.{rest_of};
 ghost use Rattle.fuxi_terms.specs.Limits.{most_lines, most_machines};
 ghost use Rattle.input_lines.specs.Wholes.{IsReady};
 ghost use Rattle.node_door.specs.Doors.{WhereTold};
@@ -15,6 +15,7 @@ ghost use Rattle.fuxi_node.specs.declared.kind.NodeKind.TheVariants.{Agent};
 use crate::run::run_node;
 use crate::taking::DiskFailed;
 use cluster_desc::Cluster;
+use fuxi_io::law::is_little_ahead;
 use fuxi_io::{InputFault, LimitOf, LineReader, LineStop, Sink, Source, Status};
 use fuxi_terms::OutOfMemory;
 use node_door::Door;
@@ -45,7 +46,6 @@ pub fn run_agent<S: Source, O: Sink, N: Door>(
     requires some { 1 ≤ length addr.now }
     requires short { length addr.now ≤ 255 }
     requires stop { lines.old.stop ≢ Some LineStop.ReadFault }
-    requires ahead { length lines.old.pending ≤ read_ahead }
     // What was written and what the door has been through, by the status. It is said of bytes that are known, and of a door that tells.
     ensures ended { IsReady lines.old (S.left source.old) → IfSome (rest_of lines.old (S.left source.old)) (λ bytes. WhereTold (NodeEnded (Agent machine boot) addr.now None None cluster.now lines.old.number bytes result (S.left source.new) (O.took out.old) (O.took out.new) (N.faults door.old) (N.faults door.new)) (N.told door.old) (N.told door.new)) }
     // Where the lines end, by the status. It is said over any door.
@@ -57,6 +57,8 @@ pub fn run_agent<S: Source, O: Sink, N: Door>(
     ensures limit { lines.old.stop ≡ None → (what : LimitOf) (kept : ℕ) → result ≡ Status.Limit what kept → (what ≡ LimitOf.Lines) × (kept ≡ most_lines) }
     ensures usage { result ≢ Status.Usage }
 {
+    // It ended before its first line where it did not start, and what was read ahead is then little.
+    is_little_ahead(lines);
     if machine.0 >= cluster.machines() {
         return Status::BadInput {
             line: lines.number(),

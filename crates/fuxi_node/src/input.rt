@@ -2,7 +2,7 @@
 
 ghost use Rattle.std.specs.Prelude.{◌≡◌, ◌≢◌, ◌⊎◌, ◌<◌, ◌≤◌, ℕ, List, length, false, Some, None, IfSome};
 ghost use Rattle.fuxi_io.specs.Causes.{Rose};
-ghost use Rattle.fuxi_io.specs.Reading.{rest_of, read_ahead};
+ghost use Rattle.fuxi_io.specs.Reading.{rest_of};
 ghost use Rattle.fuxi_terms.specs.Limits.{most_lines};
 ghost use Rattle.input_lines.specs.Wholes.{IsReady};
 ghost use Rattle.node_door.specs.Doors.{WhereTold};
@@ -38,7 +38,6 @@ fn run_kind<S: Source, O: Sink, D: Disk, N: Door>(
     requires some { 1 ≤ length addr.now }
     requires short { length addr.now ≤ 255 }
     requires stop { lines.old.stop ≢ Some LineStop.ReadFault }
-    requires ahead { length lines.old.pending ≤ read_ahead }
     ensures ended { IsReady lines.old (S.left source.old) → IfSome (rest_of lines.old (S.left source.old)) (λ bytes. WhereTold (NodeEnded kind addr.now (D.told disk.old) (D.told disk.new) cluster.now lines.old.number bytes result (S.left source.new) (O.took out.old) (O.took out.new) (N.faults door.old) (N.faults door.new)) (N.told door.old) (N.told door.new)) }
     ensures places { IsReady lines.old (S.left source.old) → IfSome (rest_of lines.old (S.left source.old)) (λ bytes. EndsBy (ending_behind kind (Opens cluster.now lines.old.number (lines_of bytes))) result (S.left source.new)) }
     ensures told { TellsDisk kind result (D.told disk.old) }

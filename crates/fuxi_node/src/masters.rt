@@ -2,7 +2,7 @@
 
 ghost use Rattle.std.specs.Prelude.{◌≡◌, ◌≢◌, ◌⊎◌, ◌<◌, ◌≤◌, ℕ, length, false, Some, None, Ok, IfSome};
 ghost use Rattle.fuxi_io.specs.Causes.{Rose};
-ghost use Rattle.fuxi_io.specs.Reading.{rest_of, read_ahead};
+ghost use Rattle.fuxi_io.specs.Reading.{rest_of};
 ghost use Rattle.fuxi_terms.specs.Limits.{most_lines};
 ghost use Rattle.input_lines.specs.Wholes.{IsReady};
 ghost use Rattle.node_door.specs.Doors.{WhereTold};
@@ -13,6 +13,7 @@ ghost use Rattle.fuxi_node.specs.Masters.{LeavesFile, MasterEnded, TellsFile, st
 use crate::run::run_node;
 use crate::taking::DiskFailed;
 use cluster_desc::Cluster;
+use fuxi_io::law::is_little_ahead;
 use fuxi_io::{Disk, LimitOf, LineReader, LineStop, Sink, Source, Status};
 use fuxi_terms::limits::MOST_RECORDS;
 use hard_state::HardFault;
@@ -61,7 +62,6 @@ pub fn run_master<S: Source, O: Sink, D: Disk, N: Door>(
     requires some { 1 ≤ length addr.now }
     requires short { length addr.now ≤ 255 }
     requires stop { lines.old.stop ≢ Some LineStop.ReadFault }
-    requires ahead { length lines.old.pending ≤ read_ahead }
     // What was written and what the door has been through, by the status. It is said of bytes that are known, and of a door that tells; what is said of the file, of a disk that tells.
     ensures ended { IsReady lines.old (S.left source.old) → IfSome (rest_of lines.old (S.left source.old)) (λ bytes. WhereTold (MasterEnded epoch (master_start cluster.now epoch addr.now lines.old.number) (D.told disk.old) (D.told disk.new) bytes result (S.left source.new) (O.took out.old) (O.took out.new) (N.faults door.old) (N.faults door.new)) (N.told door.old) (N.told door.new)) }
     ensures file { TellsFile epoch result (D.told disk.old) }
@@ -75,6 +75,8 @@ pub fn run_master<S: Source, O: Sink, D: Disk, N: Door>(
     ensures limit { lines.old.stop ≡ None → (what : LimitOf) (kept : ℕ) → result ≡ Status.Limit what kept → (what ≡ LimitOf.Records) ⊎ ((what ≡ LimitOf.Lines) × (kept ≡ most_lines)) }
     ensures usage { result ≢ Status.Usage }
 {
+    // It ended before its first line where it did not start, and what was read ahead is then little.
+    is_little_ahead(lines);
     let node = match MasterNode::open(alloc, cluster, epoch, disk) {
         Ok(node) => node,
         Err(fault) => return start_status(fault),

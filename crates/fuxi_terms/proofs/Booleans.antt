@@ -23,6 +23,14 @@ pub not_false : (b : Bool) → not b ≡ false → b ≡ true
 not_false true e = refl
 not_false false e = cc
 
+pub not_true : (b : Bool) → not b ≡ true → b ≡ false
+not_true true e = cc
+not_true false e = refl
+
+pub or_true : (a b : Bool) → (a || b) ≡ true → a ≡ false → b ≡ true
+or_true true b h f = cc
+or_true false b h f = h
+
 pub or_left : (a b : Bool) → a ≡ true → (a || b) ≡ true
 or_left true b e = refl
 or_left false b e = cc

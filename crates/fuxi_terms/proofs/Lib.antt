@@ -18,3 +18,7 @@ pub mod RowDifferences
 pub mod SameEntries
 pub mod ValidJobs
 pub mod Lookups
+pub mod NumbersSetLemmas
+pub mod MovesLemmas
+pub mod NumbersLemmas
+pub mod IndexedLists

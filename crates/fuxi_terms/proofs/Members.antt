@@ -14,6 +14,15 @@ abbrev pub In : {A : Type 0} → A → List A → Type 0
 In x [] = ⊥
 In x (y ∷ ys) = (x ≡ y) ⊎ In x ys
 
+pub in_left : {A : Type 0} (x : A) (xs ys : List A) → In x xs → In x (xs ++ ys)
+in_left x [] ys h = absurd h
+in_left x (z ∷ zs) ys (inl e) = inl e
+in_left x (z ∷ zs) ys (inr h) = inr (in_left x zs ys h)
+
+pub in_right : {A : Type 0} (x : A) (xs ys : List A) → In x ys → In x (xs ++ ys)
+in_right x [] ys h = h
+in_right x (z ∷ zs) ys h = inr (in_right x zs ys h)
+
 pub sum_le : {A : Type 0} (f g : A → ℕ) (xs : List A) → ((y : A) → f y ≤ g y) → sum_by f xs ≤ sum_by g xs
 sum_le f g xs h = sum_by-le-sum_by f g xs h
 

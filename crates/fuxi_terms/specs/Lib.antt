@@ -14,3 +14,4 @@ pub mod Jobs
 pub mod Tables
 pub mod Rows
 pub mod Patching
+pub mod NumbersSet

@@ -1,5 +1,5 @@
 -- The lines before the one that describes the cluster are skipped one by one, up to that line or to what comes in its place.
-use Rattle.std.proofs.Common.{◌≡◌, ◌≢◌, ℕ, ◌+◌, ◌<◌, ◌≤◌, Bool, true, false, nat_lt, List, [], ◌∷◌, ◌++◌, length, Option, None, Some, IfSome, Result, Ok, Err, refl, sym, ◌∙◌, ap, subst, arith, append_assoc, append-nil}
+use Rattle.std.proofs.Common.{◌≡◌, ◌≢◌, ℕ, ◌+◌, ◌<◌, ◌≤◌, true, false, nat_lt, List, [], ◌∷◌, ◌++◌, length, Option, None, Some, IfSome, Result, Ok, Err, refl, sym, ◌∙◌, ap, subst, arith, append_assoc, append-nil}
 use Rattle.std.proofs.lemmas.Bool.Decides.{nat_tests}
 use Rattle.fuxi_io.specs.Lines.{InputLine, lines_of, GivesKnown, IsFirst, BreaksOff, FirstLonger, FirstTooLongKnown, MoreKnown}
 use Rattle.fuxi_io.specs.Reading.{Reading, line_of, rest_of, read_ahead}

@@ -1,4 +1,7 @@
 pub mod Contents
+pub mod LineProgress
+pub mod LineRuns
+pub mod OpenedRuns
 pub mod Openings
 pub mod Statuses
 pub mod Wholes

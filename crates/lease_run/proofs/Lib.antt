@@ -1,3 +1,2 @@
-pub mod Leaving
-pub mod Going
-pub mod Ending
+pub mod ProgressLemmas
+pub mod EndsLemmas

@@ -1,10 +1,9 @@
 -- What is known of a run over an input by the status that it ends with.
-use Rattle.std.specs.Prelude.{◌≡◌, ◌⊎◌, ℕ, ◌≤◌, ⊤, Ok, Err, List, [], ◌∷◌, ◌++◌, length, Option, Some, IfSome}
+use Rattle.std.specs.Prelude.{◌≡◌, ◌⊎◌, ℕ, ⊤, Ok, Err, List, [], ◌∷◌, ◌++◌, Option, Some, IfSome}
 use Rattle.std.specs.List.{concat}
 use Rattle.std.specs.Io.KnownBytes.{Appends, Consumes}
 use Rattle.fuxi_io.specs.Disks.{Told, Leaves, WhereTold}
 use Rattle.fuxi_io.specs.Lines.{InputLine, lines_of}
-use Rattle.fuxi_io.specs.Reading.{read_ahead}
 use Rattle.fuxi_io.specs.declared.status.LimitOf.TheVariants.{Lines, Packets, Bytes, Records, Calls}
 use Rattle.fuxi_io.specs.declared.status.Status.{Status}
 use Rattle.fuxi_io.specs.declared.status.Status.TheVariants.{Done, Usage, BadInput, ReadFault, WriteFault, Limit, OutOfMemory, DiskFault, StaleEpoch, DamagedCheckpoint}
@@ -12,12 +11,13 @@ use Rattle.fuxi_terms.specs.Limits.{most_lines}
 use Rattle.written_roles.specs.HardState.{HardState}
 use Rattle.hard_state.specs.HardFiles.{Opens, SyncsAll, records_of}
 use Rattle.input_lines.specs.Contents.{content}
-use Rattle.input_lines.specs.Wholes.{whole_lines, WritesLast}
+use Rattle.input_lines.specs.LineRuns.{AtEnd, AtBadLine, AtLimit, Run, pieces}
+use Rattle.input_lines.specs.Wholes.{whole_lines, TakesSome, WritesLast}
 use Rattle.epoch_lease.specs.declared.event.LeaseEvent.{LeaseEvent}
 use Rattle.epoch_lease.specs.Files.{OpensAs}
 use Rattle.epoch_lease.specs.Leases.{LeaseState, IsGrant, lease_step}
 use Rattle.epoch_lease.specs.Reading.{lease_event}
-use Rattle.lease_run.specs.Runs.{Run, AtEnd, AtBadLine, AtManyLines, lease_in, pieces, run_from}
+use Rattle.lease_run.specs.Runs.{last_texts, lease_in, run_from}
 
 -- of a disk that told its moments at the start: whatever file a crash leaves now opens as this lease
 abbrev pub HasFile : Option Told → Option Told → LeaseState → Type 0
@@ -28,40 +28,32 @@ abbrev pub HasEither : Option Told → Option Told → LeaseState → LeaseState
 HasEither old new s after = WhereTold (λ before now. Leaves (λ file. OpensAs s file ⊎ OpensAs after file) now.now) old new
 
 -- a source failed: the answers to all whole lines that it gave before are written, and nothing else
-pub record ReadsWhole (run : List InputLine → Run) (bytes : List ℕ) (left before after : Option (List ℕ)) (old new : Option Told) : Type 0 where
+pub record ReadsWhole (run : List InputLine → Run LeaseState) (bytes : List ℕ) (left before after : Option (List ℕ)) (old new : Option Told) : Type 0 where
   pub given : List ℕ
   pub gave : Consumes (Some bytes) left given
   pub good : (run (whole_lines (lines_of given))).ending ≡ AtEnd
-  pub writes : Appends before after (concat (run (whole_lines (lines_of given))).answers)
+  pub writes : Appends before after (concat (run (whole_lines (lines_of given))).outputs)
   pub file : HasFile old new (run (whole_lines (lines_of given))).state
 
 -- A sink failed: all answers but the last of the lines taken are out whole, and of that a part; or behind a whole input a part of its last line. The
 -- record of an epoch is written before its answer is begun.
-pub record BreaksOff (run : List InputLine → Run) (bytes : List ℕ) (left before after : Option (List ℕ)) (old new : Option Told) : Type 0 where
+pub record BreaksOff (run : List InputLine → Run LeaseState) (bytes : List ℕ) (left before after : Option (List ℕ)) (old new : Option Told) : Type 0 where
   pub lines : List InputLine
-  pub behind : List ℕ
-  pub cut : lines_of bytes ≡ lines ++ lines_of behind
-  pub ahead : List ℕ
-  pub gave : Consumes (Some behind) left ahead
-  pub few : length ahead ≤ read_ahead
+  pub takes : TakesSome bytes left lines
   pub good : (run lines).ending ≡ AtEnd
-  pub writes : WritesLast (run lines).answers before after ⊎ ((behind ≡ []) × WritesLast (pieces (run lines)) before after)
+  pub writes : WritesLast (run lines).outputs before after ⊎ ((takes.behind ≡ []) × WritesLast (pieces last_texts (run lines)) before after)
   pub file : HasFile old new (run lines).state
 
 -- it stopped at a line that is not taken: the answers to those in front of it are out, and nothing else; the source gave these and a few bytes ahead
-pub record StopsAt (run : List InputLine → Run) (bytes : List ℕ) (left before after : Option (List ℕ)) : Type 0 where
+pub record StopsAt (run : List InputLine → Run LeaseState) (bytes : List ℕ) (left before after : Option (List ℕ)) : Type 0 where
   pub front : List InputLine
   pub line : InputLine
-  pub behind : List ℕ
-  pub cut : lines_of bytes ≡ (front ++ line ∷ []) ++ lines_of behind
-  pub ahead : List ℕ
-  pub gave : Consumes (Some behind) left ahead
-  pub few : length ahead ≤ read_ahead
+  pub takes : TakesSome bytes left (front ++ line ∷ [])
   pub good : (run front).ending ≡ AtEnd
-  pub writes : Appends before after (concat (run front).answers)
+  pub writes : Appends before after (concat (run front).outputs)
 
 -- memory was refused
-pub record LacksMemory (run : List InputLine → Run) (bytes : List ℕ) (left before after : Option (List ℕ)) (old new : Option Told) : Type 0 where
+pub record LacksMemory (run : List InputLine → Run LeaseState) (bytes : List ℕ) (left before after : Option (List ℕ)) (old new : Option Told) : Type 0 where
   pub stops : StopsAt run bytes left before after
   pub file : HasFile old new (run stops.front).state
 
@@ -72,19 +64,19 @@ pub record IsGranted (line : List ℕ) (s : LeaseState) : Type 0 where
   pub grants : IsGrant (lease_step s event).answer
 
 -- the disk failed within a grant, whose record a crash leaves or not
-pub record LosesDisk (run : List InputLine → Run) (bytes : List ℕ) (left before after : Option (List ℕ)) (old new : Option Told) : Type 0 where
+pub record LosesDisk (run : List InputLine → Run LeaseState) (bytes : List ℕ) (left before after : Option (List ℕ)) (old new : Option Told) : Type 0 where
   pub stops : StopsAt run bytes left before after
   pub grants : IsGranted (content stops.line) (run stops.front).state
   pub file : HasEither old new (run stops.front).state (run (stops.front ++ stops.line ∷ [])).state
 
 -- What a run from an open lease wrote that ended with a status, what its source has left then, and what a crash leaves of the file
-abbrev pub Ended : (List InputLine → Run) → List ℕ → Status → Option (List ℕ) → Option (List ℕ) → Option (List ℕ) → Option Told → Option Told → Type 0
+abbrev pub Ended : (List InputLine → Run LeaseState) → List ℕ → Status → Option (List ℕ) → Option (List ℕ) → Option (List ℕ) → Option Told → Option Told → Type 0
 Ended run bytes Done left before after old new =
-    (left ≡ Some []) × ((run (lines_of bytes)).ending ≡ AtEnd) × Appends before after (concat (pieces (run (lines_of bytes)))) × HasFile old new (run (lines_of bytes)).state
+    (left ≡ Some []) × ((run (lines_of bytes)).ending ≡ AtEnd) × Appends before after (concat (pieces last_texts (run (lines_of bytes)))) × HasFile old new (run (lines_of bytes)).state
 Ended run bytes (BadInput line fault) left before after old new =
-    ((run (lines_of bytes)).ending ≡ AtBadLine line fault) × Appends before after (concat (run (lines_of bytes)).answers) × HasFile old new (run (lines_of bytes)).state
+    ((run (lines_of bytes)).ending ≡ AtBadLine line fault) × Appends before after (concat (run (lines_of bytes)).outputs) × HasFile old new (run (lines_of bytes)).state
 Ended run bytes (Limit Lines kept) left before after old new =
-    (kept ≡ most_lines) × ((run (lines_of bytes)).ending ≡ AtManyLines) × Appends before after (concat (run (lines_of bytes)).answers) × HasFile old new (run (lines_of bytes)).state
+    (kept ≡ most_lines) × ((run (lines_of bytes)).ending ≡ AtLimit Lines most_lines) × Appends before after (concat (run (lines_of bytes)).outputs) × HasFile old new (run (lines_of bytes)).state
 Ended run bytes (Limit Packets kept) left before after old new = ⊥
 Ended run bytes (Limit Bytes kept) left before after old new = ⊥
 Ended run bytes (Limit Calls kept) left before after old new = ⊥

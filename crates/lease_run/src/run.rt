@@ -4,10 +4,12 @@ ghost use Rattle.fuxi_io.specs.Disks.{Told, WhereTold};
 ghost use Rattle.fuxi_terms.specs.Limits.{most_lines};
 ghost use Rattle.written_roles.specs.HardState.{HardState};
 ghost use Rattle.hard_state.specs.HardFiles.{records_of};
+ghost use Rattle.input_lines.specs.LineProgress.{WritesEnd};
+ghost use Rattle.input_lines.specs.LineRuns.{AtEnd};
 ghost use Rattle.epoch_lease.specs.Files.{lease_of};
 ghost use Rattle.lease_run.specs.Ends.{Ended, LeaseEnded};
-ghost use Rattle.lease_run.specs.Progress.{fault_status, LeavesLine, Rests, TakesLine, WritesEnd};
-ghost use Rattle.lease_run.specs.Runs.{run_from, run_of, AtEnd};
+ghost use Rattle.lease_run.specs.Progress.{fault_status, LeavesLine, Rests, TakesLine};
+ghost use Rattle.lease_run.specs.Runs.{lease_ends, run_from, run_of};
 
 use crate::print::{write_answer, write_number};
 use epoch_lease::{Lease, LeaseFault, leases_at_rest_endure, read_lease};
@@ -66,7 +68,8 @@ fn take_line<O: Sink, D: Disk>(
 
 // Writes the last epoch behind a whole input.
 fn write_last<O: Sink>(lease: &Lease, out: &mut O) -> Status
-    ensures writes { WritesEnd (lease_of lease.now) result (O.took out.old) (O.took out.new) }
+    ensures writes { WritesEnd lease_ends (lease_of lease.now) result (O.took out.old) (O.took out.new) }
+    ensures memory { result ≢ Status.OutOfMemory }
     ensures write { result ≡ Status.WriteFault → Rose (O.faults out.old) (O.faults out.new) }
 {
     match write_number(out, b"last ", lease.last()) {

@@ -6,6 +6,7 @@ pub mod PathsLemmas
 pub mod QueueLaws
 pub mod RanksLemmas
 pub mod TreePathLemmas
+pub mod TreesAsSeen
 pub mod TreesLemmas
 pub mod UnitSetsLemmas
 pub mod VacantLemmas

@@ -1,4 +1,3 @@
-mod Numbers
 mod Walks
 mod Spots
 mod Loops

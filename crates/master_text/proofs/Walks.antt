@@ -18,7 +18,7 @@ use Rattle.fuxi_terms.specs.Jobs.{KnownJob, job_of, is_known, job_numbers}
 use Rattle.fuxi_terms.specs.Numbers.{has_number}
 use Rattle.written_roles.specs.Refusals.{with_found}
 use Rattle.written_world.specs.Orders.{Rise}
-use Rattle.master_text.proofs.Numbers.{with_is, with_rises}
+use Rattle.fuxi_terms.proofs.NumbersLemmas.{with_is, with_rises}
 
 -- keys that rise: each is below all behind it
 abbrev pub Rising : {K : Type 0} → (K → K → Ordering) → List K → Type 0

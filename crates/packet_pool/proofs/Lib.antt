@@ -1,2 +1,2 @@
-pub mod Measuring
-pub mod Rereading
+pub mod FrameBytes
+pub mod FramesReadBack

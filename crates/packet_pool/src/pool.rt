@@ -1,13 +1,12 @@
 //! The pool.
 
-ghost use Rattle.std.specs.Prelude.{◌≡◌, ◌+◌, ◌-◌, ◌<◌, ◌≤◌, ◌++◌, [], List, map, length, take, slice_get, Some, None, IfOk, IfErr, IfSome, IsNone, OnOk, OnErr};
+ghost use Rattle.std.specs.Prelude.{◌≡◌, ◌+◌, ◌-◌, ◌<◌, ◌≤◌, ◌++◌, [], map, length, take, slice_get, Some, None, IfOk, IfErr, IfSome, IsNone, OnOk, OnErr};
 ghost use Rattle.std.specs.List.{AllByRecursion, flat_map};
 ghost use Rattle.fuxi_terms.specs.Limits.{most_packets, most_packet_bytes};
 ghost use Rattle.party_ledgers.specs.Packets.{IsFormed};
-ghost use Rattle.party_ledgers.specs.declared.packets.Packet.{Packet as PacketSeen};
 ghost use Rattle.wire_frames.specs.Frames.{frame};
 ghost use Rattle.wire_frames.specs.Streams.{HasFrame};
-ghost use Rattle.packet_pool.specs.Pools.{bytes_of, no_frames, with_frames, limit_of, Refuses, IsSized, Keeps};
+ghost use Rattle.packet_pool.specs.Pools.{bytes_of, no_frames, with_frames, limit_of, Refuses, IsSized};
 
 use crate::fault::PoolFault;
 use bytes::Bytes;
@@ -139,7 +138,6 @@ impl PacketPool {
         requires formed { AllByRecursion IsFormed packets.now }
         ensures ok { OnOk result (self.new ≡ with_frames self.old packets.now) }
         ensures frames { OnOk result (AllByRecursion HasFrame packets.now) }
-        ensures keeps { OnOk result ((xs : List PacketSeen) → Keeps self.old xs → Keeps self.new (xs ++ packets.now)) }
         ensures within { OnOk result (limit_of self.old packets.now ≡ None) }
         ensures err { OnErr result (self.new ≡ self.old) }
         ensures why { IfErr result (λ fault. Refuses (limit_of self.old packets.now) fault) }

@@ -1,5 +1,5 @@
 -- What is asked at a key after a demand is taken over.
-use Rattle.std.proofs.Common.{◌≡◌, ℕ, zero, suc, ◌+◌, ◌<◌, ◌≤◌, Bool, true, false, cond, nat_eq, nat_lt, List, [], ◌∷◌, length, get_or, set, refl, sym, ◌∙◌, ap, subst, arith, length-set}
+use Rattle.std.proofs.Common.{◌≡◌, ℕ, zero, suc, ◌+◌, ◌<◌, ◌≤◌, Bool, true, false, cond, nat_eq, nat_lt, List, [], ◌∷◌, length, get_or, min, set, refl, sym, ◌∙◌, ap, subst, arith, length-set}
 use Rattle.std.specs.Prelude.{replicate}
 use Rattle.std.proofs.lemmas.Bool.Decides.{nat_tests}
 use Rattle.std.proofs.lemmas.List.{get_or-map, length-map, length-replicate}
@@ -10,9 +10,12 @@ use Rattle.fuxi_terms.specs.Counts.{count, AreCounts}
 use Rattle.fuxi_terms.proofs.CountsLemmas.{count_le}
 use Rattle.fuxi_terms.specs.TallyKeys.{greatest_demand, is_place, where_holds, key}
 use Rattle.fuxi_terms.specs.Jobs.{no_unit}
-use Rattle.place_pass.specs.Cells.{Cell, AreWishes, IsWish, fresh_cell, fresh_cells, no_cell, taken, taken_all}
+use Rattle.place_pass.specs.Cells.{Cell, AreWishes, AreAbove, IsWish, cell_at, fresh_cell, fresh_cells, no_cell, taken, taken_all}
+use Rattle.fuxi_terms.specs.Vectors.{fits}
+use Rattle.fuxi_terms.proofs.VectorLaws.{fits-trans, fits_places}
+use Rattle.fuxi_terms.proofs.ByPlace.{at_place-get_or}
 use Rattle.fuxi_terms.proofs.KeyOrders.{key_total, same_key}
-use Rattle.place_pass.proofs.Places.{counted_long, one_set}
+use Rattle.place_pass.proofs.Places.{counted_long, one_set, slot_within}
 
 -- a number that is asked for is small
 pub asked_small : (es : List (Key × ℕ)) (what unit number : ℕ) → what < 5 → AreCounts key_cmp greatest_demand es → count key_cmp es (key what unit number) ≤ 100000
@@ -27,6 +30,14 @@ asked_small es what unit number lt h =
     by : (b : Bool) (what number : ℕ) → what < 5 → where_holds b (cond (nat_eq what 1) (where_holds (nat_eq number 0) 100000) (cond (nat_eq what 2) 100000 (cond (nat_eq what 3) (where_holds (nat_lt number 64) 100000) (cond (nat_eq what 4) 1 (where_holds (nat_eq what 5) 1000000000000))))) ≤ 100000
     by true what number lt = kinds what number lt
     by false what number lt = omega arith
+
+-- an admitted unit has one of 8 places for each job
+pub placed : (c : ClusterRecord) (cells : List (List Cell)) (o : List Bool) → AreWishes c cells o → (a u : ℕ) → u < length (get_or cells a []) → (a < 256) × (u < 8)
+placed c cells o h a u lt =
+    let within = slot_within cells a u lt in
+    let places = h.places in
+    let few = h.few a in
+    (omega (arith, within, places), omega (arith, lt, few))
 
 -- ---- the units of a job
 pub length-taken_all : (c : ClusterRecord) (es : List (Key × ℕ)) (n : ℕ) (xs : List Cell) → length (taken_all c es n xs) ≡ length xs
@@ -104,3 +115,40 @@ no_wishes c cells o e n = record {
 
     none : (a : ℕ) → length (get_or cells a []) ≡ 0
     none a = ap (λ xs. length (get_or xs a [])) e ∙ by 256 a
+
+-- ---- what no unit needs less of
+pub none_above : (least : List ℕ) (cells : List (List Cell)) → cells ≡ replicate 256 [] → AreAbove least cells
+none_above least cells e = record { above = λ a u lt. let z : u < length (get_or {A = List Cell} (replicate 256 []) a []) = subst (λ (xs : List (List Cell)). u < length (get_or xs a [])) e lt in let n = by 256 a in absurd (omega (arith, z, n)) }
+  where
+    by : (k a : ℕ) → length (get_or {A = List Cell} (replicate k []) a []) ≡ 0
+    by zero a = refl
+    by (suc k) zero = refl
+    by (suc k) (suc a) = by k a
+
+pub above_lower : (least lower : List ℕ) (cells : List (List Cell)) → fits lower least ≡ true → AreAbove least cells → AreAbove lower cells
+above_lower least lower cells f h = record { above = λ a u lt. fits-trans lower least (cell_at cells a u).unit.size f (h.above a u lt) }
+
+pub above_set : (least : List ℕ) (cells : List (List Cell)) (a : ℕ) (xs : List Cell) → AreAbove least cells → a < length cells → ((u : ℕ) → u < length xs → fits least (get_or xs u no_cell).unit.size ≡ true) → AreAbove least (set cells a xs)
+above_set least cells a xs h lt each = record {
+  above = λ b u l.
+      let row = one_set cells a b xs [] lt in
+      subst (λ ys. fits least (get_or ys u no_cell).unit.size ≡ true) (sym row) (by (nat_eq a b) b u (subst (λ ys. u < length ys) row l));
+}
+  where
+    by : (t : Bool) (b u : ℕ) → u < length (cond t xs (get_or cells b [])) → fits least (get_or (cond t xs (get_or cells b [])) u no_cell).unit.size ≡ true
+    by true b u l = each u l
+    by false b u l = h.above b u l
+
+pub above_taken : (c : ClusterRecord) (es : List (Key × ℕ)) (least : List ℕ) (cells : List (List Cell)) (a : ℕ) → AreAbove least cells → a < length cells → AreAbove least (set cells a (taken_all c es 0 (get_or cells a [])))
+above_taken c es least cells a h lt = above_set least cells a (taken_all c es 0 (get_or cells a [])) h lt (λ u l.
+    let xs = get_or cells a [] in
+    let n = length-taken_all c es 0 xs in
+    let here : u < length xs = omega (arith, n, l) in
+    ap (λ (x : Cell). fits least x.unit.size) (get_or-taken_all c es 0 u u xs (omega arith) here) ∙ h.above a u here)
+
+-- the lesser of each resource fits both
+pub lesser_fits : (q a b : List ℕ) → ((i : ℕ) → get_or q i 0 ≡ min (get_or a i 0) (get_or b i 0)) → (fits q a ≡ true) × (fits q b ≡ true)
+lesser_fits q a b is = (
+  (fits_places q a).1 (λ i. let e = is i in let x = at_place-get_or q i in let y = at_place-get_or a i in omega (arith, e, x, y)),
+  (fits_places q b).1 (λ i. let e = is i in let x = at_place-get_or q i in let y = at_place-get_or b i in omega (arith, e, x, y)),
+)

@@ -14,7 +14,7 @@ use Rattle.cluster_desc.specs.declared.cluster.Machine.{Machine}
 use Rattle.cluster_desc.specs.Records.{machine_of as padded_machine}
 use Rattle.fuxi_terms.specs.Jobs.{KnownJob, job_of, units_of, unit_of, unit_count, group_of, most_of, no_unit}
 use Rattle.grant_table.specs.Tables.{TableRecord, as_known, AreJobs}
-use Rattle.place_pass.specs.Cells.{Cell, cell_of, cell_at, no_cell, job_in, job_at, AreWishes}
+use Rattle.place_pass.specs.Cells.{Cell, cell_of, cell_at, no_cell, job_in, job_at, AreWishes, IsWish}
 use Rattle.place_pass.specs.Placers.{AreLevel}
 use Rattle.fuxi_terms.proofs.Booleans.{both_true, number_is}
 use Rattle.fuxi_terms.proofs.Lookups.{by_record}
@@ -81,6 +81,11 @@ group_small (j ∷ js) h a =
     by true x y = x
     by false x y = y
 
+vector_past : (n : ℕ) (qs : List ℕ) (i : ℕ) → n ≤ i → is_vector_of n qs ≡ true → at_place qs i ≡ 0
+vector_past n qs i le h =
+    let long : length qs ≡ n = number_is _ _ (both_true (nat_eq (length qs) n) _ h).0 in
+    at_place-get_or qs i ∙ get_or-eq_default qs 0 (omega (arith, long, le))
+
 -- a group may have nothing of a resource that the cluster does not have
 pub limit_past : (c : ClusterRecord) → IsTrue (is_valid_cluster c) → (g i : ℕ) → c.resources ≤ i → limit_at c g i ≡ 0
 limit_past c v g i le =
@@ -88,15 +93,9 @@ limit_past c v g i le =
     let two : (is_between 1 32 (length c.groups) && list_all (is_valid_group c.resources) c.groups) ≡ true = (both_true (list_all (is_valid_machine c.resources) c.machines) _ (both_true (is_between 1 256 (length c.machines)) _ rest).1).1 in
     by c.groups g (both_true (is_between 1 32 (length c.groups)) _ two).1
   where
-    none : (qs : List ℕ) → is_vector_of c.resources qs ≡ true → at_place qs i ≡ 0
-    none qs h =
-        let t : nat_eq (length qs) c.resources ≡ true = (both_true (nat_eq (length qs) c.resources) _ h).0 in
-        let n : length qs ≡ c.resources = number_is _ _ t in
-        at_place-get_or qs i ∙ get_or-eq_default qs 0 (omega (arith, n, le))
-
     by : (gs : List GroupRecord) (g : ℕ) → list_all (is_valid_group c.resources) gs ≡ true → at_place (unwrap_or (slice_get gs g) no_group).limit i ≡ 0
     by [] g h = refl
-    by (x ∷ xs) zero h = none x.limit (both_true (is_vector_of c.resources x.limit) _ (both_true (is_vector_of c.resources x.quota) _ (both_true (is_valid_group c.resources x) _ h).0).1).0
+    by (x ∷ xs) zero h = vector_past c.resources x.limit i le (both_true (is_vector_of c.resources x.limit) _ (both_true (is_vector_of c.resources x.quota) _ (both_true (is_valid_group c.resources x) _ h).0).1).0
     by (x ∷ xs) (suc g) h = by xs g (both_true (is_valid_group c.resources x) _ h).1
 
 -- a machine has nothing of a resource that the cluster does not have
@@ -106,15 +105,9 @@ has_past c v m i le =
     let all : list_all (is_valid_machine c.resources) c.machines ≡ true = (both_true (list_all (is_valid_machine c.resources) c.machines) _ (both_true (is_between 1 256 (length c.machines)) _ rest).1).0 in
     by c.machines m all
   where
-    none : (qs : List ℕ) → is_vector_of c.resources qs ≡ true → at_place qs i ≡ 0
-    none qs h =
-        let t : nat_eq (length qs) c.resources ≡ true = (both_true (nat_eq (length qs) c.resources) _ h).0 in
-        let n : length qs ≡ c.resources = number_is _ _ t in
-        at_place-get_or qs i ∙ get_or-eq_default qs 0 (omega (arith, n, le))
-
     by : (ms : List MachineRecord) (m : ℕ) → list_all (is_valid_machine c.resources) ms ≡ true → at_place (unwrap_or (slice_get ms m) no_machine).has i ≡ 0
     by [] m h = refl
-    by (x ∷ xs) zero h = none x.has (both_true (nat_lt x.rack 64) _ (both_true (is_valid_machine c.resources x) (list_all (is_valid_machine c.resources) xs) h).0).1
+    by (x ∷ xs) zero h = vector_past c.resources x.has i le (both_true (nat_lt x.rack 64) _ (both_true (is_valid_machine c.resources x) (list_all (is_valid_machine c.resources) xs) h).0).1
     by (x ∷ xs) (suc m) h = by xs m (both_true (is_valid_machine c.resources x) (list_all (is_valid_machine c.resources) xs) h).1
 
 -- ---- what is read of a unit
@@ -134,3 +127,18 @@ rack_is ms m x e = by (slice_get ms m) e
     by : (o : Option MachineRecord) → option_map padded_machine o ≡ Some x → x.rack.0 ≡ (unwrap_or o no_machine).rack
     by None e = cc
     by (Some r) e = let same : padded_machine r ≡ x = cc in subst (λ (y : Machine). y.rack.0 ≡ r.rack) same refl
+
+-- a machine that is read has a rack that may be there
+pub rack_few : (k c : ClusterRecord) → k ≡ c → IsTrue (is_valid_cluster c) → (m : ℕ) → m < length c.machines → (x : Machine) → option_map padded_machine (slice_get k.machines m) ≡ Some x → x.rack.0 < 64
+rack_few k c same v m lt x e =
+    let is = rack_is k.machines m x e in
+    let small = rack_small c v m lt in
+    let rack = ap (λ (y : ClusterRecord). rack_of y m) same in
+    omega (arith, is, small, rack)
+
+-- what is read at a machine of an admitted unit
+pub avoided_at : (c : ClusterRecord) (first x : Cell) (w : Wish) → IsWish c first x → cell_of w ≡ x → (m y : ℕ) → m < length c.machines → y ≡ get_or w.avoided.items m y → y ≡ get_or x.avoided m 0
+avoided_at c first x w is cell m y lt e =
+    let long = is.avoided in
+    let same = ap (λ (z : Cell). length z.avoided) cell in
+    avoided_read w x cell m y (omega (arith, long, same, lt)) e

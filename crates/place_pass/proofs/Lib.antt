@@ -11,6 +11,7 @@ pub mod IdleKept
 mod BoundsLemmas
 mod BoundsAfterChange
 mod NumberedLemmas
+mod FlagsTellWhoWaits
 mod SightsLemmas
 mod CountsLemmas
 mod KeptLemmas

@@ -1,33 +1,45 @@
 -- A line that loses pairs and to whose end others are appended with new turns: what is kept of it, and what the tree holds meanwhile.
-use Rattle.std.proofs.Common.{◌≡◌, ℕ, ◌+◌, ◌-◌, ◌<◌, ◌≤◌, Bool, true, false, not, List, ◌++◌, length, filter, take, slice_get, Some, refl, sym, ap, subst, ◌∙◌, arith}
+use Rattle.std.proofs.Common.{◌≡◌, ℕ, ◌+◌, ◌-◌, ◌<◌, ◌≤◌, Bool, true, false, cond, not, nat_eq, List, [], ◌++◌, length, filter, take, get_or, slice_get, Some, refl, sym, ap, subst, ◌∙◌, arith}
 use Rattle.std.specs.Prelude.{◌&&◌}
 use Rattle.std.proofs.lemmas.List.{length-append}
 use Rattle.std.proofs.Math.Seq.{take-append_seam}
 use Rattle.fuxi_terms.specs.Cluster.{ClusterRecord}
 use Rattle.fuxi_terms.specs.Keys.{Spot}
+use Rattle.fuxi_terms.proofs.Alls.{all_filter}
 use Rattle.fuxi_terms.proofs.Booleans.{both_true}
+use Rattle.fuxi_terms.proofs.Lists.{all_at}
 use Rattle.written_roles.specs.Placing.{has_pair}
 use Rattle.grant_table.specs.Tables.{TableRecord}
-use Rattle.locality_tree.specs.Trees.{TreeRecord, unit_at}
-use Rattle.place_pass.specs.Bounds.{turn_at}
-use Rattle.place_pass.specs.Cells.{Cell}
+use Rattle.locality_tree.specs.Trees.{TreeRecord, unit_at, is_admitted}
+use Rattle.place_pass.specs.Best.{AreAdmitted}
+use Rattle.place_pass.specs.Bounds.{turn_at, Rises}
+use Rattle.place_pass.specs.Cells.{Cell, AreWishes}
 use Rattle.place_pass.specs.Placers.{KeptRecord, IsKept}
 use Rattle.place_pass.specs.Trees.{Holds, HoldsLine, AllStand}
+use Rattle.place_pass.proofs.CellsLemmas.{placed}
 use Rattle.place_pass.proofs.FirstByTurn.{has_at}
-use Rattle.place_pass.proofs.KeptLemmas.{kept_lined}
+use Rattle.place_pass.proofs.KeptLemmas.{kept_lined, rises_filter}
 use Rattle.place_pass.proofs.LinesLemmas.{has_filter}
 use Rattle.place_pass.proofs.NumberedLemmas.{numbered_end, has_end}
-use Rattle.place_pass.proofs.TreesLemmas.{holds_same, stands_on}
+use Rattle.place_pass.proofs.TreesLemmas.{admitted_in, holds_same, stands_on}
 use Rattle.place_pass.proofs.StandsAfterChange.{holds_turned}
-use Rattle.place_pass.proofs.StillLemmas.{joined_is}
+use Rattle.place_pass.proofs.StillLemmas.{joined_is, others_stay}
 
-module _ (line front all other : List (ℕ × ℕ)) (stayed : ℕ) (q : ℕ × ℕ → Bool) (k : KeptRecord) (turn_of : List ℕ) (kept : front ≡ filter q line) (waits : (p : ℕ × ℕ) → has_pair p all ≡ true → q p ≡ true) (appended : other ≡ front ++ filter (λ p. not (has_pair p front)) all) (long : stayed ≡ length front)
-    (small : (a u : ℕ) → has_pair (a, u) line ≡ true → u < 8) (others : (a u : ℕ) → u < 8 → ((i : ℕ) → stayed ≤ i → slice_get other i ≡ Some (a, u) → ⊥) → turn_at turn_of a u ≡ turn_at k.turn_of a u) where
+-- a line loses those that do not pass a test, and who passes it and was not there goes last, with a turn of its own
+pub record IsLinedUp (line front all other : List (ℕ × ℕ)) (stayed : ℕ) (q : ℕ × ℕ → Bool) (k : KeptRecord) (turn_of : List ℕ) : Type 0 where
+  pub kept : front ≡ filter q line
+  pub waits : (p : ℕ × ℕ) → has_pair p all ≡ true → q p ≡ true
+  pub appended : other ≡ front ++ filter (λ p. not (has_pair p front)) all
+  pub long : stayed ≡ length front
+  pub small : (a u : ℕ) → has_pair (a, u) line ≡ true → u < 8
+  pub others : (a u : ℕ) → u < 8 → ((i : ℕ) → stayed ≤ i → slice_get other i ≡ Some (a, u) → ⊥) → turn_at turn_of a u ≡ turn_at k.turn_of a u
+
+module _ {line front all other : List (ℕ × ℕ)} {stayed : ℕ} {q : ℕ × ℕ → Bool} {k : KeptRecord} {turn_of : List ℕ} (up : IsLinedUp line front all other stayed q k turn_of) where
   abbrev joined : List (ℕ × ℕ)
   joined = filter (λ p. not (has_pair p line)) all
 
-  is : other ≡ front ++ joined
-  is = joined_is line front all other q kept waits appended
+  pub lined_is : other ≡ front ++ filter (λ p. not (has_pair p line)) all
+  lined_is = joined_is line front all other q up.kept up.waits up.appended
 
   not_had : (p : ℕ × ℕ) → has_pair p joined ≡ true → has_pair p line ≡ false
   not_had p has = new (has_pair p line) (has_pair p all) (sym (has_filter (λ p. not (has_pair p line)) p all) ∙ has)
@@ -38,21 +50,21 @@ module _ (line front all other : List (ℕ × ℕ)) (stayed : ℕ) (q : ℕ × �
       new false y e = refl
 
   pub turns_stay : (a u : ℕ) → has_pair (a, u) line ≡ true → turn_at turn_of a u ≡ turn_at k.turn_of a u
-  turns_stay a u has = others a u (small a u has) (λ i ge e.
-      let j : has_pair (a, u) joined ≡ true = has_end stayed front joined other is long i (a, u) ge e (λ q i g. has_at joined i q g) in
+  turns_stay a u has = up.others a u (up.small a u has) (λ i ge e.
+      let j : has_pair (a, u) joined ≡ true = has_end stayed front joined other lined_is up.long i (a, u) ge e (λ q i g. has_at joined i q g) in
       let f : true ≡ false = sym has ∙ not_had (a, u) j in let g : ⊥ = cc in g)
 
   pub lined_kept : (cells : List (List Cell)) (o : List Bool) (turns : ℕ) (t : TableRecord) → ((i : ℕ) (p : ℕ × ℕ) → stayed ≤ i → slice_get other i ≡ Some p → turn_at turn_of p.0 p.1 ≡ turns + (i - stayed)) → IsKept cells o line turns k t
       → IsKept cells o other (turns + length joined) (record k { turn_of = turn_of }) t
-  lined_kept cells o turns t numbered h = subst (λ (l : List (ℕ × ℕ)). IsKept cells o l (turns + length joined) (record k { turn_of = turn_of }) t) (sym is)
-      (kept_lined cells o line front joined turns k t turn_of q kept not_had (numbered_end (λ (p : ℕ × ℕ). turn_at turn_of p.0 p.1) turns stayed front joined other is long numbered) (λ a u has _. turns_stay a u has) h)
+  lined_kept cells o turns t numbered h = subst (λ (l : List (ℕ × ℕ)). IsKept cells o l (turns + length joined) (record k { turn_of = turn_of }) t) (sym lined_is)
+      (kept_lined cells o line front joined turns k t turn_of q up.kept not_had (numbered_end (λ (p : ℕ × ℕ). turn_at turn_of p.0 p.1) turns stayed front joined other lined_is up.long numbered) (λ a u has _. turns_stay a u has) h)
 
   -- those that stay are the first of the new line
   front_taken : (p : ℕ × ℕ) → has_pair p (take stayed other) ≡ (has_pair p line && q p)
-  front_taken p = ap (λ n. has_pair p (take n other)) long ∙ ap (λ l. has_pair p (take (length front) l)) is ∙ ap (has_pair p) (take-append_seam front joined) ∙ ap (has_pair p) kept ∙ has_filter q p line
+  front_taken p = ap (λ n. has_pair p (take n other)) up.long ∙ ap (λ l. has_pair p (take (length front) l)) lined_is ∙ ap (has_pair p) (take-append_seam front joined) ∙ ap (has_pair p) up.kept ∙ has_filter q p line
 
   pub front_inside : stayed ≤ length other
-  front_inside = let l = ap length is ∙ length-append front joined in omega (arith, l, long)
+  front_inside = let l = ap length lined_is ∙ length-append front joined in let n = up.long in omega (arith, l, n)
 
   pub front_holds : (c : ClusterRecord) (cells : List (List Cell)) (t : TreeRecord) → Holds c cells (λ p. has_pair p line && q p) k.turn_of t → HoldsLine c cells (take stayed other) turn_of t
   front_holds c cells t h = holds_same c cells (λ p. has_pair p line && q p) (λ p. has_pair p (take stayed other)) turn_of t (λ a u. front_taken (a, u))
@@ -61,4 +73,42 @@ module _ (line front all other : List (ℕ × ℕ)) (stayed : ℕ) (q : ℕ × �
   pub front_stands : (c : ClusterRecord) (cells : List (List Cell)) (es : List (Spot × ℕ)) (t t' : TreeRecord) → t'.racks ≡ t.racks → ((a u : ℕ) → u < 8 → q (a, u) ≡ true → unit_at t' a u ≡ unit_at t a u) → AllStand c cells es line t → AllStand c cells es (take stayed other) t'
   front_stands c cells es t t' racks same h a u has =
       let b = both_true (has_pair (a, u) line) (q (a, u)) (sym (front_taken (a, u)) ∙ has) in
-      stands_on c cells es a u t t' racks (same a u (small a u b.0) b.1) (h a u b.0)
+      stands_on c cells es a u t t' racks (same a u (up.small a u b.0) b.1) (h a u b.0)
+
+-- ---- a line that one unit leaves unless it waits
+module _ (line : List (ℕ × ℕ)) (waits : Bool) (a u : ℕ) where
+  pub told_admitted : (cells : List (List Cell)) → AreAdmitted cells line → AreAdmitted cells (cond waits line (filter (λ p. not (nat_eq p.0 a && nat_eq p.1 u)) line))
+  told_admitted cells h = elim waits as (λ b. AreAdmitted cells (cond b line (filter (λ p. not (nat_eq p.0 a && nat_eq p.1 u)) line))) [
+    | true ↦ h
+    | false ↦ all_filter (λ (p : ℕ × ℕ). p.1 < length (get_or cells p.0 [])) (λ p. not (nat_eq p.0 a && nat_eq p.1 u)) line h
+  ]
+
+  pub told_rises : (f : ℕ × ℕ → ℕ) → Rises f line → Rises f (cond waits line (filter (λ p. not (nat_eq p.0 a && nat_eq p.1 u)) line))
+  told_rises f h = elim waits as (λ b. Rises f (cond b line (filter (λ p. not (nat_eq p.0 a && nat_eq p.1 u)) line))) [
+    | true ↦ h
+    | false ↦ rises_filter f (λ p. not (nat_eq p.0 a && nat_eq p.1 u)) line h
+  ]
+
+  -- who waits after it waited before, and so do those of other jobs
+  pub told_was : (p : ℕ × ℕ) → has_pair p (cond waits line (filter (λ p. not (nat_eq p.0 a && nat_eq p.1 u)) line)) ≡ true → has_pair p line ≡ true
+  told_was p = elim waits as (λ b. has_pair p (cond b line (filter (λ p. not (nat_eq p.0 a && nat_eq p.1 u)) line)) ≡ true → has_pair p line ≡ true) [
+    | true ↦ λ has. has
+    | false ↦ λ has. (both_true (has_pair p line) _ (sym (has_filter (λ p. not (nat_eq p.0 a && nat_eq p.1 u)) p line) ∙ has)).0
+  ]
+
+  pub told_others : (b v : ℕ) → nat_eq a b ≡ false → has_pair (b, v) (cond waits line (filter (λ p. not (nat_eq p.0 a && nat_eq p.1 u)) line)) ≡ has_pair (b, v) line
+  told_others b v f = elim waits as (λ x. has_pair (b, v) (cond x line (filter (λ p. not (nat_eq p.0 a && nat_eq p.1 u)) line)) ≡ has_pair (b, v) line) [
+    | true ↦ refl
+    | false ↦ others_stay line a u b v f
+  ]
+
+-- ---- a pair at a place of a line of admitted units
+module _ {c : ClusterRecord} {cells : List (List Cell)} {o : List Bool} (wishes : AreWishes c cells o) (line : List (ℕ × ℕ)) (admitted : AreAdmitted cells line) (i : ℕ) {q : ℕ × ℕ} (at : slice_get line i ≡ Some q) where
+  pub here_at : q.1 < length (get_or cells q.0 [])
+  here_at = all_at (λ (p : ℕ × ℕ). p.1 < length (get_or cells p.0 [])) line i q admitted at
+
+  pub placed_at : (q.0 < 256) × (q.1 < 8)
+  placed_at = placed c cells o wishes q.0 q.1 here_at
+
+  pub admitted_at : (waits : ℕ × ℕ → Bool) (turns : List ℕ) (t : TreeRecord) → Holds c cells waits turns t → is_admitted t q.0 q.1 ≡ true
+  admitted_at waits turns t h = admitted_in c cells waits turns t q.0 q.1 h placed_at.1 here_at

@@ -1,5 +1,5 @@
 -- What the program keeps of one unit, and what is asked at a key.
-use Rattle.std.specs.Prelude.{◌≡◌, ℕ, ◌+◌, ◌*◌, ◌<◌, ◌≤◌, Bool, cond, nat_eq, nat_lt, ◌&&◌, ◌||◌, List, [], ◌∷◌, length, map, replicate, Option, Some, None}
+use Rattle.std.specs.Prelude.{◌≡◌, ℕ, ◌+◌, ◌*◌, ◌<◌, ◌≤◌, Bool, cond, nat_eq, nat_lt, ◌&&◌, ◌||◌, List, [], ◌∷◌, length, map, replicate, Option, Some, None, true}
 use Rattle.std.specs.Global.{Vec}
 use Rattle.std.specs.List.{list_any}
 use Rattle.std.proofs.Common.{get_or}
@@ -11,6 +11,7 @@ use Rattle.fuxi_terms.specs.Counts.{count}
 use Rattle.fuxi_terms.specs.TallyKeys.{key, want_key, rack_key, avoid_key}
 use Rattle.fuxi_terms.specs.Lists.{below}
 use Rattle.fuxi_terms.specs.Jobs.{no_unit}
+use Rattle.fuxi_terms.specs.Vectors.{fits}
 use Rattle.place_pass.specs.declared.wishes.Wish.{Wish}
 
 -- the unit and its group; how many grants are wanted in all, by machine and by rack; and by machine, 1 where it is avoided
@@ -139,3 +140,7 @@ pub record AreWishes (c : ClusterRecord) (cells : List (List Cell)) (open_machin
   pub few : (a : ℕ) → length (get_or cells a []) ≤ 8
   pub unit : (a u : ℕ) → u < length (get_or cells a []) → IsWish c (cell_at cells a 0) (cell_at cells a u)
   pub opened : length open_machines ≡ length c.machines
+
+-- no admitted unit needs less of a resource
+pub record AreAbove (least : List ℕ) (cells : List (List Cell)) : Type 0 where
+  pub above : (a u : ℕ) → u < length (get_or cells a []) → fits least (cell_at cells a u).unit.size ≡ true

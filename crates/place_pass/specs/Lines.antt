@@ -1,24 +1,33 @@
 -- A line of pairs of a job and a unit, and its room.
-use Rattle.std.specs.Prelude.{ℕ, ◌+◌, Bool, nat_eq, nat_lt, ◌&&◌, List, length, map, filter}
-use Rattle.std.specs.List.{sum_by}
-use Rattle.std.specs.HashSet.{HashSet}
-use Rattle.indexmap.specs.IndexSet.{index_set_len, spare}
+use Rattle.std.specs.Prelude.{◌≡◌, ℕ, ◌+◌, ◌*◌, ◌<◌, Bool, true, false, nat_eq, nat_lt, ◌&&◌, List, length, map, filter, vec_capacity}
+use Rattle.std.specs.Global.{Vec}
+use Rattle.std.specs.List.{IsDistinct, sum_by}
+use Rattle.std.proofs.Common.{get_or}
+use Rattle.fuxi_terms.specs.Limits.{most_jobs, most_units}
 use Rattle.fuxi_terms.specs.declared.Key.{Key}
 use Rattle.fuxi_terms.specs.Keys.{Spot}
 use Rattle.fuxi_terms.specs.Lists.{below}
 use Rattle.written_roles.specs.Masters.{out_of}
-use Rattle.place_pass.specs.Cells.{Cell}
+use Rattle.written_roles.specs.Placing.{has_pair}
+use Rattle.place_pass.specs.Cells.{Cell, unit_places}
 
 -- the pairs in order, and for how many pairs there is room in all
 pub record LineRecord : Type 0 where
   pub pairs : List (ℕ × ℕ)
   pub room : ℕ
 
-abbrev pub line_record : {S : Type 0} → HashSet (ℕ × ℕ) S → LineRecord
-line_record s = record { pairs = s.keys; room = index_set_len s + spare s }
+abbrev pub line_record : Vec (ℕ × ℕ) → LineRecord
+line_record v = record { pairs = v.items; room = vec_capacity v }
 
 abbrev pub same_pair : ℕ × ℕ → ℕ × ℕ → Bool
 same_pair p q = nat_eq p.0 q.0 && nat_eq p.1 q.1
+
+-- each pair stands once in the line, and of each unit that there may be a flag says whether it waits
+pub record IsLine (pairs : List (ℕ × ℕ)) (waits : List Bool) : Type 0 where
+  pub distinct : IsDistinct same_pair pairs
+  pub places : length waits ≡ unit_places
+  pub there : (a u : ℕ) → has_pair (a, u) pairs ≡ true → (a < most_jobs) × (u < most_units)
+  pub waiting : (a u : ℕ) → a < most_jobs → u < most_units → get_or waits (a * 8 + u) false ≡ has_pair (a, u) pairs
 
 -- how many units are admitted
 abbrev pub units_in_all : List (List Cell) → ℕ

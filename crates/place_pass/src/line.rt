@@ -1,11 +1,13 @@
 //! The line of waiting pairs, in order.
 
-ghost use Rattle.std.specs.Prelude.{◌≡◌, ◌+◌, ◌<◌, ◌≤◌, ◌++◌, ◌∷◌, [], false};
-ghost use Rattle.indexmap.specs.IndexSet.{index_set_len, spare};
+ghost use Rattle.std.specs.Prelude.{◌≡◌, ◌+◌, ◌<◌, ◌≤◌, ◌++◌, ◌∷◌, [], true, false, Some, slice_get, vec_len, vec_capacity};
 ghost use Rattle.written_roles.specs.Placing.{has_pair};
+ghost use Rattle.place_pass.specs.Lines.{same_pair};
 
+use crate::search::slot;
+use crate::wishes::UNIT_PLACES;
 use fuxi_terms::OutOfMemory;
-use indexmap::IndexSet;
+use fuxi_terms::limits::{MOST_JOBS, MOST_UNITS};
 use schedule_unit::{AppNo, UnitNo};
 use std::alloc::Global;
 use std::marker::Model;
@@ -13,20 +15,25 @@ use std::marker::Model;
 /// The waiting pairs of a job and a unit, each once, in the order in which they began to wait.
 #[derive(Drop)]
 pub struct Line {
-    pairs: IndexSet<(u32, u8)>,
+    pairs: Vec<(u32, u8)>,
+    /// Whether a unit waits, 8 places for each job.
+    waits: Vec<bool>,
 }
 
 impl Model for Line {
-    ghost use Rattle.place_pass.specs.Lines.{LineRecord, line_record};
+    ghost use Rattle.place_pass.specs.Lines.{LineRecord, line_record, IsLine};
 
     ghost Value = { LineRecord };
 
     ghost view = { λ l. line_record l.pairs };
+
+    ghost invariant = { λ l. IsLine l.pairs.items l.waits.items };
 }
 
 impl Line {
-    ghost use Rattle.std.specs.Prelude.{◌≡◌, ℕ, ◌+◌, ◌<◌, ◌≤◌, ◌^◌, ◌++◌, ◌∷◌, [], false, length, slice_get, Some, IfOk, OnOk, OnErr};
+    ghost use Rattle.std.specs.Prelude.{◌≡◌, ℕ, ◌+◌, ◌<◌, ◌≤◌, ◌^◌, ◌++◌, ◌∷◌, ◌&&◌, [], false, not, nat_eq, length, filter, slice_get, Some, IfOk, OnOk, OnErr};
     ghost use Rattle.std.specs.List.{IsDistinct};
+    ghost use Rattle.fuxi_terms.specs.Limits.{most_jobs, most_units};
     ghost use Rattle.written_roles.specs.Placing.{has_pair};
     ghost use Rattle.place_pass.specs.Lines.{LineRecord, same_pair};
 
@@ -43,19 +50,19 @@ impl Line {
         requires { index < length self.now.pairs }
         ensures { slice_get self.now.pairs index ≡ Some (result.0.0, result.1.0) }
     {
-        match self.pairs.get_index(index) {
-            Some(pair) => (AppNo(pair.0), UnitNo(pair.1)),
-            None => unreachable!(),
-        }
+        let (app, unit) = self.pairs[index];
+        (AppNo(app), UnitNo(unit))
     }
 
     /// An empty line, with room for nothing.
-    pub(crate) fn new(alloc: Global) -> Line
-        ensures { result.pairs ≡ [] }
+    pub(crate) fn new(alloc: Global) -> Result<Line, OutOfMemory>
+        ensures { IfOk result (λ line. line.pairs ≡ []) }
     {
-        Line {
-            pairs: IndexSet::new(alloc),
-        }
+        let waits = Vec::from_elem(alloc, false, UNIT_PLACES)?;
+        Ok(Line {
+            pairs: Vec::new(alloc),
+            waits,
+        })
     }
 
     /// Room for so many pairs. The pairs stay, and no room is lost.
@@ -79,7 +86,14 @@ impl Line {
     pub(crate) fn has(&self, app: u32, unit: u8) -> bool
         ensures { result ≡ has_pair (app, unit) self.now.pairs }
     {
-        self.pairs.contains(&(app, unit))
+        let waits = &self.waits;
+        if app >= MOST_JOBS {
+            return false;
+        }
+        if unit as usize >= MOST_UNITS {
+            return false;
+        }
+        waits[slot(AppNo(app), UnitNo(unit))]
     }
 
     /// Takes all pairs out, and keeps the room.
@@ -88,28 +102,67 @@ impl Line {
         ensures room { self.old.room ≤ self.new.room }
     {
         self.pairs.clear();
+        self.waits.fill(false);
     }
 
     /// A new pair goes last. There must be room for it, so it takes no memory.
     pub(crate) fn push(&mut self, app: u32, unit: u8)
+        requires app { app < most_jobs }
+        requires unit { unit < most_units }
         requires new { has_pair (app, unit) self.old.pairs ≡ false }
         requires room { length self.old.pairs < self.old.room }
         ensures pairs { self.new.pairs ≡ self.old.pairs ++ (app, unit) ∷ [] }
         ensures room { self.old.room ≤ self.new.room }
     {
-        add(&mut self.pairs, (app, unit));
+        self.waits[slot(AppNo(app), UnitNo(unit))] = true;
+        add(&mut self.pairs, app, unit);
+    }
+
+    /// A pair leaves, where it is there. The others stay in their order.
+    pub(crate) fn remove(&mut self, app: u32, unit: u8)
+        requires app { app < most_jobs }
+        requires unit { unit < most_units }
+        ensures pairs { self.new.pairs ≡ filter (λ p. not (nat_eq p.0 app && nat_eq p.1 unit)) self.old.pairs }
+        ensures room { self.new.room ≡ self.old.room }
+    {
+        if !self.has(app, unit) {
+            return;
+        }
+        self.waits[slot(AppNo(app), UnitNo(unit))] = false;
+        let place = place_of(&self.pairs, app, unit);
+        self.pairs.remove(place);
     }
 }
 
 // A new pair goes last, where there is room. It takes no memory.
-fn add(pairs: &mut IndexSet<(u32, u8)>, pair: (u32, u8))
-    requires new { has_pair pair pairs.old.keys ≡ false }
-    requires room { 0 < spare pairs.old }
-    ensures keys { pairs.new.keys ≡ pairs.old.keys ++ pair ∷ [] }
-    ensures room { index_set_len pairs.old + spare pairs.old ≤ index_set_len pairs.new + spare pairs.new }
+fn add(pairs: &mut Vec<(u32, u8)>, app: u32, unit: u8)
+    requires { vec_len pairs.old < vec_capacity pairs.old }
+    ensures items { pairs.new.items ≡ pairs.old.items ++ (app, unit) ∷ [] }
+    ensures room { vec_capacity pairs.old ≤ vec_capacity pairs.new }
 {
-    match pairs.insert(pair) {
-        Ok(_) => {}
+    match pairs.push((app, unit)) {
+        Ok(()) => {}
         Err(_) => unreachable!(),
     }
+}
+
+// Whether a pair is that of this job and this unit.
+fn is_pair(pair: (u32, u8), app: u32, unit: u8) -> bool
+    ensures { result ≡ same_pair (app, unit) (pair.0, pair.1) }
+{
+    pair.0 == app && pair.1 == unit
+}
+
+// Where a pair stands that is there.
+fn place_of(pairs: &[(u32, u8)], app: u32, unit: u8) -> usize
+    requires { has_pair (app, unit) pairs.now ≡ true }
+    ensures { slice_get pairs.now result ≡ Some (app, unit) }
+{
+    for place in 0..pairs.len() {
+        let pair = pairs[place];
+        if is_pair(pair, app, unit) {
+            return place;
+        }
+    }
+    unreachable!()
 }

@@ -4,7 +4,7 @@ use crate::line::Line;
 use crate::marks::{Mark, forget_groups, fresh_marks, reset_one, tell, tell_demand};
 use crate::search::{first, slot};
 use crate::standing::{enter_line, tell_asked, tell_spot};
-use crate::waiting::{calm_all, join, keep_others, leave, number_from, stir};
+use crate::waiting::{calm_all, join, leave, leave_served, number_from, stir};
 use crate::wishes::{UNIT_PLACES, Wishes, fresh_units};
 use cluster_desc::Cluster;
 use fuxi_terms::OutOfMemory;
@@ -15,7 +15,6 @@ use party_ledgers::Demand;
 use schedule_unit::{AppNo, Job, MachineNo, UnitNo};
 use std::alloc::Global;
 use std::marker::Model;
-use std::mem;
 use std::sync::ledger::Ledger;
 
 /// What placing knows beside a table of grants: the admitted units, what is asked of each, which machines are
@@ -107,10 +106,12 @@ impl Placer {
         let held = Vec::from_elem(alloc, 0, UNIT_PLACES)?;
         let tree = Tree::start(alloc, cluster)?;
         let calm = Vec::from_elem(alloc, false, MOST_JOBS as usize)?;
+        let line = Line::new(alloc)?;
+        let other = Line::new(alloc)?;
         Ok(Placer {
             wishes,
-            line: Line::new(alloc),
-            other: Line::new(alloc),
+            line,
+            other,
             units: 0,
             turns: 0,
             idle: false,
@@ -219,11 +220,7 @@ impl Placer {
             unit,
             machine,
         );
-        if self.wishes.outstanding(table, app, unit) == 0 {
-            self.other.clear();
-            keep_others(&mut self.other, &self.line, &self.wishes, app, unit);
-            mem::swap(&mut self.line, &mut self.other);
-        }
+        leave_served(&mut self.line, &self.wishes, table, app, unit);
     }
 
     /// The machine is reported and not banned, or it is not. An idle placer stays so unless a closed machine is

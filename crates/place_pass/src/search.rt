@@ -60,7 +60,7 @@ pub(crate) struct Scene<'a> {
 }
 
 impl Wishes {
-    ghost use Rattle.std.specs.Prelude.{◌≡◌, ◌<◌, ◌&&◌, [], length};
+    ghost use Rattle.std.specs.Prelude.{◌≡◌, ℕ, ◌<◌, ◌&&◌, true, false, [], length};
     ghost use Rattle.std.proofs.Common.{get_or};
     ghost use Rattle.written_roles.specs.Masters.{out_of, level_of};
     ghost use Rattle.written_roles.specs.Placing.{is_allowed_in, accepts_in, has_room_in};
@@ -134,6 +134,16 @@ impl Wishes {
         fits(&wish.size, free)
     }
 
+    // Whether so little is free that a machine of which this is all has room for no unit.
+    fn is_full(&self, table: &GrantTable, free: &Res) -> bool
+        requires level { AreLevel self.now.cluster (job_at self.now.cells) table.now }
+        ensures { result ≡ true → (m a u : ℕ) → IsFree table.now m free.now.q → u < length (get_or self.now.cells a []) → has_room_in table.now.cluster (board_over self.now.cells self.now.opened table.now).sizes table.now.entries a u m ≡ false }
+    {
+        let _table = table.cluster();
+        let _wishes = self.cluster();
+        self.none_fits(free)
+    }
+
     // The level of the unit on the machine.
     fn level(&self, table: &GrantTable, app: AppNo, unit: UnitNo, machine: MachineNo) -> u8
         requires level { AreLevel self.now.cluster (job_at self.now.cells) table.now }
@@ -141,11 +151,9 @@ impl Wishes {
         requires machine { machine.0 < length table.now.cluster.machines }
         ensures { result ≡ level_of table.now.cluster (asks_in self.now.cells) table.now.entries app.0 unit.0 machine.0 }
     {
-        let wish = self.wish(app, unit);
-        let rack = table.cluster().machine(machine).rack;
-        if table.held_on(app, unit, machine) < wish.near[machine.0 as usize] {
+        if self.is_unmet_on(table, app, unit, machine) {
             0
-        } else if table.held_in_rack(app, unit, rack) < wish.racks[rack.0 as usize] {
+        } else if self.is_near_rack(table, app, unit, machine) {
             1
         } else {
             2
@@ -166,9 +174,8 @@ impl Wishes {
         requires machine { machine.0 < length table.now.cluster.machines }
         ensures { result ≡ is_nearer_in (board_over self.now.cells self.now.opened table.now) table.now.entries (spot app.0 unit.0 machine.0) }
     {
-        let wish = self.wish(app, unit);
         let rack = table.cluster().machine(machine).rack;
-        table.held_in_rack(app, unit, rack) < wish.racks[rack.0 as usize]
+        self.is_unmet_in(table, app, unit, rack)
     }
 }
 
@@ -428,7 +435,8 @@ fn best_on(
     None
 }
 
-// The best placeable pair on one machine: of all pairs of the line, and where none that was looked at is placeable, of the others.
+// The best placeable pair on one machine: of all pairs of the line, and where none that was looked at is placeable, of the others. A
+// machine that has room for no unit is told without a look at any pair.
 fn see(scene: &Scene<'_>, machine: MachineNo, free: &Res, mark: &mut Mark) -> Option<Sight>
     requires ready { CanSearch scene.now }
     requires machine { machine.0 < length scene.now.table.now.cluster.machines }
@@ -436,6 +444,10 @@ fn see(scene: &Scene<'_>, machine: MachineNo, free: &Res, mark: &mut Mark) -> Op
     requires old { AreBounded (board_in scene.now) scene.now.table.now.entries (turn_in scene.now.turn_of.now) scene.now.line.now.pairs (mark_of mark.old) machine.0 }
     ensures { IsBestOn scene.now machine.0 mark.new.groups result }
 {
+    if scene.wishes.is_full(scene.table, free) {
+        mark.groups = [false; 32];
+        return None;
+    }
     if mark.bound.is_none() {
         let from = place_from(scene, mark.until);
         return best_from(scene, machine, free, from, &mut mark.groups);

@@ -31,8 +31,14 @@ impl Wishes {
     ghost use Rattle.grant_table.specs.Tables.{as_known};
     ghost use Rattle.place_pass.specs.Trees.{is_unmet_on, is_unmet_in};
 
-    // Whether the unit asks for more on the machine than it has there.
-    fn is_unmet_on(&self, table: &GrantTable, app: AppNo, unit: UnitNo, machine: MachineNo) -> bool
+    /// Whether the unit asks for more on the machine than it has there.
+    pub(crate) fn is_unmet_on(
+        &self,
+        table: &GrantTable,
+        app: AppNo,
+        unit: UnitNo,
+        machine: MachineNo,
+    ) -> bool
         requires cluster { self.now.cluster ≡ table.now.cluster }
         requires here { unit.0 < length (get_or self.now.cells app.0 []) }
         requires there { unit.0 < unit_count (as_known table.now.jobs) app.0 }
@@ -43,8 +49,14 @@ impl Wishes {
         table.held_on(app, unit, machine) < wish.near[machine.0 as usize]
     }
 
-    // Whether the unit asks for more in the rack than it has there.
-    fn is_unmet_in(&self, table: &GrantTable, app: AppNo, unit: UnitNo, rack: RackNo) -> bool
+    /// Whether the unit asks for more in the rack than it has there.
+    pub(crate) fn is_unmet_in(
+        &self,
+        table: &GrantTable,
+        app: AppNo,
+        unit: UnitNo,
+        rack: RackNo,
+    ) -> bool
         requires cluster { self.now.cluster ≡ table.now.cluster }
         requires here { unit.0 < length (get_or self.now.cells app.0 []) }
         requires there { unit.0 < unit_count (as_known table.now.jobs) app.0 }

@@ -2,7 +2,7 @@
 //! leaves the line is not written again. A line that loses pairs is written into a second one whose room was made when jobs were
 //! admitted, so it takes no memory.
 
-ghost use Rattle.std.specs.Prelude.{◌≡◌, ℕ, ◌+◌, ◌<◌, ◌≤◌, ◌++◌, ◌∷◌, [], ◌&&◌, ◌-◌, ◌^◌, Some, slice_get, true, false, not, nat_eq, nat_lt, length, filter, map};
+ghost use Rattle.std.specs.Prelude.{◌≡◌, ℕ, ◌+◌, ◌<◌, ◌≤◌, ◌++◌, ◌∷◌, [], ◌&&◌, ◌-◌, ◌^◌, Some, slice_get, true, false, not, cond, nat_eq, nat_lt, length, filter, map};
 ghost use Rattle.std.proofs.Common.{get_or};
 ghost use Rattle.std.specs.List.{sum_by, flat_map};
 ghost use Rattle.fuxi_terms.specs.Cluster.{JobRecord};
@@ -63,6 +63,7 @@ fn add_unit(next: &mut Line, wishes: &Wishes, app: AppNo, unit: UnitNo)
     ensures admitted { AreAdmitted wishes.now.cells next.new.pairs }
     ensures room { next.old.room ≤ next.new.room }
 {
+    let _wishes = wishes.cluster();
     next.distinct();
     next.push(app.0, unit.0);
 }
@@ -87,30 +88,24 @@ fn keep(next: &mut Line, line: &Line, wishes: &Wishes, table: &GrantTable)
     }
 }
 
-// Whether a pair is that of this job and this unit.
-fn is_pair(other: AppNo, number: UnitNo, app: AppNo, unit: UnitNo) -> bool
-    ensures { result ≡ (nat_eq other.0 app.0 && nat_eq number.0 unit.0) }
+/// Told that a unit has another number: with nothing out it leaves the line.
+pub(crate) fn leave_served(
+    line: &mut Line,
+    wishes: &Wishes,
+    table: &GrantTable,
+    app: AppNo,
+    unit: UnitNo,
+)
+    requires here { unit.0 < length (get_or wishes.now.cells app.0 []) }
+    requires there { unit.0 < unit_count (as_known table.now.jobs) app.0 }
+    ensures pairs { line.new.pairs ≡ cond (nat_lt 0 (out_of (asks_in wishes.now.cells) table.now.entries app.0 unit.0)) line.old.pairs (filter (λ p. not (nat_eq p.0 app.0 && nat_eq p.1 unit.0)) line.old.pairs) }
+    ensures room { line.new.room ≡ line.old.room }
 {
-    other.0 == app.0 && number.0 == unit.0
-}
-
-/// The line without one pair, in its order.
-pub(crate) fn keep_others(next: &mut Line, line: &Line, wishes: &Wishes, app: AppNo, unit: UnitNo)
-    requires empty { next.old.pairs ≡ [] }
-    requires admitted { AreAdmitted wishes.now.cells line.now.pairs }
-    requires room { units_in_all wishes.now.cells ≤ next.old.room }
-    ensures pairs { next.new.pairs ≡ filter (λ p. not (nat_eq p.0 app.0 && nat_eq p.1 unit.0)) line.now.pairs }
-    ensures admitted { AreAdmitted wishes.now.cells next.new.pairs }
-    ensures room { next.old.room ≤ next.new.room }
-{
-    line.distinct();
-    for place in 0..line.len() {
-        let (other, number) = line.at(place);
-        if is_pair(other, number, app, unit) {
-            continue;
-        }
-        add_unit(next, wishes, other, number);
+    let _wishes = wishes.cluster();
+    if wishes.outstanding(table, app, unit) > 0 {
+        return;
     }
+    line.remove(app.0, unit.0);
 }
 
 // Whether a unit of one job stands in the line and has nothing out.

@@ -1,6 +1,6 @@
 //! What the admitted units are and what is asked of them, by job number and unit, and the machines that are open.
 
-ghost use Rattle.std.specs.Prelude.{◌≡◌, ℕ, ◌+◌, ◌<◌, ◌≤◌, ◌&&◌, true, false, nat_eq, nat_lt, cond, List, [], length, map, replicate, IfOk};
+ghost use Rattle.std.specs.Prelude.{◌≡◌, ℕ, ◌+◌, ◌<◌, ◌≤◌, ◌&&◌, true, false, nat_eq, nat_lt, min, cond, List, [], length, map, replicate, IfOk};
 ghost use Rattle.std.proofs.Common.{get_or};
 ghost use Rattle.std.specs.List.{list_any};
 ghost use Rattle.fuxi_terms.specs.Keys.{key_cmp};
@@ -8,6 +8,7 @@ ghost use Rattle.fuxi_terms.specs.Counts.{count};
 ghost use Rattle.fuxi_terms.specs.Cluster.{has_rack};
 ghost use Rattle.fuxi_terms.specs.TallyKeys.{key, rack_key};
 ghost use Rattle.fuxi_terms.specs.Limits.{most_jobs};
+ghost use Rattle.fuxi_terms.specs.Vectors.{fits};
 ghost use Rattle.std.specs.Ordering.{is_lt};
 ghost use Rattle.place_pass.specs.Walks.{IsPast};
 ghost use Rattle.place_pass.specs.Cells.{Cell, cell_of, cells_in, cells_of, cell_at, no_cell, fresh_cells, numbers_at, racks_at, taken, taken_all, any_gone, asks_more, any_more};
@@ -17,7 +18,7 @@ use fuxi_terms::limits::{MOST_JOBS, MOST_RACKS, MOST_UNITS};
 use fuxi_terms::tally_keys::{AVOID, NEAR, RACK, WANT};
 use fuxi_terms::{Key, OutOfMemory};
 use party_ledgers::Demand;
-use res_vector::Res;
+use res_vector::{Res, fits};
 use schedule_unit::{AppNo, GroupNo, Job, MachineNo, RackNo, UnitNo};
 use std::alloc::Global;
 use std::marker::Model;
@@ -50,16 +51,18 @@ pub(crate) struct Wishes {
     slots: Vec<Vec<Wish>>,
     /// By machine.
     opened: Vec<bool>,
+    /// Of each resource, what no admitted unit needs less of.
+    least: Res,
 }
 
 impl Model for Wishes {
-    ghost use Rattle.place_pass.specs.Cells.{WishesRecord, wishes_record, AreWishes, cells_of};
+    ghost use Rattle.place_pass.specs.Cells.{WishesRecord, wishes_record, AreWishes, AreAbove, cells_of};
 
     ghost Value = { WishesRecord };
 
     ghost view = { λ w. wishes_record w.cluster w.slots.items w.opened.items };
 
-    ghost invariant = { λ w. AreWishes w.cluster (cells_of w.slots.items) w.opened.items };
+    ghost invariant = { λ w. AreWishes w.cluster (cells_of w.slots.items) w.opened.items × AreAbove w.least.q (cells_of w.slots.items) };
 }
 
 impl Wishes {
@@ -67,6 +70,7 @@ impl Wishes {
     ghost use Rattle.std.proofs.Common.{get_or};
     ghost use Rattle.fuxi_terms.specs.Limits.{most_jobs};
     ghost use Rattle.fuxi_terms.specs.TallyKeys.{avoid_key};
+    ghost use Rattle.fuxi_terms.specs.Vectors.{fits};
     ghost use Rattle.place_pass.specs.Cells.{WishesRecord, AreWishes, Lifts, AvoidsStill, asks_in, cell_of, cell_at, cells_in, fresh_cells, taken_all, any_more};
     ghost use Rattle.place_pass.specs.Placers.{is_open_to};
 
@@ -79,6 +83,7 @@ impl Wishes {
             cluster: cluster.copy(alloc)?,
             slots: empty_slots(alloc)?,
             opened: Vec::from_elem(alloc, false, machines)?,
+            least: Res { q: [u64::MAX; 8] },
         })
     }
 
@@ -95,6 +100,7 @@ impl Wishes {
         requires { cells_in units ≡ fresh_cells job.now.group (length self.old.cluster.machines) job.now.units }
         ensures { self.new ≡ record self.old { cells = set self.old.cells job.now.number (fresh_cells job.now.group (length self.old.cluster.machines) job.now.units) } }
     {
+        self.least = least_of(&self.least, &units);
         self.slots[job.app().0 as usize] = units;
     }
 
@@ -124,6 +130,13 @@ impl Wishes {
     {
         let number = machine.0 as usize;
         number < self.opened.len() && self.opened[number]
+    }
+
+    /// Whether so little is free that no admitted unit fits.
+    pub(crate) fn none_fits(&self, free: &Res) -> bool
+        ensures { result ≡ true → (a u : ℕ) → u < length (get_or self.now.cells a []) → fits (cell_at self.now.cells a u).unit.size free.now.q ≡ false }
+    {
+        !fits(&self.least, free)
     }
 
     /// How many units of the job are admitted, at most 8.
@@ -220,6 +233,29 @@ impl Wishes {
     {
         wish_at(&self.slots, app.0 as usize, unit.0 as usize)
     }
+}
+
+// The lesser of each resource.
+fn lesser(a: &Res, b: &Res) -> Res
+    ensures { (i : ℕ) → get_or result.q i 0 ≡ min (get_or a.now.q i 0) (get_or b.now.q i 0) }
+{
+    let mut q = a.q;
+    for i in 0..8 {
+        q[i] = a.q[i].min(b.q[i]);
+    }
+    Res { q }
+}
+
+// What no unit needs less of: neither those of which this was known, nor these.
+fn least_of(least: &Res, units: &Vec<Wish>) -> Res
+    ensures known { fits result.q least.now.q ≡ true }
+    ensures above { (u : ℕ) → u < length (cells_in units.now) → fits result.q (get_or (cells_in units.now) u no_cell).unit.size ≡ true }
+{
+    let mut lower = *least;
+    for number in 0..units.len() {
+        lower = lesser(&lower, &units[number].size);
+    }
+    lower
 }
 
 // A unit by job number and unit.

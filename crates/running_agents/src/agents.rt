@@ -11,7 +11,7 @@ ghost use Rattle.running_agents.specs.Slots.{HearsAtSlot, ForgetsAtSlot};
 
 use agent_core::Agent;
 use cluster_desc::Cluster;
-use core_join::{agent_hears, agent_resyncs, agent_starts, agent_turns};
+use core_join::agents_in_world;
 use ledger_law::OutOfMemory;
 use party_ledgers::{Heard, Kind, Packet, Packets};
 use res_vector::Res;
@@ -68,10 +68,11 @@ fn hear_slot(
     ensures ok { IfOk result (HearsAtSlot packet.now slot.old slot.new) }
     ensures err { OnErr result (slot.new ≡ None) }
 {
+    agents_in_world();
     let Some(agent) = slot.take() else {
         return Ok(None);
     };
-    let (agent, heard) = agent_hears(agent, alloc, packet)?;
+    let (agent, heard) = agent.on_packet(alloc, packet)?;
     *slot = Some(agent);
     Ok(Some(heard))
 }
@@ -81,10 +82,11 @@ fn resync_slot(slot: &mut Option<Agent>) -> bool
     requires { MayStep slot.old }
     ensures { ForgetsAtSlot slot.old slot.new result }
 {
+    agents_in_world();
     let Some(agent) = slot else {
         return false;
     };
-    agent_resyncs(agent);
+    agent.resync();
     true
 }
 
@@ -137,9 +139,10 @@ impl Agents {
         ensures wide { length self.new.agents ≡ length self.old.agents }
         ensures err { OnErr result (self.new ≡ self.old) }
     {
+        agents_in_world();
         // The number of the machine is one of a cluster's, since there are no more slots.
         let _slots = self.agents.len();
-        let agent = agent_starts(alloc, machine, has, boot)?;
+        let agent = Agent::start(alloc, machine, has, boot)?;
         self.agents[machine.0 as usize] = Some(agent);
         self.boots[machine.0 as usize] = boot;
         Ok(())
@@ -169,10 +172,11 @@ impl Agents {
         ensures world { IfOk result (TurnInWorld machine.0 self.now) }
         ensures formed { IfOk result (λ packets. IfSome packets (AllByRecursion IsSent)) }
     {
+        agents_in_world();
         let Some(agent) = self.get(machine) else {
             return Ok(None);
         };
-        let packets = agent_turns(agent, alloc)?;
+        let packets = agent.turn(alloc)?;
         Ok(Some(packets))
     }
 

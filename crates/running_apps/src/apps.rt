@@ -15,7 +15,7 @@ ghost use Rattle.running_apps.specs.Slots.{HearsAtSlot, AsksAtSlot, ForgetsAtSlo
 use crate::asking::{AppAsk, ask_app};
 use app_master::{AppFault, AppMaster};
 use cluster_desc::Cluster;
-use core_join::{app_hears, app_resyncs, app_starts, app_turns};
+use core_join::apps_in_world;
 use fuxi_terms::limits::MOST_JOBS;
 use ledger_law::OutOfMemory;
 use party_ledgers::{Heard, Kind, Packet, Packets};
@@ -73,16 +73,17 @@ fn hear_slot(
     alloc: Global,
     packet: &Packet,
 ) -> Result<Option<Heard>, OutOfMemory>
+    requires steps { MayStep slot.old }
     requires formed { IsFormed packet.now }
     requires no_end { packet.now.kind ≡ Kind.End → ⊥ }
-    requires steps { MayStep slot.old }
     ensures ok { IfOk result (HearsAtSlot packet.now slot.old slot.new) }
     ensures err { OnErr result (slot.new ≡ None) }
 {
+    apps_in_world();
     let Some(app) = slot.take() else {
         return Ok(None);
     };
-    let (app, heard) = app_hears(app, alloc, packet)?;
+    let (app, heard) = app.on_packet(alloc, packet)?;
     *slot = Some(app);
     Ok(Some(heard))
 }
@@ -96,6 +97,7 @@ fn ask_slot(
     requires { MayStep slot.old }
     ensures { AsksAtSlot (command_of ask) slot.old slot.new result }
 {
+    apps_in_world();
     let Some(app) = slot else {
         return None;
     };
@@ -107,10 +109,11 @@ fn resync_slot(slot: &mut Option<AppMaster>) -> bool
     requires { MayStep slot.old }
     ensures { ForgetsAtSlot slot.old slot.new result }
 {
+    apps_in_world();
     let Some(app) = slot else {
         return false;
     };
-    app_resyncs(app);
+    app.resync();
     true
 }
 
@@ -163,8 +166,9 @@ impl Apps {
         ensures within { (n : ℕ) → AreWithin n self.old → AreWithin n self.new }
         ensures err { OnErr result (self.new ≡ self.old) }
     {
+        apps_in_world();
         let _slots = self.apps.len();
-        let core = app_starts(alloc, app, units, cluster, boot)?;
+        let core = AppMaster::start(alloc, app, units, cluster, boot)?;
         self.apps[app.0 as usize] = Some(core);
         self.boots[app.0 as usize] = boot;
         Ok(())
@@ -206,10 +210,11 @@ impl Apps {
         ensures world { IfOk result (TurnInWorld app.0 self.now) }
         ensures formed { IfOk result (λ packets. IfSome packets (AllByRecursion IsSent)) }
     {
+        apps_in_world();
         let Some(core) = self.get(app) else {
             return Ok(None);
         };
-        let packets = app_turns(core, alloc)?;
+        let packets = core.turn(alloc)?;
         Ok(Some(packets))
     }
 

@@ -2,11 +2,10 @@
 
 ghost use Rattle.std.specs.Prelude.{◌≡◌, ◌+◌, ◌<◌, OnOk, OnErr};
 ghost use Rattle.fuxi_terms.specs.Limits.{most_steps};
-ghost use Rattle.core_join.specs.Apps.{AsksInWorld};
+ghost use Rattle.app_master.specs.Commands.{Commands};
 ghost use Rattle.running_apps.specs.Running.{command_of};
 
 use app_master::{AppFault, AppMaster};
-use core_join::{app_avoids, app_gives_back, app_wants, app_wants_in_rack, app_wants_near};
 use schedule_unit::{MachineNo, RackNo, UnitNo};
 use std::alloc::Global;
 
@@ -61,23 +60,23 @@ pub enum AppAsk {
 // An application is asked. After a fault it is as it was.
 pub(crate) fn ask_app(app: &mut AppMaster, alloc: Global, ask: AppAsk) -> Result<(), AppFault>
     requires { app.old.steps < most_steps }
-    ensures world { AsksInWorld (command_of ask) app.old result app.new }
+    ensures answers { Commands (command_of ask) app.old result app.new }
     ensures steps { OnOk result (app.new.steps ≡ app.old.steps + 1) }
     ensures err { OnErr result (app.new ≡ app.old) }
 {
     match ask {
-        AppAsk::Want { unit, count } => app_wants(app, alloc, unit, count),
+        AppAsk::Want { unit, count } => app.want(alloc, unit, count),
         AppAsk::Near {
             unit,
             machine,
             count,
-        } => app_wants_near(app, alloc, unit, machine, count),
-        AppAsk::Rack { unit, rack, count } => app_wants_in_rack(app, alloc, unit, rack, count),
-        AppAsk::Avoid { unit, machine, yes } => app_avoids(app, alloc, unit, machine, yes),
+        } => app.near(alloc, unit, machine, count),
+        AppAsk::Rack { unit, rack, count } => app.rack(alloc, unit, rack, count),
+        AppAsk::Avoid { unit, machine, yes } => app.avoid(alloc, unit, machine, yes),
         AppAsk::GiveBack {
             unit,
             machine,
             count,
-        } => app_gives_back(app, alloc, unit, machine, count),
+        } => app.give_back(alloc, unit, machine, count),
     }
 }

@@ -1,4 +1,4 @@
 pub mod Entries
-pub mod Standing
-pub mod Starting
-pub mod Calling
+pub mod MastersStay
+pub mod StartsAndStops
+pub mod CallsLemmas

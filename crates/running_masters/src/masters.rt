@@ -18,7 +18,7 @@ ghost use Rattle.running_masters.specs.Inside.{Steps};
 
 use crate::places::{insert, place_of, push, remove};
 use cluster_desc::Cluster;
-use core_join::{master_starts, master_steps};
+use core_join::masters_in_world;
 use fuxi_master::{Master, MasterEvent, Outcome};
 use fuxi_terms::OutOfMemory;
 use hard_state::Hard;
@@ -134,7 +134,8 @@ impl Masters {
         ensures steps { OnOk result ((n : ℕ) → AreWithin n self.old → AreWithin n self.new) }
         ensures unchanged { OnErr result (self.new ≡ self.old) }
     {
-        let master = match master_starts(alloc, cluster, epoch, hard) {
+        masters_in_world();
+        let master = match Master::start(alloc, cluster, epoch, hard) {
             Ok(master) => master,
             Err(OutOfMemory) => return Err(OutOfMemory),
         };
@@ -172,8 +173,9 @@ impl Masters {
         let Some(at) = place_of(&masters, epoch) else {
             return Ok((Masters { masters }, None));
         };
+        masters_in_world();
         let (_, master) = masters.remove(at);
-        let (master, outcome) = master_steps(master, alloc, event)?;
+        let (master, outcome) = master.step(alloc, event)?;
         insert(&mut masters, at, epoch, master)?;
         Ok((Masters { masters }, Some(outcome)))
     }

@@ -3,6 +3,7 @@ use Rattle.std.proofs.Common.{◌≡◌, ℕ, ◌<◌, ◌≤◌, Bool, cond, na
 use Rattle.std.specs.Prelude.{◌&&◌, ◌||◌}
 use Rattle.std.proofs.lemmas.Bool.Decides.{nat_tests}
 use Rattle.fuxi_terms.proofs.Booleans.{both_true, same_tests}
+use Rattle.fuxi_terms.specs.Cluster.{ClusterRecord}
 use Rattle.fuxi_terms.specs.Limits.{most_jobs}
 use Rattle.schedule_unit.specs.declared.asks.Ask.{Ask}
 use Rattle.schedule_unit.specs.declared.party.AppNo.{AppNo}
@@ -34,8 +35,8 @@ use Rattle.schedule_replay.specs.declared.halts.Stop.{Stop}
 use Rattle.schedule_replay.specs.Texts.{lines_text}
 use Rattle.schedule_replay.specs.Worlds.{WorldRecord}
 use Rattle.schedule_replay.specs.Moves.{Acts}
-use Rattle.schedule_replay.specs.Commands.{Governing, IsGoverning, MayStart, MayWrite, TakesStep, governing}
-use Rattle.schedule_replay.specs.Halts.{Halts, IsHalted, IsWithin, WritesAs}
+use Rattle.schedule_replay.specs.Commands.{Governing, IsGoverning, MayStart, MayWrite, StartsIn, TakesStep, WritesIn, governing}
+use Rattle.schedule_replay.specs.Halts.{Halts, HaltsAfter, IsHalted, IsWithin, WritesAs}
 use Rattle.schedule_replay.proofs.LineEvents.{below, not_below}
 use Rattle.schedule_replay.proofs.CommandSteps.{told_is, told_step, writes_done, writes_refused}
 use Rattle.schedule_replay.proofs.CommandsLemmas.{raise_done, raise_refused}
@@ -69,6 +70,24 @@ start_writes w e may = record {
   fails = λ r says. raise_refused w e r may says;
   done = λ k says. let step = raise_done w e k may says in (ap (λ (t : Step). t.world.hard) step, ap (λ (t : Step). t.lines) step);
 }
+
+-- what the tests of a line say of it
+abbrev pub TestsSay : World → Step → ℕ → HardEvent → Result (Unit {0}) Refusal → Type 0
+TestsSay w s e v (Ok passed) = WritesAs w s e v
+TestsSay w s e v (Err refusal) = s ≡ refused w (as_refusal refusal)
+
+pub command_says : (w : World) (e : ℕ) (x : MasterCommand) (v : HardEvent) (g : Governing) (tests : Result (Unit {0}) Refusal) → IsGoverning w g → WritesIn w e x v tests → TestsSay w (commanded w e x) e v tests
+command_says w e x v g (Ok passed) s may = command_writes w e x v g s may
+command_says w e x v g (Err refusal) s is = is
+
+pub start_says : (w : World) (e : ℕ) (tests : Result (Unit {0}) Refusal) → StartsIn w e tests → TestsSay w (start_master w e) e Raise tests
+start_says w e (Ok passed) may = start_writes w e may
+start_says w e (Err refusal) is = is
+
+pub halts_after : (c : ClusterRecord) (x : Event) (v : HardEvent) (stop : Stop) (old new : Governing) (tests : Result (Unit {0}) Refusal) (line : Output)
+    → ((w : World) → c ≡ w.cluster → IsGoverning w old → TestsSay w (act w x) (writer_of x) v tests) → HaltsAfter (writer_of x) tests v stop old new line → Halts c x stop old new line
+halts_after c x v stop old new (Ok passed) line say halts w same s = halts w x s refl (say w same s)
+halts_after c x v stop old new (Err refusal) line say halts w same s = halts w x s refl (say w same s)
 
 -- The step of a stop, from that of its line
 halt_is : (w : World) (x : Event) (e calls : ℕ) (all : Bool) (s : Step) → writer_of x ≡ e → act w x ≡ s → act w (Halt calls all x) ≡ halted w e (is_written calls all) s.world s.lines

@@ -1,5 +1,5 @@
 pub mod EmptyFile
-pub mod StoppedWriting
+pub mod StopLeaves
 pub mod CommandSteps
 pub mod CommandsLemmas
 pub mod LineEvents

@@ -3,11 +3,11 @@ use Rattle.std.specs.Prelude.{◌≡◌, ℕ, ◌+◌, ◌<◌, ◌≤◌, true,
 use Rattle.std.specs.Ordering.{nat_cmp}
 use Rattle.std.specs.FinMap.Entries.{find}
 use Rattle.fuxi_terms.specs.Cluster.{ClusterRecord, JobRecord, is_valid_cluster}
-use Rattle.fuxi_terms.specs.Limits.{most_machines, most_masters, most_records}
+use Rattle.fuxi_terms.specs.Limits.{most_jobs, most_machines, most_masters, most_records}
 use Rattle.written_net.specs.Channels.{master_id, party}
 use Rattle.written_roles.specs.HardState.{HardState, HardEvent, Submission}
 use Rattle.written_roles.specs.Masters.{Master}
-use Rattle.written_roles.specs.MasterSteps.{Changed, MasterCommand, Submits, change_of, command_of, writes}
+use Rattle.written_roles.specs.MasterSteps.{Changed, MasterCommand, Submits, Finishes, BansMachine, UnbansMachine, StartsServing, MakesRoom, change_of, command_of, writes}
 use Rattle.written_roles.specs.MasterRoles.{Told}
 use Rattle.written_world.specs.World.{World, Step, refused}
 use Rattle.written_world.specs.Events.{commanded, ban_each, judge, start_master}
@@ -25,7 +25,10 @@ use Rattle.master_text.specs.Refusals.{master_refusal}
 use Rattle.schedule_text.specs.declared.refusal.Refusal.{Refusal}
 use Rattle.schedule_text.specs.declared.refusal.Refusal.TheVariants as why
 use Rattle.schedule_text.specs.Printing.{as_refusal}
+use Rattle.schedule_text.specs.Asked.{job_named}
 use Rattle.schedule_replay.specs.declared.commands.Judgement.{Judgement}
+use Rattle.schedule_replay.specs.declared.commands.Order.{Order}
+use Rattle.schedule_replay.specs.declared.commands.Order.TheVariants as order
 
 -- the parts that commands of masters change
 pub record Governing : Type 0 where
@@ -143,3 +146,25 @@ TellsIn w e x new (Some refusal) = RefusesIn w e x new refusal
 
 abbrev pub TellsInWorld : ℕ → MasterEvent → MastersRecord → MastersRecord → Option Refusal → Type 0
 TellsInWorld e event old new answer = (w : World) (x : MasterCommand) → Good w → AreMastersOf w old → told_by event ≡ Told (change_in x) → TellsIn w e x new answer
+
+-- the command of the world that an order is
+abbrev pub command_as : Order → MasterCommand
+command_as (order.Submit app group asks) = Submits (job_named app.0 group.0 asks.now)
+command_as (order.Finish app) = Finishes app.0
+command_as (order.Ban machine) = BansMachine machine.0
+command_as (order.Unban machine) = UnbansMachine machine.0
+command_as order.Begin = StartsServing
+command_as order.Preempt = MakesRoom
+
+-- a job that is submitted has the number of one
+abbrev pub IsNamed : Order → Type 0
+IsNamed (order.Submit app group asks) = app.0 < most_jobs
+IsNamed (order.Finish app) = Unit {0}
+IsNamed (order.Ban machine) = Unit {0}
+IsNamed (order.Unban machine) = Unit {0}
+IsNamed order.Begin = Unit {0}
+IsNamed order.Preempt = Unit {0}
+
+-- An order behind its tests, which is written and told: whatever command it is of
+abbrev pub CarriesOut : ℕ → Result (Unit {0}) Refusal → HardEvent → MasterEvent → Governing → Governing → Option Refusal → Type 0
+CarriesOut e tests v event old new answer = (w : World) (x : MasterCommand) → IsGoverning w old → WritesIn w e x v tests → told_by event ≡ Told (change_in x) → GovernsIn w e (commanded w e x) new answer

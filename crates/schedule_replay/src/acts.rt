@@ -8,12 +8,10 @@ ghost use Rattle.schedule_replay.specs.Moves.{Acts, CanMove, CanMoveLong};
 
 use crate::agents::{resync_agent, start_agent};
 use crate::apps::{ask_app, resync_app, start_app};
+use crate::commands::Order;
 use crate::deliveries::{deliver, deliver_range, dump};
 use crate::halts::Stop;
-use crate::masters::{
-    ban_machine, begin, finish_job, halt, judge, preempt, resync_master, start_master, stop_master,
-    submit_job, unban_machine,
-};
+use crate::masters::{give_order, halt, judge, resync_master, start_master, stop_master};
 use crate::running::Running;
 use crate::showing::show;
 use crate::stop::WorldStop;
@@ -41,13 +39,26 @@ pub(crate) fn act(
         Event::Agent(machine, boot) => start_agent(running, alloc, *machine, *boot, out),
         Event::App(app, boot) => start_app(running, alloc, *app, *boot, out),
         Event::Submit(epoch, app, group, asks) => {
-            submit_job(running, alloc, *epoch, *app, *group, asks, out)
+            let submit = Order::Submit(*app, *group, asks);
+            give_order(running, alloc, *epoch, &submit, out)
         }
-        Event::Finish(epoch, app) => finish_job(running, alloc, *epoch, *app, out),
-        Event::Ban(epoch, machine) => ban_machine(running, alloc, *epoch, *machine, out),
-        Event::Unban(epoch, machine) => unban_machine(running, alloc, *epoch, *machine, out),
-        Event::Begin(epoch) => begin(running, alloc, *epoch, out),
-        Event::Preempt(epoch) => preempt(running, alloc, *epoch, out),
+        Event::Finish(epoch, app) => give_order(running, alloc, *epoch, &Order::Finish(*app), out),
+        Event::Ban(epoch, machine) => give_order(
+            running,
+            alloc,
+            *epoch,
+            &Order::Ban(*machine),
+            out,
+        ),
+        Event::Unban(epoch, machine) => give_order(
+            running,
+            alloc,
+            *epoch,
+            &Order::Unban(*machine),
+            out,
+        ),
+        Event::Begin(epoch) => give_order(running, alloc, *epoch, &Order::Begin, out),
+        Event::Preempt(epoch) => give_order(running, alloc, *epoch, &Order::Preempt, out),
         Event::Judge(epoch, least, percent) => {
             judge(running, alloc, *epoch, *least, *percent, out)
         }

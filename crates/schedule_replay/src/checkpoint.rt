@@ -1,9 +1,8 @@
 //! The checkpoint.
 
-ghost use Rattle.std.specs.Prelude.{◌≡◌, ◌≢◌, ◌<◌, ◌≤◌, Result, Ok, Err, IfOk, IfErr, OnOk, IsOk};
+ghost use Rattle.std.specs.Prelude.{◌≡◌, ◌≢◌, ◌≤◌, Result, Ok, Err, IfOk, IfErr, OnOk, IsOk};
 ghost use Rattle.fuxi_io.specs.Disks.{Leaves};
-ghost use Rattle.fuxi_terms.specs.Limits.{most_machines};
-ghost use Rattle.written_roles.specs.HardState.{HardState, empty_hard, hard_step, Raise, Submission, Finishing, Banning, Unbanning};
+ghost use Rattle.written_roles.specs.HardState.{HardState, empty_hard, hard_step};
 ghost use Rattle.written_roles.specs.Refusals.{Refusal};
 ghost use Rattle.hard_state.specs.HardFiles.{IsBeforeOrAfter, Refuses, records_of};
 ghost use Rattle.schedule_replay.specs.Held.{IsOpen};
@@ -13,14 +12,13 @@ use crate::disk::GrowingDisk;
 use crate::writing::{Writing, write_on};
 use fuxi_terms::OutOfMemory;
 use hard_state::{Hard, HardFault};
-use schedule_unit::{AppNo, Job, MachineNo};
 use std::alloc::Global;
 use std::marker::Model;
 
 /// A hard state with the disk in memory that it is written to.
 ///
-/// A writing answers the first refusal of the hard state, in the order of [`HardFault`], and then nothing has changed; or `OutOfMemory`,
-/// after which the checkpoint is not to be used. `DiskFault` does not come.
+/// A writing answers the first refusal of the hard state, in the order of [`HardFault`], and then nothing has changed; or that memory
+/// was refused.
 pub(crate) struct Checkpoint {
     hard: Hard,
     disk: GrowingDisk,
@@ -81,9 +79,9 @@ impl Checkpoint {
 
     /// Writes one change of the hard state, for a master of this epoch.
     ///
-    /// The first refusal of the hard state comes, in the order of [`HardFault`], and then nothing has changed.
-    /// `OutOfMemory` may come in place of any answer, and then the checkpoint is not to be used. `DiskFault` does not
-    /// come.
+    /// The first refusal of the hard state comes, in the order of [`HardFault`]; `OutOfMemory` may come in place of any answer. After
+    /// each of these nothing has changed. `DiskFault` comes where memory was refused for the disk's room, and then the checkpoint is
+    /// not to be used.
     pub(crate) fn write(&mut self, epoch: u64, writing: &Writing) -> Result<(), HardFault>
         requires writable { IsWritable writing.now }
         requires open { IsOpen self.old }
@@ -155,66 +153,6 @@ impl Checkpoint {
                 Err(fault)
             }
         }
-    }
-
-    /// [`Hard::raise`]: `Stale` comes where the fence is at least the epoch, and then `Full`. After each of these
-    /// nothing has changed. `OutOfMemory` may come in place of any answer, and then the checkpoint is not to be used.
-    pub(crate) fn raise(&mut self, epoch: u64) -> Result<(), HardFault>
-        requires { IsOpen self.old }
-        ensures ok { OnOk result (IsOpen self.new × (hard_step self.old.hard.value epoch Raise ≡ Ok self.new.hard.value)) }
-        ensures refused { IfErr result (Refuses (hard_step self.old.hard.value epoch Raise)) }
-        ensures unchanged { IfErr result (λ fault. fault ≢ HardFault.DiskFault → self.new ≡ self.old) }
-    {
-        self.write(epoch, &Writing::Raise)
-    }
-
-    /// [`Hard::submit`]: `Fenced` comes where the fence is above the epoch, then `Known` where a job of its number
-    /// was submitted, and then `Full`. After each of these nothing has changed. `OutOfMemory` may come in place of
-    /// any answer, and then the checkpoint is not to be used.
-    pub(crate) fn submit(&mut self, epoch: u64, job: &Job) -> Result<(), HardFault>
-        requires { IsOpen self.old }
-        ensures ok { OnOk result (IsOpen self.new × (hard_step self.old.hard.value epoch (Submission job.now) ≡ Ok self.new.hard.value)) }
-        ensures refused { IfErr result (Refuses (hard_step self.old.hard.value epoch (Submission job.now))) }
-        ensures unchanged { IfErr result (λ fault. fault ≢ HardFault.DiskFault → self.new ≡ self.old) }
-    {
-        self.write(epoch, &Writing::Submit(job))
-    }
-
-    /// [`Hard::finish`]: `Fenced` comes where the fence is above the epoch, then `NoJob` where no job of this number
-    /// was submitted, then `Ended`, and then `Full`. After each of these nothing has changed. `OutOfMemory` may come
-    /// in place of any answer, and then the checkpoint is not to be used.
-    pub(crate) fn finish(&mut self, epoch: u64, app: AppNo) -> Result<(), HardFault>
-        requires { IsOpen self.old }
-        ensures ok { OnOk result (IsOpen self.new × (hard_step self.old.hard.value epoch (Finishing app.0) ≡ Ok self.new.hard.value)) }
-        ensures refused { IfErr result (Refuses (hard_step self.old.hard.value epoch (Finishing app.0))) }
-        ensures unchanged { IfErr result (λ fault. fault ≢ HardFault.DiskFault → self.new ≡ self.old) }
-    {
-        self.write(epoch, &Writing::Finish(app))
-    }
-
-    /// [`Hard::ban`]: `Fenced` comes where the fence is above the epoch, then `AlreadyBanned`, and then `Full`. After
-    /// each of these nothing has changed. `OutOfMemory` may come in place of any answer, and then the checkpoint is
-    /// not to be used.
-    pub(crate) fn ban(&mut self, epoch: u64, machine: MachineNo) -> Result<(), HardFault>
-        requires machine { machine.0 < most_machines }
-        requires open { IsOpen self.old }
-        ensures ok { OnOk result (IsOpen self.new × (hard_step self.old.hard.value epoch (Banning machine.0) ≡ Ok self.new.hard.value)) }
-        ensures refused { IfErr result (Refuses (hard_step self.old.hard.value epoch (Banning machine.0))) }
-        ensures unchanged { IfErr result (λ fault. fault ≢ HardFault.DiskFault → self.new ≡ self.old) }
-    {
-        self.write(epoch, &Writing::Ban(machine))
-    }
-
-    /// [`Hard::unban`]: `Fenced` comes where the fence is above the epoch, then `NotBanned`, and then `Full`. After
-    /// each of these nothing has changed. `OutOfMemory` may come in place of any answer, and then the checkpoint is
-    /// not to be used.
-    pub(crate) fn unban(&mut self, epoch: u64, machine: MachineNo) -> Result<(), HardFault>
-        requires { IsOpen self.old }
-        ensures ok { OnOk result (IsOpen self.new × (hard_step self.old.hard.value epoch (Unbanning machine.0) ≡ Ok self.new.hard.value)) }
-        ensures refused { IfErr result (Refuses (hard_step self.old.hard.value epoch (Unbanning machine.0))) }
-        ensures unchanged { IfErr result (λ fault. fault ≢ HardFault.DiskFault → self.new ≡ self.old) }
-    {
-        self.write(epoch, &Writing::Unban(machine))
     }
 }
 

@@ -3,14 +3,15 @@
 //! Each call answers why the event is refused, or `None` where it is done. A refused one has changed nothing that the world sees. The hard
 //! state is written before a master is told. After `OutOfMemory` what was lent is not to be used.
 
-ghost use Rattle.std.specs.Prelude.{◌≡◌, ◌≢◌, ℕ, ◌<◌, ◌≤◌, length, Err, Result, IfOk, OnOk, is_some};
+ghost use Rattle.std.specs.Prelude.{◌≡◌, ◌≢◌, ℕ, ◌<◌, ◌≤◌, length, Ok, Err, Result, IfOk, OnOk, is_some};
 ghost use Rattle.std.specs.Ordering.{nat_cmp};
 ghost use Rattle.std.specs.FinMap.Entries.{find};
 ghost use Rattle.fuxi_terms.specs.Jobs.{eight_places};
 ghost use Rattle.fuxi_terms.specs.Limits.{most_machines, most_masters};
-ghost use Rattle.written_roles.specs.HardState.{HardState, Banning, Finishing, Unbanning};
+ghost use Rattle.written_roles.specs.HardState.{HardState, Banning, Finishing, Unbanning, hard_step};
 ghost use Rattle.written_roles.specs.Refusals.{Refusal as WrittenRefusal};
 ghost use Rattle.written_roles.specs.MasterSteps.{Submits, Finishes, BansMachine, UnbansMachine, StartsServing, MakesRoom};
+ghost use Rattle.schedule_replay.specs.Writings.{IsWritable, event_of};
 ghost use Rattle.written_world.specs.World.{World};
 ghost use Rattle.written_world.specs.Events.{commanded, resync_master, start_master, stop_master};
 ghost use Rattle.running_masters.specs.Running.{AreMastersOf, Fits, MayStep};
@@ -18,9 +19,10 @@ ghost use Rattle.running_masters.specs.Calls.{IsCommand};
 ghost use Rattle.hard_state.specs.HardFiles.{Refuses};
 ghost use Rattle.schedule_text.specs.Asked.{job_named};
 ghost use Rattle.schedule_text.specs.Printing.{as_refusal};
-ghost use Rattle.schedule_replay.specs.Commands.{AreGoverned, Decides, Governs, GovernsMasters, GovernsOn, IsGoverning, StartsIn, SubmitsIn, TakesStep, TellsInWorld, WritesIn, governing, refusal_in};
+ghost use Rattle.schedule_replay.specs.Commands.{AreGoverned, CarriesOut, Decides, GovernsMasters, GovernsOn, IsGoverning, IsNamed, StartsIn, SubmitsIn, TakesStep, TellsInWorld, WritesIn, command_as, governing, refusal_in};
 
 use crate::checkpoint::Checkpoint;
+use crate::writing::Writing;
 use bad_nodes::Votes;
 use cluster_desc::Cluster;
 use fuxi_master::{MasterEvent, MasterRefusal};
@@ -72,7 +74,7 @@ pub(crate) fn start_master(
         Ok(()) => {}
         Err(refusal) => return Ok(Some(refusal)),
     }
-    match checkpoint.raise(epoch) {
+    match checkpoint.write(epoch, &Writing::Raise) {
         Ok(()) => {}
         Err(fault) => return Ok(Some(written_refusal(fault)?)),
     }
@@ -124,8 +126,8 @@ pub(crate) fn named_job(
     }
 }
 
-/// A job is submitted by the master of an epoch.
-pub(crate) fn submit(
+// A job is submitted by the master of an epoch.
+fn submit(
     alloc: Global,
     cluster: &Cluster,
     checkpoint: &mut Checkpoint,
@@ -146,7 +148,7 @@ pub(crate) fn submit(
         Ok(Err(refusal)) => return Ok(Some(refusal)),
         Err(OutOfMemory) => return Err(OutOfMemory),
     };
-    match checkpoint.submit(epoch, &job) {
+    match checkpoint.write(epoch, &Writing::Submit(&job)) {
         Ok(()) => {}
         Err(fault) => return Ok(Some(written_refusal(fault)?)),
     }
@@ -161,30 +163,6 @@ pub(crate) fn finish_tests(masters: &Masters, epoch: u64) -> Result<(), Refusal>
         return Err(Refusal::NotRunning);
     }
     Ok(())
-}
-
-/// A job is ended by the master of an epoch.
-pub(crate) fn finish(
-    alloc: Global,
-    checkpoint: &mut Checkpoint,
-    masters: &mut Masters,
-    epoch: u64,
-    app: AppNo,
-) -> Result<Option<Refusal>, OutOfMemory>
-    requires governed { AreGoverned (governing checkpoint.old masters.old) }
-    requires steps { MayStep epoch masters.old }
-    ensures world { IfOk result (Governs epoch (λ w. commanded w epoch (Finishes app.0)) (governing checkpoint.old masters.old) (governing checkpoint.new masters.new)) }
-    ensures steps { IfOk result (λ answer. TakesStep masters.old masters.new) }
-{
-    match finish_tests(masters, epoch) {
-        Ok(()) => {}
-        Err(refusal) => return Ok(Some(refusal)),
-    }
-    match checkpoint.finish(epoch, app) {
-        Ok(()) => {}
-        Err(fault) => return Ok(Some(written_refusal(fault)?)),
-    }
-    tell(alloc, masters, epoch, MasterEvent::Finish(app))
 }
 
 /// The tests of a ban, and of its end, before their writing.
@@ -207,62 +185,98 @@ pub(crate) fn machine_tests(
     Ok(())
 }
 
-/// A machine is banned by the master of an epoch.
-pub(crate) fn ban(
+/// What the master of an epoch is ordered.
+#[derive(Clone, Copy)]
+pub(crate) enum Order<'a> {
+    /// The job of this number and group, with these units, is submitted.
+    Submit(AppNo, GroupNo, &'a Asks),
+    /// The job of this number ends.
+    Finish(AppNo),
+    /// The machine is banned.
+    Ban(MachineNo),
+    /// The ban of the machine is lifted.
+    Unban(MachineNo),
+    /// The master serves from now on.
+    Begin,
+    /// Room is made for a unit that waits.
+    Preempt,
+}
+
+/// The master of an epoch carries out an order, or refuses it.
+pub(crate) fn give_order(
     alloc: Global,
     cluster: &Cluster,
     checkpoint: &mut Checkpoint,
     masters: &mut Masters,
     epoch: u64,
-    machine: MachineNo,
+    order: &Order,
 ) -> Result<Option<Refusal>, OutOfMemory>
+    requires named { IsNamed order.now }
     requires governed { AreGoverned (governing checkpoint.old masters.old) }
     requires steps { MayStep epoch masters.old }
-    ensures world { IfOk result (GovernsOn cluster.now epoch (λ w. commanded w epoch (BansMachine machine.0)) (governing checkpoint.old masters.old) (governing checkpoint.new masters.new)) }
+    ensures world { IfOk result (GovernsOn cluster.now epoch (λ w. commanded w epoch (command_as order.now)) (governing checkpoint.old masters.old) (governing checkpoint.new masters.new)) }
     ensures steps { IfOk result (λ answer. TakesStep masters.old masters.new) }
 {
-    match machine_tests(cluster, masters, epoch, machine) {
-        Ok(()) => {}
-        Err(refusal) => return Ok(Some(refusal)),
+    match order {
+        Order::Submit(app, group, asks) => {
+            submit(
+                alloc, cluster, checkpoint, masters, epoch, *app, *group, *asks,
+            )
+        }
+        Order::Finish(app) => {
+            let tests = finish_tests(masters, epoch);
+            let writing = Writing::Finish(*app);
+            let event = MasterEvent::Finish(*app);
+            carry_out(alloc, checkpoint, masters, epoch, tests, &writing, event)
+        }
+        Order::Ban(machine) => {
+            let tests = machine_tests(cluster, masters, epoch, *machine);
+            let writing = Writing::Ban(*machine);
+            let event = MasterEvent::Ban(*machine);
+            carry_out(alloc, checkpoint, masters, epoch, tests, &writing, event)
+        }
+        Order::Unban(machine) => {
+            let tests = machine_tests(cluster, masters, epoch, *machine);
+            let writing = Writing::Unban(*machine);
+            let event = MasterEvent::Unban(*machine);
+            carry_out(alloc, checkpoint, masters, epoch, tests, &writing, event)
+        }
+        Order::Begin => begin(alloc, masters, epoch),
+        Order::Preempt => preempt(alloc, masters, epoch),
     }
-    match checkpoint.ban(epoch, machine) {
-        Ok(()) => {}
-        Err(fault) => return Ok(Some(written_refusal(fault)?)),
-    }
-    tell(alloc, masters, epoch, MasterEvent::Ban(machine))
 }
 
-/// The ban of a machine is lifted by the master of an epoch.
-pub(crate) fn unban(
+// An order behind its tests: the hard state is written, and the master is told.
+fn carry_out(
     alloc: Global,
-    cluster: &Cluster,
     checkpoint: &mut Checkpoint,
     masters: &mut Masters,
     epoch: u64,
-    machine: MachineNo,
+    tests: Result<(), Refusal>,
+    writing: &Writing,
+    event: MasterEvent,
 ) -> Result<Option<Refusal>, OutOfMemory>
+    requires writable { OnOk tests (IsWritable writing.now) }
+    requires command { IsCommand event }
+    requires fitting { OnOk tests ((k : HardState) → hard_step checkpoint.old.hard.value epoch (event_of writing.now) ≡ Ok k → Fits epoch event masters.old) }
     requires governed { AreGoverned (governing checkpoint.old masters.old) }
     requires steps { MayStep epoch masters.old }
-    ensures world { IfOk result (GovernsOn cluster.now epoch (λ w. commanded w epoch (UnbansMachine machine.0)) (governing checkpoint.old masters.old) (governing checkpoint.new masters.new)) }
+    ensures world { IfOk result (CarriesOut epoch tests (event_of writing.now) event (governing checkpoint.old masters.old) (governing checkpoint.new masters.new)) }
     ensures steps { IfOk result (λ answer. TakesStep masters.old masters.new) }
 {
-    match machine_tests(cluster, masters, epoch, machine) {
+    match tests {
         Ok(()) => {}
         Err(refusal) => return Ok(Some(refusal)),
     }
-    match checkpoint.unban(epoch, machine) {
+    match checkpoint.write(epoch, writing) {
         Ok(()) => {}
         Err(fault) => return Ok(Some(written_refusal(fault)?)),
     }
-    tell(alloc, masters, epoch, MasterEvent::Unban(machine))
+    tell(alloc, masters, epoch, event)
 }
 
-/// The master of an epoch serves from now on, though machines are not reported.
-pub(crate) fn begin(
-    alloc: Global,
-    masters: &mut Masters,
-    epoch: u64,
-) -> Result<Option<Refusal>, OutOfMemory>
+// The master of an epoch serves from now on, though machines are not reported.
+fn begin(alloc: Global, masters: &mut Masters, epoch: u64) -> Result<Option<Refusal>, OutOfMemory>
     requires steps { MayStep epoch masters.old }
     ensures world { IfOk result (GovernsMasters epoch (λ w. commanded w epoch StartsServing) masters.old masters.new) }
     ensures steps { IfOk result (λ answer. TakesStep masters.old masters.new) }
@@ -273,12 +287,8 @@ pub(crate) fn begin(
     tell(alloc, masters, epoch, MasterEvent::Begin)
 }
 
-/// The master of an epoch makes room for a unit that waits.
-pub(crate) fn preempt(
-    alloc: Global,
-    masters: &mut Masters,
-    epoch: u64,
-) -> Result<Option<Refusal>, OutOfMemory>
+// The master of an epoch makes room for a unit that waits.
+fn preempt(alloc: Global, masters: &mut Masters, epoch: u64) -> Result<Option<Refusal>, OutOfMemory>
     requires steps { MayStep epoch masters.old }
     ensures world { IfOk result (GovernsMasters epoch (λ w. commanded w epoch MakesRoom) masters.old masters.new) }
     ensures steps { IfOk result (λ answer. TakesStep masters.old masters.new) }

@@ -21,74 +21,34 @@ use wire_frames::read_packet;
 use written_join::every_change_is_taken;
 use written_world::{every_event_keeps_good, worlds_in_order};
 
-// A packet is heard by the master of the epoch that it names.
-fn hear_at_master(
-    running: &mut Running,
-    alloc: Global,
-    packet: Packet,
-) -> Result<Option<Heard>, OutOfMemory>
-    requires master { packet.to.role ≡ Role.Master }
-    requires formed { IsFormed packet }
-    requires no_end { packet.kind ≡ Kind.End → ⊥ }
-    requires can { CanMove running.old }
-    ensures { IfOk result (IsHeardBy packet running.old running.new) }
-{
-    masters_act();
-    cores_may_step();
-    every_change_is_taken();
-    let masters = mem::replace(&mut running.masters, Masters::none(alloc));
-    let (masters, heard) = masters.hear(alloc, packet)?;
-    running.masters = masters;
-    Ok(heard)
-}
-
-// A packet is heard by the agent of its machine.
-fn hear_at_agent(
-    running: &mut Running,
-    alloc: Global,
-    packet: &Packet,
-) -> Result<Option<Heard>, OutOfMemory>
-    requires agent { packet.now.to.role ≡ Role.Agent }
-    requires formed { IsFormed packet.now }
-    requires no_end { packet.now.kind ≡ Kind.End → ⊥ }
-    requires can { CanMove running.old }
-    ensures { IfOk result (IsHeardBy packet.now running.old running.new) }
-{
-    agents_act();
-    cores_may_step();
-    every_change_is_taken();
-    running.agents.hear(alloc, packet)
-}
-
-// A packet is heard by the application of its job.
-fn hear_at_app(
-    running: &mut Running,
-    alloc: Global,
-    packet: &Packet,
-) -> Result<Option<Heard>, OutOfMemory>
-    requires app { packet.now.to.role ≡ Role.App }
-    requires formed { IsFormed packet.now }
-    requires no_end { packet.now.kind ≡ Kind.End → ⊥ }
-    requires can { CanMove running.old }
-    ensures { IfOk result (IsHeardBy packet.now running.old running.new) }
-{
-    apps_act();
-    cores_may_step();
-    every_change_is_taken();
-    running.apps.hear(alloc, packet)
-}
-
-// A packet is heard by the party that it is for, if that runs.
+// A packet is heard by the party that it is for, if that runs: the master of the epoch that it names, the agent of its machine or the
+// application of its job.
 fn hear(running: &mut Running, alloc: Global, packet: Packet) -> Result<Option<Heard>, OutOfMemory>
     requires formed { IsFormed packet }
     requires no_end { packet.kind ≡ Kind.End → ⊥ }
     requires can { CanMove running.old }
     ensures { IfOk result (IsHeardBy packet running.old running.new) }
 {
+    cores_may_step();
+    every_change_is_taken();
     match packet.to.role {
-        Role::Master => hear_at_master(running, alloc, packet),
-        Role::Agent => hear_at_agent(running, alloc, &packet),
-        Role::App => hear_at_app(running, alloc, &packet),
+        Role::Master => {
+            masters_act();
+            let masters = mem::replace(&mut running.masters, Masters::none(alloc));
+            let (masters, heard) = masters.hear(alloc, packet)?;
+            running.masters = masters;
+            Ok(heard)
+        }
+        Role::Agent => {
+            agents_act();
+            let heard = running.agents.hear(alloc, &packet)?;
+            Ok(heard)
+        }
+        Role::App => {
+            apps_act();
+            let heard = running.apps.hear(alloc, &packet)?;
+            Ok(heard)
+        }
     }
 }
 
@@ -124,8 +84,8 @@ pub(crate) fn deliver(
     number: u64,
     out: &mut Vec<u8>,
 ) -> Result<(), WorldStop>
-    requires first { 0 < number }
     requires can { CanMove running.old }
+    requires first { 0 < number }
     ensures { Acts (λ w. deliver w number) running.old running.new out.old.items out.new.items result }
 {
     let sent = running.pool.len();

@@ -1,6 +1,6 @@
 //! The disk in memory that a checkpoint is written to.
 
-ghost use Rattle.std.specs.Prelude.{◌≡◌, ◌⊎◌, ◌+◌, ◌<◌, ◌≤◌, ◌^◌, true, [], length, take, drop, max, Some, IfOk, OnOk, OnErr, if◌then◌else◌};
+ghost use Rattle.std.specs.Prelude.{◌≡◌, ◌⊎◌, ◌+◌, ◌<◌, ◌≤◌, ◌^◌, true, [], length, max, Some, IfOk, OnOk, OnErr, if◌then◌else◌};
 ghost use Rattle.fuxi_io.specs.Causes.{HasCause};
 ghost use Rattle.fuxi_io.specs.Disks.{IsImage, Syncs, Writes, first_told};
 ghost use Rattle.schedule_replay.specs.Disks.{HasNoRoom, no_moments};
@@ -75,34 +75,22 @@ impl Disk for GrowingDisk {
 
     ghost measured = { λ d. refl };
 
-    fn len(&mut self) -> Result<u64, Failed>
-        ensures size { IfOk result (λ n. n ≡ length self.new.told.now.bytes) }
-        ensures told { Some self.new.told ≡ Some self.old.told }
-        ensures cause { HasCause self.old.faults self.new.faults result }
-        ensures served { OnOk result (self.new.faults ≡ self.old.faults) }
-    {
+    fn len(&mut self) -> Result<u64, Failed> {
         self.disk.len()
     }
 
-    fn read_at(&mut self, at: u64, buf: &mut [u8]) -> Result<(), Failed>
-        requires within { at + length buf.old ≤ length self.old.told.now.bytes }
-        ensures bytes { OnOk result (buf.new ≡ take (length buf.old) (drop at self.old.told.now.bytes)) }
-        ensures size { length self.new.told.now.bytes ≡ length self.old.told.now.bytes }
-        ensures told { Some self.new.told ≡ Some self.old.told }
-        ensures cause { HasCause self.old.faults self.new.faults result }
-        ensures served { OnOk result (self.new.faults ≡ self.old.faults) }
-    {
+    fn read_at(&mut self, at: u64, buf: &mut [u8]) -> Result<(), Failed> {
         self.disk.read_at(at, buf)
     }
 
     fn write_at(&mut self, at: u64, bytes: &[u8]) -> Result<(), Failed>
         requires begin { at ≤ length self.old.told.now.bytes }
         requires end { at + length bytes.now < 2 ^ 63 }
+        ensures fails { OnErr result (HasNoRoom self.old self.new) }
         ensures size { OnOk result (length self.new.told.now.bytes ≡ max (length self.old.told.now.bytes) (at + length bytes.now)) }
         ensures told { Writes at bytes.now result self.old.told self.new.told }
         ensures cause { HasCause self.old.faults self.new.faults result }
         ensures served { OnOk result (self.new.faults ≡ self.old.faults) }
-        ensures fails { OnErr result (HasNoRoom self.old self.new) }
     {
         match self.disk.room(bytes.len() + 1) {
             Ok(()) => self.disk.write_at(at, bytes),

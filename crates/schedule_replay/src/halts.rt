@@ -3,10 +3,9 @@
 //! Each call answers the line that is printed: why the line within is refused, and then nothing has changed; or that its master has stopped.
 //! After `OutOfMemory` what was lent is not to be used.
 
-ghost use Rattle.std.specs.Prelude.{◌≡◌, ◌<◌, IfOk};
-ghost use Rattle.fuxi_terms.specs.Cluster.{ClusterRecord};
+ghost use Rattle.std.specs.Prelude.{◌≡◌, ◌<◌, IfOk, OnOk};
 ghost use Rattle.fuxi_terms.specs.Limits.{most_jobs};
-ghost use Rattle.written_world.specs.Events.{StartMaster, Submit, Finish, Ban, Unban};
+ghost use Rattle.written_world.specs.Events.{Submit};
 ghost use Rattle.schedule_replay.specs.Held.{IsOpen};
 ghost use Rattle.schedule_replay.specs.Writings.{IsWritable, event_of};
 ghost use Rattle.schedule_text.specs.Asked.{job_named};
@@ -14,7 +13,7 @@ ghost use Rattle.schedule_text.specs.Halting.{halting};
 ghost use Rattle.schedule_text.specs.Writing.{IsLineEvent};
 ghost use Rattle.schedule_replay.specs.Events.{event_as};
 ghost use Rattle.schedule_replay.specs.Commands.{AreGoverned, TakesStep, governing};
-ghost use Rattle.schedule_replay.specs.Halts.{Halts, HaltsWithin, IsWithin};
+ghost use Rattle.schedule_replay.specs.Halts.{Halts, HaltsAfter, HaltsWithin, IsWithin};
 
 use crate::checkpoint::Checkpoint;
 use crate::commands::{finish_tests, machine_tests, named_job, start_tests, written_refusal};
@@ -22,7 +21,7 @@ use crate::writing::Writing;
 use cluster_desc::Cluster;
 use fuxi_terms::OutOfMemory;
 use running_masters::Masters;
-use schedule_text::{Event, Output};
+use schedule_text::{Event, Output, Refusal};
 use schedule_unit::{AppNo, Asks, GroupNo, MachineNo};
 use std::alloc::Global;
 
@@ -48,38 +47,31 @@ pub(crate) fn halt(
     ensures steps { IfOk result (λ printed. TakesStep masters.old masters.new) }
 {
     match line {
-        Event::Master(epoch) => halt_start(alloc, checkpoint, masters, *epoch, stop),
+        Event::Master(epoch) => {
+            let tests = start_tests(checkpoint, masters, *epoch);
+            let writing = Writing::Raise;
+            halt_after(alloc, checkpoint, masters, *epoch, tests, &writing, stop)
+        }
         Event::Submit(epoch, app, group, asks) => {
             let named = (*epoch, *app, *group);
             halt_submission(alloc, cluster, checkpoint, masters, named, asks, stop)
         }
-        Event::Finish(epoch, app) => halt_finish(alloc, checkpoint, masters, *epoch, *app, stop),
+        Event::Finish(epoch, app) => {
+            let tests = finish_tests(masters, *epoch);
+            let writing = Writing::Finish(*app);
+            halt_after(alloc, checkpoint, masters, *epoch, tests, &writing, stop)
+        }
         Event::Ban(epoch, machine) => {
-            halt_ban(alloc, cluster, checkpoint, masters, *epoch, *machine, stop)
+            let tests = machine_tests(cluster, masters, *epoch, *machine);
+            let writing = Writing::Ban(*machine);
+            halt_after(alloc, checkpoint, masters, *epoch, tests, &writing, stop)
         }
         Event::Unban(epoch, machine) => {
-            halt_unban(alloc, cluster, checkpoint, masters, *epoch, *machine, stop)
+            let tests = machine_tests(cluster, masters, *epoch, *machine);
+            let writing = Writing::Unban(*machine);
+            halt_after(alloc, checkpoint, masters, *epoch, tests, &writing, stop)
         }
         _ => unreachable!(),
-    }
-}
-
-// The master that starts stops within that writing, and never began.
-fn halt_start(
-    alloc: Global,
-    checkpoint: &mut Checkpoint,
-    masters: &mut Masters,
-    epoch: u64,
-    stop: Stop,
-) -> Result<Output, OutOfMemory>
-    requires within { IsWithin stop }
-    requires governed { AreGoverned (governing checkpoint.old masters.old) }
-    ensures world { (c : ClusterRecord) → IfOk result (Halts c (StartMaster epoch) stop (governing checkpoint.old masters.old) (governing checkpoint.new masters.new)) }
-    ensures steps { IfOk result (λ printed. TakesStep masters.old masters.new) }
-{
-    match start_tests(checkpoint, masters, epoch) {
-        Ok(()) => halt_within(alloc, checkpoint, masters, epoch, &Writing::Raise, stop),
-        Err(refusal) => Ok(Output::Refused(refusal)),
     }
 }
 
@@ -110,73 +102,24 @@ fn halt_submission(
     }
 }
 
-// The master that ends a job stops within that writing.
-fn halt_finish(
+// A line behind its tests: it is refused by them, or its writing begins and stops.
+fn halt_after(
     alloc: Global,
     checkpoint: &mut Checkpoint,
     masters: &mut Masters,
     epoch: u64,
-    app: AppNo,
+    tests: Result<(), Refusal>,
+    writing: &Writing,
     stop: Stop,
 ) -> Result<Output, OutOfMemory>
+    requires writable { OnOk tests (IsWritable writing.now) }
     requires within { IsWithin stop }
     requires governed { AreGoverned (governing checkpoint.old masters.old) }
-    ensures world { (c : ClusterRecord) → IfOk result (Halts c (Finish epoch app.0) stop (governing checkpoint.old masters.old) (governing checkpoint.new masters.new)) }
+    ensures world { IfOk result (HaltsAfter epoch tests (event_of writing.now) stop (governing checkpoint.old masters.old) (governing checkpoint.new masters.new)) }
     ensures steps { IfOk result (λ printed. TakesStep masters.old masters.new) }
 {
-    match finish_tests(masters, epoch) {
-        Ok(()) => {
-            let writing = Writing::Finish(app);
-            halt_within(alloc, checkpoint, masters, epoch, &writing, stop)
-        }
-        Err(refusal) => Ok(Output::Refused(refusal)),
-    }
-}
-
-// The master that bans a machine stops within that writing.
-fn halt_ban(
-    alloc: Global,
-    cluster: &Cluster,
-    checkpoint: &mut Checkpoint,
-    masters: &mut Masters,
-    epoch: u64,
-    machine: MachineNo,
-    stop: Stop,
-) -> Result<Output, OutOfMemory>
-    requires within { IsWithin stop }
-    requires governed { AreGoverned (governing checkpoint.old masters.old) }
-    ensures world { IfOk result (Halts cluster.now (Ban epoch machine.0) stop (governing checkpoint.old masters.old) (governing checkpoint.new masters.new)) }
-    ensures steps { IfOk result (λ printed. TakesStep masters.old masters.new) }
-{
-    match machine_tests(cluster, masters, epoch, machine) {
-        Ok(()) => {
-            let writing = Writing::Ban(machine);
-            halt_within(alloc, checkpoint, masters, epoch, &writing, stop)
-        }
-        Err(refusal) => Ok(Output::Refused(refusal)),
-    }
-}
-
-// The master that lifts the ban of a machine stops within that writing.
-fn halt_unban(
-    alloc: Global,
-    cluster: &Cluster,
-    checkpoint: &mut Checkpoint,
-    masters: &mut Masters,
-    epoch: u64,
-    machine: MachineNo,
-    stop: Stop,
-) -> Result<Output, OutOfMemory>
-    requires within { IsWithin stop }
-    requires governed { AreGoverned (governing checkpoint.old masters.old) }
-    ensures world { IfOk result (Halts cluster.now (Unban epoch machine.0) stop (governing checkpoint.old masters.old) (governing checkpoint.new masters.new)) }
-    ensures steps { IfOk result (λ printed. TakesStep masters.old masters.new) }
-{
-    match machine_tests(cluster, masters, epoch, machine) {
-        Ok(()) => {
-            let writing = Writing::Unban(machine);
-            halt_within(alloc, checkpoint, masters, epoch, &writing, stop)
-        }
+    match tests {
+        Ok(()) => halt_within(alloc, checkpoint, masters, epoch, writing, stop),
         Err(refusal) => Ok(Output::Refused(refusal)),
     }
 }

@@ -2,24 +2,21 @@
 
 ghost use Rattle.std.specs.Prelude.{◌≡◌, ◌<◌, ◌≤◌, map};
 ghost use Rattle.bad_nodes.specs.Ranks.{number_of};
-ghost use Rattle.fuxi_terms.specs.Limits.{most_jobs, most_groups, most_machines};
-ghost use Rattle.written_roles.specs.MasterSteps.{Submits, Finishes, BansMachine, UnbansMachine, StartsServing, MakesRoom};
 ghost use Rattle.written_world.specs.Events.{Halt, act, ban_each, commanded, judge, resync_master, start_master, stop_master};
-ghost use Rattle.schedule_text.specs.Asked.{job_named};
 ghost use Rattle.schedule_text.specs.Halting.{halting};
 ghost use Rattle.schedule_text.specs.Writing.{IsLineEvent};
 ghost use Rattle.schedule_replay.specs.Events.{event_as};
-ghost use Rattle.schedule_replay.specs.Commands.{MayBan};
+ghost use Rattle.schedule_replay.specs.Commands.{IsNamed, MayBan, command_as};
 ghost use Rattle.schedule_replay.specs.Moves.{Acts, ActsOnce, CanMove, CanMoveLong, ban_one};
 
-use crate::commands::{self, Judgement};
+use crate::commands::{self, Judgement, Order};
 use crate::halts::{self, Stop};
 use crate::laws::{cores_may_step, masters_act};
 use crate::running::Running;
 use crate::stop::WorldStop;
 use crate::text::{write_judged, write_line, write_refusal};
 use schedule_text::Event;
-use schedule_unit::{AppNo, Asks, GroupNo, MachineNo};
+use schedule_unit::MachineNo;
 use std::alloc::Global;
 use written_world::{every_event_keeps_good, worlds_in_order};
 
@@ -60,19 +57,17 @@ pub(crate) fn stop_master(
     write_refusal(refusal, out)
 }
 
-// The master of an epoch is handed a job.
-pub(crate) fn submit_job(
+// The master of an epoch is given an order.
+pub(crate) fn give_order(
     running: &mut Running,
     alloc: Global,
     epoch: u64,
-    app: AppNo,
-    group: GroupNo,
-    asks: &Asks,
+    order: &Order,
     out: &mut Vec<u8>,
 ) -> Result<(), WorldStop>
-    requires job { app.0 < most_jobs }
+    requires named { IsNamed order.now }
     requires can { CanMove running.old }
-    ensures { Acts (λ w. commanded w epoch (Submits (job_named app.0 group.0 asks.now))) running.old running.new out.old.items out.new.items result }
+    ensures { Acts (λ w. commanded w epoch (command_as order.now)) running.old running.new out.old.items out.new.items result }
 {
     masters_act();
     cores_may_step();
@@ -82,117 +77,7 @@ pub(crate) fn submit_job(
         masters,
         ..
     } = running;
-    match commands::submit(alloc, cluster, checkpoint, masters, epoch, app, group, asks) {
-        Ok(refusal) => write_refusal(refusal, out),
-        Err(_) => Err(WorldStop::OutOfMemory),
-    }
-}
-
-// The master of an epoch ends a job.
-pub(crate) fn finish_job(
-    running: &mut Running,
-    alloc: Global,
-    epoch: u64,
-    app: AppNo,
-    out: &mut Vec<u8>,
-) -> Result<(), WorldStop>
-    requires can { CanMove running.old }
-    ensures { Acts (λ w. commanded w epoch (Finishes app.0)) running.old running.new out.old.items out.new.items result }
-{
-    masters_act();
-    cores_may_step();
-    let Running {
-        checkpoint,
-        masters,
-        ..
-    } = running;
-    match commands::finish(alloc, checkpoint, masters, epoch, app) {
-        Ok(refusal) => write_refusal(refusal, out),
-        Err(_) => Err(WorldStop::OutOfMemory),
-    }
-}
-
-// The master of an epoch bans a machine.
-pub(crate) fn ban_machine(
-    running: &mut Running,
-    alloc: Global,
-    epoch: u64,
-    machine: MachineNo,
-    out: &mut Vec<u8>,
-) -> Result<(), WorldStop>
-    requires can { CanMove running.old }
-    ensures { Acts (λ w. commanded w epoch (BansMachine machine.0)) running.old running.new out.old.items out.new.items result }
-{
-    masters_act();
-    cores_may_step();
-    let Running {
-        cluster,
-        checkpoint,
-        masters,
-        ..
-    } = running;
-    match commands::ban(alloc, cluster, checkpoint, masters, epoch, machine) {
-        Ok(refusal) => write_refusal(refusal, out),
-        Err(_) => Err(WorldStop::OutOfMemory),
-    }
-}
-
-// The master of an epoch lifts the ban of a machine.
-pub(crate) fn unban_machine(
-    running: &mut Running,
-    alloc: Global,
-    epoch: u64,
-    machine: MachineNo,
-    out: &mut Vec<u8>,
-) -> Result<(), WorldStop>
-    requires can { CanMove running.old }
-    ensures { Acts (λ w. commanded w epoch (UnbansMachine machine.0)) running.old running.new out.old.items out.new.items result }
-{
-    masters_act();
-    cores_may_step();
-    let Running {
-        cluster,
-        checkpoint,
-        masters,
-        ..
-    } = running;
-    match commands::unban(alloc, cluster, checkpoint, masters, epoch, machine) {
-        Ok(refusal) => write_refusal(refusal, out),
-        Err(_) => Err(WorldStop::OutOfMemory),
-    }
-}
-
-// The master of an epoch serves from now on.
-pub(crate) fn begin(
-    running: &mut Running,
-    alloc: Global,
-    epoch: u64,
-    out: &mut Vec<u8>,
-) -> Result<(), WorldStop>
-    requires can { CanMove running.old }
-    ensures { Acts (λ w. commanded w epoch StartsServing) running.old running.new out.old.items out.new.items result }
-{
-    masters_act();
-    cores_may_step();
-    match commands::begin(alloc, &mut running.masters, epoch) {
-        Ok(refusal) => write_refusal(refusal, out),
-        Err(_) => Err(WorldStop::OutOfMemory),
-    }
-}
-
-// The master of an epoch makes room for a unit that waits.
-pub(crate) fn preempt(
-    running: &mut Running,
-    alloc: Global,
-    epoch: u64,
-    out: &mut Vec<u8>,
-) -> Result<(), WorldStop>
-    requires can { CanMove running.old }
-    ensures { Acts (λ w. commanded w epoch MakesRoom) running.old running.new out.old.items out.new.items result }
-{
-    masters_act();
-    cores_may_step();
-    match commands::preempt(alloc, &mut running.masters, epoch) {
+    match commands::give_order(alloc, cluster, checkpoint, masters, epoch, order) {
         Ok(refusal) => write_refusal(refusal, out),
         Err(_) => Err(WorldStop::OutOfMemory),
     }
@@ -218,7 +103,8 @@ fn ban_one(
         masters,
         ..
     } = running;
-    match commands::ban(alloc, cluster, checkpoint, masters, epoch, machine) {
+    let order = Order::Ban(machine);
+    match commands::give_order(alloc, cluster, checkpoint, masters, epoch, &order) {
         Ok(_) => write_judged(machine, votes, out),
         Err(_) => Err(WorldStop::OutOfMemory),
     }
@@ -294,9 +180,9 @@ pub(crate) fn halt(
 {
     masters_act();
     let Running {
-        cluster,
-        checkpoint,
         masters,
+        checkpoint,
+        cluster,
         ..
     } = running;
     match halts::halt(alloc, cluster, checkpoint, masters, line, stop) {
@@ -312,7 +198,7 @@ pub(crate) fn resync_master(
     epoch: u64,
     out: &mut Vec<u8>,
 ) -> Result<(), WorldStop>
-    requires can { CanMove running.old }
+    requires { CanMove running.old }
     ensures { Acts (λ w. resync_master w epoch) running.old running.new out.old.items out.new.items result }
 {
     masters_act();

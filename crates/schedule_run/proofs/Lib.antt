@@ -1,5 +1,4 @@
-pub mod Stepping
-pub mod Going
-pub mod Opening
-pub mod Telling
 pub mod GivenLemmas
+pub mod ProgressLemmas
+pub mod RunsLemmas
+pub mod ToldLemmas

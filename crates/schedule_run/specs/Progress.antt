@@ -1,31 +1,14 @@
--- How far a run has come, and what taking one line does.
-use Rattle.std.specs.Prelude.{◌≡◌, ◌⊎◌, ℕ, Bool, true, false, List, ◌++◌, Option, Some, None, Result, Ok, Err}
-use Rattle.std.specs.Io.KnownBytes.{Appends}
-use Rattle.std.specs.List.{concat}
-use Rattle.fuxi_io.specs.Causes.{TakesPart}
-use Rattle.fuxi_io.specs.Lines.{InputLine, lines_of}
-use Rattle.fuxi_io.specs.declared.status.InputFault.{InputFault}
-use Rattle.fuxi_io.specs.declared.status.LimitOf.{LimitOf}
+-- What taking one line does.
+use Rattle.std.specs.Prelude.{ℕ, List, Option, Result}
 use Rattle.fuxi_io.specs.declared.status.LimitOf.TheVariants.{Packets, Bytes}
 use Rattle.fuxi_io.specs.declared.status.Status.{Status}
-use Rattle.fuxi_io.specs.declared.status.Status.TheVariants.{Done, Usage, BadInput, ReadFault, WriteFault, Limit, OutOfMemory, DiskFault, StaleEpoch, DamagedCheckpoint}
-use Rattle.fuxi_terms.specs.Cluster.{ClusterRecord}
-use Rattle.schedule_text.specs.Reading.{event_of}
-use Rattle.schedule_text.specs.declared.event.Event.{Event as LineEvent}
-use Rattle.schedule_text.specs.declared.event.LineFault.{LineFault}
+use Rattle.fuxi_io.specs.declared.status.Status.TheVariants.{Limit, OutOfMemory}
 use Rattle.schedule_replay.specs.declared.stop.WorldStop.{WorldStop}
 use Rattle.schedule_replay.specs.declared.stop.WorldStop.TheVariants.{TooManyPackets, PoolBytes, OutOfMemory as WantOfMemory}
-use Rattle.schedule_replay.specs.Events.{event_as}
-use Rattle.schedule_replay.specs.Steps.{limit_of}
-use Rattle.schedule_replay.specs.Texts.{lines_text}
 use Rattle.schedule_replay.specs.Worlds.{WorldRecord, IsWorld, StandsFor}
-use Rattle.written_world.specs.World.{World, empty_world}
-use Rattle.written_world.specs.Events.{world_step}
-use Rattle.written_world.specs.Show.{show}
-use Rattle.input_lines.specs.Contents.{is_skipped}
-use Rattle.input_lines.specs.Statuses.{event_fault}
-use Rattle.input_lines.specs.Wholes.{AreTaken}
-use Rattle.schedule_run.specs.Runs.{Run, AtLimit, ending_at, run_from}
+use Rattle.written_world.specs.World.{World}
+use Rattle.input_lines.specs.LineProgress.{TakesLine as Takes, WritesEnd}
+use Rattle.schedule_run.specs.Runs.{world_ends, world_runner}
 
 -- what runs stands for a world to which inputs lead
 pub record Stands (r : WorldRecord) (w : World) : Type 0 where
@@ -38,75 +21,10 @@ world_status (TooManyPackets kept) = Limit Packets kept
 world_status (PoolBytes kept) = Limit Bytes kept
 world_status WantOfMemory = OutOfMemory
 
--- the line is an event's that passes no limit, and what it prints in the world is this
-pub record Prints (line : List ℕ) (w : World) (output : List ℕ) : Type 0 where
-  pub event : LineEvent
-  pub is : event_of line ≡ Ok event
-  pub within : limit_of w (world_step w (event_as event)).world ≡ None
-  pub prints : output ≡ lines_text (world_step w (event_as event)).lines
-
--- the line is no event, for this reason
-pub record IsNone (line : List ℕ) (fault : InputFault) : Type 0 where
-  pub why : LineFault
-  pub is : event_of line ≡ Err why
-  pub same : fault ≡ event_fault why
-
--- the line is an event's that would pass this limit
-pub record IsPast (line : List ℕ) (w : World) (what : LimitOf) (kept : ℕ) : Type 0 where
-  pub event : LineEvent
-  pub is : event_of line ≡ Ok event
-  pub stop : WorldStop
-  pub past : limit_of w (world_step w (event_as event)).world ≡ Some stop
-  pub same : ending_at stop ≡ AtLimit what kept
-
--- what a line does to the world
-abbrev pub world_after : World → Result LineEvent LineFault → World
-world_after w (Ok event) = (world_step w (event_as event)).world
-world_after w (Err fault) = w
-
-abbrev pub after_line : World → List ℕ → World
-after_line w line = elim (is_skipped line) [ true ↦ w | false ↦ world_after w (event_of line) ]
-
--- what taking the line with this number wrote
-abbrev pub TakesLine : List ℕ → ℕ → World → Result (Unit {0}) Status → Option (List ℕ) → Option (List ℕ) → Type 0
-TakesLine line number w (Ok done) before after =
-    ((is_skipped line ≡ true) × (after ≡ before)) ⊎ ((is_skipped line ≡ false) × ((output : List ℕ) × Prints line w output × Appends before after output))
-TakesLine line number w (Err (BadInput n fault)) before after = (is_skipped line ≡ false) × IsNone line fault × (n ≡ number) × (after ≡ before)
-TakesLine line number w (Err (Limit what kept)) before after = (is_skipped line ≡ false) × IsPast line w what kept × (after ≡ before)
-TakesLine line number w (Err WriteFault) before after = (is_skipped line ≡ false) × ((output : List ℕ) × Prints line w output × TakesPart before after output)
-TakesLine line number w (Err OutOfMemory) before after = (is_skipped line ≡ false) × (after ≡ before)
-TakesLine line number w (Err Done) before after = ⊥
-TakesLine line number w (Err Usage) before after = ⊥
-TakesLine line number w (Err ReadFault) before after = ⊥
-TakesLine line number w (Err DiskFault) before after = ⊥
-TakesLine line number w (Err (StaleEpoch fence)) before after = ⊥
-TakesLine line number w (Err (DamagedCheckpoint offset)) before after = ⊥
+-- what taking the line with this number wrote, and that what runs then stands for the world behind it
+abbrev pub TakesLine : WorldRecord → List ℕ → ℕ → World → Result (Unit {0}) Status → Option (List ℕ) → Option (List ℕ) → Type 0
+TakesLine new line number w result before after = Takes {A = Unit {0}} world_runner.says (Stands new) line number w result before after
 
 -- what ending a run with this status wrote behind its last line
 abbrev pub WritesState : World → Status → Option (List ℕ) → Option (List ℕ) → Type 0
-WritesState w Done before after = Appends before after (lines_text (show w))
-WritesState w WriteFault before after = TakesPart before after (lines_text (show w))
-WritesState w OutOfMemory before after = after ≡ before
-WritesState w Usage before after = ⊥
-WritesState w (BadInput n fault) before after = ⊥
-WritesState w ReadFault before after = ⊥
-WritesState w (Limit what kept) before after = ⊥
-WritesState w DiskFault before after = ⊥
-WritesState w (StaleEpoch fence) before after = ⊥
-WritesState w (DamagedCheckpoint offset) before after = ⊥
-
-abbrev pub behind_all : List (List ℕ) → Run → Run
-behind_all front r = record { outputs = front ++ r.outputs; world = r.world; ending = r.ending }
-
--- of a run over the bytes of an input, so many lines having gone before it: the lines taken and the bytes that are left, what was printed, and the world now
-pub record Along (bytes : List ℕ) (cluster : ClusterRecord) (first number : ℕ) (ended : Bool) (r : WorldRecord) (rest written_before written : Option (List ℕ)) : Type 0 where
-  pub lines : List InputLine
-  pub left : List ℕ
-  pub is_left : rest ≡ Some left
-  pub cut : lines_of bytes ≡ lines ++ lines_of left
-  pub taken : AreTaken ended bytes left lines
-  pub front : List (List ℕ)
-  pub writes : Appends written_before written (concat front)
-  pub world : World
-  pub stands : Stands r world
-  pub through : (more : List InputLine) → run_from first (empty_world cluster) (lines ++ more) ≡ behind_all front (run_from number world more)
+WritesState w status before after = WritesEnd world_ends w status before after

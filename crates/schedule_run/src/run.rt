@@ -4,7 +4,7 @@ ghost use Rattle.fuxi_io.specs.Reading.{rest_of, read_ahead};
 ghost use Rattle.written_world.specs.World.{World as WrittenWorld, empty_world};
 ghost use Rattle.schedule_replay.specs.Worlds.{IsReached};
 ghost use Rattle.schedule_run.specs.Runs.{run_from, read_from, Ended};
-ghost use Rattle.schedule_run.specs.Progress.{Stands, TakesLine, WritesState, after_line, world_status};
+ghost use Rattle.schedule_run.specs.Progress.{Stands, TakesLine, WritesState, world_status};
 ghost use Rattle.input_lines.specs.Wholes.{IsReady};
 ghost use Rattle.fuxi_terms.specs.Limits.{most_lines};
 
@@ -28,8 +28,7 @@ fn take_line<O: Sink>(
 ) -> Result<(), Status>
     requires reached { IsReached running.old }
     requires events { running.old.events < 2 ^ 29 }
-    ensures takes { (w : WrittenWorld) → Stands running.old w → TakesLine line.now number w result (O.took out.old) (O.took out.new) }
-    ensures stands { OnOk result ((w : WrittenWorld) → Stands running.old w → Stands running.new (after_line w line.now)) }
+    ensures takes { (w : WrittenWorld) → Stands running.old w → TakesLine running.new line.now number w result (O.took out.old) (O.took out.new) }
     ensures reached { OnOk result (IsReached running.new) }
     ensures events { OnOk result (running.new.events ≤ running.old.events + 1) }
     ensures later { O.faults out.old ≤ O.faults out.new }

@@ -17,22 +17,18 @@ use schedule_text::Event;
 use std::alloc::Global;
 use std::marker::Model;
 
-// The world of a storm, with the number of its events. Seen as the world.
+// The world of a storm. Seen as the world.
 #[derive(Drop)]
 pub(crate) struct Run {
     world: World,
-    events: u64,
 }
 
 impl Model for Run {
-    ghost use Rattle.std.specs.Prelude.{◌≡◌};
     ghost use Rattle.schedule_replay.specs.Worlds.{WorldRecord};
 
     ghost Value = { WorldRecord };
 
     ghost view = { λ r. r.world };
-
-    ghost invariant = { λ r. r.events ≡ r.world.events };
 }
 
 impl Run {
@@ -43,7 +39,7 @@ impl Run {
         ensures events { IfOk result (λ run. run.events ≡ 0) }
     {
         match World::start(alloc, cluster) {
-            Ok(world) => Ok(Run { world, events: 0 }),
+            Ok(world) => Ok(Run { world }),
             Err(refusal) => Err(refusal),
         }
     }
@@ -54,13 +50,6 @@ impl Run {
         &self.world
     }
 
-    // How many events there were, refused ones too.
-    pub(crate) fn events(&self) -> u64
-        ensures { result ≡ self.now.events }
-    {
-        self.events
-    }
-
     // One event. What it prints is dropped.
     pub(crate) fn take(self, alloc: Global, event: &Event) -> Result<Run, WorldStop>
         requires line { IsLineEvent event.now }
@@ -68,12 +57,9 @@ impl Run {
         ensures runs { Runs (λ w. taken w (event_as event.now)) self result }
         ensures events { IfOk result (λ after. after.events ≡ self.events + 1) }
     {
-        let Run { world, events } = self;
+        let Run { world } = self;
         match world.step(alloc, event) {
-            Ok((world, _lines)) => Ok(Run {
-                world,
-                events: events + 1,
-            }),
+            Ok((world, _lines)) => Ok(Run { world }),
             Err(stop) => Err(stop),
         }
     }

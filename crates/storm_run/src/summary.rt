@@ -55,7 +55,7 @@ fn write_head(run: &Run, seed: u64, steps: u64, out: &mut Vec<u8>) -> Result<(),
         ++ (line (codes "storm") (seed ∷ steps ∷ []) ++ (line (codes "events") (w.events ∷ []) ++ (line (codes "packets") (length w.net.packets ∷ []) ++ line (codes "fence") (w.hard.fence ∷ []))))) }
 {
     write_line(b"storm", &[seed, steps], out)?;
-    write_line(b"events", &[run.events()], out)?;
+    write_line(b"events", &[run.world().steps()], out)?;
     write_line(b"packets", &[run.world().packets()], out)?;
     write_line(b"fence", &[run.world().fence()], out)
 }

@@ -1,4 +1,2 @@
-pub mod SettingLemmas
-pub mod MovesLemmas
 pub mod NamesLemmas
 pub mod EndsLemmas

@@ -16,9 +16,9 @@ use Rattle.fuxi_terms.proofs.SameEntries.{same_entries, same_itself}
 use Rattle.ledger_law.specs.Differing.{tally_by_difference}
 use Rattle.ledger_law.specs.Shapes.{IsTally, IsChange}
 use Rattle.work_plan.specs.Plans.{greatest_named, no_what}
-use Rattle.work_ends.specs.Setting.{numbers_set, moves, AreNumbers}
+use Rattle.fuxi_terms.specs.NumbersSet.{numbers_set, moves, AreNumbers}
 use Rattle.work_ends.specs.Ends.{names_set, patched_names}
-use Rattle.work_ends.proofs.SettingLemmas.{moves_make, set_counts, no_difference}
+use Rattle.fuxi_terms.proofs.NumbersSetLemmas.{moves_make, set_counts, no_difference}
 
 pub at_most_one : (k : Key) → greatest_named k ≤ 1
 at_most_one k = grind (arith, nat_tests)

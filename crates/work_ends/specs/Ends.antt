@@ -22,7 +22,7 @@ use Rattle.written_work.specs.Events.{hear_running}
 use Rattle.work_plan.specs.Plans.{greatest_named, no_what}
 use Rattle.work_ends.specs.declared.ends.Parcel.{Parcel}
 use Rattle.work_ends.specs.declared.hearing.Heard.{Heard}
-use Rattle.work_ends.specs.Setting.{numbers_set}
+use Rattle.fuxi_terms.specs.NumbersSet.{numbers_set}
 
 abbrev pub histories : Type 0
 histories = Party → Id → List TallyRecord

@@ -1,3 +1,2 @@
-mod Stepping
-mod Going
-mod StatesLemmas
+pub mod ProgressLemmas
+pub mod StatesLemmas

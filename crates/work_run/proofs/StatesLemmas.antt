@@ -5,6 +5,7 @@ use Rattle.fuxi_io.specs.declared.status.InputFault.TheVariants.{LineTooLong}
 use Rattle.fuxi_io.specs.declared.status.LimitOf.TheVariants.{Lines}
 use Rattle.fuxi_terms.specs.Limits.{most_line_bytes, most_lines}
 use Rattle.input_lines.specs.Contents.{content, is_skipped}
+use Rattle.input_lines.specs.LineRuns.{AtBadLine, AtLimit, Run, ended, with_said, within_limits}
 use Rattle.schedule_text.specs.declared.event.LineFault.{LineFault}
 use Rattle.work_text.specs.Reading.{work_of}
 use Rattle.written_work.specs.declared.event.WorkEvent.{WorkEvent}
@@ -13,37 +14,37 @@ use Rattle.written_work.specs.Given.{IsGiven}
 use Rattle.written_work.specs.Runs.{past}
 use Rattle.written_work.specs.States.{AllRun, IsReached, AtStart, After}
 use Rattle.written_work.specs.World.{World, empty_world}
-use Rattle.work_run.specs.Runs.{Run, AtBadLine, AtLimit, ended, within_limits, unless_past, with_event, run_from}
+use Rattle.work_run.specs.Runs.{run_from, said_of, unless_past, work_runner}
 use Rattle.work_run.specs.States.{AllPlanned}
 
-reached_within : (before : ℕ) (w : World) (line : InputLine) (run : Run) → IsReached w → IsReached run.world → IsReached (within_limits before w line run).world
+reached_within : (before : ℕ) (w : World) (line : InputLine) (run : Run World) → IsReached w → IsReached run.state → IsReached (within_limits before w line run).state
 reached_within before w line run here there = counted (not (nat_lt before most_lines)) (nat_lt most_line_bytes (length line.bytes))
   where
-    counted : (many long : Bool) → IsReached (if many then ended w (AtLimit Lines most_lines) else (if long then ended w (AtBadLine (before + 1) LineTooLong) else run)).world
+    counted : (many long : Bool) → IsReached (if many then ended w (AtLimit Lines most_lines) else (if long then ended w (AtBadLine (before + 1) LineTooLong) else run)).state
     counted true long = here
     counted false true = here
     counted false false = there
 
-reached_past : (w : World) (e : WorkEvent) (limit : Option ℕ) (run : World → Run) → IsReached w → IsGiven e → ((v : World) → IsReached v → IsReached (run v).world) → IsReached (unless_past w (work_step w e) limit run).world
-reached_past w e (Some kept) run here given go = here
-reached_past w e None run here given go = go (work_step w e).world (After w e here given)
+reached_past : (number : ℕ) (w : World) (e : WorkEvent) (limit : Option ℕ) (run : World → Run World) → IsReached w → IsGiven e → ((v : World) → IsReached v → IsReached (run v).state) → IsReached (with_said work_runner number w (unless_past (work_step w e) limit) run).state
+reached_past number w e (Some kept) run here given go = here
+reached_past number w e None run here given go = go (work_step w e).world (After w e here given)
 
-reached_by : (number : ℕ) (w : World) (said : Result WorkEvent LineFault) (run : World → Run) → IsReached w → IfOk said IsGiven → ((v : World) → IsReached v → IsReached (run v).world) → IsReached (with_event number w said run).world
-reached_by number w (Ok e) run here given go = reached_past w e (past w (work_step w e)) run here given go
+reached_by : (number : ℕ) (w : World) (said : Result WorkEvent LineFault) (run : World → Run World) → IsReached w → IfOk said IsGiven → ((v : World) → IsReached v → IsReached (run v).state) → IsReached (with_said work_runner number w (said_of w said) run).state
+reached_by number w (Ok e) run here given go = reached_past number w e (past w (work_step w e)) run here given go
 reached_by number w (Err fault) run here given go = here
 
-reached_skip : (b : Bool) (skipped plain : Run) → IsReached skipped.world → IsReached plain.world → IsReached (elim b as (λ _. Run) [ true ↦ skipped | false ↦ plain ]).world
+reached_skip : (b : Bool) (skipped plain : Run World) → IsReached skipped.state → IsReached plain.state → IsReached (elim b as (λ _. Run World) [ true ↦ skipped | false ↦ plain ]).state
 reached_skip true skipped plain h k = h
 reached_skip false skipped plain h k = k
 
 module _ (given : (line : List ℕ) → IfOk (work_of line) IsGiven) where
-  run_reached : (lines : List InputLine) (before : ℕ) (w : World) → IsReached w → IsReached (run_from before w lines).world
+  run_reached : (lines : List InputLine) (before : ℕ) (w : World) → IsReached w → IsReached (run_from before w lines).state
   run_reached [] before w here = here
   run_reached (line ∷ lines) before w here =
       let more = λ (v : World) (h : IsReached v). run_reached lines (before + 1) v h in
       reached_within before w line _ here
-      (reached_skip (is_skipped (content line)) (run_from (before + 1) w lines) (with_event (before + 1) w (work_of (content line)) (λ w. run_from (before + 1) w lines))
-      (more w here) (reached_by (before + 1) w (work_of (content line)) (λ w. run_from (before + 1) w lines) here (given (content line)) more))
+      (reached_skip (is_skipped (content line)) (run_from (before + 1) w lines) (with_said work_runner (before + 1) w (work_runner.says w (content line)) (λ v. run_from (before + 1) v lines))
+      (more w here) (reached_by (before + 1) w (work_of (content line)) (λ v. run_from (before + 1) v lines) here (given (content line)) more))
 
   pub all_planned : ((w : World) → IsReached w → nat_eq w.agent 0 ≡ false → AllRun w) → (bytes : List ℕ) → AllPlanned bytes
   all_planned law bytes = record { each = λ n runs. law _ (run_reached (take n (lines_of bytes)) 0 empty_world AtStart) runs }

@@ -7,7 +7,7 @@ use Rattle.work_run.specs.Runs.{run_from}
 
 -- the world behind so many of the first lines of an input, or where the run over them ended before
 abbrev pub world_behind : List ℕ → ℕ → World
-world_behind bytes n = (run_from 0 empty_world (take n (lines_of bytes))).world
+world_behind bytes n = (run_from 0 empty_world (take n (lines_of bytes))).state
 
 -- in each of these worlds, where an agent runs, all that run do so as planned
 pub record AllPlanned (bytes : List ℕ) : Type 0 where

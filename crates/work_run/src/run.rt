@@ -3,8 +3,9 @@ ghost use Rattle.fuxi_io.specs.Causes.{Rose};
 ghost use Rattle.fuxi_terms.specs.Limits.{most_lines};
 ghost use Rattle.written_work.specs.World.{World, empty_world};
 ghost use Rattle.work_world.specs.Worlds.{IsReached, Stands};
-ghost use Rattle.work_run.specs.Runs.{AtEnd, Ended, run_from, run_of};
-ghost use Rattle.work_run.specs.Progress.{TakesLine, WritesState, after_line, world_status};
+ghost use Rattle.input_lines.specs.LineRuns.{AtEnd};
+ghost use Rattle.work_run.specs.Runs.{Ended, run_from, run_of};
+ghost use Rattle.work_run.specs.Progress.{TakesLine, WritesState, world_status};
 
 use fuxi_io::{Got, LimitOf, LineReader, Sink, Source, Status, write_all_of};
 use fuxi_terms::OutOfMemory;
@@ -36,8 +37,7 @@ fn take_line<O: Sink>(
 ) -> Result<(), Status>
     requires reached { IsReached working.old }
     requires events { working.old.events < 2 ^ 29 }
-    ensures takes { (w : World) → Stands working.old w → TakesLine line.now number w result (O.took out.old) (O.took out.new) }
-    ensures stands { OnOk result ((w : World) → Stands working.old w → Stands working.new (after_line w line.now)) }
+    ensures takes { (w : World) → Stands working.old w → TakesLine working.new line.now number w result (O.took out.old) (O.took out.new) }
     ensures reached { OnOk result (IsReached working.new) }
     ensures events { OnOk result (working.new.events ≤ working.old.events + 1) }
     ensures later { O.faults out.old ≤ O.faults out.new }

@@ -25,7 +25,7 @@ use Rattle.fuxi_terms.proofs.CountsLemmas.{tied, lesser, count-set_count, counts
 use Rattle.fuxi_terms.proofs.KeyOrders.{key_total, same_key}
 use Rattle.work_plan.specs.Crews.{Marks}
 use Rattle.work_plan.specs.Plans.{greatest_named, most_workers, worker_key}
-use Rattle.work_ends.specs.Setting.{AreNumbers, numbers_set}
+use Rattle.fuxi_terms.specs.NumbersSet.{AreNumbers, numbers_set}
 use Rattle.written_work.specs.Settling.{keys_of, running_of, with_names}
 use Rattle.written_work.specs.World.{all_units}
 use Rattle.work_world.specs.Numbers.{Tells, changed, name_of, turned}

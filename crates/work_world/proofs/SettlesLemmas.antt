@@ -17,7 +17,7 @@ use Rattle.work_plan.specs.Crews.{AreNumbers as AreNumbersOf, Distinct, runs_at}
 use Rattle.work_plan.specs.Plans.{greatest_named, most_workers, named, of_unit, worker_key}
 use Rattle.work_plan.specs.RunAfter.{run_after}
 use Rattle.work_ends.specs.Ends.{IsEnd, Sets, histories, names_set}
-use Rattle.work_ends.specs.Setting.{numbers_set}
+use Rattle.fuxi_terms.specs.NumbersSet.{numbers_set}
 use Rattle.written_work.specs.Events.{set_to}
 use Rattle.written_work.specs.Settling.{published, running_of}
 use Rattle.written_work.specs.World.{agent_id, app_id}

@@ -5,7 +5,7 @@ use Rattle.fuxi_terms.specs.Counts.{count}
 use Rattle.fuxi_terms.specs.Keys.{key_cmp}
 use Rattle.fuxi_terms.specs.Limits.{most_units}
 use Rattle.fuxi_terms.specs.Numbers.{has_number}
-use Rattle.work_ends.specs.Setting.{numbers_set}
+use Rattle.fuxi_terms.specs.NumbersSet.{numbers_set}
 use Rattle.work_plan.specs.Plans.{most_workers, worker_key}
 
 -- a worker that runs no longer, or now

@@ -11,7 +11,7 @@ use Rattle.work_plan.specs.Crews.{Distinct, Marks, runs_at}
 use Rattle.work_plan.specs.Plans.{named, greatest_named, worker_key}
 use Rattle.work_plan.specs.RunAfter.{run_after}
 use Rattle.work_ends.specs.Ends.{histories}
-use Rattle.work_ends.specs.Setting.{AreNumbers}
+use Rattle.fuxi_terms.specs.NumbersSet.{AreNumbers}
 use Rattle.written_work.specs.Settling.{published, running_of}
 use Rattle.written_work.specs.World.{agent_id, app_id}
 use Rattle.work_world.specs.Numbers.{changed, Tells}

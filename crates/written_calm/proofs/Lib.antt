@@ -2,7 +2,7 @@ pub mod FurtherLemmas
 pub mod TurnsLemmas
 pub mod ReachedLemmas
 pub mod ReportsLemmas
-pub mod RestingLemmas
+pub mod ReadyStays
 pub mod ProgressKept
 pub mod ArrivalsLemmas
 pub mod SteadyLemmas

@@ -40,7 +40,7 @@ use Rattle.written_calm.specs.Places.{AckReaches, AreReached}
 use Rattle.written_calm.specs.Progress.{CanProgress, IsDone}
 use Rattle.written_calm.proofs.ReachedLemmas.{comes_reached, joined_reached, publish_reached, resync_all_reached, send_all_reached, silent_reached, start_reached}
 use Rattle.written_calm.proofs.ReportsLemmas.{told_reports}
-use Rattle.written_calm.proofs.RestingLemmas.{ready_stays}
+use Rattle.written_calm.proofs.ReadyStays.{ready_stays}
 
 -- with the invariant
 pub record Progresses (w : World) : Type 0 where

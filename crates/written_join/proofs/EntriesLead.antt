@@ -43,7 +43,7 @@ use Rattle.written_world.proofs.TablesBounded.{greatest_asked, asked_counts}
 use Rattle.written_world.proofs.GoodKept.{always_good}
 use Rattle.written_world.proofs.JobsKept.{run_cluster}
 use Rattle.written_join.specs.Leading.{AllLead, report_excess}
-use Rattle.written_join.proofs.LeadingLemmas.{rows_lead, grants_lead, demands_lead, reports_lead}
+use Rattle.written_join.proofs.LeadsLemmas.{rows_lead, grants_lead, demands_lead, reports_lead}
 
 -- Known jobs are valid
 listed : {A : Type 0} (p : A → Bool) (xs : List A) → list_all p xs ≡ true → AllByRecursion (λ x. p x ≡ true) xs

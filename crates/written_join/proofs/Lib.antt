@@ -1,10 +1,10 @@
-pub mod HearingJoin
+pub mod HeardJoin
 pub mod SidesLemmas
 pub mod ParcelsLemmas
 pub mod AgentsJoin
 pub mod AppsJoin
 pub mod MastersJoin
-pub mod LeadingLemmas
+pub mod LeadsLemmas
 pub mod EntriesLead
 pub mod KeptReports
 pub mod ShowsLemmas

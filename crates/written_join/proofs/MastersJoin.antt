@@ -37,7 +37,7 @@ use Rattle.written_world.proofs.CreditsLemmas.{put_beside}
 use Rattle.written_roles.specs.MasterRoles.{MasterRole, set_side, publish_alone, offers_alone, ends_alone, MasterHeard, master_told, master_turn, resync_alone, master_commanded, master_changed}
 use Rattle.written_join.specs.Seen.{received_as, side_at, side_of, sides_of, parcel_of, master_seen}
 use Rattle.written_join.specs.Joins.{OneActs, MasterActs, Leads, MasterHearsAlike, MasterStarts, MasterCommanded}
-use Rattle.written_join.proofs.HearingJoin.{HeardAlike, hears_alike}
+use Rattle.written_join.proofs.HeardJoin.{HeardAlike, hears_alike}
 use Rattle.written_join.proofs.SidesLemmas.{published_side, strange}
 use Rattle.fuxi_terms.proofs.Alls.{all_append}
 use Rattle.written_roles.specs.Refusals.{Refusal, with_found, NotRunning, first_refusal, NoGroup, AlreadyServing, job_tests, NothingToPreempt, NotServing, NoMachine}

@@ -16,7 +16,7 @@ use Rattle.fuxi_terms.proofs.Booleans.{false_and}
 use Rattle.written_net.proofs.NetLemmas.{id_is, set_at_all}
 use Rattle.written_net.proofs.SoundLemmas.{Grows}
 use Rattle.written_net.proofs.PublishLemmas.{view_grows, Leaves, set_here, set_other}
-use Rattle.written_join.proofs.HearingJoin.{HeardAlike, hears_alike}
+use Rattle.written_join.proofs.HeardJoin.{HeardAlike, hears_alike}
 
 -- parties of two roles are two
 apart : (p : Party) (q : Id) (inc : ℕ) → nat_eq p.id.role q.role ≡ false → same_party p (party q inc) ≡ false

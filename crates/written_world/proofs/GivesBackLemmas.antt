@@ -56,7 +56,7 @@ use Rattle.written_roles.specs.MasterSteps.{take_report, ended_in, banned_in, ne
 use Rattle.written_roles.specs.Preemption.{preempted}
 use Rattle.written_roles.specs.Refusals.{Refusal, NotRunning, NoUnit, NoMachine, NotUsable, BackRange, first_refusal, with_found}
 use Rattle.written_roles.proofs.MapLemmas.{put_beside}
-use Rattle.written_roles.proofs.TransitionsLemmas.{EachHeard, heard_has}
+use Rattle.written_roles.proofs.TransitionsLemmas.{EachHeard, heard_has, reported_in}
 use Rattle.written_world.specs.World.{App, Step, refused, unless_refused, empty_world}
 use Rattle.written_world.specs.Parties.{agent_table, app_held, joined, adopted_now}
 use Rattle.written_world.specs.Events.{Event, GiveBack, act, counted_in, demanded, given_back, usable_now}
@@ -187,12 +187,28 @@ counted_backs c jobs a d u m =
     less false o e = omega (arith, e)
 
 -- a packet of an application that is not this one names another job
-pub other_app : (x : Packet) (a : ℕ) → x.from.id ≡ app_id x.from.id.number → same_id x.from.id (app_id a) ≡ false → nat_eq a x.from.id.number ≡ false
+other_app : (x : Packet) (a : ℕ) → x.from.id ≡ app_id x.from.id.number → same_id x.from.id (app_id a) ≡ false → nat_eq a x.from.id.number ≡ false
 other_app x a this e = by (nat_eq a x.from.id.number) refl
   where
     by : (b : Bool) → nat_eq a x.from.id.number ≡ b → nat_eq a x.from.id.number ≡ false
     by true f = let same : x.from.id ≡ app_id a = this ∙ ap app_id (sym (number_is a x.from.id.number f)) in let yes : same_id x.from.id (app_id a) ≡ true = ap (λ (q : Id). same_id q (app_id a)) same ∙ same_id_itself (app_id a) in absurd (let z : ⊥ = cc in z)
     by false f = f
+
+-- who talks to a master and is no agent is an application, and where it is not this one its packet is of another job
+pub other_job : (c : ClusterRecord) (M : Master) (x : Packet) → talks c M x.from.id ≡ true → (a : ℕ) → same_id x.from.id (app_id a) ≡ false → is_agent x.from.id ≡ false → nat_eq a x.from.id.number ≡ false
+other_job c M x t a e other =
+    let role = number_is x.from.id.role 3 (talks_app c M x.from.id t other) in
+    other_app x a (λ i. record { role = role i; number = x.from.id.number }) e
+
+-- what holds of a master whatever it hears of applications and reports
+pub heard_beside : (M : Master) (fresh : Bool) (from : Id) (l : Ledger) (P : Master → Type 0) → P M → P (reported_in M from.number l) → (is_agent from ≡ false → (b : Bool) → P (meet_app b M from.number))
+    → (is_agent from ≡ false → (N : Master) → P N → P (take_demand N from.number l)) → EachHeard M fresh from l P
+heard_beside M fresh from l P same reports met taken = record {
+  same = λ _. same;
+  reports = λ _ _. reports;
+  meets = λ app. met app fresh;
+  demands = λ app. taken app (meet_app fresh M from.number) (met app fresh);
+}
 
 -- what a master makes of a packet of an application: it meets it, and takes what counts of the demand
 pub told_app : (c : ClusterRecord) (net : Net Ledger) (M : Master) (d : Heard) (x : Packet) (a : ℕ) → x.from.id ≡ app_id a
@@ -274,12 +290,7 @@ module _ (w : World) (h : Invariant w) (g : AllGiven w.net.histories) (at_epoch 
 
       -- another one
       beside : (a : ℕ) → (is_agent x.from.id ≡ false → nat_eq a x.from.id.number ≡ false) → EachHeard M d.fresh x.from.id l (KeepsCredits M a)
-      beside a other = record {
-        same = λ _. record { it = refl };
-        reports = λ _ _. record { it = refl };
-        meets = λ app. met (other app) d.fresh;
-        demands = λ app. taken (other app) (meet_app d.fresh M x.from.id.number) (met (other app) d.fresh);
-      }
+      beside a other = heard_beside M d.fresh x.from.id l (KeepsCredits M a) (record { it = refl }) (record { it = refl }) (λ app. met (other app)) (λ app. taken (other app))
         where
           met : nat_eq a x.from.id.number ≡ false → (fresh : Bool) → KeepsCredits M a (meet_app fresh M x.from.id.number)
           met o true = record { it = ap (λ r. unwrap_or r []) (put_beside x.from.id.number a [] M.credited o) }
@@ -290,12 +301,6 @@ module _ (w : World) (h : Invariant w) (g : AllGiven w.net.histories) (at_epoch 
               (record N { demands = put nat_cmp x.from.id.number l N.demands; table = credit x.from.id.number (credited_of N x.from.id.number) l.entries N.table; credited = put nat_cmp x.from.id.number (raise_credited (credited_of N x.from.id.number) l.entries) N.credited })
               (record N { demands = put nat_cmp x.from.id.number nothing N.demands })
               (λ _. record { it = ap (λ r. unwrap_or r []) (put_beside x.from.id.number a (raise_credited (credited_of N x.from.id.number) l.entries) N.credited o) ∙ k.it }) (λ _. record { it = k.it })
-
-      this_app : is_agent x.from.id ≡ false → x.from.id ≡ app_id x.from.id.number
-      this_app other = let role = number_is x.from.id.role 3 (talks_app w.cluster M x.from.id t other) in (λ i. record { role = role i; number = x.from.id.number })
-
-      apart : (a : ℕ) → same_id x.from.id (app_id a) ≡ false → is_agent x.from.id ≡ false → nat_eq a x.from.id.number ≡ false
-      apart a e other = other_app x a (this_app other) e
 
       told_this : (a u m : ℕ) (is : x.from.id ≡ app_id a) → Gives a u m is X
       told_this a u m is =
@@ -312,7 +317,7 @@ module _ (w : World) (h : Invariant w) (g : AllGiven w.net.histories) (at_epoch 
           let is : x.from.id ≡ app_id a = id_is x.from.id (app_id a) e in
           at a u m d.link.known (ap (λ (k : Link). k.known) (ap (λ (q : Id). set_at w.net.links (master_party M) q d.link (master_party M) (app_id a)) is ∙ set_here w.net.links (master_party M) (app_id a) d.link)) (told_this a u m is)
       by a u m false e =
-          let same = (heard_has M d.fresh (is_taken d.what) x.from.id l (KeepsCredits M a) (beside a (apart a e))).it in
+          let same = (heard_has M d.fresh (is_taken d.what) x.from.id l (KeepsCredits M a) (beside a (other_job w.cluster M x t a e))).it in
           at a u m (w.net.links (master_party M) (app_id a)).known (ap (λ (k : Link). k.known) (set_beside w.net.links (master_party M) x.from.id d.link (app_id a) e))
           (subst (λ cs. IsGiven M.epoch (w.net.histories (party (app_id a) (w.net.links (master_party M) (app_id a)).known) master_id) u m (count key_cmp cs (credited_key u m))) (sym same) (own.it a u m))
 

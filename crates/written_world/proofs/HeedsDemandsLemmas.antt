@@ -39,11 +39,10 @@ use Rattle.written_world.specs.HeedsDemands.{AllHeed}
 use Rattle.written_world.specs.Runs.{run}
 use Rattle.written_world.proofs.CreditsLemmas.{taken_places}
 use Rattle.written_world.proofs.EventsWalk.{WorldKept, run_keeps_world, unasked}
-use Rattle.written_world.proofs.GivesBackLemmas.{other_app, taken_known, told_app}
+use Rattle.written_world.proofs.GivesBackLemmas.{heard_beside, other_job, taken_known, told_app}
 use Rattle.written_world.proofs.Invariant.{put_found, ready_epoch}
 use Rattle.written_world.proofs.InvariantKept.{SameMaster, always, events_hold, told_same}
 use Rattle.written_world.proofs.KeepsGrantsLemmas.{sent_links, sent_histories, IsUntaken, untaken}
-use Rattle.written_world.proofs.SettledKept.{talks_app}
 use Rattle.written_world.proofs.StartsLemmas.{new_link}
 use Rattle.written_world.proofs.LeftLemmas.{still_runs}
 use Rattle.written_world.proofs.StepsLemmas.{master_is}
@@ -234,11 +233,11 @@ module _ (w : World) (h : Invariant w) (e : ℕ) (M : Master) (n : ℕ) (x : Pac
   abbrev d : Heard
   d = heard_of w.net (master_party M) (talks w.cluster M) x
 
-  abbrev net0 : Net Ledger
-  net0 = comes w.net (master_party M) (talks w.cluster M) (Some x)
-
   abbrev l : Ledger
   l = received w.cluster M w.net x
+
+  abbrev net0 : Net Ledger
+  net0 = comes w.net (master_party M) (talks w.cluster M) (Some x)
 
   -- the job of what is heard
   module _ (a : ℕ) (is : x.from.id ≡ app_id a) (live : is_live M.jobs a ≡ true) (k : Key) where
@@ -296,12 +295,7 @@ module _ (w : World) (h : Invariant w) (e : ℕ) (M : Master) (n : ℕ) (x : Pac
     it : demand_of N a ≡ demand_of M a
 
   beside : (a : ℕ) → (is_agent x.from.id ≡ false → nat_eq a x.from.id.number ≡ false) → EachHeard M d.fresh x.from.id l (KeepsDemand a)
-  beside a other = record {
-    same = λ _. record { it = refl };
-    reports = λ _ _. record { it = refl };
-    meets = λ app. met (other app) d.fresh;
-    demands = λ app. taken (other app) (meet_app d.fresh M x.from.id.number) (met (other app) d.fresh);
-  }
+  beside a other = heard_beside M d.fresh x.from.id l (KeepsDemand a) (record { it = refl }) (record { it = refl }) (λ app. met (other app)) (λ app. taken (other app))
     where
       met : nat_eq a x.from.id.number ≡ false → (fresh : Bool) → KeepsDemand a (meet_app fresh M x.from.id.number)
       met o true = record { it = ap (λ r. unwrap_or r nothing) (put_beside x.from.id.number a nothing M.demands o) }
@@ -312,12 +306,6 @@ module _ (w : World) (h : Invariant w) (e : ℕ) (M : Master) (n : ℕ) (x : Pac
           (record N { demands = put nat_cmp x.from.id.number l N.demands; table = credit x.from.id.number (credited_of N x.from.id.number) l.entries N.table; credited = put nat_cmp x.from.id.number (raise_credited (credited_of N x.from.id.number) l.entries) N.credited })
           (record N { demands = put nat_cmp x.from.id.number nothing N.demands })
           (λ _. record { it = ap (λ r. unwrap_or r nothing) (put_beside x.from.id.number a l N.demands o) ∙ k.it }) (λ _. record { it = ap (λ r. unwrap_or r nothing) (put_beside x.from.id.number a nothing N.demands o) ∙ k.it })
-
-  this_app : is_agent x.from.id ≡ false → x.from.id ≡ app_id x.from.id.number
-  this_app other = let role = number_is x.from.id.role 3 (talks_app w.cluster M x.from.id t other) in (λ i. record { role = role i; number = x.from.id.number })
-
-  apart : (a : ℕ) → same_id x.from.id (app_id a) ≡ false → is_agent x.from.id ≡ false → nat_eq a x.from.id.number ≡ false
-  apart a e other = other_app x a (this_app other) e
 
   abbrev X : Master
   X = told M d x.from.id l
@@ -346,7 +334,7 @@ module _ (w : World) (h : Invariant w) (e : ℕ) (M : Master) (n : ℕ) (x : Pac
           at a k d.link (ap (λ (q : Id). set_at w.net.links (master_party M) q d.link (master_party M) (app_id a)) is ∙ set_here w.net.links (master_party M) (app_id a) d.link) (told_right a is live k)
       by a live k false f =
           at a k (w.net.links (master_party M) (app_id a)) (set_beside w.net.links (master_party M) x.from.id d.link (app_id a) f)
-          (ap (λ (q : Ledger). at_key q k) (heard_has M d.fresh (is_taken d.what) x.from.id l (KeepsDemand a) (beside a (apart a f))).it ∙ b.it a live k)
+          (ap (λ (q : Ledger). at_key q k) (heard_has M d.fresh (is_taken d.what) x.from.id l (KeepsDemand a) (beside a (other_job w.cluster M x t a f))).it ∙ b.it a live k)
 
 -- Each event
 record HoldsHeeding (w : World) : Type 0 where

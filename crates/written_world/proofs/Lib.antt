@@ -36,7 +36,6 @@ pub mod AdoptsLemmas
 pub mod GivesBackLemmas
 pub mod HeedsDemandsLemmas
 pub mod TurnsLemmas
-pub mod JudgingLemmas
+pub mod BansJudgedLemmas
 pub mod HaltsLemmas
-pub mod NumbersLemmas
 pub mod OrdersKept

@@ -29,7 +29,7 @@ use Rattle.written_world.specs.Events.{Event, StartMaster, StopMaster, StartAgen
 use Rattle.written_world.specs.Lines.{is_from_line, is_counted}
 use Rattle.written_world.proofs.CommandLemmas.{found_has, hard_has, submits_has, finishes_has, bans_has, unbans_has, begins_has, makes_room_has}
 use Rattle.written_world.specs.Orders.{Rise, IsInOrder}
-use Rattle.written_world.proofs.NumbersLemmas.{with_all, with_rises}
+use Rattle.fuxi_terms.proofs.NumbersLemmas.{with_all, with_rises}
 
 -- Numbers that are left
 left : (p : ℕ → Bool) (ns : List ℕ) → map {B = ℕ × ℕ} (λ n. (n, 0)) (filter p ns) ≡ where_key nat_cmp p (map {B = ℕ × ℕ} (λ n. (n, 0)) ns)

@@ -198,75 +198,54 @@ joined_reports c jobs net p m x ledger fit old n =
     either (λ (k : Net Ledger). ReportHolds c jobs m (at_index nothing (k.histories p master_id) n).rows) (heard_of net p is_master x).fresh (publish (comes net p is_master (Some x)) p (to_master ledger)) (comes net p is_master (Some x))
     (λ _. publish_each (λ q l. q ≡ master_id → ReportHolds c jobs m l.rows) (comes net p is_master (Some x)) p (to_master ledger) ((λ _. fit), tt) (λ q k e. subst (λ d. ReportHolds c jobs m (at_index nothing (net.histories p d) k).rows) (sym e) (old k)) master_id n refl) (λ _. old n)
 
+-- a party acts that is no master: who runs as an agent or as a master stays, and the cluster, the hard state and the boots
+peer_steps : (w : World) (p : Party) (apps' : List (ℕ × App)) (net' : Net Ledger) → Invariant w → p.inc ≤ top w p.id → ((e : ℕ) → same_party p (party master_id e) ≡ false) → Joins p w.net net'
+    → ((m : ℕ) (g : Agent) → find nat_cmp m w.agents ≡ Some g → ((same_party p (party (agent_id m) g.boot) ≡ false) × (find nat_cmp m w.agents ≡ Some g)) ⊎ IsJoined (w.boots (agent_id m)) net' (party (agent_id m) g.boot))
+    → ((a : ℕ) (g : App) → find nat_cmp a apps' ≡ Some g → ((same_party p (party (app_id a) g.boot) ≡ false) × (find nat_cmp a w.apps ≡ Some g)) ⊎ IsJoined (w.boots (app_id a)) net' (party (app_id a) g.boot))
+    → ((a : ℕ) (g : App) → find nat_cmp a apps' ≡ Some g → (find nat_cmp a w.apps ≡ Some g) ⊎ (Origins net' a g.carried × HasUnits w.hard.jobs a g))
+    → ((a b : ℕ) → (same_party p (party (app_id a) b) ≡ false) ⊎ DemandsHold w.cluster (unit_count w.hard.jobs a) (net'.histories (party (app_id a) b) master_id))
+    → ((m b : ℕ) → (same_party p (party (agent_id m) b) ≡ false) ⊎ ((n : ℕ) → ReportHolds w.cluster w.hard.jobs m (at_index nothing (net'.histories (party (agent_id m) b) master_id) n).rows))
+    → Invariant (record w { apps = apps'; net = net' })
+peer_steps w p apps' net' h ran apart j agents apps origins written reports = stepped w (record w { apps = apps'; net = net' }) p h (record {
+  cluster = refl;
+  sound = j.sound;
+  leaves = j.leaves;
+  grows = j.grows;
+  fence = omega arith;
+  more = knows_itself w.hard.jobs;
+  boots = λ d. omega arith;
+  own = ran;
+  masters = λ e M f. inl (apart e, f);
+  agents = agents;
+  apps = apps;
+  machines = h.machines;
+  origins = origins;
+  written = written;
+  entries = λ e. inl (apart e);
+  reports = reports;
+})
+
 -- a running agent or application acts
 pub agent_invariant : (w : World) (m : ℕ) (g : Agent) (net' : Net Ledger) → Invariant w → find nat_cmp m w.agents ≡ Some g → Joins (party (agent_id m) g.boot) w.net net' → ((n : ℕ) → ReportHolds w.cluster w.hard.jobs m (at_index nothing (net'.histories (party (agent_id m) g.boot) master_id) n).rows) → Invariant (record w { net = net' })
 agent_invariant w m g net' h found j r =
     let ran = (h.agents m g found).ran in
-    stepped w (record w { net = net' }) (party (agent_id m) g.boot) h (record {
-      cluster = refl;
-      sound = j.sound;
-      leaves = j.leaves;
-      grows = j.grows;
-      fence = omega arith;
-      more = knows_itself w.hard.jobs;
-      boots = λ d. omega arith;
-      own = ran;
-      masters = λ e M f. inl (refl, f);
-      agents = own_of (λ (x : Agent). x.boot) 2 w.boots net' m g w.agents found (record { ran = ran; joined = j.joined });
-      apps = λ a b f. inl (refl, f);
-      machines = h.machines;
-      origins = λ a b f. inl f;
-      written = λ a b. inl refl;
-      reports = own_or_apart 2 m g.boot (λ k b. (n : ℕ) → ReportHolds w.cluster w.hard.jobs k (at_index nothing (net'.histories (party (agent_id k) b) master_id) n).rows) r;
-      entries = λ e. inl refl;
-    })
+    peer_steps w (party (agent_id m) g.boot) w.apps net' h ran (λ e. refl) j (own_of (λ (x : Agent). x.boot) 2 w.boots net' m g w.agents found (record { ran = ran; joined = j.joined }))
+    (λ a b f. inl (refl, f)) (λ a b f. inl f) (λ a b. inl refl) (own_or_apart 2 m g.boot (λ k b. (n : ℕ) → ReportHolds w.cluster w.hard.jobs k (at_index nothing (net'.histories (party (agent_id k) b) master_id) n).rows) r)
 
 -- what an application does keeps the invariant
 pub app_invariant : (w : World) (a : ℕ) (g : App) (net' : Net Ledger) → Invariant w → find nat_cmp a w.apps ≡ Some g → Joins (party (app_id a) g.boot) w.net net' → DemandsHold w.cluster (unit_count w.hard.jobs a) (net'.histories (party (app_id a) g.boot) master_id) → Invariant (record w { net = net' })
 app_invariant w a g net' h found j d =
     let ran = (h.apps a g found).ran in
-    stepped w (record w { net = net' }) (party (app_id a) g.boot) h (record {
-      cluster = refl;
-      sound = j.sound;
-      leaves = j.leaves;
-      grows = j.grows;
-      fence = omega arith;
-      more = knows_itself w.hard.jobs;
-      boots = λ d. omega arith;
-      own = ran;
-      masters = λ e M f. inl (refl, f);
-      agents = λ m b f. inl (refl, f);
-      apps = own_of (λ (x : App). x.boot) 3 w.boots net' a g w.apps found (record { ran = ran; joined = j.joined });
-      machines = h.machines;
-      origins = λ b x f. inl f;
-      written = own_or_apart 3 a g.boot (λ k n. DemandsHold w.cluster (unit_count w.hard.jobs k) (net'.histories (party (app_id k) n) master_id)) d;
-      reports = λ k b. inl refl;
-      entries = λ e. inl refl;
-    })
+    peer_steps w (party (app_id a) g.boot) w.apps net' h ran (λ e. refl) j (λ m b f. inl (refl, f)) (own_of (λ (x : App). x.boot) 3 w.boots net' a g w.apps found (record { ran = ran; joined = j.joined }))
+    (λ b x f. inl f) (own_or_apart 3 a g.boot (λ k n. DemandsHold w.cluster (unit_count w.hard.jobs k) (net'.histories (party (app_id k) n) master_id)) d) (λ k b. inl refl)
 
 -- and an application whose record changes
 pub app_put_invariant : (w : World) (a : ℕ) (g g' : App) (net' : Net Ledger) → g'.boot ≡ g.boot → Invariant w → find nat_cmp a w.apps ≡ Some g → Joins (party (app_id a) g.boot) w.net net' → Origins net' a g'.carried → HasUnits w.hard.jobs a g' → DemandsHold w.cluster (unit_count w.hard.jobs a) (net'.histories (party (app_id a) g.boot) master_id) → Invariant (record w { apps = put nat_cmp a g' w.apps; net = net' })
 app_put_invariant w a g g' net' same h found j o u d =
     let k : Joins (party (app_id a) g'.boot) w.net net' = subst (λ b. Joins (party (app_id a) b) w.net net') (sym same) j in
     let ran : g'.boot ≤ w.boots (app_id a) = omega (arith, same, (h.apps a g found).ran) in
-    stepped w (record w { apps = put nat_cmp a g' w.apps; net = net' }) (party (app_id a) g'.boot) h (record {
-      cluster = refl;
-      sound = k.sound;
-      leaves = k.leaves;
-      grows = k.grows;
-      fence = omega arith;
-      more = knows_itself w.hard.jobs;
-      boots = λ d. omega arith;
-      own = ran;
-      masters = λ e M f. inl (refl, f);
-      agents = λ m b f. inl (refl, f);
-      apps = put_of (λ (x : App). x.boot) 3 w.boots net' a g' w.apps (record { ran = ran; joined = k.joined });
-      machines = h.machines;
-      origins = λ b x f. put_origins w.hard.jobs net' a g' w.apps o u b x f;
-      written = own_or_apart 3 a g'.boot (λ k n. DemandsHold w.cluster (unit_count w.hard.jobs k) (net'.histories (party (app_id k) n) master_id)) (subst (λ b. DemandsHold w.cluster (unit_count w.hard.jobs a) (net'.histories (party (app_id a) b) master_id)) (sym same) d);
-      reports = λ k b. inl refl;
-      entries = λ e. inl refl;
-    })
+    peer_steps w (party (app_id a) g'.boot) (put nat_cmp a g' w.apps) net' h ran (λ e. refl) k (λ m b f. inl (refl, f)) (put_of (λ (x : App). x.boot) 3 w.boots net' a g' w.apps (record { ran = ran; joined = k.joined }))
+    (λ b x f. put_origins w.hard.jobs net' a g' w.apps o u b x f) (own_or_apart 3 a g'.boot (λ k n. DemandsHold w.cluster (unit_count w.hard.jobs k) (net'.histories (party (app_id k) n) master_id)) (subst (λ b. DemandsHold w.cluster (unit_count w.hard.jobs a) (net'.histories (party (app_id a) b) master_id)) (sym same) d)) (λ k b. inl refl)
 
 -- Starts. What starts has sent nothing and knows nobody
 start_joins : (net : Net Ledger) (p : Party) → ((q : Id) → net.histories p q ≡ []) → Sound shape net → Joins p net (move net (Starts p))

@@ -217,9 +217,9 @@ app_starts_recorded : (w : World) (a b : ℕ) → IsRecorded w → w.boots (app_
 app_starts_recorded w a b h lt =
     let d = app_id a in
     let p = party d b in
+    let here = set_own w.boots d b in
     let ran = w.ran ++ p ∷ [] in
     let more = runs_one w.ran p in
-    let here = set_own w.boots d b in
     record {
       masters = λ e M f. let k = h.masters e M f in (k.0, more.more (party master_id e) k.1);
       agents = λ m g f. let k = h.agents m g f in record { last = k.last; recorded = more.more (party (agent_id m) g.boot) k.recorded };

@@ -1,4 +1,4 @@
-use Rattle.written_join.proofs.LeadingLemmas.{rows_lead, grants_lead, demands_lead, reports_lead}
+use Rattle.written_join.proofs.LeadsLemmas.{rows_lead, grants_lead, demands_lead, reports_lead}
 use Rattle.written_join.proofs.histories_lead.Goals as goal
 
 pub returns : goal.returns

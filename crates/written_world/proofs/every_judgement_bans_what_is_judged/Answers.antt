@@ -1,6 +1,6 @@
 use Rattle.written_world.specs.Runs.{run}
 use Rattle.written_world.proofs.GoodKept.{always_good}
-use Rattle.written_world.proofs.JudgingLemmas.{all_judge}
+use Rattle.written_world.proofs.BansJudgedLemmas.{all_judge}
 use Rattle.written_world.proofs.every_judgement_bans_what_is_judged.Goals as goal
 
 pub returns : goal.returns

@@ -3,7 +3,7 @@ use Rattle.written_net.specs.Ledgers.{Ledger}
 use Rattle.written_net.specs.Sides.{shown, appended}
 use Rattle.core_side.specs.Bodies.{tally_of}
 use Rattle.app_master.specs.Apps.{patched_demand, IsUp}
-use Rattle.app_master.proofs.AskingLemmas.{joined_is}
+use Rattle.app_master.proofs.DemandChanges.{joined_is}
 use Rattle.app_master.proofs.asking.join.Goals as goal
 
 pub returns-in-Ok-clause-joins : goal.returns-in-Ok-clause-joins

@@ -11,7 +11,7 @@ use Rattle.written_roles.specs.Apps.{changed_demand}
 use Rattle.core_side.specs.Bodies.{tally_of}
 use Rattle.app_master.specs.Apps.{patched_demand, IsUp}
 use Rattle.app_master.specs.Asking.{IsMove}
-use Rattle.app_master.proofs.AskingLemmas.{set_itself, set_here, move_made, changed_is}
+use Rattle.app_master.proofs.DemandChanges.{set_itself, set_here, move_made, changed_is}
 use Rattle.app_master.proofs.asking.set_number.Goals as goal
 
 pub returns-then-kept-number-clause-sets : goal.returns-then-kept-number-clause-sets

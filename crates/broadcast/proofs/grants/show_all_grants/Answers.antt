@@ -14,7 +14,7 @@ show_slot-requires-clause-counts c =
     let t = c.args.table.now in
     let ss = map spot_of c.args.spots.now in
     let lt : c.loop-app.app < c.len.result = omega arith in
-    let is = slot_counts (counts_at t ss) c.len.result c.in_ok-counts.counts.items c.loop-app.app c.index.result.now c.deref.result.now c.in_ok-counts.ensures lt c.index.ensures c.deref.ensures.value in
+    let is = slot_counts (counts_at t ss) c.len.result c.in_ok-counts.counts c.deref.result.now c.loop-app.app c.counts_of.result.now c.in_ok-counts.ensures lt c.deref.ensures.value c.counts_of.ensures in
     subst (AreNumbersOf 2) (sym is) (counts_in_order c.loop-app.app (counts_at t ss) (touched_sorted t ss c.requires.order) (touched_small t c.cluster-cluster.ensures.sound ss))
 
 pub loop-app-preserved : goal.loop-app-preserved
@@ -25,7 +25,7 @@ loop-app-preserved c =
     let wide = c.loop-app.invariant.wide in
     let lt : a < length apps = omega arith in
     let few : a < c.len.result = omega arith in
-    let is = slot_counts touched c.len.result c.in_ok-counts.counts.items a c.index.result.now c.deref.result.now c.in_ok-counts.ensures few c.index.ensures c.deref.ensures.value in
+    let is = slot_counts touched c.len.result c.in_ok-counts.counts c.deref.result.now a c.counts_of.result.now c.in_ok-counts.ensures few c.deref.ensures.value c.counts_of.ensures in
     one_shown touched c.args.news.now a c.args.apps.now.items apps c.index_mut.result.now c.show_slot.new.slot c.loop-app.invariant lt (in_slot apps a c.index_mut.result.now lt c.index_mut.ensures.value)
     c.in_ok-show_slot.ensures.none
     (λ d e. subst (λ cs. SlotIsShown c.args.news.now a cs d c.show_slot.new.slot) is (c.in_ok-show_slot.ensures.some d e))

@@ -4,7 +4,7 @@ use Rattle.fuxi_terms.specs.Counts.{AreCounts}
 use Rattle.fuxi_terms.specs.Keys.{key_cmp}
 use Rattle.fuxi_terms.specs.Tallies.{TallyRecord}
 use Rattle.fuxi_terms.specs.TallyKeys.{greatest_grant}
-use Rattle.broadcast.specs.NumbersSet.{AreNumbers}
+use Rattle.fuxi_terms.specs.NumbersSet.{AreNumbers}
 use Rattle.broadcast.specs.Shown.{grants_set}
 use Rattle.broadcast.specs.AllShown.{is_job}
 use Rattle.broadcast.specs.OneJob.{numbers_of}

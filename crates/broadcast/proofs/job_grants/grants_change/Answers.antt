@@ -8,7 +8,7 @@ use Rattle.fuxi_terms.specs.Counts.{count, change_between}
 use Rattle.fuxi_terms.specs.Tallies.{staying, ChangeRecord}
 use Rattle.fuxi_terms.specs.TallyKeys.{greatest_grant, credited_what}
 use Rattle.broadcast.proofs.GrantsSetLemmas.{count_small, number_small}
-use Rattle.broadcast.proofs.MovesLemmas.{rest_from, every, are_same, are_others, moves_rise, moves_skip, moves_put}
+use Rattle.fuxi_terms.proofs.MovesLemmas.{rest_from, every, are_same, are_others, moves_rise, moves_skip, moves_put}
 use Rattle.broadcast.proofs.job_grants.grants_change.Goals as goal
 
 abbrev none : Key × ℕ

@@ -2,7 +2,7 @@ use Rattle.std.proofs.Common.{◌≡◌, drop}
 use Rattle.fuxi_terms.specs.Keys.{key_cmp}
 use Rattle.fuxi_terms.specs.Tallies.{staying}
 use Rattle.fuxi_terms.specs.TallyKeys.{credited_what}
-use Rattle.broadcast.proofs.MovesLemmas.{IsMovesTo}
+use Rattle.fuxi_terms.proofs.MovesLemmas.{IsMovesTo}
 use Rattle.broadcast.proofs.job_grants.grants_change.Given as goal
 
 abbrev pub invariant-loop-key : goal.invariant-loop-key

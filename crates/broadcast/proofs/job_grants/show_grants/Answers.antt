@@ -8,7 +8,7 @@ use Rattle.fuxi_terms.specs.declared.answers.LedgerFault.TheVariants.{Below, Too
 use Rattle.fuxi_terms.proofs.Booleans.{not_false, number_is, nat_itself}
 use Rattle.ledger_law.specs.Shapes.{IsTally, IsChange}
 use Rattle.core_side.specs.Bodies.{tally_of}
-use Rattle.broadcast.specs.NumbersSet.{moves}
+use Rattle.fuxi_terms.specs.NumbersSet.{moves}
 use Rattle.broadcast.specs.Shown.{grants_set}
 use Rattle.broadcast.proofs.GrantsSetLemmas.{grants_are_set, grants_differ, grants_form, kept_as}
 use Rattle.broadcast.proofs.ShownLemmas.{shown_posted, shown_kept, not_due, is_empty_due}

@@ -1,6 +1,6 @@
 use Rattle.fuxi_terms.specs.TallyKeys.{greatest_grant}
 use Rattle.fuxi_terms.proofs.KeyOrders.{key_total, same_key}
-use Rattle.broadcast.proofs.NumbersSetLemmas.{set_counts}
+use Rattle.fuxi_terms.proofs.NumbersSetLemmas.{set_counts}
 use Rattle.broadcast.proofs.ProjectionsLemmas.{set_count_is}
 use Rattle.broadcast.proofs.laws.numbers_are_set.Goals as goal
 

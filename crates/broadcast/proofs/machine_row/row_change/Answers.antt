@@ -8,8 +8,8 @@ use Rattle.fuxi_terms.specs.Counts.{count, change_between}
 use Rattle.fuxi_terms.specs.Rows.{is_row_key, greatest_row}
 use Rattle.broadcast.specs.declared.machine_row.RowNumber.{RowNumber}
 use Rattle.broadcast.specs.Shown.{number_of}
-use Rattle.broadcast.proofs.NumbersSetLemmas.{change_within}
-use Rattle.broadcast.proofs.MovesLemmas.{rest_at, all_of, are_same, are_others, moves_rise, moves_skip, moves_put}
+use Rattle.fuxi_terms.proofs.NumbersSetLemmas.{change_within}
+use Rattle.fuxi_terms.proofs.MovesLemmas.{rest_at, all_of, are_same, are_others, moves_rise, moves_skip, moves_put}
 use Rattle.broadcast.proofs.RowSetLemmas.{row_small, number_small}
 use Rattle.broadcast.proofs.machine_row.row_change.Goals as goal
 

@@ -1,7 +1,7 @@
 use Rattle.std.proofs.Common.{map, drop}
 use Rattle.fuxi_terms.specs.Keys.{row_cmp}
 use Rattle.broadcast.specs.Shown.{number_of}
-use Rattle.broadcast.proofs.MovesLemmas.{IsMovesTo}
+use Rattle.fuxi_terms.proofs.MovesLemmas.{IsMovesTo}
 use Rattle.broadcast.proofs.machine_row.row_change.Given as goal
 
 abbrev pub invariant-loop-number : goal.invariant-loop-number

@@ -5,9 +5,9 @@ use Rattle.fuxi_terms.specs.Keys.{row_cmp}
 use Rattle.fuxi_terms.specs.Rows.{IsRow, patched_row}
 use Rattle.written_net.specs.Ledgers.{row_ledger}
 use Rattle.core_side.specs.Bodies.{report_of}
-use Rattle.broadcast.specs.NumbersSet.{numbers_set, moves}
+use Rattle.fuxi_terms.specs.NumbersSet.{numbers_set, moves}
 use Rattle.broadcast.specs.Shown.{number_of}
-use Rattle.broadcast.proofs.NumbersSetLemmas.{moves_few}
+use Rattle.fuxi_terms.proofs.NumbersSetLemmas.{moves_few}
 use Rattle.broadcast.proofs.RowSetLemmas.{row_is_set, row_differs}
 use Rattle.broadcast.proofs.ShownLemmas.{shown_posted, shown_kept, not_due_alone, due_alone}
 use Rattle.broadcast.proofs.machine_row.show_row.Goals as goal

@@ -4,7 +4,7 @@ use Rattle.fuxi_terms.specs.Keys.{row_cmp}
 use Rattle.fuxi_terms.specs.Rows.{IsRow, patched_row}
 use Rattle.written_net.specs.Ledgers.{row_ledger}
 use Rattle.core_side.specs.Bodies.{report_of}
-use Rattle.broadcast.specs.NumbersSet.{numbers_set}
+use Rattle.fuxi_terms.specs.NumbersSet.{numbers_set}
 use Rattle.broadcast.specs.Shown.{number_of, Shows}
 use Rattle.broadcast.proofs.ShownRows.{stays}
 use Rattle.broadcast.proofs.rows.show_one.Goals as goal

@@ -1,24 +1,81 @@
-use Rattle.std.proofs.Common.{◌≡◌, ◌⊎◌, ◌∙◌, IfSome, sym, subst, Option, Some}
-use Rattle.fuxi_io.specs.declared.status.Status.TheVariants.{OutOfMemory}
-use Rattle.fuxi_node.specs.Inputs.{InputEndsBy, LeavesDisk, MayStart, ending_of, status_at}
-use Rattle.fuxi_command.specs.Words.{Command, Node}
+use Rattle.std.proofs.Common.{refl, sym}
+use Rattle.schedule_run.specs.Runs.{read_from, Ended}
+use Rattle.fuxi_command.specs.Words.{Lease, Node, Replay, Storm, Work}
+use Rattle.fuxi_command.proofs.OutcomesLemmas.{diskless, node_diskless, node_untouched, of_command, of_none, storm_ends, work_lines, work_records}
+use Rattle.fuxi_command.proofs.ReplaysLemmas.{begun}
+use Rattle.fuxi_command.proofs.Untouched.{untouched}
 use Rattle.fuxi_command.proofs.top.run_command.Goals as goal
 
-pub returns-in-Some-Node-clause-complete : goal.returns-in-Some-Node-clause-complete
-returns-in-Some-Node-clause-complete g c k a is bytes known may read write disk =
-    let parsed : ◌≡◌ {A = Option Command} (Some (Node c.in-Some-Node.kind c.in-Some-Node.addr.now)) (Some (Node k a)) = (rw c.in-Some-Node.field-0-is at c.in-Some-Node.ensures.is) ∙ is in
-    let same : c.in-Some-Node.kind ≡ k = cc in
-    subst (λ x. (c.run_input.result ≡ status_at (ending_of x bytes)) ⊎ (c.run_input.result ≡ OutOfMemory)) same
-    (c.run_input.ensures.complete bytes known (subst (λ x. MayStart x (g.D.Disk.told c.args.disk.now)) (sym same) may) read write disk)
+pub returns-in-None : goal.returns-in-None
+returns-in-None g c = of_none _ _ _ _ _ _ _ (sym (rw c.in-None.is at c.command_of.ensures.is)) refl refl refl refl
 
-pub returns-in-Some-Node-clause-places : goal.returns-in-Some-Node-clause-places
-returns-in-Some-Node-clause-places g c k a is =
-    let parsed : ◌≡◌ {A = Option Command} (Some (Node c.in-Some-Node.kind c.in-Some-Node.addr.now)) (Some (Node k a)) = (rw c.in-Some-Node.field-0-is at c.in-Some-Node.ensures.is) ∙ is in
-    let same : c.in-Some-Node.kind ≡ k = cc in
-    subst (λ x. IfSome (g.S.Source.left c.args.input.now) (λ bytes. InputEndsBy x bytes c.run_input.result (g.S.Source.left c.run_input.new.source))) same c.run_input.ensures.places
+pub returns-in-Err : goal.returns-in-Err
+returns-in-Err g c = of_command _ Replay _ _ _ _ _ _ _ (sym (rw c.in-Some-Replay.field-0-is at c.in-Some-Replay.ensures.is)) (record {
+  usage = λ other. cc;
+  read = λ other. absurd cc;
+  write = λ other. absurd cc;
+  limit = λ kept other. absurd cc;
+  disk = λ other. absurd cc;
+  no_door = λ no. refl;
+  no_file = λ no. refl;
+  diskless = λ no. tt;
+}) (untouched (g.S.Source.left c.args.input.now) (g.O.Sink.took c.args.out.now))
 
-pub returns-in-Some-Node-clause-stays : goal.returns-in-Some-Node-clause-stays
-returns-in-Some-Node-clause-stays g c k a is =
-    let parsed : ◌≡◌ {A = Option Command} (Some (Node c.in-Some-Node.kind c.in-Some-Node.addr.now)) (Some (Node k a)) = (rw c.in-Some-Node.field-0-is at c.in-Some-Node.ensures.is) ∙ is in
-    let same : c.in-Some-Node.kind ≡ k = cc in
-    subst (λ x. LeavesDisk x c.run_input.result (g.D.Disk.told c.args.disk.now) (g.D.Disk.told c.run_input.new.disk)) same c.run_input.ensures.stays
+pub returns-in-Ok : goal.returns-in-Ok
+returns-in-Ok g c = let r = c.run_schedule.ensures in of_command _ Replay _ _ _ _ _ _ _ (sym (rw c.in-Some-Replay.field-0-is at c.in-Some-Replay.ensures.is)) (record {
+  usage = r.usage;
+  read = r.read;
+  write = r.write;
+  limit = (rw c.in-Ok.ensures at r.limit) refl;
+  disk = λ failed. absurd (r.disk failed);
+  no_door = λ no. refl;
+  no_file = λ no. refl;
+  diskless = λ no. diskless c.run_schedule.result r.disk r.stale r.damaged ((rw c.in-Ok.ensures at r.records) refl);
+}) (begun (g.S.Source.left c.args.input.now) (λ bytes. Ended (read_from 0) bytes c.run_schedule.result (g.S.Source.left c.run_schedule.new.source) (g.O.Sink.took c.args.out.now) (g.O.Sink.took c.run_schedule.new.out))
+    ((rw c.in-Ok.ensures at r.ended) refl))
+
+pub returns-in-Some-Storm : goal.returns-in-Some-Storm
+returns-in-Some-Storm g c =
+    let r = c.run_storm.ensures in
+    of_command _ (Storm c.in-Some-Storm.seed c.in-Some-Storm.steps) _ _ _ _ _ _ _ (sym (rw c.in-Some-Storm.field-0-is at c.in-Some-Storm.ensures.is))
+    (storm_ends c.in-Some-Storm.seed c.in-Some-Storm.steps _ _ _ _ _ r.ended r.write refl refl) (refl, r.ended)
+
+pub returns-in-Some-Node : goal.returns-in-Some-Node
+returns-in-Some-Node g c =
+    let r = c.run_input.ensures in
+    let kind = c.in-Some-Node.kind in
+    let addr = c.in-Some-Node.addr.now in
+    of_command _ (Node kind addr) _ _ _ _ _ _ _ (sym (rw c.in-Some-Node.field-0-is at c.in-Some-Node.ensures.is)) (record {
+      usage = r.usage;
+      read = r.read;
+      write = r.write;
+      limit = r.limit;
+      disk = r.disk;
+      no_door = λ no. absurd cc;
+      no_file = λ no. node_untouched kind addr _ r.unused no;
+      diskless = λ no. node_diskless kind addr c.run_input.result (g.D.Disk.told c.args.disk.now) r.told no;
+    }) (record { node = r.ended; places = r.places; complete = r.complete; stays = r.stays; unopened = r.unopened; told = r.told })
+
+pub returns-in-Some-Lease : goal.returns-in-Some-Lease
+returns-in-Some-Lease g c = let r = c.run_lease.ensures in of_command _ Lease _ _ _ _ _ _ _ (sym (rw c.in-Some-Lease.field-0-is at c.in-Some-Lease.ensures.is)) (record {
+  usage = r.usage;
+  read = r.read;
+  write = r.write;
+  limit = λ kept is. (r.limit _ kept is).1;
+  disk = r.disk;
+  no_door = λ no. refl;
+  no_file = λ no. absurd cc;
+  diskless = λ no. absurd cc;
+}) (record { ended = r.ended; told = record { damaged = r.damaged; limit = λ what kept is. (r.limit what kept is).0; fresh = r.stale }; complete = r.complete })
+
+pub returns-in-Some-Work : goal.returns-in-Some-Work
+returns-in-Some-Work g c = let r = c.run_work.ensures in of_command _ Work _ _ _ _ _ _ _ (sym (rw c.in-Some-Work.field-0-is at c.in-Some-Work.ensures.is)) (record {
+  usage = r.usage;
+  read = r.read;
+  write = r.write;
+  limit = λ kept is. work_lines c.run_work.result kept r.limit is;
+  disk = λ failed. absurd (r.disk failed);
+  no_door = λ no. refl;
+  no_file = λ no. refl;
+  diskless = λ no. diskless c.run_work.result r.disk r.stale r.damaged (λ kept is. work_records c.run_work.result kept r.limit is);
+}) (record { ended = r.ended; complete = r.complete })

@@ -22,7 +22,7 @@ returns-in-Ok-run_node-clause-ended g c ready =
 pub returns-in-Err-clause-ended : goal.returns-in-Err-clause-ended
 returns-in-Err-clause-ended g c ready =
     has_machine c.args.machine c.args.boot c.args.addr.now None None c.args.cluster.now c.args.lines.now.number (g.O.Sink.took c.args.out.now) _ OutOfMemory (g.S.Source.left c.args.source.now) (g.O.Sink.took c.args.out.now) (g.N.Door.faults c.args.door.now) (g.N.Door.faults c.args.door.now) (g.N.Door.told c.args.door.now) (g.N.Door.told c.args.door.now)
-    (omega arith) (nothing_taken (λ q. Unit {0}) (λ q p. Unit {0}) (agent_start c.args.cluster.now c.args.machine.0 c.args.boot c.args.addr.now c.args.lines.now.number) c.args.lines.now.pending (g.S.Source.left c.args.source.now) (g.O.Sink.took c.args.out.now) (g.N.Door.faults c.args.door.now) (g.N.Door.told c.args.door.now) c.requires.ahead tt)
+    (omega arith) (nothing_taken (λ q. Unit {0}) (λ q p. Unit {0}) (agent_start c.args.cluster.now c.args.machine.0 c.args.boot c.args.addr.now c.args.lines.now.number) c.args.lines.now.pending (g.S.Source.left c.args.source.now) (g.O.Sink.took c.args.out.now) (g.N.Door.faults c.args.door.now) (g.N.Door.told c.args.door.now) c.is_little_ahead.ensures tt)
 
 pub returns-in-Ok-run_node-clause-places : goal.returns-in-Ok-run_node-clause-places
 returns-in-Ok-run_node-clause-places g c ready =

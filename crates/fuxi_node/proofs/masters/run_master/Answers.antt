@@ -11,7 +11,7 @@ use Rattle.fuxi_node.proofs.masters.run_master.Goals as goal
 pub returns-in-Err-clause-ended : goal.returns-in-Err-clause-ended
 returns-in-Err-clause-ended g c ready =
     not_started c.args.epoch (master_start c.args.cluster.now c.args.epoch c.args.addr.now c.args.lines.now.number) (g.D.Disk.told c.args.disk.now) (g.D.Disk.told c.open.new.disk)
-    c.in-Err.fault c.start_status.result c.args.lines.now.pending (g.S.Source.left c.args.source.now) (g.O.Sink.took c.args.out.now) (g.N.Door.faults c.args.door.now) (g.N.Door.told c.args.door.now) c.start_status.ensures c.in-Err.ensures.faults c.requires.ahead c.in-Err.ensures.told
+    c.in-Err.fault c.start_status.result c.args.lines.now.pending (g.S.Source.left c.args.source.now) (g.O.Sink.took c.args.out.now) (g.N.Door.faults c.args.door.now) (g.N.Door.told c.args.door.now) c.start_status.ensures c.in-Err.ensures.faults c.is_little_ahead.ensures c.in-Err.ensures.told
 
 pub returns-in-Ok-run_node-clause-ended : goal.returns-in-Ok-run_node-clause-ended
 returns-in-Ok-run_node-clause-ended g c ready =

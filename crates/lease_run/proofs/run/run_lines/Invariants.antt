@@ -2,13 +2,15 @@ use Rattle.std.proofs.Common.{◌≡◌, ◌<◌, ◌≤◌, true, false, Option
 use Rattle.fuxi_io.specs.Disks.{Told}
 use Rattle.fuxi_io.specs.Reading.{rest_of}
 use Rattle.fuxi_terms.specs.Limits.{most_lines}
+use Rattle.input_lines.specs.LineProgress.{Along}
 use Rattle.epoch_lease.specs.Files.{lease_of}
-use Rattle.lease_run.specs.Progress.{Along, Rests}
+use Rattle.lease_run.specs.Progress.{Rests}
+use Rattle.lease_run.specs.Runs.{lease_runner}
 use Rattle.lease_run.proofs.run.run_lines.Given as goal
 
 abbrev pub invariant-loop-turn : goal.invariant-loop-turn
 invariant-loop-turn g l = record {
-  along : IfSome (g.S.Source.left l.fn.source) (λ bytes. Along bytes (lease_of l.fn.lease) l.lines.number true (lease_of l.lease) (rest_of l.lines (g.S.Source.left l.source)) (g.O.Sink.took l.fn.out) (g.O.Sink.took l.out));
+  along : IfSome (g.S.Source.left l.fn.source) (λ bytes. Along lease_runner (lease_of l.fn.lease) bytes 0 l.lines.number true (λ s. lease_of l.lease ≡ s) (rest_of l.lines (g.S.Source.left l.source)) (g.O.Sink.took l.fn.out) (g.O.Sink.took l.out));
   rests : (before : Option Told) → Rests before l.fn.lease (g.D.Disk.told l.fn.disk) → Rests before l.lease (g.D.Disk.told l.disk);
   number : l.turn ≤ l.lines.number;
   small : 1 ≤ l.turn → l.lines.number ≤ most_lines;

@@ -1,4 +1,4 @@
-use Rattle.packet_pool.proofs.Rereading.{read_back, read_at}
+use Rattle.packet_pool.proofs.FramesReadBack.{read_back, read_at}
 use Rattle.packet_pool.proofs.laws.stored_is_read.Goals as goal
 
 pub returns-clause-frame : goal.returns-clause-frame

@@ -1,4 +1,4 @@
-use Rattle.std.proofs.Common.{◌≡◌, ℕ, List, [], ◌∷◌, Some, None, sym, subst}
+use Rattle.std.proofs.Common.{ℕ, List, [], ◌∷◌, Some, None, sym, subst}
 use Rattle.fuxi_terms.proofs.Booleans.{and_true}
 use Rattle.locality_tree.specs.Trees.{Pair}
 use Rattle.place_pass.specs.Bounds.{IsBounded}

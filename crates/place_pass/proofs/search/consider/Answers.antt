@@ -1,4 +1,4 @@
-use Rattle.std.proofs.Common.{◌≡◌, ℕ, true, false, cond, nat_lt, Option, List, None, Some, refl, sym, ◌∙◌, ap, subst, get_or, arith}
+use Rattle.std.proofs.Common.{◌≡◌, ℕ, false, cond, nat_lt, Option, List, None, Some, refl, sym, ◌∙◌, ap, subst, get_or, arith}
 use Rattle.std.specs.Option.{option_map}
 use Rattle.std.proofs.lemmas.Bool.Decides.{nat_tests}
 use Rattle.fuxi_terms.proofs.Booleans.{and_true}

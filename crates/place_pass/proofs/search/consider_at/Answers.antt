@@ -1,4 +1,4 @@
-use Rattle.std.proofs.Common.{◌≡◌, ℕ, ◌+◌, ◌<◌, ◌≤◌, true, cond, nat_eq, length, map, set, None, sym, ◌∙◌, ap, subst, arith}
+use Rattle.std.proofs.Common.{◌≡◌, ℕ, ◌+◌, ◌<◌, ◌≤◌, cond, map, set, sym, ◌∙◌, ap, subst, arith}
 use Rattle.fuxi_terms.proofs.Booleans.{nat_itself}
 use Rattle.place_pass.specs.Counts.{is_unsettled_by}
 use Rattle.place_pass.specs.Bounds.{MarkRecord, mark_of, mark_at}

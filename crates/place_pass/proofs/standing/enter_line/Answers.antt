@@ -1,6 +1,5 @@
 use Rattle.std.proofs.Common.{◌≡◌, ◌+◌, ◌<◌, ℕ, List, true, false, take, length, get_or, [], refl, sym, ◌∙◌, ap, subst, arith}
 use Rattle.fuxi_terms.specs.Jobs.{unit_count}
-use Rattle.fuxi_terms.proofs.Lists.{all_at}
 use Rattle.grant_table.specs.Tables.{as_known}
 use Rattle.wait_queue.specs.declared.node.Entry.{Entry}
 use Rattle.locality_tree.specs.Trees.{TreeRecord, is_admitted, refreshed, unit_number, MayWait}
@@ -10,12 +9,12 @@ use Rattle.place_pass.specs.Lines.{same_pair}
 use Rattle.place_pass.specs.Trees.{HoldsLine, AllStand, StandsAs, WaitsIn, Restood}
 use Rattle.place_pass.proofs.LinesLemmas.{pair_is, taken_whole}
 use Rattle.place_pass.proofs.CellsMatchTable.{count_is}
-use Rattle.place_pass.proofs.NumberedLemmas.{app_small, unit_small}
-use Rattle.place_pass.proofs.TreesLemmas.{holds_begun, begun_others, holds_on, numbers_apart, stands_on, admitted_in, may_wait, waits_in, turn_before, has_other, has_itself}
+use Rattle.place_pass.proofs.LinedLemmas.{admitted_at, here_at, placed_at}
+use Rattle.place_pass.proofs.TreesLemmas.{holds_begun, begun_others, holds_on, numbers_apart, stands_on, may_wait, waits_in, turn_before, has_other, has_itself}
 use Rattle.place_pass.proofs.standing.enter_line.Goals as goal
 
 pub entry_for-entry-requires-clause-unit : goal.entry_for-entry-requires-clause-unit
-entry_for-entry-requires-clause-unit c = all_at (λ (p : ℕ × ℕ). p.1 < length (get_or c.args.wishes.now.cells p.0 [])) c.args.line.now.pairs c.loop-place.place (c.at.result.0.0, c.at.result.1.0) c.requires.admitted c.at.ensures
+entry_for-entry-requires-clause-unit c = here_at c.cluster-wishes.ensures.sound c.args.line.now.pairs c.requires.admitted c.loop-place.place c.at.ensures
 
 pub refresh-requires-clause-admitted : goal.refresh-requires-clause-admitted
 refresh-requires-clause-admitted c =
@@ -23,9 +22,7 @@ refresh-requires-clause-admitted c =
     let line = c.args.line.now.pairs in
     let q : ℕ × ℕ = (c.at.result.0.0, c.at.result.1.0) in
     subst (λ (e : Entry). is_admitted c.loop-place.tree e.app.0 e.unit.0 ≡ true) (sym c.entry_for-entry.ensures)
-    (admitted_in w.cluster w.cells (λ p. has_pair p (take c.loop-place.place line)) c.args.turn_of.now.items c.loop-place.tree q.0 q.1 c.loop-place.invariant.holds
-    (unit_small w.cells line c.loop-place.place q c.requires.admitted c.at.ensures c.cluster-wishes.ensures.sound.few)
-    (all_at (λ (p : ℕ × ℕ). p.1 < length (get_or w.cells p.0 [])) line c.loop-place.place q c.requires.admitted c.at.ensures))
+    (admitted_at c.cluster-wishes.ensures.sound c.args.line.now.pairs c.requires.admitted c.loop-place.place c.at.ensures (λ p. has_pair p (take c.loop-place.place line)) c.args.turn_of.now.items c.loop-place.tree c.loop-place.invariant.holds)
 
 pub refresh-requires-clause-entry : goal.refresh-requires-clause-entry
 refresh-requires-clause-entry c =
@@ -34,20 +31,18 @@ refresh-requires-clause-entry c =
     let q : ℕ × ℕ = (c.at.result.0.0, c.at.result.1.0) in
     let f : ℕ × ℕ → ℕ = λ p. turn_at c.args.turn_of.now.items p.0 p.1 in
     subst (MayWait c.loop-place.tree) (sym c.entry_for-entry.ensures)
-    (may_wait w.cluster w.cells (λ p. has_pair p (take c.loop-place.place line)) c.args.turn_of.now.items c.loop-place.tree q.0 q.1 c.loop-place.invariant.holds
-    (app_small w.cells line c.loop-place.place q c.requires.admitted c.at.ensures c.cluster-wishes.ensures.sound.places)
-    (unit_small w.cells line c.loop-place.place q c.requires.admitted c.at.ensures c.cluster-wishes.ensures.sound.few)
+    (may_wait w.cluster w.cells (λ p. has_pair p (take c.loop-place.place line)) c.args.turn_of.now.items c.loop-place.tree q.0 q.1 c.loop-place.invariant.holds (placed_at c.cluster-wishes.ensures.sound c.args.line.now.pairs c.requires.admitted c.loop-place.place c.at.ensures).0 (placed_at c.cluster-wishes.ensures.sound c.args.line.now.pairs c.requires.admitted c.loop-place.place c.at.ensures).1
     (λ b v x e. let lt = turn_before f line c.loop-place.place q (b, v) c.requires.rises c.at.ensures x in absurd (omega (arith, lt, e))))
 
 pub mark_unit-requires-clause-here : goal.mark_unit-requires-clause-here
 mark_unit-requires-clause-here c = subst (λ (e : Entry). e.unit.0 < length (get_or c.args.wishes.now.cells e.app.0 [])) (sym c.entry_for-entry.ensures)
-    (all_at (λ (p : ℕ × ℕ). p.1 < length (get_or c.args.wishes.now.cells p.0 [])) c.args.line.now.pairs c.loop-place.place (c.at.result.0.0, c.at.result.1.0) c.requires.admitted c.at.ensures)
+    (here_at c.cluster-wishes.ensures.sound c.args.line.now.pairs c.requires.admitted c.loop-place.place c.at.ensures)
 
 pub mark_unit-requires-clause-there : goal.mark_unit-requires-clause-there
 mark_unit-requires-clause-there c =
     let w = c.args.wishes.now in
     let q : ℕ × ℕ = (c.at.result.0.0, c.at.result.1.0) in
-    let here = all_at (λ (p : ℕ × ℕ). p.1 < length (get_or w.cells p.0 [])) c.args.line.now.pairs c.loop-place.place q c.requires.admitted c.at.ensures in
+    let here = here_at c.cluster-wishes.ensures.sound c.args.line.now.pairs c.requires.admitted c.loop-place.place c.at.ensures in
     let n = count_is w.cluster w.cells c.args.table.now c.requires.level q.0 in
     let there : q.1 < unit_count (as_known c.args.table.now.jobs) q.0 = omega (arith, here, n) in
     subst (λ (e : Entry). e.unit.0 < unit_count (as_known c.args.table.now.jobs) e.app.0) (sym c.entry_for-entry.ensures) there
@@ -59,12 +54,12 @@ mark_unit-requires-clause-waits c =
     let place = c.loop-place.place in
     let q : ℕ × ℕ = (c.at.result.0.0, c.at.result.1.0) in
     let held : HoldsLine w.cluster w.cells (take (place + 1) line) c.args.turn_of.now.items c.refresh.new.self = holds_begun w.cluster w.cells (λ p. has_pair p (take place line)) (λ p. has_pair p (take (place + 1) line)) c.args.turn_of.now.items c.loop-place.tree c.refresh.new.self q.0 q.1 c.loop-place.invariant.holds
-    (unit_small w.cells line place q c.requires.admitted c.at.ensures c.cluster-wishes.ensures.sound.few)
-    (all_at (λ (p : ℕ × ℕ). p.1 < length (get_or w.cells p.0 [])) line place q c.requires.admitted c.at.ensures)
+    (placed_at c.cluster-wishes.ensures.sound c.args.line.now.pairs c.requires.admitted c.loop-place.place c.at.ensures).1
+    (here_at c.cluster-wishes.ensures.sound c.args.line.now.pairs c.requires.admitted c.loop-place.place c.at.ensures)
     (λ b v f. has_other line place q (b, v) c.at.ensures f) (has_itself line place q c.at.ensures) (c.refresh.ensures ∙ ap (λ (e : Entry). refreshed c.loop-place.tree e true) c.entry_for-entry.ensures) in
     subst (λ (e : Entry). WaitsIn w.cluster e c.refresh.new.self) (sym c.entry_for-entry.ensures)
     (waits_in w.cluster w.cells (λ p. has_pair p (take (c.loop-place.place + 1) line)) c.args.turn_of.now.items c.refresh.new.self q.0 q.1 held (has_itself line c.loop-place.place q c.at.ensures)
-    (all_at (λ (p : ℕ × ℕ). p.1 < length (get_or w.cells p.0 [])) line c.loop-place.place q c.requires.admitted c.at.ensures))
+    (here_at c.cluster-wishes.ensures.sound c.args.line.now.pairs c.requires.admitted c.loop-place.place c.at.ensures))
 
 pub loop-place-preserved : goal.loop-place-preserved
 loop-place-preserved c =
@@ -79,13 +74,13 @@ loop-place-preserved c =
     let t2 = c.mark_unit.new.tree in
     let i = c.loop-place.invariant in
     let from = i.from in
-    let lu = unit_small w.cells line place q c.requires.admitted c.at.ensures c.cluster-wishes.ensures.sound.few in
-    let here = all_at (λ (p : ℕ × ℕ). p.1 < length (get_or w.cells p.0 [])) line place q c.requires.admitted c.at.ensures in
+    let lu = (placed_at c.cluster-wishes.ensures.sound c.args.line.now.pairs c.requires.admitted c.loop-place.place c.at.ensures).1 in
+    let here = here_at c.cluster-wishes.ensures.sound c.args.line.now.pairs c.requires.admitted c.loop-place.place c.at.ensures in
     let made = c.refresh.ensures ∙ ap (λ (e : Entry). refreshed t e true) c.entry_for-entry.ensures in
     let others = begun_others w.cluster w.cells (λ p. has_pair p (take place line)) (λ p. has_pair p (take (place + 1) line)) c.args.turn_of.now.items t t1 q.0 q.1 i.holds lu here (λ b v f. has_other line place q (b, v) c.at.ensures f) made in
     let held : HoldsLine w.cluster w.cells (take (place + 1) line) c.args.turn_of.now.items c.refresh.new.self = holds_begun w.cluster w.cells (λ p. has_pair p (take place line)) (λ p. has_pair p (take (place + 1) line)) c.args.turn_of.now.items c.loop-place.tree c.refresh.new.self q.0 q.1 c.loop-place.invariant.holds
-    (unit_small w.cells line place q c.requires.admitted c.at.ensures c.cluster-wishes.ensures.sound.few)
-    (all_at (λ (p : ℕ × ℕ). p.1 < length (get_or w.cells p.0 [])) line place q c.requires.admitted c.at.ensures)
+    (placed_at c.cluster-wishes.ensures.sound c.args.line.now.pairs c.requires.admitted c.loop-place.place c.at.ensures).1
+    (here_at c.cluster-wishes.ensures.sound c.args.line.now.pairs c.requires.admitted c.loop-place.place c.at.ensures)
     (λ b v f. has_other line place q (b, v) c.at.ensures f) (has_itself line place q c.at.ensures) (c.refresh.ensures ∙ ap (λ (e : Entry). refreshed c.loop-place.tree e true) c.entry_for-entry.ensures) in
     let r = subst (λ (e : Entry). Restood (unit_number e.app.0 e.unit.0) t1 t2) c.entry_for-entry.ensures c.mark_unit.ensures.restood in
     let stands = subst (λ (e : Entry). StandsAs w.cluster w.cells es e.app.0 e.unit.0 t2) c.entry_for-entry.ensures c.mark_unit.ensures.stands in

@@ -1,7 +1,6 @@
-use Rattle.std.proofs.Common.{◌≡◌, ◌+◌, ◌<◌, ℕ, Bool, List, true, false, not, nat_lt, ◌∷◌, take, length, get_or, [], refl, sym, ◌∙◌, ap, subst, arith}
+use Rattle.std.proofs.Common.{◌≡◌, ◌+◌, ℕ, Bool, List, true, false, not, nat_lt, ◌∷◌, take, [], refl, sym, ◌∙◌, ap, subst, arith}
 use Rattle.std.specs.Prelude.{◌&&◌, ◌||◌}
 use Rattle.std.proofs.lemmas.Bool.Decides.{nat_tests}
-use Rattle.fuxi_terms.proofs.Lists.{all_at}
 use Rattle.wait_queue.specs.declared.node.Entry.{Entry}
 use Rattle.locality_tree.specs.Trees.{is_admitted, refreshed, MayWait}
 use Rattle.written_roles.specs.Masters.{out_of}
@@ -11,8 +10,8 @@ use Rattle.place_pass.specs.Cells.{asks_in}
 use Rattle.place_pass.specs.Lines.{same_pair}
 use Rattle.place_pass.proofs.FirstByTurn.{has_at}
 use Rattle.place_pass.proofs.LinesLemmas.{pair_is, taken_whole}
-use Rattle.place_pass.proofs.NumberedLemmas.{app_small, unit_small}
-use Rattle.place_pass.proofs.TreesLemmas.{holds_same, holds_left, left_others, admitted_in, may_wait, turn_apart, has_other, has_itself}
+use Rattle.place_pass.proofs.LinedLemmas.{admitted_at, here_at, placed_at}
+use Rattle.place_pass.proofs.TreesLemmas.{holds_same, holds_left, left_others, may_wait, turn_apart, has_other, has_itself}
 use Rattle.place_pass.proofs.standing.leave_line.Goals as goal
 
 pub loop-place-init : goal.loop-place-init
@@ -58,7 +57,7 @@ loop-place-preserved-then-outstanding-gt0 c =
     stays false y z w e = refl
 
 pub entry_for-entry-requires-clause-unit : goal.entry_for-entry-requires-clause-unit
-entry_for-entry-requires-clause-unit c = all_at (λ (p : ℕ × ℕ). p.1 < length (get_or c.args.wishes.now.cells p.0 [])) c.args.line.now.pairs c.loop-place.place (c.at.result.0.0, c.at.result.1.0) c.requires.admitted c.at.ensures
+entry_for-entry-requires-clause-unit c = here_at c.cluster-wishes.ensures.sound c.args.line.now.pairs c.requires.admitted c.loop-place.place c.at.ensures
 
 pub refresh-requires-clause-admitted : goal.refresh-requires-clause-admitted
 refresh-requires-clause-admitted c =
@@ -67,9 +66,7 @@ refresh-requires-clause-admitted c =
     let q : ℕ × ℕ = (c.at.result.0.0, c.at.result.1.0) in
     let some : ℕ × ℕ → Bool = λ p. nat_lt 0 (out_of (asks_in w.cells) c.args.table.now.entries p.0 p.1) in
     subst (λ (e : Entry). is_admitted c.loop-place.tree e.app.0 e.unit.0 ≡ true) (sym c.entry_for-entry.ensures)
-    (admitted_in w.cluster w.cells (λ p. has_pair p line && (some p || not (has_pair p (take c.loop-place.place line)))) c.args.turn_of.now.items c.loop-place.tree q.0 q.1 c.loop-place.invariant.holds
-    (unit_small w.cells line c.loop-place.place q c.requires.admitted c.at.ensures c.cluster-wishes.ensures.sound.few)
-    (all_at (λ (p : ℕ × ℕ). p.1 < length (get_or w.cells p.0 [])) line c.loop-place.place q c.requires.admitted c.at.ensures))
+    (admitted_at c.cluster-wishes.ensures.sound c.args.line.now.pairs c.requires.admitted c.loop-place.place c.at.ensures (λ p. has_pair p line && (some p || not (has_pair p (take c.loop-place.place line)))) c.args.turn_of.now.items c.loop-place.tree c.loop-place.invariant.holds)
 
 pub refresh-requires-clause-entry : goal.refresh-requires-clause-entry
 refresh-requires-clause-entry c =
@@ -78,9 +75,7 @@ refresh-requires-clause-entry c =
     let q : ℕ × ℕ = (c.at.result.0.0, c.at.result.1.0) in
     let some : ℕ × ℕ → Bool = λ p. nat_lt 0 (out_of (asks_in w.cells) c.args.table.now.entries p.0 p.1) in
     subst (MayWait c.loop-place.tree) (sym c.entry_for-entry.ensures)
-    (may_wait w.cluster w.cells (λ p. has_pair p line && (some p || not (has_pair p (take c.loop-place.place line)))) c.args.turn_of.now.items c.loop-place.tree q.0 q.1 c.loop-place.invariant.holds
-    (app_small w.cells line c.loop-place.place q c.requires.admitted c.at.ensures c.cluster-wishes.ensures.sound.places)
-    (unit_small w.cells line c.loop-place.place q c.requires.admitted c.at.ensures c.cluster-wishes.ensures.sound.few)
+    (may_wait w.cluster w.cells (λ p. has_pair p line && (some p || not (has_pair p (take c.loop-place.place line)))) c.args.turn_of.now.items c.loop-place.tree q.0 q.1 c.loop-place.invariant.holds (placed_at c.cluster-wishes.ensures.sound c.args.line.now.pairs c.requires.admitted c.loop-place.place c.at.ensures).0 (placed_at c.cluster-wishes.ensures.sound c.args.line.now.pairs c.requires.admitted c.loop-place.place c.at.ensures).1
     (λ b v x e. turn_apart (λ (p : ℕ × ℕ). turn_at c.args.turn_of.now.items p.0 p.1) line q (b, v) c.requires.rises (has_at line c.loop-place.place q c.at.ensures) (first (has_pair (b, v) line) _ x) e))
   where
     first : (x y : Bool) → (x && y) ≡ true → x ≡ true
@@ -99,8 +94,8 @@ loop-place-preserved c =
     let old : ℕ × ℕ → Bool = λ p. has_pair p line && (some p || not (has_pair p (take place line))) in
     let new : ℕ × ℕ → Bool = λ p. has_pair p line && (some p || not (has_pair p (take (place + 1) line))) in
     let test : some q ≡ false = let e = c.outstanding.ensures in let z = c.if-outstanding-gt0.false in grind (arith, nat_tests, e, z) in
-    let lu = unit_small w.cells line place q c.requires.admitted c.at.ensures c.cluster-wishes.ensures.sound.few in
-    let here = all_at (λ (p : ℕ × ℕ). p.1 < length (get_or w.cells p.0 [])) line place q c.requires.admitted c.at.ensures in
+    let lu = (placed_at c.cluster-wishes.ensures.sound c.args.line.now.pairs c.requires.admitted c.loop-place.place c.at.ensures).1 in
+    let here = here_at c.cluster-wishes.ensures.sound c.args.line.now.pairs c.requires.admitted c.loop-place.place c.at.ensures in
     let same = λ (b v : ℕ) (f : same_pair (b, v) q ≡ false). ap (λ x. has_pair (b, v) line && (some (b, v) || not x)) (has_other line place q (b, v) c.at.ensures f) in
     let made = c.refresh.ensures ∙ ap (λ (e : Entry). refreshed t e false) c.entry_for-entry.ensures in
     record {

@@ -2,7 +2,7 @@ use Rattle.std.proofs.Common.{◌≡◌, ◌<◌, length, refl, sym, ◌∙◌, 
 use Rattle.fuxi_terms.specs.Cluster.{ClusterRecord, rack_of}
 use Rattle.locality_tree.specs.Trees.{unit_number, place_count, rack_place}
 use Rattle.place_pass.specs.Trees.{is_unmet_in}
-use Rattle.place_pass.proofs.CellsMatchTable.{rack_is, rack_small}
+use Rattle.place_pass.proofs.CellsMatchTable.{rack_is, rack_few, rack_small}
 use Rattle.place_pass.proofs.TreesLemmas.{restood_then, marked, marked_here, marked_apart, marked_waits, racks_long}
 use Rattle.place_pass.proofs.standing.mark_spot.Goals as goal
 
@@ -26,10 +26,7 @@ pub is_unmet_in-in_rack-requires-clause-rack : goal.is_unmet_in-in_rack-requires
 is_unmet_in-in_rack-requires-clause-rack c =
     let k = ap (λ (x : ClusterRecord). length x.machines) c.requires.cluster in
     let m = c.requires.machine in
-    let r = rack_is c.cluster.result.now.machines c.args.machine.0 c.machine.result.now c.machine.ensures in
-    let s = rack_small c.args.table.now.cluster c.cluster.ensures.sound.valid c.args.machine.0 (omega (arith, k, m)) in
-    let e = ap (λ (x : ClusterRecord). rack_of x c.args.machine.0) c.cluster.ensures.cluster in
-    omega (arith, r, s, e)
+    rack_few c.cluster.result.now c.args.table.now.cluster c.cluster.ensures.cluster c.cluster.ensures.sound.valid c.args.machine.0 (omega (arith, k, m)) c.machine.result.now c.machine.ensures
 
 pub mark_rack-requires-clause-waits : goal.mark_rack-requires-clause-waits
 mark_rack-requires-clause-waits c = (marked_waits c.args.wishes.now.cluster c.args.tree.now c.mark_machine.new.self c.args.entry.now c.args.machine.0 c.is_unmet_on-unmet.result c.requires.waits c.mark_machine.ensures).entry
@@ -38,10 +35,7 @@ pub mark_rack-requires-clause-rack : goal.mark_rack-requires-clause-rack
 mark_rack-requires-clause-rack c =
     let k = ap (λ (x : ClusterRecord). length x.machines) c.requires.cluster in
     let m = c.requires.machine in
-    let r = rack_is c.cluster.result.now.machines c.args.machine.0 c.machine.result.now c.machine.ensures in
-    let s = rack_small c.args.table.now.cluster c.cluster.ensures.sound.valid c.args.machine.0 (omega (arith, k, m)) in
-    let e = ap (λ (x : ClusterRecord). rack_of x c.args.machine.0) c.cluster.ensures.cluster in
-    omega (arith, r, s, e)
+    rack_few c.cluster.result.now c.args.table.now.cluster c.cluster.ensures.cluster c.cluster.ensures.sound.valid c.args.machine.0 (omega (arith, k, m)) c.machine.result.now c.machine.ensures
 
 pub returns-clause-restood : goal.returns-clause-restood
 returns-clause-restood c =

@@ -16,7 +16,7 @@ use Rattle.place_pass.specs.Cells.{asks_in}
 use Rattle.place_pass.specs.Trees.{HoldsLine, AllStand, WaitsIn, Restood, RestoodAt}
 use Rattle.place_pass.proofs.LinesLemmas.{pair_self, pair_turned}
 use Rattle.place_pass.proofs.CellsMatchTable.{rack_small}
-use Rattle.place_pass.proofs.Places.{slot_within}
+use Rattle.place_pass.proofs.CellsLemmas.{placed}
 use Rattle.place_pass.proofs.TreesLemmas.{apart_when, holds_same, holds_on, holds_left, left_others, admitted_in, may_wait, waits_in, turn_apart}
 use Rattle.place_pass.proofs.StandsAfterChange.{others_in, has_others, none_leaves, apart_from, all_left, all_told}
 use Rattle.place_pass.proofs.standing.tell_spot.Goals as goal
@@ -46,21 +46,17 @@ pub refresh-requires-clause-admitted : goal.refresh-requires-clause-admitted
 refresh-requires-clause-admitted c =
     let w = c.args.wishes.now in
     let a = c.args.app.0 in let u = c.args.unit.0 in
-    let here = c.requires.here in
-    let few = c.cluster-wishes.ensures.sound.few a in
-    subst (λ (e : Entry). is_admitted c.args.tree.now e.app.0 e.unit.0 ≡ true) (sym c.entry_for-entry.ensures) (admitted_in w.cluster w.cells (λ p. has_pair p c.args.line.now.pairs) c.args.turn_of.now.items c.args.tree.now a u c.requires.holds (omega (arith, here, few)) here)
+    let lu = (placed w.cluster w.cells w.opened c.cluster-wishes.ensures.sound a u c.requires.here).1 in
+    subst (λ (e : Entry). is_admitted c.args.tree.now e.app.0 e.unit.0 ≡ true) (sym c.entry_for-entry.ensures) (admitted_in w.cluster w.cells (λ p. has_pair p c.args.line.now.pairs) c.args.turn_of.now.items c.args.tree.now a u c.requires.holds lu c.requires.here)
 
 pub refresh-requires-clause-entry : goal.refresh-requires-clause-entry
 refresh-requires-clause-entry c =
     let w = c.args.wishes.now in
     let line = c.args.line.now.pairs in
     let a = c.args.app.0 in let u = c.args.unit.0 in
-    let here = c.requires.here in
-    let few = c.cluster-wishes.ensures.sound.few a in
-    let places = c.cluster-wishes.ensures.sound.places in
-    let slots = slot_within w.cells a u here in
+    let small = placed w.cluster w.cells w.opened c.cluster-wishes.ensures.sound a u c.requires.here in
     let there : has_pair (a, u) line ≡ true = sym c.has.ensures ∙ c.if-not-has.false in
-    subst (MayWait c.args.tree.now) (sym c.entry_for-entry.ensures) (may_wait w.cluster w.cells (λ p. has_pair p line) c.args.turn_of.now.items c.args.tree.now a u c.requires.holds (omega (arith, slots, places)) (omega (arith, here, few))
+    subst (MayWait c.args.tree.now) (sym c.entry_for-entry.ensures) (may_wait w.cluster w.cells (λ p. has_pair p line) c.args.turn_of.now.items c.args.tree.now a u c.requires.holds small.0 small.1
     (λ b v x e. turn_apart (λ (p : ℕ × ℕ). turn_at c.args.turn_of.now.items p.0 p.1) line (a, u) (b, v) c.requires.rises there x e))
 
 pub returns-then-outstanding-eq0-clause-holds : goal.returns-then-outstanding-eq0-clause-holds
@@ -69,12 +65,10 @@ returns-then-outstanding-eq0-clause-holds c =
     let line = c.args.line.now.pairs in
     let a = c.args.app.0 in let u = c.args.unit.0 in
     let t = c.args.tree.now in
-    let here = c.requires.here in
-    let few = c.cluster-wishes.ensures.sound.few a in
     let test : nat_lt 0 (out_of (asks_in w.cells) c.args.table.now.entries a u) ≡ false = let e = c.outstanding.ensures in let z = c.if-outstanding-eq0.true in grind (arith, nat_tests, e, z) in
     let is = c.refresh.ensures ∙ ap (λ (e : Entry). refreshed t e false) c.entry_for-entry.ensures in
     subst (λ b. HoldsLine w.cluster w.cells (cond b line (others_in a u line)) c.args.turn_of.now.items c.refresh.new.self) (sym test)
-    (holds_left w.cluster w.cells (λ p. has_pair p line) (λ p. has_pair p (others_in a u line)) c.args.turn_of.now.items t c.refresh.new.self a u c.requires.holds (omega (arith, here, few)) here
+    (holds_left w.cluster w.cells (λ p. has_pair p line) (λ p. has_pair p (others_in a u line)) c.args.turn_of.now.items t c.refresh.new.self a u c.requires.holds (placed w.cluster w.cells w.opened c.cluster-wishes.ensures.sound a u c.requires.here).1 c.requires.here
     (λ b v f. has_others a u line (b, v) ∙ ap (λ x. has_pair (b, v) line && not x) f ∙ and-true (has_pair (b, v) line))
     (has_others a u line (a, u) ∙ ap (λ x. has_pair (a, u) line && not x) (pair_self (a, u)) ∙ and_false (has_pair (a, u) line)) is)
 
@@ -84,14 +78,13 @@ returns-then-outstanding-eq0-clause-stands c before is all =
     let line = c.args.line.now.pairs in
     let a = c.args.app.0 in let u = c.args.unit.0 in
     let t = c.args.tree.now in
-    let here = c.requires.here in
-    let few = c.cluster-wishes.ensures.sound.few a in
+    let lu = (placed w.cluster w.cells w.opened c.cluster-wishes.ensures.sound a u c.requires.here).1 in
     let test : nat_lt 0 (out_of (asks_in w.cells) c.args.table.now.entries a u) ≡ false = let e = c.outstanding.ensures in let z = c.if-outstanding-eq0.true in grind (arith, nat_tests, e, z) in
     let made = c.refresh.ensures ∙ ap (λ (e : Entry). refreshed t e false) c.entry_for-entry.ensures in
     subst (λ b. AllStand w.cluster w.cells c.args.table.now.entries (cond b line (others_in a u line)) c.refresh.new.self) (sym test)
     (subst (λ (es : List (Spot × ℕ)). AllStand w.cluster w.cells es (others_in a u line) c.refresh.new.self) (sym (ap (λ (t : TableRecord). t.entries) is.is))
     (all_left w.cluster w.cells before.entries a u c.args.machine.0 is.number is.sound.counts.sorted line (others_in a u line) t c.refresh.new.self (λ b v has. apart_from a u line (b, v) has) (ap (λ (x : TreeRecord). x.racks) made)
-    (λ b v has f. left_others w.cluster w.cells (λ p. has_pair p line) (λ p. has_pair p (others_in a u line)) c.args.turn_of.now.items t c.refresh.new.self a u c.requires.holds (omega (arith, here, few)) here
+    (λ b v has f. left_others w.cluster w.cells (λ p. has_pair p line) (λ p. has_pair p (others_in a u line)) c.args.turn_of.now.items t c.refresh.new.self a u c.requires.holds lu c.requires.here
     (λ b v f. has_others a u line (b, v) ∙ ap (λ x. has_pair (b, v) line && not x) f ∙ and-true (has_pair (b, v) line)) made b v (c.requires.holds.few b v has) f) all))
 
 pub mark_spot-requires-clause-here : goal.mark_spot-requires-clause-here

@@ -1,4 +1,4 @@
-use Rattle.running_masters.proofs.Standing.{stay_seen, stay_apart}
+use Rattle.running_masters.proofs.MastersStay.{stay_seen, stay_apart}
 use Rattle.running_masters.proofs.laws.others_stay.Goals as goal
 
 pub returns-clause-seen : goal.returns-clause-seen

@@ -2,7 +2,7 @@ use Rattle.std.proofs.Common.{◌≡◌, None, is_some, sym, ◌∙◌, ap}
 use Rattle.std.specs.Ordering.{nat_cmp}
 use Rattle.std.specs.FinMap.Entries.{find}
 use Rattle.running_masters.proofs.Entries.{find_at, without_at, without_none}
-use Rattle.running_masters.proofs.Standing.{slot_at}
+use Rattle.running_masters.proofs.MastersStay.{slot_at}
 use Rattle.running_masters.proofs.places.remove.Goals as goal
 
 pub returns-in-Some-clause-left : goal.returns-in-Some-clause-left

@@ -19,22 +19,22 @@ pub returns-in-App : goal.returns-in-App
 returns-in-App c = subst (λ e. Acts (λ w. act w (event_as e)) c.args.running.now c.start_app.new.running c.args.out.now.items c.start_app.new.out.items c.start_app.result) (sym c.in-App.is) c.start_app.ensures
 
 pub returns-in-Submit : goal.returns-in-Submit
-returns-in-Submit c = subst (λ e. Acts (λ w. act w (event_as e)) c.args.running.now c.submit_job.new.running c.args.out.now.items c.submit_job.new.out.items c.submit_job.result) (sym c.in-Submit.is) c.submit_job.ensures
+returns-in-Submit c = subst (λ e. Acts (λ w. act w (event_as e)) c.args.running.now c.give_order.new.running c.args.out.now.items c.give_order.new.out.items c.give_order.result) (sym c.in-Submit.is) c.give_order.ensures
 
 pub returns-in-Finish : goal.returns-in-Finish
-returns-in-Finish c = subst (λ e. Acts (λ w. act w (event_as e)) c.args.running.now c.finish_job.new.running c.args.out.now.items c.finish_job.new.out.items c.finish_job.result) (sym c.in-Finish.is) c.finish_job.ensures
+returns-in-Finish c = subst (λ e. Acts (λ w. act w (event_as e)) c.args.running.now c.give_order-in-Finish.new.running c.args.out.now.items c.give_order-in-Finish.new.out.items c.give_order-in-Finish.result) (sym c.in-Finish.is) c.give_order-in-Finish.ensures
 
 pub returns-in-Ban : goal.returns-in-Ban
-returns-in-Ban c = subst (λ e. Acts (λ w. act w (event_as e)) c.args.running.now c.ban_machine.new.running c.args.out.now.items c.ban_machine.new.out.items c.ban_machine.result) (sym c.in-Ban.is) c.ban_machine.ensures
+returns-in-Ban c = subst (λ e. Acts (λ w. act w (event_as e)) c.args.running.now c.give_order-in-Ban.new.running c.args.out.now.items c.give_order-in-Ban.new.out.items c.give_order-in-Ban.result) (sym c.in-Ban.is) c.give_order-in-Ban.ensures
 
 pub returns-in-Unban : goal.returns-in-Unban
-returns-in-Unban c = subst (λ e. Acts (λ w. act w (event_as e)) c.args.running.now c.unban_machine.new.running c.args.out.now.items c.unban_machine.new.out.items c.unban_machine.result) (sym c.in-Unban.is) c.unban_machine.ensures
+returns-in-Unban c = subst (λ e. Acts (λ w. act w (event_as e)) c.args.running.now c.give_order-in-Unban.new.running c.args.out.now.items c.give_order-in-Unban.new.out.items c.give_order-in-Unban.result) (sym c.in-Unban.is) c.give_order-in-Unban.ensures
 
 pub returns-in-Begin : goal.returns-in-Begin
-returns-in-Begin c = subst (λ e. Acts (λ w. act w (event_as e)) c.args.running.now c.begin.new.running c.args.out.now.items c.begin.new.out.items c.begin.result) (sym c.in-Begin.is) c.begin.ensures
+returns-in-Begin c = subst (λ e. Acts (λ w. act w (event_as e)) c.args.running.now c.give_order-in-Begin.new.running c.args.out.now.items c.give_order-in-Begin.new.out.items c.give_order-in-Begin.result) (sym c.in-Begin.is) c.give_order-in-Begin.ensures
 
 pub returns-in-Preempt : goal.returns-in-Preempt
-returns-in-Preempt c = subst (λ e. Acts (λ w. act w (event_as e)) c.args.running.now c.preempt.new.running c.args.out.now.items c.preempt.new.out.items c.preempt.result) (sym c.in-Preempt.is) c.preempt.ensures
+returns-in-Preempt c = subst (λ e. Acts (λ w. act w (event_as e)) c.args.running.now c.give_order-in-Preempt.new.running c.args.out.now.items c.give_order-in-Preempt.new.out.items c.give_order-in-Preempt.result) (sym c.in-Preempt.is) c.give_order-in-Preempt.ensures
 
 pub returns-in-Judge : goal.returns-in-Judge
 returns-in-Judge c = subst (λ e. Acts (λ w. act w (event_as e)) c.args.running.now c.judge.new.running c.args.out.now.items c.judge.new.out.items c.judge.result) (sym c.in-Judge.is) c.judge.ensures

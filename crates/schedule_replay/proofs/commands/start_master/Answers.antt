@@ -5,19 +5,19 @@ use Rattle.running_masters.specs.Calls.{StartsInWorld}
 use Rattle.schedule_replay.proofs.CommandsLemmas.{may_step, starts_done, starts_refused}
 use Rattle.schedule_replay.proofs.commands.start_master.Goals as goal
 
-pub returns-in-Err-raise-clause-world : goal.returns-in-Err-raise-clause-world
-returns-in-Err-raise-clause-world c w cluster s =
+pub returns-in-Err-write-clause-world : goal.returns-in-Err-write-clause-world
+returns-in-Err-write-clause-world c w cluster s =
     let e = c.args.epoch in
     let old = c.args.checkpoint.now in
-    let refusal = c.in_ok-written_refusal-in-Err-raise.ensures in
-    starts_refused w e old c.raise.new.self c.args.masters.now c.in_ok-written_refusal-in-Err-raise.field-0 s (c.in-Ok.ensures.world w s)
-    (refusal.refused (hard_step old.hard.value e Raise) c.in-Err-raise.ensures.refused) (c.in-Err-raise.ensures.unchanged refusal.disk)
+    let refusal = c.in_ok-written_refusal-in-Err-write.ensures in
+    starts_refused w e old c.write.new.self c.args.masters.now c.in_ok-written_refusal-in-Err-write.field-0 s (c.in-Ok.ensures.world w s)
+    (refusal.refused (hard_step old.hard.value e Raise) c.in-Err-write.ensures.refused) (c.in-Err-write.ensures.unchanged refusal.disk)
 
 pub returns-in-Ok-start-clause-world : goal.returns-in-Ok-start-clause-world
 returns-in-Ok-start-clause-world c w cluster s =
     let e = c.args.epoch in
-    let new = c.raise.new.self in
-    starts_done w e c.args.checkpoint.now new c.args.masters.now c.start.new.self s (c.in-Ok.ensures.world w s) c.in-Ok-raise.ensures.ok.0 c.in-Ok-raise.ensures.ok.1
+    let new = c.write.new.self in
+    starts_done w e c.args.checkpoint.now new c.args.masters.now c.start.new.self s (c.in-Ok.ensures.world w s) c.in-Ok-write.ensures.ok.0 c.in-Ok-write.ensures.ok.1
     (subst (λ d. StartsInWorld d new.hard.value e c.args.masters.now c.start.new.self) cluster (subst (λ (h : Kept). StartsInWorld c.args.cluster.now h.value e c.args.masters.now c.start.new.self) c.hard.ensures c.in-Ok-start.ensures.world))
 
 pub returns-in-Ok-start-clause-steps : goal.returns-in-Ok-start-clause-steps

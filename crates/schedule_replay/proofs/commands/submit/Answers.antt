@@ -16,17 +16,17 @@ returns-in-Ok-Err-clause-world c w cluster s =
     let j = job_named c.args.app.0 c.args.group.0 c.args.asks.now in
     record { same = s; is = subst (SubmitsIn w c.args.epoch j) c.in-Ok-Err.field-0-is (c.in-Ok-Err.ensures.world w cluster s.stand) }
 
-pub returns-in-Err-submit-clause-world : goal.returns-in-Err-submit-clause-world
-returns-in-Err-submit-clause-world c w cluster s =
+pub returns-in-Err-write-clause-world : goal.returns-in-Err-write-clause-world
+returns-in-Err-write-clause-world c w cluster s =
     let e = c.args.epoch in
     let j = job_named c.args.app.0 c.args.group.0 c.args.asks.now in
-    let refusal = c.in_ok-written_refusal-in-Err-submit in
+    let refusal = c.in_ok-written_refusal-in-Err-write in
     let may = subst (SubmitsIn w e j) c.in-Ok-Ok.field-0-is (c.in-Ok-Ok.ensures.world w cluster s.stand) in
-    writing_refused w e (Submits j) (Submission c.in-Ok-Ok.job) c.args.checkpoint.now c.submit.new.self c.args.masters.now refusal.field-0 may s
-    (refusal.ensures.refused (hard_step c.args.checkpoint.now.hard.value e (Submission c.in-Ok-Ok.job)) c.in-Err-submit.ensures.refused) (c.in-Err-submit.ensures.unchanged refusal.ensures.disk)
+    writing_refused w e (Submits j) (Submission c.in-Ok-Ok.job) c.args.checkpoint.now c.write.new.self c.args.masters.now refusal.field-0 may s
+    (refusal.ensures.refused (hard_step c.args.checkpoint.now.hard.value e (Submission c.in-Ok-Ok.job)) c.in-Err-write.ensures.refused) (c.in-Err-write.ensures.unchanged refusal.ensures.disk)
 
 pub tell-requires-clause-fitting : goal.tell-requires-clause-fitting
-tell-requires-clause-fitting c = admit_fits c.args.checkpoint.now c.args.masters.now c.args.epoch c.in-Ok-Ok.job c.submit.new.self.hard.value c.requires.governed c.in-Ok.ensures.ok.1
+tell-requires-clause-fitting c = admit_fits c.args.checkpoint.now c.args.masters.now c.args.epoch c.in-Ok-Ok.job c.write.new.self.hard.value c.requires.governed c.in-Ok.ensures.ok.1
 
 pub returns-clause-world : goal.returns-clause-world
 returns-clause-world c =
@@ -37,6 +37,6 @@ returns-clause-world c =
     let old = c.args.masters.now in
     let after = c.tell.new.masters in
     let named = subst (λ answer. IfOk answer (λ job. job ≡ eight_places j)) c.in-Ok-Ok.field-0-is c.in-Ok-Ok.ensures.job in
-    IfOk-weaker c.tell.result (TellsInWorld e (Admit job) old after) (GovernsOn c.args.cluster.now e (λ w. commanded w e (Submits j)) (governing checkpoint old) (governing c.submit.new.self after)) (λ answer tells w cluster s.
+    IfOk-weaker c.tell.result (TellsInWorld e (Admit job) old after) (GovernsOn c.args.cluster.now e (λ w. commanded w e (Submits j)) (governing checkpoint old) (governing c.write.new.self after)) (λ answer tells w cluster s.
     let may = subst (SubmitsIn w e j) c.in-Ok-Ok.field-0-is (c.in-Ok-Ok.ensures.world w cluster s.stand) in
-    written_done w e (Submits j) (Submission job) checkpoint c.submit.new.self old after may s c.in-Ok.ensures.ok.0 c.in-Ok.ensures.ok.1 answer (tells w (Submits j) s.good s.stand (submit_told j job named))) c.tell.ensures.world
+    written_done w e (Submits j) (Submission job) checkpoint c.write.new.self old after may s c.in-Ok.ensures.ok.0 c.in-Ok.ensures.ok.1 answer (tells w (Submits j) s.good s.stand (submit_told j job named))) c.tell.ensures.world

@@ -1,4 +1,4 @@
-use Rattle.schedule_run.proofs.Telling.{whole_told, bad_told, front_told}
+use Rattle.schedule_run.proofs.ToldLemmas.{whole_told, bad_told, front_told}
 use Rattle.schedule_run.proofs.laws.runs_are_told.Goals as goal
 
 pub returns-clause-whole : goal.returns-clause-whole

@@ -1,15 +1,18 @@
 use Rattle.std.proofs.Common.{◌≡◌, ◌≢◌, ◌≤◌, false, length, Some, None, IfSome}
 use Rattle.fuxi_io.specs.Reading.{rest_of, read_ahead}
 use Rattle.fuxi_io.specs.declared.lines.LineStop.TheVariants.{ReadFault}
+use Rattle.written_world.specs.World.{empty_world}
+use Rattle.input_lines.specs.LineProgress.{Along}
 use Rattle.input_lines.specs.Wholes.{IsReady}
 use Rattle.schedule_replay.specs.Worlds.{IsReached}
-use Rattle.schedule_run.specs.Progress.{Along}
+use Rattle.schedule_run.specs.Progress.{Stands}
+use Rattle.schedule_run.specs.Runs.{world_runner}
 use Rattle.schedule_run.proofs.run.run_lines.Given as goal
 use Rattle.fuxi_terms.specs.Limits.{most_lines}
 
 abbrev pub invariant-loop-turn : goal.invariant-loop-turn
 invariant-loop-turn g l = record {
-  along : IsReady l.fn.lines (g.S.Source.left l.fn.source) → IfSome (rest_of l.fn.lines (g.S.Source.left l.fn.source)) (λ bytes. Along bytes l.fn.cluster l.fn.lines.number l.lines.number l.lines.ended l.running (rest_of l.lines (g.S.Source.left l.source)) (g.O.Sink.took l.fn.out) (g.O.Sink.took l.out));
+  along : IsReady l.fn.lines (g.S.Source.left l.fn.source) → IfSome (rest_of l.fn.lines (g.S.Source.left l.fn.source)) (λ bytes. Along world_runner (empty_world l.fn.cluster) bytes l.fn.lines.number l.lines.number l.lines.ended (Stands l.running) (rest_of l.lines (g.S.Source.left l.source)) (g.O.Sink.took l.fn.out) (g.O.Sink.took l.out));
   reached : IsReached l.running;
   events : l.running.events ≤ l.turn;
   number : l.turn ≤ l.lines.number;

@@ -1,6 +1,6 @@
 use Rattle.std.proofs.Common.{◌≡◌, drop}
 use Rattle.fuxi_terms.specs.Keys.{key_cmp}
-use Rattle.work_ends.proofs.MovesLemmas.{IsMovesTo}
+use Rattle.fuxi_terms.proofs.MovesLemmas.{IsMovesTo}
 use Rattle.work_ends.proofs.naming.change_of.Given as goal
 
 abbrev pub invariant-loop-key : goal.invariant-loop-key

@@ -3,7 +3,7 @@ use Rattle.fuxi_terms.specs.Keys.{key_cmp}
 use Rattle.fuxi_terms.specs.Counts.{AreCounts, AreChanges}
 use Rattle.fuxi_terms.specs.Tallies.{TallyRecord, ChangeRecord}
 use Rattle.work_plan.specs.Plans.{greatest_named}
-use Rattle.work_ends.specs.Setting.{moves}
+use Rattle.fuxi_terms.specs.NumbersSet.{moves}
 use Rattle.work_ends.specs.Ends.{names_set, patched_names}
 use Rattle.work_ends.proofs.NamesLemmas.{names_are_set, no_moves, same_names, no_items, some_items}
 use Rattle.work_ends.proofs.EndsLemmas.{sets_nothing, sets_names}

@@ -1,13 +1,15 @@
 use Rattle.std.proofs.Common.{◌≡◌, ◌≤◌, true, None, IfSome}
 use Rattle.fuxi_io.specs.Reading.{rest_of}
 use Rattle.fuxi_terms.specs.Limits.{most_lines}
-use Rattle.work_world.specs.Worlds.{IsReached}
-use Rattle.work_run.specs.Progress.{Along}
+use Rattle.input_lines.specs.LineProgress.{Along}
+use Rattle.work_world.specs.Worlds.{IsReached, Stands}
+use Rattle.written_work.specs.World.{empty_world}
+use Rattle.work_run.specs.Runs.{work_runner}
 use Rattle.work_run.proofs.run.run_lines.Given as goal
 
 abbrev pub invariant-loop-turn : goal.invariant-loop-turn
 invariant-loop-turn g l = record {
-  along : IfSome (g.S.Source.left l.fn.source) (λ bytes. Along bytes l.lines.number true l.working (rest_of l.lines (g.S.Source.left l.source)) (g.O.Sink.took l.fn.out) (g.O.Sink.took l.out));
+  along : IfSome (g.S.Source.left l.fn.source) (λ bytes. Along work_runner empty_world bytes 0 l.lines.number true (Stands l.working) (rest_of l.lines (g.S.Source.left l.source)) (g.O.Sink.took l.fn.out) (g.O.Sink.took l.out));
   reached : IsReached l.working;
   events : l.working.events ≤ l.turn;
   number : l.turn ≤ l.lines.number;

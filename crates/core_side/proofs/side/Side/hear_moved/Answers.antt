@@ -1,7 +1,34 @@
-use Rattle.core_side.proofs.HeardAlike.{met_alike}
+use Rattle.std.proofs.Common.{rules, ◌≡◌, false, sym, ◌∙◌, ap, subst, nat_lt}
+use Rattle.delta_channel.specs.declared.receiver.Verdict.TheVariants.{Take}
+use Rattle.party_ledgers.specs.declared.packets.Kind.TheVariants.{Full}
+use Rattle.channel_join.specs.Alike.{told_as}
+use Rattle.core_side.specs.Sides.{HearsAlike, SaysWord}
+use Rattle.core_side.specs.Testing.{Takes}
+use Rattle.core_side.proofs.HeardAlike.{left_alike, met_alike, met_known, whole_alike}
 use Rattle.core_side.proofs.side.Side.hear_moved.Goals as goal
+
+pub returns-then-ne-2-clause-hears : goal.returns-then-ne-2-clause-hears
+returns-then-ne-2-clause-hears g c =
+    let old = c.args.self.now in
+    let mid = c.meet-fresh.new.self in
+    let excess = g.L.Limit.excess c.args.limit.now in
+    let late : nat_lt c.args.packet.from.inc old.incoming.place.inc ≡ false = search rules in
+    let known = met_known g.B.Ledger.nothing c.args.packet.from.inc old.incoming mid.incoming c.meet-fresh.result c.meet-fresh.ensures.meets late in
+    let other : c.judge-verdict.result ≡ Take → ⊥ = search rules in
+    subst (HearsAlike g.A.Ledger.nothing g.A.Ledger.patched g.A.Ledger.has_form g.A.Carried.stated g.B.Carried.stated excess c.args.packet old mid) (sym c.left.ensures)
+    (met_alike g.A.Ledger.nothing g.A.Ledger.patched g.A.Ledger.has_form g.A.Carried.stated g.B.Carried.stated old excess c.args.packet mid mid g.B.Ledger.nothing c.meet-fresh.result (told_as c.judge-verdict.result) c.meet-fresh.ensures.meets c.meet-fresh.ensures.rest g.met.B.Carried.empty_is
+    (left_alike g.A.Ledger.nothing g.A.Ledger.patched g.A.Ledger.has_form g.A.Carried.stated g.B.Carried.stated mid excess c.args.packet known c.judge-verdict.result other c.judge-verdict.ensures.word))
 
 pub returns-clause-hears : goal.returns-clause-hears
 returns-clause-hears g c =
-    met_alike g.A.Ledger.nothing g.A.Ledger.patched g.A.Ledger.has_form g.A.Carried.stated g.B.Carried.stated c.args.self.now (g.L.Limit.excess c.args.limit.now) c.args.packet c.meet-fresh.new.self c.hear_whole_moved-what.new.self g.B.Ledger.nothing
-    c.meet-fresh.result c.hear_whole_moved-what.result c.meet-fresh.ensures.meets c.meet-fresh.ensures.rest g.met.B.Carried.empty_is c.hear_whole_moved-what.ensures.hears
+    let old = c.args.self.now in
+    let mid = c.meet-fresh.new.self in
+    let excess = g.L.Limit.excess c.args.limit.now in
+    let late : nat_lt c.args.packet.from.inc old.incoming.place.inc ≡ false = search rules in
+    let known = met_known g.B.Ledger.nothing c.args.packet.from.inc old.incoming mid.incoming c.meet-fresh.result c.meet-fresh.ensures.meets late in
+    let taken : c.judge-verdict.result ≡ Take = search rules in
+    let words = subst (λ v. SaysWord g.A.Ledger.nothing g.A.Ledger.patched g.A.Ledger.has_form g.A.Carried.stated g.B.Carried.stated c.args.packet mid (told_as v)) taken c.judge-verdict.ensures.word in
+    let kind : c.args.packet.kind ≡ Full = search rules in
+    let takes = subst (λ p. Takes (excess (g.B.Carried.stated c.whole_of.result)) p c.whole_of.result mid c.take_whole-what.new.self c.take_whole-what.result) (ap (λ s. s.place) c.stamp_of-stamp.ensures) c.take_whole-what.ensures.takes in
+    met_alike g.A.Ledger.nothing g.A.Ledger.patched g.A.Ledger.has_form g.A.Carried.stated g.B.Carried.stated old excess c.args.packet mid c.take_whole-what.new.self g.B.Ledger.nothing c.meet-fresh.result c.take_whole-what.result c.meet-fresh.ensures.meets c.meet-fresh.ensures.rest g.met.B.Carried.empty_is
+    (whole_alike g.A.Ledger.nothing g.A.Ledger.patched g.A.Ledger.has_form g.A.Carried.stated g.B.Carried.stated mid excess c.args.packet known g.B.Carried.whole g.met.B.Carried.whole_makes c.requires.formed kind c.whole_of.result (c.whole_of.ensures) words c.take_whole-what.new.self c.take_whole-what.result takes)

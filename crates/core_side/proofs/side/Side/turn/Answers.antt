@@ -1,6 +1,6 @@
 use Rattle.std.proofs.Common.{◌≡◌, ◌<◌, ◌++◌, map, sym, ◌∙◌, subst}
 use Rattle.core_side.specs.Sending.{TurnsAlike, packet_for}
-use Rattle.core_side.proofs.SendingLemmas.{turn_alike, turn_formed}
+use Rattle.core_side.proofs.TurnsAlikeLemmas.{turn_alike, turn_formed}
 use Rattle.core_side.proofs.side.Side.turn.Goals as goal
 
 pub returns-clause-turns : goal.returns-clause-turns

@@ -1,5 +1,5 @@
 use Rattle.std.proofs.Common.{Some, refl, ◌∙◌, ap}
-use Rattle.fuxi_desk.proofs.Beginning.{first_stands}
+use Rattle.fuxi_desk.proofs.PreparingLemmas.{first_stands}
 use Rattle.fuxi_desk.proofs.prepare.Prepared.start.Goals as goal
 
 pub returns-in-Ok-open-clause-stands : goal.returns-in-Ok-open-clause-stands

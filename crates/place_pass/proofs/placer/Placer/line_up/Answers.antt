@@ -1,15 +1,13 @@
-use Rattle.std.proofs.Common.{◌≡◌, ℕ, ◌+◌, ◌-◌, Bool, true, false, not, nat_lt, List, ◌++◌, length, map, filter, refl, sym, ◌∙◌, ap, subst, arith}
-use Rattle.std.specs.Prelude.{◌&&◌, ◌||◌}
+use Rattle.std.proofs.Common.{◌≡◌, ℕ, ◌+◌, ◌-◌, Bool, true, not, nat_lt, List, ◌++◌, length, map, filter, refl, sym, ◌∙◌, ap, subst, arith}
+use Rattle.std.specs.Prelude.{◌||◌}
 use Rattle.std.proofs.lemmas.List.{length-append}
-use Rattle.place_pass.specs.Bounds.{key_of, mark_at, mark_of, turn_at}
-use Rattle.place_pass.proofs.LinedLemmas.{lined_kept, front_inside, front_holds, front_stands}
+use Rattle.place_pass.specs.Bounds.{key_of, mark_at, mark_of}
+use Rattle.place_pass.proofs.LinedLemmas.{IsLinedUp, lined_is, lined_kept, front_inside, front_holds, front_stands}
 use Rattle.std.proofs.lemmas.Bool.Decides.{nat_tests}
 use Rattle.fuxi_terms.proofs.Booleans.{and_true, both_true}
 use Rattle.place_pass.proofs.CountsLemmas.{same_stays, stays_tight}
-use Rattle.place_pass.proofs.KeptLemmas.{kept_lined}
 use Rattle.place_pass.proofs.SightsLemmas.{place_of}
-use Rattle.place_pass.proofs.NumberedLemmas.{filter_whole, none_joined, numbered_end, has_end, unit_small}
-use Rattle.place_pass.proofs.FirstByTurn.{has_at}
+use Rattle.place_pass.proofs.NumberedLemmas.{filter_whole, none_joined, unit_small}
 use Rattle.fuxi_terms.specs.Cluster.{JobRecord}
 use Rattle.fuxi_terms.specs.Jobs.{unit_count, job_numbers}
 use Rattle.written_roles.specs.Masters.{out_of}
@@ -18,8 +16,8 @@ use Rattle.grant_table.specs.Tables.{as_known}
 use Rattle.place_pass.specs.Cells.{asks_in}
 use Rattle.place_pass.specs.Lines.{same_pair}
 use Rattle.place_pass.specs.Placers.{PlacerRecord, KeptRecord, IsKept, IsStill, SeenRecord, IsLevelWith, asks_seen, waiting_with}
-use Rattle.place_pass.proofs.LinesLemmas.{any_append, has_filter}
-use Rattle.place_pass.proofs.StillLemmas.{joined_is, still_left, waiting_waits}
+use Rattle.place_pass.proofs.LinesLemmas.{any_append}
+use Rattle.place_pass.proofs.StillLemmas.{still_left, waiting_waits}
 use Rattle.place_pass.proofs.PlacersLemmas.{kept_is, lined_has}
 use Rattle.place_pass.proofs.Turns.{few_begin}
 use Rattle.place_pass.proofs.placer.Placer.line_up.Goals as goal
@@ -48,65 +46,49 @@ pub enter_line-requires-clause-level : goal.enter_line-requires-clause-level
 unfolding IsLevelWith
 enter_line-requires-clause-level c = (subst (λ (p : PlacerRecord). IsLevelWith p c.args.table.now) (sym c.self.view_is) c.requires.level).level
 
+-- the line is brought up to date before the tree is told
+lined_up : (c : goal.After-enter_line-arg-4-1) → IsLinedUp c.self.inside.line.pairs c.leave.new.line.pairs (waiting_in (map (λ (j : JobRecord). j.number) c.args.table.now.jobs) (unit_count (as_known c.args.table.now.jobs)) (asks_in c.self.inside.wishes.cells) c.args.table.now.entries) c.join.new.line.pairs c.len-stayed.result
+    (λ p. nat_lt 0 (out_of (asks_in c.self.inside.wishes.cells) c.args.table.now.entries p.0 p.1)) (record { marks = map mark_of c.self.inside.marks.items; turn_of = c.self.inside.turn_of.items; held = c.self.inside.held.items }) c.number_from.new.turn_of.items
+lined_up c = record {
+  kept = c.leave.ensures.pairs;
+  waits = waiting_waits (map (λ (j : JobRecord). j.number) c.args.table.now.jobs) (unit_count (as_known c.args.table.now.jobs)) (asks_in c.self.inside.wishes.cells) c.args.table.now.entries;
+  appended = c.join.ensures.pairs;
+  long = c.len-stayed.ensures.number;
+  small = λ a u has. let place = place_of (a, u) c.self.inside.line.pairs has in unit_small c.self.inside.wishes.cells c.self.inside.line.pairs place.place (a, u) c.self.invariant.admitted place.at c.cluster-wishes.ensures.sound.few;
+  others = λ a u lu out. c.number_from.ensures.others a u lu out;
+}
+
 pub enter_line-requires-clause-rises : goal.enter_line-requires-clause-rises
 unfolding IsLevelWith
 enter_line-requires-clause-rises c =
     let old = subst (λ (p : PlacerRecord). IsLevelWith p c.args.table.now) (sym c.self.view_is) c.requires.level in
-    let w = c.self.inside.wishes in
-    let t = c.args.table.now in
-    let line = c.self.inside.line.pairs in
-    let waits : ℕ × ℕ → Bool = λ p. nat_lt 0 (out_of (asks_in w.cells) t.entries p.0 p.1) in
-    let all = waiting_in (map (λ (j : JobRecord). j.number) t.jobs) (unit_count (as_known t.jobs)) (asks_in w.cells) t.entries in
-    let k : KeptRecord = record { marks = map mark_of c.self.inside.marks.items; turn_of = c.self.inside.turn_of.items; held = c.self.inside.held.items } in
-    let small = λ (a u : ℕ) (has : has_pair (a, u) line ≡ true). let place = place_of (a, u) line has in unit_small w.cells line place.place (a, u) c.self.invariant.admitted place.at c.cluster-wishes.ensures.sound.few in
-    (lined_kept line c.leave.new.line.pairs all c.join.new.line.pairs c.len-stayed.result waits k c.number_from.new.turn_of.items c.leave.ensures.pairs (waiting_waits (map (λ (j : JobRecord). j.number) t.jobs) (unit_count (as_known t.jobs)) (asks_in w.cells) t.entries) c.join.ensures.pairs c.len-stayed.ensures.number small (λ a u lu out. c.number_from.ensures.others a u lu out) w.cells w.opened c.self.inside.turns t (λ i p ge e. c.number_from.ensures.numbered i p ge e) old.kept).rises
+    (lined_kept (lined_up c) c.self.inside.wishes.cells c.self.inside.wishes.opened c.self.inside.turns c.args.table.now (λ i p ge e. c.number_from.ensures.numbered i p ge e) old.kept).rises
 
 pub enter_line-requires-clause-inside : goal.enter_line-requires-clause-inside
-enter_line-requires-clause-inside c =
-    let w = c.self.inside.wishes in
-    let t = c.args.table.now in
-    let line = c.self.inside.line.pairs in
-    let waits : ℕ × ℕ → Bool = λ p. nat_lt 0 (out_of (asks_in w.cells) t.entries p.0 p.1) in
-    let all = waiting_in (map (λ (j : JobRecord). j.number) t.jobs) (unit_count (as_known t.jobs)) (asks_in w.cells) t.entries in
-    let k : KeptRecord = record { marks = map mark_of c.self.inside.marks.items; turn_of = c.self.inside.turn_of.items; held = c.self.inside.held.items } in
-    let small = λ (a u : ℕ) (has : has_pair (a, u) line ≡ true). let place = place_of (a, u) line has in unit_small w.cells line place.place (a, u) c.self.invariant.admitted place.at c.cluster-wishes.ensures.sound.few in
-    front_inside line c.leave.new.line.pairs all c.join.new.line.pairs c.len-stayed.result waits k c.number_from.new.turn_of.items c.leave.ensures.pairs (waiting_waits (map (λ (j : JobRecord). j.number) t.jobs) (unit_count (as_known t.jobs)) (asks_in w.cells) t.entries) c.join.ensures.pairs c.len-stayed.ensures.number small (λ a u lu out. c.number_from.ensures.others a u lu out)
+enter_line-requires-clause-inside c = front_inside (lined_up c)
 
 pub enter_line-requires-clause-holds : goal.enter_line-requires-clause-holds
-enter_line-requires-clause-holds c =
-    let w = c.self.inside.wishes in
-    let t = c.args.table.now in
-    let line = c.self.inside.line.pairs in
-    let waits : ℕ × ℕ → Bool = λ p. nat_lt 0 (out_of (asks_in w.cells) t.entries p.0 p.1) in
-    let all = waiting_in (map (λ (j : JobRecord). j.number) t.jobs) (unit_count (as_known t.jobs)) (asks_in w.cells) t.entries in
-    let k : KeptRecord = record { marks = map mark_of c.self.inside.marks.items; turn_of = c.self.inside.turn_of.items; held = c.self.inside.held.items } in
-    let small = λ (a u : ℕ) (has : has_pair (a, u) line ≡ true). let place = place_of (a, u) line has in unit_small w.cells line place.place (a, u) c.self.invariant.admitted place.at c.cluster-wishes.ensures.sound.few in
-    front_holds line c.leave.new.line.pairs all c.join.new.line.pairs c.len-stayed.result waits k c.number_from.new.turn_of.items c.leave.ensures.pairs (waiting_waits (map (λ (j : JobRecord). j.number) t.jobs) (unit_count (as_known t.jobs)) (asks_in w.cells) t.entries) c.join.ensures.pairs c.len-stayed.ensures.number small (λ a u lu out. c.number_from.ensures.others a u lu out) w.cluster w.cells c.leave.new.tree c.leave.ensures.holds
+enter_line-requires-clause-holds c = front_holds (lined_up c) c.self.inside.wishes.cluster c.self.inside.wishes.cells c.leave.new.tree c.leave.ensures.holds
 
 pub enter_line-requires-clause-stands : goal.enter_line-requires-clause-stands
 unfolding IsLevelWith
 enter_line-requires-clause-stands c =
     let old = subst (λ (p : PlacerRecord). IsLevelWith p c.args.table.now) (sym c.self.view_is) c.requires.level in
     let w = c.self.inside.wishes in
-    let t = c.args.table.now in
-    let line = c.self.inside.line.pairs in
-    let waits : ℕ × ℕ → Bool = λ p. nat_lt 0 (out_of (asks_in w.cells) t.entries p.0 p.1) in
-    let all = waiting_in (map (λ (j : JobRecord). j.number) t.jobs) (unit_count (as_known t.jobs)) (asks_in w.cells) t.entries in
-    let k : KeptRecord = record { marks = map mark_of c.self.inside.marks.items; turn_of = c.self.inside.turn_of.items; held = c.self.inside.held.items } in
-    let small = λ (a u : ℕ) (has : has_pair (a, u) line ≡ true). let place = place_of (a, u) line has in unit_small w.cells line place.place (a, u) c.self.invariant.admitted place.at c.cluster-wishes.ensures.sound.few in
-    front_stands line c.leave.new.line.pairs all c.join.new.line.pairs c.len-stayed.result waits k c.number_from.new.turn_of.items c.leave.ensures.pairs (waiting_waits (map (λ (j : JobRecord). j.number) t.jobs) (unit_count (as_known t.jobs)) (asks_in w.cells) t.entries) c.join.ensures.pairs c.len-stayed.ensures.number small (λ a u lu out. c.number_from.ensures.others a u lu out) w.cluster w.cells t.entries c.self.inside.tree c.leave.new.tree (c.leave.ensures.holds.racks ∙ sym c.self.invariant.holds.racks) (λ a u lu some. c.leave.ensures.others a u lu some) old.stands
+    front_stands (lined_up c) w.cluster w.cells c.args.table.now.entries c.self.inside.tree c.leave.new.tree (c.leave.ensures.holds.racks ∙ sym c.self.invariant.holds.racks) (λ a u lu some. c.leave.ensures.others a u lu some) old.stands
+
+-- and when it was told
+lined_then : (c : goal.After-self-2-1) → IsLinedUp c.self.inside.line.pairs c.leave.new.line.pairs (waiting_in (map (λ (j : JobRecord). j.number) c.args.table.now.jobs) (unit_count (as_known c.args.table.now.jobs)) (asks_in c.self.inside.wishes.cells) c.args.table.now.entries) c.join.new.line.pairs c.len-stayed.result
+    (λ p. nat_lt 0 (out_of (asks_in c.self.inside.wishes.cells) c.args.table.now.entries p.0 p.1)) (record { marks = map mark_of c.self.inside.marks.items; turn_of = c.self.inside.turn_of.items; held = c.self.inside.held.items }) c.number_from.new.turn_of.items
+lined_then c =
+    let waits = waiting_waits (map (λ (j : JobRecord). j.number) c.args.table.now.jobs) (unit_count (as_known c.args.table.now.jobs)) (asks_in c.self.inside.wishes.cells) c.args.table.now.entries in
+    let small = λ (a u : ℕ) (has : has_pair (a, u) c.self.inside.line.pairs ≡ true). let place = place_of (a, u) c.self.inside.line.pairs has in unit_small c.self.inside.wishes.cells c.self.inside.line.pairs place.place (a, u) c.self.invariant.admitted place.at c.cluster-wishes.ensures.sound.few in
+    record { kept = c.leave.ensures.pairs; waits = waits; appended = c.join.ensures.pairs; long = c.len-stayed.ensures.number; small = small; others = λ a u lu out. c.number_from.ensures.others a u lu out }
 
 pub invariant_of-self : goal.invariant_of-self
 unfolding IsLevelWith
 invariant_of-self c =
     let old = subst (λ (p : PlacerRecord). IsLevelWith p c.args.table.now) (sym c.self.view_is) c.requires.level in
-    let w = c.self.inside.wishes in
-    let t = c.args.table.now in
-    let line = c.self.inside.line.pairs in
-    let waits : ℕ × ℕ → Bool = λ p. nat_lt 0 (out_of (asks_in w.cells) t.entries p.0 p.1) in
-    let all = waiting_in (map (λ (j : JobRecord). j.number) t.jobs) (unit_count (as_known t.jobs)) (asks_in w.cells) t.entries in
-    let k : KeptRecord = record { marks = map mark_of c.self.inside.marks.items; turn_of = c.self.inside.turn_of.items; held = c.self.inside.held.items } in
-    let small = λ (a u : ℕ) (has : has_pair (a, u) line ≡ true). let place = place_of (a, u) line has in unit_small w.cells line place.place (a, u) c.self.invariant.admitted place.at c.cluster-wishes.ensures.sound.few in
     let room = c.leave.ensures.room in
     let more = c.join.ensures.room in
     record {
@@ -119,7 +101,7 @@ invariant_of-self c =
       turn_places = c.number_from.ensures.places;
       held_places = c.self.invariant.held_places;
       calm_places = c.calm_all.ensures ∙ c.self.invariant.calm_places;
-      rises = (lined_kept line c.leave.new.line.pairs all c.join.new.line.pairs c.len-stayed.result waits k c.number_from.new.turn_of.items c.leave.ensures.pairs (waiting_waits (map (λ (j : JobRecord). j.number) t.jobs) (unit_count (as_known t.jobs)) (asks_in w.cells) t.entries) c.join.ensures.pairs c.len-stayed.ensures.number small (λ a u lu out. c.number_from.ensures.others a u lu out) w.cells w.opened c.self.inside.turns t (λ i p ge e. c.number_from.ensures.numbered i p ge e) old.kept).rises;
+      rises = (lined_kept (lined_then c) c.self.inside.wishes.cells c.self.inside.wishes.opened c.self.inside.turns c.args.table.now (λ i p ge e. c.number_from.ensures.numbered i p ge e) old.kept).rises;
       holds = c.enter_line.ensures.holds;
     }
 
@@ -131,13 +113,11 @@ line_is c =
     let t = c.args.table.now in
     let line = c.self.inside.line.pairs in
     let r : ℕ × ℕ → Bool = λ p. not (has_pair p line) in
-    let waits : ℕ × ℕ → Bool = λ p. nat_lt 0 (out_of (asks_in w.cells) t.entries p.0 p.1) in
-    let all = waiting_in (map (λ (j : JobRecord). j.number) t.jobs) (unit_count (as_known t.jobs)) (asks_in w.cells) t.entries in
     let l = (subst (λ (p : PlacerRecord). IsLevelWith p t) (sym c.self.view_is) c.requires.level).level in
     let is = c.admitted_jobs.ensures.numbers t.jobs c.cluster-cluster.ensures.sound.in_order in
     let kept = c.leave.ensures.pairs ∙ kept_is w.cluster w.cells t l (job_numbers (as_known t.jobs)) is line c.self.invariant.admitted in
     let joined = ap (λ ns. filter r (waiting_in ns (unit_count (as_known t.jobs)) (asks_in w.cells) t.entries)) (sym is) in
-    joined_is line c.leave.new.line.pairs all c.join.new.line.pairs waits c.leave.ensures.pairs (waiting_waits (map (λ (j : JobRecord). j.number) t.jobs) (unit_count (as_known t.jobs)) (asks_in w.cells) t.entries) c.join.ensures.pairs ∙ (λ i. kept i ++ joined i)
+    lined_is (lined_then c) ∙ (λ i. kept i ++ joined i)
 
 pub returns-clause-seen : goal.returns-clause-seen
 returns-clause-seen c =
@@ -146,9 +126,8 @@ returns-clause-seen c =
     let line = c.self.inside.line.pairs in
     let r : ℕ × ℕ → Bool = λ p. not (has_pair p line) in
     let is = c.admitted_jobs.ensures.numbers t.jobs c.cluster-cluster.ensures.sound.in_order in
-    let waits : ℕ × ℕ → Bool = λ p. nat_lt 0 (out_of (asks_in w.cells) t.entries p.0 p.1) in
     let all = waiting_in (map (λ (j : JobRecord). j.number) t.jobs) (unit_count (as_known t.jobs)) (asks_in w.cells) t.entries in
-    let long = ap length (joined_is line c.leave.new.line.pairs all c.join.new.line.pairs waits c.leave.ensures.pairs (waiting_waits (map (λ (j : JobRecord). j.number) t.jobs) (unit_count (as_known t.jobs)) (asks_in w.cells) t.entries) c.join.ensures.pairs) ∙ length-append c.leave.new.line.pairs (filter r all) in
+    let long = ap length (lined_is (lined_then c)) ∙ length-append c.leave.new.line.pairs (filter r all) in
     let n = c.len.ensures.number in
     let s = c.len-stayed.ensures.number in
     let joined : c.len.result - c.len-stayed.result ≡ length (filter r all) = omega (arith, long, n, s) in
@@ -186,18 +165,13 @@ returns-clause-level c =
     let all = waiting_in (map (λ (j : JobRecord). j.number) t.jobs) (unit_count (as_known t.jobs)) (asks_in w.cells) t.entries in
     let joined = filter r all in
     let front = c.leave.new.line.pairs in
-    let pairs : c.join.new.line.pairs ≡ front ++ joined = joined_is line c.leave.new.line.pairs all c.join.new.line.pairs waits c.leave.ensures.pairs (waiting_waits (map (λ (j : JobRecord). j.number) t.jobs) (unit_count (as_known t.jobs)) (asks_in w.cells) t.entries) c.join.ensures.pairs in
+    let pairs : c.join.new.line.pairs ≡ front ++ joined = lined_is (lined_then c) in
     let n = c.len.ensures.number in
     let s = c.len-stayed.ensures.number in
     let long = ap length pairs ∙ length-append front joined in
     let more : c.len.result - c.len-stayed.result ≡ length joined = omega (arith, long, n, s) in
     let k : KeptRecord = record { marks = map mark_of c.self.inside.marks.items; turn_of = c.self.inside.turn_of.items; held = c.self.inside.held.items } in
-    let kept = kept_lined w.cells w.opened line front joined c.self.inside.turns k t c.number_from.new.turn_of.items waits c.leave.ensures.pairs
-    (λ p has. new (has_pair p line) (has_pair p all) (sym (has_filter r p all) ∙ has))
-    (numbered_end (λ (p : ℕ × ℕ). turn_at c.number_from.new.turn_of.items p.0 p.1) c.self.inside.turns c.len-stayed.result front joined c.join.new.line.pairs pairs s (λ i p ge e. c.number_from.ensures.numbered i p ge e))
-    (λ a u has out. c.number_from.ensures.others a u (let place = place_of (a, u) line has in unit_small w.cells line place.place (a, u) c.self.invariant.admitted place.at c.cluster-wishes.ensures.sound.few)
-    (λ i ge e. let f : false ≡ true = sym out ∙ has_end c.len-stayed.result front joined c.join.new.line.pairs pairs s i (a, u) ge e (λ q i g. has_at joined i q g) in let g : ⊥ = cc in g))
-    old.kept in
+    let kept = lined_kept (lined_then c) w.cells w.opened c.self.inside.turns t (λ i p ge e. c.number_from.ensures.numbered i p ge e) old.kept in
     let none = λ (e : c.self.inside.idle ≡ true). none_joined line (map (λ (j : JobRecord). j.number) t.jobs) (unit_count (as_known t.jobs)) (asks_in w.cells) t.entries (old.quiet e).waiting in
     record {
       level = old.level;
@@ -217,13 +191,8 @@ returns-clause-level c =
         settled = λ m o. let z : c.self.inside.turns + (c.len.result - c.len-stayed.result) ≡ c.self.inside.turns = let y = ap length (none e) in omega (arith, more, y) in ap (key_of (mark_at (map mark_of c.self.inside.marks.items) m)) z ∙ (old.quiet e).settled m o;
         waiting = λ a u lt some. returns-clause-up c a u ∙ and_true (nat_lt u (unit_count (as_known t.jobs) a)) _ (grind (arith, nat_tests, lt)) (grind (arith, nat_tests, some));
       };
-      kept = (λ (p : List (ℕ × ℕ)) (n : ℕ) (x : p ≡ front ++ joined) (y : n ≡ length joined). subst (λ (l : List (ℕ × ℕ)). IsKept w.cells w.opened l (c.self.inside.turns + n) (record k { turn_of = c.number_from.new.turn_of.items }) t) (sym x) (subst (λ z. IsKept w.cells w.opened (front ++ joined) (c.self.inside.turns + z) (record k { turn_of = c.number_from.new.turn_of.items }) t) (sym y) kept)) c.join.new.line.pairs (c.len.result - c.len-stayed.result) pairs more;
+      kept = subst (λ n. IsKept w.cells w.opened c.join.new.line.pairs (c.self.inside.turns + n) (record k { turn_of = c.number_from.new.turn_of.items }) t) (sym more) kept;
     }
-  where
-    new : (x y : Bool) → (y && not x) ≡ true → x ≡ false
-    new true true e = cc
-    new true false e = cc
-    new false y e = refl
 
 pub returns-clause-tight : goal.returns-clause-tight
 returns-clause-tight c e h = stays_tight c.self.view_is refl (e ∙ sym (ap (λ (p : PlacerRecord). p.seen.turns) c.self.view_is)) (λ m o t. same_stays c.self.inside.turns ⊥ (mark_at (map mark_of c.self.inside.marks.items) m) t) h

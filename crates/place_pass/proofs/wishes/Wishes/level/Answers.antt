@@ -1,73 +1,38 @@
-use Rattle.std.proofs.Common.{◌≡◌, true, false, cond, nat_lt, length, get_or, sym, ◌∙◌, ap, arith}
-use Rattle.std.proofs.lemmas.Bool.Decides.{nat_tests}
-use Rattle.fuxi_terms.specs.Cluster.{ClusterRecord, rack_of}
-use Rattle.fuxi_terms.specs.Tables.{held_on, held_in}
-use Rattle.place_pass.specs.Cells.{Cell, cell_at}
-use Rattle.place_pass.proofs.CellsMatchTable.{near_read, rack_read, rack_is, rack_small}
+use Rattle.std.proofs.Common.{cond, length, sym, ◌∙◌, ap, arith}
+use Rattle.fuxi_terms.specs.Cluster.{ClusterRecord}
+use Rattle.fuxi_terms.specs.Tables.{spot}
+use Rattle.place_pass.specs.Bounds.{is_nearer_in}
+use Rattle.place_pass.specs.Placers.{board_over}
+use Rattle.place_pass.proofs.CellsMatchTable.{count_is}
 use Rattle.place_pass.proofs.wishes.Wishes.level.Goals as goal
 
-pub index-requires : goal.index-requires
-index-requires c =
-    let w = (c.wish-wish.ensures.sound.unit c.args.app.0 c.args.unit.0 c.requires.unit).near in
-    let n = ap (λ (x : Cell). length x.near) c.wish-wish.ensures.cell in
-    let m = ap (λ (x : ClusterRecord). length x.machines) c.requires.level.cluster_is in
-    let v = c.wish-wish.result.now.near in
-    let l = c.requires.machine in
-    omega (arith, w, n, m, l)
+pub is_unmet_on-requires-clause-cluster : goal.is_unmet_on-requires-clause-cluster
+is_unmet_on-requires-clause-cluster c = c.requires.level.cluster_is
 
-pub held_in_rack-requires-clause-rack : goal.held_in_rack-requires-clause-rack
-held_in_rack-requires-clause-rack c =
-    let cluster = c.cluster.ensures.cluster in
-    let r = rack_is c.cluster.result.now.machines c.args.machine.0 c.machine.result.now c.machine.ensures in
-    let s = rack_small c.args.table.now.cluster c.cluster.ensures.sound.valid c.args.machine.0 c.requires.machine in
-    let e = ap (λ (x : ClusterRecord). rack_of x c.args.machine.0) cluster in
-    omega (arith, r, s, e)
+pub is_unmet_on-requires-clause-there : goal.is_unmet_on-requires-clause-there
+is_unmet_on-requires-clause-there c =
+    let n = count_is c.args.self.now.cluster c.args.self.now.cells c.args.table.now c.requires.level c.args.app.0 in
+    let lt = c.requires.unit in
+    omega (arith, n, lt)
 
-pub index-requires-else-held_on-index : goal.index-requires-else-held_on-index
-index-requires-else-held_on-index c =
-    let w = (c.wish-wish.ensures.sound.unit c.args.app.0 c.args.unit.0 c.requires.unit).racks in
-    let n = ap (λ (x : Cell). length x.racks) c.wish-wish.ensures.cell in
-    let cluster = c.cluster.ensures.cluster in
-    let r = rack_is c.cluster.result.now.machines c.args.machine.0 c.machine.result.now c.machine.ensures in
-    let s = rack_small c.args.table.now.cluster c.cluster.ensures.sound.valid c.args.machine.0 c.requires.machine in
-    let e = ap (λ (x : ClusterRecord). rack_of x c.args.machine.0) cluster in
-    let v = c.wish-wish.result.now.racks in
-    omega (arith, w, n, r, s, e)
+pub is_unmet_on-requires-clause-machine : goal.is_unmet_on-requires-clause-machine
+is_unmet_on-requires-clause-machine c =
+    let n = ap (λ (x : ClusterRecord). length x.machines) c.requires.level.cluster_is in
+    let lt = c.requires.machine in
+    omega (arith, n, lt)
 
-pub returns-then-held_on-index : goal.returns-then-held_on-index
-returns-then-held_on-index c =
-    let t = c.args.table.now in
-    let a = c.args.app.0 in let u = c.args.unit.0 in let m = c.args.machine.0 in
-    let w = (c.wish-wish.ensures.sound.unit a u c.requires.unit).near in
-    let n = ap (λ (x : Cell). length x.near) c.wish-wish.ensures.cell in
-    let k = ap (λ (x : ClusterRecord). length x.machines) c.requires.level.cluster_is in
-    let l = c.requires.machine in
-    let read = near_read c.wish-wish.result.now (cell_at c.args.self.now.cells a u) c.wish-wish.ensures.cell m c.index.result.now (omega (arith, w, n, k, l)) c.index.ensures in
-    let h = c.held_on.ensures in
-    let lt = c.if-held_on-index.true in
-    let test : nat_lt (held_on t.entries a u m) (get_or (cell_at c.args.self.now.cells a u).near m 0) ≡ true = grind (arith, nat_tests, read, h, lt) in
-    ap (λ b. cond b 0 (cond (nat_lt (held_in t.cluster t.entries a u (rack_of t.cluster m)) (get_or (cell_at c.args.self.now.cells a u).racks (rack_of t.cluster m) 0)) 1 2)) (sym test)
+pub returns-then-is_unmet_on : goal.returns-then-is_unmet_on
+returns-then-is_unmet_on c =
+    let nearer = is_nearer_in (board_over c.args.self.now.cells c.args.self.now.opened c.args.table.now) c.args.table.now.entries (spot c.args.app.0 c.args.unit.0 c.args.machine.0) in
+    ap (λ x. cond x 0 (cond nearer 1 2)) (sym c.if-is_unmet_on.true ∙ c.is_unmet_on.ensures)
 
-pub returns-then-held_in_rack-index : goal.returns-then-held_in_rack-index
-returns-then-held_in_rack-index c =
-    let t = c.args.table.now in
-    let a = c.args.app.0 in let u = c.args.unit.0 in let m = c.args.machine.0 in
-    let r = c.machine.result.now.rack.0 in
-    let k = ap (λ (x : ClusterRecord). length x.machines) c.requires.level.cluster_is in
-    let l = c.requires.machine in
-    let wn = (c.wish-wish.ensures.sound.unit a u c.requires.unit).near in
-    let nn = ap (λ (x : Cell). length x.near) c.wish-wish.ensures.cell in
-    let read = near_read c.wish-wish.result.now (cell_at c.args.self.now.cells a u) c.wish-wish.ensures.cell m c.index.result.now (omega (arith, wn, nn, k, l)) c.index.ensures in
-    let h = c.held_on.ensures in
-    let le = c.if-held_on-index.false in
-    let first : nat_lt (held_on t.entries a u m) (get_or (cell_at c.args.self.now.cells a u).near m 0) ≡ false = grind (arith, nat_tests, read, h, le) in
-    let rack : r ≡ rack_of t.cluster m = rack_is c.cluster.result.now.machines m c.machine.result.now c.machine.ensures ∙ ap (λ (x : ClusterRecord). rack_of x m) c.cluster.ensures.cluster in
-    let s = rack_small t.cluster c.cluster.ensures.sound.valid m c.requires.machine in
-    let w = (c.wish-wish.ensures.sound.unit a u c.requires.unit).racks in
-    let n = ap (λ (x : Cell). length x.racks) c.wish-wish.ensures.cell in
-    let read_rack = rack_read c.wish-wish.result.now (cell_at c.args.self.now.cells a u) c.wish-wish.ensures.cell r c.index-else-held_on-index.result.now (omega (arith, w, n, rack, s)) c.index-else-held_on-index.ensures in
-    let in_rack = c.held_in_rack.ensures in
-    let lt = c.if-held_in_rack-index.true in
-    let second : nat_lt (held_in t.cluster t.entries a u r) (get_or (cell_at c.args.self.now.cells a u).racks r 0) ≡ true = grind (arith, nat_tests, read_rack, in_rack, lt) in
-    ap (λ b. cond b 1 2) (sym second) ∙ ap (λ x. cond (nat_lt (held_in t.cluster t.entries a u x) (get_or (cell_at c.args.self.now.cells a u).racks x 0)) 1 2) rack
-    ∙ ap (λ b. cond b 0 (cond (nat_lt (held_in t.cluster t.entries a u (rack_of t.cluster m)) (get_or (cell_at c.args.self.now.cells a u).racks (rack_of t.cluster m) 0)) 1 2)) (sym first)
+pub is_near_rack-requires-clause-there : goal.is_near_rack-requires-clause-there
+is_near_rack-requires-clause-there c =
+    let n = count_is c.args.self.now.cluster c.args.self.now.cells c.args.table.now c.requires.level c.args.app.0 in
+    let lt = c.requires.unit in
+    omega (arith, n, lt)
+
+pub returns-then-is_near_rack : goal.returns-then-is_near_rack
+returns-then-is_near_rack c =
+    let nearer = is_nearer_in (board_over c.args.self.now.cells c.args.self.now.opened c.args.table.now) c.args.table.now.entries (spot c.args.app.0 c.args.unit.0 c.args.machine.0) in
+    ap (λ y. cond y 1 2) (sym c.if-is_near_rack.true ∙ c.is_near_rack.ensures) ∙ ap (λ x. cond x 0 (cond nearer 1 2)) (sym c.if-is_unmet_on.false ∙ c.is_unmet_on.ensures)

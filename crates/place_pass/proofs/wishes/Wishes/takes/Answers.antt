@@ -1,4 +1,4 @@
-use Rattle.std.proofs.Common.{◌≡◌, Bool, true, false, not, nat_lt, length, get_or, refl, sym, ◌∙◌, ap, arith}
+use Rattle.std.proofs.Common.{◌≡◌, Bool, true, false, not, nat_lt, length, get_or, refl, sym, ◌∙◌, ap, subst, arith}
 use Rattle.std.specs.Prelude.{◌&&◌}
 use Rattle.std.proofs.lemmas.Bool.Decides.{nat_tests}
 use Rattle.fuxi_terms.specs.Cluster.{ClusterRecord, UnitRecord}
@@ -6,9 +6,9 @@ use Rattle.fuxi_terms.specs.Jobs.{size_at, most_of}
 use Rattle.written_roles.specs.Placing.{has_room_in}
 use Rattle.grant_table.specs.Tables.{as_known}
 use Rattle.fuxi_terms.specs.Tables.{held_on}
-use Rattle.place_pass.specs.Cells.{Cell, cell_at}
+use Rattle.place_pass.specs.Cells.{Cell, IsWish, cell_at}
 use Rattle.place_pass.specs.Placers.{is_open_to}
-use Rattle.place_pass.proofs.CellsMatchTable.{avoided_read, most_is, unit_is, has_past}
+use Rattle.place_pass.proofs.CellsMatchTable.{avoided_at, most_is, unit_is, has_past}
 use Rattle.place_pass.proofs.Rooms.{room_fits}
 use Rattle.place_pass.proofs.wishes.Wishes.takes.Goals as goal
 
@@ -25,11 +25,7 @@ pub returns-then-index-gt0 : goal.returns-then-index-gt0
 returns-then-index-gt0 c =
     let t = c.args.table.now in
     let a = c.args.app.0 in let u = c.args.unit.0 in let m = c.args.machine.0 in
-    let w = (c.wish-wish.ensures.sound.unit a u c.requires.unit).avoided in
-    let n = ap (λ (x : Cell). length x.avoided) c.wish-wish.ensures.cell in
-    let k = ap (λ (x : ClusterRecord). length x.machines) c.requires.level.cluster_is in
-    let l = c.requires.machine in
-    let read = avoided_read c.wish-wish.result.now (cell_at c.args.self.now.cells a u) c.wish-wish.ensures.cell m c.index.result.now (omega (arith, w, n, k, l)) c.index.ensures in
+    let read = avoided_at t.cluster (cell_at c.args.self.now.cells a 0) (cell_at c.args.self.now.cells a u) c.wish-wish.result.now (subst (λ (x : ClusterRecord). IsWish x (cell_at c.args.self.now.cells a 0) (cell_at c.args.self.now.cells a u)) c.requires.level.cluster_is (c.wish-wish.ensures.sound.unit a u c.requires.unit)) c.wish-wish.ensures.cell m c.index.result.now c.requires.machine c.index.ensures in
     let some = c.if-index-gt0.true in
     let test : nat_lt 0 (get_or (cell_at c.args.self.now.cells a u).avoided m 0) ≡ true = grind (arith, nat_tests, read, some) in
     none (get_or c.args.self.now.opened m false) (nat_lt 0 (get_or (cell_at c.args.self.now.cells a u).avoided m 0)) (nat_lt (held_on t.entries a u m) (most_of (as_known t.jobs) a u)) (has_room_in t.cluster (size_at (as_known t.jobs)) t.entries a u m) test
@@ -58,11 +54,7 @@ pub returns : goal.returns
 returns c =
     let t = c.args.table.now in
     let a = c.args.app.0 in let u = c.args.unit.0 in let m = c.args.machine.0 in
-    let w = (c.wish-wish.ensures.sound.unit a u c.requires.unit).avoided in
-    let n = ap (λ (x : Cell). length x.avoided) c.wish-wish.ensures.cell in
-    let k = ap (λ (x : ClusterRecord). length x.machines) c.requires.level.cluster_is in
-    let l = c.requires.machine in
-    let read = avoided_read c.wish-wish.result.now (cell_at c.args.self.now.cells a u) c.wish-wish.ensures.cell m c.index.result.now (omega (arith, w, n, k, l)) c.index.ensures in
+    let read = avoided_at t.cluster (cell_at c.args.self.now.cells a 0) (cell_at c.args.self.now.cells a u) c.wish-wish.result.now (subst (λ (x : ClusterRecord). IsWish x (cell_at c.args.self.now.cells a 0) (cell_at c.args.self.now.cells a u)) c.requires.level.cluster_is (c.wish-wish.ensures.sound.unit a u c.requires.unit)) c.wish-wish.ensures.cell m c.index.result.now c.requires.machine c.index.ensures in
     let le = c.if-index-gt0.false in
     let most = most_is c.args.self.now.cluster c.args.self.now.cells t c.requires.level c.wish-wish.result.now a u c.requires.unit c.wish-wish.ensures.cell in
     let h = c.held_on.ensures in

@@ -11,6 +11,6 @@ returns-then-number-len-clause-few c =
     let l = c.len.ensures in
     let is = get_or-map cells_in slots.items c.args.app.0 v [] (omega (arith, lt, l)) ∙ ap cells_in (sym c.index.ensures) in
     let n = ap length is ∙ length-map v.items cell_of in
-    let f = c.self.invariant.few c.args.app.0 in
+    let f = c.self.invariant.0.few c.args.app.0 in
     let e = c.len-then-number-len.ensures in
     omega (arith, n, f, e)

@@ -10,7 +10,7 @@ returns-clause-world c =
     let a = c.in_ok-agent.agent in
     let old : AgentsRecord = record { agents = c.self.inside.agents.items; boots = c.self.inside.boots.items } in
     let lt = subst (λ (x : AgentsRecord). m < length x.agents) (sym c.self.view_is) c.requires.machine in
-    subst (λ x. StartInWorld m c.args.has.q b x (started_with m a b old)) c.self.view_is (starts_slot m b c.args.has.q a old c.self.invariant lt c.in_ok-agent.ensures.world)
+    subst (λ x. StartInWorld m c.args.has.q b x (started_with m a b old)) c.self.view_is (starts_slot m b c.args.has.q a old c.self.invariant lt (c.agents_in_world.ensures.starts m c.args.has.q b a c.in_ok-agent.ensures.stands))
 
 pub returns-clause-within : goal.returns-clause-within
 returns-clause-within c n within =

@@ -9,7 +9,8 @@ returns-clause-world c =
     let b = c.args.boot in
     let core = c.in_ok-core.core in
     let old : AppsRecord = record { apps = c.self.inside.apps.items; boots = c.self.inside.boots.items } in
-    subst (λ x. StartInWorld a c.args.units c.args.cluster.now b x (started_with a core b old)) c.self.view_is (starts_slot a c.args.units c.args.cluster.now b core old c.self.invariant c.requires.job c.in_ok-core.ensures.world)
+    subst (λ x. StartInWorld a c.args.units c.args.cluster.now b x (started_with a core b old)) c.self.view_is (starts_slot a c.args.units c.args.cluster.now b core old c.self.invariant c.requires.job
+    (c.apps_in_world.ensures.starts a c.args.units c.args.cluster.now b core c.in_ok-core.ensures.stands))
 
 pub returns-clause-within : goal.returns-clause-within
 returns-clause-within c n within =

@@ -6,8 +6,8 @@ use Rattle.fuxi_terms.specs.Limits.{most_masters}
 use Rattle.running_masters.specs.Running.{MastersRecord, AreMasters, AreWithin, epochs_of}
 use Rattle.running_masters.specs.Calls.{StartsInWorld}
 use Rattle.running_masters.proofs.Entries.{put_last}
-use Rattle.running_masters.proofs.Standing.{kept_start, within_start}
-use Rattle.running_masters.proofs.Starting.{start_in}
+use Rattle.running_masters.proofs.MastersStay.{kept_start, within_start}
+use Rattle.running_masters.proofs.StartsAndStops.{start_in}
 use Rattle.running_masters.proofs.masters.Masters.start.Goals as goal
 
 -- the epoch is above those of the masters that are kept
@@ -31,7 +31,8 @@ returns-clause-world c =
     let x : MastersRecord = record { masters = c.self.inside.masters.items } in
     let h = c.args.hard.now.value in
     subst (λ y. StartsInWorld c.args.cluster.now h c.args.epoch y (record { masters = c.push.new.masters.items })) c.self.view_is
-    (subst (λ l. StartsInWorld c.args.cluster.now h c.args.epoch x (record { masters = l })) (sym (started c)) (start_in c.args.cluster.now h c.args.epoch x c.in-Ok.master c.self.invariant (above c) c.in-Ok.ensures.world))
+    (subst (λ l. StartsInWorld c.args.cluster.now h c.args.epoch x (record { masters = l })) (sym (started c)) (start_in c.args.cluster.now h c.args.epoch x c.in-Ok.master c.self.invariant (above c)
+    (c.masters_in_world.ensures.starts c.args.cluster.now h c.args.epoch c.in-Ok.master.core c.in-Ok.ensures.stands)))
 
 pub returns-clause-steps : goal.returns-clause-steps
 returns-clause-steps c n =

@@ -4,7 +4,7 @@ use Rattle.std.specs.Ordering.{nat_cmp}
 use Rattle.std.specs.FinMap.Entries.{put}
 use Rattle.running_masters.specs.Running.{MastersRecord, AreMasters, running}
 use Rattle.running_masters.proofs.Entries.{find_at, put_at}
-use Rattle.running_masters.proofs.Standing.{epochs_step, kept_step, slot_at, within_step}
+use Rattle.running_masters.proofs.MastersStay.{epochs_step, kept_step, slot_at, within_step}
 use Rattle.running_masters.proofs.masters.Masters.step.Goals as goal
 
 -- the master that is taken out runs
@@ -15,11 +15,11 @@ there c =
     (find_at items c.in-Some.at c.args.epoch c.remove-master.result.1 c.self.invariant.rising
     (slot_at items c.deref.result.now c.args.epoch c.in-Some.at c.remove-master.result c.deref.ensures.value c.in-Some.ensures c.remove-master.ensures.value))
 
-pub master_steps-requires-clause-fitting : goal.master_steps-requires-clause-fitting
-master_steps-requires-clause-fitting c = c.requires.fitting c.remove-master.result.1 (there c)
+pub step-requires-clause-fitting : goal.step-requires-clause-fitting
+step-requires-clause-fitting c = c.requires.fitting c.remove-master.result.1 (there c)
 
-pub master_steps-requires-clause-steps : goal.master_steps-requires-clause-steps
-master_steps-requires-clause-steps c = c.requires.steps c.remove-master.result.1 (there c)
+pub step-requires-clause-steps : goal.step-requires-clause-steps
+step-requires-clause-steps c = c.requires.steps c.remove-master.result.1 (there c)
 
 pub returns-clause-steps : goal.returns-clause-steps
 returns-clause-steps c =
@@ -33,7 +33,7 @@ returns-clause-steps c =
       after = after;
       runs = subst (λ x. running x c.args.epoch ≡ Some c.remove-master.result.1) c.self.view_is (find_at items c.in-Some.at c.args.epoch c.remove-master.result.1 c.self.invariant.rising slot);
       is = λ i. record { masters = (back ∙ ap (λ (x : MastersRecord). put nat_cmp c.args.epoch after x.masters) c.self.view_is) i };
-      world = c.in_ok-master.ensures.world;
+      world = c.masters_in_world.ensures.steps c.args.event c.remove-master.result.1.core after.core c.in_ok-master.outcome c.in_ok-master.ensures.answers;
       steps = c.in_ok-master.ensures.steps;
       formed = c.in_ok-master.ensures.formed;
     }

@@ -3,8 +3,8 @@ use Rattle.std.specs.List.{filter}
 use Rattle.running_masters.specs.Running.{MastersRecord, AreMasters, AreWithin, epochs_of}
 use Rattle.running_masters.specs.Calls.{StopsInWorld}
 use Rattle.running_masters.proofs.Entries.{keys_where}
-use Rattle.running_masters.proofs.Standing.{kept_stop, within_stop}
-use Rattle.running_masters.proofs.Starting.{stop_in}
+use Rattle.running_masters.proofs.MastersStay.{kept_stop, within_stop}
+use Rattle.running_masters.proofs.StartsAndStops.{stop_in}
 use Rattle.running_masters.proofs.masters.Masters.stop.Goals as goal
 
 pub returns-clause-world : goal.returns-clause-world

@@ -3,7 +3,7 @@ use Rattle.std.specs.Prelude.{IfSome}
 use Rattle.std.specs.List.{AllByRecursion}
 use Rattle.core_side.specs.Parcels.{IsSent}
 use Rattle.running_masters.specs.Calls.{TurnsInWorld}
-use Rattle.running_masters.proofs.Calling.{turns, turns_formed}
+use Rattle.running_masters.proofs.CallsLemmas.{turns, turns_formed}
 use Rattle.running_masters.proofs.masters.Masters.turn.Goals as goal
 
 pub returns-clause-world : goal.returns-clause-world

@@ -3,7 +3,7 @@ use Rattle.hard_state.specs.declared.fault.HardFault.{HardFault}
 use Rattle.schedule_replay.specs.Disks.{Grown}
 use Rattle.schedule_replay.specs.Held.{Held}
 use Rattle.schedule_replay.specs.Writings.{event_of}
-use Rattle.schedule_replay.proofs.StoppedWriting.{leaves_stopped}
+use Rattle.schedule_replay.proofs.StopLeaves.{leaves_stopped}
 use Rattle.schedule_replay.proofs.checkpoint.Checkpoint.stop.Goals as goal
 
 pub returns-in-Ok-clause-left : goal.returns-in-Ok-clause-left
