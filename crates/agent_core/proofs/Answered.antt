@@ -4,7 +4,7 @@ use Rattle.std.specs.Prelude.{◌&&◌}
 use Rattle.fuxi_terms.specs.Keys.{RowKey}
 use Rattle.fuxi_terms.proofs.Booleans.{both_true, number_is}
 use Rattle.party_ledgers.specs.Joins.{no_join, IsJoin}
-use Rattle.party_ledgers.specs.Differing.{replaced}
+use Rattle.party_ledgers.specs.PartyDifferences.{replaced}
 use Rattle.party_ledgers.specs.declared.packets.Heard.{Heard}
 use Rattle.party_ledgers.specs.declared.packets.Packet.{Packet}
 use Rattle.written_net.specs.Net.{Id, same_id}
@@ -14,8 +14,8 @@ use Rattle.written_net.specs.Sides.{HeardSide, hears_side, appended}
 use Rattle.written_roles.specs.Agents.{AgentRole, agent_party, table_by, row_excess, agent_told, agent_hears_alone}
 use Rattle.core_side.specs.Bodies.{report_of}
 use Rattle.core_side.specs.Parcels.{packet_of, parcel_is}
-use Rattle.core_side.specs.Sides.{HearsAlike, PostsAlike}
-use Rattle.agent_core.specs.Standing.{AgentCore, Up, IsUp, StandsFor}
+use Rattle.core_side.specs.CoreSides.{HearsAlike, PostsAlike}
+use Rattle.agent_core.specs.AgentCores.{AgentCore, Up, IsUp, StandsFor}
 use Rattle.agent_core.specs.Answering.{Answers}
 
 id_is : (a b : Id) → same_id a b ≡ true → a ≡ b

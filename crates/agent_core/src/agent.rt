@@ -8,7 +8,7 @@ ghost use Rattle.written_net.specs.Net.{same_id};
 ghost use Rattle.written_net.specs.Channels.{agent_id, is_master};
 ghost use Rattle.written_roles.specs.Agents.{AgentRole, new_agent, table_by};
 ghost use Rattle.core_side.specs.Parcels.{packet_of, role_number, IsSent};
-ghost use Rattle.agent_core.specs.Standing.{StandsFor, table_in};
+ghost use Rattle.agent_core.specs.AgentCores.{StandsFor, table_in};
 ghost use Rattle.agent_core.specs.Answering.{AnswersAlike, SendsAlike, ResyncsAlike, Steps};
 
 use crate::limit::RowLimit;
@@ -44,7 +44,7 @@ pub struct Agent {
 impl Model for Agent {
     ghost use Rattle.std.specs.Prelude.{◌≡◌};
     ghost use Rattle.fuxi_terms.specs.Rows.{row_total};
-    ghost use Rattle.agent_core.specs.Standing.{AgentCore, IsAgentCore};
+    ghost use Rattle.agent_core.specs.AgentCores.{AgentCore, IsAgentCore};
 
     ghost Value = { AgentCore };
 

@@ -10,7 +10,7 @@ use Rattle.fuxi_terms.specs.Tables.{spot, held}
 use Rattle.fuxi_terms.proofs.Booleans.{both_true, and_true, number_is, nat_itself, or_right}
 use Rattle.written_roles.specs.Masters.{Master, asked, out_of}
 use Rattle.written_roles.specs.Placing.{has_pair, line_after}
-use Rattle.grant_table.specs.Tables.{TableRecord, with_count}
+use Rattle.grant_table.specs.GrantTables.{TableRecord, with_count}
 use Rattle.place_pass.specs.Placers.{SeenRecord, asks_seen, line_told}
 use Rattle.allotment.specs.PlacingReads.{IsPlacing}
 use Rattle.allotment.specs.Allotted.{AllotmentRecord, AllWait, Adds, told_at}

@@ -25,7 +25,7 @@ use Rattle.fuxi_terms.proofs.Lists.{all_at, take_last}
 use Rattle.fuxi_terms.proofs.VectorLaws.{at_place-plus, at_place-times, at_place-padded, same_at_places}
 use Rattle.written_roles.specs.Masters.{Master, asked, out_of}
 use Rattle.written_roles.specs.Placing.{has_pair, line_after}
-use Rattle.grant_table.specs.Tables.{TableRecord, as_known, with_count}
+use Rattle.grant_table.specs.GrantTables.{TableRecord, as_known, with_count}
 use Rattle.allotment.specs.Allotted.{AllotmentRecord, Allots, AllWait, Adds, AddsRow, rows_put}
 use Rattle.allotment.proofs.ClearsLemmas.{is_spot, touched_again, untouched}
 use Rattle.allotment.proofs.Fewer.{HeldLaw}

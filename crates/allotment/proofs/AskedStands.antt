@@ -18,21 +18,10 @@ use Rattle.fuxi_terms.proofs.KeyOrders.{same_key}
 use Rattle.written_net.specs.Ledgers.{Ledger, nothing, tally_ledger}
 use Rattle.written_roles.specs.Masters.{Master, asked, demand_of}
 use Rattle.written_roles.specs.MasterSteps.{counted, is_there as counts_there}
-use Rattle.grant_table.specs.Tables.{TableRecord, as_known}
+use Rattle.grant_table.specs.GrantTables.{TableRecord, as_known}
 use Rattle.place_pass.specs.Placers.{SeenRecord, asks_seen, asks_after, units_seen, is_there}
 use Rattle.allotment.specs.PlacingReads.{IsPlacing, record_of}
-
--- the demand of a job after one is put
-same_number : (a b : ℕ) → eq_by_cmp nat_cmp b a ≡ nat_eq a b
-same_number a b = by (nat_eq a b) refl
-  where
-    other : (r : Bool) → nat_eq a b ≡ false → eq_by_cmp nat_cmp b a ≡ r → r ≡ false
-    other false f e = refl
-    other true f e = let s = exact_unsigned b a (tied _ e) in let t : nat_eq a b ≡ true = ap (nat_eq a) s ∙ nat_itself a in cc
-
-    by : (r : Bool) → nat_eq a b ≡ r → eq_by_cmp nat_cmp b a ≡ nat_eq a b
-    by true e = let s = number_is a b e in ap (λ x. eq_by_cmp nat_cmp x a) (sym s) ∙ ap is_eq (tied_itself nat_cmp_total a) ∙ sym e
-    by false e = other (eq_by_cmp nat_cmp b a) e refl ∙ sym e
+use Rattle.fuxi_terms.proofs.NumbersLemmas.{same_number}
 
 demand_put : (M : Master) (a b : ℕ) (d : Ledger) → demand_of (record M { demands = put nat_cmp a d M.demands }) b ≡ cond (nat_eq a b) d (demand_of M b)
 demand_put M a b d = ap (λ o. unwrap_or o nothing) (find-put nat_cmp nat_cmp_total b a d M.demands) ∙ ap (λ t. unwrap_or (cond t (Some d) (find nat_cmp b M.demands)) nothing) (same_number a b) ∙ split (nat_eq a b)

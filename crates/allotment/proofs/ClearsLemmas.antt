@@ -14,7 +14,7 @@ use Rattle.fuxi_terms.proofs.Booleans.{both_true, and_true, number_is, nat_itsel
 use Rattle.fuxi_terms.proofs.CountsLemmas.{tied, count-set_count}
 use Rattle.fuxi_terms.proofs.KeyOrders.{spot_total, same_spot}
 use Rattle.written_roles.specs.Masters.{Master}
-use Rattle.grant_table.specs.Tables.{TableRecord, AreJobs, as_known, without_count}
+use Rattle.grant_table.specs.GrantTables.{TableRecord, AreJobs, as_known, without_count}
 use Rattle.place_pass.specs.Placers.{SeenRecord}
 use Rattle.allotment.specs.PlacingReads.{IsPlacing, has_spot}
 use Rattle.allotment.specs.SettlingRuns.{AreTouched}

@@ -13,7 +13,7 @@ use Rattle.fuxi_terms.proofs.CountsLemmas.{count-set_count}
 use Rattle.fuxi_terms.proofs.KeyOrders.{spot_total}
 use Rattle.written_roles.specs.Masters.{Master, out_of}
 use Rattle.written_roles.specs.Placing.{has_pair}
-use Rattle.grant_table.specs.Tables.{TableRecord, without_count}
+use Rattle.grant_table.specs.GrantTables.{TableRecord, without_count}
 use Rattle.place_pass.specs.Placers.{SeenRecord, asks_seen, line_told}
 use Rattle.allotment.specs.PlacingReads.{IsPlacing, has_spot}
 use Rattle.allotment.specs.SettlingRuns.{AreTouched}

@@ -7,7 +7,7 @@ use Rattle.fuxi_terms.specs.Keys.{Spot, spot_cmp}
 use Rattle.fuxi_terms.specs.Limits.{greatest_count}
 use Rattle.fuxi_terms.proofs.CountsLemmas.{tied, count_le, count-set_count, counts-set_count, same_counts}
 use Rattle.fuxi_terms.proofs.KeyOrders.{spot_total, same_spot}
-use Rattle.grant_table.specs.Tables.{TableRecord, without_count}
+use Rattle.grant_table.specs.GrantTables.{TableRecord, without_count}
 use Rattle.allotment.specs.Allotted.{AllotmentRecord, OnlyTakes}
 
 pub takes_none : (x : AllotmentRecord) → OnlyTakes x x

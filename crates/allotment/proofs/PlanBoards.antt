@@ -18,7 +18,7 @@ use Rattle.written_roles.specs.Masters.{Master, avoids, out_of}
 use Rattle.written_roles.specs.Placing.{Board, board, accepts_in, has_pair}
 use Rattle.written_roles.specs.Preemption.{plan_in, plan_of, tried_in, by_priority_in, falling_priorities}
 use Rattle.written_roles.specs.Preemption.{Plan as WrittenPlan}
-use Rattle.grant_table.specs.Tables.{TableRecord, as_known}
+use Rattle.grant_table.specs.GrantTables.{TableRecord, as_known}
 use Rattle.place_pass.specs.Placers.{SeenRecord, usable_in, units_seen, asks_seen, IsUpToDate}
 use Rattle.preempt.specs.declared.plan.Plan.{Plan}
 use Rattle.preempt.specs.Plans.{IsBoardOf, IsFirstPlan, plan_as, served_of}

@@ -11,7 +11,7 @@ use Rattle.written_net.specs.Ledgers.{tally_ledger}
 use Rattle.written_roles.specs.MasterSteps.{counted, credit}
 use Rattle.written_roles.specs.Masters.{Master, asked, out_of}
 use Rattle.written_roles.specs.Placing.{has_pair, line_after}
-use Rattle.grant_table.specs.Tables.{TableRecord, IsSound, with_count}
+use Rattle.grant_table.specs.GrantTables.{TableRecord, IsSound, with_count}
 use Rattle.grant_table.specs.declared.asking.Pick.{Pick}
 use Rattle.place_pass.specs.Best.{spot_of}
 use Rattle.place_pass.specs.Placers.{PlacerRecord, SeenRecord, ToldRecord, IsLevelWith, IsSetFrom, asks_seen, line_told, told_of}

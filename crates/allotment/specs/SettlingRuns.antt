@@ -7,7 +7,7 @@ use Rattle.fuxi_terms.specs.Keys.{Spot, spot_cmp}
 use Rattle.written_roles.specs.Masters.{Master, out_of}
 use Rattle.written_roles.specs.Placing.{settled}
 use Rattle.written_roles.specs.Settling.{Picks}
-use Rattle.grant_table.specs.Tables.{TableRecord}
+use Rattle.grant_table.specs.GrantTables.{TableRecord}
 use Rattle.place_pass.specs.Placers.{SeenRecord, asks_seen}
 use Rattle.allotment.specs.PlacingReads.{IsPlacing, has_spot}
 

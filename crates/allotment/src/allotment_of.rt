@@ -5,7 +5,7 @@ ghost use Rattle.fuxi_terms.specs.Counts.{count};
 ghost use Rattle.fuxi_terms.specs.Keys.{key_cmp};
 ghost use Rattle.fuxi_terms.specs.TallyKeys.{credited_key};
 ghost use Rattle.fuxi_terms.specs.Jobs.{unit_count};
-ghost use Rattle.grant_table.specs.Tables.{as_known};
+ghost use Rattle.grant_table.specs.GrantTables.{as_known};
 ghost use Rattle.place_pass.specs.Best.{spot_of};
 ghost use Rattle.allotment.specs.Allotted.{IsSetAt, told_at};
 
@@ -59,7 +59,7 @@ impl Allotment {
     ghost use Rattle.fuxi_terms.specs.Jobs.{is_known, size_at, unit_count};
     ghost use Rattle.fuxi_terms.specs.Numbers.{has_number};
     ghost use Rattle.fuxi_terms.specs.Tables.{spot, held_on, total_at, with_grant, without_grants};
-    ghost use Rattle.grant_table.specs.Tables.{as_known, with_admitted, without_count};
+    ghost use Rattle.grant_table.specs.GrantTables.{as_known, with_admitted, without_count};
     ghost use Rattle.written_roles.specs.HardState.{with_job};
     ghost use Rattle.written_roles.specs.Masters.{Master, asked, out_of};
     ghost use Rattle.written_roles.specs.Placing.{granted, line_after, line_up, settled};

@@ -17,7 +17,7 @@ use Rattle.fuxi_terms.proofs.KeyOrders.{key_total, same_key}
 use Rattle.written_net.specs.Ledgers.{Ledger, tally_ledger}
 use Rattle.written_roles.specs.Apps.{changed_demand, joined_demand}
 use Rattle.core_side.specs.Bodies.{tally_of}
-use Rattle.app_master.specs.Apps.{patched_demand}
+use Rattle.app_master.specs.AppCores.{patched_demand}
 use Rattle.app_master.specs.Asking.{IsMove}
 
 -- a number that is set where it stands already

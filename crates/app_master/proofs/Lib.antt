@@ -1,6 +1,6 @@
 pub mod Numbers
 pub mod Counted
 pub mod CarriedLemmas
-pub mod AppsLemmas
+pub mod AppCoresLemmas
 pub mod Racks
 pub mod DemandChanges

@@ -1,5 +1,5 @@
 pub mod Usable
-pub mod Apps
+pub mod AppCores
 pub mod Asking
-pub mod Commands
-pub mod Hearing
+pub mod AppCommands
+pub mod AppPackets

@@ -11,9 +11,9 @@ ghost use Rattle.party_ledgers.specs.declared.packets.Kind.TheVariants.{End};
 ghost use Rattle.written_roles.specs.Apps.{AppRole, new_app, demands_alone, held_by, usable_by, given_by, app_resynced, names, Wants, WantsNear, WantsInRack, Avoids, GivesBack};
 ghost use Rattle.core_side.specs.Parcels.{role_number, IsSent};
 ghost use Rattle.app_master.specs.Usable.{is_named, usable_in, held_in};
-ghost use Rattle.app_master.specs.Apps.{StandsFor};
-ghost use Rattle.app_master.specs.Commands.{Commands};
-ghost use Rattle.app_master.specs.Hearing.{is_for, HearsAlike, SendsAlike};
+ghost use Rattle.app_master.specs.AppCores.{StandsFor};
+ghost use Rattle.app_master.specs.AppCommands.{Commands};
+ghost use Rattle.app_master.specs.AppPackets.{is_for, HearsAlike, SendsAlike};
 
 use crate::asking::{join, set_number};
 use crate::carried::Carried;
@@ -52,7 +52,7 @@ pub struct AppMaster {
 }
 
 impl Model for AppMaster {
-    ghost use Rattle.app_master.specs.Apps.{AppCore, IsAppCore};
+    ghost use Rattle.app_master.specs.AppCores.{AppCore, IsAppCore};
 
     ghost Value = { AppCore };
 

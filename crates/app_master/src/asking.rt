@@ -5,7 +5,7 @@ ghost use Rattle.fuxi_terms.specs.Counts.{moved, is_no_change};
 ghost use Rattle.fuxi_terms.specs.TallyKeys.{greatest_demand};
 ghost use Rattle.written_net.specs.Sides.{Side as WrittenSide, shown, appended};
 ghost use Rattle.written_roles.specs.Apps.{changed_demand, joined_demand};
-ghost use Rattle.app_master.specs.Apps.{IsUp};
+ghost use Rattle.app_master.specs.AppCores.{IsUp};
 ghost use Rattle.app_master.specs.Asking.{IsMove};
 
 use core_side::Side;

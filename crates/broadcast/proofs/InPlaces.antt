@@ -10,7 +10,7 @@ use Rattle.std.specs.FinMap.Entries.{below_all}
 use Rattle.std.specs.BTreeSet as set
 use Rattle.fuxi_terms.specs.Keys.{Spot, spot_cmp}
 use Rattle.grant_table.specs.declared.asking.Pick.{Pick}
-use Rattle.broadcast.specs.Places.{Place, place_cmp, place_of, pick_of}
+use Rattle.broadcast.specs.PickOrders.{Place, place_cmp, place_of, pick_of}
 use Rattle.broadcast.specs.AllShown.{spot_of, has_spot, AreInOrder}
 use Rattle.broadcast.proofs.RisingKeys.{both}
 

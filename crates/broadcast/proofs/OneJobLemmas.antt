@@ -24,11 +24,11 @@ use Rattle.written_roles.specs.MasterSteps.{count_entries}
 use Rattle.fuxi_terms.specs.NumbersSet.{numbers_set, AreNumbers}
 use Rattle.broadcast.specs.Projections.{grant_entries, HasNumbers, after_setting, GrantsFollow}
 use Rattle.broadcast.specs.Shown.{grants_set, Shows}
-use Rattle.grant_table.specs.Tables.{TableRecord, IsSound}
+use Rattle.grant_table.specs.GrantTables.{TableRecord, IsSound}
 use Rattle.ledger_law.specs.Shapes.{IsTally}
 use Rattle.written_net.specs.Sides.{Side, appended}
 use Rattle.core_side.specs.Bodies.{tally_of}
-use Rattle.core_side.specs.Sides.{IsSide, IsShown}
+use Rattle.core_side.specs.CoreSides.{IsSide, IsShown}
 use Rattle.broadcast.specs.AllShown.{App, is_job, credited_in, credited_after, grants_after, ShowsGrants}
 use Rattle.broadcast.specs.OneJob.{AreOf, AreNumbersOf, IsNews, machines_of, reported_numbers, credited_to, numbers_of, JobIsBefore}
 use Rattle.broadcast.specs.declared.grants.News.{News}

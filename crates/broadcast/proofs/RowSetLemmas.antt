@@ -14,7 +14,7 @@ use Rattle.fuxi_terms.proofs.Booleans.{number_is, or_right}
 use Rattle.fuxi_terms.proofs.CountsLemmas.{both_true, count_le, count-set_count, counts-set_count, in_joined}
 use Rattle.fuxi_terms.proofs.KeyOrders.{row_key_total, same_row_key}
 use Rattle.fuxi_terms.proofs.RowDifferences.{few_of, counted_has}
-use Rattle.party_ledgers.specs.Differing.{row_by_difference}
+use Rattle.party_ledgers.specs.PartyDifferences.{row_by_difference}
 use Rattle.written_net.specs.Ledgers.{Ledger, row_ledger}
 use Rattle.fuxi_terms.specs.NumbersSet.{numbers_set, moves, AreNumbers}
 use Rattle.fuxi_terms.proofs.NumbersSetLemmas.{no_difference, set_same, later, first_in, untouched, one_made}

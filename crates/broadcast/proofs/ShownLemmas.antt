@@ -6,7 +6,7 @@ use Rattle.fuxi_terms.specs.declared.answers.LedgerFault.{LedgerFault}
 use Rattle.full_sync.specs.Turns.{Endpoint}
 use Rattle.written_net.specs.Ledgers.{Ledger}
 use Rattle.written_net.specs.Sides.{Side, appended}
-use Rattle.core_side.specs.Sides.{IsSide, PostsAlike, IsShown}
+use Rattle.core_side.specs.CoreSides.{IsSide, PostsAlike, IsShown}
 use Rattle.broadcast.specs.Shown.{Shows}
 
 module _ {V D W : Type 0} (nothing : V) (patched : V → D → Result V LedgerFault) (valid : V → Type 0) (out : V → Ledger) (inward : W → Ledger) where

@@ -16,8 +16,8 @@ use Rattle.schedule_unit.specs.declared.party.MachineNo.{MachineNo}
 use Rattle.written_net.specs.Ledgers.{Ledger, row_ledger, same_ledger}
 use Rattle.written_net.specs.Sides.{shown, appended}
 use Rattle.core_side.specs.Bodies.{report_of}
-use Rattle.core_side.specs.Sides.{IsSide}
-use Rattle.grant_table.specs.Tables.{TableRecord, as_known, IsSound}
+use Rattle.core_side.specs.CoreSides.{IsSide}
+use Rattle.grant_table.specs.GrantTables.{TableRecord, as_known, IsSound}
 use Rattle.broadcast.specs.declared.machine_row.RowNumber.{RowNumber}
 use Rattle.broadcast.specs.Projections.{row_of}
 use Rattle.fuxi_terms.specs.NumbersSet.{numbers_set}

@@ -13,7 +13,7 @@ use Rattle.fuxi_terms.proofs.Booleans.{number_is, nat_itself, or_false}
 use Rattle.written_roles.specs.MasterSteps.{count_entries}
 use Rattle.broadcast.specs.Projections.{grant_entries}
 use Rattle.schedule_unit.specs.declared.party.MachineNo.{MachineNo}
-use Rattle.grant_table.specs.Tables.{TableRecord, IsSound}
+use Rattle.grant_table.specs.GrantTables.{TableRecord, IsSound}
 use Rattle.broadcast.specs.AllShown.{App, is_job, credited_in, with_reported, GrantsAreBefore, ShowsAllGrants}
 use Rattle.broadcast.specs.OneJob.{counts_at, lists_of, AreOfJobs, reported_now, machines_of, JobIsBefore, SlotIsShown, IsInSlot, AreShown}
 use Rattle.broadcast.specs.declared.grants.News.{News}

@@ -16,7 +16,7 @@ use Rattle.fuxi_terms.proofs.KeyOrders.{spot_total, same_spot}
 use Rattle.fuxi_terms.proofs.Spots.{each_found}
 use Rattle.fuxi_terms.proofs.ValidJobs.{units_valid}
 use Rattle.fuxi_terms.specs.NumbersSet.{IsSetTo}
-use Rattle.grant_table.specs.Tables.{TableRecord, as_known, AreJobs, IsSound}
+use Rattle.grant_table.specs.GrantTables.{TableRecord, as_known, AreJobs, IsSound}
 use Rattle.broadcast.specs.AllShown.{has_spot, AreInOrder, IsBefore}
 use Rattle.broadcast.specs.OneJob.{has_place, counts_at}
 use Rattle.broadcast.proofs.InOrder.{both, IsSmall}

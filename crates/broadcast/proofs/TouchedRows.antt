@@ -19,7 +19,7 @@ use Rattle.fuxi_terms.proofs.CountsLemmas.{tied, count_le, joined_sorted}
 use Rattle.fuxi_terms.proofs.KeyOrders.{spot_total, same_spot, row_key_total, same_row_key}
 use Rattle.fuxi_terms.proofs.Spots.{each_found}
 use Rattle.written_roles.specs.MasterSteps.{spot_row_key}
-use Rattle.grant_table.specs.Tables.{TableRecord, as_known, IsSound}
+use Rattle.grant_table.specs.GrantTables.{TableRecord, as_known, IsSound}
 use Rattle.broadcast.specs.Projections.{row_of, spot_of, RowFollows}
 use Rattle.fuxi_terms.specs.NumbersSet.{numbers_set, AreNumbers}
 use Rattle.broadcast.specs.AllShown.{has_spot, AreInOrder, IsBefore}

@@ -19,7 +19,7 @@ use Rattle.fuxi_terms.proofs.Booleans.{both_true, and_true, number_is}
 use Rattle.fuxi_terms.proofs.CountsLemmas.{both_true as both_parts, lesser}
 use Rattle.fuxi_terms.proofs.KeyOrders.{row_key_total}
 use Rattle.fuxi_terms.proofs.ValidJobs.{job_small, units_valid, units_few}
-use Rattle.grant_table.specs.Tables.{as_known, AreJobs}
+use Rattle.grant_table.specs.GrantTables.{as_known, AreJobs}
 
 -- ---- the key of an admitted unit is a key of a row
 valid_at : (us : List UnitRecord) (u : ℕ) → list_all (is_valid_unit 8) us ≡ true → u < length us → is_valid_unit 8 (unwrap_or (slice_get us u) no_unit) ≡ true

@@ -26,7 +26,7 @@ use Rattle.written_roles.specs.MasterSteps.{count_entries}
 use Rattle.fuxi_terms.specs.NumbersSet.{numbers_set}
 use Rattle.broadcast.specs.Shown.{Shows}
 use Rattle.grant_table.specs.declared.asking.Pick.{Pick}
-use Rattle.grant_table.specs.Tables.{TableRecord, as_known}
+use Rattle.grant_table.specs.GrantTables.{TableRecord, as_known}
 use Rattle.broadcast.specs.declared.grants.News.{News}
 
 abbrev pub spot_of : Pick → Spot

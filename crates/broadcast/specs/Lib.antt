@@ -1,6 +1,6 @@
 pub mod Shown
 pub mod Projections
-pub mod Places
+pub mod PickOrders
 pub mod AllShown
 pub mod TouchedNumbers
 pub mod OneJob

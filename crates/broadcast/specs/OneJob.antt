@@ -15,7 +15,7 @@ use Rattle.fuxi_terms.specs.declared.Key.{Key}
 use Rattle.schedule_unit.specs.declared.party.MachineNo.{MachineNo}
 use Rattle.written_roles.specs.MasterSteps.{count_entries}
 use Rattle.fuxi_terms.specs.NumbersSet.{AreNumbers, IsSetTo}
-use Rattle.grant_table.specs.Tables.{TableRecord, as_known, IsSound}
+use Rattle.grant_table.specs.GrantTables.{TableRecord, as_known, IsSound}
 use Rattle.broadcast.specs.declared.grants.News.{News}
 use Rattle.broadcast.specs.AllShown.{App, is_job, ShowsJob, ShowsGrants}
 

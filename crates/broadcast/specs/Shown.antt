@@ -9,7 +9,7 @@ use Rattle.fuxi_terms.specs.declared.Key.{Key}
 use Rattle.full_sync.specs.Turns.{Endpoint}
 use Rattle.written_net.specs.Ledgers.{Ledger}
 use Rattle.written_net.specs.Sides.{Side, appended}
-use Rattle.core_side.specs.Sides.{IsSide}
+use Rattle.core_side.specs.CoreSides.{IsSide}
 use Rattle.broadcast.specs.declared.machine_row.RowNumber.{RowNumber}
 use Rattle.fuxi_terms.specs.NumbersSet.{numbers_set}
 

@@ -9,7 +9,7 @@ use Rattle.fuxi_terms.specs.Keys.{RowKey, row_cmp, Spot, spot_cmp}
 use Rattle.fuxi_terms.specs.Limits.{most_entries}
 use Rattle.fuxi_terms.specs.Rows.{is_row_key, greatest_row}
 use Rattle.written_roles.specs.MasterSteps.{spot_row_key}
-use Rattle.grant_table.specs.Tables.{TableRecord, as_known}
+use Rattle.grant_table.specs.GrantTables.{TableRecord, as_known}
 use Rattle.broadcast.specs.declared.machine_row.RowNumber.{RowNumber}
 use Rattle.fuxi_terms.specs.NumbersSet.{AreNumbers}
 use Rattle.broadcast.specs.Shown.{number_of}

@@ -10,7 +10,7 @@ ghost use Rattle.fuxi_terms.specs.Counts.{count};
 ghost use Rattle.fuxi_terms.specs.Keys.{key_cmp, spot_cmp};
 ghost use Rattle.fuxi_terms.specs.TallyKeys.{reported_key, count_key, greatest_grant, credited_what};
 ghost use Rattle.fuxi_terms.specs.NumbersSet.{AreNumbers};
-ghost use Rattle.grant_table.specs.Tables.{TableRecord};
+ghost use Rattle.grant_table.specs.GrantTables.{TableRecord};
 ghost use Rattle.broadcast.specs.AllShown.{App, spot_of, is_job, AreInOrder, GrantsAreBefore, ShowsGrants, ShowsAllGrants, HaveRoom};
 ghost use Rattle.broadcast.specs.OneJob.{has_place, counts_at, lists_of, AreByJob, AreOfJobs, AreNumbersOf, IsNews, machines_of, reported_now, reported_numbers, credited_to, numbers_of, JobIsBefore, SlotIsShown};
 

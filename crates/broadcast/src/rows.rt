@@ -8,7 +8,7 @@ ghost use Rattle.fuxi_terms.specs.Keys.{row_cmp};
 ghost use Rattle.fuxi_terms.specs.Rows.{IsRow, patched_row};
 ghost use Rattle.written_net.specs.Ledgers.{row_ledger};
 ghost use Rattle.core_side.specs.Bodies.{report_of};
-ghost use Rattle.grant_table.specs.Tables.{as_known};
+ghost use Rattle.grant_table.specs.GrantTables.{as_known};
 ghost use Rattle.fuxi_terms.specs.NumbersSet.{numbers_set};
 ghost use Rattle.broadcast.specs.Shown.{number_of, Shows};
 ghost use Rattle.broadcast.specs.AllShown.{Down, spot_of, is_machine, AreInOrder, RowsAreBefore, ShowsRows};

@@ -3,7 +3,7 @@
 ghost use Rattle.std.specs.Prelude.{◌≡◌, ℕ, List, map, IfOk};
 ghost use Rattle.std.specs.BTreeSet as set;
 ghost use Rattle.fuxi_terms.specs.Keys.{Spot};
-ghost use Rattle.broadcast.specs.Places.{place_cmp, place_of, pick_of};
+ghost use Rattle.broadcast.specs.PickOrders.{place_cmp, place_of, pick_of};
 ghost use Rattle.broadcast.specs.AllShown.{spot_of, has_spot, AreInOrder};
 
 use fuxi_terms::OutOfMemory;

@@ -11,13 +11,13 @@ use Rattle.written_roles.specs.Refusals.{Refusal, first_refusal, with_found, Not
 use Rattle.written_roles.specs.Apps.{AppRole, AppCommand, commands_alone, command_tests, command_key, command_number, given_by, demands_alone}
 use Rattle.written_world.specs.World.{World, App, Step, refused, prints_nothing}
 use Rattle.written_world.specs.Events.{asks, turn_to_master, turned, usable_now, given_back, demanded}
-use Rattle.written_join.specs.Seen.{app_seen}
-use Rattle.written_join.specs.Joins.{AppActs, AppCommanded}
-use Rattle.app_master.specs.Apps.{AppCore, StandsFor}
-use Rattle.app_master.specs.Commands.{Answers, Names}
+use Rattle.written_join.specs.SeenWorlds.{app_seen}
+use Rattle.written_join.specs.PartyJoins.{AppActs, AppCommanded}
+use Rattle.app_master.specs.AppCores.{AppCore, StandsFor}
+use Rattle.app_master.specs.AppCommands.{Answers, Names}
 use Rattle.app_master.specs.declared.fault.AppFault.{AppFault}
 use Rattle.app_master.specs.declared.fault.AppFault.TheVariants.{NoUnit, NoMachine, NoRack, WantRange, NotUsable, BackRange, OutOfMemory}
-use Rattle.core_join.specs.Apps.{AppActsIn, IsAskedIn, AsksIn, IsRefusedAs}
+use Rattle.core_join.specs.AppInWorld.{AppActsIn, IsAskedIn, AsksIn, IsRefusedAs}
 
 found_put : {X : Type 0} (n : ℕ) (x : X) (xs : List (ℕ × X)) → find nat_cmp n (put nat_cmp n x xs) ≡ Some x
 found_put n x xs = find-put nat_cmp nat_cmp_total n n x xs ∙ ap (λ r. cond (is_eq r) (Some x) (find nat_cmp n xs)) (tied_itself nat_cmp_total n)

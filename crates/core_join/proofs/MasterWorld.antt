@@ -23,8 +23,8 @@ use Rattle.written_roles.specs.MasterRoles.{MasterRole, report_excess as kept_ex
 use Rattle.written_world.specs.World.{World, Step, refused, on_result}
 use Rattle.written_world.specs.Parties.{master_hears}
 use Rattle.written_world.specs.Events.{commanded, turned, resynced}
-use Rattle.written_join.specs.Seen.{master_seen, parcel_of}
-use Rattle.written_join.specs.Joins.{OneActs, MasterActs, MasterHearsAlike, MasterCommanded, Leads}
+use Rattle.written_join.specs.SeenWorlds.{master_seen, parcel_of}
+use Rattle.written_join.specs.PartyJoins.{OneActs, MasterActs, MasterHearsAlike, MasterCommanded, Leads}
 use Rattle.written_join.specs.Leading.{AllLead, report_excess}
 use Rattle.core_side.specs.Parcels.{parcel_is}
 use Rattle.fuxi_master.specs.Cores.{CoreRecord, StandsFor}
@@ -34,8 +34,8 @@ use Rattle.fuxi_master.specs.declared.event.MasterEvent.TheVariants.{Packet as P
 use Rattle.fuxi_master.specs.declared.event.MasterRefusal.{MasterRefusal}
 use Rattle.fuxi_master.specs.declared.event.Outcome.{Outcome}
 use Rattle.fuxi_master.specs.declared.event.Outcome.TheVariants.{Done, Refused, Sent, Heard as HeardOne}
-use Rattle.core_join.specs.Agents.{IsRuled}
-use Rattle.core_join.specs.Masters.{MasterStandsIn, MasterActsIn, MasterHearsIn, change_in, CommandActsIn, CommandsIn, CommandsInWorld, StepsInWorld}
+use Rattle.core_join.specs.AgentInWorld.{IsRuled}
+use Rattle.core_join.specs.MasterInWorld.{MasterStandsIn, MasterActsIn, MasterHearsIn, change_in, CommandActsIn, CommandsIn, CommandsInWorld, StepsInWorld}
 use Rattle.core_join.proofs.Ruled.{hear_ruled}
 
 -- The laws of the join that speak of a running master

@@ -3,7 +3,7 @@ use Rattle.std.proofs.Common.{ℕ, ◌+◌, Bool, true, false, cond, not, nat_eq
 use Rattle.std.specs.Prelude.{◌&&◌}
 use Rattle.fuxi_terms.specs.declared.answers.What.TheVariants.{Stranger, Stale, NotMine, Old, Gap, Taken}
 use Rattle.written_net.specs.Net.{Party, Link, Packet, Kind, Ack, Delta, Full, met, unmoved, same_id, word_of, hear, hear_peer}
-use Rattle.core_join.specs.Agents.{IsRuled}
+use Rattle.core_join.specs.AgentInWorld.{IsRuled}
 
 word_ruled : (k : Kind) (own : ℕ) (l : Link) (x : Packet) → IsRuled (word_of k own l x)
 word_ruled Ack own l x = tt

@@ -1,3 +1,3 @@
-pub mod Agents
-pub mod Apps
-pub mod Masters
+pub mod AgentInWorld
+pub mod AppInWorld
+pub mod MasterInWorld

@@ -5,8 +5,8 @@ ghost use Rattle.party_ledgers.specs.declared.packets.Heard.{Heard};
 ghost use Rattle.party_ledgers.specs.declared.packets.Packet.{Packet};
 ghost use Rattle.written_roles.specs.Agents.{new_agent};
 ghost use Rattle.agent_core.specs.Answering.{AnswersAlike, ResyncsAlike, SendsAlike};
-ghost use Rattle.agent_core.specs.Standing.{AgentCore, StandsFor};
-ghost use Rattle.core_join.specs.Agents.{HearsInWorld, ResyncsInWorld, StartsInWorld, TurnsInWorld};
+ghost use Rattle.agent_core.specs.AgentCores.{AgentCore, StandsFor};
+ghost use Rattle.core_join.specs.AgentInWorld.{HearsInWorld, ResyncsInWorld, StartsInWorld, TurnsInWorld};
 
 use written_join::agents_join;
 

@@ -5,11 +5,11 @@ ghost use Rattle.fuxi_terms.specs.Cluster.{ClusterRecord};
 ghost use Rattle.party_ledgers.specs.declared.packets.Heard.{Heard};
 ghost use Rattle.party_ledgers.specs.declared.packets.Packet.{Packet};
 ghost use Rattle.written_roles.specs.Apps.{AppCommand, AppRole, app_resynced, new_app};
-ghost use Rattle.app_master.specs.Apps.{AppCore, StandsFor};
-ghost use Rattle.app_master.specs.Commands.{Commands};
-ghost use Rattle.app_master.specs.Hearing.{HearsAlike, SendsAlike};
+ghost use Rattle.app_master.specs.AppCores.{AppCore, StandsFor};
+ghost use Rattle.app_master.specs.AppCommands.{Commands};
+ghost use Rattle.app_master.specs.AppPackets.{HearsAlike, SendsAlike};
 ghost use Rattle.app_master.specs.declared.fault.AppFault.{AppFault};
-ghost use Rattle.core_join.specs.Apps.{AppHearsInWorld, AppResyncsInWorld, AppStartsInWorld, AppTurnsInWorld, AsksInWorld};
+ghost use Rattle.core_join.specs.AppInWorld.{AppHearsInWorld, AppResyncsInWorld, AppStartsInWorld, AppTurnsInWorld, AsksInWorld};
 
 use written_join::apps_join;
 

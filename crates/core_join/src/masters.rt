@@ -8,7 +8,7 @@ ghost use Rattle.fuxi_master.specs.Cores.{CoreRecord, StandsFor};
 ghost use Rattle.fuxi_master.specs.Steps.{StepsAlike};
 ghost use Rattle.fuxi_master.specs.declared.event.MasterEvent.{MasterEvent};
 ghost use Rattle.fuxi_master.specs.declared.event.Outcome.{Outcome};
-ghost use Rattle.core_join.specs.Masters.{MasterStartsInWorld, StepsInWorld};
+ghost use Rattle.core_join.specs.MasterInWorld.{MasterStartsInWorld, StepsInWorld};
 
 use written_join::{kept_reports_lead, masters_join};
 

@@ -30,12 +30,12 @@ use Rattle.written_net.specs.Net.{Party, Id, Link, Packet, Kind, Ack, Delta, Ful
 use Rattle.written_net.specs.Ledgers.{Ledger, nothing}
 use Rattle.written_net.specs.Sides.{Side, Parcel, HeardSide, heard_with, hears_side, taken_as, tested, patched_by, Taking, Took, TooMuch, Refused, unless_excess}
 use Rattle.core_side.specs.Parcels.{id_of, party_of, kind_of, content_of, packet_of, parcel_is}
-use Rattle.core_side.specs.Sides.{IsSide, SaysWord, Hears, HearsAlike}
+use Rattle.core_side.specs.CoreSides.{IsSide, SaysWord, Hears, HearsAlike}
 use Rattle.core_side.specs.Telling.{Tells, TellsWhy}
 use Rattle.core_side.specs.Testing.{WeighsChange, Takes}
 use Rattle.core_side.specs.declared.limit.Refusal.{Refusal}
 use Rattle.core_side.specs.declared.limit.Refusal.TheVariants.{Ledger as RefusesLedger, Exceeds as RefusesMuch}
-use Rattle.core_side.proofs.SidesLemmas.{kept_side}
+use Rattle.core_side.proofs.CoreSidesLemmas.{kept_side}
 
 same_id_itself : (d : Id) → same_id d d ≡ true
 same_id_itself d = and_true (nat_eq d.role d.role) (nat_eq d.number d.number) (nat_itself d.role) (nat_itself d.number)

@@ -1,3 +1,3 @@
-pub mod SidesLemmas
+pub mod CoreSidesLemmas
 pub mod HeardAlike
 pub mod TurnsAlikeLemmas

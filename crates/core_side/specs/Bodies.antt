@@ -9,7 +9,7 @@ use Rattle.fuxi_terms.specs.Counts.{then_do}
 use Rattle.fuxi_terms.specs.TallyKeys.{greatest_grant, greatest_demand, credited_what, back_what}
 use Rattle.ledger_law.specs.Differing.{tally_by_difference}
 use Rattle.ledger_law.specs.Shapes.{IsTally, IsChange}
-use Rattle.party_ledgers.specs.Differing.{row_by_difference, replaced}
+use Rattle.party_ledgers.specs.PartyDifferences.{row_by_difference, replaced}
 use Rattle.party_ledgers.specs.Joins.{JoinRecord}
 use Rattle.written_net.specs.Ledgers.{Ledger, RowChanges, Report, TallyChange, row_ledger, report_ledger, tally_ledger, change_body}
 use Rattle.written_net.specs.Channels.{is_agent, dropped_by}

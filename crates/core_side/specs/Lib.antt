@@ -1,5 +1,5 @@
 pub mod Parcels
-pub mod Sides
+pub mod CoreSides
 pub mod Testing
 pub mod Sending
 pub mod Bodies

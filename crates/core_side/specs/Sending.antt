@@ -15,7 +15,7 @@ use Rattle.party_ledgers.specs.declared.packets.Body.TheVariants.{Nothing}
 use Rattle.written_net.specs.Ledgers.{Ledger}
 use Rattle.written_net.specs.Sides.{Side, turn_parcels}
 use Rattle.core_side.specs.Parcels.{id_of, parcel_is}
-use Rattle.core_side.specs.Sides.{IsSide}
+use Rattle.core_side.specs.CoreSides.{IsSide}
 
 -- every change that is kept has a written form, as every change that was ever posted
 pub record HaveForms {V D : Type 0} (form : D → Type 0) (s : Sending V D) : Type 0 where

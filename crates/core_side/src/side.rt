@@ -3,7 +3,7 @@ ghost use Rattle.std.specs.List.{AllByRecursion};
 ghost use Rattle.full_sync.specs.Turns.{new_endpoint};
 ghost use Rattle.party_ledgers.specs.Packets.{IsFormed, is_number_of, is_bare};
 ghost use Rattle.written_net.specs.Sides.{Side as WrittenSide, new_side};
-ghost use Rattle.core_side.specs.Sides.{IsSide, SaysWord, HearsAlike, PostsAlike, IsShown};
+ghost use Rattle.core_side.specs.CoreSides.{IsSide, SaysWord, HearsAlike, PostsAlike, IsShown};
 ghost use Rattle.core_side.specs.Sending.{TurnsAlike, packet_for};
 ghost use Rattle.core_side.specs.Telling.{TellsWhy};
 ghost use Rattle.core_side.specs.Testing.{Takes};

@@ -1,4 +1,4 @@
 pub mod Leases
 pub mod Histories
 pub mod Files
-pub mod Reading
+pub mod LeaseLines

@@ -1,8 +1,8 @@
 //! Lines for a lease are read.
 
 ghost use Rattle.std.specs.Prelude.{◌≡◌, IfOk, IfErr, Ok, map};
-ghost use Rattle.schedule_text.specs.Reading.{IsFault};
-ghost use Rattle.epoch_lease.specs.Reading.{acquire_of, epoch_at, event_of_words, expire_of, held_at, holder_at, lease_event, release_of, renew_of};
+ghost use Rattle.schedule_text.specs.ReadEvents.{IsFault};
+ghost use Rattle.epoch_lease.specs.LeaseLines.{acquire_of, epoch_at, event_of_words, expire_of, held_at, holder_at, lease_event, release_of, renew_of};
 
 use crate::event::LeaseEvent;
 use fuxi_terms::OutOfMemory;

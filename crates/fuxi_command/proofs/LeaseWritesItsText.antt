@@ -6,8 +6,8 @@ use Rattle.fuxi_io.specs.declared.status.Status.{Status}
 use Rattle.fuxi_io.specs.declared.status.Status.TheVariants.{Done}
 use Rattle.written_roles.specs.HardState.{HardState}
 use Rattle.hard_state.specs.HardFiles.{records_of}
-use Rattle.lease_run.specs.Ends.{LeaseEnded}
-use Rattle.lease_run.specs.Runs.{text_of}
+use Rattle.lease_run.specs.LeaseEnds.{LeaseEnded}
+use Rattle.lease_run.specs.LeaseRuns.{text_of}
 
 same_value : (file : List ℕ) (a b : HardState) → records_of file ≡ Ok a → records_of file ≡ Ok b → a ≡ b
 same_value file a b is_a is_b = cc

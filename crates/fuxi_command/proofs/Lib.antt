@@ -1,7 +1,7 @@
 pub mod Untouched
 pub mod ReplaysLemmas
-pub mod StatesLemmas
-pub mod StormsLemmas
+pub mod RunStatesLemmas
+pub mod StormTextsLemmas
 pub mod LeaseWritesItsText
 pub mod WorkWritesItsText
 pub mod OutcomesLemmas

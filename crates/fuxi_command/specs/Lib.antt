@@ -1,5 +1,5 @@
-pub mod Words
-pub mod Reports
-pub mod States
-pub mod Storms
+pub mod CommandWords
+pub mod CommandReports
+pub mod RunStates
+pub mod StormTexts
 pub mod Outcomes

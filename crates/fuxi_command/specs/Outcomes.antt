@@ -7,20 +7,20 @@ use Rattle.fuxi_io.specs.declared.status.LimitOf.TheVariants.{Lines}
 use Rattle.fuxi_io.specs.declared.status.Status.{Status}
 use Rattle.fuxi_io.specs.declared.status.Status.TheVariants.{Done, Usage, ReadFault, WriteFault, Limit, OutOfMemory, DiskFault, StaleEpoch, DamagedCheckpoint}
 use Rattle.fuxi_terms.specs.Limits.{most_lines}
-use Rattle.schedule_run.specs.Runs.{read_from, Ended}
-use Rattle.storm_run.specs.Runs.{StormEnded}
+use Rattle.schedule_run.specs.ScheduleRuns.{read_from, Ended}
+use Rattle.storm_run.specs.StormRuns.{StormEnded}
 use Rattle.storm_run.specs.Summaries.{storm_of}
 use Rattle.written_roles.specs.HardState.{HardState}
 use Rattle.hard_state.specs.HardFiles.{records_of}
-use Rattle.lease_run.specs.Ends.{LeaseEnded}
+use Rattle.lease_run.specs.LeaseEnds.{LeaseEnded}
 use Rattle.input_lines.specs.LineRuns.{AtEnd}
-use Rattle.lease_run.specs.Runs.{run_of}
-use Rattle.written_work.specs.World.{empty_world as empty_work}
-use Rattle.work_run.specs.Runs.{Ended as WorkEnded, run_from as work_run_from, run_of as work_run_of}
+use Rattle.lease_run.specs.LeaseRuns.{run_of}
+use Rattle.written_work.specs.AgentWithApps.{empty_world as empty_work}
+use Rattle.work_run.specs.WorkLineRuns.{Ended as WorkEnded, run_from as work_run_from, run_of as work_run_of}
 use Rattle.fuxi_node.specs.declared.kind.NodeKind.{NodeKind}
-use Rattle.fuxi_node.specs.Inputs.{HasNoCluster, InputEnded, InputEndsBy, IsDiskless, LeavesDisk, MayStart, TellsDisk, ending_of, status_at}
+use Rattle.fuxi_node.specs.NodeInputs.{HasNoCluster, InputEnded, InputEndsBy, IsDiskless, LeavesDisk, MayStart, TellsDisk, ending_of, status_at}
 use Rattle.node_door.specs.Doors.{Told, WhereTold}
-use Rattle.fuxi_command.specs.Words.{Lease, Node, Replay, Storm, Work, command_of, has_file, is_command, is_node}
+use Rattle.fuxi_command.specs.CommandWords.{Lease, Node, Replay, Storm, Work, command_of, has_file, is_command, is_node}
 
 -- what an input has left, what an output took, what a disk and a door told, and how many calls of each failed
 pub record Seen : Type 0 where

@@ -5,13 +5,13 @@ ghost use Rattle.std.specs.Io.KnownBytes.{Appends};
 ghost use Rattle.fuxi_io.specs.Disks.{Told};
 ghost use Rattle.fuxi_io.specs.Statuses.{code_of};
 ghost use Rattle.hard_state.specs.HardFiles.{records_of};
-ghost use Rattle.lease_run.specs.Runs.{text_of};
-ghost use Rattle.work_run.specs.Runs.{text_of as work_text_of};
+ghost use Rattle.lease_run.specs.LeaseRuns.{text_of};
+ghost use Rattle.work_run.specs.WorkLineRuns.{text_of as work_text_of};
 ghost use Rattle.written_roles.specs.HardState.{HardState};
 ghost use Rattle.schedule_run.specs.Told.{IsText, Writes};
-ghost use Rattle.fuxi_command.specs.Words.{Lease, Replay, Work, command_of, file_of, HasWords, NoWords, WhyNoWords};
+ghost use Rattle.fuxi_command.specs.CommandWords.{Lease, Replay, Work, command_of, file_of, HasWords, NoWords, WhyNoWords};
 ghost use Rattle.fuxi_io.specs.Reports.{TakesReport};
-ghost use Rattle.fuxi_command.specs.Reports.{report_line};
+ghost use Rattle.fuxi_command.specs.CommandReports.{report_line};
 ghost use Rattle.fuxi_command.specs.Outcomes.{IsOutcome, seen};
 
 use crate::telling::report;

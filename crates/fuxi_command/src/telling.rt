@@ -1,7 +1,7 @@
 ghost use Rattle.std.specs.Prelude.{OnOk, OnErr};
 ghost use Rattle.std.specs.Io.KnownBytes.{Appends};
 ghost use Rattle.fuxi_io.specs.Causes.{HasCause, TakesPart};
-ghost use Rattle.fuxi_command.specs.Reports.{report_line};
+ghost use Rattle.fuxi_command.specs.CommandReports.{report_line};
 
 use fuxi_io::{Sink, Status, WriteFault};
 

@@ -2,39 +2,39 @@ ghost use Rattle.std.specs.Prelude.{◌≡◌, ◌⊎◌, ◌↔◌, ℕ, List, 
 ghost use Rattle.std.specs.List.{concat};
 ghost use Rattle.std.specs.Io.KnownBytes.{Appends};
 ghost use Rattle.fuxi_io.specs.Causes.{Rose};
-ghost use Rattle.written_calm.specs.Rounds.{CalmBringsQuiet};
-ghost use Rattle.written_storm.specs.Ends.{EndsQuiet};
+ghost use Rattle.written_calm.specs.CalmRounds.{CalmBringsQuiet};
+ghost use Rattle.written_storm.specs.StormEnds.{EndsQuiet};
 ghost use Rattle.written_world.specs.Runs.{run};
 ghost use Rattle.written_world.specs.Safe.{AllFit, Views, AllAgree, AllSettled};
 ghost use Rattle.written_world.specs.Credits.{AllCreditedOnce};
 ghost use Rattle.written_world.specs.Judging.{AllJudge};
 ghost use Rattle.written_world.specs.Starts.{StartsWithNothing};
-ghost use Rattle.written_world.specs.Steps.{AllBare, AllGrow, AllLose};
+ghost use Rattle.written_world.specs.EventSteps.{AllBare, AllGrow, AllLose};
 ghost use Rattle.schedule_run.specs.Inputs.{Input};
 ghost use Rattle.input_lines.specs.LineRuns.{AtEnd, AtBadLine, AtLimit};
-ghost use Rattle.schedule_run.specs.Runs.{run_of, read_from, pieces, ReadsWhole, StopsWithin, Ended};
+ghost use Rattle.schedule_run.specs.ScheduleRuns.{run_of, read_from, pieces, ReadsWhole, StopsWithin, Ended};
 ghost use Rattle.schedule_run.specs.Told.{IsText, IsTextBefore, IsFrontText, Writes, LeadsTo};
-ghost use Rattle.fuxi_command.specs.States.{AllCountOnce, AllKeepGrants, AllTakeByQuota};
-ghost use Rattle.storm_run.specs.Runs.{IsLimit};
+ghost use Rattle.fuxi_command.specs.RunStates.{AllCountOnce, AllKeepGrants, AllTakeByQuota};
+ghost use Rattle.storm_run.specs.StormRuns.{IsLimit};
 ghost use Rattle.storm_run.specs.Summaries.{storm_of};
-ghost use Rattle.fuxi_command.specs.Storms.{IsStorm, WritesPart};
-ghost use Rattle.fuxi_command.specs.Words.{Lease, Node, Replay, Storm, Work, command_of, has_file, is_command, is_node};
+ghost use Rattle.fuxi_command.specs.StormTexts.{IsStorm, WritesPart};
+ghost use Rattle.fuxi_command.specs.CommandWords.{Lease, Node, Replay, Storm, Work, command_of, has_file, is_command, is_node};
 ghost use Rattle.fuxi_node.specs.declared.kind.NodeKind.{NodeKind};
 ghost use Rattle.fuxi_node.specs.declared.kind.NodeKind.TheVariants.{Master};
-ghost use Rattle.fuxi_node.specs.Inputs.{HasNoCluster, InputEnded, InputEndsBy, IsDiskless, LeavesDisk, MayStart, ending_of, status_at};
+ghost use Rattle.fuxi_node.specs.NodeInputs.{HasNoCluster, InputEnded, InputEndsBy, IsDiskless, LeavesDisk, MayStart, ending_of, status_at};
 ghost use Rattle.node_door.specs.Doors.{WhereTold};
 ghost use Rattle.fuxi_io.specs.Disks.{Told as Moments};
 ghost use Rattle.written_roles.specs.HardState.{HardState};
-ghost use Rattle.lease_run.specs.Ends.{LeaseEnded};
-ghost use Rattle.lease_run.specs.Runs.{run_of as lease_run_of, text_of};
-ghost use Rattle.written_work.specs.World.{empty_world as empty_work};
-ghost use Rattle.work_run.specs.Runs.{Ended as WorkEnded, run_from as work_run_from, run_of as work_run_of, text_of as work_text_of};
-ghost use Rattle.work_run.specs.States.{AllPlanned};
-ghost use Rattle.fuxi_node.specs.Masters.{RefusesEpoch};
+ghost use Rattle.lease_run.specs.LeaseEnds.{LeaseEnded};
+ghost use Rattle.lease_run.specs.LeaseRuns.{run_of as lease_run_of, text_of};
+ghost use Rattle.written_work.specs.AgentWithApps.{empty_world as empty_work};
+ghost use Rattle.work_run.specs.WorkLineRuns.{Ended as WorkEnded, run_from as work_run_from, run_of as work_run_of, text_of as work_text_of};
+ghost use Rattle.work_run.specs.WorkRunStates.{AllPlanned};
+ghost use Rattle.fuxi_node.specs.MasterEnds.{RefusesEpoch};
 ghost use Rattle.hard_state.specs.HardFiles.{records_of};
 ghost use Rattle.written_roles.specs.Refusals.{NotRising, HardFull};
 ghost use Rattle.fuxi_io.specs.Reports.{TakesReport};
-ghost use Rattle.fuxi_command.specs.Reports.{report_line};
+ghost use Rattle.fuxi_command.specs.CommandReports.{report_line};
 ghost use Rattle.fuxi_command.specs.Outcomes.{IsOutcome, TellsLease, seen};
 ghost use Rattle.fuxi_terms.specs.Limits.{most_lines, most_records};
 
@@ -93,7 +93,7 @@ fn run_command<S: Source, O: Sink, D: Disk, N: Door>(
 /// `node agent MACHINE BOOT ADDR` and `node app APP BOOT UNITS ADDR` dial it. `lease` hands out epochs by the lines of the input, and keeps the
 /// last one on the disk. `work` runs named workers by the lines of the input. What is said of the output holds of an input and an output that tell their bytes, and of nodes of a door that does, and
 /// of a disk that does.
-#[tactic(auto, using(crate::proofs::StatesLemmas::all_count_once, crate::proofs::StatesLemmas::all_take_by_quota, crate::proofs::StatesLemmas::all_keep_grants))]
+#[tactic(auto, using(crate::proofs::RunStatesLemmas::all_count_once, crate::proofs::RunStatesLemmas::all_take_by_quota, crate::proofs::RunStatesLemmas::all_keep_grants))]
 pub fn fuxi<S: Source, O: Sink, E: Sink, D: Disk, N: Door>(
     alloc: Global,
     words: &[String],

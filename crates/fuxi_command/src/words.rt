@@ -2,9 +2,9 @@
 
 ghost use Rattle.std.specs.Prelude.{◌≡◌, ◌≤◌, ◌<◌, length, map, string_bytes, IfSome};
 ghost use Rattle.fuxi_terms.specs.Limits.{most_jobs, most_machines, most_units};
-ghost use Rattle.schedule_unit.specs.Numbers.{number_of};
-ghost use Rattle.fuxi_command.specs.Words.{agent_of, app_of, as_command, command_of, master_of, node_at, one_word, storm_of_words, AreWithin};
-ghost use Rattle.fuxi_node.specs.Inputs.{IsKind};
+ghost use Rattle.schedule_unit.specs.NumberWords.{number_of};
+ghost use Rattle.fuxi_command.specs.CommandWords.{agent_of, app_of, as_command, command_of, master_of, node_at, one_word, storm_of_words, AreWithin};
+ghost use Rattle.fuxi_node.specs.NodeInputs.{IsKind};
 
 use fuxi_node::NodeKind;
 use fuxi_terms::limits::{MOST_ADDRESS_BYTES, MOST_JOBS, MOST_MACHINES, MOST_UNITS};

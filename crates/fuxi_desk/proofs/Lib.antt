@@ -1,5 +1,5 @@
-pub mod LinesLemmas
+pub mod DeskLinesLemmas
 pub mod PreparingLemmas
-pub mod ProgressLemmas
-pub mod RunsLemmas
-pub mod TextsLemmas
+pub mod DeskProgressLemmas
+pub mod DeskRunsLemmas
+pub mod DeskTextsLemmas

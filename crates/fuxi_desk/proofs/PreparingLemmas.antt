@@ -6,8 +6,8 @@ use Rattle.written_roles.specs.HardState.{HardState, Raise, empty_hard, hard_ste
 use Rattle.written_roles.specs.MasterRoles.{master_started}
 use Rattle.hard_state.specs.HardFiles.{Kept, records_of}
 use Rattle.node_rounds.specs.Roles.{OfMaster}
-use Rattle.master_node.specs.Masters.{NodeRecord, StandsAs}
-use Rattle.master_node.specs.Starts.{StartsFrom}
+use Rattle.master_node.specs.MasterParties.{NodeRecord, StandsAs}
+use Rattle.master_node.specs.OpenedMasters.{StartsFrom}
 use Rattle.fuxi_desk.specs.Preparing.{first_hard}
 
 none_read : (bytes : List ℕ) (h : HardState) → bytes ≡ [] → records_of bytes ≡ Ok h → h ≡ empty_hard

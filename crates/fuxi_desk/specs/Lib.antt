@@ -1,7 +1,7 @@
-pub mod Lines
+pub mod DeskLines
 pub mod Saying
 pub mod Preparing
-pub mod Texts
-pub mod Runs
-pub mod Progress
-pub mod Reports
+pub mod DeskTexts
+pub mod DeskRuns
+pub mod DeskProgress
+pub mod DeskReports

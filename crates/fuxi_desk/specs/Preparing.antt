@@ -4,11 +4,11 @@ use Rattle.fuxi_terms.specs.Cluster.{ClusterRecord}
 use Rattle.written_roles.specs.HardState.{HardState}
 use Rattle.written_roles.specs.MasterRoles.{master_started}
 use Rattle.node_rounds.specs.Roles.{Role, OfMaster}
-use Rattle.node_party.specs.Commands.{commanded}
-use Rattle.node_party.specs.Texts.{answer_text}
-use Rattle.master_node.specs.Masters.{NodeRecord, StandsAs}
-use Rattle.master_desk.specs.Orders.{calls_of, most_calls, most_sessions, total}
-use Rattle.fuxi_desk.specs.Lines.{DeskEvent, Submits, Calls}
+use Rattle.node_party.specs.PartyEvents.{commanded}
+use Rattle.node_party.specs.NodeTexts.{answer_text}
+use Rattle.master_node.specs.MasterParties.{NodeRecord, StandsAs}
+use Rattle.master_desk.specs.CallOrders.{calls_of, most_calls, most_sessions, total}
+use Rattle.fuxi_desk.specs.DeskLines.{DeskEvent, Submits, Calls}
 
 -- the master as a party that takes commands, and the calls of each session
 pub record Prepared : Type 0 where

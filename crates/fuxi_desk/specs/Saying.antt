@@ -2,8 +2,8 @@
 use Rattle.std.specs.Prelude.{◌<◌, ℕ, List}
 use Rattle.schedule_text.specs.Halting.{anywhere}
 use Rattle.schedule_text.specs.Writing.{IsLineEvent}
-use Rattle.master_desk.specs.Orders.{most_calls, most_sessions, total}
-use Rattle.fuxi_desk.specs.Lines.{DeskEvent, Submits, Calls}
+use Rattle.master_desk.specs.CallOrders.{most_calls, most_sessions, total}
+use Rattle.fuxi_desk.specs.DeskLines.{DeskEvent, Submits, Calls}
 use Rattle.fuxi_desk.specs.declared.read.DeskLine.{DeskLine}
 use Rattle.fuxi_desk.specs.declared.read.DeskLine.TheVariants.{Submit, Call}
 

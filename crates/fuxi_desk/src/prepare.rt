@@ -7,10 +7,10 @@ ghost use Rattle.written_roles.specs.MasterRoles.{MasterRole};
 ghost use Rattle.schedule_text.specs.Halting.{anywhere};
 ghost use Rattle.schedule_text.specs.Writing.{IsLineEvent};
 ghost use Rattle.node_rounds.specs.Roles.{OfMaster};
-ghost use Rattle.master_node.specs.Masters.{StandsAs};
-ghost use Rattle.master_desk.specs.Orders.{most_calls, most_sessions, total};
+ghost use Rattle.master_node.specs.MasterParties.{StandsAs};
+ghost use Rattle.master_desk.specs.CallOrders.{most_calls, most_sessions, total};
 ghost use Rattle.fuxi_master.specs.Cores.{StandsFor};
-ghost use Rattle.fuxi_desk.specs.Lines.{Submits, Calls};
+ghost use Rattle.fuxi_desk.specs.DeskLines.{Submits, Calls};
 ghost use Rattle.fuxi_desk.specs.Preparing.{IsStepped, Prepared as PreparedSeen, Stands, is_past, prepared_for};
 ghost use Rattle.fuxi_desk.specs.Saying.{HasCallLeft, IsSaid, said_of};
 
@@ -49,7 +49,7 @@ impl Drop for Prepared {
 
 impl Model for Prepared {
     ghost use Rattle.std.specs.Prelude.{length, None};
-    ghost use Rattle.master_node.specs.Masters.{RestsAt};
+    ghost use Rattle.master_node.specs.MasterParties.{RestsAt};
     ghost use Rattle.fuxi_desk.specs.Preparing.{PreparedRecord};
 
     ghost Value = { PreparedRecord };

@@ -4,12 +4,12 @@ ghost use Rattle.std.specs.Prelude.{◌≡◌, ◌<◌, IfOk, IfErr, Ok, map, no
 ghost use Rattle.std.specs.List.{list_all};
 ghost use Rattle.std.specs.Option.{option_map};
 ghost use Rattle.schedule_text.specs.Halting.{anywhere};
-ghost use Rattle.schedule_text.specs.Reading.{IsFault, event_of};
+ghost use Rattle.schedule_text.specs.ReadEvents.{IsFault, event_of};
 ghost use Rattle.schedule_text.specs.Words.{words_of};
 ghost use Rattle.schedule_text.specs.Writing.{IsLineEvent};
-ghost use Rattle.master_desk.specs.Orders.{most_sessions};
-ghost use Rattle.schedule_unit.specs.Numbers.{number_of};
-ghost use Rattle.fuxi_desk.specs.Lines.{call_of, call_with, desk_event, hex_of, is_capital, is_plain, session_at, submits};
+ghost use Rattle.master_desk.specs.CallOrders.{most_sessions};
+ghost use Rattle.schedule_unit.specs.NumberWords.{number_of};
+ghost use Rattle.fuxi_desk.specs.DeskLines.{call_of, call_with, desk_event, hex_of, is_capital, is_plain, session_at, submits};
 ghost use Rattle.fuxi_desk.specs.Saying.{IsSaid, said_of};
 
 use fuxi_terms::OutOfMemory;

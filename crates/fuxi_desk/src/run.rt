@@ -5,10 +5,10 @@ ghost use Rattle.fuxi_io.specs.Causes.{Rose};
 ghost use Rattle.fuxi_io.specs.Reading.{rest_of, read_ahead};
 ghost use Rattle.fuxi_terms.specs.Limits.{most_lines};
 ghost use Rattle.input_lines.specs.Wholes.{IsReady};
-ghost use Rattle.master_desk.specs.Orders.{most_calls};
+ghost use Rattle.master_desk.specs.CallOrders.{most_calls};
 ghost use Rattle.fuxi_desk.specs.Preparing.{Prepared as PreparedSeen, Stands, prepared_for};
-ghost use Rattle.fuxi_desk.specs.Runs.{Ended, read_from, run_from};
-ghost use Rattle.fuxi_desk.specs.Progress.{TakesLine, WritesState};
+ghost use Rattle.fuxi_desk.specs.DeskRuns.{Ended, read_from, run_from};
+ghost use Rattle.fuxi_desk.specs.DeskProgress.{TakesLine, WritesState};
 
 use crate::prepare::Prepared;
 use crate::read::read_line;

@@ -9,7 +9,7 @@ ghost use Rattle.schedule_text.specs.Printing.{as_kind};
 ghost use Rattle.schedule_text.specs.Writing.{blanked, spaced};
 ghost use Rattle.master_desk.specs.Desks.{sending_of};
 ghost use Rattle.master_desk.specs.Books.{HasRun, entry_line};
-ghost use Rattle.fuxi_desk.specs.Texts.{bad_words, desk_text, found_words, line_text, sent_line, took_line, words_in};
+ghost use Rattle.fuxi_desk.specs.DeskTexts.{bad_words, desk_text, found_words, line_text, sent_line, took_line, words_in};
 
 use fuxi_terms::OutOfMemory;
 use master_desk::{BadCall, Book, Entry, Head, Heads, Words};
@@ -50,7 +50,7 @@ fn push_sent(alloc: Global, head: &Head, out: &mut Vec<u8>) -> Result<(), OutOfM
     Ok(out.extend_from_slice(behind)?)
 }
 
-#[tactic(auto, using(crate::proofs::TextsLemmas::one_more))]
+#[tactic(auto, using(crate::proofs::DeskTextsLemmas::one_more))]
 fn push_heads(alloc: Global, heads: &Heads, out: &mut Vec<u8>) -> Result<(), OutOfMemory>
     ensures { OnOk result (out.new.items ≡ out.old.items ++ flat_map sent_line (map sending_of heads.now)) }
 {
@@ -139,7 +139,7 @@ fn push_entry(alloc: Global, entry: &Entry, out: &mut Vec<u8>) -> Result<(), Out
     push_heads(alloc, &entry.heads, out)
 }
 
-#[tactic(auto, using(crate::proofs::TextsLemmas::one_more))]
+#[tactic(auto, using(crate::proofs::DeskTextsLemmas::one_more))]
 fn push_journal(alloc: Global, book: &Book, out: &mut Vec<u8>) -> Result<(), OutOfMemory>
     ensures { OnOk result (out.new.items ≡ out.old.items ++ flat_map line_text (map entry_line book.now.journal)) }
 {

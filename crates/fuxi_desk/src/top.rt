@@ -3,8 +3,8 @@
 ghost use Rattle.std.specs.Prelude.{◌≡◌, ◌≢◌, ◌<◌, ◌⊎◌, ◌↔◌, ℕ, List, length, Some, IfSome};
 ghost use Rattle.fuxi_io.specs.Causes.{Rose};
 ghost use Rattle.fuxi_io.specs.Reports.{TakesReport};
-ghost use Rattle.fuxi_desk.specs.Reports.{report_line};
-ghost use Rattle.fuxi_desk.specs.Runs.{Ended, read_from, run_of};
+ghost use Rattle.fuxi_desk.specs.DeskReports.{report_line};
+ghost use Rattle.fuxi_desk.specs.DeskRuns.{Ended, read_from, run_of};
 ghost use Rattle.input_lines.specs.LineRuns.{AtEnd};
 
 use crate::run::run_desk;
@@ -23,7 +23,7 @@ const USAGE: &[u8] = b"usage: fuxi_desk\n";
 /// `call C HEX`, which adds a call to a session. At its end the sessions run, each by a worker of its own. It waits for its workers; that it
 /// returns is not proved, and what is promised holds where it returns. What is said of the output holds of an input and an output that tell
 /// their bytes.
-#[tactic(auto, using(crate::proofs::RunsLemmas::completes))]
+#[tactic(auto, using(crate::proofs::DeskRunsLemmas::completes))]
 pub fn desk<R: Threads + Wait + Sync, S: Source, O: Sink, E: Sink, G: Gate + Sync>(
     rt: &R,
     alloc: Global,

@@ -9,7 +9,7 @@ use Rattle.fuxi_terms.specs.declared.Key.{Key}
 use Rattle.fuxi_terms.specs.NumbersSet.{AreNumbers}
 use Rattle.fuxi_terms.specs.Numbers.{has_number, with_number}
 use Rattle.schedule_unit.specs.declared.party.MachineNo.{MachineNo}
-use Rattle.grant_table.specs.Tables.{IsSound}
+use Rattle.grant_table.specs.GrantTables.{IsSound}
 use Rattle.failover.specs.KeptReports.{kept_of}
 use Rattle.failover.specs.Reported.{Reported}
 use Rattle.allotment.specs.SettlingRuns.{AreTouched}
@@ -29,7 +29,7 @@ use Rattle.fuxi_master.specs.Cores.{CoreRecord, IsCore, StandsFor}
 use Rattle.fuxi_master.specs.Heard.{IsNews, Changes, adopting, adopting_role}
 use Rattle.fuxi_master.specs.Steps.{StandsMid}
 use Rattle.fuxi_master.proofs.ReportAdopted.{put_adopted, opened_now}
-use Rattle.fuxi_master.proofs.EndsLemmas.{lined_as}
+use Rattle.fuxi_master.proofs.StepEndsLemmas.{lined_as}
 use Rattle.fuxi_master.proofs.Readied.{lined_again}
 use Rattle.fuxi_master.proofs.NotYetShown.{mid_by, same_jobs, credited_same, within_soon}
 use Rattle.fuxi_terms.proofs.NumbersLemmas.{with_rises, with_all}

@@ -12,7 +12,7 @@ use Rattle.fuxi_terms.proofs.Lists.{all_at}
 use Rattle.fuxi_terms.proofs.VectorLaws.{fits-zeros}
 use Rattle.cluster_desc.specs.declared.cluster.Machine.{Machine}
 use Rattle.cluster_desc.specs.Records.{machine_of as machine_seen}
-use Rattle.grant_table.specs.Tables.{as_known}
+use Rattle.grant_table.specs.GrantTables.{as_known}
 use Rattle.failover.specs.KeptReports.{kept_entries, kept_of}
 use Rattle.party_ledgers.specs.declared.packets.Heard.{Heard}
 use Rattle.party_ledgers.specs.declared.packets.Packet.{Packet}
@@ -22,7 +22,7 @@ use Rattle.written_net.specs.Channels.{master_id, agent_id}
 use Rattle.written_roles.specs.MasterRoles.{MasterRole}
 use Rattle.core_side.specs.Bodies.{report_of}
 use Rattle.core_side.specs.Parcels.{packet_of}
-use Rattle.core_side.specs.Sides.{HearsAlike}
+use Rattle.core_side.specs.CoreSides.{HearsAlike}
 use Rattle.broadcast.specs.Projections.{row_of}
 use Rattle.broadcast.specs.AllShown.{Down}
 use Rattle.fuxi_master.specs.Cores.{CoreRecord, IsCore, IsWithin, StandsFor}

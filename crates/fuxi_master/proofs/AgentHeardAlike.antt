@@ -23,7 +23,7 @@ use Rattle.written_roles.specs.MasterRoles.{MasterRole, set_side, report_excess}
 use Rattle.core_side.specs.Bodies.{report_of}
 use Rattle.schedule_unit.specs.declared.party.Role.TheVariants.{Master as AsMaster}
 use Rattle.core_side.specs.Parcels.{id_of, packet_of, parcel_is}
-use Rattle.core_side.specs.Sides.{HearsAlike, Hears}
+use Rattle.core_side.specs.CoreSides.{HearsAlike, Hears}
 use Rattle.broadcast.specs.AllShown.{Down}
 use Rattle.fuxi_master.specs.Cores.{CoreRecord, IsDown, StandsFor}
 use Rattle.fuxi_master.specs.Heard.{ReportTest, excess_by, heard_of, with_heard, HearsAgent}

@@ -16,7 +16,7 @@ use Rattle.written_net.specs.Channels.{master_id, app_id}
 use Rattle.written_roles.specs.MasterRoles.{MasterRole}
 use Rattle.core_side.specs.Bodies.{tally_of}
 use Rattle.core_side.specs.Parcels.{packet_of}
-use Rattle.core_side.specs.Sides.{HearsAlike}
+use Rattle.core_side.specs.CoreSides.{HearsAlike}
 use Rattle.broadcast.specs.AllShown.{App, ShowsJob}
 use Rattle.fuxi_master.specs.Cores.{CoreRecord, IsNear, IsCore, HasBoots, IsWithin, StandsFor, patched_grants}
 use Rattle.fuxi_master.specs.Heard.{heard_of, with_heard, HearsApp}

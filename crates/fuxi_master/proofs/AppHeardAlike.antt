@@ -14,7 +14,7 @@ use Rattle.written_roles.specs.MasterSteps.{master_party}
 use Rattle.written_roles.specs.MasterRoles.{MasterRole, set_side}
 use Rattle.core_side.specs.Bodies.{tally_of}
 use Rattle.core_side.specs.Parcels.{packet_of}
-use Rattle.core_side.specs.Sides.{HearsAlike, Hears}
+use Rattle.core_side.specs.CoreSides.{HearsAlike, Hears}
 use Rattle.broadcast.specs.AllShown.{App, credited_in}
 use Rattle.fuxi_master.specs.Cores.{CoreRecord, IsApp, patched_grants, StandsFor, shown_credited}
 use Rattle.fuxi_master.specs.Heard.{heard_of, with_heard, HearsApp}

@@ -15,7 +15,7 @@ use Rattle.written_roles.specs.Masters.{Master}
 use Rattle.written_roles.specs.MasterRoles.{MasterRole}
 use Rattle.written_roles.specs.MasterSteps.{banned_in, ended_in, counted}
 use Rattle.written_net.specs.Ledgers.{nothing, tally_ledger}
-use Rattle.grant_table.specs.Tables.{TableRecord, IsSound}
+use Rattle.grant_table.specs.GrantTables.{TableRecord, IsSound}
 use Rattle.hard_state.specs.Knowledge.{Knowledge}
 use Rattle.allotment.specs.PlacingReads.{record_of}
 use Rattle.allotment.specs.Allotted.{AllotmentRecord, Allots, Touches}

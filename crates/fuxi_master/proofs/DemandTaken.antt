@@ -19,7 +19,7 @@ use Rattle.written_net.specs.Channels.{app_id}
 use Rattle.written_roles.specs.Masters.{Master, demand_of, credited_of}
 use Rattle.written_roles.specs.MasterSteps.{counted, credit, raise_credited, take_demand, meet_app, told_of}
 use Rattle.written_roles.specs.MasterRoles.{MasterRole}
-use Rattle.grant_table.specs.Tables.{as_known, IsSound}
+use Rattle.grant_table.specs.GrantTables.{as_known, IsSound}
 use Rattle.allotment.specs.PlacingReads.{record_of}
 use Rattle.allotment.specs.Allotted.{AllotmentRecord, Allots}
 use Rattle.fuxi_terms.specs.NumbersSet.{numbers_set, AreNumbers}

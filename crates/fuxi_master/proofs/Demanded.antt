@@ -9,7 +9,7 @@ use Rattle.fuxi_terms.specs.Jobs.{unit_count}
 use Rattle.fuxi_terms.specs.Keys.{Spot, key_cmp, spot_cmp}
 use Rattle.fuxi_terms.specs.TallyKeys.{credited_what, greatest_demand, greatest_grant}
 use Rattle.fuxi_terms.specs.declared.Key.{Key}
-use Rattle.grant_table.specs.Tables.{TableRecord, as_known}
+use Rattle.grant_table.specs.GrantTables.{TableRecord, as_known}
 use Rattle.fuxi_terms.specs.NumbersSet.{AreNumbers}
 use Rattle.allotment.specs.PlacingReads.{has_spot}
 use Rattle.written_net.specs.Ledgers.{tally_ledger}

@@ -22,7 +22,7 @@ use Rattle.written_roles.specs.HardState.{with_job}
 use Rattle.written_roles.specs.Masters.{Master, credited_of}
 use Rattle.written_roles.specs.MasterRoles.{MasterRole}
 use Rattle.written_roles.specs.MasterSteps.{count_entries}
-use Rattle.grant_table.specs.Tables.{TableRecord, as_known, with_admitted, IsSound}
+use Rattle.grant_table.specs.GrantTables.{TableRecord, as_known, with_admitted, IsSound}
 use Rattle.allotment.specs.PlacingReads.{record_of}
 use Rattle.allotment.specs.Allotted.{AllotmentRecord, Allots}
 use Rattle.broadcast.specs.Projections.{row_of}

@@ -13,7 +13,7 @@ use Rattle.fuxi_terms.proofs.Booleans.{nat_itself}
 use Rattle.written_roles.specs.HardState.{with_job}
 use Rattle.written_roles.specs.MasterSteps.{spot_row_key, count_entries}
 use Rattle.broadcast.specs.Projections.{row_of}
-use Rattle.grant_table.specs.Tables.{TableRecord, as_known}
+use Rattle.grant_table.specs.GrantTables.{TableRecord, as_known}
 use Rattle.allotment.specs.PlacingReads.{record_of}
 use Rattle.fuxi_master.proofs.Projected.{known_alike}
 

@@ -15,7 +15,7 @@ pub mod ReportAdopted
 pub mod NewlyCredited
 pub mod Told
 pub mod Ordered
-pub mod EndsLemmas
+pub mod StepEndsLemmas
 pub mod AgentHeard
 pub mod AppHeard
 pub mod DemandTaken

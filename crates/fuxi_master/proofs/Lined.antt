@@ -5,12 +5,12 @@ use Rattle.fuxi_terms.specs.Counts.{count}
 use Rattle.fuxi_terms.specs.Keys.{Spot, spot_cmp}
 use Rattle.written_roles.specs.Masters.{Master}
 use Rattle.written_roles.specs.Placing.{line_up, settled}
-use Rattle.grant_table.specs.Tables.{TableRecord}
+use Rattle.grant_table.specs.GrantTables.{TableRecord}
 use Rattle.place_pass.specs.Placers.{IsUpToDate}
 use Rattle.allotment.specs.PlacingReads.{has_spot}
 use Rattle.allotment.specs.SettlingRuns.{AreTouched}
 use Rattle.allotment.specs.Allotted.{AllotmentRecord, Allots, AllWait, Touches}
-use Rattle.fuxi_master.specs.Ends.{IsReadied}
+use Rattle.fuxi_master.specs.StepEnds.{IsReadied}
 
 -- nothing is granted
 pub still : (x y : AllotmentRecord) → y.table ≡ x.table → y.touched ≡ x.touched → AreTouched x.table.entries y.table.entries x.touched y.touched

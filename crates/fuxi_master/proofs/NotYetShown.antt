@@ -12,7 +12,7 @@ use Rattle.fuxi_terms.proofs.Booleans.{both_true}
 use Rattle.fuxi_terms.specs.TallyKeys.{greatest_grant, credited_what}
 use Rattle.fuxi_terms.proofs.Alls.{all_more}
 use Rattle.schedule_unit.specs.declared.party.MachineNo.{MachineNo}
-use Rattle.grant_table.specs.Tables.{TableRecord, as_known, IsSound}
+use Rattle.grant_table.specs.GrantTables.{TableRecord, as_known, IsSound}
 use Rattle.hard_state.specs.Knowledge.{Knowledge}
 use Rattle.failover.specs.Reported.{Reported}
 use Rattle.allotment.specs.PlacingReads.{record_of}

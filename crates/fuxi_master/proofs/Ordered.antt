@@ -1,7 +1,7 @@
 -- The spots that changed, in order.
 use Rattle.std.proofs.Common.{◌≡◌, ℕ, List, sym, ◌∙◌}
 use Rattle.fuxi_terms.specs.Keys.{Spot}
-use Rattle.grant_table.specs.Tables.{TableRecord}
+use Rattle.grant_table.specs.GrantTables.{TableRecord}
 use Rattle.broadcast.specs.declared.grants.News.{News}
 use Rattle.broadcast.specs.AllShown.{Down, has_spot, IsBefore, RowsAreBefore, GrantsAreBefore}
 

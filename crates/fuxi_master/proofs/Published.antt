@@ -15,12 +15,12 @@ use Rattle.written_roles.specs.Masters.{Master}
 use Rattle.written_roles.specs.MasterSteps.{talks, projected, is_one_of}
 use Rattle.written_roles.specs.MasterRoles.{MasterRole, publish_alone, offers_alone, side_after}
 use Rattle.core_side.specs.Bodies.{tally_of}
-use Rattle.grant_table.specs.Tables.{as_known}
+use Rattle.grant_table.specs.GrantTables.{as_known}
 use Rattle.broadcast.specs.Projections.{row_of, grant_entries}
 use Rattle.broadcast.specs.declared.grants.News.{News}
 use Rattle.broadcast.specs.AllShown.{Down, App, ShowsRows, ShowsAllGrants, IsShownAnew, ShowsJob, is_job, credited_in, grants_after}
 use Rattle.fuxi_master.specs.Cores.{CoreRecord, IsKept, IsDown, IsApp, StandsWith, shown_credited}
-use Rattle.fuxi_master.specs.Ends.{IsPublished}
+use Rattle.fuxi_master.specs.StepEnds.{IsPublished}
 use Rattle.fuxi_master.specs.Steps.{IsMid, StandsMid, forced_by}
 use Rattle.fuxi_master.proofs.Indexed.{other_at, all_from}
 use Rattle.fuxi_master.proofs.Projected.{rows_alike, agent_forced, app_forced}

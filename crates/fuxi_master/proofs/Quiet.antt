@@ -15,7 +15,7 @@ use Rattle.written_net.specs.Sides.{Side, shown, appended}
 use Rattle.written_roles.specs.Masters.{Master, credited_of}
 use Rattle.written_roles.specs.MasterSteps.{ready, talks, projected}
 use Rattle.written_roles.specs.MasterRoles.{MasterRole, publish_alone, offers_alone, side_after, ends_alone}
-use Rattle.grant_table.specs.Tables.{as_known}
+use Rattle.grant_table.specs.GrantTables.{as_known}
 use Rattle.broadcast.specs.Projections.{row_of, grant_entries}
 use Rattle.broadcast.specs.AllShown.{Down, App}
 use Rattle.allotment.specs.Allotted.{Allots}

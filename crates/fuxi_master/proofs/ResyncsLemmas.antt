@@ -20,8 +20,8 @@ use Rattle.written_net.specs.Sides.{Side, new_side, resynced_side}
 use Rattle.written_roles.specs.Masters.{credited_of}
 use Rattle.written_roles.specs.MasterSteps.{peers, is_one_of}
 use Rattle.written_roles.specs.MasterRoles.{MasterRole, set_side, resync_alone, master_resynced}
-use Rattle.core_side.specs.Sides.{IsSide}
-use Rattle.grant_table.specs.Tables.{as_known}
+use Rattle.core_side.specs.CoreSides.{IsSide}
+use Rattle.grant_table.specs.GrantTables.{as_known}
 use Rattle.broadcast.specs.Projections.{row_of}
 use Rattle.broadcast.specs.AllShown.{Down, App, ShowsJob, credited_in}
 use Rattle.fuxi_master.specs.Cores.{CoreRecord, IsDown, IsApp, IsCore, IsKept, IsWithin, StandsFor}

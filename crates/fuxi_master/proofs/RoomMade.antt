@@ -5,7 +5,7 @@ use Rattle.written_roles.specs.Masters.{Master}
 use Rattle.written_roles.specs.MasterRoles.{MasterRole}
 use Rattle.written_roles.specs.Placing.{line_up}
 use Rattle.written_roles.specs.Preemption.{Plan, plan_of, preempted}
-use Rattle.grant_table.specs.Tables.{IsSound}
+use Rattle.grant_table.specs.GrantTables.{IsSound}
 use Rattle.place_pass.specs.Placers.{IsUpToDate}
 use Rattle.allotment.specs.SettlingRuns.{AreTouched}
 use Rattle.allotment.specs.Allotted.{AllotmentRecord, Allots, AllWait}
@@ -16,7 +16,7 @@ use Rattle.fuxi_master.specs.Commands.{IsPreempted, CarriesOut, RoomIsMade, Pree
 use Rattle.fuxi_master.specs.Heard.{IsNews}
 use Rattle.fuxi_master.specs.Steps.{IsMid}
 use Rattle.fuxi_master.proofs.Readied.{lined_again}
-use Rattle.fuxi_master.proofs.EndsLemmas.{lined_as}
+use Rattle.fuxi_master.proofs.StepEndsLemmas.{lined_as}
 use Rattle.fuxi_master.proofs.CommandsLemmas.{credits_of, nothing_credited}
 use Rattle.fuxi_master.proofs.NotYetShown.{same_jobs, mid_by, credited_same, within_soon}
 use Rattle.fuxi_master.proofs.UnreportedBare.{served_reported, preempted_tidy}

@@ -23,14 +23,14 @@ use Rattle.written_roles.specs.Masters.{Master, out}
 use Rattle.written_roles.specs.MasterSteps.{ready, settled_if_serving, is_one_of, talks}
 use Rattle.written_roles.specs.MasterRoles.{MasterRole, publish_alone, offers_alone, side_after, ends_alone, master_started}
 use Rattle.written_roles.specs.Placing.{has_pair, line_up}
-use Rattle.grant_table.specs.Tables.{as_known}
+use Rattle.grant_table.specs.GrantTables.{as_known}
 use Rattle.allotment.specs.PlacingReads.{record_of}
 use Rattle.allotment.specs.Allotted.{AllotmentRecord, Allots}
 use Rattle.place_pass.specs.Placers.{IsUpToDate}
 use Rattle.broadcast.specs.Projections.{row_of, grant_entries}
 use Rattle.broadcast.specs.AllShown.{Down, App, ShowsJob, credited_in}
 use Rattle.fuxi_master.specs.Cores.{CoreRecord, IsKept, IsCore, IsDown, IsApp, IsWithin, StandsFor}
-use Rattle.fuxi_master.specs.Starts.{IsDownStarted, AreAppsStarted, AreAdmitted, side_started}
+use Rattle.fuxi_master.specs.MasterStarts.{IsDownStarted, AreAppsStarted, AreAdmitted, side_started}
 use Rattle.fuxi_master.proofs.AllotsAlike.{allots_alike}
 use Rattle.fuxi_master.proofs.Readied.{lined_again, listed}
 use Rattle.fuxi_master.proofs.StartedJobs.{all_records, same_numbers, no_jobs}

@@ -15,10 +15,10 @@ use Rattle.fuxi_terms.proofs.Booleans.{number_is, nat_itself, same_tests, or_lef
 use Rattle.fuxi_terms.proofs.CountsLemmas.{tied}
 use Rattle.written_roles.specs.HardState.{with_job}
 use Rattle.written_roles.specs.Masters.{Master}
-use Rattle.grant_table.specs.Tables.{TableRecord, as_known, with_admitted}
+use Rattle.grant_table.specs.GrantTables.{TableRecord, as_known, with_admitted}
 use Rattle.allotment.specs.PlacingReads.{record_of}
 use Rattle.allotment.specs.Allotted.{AllotmentRecord, Allots, AllWait}
-use Rattle.fuxi_master.specs.Starts.{AreAdmitted}
+use Rattle.fuxi_master.specs.MasterStarts.{AreAdmitted}
 use Rattle.fuxi_master.proofs.AllotsAlike.{allots_alike}
 use Rattle.fuxi_terms.proofs.NumbersLemmas.{with_is, with_rises}
 use Rattle.fuxi_master.proofs.Projected.{known_alike}

@@ -5,7 +5,7 @@ use Rattle.std.specs.List.{AllByRecursion}
 use Rattle.std.proofs.lemmas.List.{length-append}
 use Rattle.fuxi_terms.specs.Jobs.{KnownJob, is_known}
 use Rattle.broadcast.specs.AllShown.{Down, App}
-use Rattle.fuxi_master.specs.Starts.{IsDownStarted, IsAppStarted, AreAppsStarted}
+use Rattle.fuxi_master.specs.MasterStarts.{IsDownStarted, IsAppStarted, AreAppsStarted}
 
 -- as many ends of channels with agents
 pub record AreDownsStarted (epoch n : ℕ) (sides : List Down) : Type 0 where

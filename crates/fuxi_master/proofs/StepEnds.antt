@@ -19,7 +19,7 @@ use Rattle.written_roles.specs.MasterRoles.{MasterRole}
 use Rattle.allotment.specs.Allotted.{AllotmentRecord, Allots}
 use Rattle.broadcast.specs.AllShown.{App}
 use Rattle.fuxi_master.specs.Cores.{CoreRecord, StandsWith}
-use Rattle.fuxi_master.specs.Ends.{IsReadied}
+use Rattle.fuxi_master.specs.StepEnds.{IsReadied}
 use Rattle.fuxi_master.proofs.AllotsAlike.{allots_alike}
 use Rattle.fuxi_master.proofs.Readied.{serving_same, serving_tidy}
 

@@ -17,17 +17,7 @@ use Rattle.written_roles.specs.MasterRoles.{MasterRole}
 use Rattle.allotment.specs.Allotted.{AllotmentRecord, Allots}
 use Rattle.broadcast.specs.AllShown.{App}
 use Rattle.fuxi_master.specs.Cores.{CoreRecord, IsTidy, StandsWith, StandsFor}
-
-same_number : (a b : ℕ) → eq_by_cmp nat_cmp b a ≡ nat_eq a b
-same_number a b = by (nat_eq a b) refl
-  where
-    other : (r : Bool) → nat_eq a b ≡ false → eq_by_cmp nat_cmp b a ≡ r → r ≡ false
-    other false f e = refl
-    other true f e = let s = exact_unsigned b a (tied _ e) in let t : nat_eq a b ≡ true = ap (nat_eq a) s ∙ nat_itself a in cc
-
-    by : (r : Bool) → nat_eq a b ≡ r → eq_by_cmp nat_cmp b a ≡ nat_eq a b
-    by true e = let s = number_is a b e in ap (λ x. eq_by_cmp nat_cmp x a) (sym s) ∙ ap is_eq (tied_itself nat_cmp_total a) ∙ sym e
-    by false e = other (eq_by_cmp nat_cmp b a) e refl ∙ sym e
+use Rattle.fuxi_terms.proofs.NumbersLemmas.{same_number}
 
 -- what a job has in a list by job, after one is put
 pub put_at : {X : Type 0} (a b : ℕ) (v : X) (none : X) (xs : List (ℕ × X)) → unwrap_or (find nat_cmp b (put nat_cmp a v xs)) none ≡ cond (nat_eq a b) v (unwrap_or (find nat_cmp b xs) none)

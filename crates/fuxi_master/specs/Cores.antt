@@ -22,8 +22,8 @@ use Rattle.written_roles.specs.Masters.{Master, credited_of}
 use Rattle.written_roles.specs.MasterSteps.{ready}
 use Rattle.written_roles.specs.MasterRoles.{MasterRole}
 use Rattle.core_side.specs.Bodies.{report_of, tally_of}
-use Rattle.core_side.specs.Sides.{IsSide}
-use Rattle.grant_table.specs.Tables.{as_known}
+use Rattle.core_side.specs.CoreSides.{IsSide}
+use Rattle.grant_table.specs.GrantTables.{as_known}
 use Rattle.hard_state.specs.Knowledge.{Knowledge}
 use Rattle.failover.specs.Reported.{Reported}
 use Rattle.place_pass.specs.Placers.{IsUpToDate}

@@ -34,7 +34,7 @@ use Rattle.failover.specs.KeptReports.{kept_entries, kept_of}
 use Rattle.broadcast.specs.declared.grants.News.{News}
 use Rattle.broadcast.specs.AllShown.{Down, App}
 use Rattle.fuxi_terms.specs.Jobs.{unit_count}
-use Rattle.grant_table.specs.Tables.{as_known}
+use Rattle.grant_table.specs.GrantTables.{as_known}
 use Rattle.fuxi_master.specs.Cores.{CoreRecord, StandsFor, IsNear, HasBoots, IsCore, IsWithin, IsWithinSoon}
 use Rattle.fuxi_master.specs.Steps.{IsMid, StandsMid}
 

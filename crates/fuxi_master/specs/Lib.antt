@@ -1,10 +1,10 @@
 pub mod Cores
 pub mod Steps
 pub mod Seen
-pub mod Ends
+pub mod StepEnds
 pub mod Heard
 pub mod Commands
-pub mod Starts
+pub mod MasterStarts
 pub mod Resyncs
 pub mod Readers
 pub mod VoteCounts

@@ -5,7 +5,7 @@ ghost use Rattle.fuxi_terms.specs.Counts.{AreCounts};
 ghost use Rattle.fuxi_terms.specs.Keys.{key_cmp};
 ghost use Rattle.fuxi_terms.specs.TallyKeys.{credited_key, greatest_demand};
 ghost use Rattle.fuxi_terms.specs.Jobs.{has_ended, is_known, unit_count};
-ghost use Rattle.grant_table.specs.Tables.{as_known};
+ghost use Rattle.grant_table.specs.GrantTables.{as_known};
 ghost use Rattle.allotment.specs.Allotted.{AllWait};
 ghost use Rattle.party_ledgers.specs.Packets.{IsFormed};
 ghost use Rattle.schedule_unit.specs.declared.party.Role.TheVariants.{Master as AsMaster, App as AsApp};

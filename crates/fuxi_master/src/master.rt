@@ -10,7 +10,7 @@ ghost use Rattle.fuxi_terms.specs.Limits.{most_steps};
 ghost use Rattle.fuxi_terms.specs.Tables.{total_at};
 ghost use Rattle.fuxi_terms.specs.TallyKeys.{want_key};
 ghost use Rattle.core_side.specs.Parcels.{id_of};
-ghost use Rattle.grant_table.specs.Tables.{as_known};
+ghost use Rattle.grant_table.specs.GrantTables.{as_known};
 ghost use Rattle.place_pass.specs.Placers.{asks_seen};
 ghost use Rattle.written_roles.specs.MasterRoles.{MasterRole, master_started};
 ghost use Rattle.written_roles.specs.Masters.{asked, avoids, out, out_of};

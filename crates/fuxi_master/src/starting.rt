@@ -8,7 +8,7 @@ ghost use Rattle.written_roles.specs.HardState.{HardState};
 ghost use Rattle.allotment.specs.Allotted.{AllWait};
 ghost use Rattle.fuxi_master.specs.Cores.{IsCore, IsWithin, StandsFor};
 ghost use Rattle.fuxi_master.specs.Seen.{core_of};
-ghost use Rattle.fuxi_master.specs.Starts.{IsDownStarted, IsAppStarted, AreAppsStarted, AreAdmitted};
+ghost use Rattle.fuxi_master.specs.MasterStarts.{IsDownStarted, IsAppStarted, AreAppsStarted, AreAdmitted};
 
 use crate::state::Core;
 use allotment::Allotment;

@@ -10,7 +10,7 @@ ghost use Rattle.place_pass.specs.Placers.{IsUpToDate};
 ghost use Rattle.allotment.specs.Allotted.{Allots, AllWait, Touches};
 ghost use Rattle.broadcast.specs.AllShown.{Down, HaveRoom};
 ghost use Rattle.fuxi_master.specs.Cores.{IsKept, IsCore, IsWithin, IsWithinSoon};
-ghost use Rattle.fuxi_master.specs.Ends.{IsReadied, IsCoreReadied, IsPublished};
+ghost use Rattle.fuxi_master.specs.StepEnds.{IsReadied, IsCoreReadied, IsPublished};
 ghost use Rattle.fuxi_master.specs.Heard.{IsNews};
 ghost use Rattle.fuxi_master.specs.Seen.{core_of};
 ghost use Rattle.fuxi_master.specs.Steps.{IsMid, HasRole, EndsAlike};

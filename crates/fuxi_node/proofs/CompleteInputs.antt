@@ -8,11 +8,11 @@ use Rattle.fuxi_io.specs.declared.status.Status.TheVariants.{Done, Usage, BadInp
 use Rattle.written_roles.specs.Refusals.{Refusal}
 use Rattle.written_roles.specs.HardState.{Raise, hard_step}
 use Rattle.hard_state.specs.HardFiles.{records_of}
-use Rattle.fuxi_node.specs.Ends.{EndsBy}
-use Rattle.fuxi_node.specs.Masters.{RefusesEpoch}
+use Rattle.fuxi_node.specs.NodeEnds.{EndsBy}
+use Rattle.fuxi_node.specs.MasterEnds.{RefusesEpoch}
 use Rattle.fuxi_node.specs.declared.kind.NodeKind.{NodeKind}
 use Rattle.fuxi_node.specs.declared.kind.NodeKind.TheVariants.{Master, Agent, App}
-use Rattle.fuxi_node.specs.Inputs.{LetsIn, MayStart, TellsDisk, ending_of, status_at}
+use Rattle.fuxi_node.specs.NodeInputs.{LetsIn, MayStart, TellsDisk, ending_of, status_at}
 
 -- a file that lets the epoch in is neither damaged nor refuses it
 lets_no_refusal : (epoch : ℕ) (why : Refusal) (disk : Option Moments) → LetsIn epoch disk → IfSome disk (RefusesEpoch epoch why) → ⊥

@@ -2,9 +2,9 @@
 use Rattle.std.proofs.Common.{inl, inr, ℕ, Option, None, Some}
 use Rattle.fuxi_io.specs.Disks.{Told as Moments}
 use Rattle.node_rounds.specs.Roles.{Role}
-use Rattle.node_party.specs.Halts.{FitsEither}
-use Rattle.fuxi_node.specs.Ends.{FromRest, FitsNow, FitsOneNow}
-use Rattle.fuxi_node.specs.Progress.{KeepsTold}
+use Rattle.node_party.specs.NodeHalts.{FitsEither}
+use Rattle.fuxi_node.specs.NodeEnds.{FromRest, FitsNow, FitsOneNow}
+use Rattle.fuxi_node.specs.NodeProgress.{KeepsTold}
 
 module _ {C : Type 0} (rests : C → ℕ → Option Moments → Type 0) (core : C) where
   pub keeps_same : (size : ℕ) (told : Option Moments) → KeepsTold rests core size core size told told

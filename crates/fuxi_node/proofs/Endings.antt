@@ -7,9 +7,9 @@ use Rattle.schedule_text.specs.declared.event.LineFault.{LineFault}
 use Rattle.input_lines.specs.Contents.{content, is_skipped}
 use Rattle.node_party.specs.declared.line.NodeLine.{NodeLine}
 use Rattle.node_party.specs.declared.line.NodeLine.TheVariants.{Round as RoundLine, Serve, Show, Event}
-use Rattle.node_party.specs.Lines.{node_line}
-use Rattle.node_party.specs.Commands.{commanded, accepts}
-use Rattle.fuxi_node.specs.Runs.{Node, Round, Run, Ending, AtBadLine, AtLimit, then_is, ended, meets, takes, role_run, ending_at, ending_from}
+use Rattle.node_party.specs.NodeLines.{node_line}
+use Rattle.node_party.specs.PartyEvents.{commanded, accepts}
+use Rattle.fuxi_node.specs.NodeRuns.{Node, Round, Run, Ending, AtBadLine, AtLimit, then_is, ended, meets, takes, role_run, ending_at, ending_from}
 
 -- a line that the rest of the run goes on behind
 module _ (most : ℕ) (n : Node) (rounds : List Round) (run : Node → List Round → Run) (e : Ending) (rest : (m : Node) (rs : List Round) → (run m rs).ending ≡ e) where

@@ -11,11 +11,11 @@ use Rattle.fuxi_io.specs.declared.status.Status.TheVariants.{Done, Usage, BadInp
 use Rattle.fuxi_terms.specs.Cluster.{ClusterRecord}
 use Rattle.schedule_unit.specs.declared.party.MachineNo.{MachineNo}
 use Rattle.input_lines.specs.Openings.{Opens, opening_from, HasCluster, StopsBefore}
-use Rattle.fuxi_node.specs.Runs.{AtBadLine, ending_from}
-use Rattle.fuxi_node.specs.Ends.{EndsBy}
+use Rattle.fuxi_node.specs.NodeRuns.{AtBadLine, ending_from}
+use Rattle.fuxi_node.specs.NodeEnds.{EndsBy}
 use Rattle.fuxi_node.specs.declared.kind.NodeKind.{NodeKind}
 use Rattle.fuxi_node.specs.declared.kind.NodeKind.TheVariants.{Master, Agent, App}
-use Rattle.fuxi_node.specs.Inputs.{HasNone, HasNoCluster, LeavesDisk, ending_behind, ending_of}
+use Rattle.fuxi_node.specs.NodeInputs.{HasNone, HasNoCluster, LeavesDisk, ending_behind, ending_of}
 
 -- an agent whose machine is there
 module _ (m : MachineNo) (boot number : ℕ) (c : ClusterRecord) (status : Status) (left : Option (List ℕ)) where

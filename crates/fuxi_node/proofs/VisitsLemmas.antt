@@ -2,8 +2,8 @@
 use Rattle.std.proofs.Common.{◌≡◌, ℕ, ◌+◌, ◌≤◌, List, [], ◌∷◌, ◌++◌, refl, sym, ◌∙◌, ap, subst, arith}
 use Rattle.node_door.specs.Doors.{Told}
 use Rattle.node_rounds.specs.Rounds.{visited}
-use Rattle.node_party.specs.Commands.{accepts}
-use Rattle.fuxi_node.specs.Runs.{Round, Played}
+use Rattle.node_party.specs.PartyEvents.{accepts}
+use Rattle.fuxi_node.specs.NodeRuns.{Round, Played}
 use Rattle.fuxi_node.specs.Visits.{Visit, round_in, played_in, rounds_of, played_of, walked, AreVisits, marks, RoseBy, WasAt}
 
 walked_both : (addr : List ℕ) (vs us : List Visit) (t : Told) → walked addr us (walked addr vs t) ≡ walked addr (vs ++ us) t

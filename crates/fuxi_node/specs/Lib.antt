@@ -1,7 +1,7 @@
-pub mod Runs
+pub mod NodeRuns
 pub mod Visits
-pub mod Ends
-pub mod Progress
-pub mod Starts
-pub mod Masters
-pub mod Inputs
+pub mod NodeEnds
+pub mod NodeProgress
+pub mod NodeStarts
+pub mod MasterEnds
+pub mod NodeInputs

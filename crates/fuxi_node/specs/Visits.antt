@@ -3,8 +3,8 @@ use Rattle.std.specs.Prelude.{◌≡◌, ℕ, ◌+◌, ◌-◌, ◌^◌, ◌≤�
 use Rattle.std.specs.List.{AllByRecursion}
 use Rattle.node_door.specs.Doors.{Talk, Told}
 use Rattle.node_rounds.specs.Rounds.{Meets, is_fault, visited}
-use Rattle.node_party.specs.Commands.{accepts}
-use Rattle.fuxi_node.specs.Runs.{Played, Round, played_as}
+use Rattle.node_party.specs.PartyEvents.{accepts}
+use Rattle.fuxi_node.specs.NodeRuns.{Played, Round, played_as}
 
 -- a round, and its connection, where one was opened
 pub record Visit : Type 0 where

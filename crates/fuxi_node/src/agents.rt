@@ -8,8 +8,8 @@ ghost use Rattle.input_lines.specs.Wholes.{IsReady};
 ghost use Rattle.node_door.specs.Doors.{WhereTold};
 ghost use Rattle.fuxi_io.specs.Lines.{lines_of};
 ghost use Rattle.input_lines.specs.Openings.{Opens};
-ghost use Rattle.fuxi_node.specs.Ends.{EndsBy};
-ghost use Rattle.fuxi_node.specs.Inputs.{NodeEnded, TellsDisk, ending_behind};
+ghost use Rattle.fuxi_node.specs.NodeEnds.{EndsBy};
+ghost use Rattle.fuxi_node.specs.NodeInputs.{NodeEnded, TellsDisk, ending_behind};
 ghost use Rattle.fuxi_node.specs.declared.kind.NodeKind.TheVariants.{Agent};
 
 use crate::run::run_node;

@@ -6,8 +6,8 @@ ghost use Rattle.fuxi_io.specs.Reading.{rest_of};
 ghost use Rattle.fuxi_terms.specs.Limits.{most_jobs, most_lines, most_units};
 ghost use Rattle.input_lines.specs.Wholes.{IsReady};
 ghost use Rattle.node_door.specs.Doors.{WhereTold};
-ghost use Rattle.fuxi_node.specs.Ends.{Ended, EndsByLines, IsRunStatus};
-ghost use Rattle.fuxi_node.specs.Starts.{app_start};
+ghost use Rattle.fuxi_node.specs.NodeEnds.{Ended, EndsByLines, IsRunStatus};
+ghost use Rattle.fuxi_node.specs.NodeStarts.{app_start};
 
 use crate::run::run_node;
 use crate::taking::DiskFailed;

@@ -8,8 +8,8 @@ ghost use Rattle.input_lines.specs.Wholes.{IsReady};
 ghost use Rattle.node_door.specs.Doors.{WhereTold};
 ghost use Rattle.fuxi_io.specs.Lines.{lines_of};
 ghost use Rattle.input_lines.specs.Openings.{Opens};
-ghost use Rattle.fuxi_node.specs.Ends.{EndsBy};
-ghost use Rattle.fuxi_node.specs.Inputs.{HasNoCluster, IsKind, LeavesDisk, MayStart, NodeEnded, InputEnded, InputEndsBy, TellsDisk, ending_behind, ending_of, status_at};
+ghost use Rattle.fuxi_node.specs.NodeEnds.{EndsBy};
+ghost use Rattle.fuxi_node.specs.NodeInputs.{HasNoCluster, IsKind, LeavesDisk, MayStart, NodeEnded, InputEnded, InputEndsBy, TellsDisk, ending_behind, ending_of, status_at};
 ghost use Rattle.fuxi_node.specs.declared.kind.NodeKind.TheVariants.{Master};
 
 use crate::agents::run_agent;

@@ -2,7 +2,7 @@
 
 ghost use Rattle.std.specs.Prelude.{◌≡◌, ℕ, List};
 ghost use Rattle.fuxi_io.specs.Lines.{InputLine};
-ghost use Rattle.fuxi_node.specs.Runs.{Node, Round, role_run, ending_from};
+ghost use Rattle.fuxi_node.specs.NodeRuns.{Node, Round, role_run, ending_from};
 
 /// A run over lines ends where these say, whatever party it is of and whatever comes in its rounds.
 pub fn runs_end_by_their_lines()

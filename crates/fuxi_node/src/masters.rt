@@ -6,9 +6,9 @@ ghost use Rattle.fuxi_io.specs.Reading.{rest_of};
 ghost use Rattle.fuxi_terms.specs.Limits.{most_lines};
 ghost use Rattle.input_lines.specs.Wholes.{IsReady};
 ghost use Rattle.node_door.specs.Doors.{WhereTold};
-ghost use Rattle.fuxi_node.specs.Ends.{EndsByLines};
-ghost use Rattle.fuxi_node.specs.Starts.{master_start};
-ghost use Rattle.fuxi_node.specs.Masters.{LeavesFile, MasterEnded, TellsFile, start_status};
+ghost use Rattle.fuxi_node.specs.NodeEnds.{EndsByLines};
+ghost use Rattle.fuxi_node.specs.NodeStarts.{master_start};
+ghost use Rattle.fuxi_node.specs.MasterEnds.{LeavesFile, MasterEnded, TellsFile, start_status};
 
 use crate::run::run_node;
 use crate::taking::DiskFailed;

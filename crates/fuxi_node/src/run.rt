@@ -8,11 +8,11 @@ ghost use Rattle.input_lines.specs.Contents.{is_skipped};
 ghost use Rattle.input_lines.specs.Wholes.{IsReady};
 ghost use Rattle.node_door.specs.Doors.{WhereTold};
 ghost use Rattle.node_rounds.specs.Roles.{Role};
-ghost use Rattle.node_party.specs.Lines.{node_line};
-ghost use Rattle.node_party.specs.Texts.{state_text};
-ghost use Rattle.fuxi_node.specs.Runs.{Node as WrittenNode};
-ghost use Rattle.fuxi_node.specs.Ends.{Ended, EndsByLines, FitsNow, FitsOneNow, IsRunStatus, start_of};
-ghost use Rattle.fuxi_node.specs.Progress.{WritesEnd, TakesCounted, KeepsTold, IsLastStatus, IsLineStop, IsNone, IsSaid};
+ghost use Rattle.node_party.specs.NodeLines.{node_line};
+ghost use Rattle.node_party.specs.NodeTexts.{state_text};
+ghost use Rattle.fuxi_node.specs.NodeRuns.{Node as WrittenNode};
+ghost use Rattle.fuxi_node.specs.NodeEnds.{Ended, EndsByLines, FitsNow, FitsOneNow, IsRunStatus, start_of};
+ghost use Rattle.fuxi_node.specs.NodeProgress.{WritesEnd, TakesCounted, KeepsTold, IsLastStatus, IsLineStop, IsNone, IsSaid};
 
 use crate::taking::{DiskFailed, Stop, take_line, write_state};
 use fuxi_io::{Disk, Got, InputFault, LimitOf, LineReader, LineStop, Sink, Source, Status};

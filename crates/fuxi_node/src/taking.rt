@@ -9,12 +9,12 @@ ghost use Rattle.node_door.specs.Doors.{WhereTold};
 ghost use Rattle.node_rounds.specs.Roles.{Role, Keeps};
 ghost use Rattle.node_rounds.specs.Rounds.{Rounds, Breaks};
 ghost use Rattle.node_party.specs.declared.line.NodeLine.TheVariants.{Round, Serve, Show, Event as EventLine};
-ghost use Rattle.node_party.specs.Commands.{accepts};
-ghost use Rattle.node_party.specs.Lines.{node_line};
-ghost use Rattle.node_party.specs.Texts.{answer_text, as_answer, state_text};
-ghost use Rattle.fuxi_node.specs.Runs.{Node as WrittenNode};
-ghost use Rattle.fuxi_node.specs.Ends.{FitsNow, FitsOneNow};
-ghost use Rattle.fuxi_node.specs.Progress.{WritesText, TakesQuietly, TakesLine, KeepsTold, IsLineStop, IsNone, IsSaid, IsWriteStop};
+ghost use Rattle.node_party.specs.PartyEvents.{accepts};
+ghost use Rattle.node_party.specs.NodeLines.{node_line};
+ghost use Rattle.node_party.specs.NodeTexts.{answer_text, as_answer, state_text};
+ghost use Rattle.fuxi_node.specs.NodeRuns.{Node as WrittenNode};
+ghost use Rattle.fuxi_node.specs.NodeEnds.{FitsNow, FitsOneNow};
+ghost use Rattle.fuxi_node.specs.NodeProgress.{WritesText, TakesQuietly, TakesLine, KeepsTold, IsLineStop, IsNone, IsSaid, IsWriteStop};
 
 use fuxi_io::{Disk, InputFault, Sink, Status, write_all_of};
 use fuxi_terms::OutOfMemory;

@@ -18,16 +18,17 @@ use Rattle.fuxi_terms.specs.Jobs.{KnownJob, job_numbers, job_of, is_known, unit_
 use Rattle.fuxi_terms.specs.Numbers.{with_number}
 use Rattle.fuxi_terms.specs.Tables.{held, held_in, total_at, usage_at}
 use Rattle.grant_table.specs.Nested.{count_at}
-use Rattle.grant_table.specs.Tables.{Cell, no_cell, cell_at, rows_of, entries_in, fresh_cell, fresh_cells, as_known, with_admitted, AreJobs, IsUnit, IsLevel}
+use Rattle.grant_table.specs.GrantTables.{Cell, no_cell, cell_at, rows_of, entries_in, fresh_cell, fresh_cells, as_known, with_admitted, AreJobs, IsUnit, IsLevel}
 use Rattle.fuxi_terms.proofs.Booleans.{number_is, nat_itself, both_true}
 use Rattle.fuxi_terms.proofs.KeyOrders.{spot_total, same_spot}
 use Rattle.grant_table.proofs.NestedLemmas.{count_is, are_counts, limit}
-use Rattle.grant_table.proofs.Cells.{one_set, count_of_cell}
+use Rattle.grant_table.proofs.Cells.{count_of_cell}
 use Rattle.grant_table.proofs.SetTotals.{cell_past, within_all}
 use Rattle.fuxi_terms.proofs.Spots.{Each}
 use Rattle.fuxi_terms.proofs.Alls.{all_more}
 use Rattle.fuxi_terms.proofs.Lookups.{none_is}
 use Rattle.grant_table.proofs.Entries.{entries_each}
+use Rattle.fuxi_terms.proofs.IndexedLists.{one_set, repeated_last}
 
 -- ---- the jobs
 -- the job is found, and the others as before
@@ -244,14 +245,6 @@ module _ (c : ClusterRecord) (jobs : List JobRecord) (cells : List (List Cell)) 
     groups = l.groups;
     usages = λ g i lt. l.usages g i lt ∙ sym (usage_same then_jobs (as_known jobs) g i (entries_in cells) same_jobs) ∙ ap (λ es. usage_at then_jobs g i es) (sym entries_stay);
   }
-
--- one more at the end
-pub repeated_last : {A : Type 0} (n : ℕ) (x : A) → replicate (n + 1) x ≡ replicate n x ++ x ∷ []
-repeated_last n x = ap (λ k. replicate k x) (add-one n) ∙ by n
-  where
-    by : (n : ℕ) → replicate (suc n) x ≡ replicate n x ++ x ∷ []
-    by zero = refl
-    by (suc n) = ap (λ xs. x ∷ xs) (by n)
 
 -- the numbers of jobs that stand in order
 pub numbers_rise : (js : List JobRecord) → AreJobs js → job_numbers (as_known js) ≡ map (λ (j : JobRecord). j.number) js

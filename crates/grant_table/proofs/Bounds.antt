@@ -16,7 +16,7 @@ use Rattle.fuxi_terms.proofs.ByPlace.{at_place-get_or}
 use Rattle.fuxi_terms.specs.Jobs.{KnownJob, job_of, is_known, unit_count}
 use Rattle.fuxi_terms.specs.Tables.{usage_at}
 use Rattle.grant_table.specs.Nested.{count_at}
-use Rattle.grant_table.specs.Tables.{Cell, cell_at, rows_of, entries_in, as_known, AreJobs, IsUnit, IsLevel, IsSound}
+use Rattle.grant_table.specs.GrantTables.{Cell, cell_at, rows_of, entries_in, as_known, AreJobs, IsUnit, IsLevel, IsSound}
 use Rattle.fuxi_terms.proofs.Booleans.{number_is, both_true}
 use Rattle.fuxi_terms.proofs.Spots.{Each}
 use Rattle.fuxi_terms.proofs.Alls.{all_more}

@@ -8,15 +8,9 @@ use Rattle.std.proofs.lemmas.List.{get_or-set_same, get_or-set_other, get_or-map
 use Rattle.std.proofs.Math.ListN.{get_or-eq_default}
 use Rattle.grant_table.specs.declared.holding.Holding.{Holding}
 use Rattle.grant_table.specs.Nested.{count_at}
-use Rattle.grant_table.specs.Tables.{Cell, cell_of, cells_in, cells_of, cell_at, with_cell, no_cell, counts_in, rows_of}
+use Rattle.grant_table.specs.GrantTables.{Cell, cell_of, cells_in, cells_of, cell_at, with_cell, no_cell, counts_in, rows_of}
 use Rattle.fuxi_terms.proofs.Booleans.{number_is}
-
--- one written place
-pub one_set : {X : Type 0} (xs : List X) (a b : ℕ) (y d : X) → a < length xs → get_or (set xs a y) b d ≡ cond (nat_eq a b) y (get_or xs b d)
-one_set xs a b y d lt = elim (nat_eq a b) as (λ t. nat_eq a b ≡ t → get_or (set xs a y) b d ≡ cond t y (get_or xs b d)) [
-  | true ↦ λ t. subst (λ z. get_or (set xs a y) z d ≡ y) (number_is a b t) (get_or-set_same xs a y d lt)
-  | false ↦ λ f. let o : b ≢ a = grind (arith, nat_tests) in get_or-set_other xs a b y d o
-] refl
+use Rattle.fuxi_terms.proofs.IndexedLists.{one_set, slot_within, mapped_at}
 
 -- one written place in a list of lists
 pub two_set : {X : Type 0} (xs : List (List X)) (a u b v : ℕ) (y d : X) → a < length xs → u < length (get_or xs a []) → get_or (get_or (set xs a (set (get_or xs a []) u y)) b []) v d ≡ cond (nat_eq a b && nat_eq u v) y (get_or (get_or xs b []) v d)
@@ -32,20 +26,6 @@ lengths_set xs a u b y la = ap length (one_set xs a b (set (get_or xs a []) u y)
       | true ↦ λ t. length-set (get_or xs a []) u y ∙ ap (λ z. length (get_or xs z [])) (number_is a b t)
       | false ↦ λ f. refl
     ] refl
-
--- an index into a row that is there
-pub slot_within : {X : Type 0} (rows : List (List X)) (a u : ℕ) → u < length (get_or rows a []) → a < length rows
-slot_within rows a u lt = elim (cases_lt a (length rows)) [
-  | inl l ↦ l
-  | inr le ↦ let none : u < 0 = subst (λ xs. u < length xs) (get_or-eq_default rows [] le) lt in absurd (omega (arith, none))
-]
-
--- a mapped place, also past the end where the defaults agree
-pub mapped_at : {X Y : Type 0} (f : X → Y) (xs : List X) (i : ℕ) (d : X) (e : Y) → f d ≡ e → get_or (map f xs) i e ≡ f (get_or xs i d)
-mapped_at f xs i d e same = elim (cases_lt i (length xs)) [
-  | inl l ↦ get_or-map f xs i d e l
-  | inr le ↦ get_or-eq_default (map f xs) e (let n = length-map xs f in omega (arith, n, le)) ∙ sym same ∙ ap f (sym (get_or-eq_default xs d le))
-]
 
 -- the counts of a cell are those of the rows
 pub row_of_cell : (cells : List (List Cell)) (a u : ℕ) → get_or (get_or (rows_of cells) a []) u [] ≡ (cell_at cells a u).counts

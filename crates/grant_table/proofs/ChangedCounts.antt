@@ -15,7 +15,7 @@ use Rattle.fuxi_terms.specs.Tables.{spot, held_on, total_at, usage_at, held_in}
 use Rattle.fuxi_terms.specs.declared.vectors.Res.{Res}
 use Rattle.cluster_desc.specs.declared.cluster.Machine.{Machine}
 use Rattle.cluster_desc.specs.Records.{machine_of}
-use Rattle.grant_table.specs.Tables.{TableRecord, Cell, cell_at, with_cell, raised, lowered, with_count, without_count, entries_in, loads_of, as_known, IsUnit, IsLevel}
+use Rattle.grant_table.specs.GrantTables.{TableRecord, Cell, cell_at, with_cell, raised, lowered, with_count, without_count, entries_in, loads_of, as_known, IsUnit, IsLevel}
 use Rattle.fuxi_terms.proofs.Booleans.{nat_itself}
 use Rattle.grant_table.proofs.Totals.{held_in_set, total_set, usage_set}
 use Rattle.grant_table.proofs.SetTotals.{MaySet, counts_all, count_in, set_entries}

@@ -12,11 +12,12 @@ use Rattle.fuxi_terms.specs.Counts.{count, set_count, AreCounts}
 use Rattle.fuxi_terms.specs.Jobs.{unit_count, size_at, group_of}
 use Rattle.fuxi_terms.specs.Tables.{spot, held, held_in, total_at, usage_at}
 use Rattle.grant_table.specs.Nested.{count_at}
-use Rattle.grant_table.specs.Tables.{Cell, cell_at, with_cell, with_numbers, no_cell, rows_of, entries_in, as_known, IsUnit, IsLevel}
+use Rattle.grant_table.specs.GrantTables.{Cell, cell_at, with_cell, with_numbers, no_cell, rows_of, entries_in, as_known, IsUnit, IsLevel}
 use Rattle.fuxi_terms.proofs.Booleans.{number_is, nat_itself, both_true}
 use Rattle.grant_table.proofs.NestedLemmas.{limit, count_is, entries_set, are_counts}
 use Rattle.grant_table.proofs.Totals.{held_set, held_in_set, total_set, usage_set}
-use Rattle.grant_table.proofs.Cells.{one_set, two_set, lengths_set, slot_within, count_of_cell}
+use Rattle.grant_table.proofs.Cells.{two_set, lengths_set, count_of_cell}
+use Rattle.fuxi_terms.proofs.IndexedLists.{one_set, slot_within}
 
 module _ (c : ClusterRecord) (jobs : List JobRecord) (cells : List (List Cell)) (loads spent : List (List ℕ)) (l : IsLevel c jobs cells loads spent) where
   -- a unit that is not there has an empty cell

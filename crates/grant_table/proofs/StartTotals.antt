@@ -6,7 +6,7 @@ use Rattle.fuxi_terms.specs.Cluster.{ClusterRecord, is_valid_cluster}
 use Rattle.fuxi_terms.specs.Tables.{total_at, usage_at}
 use Rattle.fuxi_terms.specs.declared.vectors.Res.{Res}
 use Rattle.grant_table.specs.Nested.{jobs_into, entries_of}
-use Rattle.grant_table.specs.Tables.{Cell, rows_of, entries_in, loads_of, as_known, IsLevel}
+use Rattle.grant_table.specs.GrantTables.{Cell, rows_of, entries_in, loads_of, as_known, IsLevel}
 
 none_into : (n a : ℕ) → jobs_into a (replicate n []) [] ≡ []
 none_into zero a = refl

@@ -3,7 +3,7 @@
 ghost use Rattle.std.specs.Prelude.{◌≡◌, ℕ, ◌+◌, ◌<◌, ◌≤◌, ◌^◌, List, [], length, map, replicate, IfOk};
 ghost use Rattle.std.proofs.Common.{get_or};
 ghost use Rattle.fuxi_terms.specs.Cluster.{UnitRecord};
-ghost use Rattle.grant_table.specs.Tables.{Cell, cell_of, cells_in, cells_of, cell_at, with_cell, no_cell, raised, lowered, fresh_cells};
+ghost use Rattle.grant_table.specs.GrantTables.{Cell, cell_of, cells_in, cells_of, cell_at, with_cell, no_cell, raised, lowered, fresh_cells};
 
 use fuxi_terms::OutOfMemory;
 use fuxi_terms::limits::MOST_RACKS;
@@ -28,7 +28,7 @@ pub(crate) struct Holding {
 impl Holding {
     ghost use Rattle.std.specs.Prelude.{◌≡◌, ◌+◌, ◌<◌, ◌≤◌, ◌^◌, length};
     ghost use Rattle.std.proofs.Common.{get_or};
-    ghost use Rattle.grant_table.specs.Tables.{cell_of, raised, lowered};
+    ghost use Rattle.grant_table.specs.GrantTables.{cell_of, raised, lowered};
 
     // So many grants more on a machine of a rack.
     fn raise(&mut self, machine: usize, rack: usize, count: u32)

@@ -7,7 +7,7 @@ ghost use Rattle.fuxi_terms.specs.Keys.{Spot, spot_cmp};
 ghost use Rattle.fuxi_terms.specs.Counts.{count, set_count};
 ghost use Rattle.fuxi_terms.specs.Jobs.{KnownJob, job_of, is_known, job_numbers, group_of, size_at};
 ghost use Rattle.fuxi_terms.specs.Tables.{held, held_in, total_at, usage_at};
-ghost use Rattle.grant_table.specs.Tables.{as_known, with_admitted, AreJobs};
+ghost use Rattle.grant_table.specs.GrantTables.{as_known, with_admitted, AreJobs};
 
 /// How the sums over a map change when the number at one spot is set.
 pub fn set_numbers()

@@ -3,7 +3,7 @@
 ghost use Rattle.std.specs.Prelude.{◌≡◌, ℕ, ◌+◌, ◌-◌, ◌*◌, ◌<◌, ◌≤◌, ◌^◌, length, insert, OnOk, OnErr};
 ghost use Rattle.std.proofs.Common.{get_or};
 ghost use Rattle.fuxi_terms.specs.Cluster.{JobRecord};
-ghost use Rattle.grant_table.specs.Tables.{with_admitted};
+ghost use Rattle.grant_table.specs.GrantTables.{with_admitted};
 
 use crate::holding::{Holding, empty_slots, fresh_units, holding_at, lower_at, raise_at, units_at};
 use crate::steps::Steps;
@@ -43,7 +43,7 @@ impl Drop for GrantTable {
 }
 
 impl Model for GrantTable {
-    ghost use Rattle.grant_table.specs.Tables.{TableRecord, table_record, IsTable};
+    ghost use Rattle.grant_table.specs.GrantTables.{TableRecord, table_record, IsTable};
 
     ghost Value = { TableRecord };
 
@@ -59,7 +59,7 @@ impl GrantTable {
     ghost use Rattle.fuxi_terms.specs.Cluster.{has_at};
     ghost use Rattle.fuxi_terms.specs.Tables.{spot, held, held_on, held_in, total_at, usage_at};
     ghost use Rattle.fuxi_terms.specs.Tables.{with_grant};
-    ghost use Rattle.grant_table.specs.Tables.{TableRecord, as_known, with_count, without_count, with_admitted, IsSound};
+    ghost use Rattle.grant_table.specs.GrantTables.{TableRecord, as_known, with_count, without_count, with_admitted, IsSound};
 
     /// The empty table of a cluster, with no job. Where memory is refused there is no table.
     pub fn start(alloc: Global, cluster: &Cluster) -> Result<GrantTable, OutOfMemory>

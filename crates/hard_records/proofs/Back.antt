@@ -10,7 +10,7 @@ use Rattle.fuxi_terms.specs.Cluster.{JobRecord, UnitRecord, is_valid_job, is_val
 use Rattle.fuxi_terms.specs.Limits.{greatest_quantity, greatest_count}
 use Rattle.fuxi_terms.specs.Vectors.{is_zero}
 use Rattle.fuxi_terms.proofs.Booleans.{both_true, and_true}
-use Rattle.hard_records.specs.Bodies.{unit_bytes, job_bytes, quantities_in, units_in, job_in, is_job}
+use Rattle.hard_records.specs.RecordBodies.{unit_bytes, job_bytes, quantities_in, units_in, job_in, is_job}
 
 -- numbers of eight bytes
 abbrev pub FitEight : List ℕ → Type 0

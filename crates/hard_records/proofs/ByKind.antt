@@ -9,7 +9,7 @@ use Rattle.fuxi_terms.specs.Cluster.{JobRecord, is_valid_job}
 use Rattle.fuxi_terms.proofs.Booleans.{both_true}
 use Rattle.hard_records.specs.declared.records.Record.{Record}
 use Rattle.hard_records.specs.declared.records.Record.TheVariants.{Fence, Submission, Finish, Ban, Unban}
-use Rattle.hard_records.specs.Bodies.{body_of, job_bytes, unit_size, units_in, job_in, is_job, job_found, epoch_found, number_found, finish, ban, unban, is_version, record_of_kind, record_in, IsWithinLimits}
+use Rattle.hard_records.specs.RecordBodies.{body_of, job_bytes, unit_size, units_in, job_in, is_job, job_found, epoch_found, number_found, finish, ban, unban, is_version, record_of_kind, record_in, IsWithinLimits}
 use Rattle.hard_records.proofs.Back.{sound_of, job_back, job_is, job_long}
 
 number_back : (most n : ℕ) → n < most → most ≤ 256 → number_found most (to_be_bytes w32 n) ≡ Some n

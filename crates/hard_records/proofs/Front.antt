@@ -3,7 +3,7 @@ use Rattle.std.proofs.Common.{◌≡◌, ℕ, zero, suc, ◌+◌, ◌*◌, ◌-�
 use Rattle.std.proofs.lemmas.List.{get_or-drop}
 use Rattle.std.specs.Int.{from_be_bytes, w32, w64}
 use Rattle.fuxi_terms.specs.Cluster.{UnitRecord}
-use Rattle.hard_records.specs.Bodies.{quantities_in, unit_size, unit_in, units_in}
+use Rattle.hard_records.specs.RecordBodies.{quantities_in, unit_size, unit_in, units_in}
 
 abbrev pub first_eight : List ℕ → List ℕ
 first_eight l = get_or l 0 0 ∷ get_or l 1 0 ∷ get_or l 2 0 ∷ get_or l 3 0 ∷ get_or l 4 0 ∷ get_or l 5 0 ∷ get_or l 6 0 ∷ get_or l 7 0 ∷ []

@@ -14,8 +14,8 @@ use Rattle.schedule_unit.specs.declared.asks.Ask.{Ask}
 use Rattle.schedule_unit.specs.declared.job.JobFault.{JobFault}
 use Rattle.schedule_unit.specs.declared.job.JobFault.TheVariants.{NoUnits, TooManyUnits, Dimensions, PriorityRange, QuantityRange, ZeroSize, MostRange, OutOfMemory}
 use Rattle.schedule_unit.specs.JobFaults.{unit_no, unit_fault, first_unit_fault, job_fault, unit_asked, IsFault, IsMade}
-use Rattle.hard_records.specs.Asked.{unit_of}
-use Rattle.hard_records.specs.Bodies.{unit_size, units_in, job_in, job_found}
+use Rattle.hard_records.specs.UnitRecords.{unit_of}
+use Rattle.hard_records.specs.RecordBodies.{unit_size, units_in, job_in, job_found}
 use Rattle.hard_records.proofs.Back.{sound_of}
 
 neither : (a b : Option JobFault) → option_or a b ≡ None → (a ≡ None) × (b ≡ None)

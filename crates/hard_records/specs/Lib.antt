@@ -1,2 +1,2 @@
-pub mod Bodies
-pub mod Asked
+pub mod RecordBodies
+pub mod UnitRecords

@@ -3,8 +3,8 @@ ghost use Rattle.std.specs.Int.{to_be_bytes, w64};
 ghost use Rattle.std.specs.List.{flat_map};
 ghost use Rattle.fuxi_terms.specs.Cluster.{is_valid_job};
 ghost use Rattle.schedule_unit.specs.Units.{unit_record};
-ghost use Rattle.hard_records.specs.Bodies.{job_bytes, unit_bytes, quantities_in, unit_size, most_in, unit_in, units_in, job_found};
-ghost use Rattle.hard_records.specs.Asked.{unit_of};
+ghost use Rattle.hard_records.specs.RecordBodies.{job_bytes, unit_bytes, quantities_in, unit_size, most_in, unit_in, units_in, job_found};
+ghost use Rattle.hard_records.specs.UnitRecords.{unit_of};
 
 use fuxi_terms::OutOfMemory;
 use fuxi_terms::limits::{GREATEST_COUNT, MOST_GROUPS, MOST_JOBS};

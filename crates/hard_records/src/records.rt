@@ -2,7 +2,7 @@ ghost use Rattle.std.specs.Prelude.{◌≡◌, ◌≤◌, ℕ, List, ◌++◌, �
 ghost use Rattle.std.specs.Int.{to_be_bytes, w32};
 ghost use Rattle.fuxi_terms.specs.Cluster.{JobRecord, is_valid_job};
 ghost use Rattle.hard_records.specs.declared.records.Record.{Record as RecordSeen};
-ghost use Rattle.hard_records.specs.Bodies.{body_of, record_in, record_of_kind, is_version, epoch_found, number_found, IsWithinLimits};
+ghost use Rattle.hard_records.specs.RecordBodies.{body_of, record_in, record_of_kind, is_version, epoch_found, number_found, IsWithinLimits};
 
 use crate::job::{read_job, write_job};
 use fuxi_terms::OutOfMemory;
@@ -92,7 +92,7 @@ fn is_version(version: u8, kind: u8) -> bool
 /// The record of this body, or `None` where it is the body of none: where its version, its kind or its length is another, or
 /// one of its numbers is out of the limits. A job is read in version 1 too, where the units have no greatest number of grants
 /// on one machine: that is then the greatest there is, 100,000.
-#[tactic(auto, unfolding(crate::specs::Bodies::record_in))]
+#[tactic(auto, unfolding(crate::specs::RecordBodies::record_in))]
 pub fn read_record(alloc: Global, body: &[u8]) -> Result<Option<Record>, OutOfMemory>
     ensures found { IfOk result (λ found. found ≡ record_in body.now) }
     ensures within { IfOk result (λ found. IfSome found IsWithinLimits) }

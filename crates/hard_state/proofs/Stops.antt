@@ -7,7 +7,7 @@ use Rattle.fuxi_terms.specs.Limits.{most_records}
 use Rattle.fuxi_terms.specs.Numbers.{has_number}
 use Rattle.written_roles.specs.HardState.{HardState, HardEvent, Raise, Submission as Submitting, Finishing, Banning, Unbanning, hard_step, hard_after, hard_tests, empty_hard, is_full, is_fenced, is_not_rising}
 use Rattle.written_roles.specs.Refusals.{Refusal, Fenced, Known, NoJob, Ended, AlreadyBanned, NotBanned, first_refusal}
-use Rattle.hard_records.specs.Bodies.{body_of, record_in}
+use Rattle.hard_records.specs.RecordBodies.{body_of, record_in}
 use Rattle.hard_records.specs.declared.records.Record.{Record}
 use Rattle.hard_records.specs.declared.records.Record.TheVariants.{Fence, Submission, Finish, Ban, Unban}
 use Rattle.hard_state.specs.Gates.{IsAppending, Appends, appended}

@@ -6,7 +6,7 @@ use Rattle.fuxi_terms.specs.Jobs.{KnownJob, is_known}
 use Rattle.fuxi_terms.specs.Limits.{most_records, most_jobs, most_machines}
 use Rattle.written_roles.specs.HardState.{HardState, HardEvent, Raise, Submission as Submitting, Finishing, Banning, Unbanning, hard_step, empty_hard}
 use Rattle.written_roles.specs.Refusals.{Refusal, NotRising, HardFull, Fenced, Known, NoJob, Ended, AlreadyBanned, NotBanned}
-use Rattle.hard_records.specs.Bodies.{record_in}
+use Rattle.hard_records.specs.RecordBodies.{record_in}
 use Rattle.hard_records.specs.declared.records.Record.{Record}
 use Rattle.hard_records.specs.declared.records.Record.TheVariants.{Fence, Submission, Finish, Ban, Unban}
 use Rattle.hard_state.specs.Gates.{IsSynced}

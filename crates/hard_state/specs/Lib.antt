@@ -4,6 +4,6 @@ pub mod Checkpoints
 pub mod Index
 pub mod Bans
 pub mod Knowledge
-pub mod Pieces
+pub mod FilePieces
 pub mod HardFiles
 pub mod Moments

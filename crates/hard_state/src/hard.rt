@@ -6,7 +6,7 @@ ghost use Rattle.fuxi_terms.specs.Jobs.{job_of, is_known, has_ended};
 ghost use Rattle.fuxi_terms.specs.Numbers.{has_number};
 ghost use Rattle.fuxi_terms.specs.Limits.{most_machines, most_records};
 ghost use Rattle.written_roles.specs.HardState.{Raise, Submission, Finishing, Banning, Unbanning, empty_hard, hard_step};
-ghost use Rattle.hard_records.specs.Bodies.{body_of, record_in, IsWithinLimits};
+ghost use Rattle.hard_records.specs.RecordBodies.{body_of, record_in, IsWithinLimits};
 ghost use Rattle.hard_state.specs.Checkpoints.{behind_gate};
 ghost use Rattle.hard_state.specs.HardFiles.{event_of, IsAskedBy, Refuses, WritesStep, Opens, OpensAs, IsDamagedAt, IsOpeningFault, Begins, SyncsAll};
 ghost use Rattle.hard_state.specs.Moments.{Moments, writing_calls};

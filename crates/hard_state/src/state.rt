@@ -6,7 +6,7 @@ ghost use Rattle.fuxi_terms.specs.Numbers.{has_number};
 ghost use Rattle.fuxi_terms.specs.Cluster.{is_valid_job};
 ghost use Rattle.fuxi_terms.specs.Limits.{most_records, most_jobs, most_machines};
 ghost use Rattle.written_roles.specs.HardState.{Raise, Submission, Finishing, Banning, Unbanning, empty_hard, hard_step, hard_after, raised, submitted, finished, banned, unbanned};
-ghost use Rattle.hard_records.specs.Bodies.{IsWithinLimits};
+ghost use Rattle.hard_records.specs.RecordBodies.{IsWithinLimits};
 ghost use Rattle.hard_state.specs.HardFiles.{event_of, epoch_of, made, taken, IsAskedBy, IsAllowed, IsFound, Refuses};
 
 use crate::fault::HardFault;

@@ -2,7 +2,7 @@
 ghost use Rattle.std.specs.Prelude.{◌≡◌, ℕ, ◌+◌, ◌-◌, ◌≤◌, [], length, drop, take, Some, IfOk, IfSome, OnOk};
 ghost use Rattle.fuxi_io.specs.Causes.{HasCause};
 ghost use Rattle.fuxi_io.specs.Disks.{Told};
-ghost use Rattle.hard_state.specs.Pieces.{end_of, IsPieceOf, Reaches};
+ghost use Rattle.hard_state.specs.FilePieces.{end_of, IsPieceOf, Reaches};
 
 use fuxi_io::{Disk, Failed};
 use fuxi_terms::OutOfMemory;
@@ -24,7 +24,7 @@ pub struct Window {
 
 impl Model for Window {
     ghost use Rattle.std.specs.Prelude.{◌≡◌, ◌≤◌, length, take};
-    ghost use Rattle.hard_state.specs.Pieces.{Piece};
+    ghost use Rattle.hard_state.specs.FilePieces.{Piece};
 
     ghost Value = { Piece };
 

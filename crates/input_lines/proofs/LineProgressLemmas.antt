@@ -14,13 +14,13 @@ use Rattle.fuxi_io.specs.declared.status.Status.{Status}
 use Rattle.fuxi_io.specs.declared.status.Status.TheVariants.{Done, Usage, BadInput, ReadFault, WriteFault, Limit, OutOfMemory, DiskFault, StaleEpoch, DamagedCheckpoint}
 use Rattle.fuxi_terms.proofs.AppendsLemmas.{appends_none}
 use Rattle.fuxi_terms.specs.Limits.{most_line_bytes, most_lines}
-use Rattle.schedule_text.specs.Reading.{IsFault}
+use Rattle.schedule_text.specs.ReadEvents.{IsFault}
 use Rattle.schedule_text.specs.declared.event.LineFault.{LineFault}
 use Rattle.schedule_text.specs.declared.event.LineFault.TheVariants.{UnknownWord as LineUnknownWord, WrongCount as LineWrongCount, BadNumber as LineBadNumber, Range as LineRange, OutOfMemory as LineOutOfMemory}
 use Rattle.input_lines.specs.Contents.{content, is_skipped}
 use Rattle.input_lines.specs.LineProgress.{TakesLine, WritesEnd, WritesItsEnd, Along}
 use Rattle.input_lines.specs.LineRuns.{Ending, AtEnd, AtBadLine, AtLimit, Run, Said, IsBad, IsPast, Prints, Runner, Ends, ended, behind_all, with_said, run_from, ReadsWhole, StopsWithin, Ended}
-use Rattle.input_lines.specs.Statuses.{event_fault, event_status, stop_status}
+use Rattle.input_lines.specs.InputStatuses.{event_fault, event_status, stop_status}
 use Rattle.input_lines.specs.Wholes.{IsBroken, TakesLines, TakesSome, WritesLast}
 use Rattle.input_lines.proofs.Known.{weaker}
 use Rattle.input_lines.proofs.LineRunsLemmas.{run_skipped, run_said, run_long, run_many, behind_both}

@@ -15,10 +15,10 @@ use Rattle.cluster_desc.specs.declared.fault.ClusterFault.TheVariants.{NotJson a
 use Rattle.cluster_desc.specs.ClusterLine.{cluster_of}
 use Rattle.cluster_desc.specs.Faults.{IsFault}
 use Rattle.input_lines.specs.Contents.{content, is_skipped}
-use Rattle.input_lines.specs.Statuses.{stop_status}
+use Rattle.input_lines.specs.InputStatuses.{stop_status}
 use Rattle.input_lines.specs.Wholes.{AreWhole, TakesLines}
 use Rattle.input_lines.specs.Openings.{Opening, BadAt, TooMany, cluster_fault, described, opening_from, HasCluster, IsLast, StopsAtCluster, Opened}
-use Rattle.input_lines.specs.Statuses.{cluster_status}
+use Rattle.input_lines.specs.InputStatuses.{cluster_status}
 use Rattle.input_lines.proofs.Known.{weaker}
 
 -- a line that is skipped, and one that says something

@@ -3,5 +3,5 @@ pub mod LineProgress
 pub mod LineRuns
 pub mod OpenedRuns
 pub mod Openings
-pub mod Statuses
+pub mod InputStatuses
 pub mod Wholes

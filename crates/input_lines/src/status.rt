@@ -2,7 +2,7 @@
 
 ghost use Rattle.std.specs.Prelude.{◌≡◌, ◌+◌, ◌≤◌};
 ghost use Rattle.fuxi_terms.specs.Limits.{most_lines};
-ghost use Rattle.input_lines.specs.Statuses.{cluster_status, event_status, stop_status};
+ghost use Rattle.input_lines.specs.InputStatuses.{cluster_status, event_status, stop_status};
 
 use cluster_desc::ClusterFault;
 use fuxi_io::{InputFault, LimitOf, LineStop, Status};

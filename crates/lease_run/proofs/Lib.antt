@@ -1,2 +1,2 @@
-pub mod ProgressLemmas
-pub mod EndsLemmas
+pub mod LeaseProgressLemmas
+pub mod LeaseEndsLemmas

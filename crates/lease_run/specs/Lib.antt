@@ -1,4 +1,4 @@
-pub mod Texts
-pub mod Runs
-pub mod Ends
-pub mod Progress
+pub mod LeaseTexts
+pub mod LeaseRuns
+pub mod LeaseEnds
+pub mod LeaseProgress

@@ -3,7 +3,7 @@
 ghost use Rattle.std.specs.Prelude.{◌++◌, OnOk, OnErr, codes, decimal};
 ghost use Rattle.std.specs.Io.KnownBytes.{Appends};
 ghost use Rattle.fuxi_io.specs.Causes.{HasCause, TakesPart};
-ghost use Rattle.lease_run.specs.Texts.{answer_text};
+ghost use Rattle.lease_run.specs.LeaseTexts.{answer_text};
 
 use epoch_lease::LeaseOut;
 use fuxi_io::{Sink, WriteFault, write_all_of, write_pieces};

@@ -7,9 +7,9 @@ ghost use Rattle.hard_state.specs.HardFiles.{records_of};
 ghost use Rattle.input_lines.specs.LineProgress.{WritesEnd};
 ghost use Rattle.input_lines.specs.LineRuns.{AtEnd};
 ghost use Rattle.epoch_lease.specs.Files.{lease_of};
-ghost use Rattle.lease_run.specs.Ends.{Ended, LeaseEnded};
-ghost use Rattle.lease_run.specs.Progress.{fault_status, LeavesLine, Rests, TakesLine};
-ghost use Rattle.lease_run.specs.Runs.{lease_ends, run_from, run_of};
+ghost use Rattle.lease_run.specs.LeaseEnds.{Ended, LeaseEnded};
+ghost use Rattle.lease_run.specs.LeaseProgress.{fault_status, LeavesLine, Rests, TakesLine};
+ghost use Rattle.lease_run.specs.LeaseRuns.{lease_ends, run_from, run_of};
 
 use crate::print::{write_answer, write_number};
 use epoch_lease::{Lease, LeaseFault, leases_at_rest_endure, read_lease};

@@ -1,5 +1,5 @@
 pub mod Applying
-pub mod Reading
+pub mod ReadForms
 pub mod Places
 pub mod Shapes
 pub mod Forms

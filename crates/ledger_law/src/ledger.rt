@@ -29,7 +29,7 @@ pub trait Ledger: Sized + Drop {
     ghost use Rattle.std.specs.Prelude.{◌≡◌, ◌++◌, ℕ, List, Result, IfOk, OnOk, OnErr};
     ghost use Rattle.fuxi_terms.specs.declared.answers.LedgerFault.{LedgerFault};
     ghost use Rattle.ledger_law.specs.Applying.{Applies};
-    ghost use Rattle.ledger_law.specs.Reading.{Reads};
+    ghost use Rattle.ledger_law.specs.ReadForms.{Reads};
     ghost use Rattle.ledger_law.specs.Differing.{ByDifference};
 
     /// A change of a value.

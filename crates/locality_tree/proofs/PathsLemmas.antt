@@ -4,7 +4,7 @@ use Rattle.std.proofs.lemmas.Bool.Decides.{nat_tests}
 use Rattle.std.proofs.lemmas.List.{append_assoc}
 use Rattle.std.specs.List.{AllByRecursion}
 use Rattle.fuxi_terms.proofs.Booleans.{both_true}
-use Rattle.fuxi_terms.proofs.Members.{In}
+use Rattle.fuxi_terms.proofs.Members.{In, in_right}
 use Rattle.slot_pool.specs.declared.pool.Slot.{Slot}
 use Rattle.slot_pool.specs.Pools.{value_at}
 use Rattle.wait_queue.specs.declared.node.Entry.{Entry}
@@ -16,7 +16,7 @@ use Rattle.locality_tree.specs.declared.unit_set.UnitSet.{UnitSet}
 use Rattle.locality_tree.specs.Trees.{Pair, ranks_before, IsRanked}
 use Rattle.locality_tree.specs.Layouts.{Slots, HasNumber, AreKept, IsQueueAt}
 use Rattle.locality_tree.specs.Paths.{is_in_either, nothing, unskipped, Stops, IsTail, HasTail, Passed, SkipsTo, priority_in, at_most, is_best, IsRanking, pairs_of, Leads, IsWalkable, Gives}
-use Rattle.locality_tree.proofs.MembersLemmas.{in_right, in_append, in_here, all_in}
+use Rattle.locality_tree.proofs.MembersLemmas.{in_append, in_here, all_in}
 use Rattle.locality_tree.proofs.QueueLaws.{Entries, Parts, Rises, member_entry, live, same_entry, same_slot, none_some}
 use Rattle.locality_tree.proofs.RanksLemmas.{by_level, by_priority, by_order, head_most, FirstLeft, first_left, none_left}
 

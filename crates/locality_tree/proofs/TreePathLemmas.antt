@@ -1,7 +1,7 @@
 -- The units that wait, in the order of their ranks, are those that the walk over three queues gives.
 use Rattle.std.proofs.Common.{◌≡◌, ℕ, ◌+◌, ◌*◌, ◌<◌, ◌||◌, Bool, true, false, cond, List, [], ◌∷◌, ◌++◌, Option, Some, None, is_some, length, map, get_or, refl, sym, ap, subst, ◌∙◌, inl, inr, arith}
 use Rattle.fuxi_terms.proofs.Booleans.{both_false}
-use Rattle.fuxi_terms.proofs.Members.{In}
+use Rattle.fuxi_terms.proofs.Members.{In, in_left, in_right}
 use Rattle.slot_pool.specs.declared.pool.Slot.{Slot}
 use Rattle.slot_pool.specs.Pools.{value_at}
 use Rattle.wait_queue.specs.declared.node.Entry.{Entry}
@@ -14,7 +14,7 @@ use Rattle.locality_tree.specs.UnitSets.{has_unit, no_set}
 use Rattle.locality_tree.specs.Trees.{Pair, UnitState, unit_at, level_at, rack_place, cluster_place, HasPath}
 use Rattle.locality_tree.specs.Layouts.{Slots, slots_of, slot_in, number_of, entry_in, IsQueueAt, tree_record, IsTree}
 use Rattle.locality_tree.specs.Paths.{is_in_either, nothing, unskipped, IsRanking, pairs_of}
-use Rattle.locality_tree.proofs.MembersLemmas.{in_left, in_right, in_append}
+use Rattle.locality_tree.proofs.MembersLemmas.{in_append}
 use Rattle.locality_tree.proofs.QueueLaws.{Entries, member_entry, same_entry}
 use Rattle.locality_tree.proofs.LayoutsLemmas.{listed}
 use Rattle.locality_tree.proofs.RanksLemmas.{sorted, with_levels}

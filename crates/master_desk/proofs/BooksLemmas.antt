@@ -10,10 +10,10 @@ use Rattle.written_roles.specs.MasterRoles.{MasterRole}
 use Rattle.fuxi_master.specs.Cores.{MasterRecord, StandsFor}
 use Rattle.master_desk.specs.declared.call.Decoded.{Decoded}
 use Rattle.master_desk.specs.declared.entry.Entry.{Entry}
-use Rattle.master_desk.specs.Orders.{Fits, IsCallOf, IsSessions, IsWhole, calls_of, most_calls, most_sessions, times}
+use Rattle.master_desk.specs.CallOrders.{Fits, IsCallOf, IsSessions, IsWhole, calls_of, most_calls, most_sessions, times}
 use Rattle.master_desk.specs.Desks.{IsDeskRun, desk_takes, line_of, sending_of, sessions_in, taken}
 use Rattle.master_desk.specs.Books.{BookRecord, Counts, Grows, HasRoom, HasRun, HearsAlike, IsBook, IsEntered, SameDesk, entry_line, order_in}
-use Rattle.master_desk.proofs.OrdersLemmas.{calls_few, fits_more, never_less, once_more, session_there, taken_few, times_more, zero_at, zero_sum}
+use Rattle.master_desk.proofs.CallOrdersLemmas.{calls_few, fits_more, never_less, once_more, session_there, taken_few, times_more, zero_at, zero_sum}
 use Rattle.master_desk.proofs.DesksLemmas.{run_more}
 
 -- the order of the written journal is that of the book's

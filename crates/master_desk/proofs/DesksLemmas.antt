@@ -9,13 +9,13 @@ use Rattle.party_ledgers.specs.declared.packets.Body.{Body}
 use Rattle.party_ledgers.specs.declared.packets.Body.TheVariants as body
 use Rattle.written_net.specs.Ledgers.{body_length}
 use Rattle.master_desk.specs.declared.call.Decoded.{Decoded}
-use Rattle.master_desk.specs.Calls.{Says}
-use Rattle.master_desk.specs.Orders.{AreCallsOf, IsCallOf, calls_of, times}
+use Rattle.master_desk.specs.CallBytes.{Says}
+use Rattle.master_desk.specs.CallOrders.{AreCallsOf, IsCallOf, calls_of, times}
 use Rattle.written_net.specs.Net.{Id}
 use Rattle.written_net.specs.Sides.{turn_parcels}
 use Rattle.written_roles.specs.MasterSteps.{master_party, talks}
 use Rattle.master_desk.specs.Desks.{Desk, IsDeskRun, Sending, desk_from, desk_takes, opened, sent_as, turn_sent}
-use Rattle.master_desk.proofs.OrdersLemmas.{calls_more}
+use Rattle.master_desk.proofs.CallOrdersLemmas.{calls_more}
 
 -- bodies are as long as their contents
 pub same_length : (b : Body) → body_length_here b ≡ body_length (content_of b)

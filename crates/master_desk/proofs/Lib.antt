@@ -1,4 +1,4 @@
-pub mod CallsLemmas
-pub mod OrdersLemmas
+pub mod CallBytesLemmas
+pub mod CallOrdersLemmas
 pub mod DesksLemmas
 pub mod BooksLemmas

@@ -12,7 +12,7 @@ use Rattle.master_desk.specs.declared.entry.Entry.{Entry}
 use Rattle.master_desk.specs.declared.entry.Head.{Head}
 use Rattle.master_desk.specs.declared.entry.Words.{Words}
 use Rattle.master_desk.specs.declared.entry.Words.TheVariants.{Took}
-use Rattle.master_desk.specs.Orders.{Fits, IsSessions, most_sessions, times}
+use Rattle.master_desk.specs.CallOrders.{Fits, IsSessions, most_sessions, times}
 use Rattle.master_desk.specs.Desks.{Desk, IsDeskRun, Line, Taking, sending_of, sessions_in, taken, taking_of}
 
 -- the sessions and the master with which it was started, the journal, and the master now; none where memory was refused

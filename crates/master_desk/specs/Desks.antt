@@ -11,7 +11,7 @@ use Rattle.master_desk.specs.declared.call.Decoded.TheVariants.{Whole, Bad as Is
 use Rattle.master_desk.specs.declared.entry.Head.{Head}
 use Rattle.master_desk.specs.declared.entry.Words.{Words}
 use Rattle.master_desk.specs.declared.entry.Words.TheVariants.{Took, Bad}
-use Rattle.master_desk.specs.Orders.{AreCallsOf, times}
+use Rattle.master_desk.specs.CallOrders.{AreCallsOf, times}
 
 -- a packet of a turn, without its content, and the length of its frame
 pub record Sending : Type 0 where

@@ -1,4 +1,4 @@
-pub mod Calls
-pub mod Orders
+pub mod CallBytes
+pub mod CallOrders
 pub mod Desks
 pub mod Books

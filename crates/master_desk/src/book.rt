@@ -3,7 +3,7 @@
 ghost use Rattle.std.specs.Prelude.{◌≡◌, ◌+◌, ◌<◌, ◌≤◌, ◌^◌, ◌++◌, ◌∷◌, [], true, not, is_some, length, get_or, replicate, Some, None, IfOk, OnOk, OnErr};
 ghost use Rattle.written_roles.specs.MasterRoles.{MasterRole};
 ghost use Rattle.fuxi_master.specs.Cores.{StandsFor};
-ghost use Rattle.master_desk.specs.Orders.{IsCallOf, Fits, most_calls, most_sessions, times};
+ghost use Rattle.master_desk.specs.CallOrders.{IsCallOf, Fits, most_calls, most_sessions, times};
 ghost use Rattle.master_desk.specs.Books.{Grows, HasRoom, HasRun, IsEntered, SameDesk, order_in};
 
 use crate::call::Decoded;

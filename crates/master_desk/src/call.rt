@@ -1,7 +1,7 @@
 //! What the bytes of a call say.
 
 ghost use Rattle.std.specs.Prelude.{◌≡◌, ◌≢◌, IfOk};
-ghost use Rattle.master_desk.specs.Calls.{Says, is_end};
+ghost use Rattle.master_desk.specs.CallBytes.{Says, is_end};
 
 use fuxi_terms::OutOfMemory;
 use ledger_law::Ledger;

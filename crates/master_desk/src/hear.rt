@@ -11,7 +11,7 @@ ghost use Rattle.written_roles.specs.MasterRoles.{MasterRole, Sent as SentAs, He
 ghost use Rattle.written_roles.specs.MasterSteps.{master_party, talks};
 ghost use Rattle.fuxi_master.specs.Cores.{StandsFor};
 ghost use Rattle.fuxi_master.specs.Steps.{IsSentFormed, answer_of, is_peer};
-ghost use Rattle.master_desk.specs.Calls.{MayHear};
+ghost use Rattle.master_desk.specs.CallBytes.{MayHear};
 ghost use Rattle.master_desk.specs.Desks.{sending_of, sent_as, turn_sent};
 ghost use Rattle.master_desk.specs.Books.{HearsAlike, HearsPacket};
 

@@ -2,7 +2,7 @@
 
 ghost use Rattle.std.specs.Prelude.{◌≡◌, ℕ, List};
 ghost use Rattle.written_roles.specs.MasterRoles.{MasterRole};
-ghost use Rattle.master_desk.specs.Calls.{Says};
+ghost use Rattle.master_desk.specs.CallBytes.{Says};
 ghost use Rattle.master_desk.specs.Desks.{Desk, IsDeskRun};
 ghost use Rattle.master_desk.specs.declared.call.Decoded.{Decoded as AnyDecoded};
 

@@ -1,7 +1,7 @@
 //! What is left of sessions is taken, session by session.
 
 ghost use Rattle.std.specs.Prelude.{◌≡◌, ◌+◌, ◌<◌, ◌^◌, ℕ, true, is_some, length, OnOk};
-ghost use Rattle.master_desk.specs.Orders.{IsWhole, calls_of, most_sessions, times};
+ghost use Rattle.master_desk.specs.CallOrders.{IsWhole, calls_of, most_sessions, times};
 ghost use Rattle.master_desk.specs.Books.{Grows, SameDesk, order_in};
 
 use crate::book::Book;

@@ -5,7 +5,7 @@ ghost use Rattle.std.specs.Thread.{IsSend};
 ghost use Rattle.written_roles.specs.MasterRoles.{MasterRole};
 ghost use Rattle.master_desk.specs.contracts.book.Book.{the_row};
 ghost use Rattle.fuxi_master.specs.Cores.{StandsFor};
-ghost use Rattle.master_desk.specs.Orders.{IsCallOf, IsWhole, most_sessions};
+ghost use Rattle.master_desk.specs.CallOrders.{IsCallOf, IsWhole, most_sessions};
 ghost use Rattle.master_desk.specs.Books.{HasRun, IsNamed, order_in};
 
 use crate::book::{Book, Seat};

@@ -1,7 +1,7 @@
 //! The calls of sessions, as bytes.
 
 ghost use Rattle.std.specs.Prelude.{◌≡◌, ◌+◌, ◌-◌, ◌<◌, ◌≤◌, ◌++◌, ◌∷◌, [], length, get_or, set, replicate, IfOk, OnOk, OnErr};
-ghost use Rattle.master_desk.specs.Orders.{IsSessions, calls_of, most_calls, most_sessions, total};
+ghost use Rattle.master_desk.specs.CallOrders.{IsSessions, calls_of, most_calls, most_sessions, total};
 
 use crate::limits::{MOST_CALLS, MOST_SESSIONS};
 use fuxi_terms::OutOfMemory;
@@ -90,7 +90,7 @@ pub struct Sessions {
 
 impl Model for Sessions {
     ghost use Rattle.std.specs.Prelude.{◌≡◌, ℕ, List};
-    ghost use Rattle.master_desk.specs.Orders.{IsSessions, total};
+    ghost use Rattle.master_desk.specs.CallOrders.{IsSessions, total};
 
     ghost Value = { List (List (List ℕ)) };
 

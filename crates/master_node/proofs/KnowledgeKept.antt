@@ -18,7 +18,7 @@ use Rattle.written_roles.specs.MasterRoles.{MasterRole, MasterHeard, master_told
 use Rattle.hard_state.specs.HardFiles.{Kept}
 use Rattle.fuxi_master.specs.Cores.{MasterRecord, StandsFor}
 use Rattle.node_rounds.specs.Roles.{Role, OfAgent, OfApp, OfMaster}
-use Rattle.master_node.specs.Masters.{NodeRecord, IsMasterOf, IsTied, StandsAs}
+use Rattle.master_node.specs.MasterParties.{NodeRecord, IsMasterOf, IsTied, StandsAs}
 
 pub record SameKnowledge (M N : Master) : Type 0 where
   pub epoch : N.epoch ≡ M.epoch

@@ -1,7 +1,7 @@
-pub mod CommandsLemmas
+pub mod NodeCommandsLemmas
 pub mod KnowledgeKept
 pub mod Moments
 pub mod WrittenIsDone
-pub mod StartsLemmas
+pub mod OpenedMastersLemmas
 pub mod RestKept
 pub mod SentToPeers

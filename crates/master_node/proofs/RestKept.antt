@@ -5,11 +5,11 @@ use Rattle.fuxi_io.specs.Disks.{Told, Leaves, LeavesAlways, WhereTold}
 use Rattle.written_roles.specs.HardState.{HardState}
 use Rattle.hard_state.specs.HardFiles.{IsAtRest}
 use Rattle.node_rounds.specs.Roles.{Role, OfAgent, OfApp, OfMaster}
-use Rattle.node_party.specs.Halts.{FitsEither}
+use Rattle.node_party.specs.NodeHalts.{FitsEither}
 use Rattle.node_party.specs.declared.party.Answer.{Answer}
 use Rattle.node_party.specs.declared.party.Halt.{Halt}
-use Rattle.master_node.specs.Masters.{DiskHas, NodeRecord, Rests, RestsAt, StandsAs}
-use Rattle.master_node.specs.Commands.{LeavesLine}
+use Rattle.master_node.specs.MasterParties.{DiskHas, NodeRecord, Rests, RestsAt, StandsAs}
+use Rattle.master_node.specs.NodeCommands.{LeavesLine}
 use Rattle.master_node.specs.Writes.{IsEither, LeavesEither, hard_in}
 use Rattle.master_node.proofs.Moments.{leaves_last}
 

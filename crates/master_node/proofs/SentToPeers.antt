@@ -16,7 +16,7 @@ use Rattle.fuxi_master.specs.Cores.{CoreRecord, StandsFor}
 use Rattle.fuxi_master.specs.Steps.{IsSentFormed, answer_of, is_peer}
 use Rattle.fuxi_master.specs.declared.event.Outcome.{Outcome}
 use Rattle.fuxi_master.specs.declared.event.Outcome.TheVariants.{Done, Refused, Sent, Heard}
-use Rattle.master_node.specs.Commands.{Sends, packets_in}
+use Rattle.master_node.specs.NodeCommands.{Sends, packets_in}
 
 -- a party that it talks to is a peer of its core
 pub peer_is : (x : CoreRecord) (r : MasterRole) (p : Role) (n : ℕ) → StandsFor x r → talks r.cluster r.state (id_of p n) ≡ true → is_peer x p n ≡ true

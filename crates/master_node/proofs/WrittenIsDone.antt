@@ -25,14 +25,14 @@ use Rattle.fuxi_master.specs.declared.event.MasterRefusal.TheVariants as master
 use Rattle.fuxi_master.specs.declared.event.Outcome.{Outcome}
 use Rattle.fuxi_master.specs.declared.event.Outcome.TheVariants as outcome
 use Rattle.node_rounds.specs.Roles.{OfMaster}
-use Rattle.node_party.specs.Commands.{Answered, Done, RefusedAs, Commanded, IsCommanded, becomes, stays}
-use Rattle.node_party.specs.Texts.{as_answer}
+use Rattle.node_party.specs.PartyEvents.{Answered, Done, RefusedAs, Commanded, IsCommanded, becomes, stays}
+use Rattle.node_party.specs.NodeTexts.{as_answer}
 use Rattle.node_party.specs.declared.party.Answer.{Answer}
 use Rattle.node_party.specs.declared.party.Halt.{Halt}
-use Rattle.master_node.specs.Masters.{NodeRecord, IsMasterOf, IsTied, StandsAs}
+use Rattle.master_node.specs.MasterParties.{NodeRecord, IsMasterOf, IsTied, StandsAs}
 use Rattle.master_node.specs.Writes.{IsCommand, IsEither, Writes, hard_in, written_by}
-use Rattle.master_text.specs.Refusals.{master_refusal}
-use Rattle.master_node.specs.Commands.{LeavesLine, answer_in, made_of, obeyed}
+use Rattle.master_text.specs.PrintedRefusals.{master_refusal}
+use Rattle.master_node.specs.NodeCommands.{LeavesLine, answer_in, made_of, obeyed}
 use Rattle.master_node.proofs.KnowledgeKept.{IsAlike, begins_alike, preempts_alike, ready_same}
 use Rattle.master_node.proofs.Moments.{leaves_more, map_where}
 

@@ -1,5 +1,5 @@
-pub mod Masters
-pub mod Starts
-pub mod Commands
-pub mod Told
+pub mod MasterParties
+pub mod OpenedMasters
+pub mod NodeCommands
+pub mod ToldMasters
 pub mod Writes

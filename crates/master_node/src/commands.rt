@@ -5,10 +5,10 @@ ghost use Rattle.fuxi_io.specs.Causes.{Rose};
 ghost use Rattle.fuxi_terms.specs.Limits.{most_jobs, most_steps};
 ghost use Rattle.written_roles.specs.MasterSteps.{Submits, BansMachine, UnbansMachine};
 ghost use Rattle.schedule_text.specs.Asked.{job_named};
-ghost use Rattle.node_party.specs.Commands.{MasterCommands, master_does};
-ghost use Rattle.master_node.specs.Masters.{Rests};
-ghost use Rattle.master_node.specs.Told.{IsTold, told_of};
-ghost use Rattle.master_node.specs.Commands.{Does, LeavesMade};
+ghost use Rattle.node_party.specs.PartyEvents.{MasterCommands, master_does};
+ghost use Rattle.master_node.specs.MasterParties.{Rests};
+ghost use Rattle.master_node.specs.ToldMasters.{IsTold, told_of};
+ghost use Rattle.master_node.specs.NodeCommands.{Does, LeavesMade};
 
 use crate::MasterNode;
 use crate::told::Told;

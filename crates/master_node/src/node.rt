@@ -16,14 +16,14 @@ ghost use Rattle.wire_frames.specs.Frames.{frame};
 ghost use Rattle.fuxi_master.specs.Steps.{IsSentFormed};
 ghost use Rattle.schedule_text.specs.Writing.{IsLineEvent};
 ghost use Rattle.node_rounds.specs.Roles.{IsTurn, OfMaster, Role as RoleSeen, end_packet, heard, id_in, may_be, may_send, turn, Keeps};
-ghost use Rattle.node_party.specs.Commands.{IsCommanded, commanded};
-ghost use Rattle.node_party.specs.Halts.{FitsEither};
-ghost use Rattle.node_party.specs.Texts.{as_answer};
-ghost use Rattle.master_node.specs.Masters.{DiskHas, IsMasterOf, IsTied, Rests, RestsAt, StandsAs};
+ghost use Rattle.node_party.specs.PartyEvents.{IsCommanded, commanded};
+ghost use Rattle.node_party.specs.NodeHalts.{FitsEither};
+ghost use Rattle.node_party.specs.NodeTexts.{as_answer};
+ghost use Rattle.master_node.specs.MasterParties.{DiskHas, IsMasterOf, IsTied, Rests, RestsAt, StandsAs};
 ghost use Rattle.hard_state.specs.HardFiles.{SyncsAll};
-ghost use Rattle.master_node.specs.Starts.{FailsStart, IsRaised, IsStartFault, Starts, StartsFrom};
+ghost use Rattle.master_node.specs.OpenedMasters.{FailsStart, IsRaised, IsStartFault, Starts, StartsFrom};
 ghost use Rattle.master_node.specs.Writes.{IsCommand, LeavesEither, hard_in};
-ghost use Rattle.master_node.specs.Commands.{Does, LeavesLine, LeavesMade, obeyed, packets_in, Sends};
+ghost use Rattle.master_node.specs.NodeCommands.{Does, LeavesLine, LeavesMade, obeyed, packets_in, Sends};
 
 use crate::refusals::{answer_in, written_refusal};
 use crate::told::master_named;
@@ -56,7 +56,7 @@ impl Drop for MasterNode {
 }
 
 impl Model for MasterNode {
-    ghost use Rattle.master_node.specs.Masters.{NodeRecord, IsTied};
+    ghost use Rattle.master_node.specs.MasterParties.{NodeRecord, IsTied};
 
     ghost Value = { NodeRecord };
 
@@ -222,7 +222,7 @@ fn write_sent(alloc: Global, outcome: Outcome, from: Party, to: Party) -> Result
 }
 
 impl Core for MasterNode {
-    ghost use Rattle.master_node.specs.Masters.{RestsAt, StandsAs};
+    ghost use Rattle.master_node.specs.MasterParties.{RestsAt, StandsAs};
 
     ghost stands = { StandsAs };
 
@@ -297,7 +297,7 @@ impl Core for MasterNode {
 }
 
 impl Node for MasterNode {
-    ghost use Rattle.master_node.specs.Masters.{DiskHas, disk_has};
+    ghost use Rattle.master_node.specs.MasterParties.{DiskHas, disk_has};
     ghost use Rattle.master_node.specs.Writes.{LeavesEither};
 
     ghost fits = { DiskHas };

@@ -5,7 +5,7 @@ ghost use Rattle.written_roles.specs.HardState.{HardState};
 ghost use Rattle.written_roles.specs.Refusals.{Refusal as WrittenRefusal};
 ghost use Rattle.schedule_text.specs.Printing.{as_refusal};
 ghost use Rattle.hard_state.specs.HardFiles.{IsOpeningFault, Refuses};
-ghost use Rattle.master_node.specs.Commands.{answer_in};
+ghost use Rattle.master_node.specs.NodeCommands.{answer_in};
 
 use fuxi_master::Outcome;
 use hard_state::HardFault;

@@ -2,8 +2,8 @@
 
 ghost use Rattle.std.specs.Prelude.{◌≡◌, IfSome};
 ghost use Rattle.schedule_text.specs.Writing.{IsLineEvent};
-ghost use Rattle.node_party.specs.Commands.{master_named};
-ghost use Rattle.master_node.specs.Told.{IsTold, named_of};
+ghost use Rattle.node_party.specs.PartyEvents.{master_named};
+ghost use Rattle.master_node.specs.ToldMasters.{IsTold, named_of};
 
 use schedule_text::Event;
 use schedule_unit::{AppNo, Asks, GroupNo, MachineNo};

@@ -8,7 +8,7 @@ use Rattle.fuxi_terms.specs.Lists.{below}
 use Rattle.fuxi_terms.specs.Numbers.{has_number}
 use Rattle.fuxi_terms.proofs.Booleans.{nat_itself, or_left, or_right}
 use Rattle.written_world.specs.Show.{show_jobs}
-use Rattle.master_text.specs.Lines.{job_line, job_lines}
+use Rattle.master_text.specs.MasterLines.{job_line, job_lines}
 use Rattle.master_text.proofs.Walks.{listed_at, listed_below, jobs_rise, job_listed}
 
 -- a job that is there

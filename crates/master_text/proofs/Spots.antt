@@ -23,8 +23,8 @@ use Rattle.fuxi_terms.proofs.Booleans.{both_true, or_left, or_right}
 use Rattle.fuxi_terms.proofs.KeyOrders.{spot_total, same_spot}
 use Rattle.written_roles.specs.Refusals.{with_found}
 use Rattle.written_world.specs.Outputs.{Line}
-use Rattle.grant_table.specs.Tables.{TableRecord, as_known, AreJobs, IsSound}
-use Rattle.master_text.specs.Lines.{grant_line, grant_lines}
+use Rattle.grant_table.specs.GrantTables.{TableRecord, as_known, AreJobs, IsSound}
+use Rattle.master_text.specs.MasterLines.{grant_line, grant_lines}
 use Rattle.master_text.proofs.Walks.{Rising, is_among, rising_append, found_at, each_once}
 
 -- Keys by number

@@ -4,9 +4,9 @@ ghost use Rattle.std.specs.Prelude.{◌≡◌, ◌<◌, map, length, OnOk};
 ghost use Rattle.fuxi_terms.specs.Jobs.{unit_count};
 ghost use Rattle.fuxi_terms.specs.Limits.{most_jobs};
 ghost use Rattle.schedule_text.specs.Writing.{Begins};
-ghost use Rattle.grant_table.specs.Tables.{as_known};
+ghost use Rattle.grant_table.specs.GrantTables.{as_known};
 ghost use Rattle.party_text.specs.Texts.{Shows};
-ghost use Rattle.master_text.specs.Lines.{grant_line, grant_lines, grants_of_unit, grants_of_job};
+ghost use Rattle.master_text.specs.MasterLines.{grant_line, grant_lines, grants_of_unit, grants_of_job};
 
 use fuxi_terms::OutOfMemory;
 use fuxi_terms::limits::MOST_JOBS;

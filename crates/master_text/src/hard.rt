@@ -6,7 +6,7 @@ ghost use Rattle.written_world.specs.Show.{show_jobs};
 ghost use Rattle.schedule_text.specs.Writing.{Begins};
 ghost use Rattle.written_join.specs.States.{hard_lines};
 ghost use Rattle.party_text.specs.Texts.{Shows};
-ghost use Rattle.master_text.specs.Lines.{job_lines, ban_lines};
+ghost use Rattle.master_text.specs.MasterLines.{job_lines, ban_lines};
 
 use fuxi_terms::OutOfMemory;
 use fuxi_terms::limits::{MOST_JOBS, MOST_MACHINES};

@@ -7,7 +7,7 @@ ghost use Rattle.written_world.specs.Show.{show_master};
 ghost use Rattle.schedule_text.specs.Writing.{Begins};
 ghost use Rattle.fuxi_master.specs.Cores.{StandsFor};
 ghost use Rattle.party_text.specs.Texts.{Shows};
-ghost use Rattle.master_text.specs.Lines.{reported_lines, grant_line, wait_line};
+ghost use Rattle.master_text.specs.MasterLines.{reported_lines, grant_line, wait_line};
 
 use crate::grants::write_table;
 use failover::{Machines, Phase};

@@ -5,7 +5,7 @@ ghost use Rattle.written_roles.specs.HardState.{HardState};
 ghost use Rattle.written_roles.specs.Refusals.{Refusal as WrittenRefusal};
 ghost use Rattle.schedule_text.specs.Printing.{as_refusal};
 ghost use Rattle.hard_state.specs.HardFiles.{IsOpeningFault, Refuses};
-ghost use Rattle.master_text.specs.Refusals.{master_refusal};
+ghost use Rattle.master_text.specs.PrintedRefusals.{master_refusal};
 
 use fuxi_master::MasterRefusal;
 use fuxi_terms::limits::MOST_RECORDS;

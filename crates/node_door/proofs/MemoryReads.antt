@@ -2,7 +2,7 @@
 use Rattle.std.proofs.Common.{◌≡◌, ℕ, ◌+◌, Bool, true, false, ◌||◌, nat_eq, List, ◌∷◌, ◌++◌, take, drop, drop-drop, Some, None, cond, refl, sym, ap, ◌∙◌}
 use Rattle.std.proofs.Math.Seq.{take-add}
 use Rattle.node_door.specs.Doors.{Talk, Told, given, on_last}
-use Rattle.node_door.specs.Orders.{order_read}
+use Rattle.node_door.specs.DoorOrders.{order_read}
 use Rattle.node_door.specs.MemoryDoors.{Doorway, told_of, talk_of, talks_of}
 use Rattle.node_door.specs.declared.memory_door.Opened.{Opened}
 use Rattle.node_door.specs.declared.order.Order.{Order}

@@ -1,7 +1,7 @@
 -- What a door has been through, and what its calls add to it.
 use Rattle.std.specs.Prelude.{◌≡◌, ℕ, Bool, false, ◌||◌, cond, nat_eq, List, [], ◌∷◌, ◌++◌, length, take, Option, Some, None, ⊤, Result, Ok, Err}
 use Rattle.node_door.specs.declared.order.Order.{Order}
-use Rattle.node_door.specs.Orders.{unused, order_read, order_written, order_failed, order_closed}
+use Rattle.node_door.specs.DoorOrders.{unused, order_read, order_written, order_failed, order_closed}
 
 -- an address that was handed to the door, to `accept` or else to `dial`
 pub record Knock : Type 0 where

@@ -1,4 +1,4 @@
-pub mod Orders
+pub mod DoorOrders
 pub mod Doors
 pub mod MemoryDoors
 pub mod DoorsLemmas

@@ -1,5 +1,5 @@
 ghost use Rattle.std.specs.Prelude.{◌≡◌};
-ghost use Rattle.node_door.specs.Orders.{unused, order_read, order_written, order_failed, order_closed};
+ghost use Rattle.node_door.specs.DoorOrders.{unused, order_read, order_written, order_failed, order_closed};
 
 /// In which order a connection was read, written to and closed.
 #[derive(Clone, Copy, Debug, Drop, PartialEq, Eq)]

@@ -4,7 +4,7 @@ use Rattle.schedule_text.specs.Halting.{anywhere}
 use Rattle.schedule_text.specs.declared.event.Event.{Event}
 use Rattle.schedule_text.specs.declared.event.Event.TheVariants as event
 use Rattle.node_rounds.specs.Roles.{Role, OfAgent, OfApp, OfMaster}
-use Rattle.node_party.specs.Commands.{agent_named, app_named, master_named, agent_by, app_by, master_by, commanded}
+use Rattle.node_party.specs.PartyEvents.{agent_named, app_named, master_named, agent_by, app_by, master_by, commanded}
 
 record IsAlike (e : Event) : Type 0 where
   agent : agent_named (anywhere e) ≡ agent_named e

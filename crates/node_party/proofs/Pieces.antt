@@ -4,7 +4,7 @@ use Rattle.std.specs.Prelude.{codes, decimal}
 use Rattle.wire_frames.specs.declared.fault.FrameFault.{FrameFault}
 use Rattle.wire_frames.specs.Names.{name_of, found_of}
 use Rattle.node_rounds.specs.declared.rounds.RoundLine.TheVariants.{Done, Bad}
-use Rattle.node_party.specs.Texts.{found_text, round_text}
+use Rattle.node_party.specs.NodeTexts.{found_text, round_text}
 
 pub done_line : (a b : List ℕ) (heard sent : ℕ) → a ≡ decimal heard → b ≡ decimal sent → codes "round done " ++ (a ++ (codes " " ++ (b ++ (codes "\n" ++ [])))) ≡ round_text (Done heard sent)
 done_line a b heard sent is_a is_b =

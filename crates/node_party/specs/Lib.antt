@@ -1,4 +1,4 @@
-pub mod Lines
-pub mod Commands
-pub mod Texts
-pub mod Halts
+pub mod NodeLines
+pub mod PartyEvents
+pub mod NodeTexts
+pub mod NodeHalts

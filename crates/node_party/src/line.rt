@@ -2,8 +2,8 @@
 
 ghost use Rattle.std.specs.Prelude.{◌≡◌, IfOk, IfErr, Ok, Err, map};
 ghost use Rattle.schedule_text.specs.Words.{words_of};
-ghost use Rattle.schedule_text.specs.Reading.{IsFault};
-ghost use Rattle.node_party.specs.Lines.{node_line, line_anywhere, begins_with, alone, HasLineEvent};
+ghost use Rattle.schedule_text.specs.ReadEvents.{IsFault};
+ghost use Rattle.node_party.specs.NodeLines.{node_line, line_anywhere, begins_with, alone, HasLineEvent};
 
 use fuxi_terms::OutOfMemory;
 use schedule_text::{Event, LineFault, read_event};

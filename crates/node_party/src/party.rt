@@ -6,9 +6,9 @@ ghost use Rattle.fuxi_io.specs.Disks.{Told as Moments, WhereTold};
 ghost use Rattle.fuxi_terms.specs.Limits.{most_steps};
 ghost use Rattle.schedule_text.specs.Writing.{IsLineEvent};
 ghost use Rattle.node_rounds.specs.Roles.{Role};
-ghost use Rattle.node_party.specs.Commands.{IsCommanded, commanded, accepts};
-ghost use Rattle.node_party.specs.Halts.{FitsEither};
-ghost use Rattle.node_party.specs.Texts.{lines_text, party_lines, as_answer};
+ghost use Rattle.node_party.specs.PartyEvents.{IsCommanded, commanded, accepts};
+ghost use Rattle.node_party.specs.NodeHalts.{FitsEither};
+ghost use Rattle.node_party.specs.NodeTexts.{lines_text, party_lines, as_answer};
 
 use fuxi_io::Disk;
 use fuxi_terms::OutOfMemory;
@@ -45,9 +45,9 @@ pub trait Node: Core {
     ghost use Rattle.fuxi_terms.specs.Limits.{most_steps};
     ghost use Rattle.schedule_text.specs.Writing.{IsLineEvent};
     ghost use Rattle.node_rounds.specs.Roles.{Role};
-    ghost use Rattle.node_party.specs.Commands.{IsCommanded, commanded, accepts};
-    ghost use Rattle.node_party.specs.Halts.{FitsEither};
-    ghost use Rattle.node_party.specs.Texts.{lines_text, party_lines, as_answer};
+    ghost use Rattle.node_party.specs.PartyEvents.{IsCommanded, commanded, accepts};
+    ghost use Rattle.node_party.specs.NodeHalts.{FitsEither};
+    ghost use Rattle.node_party.specs.NodeTexts.{lines_text, party_lines, as_answer};
 
     /// What a disk with these moments has of this party.
     ghost fits: { Role → Moments → Type 0 };

@@ -4,7 +4,7 @@ ghost use Rattle.std.specs.Prelude.{◌≡◌, ◌++◌, OnOk, OnErr};
 ghost use Rattle.std.specs.Io.KnownBytes.{Appends};
 ghost use Rattle.fuxi_io.specs.Causes.{HasCause, TakesPart};
 ghost use Rattle.node_rounds.specs.Roles.{Role};
-ghost use Rattle.node_party.specs.Texts.{answer_text, as_answer, found_text, round_text, state_text};
+ghost use Rattle.node_party.specs.NodeTexts.{answer_text, as_answer, found_text, round_text, state_text};
 
 use crate::party::{Answer, Node};
 use fuxi_io::{Sink, WriteFault, write_all_of, write_pieces};

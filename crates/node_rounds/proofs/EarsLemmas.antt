@@ -5,18 +5,18 @@ use Rattle.schedule_unit.specs.declared.party.Party.{Party}
 use Rattle.party_ledgers.specs.declared.packets.Packet.{Packet}
 use Rattle.wire_frames.specs.declared.fault.FrameFault.{FrameFault}
 use Rattle.wire_frames.specs.declared.fault.FrameFault.TheVariants.{Short as ShortFrame, Length, Version, Kind, Role as NoRole, Place, Body, OutOfMemory}
-use Rattle.wire_frames.specs.Reading.{Begins, HasFault}
+use Rattle.wire_frames.specs.ReadFrames.{Begins, HasFault}
 use Rattle.wire_frames.specs.Streams.{Streaming, Pulled, Splits, lasting}
 use Rattle.node_rounds.specs.declared.listening.Stop.{Stop}
 use Rattle.node_rounds.specs.declared.listening.Stop.TheVariants.{Ended, Wrong, Stranger, Long, Short, Fault}
 use Rattle.node_rounds.specs.declared.listening.Step.{Step}
 use Rattle.node_rounds.specs.declared.listening.Step.TheVariants.{Nothing, Stopped}
 use Rattle.node_rounds.specs.Roles.{Role, heard, allowed}
-use Rattle.node_rounds.specs.Heard.{hear_on, hear_all, stops, is_end}
+use Rattle.node_rounds.specs.HeardPackets.{hear_on, hear_all, stops, is_end}
 use Rattle.node_rounds.specs.Ears.{Ear, new_ear, hear_from, how_of, behind_of, is_short, is_failed, step_at, read_on, broken_by, Steps, Advances, Halts, Listening, Listens, Broken}
 use Rattle.node_rounds.proofs.TalksLemmas.{nothing_given, given_both, given_whole, given_part}
 use Rattle.node_rounds.proofs.Packets.{no_packet, splits_both, splits_one, splits_fed, size_some}
-use Rattle.node_rounds.proofs.HeardLemmas.{with_behind, hears_more, hears_end, hears_stranger, hears_rest, hears_most}
+use Rattle.node_rounds.proofs.HeardPacketsLemmas.{with_behind, hears_more, hears_end, hears_stranger, hears_rest, hears_most}
 
 module _ (most : ℕ) (r : Role) where
   pub begins : (now : Role → Type 0) (t : Told) → now r → Listening most now r new_ear t t

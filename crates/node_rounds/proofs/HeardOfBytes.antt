@@ -7,10 +7,10 @@ use Rattle.party_ledgers.specs.declared.packets.Packet.{Packet}
 use Rattle.wire_frames.specs.declared.fault.FrameFault.{FrameFault}
 use Rattle.wire_frames.specs.declared.fault.FrameFault.TheVariants.{Short, OutOfMemory}
 use Rattle.wire_frames.specs.Frames.{frame, IsFrame}
-use Rattle.wire_frames.specs.Reading.{Begins, HasFault, Reads}
+use Rattle.wire_frames.specs.ReadFrames.{Begins, HasFault, Reads}
 use Rattle.wire_frames.specs.Streams.{Splits, lasting}
 use Rattle.node_rounds.specs.Roles.{Role, heard, allowed}
-use Rattle.node_rounds.specs.Heard.{AtEnd, AtStranger, Came, is_end, stops, how_behind, hear_on, hear_all, IsRest, Gives}
+use Rattle.node_rounds.specs.HeardPackets.{AtEnd, AtStranger, Came, is_end, stops, how_behind, hear_on, hear_all, IsRest, Gives}
 
 front : (bytes left : List ℕ) (x : Packet) (xs : List Packet) → Splits bytes (x ∷ xs) left → bytes ≡ frame x ++ (flat_map frame xs ++ left)
 front bytes left x xs s = s.whole ∙ append_assoc (frame x) (flat_map frame xs) left

@@ -3,7 +3,7 @@ use Rattle.std.proofs.Common.{◌≡◌, ◌≢◌, ℕ, ◌<◌, ◌≤◌, fal
 use Rattle.fuxi_io.specs.declared.outside.Failed.{Failed}
 use Rattle.node_door.specs.Doors.{Told, given, on_last, WhereTold, Reads}
 use Rattle.wire_frames.specs.declared.fault.FrameFault.TheVariants.{Short as ShortFrame}
-use Rattle.wire_frames.specs.Reading.{HasFault}
+use Rattle.wire_frames.specs.ReadFrames.{HasFault}
 use Rattle.node_rounds.specs.declared.listening.Stop.{Stop}
 use Rattle.node_rounds.specs.declared.listening.Stop.TheVariants.{Short, Long, Fault}
 use Rattle.node_rounds.specs.declared.listening.Listened.{Listened}

@@ -1,6 +1,6 @@
 pub mod TalksLemmas
 pub mod Packets
-pub mod HeardLemmas
+pub mod HeardPacketsLemmas
 pub mod EarsLemmas
 pub mod Hears
 pub mod RoundsLemmas

@@ -10,7 +10,7 @@ use Rattle.party_ledgers.specs.declared.packets.Packet.{Packet}
 use Rattle.party_ledgers.specs.Packets.{are_parties, is_place_of}
 use Rattle.wire_frames.specs.declared.fault.FrameFault.TheVariants.{Short, Length, Version, Role as NoRole, Place as NoPlace}
 use Rattle.wire_frames.specs.Frames.{version, frame, IsFrame}
-use Rattle.wire_frames.specs.Reading.{header_fault, HasFault, Begins, length_in, version_in, kind_in, sender_in, receiver_in, place_in, place_fault, parties_fault, kind_fault, fields_fault}
+use Rattle.wire_frames.specs.ReadFrames.{header_fault, HasFault, Begins, length_in, version_in, kind_in, sender_in, receiver_in, place_in, place_fault, parties_fault, kind_fault, fields_fault}
 use Rattle.wire_frames.specs.Streams.{Splits, HasFrame}
 
 pub no_packet : (bytes : List ℕ) → Splits bytes [] bytes

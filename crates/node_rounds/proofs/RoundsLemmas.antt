@@ -12,7 +12,7 @@ use Rattle.node_rounds.specs.declared.listening.Listened.{Listened}
 use Rattle.node_rounds.specs.declared.rounds.RoundLine.{RoundLine}
 use Rattle.node_rounds.specs.declared.rounds.RoundLine.TheVariants.{Done, Fault}
 use Rattle.node_rounds.specs.Roles.{Role, turn, IsTurn}
-use Rattle.node_rounds.specs.Heard.{Hearing, AtEnd, AtOpen, Came, stops, hear_all, IsRest, Gives}
+use Rattle.node_rounds.specs.HeardPackets.{Hearing, AtEnd, AtOpen, Came, stops, hear_all, IsRest, Gives}
 use Rattle.node_rounds.specs.Ears.{how_of, behind_of, is_short, is_failed, is_ended, read_on, broken_by, Listens, Broken}
 use Rattle.node_rounds.specs.Rounds.{line_by, Sending, answer_by, is_fault, is_short_fault, says_short, Takes, TakesOf, Rounds, Breaks}
 use Rattle.node_rounds.proofs.Packets.{no_packet, none_short}

@@ -1,7 +1,7 @@
 -- What reads and faults, one behind another, make of a connection.
 use Rattle.std.proofs.Common.{◌≡◌, ℕ, Bool, true, false, ◌||◌, ◌&&◌, List, [], ◌∷◌, ◌++◌, append_assoc, append-nil, refl, sym, ap, ◌∙◌}
 use Rattle.node_door.specs.Doors.{Told, Talk, given, failing, on_first, on_last}
-use Rattle.node_door.specs.Orders.{order_read, order_failed}
+use Rattle.node_door.specs.DoorOrders.{order_read, order_failed}
 use Rattle.node_door.specs.declared.order.Order.{Order}
 use Rattle.node_rounds.specs.Ears.{order_on, order_broken, read_on, broken_by}
 

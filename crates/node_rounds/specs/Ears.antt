@@ -6,10 +6,10 @@ use Rattle.schedule_unit.specs.declared.party.Party.{Party}
 use Rattle.party_ledgers.specs.declared.packets.Packet.{Packet}
 use Rattle.wire_frames.specs.declared.fault.FrameFault.{FrameFault}
 use Rattle.wire_frames.specs.declared.fault.FrameFault.TheVariants.{Short as ShortFrame, Length, Version, Kind, Role as NoRole, Place, Body, OutOfMemory}
-use Rattle.wire_frames.specs.Reading.{Begins, HasFault}
+use Rattle.wire_frames.specs.ReadFrames.{Begins, HasFault}
 use Rattle.wire_frames.specs.Streams.{Splits}
 use Rattle.node_rounds.specs.Roles.{Role}
-use Rattle.node_rounds.specs.Heard.{Hearing, How, AtEnd, AtWrong, AtStranger, AtMost, AtOpen, Came, stops, hear_on, hear_all, Gives}
+use Rattle.node_rounds.specs.HeardPackets.{Hearing, How, AtEnd, AtWrong, AtStranger, AtMost, AtOpen, Came, stops, hear_on, hear_all, Gives}
 use Rattle.node_rounds.specs.declared.listening.Stop.{Stop}
 use Rattle.node_rounds.specs.declared.listening.Stop.TheVariants.{Ended, Wrong, Stranger, Long, Short, Fault}
 use Rattle.node_rounds.specs.declared.listening.Listened.{Listened}

@@ -1,4 +1,4 @@
 pub mod Roles
-pub mod Heard
+pub mod HeardPackets
 pub mod Ears
 pub mod Rounds

@@ -8,7 +8,7 @@ use Rattle.wire_frames.specs.declared.fault.FrameFault.TheVariants.{Short, Lengt
 use Rattle.node_rounds.specs.declared.rounds.RoundLine.{RoundLine}
 use Rattle.node_rounds.specs.declared.rounds.RoundLine.TheVariants.{Done, Fault, Bad, Stranger, Long}
 use Rattle.node_rounds.specs.Roles.{Role, turn, IsTurn}
-use Rattle.node_rounds.specs.Heard.{Hearing, How, AtEnd, AtWrong, AtStranger, AtMost, AtOpen, Came, hear_all, Gives}
+use Rattle.node_rounds.specs.HeardPackets.{Hearing, How, AtEnd, AtWrong, AtStranger, AtMost, AtOpen, Came, hear_all, Gives}
 
 -- The line of a round in which so many packets were sent and so many heard. Where it is marked, the door failed in it. A bad frame, a
 -- stranger and too many packets decide first.

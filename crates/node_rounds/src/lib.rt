@@ -3,7 +3,7 @@
 
 ghost use Rattle.std.specs.Prelude.{◌≡◌, ℕ, List};
 ghost use Rattle.node_rounds.specs.Roles.{Role};
-ghost use Rattle.node_rounds.specs.Heard.{Came, Gives, hear_all};
+ghost use Rattle.node_rounds.specs.HeardPackets.{Came, Gives, hear_all};
 
 mod listening;
 mod party;

@@ -2,9 +2,9 @@ ghost use Rattle.std.specs.Prelude.{◌≡◌, ◌≢◌, ◌+◌, ◌-◌, ◌<
 ghost use Rattle.fuxi_io.specs.Causes.{Rose};
 ghost use Rattle.fuxi_terms.specs.Limits.{most_steps};
 ghost use Rattle.node_door.specs.Doors.{WhereTold};
-ghost use Rattle.wire_frames.specs.Reading.{HasFault};
+ghost use Rattle.wire_frames.specs.ReadFrames.{HasFault};
 ghost use Rattle.node_rounds.specs.Roles.{Role, may_send, Keeps};
-ghost use Rattle.node_rounds.specs.Heard.{is_end};
+ghost use Rattle.node_rounds.specs.HeardPackets.{is_end};
 ghost use Rattle.node_rounds.specs.Ears.{Steps, Listens, Broken, new_ear, is_ended, step_at};
 
 use crate::party::Core;

@@ -7,10 +7,10 @@ use Rattle.fuxi_terms.proofs.Lists.{all_at}
 use Rattle.party_ledgers.specs.declared.packets.Packet.{Packet}
 use Rattle.wire_frames.specs.Frames.{frame, IsFrame}
 use Rattle.wire_frames.specs.Streams.{HasFrame}
-use Rattle.wire_frames.specs.Reading.{Begins, Reads, HasFault}
+use Rattle.wire_frames.specs.ReadFrames.{Begins, Reads, HasFault}
 use Rattle.wire_frames.specs.declared.fault.FrameFault.{FrameFault}
 use Rattle.wire_frames.specs.declared.fault.FrameFault.TheVariants.{Short, Length, Version, Kind, Role, Place, Body, OutOfMemory}
-use Rattle.packet_pool.specs.Pools.{Stored, Keeps, IsReadAs}
+use Rattle.packet_pool.specs.PacketPools.{Stored, Keeps, IsReadAs}
 
 abbrev Reading : Type 0
 Reading = Result (Packet × ℕ) FrameFault

@@ -3,9 +3,9 @@
 ghost use Rattle.std.specs.Prelude.{◌≡◌, ℕ, List, Result, Some, slice_get, length};
 ghost use Rattle.party_ledgers.specs.declared.packets.Packet.{Packet};
 ghost use Rattle.wire_frames.specs.Frames.{IsFrame};
-ghost use Rattle.wire_frames.specs.Reading.{Reads};
+ghost use Rattle.wire_frames.specs.ReadFrames.{Reads};
 ghost use Rattle.wire_frames.specs.declared.fault.FrameFault.{FrameFault};
-ghost use Rattle.packet_pool.specs.Pools.{Stored, Keeps, IsReadAs};
+ghost use Rattle.packet_pool.specs.PacketPools.{Stored, Keeps, IsReadAs};
 
 use wire_frames::one_reading;
 

@@ -6,7 +6,7 @@ ghost use Rattle.fuxi_terms.specs.Limits.{most_packets, most_packet_bytes};
 ghost use Rattle.party_ledgers.specs.Packets.{IsFormed};
 ghost use Rattle.wire_frames.specs.Frames.{frame};
 ghost use Rattle.wire_frames.specs.Streams.{HasFrame};
-ghost use Rattle.packet_pool.specs.Pools.{bytes_of, no_frames, with_frames, limit_of, Refuses, IsSized};
+ghost use Rattle.packet_pool.specs.PacketPools.{bytes_of, no_frames, with_frames, limit_of, Refuses, IsSized};
 
 use crate::fault::PoolFault;
 use bytes::Bytes;
@@ -30,7 +30,7 @@ pub struct PacketPool {
 }
 
 impl Model for PacketPool {
-    ghost use Rattle.packet_pool.specs.Pools.{Stored, IsPool};
+    ghost use Rattle.packet_pool.specs.PacketPools.{Stored, IsPool};
 
     ghost Value = { Stored };
 

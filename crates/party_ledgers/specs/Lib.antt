@@ -1,8 +1,8 @@
-pub mod Shapes
+pub mod PartyShapes
 pub mod RowForms
 pub mod RowOneForm
 pub mod Entries
 pub mod Joins
-pub mod Differing
+pub mod PartyDifferences
 pub mod Packets
 pub mod Weighing

@@ -54,7 +54,7 @@ impl Ledger for JoinLedger {
 
     ghost use Rattle.party_ledgers.specs.Joins.{no_join, IsJoin, join_form, join_form_one};
     ghost use Rattle.ledger_law.specs.Differing.{AlwaysReaches};
-    ghost use Rattle.party_ledgers.specs.Differing.{replaced, IsReplacement, replacement, by_replacement};
+    ghost use Rattle.party_ledgers.specs.PartyDifferences.{replaced, IsReplacement, replacement, by_replacement};
 
     ghost nothing = { no_join };
 

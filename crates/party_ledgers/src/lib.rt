@@ -11,7 +11,7 @@ ghost use Rattle.fuxi_terms.specs.TallyKeys.{greatest_grant, greatest_demand, cr
 ghost use Rattle.ledger_law.specs.Shapes.{IsTally};
 ghost use Rattle.ledger_law.specs.Differing.{ByDifference, AlwaysReaches, IsTallyChange};
 ghost use Rattle.party_ledgers.specs.Joins.{IsJoin};
-ghost use Rattle.party_ledgers.specs.Differing.{AreFewTogether, IsReplacement, replaced, replacement};
+ghost use Rattle.party_ledgers.specs.PartyDifferences.{AreFewTogether, IsReplacement, replaced, replacement};
 
 mod join;
 mod packets;

@@ -271,7 +271,7 @@ impl Ledger for RowLedger {
     ghost use Rattle.fuxi_terms.specs.Rows.{IsRow, IsRowChange, patched_row};
     ghost use Rattle.party_ledgers.specs.RowForms.{row_form, row_change_form};
     ghost use Rattle.party_ledgers.specs.RowOneForm.{row_form_one, row_change_form_one};
-    ghost use Rattle.party_ledgers.specs.Differing.{row_difference, AreRowDifferences, AreFewTogether, row_by_difference};
+    ghost use Rattle.party_ledgers.specs.PartyDifferences.{row_difference, AreRowDifferences, AreFewTogether, row_by_difference};
 
     ghost nothing = { [] };
 

@@ -20,7 +20,7 @@ pub struct GrantShape;
 
 impl Shape for GrantShape {
     ghost use Rattle.fuxi_terms.specs.TallyKeys.{greatest_grant, credited_what};
-    ghost use Rattle.party_ledgers.specs.Shapes.{grant_bounded, grant_writable};
+    ghost use Rattle.party_ledgers.specs.PartyShapes.{grant_bounded, grant_writable};
 
     ghost DROPPED = { credited_what };
 
@@ -51,7 +51,7 @@ pub struct DemandShape;
 
 impl Shape for DemandShape {
     ghost use Rattle.fuxi_terms.specs.TallyKeys.{greatest_demand, back_what};
-    ghost use Rattle.party_ledgers.specs.Shapes.{demand_bounded, demand_writable};
+    ghost use Rattle.party_ledgers.specs.PartyShapes.{demand_bounded, demand_writable};
 
     ghost DROPPED = { back_what };
 

@@ -5,7 +5,7 @@ use Rattle.written_net.specs.Net.{Packet}
 use Rattle.written_net.specs.Ledgers.{Body}
 use Rattle.written_roles.specs.Apps.{AppRole, held_by}
 use Rattle.written_world.specs.Outputs.{Line}
-use Rattle.schedule_text.specs.Lines.{line_text}
+use Rattle.schedule_text.specs.PrintedLines.{line_text}
 use Rattle.written_join.specs.States.{hold_line}
 
 -- The text of these lines was appended, whatever the bytes of frames are, since no line is of a frame

@@ -4,7 +4,7 @@ ghost use Rattle.std.specs.Prelude.{◌≡◌, ◌<◌, ℕ, [], ◌∷◌, leng
 ghost use Rattle.fuxi_terms.specs.Keys.{RowKey};
 ghost use Rattle.written_roles.specs.Agents.{AgentRole};
 ghost use Rattle.schedule_text.specs.Writing.{Begins};
-ghost use Rattle.agent_core.specs.Standing.{StandsFor};
+ghost use Rattle.agent_core.specs.AgentCores.{StandsFor};
 ghost use Rattle.written_join.specs.States.{row_line, agent_lines};
 ghost use Rattle.party_text.specs.Texts.{Shows};
 

@@ -5,7 +5,7 @@ ghost use Rattle.std.specs.List.{flat_map};
 ghost use Rattle.fuxi_terms.specs.Lists.{below};
 ghost use Rattle.written_roles.specs.Apps.{AppRole};
 ghost use Rattle.schedule_text.specs.Writing.{Begins};
-ghost use Rattle.app_master.specs.Apps.{StandsFor};
+ghost use Rattle.app_master.specs.AppCores.{StandsFor};
 ghost use Rattle.written_join.specs.States.{unit_lines, app_lines};
 ghost use Rattle.party_text.specs.Texts.{Shows, held_lines};
 

@@ -1,1 +1,1 @@
-pub mod AppsLemmas
+pub mod AppPartiesLemmas

@@ -1,3 +1,3 @@
-pub mod Agents
-pub mod Apps
-pub mod Told
+pub mod AgentParties
+pub mod AppParties
+pub mod ToldApps

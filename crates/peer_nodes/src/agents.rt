@@ -6,8 +6,8 @@ ghost use Rattle.written_net.specs.Net.{same_id};
 ghost use Rattle.written_net.specs.Channels.{agent_id, is_master};
 ghost use Rattle.written_roles.specs.Agents.{new_agent};
 ghost use Rattle.node_rounds.specs.Roles.{OfAgent, id_in};
-ghost use Rattle.node_party.specs.Commands.{agent_named};
-ghost use Rattle.peer_nodes.specs.Agents.{StandsAs, number_of};
+ghost use Rattle.node_party.specs.PartyEvents.{agent_named};
+ghost use Rattle.peer_nodes.specs.AgentParties.{StandsAs, number_of};
 
 use agent_core::Agent;
 use fuxi_io::Disk;
@@ -31,7 +31,7 @@ pub struct AgentNode {
 
 impl Model for AgentNode {
     ghost use Rattle.std.specs.Prelude.{◌≡◌};
-    ghost use Rattle.agent_core.specs.Standing.{AgentCore};
+    ghost use Rattle.agent_core.specs.AgentCores.{AgentCore};
 
     ghost Value = { AgentCore };
 
@@ -80,7 +80,7 @@ fn agent_named(event: &Event) -> Option<MachineNo>
 }
 
 impl Core for AgentNode {
-    ghost use Rattle.peer_nodes.specs.Agents.{StandsAs};
+    ghost use Rattle.peer_nodes.specs.AgentParties.{StandsAs};
     ghost use Rattle.std.specs.Prelude.{⊤};
 
     ghost stands = { StandsAs };

@@ -6,7 +6,7 @@ ghost use Rattle.written_net.specs.Net.{same_id};
 ghost use Rattle.written_net.specs.Channels.{app_id, is_master};
 ghost use Rattle.written_roles.specs.Apps.{new_app};
 ghost use Rattle.node_rounds.specs.Roles.{OfApp, id_in};
-ghost use Rattle.peer_nodes.specs.Apps.{StandsAs};
+ghost use Rattle.peer_nodes.specs.AppParties.{StandsAs};
 
 use crate::told::{app_named, tell};
 use app_master::AppMaster;
@@ -30,8 +30,8 @@ pub struct AppNode {
 }
 
 impl Model for AppNode {
-    ghost use Rattle.app_master.specs.Apps.{AppCore};
-    ghost use Rattle.peer_nodes.specs.Apps.{IsOfJob};
+    ghost use Rattle.app_master.specs.AppCores.{AppCore};
+    ghost use Rattle.peer_nodes.specs.AppParties.{IsOfJob};
 
     ghost Value = { AppCore };
 
@@ -75,7 +75,7 @@ fn is_for(packet: &Packet, job: AppNo) -> bool
 }
 
 impl Core for AppNode {
-    ghost use Rattle.peer_nodes.specs.Apps.{StandsAs};
+    ghost use Rattle.peer_nodes.specs.AppParties.{StandsAs};
     ghost use Rattle.std.specs.Prelude.{⊤};
 
     ghost stands = { StandsAs };

@@ -3,12 +3,12 @@
 ghost use Rattle.std.specs.Prelude.{◌≡◌, ◌+◌, ◌<◌, ◌≤◌, IfOk, OnOk, OnErr};
 ghost use Rattle.fuxi_terms.specs.Limits.{most_steps};
 ghost use Rattle.written_roles.specs.Apps.{AppRole};
-ghost use Rattle.app_master.specs.Apps.{StandsFor};
-ghost use Rattle.app_master.specs.Commands.{Commands};
-ghost use Rattle.node_party.specs.Commands.{IsCommanded, app_named, app_does};
-ghost use Rattle.node_party.specs.Texts.{as_answer};
-ghost use Rattle.peer_nodes.specs.Apps.{StandsAs};
-ghost use Rattle.peer_nodes.specs.Told.{command_of, told_of, named_of, refusal_of};
+ghost use Rattle.app_master.specs.AppCores.{StandsFor};
+ghost use Rattle.app_master.specs.AppCommands.{Commands};
+ghost use Rattle.node_party.specs.PartyEvents.{IsCommanded, app_named, app_does};
+ghost use Rattle.node_party.specs.NodeTexts.{as_answer};
+ghost use Rattle.peer_nodes.specs.AppParties.{StandsAs};
+ghost use Rattle.peer_nodes.specs.ToldApps.{command_of, told_of, named_of, refusal_of};
 
 use app_master::{AppFault, AppMaster};
 use fuxi_terms::OutOfMemory;

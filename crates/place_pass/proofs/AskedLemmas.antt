@@ -7,7 +7,7 @@ use Rattle.fuxi_terms.specs.declared.Key.{Key}
 use Rattle.fuxi_terms.proofs.Booleans.{number_is}
 use Rattle.place_pass.specs.Cells.{Cell, no_cell, cell_at, asks_at, asks_in, taken_all}
 use Rattle.place_pass.proofs.CellsLemmas.{length-taken_all}
-use Rattle.place_pass.proofs.Places.{one_set}
+use Rattle.fuxi_terms.proofs.IndexedLists.{one_set}
 
 module _ (c : ClusterRecord) (es : List (Key × ℕ)) (cells : List (List Cell)) (a : ℕ) (lt : a < length cells) where
   abbrev now : List (List Cell)

@@ -15,7 +15,8 @@ use Rattle.fuxi_terms.specs.Vectors.{fits}
 use Rattle.fuxi_terms.proofs.VectorLaws.{fits-trans, fits_places}
 use Rattle.fuxi_terms.proofs.ByPlace.{at_place-get_or}
 use Rattle.fuxi_terms.proofs.KeyOrders.{key_total, same_key}
-use Rattle.place_pass.proofs.Places.{counted_long, one_set, slot_within}
+use Rattle.place_pass.proofs.Places.{counted_long}
+use Rattle.fuxi_terms.proofs.IndexedLists.{one_set, slot_within}
 
 -- a number that is asked for is small
 pub asked_small : (es : List (Key × ℕ)) (what unit number : ℕ) → what < 5 → AreCounts key_cmp greatest_demand es → count key_cmp es (key what unit number) ≤ 100000

@@ -13,7 +13,7 @@ use Rattle.place_pass.specs.declared.wishes.Wish.{Wish}
 use Rattle.cluster_desc.specs.declared.cluster.Machine.{Machine}
 use Rattle.cluster_desc.specs.Records.{machine_of as padded_machine}
 use Rattle.fuxi_terms.specs.Jobs.{KnownJob, job_of, units_of, unit_of, unit_count, group_of, most_of, no_unit}
-use Rattle.grant_table.specs.Tables.{TableRecord, as_known, AreJobs}
+use Rattle.grant_table.specs.GrantTables.{TableRecord, as_known, AreJobs}
 use Rattle.place_pass.specs.Cells.{Cell, cell_of, cell_at, no_cell, job_in, job_at, AreWishes, IsWish}
 use Rattle.place_pass.specs.Placers.{AreLevel}
 use Rattle.fuxi_terms.proofs.Booleans.{both_true, number_is}

@@ -13,17 +13,17 @@ use Rattle.fuxi_terms.specs.Tables.{spot}
 use Rattle.fuxi_terms.proofs.Alls.{all_append}
 use Rattle.fuxi_terms.proofs.Booleans.{both_true, and_true}
 use Rattle.fuxi_terms.proofs.Lists.{all_at}
-use Rattle.fuxi_terms.proofs.Members.{In, in_below}
+use Rattle.fuxi_terms.proofs.Members.{In, in_below, in_left, in_right}
 use Rattle.written_roles.specs.Masters.{level_of}
 use Rattle.written_roles.specs.Placing.{Board, Ranked, ranked_in, places_in, candidates_in, may_grow_in, accepts_in, has_room_in, placeable_in, first_of, first_in, has_pair}
 use Rattle.place_pass.specs.Bounds.{comes_before, Rises, IsRising, rank_on}
 use Rattle.place_pass.specs.Best.{spot_of}
 use Rattle.place_pass.specs.declared.search.Found.{Found}
 use Rattle.place_pass.specs.Sights.{rank_with, IsFound, IsLeast}
-use Rattle.place_pass.specs.Lines.{same_pair}
+use Rattle.place_pass.specs.WaitingLines.{same_pair}
 use Rattle.place_pass.proofs.BoundsLemmas.{is_less}
 use Rattle.place_pass.proofs.FirstOfLine.{first_is}
-use Rattle.place_pass.proofs.LinesLemmas.{pair_self}
+use Rattle.place_pass.proofs.WaitingLinesLemmas.{pair_self}
 use Rattle.place_pass.proofs.FirstIsGrantable.{all_below}
 
 -- ---- one place of a rank after another
@@ -109,16 +109,6 @@ place_same f xs i j p q h e g same = elim (cases_lt i j) [
     | inr le ↦ omega (arith, ge, le)
   ]
 ]
-
--- ---- candidates by their places
-in_left : {A : Type 0} (x : A) (xs ys : List A) → In x xs → In x (xs ++ ys)
-in_left x [] ys i = absurd i
-in_left x (z ∷ xs) ys (inl e) = inl e
-in_left x (z ∷ xs) ys (inr i) = inr (in_left x xs ys i)
-
-in_right : {A : Type 0} (x : A) (xs ys : List A) → In x ys → In x (xs ++ ys)
-in_right x [] ys i = i
-in_right x (z ∷ xs) ys i = inr (in_right x xs ys i)
 
 in_mapped : (f : ℕ → Ranked) (q : ℕ → Bool) (m : ℕ) (ns : List ℕ) → q m ≡ true → In m ns → In (f m) (map f (filter q ns))
 in_mapped f q m [] t i = absurd i

@@ -20,13 +20,13 @@ use Rattle.fuxi_terms.proofs.Members.{each_place}
 use Rattle.fuxi_terms.proofs.Sums.{sum_set}
 use Rattle.written_roles.specs.Masters.{out_of}
 use Rattle.written_roles.specs.Placing.{Board, Ranked, ranked_in, places_in, candidates_in, may_grow_in, accepts_in, has_room_in, least, first_of, first_in}
-use Rattle.grant_table.specs.Tables.{TableRecord, IsSound, as_known}
+use Rattle.grant_table.specs.GrantTables.{TableRecord, IsSound, as_known}
 use Rattle.grant_table.specs.declared.asking.Pick.{Pick}
 use Rattle.place_pass.specs.Cells.{Cell, cell_at, asks_in, job_at, AreWishes}
 use Rattle.place_pass.specs.Placers.{AreLevel, IsGrantable, board_over}
 use Rattle.place_pass.specs.Best.{AreAdmitted, spot_of}
 use Rattle.place_pass.proofs.CellsMatchTable.{count_is, unit_is}
-use Rattle.place_pass.proofs.LinesLemmas.{filter_append}
+use Rattle.place_pass.proofs.WaitingLinesLemmas.{filter_append}
 use Rattle.place_pass.proofs.Rooms.{narrow_past}
 
 -- ---- of many the first has what all have

@@ -7,9 +7,9 @@ use Rattle.fuxi_terms.specs.Limits.{most_jobs, most_units}
 use Rattle.fuxi_terms.proofs.Alls.{all_append, all_filter}
 use Rattle.fuxi_terms.proofs.Booleans.{both_true, number_is, same_tests, and_true, nat_itself}
 use Rattle.written_roles.specs.Placing.{has_pair}
-use Rattle.place_pass.specs.Lines.{same_pair, IsLine}
-use Rattle.place_pass.proofs.LinesLemmas.{any_append, either_one, has_filter, neither, or_none, pair_is, pair_self, pair_turned}
-use Rattle.place_pass.proofs.Places.{one_set}
+use Rattle.place_pass.specs.WaitingLines.{same_pair, IsLine}
+use Rattle.place_pass.proofs.WaitingLinesLemmas.{any_append, either_one, has_filter, neither, or_none, pair_is, pair_self, pair_turned}
+use Rattle.fuxi_terms.proofs.IndexedLists.{one_set}
 
 -- no pair waits of a unit that there may not be
 pub outside : (pairs : List (ℕ × ℕ)) (waits : List Bool) → IsLine pairs waits → (a u : ℕ) → ((a < most_jobs) × (u < most_units) → ⊥) → false ≡ has_pair (a, u) pairs

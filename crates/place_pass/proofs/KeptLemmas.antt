@@ -16,17 +16,17 @@ use Rattle.fuxi_terms.proofs.Alls.{all_append, all_filter, all_more}
 use Rattle.fuxi_terms.proofs.Booleans.{both_true, and_true, number_is, nat_itself}
 use Rattle.fuxi_terms.proofs.Sums.{sum_set}
 use Rattle.written_roles.specs.Placing.{has_pair}
-use Rattle.grant_table.specs.Tables.{TableRecord, as_known}
+use Rattle.grant_table.specs.GrantTables.{TableRecord, as_known}
 use Rattle.place_pass.specs.Bounds.{MarkRecord, mark_at, turn_at, Rises, Numbered, IsBounded, after_taking, is_nearer_in, key_of, no_groups, reset_mark, lowered_mark}
 use Rattle.place_pass.specs.Cells.{Cell, AvoidsStill}
-use Rattle.place_pass.specs.Lines.{same_pair}
+use Rattle.place_pass.specs.WaitingLines.{same_pair}
 use Rattle.place_pass.specs.Placers.{KeptRecord, IsKept, IsSetFrom, board_over, is_open_to}
 use Rattle.place_pass.specs.Sights.{IsAsked, IsForgotten}
 use Rattle.place_pass.proofs.BoundsLemmas.{accepts_less, allowed_bounds, bounded_later, lowered_later, reset_bounds}
-use Rattle.place_pass.proofs.LinesLemmas.{pair_self, any_append, either_one, has_filter}
+use Rattle.place_pass.proofs.WaitingLinesLemmas.{pair_self, any_append, either_one, has_filter}
 use Rattle.place_pass.proofs.FirstByTurn.{rising, rising_all}
-use Rattle.place_pass.proofs.Places.{one_set}
 use Rattle.place_pass.proofs.BoundsAfterChange.{granted_later, taken_bounds}
+use Rattle.fuxi_terms.proofs.IndexedLists.{one_set}
 
 -- ---- turns along a line
 pub rises_filter : (f : ℕ × ℕ → ℕ) (q : ℕ × ℕ → Bool) (xs : List (ℕ × ℕ)) → Rises f xs → Rises f (filter q xs)

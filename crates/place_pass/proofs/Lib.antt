@@ -3,7 +3,7 @@ pub mod CellsLemmas
 pub mod ValidJobs
 pub mod CellsMatchTable
 pub mod Rooms
-pub mod LinesLemmas
+pub mod WaitingLinesLemmas
 pub mod PlacersLemmas
 pub mod FirstIsGrantable
 pub mod Turns
@@ -13,16 +13,16 @@ mod BoundsAfterChange
 mod NumberedLemmas
 mod FlagsTellWhoWaits
 mod SightsLemmas
-mod CountsLemmas
+mod SearchCountsLemmas
 mod KeptLemmas
 mod FirstOfLine
 mod FirstByTurn
-mod TreesLemmas
+mod PlacerTreesLemmas
 mod StandsAfterChange
 mod LinedLemmas
 mod StillLemmas
 mod AskedLemmas
 mod PathLemmas
-mod WalksLemmas
+mod DemandWalksLemmas
 mod PlainLemmas
 mod ScenesLemmas

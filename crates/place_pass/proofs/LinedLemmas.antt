@@ -9,19 +9,19 @@ use Rattle.fuxi_terms.proofs.Alls.{all_filter}
 use Rattle.fuxi_terms.proofs.Booleans.{both_true}
 use Rattle.fuxi_terms.proofs.Lists.{all_at}
 use Rattle.written_roles.specs.Placing.{has_pair}
-use Rattle.grant_table.specs.Tables.{TableRecord}
+use Rattle.grant_table.specs.GrantTables.{TableRecord}
 use Rattle.locality_tree.specs.Trees.{TreeRecord, unit_at, is_admitted}
 use Rattle.place_pass.specs.Best.{AreAdmitted}
 use Rattle.place_pass.specs.Bounds.{turn_at, Rises}
 use Rattle.place_pass.specs.Cells.{Cell, AreWishes}
 use Rattle.place_pass.specs.Placers.{KeptRecord, IsKept}
-use Rattle.place_pass.specs.Trees.{Holds, HoldsLine, AllStand}
+use Rattle.place_pass.specs.PlacerTrees.{Holds, HoldsLine, AllStand}
 use Rattle.place_pass.proofs.CellsLemmas.{placed}
 use Rattle.place_pass.proofs.FirstByTurn.{has_at}
 use Rattle.place_pass.proofs.KeptLemmas.{kept_lined, rises_filter}
-use Rattle.place_pass.proofs.LinesLemmas.{has_filter}
+use Rattle.place_pass.proofs.WaitingLinesLemmas.{has_filter}
 use Rattle.place_pass.proofs.NumberedLemmas.{numbered_end, has_end}
-use Rattle.place_pass.proofs.TreesLemmas.{admitted_in, holds_same, stands_on}
+use Rattle.place_pass.proofs.PlacerTreesLemmas.{admitted_in, holds_same, stands_on}
 use Rattle.place_pass.proofs.StandsAfterChange.{holds_turned}
 use Rattle.place_pass.proofs.StillLemmas.{joined_is, others_stay}
 

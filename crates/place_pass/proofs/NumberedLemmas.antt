@@ -14,9 +14,9 @@ use Rattle.written_roles.specs.Masters.{out_of}
 use Rattle.place_pass.specs.Best.{AreAdmitted}
 use Rattle.place_pass.specs.Bounds.{Numbered}
 use Rattle.place_pass.specs.Cells.{Cell}
-use Rattle.place_pass.proofs.LinesLemmas.{has_filter, has_flat, pair_self}
-use Rattle.place_pass.proofs.Places.{slot_within}
-use Rattle.place_pass.specs.Lines.{same_pair}
+use Rattle.place_pass.proofs.WaitingLinesLemmas.{has_filter, has_flat, pair_self}
+use Rattle.place_pass.specs.WaitingLines.{same_pair}
+use Rattle.fuxi_terms.proofs.IndexedLists.{slot_within}
 
 pub two_places : (xs : List (ℕ × ℕ)) (i j : ℕ) (p q : ℕ × ℕ) → IsDistinct same_pair xs → i < j → slice_get xs i ≡ Some p → slice_get xs j ≡ Some q → same_pair p q ≡ false
 unfolding IsDistinct

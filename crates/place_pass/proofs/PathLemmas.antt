@@ -17,7 +17,7 @@ use Rattle.fuxi_terms.proofs.Lists.{all_at}
 use Rattle.fuxi_terms.proofs.Members.{In}
 use Rattle.written_roles.specs.Masters.{level_of}
 use Rattle.written_roles.specs.Placing.{Board, has_pair}
-use Rattle.grant_table.specs.Tables.{TableRecord, IsSound, as_known, AreJobs}
+use Rattle.grant_table.specs.GrantTables.{TableRecord, IsSound, as_known, AreJobs}
 use Rattle.wait_queue.specs.declared.node.Entry.{Entry}
 use Rattle.locality_tree.specs.declared.path.Path.{Path}
 use Rattle.locality_tree.specs.Trees.{TreeRecord, Pair, unit_at, level_at, racks_of, ranks_before, IsRanked, HasPath}
@@ -26,14 +26,14 @@ use Rattle.place_pass.specs.Bounds.{comes_before, is_bound, rank_at, IsBounded}
 use Rattle.place_pass.specs.Best.{AreAdmitted}
 use Rattle.place_pass.specs.Cells.{Cell, cell_at, asks_in, job_at}
 use Rattle.place_pass.specs.Placers.{AreLevel, board_over}
-use Rattle.place_pass.specs.Lines.{same_pair}
+use Rattle.place_pass.specs.WaitingLines.{same_pair}
 use Rattle.place_pass.specs.Sights.{turn_in}
-use Rattle.place_pass.specs.Trees.{StandsAs, TreeOf, entry_for}
+use Rattle.place_pass.specs.PlacerTrees.{StandsAs, TreeOf, entry_for}
 use Rattle.place_pass.proofs.FirstByTurn.{less_first, less_rest}
-use Rattle.place_pass.proofs.LinesLemmas.{either_one, pair_is, pair_self, pair_turned}
+use Rattle.place_pass.proofs.WaitingLinesLemmas.{either_one, pair_is, pair_self, pair_turned}
 use Rattle.place_pass.proofs.CellsMatchTable.{rack_small, unit_is}
 use Rattle.place_pass.proofs.SightsLemmas.{bounded_by, bounded_wider, less_is, order, place_of, self_bound}
-use Rattle.place_pass.proofs.TreesLemmas.{IsOfLine, some_same, waiting_is}
+use Rattle.place_pass.proofs.PlacerTreesLemmas.{IsOfLine, some_same, waiting_is}
 
 -- ---- ranks
 not_after : (r s : List ℕ) → comes_before r s ≡ true → not (comes_before s r) ≡ true

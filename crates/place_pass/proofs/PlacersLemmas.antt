@@ -24,15 +24,16 @@ use Rattle.fuxi_terms.proofs.KeyOrders.{key_total, same_key}
 use Rattle.fuxi_terms.proofs.Sums.{sum_set}
 use Rattle.written_roles.specs.Masters.{out_of}
 use Rattle.written_roles.specs.Placing.{has_pair, lined, waiting_in}
-use Rattle.grant_table.specs.Tables.{TableRecord, as_known, with_admitted}
+use Rattle.grant_table.specs.GrantTables.{TableRecord, as_known, with_admitted}
 use Rattle.place_pass.specs.Cells.{Cell, no_cell, asks_at, asks_in, job_in, job_at, fresh_cell, fresh_cells, taken, taken_all, AreWishes}
 use Rattle.place_pass.specs.Best.{AreAdmitted}
-use Rattle.place_pass.specs.Lines.{same_pair, units_in_all}
+use Rattle.place_pass.specs.WaitingLines.{same_pair, units_in_all}
 use Rattle.place_pass.specs.Placers.{AreLevel, is_there, IsSetFrom}
-use Rattle.place_pass.proofs.Places.{one_set, zeros, counted_at, counted_past}
+use Rattle.place_pass.proofs.Places.{zeros, counted_at, counted_past}
 use Rattle.place_pass.proofs.CellsLemmas.{length-taken_all, get_or-taken_all}
 use Rattle.place_pass.proofs.CellsMatchTable.{count_is}
-use Rattle.place_pass.proofs.LinesLemmas.{any_append, has_filter, has_flat, known_number, filter_same}
+use Rattle.place_pass.proofs.WaitingLinesLemmas.{any_append, has_filter, has_flat, known_number, filter_same}
+use Rattle.fuxi_terms.proofs.IndexedLists.{one_set}
 
 -- ---- how many units there are
 pub units_small : (c : ClusterRecord) (cells : List (List Cell)) (o : List Bool) → AreWishes c cells o → units_in_all cells ≤ 2048

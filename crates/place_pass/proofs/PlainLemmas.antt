@@ -18,10 +18,10 @@ use Rattle.fuxi_terms.specs.declared.Key.{Key}
 use Rattle.fuxi_terms.proofs.Booleans.{both_false}
 use Rattle.locality_tree.specs.Trees.{TreeRecord}
 use Rattle.place_pass.specs.Cells.{Cell, cell_at}
-use Rattle.place_pass.specs.Trees.{StandsAs, StandsNowhere}
-use Rattle.place_pass.specs.Walks.{IsPast}
+use Rattle.place_pass.specs.PlacerTrees.{StandsAs, StandsNowhere}
+use Rattle.place_pass.specs.DemandWalks.{IsPast}
 use Rattle.place_pass.proofs.BoundsLemmas.{is_less}
-use Rattle.place_pass.proofs.WalksLemmas.{found_later, itself, later_past, stands_nowhere}
+use Rattle.place_pass.proofs.DemandWalksLemmas.{found_later, itself, later_past, stands_nowhere}
 
 pub all_zero : (xs : List ℕ) (n : ℕ) → list_any (λ x. nat_lt 0 x) xs ≡ false → get_or xs n 0 ≡ 0
 all_zero [] n e = refl

@@ -2,7 +2,7 @@
 use Rattle.std.proofs.Common.{◌≡◌, ℕ, ◌-◌, ◌*◌, ◌+◌, ◌<◌, ◌≤◌, Bool, true, false, nat_eq, nat_lt, List, [], ◌∷◌, Option, None, Some, length, get_or, refl, sym, ◌∙◌, ap, subst, arith}
 use Rattle.std.proofs.lemmas.Bool.Decides.{nat_tests}
 use Rattle.fuxi_terms.proofs.Booleans.{number_is}
-use Rattle.grant_table.specs.Tables.{IsSound}
+use Rattle.grant_table.specs.GrantTables.{IsSound}
 use Rattle.written_roles.specs.Masters.{out_of}
 use Rattle.written_roles.specs.Placing.{has_pair}
 use Rattle.wait_queue.specs.declared.node.Entry.{Entry}
@@ -13,12 +13,12 @@ use Rattle.place_pass.specs.Bounds.{MarkRecord, mark_at, key_of, rank_at, IsBoun
 use Rattle.place_pass.specs.Cells.{asks_in}
 use Rattle.place_pass.specs.Scenes.{board_in, CanSearch, IsBestOn, IsMarked, AreMarked}
 use Rattle.place_pass.specs.Sights.{sight_rank, turn_in}
-use Rattle.place_pass.specs.Trees.{entry_for}
+use Rattle.place_pass.specs.PlacerTrees.{entry_for}
 use Rattle.place_pass.specs.declared.search.Scene.{Scene}
 use Rattle.place_pass.specs.declared.search.Sight.{Sight}
 use Rattle.place_pass.proofs.PathLemmas.{Walk, IsHead, rank_in_path, head_of, none_left, walk_over, walk_on, head_waits, head_level, head_least, admitted_at, path_ranks, path_lows}
 use Rattle.place_pass.proofs.SightsLemmas.{key_bounds}
-use Rattle.place_pass.proofs.TreesLemmas.{IsOfLine}
+use Rattle.place_pass.proofs.PlacerTreesLemmas.{IsOfLine}
 
 abbrev pub WalkOn : Scene → ℕ → List Bool → Path → ℕ → Type 0
 WalkOn s m groups p left = Walk s.wishes.now.cluster s.wishes.now.cells s.line.now.pairs s.turn_of.now s.table.now.entries s.tree.now m (board_in s) groups p left

@@ -14,20 +14,20 @@ use Rattle.fuxi_terms.specs.Keys.{Spot}
 use Rattle.fuxi_terms.specs.Tables.{held_on}
 use Rattle.fuxi_terms.specs.TallyKeys.{avoid_key}
 use Rattle.fuxi_terms.proofs.Booleans.{both_true, and_true, nat_itself}
-use Rattle.grant_table.specs.Tables.{TableRecord, as_known}
+use Rattle.grant_table.specs.GrantTables.{TableRecord, as_known}
 use Rattle.written_roles.specs.Masters.{level_of}
 use Rattle.written_roles.specs.Placing.{Board, has_pair, accepts_in, has_room_in, is_allowed_in, may_grow_in, placeable_in}
 use Rattle.place_pass.specs.declared.marks.Mark.{Mark}
 use Rattle.place_pass.specs.declared.search.Found.{Found}
 use Rattle.place_pass.specs.Bounds.{MarkRecord, mark_of, mark_at, no_mark, rank_of, key_of, zero_rank, rank_at, rank_on, comes_before, is_bound, IsBounded}
 use Rattle.place_pass.specs.Cells.{Cell, asks_in}
-use Rattle.place_pass.specs.Counts.{is_unsettled_by}
-use Rattle.place_pass.specs.Lines.{same_pair}
+use Rattle.place_pass.specs.SearchCounts.{is_unsettled_by}
+use Rattle.place_pass.specs.WaitingLines.{same_pair}
 use Rattle.place_pass.specs.Placers.{board_over}
 use Rattle.place_pass.specs.Sights.{found_rank, IsLeast, AreBounded, is_first}
 use Rattle.place_pass.proofs.BoundsLemmas.{zero_bounds}
-use Rattle.place_pass.proofs.LinesLemmas.{pair_is}
-use Rattle.place_pass.proofs.Places.{one_set}
+use Rattle.place_pass.proofs.WaitingLinesLemmas.{pair_is}
+use Rattle.fuxi_terms.proofs.IndexedLists.{one_set}
 
 pub order : IsTotalOrder (slice_cmp nat_cmp)
 order = lists_total nat_cmp_total

@@ -15,11 +15,11 @@ use Rattle.fuxi_terms.proofs.Booleans.{and_true, both_true, nat_itself}
 use Rattle.written_roles.specs.Placing.{has_pair}
 use Rattle.locality_tree.specs.Trees.{UnitState, TreeRecord, all_units, no_unit, unit_at, unit_number, idle, with_idle, with_job, started, place_count, rack_place, racks_of}
 use Rattle.place_pass.specs.Cells.{Cell, cell_at, asks_in, no_cell}
-use Rattle.place_pass.specs.Lines.{same_pair}
-use Rattle.place_pass.specs.Trees.{entry_for, Holds, HoldsLine, StandsAs, AllStand, Restood, RestoodAt}
+use Rattle.place_pass.specs.WaitingLines.{same_pair}
+use Rattle.place_pass.specs.PlacerTrees.{entry_for, Holds, HoldsLine, StandsAs, AllStand, Restood, RestoodAt}
 use Rattle.place_pass.proofs.BoundsAfterChange.{count_stays, rack_stays}
-use Rattle.place_pass.proofs.LinesLemmas.{has_filter, pair_is, pair_turned}
-use Rattle.place_pass.proofs.TreesLemmas.{nowhere_in, numbers_apart, racks_long, stands_on}
+use Rattle.place_pass.proofs.WaitingLinesLemmas.{has_filter, pair_is, pair_turned}
+use Rattle.place_pass.proofs.PlacerTreesLemmas.{nowhere_in, numbers_apart, racks_long, stands_on}
 
 -- ---- the number at one spot is set
 module _ (c : ClusterRecord) (cells : List (List Cell)) (es : List (Spot × ℕ)) (a u m n : ℕ) (sorted : T (is_sorted spot_cmp es)) where

@@ -14,11 +14,11 @@ use Rattle.fuxi_terms.proofs.Booleans.{both_true, number_is, or_right}
 use Rattle.fuxi_terms.proofs.Sums.{sum_set}
 use Rattle.written_roles.specs.Masters.{out_of}
 use Rattle.written_roles.specs.Placing.{has_pair, waiting_in}
-use Rattle.grant_table.specs.Tables.{TableRecord, as_known}
+use Rattle.grant_table.specs.GrantTables.{TableRecord, as_known}
 use Rattle.place_pass.specs.Cells.{Cell, asks_in}
-use Rattle.place_pass.specs.Lines.{same_pair}
+use Rattle.place_pass.specs.WaitingLines.{same_pair}
 use Rattle.place_pass.specs.Placers.{IsSetFrom, IsStill}
-use Rattle.place_pass.proofs.LinesLemmas.{has_below, has_filter, has_flat, has_mapped, pair_self}
+use Rattle.place_pass.proofs.WaitingLinesLemmas.{has_below, has_filter, has_flat, has_mapped, pair_self}
 use Rattle.place_pass.proofs.NumberedLemmas.{none_had}
 
 -- ---- a job less is calm

@@ -14,7 +14,7 @@ use Rattle.fuxi_terms.proofs.Lists.{length-below}
 use Rattle.fuxi_terms.proofs.ValidJobs.{job_small, units_few}
 use Rattle.written_roles.specs.Masters.{out_of}
 use Rattle.written_roles.specs.Placing.{waiting_in}
-use Rattle.grant_table.specs.Tables.{as_known, AreJobs}
+use Rattle.grant_table.specs.GrantTables.{as_known, AreJobs}
 
 fewer : {A : Type 0} (q : A → Bool) (xs : List A) → length (filter q xs) ≤ length xs
 fewer q xs = let e = length-filter q xs in let le = count_by-le-length q xs in omega (arith, e, le)

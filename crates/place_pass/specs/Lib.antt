@@ -1,10 +1,10 @@
 pub mod Cells
 pub mod Placers
-pub mod Lines
+pub mod WaitingLines
 pub mod Best
 pub mod Bounds
 pub mod Sights
-pub mod Counts
-pub mod Trees
-pub mod Walks
+pub mod SearchCounts
+pub mod PlacerTrees
+pub mod DemandWalks
 pub mod Scenes

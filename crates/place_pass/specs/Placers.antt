@@ -13,12 +13,12 @@ use Rattle.fuxi_terms.specs.Jobs.{KnownJob, job_of, job_numbers, unit_count, pri
 use Rattle.written_roles.specs.Masters.{out_of}
 use Rattle.written_roles.specs.Placing.{Board, waiting_in, has_pair, is_allowed_in, placeable_in}
 use Rattle.std.specs.List.{AllByRecursion}
-use Rattle.grant_table.specs.Tables.{TableRecord, IsSound, as_known}
-use Rattle.place_pass.specs.Lines.{LineRecord, units_in_all}
+use Rattle.grant_table.specs.GrantTables.{TableRecord, IsSound, as_known}
+use Rattle.place_pass.specs.WaitingLines.{LineRecord, units_in_all}
 use Rattle.place_pass.specs.declared.marks.Mark.{Mark}
 use Rattle.place_pass.specs.Bounds.{MarkRecord, mark_of, mark_at, key_of, turn_at, IsRising, IsBounded}
 use Rattle.place_pass.specs.Cells.{Cell, WishesRecord, asks_in, job_at, unit_places}
-use Rattle.place_pass.specs.Trees.{HoldsLine, AllStand}
+use Rattle.place_pass.specs.PlacerTrees.{HoldsLine, AllStand}
 use Rattle.locality_tree.specs.Trees.{TreeRecord}
 
 -- what a placer was told: the cluster, the admitted units with what is asked of each, by job number and unit, whether each machine is

@@ -11,7 +11,7 @@ use Rattle.place_pass.specs.Bounds.{MarkRecord, mark_at, key_of, Rises, IsBounde
 use Rattle.place_pass.specs.Cells.{asks_in, job_at, unit_places}
 use Rattle.place_pass.specs.Placers.{AreLevel, board_over}
 use Rattle.place_pass.specs.Sights.{sight_rank, found_rank, turn_in, IsSight, IsFound, IsLeast, AreBounded}
-use Rattle.place_pass.specs.Trees.{TreeOf}
+use Rattle.place_pass.specs.PlacerTrees.{TreeOf}
 
 abbrev pub board_in : Scene → Board
 board_in s = board_over s.wishes.now.cells s.wishes.now.opened s.table.now

@@ -9,7 +9,7 @@ use Rattle.written_roles.specs.Placing.{Board, has_pair, placeable_in}
 use Rattle.place_pass.specs.declared.search.Found.{Found}
 use Rattle.place_pass.specs.declared.search.Sight.{Sight}
 use Rattle.fuxi_terms.specs.declared.Key.{Key}
-use Rattle.grant_table.specs.Tables.{TableRecord, as_known}
+use Rattle.grant_table.specs.GrantTables.{TableRecord, as_known}
 use Rattle.place_pass.specs.Cells.{Cell, Lifts, AvoidsStill}
 use Rattle.place_pass.specs.Placers.{AreAllowed}
 use Rattle.place_pass.specs.Bounds.{MarkRecord, reset_mark, lowered_mark, cleared_mark, rank_of, comes_before, IsBounded, is_bound, rank_at, rank_on, turn_at}

@@ -3,7 +3,7 @@
 ghost use Rattle.std.specs.Prelude.{◌≡◌, ℕ};
 ghost use Rattle.std.specs.Option.{option_map};
 ghost use Rattle.fuxi_terms.specs.Jobs.{KnownJob, job_of, unit_count};
-ghost use Rattle.grant_table.specs.Tables.{TableRecord, as_known};
+ghost use Rattle.grant_table.specs.GrantTables.{TableRecord, as_known};
 ghost use Rattle.place_pass.specs.Placers.{PlacerRecord, IsLevelWith, job_seen, units_seen};
 
 /// A placer that is level with a table has its cluster, its jobs, and as many units of each.

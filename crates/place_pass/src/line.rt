@@ -2,7 +2,7 @@
 
 ghost use Rattle.std.specs.Prelude.{◌≡◌, ◌+◌, ◌<◌, ◌≤◌, ◌++◌, ◌∷◌, [], true, false, Some, slice_get, vec_len, vec_capacity};
 ghost use Rattle.written_roles.specs.Placing.{has_pair};
-ghost use Rattle.place_pass.specs.Lines.{same_pair};
+ghost use Rattle.place_pass.specs.WaitingLines.{same_pair};
 
 use crate::search::slot;
 use crate::wishes::UNIT_PLACES;
@@ -21,7 +21,7 @@ pub struct Line {
 }
 
 impl Model for Line {
-    ghost use Rattle.place_pass.specs.Lines.{LineRecord, line_record, IsLine};
+    ghost use Rattle.place_pass.specs.WaitingLines.{LineRecord, line_record, IsLine};
 
     ghost Value = { LineRecord };
 
@@ -35,7 +35,7 @@ impl Line {
     ghost use Rattle.std.specs.List.{IsDistinct};
     ghost use Rattle.fuxi_terms.specs.Limits.{most_jobs, most_units};
     ghost use Rattle.written_roles.specs.Placing.{has_pair};
-    ghost use Rattle.place_pass.specs.Lines.{LineRecord, same_pair};
+    ghost use Rattle.place_pass.specs.WaitingLines.{LineRecord, same_pair};
 
     /// How many pairs wait.
     pub fn len(&self) -> usize

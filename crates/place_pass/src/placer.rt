@@ -88,10 +88,10 @@ impl Placer {
     ghost use Rattle.fuxi_terms.specs.Tables.{spot, held_on};
     ghost use Rattle.written_roles.specs.Masters.{out_of};
     ghost use Rattle.written_roles.specs.Placing.{first_in, lined, has_pair};
-    ghost use Rattle.grant_table.specs.Tables.{TableRecord, as_known, with_admitted};
-    ghost use Rattle.place_pass.specs.Trees.{TreeOf};
+    ghost use Rattle.grant_table.specs.GrantTables.{TableRecord, as_known, with_admitted};
+    ghost use Rattle.place_pass.specs.PlacerTrees.{TreeOf};
     ghost use Rattle.place_pass.specs.Best.{spot_of};
-    ghost use Rattle.place_pass.specs.Counts.{IsLifted, IsTight, StaysTight, is_unsettled, unsettled_machines};
+    ghost use Rattle.place_pass.specs.SearchCounts.{IsLifted, IsTight, StaysTight, is_unsettled, unsettled_machines};
     ghost use Rattle.place_pass.specs.Placers.{AreAllowed, SeenRecord, job_seen, asks_seen, asks_after, is_open, units_seen, IsLevelWith, IsUpToDate, IsSetFrom, IsGrantable, board_with, waiting_with, line_told, AsksNoMore};
 
     /// A placer of a cluster, with no job, and with no machine open. It is level with the empty table. Where memory

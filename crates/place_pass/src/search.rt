@@ -17,8 +17,8 @@ ghost use Rattle.place_pass.specs.Cells.{asks_in, job_at, unit_places};
 ghost use Rattle.place_pass.specs.Placers.{AreLevel, board_over};
 ghost use Rattle.place_pass.specs.Best.{spot_of, AreAdmitted};
 ghost use Rattle.place_pass.specs.Bounds.{rank_of, mark_of, mark_at, key_of, Rises, IsBounded, is_bound, comes_before};
-ghost use Rattle.place_pass.specs.Counts.{is_unsettled_by, count_below};
-ghost use Rattle.place_pass.specs.Trees.{TreeOf};
+ghost use Rattle.place_pass.specs.SearchCounts.{is_unsettled_by, count_below};
+ghost use Rattle.place_pass.specs.PlacerTrees.{TreeOf};
 ghost use Rattle.place_pass.specs.Sights.{sight_rank, rank_with, found_rank, turn_in, IsFree, IsSight, AreBounded, is_first};
 ghost use Rattle.place_pass.specs.Scenes.{board_in, CanSearch, IsBestOn, IsMarked, IsSettledBy, AreMarked, IsFoundIn, IsLeastOn};
 
@@ -65,7 +65,7 @@ impl Wishes {
     ghost use Rattle.written_roles.specs.Masters.{out_of, level_of};
     ghost use Rattle.written_roles.specs.Placing.{is_allowed_in, accepts_in, has_room_in};
     ghost use Rattle.fuxi_terms.specs.Jobs.{unit_count, group_of, size_at};
-    ghost use Rattle.grant_table.specs.Tables.{as_known};
+    ghost use Rattle.grant_table.specs.GrantTables.{as_known};
     ghost use Rattle.place_pass.specs.Cells.{asks_in, job_at};
     ghost use Rattle.place_pass.specs.Placers.{AreLevel, board_over};
     ghost use Rattle.place_pass.specs.Bounds.{is_nearer_in};

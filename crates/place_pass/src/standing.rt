@@ -7,13 +7,13 @@ ghost use Rattle.fuxi_terms.specs.Jobs.{unit_count};
 ghost use Rattle.fuxi_terms.specs.Tables.{spot};
 ghost use Rattle.written_roles.specs.Masters.{out_of};
 ghost use Rattle.written_roles.specs.Placing.{has_pair};
-ghost use Rattle.grant_table.specs.Tables.{TableRecord, as_known};
+ghost use Rattle.grant_table.specs.GrantTables.{TableRecord, as_known};
 ghost use Rattle.locality_tree.specs.Trees.{unit_at, unit_number, rack_place};
 ghost use Rattle.place_pass.specs.Best.{AreAdmitted};
 ghost use Rattle.place_pass.specs.Bounds.{IsRising, turn_at};
 ghost use Rattle.place_pass.specs.Cells.{asks_in, job_at, unit_places};
 ghost use Rattle.place_pass.specs.Placers.{AreLevel, IsSetFrom};
-ghost use Rattle.place_pass.specs.Trees.{Holds, HoldsLine, AllStand, StandsAs, StandsNowhere, WaitsIn, Restood, RestoodAt, entry_for, is_unmet_on, is_unmet_in};
+ghost use Rattle.place_pass.specs.PlacerTrees.{Holds, HoldsLine, AllStand, StandsAs, StandsNowhere, WaitsIn, Restood, RestoodAt, entry_for, is_unmet_on, is_unmet_in};
 
 use crate::line::Line;
 use crate::search::turn_of_unit;
@@ -28,8 +28,8 @@ impl Wishes {
     ghost use Rattle.std.specs.Prelude.{◌≡◌, ◌<◌, [], length};
     ghost use Rattle.std.proofs.Common.{get_or};
     ghost use Rattle.fuxi_terms.specs.Jobs.{unit_count};
-    ghost use Rattle.grant_table.specs.Tables.{as_known};
-    ghost use Rattle.place_pass.specs.Trees.{is_unmet_on, is_unmet_in};
+    ghost use Rattle.grant_table.specs.GrantTables.{as_known};
+    ghost use Rattle.place_pass.specs.PlacerTrees.{is_unmet_on, is_unmet_in};
 
     /// Whether the unit asks for more on the machine than it has there.
     pub(crate) fn is_unmet_on(

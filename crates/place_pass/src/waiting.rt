@@ -10,13 +10,13 @@ ghost use Rattle.fuxi_terms.specs.Jobs.{unit_count};
 ghost use Rattle.fuxi_terms.specs.Lists.{below};
 ghost use Rattle.written_roles.specs.Masters.{out_of};
 ghost use Rattle.written_roles.specs.Placing.{has_pair, waiting_in};
-ghost use Rattle.grant_table.specs.Tables.{as_known, AreJobs};
+ghost use Rattle.grant_table.specs.GrantTables.{as_known, AreJobs};
 ghost use Rattle.place_pass.specs.Cells.{asks_in, job_at, unit_places};
 ghost use Rattle.place_pass.specs.Placers.{AreLevel, IsStill};
 ghost use Rattle.place_pass.specs.Best.{AreAdmitted};
-ghost use Rattle.place_pass.specs.Lines.{units_in_all, waiting_of};
+ghost use Rattle.place_pass.specs.WaitingLines.{units_in_all, waiting_of};
 ghost use Rattle.place_pass.specs.Bounds.{IsRising, turn_at};
-ghost use Rattle.place_pass.specs.Trees.{Holds, HoldsLine};
+ghost use Rattle.place_pass.specs.PlacerTrees.{Holds, HoldsLine};
 ghost use Rattle.locality_tree.specs.Trees.{unit_at};
 
 use crate::line::Line;

@@ -10,7 +10,7 @@ ghost use Rattle.fuxi_terms.specs.TallyKeys.{key, rack_key};
 ghost use Rattle.fuxi_terms.specs.Limits.{most_jobs};
 ghost use Rattle.fuxi_terms.specs.Vectors.{fits};
 ghost use Rattle.std.specs.Ordering.{is_lt};
-ghost use Rattle.place_pass.specs.Walks.{IsPast};
+ghost use Rattle.place_pass.specs.DemandWalks.{IsPast};
 ghost use Rattle.place_pass.specs.Cells.{Cell, cell_of, cells_in, cells_of, cell_at, no_cell, fresh_cells, numbers_at, racks_at, taken, taken_all, any_gone, asks_more, any_more};
 
 use cluster_desc::Cluster;

@@ -12,15 +12,15 @@ use Rattle.fuxi_terms.specs.Tables.{spot}
 use Rattle.fuxi_terms.proofs.ByPlace.{at_place-get_or}
 use Rattle.fuxi_terms.proofs.Lists.{all_push}
 use Rattle.written_roles.specs.Preemption.{so_many, set_by, part_by}
-use Rattle.grant_table.specs.Tables.{TableRecord, as_known}
+use Rattle.grant_table.specs.GrantTables.{TableRecord, as_known}
 use Rattle.preempt.specs.Counted.{singles, times_to_reach, times_within, greatest_of, least_of, own_size, enough_at, enough_times, spared_at, may_times, taken_count, counted_taken, counted_kept}
 use Rattle.preempt.specs.declared.entry.Entry.{Entry}
 use Rattle.preempt.specs.declared.entry.Need.{Need}
 use Rattle.preempt.specs.declared.entry.GroupUse.{GroupUse}
 use Rattle.preempt.specs.declared.entry.Sums.{Sums}
 use Rattle.preempt.specs.Given.{board_of, no_group, written, IsEntry, IsNeed, IsGroup, AreGiven, recounted}
-use Rattle.preempt.specs.Numbers.{needed_in_one, spared_in_one, total_in, part_in, needed_number, may_number}
-use Rattle.preempt.specs.Parts.{no_sums, ArePartsOf}
+use Rattle.preempt.specs.GrantNumbers.{needed_in_one, spared_in_one, total_in, part_in, needed_number, may_number}
+use Rattle.preempt.specs.GroupSums.{no_sums, ArePartsOf}
 use Rattle.preempt.proofs.Sums.{sum_many}
 
 pub greatest_same : (n : ℕ) (f g : ℕ → ℕ) → ((i : ℕ) → i < n → f i ≡ g i) → greatest_of n f ≡ greatest_of n g

@@ -11,13 +11,13 @@ use Rattle.fuxi_terms.specs.Lists.{below_each}
 use Rattle.fuxi_terms.specs.Tables.{spot}
 use Rattle.fuxi_terms.proofs.Booleans.{and_false}
 use Rattle.written_roles.specs.Preemption.{so_many, is_enough_in, is_some_set, victims_in, part_by}
-use Rattle.grant_table.specs.Tables.{TableRecord, as_known}
+use Rattle.grant_table.specs.GrantTables.{TableRecord, as_known}
 use Rattle.preempt.specs.Counted.{singles, counted_taken, counted_kept}
 use Rattle.preempt.specs.declared.entry.Entry.{Entry}
 use Rattle.preempt.specs.declared.entry.Need.{Need}
 use Rattle.preempt.specs.declared.entry.GroupUse.{GroupUse}
 use Rattle.preempt.specs.Given.{board_of, written, IsEntry, IsNeed, AreGiven, IsTaken, IsKept}
-use Rattle.preempt.specs.Numbers.{total_in, part_in, has_grants, reach_in, are_enough}
+use Rattle.preempt.specs.GrantNumbers.{total_in, part_in, has_grants, reach_in, are_enough}
 use Rattle.preempt.proofs.Whole.{victims_whole}
 use Rattle.preempt.proofs.Sums.{fit_test, limit_test}
 use Rattle.preempt.proofs.CountedAsWritten.{each_same, total_is, part_is}

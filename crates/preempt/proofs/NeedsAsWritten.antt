@@ -7,13 +7,13 @@ use Rattle.fuxi_terms.specs.Jobs.{KnownJob, job_of, unit_count, size_at, group_o
 use Rattle.fuxi_terms.specs.Lists.{below_each}
 use Rattle.fuxi_terms.specs.Tables.{spot, usage_at}
 use Rattle.written_roles.specs.Preemption.{is_guaranteed_in}
-use Rattle.grant_table.specs.Tables.{TableRecord, IsSound, as_known}
+use Rattle.grant_table.specs.GrantTables.{TableRecord, IsSound, as_known}
 use Rattle.preempt.specs.declared.entry.Entry.{Entry}
 use Rattle.preempt.specs.declared.entry.Need.{Need}
 use Rattle.preempt.specs.declared.entry.GroupUse.{GroupUse}
 use Rattle.preempt.specs.declared.shelf.Shelf.{Shelf}
 use Rattle.preempt.specs.Given.{board_of, IsEntry, IsGroup, IsNeed}
-use Rattle.preempt.specs.Numbers.{narrow_at, reach_in}
+use Rattle.preempt.specs.GrantNumbers.{narrow_at, reach_in}
 use Rattle.preempt.specs.Shelves.{IsWanted, IsShelf}
 use Rattle.preempt.proofs.Admitted.{job_found}
 use Rattle.preempt.proofs.CountedAsWritten.{each_same, size_is}

@@ -16,7 +16,7 @@ use Rattle.fuxi_terms.proofs.Lists.{take_last}
 use Rattle.written_roles.specs.Placing.{Board, accepts_in}
 use Rattle.written_roles.specs.Preemption.{Plan as WrittenPlan}
 use Rattle.written_roles.specs.Preemption.{victims_in, taken_in, needed_in, without_one, walk_in, may_take_in, is_enough_in, is_some_set, first_plan_in, plan_in, tried_in, by_priority_in, falling_priorities}
-use Rattle.grant_table.specs.Tables.{TableRecord, IsSound, as_known}
+use Rattle.grant_table.specs.GrantTables.{TableRecord, IsSound, as_known}
 use Rattle.preempt.specs.declared.entry.Entry.{Entry}
 use Rattle.preempt.specs.declared.shelf.Shelf.{Shelf}
 use Rattle.preempt.specs.declared.plan.Plan.{Plan}

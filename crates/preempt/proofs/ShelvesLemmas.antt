@@ -18,7 +18,7 @@ use Rattle.cluster_desc.specs.Records.{machine_of}
 use Rattle.cluster_desc.specs.declared.cluster.Machine.{Machine}
 use Rattle.written_roles.specs.Placing.{Board}
 use Rattle.written_roles.specs.Preemption.{needed_in, so_many, is_enough_in, is_spared_in, is_guaranteed_in, may_take_in, taken_in, walk_in, is_some_set, victims_in}
-use Rattle.grant_table.specs.Tables.{TableRecord, as_known}
+use Rattle.grant_table.specs.GrantTables.{TableRecord, as_known}
 use Rattle.preempt.specs.Counted.{singles}
 use Rattle.preempt.specs.declared.entry.Entry.{Entry}
 use Rattle.preempt.specs.declared.entry.Need.{Need}

@@ -9,14 +9,14 @@ use Rattle.fuxi_terms.specs.Keys.{Spot, spot_cmp}
 use Rattle.fuxi_terms.specs.Tables.{spot}
 use Rattle.fuxi_terms.proofs.Alls.{all_more}
 use Rattle.written_roles.specs.Placing.{Board}
-use Rattle.grant_table.specs.Tables.{TableRecord, IsSound, as_known}
+use Rattle.grant_table.specs.GrantTables.{TableRecord, IsSound, as_known}
 use Rattle.preempt.specs.Counted.{singles, enough_times, may_times, taken_count, counted_taken, counted_kept, entries_on}
 use Rattle.preempt.specs.declared.entry.Entry.{Entry}
 use Rattle.preempt.specs.declared.entry.Need.{Need}
 use Rattle.preempt.specs.declared.entry.GroupUse.{GroupUse}
 use Rattle.preempt.specs.declared.plan.Victim.{Victim}
 use Rattle.preempt.specs.Given.{board_of, written, victim_of, IsEntry, AreGiven, IsTaken, IsKept}
-use Rattle.preempt.specs.Numbers.{has_grants}
+use Rattle.preempt.specs.GrantNumbers.{has_grants}
 use Rattle.preempt.specs.Plans.{AreTakable, IsTakable, same_unit, losers_of}
 use Rattle.preempt.specs.Walks.{all_units, pairs_by_priority, entry_on}
 use Rattle.preempt.proofs.RunsLeft.{is_same_unit}

@@ -15,14 +15,14 @@ use Rattle.fuxi_terms.specs.Keys.{Spot, spot_cmp}
 use Rattle.fuxi_terms.specs.Limits.{greatest_count}
 use Rattle.fuxi_terms.specs.Tables.{spot, held_on, total_at, without_grants}
 use Rattle.fuxi_terms.proofs.Alls.{all_more}
-use Rattle.fuxi_terms.proofs.Booleans.{both_true, and_true, number_is, nat_itself}
+use Rattle.fuxi_terms.proofs.Booleans.{both_true, and_true, number_is, nat_itself, or_true}
 use Rattle.fuxi_terms.proofs.ByPlace.{at_place-get_or}
 use Rattle.fuxi_terms.proofs.CountsLemmas.{tied, count-set_count, counts-set_count, same_counts, count_le}
 use Rattle.fuxi_terms.proofs.KeyOrders.{spot_total, same_spot}
 use Rattle.fuxi_terms.proofs.Members.{each_place}
 use Rattle.fuxi_terms.proofs.Sums.{sum_set}
 use Rattle.written_roles.specs.Preemption.{so_many, set_by, is_enough_in}
-use Rattle.grant_table.specs.Tables.{TableRecord, IsSound, as_known, without_count}
+use Rattle.grant_table.specs.GrantTables.{TableRecord, IsSound, as_known, without_count}
 use Rattle.preempt.specs.declared.plan.Victim.{Victim}
 use Rattle.preempt.specs.Given.{board_of}
 use Rattle.preempt.specs.Plans.{losers_of, without_victims, is_unit, same_unit, IsTakable, AreTakable}
@@ -154,11 +154,6 @@ module _ (jobs : List KnownJob) (m i : ℕ) where
                   let x = p.0 in let y = p.1 in
                   let t : (nat_eq w.app.0 v.app.0 && nat_eq w.unit.0 v.unit.0) ≡ true = and_true (nat_eq w.app.0 v.app.0) (nat_eq w.unit.0 v.unit.0) (grind (arith, nat_tests, x)) (grind (arith, nat_tests, y)) in
                   absurd (let z : ⊥ = cc in z)
-
--- there is room for what is served
-or_true : (a b : Bool) → (a || b) ≡ true → a ≡ false → b ≡ true
-or_true true b h f = cc
-or_true false b h f = h
 
 pub room_after : (t : TableRecord) (s : Spot) (vs : List Victim) → IsSound t → s.machine < length t.cluster.machines → AreTakable t s.machine vs → is_enough_in (board_of t) t.entries s (losers_of s.machine vs) ≡ true
     → (i : ℕ) → total_at (as_known t.jobs) s.machine i (without_victims t.entries s.machine vs) + size_at (as_known t.jobs) s.job s.unit i ≤ has_at t.cluster s.machine i

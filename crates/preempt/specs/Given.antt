@@ -7,7 +7,7 @@ use Rattle.fuxi_terms.specs.Jobs.{priority_of, group_of, size_at, most_of, unit_
 use Rattle.fuxi_terms.specs.Tables.{spot, total_at, usage_at}
 use Rattle.written_roles.specs.Placing.{Board}
 use Rattle.written_roles.specs.Preemption.{is_guaranteed_in}
-use Rattle.grant_table.specs.Tables.{TableRecord, as_known}
+use Rattle.grant_table.specs.GrantTables.{TableRecord, as_known}
 use Rattle.preempt.specs.Counted.{entries_on, counted_taken, counted_kept}
 use Rattle.preempt.specs.declared.plan.Victim.{Victim}
 use Rattle.preempt.specs.declared.entry.Entry.{Entry}

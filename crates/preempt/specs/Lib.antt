@@ -1,7 +1,7 @@
 pub mod Counted
 pub mod Plans
-pub mod Numbers
-pub mod Parts
+pub mod GrantNumbers
+pub mod GroupSums
 pub mod Given
 pub mod Walks
 pub mod Shelves

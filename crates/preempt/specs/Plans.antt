@@ -8,7 +8,7 @@ use Rattle.fuxi_terms.specs.Tables.{spot, held_on, total_at}
 use Rattle.written_roles.specs.Placing.{Board}
 use Rattle.written_roles.specs.Preemption.{victims_in}
 use Rattle.written_roles.specs.Preemption.{Plan as WrittenPlan}
-use Rattle.grant_table.specs.Tables.{TableRecord, as_known, without_count}
+use Rattle.grant_table.specs.GrantTables.{TableRecord, as_known, without_count}
 use Rattle.grant_table.specs.declared.asking.Pick.{Pick}
 use Rattle.preempt.specs.Counted.{singles}
 use Rattle.preempt.specs.declared.plan.Plan.{Plan}

@@ -2,7 +2,7 @@
 
 ghost use Rattle.std.specs.Prelude.{◌≡◌, ℕ, ◌+◌, ◌*◌, ◌^◌, ◌<◌, ◌≤◌, slice_index, length, cond};
 ghost use Rattle.preempt.specs.Given.{recounted};
-ghost use Rattle.preempt.specs.Numbers.{total_in, part_in};
+ghost use Rattle.preempt.specs.GrantNumbers.{total_in, part_in};
 
 use schedule_unit::{AppNo, UnitNo};
 

@@ -7,7 +7,7 @@ ghost use Rattle.fuxi_terms.specs.Cluster.{JobRecord, is_narrow};
 ghost use Rattle.fuxi_terms.specs.Jobs.{unit_count, size_at};
 ghost use Rattle.fuxi_terms.specs.Tables.{spot};
 ghost use Rattle.written_roles.specs.Preemption.{victims_in};
-ghost use Rattle.grant_table.specs.Tables.{TableRecord, IsSound, as_known};
+ghost use Rattle.grant_table.specs.GrantTables.{TableRecord, IsSound, as_known};
 ghost use Rattle.preempt.specs.Given.{AreGroups, IsEntry, IsGroup, IsNeed, board_of, pair_of};
 ghost use Rattle.preempt.specs.declared.entry.GroupUse.{GroupUse};
 ghost use Rattle.preempt.specs.Plans.{AreTakable, losers_of};

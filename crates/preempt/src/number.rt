@@ -3,7 +3,7 @@
 ghost use Rattle.std.specs.Prelude.{◌≡◌, ℕ, ◌+◌, ◌^◌, ◌<◌, ◌≤◌, IfOk, slice_index, cond, length};
 ghost use Rattle.fuxi_terms.specs.Lists.{below_each};
 ghost use Rattle.preempt.specs.Counted.{times_to_reach, times_within, least_of};
-ghost use Rattle.preempt.specs.Numbers.{needed_number, may_number, spared_in_one, reach_in, are_enough, narrow_at};
+ghost use Rattle.preempt.specs.GrantNumbers.{needed_number, may_number, spared_in_one, reach_in, are_enough, narrow_at};
 
 use crate::entry::{Entry, GroupUse, Need};
 

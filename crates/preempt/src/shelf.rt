@@ -4,7 +4,7 @@
 ghost use Rattle.std.specs.Prelude.{◌≡◌, ℕ, ◌+◌, ◌-◌, ◌<◌, ◌≤◌, true, IfOk, length, map, slice_index};
 ghost use Rattle.std.specs.List.{All, AllByRecursion};
 ghost use Rattle.fuxi_terms.specs.Jobs.{priority_of};
-ghost use Rattle.grant_table.specs.Tables.{IsSound, as_known};
+ghost use Rattle.grant_table.specs.GrantTables.{IsSound, as_known};
 ghost use Rattle.preempt.specs.Given.{AreGroups, IsEntry, IsGroup, pair_of};
 ghost use Rattle.preempt.specs.Shelves.{IsShelf, AreShelves, IsLow, IsLoose, is_loose, is_other_loose, spares, may_take_some};
 ghost use Rattle.preempt.specs.Walks.{all_units, pairs_by_priority};

@@ -4,10 +4,10 @@ ghost use Rattle.std.specs.Prelude.{◌≡◌, ℕ, ◌+◌, ◌*◌, ◌^◌, �
 ghost use Rattle.std.specs.List.{All, AllByRecursion, list_any};
 ghost use Rattle.fuxi_terms.specs.Keys.{Spot};
 ghost use Rattle.written_roles.specs.Preemption.{victims_in};
-ghost use Rattle.grant_table.specs.Tables.{TableRecord, IsSound};
+ghost use Rattle.grant_table.specs.GrantTables.{TableRecord, IsSound};
 ghost use Rattle.preempt.specs.Given.{AreGiven, IsTaken, IsKept, IsEntry, IsNeed, board_of, victim_of};
 ghost use Rattle.preempt.specs.Plans.{AreTakable, losers_of};
-ghost use Rattle.preempt.specs.Numbers.{has_grants};
+ghost use Rattle.preempt.specs.GrantNumbers.{has_grants};
 
 use crate::entry::{
     Entry, GroupUse, Need, Sums, count_if, lowered, part_of, raised, recounted, total_of,

@@ -5,7 +5,7 @@ ghost use Rattle.std.specs.Prelude.{◌≡◌, ℕ, ◌+◌, ◌<◌, ◌≤◌,
 ghost use Rattle.std.specs.List.{AllByRecursion, flat_map};
 ghost use Rattle.fuxi_terms.specs.Jobs.{unit_count, unit_of, group_of, priority_of};
 ghost use Rattle.fuxi_terms.specs.Lists.{below};
-ghost use Rattle.grant_table.specs.Tables.{TableRecord, IsSound, as_known};
+ghost use Rattle.grant_table.specs.GrantTables.{TableRecord, IsSound, as_known};
 ghost use Rattle.preempt.specs.Given.{IsEntry, pair_of, written};
 ghost use Rattle.preempt.specs.Walks.{units_in, all_units, backward, of_priority, pairs_by_priority, entry_on};
 

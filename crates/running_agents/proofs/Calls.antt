@@ -17,14 +17,14 @@ use Rattle.written_world.specs.World.{World, Agent}
 use Rattle.written_world.specs.Good.{Good}
 use Rattle.written_world.specs.Parties.{agent_hears}
 use Rattle.written_world.specs.Events.{addressed, heard_by, turn_to_master, resynced}
-use Rattle.written_join.specs.Seen.{parcel_of}
+use Rattle.written_join.specs.SeenWorlds.{parcel_of}
 use Rattle.written_join.specs.Leading.{AllLead}
 use Rattle.schedule_unit.specs.declared.party.Role.TheVariants.{Agent as AsAgent}
 use Rattle.core_side.specs.Parcels.{parcel_is, role_number}
-use Rattle.agent_core.specs.Standing.{AgentCore}
-use Rattle.core_join.specs.Agents.{agent_at, StandsIn, TurnsInWorld, StartsInWorld}
-use Rattle.running_agents.specs.Running.{AgentsRecord, agent_in, with_agent, AreSlots, AreWithin, StartInWorld, RunsAs, StandsAt, AreAgentsOf, OneActsIn, IsHeardIn, HearsOneIn, HearInWorld, TurnInWorld, ResyncInWorld}
-use Rattle.running_agents.specs.Slots.{SlotHears, HearsAtSlot, ForgetsAtSlot}
+use Rattle.agent_core.specs.AgentCores.{AgentCore}
+use Rattle.core_join.specs.AgentInWorld.{agent_at, StandsIn, TurnsInWorld, StartsInWorld}
+use Rattle.running_agents.specs.RunningAgents.{AgentsRecord, agent_in, with_agent, AreSlots, AreWithin, StartInWorld, RunsAs, StandsAt, AreAgentsOf, OneActsIn, IsHeardIn, HearsOneIn, HearInWorld, TurnInWorld, ResyncInWorld}
+use Rattle.running_agents.specs.AgentSlots.{SlotHears, HearsAtSlot, ForgetsAtSlot}
 use Rattle.running_agents.proofs.Changes.{one_acts, one_starts}
 use Rattle.running_agents.proofs.Slots.{there, elsewhere, within_set}
 

@@ -15,11 +15,11 @@ use Rattle.written_net.specs.Channels.{master_id, agent_id, party}
 use Rattle.written_roles.specs.Agents.{AgentRole}
 use Rattle.written_world.specs.World.{World, Agent}
 use Rattle.written_world.specs.Events.{agent_started}
-use Rattle.written_join.specs.Seen.{agent_seen, side_of}
-use Rattle.written_join.specs.Joins.{OneActs}
-use Rattle.agent_core.specs.Standing.{AgentCore, StandsFor}
-use Rattle.core_join.specs.Agents.{ActsIn, StartsIn}
-use Rattle.running_agents.specs.Running.{AgentsRecord, agent_in, boot_in, StandsAt, AreAgentsOf, OneActsIn}
+use Rattle.written_join.specs.SeenWorlds.{agent_seen, side_of}
+use Rattle.written_join.specs.PartyJoins.{OneActs}
+use Rattle.agent_core.specs.AgentCores.{AgentCore, StandsFor}
+use Rattle.core_join.specs.AgentInWorld.{ActsIn, StartsIn}
+use Rattle.running_agents.specs.RunningAgents.{AgentsRecord, agent_in, boot_in, StandsAt, AreAgentsOf, OneActsIn}
 
 seen_as : ℕ → ℕ → List ℕ → Side → AgentRole
 seen_as m b has up = record { machine = m; has = has; boot = b; up = up }

@@ -2,8 +2,8 @@
 use Rattle.std.proofs.Common.{◌≡◌, ℕ, ◌<◌, ◌≤◌, length, Option, Some, None, sym, ◌∙◌, subst, arith, inl, inr, ◌⊎◌}
 use Rattle.std.proofs.lemmas.Bool.{cases_eq}
 use Rattle.std.proofs.lemmas.List.{get_or-set_same, get_or-set_other}
-use Rattle.agent_core.specs.Standing.{AgentCore}
-use Rattle.running_agents.specs.Running.{AgentsRecord, agent_in, with_agent, AreWithin}
+use Rattle.agent_core.specs.AgentCores.{AgentCore}
+use Rattle.running_agents.specs.RunningAgents.{AgentsRecord, agent_in, with_agent, AreWithin}
 
 pub there : (x : AgentsRecord) (m : ℕ) (o : Option AgentCore) → m < length x.agents → agent_in (with_agent m o x) m ≡ o
 there x m o lt = get_or-set_same x.agents m o None lt

@@ -1,2 +1,2 @@
-pub mod Running
-pub mod Slots
+pub mod RunningAgents
+pub mod AgentSlots

@@ -6,8 +6,8 @@ ghost use Rattle.std.specs.List.{AllByRecursion};
 ghost use Rattle.std.specs.Option.{option_copied};
 ghost use Rattle.party_ledgers.specs.Packets.{IsFormed};
 ghost use Rattle.written_world.specs.World.{empty_world};
-ghost use Rattle.running_agents.specs.Running.{agent_in, boot_in, with_agent, AreAgentsOf, AreWithin, MayStep, HearInWorld, TurnInWorld, ResyncInWorld, StartInWorld};
-ghost use Rattle.running_agents.specs.Slots.{HearsAtSlot, ForgetsAtSlot};
+ghost use Rattle.running_agents.specs.RunningAgents.{agent_in, boot_in, with_agent, AreAgentsOf, AreWithin, MayStep, HearInWorld, TurnInWorld, ResyncInWorld, StartInWorld};
+ghost use Rattle.running_agents.specs.AgentSlots.{HearsAtSlot, ForgetsAtSlot};
 
 use agent_core::Agent;
 use cluster_desc::Cluster;
@@ -36,7 +36,7 @@ impl Drop for Agents {
 }
 
 impl Model for Agents {
-    ghost use Rattle.running_agents.specs.Running.{AgentsRecord, AreSlots};
+    ghost use Rattle.running_agents.specs.RunningAgents.{AgentsRecord, AreSlots};
 
     ghost Value = { AgentsRecord };
 

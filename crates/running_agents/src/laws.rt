@@ -6,8 +6,8 @@ ghost use Rattle.written_net.specs.Net.{Party};
 ghost use Rattle.written_net.specs.Channels.{agent_id, is_agent};
 ghost use Rattle.written_net.specs.Sides.{Parcel};
 ghost use Rattle.written_world.specs.World.{World};
-ghost use Rattle.written_join.specs.Joins.{OneActs};
-ghost use Rattle.running_agents.specs.Running.{AgentsRecord, AgentsStay, AreAgentsOf, AreWithin, MayStep, agent_in};
+ghost use Rattle.written_join.specs.PartyJoins.{OneActs};
+ghost use Rattle.running_agents.specs.RunningAgents.{AgentsRecord, AgentsStay, AreAgentsOf, AreWithin, MayStep, agent_in};
 
 /// Where a world changes, and what its agents see of it stays, the agents stand in it too.
 pub fn others_stay()

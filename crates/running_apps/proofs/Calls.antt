@@ -20,15 +20,15 @@ use Rattle.written_world.specs.World.{World, App}
 use Rattle.written_world.specs.Good.{Good}
 use Rattle.written_world.specs.Parties.{app_hears}
 use Rattle.written_world.specs.Events.{asks, addressed, heard_by, turn_to_master, resynced}
-use Rattle.written_join.specs.Seen.{parcel_of}
+use Rattle.written_join.specs.SeenWorlds.{parcel_of}
 use Rattle.written_join.specs.Leading.{AllLead}
 use Rattle.schedule_unit.specs.declared.party.Role.TheVariants.{App as AsApp}
 use Rattle.core_side.specs.Parcels.{parcel_is, role_number}
-use Rattle.app_master.specs.Apps.{AppCore}
+use Rattle.app_master.specs.AppCores.{AppCore}
 use Rattle.app_master.specs.declared.fault.AppFault.{AppFault}
-use Rattle.core_join.specs.Apps.{app_at, AppStandsIn, AppTurnsInWorld, AppStartsInWorld, AsksIn as CoreAsksIn}
-use Rattle.running_apps.specs.Running.{AppsRecord, app_in, with_app, AreSlots, AreWithin, StartInWorld, AppRunsAs, AppStandsAt, AreAppsOf, OneActsIn, IsHeardIn, HearsOneIn, HearInWorld, AsksOneIn, AskInWorld, TurnInWorld, ResyncInWorld}
-use Rattle.running_apps.specs.Slots.{SlotHears, HearsAtSlot, AsksAtSlot, ForgetsAtSlot}
+use Rattle.core_join.specs.AppInWorld.{app_at, AppStandsIn, AppTurnsInWorld, AppStartsInWorld, AsksIn as CoreAsksIn}
+use Rattle.running_apps.specs.RunningApps.{AppsRecord, app_in, with_app, AreSlots, AreWithin, StartInWorld, AppRunsAs, AppStandsAt, AreAppsOf, OneActsIn, IsHeardIn, HearsOneIn, HearInWorld, AsksOneIn, AskInWorld, TurnInWorld, ResyncInWorld}
+use Rattle.running_apps.specs.AppSlots.{SlotHears, HearsAtSlot, AsksAtSlot, ForgetsAtSlot}
 use Rattle.running_apps.proofs.Changes.{one_acts, one_starts}
 use Rattle.running_apps.proofs.Slots.{there, elsewhere, unwritten, within_set}
 

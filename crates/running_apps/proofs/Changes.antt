@@ -14,11 +14,11 @@ use Rattle.written_net.specs.Channels.{master_id, app_id, party, is_app}
 use Rattle.written_roles.specs.Apps.{AppRole}
 use Rattle.written_world.specs.World.{World, App}
 use Rattle.written_world.specs.Events.{app_started}
-use Rattle.written_join.specs.Seen.{app_seen, side_of}
-use Rattle.written_join.specs.Joins.{OneActs}
-use Rattle.app_master.specs.Apps.{AppCore, StandsFor}
-use Rattle.core_join.specs.Apps.{AppActsIn, AppStartsIn}
-use Rattle.running_apps.specs.Running.{AppsRecord, app_in, boot_in, AreSlots, AppStandsAt, AreAppsOf, AppsStay, OneActsIn}
+use Rattle.written_join.specs.SeenWorlds.{app_seen, side_of}
+use Rattle.written_join.specs.PartyJoins.{OneActs}
+use Rattle.app_master.specs.AppCores.{AppCore, StandsFor}
+use Rattle.core_join.specs.AppInWorld.{AppActsIn, AppStartsIn}
+use Rattle.running_apps.specs.RunningApps.{AppsRecord, app_in, boot_in, AreSlots, AppStandsAt, AreAppsOf, AppsStay, OneActsIn}
 
 seen_as : ℕ → App → ClusterRecord → Side → AppRole
 seen_as a g c up = record { job = a; units = g.units; cluster = c; boot = g.boot; carried = g.carried; up = up }

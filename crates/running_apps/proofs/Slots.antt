@@ -4,9 +4,9 @@ use Rattle.std.proofs.lemmas.Bool.{cases_eq, cases_lt}
 use Rattle.std.proofs.lemmas.List.{get_or-set_same, get_or-set_other, set-get_or, get_or_past, get_or-replicate, length-replicate}
 use Rattle.fuxi_terms.specs.Limits.{most_jobs}
 use Rattle.fuxi_terms.specs.Cluster.{ClusterRecord}
-use Rattle.app_master.specs.Apps.{AppCore}
+use Rattle.app_master.specs.AppCores.{AppCore}
 use Rattle.written_world.specs.World.{empty_world}
-use Rattle.running_apps.specs.Running.{AppsRecord, app_in, boot_in, with_app, AreSlots, AreAppsOf, AppStandsAt, AreWithin}
+use Rattle.running_apps.specs.RunningApps.{AppsRecord, app_in, boot_in, with_app, AreSlots, AreAppsOf, AppStandsAt, AreWithin}
 
 pub there : (x : AppsRecord) (a : ℕ) (o : Option AppCore) → a < length x.apps → app_in (with_app a o x) a ≡ o
 there x a o lt = get_or-set_same x.apps a o None lt

@@ -1,2 +1,2 @@
-pub mod Running
-pub mod Slots
+pub mod RunningApps
+pub mod AppSlots

@@ -7,10 +7,10 @@ ghost use Rattle.std.specs.Option.{option_copied};
 ghost use Rattle.fuxi_terms.specs.Cluster.{ClusterRecord};
 ghost use Rattle.fuxi_terms.specs.Limits.{most_jobs, most_units, most_steps};
 ghost use Rattle.party_ledgers.specs.Packets.{IsFormed};
-ghost use Rattle.app_master.specs.Apps.{AppCore};
+ghost use Rattle.app_master.specs.AppCores.{AppCore};
 ghost use Rattle.written_world.specs.World.{empty_world};
-ghost use Rattle.running_apps.specs.Running.{app_in, boot_in, with_app, AreAppsOf, AreWithin, MayStep, HearInWorld, AskInWorld, TurnInWorld, ResyncInWorld, StartInWorld, command_of};
-ghost use Rattle.running_apps.specs.Slots.{HearsAtSlot, AsksAtSlot, ForgetsAtSlot};
+ghost use Rattle.running_apps.specs.RunningApps.{app_in, boot_in, with_app, AreAppsOf, AreWithin, MayStep, HearInWorld, AskInWorld, TurnInWorld, ResyncInWorld, StartInWorld, command_of};
+ghost use Rattle.running_apps.specs.AppSlots.{HearsAtSlot, AsksAtSlot, ForgetsAtSlot};
 
 use crate::asking::{AppAsk, ask_app};
 use app_master::{AppFault, AppMaster};
@@ -40,7 +40,7 @@ impl Drop for Apps {
 }
 
 impl Model for Apps {
-    ghost use Rattle.running_apps.specs.Running.{AppsRecord, AreSlots};
+    ghost use Rattle.running_apps.specs.RunningApps.{AppsRecord, AreSlots};
 
     ghost Value = { AppsRecord };
 

@@ -2,8 +2,8 @@
 
 ghost use Rattle.std.specs.Prelude.{◌≡◌, ◌+◌, ◌<◌, OnOk, OnErr};
 ghost use Rattle.fuxi_terms.specs.Limits.{most_steps};
-ghost use Rattle.app_master.specs.Commands.{Commands};
-ghost use Rattle.running_apps.specs.Running.{command_of};
+ghost use Rattle.app_master.specs.AppCommands.{Commands};
+ghost use Rattle.running_apps.specs.RunningApps.{command_of};
 
 use app_master::{AppFault, AppMaster};
 use schedule_unit::{MachineNo, RackNo, UnitNo};

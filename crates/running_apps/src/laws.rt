@@ -8,8 +8,8 @@ ghost use Rattle.written_net.specs.Net.{Party};
 ghost use Rattle.written_net.specs.Channels.{app_id, is_app};
 ghost use Rattle.written_net.specs.Sides.{Parcel};
 ghost use Rattle.written_world.specs.World.{World};
-ghost use Rattle.written_join.specs.Joins.{OneActs};
-ghost use Rattle.running_apps.specs.Running.{AppsRecord, AppsStay, AreAppsOf, AreWithin, MayStep, app_in};
+ghost use Rattle.written_join.specs.PartyJoins.{OneActs};
+ghost use Rattle.running_apps.specs.RunningApps.{AppsRecord, AppsStay, AreAppsOf, AreWithin, MayStep, app_in};
 
 /// Where a world changes, and what its applications see of it stays, the applications stand in it too.
 pub fn others_stay()

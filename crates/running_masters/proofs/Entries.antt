@@ -12,7 +12,7 @@ use Rattle.std.proofs.lemmas.List.{length-map}
 use Rattle.std.proofs.lemmas.Option.{slice_get-get_or}
 use Rattle.fuxi_terms.proofs.Booleans.{nat_itself, number_is, eq_turned}
 use Rattle.fuxi_terms.proofs.CountsLemmas.{both_true, lesser, find_below_head}
-use Rattle.running_masters.specs.Running.{epochs_of}
+use Rattle.running_masters.specs.RunningMasters.{epochs_of}
 
 -- an entry is what it is at each place of it
 pub some_is : {A : Type 0} (x y : A) → Some x ≡ Some y → x ≡ y

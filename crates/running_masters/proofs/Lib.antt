@@ -1,4 +1,4 @@
 pub mod Entries
 pub mod MastersStay
 pub mod StartsAndStops
-pub mod CallsLemmas
+pub mod MasterCallsLemmas

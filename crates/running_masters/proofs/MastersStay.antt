@@ -20,13 +20,13 @@ use Rattle.written_roles.specs.Masters.{Master}
 use Rattle.written_roles.specs.MasterSteps.{master_party}
 use Rattle.written_world.specs.World.{World}
 use Rattle.written_world.specs.Good.{Good}
-use Rattle.written_join.specs.Seen.{master_seen}
-use Rattle.written_join.specs.Joins.{OneActs}
+use Rattle.written_join.specs.SeenWorlds.{master_seen}
+use Rattle.written_join.specs.PartyJoins.{OneActs}
 use Rattle.core_side.specs.Parcels.{parcel_is}
 use Rattle.fuxi_master.specs.Cores.{CoreRecord, MasterRecord, StandsFor}
-use Rattle.core_join.specs.Masters.{MasterActsIn, MasterStandsIn}
-use Rattle.running_masters.specs.Running.{MastersRecord, AreMasters, AreMastersOf, AreWithin, MasterRunsAs, epochs_of, running}
-use Rattle.running_masters.specs.Calls.{ActIn}
+use Rattle.core_join.specs.MasterInWorld.{MasterActsIn, MasterStandsIn}
+use Rattle.running_masters.specs.RunningMasters.{MastersRecord, AreMasters, AreMastersOf, AreWithin, MasterRunsAs, epochs_of, running}
+use Rattle.running_masters.specs.MasterCalls.{ActIn}
 use Rattle.running_masters.specs.Inside.{IsStepped, StandsAt}
 use Rattle.running_masters.proofs.Entries.{some_is, not_none, find_put, find_without, found_alike, keys_stay, length_alike, length_where, put_last, sorted_alike}
 

@@ -13,11 +13,11 @@ use Rattle.written_roles.specs.Masters.{Master}
 use Rattle.written_roles.specs.Refusals.{NotRunning, with_found}
 use Rattle.written_world.specs.World.{World, Step, prints_nothing, refused}
 use Rattle.written_world.specs.Events.{without_master}
-use Rattle.written_join.specs.Joins.{master_starts}
+use Rattle.written_join.specs.PartyJoins.{master_starts}
 use Rattle.fuxi_master.specs.Cores.{MasterRecord}
-use Rattle.core_join.specs.Masters.{MasterStartsInWorld}
-use Rattle.running_masters.specs.Running.{MastersRecord, AreMasters, AreMastersOf, MasterRunsAs, epochs_of, running}
-use Rattle.running_masters.specs.Calls.{StartsInWorld, StopsInWorld}
+use Rattle.core_join.specs.MasterInWorld.{MasterStartsInWorld}
+use Rattle.running_masters.specs.RunningMasters.{MastersRecord, AreMasters, AreMastersOf, MasterRunsAs, epochs_of, running}
+use Rattle.running_masters.specs.MasterCalls.{StartsInWorld, StopsInWorld}
 use Rattle.running_masters.proofs.Entries.{not_none, find_put, find_without, found_alike, none_above, put_alike, without_alike, without_none}
 use Rattle.running_masters.proofs.MastersStay.{Acted, in_order, stand_after}
 

@@ -10,8 +10,8 @@ use Rattle.fuxi_master.specs.declared.event.MasterEvent.{MasterEvent}
 use Rattle.fuxi_master.specs.declared.event.MasterRefusal.{MasterRefusal}
 use Rattle.fuxi_master.specs.declared.event.Outcome.{Outcome}
 use Rattle.fuxi_master.specs.declared.event.Outcome.TheVariants.{Done, Refused, Sent, Heard as HeardOne}
-use Rattle.core_join.specs.Masters.{StepsInWorld}
-use Rattle.running_masters.specs.Running.{MastersRecord, running}
+use Rattle.core_join.specs.MasterInWorld.{StepsInWorld}
+use Rattle.running_masters.specs.RunningMasters.{MastersRecord, running}
 
 -- where the master of an epoch stands in the list, if one runs
 pub record StandsAt (e : ℕ) (ms : List (ℕ × MasterRecord)) (at : ℕ) : Type 0 where

@@ -1,3 +1,3 @@
-pub mod Running
-pub mod Calls
+pub mod RunningMasters
+pub mod MasterCalls
 pub mod Inside

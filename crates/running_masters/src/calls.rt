@@ -4,8 +4,8 @@ ghost use Rattle.core_side.specs.Parcels.{IsSent};
 ghost use Rattle.std.specs.Prelude.{◌≡◌, ℕ, ◌+◌, IfOk, IfSome};
 ghost use Rattle.std.specs.List.{AllByRecursion};
 ghost use Rattle.party_ledgers.specs.Packets.{IsFormed};
-ghost use Rattle.running_masters.specs.Running.{AreWithin, Fits, MayStep, epochs_of};
-ghost use Rattle.running_masters.specs.Calls.{CommandsInWorld, HearsInWorld, IsCommand, ResyncsInWorld, TurnsInWorld};
+ghost use Rattle.running_masters.specs.RunningMasters.{AreWithin, Fits, MayStep, epochs_of};
+ghost use Rattle.running_masters.specs.MasterCalls.{CommandsInWorld, HearsInWorld, IsCommand, ResyncsInWorld, TurnsInWorld};
 
 use crate::Masters;
 use crate::outcomes::{done_of, heard_of, sent_of};

@@ -8,9 +8,9 @@ ghost use Rattle.written_net.specs.Channels.{is_master};
 ghost use Rattle.written_net.specs.Sides.{Parcel};
 ghost use Rattle.written_roles.specs.Masters.{Master};
 ghost use Rattle.written_world.specs.World.{World};
-ghost use Rattle.written_join.specs.Joins.{OneActs};
-ghost use Rattle.written_join.specs.Seen.{master_seen};
-ghost use Rattle.running_masters.specs.Running.{MastersRecord, AreMastersOf};
+ghost use Rattle.written_join.specs.PartyJoins.{OneActs};
+ghost use Rattle.written_join.specs.SeenWorlds.{master_seen};
+ghost use Rattle.running_masters.specs.RunningMasters.{MastersRecord, AreMastersOf};
 
 /// Masters that stand in a world stand in each in which the same ones run and see what they saw (`seen`), as where a party
 /// that is no master acted (`acts`).

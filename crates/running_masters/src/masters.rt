@@ -12,8 +12,8 @@ ghost use Rattle.written_roles.specs.Masters.{Master as WrittenMaster};
 ghost use Rattle.written_world.specs.Good.{Good};
 ghost use Rattle.written_world.specs.World.{World, empty_world};
 ghost use Rattle.fuxi_master.specs.Cores.{MasterRecord};
-ghost use Rattle.running_masters.specs.Running.{AreMasters, AreMastersOf, AreWithin, Fits, MayStep, epochs_of, running};
-ghost use Rattle.running_masters.specs.Calls.{StartsInWorld, StopsInWorld};
+ghost use Rattle.running_masters.specs.RunningMasters.{AreMasters, AreMastersOf, AreWithin, Fits, MayStep, epochs_of, running};
+ghost use Rattle.running_masters.specs.MasterCalls.{StartsInWorld, StopsInWorld};
 ghost use Rattle.running_masters.specs.Inside.{Steps};
 
 use crate::places::{insert, place_of, push, remove};
@@ -44,7 +44,7 @@ impl Drop for Masters {
 }
 
 impl Model for Masters {
-    ghost use Rattle.running_masters.specs.Running.{MastersRecord, AreMasters};
+    ghost use Rattle.running_masters.specs.RunningMasters.{MastersRecord, AreMasters};
 
     ghost Value = { MastersRecord };
 

@@ -2,7 +2,7 @@
 use Rattle.std.proofs.Common.{◌≡◌, ℕ, List, [], Option, Some, None, sym, ◌∙◌, ap, append-nil}
 use Rattle.written_roles.specs.Refusals.{with_found}
 use Rattle.written_world.specs.Outputs.{Line}
-use Rattle.schedule_text.specs.Lines.{line_text}
+use Rattle.schedule_text.specs.PrintedLines.{line_text}
 use Rattle.party_text.specs.Texts.{Shows}
 use Rattle.written_join.proofs.ShowsLemmas.{shows_same}
 

@@ -15,10 +15,10 @@ use Rattle.written_roles.specs.Masters.{Master}
 use Rattle.written_roles.specs.Refusals.{with_found}
 use Rattle.written_world.specs.World.{World, Agent, App}
 use Rattle.written_world.specs.Quiet.{is_at_rest, is_agent_quiet, is_app_quiet, is_quiet}
-use Rattle.agent_core.specs.Standing.{AgentCore}
-use Rattle.app_master.specs.Apps.{AppCore}
-use Rattle.running_agents.specs.Running.{AgentsRecord, AreAgentsOf, RunsAs, StandsAt, agent_in}
-use Rattle.running_apps.specs.Running.{AppsRecord, AreAppsOf, AppRunsAs, AppStandsAt, app_in}
+use Rattle.agent_core.specs.AgentCores.{AgentCore}
+use Rattle.app_master.specs.AppCores.{AppCore}
+use Rattle.running_agents.specs.RunningAgents.{AgentsRecord, AreAgentsOf, RunsAs, StandsAt, agent_in}
+use Rattle.running_apps.specs.RunningApps.{AppsRecord, AreAppsOf, AppRunsAs, AppStandsAt, app_in}
 
 -- who runs
 pub agent_runs : (w : World) (x : AgentsRecord) (m : ℕ) (a : AgentCore) → AreAgentsOf w x → Some a ≡ agent_in x m → RunsAs w m a

@@ -8,7 +8,7 @@ use Rattle.written_join.specs.States.{hard_lines}
 use Rattle.written_world.specs.Outputs.{Line, State, Fence, Banned, Packets}
 use Rattle.written_world.specs.Show.{show, show_jobs}
 use Rattle.written_world.specs.World.{World}
-use Rattle.running_agents.specs.Running.{AgentsRecord, AreAgentsOf, StandsAt}
+use Rattle.running_agents.specs.RunningAgents.{AgentsRecord, AreAgentsOf, StandsAt}
 use Rattle.running_state.specs.Parts.{show_masters, show_agents, show_apps, show_parties}
 
 -- lists in their order, whichever are put together first

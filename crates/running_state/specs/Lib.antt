@@ -1,3 +1,3 @@
-pub mod Shown
+pub mod ShownStates
 pub mod Parts
-pub mod Ends
+pub mod ChannelEnds

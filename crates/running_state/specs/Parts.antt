@@ -8,10 +8,10 @@ use Rattle.written_roles.specs.Refusals.{with_found}
 use Rattle.written_world.specs.World.{World}
 use Rattle.written_world.specs.Outputs.{Line}
 use Rattle.written_world.specs.Show.{show_master, show_agent, show_app}
-use Rattle.agent_core.specs.Standing.{AgentCore}
-use Rattle.app_master.specs.Apps.{AppCore}
-use Rattle.running_agents.specs.Running.{AgentsRecord, agent_in}
-use Rattle.running_apps.specs.Running.{AppsRecord, app_in}
+use Rattle.agent_core.specs.AgentCores.{AgentCore}
+use Rattle.app_master.specs.AppCores.{AppCore}
+use Rattle.running_agents.specs.RunningAgents.{AgentsRecord, agent_in}
+use Rattle.running_apps.specs.RunningApps.{AppsRecord, app_in}
 
 -- of an epoch its master, where one runs, of a machine its agent, and of a job its application
 abbrev pub epoch_lines : World → ℕ → List Line

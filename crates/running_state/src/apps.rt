@@ -6,7 +6,7 @@ ghost use Rattle.std.specs.FinMap.Entries.{is_sorted};
 ghost use Rattle.written_world.specs.World.{World};
 ghost use Rattle.schedule_text.specs.Writing.{Begins};
 ghost use Rattle.party_text.specs.Texts.{Shows};
-ghost use Rattle.running_apps.specs.Running.{AreAppsOf};
+ghost use Rattle.running_apps.specs.RunningApps.{AreAppsOf};
 ghost use Rattle.running_state.specs.Parts.{AreOfJobs, job_lines, show_apps};
 
 use fuxi_terms::OutOfMemory;

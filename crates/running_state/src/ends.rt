@@ -9,13 +9,13 @@ ghost use Rattle.written_roles.specs.Masters.{Master as WrittenMaster};
 ghost use Rattle.written_roles.specs.MasterRoles.{MasterRole};
 ghost use Rattle.written_roles.specs.MasterSteps.{master_party};
 ghost use Rattle.written_world.specs.Quiet.{is_at_rest};
-ghost use Rattle.written_join.specs.Seen.{side_of};
+ghost use Rattle.written_join.specs.SeenWorlds.{side_of};
 ghost use Rattle.core_side.specs.Parcels.{id_of};
 ghost use Rattle.fuxi_master.specs.Cores.{StandsFor};
 ghost use Rattle.fuxi_master.specs.Steps.{is_peer};
-ghost use Rattle.agent_core.specs.Standing.{IsUp as IsAgentUp};
-ghost use Rattle.app_master.specs.Apps.{IsUp as IsAppUp};
-ghost use Rattle.running_state.specs.Ends.{IsEnd, has_heard_all};
+ghost use Rattle.agent_core.specs.AgentCores.{IsUp as IsAgentUp};
+ghost use Rattle.app_master.specs.AppCores.{IsUp as IsAppUp};
+ghost use Rattle.running_state.specs.ChannelEnds.{IsEnd, has_heard_all};
 
 use agent_core::Agent;
 use app_master::AppMaster;

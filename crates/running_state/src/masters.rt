@@ -6,7 +6,7 @@ ghost use Rattle.std.specs.FinMap.Entries.{is_sorted};
 ghost use Rattle.written_world.specs.World.{World};
 ghost use Rattle.schedule_text.specs.Writing.{Begins};
 ghost use Rattle.party_text.specs.Texts.{Shows};
-ghost use Rattle.running_masters.specs.Running.{AreMastersOf};
+ghost use Rattle.running_masters.specs.RunningMasters.{AreMastersOf};
 ghost use Rattle.running_state.specs.Parts.{show_masters};
 
 use fuxi_terms::OutOfMemory;

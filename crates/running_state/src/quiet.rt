@@ -9,11 +9,11 @@ ghost use Rattle.written_roles.specs.Masters.{Master as WrittenMaster};
 ghost use Rattle.written_roles.specs.Refusals.{with_found};
 ghost use Rattle.written_world.specs.World.{World, App};
 ghost use Rattle.written_world.specs.Quiet.{is_quiet, is_agent_quiet, is_app_quiet};
-ghost use Rattle.written_join.specs.Seen.{master_seen};
+ghost use Rattle.written_join.specs.SeenWorlds.{master_seen};
 ghost use Rattle.fuxi_master.specs.Cores.{StandsFor};
-ghost use Rattle.running_agents.specs.Running.{AreAgentsOf};
-ghost use Rattle.running_apps.specs.Running.{AreAppsOf};
-ghost use Rattle.running_state.specs.Shown.{IsKnown, IsRunningOf};
+ghost use Rattle.running_agents.specs.RunningAgents.{AreAgentsOf};
+ghost use Rattle.running_apps.specs.RunningApps.{AreAppsOf};
+ghost use Rattle.running_state.specs.ShownStates.{IsKnown, IsRunningOf};
 
 use crate::ends::{agent_end, app_end, are_at_rest, master_end};
 use cluster_desc::Cluster;

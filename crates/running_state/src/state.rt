@@ -6,11 +6,11 @@ ghost use Rattle.written_world.specs.Show.{show};
 ghost use Rattle.written_world.specs.Orders.{IsInOrder};
 ghost use Rattle.schedule_text.specs.Writing.{Begins};
 ghost use Rattle.party_text.specs.Texts.{Shows};
-ghost use Rattle.running_agents.specs.Running.{AreAgentsOf};
-ghost use Rattle.running_apps.specs.Running.{AreAppsOf};
-ghost use Rattle.running_masters.specs.Running.{AreMastersOf};
+ghost use Rattle.running_agents.specs.RunningAgents.{AreAgentsOf};
+ghost use Rattle.running_apps.specs.RunningApps.{AreAppsOf};
+ghost use Rattle.running_masters.specs.RunningMasters.{AreMastersOf};
 ghost use Rattle.running_state.specs.Parts.{AreOfJobs, AreOnMachines, show_parties};
-ghost use Rattle.running_state.specs.Shown.{IsKnown, IsRunningOf};
+ghost use Rattle.running_state.specs.ShownStates.{IsKnown, IsRunningOf};
 
 use crate::agents::write_agents;
 use crate::apps::write_apps;

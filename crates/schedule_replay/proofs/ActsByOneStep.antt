@@ -4,7 +4,7 @@ use Rattle.std.specs.Prelude.{OnOk, IfErr}
 use Rattle.written_world.specs.World.{World, Step}
 use Rattle.schedule_replay.specs.declared.stop.WorldStop.{WorldStop}
 use Rattle.schedule_replay.specs.Worlds.{WorldRecord, IsWorld, StandsFor}
-use Rattle.schedule_replay.specs.Steps.{IsDone, Stops, limit_of}
+use Rattle.schedule_replay.specs.WorldSteps.{IsDone, Stops, limit_of}
 use Rattle.schedule_replay.specs.Moves.{Acts, ActsOnce, IsActed, IsActedOnce, WantsMemory}
 use Rattle.schedule_replay.proofs.MovesLemmas.{once_up_to}
 

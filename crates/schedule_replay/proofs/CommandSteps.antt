@@ -17,7 +17,7 @@ use Rattle.written_world.specs.World.{World, Step, on_result, prints_nothing, re
 use Rattle.written_world.specs.Parties.{end_step}
 use Rattle.written_world.specs.Events.{commanded, start_master}
 use Rattle.written_world.specs.Good.{Good}
-use Rattle.written_join.specs.Joins.{master_starts}
+use Rattle.written_join.specs.PartyJoins.{master_starts}
 
 pub not_none : {A : Type 0} (x : A) → None ≡ Some x → ⊥
 not_none x e = subst (λ o. elim o as (λ _. Type 0) [ None ↦ Unit {0} | Some z ↦ ⊥ ]) e tt

@@ -8,11 +8,11 @@ use Rattle.written_net.specs.Channels.{master_id, agent_id, party}
 use Rattle.written_world.specs.World.{World}
 use Rattle.written_world.specs.Parties.{agent_table}
 use Rattle.written_world.specs.Safe.{Safe, RowsFit}
-use Rattle.written_join.specs.Seen.{side_of}
-use Rattle.agent_core.specs.Standing.{AgentCore, Up, IsUp, table_in}
-use Rattle.app_master.specs.Apps.{AppCore}
-use Rattle.running_agents.specs.Running.{agent_in, RunsAs, StandsAt}
-use Rattle.running_apps.specs.Running.{app_in, AppRunsAs, AppStandsAt}
+use Rattle.written_join.specs.SeenWorlds.{side_of}
+use Rattle.agent_core.specs.AgentCores.{AgentCore, Up, IsUp, table_in}
+use Rattle.app_master.specs.AppCores.{AppCore}
+use Rattle.running_agents.specs.RunningAgents.{agent_in, RunsAs, StandsAt}
+use Rattle.running_apps.specs.RunningApps.{app_in, AppRunsAs, AppStandsAt}
 use Rattle.schedule_replay.specs.Worlds.{WorldRecord, StandsFor}
 use Rattle.schedule_replay.specs.Promises.{TablesFit}
 

@@ -8,11 +8,11 @@ use Rattle.written_world.specs.World.{empty_world}
 use Rattle.written_world.specs.Good.{Good}
 use Rattle.written_world.specs.Orders.{IsInOrder}
 use Rattle.fuxi_master.specs.Cores.{MasterRecord}
-use Rattle.packet_pool.specs.Pools.{Keeps, no_frames}
+use Rattle.packet_pool.specs.PacketPools.{Keeps, no_frames}
 use Rattle.schedule_replay.specs.Held.{IsOpen}
-use Rattle.running_agents.specs.Running.{AreAgentsOf, AreWithin as AgentsWithin}
-use Rattle.running_apps.specs.Running.{AreAppsOf, AreWithin as AppsWithin}
-use Rattle.running_masters.specs.Running.{AreMastersOf}
+use Rattle.running_agents.specs.RunningAgents.{AreAgentsOf, AreWithin as AgentsWithin}
+use Rattle.running_apps.specs.RunningApps.{AreAppsOf, AreWithin as AppsWithin}
+use Rattle.running_masters.specs.RunningMasters.{AreMastersOf}
 use Rattle.schedule_replay.specs.Worlds.{WorldRecord, IsReached, IsWorld, StandsFor, AreWithin, event_steps}
 use Rattle.schedule_replay.proofs.CommandSteps.{not_none}
 

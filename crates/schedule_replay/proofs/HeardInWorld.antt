@@ -16,14 +16,14 @@ use Rattle.written_world.specs.World.{World}
 use Rattle.written_world.specs.Good.{Good}
 use Rattle.written_world.specs.Outputs.{Came}
 use Rattle.written_world.specs.Events.{addressed, heard_by, heard_line}
-use Rattle.written_join.specs.Seen.{parcel_of}
+use Rattle.written_join.specs.SeenWorlds.{parcel_of}
 use Rattle.written_join.specs.Leading.{AllLead}
-use Rattle.core_join.specs.Agents.{agent_at}
-use Rattle.core_join.specs.Apps.{app_at}
-use Rattle.running_agents.specs.Running.{AgentsRecord, HearInWorld as AgentHears, HearsOneIn as AgentHearsOneIn}
-use Rattle.running_apps.specs.Running.{AppsRecord, HearInWorld as AppHears, HearsOneIn as AppHearsOneIn}
-use Rattle.running_masters.specs.Running.{MastersRecord}
-use Rattle.running_masters.specs.Calls.{HearIn, HearsInWorld as MastersHear, IsHeardAs}
+use Rattle.core_join.specs.AgentInWorld.{agent_at}
+use Rattle.core_join.specs.AppInWorld.{app_at}
+use Rattle.running_agents.specs.RunningAgents.{AgentsRecord, HearInWorld as AgentHears, HearsOneIn as AgentHearsOneIn}
+use Rattle.running_apps.specs.RunningApps.{AppsRecord, HearInWorld as AppHears, HearsOneIn as AppHearsOneIn}
+use Rattle.running_masters.specs.RunningMasters.{MastersRecord}
+use Rattle.running_masters.specs.MasterCalls.{HearIn, HearsInWorld as MastersHear, IsHeardAs}
 use Rattle.schedule_replay.specs.Worlds.{WorldRecord, StandsFor}
 use Rattle.schedule_replay.specs.Moves.{HearsIn, IsHeardIn, heard_lines}
 use Rattle.schedule_replay.proofs.RestStands.{keeps_none}

@@ -21,13 +21,13 @@ use Rattle.written_world.specs.World.{World, App}
 use Rattle.written_world.specs.Good.{Good}
 use Rattle.written_world.specs.Safe.{Safe, grants_at, units_total_at}
 use Rattle.written_net.specs.Sides.{shown}
-use Rattle.written_join.specs.Seen.{app_seen}
+use Rattle.written_join.specs.SeenWorlds.{app_seen}
 use Rattle.core_side.specs.Bodies.{tally_of}
-use Rattle.app_master.specs.Apps.{AppCore, StandsFor as AppStandsFor}
+use Rattle.app_master.specs.AppCores.{AppCore, StandsFor as AppStandsFor}
 use Rattle.app_master.specs.Usable.{is_named, carried_at}
-use Rattle.running_apps.specs.Running.{app_in}
+use Rattle.running_apps.specs.RunningApps.{app_in}
 use Rattle.schedule_replay.specs.Worlds.{WorldRecord, StandsFor}
-use Rattle.schedule_replay.specs.Numbers.{held_now}
+use Rattle.schedule_replay.specs.CoreReads.{held_now}
 use Rattle.schedule_replay.specs.Promises.{IsOfOneEntry, AllHeldOnce}
 use Rattle.schedule_replay.proofs.CoresStandFor.{app_runs}
 

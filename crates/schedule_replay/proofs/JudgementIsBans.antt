@@ -18,18 +18,18 @@ use Rattle.written_roles.specs.Refusals.{NotRunning, Fenced, HardFull, with_foun
 use Rattle.written_roles.specs.Votes.{VotesRecord, judged, marks, votes_in, votes_of}
 use Rattle.written_world.specs.World.{World, Step, refused, then_step, unless_refused}
 use Rattle.written_world.specs.Events.{Ban, ban_each, commanded, is_too_full, judge}
-use Rattle.written_world.specs.Lines.{is_counted}
+use Rattle.written_world.specs.EventRanges.{is_counted}
 use Rattle.written_world.specs.Outputs.{Judged}
 use Rattle.bad_nodes.specs.Ranks.{number_of}
 use Rattle.schedule_replay.specs.Held.{Held}
 use Rattle.fuxi_master.specs.Cores.{CoreRecord}
-use Rattle.running_masters.specs.Running.{MastersRecord, MasterRunsAs}
+use Rattle.running_masters.specs.RunningMasters.{MastersRecord, MasterRunsAs}
 use Rattle.schedule_text.specs.declared.refusal.Refusal.{Refusal}
-use Rattle.schedule_replay.specs.Texts.{lines_text}
+use Rattle.schedule_replay.specs.ReplayTexts.{lines_text}
 use Rattle.schedule_replay.specs.Worlds.{WorldRecord, IsWorld, StandsFor}
 use Rattle.schedule_replay.specs.Moves.{IsActedOnce, ban_one}
 use Rattle.schedule_replay.specs.declared.commands.Judgement.{Judgement}
-use Rattle.schedule_replay.specs.Commands.{Governing, IsGoverning, IsDecided, Decides, DecidesIn, GovernsOn, TakesStep, governing}
+use Rattle.schedule_replay.specs.MasterCommands.{Governing, IsGoverning, IsDecided, Decides, DecidesIn, GovernsOn, TakesStep, governing}
 use Rattle.schedule_replay.proofs.LineEvents.{not_below}
 use Rattle.schedule_replay.proofs.MovesLemmas.{masters_once}
 use Rattle.schedule_replay.proofs.MastersActInWorld.{MastersAct, are_governing, governed_stands}

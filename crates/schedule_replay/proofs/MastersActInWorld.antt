@@ -4,16 +4,16 @@ use Rattle.party_ledgers.specs.declared.packets.Packet.{Packet}
 use Rattle.written_net.specs.Net.{Party}
 use Rattle.written_net.specs.Channels.{master_id, party}
 use Rattle.written_world.specs.World.{World, Step, refused}
-use Rattle.packet_pool.specs.Pools.{Stored}
+use Rattle.packet_pool.specs.PacketPools.{Stored}
 use Rattle.schedule_replay.specs.Held.{Held}
-use Rattle.running_masters.specs.Running.{MastersRecord}
+use Rattle.running_masters.specs.RunningMasters.{MastersRecord}
 use Rattle.schedule_text.specs.declared.refusal.Refusal.{Refusal}
 use Rattle.schedule_text.specs.Printing.{as_refusal}
-use Rattle.schedule_replay.specs.Texts.{lines_text}
+use Rattle.schedule_replay.specs.ReplayTexts.{lines_text}
 use Rattle.schedule_replay.specs.Worlds.{WorldRecord, IsWorld, StandsFor}
-use Rattle.schedule_replay.specs.Steps.{IsDone}
+use Rattle.schedule_replay.specs.WorldSteps.{IsDone}
 use Rattle.schedule_replay.specs.Moves.{KeepsMore, MasterActs, Acts, refusal_lines}
-use Rattle.schedule_replay.specs.Commands.{Governing, IsGoverning, GovernsIn, Governs, GovernsOn, TakesStep, governing}
+use Rattle.schedule_replay.specs.MasterCommands.{Governing, IsGoverning, GovernsIn, Governs, GovernsOn, TakesStep, governing}
 use Rattle.schedule_replay.proofs.RestStands.{keeps_none}
 use Rattle.schedule_replay.proofs.MovesLemmas.{once_up_to, masters_once}
 

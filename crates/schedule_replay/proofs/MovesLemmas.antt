@@ -1,10 +1,10 @@
 -- How many steps cores took.
 use Rattle.std.proofs.Common.{ℕ, ◌+◌, ◌≤◌, refl, arith}
 use Rattle.schedule_replay.specs.Held.{Held}
-use Rattle.packet_pool.specs.Pools.{Stored}
-use Rattle.running_agents.specs.Running.{AgentsRecord, AreWithin as AgentsWithin}
-use Rattle.running_apps.specs.Running.{AppsRecord, AreWithin as AppsWithin}
-use Rattle.running_masters.specs.Running.{MastersRecord, AreWithin as MastersWithin, MayStep as MasterMayStep}
+use Rattle.packet_pool.specs.PacketPools.{Stored}
+use Rattle.running_agents.specs.RunningAgents.{AgentsRecord, AreWithin as AgentsWithin}
+use Rattle.running_apps.specs.RunningApps.{AppsRecord, AreWithin as AppsWithin}
+use Rattle.running_masters.specs.RunningMasters.{MastersRecord, AreWithin as MastersWithin, MayStep as MasterMayStep}
 use Rattle.schedule_replay.specs.Worlds.{WorldRecord, AreWithin, event_steps}
 use Rattle.schedule_replay.specs.Moves.{CanMove, MovesOnce, MovesUpTo}
 

@@ -13,7 +13,7 @@ use Rattle.written_world.specs.Safe.{Safe}
 use Rattle.place_pass.specs.Placers.{asks_seen}
 use Rattle.fuxi_master.specs.Cores.{CoreRecord, StandsFor as MasterStandsFor}
 use Rattle.schedule_replay.specs.Worlds.{WorldRecord, StandsFor}
-use Rattle.schedule_replay.specs.Numbers.{is_placeable}
+use Rattle.schedule_replay.specs.CoreReads.{is_placeable}
 use Rattle.schedule_replay.specs.Promises.{AllSettled}
 
 placeable_is : (x : CoreRecord) (r : MasterRole) (a u m : ℕ) → MasterStandsFor x r → is_placeable x a u m ≡ placeable r.cluster r.state a u m

@@ -16,21 +16,21 @@ use Rattle.written_net.specs.Channels.{agent_id, app_id, party}
 use Rattle.written_roles.specs.Refusals.{Refusal as Written, NoMachine, NoJob, Ended, NotRising, NotRunning, with_found}
 use Rattle.written_world.specs.World.{World, Step, Agent, App, refused, prints_nothing, unless_refused}
 use Rattle.written_world.specs.Events.{start_agent, agent_started, start_app, app_started, at_agent, at_app, asks, usable_now, given_back, demanded}
-use Rattle.packet_pool.specs.Pools.{Stored}
-use Rattle.running_agents.specs.Running.{AgentsRecord, AreAgentsOf, OneActsIn as AgentActsIn, StartsOneIn as AgentStartsIn}
-use Rattle.running_apps.specs.Running.{AppsRecord, AreAppsOf, OneActsIn as AppActsIn, StartsOneIn as AppStartsIn}
-use Rattle.core_join.specs.Agents.{agent_at}
-use Rattle.core_join.specs.Apps.{app_at}
+use Rattle.packet_pool.specs.PacketPools.{Stored}
+use Rattle.running_agents.specs.RunningAgents.{AgentsRecord, AreAgentsOf, OneActsIn as AgentActsIn, StartsOneIn as AgentStartsIn}
+use Rattle.running_apps.specs.RunningApps.{AppsRecord, AreAppsOf, OneActsIn as AppActsIn, StartsOneIn as AppStartsIn}
+use Rattle.core_join.specs.AgentInWorld.{agent_at}
+use Rattle.core_join.specs.AppInWorld.{app_at}
 use Rattle.written_roles.specs.Apps.{AppCommand, command_tests, command_key, command_number}
 use Rattle.app_master.specs.declared.fault.AppFault.{AppFault}
 use Rattle.app_master.specs.declared.fault.AppFault.TheVariants as fault
-use Rattle.core_join.specs.Apps.{IsRefusedAs}
+use Rattle.core_join.specs.AppInWorld.{IsRefusedAs}
 use Rattle.schedule_text.specs.declared.refusal.Refusal.{Refusal}
 use Rattle.schedule_text.specs.Printing.{as_refusal}
 use Rattle.schedule_replay.specs.declared.stop.WorldStop.{WorldStop}
-use Rattle.schedule_replay.specs.Texts.{lines_text}
+use Rattle.schedule_replay.specs.ReplayTexts.{lines_text}
 use Rattle.schedule_replay.specs.Worlds.{WorldRecord, IsWorld, StandsFor}
-use Rattle.schedule_replay.specs.Steps.{IsDone, limit_of}
+use Rattle.schedule_replay.specs.WorldSteps.{IsDone, limit_of}
 use Rattle.schedule_replay.specs.Moves.{KeepsMore, AgentActs, AppActs, Acts, IsActed, WantsMemory, IsRefusalOf, refusal_lines}
 use Rattle.schedule_replay.proofs.RestStands.{keeps_none}
 use Rattle.schedule_replay.proofs.MovesLemmas.{once_up_to, none_once}

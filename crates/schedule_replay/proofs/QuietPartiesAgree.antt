@@ -5,7 +5,7 @@ use Rattle.fuxi_terms.specs.Jobs.{is_known}
 use Rattle.fuxi_terms.specs.Tables.{held_on}
 use Rattle.written_world.specs.World.{World}
 use Rattle.written_world.specs.Safe.{Safe, row_count}
-use Rattle.written_join.specs.Seen.{app_seen}
+use Rattle.written_join.specs.SeenWorlds.{app_seen}
 use Rattle.schedule_replay.specs.Worlds.{WorldRecord, IsWorld, StandsFor}
 use Rattle.schedule_replay.specs.Promises.{AllAgree}
 use Rattle.schedule_replay.proofs.CoresStandFor.{agent_runs, app_runs, table_is}

@@ -8,17 +8,17 @@ use Rattle.core_side.specs.Parcels.{parcel_is, IsSent}
 use Rattle.written_net.specs.Net.{Net, Packet}
 use Rattle.written_net.specs.Ledgers.{Ledger}
 use Rattle.written_net.specs.Channels.{body_of}
-use Rattle.written_join.specs.Seen.{parcel_of}
+use Rattle.written_join.specs.SeenWorlds.{parcel_of}
 use Rattle.written_roles.specs.Refusals.{with_found, NoPacket}
 use Rattle.written_world.specs.World.{World, Step, prints_nothing, refused}
 use Rattle.written_world.specs.Events.{packet_of, no_packet, deliver_one, deliver_all, deliver, deliver_range, dump}
 use Rattle.written_world.specs.Outputs.{Frame}
 use Rattle.wire_frames.specs.Frames.{frame}
-use Rattle.packet_pool.specs.Pools.{Stored}
+use Rattle.packet_pool.specs.PacketPools.{Stored}
 use Rattle.schedule_text.specs.declared.refusal.Refusal.TheVariants as why
-use Rattle.schedule_replay.specs.Texts.{lines_text}
+use Rattle.schedule_replay.specs.ReplayTexts.{lines_text}
 use Rattle.schedule_replay.specs.Worlds.{WorldRecord, KeepsPackets, IsWorld, StandsFor, event_steps}
-use Rattle.schedule_replay.specs.Steps.{IsDone}
+use Rattle.schedule_replay.specs.WorldSteps.{IsDone}
 use Rattle.schedule_replay.specs.Moves.{IsActed, GoesThrough, TookSteps, refusal_lines}
 use Rattle.schedule_replay.proofs.ActsByOneStep.{acted_as}
 use Rattle.schedule_replay.proofs.MovesLemmas.{once_up_to, none_once}

@@ -10,12 +10,12 @@ use Rattle.written_net.specs.Net.{Party, Id}
 use Rattle.written_net.specs.Sides.{Parcel}
 use Rattle.written_net.specs.Channels.{agent_id, app_id, is_agent, is_app, is_master}
 use Rattle.written_world.specs.World.{World}
-use Rattle.written_join.specs.Joins.{OneActs}
-use Rattle.packet_pool.specs.Pools.{Stored, Keeps}
+use Rattle.written_join.specs.PartyJoins.{OneActs}
+use Rattle.packet_pool.specs.PacketPools.{Stored, Keeps}
 use Rattle.schedule_replay.specs.Held.{Held}
-use Rattle.running_agents.specs.Running.{AgentsRecord, AreAgentsOf, AgentsStay}
-use Rattle.running_apps.specs.Running.{AppsRecord, AreAppsOf, AppsStay}
-use Rattle.running_masters.specs.Running.{MastersRecord, AreMastersOf}
+use Rattle.running_agents.specs.RunningAgents.{AgentsRecord, AreAgentsOf, AgentsStay}
+use Rattle.running_apps.specs.RunningApps.{AppsRecord, AreAppsOf, AppsStay}
+use Rattle.running_masters.specs.RunningMasters.{MastersRecord, AreMastersOf}
 use Rattle.schedule_replay.specs.Worlds.{WorldRecord, KeepsPackets, StandsFor}
 use Rattle.schedule_replay.specs.Moves.{KeepsMore, AgentActs, AppActs, MasterActs}
 

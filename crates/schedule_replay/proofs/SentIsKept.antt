@@ -12,21 +12,21 @@ use Rattle.written_net.specs.Net.{Net, Packet, Party}
 use Rattle.written_net.specs.Ledgers.{Ledger, body_length}
 use Rattle.written_net.specs.Channels.{master_id, frame_length}
 use Rattle.written_net.specs.Sides.{Parcel}
-use Rattle.written_join.specs.Seen.{parcel_of}
-use Rattle.written_join.specs.Joins.{OneActs}
+use Rattle.written_join.specs.SeenWorlds.{parcel_of}
+use Rattle.written_join.specs.PartyJoins.{OneActs}
 use Rattle.written_world.specs.Outputs.{Line, sent_lines}
 use Rattle.written_world.specs.World.{World, prints_nothing}
 use Rattle.written_world.specs.Events.{turn_to_master, turned}
 use Rattle.wire_frames.specs.Frames.{frame, IsFrame}
 use Rattle.wire_frames.specs.Streams.{HasFrame}
-use Rattle.packet_pool.specs.Pools.{Stored, bytes_of, with_frames}
+use Rattle.packet_pool.specs.PacketPools.{Stored, bytes_of, with_frames}
 use Rattle.packet_pool.specs.declared.fault.PoolFault.{PoolFault}
 use Rattle.packet_pool.specs.declared.fault.PoolFault.TheVariants as pool
 use Rattle.schedule_replay.specs.declared.stop.WorldStop.{WorldStop}
 use Rattle.schedule_replay.specs.declared.stop.WorldStop.TheVariants.{TooManyPackets, PoolBytes, OutOfMemory}
-use Rattle.schedule_replay.specs.Texts.{lines_text}
+use Rattle.schedule_replay.specs.ReplayTexts.{lines_text}
 use Rattle.schedule_replay.specs.Worlds.{KeepsPackets}
-use Rattle.schedule_replay.specs.Steps.{packet_bytes, limit_of, Stops}
+use Rattle.schedule_replay.specs.WorldSteps.{packet_bytes, limit_of, Stops}
 use Rattle.schedule_replay.specs.Moves.{StopsFor}
 
 -- The packets that are new in a world are those that were sent

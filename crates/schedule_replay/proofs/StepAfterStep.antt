@@ -3,14 +3,14 @@ use Rattle.std.proofs.Common.{◌≡◌, ℕ, ◌+◌, ◌-◌, ◌<◌, ◌≤�
 use Rattle.fuxi_terms.specs.Cluster.{is_valid_cluster}
 use Rattle.written_world.specs.World.{World, Step, prints_nothing, then_step}
 use Rattle.written_world.specs.Events.{Event, act, world_step, counted_in}
-use Rattle.written_world.specs.Lines.{is_from_line}
+use Rattle.written_world.specs.EventRanges.{is_from_line}
 use Rattle.written_world.specs.Good.{Good}
 use Rattle.written_world.specs.Orders.{IsInOrder}
-use Rattle.schedule_replay.specs.Texts.{lines_text}
+use Rattle.schedule_replay.specs.ReplayTexts.{lines_text}
 use Rattle.schedule_replay.specs.Worlds.{WorldRecord, IsWorld, StandsFor, AreWithin, event_steps}
 use Rattle.schedule_replay.specs.Moves.{CanMove, CanMoveLong, IsActed, IsActedOnce, IsThrough, GoesThrough, TookSteps}
 use Rattle.schedule_replay.proofs.MovesLemmas.{all_wider}
-use Rattle.schedule_replay.proofs.TextsLemmas.{lines_append}
+use Rattle.schedule_replay.proofs.ReplayTextsLemmas.{lines_append}
 
 -- The number of events plays no part in what a good world is
 abbrev numbered : World → ℕ → World

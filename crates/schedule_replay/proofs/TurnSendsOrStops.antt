@@ -11,32 +11,32 @@ use Rattle.core_side.specs.Parcels.{parcel_is}
 use Rattle.written_net.specs.Net.{Net, Packet}
 use Rattle.written_net.specs.Ledgers.{Ledger}
 use Rattle.written_net.specs.Channels.{master_id, agent_id, app_id, party}
-use Rattle.written_join.specs.Seen.{parcel_of}
+use Rattle.written_join.specs.SeenWorlds.{parcel_of}
 use Rattle.written_roles.specs.Refusals.{NotRunning, with_found}
 use Rattle.written_roles.specs.Masters.{Master}
 use Rattle.written_roles.specs.MasterSteps.{master_party, peers}
 use Rattle.written_world.specs.World.{World, Step, refused}
 use Rattle.written_world.specs.Events.{turn_agent, turn_app, turn_master, turn_to_master, turned, at_master}
 use Rattle.written_world.specs.Outputs.{sent_lines}
-use Rattle.packet_pool.specs.Pools.{Stored, limit_of as pool_limit}
-use Rattle.core_join.specs.Agents.{agent_at}
-use Rattle.core_join.specs.Apps.{app_at}
-use Rattle.running_agents.specs.Running.{TurnsIn as AgentTurnsIn}
-use Rattle.running_apps.specs.Running.{TurnsIn as AppTurnsIn}
-use Rattle.running_masters.specs.Running.{MastersRecord, AreWithin as MastersWithin}
-use Rattle.running_masters.specs.Calls.{TurnIn, NoneIn}
+use Rattle.packet_pool.specs.PacketPools.{Stored, limit_of as pool_limit}
+use Rattle.core_join.specs.AgentInWorld.{agent_at}
+use Rattle.core_join.specs.AppInWorld.{app_at}
+use Rattle.running_agents.specs.RunningAgents.{TurnsIn as AgentTurnsIn}
+use Rattle.running_apps.specs.RunningApps.{TurnsIn as AppTurnsIn}
+use Rattle.running_masters.specs.RunningMasters.{MastersRecord, AreWithin as MastersWithin}
+use Rattle.running_masters.specs.MasterCalls.{TurnIn, NoneIn}
 use Rattle.schedule_text.specs.declared.refusal.Refusal.TheVariants as why
 use Rattle.schedule_replay.specs.declared.stop.WorldStop.{WorldStop}
 use Rattle.schedule_replay.specs.declared.stop.WorldStop.TheVariants.{TooManyPackets, PoolBytes, OutOfMemory}
-use Rattle.schedule_replay.specs.Texts.{lines_text}
+use Rattle.schedule_replay.specs.ReplayTexts.{lines_text}
 use Rattle.schedule_replay.specs.Worlds.{WorldRecord, IsWorld, StandsFor}
-use Rattle.schedule_replay.specs.Steps.{IsDone, Stops, limit_of}
+use Rattle.schedule_replay.specs.WorldSteps.{IsDone, Stops, limit_of}
 use Rattle.schedule_replay.specs.Moves.{KeepsMore, StopsFor, Acts, IsActed, WantsMemory, refusal_lines}
 use Rattle.schedule_replay.proofs.MovesLemmas.{once_up_to, none_once, masters_once}
 use Rattle.schedule_replay.proofs.MastersActInWorld.{MastersAct, is_refused}
 use Rattle.schedule_replay.proofs.PeersActInWorld.{AgentsAct, AppsAct, agent_acts, app_acts, agent_runs, app_runs}
 use Rattle.schedule_replay.proofs.SentIsKept.{FrameLengths, to_master_lines, turn_text, turn_stops}
-use Rattle.schedule_replay.proofs.TextsLemmas.{sent_more}
+use Rattle.schedule_replay.proofs.ReplayTextsLemmas.{sent_more}
 
 -- The packet of a turn at a place is written there
 pub record IsAt (net : Net Ledger) (xs : List Packet) (i : ℕ) (packet : PacketHere) : Type 0 where

@@ -9,9 +9,9 @@ use Rattle.written_net.specs.Ledgers.{Ledger}
 use Rattle.written_net.specs.Channels.{master_id, agent_id, app_id, party}
 use Rattle.written_world.specs.World.{World}
 use Rattle.written_world.specs.Safe.{Views, Safe}
-use Rattle.written_join.specs.Seen.{side_of}
-use Rattle.agent_core.specs.Standing.{Up as AgentUp, IsUp as IsAgentUp}
-use Rattle.app_master.specs.Apps.{Up as AppUp, IsUp as IsAppUp}
+use Rattle.written_join.specs.SeenWorlds.{side_of}
+use Rattle.agent_core.specs.AgentCores.{Up as AgentUp, IsUp as IsAgentUp}
+use Rattle.app_master.specs.AppCores.{Up as AppUp, IsUp as IsAppUp}
 use Rattle.fuxi_master.specs.Cores.{IsDown, IsApp}
 use Rattle.schedule_replay.specs.Worlds.{WorldRecord, StandsFor}
 use Rattle.schedule_replay.specs.Promises.{FollowEachOther, AllFollow}

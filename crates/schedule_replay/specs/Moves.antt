@@ -13,24 +13,24 @@ use Rattle.written_world.specs.World.{World, Step}
 use Rattle.written_roles.specs.MasterSteps.{BansMachine}
 use Rattle.written_world.specs.Outputs.{Line, Refused, Judged, Lost, Came}
 use Rattle.written_world.specs.Events.{addressed, commanded, heard_by, heard_line}
-use Rattle.written_join.specs.Seen.{parcel_of}
-use Rattle.written_join.specs.Joins.{OneActs}
-use Rattle.packet_pool.specs.Pools.{Stored, Keeps, limit_of as pool_limit}
+use Rattle.written_join.specs.SeenWorlds.{parcel_of}
+use Rattle.written_join.specs.PartyJoins.{OneActs}
+use Rattle.packet_pool.specs.PacketPools.{Stored, Keeps, limit_of as pool_limit}
 use Rattle.packet_pool.specs.declared.fault.PoolFault.{PoolFault}
 use Rattle.packet_pool.specs.declared.fault.PoolFault.TheVariants as pool
 use Rattle.wire_frames.specs.Streams.{HasFrame}
 use Rattle.schedule_replay.specs.Held.{Held, IsOpen}
-use Rattle.running_agents.specs.Running.{AgentsRecord, AreAgentsOf}
-use Rattle.running_apps.specs.Running.{AppsRecord, AreAppsOf}
-use Rattle.running_masters.specs.Running.{MastersRecord, AreMastersOf}
+use Rattle.running_agents.specs.RunningAgents.{AgentsRecord, AreAgentsOf}
+use Rattle.running_apps.specs.RunningApps.{AppsRecord, AreAppsOf}
+use Rattle.running_masters.specs.RunningMasters.{MastersRecord, AreMastersOf}
 use Rattle.schedule_text.specs.declared.refusal.Refusal.{Refusal}
 use Rattle.schedule_text.specs.declared.refusal.Refusal.TheVariants as why
 use Rattle.schedule_text.specs.Printing.{as_refusal}
 use Rattle.schedule_replay.specs.declared.stop.WorldStop.{WorldStop}
 use Rattle.schedule_replay.specs.declared.stop.WorldStop.TheVariants.{TooManyPackets, PoolBytes, OutOfMemory}
-use Rattle.schedule_replay.specs.Texts.{lines_text}
+use Rattle.schedule_replay.specs.ReplayTexts.{lines_text}
 use Rattle.schedule_replay.specs.Worlds.{WorldRecord, IsWorld, StandsFor, AreWithin, event_steps}
-use Rattle.schedule_replay.specs.Steps.{IsDone, limit_of, Stops}
+use Rattle.schedule_replay.specs.WorldSteps.{IsDone, limit_of, Stops}
 
 -- it stands for a world, and each core may take a step
 pub record CanMove (r : WorldRecord) : Type 0 where

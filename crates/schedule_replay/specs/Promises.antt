@@ -21,15 +21,15 @@ use Rattle.written_world.specs.Quiet.{is_quiet}
 use Rattle.written_world.specs.Safe.{RowsFit, place_for, grants_at, units_total_at, row_count}
 use Rattle.place_pass.specs.Placers.{asks_seen}
 use Rattle.broadcast.specs.AllShown.{Down, App as Grants}
-use Rattle.agent_core.specs.Standing.{AgentCore, table_in}
-use Rattle.app_master.specs.Apps.{AppCore}
+use Rattle.agent_core.specs.AgentCores.{AgentCore, table_in}
+use Rattle.app_master.specs.AppCores.{AppCore}
 use Rattle.app_master.specs.Usable.{is_named}
 use Rattle.fuxi_master.specs.Cores.{CoreRecord, MasterRecord}
-use Rattle.running_agents.specs.Running.{agent_in}
-use Rattle.running_apps.specs.Running.{app_in}
-use Rattle.running_masters.specs.Running.{running as master_in}
+use Rattle.running_agents.specs.RunningAgents.{agent_in}
+use Rattle.running_apps.specs.RunningApps.{app_in}
+use Rattle.running_masters.specs.RunningMasters.{running as master_in}
 use Rattle.schedule_replay.specs.Worlds.{WorldRecord, IsWorld, StandsFor}
-use Rattle.schedule_replay.specs.Numbers.{held_now, is_placeable}
+use Rattle.schedule_replay.specs.CoreReads.{held_now, is_placeable}
 
 -- Capacity. The table of each agent that runs fits its machine, in each resource
 abbrev pub TablesFit : WorldRecord → Type 0

@@ -4,14 +4,14 @@ use Rattle.std.specs.List.{AllByRecursion}
 use Rattle.fuxi_terms.specs.Cluster.{ClusterRecord, is_valid_cluster}
 use Rattle.party_ledgers.specs.declared.packets.Packet.{Packet}
 use Rattle.core_side.specs.Parcels.{parcel_is, IsSent}
-use Rattle.written_join.specs.Seen.{parcel_of}
+use Rattle.written_join.specs.SeenWorlds.{parcel_of}
 use Rattle.written_world.specs.World.{World}
 use Rattle.written_world.specs.Good.{Good}
-use Rattle.packet_pool.specs.Pools.{Stored, Keeps}
+use Rattle.packet_pool.specs.PacketPools.{Stored, Keeps}
 use Rattle.schedule_replay.specs.Held.{Held, IsOpen}
-use Rattle.running_agents.specs.Running.{AgentsRecord, AreAgentsOf, AreWithin as AgentsWithin}
-use Rattle.running_apps.specs.Running.{AppsRecord, AreAppsOf, AreWithin as AppsWithin}
-use Rattle.running_masters.specs.Running.{MastersRecord, AreMastersOf, AreWithin as MastersWithin}
+use Rattle.running_agents.specs.RunningAgents.{AgentsRecord, AreAgentsOf, AreWithin as AgentsWithin}
+use Rattle.running_apps.specs.RunningApps.{AppsRecord, AreAppsOf, AreWithin as AppsWithin}
+use Rattle.running_masters.specs.RunningMasters.{MastersRecord, AreMastersOf, AreWithin as MastersWithin}
 use Rattle.written_world.specs.Orders.{IsInOrder}
 
 -- the cluster, the hard state on its disk, the cores that run, the frames of all packets that were sent, and the number of events

@@ -3,7 +3,7 @@
 ghost use Rattle.std.specs.Prelude.{◌≡◌, ◌<◌};
 ghost use Rattle.schedule_text.specs.Writing.{IsLineEvent};
 ghost use Rattle.written_world.specs.Events.{act};
-ghost use Rattle.schedule_replay.specs.Events.{event_as};
+ghost use Rattle.schedule_replay.specs.LineEvents.{event_as};
 ghost use Rattle.schedule_replay.specs.Moves.{Acts, CanMove, CanMoveLong};
 
 use crate::agents::{resync_agent, start_agent};

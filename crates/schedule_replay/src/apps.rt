@@ -2,7 +2,7 @@
 
 ghost use Rattle.std.specs.Prelude.{◌≡◌, ◌<◌};
 ghost use Rattle.fuxi_terms.specs.Limits.{most_jobs};
-ghost use Rattle.running_apps.specs.Running.{command_of};
+ghost use Rattle.running_apps.specs.RunningApps.{command_of};
 ghost use Rattle.written_world.specs.Events.{start_app, asks, resync_app};
 ghost use Rattle.schedule_replay.specs.Moves.{Acts, CanMove, IsRefusalOf};
 

@@ -14,12 +14,12 @@ ghost use Rattle.written_roles.specs.MasterSteps.{Submits, Finishes, BansMachine
 ghost use Rattle.schedule_replay.specs.Writings.{IsWritable, event_of};
 ghost use Rattle.written_world.specs.World.{World};
 ghost use Rattle.written_world.specs.Events.{commanded, resync_master, start_master, stop_master};
-ghost use Rattle.running_masters.specs.Running.{AreMastersOf, Fits, MayStep};
-ghost use Rattle.running_masters.specs.Calls.{IsCommand};
+ghost use Rattle.running_masters.specs.RunningMasters.{AreMastersOf, Fits, MayStep};
+ghost use Rattle.running_masters.specs.MasterCalls.{IsCommand};
 ghost use Rattle.hard_state.specs.HardFiles.{Refuses};
 ghost use Rattle.schedule_text.specs.Asked.{job_named};
 ghost use Rattle.schedule_text.specs.Printing.{as_refusal};
-ghost use Rattle.schedule_replay.specs.Commands.{AreGoverned, CarriesOut, Decides, GovernsMasters, GovernsOn, IsGoverning, IsNamed, StartsIn, SubmitsIn, TakesStep, TellsInWorld, WritesIn, command_as, governing, refusal_in};
+ghost use Rattle.schedule_replay.specs.MasterCommands.{AreGoverned, CarriesOut, Decides, GovernsMasters, GovernsOn, IsGoverning, IsNamed, StartsIn, SubmitsIn, TakesStep, TellsInWorld, WritesIn, command_as, governing, refusal_in};
 
 use crate::checkpoint::Checkpoint;
 use crate::writing::Writing;

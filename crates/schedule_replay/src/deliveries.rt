@@ -39,16 +39,34 @@ fn hear(running: &mut Running, alloc: Global, packet: Packet) -> Result<Option<H
             running.masters = masters;
             Ok(heard)
         }
+        Role::Agent | Role::App => hear_peer(running, alloc, &packet),
+    }
+}
+
+// A packet is heard by the agent of its machine or the application of its job.
+fn hear_peer(
+    running: &mut Running,
+    alloc: Global,
+    packet: &Packet,
+) -> Result<Option<Heard>, OutOfMemory>
+    requires peer { packet.now.to.role ≡ Role.Master → ⊥ }
+    requires formed { IsFormed packet.now }
+    requires no_end { packet.now.kind ≡ Kind.End → ⊥ }
+    requires can { CanMove running.old }
+    ensures { IfOk result (IsHeardBy packet.now running.old running.new) }
+{
+    cores_may_step();
+    every_change_is_taken();
+    match packet.to.role {
         Role::Agent => {
             agents_act();
-            let heard = running.agents.hear(alloc, &packet)?;
-            Ok(heard)
+            running.agents.hear(alloc, packet)
         }
         Role::App => {
             apps_act();
-            let heard = running.apps.hear(alloc, &packet)?;
-            Ok(heard)
+            running.apps.hear(alloc, packet)
         }
+        Role::Master => unreachable!(),
     }
 }
 

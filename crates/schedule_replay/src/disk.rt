@@ -3,7 +3,7 @@
 ghost use Rattle.std.specs.Prelude.{◌≡◌, ◌⊎◌, ◌+◌, ◌<◌, ◌≤◌, ◌^◌, true, [], length, max, Some, IfOk, OnOk, OnErr, if◌then◌else◌};
 ghost use Rattle.fuxi_io.specs.Causes.{HasCause};
 ghost use Rattle.fuxi_io.specs.Disks.{IsImage, Syncs, Writes, first_told};
-ghost use Rattle.schedule_replay.specs.Disks.{HasNoRoom, no_moments};
+ghost use Rattle.schedule_replay.specs.GrowingDisks.{HasNoRoom, no_moments};
 
 use fuxi_io::{Disk, Failed, MemDisk};
 use fuxi_terms::OutOfMemory;
@@ -21,7 +21,7 @@ pub(crate) struct GrowingDisk {
 
 impl Model for GrowingDisk {
     ghost use Rattle.std.specs.Prelude.{◌≡◌, []};
-    ghost use Rattle.schedule_replay.specs.Disks.{Grown};
+    ghost use Rattle.schedule_replay.specs.GrowingDisks.{Grown};
 
     ghost Value = { Grown };
 

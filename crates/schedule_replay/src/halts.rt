@@ -11,9 +11,9 @@ ghost use Rattle.schedule_replay.specs.Writings.{IsWritable, event_of};
 ghost use Rattle.schedule_text.specs.Asked.{job_named};
 ghost use Rattle.schedule_text.specs.Halting.{halting};
 ghost use Rattle.schedule_text.specs.Writing.{IsLineEvent};
-ghost use Rattle.schedule_replay.specs.Events.{event_as};
-ghost use Rattle.schedule_replay.specs.Commands.{AreGoverned, TakesStep, governing};
-ghost use Rattle.schedule_replay.specs.Halts.{Halts, HaltsAfter, HaltsWithin, IsWithin};
+ghost use Rattle.schedule_replay.specs.LineEvents.{event_as};
+ghost use Rattle.schedule_replay.specs.MasterCommands.{AreGoverned, TakesStep, governing};
+ghost use Rattle.schedule_replay.specs.HaltsInWorld.{Halts, HaltsAfter, HaltsWithin, IsWithin};
 
 use crate::checkpoint::Checkpoint;
 use crate::commands::{finish_tests, machine_tests, named_job, start_tests, written_refusal};

@@ -5,8 +5,8 @@ ghost use Rattle.bad_nodes.specs.Ranks.{number_of};
 ghost use Rattle.written_world.specs.Events.{Halt, act, ban_each, commanded, judge, resync_master, start_master, stop_master};
 ghost use Rattle.schedule_text.specs.Halting.{halting};
 ghost use Rattle.schedule_text.specs.Writing.{IsLineEvent};
-ghost use Rattle.schedule_replay.specs.Events.{event_as};
-ghost use Rattle.schedule_replay.specs.Commands.{IsNamed, MayBan, command_as};
+ghost use Rattle.schedule_replay.specs.LineEvents.{event_as};
+ghost use Rattle.schedule_replay.specs.MasterCommands.{IsNamed, MayBan, command_as};
 ghost use Rattle.schedule_replay.specs.Moves.{Acts, ActsOnce, CanMove, CanMoveLong, ban_one};
 
 use crate::commands::{self, Judgement, Order};

@@ -4,11 +4,11 @@ ghost use Rattle.std.specs.Prelude.{◌≡◌, ◌<◌, ℕ, true, Some};
 ghost use Rattle.written_roles.specs.Apps.{AppRole, held_by};
 ghost use Rattle.written_world.specs.World.{World as WrittenWorld};
 ghost use Rattle.written_world.specs.Quiet.{is_quiet};
-ghost use Rattle.app_master.specs.Apps.{AppCore, StandsFor};
+ghost use Rattle.app_master.specs.AppCores.{AppCore, StandsFor};
 ghost use Rattle.fuxi_master.specs.Cores.{MasterRecord};
-ghost use Rattle.running_masters.specs.Running.{running as master_in};
+ghost use Rattle.running_masters.specs.RunningMasters.{running as master_in};
 ghost use Rattle.schedule_replay.specs.Worlds.{IsWorld, StandsFor as WorldStandsFor};
-ghost use Rattle.schedule_replay.specs.Numbers.{held_now};
+ghost use Rattle.schedule_replay.specs.CoreReads.{held_now};
 ghost use Rattle.schedule_replay.specs.Promises.{TablesFit, AllHeldOnce, AllFollow, AllAgree, AllSettled, AreOfGoodWorld, Agree};
 
 use crate::world::World;

@@ -4,10 +4,10 @@ ghost use Rattle.std.specs.Prelude.{◌≡◌, ◌+◌, ◌<◌, ◌^◌, ◌++�
 ghost use Rattle.written_world.specs.World.{World as WrittenWorld, empty_world};
 ghost use Rattle.written_world.specs.Show.{show};
 ghost use Rattle.schedule_text.specs.Writing.{IsLineEvent};
-ghost use Rattle.schedule_replay.specs.Events.{event_as};
-ghost use Rattle.schedule_replay.specs.Texts.{lines_text};
+ghost use Rattle.schedule_replay.specs.LineEvents.{event_as};
+ghost use Rattle.schedule_replay.specs.ReplayTexts.{lines_text};
 ghost use Rattle.schedule_replay.specs.Worlds.{IsReached, IsWorld, StandsFor};
-ghost use Rattle.schedule_replay.specs.Steps.{Takes, StopsAt};
+ghost use Rattle.schedule_replay.specs.WorldSteps.{Takes, StopsAt};
 
 use crate::acts::act;
 use crate::checkpoint::Checkpoint;

@@ -6,11 +6,11 @@ ghost use Rattle.core_side.specs.Parcels.{kind_of, parcel_is, IsSent};
 ghost use Rattle.written_net.specs.Net.{Net, Packet as WrittenPacket};
 ghost use Rattle.written_net.specs.Ledgers.{Ledger};
 ghost use Rattle.written_net.specs.Channels.{body_of};
-ghost use Rattle.written_join.specs.Seen.{parcel_of};
+ghost use Rattle.written_join.specs.SeenWorlds.{parcel_of};
 ghost use Rattle.written_world.specs.Outputs.{Frame, Judged, sent_lines};
 ghost use Rattle.schedule_text.specs.Printing.{as_kind, as_line};
 ghost use Rattle.schedule_replay.specs.Moves.{refusal_lines, heard_lines, WantsMemory};
-ghost use Rattle.schedule_replay.specs.Texts.{lines_text};
+ghost use Rattle.schedule_replay.specs.ReplayTexts.{lines_text};
 ghost use Rattle.wire_frames.specs.Frames.{frame};
 ghost use Rattle.party_ledgers.specs.declared.packets.Packet.{Packet as PacketSeen};
 

@@ -5,10 +5,10 @@ ghost use Rattle.std.specs.List.{AllByRecursion};
 ghost use Rattle.core_side.specs.Parcels.{parcel_is, IsSent};
 ghost use Rattle.written_net.specs.Net.{Net, Packet as WrittenPacket};
 ghost use Rattle.written_net.specs.Ledgers.{Ledger};
-ghost use Rattle.written_join.specs.Seen.{parcel_of};
+ghost use Rattle.written_join.specs.SeenWorlds.{parcel_of};
 ghost use Rattle.written_world.specs.Outputs.{sent_lines};
 ghost use Rattle.written_world.specs.Events.{turn_agent, turn_app, turn_master};
-ghost use Rattle.schedule_replay.specs.Texts.{lines_text};
+ghost use Rattle.schedule_replay.specs.ReplayTexts.{lines_text};
 ghost use Rattle.schedule_replay.specs.Moves.{Acts, CanMove, KeepsMore, StopsAs, StopsFor};
 
 use crate::laws::{agents_act, apps_act, cores_may_step, masters_act};

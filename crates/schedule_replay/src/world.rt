@@ -4,17 +4,17 @@ ghost use Rattle.std.specs.Prelude.{◌≡◌, ℕ, ◌+◌, ◌<◌, ◌^◌, �
 ghost use Rattle.std.specs.Option.{option_copied, option_map};
 ghost use Rattle.std.specs.Ordering.{nat_cmp};
 ghost use Rattle.std.specs.FinMap.Entries.{find};
-ghost use Rattle.running_agents.specs.Running.{agent_in};
-ghost use Rattle.running_apps.specs.Running.{app_in};
-ghost use Rattle.running_masters.specs.Running.{running as master_in};
+ghost use Rattle.running_agents.specs.RunningAgents.{agent_in};
+ghost use Rattle.running_apps.specs.RunningApps.{app_in};
+ghost use Rattle.running_masters.specs.RunningMasters.{running as master_in};
 ghost use Rattle.written_world.specs.World.{World as WrittenWorld, empty_world};
 ghost use Rattle.written_world.specs.Quiet.{is_quiet};
 ghost use Rattle.written_world.specs.Show.{show};
 ghost use Rattle.schedule_text.specs.Writing.{IsLineEvent};
-ghost use Rattle.schedule_replay.specs.Events.{event_as};
-ghost use Rattle.schedule_replay.specs.Texts.{lines_text};
+ghost use Rattle.schedule_replay.specs.LineEvents.{event_as};
+ghost use Rattle.schedule_replay.specs.ReplayTexts.{lines_text};
 ghost use Rattle.schedule_replay.specs.Worlds.{IsReached, IsWorld, StandsFor};
-ghost use Rattle.schedule_replay.specs.Steps.{Takes, StopsAt};
+ghost use Rattle.schedule_replay.specs.WorldSteps.{Takes, StopsAt};
 
 use crate::lines::Lines;
 use crate::running::Running;

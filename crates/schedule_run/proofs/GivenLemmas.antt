@@ -9,12 +9,12 @@ use Rattle.fuxi_terms.specs.Counts.{then_do}
 use Rattle.fuxi_terms.specs.Limits.{most_line_bytes}
 use Rattle.cluster_desc.specs.declared.fault.ClusterFault.{ClusterFault}
 use Rattle.cluster_desc.specs.ClusterLine.{cluster_of}
-use Rattle.schedule_text.specs.Reading.{event_of}
+use Rattle.schedule_text.specs.ReadEvents.{event_of}
 use Rattle.schedule_text.specs.declared.event.Event.{Event as LineEvent}
 use Rattle.schedule_text.specs.declared.event.LineFault.{LineFault}
-use Rattle.schedule_replay.specs.Events.{event_as}
+use Rattle.schedule_replay.specs.LineEvents.{event_as}
 use Rattle.written_world.specs.Events.{Event}
-use Rattle.written_world.specs.Lines.{IsInput, is_from_line}
+use Rattle.written_world.specs.EventRanges.{IsInput, is_from_line}
 use Rattle.input_lines.specs.Contents.{content, is_skipped}
 use Rattle.schedule_run.specs.Inputs.{Input, BadLine, cluster_said, event_said, unless_long, events_from, input_from}
 

@@ -1,4 +1,4 @@
 pub mod GivenLemmas
-pub mod ProgressLemmas
-pub mod RunsLemmas
+pub mod ScheduleProgressLemmas
+pub mod ScheduleRunsLemmas
 pub mod ToldLemmas

@@ -13,30 +13,30 @@ use Rattle.fuxi_terms.specs.Counts.{then_do}
 use Rattle.fuxi_terms.specs.Limits.{most_line_bytes, most_lines}
 use Rattle.cluster_desc.specs.declared.fault.ClusterFault.{ClusterFault}
 use Rattle.cluster_desc.specs.ClusterLine.{cluster_of}
-use Rattle.schedule_text.specs.Reading.{event_of}
+use Rattle.schedule_text.specs.ReadEvents.{event_of}
 use Rattle.schedule_text.specs.declared.event.Event.{Event as LineEvent}
 use Rattle.schedule_text.specs.declared.event.LineFault.{LineFault}
 use Rattle.schedule_replay.specs.declared.stop.WorldStop.{WorldStop}
 use Rattle.schedule_replay.specs.declared.stop.WorldStop.TheVariants.{TooManyPackets, PoolBytes, OutOfMemory as WantOfMemory}
-use Rattle.schedule_replay.specs.Events.{event_as}
-use Rattle.schedule_replay.specs.Steps.{limit_of}
-use Rattle.schedule_replay.specs.Texts.{lines_text, frame_of}
-use Rattle.schedule_text.specs.Lines.{line_text}
+use Rattle.schedule_replay.specs.LineEvents.{event_as}
+use Rattle.schedule_replay.specs.WorldSteps.{limit_of}
+use Rattle.schedule_replay.specs.ReplayTexts.{lines_text, frame_of}
+use Rattle.schedule_text.specs.PrintedLines.{line_text}
 use Rattle.written_world.specs.Outputs.{Line}
 use Rattle.written_world.specs.World.{World, empty_world}
 use Rattle.written_world.specs.Events.{Event, world_step}
 use Rattle.written_world.specs.Runs.{run_from as written_run, run, outputs}
 use Rattle.written_world.specs.Show.{show}
 use Rattle.input_lines.specs.Contents.{content, is_skipped}
-use Rattle.input_lines.specs.Statuses.{event_fault}
+use Rattle.input_lines.specs.InputStatuses.{event_fault}
 use Rattle.input_lines.specs.LineRuns.{Ending, AtEnd, AtBadLine, AtLimit, Run, ended, final_text}
 use Rattle.input_lines.specs.OpenedRuns.{run_opened}
 use Rattle.input_lines.specs.Openings.{cluster_fault, described}
 use Rattle.input_lines.proofs.LineRunsLemmas.{run_long, run_skipped}
 use Rattle.schedule_run.specs.Inputs.{Input, BadLine, cluster_said, event_said, unless_long, events_from, input_from, told}
-use Rattle.schedule_run.specs.Runs.{pieces, read_from, run_from, run_of, state_texts, world_opener, world_runner}
+use Rattle.schedule_run.specs.ScheduleRuns.{pieces, read_from, run_from, run_of, state_texts, world_opener, world_runner}
 use Rattle.schedule_run.specs.Told.{IsText, IsTextBefore, IsFrontText}
-use Rattle.schedule_run.proofs.RunsLemmas.{ending_at, run_bad, run_past, run_taken}
+use Rattle.schedule_run.proofs.ScheduleRunsLemmas.{ending_at, run_bad, run_past, run_taken}
 
 abbrev bad_line : ℕ → InputFault → BadLine
 bad_line line fault = record { line = line; fault = fault }

@@ -8,15 +8,15 @@ use Rattle.fuxi_terms.specs.Counts.{then_do}
 use Rattle.fuxi_terms.specs.Limits.{most_line_bytes}
 use Rattle.cluster_desc.specs.declared.fault.ClusterFault.{ClusterFault}
 use Rattle.cluster_desc.specs.ClusterLine.{cluster_of}
-use Rattle.schedule_text.specs.Reading.{event_of}
+use Rattle.schedule_text.specs.ReadEvents.{event_of}
 use Rattle.schedule_text.specs.declared.event.Event.{Event as LineEvent}
 use Rattle.schedule_text.specs.declared.event.LineFault.{LineFault}
-use Rattle.schedule_replay.specs.Events.{event_as}
-use Rattle.schedule_replay.specs.Texts.{lines_text}
+use Rattle.schedule_replay.specs.LineEvents.{event_as}
+use Rattle.schedule_replay.specs.ReplayTexts.{lines_text}
 use Rattle.written_world.specs.Events.{Event}
 use Rattle.written_world.specs.Runs.{outputs}
 use Rattle.input_lines.specs.Contents.{content, is_skipped}
-use Rattle.input_lines.specs.Statuses.{event_fault}
+use Rattle.input_lines.specs.InputStatuses.{event_fault}
 use Rattle.input_lines.specs.Openings.{cluster_fault}
 
 pub record Input : Type 0 where

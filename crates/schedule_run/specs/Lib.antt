@@ -1,4 +1,4 @@
 pub mod Inputs
-pub mod Runs
+pub mod ScheduleRuns
 pub mod Told
-pub mod Progress
+pub mod ScheduleProgress

@@ -3,7 +3,7 @@ use Rattle.std.specs.Prelude.{◌≡◌, ℕ, ◌-◌, List, take, Option, Ok, E
 use Rattle.std.specs.Io.KnownBytes.{Appends}
 use Rattle.fuxi_io.specs.Lines.{lines_of}
 use Rattle.fuxi_io.specs.declared.status.InputFault.{InputFault}
-use Rattle.schedule_replay.specs.Texts.{lines_text}
+use Rattle.schedule_replay.specs.ReplayTexts.{lines_text}
 use Rattle.written_world.specs.Runs.{text}
 use Rattle.schedule_run.specs.Inputs.{Input, input_from, input_of, told}
 

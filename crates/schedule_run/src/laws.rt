@@ -4,10 +4,10 @@ ghost use Rattle.std.specs.Prelude.{◌≡◌, ℕ, List};
 ghost use Rattle.std.specs.List.{concat};
 ghost use Rattle.fuxi_io.specs.declared.status.InputFault.{InputFault};
 ghost use Rattle.input_lines.specs.LineRuns.{AtEnd, AtBadLine};
-ghost use Rattle.schedule_run.specs.Runs.{run_of, pieces};
+ghost use Rattle.schedule_run.specs.ScheduleRuns.{run_of, pieces};
 ghost use Rattle.schedule_run.specs.Told.{IsText, IsTextBefore, IsFrontText, LeadsTo};
 ghost use Rattle.schedule_run.specs.Inputs.{Input};
-ghost use Rattle.written_world.specs.Lines.{IsInput};
+ghost use Rattle.written_world.specs.EventRanges.{IsInput};
 
 use cluster_desc::cluster_lines_are_valid;
 use schedule_replay::events_are_inputs;

@@ -3,8 +3,8 @@ ghost use Rattle.fuxi_io.specs.Causes.{Rose};
 ghost use Rattle.fuxi_io.specs.Reading.{rest_of, read_ahead};
 ghost use Rattle.written_world.specs.World.{World as WrittenWorld, empty_world};
 ghost use Rattle.schedule_replay.specs.Worlds.{IsReached};
-ghost use Rattle.schedule_run.specs.Runs.{run_from, read_from, Ended};
-ghost use Rattle.schedule_run.specs.Progress.{Stands, TakesLine, WritesState, world_status};
+ghost use Rattle.schedule_run.specs.ScheduleRuns.{run_from, read_from, Ended};
+ghost use Rattle.schedule_run.specs.ScheduleProgress.{Stands, TakesLine, WritesState, world_status};
 ghost use Rattle.input_lines.specs.Wholes.{IsReady};
 ghost use Rattle.fuxi_terms.specs.Limits.{most_lines};
 

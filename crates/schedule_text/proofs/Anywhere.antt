@@ -2,7 +2,7 @@
 use Rattle.std.proofs.Common.{◌≡◌, refl, sym, ◌∙◌, subst}
 use Rattle.schedule_text.specs.declared.event.Event.{Event}
 use Rattle.schedule_text.specs.declared.event.Event.TheVariants as event
-use Rattle.schedule_text.specs.Forms.{shape_of}
+use Rattle.schedule_text.specs.LineForms.{shape_of}
 use Rattle.schedule_text.specs.Halting.{is_writing, anywhere}
 use Rattle.schedule_text.specs.Writing.{Saying, saying_of, AreWithin, AreAsks, MayStop, IsLineEvent}
 

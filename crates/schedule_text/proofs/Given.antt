@@ -8,7 +8,7 @@ use Rattle.std.specs.Str.Parse.{digits_value}
 use Rattle.fuxi_terms.specs.Limits.{greatest_count}
 use Rattle.fuxi_terms.specs.Cluster.{is_between}
 use Rattle.fuxi_terms.specs.Counts.{then_do}
-use Rattle.schedule_unit.specs.Numbers.{is_numeral, number_of}
+use Rattle.schedule_unit.specs.NumberWords.{is_numeral, number_of}
 use Rattle.schedule_unit.specs.declared.asks.Ask.{Ask}
 use Rattle.schedule_text.specs.declared.event.Event.{Event}
 use Rattle.schedule_text.specs.declared.event.LineFault.{LineFault}
@@ -18,9 +18,9 @@ use Rattle.schedule_text.specs.declared.form.Head.TheVariants.{Master, Stop, Age
 use Rattle.schedule_text.specs.declared.form.Place.{Place}
 use Rattle.schedule_text.specs.declared.form.Place.TheVariants.{Switch, Calls, Count}
 use Rattle.schedule_text.specs.Words.{words_of}
-use Rattle.schedule_text.specs.Forms.{shape_of, heads, halt_shape, writing_heads, is_within}
+use Rattle.schedule_text.specs.LineForms.{shape_of, heads, halt_shape, writing_heads, is_within}
 use Rattle.schedule_text.specs.Halting.{is_writing, halting}
-use Rattle.schedule_text.specs.Reading.{front, units_of, is_bounded, own_count, is_unit, begins, has_count, is_head, head_of, number_at, numbers_at, counts_at, most_at, ask_of, ask_at, asks_at, asks_of, event_at, event_behind, stop_of, halt_of, event_of_words, event_of}
+use Rattle.schedule_text.specs.ReadEvents.{front, units_of, is_bounded, own_count, is_unit, begins, has_count, is_head, head_of, number_at, numbers_at, counts_at, most_at, ask_of, ask_at, asks_at, asks_of, event_at, event_behind, stop_of, halt_of, event_of_words, event_of}
 use Rattle.schedule_text.specs.Writing.{Saying, says, switch, saying_of, AreWithin, IsAsk, AreAsks, MayStop, IsLineEvent}
 use Rattle.schedule_text.proofs.RoundTrip.{within_length}
 

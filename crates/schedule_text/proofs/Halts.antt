@@ -4,9 +4,9 @@ use Rattle.fuxi_terms.specs.Counts.{then_do}
 use Rattle.schedule_text.specs.declared.event.Event.{Event}
 use Rattle.schedule_text.specs.declared.event.LineFault.{LineFault}
 use Rattle.schedule_text.specs.declared.form.Head.{Head}
-use Rattle.schedule_text.specs.Forms.{heads, halt_shape, writing_heads}
+use Rattle.schedule_text.specs.LineForms.{heads, halt_shape, writing_heads}
 use Rattle.schedule_text.specs.Halting.{halting}
-use Rattle.schedule_text.specs.Reading.{begins, head_of, event_behind, stop_of, halt_of, event_of_words}
+use Rattle.schedule_text.specs.ReadEvents.{begins, head_of, event_behind, stop_of, halt_of, event_of_words}
 
 chosen : List (List ℕ) → Bool → Result Event LineFault
 chosen words b = elim b [ true ↦ halt_of words | false ↦ then_do (head_of heads words) (λ h. event_behind h 0 words) ]

@@ -2,8 +2,8 @@
 use Rattle.std.proofs.Common.{◌≡◌, ℕ, zero, suc, ◌<◌, ◌≤◌, Bool, true, false, nat_eq, List, [], ◌∷◌, length, drop, arith}
 use Rattle.std.proofs.lemmas.Bool.Decides.{nat_tests}
 use Rattle.std.specs.List.{list_all}
-use Rattle.schedule_text.specs.Forms.{Shape}
-use Rattle.schedule_text.specs.Reading.{front, units_of, is_unit, has_count}
+use Rattle.schedule_text.specs.LineForms.{Shape}
+use Rattle.schedule_text.specs.ReadEvents.{front, units_of, is_unit, has_count}
 
 some_behind : (n : ℕ) (words : List (List ℕ)) → list_all is_unit (units_of (drop n words)) ≡ true → n < length words
 some_behind zero [] h = cc

@@ -13,7 +13,7 @@ use Rattle.fuxi_terms.specs.Cluster.{is_between}
 use Rattle.fuxi_terms.specs.Counts.{then_do}
 use Rattle.fuxi_terms.proofs.Booleans.{and_false}
 use Rattle.fuxi_terms.proofs.Alls.{all_append}
-use Rattle.schedule_unit.specs.Numbers.{is_numeral, number_of}
+use Rattle.schedule_unit.specs.NumberWords.{is_numeral, number_of}
 use Rattle.schedule_unit.specs.declared.asks.Ask.{Ask}
 use Rattle.schedule_text.specs.declared.event.Event.{Event}
 use Rattle.schedule_text.specs.declared.event.Event.TheVariants.{Master as MasterEvent, Stop as StopEvent, Agent as AgentEvent, App as AppEvent, Submit as SubmitEvent, Finish as FinishEvent, Ban as BanEvent, Unban as UnbanEvent, Begin as BeginEvent, Preempt as PreemptEvent, Judge as JudgeEvent, Want as WantEvent, Near as NearEvent, Rack as RackEvent, Avoid as AvoidEvent, Back as BackEvent, TurnMaster as TurnMasterEvent, TurnAgent as TurnAgentEvent, TurnApp as TurnAppEvent, ResyncMaster as ResyncMasterEvent, ResyncAgent as ResyncAgentEvent, ResyncApp as ResyncAppEvent, Deliver as DeliverEvent, DeliverRange as DeliverRangeEvent, Dump as DumpEvent, Show as ShowEvent, Halt' as HaltEvent}
@@ -24,9 +24,9 @@ use Rattle.schedule_text.specs.declared.form.Head.TheVariants.{Master, Stop, Age
 use Rattle.schedule_text.specs.declared.form.Place.{Place}
 use Rattle.schedule_text.specs.declared.form.Place.TheVariants.{Calls, Count}
 use Rattle.schedule_text.specs.Words.{is_word, words_of}
-use Rattle.schedule_text.specs.Forms.{shape_of, halt_shape, writing_heads, is_within}
+use Rattle.schedule_text.specs.LineForms.{shape_of, halt_shape, writing_heads, is_within}
 use Rattle.schedule_text.specs.Halting.{is_writing, halting, anywhere}
-use Rattle.schedule_text.specs.Reading.{front, units_of, is_bounded, own_count, is_unit, number_at, numbers_at, counts_at, most_at, ask_at, asks_at, asks_of, head_of, event_at, event_behind, stop_of, event_of_words, event_of}
+use Rattle.schedule_text.specs.ReadEvents.{front, units_of, is_bounded, own_count, is_unit, number_at, numbers_at, counts_at, most_at, ask_at, asks_at, asks_of, head_of, event_at, event_behind, stop_of, event_of_words, event_of}
 use Rattle.schedule_text.specs.Writing.{Saying, switch, saying_of, saying_words, halt_words, most_words, ask_words, asks_words, blanked, spaced, event_text, AreWithin, IsAsk, AreAsks, IsLineEvent}
 use Rattle.schedule_text.proofs.Walks.{ask_read}
 

@@ -8,9 +8,9 @@ use Rattle.schedule_text.specs.declared.form.Place.TheVariants.{Incarnation, Job
 use Rattle.std.proofs.lemmas.Bool.Decides.{nat_tests}
 use Rattle.std.specs.List.{list_all}
 use Rattle.schedule_unit.specs.declared.asks.Ask.{Ask}
-use Rattle.schedule_text.specs.Forms.{is_within, IsNarrow}
+use Rattle.schedule_text.specs.LineForms.{is_within, IsNarrow}
 use Rattle.schedule_text.specs.PlaceNumbers.{number_at as number_in, numbers_at as numbers_in}
-use Rattle.schedule_text.specs.Reading.{number_at, counts_at, own_count, most_at, ask_of, ask_at, asks_at, IsFault}
+use Rattle.schedule_text.specs.ReadEvents.{number_at, counts_at, own_count, most_at, ask_of, ask_at, asks_at, IsFault}
 
 pub then_ok : {A E : Type 0} (r : Result A E) → then_do r (λ x. Ok x) ≡ r
 then_ok (Ok x) = refl

@@ -1,10 +1,10 @@
 pub mod Words
-pub mod Forms
+pub mod LineForms
 pub mod Halting
 pub mod LineHeads
 pub mod PlaceNumbers
-pub mod Reading
+pub mod ReadEvents
 pub mod Writing
-pub mod Lines
+pub mod PrintedLines
 pub mod Printing
 pub mod Asked

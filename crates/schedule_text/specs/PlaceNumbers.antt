@@ -1,7 +1,7 @@
 -- The numbers of a line, place by place, where this says which number is in the range of a place, with the number that stands before it.
 use Rattle.std.specs.Prelude.{ℕ, ◌+◌, Bool, cond, List, [], ◌∷◌, Some, None, Result, Ok, Err}
 use Rattle.fuxi_terms.specs.Counts.{then_do}
-use Rattle.schedule_unit.specs.Numbers.{number_of}
+use Rattle.schedule_unit.specs.NumberWords.{number_of}
 use Rattle.schedule_text.specs.declared.event.LineFault.{LineFault}
 use Rattle.schedule_text.specs.declared.event.LineFault.TheVariants.{BadNumber, Range}
 

@@ -12,7 +12,7 @@ use Rattle.schedule_text.specs.declared.output.Output.{Output}
 use Rattle.schedule_text.specs.declared.output.Output.TheVariants as out
 use Rattle.schedule_text.specs.declared.refusal.Refusal.{Refusal as CodeRefusal}
 use Rattle.schedule_text.specs.declared.refusal.Refusal.TheVariants as why
-use Rattle.schedule_text.specs.Lines.{line_words, ended}
+use Rattle.schedule_text.specs.PrintedLines.{line_words, ended}
 
 abbrev pub role_number : Role → ℕ
 role_number MasterRole = 1

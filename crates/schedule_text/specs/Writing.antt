@@ -9,7 +9,7 @@ use Rattle.schedule_text.specs.declared.form.Head.{Head}
 use Rattle.schedule_text.specs.declared.form.Head.TheVariants.{Master, Stop, Agent, App, Submit, Finish, Ban, Unban, Begin, Preempt, Judge, Want, Near, Rack, Avoid, Back, TurnMaster, TurnAgent, TurnApp, ResyncMaster, ResyncAgent, ResyncApp, Deliver, DeliverRange, Dump, Show}
 use Rattle.schedule_text.specs.declared.form.Place.{Place}
 use Rattle.schedule_text.specs.declared.form.Place.TheVariants.{Calls}
-use Rattle.schedule_text.specs.Forms.{shape_of, halt_shape, is_within}
+use Rattle.schedule_text.specs.LineForms.{shape_of, halt_shape, is_within}
 use Rattle.schedule_text.specs.Halting.{is_writing}
 
 -- what an event says: its line, the numbers of that line, and the units behind them; of a stop within a writing what the line within says

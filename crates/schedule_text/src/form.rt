@@ -1,7 +1,7 @@
 //! The table of event lines.
 
 ghost use Rattle.std.specs.Prelude.{◌≡◌, ◌≤◌, length, map};
-ghost use Rattle.schedule_text.specs.Forms.{shape_of, as_shape, halt_shape, line as shape_line};
+ghost use Rattle.schedule_text.specs.LineForms.{shape_of, as_shape, halt_shape, line as shape_line};
 
 use crate::number::NumberPlace;
 use fuxi_terms::limits::{MOST_GROUPS, MOST_JOBS, MOST_MACHINES, MOST_RACKS, MOST_UNITS};
@@ -177,7 +177,7 @@ pub fn halt_form() -> Form
 }
 
 impl NumberPlace for Place {
-    ghost use Rattle.schedule_text.specs.Forms.{is_within, IsNarrow};
+    ghost use Rattle.schedule_text.specs.LineForms.{is_within, IsNarrow};
     ghost use Rattle.schedule_text.specs.declared.form.Place.TheVariants.{Incarnation};
 
     ghost within = { is_within };

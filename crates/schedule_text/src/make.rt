@@ -1,9 +1,9 @@
 //! Events are made of the numbers of their lines.
 
 ghost use Rattle.std.specs.Prelude.{◌≡◌, ℕ, ◌<◌, ◌≤◌, length, slice_index, get_or};
-ghost use Rattle.schedule_text.specs.Forms.{shape_of, IsNarrow};
+ghost use Rattle.schedule_text.specs.LineForms.{shape_of, IsNarrow};
 ghost use Rattle.schedule_text.specs.Halting.{anywhere};
-ghost use Rattle.schedule_text.specs.Reading.{event_at};
+ghost use Rattle.schedule_text.specs.ReadEvents.{event_at};
 ghost use Rattle.schedule_text.specs.declared.form.Place.TheVariants.{Incarnation as IncarnationPlace};
 
 use crate::event::Event;

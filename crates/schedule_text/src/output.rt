@@ -2,7 +2,7 @@
 
 ghost use Rattle.std.specs.Prelude.{◌≡◌, ◌++◌, ◌∷◌, [], true, Bool, List, ℕ, cond, codes, map, OnOk, OnErr, decimal};
 ghost use Rattle.hex.specs.Hex.{encode_lower};
-ghost use Rattle.schedule_text.specs.Lines.{party_word, place_word, kind_word, what_word, frame_words, ended};
+ghost use Rattle.schedule_text.specs.PrintedLines.{party_word, place_word, kind_word, what_word, frame_words, ended};
 ghost use Rattle.schedule_text.specs.Printing.{as_party, as_kind, is_entry, output_words, output_text};
 ghost use Rattle.schedule_text.specs.Writing.{blanked, spaced, Begins};
 

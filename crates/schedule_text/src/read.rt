@@ -3,8 +3,8 @@
 ghost use Rattle.std.specs.Prelude.{◌≡◌, true, ℕ, ◌+◌, ◌^◌, ◌<◌, ◌≤◌, List, ◌∷◌, IfOk, IfErr, IfSome, Ok, Err, map, length, take, drop, slice_index, slice_get, get_or, Some};
 ghost use Rattle.std.specs.List.{find, list_all, list_any};
 ghost use Rattle.fuxi_terms.specs.Counts.{then_do};
-ghost use Rattle.schedule_text.specs.Forms.{Shape, shape_of, as_shape, IsNarrow};
-ghost use Rattle.schedule_text.specs.Reading.{begins, is_head, has_count, own_count, is_unit, units_of, head_of, number_at, numbers_at, counts_at, most_at, ask_at, asks_at, asks_of, event_at, event_behind, stop_of, halt_of, event_of_words, event_of, front, IsFault};
+ghost use Rattle.schedule_text.specs.LineForms.{Shape, shape_of, as_shape, IsNarrow};
+ghost use Rattle.schedule_text.specs.ReadEvents.{begins, is_head, has_count, own_count, is_unit, units_of, head_of, number_at, numbers_at, counts_at, most_at, ask_at, asks_at, asks_of, event_at, event_behind, stop_of, halt_of, event_of_words, event_of, front, IsFault};
 ghost use Rattle.schedule_text.specs.Halting.{anywhere};
 ghost use Rattle.schedule_text.specs.Writing.{IsLineEvent};
 ghost use Rattle.schedule_text.specs.declared.event.Event.{Event as AnyEvent};
@@ -56,8 +56,8 @@ fn event_in(alloc: Global, words: &[&[u8]]) -> Result<Event, LineFault>
 }
 
 impl LineHead for Head {
-    ghost use Rattle.schedule_text.specs.Forms.{shape_of};
-    ghost use Rattle.schedule_text.specs.Reading.{begins, has_count};
+    ghost use Rattle.schedule_text.specs.LineForms.{shape_of};
+    ghost use Rattle.schedule_text.specs.ReadEvents.{begins, has_count};
 
     ghost begun = { λ head. begins (shape_of head) };
 

@@ -1,7 +1,7 @@
 //! Why an event is refused.
 
 ghost use Rattle.std.specs.Prelude.{◌≡◌, ◌++◌, ◌∷◌, [], map, OnOk, OnErr, decimal};
-ghost use Rattle.schedule_text.specs.Lines.{refusal_words};
+ghost use Rattle.schedule_text.specs.PrintedLines.{refusal_words};
 ghost use Rattle.schedule_text.specs.Printing.{as_refusal};
 ghost use Rattle.schedule_text.specs.Writing.{blanked, Begins};
 

@@ -2,9 +2,9 @@
 
 ghost use Rattle.std.specs.Prelude.{◌≡◌, ◌<◌, ◌≤◌, ◌++◌, ◌∷◌, [], map, length, take, OnOk, OnErr, decimal, codes, Ok};
 ghost use Rattle.std.specs.List.{flat_map};
-ghost use Rattle.schedule_text.specs.Forms.{shape_of};
+ghost use Rattle.schedule_text.specs.LineForms.{shape_of};
 ghost use Rattle.schedule_text.specs.Halting.{anywhere};
-ghost use Rattle.schedule_text.specs.Reading.{event_of};
+ghost use Rattle.schedule_text.specs.ReadEvents.{event_of};
 ghost use Rattle.schedule_text.specs.Writing.{says, saying_of, saying_words, halt_words, most_words, ask_words, asks_words, blanked, spaced, event_text, Begins, IsLineEvent};
 ghost use Rattle.schedule_text.specs.declared.event.Event.{Event as AnyEvent};
 

@@ -11,7 +11,7 @@ use Rattle.std.proofs.lemmas.Bool.{and_parts, and_from, or_left, or_right, or_ca
 use Rattle.std.proofs.lemmas.Str.Parse.{IsNumeralModel, numerals_by_value, parse_digits, tells_all_ascii_digits}
 use Rattle.std.proofs.lemmas.Fmt.{IsAscii-from_digits, digits_decimal, digits_value-decimal, decimal_nonempty, length-decimal-le, first_decimal, decimal_digit, decimal-digits_value}
 use Rattle.fuxi_terms.specs.Cluster.{is_between}
-use Rattle.schedule_unit.specs.Numbers.{is_numeral, number_of}
+use Rattle.schedule_unit.specs.NumberWords.{is_numeral, number_of}
 
 pub digits : IsNumeralModel (λ ds. all_ascii_digits ds ≡ true) (digits_value 10)
 digits = numerals_by_value (λ ds. all_ascii_digits ds ≡ true) tells_all_ascii_digits

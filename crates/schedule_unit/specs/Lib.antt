@@ -1,3 +1,3 @@
 pub mod JobFaults
-pub mod Numbers
+pub mod NumberWords
 pub mod Units

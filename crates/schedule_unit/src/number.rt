@@ -2,7 +2,7 @@
 
 ghost use Rattle.std.specs.Prelude.{◌≡◌, ◌<◌, ◌^◌, ◌++◌, List, ℕ, Some, OnOk, OnErr, decimal};
 ghost use Rattle.std.specs.Str.{all_ascii_digits};
-ghost use Rattle.schedule_unit.specs.Numbers.{is_numeral, number_of};
+ghost use Rattle.schedule_unit.specs.NumberWords.{is_numeral, number_of};
 
 use fuxi_terms::OutOfMemory;
 use itoa::Buffer;

@@ -1,2 +1,2 @@
-pub mod CellsLemmas
+pub mod PoolLayoutLemmas
 pub mod PoolsLemmas

@@ -1,3 +1,3 @@
-pub mod Cells
+pub mod PoolLayout
 pub mod Lends
 pub mod Pools

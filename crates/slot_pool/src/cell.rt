@@ -2,7 +2,7 @@
 
 ghost use Rattle.std.specs.Prelude.{◌≡◌, Some, IsSome};
 ghost use Rattle.std.specs.Borrow.{Lends, sem};
-ghost use Rattle.slot_pool.specs.Cells.{value_of};
+ghost use Rattle.slot_pool.specs.PoolLayout.{value_of};
 
 /// A value, or nothing.
 #[derive(Drop)]

@@ -48,7 +48,7 @@ impl<T: Drop> Drop for Pool<T> {
 impl<T> Model for Pool<T> {
     ghost use Rattle.std.specs.Prelude.{map, vec_len, vec_capacity, ◌+◌, ◌-◌};
     ghost use Rattle.slot_pool.specs.Pools.{PoolRecord, pool_code};
-    ghost use Rattle.slot_pool.specs.Cells.{value_of, IsPool, HasRoom};
+    ghost use Rattle.slot_pool.specs.PoolLayout.{value_of, IsPool, HasRoom};
 
     ghost Value = { PoolRecord T };
 

@@ -11,7 +11,7 @@ use Rattle.schedule_replay.specs.declared.stop.WorldStop.{WorldStop}
 use Rattle.schedule_replay.specs.Worlds.{WorldRecord, StandsFor}
 use Rattle.storm_run.specs.Choices.{counted, restart}
 use Rattle.storm_run.specs.Storms.{taken, delivered, with_delivery}
-use Rattle.storm_run.specs.Runs.{Runs}
+use Rattle.storm_run.specs.StormRuns.{Runs}
 use Rattle.storm_run.proofs.StormsLemmas.{Part, then_ran}
 
 pub counted_some : (n : ℕ) (f : ℕ → Event) → 0 < n → n < 2 ^ 64 → counted n f ≡ f n ∷ []

@@ -3,7 +3,7 @@ use Rattle.std.proofs.Common.{◌≡◌, ℕ, zero, suc, ◌+◌, ◌-◌, ◌<�
 use Rattle.fuxi_terms.specs.Counts.{then_do}
 use Rattle.schedule_replay.specs.declared.stop.WorldStop.{WorldStop}
 use Rattle.schedule_replay.specs.declared.stop.WorldStop.TheVariants.{TooManyPackets, PoolBytes, OutOfMemory}
-use Rattle.schedule_replay.specs.Steps.{Takes, StopsAt}
+use Rattle.schedule_replay.specs.WorldSteps.{Takes, StopsAt}
 use Rattle.schedule_replay.specs.Worlds.{WorldRecord, IsWorld, StandsFor}
 use Rattle.written_world.specs.World.{World, empty_world}
 use Rattle.written_world.specs.Events.{Event, world_step}
@@ -12,7 +12,7 @@ use Rattle.storm_run.specs.Choices.{Chosen, chosen}
 use Rattle.storm_run.specs.Clusters.{storm_cluster}
 use Rattle.storm_run.specs.Storms.{unless_past, taken, all_taken, each, stepped, storm_at, all_stepped, opened, closed, storm}
 use Rattle.storm_run.specs.Summaries.{summary, storm_of}
-use Rattle.storm_run.specs.Runs.{RanTo, StoppedAt, Ends, Runs, Steps, Chooses, events_in}
+use Rattle.storm_run.specs.StormRuns.{RanTo, StoppedAt, Ends, Runs, Steps, Chooses, events_in}
 
 abbrev pub Part : Type 0
 Part = World → Result World WorldStop

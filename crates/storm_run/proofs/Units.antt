@@ -6,7 +6,7 @@ use Rattle.fuxi_terms.specs.Cluster.{JobRecord, is_valid_job, is_between}
 use Rattle.fuxi_terms.specs.Jobs.{KnownJob, job_of, unit_count}
 use Rattle.fuxi_terms.specs.Limits.{most_jobs, most_groups, most_units}
 use Rattle.fuxi_terms.proofs.Booleans.{both_true}
-use Rattle.grant_table.specs.Tables.{as_known, AreJobs}
+use Rattle.grant_table.specs.GrantTables.{as_known, AreJobs}
 
 few_in : (j : JobRecord) → is_valid_job 8 j ≡ true → length j.units ≤ most_units
 few_in j valid =

@@ -3,4 +3,4 @@ pub mod Generators
 pub mod Choices
 pub mod Storms
 pub mod Summaries
-pub mod Runs
+pub mod StormRuns

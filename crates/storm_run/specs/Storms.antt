@@ -6,7 +6,7 @@ use Rattle.fuxi_terms.specs.Counts.{then_do}
 use Rattle.written_world.specs.World.{World, empty_world}
 use Rattle.written_world.specs.Events.{Event, StartMaster, StartAgent, StartApp, Submit, TurnMaster, TurnAgent, TurnApp, DeliverRange, world_step}
 use Rattle.schedule_replay.specs.declared.stop.WorldStop.{WorldStop}
-use Rattle.schedule_replay.specs.Steps.{limit_of}
+use Rattle.schedule_replay.specs.WorldSteps.{limit_of}
 use Rattle.storm_run.specs.Choices.{counted, chosen}
 use Rattle.storm_run.specs.Clusters.{storm_cluster}
 

@@ -4,7 +4,7 @@ ghost use Rattle.std.specs.Prelude.{◌≡◌, ◌<◌, length, None};
 ghost use Rattle.schedule_replay.specs.Worlds.{IsWorld, StandsFor};
 ghost use Rattle.written_world.specs.World.{World as WrittenWorld};
 ghost use Rattle.storm_run.specs.Choices.{chosen, chosen_by, delivery, failover, move_at, restart, trouble};
-ghost use Rattle.storm_run.specs.Runs.{listed, events_in, IsLine, AreLines, Chooses};
+ghost use Rattle.storm_run.specs.StormRuns.{listed, events_in, IsLine, AreLines, Chooses};
 
 use crate::generator::Generator;
 use crate::orders::{Order, order_event};

@@ -2,7 +2,7 @@
 
 ghost use Rattle.std.specs.Prelude.{◌+◌, ◌<◌, ◌≤◌, ◌^◌, IfOk};
 ghost use Rattle.storm_run.specs.Storms.{closed, delivered, master_turned, peers_turned, round, rounds, with_delivery};
-ghost use Rattle.storm_run.specs.Runs.{Runs};
+ghost use Rattle.storm_run.specs.StormRuns.{Runs};
 
 use crate::orders::{Order, PeerOrder, order_event};
 use crate::run::Run;

@@ -1,11 +1,11 @@
 //! The first events.
 
 ghost use Rattle.std.specs.Prelude.{◌≡◌, ◌+◌, ◌<◌, ◌≤◌, ◌^◌, IfOk};
-ghost use Rattle.schedule_replay.specs.Events.{event_as};
+ghost use Rattle.schedule_replay.specs.LineEvents.{event_as};
 ghost use Rattle.schedule_text.specs.Writing.{IsLineEvent};
 ghost use Rattle.written_world.specs.Events.{Submit};
 ghost use Rattle.storm_run.specs.Storms.{job, opened, submitted, taken};
-ghost use Rattle.storm_run.specs.Runs.{Runs};
+ghost use Rattle.storm_run.specs.StormRuns.{Runs};
 
 use crate::orders::PeerOrder;
 use crate::run::Run;

@@ -1,10 +1,10 @@
 //! What masters and their peers are told by their numbers.
 
 ghost use Rattle.std.specs.Prelude.{◌≡◌, ◌<◌};
-ghost use Rattle.schedule_replay.specs.Events.{event_as};
+ghost use Rattle.schedule_replay.specs.LineEvents.{event_as};
 ghost use Rattle.schedule_text.specs.Writing.{IsLineEvent};
 ghost use Rattle.storm_run.specs.Choices.{counted, ordered};
-ghost use Rattle.storm_run.specs.Runs.{listed, told, IsLine};
+ghost use Rattle.storm_run.specs.StormRuns.{listed, told, IsLine};
 
 use schedule_text::Event;
 use schedule_unit::{AppNo, MachineNo};

@@ -1,12 +1,12 @@
 //! What runs in a storm.
 
 ghost use Rattle.std.specs.Prelude.{◌≡◌, ◌+◌, ◌<◌, ◌≤◌, ◌^◌, IfOk};
-ghost use Rattle.schedule_replay.specs.Events.{event_as};
+ghost use Rattle.schedule_replay.specs.LineEvents.{event_as};
 ghost use Rattle.schedule_replay.specs.Worlds.{IsWorld, StandsFor};
 ghost use Rattle.schedule_text.specs.Writing.{IsLineEvent};
 ghost use Rattle.written_world.specs.World.{empty_world};
 ghost use Rattle.storm_run.specs.Storms.{taken, all_taken, each};
-ghost use Rattle.storm_run.specs.Runs.{listed, events_in, told, IsLine, AreLines, Runs};
+ghost use Rattle.storm_run.specs.StormRuns.{listed, events_in, told, IsLine, AreLines, Runs};
 
 use crate::choices::Choice;
 use crate::orders::{PeerOrder, peer_event};

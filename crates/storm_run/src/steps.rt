@@ -2,7 +2,7 @@
 
 ghost use Rattle.std.specs.Prelude.{◌+◌, ◌≤◌, ◌^◌, IfOk};
 ghost use Rattle.storm_run.specs.Storms.{all_stepped, most_storm_steps, stepped, storm_at};
-ghost use Rattle.storm_run.specs.Runs.{Steps};
+ghost use Rattle.storm_run.specs.StormRuns.{Steps};
 
 use crate::choices::choose;
 use crate::generator::Generator;

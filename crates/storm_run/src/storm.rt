@@ -2,7 +2,7 @@
 
 ghost use Rattle.std.specs.Prelude.{◌≡◌, ◌≤◌, IfOk, IfErr};
 ghost use Rattle.fuxi_io.specs.Causes.{Rose};
-ghost use Rattle.storm_run.specs.Runs.{Ends, StormEnded, StoppedAt, stop_status};
+ghost use Rattle.storm_run.specs.StormRuns.{Ends, StormEnded, StoppedAt, stop_status};
 ghost use Rattle.storm_run.specs.Storms.{most_storm_steps, storm};
 ghost use Rattle.storm_run.specs.Summaries.{storm_of};
 

@@ -136,3 +136,7 @@ refreshed_as t new machines ps i e waits k h is made = subst (λ (x : TreeRecord
 
 pub marked_as : (t new : TreeRecord) (machines : ℕ) (ps : List ℕ) (i : ℕ) (e : Entry) (place : ℕ) (unmet : Bool) → IsCase t machines ps → i < length ps → e ≡ entry_of ps i → new ≡ with_stand t e place unmet → IsCase new machines ps
 marked_as t new machines ps i e place unmet k h is made = subst (λ (x : TreeRecord). IsCase x machines ps) (sym (made ∙ ap (λ (x : Entry). with_stand t x place unmet) is)) (case_marked t machines ps i place unmet k h)
+
+-- a unit waits, and is marked at a place
+pub waits_marked : (t mid new : TreeRecord) (machines : ℕ) (ps : List ℕ) (i : ℕ) (e : Entry) (place : ℕ) (unmet : Bool) → IsCase t machines ps → i < length ps → e ≡ entry_of ps i → mid ≡ refreshed t e true → new ≡ with_stand mid e place unmet → IsCase new machines ps
+waits_marked t mid new machines ps i e place unmet k h is made marked = marked_as mid new machines ps i e place unmet (refreshed_as t mid machines ps i e true k h is made) h is marked

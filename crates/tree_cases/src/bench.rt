@@ -3,7 +3,7 @@
 ghost use Rattle.std.specs.Prelude.{◌≡◌, ◌<◌, ◌≤◌, length, OnOk};
 ghost use Rattle.fuxi_terms.specs.Jobs.{unit_count};
 ghost use Rattle.fuxi_terms.specs.Tables.{held_on};
-ghost use Rattle.grant_table.specs.Tables.{as_known};
+ghost use Rattle.grant_table.specs.GrantTables.{as_known};
 ghost use Rattle.place_pass.specs.Placers.{IsLevelWith};
 
 use case_words::Stop;
@@ -29,7 +29,7 @@ impl Drop for Bench {
 }
 
 impl Model for Bench {
-    ghost use Rattle.grant_table.specs.Tables.{TableRecord};
+    ghost use Rattle.grant_table.specs.GrantTables.{TableRecord};
     ghost use Rattle.place_pass.specs.Placers.{IsLevelWith};
 
     ghost Value = { TableRecord };

@@ -2,7 +2,7 @@
 
 ghost use Rattle.std.specs.Prelude.{◌<◌, ◌≤◌, length};
 ghost use Rattle.fuxi_terms.specs.Jobs.{unit_count};
-ghost use Rattle.grant_table.specs.Tables.{as_known};
+ghost use Rattle.grant_table.specs.GrantTables.{as_known};
 
 use case_words::Stop;
 use fuxi_terms::limits::MOST_RACKS;

@@ -21,7 +21,7 @@ use Rattle.ledger_law.specs.OneForm.{number_wide, change_wide, number_entries, c
 use Rattle.ledger_law.specs.Shapes.{IsWritable, AreChangesWithin}
 use Rattle.party_ledgers.specs.RowForms.{row_entry, row_change_entry, IsRowEntry, IsRowChangeEntry}
 use Rattle.party_ledgers.specs.RowOneForm.{row_wide, row_change_wide, row_entries, row_changes}
-use Rattle.party_ledgers.specs.Shapes.{grant_bounded, grant_writable, demand_bounded, demand_writable}
+use Rattle.party_ledgers.specs.PartyShapes.{grant_bounded, grant_writable, demand_bounded, demand_writable}
 use Rattle.party_ledgers.specs.declared.packets.Body.{Body}
 use Rattle.party_ledgers.specs.declared.packets.Body.TheVariants.{Nothing, Row, RowDelta, Join, Grants, GrantsDelta, Demand, DemandDelta}
 use Rattle.wire_frames.specs.Frames.{body_bytes, body_length, HasForm}

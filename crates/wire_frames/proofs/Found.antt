@@ -7,7 +7,7 @@ use Rattle.delta_channel.specs.declared.receiver.Place.{Place}
 use Rattle.party_ledgers.specs.declared.packets.Body.{Body}
 use Rattle.party_ledgers.specs.declared.packets.Packet.{Packet}
 use Rattle.wire_frames.specs.Frames.{place_bytes, header_bytes, body_bytes, frame}
-use Rattle.wire_frames.specs.Reading.{length_in, place_in}
+use Rattle.wire_frames.specs.ReadFrames.{length_in, place_in}
 use Rattle.wire_frames.specs.Headers.{IsHeader}
 use Rattle.wire_frames.specs.declared.read.Header.{Header}
 use Rattle.wire_frames.proofs.Parts.{IsBytes, cut, number_4, number_8, byte_1, kind_is, party_13}

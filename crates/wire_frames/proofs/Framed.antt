@@ -15,7 +15,7 @@ use Rattle.party_ledgers.specs.declared.packets.Kind.TheVariants.{Ack, Delta, Fu
 use Rattle.party_ledgers.specs.declared.packets.Packet.{Packet}
 use Rattle.party_ledgers.specs.Packets.{is_number_of, are_parties, is_place_of, to_agent, to_app}
 use Rattle.wire_frames.specs.Frames.{version, kind_byte, role_byte, body_bytes, frame, IsFrame}
-use Rattle.wire_frames.specs.Reading.{kind_of, role_of, party_of, length_in, version_in, kind_in, sender_in, receiver_in, place_in, is_no_length, place_fault, header_fault, Begins}
+use Rattle.wire_frames.specs.ReadFrames.{kind_of, role_of, party_of, length_in, version_in, kind_in, sender_in, receiver_in, place_in, is_no_length, place_fault, header_fault, Begins}
 use Rattle.wire_frames.specs.declared.fault.FrameFault.TheVariants.{Role as NoRole, Place as NoPlace}
 use Rattle.wire_frames.proofs.Bodies.{body_long, body_within}
 

@@ -7,7 +7,7 @@ use Rattle.std.proofs.lemmas.Bool.Decides.{nat_tests}
 use Rattle.std.specs.Int.{Width, from_be_bytes, byte_len, w32, w64}
 use Rattle.party_ledgers.specs.declared.packets.Packet.{Packet}
 use Rattle.wire_frames.specs.Frames.{version, IsFrame}
-use Rattle.wire_frames.specs.Reading.{number_at, kind_of, party_of, role_of, party_at, length_in, is_no_length, kind_fault, fields_fault, header_fault, Begins, Reads}
+use Rattle.wire_frames.specs.ReadFrames.{number_at, kind_of, party_of, role_of, party_at, length_in, is_no_length, kind_fault, fields_fault, header_fault, Begins, Reads}
 use Rattle.wire_frames.specs.declared.fault.FrameFault.{FrameFault}
 use Rattle.wire_frames.specs.declared.fault.FrameFault.TheVariants.{Short, Length, Version, Kind, Role, Place, Body, OutOfMemory}
 use Rattle.wire_frames.proofs.Framed.{begins_fields, begins_size, header_right}

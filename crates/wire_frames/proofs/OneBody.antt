@@ -10,7 +10,7 @@ use Rattle.schedule_unit.specs.declared.party.Role.{Role}
 use Rattle.schedule_unit.specs.declared.party.Role.TheVariants.{Master, Agent, App}
 use Rattle.party_ledgers.specs.Joins.{JoinRecord, join_form_one}
 use Rattle.party_ledgers.specs.RowOneForm.{row_form_one, row_change_form_one}
-use Rattle.party_ledgers.specs.Shapes.{grant_bounded, grant_writable, demand_bounded, demand_writable}
+use Rattle.party_ledgers.specs.PartyShapes.{grant_bounded, grant_writable, demand_bounded, demand_writable}
 use Rattle.party_ledgers.specs.declared.packets.Kind.{Kind}
 use Rattle.party_ledgers.specs.declared.packets.Kind.TheVariants.{Ack, Delta, Full, End}
 use Rattle.party_ledgers.specs.declared.packets.Body.{Body}

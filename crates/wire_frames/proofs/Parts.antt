@@ -13,7 +13,7 @@ use Rattle.schedule_unit.specs.declared.party.Role.TheVariants.{Master, Agent, A
 use Rattle.party_ledgers.specs.declared.packets.Kind.{Kind}
 use Rattle.party_ledgers.specs.declared.packets.Kind.TheVariants.{Ack, Delta, Full, End}
 use Rattle.wire_frames.specs.Frames.{kind_byte, role_byte, party_bytes}
-use Rattle.wire_frames.specs.Reading.{number_at, kind_of, role_of, party_of, party_at}
+use Rattle.wire_frames.specs.ReadFrames.{number_at, kind_of, role_of, party_of, party_at}
 
 abbrev pub IsBytes : List ℕ → Type 0
 IsBytes bytes = (i : ℕ) → get_or bytes i 0 < 256

@@ -4,7 +4,7 @@ use Rattle.std.proofs.Common.{take_at, refl, sym, ◌∙◌, ap, subst, arith, l
 use Rattle.party_ledgers.specs.declared.packets.Packet.{Packet}
 use Rattle.party_ledgers.specs.Packets.{IsBodyOf}
 use Rattle.wire_frames.specs.Frames.{body_bytes, frame, IsFrame}
-use Rattle.wire_frames.specs.Reading.{header_fault, Begins, HasFault, Reads}
+use Rattle.wire_frames.specs.ReadFrames.{header_fault, Begins, HasFault, Reads}
 use Rattle.wire_frames.specs.declared.fault.FrameFault.{FrameFault}
 use Rattle.wire_frames.specs.declared.fault.FrameFault.TheVariants.{Short, Length, Version, Kind, Role, Place, Body, OutOfMemory}
 use Rattle.wire_frames.proofs.Framed.{begins_fields, begins_size, begins_body, header_right}

@@ -5,7 +5,7 @@ use Rattle.party_ledgers.specs.declared.packets.Body.{Body}
 use Rattle.party_ledgers.specs.declared.packets.Packet.{Packet}
 use Rattle.party_ledgers.specs.Packets.{IsBodyOf}
 use Rattle.wire_frames.specs.Frames.{body_bytes, HasForm}
-use Rattle.wire_frames.specs.Reading.{Begins}
+use Rattle.wire_frames.specs.ReadFrames.{Begins}
 use Rattle.wire_frames.specs.Headers.{IsHeader}
 use Rattle.wire_frames.specs.declared.read.Header.{Header}
 use Rattle.wire_frames.proofs.Framed.{begins_fields, begins_body}

@@ -4,7 +4,7 @@ use Rattle.std.proofs.Common.{drop_at, refl, sym, ◌∙◌, ap, subst, append_a
 use Rattle.std.specs.List.{AllByRecursion, flat_map}
 use Rattle.party_ledgers.specs.declared.packets.Packet.{Packet}
 use Rattle.wire_frames.specs.Frames.{frame, IsFrame}
-use Rattle.wire_frames.specs.Reading.{Begins, BeginsNone}
+use Rattle.wire_frames.specs.ReadFrames.{Begins, BeginsNone}
 use Rattle.wire_frames.specs.Streams.{Event, Fed, Gave, Runs, bytes_fed, packets_given, HasFrame, Splits}
 use Rattle.wire_frames.proofs.Framed.{split_at_frame}
 use Rattle.wire_frames.proofs.ReadingIsOne.{begins_whole, one_frame_at}

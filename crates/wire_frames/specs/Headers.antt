@@ -2,7 +2,7 @@
 use Rattle.std.specs.Prelude.{◌≡◌, ℕ, ◌+◌, ◌≤◌, List, length, Some, None, IsTrue}
 use Rattle.party_ledgers.specs.Packets.{are_parties, is_place_of}
 use Rattle.wire_frames.specs.Frames.{version, HaveRoom}
-use Rattle.wire_frames.specs.Reading.{header_fault, length_in, version_in, kind_in, sender_in, receiver_in, place_in}
+use Rattle.wire_frames.specs.ReadFrames.{header_fault, length_in, version_in, kind_in, sender_in, receiver_in, place_in}
 use Rattle.wire_frames.specs.declared.read.Header.{Header}
 
 pub record IsHeader (bytes : List ℕ) (h : Header) : Type 0 where

@@ -4,7 +4,7 @@
 ghost use Rattle.std.specs.Prelude.{◌≡◌, ◌≢◌, ◌+◌, ◌<◌, ℕ, List, [], ◌++◌, length, take, Result, Err};
 ghost use Rattle.party_ledgers.specs.declared.packets.Packet.{Packet};
 ghost use Rattle.wire_frames.specs.Frames.{IsFrame, body_length};
-ghost use Rattle.wire_frames.specs.Reading.{Reads, HasFault, BeginsNone};
+ghost use Rattle.wire_frames.specs.ReadFrames.{Reads, HasFault, BeginsNone};
 ghost use Rattle.wire_frames.specs.Streams.{Event, Runs, Splits, bytes_fed, packets_given};
 ghost use Rattle.wire_frames.specs.declared.fault.FrameFault.{FrameFault as Fault};
 ghost use Rattle.wire_frames.specs.declared.fault.FrameFault.TheVariants.{Short, OutOfMemory};

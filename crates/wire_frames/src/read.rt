@@ -2,10 +2,10 @@
 
 ghost use Rattle.std.specs.Prelude.{◌≡◌, ◌+◌, ◌<◌, ◌≤◌, ◌^◌, length, IfOk, IfErr, IfSome, Some, take};
 ghost use Rattle.std.specs.Int.{w32, w64};
-ghost use Rattle.ledger_law.specs.Reading.{Reads as ReadsForm};
+ghost use Rattle.ledger_law.specs.ReadForms.{Reads as ReadsForm};
 ghost use Rattle.party_ledgers.specs.Packets.{IsBodyOf};
 ghost use Rattle.wire_frames.specs.Frames.{body_bytes, HasForm};
-ghost use Rattle.wire_frames.specs.Reading.{number_at, kind_of, role_of, party_at, HasFault, Reads};
+ghost use Rattle.wire_frames.specs.ReadFrames.{number_at, kind_of, role_of, party_at, HasFault, Reads};
 ghost use Rattle.wire_frames.specs.Headers.{IsHeader};
 
 use crate::fault::FrameFault;
@@ -86,7 +86,7 @@ fn party_at(bytes: &[u8], at: usize) -> Option<Party>
 }
 
 // The header with which the bytes begin, or its first fault.
-#[tactic(auto, unfolding(crate::specs::Reading::header_fault))]
+#[tactic(auto, unfolding(crate::specs::ReadFrames::header_fault))]
 fn read_header(bytes: &[u8]) -> Result<Header, FrameFault>
     ensures ok { IfOk result (λ header. IsHeader bytes.now header) }
     ensures err { IfErr result (λ fault. HasFault bytes.now fault) }

@@ -28,8 +28,8 @@ use Rattle.full_sync.specs.declared.duplex.Note.TheVariants.{Delta, Full, Ack}
 use Rattle.channel_join.specs.Alike.{place_at, place_of, stamp_of, told_as, mark_as, mark_at}
 use Rattle.schedule_unit.specs.declared.party.Party.{Party as PartyHere}
 use Rattle.written_net.specs.Net.{Party, Id, Link, Packet, Kind, Ack as IsAck, Delta as IsDelta, Full as IsFull, met, acknowledge, place_moved, word_of, link_after, notes, turn_packets, unmoved, at_index, Heard as HeardThere}
-use Rattle.written_work.specs.Events.{hear_running}
-use Rattle.written_work.specs.World.{present}
+use Rattle.written_work.specs.WorkEvents.{hear_running}
+use Rattle.written_work.specs.AgentWithApps.{present}
 use Rattle.work_ends.proofs.NamesLemmas.{found_same, found_other}
 use Rattle.work_ends.specs.declared.ends.Parcel.{Parcel}
 use Rattle.work_ends.specs.declared.hearing.Heard.{Heard}

@@ -15,7 +15,7 @@ use Rattle.fuxi_terms.proofs.KeyOrders.{key_total, same_key}
 use Rattle.fuxi_terms.proofs.SameEntries.{same_entries, same_itself}
 use Rattle.ledger_law.specs.Differing.{tally_by_difference}
 use Rattle.ledger_law.specs.Shapes.{IsTally, IsChange}
-use Rattle.work_plan.specs.Plans.{greatest_named, no_what}
+use Rattle.work_plan.specs.PlanKeys.{greatest_named, no_what}
 use Rattle.fuxi_terms.specs.NumbersSet.{numbers_set, moves, AreNumbers}
 use Rattle.work_ends.specs.Ends.{names_set, patched_names}
 use Rattle.fuxi_terms.proofs.NumbersSetLemmas.{moves_make, set_counts, no_difference}

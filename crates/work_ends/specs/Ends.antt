@@ -17,9 +17,9 @@ use Rattle.channel_join.specs.Alike.{place_at}
 use Rattle.schedule_unit.specs.declared.party.Party.{Party as PartyHere}
 use Rattle.schedule_text.specs.Printing.{as_party}
 use Rattle.written_net.specs.Net.{Party, Id, Link, Packet, Kind, Ack as IsAck, Delta as IsDelta, Full as IsFull, Heard as HeardThere, same_id, word_of, link_after, met, unmoved, hear_peer}
-use Rattle.written_work.specs.Settling.{published}
-use Rattle.written_work.specs.Events.{hear_running}
-use Rattle.work_plan.specs.Plans.{greatest_named, no_what}
+use Rattle.written_work.specs.WorkSettling.{published}
+use Rattle.written_work.specs.WorkEvents.{hear_running}
+use Rattle.work_plan.specs.PlanKeys.{greatest_named, no_what}
 use Rattle.work_ends.specs.declared.ends.Parcel.{Parcel}
 use Rattle.work_ends.specs.declared.hearing.Heard.{Heard}
 use Rattle.fuxi_terms.specs.NumbersSet.{numbers_set}

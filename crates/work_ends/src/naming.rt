@@ -3,7 +3,7 @@
 ghost use Rattle.std.specs.Prelude.{◌≡◌, ◌≤◌, ◌<◌, ◌^◌, [], ℕ, List, length, not, nat_eq, IfOk, OnOk, OnErr};
 ghost use Rattle.fuxi_terms.specs.Counts.{change_between};
 ghost use Rattle.fuxi_terms.specs.Keys.{key_cmp};
-ghost use Rattle.work_plan.specs.Plans.{greatest_named};
+ghost use Rattle.work_plan.specs.PlanKeys.{greatest_named};
 ghost use Rattle.fuxi_terms.specs.NumbersSet.{moves, AreNumbers};
 ghost use Rattle.work_ends.specs.Ends.{Sets, names_set};
 

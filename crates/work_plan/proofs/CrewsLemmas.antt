@@ -11,7 +11,7 @@ use Rattle.fuxi_terms.proofs.Alls.{all_append, all_front, all_back, all_more}
 use Rattle.fuxi_terms.proofs.Booleans.{number_is, nat_itself}
 use Rattle.slot_pool.specs.Pools.{PoolRecord, value_at}
 use Rattle.slot_pool.specs.declared.pool.Slot.{Slot}
-use Rattle.work_plan.specs.Plans.{most_workers}
+use Rattle.work_plan.specs.PlanKeys.{most_workers}
 use Rattle.work_plan.specs.RunAfter.{staying, missing, run_after}
 use Rattle.work_plan.specs.Crews.{workers_of, Distinct, IsSquad, Starts, Marks, stay, Settled}
 use Rattle.work_plan.specs.declared.squad.Member.{Member}

@@ -1,2 +1,2 @@
 pub mod CrewsLemmas
-pub mod PlansLemmas
+pub mod PlanKeysLemmas

@@ -4,7 +4,7 @@ use Rattle.std.specs.List.{AllByRecursion}
 use Rattle.fuxi_terms.specs.declared.Key.{Key}
 use Rattle.fuxi_terms.specs.Numbers.{has_number}
 use Rattle.slot_pool.specs.Pools.{PoolRecord, value_at}
-use Rattle.work_plan.specs.Plans.{most_workers}
+use Rattle.work_plan.specs.PlanKeys.{most_workers}
 use Rattle.work_plan.specs.RunAfter.{missing}
 use Rattle.work_plan.specs.declared.squad.Member.{Member}
 

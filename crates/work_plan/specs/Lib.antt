@@ -1,4 +1,4 @@
-pub mod Plans
+pub mod PlanKeys
 pub mod RunAfter
-pub mod Shapes
+pub mod PlanShapes
 pub mod Crews

@@ -4,7 +4,7 @@ ghost use Rattle.std.specs.Prelude.{◌≡◌, [], length, IfOk, ℕ, ◌<◌, �
 ghost use Rattle.std.specs.List.{AllByRecursion};
 ghost use Rattle.work_plan.specs.Crews.{Settled, AreNumbers, Distinct, numbers_of, workers_of, nobody};
 ghost use Rattle.fuxi_terms.specs.Limits.{most_units};
-ghost use Rattle.work_plan.specs.Plans.{most_workers};
+ghost use Rattle.work_plan.specs.PlanKeys.{most_workers};
 
 use crate::squad::{Member, Squad};
 use fuxi_terms::OutOfMemory;

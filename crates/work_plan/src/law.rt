@@ -4,7 +4,7 @@ ghost use Rattle.std.specs.Prelude.{ℕ, List};
 ghost use Rattle.fuxi_terms.specs.Counts.{AreCounts};
 ghost use Rattle.fuxi_terms.specs.Keys.{key_cmp};
 ghost use Rattle.fuxi_terms.specs.declared.Key.{Key};
-ghost use Rattle.work_plan.specs.Plans.{greatest_named, of_unit};
+ghost use Rattle.work_plan.specs.PlanKeys.{greatest_named, of_unit};
 ghost use Rattle.work_plan.specs.Crews.{AreNumbers};
 
 /// Of each unit a ledger of names names workers that there can be, each once.

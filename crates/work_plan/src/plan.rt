@@ -3,7 +3,7 @@
 ghost use Rattle.std.specs.Prelude.{◌≡◌, ◌≤◌, []};
 ghost use Rattle.fuxi_terms.specs.Limits.{most_units};
 ghost use Rattle.work_plan.specs.Crews.{AreNumbers};
-ghost use Rattle.work_plan.specs.Plans.{greatest_named, of_unit};
+ghost use Rattle.work_plan.specs.PlanKeys.{greatest_named, of_unit};
 
 use fuxi_terms::limits::MOST_UNITS;
 use ledger_law::{Key, Shape, Tally};
@@ -17,8 +17,8 @@ pub const MOST_WORKERS: usize = 256;
 pub struct PlanShape;
 
 impl Shape for PlanShape {
-    ghost use Rattle.work_plan.specs.Plans.{greatest_named, no_what};
-    ghost use Rattle.work_plan.specs.Shapes.{named_bounded, named_writable};
+    ghost use Rattle.work_plan.specs.PlanKeys.{greatest_named, no_what};
+    ghost use Rattle.work_plan.specs.PlanShapes.{named_bounded, named_writable};
 
     ghost DROPPED = { no_what };
 

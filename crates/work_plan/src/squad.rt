@@ -3,7 +3,7 @@
 ghost use Rattle.std.specs.Prelude.{◌≡◌, ◌≢◌, ◌-◌, ◌+◌, ◌<◌, ◌≤◌, ◌++◌, ℕ, Bool, false, [], length, map, filter, take, get_or, vec_capacity, IfOk, min};
 ghost use Rattle.fuxi_terms.specs.Numbers.{has_number};
 ghost use Rattle.fuxi_terms.specs.declared.Key.{Key};
-ghost use Rattle.work_plan.specs.Plans.{most_workers};
+ghost use Rattle.work_plan.specs.PlanKeys.{most_workers};
 ghost use Rattle.work_plan.specs.RunAfter.{missing};
 ghost use Rattle.std.specs.List.{AllByRecursion};
 ghost use Rattle.work_plan.specs.Crews.{IsSquad, Settled, Starts, workers_of, AreNumbers, Distinct, Marks, numbers_of};
@@ -41,7 +41,7 @@ impl Model for Squad {
     ghost use Rattle.std.specs.Prelude.{List, ◌≤◌, vec_capacity};
     ghost use Rattle.work_plan.specs.declared.squad.Member.{Member};
     ghost use Rattle.work_plan.specs.Crews.{IsSquad};
-    ghost use Rattle.work_plan.specs.Plans.{most_workers};
+    ghost use Rattle.work_plan.specs.PlanKeys.{most_workers};
 
     ghost Value = { List Member };
 

@@ -1,7 +1,7 @@
 //! The workers of all applications.
 
 ghost use Rattle.std.specs.Prelude.{◌≡◌, ◌≢◌, ◌+◌, ◌<◌, ◌≤◌, ℕ, [], None, Some, is_some, IsSome, IfOk, OnOk, OnErr, length, get_or};
-ghost use Rattle.work_plan.specs.Plans.{named};
+ghost use Rattle.work_plan.specs.PlanKeys.{named};
 ghost use Rattle.work_plan.specs.RunAfter.{run_after};
 ghost use Rattle.work_plan.specs.Crews.{Settled, Distinct, Marks, members_at, runs_at, nobody};
 

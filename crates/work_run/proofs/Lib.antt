@@ -1,2 +1,2 @@
-pub mod ProgressLemmas
-pub mod StatesLemmas
+pub mod WorkProgressLemmas
+pub mod WorkRunStatesLemmas

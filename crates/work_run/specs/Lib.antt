@@ -1,3 +1,3 @@
-pub mod Runs
-pub mod Progress
-pub mod States
+pub mod WorkLineRuns
+pub mod WorkProgress
+pub mod WorkRunStates

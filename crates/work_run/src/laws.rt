@@ -1,7 +1,7 @@
 //! What holds in the states of a run, as laws of the definitions. Each function here does nothing; its contract is a law.
 
 ghost use Rattle.std.specs.Prelude.{ℕ, List};
-ghost use Rattle.work_run.specs.States.{AllPlanned};
+ghost use Rattle.work_run.specs.WorkRunStates.{AllPlanned};
 
 use work_text::lines_give_events;
 use written_work::every_world_runs_as_planned;

@@ -1,11 +1,11 @@
 ghost use Rattle.std.specs.Prelude.{false, OnOk, ◌≡◌, ◌+◌, ◌<◌, ◌≤◌, ◌^◌, ◌≢◌, ◌⊎◌, [], Some, None, IfSome, Err, ℕ, List};
 ghost use Rattle.fuxi_io.specs.Causes.{Rose};
 ghost use Rattle.fuxi_terms.specs.Limits.{most_lines};
-ghost use Rattle.written_work.specs.World.{World, empty_world};
-ghost use Rattle.work_world.specs.Worlds.{IsReached, Stands};
+ghost use Rattle.written_work.specs.AgentWithApps.{World, empty_world};
+ghost use Rattle.work_world.specs.WorkWorlds.{IsReached, Stands};
 ghost use Rattle.input_lines.specs.LineRuns.{AtEnd};
-ghost use Rattle.work_run.specs.Runs.{Ended, run_from, run_of};
-ghost use Rattle.work_run.specs.Progress.{TakesLine, WritesState, world_status};
+ghost use Rattle.work_run.specs.WorkLineRuns.{Ended, run_from, run_of};
+ghost use Rattle.work_run.specs.WorkProgress.{TakesLine, WritesState, world_status};
 
 use fuxi_io::{Got, LimitOf, LineReader, Sink, Source, Status, write_all_of};
 use fuxi_terms::OutOfMemory;

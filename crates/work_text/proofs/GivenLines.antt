@@ -7,13 +7,13 @@ use Rattle.schedule_text.specs.declared.event.LineFault.{LineFault}
 use Rattle.schedule_text.specs.declared.event.LineFault.TheVariants.{BadNumber, Range}
 use Rattle.schedule_text.specs.PlaceNumbers.{number_at, numbers_at}
 use Rattle.schedule_text.specs.Words.{words_of}
-use Rattle.schedule_unit.specs.Numbers.{number_of}
-use Rattle.written_work.specs.Given.{IsGiven}
+use Rattle.schedule_unit.specs.NumberWords.{number_of}
+use Rattle.written_work.specs.GivenEvents.{IsGiven}
 use Rattle.work_text.specs.declared.form.Head.{Head}
 use Rattle.work_text.specs.declared.form.Head.TheVariants.{Agent, App, Row, Plan, TurnAgent, TurnApp, Deliver, DeliverRange, Show}
 use Rattle.work_text.specs.declared.form.Place.{Place}
-use Rattle.work_text.specs.Forms.{shape_of, heads, is_within}
-use Rattle.work_text.specs.Reading.{begins, has_count, is_head, head_of, event_at, event_behind, work_of_words, work_of}
+use Rattle.work_text.specs.WorkLineForms.{shape_of, heads, is_within}
+use Rattle.work_text.specs.ReadWorkEvents.{begins, has_count, is_head, head_of, event_at, event_behind, work_of_words, work_of}
 
 -- one thing after another: what the first gives, the second needs
 then_holds : {A B E : Type 0} (P : A → Type 0) (Q : B → Type 0) (r : Result A E) (f : A → Result B E) → IfOk r P → ((a : A) → P a → IfOk (f a) Q) → IfOk (then_do r f) Q

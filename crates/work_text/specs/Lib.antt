@@ -1,3 +1,3 @@
-pub mod Forms
-pub mod Reading
-pub mod Printing
+pub mod WorkLineForms
+pub mod ReadWorkEvents
+pub mod WorkPrinting

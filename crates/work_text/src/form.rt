@@ -1,7 +1,7 @@
 //! The table of event lines.
 
 ghost use Rattle.std.specs.Prelude.{◌≡◌, ◌≤◌, length, map};
-ghost use Rattle.work_text.specs.Forms.{shape_of, as_shape, shape as shape_with};
+ghost use Rattle.work_text.specs.WorkLineForms.{shape_of, as_shape, shape as shape_with};
 
 use fuxi_terms::limits::{GREATEST_COUNT, MOST_JOBS, MOST_UNITS};
 use schedule_text::NumberPlace;
@@ -83,7 +83,7 @@ pub fn form_of(head: Head) -> Form
 }
 
 impl NumberPlace for Place {
-    ghost use Rattle.work_text.specs.Forms.{is_within, IsNarrow};
+    ghost use Rattle.work_text.specs.WorkLineForms.{is_within, IsNarrow};
     ghost use Rattle.work_text.specs.declared.form.Place.TheVariants.{Boot};
 
     ghost within = { is_within };

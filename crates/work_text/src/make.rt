@@ -1,8 +1,8 @@
 //! Events are made of the numbers of their lines.
 
 ghost use Rattle.std.specs.Prelude.{◌≡◌, ℕ, ◌<◌, ◌^◌, length, slice_index, get_or};
-ghost use Rattle.work_text.specs.Forms.{shape_of, IsNarrow};
-ghost use Rattle.work_text.specs.Reading.{event_at};
+ghost use Rattle.work_text.specs.WorkLineForms.{shape_of, IsNarrow};
+ghost use Rattle.work_text.specs.ReadWorkEvents.{event_at};
 ghost use Rattle.work_text.specs.declared.form.Place.TheVariants.{Boot as BootPlace};
 
 use crate::form::Head;

@@ -2,8 +2,8 @@
 
 ghost use Rattle.std.specs.Prelude.{◌≡◌, ◌++◌, ◌∷◌, map, OnOk, OnErr, decimal};
 ghost use Rattle.schedule_text.specs.Writing.{blanked, spaced, Begins};
-ghost use Rattle.written_work.specs.Lines.{line_words, line_text, why_words};
-ghost use Rattle.work_text.specs.Printing.{as_why, as_line};
+ghost use Rattle.written_work.specs.WorkLines.{line_words, line_text, why_words};
+ghost use Rattle.work_text.specs.WorkPrinting.{as_why, as_line};
 
 use fuxi_terms::{OutOfMemory, What};
 use schedule_text::{

@@ -1,10 +1,10 @@
 //! Event lines are read.
 
 ghost use Rattle.std.specs.Prelude.{◌≡◌, true, ℕ, ◌^◌, ◌<◌, IfOk, IfErr, Ok, Err, List, map, length};
-ghost use Rattle.schedule_text.specs.Reading.{IsFault};
-ghost use Rattle.work_text.specs.Forms.{shape_of};
-ghost use Rattle.work_text.specs.Reading.{has_count, event_behind, work_of_words, work_of};
-ghost use Rattle.written_work.specs.Given.{IsGiven};
+ghost use Rattle.schedule_text.specs.ReadEvents.{IsFault};
+ghost use Rattle.work_text.specs.WorkLineForms.{shape_of};
+ghost use Rattle.work_text.specs.ReadWorkEvents.{has_count, event_behind, work_of_words, work_of};
+ghost use Rattle.written_work.specs.GivenEvents.{IsGiven};
 
 use crate::form::{HEADS, Head, form_of};
 use crate::make::make_event;
@@ -49,8 +49,8 @@ fn event_in(words: &[&[u8]]) -> Result<WorkEvent, LineFault>
 }
 
 impl LineHead for Head {
-    ghost use Rattle.work_text.specs.Forms.{shape_of};
-    ghost use Rattle.work_text.specs.Reading.{begins, has_count};
+    ghost use Rattle.work_text.specs.WorkLineForms.{shape_of};
+    ghost use Rattle.work_text.specs.ReadWorkEvents.{begins, has_count};
 
     ghost begun = { λ head. begins (shape_of head) };
 

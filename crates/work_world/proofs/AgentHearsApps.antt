@@ -10,17 +10,17 @@ use Rattle.fuxi_terms.specs.declared.answers.What.TheVariants.{Taken, Old, Gap, 
 use Rattle.delta_channel.specs.Standing.{Sending}
 use Rattle.full_sync.specs.Turns.{Endpoint}
 use Rattle.written_net.specs.Net.{Link, Packet, Kind, Ack as IsAck, Delta as IsDelta, Full as IsFull, Heard as HeardThere, at_index, link_after, met, unmoved, word_of}
-use Rattle.work_plan.specs.Plans.{named}
+use Rattle.work_plan.specs.PlanKeys.{named}
 use Rattle.work_plan.specs.RunAfter.{run_after}
 use Rattle.work_ends.specs.declared.ends.Parcel.{Parcel}
 use Rattle.work_ends.specs.declared.hearing.Heard.{Heard}
 use Rattle.work_ends.specs.Ends.{Brought, HearsAs, IsEnd, histories, packet_of}
 use Rattle.written_net.specs.Net.{Party as WrittenParty, Id}
-use Rattle.written_work.specs.Events.{hear_running}
-use Rattle.written_work.specs.World.{agent_id, app_id}
-use Rattle.work_world.specs.Moves.{HeardPeer, HearsPeer, KeepsPlan}
+use Rattle.written_work.specs.WorkEvents.{hear_running}
+use Rattle.written_work.specs.AgentWithApps.{agent_id, app_id}
+use Rattle.work_world.specs.WorkMoves.{HeardPeer, HearsPeer, KeepsPlan}
 use Rattle.work_world.specs.Settles.{Crews, IsPublished, SettlesPeer, is_outside}
-use Rattle.work_world.specs.Worlds.{Crew, HasPeer, IsPeer, agent_of, force_at, settled_work}
+use Rattle.work_world.specs.WorkWorlds.{Crew, HasPeer, IsPeer, agent_of, force_at, settled_work}
 use Rattle.work_world.specs.declared.parts.Peer.{Peer}
 use Rattle.work_world.proofs.HistoriesGrow.{packet_from, received_is}
 use Rattle.work_world.proofs.Peers.{peer_settled}

@@ -10,10 +10,10 @@ use Rattle.full_sync.specs.Turns.{Endpoint}
 use Rattle.written_net.specs.Net.{Party, Id, Link, same_id, same_party}
 use Rattle.work_ends.specs.Ends.{Brought}
 use Rattle.work_ends.specs.declared.ends.Parcel.{Parcel}
-use Rattle.written_work.specs.Settling.{published, running_of, in_force, work_after, histories_after, settled_all, settled}
-use Rattle.written_work.specs.World.{World, agent_id, app_id, agent_party, app_party, agent_link, app_link}
+use Rattle.written_work.specs.WorkSettling.{published, running_of, in_force, work_after, histories_after, settled_all, settled}
+use Rattle.written_work.specs.AgentWithApps.{World, agent_id, app_id, agent_party, app_party, agent_link, app_link}
 use Rattle.work_world.specs.Settles.{IsPublished}
-use Rattle.work_world.specs.Worlds.{IsAgent, AgentAt, IsAppOf, AppOf, AppsAt, Carries, IsFresh, PeerAt, agent_of}
+use Rattle.work_world.specs.WorkWorlds.{IsAgent, AgentAt, IsAppOf, AppOf, AppsAt, Carries, IsFresh, PeerAt, agent_of}
 use Rattle.work_world.specs.declared.parts.Agent.{Agent}
 use Rattle.work_world.proofs.HistoriesGrow.{Grown, brought_grows, end_grows, published_grown, same_grown}
 use Rattle.work_world.proofs.Peers.{at_settled}

@@ -11,11 +11,11 @@ use Rattle.full_sync.specs.Turns.{Endpoint, new_endpoint}
 use Rattle.written_net.specs.Net.{Party, Id, Link, same_id, same_party, set_at, unknown}
 use Rattle.work_ends.specs.Ends.{IsEnd, Brought, Sets, histories, patched_names}
 use Rattle.work_ends.specs.declared.ends.Parcel.{Parcel}
-use Rattle.written_work.specs.Events.{agent_starts, app_starts, plan_set, plan_with, row_set, set_to}
-use Rattle.written_work.specs.Settling.{histories_after, in_force, published, settled_all, work_after}
-use Rattle.written_work.specs.World.{World, agent_id, app_id, agent_party, app_party, agent_link, app_link, present}
-use Rattle.work_world.specs.Moves.{StartsApp}
-use Rattle.work_world.specs.Worlds.{IsAgent, AgentAt, IsApp, IsAppOf, AppAt, AppOf, AppsAt, Carries, IsFresh, Crew, PeerAt, agent_of}
+use Rattle.written_work.specs.WorkEvents.{agent_starts, app_starts, plan_set, plan_with, row_set, set_to}
+use Rattle.written_work.specs.WorkSettling.{histories_after, in_force, published, settled_all, work_after}
+use Rattle.written_work.specs.AgentWithApps.{World, agent_id, app_id, agent_party, app_party, agent_link, app_link, present}
+use Rattle.work_world.specs.WorkMoves.{StartsApp}
+use Rattle.work_world.specs.WorkWorlds.{IsAgent, AgentAt, IsApp, IsAppOf, AppAt, AppOf, AppsAt, Carries, IsFresh, Crew, PeerAt, agent_of}
 use Rattle.work_world.specs.declared.parts.Agent.{Agent}
 use Rattle.work_world.specs.declared.parts.Peer.{Peer}
 use Rattle.work_world.proofs.HistoriesGrow.{Grown, brought_grows, end_grows, present_is, published_grown, same_grown}

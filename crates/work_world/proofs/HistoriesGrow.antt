@@ -13,8 +13,8 @@ use Rattle.full_sync.specs.Turns.{Endpoint}
 use Rattle.full_sync.specs.declared.duplex.Note.{Note}
 use Rattle.full_sync.specs.declared.duplex.Note.TheVariants.{Delta, Full, Ack}
 use Rattle.written_net.specs.Net.{Party, Id, Link, Packet, at_index}
-use Rattle.written_work.specs.Settling.{published}
-use Rattle.written_work.specs.World.{present}
+use Rattle.written_work.specs.WorkSettling.{published}
+use Rattle.written_work.specs.AgentWithApps.{present}
 use Rattle.work_ends.specs.declared.ends.Parcel.{Parcel}
 use Rattle.work_ends.specs.Ends.{IsEnd, Brought, NoteBrought, histories, packet_of, note_packet, party_of, patched_names}
 

@@ -24,11 +24,11 @@ use Rattle.fuxi_terms.proofs.Booleans.{number_is, nat_itself, both_true, same_te
 use Rattle.fuxi_terms.proofs.CountsLemmas.{tied, lesser, count-set_count, counts-set_count, count_le, same_counts}
 use Rattle.fuxi_terms.proofs.KeyOrders.{key_total, same_key}
 use Rattle.work_plan.specs.Crews.{Marks}
-use Rattle.work_plan.specs.Plans.{greatest_named, most_workers, worker_key}
+use Rattle.work_plan.specs.PlanKeys.{greatest_named, most_workers, worker_key}
 use Rattle.fuxi_terms.specs.NumbersSet.{AreNumbers, numbers_set}
-use Rattle.written_work.specs.Settling.{keys_of, running_of, with_names}
-use Rattle.written_work.specs.World.{all_units}
-use Rattle.work_world.specs.Numbers.{Tells, changed, name_of, turned}
+use Rattle.written_work.specs.WorkSettling.{keys_of, running_of, with_names}
+use Rattle.written_work.specs.AgentWithApps.{all_units}
+use Rattle.work_world.specs.NameChanges.{Tells, changed, name_of, turned}
 
 -- Keys
 nat_less : (a b : ℕ) → a < b → nat_cmp a b ≡ Less

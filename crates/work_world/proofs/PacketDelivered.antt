@@ -10,12 +10,12 @@ use Rattle.written_net.specs.Net.{Id, Link, Packet, Heard as HeardThere, Party a
 use Rattle.work_ends.specs.declared.ends.Parcel.{Parcel}
 use Rattle.work_ends.specs.declared.hearing.Heard.{Heard}
 use Rattle.work_ends.specs.Ends.{Brought, HearsAs, IsEnd, packet_of}
-use Rattle.written_work.specs.Events.{Step, boot_of, deliver, done, hear_running, heard_at, hears, with_net}
-use Rattle.written_work.specs.Lines.{Came, Line, Lost}
-use Rattle.written_work.specs.Settling.{settled, settled_all}
-use Rattle.written_work.specs.World.{World, agent_id, agent_party, app_id, app_link, app_party}
-use Rattle.work_world.specs.Moves.{HeardAgent, HearsAgent, heard_line}
-use Rattle.work_world.specs.Worlds.{AgentAt, AppAt, AppOf, AppsAt, Carries, IsAgent, IsApp, IsAppOf}
+use Rattle.written_work.specs.WorkEvents.{Step, boot_of, deliver, done, hear_running, heard_at, hears, with_net}
+use Rattle.written_work.specs.WorkLines.{Came, Line, Lost}
+use Rattle.written_work.specs.WorkSettling.{settled, settled_all}
+use Rattle.written_work.specs.AgentWithApps.{World, agent_id, agent_party, app_id, app_link, app_party}
+use Rattle.work_world.specs.WorkMoves.{HeardAgent, HearsAgent, heard_line}
+use Rattle.work_world.specs.WorkWorlds.{AgentAt, AppAt, AppOf, AppsAt, Carries, IsAgent, IsApp, IsAppOf}
 use Rattle.work_world.specs.declared.parts.Agent.{Agent}
 use Rattle.work_world.proofs.Agents.{apps_settle, at_agent_settles, carries_settle, events_settle, settled_where}
 use Rattle.work_world.proofs.Events.{party_itself}

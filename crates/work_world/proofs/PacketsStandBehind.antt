@@ -13,17 +13,17 @@ use Rattle.schedule_unit.specs.declared.party.Party.{Party as PartyHere}
 use Rattle.written_net.specs.Net.{Id, Link, Packet, Party, turn, turn_packets}
 use Rattle.work_ends.specs.declared.ends.Parcel.{Parcel}
 use Rattle.work_ends.specs.Ends.{AppendsParcels, Brought, IsEnd, histories, packet_of, parcel_of, party_of}
-use Rattle.written_work.specs.Events.{Step, act, agent_packets, app_packets, done, numbered, refused, sends, with_net}
+use Rattle.written_work.specs.WorkEvents.{Step, act, agent_packets, app_packets, done, numbered, refused, sends, with_net}
 use Rattle.schedule_unit.specs.declared.party.AppNo.{AppNo}
 use Rattle.written_work.specs.declared.event.WorkEvent.TheVariants.{TurnAgent, TurnApp}
 use Rattle.work_world.specs.declared.stop.WorkStop.TheVariants.{TooManyPackets, OutOfMemory}
-use Rattle.written_work.specs.Lines.{Line, NotRunning, Refused, Sent, line_text, lines_text}
-use Rattle.written_work.specs.Runs.{most_work_packets, past}
-use Rattle.written_work.specs.Settling.{settled}
-use Rattle.written_work.specs.World.{World, agent_id, agent_link, agent_party, all_apps, app_id, app_link, app_party}
-use Rattle.work_world.specs.Moves.{Sends}
-use Rattle.work_world.specs.Steps.{Exceeds, Finishes, StepsTo, StopsAs}
-use Rattle.work_world.specs.Worlds.{AgentAt, AppsAt, Carries, IsAgent, IsApp, IsAppOf, IsBetween, IsPeer, PeerAt, Stands, agent_of}
+use Rattle.written_work.specs.WorkLines.{Line, NotRunning, Refused, Sent, line_text, lines_text}
+use Rattle.written_work.specs.WorkRuns.{most_work_packets, past}
+use Rattle.written_work.specs.WorkSettling.{settled}
+use Rattle.written_work.specs.AgentWithApps.{World, agent_id, agent_link, agent_party, all_apps, app_id, app_link, app_party}
+use Rattle.work_world.specs.WorkMoves.{Sends}
+use Rattle.work_world.specs.WorkSteps.{Exceeds, Finishes, StepsTo, StopsAs}
+use Rattle.work_world.specs.WorkWorlds.{AgentAt, AppsAt, Carries, IsAgent, IsApp, IsAppOf, IsBetween, IsPeer, PeerAt, Stands, agent_of}
 use Rattle.work_world.specs.declared.parts.Agent.{Agent}
 use Rattle.work_world.specs.declared.parts.Peer.{Peer}
 use Rattle.work_world.specs.declared.stop.WorkStop.{WorkStop}

@@ -5,13 +5,13 @@ use Rattle.fuxi_terms.specs.declared.Key.{Key}
 use Rattle.fuxi_terms.specs.Tallies.{TallyRecord, ChangeRecord, empty_tally}
 use Rattle.full_sync.specs.Turns.{Endpoint}
 use Rattle.written_net.specs.Net.{Link, unknown, at_index}
-use Rattle.work_plan.specs.Plans.{named, worker_key}
+use Rattle.work_plan.specs.PlanKeys.{named, worker_key}
 use Rattle.work_plan.specs.RunAfter.{run_after}
 use Rattle.work_ends.specs.Ends.{IsEnd, histories}
-use Rattle.written_work.specs.Settling.{published, running_of, keys_of, with_names}
-use Rattle.written_work.specs.World.{agent_id, app_id, all_units, present}
+use Rattle.written_work.specs.WorkSettling.{published, running_of, keys_of, with_names}
+use Rattle.written_work.specs.AgentWithApps.{agent_id, app_id, all_units, present}
 use Rattle.work_world.specs.Settles.{IsPublished}
-use Rattle.work_world.specs.Worlds.{Crew, HasPeer, IsPeer, IsNoPeer, PeerAt, agent_of, force_at, settled_work}
+use Rattle.work_world.specs.WorkWorlds.{Crew, HasPeer, IsPeer, IsNoPeer, PeerAt, agent_of, force_at, settled_work}
 use Rattle.work_world.specs.declared.parts.Peer.{Peer}
 use Rattle.work_world.proofs.HistoriesGrow.{Grown, end_grows, present_is, published_same, received_is, same_grown}
 

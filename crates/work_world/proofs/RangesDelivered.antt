@@ -7,13 +7,13 @@ use Rattle.fuxi_terms.proofs.Lists.{all_at}
 use Rattle.work_ends.specs.declared.ends.Parcel.{Parcel}
 use Rattle.work_ends.specs.Ends.{Brought, packet_of}
 use Rattle.written_net.specs.Net.{Packet}
-use Rattle.written_work.specs.Events.{Step, deliver, deliveries}
-use Rattle.written_work.specs.Lines.{Line, lines_text}
-use Rattle.written_work.specs.World.{World}
+use Rattle.written_work.specs.WorkEvents.{Step, deliver, deliveries}
+use Rattle.written_work.specs.WorkLines.{Line, lines_text}
+use Rattle.written_work.specs.AgentWithApps.{World}
 use Rattle.work_ends.specs.declared.hearing.Heard.{Heard}
-use Rattle.work_world.specs.Moves.{Delivers, HearsOne, heard_line}
-use Rattle.work_world.specs.Steps.{StepsTo}
-use Rattle.work_world.specs.Worlds.{AgentAt, AppsAt, Carries, Stands}
+use Rattle.work_world.specs.WorkMoves.{Delivers, HearsOne, heard_line}
+use Rattle.work_world.specs.WorkSteps.{StepsTo}
+use Rattle.work_world.specs.WorkWorlds.{AgentAt, AppsAt, Carries, Stands}
 use Rattle.work_world.specs.declared.working.Working.{Working}
 use Rattle.work_world.proofs.PacketDelivered.{carries_delivered, events_delivered}
 use Rattle.work_world.proofs.Texts.{text_both}

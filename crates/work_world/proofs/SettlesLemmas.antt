@@ -14,17 +14,17 @@ use Rattle.fuxi_terms.proofs.Booleans.{both_false, number_is, nat_itself}
 use Rattle.full_sync.specs.Turns.{Endpoint}
 use Rattle.written_net.specs.Net.{Link, at_index}
 use Rattle.work_plan.specs.Crews.{AreNumbers as AreNumbersOf, Distinct, runs_at}
-use Rattle.work_plan.specs.Plans.{greatest_named, most_workers, named, of_unit, worker_key}
+use Rattle.work_plan.specs.PlanKeys.{greatest_named, most_workers, named, of_unit, worker_key}
 use Rattle.work_plan.specs.RunAfter.{run_after}
 use Rattle.work_ends.specs.Ends.{IsEnd, Sets, histories, names_set}
 use Rattle.fuxi_terms.specs.NumbersSet.{numbers_set}
-use Rattle.written_work.specs.Events.{set_to}
-use Rattle.written_work.specs.Settling.{published, running_of}
-use Rattle.written_work.specs.World.{agent_id, app_id}
-use Rattle.work_world.specs.Moves.{CountsPeer}
-use Rattle.work_world.specs.Numbers.{Tells}
+use Rattle.written_work.specs.WorkEvents.{set_to}
+use Rattle.written_work.specs.WorkSettling.{published, running_of}
+use Rattle.written_work.specs.AgentWithApps.{agent_id, app_id}
+use Rattle.work_world.specs.WorkMoves.{CountsPeer}
+use Rattle.work_world.specs.NameChanges.{Tells}
 use Rattle.work_world.specs.Settles.{Crews, IsPublished, SettlesPeer, SettlesUnit, SettlesUnits, force_of, is_outside}
-use Rattle.work_world.specs.Worlds.{Crew, HasPeer, IsPeer, agent_of, force_at, settled_work}
+use Rattle.work_world.specs.WorkWorlds.{Crew, HasPeer, IsPeer, agent_of, force_at, settled_work}
 use Rattle.work_world.specs.declared.parts.Peer.{Peer}
 use Rattle.work_world.proofs.HistoriesGrow.{received_is}
 use Rattle.work_world.proofs.NamesThatChange.{InOrder, running_count, told_is, unit_in_order, unit_told}

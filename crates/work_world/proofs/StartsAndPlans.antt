@@ -9,21 +9,21 @@ use Rattle.written_net.specs.Net.{Packet}
 use Rattle.work_world.proofs.PacketDelivered.{events_delivered}
 use Rattle.work_ends.specs.Ends.{Sets}
 use Rattle.work_ends.specs.declared.ends.Parcel.{Parcel}
-use Rattle.written_work.specs.Events.{Step, act, agent_packets, agent_starts, app_packets, app_starts, counted, deliver, deliveries, done, plan_set, plan_with, refused, row_set, sends, with_net, work_step}
-use Rattle.written_work.specs.Lines.{NoPacket, NotRising, NotRunning}
-use Rattle.written_work.specs.Settling.{settled, settled_all}
-use Rattle.written_work.specs.Given.{IsGiven}
-use Rattle.written_work.specs.Runs.{most_work_packets}
-use Rattle.written_work.specs.States.{After}
-use Rattle.written_work.specs.World.{World, empty_world}
+use Rattle.written_work.specs.WorkEvents.{Step, act, agent_packets, agent_starts, app_packets, app_starts, counted, deliver, deliveries, done, plan_set, plan_with, refused, row_set, sends, with_net, work_step}
+use Rattle.written_work.specs.WorkLines.{NoPacket, NotRising, NotRunning}
+use Rattle.written_work.specs.WorkSettling.{settled, settled_all}
+use Rattle.written_work.specs.GivenEvents.{IsGiven}
+use Rattle.written_work.specs.WorkRuns.{most_work_packets}
+use Rattle.written_work.specs.WorkStates.{After}
+use Rattle.written_work.specs.AgentWithApps.{World, empty_world}
 use Rattle.written_work.specs.declared.event.WorkEvent.{WorkEvent}
 use Rattle.written_work.specs.declared.event.WorkEvent.TheVariants as event
-use Rattle.work_world.specs.Moves.{StartsApp}
-use Rattle.work_world.specs.Steps.{Acts, StepsTo, StopsAs, Takes, stopped}
+use Rattle.work_world.specs.WorkMoves.{StartsApp}
+use Rattle.work_world.specs.WorkSteps.{Acts, StepsTo, StopsAs, Takes, stopped}
 use Rattle.work_world.specs.declared.stop.WorkStop.{WorkStop}
 use Rattle.work_world.specs.declared.stop.WorkStop.TheVariants.{TooManyPackets, OutOfMemory}
 use Rattle.work_world.proofs.RangesDelivered.{as_many}
-use Rattle.work_world.specs.Worlds.{AgentAt, AppOf, AppsAt, Carries, IsAgent, IsFresh, IsKept, IsReached, Stands}
+use Rattle.work_world.specs.WorkWorlds.{AgentAt, AppOf, AppsAt, Carries, IsAgent, IsFresh, IsKept, IsReached, Stands}
 use Rattle.work_world.specs.declared.parts.Agent.{Agent}
 use Rattle.work_world.specs.declared.working.Working.{Working}
 use Rattle.work_world.proofs.Agents.{apps_settle, at_agent_settles, carries_settle, events_settle, settled_where}

@@ -9,10 +9,10 @@ use Rattle.fuxi_terms.specs.Tallies.{TallyRecord, ChangeRecord}
 use Rattle.full_sync.specs.Turns.{Endpoint}
 use Rattle.written_net.specs.Net.{Link, unknown}
 use Rattle.work_plan.specs.Crews.{runs_at}
-use Rattle.written_work.specs.Events.{agent_app_lines, agent_lines, app_lines}
-use Rattle.written_work.specs.Lines.{AgentIs, AppIs, Line, PlanAt, Seen, Works, line_text, lines_text}
-use Rattle.written_work.specs.World.{World, agent_id, agent_link, agent_party, all_apps, all_units, app_id, app_link, app_party, seen_running}
-use Rattle.work_world.specs.Worlds.{AppOf, AppsAt, Crew, IsAgent, IsAppOf, IsNoPeer, IsPeer, PeerAt}
+use Rattle.written_work.specs.WorkEvents.{agent_app_lines, agent_lines, app_lines}
+use Rattle.written_work.specs.WorkLines.{AgentIs, AppIs, Line, PlanAt, Seen, Works, line_text, lines_text}
+use Rattle.written_work.specs.AgentWithApps.{World, agent_id, agent_link, agent_party, all_apps, all_units, app_id, app_link, app_party, seen_running}
+use Rattle.work_world.specs.WorkWorlds.{AppOf, AppsAt, Crew, IsAgent, IsAppOf, IsNoPeer, IsPeer, PeerAt}
 use Rattle.work_world.specs.declared.parts.Agent.{Agent}
 use Rattle.work_world.specs.declared.parts.Peer.{Peer}
 use Rattle.work_world.proofs.HistoriesGrow.{received_is}

@@ -5,7 +5,7 @@ use Rattle.std.proofs.Math.Seq.{take-suc}
 use Rattle.std.proofs.lemmas.List.Concat.{flat_map-append}
 use Rattle.fuxi_terms.specs.Lists.{below}
 use Rattle.fuxi_terms.proofs.Lists.{take_last}
-use Rattle.written_work.specs.Lines.{Line, line_text, lines_text}
+use Rattle.written_work.specs.WorkLines.{Line, line_text, lines_text}
 
 pub text_both : (xs ys : List Line) → lines_text (xs ++ ys) ≡ lines_text xs ++ lines_text ys
 text_both xs ys = flat_map-append line_text xs ys

@@ -9,18 +9,18 @@ use Rattle.delta_channel.specs.Standing.{StandsFor}
 use Rattle.full_sync.specs.Turns.{Endpoint}
 use Rattle.written_net.specs.Net.{Heard as HeardThere, Id, Link, Packet, same_id, same_party, set_at, unknown, with_links}
 use Rattle.work_plan.specs.Crews.{crew_of, nobody, workers_of}
-use Rattle.work_plan.specs.Plans.{most_workers, named}
+use Rattle.work_plan.specs.PlanKeys.{most_workers, named}
 use Rattle.work_plan.specs.RunAfter.{run_after}
 use Rattle.work_plan.specs.declared.squad.Member.{Member}
 use Rattle.work_ends.specs.declared.ends.Parcel.{Parcel}
 use Rattle.work_ends.specs.declared.hearing.Heard.{Heard}
 use Rattle.work_ends.specs.Ends.{Brought, IsEnd, histories, packet_of, patched_names}
-use Rattle.written_work.specs.Events.{hear_running, row_set, set_to, with_net}
-use Rattle.written_work.specs.Settling.{histories_after, running_of, settled_all}
-use Rattle.written_work.specs.World.{World, agent_id, app_id, agent_link, agent_party}
-use Rattle.work_world.specs.Moves.{CountsPeer, HeardAgent, HeardPeer, HearsPeer, IsNew}
+use Rattle.written_work.specs.WorkEvents.{hear_running, row_set, set_to, with_net}
+use Rattle.written_work.specs.WorkSettling.{histories_after, running_of, settled_all}
+use Rattle.written_work.specs.AgentWithApps.{World, agent_id, app_id, agent_link, agent_party}
+use Rattle.work_world.specs.WorkMoves.{CountsPeer, HeardAgent, HeardPeer, HearsPeer, IsNew}
 use Rattle.work_world.specs.Settles.{Crews, IsPublished}
-use Rattle.work_world.specs.Worlds.{Crew, HasPeer, IsAgent, IsNoPeer, IsPeer, PeerAt, agent_of, force_at, settled_work}
+use Rattle.work_world.specs.WorkWorlds.{Crew, HasPeer, IsAgent, IsNoPeer, IsPeer, PeerAt, agent_of, force_at, settled_work}
 use Rattle.work_world.specs.declared.parts.Agent.{Agent}
 use Rattle.work_world.specs.declared.parts.Peer.{Peer}
 use Rattle.work_world.proofs.Agents.{peer_after, published_after}

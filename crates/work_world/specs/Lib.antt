@@ -1,5 +1,5 @@
-pub mod Numbers
-pub mod Worlds
+pub mod NameChanges
+pub mod WorkWorlds
 pub mod Settles
-pub mod Moves
-pub mod Steps
+pub mod WorkMoves
+pub mod WorkSteps

@@ -8,14 +8,14 @@ use Rattle.fuxi_terms.specs.Tallies.{TallyRecord, ChangeRecord}
 use Rattle.full_sync.specs.Turns.{Endpoint}
 use Rattle.written_net.specs.Net.{Link}
 use Rattle.work_plan.specs.Crews.{Distinct, Marks, runs_at}
-use Rattle.work_plan.specs.Plans.{named, greatest_named, worker_key}
+use Rattle.work_plan.specs.PlanKeys.{named, greatest_named, worker_key}
 use Rattle.work_plan.specs.RunAfter.{run_after}
 use Rattle.work_ends.specs.Ends.{histories}
 use Rattle.fuxi_terms.specs.NumbersSet.{AreNumbers}
-use Rattle.written_work.specs.Settling.{published, running_of}
-use Rattle.written_work.specs.World.{agent_id, app_id}
-use Rattle.work_world.specs.Numbers.{changed, Tells}
-use Rattle.work_world.specs.Worlds.{Crew, HasPeer, IsPeer, agent_of, force_at, settled_work}
+use Rattle.written_work.specs.WorkSettling.{published, running_of}
+use Rattle.written_work.specs.AgentWithApps.{agent_id, app_id}
+use Rattle.work_world.specs.NameChanges.{changed, Tells}
+use Rattle.work_world.specs.WorkWorlds.{Crew, HasPeer, IsPeer, agent_of, force_at, settled_work}
 use Rattle.work_world.specs.declared.parts.Peer.{Peer}
 
 abbrev pub Crews : Type 0

@@ -2,14 +2,14 @@
 
 ghost use Rattle.std.specs.Prelude.{◌≡◌, ◌<◌, ◌≤◌, IfErr, None, OnOk, get_or, length};
 ghost use Rattle.fuxi_terms.specs.Limits.{most_units};
-ghost use Rattle.work_plan.specs.Plans.{most_workers};
-ghost use Rattle.written_work.specs.Events.{act};
-ghost use Rattle.written_work.specs.Given.{IsGiven};
-ghost use Rattle.written_work.specs.Runs.{most_work_packets};
-ghost use Rattle.written_work.specs.World.{World};
+ghost use Rattle.work_plan.specs.PlanKeys.{most_workers};
+ghost use Rattle.written_work.specs.WorkEvents.{act};
+ghost use Rattle.written_work.specs.GivenEvents.{IsGiven};
+ghost use Rattle.written_work.specs.WorkRuns.{most_work_packets};
+ghost use Rattle.written_work.specs.AgentWithApps.{World};
 ghost use Rattle.written_work.specs.declared.event.WorkEvent.TheVariants as event;
-ghost use Rattle.work_world.specs.Steps.{Acts, StopsAs, stopped};
-ghost use Rattle.work_world.specs.Worlds.{AgentAt, IsKept};
+ghost use Rattle.work_world.specs.WorkSteps.{Acts, StopsAs, stopped};
+ghost use Rattle.work_world.specs.WorkWorlds.{AgentAt, IsKept};
 
 use crate::agent::{count_workers, new_agent};
 use crate::apps::{boot_of, start_app, want};

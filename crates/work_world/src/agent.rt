@@ -2,11 +2,11 @@
 
 ghost use Rattle.std.specs.Prelude.{◌≡◌, ◌<◌, None, IsSome, IfOk, OnOk, get_or};
 ghost use Rattle.fuxi_terms.specs.Limits.{most_units};
-ghost use Rattle.written_work.specs.Events.{agent_starts, row_set};
-ghost use Rattle.written_work.specs.Settling.{settled_all};
-ghost use Rattle.written_work.specs.World.{World};
-ghost use Rattle.work_world.specs.Moves.{HearsAgent, IsNew};
-ghost use Rattle.work_world.specs.Worlds.{IsAgent, IsFresh, IsHeld};
+ghost use Rattle.written_work.specs.WorkEvents.{agent_starts, row_set};
+ghost use Rattle.written_work.specs.WorkSettling.{settled_all};
+ghost use Rattle.written_work.specs.AgentWithApps.{World};
+ghost use Rattle.work_world.specs.WorkMoves.{HearsAgent, IsNew};
+ghost use Rattle.work_world.specs.WorkWorlds.{IsAgent, IsFresh, IsHeld};
 
 use crate::parts::{Agent, Peer};
 use crate::peer::{count_peer, hear_peer};

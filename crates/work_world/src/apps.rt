@@ -3,11 +3,11 @@
 ghost use Rattle.std.specs.Prelude.{◌≡◌, ◌<◌, ℕ, None, Some, cond, OnOk, get_or};
 ghost use Rattle.fuxi_terms.specs.Limits.{most_units};
 ghost use Rattle.work_ends.specs.Ends.{Sets};
-ghost use Rattle.work_plan.specs.Plans.{most_workers};
-ghost use Rattle.written_work.specs.Events.{plan_with};
-ghost use Rattle.written_work.specs.World.{World};
-ghost use Rattle.work_world.specs.Moves.{StartsApp};
-ghost use Rattle.work_world.specs.Worlds.{AppOf};
+ghost use Rattle.work_plan.specs.PlanKeys.{most_workers};
+ghost use Rattle.written_work.specs.WorkEvents.{plan_with};
+ghost use Rattle.written_work.specs.AgentWithApps.{World};
+ghost use Rattle.work_world.specs.WorkMoves.{StartsApp};
+ghost use Rattle.work_world.specs.WorkWorlds.{AppOf};
 
 use crate::places::put;
 use fuxi_terms::OutOfMemory;

@@ -1,13 +1,13 @@
 //! Packets are delivered.
 
 ghost use Rattle.std.specs.Prelude.{◌≡◌, ◌<◌, ◌≤◌, ◌-◌, ℕ, IfOk, OnOk, length, slice_get};
-ghost use Rattle.written_work.specs.Events.{act, deliver};
-ghost use Rattle.written_work.specs.World.{World};
+ghost use Rattle.written_work.specs.WorkEvents.{act, deliver};
+ghost use Rattle.written_work.specs.AgentWithApps.{World};
 ghost use Rattle.written_work.specs.declared.event.WorkEvent.TheVariants.{Deliver, DeliverRange};
 ghost use Rattle.work_ends.specs.Ends.{Brought};
-ghost use Rattle.work_world.specs.Moves.{HearsAtAgent, HearsAtApp, HearsOne};
-ghost use Rattle.work_world.specs.Steps.{Acts};
-ghost use Rattle.work_world.specs.Worlds.{AgentAt, AppsAt, IsBetween, IsHeldAgent, IsKept};
+ghost use Rattle.work_world.specs.WorkMoves.{HearsAtAgent, HearsAtApp, HearsOne};
+ghost use Rattle.work_world.specs.WorkSteps.{Acts};
+ghost use Rattle.work_world.specs.WorkWorlds.{AgentAt, AppsAt, IsBetween, IsHeldAgent, IsKept};
 
 use crate::agent::hear_app;
 use crate::parts::Agent;

@@ -1,7 +1,7 @@
 //! Which names change where a unit is settled.
 
 ghost use Rattle.std.specs.Prelude.{◌≡◌, ◌++◌, OnOk};
-ghost use Rattle.work_world.specs.Numbers.{changed, turned};
+ghost use Rattle.work_world.specs.NameChanges.{changed, turned};
 
 use fuxi_terms::OutOfMemory;
 use ledger_law::Key;

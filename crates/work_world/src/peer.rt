@@ -2,7 +2,7 @@
 
 ghost use Rattle.std.specs.Prelude.{◌≡◌, ◌<◌, ◌&&◌, nat_eq, None, IsSome, IfOk, OnOk, get_or};
 ghost use Rattle.fuxi_terms.specs.Limits.{most_units};
-ghost use Rattle.work_world.specs.Moves.{HearsPeer, KeepsPlan, CountsPeer};
+ghost use Rattle.work_world.specs.WorkMoves.{HearsPeer, KeepsPlan, CountsPeer};
 
 use crate::parts::Peer;
 use crate::settle::settle_peer;

@@ -2,11 +2,11 @@
 
 ghost use Rattle.std.specs.Prelude.{◌≡◌, ◌++◌, false, map, nat_eq, None, IsSome, OnOk, get_or};
 ghost use Rattle.std.specs.List.{flat_map};
-ghost use Rattle.written_work.specs.Events.{agent_app_lines, agent_lines, app_lines, show};
-ghost use Rattle.written_work.specs.Lines.{Seen, Works, lines_text};
-ghost use Rattle.written_work.specs.World.{World, all_apps, all_units};
+ghost use Rattle.written_work.specs.WorkEvents.{agent_app_lines, agent_lines, app_lines, show};
+ghost use Rattle.written_work.specs.WorkLines.{Seen, Works, lines_text};
+ghost use Rattle.written_work.specs.AgentWithApps.{World, all_apps, all_units};
 ghost use Rattle.work_plan.specs.Crews.{runs_at};
-ghost use Rattle.work_world.specs.Worlds.{AgentAt, AppsAt, IsAgent, IsAppOf, IsHeldAgent, IsHeld, IsKept, Stands};
+ghost use Rattle.work_world.specs.WorkWorlds.{AgentAt, AppsAt, IsAgent, IsAppOf, IsHeldAgent, IsHeld, IsKept, Stands};
 
 use crate::parts::Agent;
 use crate::places::has;

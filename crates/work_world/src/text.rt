@@ -2,10 +2,10 @@
 
 ghost use Rattle.std.specs.Prelude.{◌≡◌, ◌++◌, ◌∷◌, [], ◌+◌, ◌≤◌, drop, length, map, OnOk};
 ghost use Rattle.work_ends.specs.Ends.{packet_of};
-ghost use Rattle.work_text.specs.Printing.{as_line, as_why};
-ghost use Rattle.written_work.specs.Events.{numbered};
-ghost use Rattle.written_work.specs.Lines.{Sent, Refused, lines_text};
-ghost use Rattle.work_world.specs.Moves.{heard_line};
+ghost use Rattle.work_text.specs.WorkPrinting.{as_line, as_why};
+ghost use Rattle.written_work.specs.WorkEvents.{numbered};
+ghost use Rattle.written_work.specs.WorkLines.{Sent, Refused, lines_text};
+ghost use Rattle.work_world.specs.WorkMoves.{heard_line};
 
 use full_sync::Note;
 use fuxi_terms::OutOfMemory;

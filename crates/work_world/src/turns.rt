@@ -2,14 +2,14 @@
 
 ghost use Rattle.std.specs.Prelude.{◌≡◌, ◌≤◌, ◌++◌, ◌∷◌, [], ℕ, IfErr, OnOk, length};
 ghost use Rattle.written_net.specs.Net.{turn};
-ghost use Rattle.written_work.specs.Events.{act, agent_packets, app_packets};
-ghost use Rattle.written_work.specs.Lines.{NotRunning, Refused, lines_text};
-ghost use Rattle.written_work.specs.Runs.{most_work_packets};
-ghost use Rattle.written_work.specs.World.{World, app_id, agent_party};
+ghost use Rattle.written_work.specs.WorkEvents.{act, agent_packets, app_packets};
+ghost use Rattle.written_work.specs.WorkLines.{NotRunning, Refused, lines_text};
+ghost use Rattle.written_work.specs.WorkRuns.{most_work_packets};
+ghost use Rattle.written_work.specs.AgentWithApps.{World, app_id, agent_party};
 ghost use Rattle.written_work.specs.declared.event.WorkEvent.TheVariants.{TurnAgent, TurnApp};
-ghost use Rattle.work_world.specs.Moves.{Sends};
-ghost use Rattle.work_world.specs.Steps.{Acts, Exceeds, Finishes, StopsAs};
-ghost use Rattle.work_world.specs.Worlds.{AppsAt, IsAgent, IsAppOf, IsHeld, IsKept};
+ghost use Rattle.work_world.specs.WorkMoves.{Sends};
+ghost use Rattle.work_world.specs.WorkSteps.{Acts, Exceeds, Finishes, StopsAs};
+ghost use Rattle.work_world.specs.WorkWorlds.{AppsAt, IsAgent, IsAppOf, IsHeld, IsKept};
 
 use crate::agent::ensure_peer;
 use crate::parts::Agent;

@@ -1,12 +1,12 @@
 //! All that runs, lent event by event.
 
 ghost use Rattle.std.specs.Prelude.{◌≡◌, ◌++◌, ◌+◌, ◌<◌, ◌^◌, IfErr, IfOk, OnOk};
-ghost use Rattle.written_work.specs.Events.{show, work_step};
-ghost use Rattle.written_work.specs.Given.{IsGiven};
-ghost use Rattle.written_work.specs.Lines.{lines_text};
-ghost use Rattle.written_work.specs.World.{World, empty_world};
-ghost use Rattle.work_world.specs.Steps.{Takes, StopsAs};
-ghost use Rattle.work_world.specs.Worlds.{IsReached, Stands};
+ghost use Rattle.written_work.specs.WorkEvents.{show, work_step};
+ghost use Rattle.written_work.specs.GivenEvents.{IsGiven};
+ghost use Rattle.written_work.specs.WorkLines.{lines_text};
+ghost use Rattle.written_work.specs.AgentWithApps.{World, empty_world};
+ghost use Rattle.work_world.specs.WorkSteps.{Takes, StopsAs};
+ghost use Rattle.work_world.specs.WorkWorlds.{IsReached, Stands};
 
 use crate::acts::act;
 use crate::parts::Agent;

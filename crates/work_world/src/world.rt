@@ -1,12 +1,12 @@
 //! The world that events step.
 
 ghost use Rattle.std.specs.Prelude.{◌≡◌, ◌++◌, ◌+◌, ◌<◌, ◌^◌, IfErr, IfOk, OnOk};
-ghost use Rattle.written_work.specs.Events.{show, work_step};
-ghost use Rattle.written_work.specs.Given.{IsGiven};
-ghost use Rattle.written_work.specs.Lines.{lines_text};
-ghost use Rattle.written_work.specs.World.{World, empty_world};
-ghost use Rattle.work_world.specs.Steps.{Takes, StopsAs};
-ghost use Rattle.work_world.specs.Worlds.{IsPlanned, Stands};
+ghost use Rattle.written_work.specs.WorkEvents.{show, work_step};
+ghost use Rattle.written_work.specs.GivenEvents.{IsGiven};
+ghost use Rattle.written_work.specs.WorkLines.{lines_text};
+ghost use Rattle.written_work.specs.AgentWithApps.{World, empty_world};
+ghost use Rattle.work_world.specs.WorkSteps.{Takes, StopsAs};
+ghost use Rattle.work_world.specs.WorkWorlds.{IsPlanned, Stands};
 
 use crate::stop::WorkStop;
 use crate::working::Working;
@@ -31,7 +31,7 @@ impl Drop for WorkWorld {
 }
 
 impl Model for WorkWorld {
-    ghost use Rattle.work_world.specs.Worlds.{IsReached};
+    ghost use Rattle.work_world.specs.WorkWorlds.{IsReached};
     ghost use Rattle.work_world.specs.declared.working.Working.{Working};
 
     ghost Value = { Working };

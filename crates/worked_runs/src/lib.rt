@@ -7,10 +7,10 @@ ghost use Rattle.worked_runs.specs.RunWords.{Computes};
 ghost use Rattle.worked_runs.specs.FirstGrants.{a_cluster_alone_run, at_most_two_on_a_machine_run, four_fit_and_one_waits_run, level_goes_before_the_line_run, near_goes_first_run, one_resource_is_too_small_run};
 ghost use Rattle.worked_runs.specs.Deltas.{deliveries_again_and_to_no_one_run, deltas_out_of_order_run, more_changes_than_are_kept_run, sixty_four_deltas_in_a_turn_run};
 ghost use Rattle.worked_runs.specs.Failover.{a_report_of_a_new_boot_run, begin_and_a_late_report_run, failover_after_a_give_back_run, failover_with_a_missing_report_run, the_older_master_first_run, two_masters_at_once_run};
-ghost use Rattle.worked_runs.specs.Refusals.{refusals_of_an_application_run, refusals_of_the_hard_state_run};
+ghost use Rattle.worked_runs.specs.RefusedRuns.{refusals_of_an_application_run, refusals_of_the_hard_state_run};
 ghost use Rattle.worked_runs.specs.Preemptions.{a_give_back_crosses_a_preemption_run, preemption_passes_a_bounded_machine_run, quota_shields_a_group_run, victims_that_are_not_needed_stay_run};
 ghost use Rattle.worked_runs.specs.Realistic.{twenty_machines_and_a_failover_run};
-ghost use Rattle.worked_runs.specs.Limits.{a_limit_counts_where_nothing_is_needed_run, a_limit_stops_placing_run, a_rack_goes_before_the_rest_run, an_avoided_machine_gets_nothing_new_run, the_line_goes_before_the_machine_run};
+ghost use Rattle.worked_runs.specs.LimitRuns.{a_limit_counts_where_nothing_is_needed_run, a_limit_stops_placing_run, a_rack_goes_before_the_rest_run, an_avoided_machine_gets_nothing_new_run, the_line_goes_before_the_machine_run};
 ghost use Rattle.worked_runs.specs.HardChanges.{a_report_of_a_banned_machine_run, finish_with_grants_out_run, stops_and_starts_that_are_refused_run, unban_settles_run};
 ghost use Rattle.worked_runs.specs.Again.{a_new_boot_counts_again_run, an_ack_of_an_older_index_run, resync_sends_the_whole_again_run};
 ghost use Rattle.worked_runs.specs.TakenFirst.{quota_takes_from_a_group_above_its_own_run, the_greater_job_loses_first_run};
@@ -18,7 +18,7 @@ ghost use Rattle.worked_runs.specs.CarriedGrants.{a_give_back_of_what_is_not_wan
 ghost use Rattle.worked_runs.specs.Judgements.{a_job_marks_with_all_that_it_wants_run, a_judgement_takes_the_grants_run};
 ghost use Rattle.worked_runs.specs.Stops.{a_submission_before_and_behind_run, each_writing_stops_run};
 ghost use Rattle.worked_runs.specs.Alone.{AgentAlone, AppAlone, MasterAlone};
-ghost use Rattle.worked_runs.specs.Contents.{what_packets_hold_run};
+ghost use Rattle.worked_runs.specs.PacketContents.{what_packets_hold_run};
 
 /// A cluster without an event has the empty state.
 pub fn a_cluster_alone()

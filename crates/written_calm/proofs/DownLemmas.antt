@@ -20,8 +20,8 @@ use Rattle.written_world.specs.World.{World}
 use Rattle.written_world.specs.Events.{TurnMaster, addressed}
 use Rattle.written_world.specs.Runs.{run_from}
 use Rattle.written_world.proofs.PartiesKept.{knows_sender}
-use Rattle.written_calm.specs.Places.{ComesTo, Reaches}
-use Rattle.written_calm.specs.Rounds.{master_tells}
+use Rattle.written_calm.specs.Reached.{ComesTo, Reaches}
+use Rattle.written_calm.specs.CalmRounds.{master_tells}
 use Rattle.written_calm.proofs.ArrivalsLemmas.{Arrived, Spares, arrived_itself, arrives, boot_of, peer_appends_nothing, peer_link, spares}
 use Rattle.written_calm.proofs.FurtherLemmas.{further_then, still_reaches}
 use Rattle.written_calm.proofs.PhasesLemmas.{after, all_heard, hear_each, master_turns}

@@ -9,7 +9,7 @@ use Rattle.written_net.specs.Net.{Party, Link, Packet, Heard, Ack, Delta, Full, 
 use Rattle.written_net.proofs.BoundedLemmas.{met_known}
 use Rattle.written_world.proofs.CreditsLemmas.{taken_places}
 use Rattle.written_world.proofs.PartiesKept.{after_known}
-use Rattle.written_calm.specs.Places.{Reaches}
+use Rattle.written_calm.specs.Reached.{Reaches}
 
 -- a greater incarnation is known, or of the same one more is received and acknowledged
 pub record Further (l l' : Link) : Type 0 where

@@ -9,5 +9,5 @@ pub mod SteadyLemmas
 pub mod PhasesLemmas
 pub mod DownLemmas
 pub mod UpLemmas
-pub mod RoundsLemmas
+pub mod CalmRoundsLemmas
 pub mod QuietLemmas

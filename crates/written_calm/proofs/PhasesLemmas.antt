@@ -14,8 +14,8 @@ use Rattle.written_roles.specs.Refusals.{NoPacket, NotRunning, first_refusal, wi
 use Rattle.written_world.specs.World.{World, Agent, App, Step, prints_nothing, refused}
 use Rattle.written_world.specs.Events.{Event, DeliverRange, TurnAgent, TurnApp, TurnMaster, addressed, counted_in, deliver_all, deliver_one, heard_by, heard_line, turn_to_master, turned, world_step}
 use Rattle.written_world.specs.Runs.{run_from}
-use Rattle.written_calm.specs.Progress.{CanProgress}
-use Rattle.written_calm.specs.Rounds.{delivered_since, peers_turn}
+use Rattle.written_calm.specs.CalmStates.{CanProgress}
+use Rattle.written_calm.specs.CalmRounds.{delivered_since, peers_turn}
 use Rattle.written_calm.proofs.ArrivalsLemmas.{arrives}
 use Rattle.written_calm.proofs.SteadyLemmas.{Steady, can_acts, can_counts, good_acts, good_counts, steady_counts}
 use Rattle.written_calm.proofs.TurnsLemmas.{deliver_each}

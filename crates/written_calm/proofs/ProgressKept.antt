@@ -36,8 +36,8 @@ use Rattle.written_world.proofs.InvariantKept.{at_start, events_hold, left_fence
 use Rattle.written_world.proofs.LeftLemmas.{left_hard, still_runs}
 use Rattle.written_world.proofs.EventsWalk.{StepHolds, WorldKept, act_keeps_world, run_keeps_world, unasked}
 use Rattle.written_world.proofs.PartiesKept.{boots_rise}
-use Rattle.written_calm.specs.Places.{AckReaches, AreReached}
-use Rattle.written_calm.specs.Progress.{CanProgress, IsDone}
+use Rattle.written_calm.specs.Reached.{AckReaches, AreReached}
+use Rattle.written_calm.specs.CalmStates.{CanProgress, IsDone}
 use Rattle.written_calm.proofs.ReachedLemmas.{comes_reached, joined_reached, publish_reached, resync_all_reached, send_all_reached, silent_reached, start_reached}
 use Rattle.written_calm.proofs.ReportsLemmas.{told_reports}
 use Rattle.written_calm.proofs.ReadyStays.{ready_stays}

@@ -23,7 +23,7 @@ use Rattle.written_roles.specs.Refusals.{with_found}
 use Rattle.written_roles.proofs.StepEnds.{peers_talk}
 use Rattle.written_world.specs.World.{World, Agent, App, empty_world}
 use Rattle.written_world.specs.Events.{Event, counted_in, world_step}
-use Rattle.written_world.specs.Lines.{IsInput, is_from_line}
+use Rattle.written_world.specs.EventRanges.{IsInput, is_from_line}
 use Rattle.written_world.specs.Parties.{projection}
 use Rattle.written_world.specs.Quiet.{has_all, is_at_rest, is_agent_quiet, is_app_quiet, is_quiet}
 use Rattle.written_world.specs.Runs.{run, run_from}
@@ -31,10 +31,10 @@ use Rattle.written_world.proofs.GoodKept.{always_good, good_at_start, good_kept,
 use Rattle.written_world.proofs.JobsKept.{act_has, few_resources}
 use Rattle.written_world.specs.Good.{Good}
 use Rattle.written_world.specs.Orders.{IsInOrder}
-use Rattle.written_calm.specs.Rounds.{CalmBringsQuiet, CalmKeeps, IsManned, calm_rounds, closed}
+use Rattle.written_calm.specs.CalmRounds.{CalmBringsQuiet, CalmKeeps, IsManned, calm_rounds, closed}
 use Rattle.written_calm.proofs.ArrivalsLemmas.{boot_of}
 use Rattle.written_calm.proofs.ProgressKept.{always_progresses}
-use Rattle.written_calm.proofs.RoundsLemmas.{Caught, heard_after, last_turn, rounds_keep}
+use Rattle.written_calm.proofs.CalmRoundsLemmas.{Caught, heard_after, last_turn, rounds_keep}
 use Rattle.written_calm.proofs.SteadyLemmas.{IsPeer, Steady, TheMaster, is_peer, the_master}
 
 -- Lists

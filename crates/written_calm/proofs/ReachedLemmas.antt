@@ -15,7 +15,7 @@ use Rattle.written_net.proofs.NetLemmas.{id_is, set_at_all}
 use Rattle.written_net.proofs.BoundedLemmas.{in_numbers, met_known}
 use Rattle.written_net.proofs.SoundLemmas.{acked_is}
 use Rattle.written_world.specs.Parties.{joined}
-use Rattle.written_calm.specs.Places.{Reaches, AckReaches, AreReached}
+use Rattle.written_calm.specs.Reached.{Reaches, AckReaches, AreReached}
 use Rattle.written_calm.proofs.FurtherLemmas.{Further, further_itself, hear_further, still_reaches, reaches_none}
 
 -- at one link

@@ -22,8 +22,8 @@ use Rattle.written_world.proofs.GivesBackLemmas.{act_given}
 use Rattle.written_world.proofs.KnowledgeKept.{act_known}
 use Rattle.written_world.proofs.RecordsKept.{act_recorded}
 use Rattle.written_world.proofs.SettledKept.{act_rests}
-use Rattle.written_calm.specs.Progress.{CanProgress}
-use Rattle.written_calm.specs.Rounds.{IsManned}
+use Rattle.written_calm.specs.CalmStates.{CanProgress}
+use Rattle.written_calm.specs.CalmRounds.{IsManned}
 use Rattle.written_calm.proofs.ArrivalsLemmas.{arrives, boot_of, running_has}
 use Rattle.written_calm.proofs.ProgressKept.{act_progresses}
 

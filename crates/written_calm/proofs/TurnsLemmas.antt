@@ -10,7 +10,7 @@ use Rattle.fuxi_terms.proofs.Booleans.{both_false, either, nat_itself, number_is
 use Rattle.written_net.specs.Net.{Party, Id, Link, Packet, Ack, Delta, Full, hear, notes, turn_packets, same_id}
 use Rattle.written_net.proofs.BoundedLemmas.{in_numbers}
 use Rattle.written_net.proofs.PublishLemmas.{same_id_itself}
-use Rattle.written_calm.specs.Places.{Reaches, ComesTo, hears_each, IsBroughtForward, TurnsBringForward}
+use Rattle.written_calm.specs.Reached.{Reaches, ComesTo, hears_each, IsBroughtForward, TurnsBringForward}
 use Rattle.written_calm.proofs.FurtherLemmas.{Further, further_itself, further_then, hear_further, still_reaches, known_after, place_after_whole, place_after_change, acked_after}
 
 -- packets that are delivered one after the other

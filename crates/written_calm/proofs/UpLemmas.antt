@@ -32,8 +32,8 @@ use Rattle.written_world.specs.Events.{addressed}
 use Rattle.written_world.specs.Runs.{run_from}
 use Rattle.written_world.proofs.PartiesKept.{knows_sender}
 use Rattle.written_world.proofs.SettledLemmas.{number_below}
-use Rattle.written_calm.specs.Places.{ComesTo, Reaches}
-use Rattle.written_calm.specs.Rounds.{AreNamed, peers_tell, peers_turn}
+use Rattle.written_calm.specs.Reached.{ComesTo, Reaches}
+use Rattle.written_calm.specs.CalmRounds.{AreNamed, peers_tell, peers_turn}
 use Rattle.written_calm.proofs.ArrivalsLemmas.{Arrived, arrived_itself, arrives, boot_of, master_is_told, master_leaves, master_link, running_has}
 use Rattle.written_calm.proofs.DownLemmas.{Cut, all_sent, arrived_then, both_all, flat_cut, fresh_none}
 use Rattle.written_calm.proofs.FurtherLemmas.{still_reaches}

@@ -1,3 +1,3 @@
-pub mod Places
-pub mod Progress
-pub mod Rounds
+pub mod Reached
+pub mod CalmStates
+pub mod CalmRounds

@@ -5,11 +5,11 @@
 ghost use Rattle.std.specs.Prelude.{List};
 ghost use Rattle.fuxi_terms.specs.Cluster.{ClusterRecord};
 ghost use Rattle.written_world.specs.Events.{Event};
-ghost use Rattle.written_world.specs.Lines.{IsInput};
+ghost use Rattle.written_world.specs.EventRanges.{IsInput};
 ghost use Rattle.written_world.specs.Runs.{run};
-ghost use Rattle.written_calm.specs.Places.{TurnsBringForward};
-ghost use Rattle.written_calm.specs.Progress.{CanProgress};
-ghost use Rattle.written_calm.specs.Rounds.{CalmBringsQuiet, CalmKeeps};
+ghost use Rattle.written_calm.specs.Reached.{TurnsBringForward};
+ghost use Rattle.written_calm.specs.CalmStates.{CanProgress};
+ghost use Rattle.written_calm.specs.CalmRounds.{CalmBringsQuiet, CalmKeeps};
 
 use written_world::worlds_in_order;
 

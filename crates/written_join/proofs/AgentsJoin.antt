@@ -6,8 +6,8 @@ use Rattle.fuxi_terms.specs.Cluster.{machine_of}
 use Rattle.written_net.specs.Sides.{Side, new_side, Parcel, turn_parcels}
 use Rattle.written_net.specs.Net.{Net, Party, Id, Link, unknown, Packet, heard_of, comes, move, Resyncs, turn}
 use Rattle.written_roles.specs.Agents.{row_excess, agent_turn, agent_resynced}
-use Rattle.written_join.specs.Seen.{side_at, side_of, parcel_of, has_of, agent_seen}
-use Rattle.written_join.specs.Joins.{OneActs, AgentActs, Leads, AgentHearsAlike, AgentStarts}
+use Rattle.written_join.specs.SeenWorlds.{side_at, side_of, parcel_of, has_of, agent_seen}
+use Rattle.written_join.specs.PartyJoins.{OneActs, AgentActs, Leads, AgentHearsAlike, AgentStarts}
 use Rattle.written_net.specs.Ledgers.{Ledger, row_ledger, report_ledger}
 use Rattle.written_net.specs.Channels.{master_id, agent_id, party, is_master, publish, to_master, resync_all, shape, HasJoined}
 use Rattle.written_world.specs.World.{World, Agent}

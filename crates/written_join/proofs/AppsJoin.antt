@@ -22,8 +22,8 @@ use Rattle.written_net.proofs.BoundedLemmas.{found_within}
 use Rattle.written_net.proofs.PublishLemmas.{publish_leaves, publish_grows, grows_itself, same_party_itself, start_leaves}
 use Rattle.written_world.proofs.PartiesKept.{joins}
 use Rattle.written_net.specs.Sides.{Side, new_side}
-use Rattle.written_join.specs.Seen.{side_of, parcel_of, app_seen, side_at}
-use Rattle.written_join.specs.Joins.{AppActs, Leads, AppHearsAlike, AppCommanded, AppStarts}
+use Rattle.written_join.specs.SeenWorlds.{side_of, parcel_of, app_seen, side_at}
+use Rattle.written_join.specs.PartyJoins.{AppActs, Leads, AppHearsAlike, AppCommanded, AppStarts}
 use Rattle.written_join.proofs.SidesLemmas.{joined_alike, published_side, resynced_alike}
 use Rattle.written_join.proofs.AgentsJoin.{quiet_acts, joined_packets, resync_acts, turn_acts}
 use Rattle.fuxi_terms.specs.Jobs.{unit_count}

@@ -28,7 +28,7 @@ use Rattle.written_net.specs.Channels.{master_id, agent_id, app_id, party}
 use Rattle.written_roles.specs.MasterSteps.{is_there}
 use Rattle.written_world.specs.World.{World}
 use Rattle.written_world.specs.Events.{Event}
-use Rattle.written_world.specs.Lines.{IsInput}
+use Rattle.written_world.specs.EventRanges.{IsInput}
 use Rattle.written_world.specs.Runs.{run}
 use Rattle.written_world.specs.Safe.{RowsFit, row_total_at}
 use Rattle.written_world.specs.Good.{Good, IsOfJob, NamesJobs, IsNarrow, IsJob, AreJobs, greatest_in_demand, greatest_in_grants}

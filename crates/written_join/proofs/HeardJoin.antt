@@ -6,8 +6,8 @@ use Rattle.fuxi_terms.specs.declared.vectors.Res.{Res}
 use Rattle.fuxi_terms.specs.declared.vectors.Sum.{Sum}
 use Rattle.fuxi_terms.specs.declared.answers.What.{What}
 use Rattle.written_net.specs.Sides.{patched_by, Took, tested, unless_excess, HeardSide, heard_as, heard_with, hears_side, taken_as}
-use Rattle.written_join.specs.Seen.{received_as, got_at, side_at, side_of, parcel_of}
-use Rattle.written_join.specs.Joins.{Leads}
+use Rattle.written_join.specs.SeenWorlds.{received_as, got_at, side_at, side_of, parcel_of}
+use Rattle.written_join.specs.PartyJoins.{Leads}
 use Rattle.written_net.specs.Net.{Net, Party, Id, Link, Packet, Kind, Ack, Delta, Full, Heard, same_id, met, acknowledge, place_moved, unmoved, hear, hear_peer, word_of, link_after, at_index}
 use Rattle.fuxi_terms.specs.declared.answers.What.TheVariants.{Ledger as SaysLedger, Exceeds as SaysExceeds, Stranger, NotMine, Taken, Old, Gap, Stale, Ack as Acked}
 use Rattle.written_net.specs.Ledgers.{Ledger, nothing, row_ledger, report_ledger, tally_ledger, whole_body, change_body}

@@ -18,8 +18,8 @@ use Rattle.written_net.specs.Channels.{is_agent}
 use Rattle.written_roles.specs.Masters.{Master}
 use Rattle.written_roles.specs.MasterSteps.{adopts, is_kept}
 use Rattle.written_roles.specs.MasterRoles.{kept_total, report_excess as kept_excess}
-use Rattle.written_join.specs.Seen.{received_as}
-use Rattle.written_join.specs.Joins.{Leads}
+use Rattle.written_join.specs.SeenWorlds.{received_as}
+use Rattle.written_join.specs.PartyJoins.{Leads}
 use Rattle.written_join.specs.Leading.{report_excess}
 use Rattle.written_join.proofs.EntriesLead.{total_place}
 

@@ -14,7 +14,7 @@ use Rattle.written_net.specs.Channels.{master_id, agent_id, app_id, dropped_by}
 use Rattle.written_net.specs.Sides.{greatest_from}
 use Rattle.written_roles.specs.Agents.{row_excess}
 use Rattle.written_roles.specs.Apps.{no_excess}
-use Rattle.written_join.specs.Joins.{Leads}
+use Rattle.written_join.specs.PartyJoins.{Leads}
 use Rattle.written_join.specs.Leading.{RowsLead, TalliesLead, ReportsFit}
 use Rattle.fuxi_terms.proofs.Patched.{tally_reaches}
 

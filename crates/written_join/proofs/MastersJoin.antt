@@ -35,8 +35,8 @@ use Rattle.written_net.proofs.PublishLemmas.{Leaves, set_here, publish_leaves, p
 use Rattle.written_world.proofs.Invariant.{ready_epoch}
 use Rattle.written_world.proofs.CreditsLemmas.{put_beside}
 use Rattle.written_roles.specs.MasterRoles.{MasterRole, set_side, publish_alone, offers_alone, ends_alone, MasterHeard, master_told, master_turn, resync_alone, master_commanded, master_changed}
-use Rattle.written_join.specs.Seen.{received_as, side_at, side_of, sides_of, parcel_of, master_seen}
-use Rattle.written_join.specs.Joins.{OneActs, MasterActs, Leads, MasterHearsAlike, MasterStarts, MasterCommanded}
+use Rattle.written_join.specs.SeenWorlds.{received_as, side_at, side_of, sides_of, parcel_of, master_seen}
+use Rattle.written_join.specs.PartyJoins.{OneActs, MasterActs, Leads, MasterHearsAlike, MasterStarts, MasterCommanded}
 use Rattle.written_join.proofs.HeardJoin.{HeardAlike, hears_alike}
 use Rattle.written_join.proofs.SidesLemmas.{published_side, strange}
 use Rattle.fuxi_terms.proofs.Alls.{all_append}

@@ -6,7 +6,7 @@ use Rattle.std.specs.List.{AllByRecursion}
 use Rattle.fuxi_terms.specs.Lists.{numbers_from}
 use Rattle.written_net.specs.Sides.{Parcel, turn_parcels}
 use Rattle.written_net.specs.Net.{Net, Party, Id, Link, Packet, Kind, Ack, Delta, Full, notes, turn}
-use Rattle.written_join.specs.Seen.{side_of, parcel_of}
+use Rattle.written_join.specs.SeenWorlds.{side_of, parcel_of}
 use Rattle.fuxi_terms.specs.Limits.{kept_changes, turn_deltas}
 use Rattle.written_net.specs.Ledgers.{Ledger, whole_body, change_body}
 use Rattle.written_net.specs.Channels.{is_agent, dropped_by, body_in, body_of, shape}

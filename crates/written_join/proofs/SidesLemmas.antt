@@ -6,8 +6,8 @@ use Rattle.fuxi_terms.specs.declared.vectors.Sum.{Sum}
 use Rattle.fuxi_terms.specs.declared.answers.What.TheVariants.{Stranger}
 use Rattle.written_net.specs.Sides.{appended, resynced_side, HeardSide, heard_with, hears_side}
 use Rattle.written_net.specs.Net.{Net, Party, Id, Link, Packet, Heard, same_id, same_party, set_at, unmoved, hear, heard_of, comes, move, Posts, Turns, Resyncs, last, at_index}
-use Rattle.written_join.specs.Seen.{received_as, got_at, side_at, side_of, parcel_of}
-use Rattle.written_join.specs.Joins.{Leads}
+use Rattle.written_join.specs.SeenWorlds.{received_as, got_at, side_at, side_of, parcel_of}
+use Rattle.written_join.specs.PartyJoins.{Leads}
 use Rattle.written_net.specs.Ledgers.{Ledger, nothing, same_ledger}
 use Rattle.written_net.specs.Channels.{master_id, party, is_master, present, Offer, publish_one, publish, to_master, shape}
 use Rattle.written_net.specs.Sound.{Sound, PacketNames}

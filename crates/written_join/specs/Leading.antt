@@ -11,8 +11,8 @@ use Rattle.written_net.specs.Net.{Id, at_index}
 use Rattle.written_net.specs.Ledgers.{Ledger, nothing}
 use Rattle.written_net.specs.Channels.{master_id, agent_id, app_id, party, is_agent}
 use Rattle.written_net.specs.Sides.{greatest_from}
-use Rattle.written_join.specs.Seen.{received_as, has_of}
-use Rattle.written_join.specs.Joins.{Leads}
+use Rattle.written_join.specs.SeenWorlds.{received_as, has_of}
+use Rattle.written_join.specs.PartyJoins.{Leads}
 use Rattle.fuxi_terms.specs.Padded.{padded}
 use Rattle.fuxi_terms.specs.Cluster.{ClusterRecord, machine_of}
 use Rattle.written_roles.specs.Agents.{row_excess}

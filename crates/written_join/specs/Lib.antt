@@ -1,4 +1,4 @@
-pub mod Seen
-pub mod Joins
+pub mod SeenWorlds
+pub mod PartyJoins
 pub mod Leading
 pub mod States

@@ -21,15 +21,15 @@ ghost use Rattle.written_roles.specs.MasterRoles.{master_turn, master_resynced, 
 ghost use Rattle.written_world.specs.World.{World, Agent, App};
 ghost use Rattle.written_world.specs.Show.{show_agent, show_app};
 ghost use Rattle.written_world.specs.Events.{asks, commanded, turned, turn_to_master, resynced};
-ghost use Rattle.written_join.specs.Seen.{has_of, agent_seen, app_seen, master_seen};
-ghost use Rattle.written_join.specs.Joins.{AgentActs, AppActs, MasterActs, AgentHearsAlike, AppHearsAlike, MasterHearsAlike, AgentStarts, AppStarts, MasterStarts, AppCommanded, MasterCommanded, Leads};
+ghost use Rattle.written_join.specs.SeenWorlds.{has_of, agent_seen, app_seen, master_seen};
+ghost use Rattle.written_join.specs.PartyJoins.{AgentActs, AppActs, MasterActs, AgentHearsAlike, AppHearsAlike, MasterHearsAlike, AgentStarts, AppStarts, MasterStarts, AppCommanded, MasterCommanded, Leads};
 ghost use Rattle.written_join.specs.Leading.{RowsLead, TalliesLead, ReportsFit, AllLead, report_excess};
 ghost use Rattle.written_join.specs.States.{agent_lines, app_lines};
 ghost use Rattle.fuxi_terms.specs.Cluster.{ClusterRecord, is_valid_cluster};
 ghost use Rattle.fuxi_terms.specs.Lists.{below};
 ghost use Rattle.written_world.specs.Good.{Good};
 ghost use Rattle.written_world.specs.Events.{Event};
-ghost use Rattle.written_world.specs.Lines.{IsInput};
+ghost use Rattle.written_world.specs.EventRanges.{IsInput};
 ghost use Rattle.written_world.specs.Runs.{run};
 
 /// An agent, in a sound net: it hears each packet, also of a stranger or an earlier master, as the agent by itself

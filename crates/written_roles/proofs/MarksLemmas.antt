@@ -8,7 +8,7 @@ use Rattle.std.proofs.lemmas.List.Folds.{list_all-append, list_any-append}
 use Rattle.fuxi_terms.specs.Jobs.{KnownJob}
 use Rattle.fuxi_terms.specs.Lists.{below}
 use Rattle.fuxi_terms.specs.TallyKeys.{want_key, avoid_key}
-use Rattle.fuxi_terms.proofs.Booleans.{and_true, both_true, or_false, or_left, or_right}
+use Rattle.fuxi_terms.proofs.Booleans.{and_true, both_true, or_false, or_left, or_right, not_true}
 use Rattle.written_roles.specs.Masters.{Master, asked, avoids}
 use Rattle.written_roles.specs.Votes.{IsMark, is_wanted, marks}
 
@@ -60,10 +60,6 @@ if_wanted want avoid h = by (nat_lt 0 want) refl
     by : (b : Bool) → nat_lt 0 want ≡ b → (not b || nat_lt 0 avoid) ≡ true
     by true t = let some : 0 < want = grind (arith, nat_tests, t) in let more : 0 < avoid = h some in grind (arith, nat_tests, more)
     by false t = refl
-
-not_true : (b : Bool) → not b ≡ true → b ≡ false
-not_true true e = cc
-not_true false e = refl
 
 module _ (M : Master) (j : KnownJob) (m : ℕ) where
   abbrev all_avoid : ℕ → Bool

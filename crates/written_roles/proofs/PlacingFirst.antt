@@ -13,7 +13,7 @@ use Rattle.written_roles.specs.Masters.{Master}
 use Rattle.written_roles.specs.Placing.{Ranked, least, first_of, first_placeable, ranked, candidates, places_for, may_grow, accepts, has_room, placeable}
 use Rattle.written_roles.specs.Settling.{IsFirst}
 use Rattle.fuxi_terms.proofs.Booleans.{both_true, and_true}
-use Rattle.fuxi_terms.proofs.Members.{In, in_below}
+use Rattle.fuxi_terms.proofs.Members.{In, in_below, in_left, in_right}
 use Rattle.std.specs.List.{AllByRecursion}
 use Rattle.written_roles.proofs.PlacingEnds.{least_has, all_mapped, all_joined}
 
@@ -59,16 +59,6 @@ other_least r (s ∷ ss) x (inl e) = subst (λ (y : Ranked). NotBefore y (least 
   | false ↦ λ t. through s r (least r ss) t (first_least r ss)
 ] refl)
 other_least r (s ∷ ss) x (inr i) = other_least (cond (is_lt (slice_cmp nat_cmp s.rank r.rank)) s r) ss x i
-
--- members
-pub in_left : {A : Type 0} (x : A) (xs ys : List A) → In x xs → In x (xs ++ ys)
-in_left x [] ys i = absurd i
-in_left x (z ∷ xs) ys (inl e) = inl e
-in_left x (z ∷ xs) ys (inr i) = inr (in_left x xs ys i)
-
-pub in_right : {A : Type 0} (x : A) (xs ys : List A) → In x ys → In x (xs ++ ys)
-in_right x [] ys i = i
-in_right x (z ∷ xs) ys i = inr (in_right x xs ys i)
 
 in_mapped : (f : ℕ → Ranked) (q : ℕ → Bool) (m : ℕ) (ms : List ℕ) → q m ≡ true → In m ms → In (f m) (map f (filter q ms))
 in_mapped f q m [] t i = absurd i

@@ -19,7 +19,7 @@ use Rattle.fuxi_terms.proofs.Alls.{all_append, all_filter, all_passed, all_mappe
 use Rattle.fuxi_terms.proofs.Booleans.{both_true, both_false, and_true, number_is, nat_itself}
 use Rattle.fuxi_terms.proofs.CountsLemmas.{tied}
 use Rattle.fuxi_terms.proofs.KeyOrders.{same_spot}
-use Rattle.fuxi_terms.proofs.Members.{In, in_below}
+use Rattle.fuxi_terms.proofs.Members.{In, in_below, in_left, in_right}
 use Rattle.written_roles.specs.Masters.{Master, asked, avoids}
 use Rattle.written_roles.specs.Placing.{accepts}
 use Rattle.written_roles.specs.Preemption.{goes_before, put_grant, in_walk_order, so_many, walk, falling_priorities, tried}
@@ -27,7 +27,6 @@ use Rattle.written_roles.specs.PlacedInOrder.{AreValid}
 use Rattle.written_roles.specs.ServedInOrder.{AreOrdered, IsUsable, IsCandidate, IsTriedBefore, AreTriedInOrder, IsNotAfter, AreWalkedInOrder}
 use Rattle.written_roles.proofs.LossesLemmas.{amount, often_flat, walk_amount, table_amount}
 use Rattle.written_roles.proofs.PlacedInOrderLemmas.{valid_priority}
-use Rattle.written_roles.proofs.PlacingFirst.{in_left, in_right}
 
 -- Lists in order
 all_both : {A : Type 0} (P Q : A → Type 0) (xs : List A) → AllByRecursion P xs → AllByRecursion Q xs → AllByRecursion (λ x. P x × Q x) xs

@@ -22,7 +22,7 @@ use Rattle.written_world.specs.Events.{Event, DeliverRange, Halt, Judge, StartAp
 use Rattle.written_world.proofs.EventsWalk.{EventSteps, act_steps}
 use Rattle.written_world.proofs.Invariant.{put_found, ready_epoch}
 use Rattle.written_world.proofs.LeftLemmas.{left_out}
-use Rattle.written_calm.specs.Rounds.{AreNamed, IsManned}
+use Rattle.written_calm.specs.CalmRounds.{AreNamed, IsManned}
 
 -- the master of the fence and all agents run, the applications are those of the three jobs, and the fence is a number of 64 bits
 pub record Facts (w : World) : Type 0 where

@@ -16,7 +16,7 @@ use Rattle.written_roles.specs.HardState.{HardState}
 use Rattle.written_roles.specs.Refusals.{with_found}
 use Rattle.written_world.specs.World.{World, Agent, App, empty_world}
 use Rattle.written_world.specs.Events.{Event, StartMaster, StopMaster, StartAgent, StartApp, Submit, Begin, Preempt, Want, Near, GiveBack, TurnMaster, TurnAgent, TurnApp, ResyncMaster, Deliver, counted_in, world_step}
-use Rattle.written_world.specs.Lines.{IsInput, is_from_line}
+use Rattle.written_world.specs.EventRanges.{IsInput, is_from_line}
 use Rattle.written_world.specs.Quiet.{is_quiet}
 use Rattle.written_world.specs.Runs.{run, run_from}
 use Rattle.written_world.proofs.JobsKept.{run_cluster}
@@ -28,9 +28,9 @@ use Rattle.storm_run.specs.Clusters.{storm_cluster}
 use Rattle.storm_run.specs.Generators.{drawn, next, number}
 use Rattle.storm_run.specs.Storms.{Storm, all_stepped, all_taken, closed, each, job, opened, stepped, storm, storm_at, submitted, taken}
 use Rattle.storm_run.specs.Summaries.{answer, count_lines, line, storm_of, summary}
-use Rattle.written_calm.specs.Rounds.{AreNamed, CalmBringsQuiet, CalmKeeps, IsManned}
-use Rattle.written_calm.specs.Rounds as calm
-use Rattle.written_storm.specs.Ends.{EndsQuiet, EndsWith}
+use Rattle.written_calm.specs.CalmRounds.{AreNamed, CalmBringsQuiet, CalmKeeps, IsManned}
+use Rattle.written_calm.specs.CalmRounds as calm
+use Rattle.written_storm.specs.StormEnds.{EndsQuiet, EndsWith}
 use Rattle.written_storm.proofs.BefallsLemmas.{Facts, Harmless, befalls}
 use Rattle.written_storm.proofs.TakenLemmas.{Did, closed_is, did, each_is, run_append, taken_is}
 

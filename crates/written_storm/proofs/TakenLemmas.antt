@@ -11,12 +11,12 @@ use Rattle.written_world.specs.World.{World}
 use Rattle.written_world.specs.Events.{Event, DeliverRange, TurnAgent, TurnApp, TurnMaster, world_step}
 use Rattle.written_world.specs.Runs.{run_from}
 use Rattle.schedule_replay.specs.declared.stop.WorldStop.{WorldStop}
-use Rattle.schedule_replay.specs.Steps.{limit_of}
+use Rattle.schedule_replay.specs.WorldSteps.{limit_of}
 use Rattle.storm_run.specs.Choices.{counted}
 use Rattle.storm_run.specs.Clusters.{storm_cluster}
 use Rattle.storm_run.specs.Storms.{all_taken, closed, delivered, each, master_turned, peers_turned, round, rounds, taken, unless_past, with_delivery}
-use Rattle.written_calm.specs.Rounds.{IsAsBefore, calm_round, calm_rounds, delivered_since, master_tells, peers_tell, peers_turn}
-use Rattle.written_calm.specs.Rounds as calm
+use Rattle.written_calm.specs.CalmRounds.{IsAsBefore, calm_round, calm_rounds, delivered_since, master_tells, peers_tell, peers_turn}
+use Rattle.written_calm.specs.CalmRounds as calm
 
 -- one thing done, and then another
 pub record Did {A B E : Type 0} (r : Result A E) (f : A → Result B E) (y : B) : Type 0 where

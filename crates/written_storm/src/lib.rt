@@ -4,7 +4,7 @@
 
 ghost use Rattle.std.specs.Prelude.{◌≡◌, ℕ, List, Ok};
 ghost use Rattle.storm_run.specs.Summaries.{storm_of};
-ghost use Rattle.written_storm.specs.Ends.{EndsQuiet};
+ghost use Rattle.written_storm.specs.StormEnds.{EndsQuiet};
 
 use written_calm::calm_rounds_bring_quiet;
 

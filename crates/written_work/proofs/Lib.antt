@@ -1,2 +1,2 @@
 pub mod RunAfterLemmas
-pub mod StatesLemmas
+pub mod WorkStatesLemmas

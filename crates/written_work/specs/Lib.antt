@@ -1,7 +1,7 @@
-pub mod World
-pub mod Lines
-pub mod Settling
-pub mod Events
-pub mod Runs
-pub mod Given
-pub mod States
+pub mod AgentWithApps
+pub mod WorkLines
+pub mod WorkSettling
+pub mod WorkEvents
+pub mod WorkRuns
+pub mod GivenEvents
+pub mod WorkStates

@@ -7,9 +7,9 @@ ghost use Rattle.work_plan.specs.Crews.{Distinct};
 ghost use Rattle.work_plan.specs.RunAfter.{run_after};
 ghost use Rattle.schedule_unit.specs.declared.party.AppNo.{AppNo};
 ghost use Rattle.written_work.specs.declared.event.WorkEvent.TheVariants.{App};
-ghost use Rattle.written_work.specs.World.{World};
-ghost use Rattle.written_work.specs.Events.{work_step};
-ghost use Rattle.written_work.specs.States.{AllRun, IsReached};
+ghost use Rattle.written_work.specs.AgentWithApps.{World};
+ghost use Rattle.written_work.specs.WorkEvents.{work_step};
+ghost use Rattle.written_work.specs.WorkStates.{AllRun, IsReached};
 
 use work_plan::plans_name_once;
 

@@ -6,7 +6,7 @@ mod event;
 mod laws;
 
 ghost use Rattle.std.specs.Prelude.{◌≡◌};
-ghost use Rattle.written_work.specs.Runs.{all_lines, the_newest_stops_events, the_newest_stops_lines, workers_outlive_events, workers_outlive_lines};
+ghost use Rattle.written_work.specs.WorkRuns.{all_lines, the_newest_stops_events, the_newest_stops_lines, workers_outlive_events, workers_outlive_lines};
 
 pub use event::WorkEvent;
 pub use laws::{every_world_runs_as_planned, workers_run_as_planned};

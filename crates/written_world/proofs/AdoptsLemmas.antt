@@ -32,7 +32,7 @@ use Rattle.written_world.specs.Good.{Invariant, IsOfJob, ReportHolds, KnowsMore}
 use Rattle.written_world.specs.KeepsGrants.{IsKept, IsAdopted, AllAdopt}
 use Rattle.written_world.specs.Runs.{run}
 use Rattle.written_world.proofs.InvariantKept.{always, counted_holds}
-use Rattle.written_world.proofs.StepsLemmas.{MasterSteps, master_through, master_is}
+use Rattle.written_world.proofs.EventStepsLemmas.{MasterSteps, master_through, master_is}
 
 -- a row of a report fits the units that a master knows, as far as it knows the job
 record IsExact (jobs : List KnownJob) (k : RowKey) : Type 0 where

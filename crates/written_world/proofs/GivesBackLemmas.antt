@@ -39,7 +39,7 @@ use Rattle.written_world.specs.Good.{AllGiven, EntryGiven, Invariant, IsGiven, I
 use Rattle.written_world.proofs.AgreementLemmas.{at_numbers}
 use Rattle.written_world.proofs.Invariant.{ready_epoch}
 use Rattle.written_world.proofs.PartiesKept.{after_known, knows_sender}
-use Rattle.written_world.proofs.StepsLemmas.{master_is}
+use Rattle.written_world.proofs.EventStepsLemmas.{master_is}
 use Rattle.written_world.proofs.DemandsLemmas.{publish_each}
 use Rattle.written_world.proofs.GrantsLemmas.{credits_in_grants}
 use Rattle.fuxi_terms.specs.Cluster.{has_machine}

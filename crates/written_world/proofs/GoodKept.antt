@@ -9,7 +9,7 @@ use Rattle.written_net.specs.Sound.{Sound, Bounded, PacketNames, PacketWithin}
 use Rattle.written_world.specs.World.{World, empty_world}
 use Rattle.written_world.specs.Events.{Event, counted_in, world_step}
 use Rattle.written_world.specs.Runs.{run_from, run}
-use Rattle.written_world.specs.Lines.{IsInput, is_from_line}
+use Rattle.written_world.specs.EventRanges.{IsInput, is_from_line}
 use Rattle.written_world.specs.Good.{IsHard, Good}
 use Rattle.written_world.specs.Safe.{Safe}
 use Rattle.written_world.proofs.AgreementLemmas.{agent_agrees, app_agrees}

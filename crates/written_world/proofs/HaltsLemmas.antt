@@ -18,7 +18,7 @@ use Rattle.written_world.specs.Events.{Ban, Event, Finish, Halt, StartMaster, Su
 use Rattle.written_world.specs.Halts.{Halts, StopsNobody, is_start}
 use Rattle.written_world.specs.Parties.{end_step}
 use Rattle.written_world.specs.Runs.{run}
-use Rattle.written_world.specs.Steps.{IsDone}
+use Rattle.written_world.specs.EventSteps.{IsDone}
 use Rattle.written_world.specs.World.{Step, World, empty_world, on_result, prints_nothing, refused}
 use Rattle.written_world.proofs.EventsWalk.{run_keeps, unasked}
 use Rattle.written_world.proofs.InvariantKept.{always, left_fence, not_refused}

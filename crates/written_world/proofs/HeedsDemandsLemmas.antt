@@ -45,7 +45,7 @@ use Rattle.written_world.proofs.InvariantKept.{SameMaster, always, events_hold, 
 use Rattle.written_world.proofs.KeepsGrantsLemmas.{sent_links, sent_histories, IsUntaken, untaken}
 use Rattle.written_world.proofs.StartsLemmas.{new_link}
 use Rattle.written_world.proofs.LeftLemmas.{still_runs}
-use Rattle.written_world.proofs.StepsLemmas.{master_is}
+use Rattle.written_world.proofs.EventStepsLemmas.{master_is}
 
 -- what a master's wishes are
 record Heeds (c : ClusterRecord) (net : Net Ledger) (M : Master) : Type 0 where

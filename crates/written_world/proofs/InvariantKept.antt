@@ -27,7 +27,7 @@ use Rattle.written_roles.specs.Apps.{joined_demand, changed_demand, AppCommand, 
 use Rattle.written_world.specs.Events.{Event, demanded, turned, given_back, usable_now, counted_in, without_master}
 use Rattle.written_world.specs.Runs.{run}
 use Rattle.written_net.specs.Sound.{Sound, Current, PacketNames}
-use Rattle.written_world.specs.Shown.{AllShown, AllCredited, AllGiveBacks}
+use Rattle.written_world.specs.ShownLast.{AllShown, AllCredited, AllGiveBacks}
 use Rattle.written_world.specs.Credits.{AllCreditedOnce}
 use Rattle.written_world.specs.Safe.{AllAgree, AllFit, CountsOnce}
 use Rattle.written_net.proofs.BoundedLemmas.{found_within}

@@ -15,7 +15,7 @@ use Rattle.written_roles.specs.Refusals.{Refusal, HardFull, Fenced, Known, NoJob
 use Rattle.written_world.specs.World.{World, Step, empty_world}
 use Rattle.written_world.specs.Events.{Event, act}
 use Rattle.written_world.specs.Runs.{run}
-use Rattle.written_world.specs.Lines.{IsInput, is_from_line, is_counted}
+use Rattle.written_world.specs.EventRanges.{IsInput, is_from_line, is_counted}
 use Rattle.written_world.specs.Good.{IsNarrow, IsJob, AreJobs, AreDistinct, IsHard}
 use Rattle.fuxi_terms.proofs.Booleans.{both_true, and_true, either}
 use Rattle.fuxi_terms.proofs.Alls.{all_append}

@@ -31,13 +31,13 @@ use Rattle.written_world.specs.Events.{Event, StartMaster, StopMaster, StartApp,
 use Rattle.written_world.specs.Good.{Invariant}
 use Rattle.written_world.specs.KeepsGrants.{AllReport, AllStay}
 use Rattle.written_world.specs.Runs.{run}
-use Rattle.written_world.specs.Steps.{is_single}
+use Rattle.written_world.specs.EventSteps.{is_single}
 use Rattle.written_world.proofs.CreditsLemmas.{stayed}
 use Rattle.written_world.proofs.LeftLemmas.{left_hard}
 use Rattle.written_world.proofs.EventsWalk.{EventSteps, act_steps}
 use Rattle.written_world.proofs.InvariantKept.{always, counted_holds, not_refused, rising, told_same}
 use Rattle.written_world.proofs.StartsLemmas.{put_here}
-use Rattle.written_world.proofs.StepsLemmas.{master_is}
+use Rattle.written_world.proofs.EventStepsLemmas.{master_is}
 
 -- What a packet to an agent makes of the world
 got_within : {A : Type 0} (xs : List A) (i : ℕ) (x : A) → slice_get xs i ≡ Some x → i < length xs

@@ -29,13 +29,13 @@ pub mod SettledLemmas
 pub mod RowsShown
 pub mod SettledKept
 pub mod StartsLemmas
-pub mod StepsLemmas
+pub mod EventStepsLemmas
 pub mod ServesLemmas
 pub mod KeepsGrantsLemmas
 pub mod AdoptsLemmas
 pub mod GivesBackLemmas
 pub mod HeedsDemandsLemmas
-pub mod TurnsLemmas
+pub mod SentTurnsLemmas
 pub mod BansJudgedLemmas
 pub mod HaltsLemmas
 pub mod OrdersKept

@@ -26,7 +26,7 @@ use Rattle.written_world.specs.Outputs.{Line}
 use Rattle.written_world.specs.World.{World, Agent, App, Step, prints_nothing, refused}
 use Rattle.written_world.specs.Parties.{end_step, told, received, adopted_now, master_hears, agent_hears, app_hears}
 use Rattle.written_world.specs.Events.{Event, StartMaster, StopMaster, StartAgent, StartApp, Submit, Finish, Ban, Unban, Begin, Preempt, Judge, Want, Near, Rack, Avoid, GiveBack, TurnMaster, TurnAgent, TurnApp, ResyncMaster, ResyncAgent, ResyncApp, Deliver, DeliverRange, Dump, ShowState, Halt, halted, is_writing, is_written, writer_of, at_master, at_agent, at_app, turned, turn_to_master, addressed, packet_of, deliver_one, deliver_all, commanded, ban_each, agent_started, app_started, act, counted_in, world_step, asks}
-use Rattle.written_world.specs.Lines.{is_from_line, is_counted}
+use Rattle.written_world.specs.EventRanges.{is_from_line, is_counted}
 use Rattle.written_world.proofs.CommandLemmas.{found_has, hard_has, submits_has, finishes_has, bans_has, unbans_has, begins_has, makes_room_has}
 use Rattle.written_world.specs.Orders.{Rise, IsInOrder}
 use Rattle.fuxi_terms.proofs.NumbersLemmas.{with_all, with_rises}

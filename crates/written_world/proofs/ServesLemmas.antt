@@ -19,7 +19,7 @@ use Rattle.written_world.specs.World.{World, empty_world}
 use Rattle.written_world.specs.Parties.{told, received}
 use Rattle.written_world.specs.Events.{Event, StartMaster, StopMaster, Submit, Finish, Ban, Unban, Begin, Preempt, Judge, Deliver, DeliverRange, Halt, writer_of, counted_in, world_step, act, commanded, ban_each, deliver_one, deliver_all}
 use Rattle.written_world.specs.Runs.{run}
-use Rattle.written_world.specs.Steps.{WasBegun, AllServe}
+use Rattle.written_world.specs.EventSteps.{WasBegun, AllServe}
 use Rattle.written_world.proofs.EventsWalk.{EventSteps, StepHolds, act_steps, ban_steps, deliver_steps, with_ready}
 use Rattle.written_world.proofs.Invariant.{put_found, ready_epoch}
 use Rattle.written_world.proofs.InvariantKept.{told_same}

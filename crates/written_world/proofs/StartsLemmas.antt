@@ -29,7 +29,7 @@ use Rattle.written_world.specs.Events.{Event, StopMaster, StartAgent, StartApp, 
 use Rattle.written_world.specs.Good.{IsShowing}
 use Rattle.written_world.specs.Runs.{run, run_from}
 use Rattle.written_world.specs.Starts.{StaysStopped, IsNewAgent, IsNewApp, StartsWithNothing}
-use Rattle.written_world.specs.Steps.{IsDone}
+use Rattle.written_world.specs.EventSteps.{IsDone}
 use Rattle.written_world.proofs.LeftLemmas.{left_out, still_runs}
 use Rattle.written_world.proofs.EventsWalk.{KeptBy, WorldKept, with_ready, run_keeps, run_keeps_world, unasked}
 use Rattle.written_world.proofs.Invariant.{put_found, ready_epoch}

@@ -6,7 +6,7 @@ use Rattle.written_net.specs.Channels.{app_id, party}
 use Rattle.written_world.specs.World.{World, App}
 use Rattle.written_world.specs.Events.{GiveBack, world_step}
 use Rattle.written_world.specs.Parties.{app_held}
-use Rattle.written_world.specs.Steps.{IsDone}
+use Rattle.written_world.specs.EventSteps.{IsDone}
 
 -- from one world to the next an application holds this number less of one unit on one machine, and of all others the same
 pub record HoldsLess (w v : World) (a : ℕ) (g : App) (u m n : ℕ) : Type 0 where

@@ -8,7 +8,7 @@ use Rattle.written_world.specs.Outputs.{Halted, Refused}
 use Rattle.written_world.specs.World.{World, refused}
 use Rattle.written_world.specs.Events.{Event, StartMaster, Halt, counted_in, is_written, without_master, world_step, writer_of}
 use Rattle.written_world.specs.Runs.{run}
-use Rattle.written_world.specs.Steps.{IsDone}
+use Rattle.written_world.specs.EventSteps.{IsDone}
 
 -- the line is one that is only for a new master
 abbrev pub is_start : Event → Bool

@@ -14,7 +14,7 @@ use Rattle.written_roles.specs.Agents.{joined_report}
 use Rattle.written_world.specs.World.{World, Agent}
 use Rattle.written_world.specs.Events.{Event, Deliver, packet_of, world_step}
 use Rattle.written_world.specs.Parties.{agent_table}
-use Rattle.written_world.specs.Steps.{is_single, RunsThrough}
+use Rattle.written_world.specs.EventSteps.{is_single, RunsThrough}
 
 -- what is reported of a live job, of a unit that it has, with its size, is at most what the master then holds
 abbrev pub IsKept : Master → ℕ → RowKey × ℕ → Type 0

@@ -8,7 +8,7 @@ use Rattle.written_world.specs.World.{World, Agent, App}
 use Rattle.written_world.specs.Events.{Event, StopMaster, StartAgent, StartApp, world_step}
 use Rattle.written_world.specs.Parties.{agent_table, app_held}
 use Rattle.written_world.specs.Runs.{run}
-use Rattle.written_world.specs.Steps.{IsDone}
+use Rattle.written_world.specs.EventSteps.{IsDone}
 
 -- A stopped master stays so: behind a stop that is not refused no master of its epoch ever runs; and what runs of a machine or a job behind a start that is not
 -- refused has a greater boot than what it replaced

@@ -21,17 +21,17 @@ ghost use Rattle.written_world.specs.HeedsDemands.{AllHeed};
 ghost use Rattle.written_world.specs.Judging.{AllJudge};
 ghost use Rattle.written_world.specs.KeepsGrants.{AllAdopt, AllReport, AllStay};
 ghost use Rattle.written_net.specs.Channels.{shape};
-ghost use Rattle.written_world.specs.Shown.{AllShown, AllCredited, AllGiveBacks};
+ghost use Rattle.written_world.specs.ShownLast.{AllShown, AllCredited, AllGiveBacks};
 ghost use Rattle.written_world.specs.Credits.{AllCreditedOnce};
 ghost use Rattle.written_world.specs.Safe.{Safe};
 ghost use Rattle.written_world.specs.Starts.{StaysStopped, StartsWithNothing};
-ghost use Rattle.written_world.specs.Steps.{AllGrow, AllBare, AllServe, AllLose, IsDone};
+ghost use Rattle.written_world.specs.EventSteps.{AllGrow, AllBare, AllServe, AllLose, IsDone};
 ghost use Rattle.written_world.specs.Events.{Event, is_writing, world_step};
 ghost use Rattle.written_world.specs.Halts.{Halts, StopsNobody};
-ghost use Rattle.written_world.specs.Lines.{IsInput, is_from_line};
+ghost use Rattle.written_world.specs.EventRanges.{IsInput, is_from_line};
 ghost use Rattle.written_world.specs.Orders.{IsInOrder};
 ghost use Rattle.written_world.specs.Runs.{run};
-ghost use Rattle.written_world.specs.Turns.{AllTurn};
+ghost use Rattle.written_world.specs.SentTurns.{AllTurn};
 
 /// Patching with the difference gives the second value, and only the difference does: for entries by key,
 /// for rows, for tables, and for tallies with a head and a kind of entry that a new head drops.

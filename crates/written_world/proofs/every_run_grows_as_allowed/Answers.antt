@@ -1,4 +1,4 @@
-use Rattle.written_world.proofs.StepsLemmas.{all_grow}
+use Rattle.written_world.proofs.EventStepsLemmas.{all_grow}
 use Rattle.written_world.proofs.every_run_grows_as_allowed.Goals as goal
 
 pub returns : goal.returns

@@ -1,4 +1,4 @@
-use Rattle.written_world.proofs.StepsLemmas.{all_bare}
+use Rattle.written_world.proofs.EventStepsLemmas.{all_bare}
 use Rattle.written_world.proofs.every_run_keeps_banned_machines_bare.Goals as goal
 
 pub returns : goal.returns

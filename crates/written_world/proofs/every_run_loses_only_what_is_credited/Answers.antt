@@ -1,4 +1,4 @@
-use Rattle.written_world.proofs.StepsLemmas.{all_lose}
+use Rattle.written_world.proofs.EventStepsLemmas.{all_lose}
 use Rattle.written_world.proofs.every_run_loses_only_what_is_credited.Goals as goal
 
 pub returns : goal.returns

@@ -1,4 +1,4 @@
-use Rattle.written_world.proofs.TurnsLemmas.{all_turn}
+use Rattle.written_world.proofs.SentTurnsLemmas.{all_turn}
 use Rattle.written_world.proofs.turns_go_as_changes.Goals as goal
 
 pub returns : goal.returns

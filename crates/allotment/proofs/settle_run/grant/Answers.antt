@@ -3,7 +3,7 @@ use Rattle.fuxi_terms.specs.Counts.{count}
 use Rattle.fuxi_terms.specs.Keys.{spot_cmp}
 use Rattle.fuxi_terms.specs.Tables.{with_grant}
 use Rattle.written_roles.specs.Placing.{granted}
-use Rattle.grant_table.specs.Tables.{TableRecord}
+use Rattle.grant_table.specs.GrantTables.{TableRecord}
 use Rattle.place_pass.specs.Best.{spot_of}
 use Rattle.place_pass.specs.Placers.{SeenRecord, board_with, line_told}
 use Rattle.allotment.specs.PlacingReads.{IsPlacing}

@@ -4,7 +4,7 @@ use Rattle.fuxi_terms.specs.Counts.{count}
 use Rattle.fuxi_terms.specs.Keys.{Spot, spot_cmp}
 use Rattle.fuxi_terms.specs.Tables.{with_grant}
 use Rattle.written_roles.specs.Placing.{first_in, settled}
-use Rattle.grant_table.specs.Tables.{TableRecord}
+use Rattle.grant_table.specs.GrantTables.{TableRecord}
 use Rattle.grant_table.specs.declared.asking.Pick.{Pick}
 use Rattle.place_pass.specs.Best.{spot_of}
 use Rattle.place_pass.specs.Placers.{SeenRecord, ToldRecord, board_with}

@@ -9,7 +9,7 @@ use Rattle.written_net.specs.Ledgers.{tally_ledger, at_key}
 use Rattle.written_net.specs.Sides.{shown, appended}
 use Rattle.written_roles.specs.Apps.{changed_demand}
 use Rattle.core_side.specs.Bodies.{tally_of}
-use Rattle.app_master.specs.Apps.{patched_demand, IsUp}
+use Rattle.app_master.specs.AppCores.{patched_demand, IsUp}
 use Rattle.app_master.specs.Asking.{IsMove}
 use Rattle.app_master.proofs.DemandChanges.{set_itself, set_here, move_made, changed_is}
 use Rattle.app_master.proofs.asking.set_number.Goals as goal

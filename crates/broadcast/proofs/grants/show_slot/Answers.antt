@@ -1,6 +1,6 @@
 use Rattle.std.proofs.Common.{◌≡◌, ℕ, List, Some, refl, sym, ◌∙◌, subst}
 use Rattle.std.proofs.lemmas.Result.{on_ok_weaker}
-use Rattle.grant_table.specs.Tables.{TableRecord}
+use Rattle.grant_table.specs.GrantTables.{TableRecord}
 use Rattle.broadcast.specs.AllShown.{App, ShowsGrants}
 use Rattle.broadcast.specs.OneJob.{JobIsBefore}
 use Rattle.broadcast.proofs.grants.show_slot.Goals as goal

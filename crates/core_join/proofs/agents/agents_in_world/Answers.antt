@@ -1,11 +1,11 @@
 use Rattle.std.proofs.Common.{sym, ◌∙◌, ap, subst, ◌≡◌}
 use Rattle.written_net.specs.Channels.{agent_id, party, master_id, is_master}
 use Rattle.written_roles.specs.Agents.{new_agent, row_excess, agent_hears_alone}
-use Rattle.agent_core.specs.Standing.{StandsFor}
+use Rattle.agent_core.specs.AgentCores.{StandsFor}
 use Rattle.written_net.specs.Net.{last}
-use Rattle.written_join.specs.Seen.{agent_seen, has_of}
-use Rattle.written_join.specs.Joins.{Leads, OneActs}
-use Rattle.core_join.specs.Agents.{agent_at, IsRuled}
+use Rattle.written_join.specs.SeenWorlds.{agent_seen, has_of}
+use Rattle.written_join.specs.PartyJoins.{Leads, OneActs}
+use Rattle.core_join.specs.AgentInWorld.{agent_at, IsRuled}
 use Rattle.core_join.proofs.Ruled.{hear_ruled}
 use Rattle.written_world.specs.Events.{turn_to_master}
 use Rattle.core_join.proofs.agents.agents_in_world.Goals as goal

@@ -2,15 +2,15 @@ use Rattle.std.proofs.Common.{sym, ◌∙◌, subst, ◌≡◌, ap, ◌∷◌, [
 use Rattle.written_net.specs.Channels.{app_id, party, master_id, is_master}
 use Rattle.written_roles.specs.Apps.{new_app, no_excess, app_hears_alone}
 use Rattle.written_world.specs.Events.{app_started, turn_to_master, resynced}
-use Rattle.app_master.specs.Apps.{StandsFor}
+use Rattle.app_master.specs.AppCores.{StandsFor}
 use Rattle.core_join.proofs.AppWorld.{runs_there, acts_in, as_before, asked, turn_keeps}
 use Rattle.written_net.specs.Net.{last}
-use Rattle.written_join.specs.Seen.{app_seen}
-use Rattle.written_join.specs.Joins.{Leads, OneActs}
+use Rattle.written_join.specs.SeenWorlds.{app_seen}
+use Rattle.written_join.specs.PartyJoins.{Leads, OneActs}
 use Rattle.written_world.specs.World.{World}
 use Rattle.written_world.specs.Parties.{app_hears}
-use Rattle.core_join.specs.Agents.{IsRuled}
-use Rattle.core_join.specs.Apps.{app_at}
+use Rattle.core_join.specs.AgentInWorld.{IsRuled}
+use Rattle.core_join.specs.AppInWorld.{app_at}
 use Rattle.core_join.proofs.Ruled.{hear_ruled}
 use Rattle.std.specs.Ordering.{nat_cmp}
 use Rattle.std.specs.FinMap.Entries.{find}

@@ -4,7 +4,7 @@ use Rattle.std.specs.FinMap.Entries.{find}
 use Rattle.written_net.specs.Channels.{master_id, party}
 use Rattle.written_roles.specs.MasterSteps.{ready, new_master}
 use Rattle.written_roles.specs.MasterRoles.{master_started, report_excess}
-use Rattle.written_join.specs.Joins.{master_starts}
+use Rattle.written_join.specs.PartyJoins.{master_starts}
 use Rattle.fuxi_master.specs.Cores.{StandsFor}
 use Rattle.core_join.proofs.MasterWorld.{steps_in}
 use Rattle.core_join.proofs.masters.masters_in_world.Goals as goal

@@ -1,13 +1,13 @@
 use Rattle.std.proofs.Common.{subst}
 use Rattle.fuxi_io.specs.declared.status.Status.TheVariants.{Done, BadInput, ReadFault, WriteFault, Limit, OutOfMemory}
-use Rattle.fuxi_node.specs.Inputs.{TellsDisk}
+use Rattle.fuxi_node.specs.NodeInputs.{TellsDisk}
 use Rattle.fuxi_node.specs.declared.kind.NodeKind.TheVariants.{Master}
-use Rattle.storm_run.specs.Runs.{StormEnded}
+use Rattle.storm_run.specs.StormRuns.{StormEnded}
 use Rattle.storm_run.specs.Summaries.{storm_of}
 use Rattle.fuxi_command.proofs.LeaseWritesItsText.{lease_done}
 use Rattle.fuxi_command.proofs.ReplaysLemmas.{ended_as, ends_whole, text_before, text_done, text_limited}
-use Rattle.fuxi_command.proofs.StatesLemmas.{each_calms, each_judges}
-use Rattle.fuxi_command.proofs.StormsLemmas.{ends_well, quiet_storm}
+use Rattle.fuxi_command.proofs.RunStatesLemmas.{each_calms, each_judges}
+use Rattle.fuxi_command.proofs.StormTextsLemmas.{ends_well, quiet_storm}
 use Rattle.fuxi_command.proofs.WorkWritesItsText.{work_done}
 use Rattle.fuxi_command.proofs.top.fuxi.Goals as goal
 

@@ -1,6 +1,6 @@
 use Rattle.std.proofs.Common.{refl, sym}
-use Rattle.schedule_run.specs.Runs.{read_from, Ended}
-use Rattle.fuxi_command.specs.Words.{Lease, Node, Replay, Storm, Work}
+use Rattle.schedule_run.specs.ScheduleRuns.{read_from, Ended}
+use Rattle.fuxi_command.specs.CommandWords.{Lease, Node, Replay, Storm, Work}
 use Rattle.fuxi_command.proofs.OutcomesLemmas.{diskless, node_diskless, node_untouched, of_command, of_none, storm_ends, work_lines, work_records}
 use Rattle.fuxi_command.proofs.ReplaysLemmas.{begun}
 use Rattle.fuxi_command.proofs.Untouched.{untouched}

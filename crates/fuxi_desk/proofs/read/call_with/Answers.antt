@@ -1,7 +1,7 @@
 use Rattle.std.proofs.Common.{sym, ap}
 use Rattle.fuxi_terms.specs.Counts.{then_do}
-use Rattle.fuxi_desk.specs.Lines.{call_at, call_with, hex_of}
-use Rattle.fuxi_desk.proofs.LinesLemmas.{is_fault}
+use Rattle.fuxi_desk.specs.DeskLines.{call_at, call_with, hex_of}
+use Rattle.fuxi_desk.proofs.DeskLinesLemmas.{is_fault}
 use Rattle.fuxi_desk.proofs.read.call_with.Goals as goal
 
 pub returns-in-Err-clause-fault : goal.returns-in-Err-clause-fault

@@ -1,6 +1,6 @@
 use Rattle.std.proofs.Common.{None, sym, ◌∙◌, ap, cond}
 use Rattle.hex.specs.Hex.{decode_of}
-use Rattle.fuxi_desk.specs.Lines.{bytes_in}
+use Rattle.fuxi_desk.specs.DeskLines.{bytes_in}
 use Rattle.fuxi_desk.proofs.read.hex_of.Goals as goal
 
 pub returns-in-Ok : goal.returns-in-Ok

@@ -1,6 +1,6 @@
 use Rattle.std.proofs.Common.{refl}
 use Rattle.input_lines.proofs.LineProgressLemmas.{nothing_read}
-use Rattle.fuxi_desk.specs.Runs.{desk_ends, read_from}
+use Rattle.fuxi_desk.specs.DeskRuns.{desk_ends, read_from}
 use Rattle.fuxi_desk.proofs.run.run_desk.Goals as goal
 
 pub returns-in-Err-clause-ended : goal.returns-in-Err-clause-ended

@@ -1,6 +1,6 @@
 use Rattle.input_lines.proofs.OpenedRunsLemmas.{behind_line, no_line}
-use Rattle.fuxi_desk.specs.Runs.{desk_ends, desk_opener}
-use Rattle.fuxi_desk.proofs.RunsLemmas.{may_be_unread}
+use Rattle.fuxi_desk.specs.DeskRuns.{desk_ends, desk_opener}
+use Rattle.fuxi_desk.proofs.DeskRunsLemmas.{may_be_unread}
 use Rattle.fuxi_desk.proofs.run.run_input.Goals as goal
 
 pub returns-in-Ok-clause-ended : goal.returns-in-Ok-clause-ended

@@ -6,9 +6,9 @@ use Rattle.input_lines.specs.Contents.{content}
 use Rattle.input_lines.proofs.Known.{line_said, running_alone}
 use Rattle.input_lines.proofs.LineProgressLemmas.{start, nothing_taken, step_along, end_along, last_along, stop_along, line_along}
 use Rattle.fuxi_desk.specs.Preparing.{Stands, prepared_for}
-use Rattle.fuxi_desk.specs.Progress.{StandsIn}
-use Rattle.fuxi_desk.specs.Runs.{run_from, desk_ends, desk_runner}
-use Rattle.fuxi_desk.proofs.RunsLemmas.{ends_with_its_text}
+use Rattle.fuxi_desk.specs.DeskProgress.{StandsIn}
+use Rattle.fuxi_desk.specs.DeskRuns.{run_from, desk_ends, desk_runner}
+use Rattle.fuxi_desk.proofs.DeskRunsLemmas.{ends_with_its_text}
 use Rattle.fuxi_desk.proofs.run.run_lines.Goals as goal
 
 pub returns-in_default-clause-ended : goal.returns-in_default-clause-ended

@@ -4,7 +4,7 @@ use Rattle.fuxi_io.specs.declared.lines.LineStop.TheVariants.{ReadFault}
 use Rattle.input_lines.specs.LineProgress.{Along}
 use Rattle.input_lines.specs.Wholes.{IsReady}
 use Rattle.fuxi_desk.specs.Preparing.{Stands, prepared_for}
-use Rattle.fuxi_desk.specs.Runs.{desk_runner}
+use Rattle.fuxi_desk.specs.DeskRuns.{desk_runner}
 use Rattle.fuxi_desk.proofs.run.run_lines.Given as goal
 use Rattle.fuxi_terms.specs.Limits.{most_lines}
 

@@ -1,8 +1,8 @@
 use Rattle.std.proofs.Common.{List, ℕ, ◌≡◌, ◌++◌, subst}
 use Rattle.std.specs.Io.KnownBytes.{Appends}
 use Rattle.fuxi_io.specs.Causes.{TakesPart}
-use Rattle.fuxi_desk.specs.Texts.{desk_text}
-use Rattle.fuxi_desk.proofs.TextsLemmas.{desk_says}
+use Rattle.fuxi_desk.specs.DeskTexts.{desk_text}
+use Rattle.fuxi_desk.proofs.DeskTextsLemmas.{desk_says}
 use Rattle.fuxi_desk.proofs.run.run_sessions.Goals as goal
 
 pub returns-in-Ok-write_all_of-clause-writes : goal.returns-in-Ok-write_all_of-clause-writes

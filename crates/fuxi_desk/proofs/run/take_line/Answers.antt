@@ -1,14 +1,14 @@
 use Rattle.std.proofs.Common.{sym, Err, ap, subst}
 use Rattle.std.specs.Io.KnownBytes.{Appends}
 use Rattle.fuxi_io.specs.Causes.{TakesPart}
-use Rattle.input_lines.specs.Statuses.{event_status}
+use Rattle.input_lines.specs.InputStatuses.{event_status}
 use Rattle.input_lines.proofs.LineProgressLemmas.{bad_line}
-use Rattle.fuxi_desk.specs.Lines.{desk_event}
+use Rattle.fuxi_desk.specs.DeskLines.{desk_event}
 use Rattle.fuxi_desk.specs.Preparing.{IsStepped, PreparedRecord}
-use Rattle.fuxi_desk.specs.Progress.{StandsIn}
-use Rattle.fuxi_desk.specs.Runs.{desk_runner, said_of}
+use Rattle.fuxi_desk.specs.DeskProgress.{StandsIn}
+use Rattle.fuxi_desk.specs.DeskRuns.{desk_runner, said_of}
 use Rattle.fuxi_desk.specs.Saying.{said_of as event_said}
-use Rattle.fuxi_desk.proofs.ProgressLemmas.{took_line, took_part}
+use Rattle.fuxi_desk.proofs.DeskProgressLemmas.{took_line, took_part}
 use Rattle.fuxi_desk.proofs.run.take_line.Goals as goal
 
 pub returns-in-Err-clause-takes : goal.returns-in-Err-clause-takes

@@ -1,4 +1,4 @@
-use Rattle.fuxi_desk.proofs.TextsLemmas.{all_printed}
+use Rattle.fuxi_desk.proofs.DeskTextsLemmas.{all_printed}
 use Rattle.fuxi_desk.proofs.text.write_desk.Goals as goal
 
 pub returns : goal.returns

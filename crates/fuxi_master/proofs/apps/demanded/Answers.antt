@@ -1,7 +1,7 @@
 use Rattle.std.proofs.Common.{rules, ◌≡◌, true, false, cond, [], sym, ◌∙◌, ap, subst}
 use Rattle.fuxi_terms.specs.Counts.{AreCounts}
 use Rattle.fuxi_terms.specs.Jobs.{unit_count}
-use Rattle.grant_table.specs.Tables.{as_known}
+use Rattle.grant_table.specs.GrantTables.{as_known}
 use Rattle.fuxi_terms.specs.Keys.{key_cmp}
 use Rattle.fuxi_terms.specs.TallyKeys.{greatest_demand}
 use Rattle.fuxi_terms.specs.Tallies.{TallyRecord}

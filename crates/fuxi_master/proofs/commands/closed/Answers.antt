@@ -1,6 +1,6 @@
 use Rattle.std.proofs.Common.{rules, ◌≡◌, ◌≤◌, length, ◌∙◌, ap, subst, arith}
 use Rattle.fuxi_terms.specs.Cluster.{ClusterRecord}
-use Rattle.grant_table.specs.Tables.{TableRecord, IsSound}
+use Rattle.grant_table.specs.GrantTables.{TableRecord, IsSound}
 use Rattle.fuxi_master.proofs.ClosedMachines.{closed_beyond, closed_there}
 use Rattle.fuxi_master.proofs.commands.closed.Goals as goal
 

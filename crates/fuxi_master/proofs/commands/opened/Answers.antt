@@ -1,6 +1,6 @@
 use Rattle.std.proofs.Common.{rules, ◌≡◌, ◌≤◌, Bool, length, ◌∙◌, ap, subst, arith}
 use Rattle.fuxi_terms.specs.Cluster.{ClusterRecord}
-use Rattle.grant_table.specs.Tables.{TableRecord}
+use Rattle.grant_table.specs.GrantTables.{TableRecord}
 use Rattle.fuxi_master.proofs.ClosedMachines.{Opens, opened_beyond, opened_there}
 use Rattle.fuxi_master.proofs.commands.opened.Goals as goal
 

@@ -1,4 +1,4 @@
-use Rattle.fuxi_master.specs.Starts.{AreAppsStarted}
+use Rattle.fuxi_master.specs.MasterStarts.{AreAppsStarted}
 use Rattle.fuxi_master.proofs.starting.apps_started.Given as goal
 
 abbrev pub invariant-loop-number : goal.invariant-loop-number

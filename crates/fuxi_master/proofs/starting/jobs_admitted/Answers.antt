@@ -1,5 +1,5 @@
 use Rattle.std.proofs.Common.{refl}
-use Rattle.grant_table.specs.Tables.{as_known}
+use Rattle.grant_table.specs.GrantTables.{as_known}
 use Rattle.fuxi_master.proofs.StartedJobs.{none_admitted, none_of_number, none_known, absent, one_admitted}
 use Rattle.fuxi_master.proofs.starting.jobs_admitted.Goals as goal
 

@@ -1,4 +1,4 @@
-use Rattle.fuxi_master.specs.Starts.{AreAdmitted}
+use Rattle.fuxi_master.specs.MasterStarts.{AreAdmitted}
 use Rattle.fuxi_master.proofs.starting.jobs_admitted.Given as goal
 
 abbrev pub invariant-loop-number : goal.invariant-loop-number

@@ -5,11 +5,11 @@ use Rattle.fuxi_terms.specs.Padded.{padded}
 use Rattle.fuxi_io.specs.declared.status.Status.TheVariants.{OutOfMemory}
 use Rattle.written_roles.specs.Agents.{new_agent}
 use Rattle.node_rounds.specs.Roles.{OfAgent}
-use Rattle.peer_nodes.specs.Agents.{StandsAs}
-use Rattle.fuxi_node.specs.Starts.{agent_start}
-use Rattle.fuxi_node.proofs.InputsLemmas.{has_machine}
+use Rattle.peer_nodes.specs.AgentParties.{StandsAs}
+use Rattle.fuxi_node.specs.NodeStarts.{agent_start}
+use Rattle.fuxi_node.proofs.NodeInputsLemmas.{has_machine}
 use Rattle.fuxi_node.proofs.InputEnds.{machine_placed}
-use Rattle.fuxi_node.proofs.StartsLemmas.{nothing_placed, nothing_taken, has_is}
+use Rattle.fuxi_node.proofs.NodeStartsLemmas.{nothing_placed, nothing_taken, has_is}
 use Rattle.fuxi_node.proofs.agents.run_agent.Goals as goal
 
 pub returns-in-Ok-run_node-clause-ended : goal.returns-in-Ok-run_node-clause-ended

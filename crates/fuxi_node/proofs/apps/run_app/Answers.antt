@@ -1,7 +1,7 @@
 use Rattle.written_roles.specs.Apps.{new_app}
 use Rattle.node_rounds.specs.Roles.{OfApp}
-use Rattle.fuxi_node.specs.Starts.{app_start}
-use Rattle.fuxi_node.proofs.StartsLemmas.{nothing_placed, nothing_taken}
+use Rattle.fuxi_node.specs.NodeStarts.{app_start}
+use Rattle.fuxi_node.proofs.NodeStartsLemmas.{nothing_placed, nothing_taken}
 use Rattle.fuxi_node.proofs.apps.run_app.Goals as goal
 
 pub returns-in-Ok-run_node-clause-ended : goal.returns-in-Ok-run_node-clause-ended

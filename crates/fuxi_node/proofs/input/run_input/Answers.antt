@@ -1,6 +1,6 @@
 use Rattle.std.proofs.Common.{inr, Err, refl, ap, arith}
 use Rattle.fuxi_node.proofs.CompleteInputs.{completes_before, completes_behind}
-use Rattle.fuxi_node.proofs.InputsLemmas.{no_memory, no_cluster, behind_cluster}
+use Rattle.fuxi_node.proofs.NodeInputsLemmas.{no_memory, no_cluster, behind_cluster}
 use Rattle.fuxi_node.proofs.InputEnds.{before_placed, behind_placed, has_some, input_stays, memory_placed}
 use Rattle.fuxi_node.proofs.input.run_input.Goals as goal
 

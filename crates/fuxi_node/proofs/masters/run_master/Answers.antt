@@ -1,11 +1,11 @@
 use Rattle.std.proofs.Common.{Ok, Err, refl, ap}
 use Rattle.written_roles.specs.MasterRoles.{master_started}
-use Rattle.master_node.specs.Masters.{DiskHas, RestsAt}
+use Rattle.master_node.specs.MasterParties.{DiskHas, RestsAt}
 use Rattle.master_node.specs.Writes.{LeavesEither}
 use Rattle.node_rounds.specs.Roles.{OfMaster}
-use Rattle.fuxi_node.specs.Ends.{FitsNow, FitsOneNow}
-use Rattle.fuxi_node.specs.Starts.{master_start}
-use Rattle.fuxi_node.proofs.MastersLemmas.{either_at_end, file_at_end, leaves_file, not_started, raised_from, runs_on_file, start_placed, started}
+use Rattle.fuxi_node.specs.NodeEnds.{FitsNow, FitsOneNow}
+use Rattle.fuxi_node.specs.NodeStarts.{master_start}
+use Rattle.fuxi_node.proofs.MasterEndsLemmas.{either_at_end, file_at_end, leaves_file, not_started, raised_from, runs_on_file, start_placed, started}
 use Rattle.fuxi_node.proofs.masters.run_master.Goals as goal
 
 pub returns-in-Err-clause-ended : goal.returns-in-Err-clause-ended

@@ -4,14 +4,14 @@ use Rattle.fuxi_io.specs.Reading.{line_of}
 use Rattle.fuxi_terms.specs.Limits.{most_frames, most_lines}
 use Rattle.input_lines.specs.Contents.{content, is_skipped}
 use Rattle.node_door.specs.Doors.{WhereTold}
-use Rattle.node_party.specs.Halts.{FitsEither}
-use Rattle.node_party.specs.Lines.{node_line}
+use Rattle.node_party.specs.NodeHalts.{FitsEither}
+use Rattle.node_party.specs.NodeLines.{node_line}
 use Rattle.fuxi_node.specs.declared.taking.Stop.TheVariants.{Ends, Disk}
-use Rattle.fuxi_node.specs.Ends.{FitsNow, FitsOneNow, start_of}
-use Rattle.fuxi_node.specs.Progress.{Taken, TakesCounted}
+use Rattle.fuxi_node.specs.NodeEnds.{FitsNow, FitsOneNow, start_of}
+use Rattle.fuxi_node.specs.NodeProgress.{Taken, TakesCounted}
 use Rattle.std.specs.Io.KnownBytes.{Appends}
 use Rattle.fuxi_node.proofs.KnownRuns.{start_along, end_along, last_along, stop_along, line_along, disk_along, on_along, ok_is, running_alone}
-use Rattle.fuxi_node.proofs.EndsLemmas.{start_reaches, on_reaches, end_placed, last_placed, stop_placed, line_placed, disk_placed}
+use Rattle.fuxi_node.proofs.NodeEndsLemmas.{start_reaches, on_reaches, end_placed, last_placed, stop_placed, line_placed, disk_placed}
 use Rattle.fuxi_node.proofs.DiskKept.{fits_first, keeps_same, known_more, known_on}
 use Rattle.fuxi_node.proofs.run.run_node.Goals as goal
 

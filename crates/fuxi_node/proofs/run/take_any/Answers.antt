@@ -1,7 +1,7 @@
 use Rattle.std.proofs.Common.{Err, ap}
 use Rattle.fuxi_io.specs.declared.status.Status.TheVariants.{BadInput}
 use Rattle.fuxi_node.specs.declared.taking.Stop.TheVariants.{Ends}
-use Rattle.fuxi_node.proofs.EndsLemmas.{err_is}
+use Rattle.fuxi_node.proofs.NodeEndsLemmas.{err_is}
 use Rattle.fuxi_node.proofs.run.take_any.Goals as goal
 
 pub returns-in-Err-clause-bad : goal.returns-in-Err-clause-bad

@@ -1,12 +1,12 @@
 use Rattle.std.proofs.Common.{Ok, Err, Some, refl, subst}
 use Rattle.node_party.specs.declared.line.NodeLine.TheVariants.{Event}
-use Rattle.node_party.specs.Commands.{commanded}
-use Rattle.node_party.specs.Texts.{answer_text}
-use Rattle.fuxi_node.specs.Ends.{FitsNow, FitsOneNow}
-use Rattle.fuxi_node.specs.Progress.{WritesText}
+use Rattle.node_party.specs.PartyEvents.{commanded}
+use Rattle.node_party.specs.NodeTexts.{answer_text}
+use Rattle.fuxi_node.specs.NodeEnds.{FitsNow, FitsOneNow}
+use Rattle.fuxi_node.specs.NodeProgress.{WritesText}
 use Rattle.fuxi_node.proofs.DiskKept.{fits_second, known_more}
-use Rattle.fuxi_node.proofs.EndsLemmas.{not_bad}
-use Rattle.fuxi_node.proofs.ProgressLemmas.{said_err}
+use Rattle.fuxi_node.proofs.NodeEndsLemmas.{not_bad}
+use Rattle.fuxi_node.proofs.NodeProgressLemmas.{said_err}
 use Rattle.fuxi_node.proofs.taking.take_event.Goals as goal
 
 pub returns-in-Err-clause-takes : goal.returns-in-Err-clause-takes

@@ -3,16 +3,16 @@ use Rattle.fuxi_terms.specs.Limits.{most_frames}
 use Rattle.node_door.specs.Doors.{WhereTold}
 use Rattle.node_party.specs.declared.line.NodeLine.TheVariants.{Round, Serve, Show, Event}
 use Rattle.schedule_text.specs.Halting.{anywhere}
-use Rattle.node_party.specs.Commands.{Commanded}
-use Rattle.node_party.specs.Lines.{node_line, line_anywhere, HasLineEvent}
-use Rattle.node_party.specs.Texts.{answer_text}
-use Rattle.fuxi_node.specs.Runs.{behind, then_is}
-use Rattle.fuxi_node.specs.Ends.{FitsNow, FitsOneNow}
-use Rattle.fuxi_node.specs.Progress.{TakesLine}
+use Rattle.node_party.specs.PartyEvents.{Commanded}
+use Rattle.node_party.specs.NodeLines.{node_line, line_anywhere, HasLineEvent}
+use Rattle.node_party.specs.NodeTexts.{answer_text}
+use Rattle.fuxi_node.specs.NodeRuns.{behind, then_is}
+use Rattle.fuxi_node.specs.NodeEnds.{FitsNow, FitsOneNow}
+use Rattle.fuxi_node.specs.NodeProgress.{TakesLine}
 use Rattle.node_door.specs.DoorsLemmas.{same_told}
-use Rattle.fuxi_node.specs.Progress.{IsSaid}
-use Rattle.fuxi_node.proofs.EndsLemmas.{bad_said, ok_always}
-use Rattle.fuxi_node.proofs.ProgressLemmas.{quiet_line, quietly_same}
+use Rattle.fuxi_node.specs.NodeProgress.{IsSaid}
+use Rattle.fuxi_node.proofs.NodeEndsLemmas.{bad_said, ok_always}
+use Rattle.fuxi_node.proofs.NodeProgressLemmas.{quiet_line, quietly_same}
 use Rattle.fuxi_node.proofs.taking.take_line.Goals as goal
 
 pub take_event-requires-clause-line : goal.take_event-requires-clause-line

@@ -2,15 +2,15 @@ use Rattle.std.proofs.Common.{◌≡◌, ◌≢◌, Ok, Err, cond, sym, ◌∙�
 use Rattle.fuxi_terms.specs.Limits.{most_frames}
 use Rattle.node_door.specs.Doors.{WhereTold}
 use Rattle.node_party.specs.declared.line.NodeLine.TheVariants.{Round, Serve}
-use Rattle.node_party.specs.Commands.{NotHere, accepts}
-use Rattle.node_party.specs.Texts.{answer_text}
+use Rattle.node_party.specs.PartyEvents.{NotHere, accepts}
+use Rattle.node_party.specs.NodeTexts.{answer_text}
 use Rattle.fuxi_node.specs.declared.taking.Stop.TheVariants.{Ends}
-use Rattle.fuxi_node.specs.Ends.{FitsNow, FitsOneNow}
-use Rattle.fuxi_node.specs.Progress.{TakesLine}
+use Rattle.fuxi_node.specs.NodeEnds.{FitsNow, FitsOneNow}
+use Rattle.fuxi_node.specs.NodeProgress.{TakesLine}
 use Rattle.node_door.specs.DoorsLemmas.{same_told}
 use Rattle.fuxi_node.proofs.DiskKept.{fits_first, known_same}
-use Rattle.fuxi_node.proofs.EndsLemmas.{not_bad}
-use Rattle.fuxi_node.proofs.ProgressLemmas.{same_bool, other_bool, quiet_line, said_err, other_round}
+use Rattle.fuxi_node.proofs.NodeEndsLemmas.{not_bad}
+use Rattle.fuxi_node.proofs.NodeProgressLemmas.{same_bool, other_bool, quiet_line, said_err, other_round}
 use Rattle.fuxi_node.proofs.taking.take_meeting.Goals as goal
 
 pub returns-then-accepts-serves-clause-takes : goal.returns-then-accepts-serves-clause-takes

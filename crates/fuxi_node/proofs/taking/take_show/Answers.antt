@@ -1,11 +1,11 @@
 use Rattle.std.proofs.Common.{◌+◌, Ok, Err, refl, sym, subst}
 use Rattle.node_party.specs.declared.line.NodeLine.TheVariants.{Show}
-use Rattle.node_party.specs.Texts.{state_text}
-use Rattle.fuxi_node.specs.Ends.{FitsNow, FitsOneNow}
-use Rattle.fuxi_node.specs.Progress.{WritesText}
+use Rattle.node_party.specs.NodeTexts.{state_text}
+use Rattle.fuxi_node.specs.NodeEnds.{FitsNow, FitsOneNow}
+use Rattle.fuxi_node.specs.NodeProgress.{WritesText}
 use Rattle.fuxi_node.proofs.DiskKept.{fits_first, known_same}
-use Rattle.fuxi_node.proofs.EndsLemmas.{not_bad}
-use Rattle.fuxi_node.proofs.ProgressLemmas.{said_err}
+use Rattle.fuxi_node.proofs.NodeEndsLemmas.{not_bad}
+use Rattle.fuxi_node.proofs.NodeProgressLemmas.{said_err}
 use Rattle.fuxi_node.proofs.taking.take_show.Goals as goal
 
 pub returns-in-Err-clause-takes : goal.returns-in-Err-clause-takes

@@ -1,8 +1,8 @@
 use Rattle.std.proofs.Common.{[], ◌∷◌, ◌++◌, map, sym, ◌∙◌, ap}
 use Rattle.std.proofs.lemmas.List.{map-append}
-use Rattle.grant_table.specs.Tables.{cell_of, cells_in}
-use Rattle.grant_table.proofs.AdmittedTotals.{repeated_last}
+use Rattle.grant_table.specs.GrantTables.{cell_of, cells_in}
 use Rattle.grant_table.proofs.holding.empty_slots.Goals as goal
+use Rattle.fuxi_terms.proofs.IndexedLists.{repeated_last}
 
 pub loop-preserved : goal.loop-preserved
 loop-preserved c =

@@ -1,6 +1,6 @@
 use Rattle.std.proofs.Common.{◌≡◌, []}
 use Rattle.std.specs.Prelude.{replicate}
-use Rattle.grant_table.specs.Tables.{cells_of}
+use Rattle.grant_table.specs.GrantTables.{cells_of}
 use Rattle.grant_table.proofs.holding.empty_slots.Given as goal
 
 abbrev pub invariant-loop : goal.invariant-loop

@@ -3,7 +3,7 @@ use Rattle.std.proofs.lemmas.List.{map-append}
 use Rattle.fuxi_terms.specs.Cluster.{UnitRecord}
 use Rattle.fuxi_terms.proofs.Lists.{take_last}
 use Rattle.schedule_unit.specs.Units.{unit_record}
-use Rattle.grant_table.specs.Tables.{cell_of, fresh_cell}
+use Rattle.grant_table.specs.GrantTables.{cell_of, fresh_cell}
 use Rattle.grant_table.proofs.holding.fresh_units.Goals as goal
 
 pub loop-number-preserved : goal.loop-number-preserved

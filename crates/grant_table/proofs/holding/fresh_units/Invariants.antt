@@ -1,5 +1,5 @@
 use Rattle.std.proofs.Common.{◌≡◌, take}
-use Rattle.grant_table.specs.Tables.{cells_in, fresh_cells}
+use Rattle.grant_table.specs.GrantTables.{cells_in, fresh_cells}
 use Rattle.grant_table.proofs.holding.fresh_units.Given as goal
 
 abbrev pub invariant-loop-number : goal.invariant-loop-number

@@ -1,5 +1,5 @@
 use Rattle.std.proofs.Common.{refl}
-use Rattle.grant_table.specs.Tables.{Cell, raised}
+use Rattle.grant_table.specs.GrantTables.{Cell, raised}
 use Rattle.grant_table.proofs.Cells.{cell_changed}
 use Rattle.grant_table.proofs.holding.raise_at.Goals as goal
 

@@ -2,7 +2,7 @@ use Rattle.std.proofs.Common.{◌≢◌, List, rules, ap, ◌∙◌}
 use Rattle.std.proofs.lemmas.List.{take_rest}
 use Rattle.schedule_unit.specs.declared.asks.Ask.{Ask}
 use Rattle.schedule_unit.specs.declared.job.JobFault.TheVariants.{OutOfMemory}
-use Rattle.hard_records.specs.Bodies.{units_in}
+use Rattle.hard_records.specs.RecordBodies.{units_in}
 use Rattle.hard_records.proofs.Front.{four_at}
 use Rattle.hard_records.proofs.Made.{was_read, job_was_made, job_was_refused}
 use Rattle.hard_records.proofs.job.read_job.Goals as goal

@@ -1,6 +1,6 @@
 use Rattle.std.proofs.Common.{◌++◌, [], ◌∷◌, drop, ap, ◌∙◌}
 use Rattle.std.proofs.lemmas.List.{take_rest}
-use Rattle.hard_records.specs.Bodies.{quantities_in}
+use Rattle.hard_records.specs.RecordBodies.{quantities_in}
 use Rattle.hard_records.proofs.Front.{quantity_more}
 use Rattle.hard_records.proofs.job.read_quantities.Goals as goal
 

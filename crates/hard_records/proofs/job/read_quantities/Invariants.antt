@@ -1,5 +1,5 @@
 use Rattle.std.proofs.Common.{◌≡◌, ◌++◌, length}
-use Rattle.hard_records.specs.Bodies.{quantities_in}
+use Rattle.hard_records.specs.RecordBodies.{quantities_in}
 use Rattle.hard_records.proofs.job.read_quantities.Given as goal
 
 abbrev pub invariant-loop-rest : goal.invariant-loop-rest

@@ -1,7 +1,7 @@
 use Rattle.std.proofs.Common.{◌≡◌, [], ◌∷◌, ◌++◌, ◌+◌, ◌-◌, length, take, drop, map, ap, ◌∙◌, arith, length-drop}
 use Rattle.std.proofs.lemmas.List.{map-append, take_rest}
-use Rattle.hard_records.specs.Asked.{unit_of}
-use Rattle.hard_records.specs.Bodies.{unit_size, units_in}
+use Rattle.hard_records.specs.UnitRecords.{unit_of}
+use Rattle.hard_records.specs.RecordBodies.{unit_size, units_in}
 use Rattle.hard_records.proofs.Front.{bytes_left, unit_more}
 use Rattle.hard_records.proofs.job.read_units.Goals as goal
 

@@ -1,6 +1,6 @@
 use Rattle.std.proofs.Common.{◌≡◌, ◌++◌, ◌-◌, ◌*◌, length, map}
-use Rattle.hard_records.specs.Bodies.{unit_size, units_in}
-use Rattle.hard_records.specs.Asked.{unit_of}
+use Rattle.hard_records.specs.RecordBodies.{unit_size, units_in}
+use Rattle.hard_records.specs.UnitRecords.{unit_of}
 use Rattle.hard_records.proofs.job.read_units.Given as goal
 
 abbrev pub invariant-loop-number : goal.invariant-loop-number

@@ -4,7 +4,7 @@ use Rattle.std.specs.Option.{unwrap_or}
 use Rattle.fuxi_terms.specs.Cluster.{UnitRecord}
 use Rattle.fuxi_terms.proofs.Lists.{written_more}
 use Rattle.schedule_unit.specs.Units.{unit_record}
-use Rattle.hard_records.specs.Bodies.{unit_bytes}
+use Rattle.hard_records.specs.RecordBodies.{unit_bytes}
 use Rattle.hard_records.proofs.job.write_units.Goals as goal
 
 pub loop-number-preserved : goal.loop-number-preserved

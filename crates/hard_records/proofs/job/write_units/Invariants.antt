@@ -1,6 +1,6 @@
 use Rattle.std.proofs.Common.{◌≡◌, ◌++◌, drop}
 use Rattle.std.specs.List.{flat_map}
-use Rattle.hard_records.specs.Bodies.{unit_bytes}
+use Rattle.hard_records.specs.RecordBodies.{unit_bytes}
 use Rattle.hard_records.proofs.job.write_units.Given as goal
 
 abbrev pub invariant-loop-number : goal.invariant-loop-number

@@ -1,5 +1,5 @@
 use Rattle.std.proofs.Common.{◌++◌, [], ◌∷◌, append_assoc, sym, ap, ◌∙◌}
-use Rattle.hard_records.specs.Bodies.{body_of, job_bytes}
+use Rattle.hard_records.specs.RecordBodies.{body_of, job_bytes}
 use Rattle.hard_records.proofs.records.write_record.Goals as goal
 
 pub returns-in_ok-write_job-in-Submission : goal.returns-in_ok-write_job-in-Submission

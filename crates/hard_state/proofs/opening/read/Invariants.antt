@@ -2,7 +2,7 @@ use Rattle.std.proofs.Common.{◌≡◌, ◌*◌, ◌<◌, ◌≤◌, drop, Some
 use Rattle.fuxi_io.specs.Disks.{Told}
 use Rattle.fuxi_terms.specs.Limits.{most_records}
 use Rattle.hard_state.specs.HardFiles.{reads_as}
-use Rattle.hard_state.specs.Pieces.{IsPieceOf, end_of}
+use Rattle.hard_state.specs.FilePieces.{IsPieceOf, end_of}
 use Rattle.hard_state.proofs.OpensAsTheFile.{walk}
 use Rattle.hard_state.proofs.opening.read.Given as goal
 

@@ -1,6 +1,6 @@
 use Rattle.std.proofs.Common.{subst, IfSome}
-use Rattle.lease_run.specs.Ends.{LeaseEnded}
-use Rattle.lease_run.proofs.EndsLemmas.{completes}
+use Rattle.lease_run.specs.LeaseEnds.{LeaseEnded}
+use Rattle.lease_run.proofs.LeaseEndsLemmas.{completes}
 use Rattle.lease_run.proofs.run.run_lease.Goals as goal
 
 pub returns-clause-complete : goal.returns-clause-complete

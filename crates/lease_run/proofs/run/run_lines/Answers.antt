@@ -6,10 +6,10 @@ use Rattle.input_lines.proofs.Known.{line_said, running_alone}
 use Rattle.input_lines.proofs.LineProgressLemmas.{start_fresh, step_along}
 use Rattle.epoch_lease.specs.Files.{lease_of}
 use Rattle.epoch_lease.specs.Leases.{LeaseState}
-use Rattle.lease_run.specs.Progress.{TakesLine}
-use Rattle.lease_run.specs.Runs.{lease_runner}
-use Rattle.lease_run.proofs.ProgressLemmas.{file_behind, goes_on, has_file}
-use Rattle.lease_run.proofs.EndsLemmas.{end_along, last_along, stop_along, line_along}
+use Rattle.lease_run.specs.LeaseProgress.{TakesLine}
+use Rattle.lease_run.specs.LeaseRuns.{lease_runner}
+use Rattle.lease_run.proofs.LeaseProgressLemmas.{file_behind, goes_on, has_file}
+use Rattle.lease_run.proofs.LeaseEndsLemmas.{end_along, last_along, stop_along, line_along}
 use Rattle.lease_run.proofs.run.run_lines.Goals as goal
 
 pub loop-turn-init : goal.loop-turn-init

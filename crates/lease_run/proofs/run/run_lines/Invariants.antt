@@ -4,8 +4,8 @@ use Rattle.fuxi_io.specs.Reading.{rest_of}
 use Rattle.fuxi_terms.specs.Limits.{most_lines}
 use Rattle.input_lines.specs.LineProgress.{Along}
 use Rattle.epoch_lease.specs.Files.{lease_of}
-use Rattle.lease_run.specs.Progress.{Rests}
-use Rattle.lease_run.specs.Runs.{lease_runner}
+use Rattle.lease_run.specs.LeaseProgress.{Rests}
+use Rattle.lease_run.specs.LeaseRuns.{lease_runner}
 use Rattle.lease_run.proofs.run.run_lines.Given as goal
 
 abbrev pub invariant-loop-turn : goal.invariant-loop-turn

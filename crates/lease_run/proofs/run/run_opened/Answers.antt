@@ -1,6 +1,6 @@
 use Rattle.std.proofs.Common.{ap, Err, sym, ◌∙◌}
-use Rattle.lease_run.proofs.EndsLemmas.{at_once, damaged_by, ran, shut, stays_shut}
-use Rattle.lease_run.proofs.ProgressLemmas.{opened}
+use Rattle.lease_run.proofs.LeaseEndsLemmas.{at_once, damaged_by, ran, shut, stays_shut}
+use Rattle.lease_run.proofs.LeaseProgressLemmas.{opened}
 use Rattle.lease_run.proofs.run.run_opened.Goals as goal
 
 pub returns-in-Err-clause-ended : goal.returns-in-Err-clause-ended

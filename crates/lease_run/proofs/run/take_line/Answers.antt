@@ -1,6 +1,6 @@
 use Rattle.std.proofs.Common.{sym}
 use Rattle.epoch_lease.specs.Files.{lease_of}
-use Rattle.lease_run.proofs.ProgressLemmas.{answered, answered_in_part, bad_line, skips, is_bad, fails}
+use Rattle.lease_run.proofs.LeaseProgressLemmas.{answered, answered_in_part, bad_line, skips, is_bad, fails}
 use Rattle.lease_run.proofs.run.take_line.Goals as goal
 
 pub returns-then-is_skipped-clause-leaves : goal.returns-then-is_skipped-clause-leaves

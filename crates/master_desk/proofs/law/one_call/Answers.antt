@@ -1,4 +1,4 @@
-use Rattle.master_desk.proofs.CallsLemmas.{one_call}
+use Rattle.master_desk.proofs.CallBytesLemmas.{one_call}
 use Rattle.master_desk.proofs.law.one_call.Goals as goal
 
 pub returns : goal.returns

@@ -1,6 +1,6 @@
 use Rattle.std.proofs.Common.{◌≡◌, ◌<◌, ℕ, length, true}
 use Rattle.std.specs.Prelude.{is_some}
-use Rattle.master_desk.specs.Orders.{calls_of, times}
+use Rattle.master_desk.specs.CallOrders.{calls_of, times}
 use Rattle.master_desk.specs.Books.{Grows, SameDesk, order_in}
 use Rattle.master_desk.proofs.left.take_left.Given as goal
 

@@ -3,8 +3,8 @@ use Rattle.std.proofs.lemmas.Bool.Decides.{nat_tests}
 use Rattle.fuxi_terms.specs.Counts.{count}
 use Rattle.fuxi_terms.specs.Keys.{spot_cmp}
 use Rattle.fuxi_terms.specs.Tables.{spot}
-use Rattle.master_text.specs.Lines.{grant_line, grant_lines}
-use Rattle.schedule_text.specs.Lines.{line_text}
+use Rattle.master_text.specs.MasterLines.{grant_line, grant_lines}
+use Rattle.schedule_text.specs.PrintedLines.{line_text}
 use Rattle.written_join.proofs.ShowsLemmas.{shows_same, shows_none}
 use Rattle.master_text.proofs.grants.write_grant.Goals as goal
 

@@ -2,9 +2,9 @@ use Rattle.std.proofs.Common.{◌≡◌, ◌∙◌, ap, rules}
 use Rattle.std.specs.List.{flat_map}
 use Rattle.fuxi_terms.specs.Jobs.{unit_count}
 use Rattle.fuxi_terms.specs.Lists.{below}
-use Rattle.grant_table.specs.Tables.{as_known}
-use Rattle.master_text.specs.Lines.{grants_of_unit, grants_of_job}
-use Rattle.schedule_text.specs.Lines.{line_text}
+use Rattle.grant_table.specs.GrantTables.{as_known}
+use Rattle.master_text.specs.MasterLines.{grants_of_unit, grants_of_job}
+use Rattle.schedule_text.specs.PrintedLines.{line_text}
 use Rattle.written_join.proofs.ShowsLemmas.{shows_same}
 use Rattle.master_text.proofs.grants.write_job_grants.Goals as goal
 

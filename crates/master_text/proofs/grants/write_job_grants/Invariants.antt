@@ -1,6 +1,6 @@
 use Rattle.std.specs.List.{flat_map}
 use Rattle.fuxi_terms.specs.Lists.{below}
-use Rattle.master_text.specs.Lines.{grants_of_unit}
+use Rattle.master_text.specs.MasterLines.{grants_of_unit}
 use Rattle.party_text.specs.Texts.{Shows}
 use Rattle.master_text.proofs.Loops.{Printed}
 use Rattle.master_text.proofs.grants.write_job_grants.Given as goal

@@ -2,9 +2,9 @@ use Rattle.std.proofs.Common.{◌≡◌, ◌<◌, subst, map, length, sym, ◌�
 use Rattle.std.specs.List.{flat_map, AllByRecursion}
 use Rattle.fuxi_terms.specs.Jobs.{unit_count}
 use Rattle.fuxi_terms.specs.Lists.{below}
-use Rattle.grant_table.specs.Tables.{as_known}
-use Rattle.master_text.specs.Lines.{grant_line, grants_of_job}
-use Rattle.schedule_text.specs.Lines.{line_text}
+use Rattle.grant_table.specs.GrantTables.{as_known}
+use Rattle.master_text.specs.MasterLines.{grant_line, grants_of_job}
+use Rattle.schedule_text.specs.PrintedLines.{line_text}
 use Rattle.written_join.proofs.ShowsLemmas.{shows_same}
 use Rattle.master_text.proofs.Spots.{grants_walked, entries_within}
 use Rattle.master_text.proofs.grants.write_jobs_grants.Goals as goal

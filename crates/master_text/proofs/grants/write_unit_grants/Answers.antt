@@ -2,8 +2,8 @@ use Rattle.std.proofs.Common.{◌≡◌, length, ◌∙◌, ap, rules}
 use Rattle.std.specs.List.{flat_map}
 use Rattle.fuxi_terms.specs.Cluster.{ClusterRecord}
 use Rattle.fuxi_terms.specs.Lists.{below}
-use Rattle.master_text.specs.Lines.{grant_lines, grants_of_unit}
-use Rattle.schedule_text.specs.Lines.{line_text}
+use Rattle.master_text.specs.MasterLines.{grant_lines, grants_of_unit}
+use Rattle.schedule_text.specs.PrintedLines.{line_text}
 use Rattle.written_join.proofs.ShowsLemmas.{shows_same}
 use Rattle.master_text.proofs.grants.write_unit_grants.Goals as goal
 

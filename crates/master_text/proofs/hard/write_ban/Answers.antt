@@ -1,7 +1,7 @@
 use Rattle.std.proofs.Common.{[], ◌∷◌, cond, sym, ◌∙◌, ap}
 use Rattle.written_world.specs.Outputs.{Banned}
-use Rattle.master_text.specs.Lines.{ban_lines}
-use Rattle.schedule_text.specs.Lines.{line_text}
+use Rattle.master_text.specs.MasterLines.{ban_lines}
+use Rattle.schedule_text.specs.PrintedLines.{line_text}
 use Rattle.written_join.proofs.ShowsLemmas.{shows_same, then_ok}
 use Rattle.master_text.proofs.hard.write_ban.Goals as goal
 

@@ -4,8 +4,8 @@ use Rattle.fuxi_terms.specs.Limits.{most_machines}
 use Rattle.fuxi_terms.specs.Lists.{below}
 use Rattle.written_world.specs.Orders.{Rise}
 use Rattle.written_world.specs.Outputs.{Banned}
-use Rattle.master_text.specs.Lines.{ban_lines}
-use Rattle.schedule_text.specs.Lines.{line_text}
+use Rattle.master_text.specs.MasterLines.{ban_lines}
+use Rattle.schedule_text.specs.PrintedLines.{line_text}
 use Rattle.written_join.proofs.ShowsLemmas.{shows_same, begins_shown, begins_then}
 use Rattle.master_text.proofs.Walks.{listed_below}
 use Rattle.master_text.proofs.hard.write_bans.Goals as goal

@@ -1,6 +1,6 @@
 use Rattle.std.specs.List.{flat_map}
 use Rattle.fuxi_terms.specs.Lists.{below}
-use Rattle.master_text.specs.Lines.{ban_lines}
+use Rattle.master_text.specs.MasterLines.{ban_lines}
 use Rattle.party_text.specs.Texts.{Shows}
 use Rattle.master_text.proofs.hard.write_bans.Given as goal
 

@@ -2,7 +2,7 @@ use Rattle.std.proofs.Common.{[], ◌∷◌, ◌++◌, map, ap}
 use Rattle.written_join.specs.States.{hard_lines}
 use Rattle.written_world.specs.Outputs.{Fence, Banned}
 use Rattle.written_world.specs.Show.{show_jobs}
-use Rattle.schedule_text.specs.Lines.{line_text}
+use Rattle.schedule_text.specs.PrintedLines.{line_text}
 use Rattle.written_join.proofs.ShowsLemmas.{shows_same, shows_then}
 use Rattle.master_text.proofs.hard.write_hard.Goals as goal
 

@@ -1,7 +1,7 @@
 use Rattle.std.proofs.Common.{[], ◌∷◌, cond, sym, ◌∙◌, ap}
 use Rattle.written_world.specs.Outputs.{Job}
-use Rattle.master_text.specs.Lines.{job_line, job_lines}
-use Rattle.schedule_text.specs.Lines.{line_text}
+use Rattle.master_text.specs.MasterLines.{job_line, job_lines}
+use Rattle.schedule_text.specs.PrintedLines.{line_text}
 use Rattle.written_join.proofs.ShowsLemmas.{shows_same, then_ok}
 use Rattle.master_text.proofs.Jobs.{job_there}
 use Rattle.master_text.proofs.hard.write_job.Goals as goal

@@ -4,8 +4,8 @@ use Rattle.fuxi_terms.specs.Jobs.{KnownJob, is_known, job_numbers}
 use Rattle.fuxi_terms.specs.Limits.{most_jobs}
 use Rattle.fuxi_terms.specs.Lists.{below}
 use Rattle.written_world.specs.Show.{show_jobs}
-use Rattle.master_text.specs.Lines.{job_lines}
-use Rattle.schedule_text.specs.Lines.{line_text}
+use Rattle.master_text.specs.MasterLines.{job_lines}
+use Rattle.schedule_text.specs.PrintedLines.{line_text}
 use Rattle.written_join.proofs.ShowsLemmas.{shows_same, begins_shown, begins_then}
 use Rattle.master_text.proofs.Jobs.{jobs_below, known_below}
 use Rattle.master_text.proofs.hard.write_jobs.Goals as goal

@@ -1,7 +1,7 @@
 use Rattle.std.proofs.Common.{map}
 use Rattle.written_world.specs.Outputs.{Banned}
 use Rattle.written_world.specs.Show.{show_jobs}
-use Rattle.schedule_text.specs.Lines.{line_text}
+use Rattle.schedule_text.specs.PrintedLines.{line_text}
 use Rattle.written_join.proofs.ShowsLemmas.{shows_then}
 use Rattle.master_text.proofs.hard.write_lists.Goals as goal
 

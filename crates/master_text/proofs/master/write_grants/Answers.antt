@@ -1,6 +1,6 @@
 use Rattle.std.proofs.Common.{map, ◌++◌}
-use Rattle.master_text.specs.Lines.{grant_line, wait_line}
-use Rattle.schedule_text.specs.Lines.{line_text}
+use Rattle.master_text.specs.MasterLines.{grant_line, wait_line}
+use Rattle.schedule_text.specs.PrintedLines.{line_text}
 use Rattle.written_join.proofs.ShowsLemmas.{shows_same, shows_then}
 use Rattle.master_text.proofs.master.write_grants.Goals as goal
 

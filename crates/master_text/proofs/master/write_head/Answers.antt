@@ -1,6 +1,6 @@
 use Rattle.std.proofs.Common.{map, [], ◌∷◌, sym, ◌∙◌}
 use Rattle.written_world.specs.Outputs.{MasterIs, Reported}
-use Rattle.schedule_text.specs.Lines.{line_text}
+use Rattle.schedule_text.specs.PrintedLines.{line_text}
 use Rattle.written_join.proofs.ShowsLemmas.{shows_same, shows_then}
 use Rattle.master_text.proofs.master.write_head.Goals as goal
 

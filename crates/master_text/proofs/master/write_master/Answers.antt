@@ -1,7 +1,7 @@
 use Rattle.std.proofs.Common.{map, ◌∷◌, ◌++◌}
 use Rattle.written_world.specs.Outputs.{MasterIs, Reported}
-use Rattle.master_text.specs.Lines.{grant_line, wait_line}
-use Rattle.schedule_text.specs.Lines.{line_text}
+use Rattle.master_text.specs.MasterLines.{grant_line, wait_line}
+use Rattle.schedule_text.specs.PrintedLines.{line_text}
 use Rattle.written_join.proofs.ShowsLemmas.{shows_then}
 use Rattle.master_text.proofs.master.write_master.Goals as goal
 

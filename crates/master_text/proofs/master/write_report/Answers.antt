@@ -1,7 +1,7 @@
 use Rattle.std.proofs.Common.{[], ◌∷◌, cond, sym, ◌∙◌, ap}
 use Rattle.written_world.specs.Outputs.{Reported}
-use Rattle.master_text.specs.Lines.{reported_lines}
-use Rattle.schedule_text.specs.Lines.{line_text}
+use Rattle.master_text.specs.MasterLines.{reported_lines}
+use Rattle.schedule_text.specs.PrintedLines.{line_text}
 use Rattle.written_join.proofs.ShowsLemmas.{shows_same}
 use Rattle.master_text.proofs.master.write_report.Goals as goal
 

@@ -3,8 +3,8 @@ use Rattle.std.specs.List.{AllByRecursion, flat_map}
 use Rattle.fuxi_terms.specs.Cluster.{ClusterRecord}
 use Rattle.fuxi_terms.specs.Lists.{below}
 use Rattle.written_world.specs.Outputs.{Reported}
-use Rattle.master_text.specs.Lines.{reported_lines}
-use Rattle.schedule_text.specs.Lines.{line_text}
+use Rattle.master_text.specs.MasterLines.{reported_lines}
+use Rattle.schedule_text.specs.PrintedLines.{line_text}
 use Rattle.written_join.proofs.ShowsLemmas.{shows_same}
 use Rattle.master_text.proofs.Walks.{listed_below}
 use Rattle.master_text.proofs.master.write_reports.Goals as goal

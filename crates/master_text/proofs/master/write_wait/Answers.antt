@@ -1,8 +1,8 @@
 use Rattle.std.proofs.Common.{◌≡◌, ◌<◌, List, Some, slice_get, [], ◌∷◌, sym, ◌∙◌, ap, subst, arith}
 use Rattle.fuxi_terms.specs.Jobs.{KnownJob, unit_count}
 use Rattle.written_world.specs.Outputs.{Wait}
-use Rattle.master_text.specs.Lines.{wait_line}
-use Rattle.schedule_text.specs.Lines.{line_text}
+use Rattle.master_text.specs.MasterLines.{wait_line}
+use Rattle.schedule_text.specs.PrintedLines.{line_text}
 use Rattle.written_join.proofs.ShowsLemmas.{shows_same, one_item}
 use Rattle.master_text.proofs.LineOfKnownJobs.{unit_there}
 use Rattle.master_text.proofs.master.write_wait.Goals as goal

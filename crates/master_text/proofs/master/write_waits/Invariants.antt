@@ -3,7 +3,7 @@ use Rattle.std.specs.List.{flat_map}
 use Rattle.written_roles.specs.MasterRoles.{MasterRole}
 use Rattle.fuxi_master.specs.Cores.{StandsFor}
 use Rattle.party_text.specs.Texts.{Shows}
-use Rattle.master_text.specs.Lines.{wait_line}
+use Rattle.master_text.specs.MasterLines.{wait_line}
 use Rattle.master_text.proofs.Loops.{Printed}
 use Rattle.master_text.proofs.master.write_waits.Given as goal
 

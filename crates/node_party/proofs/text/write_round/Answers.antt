@@ -1,6 +1,6 @@
 use Rattle.std.proofs.Common.{◌∙◌, ◌++◌, ap, subst, OnErr, List, ℕ}
 use Rattle.fuxi_io.specs.Causes.{TakesPart}
-use Rattle.node_party.specs.Texts.{found_text}
+use Rattle.node_party.specs.NodeTexts.{found_text}
 use Rattle.node_party.proofs.Pieces.{done_line, bad_line}
 use Rattle.node_party.proofs.text.write_round.Goals as goal
 

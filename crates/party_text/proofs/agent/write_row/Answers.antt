@@ -1,7 +1,7 @@
 use Rattle.std.proofs.Common.{[], ◌∷◌, sym, ◌∙◌, ap}
 use Rattle.party_ledgers.specs.Entries.{entry_of}
 use Rattle.written_join.specs.States.{row_line}
-use Rattle.schedule_text.specs.Lines.{line_text}
+use Rattle.schedule_text.specs.PrintedLines.{line_text}
 use Rattle.written_join.proofs.ShowsLemmas.{shows_same, then_ok, one_item}
 use Rattle.party_text.proofs.agent.write_row.Goals as goal
 

@@ -3,7 +3,7 @@ use Rattle.std.specs.List.{flat_map}
 use Rattle.fuxi_terms.specs.Lists.{below}
 use Rattle.written_world.specs.Outputs.{AppAt}
 use Rattle.written_join.specs.States.{unit_lines, app_lines}
-use Rattle.schedule_text.specs.Lines.{line_text}
+use Rattle.schedule_text.specs.PrintedLines.{line_text}
 use Rattle.written_join.proofs.ShowsLemmas.{shows_same, shows_then}
 use Rattle.party_text.proofs.app.write_app.Goals as goal
 

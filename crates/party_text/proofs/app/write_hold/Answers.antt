@@ -1,17 +1,13 @@
 use Rattle.std.proofs.Common.{◌≡◌, ℕ, Bool, true, false, not, cond, nat_eq, [], ◌∷◌, refl, sym, ◌∙◌, ap, arith}
 use Rattle.std.proofs.lemmas.Bool.Decides.{nat_tests}
-use Rattle.fuxi_terms.proofs.Booleans.{not_false}
+use Rattle.fuxi_terms.proofs.Booleans.{not_false, not_true}
 use Rattle.written_roles.specs.Apps.{AppRole, names, held_by}
 use Rattle.written_world.specs.Outputs.{Hold, Carry}
 use Rattle.written_join.specs.States.{hold_line}
 use Rattle.party_text.specs.Texts.{held_lines}
-use Rattle.schedule_text.specs.Lines.{line_text}
+use Rattle.schedule_text.specs.PrintedLines.{line_text}
 use Rattle.written_join.proofs.ShowsLemmas.{shows_same, shows_none}
 use Rattle.party_text.proofs.app.write_hold.Goals as goal
-
-not_true : (b : Bool) → not b ≡ true → b ≡ false
-not_true true e = cc
-not_true false e = refl
 
 -- what is held is one line, by whether the master names the machine
 held_line : (r : AppRole) (a u m n : ℕ) (b : Bool) → a ≡ r.job → n ≡ held_by r u m → nat_eq n 0 ≡ false → names r.up.got m ≡ b → cond b (Hold a u m n) (Carry a u m n) ∷ [] ≡ held_lines r u m

@@ -4,7 +4,7 @@ use Rattle.fuxi_terms.specs.Lists.{below}
 use Rattle.written_roles.specs.Apps.{held_by}
 use Rattle.written_join.specs.States.{hold_line, unit_lines}
 use Rattle.party_text.specs.Texts.{held_lines}
-use Rattle.schedule_text.specs.Lines.{line_text}
+use Rattle.schedule_text.specs.PrintedLines.{line_text}
 use Rattle.written_join.proofs.ShowsLemmas.{shows_same}
 use Rattle.party_text.proofs.Walks.{kept_only}
 use Rattle.party_text.proofs.app.write_unit.Goals as goal

@@ -1,7 +1,7 @@
 use Rattle.std.specs.List.{flat_map}
 use Rattle.fuxi_terms.specs.Lists.{below}
 use Rattle.written_roles.specs.Apps.{AppRole}
-use Rattle.app_master.specs.Apps.{StandsFor}
+use Rattle.app_master.specs.AppCores.{StandsFor}
 use Rattle.party_text.specs.Texts.{Shows, held_lines}
 use Rattle.party_text.proofs.Loops.{Printed}
 use Rattle.party_text.proofs.app.write_unit.Given as goal

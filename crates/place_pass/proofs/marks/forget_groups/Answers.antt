@@ -1,6 +1,6 @@
 use Rattle.std.proofs.Common.{◌≡◌, true, false, get_or, sym, ◌∙◌, ap, inr}
 use Rattle.place_pass.specs.Bounds.{MarkRecord}
-use Rattle.place_pass.proofs.CountsLemmas.{none_noted}
+use Rattle.place_pass.proofs.SearchCountsLemmas.{none_noted}
 use Rattle.place_pass.proofs.marks.forget_groups.Goals as goal
 
 pub returns-then-not-are_allowed-clause-clear : goal.returns-then-not-are_allowed-clause-clear

@@ -1,7 +1,7 @@
 use Rattle.std.proofs.Common.{◌≡◌, false, map, get_or, sym, ◌∙◌, ap, subst, arith, inl, inr}
 use Rattle.std.proofs.lemmas.Bool.{cases_lt}
 use Rattle.place_pass.specs.Bounds.{MarkRecord, mark_of, mark_at}
-use Rattle.place_pass.proofs.CountsLemmas.{none_any}
+use Rattle.place_pass.proofs.SearchCountsLemmas.{none_any}
 use Rattle.place_pass.proofs.SightsLemmas.{mark_read}
 use Rattle.place_pass.proofs.marks.notes_any_group.Goals as goal
 

@@ -3,7 +3,7 @@ use Rattle.std.specs.Prelude.{◌&&◌}
 use Rattle.std.proofs.lemmas.Bool.{cases_lt}
 use Rattle.std.proofs.lemmas.Bool.Decides.{nat_tests}
 use Rattle.place_pass.specs.Bounds.{MarkRecord, mark_of, mark_at, key_of, rank_on}
-use Rattle.place_pass.specs.Counts.{is_unsettled_by, count_below}
+use Rattle.place_pass.specs.SearchCounts.{is_unsettled_by, count_below}
 use Rattle.place_pass.specs.Scenes.{board_in, IsLeastOn, IsSettledBy}
 use Rattle.place_pass.specs.Sights.{found_rank, turn_in}
 use Rattle.place_pass.proofs.SightsLemmas.{least_settled, settled_key}

@@ -1,7 +1,7 @@
 use Rattle.std.proofs.Common.{◌≡◌, ℕ, ◌+◌, ◌<◌, ◌≤◌, not, nat_eq, length, map, None}
 use Rattle.std.specs.Prelude.{◌&&◌, IfSome}
 use Rattle.place_pass.specs.Bounds.{mark_of, mark_at}
-use Rattle.place_pass.specs.Counts.{is_unsettled_by, count_below}
+use Rattle.place_pass.specs.SearchCounts.{is_unsettled_by, count_below}
 use Rattle.place_pass.specs.Scenes.{AreMarked, IsFoundIn, IsLeastOn, IsSettledBy}
 use Rattle.place_pass.proofs.search.best_of_others.Given as goal
 

@@ -3,8 +3,8 @@ use Rattle.std.specs.Option.{option_map}
 use Rattle.std.proofs.lemmas.Bool.Decides.{nat_tests}
 use Rattle.fuxi_terms.proofs.Booleans.{and_true}
 use Rattle.place_pass.specs.declared.search.Found.{Found}
-use Rattle.place_pass.specs.Counts.{is_unsettled_by}
-use Rattle.place_pass.proofs.CountsLemmas.{one_look, some_some, not_none}
+use Rattle.place_pass.specs.SearchCounts.{is_unsettled_by}
+use Rattle.place_pass.proofs.SearchCountsLemmas.{one_look, some_some, not_none}
 use Rattle.place_pass.specs.Bounds.{rank_of, mark_of, key_of, zero_rank, IsBounded}
 use Rattle.place_pass.specs.Scenes.{board_in}
 use Rattle.place_pass.specs.Sights.{found_rank, sight_rank, turn_in, is_first}

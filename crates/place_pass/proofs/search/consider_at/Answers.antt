@@ -1,6 +1,6 @@
 use Rattle.std.proofs.Common.{◌≡◌, ℕ, ◌+◌, ◌<◌, ◌≤◌, cond, map, set, sym, ◌∙◌, ap, subst, arith}
 use Rattle.fuxi_terms.proofs.Booleans.{nat_itself}
-use Rattle.place_pass.specs.Counts.{is_unsettled_by}
+use Rattle.place_pass.specs.SearchCounts.{is_unsettled_by}
 use Rattle.place_pass.specs.Bounds.{MarkRecord, mark_of, mark_at}
 use Rattle.place_pass.specs.Scenes.{IsMarked, IsSettledBy}
 use Rattle.place_pass.proofs.ScenesLemmas.{marked_then}

@@ -5,7 +5,7 @@ use Rattle.place_pass.specs.Bounds.{mark_of}
 use Rattle.place_pass.specs.Placers.{board_over}
 use Rattle.place_pass.specs.Sights.{found_rank, turn_in, IsFound, IsLeast}
 use Rattle.place_pass.specs.declared.search.Found.{Found}
-use Rattle.place_pass.proofs.CountsLemmas.{both_looks}
+use Rattle.place_pass.proofs.SearchCountsLemmas.{both_looks}
 use Rattle.place_pass.proofs.FirstByTurn.{none_first, found_first}
 use Rattle.place_pass.proofs.search.first.Goals as goal
 

@@ -3,7 +3,7 @@ use Rattle.std.proofs.lemmas.Bool.Decides.{nat_tests}
 use Rattle.fuxi_terms.specs.Cluster.{UnitRecord}
 use Rattle.fuxi_terms.specs.Jobs.{priority_of}
 use Rattle.fuxi_terms.proofs.Booleans.{and_true}
-use Rattle.grant_table.specs.Tables.{as_known}
+use Rattle.grant_table.specs.GrantTables.{as_known}
 use Rattle.written_roles.specs.Masters.{out_of}
 use Rattle.place_pass.specs.Cells.{Cell, asks_in}
 use Rattle.place_pass.specs.Scenes.{board_in}

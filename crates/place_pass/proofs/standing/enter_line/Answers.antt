@@ -1,16 +1,16 @@
 use Rattle.std.proofs.Common.{◌≡◌, ◌+◌, ◌<◌, ℕ, List, true, false, take, length, get_or, [], refl, sym, ◌∙◌, ap, subst, arith}
 use Rattle.fuxi_terms.specs.Jobs.{unit_count}
-use Rattle.grant_table.specs.Tables.{as_known}
+use Rattle.grant_table.specs.GrantTables.{as_known}
 use Rattle.wait_queue.specs.declared.node.Entry.{Entry}
 use Rattle.locality_tree.specs.Trees.{TreeRecord, is_admitted, refreshed, unit_number, MayWait}
 use Rattle.written_roles.specs.Placing.{has_pair}
 use Rattle.place_pass.specs.Bounds.{turn_at}
-use Rattle.place_pass.specs.Lines.{same_pair}
-use Rattle.place_pass.specs.Trees.{HoldsLine, AllStand, StandsAs, WaitsIn, Restood}
-use Rattle.place_pass.proofs.LinesLemmas.{pair_is, taken_whole}
+use Rattle.place_pass.specs.WaitingLines.{same_pair}
+use Rattle.place_pass.specs.PlacerTrees.{HoldsLine, AllStand, StandsAs, WaitsIn, Restood}
+use Rattle.place_pass.proofs.WaitingLinesLemmas.{pair_is, taken_whole}
 use Rattle.place_pass.proofs.CellsMatchTable.{count_is}
 use Rattle.place_pass.proofs.LinedLemmas.{admitted_at, here_at, placed_at}
-use Rattle.place_pass.proofs.TreesLemmas.{holds_begun, begun_others, holds_on, numbers_apart, stands_on, may_wait, waits_in, turn_before, has_other, has_itself}
+use Rattle.place_pass.proofs.PlacerTreesLemmas.{holds_begun, begun_others, holds_on, numbers_apart, stands_on, may_wait, waits_in, turn_before, has_other, has_itself}
 use Rattle.place_pass.proofs.standing.enter_line.Goals as goal
 
 pub entry_for-entry-requires-clause-unit : goal.entry_for-entry-requires-clause-unit

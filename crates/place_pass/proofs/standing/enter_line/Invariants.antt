@@ -1,5 +1,5 @@
 use Rattle.std.proofs.Common.{◌≤◌, take}
-use Rattle.place_pass.specs.Trees.{HoldsLine, AllStand}
+use Rattle.place_pass.specs.PlacerTrees.{HoldsLine, AllStand}
 use Rattle.place_pass.proofs.standing.enter_line.Given as goal
 
 abbrev pub invariant-loop-place : goal.invariant-loop-place

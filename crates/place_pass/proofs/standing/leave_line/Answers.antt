@@ -7,11 +7,11 @@ use Rattle.written_roles.specs.Masters.{out_of}
 use Rattle.written_roles.specs.Placing.{has_pair}
 use Rattle.place_pass.specs.Bounds.{turn_at}
 use Rattle.place_pass.specs.Cells.{asks_in}
-use Rattle.place_pass.specs.Lines.{same_pair}
+use Rattle.place_pass.specs.WaitingLines.{same_pair}
 use Rattle.place_pass.proofs.FirstByTurn.{has_at}
-use Rattle.place_pass.proofs.LinesLemmas.{pair_is, taken_whole}
+use Rattle.place_pass.proofs.WaitingLinesLemmas.{pair_is, taken_whole}
 use Rattle.place_pass.proofs.LinedLemmas.{admitted_at, here_at, placed_at}
-use Rattle.place_pass.proofs.TreesLemmas.{holds_same, holds_left, left_others, may_wait, turn_apart, has_other, has_itself}
+use Rattle.place_pass.proofs.PlacerTreesLemmas.{holds_same, holds_left, left_others, may_wait, turn_apart, has_other, has_itself}
 use Rattle.place_pass.proofs.standing.leave_line.Goals as goal
 
 pub loop-place-init : goal.loop-place-init

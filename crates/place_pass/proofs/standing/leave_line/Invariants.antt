@@ -4,7 +4,7 @@ use Rattle.written_roles.specs.Masters.{out_of}
 use Rattle.written_roles.specs.Placing.{has_pair}
 use Rattle.locality_tree.specs.Trees.{unit_at}
 use Rattle.place_pass.specs.Cells.{asks_in}
-use Rattle.place_pass.specs.Trees.{Holds}
+use Rattle.place_pass.specs.PlacerTrees.{Holds}
 use Rattle.place_pass.proofs.standing.leave_line.Given as goal
 
 abbrev pub invariant-loop-place : goal.invariant-loop-place

@@ -2,8 +2,8 @@ use Rattle.std.proofs.Common.{◌≡◌, ◌<◌, false, length, get_or, refl, s
 use Rattle.std.proofs.lemmas.Bool.{cases_eq}
 use Rattle.fuxi_terms.specs.Cluster.{ClusterRecord}
 use Rattle.locality_tree.specs.Trees.{unit_at, unit_number, place_count}
-use Rattle.place_pass.specs.Trees.{is_unmet_on}
-use Rattle.place_pass.proofs.TreesLemmas.{restood_self, restood_then, marked, marked_here, marked_apart, marked_waits, racks_long}
+use Rattle.place_pass.specs.PlacerTrees.{is_unmet_on}
+use Rattle.place_pass.proofs.PlacerTreesLemmas.{restood_self, restood_then, marked, marked_here, marked_apart, marked_waits, racks_long}
 use Rattle.place_pass.proofs.standing.mark_machines.Goals as goal
 
 pub loop-number-init : goal.loop-number-init

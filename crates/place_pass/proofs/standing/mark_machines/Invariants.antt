@@ -1,6 +1,6 @@
 use Rattle.std.proofs.Common.{◌≡◌, ℕ, ◌<◌, ◌≤◌, false, length, get_or}
 use Rattle.locality_tree.specs.Trees.{unit_at, unit_number}
-use Rattle.place_pass.specs.Trees.{WaitsIn, Restood, is_unmet_on}
+use Rattle.place_pass.specs.PlacerTrees.{WaitsIn, Restood, is_unmet_on}
 use Rattle.place_pass.proofs.standing.mark_machines.Given as goal
 
 abbrev pub invariant-loop-number : goal.invariant-loop-number

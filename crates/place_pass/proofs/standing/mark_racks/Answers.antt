@@ -1,8 +1,8 @@
 use Rattle.std.proofs.Common.{◌≡◌, ◌<◌, ℕ, false, get_or, refl, sym, ◌∙◌, subst, arith, inl, inr}
 use Rattle.std.proofs.lemmas.Bool.{cases_eq}
 use Rattle.locality_tree.specs.Trees.{unit_at, unit_number, place_count, rack_place}
-use Rattle.place_pass.specs.Trees.{is_unmet_in}
-use Rattle.place_pass.proofs.TreesLemmas.{restood_self, restood_then, marked, marked_here, marked_apart, marked_waits, racks_long}
+use Rattle.place_pass.specs.PlacerTrees.{is_unmet_in}
+use Rattle.place_pass.proofs.PlacerTreesLemmas.{restood_self, restood_then, marked, marked_here, marked_apart, marked_waits, racks_long}
 use Rattle.place_pass.proofs.standing.mark_racks.Goals as goal
 
 pub loop-number-init : goal.loop-number-init

@@ -1,9 +1,9 @@
 use Rattle.std.proofs.Common.{◌≡◌, ◌<◌, length, refl, sym, ◌∙◌, ap, arith}
 use Rattle.fuxi_terms.specs.Cluster.{ClusterRecord, rack_of}
 use Rattle.locality_tree.specs.Trees.{unit_number, place_count, rack_place}
-use Rattle.place_pass.specs.Trees.{is_unmet_in}
+use Rattle.place_pass.specs.PlacerTrees.{is_unmet_in}
 use Rattle.place_pass.proofs.CellsMatchTable.{rack_is, rack_few, rack_small}
-use Rattle.place_pass.proofs.TreesLemmas.{restood_then, marked, marked_here, marked_apart, marked_waits, racks_long}
+use Rattle.place_pass.proofs.PlacerTreesLemmas.{restood_then, marked, marked_here, marked_apart, marked_waits, racks_long}
 use Rattle.place_pass.proofs.standing.mark_spot.Goals as goal
 
 pub mark_machine-requires-clause-waits : goal.mark_machine-requires-clause-waits

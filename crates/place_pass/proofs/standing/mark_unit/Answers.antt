@@ -1,6 +1,6 @@
 use Rattle.std.proofs.Common.{◌∙◌}
 use Rattle.locality_tree.specs.Trees.{unit_number}
-use Rattle.place_pass.proofs.TreesLemmas.{restood_then, waits_on}
+use Rattle.place_pass.proofs.PlacerTreesLemmas.{restood_then, waits_on}
 use Rattle.place_pass.proofs.standing.mark_unit.Goals as goal
 
 pub mark_racks-requires-clause-waits : goal.mark_racks-requires-clause-waits

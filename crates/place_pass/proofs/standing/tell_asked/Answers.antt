@@ -5,14 +5,14 @@ use Rattle.std.proofs.lemmas.Bool.Decides.{nat_tests}
 use Rattle.fuxi_terms.specs.Jobs.{unit_count}
 use Rattle.fuxi_terms.proofs.Booleans.{both_false, number_is}
 use Rattle.fuxi_terms.proofs.Lists.{all_at}
-use Rattle.grant_table.specs.Tables.{as_known}
+use Rattle.grant_table.specs.GrantTables.{as_known}
 use Rattle.wait_queue.specs.declared.node.Entry.{Entry}
 use Rattle.locality_tree.specs.Trees.{unit_number}
 use Rattle.written_roles.specs.Placing.{has_pair}
-use Rattle.place_pass.specs.Trees.{StandsAs, WaitsIn, Restood}
+use Rattle.place_pass.specs.PlacerTrees.{StandsAs, WaitsIn, Restood}
 use Rattle.place_pass.proofs.PlainLemmas.{plain_stands}
 use Rattle.place_pass.proofs.SightsLemmas.{place_of}
-use Rattle.place_pass.proofs.TreesLemmas.{holds_on, numbers_apart, stands_on, waits_in}
+use Rattle.place_pass.proofs.PlacerTreesLemmas.{holds_on, numbers_apart, stands_on, waits_in}
 use Rattle.place_pass.proofs.standing.tell_asked.Goals as goal
 
 pub loop-number-init : goal.loop-number-init

@@ -6,18 +6,18 @@ use Rattle.fuxi_terms.specs.Cluster.{ClusterRecord, rack_of}
 use Rattle.fuxi_terms.specs.Jobs.{unit_count}
 use Rattle.fuxi_terms.specs.Keys.{Spot}
 use Rattle.fuxi_terms.proofs.Booleans.{and_false}
-use Rattle.grant_table.specs.Tables.{TableRecord, as_known}
+use Rattle.grant_table.specs.GrantTables.{TableRecord, as_known}
 use Rattle.wait_queue.specs.declared.node.Entry.{Entry}
 use Rattle.locality_tree.specs.Trees.{TreeRecord, is_admitted, unit_number, refreshed, MayWait}
 use Rattle.written_roles.specs.Masters.{out_of}
 use Rattle.written_roles.specs.Placing.{has_pair}
 use Rattle.place_pass.specs.Bounds.{turn_at}
 use Rattle.place_pass.specs.Cells.{asks_in}
-use Rattle.place_pass.specs.Trees.{HoldsLine, AllStand, WaitsIn, Restood, RestoodAt}
-use Rattle.place_pass.proofs.LinesLemmas.{pair_self, pair_turned}
+use Rattle.place_pass.specs.PlacerTrees.{HoldsLine, AllStand, WaitsIn, Restood, RestoodAt}
+use Rattle.place_pass.proofs.WaitingLinesLemmas.{pair_self, pair_turned}
 use Rattle.place_pass.proofs.CellsMatchTable.{rack_small}
 use Rattle.place_pass.proofs.CellsLemmas.{placed}
-use Rattle.place_pass.proofs.TreesLemmas.{apart_when, holds_same, holds_on, holds_left, left_others, admitted_in, may_wait, waits_in, turn_apart}
+use Rattle.place_pass.proofs.PlacerTreesLemmas.{apart_when, holds_same, holds_on, holds_left, left_others, admitted_in, may_wait, waits_in, turn_apart}
 use Rattle.place_pass.proofs.StandsAfterChange.{others_in, has_others, none_leaves, apart_from, all_left, all_told}
 use Rattle.place_pass.proofs.standing.tell_spot.Goals as goal
 

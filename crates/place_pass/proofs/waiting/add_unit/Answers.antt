@@ -1,6 +1,6 @@
 use Rattle.std.proofs.Common.{arith}
 use Rattle.place_pass.proofs.CellsLemmas.{placed}
-use Rattle.place_pass.proofs.LinesLemmas.{room_left}
+use Rattle.place_pass.proofs.WaitingLinesLemmas.{room_left}
 use Rattle.place_pass.proofs.waiting.add_unit.Goals as goal
 
 pub push-requires-clause-app : goal.push-requires-clause-app

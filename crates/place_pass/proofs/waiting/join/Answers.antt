@@ -8,11 +8,11 @@ use Rattle.fuxi_terms.specs.declared.Key.{Key}
 use Rattle.fuxi_terms.proofs.Booleans.{and_true, or_false}
 use Rattle.written_roles.specs.Masters.{out_of}
 use Rattle.written_roles.specs.Placing.{has_pair, waiting_in}
-use Rattle.grant_table.specs.Tables.{as_known}
+use Rattle.grant_table.specs.GrantTables.{as_known}
 use Rattle.place_pass.specs.Cells.{asks_in}
-use Rattle.place_pass.specs.Lines.{same_pair, waiting_of}
+use Rattle.place_pass.specs.WaitingLines.{same_pair, waiting_of}
 use Rattle.place_pass.proofs.CellsMatchTable.{count_is}
-use Rattle.place_pass.proofs.LinesLemmas.{any_append, none_filter, append_nil, has_flat, flat_append, filter_append, rising_apart, numbers_more}
+use Rattle.place_pass.proofs.WaitingLinesLemmas.{any_append, none_filter, append_nil, has_flat, flat_append, filter_append, rising_apart, numbers_more}
 use Rattle.place_pass.proofs.StillLemmas.{none_new, paired_same}
 use Rattle.place_pass.proofs.waiting.join.Goals as goal
 

@@ -5,8 +5,8 @@ use Rattle.fuxi_terms.proofs.Booleans.{and_false, or_false}
 use Rattle.written_roles.specs.Masters.{out_of}
 use Rattle.written_roles.specs.Placing.{has_pair}
 use Rattle.place_pass.specs.Cells.{asks_in}
-use Rattle.place_pass.specs.Lines.{same_pair, waiting_of}
-use Rattle.place_pass.proofs.LinesLemmas.{any_append, none_filter, append_nil, joined_more, none_yet}
+use Rattle.place_pass.specs.WaitingLines.{same_pair, waiting_of}
+use Rattle.place_pass.proofs.WaitingLinesLemmas.{any_append, none_filter, append_nil, joined_more, none_yet}
 use Rattle.place_pass.proofs.waiting.join_units.Goals as goal
 
 -- a unit whose turn comes is in the line only where it was

@@ -2,7 +2,7 @@ use Rattle.std.proofs.Common.{◌≡◌, ◌≤◌, ◌++◌, not, filter}
 use Rattle.written_roles.specs.Placing.{has_pair}
 use Rattle.place_pass.specs.Cells.{asks_in}
 use Rattle.place_pass.specs.Best.{AreAdmitted}
-use Rattle.place_pass.specs.Lines.{waiting_of}
+use Rattle.place_pass.specs.WaitingLines.{waiting_of}
 use Rattle.place_pass.proofs.waiting.join_units.Given as goal
 
 abbrev pub invariant-loop-number : goal.invariant-loop-number

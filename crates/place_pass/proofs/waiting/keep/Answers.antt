@@ -3,8 +3,8 @@ use Rattle.std.proofs.lemmas.Bool.Decides.{nat_tests}
 use Rattle.written_roles.specs.Masters.{out_of}
 use Rattle.written_roles.specs.Placing.{has_pair}
 use Rattle.place_pass.specs.Cells.{asks_in}
-use Rattle.place_pass.specs.Lines.{same_pair}
-use Rattle.place_pass.proofs.LinesLemmas.{none_filter, filter_more, distinct_at, append_nil}
+use Rattle.place_pass.specs.WaitingLines.{same_pair}
+use Rattle.place_pass.proofs.WaitingLinesLemmas.{none_filter, filter_more, distinct_at, append_nil}
 use Rattle.place_pass.proofs.waiting.keep.Goals as goal
 
 pub loop-place-preserved-then-outstanding-eq0 : goal.loop-place-preserved-then-outstanding-eq0

@@ -4,8 +4,8 @@ use Rattle.written_roles.specs.Masters.{out_of}
 use Rattle.written_roles.specs.Placing.{has_pair}
 use Rattle.place_pass.specs.Best.{AreAdmitted}
 use Rattle.place_pass.specs.Cells.{asks_in}
-use Rattle.place_pass.specs.Lines.{LineRecord}
-use Rattle.place_pass.proofs.TreesLemmas.{holds_same}
+use Rattle.place_pass.specs.WaitingLines.{LineRecord}
+use Rattle.place_pass.proofs.PlacerTreesLemmas.{holds_same}
 use Rattle.place_pass.proofs.StillLemmas.{all_kept, filter_all}
 use Rattle.place_pass.proofs.waiting.leave.Goals as goal
 

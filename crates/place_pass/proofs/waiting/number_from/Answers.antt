@@ -5,8 +5,8 @@ use Rattle.fuxi_terms.proofs.Lists.{all_at}
 use Rattle.place_pass.specs.Bounds.{turn_at}
 use Rattle.place_pass.proofs.SightsLemmas.{same_place, index_within}
 use Rattle.place_pass.proofs.NumberedLemmas.{app_small, unit_small, two_places, other_slot}
-use Rattle.place_pass.proofs.LinesLemmas.{pair_turned, pair_is}
-use Rattle.place_pass.specs.Lines.{same_pair}
+use Rattle.place_pass.proofs.WaitingLinesLemmas.{pair_turned, pair_is}
+use Rattle.place_pass.specs.WaitingLines.{same_pair}
 use Rattle.place_pass.proofs.waiting.number_from.Goals as goal
 
 pub slot-requires-clause-app : goal.slot-requires-clause-app

@@ -1,8 +1,8 @@
 use Rattle.std.proofs.Common.{[], ◌∷◌, ◌++◌, map, sym, ◌∙◌, ap}
 use Rattle.std.proofs.lemmas.List.{map-append}
 use Rattle.place_pass.specs.Cells.{cell_of, cells_in}
-use Rattle.place_pass.proofs.Places.{repeated_last}
 use Rattle.place_pass.proofs.wishes.empty_slots.Goals as goal
+use Rattle.fuxi_terms.proofs.IndexedLists.{repeated_last}
 
 pub loop-preserved : goal.loop-preserved
 loop-preserved c =

@@ -5,7 +5,7 @@ use Rattle.fuxi_terms.specs.Counts.{AreCounts}
 use Rattle.fuxi_terms.specs.Keys.{key_cmp}
 use Rattle.fuxi_terms.specs.TallyKeys.{greatest_demand}
 use Rattle.place_pass.proofs.CellsLemmas.{asked_small}
-use Rattle.place_pass.proofs.WalksLemmas.{found_here, found_later}
+use Rattle.place_pass.proofs.DemandWalksLemmas.{found_here, found_later}
 use Rattle.place_pass.proofs.wishes.next_number.Goals as goal
 
 pub overflow_cast-result : goal.overflow_cast-result

@@ -1,4 +1,4 @@
-use Rattle.place_pass.specs.Walks.{IsPast}
+use Rattle.place_pass.specs.DemandWalks.{IsPast}
 use Rattle.place_pass.proofs.wishes.place_of.Given as goal
 
 abbrev pub invariant-loop-place : goal.invariant-loop-place

@@ -8,7 +8,7 @@ use Rattle.place_pass.specs.Cells.{any_gone, is_gone, numbers_at}
 use Rattle.place_pass.proofs.Places.{counted_at, counted_long}
 use Rattle.place_pass.proofs.PlainLemmas.{none_any}
 use Rattle.fuxi_terms.specs.Lists.{below}
-use Rattle.place_pass.proofs.WalksLemmas.{later_past, one_more}
+use Rattle.place_pass.proofs.DemandWalksLemmas.{later_past, one_more}
 use Rattle.place_pass.proofs.wishes.read_numbers.Goals as goal
 
 pub returns-then-stay_zero-clause-numbers : goal.returns-then-stay_zero-clause-numbers

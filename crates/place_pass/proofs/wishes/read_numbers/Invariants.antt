@@ -3,7 +3,7 @@ use Rattle.fuxi_terms.specs.Keys.{key_cmp}
 use Rattle.fuxi_terms.specs.Counts.{count}
 use Rattle.fuxi_terms.specs.TallyKeys.{key}
 use Rattle.place_pass.specs.Cells.{any_gone}
-use Rattle.place_pass.specs.Walks.{IsPast}
+use Rattle.place_pass.specs.DemandWalks.{IsPast}
 use Rattle.place_pass.proofs.wishes.read_numbers.Given as goal
 
 abbrev pub invariant-loop-machine : goal.invariant-loop-machine

@@ -6,7 +6,7 @@ use Rattle.fuxi_terms.specs.Counts.{count}
 use Rattle.fuxi_terms.specs.TallyKeys.{rack_key}
 use Rattle.place_pass.specs.Cells.{racks_at}
 use Rattle.place_pass.proofs.Places.{counted_at, counted_long}
-use Rattle.place_pass.proofs.WalksLemmas.{later_past}
+use Rattle.place_pass.proofs.DemandWalksLemmas.{later_past}
 use Rattle.place_pass.proofs.wishes.read_racks.Goals as goal
 
 pub returns-then-stay_zero : goal.returns-then-stay_zero

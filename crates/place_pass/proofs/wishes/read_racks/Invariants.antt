@@ -3,7 +3,7 @@ use Rattle.fuxi_terms.specs.Cluster.{has_rack}
 use Rattle.fuxi_terms.specs.Keys.{key_cmp}
 use Rattle.fuxi_terms.specs.Counts.{count}
 use Rattle.fuxi_terms.specs.TallyKeys.{rack_key}
-use Rattle.place_pass.specs.Walks.{IsPast}
+use Rattle.place_pass.specs.DemandWalks.{IsPast}
 use Rattle.place_pass.proofs.wishes.read_racks.Given as goal
 
 abbrev pub invariant-loop-number : goal.invariant-loop-number

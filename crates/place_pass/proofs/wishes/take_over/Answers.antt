@@ -5,10 +5,10 @@ use Rattle.std.proofs.lemmas.Bool.Decides.{nat_tests}
 use Rattle.place_pass.specs.declared.wishes.Wish.{Wish}
 use Rattle.place_pass.specs.Cells.{Cell, cell_of, cells_in, no_cell, taken, taken_all, asks_more}
 use Rattle.fuxi_terms.proofs.Booleans.{number_is}
-use Rattle.place_pass.proofs.Places.{one_set}
 use Rattle.place_pass.proofs.IdleKept.{any_last}
 use Rattle.place_pass.proofs.CellsLemmas.{length-taken_all, get_or-taken_all}
 use Rattle.place_pass.proofs.wishes.take_over.Goals as goal
+use Rattle.fuxi_terms.proofs.IndexedLists.{one_set}
 
 -- the unit is as it was
 read_at : (old now : List Wish) (n : ℕ) (x : Wish) → n < length now → x ≡ get_or now n x → get_or (map cell_of now) n no_cell ≡ get_or (map cell_of old) n no_cell → cell_of x ≡ get_or (map cell_of old) n no_cell

@@ -1,5 +1,5 @@
 use Rattle.std.proofs.Common.{◌≡◌, ℕ, ◌*◌, ◌^◌, ◌<◌, ◌≤◌, take, get_or}
-use Rattle.preempt.specs.Numbers.{part_in}
+use Rattle.preempt.specs.GrantNumbers.{part_in}
 use Rattle.preempt.proofs.entry.part_of.Given as goal
 
 abbrev pub invariant-loop-e : goal.invariant-loop-e

@@ -1,5 +1,5 @@
 use Rattle.std.proofs.Common.{◌≡◌, ℕ, ◌*◌, ◌^◌, ◌<◌, ◌≤◌, take, get_or}
-use Rattle.preempt.specs.Numbers.{total_in}
+use Rattle.preempt.specs.GrantNumbers.{total_in}
 use Rattle.preempt.proofs.entry.total_of.Given as goal
 
 abbrev pub invariant-loop-e : goal.invariant-loop-e

@@ -3,7 +3,7 @@ use Rattle.std.specs.Prelude.{replicate}
 use Rattle.fuxi_terms.specs.Cluster.{ClusterRecord, is_narrow, limit_at}
 use Rattle.fuxi_terms.specs.Jobs.{size_at}
 use Rattle.fuxi_terms.specs.Tables.{usage_at}
-use Rattle.grant_table.specs.Tables.{as_known}
+use Rattle.grant_table.specs.GrantTables.{as_known}
 use Rattle.preempt.proofs.CountedAsWritten.{size_is, zeros_at}
 use Rattle.preempt.proofs.ShelvesLemmas.{resources_few}
 use Rattle.preempt.proofs.NeedsAsWritten.{narrow_is, guaranteed_is}

@@ -1,6 +1,6 @@
 use Rattle.std.proofs.Common.{◌≡◌, drop}
 use Rattle.fuxi_terms.specs.Jobs.{job_of}
-use Rattle.grant_table.specs.Tables.{as_known}
+use Rattle.grant_table.specs.GrantTables.{as_known}
 use Rattle.preempt.proofs.need.place_of.Given as goal
 
 abbrev pub invariant-loop-index : goal.invariant-loop-index

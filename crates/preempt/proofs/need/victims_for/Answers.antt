@@ -2,7 +2,7 @@ use Rattle.std.proofs.Common.{ℕ, sym, ◌∙◌, subst}
 use Rattle.std.specs.Prelude.{Option}
 use Rattle.std.specs.Global.{Vec}
 use Rattle.fuxi_terms.specs.Tables.{spot}
-use Rattle.grant_table.specs.Tables.{TableRecord, IsSound}
+use Rattle.grant_table.specs.GrantTables.{TableRecord, IsSound}
 use Rattle.preempt.specs.declared.plan.Victim.{Victim}
 use Rattle.preempt.specs.Given.{AreGiven, AreGroups, IsEntry}
 use Rattle.preempt.specs.Shelves.{IsShelf, IsWanted}

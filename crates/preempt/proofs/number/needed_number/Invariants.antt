@@ -1,6 +1,6 @@
 use Rattle.std.proofs.Common.{◌≡◌}
 use Rattle.preempt.specs.Counted.{greatest_of}
-use Rattle.preempt.specs.Numbers.{needed_in_one}
+use Rattle.preempt.specs.GrantNumbers.{needed_in_one}
 use Rattle.preempt.proofs.number.needed_number.Given as goal
 
 abbrev pub invariant-loop-i : goal.invariant-loop-i

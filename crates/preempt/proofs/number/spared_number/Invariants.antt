@@ -1,6 +1,6 @@
 use Rattle.std.proofs.Common.{◌≡◌}
 use Rattle.preempt.specs.Counted.{least_of}
-use Rattle.preempt.specs.Numbers.{spared_in_one}
+use Rattle.preempt.specs.GrantNumbers.{spared_in_one}
 use Rattle.preempt.proofs.number.spared_number.Given as goal
 
 abbrev pub invariant-loop-i : goal.invariant-loop-i

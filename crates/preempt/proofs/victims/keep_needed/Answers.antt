@@ -1,6 +1,6 @@
 use Rattle.std.proofs.Common.{◌≡◌, ℕ, ◌+◌, ◌*◌, ◌<◌, [], ◌∷◌, ◌++◌, get_or, drop, arith, ap, sym, ◌∙◌, subst}
 use Rattle.preempt.specs.declared.entry.Entry.{Entry}
-use Rattle.preempt.specs.Numbers.{total_in, part_in}
+use Rattle.preempt.specs.GrantNumbers.{total_in, part_in}
 use Rattle.preempt.specs.Given.{recounted}
 use Rattle.preempt.proofs.CountedAsWritten.{AtKeeping, keeping_goes_on, total_push, part_push, total_first, part_first}
 use Rattle.preempt.proofs.victims.keep_needed.Goals as goal

@@ -1,9 +1,9 @@
 use Rattle.std.proofs.Common.{◌≡◌, ℕ, ◌+◌, ◌*◌, ◌^◌, ◌<◌, ◌≤◌, get_or, drop}
 use Rattle.std.specs.List.{AllByRecursion}
 use Rattle.fuxi_terms.specs.Keys.{Spot}
-use Rattle.grant_table.specs.Tables.{TableRecord}
+use Rattle.grant_table.specs.GrantTables.{TableRecord}
 use Rattle.preempt.specs.Given.{IsNeed, IsEntry}
-use Rattle.preempt.specs.Numbers.{total_in, part_in}
+use Rattle.preempt.specs.GrantNumbers.{total_in, part_in}
 use Rattle.preempt.proofs.CountedAsWritten.{AtKeeping}
 use Rattle.preempt.proofs.victims.keep_needed.Given as goal
 

@@ -1,8 +1,8 @@
 use Rattle.std.proofs.Common.{set, ◌≡◌, ℕ, ◌+◌, ◌<◌, [], ◌∷◌, ◌++◌, List, length, get_or, arith, ap, sym, ◌∙◌, subst, length-append}
 use Rattle.preempt.specs.declared.entry.Entry.{Entry}
 use Rattle.preempt.specs.Given.{recounted}
-use Rattle.preempt.specs.Numbers.{total_in}
-use Rattle.preempt.specs.Parts.{no_sums, ArePartsOf}
+use Rattle.preempt.specs.GrantNumbers.{total_in}
+use Rattle.preempt.specs.GroupSums.{no_sums, ArePartsOf}
 use Rattle.preempt.proofs.CountedAsWritten.{AtTaking, taking_starts, taking_goes_on, total_push, parts_more, parts_start, zeros_at}
 use Rattle.preempt.proofs.victims.take_all.Goals as goal
 

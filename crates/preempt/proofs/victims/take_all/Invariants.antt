@@ -1,9 +1,9 @@
 use Rattle.std.proofs.Common.{◌≡◌, ℕ, ◌*◌, ◌^◌, ◌<◌, ◌≤◌, length, get_or}
 use Rattle.fuxi_terms.specs.Keys.{Spot}
-use Rattle.grant_table.specs.Tables.{TableRecord}
+use Rattle.grant_table.specs.GrantTables.{TableRecord}
 use Rattle.preempt.specs.Given.{AreGiven}
-use Rattle.preempt.specs.Numbers.{total_in}
-use Rattle.preempt.specs.Parts.{ArePartsOf}
+use Rattle.preempt.specs.GrantNumbers.{total_in}
+use Rattle.preempt.specs.GroupSums.{ArePartsOf}
 use Rattle.preempt.proofs.CountedAsWritten.{AtTaking}
 use Rattle.preempt.proofs.victims.take_all.Given as goal
 

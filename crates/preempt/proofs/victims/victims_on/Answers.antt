@@ -1,9 +1,9 @@
 use Rattle.std.proofs.Common.{filter, map, ap, sym, ◌∙◌, subst, Some}
 use Rattle.std.specs.List.{list_any, AllByRecursion}
 use Rattle.fuxi_terms.specs.Keys.{Spot}
-use Rattle.grant_table.specs.Tables.{TableRecord}
+use Rattle.grant_table.specs.GrantTables.{TableRecord}
 use Rattle.preempt.specs.Given.{victim_of, AreGiven, IsEntry, IsKept}
-use Rattle.preempt.specs.Numbers.{has_grants}
+use Rattle.preempt.specs.GrantNumbers.{has_grants}
 use Rattle.preempt.specs.Plans.{AreTakable, losers_of}
 use Rattle.preempt.proofs.FoundPlans.{is_ready, not_enough, none_taken, some_found}
 use Rattle.preempt.proofs.Takable.{takable, losers_are}

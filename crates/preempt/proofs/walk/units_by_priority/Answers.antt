@@ -1,7 +1,7 @@
 use Rattle.std.proofs.Common.{◌≡◌, map, sym, ◌∙◌, ap, subst, arith}
 use Rattle.std.specs.List.{AllByRecursion}
 use Rattle.fuxi_terms.specs.Jobs.{priority_of}
-use Rattle.grant_table.specs.Tables.{as_known}
+use Rattle.grant_table.specs.GrantTables.{as_known}
 use Rattle.preempt.specs.Given.{IsEntry, pair_of}
 use Rattle.preempt.specs.Walks.{entries_by_priority, pairs_by_priority}
 use Rattle.preempt.proofs.UnitSteps.{pairs_ordered, all_ordered, ordered_few}

@@ -1,8 +1,8 @@
 use Rattle.std.proofs.Common.{◌≡◌, ◌+◌, ◌≤◌, Result, Ok, Err, refl, ap, arith}
 use Rattle.std.specs.Prelude.{OnOk, OnErr}
-use Rattle.app_master.specs.Apps.{AppCore}
+use Rattle.app_master.specs.AppCores.{AppCore}
 use Rattle.app_master.specs.declared.fault.AppFault.{AppFault}
-use Rattle.running_apps.specs.Running.{command_of}
+use Rattle.running_apps.specs.RunningApps.{command_of}
 use Rattle.running_apps.proofs.apps.ask_slot.Goals as goal
 
 -- one step more where it is done, and none where it is refused

@@ -1,6 +1,6 @@
 use Rattle.std.proofs.Common.{sym, subst}
-use Rattle.app_master.specs.Commands.{Commands}
-use Rattle.running_apps.specs.Running.{command_of}
+use Rattle.app_master.specs.AppCommands.{Commands}
+use Rattle.running_apps.specs.RunningApps.{command_of}
 use Rattle.running_apps.proofs.asking.ask_app.Goals as goal
 
 pub returns-in-GiveBack-clause-answers : goal.returns-in-GiveBack-clause-answers

@@ -1,5 +1,5 @@
 use Rattle.std.proofs.Common.{subst, ◌∙◌}
-use Rattle.running_apps.specs.Running.{AppStandsAt}
+use Rattle.running_apps.specs.RunningApps.{AppStandsAt}
 use Rattle.running_apps.proofs.Slots.{beyond, boots_beyond}
 use Rattle.running_apps.proofs.laws.none_beyond.Goals as goal
 

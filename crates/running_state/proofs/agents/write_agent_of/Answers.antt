@@ -2,9 +2,9 @@ use Rattle.std.proofs.Common.{sym, subst}
 use Rattle.std.specs.Ordering.{nat_cmp}
 use Rattle.std.specs.FinMap.Entries.{find}
 use Rattle.written_world.specs.Show.{show_agent}
-use Rattle.written_join.specs.Seen.{agent_seen}
+use Rattle.written_join.specs.SeenWorlds.{agent_seen}
 use Rattle.written_join.specs.States.{agent_lines}
-use Rattle.running_agents.specs.Running.{RunsAs, StandsAt}
+use Rattle.running_agents.specs.RunningAgents.{RunsAs, StandsAt}
 use Rattle.running_state.proofs.Found.{shows_found, shows_none}
 use Rattle.running_state.proofs.agents.write_agent_of.Goals as goal
 

@@ -3,7 +3,7 @@ use Rattle.std.specs.List.{flat_map}
 use Rattle.fuxi_terms.specs.Lists.{below}
 use Rattle.written_world.specs.Show.{show_agent}
 use Rattle.running_state.specs.Parts.{machine_lines, show_agents}
-use Rattle.schedule_text.specs.Lines.{line_text}
+use Rattle.schedule_text.specs.PrintedLines.{line_text}
 use Rattle.written_join.proofs.ShowsLemmas.{shows_same}
 use Rattle.running_state.proofs.Walks.{each_below}
 use Rattle.running_state.proofs.Whole.{no_agent_beyond}

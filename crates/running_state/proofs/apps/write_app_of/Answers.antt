@@ -3,9 +3,9 @@ use Rattle.std.specs.Ordering.{nat_cmp}
 use Rattle.std.specs.FinMap.Entries.{find}
 use Rattle.fuxi_terms.specs.Lists.{below}
 use Rattle.written_world.specs.Show.{show_app}
-use Rattle.written_join.specs.Seen.{app_seen}
+use Rattle.written_join.specs.SeenWorlds.{app_seen}
 use Rattle.written_join.specs.States.{app_lines}
-use Rattle.running_apps.specs.Running.{AppRunsAs, AppStandsAt}
+use Rattle.running_apps.specs.RunningApps.{AppRunsAs, AppStandsAt}
 use Rattle.running_state.proofs.Found.{shows_found, shows_none}
 use Rattle.running_state.proofs.apps.write_app_of.Goals as goal
 

@@ -4,7 +4,7 @@ use Rattle.fuxi_terms.specs.Limits.{most_jobs}
 use Rattle.fuxi_terms.specs.Lists.{below}
 use Rattle.written_world.specs.Show.{show_app}
 use Rattle.running_state.specs.Parts.{job_lines, show_apps}
-use Rattle.schedule_text.specs.Lines.{line_text}
+use Rattle.schedule_text.specs.PrintedLines.{line_text}
 use Rattle.written_join.proofs.ShowsLemmas.{shows_same}
 use Rattle.running_state.proofs.Walks.{each_below}
 use Rattle.running_state.proofs.apps.write_apps.Goals as goal

@@ -4,10 +4,10 @@ use Rattle.std.specs.Ordering.{nat_cmp}
 use Rattle.std.specs.FinMap.Entries.{find}
 use Rattle.std.proofs.lemmas.List.Folds.{flat_map-map}
 use Rattle.written_world.specs.Show.{show_master}
-use Rattle.written_join.specs.Seen.{master_seen}
+use Rattle.written_join.specs.SeenWorlds.{master_seen}
 use Rattle.fuxi_master.specs.Cores.{MasterRecord}
 use Rattle.running_state.specs.Parts.{epoch_lines, show_masters}
-use Rattle.schedule_text.specs.Lines.{line_text}
+use Rattle.schedule_text.specs.PrintedLines.{line_text}
 use Rattle.written_join.proofs.ShowsLemmas.{shows_same, shows_one, shows_all, begins_then}
 use Rattle.running_state.proofs.Found.{shows_found}
 use Rattle.running_state.proofs.Walks.{each_key}

@@ -3,7 +3,7 @@ use Rattle.std.specs.List.{flat_map}
 use Rattle.written_world.specs.World.{World}
 use Rattle.party_text.specs.Texts.{Shows}
 use Rattle.fuxi_master.specs.Cores.{MasterRecord}
-use Rattle.running_masters.specs.Running.{AreMastersOf}
+use Rattle.running_masters.specs.RunningMasters.{AreMastersOf}
 use Rattle.running_state.specs.Parts.{epoch_lines}
 use Rattle.running_state.proofs.Loops.{Printed}
 use Rattle.running_state.proofs.masters.write_masters.Given as goal

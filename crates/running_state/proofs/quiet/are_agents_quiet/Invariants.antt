@@ -2,9 +2,9 @@ use Rattle.std.proofs.Common.{◌≡◌, ◌<◌, ℕ, true}
 use Rattle.written_roles.specs.Masters.{Master}
 use Rattle.written_world.specs.World.{World}
 use Rattle.written_world.specs.Quiet.{is_agent_quiet}
-use Rattle.written_join.specs.Seen.{master_seen}
+use Rattle.written_join.specs.SeenWorlds.{master_seen}
 use Rattle.fuxi_master.specs.Cores.{StandsFor}
-use Rattle.running_agents.specs.Running.{AreAgentsOf}
+use Rattle.running_agents.specs.RunningAgents.{AreAgentsOf}
 use Rattle.running_state.proofs.quiet.are_agents_quiet.Given as goal
 
 abbrev pub invariant-loop-machine : goal.invariant-loop-machine

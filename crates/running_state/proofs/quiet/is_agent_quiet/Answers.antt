@@ -1,7 +1,7 @@
 use Rattle.std.proofs.Common.{◌≡◌, true, sym, ◌∙◌, ap}
 use Rattle.fuxi_terms.specs.Numbers.{has_number}
 use Rattle.written_net.specs.Channels.{master_id, agent_id, party}
-use Rattle.written_join.specs.Seen.{master_seen, side_of}
+use Rattle.written_join.specs.SeenWorlds.{master_seen, side_of}
 use Rattle.running_state.proofs.Peers.{agent_runs, agent_quiet}
 use Rattle.running_state.proofs.quiet.is_agent_quiet.Goals as goal
 

@@ -1,7 +1,7 @@
 use Rattle.std.proofs.Common.{◌≡◌, true, sym, ◌∙◌}
 use Rattle.fuxi_terms.specs.Jobs.{is_known}
 use Rattle.written_net.specs.Channels.{master_id, app_id, party}
-use Rattle.written_join.specs.Seen.{master_seen, side_of}
+use Rattle.written_join.specs.SeenWorlds.{master_seen, side_of}
 use Rattle.running_state.proofs.Peers.{app_runs, app_quiet}
 use Rattle.running_state.proofs.quiet.is_app_quiet.Goals as goal
 

@@ -1,6 +1,6 @@
 use Rattle.std.proofs.Common.{◌++◌}
 use Rattle.running_state.specs.Parts.{show_masters, show_agents, show_apps}
-use Rattle.schedule_text.specs.Lines.{line_text}
+use Rattle.schedule_text.specs.PrintedLines.{line_text}
 use Rattle.written_join.proofs.ShowsLemmas.{shows_then}
 use Rattle.running_state.proofs.state.write_parties.Goals as goal
 

@@ -3,10 +3,10 @@ use Rattle.fuxi_terms.specs.Cluster.{ClusterRecord}
 use Rattle.written_world.specs.Outputs.{State, Packets}
 use Rattle.written_world.specs.Show.{show}
 use Rattle.written_join.specs.States.{hard_lines}
-use Rattle.running_agents.specs.Running.{RunsAs, StandsAt}
-use Rattle.running_apps.specs.Running.{AppRunsAs, AppStandsAt}
+use Rattle.running_agents.specs.RunningAgents.{RunsAs, StandsAt}
+use Rattle.running_apps.specs.RunningApps.{AppRunsAs, AppStandsAt}
 use Rattle.running_state.specs.Parts.{show_parties}
-use Rattle.schedule_text.specs.Lines.{line_text}
+use Rattle.schedule_text.specs.PrintedLines.{line_text}
 use Rattle.written_join.proofs.ShowsLemmas.{shows_then, shows_same}
 use Rattle.running_state.proofs.Whole.{whole_state}
 use Rattle.running_state.proofs.state.write_state.Goals as goal

@@ -2,7 +2,7 @@ use Rattle.std.proofs.Common.{sym, subst}
 use Rattle.written_world.specs.Events.{Halt, act}
 use Rattle.schedule_text.specs.Halting.{halting}
 use Rattle.schedule_text.specs.Writing.{IsLineEvent}
-use Rattle.schedule_replay.specs.Events.{event_as}
+use Rattle.schedule_replay.specs.LineEvents.{event_as}
 use Rattle.schedule_replay.specs.Moves.{Acts}
 use Rattle.schedule_replay.proofs.acts.act.Goals as goal
 

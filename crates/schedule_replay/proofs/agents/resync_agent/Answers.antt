@@ -3,14 +3,14 @@ use Rattle.written_net.specs.Channels.{master_id, agent_id, party}
 use Rattle.written_world.specs.World.{Step}
 use Rattle.written_world.specs.Events.{resync_agent, resynced}
 use Rattle.schedule_replay.specs.Worlds.{WorldRecord}
-use Rattle.schedule_replay.specs.Steps.{IsDone}
+use Rattle.schedule_replay.specs.WorldSteps.{IsDone}
 use Rattle.schedule_replay.specs.Moves.{IsActed}
 use Rattle.schedule_replay.proofs.MastersActInWorld.{is_refused}
 use Rattle.schedule_replay.proofs.PeersActInWorld.{acts_by, agent_done, agent_runs, agent_runs_not, with_agents}
 use Rattle.schedule_replay.proofs.MovesLemmas.{once_up_to, agents_once}
 use Rattle.schedule_replay.proofs.agents.resync_agent.Goals as goal
 use Rattle.schedule_text.specs.declared.refusal.Refusal.TheVariants as why
-use Rattle.running_agents.specs.Running.{ResyncInWorld}
+use Rattle.running_agents.specs.RunningAgents.{ResyncInWorld}
 
 pub returns-then-resync : goal.returns-then-resync
 returns-then-resync c =

@@ -2,7 +2,7 @@ use Rattle.std.proofs.Common.{◌≡◌, ◌<◌, true, false, length, sym, ◌�
 use Rattle.std.proofs.lemmas.Bool.Decides.{nat_tests}
 use Rattle.fuxi_terms.specs.Cluster.{ClusterRecord, has_machine, machine_of}
 use Rattle.fuxi_terms.specs.Padded.{padded}
-use Rattle.running_agents.specs.Running.{boot_in}
+use Rattle.running_agents.specs.RunningAgents.{boot_in}
 use Rattle.written_net.specs.Channels.{agent_id}
 use Rattle.written_roles.specs.Refusals.{NotRising}
 use Rattle.written_world.specs.World.{refused}

@@ -1,5 +1,5 @@
 use Rattle.std.proofs.Common.{Some, sym, subst}
-use Rattle.running_apps.specs.Running.{AreAppsOf, AskInWorld, command_of}
+use Rattle.running_apps.specs.RunningApps.{AreAppsOf, AskInWorld, command_of}
 use Rattle.written_world.specs.Events.{asks}
 use Rattle.schedule_text.specs.declared.refusal.Refusal.TheVariants as why
 use Rattle.schedule_replay.specs.Worlds.{WorldRecord}

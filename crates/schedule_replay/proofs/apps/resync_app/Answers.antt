@@ -2,10 +2,10 @@ use Rattle.std.proofs.Common.{[], ◌∷◌, refl, sym, subst}
 use Rattle.written_net.specs.Channels.{master_id, app_id, party}
 use Rattle.written_world.specs.World.{Step}
 use Rattle.written_world.specs.Events.{resync_app, resynced}
-use Rattle.running_apps.specs.Running.{ResyncInWorld}
+use Rattle.running_apps.specs.RunningApps.{ResyncInWorld}
 use Rattle.schedule_text.specs.declared.refusal.Refusal.TheVariants as why
 use Rattle.schedule_replay.specs.Worlds.{WorldRecord}
-use Rattle.schedule_replay.specs.Steps.{IsDone}
+use Rattle.schedule_replay.specs.WorldSteps.{IsDone}
 use Rattle.schedule_replay.specs.Moves.{IsActed}
 use Rattle.schedule_replay.proofs.MastersActInWorld.{is_refused}
 use Rattle.schedule_replay.proofs.PeersActInWorld.{acts_by, app_done, app_runs, app_runs_not, with_apps}

@@ -1,7 +1,7 @@
 use Rattle.std.proofs.Common.{◌≡◌, ◌<◌, true, false, List, refl, sym, ◌∙◌, ap, subst, arith}
 use Rattle.fuxi_terms.specs.Jobs.{KnownJob, is_known, has_ended, unit_count}
 use Rattle.hard_state.specs.HardFiles.{Kept}
-use Rattle.running_apps.specs.Running.{boot_in}
+use Rattle.running_apps.specs.RunningApps.{boot_in}
 use Rattle.written_net.specs.Channels.{app_id}
 use Rattle.written_roles.specs.HardState.{HardState}
 use Rattle.written_roles.specs.Refusals.{NotRising}

@@ -3,8 +3,8 @@ use Rattle.std.proofs.lemmas.Result.{IfOk-weaker}
 use Rattle.written_roles.specs.MasterSteps.{StartsServing}
 use Rattle.fuxi_master.specs.declared.event.MasterEvent.TheVariants.{Begin}
 use Rattle.written_world.specs.Events.{commanded}
-use Rattle.schedule_replay.specs.Commands.{GovernsMasters, TellsInWorld}
-use Rattle.schedule_replay.proofs.CommandsLemmas.{begins_written, runs_in, told_alone}
+use Rattle.schedule_replay.specs.MasterCommands.{GovernsMasters, TellsInWorld}
+use Rattle.schedule_replay.proofs.MasterCommandsLemmas.{begins_written, runs_in, told_alone}
 use Rattle.schedule_replay.proofs.commands.begin.Goals as goal
 
 pub returns-clause-world : goal.returns-clause-world

@@ -2,10 +2,10 @@ use Rattle.std.proofs.Common.{◌≡◌, Ok, subst}
 use Rattle.std.specs.Prelude.{OnOk}
 use Rattle.std.proofs.lemmas.Result.{IfOk-weaker}
 use Rattle.written_roles.specs.HardState.{HardState, hard_step}
-use Rattle.running_masters.specs.Running.{Fits}
-use Rattle.schedule_replay.specs.Commands.{CarriesOut, TellsInWorld, WritesIn, governing}
+use Rattle.running_masters.specs.RunningMasters.{Fits}
+use Rattle.schedule_replay.specs.MasterCommands.{CarriesOut, TellsInWorld, WritesIn, governing}
 use Rattle.schedule_replay.specs.Writings.{IsWritable, event_of}
-use Rattle.schedule_replay.proofs.CommandsLemmas.{writing_refused, written_done}
+use Rattle.schedule_replay.proofs.MasterCommandsLemmas.{writing_refused, written_done}
 use Rattle.schedule_replay.proofs.commands.carry_out.Goals as goal
 
 pub returns-in-Err-clause-world : goal.returns-in-Err-clause-world

@@ -1,5 +1,5 @@
 use Rattle.std.proofs.Common.{sym}
-use Rattle.schedule_replay.proofs.CommandsLemmas.{may_finish, runs_in}
+use Rattle.schedule_replay.proofs.MasterCommandsLemmas.{may_finish, runs_in}
 use Rattle.schedule_replay.proofs.commands.finish_tests.Goals as goal
 
 pub returns : goal.returns

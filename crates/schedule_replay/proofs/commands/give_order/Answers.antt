@@ -6,8 +6,8 @@ use Rattle.written_roles.specs.HardState.{Finishing, Banning, Unbanning}
 use Rattle.written_roles.specs.MasterSteps.{Finishes, BansMachine, UnbansMachine, StartsServing, MakesRoom}
 use Rattle.written_world.specs.Events.{commanded}
 use Rattle.fuxi_master.specs.declared.event.MasterEvent.TheVariants as event
-use Rattle.schedule_replay.specs.Commands.{CarriesOut, GovernsMasters, GovernsOn, command_as, governing}
-use Rattle.schedule_replay.proofs.CommandsLemmas.{finish_fits}
+use Rattle.schedule_replay.specs.MasterCommands.{CarriesOut, GovernsMasters, GovernsOn, command_as, governing}
+use Rattle.schedule_replay.proofs.MasterCommandsLemmas.{finish_fits}
 use Rattle.schedule_replay.proofs.commands.give_order.Goals as goal
 
 -- what holds anyway

@@ -1,8 +1,8 @@
 use Rattle.std.proofs.Common.{◌-◌, ◌<◌, ◌≤◌, length, sym, ◌∙◌, ap, arith}
 use Rattle.fuxi_terms.specs.Limits.{most_records}
 use Rattle.hard_state.specs.HardFiles.{Kept}
-use Rattle.written_join.specs.Seen.{master_seen}
-use Rattle.schedule_replay.specs.Commands.{governing}
+use Rattle.written_join.specs.SeenWorlds.{master_seen}
+use Rattle.schedule_replay.specs.MasterCommands.{governing}
 use Rattle.schedule_replay.proofs.JudgementIsBans.{is_below_fence, is_decided, is_too_many, runs_none}
 use Rattle.schedule_replay.proofs.commands.judged.Goals as goal
 

@@ -1,5 +1,5 @@
 use Rattle.std.proofs.Common.{sym}
-use Rattle.schedule_replay.proofs.CommandsLemmas.{machine_there, may_ban, may_unban, runs_in}
+use Rattle.schedule_replay.proofs.MasterCommandsLemmas.{machine_there, may_ban, may_unban, runs_in}
 use Rattle.schedule_replay.proofs.commands.machine_tests.Goals as goal
 
 pub returns-clause-ban : goal.returns-clause-ban

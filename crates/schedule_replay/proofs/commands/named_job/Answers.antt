@@ -4,7 +4,7 @@ use Rattle.schedule_unit.specs.JobFaults.{IsFault, IsMade, job_fault}
 use Rattle.written_roles.specs.MasterSteps.{Submits}
 use Rattle.schedule_text.specs.Asked.{job_named, job_refusal}
 use Rattle.schedule_replay.proofs.CommandSteps.{told_is, told_step}
-use Rattle.schedule_replay.proofs.CommandsLemmas.{group_there, may_submit, runs_in, submit_faulty}
+use Rattle.schedule_replay.proofs.MasterCommandsLemmas.{group_there, may_submit, runs_in, submit_faulty}
 use Rattle.schedule_replay.proofs.commands.named_job.Goals as goal
 
 pub returns-in-Some-clause-world : goal.returns-in-Some-clause-world

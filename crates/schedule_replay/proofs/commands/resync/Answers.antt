@@ -1,5 +1,5 @@
 use Rattle.std.proofs.Common.{subst}
-use Rattle.schedule_replay.specs.Commands.{TakesStep}
+use Rattle.schedule_replay.specs.MasterCommands.{TakesStep}
 use Rattle.schedule_replay.proofs.commands.resync.Goals as goal
 
 pub returns-then-not-ran-clause-steps : goal.returns-then-not-ran-clause-steps

@@ -1,8 +1,8 @@
 use Rattle.std.proofs.Common.{subst}
 use Rattle.hard_state.specs.HardFiles.{Kept}
 use Rattle.written_roles.specs.HardState.{Raise, hard_step}
-use Rattle.running_masters.specs.Calls.{StartsInWorld}
-use Rattle.schedule_replay.proofs.CommandsLemmas.{may_step, starts_done, starts_refused}
+use Rattle.running_masters.specs.MasterCalls.{StartsInWorld}
+use Rattle.schedule_replay.proofs.MasterCommandsLemmas.{may_step, starts_done, starts_refused}
 use Rattle.schedule_replay.proofs.commands.start_master.Goals as goal
 
 pub returns-in-Err-write-clause-world : goal.returns-in-Err-write-clause-world

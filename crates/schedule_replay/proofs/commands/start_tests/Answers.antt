@@ -1,6 +1,6 @@
 use Rattle.std.proofs.Common.{◌∙◌, ap}
 use Rattle.hard_state.specs.HardFiles.{Kept}
-use Rattle.schedule_replay.proofs.CommandsLemmas.{may_start}
+use Rattle.schedule_replay.proofs.MasterCommandsLemmas.{may_start}
 use Rattle.schedule_replay.proofs.commands.start_tests.Goals as goal
 
 pub returns-clause-world : goal.returns-clause-world

@@ -1,4 +1,4 @@
-use Rattle.schedule_replay.proofs.CommandsLemmas.{may_step}
+use Rattle.schedule_replay.proofs.MasterCommandsLemmas.{may_step}
 use Rattle.schedule_replay.proofs.commands.stop_master.Goals as goal
 
 pub returns-then-stop-clause-steps : goal.returns-then-stop-clause-steps

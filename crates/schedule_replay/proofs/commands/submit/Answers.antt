@@ -7,8 +7,8 @@ use Rattle.written_roles.specs.MasterSteps.{Submits}
 use Rattle.fuxi_master.specs.declared.event.MasterEvent.TheVariants.{Admit}
 use Rattle.written_world.specs.Events.{commanded}
 use Rattle.schedule_text.specs.Asked.{job_named}
-use Rattle.schedule_replay.specs.Commands.{GovernsOn, SubmitsIn, TellsInWorld, governing}
-use Rattle.schedule_replay.proofs.CommandsLemmas.{admit_fits, submit_told, writing_refused, written_done}
+use Rattle.schedule_replay.specs.MasterCommands.{GovernsOn, SubmitsIn, TellsInWorld, governing}
+use Rattle.schedule_replay.proofs.MasterCommandsLemmas.{admit_fits, submit_told, writing_refused, written_done}
 use Rattle.schedule_replay.proofs.commands.submit.Goals as goal
 
 pub returns-in-Ok-Err-clause-world : goal.returns-in-Ok-Err-clause-world

@@ -1,7 +1,7 @@
 use Rattle.std.proofs.Common.{sym, subst}
-use Rattle.running_masters.specs.Calls.{CommandsInWorld}
-use Rattle.schedule_replay.specs.Commands.{TakesStep, TellsInWorld}
-use Rattle.schedule_replay.proofs.CommandsLemmas.{tells}
+use Rattle.running_masters.specs.MasterCalls.{CommandsInWorld}
+use Rattle.schedule_replay.specs.MasterCommands.{TakesStep, TellsInWorld}
+use Rattle.schedule_replay.proofs.MasterCommandsLemmas.{tells}
 use Rattle.schedule_replay.proofs.commands.tell.Goals as goal
 
 pub returns-in-Ok-clause-world : goal.returns-in-Ok-clause-world

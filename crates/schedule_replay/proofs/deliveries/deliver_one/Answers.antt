@@ -1,6 +1,6 @@
 use Rattle.std.proofs.Common.{◌≡◌, ◌-◌, ◌<◌, ◌++◌, length, Some, slice_get, refl, subst}
 use Rattle.written_world.specs.Events.{deliver_one}
-use Rattle.schedule_replay.specs.Texts.{lines_text}
+use Rattle.schedule_replay.specs.ReplayTexts.{lines_text}
 use Rattle.schedule_replay.specs.Worlds.{WorldRecord}
 use Rattle.schedule_replay.specs.Moves.{heard_lines}
 use Rattle.schedule_replay.proofs.ActsByOneStep.{once_if}

@@ -1,9 +1,9 @@
 use Rattle.std.proofs.Common.{◌≡◌, ◌+◌, ◌-◌, ◌<◌, ◌≤◌, ◌++◌, length, Some, subst, arith}
 use Rattle.written_world.specs.Events.{deliver_all, deliver_one, deliver_range}
 use Rattle.schedule_text.specs.declared.refusal.Refusal.TheVariants as why
-use Rattle.schedule_replay.specs.Texts.{lines_text}
+use Rattle.schedule_replay.specs.ReplayTexts.{lines_text}
 use Rattle.schedule_replay.specs.Worlds.{WorldRecord, event_steps}
-use Rattle.schedule_replay.specs.Steps.{limit_of}
+use Rattle.schedule_replay.specs.WorldSteps.{limit_of}
 use Rattle.schedule_replay.specs.Moves.{GoesThrough, IsActedOnce, TookSteps, refusal_lines}
 use Rattle.schedule_replay.proofs.ActsByOneStep.{acts_if}
 use Rattle.schedule_replay.proofs.StepAfterStep.{goes_none, goes_on, took_none, took_more, can_go_on, valid_of}

@@ -1,7 +1,7 @@
 use Rattle.std.proofs.Common.{◌≡◌, ◌-◌, ◌<◌, ◌++◌, length, slice_get, Some, refl, subst, arith}
 use Rattle.written_world.specs.Events.{dump}
 use Rattle.schedule_text.specs.declared.refusal.Refusal.TheVariants as why
-use Rattle.schedule_replay.specs.Texts.{lines_text}
+use Rattle.schedule_replay.specs.ReplayTexts.{lines_text}
 use Rattle.schedule_replay.specs.Worlds.{WorldRecord}
 use Rattle.schedule_replay.specs.Moves.{refusal_lines}
 use Rattle.schedule_replay.proofs.ActsByOneStep.{acts_if}

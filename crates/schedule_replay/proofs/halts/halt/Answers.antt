@@ -4,10 +4,10 @@ use Rattle.std.proofs.lemmas.Result.{IfOk-weaker}
 use Rattle.written_roles.specs.HardState.{Raise, Finishing, Banning, Unbanning}
 use Rattle.written_roles.specs.MasterSteps.{Finishes, BansMachine, UnbansMachine}
 use Rattle.written_world.specs.Events.{StartMaster, Finish, Ban, Unban}
-use Rattle.schedule_replay.specs.Events.{event_as}
-use Rattle.schedule_replay.specs.Commands.{governing}
-use Rattle.schedule_replay.specs.Halts.{Halts, HaltsAfter}
-use Rattle.schedule_replay.proofs.HaltsLemmas.{command_says, halts_after, job_below, start_says, within_of}
+use Rattle.schedule_replay.specs.LineEvents.{event_as}
+use Rattle.schedule_replay.specs.MasterCommands.{governing}
+use Rattle.schedule_replay.specs.HaltsInWorld.{Halts, HaltsAfter}
+use Rattle.schedule_replay.proofs.HaltsInWorldLemmas.{command_says, halts_after, job_below, start_says, within_of}
 use Rattle.schedule_replay.proofs.halts.halt.Goals as goal
 
 pub returns-in-Master-clause-world : goal.returns-in-Master-clause-world

@@ -1,10 +1,10 @@
 use Rattle.std.proofs.Common.{sym, subst}
 use Rattle.std.specs.Prelude.{IfOk, OnOk}
 use Rattle.schedule_text.specs.declared.output.Output.TheVariants as out
-use Rattle.schedule_replay.specs.Commands.{governing}
-use Rattle.schedule_replay.specs.Halts.{HaltsAfter}
+use Rattle.schedule_replay.specs.MasterCommands.{governing}
+use Rattle.schedule_replay.specs.HaltsInWorld.{HaltsAfter}
 use Rattle.schedule_replay.specs.Writings.{IsWritable, event_of}
-use Rattle.schedule_replay.proofs.HaltsLemmas.{halt_refused}
+use Rattle.schedule_replay.proofs.HaltsInWorldLemmas.{halt_refused}
 use Rattle.schedule_replay.proofs.halts.halt_after.Goals as goal
 
 pub halt_within-requires-clause-writable : goal.halt_within-requires-clause-writable

@@ -4,9 +4,9 @@ use Rattle.written_roles.specs.HardState.{Submission}
 use Rattle.written_roles.specs.MasterSteps.{Submits}
 use Rattle.written_world.specs.Events.{Submit}
 use Rattle.schedule_text.specs.Asked.{job_named}
-use Rattle.schedule_replay.specs.Commands.{SubmitsIn, governing}
-use Rattle.schedule_replay.specs.Halts.{Halts, HaltsWithin}
-use Rattle.schedule_replay.proofs.HaltsLemmas.{command_writes, halt_refused}
+use Rattle.schedule_replay.specs.MasterCommands.{SubmitsIn, governing}
+use Rattle.schedule_replay.specs.HaltsInWorld.{Halts, HaltsWithin}
+use Rattle.schedule_replay.proofs.HaltsInWorldLemmas.{command_writes, halt_refused}
 use Rattle.schedule_replay.proofs.halts.halt_submission.Goals as goal
 
 pub returns-in-Ok-Ok-clause-world : goal.returns-in-Ok-Ok-clause-world

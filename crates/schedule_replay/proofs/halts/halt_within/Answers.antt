@@ -1,7 +1,7 @@
 use Rattle.written_roles.specs.HardState.{hard_step}
 use Rattle.schedule_replay.specs.Writings.{event_of}
-use Rattle.schedule_replay.proofs.CommandsLemmas.{may_step}
-use Rattle.schedule_replay.proofs.HaltsLemmas.{halt_done, halt_unwritten}
+use Rattle.schedule_replay.proofs.MasterCommandsLemmas.{may_step}
+use Rattle.schedule_replay.proofs.HaltsInWorldLemmas.{halt_done, halt_unwritten}
 use Rattle.schedule_replay.proofs.halts.halt_within.Goals as goal
 
 pub returns-in-Ok-clause-world : goal.returns-in-Ok-clause-world

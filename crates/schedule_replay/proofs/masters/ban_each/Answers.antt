@@ -4,7 +4,7 @@ use Rattle.fuxi_terms.specs.Limits.{most_machines}
 use Rattle.written_world.specs.Events.{ban_each}
 use Rattle.bad_nodes.specs.Ranks.{number_of}
 use Rattle.schedule_replay.specs.Worlds.{event_steps}
-use Rattle.schedule_replay.specs.Steps.{limit_of}
+use Rattle.schedule_replay.specs.WorldSteps.{limit_of}
 use Rattle.schedule_replay.specs.Moves.{GoesThrough, ban_one}
 use Rattle.schedule_replay.proofs.StepAfterStep.{goes_none, goes_on, took_none, took_more, can_go_on, valid_of, all_done}
 use Rattle.schedule_replay.proofs.JudgementIsBans.{ban_is, bans_next, is_there}

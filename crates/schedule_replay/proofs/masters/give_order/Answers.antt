@@ -1,7 +1,7 @@
 use Rattle.std.proofs.Common.{sym, subst}
 use Rattle.written_world.specs.World.{World, Step}
 use Rattle.written_world.specs.Events.{commanded}
-use Rattle.schedule_replay.specs.Commands.{command_as}
+use Rattle.schedule_replay.specs.MasterCommands.{command_as}
 use Rattle.schedule_replay.specs.Worlds.{WorldRecord}
 use Rattle.schedule_replay.specs.Moves.{Acts, IsActed}
 use Rattle.schedule_replay.proofs.MastersActInWorld.{governed_on}

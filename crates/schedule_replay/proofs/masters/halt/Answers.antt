@@ -1,10 +1,10 @@
 use Rattle.std.proofs.Common.{sym, subst}
 use Rattle.written_world.specs.World.{World, Step}
 use Rattle.written_world.specs.Events.{Halt, act}
-use Rattle.schedule_replay.specs.Events.{event_as}
+use Rattle.schedule_replay.specs.LineEvents.{event_as}
 use Rattle.schedule_replay.specs.Worlds.{WorldRecord}
 use Rattle.schedule_replay.specs.Moves.{Acts, IsActed}
-use Rattle.schedule_replay.proofs.HaltsLemmas.{halted_on}
+use Rattle.schedule_replay.proofs.HaltsInWorldLemmas.{halted_on}
 use Rattle.schedule_replay.proofs.PeersActInWorld.{acts_by}
 use Rattle.schedule_replay.proofs.masters.halt.Goals as goal
 use Rattle.schedule_replay.proofs.masters.halt.Goals.{in-Ok, in-Err}

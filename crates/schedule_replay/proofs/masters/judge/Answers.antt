@@ -1,7 +1,7 @@
 use Rattle.std.proofs.Common.{◌≡◌, ◌++◌, map, Some, Ok, Err}
 use Rattle.written_world.specs.Events.{ban_each, judge}
 use Rattle.bad_nodes.specs.Ranks.{number_of}
-use Rattle.schedule_replay.specs.Texts.{lines_text}
+use Rattle.schedule_replay.specs.ReplayTexts.{lines_text}
 use Rattle.schedule_replay.specs.Worlds.{WorldRecord}
 use Rattle.schedule_replay.specs.Moves.{refusal_lines}
 use Rattle.schedule_replay.proofs.ActsByOneStep.{acts_as, acts_if}

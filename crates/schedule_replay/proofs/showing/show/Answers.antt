@@ -1,7 +1,7 @@
 use Rattle.std.proofs.Common.{◌∙◌, ap, subst}
 use Rattle.hard_state.specs.declared.hard.Hard.{Hard}
 use Rattle.written_world.specs.Events.{show_state}
-use Rattle.schedule_replay.specs.Texts.{frame_of}
+use Rattle.schedule_replay.specs.ReplayTexts.{frame_of}
 use Rattle.schedule_replay.specs.Worlds.{WorldRecord}
 use Rattle.schedule_replay.specs.Moves.{IsActed}
 use Rattle.schedule_replay.proofs.MovesLemmas.{once_up_to, none_once}

@@ -1,7 +1,7 @@
 use Rattle.std.proofs.Common.{Some, sym, ◌∙◌, ap, subst}
 use Rattle.written_net.specs.Channels.{agent_id, party}
 use Rattle.written_world.specs.Events.{turn_agent, turn_to_master}
-use Rattle.running_agents.specs.Running.{TurnsOneIn}
+use Rattle.running_agents.specs.RunningAgents.{TurnsOneIn}
 use Rattle.schedule_text.specs.declared.refusal.Refusal.TheVariants as why
 use Rattle.schedule_replay.specs.Worlds.{WorldRecord}
 use Rattle.schedule_replay.specs.Moves.{Acts, IsActed}

@@ -1,7 +1,7 @@
 use Rattle.std.proofs.Common.{ℕ, ◌+◌, Some, sym, ◌∙◌, ap, subst}
 use Rattle.written_world.specs.Events.{turn_master}
-use Rattle.running_masters.specs.Running.{MastersRecord, AreWithin}
-use Rattle.running_masters.specs.Calls.{TurnsIn, TurnsInWorld}
+use Rattle.running_masters.specs.RunningMasters.{MastersRecord, AreWithin}
+use Rattle.running_masters.specs.MasterCalls.{TurnsIn, TurnsInWorld}
 use Rattle.schedule_replay.specs.Worlds.{WorldRecord}
 use Rattle.schedule_replay.specs.Moves.{Acts, IsActed}
 use Rattle.schedule_replay.proofs.PeersActInWorld.{acts_by}

@@ -6,9 +6,9 @@ use Rattle.written_world.specs.World.{empty_world}
 use Rattle.input_lines.specs.Contents.{content}
 use Rattle.input_lines.proofs.Known.{line_said, running_alone}
 use Rattle.input_lines.proofs.LineProgressLemmas.{start, nothing_taken, step_along, end_along, last_along, stop_along, line_along}
-use Rattle.schedule_run.specs.Progress.{Stands}
-use Rattle.schedule_run.specs.Runs.{run_from, world_ends, world_runner}
-use Rattle.schedule_run.proofs.RunsLemmas.{ends_with_state}
+use Rattle.schedule_run.specs.ScheduleProgress.{Stands}
+use Rattle.schedule_run.specs.ScheduleRuns.{run_from, world_ends, world_runner}
+use Rattle.schedule_run.proofs.ScheduleRunsLemmas.{ends_with_state}
 use Rattle.schedule_run.proofs.run.run_lines.Goals as goal
 
 pub returns-in_default-clause-ended : goal.returns-in_default-clause-ended

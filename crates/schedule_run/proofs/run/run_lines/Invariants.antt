@@ -5,8 +5,8 @@ use Rattle.written_world.specs.World.{empty_world}
 use Rattle.input_lines.specs.LineProgress.{Along}
 use Rattle.input_lines.specs.Wholes.{IsReady}
 use Rattle.schedule_replay.specs.Worlds.{IsReached}
-use Rattle.schedule_run.specs.Progress.{Stands}
-use Rattle.schedule_run.specs.Runs.{world_runner}
+use Rattle.schedule_run.specs.ScheduleProgress.{Stands}
+use Rattle.schedule_run.specs.ScheduleRuns.{world_runner}
 use Rattle.schedule_run.proofs.run.run_lines.Given as goal
 use Rattle.fuxi_terms.specs.Limits.{most_lines}
 

@@ -1,6 +1,6 @@
 use Rattle.input_lines.proofs.OpenedRunsLemmas.{behind_line, no_line}
-use Rattle.schedule_run.specs.Runs.{world_ends, world_opener}
-use Rattle.schedule_run.proofs.RunsLemmas.{may_be_unread}
+use Rattle.schedule_run.specs.ScheduleRuns.{world_ends, world_opener}
+use Rattle.schedule_run.proofs.ScheduleRunsLemmas.{may_be_unread}
 use Rattle.schedule_run.proofs.run.run_schedule.Goals as goal
 
 pub returns-in-Ok-clause-ended : goal.returns-in-Ok-clause-ended

@@ -1,12 +1,12 @@
 use Rattle.std.proofs.Common.{sym, ap, subst}
 use Rattle.schedule_text.specs.Halting.{anywhere}
-use Rattle.schedule_text.specs.Reading.{event_of}
-use Rattle.schedule_replay.specs.Steps.{IsTaken, Stops, limit_of}
+use Rattle.schedule_text.specs.ReadEvents.{event_of}
+use Rattle.schedule_replay.specs.WorldSteps.{IsTaken, Stops, limit_of}
 use Rattle.written_world.specs.Events.{Event, world_step}
 use Rattle.input_lines.proofs.LineProgressLemmas.{bad_line}
-use Rattle.schedule_run.specs.Progress.{Stands}
-use Rattle.schedule_run.specs.Runs.{said_of, world_runner}
-use Rattle.schedule_run.proofs.ProgressLemmas.{stopped_at, took_line, took_part}
+use Rattle.schedule_run.specs.ScheduleProgress.{Stands}
+use Rattle.schedule_run.specs.ScheduleRuns.{said_of, world_runner}
+use Rattle.schedule_run.proofs.ScheduleProgressLemmas.{stopped_at, took_line, took_part}
 use Rattle.schedule_run.proofs.run.take_line.Goals as goal
 
 pub returns-in-Err-clause-takes : goal.returns-in-Err-clause-takes

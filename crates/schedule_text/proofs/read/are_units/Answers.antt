@@ -3,7 +3,7 @@ use Rattle.std.proofs.lemmas.Iterator.Search.{all_from_yields_List}
 use Rattle.std.proofs.lemmas.Iterator.Splits.{YieldsList-from_slice_split}
 use Rattle.std.specs.List.{list_all, slice_split}
 use Rattle.std.specs.Str.{bytes_eq}
-use Rattle.schedule_text.specs.Reading.{is_unit}
+use Rattle.schedule_text.specs.ReadEvents.{is_unit}
 use Rattle.schedule_text.proofs.Pieces.{split_mapped, all_mapped}
 use Rattle.schedule_text.proofs.read.are_units.Goals as goal
 

@@ -1,6 +1,6 @@
 use Rattle.std.proofs.Common.{◌≡◌, ℕ, List, map, take, Bor, ap, sym, ◌∙◌}
 use Rattle.std.proofs.lemmas.List.{take-map}
-use Rattle.schedule_text.specs.Reading.{counts_at, ask_at}
+use Rattle.schedule_text.specs.ReadEvents.{counts_at, ask_at}
 use Rattle.schedule_text.proofs.Walks.{fault_spreads, own_fault}
 use Rattle.schedule_text.proofs.read.ask_at.Goals as goal
 

@@ -3,7 +3,7 @@ use Rattle.std.proofs.lemmas.List.{length-map}
 use Rattle.std.proofs.lemmas.List.Sums.{sum_by-cons}
 use Rattle.std.specs.Str.{bytes_eq}
 use Rattle.std.specs.List.{sum_by}
-use Rattle.schedule_text.specs.Reading.{units_of, asks_at, is_unit}
+use Rattle.schedule_text.specs.ReadEvents.{units_of, asks_at, is_unit}
 use Rattle.schedule_text.proofs.Pieces.{parts_counted}
 use Rattle.schedule_text.proofs.Walks.{then_ok, behind_at, asks_step, asks_fault, first_passes}
 use Rattle.schedule_text.proofs.read.asks_at.Goals as goal

@@ -1,7 +1,7 @@
 use Rattle.std.proofs.Common.{◌≡◌, ℕ, ◌+◌, true, List, length, Ok, Bor, map, drop, ◌++◌}
 use Rattle.std.specs.List.{sum_by, list_all}
 use Rattle.fuxi_terms.specs.Counts.{then_do}
-use Rattle.schedule_text.specs.Reading.{units_of, asks_at, is_unit}
+use Rattle.schedule_text.specs.ReadEvents.{units_of, asks_at, is_unit}
 use Rattle.schedule_text.proofs.read.asks_at.Given as goal
 
 abbrev pub invariant-loop-unit : goal.invariant-loop-unit

@@ -1,9 +1,9 @@
 use Rattle.std.proofs.Common.{◌≡◌, ℕ, false, List, map, Bor, IfOk, IfErr, Result, Ok, Err, ap, sym, ◌∙◌, subst}
 use Rattle.schedule_text.specs.declared.event.Event.{Event}
 use Rattle.schedule_text.specs.declared.event.LineFault.{LineFault}
-use Rattle.schedule_text.specs.Forms.{Shape, halt_shape}
+use Rattle.schedule_text.specs.LineForms.{Shape, halt_shape}
 use Rattle.schedule_text.specs.Halting.{anywhere}
-use Rattle.schedule_text.specs.Reading.{begins, IsFault}
+use Rattle.schedule_text.specs.ReadEvents.{begins, IsFault}
 use Rattle.schedule_text.proofs.Halts.{line_begins}
 use Rattle.schedule_text.proofs.Walks.{fault_is}
 use Rattle.schedule_text.proofs.read.event_in.Goals as goal

@@ -1,6 +1,6 @@
 use Rattle.std.proofs.Common.{◌≡◌, ℕ, List, drop, map, Bor, ap, sym, ◌∙◌}
 use Rattle.std.proofs.lemmas.List.{drop-map}
-use Rattle.schedule_text.specs.Reading.{event_behind, halt_of}
+use Rattle.schedule_text.specs.ReadEvents.{event_behind, halt_of}
 use Rattle.schedule_text.proofs.Halts.{head_fault, stop_fault, halt_read}
 use Rattle.schedule_text.proofs.Walks.{fault_is, fault_spreads}
 use Rattle.schedule_text.proofs.read.halt_of.Goals as goal

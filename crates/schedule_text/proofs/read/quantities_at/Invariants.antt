@@ -1,6 +1,6 @@
 use Rattle.std.proofs.Common.{◌≡◌, ◌+◌, Ok, map, drop, ◌++◌}
 use Rattle.fuxi_terms.specs.Counts.{then_do}
-use Rattle.schedule_text.specs.Reading.{counts_at}
+use Rattle.schedule_text.specs.ReadEvents.{counts_at}
 use Rattle.schedule_text.proofs.read.quantities_at.Given as goal
 
 abbrev pub invariant-loop-index : goal.invariant-loop-index

@@ -1,5 +1,5 @@
 use Rattle.std.proofs.Common.{◌≡◌, true, sym, ◌∙◌}
-use Rattle.schedule_unit.specs.Numbers.{is_numeral}
+use Rattle.schedule_unit.specs.NumberWords.{is_numeral}
 use Rattle.schedule_unit.proofs.Decimals.{not_text, the_text, parsed}
 use Rattle.schedule_unit.proofs.number.read_number.Goals as goal
 

@@ -1,6 +1,6 @@
 use Rattle.std.proofs.Common.{subst, sym}
 use Rattle.storm_run.specs.Choices.{chosen_by}
-use Rattle.storm_run.specs.Runs.{Chooses}
+use Rattle.storm_run.specs.StormRuns.{Chooses}
 use Rattle.storm_run.proofs.choices.choose_by.Goals as goal
 
 pub returns-in-TurnAgent-clause-chooses : goal.returns-in-TurnAgent-clause-chooses

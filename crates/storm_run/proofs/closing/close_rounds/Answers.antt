@@ -1,6 +1,6 @@
 use Rattle.std.proofs.Common.{◌≡◌, Ok, subst, arith, rules}
 use Rattle.storm_run.specs.Storms.{round, rounds}
-use Rattle.storm_run.specs.Runs.{Runs}
+use Rattle.storm_run.specs.StormRuns.{Runs}
 use Rattle.storm_run.proofs.StormsLemmas.{ran_more, ran_short}
 use Rattle.storm_run.proofs.closing.close_rounds.Goals as goal
 

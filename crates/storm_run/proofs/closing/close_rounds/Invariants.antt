@@ -1,6 +1,6 @@
 use Rattle.std.proofs.Common.{◌+◌, ◌*◌, ◌≤◌, Ok}
 use Rattle.storm_run.specs.Storms.{rounds}
-use Rattle.storm_run.specs.Runs.{Runs}
+use Rattle.storm_run.specs.StormRuns.{Runs}
 use Rattle.storm_run.proofs.closing.close_rounds.Given as goal
 
 abbrev pub invariant-loop-turn : goal.invariant-loop-turn

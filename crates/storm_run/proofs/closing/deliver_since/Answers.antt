@@ -1,6 +1,6 @@
 use Rattle.std.proofs.Common.{◌≡◌, length, sym, subst, arith}
 use Rattle.schedule_replay.specs.Worlds.{StandsFor}
-use Rattle.storm_run.specs.Runs.{Ends}
+use Rattle.storm_run.specs.StormRuns.{Ends}
 use Rattle.storm_run.proofs.ChoicesLemmas.{none_since, some_since}
 use Rattle.storm_run.proofs.closing.deliver_since.Goals as goal
 

@@ -3,7 +3,7 @@ use Rattle.std.specs.List.{sum_by}
 use Rattle.fuxi_terms.specs.Jobs.{unit_count}
 use Rattle.fuxi_terms.specs.Lists.{below}
 use Rattle.fuxi_terms.specs.Tables.{held}
-use Rattle.written_join.specs.Seen.{master_seen}
+use Rattle.written_join.specs.SeenWorlds.{master_seen}
 use Rattle.storm_run.proofs.CountsLemmas.{granted_there}
 use Rattle.storm_run.proofs.counts.granted.Goals as goal
 

@@ -1,6 +1,6 @@
 use Rattle.std.proofs.Common.{subst}
 use Rattle.storm_run.specs.Storms.{taken}
-use Rattle.storm_run.specs.Runs.{Runs}
+use Rattle.storm_run.specs.StormRuns.{Runs}
 use Rattle.storm_run.proofs.opening.submit.Goals as goal
 
 pub returns-in-Ok-clause-runs : goal.returns-in-Ok-clause-runs

@@ -1,6 +1,6 @@
 use Rattle.std.proofs.Common.{◌≡◌, Ok, subst, arith, rules}
 use Rattle.storm_run.specs.Storms.{all_stepped, storm_at}
-use Rattle.storm_run.specs.Runs.{Steps}
+use Rattle.storm_run.specs.StormRuns.{Steps}
 use Rattle.storm_run.proofs.StormsLemmas.{steps_more, steps_short}
 use Rattle.storm_run.proofs.steps.step_all.Goals as goal
 

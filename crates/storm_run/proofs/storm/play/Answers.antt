@@ -2,7 +2,7 @@ use Rattle.std.proofs.Common.{Ok, Err, subst}
 use Rattle.schedule_replay.specs.Worlds.{IsWorld, StandsFor}
 use Rattle.written_world.specs.World.{empty_world}
 use Rattle.storm_run.specs.Storms.{all_stepped, storm_at}
-use Rattle.storm_run.specs.Runs.{Steps}
+use Rattle.storm_run.specs.StormRuns.{Steps}
 use Rattle.storm_run.proofs.StormsLemmas.{played, stopped_early, stopped_late}
 use Rattle.storm_run.proofs.storm.play.Goals as goal
 

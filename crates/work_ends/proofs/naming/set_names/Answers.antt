@@ -2,7 +2,7 @@ use Rattle.std.proofs.Common.{◌≡◌, ◌<◌, ◌^◌, [], true, false, nat_
 use Rattle.fuxi_terms.specs.Keys.{key_cmp}
 use Rattle.fuxi_terms.specs.Counts.{AreCounts, AreChanges}
 use Rattle.fuxi_terms.specs.Tallies.{TallyRecord, ChangeRecord}
-use Rattle.work_plan.specs.Plans.{greatest_named}
+use Rattle.work_plan.specs.PlanKeys.{greatest_named}
 use Rattle.fuxi_terms.specs.NumbersSet.{moves}
 use Rattle.work_ends.specs.Ends.{names_set, patched_names}
 use Rattle.work_ends.proofs.NamesLemmas.{names_are_set, no_moves, same_names, no_items, some_items}

@@ -1,4 +1,4 @@
-use Rattle.work_plan.proofs.PlansLemmas.{named_are_numbers}
+use Rattle.work_plan.proofs.PlanKeysLemmas.{named_are_numbers}
 use Rattle.work_plan.proofs.law.plans_name_once.Goals as goal
 
 pub returns : goal.returns

@@ -1,12 +1,12 @@
 use Rattle.std.proofs.Common.{rules, tests, ◌≡◌, ℕ, ◌<◌, ◌≤◌, Bool, true, false, not, nat_lt, List, length, take, drop, get_or, sym, ◌∙◌, ap, subst, arith, Bor}
 use Rattle.std.specs.List.Sorted.{IsNonDecreasingBy}
-use Rattle.work_plan.specs.Plans.{of_unit}
+use Rattle.work_plan.specs.PlanKeys.{of_unit}
 use Rattle.work_plan.specs.Crews.{AreNumbers}
 use Rattle.std.specs.Prelude.{leb, ltb}
 use Rattle.std.proofs.lemmas.Bool.Decides.{nat_tests}
 use Rattle.std.proofs.lemmas.List.Sorted.{IsPartitionPoint-from_clause, IsPartitionedBy-ltb, IsPartitionedBy-leb, IsNonDecreasingBy-drop}
 use Rattle.fuxi_terms.specs.declared.Key.{Key}
-use Rattle.work_plan.proofs.PlansLemmas.{unit_part, plan_rises, named_are_numbers, none_beyond, all_named}
+use Rattle.work_plan.proofs.PlanKeysLemmas.{unit_part, plan_rises, named_are_numbers, none_beyond, all_named}
 use Rattle.work_plan.proofs.plan.of_unit.Goals as goal
 
 abbrev unit_is : Key × ℕ → ℕ

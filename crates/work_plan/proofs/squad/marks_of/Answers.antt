@@ -1,6 +1,6 @@
 use Rattle.std.proofs.Common.{◌≡◌, ℕ, ◌<◌, take, get_or, refl, sym, ◌∙◌, ap, subst, length-set}
 use Rattle.fuxi_terms.specs.declared.Key.{Key}
-use Rattle.work_plan.specs.Plans.{most_workers}
+use Rattle.work_plan.specs.PlanKeys.{most_workers}
 use Rattle.work_plan.specs.Crews.{Marks}
 use Rattle.work_plan.proofs.CrewsLemmas.{mapped_get, marked_more, front_more, unmarked}
 use Rattle.work_plan.proofs.squad.marks_of.Goals as goal

@@ -2,7 +2,7 @@ use Rattle.std.proofs.Common.{◌≡◌, ◌≢◌, ℕ, ◌+◌, ◌-◌, ◌<�
 use Rattle.fuxi_terms.specs.declared.Key.{Key}
 use Rattle.fuxi_terms.specs.Numbers.{has_number}
 use Rattle.slot_pool.specs.Pools.{value_at}
-use Rattle.work_plan.specs.Plans.{most_workers}
+use Rattle.work_plan.specs.PlanKeys.{most_workers}
 use Rattle.work_plan.specs.RunAfter.{missing}
 use Rattle.work_plan.specs.Crews.{workers_of, numbers_of, AreNumbers, Marks, Starts, IsSquad}
 use Rattle.work_plan.specs.declared.squad.Member.{Member}

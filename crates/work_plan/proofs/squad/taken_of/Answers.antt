@@ -1,5 +1,5 @@
 use Rattle.std.proofs.Common.{◌≡◌, ℕ, ◌<◌, take, get_or, refl, sym, ◌∙◌, ap, subst, length-set}
-use Rattle.work_plan.specs.Plans.{most_workers}
+use Rattle.work_plan.specs.PlanKeys.{most_workers}
 use Rattle.work_plan.specs.Crews.{Marks}
 use Rattle.work_plan.specs.declared.squad.Member.{Member}
 use Rattle.work_plan.proofs.CrewsLemmas.{mapped_get, marked_more, front_more, unmarked}

@@ -1,4 +1,4 @@
-use Rattle.work_run.proofs.StatesLemmas.{all_planned}
+use Rattle.work_run.proofs.WorkRunStatesLemmas.{all_planned}
 use Rattle.work_run.proofs.laws.runs_go_as_planned.Goals as goal
 
 pub returns : goal.returns

@@ -1,7 +1,7 @@
 use Rattle.std.proofs.Common.{refl}
-use Rattle.written_work.specs.World.{empty_world}
+use Rattle.written_work.specs.AgentWithApps.{empty_world}
 use Rattle.input_lines.proofs.LineProgressLemmas.{nothing_read}
-use Rattle.work_run.specs.Runs.{run_from, work_ends}
+use Rattle.work_run.specs.WorkLineRuns.{run_from, work_ends}
 use Rattle.work_run.proofs.run.run_begun.Goals as goal
 
 pub returns-in-Err-clause-ended : goal.returns-in-Err-clause-ended

@@ -4,10 +4,10 @@ use Rattle.fuxi_terms.specs.Limits.{most_lines}
 use Rattle.input_lines.specs.Contents.{content}
 use Rattle.input_lines.proofs.Known.{line_said, running_alone}
 use Rattle.input_lines.proofs.LineProgressLemmas.{start_fresh, step_along, end_along, last_along, stop_along, line_along}
-use Rattle.written_work.specs.World.{empty_world}
-use Rattle.work_world.specs.Worlds.{Stands}
-use Rattle.work_run.specs.Runs.{work_ends, work_runner}
-use Rattle.work_run.proofs.ProgressLemmas.{ends_with_state}
+use Rattle.written_work.specs.AgentWithApps.{empty_world}
+use Rattle.work_world.specs.WorkWorlds.{Stands}
+use Rattle.work_run.specs.WorkLineRuns.{work_ends, work_runner}
+use Rattle.work_run.proofs.WorkProgressLemmas.{ends_with_state}
 use Rattle.work_run.proofs.run.run_lines.Goals as goal
 
 pub loop-turn-init : goal.loop-turn-init

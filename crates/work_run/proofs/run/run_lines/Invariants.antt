@@ -2,9 +2,9 @@ use Rattle.std.proofs.Common.{◌≡◌, ◌≤◌, true, None, IfSome}
 use Rattle.fuxi_io.specs.Reading.{rest_of}
 use Rattle.fuxi_terms.specs.Limits.{most_lines}
 use Rattle.input_lines.specs.LineProgress.{Along}
-use Rattle.work_world.specs.Worlds.{IsReached, Stands}
-use Rattle.written_work.specs.World.{empty_world}
-use Rattle.work_run.specs.Runs.{work_runner}
+use Rattle.work_world.specs.WorkWorlds.{IsReached, Stands}
+use Rattle.written_work.specs.AgentWithApps.{empty_world}
+use Rattle.work_run.specs.WorkLineRuns.{work_runner}
 use Rattle.work_run.proofs.run.run_lines.Given as goal
 
 abbrev pub invariant-loop-turn : goal.invariant-loop-turn

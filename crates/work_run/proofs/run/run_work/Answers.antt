@@ -1,7 +1,7 @@
 use Rattle.std.proofs.Common.{IfSome, subst}
-use Rattle.written_work.specs.World.{empty_world}
+use Rattle.written_work.specs.AgentWithApps.{empty_world}
 use Rattle.input_lines.proofs.LineProgressLemmas.{ends_done}
-use Rattle.work_run.specs.Runs.{Ended, run_from, work_ends}
+use Rattle.work_run.specs.WorkLineRuns.{Ended, run_from, work_ends}
 use Rattle.work_run.proofs.run.run_work.Goals as goal
 
 pub returns-clause-complete : goal.returns-clause-complete

@@ -1,10 +1,10 @@
 use Rattle.std.proofs.Common.{sym, ap, subst}
 use Rattle.input_lines.proofs.LineProgressLemmas.{bad_line}
-use Rattle.work_text.specs.Reading.{work_of}
-use Rattle.work_world.specs.Steps.{Takes}
-use Rattle.work_world.specs.Worlds.{Stands}
-use Rattle.work_run.specs.Runs.{said_of, work_runner}
-use Rattle.work_run.proofs.ProgressLemmas.{stopped_at, took_line, took_part}
+use Rattle.work_text.specs.ReadWorkEvents.{work_of}
+use Rattle.work_world.specs.WorkSteps.{Takes}
+use Rattle.work_world.specs.WorkWorlds.{Stands}
+use Rattle.work_run.specs.WorkLineRuns.{said_of, work_runner}
+use Rattle.work_run.proofs.WorkProgressLemmas.{stopped_at, took_line, took_part}
 use Rattle.work_run.proofs.run.take_line.Goals as goal
 
 pub returns-in-Err-clause-takes : goal.returns-in-Err-clause-takes

@@ -1,7 +1,7 @@
 use Rattle.std.proofs.Common.{sym, subst, OnOk}
-use Rattle.written_work.specs.Events.{act}
+use Rattle.written_work.specs.WorkEvents.{act}
 use Rattle.written_work.specs.declared.event.WorkEvent.{WorkEvent}
-use Rattle.work_world.specs.Steps.{Acts}
+use Rattle.work_world.specs.WorkSteps.{Acts}
 use Rattle.work_world.proofs.StartsAndPlans.{stopped_well}
 use Rattle.work_world.proofs.acts.act.Goals as goal
 

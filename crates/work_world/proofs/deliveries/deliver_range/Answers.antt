@@ -1,7 +1,7 @@
 use Rattle.std.proofs.Common.{◌≡◌, ◌+◌, ◌-◌, true, false, nat_lt, length, sym, ◌∙◌, ap, subst, arith}
-use Rattle.written_work.specs.Events.{Step, deliveries, refused}
-use Rattle.written_work.specs.Lines.{NoPacket}
-use Rattle.work_world.specs.Steps.{StepsTo}
+use Rattle.written_work.specs.WorkEvents.{Step, deliveries, refused}
+use Rattle.written_work.specs.WorkLines.{NoPacket}
+use Rattle.work_world.specs.WorkSteps.{StepsTo}
 use Rattle.work_world.proofs.RangesDelivered.{enough, range_begins, range_ends, range_goes}
 use Rattle.work_world.proofs.deliveries.deliver_range.Goals as goal
 

@@ -1,7 +1,7 @@
 use Rattle.std.proofs.Common.{◌≡◌}
-use Rattle.written_work.specs.World.{World}
-use Rattle.work_world.specs.Moves.{Delivers}
-use Rattle.work_world.specs.Worlds.{IsKept, Stands}
+use Rattle.written_work.specs.AgentWithApps.{World}
+use Rattle.work_world.specs.WorkMoves.{Delivers}
+use Rattle.work_world.specs.WorkWorlds.{IsKept, Stands}
 use Rattle.work_world.proofs.deliveries.deliver_range.Given as goal
 
 abbrev pub invariant-loop-number : goal.invariant-loop-number

@@ -3,7 +3,7 @@ use Rattle.std.proofs.lemmas.List.{get_or-set_same, get_or-set_other}
 use Rattle.std.specs.Option.{is_some}
 use Rattle.written_net.specs.Net.{Party}
 use Rattle.work_ends.specs.Ends.{packet_of}
-use Rattle.written_work.specs.World.{agent_id, app_link, app_party}
+use Rattle.written_work.specs.AgentWithApps.{agent_id, app_link, app_party}
 use Rattle.work_world.proofs.PacketDelivered.{app_heard, app_is, app_lost}
 use Rattle.work_world.proofs.HistoriesGrow.{at_there, not_there, packet_from, packet_to, within}
 use Rattle.work_world.proofs.deliveries.hear_at_app.Goals as goal

@@ -3,7 +3,7 @@ use Rattle.std.proofs.lemmas.Result.{IfOk-weaker}
 use Rattle.schedule_unit.specs.declared.party.Role.{Role}
 use Rattle.work_ends.specs.Ends.{packet_of}
 use Rattle.written_net.specs.Net.{Party}
-use Rattle.work_world.specs.Worlds.{Between}
+use Rattle.work_world.specs.WorkWorlds.{Between}
 use Rattle.work_world.proofs.PacketDelivered.{agent_stays, apps_stay}
 use Rattle.work_world.proofs.HistoriesGrow.{packet_to}
 use Rattle.work_world.proofs.deliveries.hear_one.Goals as goal

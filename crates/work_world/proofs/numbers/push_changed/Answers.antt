@@ -1,5 +1,5 @@
 use Rattle.std.proofs.Common.{◌++◌, ◌∷◌, [], None, Some, refl, sym, ◌∙◌, ap, arith, append-nil, append_assoc}
-use Rattle.work_world.specs.Numbers.{changed, name_of}
+use Rattle.work_world.specs.NameChanges.{changed, name_of}
 use Rattle.work_world.proofs.NamesThatChange.{changed_more, none_changed}
 use Rattle.work_world.proofs.numbers.push_changed.Goals as goal
 

@@ -1,5 +1,5 @@
 use Rattle.std.proofs.Common.{◌≡◌, ◌++◌}
-use Rattle.work_world.specs.Numbers.{changed}
+use Rattle.work_world.specs.NameChanges.{changed}
 use Rattle.work_world.proofs.numbers.push_changed.Given as goal
 
 abbrev pub invariant-loop-number : goal.invariant-loop-number

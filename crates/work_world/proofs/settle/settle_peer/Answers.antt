@@ -3,7 +3,7 @@ use Rattle.fuxi_terms.specs.Counts.{AreCounts}
 use Rattle.fuxi_terms.specs.Keys.{key_cmp}
 use Rattle.fuxi_terms.specs.Tallies.{TallyRecord}
 use Rattle.work_ends.specs.Ends.{Sets, names_set}
-use Rattle.work_plan.specs.Plans.{greatest_named}
+use Rattle.work_plan.specs.PlanKeys.{greatest_named}
 use Rattle.work_world.specs.Settles.{SettlesUnits}
 use Rattle.work_world.proofs.SettlesLemmas.{peer_is_settled}
 use Rattle.work_world.proofs.settle.settle_peer.Goals as goal

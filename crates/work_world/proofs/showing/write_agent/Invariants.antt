@@ -1,10 +1,10 @@
 use Rattle.std.proofs.Common.{◌≡◌, ◌++◌, ◌∷◌}
 use Rattle.std.specs.List.{flat_map}
 use Rattle.fuxi_terms.specs.Lists.{below}
-use Rattle.written_work.specs.Events.{agent_app_lines}
-use Rattle.written_work.specs.Lines.{AgentIs, lines_text}
-use Rattle.written_work.specs.World.{World}
-use Rattle.work_world.specs.Worlds.{AppsAt, IsAgent}
+use Rattle.written_work.specs.WorkEvents.{agent_app_lines}
+use Rattle.written_work.specs.WorkLines.{AgentIs, lines_text}
+use Rattle.written_work.specs.AgentWithApps.{World}
+use Rattle.work_world.specs.WorkWorlds.{AppsAt, IsAgent}
 use Rattle.work_world.proofs.showing.write_agent.Given as goal
 
 abbrev pub invariant-loop-number : goal.invariant-loop-number

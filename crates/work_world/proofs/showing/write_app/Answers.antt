@@ -2,7 +2,7 @@ use Rattle.std.proofs.Common.{◌++◌, ℕ, sym, ◌∙◌, ap, map}
 use Rattle.std.proofs.lemmas.Result.{on_ok_weaker}
 use Rattle.fuxi_terms.specs.declared.Key.{Key}
 use Rattle.fuxi_terms.specs.Tallies.{TallyRecord}
-use Rattle.written_work.specs.Lines.{AppIs, Seen, line_text, lines_text}
+use Rattle.written_work.specs.WorkLines.{AppIs, Seen, line_text, lines_text}
 use Rattle.work_world.proofs.StateLines.{app_shown}
 use Rattle.work_world.proofs.showing.write_app.Goals as goal
 

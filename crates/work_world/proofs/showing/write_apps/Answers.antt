@@ -2,9 +2,9 @@ use Rattle.std.proofs.Common.{◌≡◌, ◌++◌, None, Some, get_or, sym, ◌�
 use Rattle.std.specs.List.{flat_map}
 use Rattle.fuxi_terms.specs.Limits.{most_jobs}
 use Rattle.fuxi_terms.specs.Lists.{below}
-use Rattle.written_work.specs.Events.{app_lines}
-use Rattle.written_work.specs.Lines.{lines_text}
-use Rattle.written_work.specs.World.{all_apps}
+use Rattle.written_work.specs.WorkEvents.{app_lines}
+use Rattle.written_work.specs.WorkLines.{lines_text}
+use Rattle.written_work.specs.AgentWithApps.{all_apps}
 use Rattle.work_world.proofs.PacketDelivered.{app_is}
 use Rattle.work_world.proofs.HistoriesGrow.{at_there, not_there}
 use Rattle.work_world.proofs.StateLines.{no_app, no_app_lines, text_none}

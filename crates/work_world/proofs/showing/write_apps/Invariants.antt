@@ -1,10 +1,10 @@
 use Rattle.std.proofs.Common.{◌≡◌, ◌++◌}
 use Rattle.std.specs.List.{flat_map}
 use Rattle.fuxi_terms.specs.Lists.{below}
-use Rattle.written_work.specs.Events.{app_lines}
-use Rattle.written_work.specs.Lines.{lines_text}
-use Rattle.written_work.specs.World.{World}
-use Rattle.work_world.specs.Worlds.{AppsAt}
+use Rattle.written_work.specs.WorkEvents.{app_lines}
+use Rattle.written_work.specs.WorkLines.{lines_text}
+use Rattle.written_work.specs.AgentWithApps.{World}
+use Rattle.work_world.specs.WorkWorlds.{AppsAt}
 use Rattle.work_world.proofs.showing.write_apps.Given as goal
 
 abbrev pub invariant-loop-number : goal.invariant-loop-number

@@ -1,7 +1,7 @@
 use Rattle.std.proofs.Common.{◌≡◌, ◌++◌, None, Some, get_or, sym, ◌∙◌, ap, map}
 use Rattle.std.specs.Option.{is_some}
 use Rattle.std.proofs.lemmas.Result.{on_ok_weaker}
-use Rattle.written_work.specs.Lines.{PlanAt, line_text}
+use Rattle.written_work.specs.WorkLines.{PlanAt, line_text}
 use Rattle.work_world.proofs.HistoriesGrow.{at_there, not_there}
 use Rattle.work_world.proofs.StateLines.{no_peer_shown, peer_shown}
 use Rattle.work_world.proofs.showing.write_peer.Goals as goal

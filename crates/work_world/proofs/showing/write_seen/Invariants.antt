@@ -1,5 +1,5 @@
 use Rattle.std.proofs.Common.{◌≡◌, ◌++◌, map, take}
-use Rattle.written_work.specs.Lines.{Seen, lines_text}
+use Rattle.written_work.specs.WorkLines.{Seen, lines_text}
 use Rattle.work_world.proofs.showing.write_seen.Given as goal
 
 abbrev pub invariant-loop-key : goal.invariant-loop-key

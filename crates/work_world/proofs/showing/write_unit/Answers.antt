@@ -1,6 +1,6 @@
 use Rattle.std.proofs.Common.{◌≡◌, ◌++◌, ◌∙◌, ap, sym, subst, arith}
 use Rattle.work_plan.specs.Crews.{runs_at}
-use Rattle.written_work.specs.Lines.{Works, line_text}
+use Rattle.written_work.specs.WorkLines.{Works, line_text}
 use Rattle.work_world.proofs.Texts.{text_item}
 use Rattle.work_world.proofs.showing.write_unit.Goals as goal
 

@@ -1,6 +1,6 @@
 use Rattle.std.proofs.Common.{◌≡◌, ◌++◌, map, take}
 use Rattle.work_plan.specs.Crews.{runs_at}
-use Rattle.written_work.specs.Lines.{Works, lines_text}
+use Rattle.written_work.specs.WorkLines.{Works, lines_text}
 use Rattle.work_world.proofs.showing.write_unit.Given as goal
 
 abbrev pub invariant-loop-index : goal.invariant-loop-index

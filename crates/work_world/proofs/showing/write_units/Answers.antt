@@ -3,8 +3,8 @@ use Rattle.std.specs.List.{flat_map}
 use Rattle.fuxi_terms.specs.Limits.{most_units}
 use Rattle.fuxi_terms.specs.Lists.{below}
 use Rattle.work_plan.specs.Crews.{runs_at}
-use Rattle.written_work.specs.Lines.{Works, lines_text}
-use Rattle.written_work.specs.World.{all_units}
+use Rattle.written_work.specs.WorkLines.{Works, lines_text}
+use Rattle.written_work.specs.AgentWithApps.{all_units}
 use Rattle.work_world.proofs.Texts.{text_more}
 use Rattle.work_world.proofs.showing.write_units.Goals as goal
 

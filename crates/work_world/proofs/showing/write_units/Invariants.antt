@@ -2,7 +2,7 @@ use Rattle.std.proofs.Common.{◌≡◌, ◌++◌, map}
 use Rattle.std.specs.List.{flat_map}
 use Rattle.fuxi_terms.specs.Lists.{below}
 use Rattle.work_plan.specs.Crews.{runs_at}
-use Rattle.written_work.specs.Lines.{Works, lines_text}
+use Rattle.written_work.specs.WorkLines.{Works, lines_text}
 use Rattle.work_world.proofs.showing.write_units.Given as goal
 
 abbrev pub invariant-loop-unit : goal.invariant-loop-unit

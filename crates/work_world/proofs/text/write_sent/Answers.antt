@@ -1,6 +1,6 @@
 use Rattle.std.proofs.Common.{◌≡◌, ◌+◌, ◌++◌, get_or, sym, ◌∙◌, ap}
 use Rattle.work_ends.specs.Ends.{packet_of}
-use Rattle.written_work.specs.Lines.{Line, Sent, line_text}
+use Rattle.written_work.specs.WorkLines.{Line, Sent, line_text}
 use Rattle.work_world.proofs.PacketsStandBehind.{sent_more}
 use Rattle.work_world.proofs.text.write_sent.Goals as goal
 

@@ -1,7 +1,7 @@
 use Rattle.std.proofs.Common.{◌≡◌, ◌+◌, ◌++◌, drop, map}
 use Rattle.work_ends.specs.Ends.{packet_of}
-use Rattle.written_work.specs.Events.{numbered}
-use Rattle.written_work.specs.Lines.{lines_text}
+use Rattle.written_work.specs.WorkEvents.{numbered}
+use Rattle.written_work.specs.WorkLines.{lines_text}
 use Rattle.work_world.proofs.text.write_sent.Given as goal
 
 abbrev pub invariant-loop-index : goal.invariant-loop-index

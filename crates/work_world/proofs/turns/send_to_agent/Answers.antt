@@ -2,7 +2,7 @@ use Rattle.std.proofs.Common.{◌≡◌, false, nat_eq, refl, sym, ◌∙◌, ap
 use Rattle.std.proofs.lemmas.Bool.Decides.{nat_tests}
 use Rattle.std.proofs.lemmas.Result.{on_ok_weaker}
 use Rattle.delta_channel.specs.declared.receiver.Place.{Place}
-use Rattle.written_work.specs.World.{agent_id, app_id, app_link, app_party}
+use Rattle.written_work.specs.AgentWithApps.{agent_id, app_id, app_link, app_party}
 use Rattle.work_world.proofs.HistoriesGrow.{on_ok_both}
 use Rattle.work_world.proofs.PacketsStandBehind.{app_sends, app_silent, end_sends}
 use Rattle.work_world.proofs.turns.send_to_agent.Goals as goal

@@ -2,9 +2,9 @@ use Rattle.std.proofs.Common.{nat_eq, List, [], true, false}
 use Rattle.std.specs.List.{flat_map}
 use Rattle.fuxi_terms.specs.Lists.{below}
 use Rattle.written_net.specs.Net.{Packet, turn}
-use Rattle.written_work.specs.World.{World, agent_party, app_id}
-use Rattle.work_world.specs.Moves.{Sends}
-use Rattle.work_world.specs.Worlds.{AppsAt, IsAgent, IsHeld}
+use Rattle.written_work.specs.AgentWithApps.{World, agent_party, app_id}
+use Rattle.work_world.specs.WorkMoves.{Sends}
+use Rattle.work_world.specs.WorkWorlds.{AppsAt, IsAgent, IsHeld}
 use Rattle.work_world.proofs.turns.send_to_all.Given as goal
 
 abbrev pub invariant-loop-number : goal.invariant-loop-number

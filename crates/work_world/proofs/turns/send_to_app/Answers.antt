@@ -1,7 +1,7 @@
 use Rattle.std.proofs.Common.{◌≡◌, None, Some, get_or, refl, sym, ◌∙◌, ap, subst}
 use Rattle.std.proofs.lemmas.Result.{on_ok_weaker}
 use Rattle.delta_channel.specs.declared.receiver.Place.{Place}
-use Rattle.written_work.specs.World.{agent_id, agent_link, agent_party, app_id}
+use Rattle.written_work.specs.AgentWithApps.{agent_id, agent_link, agent_party, app_id}
 use Rattle.work_world.proofs.HistoriesGrow.{at_there, on_ok_both}
 use Rattle.work_world.proofs.PacketsStandBehind.{end_sends, peer_is}
 use Rattle.work_world.proofs.turns.send_to_app.Goals as goal

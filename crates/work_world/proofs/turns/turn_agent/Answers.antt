@@ -1,11 +1,11 @@
 use Rattle.std.proofs.Common.{◌≡◌, ◌≤◌, List, Some, length, refl, sym, ◌∙◌, ap, subst, arith}
 use Rattle.std.proofs.lemmas.Result.{IfErr-weaker, on_ok_weaker}
 use Rattle.work_ends.specs.declared.ends.Parcel.{Parcel}
-use Rattle.written_work.specs.Events.{act}
+use Rattle.written_work.specs.WorkEvents.{act}
 use Rattle.written_work.specs.declared.event.WorkEvent.TheVariants.{TurnAgent}
-use Rattle.written_work.specs.World.{World}
-use Rattle.work_world.specs.Steps.{Exceeds, Finishes}
-use Rattle.work_world.specs.Worlds.{AgentAt, AppsAt, IsAgent}
+use Rattle.written_work.specs.AgentWithApps.{World}
+use Rattle.work_world.specs.WorkSteps.{Exceeds, Finishes}
+use Rattle.work_world.specs.WorkWorlds.{AgentAt, AppsAt, IsAgent}
 use Rattle.work_world.proofs.PacketsStandBehind.{agent_exceeds, agent_turned, kept_within, stops_as}
 use Rattle.work_world.proofs.turns.turn_agent.Goals as goal
 

@@ -2,9 +2,9 @@ use Rattle.std.proofs.Common.{◌≡◌, ◌≤◌, List, None, Some, get_or, le
 use Rattle.std.specs.Option.{is_some}
 use Rattle.std.proofs.lemmas.Result.{IfErr-weaker, on_ok_weaker}
 use Rattle.work_ends.specs.declared.ends.Parcel.{Parcel}
-use Rattle.written_work.specs.Events.{act}
+use Rattle.written_work.specs.WorkEvents.{act}
 use Rattle.written_work.specs.declared.event.WorkEvent.TheVariants.{TurnApp}
-use Rattle.work_world.specs.Steps.{Exceeds, Finishes}
+use Rattle.work_world.specs.WorkSteps.{Exceeds, Finishes}
 use Rattle.work_world.proofs.PacketDelivered.{app_is}
 use Rattle.work_world.proofs.HistoriesGrow.{at_there}
 use Rattle.work_world.proofs.PacketsStandBehind.{app_exceeds, app_turned, kept_within, stops_as}

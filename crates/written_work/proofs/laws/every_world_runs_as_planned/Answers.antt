@@ -2,13 +2,13 @@ use Rattle.std.proofs.Common.{◌≡◌, ℕ, Bool, true, false, [], nat_eq, nat
 use Rattle.fuxi_terms.specs.Tallies.{TallyRecord, empty_tally}
 use Rattle.written_net.specs.Net.{Link, at_index}
 use Rattle.work_plan.specs.Crews.{Distinct}
-use Rattle.work_plan.specs.Plans.{named}
+use Rattle.work_plan.specs.PlanKeys.{named}
 use Rattle.work_plan.specs.RunAfter.{run_after}
-use Rattle.written_work.specs.World.{World, agent_id, app_id, agent_party, present}
-use Rattle.written_work.specs.Events.{Step, done, refused, app_starts, counted}
-use Rattle.written_work.specs.Lines.{NotRising}
-use Rattle.written_work.specs.Settling.{settled_all, in_force}
-use Rattle.written_work.proofs.StatesLemmas.{IsNames, IsState, reached_state}
+use Rattle.written_work.specs.AgentWithApps.{World, agent_id, app_id, agent_party, present}
+use Rattle.written_work.specs.WorkEvents.{Step, done, refused, app_starts, counted}
+use Rattle.written_work.specs.WorkLines.{NotRising}
+use Rattle.written_work.specs.WorkSettling.{settled_all, in_force}
+use Rattle.written_work.proofs.WorkStatesLemmas.{IsNames, IsState, reached_state}
 use Rattle.written_work.proofs.RunAfterLemmas.{runs_on}
 use Rattle.written_work.proofs.laws.every_world_runs_as_planned.Goals as goal
 

@@ -4,7 +4,7 @@ use Rattle.std.proofs.lemmas.Bool.Decides.{nat_tests}
 use Rattle.written_net.specs.Net.{same_id}
 use Rattle.written_net.specs.Channels.{agent_id, is_master}
 use Rattle.core_side.specs.Parcels.{packet_of}
-use Rattle.agent_core.specs.Standing.{AgentCore, StandsFor}
+use Rattle.agent_core.specs.AgentCores.{AgentCore, StandsFor}
 use Rattle.agent_core.proofs.Answered.{known_answers, new_answers}
 use Rattle.agent_core.proofs.agent.Agent.on_packet.Goals as goal
 

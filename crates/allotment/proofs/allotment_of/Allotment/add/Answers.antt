@@ -5,7 +5,7 @@ use Rattle.fuxi_terms.specs.Cluster.{has_at}
 use Rattle.fuxi_terms.specs.Jobs.{size_at}
 use Rattle.fuxi_terms.specs.Keys.{spot_cmp}
 use Rattle.fuxi_terms.specs.Tables.{total_at}
-use Rattle.grant_table.specs.Tables.{TableRecord, as_known, with_count}
+use Rattle.grant_table.specs.GrantTables.{TableRecord, as_known, with_count}
 use Rattle.place_pass.specs.Best.{spot_of}
 use Rattle.allotment.specs.Allotted.{AllotmentRecord, Adds, told_at}
 use Rattle.allotment.proofs.AddsLemmas.{adds_told}

@@ -4,7 +4,7 @@ use Rattle.fuxi_terms.specs.Tables.{held}
 use Rattle.fuxi_terms.specs.TallyKeys.{want_key}
 use Rattle.written_roles.specs.HardState.{with_job}
 use Rattle.written_roles.specs.Placing.{has_pair}
-use Rattle.grant_table.specs.Tables.{TableRecord, as_known}
+use Rattle.grant_table.specs.GrantTables.{TableRecord, as_known}
 use Rattle.place_pass.specs.Placers.{SeenRecord}
 use Rattle.allotment.specs.PlacingReads.{IsPlacing}
 use Rattle.allotment.specs.Allotted.{AllotmentRecord, AllWait}

@@ -1,6 +1,6 @@
 use Rattle.std.proofs.Common.{List, ◌≡◌, ◌∙◌, ap, subst}
 use Rattle.written_roles.specs.Placing.{line_up}
-use Rattle.grant_table.specs.Tables.{TableRecord}
+use Rattle.grant_table.specs.GrantTables.{TableRecord}
 use Rattle.allotment.specs.Allotted.{Allots, rows_put}
 use Rattle.allotment.proofs.ClearsLemmas.{touched_still}
 use Rattle.allotment.proofs.allotment_of.Allotment.adopt.Goals as goal

@@ -7,7 +7,7 @@ use Rattle.fuxi_terms.specs.Limits.{greatest_count}
 use Rattle.fuxi_terms.specs.Tables.{total_at, with_grant}
 use Rattle.written_roles.specs.Masters.{Master}
 use Rattle.written_roles.specs.Placing.{line_up}
-use Rattle.grant_table.specs.Tables.{TableRecord, as_known}
+use Rattle.grant_table.specs.GrantTables.{TableRecord, as_known}
 use Rattle.place_pass.specs.Best.{spot_of}
 use Rattle.preempt.specs.Plans.{without_victims}
 use Rattle.allotment.specs.Allotted.{AllotmentRecord, Allots}

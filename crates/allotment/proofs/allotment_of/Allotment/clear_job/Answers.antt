@@ -2,7 +2,7 @@ use Rattle.std.proofs.Common.{◌≡◌, nat_eq, nat_lt, List, length, ap, subst
 use Rattle.std.specs.Prelude.{◌&&◌}
 use Rattle.fuxi_terms.specs.Cluster.{ClusterRecord, JobRecord}
 use Rattle.fuxi_terms.specs.Jobs.{unit_count}
-use Rattle.grant_table.specs.Tables.{TableRecord, IsSound, as_known}
+use Rattle.grant_table.specs.GrantTables.{TableRecord, IsSound, as_known}
 use Rattle.allotment.specs.Allotted.{AllotmentRecord, Clears}
 use Rattle.allotment.proofs.ClearsLemmas.{cleared_as, cleared_both, cleared_none}
 use Rattle.allotment.proofs.Cleared.{LeftWithout, is_admitted, machine_more, none_on, job_left}

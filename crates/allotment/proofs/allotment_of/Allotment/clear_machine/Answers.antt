@@ -2,7 +2,7 @@ use Rattle.std.proofs.Common.{◌≡◌, nat_eq, nat_lt, List, ap, subst, arith}
 use Rattle.std.specs.Prelude.{◌&&◌}
 use Rattle.fuxi_terms.specs.Cluster.{JobRecord}
 use Rattle.fuxi_terms.specs.Jobs.{unit_count}
-use Rattle.grant_table.specs.Tables.{TableRecord, IsSound, as_known}
+use Rattle.grant_table.specs.GrantTables.{TableRecord, IsSound, as_known}
 use Rattle.allotment.specs.Allotted.{AllotmentRecord, Clears}
 use Rattle.allotment.proofs.ClearsLemmas.{cleared_as, cleared_both}
 use Rattle.allotment.proofs.Cleared.{LeftWithout, is_admitted, job_more, machine_left}

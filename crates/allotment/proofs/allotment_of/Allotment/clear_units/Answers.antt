@@ -1,7 +1,7 @@
 use Rattle.std.proofs.Common.{◌≡◌, nat_eq, nat_lt, ap, subst, arith}
 use Rattle.std.specs.Prelude.{◌&&◌}
 use Rattle.fuxi_terms.specs.Jobs.{unit_count}
-use Rattle.grant_table.specs.Tables.{as_known}
+use Rattle.grant_table.specs.GrantTables.{as_known}
 use Rattle.allotment.specs.Allotted.{AllotmentRecord, Clears}
 use Rattle.allotment.proofs.ClearsLemmas.{cleared_as, cleared_both, unit_more, table_units_few}
 use Rattle.allotment.proofs.allotment_of.Allotment.clear_units.Goals as goal

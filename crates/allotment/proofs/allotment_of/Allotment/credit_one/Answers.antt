@@ -2,7 +2,7 @@ use Rattle.std.proofs.Common.{◌≡◌, ◌-◌, min, ◌<◌, length, ◌∙�
 use Rattle.fuxi_terms.specs.Cluster.{ClusterRecord}
 use Rattle.fuxi_terms.specs.Jobs.{unit_count}
 use Rattle.fuxi_terms.specs.Tables.{held_on}
-use Rattle.grant_table.specs.Tables.{as_known}
+use Rattle.grant_table.specs.GrantTables.{as_known}
 use Rattle.allotment.specs.Allotted.{AllotmentRecord}
 use Rattle.allotment.proofs.ClearsLemmas.{if_ok_four}
 use Rattle.allotment.proofs.CreditsBackLemmas.{credits_passed, credits_taken}

@@ -2,7 +2,7 @@ use Rattle.std.proofs.Common.{◌≡◌, nat_eq, nat_lt, ◌∙◌, ap, subst, a
 use Rattle.std.specs.Prelude.{◌&&◌}
 use Rattle.fuxi_terms.specs.Jobs.{unit_count}
 use Rattle.fuxi_terms.specs.Tables.{held_on}
-use Rattle.grant_table.specs.Tables.{as_known}
+use Rattle.grant_table.specs.GrantTables.{as_known}
 use Rattle.allotment.specs.Allotted.{AllotmentRecord, Clears}
 use Rattle.allotment.proofs.ClearsLemmas.{cleared_already, cleared_as, cleared_both, unit_more, table_units_few}
 use Rattle.allotment.proofs.allotment_of.Allotment.holds_any.Goals as goal

@@ -1,6 +1,6 @@
 use Rattle.std.proofs.Common.{◌≡◌, subst}
 use Rattle.fuxi_terms.specs.Jobs.{unit_count}
-use Rattle.grant_table.specs.Tables.{as_known}
+use Rattle.grant_table.specs.GrantTables.{as_known}
 use Rattle.place_pass.specs.Placers.{units_seen}
 use Rattle.allotment.specs.Allotted.{AllotmentRecord}
 use Rattle.allotment.proofs.allotment_of.Allotment.placer.Goals as goal

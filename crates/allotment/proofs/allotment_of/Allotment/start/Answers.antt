@@ -1,5 +1,5 @@
 use Rattle.std.proofs.Common.{sym, subst}
-use Rattle.grant_table.specs.Tables.{TableRecord}
+use Rattle.grant_table.specs.GrantTables.{TableRecord}
 use Rattle.place_pass.specs.Placers.{SeenRecord}
 use Rattle.allotment.specs.PlacingReads.{IsPlacing}
 use Rattle.allotment.proofs.StartStands.{starts, first_table}

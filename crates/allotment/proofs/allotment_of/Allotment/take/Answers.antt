@@ -5,7 +5,7 @@ use Rattle.fuxi_terms.specs.Counts.{AreCounts}
 use Rattle.fuxi_terms.specs.Keys.{spot_cmp}
 use Rattle.fuxi_terms.specs.Limits.{greatest_count}
 use Rattle.fuxi_terms.specs.Tables.{spot}
-use Rattle.grant_table.specs.Tables.{TableRecord, without_count}
+use Rattle.grant_table.specs.GrantTables.{TableRecord, without_count}
 use Rattle.place_pass.specs.Best.{spot_of}
 use Rattle.allotment.specs.Allotted.{AllotmentRecord, Allots, told_at}
 use Rattle.allotment.proofs.Fewer.{IsFewer, fewer_told}

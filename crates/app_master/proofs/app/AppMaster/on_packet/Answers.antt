@@ -7,8 +7,8 @@ use Rattle.fuxi_terms.specs.Tallies.{TallyRecord, ChangeRecord}
 use Rattle.delta_channel.specs.Standing.{Sending}
 use Rattle.core_side.specs.Bodies.{tally_of}
 use Rattle.app_master.specs.Usable.{carried_at, is_named, usable_in}
-use Rattle.app_master.specs.Apps.{AppCore, StandsFor, IsUp}
-use Rattle.app_master.proofs.AppsLemmas.{comes_to, stays, joins}
+use Rattle.app_master.specs.AppCores.{AppCore, StandsFor, IsUp}
+use Rattle.app_master.proofs.AppCoresLemmas.{comes_to, stays, joins}
 use Rattle.app_master.proofs.app.AppMaster.on_packet.Goals as goal
 
 pub returns-then-packet-peer-clause-hears : goal.returns-then-packet-peer-clause-hears

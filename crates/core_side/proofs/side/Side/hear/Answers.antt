@@ -4,7 +4,7 @@ use Rattle.fuxi_terms.specs.declared.answers.What.TheVariants.{Ack}
 use Rattle.party_ledgers.specs.declared.packets.Kind.TheVariants.{Ack as AckHere}
 use Rattle.channel_join.specs.Alike.{told_as}
 use Rattle.core_side.specs.Parcels.{kind_of}
-use Rattle.core_side.specs.Sides.{HearsAlike, SaysWord}
+use Rattle.core_side.specs.CoreSides.{HearsAlike, SaysWord}
 use Rattle.core_side.specs.Testing.{Takes}
 use Rattle.core_side.proofs.HeardAlike.{ack_alike, left_alike, met_alike, met_known, whole_alike}
 use Rattle.core_side.proofs.side.Side.hear.Goals as goal

@@ -2,7 +2,7 @@ use Rattle.std.proofs.Common.{rules, ◌≡◌, false, sym, ◌∙◌, ap, subst
 use Rattle.delta_channel.specs.declared.receiver.Verdict.TheVariants.{Take}
 use Rattle.party_ledgers.specs.declared.packets.Kind.TheVariants.{Full}
 use Rattle.channel_join.specs.Alike.{told_as}
-use Rattle.core_side.specs.Sides.{HearsAlike, SaysWord}
+use Rattle.core_side.specs.CoreSides.{HearsAlike, SaysWord}
 use Rattle.core_side.specs.Testing.{Takes}
 use Rattle.core_side.proofs.HeardAlike.{left_alike, met_alike, met_known, whole_alike}
 use Rattle.core_side.proofs.side.Side.hear_moved.Goals as goal

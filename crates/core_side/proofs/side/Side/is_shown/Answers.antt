@@ -1,4 +1,4 @@
-use Rattle.core_side.proofs.SidesLemmas.{shown_already}
+use Rattle.core_side.proofs.CoreSidesLemmas.{shown_already}
 use Rattle.core_side.proofs.side.Side.is_shown.Goals as goal
 
 pub returns : goal.returns

@@ -1,7 +1,7 @@
 use Rattle.std.proofs.Common.{None, sym, ◌∙◌, ap, subst}
 use Rattle.delta_channel.specs.Hearing.{verdict_of}
 use Rattle.channel_join.specs.Alike.{told_as}
-use Rattle.core_side.specs.Sides.{SaysWord}
+use Rattle.core_side.specs.CoreSides.{SaysWord}
 use Rattle.core_side.proofs.HeardAlike.{verdict_word}
 use Rattle.core_side.proofs.side.Side.judge.Goals as goal
 

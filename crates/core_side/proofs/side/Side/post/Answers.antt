@@ -1,6 +1,6 @@
 use Rattle.std.proofs.Common.{ap, subst}
-use Rattle.core_side.specs.Sides.{PostsAlike}
-use Rattle.core_side.proofs.SidesLemmas.{posts_alike}
+use Rattle.core_side.specs.CoreSides.{PostsAlike}
+use Rattle.core_side.proofs.CoreSidesLemmas.{posts_alike}
 use Rattle.core_side.proofs.side.Side.post.Goals as goal
 
 pub returns-clause-posts : goal.returns-clause-posts

@@ -1,7 +1,7 @@
 use Rattle.std.proofs.Common.{◌≡◌, false, Ok, Err, sym, ◌∙◌, ap, subst}
 use Rattle.std.specs.Prelude.{IfOk}
 use Rattle.ledger_law.specs.Applying.{IsRefusal}
-use Rattle.core_side.specs.Sides.{HearsAlike}
+use Rattle.core_side.specs.CoreSides.{HearsAlike}
 use Rattle.core_side.specs.Testing.{WeighsChange}
 use Rattle.core_side.proofs.HeardAlike.{change_alike, not_made, not_taken}
 use Rattle.core_side.proofs.side.Side.take_change.Goals as goal

@@ -1,7 +1,7 @@
 use Rattle.std.proofs.Common.{List, ℕ, subst}
-use Rattle.fuxi_desk.specs.Lines.{Calls}
+use Rattle.fuxi_desk.specs.DeskLines.{Calls}
 use Rattle.fuxi_desk.specs.Preparing.{IsStepped, Prepared, PreparedRecord, Stands}
-use Rattle.fuxi_desk.proofs.TextsLemmas.{if_ok}
+use Rattle.fuxi_desk.proofs.DeskTextsLemmas.{if_ok}
 use Rattle.fuxi_desk.proofs.prepare.Prepared.step.Goals as goal
 
 pub returns-in-Call-clause-takes : goal.returns-in-Call-clause-takes

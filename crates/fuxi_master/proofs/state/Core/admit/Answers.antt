@@ -3,7 +3,7 @@ use Rattle.std.specs.List.{AllByRecursion}
 use Rattle.fuxi_terms.specs.Cluster.{ClusterRecord}
 use Rattle.fuxi_terms.proofs.ValidJobs.{job_small}
 use Rattle.written_roles.specs.HardState.{with_job}
-use Rattle.grant_table.specs.Tables.{TableRecord, IsSound}
+use Rattle.grant_table.specs.GrantTables.{TableRecord, IsSound}
 use Rattle.hard_state.specs.Knowledge.{Knowledge}
 use Rattle.broadcast.specs.declared.grants.News.{News}
 use Rattle.std.specs.Prelude.{Some, None}

@@ -9,7 +9,7 @@ use Rattle.fuxi_terms.specs.Cluster.{ClusterRecord, machine_of}
 use Rattle.fuxi_terms.specs.Rows.{row_total}
 use Rattle.failover.specs.KeptReports.{kept_of}
 use Rattle.failover.specs.Reported.{Reported}
-use Rattle.grant_table.specs.Tables.{TableRecord, IsSound, as_known}
+use Rattle.grant_table.specs.GrantTables.{TableRecord, IsSound, as_known}
 use Rattle.party_ledgers.specs.Joins.{JoinRecord}
 use Rattle.allotment.specs.PlacingReads.{has_spot}
 use Rattle.fuxi_master.specs.Heard.{Changes, adopting_role}

@@ -1,7 +1,7 @@
 use Rattle.std.proofs.Common.{◌<◌, sym, ap, subst}
 use Rattle.fuxi_terms.specs.Jobs.{unit_count}
 use Rattle.fuxi_terms.specs.Tallies.{TallyRecord}
-use Rattle.grant_table.specs.Tables.{TableRecord, as_known, IsSound}
+use Rattle.grant_table.specs.GrantTables.{TableRecord, as_known, IsSound}
 use Rattle.hard_state.specs.Knowledge.{Knowledge}
 use Rattle.written_roles.specs.MasterSteps.{ended_in}
 use Rattle.fuxi_master.specs.Commands.{changed_by}

@@ -1,5 +1,5 @@
 use Rattle.fuxi_master.specs.Seen.{core_of}
-use Rattle.fuxi_master.proofs.EndsLemmas.{mid_readied, agents_room, apps_room, ended_stands, ended_core, ended_within}
+use Rattle.fuxi_master.proofs.StepEndsLemmas.{mid_readied, agents_room, apps_room, ended_stands, ended_core, ended_within}
 use Rattle.fuxi_master.proofs.state.Core.finished.Goals as goal
 
 pub published-requires-clause-mid : goal.published-requires-clause-mid

@@ -1,5 +1,5 @@
 use Rattle.std.proofs.Common.{◌<◌, length, ◌∙◌, ap, arith}
-use Rattle.grant_table.specs.Tables.{TableRecord}
+use Rattle.grant_table.specs.GrantTables.{TableRecord}
 use Rattle.fuxi_master.specs.Seen.{core_of}
 use Rattle.fuxi_master.proofs.AgentHeardAlike.{to_master}
 use Rattle.fuxi_master.proofs.AgentHeard.{test_in, made_test, heard_core, heard_within, heard_alike, heard_due}

@@ -1,6 +1,6 @@
 use Rattle.std.proofs.Common.{◌<◌, length, sym, ◌∙◌, ap, arith}
 use Rattle.fuxi_terms.specs.Cluster.{ClusterRecord}
-use Rattle.grant_table.specs.Tables.{TableRecord}
+use Rattle.grant_table.specs.GrantTables.{TableRecord}
 use Rattle.fuxi_master.specs.Seen.{core_of}
 use Rattle.fuxi_master.specs.VoteCounts.{all_avoid}
 use Rattle.fuxi_master.proofs.VoteCountsLemmas.{all_marked, none_yet, one_marked, one_unmarked, still_few}

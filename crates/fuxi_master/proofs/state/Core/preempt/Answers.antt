@@ -1,5 +1,5 @@
 use Rattle.std.proofs.Common.{subst}
-use Rattle.grant_table.specs.Tables.{IsSound}
+use Rattle.grant_table.specs.GrantTables.{IsSound}
 use Rattle.fuxi_master.specs.Seen.{core_of}
 use Rattle.fuxi_master.proofs.RoomMade.{preempts}
 use Rattle.fuxi_master.proofs.state.Core.preempt.Goals as goal

@@ -1,9 +1,9 @@
 use Rattle.std.proofs.Common.{◌≡◌, [], map, sym, ◌∙◌, ap, subst}
 use Rattle.fuxi_terms.specs.Keys.{Spot}
-use Rattle.grant_table.specs.Tables.{TableRecord}
+use Rattle.grant_table.specs.GrantTables.{TableRecord}
 use Rattle.allotment.specs.Allotted.{AllotmentRecord}
 use Rattle.broadcast.specs.AllShown.{spot_of, has_spot, RowsAreBefore, GrantsAreBefore, ShowsRows, ShowsAllGrants}
-use Rattle.fuxi_master.specs.Ends.{IsPublished}
+use Rattle.fuxi_master.specs.StepEnds.{IsPublished}
 use Rattle.fuxi_master.specs.Seen.{core_of}
 use Rattle.fuxi_master.proofs.Ordered.{rows_same, grants_same}
 use Rattle.fuxi_master.proofs.Published.{published}

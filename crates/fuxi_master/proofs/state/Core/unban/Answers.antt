@@ -1,5 +1,5 @@
 use Rattle.std.proofs.Common.{sym, subst}
-use Rattle.grant_table.specs.Tables.{IsSound}
+use Rattle.grant_table.specs.GrantTables.{IsSound}
 use Rattle.hard_state.specs.Knowledge.{Knowledge}
 use Rattle.fuxi_master.specs.Commands.{changed_by, unbanned_in}
 use Rattle.fuxi_master.specs.Heard.{Changes}

@@ -4,7 +4,7 @@ use Rattle.fuxi_terms.specs.Jobs.{size_at, group_of}
 use Rattle.fuxi_terms.specs.Cluster.{has_at}
 use Rattle.fuxi_terms.specs.Tables.{spot, held_on, total_at}
 use Rattle.fuxi_terms.specs.declared.vectors.Res.{Res}
-use Rattle.grant_table.specs.Tables.{TableRecord, Cell, cell_of, cell_at, cells_of, with_cell, with_count, raised, entries_in, loads_of, as_known, IsLevel}
+use Rattle.grant_table.specs.GrantTables.{TableRecord, Cell, cell_of, cell_at, cells_of, with_cell, with_count, raised, entries_in, loads_of, as_known, IsLevel}
 use Rattle.grant_table.proofs.Totals.{in_rack_within}
 use Rattle.grant_table.proofs.SetTotals.{set_level}
 use Rattle.grant_table.proofs.ChangedCounts.{load_at, usage_read, rack_is, there_from, us, rack_there, held_few, size_is, load_room, usage_room, may_add, added_entries}

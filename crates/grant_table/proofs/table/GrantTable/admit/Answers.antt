@@ -2,7 +2,7 @@ use Rattle.std.proofs.Common.{◌≡◌, false, set, sym, ◌∙◌, ap, subst}
 use Rattle.std.proofs.lemmas.List.{map-set}
 use Rattle.fuxi_terms.specs.Cluster.{JobRecord}
 use Rattle.fuxi_terms.specs.Jobs.{is_known}
-use Rattle.grant_table.specs.Tables.{TableRecord, as_known, cells_of, cells_in, entries_in, loads_of, fresh_cells, with_admitted, IsLevel}
+use Rattle.grant_table.specs.GrantTables.{TableRecord, as_known, cells_of, cells_in, entries_in, loads_of, fresh_cells, with_admitted, IsLevel}
 use Rattle.grant_table.proofs.AdmittedTotals.{admitted_level, entries_stay}
 use Rattle.grant_table.proofs.table.GrantTable.admit.Goals as goal
 

@@ -1,5 +1,5 @@
 use Rattle.std.proofs.Common.{subst}
-use Rattle.grant_table.specs.Tables.{IsSound}
+use Rattle.grant_table.specs.GrantTables.{IsSound}
 use Rattle.grant_table.proofs.Bounds.{sound}
 use Rattle.grant_table.proofs.table.GrantTable.cluster.Goals as goal
 

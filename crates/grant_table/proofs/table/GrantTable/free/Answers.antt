@@ -4,7 +4,7 @@ use Rattle.fuxi_terms.specs.Vectors.{at_place, minus}
 use Rattle.fuxi_terms.proofs.ByPlace.{at_place-get_or, get_or-minus, fits_from}
 use Rattle.fuxi_terms.specs.Cluster.{has_at}
 use Rattle.fuxi_terms.specs.Tables.{total_at}
-use Rattle.grant_table.specs.Tables.{TableRecord, as_known, cells_of, entries_in, loads_of}
+use Rattle.grant_table.specs.GrantTables.{TableRecord, as_known, cells_of, entries_in, loads_of}
 use Rattle.grant_table.proofs.ChangedCounts.{load_at, has_is}
 use Rattle.grant_table.proofs.table.GrantTable.free.Goals as goal
 

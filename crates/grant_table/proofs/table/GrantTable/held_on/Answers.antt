@@ -1,7 +1,7 @@
 use Rattle.std.proofs.Common.{◌≡◌, ◌<◌, length, get_or, sym, ◌∙◌, ap, subst}
 use Rattle.std.proofs.lemmas.List.{get_or_default}
 use Rattle.fuxi_terms.specs.Tables.{held_on}
-use Rattle.grant_table.specs.Tables.{TableRecord, Cell, cell_of, cell_at, cells_of}
+use Rattle.grant_table.specs.GrantTables.{TableRecord, Cell, cell_of, cell_at, cells_of}
 use Rattle.grant_table.proofs.SetTotals.{count_in}
 use Rattle.grant_table.proofs.ChangedCounts.{there_from, machine_there}
 use Rattle.grant_table.proofs.table.GrantTable.held_on.Goals as goal

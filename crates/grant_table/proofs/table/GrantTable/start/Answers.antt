@@ -1,7 +1,7 @@
 use Rattle.std.proofs.Common.{◌≡◌, List, length, sym, ◌∙◌, ap, subst, rules}
 use Rattle.std.specs.Prelude.{IsTrue}
 use Rattle.fuxi_terms.specs.Cluster.{ClusterRecord, JobRecord, is_valid_cluster}
-use Rattle.grant_table.specs.Tables.{cells_of, loads_of, IsLevel}
+use Rattle.grant_table.specs.GrantTables.{cells_of, loads_of, IsLevel}
 use Rattle.grant_table.proofs.StartTotals.{none_in, no_load, loads_long, empty_level}
 use Rattle.grant_table.proofs.table.GrantTable.start.Goals as goal
 

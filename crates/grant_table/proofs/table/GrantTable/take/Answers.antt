@@ -3,7 +3,7 @@ use Rattle.std.proofs.lemmas.List.{length-map, map-set}
 use Rattle.fuxi_terms.specs.Jobs.{size_at, group_of}
 use Rattle.fuxi_terms.specs.Tables.{spot, held_on}
 use Rattle.fuxi_terms.specs.declared.vectors.Res.{Res}
-use Rattle.grant_table.specs.Tables.{TableRecord, Cell, cell_of, cell_at, cells_of, with_cell, lowered, entries_in, loads_of, as_known, without_count, IsLevel}
+use Rattle.grant_table.specs.GrantTables.{TableRecord, Cell, cell_of, cell_at, cells_of, with_cell, lowered, entries_in, loads_of, as_known, without_count, IsLevel}
 use Rattle.grant_table.proofs.SetTotals.{set_level}
 use Rattle.grant_table.proofs.ChangedCounts.{load_at, usage_read, rack_is, there_from, us, rack_there, part_held, part_rack, fewer, size_is, taken_load, taken_usage, may_take, taken_entries}
 use Rattle.grant_table.proofs.table.GrantTable.take.Goals as goal

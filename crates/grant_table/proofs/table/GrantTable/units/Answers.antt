@@ -1,6 +1,6 @@
 use Rattle.std.proofs.Common.{◌≡◌, [], length, get_or, nat_lt, sym, ◌∙◌, ap}
 use Rattle.fuxi_terms.specs.Jobs.{is_known, unit_count}
-use Rattle.grant_table.specs.Tables.{TableRecord, as_known, cells_of}
+use Rattle.grant_table.specs.GrantTables.{TableRecord, as_known, cells_of}
 use Rattle.grant_table.proofs.Bounds.{known_is}
 use Rattle.grant_table.proofs.table.GrantTable.units.Goals as goal
 

@@ -2,7 +2,7 @@ use Rattle.std.proofs.Common.{◌≡◌, ◌<◌, ◌≤◌, get_or, sym, ◌∙
 use Rattle.std.proofs.lemmas.List.{length-map}
 use Rattle.fuxi_terms.proofs.ByPlace.{at_place-get_or}
 use Rattle.fuxi_terms.specs.Tables.{usage_at}
-use Rattle.grant_table.specs.Tables.{TableRecord, as_known}
+use Rattle.grant_table.specs.GrantTables.{TableRecord, as_known}
 use Rattle.grant_table.proofs.Bounds.{usage_small, usage_past}
 use Rattle.grant_table.proofs.ChangedCounts.{load_at}
 use Rattle.grant_table.proofs.table.GrantTable.used_by.Goals as goal

@@ -4,7 +4,7 @@ use Rattle.std.proofs.lemmas.Result.{err_from_is_err_and}
 use Rattle.ledger_law.specs.Forms.{change_form}
 use Rattle.ledger_law.specs.Shapes.{IsChange, AreChangesWithin}
 use Rattle.ledger_law.specs.OneForm.{few_changes, change_entries}
-use Rattle.ledger_law.specs.Reading.{refused}
+use Rattle.ledger_law.specs.ReadForms.{refused}
 use Rattle.ledger_law.proofs.NoForm.{not_changes}
 use Rattle.ledger_law.proofs.tally.TallyLedger.read_delta.Goals as goal
 

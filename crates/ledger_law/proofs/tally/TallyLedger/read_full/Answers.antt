@@ -6,7 +6,7 @@ use Rattle.std.proofs.lemmas.Result.{err_from_is_err_and}
 use Rattle.ledger_law.specs.Forms.{tally_form}
 use Rattle.ledger_law.specs.Shapes.{IsTally}
 use Rattle.ledger_law.specs.OneForm.{few_counts, number_entries}
-use Rattle.ledger_law.specs.Reading.{refused}
+use Rattle.ledger_law.specs.ReadForms.{refused}
 use Rattle.ledger_law.proofs.NoForm.{not_counts}
 use Rattle.ledger_law.proofs.tally.TallyLedger.read_full.Goals as goal
 

@@ -2,9 +2,9 @@ use Rattle.std.proofs.Common.{◌≡◌, ◌+◌, ◌++◌, ◌∷◌, [], List,
 use Rattle.std.proofs.lemmas.List.{get_or_read}
 use Rattle.fuxi_master.specs.Cores.{StandsFor}
 use Rattle.master_desk.specs.declared.entry.Entry.{Entry}
-use Rattle.master_desk.specs.Orders.{IsCallOf, times}
+use Rattle.master_desk.specs.CallOrders.{IsCallOf, times}
 use Rattle.master_desk.specs.Books.{BookRecord, Counts, order_in}
-use Rattle.master_desk.proofs.CallsLemmas.{may_hear}
+use Rattle.master_desk.proofs.CallBytesLemmas.{may_hear}
 use Rattle.master_desk.proofs.BooksLemmas.{enters, gone_as, grows_more, next_small, number_is_next, place_there}
 use Rattle.master_desk.proofs.book.Book.enter.Goals as goal
 

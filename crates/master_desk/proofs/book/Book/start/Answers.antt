@@ -1,6 +1,6 @@
 use Rattle.std.proofs.Common.{[], Some, sym, subst}
 use Rattle.master_desk.proofs.BooksLemmas.{new_is, none_counted}
-use Rattle.master_desk.specs.Orders.{IsSessions}
+use Rattle.master_desk.specs.CallOrders.{IsSessions}
 use Rattle.master_desk.specs.Books.{Counts, IsBook}
 use Rattle.master_desk.proofs.book.Book.start.Goals as goal
 

@@ -1,6 +1,6 @@
 use Rattle.std.proofs.Common.{◌≡◌, ℕ, List, [], length, get_or, ap, arith}
 use Rattle.std.proofs.lemmas.List.{get_or_read}
-use Rattle.master_desk.proofs.OrdersLemmas.{calls_few}
+use Rattle.master_desk.proofs.CallOrdersLemmas.{calls_few}
 use Rattle.master_desk.proofs.sessions.Sessions.calls.Goals as goal
 
 pub returns-clause-few : goal.returns-clause-few

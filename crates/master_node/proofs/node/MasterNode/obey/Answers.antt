@@ -1,12 +1,12 @@
 use Rattle.std.proofs.Common.{Ok, Err, refl, sym, ◌∙◌, ap, subst}
 use Rattle.hard_state.specs.HardFiles.{Kept}
 use Rattle.schedule_text.specs.Printing.{as_refusal}
-use Rattle.node_party.specs.Commands.{IsCommanded, RefusedAs}
-use Rattle.node_party.specs.Texts.{as_answer}
+use Rattle.node_party.specs.PartyEvents.{IsCommanded, RefusedAs}
+use Rattle.node_party.specs.NodeTexts.{as_answer}
 use Rattle.node_party.specs.declared.party.Halt.TheVariants.{Memory}
-use Rattle.master_node.specs.Masters.{NodeRecord, IsMasterOf, StandsAs}
+use Rattle.master_node.specs.MasterParties.{NodeRecord, IsMasterOf, StandsAs}
 use Rattle.master_node.specs.Writes.{written_by}
-use Rattle.master_node.specs.Commands.{obeyed}
+use Rattle.master_node.specs.NodeCommands.{obeyed}
 use Rattle.master_node.proofs.KnowledgeKept.{tied_by}
 use Rattle.master_node.proofs.WrittenIsDone.{fits, leaves_obeyed, obeys, refuses}
 use Rattle.master_node.proofs.node.MasterNode.obey.Goals as goal

@@ -1,6 +1,6 @@
 use Rattle.std.proofs.Common.{Ok, Err, ap}
 use Rattle.written_roles.specs.MasterRoles.{master_started}
-use Rattle.master_node.proofs.StartsLemmas.{no_damage, open_fails, open_starts, raise_starts, starts_master}
+use Rattle.master_node.proofs.OpenedMastersLemmas.{no_damage, open_fails, open_starts, raise_starts, starts_master}
 use Rattle.master_node.proofs.node.MasterNode.open.Goals as goal
 
 pub returns-in-Err-clause-fails : goal.returns-in-Err-clause-fails

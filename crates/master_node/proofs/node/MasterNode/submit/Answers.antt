@@ -6,9 +6,9 @@ use Rattle.written_roles.specs.MasterSteps.{Submits}
 use Rattle.fuxi_master.specs.declared.event.MasterEvent.TheVariants.{Admit}
 use Rattle.schedule_text.specs.Printing.{as_refusal}
 use Rattle.schedule_text.specs.Asked.{job_named, job_refusal}
-use Rattle.node_party.specs.Commands.{MasterCommands, master_does}
-use Rattle.master_node.specs.Commands.{obeyed}
-use Rattle.master_node.proofs.CommandsLemmas.{does_same, group_refused, group_there, job_faulty, leaves_same, no_group, stays_refused, submit_obeyed}
+use Rattle.node_party.specs.PartyEvents.{MasterCommands, master_does}
+use Rattle.master_node.specs.NodeCommands.{obeyed}
+use Rattle.master_node.proofs.NodeCommandsLemmas.{does_same, group_refused, group_there, job_faulty, leaves_same, no_group, stays_refused, submit_obeyed}
 use Rattle.master_node.proofs.node.MasterNode.submit.Goals as goal
 
 pub returns-then-group-groups-clause-does : goal.returns-then-group-groups-clause-does

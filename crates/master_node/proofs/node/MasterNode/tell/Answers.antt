@@ -1,7 +1,7 @@
 use Rattle.std.proofs.Common.{IfOk, sym, subst}
-use Rattle.node_party.specs.Commands.{master_does}
-use Rattle.master_node.specs.Told.{told_of}
-use Rattle.master_node.specs.Commands.{Does, LeavesMade}
+use Rattle.node_party.specs.PartyEvents.{master_does}
+use Rattle.master_node.specs.ToldMasters.{told_of}
+use Rattle.master_node.specs.NodeCommands.{Does, LeavesMade}
 use Rattle.master_node.proofs.node.MasterNode.tell.Goals as goal
 
 pub returns-in-Submit-clause-does : goal.returns-in-Submit-clause-does

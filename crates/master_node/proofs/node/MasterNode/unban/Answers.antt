@@ -1,9 +1,9 @@
 use Rattle.written_roles.specs.Refusals.{NoMachine}
 use Rattle.written_roles.specs.MasterSteps.{UnbansMachine}
 use Rattle.fuxi_master.specs.declared.event.MasterEvent.TheVariants.{Unban}
-use Rattle.node_party.specs.Commands.{MasterCommands, master_does}
-use Rattle.master_node.specs.Commands.{obeyed}
-use Rattle.master_node.proofs.CommandsLemmas.{unban_obeyed, unban_refused, does_same, leaves_same, machine_there, no_machine, stays_refused}
+use Rattle.node_party.specs.PartyEvents.{MasterCommands, master_does}
+use Rattle.master_node.specs.NodeCommands.{obeyed}
+use Rattle.master_node.proofs.NodeCommandsLemmas.{unban_obeyed, unban_refused, does_same, leaves_same, machine_there, no_machine, stays_refused}
 use Rattle.master_node.proofs.node.MasterNode.unban.Goals as goal
 
 pub returns-then-machine-machines-clause-does : goal.returns-then-machine-machines-clause-does

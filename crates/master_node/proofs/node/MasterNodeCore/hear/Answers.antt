@@ -2,7 +2,7 @@ use Rattle.std.proofs.Common.{sym, subst}
 use Rattle.core_side.specs.Parcels.{parcel_is}
 use Rattle.written_roles.specs.MasterRoles.{master_hears_alone, report_excess}
 use Rattle.node_rounds.specs.Roles.{OfAgent, OfApp, OfMaster}
-use Rattle.master_node.specs.Masters.{IsMasterOf}
+use Rattle.master_node.specs.MasterParties.{IsMasterOf}
 use Rattle.master_node.proofs.KnowledgeKept.{heard_same, still_of}
 use Rattle.master_node.proofs.node.MasterNodeCore.hear.Goals as goal
 

@@ -10,8 +10,8 @@ use Rattle.written_net.specs.Sides.{turn_parcels}
 use Rattle.written_roles.specs.MasterSteps.{master_party, talks}
 use Rattle.schedule_unit.specs.declared.party.Role.TheVariants.{Master}
 use Rattle.node_rounds.specs.Roles.{OfAgent, OfApp, OfMaster, IsTurn, end_packet, may_send, turn}
-use Rattle.master_node.specs.Masters.{IsMasterOf}
-use Rattle.master_node.specs.Commands.{packets_in}
+use Rattle.master_node.specs.MasterParties.{IsMasterOf}
+use Rattle.master_node.specs.NodeCommands.{packets_in}
 use Rattle.master_node.proofs.KnowledgeKept.{same, still_of}
 use Rattle.master_node.proofs.SentToPeers.{peer_is, parties_are, sent_formed, sent_says}
 use Rattle.master_node.proofs.node.MasterNodeCore.turn.Goals as goal

@@ -2,10 +2,10 @@ use Rattle.std.proofs.Common.{◌≡◌, false, nat_eq, Some, sym, ◌∙◌, ap
 use Rattle.std.proofs.lemmas.Bool.Decides.{nat_tests}
 use Rattle.written_roles.specs.Refusals.{NotRunning}
 use Rattle.node_rounds.specs.Roles.{OfAgent, OfApp, OfMaster}
-use Rattle.node_party.specs.Commands.{commanded, master_does, master_named}
-use Rattle.master_node.specs.Told.{named_of, told_of}
+use Rattle.node_party.specs.PartyEvents.{commanded, master_does, master_named}
+use Rattle.master_node.specs.ToldMasters.{named_of, told_of}
 use Rattle.master_node.specs.Writes.{hard_in}
-use Rattle.master_node.proofs.CommandsLemmas.{all_done, all_left, named_does, named_other, stays_refused}
+use Rattle.master_node.proofs.NodeCommandsLemmas.{all_done, all_left, named_does, named_other, stays_refused}
 use Rattle.master_node.proofs.RestKept.{line_rests, on_err, stays_rests, told_halts}
 use Rattle.master_node.proofs.node.MasterNodeNode.command.Goals as goal
 

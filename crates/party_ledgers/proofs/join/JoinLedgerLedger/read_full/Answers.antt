@@ -1,7 +1,7 @@
 use Rattle.std.proofs.Common.{sym, subst, ap, drop}
 use Rattle.std.proofs.lemmas.List.Elements.{All-from_recursion}
 use Rattle.std.proofs.lemmas.Result.{err_from_is_err_and}
-use Rattle.ledger_law.specs.Reading.{refused}
+use Rattle.ledger_law.specs.ReadForms.{refused}
 use Rattle.party_ledgers.specs.Joins.{IsJoin, join_form}
 use Rattle.fuxi_terms.specs.Rows.{IsRow}
 use Rattle.party_ledgers.specs.RowOneForm.{row_entries, few_entries}

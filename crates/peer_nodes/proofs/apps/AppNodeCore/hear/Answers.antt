@@ -1,7 +1,7 @@
 use Rattle.std.proofs.Common.{sym, ◌∙◌, subst}
-use Rattle.app_master.specs.Apps.{StandsFor}
+use Rattle.app_master.specs.AppCores.{StandsFor}
 use Rattle.node_rounds.specs.Roles.{OfAgent, OfApp, OfMaster}
-use Rattle.peer_nodes.proofs.AppsLemmas.{hears_on}
+use Rattle.peer_nodes.proofs.AppPartiesLemmas.{hears_on}
 use Rattle.peer_nodes.proofs.apps.AppNodeCore.hear.Goals as goal
 
 pub invariant_of-result : goal.invariant_of-result

@@ -1,13 +1,13 @@
 use Rattle.std.proofs.Common.{rules, arith, ◌≡◌, true, nat_eq, sym, ◌∙◌, subst}
 use Rattle.std.specs.Prelude.{Some}
 use Rattle.std.proofs.lemmas.Bool.Decides.{nat_tests}
-use Rattle.app_master.specs.Apps.{StandsFor}
+use Rattle.app_master.specs.AppCores.{StandsFor}
 use Rattle.node_rounds.specs.Roles.{OfAgent, OfApp, OfMaster}
-use Rattle.node_party.specs.Commands.{app_named}
-use Rattle.node_party.specs.Texts.{as_answer}
-use Rattle.peer_nodes.specs.Apps.{StandsAs}
-use Rattle.peer_nodes.specs.Told.{told_of}
-use Rattle.peer_nodes.proofs.AppsLemmas.{told_on, named_does}
+use Rattle.node_party.specs.PartyEvents.{app_named}
+use Rattle.node_party.specs.NodeTexts.{as_answer}
+use Rattle.peer_nodes.specs.AppParties.{StandsAs}
+use Rattle.peer_nodes.specs.ToldApps.{told_of}
+use Rattle.peer_nodes.proofs.AppPartiesLemmas.{told_on, named_does}
 use Rattle.peer_nodes.proofs.apps.AppNodeNode.command.Goals as goal
 
 pub invariant_of-self : goal.invariant_of-self

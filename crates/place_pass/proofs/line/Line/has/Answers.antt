@@ -1,6 +1,6 @@
 use Rattle.std.proofs.Common.{◌∙◌, ap, arith}
 use Rattle.written_roles.specs.Placing.{has_pair}
-use Rattle.place_pass.specs.Lines.{LineRecord}
+use Rattle.place_pass.specs.WaitingLines.{LineRecord}
 use Rattle.place_pass.proofs.FlagsTellWhoWaits.{outside, flag_is}
 use Rattle.place_pass.proofs.line.Line.has.Goals as goal
 

@@ -1,6 +1,6 @@
 use Rattle.std.proofs.Common.{◌≡◌, ℕ, List, ◌++◌, ◌∷◌, [], false, true, set, sym, subst}
 use Rattle.written_roles.specs.Placing.{has_pair}
-use Rattle.place_pass.specs.Lines.{LineRecord, IsLine}
+use Rattle.place_pass.specs.WaitingLines.{LineRecord, IsLine}
 use Rattle.place_pass.proofs.FlagsTellWhoWaits.{line_joined}
 use Rattle.place_pass.proofs.line.Line.push.Goals as goal
 

@@ -1,11 +1,11 @@
 use Rattle.std.proofs.Common.{◌≡◌, ℕ, ◌+◌, ◌<◌, false, cond, nat_eq, nat_lt, List, [], length, map, set, get_or, Some, None, sym, ◌∙◌, ap, subst, arith, length-set}
 use Rattle.std.specs.Prelude.{◌&&◌, not}
 use Rattle.std.proofs.lemmas.List.{length-map}
-use Rattle.grant_table.specs.Tables.{with_admitted}
+use Rattle.grant_table.specs.GrantTables.{with_admitted}
 use Rattle.place_pass.specs.Cells.{WishesRecord, job_at, asks_in, fresh_cell, fresh_cells}
 use Rattle.place_pass.specs.Best.{AreAdmitted}
 use Rattle.place_pass.specs.Bounds.{IsRising, mark_of, turn_at}
-use Rattle.place_pass.specs.Trees.{HoldsLine, AllStand}
+use Rattle.place_pass.specs.PlacerTrees.{HoldsLine, AllStand}
 use Rattle.locality_tree.specs.Trees.{TreeRecord, place_count}
 use Rattle.fuxi_terms.specs.Cluster.{ClusterRecord}
 use Rattle.fuxi_terms.proofs.Lists.{all_at}

@@ -7,11 +7,11 @@ use Rattle.fuxi_terms.proofs.Booleans.{both_true, eq_turned}
 use Rattle.place_pass.specs.Cells.{WishesRecord, Lifts, job_at, asks_in, taken_all, any_more}
 use Rattle.place_pass.specs.Placers.{PlacerRecord, AreLevel, AsksNoMore, IsIdle, IsClear, IsKept, IsQuiet, IsStill, is_open_to, IsLevelWith, IsPlacer, job_seen, asks_seen, units_seen, is_there}
 use Rattle.place_pass.specs.Bounds.{mark_at, mark_of}
-use Rattle.place_pass.specs.Counts.{IsLifted}
+use Rattle.place_pass.specs.SearchCounts.{IsLifted}
 use Rattle.place_pass.specs.Best.{AreAdmitted}
-use Rattle.place_pass.specs.Trees.{HoldsLine, StandsAs, StandsNowhere}
+use Rattle.place_pass.specs.PlacerTrees.{HoldsLine, StandsAs, StandsNowhere}
 use Rattle.fuxi_terms.specs.Jobs.{unit_count}
-use Rattle.grant_table.specs.Tables.{as_known}
+use Rattle.grant_table.specs.GrantTables.{as_known}
 use Rattle.written_roles.specs.Placing.{has_pair}
 use Rattle.fuxi_terms.proofs.Lists.{all_at}
 use Rattle.place_pass.proofs.CellsMatchTable.{count_is}
@@ -21,13 +21,13 @@ use Rattle.place_pass.proofs.AskedLemmas.{asked_long, asked_priority, asked_othe
 use Rattle.place_pass.proofs.StandsAfterChange.{holds_cells, stands_asked}
 use Rattle.place_pass.proofs.StillLemmas.{still_asked}
 use Rattle.place_pass.specs.Sights.{IsAsked}
-use Rattle.place_pass.proofs.CountsLemmas.{asked_clear, asked_settled, asked_stays, stays_for, stays_tight}
+use Rattle.place_pass.proofs.SearchCountsLemmas.{asked_clear, asked_settled, asked_stays, stays_for, stays_tight}
 use Rattle.place_pass.proofs.KeptLemmas.{kept_demanded, open_there, told_asked}
-use Rattle.place_pass.proofs.Places.{slot_within}
 use Rattle.place_pass.proofs.CellsLemmas.{length-taken_all}
 use Rattle.place_pass.proofs.IdleKept.{idle_asked, lifted_then, more_not, none_lifted, still_open, waiting_asked}
 use Rattle.place_pass.proofs.PlacersLemmas.{units_same, admitted_more, job_taken, asks_taken, level_same}
 use Rattle.place_pass.proofs.placer.Placer.asked.Goals as goal
+use Rattle.fuxi_terms.proofs.IndexedLists.{slot_within}
 
 pub stir-requires : goal.stir-requires
 stir-requires c =

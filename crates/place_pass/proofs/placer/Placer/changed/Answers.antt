@@ -6,11 +6,11 @@ use Rattle.written_roles.specs.Placing.{has_pair}
 use Rattle.place_pass.specs.Best.{AreAdmitted}
 use Rattle.place_pass.specs.Bounds.{IsRising, mark_of, mark_at, turn_at, Rises, after_taking, is_nearer_in}
 use Rattle.place_pass.specs.Cells.{job_at, asks_in}
-use Rattle.place_pass.specs.Trees.{HoldsLine, AllStand}
+use Rattle.place_pass.specs.PlacerTrees.{HoldsLine, AllStand}
 use Rattle.place_pass.specs.Placers.{PlacerRecord, IsKept, IsLevelWith, IsUpToDate, units_seen, board_over}
 use Rattle.place_pass.proofs.CellsLemmas.{placed}
 use Rattle.place_pass.proofs.CellsMatchTable.{group_is}
-use Rattle.place_pass.proofs.CountsLemmas.{MarkStays, stays_tight, told_stays}
+use Rattle.place_pass.proofs.SearchCountsLemmas.{MarkStays, stays_tight, told_stays}
 use Rattle.place_pass.proofs.FirstByTurn.{rising, rising_all}
 use Rattle.place_pass.proofs.KeptLemmas.{kept_told, open_there}
 use Rattle.place_pass.proofs.LinedLemmas.{told_admitted, told_rises, told_was, told_others}

@@ -5,18 +5,18 @@ use Rattle.place_pass.specs.Bounds.{key_of, mark_at, mark_of}
 use Rattle.place_pass.proofs.LinedLemmas.{IsLinedUp, lined_is, lined_kept, front_inside, front_holds, front_stands}
 use Rattle.std.proofs.lemmas.Bool.Decides.{nat_tests}
 use Rattle.fuxi_terms.proofs.Booleans.{and_true, both_true}
-use Rattle.place_pass.proofs.CountsLemmas.{same_stays, stays_tight}
+use Rattle.place_pass.proofs.SearchCountsLemmas.{same_stays, stays_tight}
 use Rattle.place_pass.proofs.SightsLemmas.{place_of}
 use Rattle.place_pass.proofs.NumberedLemmas.{filter_whole, none_joined, unit_small}
 use Rattle.fuxi_terms.specs.Cluster.{JobRecord}
 use Rattle.fuxi_terms.specs.Jobs.{unit_count, job_numbers}
 use Rattle.written_roles.specs.Masters.{out_of}
 use Rattle.written_roles.specs.Placing.{has_pair, lined, waiting_in}
-use Rattle.grant_table.specs.Tables.{as_known}
+use Rattle.grant_table.specs.GrantTables.{as_known}
 use Rattle.place_pass.specs.Cells.{asks_in}
-use Rattle.place_pass.specs.Lines.{same_pair}
+use Rattle.place_pass.specs.WaitingLines.{same_pair}
 use Rattle.place_pass.specs.Placers.{PlacerRecord, KeptRecord, IsKept, IsStill, SeenRecord, IsLevelWith, asks_seen, waiting_with}
-use Rattle.place_pass.proofs.LinesLemmas.{any_append}
+use Rattle.place_pass.proofs.WaitingLinesLemmas.{any_append}
 use Rattle.place_pass.proofs.StillLemmas.{still_left, waiting_waits}
 use Rattle.place_pass.proofs.PlacersLemmas.{kept_is, lined_has}
 use Rattle.place_pass.proofs.Turns.{few_begin}

@@ -3,9 +3,9 @@ use Rattle.std.specs.Prelude.{IfSome}
 use Rattle.std.specs.Option.{option_map}
 use Rattle.fuxi_terms.specs.Jobs.{unit_count}
 use Rattle.fuxi_terms.proofs.Booleans.{and_true}
-use Rattle.grant_table.specs.Tables.{as_known}
-use Rattle.place_pass.specs.Counts.{IsTight, count_below, is_unsettled, unsettled_machines}
-use Rattle.place_pass.proofs.CountsLemmas.{is_settled}
+use Rattle.grant_table.specs.GrantTables.{as_known}
+use Rattle.place_pass.specs.SearchCounts.{IsTight, count_below, is_unsettled, unsettled_machines}
+use Rattle.place_pass.proofs.SearchCountsLemmas.{is_settled}
 use Rattle.place_pass.proofs.KeptLemmas.{forgotten_key, kept_forgotten, open_there}
 use Rattle.std.proofs.lemmas.Bool.Decides.{nat_tests}
 use Rattle.fuxi_terms.specs.Cluster.{ClusterRecord}
@@ -21,7 +21,7 @@ use Rattle.place_pass.specs.Placers.{AreAllowed, IsGrantable, PlacerRecord, Kept
 use Rattle.place_pass.proofs.IdleKept.{idle_first, idle_found}
 use Rattle.place_pass.proofs.FirstByTurn.{rising_all}
 use Rattle.place_pass.proofs.FirstIsGrantable.{pick_grantable}
-use Rattle.place_pass.specs.Trees.{TreeOf}
+use Rattle.place_pass.specs.PlacerTrees.{TreeOf}
 use Rattle.place_pass.proofs.placer.Placer.next.Goals as goal
 
 pub first-requires-clause-level : goal.first-requires-clause-level

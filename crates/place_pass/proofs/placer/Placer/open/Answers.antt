@@ -6,11 +6,11 @@ use Rattle.place_pass.proofs.KeptLemmas.{kept_opened}
 use Rattle.std.specs.Prelude.{◌||◌, not}
 use Rattle.fuxi_terms.proofs.Booleans.{both_true}
 use Rattle.place_pass.specs.Cells.{WishesRecord, job_at}
-use Rattle.place_pass.specs.Trees.{AllStand}
+use Rattle.place_pass.specs.PlacerTrees.{AllStand}
 use Rattle.place_pass.specs.Placers.{PlacerRecord, AreLevel, KeptRecord, IsIdle, IsClear, IsKept, IsQuiet, IsStill, IsLevelWith, is_open}
 use Rattle.place_pass.proofs.IdleKept.{idle_opened, opens_none, quiet_opened}
-use Rattle.place_pass.proofs.Places.{one_set}
 use Rattle.place_pass.proofs.placer.Placer.open.Goals as goal
+use Rattle.fuxi_terms.proofs.IndexedLists.{one_set}
 
 pub returns-then-stays-clause-opened : goal.returns-then-stays-clause-opened
 returns-then-stays-clause-opened c m =

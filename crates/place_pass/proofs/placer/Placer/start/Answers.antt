@@ -6,12 +6,12 @@ use Rattle.place_pass.proofs.Places.{zeros}
 use Rattle.std.specs.Prelude.{replicate}
 use Rattle.std.proofs.lemmas.List.{length-replicate, length-map}
 use Rattle.place_pass.specs.Best.{AreAdmitted}
-use Rattle.place_pass.specs.Lines.{units_in_all}
+use Rattle.place_pass.specs.WaitingLines.{units_in_all}
 use Rattle.place_pass.proofs.PlacersLemmas.{no_units}
-use Rattle.grant_table.specs.Tables.{TableRecord}
+use Rattle.grant_table.specs.GrantTables.{TableRecord}
 use Rattle.place_pass.specs.Cells.{Cell, WishesRecord, job_in, job_at}
 use Rattle.place_pass.specs.Placers.{AreLevel, IsLevelWith}
-use Rattle.place_pass.specs.Trees.{HoldsLine}
+use Rattle.place_pass.specs.PlacerTrees.{HoldsLine}
 use Rattle.place_pass.proofs.StandsAfterChange.{holds_started}
 use Rattle.locality_tree.specs.Trees.{TreeRecord}
 use Rattle.place_pass.proofs.placer.Placer.start.Goals as goal

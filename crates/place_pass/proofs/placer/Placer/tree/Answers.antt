@@ -1,6 +1,6 @@
 use Rattle.std.proofs.Common.{sym, subst}
 use Rattle.place_pass.specs.Placers.{PlacerRecord, IsLevelWith}
-use Rattle.place_pass.specs.Trees.{TreeOf}
+use Rattle.place_pass.specs.PlacerTrees.{TreeOf}
 use Rattle.place_pass.proofs.placer.Placer.tree.Goals as goal
 
 pub returns : goal.returns

@@ -3,7 +3,7 @@ use Rattle.fuxi_terms.specs.Cluster.{UnitRecord, limit_at}
 use Rattle.fuxi_terms.specs.Vectors.{at_place}
 use Rattle.fuxi_terms.specs.Jobs.{group_of}
 use Rattle.fuxi_terms.specs.Tables.{usage_at}
-use Rattle.grant_table.specs.Tables.{as_known}
+use Rattle.grant_table.specs.GrantTables.{as_known}
 use Rattle.place_pass.specs.Cells.{Cell}
 use Rattle.place_pass.proofs.CellsMatchTable.{group_is, group_small, unit_is, limit_past}
 use Rattle.place_pass.proofs.Rooms.{allowed_is}

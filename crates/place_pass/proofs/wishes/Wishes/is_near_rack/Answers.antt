@@ -1,6 +1,6 @@
 use Rattle.std.proofs.Common.{◌≡◌, ◌∙◌, ap}
 use Rattle.fuxi_terms.specs.Cluster.{ClusterRecord, rack_of}
-use Rattle.place_pass.specs.Trees.{is_unmet_in}
+use Rattle.place_pass.specs.PlacerTrees.{is_unmet_in}
 use Rattle.place_pass.proofs.CellsMatchTable.{rack_is, rack_few}
 use Rattle.place_pass.proofs.wishes.Wishes.is_near_rack.Goals as goal
 

@@ -4,7 +4,7 @@ use Rattle.std.proofs.lemmas.Bool.Decides.{nat_tests}
 use Rattle.fuxi_terms.specs.Cluster.{ClusterRecord, UnitRecord}
 use Rattle.fuxi_terms.specs.Jobs.{size_at, most_of}
 use Rattle.written_roles.specs.Placing.{has_room_in}
-use Rattle.grant_table.specs.Tables.{as_known}
+use Rattle.grant_table.specs.GrantTables.{as_known}
 use Rattle.fuxi_terms.specs.Tables.{held_on}
 use Rattle.place_pass.specs.Cells.{Cell, IsWish, cell_at}
 use Rattle.place_pass.specs.Placers.{is_open_to}

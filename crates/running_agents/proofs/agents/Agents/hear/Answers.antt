@@ -1,6 +1,6 @@
 use Rattle.std.proofs.Common.{subst, arith}
 use Rattle.std.proofs.lemmas.Result.{IfOk-weaker}
-use Rattle.running_agents.specs.Running.{AgentsRecord, HearInWorld, with_agent}
+use Rattle.running_agents.specs.RunningAgents.{AgentsRecord, HearInWorld, with_agent}
 use Rattle.running_agents.proofs.Calls.{hears_slot}
 use Rattle.running_agents.proofs.agents.Agents.hear.Goals as goal
 

@@ -1,5 +1,5 @@
 use Rattle.std.proofs.Common.{subst, arith}
-use Rattle.running_agents.specs.Running.{AgentsRecord, ResyncInWorld, with_agent}
+use Rattle.running_agents.specs.RunningAgents.{AgentsRecord, ResyncInWorld, with_agent}
 use Rattle.running_agents.proofs.Calls.{resyncs_slot}
 use Rattle.running_agents.proofs.agents.Agents.resync.Goals as goal
 

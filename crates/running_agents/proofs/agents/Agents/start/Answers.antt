@@ -1,5 +1,5 @@
 use Rattle.std.proofs.Common.{◌<◌, length, sym, subst}
-use Rattle.running_agents.specs.Running.{AgentsRecord, StartInWorld, AreWithin}
+use Rattle.running_agents.specs.RunningAgents.{AgentsRecord, StartInWorld, AreWithin}
 use Rattle.running_agents.proofs.Calls.{started_with, starts_slot, starts_within}
 use Rattle.running_agents.proofs.agents.Agents.start.Goals as goal
 

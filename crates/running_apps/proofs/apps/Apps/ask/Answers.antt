@@ -1,5 +1,5 @@
 use Rattle.std.proofs.Common.{subst, arith}
-use Rattle.running_apps.specs.Running.{AppsRecord, AskInWorld, with_app, command_of}
+use Rattle.running_apps.specs.RunningApps.{AppsRecord, AskInWorld, with_app, command_of}
 use Rattle.running_apps.proofs.Calls.{asks_slot}
 use Rattle.running_apps.proofs.apps.Apps.ask.Goals as goal
 

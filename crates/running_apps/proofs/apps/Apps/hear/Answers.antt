@@ -1,6 +1,6 @@
 use Rattle.std.proofs.Common.{subst, arith}
 use Rattle.std.proofs.lemmas.Result.{IfOk-weaker}
-use Rattle.running_apps.specs.Running.{AppsRecord, HearInWorld, with_app}
+use Rattle.running_apps.specs.RunningApps.{AppsRecord, HearInWorld, with_app}
 use Rattle.running_apps.proofs.Calls.{hears_slot}
 use Rattle.running_apps.proofs.apps.Apps.hear.Goals as goal
 

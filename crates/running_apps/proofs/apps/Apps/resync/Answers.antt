@@ -1,5 +1,5 @@
 use Rattle.std.proofs.Common.{subst, arith}
-use Rattle.running_apps.specs.Running.{AppsRecord, ResyncInWorld, with_app}
+use Rattle.running_apps.specs.RunningApps.{AppsRecord, ResyncInWorld, with_app}
 use Rattle.running_apps.proofs.Calls.{resyncs_slot}
 use Rattle.running_apps.proofs.apps.Apps.resync.Goals as goal
 

@@ -1,5 +1,5 @@
 use Rattle.std.proofs.Common.{sym, subst, arith}
-use Rattle.running_apps.specs.Running.{AppsRecord, StartInWorld, AreWithin}
+use Rattle.running_apps.specs.RunningApps.{AppsRecord, StartInWorld, AreWithin}
 use Rattle.running_apps.proofs.Calls.{started_with, starts_slot, starts_within}
 use Rattle.running_apps.proofs.apps.Apps.start.Goals as goal
 

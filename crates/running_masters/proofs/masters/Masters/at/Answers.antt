@@ -1,6 +1,6 @@
 use Rattle.std.proofs.Common.{◌≡◌, ◌<◌, Some, length, slice_get, sym, ◌∙◌, ap, subst}
 use Rattle.std.proofs.lemmas.Option.{slice_get-get_or}
-use Rattle.running_masters.specs.Running.{MastersRecord, running}
+use Rattle.running_masters.specs.RunningMasters.{MastersRecord, running}
 use Rattle.running_masters.proofs.Entries.{find_at}
 use Rattle.running_masters.proofs.masters.Masters.at.Goals as goal
 

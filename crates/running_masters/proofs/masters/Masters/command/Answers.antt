@@ -1,6 +1,6 @@
 use Rattle.std.proofs.Common.{sym, subst}
-use Rattle.running_masters.specs.Calls.{CommandsInWorld}
-use Rattle.running_masters.proofs.CallsLemmas.{commands}
+use Rattle.running_masters.specs.MasterCalls.{CommandsInWorld}
+use Rattle.running_masters.proofs.MasterCallsLemmas.{commands}
 use Rattle.running_masters.proofs.masters.Masters.command.Goals as goal
 
 pub returns-clause-world : goal.returns-clause-world

@@ -1,7 +1,7 @@
 use Rattle.std.proofs.Common.{◌≡◌, Some, None, is_some, sym, ◌∙◌, ap, subst}
 use Rattle.std.specs.Ordering.{nat_cmp}
 use Rattle.std.specs.FinMap.Entries.{find}
-use Rattle.running_masters.specs.Running.{running}
+use Rattle.running_masters.specs.RunningMasters.{running}
 use Rattle.running_masters.proofs.Entries.{find_at, found_alike}
 use Rattle.running_masters.proofs.MastersStay.{slot_at}
 use Rattle.running_masters.proofs.masters.Masters.get.Goals as goal

@@ -1,6 +1,6 @@
 use Rattle.std.proofs.Common.{sym, subst}
-use Rattle.running_masters.specs.Calls.{HearsInWorld}
-use Rattle.running_masters.proofs.CallsLemmas.{hears}
+use Rattle.running_masters.specs.MasterCalls.{HearsInWorld}
+use Rattle.running_masters.proofs.MasterCallsLemmas.{hears}
 use Rattle.running_masters.proofs.masters.Masters.hear.Goals as goal
 
 pub returns-clause-world : goal.returns-clause-world

@@ -1,7 +1,7 @@
 use Rattle.std.proofs.Common.{sym, ◌∙◌, ap}
 use Rattle.fuxi_terms.specs.Jobs.{is_known}
 use Rattle.written_roles.specs.Masters.{Master}
-use Rattle.written_join.specs.Seen.{master_seen}
+use Rattle.written_join.specs.SeenWorlds.{master_seen}
 use Rattle.running_masters.proofs.Entries.{some_is}
 use Rattle.running_masters.proofs.masters.Masters.knows.Goals as goal
 

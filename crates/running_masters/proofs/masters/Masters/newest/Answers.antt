@@ -1,6 +1,6 @@
 use Rattle.std.proofs.Common.{◌≡◌, ◌-◌, ◌<◌, Some, is_some, length, slice_get, sym, ◌∙◌, ap, subst}
 use Rattle.std.specs.List.{AllByRecursion}
-use Rattle.running_masters.specs.Running.{MastersRecord, epochs_of, running}
+use Rattle.running_masters.specs.RunningMasters.{MastersRecord, epochs_of, running}
 use Rattle.running_masters.proofs.Entries.{find_at, has_last, last_above}
 use Rattle.running_masters.proofs.masters.Masters.newest.Goals as goal
 

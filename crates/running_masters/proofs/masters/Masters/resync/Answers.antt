@@ -1,6 +1,6 @@
 use Rattle.std.proofs.Common.{sym, subst}
-use Rattle.running_masters.specs.Calls.{ResyncsInWorld}
-use Rattle.running_masters.proofs.CallsLemmas.{resyncs}
+use Rattle.running_masters.specs.MasterCalls.{ResyncsInWorld}
+use Rattle.running_masters.proofs.MasterCallsLemmas.{resyncs}
 use Rattle.running_masters.proofs.masters.Masters.resync.Goals as goal
 
 pub returns-clause-world : goal.returns-clause-world

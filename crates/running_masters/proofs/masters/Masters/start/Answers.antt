@@ -3,8 +3,8 @@ use Rattle.std.specs.List.{AllByRecursion}
 use Rattle.std.specs.Ordering.{nat_cmp}
 use Rattle.std.specs.FinMap.Entries.{put}
 use Rattle.fuxi_terms.specs.Limits.{most_masters}
-use Rattle.running_masters.specs.Running.{MastersRecord, AreMasters, AreWithin, epochs_of}
-use Rattle.running_masters.specs.Calls.{StartsInWorld}
+use Rattle.running_masters.specs.RunningMasters.{MastersRecord, AreMasters, AreWithin, epochs_of}
+use Rattle.running_masters.specs.MasterCalls.{StartsInWorld}
 use Rattle.running_masters.proofs.Entries.{put_last}
 use Rattle.running_masters.proofs.MastersStay.{kept_start, within_start}
 use Rattle.running_masters.proofs.StartsAndStops.{start_in}

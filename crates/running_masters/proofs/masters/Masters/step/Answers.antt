@@ -2,7 +2,7 @@ use Rattle.std.proofs.Common.{◌≡◌, Some, slice_get, ◌∙◌, ap, subst}
 use Rattle.std.specs.List.{insert}
 use Rattle.std.specs.Ordering.{nat_cmp}
 use Rattle.std.specs.FinMap.Entries.{put}
-use Rattle.running_masters.specs.Running.{MastersRecord, AreMasters, running}
+use Rattle.running_masters.specs.RunningMasters.{MastersRecord, AreMasters, running}
 use Rattle.running_masters.proofs.Entries.{find_at, put_at}
 use Rattle.running_masters.proofs.MastersStay.{epochs_step, kept_step, slot_at, within_step}
 use Rattle.running_masters.proofs.masters.Masters.step.Goals as goal

@@ -1,7 +1,7 @@
 use Rattle.std.proofs.Common.{not, nat_eq, sym, ◌∙◌, ap, subst}
 use Rattle.std.specs.List.{filter}
-use Rattle.running_masters.specs.Running.{MastersRecord, AreMasters, AreWithin, epochs_of}
-use Rattle.running_masters.specs.Calls.{StopsInWorld}
+use Rattle.running_masters.specs.RunningMasters.{MastersRecord, AreMasters, AreWithin, epochs_of}
+use Rattle.running_masters.specs.MasterCalls.{StopsInWorld}
 use Rattle.running_masters.proofs.Entries.{keys_where}
 use Rattle.running_masters.proofs.MastersStay.{kept_stop, within_stop}
 use Rattle.running_masters.proofs.StartsAndStops.{stop_in}

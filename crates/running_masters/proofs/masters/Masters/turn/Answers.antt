@@ -2,8 +2,8 @@ use Rattle.std.proofs.Common.{sym, subst}
 use Rattle.std.specs.Prelude.{IfSome}
 use Rattle.std.specs.List.{AllByRecursion}
 use Rattle.core_side.specs.Parcels.{IsSent}
-use Rattle.running_masters.specs.Calls.{TurnsInWorld}
-use Rattle.running_masters.proofs.CallsLemmas.{turns, turns_formed}
+use Rattle.running_masters.specs.MasterCalls.{TurnsInWorld}
+use Rattle.running_masters.proofs.MasterCallsLemmas.{turns, turns_formed}
 use Rattle.running_masters.proofs.masters.Masters.turn.Goals as goal
 
 pub returns-clause-world : goal.returns-clause-world

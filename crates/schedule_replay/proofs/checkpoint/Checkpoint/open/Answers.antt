@@ -1,5 +1,5 @@
 use Rattle.std.proofs.Common.{ap}
-use Rattle.schedule_replay.specs.Disks.{Grown}
+use Rattle.schedule_replay.specs.GrowingDisks.{Grown}
 use Rattle.schedule_replay.proofs.EmptyFile.{opened_where}
 use Rattle.schedule_replay.proofs.checkpoint.Checkpoint.open.Goals as goal
 

@@ -1,6 +1,6 @@
 use Rattle.std.proofs.Common.{ap, ◌∙◌}
 use Rattle.hard_state.specs.declared.fault.HardFault.{HardFault}
-use Rattle.schedule_replay.specs.Disks.{Grown}
+use Rattle.schedule_replay.specs.GrowingDisks.{Grown}
 use Rattle.schedule_replay.specs.Held.{Held}
 use Rattle.schedule_replay.specs.Writings.{event_of}
 use Rattle.schedule_replay.proofs.StopLeaves.{leaves_stopped}

@@ -1,9 +1,9 @@
 use Rattle.std.proofs.Common.{◌<◌, length, map, refl, sym, ap, subst, ◌∙◌, arith, IsSome}
 use Rattle.std.proofs.lemmas.List.{map-set, get_or_read, length-map}
 use Rattle.slot_pool.specs.declared.cell.Cell.TheVariants.{Vacant, Live}
-use Rattle.slot_pool.specs.Cells.{value_of}
+use Rattle.slot_pool.specs.PoolLayout.{value_of}
 use Rattle.slot_pool.specs.Pools.{value_at}
-use Rattle.slot_pool.proofs.CellsLemmas.{rewritten, value_inside, read_value}
+use Rattle.slot_pool.proofs.PoolLayoutLemmas.{rewritten, value_inside, read_value}
 use Rattle.slot_pool.proofs.PoolsLemmas.{live_reads, read_present}
 use Rattle.slot_pool.proofs.pool.Pool.get_mut.Goals as goal
 

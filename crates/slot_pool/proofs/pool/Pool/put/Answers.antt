@@ -1,8 +1,8 @@
 use Rattle.std.proofs.Common.{◌≡◌, Some, None, length, map, get_or, set, sym, ap, ◌∙◌, arith}
 use Rattle.std.proofs.lemmas.List.{map-set, map_push, get_or-set_same, length-map, get_or_read}
-use Rattle.slot_pool.specs.Cells.{value_of}
+use Rattle.slot_pool.specs.PoolLayout.{value_of}
 use Rattle.slot_pool.specs.Pools.{value_at}
-use Rattle.slot_pool.proofs.CellsLemmas.{last_free, refilled, last_vacant}
+use Rattle.slot_pool.proofs.PoolLayoutLemmas.{last_free, refilled, last_vacant}
 use Rattle.slot_pool.proofs.PoolsLemmas.{read_present, read_nothing, reads_as_before, differs_set, differs_appended}
 use Rattle.slot_pool.proofs.pool.Pool.put.Goals as goal
 

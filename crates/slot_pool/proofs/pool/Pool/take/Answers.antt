@@ -1,8 +1,8 @@
 use Rattle.std.proofs.Common.{map, sym, ap, subst, ◌∙◌, arith, IsSome}
 use Rattle.std.proofs.lemmas.List.{map-set}
-use Rattle.slot_pool.specs.Cells.{value_of}
+use Rattle.slot_pool.specs.PoolLayout.{value_of}
 use Rattle.slot_pool.specs.Pools.{value_at}
-use Rattle.slot_pool.proofs.CellsLemmas.{emptied, live_room, value_inside}
+use Rattle.slot_pool.proofs.PoolLayoutLemmas.{emptied, live_room, value_inside}
 use Rattle.slot_pool.proofs.PoolsLemmas.{live_reads, reads_as_before, differs_taken}
 use Rattle.slot_pool.proofs.pool.Pool.take.Goals as goal
 

@@ -1,7 +1,7 @@
 use Rattle.std.proofs.Common.{◌≡◌, Ok, subst}
-use Rattle.schedule_replay.specs.Events.{event_as}
+use Rattle.schedule_replay.specs.LineEvents.{event_as}
 use Rattle.storm_run.specs.Storms.{taken}
-use Rattle.storm_run.specs.Runs.{Runs}
+use Rattle.storm_run.specs.StormRuns.{Runs}
 use Rattle.storm_run.proofs.StormsLemmas.{took}
 use Rattle.storm_run.proofs.run.Run.take.Goals as goal
 

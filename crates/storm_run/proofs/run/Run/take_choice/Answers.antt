@@ -1,7 +1,7 @@
 use Rattle.std.proofs.Common.{◌++◌, Err, sym}
 use Rattle.fuxi_terms.specs.Counts.{then_do}
 use Rattle.storm_run.specs.Storms.{all_taken}
-use Rattle.storm_run.specs.Runs.{listed}
+use Rattle.storm_run.specs.StormRuns.{listed}
 use Rattle.storm_run.proofs.StormsLemmas.{taken_then, then_ran, then_stopped, ran_same}
 use Rattle.storm_run.proofs.run.Run.take_choice.Goals as goal
 

@@ -1,6 +1,6 @@
 use Rattle.std.proofs.Common.{ap}
 use Rattle.storm_run.specs.Storms.{all_taken}
-use Rattle.storm_run.specs.Runs.{listed}
+use Rattle.storm_run.specs.StormRuns.{listed}
 use Rattle.storm_run.proofs.run.Run.take_if.Goals as goal
 
 pub returns-in-None-clause-runs : goal.returns-in-None-clause-runs

@@ -1,6 +1,6 @@
 use Rattle.std.proofs.Common.{◌≡◌, Ok, Err, subst, arith, rules}
 use Rattle.storm_run.specs.Storms.{taken, each}
-use Rattle.storm_run.specs.Runs.{told, Runs}
+use Rattle.storm_run.specs.StormRuns.{told, Runs}
 use Rattle.storm_run.proofs.StormsLemmas.{ran_more, ran_short}
 use Rattle.storm_run.proofs.run.Run.tell_each.Goals as goal
 

@@ -1,6 +1,6 @@
 use Rattle.std.proofs.Common.{◌+◌, ◌≤◌, Ok}
 use Rattle.storm_run.specs.Storms.{taken, each}
-use Rattle.storm_run.specs.Runs.{told, Runs}
+use Rattle.storm_run.specs.StormRuns.{told, Runs}
 use Rattle.storm_run.proofs.run.Run.tell_each.Given as goal
 
 abbrev pub invariant-loop-number : goal.invariant-loop-number

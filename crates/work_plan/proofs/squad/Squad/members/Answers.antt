@@ -1,7 +1,7 @@
 use Rattle.std.proofs.Common.{◌<◌, List, length, ap, subst, arith}
 use Rattle.std.specs.List.{AllByRecursion}
 use Rattle.std.proofs.lemmas.List.{length-map}
-use Rattle.work_plan.specs.Plans.{most_workers}
+use Rattle.work_plan.specs.PlanKeys.{most_workers}
 use Rattle.work_plan.specs.Crews.{workers_of, Distinct}
 use Rattle.work_plan.specs.declared.squad.Member.{Member}
 use Rattle.work_plan.proofs.CrewsLemmas.{few_distinct}

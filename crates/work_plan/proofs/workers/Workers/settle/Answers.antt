@@ -1,6 +1,6 @@
 use Rattle.std.proofs.Common.{arith, Some, set}
 use Rattle.std.proofs.lemmas.Grind.{common_steps}
-use Rattle.work_plan.specs.Plans.{named}
+use Rattle.work_plan.specs.PlanKeys.{named}
 use Rattle.work_plan.specs.Crews.{Settled, members_at}
 use Rattle.work_plan.proofs.CrewsLemmas.{settled_runs}
 use Rattle.work_plan.proofs.workers.Workers.settle.Goals as goal

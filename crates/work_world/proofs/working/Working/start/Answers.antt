@@ -1,8 +1,8 @@
 use Rattle.std.proofs.Common.{◌≤◌, List, length, refl, sym, subst, arith}
 use Rattle.work_ends.specs.declared.ends.Parcel.{Parcel}
-use Rattle.written_work.specs.Runs.{most_work_packets}
-use Rattle.written_work.specs.States.{AtStart}
-use Rattle.written_work.specs.World.{empty_world}
+use Rattle.written_work.specs.WorkRuns.{most_work_packets}
+use Rattle.written_work.specs.WorkStates.{AtStart}
+use Rattle.written_work.specs.AgentWithApps.{empty_world}
 use Rattle.work_world.proofs.StartsAndPlans.{begun}
 use Rattle.work_world.proofs.working.Working.start.Goals as goal
 

@@ -1,0 +1,56 @@
+-- A core that stands for an application still does after it heard a packet of the known master, and of a new one.
+use Rattle.std.proofs.Common.{◌≡◌, ℕ, ◌<◌, true, false, cond, nat_eq, List, length, sym, ◌∙◌, ap, subst}
+use Rattle.fuxi_terms.specs.Lists.{below}
+use Rattle.fuxi_terms.proofs.Booleans.{both_true, number_is}
+use Rattle.party_ledgers.specs.declared.packets.Packet.{Packet}
+use Rattle.written_net.specs.Net.{same_id}
+use Rattle.written_net.specs.Channels.{app_id, is_master}
+use Rattle.written_net.specs.Sides.{HeardSide, shown, appended}
+use Rattle.written_roles.specs.Apps.{AppRole, app_told, joined_demand, names, usable_of, carried_in, carry_of}
+use Rattle.core_side.specs.Bodies.{tally_of}
+use Rattle.core_side.specs.Parcels.{packet_of}
+use Rattle.app_master.specs.Usable.{carried_at, is_named, usable_in}
+use Rattle.app_master.specs.AppCores.{AppCore, StandsFor, Up, IsUp}
+use Rattle.app_master.specs.AppPackets.{is_for}
+use Rattle.app_master.proofs.CarriedLemmas.{carried_then}
+
+-- a packet that is for the application comes from a master
+pub comes_to : (x : Packet) (a : AppCore) (r : AppRole) → StandsFor a r → is_for x a.job ≡ true → ((packet_of x).to.id ≡ app_id r.job) × (is_master (packet_of x).from.id ≡ true)
+comes_to x a r s mine =
+    let to = (packet_of x).to.id in
+    let parts = both_true (same_id to (app_id a.job)) (is_master (packet_of x).from.id) mine in
+    let same = both_true (nat_eq to.role 3) (nat_eq to.number a.job) parts.0 in
+    let role = number_is to.role 3 same.0 in
+    let number = number_is to.number a.job same.1 ∙ s.job in
+    (λ i. record { role = role i; number = number i }, parts.1)
+
+-- of the known master: nothing but the side changes
+pub stays : (a : AppCore) (up : Up) (steps : ℕ) (r : AppRole) (epoch : ℕ) (h : HeardSide) → h.fresh ≡ false → IsUp up r.boot h.side → StandsFor a r → StandsFor (record a { up = up; steps = steps }) (app_told r epoch h).role
+stays a up steps r epoch h known side s = record {
+  job = s.job;
+  units = s.units;
+  machines = s.machines;
+  racks = s.racks;
+  carried = λ u m lu lm. s.carried u m lu lm ∙ ap (λ b. carried_in (cond b (carry_of r.up.link r.up.got (shown r.up) r.boot r.units (below (length r.cluster.machines)) r.carried) r.carried) u m) (sym known);
+  up = subst (λ b. IsUp up r.boot (cond b (appended false (joined_demand epoch (shown r.up)) h.side) h.side)) (sym known) side;
+}
+
+-- of a new one: what was held is carried, and the demand is appended
+pub joins : (a : AppCore) (up : Up) (counts : List (List ℕ)) (steps : ℕ) (r : AppRole) (epoch : ℕ) (h : HeardSide) → h.fresh ≡ true → IsUp up r.boot (appended false (joined_demand epoch (shown r.up)) h.side)
+    → ((u m : ℕ) → u < a.units → m < a.machines → carried_at counts u m ≡ cond (is_named a.up.incoming.received m) (usable_in a.up.incoming.received a.up.outgoing.present a.up.outgoing.own u m) (carried_at a.carried u m))
+    → StandsFor a r → StandsFor (record a { up = up; carried = counts; steps = steps }) (app_told r epoch h).role
+joins a up counts steps r epoch h fresh side joined s = record {
+  job = s.job;
+  units = s.units;
+  machines = s.machines;
+  racks = s.racks;
+  carried = λ u m lu lm.
+      let got : tally_of a.up.incoming.received ≡ r.up.got = sym s.up.got in
+      let own : tally_of a.up.outgoing.present ≡ shown r.up = sym s.up.shown in
+      let here : cond (is_named a.up.incoming.received m) (usable_in a.up.incoming.received a.up.outgoing.present a.up.outgoing.own u m) (carried_at a.carried u m) ≡ cond (names r.up.got m) (usable_of r.up.got (shown r.up) r.boot u m) (carried_in r.carried u m)
+      = λ i. cond (names (got i) m) (usable_of (got i) (own i) (s.up.own i) u m) (s.carried u m lu lm i) in
+      joined u m lu lm ∙ here
+      ∙ sym (carried_then r.up.link r.up.got (shown r.up) r.boot r.units (length r.cluster.machines) u m r.carried (subst (λ n. u < n) s.units lu) (subst (λ n. m < n) s.machines lm))
+      ∙ ap (λ b. carried_in (cond b (carry_of r.up.link r.up.got (shown r.up) r.boot r.units (below (length r.cluster.machines)) r.carried) r.carried) u m) (sym fresh);
+  up = subst (λ b. IsUp up r.boot (cond b (appended false (joined_demand epoch (shown r.up)) h.side) h.side)) (sym fresh) side;
+}

@@ -1,0 +1,26 @@
+-- What an application hears and sends.
+use Rattle.std.specs.Prelude.{◌≡◌, ℕ, Bool, ◌&&◌, List, map}
+use Rattle.written_net.specs.Net.{same_id}
+use Rattle.written_net.specs.Channels.{app_id, is_master}
+use Rattle.written_roles.specs.Apps.{AppRole, app_hears_alone, app_turn}
+use Rattle.party_ledgers.specs.declared.packets.Packet.{Packet}
+use Rattle.party_ledgers.specs.declared.packets.Heard.{Heard}
+use Rattle.core_side.specs.Parcels.{packet_of, parcel_is}
+use Rattle.app_master.specs.AppCores.{AppCore, StandsFor}
+
+-- the packet is for the application of this job, of a master
+abbrev pub is_for : Packet → ℕ → Bool
+is_for x job = same_id (packet_of x).to.id (app_id job) && is_master (packet_of x).from.id
+
+-- the application by itself hears the packet, and the new core stands for it then
+pub record Hears (new : AppCore) (x : Packet) (heard : Heard) (r : AppRole) : Type 0 where
+  pub role : StandsFor new (app_hears_alone r (parcel_is x)).role
+  pub fresh : heard.fresh ≡ (app_hears_alone r (parcel_is x)).fresh
+  pub says : heard.what ≡ (app_hears_alone r (parcel_is x)).what
+
+abbrev pub HearsAlike : AppCore → Packet → AppCore × Heard → Type 0
+HearsAlike old x after = (r : AppRole) → StandsFor old r → Hears after.0 x after.1 r
+
+-- the packets are those that the application by itself sends
+abbrev pub SendsAlike : AppCore → List Packet → Type 0
+SendsAlike a packets = (r : AppRole) → StandsFor a r → map parcel_is packets ≡ app_turn r

@@ -1,0 +1,32 @@
+-- What runs, as the state that is printed sees it, and the worlds that it is of.
+use Rattle.std.specs.Prelude.{◌≡◌}
+use Rattle.fuxi_terms.specs.Cluster.{ClusterRecord}
+use Rattle.written_roles.specs.HardState.{HardState}
+use Rattle.written_world.specs.World.{World}
+use Rattle.written_world.specs.Good.{Good}
+use Rattle.running_agents.specs.RunningAgents.{AgentsRecord, AreAgentsOf}
+use Rattle.running_apps.specs.RunningApps.{AppsRecord, AreAppsOf}
+use Rattle.running_masters.specs.RunningMasters.{MastersRecord, AreMastersOf}
+use Rattle.written_world.specs.Orders.{IsInOrder}
+
+pub record Running : Type 0 where
+  pub cluster : ClusterRecord
+  pub hard : HardState
+  pub masters : MastersRecord
+  pub agents : AgentsRecord
+  pub apps : AppsRecord
+
+-- it is what runs in a good world whose parties stand in order
+pub record IsRunningOf (w : World) (r : Running) : Type 0 where
+  pub good : Good w
+  pub order : IsInOrder w
+  pub cluster : r.cluster ≡ w.cluster
+  pub hard : r.hard ≡ w.hard
+  pub masters : AreMastersOf w r.masters
+  pub agents : AreAgentsOf w r.agents
+  pub apps : AreAppsOf w r.apps
+
+-- there is such a world
+pub record IsKnown (r : Running) : Type 0 where
+  pub world : World
+  pub of : IsRunningOf world r

@@ -1,0 +1,170 @@
+-- What the starts, stops and commands of masters do in each world that the hard state and the masters are of.
+use Rattle.std.specs.Prelude.{◌≡◌, ℕ, ◌+◌, ◌<◌, ◌≤◌, true, [], length, map, All, Option, Some, None, Result, Ok, Err}
+use Rattle.std.specs.Ordering.{nat_cmp}
+use Rattle.std.specs.FinMap.Entries.{find}
+use Rattle.fuxi_terms.specs.Cluster.{ClusterRecord, JobRecord, is_valid_cluster}
+use Rattle.fuxi_terms.specs.Limits.{most_jobs, most_machines, most_masters, most_records}
+use Rattle.written_net.specs.Channels.{master_id, party}
+use Rattle.written_roles.specs.HardState.{HardState, HardEvent, Submission}
+use Rattle.written_roles.specs.Masters.{Master}
+use Rattle.written_roles.specs.MasterSteps.{Changed, MasterCommand, Submits, Finishes, BansMachine, UnbansMachine, StartsServing, MakesRoom, change_of, command_of, writes}
+use Rattle.written_roles.specs.MasterRoles.{Told}
+use Rattle.written_world.specs.World.{World, Step, refused}
+use Rattle.written_world.specs.Events.{commanded, ban_each, judge, start_master}
+use Rattle.written_world.specs.Good.{Good}
+use Rattle.written_join.specs.PartyJoins.{OneActs}
+use Rattle.bad_nodes.specs.Ranks.{number_of}
+use Rattle.schedule_replay.specs.Held.{Held, IsOpen}
+use Rattle.fuxi_master.specs.Steps.{told_by}
+use Rattle.fuxi_master.specs.declared.event.MasterEvent.{MasterEvent}
+use Rattle.fuxi_master.specs.declared.event.MasterRefusal.{MasterRefusal}
+use Rattle.core_join.specs.MasterInWorld.{IsWritten, change_in}
+use Rattle.running_masters.specs.RunningMasters.{MastersRecord, AreMastersOf, AreWithin}
+use Rattle.running_masters.specs.MasterCalls.{CommandDoneIn}
+use Rattle.master_text.specs.PrintedRefusals.{master_refusal}
+use Rattle.schedule_text.specs.declared.refusal.Refusal.{Refusal}
+use Rattle.schedule_text.specs.declared.refusal.Refusal.TheVariants as why
+use Rattle.schedule_text.specs.Printing.{as_refusal}
+use Rattle.schedule_text.specs.Asked.{job_named}
+use Rattle.schedule_replay.specs.declared.commands.Judgement.{Judgement}
+use Rattle.schedule_replay.specs.declared.commands.Order.{Order}
+use Rattle.schedule_replay.specs.declared.commands.Order.TheVariants as order
+
+-- the parts that commands of masters change
+pub record Governing : Type 0 where
+  pub checkpoint : Held
+  pub masters : MastersRecord
+
+-- they are those of a good world
+pub record IsGoverning (w : World) (g : Governing) : Type 0 where
+  pub good : Good w
+  pub hard : g.checkpoint.hard.value ≡ w.hard
+  pub rests : IsOpen g.checkpoint
+  pub stand : AreMastersOf w g.masters
+
+-- and there is such a world
+pub record AreGoverned (g : Governing) : Type 0 where
+  pub world : World
+  pub of : IsGoverning world g
+
+-- An event for the master of an epoch is done: the parts are those of the world after it, nothing is printed, no packet is sent, and all other parties
+-- see what they saw
+pub record IsGoverned (w : World) (e : ℕ) (s : Step) (new : Governing) : Type 0 where
+  pub hard : new.checkpoint.hard.value ≡ s.world.hard
+  pub rests : IsOpen new.checkpoint
+  pub stand : AreMastersOf s.world new.masters
+  pub acts : OneActs w.net s.world.net (party master_id e) []
+  pub rest : s.world ≡ record w { hard = s.world.hard; ran = s.world.ran; masters = s.world.masters; net = s.world.net }
+  pub quiet : s.lines ≡ []
+
+-- or it is refused: the parts are still those of the world before it
+pub record IsRefused (w : World) (s : Step) (new : Governing) (refusal : Refusal) : Type 0 where
+  pub same : IsGoverning w new
+  pub is : s ≡ refused w (as_refusal refusal)
+
+abbrev pub GovernsIn : World → ℕ → Step → Governing → Option Refusal → Type 0
+GovernsIn w e s new None = IsGoverned w e s new
+GovernsIn w e s new (Some refusal) = IsRefused w s new refusal
+
+-- in each world that they are of, and in each on this cluster
+abbrev pub Governs : ℕ → (World → Step) → Governing → Governing → Option Refusal → Type 0
+Governs e step old new answer = (w : World) → IsGoverning w old → GovernsIn w e (step w) new answer
+
+abbrev pub GovernsOn : ClusterRecord → ℕ → (World → Step) → Governing → Governing → Option Refusal → Type 0
+GovernsOn c e step old new answer = (w : World) → c ≡ w.cluster → IsGoverning w old → GovernsIn w e (step w) new answer
+
+-- whatever the hard state is
+abbrev pub governing : Held → MastersRecord → Governing
+governing checkpoint masters = record { checkpoint = checkpoint; masters = masters }
+
+abbrev pub GovernsMasters : ℕ → (World → Step) → MastersRecord → MastersRecord → Option Refusal → Type 0
+GovernsMasters e step old new answer = (checkpoint : Held) → Governs e step (governing checkpoint old) (governing checkpoint new) answer
+
+-- The tests before a writing. Of a start in an epoch
+pub record MayStart (w : World) (e : ℕ) : Type 0 where
+  pub above : w.hard.fence < e
+  pub few : length w.masters < most_masters
+
+abbrev pub StartsIn : World → ℕ → Result (Unit {0}) Refusal → Type 0
+StartsIn w e (Ok passed) = MayStart w e
+StartsIn w e (Err refusal) = start_master w e ≡ refused w (as_refusal refusal)
+
+-- of a command: its master runs, it is this writing and what it then changes of the master, and that is not refused
+pub record MayWrite (w : World) (e : ℕ) (x : MasterCommand) (v : HardEvent) : Type 0 where
+  pub master : Master
+  pub runs : find nat_cmp e w.masters ≡ Some master
+  pub is : command_of w.cluster w.hard master x ≡ writes w.cluster w.hard master v (change_in x)
+  pub changed : Changed
+  pub changes : change_of w.cluster master (change_in x) ≡ Ok changed
+
+abbrev pub WritesIn : World → ℕ → MasterCommand → HardEvent → Result (Unit {0}) Refusal → Type 0
+WritesIn w e x v (Ok passed) = MayWrite w e x v
+WritesIn w e x v (Err refusal) = commanded w e x ≡ refused w (as_refusal refusal)
+
+-- of a submission: the job is the one that is written
+abbrev pub SubmitsIn : World → ℕ → JobRecord → Result JobRecord Refusal → Type 0
+SubmitsIn w e j (Ok job) = MayWrite w e (Submits j) (Submission job)
+SubmitsIn w e j (Err refusal) = commanded w e (Submits j) ≡ refused w (as_refusal refusal)
+
+-- the machines of a judgement are among those with votes, which are no more than a cluster may have, and no more than records may be written
+pub record MayBan (j : Judgement) : Type 0 where
+  pub there : All (λ m. m < length j.votes.votes) (map number_of j.machines.items)
+  pub votes : length j.votes.votes ≤ most_machines
+  pub few : length j.machines.items ≤ most_records
+
+-- A judgement by the master of an epoch: what it bans, with the votes that were counted
+pub record IsDecided (w : World) (e least percent : ℕ) (j : Judgement) : Type 0 where
+  pub bans : judge w e least percent ≡ ban_each e j.votes (map number_of j.machines.items) w
+  pub may : MayBan j
+
+-- or why it is refused
+abbrev pub DecidesIn : World → ℕ → ℕ → ℕ → Result Judgement Refusal → Type 0
+DecidesIn w e least percent (Ok j) = IsDecided w e least percent j
+DecidesIn w e least percent (Err refusal) = judge w e least percent ≡ refused w (as_refusal refusal)
+
+abbrev pub Decides : ℕ → ℕ → ℕ → Governing → Result Judgement Refusal → Type 0
+Decides e least percent g answer = (w : World) → is_valid_cluster w.cluster ≡ true → IsGoverning w g → DecidesIn w e least percent answer
+
+-- no master takes more than one step
+abbrev pub TakesStep : MastersRecord → MastersRecord → Type 0
+TakesStep old new = (n : ℕ) → AreWithin n old → AreWithin (n + 1) new
+
+-- what a master's answer says
+abbrev pub refusal_in : Option (Result (Unit {0}) MasterRefusal) → Option Refusal
+refusal_in None = Some why.NotRunning
+refusal_in (Some (Ok done)) = None
+refusal_in (Some (Err refusal)) = Some (master_refusal refusal)
+
+-- A command as a master is told it, once the hard state is written
+pub record RefusesIn (w : World) (e : ℕ) (x : MasterCommand) (new : MastersRecord) (refusal : Refusal) : Type 0 where
+  pub stand : AreMastersOf w new
+  pub same : commanded w e x ≡ refused w (as_refusal refusal)
+
+abbrev pub TellsIn : World → ℕ → MasterCommand → MastersRecord → Option Refusal → Type 0
+TellsIn w e x new None = (M : Master) (h : HardState) → find nat_cmp e w.masters ≡ Some M → IsWritten w M x h → CommandDoneIn w e x h new
+TellsIn w e x new (Some refusal) = RefusesIn w e x new refusal
+
+abbrev pub TellsInWorld : ℕ → MasterEvent → MastersRecord → MastersRecord → Option Refusal → Type 0
+TellsInWorld e event old new answer = (w : World) (x : MasterCommand) → Good w → AreMastersOf w old → told_by event ≡ Told (change_in x) → TellsIn w e x new answer
+
+-- the command of the world that an order is
+abbrev pub command_as : Order → MasterCommand
+command_as (order.Submit app group asks) = Submits (job_named app.0 group.0 asks.now)
+command_as (order.Finish app) = Finishes app.0
+command_as (order.Ban machine) = BansMachine machine.0
+command_as (order.Unban machine) = UnbansMachine machine.0
+command_as order.Begin = StartsServing
+command_as order.Preempt = MakesRoom
+
+-- a job that is submitted has the number of one
+abbrev pub IsNamed : Order → Type 0
+IsNamed (order.Submit app group asks) = app.0 < most_jobs
+IsNamed (order.Finish app) = Unit {0}
+IsNamed (order.Ban machine) = Unit {0}
+IsNamed (order.Unban machine) = Unit {0}
+IsNamed order.Begin = Unit {0}
+IsNamed order.Preempt = Unit {0}
+
+-- An order behind its tests, which is written and told: whatever command it is of
+abbrev pub CarriesOut : ℕ → Result (Unit {0}) Refusal → HardEvent → MasterEvent → Governing → Governing → Option Refusal → Type 0
+CarriesOut e tests v event old new answer = (w : World) (x : MasterCommand) → IsGoverning w old → WritesIn w e x v tests → told_by event ≡ Told (change_in x) → GovernsIn w e (commanded w e x) new answer
