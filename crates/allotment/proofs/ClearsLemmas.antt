@@ -1,6 +1,6 @@
 -- All grants at some spots are gone.
 use Rattle.std.proofs.Common.{◌≡◌, ℕ, ◌+◌, ◌-◌, ◌≤◌, Bool, true, false, cond, nat_eq, nat_lt, List, refl, sym, ◌∙◌, ap, subst, arith}
-use Rattle.std.specs.Prelude.{◌&&◌, ◌||◌, [], ◌∷◌, length, IfOk, Result, Ok, Err, Some}
+use Rattle.std.specs.Prelude.{◌&&◌, ◌||◌, [], ◌∷◌, length, Some}
 use Rattle.std.specs.Option.{unwrap_or, option_map}
 use Rattle.std.specs.Ordering.{eq_by_cmp, is_eq}
 use Rattle.std.specs.Cmp.{tied_itself}
@@ -121,15 +121,6 @@ unit_more a u m s = by (nat_eq s.job a) (nat_eq s.machine m) (nat_lt s.unit u) (
 pub no_unit_yet : (a m : ℕ) (s : Spot) → false ≡ (nat_eq s.job a && (nat_lt s.unit 0 && nat_eq s.machine m))
 no_unit_yet a m s = let f : nat_lt s.unit 0 ≡ false = grind (arith, nat_tests) in sym (ap (λ b. nat_eq s.job a && (b && nat_eq s.machine m)) f ∙ and_false (nat_eq s.job a))
 
--- what four or five clauses of an answer say together
-pub if_ok_four : {A E : Type 0} (P1 P2 P3 P4 Q : A → Type 0) → ((x : A) → P1 x → P2 x → P3 x → P4 x → Q x) → (r : Result A E) → IfOk r P1 → IfOk r P2 → IfOk r P3 → IfOk r P4 → IfOk r Q
-if_ok_four P1 P2 P3 P4 Q f (Ok x) a b c d = f x a b c d
-if_ok_four P1 P2 P3 P4 Q f (Err e) a b c d = tt
-
-pub if_ok_five : {A E : Type 0} (P1 P2 P3 P4 P5 Q : A → Type 0) → ((x : A) → P1 x → P2 x → P3 x → P4 x → P5 x → Q x) → (r : Result A E) → IfOk r P1 → IfOk r P2 → IfOk r P3 → IfOk r P4 → IfOk r P5 → IfOk r Q
-if_ok_five P1 P2 P3 P4 P5 Q f (Ok x) a b c d e = f x a b c d e
-if_ok_five P1 P2 P3 P4 P5 Q f (Err e) a b c d g = tt
-
 pub cleared_spot : (x y : AllotmentRecord) (a u m k : ℕ) → k ≡ held_on x.table.entries a u m
     → ((c : ClusterRecord) (M : Master) → Allots x c M → Allots y c (record M { table = without_count M.table (spot a u m) k })) → AllWait y → Touches x y
     → y.table ≡ record x.table { entries = without_count x.table.entries (spot a u m) k } → OnlyTakes x y → Clears (λ s. nat_eq s.job a && (nat_eq s.unit u && nat_eq s.machine m)) x y
@@ -140,20 +131,6 @@ cleared_spot x y a u m k all stands waits touches table takes = record {
   table = table ∙ ap (λ es. record x.table { entries = es }) (sym (ap (λ (t : TableRecord). t.entries) table));
   takes = takes;
   counts = λ s. ap (λ (t : TableRecord). count spot_cmp t.entries s) table ∙ count_cleared x.table.entries a u m k all s;
-}
-
--- nothing is held there
-pub cleared_already : (x : AllotmentRecord) (a u m : ℕ) → AllWait x → held_on x.table.entries a u m ≡ 0 → Clears (λ s. nat_eq s.job a && (nat_eq s.unit u && nat_eq s.machine m)) x x
-cleared_already x a u m w none = let n = cleared_none x w in record {
-  stands = n.stands;
-  waits = n.waits;
-  touches = n.touches;
-  table = n.table;
-  takes = n.takes;
-  counts = λ s. elim (eq_by_cmp spot_cmp s (spot a u m)) as (λ b. eq_by_cmp spot_cmp s (spot a u m) ≡ b → count spot_cmp x.table.entries s ≡ cond b 0 (count spot_cmp x.table.entries s)) [
-    | true ↦ λ e. ap (count spot_cmp x.table.entries) (same_spot s (spot a u m) (tied _ e)) ∙ none
-    | false ↦ λ _. refl
-  ] refl ∙ ap (λ b. cond b 0 (count spot_cmp x.table.entries s)) (is_spot s a u m);
 }
 
 -- a job has at most 8 units

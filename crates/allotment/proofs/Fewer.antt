@@ -1,9 +1,10 @@
 -- Grants are taken at one spot.
-use Rattle.std.proofs.Common.{◌≡◌, ℕ, ◌+◌, ◌-◌, ◌<◌, ◌≤◌, Bool, true, false, cond, not, nat_eq, nat_lt, List, [], ◌∷◌, ◌++◌, filter, refl, sym, ◌∙◌, ap, arith}
+use Rattle.std.proofs.Common.{◌≡◌, ℕ, ◌+◌, ◌-◌, ◌<◌, ◌≤◌, Bool, true, false, cond, not, nat_eq, nat_lt, List, [], ◌∷◌, ◌++◌, filter, map, refl, sym, ◌∙◌, ap, arith}
 use Rattle.std.specs.Prelude.{◌&&◌, ◌||◌, T}
 use Rattle.std.specs.Ordering.{eq_by_cmp}
 use Rattle.std.specs.FinMap.Entries.{is_sorted}
 use Rattle.std.proofs.lemmas.Bool.Decides.{nat_tests}
+use Rattle.std.proofs.lemmas.List.{map-append}
 use Rattle.fuxi_terms.specs.Cluster.{ClusterRecord}
 use Rattle.fuxi_terms.specs.Counts.{count, set_count}
 use Rattle.fuxi_terms.specs.Keys.{Spot, spot_cmp}
@@ -14,10 +15,12 @@ use Rattle.fuxi_terms.proofs.KeyOrders.{spot_total}
 use Rattle.written_roles.specs.Masters.{Master, out_of}
 use Rattle.written_roles.specs.Placing.{has_pair}
 use Rattle.grant_table.specs.GrantTables.{TableRecord, without_count}
-use Rattle.place_pass.specs.Placers.{SeenRecord, asks_seen, line_told}
+use Rattle.grant_table.specs.declared.asking.Pick.{Pick}
+use Rattle.place_pass.specs.Best.{spot_of}
+use Rattle.place_pass.specs.Placers.{PlacerRecord, SeenRecord, asks_seen, line_told}
 use Rattle.allotment.specs.PlacingReads.{IsPlacing, has_spot}
 use Rattle.allotment.specs.SettlingRuns.{AreTouched}
-use Rattle.allotment.specs.Allotted.{AllotmentRecord, Allots, AllWait, Touches, told_at}
+use Rattle.allotment.specs.Allotted.{AllotmentRecord, Allots, AllWait, Touches, allotment_record, told_at}
 
 -- ---- what is said of the sums when a number is set
 abbrev pub HeldLaw : Type 0
@@ -110,6 +113,13 @@ set_touched es x n ss = record {
 
 pub fewer_touched : (es : List (Spot × ℕ)) (x : Spot) (k : ℕ) (ss : List Spot) → AreTouched es (without_count es x k) ss (ss ++ x ∷ [])
 fewer_touched es x k ss = set_touched es x (count spot_cmp es x - k) ss
+
+-- a placer that was told of a spot, and the spots with that one behind them
+pub told_as : (t : TableRecord) (p q : PlacerRecord) (before after : List Pick) (k : Pick) → after ≡ before ++ k ∷ [] → q.seen ≡ record p.seen { line = line_told p.seen t k.app.0 k.unit.0 } → q.idle ≡ false
+    → allotment_record t q after ≡ told_at t p.seen (map spot_of before) (spot_of k)
+told_as t p q before after k pushed seen idle =
+    let spots : map spot_of after ≡ map spot_of before ++ spot_of k ∷ [] = ap (map spot_of) pushed ∙ map-append spot_of before (k ∷ []) in
+    λ i. record { table = t; placer = record { seen = seen i; idle = idle i }; touched = spots i }
 
 -- so they are taken
 pub record IsFewer (s : Spot) (k : ℕ) (x y : AllotmentRecord) : Type 0 where

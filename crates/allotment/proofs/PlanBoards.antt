@@ -1,15 +1,15 @@
 -- The board of a master says the same as the table and the placer.
-use Rattle.std.proofs.Common.{◌≡◌, ℕ, ◌<◌, Bool, true, false, not, nat_eq, nat_lt, List, [], ◌∷◌, length, map, filter, get_or, refl, sym, ◌∙◌, ap, subst, arith}
-use Rattle.std.specs.Prelude.{◌&&◌, Option, Some, None, Result, Ok, Err, IfOk, slice_get}
+use Rattle.std.proofs.Common.{◌≡◌, ℕ, ◌<◌, true, false, not, nat_eq, nat_lt, List, [], ◌∷◌, length, map, filter, get_or, refl, sym, ◌∙◌, ap, subst, arith}
+use Rattle.std.specs.Prelude.{◌&&◌, Option, Some, slice_get}
 use Rattle.std.specs.Option.{unwrap_or, option_map}
 use Rattle.std.proofs.lemmas.Bool.Decides.{nat_tests}
-use Rattle.fuxi_terms.specs.Cluster.{ClusterRecord, JobRecord, UnitRecord}
+use Rattle.fuxi_terms.specs.Cluster.{ClusterRecord, UnitRecord}
 use Rattle.std.specs.List.{AllByRecursion, flat_map}
 use Rattle.fuxi_terms.specs.Keys.{Spot}
 use Rattle.fuxi_terms.specs.Lists.{below}
 use Rattle.fuxi_terms.specs.Tables.{spot}
 use Rattle.fuxi_terms.proofs.Alls.{all_more, all_append, all_back, all_mapped, all_flat, all_filter}
-use Rattle.fuxi_terms.specs.Jobs.{KnownJob, job_of, units_of, unit_count, priority_of, size_at, most_of, group_of, no_unit}
+use Rattle.fuxi_terms.specs.Jobs.{units_of, unit_count, priority_of, size_at, most_of, group_of, no_unit}
 use Rattle.fuxi_terms.specs.Numbers.{has_number}
 use Rattle.fuxi_terms.specs.TallyKeys.{avoid_key}
 use Rattle.fuxi_terms.specs.Vectors.{at_place}
@@ -105,7 +105,3 @@ served_waits law t s p up h =
     let u = p.pick.unit.0 in
     let some : nat_lt 0 (out_of (asks_seen s) t.entries a u) ≡ true = (both_true (nat_lt u (unit_count (as_known t.jobs) a)) (nat_lt 0 (out_of (asks_seen s) t.entries a u)) (sym (up a u) ∙ served_lined law t s p h)).1 in
     grind (arith, nat_tests, some)
-
-pub if_ok : {A E : Type 0} (P Q : A → Type 0) → ((x : A) → P x → Q x) → (r : Result A E) → IfOk r P → IfOk r Q
-if_ok P Q f (Ok x) h = f x h
-if_ok P Q f (Err e) h = tt

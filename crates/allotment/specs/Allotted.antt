@@ -14,7 +14,7 @@ use Rattle.written_roles.specs.Placing.{has_pair, line_after}
 use Rattle.grant_table.specs.GrantTables.{TableRecord, IsSound, with_count}
 use Rattle.grant_table.specs.declared.asking.Pick.{Pick}
 use Rattle.place_pass.specs.Best.{spot_of}
-use Rattle.place_pass.specs.Placers.{PlacerRecord, SeenRecord, ToldRecord, IsLevelWith, IsSetFrom, asks_seen, line_told, told_of}
+use Rattle.place_pass.specs.Placers.{PlacerRecord, SeenRecord, ToldRecord, IsLevelWith, asks_seen, line_told, told_of}
 use Rattle.preempt.specs.declared.plan.Victim.{Victim}
 use Rattle.preempt.specs.Plans.{without_victims}
 use Rattle.allotment.specs.PlacingReads.{IsPlacing}
@@ -47,12 +47,6 @@ pub record AllWait (x : AllotmentRecord) : Type 0 where
 pub record Touches (x y : AllotmentRecord) : Type 0 where
   pub spots : AreTouched x.table.entries y.table.entries x.touched y.touched
   pub turns : y.placer.seen.turns ≡ x.placer.seen.turns
-
--- a table after the number at one spot was set, and a placer that was level with the table before
-pub record IsSetAt (p : PlacerRecord) (t : TableRecord) (s : Spot) : Type 0 where
-  pub before : TableRecord
-  pub level : IsLevelWith p before
-  pub set : IsSetFrom before t s
 
 -- the placer was told of the spot, so it is idle no more, and the spot is among those that changed
 abbrev pub told_at : TableRecord → SeenRecord → List Spot → Spot → AllotmentRecord

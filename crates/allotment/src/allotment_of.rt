@@ -1,13 +1,9 @@
 //! The table with its placer.
 
-ghost use Rattle.std.specs.Prelude.{◌≡◌, ◌<◌, length, map, IfOk};
+ghost use Rattle.std.specs.Prelude.{◌≡◌};
 ghost use Rattle.fuxi_terms.specs.Counts.{count};
 ghost use Rattle.fuxi_terms.specs.Keys.{key_cmp};
 ghost use Rattle.fuxi_terms.specs.TallyKeys.{credited_key};
-ghost use Rattle.fuxi_terms.specs.Jobs.{unit_count};
-ghost use Rattle.grant_table.specs.GrantTables.{as_known};
-ghost use Rattle.place_pass.specs.Best.{spot_of};
-ghost use Rattle.allotment.specs.Allotted.{IsSetAt, told_at};
 
 use crate::law::lines_alike;
 use crate::settle_run::settle;
@@ -26,6 +22,9 @@ use std::sync::ledger::Ledger;
 
 /// A table of grants and a placer that is level with it, and the spots at which grants changed since they were
 /// last cleared.
+///
+/// Where memory is refused to a call that is lent an allotment, the placer is level with the table still, and
+/// nothing else is said of it.
 pub struct Allotment {
     table: GrantTable,
     placer: Placer,
@@ -54,7 +53,7 @@ impl Model for Allotment {
 }
 
 impl Allotment {
-    ghost use Rattle.std.specs.Prelude.{◌∷◌, ◌≡◌, ℕ, ◌+◌, ◌*◌, ◌<◌, ◌≤◌, ◌^◌, ◌&&◌, ◌||◌, not, nat_eq, nat_lt, cond, true, false, List, [], length, map, IfOk};
+    ghost use Rattle.std.specs.Prelude.{◌∷◌, ◌≡◌, ℕ, ◌+◌, ◌*◌, ◌<◌, ◌≤◌, ◌^◌, ◌&&◌, ◌||◌, not, nat_eq, nat_lt, cond, true, false, List, [], length, map, IfOk, OnOk};
     ghost use Rattle.fuxi_terms.specs.Cluster.{ClusterRecord, has_at};
     ghost use Rattle.fuxi_terms.specs.Jobs.{is_known, size_at, unit_count};
     ghost use Rattle.fuxi_terms.specs.Numbers.{has_number};
@@ -99,7 +98,7 @@ impl Allotment {
     }
 
     /// Admits a job that is not there yet, with nothing granted or asked. Where memory is refused the allotment is
-    /// gone.
+    /// gone, since the table may have the job then and the placer not.
     pub fn admit(self, alloc: Global, job: &Job) -> Result<Allotment, OutOfMemory>
         requires { is_known (as_known self.table.jobs) job.now.number ≡ false }
         ensures stands { IfOk result (λ x. (c : ClusterRecord) (M : Master) → Allots self c M → Allots x c (record M { jobs = with_job job.now M.jobs })) }
@@ -159,171 +158,135 @@ impl Allotment {
     }
 
     /// So many grants fewer. Where the pairs of the line have something out the line stays as it is, and where the
-    /// number is 0 everything does. Where memory is refused the allotment is gone.
+    /// number is 0 everything does.
     pub fn take(
-        self,
+        &mut self,
         app: AppNo,
         unit: UnitNo,
         machine: MachineNo,
         count: u32,
-    ) -> Result<Allotment, OutOfMemory>
-        requires waits { AllWait self }
-        requires unit { unit.0 < unit_count (as_known self.table.jobs) app.0 }
-        requires machine { machine.0 < length self.table.cluster.machines }
-        requires held { count ≤ held_on self.table.entries app.0 unit.0 machine.0 }
-        ensures stands { IfOk result (λ x. (c : ClusterRecord) (M : Master) → Allots self c M → Allots x c (record M { table = without_count M.table (spot app.0 unit.0 machine.0) count })) }
-        ensures waits { IfOk result AllWait }
-        ensures touches { IfOk result (Touches self) }
-        ensures table { IfOk result (λ x. x.table ≡ record self.table { entries = without_count self.table.entries (spot app.0 unit.0 machine.0) count }) }
-        ensures takes { IfOk result (OnlyTakes self) }
+    ) -> Result<(), OutOfMemory>
+        requires waits { AllWait self.old }
+        requires unit { unit.0 < unit_count (as_known self.old.table.jobs) app.0 }
+        requires machine { machine.0 < length self.old.table.cluster.machines }
+        requires held { count ≤ held_on self.old.table.entries app.0 unit.0 machine.0 }
+        ensures stands { OnOk result ((c : ClusterRecord) (M : Master) → Allots self.old c M → Allots self.new c (record M { table = without_count M.table (spot app.0 unit.0 machine.0) count })) }
+        ensures waits { OnOk result (AllWait self.new) }
+        ensures touches { OnOk result (Touches self.old self.new) }
+        ensures table { OnOk result (self.new.table ≡ record self.old.table { entries = without_count self.old.table.entries (spot app.0 unit.0 machine.0) count }) }
+        ensures takes { OnOk result (OnlyTakes self.old self.new) }
     {
-        set_numbers();
+        let _before = self.table.cluster();
         if count == 0 {
-            let _sound = self.table.cluster();
-            return Ok(self);
+            return Ok(());
         }
-        let Allotment {
-            table,
-            placer,
-            touched,
-        } = self;
-        let mut table = table;
-        table.take(app, unit, machine, count);
-        told(table, placer, touched, Pick { app, unit, machine })
+        levels();
+        set_numbers();
+        self.touched.push(Pick { app, unit, machine })?;
+        self.table.take(app, unit, machine, count);
+        self.placer.changed(&self.table, app, unit, machine);
+        let _after = self.table.cluster();
+        Ok(())
     }
 
     // All grants of a unit on a machine are gone.
-    fn clear(self, app: AppNo, unit: UnitNo, machine: MachineNo) -> Result<Allotment, OutOfMemory>
-        requires waits { AllWait self }
-        requires unit { unit.0 < unit_count (as_known self.table.jobs) app.0 }
-        requires machine { machine.0 < length self.table.cluster.machines }
-        ensures { IfOk result (Clears (λ s. nat_eq s.job app.0 && (nat_eq s.unit unit.0 && nat_eq s.machine machine.0)) self) }
+    fn clear(&mut self, app: AppNo, unit: UnitNo, machine: MachineNo) -> Result<(), OutOfMemory>
+        requires waits { AllWait self.old }
+        requires unit { unit.0 < unit_count (as_known self.old.table.jobs) app.0 }
+        requires machine { machine.0 < length self.old.table.cluster.machines }
+        ensures { OnOk result (Clears (λ s. nat_eq s.job app.0 && (nat_eq s.unit unit.0 && nat_eq s.machine machine.0)) self.old self.new) }
     {
         let held = self.table.held_on(app, unit, machine);
-        if held == 0 {
-            return Ok(self);
-        }
-        self.take(app, unit, machine, held)
-    }
-
-    // Whether the job has a grant on the machine. Where it has none, none is to be taken.
-    fn holds_any(&self, app: AppNo, machine: MachineNo) -> bool
-        requires waits { AllWait self.now }
-        requires machine { machine.0 < length self.now.table.cluster.machines }
-        ensures { result ≡ false → Clears (λ s. nat_eq s.job app.0 && (nat_lt s.unit (unit_count (as_known self.now.table.jobs) app.0) && nat_eq s.machine machine.0)) self.now self.now }
-    {
-        let units = self.table.units(app);
-        for number in 0..units.min(255) as u8 {
-            if self.table.held_on(app, UnitNo(number), machine) > 0 {
-                return true;
-            }
-        }
-        false
+        self.take(app, unit, machine, held)?;
+        Ok(())
     }
 
     // All grants of a job on a machine are gone.
-    fn clear_units(self, app: AppNo, machine: MachineNo) -> Result<Allotment, OutOfMemory>
-        requires waits { AllWait self }
-        requires machine { machine.0 < length self.table.cluster.machines }
-        ensures { IfOk result (Clears (λ s. nat_eq s.job app.0 && (nat_lt s.unit (unit_count (as_known self.table.jobs) app.0) && nat_eq s.machine machine.0)) self) }
+    fn clear_units(&mut self, app: AppNo, machine: MachineNo) -> Result<(), OutOfMemory>
+        requires waits { AllWait self.old }
+        requires machine { machine.0 < length self.old.table.cluster.machines }
+        ensures { OnOk result (Clears (λ s. nat_eq s.job app.0 && (nat_lt s.unit (unit_count (as_known self.old.table.jobs) app.0) && nat_eq s.machine machine.0)) self.old self.new) }
     {
         let units = self.table.units(app);
-        let mut left = self;
         for number in 0..units.min(255) as u8 {
-            left = left.clear(app, UnitNo(number), machine)?;
+            self.clear(app, UnitNo(number), machine)?;
         }
-        Ok(left)
+        Ok(())
     }
 
     // Of what one entry of a demand gives back and is not yet credited, the table loses what it has.
     fn credit_one(
-        self,
+        &mut self,
         app: AppNo,
         key: Key,
         back: u64,
         given: &Grants,
-    ) -> Result<Allotment, OutOfMemory>
-        requires { AllWait self }
-        ensures credits { IfOk result (CreditsBack app.0 ((key, back) ∷ []) given.now.entries self) }
-        ensures takes { IfOk result (OnlyTakes self) }
+    ) -> Result<(), OutOfMemory>
+        requires { AllWait self.old }
+        ensures credits { OnOk result (CreditsBack app.0 ((key, back) ∷ []) given.now.entries self.old self.new) }
+        ensures takes { OnOk result (OnlyTakes self.old self.new) }
     {
         let units = self.table.units(app);
         let machines = self.table.cluster().machines();
         if key.what != BACK || key.unit as usize >= units || key.number >= machines {
-            return Ok(self);
+            return Ok(());
         }
         let unit = UnitNo(key.unit);
         let machine = MachineNo(key.number);
         let held = self.table.held_on(app, unit, machine);
         let open = back.saturating_sub(credited(given, key.unit, key.number));
-        self.take(app, unit, machine, open.min(u64::from(held)) as u32)
+        self.take(app, unit, machine, open.min(u64::from(held)) as u32)?;
+        Ok(())
     }
 
     /// Of what a demand of a job gives back and is not yet credited, the table loses what it has. The grants that the job
     /// was shown say what is credited. Entries count that name one of the job's units and a machine of the cluster.
-    /// Where memory is refused the allotment is gone.
-    pub fn credit(
-        self,
-        app: AppNo,
-        demand: &Demand,
-        given: &Grants,
-    ) -> Result<Allotment, OutOfMemory>
-        requires { AllWait self }
-        ensures credits { IfOk result (CreditsBack app.0 demand.now.entries given.now.entries self) }
-        ensures takes { IfOk result (OnlyTakes self) }
+    pub fn credit(&mut self, app: AppNo, demand: &Demand, given: &Grants) -> Result<(), OutOfMemory>
+        requires { AllWait self.old }
+        ensures credits { OnOk result (CreditsBack app.0 demand.now.entries given.now.entries self.old self.new) }
+        ensures takes { OnOk result (OnlyTakes self.old self.new) }
     {
         let entries = demand.entries();
-        let mut left = self;
         for index in 0..entries.len() {
             let (key, back) = entries[index];
-            left = left.credit_one(app, key, back, given)?;
+            self.credit_one(app, key, back, given)?;
         }
-        Ok(left)
+        Ok(())
     }
 
     /// All grants on a machine are gone. Where the pairs of the line have something out the line stays as it is.
-    /// Where memory is refused the allotment is gone.
-    pub fn clear_machine(self, machine: MachineNo) -> Result<Allotment, OutOfMemory>
-        requires waits { AllWait self }
-        requires machine { machine.0 < length self.table.cluster.machines }
-        ensures stands { IfOk result (λ x. (c : ClusterRecord) (M : Master) → Allots self c M → Allots x c (record M { table = where_key spot_cmp (λ s. not (nat_eq s.machine machine.0)) M.table })) }
-        ensures waits { IfOk result AllWait }
-        ensures touches { IfOk result (Touches self) }
-        ensures table { IfOk result (λ x. x.table ≡ record self.table { entries = where_key spot_cmp (λ s. not (nat_eq s.machine machine.0)) self.table.entries }) }
-        ensures takes { IfOk result (OnlyTakes self) }
+    pub fn clear_machine(&mut self, machine: MachineNo) -> Result<(), OutOfMemory>
+        requires waits { AllWait self.old }
+        requires machine { machine.0 < length self.old.table.cluster.machines }
+        ensures stands { OnOk result ((c : ClusterRecord) (M : Master) → Allots self.old c M → Allots self.new c (record M { table = where_key spot_cmp (λ s. not (nat_eq s.machine machine.0)) M.table })) }
+        ensures waits { OnOk result (AllWait self.new) }
+        ensures touches { OnOk result (Touches self.old self.new) }
+        ensures table { OnOk result (self.new.table ≡ record self.old.table { entries = where_key spot_cmp (λ s. not (nat_eq s.machine machine.0)) self.old.table.entries }) }
+        ensures takes { OnOk result (OnlyTakes self.old self.new) }
     {
         let _before = self.table.cluster();
-        let mut left = self;
         for number in 0..MOST_JOBS {
-            if !left.holds_any(AppNo(number), machine) {
-                continue;
-            }
-            left = left.clear_units(AppNo(number), machine)?;
+            self.clear_units(AppNo(number), machine)?;
         }
-        let _after = left.table.cluster();
-        Ok(left)
+        let _after = self.table.cluster();
+        Ok(())
     }
 
-    /// All grants of a job are gone. Where the pairs of the line have something out the line stays as it is. Where
-    /// memory is refused the allotment is gone.
-    pub fn clear_job(self, app: AppNo) -> Result<Allotment, OutOfMemory>
-        requires { AllWait self }
-        ensures stands { IfOk result (λ x. (c : ClusterRecord) (M : Master) → Allots self c M → Allots x c (record M { table = where_key spot_cmp (λ s. not (nat_eq s.job app.0)) M.table })) }
-        ensures waits { IfOk result AllWait }
-        ensures touches { IfOk result (Touches self) }
-        ensures table { IfOk result (λ x. x.table ≡ record self.table { entries = where_key spot_cmp (λ s. not (nat_eq s.job app.0)) self.table.entries }) }
-        ensures takes { IfOk result (OnlyTakes self) }
+    /// All grants of a job are gone. Where the pairs of the line have something out the line stays as it is.
+    pub fn clear_job(&mut self, app: AppNo) -> Result<(), OutOfMemory>
+        requires { AllWait self.old }
+        ensures stands { OnOk result ((c : ClusterRecord) (M : Master) → Allots self.old c M → Allots self.new c (record M { table = where_key spot_cmp (λ s. not (nat_eq s.job app.0)) M.table })) }
+        ensures waits { OnOk result (AllWait self.new) }
+        ensures touches { OnOk result (Touches self.old self.new) }
+        ensures table { OnOk result (self.new.table ≡ record self.old.table { entries = where_key spot_cmp (λ s. not (nat_eq s.job app.0)) self.old.table.entries }) }
+        ensures takes { OnOk result (OnlyTakes self.old self.new) }
     {
         let machines = self.table.cluster().machines();
-        let mut left = self;
         for number in 0..machines {
-            if !left.holds_any(app, MachineNo(number)) {
-                continue;
-            }
-            left = left.clear_units(app, MachineNo(number))?;
+            self.clear_units(app, MachineNo(number))?;
         }
-        let _after = left.table.cluster();
-        Ok(left)
+        let _after = self.table.cluster();
+        Ok(())
     }
 
     /// Brings the line up to date: the pairs with nothing out leave it, and the others that have something out go
@@ -343,32 +306,20 @@ impl Allotment {
     }
 
     /// Makes grants, always of the placeable pair of first rank, until no pair is placeable. The line is up to date.
-    /// The placer is idle then. Where it was idle before nothing changes, and no step is counted. Where memory is
-    /// refused the allotment is gone.
-    pub fn settle<L: Ledger>(self, steps: &mut Steps<L>) -> Result<Allotment, OutOfMemory>
-        requires { IsUpToDate self.placer.seen self.table }
-        ensures stands { IfOk result (λ x. (c : ClusterRecord) (M : Master) → Allots self c M → M.serving ≡ true → Allots x c (settled c M)) }
-        ensures waits { IfOk result AllWait }
-        ensures up { IfOk result (λ x. IsUpToDate x.placer.seen x.table) }
-        ensures table { IfOk result (λ x. x.table ≡ record self.table { entries = x.table.entries }) }
-        ensures touches { IfOk result (Touches self) }
-        ensures settled { IfOk result (λ x. x.placer.idle ≡ true) }
-        ensures idle { self.placer.idle ≡ true → steps.new ≡ steps.old }
-        ensures same { IfOk result (λ x. self.placer.idle ≡ true → x ≡ self) }
+    /// The placer is idle then. Where it was idle before nothing changes, and no step is counted.
+    pub fn settle<L: Ledger>(&mut self, steps: &mut Steps<L>) -> Result<(), OutOfMemory>
+        requires { IsUpToDate self.old.placer.seen self.old.table }
+        ensures stands { OnOk result ((c : ClusterRecord) (M : Master) → Allots self.old c M → M.serving ≡ true → Allots self.new c (settled c M)) }
+        ensures waits { OnOk result (AllWait self.new) }
+        ensures up { OnOk result (IsUpToDate self.new.placer.seen self.new.table) }
+        ensures table { OnOk result (self.new.table ≡ record self.old.table { entries = self.new.table.entries }) }
+        ensures touches { OnOk result (Touches self.old self.new) }
+        ensures settled { OnOk result (self.new.placer.idle ≡ true) }
+        ensures idle { self.old.placer.idle ≡ true → steps.new ≡ steps.old }
+        ensures same { OnOk result (self.old.placer.idle ≡ true → self.new ≡ self.old) }
     {
-        let Allotment {
-            table,
-            placer,
-            touched,
-        } = self;
-        let (mut table, mut placer, mut touched) = (table, placer, touched);
-        settle(&mut table, &mut placer, steps, &mut touched)?;
-        let _sound = table.cluster();
-        Ok(Allotment {
-            table,
-            placer,
-            touched,
-        })
+        settle(&mut self.table, &mut self.placer, steps, &mut self.touched)?;
+        Ok(())
     }
 
     /// The plan of the first pair that has victims, and `None` exactly where no pair has any. The line is up to date.
@@ -397,53 +348,50 @@ impl Allotment {
     }
 
     // The victims on a machine are taken, unit by unit.
-    fn take_victims(self, machine: MachineNo, victims: &Victims) -> Result<Allotment, OutOfMemory>
-        requires waits { AllWait self }
-        requires machine { machine.0 < length self.table.cluster.machines }
-        requires takable { AreTakable self.table machine.0 victims.now }
-        ensures { IfOk result (TakesVictims machine.0 victims.now self) }
+    fn take_victims(&mut self, machine: MachineNo, victims: &Victims) -> Result<(), OutOfMemory>
+        requires waits { AllWait self.old }
+        requires machine { machine.0 < length self.old.table.cluster.machines }
+        requires takable { AreTakable self.old.table machine.0 victims.now }
+        ensures { OnOk result (TakesVictims machine.0 victims.now self.old self.new) }
     {
         taking();
-        let mut left = self;
         for index in 0..victims.len() {
             let victim = victims.at(index);
-            left = left.take(victim.app, victim.unit, machine, victim.count)?;
+            self.take(victim.app, victim.unit, machine, victim.count)?;
         }
-        Ok(left)
+        Ok(())
     }
 
     // So many grants more. A unit with nothing out any more leaves the line.
-    fn add(self, pick: Pick, count: u32) -> Result<Allotment, OutOfMemory>
-        requires waits { AllWait self }
-        requires unit { pick.unit.0 < unit_count (as_known self.table.jobs) pick.app.0 }
-        requires machine { pick.machine.0 < length self.table.cluster.machines }
-        requires few { held_on self.table.entries pick.app.0 pick.unit.0 pick.machine.0 + count ≤ 100000 }
-        requires room { (i : ℕ) → total_at (as_known self.table.jobs) pick.machine.0 i self.table.entries + count * size_at (as_known self.table.jobs) pick.app.0 pick.unit.0 i ≤ has_at self.table.cluster pick.machine.0 i }
-        ensures { IfOk result (Adds (spot_of pick) count self) }
+    fn add(&mut self, pick: Pick, count: u32) -> Result<(), OutOfMemory>
+        requires waits { AllWait self.old }
+        requires unit { pick.unit.0 < unit_count (as_known self.old.table.jobs) pick.app.0 }
+        requires machine { pick.machine.0 < length self.old.table.cluster.machines }
+        requires few { held_on self.old.table.entries pick.app.0 pick.unit.0 pick.machine.0 + count ≤ 100000 }
+        requires room { (i : ℕ) → total_at (as_known self.old.table.jobs) pick.machine.0 i self.old.table.entries + count * size_at (as_known self.old.table.jobs) pick.app.0 pick.unit.0 i ≤ has_at self.old.table.cluster pick.machine.0 i }
+        ensures { OnOk result (Adds (spot_of pick) count self.old self.new) }
     {
+        levels();
         set_numbers();
-        let Allotment {
-            table,
-            placer,
-            touched,
-        } = self;
-        let mut table = table;
-        table.add(pick.app, pick.unit, pick.machine, count);
-        told(table, placer, touched, pick)
+        self.touched.push(pick)?;
+        self.table.add(pick.app, pick.unit, pick.machine, count);
+        self.placer
+            .changed(&self.table, pick.app, pick.unit, pick.machine);
+        let _after = self.table.cluster();
+        Ok(())
     }
 
     // The entries of a row are put into the table, one after the other. A unit with nothing out any more leaves the line.
-    fn add_row(self, machine: MachineNo, kept: &RowLedger) -> Result<Allotment, OutOfMemory>
-        requires waits { AllWait self }
-        requires machine { machine.0 < length self.table.cluster.machines }
-        requires none { (a u : ℕ) → held_on self.table.entries a u machine.0 ≡ 0 }
-        requires units { AllByRecursion (λ e. (e.0.unit < unit_count (as_known self.table.jobs) e.0.job) × ((i : ℕ) → size_at (as_known self.table.jobs) e.0.job e.0.unit i ≡ at_place e.0.size i)) kept.now }
-        requires fits { (i : ℕ) → at_place (row_total kept.now) i ≤ has_at self.table.cluster machine.0 i }
-        ensures { IfOk result (AddsRow machine.0 kept.now self) }
+    fn add_row(&mut self, machine: MachineNo, kept: &RowLedger) -> Result<(), OutOfMemory>
+        requires waits { AllWait self.old }
+        requires machine { machine.0 < length self.old.table.cluster.machines }
+        requires none { (a u : ℕ) → held_on self.old.table.entries a u machine.0 ≡ 0 }
+        requires units { AllByRecursion (λ e. (e.0.unit < unit_count (as_known self.old.table.jobs) e.0.job) × ((i : ℕ) → size_at (as_known self.old.table.jobs) e.0.job e.0.unit i ≡ at_place e.0.size i)) kept.now }
+        requires fits { (i : ℕ) → at_place (row_total kept.now) i ≤ has_at self.old.table.cluster machine.0 i }
+        ensures { OnOk result (AddsRow machine.0 kept.now self.old self.new) }
     {
         set_numbers();
         let _sound = self.table.cluster();
-        let mut left = self;
         for index in 0..kept.len() {
             let entry = kept.at(index);
             let pick = Pick {
@@ -451,57 +399,55 @@ impl Allotment {
                 unit: entry.unit,
                 machine,
             };
-            left = left.add(pick, entry.count)?;
+            self.add(pick, entry.count)?;
         }
-        Ok(left)
+        Ok(())
     }
 
     /// Grants that a machine reports, on a machine that has none yet, enter the table; then the line is brought up to date. The
-    /// entries name units that are there, with their sizes, and fit what the machine has. Where memory is refused the
-    /// allotment is gone.
-    pub fn adopt(self, machine: MachineNo, kept: &RowLedger) -> Result<Allotment, OutOfMemory>
-        requires waits { AllWait self }
-        requires machine { machine.0 < length self.table.cluster.machines }
-        requires none { (a u : ℕ) → held_on self.table.entries a u machine.0 ≡ 0 }
-        requires units { AllByRecursion (λ e. (e.0.unit < unit_count (as_known self.table.jobs) e.0.job) × ((i : ℕ) → size_at (as_known self.table.jobs) e.0.job e.0.unit i ≡ at_place e.0.size i)) kept.now }
-        requires fits { (i : ℕ) → at_place (row_total kept.now) i ≤ has_at self.table.cluster machine.0 i }
-        requires turns { self.placer.seen.turns < 2 ^ 63 }
-        ensures stands { IfOk result (λ x. (c : ClusterRecord) (M : Master) → Allots self c M → Allots x c (line_up (record M { table = rows_put machine.0 kept.now M.table }))) }
-        ensures waits { IfOk result AllWait }
-        ensures up { IfOk result (λ x. IsUpToDate x.placer.seen x.table) }
-        ensures spots { IfOk result (λ x. AreTouched self.table.entries x.table.entries self.touched x.touched) }
-        ensures table { IfOk result (λ x. x.table ≡ record self.table { entries = rows_put machine.0 kept.now self.table.entries }) }
-        ensures turns { IfOk result (λ x. x.placer.seen.turns ≤ self.placer.seen.turns + 2048) }
+    /// entries name units that are there, with their sizes, and fit what the machine has.
+    pub fn adopt(&mut self, machine: MachineNo, kept: &RowLedger) -> Result<(), OutOfMemory>
+        requires waits { AllWait self.old }
+        requires machine { machine.0 < length self.old.table.cluster.machines }
+        requires none { (a u : ℕ) → held_on self.old.table.entries a u machine.0 ≡ 0 }
+        requires units { AllByRecursion (λ e. (e.0.unit < unit_count (as_known self.old.table.jobs) e.0.job) × ((i : ℕ) → size_at (as_known self.old.table.jobs) e.0.job e.0.unit i ≡ at_place e.0.size i)) kept.now }
+        requires fits { (i : ℕ) → at_place (row_total kept.now) i ≤ has_at self.old.table.cluster machine.0 i }
+        requires turns { self.old.placer.seen.turns < 2 ^ 63 }
+        ensures stands { OnOk result ((c : ClusterRecord) (M : Master) → Allots self.old c M → Allots self.new c (line_up (record M { table = rows_put machine.0 kept.now M.table }))) }
+        ensures waits { OnOk result (AllWait self.new) }
+        ensures up { OnOk result (IsUpToDate self.new.placer.seen self.new.table) }
+        ensures spots { OnOk result (AreTouched self.old.table.entries self.new.table.entries self.old.touched self.new.touched) }
+        ensures table { OnOk result (self.new.table ≡ record self.old.table { entries = rows_put machine.0 kept.now self.old.table.entries }) }
+        ensures turns { OnOk result (self.new.placer.seen.turns ≤ self.old.placer.seen.turns + 2048) }
     {
         lines_alike();
-        let mut left = self.add_row(machine, kept)?;
-        left.line_up();
-        Ok(left)
+        self.add_row(machine, kept)?;
+        self.line_up();
+        Ok(())
     }
 
     /// Carries a plan out: its victims are taken, and its grant is made; then the line is brought up to date. The plan can be
-    /// carried out, and the unit that it serves has fewer than 100,000 grants on the machine. Where memory is refused
-    /// the allotment is gone.
-    pub fn carry_out(self, plan: &Plan) -> Result<Allotment, OutOfMemory>
-        requires waits { AllWait self }
-        requires made { CanBeMade self.table plan.now }
-        requires few { held_on self.table.entries plan.now.pick.app.0 plan.now.pick.unit.0 plan.now.pick.machine.0 < 100000 }
-        requires turns { self.placer.seen.turns < 2 ^ 63 }
-        ensures stands { IfOk result (λ x. (c : ClusterRecord) (M : Master) → Allots self c M → Allots x c (line_up (preempted M (plan_as plan.now)))) }
-        ensures waits { IfOk result AllWait }
-        ensures up { IfOk result (λ x. IsUpToDate x.placer.seen x.table) }
-        ensures spots { IfOk result (λ x. AreTouched self.table.entries x.table.entries self.touched x.touched) }
-        ensures table { IfOk result (λ x. x.table ≡ record self.table { entries = x.table.entries }) }
-        ensures turns { IfOk result (λ x. x.placer.seen.turns ≤ self.placer.seen.turns + 2048) }
+    /// carried out, and the unit that it serves has fewer than 100,000 grants on the machine.
+    pub fn carry_out(&mut self, plan: &Plan) -> Result<(), OutOfMemory>
+        requires waits { AllWait self.old }
+        requires made { CanBeMade self.old.table plan.now }
+        requires few { held_on self.old.table.entries plan.now.pick.app.0 plan.now.pick.unit.0 plan.now.pick.machine.0 < 100000 }
+        requires turns { self.old.placer.seen.turns < 2 ^ 63 }
+        ensures stands { OnOk result ((c : ClusterRecord) (M : Master) → Allots self.old c M → Allots self.new c (line_up (preempted M (plan_as plan.now)))) }
+        ensures waits { OnOk result (AllWait self.new) }
+        ensures up { OnOk result (IsUpToDate self.new.placer.seen self.new.table) }
+        ensures spots { OnOk result (AreTouched self.old.table.entries self.new.table.entries self.old.touched self.new.touched) }
+        ensures table { OnOk result (self.new.table ≡ record self.old.table { entries = self.new.table.entries }) }
+        ensures turns { OnOk result (self.new.placer.seen.turns ≤ self.old.placer.seen.turns + 2048) }
     {
         lines_alike();
         taking();
         let _sound = self.table.cluster();
         let pick = plan.pick;
-        let taken = self.take_victims(pick.machine, &plan.victims)?;
-        let mut left = taken.add(pick, 1)?;
-        left.line_up();
-        Ok(left)
+        self.take_victims(pick.machine, &plan.victims)?;
+        self.add(pick, 1)?;
+        self.line_up();
+        Ok(())
     }
 
     /// How many grants of an admitted unit are out: wanted and not held.
@@ -545,30 +491,6 @@ impl Allotment {
         levels();
         &self.placer
     }
-}
-
-// The number of grants at one spot is another one now. The placer is told, and the spot is among those that changed.
-fn told(
-    table: GrantTable,
-    placer: Placer,
-    touched: Vec<Pick>,
-    pick: Pick,
-) -> Result<Allotment, OutOfMemory>
-    requires unit { pick.unit.0 < unit_count (as_known table.jobs) pick.app.0 }
-    requires machine { pick.machine.0 < length table.cluster.machines }
-    requires before { IsSetAt placer table (spot_of pick) }
-    ensures { IfOk result (λ x. x ≡ told_at table placer.seen (map spot_of touched.items) (spot_of pick)) }
-{
-    levels();
-    let (mut placer, mut touched) = (placer, touched);
-    touched.push(pick)?;
-    placer.changed(&table, pick.app, pick.unit, pick.machine);
-    let _sound = table.cluster();
-    Ok(Allotment {
-        table,
-        placer,
-        touched,
-    })
 }
 
 // What is credited of a unit on a machine.

@@ -5,6 +5,7 @@ ghost use Rattle.fuxi_terms.specs.Cluster.{ClusterRecord};
 ghost use Rattle.fuxi_terms.specs.Tables.{with_grant};
 ghost use Rattle.written_roles.specs.Masters.{Master};
 ghost use Rattle.written_roles.specs.Placing.{first_in, granted, settled};
+ghost use Rattle.grant_table.specs.GrantTables.{IsSound};
 ghost use Rattle.place_pass.specs.Best.{spot_of};
 ghost use Rattle.place_pass.specs.Placers.{IsLevelWith, IsUpToDate, IsGrantable, board_with, told_of};
 ghost use Rattle.allotment.specs.PlacingReads.{IsPlacing};
@@ -27,8 +28,10 @@ pub fn settle<L: Ledger>(
     picks: &mut Vec<Pick>,
 ) -> Result<(), OutOfMemory>
     requires level { IsLevelWith placer.old table.old }
+    requires sound { IsSound table.old }
     requires up { IsUpToDate placer.old.seen table.old }
     ensures level { IsLevelWith placer.new table.new }
+    ensures sound { IsSound table.new }
     ensures up { IsUpToDate placer.new.seen table.new }
     ensures settles { OnOk result ((c : ClusterRecord) (M : Master) → IsPlacing table.old placer.old.seen c M → M.serving ≡ true → IsPlacing table.new placer.new.seen c (settled c M)) }
     ensures turns { placer.new.seen.turns ≡ placer.old.seen.turns }
@@ -51,10 +54,12 @@ pub fn settle<L: Ledger>(
 // Makes the grant of the placeable pair of first rank, and tells the placer.
 fn grant(table: &mut GrantTable, placer: &mut Placer, pick: Pick)
     requires level { IsLevelWith placer.old table.old }
+    requires sound { IsSound table.old }
     requires up { IsUpToDate placer.old.seen table.old }
     requires first { first_in (board_with placer.old.seen table.old) table.old.entries placer.old.seen.line ≡ Some (spot_of pick) }
     requires grantable { IsGrantable table.old (spot_of pick) }
     ensures level { IsLevelWith placer.new table.new }
+    ensures sound { IsSound table.new }
     ensures up { IsUpToDate placer.new.seen table.new }
     ensures grants { (c : ClusterRecord) (M : Master) → IsPlacing table.old placer.old.seen c M → IsPlacing table.new placer.new.seen c (granted M (spot_of pick)) }
     ensures turns { placer.new.seen.turns ≡ placer.old.seen.turns }
@@ -63,7 +68,7 @@ fn grant(table: &mut GrantTable, placer: &mut Placer, pick: Pick)
 {
     set_numbers();
     levels();
-    let _cluster = table.cluster();
     table.grant(pick.app, pick.unit, pick.machine);
     placer.changed(table, pick.app, pick.unit, pick.machine);
+    let _sound = table.cluster();
 }

@@ -19,13 +19,13 @@ pub returns-clause-level : goal.returns-clause-level
 returns-clause-level c =
     let t = c.args.table.now in
     let x = spot_of c.args.pick in
-    c.changed.ensures.level t c.requires.level (record { sound = c.cluster-cluster.ensures.sound; number = count spot_cmp t.entries x + 1; is = c.grant.ensures })
+    c.changed.ensures.level t c.requires.level (record { sound = c.requires.sound; number = count spot_cmp t.entries x + 1; is = c.grant.ensures })
 
 pub returns-clause-up : goal.returns-clause-up
 returns-clause-up c =
     let t = c.args.table.now in
     let x = spot_of c.args.pick in
-    c.changed.ensures.up t c.requires.up (record { sound = c.cluster-cluster.ensures.sound; number = count spot_cmp t.entries x + 1; is = c.grant.ensures }) (omega arith)
+    c.changed.ensures.up t c.requires.up (record { sound = c.requires.sound; number = count spot_cmp t.entries x + 1; is = c.grant.ensures }) (omega arith)
 
 pub returns-clause-grants : goal.returns-clause-grants
 returns-clause-grants c = λ k M is.
@@ -34,7 +34,7 @@ returns-clause-grants c = λ k M is.
     let x = spot_of c.args.pick in
     let t' : TableRecord = record t { entries = with_grant t.entries x } in
     let seen : c.changed.new.self.seen ≡ record s { line = line_told s t' x.job x.unit } = c.changed.ensures.seen ∙ ap (λ (u : TableRecord). record s { line = line_told s u x.job x.unit }) c.grant.ensures in
-    subst (λ (q : TableRecord × SeenRecord). IsPlacing q.0 q.1 k (granted M x)) (λ i. (sym c.grant.ensures i, sym seen i)) (granted_is c.set_numbers.ensures.held t s x c.cluster-cluster.ensures.sound.counts.sorted k M c.requires.up is)
+    subst (λ (q : TableRecord × SeenRecord). IsPlacing q.0 q.1 k (granted M x)) (λ i. (sym c.grant.ensures i, sym seen i)) (granted_is c.set_numbers.ensures.held t s x c.requires.sound.counts.sorted k M c.requires.up is)
 
 pub returns-clause-fewer : goal.returns-clause-fewer
 returns-clause-fewer c =
@@ -43,4 +43,4 @@ returns-clause-fewer c =
     let x = spot_of c.args.pick in
     let t' : TableRecord = record t { entries = with_grant t.entries x } in
     let seen : c.changed.new.self.seen ≡ record s { line = line_told s t' x.job x.unit } = c.changed.ensures.seen ∙ ap (λ (u : TableRecord). record s { line = line_told s u x.job x.unit }) c.grant.ensures in
-    subst (λ (q : TableRecord × SeenRecord). all_out q.0 q.1 < all_out t s) (λ i. (sym c.grant.ensures i, sym seen i)) (fewer_is c.set_numbers.ensures.held t s x c.cluster-cluster.ensures.sound.counts.sorted c.requires.up (first_waits (board_with s t) t.entries s.line x c.requires.first))
+    subst (λ (q : TableRecord × SeenRecord). all_out q.0 q.1 < all_out t s) (λ i. (sym c.grant.ensures i, sym seen i)) (fewer_is c.set_numbers.ensures.held t s x c.requires.sound.counts.sorted c.requires.up (first_waits (board_with s t) t.entries s.line x c.requires.first))

@@ -29,6 +29,7 @@ loop-pick-preserved g c =
     let picks : map spot_of c.push.new.self.items ≡ map spot_of c.loop-pick.picks.items ++ x ∷ [] = ap (map spot_of) c.in_ok-push.ensures.items ∙ map-append spot_of c.loop-pick.picks.items (c.in-Some.pick ∷ []) in
     record {
       level = c.grant.ensures.level;
+      sound = c.grant.ensures.sound;
       up = c.grant.ensures.up;
       settling = λ k M is serves. settles_on t c.grant.new.table s c.grant.new.placer.seen k M x first (λ N p. c.grant.ensures.grants k N (subst (λ z. IsPlacing t z k N) (sym c.in-Some.ensures.seen) p)) (c.loop-pick.invariant.settling k M is serves);
       turns = c.grant.ensures.turns ∙ ap (λ (z : SeenRecord). z.turns) c.in-Some.ensures.seen ∙ c.loop-pick.invariant.turns;

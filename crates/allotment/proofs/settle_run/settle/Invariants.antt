@@ -1,6 +1,7 @@
 use Rattle.std.proofs.Common.{◌≡◌, true, map}
 use Rattle.fuxi_terms.specs.Cluster.{ClusterRecord}
 use Rattle.written_roles.specs.Masters.{Master}
+use Rattle.grant_table.specs.GrantTables.{IsSound}
 use Rattle.place_pass.specs.Best.{spot_of}
 use Rattle.place_pass.specs.Placers.{IsLevelWith, IsUpToDate, told_of}
 use Rattle.allotment.specs.PlacingReads.{IsPlacing}
@@ -10,6 +11,7 @@ use Rattle.allotment.proofs.settle_run.settle.Given as goal
 abbrev pub invariant-loop-pick : goal.invariant-loop-pick
 invariant-loop-pick g l = record {
   level : IsLevelWith l.placer l.table;
+  sound : IsSound l.table;
   up : IsUpToDate l.placer.seen l.table;
   settling : (c : ClusterRecord) (M : Master) → IsPlacing l.initial.table l.initial.placer.seen c M → M.serving ≡ true → IsSettling l.table l.placer.seen c M;
   turns : l.placer.seen.turns ≡ l.initial.placer.seen.turns;

@@ -17,7 +17,7 @@ use Rattle.allotment.proofs.allotment_of.Allotment.carry_out.Goals as goal
 pub add-requires-clause-room : goal.add-requires-clause-room
 add-requires-clause-room c =
     let p = c.args.plan.now.pick in
-    let room = subst (λ (t : TableRecord). (i : ℕ) → total_at (as_known t.jobs) p.machine.0 i t.entries + size_at (as_known t.jobs) p.app.0 p.unit.0 i ≤ has_at t.cluster p.machine.0 i) (sym c.in_ok-taken.ensures.table) c.requires.made.room in
+    let room = subst (λ (t : TableRecord). (i : ℕ) → total_at (as_known t.jobs) p.machine.0 i t.entries + size_at (as_known t.jobs) p.app.0 p.unit.0 i ≤ has_at t.cluster p.machine.0 i) (sym c.in_ok-take_victims.ensures.table) c.requires.made.room in
     λ i. let le = room i in omega (arith, le)
 
 pub returns-clause-stands : goal.returns-clause-stands
@@ -25,13 +25,13 @@ returns-clause-stands c k M allots =
     let p = c.args.plan.now.pick in
     let vs = c.args.plan.now.victims in
     let m = p.machine.0 in
-    let here : AreCounts spot_cmp (λ s. greatest_count) c.args.self.table.entries = subst (λ (r : AllotmentRecord). AreCounts spot_cmp (λ s. greatest_count) r.table.entries) c.self.view_is c.cluster-sound.ensures.sound.counts in
+    let here : AreCounts spot_cmp (λ s. greatest_count) c.args.self.now.table.entries = subst (λ (r : AllotmentRecord). AreCounts spot_cmp (λ s. greatest_count) r.table.entries) c.self.view_is c.cluster-sound.ensures.sound.counts in
     let counts : AreCounts spot_cmp (λ s. greatest_count) M.table = subst (AreCounts spot_cmp (λ s. greatest_count)) allots.placing.entries here in
     let taken : Master = record M { table = without_victims M.table m vs } in
     let made : Master = record M { table = with_grant (without_victims M.table m vs) (spot_of p) } in
     let x = c.line_up.new.self in
-    let up = c.line_up.ensures.stands k _ (c.in_ok-left.ensures.stands k taken (c.in_ok-taken.ensures.stands k M allots)) in
+    let up = c.line_up.ensures.stands k _ (c.in_ok-add.ensures.stands k taken (c.in_ok-take_victims.ensures.stands k M allots)) in
     subst (λ (es : List (Spot × ℕ)). Allots x k (line_up (record M { table = with_grant es (spot_of p) }))) (c.taking.ensures.singly M.table m vs counts) (subst (Allots x k) (c.lines_alike.ensures made) up)
 
 pub returns-clause-spots : goal.returns-clause-spots
-returns-clause-spots c = touched_still c.args.self c.in_ok-left.left c.line_up.new.self (touched_again c.args.self c.in_ok-taken.taken c.in_ok-left.left c.in_ok-taken.ensures.touches c.in_ok-left.ensures.touches) c.line_up.ensures.table c.line_up.ensures.touched
+returns-clause-spots c = touched_still c.args.self.now c.add.new.self c.line_up.new.self (touched_again c.args.self.now c.take_victims.new.self c.add.new.self c.in_ok-take_victims.ensures.touches c.in_ok-add.ensures.touches) c.line_up.ensures.table c.line_up.ensures.touched

@@ -9,29 +9,21 @@ use Rattle.allotment.proofs.Cleared.{LeftWithout, is_admitted, job_more, machine
 use Rattle.allotment.proofs.allotment_of.Allotment.clear_machine.Goals as goal
 use Rattle.allotment.proofs.allotment_of.Allotment.clear_machine.Goals.{After-cluster-after}
 
-pub loop-number-preserved-then-not-holds_any : goal.loop-number-preserved-then-not-holds_any
-loop-number-preserved-then-not-holds_any c =
-    let x = c.args.self in
-    let n = c.loop-number.number in
-    let m = c.args.machine.0 in
-    let one = subst (λ (js : List JobRecord). Clears (λ s. nat_eq s.job n && (nat_lt s.unit (unit_count (as_known js) n) && nat_eq s.machine m)) c.loop-number.left c.loop-number.left) (ap (λ (t : TableRecord). t.jobs) c.loop-number.invariant.table) (c.holds_any.ensures c.if-not-holds_any.true) in
-    cleared_as _ _ _ _ (job_more x.table n m) (cleared_both _ _ _ _ _ c.loop-number.invariant one)
-
 pub loop-number-preserved : goal.loop-number-preserved
 loop-number-preserved c =
-    let x = c.args.self in
+    let x = c.args.self.now in
     let n = c.loop-number.number in
     let m = c.args.machine.0 in
-    let one = subst (λ (js : List JobRecord). Clears (λ s. nat_eq s.job n && (nat_lt s.unit (unit_count (as_known js) n) && nat_eq s.machine m)) c.loop-number.left c.in_ok-left.left) (ap (λ (t : TableRecord). t.jobs) c.loop-number.invariant.table) c.in_ok-left.ensures in
+    let one = subst (λ (js : List JobRecord). Clears (λ s. nat_eq s.job n && (nat_lt s.unit (unit_count (as_known js) n) && nat_eq s.machine m)) c.loop-number.self c.clear_units.new.self) (ap (λ (t : TableRecord). t.jobs) c.loop-number.invariant.table) c.in_ok-clear_units.ensures in
     cleared_as _ _ _ _ (job_more x.table n m) (cleared_both _ _ _ _ _ c.loop-number.invariant one)
 
-left : (c : After-cluster-after) → LeftWithout (λ s. nat_eq s.machine c.args.machine.0) c.args.self c.loop-number.left
+left : (c : After-cluster-after) → LeftWithout (λ s. nat_eq s.machine c.args.machine.0) c.args.self.now c.loop-number.self
 left c =
-    let x = c.args.self in
+    let x = c.args.self.now in
     let m = c.args.machine.0 in
     let end : c.loop-number.number ≡ 256 = let a = c.loop-number-test.false in let b = c.loop-number.auto.number-end in omega (arith, a, b) in
-    let all = subst (λ n. Clears (λ s. nat_lt s.job n && (is_admitted x.table s.job s.unit && nat_eq s.machine m)) x c.loop-number.left) end c.loop-number.invariant in
-    machine_left m x c.loop-number.left (subst (λ (r : AllotmentRecord). IsSound r.table) c.self.view_is c.cluster-before.ensures.sound) (subst (λ (r : AllotmentRecord). IsSound r.table) c.left-2.view_is c.cluster-after.ensures.sound) all
+    let all = subst (λ n. Clears (λ s. nat_lt s.job n && (is_admitted x.table s.job s.unit && nat_eq s.machine m)) x c.loop-number.self) end c.loop-number.invariant in
+    machine_left m x c.loop-number.self (subst (λ (r : AllotmentRecord). IsSound r.table) c.self.view_is c.cluster-before.ensures.sound) (subst (λ (r : AllotmentRecord). IsSound r.table) c.self-2.view_is c.cluster-after.ensures.sound) all
 
 pub returns-clause-stands : goal.returns-clause-stands
 returns-clause-stands c = (left c).stands

@@ -5,4 +5,4 @@ use Rattle.allotment.proofs.Cleared.{is_admitted}
 use Rattle.allotment.proofs.allotment_of.Allotment.clear_machine.Given as goal
 
 abbrev pub invariant-loop-number : goal.invariant-loop-number
-invariant-loop-number l = Clears (λ s. nat_lt s.job l.number && (is_admitted l.fn.self.table s.job s.unit && nat_eq s.machine l.machine.0)) l.fn.self l.left
+invariant-loop-number l = Clears (λ s. nat_lt s.job l.number && (is_admitted l.fn.self.table s.job s.unit && nat_eq s.machine l.machine.0)) l.fn.self l.self

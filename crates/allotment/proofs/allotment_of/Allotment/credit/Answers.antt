@@ -14,9 +14,9 @@ loop-index-preserved c =
     let entry = get_or c.entries-entries.result.now c.loop-index.index d in
     let at = slice_get-get_or c.entries-entries.result.now c.loop-index.index d c.loop-index-test.true in
     record {
-      credits = credits_more c.args.app.0 es c.args.given.now.entries c.loop-index.index entry c.args.self c.loop-index.left c.in_ok-left.left
-          (subst (λ l. slice_get l c.loop-index.index ≡ Some entry) c.entries-entries.ensures.entries at) c.loop-index.invariant.credits c.in_ok-left.ensures.credits;
-      takes = takes_again c.args.self c.loop-index.left c.in_ok-left.left c.loop-index.invariant.takes c.in_ok-left.ensures.takes;
+      credits = credits_more c.args.app.0 es c.args.given.now.entries c.loop-index.index entry c.args.self.now c.loop-index.self c.credit_one.new.self
+          (subst (λ l. slice_get l c.loop-index.index ≡ Some entry) c.entries-entries.ensures.entries at) c.loop-index.invariant.credits c.in_ok-credit_one.ensures.credits;
+      takes = takes_again c.args.self.now c.loop-index.self c.credit_one.new.self c.loop-index.invariant.takes c.in_ok-credit_one.ensures.takes;
     }
 
 pub returns : goal.returns
@@ -24,6 +24,6 @@ returns c =
     let es = c.args.demand.now.entries in
     let all = take_all c.loop-index.index es (subst (λ l. length l ≤ c.loop-index.index) c.entries-entries.ensures.entries c.loop-index-test.false) in
     record {
-      credits = subst (λ fs. CreditsBack c.args.app.0 fs c.args.given.now.entries c.args.self c.loop-index.left) all c.loop-index.invariant.credits;
+      credits = subst (λ fs. CreditsBack c.args.app.0 fs c.args.given.now.entries c.args.self.now c.loop-index.self) all c.loop-index.invariant.credits;
       takes = c.loop-index.invariant.takes;
     }

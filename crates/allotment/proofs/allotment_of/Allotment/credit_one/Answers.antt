@@ -4,7 +4,6 @@ use Rattle.fuxi_terms.specs.Jobs.{unit_count}
 use Rattle.fuxi_terms.specs.Tables.{held_on}
 use Rattle.grant_table.specs.GrantTables.{as_known}
 use Rattle.allotment.specs.Allotted.{AllotmentRecord}
-use Rattle.allotment.proofs.ClearsLemmas.{if_ok_four}
 use Rattle.allotment.proofs.CreditsBackLemmas.{credits_passed, credits_taken}
 use Rattle.std.proofs.lemmas.Bool.Decides.{nat_tests}
 use Rattle.fuxi_terms.proofs.Booleans.{false_and, false_right}
@@ -13,18 +12,18 @@ use Rattle.allotment.proofs.allotment_of.Allotment.credit_one.Goals as goal
 
 pub returns-clause-credits : goal.returns-clause-credits
 returns-clause-credits c =
-    let x = c.args.self in let k = c.args.key in let a = c.args.app.0 in
+    let x = c.args.self.now in let k = c.args.key in let a = c.args.app.0 in
     let view = c.self.view_is in
     let held : c.held_on-held.result ≡ held_on x.table.entries a k.unit k.number = c.held_on-held.ensures ∙ ap (λ (r : AllotmentRecord). held_on r.table.entries a k.unit k.number) view in
     let units : c.units-units.result ≡ unit_count (as_known x.table.jobs) a = c.units-units.ensures.number ∙ ap (λ (r : AllotmentRecord). unit_count (as_known r.table.jobs) a) view in
     let machines : c.machines-machines.result ≡ length x.table.cluster.machines = c.machines-machines.ensures.number ∙ ap (λ (d : ClusterRecord). length d.machines) c.cluster.ensures.cluster ∙ ap (λ (r : AllotmentRecord). length r.table.cluster.machines) view in
     let fewer = c.min.ensures ∙ (λ i. min (c.saturating_sub-open.ensures i) (c.from.ensures i)) ∙ (λ i. min (c.args.back - c.credited.ensures i) (held i)) in
-    if_ok_four {A = AllotmentRecord} _ _ _ _ _ (λ y stands waits touches table. credits_taken a c.args.given.now.entries k c.args.back c.min.result x y c.if-key-ne-BACK.false (subst (λ n. k.unit < n) units c.if-key-units.false) (subst (λ n. k.number < n) machines c.if-key-machines.false) fewer stands waits touches table)
-    c.take.result c.take.ensures.stands c.take.ensures.waits c.take.ensures.touches c.take.ensures.table
+    let t = c.in_ok-take.ensures in
+    credits_taken a c.args.given.now.entries k c.args.back c.min.result x c.take.new.self c.if-key-ne-BACK.false (subst (λ n. k.unit < n) units c.if-key-units.false) (subst (λ n. k.number < n) machines c.if-key-machines.false) fewer t.stands t.waits t.touches t.table
 
 pub returns-then-key-ne-BACK-clause-credits : goal.returns-then-key-ne-BACK-clause-credits
 returns-then-key-ne-BACK-clause-credits c =
-    let x = c.args.self in let k = c.args.key in let a = c.args.app.0 in
+    let x = c.args.self.now in let k = c.args.key in let a = c.args.app.0 in
     let view = c.self.view_is in
     let units : c.units-units.result ≡ unit_count (as_known x.table.jobs) a = c.units-units.ensures.number ∙ ap (λ (r : AllotmentRecord). unit_count (as_known r.table.jobs) a) view in
     let machines : c.machines-machines.result ≡ length x.table.cluster.machines = c.machines-machines.ensures.number ∙ ap (λ (d : ClusterRecord). length d.machines) c.cluster.ensures.cluster ∙ ap (λ (r : AllotmentRecord). length r.table.cluster.machines) view in
