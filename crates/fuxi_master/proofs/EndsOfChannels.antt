@@ -1,5 +1,5 @@
 -- A core of which the ends of the channels have changed stands for the master with the sides that these stand for.
-use Rattle.std.proofs.Common.{◌≡◌, ℕ, false, List, [], Option, Some, slice_get}
+use Rattle.std.proofs.Common.{◌≡◌, ℕ, false, List, Option, Some, slice_get}
 use Rattle.fuxi_terms.specs.Jobs.{is_known}
 use Rattle.written_net.specs.Channels.{agent_id, app_id}
 use Rattle.written_net.specs.Net.{Id}

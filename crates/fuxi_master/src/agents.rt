@@ -109,47 +109,26 @@ impl Core {
 
     // Adopts the report of a machine.
     pub(crate) fn adopt_report(
-        self,
+        &mut self,
         alloc: Global,
         machine: MachineNo,
-    ) -> Result<(Core, News), OutOfMemory>
-        requires core { IsCore (core_of self) }
-        requires machine { machine.0 < length self.allotment.table.cluster.machines }
-        requires due { IsDue machine.0 (core_of self) }
-        requires turns { self.allotment.placer.seen.turns < 2 ^ 63 }
-        ensures { IfOk result (λ after. IsAdopted machine after.1 (core_of self) (core_of after.0)) }
+    ) -> Result<News, OutOfMemory>
+        requires core { IsCore (core_of self.old) }
+        requires machine { machine.0 < length self.old.allotment.table.cluster.machines }
+        requires due { IsDue machine.0 (core_of self.old) }
+        requires turns { self.old.allotment.placer.seen.turns < 2 ^ 63 }
+        ensures { IfOk result (λ news. IsAdopted machine news (core_of self.old) (core_of self.new)) }
     {
-        let Core {
-            epoch,
-            known,
-            serving,
-            reported,
-            allotment,
-            agents,
-            apps,
-        } = self;
-        let (mut reported, mut allotment) = (reported, allotment);
-        let has = allotment.table().cluster().machine(machine).has;
-        let report = agents[machine.0 as usize].got().table();
-        let kept = match adopt(alloc, report, &known, machine, &has) {
+        let has = self.allotment.table().cluster().machine(machine).has;
+        let report = self.agents[machine.0 as usize].got().table();
+        let kept = match adopt(alloc, report, &self.known, machine, &has) {
             Ok(kept) => kept,
             Err(AdoptFault::OutOfMemory) => return Err(OutOfMemory),
             Err(AdoptFault::Exceeds { .. }) => unreachable!(),
         };
-        allotment = allotment.adopt(machine, &kept)?;
-        allotment.open(machine, !known.banned(machine));
-        reported.add(machine);
-        Ok((
-            Core {
-                epoch,
-                known,
-                serving,
-                reported,
-                allotment,
-                agents,
-                apps,
-            },
-            news(alloc, Some(machine), None),
-        ))
+        self.allotment.adopt(machine, &kept)?;
+        self.allotment.open(machine, !self.known.banned(machine));
+        self.reported.add(machine);
+        Ok(news(alloc, Some(machine), None))
     }
 }

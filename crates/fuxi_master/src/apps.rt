@@ -1,6 +1,6 @@
 //! What a master hears of applications.
 
-ghost use Rattle.std.specs.Prelude.{◌≡◌, ◌<◌, ◌&&◌, ◌||◌, not, nat_eq, true, Some, None, IfOk};
+ghost use Rattle.std.specs.Prelude.{◌≡◌, ◌<◌, ◌&&◌, ◌||◌, not, nat_eq, true, Some, None, IfOk, OnOk};
 ghost use Rattle.fuxi_terms.specs.Counts.{AreCounts};
 ghost use Rattle.fuxi_terms.specs.Keys.{key_cmp};
 ghost use Rattle.fuxi_terms.specs.TallyKeys.{credited_key, greatest_demand};
@@ -47,55 +47,34 @@ impl Core {
 
     // Takes what came of an application that is new, or whose demand was taken.
     pub(crate) fn take_demand(
-        self,
+        &mut self,
         alloc: Global,
         app: AppNo,
         fresh: bool,
         taken: bool,
-    ) -> Result<(Core, News), OutOfMemory>
-        requires near { IsNear (core_of self) }
-        requires boots { HasBoots (λ a. fresh && nat_eq a app.0) (core_of self) }
-        requires known { is_known self.known.jobs app.0 ≡ true }
+    ) -> Result<News, OutOfMemory>
+        requires near { IsNear (core_of self.old) }
+        requires boots { HasBoots (λ a. fresh && nat_eq a app.0) (core_of self.old) }
+        requires known { is_known self.old.known.jobs app.0 ≡ true }
         requires small { app.0 < 256 }
         requires told { (fresh || taken) ≡ true }
-        ensures none { IfOk result (λ after. (after.1.reported ≡ None) × (after.1.admitted ≡ None)) }
-        ensures changes { IfOk result (λ after. Changes after.1 (λ r. demanding fresh taken r app.0) (core_of self) (core_of after.0)) }
+        ensures none { IfOk result (λ news. (news.reported ≡ None) × (news.admitted ≡ None)) }
+        ensures changes { IfOk result (λ news. Changes news (λ r. demanding fresh taken r app.0) (core_of self.old) (core_of self.new)) }
     {
-        let Core {
-            epoch,
-            known,
-            serving,
-            reported,
-            allotment,
-            agents,
-            apps,
-        } = self;
-        let Some(side) = &apps[app.0 as usize] else {
+        let Some(side) = &self.apps[app.0 as usize] else {
             unreachable!()
         };
-        let live = counts(taken, side, epoch, &known, app);
-        let _sound = allotment.table().cluster();
-        let _units = allotment.table().units(app);
-        let (allotment, credited) = demanded(alloc, allotment, app, side, fresh, live)?;
-        let news = News {
+        let live = counts(taken, side, self.epoch, &self.known, app);
+        let _sound = self.allotment.table().cluster();
+        let _units = self.allotment.table().units(app);
+        let credited = demanded(alloc, &mut self.allotment, app, side, fresh, live)?;
+        Ok(News {
             reported: None,
             admitted: None,
             machines: Vec::new(alloc),
             job: Some(app),
             credited,
-        };
-        Ok((
-            Core {
-                epoch,
-                known,
-                serving,
-                reported,
-                allotment,
-                agents,
-                apps,
-            },
-            news,
-        ))
+        })
     }
 }
 
@@ -150,49 +129,48 @@ fn newly_credited(
 // Of what a demand gives back the table loses what is not credited yet, and the demand is then the job's. What is credited now is told.
 fn credited(
     alloc: Global,
-    allotment: Allotment,
+    allotment: &mut Allotment,
     app: AppNo,
     demand: &Demand,
     given: &Grants,
-) -> Result<(Allotment, Vec<(Key, u64)>), OutOfMemory>
-    requires waits { AllWait allotment }
-    requires units { 0 < unit_count (as_known allotment.table.jobs) app.0 }
-    ensures credits { IfOk result (λ after. IsCredited app.0 demand.now.entries given.now.entries allotment after.0) }
-    ensures counts { IfOk result (λ after. AreCounts key_cmp greatest_demand demand.now.entries) }
-    ensures numbers { IfOk result (λ after. after.1.items ≡ newly_credited allotment.table.cluster (unit_count (as_known allotment.table.jobs) app.0) given.now.entries demand.now.entries) }
+) -> Result<Vec<(Key, u64)>, OutOfMemory>
+    requires waits { AllWait allotment.old }
+    requires units { 0 < unit_count (as_known allotment.old.table.jobs) app.0 }
+    ensures credits { OnOk result (IsCredited app.0 demand.now.entries given.now.entries allotment.old allotment.new) }
+    ensures counts { OnOk result (AreCounts key_cmp greatest_demand demand.now.entries) }
+    ensures numbers { IfOk result (λ numbers. numbers.items ≡ newly_credited allotment.old.table.cluster (unit_count (as_known allotment.old.table.jobs) app.0) given.now.entries demand.now.entries) }
 {
     let units = allotment.table().units(app);
     let cluster = allotment.table().cluster();
     let numbers = newly_credited(alloc, demand, given, units, cluster)?;
-    let mut left = allotment.credit(app, demand, given)?;
-    left.asked(app, demand);
-    Ok((left, numbers))
+    allotment.credit(app, demand, given)?;
+    allotment.asked(app, demand);
+    Ok(numbers)
 }
 
 // What came of an application: of a demand that counts, what it gives back is credited; else its demand counts as empty. To a new boot
 // nothing is credited yet.
 fn demanded(
     alloc: Global,
-    allotment: Allotment,
+    allotment: &mut Allotment,
     app: AppNo,
     side: &Side<Grants, Demand>,
     fresh: bool,
     live: bool,
-) -> Result<(Allotment, Vec<(Key, u64)>), OutOfMemory>
-    requires waits { AllWait allotment }
-    requires units { 0 < unit_count (as_known allotment.table.jobs) app.0 }
-    ensures { IfOk result (λ after. IsDemanded app.0 fresh live side.now allotment after.0 after.1.items) }
+) -> Result<Vec<(Key, u64)>, OutOfMemory>
+    requires waits { AllWait allotment.old }
+    requires units { 0 < unit_count (as_known allotment.old.table.jobs) app.0 }
+    ensures { IfOk result (λ numbers. IsDemanded app.0 fresh live side.now allotment.old allotment.new numbers.items) }
 {
     let _entries = side.got().entries();
     if !live {
-        let mut left = allotment;
-        left.asked(app, &Demand::empty(alloc));
-        return Ok((left, Vec::new(alloc)));
+        allotment.asked(app, &Demand::empty(alloc));
+        return Ok(Vec::new(alloc));
     }
     if fresh {
-        let (left, numbers) = credited(alloc, allotment, app, side.got(), &Grants::empty(alloc))?;
-        return Ok((left, numbers));
+        let numbers = credited(alloc, allotment, app, side.got(), &Grants::empty(alloc))?;
+        return Ok(numbers);
     }
-    let (left, numbers) = credited(alloc, allotment, app, side.got(), side.sent())?;
-    Ok((left, numbers))
+    let numbers = credited(alloc, allotment, app, side.got(), side.sent())?;
+    Ok(numbers)
 }

@@ -1,6 +1,6 @@
 //! What a master is told.
 
-ghost use Rattle.std.specs.Prelude.{◌≡◌, ◌<◌, ◌≤◌, ◌^◌, ℕ, true, false, length, map, filter, Some, None, IfOk};
+ghost use Rattle.std.specs.Prelude.{◌≡◌, ◌<◌, ◌≤◌, ◌^◌, ℕ, true, false, length, map, filter, Some, None, IfOk, OnOk};
 ghost use Rattle.fuxi_terms.specs.Jobs.{is_known};
 ghost use Rattle.fuxi_terms.specs.Limits.{most_machines};
 ghost use Rattle.written_roles.specs.MasterSteps.{ended_in, banned_in};
@@ -75,154 +75,67 @@ impl Core {
     }
 
     // A job has ended: its grants are gone, and its demand counts as empty.
-    pub(crate) fn end_job(self, alloc: Global, app: AppNo) -> Result<(Core, News), OutOfMemory>
-        requires core { IsCore (core_of self) }
-        requires known { is_known self.known.jobs app.0 ≡ true }
-        ensures news { IfOk result (λ after. IsNews None None after.1) }
-        ensures changes { IfOk result (λ after. Changes after.1 (changed_by (λ M. ended_in M app.0)) (core_of self) (core_of after.0)) }
+    pub(crate) fn end_job(&mut self, alloc: Global, app: AppNo) -> Result<News, OutOfMemory>
+        requires core { IsCore (core_of self.old) }
+        requires known { is_known self.old.known.jobs app.0 ≡ true }
+        ensures news { IfOk result (IsNews None None) }
+        ensures changes { IfOk result (λ news. Changes news (changed_by (λ M. ended_in M app.0)) (core_of self.old) (core_of self.new)) }
     {
-        let Core {
-            epoch,
-            known,
-            serving,
-            reported,
-            allotment,
-            agents,
-            apps,
-        } = self;
         ends_alike();
-        let mut known = known;
-        let _sound = allotment.table().cluster();
-        let _units = allotment.table().units(app);
-        let mut allotment = allotment.clear_job(app)?;
-        allotment.asked(app, &Demand::empty(alloc));
-        known.finish(app);
-        Ok((
-            Core {
-                epoch,
-                known,
-                serving,
-                reported,
-                allotment,
-                agents,
-                apps,
-            },
-            news(alloc, None, None),
-        ))
+        let _sound = self.allotment.table().cluster();
+        let _units = self.allotment.table().units(app);
+        self.allotment.clear_job(app)?;
+        self.allotment.asked(app, &Demand::empty(alloc));
+        self.known.finish(app);
+        Ok(news(alloc, None, None))
     }
 
     // A machine is banned: its grants are gone, and it takes no new ones.
-    pub(crate) fn ban(self, alloc: Global, machine: MachineNo) -> Result<(Core, News), OutOfMemory>
-        requires core { IsCore (core_of self) }
+    pub(crate) fn ban(&mut self, alloc: Global, machine: MachineNo) -> Result<News, OutOfMemory>
+        requires core { IsCore (core_of self.old) }
         requires machine { machine.0 < most_machines }
-        ensures news { IfOk result (λ after. IsNews None None after.1) }
-        ensures changes { IfOk result (λ after. Changes after.1 (changed_by (λ M. banned_in M machine.0)) (core_of self) (core_of after.0)) }
+        ensures news { IfOk result (IsNews None None) }
+        ensures changes { IfOk result (λ news. Changes news (changed_by (λ M. banned_in M machine.0)) (core_of self.old) (core_of self.new)) }
     {
-        let Core {
-            epoch,
-            known,
-            serving,
-            reported,
-            allotment,
-            agents,
-            apps,
-        } = self;
-        let mut known = known;
-        let _sound = allotment.table().cluster();
-        let allotment = closed(allotment, machine)?;
-        known.ban(machine);
-        Ok((
-            Core {
-                epoch,
-                known,
-                serving,
-                reported,
-                allotment,
-                agents,
-                apps,
-            },
-            news(alloc, None, None),
-        ))
+        let _sound = self.allotment.table().cluster();
+        closed(&mut self.allotment, machine)?;
+        self.known.ban(machine);
+        Ok(news(alloc, None, None))
     }
 
     // A machine is banned no more.
-    pub(crate) fn unban(
-        self,
-        alloc: Global,
-        machine: MachineNo,
-    ) -> Result<(Core, News), OutOfMemory>
-        requires core { IsCore (core_of self) }
+    pub(crate) fn unban(&mut self, alloc: Global, machine: MachineNo) -> News
+        requires core { IsCore (core_of self.old) }
         requires machine { machine.0 < most_machines }
-        ensures news { IfOk result (λ after. IsNews None None after.1) }
-        ensures changes { IfOk result (λ after. Changes after.1 (changed_by (λ M. unbanned_in M machine.0)) (core_of self) (core_of after.0)) }
+        ensures news { IsNews None None result }
+        ensures changes { Changes result (changed_by (λ M. unbanned_in M machine.0)) (core_of self.old) (core_of self.new) }
     {
-        let Core {
-            epoch,
-            known,
-            serving,
-            reported,
-            allotment,
-            agents,
-            apps,
-        } = self;
-        let mut known = known;
-        let _sound = allotment.table().cluster();
-        let allotment = opened(allotment, machine, &reported);
-        known.unban(machine);
-        Ok((
-            Core {
-                epoch,
-                known,
-                serving,
-                reported,
-                allotment,
-                agents,
-                apps,
-            },
-            news(alloc, None, None),
-        ))
+        let _sound = self.allotment.table().cluster();
+        opened(&mut self.allotment, machine, &self.reported);
+        self.known.unban(machine);
+        news(alloc, None, None)
     }
 
     // Makes room for a unit that waits. Whether there were victims; where there are none nothing has changed.
-    pub(crate) fn preempt(self, alloc: Global) -> Result<(Core, bool), OutOfMemory>
-        requires core { IsCore (core_of self) }
-        requires turns { self.allotment.placer.seen.turns < 2 ^ 63 }
-        ensures { IfOk result (λ after. Preempts after.1 (core_of self) (core_of after.0)) }
+    pub(crate) fn preempt(&mut self, alloc: Global) -> Result<bool, OutOfMemory>
+        requires core { IsCore (core_of self.old) }
+        requires turns { self.old.allotment.placer.seen.turns < 2 ^ 63 }
+        ensures { IfOk result (λ found. Preempts found (core_of self.old) (core_of self.new)) }
     {
-        let Core {
-            epoch,
-            known,
-            serving,
-            reported,
-            allotment,
-            agents,
-            apps,
-        } = self;
-        let _sound = allotment.table().cluster();
-        let (allotment, found) = preempted::<Brand>(alloc, allotment, Blank::new(1))?;
-        Ok((
-            Core {
-                epoch,
-                known,
-                serving,
-                reported,
-                allotment,
-                agents,
-                apps,
-            },
-            found,
-        ))
+        let _sound = self.allotment.table().cluster();
+        let found = preempted::<Brand>(alloc, &mut self.allotment, Blank::new(1))?;
+        Ok(found)
     }
 
     // It serves, though machines are not reported.
-    pub(crate) fn begin(mut self, alloc: Global) -> (Core, News)
-        requires core { IsCore (core_of self) }
-        ensures news { IsNews None None result.1 }
-        ensures changes { Changes result.1 (changed_by beginning) (core_of self) (core_of result.0) }
+    pub(crate) fn begin(&mut self, alloc: Global) -> News
+        requires core { IsCore (core_of self.old) }
+        ensures news { IsNews None None result }
+        ensures changes { Changes result (changed_by beginning) (core_of self.old) (core_of self.new) }
     {
         let _sound = self.allotment.table().cluster();
         self.serving = true;
-        (self, news(alloc, None, None))
+        news(alloc, None, None)
     }
 }
 
@@ -246,50 +159,48 @@ fn machines_in(
 }
 
 // A machine has no grant and takes none.
-fn closed(allotment: Allotment, machine: MachineNo) -> Result<Allotment, OutOfMemory>
-    requires { AllWait allotment }
-    ensures { IfOk result (IsClosed machine.0 allotment) }
+fn closed(allotment: &mut Allotment, machine: MachineNo) -> Result<(), OutOfMemory>
+    requires { AllWait allotment.old }
+    ensures { OnOk result (IsClosed machine.0 allotment.old allotment.new) }
 {
     let machines = allotment.table().cluster().machines();
     if machine.0 >= machines {
-        return Ok(allotment);
+        return Ok(());
     }
-    let mut left = allotment.clear_machine(machine)?;
-    left.open(machine, false);
-    Ok(left)
+    allotment.clear_machine(machine)?;
+    allotment.open(machine, false);
+    Ok(())
 }
 
 // A machine takes grants where it is reported.
-fn opened(allotment: Allotment, machine: MachineNo, reported: &Machines) -> Allotment
-    ensures { IsOpened machine.0 reported.now.numbers allotment result }
+fn opened(allotment: &mut Allotment, machine: MachineNo, reported: &Machines)
+    ensures { IsOpened machine.0 reported.now.numbers allotment.old allotment.new }
 {
     let machines = allotment.table().cluster().machines();
     if machine.0 >= machines {
-        return allotment;
+        return;
     }
-    let mut left = allotment;
-    left.open(machine, reported.has(machine));
-    left
+    allotment.open(machine, reported.has(machine));
 }
 
 // Makes room for a unit that waits, where there are victims. The line is brought up to date.
 fn preempted<L: Ledger>(
     alloc: Global,
-    allotment: Allotment,
+    allotment: &mut Allotment,
     blank: Blank,
-) -> Result<(Allotment, bool), OutOfMemory>
+) -> Result<bool, OutOfMemory>
     requires name { blank.name ≡ L.name }
     requires parts { blank.parts ≡ L.parts }
     requires some { 0 < blank.parts }
-    requires waits { AllWait allotment }
-    requires up { IsUpToDate allotment.placer.seen allotment.table }
-    requires turns { allotment.placer.seen.turns < 2 ^ 63 }
-    ensures { IfOk result (λ after. IsPreempted after.1 allotment after.0) }
+    requires waits { AllWait allotment.old }
+    requires up { IsUpToDate allotment.old.placer.seen allotment.old.table }
+    requires turns { allotment.old.placer.seen.turns < 2 ^ 63 }
+    ensures { IfOk result (λ found. IsPreempted found allotment.old allotment.new) }
 {
     let mut steps: Steps<L> = Steps::start(blank);
     let Some(plan) = allotment.plan(alloc, &mut steps)? else {
-        return Ok((allotment, false));
+        return Ok(false);
     };
-    let left = allotment.carry_out(&plan)?;
-    Ok((left, true))
+    allotment.carry_out(&plan)?;
+    Ok(true)
 }

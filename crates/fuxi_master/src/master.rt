@@ -21,6 +21,7 @@ ghost use Rattle.fuxi_master.specs.Steps.{IsFitting, IsSentFormed, StepsAlike, i
 
 use crate::event::{MasterEvent, Outcome};
 use crate::state::Core;
+use crate::step::stepped;
 use bad_nodes::Votes;
 use cluster_desc::Cluster;
 use delta_channel::Place;
@@ -91,8 +92,7 @@ impl Master {
         ensures formed { IfOk result (λ after. IsSentFormed after.1) }
     {
         let Master { core, steps } = self;
-        let (after, outcome) = Box::into_inner(core).step(alloc, event, steps + 1)?;
-        let core = Box::new(alloc, after)?;
+        let (core, outcome) = stepped(core, alloc, event, steps + 1)?;
         Ok((
             Master {
                 core,

@@ -1,6 +1,7 @@
 //! One step of a master.
 
 ghost use Rattle.std.specs.Prelude.{◌≡◌, ◌<◌, ◌≤◌, true, false, length, IfOk};
+ghost use Rattle.fuxi_terms.specs.Cluster.{JobRecord};
 ghost use Rattle.fuxi_terms.specs.Jobs.{is_known};
 ghost use Rattle.schedule_unit.specs.declared.party.Role.TheVariants.{Master as AsMaster, Agent as AsAgent, App as AsApp};
 ghost use Rattle.fuxi_terms.specs.Limits.{most_machines, most_steps};
@@ -41,26 +42,53 @@ fn is_taken(heard: &Heard) -> bool
     matches!(heard.what, What::Taken)
 }
 
+// One step of a core on the heap, which is the one of this number. It stays where it is unless a job is admitted.
+pub(crate) fn stepped(
+    core: Box<Core>,
+    alloc: Global,
+    event: MasterEvent,
+    steps: u64,
+) -> Result<(Box<Core>, Outcome), OutOfMemory>
+    requires core { IsCore (core_of core.value) }
+    requires fitting { IsFitting (core_of core.value) event }
+    requires within { IsWithin steps (core_of core.value) }
+    requires steps { steps ≤ most_steps }
+    ensures { IfOk result (λ after. IsStep event steps (core_of core.value) (core_of after.0.value) after.1) }
+{
+    let mut core = core;
+    match event {
+        MasterEvent::Admit(job) => {
+            let (after, outcome) = Box::into_inner(core).step_admit(alloc, &job, steps)?;
+            Ok((Box::new(alloc, after)?, outcome))
+        }
+        event => {
+            let outcome = core.step(alloc, event, steps)?;
+            Ok((core, outcome))
+        }
+    }
+}
+
 impl Core {
-    // One step, which is the one of this number.
-    pub(crate) fn step(
-        self,
+    // One step of any kind but the admission of a job. It is the one of this number.
+    fn step(
+        &mut self,
         alloc: Global,
         event: MasterEvent,
         steps: u64,
-    ) -> Result<(Core, Outcome), OutOfMemory>
-        requires core { IsCore (core_of self) }
-        requires fitting { IsFitting (core_of self) event }
-        requires within { IsWithin steps (core_of self) }
+    ) -> Result<Outcome, OutOfMemory>
+        requires core { IsCore (core_of self.old) }
+        requires fitting { IsFitting (core_of self.old) event }
+        requires other { (job : JobRecord) → event ≡ MasterEvent.Admit job → ⊥ }
+        requires within { IsWithin steps (core_of self.old) }
         requires steps { steps ≤ most_steps }
-        ensures { IfOk result (λ after. IsStep event steps (core_of self) (core_of after.0) after.1) }
+        ensures { IfOk result (λ outcome. IsStep event steps (core_of self.old) (core_of self.new) outcome) }
     {
         match event {
             MasterEvent::Packet(packet) => {
-                let (core, heard) = self.hear(alloc, packet, steps)?;
-                Ok((core, Outcome::Heard(heard)))
+                let heard = self.hear(alloc, packet, steps)?;
+                Ok(Outcome::Heard(heard))
             }
-            MasterEvent::Admit(job) => self.step_admit(alloc, &job, steps),
+            MasterEvent::Admit(_) => unreachable!(),
             MasterEvent::Finish(app) => self.step_finish(alloc, app, steps),
             MasterEvent::Ban(machine) => self.step_ban(alloc, machine, steps),
             MasterEvent::Unban(machine) => self.step_unban(alloc, machine, steps),
@@ -68,113 +96,106 @@ impl Core {
             MasterEvent::Preempt => self.step_preempt(alloc, steps),
             MasterEvent::Turn => {
                 let packets = self.turn(alloc)?;
-                Ok((self, Outcome::Sent(packets)))
+                Ok(Outcome::Sent(packets))
             }
             MasterEvent::TurnTo(peer) => {
                 let packets = self.turn_to(alloc, peer)?;
-                Ok((self, Outcome::Sent(packets)))
+                Ok(Outcome::Sent(packets))
             }
             MasterEvent::Resync => {
-                let mut core = self;
-                core.resync();
-                Ok((core, Outcome::Done))
+                self.resync();
+                Ok(Outcome::Done)
             }
         }
     }
 
     // A packet, with the end of the step where it changed something.
-    fn hear(self, alloc: Global, packet: Packet, steps: u64) -> Result<(Core, Heard), OutOfMemory>
-        requires core { IsCore (core_of self) }
+    fn hear(&mut self, alloc: Global, packet: Packet, steps: u64) -> Result<Heard, OutOfMemory>
+        requires core { IsCore (core_of self.old) }
         requires formed { IsFormed packet }
         requires no_end { packet.kind ≡ Kind.End → ⊥ }
-        requires within { IsWithin steps (core_of self) }
+        requires within { IsWithin steps (core_of self.old) }
         requires steps { steps ≤ most_steps }
-        ensures { IfOk result (λ after. IsHeard packet steps (core_of self) (core_of after.0) after.1) }
+        ensures { IfOk result (λ heard. IsHeard packet steps (core_of self.old) (core_of self.new) heard) }
     {
         step_ends();
         strangers_change_nothing();
         if !is_for_master(&packet) {
-            return Ok((self, STRANGER));
+            return Ok(STRANGER);
         }
         match packet.from.role {
-            Role::Master => Ok((self, STRANGER)),
+            Role::Master => Ok(STRANGER),
             Role::Agent => {
                 if packet.from.number >= self.allotment.table().cluster().machines() {
-                    return Ok((self, STRANGER));
+                    return Ok(STRANGER);
                 }
-                let (core, heard) = self.heard_agent(alloc, packet, steps)?;
-                Ok((core, heard))
+                self.heard_agent(alloc, packet, steps)
             }
             Role::App => {
                 if self.known.job(AppNo(packet.from.number)).is_none() {
-                    return Ok((self, STRANGER));
+                    return Ok(STRANGER);
                 }
-                let (core, heard) = self.heard_app(alloc, packet, steps)?;
-                Ok((core, heard))
+                self.heard_app(alloc, packet, steps)
             }
         }
     }
 
     // A packet of an agent of the cluster.
     fn heard_agent(
-        mut self,
+        &mut self,
         alloc: Global,
         packet: Packet,
         steps: u64,
-    ) -> Result<(Core, Heard), OutOfMemory>
-        requires core { IsCore (core_of self) }
+    ) -> Result<Heard, OutOfMemory>
+        requires core { IsCore (core_of self.old) }
         requires formed { IsFormed packet }
         requires no_end { packet.kind ≡ Kind.End → ⊥ }
         requires from { packet.from.role ≡ AsAgent }
-        requires machine { packet.from.number < length self.allotment.table.cluster.machines }
+        requires machine { packet.from.number < length self.old.allotment.table.cluster.machines }
         requires to { packet.to.role ≡ AsMaster }
         requires zero { packet.to.number ≡ 0 }
-        requires within { IsWithin steps (core_of self) }
+        requires within { IsWithin steps (core_of self.old) }
         requires steps { steps ≤ most_steps }
-        ensures { IfOk result (λ after. IsHeard packet steps (core_of self) (core_of after.0) after.1) }
+        ensures { IfOk result (λ heard. IsHeard packet steps (core_of self.old) (core_of self.new) heard) }
     {
         step_ends();
         let machine = MachineNo(packet.from.number);
         let (heard, due) = self.hear_agent(alloc, packet)?;
         if !due {
-            return Ok((self, heard));
+            return Ok(heard);
         }
-        let (changed, news) = self.adopt_report(alloc, machine)?;
-        let after = changed.finished(alloc, &news, steps)?;
-        Ok((after, heard))
+        let news = self.adopt_report(alloc, machine)?;
+        self.finished(alloc, &news, steps)?;
+        Ok(heard)
     }
 
     // A packet of the application of a known job.
-    fn heard_app(
-        mut self,
-        alloc: Global,
-        packet: Packet,
-        steps: u64,
-    ) -> Result<(Core, Heard), OutOfMemory>
-        requires core { IsCore (core_of self) }
+    fn heard_app(&mut self, alloc: Global, packet: Packet, steps: u64) -> Result<Heard, OutOfMemory>
+        requires core { IsCore (core_of self.old) }
         requires formed { IsFormed packet }
         requires no_end { packet.kind ≡ Kind.End → ⊥ }
         requires from { packet.from.role ≡ AsApp }
-        requires known { is_known self.known.jobs packet.from.number ≡ true }
+        requires known { is_known self.old.known.jobs packet.from.number ≡ true }
         requires to { packet.to.role ≡ AsMaster }
         requires zero { packet.to.number ≡ 0 }
-        requires within { IsWithin steps (core_of self) }
+        requires within { IsWithin steps (core_of self.old) }
         requires steps { steps ≤ most_steps }
-        ensures { IfOk result (λ after. IsHeard packet steps (core_of self) (core_of after.0) after.1) }
+        ensures { IfOk result (λ heard. IsHeard packet steps (core_of self.old) (core_of self.new) heard) }
     {
         step_ends();
         let app = AppNo(packet.from.number);
         let heard = self.hear_app(alloc, packet)?;
         let taken = is_taken(&heard);
         if !heard.fresh && !taken {
-            return Ok((self, heard));
+            return Ok(heard);
         }
-        let (changed, news) = self.take_demand(alloc, app, heard.fresh, taken)?;
-        let after = changed.finished(alloc, &news, steps)?;
-        Ok((after, heard))
+        let news = self.take_demand(alloc, app, heard.fresh, taken)?;
+        self.finished(alloc, &news, steps)?;
+        Ok(heard)
     }
 
-    // A job is known from now on, with no demand.
+    // A job is known from now on, with no demand. The core is moved and not lent: where memory is refused within the
+    // admission its table and its placer are not level.
     fn step_admit(
         self,
         alloc: Global,
@@ -187,96 +208,91 @@ impl Core {
         requires steps { steps ≤ most_steps }
         ensures { IfOk result (λ after. IsStep (MasterEvent.Admit job.now) steps (core_of self) (core_of after.0) after.1) }
     {
-        let (core, news) = self.admit(alloc, job)?;
-        let after = core.finished(alloc, &news, steps)?;
-        Ok((after, Outcome::Done))
+        let (mut core, news) = self.admit(alloc, job)?;
+        core.finished(alloc, &news, steps)?;
+        Ok((core, Outcome::Done))
     }
 
     // A job has ended: its grants are gone.
-    fn step_finish(
-        self,
-        alloc: Global,
-        app: AppNo,
-        steps: u64,
-    ) -> Result<(Core, Outcome), OutOfMemory>
-        requires core { IsCore (core_of self) }
-        requires known { is_known self.known.jobs app.0 ≡ true }
-        requires within { IsWithin steps (core_of self) }
+    fn step_finish(&mut self, alloc: Global, app: AppNo, steps: u64) -> Result<Outcome, OutOfMemory>
+        requires core { IsCore (core_of self.old) }
+        requires known { is_known self.old.known.jobs app.0 ≡ true }
+        requires within { IsWithin steps (core_of self.old) }
         requires steps { steps ≤ most_steps }
-        ensures { IfOk result (λ after. IsStep (MasterEvent.Finish app) steps (core_of self) (core_of after.0) after.1) }
+        ensures { IfOk result (λ outcome. IsStep (MasterEvent.Finish app) steps (core_of self.old) (core_of self.new) outcome) }
     {
-        let (core, news) = self.end_job(alloc, app)?;
-        let after = core.finished(alloc, &news, steps)?;
-        Ok((after, Outcome::Done))
+        let news = self.end_job(alloc, app)?;
+        self.finished(alloc, &news, steps)?;
+        Ok(Outcome::Done)
     }
 
     // A machine gets no grant from now on, and has none.
     fn step_ban(
-        self,
+        &mut self,
         alloc: Global,
         machine: MachineNo,
         steps: u64,
-    ) -> Result<(Core, Outcome), OutOfMemory>
-        requires core { IsCore (core_of self) }
+    ) -> Result<Outcome, OutOfMemory>
+        requires core { IsCore (core_of self.old) }
         requires machine { machine.0 < most_machines }
-        requires within { IsWithin steps (core_of self) }
+        requires within { IsWithin steps (core_of self.old) }
         requires steps { steps ≤ most_steps }
-        ensures { IfOk result (λ after. IsStep (MasterEvent.Ban machine) steps (core_of self) (core_of after.0) after.1) }
+        ensures { IfOk result (λ outcome. IsStep (MasterEvent.Ban machine) steps (core_of self.old) (core_of self.new) outcome) }
     {
-        let (core, news) = self.ban(alloc, machine)?;
-        let after = core.finished(alloc, &news, steps)?;
-        Ok((after, Outcome::Done))
+        let news = self.ban(alloc, machine)?;
+        self.finished(alloc, &news, steps)?;
+        Ok(Outcome::Done)
     }
 
     // A machine gets grants again.
     fn step_unban(
-        self,
+        &mut self,
         alloc: Global,
         machine: MachineNo,
         steps: u64,
-    ) -> Result<(Core, Outcome), OutOfMemory>
-        requires core { IsCore (core_of self) }
+    ) -> Result<Outcome, OutOfMemory>
+        requires core { IsCore (core_of self.old) }
         requires machine { machine.0 < most_machines }
-        requires within { IsWithin steps (core_of self) }
+        requires within { IsWithin steps (core_of self.old) }
         requires steps { steps ≤ most_steps }
-        ensures { IfOk result (λ after. IsStep (MasterEvent.Unban machine) steps (core_of self) (core_of after.0) after.1) }
+        ensures { IfOk result (λ outcome. IsStep (MasterEvent.Unban machine) steps (core_of self.old) (core_of self.new) outcome) }
     {
-        let (core, news) = self.unban(alloc, machine)?;
-        let after = core.finished(alloc, &news, steps)?;
-        Ok((after, Outcome::Done))
+        let news = self.unban(alloc, machine);
+        self.finished(alloc, &news, steps)?;
+        Ok(Outcome::Done)
     }
 
     // It serves from now on, where it does not serve yet.
-    fn step_begin(self, alloc: Global, steps: u64) -> Result<(Core, Outcome), OutOfMemory>
-        requires core { IsCore (core_of self) }
-        requires within { IsWithin steps (core_of self) }
+    fn step_begin(&mut self, alloc: Global, steps: u64) -> Result<Outcome, OutOfMemory>
+        requires core { IsCore (core_of self.old) }
+        requires within { IsWithin steps (core_of self.old) }
         requires steps { steps ≤ most_steps }
-        ensures { IfOk result (λ after. IsStep MasterEvent.Begin steps (core_of self) (core_of after.0) after.1) }
+        ensures { IfOk result (λ outcome. IsStep MasterEvent.Begin steps (core_of self.old) (core_of self.new) outcome) }
     {
         if self.serving {
-            return Ok((self, Outcome::Refused(MasterRefusal::AlreadyServing)));
+            return Ok(Outcome::Refused(MasterRefusal::AlreadyServing));
         }
-        let (core, news) = self.begin(alloc);
-        let after = core.finished(alloc, &news, steps)?;
-        Ok((after, Outcome::Done))
+        let news = self.begin(alloc);
+        self.finished(alloc, &news, steps)?;
+        Ok(Outcome::Done)
     }
 
     // It makes room for a unit that waits, where it serves and there are victims.
-    fn step_preempt(self, alloc: Global, steps: u64) -> Result<(Core, Outcome), OutOfMemory>
-        requires core { IsCore (core_of self) }
-        requires within { IsWithin steps (core_of self) }
+    fn step_preempt(&mut self, alloc: Global, steps: u64) -> Result<Outcome, OutOfMemory>
+        requires core { IsCore (core_of self.old) }
+        requires within { IsWithin steps (core_of self.old) }
         requires steps { steps ≤ most_steps }
-        ensures { IfOk result (λ after. IsStep MasterEvent.Preempt steps (core_of self) (core_of after.0) after.1) }
+        ensures { IfOk result (λ outcome. IsStep MasterEvent.Preempt steps (core_of self.old) (core_of self.new) outcome) }
     {
         if !self.serving {
-            return Ok((self, Outcome::Refused(MasterRefusal::NotServing)));
+            return Ok(Outcome::Refused(MasterRefusal::NotServing));
         }
-        let (core, found) = self.preempt(alloc)?;
+        let found = self.preempt(alloc)?;
         if !found {
-            return Ok((core, Outcome::Refused(MasterRefusal::NothingToPreempt)));
+            return Ok(Outcome::Refused(MasterRefusal::NothingToPreempt));
         }
         let news = news(alloc, None, None);
-        let after = core.finished(alloc, &news, steps)?;
-        Ok((after, Outcome::Done))
+        self.finished(alloc, &news, steps)?;
+        Ok(Outcome::Done)
     }
 }

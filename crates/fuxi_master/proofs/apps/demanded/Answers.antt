@@ -15,34 +15,36 @@ returns-then-not-live c =
     let d = c.args.side.now in
     let dead : c.args.live ≡ false = search rules in
     let counts = subst (λ (t : TallyRecord). AreCounts key_cmp greatest_demand t.entries) c.got.ensures.received c.entries-entries.ensures.counts in
-    dead_demanded c.args.app.0 c.args.fresh c.args.live d c.empty.result.entries c.args.allotment c.asked-then-not-live.new.self dead (ap (λ (t : TallyRecord). t.entries) c.empty.ensures) a.stands a.table a.touched a.turns counts c.new.result.items c.new.ensures.items
+    dead_demanded c.args.app.0 c.args.fresh c.args.live d c.empty.result.entries c.args.allotment.now c.asked-then-not-live.new.self dead (ap (λ (t : TallyRecord). t.entries) c.empty.ensures) a.stands a.table a.touched a.turns counts c.new.result.items c.new.ensures.items
 
 pub returns-then-fresh : goal.returns-then-fresh
 returns-then-fresh c =
-    let x = c.args.allotment in
+    let x = c.args.allotment.now in
     let a = c.args.app.0 in
     let d = c.args.side.now in
-    let l = c.in_ok-left in
+    let y = c.credited-then-fresh.new.allotment in
+    let l = c.in_ok-numbers in
     let on : c.args.live ≡ true = search rules in
     let fresh : c.args.fresh ≡ true = search rules in
     let counts = subst (λ (t : TallyRecord). AreCounts key_cmp greatest_demand t.entries) c.got.ensures.received c.entries-entries.ensures.counts in
     let got = c.got-then-fresh.ensures.received in
     let given : c.empty-then-fresh.result.entries ≡ cond c.args.fresh [] d.outgoing.present.entries = ap (λ (t : TallyRecord). t.entries) c.empty-then-fresh.ensures ∙ sym (ap (λ f. cond f [] d.outgoing.present.entries) fresh) in
-    alive_demanded a c.args.fresh c.args.live d c.empty-then-fresh.result.entries x l.left l.numbers.items on given
-    (subst (λ (t : TallyRecord). IsCredited a t.entries c.empty-then-fresh.result.entries x l.left) got l.ensures.credits) counts
+    alive_demanded a c.args.fresh c.args.live d c.empty-then-fresh.result.entries x y l.numbers.items on given
+    (subst (λ (t : TallyRecord). IsCredited a t.entries c.empty-then-fresh.result.entries x y) got l.ensures.credits) counts
     (subst (λ (t : TallyRecord). l.numbers.items ≡ newly_credited x.table.cluster (unit_count (as_known x.table.jobs) a) c.empty-then-fresh.result.entries t.entries) got l.ensures.numbers)
 
 pub returns : goal.returns
 returns c =
-    let x = c.args.allotment in
+    let x = c.args.allotment.now in
     let a = c.args.app.0 in
     let d = c.args.side.now in
-    let l = c.in_ok-left-2 in
+    let y = c.credited-2.new.allotment in
+    let l = c.in_ok-numbers-2 in
     let on : c.args.live ≡ true = search rules in
     let old : c.args.fresh ≡ false = search rules in
     let counts = subst (λ (t : TallyRecord). AreCounts key_cmp greatest_demand t.entries) c.got.ensures.received c.entries-entries.ensures.counts in
     let got = c.got-2.ensures.received in
     let given : c.sent.result.now.entries ≡ cond c.args.fresh [] d.outgoing.present.entries = ap (λ (t : TallyRecord). t.entries) c.sent.ensures ∙ sym (ap (λ f. cond f [] d.outgoing.present.entries) old) in
-    alive_demanded a c.args.fresh c.args.live d c.sent.result.now.entries x l.left l.numbers.items on given
-    (subst (λ (t : TallyRecord). IsCredited a t.entries c.sent.result.now.entries x l.left) got l.ensures.credits) counts
+    alive_demanded a c.args.fresh c.args.live d c.sent.result.now.entries x y l.numbers.items on given
+    (subst (λ (t : TallyRecord). IsCredited a t.entries c.sent.result.now.entries x y) got l.ensures.credits) counts
     (subst (λ (t : TallyRecord). l.numbers.items ≡ newly_credited x.table.cluster (unit_count (as_known x.table.jobs) a) c.sent.result.now.entries t.entries) got l.ensures.numbers)

@@ -22,7 +22,7 @@ use Rattle.fuxi_master.proofs.state.Core.adopt_report.Goals as goal
 
 pub adopt-requires-2-clause-units : goal.adopt-requires-2-clause-units
 adopt-requires-2-clause-units c =
-    let x = core_of c.args.self in
+    let x = core_of c.args.self.now in
     let m = c.args.machine.0 in
     let rows : c.table-report.result.now ≡ c.index.result.now.incoming.received.table = c.table-report.ensures ∙ ap (λ (j : JoinRecord). j.table) c.got.ensures.received in
     let kept : c.in-Ok.kept ≡ kept_of x.known m c.index.result.now.incoming.received.table = c.in-Ok.ensures.kept ∙ ap (kept_of x.known m) rows in
@@ -30,7 +30,7 @@ adopt-requires-2-clause-units c =
 
 pub adopt-requires-2-clause-fits : goal.adopt-requires-2-clause-fits
 adopt-requires-2-clause-fits c =
-    let x = core_of c.args.self in
+    let x = core_of c.args.self.now in
     let m = c.args.machine.0 in
     let cluster : c.cluster.result.now ≡ x.allotment.table.cluster = c.cluster.ensures.cluster ∙ ap (λ (t : TableRecord). t.cluster) c.table.ensures in
     let has = has_is c.cluster.result.now.machines m c.machine.result.now c.machine.ensures ∙ ap (λ (k : ClusterRecord). padded (machine_of k m).has) cluster in
@@ -38,7 +38,7 @@ adopt-requires-2-clause-fits c =
 
 pub returns : goal.returns
 returns c =
-    let x = core_of c.args.self in
+    let x = core_of c.args.self.now in
     let m = c.args.machine.0 in
     let d = c.index.result.now in
     let n = c.requires.core.near.kept.agents in
@@ -48,9 +48,9 @@ returns c =
     let sound = subst IsSound c.table.ensures c.cluster.ensures.sound in
     let rows : c.table-report.result.now ≡ c.index.result.now.incoming.received.table = c.table-report.ensures ∙ ap (λ (j : JoinRecord). j.table) c.got.ensures.received in
     let kept : c.in-Ok.kept ≡ kept_of x.known m c.index.result.now.incoming.received.table = c.in-Ok.ensures.kept ∙ ap (kept_of x.known m) rows in
-    let y = c.in_ok-allotment.allotment in
+    let y = c.adopt-2.new.self in
     let z = c.open.new.self in
-    let a = c.in_ok-allotment.ensures in
+    let a = c.in_ok-adopt.ensures in
     let o = c.open.ensures in
     let done : IsEntered m (not (has_number m x.known.bans)) c.in-Ok.kept x.allotment y z = record {
       entered = a.stands;

@@ -10,8 +10,8 @@ use Rattle.fuxi_master.proofs.state.Core.ban.Goals as goal
 
 pub returns-clause-changes : goal.returns-clause-changes
 returns-clause-changes c =
-    let x = core_of c.args.self in
+    let x = core_of c.args.self.now in
     let m = c.args.machine.0 in
-    let z = c.in_ok-allotment.allotment in
+    let z = c.closed.new.allotment in
     subst (λ (k : Knowledge). Changes c.news.result (changed_by (λ M. banned_in M m)) x (record x { known = k; allotment = z })) (sym c.ban.ensures)
-    (banned x c.requires.core (subst IsSound c.table.ensures c.cluster-sound.ensures.sound) c.news.result c.news.ensures m z c.in_ok-allotment.ensures)
+    (banned x c.requires.core (subst IsSound c.table.ensures c.cluster-sound.ensures.sound) c.news.result c.news.ensures m z c.in_ok-closed.ensures)

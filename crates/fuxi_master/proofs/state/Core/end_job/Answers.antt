@@ -13,17 +13,17 @@ use Rattle.fuxi_master.proofs.state.Core.end_job.Goals as goal
 
 pub asked-requires : goal.asked-requires
 asked-requires c =
-    let x = core_of c.args.self in
-    subst (λ (t : TableRecord). 0 < unit_count (as_known t.jobs) c.args.app.0) (sym c.in_ok-allotment.ensures.table)
+    let x = core_of c.args.self.now in
+    subst (λ (t : TableRecord). 0 < unit_count (as_known t.jobs) c.args.app.0) (sym c.in_ok-clear_job.ensures.table)
     (has_units x.allotment.table c.table-2.result.now c.table-2.ensures x.known.jobs c.requires.core.near.kept.jobs c.args.app.0 c.units-units.result c.requires.known c.units-units.ensures.known c.units-units.ensures.number)
 
 pub returns-clause-changes : goal.returns-clause-changes
 returns-clause-changes c =
-    let x = core_of c.args.self in
+    let x = core_of c.args.self.now in
     let a = c.args.app.0 in
-    let y = c.in_ok-allotment.allotment in
+    let y = c.clear_job.new.self in
     let z = c.asked-2.new.self in
-    let e = c.in_ok-allotment.ensures in
+    let e = c.in_ok-clear_job.ensures in
     let o = c.asked-2.ensures in
     subst (λ (k : Knowledge). Changes c.news.result (changed_by (λ M. ended_in M a)) x (record x { known = k; allotment = z })) (sym c.finish.ensures)
     (job_ended x c.requires.core (subst IsSound c.table.ensures c.cluster-sound.ensures.sound) c.news.result c.news.ensures a y z e.stands e.touches e.table

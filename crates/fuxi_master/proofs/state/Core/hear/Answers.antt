@@ -8,7 +8,7 @@ use Rattle.fuxi_master.proofs.state.Core.hear.Goals as goal
 
 pub returns-then-not-is_for_master : goal.returns-then-not-is_for_master
 returns-then-not-is_for_master c =
-    let x = core_of c.args.self in
+    let x = core_of c.args.self.now in
     let off : c.is_for_master.result ≡ false = search rules in
     record {
       core = c.requires.core;
@@ -18,7 +18,7 @@ returns-then-not-is_for_master c =
 
 pub returns-then-packet-machines : goal.returns-then-packet-machines
 returns-then-packet-machines c =
-    let x = core_of c.args.self in
+    let x = core_of c.args.self.now in
     let a = c.args.packet.from.number in
     let ge : length x.allotment.table.cluster.machines ≤ a = search rules in
     record {
@@ -30,7 +30,7 @@ returns-then-packet-machines c =
 
 pub returns-then-is_none : goal.returns-then-is_none
 returns-then-is_none c =
-    let x = core_of c.args.self in
+    let x = core_of c.args.self.now in
     let a = c.args.packet.from.number in
     let unknown : is_known x.known.jobs a ≡ false = search rules in
     record {

@@ -6,7 +6,7 @@ use Rattle.fuxi_master.proofs.state.Core.heard_agent.Goals as goal
 
 pub returns-then-not-due : goal.returns-then-not-due
 returns-then-not-due c =
-    let x = core_of c.args.self in
+    let x = core_of c.args.self.now in
     let y = core_of c.hear_agent.new.self in
     let e = c.in_ok-heard.ensures in
     let m = c.args.packet.from.number in
@@ -24,22 +24,22 @@ pub adopt_report-requires-clause-due : goal.adopt_report-requires-clause-due
 adopt_report-requires-clause-due c = c.in_ok-heard.ensures.waits (search rules)
 
 pub finished-requires-clause-role : goal.finished-requires-clause-role
-finished-requires-clause-role c = has_role c.in_ok-changed.news _ (core_of c.hear_agent.new.self) (core_of c.in_ok-changed.changed) c.in_ok-heard.ensures.core.near c.in_ok-changed.ensures.changes
+finished-requires-clause-role c = has_role c.in_ok-news.news _ (core_of c.hear_agent.new.self) (core_of c.adopt_report.new.self) c.in_ok-heard.ensures.core.near c.in_ok-news.ensures.changes
 
 pub finished-requires-clause-within : goal.finished-requires-clause-within
-finished-requires-clause-within c = c.in_ok-changed.ensures.changes.within c.args.steps (c.in_ok-heard.ensures.within c.args.steps c.requires.within)
+finished-requires-clause-within c = c.in_ok-news.ensures.changes.within c.args.steps (c.in_ok-heard.ensures.within c.args.steps c.requires.within)
 
 pub returns : goal.returns
 returns c =
-    let x = core_of c.args.self in
+    let x = core_of c.args.self.now in
     let y = core_of c.hear_agent.new.self in
     let e = c.in_ok-heard.ensures in
     let m = c.args.packet.from.number in
-    let a = c.in_ok-changed.ensures in
+    let a = c.in_ok-news.ensures in
     let on : c.in_ok-heard.due ≡ true = search rules in
     record {
-      core = c.in_ok-after.ensures.core;
-      within = c.in_ok-after.ensures.within;
-      hears = λ r h. agent_adopted c.step_ends.ensures y (core_of c.in_ok-changed.changed) (core_of c.in_ok-after.after) (record { 0 = m }) c.args.packet c.in_ok-heard.heard c.in_ok-heard.due c.in_ok-changed.news r (e.hears r h) on
-          (ap (λ q. id_of q m) c.requires.from) (agent_talks x r h m c.requires.machine) a.named a.changes a.lined c.in_ok-after.ensures.ends;
+      core = c.in_ok-finished.ensures.core;
+      within = c.in_ok-finished.ensures.within;
+      hears = λ r h. agent_adopted c.step_ends.ensures y (core_of c.adopt_report.new.self) (core_of c.finished.new.self) (record { 0 = m }) c.args.packet c.in_ok-heard.heard c.in_ok-heard.due c.in_ok-news.news r (e.hears r h) on
+          (ap (λ q. id_of q m) c.requires.from) (agent_talks x r h m c.requires.machine) a.named a.changes a.lined c.in_ok-finished.ensures.ends;
     }

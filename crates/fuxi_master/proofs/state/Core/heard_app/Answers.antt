@@ -7,7 +7,7 @@ use Rattle.fuxi_master.proofs.state.Core.heard_app.Goals as goal
 
 pub returns-then-not-taken : goal.returns-then-not-taken
 returns-then-not-taken c =
-    let x = core_of c.args.self in
+    let x = core_of c.args.self.now in
     let y = core_of c.hear_app.new.self in
     let e = c.in_ok-heard.ensures in
     let a = c.args.packet.from.number in
@@ -23,21 +23,21 @@ pub take_demand-requires-clause-small : goal.take_demand-requires-clause-small
 take_demand-requires-clause-small c = app_number c.args.packet c.requires.formed c.requires.from
 
 pub finished-requires-clause-role : goal.finished-requires-clause-role
-finished-requires-clause-role c = has_role c.in_ok-changed.news _ (core_of c.hear_app.new.self) (core_of c.in_ok-changed.changed) c.in_ok-heard.ensures.near c.in_ok-changed.ensures.changes
+finished-requires-clause-role c = has_role c.in_ok-news.news _ (core_of c.hear_app.new.self) (core_of c.take_demand.new.self) c.in_ok-heard.ensures.near c.in_ok-news.ensures.changes
 
 pub finished-requires-clause-within : goal.finished-requires-clause-within
-finished-requires-clause-within c = c.in_ok-changed.ensures.changes.within c.args.steps (c.in_ok-heard.ensures.within c.args.steps c.requires.within)
+finished-requires-clause-within c = c.in_ok-news.ensures.changes.within c.args.steps (c.in_ok-heard.ensures.within c.args.steps c.requires.within)
 
 pub returns : goal.returns
 returns c =
-    let x = core_of c.args.self in
+    let x = core_of c.args.self.now in
     let y = core_of c.hear_app.new.self in
     let e = c.in_ok-heard.ensures in
     let a = c.args.packet.from.number in
-    let d = c.in_ok-changed.ensures in
+    let d = c.in_ok-news.ensures in
     record {
-      core = c.in_ok-after.ensures.core;
-      within = c.in_ok-after.ensures.within;
-      hears = λ r h. app_changed c.step_ends.ensures y (core_of c.in_ok-changed.changed) (core_of c.in_ok-after.after) a c.args.packet c.in_ok-heard.heard c.is_taken-taken.result c.in_ok-changed.news r (e.hears r h) c.is_taken-taken.ensures
-          (ap (λ q. id_of q a) c.requires.from) (app_talks x r h a c.requires.known) d.none d.changes c.in_ok-after.ensures.ends;
+      core = c.in_ok-finished.ensures.core;
+      within = c.in_ok-finished.ensures.within;
+      hears = λ r h. app_changed c.step_ends.ensures y (core_of c.take_demand.new.self) (core_of c.finished.new.self) a c.args.packet c.in_ok-heard.heard c.is_taken-taken.result c.in_ok-news.news r (e.hears r h) c.is_taken-taken.ensures
+          (ap (λ q. id_of q a) c.requires.from) (app_talks x r h a c.requires.known) d.none d.changes c.in_ok-finished.ensures.ends;
     }

@@ -15,5 +15,5 @@ pub finished-requires-clause-within : goal.finished-requires-clause-within
 finished-requires-clause-within c = c.in_ok-core.ensures.changes.within c.args.steps c.requires.within
 
 pub returns : goal.returns
-returns c = is_done (Admit c.args.job.now) c.args.steps (core_of c.args.self) (core_of c.in_ok-after.after) c.in_ok-after.ensures.core c.in_ok-after.ensures.within
-    (commanded c.in_ok-core.news (admitting c.args.job.now) (app_id c.args.job.now.number ∷ []) (core_of c.args.self) (core_of c.in_ok-core.core) (core_of c.in_ok-after.after) (Admits c.args.job.now) c.in_ok-core.ensures.changes c.in_ok-after.ensures.ends (named_by None (Some (record { 0 = c.args.job.now.number })) c.in_ok-core.news c.in_ok-core.ensures.none c.in_ok-core.ensures.admitted) (λ r h. refl))
+returns c = is_done (Admit c.args.job.now) c.args.steps (core_of c.args.self) (core_of c.finished.new.self) c.in_ok-finished.ensures.core c.in_ok-finished.ensures.within
+    (commanded c.in_ok-core.news (admitting c.args.job.now) (app_id c.args.job.now.number ∷ []) (core_of c.args.self) (core_of c.in_ok-core.core) (core_of c.finished.new.self) (Admits c.args.job.now) c.in_ok-core.ensures.changes c.in_ok-finished.ensures.ends (named_by None (Some (record { 0 = c.args.job.now.number })) c.in_ok-core.news c.in_ok-core.ensures.none c.in_ok-core.ensures.admitted) (λ r h. refl))

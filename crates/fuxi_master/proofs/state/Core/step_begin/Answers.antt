@@ -11,24 +11,24 @@ use Rattle.fuxi_master.proofs.state.Core.step_begin.Goals as goal
 
 pub returns-then-self : goal.returns-then-self
 returns-then-self c =
-    let x = core_of c.args.self in
+    let x = core_of c.args.self.now in
     stays Begin c.args.steps x x (Refused AlreadyServing) c.requires.core c.requires.within refl (begins_refused x c.if-self.true) tt
 
 pub finished-requires-clause-role : goal.finished-requires-clause-role
-finished-requires-clause-role c = has_role c.begin-core.result.1 _ (core_of c.args.self) (core_of c.begin-core.result.0) c.requires.core.near c.begin-core.ensures.changes
+finished-requires-clause-role c = has_role c.begin-news.result _ (core_of c.args.self.now) (core_of c.begin-news.new.self) c.requires.core.near c.begin-news.ensures.changes
 
 pub finished-requires-clause-within : goal.finished-requires-clause-within
-finished-requires-clause-within c = c.begin-core.ensures.changes.within c.args.steps c.requires.within
+finished-requires-clause-within c = c.begin-news.ensures.changes.within c.args.steps c.requires.within
 
 pub returns : goal.returns
 returns c =
-    let x = core_of c.args.self in
-    let d = c.begin-core.ensures in
-    let news = c.begin-core.result.1 in
+    let x = core_of c.args.self.now in
+    let d = c.begin-news.ensures in
+    let news = c.begin-news.result in
     record {
-      core = c.in_ok-after.ensures.core;
-      within = c.in_ok-after.ensures.within;
-      answers = commanded news beginning [] x (core_of c.begin-core.result.0) (core_of c.in_ok-after.after) Begins d.changes c.in_ok-after.ensures.ends
+      core = c.in_ok-finished.ensures.core;
+      within = c.in_ok-finished.ensures.within;
+      answers = commanded news beginning [] x (core_of c.begin-news.new.self) (core_of c.finished.new.self) Begins d.changes c.in_ok-finished.ensures.ends
           (named_by None None news d.news.reported_is d.news.admitted_is) (begins x c.if-self.false);
       formed = tt;
     }

@@ -8,11 +8,11 @@ use Rattle.fuxi_master.proofs.AnswersAlike.{commanded, named_by, is_done}
 use Rattle.fuxi_master.proofs.state.Core.step_unban.Goals as goal
 
 pub finished-requires-clause-role : goal.finished-requires-clause-role
-finished-requires-clause-role c = has_role c.in_ok-core.news _ (core_of c.args.self) (core_of c.in_ok-core.core) c.requires.core.near c.in_ok-core.ensures.changes
+finished-requires-clause-role c = has_role c.unban-news.result _ (core_of c.args.self.now) (core_of c.unban-news.new.self) c.requires.core.near c.unban-news.ensures.changes
 
 pub finished-requires-clause-within : goal.finished-requires-clause-within
-finished-requires-clause-within c = c.in_ok-core.ensures.changes.within c.args.steps c.requires.within
+finished-requires-clause-within c = c.unban-news.ensures.changes.within c.args.steps c.requires.within
 
 pub returns : goal.returns
-returns c = is_done (Unban c.args.machine) c.args.steps (core_of c.args.self) (core_of c.in_ok-after.after) c.in_ok-after.ensures.core c.in_ok-after.ensures.within
-    (commanded c.in_ok-core.news (λ M. unbanned_in M c.args.machine.0) ([]) (core_of c.args.self) (core_of c.in_ok-core.core) (core_of c.in_ok-after.after) (Unbans c.args.machine.0) c.in_ok-core.ensures.changes c.in_ok-after.ensures.ends (named_by None None c.in_ok-core.news c.in_ok-core.ensures.news.reported_is c.in_ok-core.ensures.news.admitted_is) (λ r h. refl))
+returns c = is_done (Unban c.args.machine) c.args.steps (core_of c.args.self.now) (core_of c.finished.new.self) c.in_ok-finished.ensures.core c.in_ok-finished.ensures.within
+    (commanded c.unban-news.result (λ M. unbanned_in M c.args.machine.0) ([]) (core_of c.args.self.now) (core_of c.unban-news.new.self) (core_of c.finished.new.self) (Unbans c.args.machine.0) c.unban-news.ensures.changes c.in_ok-finished.ensures.ends (named_by None None c.unban-news.result c.unban-news.ensures.news.reported_is c.unban-news.ensures.news.admitted_is) (λ r h. refl))

@@ -7,7 +7,7 @@ use Rattle.fuxi_master.proofs.state.Core.take_demand.Goals as goal
 
 pub unreachable-requires : goal.unreachable-requires
 unreachable-requires c =
-    let x = core_of c.args.self in
+    let x = core_of c.args.self.now in
     let n = c.requires.near.kept.apps in
     let small = c.requires.small in
     let at = slot_at x c.requires.near c.args.app.0 c.requires.known c.index.result.now (omega (arith, n, small)) c.index.ensures ∙ ap Some c.in_default.is in
@@ -16,7 +16,7 @@ unreachable-requires c =
 
 pub demanded-requires-clause-units : goal.demanded-requires-clause-units
 demanded-requires-clause-units c =
-    let x = core_of c.args.self in
+    let x = core_of c.args.self.now in
     let a = c.args.app.0 in
     let u = c.units-units.ensures in
     let tells : is_known (as_known x.allotment.table.jobs) a ≡ nat_lt 0 c.units-units.result = ap (λ (t : TableRecord). is_known (as_known t.jobs) a) (sym c.table-2.ensures) ∙ u.known in
@@ -24,13 +24,13 @@ demanded-requires-clause-units c =
 
 pub returns-clause-changes : goal.returns-clause-changes
 returns-clause-changes c =
-    let x = core_of c.args.self in
+    let x = core_of c.args.self.now in
     let a = c.args.app.0 in
     let d = c.in-Some.side in
     let n = c.requires.near.kept.apps in
     let small = c.requires.small in
     let at = slot_at x c.requires.near a c.requires.known c.index.result.now (omega (arith, n, small)) c.index.ensures ∙ ap Some c.in-Some.is in
     let sound = subst IsSound c.table.ensures c.cluster-sound.ensures.sound in
-    demand_changes x c.requires.near sound a c.args.fresh c.args.taken c.counts-live.result d at c.requires.boots c.requires.known c.requires.told c.in_ok-allotment.allotment c.in_ok-allotment.credited.items c.in_ok-allotment.ensures c.counts-live.ensures
-    (record { reported = None; admitted = None; machines = c.new.result; job = Some c.args.app; credited = c.in_ok-allotment.credited })
+    demand_changes x c.requires.near sound a c.args.fresh c.args.taken c.counts-live.result d at c.requires.boots c.requires.known c.requires.told c.demanded.new.allotment c.in_ok-credited.credited.items c.in_ok-credited.ensures c.counts-live.ensures
+    (record { reported = None; admitted = None; machines = c.new.result; job = Some c.args.app; credited = c.in_ok-credited.credited })
     (record { reported_is = refl; admitted_is = refl; job_is = refl; machines_are = c.new.ensures.items; credited_is = refl })
