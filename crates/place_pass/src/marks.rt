@@ -18,7 +18,7 @@ use cluster_desc::Cluster;
 use fuxi_terms::OutOfMemory;
 use grant_table::GrantTable;
 use party_ledgers::Demand;
-use schedule_unit::{AppNo, GroupNo, MachineNo, UnitNo};
+use schedule_unit::{AppNo, GroupNo, MachineNo, RackNo, UnitNo};
 use std::alloc::Global;
 
 /// A rank on one machine: 9 less priority, level and turn, compared in this order.
@@ -249,13 +249,12 @@ pub(crate) fn reset_one(marks: &mut Vec<Mark>, machine: MachineNo)
     marks[machine.0 as usize] = Mark::new();
 }
 
-// Whether two machines stand in one rack.
-fn is_rack_of(cluster: &Cluster, machine: MachineNo, other: MachineNo) -> bool
-    requires machine { machine.0 < length cluster.now.machines }
-    requires other { other.0 < length cluster.now.machines }
-    ensures { result ≡ nat_eq (rack_of cluster.now machine.0) (rack_of cluster.now other.0) }
+// Whether what was nearer in a rack is so on a machine, since it stands there.
+fn is_nearer_on(cluster: &Cluster, machine: MachineNo, rack: RackNo, nearer: bool) -> bool
+    requires { machine.0 < length cluster.now.machines }
+    ensures { result ≡ (nearer && nat_eq (rack_of cluster.now machine.0) rack.0) }
 {
-    cluster.machine(machine).rack.0 == cluster.machine(other).rack.0
+    nearer && cluster.machine(machine).rack.0 == rack.0
 }
 
 /// A unit of this group gave a machine back: there is more room there, the group may have more, and where the
@@ -272,9 +271,10 @@ pub(crate) fn told_taking(
     ensures marks { (m : ℕ) → m < length marks.old.items → mark_at (map mark_of marks.new.items) m ≡ after_taking cluster.now group.0 machine.0 nearer m (mark_at (map mark_of marks.old.items) m) }
     ensures long { length marks.new.items ≡ length marks.old.items }
 {
+    let rack = cluster.machine(machine).rack;
     for number in 0..cluster.machines() {
-        let same = is_rack_of(cluster, MachineNo(number), machine);
-        marks[number as usize].take(number == machine.0, group, nearer & same);
+        let near = is_nearer_on(cluster, MachineNo(number), rack, nearer);
+        marks[number as usize].take(number == machine.0, group, near);
     }
 }
 
