@@ -55,18 +55,15 @@ pub passes : (es : List (Key × ℕ)) (at : ℕ) (k : Key) (e : Key × ℕ) (res
 passes es at k e rest is next less past = λ q h.
     past q h ∙ ap (λ l. count key_cmp l q) is ∙ ap (λ b. unwrap_or (cond b (Some e.1) (find key_cmp q rest)) 0) (not_tied q k e.0 less h) ∙ sym (ap (λ l. count key_cmp l q) next)
 
--- the next key is not below this one
-next_key : (what unit number : ℕ) → key_cmp (key what unit number) (key what unit (number + 1)) ≡ Less
-next_key what unit number =
-    ap (λ o. ordering_then o (ordering_then (nat_cmp unit unit) (nat_cmp number (number + 1)))) (is_same what)
-    ∙ ap (λ o. ordering_then o (nat_cmp number (number + 1))) (is_same unit)
-    ∙ is_less number (number + 1) (omega arith)
+-- a key of a greater number comes later
+less_key : (what unit n m : ℕ) → n < m → key_cmp (key what unit n) (key what unit m) ≡ Less
+less_key what unit n m lt = ap (λ o. ordering_then o (ordering_then (nat_cmp unit unit) (nat_cmp n m))) (is_same what) ∙ ap (λ o. ordering_then o (nat_cmp n m)) (is_same unit) ∙ is_less n m lt
 
-pub later_past : (es : List (Key × ℕ)) (at what unit number : ℕ) → IsPast es at (key what unit number) → IsPast es at (key what unit (number + 1))
-later_past es at what unit number past = λ q h. past q (by q (key_cmp q (key what unit number)) refl h)
+pub later_past : (es : List (Key × ℕ)) (at what unit n m : ℕ) → n < m → IsPast es at (key what unit n) → IsPast es at (key what unit m)
+later_past es at what unit n m lt past = λ q h. past q (by q (key_cmp q (key what unit n)) refl h)
   where
-    by : (q : Key) (o : Ordering) → key_cmp q (key what unit number) ≡ o → is_lt (key_cmp q (key what unit (number + 1))) ≡ false → is_lt o ≡ false
-    by q Less t h = absurd (true≢false (sym (ap is_lt (key_total.trans q (key what unit number) (key what unit (number + 1)) t (next_key what unit number))) ∙ h))
+    by : (q : Key) (o : Ordering) → key_cmp q (key what unit n) ≡ o → is_lt (key_cmp q (key what unit m)) ≡ false → is_lt o ≡ false
+    by q Less t h = absurd (true≢false (sym (ap is_lt (key_total.trans q (key what unit n) (key what unit m) t (less_key what unit n m lt))) ∙ h))
     by q Equal t h = refl
     by q Greater t h = refl
 

@@ -18,11 +18,13 @@ mod KeptLemmas
 mod FirstOfLine
 mod FirstByTurn
 mod PlacerTreesLemmas
+mod StandsWhereAsked
 mod StandsAfterChange
 mod LinedLemmas
 mod StillLemmas
 mod AskedLemmas
 mod PathLemmas
 mod DemandWalksLemmas
+mod NextOfKind
 mod PlainLemmas
 mod ScenesLemmas

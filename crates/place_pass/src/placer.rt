@@ -3,7 +3,7 @@
 use crate::line::Line;
 use crate::marks::{Mark, forget_groups, fresh_marks, reset_one, tell, tell_demand};
 use crate::search::{first, slot};
-use crate::standing::{enter_line, tell_asked, tell_spot};
+use crate::standing::{enter_line, leave_unasked, tell_asked, tell_spot};
 use crate::waiting::{calm_all, join, leave, leave_served, number_from, stir};
 use crate::wishes::{UNIT_PLACES, Wishes, fresh_units};
 use cluster_desc::Cluster;
@@ -167,7 +167,14 @@ impl Placer {
         let counts = demand.entries();
         let _wishes = self.wishes.cluster();
         tell_demand(&mut self.marks, &self.wishes, app, demand);
-        let preferred = self.wishes.prefers_any(app);
+        leave_unasked(
+            &mut self.tree,
+            &self.line,
+            &self.wishes,
+            &self.turn_of,
+            app,
+            demand,
+        );
         let more = self.wishes.asked(app, demand);
         stir(&mut self.calm, app);
         self.idle &= !more;
@@ -178,7 +185,6 @@ impl Placer {
             &self.turn_of,
             table,
             app,
-            preferred,
         );
     }
 

@@ -1,6 +1,6 @@
 //! What the admitted units are and what is asked of them, by job number and unit, and the machines that are open.
 
-ghost use Rattle.std.specs.Prelude.{◌≡◌, ℕ, ◌+◌, ◌<◌, ◌≤◌, ◌&&◌, true, false, nat_eq, nat_lt, min, cond, List, [], length, map, replicate, IfOk};
+ghost use Rattle.std.specs.Prelude.{◌≡◌, ℕ, ◌+◌, ◌<◌, ◌≤◌, ◌&&◌, ◌||◌, Bool, true, false, nat_eq, nat_lt, min, cond, List, [], length, map, set, replicate, IfOk};
 ghost use Rattle.std.proofs.Common.{get_or};
 ghost use Rattle.std.specs.List.{list_any};
 ghost use Rattle.fuxi_terms.specs.Keys.{key_cmp};
@@ -10,8 +10,9 @@ ghost use Rattle.fuxi_terms.specs.TallyKeys.{key, rack_key};
 ghost use Rattle.fuxi_terms.specs.Limits.{most_jobs};
 ghost use Rattle.fuxi_terms.specs.Vectors.{fits};
 ghost use Rattle.std.specs.Ordering.{is_lt};
-ghost use Rattle.place_pass.specs.DemandWalks.{IsPast};
-ghost use Rattle.place_pass.specs.Cells.{Cell, cell_of, cells_in, cells_of, cell_at, no_cell, fresh_cells, numbers_at, racks_at, taken, taken_all, any_gone, asks_more, any_more};
+ghost use Rattle.fuxi_terms.specs.Lists.{below};
+ghost use Rattle.place_pass.specs.DemandWalks.{IsPast, IsNextAsked};
+ghost use Rattle.place_pass.specs.Cells.{Cell, cell_of, cells_in, cells_of, cell_at, no_cell, fresh_cells, numbers_at, racks_at, taken, taken_all, is_gone, any_gone, asks_more, any_more};
 
 use cluster_desc::Cluster;
 use fuxi_terms::limits::{MOST_JOBS, MOST_RACKS, MOST_UNITS};
@@ -190,23 +191,6 @@ impl Wishes {
         false
     }
 
-    /// Whether a unit of the job asks for a machine or a rack.
-    pub(crate) fn prefers_any(&self, app: AppNo) -> bool
-        ensures near { result ≡ false → (u m : ℕ) → u < length (get_or self.now.cells app.0 []) → get_or (cell_at self.now.cells app.0 u).near m 0 ≡ 0 }
-        ensures racks { result ≡ false → (u r : ℕ) → u < length (get_or self.now.cells app.0 []) → get_or (cell_at self.now.cells app.0 u).racks r 0 ≡ 0 }
-    {
-        for number in 0..self.units(app) as u8 {
-            let wish = self.wish(app, UnitNo(number));
-            if has_some(&wish.near) {
-                return true;
-            }
-            if has_some(&wish.racks) {
-                return true;
-            }
-        }
-        false
-    }
-
     /// Whether by this demand a unit of the job no longer avoids a machine that it avoided.
     pub(crate) fn lifts(&self, app: AppNo, demand: &Demand, machine: MachineNo) -> bool
         requires { machine.0 < length self.now.cluster.machines }
@@ -346,8 +330,8 @@ fn take_one(wish: &mut Wish, unit: u8, cluster: &Cluster, demand: &Demand) -> bo
     rises || lifted
 }
 
-// What a demand has at a key that is not given back.
-fn number_at(demand: &Demand, what: u8, unit: u8, number: u32) -> u32
+/// What a demand has at a key that is not given back.
+pub(crate) fn number_at(demand: &Demand, what: u8, unit: u8, number: u32) -> u32
     requires { what < 5 }
     ensures { result ≡ count key_cmp demand.now.entries (key what unit number) }
 {
@@ -376,25 +360,35 @@ fn place_of(entries: &[(Key, u64)], from: usize, sought: &Key) -> usize
     entries.len().max(from)
 }
 
-// What a demand has at a key that is not given back, in a walk that has passed some of the entries before it.
-fn next_number(demand: &Demand, passed: &mut usize, sought: &Key) -> u32
+// Whether a key is of this kind and unit.
+fn is_of(key: &Key, what: u8, unit: u8) -> bool
+    ensures { result ≡ (nat_eq key.now.what what && nat_eq key.now.unit unit) }
+{
+    key.what == what && key.unit == unit
+}
+
+// From a key's number on the first at which a demand has something of the key's kind and unit, and how much it has there. Where there
+// is none before the end it is the last one. The walk has passed some of the entries before.
+fn next_asked(demand: &Demand, passed: &mut usize, sought: &Key, end: u32) -> (u32, u32)
     requires kind { sought.now.what < 5 }
+    requires inside { sought.now.number < end }
     requires past { IsPast demand.now.entries passed.old sought.now }
-    ensures number { result ≡ count key_cmp demand.now.entries sought.now }
-    ensures past { IsPast demand.now.entries passed.new sought.now }
+    ensures { IsNextAsked demand.now.entries sought.now end result.0 result.1 passed.new }
 {
     let entries = demand.entries();
     let place = place_of(entries, *passed, sought);
     *passed = place;
     if place >= entries.len() {
-        return 0;
+        return (end - 1, 0);
     }
     let (found, number) = entries[place];
-    if found.order(sought).is_eq() {
-        number as u32
-    } else {
-        0
+    if !is_of(&found, sought.what, sought.unit) {
+        return (end - 1, 0);
     }
+    if found.number >= end {
+        return (end - 1, 0);
+    }
+    (found.number, number as u32)
 }
 
 // Whether one of these numbers is not 0.
@@ -404,88 +398,92 @@ fn has_some(numbers: &Vec<u32>) -> bool
     numbers.iter().any(|number| *number > 0)
 }
 
-// Whether a key is of this kind and unit.
-fn is_of(key: &Key, what: u8, unit: u8) -> bool
-    ensures { result ≡ (nat_eq key.now.what what && nat_eq key.now.unit unit) }
+// Writes a number. True where it is 0 and something stood there.
+fn put_number(numbers: &mut Vec<u32>, place: u32, number: u32) -> bool
+    requires { place < length numbers.old.items }
+    ensures numbers { numbers.new.items ≡ set numbers.old.items place number }
+    ensures gone { result ≡ is_gone (get_or numbers.old.items place 0) number }
 {
-    key.what == what && key.unit == unit
+    let gone = is_gone(numbers[place as usize], number);
+    numbers[place as usize] = number;
+    gone
 }
 
-// Whether a demand has something of a kind of a unit, at whichever machine or rack.
-fn has_any(demand: &Demand, what: u8, unit: u8) -> bool
-    ensures { result ≡ false → (n : ℕ) → count key_cmp demand.now.entries (key what unit n) ≡ 0 }
+// Writes 0 from one place on to another. True where something stood there.
+fn clear_numbers(numbers: &mut Vec<u32>, from: u32, to: u32) -> bool
+    requires order { from ≤ to }
+    requires inside { to ≤ length numbers.old.items }
+    ensures long { length numbers.new.items ≡ length numbers.old.items }
+    ensures zero { (k : ℕ) → from ≤ k → k < to → get_or numbers.new.items k 0 ≡ 0 }
+    ensures before { (k : ℕ) → k < from → get_or numbers.new.items k 0 ≡ get_or numbers.old.items k 0 }
+    ensures behind { (k : ℕ) → to ≤ k → get_or numbers.new.items k 0 ≡ get_or numbers.old.items k 0 }
+    ensures gone { (f : ℕ → Bool) → ((k : ℕ) → from ≤ k → k < to → f k ≡ is_gone (get_or numbers.old.items k 0) 0) → list_any f (below to) ≡ (list_any f (below from) || result) }
 {
-    let entries = demand.entries();
-    let first = Key {
-        what,
-        unit,
-        number: 0,
-    };
-    let place = place_of(entries, 0, &first);
-    if place >= entries.len() {
-        return false;
+    let mut gone = false;
+    for place in from..to {
+        let one = put_number(numbers, place, 0);
+        gone |= one;
     }
-    is_of(&entries[place].0, what, unit)
+    gone
 }
 
-// Whether numbers are 0 and stay so, since a demand has nothing of their kind.
-fn stay_zero(numbers: &Vec<u32>, demand: &Demand, what: u8, unit: u8) -> bool
-    ensures zero { result ≡ true → (n : ℕ) → get_or numbers.now.items n 0 ≡ 0 }
-    ensures none { result ≡ true → (n : ℕ) → count key_cmp demand.now.entries (key what unit n) ≡ 0 }
-{
-    if has_any(demand, what, unit) {
-        return false;
-    }
-    !has_some(numbers)
-}
-
-// What a demand has of a kind at each machine. True where it has nothing at one that had a number.
+// What a demand has of a kind at each machine, from one that it names to the next. True where it has nothing at one that had a number.
 fn read_numbers(numbers: &mut Vec<u32>, machines: u32, demand: &Demand, what: u8, unit: u8) -> bool
     requires what { what < 5 }
     requires long { length numbers.old.items ≡ machines }
     ensures numbers { numbers.new.items ≡ numbers_at demand.now.entries what unit machines }
     ensures gone { result ≡ any_gone demand.now.entries what unit numbers.old.items machines }
 {
-    if stay_zero(numbers, demand, what, unit) {
-        return false;
-    }
     let mut passed = 0;
     let mut gone = false;
-    for machine in 0..machines {
-        let place = machine as usize;
-        let key = Key {
+    let mut next = 0;
+    while next < machines {
+        let sought = Key {
             what,
             unit,
-            number: machine,
+            number: next,
         };
-        let number = next_number(demand, &mut passed, &key);
-        let one = is_gone(numbers[place], number);
-        gone |= one;
-        numbers[place] = number;
+        let (machine, number) = next_asked(demand, &mut passed, &sought, machines);
+        let before = clear_numbers(numbers, next, machine);
+        let here = put_number(numbers, machine, number);
+        gone |= before;
+        gone |= here;
+        next = machine + 1;
     }
     gone
 }
 
-// What a demand has at each rack in which a machine stands.
+/// What is wanted in a rack: nothing where no machine stands there.
+pub(crate) fn rack_number(cluster: &Cluster, rack: u32, wanted: u32) -> u32
+    ensures { result ≡ cond (has_rack cluster.now rack) wanted 0 }
+{
+    if wanted == 0 {
+        return 0;
+    }
+    if cluster.has_rack(RackNo(rack)) {
+        wanted
+    } else {
+        0
+    }
+}
+
+// What a demand has at each rack in which a machine stands, from one that it names to the next.
 fn read_racks(racks: &mut Vec<u32>, cluster: &Cluster, demand: &Demand, unit: u8)
     requires { length racks.old.items ≡ 64 }
     ensures { racks.new.items ≡ racks_at cluster.now demand.now.entries unit }
 {
-    if stay_zero(racks, demand, RACK, unit) {
-        return;
-    }
     let mut passed = 0;
-    for number in 0..MOST_RACKS {
-        let key = Key {
+    let mut next = 0;
+    while next < MOST_RACKS {
+        let sought = Key {
             what: RACK,
             unit,
-            number,
+            number: next,
         };
-        let wanted = next_number(demand, &mut passed, &key);
-        racks[number as usize] = if wanted > 0 && cluster.has_rack(RackNo(number)) {
-            wanted
-        } else {
-            0
-        };
+        let (rack, wanted) = next_asked(demand, &mut passed, &sought, MOST_RACKS);
+        let number = rack_number(cluster, rack, wanted);
+        clear_numbers(racks, next, rack);
+        put_number(racks, rack, number);
+        next = rack + 1;
     }
 }

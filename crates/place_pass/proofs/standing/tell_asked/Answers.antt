@@ -1,22 +1,22 @@
-use Rattle.std.proofs.Common.{◌≡◌, ◌<◌, ℕ, Bool, true, false, nat_eq, length, get_or, [], refl, sym, ◌∙◌, ap, subst, arith, inl, inr}
+use Rattle.std.proofs.Common.{◌≡◌, ◌≤◌, ◌<◌, ◌+◌, ℕ, Bool, true, false, nat_eq, length, get_or, [], refl, sym, ◌∙◌, ap, subst, arith, inl, inr}
 use Rattle.std.specs.Prelude.{◌&&◌}
 use Rattle.std.proofs.lemmas.Bool.{cases_eq}
 use Rattle.std.proofs.lemmas.Bool.Decides.{nat_tests}
 use Rattle.fuxi_terms.specs.Jobs.{unit_count}
-use Rattle.fuxi_terms.proofs.Booleans.{both_false, number_is}
+use Rattle.fuxi_terms.proofs.Booleans.{false_right, number_is}
 use Rattle.fuxi_terms.proofs.Lists.{all_at}
 use Rattle.grant_table.specs.GrantTables.{as_known}
 use Rattle.wait_queue.specs.declared.node.Entry.{Entry}
 use Rattle.locality_tree.specs.Trees.{unit_number}
 use Rattle.written_roles.specs.Placing.{has_pair}
-use Rattle.place_pass.specs.PlacerTrees.{StandsAs, WaitsIn, Restood}
-use Rattle.place_pass.proofs.PlainLemmas.{plain_stands}
+use Rattle.place_pass.specs.PlacerTrees.{StandsAs, StandsWhereAsked, WaitsIn, Restood}
+use Rattle.place_pass.proofs.StandsWhereAsked.{where_on}
 use Rattle.place_pass.proofs.SightsLemmas.{place_of}
 use Rattle.place_pass.proofs.PlacerTreesLemmas.{holds_on, numbers_apart, stands_on, waits_in}
 use Rattle.place_pass.proofs.standing.tell_asked.Goals as goal
 
 pub loop-number-init : goal.loop-number-init
-loop-number-init c = record { holds = c.requires.holds; others = λ a u lu d. refl; done = λ u lt has. absurd (omega (arith, lt)) }
+loop-number-init c = record { holds = c.requires.holds; others = λ a u lu d. refl; ahead = λ u ge lu. refl; done = λ clear u lt has. absurd (omega (arith, lt)) }
 
 pub entry_for-entry-requires-clause-unit : goal.entry_for-entry-requires-clause-unit
 entry_for-entry-requires-clause-unit c = let t = c.loop-number-test.true in let e = c.units-number-end.ensures.number in omega (arith, t, e)
@@ -27,9 +27,10 @@ loop-number-preserved-then-not-has c =
     record {
       holds = c.loop-number.invariant.holds;
       others = c.loop-number.invariant.others;
-      done = λ u lt has. elim (cases_eq u c.loop-number.number) [
+      ahead = λ u ge lu. c.loop-number.invariant.ahead u (omega (arith, ge)) lu;
+      done = λ clear u lt has. elim (cases_eq u c.loop-number.number) [
         | inl q ↦ let f : true ≡ false = sym has ∙ ap (λ v. has_pair (c.args.app.0, v) c.args.line.now.pairs) q ∙ out in cc
-        | inr d ↦ c.loop-number.invariant.done u (omega (arith, lt, d)) has
+        | inr d ↦ c.loop-number.invariant.done clear u (omega (arith, lt, d)) has
       ];
     }
 
@@ -66,24 +67,22 @@ loop-number-preserved c =
     let there : has_pair (app, n) line ≡ true = sym c.has.ensures ∙ c.if-not-has.false in
     let low = i.holds.few app n there in
     let r = subst (λ (e : Entry). Restood (unit_number e.app.0 e.unit.0) t t') c.entry_for-entry.ensures c.mark_unit.ensures.restood in
-    let stands = subst (λ (e : Entry). StandsAs w.cluster w.cells es e.app.0 e.unit.0 t') c.entry_for-entry.ensures c.mark_unit.ensures.stands in
+    let stands = subst (λ (e : Entry). StandsWhereAsked w.cluster w.cells e.app.0 e.unit.0 t → StandsAs w.cluster w.cells es e.app.0 e.unit.0 t') c.entry_for-entry.ensures c.mark_unit.ensures.stands in
+    let apart : (u : ℕ) → nat_eq u n ≡ false → (nat_eq app app && nat_eq u n) ≡ false = λ u f. false_right (nat_eq app app) (nat_eq u n) f in
     record {
       holds = holds_on w.cluster w.cells (λ p. has_pair p line) c.args.turn_of.now.items t t' app n i.holds there r;
       others = λ a u lu f. r.others (unit_number a u) (numbers_apart app n a u low lu (ap (λ b. b && nat_eq u n) f)) ∙ i.others a u lu f;
-      done = λ u lt has. elim (cases_eq u n) as (λ _. StandsAs w.cluster w.cells es app u t') [
-        | inl q ↦ subst (λ v. StandsAs w.cluster w.cells es app v t') (sym q) stands
+      ahead = λ u ge lu. let f : nat_eq u n ≡ false = grind (arith, nat_tests, ge) in r.others (unit_number app u) (numbers_apart app n app u low lu (apart u f)) ∙ i.ahead u (omega (arith, ge)) lu;
+      done = λ clear u lt has. elim (cases_eq u n) as (λ _. StandsAs w.cluster w.cells es app u t') [
+        | inl q ↦ subst (λ v. StandsAs w.cluster w.cells es app v t') (sym q) (stands (where_on w.cluster w.cells app n c.args.tree.now t (i.holds.racks ∙ sym c.requires.holds.racks) (i.ahead n (omega arith) low) (clear n there)))
         | inr d ↦
-            let apart : nat_eq u n ≡ false = grind (arith, nat_tests, d) in
-            stands_on w.cluster w.cells es app u t t' r.racks (r.others (unit_number app u) (numbers_apart app n app u low (i.holds.few app u has) (last (nat_eq app app) (nat_eq u n) apart))) (i.done u (omega (arith, lt, d)) has)
+            let f : nat_eq u n ≡ false = grind (arith, nat_tests, d) in
+            stands_on w.cluster w.cells es app u t t' r.racks (r.others (unit_number app u) (numbers_apart app n app u low (i.holds.few app u has) (apart u f))) (i.done clear u (omega (arith, lt, d)) has)
       ];
     }
-  where
-    last : (x y : Bool) → y ≡ false → (x && y) ≡ false
-    last true y e = e
-    last false y e = refl
 
 pub returns-clause-stands : goal.returns-clause-stands
-returns-clause-stands c same before _ a u has =
+returns-clause-stands c same before clear a u has =
     let w = c.args.wishes.now in
     let line = c.args.line.now.pairs in
     let es = c.args.table.now.entries in
@@ -97,7 +96,7 @@ returns-clause-stands c same before _ a u has =
           let l = all_at (λ (p : ℕ × ℕ). p.1 < length (get_or w.cells p.0 [])) line place.place (a, u) c.requires.admitted place.at in
           let lt = subst (λ b. u < length (get_or w.cells b [])) is l in
           let end = c.loop-number-test.false in let n = c.units-number-end.ensures.number in
-          subst (λ b. StandsAs w.cluster w.cells es b u t') (sym is) (i.done u (omega (arith, lt, end, n)) (subst (λ b. has_pair (b, u) line ≡ true) is has))
+          subst (λ b. StandsAs w.cluster w.cells es b u t') (sym is) (i.done clear u (omega (arith, lt, end, n)) (subst (λ b. has_pair (b, u) line ≡ true) is has))
       | false ↦ λ x. stands_on w.cluster w.cells es a u t t' (i.holds.racks ∙ sym c.requires.holds.racks) (i.others a u (i.holds.few a u has) x) (before a u has x)
     ] refl
 
@@ -106,21 +105,3 @@ returns-then-number-units-clause-stands c same before _ a u has =
     let e = c.units.ensures.number in let ge = c.if-number-units.true in
     let t = c.loop-number-test.true in let n = c.units-number-end.ensures.number in
     absurd (omega (arith, same, e, ge, t, n))
-
-pub returns-then-not-prefers-clause-stands : goal.returns-then-not-prefers-clause-stands
-returns-then-not-prefers-clause-stands c same before nowhere a u has =
-    let w = c.args.wishes.now in
-    let line = c.args.line.now.pairs in
-    let es = c.args.table.now.entries in
-    let t = c.args.tree.now in
-    let none = both_false c.args.preferred c.prefers_any.result c.if-not-prefers.true in
-    elim (nat_eq a c.args.app.0) as (λ x. nat_eq a c.args.app.0 ≡ x → StandsAs w.cluster w.cells es a u t) [
-      | true ↦ λ x.
-          let is = number_is a c.args.app.0 x in
-          let place = place_of (a, u) line has in
-          let l = all_at (λ (p : ℕ × ℕ). p.1 < length (get_or w.cells p.0 [])) line place.place (a, u) c.requires.admitted place.at in
-          let lt = subst (λ b. u < length (get_or w.cells b [])) is l in
-          subst (λ b. StandsAs w.cluster w.cells es b u t) (sym is)
-          (plain_stands w.cluster w.cells es c.args.app.0 u t (λ m. c.prefers_any.ensures.near none.1 u m lt) (λ r. c.prefers_any.ensures.racks none.1 u r lt) (nowhere none.0 u (subst (λ b. has_pair (b, u) line ≡ true) is has)))
-      | false ↦ λ x. before a u has x
-    ] refl

@@ -1,4 +1,4 @@
-use Rattle.std.proofs.Common.{◌≡◌, ℕ, ◌<◌, ◌≤◌, length, get_or}
+use Rattle.std.proofs.Common.{◌≡◌, ℕ, ◌-◌, ◌<◌, ◌≤◌, length, get_or}
 use Rattle.fuxi_terms.specs.Keys.{key_cmp}
 use Rattle.fuxi_terms.specs.Counts.{count}
 use Rattle.fuxi_terms.specs.TallyKeys.{key}
@@ -6,11 +6,15 @@ use Rattle.place_pass.specs.Cells.{any_gone}
 use Rattle.place_pass.specs.DemandWalks.{IsPast}
 use Rattle.place_pass.proofs.wishes.read_numbers.Given as goal
 
-abbrev pub invariant-loop-machine : goal.invariant-loop-machine
-invariant-loop-machine l = record {
+abbrev pub invariant-loop-next : goal.invariant-loop-next
+invariant-loop-next l = record {
+  within : l.next ≤ l.machines;
   long : length l.numbers.items ≡ length l.initial.numbers.items;
-  left : (k : ℕ) → l.machine ≤ k → get_or l.numbers.items k 0 ≡ get_or l.initial.numbers.items k 0;
-  gone : l.gone ≡ any_gone l.demand.entries l.what l.unit l.initial.numbers.items l.machine;
-  done : (k : ℕ) → k < l.machine → get_or l.numbers.items k 0 ≡ count key_cmp l.demand.entries (key l.what l.unit k);
-  past : IsPast l.demand.entries l.passed (key l.what l.unit l.machine);
+  left : (k : ℕ) → l.next ≤ k → get_or l.numbers.items k 0 ≡ get_or l.initial.numbers.items k 0;
+  gone : l.gone ≡ any_gone l.demand.entries l.what l.unit l.initial.numbers.items l.next;
+  done : (k : ℕ) → k < l.next → get_or l.numbers.items k 0 ≡ count key_cmp l.demand.entries (key l.what l.unit k);
+  past : IsPast l.demand.entries l.passed (key l.what l.unit l.next);
 }
+
+abbrev pub decreases-loop-next : goal.decreases-loop-next
+decreases-loop-next l = l.machines - l.next

@@ -1,39 +1,54 @@
-use Rattle.std.proofs.Common.{rules, ◌≡◌, ℕ, ◌<◌, Bool, true, false, cond, refl, sym, ap, ◌∙◌, arith}
-use Rattle.std.proofs.lemmas.List.{ext_get_or}
+use Rattle.std.proofs.Common.{◌≡◌, ◌≢◌, ◌+◌, ◌<◌, ℕ, Bool, true, false, cond, length, length-set, get_or, refl, sym, ap, subst, ◌∙◌, arith, inl, inr}
+use Rattle.std.proofs.lemmas.Bool.{cases_eq, cases_lt}
+use Rattle.std.proofs.lemmas.List.{ext_get_or, get_or-set_same, get_or-set_other}
 use Rattle.fuxi_terms.specs.Cluster.{has_rack}
 use Rattle.fuxi_terms.specs.Keys.{key_cmp}
 use Rattle.fuxi_terms.specs.Counts.{count}
 use Rattle.fuxi_terms.specs.TallyKeys.{rack_key}
 use Rattle.place_pass.specs.Cells.{racks_at}
 use Rattle.place_pass.proofs.Places.{counted_at, counted_long}
+use Rattle.place_pass.proofs.PlainLemmas.{either_zero}
 use Rattle.place_pass.proofs.DemandWalksLemmas.{later_past}
 use Rattle.place_pass.proofs.wishes.read_racks.Goals as goal
 
-pub returns-then-stay_zero : goal.returns-then-stay_zero
-returns-then-stay_zero c =
-    let f : ℕ → ℕ = λ r. cond (has_rack c.args.cluster.now r) (count key_cmp c.args.demand.now.entries (rack_key c.args.unit r)) 0 in
-    let long = c.requires in
-    let all = counted_long f 64 in
-    ext_get_or 0 c.args.racks.now.items (racks_at c.args.cluster.now c.args.demand.now.entries c.args.unit) (omega (arith, long, all))
-    (λ i lt. c.stay_zero.ensures.zero c.if-stay_zero.true i
-    ∙ sym (counted_at f 64 i (omega (arith, lt, long)) ∙ ap (λ n. cond (has_rack c.args.cluster.now i) n 0) (c.stay_zero.ensures.none c.if-stay_zero.true i) ∙ nothing (has_rack c.args.cluster.now i)))
-  where
-    nothing : (b : Bool) → ◌≡◌ {A = ℕ} (cond b 0 0) 0
-    nothing true = refl
-    nothing false = refl
+pub next_asked-rack-requires-clause-past : goal.next_asked-rack-requires-clause-past
+next_asked-rack-requires-clause-past c = c.loop-next.invariant.past
+
+pub loop-next-preserved : goal.loop-next-preserved
+loop-next-preserved c =
+    let es = c.args.demand.now.entries in
+    let f : ℕ → ℕ = λ r. cond (has_rack c.args.cluster.now r) (count key_cmp es (rack_key c.args.unit r)) 0 in
+    let i = c.loop-next.invariant in
+    let n = c.loop-next.next in
+    let m = c.next_asked-rack.result.0 in
+    let number = c.rack_number-number.result in
+    let x = c.next_asked-rack.ensures in
+    let least = x.least in
+    let a = c.clear_numbers.new.numbers.items in
+    let b = c.put_number.new.numbers.items in
+    let clear = c.clear_numbers.ensures in
+    let is = c.put_number.ensures.numbers in
+    let wide : m < length a = let inside = x.inside in let long = i.long in let kept = clear.long in omega (arith, inside, long, kept) in
+    let here : get_or b m 0 ≡ f m = ap (λ xs. get_or xs m 0) is ∙ get_or-set_same a m number 0 wide ∙ c.rack_number-number.ensures ∙ ap (λ z. cond (has_rack c.args.cluster.now m) z 0) x.asked in
+    let other : (k : ℕ) → k ≢ m → get_or b k 0 ≡ get_or a k 0 = λ k d. ap (λ xs. get_or xs k 0) is ∙ get_or-set_other a m k number 0 d in
+    record {
+      within = let inside = x.inside in omega (arith, inside);
+      long = ap length is ∙ length-set a m number ∙ clear.long ∙ i.long;
+      done = λ k lt. elim (cases_lt k n) as (λ _. get_or b k 0 ≡ f k) [
+        | inl l ↦ other k (omega (arith, l, least)) ∙ clear.before k l ∙ i.done k l
+        | inr ge ↦ elim (cases_eq k m) as (λ _. get_or b k 0 ≡ f k) [
+          | inl q ↦ subst (λ j. get_or b j 0 ≡ f j) (sym q) here
+          | inr d ↦ other k d ∙ clear.zero k ge (omega (arith, lt, d)) ∙ sym (ap (λ z. cond (has_rack c.args.cluster.now k) z 0) (x.between k ge (omega (arith, lt, d))) ∙ either_zero (has_rack c.args.cluster.now k))
+        ]
+      ];
+      past = later_past es c.next_asked-rack.new.passed 3 c.args.unit m (m + 1) (omega arith) x.past;
+    }
 
 pub returns : goal.returns
 returns c =
     let f : ℕ → ℕ = λ r. cond (has_rack c.args.cluster.now r) (count key_cmp c.args.demand.now.entries (rack_key c.args.unit r)) 0 in
-    let n = c.loop-number.invariant.long in
+    let n = c.loop-next.invariant.long in
     let all = counted_long f 64 in
-    let end = c.loop-number-test.false in
-    ext_get_or 0 c.loop-number.racks.items (racks_at c.args.cluster.now c.args.demand.now.entries c.args.unit) (omega (arith, n, all))
-    (λ i lt. let l : i < 64 = omega (arith, lt, n) in c.loop-number.invariant.done i (omega (arith, l, end)) ∙ sym (counted_at f 64 i l))
-
-pub loop-number-preserved : goal.loop-number-preserved
-loop-number-preserved c = record {
-  long = search rules;
-  done = search rules;
-  past = later_past c.args.demand.now.entries c.next_number-wanted.new.passed 3 c.args.unit c.loop-number.number c.next_number-wanted.ensures.past;
-}
+    let end = c.loop-next-test.false in
+    ext_get_or 0 c.loop-next.racks.items (racks_at c.args.cluster.now c.args.demand.now.entries c.args.unit) (omega (arith, n, all))
+    (λ i lt. let l : i < 64 = omega (arith, lt, n) in c.loop-next.invariant.done i (omega (arith, l, end)) ∙ sym (counted_at f 64 i l))

@@ -9,13 +9,14 @@ use Rattle.place_pass.specs.Placers.{PlacerRecord, AreLevel, AsksNoMore, IsIdle,
 use Rattle.place_pass.specs.Bounds.{mark_at, mark_of}
 use Rattle.place_pass.specs.SearchCounts.{IsLifted}
 use Rattle.place_pass.specs.Best.{AreAdmitted}
-use Rattle.place_pass.specs.PlacerTrees.{HoldsLine, StandsAs, StandsNowhere}
+use Rattle.place_pass.specs.PlacerTrees.{HoldsLine, StandsAs, StandsWhereAsked}
 use Rattle.fuxi_terms.specs.Jobs.{unit_count}
 use Rattle.grant_table.specs.GrantTables.{as_known}
 use Rattle.written_roles.specs.Placing.{has_pair}
 use Rattle.fuxi_terms.proofs.Lists.{all_at}
 use Rattle.place_pass.proofs.CellsMatchTable.{count_is}
-use Rattle.place_pass.proofs.PlainLemmas.{plain_nowhere}
+use Rattle.place_pass.proofs.PlacerTreesLemmas.{stands_on}
+use Rattle.place_pass.proofs.StandsWhereAsked.{told_where, where_as}
 use Rattle.place_pass.proofs.SightsLemmas.{place_of}
 use Rattle.place_pass.proofs.AskedLemmas.{asked_long, asked_priority, asked_others}
 use Rattle.place_pass.proofs.StandsAfterChange.{holds_cells, stands_asked}
@@ -79,6 +80,12 @@ tell_asked-requires-clause-admitted c =
 pub tell_asked-requires-clause-places : goal.tell_asked-requires-clause-places
 tell_asked-requires-clause-places c = c.self.invariant.turn_places
 
+pub leave_unasked-requires-clause-places : goal.leave_unasked-requires-clause-places
+leave_unasked-requires-clause-places c = c.self.invariant.turn_places
+
+pub leave_unasked-requires-clause-holds : goal.leave_unasked-requires-clause-holds
+leave_unasked-requires-clause-holds c = c.self.invariant.holds
+
 pub tell_asked-requires-clause-holds : goal.tell_asked-requires-clause-holds
 tell_asked-requires-clause-holds c =
     let w = c.self.inside.wishes in
@@ -86,8 +93,8 @@ tell_asked-requires-clause-holds c =
     let es = c.args.demand.now.entries in
     let here = subst (λ (p : PlacerRecord). 0 < units_seen p.seen a) (sym c.self.view_is) c.requires.here in
     let lt = slot_within w.cells a 0 here in
-    subst (λ (x : WishesRecord). HoldsLine x.cluster x.cells c.self.inside.line.pairs c.self.inside.turn_of.items c.self.inside.tree) (sym c.asked-more.ensures.cells)
-    (holds_cells w.cluster w.cells (set w.cells a (taken_all w.cluster es 0 (get_or w.cells a []))) (λ p. has_pair p c.self.inside.line.pairs) c.self.inside.turn_of.items c.self.inside.tree (asked_long w.cluster es w.cells a lt) (asked_priority w.cluster es w.cells a lt) c.self.invariant.holds)
+    subst (λ (x : WishesRecord). HoldsLine x.cluster x.cells c.self.inside.line.pairs c.self.inside.turn_of.items c.leave_unasked.new.tree) (sym c.asked-more.ensures.cells)
+    (holds_cells w.cluster w.cells (set w.cells a (taken_all w.cluster es 0 (get_or w.cells a []))) (λ p. has_pair p c.self.inside.line.pairs) c.self.inside.turn_of.items c.leave_unasked.new.tree (asked_long w.cluster es w.cells a lt) (asked_priority w.cluster es w.cells a lt) c.leave_unasked.ensures.holds)
 
 pub returns-clause-asks : goal.returns-clause-asks
 returns-clause-asks c b k =
@@ -170,13 +177,15 @@ returns-clause-level c l =
           (λ b k f. asked_others w.cluster es w.cells a (slot_within w.cells a 0 here) b k (eq_turned b a ∙ f)) refl (λ b _. refl) old.still);
       stands = c.tell_asked.ensures.stands
           (subst (λ (x : WishesRecord). length (get_or x.cells a []) ≡ unit_count (as_known t.jobs) a) (sym c.asked-more.ensures.cells) (asked_long w.cluster es w.cells a (slot_within w.cells a 0 here) a ∙ count_is w.cluster w.cells t old.level a))
-          (λ b v has d. subst (λ (x : WishesRecord). StandsAs x.cluster x.cells t.entries b v c.self.inside.tree) (sym c.asked-more.ensures.cells)
-          (stands_asked w.cluster w.cells (set w.cells a (taken_all w.cluster es 0 (get_or w.cells a []))) t.entries b v c.self.inside.tree (λ k. asked_others w.cluster es w.cells a (slot_within w.cells a 0 here) b k d) (old.stands b v has)))
-          (λ e u has.
+          (λ b v has d. subst (λ (x : WishesRecord). StandsAs x.cluster x.cells t.entries b v c.leave_unasked.new.tree) (sym c.asked-more.ensures.cells)
+          (stands_asked w.cluster w.cells (set w.cells a (taken_all w.cluster es 0 (get_or w.cells a []))) t.entries b v c.leave_unasked.new.tree (λ k. asked_others w.cluster es w.cells a (slot_within w.cells a 0 here) b k d)
+          (stands_on w.cluster w.cells t.entries b v c.self.inside.tree c.leave_unasked.new.tree (c.leave_unasked.ensures.holds.racks ∙ sym c.self.invariant.holds.racks) (c.leave_unasked.ensures.others b v (c.self.invariant.holds.few b v has) d) (old.stands b v has))))
+          (λ u has.
           let place = place_of (a, u) c.self.inside.line.pairs has in
           let l = all_at (λ (p : ℕ × ℕ). p.1 < length (get_or w.cells p.0 [])) c.self.inside.line.pairs place.place (a, u) c.self.invariant.admitted place.at in
-          subst (λ (x : WishesRecord). StandsNowhere x.cluster a u c.self.inside.tree) (sym c.asked-more.ensures.cells)
-          (plain_nowhere w.cluster w.cells t.entries a u c.self.inside.tree (λ m. c.prefers_any-preferred.ensures.near e u m l) (λ r. c.prefers_any-preferred.ensures.racks e u r l) (old.stands a u has)));
+          subst (λ (x : WishesRecord). StandsWhereAsked x.cluster x.cells a u c.leave_unasked.new.tree) (sym c.asked-more.ensures.cells)
+          (told_where w.cluster es w.cells a u c.leave_unasked.new.tree c.entries-counts.ensures.counts (slot_within w.cells a 0 here) l
+          (c.leave_unasked.ensures.stands (λ v h. where_as w.cluster w.cells t.entries a v c.self.inside.tree (old.stands a v h)) u l has)));
     }
   where
     not_true : (b : Bool) → not b ≡ true → b ≡ false
