@@ -1,4 +1,4 @@
-ghost use Rattle.std.specs.Prelude.{◌≡◌, ◌≢◌, ◌<◌, ◌≤◌, ℕ, Err, None, OnErr, OnOk, IfOk, false, true};
+ghost use Rattle.std.specs.Prelude.{◌≡◌, ◌≢◌, ◌<◌, ◌≤◌, ℕ, Err, None, OnErr, OnOk, IfOk, IfErr, false, true};
 ghost use Rattle.fuxi_io.specs.Causes.{Rose};
 ghost use Rattle.fuxi_io.specs.Disks.{WhereTold};
 ghost use Rattle.hard_state.specs.HardFiles.{IsDamagedAt, Opens, SyncsAll};
@@ -51,6 +51,7 @@ impl Lease {
         ensures long { IfOk result (λ lease. lease.hard.gate < D.size disk.new) }
         ensures later { D.faults disk.old ≤ D.faults disk.new }
         ensures cause { result ≡ Err LeaseFault.DiskFault → Rose (D.faults disk.old) (D.faults disk.new) }
+        ensures served { IfErr result (λ fault. fault ≢ LeaseFault.DiskFault → D.faults disk.new ≡ D.faults disk.old) }
         // Where the file has no damaged record, at each moment from the first sync on a crash leaves a file that stands for the same.
         ensures told { WhereTold Opens (D.told disk.old) (D.told disk.new) }
         ensures untouched { (offset : ℕ) → result ≡ Err (LeaseFault.NotCheckpoint offset) → WhereTold SyncsAll (D.told disk.old) (D.told disk.new) }
@@ -82,6 +83,9 @@ impl Lease {
         ensures later { D.faults disk.old ≤ D.faults disk.new }
         ensures cause { result ≡ Err LeaseFault.DiskFault → Rose (D.faults disk.old) (D.faults disk.new) }
         ensures told { WhereTold (LeavesStep self.old self.new (lease_step (lease_of self.old) event.now).state result) (D.told disk.old) (D.told disk.new) }
+        // Only a grant calls the disk, and it leaves the jobs and bans of the checkpoint.
+        ensures idle { (IsGrant (lease_step (lease_of self.old) event.now).answer → ⊥) → disk.new ≡ disk.old }
+        ensures kept { OnOk result ((self.new.hard.value.jobs ≡ self.old.hard.value.jobs) × (self.new.hard.value.bans ≡ self.old.hard.value.bans)) }
     {
         match event {
             LeaseEvent::Acquire(holder) => self.acquire(disk, *holder),
@@ -105,6 +109,8 @@ impl Lease {
         ensures later { D.faults disk.old ≤ D.faults disk.new }
         ensures cause { result ≡ Err LeaseFault.DiskFault → Rose (D.faults disk.old) (D.faults disk.new) }
         ensures told { WhereTold (LeavesStep self.old self.new (lease_step (lease_of self.old) (Acquire holder)).state result) (D.told disk.old) (D.told disk.new) }
+        ensures idle { (IsGrant (lease_step (lease_of self.old) (Acquire holder)).answer → ⊥) → disk.new ≡ disk.old }
+        ensures kept { OnOk result ((self.new.hard.value.jobs ≡ self.old.hard.value.jobs) × (self.new.hard.value.bans ≡ self.old.hard.value.bans)) }
     {
         if let Some((holder, epoch)) = self.holder {
             return Ok(LeaseOut::Held(holder, epoch));
