@@ -11,7 +11,7 @@ use Rattle.hard_state.specs.declared.fault.HardFault.{HardFault}
 use Rattle.hard_state.specs.declared.fault.HardFault.TheVariants.{Stale, Fenced, Known, NoJob, Ended, AlreadyBanned, NotBanned, Full, NotCheckpoint, DiskFault, OutOfMemory}
 use Rattle.fuxi_master.specs.Cores.{MasterRecord, StandsFor}
 use Rattle.master_node.specs.MasterParties.{IsMasterOf}
-use Rattle.master_node.specs.OpenedMasters.{FailsStart, LeavesSoon, Starts}
+use Rattle.master_node.specs.OpenedMasters.{FailsStart, LeavesSoon, Starts, StopsAtRest}
 use Rattle.master_node.proofs.KnowledgeKept.{ready_same}
 use Rattle.master_node.proofs.Moments.{both_where, leaves_both, leaves_more, map_where, then_where}
 use Rattle.master_node.proofs.WrittenIsDone.{stepped}
@@ -75,6 +75,17 @@ raise_starts epoch before after result a b c opened opens written =
     let same : before.value ≡ value = value_is before.value value old.now.bytes o.0.0 reads in
     let moments = subst (λ v. LeavesAlways (IsBeforeOrAfter v (hard_step v epoch Raise)) mid new) same (w o.0.1).0 in
     inr (soon epoch value old mid new moments (o.1 value reads))) (both_where (OpensAs before) Opens a b opened opens) written
+
+-- an opening alone, or a writing behind it that did all
+pub stops_opened : (epoch : ℕ) (k : Kept) (a b : Option Told) → WhereTold (OpensAs k) a b → WhereTold (StopsAtRest epoch) a b
+stops_opened epoch k a b opened =
+    map_where {R = OpensAs k} {S = StopsAtRest epoch} a b (λ old new o. record { before = k.value; after = k; reads = o.0; value = inl refl; rest = o.1 }) opened
+
+pub stops_raised : (epoch : ℕ) (before after : Kept) (done : Unit {0}) (a b c : Option Told) → hard_step before.value epoch Raise ≡ Ok after.value → WhereTold (OpensAs before) a b
+    → WhereTold (WritesStep {E = HardFault} (hard_step before.value epoch Raise) before after (Ok done)) b c → WhereTold (StopsAtRest epoch) a c
+stops_raised epoch before after done a b c step opened written =
+    then_where {R = OpensAs before} {S = WritesStep {E = HardFault} (hard_step before.value epoch Raise) before after (Ok done)} {U = StopsAtRest epoch} a b c
+    (λ old mid new o w. record { before = before.value; after = after; reads = o.0; value = inr step; rest = (w o.1).1 }) opened written
 
 -- the master that starts
 pub starts_master : (c : ClusterRecord) (before : HardState) (k : Kept) (m : MasterRecord) (epoch : ℕ) → 0 < epoch → hard_step before epoch Raise ≡ Ok k.value → StandsFor m.core (master_started c k.value epoch)

@@ -1,6 +1,6 @@
 //! The party of a node that is a master.
 
-ghost use Rattle.std.specs.Prelude.{◌≡◌, ◌+◌, ◌<◌, ◌≤◌, ◌&&◌, ◌++◌, ℕ, true, length, Ok, Err, IfOk, IfErr, OnErr, IsTrue, Some, None};
+ghost use Rattle.std.specs.Prelude.{◌≡◌, ◌≢◌, ◌⊎◌, ◌+◌, ◌<◌, ◌≤◌, ◌&&◌, ◌++◌, ℕ, true, length, Ok, Err, IfOk, IfErr, OnErr, IsTrue, Some, None};
 ghost use Rattle.std.specs.List.{flat_map};
 ghost use Rattle.fuxi_io.specs.Causes.{Rose};
 ghost use Rattle.fuxi_io.specs.Disks.{WhereTold};
@@ -21,7 +21,7 @@ ghost use Rattle.node_party.specs.NodeHalts.{FitsEither};
 ghost use Rattle.node_party.specs.NodeTexts.{as_answer};
 ghost use Rattle.master_node.specs.MasterParties.{DiskHas, IsMasterOf, IsTied, Rests, RestsAt, StandsAs};
 ghost use Rattle.hard_state.specs.HardFiles.{SyncsAll};
-ghost use Rattle.master_node.specs.OpenedMasters.{FailsStart, IsRaised, IsStartFault, Starts, StartsFrom};
+ghost use Rattle.master_node.specs.OpenedMasters.{FailsStart, IsRaised, IsStartFault, Starts, StartsFrom, StopsAtRest};
 ghost use Rattle.master_node.specs.Writes.{IsCommand, LeavesEither, hard_in};
 ghost use Rattle.master_node.specs.NodeCommands.{Does, LeavesLine, LeavesMade, obeyed, packets_in, Sends};
 
@@ -86,6 +86,8 @@ impl MasterNode {
         ensures fails { IfErr result (λ fault. WhereTold (FailsStart epoch fault) (D.told disk.old) (D.told disk.new)) }
         ensures later { D.faults disk.old ≤ D.faults disk.new }
         ensures cause { result ≡ Err HardFault.DiskFault → Rose (D.faults disk.old) (D.faults disk.new) }
+        // With another fault no call of the disk failed, or the file was read and stands, with nothing pending.
+        ensures served { IfErr result (λ fault. fault ≢ HardFault.DiskFault → (D.faults disk.new ≡ D.faults disk.old) ⊎ WhereTold (StopsAtRest epoch) (D.told disk.old) (D.told disk.new)) }
         ensures told { WhereTold (Starts epoch) (D.told disk.old) (D.told disk.new) }
         ensures untouched { (offset : ℕ) → result ≡ Err (HardFault.NotCheckpoint offset) → WhereTold SyncsAll (D.told disk.old) (D.told disk.new) }
     {
