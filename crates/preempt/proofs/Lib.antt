@@ -4,6 +4,7 @@ pub mod RunsLeft
 pub mod Sums
 pub mod Computed
 pub mod Whole
+pub mod MostTaken
 pub mod CountedAsWritten
 pub mod FoundPlans
 pub mod Buckets
@@ -13,6 +14,7 @@ pub mod UnitSteps
 pub mod ShelvesLemmas
 pub mod Takable
 pub mod NeedsAsWritten
+pub mod MachineRoomsLemmas
 pub mod SearchLemmas
 pub mod Promised
 pub mod VictimsTaken

@@ -11,7 +11,7 @@ use Rattle.fuxi_terms.specs.Jobs.{unit_count, priority_of, size_at}
 use Rattle.fuxi_terms.specs.Keys.{Spot}
 use Rattle.fuxi_terms.specs.Lists.{below}
 use Rattle.fuxi_terms.specs.Tables.{spot, held_on}
-use Rattle.fuxi_terms.proofs.Alls.{all_append, all_more, all_filter}
+use Rattle.fuxi_terms.proofs.Alls.{all_append, all_more, all_filter, all_flat}
 use Rattle.fuxi_terms.proofs.Lists.{take_last}
 use Rattle.written_roles.specs.Placing.{Board, accepts_in}
 use Rattle.written_roles.specs.Preemption.{Plan as WrittenPlan}
@@ -23,6 +23,7 @@ use Rattle.preempt.specs.declared.plan.Plan.{Plan}
 use Rattle.preempt.specs.declared.plan.Victim.{Victim}
 use Rattle.preempt.specs.Given.{IsEntry, board_at, board_of, pair_of}
 use Rattle.preempt.specs.Plans.{IsBoardOf, IsTakable, AreTakable, losers_of, plan_as}
+use Rattle.preempt.specs.Shelves.{HasNoVictims}
 use Rattle.preempt.specs.Search.{accepts_at, pairs_to, pairs_on, pairs_at, IsFound}
 use Rattle.preempt.proofs.VictimsTaken.{room_after}
 use Rattle.preempt.proofs.Promised.{promised, other_units}
@@ -54,12 +55,12 @@ module _ (B : Board) (asks : ℕ → Key → ℕ) (may_use : ℕ → ℕ → ℕ
 pub shelf_at : (xs : List Shelf) (n : ℕ) (x : Shelf) → n < length xs → x ≡ get_or xs n x → slice_get xs n ≡ Some x
 shelf_at xs n x lt is = got (λ _. true) xs n x lt ∙ ap (λ y. Some y) (sym is)
 
-pairs_all : (P : Spot → Type 0) (accepts : ℕ → ℕ → ℕ → Bool) (n : ℕ) (p : ℕ × ℕ) → ((m : ℕ) → P (spot p.0 p.1 m)) → AllByRecursion P (pairs_to accepts n p)
+pairs_all : (P : Spot → Type 0) (accepts : ℕ → ℕ → ℕ → Bool) (n : ℕ) (p : ℕ × ℕ) → ((m : ℕ) → m < n → P (spot p.0 p.1 m)) → AllByRecursion P (pairs_to accepts n p)
 pairs_all P accepts zero p h = tt
 pairs_all P accepts (suc n) p h =
     let e : suc n ≡ n + 1 = omega arith in
-    subst (AllByRecursion P) (sym (ap (λ k. pairs_to accepts k p) e ∙ pairs_more accepts n p)) (all_append P (pairs_to accepts n p) (cond (accepts p.0 p.1 n) (spot p.0 p.1 n ∷ []) []) (pairs_all P accepts n p h)
-    (elim (accepts p.0 p.1 n) as (λ b. AllByRecursion P (cond b (spot p.0 p.1 n ∷ []) [])) [ true ↦ (h n, tt) | false ↦ tt ]))
+    subst (AllByRecursion P) (sym (ap (λ k. pairs_to accepts k p) e ∙ pairs_more accepts n p)) (all_append P (pairs_to accepts n p) (cond (accepts p.0 p.1 n) (spot p.0 p.1 n ∷ []) []) (pairs_all P accepts n p (λ m lt. h m (omega (arith, lt))))
+    (elim (accepts p.0 p.1 n) as (λ b. AllByRecursion P (cond b (spot p.0 p.1 n ∷ []) [])) [ true ↦ (h n (omega arith), tt) | false ↦ tt ]))
 
 module _ (t : TableRecord) (usable : ℕ → ℕ → ℕ → Bool) where
   abbrev first : List Spot → Option WrittenPlan
@@ -68,11 +69,14 @@ module _ (t : TableRecord) (usable : ℕ → ℕ → ℕ → Bool) where
   at_usable : (s : Spot) → victims_in (board_of t) t.entries s ≡ victims_in (board_at t usable) t.entries s
   at_usable s = victims_same (board_of t) (λ a k. 0) usable true t.entries s
 
+  unit_without : (p : ℕ × ℕ) → ((m : ℕ) → m < length t.cluster.machines → victims_in (board_of t) t.entries (spot p.0 p.1 m) ≡ None) → AllByRecursion (λ s. victims_in (board_at t usable) t.entries s ≡ None) (pairs_on t usable p)
+  unit_without p h = pairs_all (λ s. victims_in (board_at t usable) t.entries s ≡ None) (accepts_at t usable) (length t.cluster.machines) p (λ m lt. sym (at_usable (spot p.0 p.1 m)) ∙ h m lt)
+
+  pub none_found : (p : ℕ × ℕ) → ((m : ℕ) → m < length t.cluster.machines → victims_in (board_of t) t.entries (spot p.0 p.1 m) ≡ None) → IsFound t usable (pairs_on t usable p) None
+  none_found p h = record { is = sym (none_from (board_at t usable) t.entries (pairs_on t usable p) (unit_without p h)); made = tt }
+
   pub wide_found : (p : ℕ × ℕ) → is_narrow t.cluster (size_at (as_known t.jobs) p.0 p.1) ≡ false → IsFound t usable (pairs_on t usable p) None
-  wide_found p f = record {
-    is = sym (none_from (board_at t usable) t.entries (pairs_on t usable p) (pairs_all (λ s. victims_in (board_at t usable) t.entries s ≡ None) (accepts_at t usable) (length t.cluster.machines) p (λ m. wide_none (board_at t usable) t.entries (spot p.0 p.1 m) f)));
-    made = tt;
-  }
+  wide_found p f = none_found p (λ m _. wide_none (board_of t) t.entries (spot p.0 p.1 m) f)
 
   pub passed_closed : (p : ℕ × ℕ) (n : ℕ) → accepts_at t usable p.0 p.1 n ≡ false → first (pairs_to (accepts_at t usable) n p) ≡ None → first (pairs_to (accepts_at t usable) (n + 1) p) ≡ None
   passed_closed p n f h = ap first (pairs_more (accepts_at t usable) n p) ∙ first_behind (board_at t usable) t.entries (pairs_to (accepts_at t usable) n p) (cond (accepts_at t usable p.0 p.1 n) (spot p.0 p.1 n ∷ []) []) h ∙ ap (λ b. first (cond b (spot p.0 p.1 n ∷ []) [])) f
@@ -80,6 +84,13 @@ module _ (t : TableRecord) (usable : ℕ → ℕ → ℕ → Bool) where
   pub passed_without : (p : ℕ × ℕ) (n : ℕ) → accepts_at t usable p.0 p.1 n ≡ true → victims_in (board_of t) t.entries (spot p.0 p.1 n) ≡ None → first (pairs_to (accepts_at t usable) n p) ≡ None → first (pairs_to (accepts_at t usable) (n + 1) p) ≡ None
   passed_without p n u v h = ap first (pairs_more (accepts_at t usable) n p) ∙ first_behind (board_at t usable) t.entries (pairs_to (accepts_at t usable) n p) (cond (accepts_at t usable p.0 p.1 n) (spot p.0 p.1 n ∷ []) []) h ∙ ap (λ b. first (cond b (spot p.0 p.1 n ∷ []) [])) u
       ∙ one_without (board_at t usable) t.entries (spot p.0 p.1 n) (sym (at_usable (spot p.0 p.1 n)) ∙ v)
+
+  pub passed_none : (p : ℕ × ℕ) (n : ℕ) → victims_in (board_of t) t.entries (spot p.0 p.1 n) ≡ None → first (pairs_to (accepts_at t usable) n p) ≡ None → first (pairs_to (accepts_at t usable) (n + 1) p) ≡ None
+  passed_none p n v h = by (accepts_at t usable p.0 p.1 n) refl
+    where
+      by : (b : Bool) → accepts_at t usable p.0 p.1 n ≡ b → first (pairs_to (accepts_at t usable) (n + 1) p) ≡ None
+      by true u = passed_without p n u v h
+      by false u = passed_closed p n u h
 
   pub found_here : (plan : Plan) → IsSound t → plan.pick.unit.0 < unit_count (as_known t.jobs) plan.pick.app.0 → plan.pick.machine.0 < length t.cluster.machines
       → accepts_at t usable plan.pick.app.0 plan.pick.unit.0 plan.pick.machine.0 ≡ true
@@ -187,6 +198,15 @@ module _ (t : TableRecord) (usable : ℕ → ℕ → ℕ → Bool) where
 
   pub passed_priority : (line : List (ℕ × ℕ)) (late : ℕ) → late < 10 → IsFound t usable (pairs_at t usable (9 - late) line) None → first (down_to line (take late falling_priorities)) ≡ None → first (down_to line (take (late + 1) falling_priorities)) ≡ None
   passed_priority line late lt f h = ap first (one_lower line late lt) ∙ first_behind (board_at t usable) t.entries (down_to line (take late falling_priorities)) (pairs_at t usable (9 - late) line) h ∙ sym f.is
+
+  -- where no unit of the line has victims
+  units_without : (ps : List (ℕ × ℕ)) → AllByRecursion (HasNoVictims t) ps → AllByRecursion (λ s. victims_in (board_at t usable) t.entries s ≡ None) (flat_map (pairs_on t usable) ps)
+  units_without [] h = tt
+  units_without (p ∷ ps) h = all_append (λ s. victims_in (board_at t usable) t.entries s ≡ None) (pairs_on t usable p) (flat_map (pairs_on t usable) ps) (unit_without p (λ m _. h.0.none m)) (units_without ps h.1)
+
+  pub line_without : (line : List (ℕ × ℕ)) → AllByRecursion (HasNoVictims t) line → first (down_to line falling_priorities) ≡ None
+  line_without line h = none_from (board_at t usable) t.entries (down_to line falling_priorities)
+      (all_flat (λ s. victims_in (board_at t usable) t.entries s ≡ None) (λ n. pairs_at t usable n line) falling_priorities (λ n. units_without (filter (has_priority n) line) (all_filter (HasNoVictims t) (has_priority n) line h)))
 
   falling_split : (n : ℕ) → falling_priorities ≡ take n falling_priorities ++ drop n falling_priorities
   falling_split n = numbers falling_priorities n

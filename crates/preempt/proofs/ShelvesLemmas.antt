@@ -2,12 +2,12 @@
 use Rattle.std.proofs.Common.{◌≡◌, ◌≢◌, ℕ, zero, suc, ◌+◌, ◌<◌, ◌≤◌, Bool, true, false, cond, not, nat_eq, nat_lt, List, [], ◌∷◌, ◌++◌, length, map, get_or, set, take, min, Some, None, refl, sym, ◌∙◌, ap, subst, arith, get_or-set_same, get_or-set_other}
 use Rattle.std.specs.Prelude.{◌&&◌, IsTrue, slice_get, slice_index, Option}
 use Rattle.std.specs.Option.{unwrap_or, option_map}
-use Rattle.std.specs.List.{AllByRecursion}
+use Rattle.std.specs.List.{AllByRecursion, flat_map}
 use Rattle.std.proofs.lemmas.Bool.Decides.{nat_tests}
 use Rattle.fuxi_terms.specs.Cluster.{ClusterRecord, MachineRecord, is_valid_cluster, is_between, no_machine, quota_at}
 use Rattle.fuxi_terms.specs.Jobs.{priority_of, group_of, size_at}
 use Rattle.fuxi_terms.specs.Keys.{Spot}
-use Rattle.fuxi_terms.specs.Tables.{spot, usage_at}
+use Rattle.fuxi_terms.specs.Tables.{spot, held_on, usage_at}
 use Rattle.fuxi_terms.specs.Vectors.{at_place}
 use Rattle.fuxi_terms.proofs.Alls.{all_append}
 use Rattle.fuxi_terms.proofs.Booleans.{both_true, not_false, number_is, both_false, and_false}
@@ -26,8 +26,9 @@ use Rattle.preempt.specs.declared.entry.GroupUse.{GroupUse}
 use Rattle.preempt.specs.declared.shelf.Loose.{Loose}
 use Rattle.preempt.specs.declared.shelf.Loose.TheVariants.{Nobody, One, Several}
 use Rattle.preempt.specs.declared.shelf.Shelf.{Shelf}
-use Rattle.preempt.specs.Given.{board_of, no_group, written, IsEntry, AreGroups}
-use Rattle.preempt.specs.Shelves.{spares, spares_at, is_loose, is_other_loose, IsLow, IsLoose, IsShelf, IsWanted, may_take_some}
+use Rattle.preempt.specs.Given.{board_of, no_group, written, pair_of, IsEntry, AreGroups}
+use Rattle.preempt.specs.Shelves.{spares, spares_at, is_loose, is_other_loose, IsLow, IsLoose, IsShelf, IsWanted, AreHolders, HasNoVictims, may_take_some}
+use Rattle.preempt.specs.Walks.{entry_on}
 use Rattle.preempt.proofs.CountedAsWritten.{each_same, size_is}
 use Rattle.preempt.proofs.UnitSteps.{got}
 
@@ -89,6 +90,17 @@ closed_singles : (P : Spot → Type 0) (m : ℕ) (es : List Entry) → AllByRecu
 closed_singles P m [] h = tt
 closed_singles P m (e ∷ es) h = all_append P (so_many e.count (spot e.app.0 e.unit.0 m)) (singles (map (written m) es)) (closed_run P e.count (spot e.app.0 e.unit.0 m) h.0) (closed_singles P m es h.1)
 
+closed_listed : (P : Spot → Type 0) (es : List (Spot × ℕ)) (m : ℕ) (hs : List Entry) → AllByRecursion (λ (e : Entry). P (spot e.app.0 e.unit.0 m)) hs → AllByRecursion P (singles (flat_map (entry_on es m) (map pair_of hs)))
+closed_listed P es m [] h = tt
+closed_listed P es m (e ∷ hs) h =
+    let s = spot e.app.0 e.unit.0 m in
+    let n = held_on es e.app.0 e.unit.0 m in
+    let rest = closed_listed P es m hs h.1 in
+    elim (nat_lt 0 n) as (λ b. AllByRecursion P (singles (cond b ((s, n) ∷ []) [] ++ flat_map (entry_on es m) (map pair_of hs)))) [
+      | true ↦ all_append P (so_many n s) (singles (flat_map (entry_on es m) (map pair_of hs))) (closed_run P n s h.0) rest
+      | false ↦ rest
+    ]
+
 not_both : (loose : Loose) (g h : ℕ) → nat_eq g h ≡ false → is_loose loose g ≡ true → is_other_loose loose h ≡ false → ⊥
 not_both Nobody g h d a b = cc
 not_both Several g h d a b = cc
@@ -109,15 +121,15 @@ module _ (t : TableRecord) (groups : List GroupUse) (are : AreGroups t groups) (
       let z : quota_at t.cluster gr i + 0 + size_at (as_known t.jobs) e.app.0 e.unit.0 i ≡ slice_index x.quota i + slice_index e.size i = omega (arith, q, s) in
       λ k. not (nat_lt (sym u k) (z k)))
 
-  closed_entry : (s : Spot) (n : Need) (shelf : Shelf) (e : Entry) → IsWanted t s.job s.unit n → may_take_some n shelf.lowest shelf.loose ≡ false → IsEntry t e → IsLow shelf.lowest e → IsLoose t.cluster.resources groups shelf.loose e
+  closed_entry : (s : Spot) (n : Need) (lowest : List ℕ) (loose : Loose) (e : Entry) → IsWanted t s.job s.unit n → may_take_some n lowest loose ≡ false → IsEntry t e → IsLow lowest e → IsLoose t.cluster.resources groups loose e
       → may_take_in (board_of t) t.entries s [] (spot e.app.0 e.unit.0 s.machine) ≡ false
-  closed_entry s n shelf e w none h low loose = by (nat_eq (group_of (as_known t.jobs) e.app.0) (group_of (as_known t.jobs) s.job)) refl
+  closed_entry s n lowest loose e w none h low is_loose_here = by (nat_eq (group_of (as_known t.jobs) e.app.0) (group_of (as_known t.jobs) s.job)) refl
     where
       gr : ℕ
       gr = group_of (as_known t.jobs) e.app.0
 
-      both : (nat_lt (get_or shelf.lowest n.group 0) n.priority ≡ false) × ((n.guaranteed && is_other_loose shelf.loose n.group) ≡ false)
-      both = both_false (nat_lt (get_or shelf.lowest n.group 0) n.priority) (n.guaranteed && is_other_loose shelf.loose n.group) none
+      both : (nat_lt (get_or lowest n.group 0) n.priority ≡ false) × ((n.guaranteed && is_other_loose loose n.group) ≡ false)
+      both = both_false (nat_lt (get_or lowest n.group 0) n.priority) (n.guaranteed && is_other_loose loose n.group) none
 
       spared : Bool
       spared = is_spared_in (board_of t) t.entries [] (spot e.app.0 e.unit.0 s.machine)
@@ -126,31 +138,42 @@ module _ (t : TableRecord) (groups : List GroupUse) (are : AreGroups t groups) (
       other false b e f d = refl
       other true false e f d = refl
       other true true sp gu d =
-          let l : is_loose shelf.loose e.group ≡ true = loose.loosened (sym (spared_is s.machine e h) ∙ sp) in
-          let o : is_other_loose shelf.loose n.group ≡ false = ap (λ b. b && is_other_loose shelf.loose n.group) (sym gu) ∙ both.1 in
+          let l : is_loose loose e.group ≡ true = is_loose_here.loosened (sym (spared_is s.machine e h) ∙ sp) in
+          let o : is_other_loose loose n.group ≡ false = ap (λ b. b && is_other_loose loose n.group) (sym gu) ∙ both.1 in
           let d' : nat_eq e.group n.group ≡ false = (λ k. nat_eq (h.group k) (w.group k)) ∙ d in
-          absurd (not_both shelf.loose e.group n.group d' l o)
+          absurd (not_both loose e.group n.group d' l o)
 
       by : (b : Bool) → nat_eq gr (group_of (as_known t.jobs) s.job) ≡ b
           → cond b (nat_lt (priority_of (as_known t.jobs) e.app.0 e.unit.0) (priority_of (as_known t.jobs) s.job s.unit)) (spared && is_guaranteed_in (board_of t) t.entries s) ≡ false
       by true same =
           let g : e.group ≡ n.group = h.group ∙ number_is gr (group_of (as_known t.jobs) s.job) same ∙ sym w.group in
           let l = low.least in
-          let k : get_or shelf.lowest e.group 0 ≡ get_or shelf.lowest n.group 0 = ap (λ k. get_or shelf.lowest k 0) g in
+          let k : get_or lowest e.group 0 ≡ get_or lowest n.group 0 = ap (λ k. get_or lowest k 0) g in
           let p = h.priority in
           let q = w.priority in
           let f = both.0 in
-          let le : n.priority ≤ get_or shelf.lowest n.group 0 = grind (arith, nat_tests, f) in
+          let le : n.priority ≤ get_or lowest n.group 0 = grind (arith, nat_tests, f) in
           let ge : priority_of (as_known t.jobs) s.job s.unit ≤ priority_of (as_known t.jobs) e.app.0 e.unit.0 = omega (arith, l, k, p, q, le) in
           grind (arith, nat_tests, ge)
       by false d = ap (λ b. spared && b) (sym w.guaranteed) ∙ other spared n.guaranteed refl refl d
 
-  closed_all : (s : Spot) (n : Need) (shelf : Shelf) (es : List Entry) → IsWanted t s.job s.unit n → may_take_some n shelf.lowest shelf.loose ≡ false → AllByRecursion (IsEntry t) es → AllByRecursion (IsLow shelf.lowest) es → AllByRecursion (IsLoose t.cluster.resources groups shelf.loose) es
+  closed_all : (s : Spot) (n : Need) (lowest : List ℕ) (loose : Loose) (es : List Entry) → IsWanted t s.job s.unit n → may_take_some n lowest loose ≡ false → AllByRecursion (IsEntry t) es → AllByRecursion (IsLow lowest) es → AllByRecursion (IsLoose t.cluster.resources groups loose) es
       → AllByRecursion (λ (e : Entry). may_take_in (board_of t) t.entries s [] (spot e.app.0 e.unit.0 s.machine) ≡ false) es
-  closed_all s n shelf [] w none h low loose = tt
-  closed_all s n shelf (e ∷ es) w none h low loose = (closed_entry s n shelf e w none h.0 low.0 loose.0, closed_all s n shelf es w none h.1 low.1 loose.1)
+  closed_all s n lowest loose [] w none h low ls = tt
+  closed_all s n lowest loose (e ∷ es) w none h low ls = (closed_entry s n lowest loose e w none h.0 low.0 ls.0, closed_all s n lowest loose es w none h.1 low.1 ls.1)
 
   pub none_to_take : (s : Spot) (n : Need) (shelf : Shelf) → IsShelf t groups s.machine shelf → IsWanted t s.job s.unit n → may_take_some n shelf.lowest shelf.loose ≡ false → victims_in (board_of t) t.entries s ≡ None
   none_to_take s n shelf is w none = closed_none (board_of t) t.entries s
       (subst (λ xs. AllByRecursion (λ x. may_take_in (board_of t) t.entries s [] x ≡ false) (singles xs)) is.walk
-      (closed_singles (λ x. may_take_in (board_of t) t.entries s [] x ≡ false) s.machine shelf.entries.items (closed_all s n shelf shelf.entries.items w none is.each is.low is.loose_are)))
+      (closed_singles (λ x. may_take_in (board_of t) t.entries s [] x ≡ false) s.machine shelf.entries.items (closed_all s n shelf.lowest shelf.loose shelf.entries.items w none is.each is.low is.loose_are)))
+
+  -- the same for all machines, by the units that have grants
+  pub none_anywhere : (a u : ℕ) (n : Need) (lowest : List ℕ) (loose : Loose) (holders : List Entry) → AreHolders t holders → AllByRecursion (IsLow lowest) holders → AllByRecursion (IsLoose t.cluster.resources groups loose) holders
+      → IsWanted t a u n → may_take_some n lowest loose ≡ false → HasNoVictims t (a, u)
+  none_anywhere a u n lowest loose holders are low ls w none = record {
+    none = λ m.
+        let s = spot a u m in
+        closed_none (board_of t) t.entries s
+        (subst (λ xs. AllByRecursion (λ x. may_take_in (board_of t) t.entries s [] x ≡ false) (singles xs)) (are.lists m)
+        (closed_listed (λ x. may_take_in (board_of t) t.entries s [] x ≡ false) t.entries m holders (closed_all s n lowest loose holders w none are.each low ls)));
+  }

@@ -1,19 +1,29 @@
 -- One step of each loop that lists units.
-use Rattle.std.proofs.Common.{◌≡◌, ℕ, zero, suc, ◌+◌, ◌-◌, ◌<◌, ◌≤◌, Bool, true, false, cond, nat_eq, List, [], ◌∷◌, ◌++◌, length, map, get_or, take, Some, refl, sym, ◌∙◌, ap, arith, append_assoc}
-use Rattle.std.specs.Prelude.{slice_get, Option}
+use Rattle.std.proofs.Common.{◌≡◌, ℕ, zero, suc, ◌+◌, ◌-◌, ◌<◌, ◌≤◌, Bool, true, false, cond, nat_eq, nat_lt, List, [], ◌∷◌, ◌++◌, length, map, filter, get_or, take, Some, refl, sym, ◌∙◌, ap, arith, append_assoc}
+use Rattle.std.specs.Prelude.{◌&&◌, slice_get, Option}
 use Rattle.std.specs.Option.{unwrap_or, option_map}
 use Rattle.std.specs.List.{AllByRecursion, flat_map}
+use Rattle.std.specs.Ordering.{eq_by_cmp}
+use Rattle.std.specs.FinMap.Entries.{find}
+use Rattle.std.proofs.lemmas.Bool.Decides.{nat_tests}
+use Rattle.std.proofs.lemmas.List.Sums.{sum_by-cons}
 use Rattle.std.proofs.lemmas.Grind.{flat_map-append}
 use Rattle.std.proofs.lemmas.List.{append-nil, map-append, length-map}
 use Rattle.fuxi_terms.specs.Cluster.{JobRecord, UnitRecord}
 use Rattle.fuxi_terms.specs.Jobs.{KnownJob, unit_count, unit_of, priority_of, group_of, no_unit}
+use Rattle.fuxi_terms.specs.Keys.{Spot, spot_cmp}
 use Rattle.fuxi_terms.specs.Lists.{below}
-use Rattle.fuxi_terms.proofs.Alls.{all_append}
+use Rattle.fuxi_terms.specs.Tables.{spot, held, held_on}
+use Rattle.fuxi_terms.proofs.Alls.{all_append, all_filter}
+use Rattle.fuxi_terms.proofs.Booleans.{nat_itself}
+use Rattle.fuxi_terms.proofs.CountsLemmas.{tied}
+use Rattle.fuxi_terms.proofs.KeyOrders.{same_spot}
 use Rattle.grant_table.specs.GrantTables.{TableRecord, IsSound, as_known}
 use Rattle.preempt.specs.declared.entry.Entry.{Entry}
 use Rattle.preempt.specs.Given.{IsEntry, pair_of}
-use Rattle.preempt.specs.Walks.{units_in, all_units, backward, of_priority, entries_by_priority, pairs_by_priority}
-use Rattle.preempt.proofs.Admitted.{job_found, valid_at, few_units, ordered_length}
+use Rattle.preempt.specs.Shelves.{AreHolders}
+use Rattle.preempt.specs.Walks.{units_in, all_units, backward, of_priority, entries_by_priority, pairs_by_priority, holds_some, entry_on}
+use Rattle.preempt.proofs.Admitted.{job_found, valid_at, few_units, ordered_length, walk_is}
 use Rattle.fuxi_terms.proofs.ValidJobs.{group_valid}
 use Rattle.fuxi_terms.proofs.Lists.{take_last}
 
@@ -98,3 +108,67 @@ ordered_few t s es is =
     let l = ordered_length (priority_of (as_known t.jobs)) (all_units t.jobs) 10 in
     let f = few_units t.jobs s.in_order in
     omega (arith, a, b, l, f)
+
+-- ---- those that have grants
+-- a unit has on a machine no more than in all
+held_least : (es : List (Spot × ℕ)) (a u m : ℕ) → held_on es a u m ≤ held es a u
+held_least [] a u m = omega arith
+held_least (x ∷ xs) a u m = by (eq_by_cmp spot_cmp s x.0) refl (held_least xs a u m)
+  where
+    s : Spot
+    s = spot a u m
+
+    here : Bool
+    here = nat_eq x.0.job a && nat_eq x.0.unit u
+
+    more : held (x ∷ xs) a u ≡ cond here x.1 0 + held xs a u
+    more = sum_by-cons (λ (e : Spot × ℕ). cond (nat_eq e.0.job a && nat_eq e.0.unit u) e.1 0) x xs
+
+    by : (b : Bool) → eq_by_cmp spot_cmp s x.0 ≡ b → held_on xs a u m ≤ held xs a u → unwrap_or (cond (eq_by_cmp spot_cmp s x.0) (Some x.1) (find spot_cmp s xs)) 0 ≤ held (x ∷ xs) a u
+    by true e le =
+        let same : s ≡ x.0 = same_spot s x.0 (tied _ e) in
+        let j : nat_eq x.0.job a ≡ true = ap (λ (y : Spot). nat_eq y.job a) (sym same) ∙ nat_itself a in
+        let k : nat_eq x.0.unit u ≡ true = ap (λ (y : Spot). nat_eq y.unit u) (sym same) ∙ nat_itself u in
+        let whole : cond here x.1 0 ≡ x.1 = λ i. cond (j i && k i) x.1 0 in
+        let found : unwrap_or (cond (eq_by_cmp spot_cmp s x.0) (Some x.1) (find spot_cmp s xs)) 0 ≡ x.1 = ap (λ b. unwrap_or (cond b (Some x.1) (find spot_cmp s xs)) 0) e in
+        omega (arith, more, whole, found)
+    by false e le =
+        let found : unwrap_or (cond (eq_by_cmp spot_cmp s x.0) (Some x.1) (find spot_cmp s xs)) 0 ≡ held_on xs a u m = ap (λ b. unwrap_or (cond b (Some x.1) (find spot_cmp s xs)) 0) e in
+        omega (arith, more, found, le)
+
+nothing_on : (es : List (Spot × ℕ)) (m : ℕ) (e : Entry) → holds_some es e ≡ false → entry_on es m (pair_of e) ≡ []
+nothing_on es m e f =
+    let n = held_on es e.app.0 e.unit.0 m in
+    let le = held_least es e.app.0 e.unit.0 m in
+    let none : nat_lt 0 n ≡ false = grind (arith, nat_tests, f, le) in
+    ap (λ b. cond b ((spot e.app.0 e.unit.0 m, n) ∷ []) []) none
+
+holders_listed : (es : List (Spot × ℕ)) (m : ℕ) (units : List Entry) → flat_map (entry_on es m) (map pair_of (filter (holds_some es) units)) ≡ flat_map (entry_on es m) (map pair_of units)
+holders_listed es m [] = refl
+holders_listed es m (e ∷ units) =
+    let rest = holders_listed es m units in
+    elim (holds_some es e) as (λ b. holds_some es e ≡ b → flat_map (entry_on es m) (map pair_of (cond b (e ∷ filter (holds_some es) units) (filter (holds_some es) units))) ≡ entry_on es m (pair_of e) ++ flat_map (entry_on es m) (map pair_of units)) [
+      | true ↦ λ _. ap (λ xs. entry_on es m (pair_of e) ++ xs) rest
+      | false ↦ λ f. rest ∙ ap (λ xs. xs ++ flat_map (entry_on es m) (map pair_of units)) (sym (nothing_on es m e f))
+    ] refl
+
+pub filter_more : (test : Entry → Bool) (xs : List Entry) (k : ℕ) (d : Entry) → k < length xs → filter test (take (k + 1) xs) ≡ filter test (take k xs) ++ cond (test (get_or xs k d)) (get_or xs k d ∷ []) []
+filter_more test xs k d lt = ap (filter test) (take_last xs k (get_or xs k d) (got test xs k d lt)) ∙ last (take k xs) (get_or xs k d)
+  where
+    last : (ys : List Entry) (x : Entry) → filter test (ys ++ x ∷ []) ≡ filter test ys ++ cond (test x) (x ∷ []) []
+    last [] x = refl
+    last (y ∷ ys) x = elim (test y) as (λ b. cond b (y ∷ filter test (ys ++ x ∷ [])) (filter test (ys ++ x ∷ [])) ≡ cond b (y ∷ filter test ys) (filter test ys) ++ cond (test x) (x ∷ []) []) [
+      | true ↦ ap (λ zs. y ∷ zs) (last ys x)
+      | false ↦ last ys x
+    ]
+
+filter_few : (test : Entry → Bool) (es : List Entry) → length (filter test es) ≤ length es
+filter_few test [] = omega arith
+filter_few test (e ∷ es) = let r = filter_few test es in elim (test e) as (λ b. length (cond b (e ∷ filter test es) (filter test es)) ≤ length (e ∷ es)) [ true ↦ omega (arith, r) | false ↦ omega (arith, r) ]
+
+pub holders_are : (t : TableRecord) → IsSound t → (units : List Entry) → map pair_of units ≡ pairs_by_priority (priority_of (as_known t.jobs)) (all_units t.jobs) 10 → AllByRecursion (IsEntry t) units → length units ≤ 1000000 → AreHolders t (filter (holds_some t.entries) units)
+holders_are t s units is each few = record {
+  each = all_filter (IsEntry t) (holds_some t.entries) units each;
+  few = let l = filter_few (holds_some t.entries) units in omega (arith, l, few);
+  lists = λ m. holders_listed t.entries m units ∙ ap (flat_map (entry_on t.entries m)) is ∙ sym (walk_is t s m);
+}

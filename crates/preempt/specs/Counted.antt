@@ -61,6 +61,11 @@ abbrev pub counted_taken : List (Spot × ℕ) → Board → List (Spot × ℕ) �
 counted_taken [] B table t set = set
 counted_taken (e ∷ es) B table t set = counted_taken es B table t (set ++ (e.0, taken_count B table t (singles set) e.0 e.1) ∷ [])
 
+-- All that may be taken: of each entry as many as that is, whether they are needed or not
+abbrev pub counted_most : List (Spot × ℕ) → Board → List (Spot × ℕ) → Spot → List (Spot × ℕ) → List (Spot × ℕ)
+counted_most [] B table t set = set
+counted_most (e ∷ es) B table t set = counted_most es B table t (set ++ (e.0, may_times B table t (singles set) e.0 e.1) ∷ [])
+
 -- Kept: of each entry in the same order as few as make all the others enough
 abbrev pub counted_kept : List (Spot × ℕ) → Board → List (Spot × ℕ) → Spot → List (Spot × ℕ) → List (Spot × ℕ)
 counted_kept [] B table t kept = kept

@@ -5,4 +5,5 @@ pub mod GroupSums
 pub mod Given
 pub mod Walks
 pub mod Shelves
+pub mod MachineRooms
 pub mod Search

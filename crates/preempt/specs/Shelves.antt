@@ -1,11 +1,11 @@
 -- What is kept of each machine, and what of a unit that waits.
-use Rattle.std.specs.Prelude.{◌≡◌, ℕ, ◌+◌, ◌<◌, ◌≤◌, Bool, true, false, not, nat_eq, nat_lt, ◌&&◌, ◌||◌, List, length, map, get_or, slice_index, slice_get, Some}
-use Rattle.std.specs.List.{AllByRecursion}
+use Rattle.std.specs.Prelude.{◌≡◌, ℕ, ◌+◌, ◌<◌, ◌≤◌, Bool, true, false, not, nat_eq, nat_lt, ◌&&◌, ◌||◌, List, length, map, get_or, slice_index, slice_get, Some, None}
+use Rattle.std.specs.List.{AllByRecursion, flat_map}
 use Rattle.fuxi_terms.specs.Cluster.{has_at, limit_at, is_narrow}
 use Rattle.fuxi_terms.specs.Jobs.{priority_of, group_of, size_at}
 use Rattle.fuxi_terms.specs.Lists.{below_each}
 use Rattle.fuxi_terms.specs.Tables.{spot, total_at, usage_at}
-use Rattle.written_roles.specs.Preemption.{is_guaranteed_in}
+use Rattle.written_roles.specs.Preemption.{is_guaranteed_in, victims_in}
 use Rattle.grant_table.specs.GrantTables.{TableRecord, as_known}
 use Rattle.preempt.specs.Counted.{entries_on}
 use Rattle.preempt.specs.declared.entry.Entry.{Entry}
@@ -14,7 +14,18 @@ use Rattle.preempt.specs.declared.entry.GroupUse.{GroupUse}
 use Rattle.preempt.specs.declared.shelf.Loose.{Loose}
 use Rattle.preempt.specs.declared.shelf.Loose.TheVariants.{Nobody, One, Several}
 use Rattle.preempt.specs.declared.shelf.Shelf.{Shelf}
-use Rattle.preempt.specs.Given.{IsEntry, no_group, written, board_of}
+use Rattle.preempt.specs.Given.{IsEntry, no_group, written, board_of, pair_of}
+use Rattle.preempt.specs.Walks.{entry_on}
+
+-- units with grants, in the order of the walk: the entries of a machine are theirs
+pub record AreHolders (t : TableRecord) (units : List Entry) : Type 0 where
+  pub each : AllByRecursion (IsEntry t) units
+  pub few : length units ≤ 1000000
+  pub lists : (m : ℕ) → flat_map (entry_on t.entries m) (map pair_of units) ≡ entries_on (board_of t) t.entries m
+
+-- a unit without victims, wherever it is tried
+pub record HasNoVictims (t : TableRecord) (p : ℕ × ℕ) : Type 0 where
+  pub none : (m : ℕ) → victims_in (board_of t) t.entries (spot p.0 p.1 m) ≡ None
 
 -- whether a group spares one grant of a size, in each of so many resources
 abbrev pub spares_at : GroupUse → List ℕ → ℕ → Bool

@@ -4,7 +4,7 @@ use Rattle.std.specs.List.{flat_map}
 use Rattle.fuxi_terms.specs.Cluster.{JobRecord}
 use Rattle.fuxi_terms.specs.Keys.{Spot}
 use Rattle.fuxi_terms.specs.Lists.{below}
-use Rattle.fuxi_terms.specs.Tables.{spot, held_on}
+use Rattle.fuxi_terms.specs.Tables.{spot, held, held_on}
 use Rattle.preempt.specs.declared.entry.Entry.{Entry}
 
 -- all units of jobs, as pairs, in the order of job and unit
@@ -28,6 +28,10 @@ entries_by_priority es n = flat_map (λ p. backward (of_priority p) es) (below n
 
 abbrev pub pairs_by_priority : (ℕ → ℕ → ℕ) → List (ℕ × ℕ) → ℕ → List (ℕ × ℕ)
 pairs_by_priority priorities ps n = flat_map (λ k. backward (λ p. nat_eq (priorities p.0 p.1) k) ps) (below n)
+
+-- whether a unit has grants on any machine
+abbrev pub holds_some : List (Spot × ℕ) → Entry → Bool
+holds_some es e = nat_lt 0 (held es e.app.0 e.unit.0)
 
 -- the entry of a unit on a machine, where it has grants there
 abbrev pub entry_on : List (Spot × ℕ) → ℕ → ℕ × ℕ → List (Spot × ℕ)

@@ -2,11 +2,13 @@
 //! computed, so that a search is linear in the units that have grants on a machine, whatever their counts.
 #![tactic(auto)]
 
+mod chance;
 mod entry;
 mod law;
 mod need;
 mod number;
 mod plan;
+mod room;
 mod search;
 mod shelf;
 mod victims;

@@ -133,7 +133,7 @@ pub(crate) fn victims_for(
         MatchOption found (victims_in (board_of t) t.entries (spot e.now.app.0 e.now.unit.0 m) ≡ None) (λ vs. victims_in (board_of t) t.entries (spot e.now.app.0 e.now.unit.0 m) ≡ Some (losers_of m vs.items))) }
     ensures takable { IfOk result (λ found. (t : TableRecord) (m : ℕ) → IsSound t → AreGroups t groups.now → IsEntry t e.now → IsWanted t e.now.app.0 e.now.unit.0 need.now → IsShelf t groups.now m shelf.now → IfSome found (λ vs. AreTakable t m vs.items)) }
 {
-    if !may_take_some(need, shelf) {
+    if !may_take_some(need, &shelf.lowest, shelf.loose) {
         return Ok(None);
     }
     let need = on_shelf(need, e, shelf);

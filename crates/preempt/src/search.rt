@@ -1,7 +1,7 @@
 //! The search: pairs of a waiting unit and a machine that accepts one more grant of it, by greater priority, place
 //! in the line and smaller machine.
 
-ghost use Rattle.std.specs.Prelude.{◌≡◌, ℕ, ◌+◌, ◌<◌, ◌≤◌, IfOk, IfSome, length, map};
+ghost use Rattle.std.specs.Prelude.{◌≡◌, ℕ, ◌+◌, ◌<◌, ◌≤◌, IfOk, IfSome, OnOk, length, map};
 ghost use Rattle.std.specs.List.{AllByRecursion};
 ghost use Rattle.std.specs.Option.{option_map};
 ghost use Rattle.fuxi_terms.specs.Jobs.{unit_count};
@@ -9,14 +9,18 @@ ghost use Rattle.written_roles.specs.Placing.{Board};
 ghost use Rattle.written_roles.specs.Preemption.{plan_in};
 ghost use Rattle.grant_table.specs.GrantTables.{as_known};
 ghost use Rattle.preempt.specs.Given.{AreGroups, IsEntry, pair_of};
+ghost use Rattle.preempt.specs.MachineRooms.{AreRooms, AreRoomsFor};
 ghost use Rattle.preempt.specs.Plans.{IsBoardOf, CanBeMade, plan_as};
 ghost use Rattle.preempt.specs.Search.{IsFound, accepts_at, pairs_on, pairs_at};
-ghost use Rattle.preempt.specs.Shelves.{AreShelves};
+ghost use Rattle.preempt.specs.Shelves.{AreShelves, IsWanted};
 
-use crate::entry::{Entry, GroupUse};
+use crate::chance::may_any_take;
+use crate::entry::{Entry, GroupUse, Need, Sums};
 use crate::need::{need_of, victims_for, waiting_of};
 use crate::plan::{Plan, Victims};
+use crate::room::{Rooms, is_within, rooms_at};
 use crate::shelf::{Shelf, groups_of, shelves_of};
+use crate::walk::holders_by_priority;
 use fuxi_terms::OutOfMemory;
 use grant_table::{Asking, GrantTable, Pick, Steps};
 use schedule_unit::MachineNo;
@@ -35,33 +39,36 @@ fn accepts<P: Asking>(table: &GrantTable, placer: &P, e: &Entry, machine: Machin
     table.held_on(e.app, e.unit, machine) < table.most(e.app, e.unit)
 }
 
-// The plan of the first machine on which a unit has victims.
+// The plan of the first machine on which a unit has victims. A machine without room for it is passed.
 fn first_machine<P: Asking>(
     alloc: Global,
     table: &GrantTable,
     placer: &P,
     groups: &[GroupUse],
     shelves: &[Shelf],
+    rooms: &[Sums],
     e: &Entry,
+    need: &Need,
     set: &mut Vec<Entry>,
 ) -> Result<Option<Plan>, OutOfMemory>
     requires entry { IsEntry table.now e.now }
     requires groups { AreGroups table.now groups.now }
     requires shelves { AreShelves table.now groups.now shelves.now }
+    requires wanted { IsWanted table.now e.now.app.0 e.now.unit.0 need.now }
+    requires rooms { AreRoomsFor table.now need.now rooms.now }
     ensures { IfOk result (IsFound table.now (P.usable placer.now) (pairs_on table.now (P.usable placer.now) (pair_of e.now))) }
 {
     let cluster = table.cluster();
-    let need = match need_of(table, &groups[e.group], e) {
-        Some(need) => need,
-        None => return Ok(None),
-    };
     for number in 0..cluster.machines() {
         let machine = MachineNo(number);
+        if !is_within(need.resources, &e.size, &rooms[number as usize].q) {
+            continue;
+        }
         if !accepts(table, placer, e, machine) {
             continue;
         }
         let shelf = &shelves[number as usize];
-        match victims_for(alloc, &need, e, shelf, groups, set)? {
+        match victims_for(alloc, need, e, shelf, groups, set)? {
             Some(victims) => {
                 let pick = Pick {
                     app: e.app,
@@ -75,6 +82,47 @@ fn first_machine<P: Asking>(
         }
     }
     Ok(None)
+}
+
+// The plan of a unit that waits. No machine is looked at where none has room for it.
+fn unit_plan<P: Asking>(
+    alloc: Global,
+    table: &GrantTable,
+    placer: &P,
+    groups: &[GroupUse],
+    shelves: &[Shelf],
+    e: &Entry,
+    kinds: &mut Vec<Rooms>,
+    set: &mut Vec<Entry>,
+) -> Result<Option<Plan>, OutOfMemory>
+    requires entry { IsEntry table.now e.now }
+    requires groups { AreGroups table.now groups.now }
+    requires shelves { AreShelves table.now groups.now shelves.now }
+    requires kinds { AllByRecursion (AreRooms table.now) kinds.old.items }
+    ensures found { IfOk result (IsFound table.now (P.usable placer.now) (pairs_on table.now (P.usable placer.now) (pair_of e.now))) }
+    ensures kinds { OnOk result (AllByRecursion (AreRooms table.now) kinds.new.items) }
+{
+    let _cluster = table.cluster();
+    let need = match need_of(table, &groups[e.group], e) {
+        Some(need) => need,
+        None => return Ok(None),
+    };
+    let at = rooms_at(alloc, table, groups, shelves, &need, kinds, set)?;
+    let rooms = &kinds[at];
+    if !is_within(need.resources, &e.size, &rooms.widest) {
+        return Ok(None);
+    }
+    first_machine(
+        alloc,
+        table,
+        placer,
+        groups,
+        shelves,
+        &rooms.each,
+        e,
+        &need,
+        set,
+    )
 }
 
 // The plan of the first unit of a priority that has victims.
@@ -93,11 +141,12 @@ fn first_unit<P: Asking>(
     requires shelves { AreShelves table.now groups.now shelves.now }
     ensures { IfOk result (IsFound table.now (P.usable placer.now) (pairs_at table.now (P.usable placer.now) priority (map pair_of waiting.now))) }
 {
+    let mut kinds = Vec::new(alloc);
     for e in waiting {
         if e.priority != priority {
             continue;
         }
-        match first_machine(alloc, table, placer, groups, shelves, e, set)? {
+        match unit_plan(alloc, table, placer, groups, shelves, e, &mut kinds, set)? {
             Some(plan) => return Ok(Some(plan)),
             None => {}
         }
@@ -125,9 +174,16 @@ pub fn find<P: Asking, L: Ledger>(
     ensures made { IfOk result (λ found. IfSome found (CanBeMade table.now)) }
     ensures steps { steps.new ≤ steps.old + length table.now.cluster.machines }
 {
+    if placer.waiting_len() == 0 {
+        return Ok(None);
+    }
     let groups = groups_of(alloc, table)?;
-    let shelves = shelves_of(alloc, table, &groups, steps)?;
+    let holders = holders_by_priority(alloc, table)?;
     let waiting = waiting_of(alloc, table, placer)?;
+    if !may_any_take(table, &groups, &holders, &waiting) {
+        return Ok(None);
+    }
+    let shelves = shelves_of(alloc, table, &groups, &holders, steps)?;
     let mut set = Vec::new(alloc);
     for late in 0..10_u8 {
         let priority = 9 - late;

@@ -1,16 +1,13 @@
 //! What is kept of each machine: its grants in the order of the walk, and two bounds by which a unit that can
 //! take none of them is told without a walk.
 
-ghost use Rattle.std.specs.Prelude.{◌≡◌, ℕ, ◌+◌, ◌-◌, ◌<◌, ◌≤◌, true, IfOk, length, map, slice_index};
+ghost use Rattle.std.specs.Prelude.{◌≡◌, ℕ, ◌+◌, ◌-◌, ◌<◌, ◌≤◌, true, IfOk, length, slice_index};
 ghost use Rattle.std.specs.List.{All, AllByRecursion};
-ghost use Rattle.fuxi_terms.specs.Jobs.{priority_of};
-ghost use Rattle.grant_table.specs.GrantTables.{IsSound, as_known};
-ghost use Rattle.preempt.specs.Given.{AreGroups, IsEntry, IsGroup, pair_of};
-ghost use Rattle.preempt.specs.Shelves.{IsShelf, AreShelves, IsLow, IsLoose, is_loose, is_other_loose, spares, may_take_some};
-ghost use Rattle.preempt.specs.Walks.{all_units, pairs_by_priority};
+ghost use Rattle.preempt.specs.Given.{AreGroups, IsGroup};
+ghost use Rattle.preempt.specs.Shelves.{AreHolders, IsShelf, AreShelves, IsLow, IsLoose, is_loose, is_other_loose, spares, may_take_some};
 
 use crate::entry::{Entry, GroupUse, Need};
-use crate::walk::{entries_on, units_by_priority};
+use crate::walk::entries_on;
 use cluster_desc::Cluster;
 use fuxi_terms::OutOfMemory;
 use grant_table::{GrantTable, Steps};
@@ -88,8 +85,8 @@ fn spares(resources: usize, group: &GroupUse, size: &[u64; 8]) -> bool
     all
 }
 
-// By group the least priority of its entries, or 255.
-fn lowest_of(entries: &[Entry]) -> [u8; 32]
+/// By group the least priority of its entries, or 255.
+pub(crate) fn lowest_of(entries: &[Entry]) -> [u8; 32]
     requires { All (λ e. e.group < 32) entries.now }
     ensures { AllByRecursion (IsLow result) entries.now }
 {
@@ -100,8 +97,8 @@ fn lowest_of(entries: &[Entry]) -> [u8; 32]
     lowest
 }
 
-// The groups that spare one of their entries.
-fn loose_of(entries: &[Entry], resources: usize, groups: &[GroupUse]) -> Loose
+/// The groups that spare one of their entries.
+pub(crate) fn loose_of(entries: &[Entry], resources: usize, groups: &[GroupUse]) -> Loose
     requires small { All (λ e. e.group < 32) entries.now }
     requires resources { resources ≤ 8 }
     requires long { length groups.now ≡ 32 }
@@ -166,15 +163,13 @@ fn shelf_of<L: Ledger>(
     alloc: Global,
     table: &GrantTable,
     groups: &[GroupUse],
-    units: &[Entry],
+    holders: &[Entry],
     machine: MachineNo,
     steps: &mut Steps<L>,
 ) -> Result<Shelf, OutOfMemory>
     requires machine { machine.0 < length table.now.cluster.machines }
     requires groups { AreGroups table.now groups.now }
-    requires pairs { map pair_of units.now ≡ pairs_by_priority (priority_of (as_known table.now.jobs)) (all_units table.now.jobs) 10 }
-    requires units { AllByRecursion (IsEntry table.now) units.now }
-    requires few { length units.now ≤ 1000000 }
+    requires holders { AreHolders table.now holders.now }
     ensures shelf { IfOk result (λ shelf. IsShelf table.now groups.now machine.0 shelf) }
     ensures step { steps.new ≡ steps.old + 1 }
 {
@@ -182,7 +177,7 @@ fn shelf_of<L: Ledger>(
     let cluster = table.cluster();
     let resources = cluster.resources() as usize;
     let has = cluster.machine(machine).has.q;
-    let entries = entries_on(alloc, table, units, machine)?;
+    let entries = entries_on(alloc, table, holders, machine)?;
     let lowest = lowest_of(&entries);
     let loose = loose_of(&entries, resources, groups);
     Ok(Shelf {
@@ -194,30 +189,30 @@ fn shelf_of<L: Ledger>(
     })
 }
 
-/// What is kept of each machine. For each what is free is asked once.
+/// What is kept of each machine, from the units that have grants. For each what is free is asked once.
 pub(crate) fn shelves_of<L: Ledger>(
     alloc: Global,
     table: &GrantTable,
     groups: &[GroupUse],
+    holders: &[Entry],
     steps: &mut Steps<L>,
 ) -> Result<Vec<Shelf>, OutOfMemory>
-    requires { AreGroups table.now groups.now }
+    requires groups { AreGroups table.now groups.now }
+    requires holders { AreHolders table.now holders.now }
     ensures shelves { IfOk result (λ shelves. AreShelves table.now groups.now shelves.items) }
     ensures steps { steps.new ≤ steps.old + length table.now.cluster.machines }
 {
-    let units = units_by_priority(alloc, table)?;
     let mut shelves = Vec::new(alloc);
     for number in 0..table.cluster().machines() {
-        shelves.push(shelf_of(alloc, table, groups, &units, MachineNo(number), steps)?)?;
+        shelves.push(shelf_of(alloc, table, groups, holders, MachineNo(number), steps)?)?;
     }
     Ok(shelves)
 }
 
-/// Whether a unit may take any grant on a machine. It is the first test of a pair, and looks at no grant.
-pub(crate) fn may_take_some(need: &Need, shelf: &Shelf) -> bool
+/// Whether a unit may take any of the grants that have these bounds. It looks at no grant.
+pub(crate) fn may_take_some(need: &Need, lowest: &[u8; 32], loose: Loose) -> bool
     requires { need.now.group < 32 }
-    ensures { result ≡ may_take_some need.now shelf.now.lowest shelf.now.loose }
+    ensures { result ≡ may_take_some need.now lowest.now loose }
 {
-    shelf.lowest[need.group] < need.priority
-        || (need.guaranteed && is_other_loose(shelf.loose, need.group))
+    lowest[need.group] < need.priority || (need.guaranteed && is_other_loose(loose, need.group))
 }

@@ -1,13 +1,14 @@
 //! The admitted units in the order in which grants are walked: lower priority, then greater job, then greater
 //! unit. That order is the same on each machine.
 
-ghost use Rattle.std.specs.Prelude.{◌≡◌, ℕ, ◌+◌, ◌<◌, ◌≤◌, ◌++◌, Some, IfOk, OnOk, length, map, slice_get, nat_eq};
+ghost use Rattle.std.specs.Prelude.{◌≡◌, ℕ, ◌+◌, ◌<◌, ◌≤◌, ◌++◌, Some, IfOk, OnOk, length, map, filter, slice_get, nat_eq};
 ghost use Rattle.std.specs.List.{AllByRecursion, flat_map};
 ghost use Rattle.fuxi_terms.specs.Jobs.{unit_count, unit_of, group_of, priority_of};
 ghost use Rattle.fuxi_terms.specs.Lists.{below};
 ghost use Rattle.grant_table.specs.GrantTables.{TableRecord, IsSound, as_known};
 ghost use Rattle.preempt.specs.Given.{IsEntry, pair_of, written};
-ghost use Rattle.preempt.specs.Walks.{units_in, all_units, backward, of_priority, pairs_by_priority, entry_on};
+ghost use Rattle.preempt.specs.Shelves.{AreHolders};
+ghost use Rattle.preempt.specs.Walks.{holds_some, units_in, all_units, backward, of_priority, pairs_by_priority, entry_on};
 
 use crate::entry::{Entry, recounted};
 use fuxi_terms::OutOfMemory;
@@ -69,11 +70,8 @@ fn push_priority(sorted: &mut Vec<Entry>, units: &[Entry], priority: u8) -> Resu
     Ok(())
 }
 
-/// All admitted units in the order of the walk, with no grants.
-pub(crate) fn units_by_priority(
-    alloc: Global,
-    table: &GrantTable,
-) -> Result<Vec<Entry>, OutOfMemory>
+// All admitted units in the order of the walk, with no grants.
+fn units_by_priority(alloc: Global, table: &GrantTable) -> Result<Vec<Entry>, OutOfMemory>
     ensures pairs { IfOk result (λ units. map pair_of units.items ≡ pairs_by_priority (priority_of (as_known table.now.jobs)) (all_units table.now.jobs) 10) }
     ensures entries { IfOk result (λ units. AllByRecursion (IsEntry table.now) units.items) }
     ensures few { IfOk result (λ units. length units.items ≤ 1000000) }
@@ -85,6 +83,32 @@ pub(crate) fn units_by_priority(
         push_priority(&mut sorted, &units, priority)?;
     }
     Ok(sorted)
+}
+
+// Of units those that have grants, wherever it is.
+fn holders_of(alloc: Global, table: &GrantTable, units: &[Entry]) -> Result<Vec<Entry>, OutOfMemory>
+    requires { AllByRecursion (IsEntry table.now) units.now }
+    ensures { IfOk result (λ holders. holders.items ≡ filter (holds_some table.now.entries) units.now) }
+{
+    let mut holders = Vec::new(alloc);
+    for e in units {
+        if table.held(e.app, e.unit) > 0 {
+            holders.push(*e)?;
+        }
+    }
+    Ok(holders)
+}
+
+/// The units that have grants, in the order of the walk.
+pub(crate) fn holders_by_priority(
+    alloc: Global,
+    table: &GrantTable,
+) -> Result<Vec<Entry>, OutOfMemory>
+    ensures { IfOk result (λ holders. AreHolders table.now holders.items) }
+{
+    let _cluster = table.cluster();
+    let units = units_by_priority(alloc, table)?;
+    holders_of(alloc, table, &units)
 }
 
 /// Of units those that have grants on a machine, with their number there.

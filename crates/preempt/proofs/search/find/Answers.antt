@@ -1,9 +1,20 @@
 use Rattle.std.proofs.Common.{◌≡◌, ◌-◌, None, Some, map, take, sym, ◌∙◌, ap, subst, arith}
+use Rattle.std.specs.List.{AllByRecursion}
 use Rattle.written_roles.specs.Preemption.{first_plan_in, falling_priorities}
 use Rattle.preempt.specs.Given.{board_at, pair_of}
 use Rattle.preempt.specs.Search.{IsFound, pairs_at}
-use Rattle.preempt.proofs.Served.{down_to, passed_priority, found_priority, same_plan}
+use Rattle.preempt.specs.Shelves.{HasNoVictims}
+use Rattle.preempt.proofs.Served.{down_to, line_without, passed_priority, found_priority, same_plan}
 use Rattle.preempt.proofs.search.find.Goals as goal
+
+pub returns-then-not-may_any_take-clause-plan : goal.returns-then-not-may_any_take-clause-plan
+returns-then-not-may_any_take-clause-plan g c = λ B is.
+    let t = c.args.table.now in
+    let usable = g.P.Asking.usable c.args.placer.now in
+    let line = g.P.Asking.line c.args.placer.now in
+    let pairs = ap (map pair_of) c.deref-3.ensures.value ∙ c.in_ok-waiting.ensures.pairs in
+    let none = subst (AllByRecursion (HasNoVictims t)) pairs (c.may_any_take.ensures c.if-not-may_any_take.true) in
+    sym (same_plan B t usable is line c.requires ∙ line_without t usable line none)
 
 pub returns-in-Some-clause-plan : goal.returns-in-Some-clause-plan
 returns-in-Some-clause-plan g c = λ B is.

@@ -6,11 +6,21 @@ use Rattle.written_roles.specs.Preemption.{victims_in}
 use Rattle.preempt.specs.Given.{board_of, pair_of}
 use Rattle.preempt.specs.Plans.{AreTakable, losers_of}
 use Rattle.preempt.proofs.CountedAsWritten.{at_index}
-use Rattle.preempt.proofs.Served.{shelf_at, wide_found, passed_closed, passed_without, found_here}
+use Rattle.preempt.proofs.MachineRoomsLemmas.{machine_beyond}
+use Rattle.preempt.proofs.Served.{shelf_at, passed_closed, passed_none, passed_without, found_here}
+use Rattle.preempt.proofs.ShelvesLemmas.{resources_few}
 use Rattle.preempt.proofs.search.first_machine.Goals as goal
 
-pub returns-in-None : goal.returns-in-None
-returns-in-None g c = wide_found c.args.table.now (g.P.Asking.usable c.args.placer.now) (pair_of c.args.e.now) c.in-None.ensures
+pub loop-number-preserved-then-not-is_within : goal.loop-number-preserved-then-not-is_within
+loop-number-preserved-then-not-is_within g c =
+    let t = c.args.table.now in
+    let e = c.args.e.now in
+    let n = c.loop-number.number in
+    let same = ap (λ (x : ClusterRecord). length x.machines) c.cluster-cluster.ensures.cluster in
+    let there : n < length t.cluster.machines = let a = c.loop-number-test.true in let b = c.machines-number-end.ensures.number in omega (arith, a, b, same) in
+    passed_none t (g.P.Asking.usable c.args.placer.now) (pair_of e) n
+    (machine_beyond t e c.requires.entry c.args.need.now c.requires.wanted c.args.rooms.now n c.requires.rooms there (resources_few t.cluster c.cluster-cluster.ensures.sound.valid) (sym c.is_within.ensures ∙ c.if-not-is_within.true))
+    c.loop-number.invariant
 
 pub loop-number-preserved-then-not-accepts : goal.loop-number-preserved-then-not-accepts
 loop-number-preserved-then-not-accepts g c = passed_closed c.args.table.now (g.P.Asking.usable c.args.placer.now) (pair_of c.args.e.now) c.loop-number.number (sym c.accepts.ensures ∙ c.if-not-accepts.true) c.loop-number.invariant
@@ -23,8 +33,8 @@ pub victims_for-requires-clause-small : goal.victims_for-requires-clause-small
 victims_for-requires-clause-small g c = λ k d lt. (at_index _ c.index-shelves-number.result.entries.items k d lt (c.requires.shelves.each c.loop-number.number c.index-shelves-number.result (shelf_at c.args.shelves.now c.loop-number.number c.index-shelves-number.result
     (let same = ap (λ (x : ClusterRecord). length x.machines) c.cluster-cluster.ensures.cluster in let a = c.loop-number-test.true in let b = c.machines-number-end.ensures.number in let l = c.requires.shelves.long in omega (arith, a, b, same, l)) c.index-shelves-number.is)).each).small
 
-pub returns-in-Some-2 : goal.returns-in-Some-2
-returns-in-Some-2 g c =
+pub returns-in-Some : goal.returns-in-Some
+returns-in-Some g c =
     let t = c.args.table.now in
     let e = c.args.e.now in
     let n = c.loop-number.number in
@@ -35,10 +45,10 @@ returns-in-Some-2 g c =
     let same = ap (λ (x : ClusterRecord). length x.machines) c.cluster-cluster.ensures.cluster in
     let there : n < length t.cluster.machines = let a = c.loop-number-test.true in let b = c.machines-number-end.ensures.number in omega (arith, a, b, same) in
     let found : victims_in (board_of t) t.entries (spot e.app.0 e.unit.0 n) ≡ Some (losers_of n vs) =
-    subst (λ o. MatchOption o (victims_in (board_of t) t.entries (spot e.app.0 e.unit.0 n) ≡ None) (λ xs. victims_in (board_of t) t.entries (spot e.app.0 e.unit.0 n) ≡ Some (losers_of n xs.items))) c.in-Some-2.is (c.in_ok-victims.ensures.found t n sound c.requires.groups c.requires.entry c.in-Some.ensures shelf)
+    subst (λ o. MatchOption o (victims_in (board_of t) t.entries (spot e.app.0 e.unit.0 n) ≡ None) (λ xs. victims_in (board_of t) t.entries (spot e.app.0 e.unit.0 n) ≡ Some (losers_of n xs.items))) c.in-Some.is (c.in_ok-victims.ensures.found t n sound c.requires.groups c.requires.entry c.requires.wanted shelf)
     ∙ ap (λ xs. Some (losers_of n xs)) (sym c.of-victims.ensures) in
     let takable : AreTakable t n vs =
-    subst (AreTakable t n) (sym c.of-victims.ensures) (subst (λ o. IfSome o (λ xs. AreTakable t n xs.items)) c.in-Some-2.is (c.in_ok-victims.ensures.takable t n sound c.requires.groups c.requires.entry c.in-Some.ensures shelf)) in
+    subst (AreTakable t n) (sym c.of-victims.ensures) (subst (λ o. IfSome o (λ xs. AreTakable t n xs.items)) c.in-Some.is (c.in_ok-victims.ensures.takable t n sound c.requires.groups c.requires.entry c.requires.wanted shelf)) in
     found_here t (g.P.Asking.usable c.args.placer.now) (record { pick = record { app = e.app; unit = e.unit; machine = record { 0 = n } }; victims = vs }) sound c.requires.entry.unit there
     (sym c.accepts.ensures ∙ c.if-not-accepts.false) found takable c.loop-number.invariant
 
@@ -50,5 +60,5 @@ loop-number-preserved g c =
     let shelf = c.requires.shelves.each n c.index-shelves-number.result (shelf_at c.args.shelves.now n c.index-shelves-number.result
     (let same = ap (λ (x : ClusterRecord). length x.machines) c.cluster-cluster.ensures.cluster in let a = c.loop-number-test.true in let b = c.machines-number-end.ensures.number in let l = c.requires.shelves.long in omega (arith, a, b, same, l)) c.index-shelves-number.is) in
     let none : victims_in (board_of t) t.entries (spot e.app.0 e.unit.0 n) ≡ None =
-    subst (λ o. MatchOption o (victims_in (board_of t) t.entries (spot e.app.0 e.unit.0 n) ≡ None) (λ xs. victims_in (board_of t) t.entries (spot e.app.0 e.unit.0 n) ≡ Some (losers_of n xs.items))) c.in-None-2.is (c.in_ok-victims.ensures.found t n c.cluster-cluster.ensures.sound c.requires.groups c.requires.entry c.in-Some.ensures shelf) in
+    subst (λ o. MatchOption o (victims_in (board_of t) t.entries (spot e.app.0 e.unit.0 n) ≡ None) (λ xs. victims_in (board_of t) t.entries (spot e.app.0 e.unit.0 n) ≡ Some (losers_of n xs.items))) c.in-None.is (c.in_ok-victims.ensures.found t n c.cluster-cluster.ensures.sound c.requires.groups c.requires.entry c.requires.wanted shelf) in
     passed_without t (g.P.Asking.usable c.args.placer.now) (pair_of e) n (sym c.accepts.ensures ∙ c.if-not-accepts.false) none c.loop-number.invariant

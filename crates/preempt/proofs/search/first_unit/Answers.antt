@@ -13,7 +13,7 @@ returns-in-Some g c =
     let usable = g.P.Asking.usable c.args.placer.now in
     let f = c.if-e-priority.false in
     found_unit t usable c.args.priority es k no_entry c.in-Some.plan c.loop-e-test.true (of_priority_at t c.args.priority es k c.loop-e-test.true c.requires.entries (grind (arith, nat_tests, f)))
-    (subst (IsFound t usable (pairs_on t usable (pair_of (get_or es k no_entry)))) c.in-Some.is c.in_ok-plan.ensures) c.loop-e.invariant
+    (subst (IsFound t usable (pairs_on t usable (pair_of (get_or es k no_entry)))) c.in-Some.is c.in_ok-plan.ensures.found) c.loop-e.invariant.passed
 
 pub loop-e-preserved : goal.loop-e-preserved
 loop-e-preserved g c =
@@ -22,5 +22,8 @@ loop-e-preserved g c =
     let k = c.loop-e.e-index in
     let usable = g.P.Asking.usable c.args.placer.now in
     let f = c.if-e-priority.false in
-    passed_unit t usable c.args.priority es k no_entry c.loop-e-test.true (of_priority_at t c.args.priority es k c.loop-e-test.true c.requires.entries (grind (arith, nat_tests, f)))
-    (subst (IsFound t usable (pairs_on t usable (pair_of (get_or es k no_entry)))) c.in-None.is c.in_ok-plan.ensures) c.loop-e.invariant
+    record {
+      passed = passed_unit t usable c.args.priority es k no_entry c.loop-e-test.true (of_priority_at t c.args.priority es k c.loop-e-test.true c.requires.entries (grind (arith, nat_tests, f)))
+          (subst (IsFound t usable (pairs_on t usable (pair_of (get_or es k no_entry)))) c.in-None.is c.in_ok-plan.ensures.found) c.loop-e.invariant.passed;
+      kinds = c.in_ok-plan.ensures.kinds;
+    }

@@ -1,10 +1,8 @@
 use Rattle.std.proofs.Common.{◌≡◌, ℕ, get_or, sym, ◌∙◌, ap, subst, arith}
-use Rattle.std.specs.List.{AllByRecursion, flat_map}
+use Rattle.std.specs.List.{AllByRecursion}
 use Rattle.fuxi_terms.specs.Cluster.{ClusterRecord, has_at}
 use Rattle.fuxi_terms.proofs.ByPlace.{at_place-get_or}
 use Rattle.preempt.specs.Shelves.{IsLow, IsLoose}
-use Rattle.preempt.specs.Walks.{entry_on}
-use Rattle.preempt.proofs.Admitted.{walk_is}
 use Rattle.preempt.proofs.ShelvesLemmas.{has_is, resources_few}
 use Rattle.preempt.proofs.shelf.shelf_of.Goals as goal
 
@@ -18,9 +16,9 @@ returns-clause-shelf g c =
     let count : c.resources-resources.result ≡ t.cluster.resources = c.resources-resources.ensures.number ∙ ap (λ (x : ClusterRecord). x.resources) same in
     let has : (i : ℕ) → get_or c.machine.result.now.has.q i 0 ≡ has_at t.cluster m i = λ i. has_is c.cluster-cluster.result.now.machines m c.machine.result.now c.machine.ensures i ∙ ap (λ (x : ClusterRecord). has_at x m i) same in
     record {
-      walk = c.in_ok-entries.ensures.entries ∙ ap (flat_map (entry_on t.entries m)) c.requires.pairs ∙ sym (walk_is t s m);
+      walk = c.in_ok-entries.ensures.entries ∙ c.requires.holders.lists m;
       each = c.in_ok-entries.ensures.each;
-      few = let a = c.in_ok-entries.ensures.few in let b = c.requires.few in omega (arith, a, b);
+      few = let a = c.in_ok-entries.ensures.few in let b = c.requires.holders.few in omega (arith, a, b);
       has = λ i lt. has i;
       used = λ i lt.
           let u = c.used_of.ensures i (omega (arith, lt, eight)) in

@@ -1,0 +1,175 @@
+-- Beyond the room on a machine there are no victims.
+use Rattle.std.proofs.Common.{◌≡◌, ℕ, zero, suc, ◌+◌, ◌-◌, ◌<◌, ◌≤◌, Bool, true, false, not, nat_lt, min, max, List, [], ◌∷◌, ◌++◌, length, map, get_or, Some, None, refl, sym, ◌∙◌, ap, subst, arith, length-append}
+use Rattle.std.specs.Prelude.{◌&&◌, slice_get, slice_index}
+use Rattle.std.specs.List.{AllByRecursion}
+use Rattle.std.proofs.lemmas.Bool.Decides.{nat_tests}
+use Rattle.fuxi_terms.specs.Cluster.{has_at, limit_at}
+use Rattle.fuxi_terms.specs.Jobs.{group_of, size_at}
+use Rattle.fuxi_terms.specs.Keys.{Spot}
+use Rattle.fuxi_terms.specs.Lists.{below_each}
+use Rattle.fuxi_terms.specs.Tables.{spot, total_at, usage_at}
+use Rattle.fuxi_terms.proofs.Booleans.{and_true, not_false}
+use Rattle.fuxi_terms.proofs.Lists.{all_at}
+use Rattle.written_roles.specs.Preemption.{set_by, part_by, is_enough_in, walk_in, victims_in}
+use Rattle.grant_table.specs.GrantTables.{TableRecord, as_known}
+use Rattle.preempt.specs.Counted.{singles, counted_most, entries_on}
+use Rattle.preempt.specs.declared.entry.Entry.{Entry}
+use Rattle.preempt.specs.declared.entry.Need.{Need}
+use Rattle.preempt.specs.declared.entry.GroupUse.{GroupUse}
+use Rattle.preempt.specs.declared.entry.Sums.{Sums}
+use Rattle.preempt.specs.declared.room.Rooms.{Rooms}
+use Rattle.preempt.specs.declared.shelf.Shelf.{Shelf}
+use Rattle.preempt.specs.Given.{board_of, no_group, written, pair_of, IsEntry, AreGroups, IsMost}
+use Rattle.preempt.specs.GrantNumbers.{total_in, part_in}
+use Rattle.preempt.specs.GroupSums.{no_sums}
+use Rattle.preempt.specs.MachineRooms.{within_at, IsRoom, IsNarrower, AreRooms, IsFor, IsPlaceFor, AreRoomsFor}
+use Rattle.preempt.specs.Shelves.{IsShelf, IsWanted}
+use Rattle.preempt.proofs.Sums.{not_fit, not_allowed}
+use Rattle.preempt.proofs.CountedAsWritten.{size_is, total_is, part_is}
+use Rattle.preempt.proofs.MostTaken.{most_in, most_whole, none_of_most}
+use Rattle.preempt.proofs.UnitSteps.{got}
+
+-- ---- one machine
+-- the sums of all that may be taken on a machine, and what they leave of what it has and of what the group may use
+pub record AreLeft (groups : List GroupUse) (shelf : Shelf) (n : Need) (set : List Entry) (room : List ℕ) : Type 0 where
+  pub all : List ℕ
+  pub own : List ℕ
+  pub fits : List ℕ
+  pub allowed : List ℕ
+  pub all_is : (i : ℕ) → i < 8 → slice_index all i ≡ total_in i set
+  pub own_is : (i : ℕ) → i < 8 → slice_index own i ≡ part_in n.group i set
+  pub fits_is : (i : ℕ) → i < 8 → slice_index fits i ≡ (slice_index shelf.has i + slice_index all i) - slice_index shelf.used i
+  pub allowed_is : (i : ℕ) → i < 8 → slice_index allowed i ≡ (slice_index (get_or groups n.group no_group).limit i + slice_index own i) - slice_index (get_or groups n.group no_group).used i
+  pub room_is : (i : ℕ) → i < 8 → slice_index room i ≡ min (slice_index fits i) (slice_index allowed i)
+
+pub beyond_none : (t : TableRecord) (groups : List GroupUse) (m : ℕ) (shelf : Shelf) (n : Need) (set : List Entry) (room : List ℕ) (a u i : ℕ)
+    → AreGroups t groups → IsShelf t groups m shelf → IsMost t (spot a u m) shelf.entries.items set → AreLeft groups shelf n set room → n.group < 32 → n.group ≡ group_of (as_known t.jobs) a
+    → i < t.cluster.resources → i < 8 → slice_index room i < size_at (as_known t.jobs) a u i → victims_in (board_of t) t.entries (spot a u m) ≡ None
+beyond_none t groups m shelf n set room a u i are is most left small group lt few more =
+    none_of_most (board_of t) t.entries (spot a u m) (ap (λ x. is_enough_in (board_of t) t.entries (spot a u m) x) whole ∙ by (nat_lt (slice_index left.fits i) size) refl)
+  where
+    size : ℕ
+    size = size_at (as_known t.jobs) a u i
+
+    all : List Spot
+    all = singles (map (written m) set)
+
+    whole : most_in (walk_in (board_of t).priorities t.entries m) (board_of t) t.entries (spot a u m) [] ≡ all
+    whole = most_whole (board_of t) t.entries (spot a u m) (entries_on (board_of t) t.entries m) []
+        ∙ ap (λ es. singles (counted_most es (board_of t) t.entries (spot a u m) [])) (sym is.walk)
+        ∙ ap (λ es. singles es) (sym most.counted)
+
+    by : (b : Bool) → nat_lt (slice_index left.fits i) size ≡ b → is_enough_in (board_of t) t.entries (spot a u m) all ≡ false
+    by true e =
+        let less : slice_index left.fits i < size = grind (arith, nat_tests, e) in
+        let f = left.fits_is i few in
+        let s = left.all_is i few ∙ total_is t m i set lt most.each in
+        let h = is.has i lt in
+        let w = is.used i lt in
+        let short : has_at t.cluster m i + set_by (size_at (as_known t.jobs)) i all < total_at (as_known t.jobs) m i t.entries + size = omega (arith, less, f, s, h, w) in
+        not_fit (board_of t) t.entries (spot a u m) all i lt short
+    by false e =
+        let le : size ≤ slice_index left.fits i = grind (arith, nat_tests, e) in
+        let r = left.room_is i few in
+        let f = left.allowed_is i few in
+        let g = group_of (as_known t.jobs) a in
+        let s = left.own_is i few ∙ part_is t m n.group i set lt most.each ∙ ap (λ g. part_by (group_of (as_known t.jobs)) (size_at (as_known t.jobs)) g i all) group in
+        let x = are.each n.group small in
+        let l = x.limit i lt ∙ ap (λ g. limit_at t.cluster g i) group in
+        let w = x.used i lt ∙ ap (λ g. usage_at (as_known t.jobs) g i t.entries) group in
+        let short : limit_at t.cluster g i + part_by (group_of (as_known t.jobs)) (size_at (as_known t.jobs)) g i all < usage_at (as_known t.jobs) g i t.entries + size = omega (arith, more, le, r, f, s, l, w) in
+        not_allowed (board_of t) t.entries (spot a u m) all i lt short
+
+-- ---- a size that is not within
+record Fails (n : ℕ) (test : ℕ → Bool) : Type 0 where
+  place : ℕ
+  inside : place < n
+  is : test place ≡ false
+
+some_fails : (n : ℕ) (test : ℕ → Bool) → below_each n test ≡ false → Fails n test
+some_fails zero test e = cc
+some_fails (suc n) test e = by (below_each n test) refl (test n) refl (some_fails n test)
+  where
+    by : (b : Bool) → below_each n test ≡ b → (d : Bool) → test n ≡ d → (below_each n test ≡ false → Fails n test) → Fails (suc n) test
+    by false f d g rest = let r = rest f in record { place = r.place; inside = let i = r.inside in omega (arith, i); is = r.is }
+    by true f false g rest = record { place = n; inside = omega arith; is = g }
+    by true f true g rest = let whole : (below_each n test && test n) ≡ true = and_true (below_each n test) (test n) f g in absurd (let x : ⊥ = cc in x)
+
+module _ (t : TableRecord) (e : Entry) (h : IsEntry t e) (n : Need) (wanted : IsWanted t e.app.0 e.unit.0 n) where
+  -- where some number of a room, or of one that it is narrower than, is below the size
+  beyond_room : (m : ℕ) (room wide : List ℕ) → IsRoom t n.group n.priority n.guaranteed m room → IsNarrower wide room → t.cluster.resources ≤ 8 → below_each n.resources (within_at e.size wide) ≡ false
+      → victims_in (board_of t) t.entries (spot e.app.0 e.unit.0 m) ≡ None
+  beyond_room m room wide is narrower few f =
+      let fails = some_fails n.resources (within_at e.size wide) f in
+      let i = fails.place in
+      let inside = fails.inside in
+      let resources = wanted.resources in
+      let lt : i < t.cluster.resources = omega (arith, inside, resources) in
+      let test : nat_lt (slice_index wide i) (slice_index e.size i) ≡ true = not_false (nat_lt (slice_index wide i) (slice_index e.size i)) fails.is in
+      let less : slice_index wide i < slice_index e.size i = grind (arith, nat_tests, test) in
+      let le = narrower.each i (omega (arith, lt, few)) in
+      let size = size_is t e h i in
+      is.beyond e.app.0 e.unit.0 i wanted.group wanted.priority wanted.guaranteed lt (omega (arith, less, le, size))
+
+  pub machine_beyond : (rooms : List Sums) (m : ℕ) → AreRoomsFor t n rooms → m < length t.cluster.machines → t.cluster.resources ≤ 8 → below_each n.resources (within_at e.size (get_or rooms m no_sums).q) ≡ false
+      → victims_in (board_of t) t.entries (spot e.app.0 e.unit.0 m) ≡ None
+  machine_beyond rooms m are lt few f =
+      let long = are.long in
+      let x = get_or rooms m no_sums in
+      beyond_room m x.q x.q (are.each m x (got (λ _. true) rooms m no_sums (omega (arith, lt, long)))) (record { each = λ i _. omega arith }) few f
+
+  pub all_beyond : (rooms : Rooms) → AreRooms t rooms → AreRoomsFor t n rooms.each.items → t.cluster.resources ≤ 8 → below_each n.resources (within_at e.size rooms.widest) ≡ false
+      → (m : ℕ) → m < length t.cluster.machines → victims_in (board_of t) t.entries (spot e.app.0 e.unit.0 m) ≡ None
+  all_beyond rooms are by_machine few f m lt =
+      let long = are.long in
+      let x = get_or rooms.each.items m no_sums in
+      let there = got (λ _. true) rooms.each.items m no_sums (omega (arith, lt, long)) in
+      beyond_room m x.q rooms.widest (by_machine.each m x there) (are.narrower m x there) few f
+
+-- ---- the rooms of a kind
+pub rooms_for : (t : TableRecord) (n : Need) (r : Rooms) → AreRooms t r → IsFor n r → AreRoomsFor t n r.each.items
+rooms_for t n r are is = record {
+  long = are.long;
+  each = λ m x there. let room = are.rooms m x there in
+      subst (λ g. IsRoom t g n.priority n.guaranteed m x.q) is.group (subst (λ p. IsRoom t r.group p n.guaranteed m x.q) is.priority (subst (λ b. IsRoom t r.group r.priority b m x.q) is.guaranteed room));
+}
+
+pub place_is : (t : TableRecord) (n : Need) (kinds : List Rooms) (at : ℕ) (x : Rooms) → IsPlaceFor n kinds at → AllByRecursion (AreRooms t) kinds → x ≡ get_or kinds at x → AreRooms t x × IsFor n x
+place_is t n kinds at x is all same =
+    let there = got (λ _. true) kinds at x is.inside ∙ ap (λ y. Some y) (sym same) in
+    (all_at (AreRooms t) kinds at x all there, is.is x there)
+
+pub place_found : (n : Need) (kinds : List Rooms) (at : ℕ) (x : Rooms) → at < length kinds → x ≡ get_or kinds at x → IsFor n x → IsPlaceFor n kinds at
+place_found n kinds at x lt same is = record {
+  inside = lt;
+  is = λ r e.
+      let there : Some x ≡ Some r = sym (got (λ _. true) kinds at x lt ∙ ap (λ y. Some y) (sym same)) ∙ e in
+      let one : x ≡ r = cc in
+      subst (IsFor n) one is;
+}
+
+got_last : {A : Type 0} (xs : List A) (x : A) → slice_get (xs ++ x ∷ []) (length xs) ≡ Some x
+got_last [] x = refl
+got_last (y ∷ ys) x = got_last ys x
+
+pub place_pushed : (n : Need) (kinds : List Rooms) (x : Rooms) → IsFor n x → IsPlaceFor n (kinds ++ x ∷ []) (length kinds)
+place_pushed n kinds x is = record {
+  inside = let a = length-append kinds (x ∷ []) in omega (arith, a);
+  is = λ r e.
+      let there : Some x ≡ Some r = sym (got_last kinds x) ∙ e in
+      let one : x ≡ r = cc in
+      subst (IsFor n) one is;
+}
+
+-- ---- one machine more
+pub each_more : {A : Type 0} (P : ℕ → A → Type 0) (xs : List A) (x : A) → ((m : ℕ) (y : A) → slice_get xs m ≡ Some y → P m y) → P (length xs) x → (m : ℕ) (y : A) → slice_get (xs ++ x ∷ []) m ≡ Some y → P m y
+each_more P [] x h k zero y e = let same : x ≡ y = cc in subst (P 0) same k
+each_more P [] x h k (suc m) y e = cc
+each_more P (z ∷ zs) x h k zero y e = h zero y e
+each_more P (z ∷ zs) x h k (suc m) y e = each_more (λ n. P (suc n)) zs x (λ n w q. h (suc n) w q) k m y e
+
+pub narrower_more : (old new room : List ℕ) → ((i : ℕ) → i < 8 → slice_index new i ≡ max (slice_index old i) (slice_index room i)) → IsNarrower new room × ((x : List ℕ) → IsNarrower old x → IsNarrower new x)
+narrower_more old new room is = (
+  record { each = λ i lt. let e = is i lt in omega (arith, e) },
+  λ x h. record { each = λ i lt. let e = is i lt in let l = h.each i lt in omega (arith, e, l) },
+)

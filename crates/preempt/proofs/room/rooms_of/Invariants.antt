@@ -1,0 +1,12 @@
+use Rattle.std.proofs.Common.{◌≡◌, ℕ, length, Some}
+use Rattle.std.specs.Prelude.{slice_get}
+use Rattle.preempt.specs.declared.entry.Sums.{Sums}
+use Rattle.preempt.specs.MachineRooms.{IsRoom, IsNarrower}
+use Rattle.preempt.proofs.room.rooms_of.Given as goal
+
+abbrev pub invariant-loop-shelf : goal.invariant-loop-shelf
+invariant-loop-shelf l = record {
+  long : length l.each.items ≡ l.shelf-index;
+  rooms : (m : ℕ) (x : Sums) → slice_get l.each.items m ≡ Some x → IsRoom l.table l.need.group l.need.priority l.need.guaranteed m x.q;
+  narrower : (m : ℕ) (x : Sums) → slice_get l.each.items m ≡ Some x → IsNarrower l.widest x.q;
+}

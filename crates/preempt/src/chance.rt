@@ -1,0 +1,54 @@
+//! Whether any unit that waits may take any grant at all. It is asked before anything is kept of machines.
+
+ghost use Rattle.std.specs.Prelude.{◌≡◌, ◌<◌, false, List, map};
+ghost use Rattle.std.specs.List.{AllByRecursion};
+ghost use Rattle.preempt.specs.declared.entry.Entry.{Entry};
+ghost use Rattle.preempt.specs.Given.{AreGroups, IsEntry, pair_of};
+ghost use Rattle.preempt.specs.Shelves.{AreHolders, HasNoVictims, IsLoose, IsLow};
+
+use crate::entry::{Entry, GroupUse};
+use crate::need::need_of;
+use crate::shelf::{Loose, loose_of, lowest_of, may_take_some};
+use grant_table::GrantTable;
+
+// Whether a unit may take any of the grants that have these bounds.
+fn may_take_of(
+    table: &GrantTable,
+    groups: &[GroupUse],
+    e: &Entry,
+    lowest: &[u8; 32],
+    loose: Loose,
+) -> bool
+    requires entry { IsEntry table.now e.now }
+    requires groups { AreGroups table.now groups.now }
+    ensures { result ≡ false → (holders : List Entry) → AreHolders table.now holders → AllByRecursion (IsLow lowest.now) holders → AllByRecursion (IsLoose table.now.cluster.resources groups.now loose) holders → HasNoVictims table.now (pair_of e.now) }
+{
+    let _cluster = table.cluster();
+    match need_of(table, &groups[e.group], e) {
+        Some(need) => may_take_some(&need, lowest, loose),
+        None => false,
+    }
+}
+
+/// Whether any unit that waits may take any grant of those that have some.
+pub(crate) fn may_any_take(
+    table: &GrantTable,
+    groups: &[GroupUse],
+    holders: &[Entry],
+    waiting: &[Entry],
+) -> bool
+    requires groups { AreGroups table.now groups.now }
+    requires holders { AreHolders table.now holders.now }
+    requires entries { AllByRecursion (IsEntry table.now) waiting.now }
+    ensures { result ≡ false → AllByRecursion (HasNoVictims table.now) (map pair_of waiting.now) }
+{
+    let resources = table.cluster().resources() as usize;
+    let lowest = lowest_of(holders);
+    let loose = loose_of(holders, resources, groups);
+    for e in waiting {
+        if may_take_of(table, groups, e, &lowest, loose) {
+            return true;
+        }
+    }
+    false
+}

@@ -1,0 +1,191 @@
+//! What there is room for on each machine, once all that may be taken there is gone. A unit that needs more has no
+//! victims, so that its machine is not walked.
+
+ghost use Rattle.std.specs.Prelude.{◌≡◌, ℕ, ◌+◌, ◌-◌, ◌^◌, ◌<◌, ◌≤◌, true, max, min, length, slice_index, IfOk, IfSome, OnOk};
+ghost use Rattle.std.specs.List.{All, AllByRecursion};
+ghost use Rattle.fuxi_terms.specs.Lists.{below_each};
+ghost use Rattle.grant_table.specs.GrantTables.{TableRecord};
+ghost use Rattle.preempt.specs.Given.{AreGroups};
+ghost use Rattle.preempt.specs.MachineRooms.{AreRooms, IsFor, IsPlaceFor, IsRoom, within_at};
+ghost use Rattle.preempt.specs.Shelves.{AreShelves, IsShelf};
+
+use crate::entry::{Entry, GroupUse, Need, Sums, part_of, total_of};
+use crate::shelf::Shelf;
+use crate::victims::take_most;
+use fuxi_terms::OutOfMemory;
+use grant_table::GrantTable;
+use std::alloc::Global;
+
+/// The rooms for units of one group and priority, that have quota left for one more or have not.
+#[derive(Drop)]
+pub(crate) struct Rooms {
+    pub(crate) group: usize,
+    pub(crate) priority: u8,
+    pub(crate) guaranteed: bool,
+    /// By machine.
+    pub(crate) each: Vec<Sums>,
+    /// Place by place the greatest of them.
+    pub(crate) widest: [u128; 8],
+}
+
+/// Whether a size needs no more than there is room for, in each of so many resources.
+pub(crate) fn is_within(resources: usize, size: &[u64; 8], room: &[u128; 8]) -> bool
+    requires { resources ≤ 8 }
+    ensures { result ≡ below_each resources (within_at size.now room.now) }
+{
+    let mut all = true;
+    for i in 0..resources {
+        let more = room[i] < size[i] as u128;
+        all = all && !more;
+    }
+    all
+}
+
+// Place by place the greater.
+fn greater_of(a: &[u128; 8], b: &[u128; 8]) -> [u128; 8]
+    ensures { (i : ℕ) → i < 8 → slice_index result i ≡ max (slice_index a.now i) (slice_index b.now i) }
+{
+    let mut q = [0; 8];
+    for i in 0..8 {
+        q[i] = a[i].max(b[i]);
+    }
+    q
+}
+
+// Place by place the smaller.
+fn smaller_of(a: &[u128; 8], b: &[u128; 8]) -> [u128; 8]
+    ensures { (i : ℕ) → i < 8 → slice_index result i ≡ min (slice_index a.now i) (slice_index b.now i) }
+{
+    let mut q = [0; 8];
+    for i in 0..8 {
+        q[i] = a[i].min(b[i]);
+    }
+    q
+}
+
+// What is left of what there is and of these sums, where so much is used.
+fn left_of(has: &[u64; 8], sums: &[u128; 8], used: &[u64; 8]) -> [u128; 8]
+    requires { (i : ℕ) → i < 8 → slice_index sums.now i < 2 ^ 127 }
+    ensures { (i : ℕ) → i < 8 → slice_index result i ≡ (slice_index has.now i + slice_index sums.now i) - slice_index used.now i }
+{
+    let mut q = [0; 8];
+    for i in 0..8 {
+        let whole = has[i] as u128 + sums[i];
+        q[i] = whole.saturating_sub(used[i] as u128);
+    }
+    q
+}
+
+// What there is room for on a machine, once all that may be taken there is gone: it fits, and its group may use it.
+fn room_on(
+    shelf: &Shelf,
+    need: &Need,
+    groups: &[GroupUse],
+    set: &mut Vec<Entry>,
+) -> Result<Sums, OutOfMemory>
+    requires resources { need.now.resources ≤ 8 }
+    requires own { need.now.group < 32 }
+    requires few { length shelf.now.entries.items ≤ 1000000 }
+    requires small { All (λ e. e.group < 32) shelf.now.entries.items }
+    requires long { length groups.now ≡ 32 }
+    ensures { IfOk result (λ room. (t : TableRecord) (m : ℕ) → AreGroups t groups.now → IsShelf t groups.now m shelf.now → need.now.resources ≡ t.cluster.resources → IsRoom t need.now.group need.now.priority need.now.guaranteed m room.q) }
+{
+    take_most(set, &shelf.entries, need, groups)?;
+    let all = total_of(set);
+    let own = part_of(set, need.group);
+    let group = &groups[need.group];
+    let fits = left_of(&shelf.has, &all, &shelf.used);
+    let allowed = left_of(&group.limit, &own, &group.used);
+    Ok(Sums {
+        q: smaller_of(&fits, &allowed),
+    })
+}
+
+// The rooms for units of the kind of a need.
+fn rooms_of(
+    alloc: Global,
+    table: &GrantTable,
+    groups: &[GroupUse],
+    shelves: &[Shelf],
+    need: &Need,
+    set: &mut Vec<Entry>,
+) -> Result<Rooms, OutOfMemory>
+    requires groups { AreGroups table.now groups.now }
+    requires shelves { AreShelves table.now groups.now shelves.now }
+    requires resources { need.now.resources ≡ table.now.cluster.resources }
+    requires own { need.now.group < 32 }
+    ensures rooms { IfOk result (AreRooms table.now) }
+    ensures kind { IfOk result (IsFor need.now) }
+{
+    let _cluster = table.cluster();
+    let mut each = Vec::new(alloc);
+    let mut widest = [0; 8];
+    for shelf in shelves {
+        let room = room_on(shelf, need, groups, set)?;
+        widest = greater_of(&widest, &room.q);
+        each.push(room)?;
+    }
+    Ok(Rooms {
+        group: need.group,
+        priority: need.priority,
+        guaranteed: need.guaranteed,
+        each,
+        widest,
+    })
+}
+
+// Whether the rooms are for units of the kind of a need.
+fn are_for(rooms: &Rooms, need: &Need) -> bool
+    ensures { result ≡ true → IsFor need.now rooms.now }
+{
+    if rooms.group != need.group {
+        return false;
+    }
+    if rooms.priority != need.priority {
+        return false;
+    }
+    match need.guaranteed {
+        true => rooms.guaranteed,
+        false => !rooms.guaranteed,
+    }
+}
+
+// The place of the rooms for units of the kind of a need.
+fn place_for(kinds: &[Rooms], need: &Need) -> Option<usize>
+    ensures { IfSome result (IsPlaceFor need.now kinds.now) }
+{
+    for at in 0..kinds.len() {
+        if are_for(&kinds[at], need) {
+            return Some(at);
+        }
+    }
+    None
+}
+
+/// The place of the rooms for units of the kind of a need. They are made where they are not there.
+pub(crate) fn rooms_at(
+    alloc: Global,
+    table: &GrantTable,
+    groups: &[GroupUse],
+    shelves: &[Shelf],
+    need: &Need,
+    kinds: &mut Vec<Rooms>,
+    set: &mut Vec<Entry>,
+) -> Result<usize, OutOfMemory>
+    requires groups { AreGroups table.now groups.now }
+    requires shelves { AreShelves table.now groups.now shelves.now }
+    requires resources { need.now.resources ≡ table.now.cluster.resources }
+    requires own { need.now.group < 32 }
+    requires kinds { AllByRecursion (AreRooms table.now) kinds.old.items }
+    ensures rooms { OnOk result (AllByRecursion (AreRooms table.now) kinds.new.items) }
+    ensures place { IfOk result (IsPlaceFor need.now kinds.new.items) }
+{
+    match place_for(kinds, need) {
+        Some(at) => return Ok(at),
+        None => {}
+    }
+    let at = kinds.len();
+    let rooms = rooms_of(alloc, table, groups, shelves, need, set)?;
+    kinds.push(rooms)?;
+    Ok(at)
+}
