@@ -13,12 +13,12 @@ use Rattle.fuxi_terms.proofs.ByPlace.{at_place-get_or}
 use Rattle.fuxi_terms.proofs.Lists.{all_push}
 use Rattle.written_roles.specs.Preemption.{so_many, set_by, part_by}
 use Rattle.grant_table.specs.GrantTables.{TableRecord, as_known}
-use Rattle.preempt.specs.Counted.{singles, times_to_reach, times_within, greatest_of, least_of, own_size, enough_at, enough_times, spared_at, may_times, taken_count, counted_taken, counted_most, counted_kept}
+use Rattle.preempt.specs.Counted.{singles, times_to_reach, times_within, greatest_of, least_of, own_size, enough_at, enough_times, spared_at, may_times, taken_count, counted_taken, counted_kept}
 use Rattle.preempt.specs.declared.entry.Entry.{Entry}
 use Rattle.preempt.specs.declared.entry.Need.{Need}
 use Rattle.preempt.specs.declared.entry.GroupUse.{GroupUse}
 use Rattle.preempt.specs.declared.entry.Sums.{Sums}
-use Rattle.preempt.specs.Given.{board_of, no_group, written, IsEntry, IsNeed, IsKind, IsGroup, AreGroups, AreGiven, AreOffered, recounted}
+use Rattle.preempt.specs.Given.{board_of, no_group, written, IsEntry, IsNeed, IsGroup, AreGiven, recounted}
 use Rattle.preempt.specs.GrantNumbers.{needed_in_one, spared_in_one, total_in, part_in, needed_number, may_number}
 use Rattle.preempt.specs.GroupSums.{no_sums, ArePartsOf}
 use Rattle.preempt.proofs.Sums.{sum_many}
@@ -77,10 +77,7 @@ module _ (tab : TableRecord) where
       (λ i lt. λ k. max (times_to_reach (need.has i lt k + a i lt k) (need.fits i lt k) (size_is e entry i k) most)
       (times_to_reach (need.limit i lt k + o i lt k) (need.allowed i lt k) (cond (nat_eq (entry.group k) (need.group k)) (size_is e entry i k) 0) most))
 
-  pub kind_of : (t : Spot) (n : Need) → IsNeed tab t n → IsKind tab t n
-  kind_of t n need = record { resources = need.resources; group = need.group; priority = need.priority; guaranteed = need.guaranteed }
-
-  pub may_number_is : (t : Spot) (n : Need) (set : List Spot) (x : GroupUse) (part : List ℕ) (e : Entry) (m : ℕ) → IsKind tab t n → IsEntry tab e → IsGroup tab (group_of (as_known tab.jobs) e.app.0) x
+  pub may_number_is : (t : Spot) (n : Need) (set : List Spot) (x : GroupUse) (part : List ℕ) (e : Entry) (m : ℕ) → IsNeed tab t n → IsEntry tab e → IsGroup tab (group_of (as_known tab.jobs) e.app.0) x
       → ((i : ℕ) → i < tab.cluster.resources → slice_index part i ≡ part_by (group_of (as_known tab.jobs)) (size_at (as_known tab.jobs)) (group_of (as_known tab.jobs) e.app.0) i set)
       → may_number n x part e ≡ may_times (board_of tab) tab.entries t set (spot e.app.0 e.unit.0 m) e.count
   may_number_is t n set x part e m need entry group p =
@@ -112,17 +109,6 @@ module _ (tab : TableRecord) (t : Spot) where
   pub taking_starts : (entries : List Entry) → AtTaking entries 0 []
   taking_starts entries = record { each = tt; counted = refl }
 
-  most_number : (set : List Entry) (need : Need) (groups : List GroupUse) (e : Entry) (part : List ℕ) (q : ℕ)
-      → IsKind tab t need → AreGroups tab groups → AllByRecursion (IsEntry tab) set → IsEntry tab e → need.resources ≤ 8 → e.group < 32
-      → ((i : ℕ) → i < 8 → slice_index part i ≡ part_in e.group i set)
-      → q ≡ may_number need (get_or groups e.group no_group) part e
-      → q ≡ may_times (board_of tab) tab.entries t (singles (entries_of set)) (spot e.app.0 e.unit.0 t.machine) e.count
-  most_number set need groups e part q kind are each entry few inside p may =
-      let res = kind.resources in
-      let x' : IsGroup tab (group_of (as_known tab.jobs) e.app.0) (get_or groups e.group no_group) = subst (λ g. IsGroup tab g (get_or groups e.group no_group)) entry.group (are.each e.group inside) in
-      may ∙ may_number_is tab t need (singles (entries_of set)) (get_or groups e.group no_group) part e t.machine kind entry x'
-      (λ i lt. p i (omega (arith, lt, few, res)) ∙ (part_is tab t.machine e.group i set lt each ∙ ap (λ g. part_by (group_of (as_known tab.jobs)) (size_at (as_known tab.jobs)) g i (singles (entries_of set))) entry.group))
-
   taken_number : (entries set : List Entry) (need : Need) (groups : List GroupUse) (e : Entry) (sums own part : List ℕ) (q r : ℕ)
       → AreGiven tab t entries need groups → AllByRecursion (IsEntry tab) set → IsEntry tab e → need.resources ≤ 8 → e.group < 32
       → ((i : ℕ) → i < 8 → slice_index sums i ≡ total_in i set)
@@ -134,11 +120,14 @@ module _ (tab : TableRecord) (t : Spot) where
   taken_number entries set need groups e sums own part q r given each entry few inside a o p may n =
       let res = given.need.resources in
       let g = given.need.group in
-      let m = most_number set need groups e part q (kind_of tab t need given.need) given.groups_are each entry few inside p may in
+      let x = given.groups_are.each e.group inside in
+      let x' : IsGroup tab (group_of (as_known tab.jobs) e.app.0) (get_or groups e.group no_group) = subst (λ g. IsGroup tab g (get_or groups e.group no_group)) entry.group x in
+      let m = may_number_is tab t need (singles (entries_of set)) (get_or groups e.group no_group) part e t.machine given.need entry x'
+      (λ i lt. p i (omega (arith, lt, few, res)) ∙ (part_is tab t.machine e.group i set lt each ∙ ap (λ g. part_by (group_of (as_known tab.jobs)) (size_at (as_known tab.jobs)) g i (singles (entries_of set))) entry.group)) in
       n ∙ (needed_is tab t need (singles (entries_of set)) sums own e t.machine q given.need entry
       (λ i lt. a i (omega (arith, lt, few, res)) ∙ total_is tab t.machine i set lt each)
       (λ i lt. o i (omega (arith, lt, few, res)) ∙ (part_is tab t.machine need.group i set lt each ∙ ap (λ g. part_by (group_of (as_known tab.jobs)) (size_at (as_known tab.jobs)) g i (singles (entries_of set))) g))
-      ∙ ap (λ q. enough_times (board_of tab) tab.entries t (singles (entries_of set)) (spot e.app.0 e.unit.0 t.machine) q) m)
+      ∙ ap (λ q. enough_times (board_of tab) tab.entries t (singles (entries_of set)) (spot e.app.0 e.unit.0 t.machine) q) (may ∙ m))
 
   pub taking_goes_on : (entries : List Entry) (k : ℕ) (set : List Entry) (need : Need) (groups : List GroupUse) (d : Entry) (sums own part : List ℕ) (q r : ℕ)
       → AreGiven tab t entries need groups → AtTaking entries k set → k < length entries → need.resources ≤ 8 → (get_or entries k d).group < 32
@@ -158,32 +147,6 @@ module _ (tab : TableRecord) (t : Spot) where
             ap (λ x. counted_taken (entries_of (drop (k + 1) entries)) (board_of tab) tab.entries t x) (map-append (written t.machine) set (recounted e r ∷ [])
             ∙ ap (λ n. entries_of set ++ (spot e.app.0 e.unit.0 t.machine, n) ∷ []) same)
             ∙ (sym (at_drop_more (λ x. counted_taken (entries_of x) (board_of tab) tab.entries t (entries_of set)) entries k d lt)
-            ∙ at.counted);
-      }
-
-  -- the same of all that may be taken
-  pub record AtMost (entries : List Entry) (k : ℕ) (set : List Entry) : Type 0 where
-    pub each : AllByRecursion (IsEntry tab) set
-    pub counted : counted_most (entries_of (drop k entries)) (board_of tab) tab.entries t (entries_of set) ≡ counted_most (entries_of entries) (board_of tab) tab.entries t []
-
-  pub most_starts : (entries : List Entry) → AtMost entries 0 []
-  most_starts entries = record { each = tt; counted = refl }
-
-  pub most_goes_on : (entries : List Entry) (k : ℕ) (set : List Entry) (need : Need) (groups : List GroupUse) (d : Entry) (part : List ℕ) (q : ℕ)
-      → AreOffered tab t entries need groups → AtMost entries k set → k < length entries → need.resources ≤ 8 → (get_or entries k d).group < 32
-      → ((i : ℕ) → i < 8 → slice_index part i ≡ part_in (get_or entries k d).group i set)
-      → q ≡ may_number need (get_or groups (get_or entries k d).group no_group) part (get_or entries k d)
-      → AtMost entries (k + 1) (set ++ recounted (get_or entries k d) q ∷ [])
-  most_goes_on entries k set need groups d part q offered at lt few inside p may =
-      let e = get_or entries k d in
-      let entry = at_index (IsEntry tab) entries k d lt offered.each in
-      let same = most_number set need groups e part q offered.kind offered.groups_are at.each entry few inside p may in
-      record {
-        each = all_push (IsEntry tab) set (recounted e q) at.each (record { unit = entry.unit; group = entry.group; small = entry.small; priority = entry.priority; size = entry.size });
-        counted =
-            ap (λ x. counted_most (entries_of (drop (k + 1) entries)) (board_of tab) tab.entries t x) (map-append (written t.machine) set (recounted e q ∷ [])
-            ∙ ap (λ n. entries_of set ++ (spot e.app.0 e.unit.0 t.machine, n) ∷ []) same)
-            ∙ (sym (at_drop_more (λ x. counted_most (entries_of x) (board_of tab) tab.entries t (entries_of set)) entries k d lt)
             ∙ at.counted);
       }
 

@@ -4,8 +4,9 @@ pub mod RunsLeft
 pub mod Sums
 pub mod Computed
 pub mod Whole
-pub mod MostTaken
 pub mod CountedAsWritten
+pub mod MostTaken
+pub mod SparedAsWritten
 pub mod FoundPlans
 pub mod Buckets
 pub mod EntriesListed

@@ -1,84 +1,101 @@
 -- Beyond the room on a machine there are no victims.
-use Rattle.std.proofs.Common.{◌≡◌, ℕ, zero, suc, ◌+◌, ◌-◌, ◌<◌, ◌≤◌, Bool, true, false, not, nat_lt, min, max, List, [], ◌∷◌, ◌++◌, length, map, get_or, Some, None, refl, sym, ◌∙◌, ap, subst, arith, length-append}
+use Rattle.std.proofs.Common.{◌≡◌, ℕ, zero, suc, ◌+◌, ◌-◌, ◌<◌, ◌≤◌, Bool, true, false, nat_lt, min, max, List, [], ◌∷◌, ◌++◌, length, map, get_or, Some, None, refl, sym, ◌∙◌, ap, subst, arith, length-append}
 use Rattle.std.specs.Prelude.{◌&&◌, slice_get, slice_index}
-use Rattle.std.specs.List.{AllByRecursion}
+use Rattle.std.specs.List.{AllByRecursion, sum_by}
 use Rattle.std.proofs.lemmas.Bool.Decides.{nat_tests}
 use Rattle.fuxi_terms.specs.Cluster.{has_at, limit_at}
-use Rattle.fuxi_terms.specs.Jobs.{group_of, size_at}
+use Rattle.fuxi_terms.specs.Jobs.{priority_of, group_of, size_at}
 use Rattle.fuxi_terms.specs.Keys.{Spot}
 use Rattle.fuxi_terms.specs.Lists.{below_each}
 use Rattle.fuxi_terms.specs.Tables.{spot, total_at, usage_at}
 use Rattle.fuxi_terms.proofs.Booleans.{and_true, not_false}
 use Rattle.fuxi_terms.proofs.Lists.{all_at}
-use Rattle.written_roles.specs.Preemption.{set_by, part_by, is_enough_in, walk_in, victims_in}
+use Rattle.written_roles.specs.Preemption.{set_by, part_by, is_enough_in, is_guaranteed_in, walk_in, victims_in}
 use Rattle.grant_table.specs.GrantTables.{TableRecord, as_known}
-use Rattle.preempt.specs.Counted.{singles, counted_most, entries_on}
+use Rattle.preempt.specs.Counted.{singles, all_spared, entries_on}
 use Rattle.preempt.specs.declared.entry.Entry.{Entry}
 use Rattle.preempt.specs.declared.entry.Need.{Need}
 use Rattle.preempt.specs.declared.entry.GroupUse.{GroupUse}
 use Rattle.preempt.specs.declared.entry.Sums.{Sums}
 use Rattle.preempt.specs.declared.room.Rooms.{Rooms}
 use Rattle.preempt.specs.declared.shelf.Shelf.{Shelf}
-use Rattle.preempt.specs.Given.{board_of, no_group, written, pair_of, IsEntry, AreGroups, IsMost}
-use Rattle.preempt.specs.GrantNumbers.{total_in, part_in}
+use Rattle.preempt.specs.Given.{board_of, no_group, written, IsEntry, AreGroups}
+use Rattle.preempt.specs.GrantNumbers.{lower_in, spared_in}
 use Rattle.preempt.specs.GroupSums.{no_sums}
 use Rattle.preempt.specs.MachineRooms.{within_at, IsRoom, IsNarrower, AreRooms, IsFor, IsPlaceFor, AreRoomsFor}
 use Rattle.preempt.specs.Shelves.{IsShelf, IsWanted}
 use Rattle.preempt.proofs.Sums.{not_fit, not_allowed}
-use Rattle.preempt.proofs.CountedAsWritten.{size_is, total_is, part_is}
-use Rattle.preempt.proofs.MostTaken.{most_in, most_whole, none_of_most}
+use Rattle.preempt.proofs.CountedAsWritten.{size_is}
+use Rattle.preempt.proofs.MostTaken.{most_in, counted_most, most_whole, none_of_most, lower_weight, spared_weight, AreMostSums, most_sums}
+use Rattle.preempt.proofs.SparedAsWritten.{lower_is, spared_is}
 use Rattle.preempt.proofs.UnitSteps.{got}
 
 -- ---- one machine
--- the sums of all that may be taken on a machine, and what they leave of what it has and of what the group may use
-pub record AreLeft (groups : List GroupUse) (shelf : Shelf) (n : Need) (set : List Entry) (room : List ℕ) : Type 0 where
+-- what may be taken on a machine of the served group, and of all, and what that leaves of what the machine has and of what the group may use
+pub record AreLeft (groups : List GroupUse) (shelf : Shelf) (n : Need) (room : List ℕ) : Type 0 where
+  pub lower : List ℕ
   pub all : List ℕ
-  pub own : List ℕ
   pub fits : List ℕ
   pub allowed : List ℕ
-  pub all_is : (i : ℕ) → i < 8 → slice_index all i ≡ total_in i set
-  pub own_is : (i : ℕ) → i < 8 → slice_index own i ≡ part_in n.group i set
-  pub fits_is : (i : ℕ) → i < 8 → slice_index fits i ≡ (slice_index shelf.has i + slice_index all i) - slice_index shelf.used i
-  pub allowed_is : (i : ℕ) → i < 8 → slice_index allowed i ≡ (slice_index (get_or groups n.group no_group).limit i + slice_index own i) - slice_index (get_or groups n.group no_group).used i
-  pub room_is : (i : ℕ) → i < 8 → slice_index room i ≡ min (slice_index fits i) (slice_index allowed i)
+  pub lower_are : (i : ℕ) → i < 8 → slice_index lower i ≡ lower_in n i shelf.entries.items
+  pub all_are : (i : ℕ) → i < 8 → slice_index all i ≡ slice_index lower i + spared_in n i shelf.spared.items
+  pub fits_are : (i : ℕ) → i < 8 → slice_index fits i ≡ (slice_index shelf.has i + slice_index all i) - slice_index shelf.used i
+  pub allowed_are : (i : ℕ) → i < 8 → slice_index allowed i ≡ (slice_index (get_or groups n.group no_group).limit i + slice_index lower i) - slice_index (get_or groups n.group no_group).used i
+  pub room_are : (i : ℕ) → i < 8 → slice_index room i ≡ min (slice_index fits i) (slice_index allowed i)
 
-pub beyond_none : (t : TableRecord) (groups : List GroupUse) (m : ℕ) (shelf : Shelf) (n : Need) (set : List Entry) (room : List ℕ) (a u i : ℕ)
-    → AreGroups t groups → IsShelf t groups m shelf → IsMost t (spot a u m) shelf.entries.items set → AreLeft groups shelf n set room → n.group < 32 → n.group ≡ group_of (as_known t.jobs) a
-    → i < t.cluster.resources → i < 8 → slice_index room i < size_at (as_known t.jobs) a u i → victims_in (board_of t) t.entries (spot a u m) ≡ None
-beyond_none t groups m shelf n set room a u i are is most left small group lt few more =
-    none_of_most (board_of t) t.entries (spot a u m) (ap (λ x. is_enough_in (board_of t) t.entries (spot a u m) x) whole ∙ by (nat_lt (slice_index left.fits i) size) refl)
+pub beyond_none : (t : TableRecord) (groups : List GroupUse) (m : ℕ) (shelf : Shelf) (n : Need) (room : List ℕ) (a u i : ℕ)
+    → AreGroups t groups → IsShelf t groups m shelf → AreLeft groups shelf n room → n.group < 32 → n.group ≡ group_of (as_known t.jobs) a → n.priority ≡ priority_of (as_known t.jobs) a u
+    → n.guaranteed ≡ is_guaranteed_in (board_of t) t.entries (spot a u m) → i < t.cluster.resources → i < 8 → slice_index room i < size_at (as_known t.jobs) a u i → victims_in (board_of t) t.entries (spot a u m) ≡ None
+beyond_none t groups m shelf n room a u i are is left small group priority guaranteed lt few more =
+    none_of_most (board_of t) t.entries s (ap (λ x. is_enough_in (board_of t) t.entries s x) whole ∙ by (nat_lt (slice_index left.fits i) size) refl)
   where
+    s : Spot
+    s = spot a u m
+
     size : ℕ
     size = size_at (as_known t.jobs) a u i
 
+    entries : List (Spot × ℕ)
+    entries = map (written m) shelf.entries.items
+
     all : List Spot
-    all = singles (map (written m) set)
+    all = singles (counted_most entries (board_of t) t.entries s [])
 
-    whole : most_in (walk_in (board_of t).priorities t.entries m) (board_of t) t.entries (spot a u m) [] ≡ all
-    whole = most_whole (board_of t) t.entries (spot a u m) (entries_on (board_of t) t.entries m) []
-        ∙ ap (λ es. singles (counted_most es (board_of t) t.entries (spot a u m) [])) (sym is.walk)
-        ∙ ap (λ es. singles es) (sym most.counted)
+    whole : most_in (walk_in (board_of t).priorities t.entries m) (board_of t) t.entries s [] ≡ all
+    whole = most_whole (board_of t) t.entries s (entries_on (board_of t) t.entries m) [] ∙ ap (λ es. singles (counted_most es (board_of t) t.entries s [])) (sym is.walk)
 
-    by : (b : Bool) → nat_lt (slice_index left.fits i) size ≡ b → is_enough_in (board_of t) t.entries (spot a u m) all ≡ false
+    sums : AreMostSums (board_of t) t.entries s i entries [] []
+    sums = most_sums (board_of t) t.entries s i entries [] [] (record { same = λ _ g i _. refl })
+
+    lower : slice_index left.lower i ≡ sum_by (lower_weight (board_of t) t.entries s i) entries
+    lower = left.lower_are i few ∙ lower_is t m a u n i group priority shelf.entries.items is.each
+
+    spared : spared_in n i shelf.spared.items ≡ sum_by (spared_weight (board_of t) t.entries s i) (all_spared entries (board_of t) t.entries [])
+    spared = spared_is t m a u n i group guaranteed shelf.spared.items is.spared.each ∙ ap (λ es. sum_by (spared_weight (board_of t) t.entries s i) es) is.spared.counted
+
+    by : (b : Bool) → nat_lt (slice_index left.fits i) size ≡ b → is_enough_in (board_of t) t.entries s all ≡ false
     by true e =
         let less : slice_index left.fits i < size = grind (arith, nat_tests, e) in
-        let f = left.fits_is i few in
-        let s = left.all_is i few ∙ total_is t m i set lt most.each in
+        let f = left.fits_are i few in
+        let x = left.all_are i few in
+        let w = sums.whole in
+        let z : set_by (size_at (as_known t.jobs)) i (singles []) ≡ 0 = refl in
         let h = is.has i lt in
-        let w = is.used i lt in
-        let short : has_at t.cluster m i + set_by (size_at (as_known t.jobs)) i all < total_at (as_known t.jobs) m i t.entries + size = omega (arith, less, f, s, h, w) in
-        not_fit (board_of t) t.entries (spot a u m) all i lt short
+        let v = is.used i lt in
+        let short : has_at t.cluster m i + set_by (size_at (as_known t.jobs)) i all < total_at (as_known t.jobs) m i t.entries + size = omega (arith, less, f, x, w, z, lower, spared, h, v) in
+        not_fit (board_of t) t.entries s all i lt short
     by false e =
         let le : size ≤ slice_index left.fits i = grind (arith, nat_tests, e) in
-        let r = left.room_is i few in
-        let f = left.allowed_is i few in
+        let r = left.room_are i few in
+        let f = left.allowed_are i few in
         let g = group_of (as_known t.jobs) a in
-        let s = left.own_is i few ∙ part_is t m n.group i set lt most.each ∙ ap (λ g. part_by (group_of (as_known t.jobs)) (size_at (as_known t.jobs)) g i all) group in
+        let w = sums.own in
+        let z : part_by (group_of (as_known t.jobs)) (size_at (as_known t.jobs)) g i (singles []) ≡ 0 = refl in
         let x = are.each n.group small in
         let l = x.limit i lt ∙ ap (λ g. limit_at t.cluster g i) group in
-        let w = x.used i lt ∙ ap (λ g. usage_at (as_known t.jobs) g i t.entries) group in
-        let short : limit_at t.cluster g i + part_by (group_of (as_known t.jobs)) (size_at (as_known t.jobs)) g i all < usage_at (as_known t.jobs) g i t.entries + size = omega (arith, more, le, r, f, s, l, w) in
-        not_allowed (board_of t) t.entries (spot a u m) all i lt short
+        let v = x.used i lt ∙ ap (λ g. usage_at (as_known t.jobs) g i t.entries) group in
+        let short : limit_at t.cluster g i + part_by (group_of (as_known t.jobs)) (size_at (as_known t.jobs)) g i all < usage_at (as_known t.jobs) g i t.entries + size = omega (arith, more, le, r, f, w, z, lower, l, v) in
+        not_allowed (board_of t) t.entries s all i lt short
 
 -- ---- a size that is not within
 record Fails (n : ℕ) (test : ℕ → Bool) : Type 0 where

@@ -61,10 +61,12 @@ abbrev pub counted_taken : List (Spot × ℕ) → Board → List (Spot × ℕ) �
 counted_taken [] B table t set = set
 counted_taken (e ∷ es) B table t set = counted_taken es B table t (set ++ (e.0, taken_count B table t (singles set) e.0 e.1) ∷ [])
 
--- All that may be taken: of each entry as many as that is, whether they are needed or not
-abbrev pub counted_most : List (Spot × ℕ) → Board → List (Spot × ℕ) → Spot → List (Spot × ℕ) → List (Spot × ℕ)
-counted_most [] B table t set = set
-counted_most (e ∷ es) B table t set = counted_most es B table t (set ++ (e.0, may_times B table t (singles set) e.0 e.1) ∷ [])
+-- Spared: of each entry as many as its group spares beside those before it, whoever they are for
+abbrev pub all_spared : List (Spot × ℕ) → Board → List (Spot × ℕ) → List (Spot × ℕ) → List (Spot × ℕ)
+all_spared [] B table set = []
+all_spared (e ∷ es) B table set =
+    (e.0, least_of e.1 B.cluster.resources (spared_at B table (singles set) e.0 e.1))
+    ∷ all_spared es B table (set ++ (e.0, least_of e.1 B.cluster.resources (spared_at B table (singles set) e.0 e.1)) ∷ [])
 
 -- Kept: of each entry in the same order as few as make all the others enough
 abbrev pub counted_kept : List (Spot × ℕ) → Board → List (Spot × ℕ) → Spot → List (Spot × ℕ) → List (Spot × ℕ)

@@ -8,7 +8,7 @@ use Rattle.fuxi_terms.specs.Tables.{spot, total_at, usage_at}
 use Rattle.written_roles.specs.Placing.{Board}
 use Rattle.written_roles.specs.Preemption.{is_guaranteed_in}
 use Rattle.grant_table.specs.GrantTables.{TableRecord, as_known}
-use Rattle.preempt.specs.Counted.{entries_on, counted_taken, counted_kept, counted_most}
+use Rattle.preempt.specs.Counted.{entries_on, counted_taken, counted_kept, all_spared}
 use Rattle.preempt.specs.declared.plan.Victim.{Victim}
 use Rattle.preempt.specs.declared.entry.Entry.{Entry}
 use Rattle.preempt.specs.declared.entry.Need.{Need}
@@ -60,13 +60,6 @@ pub record IsNeed (t : TableRecord) (s : Spot) (n : Need) : Type 0 where
   pub limit : (i : ℕ) → i < t.cluster.resources → slice_index n.limit i ≡ limit_at t.cluster (group_of (as_known t.jobs) s.job) i
   pub allowed : (i : ℕ) → i < t.cluster.resources → slice_index n.allowed i ≡ usage_at (as_known t.jobs) (group_of (as_known t.jobs) s.job) i t.entries + size_at (as_known t.jobs) s.job s.unit i
 
--- a need of the kind of s: of its group and priority, and with quota left for one more or not, as s
-pub record IsKind (t : TableRecord) (s : Spot) (n : Need) : Type 0 where
-  pub resources : n.resources ≡ t.cluster.resources
-  pub group : n.group ≡ group_of (as_known t.jobs) s.job
-  pub priority : n.priority ≡ priority_of (as_known t.jobs) s.job s.unit
-  pub guaranteed : n.guaranteed ≡ is_guaranteed_in (board_of t) t.entries s
-
 pub record IsGroup (t : TableRecord) (g : ℕ) (x : GroupUse) : Type 0 where
   pub quota : (i : ℕ) → i < t.cluster.resources → slice_index x.quota i ≡ quota_at t.cluster g i
   pub limit : (i : ℕ) → i < t.cluster.resources → slice_index x.limit i ≡ limit_at t.cluster g i
@@ -86,17 +79,16 @@ pub record AreGiven (t : TableRecord) (s : Spot) (entries : List Entry) (n : Nee
   pub need : IsNeed t s n
   pub groups_are : AreGroups t groups
 
--- entries, for any more of the kind of s
-pub record AreOffered (t : TableRecord) (s : Spot) (entries : List Entry) (n : Need) (groups : List GroupUse) : Type 0 where
-  pub each : AllByRecursion (IsEntry t) entries
-  pub kind : IsKind t s n
-  pub groups_are : AreGroups t groups
-
 -- the victim that an entry stands for
 abbrev pub victim_of : Entry → Victim
 victim_of e = record { app = e.app; unit = e.unit; count = e.count }
 
--- what is taken of entries, what is kept of that, and all that may be taken
+-- of entries on a machine what their groups spare, whoever it is for
+pub record AreSpared (t : TableRecord) (m : ℕ) (entries spared : List Entry) : Type 0 where
+  pub each : AllByRecursion (IsEntry t) spared
+  pub counted : map (written m) spared ≡ all_spared (map (written m) entries) (board_of t) t.entries []
+
+-- what is taken of entries, and what is kept of that
 pub record IsTaken (t : TableRecord) (s : Spot) (entries set : List Entry) : Type 0 where
   pub each : AllByRecursion (IsEntry t) set
   pub counted : map (written s.machine) set ≡ counted_taken (map (written s.machine) entries) (board_of t) t.entries s []
@@ -104,7 +96,3 @@ pub record IsTaken (t : TableRecord) (s : Spot) (entries set : List Entry) : Typ
 pub record IsKept (t : TableRecord) (s : Spot) (set kept : List Entry) : Type 0 where
   pub each : AllByRecursion (IsEntry t) kept
   pub counted : map (written s.machine) kept ≡ counted_kept (map (written s.machine) set) (board_of t) t.entries s []
-
-pub record IsMost (t : TableRecord) (s : Spot) (entries set : List Entry) : Type 0 where
-  pub each : AllByRecursion (IsEntry t) set
-  pub counted : map (written s.machine) set ≡ counted_most (map (written s.machine) entries) (board_of t) t.entries s []

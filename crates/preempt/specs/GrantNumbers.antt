@@ -32,6 +32,13 @@ total_in i set = sum_by (λ e. e.count * slice_index e.size i) set
 abbrev pub part_in : ℕ → ℕ → List Entry → ℕ
 part_in g i set = sum_by (λ e. cond (nat_eq e.group g) e.count 0 * slice_index e.size i) set
 
+-- what may be taken of the group that is served, by priority alone, and of others, of what they spare
+abbrev pub lower_in : Need → ℕ → List Entry → ℕ
+lower_in n i es = sum_by (λ e. cond (nat_eq e.group n.group && nat_lt e.priority n.priority) e.count 0 * slice_index e.size i) es
+
+abbrev pub spared_in : Need → ℕ → List Entry → ℕ
+spared_in n i spared = sum_by (λ e. cond (n.guaranteed && not (nat_eq e.group n.group)) e.count 0 * slice_index e.size i) spared
+
 abbrev pub has_grants : Entry → Bool
 has_grants e = nat_lt 0 e.count
 

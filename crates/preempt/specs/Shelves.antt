@@ -14,7 +14,7 @@ use Rattle.preempt.specs.declared.entry.GroupUse.{GroupUse}
 use Rattle.preempt.specs.declared.shelf.Loose.{Loose}
 use Rattle.preempt.specs.declared.shelf.Loose.TheVariants.{Nobody, One, Several}
 use Rattle.preempt.specs.declared.shelf.Shelf.{Shelf}
-use Rattle.preempt.specs.Given.{IsEntry, no_group, written, board_of, pair_of}
+use Rattle.preempt.specs.Given.{IsEntry, AreSpared, no_group, written, board_of, pair_of}
 use Rattle.preempt.specs.Walks.{entry_on}
 
 -- units with grants, in the order of the walk: the entries of a machine are theirs
@@ -56,6 +56,8 @@ pub record IsShelf (t : TableRecord) (groups : List GroupUse) (m : ℕ) (s : She
   pub walk : map (written m) s.entries.items ≡ entries_on (board_of t) t.entries m
   pub each : AllByRecursion (IsEntry t) s.entries.items
   pub few : length s.entries.items ≤ 1000000
+  pub spared : AreSpared t m s.entries.items s.spared.items
+  pub few_spared : length s.spared.items ≤ 1000000
   pub has : (i : ℕ) → i < t.cluster.resources → slice_index s.has i ≡ has_at t.cluster m i
   pub used : (i : ℕ) → i < t.cluster.resources → slice_index s.used i ≡ total_at (as_known t.jobs) m i t.entries
   pub low : AllByRecursion (IsLow s.lowest) s.entries.items

@@ -1,8 +1,8 @@
 //! What the search keeps of units, of groups, and of what a set of grants takes.
 
-ghost use Rattle.std.specs.Prelude.{◌≡◌, ℕ, ◌+◌, ◌*◌, ◌^◌, ◌<◌, ◌≤◌, slice_index, length, cond};
+ghost use Rattle.std.specs.Prelude.{◌≡◌, ℕ, ◌+◌, ◌*◌, ◌^◌, ◌<◌, ◌≤◌, slice_index, length, cond, not, nat_eq, nat_lt, ◌&&◌};
 ghost use Rattle.preempt.specs.Given.{recounted};
-ghost use Rattle.preempt.specs.GrantNumbers.{total_in, part_in};
+ghost use Rattle.preempt.specs.GrantNumbers.{total_in, part_in, lower_in, spared_in};
 
 use schedule_unit::{AppNo, UnitNo};
 
@@ -94,6 +94,55 @@ pub(crate) fn lowered(sums: &[u128; 8], size: &[u64; 8], count: u32) -> [u128; 8
         q[i] = sums[i] - product(count, size[i]);
     }
     q
+}
+
+// How many grants of an entry may be taken of the group that is served.
+fn lower_count(need: &Need, e: &Entry) -> u32
+    ensures { result ≡ cond (nat_eq e.now.group need.now.group && nat_lt e.now.priority need.now.priority) e.now.count 0 }
+{
+    if e.group == need.group && e.priority < need.priority {
+        e.count
+    } else {
+        0
+    }
+}
+
+// How many of those that its group spares may be taken, where it is another one.
+fn spared_count(need: &Need, e: &Entry) -> u32
+    ensures { result ≡ cond (need.now.guaranteed && not (nat_eq e.now.group need.now.group)) e.now.count 0 }
+{
+    if need.guaranteed && e.group != need.group {
+        e.count
+    } else {
+        0
+    }
+}
+
+/// What may be taken of the group that is served: the grants of lower priority.
+pub(crate) fn lower_of(entries: &[Entry], need: &Need) -> [u128; 8]
+    requires { length entries.now ≤ 1000000 }
+    ensures is { (i : ℕ) → i < 8 → slice_index result i ≡ lower_in need.now i entries.now }
+    ensures small { (i : ℕ) → i < 8 → slice_index result i ≤ length entries.now * 2 ^ 96 }
+{
+    let mut sums = [0; 8];
+    for e in entries {
+        sums = raised(&sums, &e.size, lower_count(need, e));
+    }
+    sums
+}
+
+/// The same with what may be taken of other groups, of that which they spare.
+pub(crate) fn with_spared(lower: &[u128; 8], spared: &[Entry], need: &Need) -> [u128; 8]
+    requires few { length spared.now ≤ 1000000 }
+    requires small { (i : ℕ) → i < 8 → slice_index lower.now i ≤ 1000000 * 2 ^ 96 }
+    ensures is { (i : ℕ) → i < 8 → slice_index result i ≡ slice_index lower.now i + spared_in need.now i spared.now }
+    ensures small { (i : ℕ) → i < 8 → slice_index result i ≤ (1000000 + length spared.now) * 2 ^ 96 }
+{
+    let mut sums = *lower;
+    for e in spared {
+        sums = raised(&sums, &e.size, spared_count(need, e));
+    }
+    sums
 }
 
 /// What entries take.

@@ -79,7 +79,7 @@ pub(crate) fn needed_number(
 }
 
 /// The greatest number of grants of this size, at most `most`, that a group spares.
-fn spared_number(
+pub(crate) fn spared_number(
     resources: usize,
     group: &GroupUse,
     part: &[u128; 8],

@@ -2,16 +2,15 @@
 //! victims, so that its machine is not walked.
 
 ghost use Rattle.std.specs.Prelude.{◌≡◌, ℕ, ◌+◌, ◌-◌, ◌^◌, ◌<◌, ◌≤◌, true, max, min, length, slice_index, IfOk, IfSome, OnOk};
-ghost use Rattle.std.specs.List.{All, AllByRecursion};
+ghost use Rattle.std.specs.List.{AllByRecursion};
 ghost use Rattle.fuxi_terms.specs.Lists.{below_each};
 ghost use Rattle.grant_table.specs.GrantTables.{TableRecord};
 ghost use Rattle.preempt.specs.Given.{AreGroups};
 ghost use Rattle.preempt.specs.MachineRooms.{AreRooms, IsFor, IsPlaceFor, IsRoom, within_at};
 ghost use Rattle.preempt.specs.Shelves.{AreShelves, IsShelf};
 
-use crate::entry::{Entry, GroupUse, Need, Sums, part_of, total_of};
+use crate::entry::{GroupUse, Need, Sums, lower_of, with_spared};
 use crate::shelf::Shelf;
-use crate::victims::take_most;
 use fuxi_terms::OutOfMemory;
 use grant_table::GrantTable;
 use std::alloc::Global;
@@ -77,28 +76,22 @@ fn left_of(has: &[u64; 8], sums: &[u128; 8], used: &[u64; 8]) -> [u128; 8]
 }
 
 // What there is room for on a machine, once all that may be taken there is gone: it fits, and its group may use it.
-fn room_on(
-    shelf: &Shelf,
-    need: &Need,
-    groups: &[GroupUse],
-    set: &mut Vec<Entry>,
-) -> Result<Sums, OutOfMemory>
+fn room_on(shelf: &Shelf, need: &Need, groups: &[GroupUse]) -> Sums
     requires resources { need.now.resources ≤ 8 }
     requires own { need.now.group < 32 }
     requires few { length shelf.now.entries.items ≤ 1000000 }
-    requires small { All (λ e. e.group < 32) shelf.now.entries.items }
+    requires few_spared { length shelf.now.spared.items ≤ 1000000 }
     requires long { length groups.now ≡ 32 }
-    ensures { IfOk result (λ room. (t : TableRecord) (m : ℕ) → AreGroups t groups.now → IsShelf t groups.now m shelf.now → need.now.resources ≡ t.cluster.resources → IsRoom t need.now.group need.now.priority need.now.guaranteed m room.q) }
+    ensures { (t : TableRecord) (m : ℕ) → AreGroups t groups.now → IsShelf t groups.now m shelf.now → need.now.resources ≡ t.cluster.resources → IsRoom t need.now.group need.now.priority need.now.guaranteed m result.q }
 {
-    take_most(set, &shelf.entries, need, groups)?;
-    let all = total_of(set);
-    let own = part_of(set, need.group);
+    let lower = lower_of(&shelf.entries, need);
+    let all = with_spared(&lower, &shelf.spared, need);
     let group = &groups[need.group];
     let fits = left_of(&shelf.has, &all, &shelf.used);
-    let allowed = left_of(&group.limit, &own, &group.used);
-    Ok(Sums {
+    let allowed = left_of(&group.limit, &lower, &group.used);
+    Sums {
         q: smaller_of(&fits, &allowed),
-    })
+    }
 }
 
 // The rooms for units of the kind of a need.
@@ -108,7 +101,6 @@ fn rooms_of(
     groups: &[GroupUse],
     shelves: &[Shelf],
     need: &Need,
-    set: &mut Vec<Entry>,
 ) -> Result<Rooms, OutOfMemory>
     requires groups { AreGroups table.now groups.now }
     requires shelves { AreShelves table.now groups.now shelves.now }
@@ -121,7 +113,7 @@ fn rooms_of(
     let mut each = Vec::new(alloc);
     let mut widest = [0; 8];
     for shelf in shelves {
-        let room = room_on(shelf, need, groups, set)?;
+        let room = room_on(shelf, need, groups);
         widest = greater_of(&widest, &room.q);
         each.push(room)?;
     }
@@ -170,7 +162,6 @@ pub(crate) fn rooms_at(
     shelves: &[Shelf],
     need: &Need,
     kinds: &mut Vec<Rooms>,
-    set: &mut Vec<Entry>,
 ) -> Result<usize, OutOfMemory>
     requires groups { AreGroups table.now groups.now }
     requires shelves { AreShelves table.now groups.now shelves.now }
@@ -185,7 +176,7 @@ pub(crate) fn rooms_at(
         None => {}
     }
     let at = kinds.len();
-    let rooms = rooms_of(alloc, table, groups, shelves, need, set)?;
+    let rooms = rooms_of(alloc, table, groups, shelves, need)?;
     kinds.push(rooms)?;
     Ok(at)
 }

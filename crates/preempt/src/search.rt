@@ -107,7 +107,7 @@ fn unit_plan<P: Asking>(
         Some(need) => need,
         None => return Ok(None),
     };
-    let at = rooms_at(alloc, table, groups, shelves, &need, kinds, set)?;
+    let at = rooms_at(alloc, table, groups, shelves, &need, kinds)?;
     let rooms = &kinds[at];
     if !is_within(need.resources, &e.size, &rooms.widest) {
         return Ok(None);

@@ -3,10 +3,12 @@
 
 ghost use Rattle.std.specs.Prelude.{◌≡◌, ℕ, ◌+◌, ◌-◌, ◌<◌, ◌≤◌, true, IfOk, length, slice_index};
 ghost use Rattle.std.specs.List.{All, AllByRecursion};
-ghost use Rattle.preempt.specs.Given.{AreGroups, IsGroup};
+ghost use Rattle.preempt.specs.Given.{AreGroups, AreSpared, IsEntry, IsGroup};
+ghost use Rattle.grant_table.specs.GrantTables.{TableRecord};
 ghost use Rattle.preempt.specs.Shelves.{AreHolders, IsShelf, AreShelves, IsLow, IsLoose, is_loose, is_other_loose, spares, may_take_some};
 
-use crate::entry::{Entry, GroupUse, Need};
+use crate::entry::{Entry, GroupUse, Need, Sums, raised, recounted};
+use crate::number::spared_number;
 use crate::walk::entries_on;
 use cluster_desc::Cluster;
 use fuxi_terms::OutOfMemory;
@@ -28,6 +30,8 @@ pub(crate) enum Loose {
 pub(crate) struct Shelf {
     /// Its grants, in the order of the walk.
     pub(crate) entries: Vec<Entry>,
+    /// Those that their groups spare, in the same order.
+    pub(crate) spared: Vec<Entry>,
     /// By group, a priority that none of its grants here is below.
     pub(crate) lowest: [u8; 32],
     pub(crate) loose: Loose,
@@ -113,6 +117,33 @@ pub(crate) fn loose_of(entries: &[Entry], resources: usize, groups: &[GroupUse])
     loose
 }
 
+// Of each entry as many grants as its group spares beside those before it, whoever they are for.
+fn spared_of(
+    alloc: Global,
+    entries: &[Entry],
+    resources: usize,
+    groups: &[GroupUse],
+) -> Result<Vec<Entry>, OutOfMemory>
+    requires few { length entries.now ≤ 1000000 }
+    requires small { All (λ e. e.group < 32) entries.now }
+    requires resources { resources ≤ 8 }
+    requires long { length groups.now ≡ 32 }
+    ensures long { IfOk result (λ spared. length spared.items ≡ length entries.now) }
+    ensures spared { IfOk result (λ spared. (t : TableRecord) (m : ℕ) → AllByRecursion (IsEntry t) entries.now → AreGroups t groups.now → resources ≡ t.cluster.resources → AreSpared t m entries.now spared.items) }
+{
+    let mut spared = Vec::new(alloc);
+    let mut parts = [Sums { q: [0; 8] }; 32];
+    for e in entries {
+        let part = parts[e.group].q;
+        let count = spared_number(resources, &groups[e.group], &part, &e.size, e.count);
+        spared.push(recounted(e, count))?;
+        parts[e.group] = Sums {
+            q: raised(&part, &e.size, count),
+        };
+    }
+    Ok(spared)
+}
+
 // What a group is promised, may use and uses. One that the cluster does not have has nothing.
 fn group_use(table: &GrantTable, number: GroupNo) -> GroupUse
     requires { number.0 < 32 }
@@ -178,10 +209,12 @@ fn shelf_of<L: Ledger>(
     let resources = cluster.resources() as usize;
     let has = cluster.machine(machine).has.q;
     let entries = entries_on(alloc, table, holders, machine)?;
+    let spared = spared_of(alloc, &entries, resources, groups)?;
     let lowest = lowest_of(&entries);
     let loose = loose_of(&entries, resources, groups);
     Ok(Shelf {
         entries,
+        spared,
         lowest,
         loose,
         has,

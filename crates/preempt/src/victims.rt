@@ -5,7 +5,7 @@ ghost use Rattle.std.specs.List.{All, AllByRecursion, list_any};
 ghost use Rattle.fuxi_terms.specs.Keys.{Spot};
 ghost use Rattle.written_roles.specs.Preemption.{victims_in};
 ghost use Rattle.grant_table.specs.GrantTables.{TableRecord, IsSound};
-ghost use Rattle.preempt.specs.Given.{AreGiven, AreOffered, IsTaken, IsKept, IsMost, IsEntry, IsNeed, board_of, victim_of};
+ghost use Rattle.preempt.specs.Given.{AreGiven, IsTaken, IsKept, IsEntry, IsNeed, board_of, victim_of};
 ghost use Rattle.preempt.specs.Plans.{AreTakable, losers_of};
 ghost use Rattle.preempt.specs.GrantNumbers.{has_grants};
 
@@ -16,34 +16,6 @@ use crate::number::{are_enough, may_number, needed_number};
 use crate::plan::Victim;
 use fuxi_terms::OutOfMemory;
 use std::alloc::Global;
-
-/// Of each entry as many grants as may be taken, whether they are needed or not, written into a list that is
-/// cleared before.
-pub(crate) fn take_most(
-    set: &mut Vec<Entry>,
-    entries: &[Entry],
-    need: &Need,
-    groups: &[GroupUse],
-) -> Result<(), OutOfMemory>
-    requires resources { need.now.resources ≤ 8 }
-    requires few { length entries.now ≤ 1000000 }
-    requires groups { All (λ e. e.group < 32) entries.now }
-    requires long { length groups.now ≡ 32 }
-    ensures long { OnOk result (length set.new.items ≡ length entries.now) }
-    ensures is { OnOk result ((t : TableRecord) (s : Spot) → AreOffered t s entries.now need.now groups.now → IsMost t s entries.now set.new.items) }
-{
-    set.clear();
-    let mut parts = [Sums { q: [0; 8] }; 32];
-    for e in entries {
-        let part = parts[e.group].q;
-        let count = may_number(need, &groups[e.group], &part, e);
-        set.push(recounted(e, count))?;
-        parts[e.group] = Sums {
-            q: raised(&part, &e.size, count),
-        };
-    }
-    Ok(())
-}
 
 // Of each entry as many grants as the walk takes, written into a list that is cleared before.
 fn take_all(

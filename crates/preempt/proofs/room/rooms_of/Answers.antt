@@ -1,16 +1,15 @@
 use Rattle.std.proofs.Common.{◌≡◌, [], ◌∷◌, ◌++◌, length, sym, ◌∙◌, ap, subst, arith, length-append}
 use Rattle.std.specs.Prelude.{slice_get}
 use Rattle.preempt.specs.MachineRooms.{IsRoom, IsNarrower}
-use Rattle.preempt.proofs.CountedAsWritten.{at_index}
 use Rattle.preempt.proofs.Served.{shelf_at}
 use Rattle.preempt.proofs.MachineRoomsLemmas.{each_more, narrower_more}
 use Rattle.preempt.proofs.room.rooms_of.Goals as goal
 
-pub room_on-requires-clause-few : goal.room_on-requires-clause-few
-room_on-requires-clause-few c = (c.requires.shelves.each c.loop-shelf.shelf-index c.shelf-item.result (shelf_at c.args.shelves.now c.loop-shelf.shelf-index c.shelf-item.result c.loop-shelf-test.true c.shelf-item.is)).few
+pub room_on-room-requires-clause-few : goal.room_on-room-requires-clause-few
+room_on-room-requires-clause-few c = (c.requires.shelves.each c.loop-shelf.shelf-index c.shelf-item.result (shelf_at c.args.shelves.now c.loop-shelf.shelf-index c.shelf-item.result c.loop-shelf-test.true c.shelf-item.is)).few
 
-pub room_on-requires-clause-small : goal.room_on-requires-clause-small
-room_on-requires-clause-small c = λ k d lt. (at_index _ c.shelf-item.result.entries.items k d lt (c.requires.shelves.each c.loop-shelf.shelf-index c.shelf-item.result (shelf_at c.args.shelves.now c.loop-shelf.shelf-index c.shelf-item.result c.loop-shelf-test.true c.shelf-item.is)).each).small
+pub room_on-room-requires-clause-few_spared : goal.room_on-room-requires-clause-few_spared
+room_on-room-requires-clause-few_spared c = (c.requires.shelves.each c.loop-shelf.shelf-index c.shelf-item.result (shelf_at c.args.shelves.now c.loop-shelf.shelf-index c.shelf-item.result c.loop-shelf-test.true c.shelf-item.is)).few_spared
 
 pub loop-shelf-preserved : goal.loop-shelf-preserved
 loop-shelf-preserved c =
@@ -18,12 +17,12 @@ loop-shelf-preserved c =
     let n = c.args.need.now in
     let k = c.loop-shelf.shelf-index in
     let before = c.loop-shelf.each.items in
-    let room = c.in_ok-room.room in
+    let room = c.room_on-room.result in
     let wide = c.greater_of-widest.result in
     let long = c.loop-shelf.invariant.long in
     let pushed : c.push.new.self.items ≡ before ++ room ∷ [] = c.in_ok-push.ensures.items in
     let shelf = c.requires.shelves.each k c.shelf-item.result (shelf_at c.args.shelves.now k c.shelf-item.result c.loop-shelf-test.true c.shelf-item.is) in
-    let here = c.in_ok-room.ensures t k c.requires.groups shelf c.requires.resources in
+    let here = c.room_on-room.ensures t k c.requires.groups shelf c.requires.resources in
     let more = narrower_more c.loop-shelf.widest wide room.q c.greater_of-widest.ensures in
     record {
       long = let a = ap length pushed ∙ length-append before (room ∷ []) in omega (arith, a, long);
