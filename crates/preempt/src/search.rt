@@ -161,8 +161,9 @@ fn first_unit<P: Asking>(
 /// error, and it leaves all as it was. What is free is asked at most once for each machine (`steps`).
 ///
 /// The time is linear in the units that have grants on a machine, whatever their counts, for each pair; a pair of
-/// which nothing may be taken costs one test. Memory is asked once for the units and for what they have on each
-/// machine, and no more for a pair without victims once a list has its room.
+/// which nothing may be taken costs one test, and so does one whose machine would have no room for it with all taken
+/// that may be. Memory is asked once for the units, for what they have on each machine and for what there would be
+/// room for, by group and priority, and no more for a pair without victims once a list has its room.
 pub fn find<P: Asking, L: Ledger>(
     alloc: Global,
     table: &GrantTable,
