@@ -1,5 +1,5 @@
 -- What a walk along a demand finds next of a kind and a unit.
-use Rattle.std.proofs.Common.{◌≡◌, ℕ, ◌+◌, ◌-◌, ◌<◌, ◌≤◌, Bool, true, false, cond, nat_eq, nat_lt, List, length, get_or, refl, sym, ◌∙◌, ap, subst, arith, true≢false, inl, inr}
+use Rattle.std.proofs.Common.{◌≡◌, ℕ, ◌-◌, ◌<◌, ◌≤◌, Bool, true, false, cond, nat_eq, nat_lt, List, length, get_or, refl, sym, ◌∙◌, ap, subst, arith, true≢false, inl, inr}
 use Rattle.std.specs.Prelude.{◌&&◌, ◌==◌, T}
 use Rattle.std.specs.Ordering.{nat_cmp, is_lt, is_eq, ordering_then}
 use Rattle.std.specs.FinMap.Entries.{is_sorted}

@@ -1,4 +1,4 @@
-use Rattle.std.proofs.Common.{◌≡◌, ◌-◌, ℕ, List, get_or, sym, ap, subst, ◌∙◌, arith}
+use Rattle.std.proofs.Common.{◌-◌, ℕ, List, get_or, sym, subst, ◌∙◌, arith}
 use Rattle.fuxi_terms.specs.declared.Key.{Key}
 use Rattle.fuxi_terms.specs.Counts.{AreCounts}
 use Rattle.fuxi_terms.specs.Keys.{key_cmp}

@@ -1,4 +1,4 @@
-use Rattle.std.proofs.Common.{◌≡◌, ℕ, Bool, true, false, cond, refl, sym, ap, ◌∙◌}
+use Rattle.std.proofs.Common.{cond, sym, ap, ◌∙◌}
 use Rattle.fuxi_terms.specs.Cluster.{has_rack}
 use Rattle.place_pass.proofs.PlainLemmas.{either_zero}
 use Rattle.place_pass.proofs.wishes.rack_number.Goals as goal
