@@ -6,6 +6,7 @@ ghost use Rattle.fuxi_terms.specs.Tables.{held_on};
 ghost use Rattle.grant_table.specs.GrantTables.{as_known};
 ghost use Rattle.place_pass.specs.Placers.{IsLevelWith};
 
+use crate::case::print_path;
 use case_words::Stop;
 use cluster_desc::Cluster;
 use grant_table::{GrantTable, Pick, Steps};
@@ -104,6 +105,25 @@ fn place<L: Ledger>(
     Some(pick)
 }
 
+// Brings the line up to date, and prints the path of a machine in the placer's tree.
+fn walk<P: Print>(
+    rt: &P,
+    table: &GrantTable,
+    placer: &mut Placer,
+    machine: MachineNo,
+) -> Result<(), Stop>
+    requires level { IsLevelWith placer.old table.now }
+    requires machine { machine.0 < length table.now.cluster.machines }
+    ensures { IsLevelWith placer.new table.now }
+{
+    levels();
+    if placer.turns() >= 1 << 62 {
+        return Ok(());
+    }
+    placer.line_up(table);
+    print_path(rt, placer.tree(table), machine)
+}
+
 impl Bench {
     /// A table of the cluster with these jobs, in which nothing is granted.
     pub fn start(alloc: Global, cluster: &Cluster, jobs: &[Job]) -> Result<Bench, Stop> {
@@ -153,5 +173,14 @@ impl Bench {
     pub fn place<L: Ledger>(&mut self, steps: &mut Steps<L>) -> Option<Pick> {
         let Bench { table, placer } = self;
         place(table, placer, steps)
+    }
+
+    /// Brings the line up to date, and prints the path of the machine.
+    pub fn walk<P: Print>(&mut self, rt: &P, machine: MachineNo) -> Result<(), Stop> {
+        let Bench { table, placer } = self;
+        if machine.0 < table.cluster().machines() {
+            walk(rt, table, placer, machine)?;
+        }
+        Ok(())
     }
 }

@@ -5,7 +5,7 @@ ghost use Rattle.tree_cases.specs.Cases.{entry_of};
 
 use case_words::Stop;
 use cluster_desc::read_cluster;
-use fuxi_terms::limits::MOST_JOBS;
+use fuxi_terms::limits::{GREATEST_COUNT, MOST_JOBS};
 use locality_tree::Tree;
 use schedule_unit::{AppNo, Ask, Asks, GroupNo, Job, MachineNo, Quantities, RackNo, UnitNo};
 use std::alloc::Global;
@@ -47,22 +47,44 @@ fn entry_of(priorities: &[u8], index: usize) -> Entry
     }
 }
 
-/// A job of one unit, where the priority is one.
-fn job_of(alloc: Global, number: usize, priority: u64) -> Result<Option<Job>, Stop>
+/// A job of one unit of one resource, where these are a priority and a quantity.
+pub fn job_of(
+    alloc: Global,
+    number: usize,
+    priority: u64,
+    quantity: u64,
+) -> Result<Option<Job>, Stop>
     requires { number < 256 }
 {
     let mut quantities = Quantities::new(alloc);
-    quantities.push(1)?;
+    quantities.push(quantity)?;
     let mut asks = Asks::new(alloc);
     asks.push(Ask {
         priority,
         quantities,
-        most: 1,
+        most: GREATEST_COUNT,
     })?;
     match Job::make(alloc, AppNo(number as u32), GroupNo(0), 1, asks.as_slice()) {
         Ok(job) => Ok(Some(job)),
         Err(_) => Ok(None),
     }
+}
+
+/// Prints the path of a machine: each unit with its level.
+pub fn print_path<P: Print>(rt: &P, tree: &Tree, machine: MachineNo) -> Result<(), Stop>
+    requires { machine.0 < length tree.now.racks }
+{
+    let mut path = tree.path(machine);
+    for _ in 0..u64::MAX {
+        match path.next() {
+            None => break,
+            Some((entry, level)) => {
+                let job = entry.app.0;
+                println!(rt; "job {job} at level {level}")?;
+            }
+        }
+    }
+    Ok(())
 }
 
 impl Case {
@@ -84,7 +106,7 @@ impl Case {
         if number >= MOST_JOBS as usize || priority >= 256 {
             return Ok(());
         }
-        let Some(job) = job_of(alloc, number, priority)? else {
+        let Some(job) = job_of(alloc, number, priority, 1)? else {
             return Ok(());
         };
         if job.app().0 as usize != number || job.units() != 1 {
@@ -122,21 +144,11 @@ impl Case {
         }
     }
 
-    /// Prints the path of the machine: each unit with its level.
+    /// Prints the path of the machine.
     pub fn show<P: Print>(&self, rt: &P, machine: u32) -> Result<(), Stop> {
         if machine >= self.machines {
             return Ok(());
         }
-        let mut path = self.tree.path(MachineNo(machine));
-        for _ in 0..u64::MAX {
-            match path.next() {
-                None => break,
-                Some((entry, level)) => {
-                    let job = entry.app.0;
-                    println!(rt; "job {job} at level {level}")?;
-                }
-            }
-        }
-        Ok(())
+        print_path(rt, &self.tree, MachineNo(machine))
     }
 }

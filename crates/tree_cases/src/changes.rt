@@ -12,12 +12,18 @@ use party_ledgers::Demand;
 use schedule_unit::{AppNo, Job, MachineNo, UnitNo};
 use std::alloc::Global;
 
-/// These jobs, of which nothing is asked, and no open machine.
-pub fn plain_of(alloc: Global, jobs: Vec<Job>) -> Result<Plain, Stop> {
+/// The demands of so many jobs, which ask for nothing.
+pub fn no_demands(alloc: Global, jobs: usize) -> Result<Vec<Demand>, Stop> {
     let mut demands = Vec::new(alloc);
-    for _ in 0..jobs.len() {
+    for _ in 0..jobs {
         demands.push(Demand::empty(alloc))?;
     }
+    Ok(demands)
+}
+
+/// These jobs, of which nothing is asked, and no open machine.
+pub fn plain_of(alloc: Global, jobs: Vec<Job>) -> Result<Plain, Stop> {
+    let demands = no_demands(alloc, jobs.len())?;
     Ok(Plain {
         jobs,
         demands,
@@ -54,7 +60,22 @@ fn draw_number(draw: &mut Draw) -> (Key, u32) {
     (Key { what, unit, number }, asked)
 }
 
-/// A job asks for another number at a key.
+/// A job asks for another number at a key, where there is such a job.
+pub fn ask_at(
+    alloc: Global,
+    bench: &mut Bench,
+    demands: &mut [Demand],
+    app: u32,
+    (key, number): (Key, u32),
+) -> Result<(), Stop> {
+    if let Some(demand) = demands.get_mut(app as usize) {
+        set_number(alloc, demand, key, number)?;
+        bench.ask(AppNo(app), demand);
+    }
+    Ok(())
+}
+
+/// A job asks for another number at a key, both as they are drawn.
 pub fn ask(
     alloc: Global,
     draw: &mut Draw,
@@ -62,12 +83,8 @@ pub fn ask(
     plain: &mut Plain,
 ) -> Result<(), Stop> {
     let app = draw.below(6);
-    let (key, number) = draw_number(draw);
-    if let Some(demand) = plain.demands.get_mut(app as usize) {
-        set_number(alloc, demand, key, number)?;
-        bench.ask(AppNo(app), demand);
-    }
-    Ok(())
+    let drawn = draw_number(draw);
+    ask_at(alloc, bench, &mut plain.demands, app, drawn)
 }
 
 /// A machine is opened, three times of four, or closed.

@@ -1,5 +1,6 @@
 //! Worked cases of the locality tree and of placing. Each line of the input names a call with its arguments, and what a path
-//! gives is printed, or what was compared over tables that are drawn; a line that begins with `#` is printed as it is.
+//! gives is printed, which grant is found, or what was compared over tables that are drawn; a line that begins with `#` is
+//! printed as it is.
 #![tactic(auto)]
 
 mod bench;
@@ -7,11 +8,13 @@ mod case;
 mod changes;
 mod draw;
 mod drawn;
+mod placing;
 mod plain;
 mod tables;
 
 use case::Case;
 use case_words::{Stop, head_of, number_of};
+use placing::Placing;
 use std::alloc::Global;
 use std::io::{BufRead, BufReader};
 use std::marker::Brand;
@@ -28,13 +31,17 @@ fn numbers_in(rest: &str) -> (usize, u32) {
     )
 }
 
+// A call of the tree, where there is one.
 fn call<P: Print>(
     rt: &P,
     alloc: Global,
-    case: &mut Case,
+    case: &mut Option<Case>,
     word: &str,
     rest: &str,
 ) -> Result<(), Stop> {
+    let Some(case) = case else {
+        return Ok(());
+    };
     let (index, number) = numbers_in(rest);
     match word {
         "job" => case.admit(alloc, number_of(rest))?,
@@ -49,42 +56,74 @@ fn call<P: Print>(
     Ok(())
 }
 
-fn answer_line<P: Print>(
-    rt: &P,
-    alloc: Global,
-    case: &mut Option<Case>,
-    line: &str,
-) -> Result<(), Stop> {
-    println!(rt; "{line}")?;
-    let (word, rest) = head_of(line);
-    if word == "cluster" {
-        *case = Case::start(alloc, rest.as_bytes())?;
-        return Ok(());
-    }
-    if word == "tables" {
-        let (first, count) = head_of(rest);
-        let seeds = (number_of(first), number_of(count).min(1000));
-        return compare_tables::<Brand, P>(rt, alloc, seeds, Blank::new(1));
-    }
-    match case {
-        Some(case) if !line.is_empty() && !line.starts_with('#') => {
-            call(rt, alloc, case, word, rest)
-        }
-        _ => Ok(()),
-    }
+// The number that a line begins with, and what stands behind it.
+fn number_in(rest: &str) -> (u32, &str) {
+    let (word, rest) = head_of(rest);
+    (number_of(word).min(1 << 20) as u32, rest)
 }
 
-fn answer_all(rt: &HostRuntime, alloc: Global, case: &mut Option<Case>) -> Result<(), Stop> {
+// A call of the table and its placer, where there is one.
+fn place<P: Print>(
+    rt: &P,
+    alloc: Global,
+    placing: &mut Option<Placing>,
+    word: &str,
+    rest: &str,
+) -> Result<(), Stop> {
+    let Some(placing) = placing else {
+        return Ok(());
+    };
+    let (first, rest) = number_in(rest);
+    match word {
+        "ask" => placing.ask(alloc, first, rest)?,
+        "take" => placing.take(first, number_in(rest).0),
+        "walk" => placing.walk(rt, first)?,
+        _ => placing.place::<P, Brand>(rt, Blank::new(1))?,
+    }
+    Ok(())
+}
+
+// What the lines so far have made.
+#[derive(Drop)]
+struct Made {
+    case: Option<Case>,
+    placing: Option<Placing>,
+}
+
+fn answer_line<P: Print>(rt: &P, alloc: Global, made: &mut Made, line: &str) -> Result<(), Stop> {
+    println!(rt; "{line}")?;
+    if line.is_empty() || line.starts_with('#') {
+        return Ok(());
+    }
+    let (word, rest) = head_of(line);
+    match word {
+        "cluster" => made.case = Case::start(alloc, rest.as_bytes())?,
+        "table" => made.placing = Placing::start(alloc, rest)?,
+        "tables" => {
+            let (first, count) = head_of(rest);
+            let seeds = (number_of(first), number_of(count).min(1000));
+            compare_tables::<Brand, P>(rt, alloc, seeds, Blank::new(1))?;
+        }
+        "ask" | "place" | "take" | "walk" => place(rt, alloc, &mut made.placing, word, rest)?,
+        _ => call(rt, alloc, &mut made.case, word, rest)?,
+    }
+    Ok(())
+}
+
+fn answer_all(rt: &HostRuntime, alloc: Global, made: &mut Made) -> Result<(), Stop> {
     for line in BufReader::new(alloc, rt.reader())?.lines(alloc) {
-        answer_line(rt, alloc, case, &line?)?;
+        answer_line(rt, alloc, made, &line?)?;
     }
     Ok(())
 }
 
 fn run(rt: &HostRuntime) -> Result<(), Stop> {
     let alloc = rt.alloc();
-    let mut case = None;
-    answer_all(rt, alloc, &mut case)
+    let mut made = Made {
+        case: None,
+        placing: None,
+    };
+    answer_all(rt, alloc, &mut made)
 }
 
 fn main(rt: HostRuntime) -> ExitCode {

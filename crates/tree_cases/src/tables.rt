@@ -23,8 +23,8 @@ struct Tally {
     different: u64,
 }
 
-// Prints what was found.
-fn tell<P: Print>(rt: &P, who: &str, found: Option<Pick>) -> Result<(), Stop> {
+/// Prints what was found.
+pub fn tell<P: Print>(rt: &P, who: &str, found: Option<Pick>) -> Result<(), Stop> {
     match found {
         Some(pick) => {
             let (job, unit, machine) = (pick.app.0, pick.unit.0, pick.machine.0);
