@@ -5,3 +5,4 @@ pub mod DeskTexts
 pub mod DeskRuns
 pub mod DeskProgress
 pub mod DeskReports
+pub mod DeskWords

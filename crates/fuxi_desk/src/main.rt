@@ -7,18 +7,39 @@ mod run;
 mod text;
 mod top;
 
+ghost use Rattle.std.specs.Prelude.{◌≡◌, IfOk, IfErr};
+ghost use Rattle.std.specs.Process.{exit_status};
+ghost use Rattle.fuxi_io.specs.Statuses.{code_of};
+ghost use Rattle.fuxi_desk.specs.DeskWords.{HasDeskWords, NoDeskWords, WhyNoDeskWords};
+
 use fuxi_io::{Status, StdSink, StdSource};
 use master_desk::OpenGate;
 use std::alloc::Global;
 use std::env::Args;
+use std::io::ErrorKind;
 use std::process::ExitCode;
 use std::{env, io};
 use top::{desk, untold};
 
-// The words behind the name of the program, or the status where they can't be had.
-fn words_of(alloc: Global, args: io::Result<Args>) -> Result<Vec<String>, Status> {
-    let Ok(mut args) = args else {
-        return Err(Status::Usage);
+// The status where the arguments cannot be read: one that is no text is a word, and there are to be none.
+fn unread(kind: ErrorKind) -> Status
+    ensures { NoDeskWords kind result }
+{
+    if kind == ErrorKind::OutOfMemory {
+        Status::OutOfMemory
+    } else {
+        Status::Usage
+    }
+}
+
+// The words behind the name of the program, or the status where they cannot be had: `Usage` where a word is no text, and else `OutOfMemory`.
+fn words_of(alloc: Global, args: io::Result<Args>) -> Result<Vec<String>, Status>
+    ensures ok { IfOk result (λ words. HasDeskWords args words.items) }
+    ensures err { IfErr result (λ status. WhyNoDeskWords args status) }
+{
+    let mut args = match args {
+        Ok(args) => args,
+        Err(error) => return Err(unread(error.kind())),
     };
     let _name = args.next();
     let mut words = Vec::new(alloc);
@@ -28,6 +49,13 @@ fn words_of(alloc: Global, args: io::Result<Args>) -> Result<Vec<String>, Status
         }
     }
     Ok(words)
+}
+
+// The number with which the program ends.
+fn exit_of(status: &Status) -> ExitCode
+    ensures { exit_status result ≡ code_of status.now }
+{
+    ExitCode::from(status.code())
 }
 
 fn main(rt: HostRuntime) -> ExitCode {
@@ -46,5 +74,5 @@ fn main(rt: HostRuntime) -> ExitCode {
         ),
         Err(status) => untold(&mut err, status),
     };
-    ExitCode::from(status.code())
+    exit_of(&status)
 }
