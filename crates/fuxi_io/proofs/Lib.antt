@@ -4,3 +4,4 @@ pub mod AppendsLemmas
 pub mod DisksLemmas
 pub mod WrittenLemmas
 pub mod ReportsLemmas
+pub mod WriteBuffersLemmas

@@ -46,7 +46,7 @@ first_told bytes = record { now = synced_moment bytes; before = [] }
 abbrev pub then_told : Told → Moment → Told
 then_told told moment = record { now = moment; before = told.now ∷ told.before }
 
--- What a write leaves. One that fails may have written a part of its bytes, from the front, or none.
+-- What a write leaves. One that fails may have left any bytes from its place on, no more than it was handed, or none.
 abbrev pub Writes : {E : Type 0} → ℕ → List ℕ → Result (Unit {0}) E → Told → Told → Type 0
 Writes at bytes (Ok done) old new = new ≡ then_told old (after_write at bytes old.now)
 Writes at bytes (Err fault) old new = (new ≡ old) ⊎ ((part : List ℕ) × (length part ≤ length bytes) × (new ≡ then_told old (after_write at part old.now)))

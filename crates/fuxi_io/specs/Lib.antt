@@ -9,3 +9,4 @@ pub mod Disks
 pub mod MemoryDisks
 pub mod Written
 pub mod Reports
+pub mod WriteBuffers

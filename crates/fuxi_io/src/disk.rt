@@ -42,7 +42,7 @@ pub trait Disk {
         ensures served { OnOk result (faults self.new ≡ faults self.old) };
 
     /// Writes the bytes from the place `at` on, over what stands there and past the end.
-    /// After `Failed` a part from the front may be written.
+    /// After `Failed` any bytes may stand from the place `at` on, no more than were handed in.
     fn write_at(&mut self, at: u64, bytes: &[u8]) -> Result<(), Failed>
         requires begin { at ≤ size self.old }
         requires end { at + length bytes.now < 2 ^ 63 }

@@ -2,6 +2,7 @@
 //! with which a command ends.
 #![tactic(auto)]
 
+mod buffer;
 mod disk;
 mod file_disk;
 pub mod law;
@@ -15,6 +16,7 @@ mod standard;
 mod status;
 mod telling;
 
+pub use buffer::WriteBuffer;
 pub use disk::Disk;
 pub use file_disk::FileDisk;
 pub use fuxi_terms::{ClusterKey, OutOfMemory};

@@ -2,6 +2,7 @@ ghost use Rattle.std.specs.Prelude.{◌≡◌, ◌≢◌, ℕ, ◌+◌, ◌<◌,
 ghost use Rattle.std.specs.Io.KnownBytes.{prepend_known};
 ghost use Rattle.fuxi_io.specs.Causes.{Rose};
 ghost use Rattle.fuxi_io.specs.Lines.{GivesKnown, BreaksOff, FirstTooLongKnown, MoreKnown};
+ghost use Rattle.fuxi_io.specs.Pieces.{NoNewline};
 ghost use Rattle.fuxi_io.specs.Reading.{line_of, number_after, rest_of, stop_of, read_ahead};
 ghost use Rattle.fuxi_terms.specs.Limits.{most_line_bytes, most_lines};
 
@@ -70,6 +71,8 @@ fn read_line<S: Source>(
     ensures gives { IfOk result (λ ended. GivesKnown Got.Line (prepend_known piece.old (S.left source.old)) (record { bytes = line.new.items; ended = ended }) (prepend_known piece.new (S.left source.new))) }
     ensures later { S.faults source.old ≤ S.faults source.new }
     ensures fault { result ≡ Err LineStop.ReadFault → Rose (S.faults source.old) (S.faults source.new) }
+    ensures served { result ≢ Err LineStop.ReadFault → S.faults source.new ≡ S.faults source.old }
+    ensures unread { (NoNewline piece.old → ⊥) → (source.new ≡ source.old) × (result ≢ Err LineStop.ReadFault) }
     ensures broke { result ≡ Err LineStop.ReadFault → BreaksOff (prepend_known piece.old (S.left source.old)) (S.left source.new) }
     ensures long { result ≡ Err LineStop.LineTooLong → FirstTooLongKnown (prepend_known piece.old (S.left source.old)) }
     ensures few { result ≢ Err LineStop.TooManyLines }
@@ -102,8 +105,8 @@ impl LineReader {
 
     /// The next line of the source, without its newline, or the end. It takes no memory.
     ///
-    /// `ReadFault` comes only where the source's count of faults rose in this call; what the source gave
-    /// before it ends within the next line. The limit on lines is tested where a further byte has come, and
+    /// `ReadFault` comes only where the source's count of faults rose in this call, and after every other
+    /// answer the count is as it was; what the source gave before a fault ends within the next line. The limit on lines is tested where a further byte has come, and
     /// before the length of its line. Each error is answered again by all later calls, which read nothing.
     pub fn next<S: Source>(&mut self, source: &mut S) -> Result<Got, LineStop>
         // After an error it answers the same, and nothing changes.
@@ -118,6 +121,8 @@ impl LineReader {
 
         ensures later { S.faults source.old ≤ S.faults source.new }
         ensures fault { result ≡ Err LineStop.ReadFault → (self.old.stop ≡ Some LineStop.ReadFault) ⊎ Rose (S.faults source.old) (S.faults source.new) }
+        ensures served { result ≢ Err LineStop.ReadFault → S.faults source.new ≡ S.faults source.old }
+        ensures unread { (NoNewline self.old.pending → ⊥) → (source.new ≡ source.old) × (result ≡ Err LineStop.ReadFault → self.old.stop ≡ Some LineStop.ReadFault) }
         ensures broke { result ≡ Err LineStop.ReadFault → (self.old.stop ≡ Some LineStop.ReadFault) ⊎ BreaksOff (rest_of self.old (S.left source.old)) (S.left source.new) }
         ensures ahead { length self.new.pending ≤ read_ahead }
         ensures long { result ≡ Err LineStop.LineTooLong → (self.old.stop ≡ Some LineStop.LineTooLong)
@@ -144,6 +149,8 @@ impl LineReader {
         ensures end { result ≡ Ok Got.End → self.new.line ≡ self.old.line }
         ensures later { S.faults source.old ≤ S.faults source.new }
         ensures fault { result ≡ Err LineStop.ReadFault → Rose (S.faults source.old) (S.faults source.new) }
+        ensures served { result ≢ Err LineStop.ReadFault → S.faults source.new ≡ S.faults source.old }
+        ensures unread { (NoNewline self.old.pending → ⊥) → (source.new ≡ source.old) × (result ≢ Err LineStop.ReadFault) }
         ensures broke { result ≡ Err LineStop.ReadFault → BreaksOff (rest_of self.old (S.left source.old)) (S.left source.new) }
         ensures long { result ≡ Err LineStop.LineTooLong → (self.old.number < most_lines) × FirstTooLongKnown (rest_of self.old (S.left source.old)) }
         ensures many { result ≡ Err LineStop.TooManyLines → (self.old.number ≡ most_lines) × MoreKnown (rest_of self.old (S.left source.old)) }
@@ -175,6 +182,13 @@ impl LineReader {
         ensures { result ≡ self.now.ended }
     {
         self.ended
+    }
+
+    /// Whether a whole line waits, so that the next call of `next` reads nothing.
+    pub fn is_at_hand(&self) -> bool
+        ensures { IsTrue result → NoNewline self.now.pending → ⊥ }
+    {
+        self.piece.has_newline()
     }
 
     /// How many lines `next` gave so far, at most 1,000,000.

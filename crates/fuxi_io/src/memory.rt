@@ -58,6 +58,7 @@ impl Source for MemSource {
         ensures bound { ReadsAtMost result buf.new }
         ensures bytes { ReadConsumes (Some self.old.left) (Some self.new.left) result buf.new }
         ensures cause { HasCause self.old.faults self.new.faults result }
+        ensures served { OnOk result (self.new.faults ≡ self.old.faults) }
         ensures fails { IsErr result ↔ SupplyFails self.old }
         ensures failed { OnErr result (self.new ≡ unread self.old) }
         ensures count { IfOk result (λ n. n ≡ min (length buf.old) (length self.old.left)) }
@@ -152,6 +153,7 @@ impl Sink for MemSink {
         ensures bound { IfOk result (λ n. n ≤ length bytes.now) }
         ensures bytes { WriteAppends (Some self.old.took) (Some self.new.took) result bytes.now }
         ensures cause { HasCause self.old.faults self.new.faults result }
+        ensures served { OnOk result (self.new.faults ≡ self.old.faults) }
         ensures fails { IsErr result ↔ StoreFails self.old bytes.now }
         ensures failed { OnErr result (self.new ≡ unwritten self.old) }
         ensures written { IfOk result (λ n. (n ≡ length bytes.now) × (self.new ≡ written_on self.old bytes.now)) }

@@ -6,10 +6,10 @@ ghost use Rattle.fuxi_io.specs.Causes.{HasCause, TakesPart};
 #[derive(Clone, Copy, Debug, Drop, PartialEq, Eq)]
 pub struct Failed;
 
-/// Where bytes come from. It counts its faults; the count never falls, and stands still at `u64::MAX`.
-/// It may tell the bytes that it has left. No call takes memory.
+/// Where bytes come from. It counts its faults; the count never falls, stands still at `u64::MAX`, and is
+/// left as it was by a call that is served. It may tell the bytes that it has left. No call takes memory.
 pub trait Source {
-    ghost use Rattle.std.specs.Prelude.{ℕ, ◌<◌, List, length};
+    ghost use Rattle.std.specs.Prelude.{◌≡◌, ℕ, ◌<◌, List, length, OnOk};
     ghost use Rattle.std.specs.declared.option.Option.{Option};
     ghost use Rattle.std.specs.Io.{ReadsAtMost};
     ghost use Rattle.std.specs.Io.KnownBytes.{ReadConsumes};
@@ -27,13 +27,14 @@ pub trait Source {
         requires { 0 < length buf.old }
         ensures bound { ReadsAtMost result buf.new }
         ensures bytes { ReadConsumes (left self.old) (left self.new) result buf.new }
-        ensures cause { HasCause (faults self.old) (faults self.new) result };
+        ensures cause { HasCause (faults self.old) (faults self.new) result }
+        ensures served { OnOk result (faults self.new ≡ faults self.old) };
 }
 
 /// Where bytes go. It counts its faults as a `Source` does, and may tell the bytes that it took.
 /// No call takes memory.
 pub trait Sink {
-    ghost use Rattle.std.specs.Prelude.{ℕ, ◌<◌, ◌≤◌, List, length, IfOk};
+    ghost use Rattle.std.specs.Prelude.{◌≡◌, ℕ, ◌<◌, ◌≤◌, List, length, IfOk, OnOk};
     ghost use Rattle.std.specs.declared.option.Option.{Option};
     ghost use Rattle.std.specs.Io.KnownBytes.{WriteAppends};
     ghost use Rattle.fuxi_io.specs.Causes.{HasCause};
@@ -51,7 +52,8 @@ pub trait Sink {
         ensures some { IfOk result (λ n. 0 < n) }
         ensures bound { IfOk result (λ n. n ≤ length bytes.now) }
         ensures bytes { WriteAppends (took self.old) (took self.new) result bytes.now }
-        ensures cause { HasCause (faults self.old) (faults self.new) result };
+        ensures cause { HasCause (faults self.old) (faults self.new) result }
+        ensures served { OnOk result (faults self.new ≡ faults self.old) };
 }
 
 /// A sink failed before it took all that it was handed.
@@ -64,6 +66,7 @@ pub fn write_all_of<O: Sink>(out: &mut O, bytes: &[u8]) -> Result<(), WriteFault
     ensures ok { OnOk result (Appends (O.took out.old) (O.took out.new) bytes.now) }
     ensures err { OnErr result (TakesPart (O.took out.old) (O.took out.new) bytes.now) }
     ensures cause { HasCause (O.faults out.old) (O.faults out.new) result }
+    ensures served { OnOk result (O.faults out.new ≡ O.faults out.old) }
     ensures none { bytes.now ≡ [] → (result ≡ Ok (record {})) × (out.new ≡ out.old) }
 {
     let mut at = 0;

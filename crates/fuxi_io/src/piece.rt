@@ -80,6 +80,13 @@ impl Piece {
         self.from == self.to
     }
 
+    // Whether a newline waits.
+    pub fn has_newline(&self) -> bool
+        ensures { IsTrue result → NoNewline self.now → ⊥ }
+    {
+        newline(&self.bytes[self.from..self.to]).is_some()
+    }
+
     // Reads the next piece, which is empty at the end alone.
     pub fn fill<S: Source>(&mut self, source: &mut S) -> Result<(), LineStop>
         requires { self.old ≡ [] }
@@ -87,6 +94,7 @@ impl Piece {
         ensures end { OnOk result (self.new ≡ [] → IsAtEnd (S.left source.new)) }
         ensures later { S.faults source.old ≤ S.faults source.new }
         ensures cause { OnErr result (Rose (S.faults source.old) (S.faults source.new)) }
+        ensures served { OnOk result (S.faults source.new ≡ S.faults source.old) }
         ensures stop { IfErr result (λ stop. stop ≡ LineStop.ReadFault) }
         ensures kept { OnErr result (Keeps (S.left source.old) (S.left source.new)) }
         ensures few { length self.new ≤ read_ahead }

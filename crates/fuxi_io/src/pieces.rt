@@ -10,6 +10,7 @@ pub fn write_pieces<O: Sink>(out: &mut O, pieces: &[&[u8]]) -> Result<(), WriteF
     ensures ok { OnOk result (Appends (O.took out.old) (O.took out.new) (concat (map (λ piece. piece.now) pieces.now))) }
     ensures err { OnErr result (TakesPart (O.took out.old) (O.took out.new) (concat (map (λ piece. piece.now) pieces.now))) }
     ensures cause { HasCause (O.faults out.old) (O.faults out.new) result }
+    ensures served { OnOk result (O.faults out.new ≡ O.faults out.old) }
 {
     for piece in pieces {
         match write_all_of(out, piece) {

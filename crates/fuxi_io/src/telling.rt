@@ -62,6 +62,7 @@ fn write_number<E: Sink>(err: &mut E, words: &[u8], number: u64) -> Result<(), W
     ensures ok { OnOk result (Appends (E.took err.old) (E.took err.new) (words.now ++ decimal number ++ codes "\n")) }
     ensures err { OnErr result (TakesPart (E.took err.old) (E.took err.new) (words.now ++ decimal number ++ codes "\n")) }
     ensures cause { HasCause (E.faults err.old) (E.faults err.new) result }
+    ensures served { OnOk result (E.faults err.new ≡ E.faults err.old) }
 {
     let mut buffer = Buffer::new();
     write_pieces(err, &[words, buffer.format(number).as_bytes(), b"\n"])
@@ -73,6 +74,7 @@ pub fn report<E: Sink>(err: &mut E, usage: &[u8], status: &Status) -> Result<(),
     ensures ok { OnOk result (Appends (E.took err.old) (E.took err.new) (status_line usage.now status.now)) }
     ensures err { OnErr result (TakesPart (E.took err.old) (E.took err.new) (status_line usage.now status.now)) }
     ensures cause { HasCause (E.faults err.old) (E.faults err.new) result }
+    ensures served { OnOk result (E.faults err.new ≡ E.faults err.old) }
 {
     match status {
         Status::Done => Ok(()),

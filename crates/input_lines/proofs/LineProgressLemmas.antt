@@ -3,6 +3,7 @@ use Rattle.std.proofs.Common.{◌⊎◌, inl, inr, ◌≡◌, ℕ, ◌+◌, ◌<
 use Rattle.std.specs.List.{concat}
 use Rattle.std.specs.Io.KnownBytes.{Appends, Consumes, IsAtEnd, prepend_known}
 use Rattle.std.proofs.lemmas.Bool.{false≢true}
+use Rattle.fuxi_io.specs.Causes.{TakesPart}
 use Rattle.fuxi_io.specs.Lines.{InputLine, lines_of, GivesKnown, IsFirst, BreaksOff, FirstTooLongKnown, MoreKnown}
 use Rattle.fuxi_io.specs.Reading.{Reading, read_ahead, rest_of}
 use Rattle.fuxi_io.specs.declared.lines.Got.TheVariants.{Line, End}
@@ -18,7 +19,8 @@ use Rattle.schedule_text.specs.ReadEvents.{IsFault}
 use Rattle.schedule_text.specs.declared.event.LineFault.{LineFault}
 use Rattle.schedule_text.specs.declared.event.LineFault.TheVariants.{UnknownWord as LineUnknownWord, WrongCount as LineWrongCount, BadNumber as LineBadNumber, Range as LineRange, OutOfMemory as LineOutOfMemory}
 use Rattle.input_lines.specs.Contents.{content, is_skipped}
-use Rattle.input_lines.specs.LineProgress.{TakesLine, WritesEnd, WritesItsEnd, Along}
+use Rattle.fuxi_io.specs.WriteBuffers.{with_waiting}
+use Rattle.input_lines.specs.LineProgress.{TakesLine, Flushes, MayBreak, WritesEnd, WritesItsEnd, Along}
 use Rattle.input_lines.specs.LineRuns.{Ending, AtEnd, AtBadLine, AtLimit, Run, Said, IsBad, IsPast, Prints, Runner, Ends, ended, behind_all, with_said, run_from, ReadsWhole, StopsWithin, Ended}
 use Rattle.input_lines.specs.InputStatuses.{event_fault, event_status, stop_status}
 use Rattle.input_lines.specs.Wholes.{IsBroken, TakesLines, TakesSome, WritesLast}
@@ -308,3 +310,56 @@ module _ {W S : Type 0} (k : Runner W S) (laws : TakesLines) (start : W) (input 
         → GivesKnown Line rest line (prepend_known pending source) → ((v : W) → Stands v → TakesLine {A = Unit {0}} k.says Stands' said told v (Err status) w w') → IfSome input (λ bytes. Ended e (run_from k first start) bytes status source w0 w')
     line_along pending source w' line said told status Stands' says counted more few gives takes = weaker input _ _ (λ bytes (along : Along k start bytes first number ends Stands rest w0 w).
         line_ended k laws start bytes first number ends Stands rest w0 w along e final pending source w' line status Stands' more few gives (of_line line said told says counted Stands' w' (Err status) takes along.state along.stands)) a
+
+-- the outputs with those that wait, once what waits was written
+pub appends_flushed : (before took now : Option (List ℕ)) (waiting text : List ℕ) → Appends took now waiting → Appends before (with_waiting took waiting) text → Appends before now text
+appends_flushed None took now waiting text k h = tt
+appends_flushed (Some p) None now waiting text k h = absurd h
+appends_flushed (Some p) (Some q) None waiting text k h = absurd k
+appends_flushed (Some p) (Some q) (Some r) waiting text k h = k ∙ h
+
+pub appends_alone : (before took : Option (List ℕ)) (text : List ℕ) → Appends before took text → Appends before (with_waiting took []) text
+appends_alone None took text h = tt
+appends_alone (Some p) None text h = absurd h
+appends_alone (Some p) (Some q) text h = append-nil q ∙ h
+
+-- the same outputs are out in other words
+pub along_with : {W S : Type 0} (k : Runner W S) (start : W) (input : Option (List ℕ)) (first number : ℕ) (ends : Bool) (Stands : W → Type 0) (rest w0 w now : Option (List ℕ)) → IfSome input (λ bytes. Along k start bytes first number ends Stands rest w0 w)
+    → ((before : Option (List ℕ)) (text : List ℕ) → Appends before w text → Appends before now text) → IfSome input (λ bytes. Along k start bytes first number ends Stands rest w0 now)
+along_with k start input first number ends Stands rest w0 w now a same = weaker input _ _ (λ bytes (along : Along k start bytes first number ends Stands rest w0 w). record {
+  lines = along.lines;
+  left = along.left;
+  is_left = along.is_left;
+  cut = along.cut;
+  taken = along.taken;
+  front = along.front;
+  writes = same w0 (concat along.front) along.writes;
+  state = along.state;
+  stands = along.stands;
+  through = along.through;
+}) a
+
+-- what waits is written, and the run ends; or it ends within what waited
+pub ends_flushed : {W S : Type 0} (e : Ends W S) (run : List InputLine → Run S) (input source w0 took now : Option (List ℕ)) (waiting : List ℕ) (status : Status) (does : Option (List ℕ) → Type 0) → IfSome input (λ bytes. MayBreak e run bytes source w0 took waiting)
+    → Flushes waiting status took now does → ((mid : Option (List ℕ)) → Appends took mid waiting → does mid → IfSome input (λ bytes. Ended e run bytes status source w0 now)) → IfSome input (λ bytes. Ended e run bytes status source w0 now)
+ends_flushed e run input source w0 took now waiting status does cut (inl h) ends = weaker input _ _ (λ bytes (c : MayBreak e run bytes source w0 took waiting). subst (λ s. Ended e run bytes s source w0 now) (sym h.0) (c now h.1)) cut
+ends_flushed e run input source w0 took now waiting status does cut (inr h) ends = ends h.0 h.1 h.2
+
+-- nothing that waits can break off
+pub none_waits : {W S : Type 0} (e : Ends W S) (run : List InputLine → Run S) (input source w0 took : Option (List ℕ)) → IfSome input (λ bytes. MayBreak e run bytes source w0 took [])
+none_waits e run None source w0 took = tt
+none_waits e run (Some bytes) source w0 took = λ after part. absurd (omega (arith, part.1))
+
+-- nothing waits any more, or all is as it was and so is the source
+pub breaks_still : {W S H : Type 0} (e : Ends W S) (run : List InputLine → Run S) (input source source' w0 took took' : Option (List ℕ)) (waiting waiting' : List ℕ) → IfSome input (λ bytes. MayBreak e run bytes source w0 took waiting)
+    → (waiting' ≡ []) ⊎ ((waiting' ≡ waiting) × (took' ≡ took) × H) → (H → source' ≡ source) → IfSome input (λ bytes. MayBreak e run bytes source' w0 took' waiting')
+breaks_still e run input source source' w0 took took' waiting waiting' cut (inl none) still = subst (λ xs. IfSome input (λ bytes. MayBreak e run bytes source' w0 took' xs)) (sym none) (none_waits e run input source' w0 took')
+breaks_still e run input source source' w0 took took' waiting waiting' cut (inr h) still =
+    subst (λ xs. IfSome input (λ bytes. MayBreak e run bytes source' w0 took' xs)) (sym h.0)
+    (subst (λ t. IfSome input (λ bytes. MayBreak e run bytes source' w0 t waiting)) (sym h.1)
+    (subst (λ s. IfSome input (λ bytes. MayBreak e run bytes s w0 took waiting)) (sym (still h.2)) cut))
+
+pub breaks_by : {W S : Type 0} (e : Ends W S) (run : List InputLine → Run S) (input source w0 took : Option (List ℕ)) (waiting : List ℕ) → ((after : Option (List ℕ)) → TakesPart took after waiting → IfSome input (λ bytes. Ended e run bytes WriteFault source w0 after))
+    → IfSome input (λ bytes. MayBreak e run bytes source w0 took waiting)
+breaks_by e run None source w0 took waiting ends = tt
+breaks_by e run (Some bytes) source w0 took waiting ends = λ after part. ends after part

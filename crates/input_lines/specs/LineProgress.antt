@@ -4,10 +4,11 @@ use Rattle.std.specs.Io.KnownBytes.{Appends}
 use Rattle.std.specs.List.{concat}
 use Rattle.fuxi_io.specs.Causes.{TakesPart}
 use Rattle.fuxi_io.specs.Lines.{InputLine, lines_of}
+use Rattle.fuxi_io.specs.WriteBuffers.{with_waiting}
 use Rattle.fuxi_io.specs.declared.status.Status.{Status}
 use Rattle.fuxi_io.specs.declared.status.Status.TheVariants.{Done, Usage, BadInput, ReadFault, WriteFault, Limit, OutOfMemory, DiskFault, StaleEpoch, DamagedCheckpoint}
 use Rattle.input_lines.specs.Contents.{is_skipped}
-use Rattle.input_lines.specs.LineRuns.{AtEnd, Run, Said, IsBad, IsPast, Prints, Runner, Ends, behind_all, run_from}
+use Rattle.input_lines.specs.LineRuns.{AtEnd, Run, Said, IsBad, IsPast, Prints, Runner, Ends, behind_all, run_from, StopsWithin}
 use Rattle.input_lines.specs.Wholes.{AreTaken}
 
 -- the line prints this text in the state, and leaves one for which what runs stands
@@ -30,6 +31,25 @@ TakesLine says Stands line number w (Err ReadFault) before after = ⊥
 TakesLine says Stands line number w (Err DiskFault) before after = ⊥
 TakesLine says Stands line number w (Err (StaleEpoch fence)) before after = ⊥
 TakesLine says Stands line number w (Err (DamagedCheckpoint offset)) before after = ⊥
+
+-- what waited was written, and then this was done; or a part of it was, which is a fault
+abbrev pub Flushes : List ℕ → Status → Option (List ℕ) → Option (List ℕ) → (Option (List ℕ) → Type 0) → Type 0
+Flushes waiting status took now does = ((status ≡ WriteFault) × TakesPart took now waiting) ⊎ ((mid : Option (List ℕ)) × Appends took mid waiting × does mid)
+
+-- what was taken and what waits are together what they were
+abbrev pub StaysWaiting : Option (List ℕ) → List ℕ → Option (List ℕ) → List ℕ → Type 0
+StaysWaiting took waiting now left = (before : Option (List ℕ)) (text : List ℕ) → Appends before (with_waiting took waiting) text → Appends before (with_waiting now left) text
+
+-- what taking the line with this number did where its text waits behind what waited
+abbrev pub TakesLineBehind : {W : Type 0} → (W → List ℕ → Said W) → (W → Type 0) → (W → Type 0) → List ℕ → ℕ → Result (Unit {0}) Status → List ℕ → List ℕ → Option (List ℕ) → Option (List ℕ) → Type 0
+TakesLineBehind {W} says Stood Stands line number (Ok done) waiting left took now =
+    ((w : W) → Stood w → TakesLine says Stands line number w (Ok done) (with_waiting took waiting) (with_waiting now left))
+    × ((after : Option (List ℕ)) → TakesPart now after left → Flushes waiting WriteFault took after (λ mid. (w : W) → Stood w → TakesLine {A = Unit {0}} says Stands line number w (Err WriteFault) mid after))
+TakesLineBehind {W} says Stood Stands line number (Err status) waiting left took now = Flushes waiting status took now (λ mid. (w : W) → Stood w → TakesLine {A = Unit {0}} says Stands line number w (Err status) mid now)
+
+-- whatever part of what waits was taken, the run stopped within the output of a line that it took
+abbrev pub MayBreak : {W S : Type 0} → Ends W S → (List InputLine → Run S) → List ℕ → Option (List ℕ) → Option (List ℕ) → Option (List ℕ) → List ℕ → Type 0
+MayBreak e run bytes left before now waiting = (after : Option (List ℕ)) → TakesPart now after waiting → StopsWithin e run bytes left before after
 
 -- what ending a run in this state with this status wrote behind its last line
 abbrev pub WritesEnd : {W S : Type 0} → Ends W S → W → Status → Option (List ℕ) → Option (List ℕ) → Type 0

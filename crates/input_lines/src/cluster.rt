@@ -25,6 +25,7 @@ pub fn read_cluster_line<S: Source>(
     ensures ahead { length lines.new.pending ≤ read_ahead }
     ensures later { S.faults source.old ≤ S.faults source.new }
     ensures read { result ≡ Err Status.ReadFault → Rose (S.faults source.old) (S.faults source.new) }
+    ensures served { result ≢ Err Status.ReadFault → S.faults source.new ≡ S.faults source.old }
     ensures limit { lines.old.stop ≡ None → (what : LimitOf) (kept : ℕ) → result ≡ Err (Status.Limit what kept) → (what ≡ LimitOf.Lines) × (kept ≡ most_lines) }
     ensures done { result ≢ Err Status.Done }
     ensures usage { result ≢ Err Status.Usage }

@@ -40,8 +40,8 @@ fn take_line<O: Sink>(
     ensures takes { (w : World) → Stands working.old w → TakesLine working.new line.now number w result (O.took out.old) (O.took out.new) }
     ensures reached { OnOk result (IsReached working.new) }
     ensures events { OnOk result (working.new.events ≤ working.old.events + 1) }
-    ensures later { O.faults out.old ≤ O.faults out.new }
     ensures fault { result ≡ Err Status.WriteFault → Rose (O.faults out.old) (O.faults out.new) }
+    ensures served { result ≢ Err Status.WriteFault → O.faults out.new ≡ O.faults out.old }
     ensures limit { (what : LimitOf) (kept : ℕ) → result ≡ Err (Status.Limit what kept) → what ≡ LimitOf.Packets }
     ensures usage { result ≢ Err Status.Usage }
     ensures read { result ≢ Err Status.ReadFault }
@@ -72,6 +72,7 @@ fn write_state<O: Sink>(alloc: Global, working: &Working, out: &mut O) -> Status
     requires { IsReached working.now }
     ensures writes { (w : World) → Stands working.now w → WritesState w result (O.took out.old) (O.took out.new) }
     ensures fault { result ≡ Status.WriteFault → Rose (O.faults out.old) (O.faults out.new) }
+    ensures served { result ≢ Status.WriteFault → O.faults out.new ≡ O.faults out.old }
     ensures read { result ≢ Status.ReadFault }
     ensures usage { result ≢ Status.Usage }
     ensures limit { (what : LimitOf) (kept : ℕ) → result ≢ Status.Limit what kept }
@@ -106,6 +107,8 @@ fn run_lines<S: Source, O: Sink>(
     ensures ended { IfSome (S.left source.old) (λ bytes. Ended (run_from 0 empty_world) bytes result (S.left source.new) (O.took out.old) (O.took out.new)) }
     ensures read { result ≡ Status.ReadFault → Rose (S.faults source.old) (S.faults source.new) }
     ensures write { result ≡ Status.WriteFault → Rose (O.faults out.old) (O.faults out.new) }
+    ensures reads_served { result ≢ Status.ReadFault → S.faults source.new ≡ S.faults source.old }
+    ensures writes_served { result ≢ Status.WriteFault → O.faults out.new ≡ O.faults out.old }
     ensures limit { (what : LimitOf) (kept : ℕ) → result ≡ Status.Limit what kept → (what ≡ LimitOf.Packets) ⊎ ((what ≡ LimitOf.Lines) × (kept ≡ most_lines)) }
     ensures usage { result ≢ Status.Usage }
     ensures disk { result ≢ Status.DiskFault }
@@ -137,6 +140,8 @@ fn run_begun<S: Source, O: Sink>(alloc: Global, source: &mut S, out: &mut O) -> 
     ensures ended { IfSome (S.left source.old) (λ bytes. Ended (run_from 0 empty_world) bytes result (S.left source.new) (O.took out.old) (O.took out.new)) }
     ensures read { result ≡ Status.ReadFault → Rose (S.faults source.old) (S.faults source.new) }
     ensures write { result ≡ Status.WriteFault → Rose (O.faults out.old) (O.faults out.new) }
+    ensures reads_served { result ≢ Status.ReadFault → S.faults source.new ≡ S.faults source.old }
+    ensures writes_served { result ≢ Status.WriteFault → O.faults out.new ≡ O.faults out.old }
     ensures limit { (what : LimitOf) (kept : ℕ) → result ≡ Status.Limit what kept → (what ≡ LimitOf.Packets) ⊎ ((what ≡ LimitOf.Lines) × (kept ≡ most_lines)) }
     ensures usage { result ≢ Status.Usage }
     ensures disk { result ≢ Status.DiskFault }
@@ -161,6 +166,8 @@ pub fn run_work<S: Source, O: Sink>(alloc: Global, source: &mut S, out: &mut O) 
     ensures ended { IfSome (S.left source.old) (λ bytes. Ended (run_from 0 empty_world) bytes result (S.left source.new) (O.took out.old) (O.took out.new)) }
     ensures read { result ≡ Status.ReadFault → Rose (S.faults source.old) (S.faults source.new) }
     ensures write { result ≡ Status.WriteFault → Rose (O.faults out.old) (O.faults out.new) }
+    ensures reads_served { result ≢ Status.ReadFault → S.faults source.new ≡ S.faults source.old }
+    ensures writes_served { result ≢ Status.WriteFault → O.faults out.new ≡ O.faults out.old }
     ensures limit { (what : LimitOf) (kept : ℕ) → result ≡ Status.Limit what kept → (what ≡ LimitOf.Packets) ⊎ ((what ≡ LimitOf.Lines) × (kept ≡ most_lines)) }
     ensures usage { result ≢ Status.Usage }
     ensures disk { result ≢ Status.DiskFault }

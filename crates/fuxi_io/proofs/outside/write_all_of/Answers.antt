@@ -1,4 +1,4 @@
-use Rattle.std.proofs.Common.{◌≤◌, arith, take, length, length-drop, subst}
+use Rattle.std.proofs.Common.{◌≤◌, ◌∙◌, arith, take, length, length-drop, subst}
 use Rattle.std.proofs.lemmas.List.{take_rest}
 use Rattle.std.specs.Io.KnownBytes.{Appends}
 use Rattle.fuxi_io.proofs.AppendsLemmas.{appends_more}
@@ -16,6 +16,6 @@ loop-at-preserved g c =
     record {
       within = omega (arith, bound, length-drop at bytes, c.loop-at-test.true);
       took = appends_more _ _ _ bytes at n c.loop-at.invariant.took wrote;
-      later = omega (arith, c.loop-at.invariant.later, c.in-Ok.ensures.cause.later);
+      same = c.in-Ok.ensures.served ∙ c.loop-at.invariant.same;
       unused = λ zero. absurd (omega (arith, some, zero));
     }

@@ -6,7 +6,7 @@ abbrev pub invariant-loop-at : goal.invariant-loop-at
 invariant-loop-at g l = record {
   within : l.at ≤ length l.bytes;
   took : Appends (g.O.Sink.took l.fn.out) (g.O.Sink.took l.out) (take l.at l.bytes);
-  later : g.O.Sink.faults l.fn.out ≤ g.O.Sink.faults l.out;
+  same : g.O.Sink.faults l.out ≡ g.O.Sink.faults l.fn.out;
   unused : l.at ≡ 0 → l.out ≡ l.fn.out;
 }
 

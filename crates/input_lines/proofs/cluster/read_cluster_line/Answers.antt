@@ -1,4 +1,4 @@
-use Rattle.std.proofs.Common.{◌≡◌, ◌+◌, Ok, Err, sym, ◌∙◌, ap, subst, arith}
+use Rattle.std.proofs.Common.{◌≡◌, ◌+◌, Ok, Err, refl, sym, ◌∙◌, ap, subst, arith}
 use Rattle.fuxi_io.specs.Reading.{line_of}
 use Rattle.cluster_desc.specs.ClusterLine.{cluster_of}
 use Rattle.cluster_desc.specs.Faults.{IsFault}
@@ -15,7 +15,7 @@ loop-turn-init g c = record {
   small = λ h. absurd (omega (arith, h));
   running = λ e. e;
   unstopped = c.requires;
-  read = omega arith;
+  same = refl;
 }
 
 pub returns-in-Ok-clause-opened : goal.returns-in-Ok-clause-opened
@@ -64,5 +64,5 @@ loop-turn-preserved g c =
       small = λ h. omega (arith, next, c.number-number.ensures.value, more);
       running = λ none. c.in-Ok-Line.ensures.stop;
       unstopped = λ e. let f = sym c.in-Ok-Line.ensures.stop ∙ e in cc;
-      read = omega (arith, c.loop-turn.invariant.read, c.in-Ok-Line.ensures.later);
+      same = c.in-Ok-Line.ensures.served (λ e. cc) ∙ c.loop-turn.invariant.same;
     }

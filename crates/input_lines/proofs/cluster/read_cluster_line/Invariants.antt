@@ -13,5 +13,5 @@ invariant-loop-turn g l = record {
   small : 1 ≤ l.turn → l.lines.number ≤ most_lines;
   running : l.fn.lines.stop ≡ None → l.lines.stop ≡ None;
   unstopped : l.lines.stop ≢ Some ReadFault;
-  read : g.S.Source.faults l.fn.source ≤ g.S.Source.faults l.source;
+  same : g.S.Source.faults l.source ≡ g.S.Source.faults l.fn.source;
 }

@@ -1,5 +1,6 @@
 use Rattle.std.proofs.Common.{◌≡◌, ◌+◌, ◌<◌, true, false, Ok, Err, refl, sym, ◌∙◌, ap, arith}
 use Rattle.fuxi_io.specs.Reading.{Reading, line_of, rest_of}
+use Rattle.fuxi_io.specs.declared.status.Status.TheVariants.{WriteFault}
 use Rattle.fuxi_terms.specs.Limits.{most_lines}
 use Rattle.input_lines.specs.Contents.{content}
 use Rattle.input_lines.proofs.Known.{line_said, running_alone}
@@ -18,8 +19,8 @@ loop-turn-init g c = record {
   number = omega arith;
   small = λ h. absurd (omega (arith, h));
   running = ap (λ (r : Reading). r.stop) c.requires.fresh;
-  read = omega arith;
-  wrote = omega arith;
+  read = refl;
+  wrote = refl;
 }
 
 pub returns-in-Ok-End-clause-ended : goal.returns-in-Ok-End-clause-ended
@@ -68,6 +69,9 @@ loop-turn-preserved g c =
       number = omega (arith, counted, i.number);
       small = λ h. omega (arith, counted, more);
       running = c.in-Ok-Line.ensures.stop;
-      read = omega (arith, i.read, c.in-Ok-Line.ensures.later);
-      wrote = omega (arith, i.wrote, c.in-Ok.ensures.later);
+      read = c.in-Ok-Line.ensures.served (λ e. cc) ∙ i.read;
+      wrote = c.in-Ok.ensures.served (λ e. cc) ∙ i.wrote;
     }
+
+pub returns-in-Err-take_line-clause-writes_served : goal.returns-in-Err-take_line-clause-writes_served
+returns-in-Err-take_line-clause-writes_served g c other = c.in-Err-take_line.ensures.served (λ e. other (let i : c.in-Err-take_line.status ≡ WriteFault = cc in i)) ∙ c.loop-turn.invariant.wrote

@@ -15,6 +15,6 @@ invariant-loop-turn g l = record {
   number : l.turn ≤ l.lines.number;
   small : 1 ≤ l.turn → l.lines.number ≤ most_lines;
   running : l.lines.stop ≡ None;
-  read : g.S.Source.faults l.fn.source ≤ g.S.Source.faults l.source;
-  wrote : g.O.Sink.faults l.fn.out ≤ g.O.Sink.faults l.out;
+  read : g.S.Source.faults l.source ≡ g.S.Source.faults l.fn.source;
+  wrote : g.O.Sink.faults l.out ≡ g.O.Sink.faults l.fn.out;
 }
