@@ -1,7 +1,7 @@
-ghost use Rattle.std.specs.Prelude.{◌≡◌, ◌≢◌, ◌<◌, ◌≤◌, ℕ, Err, None, OnErr, OnOk, IfOk, IfErr, false, true};
+ghost use Rattle.std.specs.Prelude.{◌≡◌, ◌≢◌, ◌<◌, ◌≤◌, ℕ, Err, None, OnErr, OnOk, IfOk, false, true};
 ghost use Rattle.fuxi_io.specs.Causes.{Rose};
 ghost use Rattle.fuxi_io.specs.Disks.{WhereTold};
-ghost use Rattle.hard_state.specs.HardFiles.{IsDamagedAt, Opens, SyncsAll};
+ghost use Rattle.hard_state.specs.HardFiles.{IsDamagedAt, KeepsDamaged, Opens, SyncsAll};
 ghost use Rattle.epoch_lease.specs.Files.{lease_of, LeavesStep, OpensLease};
 ghost use Rattle.epoch_lease.specs.Leases.{becomes, holds, lease_step, IsGrant};
 ghost use Rattle.epoch_lease.specs.declared.event.LeaseEvent.TheVariants.{Acquire, Renew, Release, Expire};
@@ -42,7 +42,7 @@ impl Lease {
     /// The lease of a checkpoint: nobody holds, and the last epoch is its fence. It begins with a sync; a file of at most one byte stands
     /// for a lease that granted nothing, and gets its closed gate.
     ///
-    /// `NotCheckpoint` tells the offset of the first damaged record, and then nothing was written.
+    /// `NotCheckpoint` tells the offset of the first damaged record. Such a file is synced at most, whatever is answered.
     pub fn open<D: Disk>(alloc: Global, disk: &mut D) -> Result<Lease, LeaseFault>
         ensures free { IfOk result (λ lease. lease.holder ≡ None) }
         ensures opened { IfOk result (λ lease. WhereTold (OpensLease lease) (D.told disk.old) (D.told disk.new)) }
@@ -51,9 +51,10 @@ impl Lease {
         ensures long { IfOk result (λ lease. lease.hard.gate < D.size disk.new) }
         ensures later { D.faults disk.old ≤ D.faults disk.new }
         ensures cause { result ≡ Err LeaseFault.DiskFault → Rose (D.faults disk.old) (D.faults disk.new) }
-        ensures served { IfErr result (λ fault. fault ≢ LeaseFault.DiskFault → D.faults disk.new ≡ D.faults disk.old) }
+        ensures served { result ≢ Err LeaseFault.DiskFault → D.faults disk.new ≡ D.faults disk.old }
         // Where the file has no damaged record, at each moment from the first sync on a crash leaves a file that stands for the same.
         ensures told { WhereTold Opens (D.told disk.old) (D.told disk.new) }
+        ensures keeps { KeepsDamaged (D.told disk.old) (D.told disk.new) }
         ensures untouched { (offset : ℕ) → result ≡ Err (LeaseFault.NotCheckpoint offset) → WhereTold SyncsAll (D.told disk.old) (D.told disk.new) }
     {
         match Hard::open(alloc, disk) {
@@ -82,6 +83,7 @@ impl Lease {
         ensures long { result ≢ Err LeaseFault.DiskFault → self.new.hard.gate < D.size disk.new }
         ensures later { D.faults disk.old ≤ D.faults disk.new }
         ensures cause { result ≡ Err LeaseFault.DiskFault → Rose (D.faults disk.old) (D.faults disk.new) }
+        ensures served { result ≢ Err LeaseFault.DiskFault → D.faults disk.new ≡ D.faults disk.old }
         ensures told { WhereTold (LeavesStep self.old self.new (lease_step (lease_of self.old) event.now).state result) (D.told disk.old) (D.told disk.new) }
         // Only a grant calls the disk, and it leaves the jobs and bans of the checkpoint.
         ensures idle { (IsGrant (lease_step (lease_of self.old) event.now).answer → ⊥) → disk.new ≡ disk.old }
@@ -108,6 +110,7 @@ impl Lease {
         ensures long { result ≢ Err LeaseFault.DiskFault → self.new.hard.gate < D.size disk.new }
         ensures later { D.faults disk.old ≤ D.faults disk.new }
         ensures cause { result ≡ Err LeaseFault.DiskFault → Rose (D.faults disk.old) (D.faults disk.new) }
+        ensures served { result ≢ Err LeaseFault.DiskFault → D.faults disk.new ≡ D.faults disk.old }
         ensures told { WhereTold (LeavesStep self.old self.new (lease_step (lease_of self.old) (Acquire holder)).state result) (D.told disk.old) (D.told disk.new) }
         ensures idle { (IsGrant (lease_step (lease_of self.old) (Acquire holder)).answer → ⊥) → disk.new ≡ disk.old }
         ensures kept { OnOk result ((self.new.hard.value.jobs ≡ self.old.hard.value.jobs) × (self.new.hard.value.bans ≡ self.old.hard.value.bans)) }

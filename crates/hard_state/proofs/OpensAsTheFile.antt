@@ -10,7 +10,8 @@ use Rattle.hard_records.specs.declared.records.Record.{Record}
 use Rattle.hard_state.specs.Gates.{WritesThrough}
 use Rattle.hard_state.specs.Checkpoints.{Opened, Closed, Damaged, Whole, found_at, read_on}
 use Rattle.hard_state.specs.FilePieces.{Piece, IsPieceOf, Reaches, end_of}
-use Rattle.hard_state.specs.HardFiles.{record_taken, taken, reads_as, value_of, records_of, Kept, opened_as, Opens, OpensAs, IsDamagedAt, Begins}
+use Rattle.hard_state.specs.HardFiles.{record_taken, taken, reads_as, value_of, records_of, Kept, opened_as, Opens, OpensAs, IsDamagedAt, Begins, Settles, KeepsDamaged}
+use Rattle.hard_state.proofs.HardFilesLemmas.{whole_keeps}
 use Rattle.hard_state.proofs.Images.{synced_image, length-overwritten}
 use Rattle.hard_state.proofs.ReadsAlike.{reads_closed, reads_damaged, reads_whole, found_piece}
 use Rattle.hard_state.proofs.Runs.{Then, then_where, map_where, knowing_first, knowing_second, IsLong, leaves_first, leaves_write, leaves_sync}
@@ -143,6 +144,12 @@ where_some : (K : Told → Type 0) (a : Option Told) → ((t : Told) → a ≡ S
 where_some K None f = tt
 where_some K (Some t) f = f t refl
 
+-- what is known of the first
+where_first : (K : Told → Type 0) (a b : Option Told) → WhereTold (λ old new. K old) a b → IfSome a K
+where_first K None b known = tt
+where_first K (Some t) None known = absurd known
+where_first K (Some t) (Some u) known = known
+
 both_some : (K L : Told → Type 0) (a : Option Told) → IfSome a K → IfSome a L → IfSome a (λ t. K t × L t)
 both_some K L None k l = tt
 both_some K L (Some t) k l = (k, l)
@@ -154,6 +161,11 @@ settling_fails E d a b s = map_where {S = Opens} a b
     inr (subst (LeavesAlways (λ file. records_of file ≡ Ok value) (then_told old (after_sync old.now))) (sym is)
     (leaves_first (λ file. records_of file ≡ Ok value) (then_told old (after_sync old.now)) (λ left image. ap records_of (synced_image old.now.bytes left image) ∙ stands)))) h)
     s
+
+-- a disk that was synced at most has its damaged file as it was
+pub settling_keeps : (a b : Option Told) → WhereTold Settles a b → KeepsDamaged a b
+settling_keeps None b s = tt
+settling_keeps (Some t) b s = λ offset damaged. s
 
 -- an opening, once its sync was served
 module _ (E : Type 0) (a b : Option Told) (d : Unit {0}) (synced : WhereTold (Syncs {E = E} (Ok d)) a b) where
@@ -168,6 +180,9 @@ module _ (E : Type 0) (a b : Option Told) (d : Unit {0}) (synced : WhereTold (Sy
       rests old new is value stands =
           inr (subst (LeavesAlways (λ file. records_of file ≡ Ok value) (then_told old (after_sync old.now))) (sym is)
           (leaves_first (λ file. records_of file ≡ Ok value) (then_told old (after_sync old.now)) (λ left image. ap records_of (synced_image old.now.bytes left image) ∙ stands)))
+
+  pub keeping_rests : (c : Option Told) → c ≡ b → KeepsDamaged a c
+  keeping_rests c same = subst (KeepsDamaged a) (sym same) (settling_keeps a b (map_where {S = Settles} a b (λ old new is. inr is) synced))
 
   -- a short file gets its closed gate
   module _ {A F : Type 0} (c e : Option Told) (size : ℕ) (result : Result A F) (same : c ≡ b) (short : size ≤ 1) (known : IfSome c (IsLong size)) (begins : WhereTold (Begins result) c e) where
@@ -189,6 +204,10 @@ module _ (E : Type 0) (a b : Option Told) (d : Unit {0}) (synced : WhereTold (Sy
         let empty : Ok empty_hard ≡ Ok value = sym (short_file old.now.bytes (few old new h)) ∙ stands in
         inr (subst (λ (t : Told). LeavesAlways (λ file. records_of file ≡ Ok value) t new) h.1 (subst (λ r. LeavesAlways (λ file. records_of file ≡ r) h.0 new) empty (begun old new h).0)))
         both
+
+    -- which has no damaged record
+    pub keeping_begins : KeepsDamaged a e
+    keeping_begins = whole_keeps empty_hard a e (where_first (λ t. records_of t.now.bytes ≡ Ok empty_hard) a e (map_where {S = λ old new. records_of old.now.bytes ≡ Ok empty_hard} a e (λ old new h. short_file old.now.bytes (few old new h)) both))
 
     pub opens_empty : (k : Kept) → ((P : Type 0) → OnOk result P → P) → k.value ≡ empty_hard → k.gate ≡ 0 → WhereTold (OpensAs k) a e
     opens_empty k ok value gate = map_where {S = OpensAs k} a e

@@ -1,6 +1,6 @@
 -- What a checkpoint stands for, and what the calls on it do.
-use Rattle.std.specs.Prelude.{◌≡◌, ◌⊎◌, ℕ, ◌<◌, ◌≤◌, Bool, true, false, List, [], ◌∷◌, length, Option, Some, None, Result, Ok, Err, OnOk, IsOk}
-use Rattle.fuxi_io.specs.Disks.{Moment, Told, synced_moment, then_told, after_sync, LeavesAlways}
+use Rattle.std.specs.Prelude.{◌≡◌, ◌⊎◌, ℕ, ◌<◌, ◌≤◌, Bool, true, false, List, [], ◌∷◌, length, Option, Some, None, Result, Ok, Err, OnOk, IsOk, IfSome}
+use Rattle.fuxi_io.specs.Disks.{Moment, Told, synced_moment, then_told, after_sync, LeavesAlways, WhereTold}
 use Rattle.fuxi_terms.specs.Cluster.{is_valid_job}
 use Rattle.fuxi_terms.specs.Jobs.{KnownJob, is_known}
 use Rattle.fuxi_terms.specs.Limits.{most_records, most_jobs, most_machines}
@@ -92,6 +92,10 @@ SyncsAll old new = new ≡ then_told old (after_sync old.now)
 
 abbrev pub Settles : Told → Told → Type 0
 Settles old new = (new ≡ old) ⊎ SyncsAll old new
+
+-- Where the disk told a file with a damaged record, that file is as it was, whatever is answered: at most it is synced.
+abbrev pub KeepsDamaged : Option Told → Option Told → Type 0
+KeepsDamaged old new = IfSome old (λ t. (offset : ℕ) → records_of t.now.bytes ≡ Err offset → WhereTold Settles old new)
 
 -- A file of at most one byte is made one of a closed gate.
 abbrev pub Begins : {A E : Type 0} → Result A E → Told → Told → Type 0

@@ -15,6 +15,7 @@ pub fn write_through<D: Disk>(disk: &mut D, at: u64, bytes: &[u8]) -> Result<(),
     ensures size { OnOk result (D.size disk.new ≡ max (D.size disk.old) (at + length bytes.now)) }
     ensures told { WhereTold (WritesThrough at bytes.now result) (D.told disk.old) (D.told disk.new) }
     ensures cause { HasCause (D.faults disk.old) (D.faults disk.new) result }
+    ensures served { OnOk result (D.faults disk.new ≡ D.faults disk.old) }
 {
     match disk.write_at(at, bytes) {
         Ok(()) => {}
@@ -31,6 +32,7 @@ pub fn append<D: Disk>(disk: &mut D, gate: u64, bytes: &[u8]) -> Result<(), Fail
     ensures told { WhereTold (Appends gate bytes.now result) (D.told disk.old) (D.told disk.new) }
     ensures calls { WhereTold (MakesCalls (appending_calls gate bytes.now) result) (D.told disk.old) (D.told disk.new) }
     ensures cause { HasCause (D.faults disk.old) (D.faults disk.new) result }
+    ensures served { OnOk result (D.faults disk.new ≡ D.faults disk.old) }
 {
     match write_through(disk, gate + 1, bytes) {
         Ok(()) => {}

@@ -8,7 +8,7 @@ ghost use Rattle.fuxi_terms.specs.Limits.{most_machines, most_records};
 ghost use Rattle.written_roles.specs.HardState.{Raise, Submission, Finishing, Banning, Unbanning, empty_hard, hard_step};
 ghost use Rattle.hard_records.specs.RecordBodies.{body_of, record_in, IsWithinLimits};
 ghost use Rattle.hard_state.specs.Checkpoints.{behind_gate};
-ghost use Rattle.hard_state.specs.HardFiles.{event_of, IsAskedBy, Refuses, WritesStep, Opens, OpensAs, IsDamagedAt, IsOpeningFault, Begins, SyncsAll};
+ghost use Rattle.hard_state.specs.HardFiles.{event_of, IsAskedBy, Refuses, WritesStep, Opens, OpensAs, IsDamagedAt, IsOpeningFault, Begins, SyncsAll, KeepsDamaged};
 ghost use Rattle.hard_state.specs.Moments.{Moments, writing_calls};
 
 use crate::fault::HardFault;
@@ -91,8 +91,8 @@ impl Hard {
     ///
     /// `NotCheckpoint` tells the offset of the first damaged record: the length of its body runs past the end of the file or no
     /// byte follows the body, the body is that of no record, or the record is one that no master could have written there.
-    /// It takes memory for a piece of the file and for what it stands for. `DiskFault` comes where the disk failed,
-    /// and `OutOfMemory` where memory was refused.
+    /// Such a file is synced at most, whatever is answered. It takes memory for a piece of the file and for what it stands for.
+    /// `DiskFault` comes where the disk failed, and only there, and `OutOfMemory` where memory was refused.
     pub fn open<D: Disk>(alloc: Global, disk: &mut D) -> Result<Hard, HardFault>
         ensures opened { IfOk result (λ hard. WhereTold (OpensAs hard) (D.told disk.old) (D.told disk.new)) }
         ensures damaged { (offset : ℕ) → result ≡ Err (HardFault.NotCheckpoint offset) → WhereTold (IsDamagedAt offset) (D.told disk.old) (D.told disk.new) }
@@ -101,8 +101,9 @@ impl Hard {
         ensures long { IfOk result (λ hard. hard.gate < D.size disk.new) }
         ensures later { D.faults disk.old ≤ D.faults disk.new }
         ensures cause { result ≡ Err HardFault.DiskFault → Rose (D.faults disk.old) (D.faults disk.new) }
-        ensures served { IfErr result (λ fault. fault ≢ HardFault.DiskFault → D.faults disk.new ≡ D.faults disk.old) }
+        ensures served { result ≢ Err HardFault.DiskFault → D.faults disk.new ≡ D.faults disk.old }
         ensures told { WhereTold Opens (D.told disk.old) (D.told disk.new) }
+        ensures keeps { KeepsDamaged (D.told disk.old) (D.told disk.new) }
         ensures untouched { (offset : ℕ) → result ≡ Err (HardFault.NotCheckpoint offset) → WhereTold SyncsAll (D.told disk.old) (D.told disk.new) }
     {
         let len = match settle(disk) {
@@ -132,7 +133,7 @@ impl Hard {
         ensures long { OnOk result (0 < D.size disk.new) }
         ensures later { D.faults disk.old ≤ D.faults disk.new }
         ensures cause { result ≡ Err HardFault.DiskFault → Rose (D.faults disk.old) (D.faults disk.new) }
-        ensures served { IfErr result (λ fault. fault ≢ HardFault.DiskFault → D.faults disk.new ≡ D.faults disk.old) }
+        ensures served { result ≢ Err HardFault.DiskFault → D.faults disk.new ≡ D.faults disk.old }
     {
         let state = match State::nothing(alloc) {
             Ok(state) => state,
@@ -158,11 +159,12 @@ impl Hard {
         ensures refused { IfErr result (Refuses (hard_step self.old.value epoch (event_of change))) }
         ensures unchanged { IfErr result (λ fault. fault ≢ HardFault.DiskFault → (self.new ≡ self.old) × (disk.new ≡ disk.old)) }
         ensures broken { result ≡ Err HardFault.DiskFault → self.new ≡ record self.old { broken = true } }
+        ensures told { WhereTold (WritesStep (hard_step self.old.value epoch (event_of change)) self.old self.new result) (D.told disk.old) (D.told disk.new) }
+        ensures moments { WhereTold (Moments (writing_calls self.old.gate epoch (event_of change)) result) (D.told disk.old) (D.told disk.new) }
         ensures long { OnOk result (self.new.gate < D.size disk.new) }
         ensures later { D.faults disk.old ≤ D.faults disk.new }
         ensures cause { result ≡ Err HardFault.DiskFault → Rose (D.faults disk.old) (D.faults disk.new) }
-        ensures told { WhereTold (WritesStep (hard_step self.old.value epoch (event_of change)) self.old self.new result) (D.told disk.old) (D.told disk.new) }
-        ensures moments { WhereTold (Moments (writing_calls self.old.gate epoch (event_of change)) result) (D.told disk.old) (D.told disk.new) }
+        ensures served { result ≢ Err HardFault.DiskFault → D.faults disk.new ≡ D.faults disk.old }
     {
         match self.state.may(epoch, &change) {
             Ok(()) => {}
@@ -193,11 +195,12 @@ impl Hard {
         ensures refused { IfErr result (Refuses (hard_step self.old.value epoch Raise)) }
         ensures unchanged { IfErr result (λ fault. fault ≢ HardFault.DiskFault → (self.new ≡ self.old) × (disk.new ≡ disk.old)) }
         ensures broken { result ≡ Err HardFault.DiskFault → self.new ≡ record self.old { broken = true } }
+        ensures told { WhereTold (WritesStep (hard_step self.old.value epoch Raise) self.old self.new result) (D.told disk.old) (D.told disk.new) }
+        ensures moments { WhereTold (Moments (writing_calls self.old.gate epoch Raise) result) (D.told disk.old) (D.told disk.new) }
         ensures long { OnOk result (self.new.gate < D.size disk.new) }
         ensures later { D.faults disk.old ≤ D.faults disk.new }
         ensures cause { result ≡ Err HardFault.DiskFault → Rose (D.faults disk.old) (D.faults disk.new) }
-        ensures told { WhereTold (WritesStep (hard_step self.old.value epoch Raise) self.old self.new result) (D.told disk.old) (D.told disk.new) }
-        ensures moments { WhereTold (Moments (writing_calls self.old.gate epoch Raise) result) (D.told disk.old) (D.told disk.new) }
+        ensures served { result ≢ Err HardFault.DiskFault → D.faults disk.new ≡ D.faults disk.old }
     {
         self.write(disk, epoch, Record::Fence(epoch))
     }
@@ -211,11 +214,12 @@ impl Hard {
         ensures refused { IfErr result (Refuses (hard_step self.old.value epoch (Submission job.now))) }
         ensures unchanged { IfErr result (λ fault. fault ≢ HardFault.DiskFault → (self.new ≡ self.old) × (disk.new ≡ disk.old)) }
         ensures broken { result ≡ Err HardFault.DiskFault → self.new ≡ record self.old { broken = true } }
+        ensures told { WhereTold (WritesStep (hard_step self.old.value epoch (Submission job.now)) self.old self.new result) (D.told disk.old) (D.told disk.new) }
+        ensures moments { WhereTold (Moments (writing_calls self.old.gate epoch (Submission job.now)) result) (D.told disk.old) (D.told disk.new) }
         ensures long { OnOk result (self.new.gate < D.size disk.new) }
         ensures later { D.faults disk.old ≤ D.faults disk.new }
         ensures cause { result ≡ Err HardFault.DiskFault → Rose (D.faults disk.old) (D.faults disk.new) }
-        ensures told { WhereTold (WritesStep (hard_step self.old.value epoch (Submission job.now)) self.old self.new result) (D.told disk.old) (D.told disk.new) }
-        ensures moments { WhereTold (Moments (writing_calls self.old.gate epoch (Submission job.now)) result) (D.told disk.old) (D.told disk.new) }
+        ensures served { result ≢ Err HardFault.DiskFault → D.faults disk.new ≡ D.faults disk.old }
     {
         job.app();
         let copy = match job.copy(self.alloc) {
@@ -234,11 +238,12 @@ impl Hard {
         ensures refused { IfErr result (Refuses (hard_step self.old.value epoch (Finishing app.0))) }
         ensures unchanged { IfErr result (λ fault. fault ≢ HardFault.DiskFault → (self.new ≡ self.old) × (disk.new ≡ disk.old)) }
         ensures broken { result ≡ Err HardFault.DiskFault → self.new ≡ record self.old { broken = true } }
+        ensures told { WhereTold (WritesStep (hard_step self.old.value epoch (Finishing app.0)) self.old self.new result) (D.told disk.old) (D.told disk.new) }
+        ensures moments { WhereTold (Moments (writing_calls self.old.gate epoch (Finishing app.0)) result) (D.told disk.old) (D.told disk.new) }
         ensures long { OnOk result (self.new.gate < D.size disk.new) }
         ensures later { D.faults disk.old ≤ D.faults disk.new }
         ensures cause { result ≡ Err HardFault.DiskFault → Rose (D.faults disk.old) (D.faults disk.new) }
-        ensures told { WhereTold (WritesStep (hard_step self.old.value epoch (Finishing app.0)) self.old self.new result) (D.told disk.old) (D.told disk.new) }
-        ensures moments { WhereTold (Moments (writing_calls self.old.gate epoch (Finishing app.0)) result) (D.told disk.old) (D.told disk.new) }
+        ensures served { result ≢ Err HardFault.DiskFault → D.faults disk.new ≡ D.faults disk.old }
     {
         self.write(disk, epoch, Record::Finish(app))
     }
@@ -258,11 +263,12 @@ impl Hard {
         ensures refused { IfErr result (Refuses (hard_step self.old.value epoch (Banning machine.0))) }
         ensures unchanged { IfErr result (λ fault. fault ≢ HardFault.DiskFault → (self.new ≡ self.old) × (disk.new ≡ disk.old)) }
         ensures broken { result ≡ Err HardFault.DiskFault → self.new ≡ record self.old { broken = true } }
+        ensures told { WhereTold (WritesStep (hard_step self.old.value epoch (Banning machine.0)) self.old self.new result) (D.told disk.old) (D.told disk.new) }
+        ensures moments { WhereTold (Moments (writing_calls self.old.gate epoch (Banning machine.0)) result) (D.told disk.old) (D.told disk.new) }
         ensures long { OnOk result (self.new.gate < D.size disk.new) }
         ensures later { D.faults disk.old ≤ D.faults disk.new }
         ensures cause { result ≡ Err HardFault.DiskFault → Rose (D.faults disk.old) (D.faults disk.new) }
-        ensures told { WhereTold (WritesStep (hard_step self.old.value epoch (Banning machine.0)) self.old self.new result) (D.told disk.old) (D.told disk.new) }
-        ensures moments { WhereTold (Moments (writing_calls self.old.gate epoch (Banning machine.0)) result) (D.told disk.old) (D.told disk.new) }
+        ensures served { result ≢ Err HardFault.DiskFault → D.faults disk.new ≡ D.faults disk.old }
     {
         self.write(disk, epoch, Record::Ban(machine))
     }
@@ -281,11 +287,12 @@ impl Hard {
         ensures refused { IfErr result (Refuses (hard_step self.old.value epoch (Unbanning machine.0))) }
         ensures unchanged { IfErr result (λ fault. fault ≢ HardFault.DiskFault → (self.new ≡ self.old) × (disk.new ≡ disk.old)) }
         ensures broken { result ≡ Err HardFault.DiskFault → self.new ≡ record self.old { broken = true } }
+        ensures told { WhereTold (WritesStep (hard_step self.old.value epoch (Unbanning machine.0)) self.old self.new result) (D.told disk.old) (D.told disk.new) }
+        ensures moments { WhereTold (Moments (writing_calls self.old.gate epoch (Unbanning machine.0)) result) (D.told disk.old) (D.told disk.new) }
         ensures long { OnOk result (self.new.gate < D.size disk.new) }
         ensures later { D.faults disk.old ≤ D.faults disk.new }
         ensures cause { result ≡ Err HardFault.DiskFault → Rose (D.faults disk.old) (D.faults disk.new) }
-        ensures told { WhereTold (WritesStep (hard_step self.old.value epoch (Unbanning machine.0)) self.old self.new result) (D.told disk.old) (D.told disk.new) }
-        ensures moments { WhereTold (Moments (writing_calls self.old.gate epoch (Unbanning machine.0)) result) (D.told disk.old) (D.told disk.new) }
+        ensures served { result ≢ Err HardFault.DiskFault → D.faults disk.new ≡ D.faults disk.old }
     {
         self.write(disk, epoch, Record::Unban(machine))
     }

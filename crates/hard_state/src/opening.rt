@@ -35,6 +35,7 @@ pub fn begin<D: Disk>(disk: &mut D) -> Result<(), Failed>
     ensures told { WhereTold (Begins result) (D.told disk.old) (D.told disk.new) }
     ensures long { OnOk result (0 < D.size disk.new) }
     ensures cause { HasCause (D.faults disk.old) (D.faults disk.new) result }
+    ensures served { OnOk result (D.faults disk.new ≡ D.faults disk.old) }
 {
     write_through(disk, 0, &[0])
 }
@@ -54,7 +55,7 @@ pub fn read<D: Disk>(alloc: Global, disk: &mut D, len: u64) -> Result<(State, u6
     ensures faults { IfErr result IsOpeningFault }
     ensures later { D.faults disk.old ≤ D.faults disk.new }
     ensures cause { result ≡ Err HardFault.DiskFault → Rose (D.faults disk.old) (D.faults disk.new) }
-    ensures served { IfErr result (λ fault. fault ≢ HardFault.DiskFault → D.faults disk.new ≡ D.faults disk.old) }
+    ensures served { result ≢ Err HardFault.DiskFault → D.faults disk.new ≡ D.faults disk.old }
 {
     written_is_read();
     let mut state = match State::nothing(alloc) {

@@ -221,7 +221,7 @@ shut status None took old new is leaves = tt
 shut status (Some bytes) took old new is leaves = inl (record { shut = is; unread = refl; unwritten = refl; leaves = leaves })
 
 -- what is kept of an open lease that nobody holds is what its file stood for
-read_from_file : (k : KeptLease) (old new : Option Told) → WhereTold (OpensLease k) old new → IfSome old (λ t. records_of t.now.bytes ≡ Ok k.hard.value)
+pub read_from_file : (k : KeptLease) (old new : Option Told) → WhereTold (OpensLease k) old new → IfSome old (λ t. records_of t.now.bytes ≡ Ok k.hard.value)
 read_from_file k None new opens = tt
 read_from_file k (Some t) None opens = absurd opens
 read_from_file k (Some t) (Some u) opens = opens.reads

@@ -1,6 +1,6 @@
 //! The lines that a lease prints, without memory.
 
-ghost use Rattle.std.specs.Prelude.{◌++◌, OnOk, OnErr, codes, decimal};
+ghost use Rattle.std.specs.Prelude.{◌≡◌, ◌++◌, OnOk, OnErr, codes, decimal};
 ghost use Rattle.std.specs.Io.KnownBytes.{Appends};
 ghost use Rattle.fuxi_io.specs.Causes.{HasCause, TakesPart};
 ghost use Rattle.lease_run.specs.LeaseTexts.{answer_text};
@@ -14,6 +14,7 @@ pub fn write_number<O: Sink>(out: &mut O, words: &[u8], number: u64) -> Result<(
     ensures ok { OnOk result (Appends (O.took out.old) (O.took out.new) (words.now ++ decimal number ++ codes "\n")) }
     ensures err { OnErr result (TakesPart (O.took out.old) (O.took out.new) (words.now ++ decimal number ++ codes "\n")) }
     ensures cause { HasCause (O.faults out.old) (O.faults out.new) result }
+    ensures served { OnOk result (O.faults out.new ≡ O.faults out.old) }
 {
     let mut buffer = Buffer::new();
     write_pieces(out, &[words, buffer.format(number).as_bytes(), b"\n"])
@@ -29,6 +30,7 @@ fn write_numbers<O: Sink>(
     ensures ok { OnOk result (Appends (O.took out.old) (O.took out.new) (words.now ++ decimal first ++ codes " " ++ decimal second ++ codes "\n")) }
     ensures err { OnErr result (TakesPart (O.took out.old) (O.took out.new) (words.now ++ decimal first ++ codes " " ++ decimal second ++ codes "\n")) }
     ensures cause { HasCause (O.faults out.old) (O.faults out.new) result }
+    ensures served { OnOk result (O.faults out.new ≡ O.faults out.old) }
 {
     let mut buffer = Buffer::new();
     let mut other = Buffer::new();
@@ -49,6 +51,7 @@ pub fn write_answer<O: Sink>(out: &mut O, answer: &LeaseOut) -> Result<(), Write
     ensures ok { OnOk result (Appends (O.took out.old) (O.took out.new) (answer_text answer.now)) }
     ensures err { OnErr result (TakesPart (O.took out.old) (O.took out.new) (answer_text answer.now)) }
     ensures cause { HasCause (O.faults out.old) (O.faults out.new) result }
+    ensures served { OnOk result (O.faults out.new ≡ O.faults out.old) }
 {
     match answer {
         LeaseOut::Granted(epoch) => write_number(out, b"granted ", *epoch),

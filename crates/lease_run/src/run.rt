@@ -3,7 +3,7 @@ ghost use Rattle.fuxi_io.specs.Causes.{Rose};
 ghost use Rattle.fuxi_io.specs.Disks.{Told, WhereTold};
 ghost use Rattle.fuxi_terms.specs.Limits.{most_lines};
 ghost use Rattle.written_roles.specs.HardState.{HardState};
-ghost use Rattle.hard_state.specs.HardFiles.{records_of};
+ghost use Rattle.hard_state.specs.HardFiles.{KeepsDamaged, records_of};
 ghost use Rattle.input_lines.specs.LineProgress.{WritesEnd};
 ghost use Rattle.input_lines.specs.LineRuns.{AtEnd};
 ghost use Rattle.epoch_lease.specs.Files.{lease_of};
@@ -47,6 +47,8 @@ fn take_line<O: Sink, D: Disk>(
     ensures kept { D.faults disk.old ≤ D.faults disk.new }
     ensures write { result ≡ Err Status.WriteFault → Rose (O.faults out.old) (O.faults out.new) }
     ensures disk { result ≡ Err Status.DiskFault → Rose (D.faults disk.old) (D.faults disk.new) }
+    ensures writes_served { result ≢ Err Status.WriteFault → O.faults out.new ≡ O.faults out.old }
+    ensures disk_served { result ≢ Err Status.DiskFault → D.faults disk.new ≡ D.faults disk.old }
 {
     leases_at_rest_endure();
     if is_skipped(line) {
@@ -71,6 +73,7 @@ fn write_last<O: Sink>(lease: &Lease, out: &mut O) -> Status
     ensures writes { WritesEnd lease_ends (lease_of lease.now) result (O.took out.old) (O.took out.new) }
     ensures memory { result ≢ Status.OutOfMemory }
     ensures write { result ≡ Status.WriteFault → Rose (O.faults out.old) (O.faults out.new) }
+    ensures writes_served { result ≢ Status.WriteFault → O.faults out.new ≡ O.faults out.old }
 {
     match write_number(out, b"last ", lease.last()) {
         Ok(()) => Status::Done,
@@ -95,6 +98,9 @@ fn run_lines<S: Source, O: Sink, D: Disk>(
     ensures read { result ≡ Status.ReadFault → Rose (S.faults source.old) (S.faults source.new) }
     ensures write { result ≡ Status.WriteFault → Rose (O.faults out.old) (O.faults out.new) }
     ensures disk { result ≡ Status.DiskFault → Rose (D.faults disk.old) (D.faults disk.new) }
+    ensures reads_served { result ≢ Status.ReadFault → S.faults source.new ≡ S.faults source.old }
+    ensures writes_served { result ≢ Status.WriteFault → O.faults out.new ≡ O.faults out.old }
+    ensures disk_served { result ≢ Status.DiskFault → D.faults disk.new ≡ D.faults disk.old }
     ensures limit { (what : LimitOf) (kept : ℕ) → result ≡ Status.Limit what kept → (what ≡ LimitOf.Lines) × (kept ≡ most_lines) }
     ensures usage { result ≢ Status.Usage }
     ensures stale { (fence : ℕ) → result ≢ Status.StaleEpoch fence }
@@ -129,10 +135,14 @@ fn run_opened<S: Source, O: Sink, D: Disk>(
 ) -> Status
     ensures ended { IfSome (S.left source.old) (λ bytes. LeaseEnded bytes result (S.left source.new) (O.took out.old) (O.took out.new) (D.told disk.old) (D.told disk.new)) }
     ensures damaged { (offset : ℕ) → result ≡ Status.DamagedCheckpoint offset → IfSome (D.told disk.old) (λ t. records_of t.now.bytes ≡ Err offset) }
+    ensures keeps { KeepsDamaged (D.told disk.old) (D.told disk.new) }
     ensures shut { (offset : ℕ) → result ≡ Status.DamagedCheckpoint offset → (source.new ≡ source.old) × (out.new ≡ out.old) }
     ensures read { result ≡ Status.ReadFault → Rose (S.faults source.old) (S.faults source.new) }
     ensures write { result ≡ Status.WriteFault → Rose (O.faults out.old) (O.faults out.new) }
     ensures disk { result ≡ Status.DiskFault → Rose (D.faults disk.old) (D.faults disk.new) }
+    ensures reads_served { result ≢ Status.ReadFault → S.faults source.new ≡ S.faults source.old }
+    ensures writes_served { result ≢ Status.WriteFault → O.faults out.new ≡ O.faults out.old }
+    ensures disk_served { result ≢ Status.DiskFault → D.faults disk.new ≡ D.faults disk.old }
     ensures limit { (what : LimitOf) (kept : ℕ) → result ≡ Status.Limit what kept → (what ≡ LimitOf.Lines) × (kept ≡ most_lines) }
     ensures usage { result ≢ Status.Usage }
     ensures stale { (fence : ℕ) → result ≢ Status.StaleEpoch fence }
@@ -150,7 +160,7 @@ fn run_opened<S: Source, O: Sink, D: Disk>(
 
 /// Opens the lease of the checkpoint on the disk, runs it over the lines of the source, and writes what each answers before the next one is
 /// read, and behind the last line the last epoch. What is said of the output holds of a source and a sink that tell their bytes, and what
-/// is said of the file of a disk that does.
+/// is said of the file of a disk that does. A file with a damaged record is synced at most, whatever the status.
 ///
 /// `DamagedCheckpoint`: the record at this offset of the file is damaged, and nothing was read or written. `DiskFault`, `ReadFault` and
 /// `WriteFault`: the disk, the source or the sink failed in this call. `Limit`: a line begins after 1,000,000. `BadInput`: the first line
@@ -164,10 +174,16 @@ pub fn run_lease<S: Source, O: Sink, D: Disk>(
     // What was written, by the status, and what a crash leaves of the file then.
     ensures ended { IfSome (S.left source.old) (λ bytes. LeaseEnded bytes result (S.left source.new) (O.took out.old) (O.took out.new) (D.told disk.old) (D.told disk.new)) }
     ensures damaged { (offset : ℕ) → result ≡ Status.DamagedCheckpoint offset → IfSome (D.told disk.old) (λ t. records_of t.now.bytes ≡ Err offset) }
+    // A file with a damaged record is as it was, whatever the status.
+    ensures keeps { KeepsDamaged (D.told disk.old) (D.told disk.new) }
     ensures shut { (offset : ℕ) → result ≡ Status.DamagedCheckpoint offset → (source.new ≡ source.old) × (out.new ≡ out.old) }
     ensures read { result ≡ Status.ReadFault → Rose (S.faults source.old) (S.faults source.new) }
     ensures write { result ≡ Status.WriteFault → Rose (O.faults out.old) (O.faults out.new) }
     ensures disk { result ≡ Status.DiskFault → Rose (D.faults disk.old) (D.faults disk.new) }
+    // Each count of faults rose with its own status alone, so a call that failed is told.
+    ensures reads_served { result ≢ Status.ReadFault → S.faults source.new ≡ S.faults source.old }
+    ensures writes_served { result ≢ Status.WriteFault → O.faults out.new ≡ O.faults out.old }
+    ensures disk_served { result ≢ Status.DiskFault → D.faults disk.new ≡ D.faults disk.old }
     ensures limit { (what : LimitOf) (kept : ℕ) → result ≡ Status.Limit what kept → (what ≡ LimitOf.Lines) × (kept ≡ most_lines) }
     ensures usage { result ≢ Status.Usage }
     ensures stale { (fence : ℕ) → result ≢ Status.StaleEpoch fence }

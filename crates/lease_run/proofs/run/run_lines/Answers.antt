@@ -1,6 +1,9 @@
 use Rattle.std.proofs.Common.{◌≡◌, ◌+◌, ◌<◌, true, false, Ok, Err, refl, sym, ◌∙◌, ap, subst, arith}
 use Rattle.fuxi_io.specs.Reading.{Reading, line_of, rest_of}
+use Rattle.fuxi_io.specs.declared.lines.LineStop.TheVariants.{ReadFault as ReadStop}
+use Rattle.fuxi_io.specs.declared.status.Status.TheVariants.{DiskFault, WriteFault}
 use Rattle.fuxi_terms.specs.Limits.{most_lines}
+use Rattle.input_lines.specs.InputStatuses.{stop_status}
 use Rattle.input_lines.specs.Contents.{content}
 use Rattle.input_lines.proofs.Known.{line_said, running_alone}
 use Rattle.input_lines.proofs.LineProgressLemmas.{start_fresh, step_along}
@@ -26,6 +29,9 @@ loop-turn-init g c =
       read = omega arith;
       wrote = omega arith;
       lost = omega arith;
+      reads_served = refl;
+      writes_served = refl;
+      disk_served = refl;
     }
 
 pub returns-in-Ok-End-clause-ended : goal.returns-in-Ok-End-clause-ended
@@ -92,4 +98,17 @@ loop-turn-preserved g c =
       read = omega (arith, i.read, c.in-Ok-Line.ensures.later);
       wrote = omega (arith, i.wrote, c.in-Ok.ensures.later);
       lost = omega (arith, i.lost, c.in-Ok.ensures.kept);
+      reads_served = c.in-Ok-Line.ensures.served (λ other. let no : ⊥ = cc in no) ∙ i.reads_served;
+      writes_served = c.in-Ok.ensures.writes_served (λ other. let no : ⊥ = cc in no) ∙ i.writes_served;
+      disk_served = c.in-Ok.ensures.disk_served (λ other. let no : ⊥ = cc in no) ∙ i.disk_served;
     }
+
+pub returns-in-Err-clause-reads_served : goal.returns-in-Err-clause-reads_served
+returns-in-Err-clause-reads_served g c other =
+    c.in-Err.ensures.served (λ is. let stop : c.in-Err.stop ≡ ReadStop = cc in other (c.stop_status.ensures ∙ ap (λ s. stop_status s c.number.result) stop)) ∙ c.loop-turn.invariant.reads_served
+
+pub returns-in-Err-take_line-clause-writes_served : goal.returns-in-Err-take_line-clause-writes_served
+returns-in-Err-take_line-clause-writes_served g c other = c.in-Err-take_line.ensures.writes_served (λ is. let status : c.in-Err-take_line.status ≡ WriteFault = cc in other status) ∙ c.loop-turn.invariant.writes_served
+
+pub returns-in-Err-take_line-clause-disk_served : goal.returns-in-Err-take_line-clause-disk_served
+returns-in-Err-take_line-clause-disk_served g c other = c.in-Err-take_line.ensures.disk_served (λ is. let status : c.in-Err-take_line.status ≡ DiskFault = cc in other status) ∙ c.loop-turn.invariant.disk_served

@@ -1,5 +1,8 @@
-use Rattle.std.proofs.Common.{ap, Err, sym, ◌∙◌}
-use Rattle.lease_run.proofs.LeaseEndsLemmas.{at_once, damaged_by, ran, shut, stays_shut}
+use Rattle.std.proofs.Common.{◌≡◌, ap, Err, sym, ◌∙◌}
+use Rattle.epoch_lease.specs.declared.event.LeaseFault.TheVariants.{DiskFault as NoDisk}
+use Rattle.hard_state.proofs.HardFilesLemmas.{idle_keeps, whole_keeps}
+use Rattle.lease_run.specs.LeaseProgress.{fault_status}
+use Rattle.lease_run.proofs.LeaseEndsLemmas.{at_once, damaged_by, ran, read_from_file, shut, stays_shut}
 use Rattle.lease_run.proofs.LeaseProgressLemmas.{opened}
 use Rattle.lease_run.proofs.run.run_opened.Goals as goal
 
@@ -19,3 +22,18 @@ returns-clause-ended g c =
 pub returns-in-Err-open-clause-damaged : goal.returns-in-Err-open-clause-damaged
 returns-in-Err-open-clause-damaged g c offset is =
     damaged_by c.in-Err-open.fault offset (g.D.Disk.told c.args.disk.now) (g.D.Disk.told c.open.new.disk) (λ o h. c.in-Err-open.ensures.damaged o (ap (λ f. Err f) h)) (sym c.fault_status.ensures ∙ is)
+
+pub returns-in-Err-open-clause-disk_served : goal.returns-in-Err-open-clause-disk_served
+returns-in-Err-open-clause-disk_served g c other =
+    c.in-Err-open.ensures.served (λ is. let fault : c.in-Err-open.fault ≡ NoDisk = cc in other (c.fault_status.ensures ∙ ap fault_status fault))
+
+pub returns-clause-disk_served : goal.returns-clause-disk_served
+returns-clause-disk_served g c other = c.run_lines.ensures.disk_served other ∙ c.in-Ok-open.ensures.served (λ is. let no : ⊥ = cc in no)
+
+pub returns-in-Err-clause-keeps : goal.returns-in-Err-clause-keeps
+returns-in-Err-clause-keeps g c = idle_keeps (g.D.Disk.told c.args.disk.now)
+
+pub returns-clause-keeps : goal.returns-clause-keeps
+returns-clause-keeps g c =
+    let k = c.in-Ok-open.lease in
+    whole_keeps k.hard.value (g.D.Disk.told c.args.disk.now) (g.D.Disk.told c.run_lines.new.disk) (read_from_file k (g.D.Disk.told c.args.disk.now) (g.D.Disk.told c.open.new.disk) c.in-Ok-open.ensures.opened)

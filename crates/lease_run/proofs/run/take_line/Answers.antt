@@ -1,5 +1,7 @@
-use Rattle.std.proofs.Common.{sym}
+use Rattle.std.proofs.Common.{◌≡◌, Err, sym, ◌∙◌, ap}
+use Rattle.epoch_lease.specs.declared.event.LeaseFault.TheVariants.{DiskFault as NoDisk}
 use Rattle.epoch_lease.specs.Files.{lease_of}
+use Rattle.lease_run.specs.LeaseProgress.{fault_status}
 use Rattle.lease_run.proofs.LeaseProgressLemmas.{answered, answered_in_part, bad_line, skips, is_bad, fails}
 use Rattle.lease_run.proofs.run.take_line.Goals as goal
 
@@ -24,3 +26,7 @@ returns-in-Ok-write_answer-clause-takes g c =
 pub returns-in-Err-write_answer-clause-takes : goal.returns-in-Err-write_answer-clause-takes
 returns-in-Err-write_answer-clause-takes g c =
     answered_in_part c.args.line.now c.args.number (lease_of c.args.lease.now) (lease_of c.step.new.self) c.in-Ok.event c.in-Ok-step.answer (g.O.Sink.took c.args.out.now) (g.O.Sink.took c.write_answer.new.out) (sym c.if-is_skipped.ensures) c.in-Ok.ensures.ok c.in-Ok-step.ensures.steps c.in-Err-write_answer.ensures.err
+
+pub returns-in-Err-step-clause-disk_served : goal.returns-in-Err-step-clause-disk_served
+returns-in-Err-step-clause-disk_served g c other =
+    c.in-Err-step.ensures.served (λ is. let fault : c.in-Err-step.fault ≡ NoDisk = cc in other (ap (λ s. Err s) (c.fault_status.ensures ∙ ap fault_status fault)))
