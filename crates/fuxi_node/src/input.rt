@@ -4,6 +4,7 @@ ghost use Rattle.std.specs.Prelude.{◌≡◌, ◌≢◌, ◌⊎◌, ◌<◌, �
 ghost use Rattle.fuxi_io.specs.Causes.{Rose};
 ghost use Rattle.fuxi_io.specs.Reading.{rest_of};
 ghost use Rattle.fuxi_terms.specs.Limits.{most_lines};
+ghost use Rattle.hard_state.specs.HardFiles.{KeepsDamaged};
 ghost use Rattle.input_lines.specs.Wholes.{IsReady};
 ghost use Rattle.node_door.specs.Doors.{WhereTold};
 ghost use Rattle.fuxi_io.specs.Lines.{lines_of};
@@ -42,6 +43,7 @@ fn run_kind<S: Source, O: Sink, D: Disk, N: Door>(
     ensures places { IsReady lines.old (S.left source.old) → IfSome (rest_of lines.old (S.left source.old)) (λ bytes. EndsBy (ending_behind kind (Opens cluster.now lines.old.number (lines_of bytes))) result (S.left source.new)) }
     ensures told { TellsDisk kind result (D.told disk.old) }
     ensures stays { LeavesDisk kind result (D.told disk.old) (D.told disk.new) }
+    ensures keeps { KeepsDamaged (D.told disk.old) (D.told disk.new) }
     ensures unused { ((epoch : ℕ) → kind ≢ Master epoch) → disk.new ≡ disk.old }
     ensures unread { lines.old.ended ≡ false → result ≢ Status.ReadFault }
     ensures read { result ≡ Status.ReadFault → Rose (S.faults source.old) (S.faults source.new) }
@@ -49,6 +51,9 @@ fn run_kind<S: Source, O: Sink, D: Disk, N: Door>(
     ensures disk { result ≡ Status.DiskFault → Rose (D.faults disk.old) (D.faults disk.new) }
     ensures limit { lines.old.stop ≡ None → (kept : ℕ) → result ≡ Status.Limit LimitOf.Lines kept → kept ≡ most_lines }
     ensures usage { result ≢ Status.Usage }
+    ensures reads_served { result ≢ Status.ReadFault → S.faults source.new ≡ S.faults source.old }
+    ensures writes_served { result ≢ Status.WriteFault → O.faults out.new ≡ O.faults out.old }
+    ensures disk_served { result ≢ Status.DiskFault → D.faults disk.new ≡ D.faults disk.old }
 {
     match kind {
         NodeKind::Master { epoch } => run_master(
@@ -87,6 +92,8 @@ pub fn run_input<S: Source, O: Sink, D: Disk, N: Door>(
     ensures told { TellsDisk kind result (D.told disk.old) }
     // The file of a master that did not get to its lines: by the status, and where no line describes a cluster.
     ensures stays { LeavesDisk kind result (D.told disk.old) (D.told disk.new) }
+    // A file with a damaged record is as it was, whatever the status.
+    ensures keeps { KeepsDamaged (D.told disk.old) (D.told disk.new) }
     ensures unopened { (bytes : List ℕ) → S.left source.old ≡ Some bytes → HasNoCluster bytes → disk.new ≡ disk.old }
     ensures unused { ((epoch : ℕ) → kind ≢ Master epoch) → disk.new ≡ disk.old }
     ensures read { result ≡ Status.ReadFault → Rose (S.faults source.old) (S.faults source.new) }
@@ -94,6 +101,10 @@ pub fn run_input<S: Source, O: Sink, D: Disk, N: Door>(
     ensures disk { result ≡ Status.DiskFault → Rose (D.faults disk.old) (D.faults disk.new) }
     ensures limit { (kept : ℕ) → result ≡ Status.Limit LimitOf.Lines kept → kept ≡ most_lines }
     ensures usage { result ≢ Status.Usage }
+    // Each count of faults rose with its own status alone, so a call that failed is told.
+    ensures reads_served { result ≢ Status.ReadFault → S.faults source.new ≡ S.faults source.old }
+    ensures writes_served { result ≢ Status.WriteFault → O.faults out.new ≡ O.faults out.old }
+    ensures disk_served { result ≢ Status.DiskFault → D.faults disk.new ≡ D.faults disk.old }
     // A node with a file that lets its epoch in, and with no fault of the source, the sink and the disk, ends as its lines say, but for want of memory. It is said over any door.
     ensures complete { (bytes : List ℕ) → S.left source.old ≡ Some bytes → MayStart kind (D.told disk.old)
         → (Rose (S.faults source.old) (S.faults source.new) → ⊥) → (Rose (O.faults out.old) (O.faults out.new) → ⊥) → (Rose (D.faults disk.old) (D.faults disk.new) → ⊥)

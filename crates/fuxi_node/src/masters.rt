@@ -4,6 +4,7 @@ ghost use Rattle.std.specs.Prelude.{◌≡◌, ◌≢◌, ◌⊎◌, ◌<◌, �
 ghost use Rattle.fuxi_io.specs.Causes.{Rose};
 ghost use Rattle.fuxi_io.specs.Reading.{rest_of};
 ghost use Rattle.fuxi_terms.specs.Limits.{most_lines};
+ghost use Rattle.hard_state.specs.HardFiles.{KeepsDamaged};
 ghost use Rattle.input_lines.specs.Wholes.{IsReady};
 ghost use Rattle.node_door.specs.Doors.{WhereTold};
 ghost use Rattle.fuxi_node.specs.NodeEnds.{EndsByLines};
@@ -43,7 +44,8 @@ fn start_status(fault: HardFault) -> Status
 ///
 /// `DiskFault`: the disk failed, at the start or at a line; the checkpoint has to be opened again. `DamagedCheckpoint`: what stands at this
 /// offset of the file is no record. `StaleEpoch`: the fence in the file is at least the epoch. `Limit` of records: the file has 65,536.
-/// With these three the file stands for what it stood for. The other statuses are those of `run_agent`.
+/// With these three the file stands for what it stood for. The other statuses are those of `run_agent`. A file with a damaged record is
+/// synced at most, whatever the status.
 ///
 /// At every end of a master that started, a crash leaves a file that stands for the hard state of the lines taken. With `DiskFault` and
 /// `OutOfMemory` the line at which it came may count as taken or not.
@@ -66,6 +68,7 @@ pub fn run_master<S: Source, O: Sink, D: Disk, N: Door>(
     ensures ended { IsReady lines.old (S.left source.old) → IfSome (rest_of lines.old (S.left source.old)) (λ bytes. WhereTold (MasterEnded epoch (master_start cluster.now epoch addr.now lines.old.number) (D.told disk.old) (D.told disk.new) bytes result (S.left source.new) (O.took out.old) (O.took out.new) (N.faults door.old) (N.faults door.new)) (N.told door.old) (N.told door.new)) }
     ensures file { TellsFile epoch result (D.told disk.old) }
     ensures stays { LeavesFile epoch result (D.told disk.old) (D.told disk.new) }
+    ensures keeps { KeepsDamaged (D.told disk.old) (D.told disk.new) }
     // Where the lines end, by the status. It is said over any door.
     ensures places { IsReady lines.old (S.left source.old) → IfSome (rest_of lines.old (S.left source.old)) (λ bytes. EndsByLines lines.old.number bytes (Ok result) (S.left source.new)) }
     ensures unread { lines.old.ended ≡ false → result ≢ Status.ReadFault }
@@ -74,6 +77,9 @@ pub fn run_master<S: Source, O: Sink, D: Disk, N: Door>(
     ensures disk { result ≡ Status.DiskFault → Rose (D.faults disk.old) (D.faults disk.new) }
     ensures limit { lines.old.stop ≡ None → (what : LimitOf) (kept : ℕ) → result ≡ Status.Limit what kept → (what ≡ LimitOf.Records) ⊎ ((what ≡ LimitOf.Lines) × (kept ≡ most_lines)) }
     ensures usage { result ≢ Status.Usage }
+    ensures reads_served { result ≢ Status.ReadFault → S.faults source.new ≡ S.faults source.old }
+    ensures writes_served { result ≢ Status.WriteFault → O.faults out.new ≡ O.faults out.old }
+    ensures disk_served { result ≢ Status.DiskFault → D.faults disk.new ≡ D.faults disk.old }
 {
     // It ended before its first line where it did not start, and what was read ahead is then little.
     is_little_ahead(lines);

@@ -1,6 +1,6 @@
 //! All lines of a node.
 
-ghost use Rattle.std.specs.Prelude.{◌≡◌, ◌≢◌, ◌+◌, ◌^◌, ◌<◌, ◌≤◌, ℕ, length, true, false, Some, None, Ok, Err, IfSome, IfOk, IfErr, OnErr};
+ghost use Rattle.std.specs.Prelude.{◌≡◌, ◌≢◌, ◌+◌, ◌^◌, ◌<◌, ◌≤◌, ℕ, length, true, false, Some, None, Ok, Err, IfSome, IfOk, IfErr, OnOk, OnErr};
 ghost use Rattle.fuxi_io.specs.Causes.{Rose};
 ghost use Rattle.fuxi_io.specs.Reading.{rest_of};
 ghost use Rattle.fuxi_terms.specs.Limits.{most_frames, most_steps, most_lines};
@@ -46,6 +46,7 @@ fn take_any<C: Node, O: Sink, N: Door, D: Disk>(
     ensures steps { IfOk result (λ a. C.steps a.0 ≤ C.steps core + most_frames + 1) }
     ensures later { O.faults out.old ≤ O.faults out.new }
     ensures fault { result ≡ Err (Stop.Ends Status.WriteFault) → Rose (O.faults out.old) (O.faults out.new) }
+    ensures writes_served { result ≢ Err (Stop.Ends Status.WriteFault) → O.faults out.new ≡ O.faults out.old }
     ensures ends { IfErr result IsLineStop }
     ensures good { is_skipped line.now ≡ false → IfOk result (λ a. IsSaid (node_line line.now)) }
     ensures bad { (at : ℕ) (fault : InputFault) → result ≡ Err (Stop.Ends (Status.BadInput at fault)) → (at ≡ number) × IsNone (node_line line.now) fault }
@@ -53,6 +54,7 @@ fn take_any<C: Node, O: Sink, N: Door, D: Disk>(
     ensures told { IfOk result (λ a. KeepsTold C.rests core (D.size disk.old) a.0 (D.size disk.new) (D.told disk.old) (D.told disk.new)) }
     ensures disk { D.faults disk.old ≤ D.faults disk.new }
     ensures failed { result ≡ Err Stop.Disk → Rose (D.faults disk.old) (D.faults disk.new) }
+    ensures disk_served { result ≢ Err Stop.Disk → D.faults disk.new ≡ D.faults disk.old }
 {
     if is_skipped(line) {
         return Ok((core, events));
@@ -67,6 +69,7 @@ fn take_any<C: Node, O: Sink, N: Door, D: Disk>(
 fn end_node<C: Node, O: Sink>(alloc: Global, core: &C, events: u64, out: &mut O) -> Status
     ensures writes { (r : Role) → C.stands core.now r → WritesEnd (state_text events r) result (O.took out.old) (O.took out.new) }
     ensures fault { result ≡ Status.WriteFault → Rose (O.faults out.old) (O.faults out.new) }
+    ensures writes_served { result ≢ Status.WriteFault → O.faults out.new ≡ O.faults out.old }
     ensures own { IsRunStatus result }
     ensures last { IsLastStatus result }
     ensures read { result ≢ Status.ReadFault }
@@ -107,6 +110,9 @@ pub fn run_node<C: Node, S: Source, O: Sink, N: Door, D: Disk>(
     ensures limit { lines.old.stop ≡ None → (what : LimitOf) (kept : ℕ) → result ≡ Ok (Status.Limit what kept) → (what ≡ LimitOf.Lines) × (kept ≡ most_lines) }
     ensures own { IfOk result IsRunStatus }
     ensures failed { OnErr result (Rose (D.faults disk.old) (D.faults disk.new)) }
+    ensures reads_served { result ≢ Ok Status.ReadFault → S.faults source.new ≡ S.faults source.old }
+    ensures writes_served { result ≢ Ok Status.WriteFault → O.faults out.new ≡ O.faults out.old }
+    ensures disk_served { OnOk result (D.faults disk.new ≡ D.faults disk.old) }
     ensures later { D.faults disk.old ≤ D.faults disk.new }
 {
     lines_are_taken();

@@ -46,6 +46,7 @@ fn write_answer<O: Sink>(alloc: Global, answer: &Answer, out: &mut O) -> Result<
     ensures writes { WritesText (answer_text (as_answer answer.now)) result (O.took out.old) (O.took out.new) }
     ensures later { O.faults out.old ≤ O.faults out.new }
     ensures fault { result ≡ Err Status.WriteFault → Rose (O.faults out.old) (O.faults out.new) }
+    ensures writes_served { result ≢ Err Status.WriteFault → O.faults out.new ≡ O.faults out.old }
     ensures ends { IfErr result IsWriteStop }
 {
     let mut text = Vec::new(alloc);
@@ -69,6 +70,7 @@ pub(crate) fn write_state<C: Node, O: Sink>(
     ensures writes { (r : Role) → C.stands core.now r → WritesText (state_text events r) result (O.took out.old) (O.took out.new) }
     ensures later { O.faults out.old ≤ O.faults out.new }
     ensures fault { result ≡ Err Status.WriteFault → Rose (O.faults out.old) (O.faults out.new) }
+    ensures writes_served { result ≢ Err Status.WriteFault → O.faults out.new ≡ O.faults out.old }
     ensures ends { IfErr result IsWriteStop }
 {
     let mut text = Vec::new(alloc);
@@ -97,12 +99,14 @@ fn take_event<C: Node, O: Sink, D: Disk>(
     ensures steps { IfOk result (λ after. C.steps after ≤ C.steps core + 1) }
     ensures later { O.faults out.old ≤ O.faults out.new }
     ensures fault { result ≡ Err (Stop.Ends Status.WriteFault) → Rose (O.faults out.old) (O.faults out.new) }
+    ensures writes_served { result ≢ Err (Stop.Ends Status.WriteFault) → O.faults out.new ≡ O.faults out.old }
     ensures ends { IfErr result IsLineStop }
     ensures unsaid { (at : ℕ) (fault : InputFault) → result ≢ Err (Stop.Ends (Status.BadInput at fault)) }
     ensures rests { IfOk result (λ after. C.rests after (D.size disk.new) None) }
     ensures told { IfOk result (λ after. KeepsTold C.rests core (D.size disk.old) after (D.size disk.new) (D.told disk.old) (D.told disk.new)) }
     ensures disk { D.faults disk.old ≤ D.faults disk.new }
     ensures failed { result ≡ Err Stop.Disk → Rose (D.faults disk.old) (D.faults disk.new) }
+    ensures disk_served { result ≢ Err Stop.Disk → D.faults disk.new ≡ D.faults disk.old }
 {
     let (core, answer) = match core.command(alloc, event, disk) {
         Ok(both) => both,
@@ -122,6 +126,7 @@ fn take_show<C: Node, O: Sink>(alloc: Global, core: C, events: u64, out: &mut O)
     ensures steps { IfOk result (λ after. C.steps after ≡ C.steps core) }
     ensures later { O.faults out.old ≤ O.faults out.new }
     ensures fault { result ≡ Err (Stop.Ends Status.WriteFault) → Rose (O.faults out.old) (O.faults out.new) }
+    ensures writes_served { result ≢ Err (Stop.Ends Status.WriteFault) → O.faults out.new ≡ O.faults out.old }
     ensures ends { IfErr result IsLineStop }
     ensures unsaid { (at : ℕ) (fault : InputFault) → result ≢ Err (Stop.Ends (Status.BadInput at fault)) }
     ensures rests { IfOk result (λ after. Keeps (C.rests core) (C.rests after)) }
@@ -171,6 +176,7 @@ fn take_round<C: Node, O: Sink, N: Door>(
     ensures steps { IfOk result (λ after. C.steps after ≤ C.steps core + most_frames + 1) }
     ensures later { O.faults out.old ≤ O.faults out.new }
     ensures fault { result ≡ Err (Stop.Ends Status.WriteFault) → Rose (O.faults out.old) (O.faults out.new) }
+    ensures writes_served { result ≢ Err (Stop.Ends Status.WriteFault) → O.faults out.new ≡ O.faults out.old }
     ensures ends { IfErr result IsLineStop }
     ensures unsaid { (at : ℕ) (fault : InputFault) → result ≢ Err (Stop.Ends (Status.BadInput at fault)) }
     ensures rests { IfOk result (λ after. Keeps (C.rests core) (C.rests after)) }
@@ -202,6 +208,7 @@ fn take_meeting<C: Node, O: Sink, N: Door>(
     ensures steps { IfOk result (λ after. C.steps after ≤ C.steps core + most_frames + 1) }
     ensures later { O.faults out.old ≤ O.faults out.new }
     ensures fault { result ≡ Err (Stop.Ends Status.WriteFault) → Rose (O.faults out.old) (O.faults out.new) }
+    ensures writes_served { result ≢ Err (Stop.Ends Status.WriteFault) → O.faults out.new ≡ O.faults out.old }
     ensures ends { IfErr result IsLineStop }
     ensures unsaid { (at : ℕ) (fault : InputFault) → result ≢ Err (Stop.Ends (Status.BadInput at fault)) }
     ensures rests { IfOk result (λ after. Keeps (C.rests core) (C.rests after)) }
@@ -237,6 +244,7 @@ pub(crate) fn take_line<C: Node, O: Sink, N: Door, D: Disk>(
     ensures steps { IfOk result (λ after. C.steps after ≤ C.steps core + most_frames + 1) }
     ensures later { O.faults out.old ≤ O.faults out.new }
     ensures fault { result ≡ Err (Stop.Ends Status.WriteFault) → Rose (O.faults out.old) (O.faults out.new) }
+    ensures writes_served { result ≢ Err (Stop.Ends Status.WriteFault) → O.faults out.new ≡ O.faults out.old }
     ensures ends { IfErr result IsLineStop }
     // Whether it is the line of a node, whatever the door tells.
     ensures good { IfOk result (λ after. IsSaid (node_line line.now)) }
@@ -245,6 +253,7 @@ pub(crate) fn take_line<C: Node, O: Sink, N: Door, D: Disk>(
     ensures told { IfOk result (λ after. KeepsTold C.rests core (D.size disk.old) after (D.size disk.new) (D.told disk.old) (D.told disk.new)) }
     ensures disk { D.faults disk.old ≤ D.faults disk.new }
     ensures failed { result ≡ Err Stop.Disk → Rose (D.faults disk.old) (D.faults disk.new) }
+    ensures disk_served { result ≢ Err Stop.Disk → D.faults disk.new ≡ D.faults disk.old }
 {
     events_command_anywhere();
     match read_line(alloc, line) {

@@ -1,17 +1,17 @@
 -- A checkpoint that is opened and raised to an epoch, and a master that starts with it.
-use Rattle.std.proofs.Common.{◌≡◌, ◌⊎◌, inl, inr, ⊎_elim, ℕ, ◌<◌, List, Option, Result, Ok, Err, refl, sym, ◌∙◌, ap, subst}
+use Rattle.std.proofs.Common.{◌≡◌, ◌⊎◌, inl, inr, ⊎_elim, ℕ, ◌<◌, List, Option, None, Some, Result, Ok, Err, refl, sym, ◌∙◌, ap, subst}
 use Rattle.fuxi_io.specs.Disks.{Told, LeavesAlways, WhereTold, after_sync, then_told}
 use Rattle.fuxi_terms.specs.Cluster.{ClusterRecord}
 use Rattle.written_roles.specs.HardState.{HardState, Raise, hard_step}
 use Rattle.written_roles.specs.MasterSteps.{new_master}
 use Rattle.written_roles.specs.Refusals.{Refusal}
 use Rattle.written_roles.specs.MasterRoles.{master_started}
-use Rattle.hard_state.specs.HardFiles.{Kept, IsBeforeOrAfter, IsDamagedAt, IsOpeningFault, Opens, OpensAs, Refuses, WritesStep, records_of}
+use Rattle.hard_state.specs.HardFiles.{Kept, IsBeforeOrAfter, IsDamagedAt, IsOpeningFault, KeepsDamaged, Opens, OpensAs, Refuses, WritesStep, records_of}
 use Rattle.hard_state.specs.declared.fault.HardFault.{HardFault}
 use Rattle.hard_state.specs.declared.fault.HardFault.TheVariants.{Stale, Fenced, Known, NoJob, Ended, AlreadyBanned, NotBanned, Full, NotCheckpoint, DiskFault, OutOfMemory}
 use Rattle.fuxi_master.specs.Cores.{MasterRecord, StandsFor}
 use Rattle.master_node.specs.MasterParties.{IsMasterOf}
-use Rattle.master_node.specs.OpenedMasters.{FailsStart, LeavesSoon, Starts, StopsAtRest}
+use Rattle.master_node.specs.OpenedMasters.{FailsStart, LeavesSoon, Starts}
 use Rattle.master_node.proofs.KnowledgeKept.{ready_same}
 use Rattle.master_node.proofs.Moments.{both_where, leaves_both, leaves_more, map_where, then_where}
 use Rattle.master_node.proofs.WrittenIsDone.{stepped}
@@ -76,16 +76,11 @@ raise_starts epoch before after result a b c opened opens written =
     let moments = subst (λ v. LeavesAlways (IsBeforeOrAfter v (hard_step v epoch Raise)) mid new) same (w o.0.1).0 in
     inr (soon epoch value old mid new moments (o.1 value reads))) (both_where (OpensAs before) Opens a b opened opens) written
 
--- an opening alone, or a writing behind it that did all
-pub stops_opened : (epoch : ℕ) (k : Kept) (a b : Option Told) → WhereTold (OpensAs k) a b → WhereTold (StopsAtRest epoch) a b
-stops_opened epoch k a b opened =
-    map_where {R = OpensAs k} {S = StopsAtRest epoch} a b (λ old new o. record { before = k.value; after = k; reads = o.0; value = inl refl; rest = o.1 }) opened
-
-pub stops_raised : (epoch : ℕ) (before after : Kept) (done : Unit {0}) (a b c : Option Told) → hard_step before.value epoch Raise ≡ Ok after.value → WhereTold (OpensAs before) a b
-    → WhereTold (WritesStep {E = HardFault} (hard_step before.value epoch Raise) before after (Ok done)) b c → WhereTold (StopsAtRest epoch) a c
-stops_raised epoch before after done a b c step opened written =
-    then_where {R = OpensAs before} {S = WritesStep {E = HardFault} (hard_step before.value epoch Raise) before after (Ok done)} {U = StopsAtRest epoch} a b c
-    (λ old mid new o w. record { before = before.value; after = after; reads = o.0; value = inr step; rest = (w o.1).1 }) opened written
+-- a file that was opened has no damaged record
+pub opened_keeps : (k : Kept) (a b c : Option Told) → WhereTold (OpensAs k) a b → KeepsDamaged a c
+opened_keeps k None b c opened = tt
+opened_keeps k (Some t) None c opened = absurd opened
+opened_keeps k (Some t) (Some u) c opened = λ offset damaged. let other : ◌≡◌ {A = Result HardState ℕ} (Ok k.value) (Err offset) = sym opened.0 ∙ damaged in absurd (let no : ⊥ = cc in no)
 
 -- the master that starts
 pub starts_master : (c : ClusterRecord) (before : HardState) (k : Kept) (m : MasterRecord) (epoch : ℕ) → 0 < epoch → hard_step before epoch Raise ≡ Ok k.value → StandsFor m.core (master_started c k.value epoch)

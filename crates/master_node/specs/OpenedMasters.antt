@@ -42,14 +42,6 @@ IsStartFault DiskFault = Unit {0}
 IsStartFault OutOfMemory = Unit {0}
 IsStartFault _ = ⊥
 
--- it stops with nothing pending, and the file stands for the hard state that was opened or for that with the fence at the epoch
-pub record StopsAtRest (epoch : ℕ) (old new : Told) : Type 0 where
-  pub before : HardState
-  pub after : Kept
-  pub reads : records_of old.now.bytes ≡ Ok before
-  pub value : (after.value ≡ before) ⊎ (hard_step before epoch Raise ≡ Ok after.value)
-  pub rest : IsAtRest after new.now
-
 -- at once, or from a first sync on, whatever file a crash leaves has the property
 pub record LeavesSoon (property : List ℕ → Type 0) (old new : Told) : Type 0 where
   pub from : Told

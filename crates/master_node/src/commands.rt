@@ -1,6 +1,6 @@
 //! The lines of a master.
 
-ghost use Rattle.std.specs.Prelude.{◌≡◌, ◌+◌, ◌<◌, ◌≤◌, Err, IfOk};
+ghost use Rattle.std.specs.Prelude.{◌≡◌, ◌≢◌, ◌+◌, ◌<◌, ◌≤◌, Err, IfOk};
 ghost use Rattle.fuxi_io.specs.Causes.{Rose};
 ghost use Rattle.fuxi_terms.specs.Limits.{most_jobs, most_steps};
 ghost use Rattle.written_roles.specs.MasterSteps.{Submits, BansMachine, UnbansMachine};
@@ -35,6 +35,7 @@ impl MasterNode {
         ensures steps { IfOk result (λ after. after.0.master.steps ≤ self.master.steps + 1) }
         ensures later { D.faults disk.old ≤ D.faults disk.new }
         ensures cause { result ≡ Err Halt.Disk → Rose (D.faults disk.old) (D.faults disk.new) }
+        ensures served { result ≢ Err Halt.Disk → D.faults disk.new ≡ D.faults disk.old }
         ensures told { LeavesMade (λ h r. master_does h r (told_of told.entry)) self result (D.told disk.old) (D.told disk.new) }
     {
         match told {
@@ -65,6 +66,7 @@ impl MasterNode {
         ensures steps { IfOk result (λ after. after.0.master.steps ≤ self.master.steps + 1) }
         ensures later { D.faults disk.old ≤ D.faults disk.new }
         ensures cause { result ≡ Err Halt.Disk → Rose (D.faults disk.old) (D.faults disk.new) }
+        ensures served { result ≢ Err Halt.Disk → D.faults disk.new ≡ D.faults disk.old }
         ensures told { LeavesMade (λ h r. master_does h r (MasterCommands (Submits (job_named app.0 group.0 asks.now)))) self result (D.told disk.old) (D.told disk.new) }
     {
         jobs_are_tested_alike();
@@ -99,6 +101,7 @@ impl MasterNode {
         ensures steps { IfOk result (λ after. after.0.master.steps ≤ self.master.steps + 1) }
         ensures later { D.faults disk.old ≤ D.faults disk.new }
         ensures cause { result ≡ Err Halt.Disk → Rose (D.faults disk.old) (D.faults disk.new) }
+        ensures served { result ≢ Err Halt.Disk → D.faults disk.new ≡ D.faults disk.old }
         ensures told { LeavesMade (λ h r. master_does h r (MasterCommands (BansMachine machine.0))) self result (D.told disk.old) (D.told disk.new) }
     {
         if machine.0 >= self.cluster().machines() {
@@ -121,6 +124,7 @@ impl MasterNode {
         ensures steps { IfOk result (λ after. after.0.master.steps ≤ self.master.steps + 1) }
         ensures later { D.faults disk.old ≤ D.faults disk.new }
         ensures cause { result ≡ Err Halt.Disk → Rose (D.faults disk.old) (D.faults disk.new) }
+        ensures served { result ≢ Err Halt.Disk → D.faults disk.new ≡ D.faults disk.old }
         ensures told { LeavesMade (λ h r. master_does h r (MasterCommands (UnbansMachine machine.0))) self result (D.told disk.old) (D.told disk.new) }
     {
         if machine.0 >= self.cluster().machines() {

@@ -20,8 +20,8 @@ ghost use Rattle.node_party.specs.PartyEvents.{IsCommanded, commanded};
 ghost use Rattle.node_party.specs.NodeHalts.{FitsEither};
 ghost use Rattle.node_party.specs.NodeTexts.{as_answer};
 ghost use Rattle.master_node.specs.MasterParties.{DiskHas, IsMasterOf, IsTied, Rests, RestsAt, StandsAs};
-ghost use Rattle.hard_state.specs.HardFiles.{SyncsAll};
-ghost use Rattle.master_node.specs.OpenedMasters.{FailsStart, IsRaised, IsStartFault, Starts, StartsFrom, StopsAtRest};
+ghost use Rattle.hard_state.specs.HardFiles.{KeepsDamaged, SyncsAll};
+ghost use Rattle.master_node.specs.OpenedMasters.{FailsStart, IsRaised, IsStartFault, Starts, StartsFrom};
 ghost use Rattle.master_node.specs.Writes.{IsCommand, LeavesEither, hard_in};
 ghost use Rattle.master_node.specs.NodeCommands.{Does, LeavesLine, LeavesMade, obeyed, packets_in, Sends};
 
@@ -86,9 +86,9 @@ impl MasterNode {
         ensures fails { IfErr result (λ fault. WhereTold (FailsStart epoch fault) (D.told disk.old) (D.told disk.new)) }
         ensures later { D.faults disk.old ≤ D.faults disk.new }
         ensures cause { result ≡ Err HardFault.DiskFault → Rose (D.faults disk.old) (D.faults disk.new) }
-        // With another fault no call of the disk failed, or the file was read and stands, with nothing pending.
-        ensures served { IfErr result (λ fault. fault ≢ HardFault.DiskFault → (D.faults disk.new ≡ D.faults disk.old) ⊎ WhereTold (StopsAtRest epoch) (D.told disk.old) (D.told disk.new)) }
+        ensures served { result ≢ Err HardFault.DiskFault → D.faults disk.new ≡ D.faults disk.old }
         ensures told { WhereTold (Starts epoch) (D.told disk.old) (D.told disk.new) }
+        ensures keeps { KeepsDamaged (D.told disk.old) (D.told disk.new) }
         ensures untouched { (offset : ℕ) → result ≡ Err (HardFault.NotCheckpoint offset) → WhereTold SyncsAll (D.told disk.old) (D.told disk.new) }
     {
         let mut hard = match Hard::open(alloc, disk) {
@@ -151,6 +151,7 @@ impl MasterNode {
         ensures steps { IfOk result (λ after. after.0.master.steps ≤ self.master.steps + 1) }
         ensures later { D.faults disk.old ≤ D.faults disk.new }
         ensures cause { result ≡ Err Halt.Disk → Rose (D.faults disk.old) (D.faults disk.new) }
+        ensures served { result ≢ Err Halt.Disk → D.faults disk.new ≡ D.faults disk.old }
         ensures told { LeavesMade (λ h r. obeyed h r event) self result (D.told disk.old) (D.told disk.new) }
     {
         let MasterNode { master, hard } = self;
@@ -328,6 +329,7 @@ impl Node for MasterNode {
         ensures halts { OnErr result ((r : RoleSeen) → StandsAs self r → WhereTold (λ old new. RestsAt self (D.size disk.old) (Some old) → FitsEither DiskHas LeavesEither r (commanded r event.now).role new) (D.told disk.old) (D.told disk.new)) }
         ensures later { D.faults disk.old ≤ D.faults disk.new }
         ensures cause { result ≡ Err Halt.Disk → Rose (D.faults disk.old) (D.faults disk.new) }
+        ensures served { result ≢ Err Halt.Disk → D.faults disk.new ≡ D.faults disk.old }
         ensures leaves { (r : RoleSeen) → StandsAs self r → WhereTold (LeavesLine self.hard (hard_in (commanded r event.now).role) result) (D.told disk.old) (D.told disk.new) }
     {
         let Some((epoch, told)) = master_named(event) else {

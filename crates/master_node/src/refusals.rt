@@ -1,6 +1,6 @@
 //! Why a master refuses a line, and what it answers.
 
-ghost use Rattle.std.specs.Prelude.{◌≡◌, ◌≢◌, Err, Result, IfOk};
+ghost use Rattle.std.specs.Prelude.{◌≡◌, ◌≢◌, Err, Result, IfOk, IfErr};
 ghost use Rattle.written_roles.specs.HardState.{HardState};
 ghost use Rattle.written_roles.specs.Refusals.{Refusal as WrittenRefusal};
 ghost use Rattle.schedule_text.specs.Printing.{as_refusal};
@@ -18,6 +18,7 @@ pub fn written_refusal(fault: HardFault) -> Result<Refusal, Halt>
     ensures refused { IfOk result (λ refusal. (step : Result HardState WrittenRefusal) → Refuses step fault → step ≡ Err (as_refusal refusal)) }
     ensures served { IfOk result (λ refusal. fault ≢ HardFault.DiskFault) }
     ensures disk { result ≡ Err Halt.Disk → fault ≡ HardFault.DiskFault }
+    ensures told { IfErr result (λ halt. halt ≢ Halt.Disk → fault ≢ HardFault.DiskFault) }
     // Want of memory is told of what is no refusal alone.
     ensures memory { result ≡ Err Halt.Memory → IsOpeningFault fault }
 {

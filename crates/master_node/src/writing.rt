@@ -27,6 +27,7 @@ pub fn write<D: Disk>(
     ensures long { OnOk result (hard.new.gate < D.size disk.new) }
     ensures later { D.faults disk.old ≤ D.faults disk.new }
     ensures cause { result ≡ Err HardFault.DiskFault → Rose (D.faults disk.old) (D.faults disk.new) }
+    ensures served { result ≢ Err HardFault.DiskFault → D.faults disk.new ≡ D.faults disk.old }
     ensures told { WhereTold (Writes (written_by hard.old.value epoch event.now) hard.old hard.new result) (D.told disk.old) (D.told disk.new) }
 {
     match event {

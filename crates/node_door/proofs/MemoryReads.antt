@@ -12,7 +12,7 @@ or_false true b is = refl
 or_false false b is = sym is
 
 -- some bytes came, so this was not the end
-module _ (handed accepts : Bool) (addr : List ℕ) (took : List ℕ) (last : Opened) (past : List Opened) (n : ℕ) (o : Order) (order : o ≡ order_read last.order) (more : nat_eq n 0 ≡ false) where
+module _ (handed accepts : Bool) (addr : List ℕ) (knocks : ℕ) (took : List ℕ) (last : Opened) (past : List Opened) (n : ℕ) (o : Order) (order : o ≡ order_read last.order) (more : nat_eq n 0 ≡ false) where
   abbrev shape : List ℕ → Bool → Order → Talk
   shape gave ended now = record { gave = gave; took = drop last.from took; ended = ended; order = now }
 
@@ -21,13 +21,13 @@ module _ (handed accepts : Bool) (addr : List ℕ) (took : List ℕ) (last : Ope
       let gave = take last.at last.bytes.items ++ take n (drop last.at last.bytes.items) in
       ap (λ g. shape g last.ended o) (take-add last.at n last.bytes.items) ∙ ap (λ e. shape gave e o) (or_false last.ended (nat_eq n 0) more) ∙ ap (λ x. shape gave (last.ended || nat_eq n 0) x) order
 
-  told_more : (begun : Bool) → told_of handed accepts addr begun took (record last { at = last.at + n; order = o }) past ≡ on_last (given (take n (drop last.at last.bytes.items)) (nat_eq n 0)) (told_of handed accepts addr begun took last past)
+  told_more : (begun : Bool) → told_of handed accepts addr knocks begun took (record last { at = last.at + n; order = o }) past ≡ on_last (given (take n (drop last.at last.bytes.items)) (nat_eq n 0)) (told_of handed accepts addr knocks begun took last past)
   told_more false = refl
-  told_more true = ap (λ (t : Talk). let told : Told = record { knock = cond handed (Some (record { accepts = accepts; addr = addr })) None; talks = t ∷ talks_of (take last.from took) past } in told) talk_more
+  told_more true = ap (λ (t : Talk). let told : Told = record { knock = cond handed (Some (record { accepts = accepts; addr = addr })) None; knocks = knocks; talks = t ∷ talks_of (take last.from took) past } in told) talk_more
 
   pub read_more : (begun : Bool) (coming : List (List ℕ)) (room places : ℕ) (fails : List ℕ) (calls faults : ℕ)
-      → (let d : Doorway = record { told = told_of handed accepts addr begun took (record last { at = last.at + n; order = o }) past; left = drop (last.at + n) last.bytes.items; coming = coming; room = room; places = places; fails = fails; calls = calls; faults = faults } in d)
-      ≡ record { told = on_last (given (take n (drop last.at last.bytes.items)) (nat_eq n 0)) (told_of handed accepts addr begun took last past); left = drop n (drop last.at last.bytes.items); coming = coming; room = room; places = places; fails = fails; calls = calls; faults = faults }
+      → (let d : Doorway = record { told = told_of handed accepts addr knocks begun took (record last { at = last.at + n; order = o }) past; left = drop (last.at + n) last.bytes.items; coming = coming; room = room; places = places; fails = fails; calls = calls; faults = faults } in d)
+      ≡ record { told = on_last (given (take n (drop last.at last.bytes.items)) (nat_eq n 0)) (told_of handed accepts addr knocks begun took last past); left = drop n (drop last.at last.bytes.items); coming = coming; room = room; places = places; fails = fails; calls = calls; faults = faults }
   read_more begun coming room places fails calls faults =
       let door = λ (t : Told) (l : List ℕ). let d : Doorway = record { told = t; left = l; coming = coming; room = room; places = places; fails = fails; calls = calls; faults = faults } in d in
-      ap (λ t. door t (drop (last.at + n) last.bytes.items)) (told_more begun) ∙ ap (λ l. door (on_last (given (take n (drop last.at last.bytes.items)) (nat_eq n 0)) (told_of handed accepts addr begun took last past)) l) (sym (drop-drop n last.at last.bytes.items))
+      ap (λ t. door t (drop (last.at + n) last.bytes.items)) (told_more begun) ∙ ap (λ l. door (on_last (given (take n (drop last.at last.bytes.items)) (nat_eq n 0)) (told_of handed accepts addr knocks begun took last past)) l) (sym (drop-drop n last.at last.bytes.items))

@@ -1,5 +1,6 @@
 -- What a door has been through, and what its calls add to it.
 use Rattle.std.specs.Prelude.{◌≡◌, ℕ, Bool, false, ◌||◌, cond, nat_eq, List, [], ◌∷◌, ◌++◌, length, take, Option, Some, None, ⊤, Result, Ok, Err}
+use Rattle.fuxi_io.specs.Causes.{raised}
 use Rattle.node_door.specs.declared.order.Order.{Order}
 use Rattle.node_door.specs.DoorOrders.{unused, order_read, order_written, order_failed, order_closed}
 
@@ -15,13 +16,14 @@ pub record Talk : Type 0 where
   pub ended : Bool
   pub order : Order
 
--- the last address, and all connections that were opened, the newest first
+-- the last address, how many were handed over, and all connections that were opened, the newest first
 pub record Told : Type 0 where
   pub knock : Option Knock
+  pub knocks : ℕ
   pub talks : List Talk
 
 abbrev pub untold : Told
-untold = record { knock = None; talks = [] }
+untold = record { knock = None; knocks = 0; talks = [] }
 
 abbrev pub new_talk : Talk
 new_talk = record { gave = []; took = []; ended = false; order = unused }
@@ -48,11 +50,11 @@ on_first f (talk ∷ talks) = f talk ∷ talks
 
 -- what was done to the last connection
 abbrev pub on_last : (Talk → Talk) → Told → Told
-on_last f t = record { knock = t.knock; talks = on_first f t.talks }
+on_last f t = record { knock = t.knock; knocks = t.knocks; talks = on_first f t.talks }
 
--- an address was handed over, and these are the connections since
-abbrev pub knocked : Bool → List ℕ → List Talk → Told
-knocked accepts addr talks = record { knock = Some (record { accepts = accepts; addr = addr }); talks = talks }
+-- an address more was handed over, and these are the connections since
+abbrev pub knocked : Bool → List ℕ → List Talk → Told → Told
+knocked accepts addr talks t = record { knock = Some (record { accepts = accepts; addr = addr }); knocks = raised t.knocks; talks = talks }
 
 -- what was told stays told; of a door that told nothing nothing is said
 abbrev pub WhereTold : (Told → Told → Type 0) → Option Told → Option Told → Type 0
@@ -63,8 +65,8 @@ WhereTold step (Some old) (Some new) = step old new
 -- The calls. The address is told whatever came of it. A write that failed may have taken a part from the front. A connection that could not be closed is
 -- none any more either.
 abbrev pub Opens : {E : Type 0} → Bool → List ℕ → Result (Unit {0}) E → Told → Told → Type 0
-Opens accepts addr (Ok done) old new = new ≡ knocked accepts addr (new_talk ∷ old.talks)
-Opens accepts addr (Err fault) old new = new ≡ knocked accepts addr old.talks
+Opens accepts addr (Ok done) old new = new ≡ knocked accepts addr (new_talk ∷ old.talks) old
+Opens accepts addr (Err fault) old new = new ≡ knocked accepts addr old.talks old
 
 abbrev pub Reads : {E : Type 0} → List ℕ → Result ℕ E → Told → Told → Type 0
 Reads buf (Ok n) old new = new ≡ on_last (given (take n buf) (nat_eq n 0)) old

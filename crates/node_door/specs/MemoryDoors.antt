@@ -36,9 +36,10 @@ pub record IsSpan (count : ℕ) (cs : List Opened) (number from end : ℕ) : Typ
   pub within : end ≤ count
   pub took : (bytes : List ℕ) → length bytes ≡ count → took_by (talks_of bytes cs) number ≡ take (end - from) (drop from bytes)
 
-abbrev pub told_of : Bool → Bool → List ℕ → Bool → List ℕ → Opened → List Opened → Told
-told_of handed accepts addr begun took last past = record {
+abbrev pub told_of : Bool → Bool → List ℕ → ℕ → Bool → List ℕ → Opened → List Opened → Told
+told_of handed accepts addr knocks begun took last past = record {
   knock = cond handed (Some (record { accepts = accepts; addr = addr })) None;
+  knocks = knocks;
   talks = cond begun (talks_of took (last ∷ past)) [];
 }
 

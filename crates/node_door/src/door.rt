@@ -8,7 +8,7 @@ use fuxi_io::Failed;
 /// Where connections come from, one at a time. It counts its faults; the count never falls, and stands still
 /// at `u64::MAX`. No call takes memory.
 ///
-/// It may tell the last address that it was handed, and of each connection which bytes it gave and took,
+/// It may tell the last address that it was handed and how many it was handed, and of each connection which bytes it gave and took,
 /// whether a read on it answered 0, and in which order it was read, written to and closed.
 pub trait Door {
     ghost use Rattle.std.specs.Prelude.{ℕ, ◌≡◌, ◌<◌, ◌≤◌, true, false, List, length};

@@ -31,6 +31,7 @@ pub struct MemDoor {
     accepts: bool,
     addr: [u8; 255],
     addr_len: usize,
+    knocks: u64,
     begun: bool,
     last: Opened,
     past: Vec<Opened>,
@@ -50,7 +51,7 @@ impl Model for MemDoor {
     ghost Value = { Doorway };
 
     ghost view = { λ d. record {
-      told = told_of d.handed d.accepts (take d.addr_len d.addr) d.begun d.took.items d.last (reverse d.past.items);
+      told = told_of d.handed d.accepts (take d.addr_len d.addr) d.knocks d.begun d.took.items d.last (reverse d.past.items);
       left = drop d.last.at d.last.bytes.items;
       coming = map (λ v. v.items) (reverse d.coming.items);
       room = d.room;
@@ -101,6 +102,7 @@ impl MemDoor {
             accepts: false,
             addr: [0; 255],
             addr_len: 0,
+            knocks: 0,
             begun: false,
             last: Opened {
                 bytes: Vec::new(alloc),
@@ -216,6 +218,7 @@ impl MemDoor {
         self.handed = true;
         self.accepts = accepts;
         self.addr_len = put_addr(&mut self.addr, addr);
+        self.knocks = self.knocks.saturating_add(1);
         match self.call() {
             Ok(()) => {}
             Err(Failed) => return Err(Failed),

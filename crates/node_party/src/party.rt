@@ -1,6 +1,6 @@
 //! The party of a node.
 
-ghost use Rattle.std.specs.Prelude.{◌≡◌, ◌+◌, ◌<◌, ◌≤◌, ◌++◌, ℕ, Err, IfOk, OnOk, OnErr, Option, Some, None};
+ghost use Rattle.std.specs.Prelude.{◌≡◌, ◌≢◌, ◌+◌, ◌<◌, ◌≤◌, ◌++◌, ℕ, Err, IfOk, OnOk, OnErr, Option, Some, None};
 ghost use Rattle.fuxi_io.specs.Causes.{Rose};
 ghost use Rattle.fuxi_io.specs.Disks.{Told as Moments, WhereTold};
 ghost use Rattle.fuxi_terms.specs.Limits.{most_steps};
@@ -39,7 +39,7 @@ pub enum Halt {
 /// The party of a node, which takes the lines that are no rounds. What its calls do is said of every party of the definitions that it
 /// stands for. A command is at most one step.
 pub trait Node: Core {
-    ghost use Rattle.std.specs.Prelude.{◌≡◌, ◌+◌, ◌<◌, ◌≤◌, ◌++◌, ℕ, Err, IfOk, OnOk, OnErr, Option, Some, None};
+    ghost use Rattle.std.specs.Prelude.{◌≡◌, ◌≢◌, ◌+◌, ◌<◌, ◌≤◌, ◌++◌, ℕ, Err, IfOk, OnOk, OnErr, Option, Some, None};
     ghost use Rattle.fuxi_io.specs.Causes.{Rose};
     ghost use Rattle.fuxi_io.specs.Disks.{Told as Moments, WhereTold};
     ghost use Rattle.fuxi_terms.specs.Limits.{most_steps};
@@ -60,7 +60,7 @@ pub trait Node: Core {
         ensures { (r : Role) → Self.stands self.now r → result ≡ accepts r };
 
     /// Takes an event that a line can give. What has to outlast the node is on the disk before the party changes. Of a disk that tells its
-    /// moments it keeps what `rests` says of these.
+    /// moments it keeps what `rests` says of these. A call of the disk that failed is told by `Disk` and nothing else.
     fn command<D: Disk>(
         self,
         alloc: Global,
@@ -76,7 +76,8 @@ pub trait Node: Core {
         ensures told { WhereTold (λ old new. Self.rests self (D.size disk.old) (Some old) → IfOk result (λ after. Self.rests after.0 (D.size disk.new) (Some new))) (D.told disk.old) (D.told disk.new) }
         ensures halts { OnErr result ((r : Role) → Self.stands self r → WhereTold (λ old new. Self.rests self (D.size disk.old) (Some old) → FitsEither fits halts r (commanded r event.now).role new) (D.told disk.old) (D.told disk.new)) }
         ensures later { D.faults disk.old ≤ D.faults disk.new }
-        ensures cause { result ≡ Err Halt.Disk → Rose (D.faults disk.old) (D.faults disk.new) };
+        ensures cause { result ≡ Err Halt.Disk → Rose (D.faults disk.old) (D.faults disk.new) }
+        ensures served { result ≢ Err Halt.Disk → D.faults disk.new ≡ D.faults disk.old };
 
     /// Appends the lines of its state. Where memory is refused a part of them may stand there.
     fn write_state(&self, out: &mut Vec<u8>) -> Result<(), OutOfMemory>

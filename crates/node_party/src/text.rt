@@ -40,6 +40,7 @@ pub fn write_round<O: Sink>(out: &mut O, line: &RoundLine) -> Result<(), WriteFa
     ensures ok { OnOk result (Appends (O.took out.old) (O.took out.new) (round_text line.now)) }
     ensures err { OnErr result (TakesPart (O.took out.old) (O.took out.new) (round_text line.now)) }
     ensures cause { HasCause (O.faults out.old) (O.faults out.new) result }
+    ensures served { OnOk result (O.faults out.new ≡ O.faults out.old) }
 {
     let mut first = Buffer::new();
     let mut second = Buffer::new();

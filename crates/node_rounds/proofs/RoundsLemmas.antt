@@ -29,6 +29,18 @@ nothing_heard : (most : ℕ) (r : Role) → 1 ≤ most → hear_all most r none_
 nothing_heard zero r first = absurd (omega (arith, first))
 nothing_heard (suc most) r first = refl
 
+open_ends : {A : Type 0} → AtOpen ≡ AtEnd → A
+open_ends is = cc
+
+-- a hearing that came to its end met no fault
+sound_end : {A : Type 0} (stop : Stop) → how_of stop ≡ AtEnd → is_failed stop ≡ true → A
+sound_end Ended ends failed = cc
+sound_end (Wrong fault) ends failed = cc
+sound_end StrangerStop ends failed = cc
+sound_end LongStop ends failed = cc
+sound_end Short ends failed = cc
+sound_end FaultStop ends failed = cc
+
 gives_nothing : Gives [] [] AtOpen
 gives_nothing = record { left = []; splits = no_packet []; rest = none_short }
 
@@ -109,6 +121,9 @@ module _ (most : ℕ) (addr : List ℕ) (r : Role) (first : 1 ≤ most) where
   role_none : (now : Role → Type 0) → now r → now (hear_all most r none_came).role
   role_none now stands = subst (λ (h : Hearing). now h.role) (sym (nothing_heard most r first)) stands
 
+  none_ends : {A : Type 0} → (hear_all most r none_came).how ≡ AtEnd → A
+  none_ends ends = open_ends (ap (λ (h : Hearing). h.how) (sym (nothing_heard most r first)) ∙ ends)
+
   -- a fault before anything was read
   pub missed : (accepts : Bool) (now : Role → Type 0) (old new : Told) (failed : Failed) → now r → Opens accepts addr (Err failed) old new → Rounds accepts most addr now r Fault old new
   missed false now old new failed stands is = record {
@@ -116,7 +131,7 @@ module _ (most : ℕ) (addr : List ℕ) (r : Role) (first : 1 ≤ most) where
     door = is;
     came = none_came;
     stands = role_none now stands;
-    meets = record { gives = gives_none; says = ap (λ (h : Hearing). line_by true (length (turn r None)) h.count h.how) (nothing_heard most r first); took = inl refl; ended = refl; failed = refl; order = tt; closed = refl };
+    meets = record { gives = gives_none; says = ap (λ (h : Hearing). line_by true (length (turn r None)) h.count h.how) (nothing_heard most r first); took = inl refl; ended = refl; failed = refl; behind_end = λ ends fault. none_ends ends; order = tt; closed = refl };
   }
   missed true now old new failed stands is =
       let h = nothing_heard most r first in
@@ -131,6 +146,7 @@ module _ (most : ℕ) (addr : List ℕ) (r : Role) (first : 1 ≤ most) where
           took = subst (λ (h : Hearing). Takes true [] (answer_by h.role h.peer h.how)) (sym h) refl;
           ended = refl;
           failed = refl;
+          behind_end = λ ends fault. none_ends ends;
           order = tt;
           closed = refl;
         };
@@ -149,6 +165,7 @@ module _ (most : ℕ) (addr : List ℕ) (r : Role) (first : 1 ≤ most) where
       took = inr (record { bytes = out; turn = made; count = writes.0; part = refl });
       ended = refl;
       failed = refl;
+      behind_end = λ ends fault. none_ends ends;
       order = record { turns = refl; late = refl };
       closed = refl;
     };
@@ -171,6 +188,7 @@ module _ (most : ℕ) (addr : List ℕ) (r : Role) (first : 1 ≤ most) where
           took = takes_all (is_fault line) out (record { role = r; peer = None }) made;
           ended = ap says_short is ∙ short_said h.gives.left sent l.count l.stop h.gives.rest;
           failed = mark;
+          behind_end = λ ends fault. sound_end l.stop (sym (ap (λ (g : Hearing). g.how) h.hears) ∙ ends) (sym mark ∙ fault);
           order = record { turns = refl; late = refl };
           closed = refl;
         };
@@ -202,6 +220,7 @@ module _ (most : ℕ) (addr : List ℕ) (r : Role) (first : 1 ≤ most) where
           took = subst (λ (g : Hearing). Takes (is_fault line) [] (answer_by g.role g.peer g.how)) (sym h.hears) (subst (Takes (is_fault line) []) (no_answer h.role l.peer l.stop more) refl);
           ended = ap says_short is ∙ short_said h.gives.left sent l.count l.stop h.gives.rest;
           failed = mark;
+          behind_end = λ ends fault. sound_end l.stop (sym (ap (λ (g : Hearing). g.how) h.hears) ∙ ends) (sym mark ∙ fault);
           order = record { turns = refl; late = refl };
           closed = refl;
         };
@@ -228,6 +247,7 @@ module _ (most : ℕ) (addr : List ℕ) (r : Role) (first : 1 ≤ most) where
           took = subst (λ (g : Hearing). Takes false out (answer_by g.role g.peer g.how)) (sym hears) (made h.role h.stands);
           ended = sym (ap is_short (is_end l.stop over));
           failed = sym (ap is_failed (is_end l.stop over));
+          behind_end = λ ends fault. cc;
           order = record { turns = refl; late = late_after (is_failed l.stop) (ap is_failed (is_end l.stop over)) };
           closed = refl;
         };
@@ -249,6 +269,7 @@ module _ (most : ℕ) (addr : List ℕ) (r : Role) (first : 1 ≤ most) where
           took = subst (λ (g : Hearing). Takes true (take writes.0 out) (answer_by g.role g.peer g.how)) (sym hears) (inr (record { bytes = out; turn = made h.role h.stands; count = writes.0; part = refl }));
           ended = sym (ap is_short (is_end l.stop over));
           failed = refl;
+          behind_end = λ ends fault. (refl, refl);
           order = record { turns = refl; late = late_twice (is_failed l.stop) (ap is_failed (is_end l.stop over)) };
           closed = refl;
         };

@@ -58,14 +58,14 @@ broke_off o = ap (λ b. order_of o.read o.asked b (o.late || (o.failed || o.clos
 
 -- what is the same of each connection
 same_last : (f g : Talk → Talk) (t : Told) → ((x : Talk) → f x ≡ g x) → on_last f t ≡ on_last g t
-same_last f g t same = ap (λ l. let u : Told = record { knock = t.knock; talks = l } in u) (by t.talks)
+same_last f g t same = ap (λ l. let u : Told = record { knock = t.knock; knocks = t.knocks; talks = l } in u) (by t.talks)
   where
     by : (l : List Talk) → on_first f l ≡ on_first g l
     by [] = refl
     by (x ∷ xs) = ap (λ (y : Talk). y ∷ xs) (same x)
 
 then_last : (f g : Talk → Talk) (t : Told) → on_last g (on_last f t) ≡ on_last (λ talk. g (f talk)) t
-then_last f g t = ap (λ l. let u : Told = record { knock = t.knock; talks = l } in u) (by t.talks)
+then_last f g t = ap (λ l. let u : Told = record { knock = t.knock; knocks = t.knocks; talks = l } in u) (by t.talks)
   where
     by : (l : List Talk) → on_first g (on_first f l) ≡ on_first (λ talk. g (f talk)) l
     by [] = refl
@@ -76,7 +76,7 @@ talk_of gave ended order x = record { gave = gave; took = x.took; ended = ended;
 
 -- nothing came yet
 pub nothing_given : (t : Told) → t ≡ on_last (read_on false [] false) t
-nothing_given t = ap (λ l. let u : Told = record { knock = t.knock; talks = l } in u) (by t.talks)
+nothing_given t = ap (λ l. let u : Told = record { knock = t.knock; knocks = t.knocks; talks = l } in u) (by t.talks)
   where
     by : (l : List Talk) → l ≡ on_first (read_on false [] false) l
     by [] = refl

@@ -76,10 +76,10 @@ says_short (Bad at fault) = is_short_fault fault
 says_short (Stranger at) = false
 says_short Long = false
 
--- the address was handed to the door, and no connection came, or this one
+-- the address was handed to the door once, and no connection came, or this one
 abbrev pub visited : Bool → List ℕ → Option Talk → Told → Told
-visited accepts addr None t = knocked accepts addr t.talks
-visited accepts addr (Some talk) t = knocked accepts addr (talk ∷ t.talks)
+visited accepts addr None t = knocked accepts addr t.talks t
+visited accepts addr (Some talk) t = knocked accepts addr (talk ∷ t.talks) t
 
 abbrev pub gave_in : Option Talk → List ℕ
 gave_in None = []
@@ -127,14 +127,20 @@ abbrev pub Takes : Bool → List ℕ → Option Sending → Type 0
 Takes mark took None = took ≡ []
 Takes mark took (Some s) = TakesOf mark took s
 
+-- an answer was begun
+abbrev pub answered_in : Option Talk → Bool
+answered_in None = false
+answered_in (Some talk) = talk.order.written
+
 -- What a visit and a line have to do with the round of a party. The line is that of a fault exactly where a call of the door failed before the connection was
--- closed, and it is closed then.
+-- closed, and it is closed then. Behind an End packet only the writing of an answer fails.
 pub record Meets (accepts : Bool) (most : ℕ) (r : Role) (came : Came) (visit : Option Talk) (line : RoundLine) : Type 0 where
   pub gives : Gives (gave_in visit) came.packets (hear_all most r came).how
   pub says : (rounded accepts most r came (is_fault line)).line ≡ line
   pub took : Takes (is_fault line) (took_in visit) (rounded accepts most r came (is_fault line)).out
   pub ended : says_short line ≡ ended_in visit
   pub failed : is_fault line ≡ failed_in visit
+  pub behind_end : (hear_all most r came).how ≡ AtEnd → is_fault line ≡ true → (accepts ≡ true) × (answered_in visit ≡ true)
   pub order : WentInOrder accepts visit
   pub closed : closed_in visit ≡ true
 

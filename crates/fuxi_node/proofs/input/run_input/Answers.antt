@@ -1,4 +1,5 @@
 use Rattle.std.proofs.Common.{inr, Err, refl, ap, arith}
+use Rattle.hard_state.proofs.HardFilesLemmas.{idle_keeps}
 use Rattle.fuxi_node.proofs.CompleteInputs.{completes_before, completes_behind}
 use Rattle.fuxi_node.proofs.NodeInputsLemmas.{no_memory, no_cluster, behind_cluster}
 use Rattle.fuxi_node.proofs.InputEnds.{before_placed, behind_placed, has_some, input_stays, memory_placed}
@@ -56,3 +57,9 @@ returns-clause-complete g c bytes is may read write failed =
     (behind_placed c.args.kind c.in-Ok-read_cluster_line.cluster c.read_cluster_line.new.lines.number c.read_cluster_line.new.lines.ended (g.S.Source.left c.args.source.now) _ c.run_kind.result (g.S.Source.left c.run_kind.new.source)
     ((rw c.in-Ok.ensures at c.in-Ok-read_cluster_line.ensures.opened) refl) (λ last. c.run_kind.ensures.places (record { running = c.in-Ok-read_cluster_line.ensures.running; last = last })))
     (g.D.Disk.told c.args.disk.now) may c.run_kind.ensures.told
+
+pub returns-in-Err-clause-keeps : goal.returns-in-Err-clause-keeps
+returns-in-Err-clause-keeps g c = idle_keeps (g.D.Disk.told c.args.disk.now)
+
+pub returns-in-Err-read_cluster_line-clause-keeps : goal.returns-in-Err-read_cluster_line-clause-keeps
+returns-in-Err-read_cluster_line-clause-keeps g c = idle_keeps (g.D.Disk.told c.args.disk.now)

@@ -1,9 +1,12 @@
-use Rattle.std.proofs.Common.{Ok, Err, refl, ap}
+use Rattle.std.proofs.Common.{◌≡◌, Ok, Err, refl, ◌∙◌, ap}
+use Rattle.hard_state.proofs.HardFilesLemmas.{whole_keeps}
+use Rattle.hard_state.specs.declared.fault.HardFault.TheVariants.{DiskFault as NoDisk}
 use Rattle.written_roles.specs.MasterRoles.{master_started}
 use Rattle.master_node.specs.MasterParties.{DiskHas, RestsAt}
 use Rattle.master_node.specs.Writes.{LeavesEither}
 use Rattle.node_rounds.specs.Roles.{OfMaster}
 use Rattle.fuxi_node.specs.NodeEnds.{FitsNow, FitsOneNow}
+use Rattle.fuxi_node.specs.MasterEnds.{start_status}
 use Rattle.fuxi_node.specs.NodeStarts.{master_start}
 use Rattle.fuxi_node.proofs.MasterEndsLemmas.{either_at_end, file_at_end, leaves_file, not_started, raised_from, runs_on_file, start_placed, started}
 use Rattle.fuxi_node.proofs.masters.run_master.Goals as goal
@@ -46,3 +49,20 @@ returns-in-Ok-run_node-clause-stays g c = runs_on_file c.args.epoch c.in-Ok-run_
 
 pub returns-in-Err-clause-places : goal.returns-in-Err-clause-places
 returns-in-Err-clause-places g c ready = start_placed c.in-Err.fault c.start_status.result c.args.lines.now.number _ (g.S.Source.left c.args.source.now) c.start_status.ensures
+
+pub returns-in-Err-clause-disk_served : goal.returns-in-Err-clause-disk_served
+returns-in-Err-clause-disk_served g c other =
+    c.in-Err.ensures.served (λ is. let fault : c.in-Err.fault ≡ NoDisk = cc in other (c.start_status.ensures ∙ ap start_status fault))
+
+pub returns-in-Ok-run_node-clause-disk_served : goal.returns-in-Ok-run_node-clause-disk_served
+returns-in-Ok-run_node-clause-disk_served g c other = c.in-Ok-run_node.ensures.disk_served ∙ c.in-Ok.ensures.served (λ is. let no : ⊥ = cc in no)
+
+pub returns-in-Ok-run_node-clause-keeps : goal.returns-in-Ok-run_node-clause-keeps
+returns-in-Ok-run_node-clause-keeps g c =
+    let from = raised_from c.args.epoch c.in-Ok.node.hard (g.D.Disk.told c.args.disk.now) (g.D.Disk.told c.open.new.disk) c.in-Ok.ensures.raised c.in-Ok.ensures.opened in
+    whole_keeps from.before (g.D.Disk.told c.args.disk.now) (g.D.Disk.told c.run_node.new.disk) from.reads
+
+pub returns-in-Err-run_node-clause-keeps : goal.returns-in-Err-run_node-clause-keeps
+returns-in-Err-run_node-clause-keeps g c =
+    let from = raised_from c.args.epoch c.in-Ok.node.hard (g.D.Disk.told c.args.disk.now) (g.D.Disk.told c.open.new.disk) c.in-Ok.ensures.raised c.in-Ok.ensures.opened in
+    whole_keeps from.before (g.D.Disk.told c.args.disk.now) (g.D.Disk.told c.run_node.new.disk) from.reads

@@ -1,7 +1,9 @@
 use Rattle.std.proofs.Common.{Some, ◌≡◌, ◌+◌, ◌<◌, Ok, Err, sym, ◌∙◌, ap, subst, arith, refl, false}
 use Rattle.std.proofs.lemmas.Bool.{false≢true}
 use Rattle.fuxi_io.specs.Reading.{line_of}
+use Rattle.fuxi_io.specs.declared.lines.LineStop.TheVariants.{ReadFault as ReadStop}
 use Rattle.fuxi_terms.specs.Limits.{most_frames, most_lines}
+use Rattle.input_lines.specs.InputStatuses.{stop_status}
 use Rattle.input_lines.specs.Contents.{content, is_skipped}
 use Rattle.node_door.specs.Doors.{WhereTold}
 use Rattle.node_party.specs.NodeHalts.{FitsEither}
@@ -30,6 +32,9 @@ loop-turn-init g c = record {
   unstopped = c.requires.stop;
   read = omega arith;
   disk = omega arith;
+  reads_served = refl;
+  writes_served = refl;
+  disk_served = refl;
   wrote = omega arith;
 }
 
@@ -119,6 +124,9 @@ loop-turn-preserved g c =
       unstopped = λ e. let f = sym c.in-Ok-Line.ensures.stop ∙ e in cc;
       read = omega (arith, c.loop-turn.invariant.read, c.in-Ok-Line.ensures.later);
       disk = omega (arith, c.loop-turn.invariant.disk, c.in-Ok.ensures.disk);
+      reads_served = c.in-Ok-Line.ensures.served (λ other. let no : ⊥ = cc in no) ∙ c.loop-turn.invariant.reads_served;
+      writes_served = c.in-Ok.ensures.writes_served (λ other. let no : ⊥ = cc in no) ∙ c.loop-turn.invariant.writes_served;
+      disk_served = c.in-Ok.ensures.disk_served (λ other. let no : ⊥ = cc in no) ∙ c.loop-turn.invariant.disk_served;
       wrote = omega (arith, c.loop-turn.invariant.wrote, c.in-Ok.ensures.later);
     }
 
@@ -148,3 +156,7 @@ returns-in-Err-Ends-clause-places g c ready =
 
 pub returns-in-Err-Disk-clause-places : goal.returns-in-Err-Disk-clause-places
 returns-in-Err-Disk-clause-places g c ready = disk_placed _
+
+pub returns-in-Err-clause-reads_served : goal.returns-in-Err-clause-reads_served
+returns-in-Err-clause-reads_served g c other =
+    c.in-Err.ensures.served (λ is. let stop : c.in-Err.stop ≡ ReadStop = cc in other (ap (λ s. Ok s) (c.stop_status.ensures ∙ ap (λ s. stop_status s c.number.result) stop))) ∙ c.loop-turn.invariant.reads_served

@@ -25,5 +25,8 @@ invariant-loop-turn g l = record {
   unstopped : l.lines.stop ≢ Some ReadFault;
   read : g.S.Source.faults l.fn.source ≤ g.S.Source.faults l.source;
   disk : g.D.Disk.faults l.fn.disk ≤ g.D.Disk.faults l.disk;
+  reads_served : g.S.Source.faults l.source ≡ g.S.Source.faults l.fn.source;
+  writes_served : g.O.Sink.faults l.out ≡ g.O.Sink.faults l.fn.out;
+  disk_served : g.D.Disk.faults l.disk ≡ g.D.Disk.faults l.fn.disk;
   wrote : g.O.Sink.faults l.fn.out ≤ g.O.Sink.faults l.out;
 }

@@ -1,5 +1,6 @@
-use Rattle.std.proofs.Common.{Ok, Err, refl, sym, ◌∙◌, ap, subst}
+use Rattle.std.proofs.Common.{◌≡◌, Ok, Err, refl, sym, ◌∙◌, ap, subst}
 use Rattle.hard_state.specs.HardFiles.{Kept}
+use Rattle.hard_state.specs.declared.fault.HardFault.TheVariants.{DiskFault}
 use Rattle.schedule_text.specs.Printing.{as_refusal}
 use Rattle.node_party.specs.PartyEvents.{IsCommanded, RefusedAs}
 use Rattle.node_party.specs.NodeTexts.{as_answer}
@@ -65,3 +66,7 @@ step-requires-clause-fitting g c =
     let k = c.self.inside.hard in
     fits (record { hard = k; master = c.self.inside.master }) c.args.event c.write.new.hard.value c.self.invariant c.requires.command
     (λ r h s. ap (λ e. written_by k.value e c.args.event) (sym (c.epoch.ensures.stands r s.stands)) ∙ c.in-Ok.ensures.ok)
+
+pub returns-in-Err-written_refusal-clause-served : goal.returns-in-Err-written_refusal-clause-served
+returns-in-Err-written_refusal-clause-served g c other =
+    c.in-Err.ensures.served (λ is. c.in-Err-written_refusal.ensures.told (λ same. other (ap (λ h. Err h) same)) (let fault : c.in-Err.fault ≡ DiskFault = cc in fault))

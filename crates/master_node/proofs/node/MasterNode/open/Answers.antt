@@ -1,8 +1,6 @@
-use Rattle.std.proofs.Common.{Ok, Err, inr, ap, subst, sym}
-use Rattle.fuxi_io.specs.Disks.{WhereTold}
+use Rattle.std.proofs.Common.{Ok, Err, ap}
 use Rattle.written_roles.specs.MasterRoles.{master_started}
-use Rattle.master_node.specs.OpenedMasters.{StopsAtRest}
-use Rattle.master_node.proofs.OpenedMastersLemmas.{no_damage, open_fails, open_starts, raise_starts, starts_master, stops_opened, stops_raised}
+use Rattle.master_node.proofs.OpenedMastersLemmas.{no_damage, open_fails, open_starts, opened_keeps, raise_starts, starts_master}
 use Rattle.master_node.proofs.node.MasterNode.open.Goals as goal
 
 pub returns-in-Err-clause-fails : goal.returns-in-Err-clause-fails
@@ -20,10 +18,9 @@ returns-in-Err-raise-clause-told g c =
 pub returns-in-Err-raise-clause-untouched : goal.returns-in-Err-raise-clause-untouched
 returns-in-Err-raise-clause-untouched g c offset is = absurd (no_damage c.in-Err-raise.fault offset _ c.in-Err-raise.ensures.refused is)
 
-pub returns-in-Err-raise-clause-served : goal.returns-in-Err-raise-clause-served
-returns-in-Err-raise-clause-served g c not =
-    inr (subst (λ t. WhereTold (StopsAtRest c.args.epoch) (g.D.Disk.told c.args.disk.now) t) (ap g.D.Disk.told (sym (c.in-Err-raise.ensures.unchanged not).1))
-    (stops_opened c.args.epoch c.in-Ok.hard (g.D.Disk.told c.args.disk.now) (g.D.Disk.told c.open.new.disk) c.in-Ok.ensures.opened))
+pub returns-in-Err-raise-clause-keeps : goal.returns-in-Err-raise-clause-keeps
+returns-in-Err-raise-clause-keeps g c =
+    opened_keeps c.in-Ok.hard (g.D.Disk.told c.args.disk.now) (g.D.Disk.told c.open.new.disk) (g.D.Disk.told c.raise.new.disk) c.in-Ok.ensures.opened
 
 pub invariant_of-result : goal.invariant_of-result
 invariant_of-result g c =
@@ -48,7 +45,10 @@ returns-in-Err-start-clause-told g c =
     raise_starts c.args.epoch c.in-Ok.hard c.raise.new.self (Ok c.in-Ok-raise.field-0) (g.D.Disk.told c.args.disk.now) (g.D.Disk.told c.open.new.disk) (g.D.Disk.told c.raise.new.disk)
     c.in-Ok.ensures.opened c.in-Ok.ensures.told c.in-Ok-raise.ensures.told
 
-pub returns-in-Err-start-clause-served : goal.returns-in-Err-start-clause-served
-returns-in-Err-start-clause-served g c not =
-    inr (stops_raised c.args.epoch c.in-Ok.hard c.raise.new.self c.in-Ok-raise.field-0 (g.D.Disk.told c.args.disk.now) (g.D.Disk.told c.open.new.disk) (g.D.Disk.told c.raise.new.disk)
-    c.in-Ok-raise.ensures.ok.0 c.in-Ok.ensures.opened c.in-Ok-raise.ensures.told)
+pub returns-in-Ok-start-clause-keeps : goal.returns-in-Ok-start-clause-keeps
+returns-in-Ok-start-clause-keeps g c =
+    opened_keeps c.in-Ok.hard (g.D.Disk.told c.args.disk.now) (g.D.Disk.told c.open.new.disk) (g.D.Disk.told c.raise.new.disk) c.in-Ok.ensures.opened
+
+pub returns-in-Err-start-clause-keeps : goal.returns-in-Err-start-clause-keeps
+returns-in-Err-start-clause-keeps g c =
+    opened_keeps c.in-Ok.hard (g.D.Disk.told c.args.disk.now) (g.D.Disk.told c.open.new.disk) (g.D.Disk.told c.raise.new.disk) c.in-Ok.ensures.opened

@@ -7,4 +7,4 @@ pub returns-else-n-eq0 : goal.returns-else-n-eq0
 returns-else-n-eq0 c =
     let s = c.self.inside in
     let more : nat_eq c.args.n 0 ≡ false = grind (arith, nat_tests, c.if-n-eq0.false) in
-    rw (← c.self.view_is) (read_more s.handed s.accepts (take s.addr_len s.addr) s.took.items s.last (reverse s.past.items) c.args.n c.after_read-self-inside.result c.after_read-self-inside.ensures more s.begun _ s.room s.places s.fails.items s.calls s.faults)
+    rw (← c.self.view_is) (read_more s.handed s.accepts (take s.addr_len s.addr) s.knocks s.took.items s.last (reverse s.past.items) c.args.n c.after_read-self-inside.result c.after_read-self-inside.ensures more s.begun _ s.room s.places s.fails.items s.calls s.faults)
