@@ -8,5 +8,5 @@ pub mod RanksLemmas
 pub mod TreePathLemmas
 pub mod TreesAsSeen
 pub mod TreesLemmas
-pub mod UnitSetsLemmas
+pub mod NumberSetsLemmas
 pub mod VacantLemmas

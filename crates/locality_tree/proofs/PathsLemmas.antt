@@ -12,7 +12,7 @@ use Rattle.wait_queue.specs.declared.node.Node.{Node}
 use Rattle.wait_queue.specs.declared.queue.Queue.{Queue}
 use Rattle.wait_queue.specs.Queues.{Item, Stands, IsIn, IsInRange, AreBehind, IsInOrder, is_before, first_of, rank, entry_at}
 use Rattle.locality_tree.specs.declared.path.Path.{Path}
-use Rattle.locality_tree.specs.declared.unit_set.UnitSet.{UnitSet}
+use Rattle.locality_tree.specs.declared.number_set.NumberSet.{NumberSet}
 use Rattle.locality_tree.specs.Trees.{Pair, ranks_before, IsRanked}
 use Rattle.locality_tree.specs.Layouts.{Slots, HasNumber, AreKept, IsQueueAt}
 use Rattle.locality_tree.specs.Paths.{is_in_either, nothing, unskipped, Stops, IsTail, HasTail, Passed, SkipsTo, priority_in, at_most, is_best, IsRanking, pairs_of, Leads, IsWalkable, Gives}
@@ -257,14 +257,14 @@ tail_behind law at q o tail s behind t e told =
     record { tail = h.back; is_tail = subst (λ (x : Option Slot). IsTail at q x h.back) (sym (told h.done h.back h.entry h.stands)) h.onward }
 
 -- the whole list of a queue is a tail of it
-pub whole_tail : (at : Slot → Option Node) (spare : ℕ) (queues : List Queue) (slots : Slots) (sets : List UnitSet) (place : ℕ) (q : Queue) (o : Option Slot) (kept : AreKept at spare queues slots sets) → q ≡ get_or queues place q → place < length queues →
+pub whole_tail : (at : Slot → Option Node) (spare : ℕ) (queues : List Queue) (slots : Slots) (sets : List NumberSet) (place : ℕ) (q : Queue) (o : Option Slot) (kept : AreKept at spare queues slots sets) → q ≡ get_or queues place q → place < length queues →
     ((at : Slot → Option Node) (items : List Item) → Stands at q items → o ≡ first_of items None) → IsTail at q o (kept.lists place)
 whole_tail at spare queues slots sets place q o kept is queued first =
     let h : IsQueueAt at q slots place (kept.lists place) = subst (λ (r : Queue). IsQueueAt at r slots place (kept.lists place)) (sym is) (kept.queues_stand place q queued) in
     record { done = []; stands = h.stands; by_priority = h.by_priority; here = first at (kept.lists place) h.stands; numbers = h.numbers }
 
 -- a path at the beginning of its queues
-pub leads_whole : (p : Path) (pairs : List Pair) (near rack cluster : List Item) (near_set rack_set : UnitSet) → p.near_set.now ≡ near_set → p.rack_set.now ≡ rack_set → IsTail (value_at p.pool.now) p.near.now p.at_near near →
+pub leads_whole : (p : Path) (pairs : List Pair) (near rack cluster : List Item) (near_set rack_set : NumberSet) → p.near_set.now ≡ near_set → p.rack_set.now ≡ rack_set → IsTail (value_at p.pool.now) p.near.now p.at_near near →
     SkipsTo (value_at p.pool.now) p.rack.now (is_in_either p.near_set.now p.near_set.now) rack p.at_rack → SkipsTo (value_at p.pool.now) p.cluster.now (is_in_either p.near_set.now p.rack_set.now) cluster p.at_cluster → IsRanking pairs (pairs_of near_set rack_set near rack cluster) → Leads p pairs
 leads_whole p pairs near rack cluster near_set rack_set near_is rack_is n r k ranking = record {
   near = near;
@@ -278,7 +278,7 @@ leads_whole p pairs near rack cluster near_set rack_set near_is rack_is n r k ra
   ranking =
       subst (λ (ps : List Pair). IsRanking pairs (unskipped nothing 0 near ++ (ps ++ unskipped (is_in_either p.near_set.now p.rack_set.now) 2 k.passed.left))) (r.passed.same 1)
       (subst (λ (ps : List Pair). IsRanking pairs (unskipped nothing 0 near ++ (unskipped (is_in_either p.near_set.now p.near_set.now) 1 rack ++ ps))) (k.passed.same 2)
-      (subst (λ (s : UnitSet). IsRanking pairs (pairs_of p.near_set.now s near rack cluster)) (sym rack_is) (subst (λ (s : UnitSet). IsRanking pairs (pairs_of s rack_set near rack cluster)) (sym near_is) ranking)));
+      (subst (λ (s : NumberSet). IsRanking pairs (pairs_of p.near_set.now s near rack cluster)) (sym rack_is) (subst (λ (s : NumberSet). IsRanking pairs (pairs_of s rack_set near rack cluster)) (sym near_is) ranking)));
 }
 
 -- an answer that is the first pair, and a path that leads over the others

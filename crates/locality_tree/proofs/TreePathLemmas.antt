@@ -9,8 +9,8 @@ use Rattle.wait_queue.specs.declared.node.Node.{Node}
 use Rattle.wait_queue.specs.declared.queue.Queue.{Queue}
 use Rattle.wait_queue.specs.Queues.{Item, IsInOrder}
 use Rattle.locality_tree.specs.declared.layout.Layout.{Layout}
-use Rattle.locality_tree.specs.declared.unit_set.UnitSet.{UnitSet}
-use Rattle.locality_tree.specs.UnitSets.{has_unit, no_set}
+use Rattle.locality_tree.specs.declared.number_set.NumberSet.{NumberSet}
+use Rattle.locality_tree.specs.NumberSets.{in_set, no_set}
 use Rattle.locality_tree.specs.Trees.{Pair, UnitState, unit_at, level_at, rack_place, cluster_place, HasPath}
 use Rattle.locality_tree.specs.Layouts.{Slots, slots_of, slot_in, number_of, entry_in, IsQueueAt, tree_record, IsTree}
 use Rattle.locality_tree.specs.Paths.{is_in_either, nothing, unskipped, IsRanking, pairs_of}
@@ -92,10 +92,10 @@ module _ (law : Entries) (racks : List ℕ) (p : Layout) (t : IsTree racks p) (m
   abbrev pub last : ℕ
   last = cluster_place racks
 
-  abbrev pub near_set : UnitSet
+  abbrev pub near_set : NumberSet
   near_set = get_or p.sets.items m no_set
 
-  abbrev pub rack_set : UnitSet
+  abbrev pub rack_set : NumberSet
   rack_set = get_or p.sets.items rack no_set
 
   near_queued : m < length p.queues.items
@@ -143,7 +143,7 @@ module _ (law : Entries) (racks : List ℕ) (p : Layout) (t : IsTree racks p) (m
       twice false = refl
 
   either_skips : (e : Entry) → is_in_either near_set rack_set e ≡ (is_some (slot_in slots (number_of e) m) || is_some (slot_in slots (number_of e) rack))
-  either_skips e = ap (λ b. b || has_unit rack_set (number_of e)) (t.kept.marked (number_of e) m near_queued) ∙ ap (λ b. is_some (slot_in slots (number_of e) m) || b) (t.kept.marked (number_of e) rack rack_queued)
+  either_skips e = ap (λ b. b || in_set rack_set (number_of e)) (t.kept.marked (number_of e) m near_queued) ∙ ap (λ b. is_some (slot_in slots (number_of e) m) || b) (t.kept.marked (number_of e) rack rack_queued)
 
   abbrev pub all_pairs : List Pair
   all_pairs = pairs_of near_set rack_set (t.kept.lists m) (t.kept.lists rack) (t.kept.lists last)

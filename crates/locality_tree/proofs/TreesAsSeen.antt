@@ -1,5 +1,5 @@
 -- What a turn of a unit leaves of a tree, said of the tree that a contract sees.
-use Rattle.std.proofs.Common.{◌≡◌, ◌≢◌, ℕ, ◌+◌, ◌<◌, Bool, true, false, length, get_or, Some, sym, ◌∙◌, ap, subst, arith}
+use Rattle.std.proofs.Common.{◌≡◌, ◌≢◌, ℕ, ◌<◌, Bool, true, false, length, get_or, Some, is_some, sym, ◌∙◌, ap, subst, arith}
 use Rattle.std.specs.Prelude.{IsTrue, List}
 use Rattle.slot_pool.specs.Pools.{value_at}
 use Rattle.wait_queue.specs.declared.node.Entry.{Entry}
@@ -7,7 +7,7 @@ use Rattle.locality_tree.specs.declared.layout.Layout.{Layout}
 use Rattle.locality_tree.specs.Trees.{TreeRecord, unit_at, is_admitted, with_stand, refreshed, cluster_place, MayWait}
 use Rattle.locality_tree.specs.Layouts.{slots_of, slot_in, number_of, entry_in, AreKeptIn, EntryFitsIn, TurnedIn, LeftIn, tree_record, IsTree}
 use Rattle.locality_tree.proofs.QueueLaws.{Entries}
-use Rattle.locality_tree.proofs.TreesLemmas.{entry_of, waiting_fits, may_wait_fits, tree_marked, marked_view, tree_begun, begun_view, tree_left, left_view}
+use Rattle.locality_tree.proofs.TreesLemmas.{entry_of, stands_of, waiting_fits, may_wait_fits, tree_marked, marked_view, tree_begun, begun_view, tree_left, left_view}
 
 module _ (racks : List ℕ) (p : Layout) (t : IsTree racks p) (e : Entry) (seen : TreeRecord) (view : tree_record racks p ≡ seen) where
   -- a unit that may wait fits every place
@@ -20,6 +20,10 @@ module _ (racks : List ℕ) (p : Layout) (t : IsTree racks p) (e : Entry) (seen 
   -- so does one that waits
   pub waiting_seen : Entries → (unit_at seen e.app.0 e.unit.0).entry ≡ Some e → (place : ℕ) → place < length p.queues.items → EntryFitsIn p e place
   waiting_seen law waits place queued = waiting_fits law racks p t e place (stands_there waits) queued
+
+  -- and it is seen to stand where it has a slot
+  pub stands_seen : (place : ℕ) → is_some (slot_in (slots_of p.slots.items) (number_of e) place) ≡ get_or (unit_at seen e.app.0 e.unit.0).stands place false
+  stands_seen place = sym (stands_of racks p (number_of e) place) ∙ ap (λ (s : TreeRecord). get_or (unit_at s e.app.0 e.unit.0).stands place false) view
 
   module _ (p2 : Layout) (kept : AreKeptIn p2) (count : length p2.queues.items ≡ length p.queues.items) where
     -- the layout is that of a tree, which is seen so

@@ -33,6 +33,15 @@ state_at racks p n = ap (λ (us : List UnitState). get_or us n no_unit) (by_slot
 pub entry_of : (racks : List ℕ) (p : Layout) (n : ℕ) → (get_or (states_in racks p) n no_unit).entry ≡ entry_in (value_at p.pool) (slot_in (slots_of p.slots.items) n (cluster_place racks))
 entry_of racks p n = ap (λ (u : UnitState). u.entry) (state_at racks p n)
 
+stood_at : (places : List (Option Slot)) (k : ℕ) → get_or (map is_some places) k false ≡ is_some (get_or places k None)
+stood_at [] k = refl
+stood_at (o ∷ os) zero = refl
+stood_at (o ∷ os) (suc k) = stood_at os k
+
+-- a unit stands exactly where it has a slot
+pub stands_of : (racks : List ℕ) (p : Layout) (n k : ℕ) → get_or (get_or (states_in racks p) n no_unit).stands k false ≡ is_some (slot_in (slots_of p.slots.items) n k)
+stands_of racks p n k = ap (λ (u : UnitState). get_or u.stands k false) (state_at racks p n) ∙ stood_at (get_or (slots_of p.slots.items) n []) k
+
 states_same : (a b : UnitState) → a.entry ≡ b.entry → a.stands ≡ b.stands → a ≡ b
 states_same a b e f =
     let one : Option Entry → UnitState = λ x. record { entry = x; stands = a.stands } in

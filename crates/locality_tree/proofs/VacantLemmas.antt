@@ -9,9 +9,9 @@ use Rattle.std.proofs.lemmas.List.Sums.{sum_by-cons, sum_by-set}
 use Rattle.slot_pool.specs.declared.pool.Slot.{Slot}
 use Rattle.wait_queue.specs.declared.node.Node.{Node}
 use Rattle.wait_queue.specs.declared.queue.Queue.{Queue}
-use Rattle.locality_tree.specs.declared.unit_set.UnitSet.{UnitSet}
+use Rattle.locality_tree.specs.declared.number_set.NumberSet.{NumberSet}
 use Rattle.locality_tree.specs.Trees.{all_units}
-use Rattle.locality_tree.specs.UnitSets.{has_unit, no_set}
+use Rattle.locality_tree.specs.NumberSets.{in_set, no_set}
 use Rattle.locality_tree.specs.Layouts.{Slots, slots_of, slot_in, with_vacant, vacancies, IsEmptyQueue, AreKept}
 use Rattle.locality_tree.proofs.MembersLemmas.{all_get}
 use Rattle.locality_tree.proofs.QueueLaws.{Stays, none_some}
@@ -73,7 +73,7 @@ module _ (slots : Slots) (first places : ℕ) where
       omega (arith, rest, outer, inner, more)
 
 -- the layout of an admitted job
-pub kept_admitted : Stays → (at after : Slot → Option Node) (spare room : ℕ) (queues : List Queue) (slots : Slots) (sets : List UnitSet) (first units : ℕ) → AreKept at spare queues slots sets → ((s : Slot) → after s ≡ at s) → first + units ≤ length slots →
+pub kept_admitted : Stays → (at after : Slot → Option Node) (spare room : ℕ) (queues : List Queue) (slots : Slots) (sets : List NumberSet) (first units : ℕ) → AreKept at spare queues slots sets → ((s : Slot) → after s ≡ at s) → first + units ≤ length slots →
     ((k : ℕ) → k < units → length (get_or slots (first + k) []) ≡ 0) → spare + units * length queues ≤ room → AreKept after room queues (with_vacant slots first (length queues) units) sets
 kept_admitted stays at after spare room queues slots sets first units kept same long new more =
     let reads = vacant_reads slots first (length queues) units long new in
@@ -110,7 +110,7 @@ none_vacant : (count : ℕ) → vacancies (replicate count []) ≡ 0
 none_vacant zero = refl
 none_vacant (suc count) = none_vacant count
 
-pub kept_empty : (at : Slot → Option Node) (spare : ℕ) (queues : List Queue) (slots : Slots) (sets : List UnitSet) (count : ℕ) → slots ≡ replicate count [] → AllByRecursion IsEmptyQueue queues → length sets ≡ length queues → ((n place : ℕ) → place < length queues → has_unit (get_or sets place no_set) n ≡ false) → AreKept at spare queues slots sets
+pub kept_empty : (at : Slot → Option Node) (spare : ℕ) (queues : List Queue) (slots : Slots) (sets : List NumberSet) (count : ℕ) → slots ≡ replicate count [] → AllByRecursion IsEmptyQueue queues → length sets ≡ length queues → ((n place : ℕ) → place < length queues → in_set (get_or sets place no_set) n ≡ false) → AreKept at spare queues slots sets
 kept_empty at spare queues slots sets count is empty sets_count none =
     let unit : (n : ℕ) → get_or slots n [] ≡ [] = λ n. ap (λ (s : Slots). get_or s n []) is ∙ none_in count n in
     let read : (n k : ℕ) → slot_in slots n k ≡ None = λ n k. ap (λ (r : List (Option Slot)). get_or r k None) (unit n) in

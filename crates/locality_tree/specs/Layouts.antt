@@ -13,9 +13,9 @@ use Rattle.wait_queue.specs.declared.node.Node.{Node}
 use Rattle.wait_queue.specs.declared.queue.Queue.{Queue}
 use Rattle.wait_queue.specs.Queues.{Item, Stands, entry_at}
 use Rattle.locality_tree.specs.declared.layout.Layout.{Layout}
-use Rattle.locality_tree.specs.declared.unit_set.UnitSet.{UnitSet}
+use Rattle.locality_tree.specs.declared.number_set.NumberSet.{NumberSet}
 use Rattle.locality_tree.specs.Trees.{UnitState, TreeRecord, unit_number, all_units, place_count, cluster_place}
-use Rattle.locality_tree.specs.UnitSets.{has_unit, no_set}
+use Rattle.locality_tree.specs.NumberSets.{in_set, no_set}
 
 -- the slots of the units, by the unit's number and then by place
 abbrev pub Slots : Type 0
@@ -67,14 +67,14 @@ pub record IsQueueAt (at : Slot → Option Node) (q : Queue) (slots : Slots) (pl
   pub all : (n : ℕ) (s : Slot) → slot_in slots n place ≡ Some s → (e : Entry) × In (s, e) items × (number_of e ≡ n)
 
 -- What is always so of a pool, the queues that stand in it, the slots that units have there, and the sets of these units.
-pub record AreKept (at : Slot → Option Node) (spare : ℕ) (queues : List Queue) (slots : Slots) (sets : List UnitSet) : Type 0 where
+pub record AreKept (at : Slot → Option Node) (spare : ℕ) (queues : List Queue) (slots : Slots) (sets : List NumberSet) : Type 0 where
   pub lists : ℕ → List Item
   pub queues_stand : (place : ℕ) (q : Queue) → place < length queues → IsQueueAt at (get_or queues place q) slots place (lists place)
   pub apart : (place other : ℕ) → place < length queues → other < length queues → place ≢ other → AreApart (lists place) (lists other)
   pub room : vacancies slots ≤ spare
   pub full : (n : ℕ) → (length (get_or slots n []) ≡ 0) ⊎ (length (get_or slots n []) ≡ length queues)
   pub set_count : length sets ≡ length queues
-  pub marked : (n place : ℕ) → place < length queues → has_unit (get_or sets place no_set) n ≡ is_some (slot_in slots n place)
+  pub marked : (n place : ℕ) → place < length queues → in_set (get_or sets place no_set) n ≡ is_some (slot_in slots n place)
 
 abbrev pub AreKeptIn : Layout → Type 0
 AreKeptIn p = AreKept (value_at p.pool) p.pool.spare p.queues.items (slots_of p.slots.items) p.sets.items
@@ -121,10 +121,10 @@ pub record Admits (old new : Layout) (first units : ℕ) : Type 0 where
   pub same : SameSlots old.pool new.pool
 
 -- one unit is in the set of a place or is not, and nothing else changes
-pub record IsNoted (olds news : List UnitSet) (place n : ℕ) (stands : Bool) : Type 0 where
+pub record IsNoted (olds news : List NumberSet) (place n : ℕ) (stands : Bool) : Type 0 where
   pub count : length news ≡ length olds
-  pub here : has_unit (get_or news place no_set) n ≡ stands
-  pub others : (m k : ℕ) → (m ≡ n → k ≡ place → ⊥) → has_unit (get_or news k no_set) m ≡ has_unit (get_or olds k no_set) m
+  pub here : in_set (get_or news place no_set) n ≡ stands
+  pub others : (m k : ℕ) → (m ≡ n → k ≡ place → ⊥) → in_set (get_or news k no_set) m ≡ in_set (get_or olds k no_set) m
 
 abbrev pub state_of : (Slot → Option Node) → ℕ → List (Option Slot) → UnitState
 state_of at last places = record { entry = entry_in at (get_or places last None); stands = map is_some places }

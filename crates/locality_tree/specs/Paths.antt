@@ -9,14 +9,14 @@ use Rattle.wait_queue.specs.declared.node.Node.{Node}
 use Rattle.wait_queue.specs.declared.queue.Queue.{Queue}
 use Rattle.wait_queue.specs.Queues.{Item, Stands, first_of}
 use Rattle.locality_tree.specs.declared.path.Path.{Path}
-use Rattle.locality_tree.specs.declared.unit_set.UnitSet.{UnitSet}
+use Rattle.locality_tree.specs.declared.number_set.NumberSet.{NumberSet}
 use Rattle.locality_tree.specs.Trees.{Pair, IsRanked}
 use Rattle.locality_tree.specs.Layouts.{HasNumber, number_of, entry_in}
-use Rattle.locality_tree.specs.UnitSets.{has_unit}
+use Rattle.locality_tree.specs.NumberSets.{in_set}
 
 -- whether the entry's unit is in one of two sets
-abbrev pub is_in_either : UnitSet → UnitSet → Entry → Bool
-is_in_either one other e = has_unit one (number_of e) || has_unit other (number_of e)
+abbrev pub is_in_either : NumberSet → NumberSet → Entry → Bool
+is_in_either one other e = in_set one (number_of e) || in_set other (number_of e)
 
 abbrev pub nothing : Entry → Bool
 nothing e = false
@@ -74,7 +74,7 @@ pub record IsRanking (pairs all : List Pair) : Type 0 where
   pub complete : (p : Pair) → In p all → In p pairs
 
 -- the pairs of three queues: each unit at the first level where it is
-abbrev pub pairs_of : UnitSet → UnitSet → List Item → List Item → List Item → List Pair
+abbrev pub pairs_of : NumberSet → NumberSet → List Item → List Item → List Item → List Pair
 pairs_of near_set rack_set near rack cluster =
     unskipped nothing 0 near ++ (unskipped (is_in_either near_set near_set) 1 rack ++ unskipped (is_in_either near_set rack_set) 2 cluster)
 

@@ -4,10 +4,10 @@ ghost use Rattle.std.specs.Prelude.{◌≡◌, ℕ, ◌+◌, ◌*◌, ◌^◌, �
 ghost use Rattle.std.specs.List.{AllByRecursion};
 ghost use Rattle.std.proofs.Common.{get_or};
 ghost use Rattle.locality_tree.specs.Trees.{all_units};
-ghost use Rattle.locality_tree.specs.UnitSets.{has_unit, no_set};
+ghost use Rattle.locality_tree.specs.NumberSets.{in_set, no_set};
 ghost use Rattle.locality_tree.specs.Layouts.{slots_of, slot_in, with_slot, with_vacant, number_of, HasNumber, IsEmptyQueue, AreKeptIn, EntryFitsIn, TurnedIn, LeftIn, Admits, IsNoted};
 
-use crate::unit_set::UnitSet;
+use crate::number_set::NumberSet;
 use fuxi_terms::OutOfMemory;
 use fuxi_terms::limits::{MOST_JOBS, MOST_UNITS};
 use slot_pool::{Pool, Slot};
@@ -25,7 +25,7 @@ pub(crate) struct Layout {
     /// By the unit's number.
     pub(crate) slots: Vec<UnitSlots>,
     /// By place: the units that stand there. They say in a bit what `slots` says in a slot.
-    pub(crate) sets: Vec<UnitSet>,
+    pub(crate) sets: Vec<NumberSet>,
 }
 
 /// The number of the entry's unit among all units.
@@ -55,7 +55,7 @@ fn note_slot(slots: &mut Vec<UnitSlots>, number: usize, place: usize, slot: Opti
 }
 
 /// Notes whether a unit stands at a place.
-fn note_unit(sets: &mut Vec<UnitSet>, place: usize, number: usize, stands: bool)
+fn note_unit(sets: &mut Vec<NumberSet>, place: usize, number: usize, stands: bool)
     requires place { place < length sets.old.items }
     requires number { number < 2048 }
     ensures { IsNoted sets.old.items sets.new.items place number stands }
@@ -112,7 +112,7 @@ impl Layout {
             pool: Pool::with_room(alloc, 0)?,
             queues: empty_queues(alloc, count)?,
             slots: vacant_units(alloc, MOST_JOBS as usize * MOST_UNITS, 0)?,
-            sets: Vec::from_elem(alloc, UnitSet::new(), count)?,
+            sets: Vec::from_elem(alloc, NumberSet::new(), count)?,
         })
     }
 
@@ -151,6 +151,14 @@ impl Layout {
         queue.remove(&mut self.pool, slot);
         note_slot(&mut self.slots, number, place, None);
         note_unit(&mut self.sets, place, number, false);
+    }
+
+    /// Whether the unit stands at the place.
+    pub(crate) fn stands_at(&self, place: usize, entry: &Entry) -> bool
+        requires { EntryFitsIn self.now entry.now place }
+        ensures { result ≡ is_some (slot_in (slots_of self.now.slots.items) (number_of entry.now) place) }
+    {
+        slot_in(&self.slots, number_of(entry), place).is_some()
     }
 
     /// The unit stands at the place, or does not.

@@ -4,9 +4,10 @@
 #![tactic(auto)]
 
 mod layout;
+mod number_set;
 mod path;
 mod tree;
-mod unit_set;
 
+pub use number_set::NumberSet;
 pub use path::Path;
 pub use tree::Tree;

@@ -6,12 +6,12 @@ ghost use Rattle.slot_pool.specs.Pools.{value_at};
 ghost use Rattle.wait_queue.specs.declared.node.Entry.{Entry as EntryRecord};
 ghost use Rattle.wait_queue.specs.Queues.{Item, Stands, IsIn, first_of, entry_at};
 ghost use Rattle.locality_tree.specs.Trees.{Pair};
-ghost use Rattle.locality_tree.specs.UnitSets.{no_set};
+ghost use Rattle.locality_tree.specs.NumberSets.{no_set};
 ghost use Rattle.locality_tree.specs.Layouts.{HasNumber, AreKeptIn};
 ghost use Rattle.locality_tree.specs.Paths.{Leads, Gives, IsWalkable, IsTail, HasTail, SkipsTo, IsRanking, is_in_either, priority_in, at_most, is_best, pairs_of};
 
 use crate::layout::{Layout, number_of};
-use crate::unit_set::UnitSet;
+use crate::number_set::NumberSet;
 use slot_pool::{Pool, Slot};
 use wait_queue::{Entry, Node, Queue, orders, standing_lists};
 
@@ -19,8 +19,8 @@ use wait_queue::{Entry, Node, Queue, orders, standing_lists};
 #[derive(Drop)]
 pub struct Path<'a> {
     pool: &'a Pool<Node>,
-    near_set: &'a UnitSet,
-    rack_set: &'a UnitSet,
+    near_set: &'a NumberSet,
+    rack_set: &'a NumberSet,
     near: &'a Queue,
     rack: &'a Queue,
     cluster: &'a Queue,
@@ -38,7 +38,7 @@ fn entry_of(pool: &Pool<Node>, slot: Slot) -> &Entry
 }
 
 /// Whether the entry's unit is in one of two sets.
-fn is_in_either(one: &UnitSet, other: &UnitSet, entry: &Entry) -> bool
+fn is_in_either(one: &NumberSet, other: &NumberSet, entry: &Entry) -> bool
     requires { HasNumber entry.now }
     ensures { result ≡ is_in_either one.now other.now entry.now }
 {
@@ -50,8 +50,8 @@ fn is_in_either(one: &UnitSet, other: &UnitSet, entry: &Entry) -> bool
 fn skip(
     pool: &Pool<Node>,
     queue: &Queue,
-    one: &UnitSet,
-    other: &UnitSet,
+    one: &NumberSet,
+    other: &NumberSet,
     from: Option<Slot>,
 ) -> Option<Slot>
     requires { HasTail (value_at pool.now) queue.now from }

@@ -1,6 +1,7 @@
 //! The tree.
 
 ghost use Rattle.std.specs.Prelude.{◌≡◌, ℕ, ◌<◌, ◌≤◌, Some, length, map, false, IfOk, OnOk, OnErr, IsTrue};
+ghost use Rattle.std.proofs.Common.{get_or};
 ghost use Rattle.fuxi_terms.specs.Cluster.{is_valid_cluster};
 ghost use Rattle.locality_tree.specs.Trees.{unit_at, is_admitted, with_stand, with_job, started, refreshed, rack_place, racks_of, MayWait, HasPath};
 ghost use Rattle.locality_tree.specs.Paths.{Leads};
@@ -115,6 +116,27 @@ impl Tree {
         standing_lists();
         let place = self.racks.len() + rack.0 as usize;
         self.layout.turn_to(place, entry, unmet);
+    }
+
+    /// Whether a unit that waits stands in the machine's queue. It takes no memory.
+    pub fn stands_on(&self, entry: &Entry, machine: MachineNo) -> bool
+        requires waits { (unit_at self.now entry.now.app.0 entry.now.unit.0).entry ≡ Some entry.now }
+        requires machine { machine.0 < length self.now.racks }
+        ensures { result ≡ get_or (unit_at self.now entry.now.app.0 entry.now.unit.0).stands machine.0 false }
+    {
+        standing_lists();
+        self.layout.stands_at(machine.0 as usize, entry)
+    }
+
+    /// Whether a unit that waits stands in the rack's queue. It takes no memory.
+    pub fn stands_within(&self, entry: &Entry, rack: RackNo) -> bool
+        requires waits { (unit_at self.now entry.now.app.0 entry.now.unit.0).entry ≡ Some entry.now }
+        requires rack { rack.0 < 64 }
+        ensures { result ≡ get_or (unit_at self.now entry.now.app.0 entry.now.unit.0).stands (rack_place self.now.racks rack.0) false }
+    {
+        standing_lists();
+        let place = self.racks.len() + rack.0 as usize;
+        self.layout.stands_at(place, entry)
     }
 
     /// The units that wait, by their ranks on the machine. It takes no memory.

@@ -13,12 +13,12 @@ mod BoundsAfterChange
 mod NumberedLemmas
 mod FlagsTellWhoWaits
 mod SightsLemmas
+mod NotedMarksLemmas
 mod SearchCountsLemmas
 mod KeptLemmas
 mod FirstOfLine
 mod FirstByTurn
 mod PlacerTreesLemmas
-mod StandsWhereAsked
 mod StandsAfterChange
 mod LinedLemmas
 mod StillLemmas
@@ -28,3 +28,4 @@ mod DemandWalksLemmas
 mod NextOfKind
 mod PlainLemmas
 mod ScenesLemmas
+mod PassedMachines

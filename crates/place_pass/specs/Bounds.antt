@@ -54,12 +54,13 @@ lowered (Some b) = Some zero_rank
 abbrev pub lowered_mark : MarkRecord → MarkRecord
 lowered_mark k = record k { bound = lowered k.bound }
 
+abbrev pub taken_mark : Bool → ℕ → Bool → MarkRecord → MarkRecord
+taken_mark here g nearer k = cond here (reset_mark k.until) (cond (get_or k.groups g false) (reset_mark k.until) (cond nearer (lowered_mark k) k))
+
 -- a mark after grants of a unit were taken on a machine: its own is reset, and so is each that notes the unit's group; in the rack, where the unit wants more there, what
 -- is placeable may come earlier
 abbrev pub after_taking : ClusterRecord → ℕ → ℕ → Bool → ℕ → MarkRecord → MarkRecord
-after_taking c g machine nearer m k =
-    cond (nat_eq m machine) (reset_mark k.until) (cond (get_or k.groups g false) (reset_mark k.until)
-    (cond (nearer && nat_eq (rack_of c m) (rack_of c machine)) (lowered_mark k) k))
+after_taking c g machine nearer m k = taken_mark (nat_eq m machine) g (nearer && nat_eq (rack_of c m) (rack_of c machine)) k
 
 -- a unit wants more in the rack of a machine than it has there
 abbrev pub is_nearer_in : Board → List (Spot × ℕ) → Spot → Bool

@@ -8,3 +8,4 @@ pub mod SearchCounts
 pub mod PlacerTrees
 pub mod DemandWalks
 pub mod Scenes
+pub mod NotedMarks

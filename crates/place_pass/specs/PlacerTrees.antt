@@ -1,10 +1,8 @@
 -- What the tree of a placer holds: which units wait in it, and in which queues they stand.
 use Rattle.std.specs.Prelude.{◌≡◌, ◌≢◌, ℕ, ◌<◌, Bool, true, false, cond, nat_lt, List, [], length, Some, None}
 use Rattle.std.proofs.Common.{get_or}
-use Rattle.fuxi_terms.specs.Cluster.{ClusterRecord, has_rack}
-use Rattle.fuxi_terms.specs.declared.Key.{Key}
-use Rattle.fuxi_terms.specs.Counts.{count}
-use Rattle.fuxi_terms.specs.Keys.{Spot, key_cmp}
+use Rattle.fuxi_terms.specs.Cluster.{ClusterRecord}
+use Rattle.fuxi_terms.specs.Keys.{Spot}
 use Rattle.fuxi_terms.specs.Tables.{held_on, held_in}
 use Rattle.fuxi_terms.specs.TallyKeys.{near_key, rack_key}
 use Rattle.written_roles.specs.Placing.{has_pair}
@@ -43,22 +41,6 @@ HoldsLine c cells line turns t = Holds c cells (λ p. has_pair p line) turns t
 pub record StandsAs (c : ClusterRecord) (cells : List (List Cell)) (es : List (Spot × ℕ)) (a u : ℕ) (t : TreeRecord) : Type 0 where
   pub near : (m : ℕ) → m < length c.machines → get_or (unit_at t a u).stands m false ≡ is_unmet_on cells es a u m
   pub racks : (r : ℕ) → r < 64 → get_or (unit_at t a u).stands (rack_place t.racks r) false ≡ is_unmet_in c cells es a u r
-
--- it stands in no queue of a machine, and in none of a rack, for which it does not ask
-abbrev pub StandsNearAsked : ClusterRecord → List (List Cell) → ℕ → ℕ → TreeRecord → Type 0
-StandsNearAsked c cells a u t = (m : ℕ) → m < length c.machines → asks_in cells a (near_key u m) ≡ 0 → get_or (unit_at t a u).stands m false ≡ false
-
-abbrev pub StandsInAsked : List (List Cell) → ℕ → ℕ → TreeRecord → Type 0
-StandsInAsked cells a u t = (r : ℕ) → r < 64 → asks_in cells a (rack_key u r) ≡ 0 → get_or (unit_at t a u).stands (rack_place t.racks r) false ≡ false
-
-pub record StandsWhereAsked (c : ClusterRecord) (cells : List (List Cell)) (a u : ℕ) (t : TreeRecord) : Type 0 where
-  pub near : StandsNearAsked c cells a u t
-  pub racks : StandsInAsked cells a u t
-
--- and in none for which a demand does not ask
-pub record StandsWhereTold (c : ClusterRecord) (es : List (Key × ℕ)) (a u : ℕ) (t : TreeRecord) : Type 0 where
-  pub near : (m : ℕ) → m < length c.machines → count key_cmp es (near_key u m) ≡ 0 → get_or (unit_at t a u).stands m false ≡ false
-  pub racks : (r : ℕ) → r < 64 → cond (has_rack c r) (count key_cmp es (rack_key u r)) 0 ≡ 0 → get_or (unit_at t a u).stands (rack_place t.racks r) false ≡ false
 
 -- each unit of a line stands as it has to
 abbrev pub AllStand : ClusterRecord → List (List Cell) → List (Spot × ℕ) → List (ℕ × ℕ) → TreeRecord → Type 0

@@ -1,5 +1,5 @@
 -- What a placer stands for, and when it is level with a table.
-use Rattle.std.specs.Prelude.{◌≡◌, ℕ, ◌+◌, ◌≤◌, ◌<◌, Bool, true, false, cond, not, nat_eq, nat_lt, ◌&&◌, List, [], ◌*◌, length, map, filter, Option, None}
+use Rattle.std.specs.Prelude.{◌≡◌, ℕ, ◌+◌, ◌≤◌, ◌<◌, Bool, true, false, cond, not, nat_eq, nat_lt, ◌&&◌, List, [], ◌*◌, length, filter, Option, None}
 use Rattle.std.specs.Option.{option_map}
 use Rattle.std.proofs.Common.{get_or}
 use Rattle.fuxi_terms.specs.Cluster.{ClusterRecord, JobRecord, has_rack, has_at}
@@ -15,8 +15,7 @@ use Rattle.written_roles.specs.Placing.{Board, waiting_in, has_pair, is_allowed_
 use Rattle.std.specs.List.{AllByRecursion}
 use Rattle.grant_table.specs.GrantTables.{TableRecord, IsSound, as_known}
 use Rattle.place_pass.specs.WaitingLines.{LineRecord, units_in_all}
-use Rattle.place_pass.specs.declared.marks.Mark.{Mark}
-use Rattle.place_pass.specs.Bounds.{MarkRecord, mark_of, mark_at, key_of, turn_at, IsRising, IsBounded}
+use Rattle.place_pass.specs.Bounds.{MarkRecord, mark_at, key_of, turn_at, IsRising, IsBounded}
 use Rattle.place_pass.specs.Cells.{Cell, WishesRecord, asks_in, job_at, unit_places}
 use Rattle.place_pass.specs.PlacerTrees.{HoldsLine, AllStand}
 use Rattle.locality_tree.specs.Trees.{TreeRecord}
@@ -181,8 +180,8 @@ pub record IsSetFrom (before after : TableRecord) (s : Spot) : Type 0 where
   pub is : after ≡ record before { entries = set_count spot_cmp before.entries s number }
 
 -- what the fields of a placer show, and what they keep: the line has admitted units alone, both lines have room for all of them, and exactly the pairs of the line wait in the tree
-abbrev pub placer_record : WishesRecord → LineRecord → ℕ → Bool → List Mark → List ℕ → List ℕ → TreeRecord → Bool → List Bool → PlacerRecord
-placer_record w line turns idle marks turn_of held tree forgotten calm = record { seen = record { cluster = w.cluster; cells = w.cells; opened = w.opened; line = line.pairs; turns = turns }; idle = idle; kept = record { marks = map mark_of marks; turn_of = turn_of; held = held }; tree = tree; forgotten = forgotten; calm = calm }
+abbrev pub placer_record : WishesRecord → LineRecord → ℕ → Bool → List MarkRecord → List ℕ → List ℕ → TreeRecord → Bool → List Bool → PlacerRecord
+placer_record w line turns idle marks turn_of held tree forgotten calm = record { seen = record { cluster = w.cluster; cells = w.cells; opened = w.opened; line = line.pairs; turns = turns }; idle = idle; kept = record { marks = marks; turn_of = turn_of; held = held }; tree = tree; forgotten = forgotten; calm = calm }
 
 pub record IsPlacer (w : WishesRecord) (line other : LineRecord) (units marks : ℕ) (turn_of : List ℕ) (held : ℕ) (tree : TreeRecord) (calm : ℕ) : Type 0 where
   pub admitted : AllByRecursion (λ (p : ℕ × ℕ). p.1 < length (get_or w.cells p.0 [])) line.pairs

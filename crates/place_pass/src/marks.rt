@@ -1,6 +1,6 @@
 //! What is kept of each machine, so that one on which nothing can be placed earlier than before is not looked at again.
 
-ghost use Rattle.std.specs.Prelude.{◌≡◌, ℕ, ◌<◌, ◌≤◌, ◌&&◌, ◌||◌, ◌⊎◌, cond, nat_lt, nat_eq, true, false, None, Some, IfOk, [], ◌∷◌, length, map, set, replicate};
+ghost use Rattle.std.specs.Prelude.{◌≡◌, ℕ, ◌<◌, ◌≤◌, ◌&&◌, ◌||◌, ◌⊎◌, cond, nat_lt, nat_eq, true, false, List, None, Some, IfOk, [], ◌∷◌, length, map, set, replicate};
 ghost use Rattle.std.proofs.Common.{get_or};
 ghost use Rattle.fuxi_terms.specs.Cluster.{rack_of};
 ghost use Rattle.fuxi_terms.specs.Jobs.{unit_count};
@@ -10,6 +10,7 @@ ghost use Rattle.place_pass.specs.Cells.{cell_at, job_at};
 ghost use Rattle.place_pass.specs.Placers.{AreAllowed, AreLevel, board_over};
 ghost use Rattle.place_pass.specs.Best.{AreAdmitted};
 ghost use Rattle.place_pass.specs.Bounds.{MarkRecord, rank_of, mark_of, mark_at, key_of, zero_rank, reset_mark, cleared_mark, lowered_mark, after_taking, is_nearer_in};
+ghost use Rattle.place_pass.specs.NotedMarks.{AreNoted};
 ghost use Rattle.place_pass.specs.Sights.{IsAsked, IsForgotten};
 
 use crate::line::Line;
@@ -17,9 +18,11 @@ use crate::wishes::Wishes;
 use cluster_desc::Cluster;
 use fuxi_terms::OutOfMemory;
 use grant_table::GrantTable;
+use locality_tree::NumberSet;
 use party_ledgers::Demand;
 use schedule_unit::{AppNo, GroupNo, MachineNo, RackNo, UnitNo};
 use std::alloc::Global;
+use std::marker::Model;
 
 /// A rank on one machine: 9 less priority, level and turn, compared in this order.
 #[derive(Clone, Copy, Debug)]
@@ -56,7 +59,7 @@ impl Mark {
     ghost use Rattle.std.proofs.Common.{get_or};
     ghost use Rattle.std.specs.Option.{option_map};
     ghost use Rattle.std.specs.List.{list_any};
-    ghost use Rattle.place_pass.specs.Bounds.{rank_of, mark_of, key_of, reset_mark, cleared_mark, lowered_mark};
+    ghost use Rattle.place_pass.specs.Bounds.{rank_of, mark_of, key_of, reset_mark, cleared_mark, lowered_mark, taken_mark};
 
     /// Of a machine that was not looked at.
     pub(crate) fn new() -> Mark
@@ -139,7 +142,7 @@ impl Mark {
 
     // Grants of a unit of this group were taken, on this machine or on another, where the unit may be nearer.
     fn take(&mut self, here: bool, group: GroupNo, nearer: bool)
-        ensures { mark_of self.new ≡ cond here (reset_mark self.old.until) (cond (get_or self.old.groups group.0 false) (reset_mark self.old.until) (cond nearer (lowered_mark (mark_of self.old)) (mark_of self.old))) }
+        ensures { mark_of self.new ≡ taken_mark here group.0 nearer (mark_of self.old) }
     {
         if here {
             self.reset();
@@ -151,29 +154,132 @@ impl Mark {
     }
 }
 
-/// A mark for each machine.
-pub(crate) fn fresh_marks(alloc: Global, machines: usize) -> Result<Vec<Mark>, OutOfMemory>
-    ensures { IfOk result (λ marks. map mark_of marks.items ≡ replicate machines (reset_mark 0)) }
+// Where pairs up to a turn are looked at, each machine may have one of those that were appended.
+fn renew(unsettled: &mut NumberSet, until: &mut u64, turns: u64)
+    ensures { (marks : List MarkRecord) → AreNoted marks unsettled.old until.old → AreNoted marks unsettled.new until.new }
 {
-    Ok(Vec::from_elem(alloc, Mark::new(), machines)?)
+    if *until >= turns {
+        return;
+    }
+    *unsettled = NumberSet::all();
+    *until = turns;
+}
+
+/// A mark for each machine, and which machines may have something: those without a mark of something are passed without a look.
+#[derive(Drop)]
+pub(crate) struct Marks {
+    marks: Vec<Mark>,
+    /// A machine that is not in it has no bound, and its pairs with a turn below `until` were looked at.
+    unsettled: NumberSet,
+    until: u64,
+}
+
+impl Model for Marks {
+    ghost use Rattle.std.specs.Prelude.{List, map};
+    ghost use Rattle.place_pass.specs.Bounds.{MarkRecord, mark_of};
+    ghost use Rattle.place_pass.specs.NotedMarks.{AreNoted};
+
+    ghost Value = { List MarkRecord };
+
+    ghost view = { λ s. map mark_of s.marks.items };
+
+    ghost invariant = { λ s. AreNoted (map mark_of s.marks.items) s.unsettled s.until };
+}
+
+impl Marks {
+    ghost use Rattle.std.specs.Prelude.{◌≡◌, ℕ, ◌<◌, ◌≤◌, nat_eq, cond, length, replicate, None, IfOk};
+    ghost use Rattle.place_pass.specs.Bounds.{mark_of, mark_at, key_of, reset_mark, taken_mark};
+
+    /// Of machines that were not looked at.
+    pub(crate) fn new(alloc: Global, machines: usize) -> Result<Marks, OutOfMemory>
+        requires { machines ≤ 256 }
+        ensures { IfOk result (λ marks. marks ≡ replicate machines (reset_mark 0)) }
+    {
+        Ok(Marks {
+            marks: Vec::from_elem(alloc, Mark::new(), machines)?,
+            unsettled: NumberSet::all(),
+            until: 0,
+        })
+    }
+
+    /// How many machines there are.
+    pub(crate) fn len(&self) -> u32
+        ensures number { result ≡ length self.now }
+        ensures few { result ≤ 256 }
+    {
+        self.marks.len() as u32
+    }
+
+    /// The mark of a machine.
+    pub(crate) fn at(&self, machine: u32) -> &Mark
+        requires { machine < length self.now }
+        ensures { mark_of result.now ≡ mark_at self.now machine }
+    {
+        &self.marks[machine as usize]
+    }
+
+    /// The first machine from one on that may have something, also of the pairs that were not looked at: their turns are below `turns`.
+    pub(crate) fn next(&self, from: u32, turns: u64) -> u32
+        requires { from ≤ length self.now }
+        ensures least { from ≤ result }
+        ensures inside { result ≤ length self.now }
+        ensures passed { (m : ℕ) → from ≤ m → m < result → key_of (mark_at self.now m) turns ≡ None }
+    {
+        if self.until < turns {
+            return from;
+        }
+        self.unsettled.first_from(from as usize, self.marks.len()) as u32
+    }
+
+    /// The mark of a machine is this one.
+    pub(crate) fn put(&mut self, machine: u32, mark: Mark)
+        requires { machine < length self.old }
+        ensures long { length self.new ≡ length self.old }
+        ensures marks { (m : ℕ) → mark_at self.new m ≡ cond (nat_eq machine m) (mark_of mark) (mark_at self.old m) }
+    {
+        renew(&mut self.unsettled, &mut self.until, mark.until);
+        self.marks[machine as usize] = mark;
+        self.unsettled
+            .set(machine as usize, mark.may_have(self.until));
+    }
+
+    // Grants of a unit of this group were taken, on this machine or on another, where the unit may be nearer.
+    fn take(&mut self, machine: u32, here: bool, group: GroupNo, nearer: bool)
+        requires { machine < length self.old }
+        ensures long { length self.new ≡ length self.old }
+        ensures marks { (m : ℕ) → mark_at self.new m ≡ cond (nat_eq machine m) (taken_mark here group.0 nearer (mark_at self.old machine)) (mark_at self.old m) }
+    {
+        let mark = &mut self.marks[machine as usize];
+        mark.take(here, group, nearer);
+        self.unsettled
+            .set(machine as usize, mark.may_have(self.until));
+    }
 }
 
 // On each machine what is placeable may come earlier.
-fn lower_all(marks: &mut Vec<Mark>)
-    ensures marks { (m : ℕ) → m < length marks.old.items → mark_at (map mark_of marks.new.items) m ≡ lowered_mark (mark_at (map mark_of marks.old.items) m) }
-    ensures long { length marks.new.items ≡ length marks.old.items }
+fn lower_all(marks: &mut Marks)
+    ensures marks { (m : ℕ) → m < length marks.old → mark_at marks.new m ≡ lowered_mark (mark_at marks.old m) }
+    ensures long { length marks.new ≡ length marks.old }
 {
-    for number in 0..marks.len() {
-        marks[number].lower();
+    let mut at = 0;
+    while at < marks.len() {
+        let number = marks.next(at, 0);
+        if number >= marks.len() {
+            return;
+        }
+        let mut mark = *marks.at(number);
+        mark.lower();
+        marks.put(number, mark);
+        at = number + 1;
     }
 }
 
 /// Told of a demand before the wishes are: what is placeable may come earlier, and on a machine that a unit avoids no
 /// longer anything may be placeable.
-pub(crate) fn tell_demand(marks: &mut Vec<Mark>, wishes: &Wishes, app: AppNo, demand: &Demand)
-    requires { length marks.old.items ≡ length wishes.now.cluster.machines }
-    ensures marks { (m : ℕ) → m < length marks.old.items → IsAsked demand.now.entries (get_or wishes.now.cells app.0 []) m (mark_at (map mark_of marks.old.items) m) (mark_at (map mark_of marks.new.items) m) }
-    ensures long { length marks.new.items ≡ length marks.old.items }
+pub(crate) fn tell_demand(marks: &mut Marks, wishes: &Wishes, app: AppNo, demand: &Demand)
+    requires { length marks.old ≡ length wishes.now.cluster.machines }
+    ensures marks { (m : ℕ) → m < length marks.old → IsAsked demand.now.entries (get_or wishes.now.cells app.0 []) m (mark_at marks.old m) (mark_at marks.new m) }
+    ensures long { length marks.new ≡ length marks.old }
 {
     if !wishes.avoids_any(app) {
         lower_all(marks);
@@ -181,16 +287,18 @@ pub(crate) fn tell_demand(marks: &mut Vec<Mark>, wishes: &Wishes, app: AppNo, de
     }
     for number in 0..wishes.cluster().machines() {
         let lifted = wishes.lifts(app, demand, MachineNo(number));
-        marks[number as usize].ask(lifted);
+        let mut mark = *marks.at(number);
+        mark.ask(lifted);
+        marks.put(number, mark);
     }
 }
 
 // Whether a mark notes a group.
-fn notes_any_group(marks: &Vec<Mark>) -> bool
-    ensures { result ≡ false → (m g : ℕ) → m < length marks.now.items → get_or (mark_at (map mark_of marks.now.items) m).groups g false ≡ false }
+fn notes_any_group(marks: &Marks) -> bool
+    ensures { result ≡ false → (m g : ℕ) → m < length marks.now → get_or (mark_at marks.now m).groups g false ≡ false }
 {
     for number in 0..marks.len() {
-        if marks[number].notes_any() {
+        if marks.at(number).notes_any() {
             return true;
         }
     }
@@ -214,22 +322,24 @@ fn are_allowed(wishes: &Wishes, line: &Line, table: &GrantTable) -> bool
 }
 
 // No mark notes a group any more.
-fn clear_all(marks: &mut Vec<Mark>)
-    ensures marks { (m : ℕ) → m < length marks.old.items → mark_at (map mark_of marks.new.items) m ≡ cleared_mark (mark_at (map mark_of marks.old.items) m) }
-    ensures long { length marks.new.items ≡ length marks.old.items }
+fn clear_all(marks: &mut Marks)
+    ensures marks { (m : ℕ) → m < length marks.old → mark_at marks.new m ≡ cleared_mark (mark_at marks.old m) }
+    ensures long { length marks.new ≡ length marks.old }
 {
     for number in 0..marks.len() {
-        marks[number].clear();
+        let mut mark = *marks.at(number);
+        mark.clear();
+        marks.put(number, mark);
     }
 }
 
 /// Where no group of the line is at its limit any more, the marks note none.
-pub(crate) fn forget_groups(marks: &mut Vec<Mark>, wishes: &Wishes, line: &Line, table: &GrantTable)
+pub(crate) fn forget_groups(marks: &mut Marks, wishes: &Wishes, line: &Line, table: &GrantTable)
     requires level { AreLevel wishes.now.cluster (job_at wishes.now.cells) table.now }
     requires admitted { AreAdmitted wishes.now.cells line.now.pairs }
-    ensures marks { (m : ℕ) → m < length marks.old.items → (mark_at (map mark_of marks.new.items) m ≡ mark_at (map mark_of marks.old.items) m) ⊎ IsForgotten table.now line.now.pairs (mark_at (map mark_of marks.old.items) m) (mark_at (map mark_of marks.new.items) m) }
-    ensures clear { AreAllowed table.now line.now.pairs → (m g : ℕ) → m < length marks.old.items → get_or (mark_at (map mark_of marks.new.items) m).groups g false ≡ false }
-    ensures long { length marks.new.items ≡ length marks.old.items }
+    ensures marks { (m : ℕ) → m < length marks.old → (mark_at marks.new m ≡ mark_at marks.old m) ⊎ IsForgotten table.now line.now.pairs (mark_at marks.old m) (mark_at marks.new m) }
+    ensures clear { AreAllowed table.now line.now.pairs → (m g : ℕ) → m < length marks.old → get_or (mark_at marks.new m).groups g false ≡ false }
+    ensures long { length marks.new ≡ length marks.old }
 {
     if !notes_any_group(marks) {
         return;
@@ -241,12 +351,12 @@ pub(crate) fn forget_groups(marks: &mut Vec<Mark>, wishes: &Wishes, line: &Line,
 }
 
 /// Anything may be placeable on this machine.
-pub(crate) fn reset_one(marks: &mut Vec<Mark>, machine: MachineNo)
-    requires { machine.0 < length marks.old.items }
-    ensures marks { (m : ℕ) → mark_at (map mark_of marks.new.items) m ≡ cond (nat_eq machine.0 m) (reset_mark 0) (mark_at (map mark_of marks.old.items) m) }
-    ensures long { length marks.new.items ≡ length marks.old.items }
+pub(crate) fn reset_one(marks: &mut Marks, machine: MachineNo)
+    requires { machine.0 < length marks.old }
+    ensures marks { (m : ℕ) → mark_at marks.new m ≡ cond (nat_eq machine.0 m) (reset_mark 0) (mark_at marks.old m) }
+    ensures long { length marks.new ≡ length marks.old }
 {
-    marks[machine.0 as usize] = Mark::new();
+    marks.put(machine.0, Mark::new());
 }
 
 // Whether what was nearer in a rack is so on a machine, since it stands there.
@@ -260,27 +370,27 @@ fn is_nearer_on(cluster: &Cluster, machine: MachineNo, rack: RackNo, nearer: boo
 /// A unit of this group gave a machine back: there is more room there, the group may have more, and where the
 /// unit wants more in the rack than it has it may come earlier on each of its machines.
 pub(crate) fn told_taking(
-    marks: &mut Vec<Mark>,
+    marks: &mut Marks,
     cluster: &Cluster,
     group: GroupNo,
     machine: MachineNo,
     nearer: bool,
 )
-    requires marks { length marks.old.items ≡ length cluster.now.machines }
+    requires marks { length marks.old ≡ length cluster.now.machines }
     requires machine { machine.0 < length cluster.now.machines }
-    ensures marks { (m : ℕ) → m < length marks.old.items → mark_at (map mark_of marks.new.items) m ≡ after_taking cluster.now group.0 machine.0 nearer m (mark_at (map mark_of marks.old.items) m) }
-    ensures long { length marks.new.items ≡ length marks.old.items }
+    ensures marks { (m : ℕ) → m < length marks.old → mark_at marks.new m ≡ after_taking cluster.now group.0 machine.0 nearer m (mark_at marks.old m) }
+    ensures long { length marks.new ≡ length marks.old }
 {
     let rack = cluster.machine(machine).rack;
     for number in 0..cluster.machines() {
         let near = is_nearer_on(cluster, MachineNo(number), rack, nearer);
-        marks[number as usize].take(number == machine.0, group, near);
+        marks.take(number, number == machine.0, group, near);
     }
 }
 
 /// The number of grants of a unit on a machine is another one. Before it held so many in all.
 pub(crate) fn tell(
-    marks: &mut Vec<Mark>,
+    marks: &mut Marks,
     wishes: &Wishes,
     table: &GrantTable,
     app: AppNo,
@@ -292,11 +402,11 @@ pub(crate) fn tell(
     requires here { unit.0 < length (get_or wishes.now.cells app.0 []) }
     requires there { unit.0 < unit_count (as_known table.now.jobs) app.0 }
     requires machine { machine.0 < length table.now.cluster.machines }
-    requires marks { length marks.old.items ≡ length table.now.cluster.machines }
-    ensures marks { (m : ℕ) → m < length marks.old.items → mark_at (map mark_of marks.new.items) m
+    requires marks { length marks.old ≡ length table.now.cluster.machines }
+    ensures marks { (m : ℕ) → m < length marks.old → mark_at marks.new m
         ≡ cond (nat_lt (held table.now.entries app.0 unit.0) before)
-        (after_taking table.now.cluster (cell_at wishes.now.cells app.0 unit.0).group machine.0 (is_nearer_in (board_over wishes.now.cells wishes.now.opened table.now) table.now.entries (spot app.0 unit.0 machine.0)) m (mark_at (map mark_of marks.old.items) m)) (mark_at (map mark_of marks.old.items) m) }
-    ensures long { length marks.new.items ≡ length marks.old.items }
+        (after_taking table.now.cluster (cell_at wishes.now.cells app.0 unit.0).group machine.0 (is_nearer_in (board_over wishes.now.cells wishes.now.opened table.now) table.now.entries (spot app.0 unit.0 machine.0)) m (mark_at marks.old m)) (mark_at marks.old m) }
+    ensures long { length marks.new ≡ length marks.old }
 {
     if table.held(app, unit) >= before {
         return;

@@ -1,9 +1,9 @@
 //! The placer.
 
 use crate::line::Line;
-use crate::marks::{Mark, forget_groups, fresh_marks, reset_one, tell, tell_demand};
+use crate::marks::{Marks, forget_groups, reset_one, tell, tell_demand};
 use crate::search::{first, slot};
-use crate::standing::{enter_line, leave_unasked, tell_asked, tell_spot};
+use crate::standing::{enter_line, tell_asked, tell_spot};
 use crate::waiting::{calm_all, join, leave, leave_served, number_from, stir};
 use crate::wishes::{UNIT_PLACES, Wishes, fresh_units};
 use cluster_desc::Cluster;
@@ -32,7 +32,7 @@ pub struct Placer {
     /// Nothing is placeable until more is told.
     idle: bool,
     /// By machine.
-    marks: Vec<Mark>,
+    marks: Marks,
     /// The turn of each pair of the line, 8 places for each job.
     turn_of: Vec<u64>,
     /// What each unit held when the last change of it was told, 8 places for each job.
@@ -70,11 +70,11 @@ impl Model for Placer {
 
     ghost Value = { PlacerRecord };
 
-    ghost view = { λ p. placer_record p.wishes p.line p.turns p.idle p.marks.items p.turn_of.items p.held.items p.tree p.forgotten p.calm.items };
+    ghost view = { λ p. placer_record p.wishes p.line p.turns p.idle p.marks p.turn_of.items p.held.items p.tree p.forgotten p.calm.items };
 
     ghost use Rattle.std.specs.Prelude.{length};
 
-    ghost invariant = { λ p. IsPlacer p.wishes p.line p.other p.units (length p.marks.items) p.turn_of.items (length p.held.items) p.tree (length p.calm.items) };
+    ghost invariant = { λ p. IsPlacer p.wishes p.line p.other p.units (length p.marks) p.turn_of.items (length p.held.items) p.tree (length p.calm.items) };
 }
 
 impl Placer {
@@ -101,7 +101,7 @@ impl Placer {
         ensures level { IfOk result (λ placer. IsLevelWith placer (record { cluster = cluster.now; jobs = []; entries = [] })) }
     {
         let wishes = Wishes::start(alloc, cluster)?;
-        let marks = fresh_marks(alloc, cluster.machines() as usize)?;
+        let marks = Marks::new(alloc, cluster.machines() as usize)?;
         let turn_of = Vec::from_elem(alloc, 0, UNIT_PLACES)?;
         let held = Vec::from_elem(alloc, 0, UNIT_PLACES)?;
         let tree = Tree::start(alloc, cluster)?;
@@ -167,14 +167,6 @@ impl Placer {
         let counts = demand.entries();
         let _wishes = self.wishes.cluster();
         tell_demand(&mut self.marks, &self.wishes, app, demand);
-        leave_unasked(
-            &mut self.tree,
-            &self.line,
-            &self.wishes,
-            &self.turn_of,
-            app,
-            demand,
-        );
         let more = self.wishes.asked(app, demand);
         stir(&mut self.calm, app);
         self.idle &= !more;

@@ -23,7 +23,7 @@ ghost use Rattle.place_pass.specs.Sights.{sight_rank, rank_with, found_rank, tur
 ghost use Rattle.place_pass.specs.Scenes.{board_in, CanSearch, IsBestOn, IsMarked, IsSettledBy, AreMarked, IsFoundIn, IsLeastOn};
 
 use crate::line::Line;
-use crate::marks::{Mark, Rank};
+use crate::marks::{Mark, Marks, Rank};
 use crate::wishes::Wishes;
 use cluster_desc::{Cluster, Group};
 use grant_table::{GrantTable, Pick, Steps};
@@ -549,35 +549,56 @@ fn consider<L: Ledger>(
 fn consider_at<L: Ledger>(
     scene: &Scene<'_>,
     machine: MachineNo,
-    marks: &mut Vec<Mark>,
+    marks: &mut Marks,
     steps: &mut Steps<L>,
     before: Option<Found>,
 ) -> Option<Found>
     requires ready { CanSearch scene.now }
     requires machine { machine.0 < length scene.now.table.now.cluster.machines }
-    requires marked { length marks.old.items ≡ length scene.now.table.now.cluster.machines }
-    requires old { AreMarked scene.now (map mark_of marks.old.items) }
-    ensures marked { length marks.new.items ≡ length marks.old.items }
-    ensures marks { AreMarked scene.now (map mark_of marks.new.items) }
+    requires marked { length marks.old ≡ length scene.now.table.now.cluster.machines }
+    requires old { AreMarked scene.now marks.old }
+    ensures marked { length marks.new ≡ length marks.old }
+    ensures marks { AreMarked scene.now marks.new }
     ensures least { IsLeastOn scene.now result machine.0 }
     ensures kept { (r : List ℕ) → is_bound (found_rank before) r ≡ true → is_bound (found_rank result) r ≡ true }
     ensures found { IfSome before (λ x. IsFoundIn scene.now x) → IfSome result (λ x. IsFoundIn scene.now x) }
-    ensures others { (m : ℕ) → nat_eq machine.0 m ≡ false → mark_at (map mark_of marks.new.items) m ≡ mark_at (map mark_of marks.old.items) m }
-    ensures count { steps.new ≤ steps.old + cond (is_unsettled_by scene.now.wishes.now.opened (mark_at (map mark_of marks.old.items) machine.0) scene.now.turns machine.0) 1 0 }
-    ensures settled { result ≡ None → IsSettledBy scene.now machine.0 (mark_at (map mark_of marks.new.items) machine.0) }
+    ensures others { (m : ℕ) → nat_eq machine.0 m ≡ false → mark_at marks.new m ≡ mark_at marks.old m }
+    ensures count { steps.new ≤ steps.old + cond (is_unsettled_by scene.now.wishes.now.opened (mark_at marks.old machine.0) scene.now.turns machine.0) 1 0 }
+    ensures settled { result ≡ None → IsSettledBy scene.now machine.0 (mark_at marks.new machine.0) }
     ensures empty { result ≡ None → before ≡ None }
 {
-    let mark = &mut marks[machine.0 as usize];
-    consider(scene, machine, mark, steps, before)
+    let mut mark = *marks.at(machine.0);
+    let best = consider(scene, machine, &mut mark, steps, before);
+    marks.put(machine.0, mark);
+    best
 }
 
-// Whether the machine is open and by its mark a pair may be placeable there. The others are passed before they are considered.
-fn is_unsettled(wishes: &Wishes, marks: &Vec<Mark>, machine: MachineNo, turns: u64) -> bool
-    requires { machine.0 < length marks.now.items }
-    ensures { result ≡ is_unsettled_by wishes.now.opened (mark_at (map mark_of marks.now.items) machine.0) turns machine.0 }
+// Whether the machine is open and by its mark a pair may be placeable there.
+fn is_unsettled(wishes: &Wishes, marks: &Marks, machine: MachineNo, turns: u64) -> bool
+    requires { machine.0 < length marks.now }
+    ensures { result ≡ is_unsettled_by wishes.now.opened (mark_at marks.now machine.0) turns machine.0 }
 {
-    let mark = &marks[machine.0 as usize];
-    mark.may_have(turns) & wishes.is_open(machine)
+    marks.at(machine.0).may_have(turns) & wishes.is_open(machine)
+}
+
+// The first other machine from one on that is unsettled. Those before it are passed, and those without a mark without a look.
+fn next_other(wishes: &Wishes, marks: &Marks, start: MachineNo, from: u32, turns: u64) -> u32
+    requires { from ≤ length marks.now }
+    ensures least { from ≤ result }
+    ensures inside { result ≤ length marks.now }
+    ensures other { result < length marks.now → nat_eq result start.0 ≡ false }
+    ensures passed { (m : ℕ) → from ≤ m → m < result → (not (nat_eq m start.0) && is_unsettled_by wishes.now.opened (mark_at marks.now m) turns m) ≡ false }
+{
+    let mut at = marks.next(from, turns);
+    while at < marks.len() {
+        let machine = MachineNo(at);
+        let looks = (at != start.0) & is_unsettled(wishes, marks, machine, turns);
+        if looks {
+            return at;
+        }
+        at = marks.next(at + 1, turns);
+    }
+    at
 }
 
 // Whether a rank comes before the least so far.
@@ -589,23 +610,23 @@ fn is_less(least: &Option<Rank>, key: &Rank) -> bool {
 }
 
 // The open machine of least bound, where there is one, else the first.
-fn least_machine(wishes: &Wishes, marks: &Vec<Mark>, machines: u32, turns: u64) -> MachineNo
-    requires { length marks.now.items ≡ machines }
-    ensures { 0 < machines → result.0 < machines }
+fn least_machine(wishes: &Wishes, marks: &Marks, turns: u64) -> MachineNo
+    ensures { 0 < length marks.now → result.0 < length marks.now }
 {
     let mut least = None;
     let mut best = MachineNo(0);
-    for number in 0..machines {
-        let machine = MachineNo(number);
-        if !wishes.is_open(machine) {
-            continue;
-        }
-        if let Some(key) = marks[number as usize].key(turns) {
-            if is_less(&least, &key) {
-                least = Some(key);
-                best = machine;
+    let mut at = marks.next(0, turns);
+    while at < marks.len() {
+        let machine = MachineNo(at);
+        if wishes.is_open(machine) {
+            if let Some(key) = marks.at(at).key(turns) {
+                if is_less(&least, &key) {
+                    least = Some(key);
+                    best = machine;
+                }
             }
         }
+        at = marks.next(at + 1, turns);
     }
     best
 }
@@ -615,31 +636,27 @@ fn least_machine(wishes: &Wishes, marks: &Vec<Mark>, machines: u32, turns: u64) 
 fn best_of_others<L: Ledger>(
     scene: &Scene<'_>,
     start: MachineNo,
-    marks: &mut Vec<Mark>,
+    marks: &mut Marks,
     steps: &mut Steps<L>,
     before: Option<Found>,
 ) -> Option<Found>
     requires ready { CanSearch scene.now }
-    requires marked { length marks.old.items ≡ length scene.now.table.now.cluster.machines }
-    requires old { AreMarked scene.now (map mark_of marks.old.items) }
+    requires marked { length marks.old ≡ length scene.now.table.now.cluster.machines }
+    requires old { AreMarked scene.now marks.old }
     requires seen { IsLeastOn scene.now before start.0 }
-    requires settled { before ≡ None → IsSettledBy scene.now start.0 (mark_at (map mark_of marks.old.items) start.0) }
-    ensures marked { length marks.new.items ≡ length marks.old.items }
-    ensures marks { AreMarked scene.now (map mark_of marks.new.items) }
+    requires settled { before ≡ None → IsSettledBy scene.now start.0 (mark_at marks.old start.0) }
+    ensures marked { length marks.new ≡ length marks.old }
+    ensures marks { AreMarked scene.now marks.new }
     ensures least { (m : ℕ) → m < length scene.now.table.now.cluster.machines → IsLeastOn scene.now result m }
     ensures found { IfSome before (λ x. IsFoundIn scene.now x) → IfSome result (λ x. IsFoundIn scene.now x) }
-    ensures count { steps.new ≤ steps.old + count_below (λ m. not (nat_eq m start.0) && is_unsettled_by scene.now.wishes.now.opened (mark_at (map mark_of marks.old.items) m) scene.now.turns m) (length scene.now.table.now.cluster.machines) }
-    ensures settled { result ≡ None → (m : ℕ) → m < length scene.now.table.now.cluster.machines → IsSettledBy scene.now m (mark_at (map mark_of marks.new.items) m) }
+    ensures count { steps.new ≤ steps.old + count_below (λ m. not (nat_eq m start.0) && is_unsettled_by scene.now.wishes.now.opened (mark_at marks.old m) scene.now.turns m) (length scene.now.table.now.cluster.machines) }
+    ensures settled { result ≡ None → (m : ℕ) → m < length scene.now.table.now.cluster.machines → IsSettledBy scene.now m (mark_at marks.new m) }
 {
     let mut best = before;
-    for number in 0..scene.table.cluster().machines() {
-        if number == start.0 {
-            continue;
-        }
-        if !is_unsettled(scene.wishes, marks, MachineNo(number), scene.turns) {
-            continue;
-        }
-        best = consider_at(scene, MachineNo(number), marks, steps, best);
+    let mut at = next_other(scene.wishes, marks, start, 0, scene.turns);
+    while at < marks.len() {
+        best = consider_at(scene, MachineNo(at), marks, steps, best);
+        at = next_other(scene.wishes, marks, start, at + 1, scene.turns);
     }
     best
 }
@@ -653,7 +670,7 @@ pub(crate) fn first<L: Ledger>(
     turn_of: &[u64],
     turns: u64,
     table: &GrantTable,
-    marks: &mut Vec<Mark>,
+    marks: &mut Marks,
     steps: &mut Steps<L>,
 ) -> Option<Pick>
     requires level { AreLevel wishes.now.cluster (job_at wishes.now.cells) table.now }
@@ -663,18 +680,18 @@ pub(crate) fn first<L: Ledger>(
     requires rises { Rises (turn_in turn_of.now) line.now.pairs }
     requires tree { TreeOf wishes.now.cluster wishes.now.cells line.now.pairs turn_of.now table.now.entries tree.now }
     requires below { (q : ℕ × ℕ) → has_pair q line.now.pairs ≡ true → turn_in turn_of.now q < turns }
-    requires marked { length marks.old.items ≡ length table.now.cluster.machines }
-    requires old { (m : ℕ) → get_or wishes.now.opened m false ≡ true → AreBounded (board_over wishes.now.cells wishes.now.opened table.now) table.now.entries (turn_in turn_of.now) line.now.pairs (mark_at (map mark_of marks.old.items) m) m }
-    requires until { (m : ℕ) → get_or wishes.now.opened m false ≡ true → (mark_at (map mark_of marks.old.items) m).until ≤ turns }
-    ensures marked { length marks.new.items ≡ length marks.old.items }
-    ensures bounded { (m : ℕ) → get_or wishes.now.opened m false ≡ true → AreBounded (board_over wishes.now.cells wishes.now.opened table.now) table.now.entries (turn_in turn_of.now) line.now.pairs (mark_at (map mark_of marks.new.items) m) m }
-    ensures until { (m : ℕ) → get_or wishes.now.opened m false ≡ true → (mark_at (map mark_of marks.new.items) m).until ≤ turns }
+    requires marked { length marks.old ≡ length table.now.cluster.machines }
+    requires old { (m : ℕ) → get_or wishes.now.opened m false ≡ true → AreBounded (board_over wishes.now.cells wishes.now.opened table.now) table.now.entries (turn_in turn_of.now) line.now.pairs (mark_at marks.old m) m }
+    requires until { (m : ℕ) → get_or wishes.now.opened m false ≡ true → (mark_at marks.old m).until ≤ turns }
+    ensures marked { length marks.new ≡ length marks.old }
+    ensures bounded { (m : ℕ) → get_or wishes.now.opened m false ≡ true → AreBounded (board_over wishes.now.cells wishes.now.opened table.now) table.now.entries (turn_in turn_of.now) line.now.pairs (mark_at marks.new m) m }
+    ensures until { (m : ℕ) → get_or wishes.now.opened m false ≡ true → (mark_at marks.new m).until ≤ turns }
     ensures first { option_map spot_of result ≡ first_in (board_over wishes.now.cells wishes.now.opened table.now) table.now.entries line.now.pairs }
-    ensures count { steps.new ≤ steps.old + count_below (λ m. is_unsettled_by wishes.now.opened (mark_at (map mark_of marks.old.items) m) turns m) (length table.now.cluster.machines) }
-    ensures settled { result ≡ None → (m : ℕ) → m < length table.now.cluster.machines → get_or wishes.now.opened m false ≡ true → key_of (mark_at (map mark_of marks.new.items) m) turns ≡ None }
+    ensures count { steps.new ≤ steps.old + count_below (λ m. is_unsettled_by wishes.now.opened (mark_at marks.old m) turns m) (length table.now.cluster.machines) }
+    ensures settled { result ≡ None → (m : ℕ) → m < length table.now.cluster.machines → get_or wishes.now.opened m false ≡ true → key_of (mark_at marks.new m) turns ≡ None }
 {
     let machines = table.cluster().machines();
-    let start = least_machine(wishes, marks, machines, turns);
+    let start = least_machine(wishes, marks, turns);
     if start.0 >= machines {
         return None;
     }

@@ -1,32 +1,26 @@
 //! The tree of the waiting pairs: who waits in it, and in which queues. No call takes memory.
 
-ghost use Rattle.std.specs.Prelude.{◌≡◌, ℕ, ◌<◌, ◌≤◌, ◌&&◌, cond, nat_lt, nat_eq, not, [], true, false, length, filter, take};
+ghost use Rattle.std.specs.Prelude.{◌≡◌, ℕ, ◌<◌, ◌≤◌, ◌&&◌, ◌||◌, cond, nat_lt, nat_eq, not, [], Some, true, false, length, filter, take};
 ghost use Rattle.std.proofs.Common.{get_or};
-ghost use Rattle.fuxi_terms.specs.Cluster.{has_rack, rack_of};
-ghost use Rattle.fuxi_terms.specs.Counts.{count};
+ghost use Rattle.fuxi_terms.specs.Cluster.{rack_of};
 ghost use Rattle.fuxi_terms.specs.Jobs.{unit_count};
-ghost use Rattle.fuxi_terms.specs.Keys.{key_cmp};
 ghost use Rattle.fuxi_terms.specs.Tables.{spot};
-ghost use Rattle.fuxi_terms.specs.TallyKeys.{near_key, rack_key};
 ghost use Rattle.written_roles.specs.Masters.{out_of};
 ghost use Rattle.written_roles.specs.Placing.{has_pair};
 ghost use Rattle.grant_table.specs.GrantTables.{TableRecord, as_known};
 ghost use Rattle.locality_tree.specs.Trees.{unit_at, unit_number, rack_place};
 ghost use Rattle.place_pass.specs.Best.{AreAdmitted};
 ghost use Rattle.place_pass.specs.Bounds.{IsRising, turn_at};
-ghost use Rattle.place_pass.specs.Cells.{asks_in, cell_of, is_gone, job_at, unit_places};
+ghost use Rattle.place_pass.specs.Cells.{asks_in, cell_of, job_at, unit_places};
 ghost use Rattle.place_pass.specs.Placers.{AreLevel, IsSetFrom};
-ghost use Rattle.place_pass.specs.PlacerTrees.{Holds, HoldsLine, AllStand, StandsAs, StandsNearAsked, StandsInAsked, StandsWhereAsked, StandsWhereTold, WaitsIn, Restood, RestoodAt, entry_for, is_unmet_on, is_unmet_in};
+ghost use Rattle.place_pass.specs.PlacerTrees.{Holds, HoldsLine, AllStand, StandsAs, WaitsIn, Restood, RestoodAt, entry_for, is_unmet_on, is_unmet_in};
 
 use crate::line::Line;
 use crate::search::turn_of_unit;
-use crate::wishes::{Wish, Wishes, number_at, rack_number};
-use cluster_desc::Cluster;
+use crate::wishes::{Wish, Wishes};
 use fuxi_terms::limits::MOST_RACKS;
-use fuxi_terms::tally_keys::{NEAR, RACK};
 use grant_table::GrantTable;
 use locality_tree::Tree;
-use party_ledgers::Demand;
 use schedule_unit::{AppNo, MachineNo, RackNo, UnitNo};
 use wait_queue::Entry;
 
@@ -90,61 +84,47 @@ fn entry_for(wishes: &Wishes, turn_of: &Vec<u64>, app: AppNo, unit: UnitNo) -> E
     }
 }
 
-// Whether a unit asks for a machine.
-fn asks_on(wish: &Wish, machine: MachineNo) -> bool
-    requires { machine.0 < length wish.now.near.items }
-    ensures { result ≡ nat_lt 0 (get_or (cell_of wish.now).near machine.0 0) }
+// Whether a unit asks for a machine or stands in its queue.
+fn asks_or_stands_on(tree: &Tree, entry: &Entry, wish: &Wish, machine: MachineNo) -> bool
+    requires waits { (unit_at tree.now entry.now.app.0 entry.now.unit.0).entry ≡ Some entry.now }
+    requires machine { machine.0 < length tree.now.racks }
+    requires near { machine.0 < length wish.now.near.items }
+    ensures { result ≡ (nat_lt 0 (get_or (cell_of wish.now).near machine.0 0) || get_or (unit_at tree.now entry.now.app.0 entry.now.unit.0).stands machine.0 false) }
 {
-    wish.near[machine.0 as usize] > 0
-}
-
-// Whether a unit asks for a rack.
-fn asks_within(wish: &Wish, rack: RackNo) -> bool
-    requires { rack.0 < length wish.now.racks.items }
-    ensures { result ≡ nat_lt 0 (get_or (cell_of wish.now).racks rack.0 0) }
-{
-    wish.racks[rack.0 as usize] > 0
-}
-
-// Whether a unit asks for a machine, and by a demand does so no more.
-fn drops_on(wish: &Wish, demand: &Demand, unit: UnitNo, machine: MachineNo) -> bool
-    requires { machine.0 < length wish.now.near.items }
-    ensures { result ≡ is_gone (get_or (cell_of wish.now).near machine.0 0) (count key_cmp demand.now.entries (near_key unit.0 machine.0)) }
-{
-    if !asks_on(wish, machine) {
-        return false;
+    if wish.near[machine.0 as usize] > 0 {
+        return true;
     }
-    number_at(demand, NEAR, unit.0, machine.0) == 0
+    tree.stands_on(entry, machine)
 }
 
-// Whether a unit asks for a rack, and by a demand does so no more.
-fn drops_within(wish: &Wish, cluster: &Cluster, demand: &Demand, unit: UnitNo, rack: RackNo) -> bool
-    requires { rack.0 < length wish.now.racks.items }
-    ensures { result ≡ is_gone (get_or (cell_of wish.now).racks rack.0 0) (cond (has_rack cluster.now rack.0) (count key_cmp demand.now.entries (rack_key unit.0 rack.0)) 0) }
+// Whether a unit asks for a rack or stands in its queue.
+fn asks_or_stands_within(tree: &Tree, entry: &Entry, wish: &Wish, rack: RackNo) -> bool
+    requires waits { (unit_at tree.now entry.now.app.0 entry.now.unit.0).entry ≡ Some entry.now }
+    requires rack { rack.0 < 64 }
+    requires racks { rack.0 < length wish.now.racks.items }
+    ensures { result ≡ (nat_lt 0 (get_or (cell_of wish.now).racks rack.0 0) || get_or (unit_at tree.now entry.now.app.0 entry.now.unit.0).stands (rack_place tree.now.racks rack.0) false) }
 {
-    if !asks_within(wish, rack) {
-        return false;
+    if wish.racks[rack.0 as usize] > 0 {
+        return true;
     }
-    let wanted = number_at(demand, RACK, unit.0, rack.0);
-    rack_number(cluster, rack.0, wanted) == 0
+    tree.stands_within(entry, rack)
 }
 
-// A unit that waits stands in the queues of the machines on which it asks for more than it has, where it stood in none on which it asks for
-// nothing: only those for which it asks need a look.
+// A unit that waits stands in the queues of the machines on which it asks for more than it has: only those for which it asks, and those in
+// whose queues it stands, need a look.
 fn mark_machines(tree: &mut Tree, entry: &Entry, wishes: &Wishes, table: &GrantTable)
     requires cluster { wishes.now.cluster ≡ table.now.cluster }
     requires here { entry.now.unit.0 < length (get_or wishes.now.cells entry.now.app.0 []) }
     requires there { entry.now.unit.0 < unit_count (as_known table.now.jobs) entry.now.app.0 }
     requires waits { WaitsIn wishes.now.cluster entry.now tree.old }
     ensures restood { Restood (unit_number entry.now.app.0 entry.now.unit.0) tree.old tree.new }
-    ensures near { StandsNearAsked wishes.now.cluster wishes.now.cells entry.now.app.0 entry.now.unit.0 tree.old
-        → (m : ℕ) → m < length wishes.now.cluster.machines → get_or (unit_at tree.new entry.now.app.0 entry.now.unit.0).stands m false ≡ is_unmet_on wishes.now.cells table.now.entries entry.now.app.0 entry.now.unit.0 m }
+    ensures near { (m : ℕ) → m < length wishes.now.cluster.machines → get_or (unit_at tree.new entry.now.app.0 entry.now.unit.0).stands m false ≡ is_unmet_on wishes.now.cells table.now.entries entry.now.app.0 entry.now.unit.0 m }
     ensures rest { (place : ℕ) → length wishes.now.cluster.machines ≤ place → get_or (unit_at tree.new entry.now.app.0 entry.now.unit.0).stands place false ≡ get_or (unit_at tree.old entry.now.app.0 entry.now.unit.0).stands place false }
 {
     let wish = wishes.wish(entry.app, entry.unit);
     for number in 0..wishes.cluster().machines() {
         let machine = MachineNo(number);
-        if !asks_on(wish, machine) {
+        if !asks_or_stands_on(tree, entry, wish, machine) {
             continue;
         }
         let unmet = wishes.is_unmet_on(table, entry.app, entry.unit, machine);
@@ -152,22 +132,21 @@ fn mark_machines(tree: &mut Tree, entry: &Entry, wishes: &Wishes, table: &GrantT
     }
 }
 
-// A unit that waits stands in the queues of the racks in which it asks for more than it has, where it stood in none in which it asks for
-// nothing: only those for which it asks need a look.
+// A unit that waits stands in the queues of the racks in which it asks for more than it has: only those for which it asks, and those in
+// whose queues it stands, need a look.
 fn mark_racks(tree: &mut Tree, entry: &Entry, wishes: &Wishes, table: &GrantTable)
     requires cluster { wishes.now.cluster ≡ table.now.cluster }
     requires here { entry.now.unit.0 < length (get_or wishes.now.cells entry.now.app.0 []) }
     requires there { entry.now.unit.0 < unit_count (as_known table.now.jobs) entry.now.app.0 }
     requires waits { WaitsIn wishes.now.cluster entry.now tree.old }
     ensures restood { Restood (unit_number entry.now.app.0 entry.now.unit.0) tree.old tree.new }
-    ensures racks { StandsInAsked wishes.now.cells entry.now.app.0 entry.now.unit.0 tree.old
-        → (r : ℕ) → r < 64 → get_or (unit_at tree.new entry.now.app.0 entry.now.unit.0).stands (rack_place tree.new.racks r) false ≡ is_unmet_in wishes.now.cluster wishes.now.cells table.now.entries entry.now.app.0 entry.now.unit.0 r }
+    ensures racks { (r : ℕ) → r < 64 → get_or (unit_at tree.new entry.now.app.0 entry.now.unit.0).stands (rack_place tree.new.racks r) false ≡ is_unmet_in wishes.now.cluster wishes.now.cells table.now.entries entry.now.app.0 entry.now.unit.0 r }
     ensures rest { (place : ℕ) → place < length wishes.now.cluster.machines → get_or (unit_at tree.new entry.now.app.0 entry.now.unit.0).stands place false ≡ get_or (unit_at tree.old entry.now.app.0 entry.now.unit.0).stands place false }
 {
     let wish = wishes.wish(entry.app, entry.unit);
     for number in 0..MOST_RACKS {
         let rack = RackNo(number);
-        if !asks_within(wish, rack) {
+        if !asks_or_stands_within(tree, entry, wish, rack) {
             continue;
         }
         let unmet = wishes.is_unmet_in(table, entry.app, entry.unit, rack);
@@ -175,69 +154,17 @@ fn mark_racks(tree: &mut Tree, entry: &Entry, wishes: &Wishes, table: &GrantTabl
     }
 }
 
-// A unit that waits stands in the queues where it asks for more than it has, where it stood in none in which it asks for nothing.
+// A unit that waits stands in the queues where it asks for more than it has.
 fn mark_unit(tree: &mut Tree, entry: &Entry, wishes: &Wishes, table: &GrantTable)
     requires cluster { wishes.now.cluster ≡ table.now.cluster }
     requires here { entry.now.unit.0 < length (get_or wishes.now.cells entry.now.app.0 []) }
     requires there { entry.now.unit.0 < unit_count (as_known table.now.jobs) entry.now.app.0 }
     requires waits { WaitsIn wishes.now.cluster entry.now tree.old }
     ensures restood { Restood (unit_number entry.now.app.0 entry.now.unit.0) tree.old tree.new }
-    ensures stands { StandsWhereAsked wishes.now.cluster wishes.now.cells entry.now.app.0 entry.now.unit.0 tree.old
-        → StandsAs wishes.now.cluster wishes.now.cells table.now.entries entry.now.app.0 entry.now.unit.0 tree.new }
+    ensures stands { StandsAs wishes.now.cluster wishes.now.cells table.now.entries entry.now.app.0 entry.now.unit.0 tree.new }
 {
     mark_machines(tree, entry, wishes, table);
     mark_racks(tree, entry, wishes, table);
-}
-
-// Before a demand is taken over: a unit that waits stands in no queue of a machine for which it will not ask any more.
-fn leave_machines(tree: &mut Tree, entry: &Entry, wishes: &Wishes, demand: &Demand)
-    requires here { entry.now.unit.0 < length (get_or wishes.now.cells entry.now.app.0 []) }
-    requires waits { WaitsIn wishes.now.cluster entry.now tree.old }
-    ensures restood { Restood (unit_number entry.now.app.0 entry.now.unit.0) tree.old tree.new }
-    ensures near { StandsNearAsked wishes.now.cluster wishes.now.cells entry.now.app.0 entry.now.unit.0 tree.old
-        → (m : ℕ) → m < length wishes.now.cluster.machines → count key_cmp demand.now.entries (near_key entry.now.unit.0 m) ≡ 0 → get_or (unit_at tree.new entry.now.app.0 entry.now.unit.0).stands m false ≡ false }
-    ensures rest { (place : ℕ) → length wishes.now.cluster.machines ≤ place → get_or (unit_at tree.new entry.now.app.0 entry.now.unit.0).stands place false ≡ get_or (unit_at tree.old entry.now.app.0 entry.now.unit.0).stands place false }
-{
-    let wish = wishes.wish(entry.app, entry.unit);
-    for number in 0..wishes.cluster().machines() {
-        let machine = MachineNo(number);
-        if !drops_on(wish, demand, entry.unit, machine) {
-            continue;
-        }
-        tree.mark_machine(entry, machine, false);
-    }
-}
-
-// Before a demand is taken over: a unit that waits stands in no queue of a rack for which it will not ask any more.
-fn leave_racks(tree: &mut Tree, entry: &Entry, wishes: &Wishes, demand: &Demand)
-    requires here { entry.now.unit.0 < length (get_or wishes.now.cells entry.now.app.0 []) }
-    requires waits { WaitsIn wishes.now.cluster entry.now tree.old }
-    ensures restood { Restood (unit_number entry.now.app.0 entry.now.unit.0) tree.old tree.new }
-    ensures racks { StandsInAsked wishes.now.cells entry.now.app.0 entry.now.unit.0 tree.old
-        → (r : ℕ) → r < 64 → cond (has_rack wishes.now.cluster r) (count key_cmp demand.now.entries (rack_key entry.now.unit.0 r)) 0 ≡ 0 → get_or (unit_at tree.new entry.now.app.0 entry.now.unit.0).stands (rack_place tree.new.racks r) false ≡ false }
-    ensures rest { (place : ℕ) → place < length wishes.now.cluster.machines → get_or (unit_at tree.new entry.now.app.0 entry.now.unit.0).stands place false ≡ get_or (unit_at tree.old entry.now.app.0 entry.now.unit.0).stands place false }
-{
-    let wish = wishes.wish(entry.app, entry.unit);
-    let cluster = wishes.cluster();
-    for number in 0..MOST_RACKS {
-        let rack = RackNo(number);
-        if !drops_within(wish, cluster, demand, entry.unit, rack) {
-            continue;
-        }
-        tree.mark_rack(entry, rack, false);
-    }
-}
-
-// Before a demand is taken over: a unit that waits stands in no queue in which it will not ask for anything any more.
-fn leave_unit(tree: &mut Tree, entry: &Entry, wishes: &Wishes, demand: &Demand)
-    requires here { entry.now.unit.0 < length (get_or wishes.now.cells entry.now.app.0 []) }
-    requires waits { WaitsIn wishes.now.cluster entry.now tree.old }
-    ensures restood { Restood (unit_number entry.now.app.0 entry.now.unit.0) tree.old tree.new }
-    ensures stands { StandsWhereAsked wishes.now.cluster wishes.now.cells entry.now.app.0 entry.now.unit.0 tree.old
-        → StandsWhereTold wishes.now.cluster demand.now.entries entry.now.app.0 entry.now.unit.0 tree.new }
-{
-    leave_machines(tree, entry, wishes, demand);
-    leave_racks(tree, entry, wishes, demand);
 }
 
 // A unit that waits stands in the queues of one machine and of its rack where it asks for more there than it has.
@@ -299,34 +226,7 @@ pub(crate) fn tell_spot(
     mark_spot(tree, &entry, wishes, table, machine);
 }
 
-/// Told of a demand before the wishes are: the units of its job that wait stand in no queue in which they will not ask for anything any more.
-pub(crate) fn leave_unasked(
-    tree: &mut Tree,
-    line: &Line,
-    wishes: &Wishes,
-    turn_of: &Vec<u64>,
-    app: AppNo,
-    demand: &Demand,
-)
-    requires places { length turn_of.now.items ≡ unit_places }
-    requires holds { HoldsLine wishes.now.cluster wishes.now.cells line.now.pairs turn_of.now.items tree.old }
-    ensures holds { HoldsLine wishes.now.cluster wishes.now.cells line.now.pairs turn_of.now.items tree.new }
-    ensures others { (a u : ℕ) → u < 8 → nat_eq a app.0 ≡ false → unit_at tree.new a u ≡ unit_at tree.old a u }
-    ensures stands { ((u : ℕ) → has_pair (app.0, u) line.now.pairs ≡ true → StandsWhereAsked wishes.now.cluster wishes.now.cells app.0 u tree.old)
-        → (u : ℕ) → u < length (get_or wishes.now.cells app.0 []) → has_pair (app.0, u) line.now.pairs ≡ true → StandsWhereTold wishes.now.cluster demand.now.entries app.0 u tree.new }
-{
-    let _wishes = wishes.cluster();
-    for number in 0..wishes.units(app) as u8 {
-        if !line.has(app.0, number) {
-            continue;
-        }
-        let entry = entry_for(wishes, turn_of, app, UnitNo(number));
-        leave_unit(tree, &entry, wishes, demand);
-    }
-}
-
-/// Told that a job asks otherwise: its units of the line stand where they ask for more than they have, where they stood in no queue in which
-/// they ask for nothing.
+/// Told that a job asks otherwise: its units of the line stand where they ask for more than they have.
 pub(crate) fn tell_asked(
     tree: &mut Tree,
     line: &Line,
@@ -342,7 +242,6 @@ pub(crate) fn tell_asked(
     ensures holds { HoldsLine wishes.now.cluster wishes.now.cells line.now.pairs turn_of.now.items tree.new }
     ensures stands { length (get_or wishes.now.cells app.0 []) ≡ unit_count (as_known table.now.jobs) app.0
         → ((a u : ℕ) → has_pair (a, u) line.now.pairs ≡ true → nat_eq a app.0 ≡ false → StandsAs wishes.now.cluster wishes.now.cells table.now.entries a u tree.old)
-        → ((u : ℕ) → has_pair (app.0, u) line.now.pairs ≡ true → StandsWhereAsked wishes.now.cluster wishes.now.cells app.0 u tree.old)
         → AllStand wishes.now.cluster wishes.now.cells table.now.entries line.now.pairs tree.new }
 {
     let _wishes = wishes.cluster();

@@ -330,8 +330,8 @@ fn take_one(wish: &mut Wish, unit: u8, cluster: &Cluster, demand: &Demand) -> bo
     rises || lifted
 }
 
-/// What a demand has at a key that is not given back.
-pub(crate) fn number_at(demand: &Demand, what: u8, unit: u8, number: u32) -> u32
+// What a demand has at a key that is not given back.
+fn number_at(demand: &Demand, what: u8, unit: u8, number: u32) -> u32
     requires { what < 5 }
     ensures { result ≡ count key_cmp demand.now.entries (key what unit number) }
 {
@@ -453,8 +453,8 @@ fn read_numbers(numbers: &mut Vec<u32>, machines: u32, demand: &Demand, what: u8
     gone
 }
 
-/// What is wanted in a rack: nothing where no machine stands there.
-pub(crate) fn rack_number(cluster: &Cluster, rack: u32, wanted: u32) -> u32
+// What is wanted in a rack: nothing where no machine stands there.
+fn rack_number(cluster: &Cluster, rack: u32, wanted: u32) -> u32
     ensures { result ≡ cond (has_rack cluster.now rack) wanted 0 }
 {
     if wanted == 0 {

@@ -1,7 +1,6 @@
-use Rattle.std.proofs.Common.{◌≡◌, ℕ, ◌<◌, ◌≤◌, map, Option, sym, ◌∙◌, ap, subst, arith, length}
+use Rattle.std.proofs.Common.{◌≡◌, ℕ, ◌<◌, ◌≤◌, Option, sym, ◌∙◌, ap, subst, arith, length}
 use Rattle.std.specs.Prelude.{IfSome}
 use Rattle.fuxi_terms.specs.Cluster.{ClusterRecord}
-use Rattle.place_pass.specs.Bounds.{mark_of}
 use Rattle.place_pass.specs.Placers.{board_over}
 use Rattle.place_pass.specs.Sights.{found_rank, turn_in, IsFound, IsLeast}
 use Rattle.place_pass.specs.declared.search.Found.{Found}
@@ -10,16 +9,16 @@ use Rattle.place_pass.proofs.FirstByTurn.{none_first, found_first}
 use Rattle.place_pass.proofs.search.first.Goals as goal
 
 -- without machines nothing is placeable
-no_machine : (start machines there m : ℕ) → machines ≡ there → machines ≤ start → (0 < machines → start < machines) → m < there → ⊥
-no_machine start machines there m is le h lt = let l = h (omega (arith, is, lt)) in absurd (omega (arith, l, le))
+no_machine : (start machines marks there m : ℕ) → machines ≡ there → marks ≡ there → machines ≤ start → (0 < marks → start < marks) → m < there → ⊥
+no_machine start machines marks there m is long le h lt = let l = h (omega (arith, long, lt)) in absurd (omega (arith, l, le, is, long))
 
 pub returns-then-start-machines-clause-first : goal.returns-then-start-machines-clause-first
 returns-then-start-machines-clause-first g c =
     let b = board_over c.args.wishes.now.cells c.args.wishes.now.opened c.args.table.now in
-    sym (none_first b c.args.table.now.entries (turn_in c.args.turn_of.now) c.args.line.now.pairs (λ m lt. absurd (no_machine c.least_machine-start.result.0 c.machines-machines.result (length c.args.table.now.cluster.machines) m (c.machines-machines.ensures.number ∙ ap (λ (x : ClusterRecord). length x.machines) c.cluster.ensures.cluster) c.if-start-machines.true c.least_machine-start.ensures lt)))
+    sym (none_first b c.args.table.now.entries (turn_in c.args.turn_of.now) c.args.line.now.pairs (λ m lt. absurd (no_machine c.least_machine-start.result.0 c.machines-machines.result (length c.args.marks.now) (length c.args.table.now.cluster.machines) m (c.machines-machines.ensures.number ∙ ap (λ (x : ClusterRecord). length x.machines) c.cluster.ensures.cluster) c.requires.marked c.if-start-machines.true c.least_machine-start.ensures lt)))
 
 pub returns-then-start-machines-clause-settled : goal.returns-then-start-machines-clause-settled
-returns-then-start-machines-clause-settled g c e m lt = absurd (no_machine c.least_machine-start.result.0 c.machines-machines.result (length c.args.table.now.cluster.machines) m (c.machines-machines.ensures.number ∙ ap (λ (x : ClusterRecord). length x.machines) c.cluster.ensures.cluster) c.if-start-machines.true c.least_machine-start.ensures lt)
+returns-then-start-machines-clause-settled g c e m lt = absurd (no_machine c.least_machine-start.result.0 c.machines-machines.result (length c.args.marks.now) (length c.args.table.now.cluster.machines) m (c.machines-machines.ensures.number ∙ ap (λ (x : ClusterRecord). length x.machines) c.cluster.ensures.cluster) c.requires.marked c.if-start-machines.true c.least_machine-start.ensures lt)
 
 pub returns-in-Some-clause-first : goal.returns-in-Some-clause-first
 returns-in-Some-clause-first g c =
@@ -60,14 +59,14 @@ pub returns-in-Some-clause-count : goal.returns-in-Some-clause-count
 returns-in-Some-clause-count g c =
     let lt = c.if-start-machines.false in
     let n : c.machines-machines.result ≡ length c.args.table.now.cluster.machines = c.machines-machines.ensures.number ∙ ap (λ (x : ClusterRecord). length x.machines) c.cluster.ensures.cluster in
-    both_looks c.args.wishes.now.opened (map mark_of c.args.marks.now.items) (map mark_of c.consider_at-best.new.marks.items) c.args.turns c.least_machine-start.result.0 (length c.args.table.now.cluster.machines)
+    both_looks c.args.wishes.now.opened c.args.marks.now c.consider_at-best.new.marks c.args.turns c.least_machine-start.result.0 (length c.args.table.now.cluster.machines)
     c.args.steps.now c.consider_at-best.new.steps c.best_of_others.new.steps (omega (arith, lt, n)) c.consider_at-best.ensures.count c.best_of_others.ensures.count c.consider_at-best.ensures.others
 
 pub returns-in-None-clause-count : goal.returns-in-None-clause-count
 returns-in-None-clause-count g c =
     let lt = c.if-start-machines.false in
     let n : c.machines-machines.result ≡ length c.args.table.now.cluster.machines = c.machines-machines.ensures.number ∙ ap (λ (x : ClusterRecord). length x.machines) c.cluster.ensures.cluster in
-    both_looks c.args.wishes.now.opened (map mark_of c.args.marks.now.items) (map mark_of c.consider_at-best.new.marks.items) c.args.turns c.least_machine-start.result.0 (length c.args.table.now.cluster.machines)
+    both_looks c.args.wishes.now.opened c.args.marks.now c.consider_at-best.new.marks c.args.turns c.least_machine-start.result.0 (length c.args.table.now.cluster.machines)
     c.args.steps.now c.consider_at-best.new.steps c.best_of_others.new.steps (omega (arith, lt, n)) c.consider_at-best.ensures.count c.best_of_others.ensures.count c.consider_at-best.ensures.others
 
 pub returns-in-None-clause-settled : goal.returns-in-None-clause-settled

@@ -6,12 +6,11 @@ use Rattle.locality_tree.specs.Trees.{TreeRecord, is_admitted, refreshed, unit_n
 use Rattle.written_roles.specs.Placing.{has_pair}
 use Rattle.place_pass.specs.Bounds.{turn_at}
 use Rattle.place_pass.specs.WaitingLines.{same_pair}
-use Rattle.place_pass.specs.PlacerTrees.{HoldsLine, AllStand, StandsAs, StandsWhereAsked, WaitsIn, Restood}
+use Rattle.place_pass.specs.PlacerTrees.{HoldsLine, AllStand, StandsAs, WaitsIn, Restood}
 use Rattle.place_pass.proofs.WaitingLinesLemmas.{pair_is, taken_whole}
 use Rattle.place_pass.proofs.CellsMatchTable.{count_is}
 use Rattle.place_pass.proofs.LinedLemmas.{admitted_at, here_at, placed_at}
 use Rattle.place_pass.proofs.PlacerTreesLemmas.{holds_begun, begun_others, holds_on, numbers_apart, stands_on, may_wait, waits_in, turn_before, has_other, has_itself}
-use Rattle.place_pass.proofs.StandsWhereAsked.{begun_where, not_before}
 use Rattle.place_pass.proofs.standing.enter_line.Goals as goal
 
 pub entry_for-entry-requires-clause-unit : goal.entry_for-entry-requires-clause-unit
@@ -84,8 +83,7 @@ loop-place-preserved c =
     (here_at c.cluster-wishes.ensures.sound c.args.line.now.pairs c.requires.admitted c.loop-place.place c.at.ensures)
     (λ b v f. has_other line place q (b, v) c.at.ensures f) (has_itself line place q c.at.ensures) (c.refresh.ensures ∙ ap (λ (e : Entry). refreshed c.loop-place.tree e true) c.entry_for-entry.ensures) in
     let r = subst (λ (e : Entry). Restood (unit_number e.app.0 e.unit.0) t1 t2) c.entry_for-entry.ensures c.mark_unit.ensures.restood in
-    let asked = begun_where w.cluster w.cells (λ p. has_pair p (take place line)) c.args.turn_of.now.items t t1 q.0 q.1 i.holds lu here (not_before f line place q c.requires.rises c.at.ensures) made in
-    let stands = subst (λ (e : Entry). StandsWhereAsked w.cluster w.cells e.app.0 e.unit.0 t1 → StandsAs w.cluster w.cells es e.app.0 e.unit.0 t2) c.entry_for-entry.ensures c.mark_unit.ensures.stands asked in
+    let stands = subst (λ (e : Entry). StandsAs w.cluster w.cells es e.app.0 e.unit.0 t2) c.entry_for-entry.ensures c.mark_unit.ensures.stands in
     record {
       from = omega (arith, from);
       holds = holds_on w.cluster w.cells (λ p. has_pair p (take (place + 1) line)) c.args.turn_of.now.items t1 t2 q.0 q.1 held (has_itself line place q c.at.ensures) r;

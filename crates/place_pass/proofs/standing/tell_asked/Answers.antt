@@ -9,14 +9,13 @@ use Rattle.grant_table.specs.GrantTables.{as_known}
 use Rattle.wait_queue.specs.declared.node.Entry.{Entry}
 use Rattle.locality_tree.specs.Trees.{unit_number}
 use Rattle.written_roles.specs.Placing.{has_pair}
-use Rattle.place_pass.specs.PlacerTrees.{StandsAs, StandsWhereAsked, WaitsIn, Restood}
-use Rattle.place_pass.proofs.StandsWhereAsked.{where_on}
+use Rattle.place_pass.specs.PlacerTrees.{StandsAs, WaitsIn, Restood}
 use Rattle.place_pass.proofs.SightsLemmas.{place_of}
 use Rattle.place_pass.proofs.PlacerTreesLemmas.{holds_on, numbers_apart, stands_on, waits_in}
 use Rattle.place_pass.proofs.standing.tell_asked.Goals as goal
 
 pub loop-number-init : goal.loop-number-init
-loop-number-init c = record { holds = c.requires.holds; others = λ a u lu d. refl; ahead = λ u ge lu. refl; done = λ clear u lt has. absurd (omega (arith, lt)) }
+loop-number-init c = record { holds = c.requires.holds; others = λ a u lu d. refl; done = λ u lt has. absurd (omega (arith, lt)) }
 
 pub entry_for-entry-requires-clause-unit : goal.entry_for-entry-requires-clause-unit
 entry_for-entry-requires-clause-unit c = let t = c.loop-number-test.true in let e = c.units-number-end.ensures.number in omega (arith, t, e)
@@ -27,10 +26,9 @@ loop-number-preserved-then-not-has c =
     record {
       holds = c.loop-number.invariant.holds;
       others = c.loop-number.invariant.others;
-      ahead = λ u ge lu. c.loop-number.invariant.ahead u (omega (arith, ge)) lu;
-      done = λ clear u lt has. elim (cases_eq u c.loop-number.number) [
+      done = λ u lt has. elim (cases_eq u c.loop-number.number) [
         | inl q ↦ let f : true ≡ false = sym has ∙ ap (λ v. has_pair (c.args.app.0, v) c.args.line.now.pairs) q ∙ out in cc
-        | inr d ↦ c.loop-number.invariant.done clear u (omega (arith, lt, d)) has
+        | inr d ↦ c.loop-number.invariant.done u (omega (arith, lt, d)) has
       ];
     }
 
@@ -67,22 +65,20 @@ loop-number-preserved c =
     let there : has_pair (app, n) line ≡ true = sym c.has.ensures ∙ c.if-not-has.false in
     let low = i.holds.few app n there in
     let r = subst (λ (e : Entry). Restood (unit_number e.app.0 e.unit.0) t t') c.entry_for-entry.ensures c.mark_unit.ensures.restood in
-    let stands = subst (λ (e : Entry). StandsWhereAsked w.cluster w.cells e.app.0 e.unit.0 t → StandsAs w.cluster w.cells es e.app.0 e.unit.0 t') c.entry_for-entry.ensures c.mark_unit.ensures.stands in
-    let apart : (u : ℕ) → nat_eq u n ≡ false → (nat_eq app app && nat_eq u n) ≡ false = λ u f. false_right (nat_eq app app) (nat_eq u n) f in
+    let stands = subst (λ (e : Entry). StandsAs w.cluster w.cells es e.app.0 e.unit.0 t') c.entry_for-entry.ensures c.mark_unit.ensures.stands in
     record {
       holds = holds_on w.cluster w.cells (λ p. has_pair p line) c.args.turn_of.now.items t t' app n i.holds there r;
       others = λ a u lu f. r.others (unit_number a u) (numbers_apart app n a u low lu (ap (λ b. b && nat_eq u n) f)) ∙ i.others a u lu f;
-      ahead = λ u ge lu. let f : nat_eq u n ≡ false = grind (arith, nat_tests, ge) in r.others (unit_number app u) (numbers_apart app n app u low lu (apart u f)) ∙ i.ahead u (omega (arith, ge)) lu;
-      done = λ clear u lt has. elim (cases_eq u n) as (λ _. StandsAs w.cluster w.cells es app u t') [
-        | inl q ↦ subst (λ v. StandsAs w.cluster w.cells es app v t') (sym q) (stands (where_on w.cluster w.cells app n c.args.tree.now t (i.holds.racks ∙ sym c.requires.holds.racks) (i.ahead n (omega arith) low) (clear n there)))
+      done = λ u lt has. elim (cases_eq u n) as (λ _. StandsAs w.cluster w.cells es app u t') [
+        | inl q ↦ subst (λ v. StandsAs w.cluster w.cells es app v t') (sym q) stands
         | inr d ↦
-            let f : nat_eq u n ≡ false = grind (arith, nat_tests, d) in
-            stands_on w.cluster w.cells es app u t t' r.racks (r.others (unit_number app u) (numbers_apart app n app u low (i.holds.few app u has) (apart u f))) (i.done clear u (omega (arith, lt, d)) has)
+            let apart : nat_eq u n ≡ false = grind (arith, nat_tests, d) in
+            stands_on w.cluster w.cells es app u t t' r.racks (r.others (unit_number app u) (numbers_apart app n app u low (i.holds.few app u has) (false_right (nat_eq app app) (nat_eq u n) apart))) (i.done u (omega (arith, lt, d)) has)
       ];
     }
 
 pub returns-clause-stands : goal.returns-clause-stands
-returns-clause-stands c same before clear a u has =
+returns-clause-stands c same before a u has =
     let w = c.args.wishes.now in
     let line = c.args.line.now.pairs in
     let es = c.args.table.now.entries in
@@ -96,12 +92,12 @@ returns-clause-stands c same before clear a u has =
           let l = all_at (λ (p : ℕ × ℕ). p.1 < length (get_or w.cells p.0 [])) line place.place (a, u) c.requires.admitted place.at in
           let lt = subst (λ b. u < length (get_or w.cells b [])) is l in
           let end = c.loop-number-test.false in let n = c.units-number-end.ensures.number in
-          subst (λ b. StandsAs w.cluster w.cells es b u t') (sym is) (i.done clear u (omega (arith, lt, end, n)) (subst (λ b. has_pair (b, u) line ≡ true) is has))
+          subst (λ b. StandsAs w.cluster w.cells es b u t') (sym is) (i.done u (omega (arith, lt, end, n)) (subst (λ b. has_pair (b, u) line ≡ true) is has))
       | false ↦ λ x. stands_on w.cluster w.cells es a u t t' (i.holds.racks ∙ sym c.requires.holds.racks) (i.others a u (i.holds.few a u has) x) (before a u has x)
     ] refl
 
 pub returns-then-number-units-clause-stands : goal.returns-then-number-units-clause-stands
-returns-then-number-units-clause-stands c same before _ a u has =
+returns-then-number-units-clause-stands c same before a u has =
     let e = c.units.ensures.number in let ge = c.if-number-units.true in
     let t = c.loop-number-test.true in let n = c.units-number-end.ensures.number in
     absurd (omega (arith, same, e, ge, t, n))

@@ -1,9 +1,9 @@
 use Rattle.std.proofs.Common.{◌<◌, ℕ, length, replicate, get_or, [], List, sym, ap, ◌∙◌, arith, rules}
 use Rattle.std.proofs.lemmas.List.{length-replicate, get_or-replicate}
 use Rattle.slot_pool.specs.Pools.{value_at}
-use Rattle.locality_tree.specs.declared.unit_set.UnitSet.{UnitSet}
+use Rattle.locality_tree.specs.declared.number_set.NumberSet.{NumberSet}
 use Rattle.locality_tree.specs.Layouts.{slots_of}
-use Rattle.locality_tree.specs.UnitSets.{has_unit, no_set}
+use Rattle.locality_tree.specs.NumberSets.{in_set, no_set}
 use Rattle.locality_tree.proofs.VacantLemmas.{kept_empty, units_are}
 use Rattle.locality_tree.proofs.layout.Layout.start.Goals as goal
 
@@ -17,7 +17,7 @@ returns-clause-kept c =
     kept_empty (value_at pool) pool.spare queues (slots_of c.in_ok-vacant_units.field-0.items) sets 2048 c.in_ok-vacant_units.ensures c.in_ok-empty_queues.ensures.empty (ap length same ∙ length-replicate c.args.count c.new.result ∙ sym count)
     (λ n place h.
     let inside : place < c.args.count = omega (arith, h, count) in
-    ap (λ (ss : List UnitSet). has_unit (get_or ss place no_set) n) same ∙ ap (λ (s : UnitSet). has_unit s n) (get_or-replicate c.args.count place c.new.result no_set inside) ∙ c.new.ensures n)
+    ap (λ (ss : List NumberSet). in_set (get_or ss place no_set) n) same ∙ ap (λ (s : NumberSet). in_set s n) (get_or-replicate c.args.count place c.new.result no_set inside) ∙ c.new.ensures n)
 
 pub returns-clause-slots : goal.returns-clause-slots
 returns-clause-slots c = c.in_ok-vacant_units.ensures ∙ ap (λ (k : ℕ). replicate k []) (sym units_are)

@@ -1,7 +1,7 @@
 use Rattle.std.proofs.Common.{◌≡◌, ◌<◌, ◌-◌, ℕ, length, get_or, subst, sym, arith}
 use Rattle.std.proofs.lemmas.List.{get_or_read}
 use Rattle.slot_pool.specs.Pools.{value_at}
-use Rattle.locality_tree.specs.UnitSets.{no_set}
+use Rattle.locality_tree.specs.NumberSets.{no_set}
 use Rattle.locality_tree.specs.Layouts.{slots_of}
 use Rattle.locality_tree.specs.Paths.{IsRanking, pairs_of}
 use Rattle.locality_tree.proofs.PathsLemmas.{whole_tail, leads_whole}

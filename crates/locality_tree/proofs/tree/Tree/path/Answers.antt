@@ -1,7 +1,7 @@
 use Rattle.std.proofs.Common.{◌≡◌, ◌+◌, ◌-◌, ◌<◌, ℕ, length, get_or, sym, subst, arith}
 use Rattle.std.proofs.lemmas.List.{get_or_read}
 use Rattle.locality_tree.specs.Trees.{TreeRecord, HasPath, rack_place, cluster_place}
-use Rattle.locality_tree.specs.UnitSets.{no_set}
+use Rattle.locality_tree.specs.NumberSets.{no_set}
 use Rattle.locality_tree.specs.Paths.{IsRanking, pairs_of, Leads}
 use Rattle.locality_tree.proofs.TreePathLemmas.{has_path}
 use Rattle.locality_tree.proofs.tree.Tree.path.Goals as goal

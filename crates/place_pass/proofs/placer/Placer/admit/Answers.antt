@@ -1,10 +1,10 @@
-use Rattle.std.proofs.Common.{◌≡◌, ℕ, ◌+◌, ◌<◌, false, cond, nat_eq, nat_lt, List, [], length, map, set, get_or, Some, None, sym, ◌∙◌, ap, subst, arith, length-set}
+use Rattle.std.proofs.Common.{◌≡◌, ℕ, ◌+◌, ◌<◌, false, cond, nat_eq, nat_lt, List, [], length, set, get_or, Some, None, sym, ◌∙◌, ap, subst, arith, length-set}
 use Rattle.std.specs.Prelude.{◌&&◌, not}
 use Rattle.std.proofs.lemmas.List.{length-map}
 use Rattle.grant_table.specs.GrantTables.{with_admitted}
 use Rattle.place_pass.specs.Cells.{WishesRecord, job_at, asks_in, fresh_cell, fresh_cells}
 use Rattle.place_pass.specs.Best.{AreAdmitted}
-use Rattle.place_pass.specs.Bounds.{IsRising, mark_of, turn_at}
+use Rattle.place_pass.specs.Bounds.{IsRising, turn_at}
 use Rattle.place_pass.specs.PlacerTrees.{HoldsLine, AllStand}
 use Rattle.locality_tree.specs.Trees.{TreeRecord, place_count}
 use Rattle.fuxi_terms.specs.Cluster.{ClusterRecord}
@@ -43,7 +43,7 @@ invariant_of-self-2 c =
     let k = c.self.invariant.counted in
     let room = c.in_ok-reserve.ensures.ok in
     let other = c.in_ok-reserve-2.ensures.ok in
-    subst (λ (x : WishesRecord). IsPlacer x c.reserve.new.self c.reserve-2.new.self (c.self.inside.units + c.units.result) (length c.self.inside.marks.items) c.self.inside.turn_of.items (length c.self.inside.held.items) c.admit.new.self (length c.stir.new.calm.items)) (sym c.add_job.ensures) (record {
+    subst (λ (x : WishesRecord). IsPlacer x c.reserve.new.self c.reserve-2.new.self (c.self.inside.units + c.units.result) (length c.self.inside.marks) c.self.inside.turn_of.items (length c.self.inside.held.items) c.admit.new.self (length c.stir.new.calm.items)) (sym c.add_job.ensures) (record {
       admitted = subst (AreAdmitted (set w.cells j.number xs)) (sym c.in_ok-reserve.ensures.pairs) (admitted_more w.cells c.self.inside.line.pairs j.number xs lt (omega (arith, none)) c.self.invariant.admitted);
       places = length-set w.cells j.number xs ∙ places;
       counted = omega (arith, more, long, n, k);
@@ -116,7 +116,7 @@ returns-clause-level c t l =
     let apart = unknown_there w.cluster (job_at w.cells) t j.number old.level new in
     let found = λ (a : ℕ). c.admitted_jobs.ensures.found j t.jobs a apart in
     let empty = empty_slot w.cells j.number new in
-    let kept : KeptRecord = record { marks = map mark_of c.self.inside.marks.items; turn_of = c.self.inside.turn_of.items; held = c.self.inside.held.items } in
+    let kept : KeptRecord = record { marks = c.self.inside.marks; turn_of = c.self.inside.turn_of.items; held = c.self.inside.held.items } in
     record {
       level = subst (λ (x : WishesRecord). AreLevel x.cluster (job_at x.cells) (record t { jobs = with_admitted j t.jobs })) (sym c.add_job.ensures)
           (level_admitted w.cluster (job_at w.cells) (job_at (set w.cells j.number xs)) t j old.level (job_admitted w.cells j (length w.cluster.machines) lt (units_some j c.units.ensures.valid)) found);

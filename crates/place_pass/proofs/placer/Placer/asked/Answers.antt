@@ -1,23 +1,19 @@
-use Rattle.std.proofs.Common.{◌≡◌, ℕ, ◌<◌, Bool, true, false, cond, not, nat_eq, [], length, map, get_or, set, refl, sym, ◌∙◌, ap, subst, arith, length-set}
+use Rattle.std.proofs.Common.{◌≡◌, ℕ, ◌<◌, true, false, cond, not, nat_eq, [], length, get_or, set, refl, sym, ◌∙◌, ap, subst, arith, length-set}
 use Rattle.std.specs.Prelude.{◌&&◌}
 use Rattle.std.proofs.Math.Bool.{and-true}
 use Rattle.fuxi_terms.specs.Keys.{key_cmp}
 use Rattle.fuxi_terms.specs.Counts.{count}
-use Rattle.fuxi_terms.proofs.Booleans.{both_true, eq_turned}
+use Rattle.fuxi_terms.proofs.Booleans.{both_true, eq_turned, not_true}
 use Rattle.place_pass.specs.Cells.{WishesRecord, Lifts, job_at, asks_in, taken_all, any_more}
 use Rattle.place_pass.specs.Placers.{PlacerRecord, AreLevel, AsksNoMore, IsIdle, IsClear, IsKept, IsQuiet, IsStill, is_open_to, IsLevelWith, IsPlacer, job_seen, asks_seen, units_seen, is_there}
-use Rattle.place_pass.specs.Bounds.{mark_at, mark_of}
+use Rattle.place_pass.specs.Bounds.{mark_at}
 use Rattle.place_pass.specs.SearchCounts.{IsLifted}
 use Rattle.place_pass.specs.Best.{AreAdmitted}
-use Rattle.place_pass.specs.PlacerTrees.{HoldsLine, StandsAs, StandsWhereAsked}
+use Rattle.place_pass.specs.PlacerTrees.{HoldsLine, StandsAs}
 use Rattle.fuxi_terms.specs.Jobs.{unit_count}
 use Rattle.grant_table.specs.GrantTables.{as_known}
 use Rattle.written_roles.specs.Placing.{has_pair}
-use Rattle.fuxi_terms.proofs.Lists.{all_at}
 use Rattle.place_pass.proofs.CellsMatchTable.{count_is}
-use Rattle.place_pass.proofs.PlacerTreesLemmas.{stands_on}
-use Rattle.place_pass.proofs.StandsWhereAsked.{told_where, where_as}
-use Rattle.place_pass.proofs.SightsLemmas.{place_of}
 use Rattle.place_pass.proofs.AskedLemmas.{asked_long, asked_priority, asked_others}
 use Rattle.place_pass.proofs.StandsAfterChange.{holds_cells, stands_asked}
 use Rattle.place_pass.proofs.StillLemmas.{still_asked}
@@ -50,7 +46,7 @@ invariant_of-self c =
     let k = c.self.invariant.counted in
     let room = c.self.invariant.room in
     let other = c.self.invariant.other_room in
-    subst (λ (x : WishesRecord). IsPlacer x c.self.inside.line c.self.inside.other c.self.inside.units (length c.tell_demand.new.marks.items) c.self.inside.turn_of.items (length c.self.inside.held.items) c.tell_asked.new.tree (length c.stir.new.calm.items)) (sym c.asked-more.ensures.cells) (record {
+    subst (λ (x : WishesRecord). IsPlacer x c.self.inside.line c.self.inside.other c.self.inside.units (length c.tell_demand.new.marks) c.self.inside.turn_of.items (length c.self.inside.held.items) c.tell_asked.new.tree (length c.stir.new.calm.items)) (sym c.asked-more.ensures.cells) (record {
       admitted = admitted_more w.cells c.self.inside.line.pairs a xs lt (omega (arith, long)) c.self.invariant.admitted;
       places = length-set w.cells a xs ∙ c.self.invariant.places;
       counted = omega (arith, same, k);
@@ -80,12 +76,6 @@ tell_asked-requires-clause-admitted c =
 pub tell_asked-requires-clause-places : goal.tell_asked-requires-clause-places
 tell_asked-requires-clause-places c = c.self.invariant.turn_places
 
-pub leave_unasked-requires-clause-places : goal.leave_unasked-requires-clause-places
-leave_unasked-requires-clause-places c = c.self.invariant.turn_places
-
-pub leave_unasked-requires-clause-holds : goal.leave_unasked-requires-clause-holds
-leave_unasked-requires-clause-holds c = c.self.invariant.holds
-
 pub tell_asked-requires-clause-holds : goal.tell_asked-requires-clause-holds
 tell_asked-requires-clause-holds c =
     let w = c.self.inside.wishes in
@@ -93,8 +83,8 @@ tell_asked-requires-clause-holds c =
     let es = c.args.demand.now.entries in
     let here = subst (λ (p : PlacerRecord). 0 < units_seen p.seen a) (sym c.self.view_is) c.requires.here in
     let lt = slot_within w.cells a 0 here in
-    subst (λ (x : WishesRecord). HoldsLine x.cluster x.cells c.self.inside.line.pairs c.self.inside.turn_of.items c.leave_unasked.new.tree) (sym c.asked-more.ensures.cells)
-    (holds_cells w.cluster w.cells (set w.cells a (taken_all w.cluster es 0 (get_or w.cells a []))) (λ p. has_pair p c.self.inside.line.pairs) c.self.inside.turn_of.items c.leave_unasked.new.tree (asked_long w.cluster es w.cells a lt) (asked_priority w.cluster es w.cells a lt) c.leave_unasked.ensures.holds)
+    subst (λ (x : WishesRecord). HoldsLine x.cluster x.cells c.self.inside.line.pairs c.self.inside.turn_of.items c.self.inside.tree) (sym c.asked-more.ensures.cells)
+    (holds_cells w.cluster w.cells (set w.cells a (taken_all w.cluster es 0 (get_or w.cells a []))) (λ p. has_pair p c.self.inside.line.pairs) c.self.inside.turn_of.items c.self.inside.tree (asked_long w.cluster es w.cells a lt) (asked_priority w.cluster es w.cells a lt) c.self.invariant.holds)
 
 pub returns-clause-asks : goal.returns-clause-asks
 returns-clause-asks c b k =
@@ -116,7 +106,7 @@ returns-clause-jobs c b =
 
 -- the mark of an open machine after the demand was told
 told_mark : (c : goal.After-tell_asked) (m : ℕ) → get_or c.self.inside.wishes.opened m false ≡ true
-    → IsAsked c.args.demand.now.entries (get_or c.self.inside.wishes.cells c.args.app.0 []) m (mark_at (map mark_of c.self.inside.marks.items) m) (mark_at (map mark_of c.tell_demand.new.marks.items) m)
+    → IsAsked c.args.demand.now.entries (get_or c.self.inside.wishes.cells c.args.app.0 []) m (mark_at c.self.inside.marks m) (mark_at c.tell_demand.new.marks m)
 told_mark c m o =
     let l = open_there c.self.inside.wishes.opened (length c.self.inside.wishes.cluster.machines) c.cluster-wishes.ensures.sound.opened m o in
     let n = c.self.invariant.marked in
@@ -130,10 +120,10 @@ returns-clause-tight c h =
     let xs = get_or w.cells a [] in
     let here = subst (λ (p : PlacerRecord). 0 < units_seen p.seen a) (sym c.self.view_is) c.requires.here in
     stays_tight c.self.view_is (ap (λ (x : WishesRecord). x.opened) c.asked-more.ensures.cells) refl
-    (λ m o t. stays_for c.self.inside.turns (Lifts es xs m) (IsLifted (asks_seen c.args.self.now.seen) (asks_in c.asked-more.new.self.cells) a m) (mark_at (map mark_of c.self.inside.marks.items) m) (mark_at (map mark_of c.tell_demand.new.marks.items) m)
+    (λ m o t. stays_for c.self.inside.turns (Lifts es xs m) (IsLifted (asks_seen c.args.self.now.seen) (asks_in c.asked-more.new.self.cells) a m) (mark_at c.self.inside.marks m) (mark_at c.tell_demand.new.marks m)
     (λ l. subst (λ (p : PlacerRecord). IsLifted (asks_seen p.seen) (asks_in c.asked-more.new.self.cells) a m) c.self.view_is
     (subst (λ (x : WishesRecord). IsLifted (asks_in w.cells) (asks_in x.cells) a m) (sym c.asked-more.ensures.cells) (lifted_then w.cluster es w.cells w.opened a c.cluster-wishes.ensures.sound (slot_within w.cells a 0 here) m l)))
-    (asked_stays c.self.inside.turns es xs m (mark_at (map mark_of c.self.inside.marks.items) m) (mark_at (map mark_of c.tell_demand.new.marks.items) m) (told_mark c m o) t)) h
+    (asked_stays c.self.inside.turns es xs m (mark_at c.self.inside.marks m) (mark_at c.tell_demand.new.marks m) (told_mark c m o) t)) h
 
 pub returns-clause-level : goal.returns-clause-level
 unfolding IsLevelWith
@@ -151,24 +141,24 @@ returns-clause-level c l =
           let b = both_true c.self.inside.idle (not c.asked-more.result) e in
           let none : any_more w.cluster es (get_or w.cells a []) (length (get_or w.cells a [])) ≡ false = sym c.asked-more.ensures.more ∙ not_true c.asked-more.result b.1 in
           subst (λ (x : WishesRecord). IsIdle x.cells x.opened t) (sym c.asked-more.ensures.cells) (idle_asked w.cluster es w.cells w.opened a c.cluster-wishes.ensures.sound (slot_within w.cells a 0 here) t none (old.idle b.0));
-      kept = subst (λ (x : WishesRecord). IsKept x.cells x.opened c.self.inside.line.pairs c.self.inside.turns (record { marks = map mark_of c.tell_demand.new.marks.items; turn_of = c.self.inside.turn_of.items; held = c.self.inside.held.items }) t) (sym c.asked-more.ensures.cells)
-          (kept_demanded w.cells (set w.cells a (taken_all w.cluster es 0 (get_or w.cells a []))) w.opened w.opened c.self.inside.line.pairs c.self.inside.turns (record { marks = map mark_of c.self.inside.marks.items; turn_of = c.self.inside.turn_of.items; held = c.self.inside.held.items }) t (map mark_of c.tell_demand.new.marks.items)
-          (λ m o. told_asked es (get_or w.cells a []) m (mark_at (map mark_of c.self.inside.marks.items) m) (mark_at (map mark_of c.tell_demand.new.marks.items) m)
+      kept = subst (λ (x : WishesRecord). IsKept x.cells x.opened c.self.inside.line.pairs c.self.inside.turns (record { marks = c.tell_demand.new.marks; turn_of = c.self.inside.turn_of.items; held = c.self.inside.held.items }) t) (sym c.asked-more.ensures.cells)
+          (kept_demanded w.cells (set w.cells a (taken_all w.cluster es 0 (get_or w.cells a []))) w.opened w.opened c.self.inside.line.pairs c.self.inside.turns (record { marks = c.self.inside.marks; turn_of = c.self.inside.turn_of.items; held = c.self.inside.held.items }) t c.tell_demand.new.marks
+          (λ m o. told_asked es (get_or w.cells a []) m (mark_at c.self.inside.marks m) (mark_at c.tell_demand.new.marks m)
           ((b u : ℕ) → is_open_to (set w.cells a (taken_all w.cluster es 0 (get_or w.cells a []))) w.opened b u m ≡ true → is_open_to w.cells w.opened b u m ≡ true) (told_mark c m o)
           (λ still b u. still_open w.cluster es w.cells w.opened a c.cluster-wishes.ensures.sound (slot_within w.cells a 0 here) m still b u)) (λ m o. o) old.kept);
       clear = λ e f.
           let b = both_true c.self.inside.idle (not c.asked-more.result) e in
           let none : any_more w.cluster es (get_or w.cells a []) (length (get_or w.cells a [])) ≡ false = sym c.asked-more.ensures.more ∙ not_true c.asked-more.result b.1 in
-          subst (λ (x : WishesRecord). IsClear x.opened c.self.inside.line.pairs (map mark_of c.tell_demand.new.marks.items) t) (sym c.asked-more.ensures.cells) (record {
-            clear = λ allowed m g o. asked_clear es (get_or w.cells a []) m (mark_at (map mark_of c.self.inside.marks.items) m) (mark_at (map mark_of c.tell_demand.new.marks.items) m) (told_mark c m o)
+          subst (λ (x : WishesRecord). IsClear x.opened c.self.inside.line.pairs c.tell_demand.new.marks t) (sym c.asked-more.ensures.cells) (record {
+            clear = λ allowed m g o. asked_clear es (get_or w.cells a []) m (mark_at c.self.inside.marks m) (mark_at c.tell_demand.new.marks m) (told_mark c m o)
                 (none_lifted w.cluster es w.cells w.opened a c.cluster-wishes.ensures.sound (slot_within w.cells a 0 here) none m) g ((old.clear b.0 f).clear allowed m g o);
           });
       quiet = λ e.
           let b = both_true c.self.inside.idle (not c.asked-more.result) e in
           let none : any_more w.cluster es (get_or w.cells a []) (length (get_or w.cells a [])) ≡ false = sym c.asked-more.ensures.more ∙ not_true c.asked-more.result b.1 in
           let q = old.quiet b.0 in
-          subst (λ (x : WishesRecord). IsQuiet x.cells x.opened c.self.inside.line.pairs c.self.inside.turns (map mark_of c.tell_demand.new.marks.items) t) (sym c.asked-more.ensures.cells) (record {
-            settled = λ m o. asked_settled c.self.inside.turns es (get_or w.cells a []) m (mark_at (map mark_of c.self.inside.marks.items) m) (mark_at (map mark_of c.tell_demand.new.marks.items) m) (told_mark c m o)
+          subst (λ (x : WishesRecord). IsQuiet x.cells x.opened c.self.inside.line.pairs c.self.inside.turns c.tell_demand.new.marks t) (sym c.asked-more.ensures.cells) (record {
+            settled = λ m o. asked_settled c.self.inside.turns es (get_or w.cells a []) m (mark_at c.self.inside.marks m) (mark_at c.tell_demand.new.marks m) (told_mark c m o)
                 (none_lifted w.cluster es w.cells w.opened a c.cluster-wishes.ensures.sound (slot_within w.cells a 0 here) none m) (q.settled m o);
             waiting = λ b u lt some. q.waiting b u lt (waiting_asked w.cluster es w.cells w.opened a c.cluster-wishes.ensures.sound (slot_within w.cells a 0 here) t none b u some);
           });
@@ -177,20 +167,9 @@ returns-clause-level c l =
           (λ b k f. asked_others w.cluster es w.cells a (slot_within w.cells a 0 here) b k (eq_turned b a ∙ f)) refl (λ b _. refl) old.still);
       stands = c.tell_asked.ensures.stands
           (subst (λ (x : WishesRecord). length (get_or x.cells a []) ≡ unit_count (as_known t.jobs) a) (sym c.asked-more.ensures.cells) (asked_long w.cluster es w.cells a (slot_within w.cells a 0 here) a ∙ count_is w.cluster w.cells t old.level a))
-          (λ b v has d. subst (λ (x : WishesRecord). StandsAs x.cluster x.cells t.entries b v c.leave_unasked.new.tree) (sym c.asked-more.ensures.cells)
-          (stands_asked w.cluster w.cells (set w.cells a (taken_all w.cluster es 0 (get_or w.cells a []))) t.entries b v c.leave_unasked.new.tree (λ k. asked_others w.cluster es w.cells a (slot_within w.cells a 0 here) b k d)
-          (stands_on w.cluster w.cells t.entries b v c.self.inside.tree c.leave_unasked.new.tree (c.leave_unasked.ensures.holds.racks ∙ sym c.self.invariant.holds.racks) (c.leave_unasked.ensures.others b v (c.self.invariant.holds.few b v has) d) (old.stands b v has))))
-          (λ u has.
-          let place = place_of (a, u) c.self.inside.line.pairs has in
-          let l = all_at (λ (p : ℕ × ℕ). p.1 < length (get_or w.cells p.0 [])) c.self.inside.line.pairs place.place (a, u) c.self.invariant.admitted place.at in
-          subst (λ (x : WishesRecord). StandsWhereAsked x.cluster x.cells a u c.leave_unasked.new.tree) (sym c.asked-more.ensures.cells)
-          (told_where w.cluster es w.cells a u c.leave_unasked.new.tree c.entries-counts.ensures.counts (slot_within w.cells a 0 here) l
-          (c.leave_unasked.ensures.stands (λ v h. where_as w.cluster w.cells t.entries a v c.self.inside.tree (old.stands a v h)) u l has)));
+          (λ b v has d. subst (λ (x : WishesRecord). StandsAs x.cluster x.cells t.entries b v c.self.inside.tree) (sym c.asked-more.ensures.cells)
+          (stands_asked w.cluster w.cells (set w.cells a (taken_all w.cluster es 0 (get_or w.cells a []))) t.entries b v c.self.inside.tree (λ k. asked_others w.cluster es w.cells a (slot_within w.cells a 0 here) b k d) (old.stands b v has)));
     }
-  where
-    not_true : (b : Bool) → not b ≡ true → b ≡ false
-    not_true true e = cc
-    not_true false e = refl
 
 pub returns-clause-idle : goal.returns-clause-idle
 returns-clause-idle c h =

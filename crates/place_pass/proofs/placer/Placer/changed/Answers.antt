@@ -1,10 +1,10 @@
-use Rattle.std.proofs.Common.{◌≡◌, ℕ, ◌+◌, ◌*◌, ◌<◌, List, [], cond, nat_lt, length, map, set, get_or, sym, ◌∙◌, ap, subst, arith}
+use Rattle.std.proofs.Common.{◌≡◌, ℕ, ◌+◌, ◌*◌, ◌<◌, List, [], cond, nat_lt, length, set, get_or, sym, ◌∙◌, ap, subst, arith}
 use Rattle.std.proofs.lemmas.List.{get_or_default, length-set}
 use Rattle.fuxi_terms.specs.Tables.{spot, held}
 use Rattle.written_roles.specs.Masters.{out_of}
 use Rattle.written_roles.specs.Placing.{has_pair}
 use Rattle.place_pass.specs.Best.{AreAdmitted}
-use Rattle.place_pass.specs.Bounds.{IsRising, mark_of, mark_at, turn_at, Rises, after_taking, is_nearer_in}
+use Rattle.place_pass.specs.Bounds.{IsRising, mark_at, turn_at, Rises, after_taking, is_nearer_in}
 use Rattle.place_pass.specs.Cells.{job_at, asks_in}
 use Rattle.place_pass.specs.PlacerTrees.{HoldsLine, AllStand}
 use Rattle.place_pass.specs.Placers.{PlacerRecord, IsKept, IsLevelWith, IsUpToDate, units_seen, board_over}
@@ -55,7 +55,7 @@ pub returns-clause-tight : goal.returns-clause-tight
 returns-clause-tight c h =
     let w = c.self.inside.wishes in
     let n = c.self.invariant.marked in
-    let old = map mark_of c.self.inside.marks.items in
+    let old = c.self.inside.marks in
     stays_tight c.self.view_is (λ _. w.opened) (λ _. c.self.inside.turns) (λ m o t.
     let l = open_there w.opened (length w.cluster.machines) c.cluster-wishes.ensures.sound.opened m o in
     subst (MarkStays c.self.inside.turns (m ≡ c.args.machine.0) (mark_at old m)) (sym (c.tell.ensures.marks m (omega (arith, l, n)))) (told_stays c.self.inside.turns _ c.args.table.now.cluster _ c.args.machine.0 _ m (mark_at old m) t)) h
@@ -86,13 +86,13 @@ returns-clause-level c before l is =
       clear = λ e f. cc;
       still = still_told c.self.inside.calm.items c.stir.new.calm.items c.args.app.0 c.stir.ensures.stirred w.cells line c.leave_served.new.line.pairs before t c.args.unit.0 c.args.machine.0 is (λ b v f. ap (has_pair (b, v)) line_is ∙ told_others line out c.args.app.0 c.args.unit.0 b v f) old.still;
       stands = subst (λ (l : List (ℕ × ℕ)). AllStand w.cluster w.cells t.entries l c.tell_spot.new.tree) (sym line_is) (c.tell_spot.ensures.stands before is old.stands);
-      kept = subst (λ (hs : List ℕ). IsKept w.cells w.opened c.leave_served.new.line.pairs c.self.inside.turns (record { marks = map mark_of c.tell.new.marks.items; turn_of = c.self.inside.turn_of.items; held = hs }) t) (λ i. set c.self.inside.held.items (sym c.slot-place.ensures i) (sym c.held.ensures i))
-          (kept_told w.cells w.opened line c.leave_served.new.line.pairs c.self.inside.turns (length w.cluster.machines) (record { marks = map mark_of c.self.inside.marks.items; turn_of = c.self.inside.turn_of.items; held = c.self.inside.held.items }) (map mark_of c.tell.new.marks.items)
+      kept = subst (λ (hs : List ℕ). IsKept w.cells w.opened c.leave_served.new.line.pairs c.self.inside.turns (record { marks = c.tell.new.marks; turn_of = c.self.inside.turn_of.items; held = hs }) t) (λ i. set c.self.inside.held.items (sym c.slot-place.ensures i) (sym c.held.ensures i))
+          (kept_told w.cells w.opened line c.leave_served.new.line.pairs c.self.inside.turns (length w.cluster.machines) (record { marks = c.self.inside.marks; turn_of = c.self.inside.turn_of.items; held = c.self.inside.held.items }) c.tell.new.marks
           (λ p has. told_was line out c.args.app.0 c.args.unit.0 p (ap (has_pair p) (sym line_is) ∙ has))
           (subst (Rises (λ (p : ℕ × ℕ). turn_at c.self.inside.turn_of.items p.0 p.1)) (sym line_is) (told_rises line out c.args.app.0 c.args.unit.0 (λ (p : ℕ × ℕ). turn_at c.self.inside.turn_of.items p.0 p.1) (rising_all (λ (p : ℕ × ℕ). turn_at c.self.inside.turn_of.items p.0 p.1) line old.kept.rises)))
           (open_there w.opened (length w.cluster.machines) c.cluster-wishes.ensures.sound.opened) before t c.args.app.0 c.args.unit.0 c.args.machine.0 is
           sa su long (λ j lt. c.tell.ensures.marks j (omega (arith, lt, marked))
-          ∙ (λ i. cond (nat_lt (held t.entries c.args.app.0 c.args.unit.0) (was i)) (after_taking t.cluster (group i) c.args.machine.0 (is_nearer_in (board_over w.cells w.opened t) t.entries (spot c.args.app.0 c.args.unit.0 c.args.machine.0)) j (mark_at (map mark_of c.self.inside.marks.items) j)) (mark_at (map mark_of c.self.inside.marks.items) j))) old.kept);
+          ∙ (λ i. cond (nat_lt (held t.entries c.args.app.0 c.args.unit.0) (was i)) (after_taking t.cluster (group i) c.args.machine.0 (is_nearer_in (board_over w.cells w.opened t) t.entries (spot c.args.app.0 c.args.unit.0 c.args.machine.0)) j (mark_at c.self.inside.marks j)) (mark_at c.self.inside.marks j))) old.kept);
     }
 
 pub returns-clause-up : goal.returns-clause-up

@@ -1,7 +1,7 @@
 use Rattle.std.proofs.Common.{◌≡◌, ℕ, ◌+◌, ◌-◌, Bool, true, not, nat_lt, List, ◌++◌, length, map, filter, refl, sym, ◌∙◌, ap, subst, arith}
 use Rattle.std.specs.Prelude.{◌||◌}
 use Rattle.std.proofs.lemmas.List.{length-append}
-use Rattle.place_pass.specs.Bounds.{key_of, mark_at, mark_of}
+use Rattle.place_pass.specs.Bounds.{key_of, mark_at}
 use Rattle.place_pass.proofs.LinedLemmas.{IsLinedUp, lined_is, lined_kept, front_inside, front_holds, front_stands}
 use Rattle.std.proofs.lemmas.Bool.Decides.{nat_tests}
 use Rattle.fuxi_terms.proofs.Booleans.{and_true, both_true}
@@ -48,7 +48,7 @@ enter_line-requires-clause-level c = (subst (λ (p : PlacerRecord). IsLevelWith 
 
 -- the line is brought up to date before the tree is told
 lined_up : (c : goal.After-enter_line-arg-4-1) → IsLinedUp c.self.inside.line.pairs c.leave.new.line.pairs (waiting_in (map (λ (j : JobRecord). j.number) c.args.table.now.jobs) (unit_count (as_known c.args.table.now.jobs)) (asks_in c.self.inside.wishes.cells) c.args.table.now.entries) c.join.new.line.pairs c.len-stayed.result
-    (λ p. nat_lt 0 (out_of (asks_in c.self.inside.wishes.cells) c.args.table.now.entries p.0 p.1)) (record { marks = map mark_of c.self.inside.marks.items; turn_of = c.self.inside.turn_of.items; held = c.self.inside.held.items }) c.number_from.new.turn_of.items
+    (λ p. nat_lt 0 (out_of (asks_in c.self.inside.wishes.cells) c.args.table.now.entries p.0 p.1)) (record { marks = c.self.inside.marks; turn_of = c.self.inside.turn_of.items; held = c.self.inside.held.items }) c.number_from.new.turn_of.items
 lined_up c = record {
   kept = c.leave.ensures.pairs;
   waits = waiting_waits (map (λ (j : JobRecord). j.number) c.args.table.now.jobs) (unit_count (as_known c.args.table.now.jobs)) (asks_in c.self.inside.wishes.cells) c.args.table.now.entries;
@@ -79,7 +79,7 @@ enter_line-requires-clause-stands c =
 
 -- and when it was told
 lined_then : (c : goal.After-self-2-1) → IsLinedUp c.self.inside.line.pairs c.leave.new.line.pairs (waiting_in (map (λ (j : JobRecord). j.number) c.args.table.now.jobs) (unit_count (as_known c.args.table.now.jobs)) (asks_in c.self.inside.wishes.cells) c.args.table.now.entries) c.join.new.line.pairs c.len-stayed.result
-    (λ p. nat_lt 0 (out_of (asks_in c.self.inside.wishes.cells) c.args.table.now.entries p.0 p.1)) (record { marks = map mark_of c.self.inside.marks.items; turn_of = c.self.inside.turn_of.items; held = c.self.inside.held.items }) c.number_from.new.turn_of.items
+    (λ p. nat_lt 0 (out_of (asks_in c.self.inside.wishes.cells) c.args.table.now.entries p.0 p.1)) (record { marks = c.self.inside.marks; turn_of = c.self.inside.turn_of.items; held = c.self.inside.held.items }) c.number_from.new.turn_of.items
 lined_then c =
     let waits = waiting_waits (map (λ (j : JobRecord). j.number) c.args.table.now.jobs) (unit_count (as_known c.args.table.now.jobs)) (asks_in c.self.inside.wishes.cells) c.args.table.now.entries in
     let small = λ (a u : ℕ) (has : has_pair (a, u) c.self.inside.line.pairs ≡ true). let place = place_of (a, u) c.self.inside.line.pairs has in unit_small c.self.inside.wishes.cells c.self.inside.line.pairs place.place (a, u) c.self.invariant.admitted place.at c.cluster-wishes.ensures.sound.few in
@@ -170,7 +170,7 @@ returns-clause-level c =
     let s = c.len-stayed.ensures.number in
     let long = ap length pairs ∙ length-append front joined in
     let more : c.len.result - c.len-stayed.result ≡ length joined = omega (arith, long, n, s) in
-    let k : KeptRecord = record { marks = map mark_of c.self.inside.marks.items; turn_of = c.self.inside.turn_of.items; held = c.self.inside.held.items } in
+    let k : KeptRecord = record { marks = c.self.inside.marks; turn_of = c.self.inside.turn_of.items; held = c.self.inside.held.items } in
     let kept = lined_kept (lined_then c) w.cells w.opened c.self.inside.turns t (λ i p ge e. c.number_from.ensures.numbered i p ge e) old.kept in
     let none = λ (e : c.self.inside.idle ≡ true). none_joined line (map (λ (j : JobRecord). j.number) t.jobs) (unit_count (as_known t.jobs)) (asks_in w.cells) t.entries (old.quiet e).waiting in
     record {
@@ -188,11 +188,11 @@ returns-clause-level c =
           let still = λ (a u : ℕ) (has : has_pair (a, u) line ≡ true). ap (has_pair (a, u)) pairs ∙ any_append (same_pair (a, u)) front joined ∙ ap (λ x. x || has_pair (a, u) joined) (ap (has_pair (a, u)) same ∙ has) in
           record { clear = λ allowed m g o. (old.clear e b.0).clear (λ a u has. allowed a u (still a u has)) m g o };
       quiet = λ e. record {
-        settled = λ m o. let z : c.self.inside.turns + (c.len.result - c.len-stayed.result) ≡ c.self.inside.turns = let y = ap length (none e) in omega (arith, more, y) in ap (key_of (mark_at (map mark_of c.self.inside.marks.items) m)) z ∙ (old.quiet e).settled m o;
+        settled = λ m o. let z : c.self.inside.turns + (c.len.result - c.len-stayed.result) ≡ c.self.inside.turns = let y = ap length (none e) in omega (arith, more, y) in ap (key_of (mark_at c.self.inside.marks m)) z ∙ (old.quiet e).settled m o;
         waiting = λ a u lt some. returns-clause-up c a u ∙ and_true (nat_lt u (unit_count (as_known t.jobs) a)) _ (grind (arith, nat_tests, lt)) (grind (arith, nat_tests, some));
       };
       kept = subst (λ n. IsKept w.cells w.opened c.join.new.line.pairs (c.self.inside.turns + n) (record k { turn_of = c.number_from.new.turn_of.items }) t) (sym more) kept;
     }
 
 pub returns-clause-tight : goal.returns-clause-tight
-returns-clause-tight c e h = stays_tight c.self.view_is refl (e ∙ sym (ap (λ (p : PlacerRecord). p.seen.turns) c.self.view_is)) (λ m o t. same_stays c.self.inside.turns ⊥ (mark_at (map mark_of c.self.inside.marks.items) m) t) h
+returns-clause-tight c e h = stays_tight c.self.view_is refl (e ∙ sym (ap (λ (p : PlacerRecord). p.seen.turns) c.self.view_is)) (λ m o t. same_stays c.self.inside.turns ⊥ (mark_at c.self.inside.marks m) t) h

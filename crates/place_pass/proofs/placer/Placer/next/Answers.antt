@@ -1,4 +1,4 @@
-use Rattle.std.proofs.Common.{◌≡◌, ℕ, ◌+◌, ◌<◌, ◌≤◌, Bool, true, false, nat_lt, Option, List, None, length, map, get_or, sym, ◌∙◌, ap, subst, arith}
+use Rattle.std.proofs.Common.{◌≡◌, ℕ, ◌+◌, ◌<◌, ◌≤◌, Bool, true, false, nat_lt, Option, List, None, length, get_or, sym, ◌∙◌, ap, subst, arith}
 use Rattle.std.specs.Prelude.{IfSome}
 use Rattle.std.specs.Option.{option_map}
 use Rattle.fuxi_terms.specs.Jobs.{unit_count}
@@ -14,7 +14,7 @@ use Rattle.written_roles.specs.Masters.{out_of}
 use Rattle.written_roles.specs.Placing.{first_in}
 use Rattle.grant_table.specs.declared.asking.Pick.{Pick}
 use Rattle.place_pass.specs.Best.{spot_of}
-use Rattle.place_pass.specs.Bounds.{mark_of, mark_at, Rises}
+use Rattle.place_pass.specs.Bounds.{mark_at, Rises}
 use Rattle.place_pass.specs.Sights.{turn_in, AreBounded}
 use Rattle.place_pass.specs.Cells.{asks_in}
 use Rattle.place_pass.specs.Placers.{AreAllowed, IsGrantable, PlacerRecord, KeptRecord, placer_record, IsLevelWith, IsUpToDate, board_over, board_with}
@@ -53,7 +53,7 @@ unfolding IsLevelWith
 first-requires-clause-old g c m opened =
     let l = subst (λ (p : PlacerRecord). IsLevelWith p c.args.table.now) (sym c.self.view_is) c.requires.level in
     let w = c.self.inside.wishes in
-    subst (λ (xs : List ℕ). AreBounded (board_over w.cells w.opened c.args.table.now) c.args.table.now.entries (turn_in xs) c.self.inside.line.pairs (mark_at (map mark_of c.self.inside.marks.items) m) m) (sym c.deref.ensures.value)
+    subst (λ (xs : List ℕ). AreBounded (board_over w.cells w.opened c.args.table.now) c.args.table.now.entries (turn_in xs) c.self.inside.line.pairs (mark_at c.self.inside.marks m) m) (sym c.deref.ensures.value)
     (record { bounded = λ q has lt. l.kept.bounds m q.0 q.1 opened has lt })
 
 pub first-requires-clause-until : goal.first-requires-clause-until
@@ -105,7 +105,7 @@ unfolding IsLevelWith
 returns-then-rests-clause-settled g c e m =
     let l = subst (λ (p : PlacerRecord). IsLevelWith p c.args.table.now) (sym c.self.view_is) c.requires.level in
     let idle = (both_true c.self.inside.idle c.self.inside.forgotten c.if-rests.true).0 in
-    subst (λ (p : PlacerRecord). is_unsettled p m ≡ false) c.self.view_is (is_settled (get_or c.self.inside.wishes.opened m false) (mark_at (map mark_of c.self.inside.marks.items) m) c.self.inside.turns (λ o. (l.quiet idle).settled m o))
+    subst (λ (p : PlacerRecord). is_unsettled p m ≡ false) c.self.view_is (is_settled (get_or c.self.inside.wishes.opened m false) (mark_at c.self.inside.marks m) c.self.inside.turns (λ o. (l.quiet idle).settled m o))
 
 -- nothing is placeable on any machine, so the line has no first pair
 pub returns-then-self-clause-first : goal.returns-then-self-clause-first
@@ -126,9 +126,9 @@ returns-then-self-clause-level g c =
     let w = c.self.inside.wishes in
     let t = c.args.table.now in
     let l = subst (λ (p : PlacerRecord). IsLevelWith p t) (sym c.self.view_is) c.requires.level in
-    let k : KeptRecord = record { marks = map mark_of c.self.inside.marks.items; turn_of = c.self.inside.turn_of.items; held = c.self.inside.held.items } in
-    let marks = map mark_of c.forget_groups.new.marks.items in
-    let forgotten = λ (m : ℕ) (o : get_or w.opened m false ≡ true). c.forget_groups.ensures.marks m (open_marked w.opened (length w.cluster.machines) (length c.self.inside.marks.items) m c.cluster-wishes.ensures.sound.opened c.self.invariant.marked o) in
+    let k : KeptRecord = record { marks = c.self.inside.marks; turn_of = c.self.inside.turn_of.items; held = c.self.inside.held.items } in
+    let marks = c.forget_groups.new.marks in
+    let forgotten = λ (m : ℕ) (o : get_or w.opened m false ≡ true). c.forget_groups.ensures.marks m (open_marked w.opened (length w.cluster.machines) (length c.self.inside.marks) m c.cluster-wishes.ensures.sound.opened c.self.invariant.marked o) in
     record {
       level = l.level;
       idle = l.idle;
@@ -139,7 +139,7 @@ returns-then-self-clause-level g c =
         settled = λ m o. forgotten_key c.self.inside.turns t c.self.inside.line.pairs (mark_at k.marks m) (mark_at marks m) (forgotten m o) ∙ (l.quiet e).settled m o;
         waiting = (l.quiet e).waiting;
       };
-      clear = λ e f. record { clear = λ allowed m g o. c.forget_groups.ensures.clear allowed m g (open_marked w.opened (length w.cluster.machines) (length c.self.inside.marks.items) m c.cluster-wishes.ensures.sound.opened c.self.invariant.marked o) };
+      clear = λ e f. record { clear = λ allowed m g o. c.forget_groups.ensures.clear allowed m g (open_marked w.opened (length w.cluster.machines) (length c.self.inside.marks) m c.cluster-wishes.ensures.sound.opened c.self.invariant.marked o) };
     }
 
 pub returns-then-self-clause-rest : goal.returns-then-self-clause-rest
@@ -147,7 +147,7 @@ returns-then-self-clause-rest g c e allowed =
     let w = c.self.inside.wishes in
     record {
       clear = λ m n o settled. c.forget_groups.ensures.clear (subst (λ (p : PlacerRecord). AreAllowed c.args.table.now p.seen.line) (sym c.self.view_is) allowed) m n
-          (open_marked w.opened (length w.cluster.machines) (length c.self.inside.marks.items) m c.cluster-wishes.ensures.sound.opened c.self.invariant.marked o);
+          (open_marked w.opened (length w.cluster.machines) (length c.self.inside.marks) m c.cluster-wishes.ensures.sound.opened c.self.invariant.marked o);
     }
 
 pub returns-then-self-clause-settled : goal.returns-then-self-clause-settled
@@ -156,10 +156,10 @@ returns-then-self-clause-settled g c e m =
     let w = c.self.inside.wishes in
     let t = c.args.table.now in
     let l = subst (λ (p : PlacerRecord). IsLevelWith p t) (sym c.self.view_is) c.requires.level in
-    let marks = map mark_of c.forget_groups.new.marks.items in
+    let marks = c.forget_groups.new.marks in
     is_settled (get_or w.opened m false) (mark_at marks m) c.self.inside.turns (λ o.
-    forgotten_key c.self.inside.turns t c.self.inside.line.pairs (mark_at (map mark_of c.self.inside.marks.items) m) (mark_at marks m)
-    (c.forget_groups.ensures.marks m (open_marked w.opened (length w.cluster.machines) (length c.self.inside.marks.items) m c.cluster-wishes.ensures.sound.opened c.self.invariant.marked o))
+    forgotten_key c.self.inside.turns t c.self.inside.line.pairs (mark_at c.self.inside.marks m) (mark_at marks m)
+    (c.forget_groups.ensures.marks m (open_marked w.opened (length w.cluster.machines) (length c.self.inside.marks) m c.cluster-wishes.ensures.sound.opened c.self.invariant.marked o))
     ∙ (l.quiet c.if-self.true).settled m o)
 
 pub returns-clause-level : goal.returns-clause-level
@@ -174,7 +174,7 @@ returns-clause-level g c =
       stands = l.stands;
       still = l.still;
       kept = record {
-        bounds = λ m a u opened has lt. (subst (λ (xs : List ℕ). AreBounded (board_over w.cells w.opened t) t.entries (turn_in xs) c.self.inside.line.pairs (mark_at (map mark_of c.first.new.marks.items) m) m) c.deref.ensures.value (c.first.ensures.bounded m opened)).bounded (a, u) has lt;
+        bounds = λ m a u opened has lt. (subst (λ (xs : List ℕ). AreBounded (board_over w.cells w.opened t) t.entries (turn_in xs) c.self.inside.line.pairs (mark_at c.first.new.marks m) m) c.deref.ensures.value (c.first.ensures.bounded m opened)).bounded (a, u) has lt;
         until = c.first.ensures.until;
         rises = l.kept.rises;
         below = l.kept.below;
@@ -189,7 +189,7 @@ pub returns-clause-count : goal.returns-clause-count
 unfolding IsLevelWith
 returns-clause-count g c =
     let l = subst (λ (p : PlacerRecord). IsLevelWith p c.args.table.now) (sym c.self.view_is) c.requires.level in
-    let inside = placer_record c.self.inside.wishes c.self.inside.line c.self.inside.turns c.self.inside.idle c.self.inside.marks.items c.self.inside.turn_of.items c.self.inside.held.items c.self.inside.tree c.self.inside.forgotten c.self.inside.calm.items in
+    let inside = placer_record c.self.inside.wishes c.self.inside.line c.self.inside.turns c.self.inside.idle c.self.inside.marks c.self.inside.turn_of.items c.self.inside.held.items c.self.inside.tree c.self.inside.forgotten c.self.inside.calm.items in
     subst (λ (p : PlacerRecord). c.first.new.steps ≤ c.args.steps.now + unsettled_machines p) c.self.view_is
     (subst (λ (x : ClusterRecord). c.first.new.steps ≤ c.args.steps.now + count_below (is_unsettled inside) (length x.machines)) (sym l.level.cluster_is) c.first.ensures.count)
 
@@ -197,7 +197,7 @@ pub returns-in_default-clause-count : goal.returns-in_default-clause-count
 unfolding IsLevelWith
 returns-in_default-clause-count g c =
     let l = subst (λ (p : PlacerRecord). IsLevelWith p c.args.table.now) (sym c.self.view_is) c.requires.level in
-    let inside = placer_record c.self.inside.wishes c.self.inside.line c.self.inside.turns c.self.inside.idle c.self.inside.marks.items c.self.inside.turn_of.items c.self.inside.held.items c.self.inside.tree c.self.inside.forgotten c.self.inside.calm.items in
+    let inside = placer_record c.self.inside.wishes c.self.inside.line c.self.inside.turns c.self.inside.idle c.self.inside.marks c.self.inside.turn_of.items c.self.inside.held.items c.self.inside.tree c.self.inside.forgotten c.self.inside.calm.items in
     subst (λ (p : PlacerRecord). c.first.new.steps ≤ c.args.steps.now + unsettled_machines p) c.self.view_is
     (subst (λ (x : ClusterRecord). c.first.new.steps ≤ c.args.steps.now + count_below (is_unsettled inside) (length x.machines)) (sym l.level.cluster_is) c.first.ensures.count)
 
@@ -209,16 +209,16 @@ returns-in_default-clause-level g c =
     let t = c.args.table.now in
     let l = subst (λ (p : PlacerRecord). IsLevelWith p t) (sym c.self.view_is) c.requires.level in
     let up = subst (λ (p : PlacerRecord). IsUpToDate p.seen t) (sym c.self.view_is) c.requires.up in
-    let k : KeptRecord = record { marks = map mark_of c.first.new.marks.items; turn_of = c.self.inside.turn_of.items; held = c.self.inside.held.items } in
-    let marks = map mark_of c.forget_groups-in_default.new.marks.items in
-    let forgotten = λ (m : ℕ) (o : get_or w.opened m false ≡ true). c.forget_groups-in_default.ensures.marks m (open_marked w.opened (length w.cluster.machines) (length c.first.new.marks.items) m c.cluster-wishes.ensures.sound.opened (c.first.ensures.marked ∙ c.self.invariant.marked) o) in
+    let k : KeptRecord = record { marks = c.first.new.marks; turn_of = c.self.inside.turn_of.items; held = c.self.inside.held.items } in
+    let marks = c.forget_groups-in_default.new.marks in
+    let forgotten = λ (m : ℕ) (o : get_or w.opened m false ≡ true). c.forget_groups-in_default.ensures.marks m (open_marked w.opened (length w.cluster.machines) (length c.first.new.marks) m c.cluster-wishes.ensures.sound.opened (c.first.ensures.marked ∙ c.self.invariant.marked) o) in
     record {
       level = l.level;
       idle = λ e. idle_found w.cells w.opened t c.self.inside.line.pairs up (sym c.first.ensures.first ∙ ap (option_map spot_of) c.in_default.is);
       stands = l.stands;
       still = l.still;
       kept = kept_forgotten w.cells w.opened c.self.inside.line.pairs c.self.inside.turns k t marks forgotten (record {
-        bounds = λ m a u opened has lt. (subst (λ (xs : List ℕ). AreBounded (board_over w.cells w.opened t) t.entries (turn_in xs) c.self.inside.line.pairs (mark_at (map mark_of c.first.new.marks.items) m) m) c.deref.ensures.value (c.first.ensures.bounded m opened)).bounded (a, u) has lt;
+        bounds = λ m a u opened has lt. (subst (λ (xs : List ℕ). AreBounded (board_over w.cells w.opened t) t.entries (turn_in xs) c.self.inside.line.pairs (mark_at c.first.new.marks m) m) c.deref.ensures.value (c.first.ensures.bounded m opened)).bounded (a, u) has lt;
         until = c.first.ensures.until;
         rises = l.kept.rises;
         below = l.kept.below;
@@ -228,7 +228,7 @@ returns-in_default-clause-level g c =
         settled = λ m o. forgotten_key c.self.inside.turns t c.self.inside.line.pairs (mark_at k.marks m) (mark_at marks m) (forgotten m o) ∙ c.first.ensures.settled c.in_default.is m (subst (λ (x : ClusterRecord). m < length x.machines) l.level.cluster_is (open_there w.opened (length w.cluster.machines) c.cluster-wishes.ensures.sound.opened m o)) o;
         waiting = λ a u lt some. up a u ∙ and_true (nat_lt u (unit_count (as_known t.jobs) a)) _ (grind (arith, nat_tests, lt)) (grind (arith, nat_tests, some));
       };
-      clear = λ e f. record { clear = λ allowed m g o. c.forget_groups-in_default.ensures.clear allowed m g (open_marked w.opened (length w.cluster.machines) (length c.first.new.marks.items) m c.cluster-wishes.ensures.sound.opened (c.first.ensures.marked ∙ c.self.invariant.marked) o) };
+      clear = λ e f. record { clear = λ allowed m g o. c.forget_groups-in_default.ensures.clear allowed m g (open_marked w.opened (length w.cluster.machines) (length c.first.new.marks) m c.cluster-wishes.ensures.sound.opened (c.first.ensures.marked ∙ c.self.invariant.marked) o) };
     }
 
 pub returns-in_default-clause-first : goal.returns-in_default-clause-first
@@ -237,13 +237,13 @@ returns-in_default-clause-first g c = subst (λ (p : PlacerRecord). None ≡ fir
 pub returns-in_default-clause-rest : goal.returns-in_default-clause-rest
 returns-in_default-clause-rest g c e allowed =
     let w = c.self.inside.wishes in
-    record { clear = λ m n o settled. c.forget_groups-in_default.ensures.clear (subst (λ (p : PlacerRecord). AreAllowed c.args.table.now p.seen.line) (sym c.self.view_is) allowed) m n (open_marked w.opened (length w.cluster.machines) (length c.first.new.marks.items) m c.cluster-wishes.ensures.sound.opened (c.first.ensures.marked ∙ c.self.invariant.marked) o) }
+    record { clear = λ m n o settled. c.forget_groups-in_default.ensures.clear (subst (λ (p : PlacerRecord). AreAllowed c.args.table.now p.seen.line) (sym c.self.view_is) allowed) m n (open_marked w.opened (length w.cluster.machines) (length c.first.new.marks) m c.cluster-wishes.ensures.sound.opened (c.first.ensures.marked ∙ c.self.invariant.marked) o) }
 
 pub returns-in_default-clause-settled : goal.returns-in_default-clause-settled
 unfolding IsLevelWith
 returns-in_default-clause-settled g c e m =
     let w = c.self.inside.wishes in
     let l = subst (λ (p : PlacerRecord). IsLevelWith p c.args.table.now) (sym c.self.view_is) c.requires.level in
-    is_settled (get_or c.self.inside.wishes.opened m false) (mark_at (map mark_of c.forget_groups-in_default.new.marks.items) m) c.self.inside.turns (λ o.
-    forgotten_key c.self.inside.turns c.args.table.now c.self.inside.line.pairs (mark_at (map mark_of c.first.new.marks.items) m) (mark_at (map mark_of c.forget_groups-in_default.new.marks.items) m)
-    (c.forget_groups-in_default.ensures.marks m (open_marked w.opened (length w.cluster.machines) (length c.first.new.marks.items) m c.cluster-wishes.ensures.sound.opened (c.first.ensures.marked ∙ c.self.invariant.marked) o)) ∙ c.first.ensures.settled c.in_default.is m (subst (λ (x : ClusterRecord). m < length x.machines) l.level.cluster_is (open_there w.opened (length w.cluster.machines) c.cluster-wishes.ensures.sound.opened m o)) o)
+    is_settled (get_or c.self.inside.wishes.opened m false) (mark_at c.forget_groups-in_default.new.marks m) c.self.inside.turns (λ o.
+    forgotten_key c.self.inside.turns c.args.table.now c.self.inside.line.pairs (mark_at c.first.new.marks m) (mark_at c.forget_groups-in_default.new.marks m)
+    (c.forget_groups-in_default.ensures.marks m (open_marked w.opened (length w.cluster.machines) (length c.first.new.marks) m c.cluster-wishes.ensures.sound.opened (c.first.ensures.marked ∙ c.self.invariant.marked) o)) ∙ c.first.ensures.settled c.in_default.is m (subst (λ (x : ClusterRecord). m < length x.machines) l.level.cluster_is (open_there w.opened (length w.cluster.machines) c.cluster-wishes.ensures.sound.opened m o)) o)

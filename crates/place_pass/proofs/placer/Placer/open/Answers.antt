@@ -1,7 +1,7 @@
-use Rattle.std.proofs.Common.{◌≡◌, ◌≢◌, ℕ, ◌<◌, ◌⊎◌, inl, inr, Bool, true, false, cond, nat_eq, length, map, set, get_or, refl, sym, ◌∙◌, ap, subst, arith}
+use Rattle.std.proofs.Common.{◌≡◌, ◌≢◌, ℕ, ◌<◌, ◌⊎◌, inl, inr, Bool, true, false, cond, nat_eq, length, set, get_or, refl, sym, ◌∙◌, ap, subst, arith}
 use Rattle.std.proofs.lemmas.Bool.Decides.{nat_tests}
 use Rattle.std.proofs.lemmas.List.{get_or-set_other}
-use Rattle.place_pass.specs.Bounds.{mark_of, mark_at, reset_mark}
+use Rattle.place_pass.specs.Bounds.{mark_at, reset_mark}
 use Rattle.place_pass.proofs.KeptLemmas.{kept_opened}
 use Rattle.std.specs.Prelude.{◌||◌, not}
 use Rattle.fuxi_terms.proofs.Booleans.{both_true}
@@ -37,7 +37,7 @@ returns-then-stays-clause-level c t l =
     let r = subst (λ (p : PlacerRecord). c.args.machine.0 < length p.seen.cluster.machines) (sym c.self.view_is) c.requires in
     let n = c.cluster-cluster.ensures.sound.opened in
     let none = opens_none w.opened c.args.machine.0 c.args.usable c.is_open-opened.result (omega (arith, r, n)) c.is_open-opened.ensures c.if-stays.true in
-    let kept : KeptRecord = record { marks = map mark_of c.self.inside.marks.items; turn_of = c.self.inside.turn_of.items; held = c.self.inside.held.items } in
+    let kept : KeptRecord = record { marks = c.self.inside.marks; turn_of = c.self.inside.turn_of.items; held = c.self.inside.held.items } in
     record {
       level = subst (λ (x : WishesRecord). AreLevel x.cluster (job_at x.cells) t) (sym c.open.ensures) old.level;
       idle = λ e.
@@ -61,8 +61,8 @@ returns-clause-level c t l =
     record {
       level = subst (λ (x : WishesRecord). AreLevel x.cluster (job_at x.cells) t) (sym c.open.ensures) old.level;
       idle = λ e. let f : false ≡ true = sym c.if-stays.false ∙ (both_true c.self.inside.idle (not c.args.usable || c.is_open-opened.result) e).1 in cc;
-      kept = subst (λ (x : WishesRecord). IsKept x.cells x.opened c.self.inside.line.pairs c.self.inside.turns (record { marks = map mark_of c.reset_one.new.marks.items; turn_of = c.self.inside.turn_of.items; held = c.self.inside.held.items }) t) (sym c.open.ensures)
-          (kept_opened w.cells w.opened (set w.opened c.args.machine.0 c.args.usable) c.self.inside.line.pairs c.self.inside.turns (record { marks = map mark_of c.self.inside.marks.items; turn_of = c.self.inside.turn_of.items; held = c.self.inside.held.items }) t (map mark_of c.reset_one.new.marks.items)
+      kept = subst (λ (x : WishesRecord). IsKept x.cells x.opened c.self.inside.line.pairs c.self.inside.turns (record { marks = c.reset_one.new.marks; turn_of = c.self.inside.turn_of.items; held = c.self.inside.held.items }) t) (sym c.open.ensures)
+          (kept_opened w.cells w.opened (set w.opened c.args.machine.0 c.args.usable) c.self.inside.line.pairs c.self.inside.turns (record { marks = c.self.inside.marks; turn_of = c.self.inside.turn_of.items; held = c.self.inside.held.items }) t c.reset_one.new.marks
           (λ m o. by m o (nat_eq c.args.machine.0 m) refl) old.kept);
       still = subst (λ (x : WishesRecord). IsStill x.cells c.self.inside.line.pairs c.self.inside.calm.items t) (sym c.open.ensures) old.still;
       stands = subst (λ (x : WishesRecord). AllStand x.cluster x.cells t.entries c.self.inside.line.pairs c.self.inside.tree) (sym c.open.ensures) old.stands;
@@ -71,9 +71,9 @@ returns-clause-level c t l =
     }
   where
     by : (m : ℕ) → get_or (set c.self.inside.wishes.opened c.args.machine.0 c.args.usable) m false ≡ true → (b : Bool) → nat_eq c.args.machine.0 m ≡ b
-        → (mark_at (map mark_of c.reset_one.new.marks.items) m ≡ reset_mark 0) ⊎ ((get_or c.self.inside.wishes.opened m false ≡ true) × (mark_at (map mark_of c.reset_one.new.marks.items) m ≡ mark_at (map mark_of c.self.inside.marks.items) m))
-    by m o true t = inl (c.reset_one.ensures.marks m ∙ ap (λ b. cond b (reset_mark 0) (mark_at (map mark_of c.self.inside.marks.items) m)) t)
+        → (mark_at c.reset_one.new.marks m ≡ reset_mark 0) ⊎ ((get_or c.self.inside.wishes.opened m false ≡ true) × (mark_at c.reset_one.new.marks m ≡ mark_at c.self.inside.marks m))
+    by m o true t = inl (c.reset_one.ensures.marks m ∙ ap (λ b. cond b (reset_mark 0) (mark_at c.self.inside.marks m)) t)
     by m o false f = inr (
       sym (get_or-set_other c.self.inside.wishes.opened c.args.machine.0 m c.args.usable false (let d : m ≢ c.args.machine.0 = grind (arith, nat_tests, f) in d)) ∙ o,
-      c.reset_one.ensures.marks m ∙ ap (λ b. cond b (reset_mark 0) (mark_at (map mark_of c.self.inside.marks.items) m)) f,
+      c.reset_one.ensures.marks m ∙ ap (λ b. cond b (reset_mark 0) (mark_at c.self.inside.marks m)) f,
     )

@@ -1,10 +1,11 @@
 use Rattle.std.proofs.Common.{◌≡◌, ℕ, zero, suc, ◌+◌, ◌*◌, Bool, true, false, List, [], length, get_or, refl, sym, ◌∙◌, ap, subst, arith, rules}
 use Rattle.written_roles.specs.Placing.{has_pair}
-use Rattle.place_pass.specs.Bounds.{MarkRecord, mark_of, reset_mark, Rises, turn_at}
+use Rattle.place_pass.specs.Bounds.{MarkRecord, reset_mark, Rises, turn_at}
 use Rattle.place_pass.proofs.FirstByTurn.{rising}
+use Rattle.place_pass.proofs.CellsMatchTable.{few_machines}
 use Rattle.place_pass.proofs.Places.{zeros}
 use Rattle.std.specs.Prelude.{replicate}
-use Rattle.std.proofs.lemmas.List.{length-replicate, length-map}
+use Rattle.std.proofs.lemmas.List.{length-replicate}
 use Rattle.place_pass.specs.Best.{AreAdmitted}
 use Rattle.place_pass.specs.WaitingLines.{units_in_all}
 use Rattle.place_pass.proofs.PlacersLemmas.{no_units}
@@ -31,6 +32,9 @@ none_calm xs n e a = ap (λ ys. get_or ys a false) e ∙ none_open n a
 
 zero_at : (xs : List ℕ) (n : ℕ) → xs ≡ replicate n 0 → (i : ℕ) → get_or xs i 0 ≡ 0
 zero_at xs n e i = ap (λ ys. get_or ys i 0) e ∙ zeros n i
+
+pub new-requires : goal.new-requires
+new-requires c = let few = few_machines c.args.cluster.now c.machines.ensures.valid in let number = c.machines.ensures.number in omega (arith, few, number)
 
 pub returns-clause-level : goal.returns-clause-level
 unfolding IsLevelWith
@@ -61,7 +65,7 @@ invariant_of-result c =
       counted = sym none;
       room = omega (arith, none);
       other_room = omega (arith, none);
-      marked = sym (length-map c.in_ok-marks.marks.items mark_of) ∙ ap length c.in_ok-marks.ensures ∙ length-replicate {A = MarkRecord} c.machines.result (reset_mark 0) ∙ c.machines.ensures.number ∙ ap (λ (w : WishesRecord). length w.cluster.machines) (sym c.in_ok-wishes.ensures);
+      marked = ap length c.in_ok-marks.ensures ∙ length-replicate {A = MarkRecord} c.machines.result (reset_mark 0) ∙ c.machines.ensures.number ∙ ap (λ (w : WishesRecord). length w.cluster.machines) (sym c.in_ok-wishes.ensures);
       turn_places = ap length (c.in_ok-turn_of.ensures.items_if_clones_equal (λ y e. search rules)) ∙ length-replicate {A = ℕ} 2048 0;
       held_places = ap length (c.in_ok-held.ensures.items_if_clones_equal (λ y e. search rules)) ∙ length-replicate {A = ℕ} 2048 0;
       rises = rising (λ (p : ℕ × ℕ). turn_at c.in_ok-turn_of.turn_of.items p.0 p.1) c.in_ok-line.line.pairs (subst (Rises (λ (p : ℕ × ℕ). turn_at c.in_ok-turn_of.turn_of.items p.0 p.1)) (sym c.in_ok-line.ensures) tt);
