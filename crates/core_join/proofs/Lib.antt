@@ -1,3 +1,1 @@
-pub mod Ruled
-pub mod AppWorld
 pub mod MasterWorld

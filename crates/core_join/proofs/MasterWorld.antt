@@ -10,7 +10,7 @@ use Rattle.fuxi_terms.specs.Jobs.{is_known}
 use Rattle.fuxi_terms.proofs.Booleans.{number_is}
 use Rattle.party_ledgers.specs.declared.packets.Heard.{Heard}
 use Rattle.party_ledgers.specs.declared.packets.Packet.{Packet}
-use Rattle.written_net.specs.Net.{Party, Id, Packet as WrittenPacket, last}
+use Rattle.written_net.specs.Net.{Party, Id, Link, Packet as WrittenPacket, last, hear}
 use Rattle.written_net.specs.Ledgers.{Ledger}
 use Rattle.written_net.specs.Channels.{master_id, is_agent, is_app, shape}
 use Rattle.written_net.specs.Sides.{Parcel}
@@ -34,9 +34,8 @@ use Rattle.fuxi_master.specs.declared.event.MasterEvent.TheVariants.{Packet as P
 use Rattle.fuxi_master.specs.declared.event.MasterRefusal.{MasterRefusal}
 use Rattle.fuxi_master.specs.declared.event.Outcome.{Outcome}
 use Rattle.fuxi_master.specs.declared.event.Outcome.TheVariants.{Done, Refused, Sent, Heard as HeardOne}
-use Rattle.core_join.specs.AgentInWorld.{IsRuled}
+use Rattle.written_parties.specs.SeenParties.{IsRuled}
 use Rattle.core_join.specs.MasterInWorld.{MasterStandsIn, MasterActsIn, MasterHearsIn, change_in, CommandActsIn, CommandsIn, CommandsInWorld, StepsInWorld}
-use Rattle.core_join.proofs.Ruled.{hear_ruled}
 
 -- The laws of the join that speak of a running master
 pub record JoinLaws : Type 0 where
@@ -45,6 +44,7 @@ pub record JoinLaws : Type 0 where
   pub keeps : (c : ClusterRecord) (M : Master) (from to : Id) (h : List Ledger) → Leads (report_excess c from) from to h → Leads (kept_excess c M from) from to h
   pub commands : (w : World) (e : ℕ) (M : Master) (x : MasterCommand) → Sound shape w.net → find nat_cmp e w.masters ≡ Some M → MasterCommanded w M (commanded w e x) (master_commanded (master_seen w M) w.hard x)
   pub turns : (w : World) (M : Master) → Sound shape w.net → MasterActs w (turned w (master_party M) (peers w.cluster M)).world M M (master_seen w M) (master_turn (master_seen w M))
+  pub ruled : (p : Party) (talks : Bool) (top : ℕ) (l : Link) (x : WrittenPacket) → IsRuled (hear p talks top l x).what
   pub resyncs : (w : World) (M : Master) → Sound shape w.net → MasterActs w (resynced w (master_party M) (peers w.cluster M)).world M M (master_resynced (master_seen w M)) []
 
 -- Which outcome it is, by the answer that it gives
@@ -105,9 +105,9 @@ peer_leads w M q leads t = by (is_agent q.id) (is_app q.id) refl refl t
     by false false e f t = cc
 
 -- a packet, by the join of its hearing
-heard_in : (w : World) (M : Master) (x : WrittenPacket) (packet : Packet) (old new : CoreRecord) (outcome : Outcome) → MasterStandsIn w M old → MasterHearsAlike (kept_excess w.cluster M) w M x → parcel_is packet ≡ parcel_of w.net x
+heard_in : ((p : Party) (talks : Bool) (top : ℕ) (l : Link) (x : WrittenPacket) → IsRuled (hear p talks top l x).what) → (w : World) (M : Master) (x : WrittenPacket) (packet : Packet) (old new : CoreRecord) (outcome : Outcome) → MasterStandsIn w M old → MasterHearsAlike (kept_excess w.cluster M) w M x → parcel_is packet ≡ parcel_of w.net x
     → StepsAlike (PacketComes packet) old new outcome → MasterHearsIn w M x new outcome
-heard_in w M x packet old new outcome s join is steps =
+heard_in ruled w M x packet old new outcome s join is steps =
     let r = master_seen w M in
     let p = master_party M in
     let excess = kept_excess w.cluster M in
@@ -122,7 +122,7 @@ heard_in w M x packet old new outcome s join is steps =
       answers = h.answers;
       fresh = h.fresh ∙ join.fresh;
       says = says;
-      ruled = subst IsRuled (sym says) (hear_ruled p (talks w.cluster M x.from.id) (last w.net p x.from.id) (w.net.links p x.from.id) x);
+      ruled = subst IsRuled (sym says) (ruled p (talks w.cluster M x.from.id) (last w.net p x.from.id) (w.net.links p x.from.id) x);
     }
 
 -- a packet of the world
@@ -130,7 +130,7 @@ hears_in : JoinLaws → (packet : Packet) (old new : CoreRecord) (outcome : Outc
 hears_in laws packet old new outcome steps w M which x s leads at to is =
     let kept : talks w.cluster M x.from.id ≡ true → Leads (kept_excess w.cluster M x.from.id) x.from.id x.to.id (w.net.histories x.from x.to.id) =
     λ t. subst (λ d. Leads (kept_excess w.cluster M x.from.id) x.from.id d (w.net.histories x.from d)) (sym to) (laws.keeps w.cluster M x.from.id master_id (w.net.histories x.from master_id) (peer_leads w M x.from leads t)) in
-    heard_in w M x packet old new outcome s (laws.hears w M which x at s.good.stands.sound to kept) is steps
+    heard_in laws.ruled w M x packet old new outcome s (laws.hears w M which x at s.good.stands.sound to kept) is steps
 
 -- Commands. One that is done prints nothing
 quiet : (w : World) (M : Master) (x : MasterCommand) (k : Commanded) → find nat_cmp M.epoch w.masters ≡ Some M → command_of w.cluster w.hard M x ≡ Ok k → (commanded w M.epoch x).lines ≡ []

@@ -1,3 +1,1 @@
-pub mod AgentInWorld
-pub mod AppInWorld
 pub mod MasterInWorld

@@ -26,7 +26,7 @@ use Rattle.fuxi_master.specs.declared.event.MasterEvent.{MasterEvent}
 use Rattle.fuxi_master.specs.declared.event.MasterEvent.TheVariants.{Packet as PacketComes, Admit, Finish, Ban, Unban, Begin, Preempt, Turn, TurnTo, Resync}
 use Rattle.fuxi_master.specs.declared.event.Outcome.{Outcome}
 use Rattle.fuxi_master.specs.declared.event.Outcome.TheVariants.{Done, Refused, Sent, Heard as HeardOne}
-use Rattle.core_join.specs.AgentInWorld.{IsRuled}
+use Rattle.written_parties.specs.SeenParties.{IsRuled}
 
 -- a core stands for a running master of a good world
 pub record MasterStandsIn (w : World) (M : Master) (core : CoreRecord) : Type 0 where

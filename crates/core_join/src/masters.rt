@@ -11,6 +11,7 @@ ghost use Rattle.fuxi_master.specs.declared.event.Outcome.{Outcome};
 ghost use Rattle.core_join.specs.MasterInWorld.{MasterStartsInWorld, StepsInWorld};
 
 use written_join::{kept_reports_lead, masters_join};
+use written_parties::words_are_ruled;
 
 /// The calls of a master in the world. A start stands for the master that a start above the fence puts into the world, with the hard
 /// state that the start has written; of its steps a packet of the world that is for it is heard as the world hears it, and the words
@@ -22,4 +23,5 @@ pub fn masters_in_world()
 {
     masters_join();
     kept_reports_lead();
+    words_are_ruled();
 }

@@ -23,7 +23,7 @@ use Rattle.fuxi_master.specs.Steps.{refusal_of, told_by}
 use Rattle.fuxi_master.specs.declared.event.MasterEvent.{MasterEvent}
 use Rattle.fuxi_master.specs.declared.event.MasterEvent.TheVariants.{Packet as PacketComes, Admit, Finish, Ban, Unban, Begin, Preempt, Turn, TurnTo, Resync}
 use Rattle.fuxi_master.specs.declared.event.MasterRefusal.{MasterRefusal}
-use Rattle.core_join.specs.AgentInWorld.{IsRuled}
+use Rattle.written_parties.specs.SeenParties.{IsRuled}
 use Rattle.core_join.specs.MasterInWorld.{IsWritten, change_in}
 use Rattle.running_masters.specs.RunningMasters.{MastersRecord, AreMastersOf}
 

@@ -17,15 +17,25 @@ use Rattle.written_world.specs.World.{World, Agent, App}
 use Rattle.written_world.specs.Quiet.{is_at_rest, is_agent_quiet, is_app_quiet, is_quiet}
 use Rattle.agent_core.specs.AgentCores.{AgentCore}
 use Rattle.app_master.specs.AppCores.{AppCore}
-use Rattle.running_agents.specs.RunningAgents.{AgentsRecord, AreAgentsOf, RunsAs, StandsAt, agent_in}
-use Rattle.running_apps.specs.RunningApps.{AppsRecord, AreAppsOf, AppRunsAs, AppStandsAt, app_in}
+use Rattle.party_slots.specs.Slots.{SlotsRecord, slot_at}
+use Rattle.party_slots.specs.Peers.{AreAgentsOf, AreAppsOf, AgentRunsAs, AppRunsAs, AgentAt, AppAt}
 
--- who runs
-pub agent_runs : (w : World) (x : AgentsRecord) (m : ℕ) (a : AgentCore) → AreAgentsOf w x → Some a ≡ agent_in x m → RunsAs w m a
-agent_runs w x m a s is = subst (StandsAt w m) (sym is) (s.each m)
+-- The laws of those who run, as they are called for
+abbrev pub AgentsRun : Type 0
+AgentsRun = (w : World) (x : SlotsRecord AgentCore) → AreAgentsOf w x → (m : ℕ) → AgentAt w m (slot_at x m)
 
-pub app_runs : (w : World) (x : AppsRecord) (n : ℕ) (a : AppCore) → AreAppsOf w x → Some a ≡ app_in x n → AppRunsAs w n a
-app_runs w x n a s is = subst (AppStandsAt w n) (sym is) (s.each n)
+abbrev pub AppsRun : Type 0
+AppsRun = (w : World) (x : SlotsRecord AppCore) → AreAppsOf w x → (n : ℕ) → AppAt w n (slot_at x n)
+
+pub agent_runs : AgentsRun → (w : World) (x : SlotsRecord AgentCore) (m : ℕ) (a : AgentCore) → AreAgentsOf w x → Some a ≡ slot_at x m → AgentRunsAs w m a
+agent_runs run w x m a s is = subst (AgentAt w m) (sym is) (run w x s m)
+
+pub app_runs : AppsRun → (w : World) (x : SlotsRecord AppCore) (n : ℕ) (a : AppCore) → AreAppsOf w x → Some a ≡ slot_at x n → AppRunsAs w n a
+app_runs run w x n a s is = subst (AppAt w n) (sym is) (run w x s n)
+
+-- no agent runs beyond the machines of the cluster
+pub no_agent_beyond : AgentsRun → (w : World) (x : SlotsRecord AgentCore) (n m : ℕ) → AreAgentsOf w x → n ≡ length w.cluster.machines → n ≤ m → find nat_cmp m w.agents ≡ None
+no_agent_beyond run w x n m of size far = let slots = of.slots in subst (AgentAt w m) (get_or_past x.parties m None (omega (arith, slots, size, far))) (run w x of m)
 
 -- of an agent that is reported, and of an application of a known job, nothing else is asked
 pub agent_quiet : (w : World) (M : Master) (m : ℕ) (rest : Bool) (g : Agent) → find nat_cmp m w.agents ≡ Some g → has_number m M.reported ≡ true
@@ -40,16 +50,14 @@ app_quiet w M n rest g runs known is =
     is ∙ sym (ap (λ o. with_found o true (is_app_quiet w M n)) runs ∙ ap (λ b. not b || is_at_rest w.net M (party (app_id n) g.boot)) known)
 
 -- no application runs of a number beyond those that jobs may have, so as many as these are all
-none_beyond : (w : World) (x : AppsRecord) (n : ℕ) → AreAppsOf w x → most_jobs ≤ n → find nat_cmp n w.apps ≡ None
-none_beyond w x n s far =
-    let wide = s.slots.wide in
-    subst (AppStandsAt w n) (get_or_past x.apps n None (omega (arith, wide, far))) (s.each n)
+pub no_app_beyond : AppsRun → (w : World) (x : SlotsRecord AppCore) (n : ℕ) → AreAppsOf w x → most_jobs ≤ n → find nat_cmp n w.apps ≡ None
+no_app_beyond run w x n s far = let wide = s.slots in subst (AppAt w n) (get_or_past x.parties n None (omega (arith, wide, far))) (run w x s n)
 
-pub all_jobs : (w : World) (M : Master) (x : AppsRecord) (i : ℕ) → AreAppsOf w x → most_jobs ≤ i → ((k : ℕ) → k < i → with_found (find nat_cmp k w.apps) true (is_app_quiet w M k) ≡ true)
+pub all_jobs : AppsRun → (w : World) (M : Master) (x : SlotsRecord AppCore) (i : ℕ) → AreAppsOf w x → most_jobs ≤ i → ((k : ℕ) → k < i → with_found (find nat_cmp k w.apps) true (is_app_quiet w M k) ≡ true)
     → (k : ℕ) → with_found (find nat_cmp k w.apps) true (is_app_quiet w M k) ≡ true
-all_jobs w M x i s most h k = elim (nat_lt k i) as (λ b. nat_lt k i ≡ b → with_found (find nat_cmp k w.apps) true (is_app_quiet w M k) ≡ true) [
+all_jobs run w M x i s most h k = elim (nat_lt k i) as (λ b. nat_lt k i ≡ b → with_found (find nat_cmp k w.apps) true (is_app_quiet w M k) ≡ true) [
   | true ↦ λ t. h k (grind (arith, nat_tests, t))
-  | false ↦ λ t. ap (λ o. with_found o true (is_app_quiet w M k)) (none_beyond w x k s (grind (arith, nat_tests, t, most)))
+  | false ↦ λ t. ap (λ o. with_found o true (is_app_quiet w M k)) (no_app_beyond run w x k s (grind (arith, nat_tests, t, most)))
 ] refl
 
 -- both together are the whole test

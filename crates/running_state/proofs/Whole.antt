@@ -1,14 +1,10 @@
 -- The parts of the state put together.
-use Rattle.std.proofs.Common.{◌≡◌, ℕ, ◌≤◌, List, [], ◌∷◌, ◌++◌, length, map, None, ◌∙◌, ap, subst, arith, append_assoc}
-use Rattle.std.specs.Ordering.{nat_cmp}
-use Rattle.std.specs.FinMap.Entries.{find}
-use Rattle.std.proofs.lemmas.List.{get_or_past}
+use Rattle.std.proofs.Common.{◌≡◌, ℕ, List, [], ◌∷◌, ◌++◌, length, map, ◌∙◌, ap, append_assoc}
 use Rattle.written_roles.specs.HardState.{HardState}
 use Rattle.written_join.specs.States.{hard_lines}
 use Rattle.written_world.specs.Outputs.{Line, State, Fence, Banned, Packets}
 use Rattle.written_world.specs.Show.{show, show_jobs}
 use Rattle.written_world.specs.World.{World}
-use Rattle.running_agents.specs.RunningAgents.{AgentsRecord, AreAgentsOf, StandsAt}
 use Rattle.running_state.specs.Parts.{show_masters, show_agents, show_apps, show_parties}
 
 -- lists in their order, whichever are put together first
@@ -18,7 +14,3 @@ together j b m a x p = append_assoc j b ((m ++ (a ++ x)) ++ p) ∙ ap (λ l. j +
 pub whole_state : (w : World) (h : HardState) (events packets : ℕ) → h ≡ w.hard → events ≡ w.events → packets ≡ length w.net.packets → State events ∷ hard_lines h ++ (show_parties w ++ Packets packets ∷ []) ≡ show w
 whole_state w h events packets is so many = (λ i. State (so i) ∷ hard_lines (is i) ++ (show_parties w ++ Packets (many i) ∷ []))
     ∙ ap (λ ls. State w.events ∷ Fence w.hard.fence ∷ ls) (together (show_jobs w.hard.jobs) (map (λ m. Banned m) w.hard.bans) (show_masters w) (show_agents w) (show_apps w) (Packets (length w.net.packets) ∷ []))
-
--- no agent runs beyond the machines of the cluster
-pub no_agent_beyond : (w : World) (x : AgentsRecord) (n m : ℕ) → AreAgentsOf w x → n ≡ length w.cluster.machines → n ≤ m → find nat_cmp m w.agents ≡ None
-no_agent_beyond w x n m of size far = let slots = of.slots in subst (StandsAt w m) (get_or_past x.agents m None (omega (arith, slots, size, far))) (of.each m)

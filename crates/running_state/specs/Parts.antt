@@ -10,8 +10,7 @@ use Rattle.written_world.specs.Outputs.{Line}
 use Rattle.written_world.specs.Show.{show_master, show_agent, show_app}
 use Rattle.agent_core.specs.AgentCores.{AgentCore}
 use Rattle.app_master.specs.AppCores.{AppCore}
-use Rattle.running_agents.specs.RunningAgents.{AgentsRecord, agent_in}
-use Rattle.running_apps.specs.RunningApps.{AppsRecord, app_in}
+use Rattle.party_slots.specs.Slots.{SlotsRecord, slot_at}
 
 -- of an epoch its master, where one runs, of a machine its agent, and of a job its application
 abbrev pub epoch_lines : World → ℕ → List Line
@@ -37,8 +36,8 @@ abbrev pub show_parties : World → List Line
 show_parties w = show_masters w ++ (show_agents w ++ show_apps w)
 
 -- each agent has the number of the machine where it stands, and each application that of its job
-abbrev pub AreOnMachines : AgentsRecord → Type 0
-AreOnMachines x = (m : ℕ) (a : AgentCore) → agent_in x m ≡ Some a → m ≡ a.machine
+abbrev pub AreOnMachines : SlotsRecord AgentCore → Type 0
+AreOnMachines x = (m : ℕ) (a : AgentCore) → slot_at x m ≡ Some a → m ≡ a.machine
 
-abbrev pub AreOfJobs : AppsRecord → Type 0
-AreOfJobs x = (a : ℕ) (core : AppCore) → app_in x a ≡ Some core → a ≡ core.job
+abbrev pub AreOfJobs : SlotsRecord AppCore → Type 0
+AreOfJobs x = (a : ℕ) (core : AppCore) → slot_at x a ≡ Some core → a ≡ core.job

@@ -4,8 +4,10 @@ use Rattle.fuxi_terms.specs.Cluster.{ClusterRecord}
 use Rattle.written_roles.specs.HardState.{HardState}
 use Rattle.written_world.specs.World.{World}
 use Rattle.written_world.specs.Good.{Good}
-use Rattle.running_agents.specs.RunningAgents.{AgentsRecord, AreAgentsOf}
-use Rattle.running_apps.specs.RunningApps.{AppsRecord, AreAppsOf}
+use Rattle.agent_core.specs.AgentCores.{AgentCore}
+use Rattle.app_master.specs.AppCores.{AppCore}
+use Rattle.party_slots.specs.Slots.{SlotsRecord}
+use Rattle.party_slots.specs.Peers.{AreAgentsOf, AreAppsOf}
 use Rattle.running_masters.specs.RunningMasters.{MastersRecord, AreMastersOf}
 use Rattle.written_world.specs.Orders.{IsInOrder}
 
@@ -13,8 +15,8 @@ pub record Running : Type 0 where
   pub cluster : ClusterRecord
   pub hard : HardState
   pub masters : MastersRecord
-  pub agents : AgentsRecord
-  pub apps : AppsRecord
+  pub agents : SlotsRecord AgentCore
+  pub apps : SlotsRecord AppCore
 
 -- it is what runs in a good world whose parties stand in order
 pub record IsRunningOf (w : World) (r : Running) : Type 0 where

@@ -6,24 +6,30 @@ ghost use Rattle.std.specs.FinMap.Entries.{is_sorted};
 ghost use Rattle.written_world.specs.World.{World};
 ghost use Rattle.schedule_text.specs.Writing.{Begins};
 ghost use Rattle.party_text.specs.Texts.{Shows};
-ghost use Rattle.running_agents.specs.RunningAgents.{AreAgentsOf};
+ghost use Rattle.party_slots.specs.Peers.{AreAgentsOf};
 ghost use Rattle.running_state.specs.Parts.{AreOnMachines, machine_lines, show_agents};
 
+use agent_core::Agent;
 use fuxi_terms::OutOfMemory;
+use party_slots::{Slots, peers_run};
 use party_text::write_agent;
-use running_agents::Agents;
 use schedule_unit::MachineNo;
 use written_join::states_are_alone;
 
 // The agent of a machine, where one runs.
-fn write_agent_of(agents: &Agents, machine: MachineNo, out: &mut Vec<u8>) -> Result<(), OutOfMemory>
+fn write_agent_of(
+    agents: &Slots<Agent>,
+    machine: MachineNo,
+    out: &mut Vec<u8>,
+) -> Result<(), OutOfMemory>
     requires { AreOnMachines agents.now }
     ensures ok { OnOk result ((w : World) → AreAgentsOf w agents.now → Shows (machine_lines w machine.0) out.old.items out.new.items) }
     ensures begins { Begins out.old.items out.new.items }
 {
     // What a world prints of an agent is what that one prints by itself.
     states_are_alone();
-    match agents.get(machine) {
+    peers_run();
+    match agents.get(machine.0) {
         Some(agent) => match write_agent(agent, machine, out) {
             Ok(()) => Ok(()),
             Err(refusal) => Err(refusal),
@@ -35,7 +41,7 @@ fn write_agent_of(agents: &Agents, machine: MachineNo, out: &mut Vec<u8>) -> Res
 // The agents, machine by machine.
 #[tactic(auto, using(written_join::proofs::ShowsLemmas::begins_then))]
 pub(crate) fn write_agents(
-    agents: &Agents,
+    agents: &Slots<Agent>,
     machines: u32,
     out: &mut Vec<u8>,
 ) -> Result<(), OutOfMemory>
@@ -44,6 +50,8 @@ pub(crate) fn write_agents(
         → Shows (show_agents w) out.old.items out.new.items) }
     ensures begins { Begins out.old.items out.new.items }
 {
+    // No agent runs beyond the machines of the cluster.
+    peers_run();
     for number in 0..machines {
         match write_agent_of(agents, MachineNo(number), out) {
             Ok(()) => {}

@@ -6,25 +6,27 @@ ghost use Rattle.std.specs.FinMap.Entries.{is_sorted};
 ghost use Rattle.written_world.specs.World.{World};
 ghost use Rattle.schedule_text.specs.Writing.{Begins};
 ghost use Rattle.party_text.specs.Texts.{Shows};
-ghost use Rattle.running_apps.specs.RunningApps.{AreAppsOf};
+ghost use Rattle.party_slots.specs.Peers.{AreAppsOf};
 ghost use Rattle.running_state.specs.Parts.{AreOfJobs, job_lines, show_apps};
 
+use app_master::AppMaster;
 use fuxi_terms::OutOfMemory;
 use fuxi_terms::limits::MOST_JOBS;
+use party_slots::{Slots, peers_run};
 use party_text::write_app;
-use running_apps::{Apps, none_beyond};
 use schedule_unit::AppNo;
 use written_join::states_are_alone;
 
 // The application of a job, where one runs.
-fn write_app_of(apps: &Apps, app: AppNo, out: &mut Vec<u8>) -> Result<(), OutOfMemory>
+fn write_app_of(apps: &Slots<AppMaster>, app: AppNo, out: &mut Vec<u8>) -> Result<(), OutOfMemory>
     requires { AreOfJobs apps.now }
     ensures ok { OnOk result ((w : World) → AreAppsOf w apps.now → Shows (job_lines w app.0) out.old.items out.new.items) }
     ensures begins { Begins out.old.items out.new.items }
 {
     // What a world prints of an application is what that one prints by itself.
     states_are_alone();
-    match apps.get(app) {
+    peers_run();
+    match apps.get(app.0) {
         Some(master) => match write_app(master, app, out) {
             Ok(()) => Ok(()),
             Err(refusal) => Err(refusal),
@@ -35,13 +37,13 @@ fn write_app_of(apps: &Apps, app: AppNo, out: &mut Vec<u8>) -> Result<(), OutOfM
 
 // The applications, job by job.
 #[tactic(auto, using(written_join::proofs::ShowsLemmas::begins_then))]
-pub(crate) fn write_apps(apps: &Apps, out: &mut Vec<u8>) -> Result<(), OutOfMemory>
+pub(crate) fn write_apps(apps: &Slots<AppMaster>, out: &mut Vec<u8>) -> Result<(), OutOfMemory>
     requires { AreOfJobs apps.now }
     ensures ok { OnOk result ((w : World) → AreAppsOf w apps.now → T (is_sorted nat_cmp w.apps) → Shows (show_apps w) out.old.items out.new.items) }
     ensures begins { Begins out.old.items out.new.items }
 {
     // No application runs beyond the numbers that a job may have.
-    none_beyond();
+    peers_run();
     for number in 0..MOST_JOBS {
         match write_app_of(apps, AppNo(number), out) {
             Ok(()) => {}

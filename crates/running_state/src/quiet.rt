@@ -11,17 +11,17 @@ ghost use Rattle.written_world.specs.World.{World, App};
 ghost use Rattle.written_world.specs.Quiet.{is_quiet, is_agent_quiet, is_app_quiet};
 ghost use Rattle.written_join.specs.SeenWorlds.{master_seen};
 ghost use Rattle.fuxi_master.specs.Cores.{StandsFor};
-ghost use Rattle.running_agents.specs.RunningAgents.{AreAgentsOf};
-ghost use Rattle.running_apps.specs.RunningApps.{AreAppsOf};
+ghost use Rattle.party_slots.specs.Peers.{AreAgentsOf, AreAppsOf};
 ghost use Rattle.running_state.specs.ShownStates.{IsKnown, IsRunningOf};
 
 use crate::ends::{agent_end, app_end, are_at_rest, master_end};
+use agent_core::Agent;
+use app_master::AppMaster;
 use cluster_desc::Cluster;
 use fuxi_master::Master;
 use fuxi_terms::limits::MOST_JOBS;
 use hard_state::Hard;
-use running_agents::Agents;
-use running_apps::Apps;
+use party_slots::{Slots, peers_run};
 use running_masters::Masters;
 use schedule_unit::{AppNo, MachineNo, Party, Role};
 
@@ -31,8 +31,8 @@ pub fn is_quiet(
     cluster: &Cluster,
     hard: &Hard,
     masters: &Masters,
-    agents: &Agents,
-    apps: &Apps,
+    agents: &Slots<Agent>,
+    apps: &Slots<AppMaster>,
     epoch: u64,
 ) -> bool
     requires known { IsKnown (record { cluster = cluster.now; hard = hard.now.value; masters = masters.now; agents = agents.now; apps = apps.now }) }
@@ -48,7 +48,7 @@ pub fn is_quiet(
 }
 
 // Whether each agent of a cluster of so many machines runs, is reported, and is at rest with the master.
-fn are_agents_quiet(master: &Master, agents: &Agents, machines: u32) -> bool
+fn are_agents_quiet(master: &Master, agents: &Slots<Agent>, machines: u32) -> bool
     requires { machines ≡ length master.now.core.allotment.table.cluster.machines }
     ensures { (w : World) (m : WrittenMaster) → StandsFor master.now.core (master_seen w m) → AreAgentsOf w agents.now
         → result ≡ list_all (is_agent_quiet w m) (below machines) }
@@ -61,12 +61,13 @@ fn are_agents_quiet(master: &Master, agents: &Agents, machines: u32) -> bool
     true
 }
 
-fn is_agent_quiet(master: &Master, agents: &Agents, machine: MachineNo) -> bool
+fn is_agent_quiet(master: &Master, agents: &Slots<Agent>, machine: MachineNo) -> bool
     requires { machine.0 < length master.now.core.allotment.table.cluster.machines }
     ensures { (w : World) (m : WrittenMaster) → StandsFor master.now.core (master_seen w m) → AreAgentsOf w agents.now
         → result ≡ is_agent_quiet w m machine.0 }
 {
-    let Some(agent) = agents.get(machine) else {
+    peers_run();
+    let Some(agent) = agents.get(machine.0) else {
         return false;
     };
     if !master.reported().has(machine) {
@@ -81,10 +82,12 @@ fn is_agent_quiet(master: &Master, agents: &Agents, machine: MachineNo) -> bool
 }
 
 // Whether each application that runs of a job of the master's is at rest with it.
-fn are_apps_quiet(master: &Master, apps: &Apps) -> bool
+fn are_apps_quiet(master: &Master, apps: &Slots<AppMaster>) -> bool
     ensures { (w : World) (m : WrittenMaster) → StandsFor master.now.core (master_seen w m) → AreAppsOf w apps.now → T (is_sorted nat_cmp w.apps)
         → result ≡ list_all (λ (g : ℕ × App). is_app_quiet w m g.0 g.1) w.apps }
 {
+    // No application runs beyond the numbers that a job may have.
+    peers_run();
     for number in 0..MOST_JOBS {
         if !is_app_quiet(master, apps, AppNo(number)) {
             return false;
@@ -94,11 +97,12 @@ fn are_apps_quiet(master: &Master, apps: &Apps) -> bool
 }
 
 // A job whose application does not run is quiet, and so is one that the master does not know.
-fn is_app_quiet(master: &Master, apps: &Apps, app: AppNo) -> bool
+fn is_app_quiet(master: &Master, apps: &Slots<AppMaster>, app: AppNo) -> bool
     ensures { (w : World) (m : WrittenMaster) → StandsFor master.now.core (master_seen w m) → AreAppsOf w apps.now
         → result ≡ with_found (find nat_cmp app.0 w.apps) true (is_app_quiet w m app.0) }
 {
-    let Some(core) = apps.get(app) else {
+    peers_run();
+    let Some(core) = apps.get(app.0) else {
         return true;
     };
     if !master.knows(app) {

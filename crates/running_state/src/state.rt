@@ -6,8 +6,7 @@ ghost use Rattle.written_world.specs.Show.{show};
 ghost use Rattle.written_world.specs.Orders.{IsInOrder};
 ghost use Rattle.schedule_text.specs.Writing.{Begins};
 ghost use Rattle.party_text.specs.Texts.{Shows};
-ghost use Rattle.running_agents.specs.RunningAgents.{AreAgentsOf};
-ghost use Rattle.running_apps.specs.RunningApps.{AreAppsOf};
+ghost use Rattle.party_slots.specs.Peers.{AreAgentsOf, AreAppsOf};
 ghost use Rattle.running_masters.specs.RunningMasters.{AreMastersOf};
 ghost use Rattle.running_state.specs.Parts.{AreOfJobs, AreOnMachines, show_parties};
 ghost use Rattle.running_state.specs.ShownStates.{IsKnown, IsRunningOf};
@@ -15,13 +14,14 @@ ghost use Rattle.running_state.specs.ShownStates.{IsKnown, IsRunningOf};
 use crate::agents::write_agents;
 use crate::apps::write_apps;
 use crate::masters::write_masters;
+use agent_core::Agent;
+use app_master::AppMaster;
 use cluster_desc::Cluster;
 use fuxi_terms::OutOfMemory;
 use hard_state::Hard;
 use master_text::write_hard;
+use party_slots::{Slots, peers_run};
 use party_text::write_line;
-use running_agents::Agents;
-use running_apps::Apps;
 use running_masters::Masters;
 use schedule_text::Output;
 
@@ -30,8 +30,8 @@ use schedule_text::Output;
 fn write_parties(
     machines: u32,
     masters: &Masters,
-    agents: &Agents,
-    apps: &Apps,
+    agents: &Slots<Agent>,
+    apps: &Slots<AppMaster>,
     out: &mut Vec<u8>,
 ) -> Result<(), OutOfMemory>
     requires agents { AreOnMachines agents.now }
@@ -61,8 +61,8 @@ pub fn write_state(
     cluster: &Cluster,
     hard: &Hard,
     masters: &Masters,
-    agents: &Agents,
-    apps: &Apps,
+    agents: &Slots<Agent>,
+    apps: &Slots<AppMaster>,
     events: u64,
     packets: u64,
     out: &mut Vec<u8>,
@@ -72,6 +72,7 @@ pub fn write_state(
         → events ≡ w.events → packets ≡ length w.net.packets → Shows (show w) out.old.items out.new.items) }
     ensures err { OnErr result (Begins out.old.items out.new.items) }
 {
+    peers_run();
     match write_line(&Output::State(events), out) {
         Ok(()) => {}
         Err(refusal) => return Err(refusal),

@@ -11,17 +11,22 @@ use Rattle.written_world.specs.Safe.{Safe, RowsFit}
 use Rattle.written_join.specs.SeenWorlds.{side_of}
 use Rattle.agent_core.specs.AgentCores.{AgentCore, Up, IsUp, table_in}
 use Rattle.app_master.specs.AppCores.{AppCore}
-use Rattle.running_agents.specs.RunningAgents.{agent_in, RunsAs, StandsAt}
-use Rattle.running_apps.specs.RunningApps.{app_in, AppRunsAs, AppStandsAt}
+use Rattle.party_slots.specs.Slots.{SlotsRecord, slot_at}
+use Rattle.party_slots.specs.Peers.{AreAgentsOf, AreAppsOf, AgentAt, AppAt, AgentRunsAs, AppRunsAs}
 use Rattle.schedule_replay.specs.Worlds.{WorldRecord, StandsFor}
 use Rattle.schedule_replay.specs.Promises.{TablesFit}
 
 -- who runs
-pub agent_runs : (r : WorldRecord) (w : World) (m : ℕ) (a : AgentCore) → StandsFor r w → agent_in r.agents m ≡ Some a → RunsAs w m a
-agent_runs r w m a s is = subst (StandsAt w m) is (s.agents.each m)
+-- by the law of those who run, as it is called for
+pub record PeersRun : Type 0 where
+  pub agents : (w : World) (x : SlotsRecord AgentCore) → AreAgentsOf w x → (m : ℕ) → AgentAt w m (slot_at x m)
+  pub apps : (w : World) (x : SlotsRecord AppCore) → AreAppsOf w x → (n : ℕ) → AppAt w n (slot_at x n)
 
-pub app_runs : (r : WorldRecord) (w : World) (n : ℕ) (a : AppCore) → StandsFor r w → app_in r.apps n ≡ Some a → AppRunsAs w n a
-app_runs r w n a s is = subst (AppStandsAt w n) is (s.apps.each n)
+pub agent_runs : PeersRun → (r : WorldRecord) (w : World) (m : ℕ) (a : AgentCore) → StandsFor r w → slot_at r.agents m ≡ Some a → AgentRunsAs w m a
+agent_runs run r w m a s is = subst (AgentAt w m) is (run.agents w r.agents s.agents m)
+
+pub app_runs : PeersRun → (r : WorldRecord) (w : World) (n : ℕ) (a : AppCore) → StandsFor r w → slot_at r.apps n ≡ Some a → AppRunsAs w n a
+app_runs run r w n a s is = subst (AppAt w n) is (run.apps w r.apps s.apps n)
 
 -- the table of a core is that of its agent
 pub table_is : (net : Net Ledger) (m boot : ℕ) (d : Up) → IsUp d boot (side_of net (party (agent_id m) boot) master_id) → agent_table net (party (agent_id m) boot) ≡ table_in d
@@ -31,8 +36,8 @@ table_is net m boot d is =
     let got = ap (λ (l : Ledger). l.rows) is.got in
     λ i. cond (nat_eq (seq i) 0) (own i) (got i)
 
-pub tables_fit : (r : WorldRecord) (w : World) → StandsFor r w → Safe w → TablesFit r
-tables_fit r w s safe m a is =
-    let g = agent_runs r w m a s is in
+pub tables_fit : PeersRun → (r : WorldRecord) (w : World) → StandsFor r w → Safe w → TablesFit r
+tables_fit run r w s safe m a is =
+    let g = agent_runs run r w m a s is in
     subst (λ (c : ClusterRecord). RowsFit c m (table_in a.up)) (sym s.cluster)
     (subst (RowsFit w.cluster m) (table_is w.net m g.agent.boot a.up g.stands.up) (safe.capacity m g.agent g.runs))

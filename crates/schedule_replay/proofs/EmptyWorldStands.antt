@@ -10,8 +10,8 @@ use Rattle.written_world.specs.Orders.{IsInOrder}
 use Rattle.fuxi_master.specs.Cores.{MasterRecord}
 use Rattle.packet_pool.specs.PacketPools.{Keeps, no_frames}
 use Rattle.schedule_replay.specs.Held.{IsOpen}
-use Rattle.running_agents.specs.RunningAgents.{AreAgentsOf, AreWithin as AgentsWithin}
-use Rattle.running_apps.specs.RunningApps.{AreAppsOf, AreWithin as AppsWithin}
+use Rattle.party_slots.specs.Slots.{AreWithin as PeersWithin}
+use Rattle.party_slots.specs.Peers.{AreAgentsOf, AreAppsOf, agent_steps, app_steps}
 use Rattle.running_masters.specs.RunningMasters.{AreMastersOf}
 use Rattle.schedule_replay.specs.Worlds.{WorldRecord, IsReached, IsWorld, StandsFor, AreWithin, event_steps}
 use Rattle.schedule_replay.proofs.CommandSteps.{not_none}
@@ -33,7 +33,7 @@ stands_for_empty c r cluster hard rests masters agents apps pool events = record
 }
 
 -- no core took a step
-pub starts_reached : (c : ClusterRecord) (r : WorldRecord) → IsWorld (empty_world c) → StandsFor r (empty_world c) → r.masters.masters ≡ [] → AgentsWithin 0 r.agents → AppsWithin 0 r.apps → r.events ≡ 0 → IsReached r
+pub starts_reached : (c : ClusterRecord) (r : WorldRecord) → IsWorld (empty_world c) → StandsFor r (empty_world c) → r.masters.masters ≡ [] → PeersWithin agent_steps 0 r.agents → PeersWithin app_steps 0 r.apps → r.events ≡ 0 → IsReached r
 starts_reached c r is stands none agents apps events = record {
   world = empty_world c;
   is = is;

@@ -3,7 +3,8 @@ use Rattle.std.proofs.Common.{◌≡◌, ℕ, true, [], ◌∷◌, Option, Some,
 use Rattle.std.proofs.lemmas.Bool.Decides.{nat_tests}
 use Rattle.fuxi_terms.specs.Cluster.{is_valid_cluster}
 use Rattle.fuxi_terms.proofs.Booleans.{both_true}
-use Rattle.schedule_unit.specs.declared.party.Role.TheVariants.{Master}
+use Rattle.schedule_unit.specs.declared.party.Role.{Role}
+use Rattle.schedule_unit.specs.declared.party.Role.TheVariants.{Master, Agent, App}
 use Rattle.party_ledgers.specs.Packets.{IsFormed, is_number_of}
 use Rattle.party_ledgers.specs.declared.packets.Packet.{Packet}
 use Rattle.party_ledgers.specs.declared.packets.Heard.{Heard}
@@ -18,17 +19,18 @@ use Rattle.written_world.specs.Outputs.{Came}
 use Rattle.written_world.specs.Events.{addressed, heard_by, heard_line}
 use Rattle.written_join.specs.SeenWorlds.{parcel_of}
 use Rattle.written_join.specs.Leading.{AllLead}
-use Rattle.core_join.specs.AgentInWorld.{agent_at}
-use Rattle.core_join.specs.AppInWorld.{app_at}
-use Rattle.running_agents.specs.RunningAgents.{AgentsRecord, HearInWorld as AgentHears, HearsOneIn as AgentHearsOneIn}
-use Rattle.running_apps.specs.RunningApps.{AppsRecord, HearInWorld as AppHears, HearsOneIn as AppHearsOneIn}
+use Rattle.agent_core.specs.AgentCores.{AgentCore}
+use Rattle.app_master.specs.AppCores.{AppCore}
+use Rattle.written_parties.specs.SeenParties.{Agents, Apps}
+use Rattle.party_slots.specs.Slots.{SlotsRecord, HearInWorld, HearsOneIn}
+use Rattle.party_slots.specs.Peers.{AgentStands, AppStands}
 use Rattle.running_masters.specs.RunningMasters.{MastersRecord}
 use Rattle.running_masters.specs.MasterCalls.{HearIn, HearsInWorld as MastersHear, IsHeardAs}
 use Rattle.schedule_replay.specs.Worlds.{WorldRecord, StandsFor}
 use Rattle.schedule_replay.specs.Moves.{HearsIn, IsHeardIn, heard_lines}
 use Rattle.schedule_replay.proofs.RestStands.{keeps_none}
 use Rattle.schedule_replay.proofs.MastersActInWorld.{MastersAct}
-use Rattle.schedule_replay.proofs.PeersActInWorld.{AgentsAct, AppsAct, agent_acts, app_acts, with_agents, with_apps}
+use Rattle.schedule_replay.proofs.PeersActInWorld.{AgentsAct, AppsAct, with_agents, with_apps}
 
 -- In a good world on a valid cluster all lead, as the law of changes states it
 abbrev pub Leads : Type 0
@@ -41,35 +43,39 @@ came_as number heard word o is fresh says =
 lost_as : (number : ℕ) (o : Option WrittenHeard) → o ≡ None → heard_lines number None ≡ heard_line number o ∷ []
 lost_as number o is = ap (λ t. heard_line number t ∷ []) (sym is)
 
+-- who hears a packet is whom it names
+for_peer : (packet : Packet) (net : Net Ledger) (x : WrittenPacket) (role : Role) → packet.to.role ≡ role → parcel_is packet ≡ parcel_of net x → x.to.id ≡ id_of role packet.to.number
+for_peer packet net x role is same = let to : id_of packet.to.role packet.to.number ≡ x.to.id = ap (λ (p : Parcel). p.packet.to.id) same in sym to ∙ ap (λ r. id_of r packet.to.number) is
+
 -- Agents
-agent_hears_in : AgentsAct → (w : World) (x : WrittenPacket) (old : WorldRecord) (agents : AgentsRecord) (heard : Option Heard) → StandsFor old w → AgentHearsOneIn w x agents heard → IsHeardIn w x (record old { agents = agents }) heard
-agent_hears_in act w x old agents None s h = record {
+agent_hears_in : AgentsAct → (w : World) (n : ℕ) (x : WrittenPacket) (old : WorldRecord) (agents : SlotsRecord AgentCore) (heard : Option Heard) → StandsFor old w → HearsOneIn AgentStands Agents w n x agents heard → IsHeardIn w x (record old { agents = agents }) heard
+agent_hears_in act w n x old agents None s h = record {
   stands = subst (StandsFor (record old { agents = agents })) (sym h.same) (with_agents w old agents s h.stand);
   lines = λ number. lost_as number (heard_by w x) h.answers;
 }
-agent_hears_in act w x old agents (Some heard) s h = record {
-  stands = act w (addressed w x) (agent_at x.to.id.number h.agent) [] old agents old.pool s (agent_acts w (addressed w x) x.to.id.number h.agent agents [] h.world) (keeps_none old.pool);
+agent_hears_in act w n x old agents (Some heard) s h = record {
+  stands = act w (addressed w x) n [] old agents old.pool s h.world (keeps_none old.pool);
   lines = λ number. came_as number heard h.word (heard_by w x) h.answers h.fresh h.says;
 }
 
-pub agents_hear : AgentsAct → Leads → (packet : Packet) (old : WorldRecord) (agents : AgentsRecord) (heard : Option Heard) → AgentHears packet old.agents agents heard → HearsIn packet old (record old { agents = agents }) heard
-agents_hear act leads packet old agents heard h w which x is s there same =
-    agent_hears_in act w x old agents heard s (h w which x is.good (leads w is.valid is.good) s.agents there same)
+pub agents_hear : AgentsAct → Leads → (packet : Packet) (old : WorldRecord) (agents : SlotsRecord AgentCore) (heard : Option Heard) → packet.to.role ≡ Agent → HearInWorld AgentStands packet old.agents agents heard → HearsIn packet old (record old { agents = agents }) heard
+agents_hear act leads packet old agents heard role h w which x is s there same =
+    agent_hears_in act w packet.to.number x old agents heard s (h w Agents which x is.good (leads w is.valid is.good) s.agents there (for_peer packet w.net x Agent role same) same)
 
 -- Applications
-app_hears_in : AppsAct → (w : World) (x : WrittenPacket) (old : WorldRecord) (apps : AppsRecord) (heard : Option Heard) → StandsFor old w → AppHearsOneIn w x apps heard → IsHeardIn w x (record old { apps = apps }) heard
-app_hears_in act w x old apps None s h = record {
+app_hears_in : AppsAct → (w : World) (n : ℕ) (x : WrittenPacket) (old : WorldRecord) (apps : SlotsRecord AppCore) (heard : Option Heard) → StandsFor old w → HearsOneIn AppStands Apps w n x apps heard → IsHeardIn w x (record old { apps = apps }) heard
+app_hears_in act w n x old apps None s h = record {
   stands = subst (StandsFor (record old { apps = apps })) (sym h.same) (with_apps w old apps s h.stand);
   lines = λ number. lost_as number (heard_by w x) h.answers;
 }
-app_hears_in act w x old apps (Some heard) s h = record {
-  stands = act w (addressed w x) (app_at x.to.id.number h.app) [] old apps old.pool s (app_acts w (addressed w x) x.to.id.number h.app apps [] h.world) (keeps_none old.pool);
+app_hears_in act w n x old apps (Some heard) s h = record {
+  stands = act w (addressed w x) n [] old apps old.pool s h.world (keeps_none old.pool);
   lines = λ number. came_as number heard h.word (heard_by w x) h.answers h.fresh h.says;
 }
 
-pub apps_hear : AppsAct → Leads → (packet : Packet) (old : WorldRecord) (apps : AppsRecord) (heard : Option Heard) → AppHears packet old.apps apps heard → HearsIn packet old (record old { apps = apps }) heard
-apps_hear act leads packet old apps heard h w which x is s there same =
-    app_hears_in act w x old apps heard s (h w which x is.good (leads w is.valid is.good) s.apps there same)
+pub apps_hear : AppsAct → Leads → (packet : Packet) (old : WorldRecord) (apps : SlotsRecord AppCore) (heard : Option Heard) → packet.to.role ≡ App → HearInWorld AppStands packet old.apps apps heard → HearsIn packet old (record old { apps = apps }) heard
+apps_hear act leads packet old apps heard role h w which x is s there same =
+    app_hears_in act w packet.to.number x old apps heard s (h w Apps which x is.good (leads w is.valid is.good) s.apps there (for_peer packet w.net x App role same) same)
 
 -- Masters. A formed packet for a master has the number of one
 number_of_hearer : (packet : Packet) → IsFormed packet → is_number_of packet.to.role packet.to.number ≡ true
@@ -81,8 +87,7 @@ zero_of number is = grind (arith, nat_tests, is)
 for_master : (packet : Packet) (net : Net Ledger) (x : WrittenPacket) → packet.to.role ≡ Master → IsFormed packet → parcel_is packet ≡ parcel_of net x → x.to.id ≡ master_id
 for_master packet net x role f same =
     let number : packet.to.number ≡ 0 = zero_of packet.to.number (subst (λ r. is_number_of r packet.to.number ≡ true) role (number_of_hearer packet f)) in
-    let to : id_of packet.to.role packet.to.number ≡ x.to.id = ap (λ (p : Parcel). p.packet.to.id) same in
-    sym to ∙ ap (λ r. id_of r packet.to.number) role ∙ ap (λ n. id_of Master n) number
+    for_peer packet net x Master role same ∙ ap (λ n. id_of Master n) number
 
 heard_as : (number : ℕ) (heard : Option Heard) (o : Option WrittenHeard) → IsHeardAs heard o → heard_lines number heard ≡ heard_line number o ∷ []
 heard_as number None None h = refl

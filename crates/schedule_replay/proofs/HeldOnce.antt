@@ -25,11 +25,11 @@ use Rattle.written_join.specs.SeenWorlds.{app_seen}
 use Rattle.core_side.specs.Bodies.{tally_of}
 use Rattle.app_master.specs.AppCores.{AppCore, StandsFor as AppStandsFor}
 use Rattle.app_master.specs.Usable.{is_named, carried_at}
-use Rattle.running_apps.specs.RunningApps.{app_in}
+use Rattle.party_slots.specs.Slots.{slot_at}
 use Rattle.schedule_replay.specs.Worlds.{WorldRecord, StandsFor}
 use Rattle.schedule_replay.specs.CoreReads.{held_now}
 use Rattle.schedule_replay.specs.Promises.{IsOfOneEntry, AllHeldOnce}
-use Rattle.schedule_replay.proofs.CoresStandFor.{app_runs}
+use Rattle.schedule_replay.proofs.CoresStandFor.{PeersRun, app_runs}
 
 -- what a core holds is what its application holds
 pub held_is : (a : AppCore) (r : AppRole) (u m : ℕ) → AppStandsFor a r → u < a.units → m < a.machines → held_now a u m ≡ held_by r u m
@@ -66,9 +66,9 @@ granted a m u named = within (is_named a.up.incoming.received m) (count key_cmp 
     (uncredited (tally_of a.up.incoming.received) (tally_of a.up.outgoing.present) a.up.outgoing.own u m) (carried_at a.carried u m) named
 
 -- in a world, each is part of one entry
-one_entry : (r : WorldRecord) (w : World) (n : ℕ) (a : AppCore) (m : ℕ) → StandsFor r w → Safe w → app_in r.apps n ≡ Some a → has_machine r.cluster m ≡ true → IsOfOneEntry w n a m
-one_entry r w n a m s safe is there =
-    let g = app_runs r w n a s is in
+one_entry : PeersRun → (r : WorldRecord) (w : World) (n : ℕ) (a : AppCore) (m : ℕ) → StandsFor r w → Safe w → slot_at r.apps n ≡ Some a → has_machine r.cluster m ≡ true → IsOfOneEntry w n a m
+one_entry run r w n a m s safe is there =
+    let g = app_runs run r w n a s is in
     let p = party (app_id n) g.app.boot in
     let lm = machine_there a w n g.app r.cluster m g.stands s.cluster there in
     let once = (safe.once n g.app g.runs m).once in
@@ -85,10 +85,10 @@ one_entry r w n a m s safe is there =
     }
 
 -- together they fit
-held_fits : (r : WorldRecord) (w : World) (n : ℕ) (a : AppCore) (m i : ℕ) → StandsFor r w → Safe w → app_in r.apps n ≡ Some a → has_machine r.cluster m ≡ true → i < r.cluster.resources
+held_fits : PeersRun → (r : WorldRecord) (w : World) (n : ℕ) (a : AppCore) (m i : ℕ) → StandsFor r w → Safe w → slot_at r.apps n ≡ Some a → has_machine r.cluster m ≡ true → i < r.cluster.resources
     → units_total_at r.checkpoint.hard.value.jobs n a.units (λ u. held_now a u m) i ≤ has_at r.cluster m i
-held_fits r w n a m i s safe is there lt =
-    let g = app_runs r w n a s is in
+held_fits run r w n a m i s safe is there lt =
+    let g = app_runs run r w n a s is in
     let lm = machine_there a w n g.app r.cluster m g.stands s.cluster there in
     let jobs : r.checkpoint.hard.value.jobs ≡ w.hard.jobs = ap (λ (h : HardState). h.jobs) s.hard in
     let fits = (safe.once n g.app g.runs m).fits i (subst (λ (c : ClusterRecord). i < c.resources) s.cluster lt) in
@@ -99,9 +99,9 @@ held_fits r w n a m i s safe is there lt =
     subst (λ (c : ClusterRecord). units_total_at r.checkpoint.hard.value.jobs n a.units (λ u. held_now a u m) i ≤ has_at c m i) (sym s.cluster)
     (subst (λ k. k ≤ has_at w.cluster m i) (sym total) fits)
 
-pub all_held_once : (r : WorldRecord) (w : World) → ((v : World) → Good v → Safe v) → StandsFor r w → Good w → AllHeldOnce r
-all_held_once r w safe s good n a is m there = record {
-  fits = λ i lt. held_fits r w n a m i s (safe w good) is there lt;
+pub all_held_once : PeersRun → (r : WorldRecord) (w : World) → ((v : World) → Good v → Safe v) → StandsFor r w → Good w → AllHeldOnce r
+all_held_once run r w safe s good n a is m there = record {
+  fits = λ i lt. held_fits run r w n a m i s (safe w good) is there lt;
   granted = λ named u. granted a m u named;
-  entry = λ v is_world stands. one_entry r v n a m stands (safe v is_world.good) is there;
+  entry = λ v is_world stands. one_entry run r v n a m stands (safe v is_world.good) is there;
 }

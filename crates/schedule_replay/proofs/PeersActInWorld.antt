@@ -2,8 +2,6 @@
 use Rattle.std.proofs.Common.{◌≡◌, ℕ, ◌<◌, ◌≤◌, Bool, true, false, not, nat_lt, List, [], ◌∷◌, ◌++◌, length, Option, Some, None, is_some, Result, Ok, Err, slice_get, refl, sym, ◌∙◌, ap, subst, arith, append-nil}
 use Rattle.std.specs.Prelude.{OnOk, IfErr}
 use Rattle.std.specs.Option.{option_map, unwrap_or}
-use Rattle.std.specs.Ordering.{nat_cmp}
-use Rattle.std.specs.FinMap.Entries.{find}
 use Rattle.std.proofs.lemmas.Bool.Decides.{nat_tests}
 use Rattle.fuxi_terms.specs.Cluster.{ClusterRecord, JobRecord, MachineRecord, machine_of, no_machine, has_machine}
 use Rattle.fuxi_terms.specs.Jobs.{KnownJob, job_of, is_known, has_ended, unit_count}
@@ -11,27 +9,25 @@ use Rattle.fuxi_terms.specs.Padded.{padded}
 use Rattle.cluster_desc.specs.Records.{machine_of as machine_seen}
 use Rattle.cluster_desc.specs.declared.cluster.Machine.{Machine}
 use Rattle.party_ledgers.specs.declared.packets.Packet.{Packet}
-use Rattle.written_net.specs.Net.{Party}
-use Rattle.written_net.specs.Channels.{agent_id, app_id, party}
-use Rattle.written_roles.specs.Refusals.{Refusal as Written, NoMachine, NoJob, Ended, NotRising, NotRunning, with_found}
-use Rattle.written_world.specs.World.{World, Step, Agent, App, refused, prints_nothing, unless_refused}
-use Rattle.written_world.specs.Events.{start_agent, agent_started, start_app, app_started, at_agent, at_app, asks, usable_now, given_back, demanded}
+use Rattle.written_net.specs.Channels.{agent_id, app_id}
+use Rattle.written_roles.specs.Refusals.{Refusal as Written, NoMachine, NoJob, Ended, NotRising, NotRunning}
+use Rattle.written_world.specs.World.{World, Step, refused, prints_nothing, unless_refused}
+use Rattle.written_world.specs.Events.{start_agent, agent_started, start_app, app_started}
 use Rattle.packet_pool.specs.PacketPools.{Stored}
-use Rattle.running_agents.specs.RunningAgents.{AgentsRecord, AreAgentsOf, OneActsIn as AgentActsIn, StartsOneIn as AgentStartsIn}
-use Rattle.running_apps.specs.RunningApps.{AppsRecord, AreAppsOf, OneActsIn as AppActsIn, StartsOneIn as AppStartsIn}
-use Rattle.core_join.specs.AgentInWorld.{agent_at}
-use Rattle.core_join.specs.AppInWorld.{app_at}
-use Rattle.written_roles.specs.Apps.{AppCommand, command_tests, command_key, command_number}
+use Rattle.agent_core.specs.AgentCores.{AgentCore}
+use Rattle.app_master.specs.AppCores.{AppCore}
+use Rattle.written_parties.specs.SeenParties.{Agents, Apps, new_party}
+use Rattle.party_slots.specs.Slots.{SlotsRecord, ActIn, StepIn, StartsIn}
+use Rattle.party_slots.specs.Peers.{AgentStands, AppStands, AreAgentsOf, AreAppsOf, IsRefusedAs}
 use Rattle.app_master.specs.declared.fault.AppFault.{AppFault}
 use Rattle.app_master.specs.declared.fault.AppFault.TheVariants as fault
-use Rattle.core_join.specs.AppInWorld.{IsRefusedAs}
 use Rattle.schedule_text.specs.declared.refusal.Refusal.{Refusal}
 use Rattle.schedule_text.specs.Printing.{as_refusal}
 use Rattle.schedule_replay.specs.declared.stop.WorldStop.{WorldStop}
 use Rattle.schedule_replay.specs.ReplayTexts.{lines_text}
 use Rattle.schedule_replay.specs.Worlds.{WorldRecord, IsWorld, StandsFor}
 use Rattle.schedule_replay.specs.WorldSteps.{IsDone, limit_of}
-use Rattle.schedule_replay.specs.Moves.{KeepsMore, AgentActs, AppActs, Acts, IsActed, WantsMemory, IsRefusalOf, refusal_lines}
+use Rattle.schedule_replay.specs.Moves.{KeepsMore, Acts, IsActed, WantsMemory, IsRefusalOf, refusal_lines}
 use Rattle.schedule_replay.proofs.RestStands.{keeps_none}
 use Rattle.schedule_replay.proofs.MovesLemmas.{once_up_to, none_once}
 use Rattle.schedule_replay.proofs.MastersActInWorld.{is_refused, is_quiet}
@@ -68,66 +64,27 @@ first_passes w true r ts f is = absurd (no is)
 
 -- The laws, as they are called for
 abbrev pub AgentsAct : Type 0
-AgentsAct = (w w' : World) (p : Party) (sent : List Packet) (old : WorldRecord) (agents : AgentsRecord) (pool : Stored)
-    → StandsFor old w → AgentActs w w' p sent agents → KeepsMore old.pool pool sent → StandsFor (record old { agents = agents; pool = pool }) w'
+AgentsAct = (w w' : World) (m : ℕ) (sent : List Packet) (old : WorldRecord) (agents : SlotsRecord AgentCore) (pool : Stored)
+    → StandsFor old w → ActIn AgentStands Agents w w' m agents sent → KeepsMore old.pool pool sent → StandsFor (record old { agents = agents; pool = pool }) w'
 
 abbrev pub AppsAct : Type 0
-AppsAct = (w w' : World) (p : Party) (sent : List Packet) (old : WorldRecord) (apps : AppsRecord) (pool : Stored)
-    → StandsFor old w → AppActs w w' p sent apps → KeepsMore old.pool pool sent → StandsFor (record old { apps = apps; pool = pool }) w'
+AppsAct = (w w' : World) (a : ℕ) (sent : List Packet) (old : WorldRecord) (apps : SlotsRecord AppCore) (pool : Stored)
+    → StandsFor old w → ActIn AppStands Apps w w' a apps sent → KeepsMore old.pool pool sent → StandsFor (record old { apps = apps; pool = pool }) w'
 
--- What one agent did, with what it sent
-pub agent_acts : (w w' : World) (m : ℕ) (g : Agent) (agents : AgentsRecord) (sent : List Packet) → AgentActsIn w w' m g agents sent → AgentActs w w' (agent_at m g) sent agents
-agent_acts w w' m g agents sent a = record {
-  role = refl;
-  stand = a.stand;
-  acts = a.acts;
-  cluster = ap (λ (v : World). v.cluster) a.rest;
-  hard = ap (λ (v : World). v.hard) a.rest;
-  masters = ap (λ (v : World). v.masters) a.rest;
-  apps = ap (λ (v : World). v.apps) a.rest;
-  boots = λ k. ap (λ (v : World). v.boots (app_id k)) a.rest;
-  events = ap (λ (v : World). v.events) a.rest;
-}
+-- What one agent did, or one application, which sent nothing
+pub agent_done : AgentsAct → (w : World) (s : Step) (old : WorldRecord) (m : ℕ) (agents : SlotsRecord AgentCore) (before : List ℕ) → StandsFor old w → StepIn AgentStands Agents w m agents [] s [] → IsDone s (record old { agents = agents }) before before
+agent_done act w s old m agents before stands a =
+    is_quiet s (record old { agents = agents }) before before (act w s.world m [] old agents old.pool stands a.world (keeps_none old.pool)) a.lines (no_text before)
 
-pub app_acts : (w w' : World) (a : ℕ) (g : App) (apps : AppsRecord) (sent : List Packet) → AppActsIn w w' a g apps sent → AppActs w w' (app_at a g) sent apps
-app_acts w w' a g apps sent h = record {
-  role = refl;
-  stand = h.stand;
-  acts = h.acts;
-  cluster = ap (λ (v : World). v.cluster) h.rest;
-  hard = ap (λ (v : World). v.hard) h.rest;
-  masters = ap (λ (v : World). v.masters) h.rest;
-  agents = ap (λ (v : World). v.agents) h.rest;
-  boots = λ k. ap (λ (v : World). v.boots (agent_id k)) h.rest;
-  events = ap (λ (v : World). v.events) h.rest;
-}
-
-pub agent_done : AgentsAct → (w : World) (s : Step) (old : WorldRecord) (m : ℕ) (g : Agent) (agents : AgentsRecord) (before : List ℕ) → StandsFor old w → AgentActsIn w s.world m g agents [] → s.lines ≡ [] → IsDone s (record old { agents = agents }) before before
-agent_done act w s old m g agents before stands a none =
-    is_quiet s (record old { agents = agents }) before before (act w s.world (agent_at m g) [] old agents old.pool stands (agent_acts w s.world m g agents [] a) (keeps_none old.pool)) none (no_text before)
-
-pub app_done : AppsAct → (w : World) (s : Step) (old : WorldRecord) (a : ℕ) (g : App) (apps : AppsRecord) (before : List ℕ) → StandsFor old w → AppActsIn w s.world a g apps [] → s.lines ≡ [] → IsDone s (record old { apps = apps }) before before
-app_done act w s old a g apps before stands h none =
-    is_quiet s (record old { apps = apps }) before before (act w s.world (app_at a g) [] old apps old.pool stands (app_acts w s.world a g apps [] h) (keeps_none old.pool)) none (no_text before)
-
--- the step of an agent or an application that runs, and of one that does not
-pub agent_runs : (w : World) (m : ℕ) (g : Agent) (f : Agent → Step) → find nat_cmp m w.agents ≡ Some g → at_agent w m f ≡ f g
-agent_runs w m g f runs = ap (λ o. with_found o (refused w NotRunning) f) runs
-
-pub agent_runs_not : (w : World) (m : ℕ) (f : Agent → Step) → find nat_cmp m w.agents ≡ None → at_agent w m f ≡ refused w NotRunning
-agent_runs_not w m f runs = ap (λ o. with_found o (refused w NotRunning) f) runs
-
-pub app_runs : (w : World) (a : ℕ) (g : App) (f : App → Step) → find nat_cmp a w.apps ≡ Some g → at_app w a f ≡ f g
-app_runs w a g f runs = ap (λ o. with_found o (refused w NotRunning) f) runs
-
-pub app_runs_not : (w : World) (a : ℕ) (f : App → Step) → find nat_cmp a w.apps ≡ None → at_app w a f ≡ refused w NotRunning
-app_runs_not w a f runs = ap (λ o. with_found o (refused w NotRunning) f) runs
+pub app_done : AppsAct → (w : World) (s : Step) (old : WorldRecord) (a : ℕ) (apps : SlotsRecord AppCore) (before : List ℕ) → StandsFor old w → StepIn AppStands Apps w a apps [] s [] → IsDone s (record old { apps = apps }) before before
+app_done act w s old a apps before stands h =
+    is_quiet s (record old { apps = apps }) before before (act w s.world a [] old apps old.pool stands h.world (keeps_none old.pool)) h.lines (no_text before)
 
 -- the agents, or the applications, are others that stand in the same world
-pub with_agents : (w : World) (old : WorldRecord) (agents : AgentsRecord) → StandsFor old w → AreAgentsOf w agents → StandsFor (record old { agents = agents }) w
+pub with_agents : (w : World) (old : WorldRecord) (agents : SlotsRecord AgentCore) → StandsFor old w → AreAgentsOf w agents → StandsFor (record old { agents = agents }) w
 with_agents w old agents s h = record { cluster = s.cluster; hard = s.hard; rests = s.rests; masters = s.masters; agents = h; apps = s.apps; packets = s.packets; events = s.events }
 
-pub with_apps : (w : World) (old : WorldRecord) (apps : AppsRecord) → StandsFor old w → AreAppsOf w apps → StandsFor (record old { apps = apps }) w
+pub with_apps : (w : World) (old : WorldRecord) (apps : SlotsRecord AppCore) → StandsFor old w → AreAppsOf w apps → StandsFor (record old { apps = apps }) w
 with_apps w old apps s h = record { cluster = s.cluster; hard = s.hard; rests = s.rests; masters = s.masters; agents = s.agents; apps = h; packets = s.packets; events = s.events }
 
 -- The refusal of the world, where there is one
@@ -188,29 +145,18 @@ has_as c m x is = by (slice_get c.machines m) is
     by None e = let no : ⊥ = cc in absurd no
     by (Some r) e = let same : machine_seen r ≡ x = cc in sym (ap (λ (y : Machine). y.has.q) same)
 
-pub agent_starts : AgentsAct → (w : World) (old : WorldRecord) (m b : ℕ) (agents : AgentsRecord) (before : List ℕ) → StandsFor old w → has_machine w.cluster m ≡ true → w.boots (agent_id m) < b → AgentStartsIn w (agent_started w m b) m b agents
+pub agent_starts : AgentsAct → (w : World) (old : WorldRecord) (m b : ℕ) (agents : SlotsRecord AgentCore) (before : List ℕ) → StandsFor old w → has_machine w.cluster m ≡ true → w.boots (agent_id m) < b → StartsIn AgentStands Agents w m b agents
     → IsDone (start_agent w m b) (record old { agents = agents }) before before
 agent_starts act w old m b agents before s there later h =
     subst (λ t. IsDone t (record old { agents = agents }) before before) (sym (agent_step w m b there later))
-    (is_quiet (prints_nothing (agent_started w m b)) (record old { agents = agents }) before before
-    (act w (agent_started w m b) (party (agent_id m) b) [] old agents old.pool s
-    (record { role = refl; stand = h.stand; acts = h.acts; cluster = refl; hard = refl; masters = refl; apps = refl; boots = λ k. refl; events = refl }) (keeps_none old.pool)) refl (no_text before))
+    (agent_done act w (prints_nothing (agent_started w m b)) old m agents before s (record { world = record { stand = h.stand; role = new_party w Agents m b; acts = h.acts }; lines = refl }))
 
 -- and of applications
-pub app_starts : AppsAct → (w : World) (old : WorldRecord) (a b : ℕ) (apps : AppsRecord) (before : List ℕ) → StandsFor old w → is_known w.hard.jobs a ≡ true → has_ended w.hard.jobs a ≡ false → w.boots (app_id a) < b → AppStartsIn w (app_started w a b) a b apps
+pub app_starts : AppsAct → (w : World) (old : WorldRecord) (a b : ℕ) (apps : SlotsRecord AppCore) (before : List ℕ) → StandsFor old w → is_known w.hard.jobs a ≡ true → has_ended w.hard.jobs a ≡ false → w.boots (app_id a) < b → StartsIn AppStands Apps w a b apps
     → IsDone (start_app w a b) (record old { apps = apps }) before before
 app_starts act w old a b apps before s known live later h =
     subst (λ t. IsDone t (record old { apps = apps }) before before) (sym (app_step w a b known live later))
-    (is_quiet (prints_nothing (app_started w a b)) (record old { apps = apps }) before before
-    (act w (app_started w a b) (party (app_id a) b) [] old apps old.pool s
-    (record { role = refl; stand = h.stand; acts = h.acts; cluster = refl; hard = refl; masters = refl; agents = refl; boots = λ k. refl; events = refl }) (keeps_none old.pool)) refl (no_text before))
-
--- an application that is asked
-pub asked_done : AppsAct → (w : World) (old : WorldRecord) (a : ℕ) (g : App) (x : AppCommand) (apps : AppsRecord) (before : List ℕ) → StandsFor old w → AppActsIn w (asks w a x).world a g apps [] → (asks w a x).lines ≡ [] → IsDone (asks w a x) (record old { apps = apps }) before before
-asked_done act w old a g x apps before s h none = app_done act w (asks w a x) old a g apps before s h none
-
-pub asked_not : (w : World) (a : ℕ) (x : AppCommand) → find nat_cmp a w.apps ≡ None → asks w a x ≡ refused w NotRunning
-asked_not w a x none = ap (λ o. with_found o (refused w NotRunning) (λ g. unless_refused w (command_tests w.cluster g.units (usable_now w a g) (given_back w a g) x) (λ w. demanded w a g (command_key x) (command_number (given_back w a g) x)))) none
+    (app_done act w (prints_nothing (app_started w a b)) old a apps before s (record { world = record { stand = h.stand; role = new_party w Apps a b; acts = h.acts }; lines = refl }))
 
 -- the refusal that a fault names is that of the world
 pub fault_is : (w : World) (s : Step) (fault : AppFault) (r : Refusal) → IsRefusalOf fault (Some r) → IsRefusedAs w s fault → s ≡ refused w (as_refusal r)

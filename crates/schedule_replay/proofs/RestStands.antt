@@ -1,23 +1,24 @@
 -- What one party leaves of a world, and that the rest stands for the world after it.
-use Rattle.std.proofs.Common.{◌≡◌, ℕ, Bool, true, false, nat_eq, List, [], ◌++◌, map, refl, sym, ◌∙◌, ap, subst, arith, append-nil}
-use Rattle.std.specs.Prelude.{◌&&◌}
-use Rattle.std.proofs.lemmas.Bool.Decides.{nat_tests}
+use Rattle.std.proofs.Common.{◌≡◌, ℕ, true, false, List, [], ◌++◌, map, refl, sym, ◌∙◌, ap, subst, append-nil}
 use Rattle.std.proofs.lemmas.List.{map-append}
 use Rattle.fuxi_terms.proofs.Alls.{all_append}
 use Rattle.party_ledgers.specs.declared.packets.Packet.{Packet}
 use Rattle.core_side.specs.Parcels.{parcel_is, IsSent}
-use Rattle.written_net.specs.Net.{Party, Id}
+use Rattle.written_net.specs.Net.{Party}
 use Rattle.written_net.specs.Sides.{Parcel}
-use Rattle.written_net.specs.Channels.{agent_id, app_id, is_agent, is_app, is_master}
+use Rattle.written_net.specs.Channels.{agent_id, app_id, party, is_master}
 use Rattle.written_world.specs.World.{World}
 use Rattle.written_join.specs.PartyJoins.{OneActs}
 use Rattle.packet_pool.specs.PacketPools.{Stored, Keeps}
 use Rattle.schedule_replay.specs.Held.{Held}
-use Rattle.running_agents.specs.RunningAgents.{AgentsRecord, AreAgentsOf, AgentsStay}
-use Rattle.running_apps.specs.RunningApps.{AppsRecord, AreAppsOf, AppsStay}
+use Rattle.agent_core.specs.AgentCores.{AgentCore}
+use Rattle.app_master.specs.AppCores.{AppCore}
+use Rattle.written_parties.specs.SeenParties.{Kind, Agents, Apps, seen}
+use Rattle.party_slots.specs.Slots.{SlotsRecord, ActIn, AreOf, Stays}
+use Rattle.party_slots.specs.Peers.{AgentStands, AppStands}
 use Rattle.running_masters.specs.RunningMasters.{MastersRecord, AreMastersOf}
 use Rattle.schedule_replay.specs.Worlds.{WorldRecord, KeepsPackets, StandsFor}
-use Rattle.schedule_replay.specs.Moves.{KeepsMore, AgentActs, AppActs, MasterActs}
+use Rattle.schedule_replay.specs.Moves.{KeepsMore, MasterActs}
 
 -- no packet more
 pub keeps_none : (p : Stored) → KeepsMore p p []
@@ -31,86 +32,60 @@ kept_after w w' p sent old new acts k more = record {
   same = map-append parcel_is k.packets sent ∙ ap (λ ps. ps ++ map parcel_is sent) k.same ∙ sym acts.packets;
 }
 
--- The three roles exclude one another
-agent_no_master : (d : Id) → is_agent d ≡ true → is_master d ≡ false
-agent_no_master d is = let one : nat_eq d.role 1 ≡ false = grind (arith, nat_tests, is) in ap (λ b. b && nat_eq d.number 0) one
-
-agent_no_app : (d : Id) → is_agent d ≡ true → is_app d ≡ false
-agent_no_app d is = grind (arith, nat_tests, is)
-
-app_no_master : (d : Id) → is_app d ≡ true → is_master d ≡ false
-app_no_master d is = let one : nat_eq d.role 1 ≡ false = grind (arith, nat_tests, is) in ap (λ b. b && nat_eq d.number 0) one
-
-app_no_agent : (d : Id) → is_app d ≡ true → is_agent d ≡ false
-app_no_agent d is = grind (arith, nat_tests, is)
-
-role_of_master : (d : Id) → is_master d ≡ true → d.role ≡ 1
-role_of_master d is = by (nat_eq d.role 1) refl is
-  where
-    no_truth : false ≡ true → ⊥
-    no_truth t = grind (arith, t)
-
-    by : (b : Bool) → nat_eq d.role 1 ≡ b → (b && nat_eq d.number 0) ≡ true → d.role ≡ 1
-    by true e t = grind (arith, nat_tests, e)
-    by false e t = absurd (no_truth t)
-
-master_no_agent : (d : Id) → is_master d ≡ true → is_agent d ≡ false
-master_no_agent d is = let one = role_of_master d is in grind (arith, nat_tests, one)
-
-master_no_app : (d : Id) → is_master d ≡ true → is_app d ≡ false
-master_no_app d is = let one = role_of_master d is in grind (arith, nat_tests, one)
-
 -- The laws of those who do not act, as their crates state them
 abbrev pub MastersStay : Type 0
 MastersStay = (w w' : World) (x : MastersRecord) (p : Party) (sent : List Parcel) → AreMastersOf w x → w'.masters ≡ w.masters → w'.cluster ≡ w.cluster → is_master p.id ≡ false → OneActs w.net w'.net p sent → AreMastersOf w' x
 
-abbrev pub AppsStand : Type 0
-AppsStand = (w w' : World) (x : AppsRecord) → AppsStay w w' → AreAppsOf w x → AreAppsOf w' x
-
-abbrev pub AppsSeeNothing : Type 0
-AppsSeeNothing = (w w' : World) (p : Party) (sent : List Parcel) → OneActs w.net w'.net p sent → is_app p.id ≡ false → w'.cluster ≡ w.cluster → w'.apps ≡ w.apps → ((a : ℕ) → w'.boots (app_id a) ≡ w.boots (app_id a)) → AppsStay w w'
-
 abbrev pub AgentsStand : Type 0
-AgentsStand = (w w' : World) (x : AgentsRecord) → AgentsStay w w' → AreAgentsOf w x → AreAgentsOf w' x
+AgentsStand = (w w' : World) (k : Kind) (x : SlotsRecord AgentCore) → Stays w w' k → AreOf AgentStands k w x → AreOf AgentStands k w' x
 
-abbrev pub AgentsSeeNothing : Type 0
-AgentsSeeNothing = (w w' : World) (p : Party) (sent : List Parcel) → OneActs w.net w'.net p sent → is_agent p.id ≡ false → w'.cluster ≡ w.cluster → w'.agents ≡ w.agents → ((m : ℕ) → w'.boots (agent_id m) ≡ w.boots (agent_id m)) → AgentsStay w w'
+abbrev pub AppsStand : Type 0
+AppsStand = (w w' : World) (k : Kind) (x : SlotsRecord AppCore) → Stays w w' k → AreOf AppStands k w x → AreOf AppStands k w' x
 
-pub agents_acted : AppsStand → AppsSeeNothing → MastersStay → (w w' : World) (p : Party) (sent : List Packet) (old : WorldRecord) (agents : AgentsRecord) (pool : Stored)
-    → StandsFor old w → AgentActs w w' p sent agents → KeepsMore old.pool pool sent → StandsFor (record old { agents = agents; pool = pool }) w'
-agents_acted apps_stand apps_see masters_stay w w' p sent old agents pool s a more = record {
-  cluster = s.cluster ∙ sym a.cluster;
-  hard = s.hard ∙ sym a.hard;
-  rests = s.rests;
-  masters = masters_stay w w' old.masters p (map parcel_is sent) s.masters a.masters a.cluster (agent_no_master p.id a.role) a.acts;
-  agents = a.stand;
-  apps = apps_stand w w' old.apps (apps_see w w' p (map parcel_is sent) a.acts (agent_no_app p.id a.role) a.cluster a.apps a.boots) s.apps;
-  packets = kept_after w w' p sent old.pool pool a.acts s.packets more;
-  events = s.events ∙ sym a.events;
-}
+abbrev pub PeersStay : Type 0
+PeersStay = (w w' : World) (p : Party) (sent : List Parcel) → OneActs w.net w'.net p sent → is_master p.id ≡ true → w'.cluster ≡ w.cluster → w'.agents ≡ w.agents → w'.apps ≡ w.apps → (k : Kind) (n : ℕ) → seen w' k n ≡ seen w k n
 
-pub apps_acted : AgentsStand → AgentsSeeNothing → MastersStay → (w w' : World) (p : Party) (sent : List Packet) (old : WorldRecord) (apps : AppsRecord) (pool : Stored)
-    → StandsFor old w → AppActs w w' p sent apps → KeepsMore old.pool pool sent → StandsFor (record old { apps = apps; pool = pool }) w'
-apps_acted agents_stand agents_see masters_stay w w' p sent old apps pool s a more = record {
-  cluster = s.cluster ∙ sym a.cluster;
-  hard = s.hard ∙ sym a.hard;
-  rests = s.rests;
-  masters = masters_stay w w' old.masters p (map parcel_is sent) s.masters a.masters a.cluster (app_no_master p.id a.role) a.acts;
-  agents = agents_stand w w' old.agents (agents_see w w' p (map parcel_is sent) a.acts (app_no_agent p.id a.role) a.cluster a.agents a.boots) s.agents;
-  apps = a.stand;
-  packets = kept_after w w' p sent old.pool pool a.acts s.packets more;
-  events = s.events ∙ sym a.events;
-}
+pub agents_acted : AppsStand → MastersStay → (w w' : World) (m : ℕ) (sent : List Packet) (old : WorldRecord) (agents : SlotsRecord AgentCore) (pool : Stored)
+    → StandsFor old w → ActIn AgentStands Agents w w' m agents sent → KeepsMore old.pool pool sent → StandsFor (record old { agents = agents; pool = pool }) w'
+agents_acted apps_stand masters_stay w w' m sent old agents pool s a more =
+    let p = party (agent_id m) a.acts.boot in
+    record {
+      cluster = s.cluster ∙ sym a.acts.cluster;
+      hard = s.hard ∙ sym a.acts.hard;
+      rests = s.rests;
+      masters = masters_stay w w' old.masters p (map parcel_is sent) s.masters a.acts.masters a.acts.cluster refl a.acts.acts;
+      agents = a.stand;
+      apps = apps_stand w w' Apps old.apps (record { cluster = a.acts.cluster; seen = λ n. a.acts.others Apps n refl; boots = λ n. a.acts.boots Apps n refl }) s.apps;
+      packets = kept_after w w' p sent old.pool pool a.acts.acts s.packets more;
+      events = s.events ∙ sym a.acts.events;
+    }
 
-pub masters_acted : AgentsStand → AgentsSeeNothing → AppsStand → AppsSeeNothing → (w w' : World) (p : Party) (sent : List Packet) (old : WorldRecord) (held : Held) (masters : MastersRecord) (pool : Stored)
+pub apps_acted : AgentsStand → MastersStay → (w w' : World) (a : ℕ) (sent : List Packet) (old : WorldRecord) (apps : SlotsRecord AppCore) (pool : Stored)
+    → StandsFor old w → ActIn AppStands Apps w w' a apps sent → KeepsMore old.pool pool sent → StandsFor (record old { apps = apps; pool = pool }) w'
+apps_acted agents_stand masters_stay w w' a sent old apps pool s h more =
+    let p = party (app_id a) h.acts.boot in
+    record {
+      cluster = s.cluster ∙ sym h.acts.cluster;
+      hard = s.hard ∙ sym h.acts.hard;
+      rests = s.rests;
+      masters = masters_stay w w' old.masters p (map parcel_is sent) s.masters h.acts.masters h.acts.cluster refl h.acts.acts;
+      agents = agents_stand w w' Agents old.agents (record { cluster = h.acts.cluster; seen = λ n. h.acts.others Agents n refl; boots = λ n. h.acts.boots Agents n refl }) s.agents;
+      apps = h.stand;
+      packets = kept_after w w' p sent old.pool pool h.acts.acts s.packets more;
+      events = s.events ∙ sym h.acts.events;
+    }
+
+pub masters_acted : PeersStay → AgentsStand → AppsStand → (w w' : World) (p : Party) (sent : List Packet) (old : WorldRecord) (held : Held) (masters : MastersRecord) (pool : Stored)
     → StandsFor old w → MasterActs w w' p sent held masters → KeepsMore old.pool pool sent → StandsFor (record old { checkpoint = held; masters = masters; pool = pool }) w'
-masters_acted agents_stand agents_see apps_stand apps_see w w' p sent old held masters pool s a more = record {
-  cluster = s.cluster ∙ sym a.cluster;
-  hard = a.hard;
-  rests = a.rests;
-  masters = a.stand;
-  agents = agents_stand w w' old.agents (agents_see w w' p (map parcel_is sent) a.acts (master_no_agent p.id a.role) a.cluster a.agents (λ m. ap (λ b. b (agent_id m)) a.boots)) s.agents;
-  apps = apps_stand w w' old.apps (apps_see w w' p (map parcel_is sent) a.acts (master_no_app p.id a.role) a.cluster a.apps (λ m. ap (λ b. b (app_id m)) a.boots)) s.apps;
-  packets = kept_after w w' p sent old.pool pool a.acts s.packets more;
-  events = s.events ∙ sym a.events;
-}
+masters_acted peers_stay agents_stand apps_stand w w' p sent old held masters pool s a more =
+    let see = peers_stay w w' p (map parcel_is sent) a.acts a.role a.cluster a.agents a.apps in
+    record {
+      cluster = s.cluster ∙ sym a.cluster;
+      hard = a.hard;
+      rests = a.rests;
+      masters = a.stand;
+      agents = agents_stand w w' Agents old.agents (record { cluster = a.cluster; seen = see Agents; boots = λ n. ap (λ b. b (agent_id n)) a.boots }) s.agents;
+      apps = apps_stand w w' Apps old.apps (record { cluster = a.cluster; seen = see Apps; boots = λ n. ap (λ b. b (app_id n)) a.boots }) s.apps;
+      packets = kept_after w w' p sent old.pool pool a.acts s.packets more;
+      events = s.events ∙ sym a.events;
+    }

@@ -1,5 +1,5 @@
 -- What a turn sends, is kept, printed, and counted.
-use Rattle.std.proofs.Common.{◌≡◌, ℕ, zero, suc, ◌+◌, ◌≤◌, Bool, true, false, cond, nat_eq, nat_lt, List, [], ◌∷◌, ◌++◌, length, map, drop, Option, Some, None, refl, sym, ◌∙◌, ap, arith, length-append}
+use Rattle.std.proofs.Common.{◌≡◌, ℕ, zero, suc, ◌+◌, ◌≤◌, Bool, true, false, cond, nat_lt, List, [], ◌∷◌, ◌++◌, length, map, drop, Option, Some, None, refl, sym, ◌∙◌, ap, arith, length-append}
 use Rattle.std.specs.List.{AllByRecursion, sum_by}
 use Rattle.std.proofs.lemmas.Bool.Decides.{nat_tests}
 use Rattle.std.proofs.lemmas.List.{map-append, length-map}
@@ -10,13 +10,12 @@ use Rattle.party_ledgers.specs.declared.packets.Packet.{Packet as PacketHere}
 use Rattle.core_side.specs.Parcels.{content_of, parcel_is}
 use Rattle.written_net.specs.Net.{Net, Packet, Party}
 use Rattle.written_net.specs.Ledgers.{Ledger, body_length}
-use Rattle.written_net.specs.Channels.{master_id, frame_length}
+use Rattle.written_net.specs.Channels.{frame_length}
 use Rattle.written_net.specs.Sides.{Parcel}
 use Rattle.written_join.specs.SeenWorlds.{parcel_of}
 use Rattle.written_join.specs.PartyJoins.{OneActs}
 use Rattle.written_world.specs.Outputs.{Line, sent_lines}
-use Rattle.written_world.specs.World.{World, prints_nothing}
-use Rattle.written_world.specs.Events.{turn_to_master, turned}
+use Rattle.written_world.specs.World.{World}
 use Rattle.wire_frames.specs.Frames.{frame, IsFrame}
 use Rattle.wire_frames.specs.Streams.{HasFrame}
 use Rattle.packet_pool.specs.PacketPools.{Stored, bytes_of, with_frames}
@@ -44,21 +43,6 @@ new_packets w w' p sent acts =
     let n = length w.net.packets in
     sym (map_drop (parcel_of w'.net) n w'.net.packets ∙ ap (drop n) acts.packets ∙ ap (λ k. drop k (map (parcel_of w.net) w.net.packets ++ map parcel_is sent)) (sym (length-map w.net.packets (parcel_of w.net)))
     ∙ drop_front (map (parcel_of w.net) w.net.packets) (map parcel_is sent))
-
--- What a turn prints are the lines of these packets, also where it sends nothing
-no_more : {A : Type 0} (xs : List A) → drop (length xs) xs ≡ []
-no_more [] = refl
-no_more (x ∷ xs) = no_more xs
-
-pub new_lines : World → World → List Line
-new_lines w w' = sent_lines w'.net (length w.net.packets + 1) (drop (length w.net.packets) w'.net.packets)
-
-pub to_master_lines : (w : World) (p : Party) → (turn_to_master w p).lines ≡ sent_lines (turn_to_master w p).world.net (length w.net.packets + 1) (drop (length w.net.packets) (turn_to_master w p).world.net.packets)
-to_master_lines w p = by (nat_eq (w.net.links p master_id).known 0)
-  where
-    by : (b : Bool) → (cond b (prints_nothing w) (turned w p (master_id ∷ []))).lines ≡ sent_lines (cond b (prints_nothing w) (turned w p (master_id ∷ []))).world.net (length w.net.packets + 1) (drop (length w.net.packets) (cond b (prints_nothing w) (turned w p (master_id ∷ []))).world.net.packets)
-    by true = ap (sent_lines w.net (length w.net.packets + 1)) (sym (no_more w.net.packets))
-    by false = refl
 
 -- as many frames as packets
 pub kept_length : (w : World) (p : Stored) → KeepsPackets w p → length p.frames ≡ length w.net.packets

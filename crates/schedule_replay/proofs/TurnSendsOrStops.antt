@@ -8,7 +8,7 @@ use Rattle.std.proofs.lemmas.Option.{slice_get-map, slice_get_within, same_Some}
 use Rattle.std.proofs.lemmas.List.{length-take-le}
 use Rattle.party_ledgers.specs.declared.packets.Packet.{Packet as PacketHere}
 use Rattle.core_side.specs.Parcels.{parcel_is}
-use Rattle.written_net.specs.Net.{Net, Packet}
+use Rattle.written_net.specs.Net.{Net, Packet, Party}
 use Rattle.written_net.specs.Ledgers.{Ledger}
 use Rattle.written_net.specs.Channels.{master_id, agent_id, app_id, party}
 use Rattle.written_join.specs.SeenWorlds.{parcel_of}
@@ -16,13 +16,13 @@ use Rattle.written_roles.specs.Refusals.{NotRunning, with_found}
 use Rattle.written_roles.specs.Masters.{Master}
 use Rattle.written_roles.specs.MasterSteps.{master_party, peers}
 use Rattle.written_world.specs.World.{World, Step, refused}
-use Rattle.written_world.specs.Events.{turn_agent, turn_app, turn_master, turn_to_master, turned, at_master}
+use Rattle.written_world.specs.Events.{turn_agent, turn_app, turn_master, turned, at_master}
 use Rattle.written_world.specs.Outputs.{sent_lines}
 use Rattle.packet_pool.specs.PacketPools.{Stored, limit_of as pool_limit}
-use Rattle.core_join.specs.AgentInWorld.{agent_at}
-use Rattle.core_join.specs.AppInWorld.{app_at}
-use Rattle.running_agents.specs.RunningAgents.{TurnsIn as AgentTurnsIn}
-use Rattle.running_apps.specs.RunningApps.{TurnsIn as AppTurnsIn}
+use Rattle.written_join.specs.PartyJoins.{OneActs}
+use Rattle.written_parties.specs.SeenParties.{Agents, Apps, turn_lines}
+use Rattle.party_slots.specs.Slots.{StepIn}
+use Rattle.party_slots.specs.Peers.{AgentStands, AppStands}
 use Rattle.running_masters.specs.RunningMasters.{MastersRecord, AreWithin as MastersWithin}
 use Rattle.running_masters.specs.MasterCalls.{TurnIn, NoneIn}
 use Rattle.schedule_text.specs.declared.refusal.Refusal.TheVariants as why
@@ -34,8 +34,8 @@ use Rattle.schedule_replay.specs.WorldSteps.{IsDone, Stops, limit_of}
 use Rattle.schedule_replay.specs.Moves.{KeepsMore, StopsFor, Acts, IsActed, WantsMemory, refusal_lines}
 use Rattle.schedule_replay.proofs.MovesLemmas.{once_up_to, none_once, masters_once}
 use Rattle.schedule_replay.proofs.MastersActInWorld.{MastersAct, is_refused}
-use Rattle.schedule_replay.proofs.PeersActInWorld.{AgentsAct, AppsAct, agent_acts, app_acts, agent_runs, app_runs}
-use Rattle.schedule_replay.proofs.SentIsKept.{FrameLengths, to_master_lines, turn_text, turn_stops}
+use Rattle.schedule_replay.proofs.PeersActInWorld.{AgentsAct, AppsAct}
+use Rattle.schedule_replay.proofs.SentIsKept.{FrameLengths, turn_text, turn_stops}
 use Rattle.schedule_replay.proofs.ReplayTextsLemmas.{sent_more}
 
 -- The packet of a turn at a place is written there
@@ -75,49 +75,45 @@ stops_for old sent (Err (PoolBytes kept)) within h = absurd (none (h None))
     none : None ≡ Some (PoolBytes kept) → ⊥
     none e = cc
 
--- A turn of an agent that runs
-pub agent_turns : AgentsAct → FrameLengths → (old : WorldRecord) (m : ℕ) (sent : List PacketHere) (pool : Stored) (before after : List ℕ) (result : Result (Unit {0}) WorldStop)
-    → ((w : World) → IsWorld w → StandsFor old w → AgentTurnsIn w m old.agents sent) → OnOk result (KeepsMore old.pool pool sent)
+-- A turn of a party that counts no step by it: it acted in the world, and printed what it sent
+pub record SendsIn (w : World) (s : Step) (sent : List PacketHere) : Type 0 where
+  pub who : Party
+  pub acts : OneActs w.net s.world.net who (map parcel_is sent)
+  pub lines : s.lines ≡ turn_lines w s
+
+peer_turns : FrameLengths → (f : World → Step) (old : WorldRecord) (sent : List PacketHere) (pool : Stored) (before after : List ℕ) (result : Result (Unit {0}) WorldStop)
+    → ((w : World) → IsWorld w → StandsFor old w → SendsIn w (f w) sent) → ((w : World) → IsWorld w → StandsFor old w → KeepsMore old.pool pool sent → StandsFor (record old { pool = pool }) (f w).world) → OnOk result (KeepsMore old.pool pool sent)
     → OnOk result ((net : Net Ledger) (xs : List Packet) → map parcel_is sent ≡ map (parcel_of net) xs → after ≡ before ++ lines_text (sent_lines net (length old.pool.frames + 1) xs))
-    → IfErr result (StopsFor old.pool sent) → Acts (λ w. turn_agent w m) old (record old { pool = pool }) before after result
-agent_turns act law old m sent pool before after (Ok done) turns keeps text stops = record {
+    → IfErr result (StopsFor old.pool sent) → Acts f old (record old { pool = pool }) before after result
+peer_turns law f old sent pool before after (Ok done) sends stand keeps text stops = record {
   does = λ w is s.
-      let t = turns w is s in
-      let p = agent_at m t.agent in
-      let w' = (turn_to_master w p).world in
-      subst (λ (x : Step). IsDone x (record old { pool = pool }) before after) (sym (agent_runs w m t.agent (λ g. turn_to_master w (party (agent_id m) g.boot)) t.runs)) (record {
-        stands = act w w' p sent old old.agents pool s (agent_acts w w' m t.agent old.agents sent t.world) keeps;
-        text = turn_text w w' p sent old.pool (turn_to_master w p).lines before after s.packets t.world.acts (to_master_lines w p) text;
-      });
+      let x = sends w is s in
+      record { stands = stand w is s keeps; text = turn_text w (f w).world x.who sent old.pool (f w).lines before after s.packets x.acts x.lines text };
   moves = once_up_to old (record old { pool = pool }) (none_once old pool);
 }
-agent_turns act law old m sent pool before after (Err stop) turns keeps text stops = λ w is s.
-    let t = turns w is s in
-    let p = agent_at m t.agent in
-    subst (λ (x : Step). Stops (limit_of w x.world) stop) (sym (agent_runs w m t.agent (λ g. turn_to_master w (party (agent_id m) g.boot)) t.runs))
-    (turn_stops law w (turn_to_master w p).world p sent old.pool stop s.packets t.world.acts stops)
+peer_turns law f old sent pool before after (Err stop) sends stand keeps text stops = λ w is s.
+    let x = sends w is s in
+    turn_stops law w (f w).world x.who sent old.pool stop s.packets x.acts stops
+
+-- of an agent that runs
+pub agent_turns : AgentsAct → FrameLengths → (old : WorldRecord) (m : ℕ) (sent : List PacketHere) (pool : Stored) (before after : List ℕ) (result : Result (Unit {0}) WorldStop)
+    → ((w : World) → IsWorld w → StandsFor old w → StepIn AgentStands Agents w m old.agents sent (turn_agent w m) (turn_lines w (turn_agent w m))) → OnOk result (KeepsMore old.pool pool sent)
+    → OnOk result ((net : Net Ledger) (xs : List Packet) → map parcel_is sent ≡ map (parcel_of net) xs → after ≡ before ++ lines_text (sent_lines net (length old.pool.frames + 1) xs))
+    → IfErr result (StopsFor old.pool sent) → Acts (λ w. turn_agent w m) old (record old { pool = pool }) before after result
+agent_turns act law old m sent pool before after result turns =
+    peer_turns law (λ w. turn_agent w m) old sent pool before after result
+    (λ w is s. let t = turns w is s in record { who = party (agent_id m) t.world.acts.boot; acts = t.world.acts.acts; lines = t.lines })
+    (λ w is s keeps. act w (turn_agent w m).world m sent old old.agents pool s (turns w is s).world keeps)
 
 -- of an application
 pub app_turns : AppsAct → FrameLengths → (old : WorldRecord) (a : ℕ) (sent : List PacketHere) (pool : Stored) (before after : List ℕ) (result : Result (Unit {0}) WorldStop)
-    → ((w : World) → IsWorld w → StandsFor old w → AppTurnsIn w a old.apps sent) → OnOk result (KeepsMore old.pool pool sent)
+    → ((w : World) → IsWorld w → StandsFor old w → StepIn AppStands Apps w a old.apps sent (turn_app w a) (turn_lines w (turn_app w a))) → OnOk result (KeepsMore old.pool pool sent)
     → OnOk result ((net : Net Ledger) (xs : List Packet) → map parcel_is sent ≡ map (parcel_of net) xs → after ≡ before ++ lines_text (sent_lines net (length old.pool.frames + 1) xs))
     → IfErr result (StopsFor old.pool sent) → Acts (λ w. turn_app w a) old (record old { pool = pool }) before after result
-app_turns act law old a sent pool before after (Ok done) turns keeps text stops = record {
-  does = λ w is s.
-      let t = turns w is s in
-      let p = app_at a t.app in
-      let w' = (turn_to_master w p).world in
-      subst (λ (x : Step). IsDone x (record old { pool = pool }) before after) (sym (app_runs w a t.app (λ g. turn_to_master w (party (app_id a) g.boot)) t.runs)) (record {
-        stands = act w w' p sent old old.apps pool s (app_acts w w' a t.app old.apps sent t.world) keeps;
-        text = turn_text w w' p sent old.pool (turn_to_master w p).lines before after s.packets t.world.acts (to_master_lines w p) text;
-      });
-  moves = once_up_to old (record old { pool = pool }) (none_once old pool);
-}
-app_turns act law old a sent pool before after (Err stop) turns keeps text stops = λ w is s.
-    let t = turns w is s in
-    let p = app_at a t.app in
-    subst (λ (x : Step). Stops (limit_of w x.world) stop) (sym (app_runs w a t.app (λ g. turn_to_master w (party (app_id a) g.boot)) t.runs))
-    (turn_stops law w (turn_to_master w p).world p sent old.pool stop s.packets t.world.acts stops)
+app_turns act law old a sent pool before after result turns =
+    peer_turns law (λ w. turn_app w a) old sent pool before after result
+    (λ w is s. let t = turns w is s in record { who = party (app_id a) t.world.acts.boot; acts = t.world.acts.acts; lines = t.lines })
+    (λ w is s keeps. act w (turn_app w a).world a sent old old.apps pool s (turns w is s).world keeps)
 
 -- and of a master, of which the masters count a step
 master_runs : (w : World) (e : ℕ) (M : Master) (f : Master → Step) → find nat_cmp e w.masters ≡ Some M → at_master w e f ≡ f M

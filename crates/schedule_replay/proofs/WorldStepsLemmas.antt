@@ -1,12 +1,8 @@
 -- One event of what runs, from what it does to a world that has counted it.
-use Rattle.std.proofs.Common.{◌≡◌, ℕ, ◌+◌, ◌*◌, ◌^◌, ◌<◌, ◌≤◌, true, List, [], length, Option, Some, None, sym, ◌∙◌, ap, subst, arith}
+use Rattle.std.proofs.Common.{◌≡◌, ℕ, ◌+◌, ◌*◌, ◌^◌, ◌<◌, ◌≤◌, true, List, [], length, sym, ◌∙◌, ap, subst, arith}
 use Rattle.fuxi_terms.specs.Cluster.{is_valid_cluster}
 use Rattle.fuxi_terms.specs.Limits.{most_packets, most_packet_bytes, most_steps}
-use Rattle.agent_core.specs.AgentCores.{AgentCore}
-use Rattle.app_master.specs.AppCores.{AppCore}
 use Rattle.packet_pool.specs.PacketPools.{bytes_of}
-use Rattle.running_agents.specs.RunningAgents.{StandsAt, agent_in}
-use Rattle.running_apps.specs.RunningApps.{AppStandsAt, app_in}
 use Rattle.written_world.specs.World.{World}
 use Rattle.written_world.specs.Events.{Event, act, counted_in, world_step}
 use Rattle.written_world.specs.EventRanges.{is_from_line}
@@ -22,22 +18,14 @@ use Rattle.schedule_replay.proofs.StepAfterStep.{GoodKept, OrderKept, event_is, 
 abbrev pub counted : WorldRecord → WorldRecord
 counted r = record r { events = r.events + 1 }
 
-counted_agent : (w : World) (m : ℕ) (o : Option AgentCore) → StandsAt w m o → StandsAt (counted_in w) m o
-counted_agent w m None s = s
-counted_agent w m (Some a) s = record { agent = s.agent; runs = s.runs; stands = s.stands }
-
-counted_app : (w : World) (a : ℕ) (o : Option AppCore) → AppStandsAt w a o → AppStandsAt (counted_in w) a o
-counted_app w a None s = s
-counted_app w a (Some x) s = record { app = s.app; runs = s.runs; stands = s.stands }
-
 pub counted_stands : (r : WorldRecord) (w : World) → StandsFor r w → StandsFor (counted r) (counted_in w)
 counted_stands r w s = record {
   cluster = s.cluster;
   hard = s.hard;
   rests = s.rests;
   masters = record { epochs = s.masters.epochs; each = λ e m f. let x = s.masters.each e m f in record { master = x.master; runs = x.runs; stands = x.stands } };
-  agents = record { slots = s.agents.slots; each = λ m. counted_agent w m (agent_in r.agents m) (s.agents.each m); last = s.agents.last };
-  apps = record { slots = s.apps.slots; each = λ a. counted_app w a (app_in r.apps a) (s.apps.each a); last = s.apps.last };
+  agents = record { slots = s.agents.slots; each = s.agents.each; last = s.agents.last };
+  apps = record { slots = s.apps.slots; each = s.apps.each; last = s.apps.last };
   packets = record { packets = s.packets.packets; kept = s.packets.kept; sent = s.packets.sent; same = s.packets.same };
   events = ap (λ n. n + 1) s.events;
 }

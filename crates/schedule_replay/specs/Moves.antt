@@ -8,7 +8,7 @@ use Rattle.party_ledgers.specs.declared.packets.Packet.{Packet}
 use Rattle.party_ledgers.specs.declared.packets.Heard.{Heard}
 use Rattle.core_side.specs.Parcels.{parcel_is, IsSent}
 use Rattle.written_net.specs.Net.{Party, Packet as WrittenPacket}
-use Rattle.written_net.specs.Channels.{agent_id, app_id, is_agent, is_app, is_master}
+use Rattle.written_net.specs.Channels.{is_master}
 use Rattle.written_world.specs.World.{World, Step}
 use Rattle.written_roles.specs.MasterSteps.{BansMachine}
 use Rattle.written_world.specs.Outputs.{Line, Refused, Judged, Lost, Came}
@@ -20,8 +20,6 @@ use Rattle.packet_pool.specs.declared.fault.PoolFault.{PoolFault}
 use Rattle.packet_pool.specs.declared.fault.PoolFault.TheVariants as pool
 use Rattle.wire_frames.specs.Streams.{HasFrame}
 use Rattle.schedule_replay.specs.Held.{Held, IsOpen}
-use Rattle.running_agents.specs.RunningAgents.{AgentsRecord, AreAgentsOf}
-use Rattle.running_apps.specs.RunningApps.{AppsRecord, AreAppsOf}
 use Rattle.running_masters.specs.RunningMasters.{MastersRecord, AreMastersOf}
 use Rattle.schedule_text.specs.declared.refusal.Refusal.{Refusal}
 use Rattle.schedule_text.specs.declared.refusal.Refusal.TheVariants as why
@@ -103,29 +101,7 @@ pub record KeepsMore (old new : Stored) (sent : List Packet) : Type 0 where
   pub kept : (xs : List Packet) → Keeps old xs → Keeps new (xs ++ sent)
   pub all : AllByRecursion IsSent sent
 
--- What a party leaves of a world, by its kind: the agents, the applications or the masters of the world after it, and the rest as it was
-pub record AgentActs (w w' : World) (p : Party) (sent : List Packet) (after : AgentsRecord) : Type 0 where
-  pub role : is_agent p.id ≡ true
-  pub stand : AreAgentsOf w' after
-  pub acts : OneActs w.net w'.net p (map parcel_is sent)
-  pub cluster : w'.cluster ≡ w.cluster
-  pub hard : w'.hard ≡ w.hard
-  pub masters : w'.masters ≡ w.masters
-  pub apps : w'.apps ≡ w.apps
-  pub boots : (a : ℕ) → w'.boots (app_id a) ≡ w.boots (app_id a)
-  pub events : w'.events ≡ w.events
-
-pub record AppActs (w w' : World) (p : Party) (sent : List Packet) (after : AppsRecord) : Type 0 where
-  pub role : is_app p.id ≡ true
-  pub stand : AreAppsOf w' after
-  pub acts : OneActs w.net w'.net p (map parcel_is sent)
-  pub cluster : w'.cluster ≡ w.cluster
-  pub hard : w'.hard ≡ w.hard
-  pub masters : w'.masters ≡ w.masters
-  pub agents : w'.agents ≡ w.agents
-  pub boots : (m : ℕ) → w'.boots (agent_id m) ≡ w.boots (agent_id m)
-  pub events : w'.events ≡ w.events
-
+-- What a master leaves of a world: the masters of the world after it, and the rest as it was
 pub record MasterActs (w w' : World) (p : Party) (sent : List Packet) (held : Held) (after : MastersRecord) : Type 0 where
   pub role : is_master p.id ≡ true
   pub stand : AreMastersOf w' after

@@ -25,15 +25,14 @@ use Rattle.agent_core.specs.AgentCores.{AgentCore, table_in}
 use Rattle.app_master.specs.AppCores.{AppCore}
 use Rattle.app_master.specs.Usable.{is_named}
 use Rattle.fuxi_master.specs.Cores.{CoreRecord, MasterRecord}
-use Rattle.running_agents.specs.RunningAgents.{agent_in}
-use Rattle.running_apps.specs.RunningApps.{app_in}
+use Rattle.party_slots.specs.Slots.{slot_at}
 use Rattle.running_masters.specs.RunningMasters.{running as master_in}
 use Rattle.schedule_replay.specs.Worlds.{WorldRecord, IsWorld, StandsFor}
 use Rattle.schedule_replay.specs.CoreReads.{held_now, is_placeable}
 
 -- Capacity. The table of each agent that runs fits its machine, in each resource
 abbrev pub TablesFit : WorldRecord → Type 0
-TablesFit r = (m : ℕ) (a : AgentCore) → agent_in r.agents m ≡ Some a → RowsFit r.cluster m (table_in a.up)
+TablesFit r = (m : ℕ) (a : AgentCore) → slot_at r.agents m ≡ Some a → RowsFit r.cluster m (table_in a.up)
 
 -- Once. In a world: what an application holds on a machine is part of one entry of the grants that one master sent, and 0 where it has no place there.
 -- On a machine that its grants name, that entry is the one to which it has come
@@ -52,7 +51,7 @@ pub record IsHeldOnce (r : WorldRecord) (n : ℕ) (a : AppCore) (m : ℕ) : Type
   pub entry : (w : World) → IsWorld w → StandsFor r w → IsOfOneEntry w n a m
 
 abbrev pub AllHeldOnce : WorldRecord → Type 0
-AllHeldOnce r = (n : ℕ) (a : AppCore) → app_in r.apps n ≡ Some a → (m : ℕ) → has_machine r.cluster m ≡ true → IsHeldOnce r n a m
+AllHeldOnce r = (n : ℕ) (a : AppCore) → slot_at r.apps n ≡ Some a → (m : ℕ) → has_machine r.cluster m ≡ true → IsHeldOnce r n a m
 
 -- Views. A receiver and a sender that it may know: its place is not past the last index of that sender, and at the last index it has what the sender shows
 pub record Follows {V D : Type 0} (receiver : Receiving V) (sender : Sending V D) : Type 0 where
@@ -66,8 +65,8 @@ pub record FollowEachOther {V W D E : Type 0} (x : Endpoint V D W) (y : Endpoint
 
 -- of each master that runs with each agent that runs, and with the application of each job that it knows
 pub record AllFollow (r : WorldRecord) : Type 0 where
-  pub agents : (e m : ℕ) (M : MasterRecord) (d : Down) (a : AgentCore) → master_in r.masters e ≡ Some M → slice_get M.core.agents m ≡ Some d → agent_in r.agents m ≡ Some a → FollowEachOther d a.up
-  pub apps : (e n : ℕ) (M : MasterRecord) (d : Grants) (a : AppCore) → master_in r.masters e ≡ Some M → slice_get M.core.apps n ≡ Some (Some d) → app_in r.apps n ≡ Some a → FollowEachOther d a.up
+  pub agents : (e m : ℕ) (M : MasterRecord) (d : Down) (a : AgentCore) → master_in r.masters e ≡ Some M → slice_get M.core.agents m ≡ Some d → slot_at r.agents m ≡ Some a → FollowEachOther d a.up
+  pub apps : (e n : ℕ) (M : MasterRecord) (d : Grants) (a : AppCore) → master_in r.masters e ≡ Some M → slice_get M.core.apps n ≡ Some (Some d) → slot_at r.apps n ≡ Some a → FollowEachOther d a.up
 
 -- Agreement. The worlds for which the cores stand are quiet for the master of an epoch
 abbrev pub IsQuiet : WorldRecord → ℕ → Type 0
@@ -75,8 +74,8 @@ IsQuiet r e = (w : World) → IsWorld w → StandsFor r w → is_quiet w e ≡ t
 
 -- a master, the agents and the applications of the jobs that it knows have the same numbers of each unit on each machine
 pub record Agree (r : WorldRecord) (x : CoreRecord) : Type 0 where
-  pub agents : (m : ℕ) (a : AgentCore) → agent_in r.agents m ≡ Some a → (n u : ℕ) → row_count (table_in a.up) n u ≡ held_on x.allotment.table.entries n u m
-  pub apps : (n : ℕ) (a : AppCore) → app_in r.apps n ≡ Some a → is_known x.known.jobs n ≡ true → (u m : ℕ) → u < a.units → has_machine r.cluster m ≡ true → held_now a u m ≡ held_on x.allotment.table.entries n u m
+  pub agents : (m : ℕ) (a : AgentCore) → slot_at r.agents m ≡ Some a → (n u : ℕ) → row_count (table_in a.up) n u ≡ held_on x.allotment.table.entries n u m
+  pub apps : (n : ℕ) (a : AppCore) → slot_at r.apps n ≡ Some a → is_known x.known.jobs n ≡ true → (u m : ℕ) → u < a.units → has_machine r.cluster m ≡ true → held_now a u m ≡ held_on x.allotment.table.entries n u m
 
 abbrev pub AllAgree : WorldRecord → Type 0
 AllAgree r = (e : ℕ) (M : MasterRecord) → master_in r.masters e ≡ Some M → IsQuiet r e → Agree r M.core

@@ -9,8 +9,10 @@ use Rattle.written_world.specs.World.{World}
 use Rattle.written_world.specs.Good.{Good}
 use Rattle.packet_pool.specs.PacketPools.{Stored, Keeps}
 use Rattle.schedule_replay.specs.Held.{Held, IsOpen}
-use Rattle.running_agents.specs.RunningAgents.{AgentsRecord, AreAgentsOf, AreWithin as AgentsWithin}
-use Rattle.running_apps.specs.RunningApps.{AppsRecord, AreAppsOf, AreWithin as AppsWithin}
+use Rattle.agent_core.specs.AgentCores.{AgentCore}
+use Rattle.app_master.specs.AppCores.{AppCore}
+use Rattle.party_slots.specs.Slots.{SlotsRecord, AreWithin as PeersWithin}
+use Rattle.party_slots.specs.Peers.{AreAgentsOf, AreAppsOf, agent_steps, app_steps}
 use Rattle.running_masters.specs.RunningMasters.{MastersRecord, AreMastersOf, AreWithin as MastersWithin}
 use Rattle.written_world.specs.Orders.{IsInOrder}
 
@@ -19,8 +21,8 @@ pub record WorldRecord : Type 0 where
   pub cluster : ClusterRecord
   pub checkpoint : Held
   pub masters : MastersRecord
-  pub agents : AgentsRecord
-  pub apps : AppsRecord
+  pub agents : SlotsRecord AgentCore
+  pub apps : SlotsRecord AppCore
   pub pool : Stored
   pub events : ℕ
 
@@ -56,8 +58,8 @@ event_steps = 2 ^ 20
 -- no core took more steps than this
 pub record AreWithin (n : ℕ) (r : WorldRecord) : Type 0 where
   pub masters : MastersWithin n r.masters
-  pub agents : AgentsWithin n r.agents
-  pub apps : AppsWithin n r.apps
+  pub agents : PeersWithin agent_steps n r.agents
+  pub apps : PeersWithin app_steps n r.apps
 
 -- It stands for a world to which an input led, whatever happened to it
 pub record IsReached (r : WorldRecord) : Type 0 where

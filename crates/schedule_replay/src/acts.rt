@@ -16,7 +16,7 @@ use crate::running::Running;
 use crate::showing::show;
 use crate::stop::WorldStop;
 use crate::turns::{turn_agent, turn_app, turn_master};
-use running_apps::AppAsk;
+use party_slots::AppAsk;
 use schedule_text::Event;
 use std::alloc::Global;
 

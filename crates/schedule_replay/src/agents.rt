@@ -28,12 +28,12 @@ pub(crate) fn start_agent(
     if machine.0 >= running.cluster.machines() {
         return write_refusal(Some(Refusal::NoMachine), out);
     }
-    let known = running.agents.boot(machine);
+    let known = running.agents.boot(machine.0);
     if boot <= known {
         return write_refusal(Some(Refusal::NotRising(known)), out);
     }
     let has = running.cluster.machine(machine).has;
-    match running.agents.start(alloc, machine, has, boot) {
+    match party_slots::start_agent(&mut running.agents, alloc, machine, has, boot) {
         Ok(()) => Ok(()),
         Err(_) => Err(WorldStop::OutOfMemory),
     }
@@ -50,7 +50,7 @@ pub(crate) fn resync_agent(
 {
     agents_act();
     cores_may_step();
-    if running.agents.resync(machine) {
+    if running.agents.resync(machine.0) {
         return Ok(());
     }
     write_refusal(Some(Refusal::NotRunning), out)

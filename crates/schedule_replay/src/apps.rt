@@ -2,7 +2,7 @@
 
 ghost use Rattle.std.specs.Prelude.{◌≡◌, ◌<◌};
 ghost use Rattle.fuxi_terms.specs.Limits.{most_jobs};
-ghost use Rattle.running_apps.specs.RunningApps.{command_of};
+ghost use Rattle.party_slots.specs.Peers.{command_of};
 ghost use Rattle.written_world.specs.Events.{start_app, asks, resync_app};
 ghost use Rattle.schedule_replay.specs.Moves.{Acts, CanMove, IsRefusalOf};
 
@@ -12,7 +12,7 @@ use crate::stop::WorldStop;
 use crate::text::write_refusal;
 use app_master::AppFault;
 use fuxi_terms::limits::GREATEST_COUNT;
-use running_apps::AppAsk;
+use party_slots::AppAsk;
 use schedule_text::Refusal;
 use schedule_unit::AppNo;
 use std::alloc::Global;
@@ -37,15 +37,12 @@ pub(crate) fn start_app(
     if running.checkpoint.hard().ended(app) {
         return write_refusal(Some(Refusal::Ended), out);
     }
-    let known = running.apps.boot(app);
+    let known = running.apps.boot(app.0);
     if boot <= known {
         return write_refusal(Some(Refusal::NotRising(known)), out);
     }
     let units = job.units();
-    match running
-        .apps
-        .start(alloc, app, units, &running.cluster, boot)
-    {
+    match party_slots::start_app(&mut running.apps, alloc, app, units, &running.cluster, boot) {
         Ok(()) => Ok(()),
         Err(_) => Err(WorldStop::OutOfMemory),
     }
@@ -79,7 +76,7 @@ pub(crate) fn ask_app(
 {
     apps_act();
     cores_may_step();
-    let Some(answer) = running.apps.ask(alloc, app, ask) else {
+    let Some(answer) = party_slots::ask(&mut running.apps, alloc, app, ask) else {
         return write_refusal(Some(Refusal::NotRunning), out);
     };
     let Err(fault) = answer else {
@@ -102,7 +99,7 @@ pub(crate) fn resync_app(
 {
     apps_act();
     cores_may_step();
-    if running.apps.resync(app) {
+    if running.apps.resync(app.0) {
         return Ok(());
     }
     write_refusal(Some(Refusal::NotRunning), out)

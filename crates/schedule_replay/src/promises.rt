@@ -12,6 +12,7 @@ ghost use Rattle.schedule_replay.specs.CoreReads.{held_now};
 ghost use Rattle.schedule_replay.specs.Promises.{TablesFit, AllHeldOnce, AllFollow, AllAgree, AllSettled, AreOfGoodWorld, Agree};
 
 use crate::world::World;
+use party_slots::peers_run;
 use written_world::every_event_keeps_good;
 
 /// Of all that runs in a schedule, whatever happened to it, masters that failed over, packets that were lost, repeated or reordered: each
@@ -29,6 +30,7 @@ pub fn cores_are_safe(world: &World)
     ensures good { AreOfGoodWorld world.now }
 {
     world.is_reached();
+    peers_run();
     every_event_keeps_good();
 }
 

@@ -14,12 +14,14 @@ use crate::checkpoint::Checkpoint;
 use crate::laws::{cores_may_step, events_are_inputs};
 use crate::lines::Lines;
 use crate::stop::WorldStop;
+use agent_core::Agent;
+use app_master::AppMaster;
 use cluster_desc::Cluster;
 use core_join::written_frame_lengths;
 use fuxi_terms::OutOfMemory;
+use fuxi_terms::limits::MOST_JOBS;
 use packet_pool::PacketPool;
-use running_agents::Agents;
-use running_apps::Apps;
+use party_slots::Slots;
 use running_masters::Masters;
 use running_state::write_state;
 use schedule_text::Event;
@@ -33,8 +35,8 @@ pub struct Running {
     pub(crate) cluster: Cluster,
     pub(crate) checkpoint: Checkpoint,
     pub(crate) masters: Masters,
-    pub(crate) agents: Agents,
-    pub(crate) apps: Apps,
+    pub(crate) agents: Slots<Agent>,
+    pub(crate) apps: Slots<AppMaster>,
     pub(crate) pool: PacketPool,
     pub(crate) events: u64,
 }
@@ -73,14 +75,14 @@ impl Running {
     {
         good_at_start();
         worlds_in_order();
-        let _valid = cluster.machines();
-        let agents = Agents::none(alloc, &cluster)?;
+        let machines = cluster.machines();
+        let agents = Slots::none(alloc, machines)?;
         let running = Running {
             cluster,
             checkpoint: Checkpoint::open(alloc)?,
             masters: Masters::none(alloc),
             agents,
-            apps: Apps::none(alloc)?,
+            apps: Slots::none(alloc, MOST_JOBS)?,
             pool: PacketPool::new(alloc),
             events: 0,
         };

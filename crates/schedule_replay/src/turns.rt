@@ -69,7 +69,7 @@ pub(crate) fn turn_agent(
 {
     agents_act();
     written_frame_lengths();
-    let Ok(answer) = running.agents.turn(alloc, machine) else {
+    let Ok(answer) = running.agents.turn(alloc, machine.0) else {
         return Err(WorldStop::OutOfMemory);
     };
     let Some(packets) = answer else {
@@ -90,7 +90,7 @@ pub(crate) fn turn_app(
 {
     apps_act();
     written_frame_lengths();
-    let Ok(answer) = running.apps.turn(alloc, app) else {
+    let Ok(answer) = running.apps.turn(alloc, app.0) else {
         return Err(WorldStop::OutOfMemory);
     };
     let Some(packets) = answer else {

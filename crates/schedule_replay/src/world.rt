@@ -4,8 +4,7 @@ ghost use Rattle.std.specs.Prelude.{◌≡◌, ℕ, ◌+◌, ◌<◌, ◌^◌, �
 ghost use Rattle.std.specs.Option.{option_copied, option_map};
 ghost use Rattle.std.specs.Ordering.{nat_cmp};
 ghost use Rattle.std.specs.FinMap.Entries.{find};
-ghost use Rattle.running_agents.specs.RunningAgents.{agent_in};
-ghost use Rattle.running_apps.specs.RunningApps.{app_in};
+ghost use Rattle.party_slots.specs.Slots.{slot_at};
 ghost use Rattle.running_masters.specs.RunningMasters.{running as master_in};
 ghost use Rattle.written_world.specs.World.{World as WrittenWorld, empty_world};
 ghost use Rattle.written_world.specs.Quiet.{is_quiet};
@@ -24,6 +23,7 @@ use app_master::AppMaster;
 use cluster_desc::Cluster;
 use fuxi_master::Master;
 use fuxi_terms::OutOfMemory;
+use party_slots::peers_run;
 use running_state::is_quiet;
 use schedule_text::Event;
 use schedule_unit::{AppNo, MachineNo};
@@ -131,18 +131,20 @@ impl World {
 
     /// The agent of a machine as it runs; `None` exactly where none runs there. It takes no memory.
     pub fn agent(&self, machine: MachineNo) -> Option<&Agent>
-        ensures core { option_copied result ≡ agent_in self.now.agents machine.0 }
+        ensures core { option_copied result ≡ slot_at self.now.agents machine.0 }
         ensures runs { (w : WrittenWorld) → StandsFor self.now w → is_some result ≡ is_some (find nat_cmp machine.0 w.agents) }
     {
-        self.running.agents.get(machine)
+        peers_run();
+        self.running.agents.get(machine.0)
     }
 
     /// The application of a job as it runs; `None` exactly where none runs. It takes no memory.
     pub fn app(&self, app: AppNo) -> Option<&AppMaster>
-        ensures core { option_copied result ≡ app_in self.now.apps app.0 }
+        ensures core { option_copied result ≡ slot_at self.now.apps app.0 }
         ensures runs { (w : WrittenWorld) → StandsFor self.now w → is_some result ≡ is_some (find nat_cmp app.0 w.apps) }
     {
-        self.running.apps.get(app)
+        peers_run();
+        self.running.apps.get(app.0)
     }
 
     /// How many events it took, refused ones too. It takes no memory.

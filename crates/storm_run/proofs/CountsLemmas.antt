@@ -20,8 +20,8 @@ use Rattle.written_world.specs.World.{World, Agent}
 use Rattle.agent_core.specs.AgentCores.{AgentCore, StandsFor as AgentStandsFor}
 use Rattle.app_master.specs.AppCores.{AppCore, StandsFor as AppStandsFor}
 use Rattle.fuxi_master.specs.Cores.{MasterRecord, StandsFor as MasterStandsFor}
-use Rattle.running_agents.specs.RunningAgents.{AgentsRecord, AreAgentsOf, RunsAs, StandsAt, agent_in}
-use Rattle.running_apps.specs.RunningApps.{AppsRecord, AreAppsOf, AppRunsAs, AppStandsAt, app_in}
+use Rattle.party_slots.specs.Slots.{SlotsRecord, slot_at}
+use Rattle.party_slots.specs.Peers.{AreAgentsOf, AreAppsOf, AgentRunsAs, AppRunsAs, AgentAt, AppAt}
 use Rattle.running_masters.specs.RunningMasters.{MastersRecord, AreMastersOf, running}
 use Rattle.storm_run.specs.Summaries.{granted_by, granted, held_by, held_in, rows_of, rows_in}
 
@@ -46,18 +46,18 @@ pub is_none : {A : Type 0} (o : Option A) → false ≡ is_some o → o ≡ None
 is_none None e = refl
 is_none (Some x) e = cc
 
--- who runs
-pub agent_here : (w : World) (x : AgentsRecord) (m : ℕ) (a : AgentCore) → AreAgentsOf w x → Some a ≡ agent_in x m → RunsAs w m a
-agent_here w x m a s is = subst (StandsAt w m) (sym is) (s.each m)
+-- who runs, by the laws of those who do, as they are called for
+abbrev pub AgentsRun : Type 0
+AgentsRun = (w : World) (x : SlotsRecord AgentCore) → AreAgentsOf w x → (m : ℕ) → AgentAt w m (slot_at x m)
 
-pub no_agent : (w : World) (x : AgentsRecord) (m : ℕ) → AreAgentsOf w x → None ≡ agent_in x m → find nat_cmp m w.agents ≡ None
-no_agent w x m s is = subst (StandsAt w m) (sym is) (s.each m)
+abbrev pub AppsRun : Type 0
+AppsRun = (w : World) (x : SlotsRecord AppCore) → AreAppsOf w x → (n : ℕ) → AppAt w n (slot_at x n)
 
-app_here : (w : World) (x : AppsRecord) (n : ℕ) (a : AppCore) → AreAppsOf w x → Some a ≡ app_in x n → AppRunsAs w n a
-app_here w x n a s is = subst (AppStandsAt w n) (sym is) (s.each n)
+pub agent_here : AgentsRun → (w : World) (x : SlotsRecord AgentCore) (m : ℕ) (a : AgentCore) → AreAgentsOf w x → Some a ≡ slot_at x m → AgentRunsAs w m a
+agent_here run w x m a s is = subst (AgentAt w m) (sym is) (run w x s m)
 
-no_app : (w : World) (x : AppsRecord) (n : ℕ) → AreAppsOf w x → None ≡ app_in x n → find nat_cmp n w.apps ≡ None
-no_app w x n s is = subst (AppStandsAt w n) (sym is) (s.each n)
+app_here : AppsRun → (w : World) (x : SlotsRecord AppCore) (n : ℕ) (a : AppCore) → AreAppsOf w x → Some a ≡ slot_at x n → AppRunsAs w n a
+app_here run w x n a s is = subst (AppAt w n) (sym is) (run w x s n)
 
 -- grants
 pub granted_there : (w : World) (x : MastersRecord) (e a n : ℕ) (m : MasterRecord) → AreMastersOf w x → Some m ≡ running x e → e ≡ w.hard.fence
@@ -70,29 +70,29 @@ pub granted_none : (w : World) (e a : ℕ) → false ≡ is_some (find nat_cmp e
 granted_none w e a none fence = sym (ap (λ o. with_found o 0 (granted_by a)) (subst (λ k. find nat_cmp k w.masters ≡ None) fence (is_none _ none)))
 
 -- what applications hold
-pub held_there : (w : World) (x : AppsRecord) (a n : ℕ) (core : AppCore) → AreAppsOf w x → Some core ≡ app_in x a
+pub held_there : AppsRun → (w : World) (x : SlotsRecord AppCore) (a n : ℕ) (core : AppCore) → AreAppsOf w x → Some core ≡ slot_at x a
     → ((r : AppRole) → AppStandsFor core r → n ≡ sum_by (λ u. sum_by (held_alone r u) (below core.machines)) (below core.units)) → n ≡ held_in w a
-held_there w x a n core s is counts =
-    let r = app_here w x a core s is in
+held_there run w x a n core s is counts =
+    let r = app_here run w x a core s is in
     counts (app_seen w a r.app) r.stands
     ∙ (λ i. sum_by (λ u. sum_by (held_alone (app_seen w a r.app) u) (below (r.stands.machines i))) (below (r.stands.units i)))
     ∙ sym (ap (λ o. with_found o 0 (held_by w a)) r.runs)
 
-pub held_none : (w : World) (x : AppsRecord) (a : ℕ) → AreAppsOf w x → None ≡ app_in x a → 0 ≡ held_in w a
-held_none w x a s is = sym (ap (λ o. with_found o 0 (held_by w a)) (no_app w x a s is))
+pub held_none : AppsRun → (w : World) (x : SlotsRecord AppCore) (a : ℕ) → AreAppsOf w x → None ≡ slot_at x a → 0 ≡ held_in w a
+held_none run w x a s is = sym (ap (λ o. with_found o 0 (held_by w a)) (subst (AppAt w a) (sym is) (run w x s a)))
 
 -- the tables of agents
-pub rows_there : (w : World) (x : AgentsRecord) (m n : ℕ) (core : AgentCore) → AreAgentsOf w x → Some core ≡ agent_in x m
+pub rows_there : AgentsRun → (w : World) (x : SlotsRecord AgentCore) (m n : ℕ) (core : AgentCore) → AreAgentsOf w x → Some core ≡ slot_at x m
     → ((g : Agent) → AgentStandsFor core (agent_seen w m g) → n ≡ rows_of w m g) → n ≡ rows_in w m
-rows_there w x m n core s is counts =
-    let r = agent_here w x m core s is in
+rows_there run w x m n core s is counts =
+    let r = agent_here run w x m core s is in
     counts r.agent r.stands ∙ sym (ap (λ o. with_found o 0 (rows_of w m)) r.runs)
 
-pub rows_none : (w : World) (x : AgentsRecord) (m : ℕ) → AreAgentsOf w x → None ≡ agent_in x m → 0 ≡ rows_in w m
-rows_none w x m s is = sym (ap (λ o. with_found o 0 (rows_of w m)) (no_agent w x m s is))
+pub rows_none : AgentsRun → (w : World) (x : SlotsRecord AgentCore) (m : ℕ) → AreAgentsOf w x → None ≡ slot_at x m → 0 ≡ rows_in w m
+rows_none run w x m s is = sym (ap (λ o. with_found o 0 (rows_of w m)) (subst (AgentAt w m) (sym is) (run w x s m)))
 
 -- the machines that an application knows are those of the cluster
-pub held_few : (r : WorldRecord) (a : ℕ) (core : AppCore) → IsReached r → Some core ≡ app_in r.apps a → core.machines ≤ 256
-held_few r a core reached is =
-    let here = app_here reached.world r.apps a core reached.stands.apps is in
+pub held_few : AppsRun → (r : WorldRecord) (a : ℕ) (core : AppCore) → IsReached r → Some core ≡ slot_at r.apps a → core.machines ≤ 256
+held_few run r a core reached is =
+    let here = app_here run reached.world r.apps a core reached.stands.apps is in
     subst (λ n. n ≤ 256) (sym here.stands.machines) (few_machines reached.world.cluster reached.is.valid)

@@ -15,6 +15,7 @@ ghost use Rattle.storm_run.specs.Summaries.{count_of, granted, held_in, rows_in,
 use app_master::AppMaster;
 use grant_table::GrantTable;
 use party_ledgers::RowLedger;
+use party_slots::peers_run;
 use schedule_replay::World;
 use schedule_unit::{AppNo, MachineNo, UnitNo};
 
@@ -78,6 +79,7 @@ fn held(world: &World, app: AppNo) -> u64
 {
     // What runs is of a valid cluster, which has few machines.
     world.is_reached();
+    peers_run();
     match world.app(app) {
         Some(master) => count_held(master),
         None => 0,
@@ -98,6 +100,7 @@ fn count_rows(table: &RowLedger) -> u64
 fn rows(world: &World, machine: MachineNo) -> u64
     ensures { (w : WrittenWorld) → IsWorld w → StandsFor world.now w → result ≡ rows_in w machine.0 }
 {
+    peers_run();
     match world.agent(machine) {
         Some(agent) => count_rows(agent.table()),
         None => 0,

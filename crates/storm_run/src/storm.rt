@@ -1,6 +1,6 @@
 //! The whole storm.
 
-ghost use Rattle.std.specs.Prelude.{◌≡◌, ◌≤◌, IfOk, IfErr};
+ghost use Rattle.std.specs.Prelude.{◌≡◌, ◌≢◌, ◌≤◌, IfOk, IfErr};
 ghost use Rattle.fuxi_io.specs.Causes.{Rose};
 ghost use Rattle.storm_run.specs.StormRuns.{Ends, StormEnded, StoppedAt, stop_status};
 ghost use Rattle.storm_run.specs.Storms.{most_storm_steps, storm};
@@ -83,6 +83,7 @@ pub fn run_storm<O: Sink>(alloc: Global, seed: u64, steps: u64, out: &mut O) -> 
     // What was written, by the status.
     ensures ended { StormEnded (storm_of seed steps) result (O.took out.old) (O.took out.new) }
     ensures write { result ≡ Status.WriteFault → Rose (O.faults out.old) (O.faults out.new) }
+    ensures writes_served { result ≢ Status.WriteFault → O.faults out.new ≡ O.faults out.old }
 {
     let text = match tell(alloc, seed, steps) {
         Ok(text) => text,

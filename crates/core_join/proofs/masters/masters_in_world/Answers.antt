@@ -27,4 +27,4 @@ returns-clause-starts c d h e core stands w good cluster later =
 pub returns-clause-steps : goal.returns-clause-steps
 returns-clause-steps c =
     let join = c.masters_join.ensures in
-    steps_in (record { hears = λ w M. join.hears (report_excess w.cluster M) w M; keeps = c.kept_reports_lead.ensures; commands = join.commands; turns = join.turns; resyncs = join.resyncs })
+    steps_in (record { hears = λ w M. join.hears (report_excess w.cluster M) w M; keeps = c.kept_reports_lead.ensures; commands = join.commands; turns = join.turns; resyncs = join.resyncs; ruled = c.words_are_ruled.ensures })

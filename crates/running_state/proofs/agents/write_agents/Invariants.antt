@@ -2,7 +2,7 @@ use Rattle.std.specs.List.{flat_map}
 use Rattle.fuxi_terms.specs.Lists.{below}
 use Rattle.written_world.specs.World.{World}
 use Rattle.party_text.specs.Texts.{Shows}
-use Rattle.running_agents.specs.RunningAgents.{AreAgentsOf}
+use Rattle.party_slots.specs.Peers.{AreAgentsOf}
 use Rattle.running_state.specs.Parts.{machine_lines}
 use Rattle.running_state.proofs.Loops.{Printed}
 use Rattle.running_state.proofs.agents.write_agents.Given as goal

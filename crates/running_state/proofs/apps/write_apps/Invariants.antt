@@ -2,7 +2,7 @@ use Rattle.std.specs.List.{flat_map}
 use Rattle.fuxi_terms.specs.Lists.{below}
 use Rattle.written_world.specs.World.{World}
 use Rattle.party_text.specs.Texts.{Shows}
-use Rattle.running_apps.specs.RunningApps.{AreAppsOf}
+use Rattle.party_slots.specs.Peers.{AreAppsOf}
 use Rattle.running_state.specs.Parts.{job_lines}
 use Rattle.running_state.proofs.Loops.{Printed}
 use Rattle.running_state.proofs.apps.write_apps.Given as goal

@@ -4,7 +4,7 @@ use Rattle.written_world.specs.World.{World}
 use Rattle.written_world.specs.Quiet.{is_agent_quiet}
 use Rattle.written_join.specs.SeenWorlds.{master_seen}
 use Rattle.fuxi_master.specs.Cores.{StandsFor}
-use Rattle.running_agents.specs.RunningAgents.{AreAgentsOf}
+use Rattle.party_slots.specs.Peers.{AreAgentsOf}
 use Rattle.running_state.proofs.quiet.are_agents_quiet.Given as goal
 
 abbrev pub invariant-loop-machine : goal.invariant-loop-machine

@@ -11,4 +11,4 @@ returns-then-not-is_app_quiet c w m stands apps sorted =
 pub returns : goal.returns
 returns c w m stands apps sorted =
     let end = c.loop-number-test.false in
-    sym (all_entries (is_app_quiet w m) w.apps sorted (all_jobs w m c.args.apps.now c.loop-number.number apps (omega (arith, end)) (c.loop-number.invariant w m stands apps)))
+    sym (all_entries (is_app_quiet w m) w.apps sorted (all_jobs c.peers_run.ensures.apps w m c.args.apps.now c.loop-number.number apps (omega (arith, end)) (c.loop-number.invariant w m stands apps)))

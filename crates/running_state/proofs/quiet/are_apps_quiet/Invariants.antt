@@ -7,7 +7,7 @@ use Rattle.written_world.specs.World.{World}
 use Rattle.written_world.specs.Quiet.{is_app_quiet}
 use Rattle.written_join.specs.SeenWorlds.{master_seen}
 use Rattle.fuxi_master.specs.Cores.{StandsFor}
-use Rattle.running_apps.specs.RunningApps.{AreAppsOf}
+use Rattle.party_slots.specs.Peers.{AreAppsOf}
 use Rattle.running_state.proofs.quiet.are_apps_quiet.Given as goal
 
 abbrev pub invariant-loop-number : goal.invariant-loop-number

@@ -1,23 +1,22 @@
-use Rattle.std.proofs.Common.{◌≡◌, length, [], ◌∷◌, ◌++◌, sym, ◌∙◌, ap, subst}
+use Rattle.std.proofs.Common.{◌≡◌, length, [], ◌∷◌, ◌++◌, sym, ◌∙◌, ap}
 use Rattle.fuxi_terms.specs.Cluster.{ClusterRecord}
 use Rattle.written_world.specs.Outputs.{State, Packets}
 use Rattle.written_world.specs.Show.{show}
 use Rattle.written_join.specs.States.{hard_lines}
-use Rattle.running_agents.specs.RunningAgents.{RunsAs, StandsAt}
-use Rattle.running_apps.specs.RunningApps.{AppRunsAs, AppStandsAt}
 use Rattle.running_state.specs.Parts.{show_parties}
 use Rattle.schedule_text.specs.PrintedLines.{line_text}
 use Rattle.written_join.proofs.ShowsLemmas.{shows_then, shows_same}
+use Rattle.running_state.proofs.Peers.{agent_runs, app_runs}
 use Rattle.running_state.proofs.Whole.{whole_state}
 use Rattle.running_state.proofs.state.write_state.Goals as goal
 
 pub write_parties-requires-clause-agents : goal.write_parties-requires-clause-agents
 write_parties-requires-clause-agents c = let k = c.requires.known in
-    λ m a is. let runs : RunsAs k.world m a = subst (StandsAt k.world m) is (k.of.agents.each m) in sym runs.stands.machine
+    λ m a is. let runs = agent_runs c.peers_run.ensures.agents k.world c.args.agents.now m a k.of.agents (sym is) in sym runs.stands.machine
 
 pub write_parties-requires-clause-apps : goal.write_parties-requires-clause-apps
 write_parties-requires-clause-apps c = let k = c.requires.known in
-    λ a core is. let runs : AppRunsAs k.world a core = subst (AppStandsAt k.world a) is (k.of.apps.each a) in sym runs.stands.job
+    λ a core is. let runs = app_runs c.peers_run.ensures.apps k.world c.args.apps.now a core k.of.apps (sym is) in sym runs.stands.job
 
 pub returns-in-Ok-write_line-clause-ok : goal.returns-in-Ok-write_line-clause-ok
 returns-in-Ok-write_line-clause-ok c =

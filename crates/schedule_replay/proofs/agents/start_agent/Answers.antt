@@ -2,7 +2,8 @@ use Rattle.std.proofs.Common.{◌≡◌, ◌<◌, true, false, length, sym, ◌�
 use Rattle.std.proofs.lemmas.Bool.Decides.{nat_tests}
 use Rattle.fuxi_terms.specs.Cluster.{ClusterRecord, has_machine, machine_of}
 use Rattle.fuxi_terms.specs.Padded.{padded}
-use Rattle.running_agents.specs.RunningAgents.{boot_in}
+use Rattle.party_slots.specs.Slots.{boot_at}
+use Rattle.party_slots.specs.Peers.{agent_steps}
 use Rattle.written_net.specs.Channels.{agent_id}
 use Rattle.written_roles.specs.Refusals.{NotRising}
 use Rattle.written_world.specs.World.{refused}
@@ -11,7 +12,7 @@ use Rattle.schedule_text.specs.declared.refusal.Refusal.TheVariants as why
 use Rattle.schedule_replay.specs.Worlds.{WorldRecord}
 use Rattle.schedule_replay.specs.Moves.{Acts, IsActed}
 use Rattle.schedule_replay.proofs.PeersActInWorld.{acts_by, refuses, agent_beyond, agent_too_low, agent_starts, has_as}
-use Rattle.schedule_replay.proofs.MovesLemmas.{once_up_to, agents_once, agents_still}
+use Rattle.schedule_replay.proofs.MovesLemmas.{once_up_to, agents_once, peers_still}
 use Rattle.schedule_replay.proofs.agents.start_agent.Goals as goal
 use Rattle.schedule_replay.proofs.agents.start_agent.Goals.{in-Ok, in-Err}
 
@@ -37,7 +38,7 @@ returns-then-boot-known c =
     let n = c.machines.ensures.number ∙ ap (λ (r : WorldRecord). length r.cluster.machines) c.running.view_is ∙ ap (λ (d : ClusterRecord). length d.machines) s.cluster in
     let within = c.if-machine-machines.false in
     let there : has_machine w.cluster m ≡ true = grind (arith, nat_tests, n, within) in
-    let known : c.boot-known.result ≡ w.boots (agent_id m) = c.boot-known.ensures ∙ ap (λ (r : WorldRecord). boot_in r.agents m) c.running.view_is ∙ sym (s.agents.last m) in
+    let known : c.boot-known.result ≡ w.boots (agent_id m) = c.boot-known.ensures ∙ ap (λ (r : WorldRecord). boot_at r.agents m) c.running.view_is ∙ sym (s.agents.last m) in
     let low = c.if-boot-known.true in
     agent_too_low w m b there (omega (arith, known, low)) ∙ ap (λ k. refused w (NotRising k)) (sym known)))
 
@@ -46,8 +47,8 @@ returns c =
     let old : WorldRecord = record { cluster = c.running.inside.cluster; checkpoint = c.running.inside.checkpoint; masters = c.running.inside.masters; agents = c.running.inside.agents; apps = c.running.inside.apps; pool = c.running.inside.pool; events = c.running.inside.events } in
     let m = c.args.machine.0 in
     let b = c.args.boot in
-    let agents = c.start.new.self in
-    elim c.match-start.branch [
+    let agents = c.start_agent.new.agents in
+    elim c.match-start_agent.branch [
       | in-Ok x ↦ subst (λ r. Acts (λ w. start_agent w m b) c.args.running.now (record old { agents = agents }) c.args.out.now.items c.args.out.now.items r) (sym x.result-is)
           (subst (λ r. IsActed (λ w. start_agent w m b) r (record old { agents = agents }) c.args.out.now.items c.args.out.now.items) c.running.view_is (record {
             does = λ w is s.
@@ -59,7 +60,7 @@ returns c =
                 let later : w.boots (agent_id m) < b = omega (arith, known, high) in
                 let has = has_as old.cluster m c.machine.result.now c.machine.ensures ∙ ap (λ (d : ClusterRecord). padded (machine_of d m).has) s.cluster in
                 agent_starts c.agents_act.ensures w old m b agents c.args.out.now.items s there later (x.in-Ok.ensures.world w is.good s.agents has later);
-            moves = once_up_to old (record old { agents = agents }) (agents_once old agents old.pool (agents_still old.agents agents c.start.ensures.within));
+            moves = once_up_to old (record old { agents = agents }) (agents_once old agents old.pool (peers_still agent_steps old.agents agents c.start_agent.ensures.within));
           }))
       | in-Err x ↦ subst (λ r. Acts (λ w. start_agent w m b) c.args.running.now (record old { agents = agents }) c.args.out.now.items c.args.out.now.items r) (sym x.result-is) (λ w is s. tt)
     ]

@@ -1,11 +1,11 @@
 use Rattle.std.proofs.Common.{Some, sym, subst}
-use Rattle.running_apps.specs.RunningApps.{AreAppsOf, AskInWorld, command_of}
+use Rattle.party_slots.specs.Peers.{AskInWorld, command_of}
 use Rattle.written_world.specs.Events.{asks}
 use Rattle.schedule_text.specs.declared.refusal.Refusal.TheVariants as why
 use Rattle.schedule_replay.specs.Worlds.{WorldRecord}
 use Rattle.schedule_replay.specs.Moves.{Acts, IsActed, IsRefusalOf}
 use Rattle.schedule_replay.proofs.MastersActInWorld.{is_refused}
-use Rattle.schedule_replay.proofs.PeersActInWorld.{acts_by, asked_done, asked_not, fault_is, with_apps}
+use Rattle.schedule_replay.proofs.PeersActInWorld.{acts_by, app_done, fault_is, with_apps}
 use Rattle.schedule_replay.proofs.MovesLemmas.{once_up_to, apps_once}
 use Rattle.schedule_replay.proofs.apps.ask_app.Goals as goal
 use Rattle.schedule_replay.proofs.apps.ask_app.Goals.{in-Some-refusal_of, in-None}
@@ -15,12 +15,12 @@ returns-in_default c =
     let old : WorldRecord = record { cluster = c.running.inside.cluster; checkpoint = c.running.inside.checkpoint; masters = c.running.inside.masters; agents = c.running.inside.agents; apps = c.running.inside.apps; pool = c.running.inside.pool; events = c.running.inside.events } in
     let a = c.args.app.0 in
     let x = command_of c.args.ask in
-    let apps = c.ask.new.self in
+    let apps = c.ask.new.apps in
     acts_by (λ w. asks w a x) c.args.running.now (record old { apps = apps }) c.args.out.now.items c.write_refusal.new.out.items _ c.write_refusal.result c.write_refusal.ensures.ok c.write_refusal.ensures.err (λ text.
     subst (λ r. IsActed (λ w. asks w a x) r (record old { apps = apps }) c.args.out.now.items c.write_refusal.new.out.items) c.running.view_is (record {
       does = λ w is s.
           let h = c.in_default.ensures.world w is.good s.apps in
-          is_refused w (asks w a x) (record old { apps = apps }) why.NotRunning c.args.out.now.items c.write_refusal.new.out.items (with_apps w old apps s (subst (AreAppsOf w) (sym h.1) s.apps)) (asked_not w a x h.0) text;
+          is_refused w (asks w a x) (record old { apps = apps }) why.NotRunning c.args.out.now.items c.write_refusal.new.out.items (with_apps w old apps s h.stand) h.same text;
       moves = once_up_to old (record old { apps = apps }) (apps_once old apps old.pool c.ask.ensures.within);
     }))
 
@@ -29,12 +29,11 @@ returns-in_default-answer c =
     let old : WorldRecord = record { cluster = c.running.inside.cluster; checkpoint = c.running.inside.checkpoint; masters = c.running.inside.masters; agents = c.running.inside.agents; apps = c.running.inside.apps; pool = c.running.inside.pool; events = c.running.inside.events } in
     let a = c.args.app.0 in
     let x = command_of c.args.ask in
-    let apps = c.ask.new.self in
+    let apps = c.ask.new.apps in
     let h = subst (λ r. AskInWorld a x old.apps apps (Some r)) c.in_default-answer.is c.in-Some.ensures.world in
     subst (λ r. IsActed (λ w. asks w a x) r (record old { apps = apps }) c.args.out.now.items c.args.out.now.items) c.running.view_is (record {
       does = λ w is s.
-          let y = h w is.good s.apps in
-          asked_done c.apps_act.ensures w old a y.app x apps c.args.out.now.items s y.world y.quiet;
+          app_done c.apps_act.ensures w (asks w a x) old a apps c.args.out.now.items s (h w is.good s.apps);
       moves = once_up_to old (record old { apps = apps }) (apps_once old apps old.pool c.ask.ensures.within);
     })
 
@@ -44,7 +43,7 @@ returns c =
     let now = c.args.running.now in
     let a = c.args.app.0 in
     let x = command_of c.args.ask in
-    let apps = c.ask.new.self in
+    let apps = c.ask.new.apps in
     let before = c.args.out.now.items in
     let h = subst (λ r. AskInWorld a x old.apps apps (Some r)) c.in-Err.is c.in-Some.ensures.world in
     elim c.match-refusal_of.branch [
@@ -56,7 +55,7 @@ returns c =
           subst (λ r. IsActed (λ w. asks w a x) r (record old { apps = apps }) before written.new.out.items) c.running.view_is (record {
             does = λ w is s.
                 let y = h w is.good s.apps in
-                is_refused w (asks w a x) (record old { apps = apps }) v.in-Some-refusal_of.refusal before written.new.out.items (with_apps w old apps s (subst (AreAppsOf w) (sym y.same) s.apps))
+                is_refused w (asks w a x) (record old { apps = apps }) v.in-Some-refusal_of.refusal before written.new.out.items (with_apps w old apps s y.stand)
                 (fault_is w (asks w a x) c.in-Err.fault v.in-Some-refusal_of.refusal (subst (IsRefusalOf c.in-Err.fault) v.in-Some-refusal_of.is c.refusal_of.ensures) y.says) text;
             moves = once_up_to old (record old { apps = apps }) (apps_once old apps old.pool c.ask.ensures.within);
           }))))

@@ -1,11 +1,12 @@
 use Rattle.std.proofs.Common.{Some, sym, ◌∙◌, ap, subst}
-use Rattle.written_net.specs.Channels.{agent_id, party}
-use Rattle.written_world.specs.Events.{turn_agent, turn_to_master}
-use Rattle.running_agents.specs.RunningAgents.{TurnsOneIn}
+use Rattle.written_world.specs.Events.{turn_agent}
+use Rattle.written_parties.specs.SeenParties.{Agents}
+use Rattle.party_slots.specs.Slots.{TurnsOneIn, NoneIn}
+use Rattle.party_slots.specs.Peers.{AgentStands}
 use Rattle.schedule_text.specs.declared.refusal.Refusal.TheVariants as why
 use Rattle.schedule_replay.specs.Worlds.{WorldRecord}
 use Rattle.schedule_replay.specs.Moves.{Acts, IsActed}
-use Rattle.schedule_replay.proofs.PeersActInWorld.{acts_by, refuses, agent_runs_not}
+use Rattle.schedule_replay.proofs.PeersActInWorld.{acts_by, refuses}
 use Rattle.schedule_replay.proofs.TurnSendsOrStops.{agent_turns}
 use Rattle.schedule_replay.proofs.turns.turn_agent.Goals as goal
 
@@ -17,7 +18,7 @@ returns-in_default-answer c =
     acts_by (λ w. turn_agent w n) c.args.running.now c.args.running.now c.args.out.now.items c.write_refusal.new.out.items _ c.write_refusal.result c.write_refusal.ensures.ok c.write_refusal.ensures.err (λ text.
     subst (λ r. IsActed (λ w. turn_agent w n) r r c.args.out.now.items c.write_refusal.new.out.items) c.running.view_is
     (refuses (λ w. turn_agent w n) old why.NotRunning c.args.out.now.items c.write_refusal.new.out.items
-    (λ w is s. agent_runs_not w n (λ g. turn_to_master w (party (agent_id n) g.boot)) (subst (TurnsOneIn w n old.agents) c.in_default-answer.is (c.in-Ok.ensures.world w is.good s.agents))) text))
+    (λ w is s. let none : NoneIn AgentStands Agents w old.agents (turn_agent w n) = subst (TurnsOneIn AgentStands Agents w n old.agents) c.in_default-answer.is (c.in-Ok.ensures.world w Agents is.good s.agents) in none.same) text))
 
 -- one runs
 pub returns : goal.returns
@@ -26,5 +27,5 @@ returns c =
     let n = c.args.machine.0 in
     subst (λ r. Acts (λ w. turn_agent w n) r (record old { pool = c.send.new.pool }) c.args.out.now.items c.send.new.out.items c.send.result) c.running.view_is
     (agent_turns c.agents_act.ensures c.written_frame_lengths.ensures old n c.as_slice.result.now c.send.new.pool c.args.out.now.items c.send.new.out.items c.send.result
-    (λ w is s. subst (TurnsOneIn w n old.agents) (c.in-Some.is ∙ ap Some (sym c.as_slice.ensures)) (c.in-Ok.ensures.world w is.good s.agents))
+    (λ w is s. subst (TurnsOneIn AgentStands Agents w n old.agents) (c.in-Some.is ∙ ap Some (sym c.as_slice.ensures)) (c.in-Ok.ensures.world w Agents is.good s.agents))
     c.send.ensures.keeps c.send.ensures.text c.send.ensures.stops)

@@ -1,0 +1,3 @@
+pub mod PartyAnswers
+pub mod Slots
+pub mod Peers

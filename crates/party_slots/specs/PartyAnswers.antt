@@ -1,0 +1,19 @@
+-- What a core answers, said of each party by itself that it stands for.
+use Rattle.std.specs.Prelude.{◌≡◌, List, map}
+use Rattle.party_ledgers.specs.declared.packets.Heard.{Heard}
+use Rattle.party_ledgers.specs.declared.packets.Packet.{Packet}
+use Rattle.core_side.specs.Parcels.{parcel_is}
+use Rattle.written_parties.specs.SeenParties.{Role, HeardAlone, hears, turn}
+
+-- it stands for what the party becomes, and tells what that heard
+pub record Hears (now : Role → Type 0) (h : HeardAlone) (heard : Heard) : Type 0 where
+  pub role : now h.role
+  pub fresh : heard.fresh ≡ h.fresh
+  pub says : heard.what ≡ h.what
+
+abbrev pub HearsAlike : (Role → Type 0) → (Role → Type 0) → Packet → Heard → Type 0
+HearsAlike was now packet heard = (r : Role) → was r → Hears now (hears r (parcel_is packet)) heard
+
+-- the packets are those that the party by itself sends
+abbrev pub SendsAlike : (Role → Type 0) → List Packet → Type 0
+SendsAlike stands packets = (r : Role) → stands r → map parcel_is packets ≡ turn r

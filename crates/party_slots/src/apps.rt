@@ -1,0 +1,81 @@
+//! Applications in slots.
+
+ghost use Rattle.std.specs.Prelude.{◌≡◌, ◌+◌, ◌<◌, ◌≤◌, ℕ, length, OnOk, OnErr};
+ghost use Rattle.fuxi_terms.specs.Limits.{most_units};
+ghost use Rattle.party_slots.specs.Slots.{AreWithin, MayStep, slot_at};
+ghost use Rattle.party_slots.specs.Peers.{AppStartInWorld, AskInWorld, app_steps, command_of};
+
+use crate::asking::{AppAsk, ask_app};
+use crate::party::Party;
+use crate::slots::Slots;
+use app_master::{AppFault, AppMaster};
+use cluster_desc::Cluster;
+use ledger_law::OutOfMemory;
+use party_ledgers::{Heard, Kind, Packet, Packets};
+use schedule_unit::AppNo;
+use std::alloc::Global;
+use written_parties::parties_join;
+
+impl Party for AppMaster {
+    ghost use Rattle.party_slots.specs.Peers.{AppStands, app_steps};
+
+    ghost stands = { AppStands };
+
+    ghost steps = { app_steps };
+
+    fn hear(self, alloc: Global, packet: &Packet) -> Result<(AppMaster, Heard), OutOfMemory> {
+        self.on_packet(alloc, packet)
+    }
+
+    fn turn(&self, alloc: Global) -> Result<Packets, OutOfMemory> {
+        AppMaster::turn(self, alloc)
+    }
+
+    fn resync(&mut self) {
+        AppMaster::resync(self)
+    }
+}
+
+/// Starts the application of a job, which has so many units, in a boot, which is at least 1. One that runs of it is gone. Want of
+/// memory leaves all as it was.
+pub fn start_app(
+    apps: &mut Slots<AppMaster>,
+    alloc: Global,
+    app: AppNo,
+    units: u8,
+    cluster: &Cluster,
+    boot: u64,
+) -> Result<(), OutOfMemory>
+    requires job { app.0 < length apps.old.parties }
+    requires units { units ≤ most_units }
+    requires boot { 0 < boot }
+    ensures world { OnOk result (AppStartInWorld app.0 units cluster.now boot apps.old apps.new) }
+    ensures within { (n : ℕ) → AreWithin app_steps n apps.old → AreWithin app_steps n apps.new }
+    ensures err { OnErr result (apps.new ≡ apps.old) }
+{
+    // The number of the job is one that a job may have, since there are no more slots.
+    let _slots = apps.len();
+    let core = AppMaster::start(alloc, app, units, cluster, boot)?;
+    apps.start(app.0, core, boot);
+    Ok(())
+}
+
+/// The application of a job is asked; `None` where none runs. After a fault it is as it was.
+pub fn ask(
+    apps: &mut Slots<AppMaster>,
+    alloc: Global,
+    app: AppNo,
+    ask: AppAsk,
+) -> Option<Result<(), AppFault>>
+    requires { MayStep app_steps (slot_at apps.old app.0) }
+    ensures world { AskInWorld app.0 (command_of ask) apps.old apps.new result }
+    ensures within { (n : ℕ) → AreWithin app_steps n apps.old → AreWithin app_steps (n + 1) apps.new }
+{
+    parties_join();
+    let Some(mut core) = apps.take(app.0) else {
+        return None;
+    };
+    let answer = ask_app(&mut core, alloc, ask);
+    apps.put(app.0, core);
+    Some(answer)
+}

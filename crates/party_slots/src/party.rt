@@ -1,0 +1,42 @@
+//! What a slot holds.
+
+use ledger_law::OutOfMemory;
+use party_ledgers::{Heard, Kind, Packet, Packets};
+use std::alloc::Global;
+
+/// One party as it runs. What its calls do is said of every party of the definitions that it stands for. Each is at most one step, of
+/// which fewer than 2^50 may be taken.
+pub trait Party: Sized + Drop {
+    ghost use Rattle.std.specs.Prelude.{◌≡◌, ◌+◌, ◌<◌, ◌≤◌, ℕ, IfOk};
+    ghost use Rattle.std.specs.List.{AllByRecursion};
+    ghost use Rattle.fuxi_terms.specs.Limits.{most_steps};
+    ghost use Rattle.party_ledgers.specs.Packets.{IsFormed};
+    ghost use Rattle.core_side.specs.Parcels.{IsSent};
+    ghost use Rattle.written_parties.specs.SeenParties.{Role, resynced};
+    ghost use Rattle.party_slots.specs.PartyAnswers.{HearsAlike, SendsAlike};
+
+    /// It stands for this party.
+    ghost stands: { Self → Role → Type 0 };
+
+    /// The number of its steps.
+    ghost steps: { Self → ℕ };
+
+    /// Hears a packet that is formed and no End. Where memory is refused the party is gone.
+    fn hear(self, alloc: Global, packet: &Packet) -> Result<(Self, Heard), OutOfMemory>
+        requires formed { IsFormed packet.now }
+        requires no_end { packet.now.kind ≡ Kind.End → ⊥ }
+        requires steps { steps self < most_steps }
+        ensures hears { IfOk result (λ after. HearsAlike (stands self) (stands after.0) packet.now after.1) }
+        ensures steps { IfOk result (λ after. steps after.0 ≤ steps self + 1) };
+
+    /// What it sends in one turn. It changes nothing.
+    fn turn(&self, alloc: Global) -> Result<Packets, OutOfMemory>
+        ensures sends { IfOk result (SendsAlike (stands self.now)) }
+        ensures formed { IfOk result (AllByRecursion IsSent) };
+
+    /// Forgets what its master has acknowledged. It takes no memory.
+    fn resync(&mut self)
+        requires { steps self.old < most_steps }
+        ensures resyncs { (r : Role) → stands self.old r → stands self.new (resynced r) }
+        ensures steps { steps self.new ≤ steps self.old + 1 };
+}

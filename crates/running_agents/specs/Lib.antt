@@ -1,2 +1,0 @@
-pub mod RunningAgents
-pub mod AgentSlots

@@ -1,2 +1,0 @@
-pub mod RunningApps
-pub mod AppSlots

@@ -1,0 +1,3 @@
+pub mod WordsAreRuled
+pub mod ActsLemmas
+pub mod SeenPartiesLemmas
