@@ -143,32 +143,47 @@ pub fn failing<P: Print>(rt: &P, alloc: Global, name: &str, rest: &str) -> Resul
     over_lines(rt, alloc, name, bytes_of(alloc, text)?, fails)
 }
 
-// Lines of a command that are read byte by byte, where a read fails: whether a read failed, and what is printed of it.
-fn read_once(alloc: Global, name: &str, text: &str, fail: u64) -> Result<(bool, String), Stop> {
+// Lines of a command that are read byte by byte, where a read or a write fails: the status, and what is printed of it.
+fn read_slowly(
+    alloc: Global,
+    (name, text): (&str, &str),
+    [read, write]: [u64; 2],
+) -> Result<(Status, String), Stop> {
     let mut input = Drops {
         bytes: bytes_of(alloc, text)?,
         at: 0,
-        fail,
+        fail: read,
         calls: 0,
         faults: 0,
     };
-    let (mut out, mut err) = (sink(alloc, 0)?, sink(alloc, 0)?);
+    let (mut out, mut err) = (sink(alloc, write)?, sink(alloc, 0)?);
     let status = command(alloc, &[name], &mut input, &mut out, &mut err)?;
     let told = shown(alloc, &status, out.bytes(), err.bytes())?;
-    Ok((status == Status::ReadFault, told))
+    Ok((status, told))
 }
 
-/// Lines of a command that are read byte by byte, where the first read fails, the second, and so on: each answer that
-/// is another one than that before, with the number of the read.
-pub fn each_read<P: Print>(rt: &P, alloc: Global, name: &str, text: &str) -> Result<(), Stop> {
+/// Lines of a command that are read byte by byte, where the first read fails, the second, and so on, or the first write:
+/// each answer that is another one than that before, with the number of the call.
+pub fn each_call<P: Print>(
+    rt: &P,
+    alloc: Global,
+    lines: (&str, &str),
+    is_write: bool,
+) -> Result<(), Stop> {
+    let fault = if is_write {
+        Status::WriteFault
+    } else {
+        Status::ReadFault
+    };
     let mut last = String::new(alloc);
     for fail in 1..=MOST {
-        let (failed, now) = read_once(alloc, name, text, fail)?;
+        let fails = if is_write { [0, fail] } else { [fail, 0] };
+        let (status, now) = read_slowly(alloc, lines, fails)?;
         if now != last {
             print!(rt; "from {fail} {now} ")?;
             last = now;
         }
-        if !failed {
+        if status != fault {
             break;
         }
     }

@@ -1,7 +1,8 @@
 -- What a line of an event makes of the world, and of the run where the world stops.
-use Rattle.std.proofs.Common.{◌≡◌, inr, ℕ, false, List, Option, Ok, Err, refl, sym, ◌∙◌, ap, subst}
+use Rattle.std.proofs.Common.{◌≡◌, inl, inr, ℕ, false, List, Option, None, Some, Ok, Err, refl, sym, ◌∙◌, ap, subst}
 use Rattle.std.specs.Io.KnownBytes.{Appends}
 use Rattle.fuxi_io.specs.Causes.{TakesPart}
+use Rattle.fuxi_io.specs.WriteBuffers.{with_waiting, TakesWaiting}
 use Rattle.fuxi_io.specs.declared.status.Status.TheVariants.{WriteFault}
 use Rattle.schedule_text.specs.ReadEvents.{event_of}
 use Rattle.schedule_text.specs.declared.event.Event.{Event as LineEvent}
@@ -13,7 +14,7 @@ use Rattle.schedule_replay.specs.Worlds.{WorldRecord}
 use Rattle.written_world.specs.World.{World}
 use Rattle.written_world.specs.Events.{world_step}
 use Rattle.input_lines.specs.Contents.{is_skipped}
-use Rattle.input_lines.specs.LineProgress.{IsTaken as IsLineTaken}
+use Rattle.input_lines.specs.LineProgress.{IsTaken as IsLineTaken, Flushes}
 use Rattle.input_lines.specs.LineRuns.{Prints}
 use Rattle.schedule_run.specs.ScheduleProgress.{Stands, TakesLine, world_status}
 use Rattle.schedule_run.specs.ScheduleRuns.{said_of, unless_past, world_runner}
@@ -41,3 +42,15 @@ module _ (line : List ℕ) (number : ℕ) (w : World) (event : LineEvent) (new :
 
     pub took_part : TakesPart before after bytes → TakesLine new line number w (Err WriteFault) before after
     took_part writes = (unskipped, (text, prints, subst (TakesPart before after) same writes))
+
+appends_waiting : (took : Option (List ℕ)) (waiting : List ℕ) → Appends took (with_waiting took waiting) waiting
+appends_waiting None waiting = tt
+appends_waiting (Some p) waiting = refl
+
+-- a part of what waited was taken, or all of it and a part of what the event printed
+pub breaks_line : (line : List ℕ) (number : ℕ) (event : LineEvent) (old new : WorldRecord) → is_skipped line ≡ false → event_of line ≡ Ok event → (text bytes : List ℕ) (took after : Option (List ℕ)) (waiting : List ℕ)
+    → ((w : World) → Stands old w → IsTaken w (event_as event) new text) → bytes ≡ text → TakesWaiting took waiting bytes after
+    → Flushes waiting WriteFault took after (λ mid. (w : World) → Stands old w → TakesLine new line number w (Err WriteFault) mid after)
+breaks_line line number event old new unskipped is text bytes took after waiting taken same (inl part) = inl (refl, part)
+breaks_line line number event old new unskipped is text bytes took after waiting taken same (inr part) =
+    inr (with_waiting took waiting, appends_waiting took waiting, λ w s. took_part line number w event new unskipped is text bytes (with_waiting took waiting) after (taken w s) same part)

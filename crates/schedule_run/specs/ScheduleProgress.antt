@@ -7,7 +7,7 @@ use Rattle.schedule_replay.specs.declared.stop.WorldStop.{WorldStop}
 use Rattle.schedule_replay.specs.declared.stop.WorldStop.TheVariants.{TooManyPackets, PoolBytes, OutOfMemory as WantOfMemory}
 use Rattle.schedule_replay.specs.Worlds.{WorldRecord, IsWorld, StandsFor}
 use Rattle.written_world.specs.World.{World}
-use Rattle.input_lines.specs.LineProgress.{TakesLine as Takes, WritesEnd}
+use Rattle.input_lines.specs.LineProgress.{TakesLine as Takes, TakesLineBehind as TakesBehind, Flushes, WritesEnd}
 use Rattle.schedule_run.specs.ScheduleRuns.{world_ends, world_runner}
 
 -- what runs stands for a world to which inputs lead
@@ -25,6 +25,14 @@ world_status WantOfMemory = OutOfMemory
 abbrev pub TakesLine : WorldRecord → List ℕ → ℕ → World → Result (Unit {0}) Status → Option (List ℕ) → Option (List ℕ) → Type 0
 TakesLine new line number w result before after = Takes {A = Unit {0}} world_runner.says (Stands new) line number w result before after
 
+-- the same where its text waits behind what waited, whatever world what ran stood for
+abbrev pub TakesLineBehind : WorldRecord → WorldRecord → List ℕ → ℕ → Result (Unit {0}) Status → List ℕ → List ℕ → Option (List ℕ) → Option (List ℕ) → Type 0
+TakesLineBehind old new line number result waiting left took now = TakesBehind world_runner.says (Stands old) (Stands new) line number result waiting left took now
+
 -- what ending a run with this status wrote behind its last line
 abbrev pub WritesState : World → Status → Option (List ℕ) → Option (List ℕ) → Type 0
 WritesState w status before after = WritesEnd world_ends w status before after
+
+-- what waited was written, and then the state was
+abbrev pub WritesStateBehind : WorldRecord → Status → List ℕ → Option (List ℕ) → Option (List ℕ) → Type 0
+WritesStateBehind r status waiting took now = Flushes waiting status took now (λ mid. (w : World) → Stands r w → WritesState w status mid now)

@@ -1,15 +1,19 @@
-ghost use Rattle.std.specs.Prelude.{false, OnOk, length, ◌≡◌, ◌+◌, ◌<◌, ◌≤◌, ◌^◌, ◌≢◌, Some, None, IfSome, Err, ℕ};
-ghost use Rattle.fuxi_io.specs.Causes.{Rose};
+ghost use Rattle.std.specs.Prelude.{false, OnOk, OnErr, length, [], ◌≡◌, ◌⊎◌, ◌+◌, ◌<◌, ◌≤◌, ◌^◌, ◌≢◌, Some, None, IfSome, Err, ℕ};
+ghost use Rattle.fuxi_io.specs.Causes.{HasCause, Rose, TakesPart};
+ghost use Rattle.fuxi_io.specs.Pieces.{NoNewline};
 ghost use Rattle.fuxi_io.specs.Reading.{rest_of, read_ahead};
-ghost use Rattle.written_world.specs.World.{World as WrittenWorld, empty_world};
+ghost use Rattle.written_world.specs.World.{empty_world};
 ghost use Rattle.schedule_replay.specs.Worlds.{IsReached};
 ghost use Rattle.schedule_run.specs.ScheduleRuns.{run_from, read_from, Ended};
-ghost use Rattle.schedule_run.specs.ScheduleProgress.{Stands, TakesLine, WritesState, world_status};
+ghost use Rattle.schedule_run.specs.ScheduleProgress.{TakesLineBehind, WritesStateBehind, world_status};
+ghost use Rattle.input_lines.specs.LineProgress.{StaysWaiting};
 ghost use Rattle.input_lines.specs.Wholes.{IsReady};
 ghost use Rattle.fuxi_terms.specs.Limits.{most_lines};
 
 use cluster_desc::Cluster;
-use fuxi_io::{Got, LimitOf, LineReader, LineStop, Sink, Source, Status, write_all_of};
+use fuxi_io::{
+    Got, LimitOf, LineReader, LineStop, Sink, Source, Status, WriteBuffer, WriteFault, write_all_of,
+};
 use fuxi_terms::OutOfMemory;
 use input_lines::{
     content, event_status, is_skipped, lines_are_taken, read_cluster_line, stop_status,
@@ -18,21 +22,22 @@ use schedule_replay::{Running, WorldStop, events_stand_anywhere};
 use schedule_text::read_event;
 use std::alloc::Global;
 
-// Takes a line: makes its event and writes what that prints, where it is not skipped.
+// Takes a line: makes its event, and has what that prints wait, where it is not skipped. Where it is not taken what waits is written.
 fn take_line<O: Sink>(
     alloc: Global,
     running: &mut Running,
     line: &[u8],
     number: u64,
+    waiting: &mut WriteBuffer,
     out: &mut O,
 ) -> Result<(), Status>
     requires reached { IsReached running.old }
     requires events { running.old.events < 2 ^ 29 }
-    ensures takes { (w : WrittenWorld) → Stands running.old w → TakesLine running.new line.now number w result (O.took out.old) (O.took out.new) }
+    ensures takes { TakesLineBehind running.old running.new line.now number result waiting.old waiting.new (O.took out.old) (O.took out.new) }
     ensures reached { OnOk result (IsReached running.new) }
     ensures events { OnOk result (running.new.events ≤ running.old.events + 1) }
-    ensures later { O.faults out.old ≤ O.faults out.new }
     ensures fault { result ≡ Err Status.WriteFault → Rose (O.faults out.old) (O.faults out.new) }
+    ensures served { result ≢ Err Status.WriteFault → O.faults out.new ≡ O.faults out.old }
     ensures lines { (kept : ℕ) → result ≢ Err (Status.Limit LimitOf.Lines kept) }
     ensures usage { result ≢ Err Status.Usage }
     ensures read { result ≢ Err Status.ReadFault }
@@ -47,23 +52,53 @@ fn take_line<O: Sink>(
     events_stand_anywhere();
     let event = match read_event(alloc, line) {
         Ok(event) => event,
-        Err(fault) => return Err(event_status(fault, number)),
+        Err(fault) => match waiting.flush(out) {
+            Ok(()) => return Err(event_status(fault, number)),
+            Err(_) => return Err(Status::WriteFault),
+        },
     };
     let lines = match running.step(alloc, &event) {
         Ok(lines) => lines,
-        Err(stop) => return Err(world_status(stop)),
+        Err(stop) => match waiting.flush(out) {
+            Ok(()) => return Err(world_status(stop)),
+            Err(_) => return Err(Status::WriteFault),
+        },
     };
-    match write_all_of(out, lines.bytes()) {
+    match waiting.put(out, lines.bytes()) {
         Ok(()) => Ok(()),
         Err(_) => Err(Status::WriteFault),
     }
 }
 
-// Writes the state behind a whole input.
-fn write_state<O: Sink>(alloc: Global, running: &Running, out: &mut O) -> Status
+// Writes what waits, unless a line is at hand, so that nothing waits while the source is read.
+fn write_before_reading<O: Sink>(
+    lines: &LineReader,
+    waiting: &mut WriteBuffer,
+    out: &mut O,
+) -> Result<(), WriteFault>
+    ensures same { OnOk result (StaysWaiting (O.took out.old) waiting.old (O.took out.new) waiting.new) }
+    ensures none { OnOk result ((waiting.new ≡ []) ⊎ ((waiting.new ≡ waiting.old) × (O.took out.new ≡ O.took out.old) × (NoNewline lines.now.pending → ⊥))) }
+    ensures err { OnErr result (TakesPart (O.took out.old) (O.took out.new) waiting.old) }
+    ensures cause { HasCause (O.faults out.old) (O.faults out.new) result }
+    ensures served { OnOk result (O.faults out.new ≡ O.faults out.old) }
+{
+    if lines.is_at_hand() {
+        return Ok(());
+    }
+    waiting.flush(out)
+}
+
+// Writes what waits, and the state behind a whole input.
+fn write_state<O: Sink>(
+    alloc: Global,
+    running: &Running,
+    waiting: &mut WriteBuffer,
+    out: &mut O,
+) -> Status
     requires { IsReached running.now }
-    ensures writes { (w : WrittenWorld) → Stands running.now w → WritesState w result (O.took out.old) (O.took out.new) }
+    ensures writes { WritesStateBehind running.now result waiting.old (O.took out.old) (O.took out.new) }
     ensures fault { result ≡ Status.WriteFault → Rose (O.faults out.old) (O.faults out.new) }
+    ensures served { result ≢ Status.WriteFault → O.faults out.new ≡ O.faults out.old }
     ensures read { result ≢ Status.ReadFault }
     ensures usage { result ≢ Status.Usage }
     ensures limit { (what : LimitOf) (kept : ℕ) → result ≢ Status.Limit what kept }
@@ -71,6 +106,10 @@ fn write_state<O: Sink>(alloc: Global, running: &Running, out: &mut O) -> Status
     ensures stale { (fence : ℕ) → result ≢ Status.StaleEpoch fence }
     ensures damaged { (offset : ℕ) → result ≢ Status.DamagedCheckpoint offset }
 {
+    match waiting.flush(out) {
+        Ok(()) => {}
+        Err(_) => return Status::WriteFault,
+    }
     let mut text = Vec::new(alloc);
     match running.write_state(&mut text) {
         Ok(()) => {}
@@ -113,6 +152,8 @@ fn run_lines<S: Source, O: Sink>(
     ensures unread { lines.old.ended ≡ false → result ≢ Status.ReadFault }
     ensures read { result ≡ Status.ReadFault → Rose (S.faults source.old) (S.faults source.new) }
     ensures write { result ≡ Status.WriteFault → Rose (O.faults out.old) (O.faults out.new) }
+    ensures reads_served { result ≢ Status.ReadFault → S.faults source.new ≡ S.faults source.old }
+    ensures writes_served { result ≢ Status.WriteFault → O.faults out.new ≡ O.faults out.old }
     ensures limit { lines.old.stop ≡ None → (kept : ℕ) → result ≡ Status.Limit LimitOf.Lines kept → kept ≡ most_lines }
     ensures usage { result ≢ Status.Usage }
     ensures disk { result ≢ Status.DiskFault }
@@ -124,18 +165,28 @@ fn run_lines<S: Source, O: Sink>(
     let Ok(mut running) = Running::start(alloc, cluster) else {
         return Status::OutOfMemory;
     };
+    let Ok(mut waiting) = WriteBuffer::new(alloc) else {
+        return Status::OutOfMemory;
+    };
     for turn in 0..1_000_001u64 {
         if !lines.ended() {
-            return write_state(alloc, &running, out);
+            return write_state(alloc, &running, &mut waiting, out);
+        }
+        match write_before_reading(lines, &mut waiting, out) {
+            Ok(()) => {}
+            Err(_) => return Status::WriteFault,
         }
         match lines.next(source) {
             Ok(Got::Line) => {}
-            Ok(Got::End) => return write_state(alloc, &running, out),
-            Err(stop) => return stop_status(stop, lines.number()),
+            Ok(Got::End) => return write_state(alloc, &running, &mut waiting, out),
+            Err(stop) => match waiting.flush(out) {
+                Ok(()) => return stop_status(stop, lines.number()),
+                Err(_) => return Status::WriteFault,
+            },
         }
         let number = lines.number();
         let line = content(lines.line(), lines.ended());
-        match take_line(alloc, &mut running, line, number, out) {
+        match take_line(alloc, &mut running, line, number, &mut waiting, out) {
             Ok(()) => {}
             Err(status) => return status,
         }
@@ -144,8 +195,8 @@ fn run_lines<S: Source, O: Sink>(
 }
 
 /// Runs the lines that the reader has not given yet: the first that is not skipped describes the cluster,
-/// and the others are events of the world of that cluster. What an event prints is written before the next
-/// line is read, and behind the last line the state. The reader has not stopped by a fault of the source.
+/// and the others are events of the world of that cluster. What events print is written before the
+/// source is read again, and behind the last line the state. The reader has not stopped by a fault of the source.
 pub fn run_schedule<S: Source, O: Sink>(
     alloc: Global,
     lines: &mut LineReader,
@@ -157,6 +208,8 @@ pub fn run_schedule<S: Source, O: Sink>(
     ensures ended { lines.old.stop ≡ None → IfSome (rest_of lines.old (S.left source.old)) (λ bytes. Ended (read_from lines.old.number) bytes result (S.left source.new) (O.took out.old) (O.took out.new)) }
     ensures read { result ≡ Status.ReadFault → Rose (S.faults source.old) (S.faults source.new) }
     ensures write { result ≡ Status.WriteFault → Rose (O.faults out.old) (O.faults out.new) }
+    ensures reads_served { result ≢ Status.ReadFault → S.faults source.new ≡ S.faults source.old }
+    ensures writes_served { result ≢ Status.WriteFault → O.faults out.new ≡ O.faults out.old }
     ensures limit { lines.old.stop ≡ None → (kept : ℕ) → result ≡ Status.Limit LimitOf.Lines kept → kept ≡ most_lines }
     ensures usage { result ≢ Status.Usage }
     ensures disk { result ≢ Status.DiskFault }
