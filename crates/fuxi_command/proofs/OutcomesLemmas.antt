@@ -11,7 +11,7 @@ use Rattle.schedule_run.specs.ScheduleRuns.{read_from, Ended}
 use Rattle.storm_run.specs.StormRuns.{StormEnded}
 use Rattle.storm_run.specs.Summaries.{storm_of}
 use Rattle.written_roles.specs.HardState.{HardState}
-use Rattle.hard_state.specs.HardFiles.{records_of}
+use Rattle.hard_state.specs.HardFiles.{KeepsDamaged, records_of}
 use Rattle.lease_run.specs.LeaseEnds.{LeaseEnded}
 use Rattle.input_lines.specs.LineRuns.{AtEnd}
 use Rattle.lease_run.specs.LeaseRuns.{run_of}
@@ -22,13 +22,20 @@ use Rattle.fuxi_node.specs.declared.kind.NodeKind.TheVariants.{Master, Agent, Ap
 use Rattle.fuxi_node.specs.NodeInputs.{HasNoCluster, InputEnded, InputEndsBy, IsDiskless, LeavesDisk, MayStart, TellsDisk, ending_of, status_at}
 use Rattle.node_door.specs.Doors.{WhereTold}
 use Rattle.fuxi_command.specs.CommandWords.{Command, Lease, Node, Replay, Storm, Work, command_of, has_file, is_command, is_node}
-use Rattle.fuxi_command.specs.Outcomes.{IsOutcome, Seen, TellsLease}
+use Rattle.fuxi_command.specs.Outcomes.{IsOutcome, Seen, TellsFaults, TellsLease}
+
+-- a disk that was left alone has its damaged file as it was
+pub alone_keeps : (told : Option DiskTold) → KeepsDamaged told told
+alone_keeps None = tt
+alone_keeps (Some t) = λ offset damaged. inl refl
 
 -- what is said of each command
 pub record Ends (c : Command) (status : Status) (disk_stays door_stays : Type 0) (old new : Seen) : Type 0 where
   pub usage : status ≡ Usage → ⊥
   pub read : status ≡ ReadFault → Rose old.reads_failed new.reads_failed
   pub write : status ≡ WriteFault → Rose old.writes_failed new.writes_failed
+  pub faults : TellsFaults status old new
+  pub keeps : KeepsDamaged old.disk new.disk
   pub limit : (kept : ℕ) → status ≡ Limit Lines kept → kept ≡ most_lines
   pub disk : status ≡ DiskFault → Rose old.disk_failed new.disk_failed
   pub no_door : is_node (Some c) ≡ false → door_stays
@@ -71,6 +78,8 @@ of_command words c status I O D N old new is ends made = record {
   unused = λ used. absurd (ends.usage used);
   read = ends.read;
   write = ends.write;
+  faults = ends.faults;
+  keeps = ends.keeps;
   limit = ends.limit;
   replay = λ other. at Replay other;
   storm = λ seed steps other. at (Storm seed steps) other;
@@ -98,12 +107,14 @@ of_command words c status I O D N old new is ends made = record {
     is_none none = let some : is_command words ≡ true = ap is_some is in cc
 
 -- words that are no command
-pub of_none : (words : List (List ℕ)) (I O D N : Type 0) (old new : Seen) → command_of words ≡ None → I → O → D → N → IsOutcome words Usage I O D N old new
-of_none words I O D N old new is input output disk door = record {
+pub of_none : (words : List (List ℕ)) (I O D N : Type 0) (old new : Seen) → command_of words ≡ None → I → O → D → N → TellsFaults Usage old new → KeepsDamaged old.disk new.disk → IsOutcome words Usage I O D N old new
+of_none words I O D N old new is input output disk door faults keeps = record {
   usage = (λ used. ap is_some is, λ none. refl);
   unused = λ used. (output, input);
   read = λ other. absurd cc;
   write = λ other. absurd cc;
+  faults = faults;
+  keeps = keeps;
   limit = λ kept other. absurd cc;
   replay = λ other. absurd (none Replay other);
   storm = λ seed steps other. absurd (none (Storm seed steps) other);
@@ -169,11 +180,13 @@ work_records status kept limit is = elim (limit Records kept is) [
 ]
 
 -- a storm, which ends with no other status than those of which something is said
-pub storm_ends : (seed steps : ℕ) (status : Status) (D N : Type 0) (old new : Seen) → StormEnded (storm_of seed steps) status old.took new.took → (status ≡ WriteFault → Rose old.writes_failed new.writes_failed) → D → N → Ends (Storm seed steps) status D N old new
-storm_ends seed steps status D N old new ended write disk door = record {
+pub storm_ends : (seed steps : ℕ) (status : Status) (D N : Type 0) (old new : Seen) → StormEnded (storm_of seed steps) status old.took new.took → (status ≡ WriteFault → Rose old.writes_failed new.writes_failed) → TellsFaults status old new → KeepsDamaged old.disk new.disk → D → N → Ends (Storm seed steps) status D N old new
+storm_ends seed steps status D N old new ended write faults keeps disk door = record {
   usage = by Usage;
   read = λ is. absurd (by ReadFault is);
   write = write;
+  faults = faults;
+  keeps = keeps;
   limit = λ kept is. absurd (by (Limit Lines kept) is).0;
   disk = λ is. absurd (by DiskFault is);
   no_door = λ no. door;

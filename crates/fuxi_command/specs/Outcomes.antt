@@ -1,5 +1,5 @@
 -- What a command made of what it was handed, and with which status.
-use Rattle.std.specs.Prelude.{◌≡◌, ◌⊎◌, ◌↔◌, ℕ, List, Option, Some, Ok, Err, IfSome, false}
+use Rattle.std.specs.Prelude.{◌≡◌, ◌≢◌, ◌⊎◌, ◌↔◌, ℕ, List, Option, Some, Ok, Err, IfSome, false}
 use Rattle.fuxi_io.specs.Causes.{Rose}
 use Rattle.fuxi_io.specs.Disks.{Told as DiskTold}
 use Rattle.fuxi_io.specs.declared.status.LimitOf.{LimitOf}
@@ -11,7 +11,7 @@ use Rattle.schedule_run.specs.ScheduleRuns.{read_from, Ended}
 use Rattle.storm_run.specs.StormRuns.{StormEnded}
 use Rattle.storm_run.specs.Summaries.{storm_of}
 use Rattle.written_roles.specs.HardState.{HardState}
-use Rattle.hard_state.specs.HardFiles.{records_of}
+use Rattle.hard_state.specs.HardFiles.{KeepsDamaged, records_of}
 use Rattle.lease_run.specs.LeaseEnds.{LeaseEnded}
 use Rattle.input_lines.specs.LineRuns.{AtEnd}
 use Rattle.lease_run.specs.LeaseRuns.{run_of}
@@ -37,6 +37,10 @@ abbrev pub seen : Option (List ℕ) → Option (List ℕ) → Option DiskTold �
 seen left took disk door reads writes disks doors =
     record { left = left; took = took; disk = disk; door = door; reads_failed = reads; writes_failed = writes; disk_failed = disks; door_failed = doors }
 
+-- no call failed of the input, the output and the disk, but where the status is the fault of it
+abbrev pub TellsFaults : Status → Seen → Seen → Type 0
+TellsFaults status old new = (status ≢ ReadFault → new.reads_failed ≡ old.reads_failed) × (status ≢ WriteFault → new.writes_failed ≡ old.writes_failed) × (status ≢ DiskFault → new.disk_failed ≡ old.disk_failed)
+
 -- what a status of a lease says of the file at the start
 pub record TellsLease (status : Status) (disk : Option DiskTold) : Type 0 where
   pub damaged : (offset : ℕ) → status ≡ DamagedCheckpoint offset → IfSome disk (λ t. records_of t.now.bytes ≡ Err offset)
@@ -50,6 +54,8 @@ pub record IsOutcome (words : List (List ℕ)) (status : Status) (input_stays ou
   pub unused : status ≡ Usage → output_stays × input_stays
   pub read : status ≡ ReadFault → Rose old.reads_failed new.reads_failed
   pub write : status ≡ WriteFault → Rose old.writes_failed new.writes_failed
+  pub faults : TellsFaults status old new
+  pub keeps : KeepsDamaged old.disk new.disk
   pub limit : (kept : ℕ) → status ≡ Limit Lines kept → kept ≡ most_lines
   pub replay : command_of words ≡ Some Replay → IfSome old.left (λ bytes. Ended (read_from 0) bytes status new.left old.took new.took)
   pub storm : (seed steps : ℕ) → command_of words ≡ Some (Storm seed steps) → input_stays × StormEnded (storm_of seed steps) status old.took new.took

@@ -1,4 +1,4 @@
-ghost use Rattle.std.specs.Prelude.{◌≡◌, ◌⊎◌, ◌↔◌, ℕ, List, [], Some, None, Ok, Err, IfSome, false, map, string_bytes, take};
+ghost use Rattle.std.specs.Prelude.{◌≡◌, ◌≢◌, ◌⊎◌, ◌↔◌, ℕ, List, [], Some, None, Ok, Err, IfSome, false, map, string_bytes, take};
 ghost use Rattle.std.specs.List.{concat};
 ghost use Rattle.std.specs.Io.KnownBytes.{Appends};
 ghost use Rattle.fuxi_io.specs.Causes.{Rose};
@@ -31,7 +31,7 @@ ghost use Rattle.written_work.specs.AgentWithApps.{empty_world as empty_work};
 ghost use Rattle.work_run.specs.WorkLineRuns.{Ended as WorkEnded, run_from as work_run_from, run_of as work_run_of, text_of as work_text_of};
 ghost use Rattle.work_run.specs.WorkRunStates.{AllPlanned};
 ghost use Rattle.fuxi_node.specs.MasterEnds.{RefusesEpoch};
-ghost use Rattle.hard_state.specs.HardFiles.{records_of};
+ghost use Rattle.hard_state.specs.HardFiles.{KeepsDamaged, records_of};
 ghost use Rattle.written_roles.specs.Refusals.{NotRising, HardFull};
 ghost use Rattle.fuxi_io.specs.Reports.{TakesReport};
 ghost use Rattle.fuxi_command.specs.CommandReports.{report_line};
@@ -181,6 +181,9 @@ pub fn fuxi<S: Source, O: Sink, E: Sink, D: Disk, N: Door>(
     // The same where memory was refused, which has no other cause.
     ensures memory { command_of (map string_bytes words.now) ≡ Some Replay → result ≡ Status.OutOfMemory → IfSome (S.left input.old) (λ bytes. StopsWithin (read_from 0) bytes (S.left input.new) (O.took out.old) (O.took out.new)) }
 
+    // A call of the input, the output or the disk that failed is told as that: with every other status the count of its faults is as it was.
+    ensures faults { (result ≢ Status.ReadFault → S.faults input.new ≡ S.faults input.old) × (result ≢ Status.WriteFault → O.faults out.new ≡ O.faults out.old) × (result ≢ Status.DiskFault → D.faults disk.new ≡ D.faults disk.old) }
+
     // All of this by the status, for callers.
     ensures ended { command_of (map string_bytes words.now) ≡ Some Replay → IfSome (S.left input.old) (λ bytes. Ended (read_from 0) bytes result (S.left input.new) (O.took out.old) (O.took out.new)) }
 
@@ -224,6 +227,9 @@ pub fn fuxi<S: Source, O: Sink, E: Sink, D: Disk, N: Door>(
 
     // The disk failed in this call, of a master or a lease.
     ensures disk { result ≡ Status.DiskFault → Rose (D.faults disk.old) (D.faults disk.new) }
+
+    // A file with a damaged record is synced at most, whatever the status.
+    ensures damaged_stays { KeepsDamaged (D.told disk.old) (D.told disk.new) }
 
     // Of a master: the fence in its file is at least the epoch, what stands at this offset of the file is no record, or it has 65,536 records.
     ensures stale { (epoch : ℕ) (addr : List ℕ) → command_of (map string_bytes words.now) ≡ Some (Node (Master epoch) addr) → (fence : ℕ) → result ≡ Status.StaleEpoch fence → IfSome (D.told disk.old) (RefusesEpoch epoch (NotRising fence)) }

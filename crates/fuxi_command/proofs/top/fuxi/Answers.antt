@@ -95,6 +95,12 @@ returns-clause-no_file g c = c.run_command-status.ensures.no_file
 pub returns-clause-diskless : goal.returns-clause-diskless
 returns-clause-diskless g c = c.run_command-status.ensures.diskless
 
+pub returns-clause-faults : goal.returns-clause-faults
+returns-clause-faults g c = c.run_command-status.ensures.faults
+
+pub returns-clause-damaged_stays : goal.returns-clause-damaged_stays
+returns-clause-damaged_stays g c = c.run_command-status.ensures.keeps
+
 pub returns-clause-disk : goal.returns-clause-disk
 returns-clause-disk g c = c.run_command-status.ensures.disk
 

@@ -1,19 +1,21 @@
 use Rattle.std.proofs.Common.{refl, sym}
 use Rattle.schedule_run.specs.ScheduleRuns.{read_from, Ended}
 use Rattle.fuxi_command.specs.CommandWords.{Lease, Node, Replay, Storm, Work}
-use Rattle.fuxi_command.proofs.OutcomesLemmas.{diskless, node_diskless, node_untouched, of_command, of_none, storm_ends, work_lines, work_records}
+use Rattle.fuxi_command.proofs.OutcomesLemmas.{alone_keeps, diskless, node_diskless, node_untouched, of_command, of_none, storm_ends, work_lines, work_records}
 use Rattle.fuxi_command.proofs.ReplaysLemmas.{begun}
 use Rattle.fuxi_command.proofs.Untouched.{untouched}
 use Rattle.fuxi_command.proofs.top.run_command.Goals as goal
 
 pub returns-in-None : goal.returns-in-None
-returns-in-None g c = of_none _ _ _ _ _ _ _ (sym (rw c.in-None.is at c.command_of.ensures.is)) refl refl refl refl
+returns-in-None g c = of_none _ _ _ _ _ _ _ (sym (rw c.in-None.is at c.command_of.ensures.is)) refl refl refl refl (λ other. refl, λ other. refl, λ other. refl) (alone_keeps (g.D.Disk.told c.args.disk.now))
 
 pub returns-in-Err : goal.returns-in-Err
 returns-in-Err g c = of_command _ Replay _ _ _ _ _ _ _ (sym (rw c.in-Some-Replay.field-0-is at c.in-Some-Replay.ensures.is)) (record {
   usage = λ other. cc;
   read = λ other. absurd cc;
   write = λ other. absurd cc;
+  faults = (λ other. refl, λ other. refl, λ other. refl);
+  keeps = alone_keeps (g.D.Disk.told c.args.disk.now);
   limit = λ kept other. absurd cc;
   disk = λ other. absurd cc;
   no_door = λ no. refl;
@@ -26,6 +28,8 @@ returns-in-Ok g c = let r = c.run_schedule.ensures in of_command _ Replay _ _ _ 
   usage = r.usage;
   read = r.read;
   write = r.write;
+  faults = (r.reads_served, r.writes_served, λ other. refl);
+  keeps = alone_keeps (g.D.Disk.told c.args.disk.now);
   limit = (rw c.in-Ok.ensures at r.limit) refl;
   disk = λ failed. absurd (r.disk failed);
   no_door = λ no. refl;
@@ -38,7 +42,7 @@ pub returns-in-Some-Storm : goal.returns-in-Some-Storm
 returns-in-Some-Storm g c =
     let r = c.run_storm.ensures in
     of_command _ (Storm c.in-Some-Storm.seed c.in-Some-Storm.steps) _ _ _ _ _ _ _ (sym (rw c.in-Some-Storm.field-0-is at c.in-Some-Storm.ensures.is))
-    (storm_ends c.in-Some-Storm.seed c.in-Some-Storm.steps _ _ _ _ _ r.ended r.write refl refl) (refl, r.ended)
+    (storm_ends c.in-Some-Storm.seed c.in-Some-Storm.steps _ _ _ _ _ r.ended r.write (λ other. refl, r.writes_served, λ other. refl) (alone_keeps (g.D.Disk.told c.args.disk.now)) refl refl) (refl, r.ended)
 
 pub returns-in-Some-Node : goal.returns-in-Some-Node
 returns-in-Some-Node g c =
@@ -49,6 +53,8 @@ returns-in-Some-Node g c =
       usage = r.usage;
       read = r.read;
       write = r.write;
+      faults = (r.reads_served, r.writes_served, r.disk_served);
+      keeps = r.keeps;
       limit = r.limit;
       disk = r.disk;
       no_door = λ no. absurd cc;
@@ -61,6 +67,8 @@ returns-in-Some-Lease g c = let r = c.run_lease.ensures in of_command _ Lease _ 
   usage = r.usage;
   read = r.read;
   write = r.write;
+  faults = (r.reads_served, r.writes_served, r.disk_served);
+  keeps = r.keeps;
   limit = λ kept is. (r.limit _ kept is).1;
   disk = r.disk;
   no_door = λ no. refl;
@@ -73,6 +81,8 @@ returns-in-Some-Work g c = let r = c.run_work.ensures in of_command _ Work _ _ _
   usage = r.usage;
   read = r.read;
   write = r.write;
+  faults = (r.reads_served, r.writes_served, λ other. refl);
+  keeps = alone_keeps (g.D.Disk.told c.args.disk.now);
   limit = λ kept is. work_lines c.run_work.result kept r.limit is;
   disk = λ failed. absurd (r.disk failed);
   no_door = λ no. refl;
