@@ -118,39 +118,3 @@ impl Disk for FileDisk {
         }
     }
 }
-
-#[cfg(test)]
-mod tests {
-    use super::FileDisk;
-    use crate::disk::Disk;
-    use crate::outside::Failed;
-    use std::fs;
-    use std::fs::File;
-    use std::test::Fail;
-
-    const PATH: &str = "file_disk.bin";
-
-    #[test]
-    fn a_file_is_written_and_read_back(rt: HostRuntime) -> Result<(), Fail> {
-        fs::write(&rt, PATH, b"".as_slice())?;
-        let file = File::options().read(true).write(true).open(&rt, PATH);
-        let mut disk = FileDisk::of(file.ok());
-        let mut back = [0; 4];
-        assert_eq!(rt; disk.write_at(0, b"abcdef"), Ok(()));
-        assert_eq!(rt; disk.sync(), Ok(()));
-        assert_eq!(rt; disk.len(), Ok(6));
-        if disk.size >= 5 {
-            assert_eq!(rt; disk.read_at(1, &mut back), Ok(()));
-        }
-        assert_eq!(rt; back, *b"bcde");
-
-        // a range that the file no longer has
-        fs::write(&rt, PATH, b"ab".as_slice())?;
-        if disk.size >= 5 {
-            assert_eq!(rt; disk.read_at(1, &mut back), Err(Failed));
-        }
-        assert_eq!(rt; disk.faults, 1);
-        fs::remove_file(&rt, PATH)?;
-        Ok(())
-    }
-}

@@ -21,6 +21,3 @@ pub use left::take_left;
 pub use limits::{MOST_CALLS, MOST_SESSIONS};
 pub use run::run_all;
 pub use sessions::Sessions;
-
-#[cfg(test)]
-mod tests;

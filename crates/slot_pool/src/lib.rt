@@ -8,6 +8,3 @@ mod pool;
 
 pub use law::moves_with_its_values;
 pub use pool::{Pool, Slot};
-
-#[cfg(test)]
-mod tests;

@@ -1,5 +1,5 @@
-use crate::Pool;
 use fuxi_terms::OutOfMemory;
+use slot_pool::Pool;
 
 // That room can be had, that it serves again once a value was taken out, and that too many numbers are refused.
 #[test]

@@ -1,9 +1,9 @@
-use crate::{Gate, Sessions, run_all};
 use cluster_desc::read_cluster;
 use fuxi_io::MemDisk;
 use fuxi_master::Master;
 use fuxi_terms::OutOfMemory;
 use hard_state::Hard;
+use master_desk::{Gate, Sessions, run_all};
 use std::sync::atomic::{AtomicBool, Ordering};
 
 // How often a session looks whether the other one is there.
