@@ -1,8 +1,8 @@
 #!/usr/bin/env python3
-"""Reads checkpoints by a reader of its own, and compares each with what `hard_cases` says of the same bytes.
+"""Reads checkpoints by a reader of its own, and compares each with what `core_cases` says of the same bytes.
 
 A checkpoint of some hundred records is cut at each length, and each of its bytes is set to 0, 1, 255 and one more than it is.
-Usage: tests/checkpoint.py PROGRAM [SEED [RECORDS]], where PROGRAM is the built `hard_cases`."""
+Usage: tests/checkpoint.py PROGRAM [SEED [RECORDS]], where PROGRAM is the built `core_cases`."""
 import random, subprocess, sys
 
 MOST_RECORDS = 65536
@@ -151,9 +151,9 @@ def main():
     for place, byte in enumerate(data):
         for new in sorted({0, 1, 255, (byte + 1) % 256}):
             asked.append((f"byte {place} {new}", data[:place] + bytes([new]) + data[place + 1:]))
-    text = f"disk {data.hex()}\n" + "".join(line + "\n" for line, _ in asked)
+    text = f"== checkpoint\ndisk {data.hex()}\n" + "".join(line + "\n" for line, _ in asked)
     out = subprocess.run([program], input=text, capture_output=True, text=True, check=True).stdout.split("\n")
-    at, damaged, wrong = 1, 0, 0
+    at, damaged, wrong = 2, 0, 0
     for line, changed in asked:
         expected = [line, *read(changed)]
         damaged += expected[1].startswith("NotCheckpoint")

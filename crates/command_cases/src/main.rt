@@ -1,51 +1,34 @@
-//! Worked cases of the call that runs a command, over sources and sinks that fail. Each line of the input is a
-//! case, and what came of it is printed; a line that begins with `#` is printed as it is. Behind `work` it is one of
-//! named workers. In a text, `$` stands for the line of a cluster, `|` for a newline and `^` for a carriage return.
+//! Worked cases of the call that runs a command. Each line of the input is a case, and what came of it is printed; a line `== nodes` says
+//! that those behind it are of nodes and leases.
 #![tactic(auto)]
 
-mod cases;
-mod edges;
+mod commands;
+mod nodes;
 
-use case_words::{Cases, Stop, answer_input, head_of};
+use case_words::{Cases, Stop, answer_input};
 use std::alloc::Global;
 use std::process::ExitCode;
 
-fn answer<P: Print>(rt: &P, alloc: Global, name: &str, kind: &str, rest: &str) -> Result<(), Stop> {
-    match kind {
-        "run" => cases::run(rt, alloc, name, rest),
-        "wants" => cases::behind_wants(rt, alloc, rest),
-        "words" => cases::words(rt, alloc, rest),
-        "storm" => cases::storm(rt, alloc, rest),
-        "fails" => cases::failing(rt, alloc, name, rest),
-        "reads" => cases::each_call(rt, alloc, (name, rest), false),
-        "puts" => cases::each_call(rt, alloc, (name, rest), true),
-        "writes" => cases::each_write(rt, alloc, (name, rest), false),
-        "tells" => cases::each_write(rt, alloc, (name, rest), true),
-        _ => Ok(print!(rt; "no such case")?),
-    }
-}
-
-// The cases of commands keep nothing.
+// Whether the cases are of nodes and leases now.
 #[derive(Drop)]
-struct Commands;
+struct Commands {
+    of_nodes: bool,
+}
 
 impl Cases for Commands {
     fn start(_alloc: Global) -> Result<Commands, Stop> {
-        Ok(Commands)
+        Ok(Commands { of_nodes: false })
     }
 
     fn answer_line(&mut self, rt: &HostRuntime, alloc: Global, line: &str) -> Result<(), Stop> {
-        if line.starts_with('#') {
+        if line == "== nodes" {
+            self.of_nodes = true;
             return Ok(println!(rt; "{line}")?);
         }
-        let (head, rest) = head_of(line);
-        if head == "work" {
-            let (kind, rest) = head_of(rest);
-            answer(rt, alloc, head, kind, rest)?;
-        } else {
-            answer(rt, alloc, "replay", head, rest)?;
+        if self.of_nodes {
+            return nodes::answer_line(rt, alloc, line);
         }
-        Ok(println!(rt;)?)
+        commands::answer_line(rt, alloc, line)
     }
 }
 

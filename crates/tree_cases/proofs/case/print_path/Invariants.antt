@@ -1,5 +1,0 @@
-use Rattle.locality_tree.specs.Paths.{IsWalkable}
-use Rattle.tree_cases.proofs.case.print_path.Given as goal
-
-abbrev pub invariant-loop : goal.invariant-loop
-invariant-loop g l = IsWalkable l.path

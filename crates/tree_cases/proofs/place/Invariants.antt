@@ -1,4 +1,0 @@
-use Rattle.tree_cases.proofs.place.Given as goal
-
-abbrev pub ghosts-place : goal.ghosts-place
-ghosts-place g a = record { name = a.blank.name; parts = a.blank.parts }
