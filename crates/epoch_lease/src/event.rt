@@ -1,7 +1,7 @@
 use thiserror::Error;
 
 /// What a lease is told. A holder is any number, and an epoch that is held is at least 1.
-#[derive(Clone, Copy, Debug, Drop, PartialEq, Eq)]
+#[derive(Clone, Copy, Drop, PartialEq, Eq)]
 pub enum LeaseEvent {
     /// The holder wants the next epoch.
     Acquire(u32),
@@ -14,7 +14,7 @@ pub enum LeaseEvent {
 }
 
 /// What a lease answers.
-#[derive(Clone, Copy, Debug, Drop, PartialEq, Eq)]
+#[derive(Clone, Copy, Drop, PartialEq, Eq)]
 pub enum LeaseOut {
     /// This epoch is held now by the one who asked. No epoch before was as great.
     Granted(u64),

@@ -1,7 +1,7 @@
 use schedule_unit::{AppNo, MachineNo};
 
 /// Which party of a cluster a node runs.
-#[derive(Clone, Copy, Debug, Drop, PartialEq, Eq)]
+#[derive(Clone, Copy, Drop, PartialEq, Eq)]
 pub enum NodeKind {
     /// The master of an epoch, which is at least 1.
     Master { epoch: u64 },

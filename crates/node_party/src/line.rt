@@ -10,7 +10,7 @@ use schedule_text::{Event, LineFault, read_event};
 use std::alloc::Global;
 
 /// What a line of a node says.
-#[derive(Debug, Drop)]
+#[derive(Drop)]
 pub enum NodeLine {
     /// Dial the peer, send and hear.
     Round,

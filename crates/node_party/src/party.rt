@@ -17,7 +17,7 @@ use schedule_text::{Event, Refusal};
 use std::alloc::Global;
 
 /// What a party answers to an event.
-#[derive(Clone, Copy, Debug, Drop, PartialEq, Eq)]
+#[derive(Clone, Copy, Drop, PartialEq, Eq)]
 pub enum Answer {
     /// It was done, and nothing is printed.
     Done,

@@ -5,7 +5,6 @@ use schedule_unit::{AppNo, Asks, GroupNo, MachineNo, RackNo, UnitNo};
 use thiserror::Error;
 
 /// One event line, with its numbers in the line's order. An epoch and a boot is at least 1.
-#[derive(Debug)]
 pub enum Event {
     /// A master of this epoch starts.
     Master(u64),

@@ -10,7 +10,7 @@ use fuxi_terms::limits::{MOST_GROUPS, MOST_JOBS, MOST_MACHINES, MOST_RACKS, MOST
 const MOST_VOTES: u64 = 256;
 
 // One kind of event line.
-#[derive(Clone, Copy, Debug, PartialEq, Eq)]
+#[derive(Clone, Copy, PartialEq, Eq)]
 pub enum Head {
     Master,
     Stop,
@@ -41,7 +41,7 @@ pub enum Head {
 }
 
 // What a number of a line is.
-#[derive(Clone, Copy, Debug, PartialEq, Eq)]
+#[derive(Clone, Copy, PartialEq, Eq)]
 pub enum Place {
     Incarnation,
     Job,

@@ -24,7 +24,7 @@ pub enum Kind {
 }
 
 /// A line that is printed. Packets count from 1, and a place is an incarnation and an index.
-#[derive(Clone, Copy, Debug, Drop)]
+#[derive(Clone, Copy, Drop)]
 pub enum Output {
     /// A packet of a turn, and the length of its frame in bytes.
     Sent {

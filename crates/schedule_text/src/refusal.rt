@@ -10,7 +10,7 @@ use fuxi_terms::OutOfMemory;
 use schedule_unit::UnitNo;
 
 /// Why an event is refused, with the value that is printed with it. A refused event changes nothing.
-#[derive(Clone, Copy, Debug, Drop, PartialEq, Eq)]
+#[derive(Clone, Copy, Drop, PartialEq, Eq)]
 pub enum Refusal {
     /// The party does not run.
     NotRunning,

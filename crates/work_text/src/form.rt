@@ -10,7 +10,7 @@ use schedule_text::NumberPlace;
 const MOST_WORKERS: u64 = 256;
 
 // One kind of event line.
-#[derive(Clone, Copy, Debug, PartialEq, Eq)]
+#[derive(Clone, Copy, PartialEq, Eq)]
 pub enum Head {
     Agent,
     App,
@@ -24,7 +24,7 @@ pub enum Head {
 }
 
 // What a number of a line is.
-#[derive(Clone, Copy, Debug, PartialEq, Eq)]
+#[derive(Clone, Copy, PartialEq, Eq)]
 pub enum Place {
     Boot,
     App,

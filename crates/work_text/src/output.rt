@@ -23,7 +23,7 @@ pub enum Why {
 }
 
 /// A line that is printed. Packets count from 1, and a place is an incarnation and an index.
-#[derive(Clone, Copy, Debug, Drop)]
+#[derive(Clone, Copy, Drop)]
 pub enum Output {
     /// A packet of a turn.
     Sent {

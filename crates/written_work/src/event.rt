@@ -3,7 +3,7 @@
 use schedule_unit::{AppNo, UnitNo};
 
 /// One event line, with its numbers in the line's order. A boot is at least 1.
-#[derive(Clone, Copy, Debug, Drop, PartialEq, Eq)]
+#[derive(Clone, Copy, Drop, PartialEq, Eq)]
 pub enum WorkEvent {
     /// The agent starts in this boot.
     Agent(u64),
