@@ -11,13 +11,13 @@ use std::process::ExitCode;
 
 // Whether the cases are of nodes and leases now.
 #[derive(Drop)]
-struct Commands {
+struct Worked {
     of_nodes: bool,
 }
 
-impl Cases for Commands {
-    fn start(_alloc: Global) -> Result<Commands, Stop> {
-        Ok(Commands { of_nodes: false })
+impl Cases for Worked {
+    fn start(_alloc: Global) -> Result<Worked, Stop> {
+        Ok(Worked { of_nodes: false })
     }
 
     fn answer_line(&mut self, rt: &HostRuntime, alloc: Global, line: &str) -> Result<(), Stop> {
@@ -33,5 +33,5 @@ impl Cases for Commands {
 }
 
 fn main(rt: HostRuntime) -> ExitCode {
-    answer_input::<Commands>(&rt)
+    answer_input::<Worked>(&rt)
 }

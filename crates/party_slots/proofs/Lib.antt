@@ -1,2 +1,3 @@
 pub mod SlotsLemmas
 pub mod PeersLemmas
+pub mod MastersLemmas

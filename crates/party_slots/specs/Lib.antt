@@ -1,3 +1,4 @@
 pub mod PartyAnswers
 pub mod Slots
 pub mod Peers
+pub mod RunningMasters

@@ -14,6 +14,10 @@ pub record Hears (now : Role → Type 0) (h : HeardAlone) (heard : Heard) : Type
 abbrev pub HearsAlike : (Role → Type 0) → (Role → Type 0) → Packet → Heard → Type 0
 HearsAlike was now packet heard = (r : Role) → was r → Hears now (hears r (parcel_is packet)) heard
 
--- the packets are those that the party by itself sends
-abbrev pub SendsAlike : (Role → Type 0) → List Packet → Type 0
-SendsAlike stands packets = (r : Role) → stands r → map parcel_is packets ≡ turn r
+-- it stands for the party still, and the packets are those that it sends by itself
+pub record Sends (now : Role → Type 0) (r : Role) (packets : List Packet) : Type 0 where
+  pub role : now r
+  pub says : map parcel_is packets ≡ turn r
+
+abbrev pub SendsAlike : (Role → Type 0) → (Role → Type 0) → List Packet → Type 0
+SendsAlike was now packets = (r : Role) → was r → Sends now r packets

@@ -10,22 +10,24 @@ use Rattle.written_roles.specs.Apps.{AppCommand, Wants, WantsNear, WantsInRack, 
 use Rattle.written_roles.specs.Refusals.{NoUnit, NoMachine, NoRack, WantRange, NotUsable, BackRange}
 use Rattle.written_world.specs.World.{World, Agent, App, Step, refused}
 use Rattle.written_world.specs.Good.{Good}
-use Rattle.written_world.specs.Events.{asks}
+use Rattle.written_world.specs.Events.{asks, agent_started, app_started}
 use Rattle.written_join.specs.SeenWorlds.{agent_seen, app_seen, has_of}
 use Rattle.agent_core.specs.AgentCores.{AgentCore, StandsFor as StandsForAgent}
 use Rattle.app_master.specs.AppCores.{AppCore, StandsFor as StandsForApp}
 use Rattle.app_master.specs.declared.fault.AppFault.{AppFault}
 use Rattle.app_master.specs.declared.fault.AppFault.TheVariants.{NoUnit as SaysNoUnit, NoMachine as SaysNoMachine, NoRack as SaysNoRack, WantRange as SaysWantRange, NotUsable as SaysNotUsable, BackRange as SaysBackRange, OutOfMemory as WantOfMemory}
-use Rattle.written_parties.specs.SeenParties.{Role, OfAgent, OfApp, Agents, Apps}
-use Rattle.party_slots.specs.Slots.{SlotsRecord, AreOf, StepIn, NoneIn, StartsIn}
+use Rattle.written_parties.specs.SeenParties.{Role, OfMaster, OfAgent, OfApp, Agents, Apps, Acts, agent_starting, app_starting}
+use Rattle.party_slots.specs.Slots.{SlotsRecord, AreOf, StepIn, NoneIn}
 use Rattle.party_slots.specs.declared.asking.AppAsk.{AppAsk}
 use Rattle.party_slots.specs.declared.asking.AppAsk.TheVariants.{Want, Near, Rack, Avoid, GiveBack}
 
 abbrev pub AgentStands : AgentCore → Role → Type 0
+AgentStands a (OfMaster r) = ⊥
 AgentStands a (OfAgent r) = StandsForAgent a r
 AgentStands a (OfApp r) = ⊥
 
 abbrev pub AppStands : AppCore → Role → Type 0
+AppStands a (OfMaster r) = ⊥
 AppStands a (OfAgent r) = ⊥
 AppStands a (OfApp r) = StandsForApp a r
 
@@ -61,11 +63,19 @@ AppAt w n None = find nat_cmp n w.apps ≡ None
 AppAt w n (Some a) = AppRunsAs w n a
 
 -- Starts, on a machine that has so much, and of a job that has so many units
+pub record AgentStartsIn (w : World) (m b : ℕ) (new : SlotsRecord AgentCore) : Type 0 where
+  pub stand : AreAgentsOf (agent_started w m b) new
+  pub acts : Acts w (agent_started w m b) Agents m (agent_starting w m b) []
+
 abbrev pub AgentStartInWorld : ℕ → List ℕ → ℕ → SlotsRecord AgentCore → SlotsRecord AgentCore → Type 0
-AgentStartInWorld m has b old new = (w : World) → Good w → AreAgentsOf w old → has ≡ has_of w m → w.boots (agent_id m) < b → StartsIn AgentStands Agents w m b new
+AgentStartInWorld m has b old new = (w : World) → Good w → AreAgentsOf w old → has ≡ has_of w m → w.boots (agent_id m) < b → AgentStartsIn w m b new
+
+pub record AppStartsIn (w : World) (a b : ℕ) (new : SlotsRecord AppCore) : Type 0 where
+  pub stand : AreAppsOf (app_started w a b) new
+  pub acts : Acts w (app_started w a b) Apps a (app_starting w a b) []
 
 abbrev pub AppStartInWorld : ℕ → ℕ → ClusterRecord → ℕ → SlotsRecord AppCore → SlotsRecord AppCore → Type 0
-AppStartInWorld a units c b old new = (w : World) → Good w → AreAppsOf w old → c ≡ w.cluster → units ≡ unit_count w.hard.jobs a → w.boots (app_id a) < b → StartsIn AppStands Apps w a b new
+AppStartInWorld a units c b old new = (w : World) → Good w → AreAppsOf w old → c ≡ w.cluster → units ≡ unit_count w.hard.jobs a → w.boots (app_id a) < b → AppStartsIn w a b new
 
 -- Asking. What is told to an application as a command of the world
 abbrev pub command_of : AppAsk → AppCommand

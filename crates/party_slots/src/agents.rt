@@ -1,6 +1,7 @@
 //! Agents in slots.
 
-ghost use Rattle.std.specs.Prelude.{◌≡◌, ◌<◌, ◌≤◌, ℕ, length, OnOk, OnErr};
+ghost use Rattle.std.specs.Prelude.{◌≡◌, ◌<◌, ◌≤◌, ℕ, OnOk, OnErr};
+ghost use Rattle.fuxi_terms.specs.Limits.{most_machines};
 ghost use Rattle.party_slots.specs.Slots.{AreWithin};
 ghost use Rattle.party_slots.specs.Peers.{AgentStartInWorld, agent_steps};
 
@@ -12,6 +13,7 @@ use party_ledgers::{Heard, Kind, Packet, Packets};
 use res_vector::Res;
 use schedule_unit::MachineNo;
 use std::alloc::Global;
+use written_parties::parties_join;
 
 impl Party for Agent {
     ghost use Rattle.party_slots.specs.Peers.{AgentStands, agent_steps};
@@ -20,16 +22,19 @@ impl Party for Agent {
 
     ghost steps = { agent_steps };
 
-    fn hear(self, alloc: Global, packet: &Packet) -> Result<(Agent, Heard), OutOfMemory> {
-        self.on_packet(alloc, packet)
+    fn hear(self, alloc: Global, packet: Packet) -> Result<(Agent, Heard), OutOfMemory> {
+        self.on_packet(alloc, &packet)
     }
 
-    fn turn(&self, alloc: Global) -> Result<Packets, OutOfMemory> {
-        Agent::turn(self, alloc)
+    fn turn(self, alloc: Global) -> Result<(Agent, Packets), OutOfMemory> {
+        let packets = Agent::turn(&self, alloc)?;
+        Ok((self, packets))
     }
 
-    fn resync(&mut self) {
-        Agent::resync(self)
+    fn resync(self, alloc: Global) -> Result<Agent, OutOfMemory> {
+        let mut agent = self;
+        Agent::resync(&mut agent);
+        Ok(agent)
     }
 }
 
@@ -42,15 +47,13 @@ pub fn start_agent(
     has: Res,
     boot: u64,
 ) -> Result<(), OutOfMemory>
-    requires machine { machine.0 < length agents.old.parties }
+    requires machine { machine.0 < most_machines }
     requires boot { 0 < boot }
     ensures world { OnOk result (AgentStartInWorld machine.0 has.q boot agents.old agents.new) }
-    ensures within { (n : ℕ) → AreWithin agent_steps n agents.old → AreWithin agent_steps n agents.new }
+    ensures within { OnOk result ((n : ℕ) → AreWithin agent_steps n agents.old → AreWithin agent_steps n agents.new) }
     ensures err { OnErr result (agents.new ≡ agents.old) }
 {
-    // The number of the machine is one of a cluster's, since there are no more slots.
-    let _slots = agents.len();
+    parties_join();
     let agent = Agent::start(alloc, machine, has, boot)?;
-    agents.start(machine.0, agent, boot);
-    Ok(())
+    agents.start(machine.0 as u64, agent, boot)
 }

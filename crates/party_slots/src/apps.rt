@@ -1,7 +1,7 @@
 //! Applications in slots.
 
-ghost use Rattle.std.specs.Prelude.{◌≡◌, ◌+◌, ◌<◌, ◌≤◌, ℕ, length, OnOk, OnErr};
-ghost use Rattle.fuxi_terms.specs.Limits.{most_units};
+ghost use Rattle.std.specs.Prelude.{◌≡◌, ◌+◌, ◌<◌, ◌≤◌, ℕ, OnOk, OnErr};
+ghost use Rattle.fuxi_terms.specs.Limits.{most_jobs, most_units};
 ghost use Rattle.party_slots.specs.Slots.{AreWithin, MayStep, slot_at};
 ghost use Rattle.party_slots.specs.Peers.{AppStartInWorld, AskInWorld, app_steps, command_of};
 
@@ -23,16 +23,19 @@ impl Party for AppMaster {
 
     ghost steps = { app_steps };
 
-    fn hear(self, alloc: Global, packet: &Packet) -> Result<(AppMaster, Heard), OutOfMemory> {
-        self.on_packet(alloc, packet)
+    fn hear(self, alloc: Global, packet: Packet) -> Result<(AppMaster, Heard), OutOfMemory> {
+        self.on_packet(alloc, &packet)
     }
 
-    fn turn(&self, alloc: Global) -> Result<Packets, OutOfMemory> {
-        AppMaster::turn(self, alloc)
+    fn turn(self, alloc: Global) -> Result<(AppMaster, Packets), OutOfMemory> {
+        let packets = AppMaster::turn(&self, alloc)?;
+        Ok((self, packets))
     }
 
-    fn resync(&mut self) {
-        AppMaster::resync(self)
+    fn resync(self, alloc: Global) -> Result<AppMaster, OutOfMemory> {
+        let mut app = self;
+        AppMaster::resync(&mut app);
+        Ok(app)
     }
 }
 
@@ -46,18 +49,16 @@ pub fn start_app(
     cluster: &Cluster,
     boot: u64,
 ) -> Result<(), OutOfMemory>
-    requires job { app.0 < length apps.old.parties }
+    requires job { app.0 < most_jobs }
     requires units { units ≤ most_units }
     requires boot { 0 < boot }
     ensures world { OnOk result (AppStartInWorld app.0 units cluster.now boot apps.old apps.new) }
-    ensures within { (n : ℕ) → AreWithin app_steps n apps.old → AreWithin app_steps n apps.new }
+    ensures within { OnOk result ((n : ℕ) → AreWithin app_steps n apps.old → AreWithin app_steps n apps.new) }
     ensures err { OnErr result (apps.new ≡ apps.old) }
 {
-    // The number of the job is one that a job may have, since there are no more slots.
-    let _slots = apps.len();
+    parties_join();
     let core = AppMaster::start(alloc, app, units, cluster, boot)?;
-    apps.start(app.0, core, boot);
-    Ok(())
+    apps.start(app.0 as u64, core, boot)
 }
 
 /// The application of a job is asked; `None` where none runs. After a fault it is as it was.
@@ -72,10 +73,10 @@ pub fn ask(
     ensures within { (n : ℕ) → AreWithin app_steps n apps.old → AreWithin app_steps (n + 1) apps.new }
 {
     parties_join();
-    let Some(mut core) = apps.take(app.0) else {
+    let Some(mut core) = apps.take(app.0 as u64) else {
         return None;
     };
     let answer = ask_app(&mut core, alloc, ask);
-    apps.put(app.0, core);
+    apps.put(app.0 as u64, core);
     Some(answer)
 }

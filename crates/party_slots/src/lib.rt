@@ -1,17 +1,19 @@
-//! The agents and the applications that run, each in the slot of its number, with its last boot. A slot holds any party; what its
-//! calls do is said of every good world that the parties stand in.
+//! The masters, the agents and the applications that run, each in the slot of its number, with its last boot. A slot holds any party; what
+//! its calls do is said of every good world that the parties stand in.
 #![tactic(auto)]
 
 mod agents;
 mod apps;
 mod asking;
 mod laws;
+mod masters;
 mod party;
 mod slots;
 
 pub use agents::start_agent;
 pub use apps::{ask, start_app};
 pub use asking::AppAsk;
-pub use laws::{others_stay, peers_run, steps_left};
+pub use laws::{epochs_alike, others_stay, parties_run, steps_left};
+pub use masters::{command, start_master, stop_master};
 pub use party::Party;
 pub use slots::Slots;

@@ -5,7 +5,7 @@ use party_ledgers::{Heard, Kind, Packet, Packets};
 use std::alloc::Global;
 
 /// One party as it runs. What its calls do is said of every party of the definitions that it stands for. Each is at most one step, of
-/// which fewer than 2^50 may be taken.
+/// which fewer than 2^50 may be taken. Where memory is refused the party is gone.
 pub trait Party: Sized + Drop {
     ghost use Rattle.std.specs.Prelude.{◌≡◌, ◌+◌, ◌<◌, ◌≤◌, ℕ, IfOk};
     ghost use Rattle.std.specs.List.{AllByRecursion};
@@ -21,22 +21,24 @@ pub trait Party: Sized + Drop {
     /// The number of its steps.
     ghost steps: { Self → ℕ };
 
-    /// Hears a packet that is formed and no End. Where memory is refused the party is gone.
-    fn hear(self, alloc: Global, packet: &Packet) -> Result<(Self, Heard), OutOfMemory>
-        requires formed { IsFormed packet.now }
-        requires no_end { packet.now.kind ≡ Kind.End → ⊥ }
+    /// Hears a packet that is formed and no End.
+    fn hear(self, alloc: Global, packet: Packet) -> Result<(Self, Heard), OutOfMemory>
+        requires formed { IsFormed packet }
+        requires no_end { packet.kind ≡ Kind.End → ⊥ }
         requires steps { steps self < most_steps }
-        ensures hears { IfOk result (λ after. HearsAlike (stands self) (stands after.0) packet.now after.1) }
+        ensures hears { IfOk result (λ after. HearsAlike (stands self) (stands after.0) packet after.1) }
         ensures steps { IfOk result (λ after. steps after.0 ≤ steps self + 1) };
 
-    /// What it sends in one turn. It changes nothing.
-    fn turn(&self, alloc: Global) -> Result<Packets, OutOfMemory>
-        ensures sends { IfOk result (SendsAlike (stands self.now)) }
-        ensures formed { IfOk result (AllByRecursion IsSent) };
+    /// What it sends in one turn.
+    fn turn(self, alloc: Global) -> Result<(Self, Packets), OutOfMemory>
+        requires { steps self < most_steps }
+        ensures sends { IfOk result (λ after. SendsAlike (stands self) (stands after.0) after.1) }
+        ensures formed { IfOk result (λ after. AllByRecursion IsSent after.1) }
+        ensures steps { IfOk result (λ after. steps after.0 ≤ steps self + 1) };
 
-    /// Forgets what its master has acknowledged. It takes no memory.
-    fn resync(&mut self)
-        requires { steps self.old < most_steps }
-        ensures resyncs { (r : Role) → stands self.old r → stands self.new (resynced r) }
-        ensures steps { steps self.new ≤ steps self.old + 1 };
+    /// Forgets what its peers have acknowledged.
+    fn resync(self, alloc: Global) -> Result<Self, OutOfMemory>
+        requires { steps self < most_steps }
+        ensures resyncs { IfOk result (λ after. (r : Role) → stands self r → stands after (resynced r)) }
+        ensures steps { IfOk result (λ after. steps after ≤ steps self + 1) };
 }

@@ -8,13 +8,14 @@ use Rattle.agent_core.specs.AgentCores.{AgentCore}
 use Rattle.app_master.specs.AppCores.{AppCore}
 use Rattle.party_slots.specs.Slots.{SlotsRecord}
 use Rattle.party_slots.specs.Peers.{AreAgentsOf, AreAppsOf}
-use Rattle.running_masters.specs.RunningMasters.{MastersRecord, AreMastersOf}
+use Rattle.party_slots.specs.RunningMasters.{AreMastersOf}
+use Rattle.fuxi_master.specs.Cores.{MasterRecord}
 use Rattle.written_world.specs.Orders.{IsInOrder}
 
 pub record Running : Type 0 where
   pub cluster : ClusterRecord
   pub hard : HardState
-  pub masters : MastersRecord
+  pub masters : SlotsRecord MasterRecord
   pub agents : SlotsRecord AgentCore
   pub apps : SlotsRecord AppCore
 

@@ -4,6 +4,7 @@ ghost use Rattle.std.specs.Prelude.{◌≡◌, length, T, OnOk};
 ghost use Rattle.std.specs.Ordering.{nat_cmp};
 ghost use Rattle.std.specs.FinMap.Entries.{is_sorted};
 ghost use Rattle.written_world.specs.World.{World};
+ghost use Rattle.written_world.specs.Good.{Good};
 ghost use Rattle.schedule_text.specs.Writing.{Begins};
 ghost use Rattle.party_text.specs.Texts.{Shows};
 ghost use Rattle.party_slots.specs.Peers.{AreAgentsOf};
@@ -11,7 +12,7 @@ ghost use Rattle.running_state.specs.Parts.{AreOnMachines, machine_lines, show_a
 
 use agent_core::Agent;
 use fuxi_terms::OutOfMemory;
-use party_slots::{Slots, peers_run};
+use party_slots::{Slots, parties_run};
 use party_text::write_agent;
 use schedule_unit::MachineNo;
 use written_join::states_are_alone;
@@ -28,8 +29,8 @@ fn write_agent_of(
 {
     // What a world prints of an agent is what that one prints by itself.
     states_are_alone();
-    peers_run();
-    match agents.get(machine.0) {
+    parties_run();
+    match agents.get(machine.0 as u64) {
         Some(agent) => match write_agent(agent, machine, out) {
             Ok(()) => Ok(()),
             Err(refusal) => Err(refusal),
@@ -46,12 +47,10 @@ pub(crate) fn write_agents(
     out: &mut Vec<u8>,
 ) -> Result<(), OutOfMemory>
     requires { AreOnMachines agents.now }
-    ensures ok { OnOk result ((w : World) → AreAgentsOf w agents.now → T (is_sorted nat_cmp w.agents) → machines ≡ length w.cluster.machines
+    ensures ok { OnOk result ((w : World) → Good w → AreAgentsOf w agents.now → T (is_sorted nat_cmp w.agents) → machines ≡ length w.cluster.machines
         → Shows (show_agents w) out.old.items out.new.items) }
     ensures begins { Begins out.old.items out.new.items }
 {
-    // No agent runs beyond the machines of the cluster.
-    peers_run();
     for number in 0..machines {
         match write_agent_of(agents, MachineNo(number), out) {
             Ok(()) => {}

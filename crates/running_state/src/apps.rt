@@ -4,6 +4,7 @@ ghost use Rattle.std.specs.Prelude.{◌≡◌, T, OnOk};
 ghost use Rattle.std.specs.Ordering.{nat_cmp};
 ghost use Rattle.std.specs.FinMap.Entries.{is_sorted};
 ghost use Rattle.written_world.specs.World.{World};
+ghost use Rattle.written_world.specs.Good.{Good};
 ghost use Rattle.schedule_text.specs.Writing.{Begins};
 ghost use Rattle.party_text.specs.Texts.{Shows};
 ghost use Rattle.party_slots.specs.Peers.{AreAppsOf};
@@ -12,7 +13,7 @@ ghost use Rattle.running_state.specs.Parts.{AreOfJobs, job_lines, show_apps};
 use app_master::AppMaster;
 use fuxi_terms::OutOfMemory;
 use fuxi_terms::limits::MOST_JOBS;
-use party_slots::{Slots, peers_run};
+use party_slots::{Slots, parties_run};
 use party_text::write_app;
 use schedule_unit::AppNo;
 use written_join::states_are_alone;
@@ -25,8 +26,8 @@ fn write_app_of(apps: &Slots<AppMaster>, app: AppNo, out: &mut Vec<u8>) -> Resul
 {
     // What a world prints of an application is what that one prints by itself.
     states_are_alone();
-    peers_run();
-    match apps.get(app.0) {
+    parties_run();
+    match apps.get(app.0 as u64) {
         Some(master) => match write_app(master, app, out) {
             Ok(()) => Ok(()),
             Err(refusal) => Err(refusal),
@@ -39,11 +40,9 @@ fn write_app_of(apps: &Slots<AppMaster>, app: AppNo, out: &mut Vec<u8>) -> Resul
 #[tactic(auto, using(written_join::proofs::ShowsLemmas::begins_then))]
 pub(crate) fn write_apps(apps: &Slots<AppMaster>, out: &mut Vec<u8>) -> Result<(), OutOfMemory>
     requires { AreOfJobs apps.now }
-    ensures ok { OnOk result ((w : World) → AreAppsOf w apps.now → T (is_sorted nat_cmp w.apps) → Shows (show_apps w) out.old.items out.new.items) }
+    ensures ok { OnOk result ((w : World) → Good w → AreAppsOf w apps.now → T (is_sorted nat_cmp w.apps) → Shows (show_apps w) out.old.items out.new.items) }
     ensures begins { Begins out.old.items out.new.items }
 {
-    // No application runs beyond the numbers that a job may have.
-    peers_run();
     for number in 0..MOST_JOBS {
         match write_app_of(apps, AppNo(number), out) {
             Ok(()) => {}

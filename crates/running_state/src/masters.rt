@@ -6,22 +6,27 @@ ghost use Rattle.std.specs.FinMap.Entries.{is_sorted};
 ghost use Rattle.written_world.specs.World.{World};
 ghost use Rattle.schedule_text.specs.Writing.{Begins};
 ghost use Rattle.party_text.specs.Texts.{Shows};
-ghost use Rattle.running_masters.specs.RunningMasters.{AreMastersOf};
+ghost use Rattle.party_slots.specs.RunningMasters.{AreMastersOf};
 ghost use Rattle.running_state.specs.Parts.{show_masters};
 
+use fuxi_master::Master;
 use fuxi_terms::OutOfMemory;
 use master_text::write_master;
-use running_masters::Masters;
+use party_slots::{Slots, epochs_alike, parties_run};
 
 // The masters, in the order of their epochs.
 #[tactic(auto, using(written_join::proofs::ShowsLemmas::begins_then))]
-pub(crate) fn write_masters(masters: &Masters, out: &mut Vec<u8>) -> Result<(), OutOfMemory>
+pub(crate) fn write_masters(masters: &Slots<Master>, out: &mut Vec<u8>) -> Result<(), OutOfMemory>
     ensures ok { OnOk result ((w : World) → AreMastersOf w masters.now → T (is_sorted nat_cmp w.masters) → Shows (show_masters w) out.old.items out.new.items) }
     ensures begins { Begins out.old.items out.new.items }
 {
-    for index in 0..masters.len() {
-        let entry = masters.at(index);
-        match write_master(entry.1, out) {
+    epochs_alike();
+    parties_run();
+    for epoch in masters.numbers() {
+        let Some(master) = masters.get(*epoch) else {
+            continue;
+        };
+        match write_master(master, out) {
             Ok(()) => {}
             Err(refusal) => return Err(refusal),
         }

@@ -8,6 +8,7 @@ ghost use Rattle.fuxi_terms.specs.Lists.{below};
 ghost use Rattle.written_roles.specs.Masters.{Master as WrittenMaster};
 ghost use Rattle.written_roles.specs.Refusals.{with_found};
 ghost use Rattle.written_world.specs.World.{World, App};
+ghost use Rattle.written_world.specs.Good.{Good};
 ghost use Rattle.written_world.specs.Quiet.{is_quiet, is_agent_quiet, is_app_quiet};
 ghost use Rattle.written_join.specs.SeenWorlds.{master_seen};
 ghost use Rattle.fuxi_master.specs.Cores.{StandsFor};
@@ -21,8 +22,7 @@ use cluster_desc::Cluster;
 use fuxi_master::Master;
 use fuxi_terms::limits::MOST_JOBS;
 use hard_state::Hard;
-use party_slots::{Slots, peers_run};
-use running_masters::Masters;
+use party_slots::{Slots, parties_run};
 use schedule_unit::{AppNo, MachineNo, Party, Role};
 
 /// Whether a master of the epoch runs, every agent runs, has joined it and is reported to it, every running application of its jobs has
@@ -30,7 +30,7 @@ use schedule_unit::{AppNo, MachineNo, Party, Role};
 pub fn is_quiet(
     cluster: &Cluster,
     hard: &Hard,
-    masters: &Masters,
+    masters: &Slots<Master>,
     agents: &Slots<Agent>,
     apps: &Slots<AppMaster>,
     epoch: u64,
@@ -38,6 +38,7 @@ pub fn is_quiet(
     requires known { IsKnown (record { cluster = cluster.now; hard = hard.now.value; masters = masters.now; agents = agents.now; apps = apps.now }) }
     ensures { (w : World) → IsRunningOf w (record { cluster = cluster.now; hard = hard.now.value; masters = masters.now; agents = agents.now; apps = apps.now }) → result ≡ is_quiet w epoch }
 {
+    parties_run();
     let Some(master) = masters.get(epoch) else {
         return false;
     };
@@ -66,8 +67,8 @@ fn is_agent_quiet(master: &Master, agents: &Slots<Agent>, machine: MachineNo) ->
     ensures { (w : World) (m : WrittenMaster) → StandsFor master.now.core (master_seen w m) → AreAgentsOf w agents.now
         → result ≡ is_agent_quiet w m machine.0 }
 {
-    peers_run();
-    let Some(agent) = agents.get(machine.0) else {
+    parties_run();
+    let Some(agent) = agents.get(machine.0 as u64) else {
         return false;
     };
     if !master.reported().has(machine) {
@@ -83,11 +84,9 @@ fn is_agent_quiet(master: &Master, agents: &Slots<Agent>, machine: MachineNo) ->
 
 // Whether each application that runs of a job of the master's is at rest with it.
 fn are_apps_quiet(master: &Master, apps: &Slots<AppMaster>) -> bool
-    ensures { (w : World) (m : WrittenMaster) → StandsFor master.now.core (master_seen w m) → AreAppsOf w apps.now → T (is_sorted nat_cmp w.apps)
+    ensures { (w : World) (m : WrittenMaster) → Good w → StandsFor master.now.core (master_seen w m) → AreAppsOf w apps.now → T (is_sorted nat_cmp w.apps)
         → result ≡ list_all (λ (g : ℕ × App). is_app_quiet w m g.0 g.1) w.apps }
 {
-    // No application runs beyond the numbers that a job may have.
-    peers_run();
     for number in 0..MOST_JOBS {
         if !is_app_quiet(master, apps, AppNo(number)) {
             return false;
@@ -101,8 +100,8 @@ fn is_app_quiet(master: &Master, apps: &Slots<AppMaster>, app: AppNo) -> bool
     ensures { (w : World) (m : WrittenMaster) → StandsFor master.now.core (master_seen w m) → AreAppsOf w apps.now
         → result ≡ with_found (find nat_cmp app.0 w.apps) true (is_app_quiet w m app.0) }
 {
-    peers_run();
-    let Some(core) = apps.get(app.0) else {
+    parties_run();
+    let Some(core) = apps.get(app.0 as u64) else {
         return true;
     };
     if !master.knows(app) {

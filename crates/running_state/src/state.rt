@@ -2,12 +2,13 @@
 
 ghost use Rattle.std.specs.Prelude.{◌≡◌, length, OnOk, OnErr};
 ghost use Rattle.written_world.specs.World.{World};
+ghost use Rattle.written_world.specs.Good.{Good};
 ghost use Rattle.written_world.specs.Show.{show};
 ghost use Rattle.written_world.specs.Orders.{IsInOrder};
 ghost use Rattle.schedule_text.specs.Writing.{Begins};
 ghost use Rattle.party_text.specs.Texts.{Shows};
 ghost use Rattle.party_slots.specs.Peers.{AreAgentsOf, AreAppsOf};
-ghost use Rattle.running_masters.specs.RunningMasters.{AreMastersOf};
+ghost use Rattle.party_slots.specs.RunningMasters.{AreMastersOf};
 ghost use Rattle.running_state.specs.Parts.{AreOfJobs, AreOnMachines, show_parties};
 ghost use Rattle.running_state.specs.ShownStates.{IsKnown, IsRunningOf};
 
@@ -17,26 +18,26 @@ use crate::masters::write_masters;
 use agent_core::Agent;
 use app_master::AppMaster;
 use cluster_desc::Cluster;
+use fuxi_master::Master;
 use fuxi_terms::OutOfMemory;
 use hard_state::Hard;
 use master_text::write_hard;
-use party_slots::{Slots, peers_run};
+use party_slots::{Slots, parties_run};
 use party_text::write_line;
-use running_masters::Masters;
 use schedule_text::Output;
 
 // The parties that run on so many machines.
 #[tactic(auto, using(written_join::proofs::ShowsLemmas::begins_then))]
 fn write_parties(
     machines: u32,
-    masters: &Masters,
+    masters: &Slots<Master>,
     agents: &Slots<Agent>,
     apps: &Slots<AppMaster>,
     out: &mut Vec<u8>,
 ) -> Result<(), OutOfMemory>
     requires agents { AreOnMachines agents.now }
     requires apps { AreOfJobs apps.now }
-    ensures ok { OnOk result ((w : World) → IsInOrder w → machines ≡ length w.cluster.machines → AreMastersOf w masters.now → AreAgentsOf w agents.now → AreAppsOf w apps.now
+    ensures ok { OnOk result ((w : World) → Good w → IsInOrder w → machines ≡ length w.cluster.machines → AreMastersOf w masters.now → AreAgentsOf w agents.now → AreAppsOf w apps.now
         → Shows (show_parties w) out.old.items out.new.items) }
     ensures begins { Begins out.old.items out.new.items }
 {
@@ -60,7 +61,7 @@ fn write_parties(
 pub fn write_state(
     cluster: &Cluster,
     hard: &Hard,
-    masters: &Masters,
+    masters: &Slots<Master>,
     agents: &Slots<Agent>,
     apps: &Slots<AppMaster>,
     events: u64,
@@ -72,7 +73,7 @@ pub fn write_state(
         → events ≡ w.events → packets ≡ length w.net.packets → Shows (show w) out.old.items out.new.items) }
     ensures err { OnErr result (Begins out.old.items out.new.items) }
 {
-    peers_run();
+    parties_run();
     match write_line(&Output::State(events), out) {
         Ok(()) => {}
         Err(refusal) => return Err(refusal),

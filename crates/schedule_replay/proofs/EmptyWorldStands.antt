@@ -1,20 +1,16 @@
 -- What runs at the start stands for the empty world.
 use Rattle.std.proofs.Common.{◌≡◌, ℕ, ◌*◌, true, List, [], refl, sym, ◌∙◌, ap, subst}
-use Rattle.std.specs.Ordering.{nat_cmp}
-use Rattle.std.specs.FinMap.Entries.{find}
 use Rattle.fuxi_terms.specs.Cluster.{ClusterRecord, is_valid_cluster}
 use Rattle.written_roles.specs.HardState.{empty_hard}
 use Rattle.written_world.specs.World.{empty_world}
 use Rattle.written_world.specs.Good.{Good}
 use Rattle.written_world.specs.Orders.{IsInOrder}
-use Rattle.fuxi_master.specs.Cores.{MasterRecord}
 use Rattle.packet_pool.specs.PacketPools.{Keeps, no_frames}
 use Rattle.schedule_replay.specs.Held.{IsOpen}
-use Rattle.party_slots.specs.Slots.{AreWithin as PeersWithin}
+use Rattle.party_slots.specs.Slots.{AreWithin as PartiesWithin}
 use Rattle.party_slots.specs.Peers.{AreAgentsOf, AreAppsOf, agent_steps, app_steps}
-use Rattle.running_masters.specs.RunningMasters.{AreMastersOf}
+use Rattle.party_slots.specs.RunningMasters.{AreMastersOf, master_steps}
 use Rattle.schedule_replay.specs.Worlds.{WorldRecord, IsReached, IsWorld, StandsFor, AreWithin, event_steps}
-use Rattle.schedule_replay.proofs.CommandSteps.{not_none}
 
 pub is_empty_world : (c : ClusterRecord) → is_valid_cluster c ≡ true → Good (empty_world c) → IsInOrder (empty_world c) → IsWorld (empty_world c)
 is_empty_world c valid good order = record { valid = valid; good = good; order = order }
@@ -33,10 +29,10 @@ stands_for_empty c r cluster hard rests masters agents apps pool events = record
 }
 
 -- no core took a step
-pub starts_reached : (c : ClusterRecord) (r : WorldRecord) → IsWorld (empty_world c) → StandsFor r (empty_world c) → r.masters.masters ≡ [] → PeersWithin agent_steps 0 r.agents → PeersWithin app_steps 0 r.apps → r.events ≡ 0 → IsReached r
-starts_reached c r is stands none agents apps events = record {
+pub starts_reached : (c : ClusterRecord) (r : WorldRecord) → IsWorld (empty_world c) → StandsFor r (empty_world c) → PartiesWithin master_steps 0 r.masters → PartiesWithin agent_steps 0 r.agents → PartiesWithin app_steps 0 r.apps → r.events ≡ 0 → IsReached r
+starts_reached c r is stands masters agents apps events = record {
   world = empty_world c;
   is = is;
   stands = stands;
-  within = subst (λ n. AreWithin (n * event_steps) r) (sym events) (record { masters = λ e m runs. absurd (not_none m (ap (λ (ms : List (ℕ × MasterRecord)). find nat_cmp e ms) (sym none) ∙ runs)); agents = agents; apps = apps });
+  within = subst (λ n. AreWithin (n * event_steps) r) (sym events) (record { masters = masters; agents = agents; apps = apps });
 }

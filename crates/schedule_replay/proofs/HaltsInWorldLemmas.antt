@@ -8,20 +8,17 @@ use Rattle.fuxi_terms.specs.Limits.{most_jobs}
 use Rattle.schedule_unit.specs.declared.asks.Ask.{Ask}
 use Rattle.schedule_unit.specs.declared.party.AppNo.{AppNo}
 use Rattle.schedule_unit.specs.declared.party.GroupNo.{GroupNo}
-use Rattle.written_net.specs.Net.{Net, Party}
-use Rattle.written_net.specs.Ledgers.{Ledger}
-use Rattle.written_join.specs.SeenWorlds.{parcel_of}
-use Rattle.written_join.specs.PartyJoins.{OneActs}
 use Rattle.written_roles.specs.HardState.{HardState, HardEvent, Raise, hard_step}
 use Rattle.written_roles.specs.MasterSteps.{MasterCommand}
 use Rattle.written_roles.specs.Refusals.{Refusal as WrittenRefusal}
-use Rattle.core_join.specs.MasterInWorld.{change_in}
 use Rattle.written_world.specs.Outputs.{Halted}
 use Rattle.written_world.specs.World.{World, Step, prints_nothing, refused}
 use Rattle.written_world.specs.Events.{Event, Halt, act, commanded, halted, is_written, start_master, without_master, writer_of}
 use Rattle.schedule_replay.specs.Held.{Held, IsOpen}
 use Rattle.schedule_replay.specs.Writings.{IsLeft, counts_after}
-use Rattle.running_masters.specs.RunningMasters.{MastersRecord, AreMastersOf}
+use Rattle.fuxi_master.specs.Cores.{MasterRecord}
+use Rattle.party_slots.specs.Slots.{SlotsRecord}
+use Rattle.party_slots.specs.RunningMasters.{AreMastersOf, change_in}
 use Rattle.schedule_text.specs.declared.event.Event.{Event as LineEvent}
 use Rattle.schedule_text.specs.declared.event.Event.TheVariants as line
 use Rattle.schedule_text.specs.declared.refusal.Refusal.{Refusal}
@@ -34,13 +31,13 @@ use Rattle.schedule_text.specs.Writing.{AreWithin, IsLineEvent, saying_of}
 use Rattle.schedule_replay.specs.declared.halts.Stop.{Stop}
 use Rattle.schedule_replay.specs.ReplayTexts.{lines_text}
 use Rattle.schedule_replay.specs.Worlds.{WorldRecord}
-use Rattle.schedule_replay.specs.Moves.{Acts}
+use Rattle.schedule_replay.specs.Moves.{Acts, Leaves}
 use Rattle.schedule_replay.specs.MasterCommands.{Governing, IsGoverning, MayStart, MayWrite, StartsIn, TakesStep, WritesIn, governing}
 use Rattle.schedule_replay.specs.HaltsInWorld.{Halts, HaltsAfter, IsHalted, IsWithin, WritesAs}
 use Rattle.schedule_replay.proofs.LineEvents.{below, not_below}
 use Rattle.schedule_replay.proofs.CommandSteps.{told_is, told_step, writes_done, writes_refused}
-use Rattle.schedule_replay.proofs.MasterCommandsLemmas.{raise_done, raise_refused}
-use Rattle.schedule_replay.proofs.MastersActInWorld.{MastersAct, are_governing, governed_stands}
+use Rattle.schedule_replay.proofs.MasterCommandsLemmas.{raise_done, raise_refused, stop_leaves}
+use Rattle.schedule_replay.proofs.MastersActInWorld.{OrdersLeave, are_governing, governed_stands}
 use Rattle.schedule_replay.proofs.MovesLemmas.{masters_once, once_up_to}
 
 -- What a stop that a line can give says: behind one of the four calls, within one of five lines
@@ -94,21 +91,21 @@ halt_is : (w : World) (x : Event) (e calls : ℕ) (all : Bool) (s : Step) → wr
 halt_is w x e calls all s named is =
     ap (λ n. halted w n (is_written calls all) (act w x).world (act w x).lines) named ∙ ap (λ (t : Step). halted w e (is_written calls all) t.world t.lines) is
 
--- nobody sends
-none_acts : (net : Net Ledger) (p : Party) → OneActs net net p []
-none_acts net p = record { others = λ q d apart. refl; packets = sym (append-nil (map (parcel_of net) net.packets)) }
+-- nothing changes
+none_leaves : (w : World) → Leaves w w
+none_leaves w = record { agents = record { seen = λ n. refl; boots = λ n. refl }; apps = record { seen = λ n. refl; boots = λ n. refl }; packets = sym (append-nil _); cluster = refl; events = refl }
 
 -- Refused before the writing
-pub halt_refused : (w : World) (x : Event) (e calls : ℕ) (all : Bool) (g : Governing) (r : Refusal) → IsGoverning w g → writer_of x ≡ e → act w x ≡ refused w (as_refusal r) → IsHalted w e (act w (Halt calls all x)) g (out.Refused r)
+pub halt_refused : (w : World) (x : Event) (e calls : ℕ) (all : Bool) (g : Governing) (r : Refusal) → IsGoverning w g → writer_of x ≡ e → act w x ≡ refused w (as_refusal r) → IsHalted w (act w (Halt calls all x)) g (out.Refused r)
 halt_refused w x e calls all g r s named is =
-    subst (λ t. IsHalted w e t g (out.Refused r)) (sym (halt_is w x e calls all (refused w (as_refusal r)) named is)) (record {
-      parts = record { hard = s.hard; rests = s.rests; stand = s.stand; acts = none_acts w.net _; rest = refl; quiet = refl };
+    subst (λ t. IsHalted w t g (out.Refused r)) (sym (halt_is w x e calls all (refused w (as_refusal r)) named is)) (record {
+      parts = record { hard = s.hard; rests = s.rests; stand = s.stand; leaves = none_leaves w; quiet = refl };
       lines = refl;
     })
 
 -- by it
-pub halt_unwritten : (w : World) (x : Event) (e calls : ℕ) (all : Bool) (v : HardEvent) (old new : Held) (ms : MastersRecord) (r : Refusal) → IsGoverning w (governing old ms) → writer_of x ≡ e → WritesAs w (act w x) e v
-    → hard_step old.hard.value e v ≡ Err (as_refusal r) → new ≡ old → IsHalted w e (act w (Halt calls all x)) (governing new ms) (out.Refused r)
+pub halt_unwritten : (w : World) (x : Event) (e calls : ℕ) (all : Bool) (v : HardEvent) (old new : Held) (ms : SlotsRecord MasterRecord) (r : Refusal) → IsGoverning w (governing old ms) → writer_of x ≡ e → WritesAs w (act w x) e v
+    → hard_step old.hard.value e v ≡ Err (as_refusal r) → new ≡ old → IsHalted w (act w (Halt calls all x)) (governing new ms) (out.Refused r)
 halt_unwritten w x e calls all v old new ms r s named writes says same =
     let hard = s.hard in
     halt_refused w x e calls all (governing new ms) r (subst (λ y. IsGoverning w (governing y ms)) (sym same) s) named (writes.fails (as_refusal r) (ap (λ h. hard_step h e v) (sym hard) ∙ says))
@@ -122,33 +119,33 @@ counted_as calls all few =
 abbrev stopped : World → ℕ → Bool → HardState → Step
 stopped w e written k = record { world = without_master w e (cond written k w.hard); lines = Halted e written ∷ [] }
 
-pub halt_done : (w : World) (x : Event) (e calls : ℕ) (all written : Bool) (v : HardEvent) (old new : Held) (ms after : MastersRecord) → IsGoverning w (governing old ms) → writer_of x ≡ e → WritesAs w (act w x) e v
+pub halt_done : (w : World) (x : Event) (e calls : ℕ) (all written : Bool) (v : HardEvent) (old new : Held) (ms after : SlotsRecord MasterRecord) → IsGoverning w (governing old ms) → writer_of x ≡ e → WritesAs w (act w x) e v
     → calls ≤ 4 → written ≡ counts_after calls all → IsOpen new → IsLeft (hard_step old.hard.value e v) old.hard.value written new.hard.value → ((h : HardState) → AreMastersOf (without_master w e h) after)
-    → IsHalted w e (act w (Halt calls all x)) (governing new after) (out.Halted e written)
+    → IsHalted w (act w (Halt calls all x)) (governing new after) (out.Halted e written)
 halt_done w x e calls all written v old new ms after s named writes few counts rests left stand =
     by (hard_step w.hard e v) refl (subst (λ h. IsLeft (hard_step h e v) h written new.hard.value) s.hard left)
   where
-    by : (r : Result HardState WrittenRefusal) → hard_step w.hard e v ≡ r → IsLeft r w.hard written new.hard.value → IsHalted w e (act w (Halt calls all x)) (governing new after) (out.Halted e written)
+    by : (r : Result HardState WrittenRefusal) → hard_step w.hard e v ≡ r → IsLeft r w.hard written new.hard.value → IsHalted w (act w (Halt calls all x)) (governing new after) (out.Halted e written)
     by (Err r) is none = absurd none
     by (Ok k) is left =
         let d = writes.done k is in
         let said : is_written calls all ≡ written = sym (counts ∙ counted_as calls all few) in
         let step : act w (Halt calls all x) ≡ stopped w e written k = halt_is w x e calls all (act w x) named refl
         ∙ ap (λ ls. halted w e (is_written calls all) (act w x).world ls) d.1 ∙ ap (stopped w e (is_written calls all)) d.0 ∙ ap (λ b. stopped w e b k) said in
-        subst (λ t. IsHalted w e t (governing new after) (out.Halted e written)) (sym step) (record {
-          parts = record { hard = left; rests = rests; stand = stand (cond written k w.hard); acts = none_acts w.net _; rest = refl; quiet = refl };
+        subst (λ t. IsHalted w t (governing new after) (out.Halted e written)) (sym step) (record {
+          parts = record { hard = left; rests = rests; stand = stand (cond written k w.hard); leaves = stop_leaves w e (cond written k w.hard); quiet = refl };
           lines = refl;
         })
 
 -- In what runs
-pub halted_on : MastersAct → (x : Event) (stop : Stop) (old : WorldRecord) (held : Held) (masters : MastersRecord) (printed : Output) (before after : List ℕ)
+pub halted_on : OrdersLeave → (x : Event) (stop : Stop) (old : WorldRecord) (held : Held) (masters : SlotsRecord MasterRecord) (printed : Output) (before after : List ℕ)
     → Halts old.cluster x stop (governing old.checkpoint old.masters) (governing held masters) printed → TakesStep old.masters masters → after ≡ before ++ lines_text (as_line printed ∷ [])
     → Acts (λ w. act w (Halt stop.calls stop.all x)) old (record old { checkpoint = held; masters = masters }) before after (Ok tt)
 halted_on law x stop old held masters printed before after halts steps text = record {
   does = λ w is s.
       let h = halts w s.cluster (are_governing w old is s) in
       record {
-        stands = governed_stands law w (writer_of x) (prints_nothing (act w (Halt stop.calls stop.all x)).world) old held masters None s h.parts;
+        stands = governed_stands law w (prints_nothing (act w (Halt stop.calls stop.all x)).world) old held masters None s h.parts;
         text = text ∙ ap (λ ls. before ++ lines_text ls) (sym h.lines);
       };
   moves = once_up_to old (record old { checkpoint = held; masters = masters }) (masters_once old held masters old.pool steps);

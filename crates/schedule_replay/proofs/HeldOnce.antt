@@ -29,7 +29,7 @@ use Rattle.party_slots.specs.Slots.{slot_at}
 use Rattle.schedule_replay.specs.Worlds.{WorldRecord, StandsFor}
 use Rattle.schedule_replay.specs.CoreReads.{held_now}
 use Rattle.schedule_replay.specs.Promises.{IsOfOneEntry, AllHeldOnce}
-use Rattle.schedule_replay.proofs.CoresStandFor.{PeersRun, app_runs}
+use Rattle.schedule_replay.proofs.CoresStandFor.{PartiesRun, app_runs}
 
 -- what a core holds is what its application holds
 pub held_is : (a : AppCore) (r : AppRole) (u m : ℕ) → AppStandsFor a r → u < a.units → m < a.machines → held_now a u m ≡ held_by r u m
@@ -66,7 +66,7 @@ granted a m u named = within (is_named a.up.incoming.received m) (count key_cmp 
     (uncredited (tally_of a.up.incoming.received) (tally_of a.up.outgoing.present) a.up.outgoing.own u m) (carried_at a.carried u m) named
 
 -- in a world, each is part of one entry
-one_entry : PeersRun → (r : WorldRecord) (w : World) (n : ℕ) (a : AppCore) (m : ℕ) → StandsFor r w → Safe w → slot_at r.apps n ≡ Some a → has_machine r.cluster m ≡ true → IsOfOneEntry w n a m
+one_entry : PartiesRun → (r : WorldRecord) (w : World) (n : ℕ) (a : AppCore) (m : ℕ) → StandsFor r w → Safe w → slot_at r.apps n ≡ Some a → has_machine r.cluster m ≡ true → IsOfOneEntry w n a m
 one_entry run r w n a m s safe is there =
     let g = app_runs run r w n a s is in
     let p = party (app_id n) g.app.boot in
@@ -85,7 +85,7 @@ one_entry run r w n a m s safe is there =
     }
 
 -- together they fit
-held_fits : PeersRun → (r : WorldRecord) (w : World) (n : ℕ) (a : AppCore) (m i : ℕ) → StandsFor r w → Safe w → slot_at r.apps n ≡ Some a → has_machine r.cluster m ≡ true → i < r.cluster.resources
+held_fits : PartiesRun → (r : WorldRecord) (w : World) (n : ℕ) (a : AppCore) (m i : ℕ) → StandsFor r w → Safe w → slot_at r.apps n ≡ Some a → has_machine r.cluster m ≡ true → i < r.cluster.resources
     → units_total_at r.checkpoint.hard.value.jobs n a.units (λ u. held_now a u m) i ≤ has_at r.cluster m i
 held_fits run r w n a m i s safe is there lt =
     let g = app_runs run r w n a s is in
@@ -99,7 +99,7 @@ held_fits run r w n a m i s safe is there lt =
     subst (λ (c : ClusterRecord). units_total_at r.checkpoint.hard.value.jobs n a.units (λ u. held_now a u m) i ≤ has_at c m i) (sym s.cluster)
     (subst (λ k. k ≤ has_at w.cluster m i) (sym total) fits)
 
-pub all_held_once : PeersRun → (r : WorldRecord) (w : World) → ((v : World) → Good v → Safe v) → StandsFor r w → Good w → AllHeldOnce r
+pub all_held_once : PartiesRun → (r : WorldRecord) (w : World) → ((v : World) → Good v → Safe v) → StandsFor r w → Good w → AllHeldOnce r
 all_held_once run r w safe s good n a is m there = record {
   fits = λ i lt. held_fits run r w n a m i s (safe w good) is there lt;
   granted = λ named u. granted a m u named;

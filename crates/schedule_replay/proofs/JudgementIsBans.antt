@@ -22,8 +22,9 @@ use Rattle.written_world.specs.EventRanges.{is_counted}
 use Rattle.written_world.specs.Outputs.{Judged}
 use Rattle.bad_nodes.specs.Ranks.{number_of}
 use Rattle.schedule_replay.specs.Held.{Held}
-use Rattle.fuxi_master.specs.Cores.{CoreRecord}
-use Rattle.running_masters.specs.RunningMasters.{MastersRecord, MasterRunsAs}
+use Rattle.fuxi_master.specs.Cores.{CoreRecord, MasterRecord}
+use Rattle.party_slots.specs.Slots.{SlotsRecord}
+use Rattle.party_slots.specs.RunningMasters.{MasterRunsAs}
 use Rattle.schedule_text.specs.declared.refusal.Refusal.{Refusal}
 use Rattle.schedule_replay.specs.ReplayTexts.{lines_text}
 use Rattle.schedule_replay.specs.Worlds.{WorldRecord, IsWorld, StandsFor}
@@ -32,7 +33,7 @@ use Rattle.schedule_replay.specs.declared.commands.Judgement.{Judgement}
 use Rattle.schedule_replay.specs.MasterCommands.{Governing, IsGoverning, IsDecided, Decides, DecidesIn, GovernsOn, TakesStep, governing}
 use Rattle.schedule_replay.proofs.LineEvents.{not_below}
 use Rattle.schedule_replay.proofs.MovesLemmas.{masters_once}
-use Rattle.schedule_replay.proofs.MastersActInWorld.{MastersAct, are_governing, governed_stands}
+use Rattle.schedule_replay.proofs.MastersActInWorld.{OrdersLeave, are_governing, governed_stands}
 use Rattle.schedule_replay.proofs.PeersActInWorld.{first_fails, first_passes}
 use Rattle.schedule_replay.proofs.StepAfterStep.{GoodKept, OrderKept, acted_is}
 
@@ -115,11 +116,11 @@ pub is_there : (P : ℕ → Type 0) (ms : List MachineNo) (i : ℕ) (m : Machine
 is_there P ms i m all lt is = subst P (get_or-map number_of ms i m m.0 lt ∙ ap number_of (sym is)) (all i m.0 (subst (λ n. i < n) (sym (length-map ms number_of)) lt))
 
 -- One ban
-pub bans_one : MastersAct → (e m votes : ℕ) (old : WorldRecord) (held : Held) (masters : MastersRecord) (answer : Option Refusal) (before after : List ℕ)
-    → GovernsOn old.cluster e (λ w. commanded w e (BansMachine m)) (governing old.checkpoint old.masters) (governing held masters) answer → TakesStep old.masters masters → after ≡ before ++ lines_text (Judged m votes ∷ [])
+pub bans_one : OrdersLeave → (e m votes : ℕ) (old : WorldRecord) (held : Held) (masters : SlotsRecord MasterRecord) (answer : Option Refusal) (before after : List ℕ)
+    → GovernsOn old.cluster (λ w. commanded w e (BansMachine m)) (governing old.checkpoint old.masters) (governing held masters) answer → TakesStep old.masters masters → after ≡ before ++ lines_text (Judged m votes ∷ [])
     → IsActedOnce (ban_one e m votes) old (record old { checkpoint = held; masters = masters }) before after
 bans_one act e m votes old held masters answer before after governs steps text = record {
-  does = λ w is s. record { stands = governed_stands act w e (commanded w e (BansMachine m)) old held masters answer s (governs w s.cluster (are_governing w old is s)); text = text };
+  does = λ w is s. record { stands = governed_stands act w (commanded w e (BansMachine m)) old held masters answer s (governs w s.cluster (are_governing w old is s)); text = text };
   moves = masters_once old held masters old.pool steps;
   pool = refl;
 }

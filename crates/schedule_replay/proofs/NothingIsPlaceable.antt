@@ -15,6 +15,7 @@ use Rattle.fuxi_master.specs.Cores.{CoreRecord, StandsFor as MasterStandsFor}
 use Rattle.schedule_replay.specs.Worlds.{WorldRecord, StandsFor}
 use Rattle.schedule_replay.specs.CoreReads.{is_placeable}
 use Rattle.schedule_replay.specs.Promises.{AllSettled}
+use Rattle.schedule_replay.proofs.CoresStandFor.{PartiesRun, master_runs}
 
 placeable_is : (x : CoreRecord) (r : MasterRole) (a u m : ℕ) → MasterStandsFor x r → is_placeable x a u m ≡ placeable r.cluster r.state a u m
 placeable_is x r a u m s =
@@ -30,9 +31,9 @@ placeable_is x r a u m s =
 out_is : (x : CoreRecord) (r : MasterRole) (a u : ℕ) → MasterStandsFor x r → out_of (asks_seen x.allotment.placer.seen) x.allotment.table.entries a u ≡ out r.state a u
 out_is x r a u s = let p = s.stands.allots.placing in λ i. p.wants a u i - held (p.entries i) a u
 
-pub all_settled : (r : WorldRecord) (w : World) → StandsFor r w → Good w → Safe w → AllSettled r
-all_settled r w s good safe e M runs =
-    let x = s.masters.each e M runs in
+pub all_settled : PartiesRun → (r : WorldRecord) (w : World) → StandsFor r w → Good w → Safe w → AllSettled r
+all_settled run r w s good safe e M runs =
+    let x = master_runs run r w e M s runs in
     record {
       line = λ a u.
           ap (λ l. has_pair (a, u) l) x.stands.stands.allots.placing.line

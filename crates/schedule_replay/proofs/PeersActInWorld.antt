@@ -8,17 +8,15 @@ use Rattle.fuxi_terms.specs.Jobs.{KnownJob, job_of, is_known, has_ended, unit_co
 use Rattle.fuxi_terms.specs.Padded.{padded}
 use Rattle.cluster_desc.specs.Records.{machine_of as machine_seen}
 use Rattle.cluster_desc.specs.declared.cluster.Machine.{Machine}
-use Rattle.party_ledgers.specs.declared.packets.Packet.{Packet}
 use Rattle.written_net.specs.Channels.{agent_id, app_id}
 use Rattle.written_roles.specs.Refusals.{Refusal as Written, NoMachine, NoJob, Ended, NotRising, NotRunning}
 use Rattle.written_world.specs.World.{World, Step, refused, prints_nothing, unless_refused}
 use Rattle.written_world.specs.Events.{start_agent, agent_started, start_app, app_started}
-use Rattle.packet_pool.specs.PacketPools.{Stored}
 use Rattle.agent_core.specs.AgentCores.{AgentCore}
 use Rattle.app_master.specs.AppCores.{AppCore}
-use Rattle.written_parties.specs.SeenParties.{Agents, Apps, new_party}
-use Rattle.party_slots.specs.Slots.{SlotsRecord, ActIn, StepIn, StartsIn}
-use Rattle.party_slots.specs.Peers.{AgentStands, AppStands, AreAgentsOf, AreAppsOf, IsRefusedAs}
+use Rattle.written_parties.specs.SeenParties.{Kind, Role, agent_starting, app_starting}
+use Rattle.party_slots.specs.Slots.{SlotsRecord, StepIn}
+use Rattle.party_slots.specs.Peers.{AgentStartsIn, AppStartsIn, IsRefusedAs}
 use Rattle.app_master.specs.declared.fault.AppFault.{AppFault}
 use Rattle.app_master.specs.declared.fault.AppFault.TheVariants as fault
 use Rattle.schedule_text.specs.declared.refusal.Refusal.{Refusal}
@@ -27,8 +25,7 @@ use Rattle.schedule_replay.specs.declared.stop.WorldStop.{WorldStop}
 use Rattle.schedule_replay.specs.ReplayTexts.{lines_text}
 use Rattle.schedule_replay.specs.Worlds.{WorldRecord, IsWorld, StandsFor}
 use Rattle.schedule_replay.specs.WorldSteps.{IsDone, limit_of}
-use Rattle.schedule_replay.specs.Moves.{KeepsMore, Acts, IsActed, WantsMemory, IsRefusalOf, refusal_lines}
-use Rattle.schedule_replay.proofs.RestStands.{keeps_none}
+use Rattle.schedule_replay.specs.Moves.{AgentsPart, AppsPart, IsPart, Acts, IsActed, WantsMemory, IsRefusalOf, refusal_lines}
 use Rattle.schedule_replay.proofs.MovesLemmas.{once_up_to, none_once}
 use Rattle.schedule_replay.proofs.MastersActInWorld.{is_refused, is_quiet}
 
@@ -62,30 +59,10 @@ first_passes w true r ts f is = absurd (no is)
     no : true ≡ false → ⊥
     no e = grind (arith, e)
 
--- The laws, as they are called for
-abbrev pub AgentsAct : Type 0
-AgentsAct = (w w' : World) (m : ℕ) (sent : List Packet) (old : WorldRecord) (agents : SlotsRecord AgentCore) (pool : Stored)
-    → StandsFor old w → ActIn AgentStands Agents w w' m agents sent → KeepsMore old.pool pool sent → StandsFor (record old { agents = agents; pool = pool }) w'
-
-abbrev pub AppsAct : Type 0
-AppsAct = (w w' : World) (a : ℕ) (sent : List Packet) (old : WorldRecord) (apps : SlotsRecord AppCore) (pool : Stored)
-    → StandsFor old w → ActIn AppStands Apps w w' a apps sent → KeepsMore old.pool pool sent → StandsFor (record old { apps = apps; pool = pool }) w'
-
--- What one agent did, or one application, which sent nothing
-pub agent_done : AgentsAct → (w : World) (s : Step) (old : WorldRecord) (m : ℕ) (agents : SlotsRecord AgentCore) (before : List ℕ) → StandsFor old w → StepIn AgentStands Agents w m agents [] s [] → IsDone s (record old { agents = agents }) before before
-agent_done act w s old m agents before stands a =
-    is_quiet s (record old { agents = agents }) before before (act w s.world m [] old agents old.pool stands a.world (keeps_none old.pool)) a.lines (no_text before)
-
-pub app_done : AppsAct → (w : World) (s : Step) (old : WorldRecord) (a : ℕ) (apps : SlotsRecord AppCore) (before : List ℕ) → StandsFor old w → StepIn AppStands Apps w a apps [] s [] → IsDone s (record old { apps = apps }) before before
-app_done act w s old a apps before stands h =
-    is_quiet s (record old { apps = apps }) before before (act w s.world a [] old apps old.pool stands h.world (keeps_none old.pool)) h.lines (no_text before)
-
--- the agents, or the applications, are others that stand in the same world
-pub with_agents : (w : World) (old : WorldRecord) (agents : SlotsRecord AgentCore) → StandsFor old w → AreAgentsOf w agents → StandsFor (record old { agents = agents }) w
-with_agents w old agents s h = record { cluster = s.cluster; hard = s.hard; rests = s.rests; masters = s.masters; agents = h; apps = s.apps; packets = s.packets; events = s.events }
-
-pub with_apps : (w : World) (old : WorldRecord) (apps : SlotsRecord AppCore) → StandsFor old w → AreAppsOf w apps → StandsFor (record old { apps = apps }) w
-with_apps w old apps s h = record { cluster = s.cluster; hard = s.hard; rests = s.rests; masters = s.masters; agents = s.agents; apps = h; packets = s.packets; events = s.events }
+-- What one party did, of any kind, which sent nothing
+module _ {P : Type 0} {stands : P → Role → Type 0} {steps : P → ℕ} {k : Kind} {of : WorldRecord → SlotsRecord P} {put : SlotsRecord P → WorldRecord → WorldRecord} where
+  pub party_done : IsPart P stands steps k of put → (w : World) (s : Step) (old : WorldRecord) (n : ℕ) (x : SlotsRecord P) (before : List ℕ) → StandsFor old w → StepIn stands k w n x [] s [] → IsDone s (put x old) before before
+  party_done part w s old n x before stand a = is_quiet s (put x old) before before (part.quiet w s.world n old x stand a.world) a.lines (no_text before)
 
 -- The refusal of the world, where there is one
 abbrev named : Option Refusal → Written
@@ -145,18 +122,18 @@ has_as c m x is = by (slice_get c.machines m) is
     by None e = let no : ⊥ = cc in absurd no
     by (Some r) e = let same : machine_seen r ≡ x = cc in sym (ap (λ (y : Machine). y.has.q) same)
 
-pub agent_starts : AgentsAct → (w : World) (old : WorldRecord) (m b : ℕ) (agents : SlotsRecord AgentCore) (before : List ℕ) → StandsFor old w → has_machine w.cluster m ≡ true → w.boots (agent_id m) < b → StartsIn AgentStands Agents w m b agents
+pub agent_starts : AgentsPart → (w : World) (old : WorldRecord) (m b : ℕ) (agents : SlotsRecord AgentCore) (before : List ℕ) → StandsFor old w → has_machine w.cluster m ≡ true → w.boots (agent_id m) < b → AgentStartsIn w m b agents
     → IsDone (start_agent w m b) (record old { agents = agents }) before before
-agent_starts act w old m b agents before s there later h =
+agent_starts part w old m b agents before s there later h =
     subst (λ t. IsDone t (record old { agents = agents }) before before) (sym (agent_step w m b there later))
-    (agent_done act w (prints_nothing (agent_started w m b)) old m agents before s (record { world = record { stand = h.stand; role = new_party w Agents m b; acts = h.acts }; lines = refl }))
+    (party_done part w (prints_nothing (agent_started w m b)) old m agents before s (record { world = record { stand = h.stand; role = agent_starting w m b; acts = h.acts; hard = refl }; lines = refl }))
 
 -- and of applications
-pub app_starts : AppsAct → (w : World) (old : WorldRecord) (a b : ℕ) (apps : SlotsRecord AppCore) (before : List ℕ) → StandsFor old w → is_known w.hard.jobs a ≡ true → has_ended w.hard.jobs a ≡ false → w.boots (app_id a) < b → StartsIn AppStands Apps w a b apps
+pub app_starts : AppsPart → (w : World) (old : WorldRecord) (a b : ℕ) (apps : SlotsRecord AppCore) (before : List ℕ) → StandsFor old w → is_known w.hard.jobs a ≡ true → has_ended w.hard.jobs a ≡ false → w.boots (app_id a) < b → AppStartsIn w a b apps
     → IsDone (start_app w a b) (record old { apps = apps }) before before
-app_starts act w old a b apps before s known live later h =
+app_starts part w old a b apps before s known live later h =
     subst (λ t. IsDone t (record old { apps = apps }) before before) (sym (app_step w a b known live later))
-    (app_done act w (prints_nothing (app_started w a b)) old a apps before s (record { world = record { stand = h.stand; role = new_party w Apps a b; acts = h.acts }; lines = refl }))
+    (party_done part w (prints_nothing (app_started w a b)) old a apps before s (record { world = record { stand = h.stand; role = app_starting w a b; acts = h.acts; hard = refl }; lines = refl }))
 
 -- the refusal that a fault names is that of the world
 pub fault_is : (w : World) (s : Step) (fault : AppFault) (r : Refusal) → IsRefusalOf fault (Some r) → IsRefusedAs w s fault → s ≡ refused w (as_refusal r)

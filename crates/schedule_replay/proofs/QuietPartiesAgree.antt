@@ -8,12 +8,12 @@ use Rattle.written_world.specs.Safe.{Safe, row_count}
 use Rattle.written_join.specs.SeenWorlds.{app_seen}
 use Rattle.schedule_replay.specs.Worlds.{WorldRecord, IsWorld, StandsFor}
 use Rattle.schedule_replay.specs.Promises.{AllAgree}
-use Rattle.schedule_replay.proofs.CoresStandFor.{PeersRun, agent_runs, app_runs, table_is}
+use Rattle.schedule_replay.proofs.CoresStandFor.{PartiesRun, agent_runs, app_runs, master_runs, table_is}
 use Rattle.schedule_replay.proofs.HeldOnce.{held_is, machine_there}
 
-pub all_agree : PeersRun → (r : WorldRecord) (w : World) → IsWorld w → StandsFor r w → Safe w → AllAgree r
+pub all_agree : PartiesRun → (r : WorldRecord) (w : World) → IsWorld w → StandsFor r w → Safe w → AllAgree r
 all_agree run r w is_world s safe e M runs quiet =
-    let x = s.masters.each e M runs in
+    let x = master_runs run r w e M s runs in
     let agree = safe.agreement e x.master x.runs (quiet w is_world s) in
     let entries = x.stands.stands.allots.placing.entries in
     record {

@@ -1,91 +1,133 @@
 -- What one party leaves of a world, and that the rest stands for the world after it.
-use Rattle.std.proofs.Common.{◌≡◌, ℕ, true, false, List, [], ◌++◌, map, refl, sym, ◌∙◌, ap, subst, append-nil}
+use Rattle.std.proofs.Common.{◌≡◌, ℕ, ◌+◌, ◌≤◌, false, List, [], ◌++◌, map, refl, sym, ◌∙◌, ap, subst, append-nil}
 use Rattle.std.proofs.lemmas.List.{map-append}
 use Rattle.fuxi_terms.proofs.Alls.{all_append}
 use Rattle.party_ledgers.specs.declared.packets.Packet.{Packet}
 use Rattle.core_side.specs.Parcels.{parcel_is, IsSent}
-use Rattle.written_net.specs.Net.{Party}
 use Rattle.written_net.specs.Sides.{Parcel}
-use Rattle.written_net.specs.Channels.{agent_id, app_id, party, is_master}
 use Rattle.written_world.specs.World.{World}
-use Rattle.written_join.specs.PartyJoins.{OneActs}
 use Rattle.packet_pool.specs.PacketPools.{Stored, Keeps}
-use Rattle.schedule_replay.specs.Held.{Held}
+use Rattle.schedule_replay.specs.Held.{Held, IsOpen}
 use Rattle.agent_core.specs.AgentCores.{AgentCore}
 use Rattle.app_master.specs.AppCores.{AppCore}
-use Rattle.written_parties.specs.SeenParties.{Kind, Agents, Apps, seen}
+use Rattle.fuxi_master.specs.Cores.{MasterRecord}
+use Rattle.written_parties.specs.SeenParties.{Kind, Masters, Agents, Apps, Role, is_same, Acts}
 use Rattle.party_slots.specs.Slots.{SlotsRecord, ActIn, AreOf, Stays}
 use Rattle.party_slots.specs.Peers.{AgentStands, AppStands}
-use Rattle.running_masters.specs.RunningMasters.{MastersRecord, AreMastersOf}
+use Rattle.party_slots.specs.RunningMasters.{MasterStands, AreMastersOf}
 use Rattle.schedule_replay.specs.Worlds.{WorldRecord, KeepsPackets, StandsFor}
-use Rattle.schedule_replay.specs.Moves.{KeepsMore, MasterActs}
+use Rattle.schedule_replay.specs.Moves.{AgentsPart, AppsPart, KeepsMore, Leaves, MastersPart, SentMore}
+use Rattle.schedule_replay.proofs.MovesLemmas.{agents_once, apps_once, masters_once}
 
 -- no packet more
 pub keeps_none : (p : Stored) → KeepsMore p p []
 keeps_none p = record { kept = λ xs k. subst (Keeps p) (sym (append-nil xs)) k; all = tt }
 
-kept_after : (w w' : World) (p : Party) (sent : List Packet) (old new : Stored) → OneActs w.net w'.net p (map parcel_is sent) → KeepsPackets w old → KeepsMore old new sent → KeepsPackets w' new
-kept_after w w' p sent old new acts k more = record {
+pub kept_after : (w w' : World) (sent : List Packet) (old new : Stored) → SentMore w w' sent → KeepsPackets w old → KeepsMore old new sent → KeepsPackets w' new
+kept_after w w' sent old new packets k more = record {
   packets = k.packets ++ sent;
   kept = more.kept k.packets k.kept;
   sent = all_append IsSent k.packets sent k.sent more.all;
-  same = map-append parcel_is k.packets sent ∙ ap (λ ps. ps ++ map parcel_is sent) k.same ∙ sym acts.packets;
+  same = map-append parcel_is k.packets sent ∙ ap (λ ps. ps ++ map parcel_is sent) k.same ∙ sym packets;
 }
 
--- The laws of those who do not act, as their crates state them
-abbrev pub MastersStay : Type 0
-MastersStay = (w w' : World) (x : MastersRecord) (p : Party) (sent : List Parcel) → AreMastersOf w x → w'.masters ≡ w.masters → w'.cluster ≡ w.cluster → is_master p.id ≡ false → OneActs w.net w'.net p sent → AreMastersOf w' x
+-- The laws of those who do not act, as they are called for
+abbrev pub OthersStand : {P : Type 0} → (P → Role → Type 0) → Type 0
+OthersStand {P} stands = (w w' : World) (k : Kind) (x : SlotsRecord P) → Stays w w' k → AreOf stands k w x → AreOf stands k w' x
 
-abbrev pub AgentsStand : Type 0
-AgentsStand = (w w' : World) (k : Kind) (x : SlotsRecord AgentCore) → Stays w w' k → AreOf AgentStands k w x → AreOf AgentStands k w' x
+-- what those of another kind see stays
+pub stays : (w w' : World) (k : Kind) (n : ℕ) (r : Role) (sent : List Parcel) (j : Kind) → Acts w w' k n r sent → ((m : ℕ) → is_same k n j m ≡ false) → Stays w w' j
+stays w w' k n r sent j acts apart = record { seen = λ m. acts.others j m (apart m); boots = λ m. acts.boots j m (apart m) }
 
-abbrev pub AppsStand : Type 0
-AppsStand = (w w' : World) (k : Kind) (x : SlotsRecord AppCore) → Stays w w' k → AreOf AppStands k w x → AreOf AppStands k w' x
+masters_acted : OthersStand AgentStands → OthersStand AppStands → (w w' : World) (n : ℕ) (sent : List Packet) (old : WorldRecord) (x : SlotsRecord MasterRecord) (p : Stored) → StandsFor old w → ActIn MasterStands Masters w w' n x sent → KeepsMore old.pool p sent → StandsFor (record old { masters = x; pool = p }) w'
+masters_acted agents_stand apps_stand w w' n sent old x p s a more = record {
+  cluster = s.cluster ∙ sym a.acts.cluster;
+  hard = s.hard ∙ sym a.hard;
+  rests = s.rests;
+  masters = a.stand;
+  agents = agents_stand w w' Agents old.agents (stays w w' Masters n a.role _ Agents a.acts (λ m. refl)) s.agents;
+  apps = apps_stand w w' Apps old.apps (stays w w' Masters n a.role _ Apps a.acts (λ m. refl)) s.apps;
+  packets = kept_after w w' sent old.pool p a.acts.packets s.packets more;
+  events = s.events ∙ sym a.acts.events;
+}
 
-abbrev pub PeersStay : Type 0
-PeersStay = (w w' : World) (p : Party) (sent : List Parcel) → OneActs w.net w'.net p sent → is_master p.id ≡ true → w'.cluster ≡ w.cluster → w'.agents ≡ w.agents → w'.apps ≡ w.apps → (k : Kind) (n : ℕ) → seen w' k n ≡ seen w k n
+pub masters_part : OthersStand AgentStands → OthersStand AppStands → MastersPart
+masters_part agents_stand apps_stand = record {
+  acts = masters_acted agents_stand apps_stand;
+  quiet = λ w w' n old x s a. masters_acted agents_stand apps_stand w w' n [] old x old.pool s a (keeps_none old.pool);
+  frames = λ old x. refl;
+  stays = λ w old x s h. record { cluster = s.cluster; hard = s.hard; rests = s.rests; masters = h; agents = s.agents; apps = s.apps; packets = s.packets; events = s.events };
+  stand = λ w old s. s.masters;
+  moves = λ old x h. masters_once old old.checkpoint x old.pool h;
+  once = λ old x p h. masters_once old old.checkpoint x p h;
+}
 
-pub agents_acted : AppsStand → MastersStay → (w w' : World) (m : ℕ) (sent : List Packet) (old : WorldRecord) (agents : SlotsRecord AgentCore) (pool : Stored)
-    → StandsFor old w → ActIn AgentStands Agents w w' m agents sent → KeepsMore old.pool pool sent → StandsFor (record old { agents = agents; pool = pool }) w'
-agents_acted apps_stand masters_stay w w' m sent old agents pool s a more =
-    let p = party (agent_id m) a.acts.boot in
-    record {
-      cluster = s.cluster ∙ sym a.acts.cluster;
-      hard = s.hard ∙ sym a.acts.hard;
-      rests = s.rests;
-      masters = masters_stay w w' old.masters p (map parcel_is sent) s.masters a.acts.masters a.acts.cluster refl a.acts.acts;
-      agents = a.stand;
-      apps = apps_stand w w' Apps old.apps (record { cluster = a.acts.cluster; seen = λ n. a.acts.others Apps n refl; boots = λ n. a.acts.boots Apps n refl }) s.apps;
-      packets = kept_after w w' p sent old.pool pool a.acts.acts s.packets more;
-      events = s.events ∙ sym a.acts.events;
-    }
+agents_acted : OthersStand MasterStands → OthersStand AppStands → (w w' : World) (n : ℕ) (sent : List Packet) (old : WorldRecord) (x : SlotsRecord AgentCore) (p : Stored) → StandsFor old w → ActIn AgentStands Agents w w' n x sent → KeepsMore old.pool p sent → StandsFor (record old { agents = x; pool = p }) w'
+agents_acted masters_stand apps_stand w w' n sent old x p s a more = record {
+  cluster = s.cluster ∙ sym a.acts.cluster;
+  hard = s.hard ∙ sym a.hard;
+  rests = s.rests;
+  masters = masters_stand w w' Masters old.masters (stays w w' Agents n a.role _ Masters a.acts (λ m. refl)) s.masters;
+  agents = a.stand;
+  apps = apps_stand w w' Apps old.apps (stays w w' Agents n a.role _ Apps a.acts (λ m. refl)) s.apps;
+  packets = kept_after w w' sent old.pool p a.acts.packets s.packets more;
+  events = s.events ∙ sym a.acts.events;
+}
 
-pub apps_acted : AgentsStand → MastersStay → (w w' : World) (a : ℕ) (sent : List Packet) (old : WorldRecord) (apps : SlotsRecord AppCore) (pool : Stored)
-    → StandsFor old w → ActIn AppStands Apps w w' a apps sent → KeepsMore old.pool pool sent → StandsFor (record old { apps = apps; pool = pool }) w'
-apps_acted agents_stand masters_stay w w' a sent old apps pool s h more =
-    let p = party (app_id a) h.acts.boot in
-    record {
-      cluster = s.cluster ∙ sym h.acts.cluster;
-      hard = s.hard ∙ sym h.acts.hard;
-      rests = s.rests;
-      masters = masters_stay w w' old.masters p (map parcel_is sent) s.masters h.acts.masters h.acts.cluster refl h.acts.acts;
-      agents = agents_stand w w' Agents old.agents (record { cluster = h.acts.cluster; seen = λ n. h.acts.others Agents n refl; boots = λ n. h.acts.boots Agents n refl }) s.agents;
-      apps = h.stand;
-      packets = kept_after w w' p sent old.pool pool h.acts.acts s.packets more;
-      events = s.events ∙ sym h.acts.events;
-    }
+pub agents_part : OthersStand MasterStands → OthersStand AppStands → AgentsPart
+agents_part masters_stand apps_stand = record {
+  acts = agents_acted masters_stand apps_stand;
+  quiet = λ w w' n old x s a. agents_acted masters_stand apps_stand w w' n [] old x old.pool s a (keeps_none old.pool);
+  frames = λ old x. refl;
+  stays = λ w old x s h. record { cluster = s.cluster; hard = s.hard; rests = s.rests; masters = s.masters; agents = h; apps = s.apps; packets = s.packets; events = s.events };
+  stand = λ w old s. s.agents;
+  moves = λ old x h. agents_once old x old.pool h;
+  once = agents_once;
+}
 
-pub masters_acted : PeersStay → AgentsStand → AppsStand → (w w' : World) (p : Party) (sent : List Packet) (old : WorldRecord) (held : Held) (masters : MastersRecord) (pool : Stored)
-    → StandsFor old w → MasterActs w w' p sent held masters → KeepsMore old.pool pool sent → StandsFor (record old { checkpoint = held; masters = masters; pool = pool }) w'
-masters_acted peers_stay agents_stand apps_stand w w' p sent old held masters pool s a more =
-    let see = peers_stay w w' p (map parcel_is sent) a.acts a.role a.cluster a.agents a.apps in
-    record {
-      cluster = s.cluster ∙ sym a.cluster;
-      hard = a.hard;
-      rests = a.rests;
-      masters = a.stand;
-      agents = agents_stand w w' Agents old.agents (record { cluster = a.cluster; seen = see Agents; boots = λ n. ap (λ b. b (agent_id n)) a.boots }) s.agents;
-      apps = apps_stand w w' Apps old.apps (record { cluster = a.cluster; seen = see Apps; boots = λ n. ap (λ b. b (app_id n)) a.boots }) s.apps;
-      packets = kept_after w w' p sent old.pool pool a.acts s.packets more;
-      events = s.events ∙ sym a.events;
-    }
+apps_acted : OthersStand MasterStands → OthersStand AgentStands → (w w' : World) (n : ℕ) (sent : List Packet) (old : WorldRecord) (x : SlotsRecord AppCore) (p : Stored) → StandsFor old w → ActIn AppStands Apps w w' n x sent → KeepsMore old.pool p sent → StandsFor (record old { apps = x; pool = p }) w'
+apps_acted masters_stand agents_stand w w' n sent old x p s a more = record {
+  cluster = s.cluster ∙ sym a.acts.cluster;
+  hard = s.hard ∙ sym a.hard;
+  rests = s.rests;
+  masters = masters_stand w w' Masters old.masters (stays w w' Apps n a.role _ Masters a.acts (λ m. refl)) s.masters;
+  agents = agents_stand w w' Agents old.agents (stays w w' Apps n a.role _ Agents a.acts (λ m. refl)) s.agents;
+  apps = a.stand;
+  packets = kept_after w w' sent old.pool p a.acts.packets s.packets more;
+  events = s.events ∙ sym a.acts.events;
+}
+
+pub apps_part : OthersStand MasterStands → OthersStand AgentStands → AppsPart
+apps_part masters_stand agents_stand = record {
+  acts = apps_acted masters_stand agents_stand;
+  quiet = λ w w' n old x s a. apps_acted masters_stand agents_stand w w' n [] old x old.pool s a (keeps_none old.pool);
+  frames = λ old x. refl;
+  stays = λ w old x s h. record { cluster = s.cluster; hard = s.hard; rests = s.rests; masters = s.masters; agents = s.agents; apps = h; packets = s.packets; events = s.events };
+  stand = λ w old s. s.apps;
+  moves = λ old x h. apps_once old x old.pool h;
+  once = apps_once;
+}
+
+-- the hard state may be another, and the masters
+pub orders_leave : OthersStand AgentStands → OthersStand AppStands → (w w' : World) (old : WorldRecord) (held : Held) (masters : SlotsRecord MasterRecord) → StandsFor old w → Leaves w w' → AreMastersOf w' masters → held.hard.value ≡ w'.hard → IsOpen held
+    → StandsFor (record old { checkpoint = held; masters = masters }) w'
+orders_leave agents_stand apps_stand w w' old held masters s leaves stand hard rests = record {
+  cluster = s.cluster ∙ sym leaves.cluster;
+  hard = hard;
+  rests = rests;
+  masters = stand;
+  agents = agents_stand w w' Agents old.agents leaves.agents s.agents;
+  apps = apps_stand w w' Apps old.apps leaves.apps s.apps;
+  packets = kept_after w w' [] old.pool old.pool leaves.packets s.packets (keeps_none old.pool);
+  events = s.events ∙ sym leaves.events;
+}
+
+-- a master that acted and sent nothing leaves so much
+pub leaves_by : (w w' : World) (e : ℕ) (r : Role) → Acts w w' Masters e r [] → Leaves w w'
+leaves_by w w' e r acts = record {
+  agents = stays w w' Masters e r [] Agents acts (λ m. refl);
+  apps = stays w w' Masters e r [] Apps acts (λ m. refl);
+  packets = acts.packets;
+  cluster = acts.cluster;
+  events = acts.events;
+}

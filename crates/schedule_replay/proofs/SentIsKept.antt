@@ -8,12 +8,11 @@ use Rattle.fuxi_terms.specs.Limits.{most_packets, most_packet_bytes}
 use Rattle.fuxi_terms.proofs.Alls.{all_append}
 use Rattle.party_ledgers.specs.declared.packets.Packet.{Packet as PacketHere}
 use Rattle.core_side.specs.Parcels.{content_of, parcel_is}
-use Rattle.written_net.specs.Net.{Net, Packet, Party}
+use Rattle.written_net.specs.Net.{Net, Packet}
 use Rattle.written_net.specs.Ledgers.{Ledger, body_length}
 use Rattle.written_net.specs.Channels.{frame_length}
 use Rattle.written_net.specs.Sides.{Parcel}
 use Rattle.written_join.specs.SeenWorlds.{parcel_of}
-use Rattle.written_join.specs.PartyJoins.{OneActs}
 use Rattle.written_world.specs.Outputs.{Line, sent_lines}
 use Rattle.written_world.specs.World.{World}
 use Rattle.wire_frames.specs.Frames.{frame, IsFrame}
@@ -26,7 +25,7 @@ use Rattle.schedule_replay.specs.declared.stop.WorldStop.TheVariants.{TooManyPac
 use Rattle.schedule_replay.specs.ReplayTexts.{lines_text}
 use Rattle.schedule_replay.specs.Worlds.{KeepsPackets}
 use Rattle.schedule_replay.specs.WorldSteps.{packet_bytes, limit_of, Stops}
-use Rattle.schedule_replay.specs.Moves.{StopsFor}
+use Rattle.schedule_replay.specs.Moves.{SentMore, StopsFor}
 
 -- The packets that are new in a world are those that were sent
 drop_front : {A : Type 0} (xs ys : List A) → drop (length xs) (xs ++ ys) ≡ ys
@@ -38,10 +37,10 @@ map_drop f zero xs = refl
 map_drop f (suc n) [] = refl
 map_drop f (suc n) (x ∷ xs) = map_drop f n xs
 
-pub new_packets : (w w' : World) (p : Party) (sent : List PacketHere) → OneActs w.net w'.net p (map parcel_is sent) → map parcel_is sent ≡ map (parcel_of w'.net) (drop (length w.net.packets) w'.net.packets)
-new_packets w w' p sent acts =
+pub new_packets : (w w' : World) (sent : List PacketHere) → SentMore w w' sent → map parcel_is sent ≡ map (parcel_of w'.net) (drop (length w.net.packets) w'.net.packets)
+new_packets w w' sent acts =
     let n = length w.net.packets in
-    sym (map_drop (parcel_of w'.net) n w'.net.packets ∙ ap (drop n) acts.packets ∙ ap (λ k. drop k (map (parcel_of w.net) w.net.packets ++ map parcel_is sent)) (sym (length-map w.net.packets (parcel_of w.net)))
+    sym (map_drop (parcel_of w'.net) n w'.net.packets ∙ ap (drop n) acts ∙ ap (λ k. drop k (map (parcel_of w.net) w.net.packets ++ map parcel_is sent)) (sym (length-map w.net.packets (parcel_of w.net)))
     ∙ drop_front (map (parcel_of w.net) w.net.packets) (map parcel_is sent))
 
 -- as many frames as packets
@@ -49,11 +48,11 @@ pub kept_length : (w : World) (p : Stored) → KeepsPackets w p → length p.fra
 kept_length w p k =
     ap length k.kept.stored ∙ length-map k.packets frame ∙ sym (length-map k.packets parcel_is) ∙ ap length k.same ∙ length-map w.net.packets (parcel_of w.net)
 
-pub turn_text : (w w' : World) (p : Party) (sent : List PacketHere) (old : Stored) (lines : List Line) (before after : List ℕ) → KeepsPackets w old → OneActs w.net w'.net p (map parcel_is sent)
+pub turn_text : (w w' : World) (sent : List PacketHere) (old : Stored) (lines : List Line) (before after : List ℕ) → KeepsPackets w old → SentMore w w' sent
     → lines ≡ sent_lines w'.net (length w.net.packets + 1) (drop (length w.net.packets) w'.net.packets)
     → ((net : Net Ledger) (xs : List Packet) → map parcel_is sent ≡ map (parcel_of net) xs → after ≡ before ++ lines_text (sent_lines net (length old.frames + 1) xs)) → after ≡ before ++ lines_text lines
-turn_text w w' p sent old lines before after k acts is text =
-    text w'.net (drop (length w.net.packets) w'.net.packets) (new_packets w w' p sent acts)
+turn_text w w' sent old lines before after k acts is text =
+    text w'.net (drop (length w.net.packets) w'.net.packets) (new_packets w w' sent acts)
     ∙ ap (λ n. before ++ lines_text (sent_lines w'.net (n + 1) (drop (length w.net.packets) w'.net.packets))) (kept_length w old k)
     ∙ ap (λ ls. before ++ lines_text ls) (sym is)
 
@@ -98,21 +97,21 @@ within_limits law w w' p k few small =
     (λ i. cond (one i) (Some (TooManyPackets (length w.net.packets))) (cond (two i) (Some (PoolBytes (packet_bytes w))) None))
 
 -- What the pool refuses the world refuses
-sent_kept : (w w' : World) (p : Party) (sent : List PacketHere) (old : Stored) → KeepsPackets w old → OneActs w.net w'.net p (map parcel_is sent) → length (with_frames old sent).frames ≡ length w'.net.packets
-sent_kept w w' p sent old k acts =
+sent_kept : (w w' : World) (sent : List PacketHere) (old : Stored) → KeepsPackets w old → SentMore w w' sent → length (with_frames old sent).frames ≡ length w'.net.packets
+sent_kept w w' sent old k acts =
     let a = length-append old.frames (map frame sent) in
     let b = length-map sent frame in
     let c = kept_length w old k in
     let d : length w'.net.packets ≡ length w.net.packets + length sent =
-    sym (length-map w'.net.packets (parcel_of w'.net)) ∙ ap length acts.packets ∙ length-append (map (parcel_of w.net) w.net.packets) (map parcel_is sent)
+    sym (length-map w'.net.packets (parcel_of w'.net)) ∙ ap length acts ∙ length-append (map (parcel_of w.net) w.net.packets) (map parcel_is sent)
     ∙ (λ i. length-map w.net.packets (parcel_of w.net) i + length-map sent parcel_is i) in
     omega (arith, a, b, c, d)
 
-sent_bytes : FrameLengths → (w w' : World) (p : Party) (sent : List PacketHere) (old : Stored) → KeepsPackets w old → AllByRecursion HasFrame sent → OneActs w.net w'.net p (map parcel_is sent) → bytes_of (with_frames old sent).frames ≡ packet_bytes w'
-sent_bytes law w w' p sent old k each acts =
+sent_bytes : FrameLengths → (w w' : World) (sent : List PacketHere) (old : Stored) → KeepsPackets w old → AllByRecursion HasFrame sent → SentMore w w' sent → bytes_of (with_frames old sent).frames ≡ packet_bytes w'
+sent_bytes law w w' sent old k each acts =
     let all = k.packets ++ sent in
     ap (λ fs. bytes_of (fs ++ map frame sent)) k.kept.stored ∙ ap bytes_of (sym (map-append frame k.packets sent))
-    ∙ same_bytes law w'.net all w'.net.packets (all_append HasFrame k.packets sent k.kept.each each) (map-append parcel_is k.packets sent ∙ ap (λ ps. ps ++ map parcel_is sent) k.same ∙ sym acts.packets)
+    ∙ same_bytes law w'.net all w'.net.packets (all_append HasFrame k.packets sent k.kept.each each) (map-append parcel_is k.packets sent ∙ ap (λ ps. ps ++ map parcel_is sent) k.same ∙ sym acts)
 
 -- a choice of the pool is the same choice of the world
 many_alike : (a b : Bool) (n m kept : ℕ) → cond a (Some (pool.TooManyPackets n)) (cond b (Some (pool.PoolBytes m)) None) ≡ Some (pool.TooManyPackets kept) → (a ≡ true) × (n ≡ kept)
@@ -161,16 +160,16 @@ large_alike false false n m kept is = absurd (other is)
     other : None ≡ Some (pool.PoolBytes kept) → ⊥
     other e = let no : 0 ≡ 1 = ap mark e in omega (arith, no)
 
-pub turn_stops : FrameLengths → (w w' : World) (p : Party) (sent : List PacketHere) (old : Stored) (stop : WorldStop) → KeepsPackets w old → OneActs w.net w'.net p (map parcel_is sent) → StopsFor old sent stop → Stops (limit_of w w') stop
-turn_stops law w w' p sent old (TooManyPackets kept) k acts h =
+pub turn_stops : FrameLengths → (w w' : World) (sent : List PacketHere) (old : Stored) (stop : WorldStop) → KeepsPackets w old → SentMore w w' sent → StopsFor old sent stop → Stops (limit_of w w') stop
+turn_stops law w w' sent old (TooManyPackets kept) k acts h =
     let m = many_alike _ _ _ _ kept h in
-    let many : nat_lt most_packets (length w'.net.packets) ≡ true = ap (nat_lt most_packets) (sym (sent_kept w w' p sent old k acts)) ∙ m.0 in
+    let many : nat_lt most_packets (length w'.net.packets) ≡ true = ap (nat_lt most_packets) (sym (sent_kept w w' sent old k acts)) ∙ m.0 in
     (λ i. cond (many i) (Some (TooManyPackets (length w.net.packets))) (cond (nat_lt most_packet_bytes (packet_bytes w')) (Some (PoolBytes (packet_bytes w))) None))
     ∙ ap (λ n. Some (TooManyPackets n)) (sym (kept_length w old k) ∙ m.1)
-turn_stops law w w' p sent old (PoolBytes kept) k acts h =
+turn_stops law w w' sent old (PoolBytes kept) k acts h =
     let m = large_alike _ _ _ _ kept h.0 in
-    let few : nat_lt most_packets (length w'.net.packets) ≡ false = ap (nat_lt most_packets) (sym (sent_kept w w' p sent old k acts)) ∙ m.0 in
-    let large : nat_lt most_packet_bytes (packet_bytes w') ≡ true = ap (nat_lt most_packet_bytes) (sym (sent_bytes law w w' p sent old k h.1 acts)) ∙ m.1 in
+    let few : nat_lt most_packets (length w'.net.packets) ≡ false = ap (nat_lt most_packets) (sym (sent_kept w w' sent old k acts)) ∙ m.0 in
+    let large : nat_lt most_packet_bytes (packet_bytes w') ≡ true = ap (nat_lt most_packet_bytes) (sym (sent_bytes law w w' sent old k h.1 acts)) ∙ m.1 in
     (λ i. cond (few i) (Some (TooManyPackets (length w.net.packets))) (cond (large i) (Some (PoolBytes (packet_bytes w))) None))
     ∙ ap (λ n. Some (PoolBytes n)) (sym (kept_bytes law w old k) ∙ m.2)
-turn_stops law w w' p sent old OutOfMemory k acts h = tt
+turn_stops law w w' sent old OutOfMemory k acts h = tt

@@ -1,40 +1,26 @@
 -- Turns: the packets of a party that runs are kept and printed, or the limit that they would pass is named.
-use Rattle.std.proofs.Common.{◌≡◌, ℕ, ◌+◌, List, [], ◌∷◌, ◌++◌, length, map, take, Option, Some, None, Result, Ok, Err, slice_get, refl, sym, ◌∙◌, ap, subst, arith}
+use Rattle.std.proofs.Common.{◌≡◌, ℕ, ◌+◌, Bool, true, false, cond, List, [], ◌∷◌, ◌++◌, length, map, take, Option, Some, None, Result, Ok, Err, slice_get, refl, sym, ◌∙◌, ap, arith}
 use Rattle.std.specs.Prelude.{OnOk, IfErr}
 use Rattle.std.specs.Option.{option_map}
-use Rattle.std.specs.Ordering.{nat_cmp}
-use Rattle.std.specs.FinMap.Entries.{find}
 use Rattle.std.proofs.lemmas.Option.{slice_get-map, slice_get_within, same_Some}
 use Rattle.std.proofs.lemmas.List.{length-take-le}
 use Rattle.party_ledgers.specs.declared.packets.Packet.{Packet as PacketHere}
 use Rattle.core_side.specs.Parcels.{parcel_is}
-use Rattle.written_net.specs.Net.{Net, Packet, Party}
+use Rattle.written_net.specs.Net.{Net, Packet}
 use Rattle.written_net.specs.Ledgers.{Ledger}
-use Rattle.written_net.specs.Channels.{master_id, agent_id, app_id, party}
 use Rattle.written_join.specs.SeenWorlds.{parcel_of}
-use Rattle.written_roles.specs.Refusals.{NotRunning, with_found}
-use Rattle.written_roles.specs.Masters.{Master}
-use Rattle.written_roles.specs.MasterSteps.{master_party, peers}
-use Rattle.written_world.specs.World.{World, Step, refused}
-use Rattle.written_world.specs.Events.{turn_agent, turn_app, turn_master, turned, at_master}
 use Rattle.written_world.specs.Outputs.{sent_lines}
 use Rattle.packet_pool.specs.PacketPools.{Stored, limit_of as pool_limit}
-use Rattle.written_join.specs.PartyJoins.{OneActs}
-use Rattle.written_parties.specs.SeenParties.{Agents, Apps, turn_lines}
-use Rattle.party_slots.specs.Slots.{StepIn}
-use Rattle.party_slots.specs.Peers.{AgentStands, AppStands}
-use Rattle.running_masters.specs.RunningMasters.{MastersRecord, AreWithin as MastersWithin}
-use Rattle.running_masters.specs.MasterCalls.{TurnIn, NoneIn}
+use Rattle.written_parties.specs.SeenParties.{Kind, Role, turn_of, resync_of}
+use Rattle.party_slots.specs.Slots.{SlotsRecord, AreWithin as PartiesWithin, TurnInWorld, ResyncInWorld}
 use Rattle.schedule_text.specs.declared.refusal.Refusal.TheVariants as why
 use Rattle.schedule_replay.specs.declared.stop.WorldStop.{WorldStop}
 use Rattle.schedule_replay.specs.declared.stop.WorldStop.TheVariants.{TooManyPackets, PoolBytes, OutOfMemory}
 use Rattle.schedule_replay.specs.ReplayTexts.{lines_text}
-use Rattle.schedule_replay.specs.Worlds.{WorldRecord, IsWorld, StandsFor}
-use Rattle.schedule_replay.specs.WorldSteps.{IsDone, Stops, limit_of}
-use Rattle.schedule_replay.specs.Moves.{KeepsMore, StopsFor, Acts, IsActed, WantsMemory, refusal_lines}
-use Rattle.schedule_replay.proofs.MovesLemmas.{once_up_to, none_once, masters_once}
-use Rattle.schedule_replay.proofs.MastersActInWorld.{MastersAct, is_refused}
-use Rattle.schedule_replay.proofs.PeersActInWorld.{AgentsAct, AppsAct}
+use Rattle.schedule_replay.specs.Worlds.{WorldRecord}
+use Rattle.schedule_replay.specs.Moves.{IsPart, KeepsMore, StopsFor, Acts, IsActed, WantsMemory, refusal_lines}
+use Rattle.schedule_replay.proofs.MovesLemmas.{once_up_to}
+use Rattle.schedule_replay.proofs.MastersActInWorld.{is_quiet, is_refused}
 use Rattle.schedule_replay.proofs.SentIsKept.{FrameLengths, turn_text, turn_stops}
 use Rattle.schedule_replay.proofs.ReplayTextsLemmas.{sent_more}
 
@@ -75,80 +61,36 @@ stops_for old sent (Err (PoolBytes kept)) within h = absurd (none (h None))
     none : None ≡ Some (PoolBytes kept) → ⊥
     none e = cc
 
--- A turn of a party that counts no step by it: it acted in the world, and printed what it sent
-pub record SendsIn (w : World) (s : Step) (sent : List PacketHere) : Type 0 where
-  pub who : Party
-  pub acts : OneActs w.net s.world.net who (map parcel_is sent)
-  pub lines : s.lines ≡ turn_lines w s
+-- The party of a number sent these packets, or was refused, or forgot what was acknowledged
+module _ {P : Type 0} {stands : P → Role → Type 0} {steps : P → ℕ} {k : Kind} {of : WorldRecord → SlotsRecord P} {put : SlotsRecord P → WorldRecord → WorldRecord} where
+  pub turns_by : IsPart P stands steps k of put → FrameLengths → (n : ℕ) (old : WorldRecord) (after : SlotsRecord P) (sent : List PacketHere) (pool : Stored) (before text : List ℕ) (result : Result (Unit {0}) WorldStop)
+      → TurnInWorld stands n (of old) after (Some sent) → ((n : ℕ) → PartiesWithin steps n (of old) → PartiesWithin steps (n + 1) after) → OnOk result (KeepsMore old.pool pool sent)
+      → OnOk result ((net : Net Ledger) (xs : List Packet) → map parcel_is sent ≡ map (parcel_of net) xs → text ≡ before ++ lines_text (sent_lines net (length old.pool.frames + 1) xs))
+      → IfErr result (StopsFor old.pool sent) → Acts (λ w. turn_of w k n) old (record (put after old) { pool = pool }) before text result
+  turns_by part law n old after sent pool before text (Ok done) turns within keeps says stops = record {
+    does = λ w is s.
+        let t = turns w k is.good (part.stand w old s) in
+        record { stands = part.acts w (turn_of w k n).world n sent old after pool s t.world keeps; text = turn_text w (turn_of w k n).world sent old.pool (turn_of w k n).lines before text s.packets t.world.acts.packets t.lines says };
+    moves = once_up_to old (record (put after old) { pool = pool }) (part.once old after pool within);
+  }
+  turns_by part law n old after sent pool before text (Err stop) turns within keeps says stops = λ w is s.
+      let t = turns w k is.good (part.stand w old s) in
+      turn_stops law w (turn_of w k n).world sent old.pool stop s.packets t.world.acts.packets stops
 
-peer_turns : FrameLengths → (f : World → Step) (old : WorldRecord) (sent : List PacketHere) (pool : Stored) (before after : List ℕ) (result : Result (Unit {0}) WorldStop)
-    → ((w : World) → IsWorld w → StandsFor old w → SendsIn w (f w) sent) → ((w : World) → IsWorld w → StandsFor old w → KeepsMore old.pool pool sent → StandsFor (record old { pool = pool }) (f w).world) → OnOk result (KeepsMore old.pool pool sent)
-    → OnOk result ((net : Net Ledger) (xs : List Packet) → map parcel_is sent ≡ map (parcel_of net) xs → after ≡ before ++ lines_text (sent_lines net (length old.pool.frames + 1) xs))
-    → IfErr result (StopsFor old.pool sent) → Acts f old (record old { pool = pool }) before after result
-peer_turns law f old sent pool before after (Ok done) sends stand keeps text stops = record {
-  does = λ w is s.
-      let x = sends w is s in
-      record { stands = stand w is s keeps; text = turn_text w (f w).world x.who sent old.pool (f w).lines before after s.packets x.acts x.lines text };
-  moves = once_up_to old (record old { pool = pool }) (none_once old pool);
-}
-peer_turns law f old sent pool before after (Err stop) sends stand keeps text stops = λ w is s.
-    let x = sends w is s in
-    turn_stops law w (f w).world x.who sent old.pool stop s.packets x.acts stops
+  pub none_turns : IsPart P stands steps k of put → (n : ℕ) (old : WorldRecord) (after : SlotsRecord P) (before text : List ℕ) → TurnInWorld stands n (of old) after None → ((n : ℕ) → PartiesWithin steps n (of old) → PartiesWithin steps (n + 1) after)
+      → text ≡ before ++ lines_text (refusal_lines (Some why.NotRunning)) → IsActed (λ w. turn_of w k n) old (put after old) before text
+  none_turns part n old after before text turns within says = record {
+    does = λ w is s. let t = turns w k is.good (part.stand w old s) in is_refused w (turn_of w k n) (put after old) why.NotRunning before text (part.stays w old after s t.stand) t.same says;
+    moves = once_up_to old (put after old) (part.moves old after within);
+  }
 
--- of an agent that runs
-pub agent_turns : AgentsAct → FrameLengths → (old : WorldRecord) (m : ℕ) (sent : List PacketHere) (pool : Stored) (before after : List ℕ) (result : Result (Unit {0}) WorldStop)
-    → ((w : World) → IsWorld w → StandsFor old w → StepIn AgentStands Agents w m old.agents sent (turn_agent w m) (turn_lines w (turn_agent w m))) → OnOk result (KeepsMore old.pool pool sent)
-    → OnOk result ((net : Net Ledger) (xs : List Packet) → map parcel_is sent ≡ map (parcel_of net) xs → after ≡ before ++ lines_text (sent_lines net (length old.pool.frames + 1) xs))
-    → IfErr result (StopsFor old.pool sent) → Acts (λ w. turn_agent w m) old (record old { pool = pool }) before after result
-agent_turns act law old m sent pool before after result turns =
-    peer_turns law (λ w. turn_agent w m) old sent pool before after result
-    (λ w is s. let t = turns w is s in record { who = party (agent_id m) t.world.acts.boot; acts = t.world.acts.acts; lines = t.lines })
-    (λ w is s keeps. act w (turn_agent w m).world m sent old old.agents pool s (turns w is s).world keeps)
-
--- of an application
-pub app_turns : AppsAct → FrameLengths → (old : WorldRecord) (a : ℕ) (sent : List PacketHere) (pool : Stored) (before after : List ℕ) (result : Result (Unit {0}) WorldStop)
-    → ((w : World) → IsWorld w → StandsFor old w → StepIn AppStands Apps w a old.apps sent (turn_app w a) (turn_lines w (turn_app w a))) → OnOk result (KeepsMore old.pool pool sent)
-    → OnOk result ((net : Net Ledger) (xs : List Packet) → map parcel_is sent ≡ map (parcel_of net) xs → after ≡ before ++ lines_text (sent_lines net (length old.pool.frames + 1) xs))
-    → IfErr result (StopsFor old.pool sent) → Acts (λ w. turn_app w a) old (record old { pool = pool }) before after result
-app_turns act law old a sent pool before after result turns =
-    peer_turns law (λ w. turn_app w a) old sent pool before after result
-    (λ w is s. let t = turns w is s in record { who = party (app_id a) t.world.acts.boot; acts = t.world.acts.acts; lines = t.lines })
-    (λ w is s keeps. act w (turn_app w a).world a sent old old.apps pool s (turns w is s).world keeps)
-
--- and of a master, of which the masters count a step
-master_runs : (w : World) (e : ℕ) (M : Master) (f : Master → Step) → find nat_cmp e w.masters ≡ Some M → at_master w e f ≡ f M
-master_runs w e M f runs = ap (λ o. with_found o (refused w NotRunning) f) runs
-
-master_runs_not : (w : World) (e : ℕ) (f : Master → Step) → find nat_cmp e w.masters ≡ None → at_master w e f ≡ refused w NotRunning
-master_runs_not w e f runs = ap (λ o. with_found o (refused w NotRunning) f) runs
-
-pub master_turns : MastersAct → FrameLengths → (old : WorldRecord) (e : ℕ) (masters : MastersRecord) (sent : List PacketHere) (pool : Stored) (before after : List ℕ) (result : Result (Unit {0}) WorldStop)
-    → ((w : World) → IsWorld w → StandsFor old w → TurnIn w e masters sent) → ((n : ℕ) → MastersWithin n old.masters → MastersWithin (n + 1) masters) → OnOk result (KeepsMore old.pool pool sent)
-    → OnOk result ((net : Net Ledger) (xs : List Packet) → map parcel_is sent ≡ map (parcel_of net) xs → after ≡ before ++ lines_text (sent_lines net (length old.pool.frames + 1) xs))
-    → IfErr result (StopsFor old.pool sent) → Acts (λ w. turn_master w e) old (record old { masters = masters; pool = pool }) before after result
-master_turns act law old e masters sent pool before after (Ok done) turns steps keeps text stops = record {
-  does = λ w is s.
-      let t = turns w is s in
-      let step = turned w (master_party t.master) (peers w.cluster t.master) in
-      subst (λ (x : Step). IsDone x (record old { masters = masters; pool = pool }) before after) (sym (master_runs w e t.master (λ M. turned w (master_party M) (peers w.cluster M)) t.runs)) (record {
-        stands = act w step.world (party master_id e) sent old old.checkpoint masters pool s
-            (record { role = refl; stand = t.world.stand; acts = t.world.acts; cluster = refl; hard = s.hard; rests = s.rests; agents = refl; apps = refl; boots = refl; events = refl }) keeps;
-        text = turn_text w step.world (party master_id e) sent old.pool step.lines before after s.packets t.world.acts refl text;
-      });
-  moves = once_up_to old (record old { masters = masters; pool = pool }) (masters_once old old.checkpoint masters pool steps);
-}
-master_turns act law old e masters sent pool before after (Err stop) turns steps keeps text stops = λ w is s.
-    let t = turns w is s in
-    subst (λ (x : Step). Stops (limit_of w x.world) stop) (sym (master_runs w e t.master (λ M. turned w (master_party M) (peers w.cluster M)) t.runs))
-    (turn_stops law w (turned w (master_party t.master) (peers w.cluster t.master)).world (party master_id e) sent old.pool stop s.packets t.world.acts stops)
-
-pub no_master_turns : (old : WorldRecord) (e : ℕ) (masters : MastersRecord) (before after : List ℕ) → ((w : World) → IsWorld w → StandsFor old w → NoneIn w e masters) → ((n : ℕ) → MastersWithin n old.masters → MastersWithin (n + 1) masters)
-    → after ≡ before ++ lines_text (refusal_lines (Some why.NotRunning)) → IsActed (λ w. turn_master w e) old (record old { masters = masters }) before after
-no_master_turns old e masters before after none steps text = record {
-  does = λ w is s.
-      let n = none w is s in
-      is_refused w (turn_master w e) (record old { masters = masters }) why.NotRunning before after
-      (record { cluster = s.cluster; hard = s.hard; rests = s.rests; masters = n.stand; agents = s.agents; apps = s.apps; packets = s.packets; events = s.events })
-      (master_runs_not w e (λ M. turned w (master_party M) (peers w.cluster M)) n.none) text;
-  moves = once_up_to old (record old { masters = masters }) (masters_once old old.checkpoint masters old.pool steps);
-}
+  pub resyncs_by : IsPart P stands steps k of put → (n : ℕ) (old : WorldRecord) (after : SlotsRecord P) (ran : Bool) (before text : List ℕ) → ResyncInWorld stands n (of old) after ran → ((n : ℕ) → PartiesWithin steps n (of old) → PartiesWithin steps (n + 1) after)
+      → text ≡ before ++ lines_text (refusal_lines (cond ran None (Some why.NotRunning))) → IsActed (λ w. resync_of w k n) old (put after old) before text
+  resyncs_by part n old after true before text resyncs within says = record {
+    does = λ w is s. let r = resyncs w k is.good (part.stand w old s) in is_quiet (resync_of w k n) (put after old) before text (part.quiet w (resync_of w k n).world n old after s r.world) r.lines says;
+    moves = once_up_to old (put after old) (part.moves old after within);
+  }
+  resyncs_by part n old after false before text resyncs within says = record {
+    does = λ w is s. let r = resyncs w k is.good (part.stand w old s) in is_refused w (resync_of w k n) (put after old) why.NotRunning before text (part.stays w old after s r.stand) r.same says;
+    moves = once_up_to old (put after old) (part.moves old after within);
+  }

@@ -15,7 +15,7 @@ use Rattle.app_master.specs.AppCores.{Up as AppUp, IsUp as IsAppUp}
 use Rattle.fuxi_master.specs.Cores.{IsDown, IsApp}
 use Rattle.schedule_replay.specs.Worlds.{WorldRecord, StandsFor}
 use Rattle.schedule_replay.specs.Promises.{FollowEachOther, AllFollow}
-use Rattle.schedule_replay.proofs.CoresStandFor.{PeersRun, agent_runs, app_runs}
+use Rattle.schedule_replay.proofs.CoresStandFor.{PartiesRun, agent_runs, app_runs, master_runs}
 use Rattle.schedule_replay.proofs.EndsFollow.{follows}
 
 -- what each kind of core reads of a ledger
@@ -44,16 +44,16 @@ app_follows net n e boot d up views down is = record {
   back = follows net (party master_id e) (party (app_id n) boot) tally_in d.incoming up.outgoing views down.place is.own is.last (ap tally_in down.got) (ap tally_in is.shown);
 }
 
-pub all_follow : PeersRun → (r : WorldRecord) (w : World) → StandsFor r w → Safe w → AllFollow r
+pub all_follow : PartiesRun → (r : WorldRecord) (w : World) → StandsFor r w → Safe w → AllFollow r
 all_follow run r w s safe = record {
   agents = λ e m M d a runs there is.
-      let x = s.masters.each e M runs in
+      let x = master_runs run r w e M s runs in
       let g = agent_runs run r w m a s is in
       agent_follows w.net m x.master.epoch g.agent.boot d a.up safe.views
       (subst (λ k. IsDown d k (side_of w.net (party master_id x.master.epoch) (agent_id m))) (sym x.stands.stands.epoch) (x.stands.stands.agents m d there))
       g.stands.up;
   apps = λ e n M d a runs there is.
-      let x = s.masters.each e M runs in
+      let x = master_runs run r w e M s runs in
       let g = app_runs run r w n a s is in
       app_follows w.net n x.master.epoch g.app.boot d a.up safe.views
       (subst (λ k. IsApp d k (side_of w.net (party master_id x.master.epoch) (app_id n))) (sym x.stands.stands.epoch) (x.stands.stands.apps n d there))

@@ -23,9 +23,9 @@ counted_stands r w s = record {
   cluster = s.cluster;
   hard = s.hard;
   rests = s.rests;
-  masters = record { epochs = s.masters.epochs; each = λ e m f. let x = s.masters.each e m f in record { master = x.master; runs = x.runs; stands = x.stands } };
-  agents = record { slots = s.agents.slots; each = s.agents.each; last = s.agents.last };
-  apps = record { slots = s.apps.slots; each = s.apps.each; last = s.apps.last };
+  masters = record { each = s.masters.each; last = s.masters.last; full = s.masters.full };
+  agents = record { each = s.agents.each; last = s.agents.last; full = s.agents.full };
+  apps = record { each = s.apps.each; last = s.apps.last; full = s.apps.full };
   packets = record { packets = s.packets.packets; kept = s.packets.kept; sent = s.packets.sent; same = s.packets.same };
   events = ap (λ n. n + 1) s.events;
 }

@@ -22,20 +22,20 @@ pub record WritesAs (w : World) (s : Step) (e : ℕ) (v : HardEvent) : Type 0 wh
   pub done : (k : HardState) → hard_step w.hard e v ≡ Ok k → (s.world.hard ≡ k) × (s.lines ≡ [])
 
 -- A stop, done or refused, prints this line, and the parts are those of the world behind it; no packet is sent, and all other parties see what they saw
-pub record IsHalted (w : World) (e : ℕ) (s : Step) (new : Governing) (line : Output) : Type 0 where
-  pub parts : IsGoverned w e (prints_nothing s.world) new
+pub record IsHalted (w : World) (s : Step) (new : Governing) (line : Output) : Type 0 where
+  pub parts : IsGoverned w (prints_nothing s.world) new
   pub lines : s.lines ≡ as_line line ∷ []
 
 -- the stop of the master that a line names, within the writing of that line, on this cluster
 abbrev pub Halts : ClusterRecord → Event → Stop → Governing → Governing → Output → Type 0
-Halts c x stop old new line = (w : World) → c ≡ w.cluster → IsGoverning w old → IsHalted w (writer_of x) (act w (Halt stop.calls stop.all x)) new line
+Halts c x stop old new line = (w : World) → c ≡ w.cluster → IsGoverning w old → IsHalted w (act w (Halt stop.calls stop.all x)) new line
 
 -- of whatever line names the master of this epoch and does what this writing does
 abbrev pub HaltsWithin : ℕ → HardEvent → Stop → Governing → Governing → Output → Type 0
-HaltsWithin e v stop old new line = (w : World) (x : Event) → IsGoverning w old → writer_of x ≡ e → WritesAs w (act w x) e v → IsHalted w e (act w (Halt stop.calls stop.all x)) new line
+HaltsWithin e v stop old new line = (w : World) (x : Event) → IsGoverning w old → writer_of x ≡ e → WritesAs w (act w x) e v → IsHalted w (act w (Halt stop.calls stop.all x)) new line
 
 -- and of one that its tests may refuse
 abbrev pub HaltsAfter : ℕ → Result (Unit {0}) PrintedRefusal → HardEvent → Stop → Governing → Governing → Output → Type 0
 HaltsAfter e (Ok passed) v stop old new line = HaltsWithin e v stop old new line
 HaltsAfter e (Err refusal) v stop old new line =
-    (w : World) (x : Event) → IsGoverning w old → writer_of x ≡ e → act w x ≡ refused w (as_refusal refusal) → IsHalted w e (act w (Halt stop.calls stop.all x)) new line
+    (w : World) (x : Event) → IsGoverning w old → writer_of x ≡ e → act w x ≡ refused w (as_refusal refusal) → IsHalted w (act w (Halt stop.calls stop.all x)) new line

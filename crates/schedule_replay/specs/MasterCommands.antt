@@ -4,7 +4,6 @@ use Rattle.std.specs.Ordering.{nat_cmp}
 use Rattle.std.specs.FinMap.Entries.{find}
 use Rattle.fuxi_terms.specs.Cluster.{ClusterRecord, JobRecord, is_valid_cluster}
 use Rattle.fuxi_terms.specs.Limits.{most_jobs, most_machines, most_masters, most_records}
-use Rattle.written_net.specs.Channels.{master_id, party}
 use Rattle.written_roles.specs.HardState.{HardState, HardEvent, Submission}
 use Rattle.written_roles.specs.Masters.{Master}
 use Rattle.written_roles.specs.MasterSteps.{Changed, MasterCommand, Submits, Finishes, BansMachine, UnbansMachine, StartsServing, MakesRoom, change_of, command_of, writes}
@@ -12,20 +11,21 @@ use Rattle.written_roles.specs.MasterRoles.{Told}
 use Rattle.written_world.specs.World.{World, Step, refused}
 use Rattle.written_world.specs.Events.{commanded, ban_each, judge, start_master}
 use Rattle.written_world.specs.Good.{Good}
-use Rattle.written_join.specs.PartyJoins.{OneActs}
+use Rattle.written_world.specs.Orders.{IsInOrder}
 use Rattle.bad_nodes.specs.Ranks.{number_of}
 use Rattle.schedule_replay.specs.Held.{Held, IsOpen}
 use Rattle.fuxi_master.specs.Steps.{told_by}
 use Rattle.fuxi_master.specs.declared.event.MasterEvent.{MasterEvent}
 use Rattle.fuxi_master.specs.declared.event.MasterRefusal.{MasterRefusal}
-use Rattle.core_join.specs.MasterInWorld.{IsWritten, change_in}
-use Rattle.running_masters.specs.RunningMasters.{MastersRecord, AreMastersOf, AreWithin}
-use Rattle.running_masters.specs.MasterCalls.{CommandDoneIn}
+use Rattle.fuxi_master.specs.Cores.{MasterRecord}
+use Rattle.party_slots.specs.Slots.{SlotsRecord, AreWithin}
+use Rattle.party_slots.specs.RunningMasters.{AreMastersOf, CommandDoneIn, IsWritten, change_in, master_steps}
 use Rattle.master_text.specs.PrintedRefusals.{master_refusal}
 use Rattle.schedule_text.specs.declared.refusal.Refusal.{Refusal}
 use Rattle.schedule_text.specs.declared.refusal.Refusal.TheVariants as why
 use Rattle.schedule_text.specs.Printing.{as_refusal}
 use Rattle.schedule_text.specs.Asked.{job_named}
+use Rattle.schedule_replay.specs.Moves.{Leaves}
 use Rattle.schedule_replay.specs.declared.commands.Judgement.{Judgement}
 use Rattle.schedule_replay.specs.declared.commands.Order.{Order}
 use Rattle.schedule_replay.specs.declared.commands.Order.TheVariants as order
@@ -33,11 +33,12 @@ use Rattle.schedule_replay.specs.declared.commands.Order.TheVariants as order
 -- the parts that commands of masters change
 pub record Governing : Type 0 where
   pub checkpoint : Held
-  pub masters : MastersRecord
+  pub masters : SlotsRecord MasterRecord
 
--- they are those of a good world
+-- they are those of a good world, whose parties stand in order
 pub record IsGoverning (w : World) (g : Governing) : Type 0 where
   pub good : Good w
+  pub order : IsInOrder w
   pub hard : g.checkpoint.hard.value ≡ w.hard
   pub rests : IsOpen g.checkpoint
   pub stand : AreMastersOf w g.masters
@@ -49,12 +50,11 @@ pub record AreGoverned (g : Governing) : Type 0 where
 
 -- An event for the master of an epoch is done: the parts are those of the world after it, nothing is printed, no packet is sent, and all other parties
 -- see what they saw
-pub record IsGoverned (w : World) (e : ℕ) (s : Step) (new : Governing) : Type 0 where
+pub record IsGoverned (w : World) (s : Step) (new : Governing) : Type 0 where
   pub hard : new.checkpoint.hard.value ≡ s.world.hard
   pub rests : IsOpen new.checkpoint
   pub stand : AreMastersOf s.world new.masters
-  pub acts : OneActs w.net s.world.net (party master_id e) []
-  pub rest : s.world ≡ record w { hard = s.world.hard; ran = s.world.ran; masters = s.world.masters; net = s.world.net }
+  pub leaves : Leaves w s.world
   pub quiet : s.lines ≡ []
 
 -- or it is refused: the parts are still those of the world before it
@@ -62,23 +62,23 @@ pub record IsRefused (w : World) (s : Step) (new : Governing) (refusal : Refusal
   pub same : IsGoverning w new
   pub is : s ≡ refused w (as_refusal refusal)
 
-abbrev pub GovernsIn : World → ℕ → Step → Governing → Option Refusal → Type 0
-GovernsIn w e s new None = IsGoverned w e s new
-GovernsIn w e s new (Some refusal) = IsRefused w s new refusal
+abbrev pub GovernsIn : World → Step → Governing → Option Refusal → Type 0
+GovernsIn w s new None = IsGoverned w s new
+GovernsIn w s new (Some refusal) = IsRefused w s new refusal
 
 -- in each world that they are of, and in each on this cluster
-abbrev pub Governs : ℕ → (World → Step) → Governing → Governing → Option Refusal → Type 0
-Governs e step old new answer = (w : World) → IsGoverning w old → GovernsIn w e (step w) new answer
+abbrev pub Governs : (World → Step) → Governing → Governing → Option Refusal → Type 0
+Governs step old new answer = (w : World) → IsGoverning w old → GovernsIn w (step w) new answer
 
-abbrev pub GovernsOn : ClusterRecord → ℕ → (World → Step) → Governing → Governing → Option Refusal → Type 0
-GovernsOn c e step old new answer = (w : World) → c ≡ w.cluster → IsGoverning w old → GovernsIn w e (step w) new answer
+abbrev pub GovernsOn : ClusterRecord → (World → Step) → Governing → Governing → Option Refusal → Type 0
+GovernsOn c step old new answer = (w : World) → c ≡ w.cluster → IsGoverning w old → GovernsIn w (step w) new answer
 
 -- whatever the hard state is
-abbrev pub governing : Held → MastersRecord → Governing
+abbrev pub governing : Held → SlotsRecord MasterRecord → Governing
 governing checkpoint masters = record { checkpoint = checkpoint; masters = masters }
 
-abbrev pub GovernsMasters : ℕ → (World → Step) → MastersRecord → MastersRecord → Option Refusal → Type 0
-GovernsMasters e step old new answer = (checkpoint : Held) → Governs e step (governing checkpoint old) (governing checkpoint new) answer
+abbrev pub GovernsMasters : (World → Step) → SlotsRecord MasterRecord → SlotsRecord MasterRecord → Option Refusal → Type 0
+GovernsMasters step old new answer = (checkpoint : Held) → Governs step (governing checkpoint old) (governing checkpoint new) answer
 
 -- The tests before a writing. Of a start in an epoch
 pub record MayStart (w : World) (e : ℕ) : Type 0 where
@@ -126,8 +126,8 @@ abbrev pub Decides : ℕ → ℕ → ℕ → Governing → Result Judgement Refu
 Decides e least percent g answer = (w : World) → is_valid_cluster w.cluster ≡ true → IsGoverning w g → DecidesIn w e least percent answer
 
 -- no master takes more than one step
-abbrev pub TakesStep : MastersRecord → MastersRecord → Type 0
-TakesStep old new = (n : ℕ) → AreWithin n old → AreWithin (n + 1) new
+abbrev pub TakesStep : SlotsRecord MasterRecord → SlotsRecord MasterRecord → Type 0
+TakesStep old new = (n : ℕ) → AreWithin master_steps n old → AreWithin master_steps (n + 1) new
 
 -- what a master's answer says
 abbrev pub refusal_in : Option (Result (Unit {0}) MasterRefusal) → Option Refusal
@@ -136,15 +136,15 @@ refusal_in (Some (Ok done)) = None
 refusal_in (Some (Err refusal)) = Some (master_refusal refusal)
 
 -- A command as a master is told it, once the hard state is written
-pub record RefusesIn (w : World) (e : ℕ) (x : MasterCommand) (new : MastersRecord) (refusal : Refusal) : Type 0 where
+pub record RefusesIn (w : World) (e : ℕ) (x : MasterCommand) (new : SlotsRecord MasterRecord) (refusal : Refusal) : Type 0 where
   pub stand : AreMastersOf w new
   pub same : commanded w e x ≡ refused w (as_refusal refusal)
 
-abbrev pub TellsIn : World → ℕ → MasterCommand → MastersRecord → Option Refusal → Type 0
+abbrev pub TellsIn : World → ℕ → MasterCommand → SlotsRecord MasterRecord → Option Refusal → Type 0
 TellsIn w e x new None = (M : Master) (h : HardState) → find nat_cmp e w.masters ≡ Some M → IsWritten w M x h → CommandDoneIn w e x h new
 TellsIn w e x new (Some refusal) = RefusesIn w e x new refusal
 
-abbrev pub TellsInWorld : ℕ → MasterEvent → MastersRecord → MastersRecord → Option Refusal → Type 0
+abbrev pub TellsInWorld : ℕ → MasterEvent → SlotsRecord MasterRecord → SlotsRecord MasterRecord → Option Refusal → Type 0
 TellsInWorld e event old new answer = (w : World) (x : MasterCommand) → Good w → AreMastersOf w old → told_by event ≡ Told (change_in x) → TellsIn w e x new answer
 
 -- the command of the world that an order is
@@ -167,4 +167,4 @@ IsNamed order.Preempt = Unit {0}
 
 -- An order behind its tests, which is written and told: whatever command it is of
 abbrev pub CarriesOut : ℕ → Result (Unit {0}) Refusal → HardEvent → MasterEvent → Governing → Governing → Option Refusal → Type 0
-CarriesOut e tests v event old new answer = (w : World) (x : MasterCommand) → IsGoverning w old → WritesIn w e x v tests → told_by event ≡ Told (change_in x) → GovernsIn w e (commanded w e x) new answer
+CarriesOut e tests v event old new answer = (w : World) (x : MasterCommand) → IsGoverning w old → WritesIn w e x v tests → told_by event ≡ Told (change_in x) → GovernsIn w (commanded w e x) new answer

@@ -7,20 +7,23 @@ use Rattle.app_master.specs.declared.fault.AppFault.TheVariants as fault
 use Rattle.party_ledgers.specs.declared.packets.Packet.{Packet}
 use Rattle.party_ledgers.specs.declared.packets.Heard.{Heard}
 use Rattle.core_side.specs.Parcels.{parcel_is, IsSent}
-use Rattle.written_net.specs.Net.{Party, Packet as WrittenPacket}
-use Rattle.written_net.specs.Channels.{is_master}
+use Rattle.written_net.specs.Net.{Packet as WrittenPacket}
 use Rattle.written_world.specs.World.{World, Step}
 use Rattle.written_roles.specs.MasterSteps.{BansMachine}
 use Rattle.written_world.specs.Outputs.{Line, Refused, Judged, Lost, Came}
 use Rattle.written_world.specs.Events.{addressed, commanded, heard_by, heard_line}
 use Rattle.written_join.specs.SeenWorlds.{parcel_of}
-use Rattle.written_join.specs.PartyJoins.{OneActs}
 use Rattle.packet_pool.specs.PacketPools.{Stored, Keeps, limit_of as pool_limit}
 use Rattle.packet_pool.specs.declared.fault.PoolFault.{PoolFault}
 use Rattle.packet_pool.specs.declared.fault.PoolFault.TheVariants as pool
 use Rattle.wire_frames.specs.Streams.{HasFrame}
-use Rattle.schedule_replay.specs.Held.{Held, IsOpen}
-use Rattle.running_masters.specs.RunningMasters.{MastersRecord, AreMastersOf}
+use Rattle.agent_core.specs.AgentCores.{AgentCore}
+use Rattle.app_master.specs.AppCores.{AppCore}
+use Rattle.fuxi_master.specs.Cores.{MasterRecord}
+use Rattle.written_parties.specs.SeenParties.{Kind, Masters, Agents, Apps, Role}
+use Rattle.party_slots.specs.Slots.{SlotsRecord, AreOf, AreWithin as PartiesWithin, ActIn, Stays}
+use Rattle.party_slots.specs.Peers.{AgentStands, AppStands, agent_steps, app_steps}
+use Rattle.party_slots.specs.RunningMasters.{MasterStands, master_steps}
 use Rattle.schedule_text.specs.declared.refusal.Refusal.{Refusal}
 use Rattle.schedule_text.specs.declared.refusal.Refusal.TheVariants as why
 use Rattle.schedule_text.specs.Printing.{as_refusal}
@@ -101,17 +104,44 @@ pub record KeepsMore (old new : Stored) (sent : List Packet) : Type 0 where
   pub kept : (xs : List Packet) → Keeps old xs → Keeps new (xs ++ sent)
   pub all : AllByRecursion IsSent sent
 
--- What a master leaves of a world: the masters of the world after it, and the rest as it was
-pub record MasterActs (w w' : World) (p : Party) (sent : List Packet) (held : Held) (after : MastersRecord) : Type 0 where
-  pub role : is_master p.id ≡ true
-  pub stand : AreMastersOf w' after
-  pub acts : OneActs w.net w'.net p (map parcel_is sent)
+-- these packets were sent from one world to the next
+abbrev pub SentMore : World → World → List Packet → Type 0
+SentMore w w' sent = map (parcel_of w'.net) w'.net.packets ≡ map (parcel_of w.net) w.net.packets ++ map parcel_is sent
+
+-- the parties of one kind among all that runs: what one of them does, all that runs then does
+pub record IsPart (P : Type 0) (stands : P → Role → Type 0) (steps : P → ℕ) (k : Kind) (of : WorldRecord → SlotsRecord P) (put : SlotsRecord P → WorldRecord → WorldRecord) : Type 0 where
+  pub acts : (w w' : World) (n : ℕ) (sent : List Packet) (old : WorldRecord) (x : SlotsRecord P) (p : Stored) → StandsFor old w → ActIn stands k w w' n x sent → KeepsMore old.pool p sent → StandsFor (record (put x old) { pool = p }) w'
+  pub stays : (w : World) (old : WorldRecord) (x : SlotsRecord P) → StandsFor old w → AreOf stands k w x → StandsFor (put x old) w
+  pub stand : (w : World) (old : WorldRecord) → StandsFor old w → AreOf stands k w (of old)
+  pub quiet : (w w' : World) (n : ℕ) (old : WorldRecord) (x : SlotsRecord P) → StandsFor old w → ActIn stands k w w' n x [] → StandsFor (put x old) w'
+  pub frames : (old : WorldRecord) (x : SlotsRecord P) → (put x old).pool ≡ old.pool
+  pub moves : (old : WorldRecord) (x : SlotsRecord P) → ((n : ℕ) → PartiesWithin steps n (of old) → PartiesWithin steps (n + 1) x) → MovesOnce old (put x old)
+  pub once : (old : WorldRecord) (x : SlotsRecord P) (p : Stored) → ((n : ℕ) → PartiesWithin steps n (of old) → PartiesWithin steps (n + 1) x) → MovesOnce old (record (put x old) { pool = p })
+
+abbrev pub with_masters : SlotsRecord MasterRecord → WorldRecord → WorldRecord
+with_masters x r = record r { masters = x }
+
+abbrev pub with_agents : SlotsRecord AgentCore → WorldRecord → WorldRecord
+with_agents x r = record r { agents = x }
+
+abbrev pub with_apps : SlotsRecord AppCore → WorldRecord → WorldRecord
+with_apps x r = record r { apps = x }
+
+abbrev pub MastersPart : Type 0
+MastersPart = IsPart MasterRecord MasterStands master_steps Masters (λ r. r.masters) with_masters
+
+abbrev pub AgentsPart : Type 0
+AgentsPart = IsPart AgentCore AgentStands agent_steps Agents (λ r. r.agents) with_agents
+
+abbrev pub AppsPart : Type 0
+AppsPart = IsPart AppCore AppStands app_steps Apps (λ r. r.apps) with_apps
+
+-- What the start, the stop or a command of a master leaves of a world: the agents and the applications see what they saw, and no packet is sent
+pub record Leaves (w w' : World) : Type 0 where
+  pub agents : Stays w w' Agents
+  pub apps : Stays w w' Apps
+  pub packets : SentMore w w' []
   pub cluster : w'.cluster ≡ w.cluster
-  pub hard : held.hard.value ≡ w'.hard
-  pub rests : IsOpen held
-  pub agents : w'.agents ≡ w.agents
-  pub apps : w'.apps ≡ w.apps
-  pub boots : w'.boots ≡ w.boots
   pub events : w'.events ≡ w.events
 
 -- as what a packet was heard, if by anybody

@@ -26,7 +26,6 @@ use Rattle.app_master.specs.AppCores.{AppCore}
 use Rattle.app_master.specs.Usable.{is_named}
 use Rattle.fuxi_master.specs.Cores.{CoreRecord, MasterRecord}
 use Rattle.party_slots.specs.Slots.{slot_at}
-use Rattle.running_masters.specs.RunningMasters.{running as master_in}
 use Rattle.schedule_replay.specs.Worlds.{WorldRecord, IsWorld, StandsFor}
 use Rattle.schedule_replay.specs.CoreReads.{held_now, is_placeable}
 
@@ -65,8 +64,8 @@ pub record FollowEachOther {V W D E : Type 0} (x : Endpoint V D W) (y : Endpoint
 
 -- of each master that runs with each agent that runs, and with the application of each job that it knows
 pub record AllFollow (r : WorldRecord) : Type 0 where
-  pub agents : (e m : ℕ) (M : MasterRecord) (d : Down) (a : AgentCore) → master_in r.masters e ≡ Some M → slice_get M.core.agents m ≡ Some d → slot_at r.agents m ≡ Some a → FollowEachOther d a.up
-  pub apps : (e n : ℕ) (M : MasterRecord) (d : Grants) (a : AppCore) → master_in r.masters e ≡ Some M → slice_get M.core.apps n ≡ Some (Some d) → slot_at r.apps n ≡ Some a → FollowEachOther d a.up
+  pub agents : (e m : ℕ) (M : MasterRecord) (d : Down) (a : AgentCore) → slot_at r.masters e ≡ Some M → slice_get M.core.agents m ≡ Some d → slot_at r.agents m ≡ Some a → FollowEachOther d a.up
+  pub apps : (e n : ℕ) (M : MasterRecord) (d : Grants) (a : AppCore) → slot_at r.masters e ≡ Some M → slice_get M.core.apps n ≡ Some (Some d) → slot_at r.apps n ≡ Some a → FollowEachOther d a.up
 
 -- Agreement. The worlds for which the cores stand are quiet for the master of an epoch
 abbrev pub IsQuiet : WorldRecord → ℕ → Type 0
@@ -78,7 +77,7 @@ pub record Agree (r : WorldRecord) (x : CoreRecord) : Type 0 where
   pub apps : (n : ℕ) (a : AppCore) → slot_at r.apps n ≡ Some a → is_known x.known.jobs n ≡ true → (u m : ℕ) → u < a.units → has_machine r.cluster m ≡ true → held_now a u m ≡ held_on x.allotment.table.entries n u m
 
 abbrev pub AllAgree : WorldRecord → Type 0
-AllAgree r = (e : ℕ) (M : MasterRecord) → master_in r.masters e ≡ Some M → IsQuiet r e → Agree r M.core
+AllAgree r = (e : ℕ) (M : MasterRecord) → slot_at r.masters e ≡ Some M → IsQuiet r e → Agree r M.core
 
 -- Settled. The line of a core has exactly the units with something out, and none of them may be granted anywhere
 pub record IsSettled (x : CoreRecord) : Type 0 where
@@ -86,7 +85,7 @@ pub record IsSettled (x : CoreRecord) : Type 0 where
   pub none : (a u m : ℕ) → is_placeable x a u m ≡ false
 
 abbrev pub AllSettled : WorldRecord → Type 0
-AllSettled r = (e : ℕ) (M : MasterRecord) → master_in r.masters e ≡ Some M → IsSettled M.core
+AllSettled r = (e : ℕ) (M : MasterRecord) → slot_at r.masters e ≡ Some M → IsSettled M.core
 
 -- Good. The cores are those of a good world: one runs for each party that runs there and no other, and has what the party has
 pub record AreOfGoodWorld (r : WorldRecord) : Type 0 where

@@ -11,16 +11,17 @@ use Rattle.packet_pool.specs.PacketPools.{Stored, Keeps}
 use Rattle.schedule_replay.specs.Held.{Held, IsOpen}
 use Rattle.agent_core.specs.AgentCores.{AgentCore}
 use Rattle.app_master.specs.AppCores.{AppCore}
-use Rattle.party_slots.specs.Slots.{SlotsRecord, AreWithin as PeersWithin}
+use Rattle.fuxi_master.specs.Cores.{MasterRecord}
+use Rattle.party_slots.specs.Slots.{SlotsRecord, AreWithin as PartiesWithin}
 use Rattle.party_slots.specs.Peers.{AreAgentsOf, AreAppsOf, agent_steps, app_steps}
-use Rattle.running_masters.specs.RunningMasters.{MastersRecord, AreMastersOf, AreWithin as MastersWithin}
+use Rattle.party_slots.specs.RunningMasters.{AreMastersOf, master_steps}
 use Rattle.written_world.specs.Orders.{IsInOrder}
 
 -- the cluster, the hard state on its disk, the cores that run, the frames of all packets that were sent, and the number of events
 pub record WorldRecord : Type 0 where
   pub cluster : ClusterRecord
   pub checkpoint : Held
-  pub masters : MastersRecord
+  pub masters : SlotsRecord MasterRecord
   pub agents : SlotsRecord AgentCore
   pub apps : SlotsRecord AppCore
   pub pool : Stored
@@ -57,9 +58,9 @@ event_steps = 2 ^ 20
 
 -- no core took more steps than this
 pub record AreWithin (n : ℕ) (r : WorldRecord) : Type 0 where
-  pub masters : MastersWithin n r.masters
-  pub agents : PeersWithin agent_steps n r.agents
-  pub apps : PeersWithin app_steps n r.apps
+  pub masters : PartiesWithin master_steps n r.masters
+  pub agents : PartiesWithin agent_steps n r.agents
+  pub apps : PartiesWithin app_steps n r.apps
 
 -- It stands for a world to which an input led, whatever happened to it
 pub record IsReached (r : WorldRecord) : Type 0 where

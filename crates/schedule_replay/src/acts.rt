@@ -6,12 +6,13 @@ ghost use Rattle.written_world.specs.Events.{act};
 ghost use Rattle.schedule_replay.specs.LineEvents.{event_as};
 ghost use Rattle.schedule_replay.specs.Moves.{Acts, CanMove, CanMoveLong};
 
-use crate::agents::{resync_agent, start_agent};
-use crate::apps::{ask_app, resync_app, start_app};
+use crate::agents::start_agent;
+use crate::apps::{ask_app, start_app};
 use crate::commands::Order;
 use crate::deliveries::{deliver, deliver_range, dump};
 use crate::halts::Stop;
-use crate::masters::{give_order, halt, judge, resync_master, start_master, stop_master};
+use crate::masters::{give_order, halt, judge, start_master, stop_master};
+use crate::resyncs::{resync_agent, resync_app, resync_master};
 use crate::running::Running;
 use crate::showing::show;
 use crate::stop::WorldStop;
@@ -73,8 +74,8 @@ pub(crate) fn act(
         Event::TurnAgent(machine) => turn_agent(running, alloc, *machine, out),
         Event::TurnApp(app) => turn_app(running, alloc, *app, out),
         Event::ResyncMaster(epoch) => resync_master(running, alloc, *epoch, out),
-        Event::ResyncAgent(machine) => resync_agent(running, *machine, out),
-        Event::ResyncApp(app) => resync_app(running, *app, out),
+        Event::ResyncAgent(machine) => resync_agent(running, alloc, *machine, out),
+        Event::ResyncApp(app) => resync_app(running, alloc, *app, out),
         Event::Deliver(number) => deliver(running, alloc, *number, out),
         Event::DeliverRange(first, last) => deliver_range(running, alloc, *first, *last, out),
         Event::Dump(number) => dump(running, alloc, *number, out),

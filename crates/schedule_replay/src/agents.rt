@@ -1,10 +1,10 @@
 //! The events of agents.
 
 ghost use Rattle.std.specs.Prelude.{◌≡◌, ◌<◌};
-ghost use Rattle.written_world.specs.Events.{start_agent, resync_agent};
+ghost use Rattle.written_world.specs.Events.{start_agent};
 ghost use Rattle.schedule_replay.specs.Moves.{Acts, CanMove};
 
-use crate::laws::{agents_act, cores_may_step};
+use crate::laws::agents_act;
 use crate::running::Running;
 use crate::stop::WorldStop;
 use crate::text::write_refusal;
@@ -28,7 +28,7 @@ pub(crate) fn start_agent(
     if machine.0 >= running.cluster.machines() {
         return write_refusal(Some(Refusal::NoMachine), out);
     }
-    let known = running.agents.boot(machine.0);
+    let known = running.agents.boot(machine.0 as u64);
     if boot <= known {
         return write_refusal(Some(Refusal::NotRising(known)), out);
     }
@@ -37,21 +37,4 @@ pub(crate) fn start_agent(
         Ok(()) => Ok(()),
         Err(_) => Err(WorldStop::OutOfMemory),
     }
-}
-
-// An agent forgets what the master has acknowledged.
-pub(crate) fn resync_agent(
-    running: &mut Running,
-    machine: MachineNo,
-    out: &mut Vec<u8>,
-) -> Result<(), WorldStop>
-    requires { CanMove running.old }
-    ensures { Acts (λ w. resync_agent w machine.0) running.old running.new out.old.items out.new.items result }
-{
-    agents_act();
-    cores_may_step();
-    if running.agents.resync(machine.0) {
-        return Ok(());
-    }
-    write_refusal(Some(Refusal::NotRunning), out)
 }

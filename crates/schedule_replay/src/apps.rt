@@ -3,7 +3,7 @@
 ghost use Rattle.std.specs.Prelude.{◌≡◌, ◌<◌};
 ghost use Rattle.fuxi_terms.specs.Limits.{most_jobs};
 ghost use Rattle.party_slots.specs.Peers.{command_of};
-ghost use Rattle.written_world.specs.Events.{start_app, asks, resync_app};
+ghost use Rattle.written_world.specs.Events.{start_app, asks};
 ghost use Rattle.schedule_replay.specs.Moves.{Acts, CanMove, IsRefusalOf};
 
 use crate::laws::{apps_act, cores_may_step};
@@ -37,7 +37,7 @@ pub(crate) fn start_app(
     if running.checkpoint.hard().ended(app) {
         return write_refusal(Some(Refusal::Ended), out);
     }
-    let known = running.apps.boot(app.0);
+    let known = running.apps.boot(app.0 as u64);
     if boot <= known {
         return write_refusal(Some(Refusal::NotRising(known)), out);
     }
@@ -86,21 +86,4 @@ pub(crate) fn ask_app(
         Some(refusal) => write_refusal(Some(refusal), out),
         None => Err(WorldStop::OutOfMemory),
     }
-}
-
-// The application of a job forgets what the master has acknowledged.
-pub(crate) fn resync_app(
-    running: &mut Running,
-    app: AppNo,
-    out: &mut Vec<u8>,
-) -> Result<(), WorldStop>
-    requires { CanMove running.old }
-    ensures { Acts (λ w. resync_app w app.0) running.old running.new out.old.items out.new.items result }
-{
-    apps_act();
-    cores_may_step();
-    if running.apps.resync(app.0) {
-        return Ok(());
-    }
-    write_refusal(Some(Refusal::NotRunning), out)
 }

@@ -3,19 +3,19 @@
 //! Each call answers why the event is refused, or `None` where it is done. A refused one has changed nothing that the world sees. The hard
 //! state is written before a master is told. After `OutOfMemory` what was lent is not to be used.
 
-ghost use Rattle.std.specs.Prelude.{◌≡◌, ◌≢◌, ℕ, ◌<◌, ◌≤◌, length, Ok, Err, Result, IfOk, OnOk, is_some};
+ghost use Rattle.std.specs.Prelude.{◌≡◌, ◌≢◌, ℕ, ◌<◌, ◌≤◌, Ok, Err, Result, IfOk, OnOk, is_some};
 ghost use Rattle.std.specs.Ordering.{nat_cmp};
 ghost use Rattle.std.specs.FinMap.Entries.{find};
 ghost use Rattle.fuxi_terms.specs.Jobs.{eight_places};
-ghost use Rattle.fuxi_terms.specs.Limits.{most_machines, most_masters};
+ghost use Rattle.fuxi_terms.specs.Limits.{most_machines};
 ghost use Rattle.written_roles.specs.HardState.{HardState, Banning, Finishing, Unbanning, hard_step};
 ghost use Rattle.written_roles.specs.Refusals.{Refusal as WrittenRefusal};
 ghost use Rattle.written_roles.specs.MasterSteps.{Submits, Finishes, BansMachine, UnbansMachine, StartsServing, MakesRoom};
 ghost use Rattle.schedule_replay.specs.Writings.{IsWritable, event_of};
 ghost use Rattle.written_world.specs.World.{World};
-ghost use Rattle.written_world.specs.Events.{commanded, resync_master, start_master, stop_master};
-ghost use Rattle.running_masters.specs.RunningMasters.{AreMastersOf, Fits, MayStep};
-ghost use Rattle.running_masters.specs.MasterCalls.{IsCommand};
+ghost use Rattle.written_world.specs.Events.{commanded, start_master, stop_master};
+ghost use Rattle.party_slots.specs.Slots.{MayStep, slot_at};
+ghost use Rattle.party_slots.specs.RunningMasters.{AreMastersOf, Fits, IsCommand, master_steps};
 ghost use Rattle.hard_state.specs.HardFiles.{Refuses};
 ghost use Rattle.schedule_text.specs.Asked.{job_named};
 ghost use Rattle.schedule_text.specs.Printing.{as_refusal};
@@ -25,28 +25,27 @@ use crate::checkpoint::Checkpoint;
 use crate::writing::Writing;
 use bad_nodes::Votes;
 use cluster_desc::Cluster;
-use fuxi_master::{MasterEvent, MasterRefusal};
+use fuxi_master::{Master, MasterEvent, MasterRefusal};
 use fuxi_terms::OutOfMemory;
 use fuxi_terms::limits::{MOST_MASTERS, MOST_RECORDS};
 use hard_state::HardFault;
 use master_text::{hard_refusal, master_refusal};
-use running_masters::Masters;
+use party_slots::{Slots, epochs_alike, parties_run};
 use schedule_text::{Refusal, job_refusal, jobs_are_tested_alike};
 use schedule_unit::{AppNo, Asks, GroupNo, Job, MachineNo};
 use std::alloc::Global;
-use std::mem;
 use written_roles::judges;
 
 /// The tests of a start before its writing.
 pub(crate) fn start_tests(
     checkpoint: &Checkpoint,
-    masters: &Masters,
+    masters: &Slots<Master>,
     epoch: u64,
 ) -> Result<(), Refusal>
     ensures world { (w : World) → IsGoverning w (governing checkpoint.now masters.now) → StartsIn w epoch result }
     ensures above { OnOk result (checkpoint.now.hard.value.fence < epoch) }
-    ensures few { OnOk result (length masters.now.masters < most_masters) }
 {
+    epochs_alike();
     let fence = checkpoint.hard().fence();
     if epoch <= fence {
         return Err(Refusal::NotRising(fence));
@@ -62,14 +61,13 @@ pub(crate) fn start_master(
     alloc: Global,
     cluster: &Cluster,
     checkpoint: &mut Checkpoint,
-    masters: &mut Masters,
+    masters: &mut Slots<Master>,
     epoch: u64,
 ) -> Result<Option<Refusal>, OutOfMemory>
     requires governed { AreGoverned (governing checkpoint.old masters.old) }
-    ensures world { IfOk result (GovernsOn cluster.now epoch (λ w. start_master w epoch) (governing checkpoint.old masters.old) (governing checkpoint.new masters.new)) }
+    ensures world { IfOk result (GovernsOn cluster.now (λ w. start_master w epoch) (governing checkpoint.old masters.old) (governing checkpoint.new masters.new)) }
     ensures steps { IfOk result (λ answer. TakesStep masters.old masters.new) }
 {
-    let _newest = masters.newest();
     match start_tests(checkpoint, masters, epoch) {
         Ok(()) => {}
         Err(refusal) => return Ok(Some(refusal)),
@@ -78,18 +76,18 @@ pub(crate) fn start_master(
         Ok(()) => {}
         Err(fault) => return Ok(Some(written_refusal(fault)?)),
     }
-    match masters.start(alloc, cluster, epoch, checkpoint.hard()) {
+    match party_slots::start_master(masters, alloc, cluster, epoch, checkpoint.hard()) {
         Ok(()) => Ok(None),
         Err(OutOfMemory) => Err(OutOfMemory),
     }
 }
 
 /// The master of an epoch stops.
-pub(crate) fn stop_master(masters: &mut Masters, epoch: u64) -> Option<Refusal>
-    ensures world { GovernsMasters epoch (λ w. stop_master w epoch) masters.old masters.new result }
+pub(crate) fn stop_master(masters: &mut Slots<Master>, epoch: u64) -> Option<Refusal>
+    ensures world { GovernsMasters (λ w. stop_master w epoch) masters.old masters.new result }
     ensures steps { TakesStep masters.old masters.new }
 {
-    if masters.stop(epoch) {
+    if party_slots::stop_master(masters, epoch) {
         None
     } else {
         Some(Refusal::NotRunning)
@@ -100,7 +98,7 @@ pub(crate) fn stop_master(masters: &mut Masters, epoch: u64) -> Option<Refusal>
 pub(crate) fn named_job(
     alloc: Global,
     cluster: &Cluster,
-    masters: &Masters,
+    masters: &Slots<Master>,
     epoch: u64,
     app: AppNo,
     group: GroupNo,
@@ -131,7 +129,7 @@ fn submit(
     alloc: Global,
     cluster: &Cluster,
     checkpoint: &mut Checkpoint,
-    masters: &mut Masters,
+    masters: &mut Slots<Master>,
     epoch: u64,
     app: AppNo,
     group: GroupNo,
@@ -139,10 +137,11 @@ fn submit(
 ) -> Result<Option<Refusal>, OutOfMemory>
     requires app { app.0 < 256 }
     requires governed { AreGoverned (governing checkpoint.old masters.old) }
-    requires steps { MayStep epoch masters.old }
-    ensures world { IfOk result (GovernsOn cluster.now epoch (λ w. commanded w epoch (Submits (job_named app.0 group.0 asks.now))) (governing checkpoint.old masters.old) (governing checkpoint.new masters.new)) }
+    requires steps { MayStep master_steps (slot_at masters.old epoch) }
+    ensures world { IfOk result (GovernsOn cluster.now (λ w. commanded w epoch (Submits (job_named app.0 group.0 asks.now))) (governing checkpoint.old masters.old) (governing checkpoint.new masters.new)) }
     ensures steps { IfOk result (λ answer. TakesStep masters.old masters.new) }
 {
+    parties_run();
     let job = match named_job(alloc, cluster, masters, epoch, app, group, asks) {
         Ok(Ok(job)) => job,
         Ok(Err(refusal)) => return Ok(Some(refusal)),
@@ -156,7 +155,7 @@ fn submit(
 }
 
 /// The test of the end of a job before its writing.
-pub(crate) fn finish_tests(masters: &Masters, epoch: u64) -> Result<(), Refusal>
+pub(crate) fn finish_tests(masters: &Slots<Master>, epoch: u64) -> Result<(), Refusal>
     ensures { (w : World) (app : ℕ) → AreMastersOf w masters.now → WritesIn w epoch (Finishes app) (Finishing app) result }
 {
     if !runs(masters, epoch) {
@@ -168,7 +167,7 @@ pub(crate) fn finish_tests(masters: &Masters, epoch: u64) -> Result<(), Refusal>
 /// The tests of a ban, and of its end, before their writing.
 pub(crate) fn machine_tests(
     cluster: &Cluster,
-    masters: &Masters,
+    masters: &Slots<Master>,
     epoch: u64,
     machine: MachineNo,
 ) -> Result<(), Refusal>
@@ -207,16 +206,17 @@ pub(crate) fn give_order(
     alloc: Global,
     cluster: &Cluster,
     checkpoint: &mut Checkpoint,
-    masters: &mut Masters,
+    masters: &mut Slots<Master>,
     epoch: u64,
     order: &Order,
 ) -> Result<Option<Refusal>, OutOfMemory>
     requires named { IsNamed order.now }
     requires governed { AreGoverned (governing checkpoint.old masters.old) }
-    requires steps { MayStep epoch masters.old }
-    ensures world { IfOk result (GovernsOn cluster.now epoch (λ w. commanded w epoch (command_as order.now)) (governing checkpoint.old masters.old) (governing checkpoint.new masters.new)) }
+    requires steps { MayStep master_steps (slot_at masters.old epoch) }
+    ensures world { IfOk result (GovernsOn cluster.now (λ w. commanded w epoch (command_as order.now)) (governing checkpoint.old masters.old) (governing checkpoint.new masters.new)) }
     ensures steps { IfOk result (λ answer. TakesStep masters.old masters.new) }
 {
+    parties_run();
     match order {
         Order::Submit(app, group, asks) => {
             submit(
@@ -250,7 +250,7 @@ pub(crate) fn give_order(
 fn carry_out(
     alloc: Global,
     checkpoint: &mut Checkpoint,
-    masters: &mut Masters,
+    masters: &mut Slots<Master>,
     epoch: u64,
     tests: Result<(), Refusal>,
     writing: &Writing,
@@ -260,7 +260,7 @@ fn carry_out(
     requires command { IsCommand event }
     requires fitting { OnOk tests ((k : HardState) → hard_step checkpoint.old.hard.value epoch (event_of writing.now) ≡ Ok k → Fits epoch event masters.old) }
     requires governed { AreGoverned (governing checkpoint.old masters.old) }
-    requires steps { MayStep epoch masters.old }
+    requires steps { MayStep master_steps (slot_at masters.old epoch) }
     ensures world { IfOk result (CarriesOut epoch tests (event_of writing.now) event (governing checkpoint.old masters.old) (governing checkpoint.new masters.new)) }
     ensures steps { IfOk result (λ answer. TakesStep masters.old masters.new) }
 {
@@ -276,9 +276,13 @@ fn carry_out(
 }
 
 // The master of an epoch serves from now on, though machines are not reported.
-fn begin(alloc: Global, masters: &mut Masters, epoch: u64) -> Result<Option<Refusal>, OutOfMemory>
-    requires steps { MayStep epoch masters.old }
-    ensures world { IfOk result (GovernsMasters epoch (λ w. commanded w epoch StartsServing) masters.old masters.new) }
+fn begin(
+    alloc: Global,
+    masters: &mut Slots<Master>,
+    epoch: u64,
+) -> Result<Option<Refusal>, OutOfMemory>
+    requires steps { MayStep master_steps (slot_at masters.old epoch) }
+    ensures world { IfOk result (GovernsMasters (λ w. commanded w epoch StartsServing) masters.old masters.new) }
     ensures steps { IfOk result (λ answer. TakesStep masters.old masters.new) }
 {
     if !runs(masters, epoch) {
@@ -288,9 +292,13 @@ fn begin(alloc: Global, masters: &mut Masters, epoch: u64) -> Result<Option<Refu
 }
 
 // The master of an epoch makes room for a unit that waits.
-fn preempt(alloc: Global, masters: &mut Masters, epoch: u64) -> Result<Option<Refusal>, OutOfMemory>
-    requires steps { MayStep epoch masters.old }
-    ensures world { IfOk result (GovernsMasters epoch (λ w. commanded w epoch MakesRoom) masters.old masters.new) }
+fn preempt(
+    alloc: Global,
+    masters: &mut Slots<Master>,
+    epoch: u64,
+) -> Result<Option<Refusal>, OutOfMemory>
+    requires steps { MayStep master_steps (slot_at masters.old epoch) }
+    ensures world { IfOk result (GovernsMasters (λ w. commanded w epoch MakesRoom) masters.old masters.new) }
     ensures steps { IfOk result (λ answer. TakesStep masters.old masters.new) }
 {
     if !runs(masters, epoch) {
@@ -310,7 +318,7 @@ pub(crate) struct Judgement {
 pub(crate) fn judged(
     alloc: Global,
     checkpoint: &Checkpoint,
-    masters: &Masters,
+    masters: &Slots<Master>,
     epoch: u64,
     least: u32,
     percent: u32,
@@ -319,6 +327,7 @@ pub(crate) fn judged(
     ensures { IfOk result (Decides epoch least percent (governing checkpoint.now masters.now)) }
 {
     judges();
+    parties_run();
     let Some(master) = masters.get(epoch) else {
         return Ok(Err(Refusal::NotRunning));
     };
@@ -336,54 +345,29 @@ pub(crate) fn judged(
     Ok(Ok(Judgement { votes, machines }))
 }
 
-/// The master of an epoch forgets what its peers have acknowledged.
-pub(crate) fn resync(
-    alloc: Global,
-    masters: &mut Masters,
-    epoch: u64,
-) -> Result<Option<Refusal>, OutOfMemory>
-    requires steps { MayStep epoch masters.old }
-    ensures world { IfOk result (GovernsMasters epoch (λ w. resync_master w epoch) masters.old masters.new) }
-    ensures steps { IfOk result (λ answer. TakesStep masters.old masters.new) }
-{
-    let before = mem::replace(masters, Masters::none(alloc));
-    let (after, ran) = match before.resync(alloc, epoch) {
-        Ok(after) => after,
-        Err(OutOfMemory) => return Err(OutOfMemory),
-    };
-    *masters = after;
-    if !ran {
-        return Ok(Some(Refusal::NotRunning));
-    }
-    Ok(None)
-}
-
 // Whether the master of an epoch runs.
-fn runs(masters: &Masters, epoch: u64) -> bool
+fn runs(masters: &Slots<Master>, epoch: u64) -> bool
     ensures { (w : World) → AreMastersOf w masters.now → result ≡ is_some (find nat_cmp epoch w.masters) }
 {
+    parties_run();
     masters.get(epoch).is_some()
 }
 
 // Tells the master of an epoch a command, for which the hard state is written.
 fn tell(
     alloc: Global,
-    masters: &mut Masters,
+    masters: &mut Slots<Master>,
     epoch: u64,
     event: MasterEvent,
 ) -> Result<Option<Refusal>, OutOfMemory>
     requires command { IsCommand event }
     requires fitting { Fits epoch event masters.old }
-    requires steps { MayStep epoch masters.old }
+    requires steps { MayStep master_steps (slot_at masters.old epoch) }
     ensures world { IfOk result (TellsInWorld epoch event masters.old masters.new) }
     ensures steps { IfOk result (λ answer. TakesStep masters.old masters.new) }
 {
-    let before = mem::replace(masters, Masters::none(alloc));
-    match before.command(alloc, epoch, event) {
-        Ok((after, answer)) => {
-            *masters = after;
-            Ok(answered_refusal(answer))
-        }
+    match party_slots::command(masters, alloc, epoch, event) {
+        Ok(answer) => Ok(answered_refusal(answer)),
         Err(OutOfMemory) => Err(OutOfMemory),
     }
 }

@@ -12,11 +12,9 @@ use crate::text::{write_heard, write_kept, write_refusal};
 use fuxi_terms::OutOfMemory;
 use packet_pool::stored_is_read;
 use party_ledgers::{Heard, Kind, Packet};
-use running_masters::Masters;
 use schedule_text::Refusal;
 use schedule_unit::Role;
 use std::alloc::Global;
-use std::mem;
 use wire_frames::read_packet;
 use written_join::every_change_is_taken;
 use written_world::{every_event_keeps_good, worlds_in_order};
@@ -31,42 +29,20 @@ fn hear(running: &mut Running, alloc: Global, packet: Packet) -> Result<Option<H
 {
     cores_may_step();
     every_change_is_taken();
-    match packet.to.role {
+    let to = packet.to;
+    match to.role {
         Role::Master => {
             masters_act();
-            let masters = mem::replace(&mut running.masters, Masters::none(alloc));
-            let (masters, heard) = masters.hear(alloc, packet)?;
-            running.masters = masters;
-            Ok(heard)
+            running.masters.hear(alloc, to.inc, packet)
         }
-        Role::Agent | Role::App => hear_peer(running, alloc, &packet),
-    }
-}
-
-// A packet is heard by the agent of its machine or the application of its job.
-fn hear_peer(
-    running: &mut Running,
-    alloc: Global,
-    packet: &Packet,
-) -> Result<Option<Heard>, OutOfMemory>
-    requires peer { packet.now.to.role ≡ Role.Master → ⊥ }
-    requires formed { IsFormed packet.now }
-    requires no_end { packet.now.kind ≡ Kind.End → ⊥ }
-    requires can { CanMove running.old }
-    ensures { IfOk result (IsHeardBy packet.now running.old running.new) }
-{
-    cores_may_step();
-    every_change_is_taken();
-    match packet.to.role {
         Role::Agent => {
             agents_act();
-            running.agents.hear(alloc, packet)
+            running.agents.hear(alloc, to.number as u64, packet)
         }
         Role::App => {
             apps_act();
-            running.apps.hear(alloc, packet)
+            running.apps.hear(alloc, to.number as u64, packet)
         }
-        Role::Master => unreachable!(),
     }
 }
 

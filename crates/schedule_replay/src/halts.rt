@@ -19,8 +19,9 @@ use crate::checkpoint::Checkpoint;
 use crate::commands::{finish_tests, machine_tests, named_job, start_tests, written_refusal};
 use crate::writing::Writing;
 use cluster_desc::Cluster;
+use fuxi_master::Master;
 use fuxi_terms::OutOfMemory;
-use running_masters::Masters;
+use party_slots::{Slots, stop_master};
 use schedule_text::{Event, Output, Refusal};
 use schedule_unit::{AppNo, Asks, GroupNo, MachineNo};
 use std::alloc::Global;
@@ -37,7 +38,7 @@ pub(crate) fn halt(
     alloc: Global,
     cluster: &Cluster,
     checkpoint: &mut Checkpoint,
-    masters: &mut Masters,
+    masters: &mut Slots<Master>,
     line: &Event,
     stop: Stop,
 ) -> Result<Output, OutOfMemory>
@@ -80,7 +81,7 @@ fn halt_submission(
     alloc: Global,
     cluster: &Cluster,
     checkpoint: &mut Checkpoint,
-    masters: &mut Masters,
+    masters: &mut Slots<Master>,
     named: (u64, AppNo, GroupNo),
     asks: &Asks,
     stop: Stop,
@@ -106,7 +107,7 @@ fn halt_submission(
 fn halt_after(
     alloc: Global,
     checkpoint: &mut Checkpoint,
-    masters: &mut Masters,
+    masters: &mut Slots<Master>,
     epoch: u64,
     tests: Result<(), Refusal>,
     writing: &Writing,
@@ -128,7 +129,7 @@ fn halt_after(
 fn halt_within(
     alloc: Global,
     checkpoint: &mut Checkpoint,
-    masters: &mut Masters,
+    masters: &mut Slots<Master>,
     epoch: u64,
     writing: &Writing,
     stop: Stop,
@@ -141,7 +142,7 @@ fn halt_within(
 {
     match checkpoint.halt(alloc, epoch, writing, stop.calls, stop.all) {
         Ok(written) => {
-            let _ran = masters.stop(epoch);
+            let _ran = stop_master(masters, epoch);
             Ok(Output::Halted(epoch, written))
         }
         Err(fault) => {

@@ -13,6 +13,7 @@ mod laws;
 mod lines;
 mod masters;
 mod promises;
+mod resyncs;
 mod running;
 mod showing;
 mod stop;

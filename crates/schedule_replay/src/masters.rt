@@ -2,7 +2,7 @@
 
 ghost use Rattle.std.specs.Prelude.{◌≡◌, ◌<◌, ◌≤◌, map};
 ghost use Rattle.bad_nodes.specs.Ranks.{number_of};
-ghost use Rattle.written_world.specs.Events.{Halt, act, ban_each, commanded, judge, resync_master, start_master, stop_master};
+ghost use Rattle.written_world.specs.Events.{Halt, act, ban_each, commanded, judge, start_master, stop_master};
 ghost use Rattle.schedule_text.specs.Halting.{halting};
 ghost use Rattle.schedule_text.specs.Writing.{IsLineEvent};
 ghost use Rattle.schedule_replay.specs.LineEvents.{event_as};
@@ -187,24 +187,6 @@ pub(crate) fn halt(
     } = running;
     match halts::halt(alloc, cluster, checkpoint, masters, line, stop) {
         Ok(printed) => write_line(&printed, out),
-        Err(_) => Err(WorldStop::OutOfMemory),
-    }
-}
-
-// The master of an epoch forgets what its peers have acknowledged.
-pub(crate) fn resync_master(
-    running: &mut Running,
-    alloc: Global,
-    epoch: u64,
-    out: &mut Vec<u8>,
-) -> Result<(), WorldStop>
-    requires { CanMove running.old }
-    ensures { Acts (λ w. resync_master w epoch) running.old running.new out.old.items out.new.items result }
-{
-    masters_act();
-    cores_may_step();
-    match commands::resync(alloc, &mut running.masters, epoch) {
-        Ok(refusal) => write_refusal(refusal, out),
         Err(_) => Err(WorldStop::OutOfMemory),
     }
 }

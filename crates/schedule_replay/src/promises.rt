@@ -6,13 +6,13 @@ ghost use Rattle.written_world.specs.World.{World as WrittenWorld};
 ghost use Rattle.written_world.specs.Quiet.{is_quiet};
 ghost use Rattle.app_master.specs.AppCores.{AppCore, StandsFor};
 ghost use Rattle.fuxi_master.specs.Cores.{MasterRecord};
-ghost use Rattle.running_masters.specs.RunningMasters.{running as master_in};
+ghost use Rattle.party_slots.specs.Slots.{slot_at};
 ghost use Rattle.schedule_replay.specs.Worlds.{IsWorld, StandsFor as WorldStandsFor};
 ghost use Rattle.schedule_replay.specs.CoreReads.{held_now};
 ghost use Rattle.schedule_replay.specs.Promises.{TablesFit, AllHeldOnce, AllFollow, AllAgree, AllSettled, AreOfGoodWorld, Agree};
 
 use crate::world::World;
-use party_slots::peers_run;
+use party_slots::parties_run;
 use written_world::every_event_keeps_good;
 
 /// Of all that runs in a schedule, whatever happened to it, masters that failed over, packets that were lost, repeated or reordered: each
@@ -30,7 +30,7 @@ pub fn cores_are_safe(world: &World)
     ensures good { AreOfGoodWorld world.now }
 {
     world.is_reached();
-    peers_run();
+    parties_run();
     every_event_keeps_good();
 }
 
@@ -38,7 +38,7 @@ pub fn cores_are_safe(world: &World)
 /// jobs that it knows have the same numbers (`agree`).
 pub fn quiet_parties_agree(world: &World, epoch: u64) -> bool
     ensures answer { (w : WrittenWorld) → IsWorld w → WorldStandsFor world.now w → result ≡ is_quiet w epoch }
-    ensures agree { result ≡ true → (M : MasterRecord) → master_in world.now.masters epoch ≡ Some M → Agree world.now M.core }
+    ensures agree { result ≡ true → (M : MasterRecord) → slot_at world.now.masters epoch ≡ Some M → Agree world.now M.core }
 {
     cores_are_safe(world);
     world.quiet(epoch)

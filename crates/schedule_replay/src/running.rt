@@ -11,18 +11,16 @@ ghost use Rattle.schedule_replay.specs.WorldSteps.{Takes, StopsAt};
 
 use crate::acts::act;
 use crate::checkpoint::Checkpoint;
-use crate::laws::{cores_may_step, events_are_inputs};
+use crate::laws::{cores_may_step, events_are_inputs, written_frame_lengths};
 use crate::lines::Lines;
 use crate::stop::WorldStop;
 use agent_core::Agent;
 use app_master::AppMaster;
 use cluster_desc::Cluster;
-use core_join::written_frame_lengths;
+use fuxi_master::Master;
 use fuxi_terms::OutOfMemory;
-use fuxi_terms::limits::MOST_JOBS;
 use packet_pool::PacketPool;
 use party_slots::Slots;
-use running_masters::Masters;
 use running_state::write_state;
 use schedule_text::Event;
 use std::alloc::Global;
@@ -34,7 +32,7 @@ use written_world::{every_event_keeps_good, good_at_start, worlds_in_order};
 pub struct Running {
     pub(crate) cluster: Cluster,
     pub(crate) checkpoint: Checkpoint,
-    pub(crate) masters: Masters,
+    pub(crate) masters: Slots<Master>,
     pub(crate) agents: Slots<Agent>,
     pub(crate) apps: Slots<AppMaster>,
     pub(crate) pool: PacketPool,
@@ -75,18 +73,18 @@ impl Running {
     {
         good_at_start();
         worlds_in_order();
-        let machines = cluster.machines();
-        let agents = Slots::none(alloc, machines)?;
-        let running = Running {
+        // A cluster is valid.
+        let _machines = cluster.machines();
+        let checkpoint = Checkpoint::open(alloc)?;
+        Ok(Running {
             cluster,
-            checkpoint: Checkpoint::open(alloc)?,
-            masters: Masters::none(alloc),
-            agents,
-            apps: Slots::none(alloc, MOST_JOBS)?,
+            checkpoint,
+            masters: Slots::none(alloc),
+            agents: Slots::none(alloc),
+            apps: Slots::none(alloc),
             pool: PacketPool::new(alloc),
             events: 0,
-        };
-        Ok(running)
+        })
     }
 
     /// One event, and what it prints. The event is one that a line can give, and fewer than 2^29 were taken. After a stop it is not to be used.

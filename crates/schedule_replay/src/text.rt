@@ -14,8 +14,8 @@ ghost use Rattle.schedule_replay.specs.ReplayTexts.{lines_text};
 ghost use Rattle.wire_frames.specs.Frames.{frame};
 ghost use Rattle.party_ledgers.specs.declared.packets.Packet.{Packet as PacketSeen};
 
+use crate::laws::written_frame_lengths;
 use crate::stop::WorldStop;
-use core_join::written_frame_lengths;
 use party_ledgers::{Heard, Kind, Packet};
 use schedule_text::{Kind as PrintedKind, Output, Refusal, write_frame, write_output};
 use schedule_unit::MachineNo;

@@ -11,18 +11,15 @@ ghost use Rattle.written_world.specs.Events.{turn_agent, turn_app, turn_master};
 ghost use Rattle.schedule_replay.specs.ReplayTexts.{lines_text};
 ghost use Rattle.schedule_replay.specs.Moves.{Acts, CanMove, KeepsMore, StopsAs, StopsFor};
 
-use crate::laws::{agents_act, apps_act, cores_may_step, masters_act};
+use crate::laws::{agents_act, apps_act, cores_may_step, masters_act, written_frame_lengths};
 use crate::running::Running;
 use crate::stop::WorldStop;
 use crate::text::{write_all_sent, write_refusal};
-use core_join::written_frame_lengths;
 use packet_pool::{PacketPool, PoolFault};
 use party_ledgers::Packet;
-use running_masters::Masters;
 use schedule_text::Refusal;
 use schedule_unit::{AppNo, MachineNo};
 use std::alloc::Global;
-use std::mem;
 
 // Why packets are not kept, as the reason of the world.
 fn stop_of(fault: PoolFault) -> WorldStop
@@ -69,7 +66,8 @@ pub(crate) fn turn_agent(
 {
     agents_act();
     written_frame_lengths();
-    let Ok(answer) = running.agents.turn(alloc, machine.0) else {
+    cores_may_step();
+    let Ok(answer) = running.agents.turn(alloc, machine.0 as u64) else {
         return Err(WorldStop::OutOfMemory);
     };
     let Some(packets) = answer else {
@@ -90,7 +88,8 @@ pub(crate) fn turn_app(
 {
     apps_act();
     written_frame_lengths();
-    let Ok(answer) = running.apps.turn(alloc, app.0) else {
+    cores_may_step();
+    let Ok(answer) = running.apps.turn(alloc, app.0 as u64) else {
         return Err(WorldStop::OutOfMemory);
     };
     let Some(packets) = answer else {
@@ -112,11 +111,9 @@ pub(crate) fn turn_master(
     masters_act();
     written_frame_lengths();
     cores_may_step();
-    let masters = mem::replace(&mut running.masters, Masters::none(alloc));
-    let Ok((masters, answer)) = masters.turn(alloc, epoch) else {
+    let Ok(answer) = running.masters.turn(alloc, epoch) else {
         return Err(WorldStop::OutOfMemory);
     };
-    running.masters = masters;
     let Some(packets) = answer else {
         return write_refusal(Some(Refusal::NotRunning), out);
     };

@@ -1,11 +1,10 @@
 //! The world that events step.
 
 ghost use Rattle.std.specs.Prelude.{◌≡◌, ℕ, ◌+◌, ◌<◌, ◌^◌, ◌++◌, length, is_some, IfOk, IfErr, OnOk, OnErr};
-ghost use Rattle.std.specs.Option.{option_copied, option_map};
+ghost use Rattle.std.specs.Option.{option_copied};
 ghost use Rattle.std.specs.Ordering.{nat_cmp};
 ghost use Rattle.std.specs.FinMap.Entries.{find};
 ghost use Rattle.party_slots.specs.Slots.{slot_at};
-ghost use Rattle.running_masters.specs.RunningMasters.{running as master_in};
 ghost use Rattle.written_world.specs.World.{World as WrittenWorld, empty_world};
 ghost use Rattle.written_world.specs.Quiet.{is_quiet};
 ghost use Rattle.written_world.specs.Show.{show};
@@ -23,7 +22,7 @@ use app_master::AppMaster;
 use cluster_desc::Cluster;
 use fuxi_master::Master;
 use fuxi_terms::OutOfMemory;
-use party_slots::peers_run;
+use party_slots::parties_run;
 use running_state::is_quiet;
 use schedule_text::Event;
 use schedule_unit::{AppNo, MachineNo};
@@ -123,9 +122,10 @@ impl World {
 
     /// The master of an epoch as it runs; `None` exactly where none of that epoch runs. It takes no memory.
     pub fn master(&self, epoch: u64) -> Option<&Master>
-        ensures core { option_map (λ m. m.now) result ≡ master_in self.now.masters epoch }
+        ensures core { option_copied result ≡ slot_at self.now.masters epoch }
         ensures runs { (w : WrittenWorld) → StandsFor self.now w → is_some result ≡ is_some (find nat_cmp epoch w.masters) }
     {
+        parties_run();
         self.running.masters.get(epoch)
     }
 
@@ -134,8 +134,8 @@ impl World {
         ensures core { option_copied result ≡ slot_at self.now.agents machine.0 }
         ensures runs { (w : WrittenWorld) → StandsFor self.now w → is_some result ≡ is_some (find nat_cmp machine.0 w.agents) }
     {
-        peers_run();
-        self.running.agents.get(machine.0)
+        parties_run();
+        self.running.agents.get(machine.0 as u64)
     }
 
     /// The application of a job as it runs; `None` exactly where none runs. It takes no memory.
@@ -143,8 +143,8 @@ impl World {
         ensures core { option_copied result ≡ slot_at self.now.apps app.0 }
         ensures runs { (w : WrittenWorld) → StandsFor self.now w → is_some result ≡ is_some (find nat_cmp app.0 w.apps) }
     {
-        peers_run();
-        self.running.apps.get(app.0)
+        parties_run();
+        self.running.apps.get(app.0 as u64)
     }
 
     /// How many events it took, refused ones too. It takes no memory.

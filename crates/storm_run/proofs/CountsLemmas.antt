@@ -22,7 +22,7 @@ use Rattle.app_master.specs.AppCores.{AppCore, StandsFor as AppStandsFor}
 use Rattle.fuxi_master.specs.Cores.{MasterRecord, StandsFor as MasterStandsFor}
 use Rattle.party_slots.specs.Slots.{SlotsRecord, slot_at}
 use Rattle.party_slots.specs.Peers.{AreAgentsOf, AreAppsOf, AgentRunsAs, AppRunsAs, AgentAt, AppAt}
-use Rattle.running_masters.specs.RunningMasters.{MastersRecord, AreMastersOf, running}
+use Rattle.party_slots.specs.RunningMasters.{AreMastersOf, MasterAt, MasterRunsAs}
 use Rattle.storm_run.specs.Summaries.{granted_by, granted, held_by, held_in, rows_of, rows_in}
 
 -- one number more
@@ -60,10 +60,16 @@ app_here : AppsRun → (w : World) (x : SlotsRecord AppCore) (n : ℕ) (a : AppC
 app_here run w x n a s is = subst (AppAt w n) (sym is) (run w x s n)
 
 -- grants
-pub granted_there : (w : World) (x : MastersRecord) (e a n : ℕ) (m : MasterRecord) → AreMastersOf w x → Some m ≡ running x e → e ≡ w.hard.fence
+abbrev pub MastersRun : Type 0
+MastersRun = (w : World) (x : SlotsRecord MasterRecord) → AreMastersOf w x → (e : ℕ) → MasterAt w e (slot_at x e)
+
+master_here : MastersRun → (w : World) (x : SlotsRecord MasterRecord) (e : ℕ) (m : MasterRecord) → AreMastersOf w x → Some m ≡ slot_at x e → MasterRunsAs w e m.core
+master_here run w x e m s is = subst (MasterAt w e) (sym is) (run w x s e)
+
+pub granted_there : MastersRun → (w : World) (x : SlotsRecord MasterRecord) (e a n : ℕ) (m : MasterRecord) → AreMastersOf w x → Some m ≡ slot_at x e → e ≡ w.hard.fence
     → ((M : Master) → MasterStandsFor m.core (master_seen w M) → n ≡ granted_by a M) → n ≡ granted w a
-granted_there w x e a n m s is fence counts =
-    let r = s.each e m (sym is) in
+granted_there run w x e a n m s is fence counts =
+    let r = master_here run w x e m s is in
     counts r.master r.stands ∙ sym (ap (λ o. with_found o 0 (granted_by a)) (subst (λ k. find nat_cmp k w.masters ≡ Some r.master) fence r.runs))
 
 pub granted_none : (w : World) (e a : ℕ) → false ≡ is_some (find nat_cmp e w.masters) → e ≡ w.hard.fence → 0 ≡ granted w a

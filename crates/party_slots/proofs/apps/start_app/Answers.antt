@@ -1,15 +1,6 @@
-use Rattle.std.proofs.Common.{subst}
-use Rattle.fuxi_terms.specs.Jobs.{unit_count}
-use Rattle.written_roles.specs.Apps.{new_app}
-use Rattle.app_master.specs.AppCores.{StandsFor}
-use Rattle.written_parties.specs.SeenParties.{Apps}
+use Rattle.party_slots.proofs.PeersLemmas.{app_started_in}
 use Rattle.party_slots.proofs.apps.start_app.Goals as goal
 
 pub returns-clause-world : goal.returns-clause-world
-returns-clause-world c w good s cluster units later =
-    let a = c.args.app.0 in
-    let b = c.args.boot in
-    let core = c.in_ok-core.core in
-    c.start-2.ensures.world w Apps good s later
-    (subst (λ k. StandsFor core (new_app a (unit_count w.hard.jobs a) k b)) cluster
-    (subst (λ u. StandsFor core (new_app a u c.args.cluster.now b)) units c.in_ok-core.ensures.stands))
+returns-clause-world c =
+    app_started_in c.parties_join.ensures.apps_start c.args.app.0 c.args.units c.args.cluster.now c.args.boot c.in_ok-core.core c.args.apps.now c.start-2.new.self c.start-2.result c.in_ok-core.ensures.stands c.start-2.ensures.world

@@ -13,5 +13,5 @@ pub returns-clause-ok : goal.returns-clause-ok
 returns-clause-ok c =
     let machines = c.args.machines in
     let all : c.loop-number.number ≡ machines = search rules in
-    λ w of sorted size. shows_same line_text (flat_map (machine_lines w) (below c.loop-number.number)) (show_agents w) c.args.out.now.items c.loop-number.out.items
-    (ap (λ n. flat_map (machine_lines w) (below n)) all ∙ each_below (show_agent w.net) machines w.agents sorted (λ m far. no_agent_beyond c.peers_run.ensures.agents w c.args.agents.now machines m of size far)) (c.loop-number.invariant.shows w of)
+    λ w good of sorted size. shows_same line_text (flat_map (machine_lines w) (below c.loop-number.number)) (show_agents w) c.args.out.now.items c.loop-number.out.items
+    (ap (λ n. flat_map (machine_lines w) (below n)) all ∙ each_below (show_agent w.net) machines w.agents sorted (λ m far. no_agent_beyond w machines m good size far)) (c.loop-number.invariant.shows w of)

@@ -13,5 +13,5 @@ use Rattle.running_state.proofs.apps.write_apps.Goals as goal
 pub returns-clause-ok : goal.returns-clause-ok
 returns-clause-ok c =
     let all : c.loop-number.number ≡ most_jobs = search rules in
-    λ w of sorted. shows_same line_text (flat_map (job_lines w) (below c.loop-number.number)) (show_apps w) c.args.out.now.items c.loop-number.out.items
-    (ap (λ n. flat_map (job_lines w) (below n)) all ∙ each_below (show_app w.net (below (length w.cluster.machines))) most_jobs w.apps sorted (λ a far. no_app_beyond c.peers_run.ensures.apps w c.args.apps.now a of far)) (c.loop-number.invariant.shows w of)
+    λ w good of sorted. shows_same line_text (flat_map (job_lines w) (below c.loop-number.number)) (show_apps w) c.args.out.now.items c.loop-number.out.items
+    (ap (λ n. flat_map (job_lines w) (below n)) all ∙ each_below (show_app w.net (below (length w.cluster.machines))) most_jobs w.apps sorted (λ a far. no_app_beyond w a good far)) (c.loop-number.invariant.shows w of)

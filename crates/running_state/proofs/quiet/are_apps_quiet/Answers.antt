@@ -5,10 +5,10 @@ use Rattle.running_state.proofs.Peers.{all_jobs}
 use Rattle.running_state.proofs.quiet.are_apps_quiet.Goals as goal
 
 pub returns-then-not-is_app_quiet : goal.returns-then-not-is_app_quiet
-returns-then-not-is_app_quiet c w m stands apps sorted =
+returns-then-not-is_app_quiet c w m good stands apps sorted =
     sym (one_entry (is_app_quiet w m) w.apps c.loop-number.number (sym (c.is_app_quiet.ensures w m stands apps) ∙ c.if-not-is_app_quiet.true))
 
 pub returns : goal.returns
-returns c w m stands apps sorted =
+returns c w m good stands apps sorted =
     let end = c.loop-number-test.false in
-    sym (all_entries (is_app_quiet w m) w.apps sorted (all_jobs c.peers_run.ensures.apps w m c.args.apps.now c.loop-number.number apps (omega (arith, end)) (c.loop-number.invariant w m stands apps)))
+    sym (all_entries (is_app_quiet w m) w.apps sorted (all_jobs w m c.loop-number.number good (omega (arith, end)) (c.loop-number.invariant w m stands apps)))

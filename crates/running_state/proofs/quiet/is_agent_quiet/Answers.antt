@@ -8,7 +8,7 @@ use Rattle.running_state.proofs.quiet.is_agent_quiet.Goals as goal
 pub returns : goal.returns
 returns c w m stands agents =
     let number = c.args.machine.0 in
-    let r = agent_runs c.peers_run.ensures.agents w c.args.agents.now number c.in-Some.agent.now agents c.in-Some.ensures in
+    let r = agent_runs c.parties_run.ensures.agents w c.args.agents.now number c.in-Some.agent.now agents c.in-Some.ensures in
     let reported : has_number number m.reported ≡ true = ap (has_number number) (sym (c.reported.ensures.stands (master_seen w m) stands)) ∙ sym c.has.ensures ∙ c.if-not-has.false in
     let peer = party (agent_id number) r.agent.boot in
     agent_quiet w m number c.are_at_rest.result r.agent r.runs reported

@@ -8,7 +8,7 @@ use Rattle.running_state.proofs.quiet.is_app_quiet.Goals as goal
 pub returns : goal.returns
 returns c w m stands apps =
     let number = c.args.app.0 in
-    let r = app_runs c.peers_run.ensures.apps w c.args.apps.now number c.in-Some.core.now apps c.in-Some.ensures in
+    let r = app_runs c.parties_run.ensures.apps w c.args.apps.now number c.in-Some.core.now apps c.in-Some.ensures in
     let known : is_known m.jobs number ≡ true = sym (c.knows.ensures.stands (master_seen w m) stands) ∙ c.if-not-knows.false in
     let peer = party (app_id number) r.app.boot in
     app_quiet w m number c.are_at_rest.result r.app r.runs known

@@ -12,7 +12,7 @@ use Rattle.schedule_text.specs.declared.refusal.Refusal.TheVariants as why
 use Rattle.schedule_replay.specs.Worlds.{WorldRecord}
 use Rattle.schedule_replay.specs.Moves.{Acts, IsActed}
 use Rattle.schedule_replay.proofs.PeersActInWorld.{acts_by, refuses, agent_beyond, agent_too_low, agent_starts, has_as}
-use Rattle.schedule_replay.proofs.MovesLemmas.{once_up_to, agents_once, peers_still}
+use Rattle.schedule_replay.proofs.MovesLemmas.{once_up_to, agents_once, parties_still}
 use Rattle.schedule_replay.proofs.agents.start_agent.Goals as goal
 use Rattle.schedule_replay.proofs.agents.start_agent.Goals.{in-Ok, in-Err}
 
@@ -60,7 +60,7 @@ returns c =
                 let later : w.boots (agent_id m) < b = omega (arith, known, high) in
                 let has = has_as old.cluster m c.machine.result.now c.machine.ensures ∙ ap (λ (d : ClusterRecord). padded (machine_of d m).has) s.cluster in
                 agent_starts c.agents_act.ensures w old m b agents c.args.out.now.items s there later (x.in-Ok.ensures.world w is.good s.agents has later);
-            moves = once_up_to old (record old { agents = agents }) (agents_once old agents old.pool (peers_still agent_steps old.agents agents c.start_agent.ensures.within));
+            moves = once_up_to old (record old { agents = agents }) (agents_once old agents old.pool (parties_still agent_steps old.agents agents x.in-Ok.ensures.within));
           }))
       | in-Err x ↦ subst (λ r. Acts (λ w. start_agent w m b) c.args.running.now (record old { agents = agents }) c.args.out.now.items c.args.out.now.items r) (sym x.result-is) (λ w is s. tt)
     ]

@@ -5,7 +5,7 @@ use Rattle.schedule_text.specs.declared.refusal.Refusal.TheVariants as why
 use Rattle.schedule_replay.specs.Worlds.{WorldRecord}
 use Rattle.schedule_replay.specs.Moves.{Acts, IsActed, IsRefusalOf}
 use Rattle.schedule_replay.proofs.MastersActInWorld.{is_refused}
-use Rattle.schedule_replay.proofs.PeersActInWorld.{acts_by, app_done, fault_is, with_apps}
+use Rattle.schedule_replay.proofs.PeersActInWorld.{acts_by, fault_is, party_done}
 use Rattle.schedule_replay.proofs.MovesLemmas.{once_up_to, apps_once}
 use Rattle.schedule_replay.proofs.apps.ask_app.Goals as goal
 use Rattle.schedule_replay.proofs.apps.ask_app.Goals.{in-Some-refusal_of, in-None}
@@ -20,7 +20,7 @@ returns-in_default c =
     subst (λ r. IsActed (λ w. asks w a x) r (record old { apps = apps }) c.args.out.now.items c.write_refusal.new.out.items) c.running.view_is (record {
       does = λ w is s.
           let h = c.in_default.ensures.world w is.good s.apps in
-          is_refused w (asks w a x) (record old { apps = apps }) why.NotRunning c.args.out.now.items c.write_refusal.new.out.items (with_apps w old apps s h.stand) h.same text;
+          is_refused w (asks w a x) (record old { apps = apps }) why.NotRunning c.args.out.now.items c.write_refusal.new.out.items (c.apps_act.ensures.stays w old apps s h.stand) h.same text;
       moves = once_up_to old (record old { apps = apps }) (apps_once old apps old.pool c.ask.ensures.within);
     }))
 
@@ -33,7 +33,7 @@ returns-in_default-answer c =
     let h = subst (λ r. AskInWorld a x old.apps apps (Some r)) c.in_default-answer.is c.in-Some.ensures.world in
     subst (λ r. IsActed (λ w. asks w a x) r (record old { apps = apps }) c.args.out.now.items c.args.out.now.items) c.running.view_is (record {
       does = λ w is s.
-          app_done c.apps_act.ensures w (asks w a x) old a apps c.args.out.now.items s (h w is.good s.apps);
+          party_done c.apps_act.ensures w (asks w a x) old a apps c.args.out.now.items s (h w is.good s.apps);
       moves = once_up_to old (record old { apps = apps }) (apps_once old apps old.pool c.ask.ensures.within);
     })
 
@@ -55,7 +55,7 @@ returns c =
           subst (λ r. IsActed (λ w. asks w a x) r (record old { apps = apps }) before written.new.out.items) c.running.view_is (record {
             does = λ w is s.
                 let y = h w is.good s.apps in
-                is_refused w (asks w a x) (record old { apps = apps }) v.in-Some-refusal_of.refusal before written.new.out.items (with_apps w old apps s y.stand)
+                is_refused w (asks w a x) (record old { apps = apps }) v.in-Some-refusal_of.refusal before written.new.out.items (c.apps_act.ensures.stays w old apps s y.stand)
                 (fault_is w (asks w a x) c.in-Err.fault v.in-Some-refusal_of.refusal (subst (IsRefusalOf c.in-Err.fault) v.in-Some-refusal_of.is c.refusal_of.ensures) y.says) text;
             moves = once_up_to old (record old { apps = apps }) (apps_once old apps old.pool c.ask.ensures.within);
           }))))

@@ -12,7 +12,7 @@ use Rattle.schedule_text.specs.declared.refusal.Refusal.TheVariants as why
 use Rattle.schedule_replay.specs.Worlds.{WorldRecord}
 use Rattle.schedule_replay.specs.Moves.{Acts, IsActed}
 use Rattle.schedule_replay.proofs.PeersActInWorld.{acts_by, refuses, app_unknown, app_over, app_too_low, app_starts, job_known, units_as}
-use Rattle.schedule_replay.proofs.MovesLemmas.{once_up_to, apps_once, peers_still}
+use Rattle.schedule_replay.proofs.MovesLemmas.{once_up_to, apps_once, parties_still}
 use Rattle.schedule_replay.proofs.apps.start_app.Goals as goal
 use Rattle.schedule_replay.proofs.apps.start_app.Goals.{in-Ok, in-Err}
 
@@ -74,7 +74,7 @@ returns c =
                 let units : c.units-units.result ≡ unit_count w.hard.jobs a = c.units-units.ensures.number ∙ units_as c.hard.result.now.value.jobs a c.in-Some.job.now c.in-Some.ensures.some ∙ ap (λ (js : List KnownJob). unit_count js a) same in
                 app_starts c.apps_act.ensures w old a b apps c.args.out.now.items s (subst (λ js. is_known js a ≡ true) same (job_known c.hard.result.now.value.jobs a c.in-Some.job.now c.in-Some.ensures.some))
                 (subst (λ js. has_ended js a ≡ false) same_again (sym c.ended.ensures ∙ c.if-ended.false)) later (x.in-Ok.ensures.world w is.good s.apps s.cluster units later);
-            moves = once_up_to old (record old { apps = apps }) (apps_once old apps old.pool (peers_still app_steps old.apps apps c.start_app.ensures.within));
+            moves = once_up_to old (record old { apps = apps }) (apps_once old apps old.pool (parties_still app_steps old.apps apps x.in-Ok.ensures.within));
           }))
       | in-Err x ↦ subst (λ r. Acts (λ w. start_app w a b) c.args.running.now (record old { apps = apps }) c.args.out.now.items c.args.out.now.items r) (sym x.result-is) (λ w is s. tt)
     ]

@@ -2,7 +2,7 @@ use Rattle.std.proofs.Common.{◌≡◌, Ok, subst}
 use Rattle.std.specs.Prelude.{OnOk}
 use Rattle.std.proofs.lemmas.Result.{IfOk-weaker}
 use Rattle.written_roles.specs.HardState.{HardState, hard_step}
-use Rattle.running_masters.specs.RunningMasters.{Fits}
+use Rattle.party_slots.specs.RunningMasters.{Fits}
 use Rattle.schedule_replay.specs.MasterCommands.{CarriesOut, TellsInWorld, WritesIn, governing}
 use Rattle.schedule_replay.specs.Writings.{IsWritable, event_of}
 use Rattle.schedule_replay.proofs.MasterCommandsLemmas.{writing_refused, written_done}

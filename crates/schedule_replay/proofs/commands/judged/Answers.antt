@@ -1,19 +1,20 @@
-use Rattle.std.proofs.Common.{◌-◌, ◌<◌, ◌≤◌, length, sym, ◌∙◌, ap, arith}
+use Rattle.std.proofs.Common.{◌-◌, ◌<◌, ◌≤◌, None, length, sym, ◌∙◌, ap, arith}
 use Rattle.fuxi_terms.specs.Limits.{most_records}
 use Rattle.hard_state.specs.HardFiles.{Kept}
 use Rattle.written_join.specs.SeenWorlds.{master_seen}
 use Rattle.schedule_replay.specs.MasterCommands.{governing}
+use Rattle.schedule_replay.proofs.MasterCommandsLemmas.{master_here, runs_as}
 use Rattle.schedule_replay.proofs.JudgementIsBans.{is_below_fence, is_decided, is_too_many, runs_none}
 use Rattle.schedule_replay.proofs.commands.judged.Goals as goal
 
 pub returns-in_default : goal.returns-in_default
-returns-in_default c w valid s = runs_none w c.args.epoch c.args.least c.args.percent (c.in_default.ensures.world w s.stand)
+returns-in_default c w valid s = runs_none w c.args.epoch c.args.least c.args.percent (runs_as c.parties_run.ensures.masters w c.args.masters.now c.args.epoch None c.in_default.ensures s.stand)
 
 pub returns-then-epoch-fence : goal.returns-then-epoch-fence
 returns-then-epoch-fence c w valid s =
     let e = c.args.epoch in
     let master = c.in-Some.master.now in
-    let r = s.stand.each e master (sym c.in-Some.ensures.master) in
+    let r = master_here c.parties_run.ensures.masters w c.args.masters.now e master s.stand (sym c.in-Some.ensures) in
     let fence = c.fence-fence.ensures ∙ ap (λ (h : Kept). h.value.fence) c.hard-hard.ensures in
     is_below_fence w e c.args.least c.args.percent c.fence-fence.result (governing c.args.checkpoint.now c.args.masters.now) master.core s r fence c.if-epoch-fence.true
 
@@ -21,7 +22,7 @@ pub returns-then-len-left : goal.returns-then-len-left
 returns-then-len-left c w valid s =
     let e = c.args.epoch in
     let master = c.in-Some.master.now in
-    let r = s.stand.each e master (sym c.in-Some.ensures.master) in
+    let r = master_here c.parties_run.ensures.masters w c.args.masters.now e master s.stand (sym c.in-Some.ensures) in
     let fence = c.fence-fence.ensures ∙ ap (λ (h : Kept). h.value.fence) c.hard-hard.ensures in
     let records = c.records.ensures.value ∙ ap (λ (h : Kept). h.value.records) c.hard-hard.ensures in
     let test = c.if-len-left.true in
@@ -34,7 +35,7 @@ pub returns : goal.returns
 returns c w valid s =
     let e = c.args.epoch in
     let master = c.in-Some.master.now in
-    let r = s.stand.each e master (sym c.in-Some.ensures.master) in
+    let r = master_here c.parties_run.ensures.masters w c.args.masters.now e master s.stand (sym c.in-Some.ensures) in
     let votes = c.in_ok-votes.votes in
     let fence = c.fence-fence.ensures ∙ ap (λ (h : Kept). h.value.fence) c.hard-hard.ensures in
     let records = c.records.ensures.value ∙ ap (λ (h : Kept). h.value.records) c.hard-hard.ensures in

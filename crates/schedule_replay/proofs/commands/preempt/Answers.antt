@@ -12,6 +12,6 @@ returns-clause-world c =
     let e = c.args.epoch in
     let old = c.args.masters.now in
     let after = c.tell.new.masters in
-    IfOk-weaker c.tell.result (TellsInWorld e Preempt old after) (GovernsMasters e (λ w. commanded w e MakesRoom) old after) (λ answer tells checkpoint w s.
+    IfOk-weaker c.tell.result (TellsInWorld e Preempt old after) (GovernsMasters (λ w. commanded w e MakesRoom) old after) (λ answer tells checkpoint w s.
     let r = runs_in w e (sym (c.if-not-runs.ensures w s.stand)) in
     told_alone w e MakesRoom checkpoint old after r.master s r.is (preempts_written w r.master) answer (tells w MakesRoom s.good s.stand refl)) c.tell.ensures.world

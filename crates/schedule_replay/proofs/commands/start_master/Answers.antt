@@ -1,7 +1,7 @@
 use Rattle.std.proofs.Common.{subst}
 use Rattle.hard_state.specs.HardFiles.{Kept}
 use Rattle.written_roles.specs.HardState.{Raise, hard_step}
-use Rattle.running_masters.specs.MasterCalls.{StartsInWorld}
+use Rattle.party_slots.specs.RunningMasters.{MasterStartInWorld}
 use Rattle.schedule_replay.proofs.MasterCommandsLemmas.{may_step, starts_done, starts_refused}
 use Rattle.schedule_replay.proofs.commands.start_master.Goals as goal
 
@@ -13,12 +13,12 @@ returns-in-Err-write-clause-world c w cluster s =
     starts_refused w e old c.write.new.self c.args.masters.now c.in_ok-written_refusal-in-Err-write.field-0 s (c.in-Ok.ensures.world w s)
     (refusal.refused (hard_step old.hard.value e Raise) c.in-Err-write.ensures.refused) (c.in-Err-write.ensures.unchanged refusal.disk)
 
-pub returns-in-Ok-start-clause-world : goal.returns-in-Ok-start-clause-world
-returns-in-Ok-start-clause-world c w cluster s =
+pub returns-in-Ok-start_master-clause-world : goal.returns-in-Ok-start_master-clause-world
+returns-in-Ok-start_master-clause-world c w cluster s =
     let e = c.args.epoch in
     let new = c.write.new.self in
-    starts_done w e c.args.checkpoint.now new c.args.masters.now c.start.new.self s (c.in-Ok.ensures.world w s) c.in-Ok-write.ensures.ok.0 c.in-Ok-write.ensures.ok.1
-    (subst (λ d. StartsInWorld d new.hard.value e c.args.masters.now c.start.new.self) cluster (subst (λ (h : Kept). StartsInWorld c.args.cluster.now h.value e c.args.masters.now c.start.new.self) c.hard.ensures c.in-Ok-start.ensures.world))
+    starts_done w e c.args.checkpoint.now new c.args.masters.now c.start_master.new.masters s (c.in-Ok.ensures.world w s) c.in-Ok-write.ensures.ok.0 c.in-Ok-write.ensures.ok.1
+    (subst (λ d. MasterStartInWorld d new.hard.value e c.args.masters.now c.start_master.new.masters) cluster (subst (λ (h : Kept). MasterStartInWorld c.args.cluster.now h.value e c.args.masters.now c.start_master.new.masters) c.hard.ensures c.in-Ok-start_master.ensures.world))
 
-pub returns-in-Ok-start-clause-steps : goal.returns-in-Ok-start-clause-steps
-returns-in-Ok-start-clause-steps c = may_step c.args.masters.now c.start.new.self c.in-Ok-start.ensures.steps
+pub returns-in-Ok-start_master-clause-steps : goal.returns-in-Ok-start_master-clause-steps
+returns-in-Ok-start_master-clause-steps c = may_step c.args.masters.now c.start_master.new.masters c.in-Ok-start_master.ensures.within

@@ -26,7 +26,7 @@ returns-in-Err-write-clause-world c w cluster s =
     (refusal.ensures.refused (hard_step c.args.checkpoint.now.hard.value e (Submission c.in-Ok-Ok.job)) c.in-Err-write.ensures.refused) (c.in-Err-write.ensures.unchanged refusal.ensures.disk)
 
 pub tell-requires-clause-fitting : goal.tell-requires-clause-fitting
-tell-requires-clause-fitting c = admit_fits c.args.checkpoint.now c.args.masters.now c.args.epoch c.in-Ok-Ok.job c.write.new.self.hard.value c.requires.governed c.in-Ok.ensures.ok.1
+tell-requires-clause-fitting c = admit_fits c.parties_run.ensures.masters c.args.checkpoint.now c.args.masters.now c.args.epoch c.in-Ok-Ok.job c.write.new.self.hard.value c.requires.governed c.in-Ok.ensures.ok.1
 
 pub returns-clause-world : goal.returns-clause-world
 returns-clause-world c =
@@ -37,6 +37,6 @@ returns-clause-world c =
     let old = c.args.masters.now in
     let after = c.tell.new.masters in
     let named = subst (λ answer. IfOk answer (λ job. job ≡ eight_places j)) c.in-Ok-Ok.field-0-is c.in-Ok-Ok.ensures.job in
-    IfOk-weaker c.tell.result (TellsInWorld e (Admit job) old after) (GovernsOn c.args.cluster.now e (λ w. commanded w e (Submits j)) (governing checkpoint old) (governing c.write.new.self after)) (λ answer tells w cluster s.
+    IfOk-weaker c.tell.result (TellsInWorld e (Admit job) old after) (GovernsOn c.args.cluster.now (λ w. commanded w e (Submits j)) (governing checkpoint old) (governing c.write.new.self after)) (λ answer tells w cluster s.
     let may = subst (SubmitsIn w e j) c.in-Ok-Ok.field-0-is (c.in-Ok-Ok.ensures.world w cluster s.stand) in
     written_done w e (Submits j) (Submission job) checkpoint c.write.new.self old after may s c.in-Ok.ensures.ok.0 c.in-Ok.ensures.ok.1 answer (tells w (Submits j) s.good s.stand (submit_told j job named))) c.tell.ensures.world

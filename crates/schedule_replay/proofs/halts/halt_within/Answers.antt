@@ -7,12 +7,12 @@ use Rattle.schedule_replay.proofs.halts.halt_within.Goals as goal
 pub returns-in-Ok-clause-world : goal.returns-in-Ok-clause-world
 returns-in-Ok-clause-world c w x s named writes =
     let stop = c.args.stop in
-    let left = c.stop-ran.ensures.world w s.stand in
-    halt_done w x c.args.epoch stop.calls stop.all c.in-Ok.written (event_of c.args.writing.now) c.args.checkpoint.now c.halt.new.self c.args.masters.now c.stop-ran.new.self s named writes
+    let left = c.stop_master-ran.ensures.world w s.stand in
+    halt_done w x c.args.epoch stop.calls stop.all c.in-Ok.written (event_of c.args.writing.now) c.args.checkpoint.now c.halt.new.self c.args.masters.now c.stop_master-ran.new.masters s named writes
     c.requires.within.few c.in-Ok.ensures.counts c.in-Ok.ensures.open c.in-Ok.ensures.left left.left
 
 pub returns-in-Ok-clause-steps : goal.returns-in-Ok-clause-steps
-returns-in-Ok-clause-steps c = may_step c.args.masters.now c.stop-ran.new.self c.stop-ran.ensures.steps
+returns-in-Ok-clause-steps c = may_step c.args.masters.now c.stop_master-ran.new.masters c.stop_master-ran.ensures.within
 
 pub returns-in_ok-refusal-in-Err-clause-world : goal.returns-in_ok-refusal-in-Err-clause-world
 returns-in_ok-refusal-in-Err-clause-world c w x s named writes =

@@ -24,6 +24,6 @@ returns c =
           (subst (λ r. ActsOnce step now new before after r) (sym v.result-is)
           (once_if step now new before after (after ≡ before ++ lines_text (Judged m c.args.votes ∷ [])) v.write_judged.result v.write_judged.ensures.ok v.write_judged.ensures.err (λ text.
           subst (λ r. IsActedOnce step r new before after) c.running.view_is
-          (bans_one c.masters_act.ensures c.args.epoch m c.args.votes old c.give_order.new.checkpoint c.give_order.new.masters v.in-Ok.field-0 before after v.in-Ok.ensures.world v.in-Ok.ensures.steps text))))
+          (bans_one c.masters_act.ensures.orders c.args.epoch m c.args.votes old c.give_order.new.checkpoint c.give_order.new.masters v.in-Ok.field-0 before after v.in-Ok.ensures.world v.in-Ok.ensures.steps text))))
       | in-Err v ↦ subst (λ r. ActsOnce step now new before c.match-give_order.out.items r) (sym v.result-is) (λ limit. tt)
     ]

@@ -23,6 +23,6 @@ returns c =
           (subst (λ r. Acts step now new before after r) (sym v.result-is)
           (acts_by step now new before after _ v.write_refusal.result v.write_refusal.ensures.ok v.write_refusal.ensures.err (λ text.
           subst (λ r. IsActed step r new before after) c.running.view_is
-          (governed_on c.masters_act.ensures c.args.epoch step old c.give_order.new.checkpoint c.give_order.new.masters v.in-Ok.refusal before after v.in-Ok.ensures.world v.in-Ok.ensures.steps text))))
+          (governed_on c.masters_act.ensures.orders step old c.give_order.new.checkpoint c.give_order.new.masters v.in-Ok.refusal before after v.in-Ok.ensures.world v.in-Ok.ensures.steps text))))
       | in-Err v ↦ subst (λ r. Acts step now new before c.match-give_order.out.items r) (sym v.result-is) (λ w is s. tt)
     ]

@@ -26,6 +26,6 @@ returns c =
           (subst (λ r. Acts step now new before after r) (sym v.result-is)
           (acts_by step now new before after _ v.write_line.result v.write_line.ensures.ok v.write_line.ensures.err (λ text.
           subst (λ r. IsActed step r new before after) c.running.view_is
-          (halted_on c.masters_act.ensures x c.args.stop old held masters v.in-Ok.printed before after v.in-Ok.ensures.world v.in-Ok.ensures.steps text))))
+          (halted_on c.masters_act.ensures.orders x c.args.stop old held masters v.in-Ok.printed before after v.in-Ok.ensures.world v.in-Ok.ensures.steps text))))
       | in-Err v ↦ subst (λ r. Acts step now new before c.match-halt.out.items r) (sym v.result-is) (λ w is s. tt)
     ]

@@ -24,6 +24,6 @@ returns c =
           (subst (λ r. Acts step now new before after r) (sym v.result-is)
           (acts_by step now new before after _ v.write_refusal.result v.write_refusal.ensures.ok v.write_refusal.ensures.err (λ text.
           subst (λ r. IsActed step r new before after) c.running.view_is
-          (governed_on c.masters_act.ensures c.args.epoch step old held masters v.in-Ok.refusal before after (v.in-Ok.ensures.world) v.in-Ok.ensures.steps text))))
+          (governed_on c.masters_act.ensures.orders step old held masters v.in-Ok.refusal before after (v.in-Ok.ensures.world) v.in-Ok.ensures.steps text))))
       | in-Err v ↦ subst (λ r. Acts step now new before c.match-start_master.out.items r) (sym v.result-is) (λ w is s. tt)
     ]

@@ -18,4 +18,4 @@ returns c =
     let after = c.write_refusal.new.out.items in
     acts_by step now new before after _ c.write_refusal.result c.write_refusal.ensures.ok c.write_refusal.ensures.err (λ text.
     subst (λ r. IsActed step r new before after) c.running.view_is
-    (governed c.masters_act.ensures c.args.epoch step old old.checkpoint masters c.stop_master-refusal.result before after (c.stop_master-refusal.ensures.world old.checkpoint) c.stop_master-refusal.ensures.steps text))
+    (governed c.masters_act.ensures.orders step old old.checkpoint masters c.stop_master-refusal.result before after (c.stop_master-refusal.ensures.world old.checkpoint) c.stop_master-refusal.ensures.steps text))

@@ -1,7 +1,21 @@
 use Rattle.std.proofs.Common.{sym}
-use Rattle.party_slots.proofs.SlotsLemmas.{turned_here}
+use Rattle.party_slots.proofs.SlotsLemmas.{put_back, turned_here, turned_none, within_none, within_put, within_still}
+use Rattle.party_slots.specs.Slots.{boot_at}
 use Rattle.party_slots.proofs.slots.Slots.turn.Goals as goal
+
+pub returns-in_default-clause-world : goal.returns-in_default-clause-world
+returns-in_default-clause-world g c = turned_none g.P.Party.stands c.parties_join.ensures.turns c.args.number c.args.self.now c.take.new.self (sym c.in_default.ensures.was) c.in_default.ensures.none
+
+pub returns-in_default-clause-within : goal.returns-in_default-clause-within
+returns-in_default-clause-within g c = λ most. within_still g.P.Party.steps c.args.number most c.args.self.now c.take.new.self c.in_default.ensures.none
+
+pub returns-in-Err-clause-within : goal.returns-in-Err-clause-within
+returns-in-Err-clause-within g c = let n = c.args.number in let old = c.args.self.now in λ most. within_none g.P.Party.steps n (boot_at old n) most old c.take.new.self c.in-Some.ensures.some
 
 pub returns-clause-world : goal.returns-clause-world
 returns-clause-world g c =
-    turned_here g.P.Party.stands c.parties_join.ensures.turns c.args.number c.args.self.now c.in-Some.party.now c.in_ok-packets.packets (sym c.in-Some.ensures) c.in_ok-packets.ensures.sends
+    let out = put_back c.args.number (boot_at c.args.self.now c.args.number) c.in-Ok.both.0 c.args.self.now c.take.new.self c.put.new.self c.in-Some.ensures.some c.put.ensures in
+    turned_here g.P.Party.stands c.parties_join.ensures.turns c.args.number c.in-Ok.both.1 c.in-Some.party c.in-Ok.both.0 c.args.self.now c.put.new.self (sym c.in-Some.ensures.was) out c.in-Ok.ensures.sends
+
+pub returns-clause-within : goal.returns-clause-within
+returns-clause-within g c = λ most. within_put g.P.Party.steps c.args.number most c.in-Some.party c.in-Ok.both.0 c.args.self.now c.take.new.self c.put.new.self (sym c.in-Some.ensures.was) c.in-Some.ensures.some c.put.ensures c.in-Ok.ensures.steps

@@ -1,0 +1,247 @@
+-- Masters in their slots.
+use Rattle.std.proofs.Common.{◌≡◌, ℕ, ◌<◌, ◌≤◌, Bool, true, false, cond, not, nat_eq, List, [], ◌∷◌, map, Option, Some, None, is_some, Result, Ok, Err, refl, sym, ◌∙◌, ap, subst, arith}
+use Rattle.std.specs.Prelude.{OnOk, T, ◌&&◌, ◌||◌}
+use Rattle.std.specs.List.{AllByRecursion, list_any}
+use Rattle.std.specs.List.Sorted.{IsStrictlySortedBy}
+use Rattle.std.specs.Map.{keys_of, lookup}
+use Rattle.std.specs.BTreeMap.{is_at}
+use Rattle.std.proofs.lemmas.Map.Lookups.{btree_set_from_contains, exact_unsigned}
+use Rattle.std.specs.Option.{option_map}
+use Rattle.std.specs.Ordering.{nat_cmp, is_eq, is_lt}
+use Rattle.std.specs.declared.cmp.Ordering.TheVariants.{Less}
+use Rattle.std.specs.Cmp.{nat_cmp_total, unsigned_tied}
+use Rattle.std.specs.FinMap.Entries.{find, where_key, is_sorted, below_all, is_some-find, find-where_key}
+use Rattle.fuxi_terms.specs.declared.OutOfMemory.{OutOfMemory}
+use Rattle.fuxi_terms.specs.declared.answers.What.{What}
+use Rattle.fuxi_terms.specs.Cluster.{ClusterRecord}
+use Rattle.fuxi_terms.specs.Counts.{then_do}
+use Rattle.fuxi_terms.proofs.Booleans.{eq_turned, nat_itself, number_is}
+use Rattle.fuxi_terms.proofs.CountsLemmas.{both_true, lesser}
+use Rattle.fuxi_terms.proofs.Lookups.{none_is}
+use Rattle.party_ledgers.specs.declared.packets.Heard.{Heard}
+use Rattle.party_ledgers.specs.declared.packets.Packet.{Packet}
+use Rattle.core_side.specs.Parcels.{parcel_is}
+use Rattle.written_net.specs.Sides.{Parcel}
+use Rattle.written_roles.specs.HardState.{HardState}
+use Rattle.written_roles.specs.Masters.{Master}
+use Rattle.written_roles.specs.MasterRoles.{MasterRole, Told, Sent as SentAs, HeardAs, changes_as, master_changed, master_commanded, master_started, master_steps_alone}
+use Rattle.written_roles.specs.MasterSteps.{Changed, change_of, MasterCommand, Submits, Finishes, BansMachine, UnbansMachine, StartsServing, MakesRoom, command_of}
+use Rattle.written_roles.specs.Refusals.{Refusal, NotRunning, with_found}
+use Rattle.written_world.specs.World.{World, Step, prints_nothing, refused}
+use Rattle.written_world.specs.Good.{Good}
+use Rattle.written_world.specs.Events.{commanded, without_master}
+use Rattle.written_join.specs.SeenWorlds.{master_seen}
+use Rattle.fuxi_master.specs.Cores.{CoreRecord, MasterRecord, StandsFor}
+use Rattle.fuxi_master.specs.Steps.{Answers, StepsAlike, answer_of, refusal_of, told_by}
+use Rattle.fuxi_master.specs.declared.event.MasterEvent.{MasterEvent}
+use Rattle.fuxi_master.specs.declared.event.MasterEvent.TheVariants.{Packet as PacketComes, Turn, Resync}
+use Rattle.fuxi_master.specs.declared.event.MasterRefusal.{MasterRefusal}
+use Rattle.fuxi_master.specs.declared.event.Outcome.{Outcome}
+use Rattle.fuxi_master.specs.declared.event.Outcome.TheVariants.{Done, Refused, Sent, Heard as HeardOne}
+use Rattle.written_parties.specs.SeenParties.{Role, OfMaster, OfAgent, OfApp, Masters, hears, resynced, seen, GovernsAs, Governs, MasterStarts, master_after}
+use Rattle.party_slots.specs.PartyAnswers.{Hears, Sends}
+use Rattle.party_slots.specs.Slots.{SlotsRecord, entry_at, slot_at, boot_at, IsSet, IsStill, IsGone, StandsAt, StartInWorld}
+use Rattle.party_slots.specs.RunningMasters.{MasterStands, AreMastersOf, MasterAt, MasterStartInWorld, StopInWorld, change_in, IsWritten, CommandsIn, CommandInWorld, done_in, epochs_of}
+use Rattle.party_slots.proofs.SlotsLemmas.{stand_set, stand_still, stand_same, stand_gone, at_slot}
+
+-- What a master answers. A packet was heard so
+record IsHeardAs (o : Outcome) (new : Bool) (word : What) : Type 0 where
+  heard : Heard
+  answers : o ≡ HeardOne heard
+  fresh : heard.fresh ≡ new
+  says : heard.what ≡ word
+
+heard_as : (o : Outcome) (new : Bool) (word : What) → answer_of o ≡ HeardAs new word → IsHeardAs o new word
+heard_as Done new word e = cc
+heard_as (Refused f) new word e = cc
+heard_as (Sent packets) new word e = cc
+heard_as (HeardOne heard) new word e = record { heard = heard; answers = refl; fresh = cc; says = cc }
+
+-- these packets were sent
+record IsSent (o : Outcome) (parcels : List Parcel) : Type 0 where
+  packets : List Packet
+  answers : o ≡ Sent packets
+  same : map parcel_is packets ≡ parcels
+
+sent_as : (o : Outcome) (parcels : List Parcel) → answer_of o ≡ SentAs parcels → IsSent o parcels
+sent_as Done parcels e = cc
+sent_as (Refused f) parcels e = cc
+sent_as (Sent packets) parcels e = record { packets = packets; answers = refl; same = cc }
+sent_as (HeardOne heard) parcels e = cc
+
+pub hears_role : (packet : Packet) (old new : MasterRecord) (o : Outcome) (heard : Heard) → StepsAlike (PacketComes packet) old.core new.core o → ((h : Heard) → o ≡ HeardOne h → heard ≡ h)
+    → (r : Role) → MasterStands old r → Hears (MasterStands new) (hears r (parcel_is packet)) heard
+hears_role packet old new o heard steps reads (OfMaster r) s =
+    let a = steps r s in
+    let h = heard_as o _ _ a.says in
+    let is = reads h.heard h.answers in
+    record { role = a.role; fresh = ap (λ (x : Heard). x.fresh) is ∙ h.fresh; says = ap (λ (x : Heard). x.what) is ∙ h.says }
+hears_role packet old new o heard steps reads (OfAgent r) s = absurd s
+hears_role packet old new o heard steps reads (OfApp r) s = absurd s
+
+pub sends_role : (old new : MasterRecord) (o : Outcome) (packets : List Packet) → StepsAlike Turn old.core new.core o → ((ps : List Packet) → o ≡ Sent ps → packets ≡ ps) → (r : Role) → MasterStands old r → Sends (MasterStands new) r packets
+sends_role old new o packets steps reads (OfMaster r) s =
+    let a = steps r s in
+    let h = sent_as o _ a.says in
+    record { role = a.role; says = ap (map parcel_is) (reads h.packets h.answers) ∙ h.same }
+sends_role old new o packets steps reads (OfAgent r) s = absurd s
+sends_role old new o packets steps reads (OfApp r) s = absurd s
+
+pub resyncs_role : (old new : MasterRecord) (o : Outcome) → StepsAlike Resync old.core new.core o → (r : Role) → MasterStands old r → MasterStands new (resynced r)
+resyncs_role old new o steps (OfMaster r) s = (steps r s).role
+resyncs_role old new o steps (OfAgent r) s = absurd s
+resyncs_role old new o steps (OfApp r) s = absurd s
+
+-- who runs
+pub master_at : (w : World) (e : ℕ) (o : Option MasterRecord) → StandsAt MasterStands o (seen w Masters e) → MasterAt w e o
+master_at w e o s = by (find nat_cmp e w.masters) refl o s
+  where
+    by : (f : Option Master) → find nat_cmp e w.masters ≡ f → (o : Option MasterRecord) → StandsAt MasterStands o (option_map (λ M. OfMaster (master_seen w M)) f) → MasterAt w e o
+    by None is None s = is
+    by None is (Some m) s = absurd s
+    by (Some M) is None s = absurd s
+    by (Some M) is (Some m) s = record { master = M; runs = is; stands = s }
+
+-- Starts
+pub master_started_in : ((w : World) (h : HardState) (e : ℕ) → Good w → w.hard.fence < e → MasterStarts w h e) → (c : ClusterRecord) (h : HardState) (e : ℕ) (m : MasterRecord) (old new : SlotsRecord MasterRecord) (result : Result (Unit {0}) OutOfMemory)
+    → StandsFor m.core (master_started c h e) → OnOk result (StartInWorld MasterStands e m 0 old new) → OnOk result (MasterStartInWorld c h e old new)
+master_started_in join c h e m old new (Err fault) stands start = tt
+master_started_in join c h e m old new (Ok done) stands start = λ w good s cluster later.
+    let x = join w h e good later in
+    record { stand = start w (master_after w h e) Masters (OfMaster (master_started w.cluster h e)) s x (subst (λ k. StandsFor m.core (master_started k h e)) cluster stands); acts = x.acts }
+
+-- Stops
+ties : (a b : ℕ) → is_eq (nat_cmp a b) ≡ nat_eq a b
+ties a b = unsigned_tied a b
+
+turned : {X : Type 0} (b : Bool) (o : Option X) → cond (not b) o None ≡ cond b None o
+turned true o = refl
+turned false o = refl
+
+-- what is found after a key is gone
+find_without : {X : Type 0} (es : List (ℕ × X)) (e q : ℕ) → find nat_cmp q (where_key nat_cmp (λ k. not (nat_eq k e)) es) ≡ cond (nat_eq q e) None (find nat_cmp q es)
+find_without es e q =
+    find-where_key nat_cmp (λ k. not (nat_eq k e)) q (λ x t. ap (λ k. not (nat_eq k e)) (sym (number_is q x (sym (ties q x) ∙ ap is_eq t)))) es ∙ turned (nat_eq q e) (find nat_cmp q es)
+
+abbrev seen_as : World → Option Master → Option Role
+seen_as w o = option_map (λ M. OfMaster (master_seen w M)) o
+
+left_over : (w : World) (e : ℕ) (h : HardState) (old new : SlotsRecord MasterRecord) → AreMastersOf w old → IsGone e old new → AreMastersOf (without_master w e h) new
+left_over w e h old new s gone = stand_gone MasterStands w (without_master w e h) Masters e old new s
+    (ap (seen_as w) (find_without w.masters e e ∙ ap (λ b. cond b None (find nat_cmp e w.masters)) (nat_itself e)))
+    (λ m other. ap (seen_as w) (find_without w.masters e m ∙ ap (λ b. cond b None (find nat_cmp m w.masters)) (eq_turned m e ∙ other)))
+    refl (λ m other. refl) gone
+
+-- for whom there is a slot runs, and no other
+alike : (o : Option MasterRecord) (r : Option Role) → StandsAt MasterStands o r → is_some o ≡ is_some r
+alike None None s = refl
+alike None (Some r) s = absurd s
+alike (Some m) None s = absurd s
+alike (Some m) (Some r) s = refl
+
+some_seen : (w : World) (o : Option Master) → is_some (seen_as w o) ≡ is_some o
+some_seen w None = refl
+some_seen w (Some M) = refl
+
+pub slots_alike : (w : World) (x : SlotsRecord MasterRecord) (e : ℕ) → AreMastersOf w x → is_some (entry_at x e) ≡ is_some (find nat_cmp e w.masters)
+slots_alike w x e s = s.full e ∙ alike (slot_at x e) (seen w Masters e) (s.each e) ∙ some_seen w (find nat_cmp e w.masters)
+
+stopped : World → ℕ → Option Master → Step
+stopped w e o = with_found o (refused w NotRunning) (λ M. prints_nothing (record w { masters = where_key nat_cmp (λ k. not (nat_eq k e)) w.masters }))
+
+left : (w : World) (e : ℕ) (old new : SlotsRecord MasterRecord) (o : Option Master) → AreMastersOf w old → IsGone e old new → find nat_cmp e w.masters ≡ o → AreMastersOf (stopped w e o).world new
+unfolding stopped
+left w e old new (Some M) s gone is = left_over w e w.hard old new s gone
+left w e old new None s gone is =
+    let none : entry_at old e ≡ None = none_is _ (slots_alike w old e s ∙ ap is_some is) in
+    stand_same MasterStands w Masters e old new s (record { here = gone.here ∙ sym none; others = gone.others })
+
+pub stop_in : (e : ℕ) (old new : SlotsRecord MasterRecord) (b : Bool) → IsGone e old new → b ≡ is_some (entry_at old e) → StopInWorld e old new b
+unfolding stopped
+stop_in e old new b gone is w s = record { stand = left w e old new (find nat_cmp e w.masters) s gone refl; left = λ h. left_over w e h old new s gone; answers = is ∙ slots_alike w old e s }
+
+-- Commands
+abbrev pub GovernsJoin : Type 0
+GovernsJoin = (w : World) (e : ℕ) (x : MasterCommand) → Good w → Governs w e x (seen w Masters e)
+
+-- a command whose change is refused is refused so: nothing is written before it
+refused_as : (c : ClusterRecord) (h : HardState) (M : Master) (x : MasterCommand) (f : Refusal) → change_of c M (change_in x) ≡ Err f → command_of c h M x ≡ Err f
+refused_as c h M (Submits j) f e = cc
+refused_as c h M (Finishes a) f e = cc
+refused_as c h M (BansMachine m) f e = cc
+refused_as c h M (UnbansMachine m) f e = cc
+refused_as c h M StartsServing f e = ap (λ o. then_do o (λ d. Ok (record { hard = h; change = d }))) e
+refused_as c h M MakesRoom f e = ap (λ o. then_do o (λ d. Ok (record { hard = h; change = d }))) e
+
+-- what holds of an outcome where the change is made and where it is refused, by what was answered
+by_answer : (P : Result (Unit {0}) MasterRefusal → Type 0) (r : MasterRole) (new : CoreRecord) (c : Result Changed Refusal) (o : Outcome) → ((d : Changed) → c ≡ Ok d → StandsFor new (master_changed r d) → P (Ok tt))
+    → ((f : MasterRefusal) → c ≡ Err (refusal_of f) → StandsFor new r → P (Err f)) → Answers new o (changes_as r c) → P (done_in o)
+by_answer P r new (Ok d) Done f g a = f d refl a.role
+by_answer P r new (Ok d) (Refused k) f g a = let says = a.says in absurd cc
+by_answer P r new (Ok d) (Sent packets) f g a = let says = a.says in absurd cc
+by_answer P r new (Ok d) (HeardOne heard) f g a = let says = a.says in absurd cc
+by_answer P r new (Err e) Done f g a = let says = a.says in absurd cc
+by_answer P r new (Err e) (Refused k) f g a = let says = a.says in g k (cc) a.role
+by_answer P r new (Err e) (Sent packets) f g a = let says = a.says in absurd cc
+by_answer P r new (Err e) (HeardOne heard) f g a = let says = a.says in absurd cc
+
+same_master : (M N : Master) (o : Option Master) → o ≡ Some M → o ≡ Some N → N ≡ M
+same_master M N o e f = let g = sym e ∙ f in cc
+
+abbrev CommandsAs : World → ℕ → MasterCommand → SlotsRecord MasterRecord → Result (Unit {0}) MasterRefusal → Type 0
+CommandsAs w e x new answer = CommandsIn w e x new (Some answer)
+
+pub commanded_here : GovernsJoin → (e : ℕ) (event : MasterEvent) (outcome : Outcome) (p q : MasterRecord) (old new : SlotsRecord MasterRecord) → slot_at old e ≡ Some p → IsSet e (Some q) (boot_at old e) old new → StepsAlike event p.core q.core outcome
+    → CommandInWorld e event old new (Some (done_in outcome))
+commanded_here join e event outcome p q old new was set core w x good s told = by (find nat_cmp e w.masters) refl (at_slot MasterStands w Masters e (Some p) old s was) (join w e x good)
+  where
+    by : (o : Option Master) → find nat_cmp e w.masters ≡ o → StandsAt MasterStands (Some p) (seen_as w o) → Governs w e x (seen_as w o) → CommandsIn w e x new (Some (done_in outcome))
+    by None is st h = absurd st
+    by (Some M) is st h =
+        let r = master_seen w M in
+        let runs : seen w Masters e ≡ Some (OfMaster r) = ap (seen_as w) is in
+        by_answer (CommandsAs w e x new) r q.core (change_of w.cluster M (change_in x)) outcome
+        (λ d change now N k there written.
+        let is_written : command_of w.cluster w.hard M x ≡ Ok (record { hard = k; change = d }) = subst (λ N. IsWritten w N x k) (same_master M N _ is there) written d change in
+        let done = subst (GovernsAs w e (commanded w e x)) (ap (λ o. then_do o (λ y. Ok (master_changed r y.change, y.hard))) is_written) h in
+        record {
+          stand = stand_set MasterStands w _ Masters e (OfMaster (master_changed r d)) [] q (boot_at old e) old new s done.acts (s.last e) now set;
+          role = OfMaster (master_changed r d);
+          acts = done.acts;
+          hard = done.hard;
+          quiet = done.lines;
+        })
+        (λ f change now. record {
+          stand = stand_still MasterStands w Masters e (OfMaster r) q old new s runs now set;
+          same = subst (GovernsAs w e (commanded w e x)) (ap (λ o. then_do o (λ y. Ok (master_changed r y.change, y.hard))) (refused_as w.cluster w.hard M x (refusal_of f) change)) h;
+        })
+        (subst (λ t. Answers q.core outcome (master_steps_alone r t)) told (core r st))
+
+pub commanded_none : GovernsJoin → (e : ℕ) (event : MasterEvent) (old new : SlotsRecord MasterRecord) → slot_at old e ≡ None → IsStill e old new → CommandInWorld e event old new None
+commanded_none join e event old new was still w x good s told = by (find nat_cmp e w.masters) (at_slot MasterStands w Masters e None old s was) (join w e x good)
+  where
+    by : (o : Option Master) → StandsAt MasterStands None (seen_as w o) → Governs w e x (seen_as w o) → CommandsIn w e x new None
+    by None st h = record { same = h; stand = stand_same MasterStands w Masters e old new s still }
+    by (Some M) st h = absurd st
+
+-- Epochs, of two lists in order with the same ones
+rises : (es : List (ℕ × Master)) → T (is_sorted nat_cmp es) → IsStrictlySortedBy nat_cmp (epochs_of es)
+unfolding IsStrictlySortedBy
+rises [] h = tt
+rises (e ∷ es) h = let b = both_true (below_all nat_cmp e.0 es) _ h in (above e.0 es b.0, rises es b.1)
+  where
+    above : (n : ℕ) (es : List (ℕ × Master)) → T (below_all nat_cmp n es) → AllByRecursion (λ y. nat_cmp n y ≡ Less) (epochs_of es)
+    above n [] h = tt
+    above n (f ∷ es) h = let b = both_true (is_lt (nat_cmp n f.0)) _ h in (lesser _ b.0, above n es b.1)
+
+looked_up : {X : Type 0} (test : ℕ → Bool) (es : List (ℕ × X)) → list_any test (keys_of es) ≡ is_some (lookup test es)
+looked_up test [] = refl
+looked_up {X} test (e ∷ es) = by (test e.0) (looked_up test es)
+  where
+    by : (b : Bool) → list_any test (keys_of es) ≡ is_some (lookup test es) → (b || list_any test (keys_of es)) ≡ is_some (cond b (Some e.1) (lookup test es))
+    by true rest = refl
+    by false rest = rest
+
+pub epochs_same : (w : World) (x : SlotsRecord MasterRecord) → T (is_sorted nat_cmp w.masters) → IsStrictlySortedBy nat_cmp (keys_of x.slots) → AreMastersOf w x → epochs_of w.masters ≡ keys_of x.slots
+epochs_same w x sorted rising s = btree_set_from_contains nat_cmp_total (record { keys = epochs_of w.masters }) (record { keys = keys_of x.slots }) (rises w.masters sorted) rising
+    (λ e. sym (is_some-find nat_cmp e w.masters) ∙ sym (slots_alike w x e s) ∙ sym (looked_up (is_at (nat_cmp e)) x.slots)) exact_unsigned

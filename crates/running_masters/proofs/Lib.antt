@@ -1,4 +1,0 @@
-pub mod Entries
-pub mod MastersStay
-pub mod StartsAndStops
-pub mod MasterCallsLemmas

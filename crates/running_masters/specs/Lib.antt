@@ -1,3 +1,0 @@
-pub mod RunningMasters
-pub mod MasterCalls
-pub mod Inside
