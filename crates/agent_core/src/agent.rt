@@ -12,7 +12,7 @@ ghost use Rattle.agent_core.specs.AgentCores.{StandsFor, table_in};
 ghost use Rattle.agent_core.specs.Answering.{AnswersAlike, SendsAlike, ResyncsAlike, Steps};
 
 use crate::limit::RowLimit;
-use core_side::{Limit, Side, strangers_change_nothing};
+use core_side::{Limit, Side, law};
 use delta_channel::Place;
 use ledger_law::{Ledger, OutOfMemory};
 use party_ledgers::{Heard, JoinLedger, Kind, Packet, Packets, RowLedger, What};
@@ -94,7 +94,7 @@ impl Agent {
     {
         self.steps += 1;
         if !is_for(packet, self.machine) {
-            strangers_change_nothing();
+            law::strangers_change_nothing();
             return Ok((self, STRANGER));
         }
         if packet.from.inc <= self.up.peer() {

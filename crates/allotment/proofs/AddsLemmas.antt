@@ -5,7 +5,7 @@ use Rattle.std.specs.FinMap.Entries.{is_sorted}
 use Rattle.std.proofs.lemmas.Bool.Decides.{nat_tests}
 use Rattle.fuxi_terms.specs.Cluster.{ClusterRecord}
 use Rattle.fuxi_terms.specs.Counts.{count}
-use Rattle.fuxi_terms.specs.Keys.{spot_cmp}
+use Rattle.fuxi_terms.specs.Keys.{spot_cmp, Pair}
 use Rattle.fuxi_terms.specs.Tables.{spot, held}
 use Rattle.fuxi_terms.proofs.Booleans.{both_true, and_true, number_is, nat_itself, or_right}
 use Rattle.written_roles.specs.Masters.{Master, asked, out_of}
@@ -16,12 +16,12 @@ use Rattle.allotment.specs.PlacingReads.{IsPlacing}
 use Rattle.allotment.specs.Allotted.{AllotmentRecord, AllWait, Adds, told_at}
 use Rattle.allotment.proofs.Fewer.{HeldLaw, set_touched}
 
-abbrev is_pair : ℕ → ℕ → ℕ × ℕ → Bool
+abbrev is_pair : ℕ → ℕ → Pair → Bool
 is_pair a u p = nat_eq p.0 a && nat_eq p.1 u
 
 -- where all others pass a test, those that pass it are all of them, or all others
-kept_line : (test : ℕ × ℕ → Bool) (a u : ℕ) (line : List (ℕ × ℕ)) → ((p : ℕ × ℕ) → has_pair p line ≡ true → is_pair a u p ≡ false → test p ≡ true) → filter test line ≡ cond (test (a, u)) line (filter (λ p. not (is_pair a u p)) line)
-kept_line test a u [] h = elim (test (a, u)) as (λ b. ◌≡◌ {A = List (ℕ × ℕ)} [] (cond b [] [])) [ true ↦ refl | false ↦ refl ]
+kept_line : (test : Pair → Bool) (a u : ℕ) (line : List Pair) → ((p : Pair) → has_pair p line ≡ true → is_pair a u p ≡ false → test p ≡ true) → filter test line ≡ cond (test (a, u)) line (filter (λ p. not (is_pair a u p)) line)
+kept_line test a u [] h = elim (test (a, u)) as (λ b. ◌≡◌ {A = List Pair} [] (cond b [] [])) [ true ↦ refl | false ↦ refl ]
 kept_line test a u (p ∷ ps) h =
     let rest = kept_line test a u ps (λ q e f. h q (or_right (nat_eq q.0 p.0 && nat_eq q.1 p.1) (has_pair q ps) e) f) in
     by (is_pair a u p) refl rest
@@ -48,7 +48,7 @@ kept_line test a u (p ∷ ps) h =
         ap (λ b. cond b (p ∷ filter test ps) (filter test ps)) (h p here e) ∙ stays (test (a, u)) r
         ∙ ap (λ b. cond (test (a, u)) (p ∷ ps) (cond (not b) (p ∷ filter (λ p. not (is_pair a u p)) ps) (filter (λ p. not (is_pair a u p)) ps))) (sym e)
 
-passes : (test : ℕ × ℕ → Bool) (line : List (ℕ × ℕ)) (a u : ℕ) → has_pair (a, u) (filter test line) ≡ true → test (a, u) ≡ true
+passes : (test : Pair → Bool) (line : List Pair) (a u : ℕ) → has_pair (a, u) (filter test line) ≡ true → test (a, u) ≡ true
 passes test [] a u e = cc
 passes test (p ∷ ps) a u e = by (passes test ps a u) (test p) refl e (nat_eq a p.0 && nat_eq u p.1) refl
   where
@@ -65,7 +65,7 @@ same_held true x y n k f e = cc
 same_held false x y n k f e = omega (arith, e)
 
 -- where all that pass one test pass another, a list that was tested by the other passes the one alike
-pub filter_twice : (q w : ℕ × ℕ → Bool) (line : List (ℕ × ℕ)) → ((p : ℕ × ℕ) → q p ≡ true → w p ≡ true) → filter q (filter w line) ≡ filter q line
+pub filter_twice : (q w : Pair → Bool) (line : List Pair) → ((p : Pair) → q p ≡ true → w p ≡ true) → filter q (filter w line) ≡ filter q line
 filter_twice q w [] h = refl
 filter_twice q w (p ∷ ps) h = by (filter_twice q w ps h) (w p) refl (q p) refl
   where
@@ -82,10 +82,10 @@ module _ (law : HeldLaw) (t : TableRecord) (s : SeenRecord) (sorted : T (is_sort
   abbrev pub hears : SeenRecord
   hears = record s { line = line_told s with_more a u }
 
-  abbrev waits : ℕ × ℕ → Bool
+  abbrev waits : Pair → Bool
   waits p = nat_lt 0 (out_of (asks_seen s) with_more.entries p.0 p.1)
 
-  others_wait : (p : ℕ × ℕ) → has_pair p s.line ≡ true → is_pair a u p ≡ false → waits p ≡ true
+  others_wait : (p : Pair) → has_pair p s.line ≡ true → is_pair a u p ≡ false → waits p ≡ true
   others_wait p e f =
       let some = wait p.0 p.1 e in
       let l = law t.entries (spot a u m) (count spot_cmp t.entries (spot a u m) + n) p.0 p.1 sorted in
@@ -122,7 +122,7 @@ module _ (law : HeldLaw) (t : TableRecord) (s : SeenRecord) (sorted : T (is_sort
         racks = h.racks;
         avoids = h.avoids;
         usable = h.usable;
-        line = line_is ∙ (λ i. filter (λ (p : ℕ × ℕ). nat_lt 0 (h.wants p.0 p.1 i - held (with_count (entries i) (spot a u m) n) p.0 p.1)) (line i));
+        line = line_is ∙ (λ i. filter (λ (p : Pair). nat_lt 0 (h.wants p.0 p.1 i - held (with_count (entries i) (spot a u m) n) p.0 p.1)) (line i));
       }
 
   pub more_wait : (b v : ℕ) → has_pair (b, v) hears.line ≡ true → 0 < out_of (asks_seen hears) with_more.entries b v

@@ -12,10 +12,10 @@ use Rattle.std.proofs.lemmas.List.Sums.{sum_by-cons}
 use Rattle.fuxi_terms.specs.Cluster.{ClusterRecord, has_at, is_vector_of, are_quantities}
 use Rattle.fuxi_terms.specs.Counts.{count, set_count}
 use Rattle.fuxi_terms.specs.Jobs.{KnownJob, unit_count, size_at}
-use Rattle.fuxi_terms.specs.Keys.{RowKey, row_cmp, Spot, spot_cmp}
+use Rattle.fuxi_terms.specs.Keys.{RowKey, row_cmp, Spot, spot_cmp, Pair}
 use Rattle.fuxi_terms.specs.Limits.{greatest_count, most_jobs, most_units, most_resources}
 use Rattle.fuxi_terms.specs.Rows.{IsRow, is_row_key, greatest_row, row_total}
-use Rattle.fuxi_terms.specs.Tables.{spot, held_on, total_at}
+use Rattle.fuxi_terms.specs.Tables.{spot, held_on, total_at, Table}
 use Rattle.fuxi_terms.specs.Totals.{total_of}
 use Rattle.fuxi_terms.specs.Vectors.{at_place, is_zero, times}
 use Rattle.fuxi_terms.proofs.Booleans.{both_true, number_is, nat_itself, eq_turned, or_right}
@@ -53,25 +53,25 @@ turned a u m e f = by (nat_eq a e.0.job && (nat_eq u e.0.unit && nat_eq m m)) re
         let no_way : true ≡ false = sym (λ i. j i && k i) ∙ f in
         absurd (let z : ⊥ = cc in z)
 
-put_other : (es : List (Spot × ℕ)) (m a u : ℕ) (e : RowKey × ℕ) → is_of a u e ≡ false → count spot_cmp (put spot_cmp (spot e.0.job e.0.unit m) e.1 es) (spot a u m) ≡ count spot_cmp es (spot a u m)
+put_other : (es : Table) (m a u : ℕ) (e : RowKey × ℕ) → is_of a u e ≡ false → count spot_cmp (put spot_cmp (spot e.0.job e.0.unit m) e.1 es) (spot a u m) ≡ count spot_cmp es (spot a u m)
 put_other es m a u e f =
     ap (λ o. unwrap_or o 0) (find-put spot_cmp spot_total (spot a u m) (spot e.0.job e.0.unit m) e.1 es)
     ∙ ap (λ b. unwrap_or (cond b (Some e.1) (find spot_cmp (spot a u m) es)) 0) (is_spot (spot a u m) e.0.job e.0.unit m ∙ turned a u m e f)
 
-others : (rows : List (RowKey × ℕ)) (es : List (Spot × ℕ)) (m a u : ℕ) → AllByRecursion (λ e. is_of a u e ≡ false) rows → count spot_cmp (rows_put m rows es) (spot a u m) ≡ count spot_cmp es (spot a u m)
+others : (rows : List (RowKey × ℕ)) (es : Table) (m a u : ℕ) → AllByRecursion (λ e. is_of a u e ≡ false) rows → count spot_cmp (rows_put m rows es) (spot a u m) ≡ count spot_cmp es (spot a u m)
 others [] es m a u h = refl
 others (e ∷ rows) es m a u h = others rows (put spot_cmp (spot e.0.job e.0.unit m) e.1 es) m a u h.1 ∙ put_other es m a u e h.0
 
-rows_sorted : (rows : List (RowKey × ℕ)) (es : List (Spot × ℕ)) (m : ℕ) → T (is_sorted spot_cmp es) → T (is_sorted spot_cmp (rows_put m rows es))
+rows_sorted : (rows : List (RowKey × ℕ)) (es : Table) (m : ℕ) → T (is_sorted spot_cmp es) → T (is_sorted spot_cmp (rows_put m rows es))
 rows_sorted [] es m s = s
 rows_sorted (e ∷ rows) es m s = rows_sorted rows (put spot_cmp (spot e.0.job e.0.unit m) e.1 es) m (is_sorted-put spot_cmp spot_total (spot e.0.job e.0.unit m) e.1 es s)
 
-rows_behind : (rows : List (RowKey × ℕ)) (es : List (Spot × ℕ)) (m : ℕ) (e : RowKey × ℕ) → rows_put m (rows ++ e ∷ []) es ≡ put spot_cmp (spot e.0.job e.0.unit m) e.1 (rows_put m rows es)
+rows_behind : (rows : List (RowKey × ℕ)) (es : Table) (m : ℕ) (e : RowKey × ℕ) → rows_put m (rows ++ e ∷ []) es ≡ put spot_cmp (spot e.0.job e.0.unit m) e.1 (rows_put m rows es)
 rows_behind [] es m e = refl
 rows_behind (f ∷ rows) es m e = rows_behind rows (put spot_cmp (spot f.0.job f.0.unit m) f.1 es) m e
 
 -- where there is nothing, so many more is that number
-put_new : (es : List (Spot × ℕ)) (s : Spot) (n : ℕ) → count spot_cmp es s ≡ 0 → 0 < n → with_count es s n ≡ put spot_cmp s n es
+put_new : (es : Table) (s : Spot) (n : ℕ) → count spot_cmp es s ≡ 0 → 0 < n → with_count es s n ≡ put spot_cmp s n es
 put_new es s n none some =
     let sum : count spot_cmp es s + n ≡ n = omega (arith, none) in
     let t : nat_eq n 0 ≡ false = grind (arith, nat_tests, some) in
@@ -151,7 +151,7 @@ sum_beginning f (x ∷ rows) zero e at = let same : f x ≡ f e = ap f (let s : 
 sum_beginning f (x ∷ rows) (suc i) e at = let r = sum_beginning f rows i e at in let a = sum_by-cons f x rows in let b = sum_by-cons f x (take i rows) in omega (arith, r, a, b)
 
 -- nothing on a machine takes nothing
-total_none : (jobs : List KnownJob) (m i : ℕ) (es : List (Spot × ℕ)) → T (is_sorted spot_cmp es) → ((a u : ℕ) → count spot_cmp es (spot a u m) ≡ 0) → total_at jobs m i es ≡ 0
+total_none : (jobs : List KnownJob) (m i : ℕ) (es : Table) → T (is_sorted spot_cmp es) → ((a u : ℕ) → count spot_cmp es (spot a u m) ≡ 0) → total_at jobs m i es ≡ 0
 total_none jobs m i [] s none = refl
 total_none jobs m i (e ∷ es) s none =
     let b = both (below_all spot_cmp e.0 es) (is_sorted spot_cmp es) s in
@@ -178,7 +178,7 @@ pub record AddsSome (m : ℕ) (rows : List (RowKey × ℕ)) (x y : AllotmentReco
   pub adds : AddsRow m rows x y
   pub totals : (i : ℕ) → total_at (as_known x.table.jobs) m i y.table.entries ≡ sum_by (weight i) rows
 
-all_stay : (test : ℕ × ℕ → Bool) (line : List (ℕ × ℕ)) → ((a u : ℕ) → has_pair (a, u) line ≡ true → test (a, u) ≡ true) → filter test line ≡ line
+all_stay : (test : Pair → Bool) (line : List Pair) → ((a u : ℕ) → has_pair (a, u) line ≡ true → test (a, u) ≡ true) → filter test line ≡ line
 all_stay test [] h = refl
 all_stay test (p ∷ ps) h =
     let here : test p ≡ true = h p.0 p.1 (ap (λ b. b || has_pair p ps) ((λ i. nat_itself p.0 i && nat_itself p.1 i))) in
@@ -213,7 +213,7 @@ adds_none m x sorted wait none = record {
 }
 
 abbrev pub TotalLaw : Type 0
-TotalLaw = (jobs : List KnownJob) (es : List (Spot × ℕ)) (s : Spot) (n m i : ℕ) → T (is_sorted spot_cmp es)
+TotalLaw = (jobs : List KnownJob) (es : Table) (s : Spot) (n m i : ℕ) → T (is_sorted spot_cmp es)
     → total_at jobs m i (set_count spot_cmp es s n) + cond (nat_eq s.machine m) (count spot_cmp es s * size_at jobs s.job s.unit i) 0 ≡ total_at jobs m i es + cond (nat_eq s.machine m) (n * size_at jobs s.job s.unit i) 0
 
 held_less : (b : Bool) (x y n k : ℕ) → x + cond b n 0 ≡ y + cond b (n + k) 0 → y ≤ x
@@ -276,7 +276,7 @@ module _ (held_law : HeldLaw) (total_law : TotalLaw) (m : ℕ) (rows : List (Row
         ∙ sym (ap (λ rs. rows_put m rs x.table.entries) (take_last rows i e at) ∙ rows_behind (take i rows) x.table.entries m e)
 
     -- who has something out with more grants had it with fewer
-    waited : (M : Master) (p : ℕ × ℕ) → nat_lt 0 (out_of (asked M) (with_count y.table.entries place e.1) p.0 p.1) ≡ true → nat_lt 0 (out_of (asked M) y.table.entries p.0 p.1) ≡ true
+    waited : (M : Master) (p : Pair) → nat_lt 0 (out_of (asked M) (with_count y.table.entries place e.1) p.0 p.1) ≡ true → nat_lt 0 (out_of (asked M) y.table.entries p.0 p.1) ≡ true
     waited M p t =
         let le = held_less (nat_eq e.0.job p.0 && nat_eq e.0.unit p.1) _ _ (count spot_cmp y.table.entries place) e.1 (held_law y.table.entries place (count spot_cmp y.table.entries place + e.1) p.0 p.1 sorted_there) in
         let some : 0 < out_of (asked M) (with_count y.table.entries place e.1) p.0 p.1 = grind (arith, nat_tests, t) in

@@ -6,10 +6,10 @@ use Rattle.std.specs.List.{flat_map}
 use Rattle.fuxi_terms.specs.Cluster.{ClusterRecord, JobRecord}
 use Rattle.fuxi_terms.specs.Lists.{below}
 use Rattle.fuxi_terms.specs.Numbers.{has_number}
-use Rattle.fuxi_terms.specs.Tables.{held}
+use Rattle.fuxi_terms.specs.Tables.{held, Table}
 use Rattle.fuxi_terms.specs.Vectors.{at_place}
 use Rattle.fuxi_terms.specs.declared.Key.{Key}
-use Rattle.fuxi_terms.specs.Keys.{Spot}
+use Rattle.fuxi_terms.specs.Keys.{Pair}
 use Rattle.fuxi_terms.specs.Jobs.{KnownJob, job_of, units_of, no_unit, group_of}
 use Rattle.fuxi_terms.specs.TallyKeys.{want_key, near_key, rack_key, avoid_key}
 use Rattle.fuxi_terms.proofs.Lookups.{by_record}
@@ -41,11 +41,11 @@ wishes_of asks a k =
 abbrev pub with_wishes : Board → Board
 with_wishes b = record { cluster = b.cluster; priorities = b.priorities; sizes = b.sizes; mosts = b.mosts; groups = b.groups; asks = wishes_of b.asks; may_use = b.may_use; serving = b.serving }
 
-candidates_read : (b : Board) (table : List (Spot × ℕ)) (place : ℕ) (line : List (ℕ × ℕ)) → candidates_in b table place line ≡ candidates_in (with_wishes b) table place line
+candidates_read : (b : Board) (table : Table) (place : ℕ) (line : List Pair) → candidates_in b table place line ≡ candidates_in (with_wishes b) table place line
 candidates_read b table place [] = refl
 candidates_read b table place (p ∷ ps) = ap (λ rs. elim (may_grow_in b table p.0 p.1) [ true ↦ places_in b table place p | false ↦ [] ] ++ rs) (candidates_read b table (place + 1) ps)
 
-pub first_reads : (b : Board) (table : List (Spot × ℕ)) (line : List (ℕ × ℕ)) → first_in b table line ≡ first_in (with_wishes b) table line
+pub first_reads : (b : Board) (table : Table) (line : List Pair) → first_in b table line ≡ first_in (with_wishes b) table line
 first_reads b table line = ap first_of (candidates_read b table 0 line)
 
 -- ---- the placeable pair of first rank is the master's

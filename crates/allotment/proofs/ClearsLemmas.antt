@@ -9,7 +9,7 @@ use Rattle.fuxi_terms.specs.Cluster.{ClusterRecord, JobRecord}
 use Rattle.fuxi_terms.specs.Jobs.{KnownJob, job_of, unit_count}
 use Rattle.fuxi_terms.specs.Counts.{count}
 use Rattle.fuxi_terms.specs.Keys.{Spot, spot_cmp}
-use Rattle.fuxi_terms.specs.Tables.{spot, held_on}
+use Rattle.fuxi_terms.specs.Tables.{spot, held_on, Table}
 use Rattle.fuxi_terms.proofs.Booleans.{both_true, and_true, number_is, nat_itself, same_tests, and_false}
 use Rattle.fuxi_terms.proofs.CountsLemmas.{tied, count-set_count}
 use Rattle.fuxi_terms.proofs.KeyOrders.{spot_total, same_spot}
@@ -97,7 +97,7 @@ is_spot s a u m = same_tests _ _ to from
         let same : s ≡ spot a u m = λ i. record { job = j i; unit = k i; machine = l i } in
         ap (λ x. eq_by_cmp spot_cmp x (spot a u m)) same ∙ ap is_eq (tied_itself spot_total (spot a u m))
 
-pub count_cleared : (es : List (Spot × ℕ)) (a u m k : ℕ) → k ≡ count spot_cmp es (spot a u m) → (s : Spot) → count spot_cmp (without_count es (spot a u m) k) s ≡ cond (nat_eq s.job a && (nat_eq s.unit u && nat_eq s.machine m)) 0 (count spot_cmp es s)
+pub count_cleared : (es : Table) (a u m k : ℕ) → k ≡ count spot_cmp es (spot a u m) → (s : Spot) → count spot_cmp (without_count es (spot a u m) k) s ≡ cond (nat_eq s.job a && (nat_eq s.unit u && nat_eq s.machine m)) 0 (count spot_cmp es s)
 count_cleared es a u m k all s =
     let none : count spot_cmp es (spot a u m) - k ≡ 0 = omega (arith, all) in
     count-set_count spot_total es (spot a u m) (count spot_cmp es (spot a u m) - k) s ∙ (λ i. cond (is_spot s a u m i) (none i) (count spot_cmp es s))

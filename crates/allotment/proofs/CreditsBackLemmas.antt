@@ -7,9 +7,9 @@ use Rattle.fuxi_terms.specs.Cluster.{ClusterRecord, has_rack, has_machine}
 use Rattle.fuxi_terms.specs.declared.Key.{Key}
 use Rattle.fuxi_terms.specs.Counts.{count, set_count}
 use Rattle.fuxi_terms.specs.Jobs.{unit_count}
-use Rattle.fuxi_terms.specs.Keys.{Spot, key_cmp, spot_cmp}
+use Rattle.fuxi_terms.specs.Keys.{key_cmp, spot_cmp}
 use Rattle.fuxi_terms.specs.TallyKeys.{credited_key}
-use Rattle.fuxi_terms.specs.Tables.{spot, held_on}
+use Rattle.fuxi_terms.specs.Tables.{spot, held_on, Table}
 use Rattle.fuxi_terms.proofs.Booleans.{and_true, both_true, number_is}
 use Rattle.fuxi_terms.proofs.Lists.{take_last}
 use Rattle.written_roles.specs.Masters.{Master}
@@ -19,7 +19,7 @@ use Rattle.allotment.specs.Allotted.{AllotmentRecord, Allots, AllWait, Touches, 
 use Rattle.allotment.proofs.AskedStands.{same_units}
 use Rattle.allotment.proofs.ClearsLemmas.{touched_again, untouched}
 
-credit_behind : (a : ℕ) (cs es fs : List (Key × ℕ)) (t : List (Spot × ℕ)) → credit a cs (es ++ fs) t ≡ credit a cs fs (credit a cs es t)
+credit_behind : (a : ℕ) (cs es fs : List (Key × ℕ)) (t : Table) → credit a cs (es ++ fs) t ≡ credit a cs fs (credit a cs es t)
 credit_behind a cs [] fs t = refl
 credit_behind a cs (e ∷ es) fs t = credit_behind a cs es fs _
 
@@ -77,7 +77,7 @@ credits_passed a g k n x w out = record {
   table = refl;
 }
   where
-    none : (b : Bool) (t u : List (Spot × ℕ)) → b ≡ false → cond b t u ≡ u
+    none : (b : Bool) (t u : Table) → b ≡ false → cond b t u ≡ u
     none true t u e = cc
     none false t u e = refl
 

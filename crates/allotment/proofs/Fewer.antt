@@ -7,8 +7,8 @@ use Rattle.std.proofs.lemmas.Bool.Decides.{nat_tests}
 use Rattle.std.proofs.lemmas.List.{map-append}
 use Rattle.fuxi_terms.specs.Cluster.{ClusterRecord}
 use Rattle.fuxi_terms.specs.Counts.{count, set_count}
-use Rattle.fuxi_terms.specs.Keys.{Spot, spot_cmp}
-use Rattle.fuxi_terms.specs.Tables.{spot, held}
+use Rattle.fuxi_terms.specs.Keys.{Spot, spot_cmp, Pair}
+use Rattle.fuxi_terms.specs.Tables.{spot, held, Table}
 use Rattle.fuxi_terms.proofs.Booleans.{both_false}
 use Rattle.fuxi_terms.proofs.CountsLemmas.{count-set_count}
 use Rattle.fuxi_terms.proofs.KeyOrders.{spot_total}
@@ -24,17 +24,17 @@ use Rattle.allotment.specs.Allotted.{AllotmentRecord, Allots, AllWait, Touches, 
 
 -- ---- what is said of the sums when a number is set
 abbrev pub HeldLaw : Type 0
-HeldLaw = (es : List (Spot × ℕ)) (s : Spot) (n a u : ℕ) → T (is_sorted spot_cmp es) → held (set_count spot_cmp es s n) a u + cond (nat_eq s.job a && nat_eq s.unit u) (count spot_cmp es s) 0 ≡ held es a u + cond (nat_eq s.job a && nat_eq s.unit u) n 0
+HeldLaw = (es : Table) (s : Spot) (n a u : ℕ) → T (is_sorted spot_cmp es) → held (set_count spot_cmp es s n) a u + cond (nat_eq s.job a && nat_eq s.unit u) (count spot_cmp es s) 0 ≡ held es a u + cond (nat_eq s.job a && nat_eq s.unit u) n 0
 
 fewer : (b : Bool) (x y n k : ℕ) → x + cond b n 0 ≡ y + cond b (n - k) 0 → x ≤ y
 fewer true x y n k e = omega (arith, e)
 fewer false x y n k e = omega (arith, e)
 
-held_less : HeldLaw → (es : List (Spot × ℕ)) (s : Spot) (k a u : ℕ) → T (is_sorted spot_cmp es) → held (without_count es s k) a u ≤ held es a u
+held_less : HeldLaw → (es : Table) (s : Spot) (k a u : ℕ) → T (is_sorted spot_cmp es) → held (without_count es s k) a u ≤ held es a u
 held_less law es s k a u t = fewer (nat_eq s.job a && nat_eq s.unit u) (held (without_count es s k) a u) (held es a u) (count spot_cmp es s) k (law es s (count spot_cmp es s - k) a u t)
 
 -- ---- the line stays
-same_turned : (p : ℕ × ℕ) (a u : ℕ) → (nat_eq a p.0 && nat_eq u p.1) ≡ false → (nat_eq p.0 a && nat_eq p.1 u) ≡ false
+same_turned : (p : Pair) (a u : ℕ) → (nat_eq a p.0 && nat_eq u p.1) ≡ false → (nat_eq p.0 a && nat_eq p.1 u) ≡ false
 same_turned p a u f = by (nat_eq p.0 a) refl (nat_eq p.1 u) refl
   where
     by : (x : Bool) → nat_eq p.0 a ≡ x → (y : Bool) → nat_eq p.1 u ≡ y → (nat_eq p.0 a && nat_eq p.1 u) ≡ false
@@ -46,7 +46,7 @@ same_turned p a u f = by (nat_eq p.0 a) refl (nat_eq p.1 u) refl
         let t : (nat_eq a p.0 && nat_eq u p.1) ≡ true = (λ i. c i && d i) in
         absurd (let z : ⊥ = cc in z)
 
-others_stay : (line : List (ℕ × ℕ)) (a u : ℕ) → has_pair (a, u) line ≡ false → filter (λ p. not (nat_eq p.0 a && nat_eq p.1 u)) line ≡ line
+others_stay : (line : List Pair) (a u : ℕ) → has_pair (a, u) line ≡ false → filter (λ p. not (nat_eq p.0 a && nat_eq p.1 u)) line ≡ line
 others_stay [] a u f = refl
 others_stay (p ∷ ps) a u f =
     let b = both_false (nat_eq a p.0 && nat_eq u p.1) (has_pair (a, u) ps) f in
@@ -103,7 +103,7 @@ spot_behind s x (y ∷ ys) = ap (λ b. eq_by_cmp spot_cmp s y || b) (spot_behind
     grouped true = refl
     grouped false = refl
 
-pub set_touched : (es : List (Spot × ℕ)) (x : Spot) (n : ℕ) (ss : List Spot) → AreTouched es (set_count spot_cmp es x n) ss (ss ++ x ∷ [])
+pub set_touched : (es : Table) (x : Spot) (n : ℕ) (ss : List Spot) → AreTouched es (set_count spot_cmp es x n) ss (ss ++ x ∷ [])
 set_touched es x n ss = record {
   kept = λ s e. spot_behind s x ss ∙ ap (λ b. b || eq_by_cmp spot_cmp s x) e;
   others = λ s f.
@@ -111,7 +111,7 @@ set_touched es x n ss = record {
       count-set_count spot_total es x n s ∙ ap (λ t. cond t n (count spot_cmp es s)) b.1;
 }
 
-pub fewer_touched : (es : List (Spot × ℕ)) (x : Spot) (k : ℕ) (ss : List Spot) → AreTouched es (without_count es x k) ss (ss ++ x ∷ [])
+pub fewer_touched : (es : Table) (x : Spot) (k : ℕ) (ss : List Spot) → AreTouched es (without_count es x k) ss (ss ++ x ∷ [])
 fewer_touched es x k ss = set_touched es x (count spot_cmp es x - k) ss
 
 -- a placer that was told of a spot, and the spots with that one behind them

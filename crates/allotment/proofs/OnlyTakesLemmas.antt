@@ -1,5 +1,5 @@
 -- Grants are only taken, and where none is taken nothing changes.
-use Rattle.std.proofs.Common.{◌≡◌, ℕ, ◌-◌, ◌<◌, ◌≤◌, true, false, cond, List, refl, sym, ◌∙◌, ap, subst, arith}
+use Rattle.std.proofs.Common.{◌≡◌, ℕ, ◌-◌, ◌<◌, ◌≤◌, true, false, cond, refl, sym, ◌∙◌, ap, subst, arith}
 use Rattle.std.specs.Ordering.{eq_by_cmp, is_eq}
 use Rattle.std.specs.Cmp.{tied_itself}
 use Rattle.fuxi_terms.specs.Counts.{count, set_count, AreCounts}
@@ -7,6 +7,7 @@ use Rattle.fuxi_terms.specs.Keys.{Spot, spot_cmp}
 use Rattle.fuxi_terms.specs.Limits.{greatest_count}
 use Rattle.fuxi_terms.proofs.CountsLemmas.{tied, count_le, count-set_count, counts-set_count, same_counts}
 use Rattle.fuxi_terms.proofs.KeyOrders.{spot_total, same_spot}
+use Rattle.fuxi_terms.specs.Tables.{Table}
 use Rattle.grant_table.specs.GrantTables.{TableRecord, without_count}
 use Rattle.allotment.specs.Allotted.{AllotmentRecord, OnlyTakes}
 
@@ -22,10 +23,10 @@ takes_again x y z a b = record {
 }
 
 -- the number at the spot itself, and at any
-at_spot : (es : List (Spot × ℕ)) (s : Spot) (n : ℕ) → count spot_cmp (set_count spot_cmp es s n) s ≡ n
+at_spot : (es : Table) (s : Spot) (n : ℕ) → count spot_cmp (set_count spot_cmp es s n) s ≡ n
 at_spot es s n = count-set_count spot_total es s n s ∙ ap (λ b. cond b n (count spot_cmp es s)) (ap is_eq (tied_itself spot_total s))
 
-set_at_most : (es : List (Spot × ℕ)) (s : Spot) (n : ℕ) → n ≤ count spot_cmp es s → (q : Spot) → count spot_cmp (set_count spot_cmp es s n) q ≤ count spot_cmp es q
+set_at_most : (es : Table) (s : Spot) (n : ℕ) → n ≤ count spot_cmp es s → (q : Spot) → count spot_cmp (set_count spot_cmp es s n) q ≤ count spot_cmp es q
 set_at_most es s n le q = subst (λ k. k ≤ count spot_cmp es q) (sym (count-set_count spot_total es s n q)) (elim (eq_by_cmp spot_cmp q s) as (λ b. eq_by_cmp spot_cmp q s ≡ b → cond b n (count spot_cmp es q) ≤ count spot_cmp es q) [
   | true ↦ λ e. subst (λ k. n ≤ count spot_cmp es k) (sym (same_spot q s (tied _ e))) le
   | false ↦ λ _. omega arith
@@ -42,7 +43,7 @@ takes_some x y s k some held table = record {
     entries = ap (λ (t : TableRecord). t.entries) table
 
 -- no grants are taken
-pub none_fewer : (es : List (Spot × ℕ)) (s : Spot) (k : ℕ) → AreCounts spot_cmp (λ s. greatest_count) es → k ≡ 0 → without_count es s k ≡ es
+pub none_fewer : (es : Table) (s : Spot) (k : ℕ) → AreCounts spot_cmp (λ s. greatest_count) es → k ≡ 0 → without_count es s k ≡ es
 none_fewer es s k counts none =
     let n : ℕ = count spot_cmp es s - k in
     let is : n ≡ count spot_cmp es s = omega (arith, none) in

@@ -5,9 +5,9 @@ use Rattle.std.specs.Option.{unwrap_or, option_map}
 use Rattle.std.proofs.lemmas.Bool.Decides.{nat_tests}
 use Rattle.fuxi_terms.specs.Cluster.{ClusterRecord, UnitRecord}
 use Rattle.std.specs.List.{AllByRecursion, flat_map}
-use Rattle.fuxi_terms.specs.Keys.{Spot}
+use Rattle.fuxi_terms.specs.Keys.{Spot, Pair}
 use Rattle.fuxi_terms.specs.Lists.{below}
-use Rattle.fuxi_terms.specs.Tables.{spot}
+use Rattle.fuxi_terms.specs.Tables.{spot, Table}
 use Rattle.fuxi_terms.proofs.Alls.{all_more, all_append, all_back, all_mapped, all_flat, all_filter}
 use Rattle.fuxi_terms.specs.Jobs.{units_of, unit_count, priority_of, size_at, most_of, group_of, no_unit}
 use Rattle.fuxi_terms.specs.Numbers.{has_number}
@@ -72,17 +72,17 @@ all_in : {A : Type 0} (P : A → Type 0) → ((x : A) → P x) → (xs : List A)
 all_in P h [] = tt
 all_in P h (x ∷ xs) = (h x, all_in P h xs)
 
-record IsLined (line : List (ℕ × ℕ)) (p : ℕ × ℕ) : Type 0 where
+record IsLined (line : List Pair) (p : Pair) : Type 0 where
   there : has_pair p line ≡ true
 
-all_lined : (line : List (ℕ × ℕ)) → AllByRecursion (IsLined line) line
+all_lined : (line : List Pair) → AllByRecursion (IsLined line) line
 all_lined [] = tt
 all_lined (p ∷ ps) = (
   record { there = or_left (nat_eq p.0 p.0 && nat_eq p.1 p.1) (has_pair p ps) (and_true (nat_eq p.0 p.0) (nat_eq p.1 p.1) (nat_itself p.0) (nat_itself p.1)) },
   all_more (IsLined ps) (IsLined (p ∷ ps)) (λ q h. record { there = or_right (nat_eq q.0 p.0 && nat_eq q.1 p.1) (has_pair q ps) h.there }) ps (all_lined ps),
 )
 
-all_tried : (B : Board) (es : List (Spot × ℕ)) (line : List (ℕ × ℕ)) → AllByRecursion (λ (s : Spot). IsLined line (s.job, s.unit)) (tried_in B es line)
+all_tried : (B : Board) (es : Table) (line : List Pair) → AllByRecursion (λ (s : Spot). IsLined line (s.job, s.unit)) (tried_in B es line)
 all_tried B es line =
     all_flat_of (IsLined line) (λ (s : Spot). IsLined line (s.job, s.unit)) (λ p. map (spot p.0 p.1) (filter (accepts_in B es p.0 p.1) (below (length B.cluster.machines))))
     (λ p h. all_mapped (λ (s : Spot). IsLined line (s.job, s.unit)) (spot p.0 p.1) (filter (accepts_in B es p.0 p.1) (below (length B.cluster.machines))) (all_in (λ (m : ℕ). IsLined line (p.0, p.1)) (λ m. h) (filter (accepts_in B es p.0 p.1) (below (length B.cluster.machines)))))
@@ -90,7 +90,7 @@ all_tried B es line =
     (all_flat (IsLined line) (λ n. filter (λ p. nat_eq (B.priorities p.0 p.1) n) line) falling_priorities (λ n. all_filter (IsLined line) (λ p. nat_eq (B.priorities p.0 p.1) n) line (all_lined line)))
 
 abbrev pub FirstLaw : Type 0
-FirstLaw = (B : Board) (es : List (Spot × ℕ)) (line : List (ℕ × ℕ)) (p : WrittenPlan) → plan_in B es line ≡ Some p → IsFirstPlan B es (tried_in B es line) p
+FirstLaw = (B : Board) (es : Table) (line : List Pair) (p : WrittenPlan) → plan_in B es line ≡ Some p → IsFirstPlan B es (tried_in B es line) p
 
 pub served_lined : FirstLaw → (t : TableRecord) (s : SeenRecord) (p : Plan) → ((B : Board) → IsBoardOf B t (usable_in s) → Some (plan_as p) ≡ plan_in B t.entries s.line) → has_pair (p.pick.app.0, p.pick.unit.0) s.line ≡ true
 served_lined law t s p h =

@@ -9,9 +9,9 @@ use Rattle.std.proofs.lemmas.Bool.Decides.{nat_tests}
 use Rattle.fuxi_terms.specs.Cluster.{ClusterRecord}
 use Rattle.fuxi_terms.specs.Counts.{count, set_count}
 use Rattle.fuxi_terms.specs.Jobs.{unit_count}
-use Rattle.fuxi_terms.specs.Keys.{Spot, spot_cmp}
+use Rattle.fuxi_terms.specs.Keys.{Spot, spot_cmp, Pair}
 use Rattle.fuxi_terms.specs.TallyKeys.{want_key}
-use Rattle.fuxi_terms.specs.Tables.{held, with_grant}
+use Rattle.fuxi_terms.specs.Tables.{held, with_grant, Table}
 use Rattle.fuxi_terms.proofs.Booleans.{both_true, both_false}
 use Rattle.fuxi_terms.proofs.CountsLemmas.{count-set_count}
 use Rattle.fuxi_terms.proofs.KeyOrders.{spot_total}
@@ -27,10 +27,10 @@ use Rattle.allotment.proofs.LineGranted.{IsWaiting, pair_flipped, line_granted, 
 
 -- how what is held changes where one number is set
 abbrev pub SetsHeld : Type 0
-SetsHeld = (es : List (Spot × ℕ)) (s : Spot) (n a u : ℕ) → T (is_sorted spot_cmp es) → held (set_count spot_cmp es s n) a u + cond (nat_eq s.job a && nat_eq s.unit u) (count spot_cmp es s) 0 ≡ held es a u + cond (nat_eq s.job a && nat_eq s.unit u) n 0
+SetsHeld = (es : Table) (s : Spot) (n a u : ℕ) → T (is_sorted spot_cmp es) → held (set_count spot_cmp es s n) a u + cond (nat_eq s.job a && nat_eq s.unit u) (count spot_cmp es s) 0 ≡ held es a u + cond (nat_eq s.job a && nat_eq s.unit u) n 0
 
 module _ (law : SetsHeld) (t : TableRecord) (s : SeenRecord) (x : Spot) (sorted : T (is_sorted spot_cmp t.entries)) where
-  abbrev pub after : List (Spot × ℕ)
+  abbrev pub after : Table
   after = with_grant t.entries x
 
   pub others : (b v : ℕ) → (nat_eq b x.job && nat_eq v x.unit) ≡ false → out_of (asks_seen s) after b v ≡ out_of (asks_seen s) t.entries b v
@@ -72,7 +72,7 @@ module _ (law : SetsHeld) (t : TableRecord) (s : SeenRecord) (x : Spot) (sorted 
         racks = is.racks;
         avoids = is.avoids;
         usable = is.usable;
-        line = told ∙ (λ i. filter (λ (p : ℕ × ℕ). nat_lt 0 (is.wants p.0 p.1 i - held (table i) p.0 p.1)) (is.line i));
+        line = told ∙ (λ i. filter (λ (p : Pair). nat_lt 0 (is.wants p.0 p.1 i - held (table i) p.0 p.1)) (is.line i));
       }
 
   -- and what is out in all is fewer
@@ -80,7 +80,7 @@ module _ (law : SetsHeld) (t : TableRecord) (s : SeenRecord) (x : Spot) (sorted 
       → all_out (record t { entries = after }) (record s { line = line_told s (record t { entries = after }) x.job x.unit }) < all_out t s
   fewer_is up w =
       let told = line_granted (asks_seen s) t.entries after x.job x.unit others s.line (waits up) in
-      subst (λ line. sum_by (λ (p : ℕ × ℕ). out_of (asks_seen s) after p.0 p.1) line < all_out t s) (sym told) (fewer_out (asks_seen s) t.entries after x.job x.unit others s.line w.waits (one_less w.out))
+      subst (λ line. sum_by (λ (p : Pair). out_of (asks_seen s) after p.0 p.1) line < all_out t s) (sym told) (fewer_out (asks_seen s) t.entries after x.job x.unit others s.line w.waits (one_less w.out))
 
 -- ---- a run of grants
 -- the first step of what is left of a run
@@ -105,7 +105,7 @@ has_more q x ss = list_any-append (eq_by_cmp spot_cmp q) ss (x ∷ []) ∙ ap (�
     last true = refl
     last false = refl
 
-pub touches_more : (old t : List (Spot × ℕ)) (before after : List Spot) (x : Spot) (n : ℕ) → AreTouched old t before after → AreTouched old (set_count spot_cmp t x n) before (after ++ x ∷ [])
+pub touches_more : (old t : Table) (before after : List Spot) (x : Spot) (n : ℕ) → AreTouched old t before after → AreTouched old (set_count spot_cmp t x n) before (after ++ x ∷ [])
 touches_more old t before after x n h = record {
   kept = λ q b. has_more q x after ∙ ap (λ z. z || eq_by_cmp spot_cmp q x) (h.kept q b);
   others = λ q f.

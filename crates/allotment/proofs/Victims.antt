@@ -5,8 +5,7 @@ use Rattle.std.specs.List.{AllByRecursion, IsDistinct}
 use Rattle.std.proofs.lemmas.Bool.Decides.{nat_tests}
 use Rattle.fuxi_terms.specs.Cluster.{ClusterRecord}
 use Rattle.fuxi_terms.specs.Jobs.{unit_count}
-use Rattle.fuxi_terms.specs.Keys.{Spot}
-use Rattle.fuxi_terms.specs.Tables.{spot, held_on}
+use Rattle.fuxi_terms.specs.Tables.{spot, held_on, Table}
 use Rattle.fuxi_terms.proofs.Booleans.{both_true, and_true}
 use Rattle.fuxi_terms.proofs.Lists.{all_at, take_last}
 use Rattle.written_roles.specs.Masters.{Master}
@@ -16,11 +15,11 @@ use Rattle.preempt.specs.Plans.{without_victims, is_unit, same_unit, IsTakable, 
 use Rattle.allotment.specs.Allotted.{AllotmentRecord, Allots, AllWait, Touches, TakesVictims}
 use Rattle.allotment.proofs.ClearsLemmas.{touched_again, untouched}
 
-behind : (vs : List Victim) (es : List (Spot × ℕ)) (m : ℕ) (v : Victim) → without_victims es m (vs ++ v ∷ []) ≡ without_count (without_victims es m vs) (spot v.app.0 v.unit.0 m) v.count
+behind : (vs : List Victim) (es : Table) (m : ℕ) (v : Victim) → without_victims es m (vs ++ v ∷ []) ≡ without_count (without_victims es m vs) (spot v.app.0 v.unit.0 m) v.count
 behind [] es m v = refl
 behind (w ∷ ws) es m v = behind ws (without_count es (spot w.app.0 w.unit.0 m) w.count) m v
 
-pub one_more : (vs : List Victim) (es : List (Spot × ℕ)) (m i : ℕ) (v : Victim) → slice_get vs i ≡ Some v → without_victims es m (take (i + 1) vs) ≡ without_count (without_victims es m (take i vs)) (spot v.app.0 v.unit.0 m) v.count
+pub one_more : (vs : List Victim) (es : Table) (m i : ℕ) (v : Victim) → slice_get vs i ≡ Some v → without_victims es m (take (i + 1) vs) ≡ without_count (without_victims es m (take i vs)) (spot v.app.0 v.unit.0 m) v.count
 one_more vs es m i v e = ap (without_victims es m) (take_last vs i v e) ∙ behind (take i vs) es m v
 
 turned : (v w : Victim) → same_unit w v ≡ false → is_unit v.app.0 v.unit.0 w ≡ false
@@ -45,7 +44,7 @@ pub takes_none : (m : ℕ) (x : AllotmentRecord) → AllWait x → TakesVictims 
 takes_none m x w = record { stands = λ c M h. h; waits = w; touches = untouched x; table = refl }
 
 abbrev pub OthersLaw : Type 0
-OthersLaw = (es : List (Spot × ℕ)) (m n a u : ℕ) (vs : List Victim) → AllByRecursion (λ v. is_unit a u v ≡ false) vs → held_on (without_victims es m vs) a u n ≡ held_on es a u n
+OthersLaw = (es : Table) (m n a u : ℕ) (vs : List Victim) → AllByRecursion (λ v. is_unit a u v ≡ false) vs → held_on (without_victims es m vs) a u n ≡ held_on es a u n
 
 module _ (law : OthersLaw) (m : ℕ) (vs : List Victim) (x y : AllotmentRecord) (i : ℕ) (v : Victim) (takable : AreTakable x.table m vs) (at : slice_get vs i ≡ Some v) (before : TakesVictims m (take i vs) x y) where
   takes_it : IsTakable x.table m v

@@ -3,7 +3,7 @@ use Rattle.std.specs.Prelude.{◌≡◌, ℕ, ◌<◌, ◌≤◌, Bool, true, fa
 use Rattle.fuxi_terms.specs.Cluster.{ClusterRecord}
 use Rattle.fuxi_terms.specs.Counts.{count}
 use Rattle.fuxi_terms.specs.Keys.{RowKey, Spot, spot_cmp, key_cmp}
-use Rattle.fuxi_terms.specs.Tables.{spot}
+use Rattle.fuxi_terms.specs.Tables.{spot, Table}
 use Rattle.std.specs.FinMap.Entries.{put}
 use Rattle.fuxi_terms.specs.TallyKeys.{credited_key}
 use Rattle.fuxi_terms.specs.declared.Key.{Key}
@@ -90,7 +90,7 @@ pub record CreditsBack (a : ℕ) (es given : List (Key × ℕ)) (x y : Allotment
   pub table : y.table ≡ record x.table { entries = y.table.entries }
 
 -- the entries of a machine's row are put into the table
-abbrev pub rows_put : ℕ → List (RowKey × ℕ) → List (Spot × ℕ) → List (Spot × ℕ)
+abbrev pub rows_put : ℕ → List (RowKey × ℕ) → Table → Table
 rows_put m [] table = table
 rows_put m (e ∷ es) table = rows_put m es (put spot_cmp (spot e.0.job e.0.unit m) e.1 table)
 

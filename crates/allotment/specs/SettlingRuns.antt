@@ -3,7 +3,8 @@ use Rattle.std.specs.Prelude.{◌≡◌, ℕ, true, false, List}
 use Rattle.std.specs.List.{sum_by}
 use Rattle.fuxi_terms.specs.Cluster.{ClusterRecord}
 use Rattle.fuxi_terms.specs.Counts.{count}
-use Rattle.fuxi_terms.specs.Keys.{Spot, spot_cmp}
+use Rattle.fuxi_terms.specs.Keys.{Spot, spot_cmp, Pair}
+use Rattle.fuxi_terms.specs.Tables.{Table}
 use Rattle.written_roles.specs.Masters.{Master, out_of}
 use Rattle.written_roles.specs.Placing.{settled}
 use Rattle.written_roles.specs.Settling.{Picks}
@@ -20,9 +21,9 @@ pub record IsSettling (t : TableRecord) (s : SeenRecord) (c : ClusterRecord) (M 
 
 -- how many grants are out in all, of what waits
 abbrev pub all_out : TableRecord → SeenRecord → ℕ
-all_out t s = sum_by (λ (p : ℕ × ℕ). out_of (asks_seen s) t.entries p.0 p.1) s.line
+all_out t s = sum_by (λ (p : Pair). out_of (asks_seen s) t.entries p.0 p.1) s.line
 
 -- each spot whose number is another one now is among these
-pub record AreTouched (old new : List (Spot × ℕ)) (before after : List Spot) : Type 0 where
+pub record AreTouched (old new : Table) (before after : List Spot) : Type 0 where
   pub kept : (s : Spot) → has_spot s before ≡ true → has_spot s after ≡ true
   pub others : (s : Spot) → has_spot s after ≡ false → count spot_cmp new s ≡ count spot_cmp old s

@@ -5,16 +5,15 @@ ghost use Rattle.fuxi_terms.specs.Counts.{count};
 ghost use Rattle.fuxi_terms.specs.Keys.{key_cmp};
 ghost use Rattle.fuxi_terms.specs.TallyKeys.{credited_key};
 
-use crate::law::lines_alike;
 use crate::settle_run::settle;
 use cluster_desc::Cluster;
 use fuxi_terms::limits::MOST_JOBS;
 use fuxi_terms::tally_keys::{BACK, CREDITED};
 use fuxi_terms::{Key, OutOfMemory};
-use grant_table::{GrantTable, Pick, Steps, admitted_jobs, set_numbers};
+use grant_table::{GrantTable, Pick, Steps};
 use party_ledgers::{Demand, Grants, RowLedger};
-use place_pass::{Placer, levels};
-use preempt::{Plan, Victims, find, lines, planning, taking};
+use place_pass::Placer;
+use preempt::{Plan, Victims, find};
 use schedule_unit::{AppNo, Job, MachineNo, UnitNo};
 use std::alloc::Global;
 use std::marker::Model;
@@ -108,8 +107,8 @@ impl Allotment {
         ensures turns { IfOk result (λ x. x.placer.seen.turns ≡ self.placer.seen.turns) }
         ensures idle { IfOk result (λ x. x.placer.idle ≡ self.placer.idle) }
     {
-        levels();
-        admitted_jobs();
+        place_pass::law::levels();
+        grant_table::law::admitted_jobs();
         let Allotment {
             table,
             placer,
@@ -138,7 +137,7 @@ impl Allotment {
         ensures turns { self.new.placer.seen.turns ≡ self.old.placer.seen.turns }
         ensures idle { self.new.placer.idle ≡ (self.old.placer.idle && (not usable || is_open self.old.placer.seen machine.0)) }
     {
-        levels();
+        place_pass::law::levels();
         self.placer.open(machine, usable);
     }
 
@@ -153,7 +152,7 @@ impl Allotment {
         ensures turns { self.new.placer.seen.turns ≡ self.old.placer.seen.turns }
         ensures idle { AsksNoMore (asks_seen self.old.placer.seen) (asks_seen self.new.placer.seen) app.0 → self.new.placer.idle ≡ self.old.placer.idle }
     {
-        levels();
+        place_pass::law::levels();
         self.placer.asked(&self.table, app, demand);
     }
 
@@ -180,8 +179,8 @@ impl Allotment {
         if count == 0 {
             return Ok(());
         }
-        levels();
-        set_numbers();
+        place_pass::law::levels();
+        grant_table::law::set_numbers();
         self.touched.push(Pick { app, unit, machine })?;
         self.table.take(app, unit, machine, count);
         self.placer.changed(&self.table, app, unit, machine);
@@ -301,7 +300,7 @@ impl Allotment {
         ensures turns { self.new.placer.seen.turns ≤ self.old.placer.seen.turns + 2048 }
         ensures idle { self.new.placer.idle ≡ self.old.placer.idle }
     {
-        levels();
+        place_pass::law::levels();
         self.placer.line_up(&self.table);
     }
 
@@ -334,9 +333,9 @@ impl Allotment {
         ensures made { IfOk result (λ found. IfSome found (CanBeMade self.now.table)) }
         ensures few { IfOk result (λ found. IfSome found (λ plan. held_on self.now.table.entries plan.pick.app.0 plan.pick.unit.0 plan.pick.machine.0 < 100000)) }
     {
-        levels();
-        lines();
-        planning();
+        place_pass::law::levels();
+        preempt::law::lines();
+        preempt::law::planning();
         match find(alloc, &self.table, &self.placer, steps)? {
             Some(plan) => {
                 let pick = plan.pick;
@@ -354,7 +353,7 @@ impl Allotment {
         requires takable { AreTakable self.old.table machine.0 victims.now }
         ensures { OnOk result (TakesVictims machine.0 victims.now self.old self.new) }
     {
-        taking();
+        preempt::law::taking();
         for index in 0..victims.len() {
             let victim = victims.at(index);
             self.take(victim.app, victim.unit, machine, victim.count)?;
@@ -371,8 +370,8 @@ impl Allotment {
         requires room { (i : ℕ) → total_at (as_known self.old.table.jobs) pick.machine.0 i self.old.table.entries + count * size_at (as_known self.old.table.jobs) pick.app.0 pick.unit.0 i ≤ has_at self.old.table.cluster pick.machine.0 i }
         ensures { OnOk result (Adds (spot_of pick) count self.old self.new) }
     {
-        levels();
-        set_numbers();
+        place_pass::law::levels();
+        grant_table::law::set_numbers();
         self.touched.push(pick)?;
         self.table.add(pick.app, pick.unit, pick.machine, count);
         self.placer
@@ -390,7 +389,7 @@ impl Allotment {
         requires fits { (i : ℕ) → at_place (row_total kept.now) i ≤ has_at self.old.table.cluster machine.0 i }
         ensures { OnOk result (AddsRow machine.0 kept.now self.old self.new) }
     {
-        set_numbers();
+        grant_table::law::set_numbers();
         let _sound = self.table.cluster();
         for index in 0..kept.len() {
             let entry = kept.at(index);
@@ -420,7 +419,7 @@ impl Allotment {
         ensures table { OnOk result (self.new.table ≡ record self.old.table { entries = rows_put machine.0 kept.now self.old.table.entries }) }
         ensures turns { OnOk result (self.new.placer.seen.turns ≤ self.old.placer.seen.turns + 2048) }
     {
-        lines_alike();
+        crate::law::lines_alike();
         self.add_row(machine, kept)?;
         self.line_up();
         Ok(())
@@ -440,8 +439,8 @@ impl Allotment {
         ensures table { OnOk result (self.new.table ≡ record self.old.table { entries = self.new.table.entries }) }
         ensures turns { OnOk result (self.new.placer.seen.turns ≤ self.old.placer.seen.turns + 2048) }
     {
-        lines_alike();
-        taking();
+        crate::law::lines_alike();
+        preempt::law::taking();
         let _sound = self.table.cluster();
         let pick = plan.pick;
         self.take_victims(pick.machine, &plan.victims)?;
@@ -455,7 +454,7 @@ impl Allotment {
         requires { unit.0 < unit_count (as_known self.now.table.jobs) app.0 }
         ensures { result ≡ out_of (asks_seen self.now.placer.seen) self.now.table.entries app.0 unit.0 }
     {
-        levels();
+        place_pass::law::levels();
         self.placer.outstanding(&self.table, app, unit)
     }
 
@@ -488,7 +487,7 @@ impl Allotment {
         ensures idle { result.now.idle ≡ self.now.placer.idle }
         ensures units { (a : ℕ) → units_seen result.now.seen a ≡ unit_count (as_known self.now.table.jobs) a }
     {
-        levels();
+        place_pass::law::levels();
         &self.placer
     }
 }

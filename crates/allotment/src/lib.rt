@@ -2,8 +2,7 @@
 #![tactic(auto)]
 
 mod allotment_of;
-mod law;
+pub mod law;
 mod settle_run;
 
 pub use allotment_of::Allotment;
-pub use law::{ends_alike, lines_alike};

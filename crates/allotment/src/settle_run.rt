@@ -12,10 +12,9 @@ ghost use Rattle.allotment.specs.PlacingReads.{IsPlacing};
 ghost use Rattle.allotment.specs.SettlingRuns.{IsSettling, AreTouched, all_out};
 
 use fuxi_terms::OutOfMemory;
-use grant_table::{GrantTable, Pick, Steps, set_numbers};
-use place_pass::{Placer, levels};
+use grant_table::{GrantTable, Pick, Steps};
+use place_pass::Placer;
 use std::sync::ledger::Ledger;
-use written_roles::settling;
 
 /// Makes grants, always of the placeable pair of first rank, until no pair is placeable. The line is up to date. The grants made are
 /// added to `picks`. The placer is idle then. Where it was idle before there is none, and no step is counted.
@@ -43,7 +42,7 @@ pub fn settle<L: Ledger>(
     ensures same_table { placer.old.idle ≡ true → table.new ≡ table.old }
     ensures same_placer { placer.old.idle ≡ true → told_of placer.new ≡ told_of placer.old }
 {
-    settling();
+    written_roles::law::settling();
     while let Some(pick) = placer.next(table, steps) {
         grant(table, placer, pick);
         picks.push(pick)?;
@@ -66,8 +65,8 @@ fn grant(table: &mut GrantTable, placer: &mut Placer, pick: Pick)
     ensures fewer { all_out table.new placer.new.seen < all_out table.old placer.old.seen }
     ensures table { table.new ≡ record table.old { entries = with_grant table.old.entries (spot_of pick) } }
 {
-    set_numbers();
-    levels();
+    grant_table::law::set_numbers();
+    place_pass::law::levels();
     table.grant(pick.app, pick.unit, pick.machine);
     placer.changed(table, pick.app, pick.unit, pick.machine);
     let _sound = table.cluster();

@@ -20,7 +20,7 @@ use crate::carried::Carried;
 use crate::fault::AppFault;
 use crate::tallies::{given, is_named, usable};
 use cluster_desc::Cluster;
-use core_side::{NoLimit, Side, strangers_change_nothing};
+use core_side::{NoLimit, Side, law};
 use delta_channel::Place;
 use fuxi_terms::OutOfMemory;
 use fuxi_terms::limits::{GREATEST_BACK, GREATEST_COUNT, MOST_RACKS};
@@ -92,7 +92,7 @@ impl AppMaster {
     /// Wants so many grants of a unit in all.
     ///
     /// `NoUnit` comes where the job has no such unit, and then `WantRange` where the number is above 100,000.
-    /// `OutOfMemory` may come in place of any answer. After each fault the application is as it was.
+    /// `OutOfMemory` comes only where none of them does. After each fault the application is as it was.
     pub fn want(&mut self, alloc: Global, unit: UnitNo, count: u64) -> Result<(), AppFault>
         requires { self.old.steps < most_steps }
         ensures answers { Commands (Wants unit.0 count) self.old result self.new }
@@ -107,7 +107,7 @@ impl AppMaster {
     /// Wants so many grants of a unit on a machine.
     ///
     /// `NoUnit` comes where the job has no such unit, then `NoMachine` where the cluster has no such machine, and
-    /// then `WantRange` where the number is above 100,000. `OutOfMemory` may come in place of any answer. After each
+    /// then `WantRange` where the number is above 100,000. `OutOfMemory` comes only where none of them does. After each
     /// fault the application is as it was.
     pub fn near(
         &mut self,
@@ -130,7 +130,7 @@ impl AppMaster {
     /// Wants so many grants of a unit in a rack.
     ///
     /// `NoUnit` comes where the job has no such unit, then `NoRack` where no machine stands in the rack, and then
-    /// `WantRange` where the number is above 100,000. `OutOfMemory` may come in place of any answer. After each fault
+    /// `WantRange` where the number is above 100,000. `OutOfMemory` comes only where none of them does. After each fault
     /// the application is as it was.
     pub fn rack(
         &mut self,
@@ -155,7 +155,7 @@ impl AppMaster {
     /// Refuses a machine for new grants of a unit, or no longer.
     ///
     /// `NoUnit` comes where the job has no such unit, and then `NoMachine` where the cluster has no such machine.
-    /// `OutOfMemory` may come in place of any answer. After each fault the application is as it was.
+    /// `OutOfMemory` comes only where none of them does. After each fault the application is as it was.
     pub fn avoid(
         &mut self,
         alloc: Global,
@@ -179,8 +179,8 @@ impl AppMaster {
     ///
     /// `NoUnit` comes where the job has no such unit, then `NoMachine` where the cluster has no such machine, then
     /// `NotUsable` where the number is above what may be given back there, which it tells, and then `BackRange` where
-    /// with it more than 1,000,000,000,000 would be given back in this epoch. `OutOfMemory` may come in place of any
-    /// answer. After each fault the application is as it was.
+    /// with it more than 1,000,000,000,000 would be given back in this epoch. `OutOfMemory` comes only where
+    /// none of them does. After each fault the application is as it was.
     pub fn give_back(
         &mut self,
         alloc: Global,
@@ -221,7 +221,7 @@ impl AppMaster {
         ensures hears { IfOk result (HearsAlike self packet.now) }
         ensures steps { IfOk result (λ after. after.0.steps ≡ self.steps + 1) }
     {
-        strangers_change_nothing();
+        law::strangers_change_nothing();
         self.steps += 1;
         if !is_for(packet, self.app) {
             return Ok((self, STRANGER));
@@ -271,7 +271,7 @@ impl AppMaster {
         if self.carried(machine) {
             self.carried.count(unit, machine)
         } else {
-            self.usable(unit, machine)
+            usable(self.up.got(), self.up.sent(), self.up.own(), unit, machine)
         }
     }
 

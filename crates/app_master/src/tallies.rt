@@ -69,6 +69,9 @@ pub(crate) fn usable(
     ensures within { result ≤ greatest_count }
 {
     let count = counted(grants, unit, machine);
+    if count == 0 {
+        return 0;
+    }
     let credited = if grants.head() == boot {
         number_of(grants, CREDITED, unit, machine)
     } else {

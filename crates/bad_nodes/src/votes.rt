@@ -11,7 +11,7 @@ use schedule_unit::MachineNo;
 use std::alloc::Global;
 use std::cmp::Reverse;
 use std::marker::Model;
-use written_roles::judges;
+use written_roles::law;
 
 /// How many jobs mark each machine of a cluster as bad, at most 256, and which machines count as banned. It
 /// is seen as a record of both, by the numbers of the machines.
@@ -84,7 +84,7 @@ impl Votes {
         requires { percent ≤ 100 }
         ensures { IfOk result (λ machines. map number_of machines.items ≡ judged self.now least percent) }
     {
-        judges();
+        law::judges();
         let mut machines = self.marked(alloc, least)?;
         machines.sort_unstable_by_key(|machine| (Reverse(self.count(*machine)), machine.0));
         machines.truncate(self.left(percent));

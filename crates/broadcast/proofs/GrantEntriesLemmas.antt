@@ -12,7 +12,7 @@ use Rattle.fuxi_terms.specs.declared.Key.{Key}
 use Rattle.fuxi_terms.specs.Counts.{count, AreCounts}
 use Rattle.fuxi_terms.specs.Keys.{Spot, spot_cmp, key_cmp}
 use Rattle.fuxi_terms.specs.Numbers.{has_number}
-use Rattle.fuxi_terms.specs.Tables.{spot}
+use Rattle.fuxi_terms.specs.Tables.{spot, Table}
 use Rattle.fuxi_terms.specs.TallyKeys.{reported_key, count_key, credited_key, greatest_grant}
 use Rattle.fuxi_terms.proofs.Booleans.{both_true, same_tests, number_is, nat_itself}
 use Rattle.fuxi_terms.proofs.CountsLemmas.{tied, count_le}
@@ -60,7 +60,7 @@ reported_of : (rs : List ℕ) → AreOf 1 (machines rs)
 reported_of [] = tt
 reported_of (r ∷ rs) = (refl, reported_of rs)
 
-counts_of : (a : ℕ) (t : List (Spot × ℕ)) → AreOf 2 (count_entries a t)
+counts_of : (a : ℕ) (t : Table) → AreOf 2 (count_entries a t)
 counts_of a [] = tt
 counts_of a (e ∷ t) = by (nat_eq e.0.job a) (counts_of a t)
   where
@@ -89,7 +89,7 @@ module _ (a : ℕ) where
       ap (eq_by_cmp spot_cmp (spot a u m)) (sym is) ∙ ap is_eq (tied_itself spot_total (spot a u m)))
       (λ t. let is = same_spot (spot a u m) e (tied _ t) in ap (λ (x : Spot). eq_by_cmp key_cmp (count_key u m) (count_key x.unit x.machine)) (sym is) ∙ ap is_eq (tied_itself key_total (count_key u m)))
 
-  counts_at : (t : List (Spot × ℕ)) (u m : ℕ) → find key_cmp (count_key u m) (count_entries a t) ≡ find spot_cmp (spot a u m) t
+  counts_at : (t : Table) (u m : ℕ) → find key_cmp (count_key u m) (count_entries a t) ≡ find spot_cmp (spot a u m) t
   counts_at [] u m = refl
   counts_at (e ∷ t) u m = by (nat_eq e.0.job a) refl (counts_at t u m)
     where
@@ -102,7 +102,7 @@ module _ (a : ℕ) where
       by true is rest = λ i. cond (one_count u m e.0 (number_is e.0.job a is) i) (Some e.1) (rest i)
       by false is rest = rest ∙ ap (λ b. cond b (Some e.1) (find spot_cmp (spot a u m) t)) (sym (other (eq_by_cmp spot_cmp (spot a u m) e.0) is refl))
 
-  module _ (rs : List ℕ) (t : List (Spot × ℕ)) (cs : List (Key × ℕ)) (kinds : AreOf 3 cs) where
+  module _ (rs : List ℕ) (t : Table) (cs : List (Key × ℕ)) (kinds : AreOf 3 cs) where
     found : (q : Key) → find key_cmp q (grant_entries a rs t cs) ≡ or_else (find key_cmp q (machines rs)) (or_else (find key_cmp q (count_entries a t)) (find key_cmp q cs))
     found q = find_append key_cmp q (machines rs) (count_entries a t ++ cs) ∙ ap (or_else (find key_cmp q (machines rs))) (find_append key_cmp q (count_entries a t) cs)
 
@@ -141,7 +141,7 @@ no_key : (q : Key) → (nat_eq q.what 1 && nat_eq q.unit 0) ≡ false → nat_eq
 no_key q one two three = grind (arith, nat_tests, one, two, three)
 
 -- where each kind of number follows, so do the grants
-pub grants_follow : (a : ℕ) (es ns : List (Key × ℕ)) (rs : List ℕ) (t : List (Spot × ℕ)) (cs : List (Key × ℕ)) → AreCounts key_cmp greatest_grant es → AreCounts key_cmp greatest_grant (grant_entries a rs t cs) → AreNumbers key_cmp greatest_grant ns
+pub grants_follow : (a : ℕ) (es ns : List (Key × ℕ)) (rs : List ℕ) (t : Table) (cs : List (Key × ℕ)) → AreCounts key_cmp greatest_grant es → AreCounts key_cmp greatest_grant (grant_entries a rs t cs) → AreNumbers key_cmp greatest_grant ns
     → GrantsFollow a es ns rs t cs → numbers_set key_cmp es ns ≡ grant_entries a rs t cs
 grants_follow a es ns rs t cs h k numbers f = numbers_are key_total same_key greatest_grant es ns (grant_entries a rs t cs) h k numbers (λ q. by q (nat_eq q.what 1 && nat_eq q.unit 0) (nat_eq q.what 2) (nat_eq q.what 3) refl refl refl)
   where

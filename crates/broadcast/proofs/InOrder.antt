@@ -17,6 +17,7 @@ use Rattle.fuxi_terms.proofs.CountsLemmas.{both_true}
 use Rattle.schedule_unit.specs.declared.party.MachineNo.{MachineNo}
 use Rattle.written_roles.specs.MasterSteps.{count_entries}
 use Rattle.fuxi_terms.specs.NumbersSet.{AreNumbers}
+use Rattle.fuxi_terms.specs.Tables.{Table}
 use Rattle.broadcast.specs.AllShown.{is_job}
 use Rattle.broadcast.specs.OneJob.{AreOf, AreNumbersOf, IsNews, reported_now, machines_of, reported_numbers, credited_to, numbers_of}
 use Rattle.broadcast.specs.declared.grants.News.{News}
@@ -116,7 +117,7 @@ pub record IsSmall (e : Spot × ℕ) : Type 0 where
 count_within : (u m n : ℕ) → u < 8 → m < 256 → n ≤ 100000 → n ≤ greatest_grant (count_key u m)
 count_within u m n lu lm ln = grind (arith, nat_tests, lu, lm, ln)
 
-pub counts_in_order : (a : ℕ) (es : List (Spot × ℕ)) → T (is_sorted spot_cmp es) → AllByRecursion IsSmall es → AreNumbersOf 2 (count_entries a es)
+pub counts_in_order : (a : ℕ) (es : Table) → T (is_sorted spot_cmp es) → AllByRecursion IsSmall es → AreNumbersOf 2 (count_entries a es)
 counts_in_order a es h small = record { numbers = record { sorted = sorted es h; within = within es small }; kinds = kinds es }
   where
     f : Spot × ℕ → Key × ℕ
@@ -125,7 +126,7 @@ counts_in_order a es h small = record { numbers = record { sorted = sorted es h;
     lesser : (s x : Spot) → s.job ≡ a → x.job ≡ a → T (is_lt (spot_cmp s x)) → T (is_lt (ordering_then (nat_cmp s.unit x.unit) (nat_cmp s.machine x.machine)))
     lesser s x sj xj lt = subst (λ r. T (is_lt (ordering_then r (ordering_then (nat_cmp s.unit x.unit) (nat_cmp s.machine x.machine))))) (ap (λ j. nat_cmp j x.job) (sj ∙ sym xj) ∙ tied_itself nat_cmp_total x.job) lt
 
-    belows : (s : Spot) (es : List (Spot × ℕ)) → s.job ≡ a → T (below_all spot_cmp s es) → T (below_all key_cmp (count_key s.unit s.machine) (count_entries a es))
+    belows : (s : Spot) (es : Table) → s.job ≡ a → T (below_all spot_cmp s es) → T (below_all key_cmp (count_key s.unit s.machine) (count_entries a es))
     belows s [] job h = tt
     belows s (e ∷ es) job h =
         let p = both_true (is_lt (spot_cmp s e.0)) (below_all spot_cmp s es) h in
@@ -135,7 +136,7 @@ counts_in_order a es h small = record { numbers = record { sorted = sorted es h;
           | false ↦ λ _. rest
         ] refl
 
-    sorted : (es : List (Spot × ℕ)) → T (is_sorted spot_cmp es) → T (is_sorted key_cmp (count_entries a es))
+    sorted : (es : Table) → T (is_sorted spot_cmp es) → T (is_sorted key_cmp (count_entries a es))
     sorted [] h = tt
     sorted (e ∷ es) h =
         let p = both_true (below_all spot_cmp e.0 es) (is_sorted spot_cmp es) h in
@@ -145,16 +146,16 @@ counts_in_order a es h small = record { numbers = record { sorted = sorted es h;
           | false ↦ λ _. rest
         ] refl
 
-    within : (es : List (Spot × ℕ)) → AllByRecursion IsSmall es → AllByRecursion (λ n. n.1 ≤ greatest_grant n.0) (count_entries a es)
+    within : (es : Table) → AllByRecursion IsSmall es → AllByRecursion (λ n. n.1 ≤ greatest_grant n.0) (count_entries a es)
     within es h = all_mapped (λ n. n.1 ≤ greatest_grant n.0) (λ e. (count_key e.0.unit e.0.machine, e.1)) (filter (λ e. nat_eq e.0.job a) es) (each (filter (λ e. nat_eq e.0.job a) es) (all_filter IsSmall (λ e. nat_eq e.0.job a) es h))
       where
-        each : (es : List (Spot × ℕ)) → AllByRecursion IsSmall es → AllByRecursion (λ e. e.1 ≤ greatest_grant (count_key e.0.unit e.0.machine)) es
+        each : (es : Table) → AllByRecursion IsSmall es → AllByRecursion (λ e. e.1 ≤ greatest_grant (count_key e.0.unit e.0.machine)) es
         each [] h = tt
         each (e ∷ es) h = (count_within e.0.unit e.0.machine e.1 h.0.unit h.0.machine h.0.number, each es h.1)
 
-    kinds : (es : List (Spot × ℕ)) → AreOf 2 (count_entries a es)
+    kinds : (es : Table) → AreOf 2 (count_entries a es)
     kinds es = all_mapped (λ e. nat_eq e.0.what 2 ≡ true) (λ e. (count_key e.0.unit e.0.machine, e.1)) (filter (λ e. nat_eq e.0.job a) es) (each (filter (λ e. nat_eq e.0.job a) es))
       where
-        each : (es : List (Spot × ℕ)) → AllByRecursion (λ e. nat_eq (count_key e.0.unit e.0.machine).what 2 ≡ true) es
+        each : (es : Table) → AllByRecursion (λ e. nat_eq (count_key e.0.unit e.0.machine).what 2 ≡ true) es
         each [] = tt
         each (e ∷ es) = (refl, each es)

@@ -9,10 +9,10 @@ use Rattle.std.specs.FinMap.Entries.{by_order, put, where_key, find, is_sorted}
 use Rattle.std.proofs.lemmas.List.Elements.{filter-append}
 use Rattle.fuxi_terms.specs.declared.Key.{Key}
 use Rattle.fuxi_terms.specs.Counts.{count, set_count, AreCounts}
-use Rattle.fuxi_terms.specs.Keys.{Spot, spot_cmp, key_cmp}
+use Rattle.fuxi_terms.specs.Keys.{spot_cmp, key_cmp}
 use Rattle.fuxi_terms.specs.Limits.{most_machines}
 use Rattle.fuxi_terms.specs.Numbers.{has_number}
-use Rattle.fuxi_terms.specs.Tables.{spot}
+use Rattle.fuxi_terms.specs.Tables.{spot, Table}
 use Rattle.fuxi_terms.specs.Tallies.{TallyRecord, empty_tally, patched_tally, staying}
 use Rattle.fuxi_terms.specs.declared.answers.LedgerFault.TheVariants.{Below, TooGreat}
 use Rattle.fuxi_terms.specs.TallyKeys.{reported_key, count_key, credited_key, credited_what, greatest_grant}
@@ -37,10 +37,10 @@ use Rattle.broadcast.proofs.Touched.{table_small}
 
 -- what the laws say of entries of grants and of numbers that are set
 pub record Laws : Type 0 where
-  pub found : (a : ℕ) (reported : List ℕ) (table : List (Spot × ℕ)) (credited : List (Key × ℕ)) → AreOf credited_what credited → HasNumbers a reported table credited
+  pub found : (a : ℕ) (reported : List ℕ) (table : Table) (credited : List (Key × ℕ)) → AreOf credited_what credited → HasNumbers a reported table credited
   pub set : (es ns : List (Key × ℕ)) → T (is_sorted key_cmp ns) → (q : Key) → count key_cmp (numbers_set key_cmp es ns) q ≡ after_setting es ns q
   pub counts : (es ns : List (Key × ℕ)) → AreCounts key_cmp greatest_grant es → AreNumbers key_cmp greatest_grant ns → AreCounts key_cmp greatest_grant (numbers_set key_cmp es ns)
-  pub follow : (a : ℕ) (es ns : List (Key × ℕ)) (reported : List ℕ) (table : List (Spot × ℕ)) (credited : List (Key × ℕ)) → AreCounts key_cmp greatest_grant es → AreCounts key_cmp greatest_grant (grant_entries a reported table credited) → AreNumbers key_cmp greatest_grant ns
+  pub follow : (a : ℕ) (es ns : List (Key × ℕ)) (reported : List ℕ) (table : Table) (credited : List (Key × ℕ)) → AreCounts key_cmp greatest_grant es → AreCounts key_cmp greatest_grant (grant_entries a reported table credited) → AreNumbers key_cmp greatest_grant ns
       → GrantsFollow a es ns reported table credited → numbers_set key_cmp es ns ≡ grant_entries a reported table credited
 
 -- grants are shown

@@ -18,6 +18,7 @@ use Rattle.written_roles.specs.MasterSteps.{spot_row_key}
 use Rattle.fuxi_terms.specs.NumbersSet.{numbers_set, AreNumbers, IsSetTo}
 use Rattle.broadcast.specs.Projections.{row_of, spot_of, RowFollows}
 use Rattle.fuxi_terms.proofs.NumbersSetLemmas.{set_counts}
+use Rattle.fuxi_terms.specs.Tables.{Table}
 
 module _ {K : Type 0} {R : K → K → Ordering} (o : IsTotalOrder R) (same : (x y : K) → R x y ≡ Equal → x ≡ y) (greatest : K → ℕ) where
   pub set_count_is : (es ns : List (K × ℕ)) → T (is_sorted R ns) → (q : K) → count R (numbers_set R es ns) q ≡ cond (is_some (find R q ns)) (count R ns q) (count R es q)
@@ -45,7 +46,7 @@ module _ (jobs : List KnownJob) (m : ℕ) where
       ap (eq_by_cmp spot_cmp s) (sym is) ∙ ap is_eq (tied_itself spot_total s))
       (λ t. let is = same_spot s e (tied _ t) in ap (λ x. eq_by_cmp row_cmp (key s) (key x)) (sym is) ∙ ap is_eq (tied_itself row_key_total (key s)))
 
-  count_at : (t : List (Spot × ℕ)) (s : Spot) → s.machine ≡ m → find row_cmp (key s) (row_of jobs m t) ≡ find spot_cmp s t
+  count_at : (t : Table) (s : Spot) → s.machine ≡ m → find row_cmp (key s) (row_of jobs m t) ≡ find spot_cmp s t
   count_at [] s sm = refl
   count_at (e ∷ t) s sm = by (nat_eq e.0.machine m) refl (count_at t s sm)
     where
@@ -57,7 +58,7 @@ module _ (jobs : List KnownJob) (m : ℕ) where
           other true t = let there : nat_eq e.0.machine m ≡ true = ap (λ n. nat_eq n m) (sym (ap (λ (x : Spot). x.machine) (same_spot s e.0 (tied _ t))) ∙ sm) ∙ nat_itself m in let f : true ≡ false = sym there ∙ is in cc
           other false t = refl
 
-  none_at : (t : List (Spot × ℕ)) (q : RowKey) → (q ≡ key (spot_of q m) → ⊥) → find row_cmp q (row_of jobs m t) ≡ None
+  none_at : (t : Table) (q : RowKey) → (q ≡ key (spot_of q m) → ⊥) → find row_cmp q (row_of jobs m t) ≡ None
   none_at [] q differs = refl
   none_at (e ∷ t) q differs = by (nat_eq e.0.machine m) refl (none_at t q differs)
     where
@@ -73,7 +74,7 @@ module _ (jobs : List KnownJob) (m : ℕ) where
       by false is rest = rest
 
   -- where the counts of spots follow, so does the row
-  pub row_follows : (old new : List (Spot × ℕ)) (ns : List (RowKey × ℕ)) → AreCounts row_cmp greatest_row (row_of jobs m old) → AreCounts row_cmp greatest_row (row_of jobs m new) → AreNumbers row_cmp greatest_row ns → RowFollows jobs m old new ns
+  pub row_follows : (old new : Table) (ns : List (RowKey × ℕ)) → AreCounts row_cmp greatest_row (row_of jobs m old) → AreCounts row_cmp greatest_row (row_of jobs m new) → AreNumbers row_cmp greatest_row ns → RowFollows jobs m old new ns
       → numbers_set row_cmp (row_of jobs m old) ns ≡ row_of jobs m new
   row_follows old new ns h k numbers f = numbers_are row_key_total same_row_key greatest_row (row_of jobs m old) ns (row_of jobs m new) h k numbers (λ q. by q (eq_by_cmp row_cmp q (key (spot_of q m))) refl)
     where

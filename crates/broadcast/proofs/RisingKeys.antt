@@ -12,6 +12,7 @@ use Rattle.fuxi_terms.specs.Keys.{RowKey, row_cmp, Spot, spot_cmp}
 use Rattle.fuxi_terms.proofs.Booleans.{same_tests}
 use Rattle.fuxi_terms.proofs.CountsLemmas.{both_true, lesser, tied}
 use Rattle.fuxi_terms.proofs.KeyOrders.{row_key_total, same_row_key, spot_total, same_spot}
+use Rattle.fuxi_terms.specs.Tables.{Table}
 use Rattle.written_roles.specs.MasterSteps.{spot_row_key}
 
 pub both : (a b : Bool) → T a → T b → T (a && b)
@@ -49,7 +50,7 @@ module _ (jobs : List KnownJob) (m : ℕ) where
 
   -- of items that stand at spots: those of them that pass a test, which are all on the machine
   module _ {A : Type 0} (at : A → Spot) (value number : A → ℕ) (p : A → Bool) (on : (y : A) → p y ≡ true → (at y).machine ≡ m) where
-    abbrev entries : List A → List (Spot × ℕ)
+    abbrev entries : List A → Table
     entries ys = map (λ y. (at y, value y)) ys
 
     abbrev keyed : List A → List (RowKey × ℕ)

@@ -4,12 +4,12 @@ use Rattle.std.specs.Prelude.{◌||◌}
 use Rattle.std.specs.List.{AllByRecursion}
 use Rattle.std.proofs.lemmas.Bool.Decides.{nat_tests}
 use Rattle.std.specs.Global.{Vec}
-use Rattle.std.proofs.lemmas.List.{get_or-map}
 use Rattle.std.proofs.lemmas.Option.{slice_get_within, slice_get-get_or}
 use Rattle.fuxi_terms.specs.declared.Key.{Key}
 use Rattle.fuxi_terms.specs.Keys.{Spot}
 use Rattle.fuxi_terms.specs.Numbers.{has_number, with_number}
 use Rattle.fuxi_terms.proofs.Booleans.{number_is, nat_itself, or_false}
+use Rattle.fuxi_terms.specs.Tables.{Table}
 use Rattle.written_roles.specs.MasterSteps.{count_entries}
 use Rattle.broadcast.specs.Projections.{grant_entries}
 use Rattle.schedule_unit.specs.declared.party.MachineNo.{MachineNo}
@@ -33,17 +33,17 @@ got_other (x ∷ xs) (suc i) zero y h = refl
 got_other (x ∷ xs) (suc i) (suc j) y h = got_other xs i j y (let n : nat_eq (suc i) (suc j) ≡ false = h in grind (arith, nat_tests, n))
 
 -- the counts of a slot
-pub slot_counts : (touched : List (Spot × ℕ)) (jobs : ℕ) (all : Vec (Vec (Key × ℕ))) (lists : List (Vec (Key × ℕ))) (a : ℕ) (cs : List (Key × ℕ)) → AreOfJobs touched jobs all.items → a < jobs → lists ≡ all.items → cs ≡ get_or (lists_of lists) a [] → cs ≡ count_entries a touched
+pub slot_counts : (touched : Table) (jobs : ℕ) (all : Vec (Vec (Key × ℕ))) (lists : List (Vec (Key × ℕ))) (a : ℕ) (cs : List (Key × ℕ)) → AreOfJobs touched jobs all.items → a < jobs → lists ≡ all.items → cs ≡ get_or (lists_of lists) a [] → cs ≡ count_entries a touched
 slot_counts touched jobs all lists a cs h lt are is = is ∙ ap (λ (l : List (Vec (Key × ℕ))). get_or (lists_of l) a []) are ∙ h a lt
 
 pub in_slot : (slots : List (Option App)) (a : ℕ) (o : Option App) → a < length slots → o ≡ get_or slots a o → slice_get slots a ≡ Some o
 in_slot slots a o lt is = slice_get-get_or slots a o lt ∙ ap (λ x. Some x) (sym is)
 
-pub none_shown : (touched : List (Spot × ℕ)) (news : News) (apps : List (Option App)) → AreShown touched news 0 apps apps
+pub none_shown : (touched : Table) (news : News) (apps : List (Option App)) → AreShown touched news 0 apps apps
 none_shown touched news apps = record { wide = refl; none = λ a e. e; some = λ a d lt. absurd (omega (arith, lt)); rest = λ a _. refl }
 
 -- one slot more
-pub one_shown : (touched : List (Spot × ℕ)) (news : News) (i : ℕ) (old new : List (Option App)) (was slot : Option App) → AreShown touched news i old new → i < length new → slice_get new i ≡ Some was
+pub one_shown : (touched : Table) (news : News) (i : ℕ) (old new : List (Option App)) (was slot : Option App) → AreShown touched news i old new → i < length new → slice_get new i ≡ Some was
     → (was ≡ None → slot ≡ None) → ((d : App) → was ≡ Some d → SlotIsShown news i (count_entries i touched) d slot) → AreShown touched news (i + 1) old (set new i slot)
 one_shown touched news i old new was slot h lt is none some = record {
   wide = length-set new i slot ∙ h.wide;

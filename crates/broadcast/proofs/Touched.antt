@@ -16,6 +16,7 @@ use Rattle.fuxi_terms.proofs.KeyOrders.{spot_total, same_spot}
 use Rattle.fuxi_terms.proofs.Spots.{each_found}
 use Rattle.fuxi_terms.proofs.ValidJobs.{units_valid}
 use Rattle.fuxi_terms.specs.NumbersSet.{IsSetTo}
+use Rattle.fuxi_terms.specs.Tables.{Table}
 use Rattle.grant_table.specs.GrantTables.{TableRecord, as_known, AreJobs, IsSound}
 use Rattle.broadcast.specs.AllShown.{has_spot, AreInOrder, IsBefore}
 use Rattle.broadcast.specs.OneJob.{has_place, counts_at}
@@ -55,7 +56,7 @@ module _ (t : TableRecord) (sound : IsSound t) where
   pub table_small : AllByRecursion IsSmall t.entries
   table_small = by t.entries sound.admitted sound.counts.within
     where
-      by : (es : List (Spot × ℕ)) → AllByRecursion (λ e. IsAdmitted t e.0) es → AllByRecursion (λ e. e.1 ≤ 100000) es → AllByRecursion IsSmall es
+      by : (es : Table) → AllByRecursion (λ e. IsAdmitted t e.0) es → AllByRecursion (λ e. e.1 ≤ 100000) es → AllByRecursion IsSmall es
       by [] h g = tt
       by (e ∷ es) h g = (small_one e.0 e.1 h.0 g.0, by es h.1 g.1)
 
@@ -104,7 +105,7 @@ module _ (t : TableRecord) (q : Spot) where
           rest ∙ ap (λ b. one (has_spot q ss && b)) gone ∙ ap one (and_false (has_spot q ss)) ∙ ap one (sym gone)
       by false false there same rest = rest
 
-none_there : (t : TableRecord) (q : Spot) (es : List (Spot × ℕ)) → AllByRecursion (λ e. IsAdmitted t e.0) es → has_place t q ≡ false → count spot_cmp es q ≡ 0
+none_there : (t : TableRecord) (q : Spot) (es : Table) → AllByRecursion (λ e. IsAdmitted t e.0) es → has_place t q ≡ false → count spot_cmp es q ≡ 0
 none_there t q es h gone = by (nat_eq (count spot_cmp es q) 0) refl
   where
     by : (b : Bool) → nat_eq (count spot_cmp es q) 0 ≡ b → count spot_cmp es q ≡ 0
@@ -112,7 +113,7 @@ none_there t q es h gone = by (nat_eq (count spot_cmp es q) 0) refl
     by false e = let some : 0 < count spot_cmp es q = grind (arith, nat_tests, e) in let f : true ≡ false = sym (has_one t q (each_found (IsAdmitted t) q es some h)) ∙ gone in cc
 
 -- the table is an earlier map with what it has at the spots that were touched
-pub touched_follow : (t : TableRecord) (ss : List Spot) (before : List (Spot × ℕ)) → IsSound t → IsBefore t ss before → IsSetTo spot_cmp before (counts_at t ss) t.entries
+pub touched_follow : (t : TableRecord) (ss : List Spot) (before : Table) → IsSound t → IsBefore t ss before → IsSetTo spot_cmp before (counts_at t ss) t.entries
 touched_follow t ss before sound is q = by (has_spot q ss) (has_place t q) refl refl (found_at t q ss)
   where
     by : (b c : Bool) → has_spot q ss ≡ b → has_place t q ≡ c → find spot_cmp q (counts_at t ss) ≡ one t q (b && c)

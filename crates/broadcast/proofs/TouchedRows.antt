@@ -22,18 +22,19 @@ use Rattle.written_roles.specs.MasterSteps.{spot_row_key}
 use Rattle.grant_table.specs.GrantTables.{TableRecord, as_known, IsSound}
 use Rattle.broadcast.specs.Projections.{row_of, spot_of, RowFollows}
 use Rattle.fuxi_terms.specs.NumbersSet.{numbers_set, AreNumbers}
+use Rattle.fuxi_terms.specs.Tables.{Table}
 use Rattle.broadcast.specs.AllShown.{has_spot, AreInOrder, IsBefore}
 use Rattle.broadcast.specs.TouchedNumbers.{is_touched, number_at, touched_on, MayBeSet}
 use Rattle.broadcast.proofs.RisingKeys.{one_spot, sorted_keys}
 use Rattle.broadcast.proofs.UnitKeys.{IsUnitKey, key_is, few_keys, all_joined}
 
-pairs_same : (es : List (Spot × ℕ)) → map (λ (e : Spot × ℕ). (e.0, e.1)) es ≡ es
+pairs_same : (es : Table) → map (λ (e : Spot × ℕ). (e.0, e.1)) es ≡ es
 pairs_same [] = refl
 pairs_same (e ∷ es) = ap (λ fs. e ∷ fs) (pairs_same es)
 
 -- the law by which the row of a table follows from that of an earlier one
 abbrev pub RowsFollow : Type 0
-RowsFollow = (jobs : List KnownJob) (m : ℕ) (old new : List (Spot × ℕ)) (ns : List (RowKey × ℕ)) → AreCounts row_cmp greatest_row (row_of jobs m old) → AreCounts row_cmp greatest_row (row_of jobs m new) → AreNumbers row_cmp greatest_row ns
+RowsFollow = (jobs : List KnownJob) (m : ℕ) (old new : Table) (ns : List (RowKey × ℕ)) → AreCounts row_cmp greatest_row (row_of jobs m old) → AreCounts row_cmp greatest_row (row_of jobs m new) → AreNumbers row_cmp greatest_row ns
     → RowFollows jobs m old new ns → numbers_set row_cmp (row_of jobs m old) ns ≡ row_of jobs m new
 
 module _ (t : TableRecord) (sound : IsSound t) (m : ℕ) where
@@ -48,7 +49,7 @@ module _ (t : TableRecord) (sound : IsSound t) (m : ℕ) where
   within k n is le = subst (λ b. n ≤ cond b greatest_count 0) (sym (key_is t.jobs sound.in_order k is)) le
 
   -- ---- the row of a map of admitted units
-  module _ (es : List (Spot × ℕ)) (counts : AreCounts spot_cmp (λ s. greatest_count) es) (admitted : AllByRecursion (λ e. (e.0.unit < unit_count jobs e.0.job) × (e.0.machine < length t.cluster.machines)) es) where
+  module _ (es : Table) (counts : AreCounts spot_cmp (λ s. greatest_count) es) (admitted : AllByRecursion (λ e. (e.0.unit < unit_count jobs e.0.job) × (e.0.machine < length t.cluster.machines)) es) where
     pub row_units : AllByRecursion (λ e. IsUnitKey t.jobs e.0) (row_of jobs m es)
     row_units = all_mapped (λ (e : RowKey × ℕ). IsUnitKey t.jobs e.0) (λ (e : Spot × ℕ). (key e.0, e.1)) (filter (λ (e : Spot × ℕ). nat_eq e.0.machine m) es)
         (all_filter (λ (e : Spot × ℕ). IsUnitKey t.jobs (key e.0)) (λ (e : Spot × ℕ). nat_eq e.0.machine m) es
@@ -143,7 +144,7 @@ module _ (t : TableRecord) (sound : IsSound t) (m : ℕ) where
       by false e rest = other e (is_touched t m x) refl ∙ rest
 
   -- a unit that is not admitted has nothing
-  none_there : (s : Spot) (es : List (Spot × ℕ)) → AllByRecursion (λ e. (e.0.unit < unit_count jobs e.0.job) × (e.0.machine < length t.cluster.machines)) es → is_admitted s ≡ false → count spot_cmp es s ≡ 0
+  none_there : (s : Spot) (es : Table) → AllByRecursion (λ e. (e.0.unit < unit_count jobs e.0.job) × (e.0.machine < length t.cluster.machines)) es → is_admitted s ≡ false → count spot_cmp es s ≡ 0
   none_there s es admitted not_admitted = elim (cases_lt 0 (count spot_cmp es s)) [
     | inl some ↦
         let lt : s.unit < unit_count jobs s.job = (each_found (λ s. (s.unit < unit_count jobs s.job) × (s.machine < length t.cluster.machines)) s es some admitted).0 in
@@ -151,7 +152,7 @@ module _ (t : TableRecord) (sound : IsSound t) (m : ℕ) where
     | inr le ↦ omega (arith, le)
   ]
 
-  pub touched_row : RowsFollow → (ss : List Spot) → AreInOrder ss → (before : List (Spot × ℕ)) → IsBefore t ss before → numbers_set row_cmp (row_of jobs m before) (touched_on t m ss) ≡ row_of jobs m t.entries
+  pub touched_row : RowsFollow → (ss : List Spot) → AreInOrder ss → (before : Table) → IsBefore t ss before → numbers_set row_cmp (row_of jobs m before) (touched_on t m ss) ≡ row_of jobs m t.entries
   touched_row follow ss order before is = follow jobs m before t.entries (touched_on t m ss) (row_counts before is.counts is.admitted) (row_counts t.entries sound.counts sound.admitted) (touched_numbers ss order)
       (record { keys = touched_key ss; counts = λ s sm. subst (λ o. count spot_cmp t.entries s ≡ cond (is_some o) (unwrap_or o 0) (count spot_cmp before s)) (sym (touched_find s sm ss)) (by s (has_spot s ss) (is_admitted s) refl refl) })
     where
@@ -160,7 +161,7 @@ module _ (t : TableRecord) (sound : IsSound t) (m : ℕ) where
       by s true false h a = none_there s t.entries sound.admitted a ∙ sym (none_there s before is.admitted a)
       by s false a h _ = is.others s h
 
-  pub may_be_set : (ss : List Spot) → AreInOrder ss → (before : List (Spot × ℕ)) → IsBefore t ss before → MayBeSet (row_of jobs m before) (touched_on t m ss)
+  pub may_be_set : (ss : List Spot) → AreInOrder ss → (before : Table) → IsBefore t ss before → MayBeSet (row_of jobs m before) (touched_on t m ss)
   may_be_set ss order before is = record {
     numbers_are = touched_numbers ss order;
     keys = touched_keys ss order;

@@ -11,7 +11,7 @@ use Rattle.fuxi_terms.specs.Numbers.{with_number}
 use Rattle.fuxi_terms.specs.Rows.{IsRow, patched_row}
 use Rattle.fuxi_terms.specs.Tallies.{TallyRecord, ChangeRecord, empty_tally, patched_tally}
 use Rattle.fuxi_terms.specs.TallyKeys.{greatest_grant, credited_what}
-use Rattle.fuxi_terms.specs.Tables.{spot}
+use Rattle.fuxi_terms.specs.Tables.{spot, Table}
 use Rattle.fuxi_terms.specs.declared.Key.{Key}
 use Rattle.fuxi_terms.specs.declared.answers.LedgerFault.TheVariants.{Below, TooGreat}
 use Rattle.schedule_unit.specs.declared.party.AppNo.{AppNo}
@@ -49,7 +49,7 @@ is_job None a = false
 is_job (Some n) a = nat_eq n.0 a
 
 -- an earlier map of grants: of units that are admitted, and with another number at most at these spots
-pub record IsBefore (t : TableRecord) (spots : List Spot) (before : List (Spot × ℕ)) : Type 0 where
+pub record IsBefore (t : TableRecord) (spots : List Spot) (before : Table) : Type 0 where
   pub counts : AreCounts spot_cmp (λ s. greatest_count) before
   pub admitted : AllByRecursion (λ e. (e.0.unit < unit_count (as_known t.jobs) e.0.job) × (e.0.machine < length t.cluster.machines)) before
   pub others : (s : Spot) → has_spot s spots ≡ false → count spot_cmp t.entries s ≡ count spot_cmp before s
@@ -60,7 +60,7 @@ Down = Endpoint (List (RowKey × ℕ)) (List (RowKey × ℤ)) JoinRecord
 
 -- each agent, by its machine's number, is shown the row of an earlier map
 pub record RowsAreBefore (t : TableRecord) (spots : List Spot) (sides : List Down) : Type 0 where
-  pub before : List (Spot × ℕ)
+  pub before : Table
   pub is : IsBefore t spots before
   pub rows : (m : ℕ) (d : Down) → slice_get sides m ≡ Some d → d.outgoing.present ≡ row_of (as_known t.jobs) m before
 
@@ -79,7 +79,7 @@ abbrev pub credited_in : List (Key × ℕ) → List (Key × ℕ)
 credited_in es = where_key key_cmp (λ k. nat_eq k.what credited_what) es
 
 -- grants of a job that show these machines as reported, and the counts of this map
-abbrev pub ShowsJob : ℕ → List ℕ → List (Spot × ℕ) → TallyRecord → Type 0
+abbrev pub ShowsJob : ℕ → List ℕ → Table → TallyRecord → Type 0
 ShowsJob a reported table t = t.entries ≡ grant_entries a reported table (credited_in t.entries)
 
 abbrev pub with_reported : Option MachineNo → List ℕ → List ℕ
@@ -89,7 +89,7 @@ with_reported (Some n) ms = with_number n.0 ms
 -- each application, by its job's number, is shown an earlier map and the machines that were reported before; one that was admitted is shown
 -- nothing yet, and has no grant in that map. now: the machines that are reported now
 pub record GrantsAreBefore (t : TableRecord) (spots : List Spot) (news : News) (now : List ℕ) (apps : List (Option App)) : Type 0 where
-  pub before : List (Spot × ℕ)
+  pub before : Table
   pub is : IsBefore t spots before
   pub reported : List ℕ
   pub is_now : now ≡ with_reported news.reported reported

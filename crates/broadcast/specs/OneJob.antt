@@ -15,6 +15,7 @@ use Rattle.fuxi_terms.specs.declared.Key.{Key}
 use Rattle.schedule_unit.specs.declared.party.MachineNo.{MachineNo}
 use Rattle.written_roles.specs.MasterSteps.{count_entries}
 use Rattle.fuxi_terms.specs.NumbersSet.{AreNumbers, IsSetTo}
+use Rattle.fuxi_terms.specs.Tables.{Table}
 use Rattle.grant_table.specs.GrantTables.{TableRecord, as_known, IsSound}
 use Rattle.broadcast.specs.declared.grants.News.{News}
 use Rattle.broadcast.specs.AllShown.{App, is_job, ShowsJob, ShowsGrants}
@@ -24,19 +25,19 @@ abbrev pub has_place : TableRecord → Spot → Bool
 has_place t s = nat_lt s.unit (unit_count (as_known t.jobs) s.job) && nat_lt s.machine (length t.cluster.machines)
 
 -- what the table has at these spots
-abbrev pub counts_at : TableRecord → List Spot → List (Spot × ℕ)
+abbrev pub counts_at : TableRecord → List Spot → Table
 counts_at t spots = map (λ s. (s, count spot_cmp t.entries s)) (filter (has_place t) spots)
 
 -- the same by job: a list for each number below this
 abbrev pub lists_of : List (Vec (Key × ℕ)) → List (List (Key × ℕ))
 lists_of lists = map (λ (l : Vec (Key × ℕ)). l.items) lists
 
-pub record AreByJob (touched : List (Spot × ℕ)) (jobs : ℕ) (lists : List (Vec (Key × ℕ))) : Type 0 where
+pub record AreByJob (touched : Table) (jobs : ℕ) (lists : List (Vec (Key × ℕ))) : Type 0 where
   pub wide : length lists ≡ jobs
   pub each : (a : ℕ) → a < jobs → get_or (lists_of lists) a [] ≡ count_entries a touched
 
 -- the counts of each of so many jobs, where a job without a list has none
-abbrev pub AreOfJobs : List (Spot × ℕ) → ℕ → List (Vec (Key × ℕ)) → Type 0
+abbrev pub AreOfJobs : Table → ℕ → List (Vec (Key × ℕ)) → Type 0
 AreOfJobs touched jobs lists = (a : ℕ) → a < jobs → get_or (lists_of lists) a [] ≡ count_entries a touched
 
 abbrev pub AreOf : ℕ → List (Key × ℕ) → Type 0
@@ -74,9 +75,9 @@ numbers_of news a counts = reported_numbers (machines_of news a) ++ (counts ++ c
 -- an application is shown an earlier map, which these counts take to that of the table
 pub record JobIsBefore (t : TableRecord) (news : News) (now : List ℕ) (a : ℕ) (counts : List (Key × ℕ)) (d : App) : Type 0 where
   pub sound : IsSound t
-  pub touched : List (Spot × ℕ)
+  pub touched : Table
   pub is : counts ≡ count_entries a touched
-  pub before : List (Spot × ℕ)
+  pub before : Table
   pub follows : IsSetTo spot_cmp before touched t.entries
   pub reported : List ℕ
   pub is_now : (m : ℕ) → has_number m now ≡ (has_number m (machines_of news a) || has_number m reported)
@@ -90,13 +91,13 @@ pub record SlotIsShown (news : News) (a : ℕ) (counts : List (Key × ℕ)) (old
   pub there : slot ≡ Some new
   pub shows : (t : TableRecord) (now : List ℕ) → JobIsBefore t news now a counts old → ShowsGrants t news now a old new
 
-pub record IsInSlot (touched : List (Spot × ℕ)) (news : News) (a : ℕ) (old : App) (slots : List (Option App)) : Type 0 where
+pub record IsInSlot (touched : Table) (news : News) (a : ℕ) (old : App) (slots : List (Option App)) : Type 0 where
   pub slot : Option App
   pub there : slice_get slots a ≡ Some slot
   pub shown : SlotIsShown news a (count_entries a touched) old slot
 
 -- the applications of the first slots are, and the others are as they were
-pub record AreShown (touched : List (Spot × ℕ)) (news : News) (jobs : ℕ) (old new : List (Option App)) : Type 0 where
+pub record AreShown (touched : Table) (news : News) (jobs : ℕ) (old new : List (Option App)) : Type 0 where
   pub wide : length new ≡ length old
   pub none : (a : ℕ) → slice_get old a ≡ Some None → slice_get new a ≡ Some None
   pub some : (a : ℕ) (d : App) → a < jobs → slice_get old a ≡ Some (Some d) → IsInSlot touched news a d new

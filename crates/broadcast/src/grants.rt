@@ -15,7 +15,7 @@ ghost use Rattle.broadcast.specs.AllShown.{App, spot_of, is_job, AreInOrder, Gra
 ghost use Rattle.broadcast.specs.OneJob.{has_place, counts_at, lists_of, AreByJob, AreOfJobs, AreNumbersOf, IsNews, machines_of, reported_now, reported_numbers, credited_to, numbers_of, JobIsBefore, SlotIsShown};
 
 use crate::job_grants::show_grants;
-use crate::laws::{grants_follow_tables, grants_have_numbers, numbers_are_set};
+use crate::law;
 use core_side::Side;
 use fuxi_terms::limits::MOST_MACHINES;
 use fuxi_terms::tally_keys::{COUNT, REPORTED};
@@ -115,9 +115,9 @@ fn show_one(
 {
     let boot = side.peer();
     let _entries = side.sent().entries();
-    grants_follow_tables();
-    grants_have_numbers();
-    numbers_are_set();
+    law::grants_follow_tables();
+    law::grants_have_numbers();
+    law::numbers_are_set();
     if is_quiet(news, app, counts, boot, side.sent().head()) {
         side.is_shown();
         return Ok(());

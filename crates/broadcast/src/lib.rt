@@ -4,7 +4,7 @@
 
 mod grants;
 mod job_grants;
-mod laws;
+pub mod law;
 mod machine_row;
 mod rows;
 mod spots;

@@ -14,7 +14,7 @@ ghost use Rattle.broadcast.specs.Shown.{number_of, Shows};
 ghost use Rattle.broadcast.specs.AllShown.{Down, spot_of, is_machine, AreInOrder, RowsAreBefore, ShowsRows};
 ghost use Rattle.broadcast.specs.TouchedNumbers.{number_at, numbers_of, AreTouched, AreByMachine, MayBeSet};
 
-use crate::laws::rows_follow_tables;
+use crate::law;
 use crate::machine_row::{RowNumber, show_row};
 use core_side::Side;
 use fuxi_terms::OutOfMemory;
@@ -42,7 +42,7 @@ pub fn show_all_rows(
     ensures { OnOk result (ShowsRows table.now forced sides.old.items sides.new.items) }
 {
     let _cluster = table.cluster();
-    rows_follow_tables();
+    law::rows_follow_tables();
     let numbers = by_machine(alloc, table, spots)?;
     for at in 0..sides.len() {
         show_one(

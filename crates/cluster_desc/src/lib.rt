@@ -4,8 +4,9 @@
 
 mod cluster;
 mod fault;
+pub mod law;
 mod read;
 
 pub use cluster::{Cluster, Group, Machine};
 pub use fault::ClusterFault;
-pub use read::{cluster_lines_are_valid, read_cluster};
+pub use read::read_cluster;

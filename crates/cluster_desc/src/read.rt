@@ -1,10 +1,9 @@
 //! Reads the line of JSON that describes a cluster.
 
-ghost use Rattle.std.specs.Prelude.{◌≡◌, ℕ, ◌≤◌, true, IfOk, IfErr, List, MatchResult, Some, Ok, Err, length, map, take};
+ghost use Rattle.std.specs.Prelude.{◌≡◌, ◌≤◌, IfOk, IfErr, MatchResult, Some, Ok, Err, length, map, take};
 ghost use Rattle.serde_json.specs.View.{view, items_view, members_view};
 ghost use Rattle.std.specs.List.{list_any};
 ghost use Rattle.std.specs.Str.{bytes_eq};
-ghost use Rattle.fuxi_terms.specs.Cluster.{ClusterRecord, is_valid_cluster};
 ghost use Rattle.fuxi_terms.specs.ClusterKeys.{word_of};
 ghost use Rattle.fuxi_terms.specs.Padded.{padded};
 ghost use Rattle.cluster_desc.specs.ClusterLine.{array_between, cluster_at, cluster_of, each, group_at, has_only, machine_at, number_between, numbers_of, object_of, quantities, value_at, value_of, whole_number};
@@ -281,8 +280,3 @@ fn value_at<'v>(key: ClusterKey, value: &'v Value) -> Result<&'v Value, ClusterF
         None => Err(ClusterFault::MissingKey(key)),
     }
 }
-
-/// The cluster of a line is valid.
-pub fn cluster_lines_are_valid()
-    ensures { (line : List ℕ) (c : ClusterRecord) → cluster_of line ≡ Ok c → is_valid_cluster c ≡ true }
-{}

@@ -3,11 +3,10 @@
 #![tactic(auto)]
 
 mod carried;
-mod laws;
+pub mod law;
 mod limit;
 mod side;
 
 pub use carried::Carried;
-pub use laws::strangers_change_nothing;
 pub use limit::{Excess, Limit, NoLimit, Refusal};
 pub use side::Side;

@@ -14,7 +14,7 @@ ghost use Rattle.delta_channel.specs.Hearing.{verdict_of};
 
 use crate::carried::Carried;
 use crate::limit::{Limit, Refusal};
-use channel_join::{links_are_one, words_are_one};
+use channel_join::law;
 use delta_channel::{Place, Stamp, Verdict};
 use full_sync::{Duplex, Note};
 use ledger_law::{LedgerFault, OutOfMemory};
@@ -87,7 +87,7 @@ impl<A: Carried, B: Carried> Side<A, B> {
         }
         let fresh = self.meet(alloc, packet.from.inc, limit, measure);
         if packet.kind == Kind::Ack {
-            links_are_one();
+            law::links_are_one();
             self.ends.on_ack(packet.from.inc, packet.place);
             return Ok(Heard {
                 fresh,
@@ -175,7 +175,7 @@ impl<A: Carried, B: Carried> Side<A, B> {
         ensures verdict { result ≡ verdict_of self.now.incoming.own self.now.incoming.place stamp.now }
         ensures word { SaysWord A.nothing A.patched A.has_form A.stated B.stated packet.now self.now (told_as result) }
     {
-        words_are_one();
+        law::words_are_one();
         let _own = self.ends.own();
         self.ends.verdict(stamp)
     }
@@ -271,7 +271,7 @@ impl<A: Carried, B: Carried> Side<A, B> {
     /// Appends the packets of one turn from the party with the number `own` to the peer with the number `peer`: what the
     /// peer lacks, and then an acknowledgement. It changes nothing of the side.
     ///
-    /// Want of memory may leave some of them appended.
+    /// After want of memory nothing is said of what the list has.
     pub fn turn(
         &self,
         alloc: Global,

@@ -2,11 +2,10 @@
 #![tactic(auto)]
 
 mod event;
-mod laws;
+pub mod law;
 mod lease;
 mod read;
 
 pub use event::{LeaseEvent, LeaseFault, LeaseOut};
-pub use laws::{epochs_rise, leases_at_rest_endure};
 pub use lease::Lease;
 pub use read::read_lease;

@@ -1,4 +1,4 @@
-ghost use Rattle.std.specs.Prelude.{OnOk, OnErr};
+ghost use Rattle.std.specs.Prelude.{◌≡◌, OnOk, OnErr};
 ghost use Rattle.std.specs.Io.KnownBytes.{Appends};
 ghost use Rattle.fuxi_io.specs.Causes.{HasCause, TakesPart};
 ghost use Rattle.fuxi_command.specs.CommandReports.{report_line};
@@ -14,6 +14,7 @@ pub fn report<E: Sink>(err: &mut E, status: &Status) -> Result<(), WriteFault>
     ensures ok { OnOk result (Appends (E.took err.old) (E.took err.new) (report_line status.now)) }
     ensures err { OnErr result (TakesPart (E.took err.old) (E.took err.new) (report_line status.now)) }
     ensures cause { HasCause (E.faults err.old) (E.faults err.new) result }
+    ensures served { OnOk result (E.faults err.new ≡ E.faults err.old) }
 {
     fuxi_io::report(err, USAGE, status)
 }

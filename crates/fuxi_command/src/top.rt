@@ -44,18 +44,10 @@ use fuxi_io::{Disk, InputFault, LimitOf, LineReader, Sink, Source, Status};
 use fuxi_node::{NodeKind, run_input};
 use lease_run::run_lease;
 use node_door::Door;
-use schedule_run::{inputs_are_given, run_schedule, runs_are_told};
+use schedule_run::run_schedule;
 use std::alloc::Global;
 use storm_run::run_storm;
-use work_run::{run_work, runs_go_as_planned};
-use written_calm::calm_rounds_bring_quiet;
-use written_roles::preempts_by_quota;
-use written_storm::storms_end_quiet;
-use written_world::{
-    a_failover_keeps_grants, always_safe, every_judgement_bans_what_is_judged,
-    every_run_grows_as_allowed, every_run_keeps_banned_machines_bare,
-    every_run_loses_only_what_is_credited, give_backs_are_credited_once, starts_with_nothing,
-};
+use work_run::run_work;
 
 // Runs the command of the words.
 fn run_command<S: Source, O: Sink, D: Disk, N: Door>(
@@ -281,21 +273,21 @@ pub fn fuxi<S: Source, O: Sink, E: Sink, D: Disk, N: Door>(
         → (result ≡ status_at (ending_of kind bytes)) ⊎ (result ≡ Status.OutOfMemory) }
 {
     // The laws of the states of a run, for the clauses on them.
-    always_safe();
-    give_backs_are_credited_once();
-    every_run_grows_as_allowed();
-    every_run_keeps_banned_machines_bare();
-    preempts_by_quota();
-    a_failover_keeps_grants();
-    starts_with_nothing();
-    every_run_loses_only_what_is_credited();
-    inputs_are_given();
-    runs_go_as_planned();
-    every_judgement_bans_what_is_judged();
-    calm_rounds_bring_quiet();
-    storms_end_quiet();
+    written_world::law::always_safe();
+    written_world::law::give_backs_are_credited_once();
+    written_world::law::every_run_grows_as_allowed();
+    written_world::law::every_run_keeps_banned_machines_bare();
+    written_roles::law::preempts_by_quota();
+    written_world::law::a_failover_keeps_grants();
+    written_world::law::starts_with_nothing();
+    written_world::law::every_run_loses_only_what_is_credited();
+    schedule_run::law::inputs_are_given();
+    work_run::law::runs_go_as_planned();
+    written_world::law::every_judgement_bans_what_is_judged();
+    written_calm::law::calm_rounds_bring_quiet();
+    written_storm::law::storms_end_quiet();
     // The law of what a run tells, for the clauses on texts.
-    runs_are_told();
+    schedule_run::law::runs_are_told();
     let status = run_command(alloc, words, input, out, disk, door);
     let _told = report(err, &status);
     status

@@ -21,7 +21,7 @@ use fuxi_master::Master;
 use fuxi_terms::OutOfMemory;
 use master_desk::{MOST_CALLS, Sessions};
 use master_node::MasterNode;
-use node_party::{Node, events_command_anywhere, push_answer};
+use node_party::{Node, law, push_answer};
 use schedule_text::Event;
 use std::alloc::Global;
 use std::marker::Model;
@@ -107,7 +107,7 @@ impl Prepared {
         ensures steps { IfOk result (λ after. after.node.master.steps ≤ self.node.master.steps + 1) }
         ensures takes { IfOk result (λ after. (p : PreparedSeen) → Stands self p → IsStepped (Submits (anywhere event.now)) p after text.old.items text.new.items) }
     {
-        events_command_anywhere();
+        law::events_command_anywhere();
         let Prepared {
             node,
             disk,

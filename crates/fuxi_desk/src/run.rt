@@ -16,9 +16,7 @@ use crate::text::write_desk;
 use cluster_desc::Cluster;
 use fuxi_io::{Got, LimitOf, LineReader, LineStop, Sink, Source, Status, write_all_of};
 use fuxi_terms::OutOfMemory;
-use input_lines::{
-    content, event_status, is_skipped, lines_are_taken, read_cluster_line, stop_status,
-};
+use input_lines::{content, event_status, is_skipped, law, read_cluster_line, stop_status};
 use master_desk::{Gate, MOST_CALLS, run_all};
 use std::alloc::Global;
 use std::sync::Wait;
@@ -131,7 +129,7 @@ fn run_lines<R: Threads + Wait + Sync, S: Source, O: Sink, G: Gate + Sync>(
     ensures stale { (fence : ℕ) → result ≢ Status.StaleEpoch fence }
     ensures damaged { (offset : ℕ) → result ≢ Status.DamagedCheckpoint offset }
 {
-    lines_are_taken();
+    law::lines_are_taken();
     let Ok(start) = Prepared::start(alloc, cluster) else {
         return Status::OutOfMemory;
     };

@@ -1,5 +1,5 @@
 -- The line that tells of an outcome.
-use Rattle.std.specs.Prelude.{◌⊎◌, ℕ, List, [], ◌++◌, Option, codes, decimal}
+use Rattle.std.specs.Prelude.{◌≡◌, ◌⊎◌, ℕ, List, [], ◌++◌, Option, codes, decimal}
 use Rattle.std.specs.Io.KnownBytes.{Appends}
 use Rattle.fuxi_io.specs.Causes.{Rose, TakesPart}
 use Rattle.fuxi_terms.specs.ClusterKeys.{word_of}
@@ -65,6 +65,6 @@ status_line usage DiskFault = codes "disk fault\n"
 status_line usage (StaleEpoch fence) = codes "stale epoch " ++ decimal fence ++ codes "\n"
 status_line usage (DamagedCheckpoint offset) = codes "damaged checkpoint " ++ decimal offset ++ codes "\n"
 
--- a sink took the line, or, where it failed, a part from its front
+-- a sink took the line, with no fault, or, where it failed, a part from its front
 abbrev pub TakesReport : List ℕ → Option (List ℕ) → Option (List ℕ) → ℕ → ℕ → Type 0
-TakesReport line old new faults_old faults_new = Appends old new line ⊎ (Rose faults_old faults_new × TakesPart old new line)
+TakesReport line old new faults_old faults_new = (Appends old new line × (faults_new ≡ faults_old)) ⊎ (Rose faults_old faults_new × TakesPart old new line)

@@ -10,6 +10,7 @@ use Rattle.fuxi_terms.specs.Keys.{Spot, spot_cmp}
 use Rattle.fuxi_terms.specs.Numbers.{has_number, without_number}
 use Rattle.fuxi_terms.proofs.Alls.{all_more}
 use Rattle.fuxi_terms.proofs.Booleans.{number_is, eq_turned, and_false, or_false}
+use Rattle.fuxi_terms.specs.Tables.{Table}
 use Rattle.written_roles.specs.Masters.{Master}
 use Rattle.grant_table.specs.GrantTables.{TableRecord, as_known, IsSound}
 use Rattle.allotment.specs.SettlingRuns.{AreTouched}
@@ -67,7 +68,7 @@ unreported m n reported ge f = by (has_number m reported) refl
     by false e = refl
 
 -- nothing is taken from a table that has nothing there
-where_all : (p : Spot → Bool) (es : List (Spot × ℕ)) → AllByRecursion (λ e. p e.0 ≡ true) es → where_key spot_cmp p es ≡ es
+where_all : (p : Spot → Bool) (es : Table) → AllByRecursion (λ e. p e.0 ≡ true) es → where_key spot_cmp p es ≡ es
 where_all p [] h = refl
 where_all p (e ∷ es) h = ap (λ b. cond b (e ∷ where_key spot_cmp p es) (where_key spot_cmp p es)) h.0 ∙ ap (λ l. e ∷ l) (where_all p es h.1)
 

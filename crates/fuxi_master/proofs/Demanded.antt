@@ -6,11 +6,12 @@ use Rattle.std.specs.FinMap.Entries.{put}
 use Rattle.fuxi_terms.specs.Cluster.{ClusterRecord}
 use Rattle.fuxi_terms.specs.Counts.{count, AreCounts}
 use Rattle.fuxi_terms.specs.Jobs.{unit_count}
-use Rattle.fuxi_terms.specs.Keys.{Spot, key_cmp, spot_cmp}
+use Rattle.fuxi_terms.specs.Keys.{key_cmp, spot_cmp}
 use Rattle.fuxi_terms.specs.TallyKeys.{credited_what, greatest_demand, greatest_grant}
 use Rattle.fuxi_terms.specs.declared.Key.{Key}
 use Rattle.grant_table.specs.GrantTables.{TableRecord, as_known}
 use Rattle.fuxi_terms.specs.NumbersSet.{AreNumbers}
+use Rattle.fuxi_terms.specs.Tables.{Table}
 use Rattle.allotment.specs.PlacingReads.{has_spot}
 use Rattle.written_net.specs.Ledgers.{tally_ledger}
 use Rattle.written_roles.specs.Masters.{Master}
@@ -37,7 +38,7 @@ pub credited_done : (a : ℕ) (es given : List (Key × ℕ)) (x y z : AllotmentR
 credited_done a es given x y z back asks table touched turns = record {
   stands = λ c M head credited allots agree. asks c (record M { table = credit a credited (counted c M.jobs a (tally_ledger 0 es)).entries M.table }) head (back.stands c M credited allots agree);
   touches = asked_touches x y z back.touches table touched turns;
-  table = table ∙ back.table ∙ ap {A = List (Spot × ℕ)} (λ es. record x.table { entries = es }) (sym (ap (λ (u : TableRecord). u.entries) table));
+  table = table ∙ back.table ∙ ap {A = Table} (λ es. record x.table { entries = es }) (sym (ap (λ (u : TableRecord). u.entries) table));
 }
 
 pub dead_demanded : (a : ℕ) (fresh live : Bool) (d : App) (es : List (Key × ℕ)) (x z : AllotmentRecord) → live ≡ false → es ≡ [] → AsksAlike a es x z → z.table ≡ x.table → z.touched ≡ x.touched → z.placer.seen.turns ≡ x.placer.seen.turns
@@ -49,7 +50,7 @@ dead_demanded a fresh live d es x z dead none asks table touched turns counts nu
   alive = λ on. absurd (let f : true ≡ false = sym on ∙ dead in cc);
   alive_numbers = λ on. absurd (let f : true ≡ false = sym on ∙ dead in cc);
   touches = record { spots = record { kept = λ s e. ap (has_spot s) touched ∙ e; others = λ s e. ap (λ (u : TableRecord). count spot_cmp u.entries s) table }; turns = turns };
-  table = table ∙ ap {A = List (Spot × ℕ)} (λ es. record x.table { entries = es }) (sym (ap (λ (u : TableRecord). u.entries) table));
+  table = table ∙ ap {A = Table} (λ es. record x.table { entries = es }) (sym (ap (λ (u : TableRecord). u.entries) table));
   sorted = counts.sorted;
   numbers_are = subst (AreNumbers key_cmp greatest_grant) (sym nothing_new) (record { sorted = tt; within = tt });
   kinds = subst (AllByRecursion (λ (e : Key × ℕ). nat_eq e.0.what credited_what ≡ true)) (sym nothing_new) tt;

@@ -10,6 +10,7 @@ use Rattle.fuxi_terms.specs.declared.Key.{Key}
 use Rattle.fuxi_terms.specs.Keys.{RowKey, Spot}
 use Rattle.fuxi_terms.specs.TallyKeys.{count_key}
 use Rattle.fuxi_terms.proofs.Booleans.{nat_itself}
+use Rattle.fuxi_terms.specs.Tables.{Table}
 use Rattle.written_roles.specs.HardState.{with_job}
 use Rattle.written_roles.specs.MasterSteps.{spot_row_key, count_entries}
 use Rattle.broadcast.specs.Projections.{row_of}
@@ -57,7 +58,7 @@ known_units js a u = by (job_of js a)
     by None lt = absurd (omega (arith, lt))
     by (Some j) lt = refl
 
-pub rows_more : (js ks : List KnownJob) (m : ℕ) (es : List (Spot × ℕ)) → AllByRecursion (λ (e : Spot × ℕ). units_of js e.0.job ≡ units_of ks e.0.job) es → row_of js m es ≡ row_of ks m es
+pub rows_more : (js ks : List KnownJob) (m : ℕ) (es : Table) → AllByRecursion (λ (e : Spot × ℕ). units_of js e.0.job ≡ units_of ks e.0.job) es → row_of js m es ≡ row_of ks m es
 rows_more js ks m [] h = refl
 rows_more js ks m (e ∷ es) h = elim (nat_eq e.0.machine m) as (λ b. map {B = RowKey × ℕ} (λ e. (spot_row_key js e.0, e.1)) (cond b (e ∷ filter (λ e. nat_eq e.0.machine m) es) (filter (λ e. nat_eq e.0.machine m) es)) ≡ map {B = RowKey × ℕ} (λ e. (spot_row_key ks e.0, e.1)) (cond b (e ∷ filter (λ e. nat_eq e.0.machine m) es) (filter (λ e. nat_eq e.0.machine m) es))) [
   | true ↦ λ i. (key e.0 h.0 i, e.1) ∷ rows_more js ks m es h.1 i
@@ -68,6 +69,6 @@ rows_more js ks m (e ∷ es) h = elim (nat_eq e.0.machine m) as (λ b. map {B = 
     key s same = ap (λ (us : List UnitRecord). record { job = s.job; unit = s.unit; size = (unwrap_or (slice_get us s.unit) no_unit).size }) same
 
 -- a job without grants has no counts
-pub no_counts : (a : ℕ) (es : List (Spot × ℕ)) → AllByRecursion (λ (e : Spot × ℕ). nat_eq e.0.job a ≡ false) es → count_entries a es ≡ []
+pub no_counts : (a : ℕ) (es : Table) → AllByRecursion (λ (e : Spot × ℕ). nat_eq e.0.job a ≡ false) es → count_entries a es ≡ []
 no_counts a [] h = refl
 no_counts a (e ∷ es) h = ap (λ b. map {B = Key × ℕ} (λ e. (count_key e.0.unit e.0.machine, e.1)) (cond b (e ∷ filter (λ e. nat_eq e.0.job a) es) (filter (λ e. nat_eq e.0.job a) es))) h.0 ∙ no_counts a es h.1

@@ -1,8 +1,9 @@
 -- The line is brought up to date, and a master that serves settles.
-use Rattle.std.proofs.Common.{◌≡◌, ℕ, ◌+◌, ◌≤◌, Bool, true, false, List, sym, ◌∙◌, ap, subst, arith}
+use Rattle.std.proofs.Common.{◌≡◌, ℕ, ◌+◌, ◌≤◌, Bool, true, false, sym, ◌∙◌, ap, subst, arith}
 use Rattle.fuxi_terms.specs.Cluster.{ClusterRecord}
 use Rattle.fuxi_terms.specs.Counts.{count}
-use Rattle.fuxi_terms.specs.Keys.{Spot, spot_cmp}
+use Rattle.fuxi_terms.specs.Keys.{spot_cmp}
+use Rattle.fuxi_terms.specs.Tables.{Table}
 use Rattle.written_roles.specs.Masters.{Master}
 use Rattle.written_roles.specs.Placing.{line_up, settled}
 use Rattle.grant_table.specs.GrantTables.{TableRecord}
@@ -26,7 +27,7 @@ lined_readied serving x y off stands waits up table touched turns = record {
   waits = waits;
   up = up;
   spots = still x y table touched;
-  table = table ∙ ap {A = List (Spot × ℕ)} (λ es. record x.table { entries = es }) (sym (ap (λ t. t.entries) table));
+  table = table ∙ ap {A = Table} (λ es. record x.table { entries = es }) (sym (ap (λ t. t.entries) table));
   turns = turns;
 }
 

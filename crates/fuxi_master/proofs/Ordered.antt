@@ -1,12 +1,13 @@
 -- The spots that changed, in order.
 use Rattle.std.proofs.Common.{◌≡◌, ℕ, List, sym, ◌∙◌}
 use Rattle.fuxi_terms.specs.Keys.{Spot}
+use Rattle.fuxi_terms.specs.Tables.{Table}
 use Rattle.grant_table.specs.GrantTables.{TableRecord}
 use Rattle.broadcast.specs.declared.grants.News.{News}
 use Rattle.broadcast.specs.AllShown.{Down, has_spot, IsBefore, RowsAreBefore, GrantsAreBefore}
 
 module _ (t : TableRecord) (spots ordered : List Spot) (same : (s : Spot) → has_spot s ordered ≡ has_spot s spots) where
-  before_same : (before : List (Spot × ℕ)) → IsBefore t spots before → IsBefore t ordered before
+  before_same : (before : Table) → IsBefore t spots before → IsBefore t ordered before
   before_same before b = record { counts = b.counts; admitted = b.admitted; others = λ s e. b.others s (sym (same s) ∙ e) }
 
   pub rows_same : (sides : List Down) → RowsAreBefore t spots sides → RowsAreBefore t ordered sides

@@ -6,6 +6,7 @@ use Rattle.fuxi_terms.specs.Cluster.{JobRecord, UnitRecord}
 use Rattle.fuxi_terms.specs.Jobs.{KnownJob, job_of, is_known, units_of, no_unit}
 use Rattle.fuxi_terms.specs.Keys.{RowKey, Spot}
 use Rattle.fuxi_terms.proofs.Booleans.{or_false}
+use Rattle.fuxi_terms.specs.Tables.{Table}
 use Rattle.schedule_unit.specs.declared.party.AppNo.{AppNo}
 use Rattle.schedule_unit.specs.declared.party.MachineNo.{MachineNo}
 use Rattle.written_net.specs.Channels.{agent_id, app_id}
@@ -42,7 +43,7 @@ known_alike js ks a same = known_in js ∙ ap is_some same ∙ sym (known_in ks)
         by (Some k) = refl
 
 -- so rows are alike too
-pub rows_alike : (js ks : List KnownJob) → ((a : ℕ) → record_of js a ≡ record_of ks a) → (m : ℕ) (table : List (Spot × ℕ)) → row_of js m table ≡ row_of ks m table
+pub rows_alike : (js ks : List KnownJob) → ((a : ℕ) → record_of js a ≡ record_of ks a) → (m : ℕ) (table : Table) → row_of js m table ≡ row_of ks m table
 rows_alike js ks same m table = ap {A = Spot × ℕ → RowKey × ℕ} (λ f. map f (filter (λ e. nat_eq e.0.machine m) table)) (λ i e. (keys e.0 i, e.1))
   where
     keys : (s : Spot) → spot_row_key js s ≡ spot_row_key ks s

@@ -10,7 +10,7 @@ use Rattle.std.specs.Ordering.{eq_by_cmp}
 use Rattle.std.proofs.lemmas.Bool.Decides.{nat_tests}
 use Rattle.fuxi_terms.specs.Cluster.{ClusterRecord, has_machine}
 use Rattle.fuxi_terms.specs.Counts.{count}
-use Rattle.fuxi_terms.specs.Keys.{Spot, spot_cmp}
+use Rattle.fuxi_terms.specs.Keys.{Spot, spot_cmp, Pair}
 use Rattle.fuxi_terms.specs.Numbers.{has_number}
 use Rattle.fuxi_terms.specs.Jobs.{KnownJob, job_of, is_known, unit_count, job_numbers}
 use Rattle.fuxi_terms.specs.declared.Key.{Key}
@@ -24,6 +24,7 @@ use Rattle.written_roles.specs.Placing.{has_pair, lined, waiting_in, waiting_pai
 use Rattle.written_roles.specs.Settling.{NothingPlaceable, Picks, IsFirst}
 use Rattle.fuxi_master.specs.Cores.{IsTidy}
 use Rattle.fuxi_terms.proofs.NumbersLemmas.{with_is}
+use Rattle.fuxi_terms.specs.Tables.{Table}
 
 -- all of a master but its grants and its line
 pub record SameBut (M N : Master) : Type 0 where
@@ -90,16 +91,16 @@ module _ {A : Type 0} (q : A → Bool) where
   filter_none [] h = refl
   filter_none (x ∷ xs) h = ap (λ b. cond b (x ∷ filter q xs) (filter q xs)) h.0 ∙ filter_none xs h.1
 
-each_listed : (P : ℕ × ℕ → Type 0) (xs : List (ℕ × ℕ)) → ((p : ℕ × ℕ) → has_pair p xs ≡ true → P p) → AllByRecursion P xs
+each_listed : (P : Pair → Type 0) (xs : List Pair) → ((p : Pair) → has_pair p xs ≡ true → P p) → AllByRecursion P xs
 each_listed P [] h = tt
 each_listed P (x ∷ xs) h = (h x (or_left (nat_eq x.0 x.0 && nat_eq x.1 x.1) (has_pair x xs) (and_true (nat_eq x.0 x.0) (nat_eq x.1 x.1) (nat_itself x.0) (nat_itself x.1))), each_listed P xs (λ p e. h p (or_right (nat_eq p.0 x.0 && nat_eq p.1 x.1) (has_pair p xs) e)))
 
-pub got_listed : (xs : List (ℕ × ℕ)) (n : ℕ) (p : ℕ × ℕ) → slice_get xs n ≡ Some p → has_pair p xs ≡ true
+pub got_listed : (xs : List Pair) (n : ℕ) (p : Pair) → slice_get xs n ≡ Some p → has_pair p xs ≡ true
 got_listed [] n p e = cc
 got_listed (x ∷ xs) zero p e = let same : x ≡ p = cc in subst (λ y. has_pair p (y ∷ xs) ≡ true) (sym same) (or_left (nat_eq p.0 p.0 && nat_eq p.1 p.1) (has_pair p xs) (and_true (nat_eq p.0 p.0) (nat_eq p.1 p.1) (nat_itself p.0) (nat_itself p.1)))
 got_listed (x ∷ xs) (suc n) p e = or_right (nat_eq p.0 x.0 && nat_eq p.1 x.1) (has_pair p xs) (got_listed xs n p e)
 
-has_both : (p : ℕ × ℕ) (xs ys : List (ℕ × ℕ)) → has_pair p (xs ++ ys) ≡ (has_pair p xs || has_pair p ys)
+has_both : (p : Pair) (xs ys : List Pair) → has_pair p (xs ++ ys) ≡ (has_pair p xs || has_pair p ys)
 has_both p xs ys = list_any-append (λ q. nat_eq p.0 q.0 && nat_eq p.1 q.1) xs ys
 
 below_one : (a u n k : ℕ) (f r : Bool) → r ≡ (nat_eq a n && (nat_lt u k && f)) → (r || ((nat_eq a n && nat_eq u k) && f)) ≡ (nat_eq a n && (nat_lt u (suc k) && f))
@@ -147,7 +148,7 @@ one_waits q a u n (suc k) =
         by_not true false h = refl
         by_not false y h = refl
 
-waits_in : (asks : ℕ → Key → ℕ) (table : List (Spot × ℕ)) (units : ℕ → ℕ) (numbers : List ℕ) (a u : ℕ) → has_pair (a, u) (waiting_in numbers units asks table) ≡ (has_number a numbers && (nat_lt u (units a) && nat_lt 0 (out_of asks table a u)))
+waits_in : (asks : ℕ → Key → ℕ) (table : Table) (units : ℕ → ℕ) (numbers : List ℕ) (a u : ℕ) → has_pair (a, u) (waiting_in numbers units asks table) ≡ (has_number a numbers && (nat_lt u (units a) && nat_lt 0 (out_of asks table a u)))
 waits_in asks table units [] a u = refl
 waits_in asks table units (n ∷ ns) a u =
     has_both (a, u) (map (λ v. (n, v)) (filter (λ v. nat_lt 0 (out_of asks table n v)) (below (units n)))) (waiting_in ns units asks table)
@@ -190,9 +191,9 @@ pub IsLined : Master → Type 0
 IsLined M = (a u : ℕ) → has_pair (a, u) M.line ≡ (nat_lt u (unit_count M.jobs a) && nat_lt 0 (out M a u))
 
 pub lined_again : (M : Master) → ((a u : ℕ) → has_pair (a, u) M.line ≡ (nat_lt u (unit_count M.jobs a) && nat_lt 0 (out M a u))) → line_up M ≡ M
-lined_again M up = ap {A = List (ℕ × ℕ)} (λ l. record M { line = l }) same
+lined_again M up = ap {A = List Pair} (λ l. record M { line = l }) same
   where
-    agree : (p : ℕ × ℕ) → has_pair p M.line ≡ has_pair p (waiting_pairs M)
+    agree : (p : Pair) → has_pair p M.line ≡ has_pair p (waiting_pairs M)
     agree p = up p.0 p.1 ∙ sym (waits_as M p.0 p.1)
 
     same : lined M.line (waiting_pairs M) ≡ M.line

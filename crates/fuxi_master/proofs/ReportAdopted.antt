@@ -7,10 +7,10 @@ use Rattle.std.specs.FinMap.Entries.{put}
 use Rattle.std.proofs.lemmas.Bool.Decides.{nat_tests}
 use Rattle.fuxi_terms.specs.Cluster.{ClusterRecord, UnitRecord, machine_of, has_at}
 use Rattle.fuxi_terms.specs.Jobs.{KnownJob, is_live, units_of, unit_of, unit_count, size_at, no_unit}
-use Rattle.fuxi_terms.specs.Keys.{RowKey, Spot, spot_cmp}
+use Rattle.fuxi_terms.specs.Keys.{RowKey, spot_cmp}
 use Rattle.fuxi_terms.specs.Numbers.{has_number, with_number}
 use Rattle.fuxi_terms.specs.Padded.{padded}
-use Rattle.fuxi_terms.specs.Tables.{spot}
+use Rattle.fuxi_terms.specs.Tables.{spot, Table}
 use Rattle.fuxi_terms.specs.Vectors.{at_place, fits}
 use Rattle.fuxi_terms.proofs.Alls.{all_passed}
 use Rattle.fuxi_terms.proofs.Booleans.{both_true, number_is, eq_turned}
@@ -52,14 +52,14 @@ pub kept_fits : (c : ClusterRecord) (m : ℕ) (total has : List ℕ) → has ≡
 kept_fits c m total has is f i = subst (λ n. at_place total i ≤ n) (ap (λ h. at_place h i) is ∙ at_place-padded (machine_of c m).has i) ((fits_places total has).0 f i)
 
 -- the entries that are put are those of the report that are kept
-put_kept : (jobs : List KnownJob) (m : ℕ) (rows : List (RowKey × ℕ)) (table : List (Spot × ℕ)) → rows_put m (kept_entries jobs rows) table ≡ adopted jobs m rows table
+put_kept : (jobs : List KnownJob) (m : ℕ) (rows : List (RowKey × ℕ)) (table : Table) → rows_put m (kept_entries jobs rows) table ≡ adopted jobs m rows table
 put_kept jobs m [] table = refl
 put_kept jobs m (e ∷ es) table = elim (is_kept jobs e.0) as (λ b. rows_put m (cond b (e ∷ kept_entries jobs es) (kept_entries jobs es)) table ≡ adopted jobs m es (cond b (put spot_cmp (spot e.0.job e.0.unit m) e.1 table) table)) [
   | true ↦ put_kept jobs m es (put spot_cmp (spot e.0.job e.0.unit m) e.1 table)
   | false ↦ put_kept jobs m es table
 ]
 
-pub put_adopted : (known : Knowledge) (m : ℕ) (rows : List (RowKey × ℕ)) (table : List (Spot × ℕ)) → rows_put m (kept_of known m rows) table ≡ cond (has_number m known.bans) table (adopted known.jobs m rows table)
+pub put_adopted : (known : Knowledge) (m : ℕ) (rows : List (RowKey × ℕ)) (table : Table) → rows_put m (kept_of known m rows) table ≡ cond (has_number m known.bans) table (adopted known.jobs m rows table)
 put_adopted known m rows table = elim (has_number m known.bans) as (λ b. rows_put m (cond b [] (kept_entries known.jobs rows)) table ≡ cond b table (adopted known.jobs m rows table)) [ true ↦ refl | false ↦ put_kept known.jobs m rows table ]
 
 -- the machine takes grants from now on, unless it is banned

@@ -7,7 +7,7 @@ use Rattle.fuxi_terms.specs.Cluster.{ClusterRecord, has_machine}
 use Rattle.fuxi_terms.specs.Keys.{Spot}
 use Rattle.fuxi_terms.specs.Jobs.{unit_count, job_numbers}
 use Rattle.fuxi_terms.specs.Numbers.{has_number}
-use Rattle.fuxi_terms.specs.Tables.{held}
+use Rattle.fuxi_terms.specs.Tables.{held, Table}
 use Rattle.fuxi_terms.specs.Limits.{most_steps}
 use Rattle.fuxi_terms.proofs.Alls.{all_more}
 use Rattle.grant_table.specs.GrantTables.{TableRecord, as_known}
@@ -33,7 +33,7 @@ module _ (x y : CoreRecord) (news : News) (readied : IsCoreReadied x y) where
   z_table : y.allotment.table ≡ record x.allotment.table { entries = y.allotment.table.entries }
   z_table = readied.allotment.table
 
-  before_readied : (before : List (Spot × ℕ)) → IsBefore x.allotment.table x.allotment.touched before → IsBefore y.allotment.table y.allotment.touched before
+  before_readied : (before : Table) → IsBefore x.allotment.table x.allotment.touched before → IsBefore y.allotment.table y.allotment.touched before
   before_readied before b = record {
     counts = b.counts;
     admitted = subst (λ (t : TableRecord). AllByRecursion (λ e. (e.0.unit < unit_count (as_known t.jobs) e.0.job) × (e.0.machine < length t.cluster.machines)) before) (sym z_table) b.admitted;

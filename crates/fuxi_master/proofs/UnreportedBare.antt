@@ -11,7 +11,7 @@ use Rattle.fuxi_terms.specs.Jobs.{KnownJob}
 use Rattle.fuxi_terms.specs.Keys.{RowKey, Spot, spot_cmp, key_cmp}
 use Rattle.fuxi_terms.specs.Lists.{below}
 use Rattle.fuxi_terms.specs.Numbers.{has_number, with_number}
-use Rattle.fuxi_terms.specs.Tables.{spot, without_grants}
+use Rattle.fuxi_terms.specs.Tables.{spot, without_grants, Table}
 use Rattle.fuxi_terms.specs.TallyKeys.{credited_key, is_back}
 use Rattle.fuxi_terms.proofs.Alls.{all_mapped, all_flat, all_passed}
 use Rattle.fuxi_terms.proofs.Booleans.{both_true, both_false, nat_itself}
@@ -24,7 +24,7 @@ use Rattle.written_roles.specs.Preemption.{Plan, by_priority_in, tried, victims_
 use Rattle.fuxi_master.specs.Cores.{IsTidy}
 use Rattle.fuxi_terms.proofs.NumbersLemmas.{with_is}
 
-fewer_none : (table : List (Spot × ℕ)) (s : Spot) (n : ℕ) → (count spot_cmp table s ≡ 0 → n ≡ 0) → (t : Spot) → count spot_cmp table t ≡ 0 → count spot_cmp (set_count spot_cmp table s n) t ≡ 0
+fewer_none : (table : Table) (s : Spot) (n : ℕ) → (count spot_cmp table s ≡ 0 → n ≡ 0) → (t : Spot) → count spot_cmp table t ≡ 0 → count spot_cmp (set_count spot_cmp table s n) t ≡ 0
 fewer_none table s n less t none =
     count-set_count spot_total table s n t
     ∙ elim (eq_by_cmp spot_cmp t s) as (λ b. eq_by_cmp spot_cmp t s ≡ b → cond b n (count spot_cmp table t) ≡ 0) [
@@ -33,7 +33,7 @@ fewer_none table s n less t none =
     ] refl
 
 -- crediting takes grants
-pub credit_none : (a : ℕ) (cs es : List (Key × ℕ)) (table : List (Spot × ℕ)) (t : Spot) → count spot_cmp table t ≡ 0 → count spot_cmp (credit a cs es table) t ≡ 0
+pub credit_none : (a : ℕ) (cs es : List (Key × ℕ)) (table : Table) (t : Spot) → count spot_cmp table t ≡ 0 → count spot_cmp (credit a cs es table) t ≡ 0
 credit_none a cs [] table t none = none
 credit_none a cs (e ∷ es) table t none =
     let s = spot a e.0.unit e.0.number in
@@ -45,13 +45,13 @@ credit_none a cs (e ∷ es) table t none =
     ])
 
 -- grants that are filtered
-pub where_none : (p : Spot → Bool) (table : List (Spot × ℕ)) (t : Spot) → count spot_cmp table t ≡ 0 → count spot_cmp (where_key spot_cmp p table) t ≡ 0
+pub where_none : (p : Spot → Bool) (table : Table) (t : Spot) → count spot_cmp table t ≡ 0 → count spot_cmp (where_key spot_cmp p table) t ≡ 0
 where_none p table t none =
     ap (λ o. unwrap_or o 0) (find-where_key spot_cmp p t (λ x e. ap p (sym (same_spot t x e))) table)
     ∙ elim (p t) as (λ b. unwrap_or (cond b (find spot_cmp t table) None) 0 ≡ 0) [ true ↦ none | false ↦ refl ]
 
 -- a report adds grants on its machine alone
-pub adopted_none : (jobs : List KnownJob) (m : ℕ) (rows : List (RowKey × ℕ)) (table : List (Spot × ℕ)) (t : Spot) → nat_eq t.machine m ≡ false → count spot_cmp table t ≡ 0 → count spot_cmp (adopted jobs m rows table) t ≡ 0
+pub adopted_none : (jobs : List KnownJob) (m : ℕ) (rows : List (RowKey × ℕ)) (table : Table) (t : Spot) → nat_eq t.machine m ≡ false → count spot_cmp table t ≡ 0 → count spot_cmp (adopted jobs m rows table) t ≡ 0
 adopted_none jobs m [] table t other none = none
 adopted_none jobs m (e ∷ es) table t other none =
     let s = spot e.0.job e.0.unit m in
@@ -73,11 +73,11 @@ adopting_tidy M m rows tidy t unreported =
     ]
 
 -- preemption takes grants, and makes one on a machine that is reported
-without_none : (ss : List Spot) (table : List (Spot × ℕ)) (t : Spot) → count spot_cmp table t ≡ 0 → count spot_cmp (without_grants table ss) t ≡ 0
+without_none : (ss : List Spot) (table : Table) (t : Spot) → count spot_cmp table t ≡ 0 → count spot_cmp (without_grants table ss) t ≡ 0
 without_none [] table t none = none
 without_none (s ∷ ss) table t none = without_none ss (set_count spot_cmp table s (count spot_cmp table s - 1)) t (fewer_none table s (count spot_cmp table s - 1) (λ z. omega (arith, z)) t none)
 
-first_among : (P : Spot → Type 0) (ss : List Spot) (b : Board) (table : List (Spot × ℕ)) (p : Plan) → AllByRecursion P ss → first_plan_in ss b table ≡ Some p → P p.served
+first_among : (P : Spot → Type 0) (ss : List Spot) (b : Board) (table : Table) (p : Plan) → AllByRecursion P ss → first_plan_in ss b table ≡ Some p → P p.served
 first_among P [] b table p all e = cc
 first_among P (s ∷ ss) b table p all e = elim (victims_in b table s) as (λ o. elim o as (λ _. Option Plan) [ None ↦ first_plan_in ss b table | Some vs ↦ Some (record { served = s; losers = vs }) ] ≡ Some p → P p.served) [
   | None ↦ λ e. first_among P ss b table p all.1 e

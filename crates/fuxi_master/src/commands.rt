@@ -16,7 +16,7 @@ ghost use Rattle.fuxi_master.specs.Heard.{Changes, IsNews};
 ghost use Rattle.fuxi_master.specs.Seen.{core_of};
 
 use crate::state::{Core, news};
-use allotment::{Allotment, ends_alike};
+use allotment::{Allotment, law};
 use broadcast::News;
 use core_side::Side;
 use failover::Machines;
@@ -81,7 +81,7 @@ impl Core {
         ensures news { IfOk result (IsNews None None) }
         ensures changes { IfOk result (λ news. Changes news (changed_by (λ M. ended_in M app.0)) (core_of self.old) (core_of self.new)) }
     {
-        ends_alike();
+        law::ends_alike();
         let _sound = self.allotment.table().cluster();
         let _units = self.allotment.table().units(app);
         self.allotment.clear_job(app)?;

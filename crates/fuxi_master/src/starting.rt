@@ -22,7 +22,7 @@ use hard_state::Known;
 use party_ledgers::{Demand, Grants, JoinLedger, RowLedger};
 use schedule_unit::AppNo;
 use std::alloc::Global;
-use written_roles::step_ends;
+use written_roles::law;
 
 // The ends of the channels with the agents of so many machines.
 fn agents_started(
@@ -113,7 +113,7 @@ impl Core {
         ensures within { IfOk result (λ core. IsWithin 1 (core_of core)) }
         ensures stands { IfOk result (λ core. (h : HardState) → h.jobs ≡ known.jobs → h.bans ≡ known.bans → StandsFor (core_of core) (master_started cluster.now h epoch)) }
     {
-        step_ends();
+        law::step_ends();
         let _jobs = known.jobs();
         let allotment = Allotment::start(alloc, cluster)?;
         let allotment = jobs_admitted(alloc, allotment, &known)?;

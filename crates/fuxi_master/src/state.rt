@@ -22,7 +22,7 @@ use schedule_unit::{AppNo, MachineNo};
 use std::alloc::Global;
 use std::marker::Brand;
 use std::sync::ledger::{Blank, Ledger};
-use written_roles::{settling, step_ends};
+use written_roles::law;
 
 // The state of a master and its ends of the channels, by machine and by job number.
 #[derive(Drop)]
@@ -59,7 +59,7 @@ impl Core {
         requires turns { self.old.allotment.placer.seen.turns < 2 ^ 63 }
         ensures { OnOk result (IsCoreReadied (core_of self.old) (core_of self.new)) }
     {
-        settling();
+        law::settling();
         let serving = self.serving || all_reported(&self.reported);
         self.serving = serving;
         self.allotment.line_up();
@@ -78,7 +78,7 @@ impl Core {
         requires apps { HaveRoom self.old.apps.items }
         ensures { OnOk result (IsPublished news.now (core_of self.old) (core_of self.new)) }
     {
-        step_ends();
+        law::step_ends();
         let spots = in_order(alloc, self.allotment.touched())?;
         show_all_rows(
             &mut self.agents,
@@ -107,7 +107,7 @@ impl Core {
         ensures within { OnOk result (IsWithin (steps + 1) (core_of self.new)) }
         ensures ends { OnOk result (EndsAlike news.now (core_of self.old) (core_of self.new)) }
     {
-        settling();
+        law::settling();
         self.readied::<Brand>(Blank::new(1))?;
         self.published(alloc, news)?;
         Ok(())

@@ -15,12 +15,10 @@ ghost use Rattle.fuxi_master.specs.Steps.{IsFitting, IsStep, IsHeard};
 
 use crate::event::{MasterEvent, MasterRefusal, Outcome};
 use crate::state::{Core, news};
-use core_side::strangers_change_nothing;
 use fuxi_terms::OutOfMemory;
 use party_ledgers::{Heard, Kind, Packet, What};
 use schedule_unit::{AppNo, Job, MachineNo, Role};
 use std::alloc::Global;
-use written_roles::step_ends;
 
 // As what the packet of a stranger is heard.
 const STRANGER: Heard = Heard {
@@ -118,8 +116,8 @@ impl Core {
         requires steps { steps ≤ most_steps }
         ensures { IfOk result (λ heard. IsHeard packet steps (core_of self.old) (core_of self.new) heard) }
     {
-        step_ends();
-        strangers_change_nothing();
+        written_roles::law::step_ends();
+        core_side::law::strangers_change_nothing();
         if !is_for_master(&packet) {
             return Ok(STRANGER);
         }
@@ -158,7 +156,7 @@ impl Core {
         requires steps { steps ≤ most_steps }
         ensures { IfOk result (λ heard. IsHeard packet steps (core_of self.old) (core_of self.new) heard) }
     {
-        step_ends();
+        written_roles::law::step_ends();
         let machine = MachineNo(packet.from.number);
         let (heard, due) = self.hear_agent(alloc, packet)?;
         if !due {
@@ -182,7 +180,7 @@ impl Core {
         requires steps { steps ≤ most_steps }
         ensures { IfOk result (λ heard. IsHeard packet steps (core_of self.old) (core_of self.new) heard) }
     {
-        step_ends();
+        written_roles::law::step_ends();
         let app = AppNo(packet.from.number);
         let heard = self.hear_app(alloc, packet)?;
         let taken = is_taken(&heard);

@@ -5,11 +5,10 @@ mod agents;
 mod apps;
 mod input;
 mod kind;
-mod law;
+pub mod law;
 mod masters;
 mod run;
 mod taking;
 
 pub use input::run_input;
 pub use kind::NodeKind;
-pub use law::runs_end_by_their_lines;

@@ -16,7 +16,7 @@ ghost use Rattle.fuxi_node.specs.NodeProgress.{WritesEnd, TakesCounted, KeepsTol
 
 use crate::taking::{DiskFailed, Stop, take_line, write_state};
 use fuxi_io::{Disk, Got, InputFault, LimitOf, LineReader, LineStop, Sink, Source, Status};
-use input_lines::{content, is_skipped, lines_are_taken, stop_status};
+use input_lines::{content, is_skipped, law, stop_status};
 use node_door::Door;
 use node_party::Node;
 use std::alloc::Global;
@@ -115,7 +115,7 @@ pub fn run_node<C: Node, S: Source, O: Sink, N: Door, D: Disk>(
     ensures disk_served { OnOk result (D.faults disk.new ≡ D.faults disk.old) }
     ensures later { D.faults disk.old ≤ D.faults disk.new }
 {
-    lines_are_taken();
+    law::lines_are_taken();
     let mut core = core;
     let mut events = 0;
     for turn in 0..1_000_001u64 {

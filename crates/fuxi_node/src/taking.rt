@@ -21,8 +21,7 @@ use fuxi_terms::OutOfMemory;
 use input_lines::event_status;
 use node_door::Door;
 use node_party::{
-    Answer, Halt, Node, NodeLine, events_command_anywhere, push_answer, push_state, read_line,
-    write_round,
+    Answer, Halt, Node, NodeLine, law, push_answer, push_state, read_line, write_round,
 };
 use node_rounds::{RoundLine, round, serve};
 use schedule_text::Event;
@@ -255,7 +254,7 @@ pub(crate) fn take_line<C: Node, O: Sink, N: Door, D: Disk>(
     ensures failed { result ≡ Err Stop.Disk → Rose (D.faults disk.old) (D.faults disk.new) }
     ensures disk_served { result ≢ Err Stop.Disk → D.faults disk.new ≡ D.faults disk.old }
 {
-    events_command_anywhere();
+    law::events_command_anywhere();
     match read_line(alloc, line) {
         Ok(NodeLine::Round) => take_meeting(alloc, core, addr, false, out, door),
         Ok(NodeLine::Serve) => take_meeting(alloc, core, addr, true, out, door),

@@ -10,12 +10,13 @@ use Rattle.fuxi_terms.specs.Counts.{count, set_count}
 use Rattle.fuxi_terms.proofs.CountsLemmas.{tied}
 use Rattle.fuxi_terms.proofs.Booleans.{either}
 use Rattle.fuxi_terms.proofs.KeyOrders.{same_spot}
+use Rattle.fuxi_terms.specs.Tables.{Table}
 
-abbrev pub Each : (Spot → Type 0) → List (Spot × ℕ) → Type 0
+abbrev pub Each : (Spot → Type 0) → Table → Type 0
 Each P table = AllByRecursion (λ e. P e.0) table
 
 module _ (P : Spot → Type 0) where
-  pub each_put : (s : Spot) (n : ℕ) (es : List (Spot × ℕ)) → P s → Each P es → Each P (put spot_cmp s n es)
+  pub each_put : (s : Spot) (n : ℕ) (es : Table) → P s → Each P es → Each P (put spot_cmp s n es)
   each_put s n [] l h = (l, tt)
   each_put s n (e ∷ es) l h = elim (spot_cmp s e.0) as (λ r. Each P (by_order r ((s, n) ∷ e ∷ es) ((e.0, n) ∷ es) (e ∷ put spot_cmp s n es))) [
     | Less ↦ (l, (h.0, h.1))
@@ -23,11 +24,11 @@ module _ (P : Spot → Type 0) where
     | Greater ↦ (h.0, each_put s n es l h.1)
   ]
 
-  pub each_where : (p : Spot → Bool) (es : List (Spot × ℕ)) → Each P es → Each P (where_key spot_cmp p es)
+  pub each_where : (p : Spot → Bool) (es : Table) → Each P es → Each P (where_key spot_cmp p es)
   each_where p [] h = tt
   each_where p (e ∷ es) h = elim (p e.0) as (λ b. Each P (cond b (e ∷ where_key spot_cmp p es) (where_key spot_cmp p es))) [ true ↦ (h.0, each_where p es h.1) | false ↦ each_where p es h.1 ]
 
-  pub each_found : (s : Spot) (es : List (Spot × ℕ)) → 0 < count spot_cmp es s → Each P es → P s
+  pub each_found : (s : Spot) (es : Table) → 0 < count spot_cmp es s → Each P es → P s
   each_found s [] some h = absurd (omega (arith, some))
   each_found s (e ∷ es) some h = elim (eq_by_cmp spot_cmp s e.0) as (λ b. eq_by_cmp spot_cmp s e.0 ≡ b → 0 < unwrap_or (cond b (Some e.1) (find spot_cmp s es)) 0 → P s) [
     | true ↦ λ t _. subst P (sym (same_spot s e.0 (tied _ t))) h.0
@@ -35,5 +36,5 @@ module _ (P : Spot → Type 0) where
   ] refl some
 
   -- a number is set: at a spot of which it holds, or to nothing
-  pub each_set : (s : Spot) (n : ℕ) (es : List (Spot × ℕ)) → (nat_eq n 0 ≡ false → P s) → Each P es → Each P (set_count spot_cmp es s n)
+  pub each_set : (s : Spot) (n : ℕ) (es : Table) → (nat_eq n 0 ≡ false → P s) → Each P es → Each P (set_count spot_cmp es s n)
   each_set s n es l h = either (Each P) (nat_eq n 0) (where_key spot_cmp (λ x. not (eq_by_cmp spot_cmp s x)) es) (put spot_cmp s n es) (λ _. each_where (λ x. not (eq_by_cmp spot_cmp s x)) es h) (λ e. each_put s n es (l e) h)

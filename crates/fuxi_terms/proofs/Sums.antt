@@ -12,7 +12,7 @@ use Rattle.std.proofs.lemmas.List.Sums.{sum_by-cons}
 use Rattle.std.proofs.lemmas.Bool.Decides.{nat_tests}
 use Rattle.fuxi_terms.specs.Keys.{Spot, spot_cmp}
 use Rattle.fuxi_terms.specs.Counts.{count, set_count}
-use Rattle.fuxi_terms.specs.Tables.{held}
+use Rattle.fuxi_terms.specs.Tables.{held, Table}
 use Rattle.fuxi_terms.proofs.CountsLemmas.{both_true as both, find_below_head, tied, below_none}
 use Rattle.fuxi_terms.proofs.Booleans.{number_is}
 use Rattle.fuxi_terms.proofs.KeyOrders.{spot_total, same_spot}
@@ -70,7 +70,7 @@ module _ (g : Spot → ℕ → ℕ) (nothing : (s : Spot) → g s 0 ≡ 0) where
   abbrev weighed : Spot × ℕ → ℕ
   weighed e = g e.0 e.1
 
-  without : (s : Spot) (es : List (Spot × ℕ)) → T (is_sorted spot_cmp es) → sum_by weighed (where_key spot_cmp (λ x. not (eq_by_cmp spot_cmp s x)) es) + g s (count spot_cmp es s) ≡ sum_by weighed es
+  without : (s : Spot) (es : Table) → T (is_sorted spot_cmp es) → sum_by weighed (where_key spot_cmp (λ x. not (eq_by_cmp spot_cmp s x)) es) + g s (count spot_cmp es s) ≡ sum_by weighed es
   without s [] k = let z = nothing s in omega (arith, z)
   without s (e ∷ es) k =
       let parts = both (below_all spot_cmp e.0 es) (is_sorted spot_cmp es) k in
@@ -86,20 +86,20 @@ module _ (g : Spot → ℕ → ℕ) (nothing : (s : Spot) → g s 0 ≡ 0) where
       ] refl
 
   -- every sum that weighs each count by its spot
-  pub sum_set : (s : Spot) (n : ℕ) (es : List (Spot × ℕ)) → T (is_sorted spot_cmp es) → sum_by weighed (set_count spot_cmp es s n) + g s (count spot_cmp es s) ≡ sum_by weighed es + g s n
+  pub sum_set : (s : Spot) (n : ℕ) (es : Table) → T (is_sorted spot_cmp es) → sum_by weighed (set_count spot_cmp es s n) + g s (count spot_cmp es s) ≡ sum_by weighed es + g s n
   sum_set s n es k = elim (nat_eq n 0) as (λ b. nat_eq n 0 ≡ b → sum_by weighed (cond b (where_key spot_cmp (λ x. not (eq_by_cmp spot_cmp s x)) es) (put spot_cmp s n es)) + g s (count spot_cmp es s) ≡ sum_by weighed es + g s n) [
     | true ↦ λ t. let z : g s n ≡ 0 = ap (g s) (number_is n 0 t) ∙ nothing s in let e = without s es k in omega (arith, z, e)
     | false ↦ λ _. sum_put_exact spot_total same_spot g nothing s n es k
   ] refl
 
 -- one grant more at a spot
-pub one_count : (t : List (Spot × ℕ)) (s : Spot) → set_count spot_cmp t s (count spot_cmp t s + 1) ≡ put spot_cmp s (count spot_cmp t s + 1) t
+pub one_count : (t : Table) (s : Spot) → set_count spot_cmp t s (count spot_cmp t s + 1) ≡ put spot_cmp s (count spot_cmp t s + 1) t
 one_count t s = let e : nat_eq (count spot_cmp t s + 1) 0 ≡ false = grind (arith, nat_tests) in ap (λ b. cond b (where_key spot_cmp (λ x. not (eq_by_cmp spot_cmp s x)) t) (put spot_cmp s (count spot_cmp t s + 1) t)) e
 
-pub held_more : (t : List (Spot × ℕ)) (s : Spot) (a u : ℕ) → held t a u ≤ held (set_count spot_cmp t s (count spot_cmp t s + 1)) a u
+pub held_more : (t : Table) (s : Spot) (a u : ℕ) → held t a u ≤ held (set_count spot_cmp t s (count spot_cmp t s + 1)) a u
 held_more t s a u = subst (λ t'. held t a u ≤ held t' a u) (sym (one_count t s)) (sum_put same_spot (λ k. nat_eq k.job a && nat_eq k.unit u) s (count spot_cmp t s + 1) t (omega arith))
 
-pub held_one : (t : List (Spot × ℕ)) (s : Spot) → held t s.job s.unit < held (set_count spot_cmp t s (count spot_cmp t s + 1)) s.job s.unit
+pub held_one : (t : Table) (s : Spot) → held t s.job s.unit < held (set_count spot_cmp t s (count spot_cmp t s + 1)) s.job s.unit
 held_one t s = subst (λ t'. held t s.job s.unit < held t' s.job s.unit) (sym (one_count t s))
     (sum_put_more same_spot (λ k. nat_eq k.job s.job && nat_eq k.unit s.unit) s (count spot_cmp t s + 1) t (itself s.job s.unit) (omega arith))
   where

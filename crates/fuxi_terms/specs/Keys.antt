@@ -19,6 +19,10 @@ abbrev pub row_cmp : RowKey → RowKey → Ordering
 row_cmp a b = ordering_then (nat_cmp a.job b.job) (ordering_then (nat_cmp a.unit b.unit) (slice_cmp nat_cmp a.size b.size))
 
 -- of a table: grants of a unit of a job on a machine
+-- a unit of a job, by both numbers
+abbrev pub Pair : Type 0
+Pair = ℕ × ℕ
+
 pub record Spot : Type 0 where
   pub job : ℕ
   pub unit : ℕ

@@ -16,7 +16,7 @@ use Rattle.fuxi_terms.specs.Keys.{Spot}
 use Rattle.fuxi_terms.proofs.CountsLemmas.{same_counts}
 use Rattle.fuxi_terms.specs.Jobs.{KnownJob, job_numbers, job_of, is_known, unit_count, no_unit}
 use Rattle.fuxi_terms.specs.Numbers.{with_number}
-use Rattle.fuxi_terms.specs.Tables.{held, held_in, total_at, usage_at}
+use Rattle.fuxi_terms.specs.Tables.{held, held_in, total_at, usage_at, Table}
 use Rattle.grant_table.specs.Nested.{count_at}
 use Rattle.grant_table.specs.GrantTables.{Cell, no_cell, cell_at, rows_of, entries_in, fresh_cell, fresh_cells, as_known, with_admitted, AreJobs, IsUnit, IsLevel}
 use Rattle.fuxi_terms.proofs.Booleans.{number_is, nat_itself, both_true}
@@ -74,7 +74,7 @@ jobs_admitted j (k ∷ ks) v new h = elim (nat_lt j.number k.number) as (λ b. n
     fresh = ap (λ b. is_some (cond b (Some (record { job = k; ended = false })) (job_of (as_known ks) j.number))) (sym apart) ∙ new
 
 -- ---- sums read sizes and groups at the spots of the map alone
-total_same : (jobs jobs' : List KnownJob) (m i : ℕ) (es : List (Spot × ℕ)) → Each (λ s. job_of jobs s.job ≡ job_of jobs' s.job) es → total_at jobs m i es ≡ total_at jobs' m i es
+total_same : (jobs jobs' : List KnownJob) (m i : ℕ) (es : Table) → Each (λ s. job_of jobs s.job ≡ job_of jobs' s.job) es → total_at jobs m i es ≡ total_at jobs' m i es
 total_same jobs jobs' m i [] h = refl
 total_same jobs jobs' m i (e ∷ es) h =
     let w : Option KnownJob → Spot × ℕ → ℕ = λ o e. cond (nat_eq e.0.machine m) (e.1 * at_place (unwrap_or (slice_get (unwrap_or (option_map (λ (k : KnownJob). k.job.units) o) []) e.0.unit) no_unit).size i) 0 in
@@ -82,7 +82,7 @@ total_same jobs jobs' m i (e ∷ es) h =
     let rest = total_same jobs jobs' m i es h.1 in
     rw (sum_by-cons (λ e. w (job_of jobs e.0.job) e) e es, sum_by-cons (λ e. w (job_of jobs' e.0.job) e) e es) (omega (arith, here, rest))
 
-usage_same : (jobs jobs' : List KnownJob) (g i : ℕ) (es : List (Spot × ℕ)) → Each (λ s. job_of jobs s.job ≡ job_of jobs' s.job) es → usage_at jobs g i es ≡ usage_at jobs' g i es
+usage_same : (jobs jobs' : List KnownJob) (g i : ℕ) (es : Table) → Each (λ s. job_of jobs s.job ≡ job_of jobs' s.job) es → usage_at jobs g i es ≡ usage_at jobs' g i es
 usage_same jobs jobs' g i [] h = refl
 usage_same jobs jobs' g i (e ∷ es) h =
     let w : Option KnownJob → Spot × ℕ → ℕ = λ o e. cond (nat_eq (unwrap_or (option_map (λ (k : KnownJob). k.job.group) o) 0) g) (e.1 * at_place (unwrap_or (slice_get (unwrap_or (option_map (λ (k : KnownJob). k.job.units) o) []) e.0.unit) no_unit).size i) 0 in
@@ -91,7 +91,7 @@ usage_same jobs jobs' g i (e ∷ es) h =
     rw (sum_by-cons (λ e. w (job_of jobs e.0.job) e) e es, sum_by-cons (λ e. w (job_of jobs' e.0.job) e) e es) (omega (arith, here, rest))
 
 -- a job without an entry holds nothing
-held_none : (a u : ℕ) (es : List (Spot × ℕ)) → Each (λ s. nat_eq s.job a ≡ false) es → held es a u ≡ 0
+held_none : (a u : ℕ) (es : Table) → Each (λ s. nat_eq s.job a ≡ false) es → held es a u ≡ 0
 held_none a u [] h = refl
 held_none a u (e ∷ es) h =
     let w : Spot × ℕ → ℕ = λ e. cond (nat_eq e.0.job a && nat_eq e.0.unit u) e.1 0 in
@@ -99,7 +99,7 @@ held_none a u (e ∷ es) h =
     let rest = held_none a u es h.1 in
     rw (sum_by-cons w e es) (omega (arith, here, rest))
 
-held_in_none : (c : ClusterRecord) (a u r : ℕ) (es : List (Spot × ℕ)) → Each (λ s. nat_eq s.job a ≡ false) es → held_in c es a u r ≡ 0
+held_in_none : (c : ClusterRecord) (a u r : ℕ) (es : Table) → Each (λ s. nat_eq s.job a ≡ false) es → held_in c es a u r ≡ 0
 held_in_none c a u r [] h = refl
 held_in_none c a u r (e ∷ es) h =
     let w : Spot × ℕ → ℕ = λ e. cond (nat_eq e.0.job a && (nat_eq e.0.unit u && nat_eq (rack_of c e.0.machine) r)) e.1 0 in

@@ -14,7 +14,7 @@ use Rattle.fuxi_terms.specs.Vectors.{at_place}
 use Rattle.fuxi_terms.specs.Keys.{Spot}
 use Rattle.fuxi_terms.proofs.ByPlace.{at_place-get_or}
 use Rattle.fuxi_terms.specs.Jobs.{KnownJob, job_of, is_known, unit_count}
-use Rattle.fuxi_terms.specs.Tables.{usage_at}
+use Rattle.fuxi_terms.specs.Tables.{usage_at, Table}
 use Rattle.grant_table.specs.Nested.{count_at}
 use Rattle.grant_table.specs.GrantTables.{Cell, cell_at, rows_of, entries_in, as_known, AreJobs, IsUnit, IsLevel, IsSound}
 use Rattle.fuxi_terms.proofs.Booleans.{number_is, both_true}
@@ -66,7 +66,7 @@ module _ (c : ClusterRecord) (valid : IsTrue (is_valid_cluster c)) where
       at_place-get_or (machine_of c m).has i ∙ get_or-eq_default (machine_of c m).has 0 (omega (arith, n, le))
 
 -- ---- what a unit holds
-pub held_small : (c : ClusterRecord) (jobs : List JobRecord) (es : List (Spot × ℕ)) (a u : ℕ) (x : Cell) → length c.machines ≤ 256 → IsUnit c jobs es a u x → x.held ≤ 25600000
+pub held_small : (c : ClusterRecord) (jobs : List JobRecord) (es : Table) (a u : ℕ) (x : Cell) → length c.machines ≤ 256 → IsUnit c jobs es a u x → x.held ≤ 25600000
 held_small c jobs es a u x few us =
     let b = sum_by-le (λ (n : ℕ). n) greatest_count x.counts (All-from_get_or (λ n. n ≤ greatest_count) x.counts 0 (λ i _. us.within i)) in
     let w = us.wide in

@@ -6,12 +6,12 @@ use Rattle.std.proofs.lemmas.List.{get_or-map, length-map}
 use Rattle.std.proofs.lemmas.List.Sums.{get_or-le-sum_by}
 use Rattle.fuxi_terms.specs.Cluster.{ClusterRecord, MachineRecord, JobRecord, no_machine, has_at, rack_of}
 use Rattle.fuxi_terms.specs.Vectors.{plus, minus, times, at_place}
-use Rattle.fuxi_terms.specs.Keys.{Spot, spot_cmp}
+use Rattle.fuxi_terms.specs.Keys.{spot_cmp}
 use Rattle.fuxi_terms.specs.Counts.{count, set_count}
 use Rattle.fuxi_terms.proofs.ByPlace.{get_or-plus, get_or-minus, get_or-times, at_place-get_or}
 use Rattle.fuxi_terms.proofs.VectorLaws.{at_place-padded}
 use Rattle.fuxi_terms.specs.Jobs.{unit_count, unit_of, size_at, group_of}
-use Rattle.fuxi_terms.specs.Tables.{spot, held_on, total_at, usage_at, held_in}
+use Rattle.fuxi_terms.specs.Tables.{spot, held_on, total_at, usage_at, held_in, Table}
 use Rattle.fuxi_terms.specs.declared.vectors.Res.{Res}
 use Rattle.cluster_desc.specs.declared.cluster.Machine.{Machine}
 use Rattle.cluster_desc.specs.Records.{machine_of}
@@ -61,7 +61,7 @@ module _ (c : ClusterRecord) (jobs : List JobRecord) (cells : List (List Cell)) 
   abbrev n : ℕ
   n = get_or old.counts m 0
 
-  abbrev es : List (Spot × ℕ)
+  abbrev es : Table
   es = entries_in cells
 
   pub us : IsUnit c jobs es a u old

@@ -10,7 +10,7 @@ use Rattle.fuxi_terms.specs.Limits.{greatest_count}
 use Rattle.fuxi_terms.specs.Keys.{Spot, spot_cmp}
 use Rattle.fuxi_terms.specs.Counts.{count, set_count, AreCounts}
 use Rattle.fuxi_terms.specs.Jobs.{unit_count, size_at, group_of}
-use Rattle.fuxi_terms.specs.Tables.{spot, held, held_in, total_at, usage_at}
+use Rattle.fuxi_terms.specs.Tables.{spot, held, held_in, total_at, usage_at, Table}
 use Rattle.grant_table.specs.Nested.{count_at}
 use Rattle.grant_table.specs.GrantTables.{Cell, cell_at, with_cell, with_numbers, no_cell, rows_of, entries_in, as_known, IsUnit, IsLevel}
 use Rattle.fuxi_terms.proofs.Booleans.{number_is, nat_itself, both_true}
@@ -58,7 +58,7 @@ module _ (c : ClusterRecord) (jobs : List JobRecord) (cells : List (List Cell)) 
   abbrev more : List (List Cell)
   more = with_cell cells a u new
 
-  abbrev es : List (Spot × ℕ)
+  abbrev es : Table
   es = entries_in cells
 
   abbrev us : IsUnit c jobs es a u old

@@ -10,7 +10,7 @@ use Rattle.fuxi_terms.specs.Keys.{Spot, spot_cmp}
 use Rattle.fuxi_terms.specs.Counts.{count, set_count}
 use Rattle.fuxi_terms.specs.Jobs.{KnownJob, group_of, size_at}
 use Rattle.fuxi_terms.specs.Lists.{below}
-use Rattle.fuxi_terms.specs.Tables.{held, held_in, usage_at, total_at}
+use Rattle.fuxi_terms.specs.Tables.{held, held_in, usage_at, total_at, Table}
 use Rattle.fuxi_terms.proofs.Sums.{sum_set}
 
 zero_of : (b : Bool) (n : ℕ) → cond b (0 * n) 0 ≡ 0
@@ -21,7 +21,7 @@ none_of : (b : Bool) → ◌≡◌ {A = ℕ} (cond b 0 0) 0
 none_of true = refl
 none_of false = refl
 
-module _ (s : Spot) (n : ℕ) (es : List (Spot × ℕ)) (sorted : T (is_sorted spot_cmp es)) where
+module _ (s : Spot) (n : ℕ) (es : Table) (sorted : T (is_sorted spot_cmp es)) where
   pub held_set : (a u : ℕ) → held (set_count spot_cmp es s n) a u + cond (nat_eq s.job a && nat_eq s.unit u) (count spot_cmp es s) 0 ≡ held es a u + cond (nat_eq s.job a && nat_eq s.unit u) n 0
   held_set a u = sum_set (λ s n. cond (nat_eq s.job a && nat_eq s.unit u) n 0) (λ s. none_of (nat_eq s.job a && nat_eq s.unit u)) s n es sorted
 
@@ -38,7 +38,7 @@ module _ (s : Spot) (n : ℕ) (es : List (Spot × ℕ)) (sorted : T (is_sorted s
   usage_set jobs g i = sum_set (λ s n. cond (nat_eq (group_of jobs s.job) g) (n * size_at jobs s.job s.unit i) 0) (λ s. zero_of (nat_eq (group_of jobs s.job) g) (size_at jobs s.job s.unit i)) s n es sorted
 
 -- what stands in a rack is part of what a unit has
-pub in_rack_within : (c : ClusterRecord) (es : List (Spot × ℕ)) (a u r : ℕ) → held_in c es a u r ≤ held es a u
+pub in_rack_within : (c : ClusterRecord) (es : Table) (a u r : ℕ) → held_in c es a u r ≤ held es a u
 in_rack_within c es a u r = sum_by-le-sum_by (λ (e : Spot × ℕ). cond (nat_eq e.0.job a && (nat_eq e.0.unit u && nat_eq (rack_of c e.0.machine) r)) e.1 0) (λ (e : Spot × ℕ). cond (nat_eq e.0.job a && nat_eq e.0.unit u) e.1 0) es
     (λ e. less (nat_eq e.0.job a) (nat_eq e.0.unit u) (nat_eq (rack_of c e.0.machine) r) e.1)
   where
@@ -76,10 +76,10 @@ pick_one (suc n) k x h =
       | false ↦ λ d. let lt : k < n = grind (arith, nat_tests, d, h) in let r = pick_one n k x lt in omega (arith, r)
     ] refl)
 
-spread : (g : Spot × ℕ → ℕ) (n : ℕ) (es : List (Spot × ℕ)) → AllByRecursion (λ e. e.0.machine < n) es → sum_by g es ≡ sum_by (λ m. sum_by (λ e. cond (nat_eq e.0.machine m) (g e) 0) es) (below n)
+spread : (g : Spot × ℕ → ℕ) (n : ℕ) (es : Table) → AllByRecursion (λ e. e.0.machine < n) es → sum_by g es ≡ sum_by (λ m. sum_by (λ e. cond (nat_eq e.0.machine m) (g e) 0) es) (below n)
 spread g n [] h = sym (sum_none (below n))
 spread g n (e ∷ es) h =
-    let on : ℕ → List (Spot × ℕ) → ℕ = λ m xs. sum_by (λ e. cond (nat_eq e.0.machine m) (g e) 0) xs in
+    let on : ℕ → Table → ℕ = λ m xs. sum_by (λ e. cond (nat_eq e.0.machine m) (g e) 0) xs in
     let rest = spread g n es h.1 in
     let one = pick_one n e.0.machine (g e) h.0 in
     let both = sum_add (λ m. cond (nat_eq e.0.machine m) (g e) 0) (λ m. on m es) (below n) in
@@ -100,7 +100,7 @@ weighed_le true x = omega arith
 weighed_le false x = omega arith
 
 -- what a group uses is at most what all machines have together
-pub usage_bound : (jobs : List KnownJob) (g i n most : ℕ) (es : List (Spot × ℕ)) → AllByRecursion (λ e. e.0.machine < n) es → ((m : ℕ) → m < n → total_at jobs m i es ≤ most) → usage_at jobs g i es ≤ n * most
+pub usage_bound : (jobs : List KnownJob) (g i n most : ℕ) (es : Table) → AllByRecursion (λ e. e.0.machine < n) es → ((m : ℕ) → m < n → total_at jobs m i es ≤ most) → usage_at jobs g i es ≤ n * most
 usage_bound jobs g i n most es h fits =
     let all : Spot × ℕ → ℕ = λ e. e.1 * size_at jobs e.0.job e.0.unit i in
     let w : Spot × ℕ → ℕ = λ e. cond (nat_eq (group_of jobs e.0.job) g) (e.1 * size_at jobs e.0.job e.0.unit i) 0 in

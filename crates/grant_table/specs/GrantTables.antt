@@ -8,7 +8,7 @@ use Rattle.fuxi_terms.specs.Limits.{greatest_count}
 use Rattle.fuxi_terms.specs.Keys.{Spot, spot_cmp}
 use Rattle.fuxi_terms.specs.Counts.{count, set_count, AreCounts}
 use Rattle.fuxi_terms.specs.Jobs.{KnownJob, unit_count, unit_of, group_of, most_of}
-use Rattle.fuxi_terms.specs.Tables.{total_at, usage_at, held, held_in}
+use Rattle.fuxi_terms.specs.Tables.{total_at, usage_at, held, held_in, Table}
 use Rattle.fuxi_terms.specs.declared.vectors.Res.{Res}
 use Rattle.grant_table.specs.declared.holding.Holding.{Holding}
 use Rattle.grant_table.specs.Nested.{entries_of}
@@ -17,7 +17,7 @@ use Rattle.grant_table.specs.Nested.{entries_of}
 pub record TableRecord : Type 0 where
   pub cluster : ClusterRecord
   pub jobs : List JobRecord
-  pub entries : List (Spot × ℕ)
+  pub entries : Table
 
 -- jobs of a table as known ones: whether a job has ended plays no part in any sum
 abbrev pub as_known : List JobRecord → List KnownJob
@@ -34,10 +34,10 @@ AreJobs [] = ⊤
 AreJobs (j ∷ js) = IsTrue (is_valid_job 8 j) × (AllByRecursion (λ (k : JobRecord). j.number < k.number) js × AreJobs js)
 
 -- so many grants more, and so many fewer
-abbrev pub with_count : List (Spot × ℕ) → Spot → ℕ → List (Spot × ℕ)
+abbrev pub with_count : Table → Spot → ℕ → Table
 with_count table s k = set_count spot_cmp table s (count spot_cmp table s + k)
 
-abbrev pub without_count : List (Spot × ℕ) → Spot → ℕ → List (Spot × ℕ)
+abbrev pub without_count : Table → Spot → ℕ → Table
 without_count table s k = set_count spot_cmp table s (count spot_cmp table s - k)
 
 -- What every table keeps: the cluster and the jobs are valid, jobs stand in the order of their numbers, the map has positive counts within their range,
@@ -95,7 +95,7 @@ counts_in xs = map (λ (x : Cell). x.counts) xs
 abbrev pub rows_of : List (List Cell) → List (List (List ℕ))
 rows_of cells = map counts_in cells
 
-abbrev pub entries_in : List (List Cell) → List (Spot × ℕ)
+abbrev pub entries_in : List (List Cell) → Table
 entries_in cells = entries_of (rows_of cells)
 
 abbrev pub loads_of : List Res → List (List ℕ)
@@ -105,7 +105,7 @@ abbrev pub table_record : ClusterRecord → List JobRecord → List (Vec Holding
 table_record c jobs slots = record { cluster = c; jobs = jobs; entries = entries_in (cells_of slots) }
 
 -- what is kept of an admitted unit is what the map says of it
-pub record IsUnit (c : ClusterRecord) (jobs : List JobRecord) (es : List (Spot × ℕ)) (a u : ℕ) (x : Cell) : Type 0 where
+pub record IsUnit (c : ClusterRecord) (jobs : List JobRecord) (es : Table) (a u : ℕ) (x : Cell) : Type 0 where
   pub sized : x.size ≡ (unit_of (as_known jobs) a u).size
   pub grouped : x.group ≡ group_of (as_known jobs) a
   pub group : x.group < 32

@@ -16,9 +16,10 @@ pub struct Pick {
 /// Who waits for grants, and where they may be made.
 pub trait Asking {
     ghost use Rattle.std.specs.Prelude.{◌≡◌, ℕ, ◌<◌, Bool, List, length, slice_get, Some};
+    ghost use Rattle.fuxi_terms.specs.Keys.{Pair};
 
     /// The waiting pairs of a job and a unit, in their order.
-    ghost line: { Self → List (ℕ × ℕ) };
+    ghost line: { Self → List Pair };
 
     /// Whether a unit of a job may be granted on a machine: it is reported, not banned and not avoided.
     ghost usable: { Self → ℕ → ℕ → ℕ → Bool };

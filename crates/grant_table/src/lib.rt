@@ -4,11 +4,10 @@
 
 mod asking;
 mod holding;
-mod law;
+pub mod law;
 mod steps;
 mod table;
 
 pub use asking::{Asking, Pick};
-pub use law::{admitted_jobs, set_numbers};
 pub use steps::Steps;
 pub use table::GrantTable;

@@ -2,7 +2,8 @@
 #![tactic(auto)]
 
 mod job;
+pub mod law;
 mod records;
 
 pub use fuxi_terms::OutOfMemory;
-pub use records::{Record, read_record, write_record, written_is_read};
+pub use records::{Record, read_record, write_record};

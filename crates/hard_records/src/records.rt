@@ -1,7 +1,5 @@
-ghost use Rattle.std.specs.Prelude.{◌≡◌, ◌≤◌, ℕ, List, ◌++◌, ◌∷◌, length, IfOk, IfSome, OnOk, Some, true, ◌+◌, ◌*◌, ◌<◌, ◌^◌};
+ghost use Rattle.std.specs.Prelude.{◌≡◌, ◌++◌, ◌∷◌, length, IfOk, IfSome, OnOk, Some, ◌<◌, ◌^◌};
 ghost use Rattle.std.specs.Int.{to_be_bytes, w32};
-ghost use Rattle.fuxi_terms.specs.Cluster.{JobRecord, is_valid_job};
-ghost use Rattle.hard_records.specs.declared.records.Record.{Record as RecordSeen};
 ghost use Rattle.hard_records.specs.RecordBodies.{body_of, record_in, record_of_kind, is_version, epoch_found, number_found, IsWithinLimits};
 
 use crate::job::{read_job, write_job};
@@ -30,7 +28,7 @@ pub enum Record {
 /// its units (1), and of each unit the priority (1), eight quantities (8 each) and the greatest number of grants on one
 /// machine (4); else the number of the job or machine (4).
 ///
-/// After `OutOfMemory` a part may be appended.
+/// After `OutOfMemory` nothing is said of what stands in `out`.
 pub fn write_record(written: &Record, out: &mut Vec<u8>) -> Result<(), OutOfMemory>
     ensures { OnOk result (out.new.items ≡ out.old.items ++ body_of written.now) }
 {
@@ -148,12 +146,3 @@ fn read_kind(
     }
     Ok(None)
 }
-
-/// What is written of a record within the limits is read back as that record, and has at most 563 bytes. A job has 11 and 69
-/// for each unit.
-pub fn written_is_read()
-    ensures read { (r : RecordSeen) → IsWithinLimits r → record_in (body_of r) ≡ Some r }
-    ensures short { (r : RecordSeen) → IsWithinLimits r → length (body_of r) ≤ 563 }
-    ensures only { (body : List ℕ) (r : RecordSeen) → record_in body ≡ Some r → length body ≤ 563 }
-    ensures long { (job : JobRecord) → is_valid_job 8 job ≡ true → length (body_of (Record.Submission job)) ≡ 11 + 69 * length job.units }
-{}

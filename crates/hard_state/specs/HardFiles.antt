@@ -110,7 +110,7 @@ OpensAs k old new = (records_of old.now.bytes ≡ Ok k.value) × IsAtRest k new.
 abbrev pub IsDamagedAt : ℕ → Told → Told → Type 0
 IsDamagedAt offset old new = records_of old.now.bytes ≡ Err offset
 
--- a refusal is the first one of the step; a fault of the disk comes only where the step has none; want of memory may come at any time
+-- a refusal is the first one of the step; a fault of the disk and want of memory come only where the step has none
 abbrev pub Refuses : Result HardState Refusal → HardFault → Type 0
 Refuses step (Stale fence) = step ≡ Err (NotRising fence)
 Refuses step (FencedFault fence) = step ≡ Err (Fenced fence)
@@ -122,7 +122,7 @@ Refuses step NotBannedFault = step ≡ Err NotBanned
 Refuses step Full = step ≡ Err (HardFull most_records)
 Refuses step (NotCheckpoint offset) = ⊥
 Refuses step DiskFault = IsOk step
-Refuses step OutOfMemory = Unit {0}
+Refuses step OutOfMemory = IsOk step
 
 -- the faults of an opening
 abbrev pub IsOpeningFault : HardFault → Type 0

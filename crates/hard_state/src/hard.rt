@@ -18,7 +18,7 @@ use crate::opening::{begin, read, settle};
 use crate::state::State;
 use fuxi_io::{Disk, Failed};
 use fuxi_terms::OutOfMemory;
-use hard_records::{Record, write_record, written_is_read};
+use hard_records::{Record, law, write_record};
 use schedule_unit::{AppNo, Job, MachineNo};
 use std::alloc::Global;
 use std::marker::Model;
@@ -74,7 +74,7 @@ fn encode(alloc: Global, change: &Record) -> Result<Vec<u8>, OutOfMemory>
     ensures body { length (body_of change.now) ≤ 563 }
     ensures back { record_in (body_of change.now) ≡ Some change.now }
 {
-    written_is_read();
+    law::written_is_read();
     let mut body = Vec::new(alloc);
     write_record(change, &mut body)?;
     let mut bytes = Vec::new(alloc);
@@ -222,6 +222,10 @@ impl Hard {
         ensures served { result ≢ Err HardFault.DiskFault → D.faults disk.new ≡ D.faults disk.old }
     {
         job.app();
+        match self.state.may_submit(epoch, job) {
+            Ok(()) => {}
+            Err(fault) => return Err(fault),
+        }
         let copy = match job.copy(self.alloc) {
             Ok(copy) => copy,
             Err(OutOfMemory) => return Err(HardFault::OutOfMemory),

@@ -12,7 +12,7 @@ use crate::window::Window;
 use fuxi_io::{Disk, Failed};
 use fuxi_terms::OutOfMemory;
 use fuxi_terms::limits::MOST_RECORDS;
-use hard_records::written_is_read;
+use hard_records::law;
 use std::alloc::Global;
 
 // Brings all that was written onto the disk and answers its length.
@@ -57,7 +57,7 @@ pub fn read<D: Disk>(alloc: Global, disk: &mut D, len: u64) -> Result<(State, u6
     ensures cause { result ≡ Err HardFault.DiskFault → Rose (D.faults disk.old) (D.faults disk.new) }
     ensures served { result ≢ Err HardFault.DiskFault → D.faults disk.new ≡ D.faults disk.old }
 {
-    written_is_read();
+    law::written_is_read();
     let mut state = match State::nothing(alloc) {
         Ok(state) => state,
         Err(OutOfMemory) => return Err(HardFault::OutOfMemory),

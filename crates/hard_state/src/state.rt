@@ -13,7 +13,7 @@ use crate::fault::HardFault;
 use crate::known::Known;
 use fuxi_terms::OutOfMemory;
 use fuxi_terms::limits::MOST_RECORDS;
-use hard_records::{Record, read_record, written_is_read};
+use hard_records::{Record, law, read_record};
 use schedule_unit::{AppNo, Job, MachineNo};
 use std::alloc::Global;
 use std::marker::Model;
@@ -102,7 +102,8 @@ impl State {
         Ok(())
     }
 
-    fn may_submit(&self, epoch: u64, job: &Job) -> Result<(), HardFault>
+    /// Whether the job may be submitted by a master of this epoch; else the first refusal.
+    pub fn may_submit(&self, epoch: u64, job: &Job) -> Result<(), HardFault>
         ensures ok { OnOk result (hard_step self.now epoch (Submission job.now) ≡ Ok (submitted self.now job.now)) }
         ensures room { OnOk result (self.now.records < most_records) }
         ensures unknown { OnOk result (is_known self.now.jobs job.now.number ≡ false) }
@@ -297,7 +298,7 @@ impl State {
         let Some(change) = found else {
             return Ok(false);
         };
-        written_is_read();
+        law::written_is_read();
         let epoch = self.epoch_of(&change);
         match self.may(epoch, &change) {
             Ok(()) => {}

@@ -4,7 +4,7 @@ ghost use Rattle.fuxi_io.specs.Reading.{rest_of, read_ahead};
 ghost use Rattle.fuxi_terms.specs.Limits.{most_lines};
 ghost use Rattle.input_lines.specs.Openings.{Opened};
 
-use crate::law::lines_are_taken;
+use crate::law;
 use crate::line::{content, is_skipped};
 use crate::status::{cluster_status, no_cluster, stop_status};
 use cluster_desc::{Cluster, read_cluster};
@@ -34,7 +34,7 @@ pub fn read_cluster_line<S: Source>(
     ensures stale { (fence : ℕ) → result ≢ Err (Status.StaleEpoch fence) }
     ensures damaged { (offset : ℕ) → result ≢ Err (Status.DamagedCheckpoint offset) }
 {
-    lines_are_taken();
+    law::lines_are_taken();
     for turn in 0..1_000_001u64 {
         match lines.next(source) {
             Ok(Got::Line) => {}

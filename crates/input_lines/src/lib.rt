@@ -3,11 +3,10 @@
 #![tactic(auto)]
 
 mod cluster;
-mod law;
+pub mod law;
 mod line;
 mod status;
 
 pub use cluster::read_cluster_line;
-pub use law::lines_are_taken;
 pub use line::{content, is_skipped};
 pub use status::{event_status, stop_status};

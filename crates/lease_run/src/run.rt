@@ -12,9 +12,9 @@ ghost use Rattle.lease_run.specs.LeaseProgress.{fault_status, LeavesLine, Rests,
 ghost use Rattle.lease_run.specs.LeaseRuns.{lease_ends, run_from, run_of};
 
 use crate::print::{write_answer, write_number};
-use epoch_lease::{Lease, LeaseFault, leases_at_rest_endure, read_lease};
+use epoch_lease::{Lease, LeaseFault, read_lease};
 use fuxi_io::{Disk, Got, LimitOf, LineReader, Sink, Source, Status};
-use input_lines::{content, event_status, is_skipped, lines_are_taken, stop_status};
+use input_lines::{content, event_status, is_skipped, stop_status};
 use std::alloc::Global;
 
 // The status that a fault of a lease means.
@@ -50,7 +50,7 @@ fn take_line<O: Sink, D: Disk>(
     ensures writes_served { result ≢ Err Status.WriteFault → O.faults out.new ≡ O.faults out.old }
     ensures disk_served { result ≢ Err Status.DiskFault → D.faults disk.new ≡ D.faults disk.old }
 {
-    leases_at_rest_endure();
+    epoch_lease::law::leases_at_rest_endure();
     if is_skipped(line) {
         return Ok(());
     }
@@ -106,7 +106,7 @@ fn run_lines<S: Source, O: Sink, D: Disk>(
     ensures stale { (fence : ℕ) → result ≢ Status.StaleEpoch fence }
     ensures damaged { (offset : ℕ) → result ≢ Status.DamagedCheckpoint offset }
 {
-    lines_are_taken();
+    input_lines::law::lines_are_taken();
     for turn in 0..1_000_001u64 {
         match lines.next(source) {
             Ok(Got::Line) => {}

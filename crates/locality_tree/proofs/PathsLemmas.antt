@@ -13,7 +13,7 @@ use Rattle.wait_queue.specs.declared.queue.Queue.{Queue}
 use Rattle.wait_queue.specs.Queues.{Item, Stands, IsIn, IsInRange, AreBehind, IsInOrder, is_before, first_of, rank, entry_at}
 use Rattle.locality_tree.specs.declared.path.Path.{Path}
 use Rattle.locality_tree.specs.declared.number_set.NumberSet.{NumberSet}
-use Rattle.locality_tree.specs.Trees.{Pair, ranks_before, IsRanked}
+use Rattle.locality_tree.specs.Trees.{RankedEntry, ranks_before, IsRanked}
 use Rattle.locality_tree.specs.Layouts.{Slots, HasNumber, AreKept, IsQueueAt}
 use Rattle.locality_tree.specs.Paths.{is_in_either, nothing, unskipped, Stops, IsTail, HasTail, Passed, SkipsTo, priority_in, at_most, is_best, IsRanking, pairs_of, Leads, IsWalkable, Gives}
 use Rattle.locality_tree.proofs.MembersLemmas.{in_append, in_here, all_in}
@@ -110,7 +110,7 @@ way_falls law parts rises at q s left o h e =
         subst (λ (n : Option Entry). left_of n < 2 ^ 72 - rank true h.entry) (sym (member_entry law at q (h.done ++ (s, h.entry) ∷ (i ∷ is)) t i among)) (omega (arith, less, small))
 
 -- the priority of the first pair
-abbrev pub prio : List Pair → Option ℕ
+abbrev pub prio : List RankedEntry → Option ℕ
 prio [] = None
 prio (p ∷ ps) = Some p.0.priority
 
@@ -120,11 +120,11 @@ most_is p n h = grind (arith, nat_tests)
 most_not : (p n : ℕ) → at_most (Some p) n ≡ false → n < p
 most_not p n h = grind (arith, nat_tests)
 
-bound : (ps : List Pair) (n : ℕ) → IsRanked ps → at_most (prio ps) n ≡ true → (q : Pair) → In q ps → q.0.priority ≤ n
+bound : (ps : List RankedEntry) (n : ℕ) → IsRanked ps → at_most (prio ps) n ≡ true → (q : RankedEntry) → In q ps → q.0.priority ≤ n
 bound [] n r h q g = absurd g
 bound (p ∷ ps) n r h q g = let a = head_most p ps q r g in let b = most_is p.0.priority n h in omega arith
 
-below : (ps : List Pair) (n : ℕ) → IsRanked ps → ((p : ℕ) → prio ps ≡ Some p → p < n) → (q : Pair) → In q ps → q.0.priority < n
+below : (ps : List RankedEntry) (n : ℕ) → IsRanked ps → ((p : ℕ) → prio ps ≡ Some p → p < n) → (q : RankedEntry) → In q ps → q.0.priority < n
 below [] n r h q g = absurd g
 below (p ∷ ps) n r h q g = let a = head_most p ps q r g in let b = h p.0.priority refl in omega arith
 
@@ -134,7 +134,7 @@ one_not true false h = inr refl
 one_not false b h = inl refl
 
 -- lists of three levels, each in the order of ranks
-pub record AreLevels (near rack cluster : List Pair) : Type 0 where
+pub record AreLevels (near rack cluster : List RankedEntry) : Type 0 where
   pub near_level : AllByRecursion (λ p. p.1 ≡ 0) near
   pub rack_level : AllByRecursion (λ p. p.1 ≡ 1) rack
   pub cluster_level : AllByRecursion (λ p. p.1 ≡ 2) cluster
@@ -143,7 +143,7 @@ pub record AreLevels (near rack cluster : List Pair) : Type 0 where
   pub cluster_ranked : IsRanked cluster
 
 -- By the tests of priorities alone, the first pair is the head of the near list, of the rack's, or of the cluster's.
-pick_near : (pairs : List Pair) (b : Pair) (near rack cluster : List Pair) → AreLevels (b ∷ near) rack cluster → IsRanking pairs ((b ∷ near) ++ (rack ++ cluster)) → is_best (Some b.0.priority) (prio rack) (prio cluster) ≡ true → FirstLeft pairs b (near ++ (rack ++ cluster))
+pick_near : (pairs : List RankedEntry) (b : RankedEntry) (near rack cluster : List RankedEntry) → AreLevels (b ∷ near) rack cluster → IsRanking pairs ((b ∷ near) ++ (rack ++ cluster)) → is_best (Some b.0.priority) (prio rack) (prio cluster) ≡ true → FirstLeft pairs b (near ++ (rack ++ cluster))
 pick_near pairs b near rack cluster l r h =
     let t = both_true (at_most (prio rack) b.0.priority) (at_most (prio cluster) b.0.priority) h in
     first_left pairs [] b (near ++ (rack ++ cluster)) r (λ q g. elim (in_append q near (rack ++ cluster) g) as (λ _. ranks_before b q ≡ true) [
@@ -154,7 +154,7 @@ pick_near pairs b near rack cluster l r h =
       ]
     ])
 
-pick_rack : (pairs : List Pair) (b : Pair) (near rack cluster : List Pair) → AreLevels near (b ∷ rack) cluster → IsRanking pairs (near ++ ((b ∷ rack) ++ cluster)) → is_best (prio near) (Some b.0.priority) (prio cluster) ≡ false → is_best (Some b.0.priority) None (prio cluster) ≡ true → FirstLeft pairs b (near ++ (rack ++ cluster))
+pick_rack : (pairs : List RankedEntry) (b : RankedEntry) (near rack cluster : List RankedEntry) → AreLevels near (b ∷ rack) cluster → IsRanking pairs (near ++ ((b ∷ rack) ++ cluster)) → is_best (prio near) (Some b.0.priority) (prio cluster) ≡ false → is_best (Some b.0.priority) None (prio cluster) ≡ true → FirstLeft pairs b (near ++ (rack ++ cluster))
 pick_rack pairs b near rack cluster l r first second =
     let t : at_most (prio cluster) b.0.priority ≡ true = (both_true true (at_most (prio cluster) b.0.priority) second).1 in
     first_left pairs near b (rack ++ cluster) r (λ q g. elim (in_append q near (rack ++ cluster) g) as (λ _. ranks_before b q ≡ true) [
@@ -172,11 +172,11 @@ pick_rack pairs b near rack cluster l r first second =
       | inr a ↦ let less = most_not k p a in let most = most_is k b.0.priority t in omega arith
     ]
 
-pick_cluster : (pairs : List Pair) (b : Pair) (near rack cluster : List Pair) → AreLevels near rack (b ∷ cluster) → IsRanking pairs (near ++ (rack ++ b ∷ cluster)) → is_best (prio near) (prio rack) (Some b.0.priority) ≡ false → is_best (prio rack) None (Some b.0.priority) ≡ false → FirstLeft pairs b (near ++ (rack ++ cluster))
+pick_cluster : (pairs : List RankedEntry) (b : RankedEntry) (near rack cluster : List RankedEntry) → AreLevels near rack (b ∷ cluster) → IsRanking pairs (near ++ (rack ++ b ∷ cluster)) → is_best (prio near) (prio rack) (Some b.0.priority) ≡ false → is_best (prio rack) None (Some b.0.priority) ≡ false → FirstLeft pairs b (near ++ (rack ++ cluster))
 pick_cluster pairs b near rack cluster l r first second =
     let rack_less : (p : ℕ) → prio rack ≡ Some p → p < b.0.priority = λ p e. above p (subst (λ (o : Option ℕ). is_best o None (Some b.0.priority) ≡ false) e second) in
-    subst (λ (ps : List Pair). FirstLeft pairs b ps) (append_assoc near rack cluster)
-    (first_left pairs (near ++ rack) b cluster (subst (λ (ps : List Pair). IsRanking pairs ps) (sym (append_assoc near rack (b ∷ cluster))) r) (λ q g. elim (in_append q (near ++ rack) cluster g) as (λ _. ranks_before b q ≡ true) [
+    subst (λ (ps : List RankedEntry). FirstLeft pairs b ps) (append_assoc near rack cluster)
+    (first_left pairs (near ++ rack) b cluster (subst (λ (ps : List RankedEntry). IsRanking pairs ps) (sym (append_assoc near rack (b ∷ cluster))) r) (λ q g. elim (in_append q (near ++ rack) cluster g) as (λ _. ranks_before b q ≡ true) [
       | inl n ↦ elim (in_append q near rack n) as (λ _. ranks_before b q ≡ true) [
         | inl k ↦ by_priority b q (below near b.0.priority l.near_ranked (λ p e. higher p (prio rack) rack_less (subst (λ (o : Option ℕ). is_best o (prio rack) (Some b.0.priority) ≡ false) e first)) q k)
         | inr k ↦ by_priority b q (below rack b.0.priority l.rack_ranked rack_less q k)
@@ -194,7 +194,7 @@ pick_cluster pairs b near rack cluster l r first second =
       | inr a ↦ most_not b.0.priority p a
     ]
 
-pick_end : (pairs near rack : List Pair) → IsRanking pairs (near ++ (rack ++ [])) → is_best (prio near) (prio rack) None ≡ false → is_best (prio rack) None None ≡ false → pairs ≡ []
+pick_end : (pairs near rack : List RankedEntry) → IsRanking pairs (near ++ (rack ++ [])) → is_best (prio near) (prio rack) None ≡ false → is_best (prio rack) None None ≡ false → pairs ≡ []
 pick_end pairs [] [] r first second = none_left pairs r
 pick_end pairs near (b ∷ bs) r first second = absurd (cc)
 pick_end pairs (b ∷ bs) [] r first second = absurd (cc)
@@ -217,7 +217,7 @@ module _ (skips : Entry → Bool) where
 
   unskipped_level : (l : ℕ) (tail : List Item) → AllByRecursion (λ p. p.1 ≡ l) (unskipped skips l tail)
   unskipped_level l [] = tt
-  unskipped_level l (i ∷ is) = elim (skips i.1) as (λ b. AllByRecursion (λ (p : Pair). p.1 ≡ l) (cond b (unskipped skips l is) ((i.1, l) ∷ unskipped skips l is))) [
+  unskipped_level l (i ∷ is) = elim (skips i.1) as (λ b. AllByRecursion (λ (p : RankedEntry). p.1 ≡ l) (cond b (unskipped skips l is) ((i.1, l) ∷ unskipped skips l is))) [
     | true ↦ unskipped_level l is
     | false ↦ (refl, unskipped_level l is)
   ]
@@ -264,7 +264,7 @@ whole_tail at spare queues slots sets place q o kept is queued first =
     record { done = []; stands = h.stands; by_priority = h.by_priority; here = first at (kept.lists place) h.stands; numbers = h.numbers }
 
 -- a path at the beginning of its queues
-pub leads_whole : (p : Path) (pairs : List Pair) (near rack cluster : List Item) (near_set rack_set : NumberSet) → p.near_set.now ≡ near_set → p.rack_set.now ≡ rack_set → IsTail (value_at p.pool.now) p.near.now p.at_near near →
+pub leads_whole : (p : Path) (pairs : List RankedEntry) (near rack cluster : List Item) (near_set rack_set : NumberSet) → p.near_set.now ≡ near_set → p.rack_set.now ≡ rack_set → IsTail (value_at p.pool.now) p.near.now p.at_near near →
     SkipsTo (value_at p.pool.now) p.rack.now (is_in_either p.near_set.now p.near_set.now) rack p.at_rack → SkipsTo (value_at p.pool.now) p.cluster.now (is_in_either p.near_set.now p.rack_set.now) cluster p.at_cluster → IsRanking pairs (pairs_of near_set rack_set near rack cluster) → Leads p pairs
 leads_whole p pairs near rack cluster near_set rack_set near_is rack_is n r k ranking = record {
   near = near;
@@ -276,21 +276,21 @@ leads_whole p pairs near rack cluster near_set rack_set near_is rack_is n r k ra
   rack_stops = r.stops;
   cluster_stops = k.stops;
   ranking =
-      subst (λ (ps : List Pair). IsRanking pairs (unskipped nothing 0 near ++ (ps ++ unskipped (is_in_either p.near_set.now p.rack_set.now) 2 k.passed.left))) (r.passed.same 1)
-      (subst (λ (ps : List Pair). IsRanking pairs (unskipped nothing 0 near ++ (unskipped (is_in_either p.near_set.now p.near_set.now) 1 rack ++ ps))) (k.passed.same 2)
+      subst (λ (ps : List RankedEntry). IsRanking pairs (unskipped nothing 0 near ++ (ps ++ unskipped (is_in_either p.near_set.now p.rack_set.now) 2 k.passed.left))) (r.passed.same 1)
+      (subst (λ (ps : List RankedEntry). IsRanking pairs (unskipped nothing 0 near ++ (unskipped (is_in_either p.near_set.now p.near_set.now) 1 rack ++ ps))) (k.passed.same 2)
       (subst (λ (s : NumberSet). IsRanking pairs (pairs_of p.near_set.now s near rack cluster)) (sym rack_is) (subst (λ (s : NumberSet). IsRanking pairs (pairs_of s rack_set near rack cluster)) (sym near_is) ranking)));
 }
 
 -- an answer that is the first pair, and a path that leads over the others
-gives_first : (pairs : List Pair) (b : Pair) (others : List Pair) (answer : Option Pair) (IsLeft : List Pair → Type 0) → FirstLeft pairs b others → answer ≡ Some b → ((rest : List Pair) → IsRanking rest others → IsLeft rest) → Gives pairs answer IsLeft
-gives_first pairs b others answer IsLeft f same left = subst (λ (ps : List Pair). Gives ps answer IsLeft) (sym f.is) (same, left f.rest f.ranking)
+gives_first : (pairs : List RankedEntry) (b : RankedEntry) (others : List RankedEntry) (answer : Option RankedEntry) (IsLeft : List RankedEntry → Type 0) → FirstLeft pairs b others → answer ≡ Some b → ((rest : List RankedEntry) → IsRanking rest others → IsLeft rest) → Gives pairs answer IsLeft
+gives_first pairs b others answer IsLeft f same left = subst (λ (ps : List RankedEntry). Gives ps answer IsLeft) (sym f.is) (same, left f.rest f.ranking)
 
 -- whatever a path gave, it has some pairs left
-pub goes_on : (p : Path) (pairs : List Pair) (answer : Option Pair) → Gives pairs answer (Leads p) → IsWalkable p
+pub goes_on : (p : Path) (pairs : List RankedEntry) (answer : Option RankedEntry) → Gives pairs answer (Leads p) → IsWalkable p
 goes_on p [] answer g = record { pairs = []; leads = g.1 }
 goes_on p (b ∷ bs) answer g = record { pairs = bs; leads = g.1 }
 
-module _ (law : Entries) (parts : Parts) (p : Path) (pairs : List Pair) (l : Leads p pairs) where
+module _ (law : Entries) (parts : Parts) (p : Path) (pairs : List RankedEntry) (l : Leads p pairs) where
   abbrev pub map_of : Slot → Option Node
   map_of = value_at p.pool.now
 
@@ -300,13 +300,13 @@ module _ (law : Entries) (parts : Parts) (p : Path) (pairs : List Pair) (l : Lea
   abbrev pub at_cluster_skips : Entry → Bool
   at_cluster_skips = is_in_either p.near_set.now p.rack_set.now
 
-  abbrev pub near_pairs : List Pair
+  abbrev pub near_pairs : List RankedEntry
   near_pairs = unskipped nothing 0 l.near
 
-  abbrev pub rack_pairs : List Pair
+  abbrev pub rack_pairs : List RankedEntry
   rack_pairs = unskipped at_rack_skips 1 l.rack
 
-  abbrev pub cluster_pairs : List Pair
+  abbrev pub cluster_pairs : List RankedEntry
   cluster_pairs = unskipped at_cluster_skips 2 l.cluster
 
   levels : AreLevels near_pairs rack_pairs cluster_pairs
@@ -352,7 +352,7 @@ module _ (law : Entries) (parts : Parts) (p : Path) (pairs : List Pair) (l : Lea
       let behind_at : behind ≡ first_of h.back None = behind_is h.done h.back h.entry h.stands in
       let is : near_pairs ≡ (h.entry, 0) ∷ unskipped nothing 0 h.back = ap (unskipped nothing 0) h.is in
       gives_first pairs (h.entry, 0) (unskipped nothing 0 h.back ++ (rack_pairs ++ cluster_pairs)) (Some (entry, 0)) (Leads (record p { at_near = behind }))
-      (pick_near pairs (h.entry, 0) (unskipped nothing 0 h.back) rack_pairs cluster_pairs (subst (λ (x : List Pair). AreLevels x rack_pairs cluster_pairs) is levels) (subst (λ (x : List Pair). IsRanking pairs (x ++ (rack_pairs ++ cluster_pairs))) is l.ranking) (subst (λ (x : List Pair). is_best (prio x) (prio rack_pairs) (prio cluster_pairs) ≡ true) is (first_test true first)))
+      (pick_near pairs (h.entry, 0) (unskipped nothing 0 h.back) rack_pairs cluster_pairs (subst (λ (x : List RankedEntry). AreLevels x rack_pairs cluster_pairs) is levels) (subst (λ (x : List RankedEntry). IsRanking pairs (x ++ (rack_pairs ++ cluster_pairs))) is l.ranking) (subst (λ (x : List RankedEntry). is_best (prio x) (prio rack_pairs) (prio cluster_pairs) ≡ true) is (first_test true first)))
       (ap (λ (e : Entry). Some (e, 0)) (same_entry (entry_at map_of slot) entry h.entry entry_is h.here))
       (λ rest ranking. record {
         near = h.back;
@@ -375,7 +375,7 @@ module _ (law : Entries) (parts : Parts) (p : Path) (pairs : List Pair) (l : Lea
       let is : rack_pairs ≡ (h.entry, 1) ∷ unskipped at_rack_skips 1 h.back = ap (unskipped at_rack_skips 1) h.is ∙ unskipped_head at_rack_skips 1 (slot, h.entry) h.back stops in
       let k = skips h.back (subst (λ (x : Option Slot). IsTail map_of p.rack.now x h.back) (sym behind_at) h.onward) in
       gives_first pairs (h.entry, 1) (near_pairs ++ (unskipped at_rack_skips 1 h.back ++ cluster_pairs)) (Some (entry, 1)) (Leads (record p { at_rack = next }))
-      (pick_rack pairs (h.entry, 1) near_pairs (unskipped at_rack_skips 1 h.back) cluster_pairs (subst (λ (x : List Pair). AreLevels near_pairs x cluster_pairs) is levels) (subst (λ (x : List Pair). IsRanking pairs (near_pairs ++ (x ++ cluster_pairs))) is l.ranking) (subst (λ (x : List Pair). is_best (prio near_pairs) (prio x) (prio cluster_pairs) ≡ false) is (first_test false first)) (subst (λ (x : List Pair). is_best (prio x) None (prio cluster_pairs) ≡ true) is (second_test true second)))
+      (pick_rack pairs (h.entry, 1) near_pairs (unskipped at_rack_skips 1 h.back) cluster_pairs (subst (λ (x : List RankedEntry). AreLevels near_pairs x cluster_pairs) is levels) (subst (λ (x : List RankedEntry). IsRanking pairs (near_pairs ++ (x ++ cluster_pairs))) is l.ranking) (subst (λ (x : List RankedEntry). is_best (prio near_pairs) (prio x) (prio cluster_pairs) ≡ false) is (first_test false first)) (subst (λ (x : List RankedEntry). is_best (prio x) None (prio cluster_pairs) ≡ true) is (second_test true second)))
       (ap (λ (e : Entry). Some (e, 1)) (same_entry (entry_at map_of slot) entry h.entry entry_is h.here))
       (λ rest ranking. record {
         near = l.near;
@@ -386,7 +386,7 @@ module _ (law : Entries) (parts : Parts) (p : Path) (pairs : List Pair) (l : Lea
         at_cluster = l.at_cluster;
         rack_stops = k.stops;
         cluster_stops = l.cluster_stops;
-        ranking = subst (λ (x : List Pair). IsRanking rest (near_pairs ++ (x ++ cluster_pairs))) (k.passed.same 1) ranking;
+        ranking = subst (λ (x : List RankedEntry). IsRanking rest (near_pairs ++ (x ++ cluster_pairs))) (k.passed.same 1) ranking;
       })
 
   pub cluster_step : (slot : Slot) (entry : Entry) (behind next : Option Slot) → p.at_cluster ≡ Some slot → entry_at map_of slot ≡ Some entry → IsBehind map_of p.cluster.now slot behind → ((tail : List Item) → IsTail map_of p.cluster.now behind tail → SkipsTo map_of p.cluster.now at_cluster_skips tail next) → FirstTest false → SecondTest false →
@@ -398,7 +398,7 @@ module _ (law : Entries) (parts : Parts) (p : Path) (pairs : List Pair) (l : Lea
       let is : cluster_pairs ≡ (h.entry, 2) ∷ unskipped at_cluster_skips 2 h.back = ap (unskipped at_cluster_skips 2) h.is ∙ unskipped_head at_cluster_skips 2 (slot, h.entry) h.back stops in
       let k = skips h.back (subst (λ (x : Option Slot). IsTail map_of p.cluster.now x h.back) (sym behind_at) h.onward) in
       gives_first pairs (h.entry, 2) (near_pairs ++ (rack_pairs ++ unskipped at_cluster_skips 2 h.back)) (Some (entry, 2)) (Leads (record p { at_cluster = next }))
-      (pick_cluster pairs (h.entry, 2) near_pairs rack_pairs (unskipped at_cluster_skips 2 h.back) (subst (λ (x : List Pair). AreLevels near_pairs rack_pairs x) is levels) (subst (λ (x : List Pair). IsRanking pairs (near_pairs ++ (rack_pairs ++ x))) is l.ranking) (subst (λ (x : List Pair). is_best (prio near_pairs) (prio rack_pairs) (prio x) ≡ false) is (first_test false first)) (subst (λ (x : List Pair). is_best (prio rack_pairs) None (prio x) ≡ false) is (second_test false second)))
+      (pick_cluster pairs (h.entry, 2) near_pairs rack_pairs (unskipped at_cluster_skips 2 h.back) (subst (λ (x : List RankedEntry). AreLevels near_pairs rack_pairs x) is levels) (subst (λ (x : List RankedEntry). IsRanking pairs (near_pairs ++ (rack_pairs ++ x))) is l.ranking) (subst (λ (x : List RankedEntry). is_best (prio near_pairs) (prio rack_pairs) (prio x) ≡ false) is (first_test false first)) (subst (λ (x : List RankedEntry). is_best (prio rack_pairs) None (prio x) ≡ false) is (second_test false second)))
       (ap (λ (e : Entry). Some (e, 2)) (same_entry (entry_at map_of slot) entry h.entry entry_is h.here))
       (λ rest ranking. record {
         near = l.near;
@@ -409,15 +409,15 @@ module _ (law : Entries) (parts : Parts) (p : Path) (pairs : List Pair) (l : Lea
         at_cluster = k.passed.is_tail;
         rack_stops = l.rack_stops;
         cluster_stops = k.stops;
-        ranking = subst (λ (x : List Pair). IsRanking rest (near_pairs ++ (rack_pairs ++ x))) (k.passed.same 2) ranking;
+        ranking = subst (λ (x : List RankedEntry). IsRanking rest (near_pairs ++ (rack_pairs ++ x))) (k.passed.same 2) ranking;
       })
 
   pub end_step : p.at_cluster ≡ None → FirstTest false → SecondTest false → Gives pairs None (Leads p)
   end_step none first second =
       let empty : cluster_pairs ≡ [] = no_prio cluster_pairs (sym cluster_prio ∙ ap (priority_in map_of) none) in
-      let e = pick_end pairs near_pairs rack_pairs (subst (λ (x : List Pair). IsRanking pairs (near_pairs ++ (rack_pairs ++ x))) empty l.ranking) (subst (λ (x : List Pair). is_best (prio near_pairs) (prio rack_pairs) (prio x) ≡ false) empty (first_test false first)) (subst (λ (x : List Pair). is_best (prio rack_pairs) None (prio x) ≡ false) empty (second_test false second)) in
-      subst (λ (ps : List Pair). Gives ps None (Leads p)) (sym e) (refl, subst (λ (ps : List Pair). Leads p ps) e l)
+      let e = pick_end pairs near_pairs rack_pairs (subst (λ (x : List RankedEntry). IsRanking pairs (near_pairs ++ (rack_pairs ++ x))) empty l.ranking) (subst (λ (x : List RankedEntry). is_best (prio near_pairs) (prio rack_pairs) (prio x) ≡ false) empty (first_test false first)) (subst (λ (x : List RankedEntry). is_best (prio rack_pairs) None (prio x) ≡ false) empty (second_test false second)) in
+      subst (λ (ps : List RankedEntry). Gives ps None (Leads p)) (sym e) (refl, subst (λ (ps : List RankedEntry). Leads p ps) e l)
     where
-      no_prio : (ps : List Pair) → prio ps ≡ None → ps ≡ []
+      no_prio : (ps : List RankedEntry) → prio ps ≡ None → ps ≡ []
       no_prio [] h = refl
       no_prio (q ∷ qs) h = absurd (cc)

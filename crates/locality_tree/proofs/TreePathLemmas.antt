@@ -11,7 +11,7 @@ use Rattle.wait_queue.specs.Queues.{Item, IsInOrder}
 use Rattle.locality_tree.specs.declared.layout.Layout.{Layout}
 use Rattle.locality_tree.specs.declared.number_set.NumberSet.{NumberSet}
 use Rattle.locality_tree.specs.NumberSets.{in_set, no_set}
-use Rattle.locality_tree.specs.Trees.{Pair, UnitState, unit_at, level_at, rack_place, cluster_place, HasPath}
+use Rattle.locality_tree.specs.Trees.{RankedEntry, UnitState, unit_at, level_at, rack_place, cluster_place, HasPath}
 use Rattle.locality_tree.specs.Layouts.{Slots, slots_of, slot_in, number_of, entry_in, IsQueueAt, tree_record, IsTree}
 use Rattle.locality_tree.specs.Paths.{is_in_either, nothing, unskipped, IsRanking, pairs_of}
 use Rattle.locality_tree.proofs.MembersLemmas.{in_append}
@@ -36,7 +36,7 @@ unskipped_in skips l (i ∷ is) e k h = (elim (skips i.1) as (λ b. skips i.1 �
     | inr g ↦ unskipped_in skips l is e k (h.0, g)
   ]
   | false ↦ λ t. elim h.1 as (λ _. In (e, l) ((i.1, l) ∷ unskipped skips l is)) [
-    | inl g ↦ inl (let pair : Item → Pair = λ j. (j.1, l) in ap pair g)
+    | inl g ↦ inl (let pair : Item → RankedEntry = λ j. (j.1, l) in ap pair g)
     | inr g ↦ inr (unskipped_in skips l is e k (h.0, g))
   ]
 ]) refl
@@ -44,15 +44,15 @@ unskipped_in skips l (i ∷ is) e k h = (elim (skips i.1) as (λ b. skips i.1 �
     both : (b : Bool) → b ≡ true → b ≡ false → ⊥
     both b t f = cc
 
-unskipped_out : (skips : Entry → Bool) (l : ℕ) (items : List Item) (p : Pair) → In p (unskipped skips l items) → HasEntry p.0 items × (skips p.0 ≡ false) × (p.1 ≡ l)
+unskipped_out : (skips : Entry → Bool) (l : ℕ) (items : List Item) (p : RankedEntry) → In p (unskipped skips l items) → HasEntry p.0 items × (skips p.0 ≡ false) × (p.1 ≡ l)
 unskipped_out skips l [] p h = absurd h
 unskipped_out skips l (i ∷ is) p h = (elim (skips i.1) as (λ b. skips i.1 ≡ b → In p (cond b (unskipped skips l is) ((i.1, l) ∷ unskipped skips l is)) → HasEntry p.0 (i ∷ is) × (skips p.0 ≡ false) × (p.1 ≡ l)) [
   | true ↦ λ t g. let r = unskipped_out skips l is p g in (further p.0 i is r.0, r.1, r.2)
   | false ↦ λ t g. elim g as (λ _. HasEntry p.0 (i ∷ is) × (skips p.0 ≡ false) × (p.1 ≡ l)) [
     | inl e ↦
-        let same : p.0 ≡ i.1 = ap (λ (q : Pair). q.0) e in
+        let same : p.0 ≡ i.1 = ap (λ (q : RankedEntry). q.0) e in
         let with_entry : Entry → Item = λ a. (i.0, a) in
-        ((i.0, inl (ap with_entry same)), ap skips same ∙ t, ap (λ (q : Pair). q.1) e)
+        ((i.0, inl (ap with_entry same)), ap skips same ∙ t, ap (λ (q : RankedEntry). q.1) e)
     | inr k ↦ let r = unskipped_out skips l is p k in (further p.0 i is r.0, r.1, r.2)
   ]
 ]) refl h
@@ -60,16 +60,16 @@ unskipped_out skips l (i ∷ is) p h = (elim (skips i.1) as (λ b. skips i.1 ≡
 levels_in : (level : Entry → ℕ) (items : List Item) (e : Entry) → HasEntry e items → In (e, level e) (with_levels level items)
 levels_in level [] e h = absurd h.1
 levels_in level (i ∷ is) e h = elim h.1 as (λ _. In (e, level e) ((i.1, level i.1) ∷ with_levels level is)) [
-  | inl g ↦ inl (let pair : Item → Pair = λ j. (j.1, level j.1) in ap pair g)
+  | inl g ↦ inl (let pair : Item → RankedEntry = λ j. (j.1, level j.1) in ap pair g)
   | inr g ↦ inr (levels_in level is e (h.0, g))
 ]
 
-levels_out : (level : Entry → ℕ) (items : List Item) (p : Pair) → In p (with_levels level items) → HasEntry p.0 items × (p.1 ≡ level p.0)
+levels_out : (level : Entry → ℕ) (items : List Item) (p : RankedEntry) → In p (with_levels level items) → HasEntry p.0 items × (p.1 ≡ level p.0)
 levels_out level [] p h = absurd h
 levels_out level (i ∷ is) p (inl e) =
-    let same : p.0 ≡ i.1 = ap (λ (q : Pair). q.0) e in
+    let same : p.0 ≡ i.1 = ap (λ (q : RankedEntry). q.0) e in
     let with_entry : Entry → Item = λ a. (i.0, a) in
-    ((i.0, inl (ap with_entry same)), ap (λ (q : Pair). q.1) e ∙ ap level (sym same))
+    ((i.0, inl (ap with_entry same)), ap (λ (q : RankedEntry). q.1) e ∙ ap level (sym same))
 levels_out level (i ∷ is) p (inr h) = let r = levels_out level is p h in (further p.0 i is r.0, r.1)
 
 some_is : (o : Option Slot) → is_some o ≡ true → (s : Slot) × (o ≡ Some s)
@@ -145,11 +145,11 @@ module _ (law : Entries) (racks : List ℕ) (p : Layout) (t : IsTree racks p) (m
   either_skips : (e : Entry) → is_in_either near_set rack_set e ≡ (is_some (slot_in slots (number_of e) m) || is_some (slot_in slots (number_of e) rack))
   either_skips e = ap (λ b. b || in_set rack_set (number_of e)) (t.kept.marked (number_of e) m near_queued) ∙ ap (λ b. is_some (slot_in slots (number_of e) m) || b) (t.kept.marked (number_of e) rack rack_queued)
 
-  abbrev pub all_pairs : List Pair
+  abbrev pub all_pairs : List RankedEntry
   all_pairs = pairs_of near_set rack_set (t.kept.lists m) (t.kept.lists rack) (t.kept.lists last)
 
   -- Each pair of the three queues is one of the cluster's queue at its level.
-  into_levels : (q : Pair) → In q all_pairs → In q (with_levels level (t.kept.lists last))
+  into_levels : (q : RankedEntry) → In q all_pairs → In q (with_levels level (t.kept.lists last))
   into_levels q g = elim (in_append q (unskipped nothing 0 (t.kept.lists m)) (unskipped (is_in_either near_set near_set) 1 (t.kept.lists rack) ++ unskipped (is_in_either near_set rack_set) 2 (t.kept.lists last)) g) as (λ _. In q (with_levels level (t.kept.lists last))) [
     | inl h ↦
         let o = unskipped_out nothing 0 (t.kept.lists m) q h in
@@ -168,10 +168,10 @@ module _ (law : Entries) (racks : List ℕ) (p : Layout) (t : IsTree racks p) (m
     ]
   ]
     where
-      at_level : (q : Pair) → level q.0 ≡ q.1 → HasEntry q.0 (t.kept.lists last) → In q (with_levels level (t.kept.lists last))
+      at_level : (q : RankedEntry) → level q.0 ≡ q.1 → HasEntry q.0 (t.kept.lists last) → In q (with_levels level (t.kept.lists last))
       at_level q l h = subst (λ (k : ℕ). In (q.0, k) (with_levels level (t.kept.lists last))) l (levels_in level (t.kept.lists last) q.0 h)
 
-  from_levels : (q : Pair) → In q (with_levels level (t.kept.lists last)) → In q all_pairs
+  from_levels : (q : RankedEntry) → In q (with_levels level (t.kept.lists last)) → In q all_pairs
   from_levels q g =
       let o = levels_out level (t.kept.lists last) q g in
       let w = waits last last_queued q.0 o.0 in
@@ -200,7 +200,7 @@ module _ (law : Entries) (racks : List ℕ) (p : Layout) (t : IsTree racks p) (m
   in_order = subst (λ (b : Bool). IsInOrder b (t.kept.lists last)) (queue_at last last_queued).by_priority (queue_at last last_queued).stands.ordered
 
   -- for whatever leads over the pairs of the three queues
-  pub has_path : (Leads : List Pair → Type 0) → ((pairs : List Pair) → IsRanking pairs all_pairs → Leads pairs) → HasPath (tree_record racks p) m Leads
+  pub has_path : (Leads : List RankedEntry → Type 0) → ((pairs : List RankedEntry) → IsRanking pairs all_pairs → Leads pairs) → HasPath (tree_record racks p) m Leads
   has_path Leads leads =
       let s = sorted level (t.kept.lists last) in_order in
       let r = s.ranking in

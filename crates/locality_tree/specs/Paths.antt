@@ -10,7 +10,7 @@ use Rattle.wait_queue.specs.declared.queue.Queue.{Queue}
 use Rattle.wait_queue.specs.Queues.{Item, Stands, first_of}
 use Rattle.locality_tree.specs.declared.path.Path.{Path}
 use Rattle.locality_tree.specs.declared.number_set.NumberSet.{NumberSet}
-use Rattle.locality_tree.specs.Trees.{Pair, IsRanked}
+use Rattle.locality_tree.specs.Trees.{RankedEntry, IsRanked}
 use Rattle.locality_tree.specs.Layouts.{HasNumber, number_of, entry_in}
 use Rattle.locality_tree.specs.NumberSets.{in_set}
 
@@ -22,7 +22,7 @@ abbrev pub nothing : Entry → Bool
 nothing e = false
 
 -- the entries of a list that are not skipped, at a level
-abbrev pub unskipped : (Entry → Bool) → ℕ → List Item → List Pair
+abbrev pub unskipped : (Entry → Bool) → ℕ → List Item → List RankedEntry
 unskipped skips level [] = []
 unskipped skips level (i ∷ is) = cond (skips i.1) (unskipped skips level is) ((i.1, level) ∷ unskipped skips level is)
 
@@ -68,18 +68,18 @@ is_best None second third = false
 is_best (Some p) second third = at_most second p && at_most third p
 
 -- the pairs of a list, put into the order of ranks
-pub record IsRanking (pairs all : List Pair) : Type 0 where
+pub record IsRanking (pairs all : List RankedEntry) : Type 0 where
   pub ranked : IsRanked pairs
-  pub sound : (p : Pair) → In p pairs → In p all
-  pub complete : (p : Pair) → In p all → In p pairs
+  pub sound : (p : RankedEntry) → In p pairs → In p all
+  pub complete : (p : RankedEntry) → In p all → In p pairs
 
 -- the pairs of three queues: each unit at the first level where it is
-abbrev pub pairs_of : NumberSet → NumberSet → List Item → List Item → List Item → List Pair
+abbrev pub pairs_of : NumberSet → NumberSet → List Item → List Item → List Item → List RankedEntry
 pairs_of near_set rack_set near rack cluster =
     unskipped nothing 0 near ++ (unskipped (is_in_either near_set near_set) 1 rack ++ unskipped (is_in_either near_set rack_set) 2 cluster)
 
 -- A path has these pairs left.
-pub record Leads (p : Path) (pairs : List Pair) : Type 0 where
+pub record Leads (p : Path) (pairs : List RankedEntry) : Type 0 where
   pub near : List Item
   pub rack : List Item
   pub cluster : List Item
@@ -92,10 +92,10 @@ pub record Leads (p : Path) (pairs : List Pair) : Type 0 where
 
 -- a path has some pairs left, be it none
 pub record IsWalkable (p : Path) : Type 0 where
-  pub pairs : List Pair
+  pub pairs : List RankedEntry
   pub leads : Leads p pairs
 
 -- An answer is the first of these pairs, and then the rest is left; it is nothing exactly where there is none.
-abbrev pub Gives : List Pair → Option Pair → (List Pair → Type 0) → Type 0
+abbrev pub Gives : List RankedEntry → Option RankedEntry → (List RankedEntry → Type 0) → Type 0
 Gives [] answer IsLeft = (answer ≡ None) × IsLeft []
 Gives (p ∷ rest) answer IsLeft = (answer ≡ Some p) × IsLeft rest

@@ -83,8 +83,8 @@ pub record MayWait (t : TreeRecord) (e : Entry) : Type 0 where
   pub alone : (n : ℕ) (f : Entry) → (get_or t.units n no_unit).entry ≡ Some f → f.turn ≡ e.turn → n ≡ unit_number e.app.0 e.unit.0
 
 -- an entry with a level
-abbrev pub Pair : Type 0
-Pair = Entry × ℕ
+abbrev pub RankedEntry : Type 0
+RankedEntry = Entry × ℕ
 
 -- the level of a unit on a machine
 abbrev pub level_at : TreeRecord → ℕ → ℕ → ℕ → ℕ
@@ -93,21 +93,21 @@ level_at t a u m =
     cond (get_or s m false) 0 (cond (get_or s (rack_place t.racks (get_or t.racks m 0)) false) 1 2)
 
 -- greater priority, then smaller level, then smaller turn
-abbrev pub ranks_before : Pair → Pair → Bool
+abbrev pub ranks_before : RankedEntry → RankedEntry → Bool
 ranks_before p q = cond (nat_eq p.0.priority q.0.priority) (cond (nat_eq p.1 q.1) (nat_lt p.0.turn q.0.turn) (nat_lt p.1 q.1)) (nat_lt q.0.priority p.0.priority)
 
-abbrev pub IsRanked : List Pair → Type 0
+abbrev pub IsRanked : List RankedEntry → Type 0
 IsRanked [] = ⊤
 IsRanked (p ∷ ps) = AllByRecursion (λ q. ranks_before p q ≡ true) ps × IsRanked ps
 
 -- The units that wait, in the order of their ranks on a machine: each once, with its level there, and no other.
-pub record IsPath (t : TreeRecord) (m : ℕ) (pairs : List Pair) : Type 0 where
+pub record IsPath (t : TreeRecord) (m : ℕ) (pairs : List RankedEntry) : Type 0 where
   pub ranked : IsRanked pairs
   pub waiting : (e : Entry) (level : ℕ) → In (e, level) pairs → ((unit_at t e.app.0 e.unit.0).entry ≡ Some e) × (level ≡ level_at t e.app.0 e.unit.0 m)
   pub all : (a u : ℕ) (e : Entry) → (unit_at t a u).entry ≡ Some e → In (e, level_at t a u m) pairs
 
 -- there is such a path, and it is led over
-pub record HasPath (t : TreeRecord) (m : ℕ) (Leads : List Pair → Type 0) : Type 0 where
-  pub pairs : List Pair
+pub record HasPath (t : TreeRecord) (m : ℕ) (Leads : List RankedEntry → Type 0) : Type 0 where
+  pub pairs : List RankedEntry
   pub is_path : IsPath t m pairs
   pub leads : Leads pairs

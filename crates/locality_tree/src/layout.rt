@@ -12,7 +12,7 @@ use fuxi_terms::OutOfMemory;
 use fuxi_terms::limits::{MOST_JOBS, MOST_UNITS};
 use slot_pool::{Pool, Slot};
 use std::alloc::Global;
-use wait_queue::{Entry, Node, Queue, orders, places, standing_lists};
+use wait_queue::{Entry, Node, Queue, law};
 
 /// The slots of one unit, by place.
 pub(crate) type UnitSlots = Vec<Option<Slot>>;
@@ -125,9 +125,9 @@ impl Layout {
         ensures count { length self.new.queues.items ≡ length self.old.queues.items }
         ensures turned { TurnedIn self.old self.new entry.now place true }
     {
-        standing_lists();
-        orders();
-        places();
+        law::standing_lists();
+        law::orders();
+        law::places();
         let number = number_of(entry);
         let queue = &mut self.queues[place];
         let slot = queue.insert(&mut self.pool, *entry);
@@ -144,8 +144,8 @@ impl Layout {
         ensures count { length self.new.queues.items ≡ length self.old.queues.items }
         ensures turned { TurnedIn self.old self.new entry.now place false }
     {
-        standing_lists();
-        orders();
+        law::standing_lists();
+        law::orders();
         let number = number_of(entry);
         let queue = &mut self.queues[place];
         queue.remove(&mut self.pool, slot);
@@ -169,7 +169,7 @@ impl Layout {
         ensures count { length self.new.queues.items ≡ length self.old.queues.items }
         ensures turned { TurnedIn self.old self.new entry.now place stands }
     {
-        standing_lists();
+        law::standing_lists();
         match slot_in(&self.slots, number_of(entry), place) {
             Some(slot) => {
                 if !stands {
@@ -212,7 +212,7 @@ impl Layout {
         ensures ok { OnOk result (Admits self.old self.new first units) }
         ensures err { OnErr result (self.new ≡ self.old) }
     {
-        standing_lists();
+        law::standing_lists();
         let places = self.queues.len();
         let fresh = vacant_units(alloc, units, places)?;
         let room = match self.pool.spare().checked_add(units * places) {

@@ -5,7 +5,7 @@ ghost use Rattle.std.proofs.Common.{get_or};
 ghost use Rattle.slot_pool.specs.Pools.{value_at};
 ghost use Rattle.wait_queue.specs.declared.node.Entry.{Entry as EntryRecord};
 ghost use Rattle.wait_queue.specs.Queues.{Item, Stands, IsIn, first_of, entry_at};
-ghost use Rattle.locality_tree.specs.Trees.{Pair};
+ghost use Rattle.locality_tree.specs.Trees.{RankedEntry};
 ghost use Rattle.locality_tree.specs.NumberSets.{no_set};
 ghost use Rattle.locality_tree.specs.Layouts.{HasNumber, AreKeptIn};
 ghost use Rattle.locality_tree.specs.Paths.{Leads, Gives, IsWalkable, IsTail, HasTail, SkipsTo, IsRanking, is_in_either, priority_in, at_most, is_best, pairs_of};
@@ -13,7 +13,7 @@ ghost use Rattle.locality_tree.specs.Paths.{Leads, Gives, IsWalkable, IsTail, Ha
 use crate::layout::{Layout, number_of};
 use crate::number_set::NumberSet;
 use slot_pool::{Pool, Slot};
-use wait_queue::{Entry, Node, Queue, orders, standing_lists};
+use wait_queue::{Entry, Node, Queue, law};
 
 /// A walk over three queues. It gives each unit once, at its smallest level.
 #[derive(Drop)]
@@ -57,8 +57,8 @@ fn skip(
     requires { HasTail (value_at pool.now) queue.now from }
     ensures { (tail : List Item) → IsTail (value_at pool.now) queue.now from tail → SkipsTo (value_at pool.now) queue.now (is_in_either one.now other.now) tail result }
 {
-    standing_lists();
-    orders();
+    law::standing_lists();
+    law::orders();
     let mut at = from;
     while let Some(slot) = at {
         if !is_in_either(one, other, entry_of(pool, slot)) {
@@ -106,7 +106,7 @@ fn take(pool: &Pool<Node>, queue: &Queue, slot: Slot) -> (Entry, Option<Slot>)
     ensures entry { entry_at (value_at pool.now) slot ≡ Some result.0 }
     ensures behind { (front back : List Item) (entry : EntryRecord) → Stands (value_at pool.now) queue.now (front ++ (slot, entry) ∷ back) → result.1 ≡ first_of back None }
 {
-    standing_lists();
+    law::standing_lists();
     let entry = *entry_of(pool, slot);
     (entry, queue.after(pool, slot))
 }
@@ -117,7 +117,7 @@ impl<'a> Path<'a> {
         requires near { near_place < length layout.now.queues.items }
         requires rack { rack_place < length layout.now.queues.items }
         requires kept { AreKeptIn layout.now }
-        ensures { (kept : AreKeptIn layout.now) (pairs : List Pair) → IsRanking pairs (pairs_of (get_or layout.now.sets.items near_place no_set) (get_or layout.now.sets.items rack_place no_set) (kept.lists near_place) (kept.lists rack_place) (kept.lists (length layout.now.queues.items - 1))) → Leads result pairs }
+        ensures { (kept : AreKeptIn layout.now) (pairs : List RankedEntry) → IsRanking pairs (pairs_of (get_or layout.now.sets.items near_place no_set) (get_or layout.now.sets.items rack_place no_set) (kept.lists near_place) (kept.lists rack_place) (kept.lists (length layout.now.queues.items - 1))) → Leads result pairs }
     {
         let pool = &layout.pool;
         let near_set = &layout.sets[near_place];
@@ -148,11 +148,11 @@ impl<'a> Path<'a> {
     /// rack's, else 2. None exactly at the end.
     pub fn next(&mut self) -> Option<(Entry, u8)>
         requires { IsWalkable self.old }
-        ensures gives { (pairs : List Pair) → Leads self.old pairs → Gives pairs result (Leads self.new) }
+        ensures gives { (pairs : List RankedEntry) → Leads self.old pairs → Gives pairs result (Leads self.new) }
         ensures goes_on { IsWalkable self.new }
     {
-        standing_lists();
-        orders();
+        law::standing_lists();
+        law::orders();
         let near = priority_at(self.pool, self.at_near);
         let rack = priority_at(self.pool, self.at_rack);
         let cluster = priority_at(self.pool, self.at_cluster);

@@ -14,7 +14,7 @@ use fuxi_terms::limits::{MOST_RACKS, MOST_UNITS};
 use schedule_unit::{Job, MachineNo, RackNo};
 use std::alloc::Global;
 use std::marker::Model;
-use wait_queue::{Entry, standing_lists};
+use wait_queue::{Entry, law};
 
 /// The units that wait, and the queues that they stand in. Contracts see each machine's rack, and of each
 /// unit the entry with which it waits and in which of the queues it stands.
@@ -75,7 +75,7 @@ impl Tree {
         ensures ok { OnOk result (self.new ≡ with_job self.old job.now) }
         ensures err { OnErr result (self.new ≡ self.old) }
     {
-        standing_lists();
+        law::standing_lists();
         let first = MOST_UNITS * job.app().0 as usize;
         self.layout.admit(alloc, first, job.units() as usize)
     }
@@ -102,7 +102,7 @@ impl Tree {
         requires machine { machine.0 < length self.old.racks }
         ensures { self.new ≡ with_stand self.old entry.now machine.0 unmet }
     {
-        standing_lists();
+        law::standing_lists();
         self.layout.turn_to(machine.0 as usize, entry, unmet);
     }
 
@@ -113,7 +113,7 @@ impl Tree {
         requires rack { rack.0 < 64 }
         ensures { self.new ≡ with_stand self.old entry.now (rack_place self.old.racks rack.0) unmet }
     {
-        standing_lists();
+        law::standing_lists();
         let place = self.racks.len() + rack.0 as usize;
         self.layout.turn_to(place, entry, unmet);
     }
@@ -124,7 +124,7 @@ impl Tree {
         requires machine { machine.0 < length self.now.racks }
         ensures { result ≡ get_or (unit_at self.now entry.now.app.0 entry.now.unit.0).stands machine.0 false }
     {
-        standing_lists();
+        law::standing_lists();
         self.layout.stands_at(machine.0 as usize, entry)
     }
 
@@ -134,7 +134,7 @@ impl Tree {
         requires rack { rack.0 < 64 }
         ensures { result ≡ get_or (unit_at self.now entry.now.app.0 entry.now.unit.0).stands (rack_place self.now.racks rack.0) false }
     {
-        standing_lists();
+        law::standing_lists();
         let place = self.racks.len() + rack.0 as usize;
         self.layout.stands_at(place, entry)
     }
@@ -144,7 +144,7 @@ impl Tree {
         requires { machine.0 < length self.now.racks }
         ensures { HasPath self.now machine.0 (Leads result) }
     {
-        standing_lists();
+        law::standing_lists();
         let place = machine.0 as usize;
         let rack = self.racks.len() + self.racks[place] as usize;
         Path::at(&self.layout, place, rack)

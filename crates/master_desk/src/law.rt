@@ -6,13 +6,11 @@ ghost use Rattle.master_desk.specs.CallBytes.{Says};
 ghost use Rattle.master_desk.specs.Desks.{Desk, IsDeskRun};
 ghost use Rattle.master_desk.specs.declared.call.Decoded.{Decoded as AnyDecoded};
 
-use wire_frames::one_reading;
-
 /// Bytes say one thing alone.
 pub fn one_call()
     ensures { (bytes : List ℕ) (x y : AnyDecoded) → Says bytes x → Says bytes y → x ≡ y }
 {
-    one_reading();
+    wire_frames::law::one_reading();
 }
 
 /// A master, its sessions and an order of their calls have one history: one master behind the last call, and one journal.

@@ -15,7 +15,7 @@ use crate::told::Told;
 use fuxi_io::Disk;
 use fuxi_master::MasterEvent;
 use node_party::{Answer, Halt};
-use schedule_text::{Refusal, job_refusal, jobs_are_tested_alike};
+use schedule_text::{Refusal, job_refusal, law};
 use schedule_unit::{AppNo, Asks, GroupNo, Job, MachineNo};
 use std::alloc::Global;
 
@@ -69,7 +69,7 @@ impl MasterNode {
         ensures served { result ≢ Err Halt.Disk → D.faults disk.new ≡ D.faults disk.old }
         ensures told { LeavesMade (λ h r. master_does h r (MasterCommands (Submits (job_named app.0 group.0 asks.now)))) self result (D.told disk.old) (D.told disk.new) }
     {
-        jobs_are_tested_alike();
+        law::jobs_are_tested_alike();
         let cluster = self.cluster();
         if group.0 >= cluster.groups() {
             return Ok((self, Answer::Refused(Refusal::NoGroup)));

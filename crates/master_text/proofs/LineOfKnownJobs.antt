@@ -4,12 +4,13 @@ use Rattle.std.specs.Prelude.{◌||◌}
 use Rattle.std.specs.List.{AllByRecursion}
 use Rattle.fuxi_terms.specs.Cluster.{ClusterRecord}
 use Rattle.fuxi_terms.specs.Jobs.{job_numbers, unit_count}
-use Rattle.fuxi_terms.specs.Keys.{Spot}
+use Rattle.fuxi_terms.specs.Keys.{Pair}
 use Rattle.fuxi_terms.specs.Lists.{below}
 use Rattle.fuxi_terms.specs.declared.Key.{Key}
 use Rattle.fuxi_terms.proofs.Alls.{all_append, all_filter, all_flat, all_mapped, all_passed}
 use Rattle.fuxi_terms.proofs.Booleans.{both_true, number_is}
 use Rattle.fuxi_terms.proofs.Lists.{all_at}
+use Rattle.fuxi_terms.specs.Tables.{Table}
 use Rattle.written_roles.specs.Masters.{Master, asked, out_of}
 use Rattle.written_roles.specs.MasterSteps.{ready, phased}
 use Rattle.written_roles.specs.Placing.{waiting_in, waiting_pairs, has_pair, lined, line_up, first_placeable, granted, settle, all_out}
@@ -19,16 +20,16 @@ low n zero le = tt
 low n (suc k) le = all_append (λ u. u < n) (below k) (k ∷ []) (low n k (omega (arith, le))) (omega (arith, le), tt)
 
 module _ (units : ℕ → ℕ) where
-  abbrev Has : ℕ × ℕ → Type 0
+  abbrev Has : Pair → Type 0
   Has p = p.1 < units p.0
 
-  waiting_within : (numbers : List ℕ) (asks : ℕ → Key → ℕ) (table : List (Spot × ℕ)) → AllByRecursion Has (waiting_in numbers units asks table)
+  waiting_within : (numbers : List ℕ) (asks : ℕ → Key → ℕ) (table : Table) → AllByRecursion Has (waiting_in numbers units asks table)
   waiting_within numbers asks table = all_flat Has (λ a. map (λ u. (a, u)) (filter (λ u. nat_lt 0 (out_of asks table a u)) (below (units a)))) numbers
       (λ a. all_mapped Has (λ u. (a, u)) (filter (λ u. nat_lt 0 (out_of asks table a u)) (below (units a)))
       (all_filter (λ u. u < units a) (λ u. nat_lt 0 (out_of asks table a u)) (below (units a)) (low (units a) (units a) (omega arith))))
 
   -- a pair among these is one of them
-  pair_within : (p : ℕ × ℕ) (qs : List (ℕ × ℕ)) → AllByRecursion Has qs → has_pair p qs ≡ true → Has p
+  pair_within : (p : Pair) (qs : List Pair) → AllByRecursion Has qs → has_pair p qs ≡ true → Has p
   pair_within p [] h is = cc
   pair_within p (q ∷ qs) h is = by (nat_eq p.0 q.0 && nat_eq p.1 q.1) refl is (pair_within p qs h.1)
     where
@@ -40,7 +41,7 @@ module _ (units : ℕ → ℕ) where
           subst (λ a. p.1 < units a) (sym job) (subst (λ u. u < units q.0) (sym unit) h.0)
       by false e is rest = rest is
 
-  lined_within : (line pairs : List (ℕ × ℕ)) → AllByRecursion Has pairs → AllByRecursion Has (lined line pairs)
+  lined_within : (line pairs : List Pair) → AllByRecursion Has pairs → AllByRecursion Has (lined line pairs)
   lined_within line pairs h = all_append Has (filter (λ p. has_pair p pairs) line) (filter (λ p. not (has_pair p line)) pairs)
       (all_passed Has (λ p. has_pair p pairs) line (λ p is. pair_within p pairs h is)) (all_filter Has (λ p. not (has_pair p line)) pairs h)
 
@@ -52,7 +53,7 @@ module _ (units : ℕ → ℕ) where
     | Some s ↦ settles_within c fuel (granted M s) (all_filter Has (λ p. nat_lt 0 (out_of (asked M) (granted M s).table p.0 p.1)) M.line h)
   ]
 
-pub ready_within : (c : ClusterRecord) (M : Master) → AllByRecursion (λ (p : ℕ × ℕ). p.1 < unit_count M.jobs p.0) (ready c M).line
+pub ready_within : (c : ClusterRecord) (M : Master) → AllByRecursion (λ (p : Pair). p.1 < unit_count M.jobs p.0) (ready c M).line
 ready_within c M = by (phased c M).serving
   where
     N : Master
@@ -66,5 +67,5 @@ ready_within c M = by (phased c M).serving
     by false = up
 
 -- so a pair of the line of a master that has ended its step has a unit of its job
-pub unit_there : (c : ClusterRecord) (M : Master) (i : ℕ) (p : ℕ × ℕ) → ready c M ≡ M → slice_get M.line i ≡ Some p → p.1 < unit_count M.jobs p.0
-unit_there c M i p ends is = all_at (λ (p : ℕ × ℕ). p.1 < unit_count M.jobs p.0) M.line i p (subst (λ (N : Master). AllByRecursion (λ (p : ℕ × ℕ). p.1 < unit_count M.jobs p.0) N.line) ends (ready_within c M)) is
+pub unit_there : (c : ClusterRecord) (M : Master) (i : ℕ) (p : Pair) → ready c M ≡ M → slice_get M.line i ≡ Some p → p.1 < unit_count M.jobs p.0
+unit_there c M i p ends is = all_at (λ (p : Pair). p.1 < unit_count M.jobs p.0) M.line i p (subst (λ (N : Master). AllByRecursion (λ (p : Pair). p.1 < unit_count M.jobs p.0) N.line) ends (ready_within c M)) is

@@ -17,7 +17,7 @@ use Rattle.fuxi_terms.specs.Jobs.{KnownJob, job_of, unit_count}
 use Rattle.fuxi_terms.specs.Keys.{Spot, spot_cmp}
 use Rattle.fuxi_terms.specs.Limits.{most_jobs, most_groups, most_units}
 use Rattle.fuxi_terms.specs.Lists.{below}
-use Rattle.fuxi_terms.specs.Tables.{spot}
+use Rattle.fuxi_terms.specs.Tables.{spot, Table}
 use Rattle.fuxi_terms.proofs.Alls.{all_append, all_flat}
 use Rattle.fuxi_terms.proofs.Booleans.{both_true, or_left, or_right}
 use Rattle.fuxi_terms.proofs.KeyOrders.{spot_total, same_spot}
@@ -95,7 +95,7 @@ spot_among machines units jobs s job unit machine =
     (among_over spot_cmp (λ m. spot s.job s.unit m ∷ []) machines s.machine s machine (or_left (eq_by_cmp spot_cmp s s) false (ap is_eq (tied_itself spot_total s)))))
 
 -- a number that is found is not 0
-found : (es : List (Spot × ℕ)) (s : Spot) → AllByRecursion (λ e. 0 < e.1) es → find spot_cmp s es ≡ cond (nat_eq (count spot_cmp es s) 0) None (Some (count spot_cmp es s))
+found : (es : Table) (s : Spot) → AllByRecursion (λ e. 0 < e.1) es → find spot_cmp s es ≡ cond (nat_eq (count spot_cmp es s) 0) None (Some (count spot_cmp es s))
 found [] s h = refl
 found (e ∷ es) s h = elim (eq_by_cmp spot_cmp s e.0) as (λ b. cond b (Some e.1) (find spot_cmp s es) ≡ cond (nat_eq (unwrap_or (cond b (Some e.1) (find spot_cmp s es)) 0) 0) None (Some (unwrap_or (cond b (Some e.1) (find spot_cmp s es)) 0))) [
   | true ↦ let t : nat_eq e.1 0 ≡ false = grind (arith, nat_tests, h.0) in rw t
@@ -103,7 +103,7 @@ found (e ∷ es) s h = elim (eq_by_cmp spot_cmp s e.0) as (λ b. cond b (Some e.
 ]
 
 -- The lines of a table
-module _ (epoch : ℕ) (es : List (Spot × ℕ)) where
+module _ (epoch : ℕ) (es : Table) where
   abbrev lines_found : Spot → List Line
   lines_found s = found_at spot_total same_spot (λ s n. grant_line epoch (s, n) ∷ []) es s
 
@@ -130,7 +130,7 @@ module _ (epoch : ℕ) (es : List (Spot × ℕ)) where
       ∙ each_once spot_total same_spot (λ s n. grant_line epoch (s, n) ∷ []) (spots machines units jobs) es (spots_rise machines units jobs) sorted (all_among es within)
       ∙ flat_map_single (grant_line epoch) es
     where
-      all_among : (fs : List (Spot × ℕ)) → AllByRecursion (λ e. (e.0.job < jobs) × ((e.0.unit < units e.0.job) × (e.0.machine < machines))) fs → AllByRecursion (λ e. is_among spot_cmp (spots machines units jobs) e.0 ≡ true) fs
+      all_among : (fs : Table) → AllByRecursion (λ e. (e.0.job < jobs) × ((e.0.unit < units e.0.job) × (e.0.machine < machines))) fs → AllByRecursion (λ e. is_among spot_cmp (spots machines units jobs) e.0 ≡ true) fs
       all_among [] h = tt
       all_among (f ∷ fs) h = (spot_among machines units jobs f.0 h.0.0 h.0.1.0 h.0.1.1, all_among fs h.1)
 
@@ -163,7 +163,7 @@ low_number (j ∷ js) a u h lt = elim (nat_eq j.number a) as (λ b. nat_eq j.num
 pub entries_within : (t : TableRecord) → IsSound t → AllByRecursion (λ e. (e.0.job < most_jobs) × ((e.0.unit < unit_count (as_known t.jobs) e.0.job) × (e.0.machine < length t.cluster.machines))) t.entries
 entries_within t sound = all t.entries sound.admitted
   where
-    all : (es : List (Spot × ℕ)) → AllByRecursion (λ e. (e.0.unit < unit_count (as_known t.jobs) e.0.job) × (e.0.machine < length t.cluster.machines)) es
+    all : (es : Table) → AllByRecursion (λ e. (e.0.unit < unit_count (as_known t.jobs) e.0.job) × (e.0.machine < length t.cluster.machines)) es
         → AllByRecursion (λ e. (e.0.job < most_jobs) × ((e.0.unit < unit_count (as_known t.jobs) e.0.job) × (e.0.machine < length t.cluster.machines))) es
     all [] h = tt
     all (e ∷ es) h = ((low_number t.jobs e.0.job e.0.unit sound.in_order h.0.0, (h.0.0, h.0.1)), all es h.1)

@@ -3,10 +3,10 @@ use Rattle.std.specs.Prelude.{ℕ, cond, nat_eq, length, List, [], ◌∷◌}
 use Rattle.std.specs.List.{flat_map}
 use Rattle.fuxi_terms.specs.Counts.{count}
 use Rattle.fuxi_terms.specs.Jobs.{KnownJob, is_known, group_of, has_ended, unit_count}
-use Rattle.fuxi_terms.specs.Keys.{Spot, spot_cmp}
+use Rattle.fuxi_terms.specs.Keys.{Spot, spot_cmp, Pair}
 use Rattle.fuxi_terms.specs.Lists.{below}
 use Rattle.fuxi_terms.specs.Numbers.{has_number}
-use Rattle.fuxi_terms.specs.Tables.{spot}
+use Rattle.fuxi_terms.specs.Tables.{spot, Table}
 use Rattle.written_roles.specs.Masters.{Master, out}
 use Rattle.written_world.specs.Outputs.{Line, Job, Banned, Reported, Grant, Wait}
 use Rattle.grant_table.specs.GrantTables.{TableRecord, as_known}
@@ -28,7 +28,7 @@ reported_lines epoch reported m = cond (has_number m reported) (Reported epoch m
 abbrev pub grant_line : ℕ → Spot × ℕ → Line
 grant_line epoch e = Grant epoch e.0.job e.0.unit e.0.machine e.1
 
-abbrev pub grant_lines : ℕ → List (Spot × ℕ) → ℕ → ℕ → ℕ → List Line
+abbrev pub grant_lines : ℕ → Table → ℕ → ℕ → ℕ → List Line
 grant_lines epoch table a u m = cond (nat_eq (count spot_cmp table (spot a u m)) 0) [] (grant_line epoch (spot a u m, count spot_cmp table (spot a u m)) ∷ [])
 
 abbrev pub grants_of_unit : ℕ → TableRecord → ℕ → ℕ → List Line
@@ -38,5 +38,5 @@ abbrev pub grants_of_job : ℕ → TableRecord → ℕ → List Line
 grants_of_job epoch t a = flat_map (grants_of_unit epoch t a) (below (unit_count (as_known t.jobs) a))
 
 -- the line of a pair that waits
-abbrev pub wait_line : Master → ℕ × ℕ → Line
+abbrev pub wait_line : Master → Pair → Line
 wait_line M p = Wait M.epoch p.0 p.1 (out M p.0 p.1)

@@ -1,6 +1,7 @@
 //! The lines of a master.
 
 ghost use Rattle.std.specs.Prelude.{◌≡◌, ◌<◌, ℕ, [], ◌∷◌, ◌++◌, map, length, Some, slice_get, OnOk};
+ghost use Rattle.fuxi_terms.specs.Keys.{Pair};
 ghost use Rattle.written_roles.specs.MasterRoles.{MasterRole};
 ghost use Rattle.written_world.specs.Outputs.{MasterIs, Reported};
 ghost use Rattle.written_world.specs.Show.{show_master};
@@ -57,7 +58,7 @@ fn write_reports(master: &Master, out: &mut Vec<u8>) -> Result<(), OutOfMemory>
 // The pair at a place of the line, with what is out of it.
 fn write_wait(master: &Master, index: usize, out: &mut Vec<u8>) -> Result<(), OutOfMemory>
     requires { index < length master.now.core.allotment.placer.seen.line }
-    ensures ok { OnOk result ((r : MasterRole) (p : ℕ × ℕ) → StandsFor master.now.core r → slice_get r.state.line index ≡ Some p → Shows (wait_line r.state p ∷ []) out.old.items out.new.items) }
+    ensures ok { OnOk result ((r : MasterRole) (p : Pair) → StandsFor master.now.core r → slice_get r.state.line index ≡ Some p → Shows (wait_line r.state p ∷ []) out.old.items out.new.items) }
     ensures begins { Begins out.old.items out.new.items }
 {
     let pair = master.waiting().at(index);

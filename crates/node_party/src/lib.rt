@@ -2,13 +2,12 @@
 #![tactic(auto)]
 
 mod disk;
-mod law;
+pub mod law;
 mod line;
 mod party;
 mod text;
 
 pub use disk::NoDisk;
-pub use law::events_command_anywhere;
 pub use line::{NodeLine, read_line};
 pub use party::{Answer, Halt, Node};
 pub use text::{push_answer, push_state, write_round};

@@ -13,7 +13,7 @@ use itoa::Buffer;
 use node_rounds::RoundLine;
 use schedule_text::{Output, write_output};
 
-/// Appends the line of an answer, where it has one. Where memory is refused a part of it may stand there.
+/// Appends the line of an answer, where it has one. Where memory is refused nothing is said of what stands in `out`.
 pub fn push_answer(answer: &Answer, out: &mut Vec<u8>) -> Result<(), OutOfMemory>
     ensures { OnOk result (out.new.items ≡ out.old.items ++ answer_text (as_answer answer.now)) }
 {
@@ -79,7 +79,7 @@ pub fn write_round<O: Sink>(out: &mut O, line: &RoundLine) -> Result<(), WriteFa
     }
 }
 
-/// Appends the state of a node that took so many events. Where memory is refused a part of it may stand there.
+/// Appends the state of a node that took so many events. Where memory is refused nothing is said of what stands in `out`.
 pub fn push_state<C: Node>(events: u64, core: &C, out: &mut Vec<u8>) -> Result<(), OutOfMemory>
     ensures { OnOk result ((r : Role) → C.stands core.now r → out.new.items ≡ out.old.items ++ state_text events r) }
 {

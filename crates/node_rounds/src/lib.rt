@@ -5,6 +5,8 @@ ghost use Rattle.std.specs.Prelude.{◌≡◌, ℕ, List};
 ghost use Rattle.node_rounds.specs.Roles.{Role};
 ghost use Rattle.node_rounds.specs.HeardPackets.{Came, Gives, hear_all};
 
+use wire_frames::law;
+
 mod listening;
 mod party;
 mod rounds;
@@ -12,7 +14,6 @@ mod writing;
 
 pub use party::{Core, Turn};
 pub use rounds::{RoundLine, round, serve};
-use wire_frames::{one_frame, one_reading};
 pub use writing::write_turn;
 
 /// The bytes of a connection say what is heard of it, however they are taken for packets and a rest. It does nothing;
@@ -20,6 +21,6 @@ pub use writing::write_turn;
 pub fn one_hearing()
     ensures { (most : ℕ) (r : Role) (bytes : List ℕ) (came other : Came) → Gives bytes came.packets (hear_all most r came).how → Gives bytes other.packets (hear_all most r other).how → hear_all most r came ≡ hear_all most r other }
 {
-    one_frame();
-    one_reading();
+    law::one_frame();
+    law::one_reading();
 }

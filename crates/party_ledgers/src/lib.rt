@@ -35,8 +35,8 @@ pub fn patched_by_difference()
     ensures grants { ByDifference (IsTally greatest_grant) IsTallyChange AlwaysReaches (patched_tally Below TooGreat greatest_grant credited_what) (tally_difference credited_what) }
     ensures demands { ByDifference (IsTally greatest_demand) IsTallyChange AlwaysReaches (patched_tally Below TooGreat greatest_demand back_what) (tally_difference back_what) }
 {
-    ledger_law::patched_by_difference::<RowLedger>();
-    ledger_law::patched_by_difference::<JoinLedger>();
-    ledger_law::patched_by_difference::<Grants>();
-    ledger_law::patched_by_difference::<Demand>();
+    ledger_law::law::patched_by_difference::<RowLedger>();
+    ledger_law::law::patched_by_difference::<JoinLedger>();
+    ledger_law::law::patched_by_difference::<Grants>();
+    ledger_law::law::patched_by_difference::<Demand>();
 }

@@ -1,6 +1,6 @@
 -- Masters in their slots.
-use Rattle.std.proofs.Common.{◌≡◌, ℕ, ◌<◌, ◌≤◌, Bool, true, false, cond, not, nat_eq, List, [], ◌∷◌, map, Option, Some, None, is_some, Result, Ok, Err, refl, sym, ◌∙◌, ap, subst, arith}
-use Rattle.std.specs.Prelude.{OnOk, T, ◌&&◌, ◌||◌}
+use Rattle.std.proofs.Common.{◌≡◌, ℕ, ◌<◌, Bool, true, false, cond, not, nat_eq, List, [], ◌∷◌, map, Option, Some, None, is_some, Result, Ok, Err, refl, sym, ◌∙◌, ap, subst}
+use Rattle.std.specs.Prelude.{OnOk, T, ◌||◌}
 use Rattle.std.specs.List.{AllByRecursion, list_any}
 use Rattle.std.specs.List.Sorted.{IsStrictlySortedBy}
 use Rattle.std.specs.Map.{keys_of, lookup}
@@ -9,7 +9,7 @@ use Rattle.std.proofs.lemmas.Map.Lookups.{btree_set_from_contains, exact_unsigne
 use Rattle.std.specs.Option.{option_map}
 use Rattle.std.specs.Ordering.{nat_cmp, is_eq, is_lt}
 use Rattle.std.specs.declared.cmp.Ordering.TheVariants.{Less}
-use Rattle.std.specs.Cmp.{nat_cmp_total, unsigned_tied}
+use Rattle.std.specs.Cmp.{nat_cmp_total}
 use Rattle.std.specs.FinMap.Entries.{find, where_key, is_sorted, below_all, is_some-find, find-where_key}
 use Rattle.fuxi_terms.specs.declared.OutOfMemory.{OutOfMemory}
 use Rattle.fuxi_terms.specs.declared.answers.What.{What}
@@ -24,7 +24,7 @@ use Rattle.core_side.specs.Parcels.{parcel_is}
 use Rattle.written_net.specs.Sides.{Parcel}
 use Rattle.written_roles.specs.HardState.{HardState}
 use Rattle.written_roles.specs.Masters.{Master}
-use Rattle.written_roles.specs.MasterRoles.{MasterRole, Told, Sent as SentAs, HeardAs, changes_as, master_changed, master_commanded, master_started, master_steps_alone}
+use Rattle.written_roles.specs.MasterRoles.{MasterRole, Sent as SentAs, HeardAs, changes_as, master_changed, master_started, master_steps_alone}
 use Rattle.written_roles.specs.MasterSteps.{Changed, change_of, MasterCommand, Submits, Finishes, BansMachine, UnbansMachine, StartsServing, MakesRoom, command_of}
 use Rattle.written_roles.specs.Refusals.{Refusal, NotRunning, with_found}
 use Rattle.written_world.specs.World.{World, Step, prints_nothing, refused}
@@ -32,7 +32,7 @@ use Rattle.written_world.specs.Good.{Good}
 use Rattle.written_world.specs.Events.{commanded, without_master}
 use Rattle.written_join.specs.SeenWorlds.{master_seen}
 use Rattle.fuxi_master.specs.Cores.{CoreRecord, MasterRecord, StandsFor}
-use Rattle.fuxi_master.specs.Steps.{Answers, StepsAlike, answer_of, refusal_of, told_by}
+use Rattle.fuxi_master.specs.Steps.{Answers, StepsAlike, answer_of, refusal_of}
 use Rattle.fuxi_master.specs.declared.event.MasterEvent.{MasterEvent}
 use Rattle.fuxi_master.specs.declared.event.MasterEvent.TheVariants.{Packet as PacketComes, Turn, Resync}
 use Rattle.fuxi_master.specs.declared.event.MasterRefusal.{MasterRefusal}
@@ -42,7 +42,7 @@ use Rattle.written_parties.specs.SeenParties.{Role, OfMaster, OfAgent, OfApp, Ma
 use Rattle.party_slots.specs.PartyAnswers.{Hears, Sends}
 use Rattle.party_slots.specs.Slots.{SlotsRecord, entry_at, slot_at, boot_at, IsSet, IsStill, IsGone, StandsAt, StartInWorld}
 use Rattle.party_slots.specs.RunningMasters.{MasterStands, AreMastersOf, MasterAt, MasterStartInWorld, StopInWorld, change_in, IsWritten, CommandsIn, CommandInWorld, done_in, epochs_of}
-use Rattle.party_slots.proofs.SlotsLemmas.{stand_set, stand_still, stand_same, stand_gone, at_slot}
+use Rattle.party_slots.proofs.SlotsLemmas.{stand_now, stand_set, stand_still, stand_same, at_slot, ties}
 
 -- What a master answers. A packet was heard so
 record IsHeardAs (o : Outcome) (new : Bool) (word : What) : Type 0 where
@@ -111,9 +111,6 @@ master_started_in join c h e m old new (Ok done) stands start = λ w good s clus
     record { stand = start w (master_after w h e) Masters (OfMaster (master_started w.cluster h e)) s x (subst (λ k. StandsFor m.core (master_started k h e)) cluster stands); acts = x.acts }
 
 -- Stops
-ties : (a b : ℕ) → is_eq (nat_cmp a b) ≡ nat_eq a b
-ties a b = unsigned_tied a b
-
 turned : {X : Type 0} (b : Bool) (o : Option X) → cond (not b) o None ≡ cond b None o
 turned true o = refl
 turned false o = refl
@@ -127,10 +124,10 @@ abbrev seen_as : World → Option Master → Option Role
 seen_as w o = option_map (λ M. OfMaster (master_seen w M)) o
 
 left_over : (w : World) (e : ℕ) (h : HardState) (old new : SlotsRecord MasterRecord) → AreMastersOf w old → IsGone e old new → AreMastersOf (without_master w e h) new
-left_over w e h old new s gone = stand_gone MasterStands w (without_master w e h) Masters e old new s
+left_over w e h old new s gone = stand_now MasterStands w (without_master w e h) Masters e None None old new s
     (ap (seen_as w) (find_without w.masters e e ∙ ap (λ b. cond b None (find nat_cmp e w.masters)) (nat_itself e)))
     (λ m other. ap (seen_as w) (find_without w.masters e m ∙ ap (λ b. cond b None (find nat_cmp m w.masters)) (eq_turned m e ∙ other)))
-    refl (λ m other. refl) gone
+    refl (λ m other. refl) tt refl gone
 
 -- for whom there is a slot runs, and no other
 alike : (o : Option MasterRecord) (r : Option Role) → StandsAt MasterStands o r → is_some o ≡ is_some r

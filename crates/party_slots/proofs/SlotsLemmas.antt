@@ -1,9 +1,12 @@
 -- From one slot to the world.
-use Rattle.std.proofs.Common.{◌≡◌, ℕ, ◌+◌, ◌<◌, ◌≤◌, Bool, true, false, nat_eq, List, [], slice_get, Option, Some, None, is_some, refl, sym, ◌∙◌, ap, subst, arith}
-use Rattle.std.specs.Prelude.{◌&&◌, IsSome}
+use Rattle.std.proofs.Common.{◌≡◌, ℕ, ◌+◌, ◌<◌, ◌≤◌, Bool, true, false, cond, nat_eq, List, [], slice_get, Option, Some, None, is_some, Result, Ok, Err, refl, sym, ◌∙◌, ap, subst, arith}
+use Rattle.std.specs.Prelude.{IfOk, IfSome, IsSome, OnErr}
+use Rattle.std.specs.BTreeMap.{is_at}
+use Rattle.std.specs.Cmp.{unsigned_tied}
+use Rattle.std.specs.Ordering.{nat_cmp, is_eq}
 use Rattle.fuxi_terms.specs.Cluster.{ClusterRecord}
 use Rattle.fuxi_terms.specs.Limits.{most_steps}
-use Rattle.fuxi_terms.proofs.Booleans.{number_is}
+use Rattle.fuxi_terms.proofs.Booleans.{false_right, nat_itself, number_is}
 use Rattle.party_ledgers.specs.declared.packets.Heard.{Heard}
 use Rattle.party_ledgers.specs.declared.packets.Packet.{Packet}
 use Rattle.written_net.specs.Net.{Packet as WrittenPacket}
@@ -13,9 +16,9 @@ use Rattle.written_world.specs.World.{World, empty_world}
 use Rattle.written_world.specs.Good.{Good}
 use Rattle.written_join.specs.SeenWorlds.{parcel_of}
 use Rattle.written_join.specs.Leading.{AllLead}
-use Rattle.written_parties.specs.SeenParties.{Kind, Masters, Agents, Apps, kind_number, is_same, IsFor, boot_of, Role, hears, resynced, seen, Acts, Keeps, IsRuled, ComesTo, TakesTurn, Resyncs, turn_of, Starts}
+use Rattle.written_parties.specs.SeenParties.{Kind, Masters, Agents, Apps, kind_number, is_same, IsFor, boot_of, Role, hears, resynced, seen, Acts, Keeps, IsRuled, ComesTo, TakesTurn, Resyncs, turn_of}
 use Rattle.party_slots.specs.PartyAnswers.{Hears, HearsAlike, SendsAlike}
-use Rattle.party_slots.specs.Slots.{SlotsRecord, entry_at, party_in, boot_in, slot_at, boot_at, IsSet, IsStill, IsGone, AreWithin, MayStep, StandsAt, AreOf, IsHeardIn, IsLostIn, HearInWorld, TurnsOneIn, TurnInWorld, ResyncsOneIn, ResyncInWorld, StartInWorld, Stays}
+use Rattle.party_slots.specs.Slots.{SlotsRecord, entry_at, party_in, boot_in, slot_at, boot_at, IsNow, IsSet, IsStill, IsGone, IsActed, IsFailed, IsNone, ActsInSlot, AreWithin, MayStep, StandsAt, AreOf, IsHeardIn, IsLostIn, HearInWorld, TurnsOneIn, TurnInWorld, ResyncsOneIn, ResyncInWorld, StartInWorld, Stays}
 
 -- The laws of the join, as they are called for
 abbrev pub HearsJoin : Type 0
@@ -27,12 +30,12 @@ TurnsJoin = (w : World) (k : Kind) (n : ℕ) → Good w → TakesTurn w k n (see
 abbrev pub ResyncsJoin : Type 0
 ResyncsJoin = (w : World) (k : Kind) (n : ℕ) → Good w → Resyncs w k n (seen w k n)
 
-and_right : (a b : Bool) → b ≡ false → (a && b) ≡ false
-and_right true b e = e
-and_right false b e = refl
+-- what compares as equal
+pub ties : (a b : ℕ) → is_eq (nat_cmp a b) ≡ nat_eq a b
+ties a b = unsigned_tied a b
 
 apart : (k : Kind) (n m : ℕ) → nat_eq n m ≡ false → is_same k n k m ≡ false
-apart k n m e = and_right (nat_eq (kind_number k) (kind_number k)) (nat_eq n m) e
+apart k n m e = false_right (nat_eq (kind_number k) (kind_number k)) (nat_eq n m) e
 
 boot_stays : (w w' : World) (k : Kind) (n : ℕ) → Keeps w w' → boot_of w' k n ≡ boot_of w k n
 boot_stays w w' Masters n keeps = refl
@@ -40,61 +43,60 @@ boot_stays w w' Agents n keeps = ap (λ b. b (agent_id n)) keeps.boots
 boot_stays w w' Apps n keeps = ap (λ b. b (app_id n)) keeps.boots
 
 module _ {P : Type 0} where
-  some_is : (p q : P) → Some p ≡ Some q → p ≡ q
-  some_is p q e = cc
+  -- What was lent of one slot is written
+  pub set_at : (n : ℕ) (o : Option P) (e : Option P × ℕ) (old new : SlotsRecord P) → Some e ≡ entry_at old n → (IsSome (entry_at old n) → (m : ℕ) → entry_at new m ≡ cond (is_at (nat_cmp n) m) (Some (o, e.1)) (entry_at old m)) → IsSet n o (boot_at old n) old new
+  set_at n o e old new there written =
+      let set = written (subst IsSome there refl) in
+      record {
+        here = set n ∙ ap (λ t. cond t (Some (o, e.1)) (entry_at old n)) (ties n n ∙ nat_itself n) ∙ ap (λ e. Some (o, boot_in e)) there;
+        others = λ m apart. set m ∙ ap (λ t. cond t (Some (o, e.1)) (entry_at old m)) (ties n m ∙ apart);
+      }
 
-  some_is_not : {o : Option P} {p : P} → o ≡ None → o ≡ Some p → ⊥
-  some_is_not {o} {p} e f = let g = sym e ∙ f in absurd cc
+  pub acted_at : {A E : Type 0} (does : P → Result (P × A) E → Type 0) (n : ℕ) (p q : P) (e : Option P × ℕ) (a : A) (old now new : SlotsRecord P) → old ≡ now → Some e ≡ entry_at old n → Some p ≡ e.0 → does p (Ok (q, a))
+      → (IsSome (entry_at old n) → (m : ℕ) → entry_at new m ≡ cond (is_at (nat_cmp n) m) (Some (Some q, e.1)) (entry_at old m)) → IsActed does n now new a
+  acted_at does n p q e a old now new same there party made written =
+      subst (λ x. IsActed does n x new a) same (record { before = p; was = ap party_in (sym there) ∙ sym party; after = q; made = made; now = set_at n (Some q) e old new there written })
 
-  -- a core is taken out, and another is put in its place
-  pub put_back : (n b : ℕ) (p : P) (old taken new : SlotsRecord P) → IsSet n None b old taken → (IsSome (entry_at taken n) → IsSet n (Some p) (boot_at taken n) taken new) → IsSet n (Some p) b old new
-  put_back n b p old taken new out back =
-      let set = back (subst IsSome (sym out.here) refl) in
-      record { here = set.here ∙ ap (λ e. Some (Some p, boot_in e)) out.here; others = λ m e. set.others m e ∙ out.others m e }
+  pub failed_at : {A E : Type 0} (does : P → Result (P × A) E → Type 0) (n : ℕ) (p : P) (o : Option P) (e : Option P × ℕ) (f : E) (old now new : SlotsRecord P) → old ≡ now → Some e ≡ entry_at old n → Some p ≡ e.0 → o ≡ None → does p (Err f)
+      → (IsSome (entry_at old n) → (m : ℕ) → entry_at new m ≡ cond (is_at (nat_cmp n) m) (Some (o, e.1)) (entry_at old m)) → IsFailed {A = A} does n now new f
+  failed_at {A = A} does n p o e f old now new same there party taken made written =
+      subst (λ x. IsFailed {A = A} does n x new f) same
+      (record { before = p; was = ap party_in (sym there) ∙ sym party; made = made; now = subst (λ o. IsSet n o (boot_at old n) old new) taken (set_at n o e old new there written) })
 
-  -- no party took more steps, and that of the slot not more than this
-  pub within_set : (steps : P → ℕ) (n : ℕ) (p : P) (b most l : ℕ) (old new : SlotsRecord P) → IsSet n (Some p) b old new → most ≤ l → AreWithin steps most old → steps p ≤ l → AreWithin steps l new
-  within_set steps n p b most l old new set more within here = record { within = λ m q is. by m q is (nat_eq n m) refl }
+  -- What holds of what a call answers, by whether a party is there
+  pub by_answer : {A E : Type 0} (does : P → Result (P × A) E → Type 0) (n : ℕ) (old new : SlotsRecord P) (R : Option A → Type 0) (result : Result (Option A) E) → ActsInSlot does n old new result → (IsNone n old new → R None) → ((a : A) → IsActed does n old new a → R (Some a)) → IfOk result R
+  by_answer does n old new R (Ok None) acts none some = none acts
+  by_answer does n old new R (Ok (Some a)) acts none some = some a acts
+  by_answer does n old new R (Err f) acts none some = tt
+
+  pub gone_at : {A E : Type 0} (does : P → Result (P × A) E → Type 0) (n : ℕ) (old new : SlotsRecord P) (result : Result (Option A) E) → ActsInSlot does n old new result → OnErr result (IsSet n None (boot_at old n) old new)
+  gone_at does n old new (Ok None) a = tt
+  gone_at does n old new (Ok (Some answer)) a = tt
+  gone_at does n old new (Err f) a = a.now
+
+  pub may_do : (steps : P → ℕ) (o : Option P) (p : P) → MayStep steps o → o ≡ Some p → steps p < most_steps
+  may_do steps o p may is = subst (MayStep steps) is may
+
+  -- No party took more steps than this, nor the one of the slot
+  pub within_now : (steps : P → ℕ) (n : ℕ) (e : Option (Option P × ℕ)) (most l : ℕ) (old new : SlotsRecord P) → IsNow n e old new → most ≤ l → AreWithin steps most old → IfSome (party_in e) (λ p. steps p ≤ l) → AreWithin steps l new
+  within_now steps n e most l old new set more within here = record { within = λ m q is. by m q is (nat_eq n m) refl }
     where
       by : (m : ℕ) (q : P) → slot_at new m ≡ Some q → (c : Bool) → nat_eq n m ≡ c → steps q ≤ l
-      by m q is true e = subst (λ x. steps x ≤ l) (some_is p q (sym (ap party_in set.here) ∙ subst (λ i. slot_at new i ≡ Some q) (sym (number_is n m e)) is)) here
-      by m q is false e = let le = within.within m q (sym (ap party_in (set.others m e)) ∙ is) in omega (arith, le, more)
+      by m q is true t = subst (λ o. IfSome o (λ p. steps p ≤ l)) (sym (ap party_in set.here) ∙ subst (λ i. slot_at new i ≡ Some q) (sym (number_is n m t)) is) here
+      by m q is false t = let le = within.within m q (sym (ap party_in (set.others m t)) ∙ is) in omega (arith, le, more)
 
-  -- one step more of the one that was taken out
-  pub within_step : (steps : P → ℕ) (n b most : ℕ) (p q : P) (old new : SlotsRecord P) → slot_at old n ≡ Some p → IsSet n (Some q) b old new → steps q ≤ steps p + 1 → AreWithin steps most old → AreWithin steps (most + 1) new
-  within_step steps n b most p q old new was set more within =
-      let few = within.within n p was in
-      within_set steps n q b most (most + 1) old new set (omega arith) within (omega (arith, more, few))
-
-  -- taken out for it, and put back
-  pub within_put : (steps : P → ℕ) (n most : ℕ) (p q : P) (old taken new : SlotsRecord P) → slot_at old n ≡ Some p → IsSet n None (boot_at old n) old taken → (IsSome (entry_at taken n) → IsSet n (Some q) (boot_at taken n) taken new)
-      → steps q ≤ steps p + 1 → AreWithin steps most old → AreWithin steps (most + 1) new
-  within_put steps n most p q old taken new was out back = within_step steps n (boot_at old n) most p q old new was (put_back n (boot_at old n) q old taken new out back)
-
-  -- none in a slot
-  pub within_none : (steps : P → ℕ) (n b most : ℕ) (old new : SlotsRecord P) → IsSet n None b old new → AreWithin steps most old → AreWithin steps (most + 1) new
-  within_none steps n b most old new set within = record { within = λ m q is. by m q is (nat_eq n m) refl }
-    where
-      by : (m : ℕ) (q : P) → slot_at new m ≡ Some q → (c : Bool) → nat_eq n m ≡ c → steps q ≤ most + 1
-      by m q is true e = absurd (some_is_not (subst (λ i. slot_at new i ≡ None) (number_is n m e) (ap party_in set.here)) is)
-      by m q is false e = let le = within.within m q (sym (ap party_in (set.others m e)) ∙ is) in omega (arith, le)
-
-  same_at : (n : ℕ) (old new : SlotsRecord P) → IsStill n old new → (m : ℕ) → entry_at new m ≡ entry_at old m
-  same_at n old new still m = by (nat_eq n m) refl
-    where
-      by : (c : Bool) → nat_eq n m ≡ c → entry_at new m ≡ entry_at old m
-      by true e = subst (λ i. entry_at new i ≡ entry_at old i) (number_is n m e) still.here
-      by false e = still.others m e
-
-  pub within_still : (steps : P → ℕ) (n most : ℕ) (old new : SlotsRecord P) → IsStill n old new → AreWithin steps most old → AreWithin steps (most + 1) new
-  within_still steps n most old new still within = record { within = λ m q is. let le = within.within m q (sym (ap party_in (same_at n old new still m)) ∙ is) in omega (arith, le) }
+  -- one step more of the one that acts, of none where none is there, and one party less where it fails
+  pub within_acts : {A E : Type 0} (steps : P → ℕ) (does : P → Result (P × A) E → Type 0) (n most : ℕ) (old new : SlotsRecord P) (result : Result (Option A) E) → ((p : P) (r : Result (P × A) E) → does p r → IfOk r (λ after. steps after.0 ≤ steps p + 1))
+      → ActsInSlot does n old new result → AreWithin steps most old → AreWithin steps (most + 1) new
+  within_acts steps does n most old new (Ok None) says a within = within_now steps n (entry_at old n) most (most + 1) old new a.now (omega arith) within (subst (λ o. IfSome o (λ p. steps p ≤ most + 1)) (sym a.was) tt)
+  within_acts steps does n most old new (Ok (Some answer)) says a within =
+      let few = within.within n a.before a.was in
+      let more = says a.before (Ok (a.after, answer)) a.made in
+      within_now steps n (Some (Some a.after, boot_at old n)) most (most + 1) old new a.now (omega arith) within (omega (arith, more, few))
+  within_acts steps does n most old new (Err f) says a within = within_now steps n (Some (None, boot_at old n)) most (most + 1) old new a.now (omega arith) within tt
 
   pub within_gone : (steps : P → ℕ) (n most : ℕ) (old new : SlotsRecord P) → IsGone n old new → AreWithin steps most old → AreWithin steps most new
-  within_gone steps n most old new gone within = record { within = λ m q is. by m q is (nat_eq n m) refl }
-    where
-      by : (m : ℕ) (q : P) → slot_at new m ≡ Some q → (c : Bool) → nat_eq n m ≡ c → steps q ≤ most
-      by m q is true e = absurd (some_is_not (subst (λ i. slot_at new i ≡ None) (number_is n m e) (ap party_in gone.here)) is)
-      by m q is false e = within.within m q (sym (ap party_in (gone.others m e)) ∙ is)
+  within_gone steps n most old new gone within = within_now steps n None most most old new gone (omega arith) within tt
 
   pub wider : (steps : P → ℕ) (most l : ℕ) (x : SlotsRecord P) → AreWithin steps most x → most ≤ l → AreWithin steps l x
   wider steps most l x within more = record { within = λ n p is. let le = within.within n p is in omega (arith, le, more) }
@@ -113,29 +115,29 @@ module _ {P : Type 0} (stands : P → Role → Type 0) where
   none_stand c Agents = record { each = λ n. tt; last = λ n. refl; full = λ n. refl }
   none_stand c Apps = record { each = λ n. tt; last = λ n. refl; full = λ n. refl }
 
-  -- the party of a number is this one, and all others stay
-  stand_as : (w w' : World) (k : Kind) (n : ℕ) (r : Role) (p : P) (b : ℕ) (old new : SlotsRecord P) → AreOf stands k w old → seen w' k n ≡ Some r → ((m : ℕ) → nat_eq n m ≡ false → seen w' k m ≡ seen w k m)
-      → boot_of w' k n ≡ b → ((m : ℕ) → nat_eq n m ≡ false → boot_of w' k m ≡ boot_of w k m) → stands p r → IsSet n (Some p) b old new → AreOf stands k w' new
-  stand_as w w' k n r p b old new s now others boot boots here set = record { each = λ m. each m (nat_eq n m) refl; last = λ m. last m (nat_eq n m) refl; full = λ m. full m (nat_eq n m) refl }
+  -- the party of a number is this one, or none runs, and all others stay
+  pub stand_now : (w w' : World) (k : Kind) (n : ℕ) (o : Option Role) (e : Option (Option P × ℕ)) (old new : SlotsRecord P) → AreOf stands k w old → seen w' k n ≡ o → ((m : ℕ) → nat_eq n m ≡ false → seen w' k m ≡ seen w k m)
+      → boot_of w' k n ≡ boot_in e → ((m : ℕ) → nat_eq n m ≡ false → boot_of w' k m ≡ boot_of w k m) → StandsAt stands (party_in e) o → is_some e ≡ is_some (party_in e) → IsNow n e old new → AreOf stands k w' new
+  stand_now w w' k n o e old new s now others boot boots here whole set = record { each = λ m. each m (nat_eq n m) refl; last = λ m. last m (nat_eq n m) refl; full = λ m. full m (nat_eq n m) refl }
     where
       each : (m : ℕ) (c : Bool) → nat_eq n m ≡ c → StandsAt stands (slot_at new m) (seen w' k m)
-      each m true e = subst (λ i. StandsAt stands (slot_at new i) (seen w' k i)) (number_is n m e)
-          (subst (λ o. StandsAt stands o (seen w' k n)) (sym (ap party_in set.here)) (subst (λ o. StandsAt stands (Some p) o) (sym now) here))
-      each m false e = subst (λ o. StandsAt stands o (seen w' k m)) (sym (ap party_in (set.others m e)))
-          (subst (λ o. StandsAt stands (slot_at old m) o) (sym (others m e)) (s.each m))
+      each m true t = subst (λ i. StandsAt stands (slot_at new i) (seen w' k i)) (number_is n m t)
+          (subst (λ p. StandsAt stands p (seen w' k n)) (sym (ap party_in set.here)) (subst (λ r. StandsAt stands (party_in e) r) (sym now) here))
+      each m false t = subst (λ p. StandsAt stands p (seen w' k m)) (sym (ap party_in (set.others m t)))
+          (subst (λ r. StandsAt stands (slot_at old m) r) (sym (others m t)) (s.each m))
 
       last : (m : ℕ) (c : Bool) → nat_eq n m ≡ c → boot_of w' k m ≡ boot_at new m
-      last m true e = subst (λ i. boot_of w' k i ≡ boot_at new i) (number_is n m e) (boot ∙ sym (ap boot_in set.here))
-      last m false e = boots m e ∙ s.last m ∙ sym (ap boot_in (set.others m e))
+      last m true t = subst (λ i. boot_of w' k i ≡ boot_at new i) (number_is n m t) (boot ∙ sym (ap boot_in set.here))
+      last m false t = boots m t ∙ s.last m ∙ sym (ap boot_in (set.others m t))
 
       full : (m : ℕ) (c : Bool) → nat_eq n m ≡ c → is_some (entry_at new m) ≡ is_some (slot_at new m)
-      full m true e = subst (λ i. is_some (entry_at new i) ≡ is_some (slot_at new i)) (number_is n m e) (ap is_some set.here ∙ sym (ap (λ t. is_some (party_in t)) set.here))
-      full m false e = ap is_some (set.others m e) ∙ s.full m ∙ sym (ap (λ t. is_some (party_in t)) (set.others m e))
+      full m true t = subst (λ i. is_some (entry_at new i) ≡ is_some (slot_at new i)) (number_is n m t) (ap is_some set.here ∙ whole ∙ sym (ap (λ e. is_some (party_in e)) set.here))
+      full m false t = ap is_some (set.others m t) ∙ s.full m ∙ sym (ap (λ e. is_some (party_in e)) (set.others m t))
 
   -- it acted, and this core stands for it
   pub stand_set : (w w' : World) (k : Kind) (n : ℕ) (r : Role) (sent : List Parcel) (p : P) (b : ℕ) (old new : SlotsRecord P) → AreOf stands k w old → Acts w w' k n r sent → boot_of w' k n ≡ b → stands p r → IsSet n (Some p) b old new → AreOf stands k w' new
   stand_set w w' k n r sent p b old new s acts boot here set =
-      stand_as w w' k n r p b old new s acts.now (λ m e. acts.others k m (apart k n m e)) boot (λ m e. acts.boots k m (apart k n m e)) here set
+      stand_now w w' k n (Some r) (Some (Some p, b)) old new s acts.now (λ m t. acts.others k m (apart k n m t)) boot (λ m t. acts.boots k m (apart k n m t)) here refl set
 
   -- and so does one that was there, whose boot stays
   pub stand_kept : (w w' : World) (k : Kind) (n : ℕ) (r : Role) (sent : List Parcel) (p : P) (old new : SlotsRecord P) → AreOf stands k w old → Acts w w' k n r sent → Keeps w w' → stands p r → IsSet n (Some p) (boot_at old n) old new → AreOf stands k w' new
@@ -143,36 +145,11 @@ module _ {P : Type 0} (stands : P → Role → Type 0) where
 
   -- it did nothing, and another core stands for it
   pub stand_still : (w : World) (k : Kind) (n : ℕ) (r : Role) (p : P) (old new : SlotsRecord P) → AreOf stands k w old → seen w k n ≡ Some r → stands p r → IsSet n (Some p) (boot_at old n) old new → AreOf stands k w new
-  stand_still w k n r p old new s runs here set = stand_as w w k n r p (boot_at old n) old new s runs (λ m _. refl) (s.last n) (λ m _. refl) here set
+  stand_still w k n r p old new s runs here set = stand_now w w k n (Some r) (Some (Some p, boot_at old n)) old new s runs (λ m _. refl) (s.last n) (λ m _. refl) here refl set
 
   -- nothing changed
   pub stand_same : (w : World) (k : Kind) (n : ℕ) (old new : SlotsRecord P) → AreOf stands k w old → IsStill n old new → AreOf stands k w new
-  stand_same w k n old new s still =
-      let same = same_at n old new still in
-      record {
-        each = λ m. subst (λ o. StandsAt stands o (seen w k m)) (sym (ap party_in (same m))) (s.each m);
-        last = λ m. s.last m ∙ sym (ap boot_in (same m));
-        full = λ m. ap is_some (same m) ∙ s.full m ∙ sym (ap (λ t. is_some (party_in t)) (same m));
-      }
-
-  -- the party of a number goes, and no boot is named there
-  pub stand_gone : (w w' : World) (k : Kind) (n : ℕ) (old new : SlotsRecord P) → AreOf stands k w old → seen w' k n ≡ None → ((m : ℕ) → nat_eq n m ≡ false → seen w' k m ≡ seen w k m)
-      → boot_of w' k n ≡ 0 → ((m : ℕ) → nat_eq n m ≡ false → boot_of w' k m ≡ boot_of w k m) → IsGone n old new → AreOf stands k w' new
-  stand_gone w w' k n old new s none others boot boots gone = record { each = λ m. each m (nat_eq n m) refl; last = λ m. last m (nat_eq n m) refl; full = λ m. full m (nat_eq n m) refl }
-    where
-      each : (m : ℕ) (c : Bool) → nat_eq n m ≡ c → StandsAt stands (slot_at new m) (seen w' k m)
-      each m true e = subst (λ i. StandsAt stands (slot_at new i) (seen w' k i)) (number_is n m e)
-          (subst (λ o. StandsAt stands o (seen w' k n)) (sym (ap party_in gone.here)) (subst (λ o. StandsAt stands None o) (sym none) tt))
-      each m false e = subst (λ o. StandsAt stands o (seen w' k m)) (sym (ap party_in (gone.others m e)))
-          (subst (λ o. StandsAt stands (slot_at old m) o) (sym (others m e)) (s.each m))
-
-      last : (m : ℕ) (c : Bool) → nat_eq n m ≡ c → boot_of w' k m ≡ boot_at new m
-      last m true e = subst (λ i. boot_of w' k i ≡ boot_at new i) (number_is n m e) (boot ∙ sym (ap boot_in gone.here))
-      last m false e = boots m e ∙ s.last m ∙ sym (ap boot_in (gone.others m e))
-
-      full : (m : ℕ) (c : Bool) → nat_eq n m ≡ c → is_some (entry_at new m) ≡ is_some (slot_at new m)
-      full m true e = subst (λ i. is_some (entry_at new i) ≡ is_some (slot_at new i)) (number_is n m e) (ap is_some gone.here ∙ sym (ap (λ t. is_some (party_in t)) gone.here))
-      full m false e = ap is_some (gone.others m e) ∙ s.full m ∙ sym (ap (λ t. is_some (party_in t)) (gone.others m e))
+  stand_same w k n old new s still = stand_now w w k n (seen w k n) (entry_at old n) old new s refl (λ m _. refl) (s.last n) (λ m _. refl) (s.each n) (s.full n) still
 
   pub others_stand : (w w' : World) (k : Kind) (x : SlotsRecord P) → Stays w w' k → AreOf stands k w x → AreOf stands k w' x
   others_stand w w' k x h s = record {

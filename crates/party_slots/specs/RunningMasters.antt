@@ -8,7 +8,6 @@ use Rattle.written_roles.specs.HardState.{HardState}
 use Rattle.written_roles.specs.Masters.{Master}
 use Rattle.written_roles.specs.MasterRoles.{Told, master_started}
 use Rattle.written_roles.specs.MasterSteps.{MasterChange, Admits, Ends, Bans, Unbans, Begins, Preempts, Changed, change_of, MasterCommand, Submits, Finishes, BansMachine, UnbansMachine, StartsServing, MakesRoom, command_of}
-use Rattle.written_roles.specs.Refusals.{NotRunning}
 use Rattle.written_world.specs.World.{World, refused}
 use Rattle.written_world.specs.Good.{Good}
 use Rattle.written_world.specs.Events.{commanded, stop_master, without_master}

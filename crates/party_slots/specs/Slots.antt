@@ -1,5 +1,5 @@
 -- The parties of one kind that run, each by its number, and what they are in a world.
-use Rattle.std.specs.Prelude.{◌≡◌, ⊤, ℕ, ◌+◌, ◌<◌, ◌≤◌, Bool, true, false, nat_eq, List, [], map, Option, Some, None, is_some, IfSome, slice_get}
+use Rattle.std.specs.Prelude.{◌≡◌, ⊤, ℕ, ◌<◌, ◌≤◌, Bool, true, false, nat_eq, List, [], map, Option, Some, None, is_some, IfSome, Result, Ok, Err, slice_get}
 use Rattle.std.specs.Ordering.{nat_cmp}
 use Rattle.std.specs.BTreeMap.{is_at}
 use Rattle.std.specs.Map.{lookup}
@@ -40,18 +40,45 @@ module _ {P : Type 0} where
   abbrev pub boot_at : SlotsRecord P → ℕ → ℕ
   boot_at x n = boot_in (entry_at x n)
 
-  -- one slot alone has another core and boot, is as it was, or is gone
-  pub record IsSet (n : ℕ) (o : Option P) (b : ℕ) (old new : SlotsRecord P) : Type 0 where
-    pub here : entry_at new n ≡ Some (o, b)
+  -- one slot alone is this one then, or there is none
+  pub record IsNow (n : ℕ) (e : Option (Option P × ℕ)) (old new : SlotsRecord P) : Type 0 where
+    pub here : entry_at new n ≡ e
     pub others : (m : ℕ) → nat_eq n m ≡ false → entry_at new m ≡ entry_at old m
 
-  pub record IsStill (n : ℕ) (old new : SlotsRecord P) : Type 0 where
-    pub here : entry_at new n ≡ entry_at old n
-    pub others : (m : ℕ) → nat_eq n m ≡ false → entry_at new m ≡ entry_at old m
+  -- it has this core and boot, is as it was, or is gone
+  abbrev pub IsSet : ℕ → Option P → ℕ → SlotsRecord P → SlotsRecord P → Type 0
+  IsSet n o b old new = IsNow n (Some (o, b)) old new
 
-  pub record IsGone (n : ℕ) (old new : SlotsRecord P) : Type 0 where
-    pub here : entry_at new n ≡ None
-    pub others : (m : ℕ) → nat_eq n m ≡ false → entry_at new m ≡ entry_at old m
+  abbrev pub IsStill : ℕ → SlotsRecord P → SlotsRecord P → Type 0
+  IsStill n old new = IsNow n (entry_at old n) old new
+
+  abbrev pub IsGone : ℕ → SlotsRecord P → SlotsRecord P → Type 0
+  IsGone n old new = IsNow n None old new
+
+  -- What the party of a number does alone, and its slot: the core that it becomes, with an answer
+  pub record IsActed {A E : Type 0} (does : P → Result (P × A) E → Type 0) (n : ℕ) (old new : SlotsRecord P) (answer : A) : Type 0 where
+    pub before : P
+    pub was : slot_at old n ≡ Some before
+    pub after : P
+    pub made : does before (Ok (after, answer))
+    pub now : IsSet n (Some after) (boot_at old n) old new
+
+  -- or it fails, and its core is gone
+  pub record IsFailed {A E : Type 0} (does : P → Result (P × A) E → Type 0) (n : ℕ) (old new : SlotsRecord P) (fault : E) : Type 0 where
+    pub before : P
+    pub was : slot_at old n ≡ Some before
+    pub made : does before (Err fault)
+    pub now : IsSet n None (boot_at old n) old new
+
+  -- or none is there
+  pub record IsNone (n : ℕ) (old new : SlotsRecord P) : Type 0 where
+    pub was : slot_at old n ≡ None
+    pub now : IsStill n old new
+
+  abbrev pub ActsInSlot : {A E : Type 0} → (P → Result (P × A) E → Type 0) → ℕ → SlotsRecord P → SlotsRecord P → Result (Option A) E → Type 0
+  ActsInSlot does n old new (Ok None) = IsNone n old new
+  ActsInSlot does n old new (Ok (Some answer)) = IsActed does n old new answer
+  ActsInSlot does n old new (Err fault) = IsFailed does n old new fault
 
   -- Steps. Each took at most so many, and one may take one more
   pub record AreWithin (steps : P → ℕ) (most : ℕ) (x : SlotsRecord P) : Type 0 where

@@ -13,7 +13,7 @@ use party_ledgers::{Heard, Kind, Packet, Packets};
 use res_vector::Res;
 use schedule_unit::MachineNo;
 use std::alloc::Global;
-use written_parties::parties_join;
+use written_parties::law;
 
 impl Party for Agent {
     ghost use Rattle.party_slots.specs.Peers.{AgentStands, agent_steps};
@@ -53,7 +53,7 @@ pub fn start_agent(
     ensures within { OnOk result ((n : ℕ) → AreWithin agent_steps n agents.old → AreWithin agent_steps n agents.new) }
     ensures err { OnErr result (agents.new ≡ agents.old) }
 {
-    parties_join();
+    law::parties_join();
     let agent = Agent::start(alloc, machine, has, boot)?;
     agents.start(machine.0 as u64, agent, boot)
 }

@@ -1,7 +1,8 @@
 //! Applications in slots.
 
-ghost use Rattle.std.specs.Prelude.{◌≡◌, ◌+◌, ◌<◌, ◌≤◌, ℕ, OnOk, OnErr};
-ghost use Rattle.fuxi_terms.specs.Limits.{most_jobs, most_units};
+ghost use Rattle.std.specs.Prelude.{◌≡◌, ◌+◌, ◌<◌, ◌≤◌, ℕ, IfOk, OnOk, OnErr};
+ghost use Rattle.fuxi_terms.specs.Limits.{most_jobs, most_steps, most_units};
+ghost use Rattle.app_master.specs.AppCommands.{Commands};
 ghost use Rattle.party_slots.specs.Slots.{AreWithin, MayStep, slot_at};
 ghost use Rattle.party_slots.specs.Peers.{AppStartInWorld, AskInWorld, app_steps, command_of};
 
@@ -14,7 +15,7 @@ use ledger_law::OutOfMemory;
 use party_ledgers::{Heard, Kind, Packet, Packets};
 use schedule_unit::AppNo;
 use std::alloc::Global;
-use written_parties::parties_join;
+use written_parties::law;
 
 impl Party for AppMaster {
     ghost use Rattle.party_slots.specs.Peers.{AppStands, app_steps};
@@ -56,7 +57,7 @@ pub fn start_app(
     ensures within { OnOk result ((n : ℕ) → AreWithin app_steps n apps.old → AreWithin app_steps n apps.new) }
     ensures err { OnErr result (apps.new ≡ apps.old) }
 {
-    parties_join();
+    law::parties_join();
     let core = AppMaster::start(alloc, app, units, cluster, boot)?;
     apps.start(app.0 as u64, core, boot)
 }
@@ -72,11 +73,22 @@ pub fn ask(
     ensures world { AskInWorld app.0 (command_of ask) apps.old apps.new result }
     ensures within { (n : ℕ) → AreWithin app_steps n apps.old → AreWithin app_steps (n + 1) apps.new }
 {
-    parties_join();
-    let Some(mut core) = apps.take(app.0 as u64) else {
-        return None;
-    };
-    let answer = ask_app(&mut core, alloc, ask);
-    apps.put(app.0 as u64, core);
-    Some(answer)
+    law::parties_join();
+    let answer = apps.act(
+        app.0 as u64,
+        move |core: AppMaster|
+            requires { core.steps < most_steps }
+            ensures answers { IfOk result (λ after. Commands (command_of ask) core after.1 after.0) }
+            ensures steps { IfOk result (λ after. after.0.steps ≤ core.steps + 1) }
+            ensures done { OnErr result ⊥ }
+        {
+            let mut core = core;
+            let answer = ask_app(&mut core, alloc, ask);
+            Ok((core, answer))
+        },
+    );
+    match answer {
+        Ok(answer) => answer,
+        Err(OutOfMemory) => None,
+    }
 }

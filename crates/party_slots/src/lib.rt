@@ -5,7 +5,7 @@
 mod agents;
 mod apps;
 mod asking;
-mod laws;
+pub mod law;
 mod masters;
 mod party;
 mod slots;
@@ -13,7 +13,6 @@ mod slots;
 pub use agents::start_agent;
 pub use apps::{ask, start_app};
 pub use asking::AppAsk;
-pub use laws::{epochs_alike, others_stay, parties_run, steps_left};
 pub use masters::{command, start_master, stop_master};
 pub use party::Party;
 pub use slots::Slots;

@@ -1,9 +1,11 @@
 //! Masters in slots, each by its epoch.
 
-ghost use Rattle.std.specs.Prelude.{◌≡◌, ◌+◌, ◌<◌, ℕ, List, IfOk, OnOk, OnErr};
+ghost use Rattle.std.specs.Prelude.{◌≡◌, ◌+◌, ◌<◌, ◌≤◌, ℕ, List, IfOk, OnOk, OnErr};
 ghost use Rattle.std.specs.List.{AllByRecursion};
+ghost use Rattle.std.specs.Option.{option_map};
 ghost use Rattle.core_side.specs.Parcels.{IsSent};
-ghost use Rattle.fuxi_master.specs.Steps.{IsSentFormed};
+ghost use Rattle.fuxi_terms.specs.Limits.{most_steps};
+ghost use Rattle.fuxi_master.specs.Steps.{IsFitting, IsSentFormed, StepsAlike};
 ghost use Rattle.party_slots.specs.Slots.{AreWithin, MayStep, slot_at};
 ghost use Rattle.party_slots.specs.RunningMasters.{Fits, CommandInWorld, IsCommand, MasterStartInWorld, StopInWorld, done_in, master_steps};
 
@@ -16,7 +18,7 @@ use hard_state::Hard;
 use ledger_law::OutOfMemory;
 use party_ledgers::{Heard, Kind, Packet, Packets};
 use std::alloc::Global;
-use written_parties::parties_join;
+use written_parties::law;
 
 // As what a packet was heard. No other outcome comes to one.
 fn heard_of(outcome: Outcome) -> Heard
@@ -50,6 +52,16 @@ fn done_of(outcome: Outcome) -> Result<(), MasterRefusal>
     match outcome {
         Outcome::Refused(refusal) => Err(refusal),
         _ => Ok(()),
+    }
+}
+
+// The same where a master ran.
+fn done_if(outcome: Option<Outcome>) -> Option<Result<(), MasterRefusal>>
+    ensures { result ≡ option_map done_in outcome }
+{
+    match outcome {
+        Some(outcome) => Some(done_of(outcome)),
+        None => None,
     }
 }
 
@@ -96,7 +108,7 @@ pub fn start_master(
     ensures within { OnOk result ((n : ℕ) → AreWithin master_steps n masters.old → AreWithin master_steps n masters.new) }
     ensures err { OnErr result (masters.new ≡ masters.old) }
 {
-    parties_join();
+    law::parties_join();
     let master = Master::start(alloc, cluster, epoch, hard)?;
     masters.start(epoch, master, 0)
 }
@@ -122,14 +134,18 @@ pub fn command(
     ensures world { IfOk result (CommandInWorld epoch event masters.old masters.new) }
     ensures within { (n : ℕ) → AreWithin master_steps n masters.old → AreWithin master_steps (n + 1) masters.new }
 {
-    parties_join();
-    let Some(master) = masters.take(epoch) else {
-        return Ok(None);
-    };
-    let (master, outcome) = match master.step(alloc, event) {
-        Ok(both) => both,
-        Err(fault) => return Err(fault),
-    };
-    masters.put(epoch, master);
-    Ok(Some(done_of(outcome)))
+    law::parties_join();
+    let answer = masters.act(
+        epoch,
+        move |master: Master|
+            requires fitting { IsFitting master.core event }
+            requires steps { master.steps < most_steps }
+            ensures answers { IfOk result (λ after. StepsAlike event master.core after.0.core after.1) }
+            ensures steps { IfOk result (λ after. after.0.steps ≤ master.steps + 1) }
+        { master.step(alloc, event) },
+    );
+    match answer {
+        Ok(outcome) => Ok(done_if(outcome)),
+        Err(fault) => Err(fault),
+    }
 }

@@ -1,7 +1,7 @@
 //! The parties of one kind, by their numbers.
 
 ghost use Rattle.core_side.specs.Parcels.{IsSent};
-ghost use Rattle.std.specs.Prelude.{◌≡◌, ◌+◌, ◌<◌, ◌≤◌, ℕ, length, is_some, IsSome, Some, None, IfOk, IfSome, IfNone, OnOk, OnErr};
+ghost use Rattle.std.specs.Prelude.{◌≡◌, ◌+◌, ◌<◌, ◌≤◌, ℕ, length, is_some, Some, None, IfOk, IfSome, OnOk, OnErr};
 ghost use Rattle.std.specs.List.{AllByRecursion};
 ghost use Rattle.std.specs.List.Sorted.{IsStrictlySortedBy};
 ghost use Rattle.std.specs.Map.{keys_of};
@@ -10,8 +10,10 @@ ghost use Rattle.std.specs.Ordering.{nat_cmp};
 ghost use Rattle.fuxi_terms.specs.Cluster.{ClusterRecord};
 ghost use Rattle.party_ledgers.specs.Packets.{IsFormed};
 ghost use Rattle.written_world.specs.World.{empty_world};
-ghost use Rattle.written_parties.specs.SeenParties.{Kind as KindOf};
-ghost use Rattle.party_slots.specs.Slots.{entry_at, slot_at, boot_at, IsSet, IsStill, IsGone, AreOf, AreWithin, MayStep, HearInWorld, TurnInWorld, ResyncInWorld, StartInWorld};
+ghost use Rattle.fuxi_terms.specs.Limits.{most_steps};
+ghost use Rattle.written_parties.specs.SeenParties.{Kind as KindOf, Role, resynced};
+ghost use Rattle.party_slots.specs.PartyAnswers.{HearsAlike, SendsAlike};
+ghost use Rattle.party_slots.specs.Slots.{entry_at, slot_at, boot_at, ActsInSlot, IsSet, IsGone, AreOf, AreWithin, MayStep, HearInWorld, TurnInWorld, ResyncInWorld, StartInWorld};
 
 use crate::party::Party;
 use ledger_law::OutOfMemory;
@@ -20,7 +22,7 @@ use std::alloc::Global;
 use std::collections::BTreeMap;
 use std::collections::btree_map::Keys;
 use std::marker::Model;
-use written_parties::parties_join;
+use written_parties::law;
 
 /// The parties of one kind that run, each by its number, and the last boot of each number.
 ///
@@ -93,25 +95,27 @@ impl<P: Party> Slots<P> {
         }
     }
 
-    // Takes the party of a number out.
-    pub(crate) fn take(&mut self, number: u64) -> Option<P>
-        ensures was { result ≡ slot_at self.old number }
-        ensures some { IfSome result (λ p. IsSet number None (boot_at self.old number) self.old self.new) }
-        ensures none { IfNone result (IsStill number self.old self.new) }
+    // What the party of a number does, taken out of its slot and put back; `None` where none runs. Where it fails that party is gone.
+    pub(crate) fn act<A: Drop, E: Drop, F: FnOnce(P) -> Result<(P, A), E> + Drop>(
+        &mut self,
+        number: u64,
+        deed: F,
+    ) -> Result<Option<A>, E>
+        requires { (p : P) → slot_at self.old number ≡ Some p → F.pre deed p }
+        ensures { ActsInSlot (F.post deed) number self.old self.new result }
     {
-        match self.slots.get_mut(&number) {
-            Some(slot) => slot.0.take(),
-            None => None,
-        }
-    }
-
-    // Puts a party at a number that has a slot.
-    pub(crate) fn put(&mut self, number: u64, party: P)
-        ensures { IsSome (entry_at self.old number) → IsSet number (Some party) (boot_at self.old number) self.old self.new }
-    {
-        if let Some(slot) = self.slots.get_mut(&number) {
-            slot.0 = Some(party);
-        }
+        let Some(slot) = self.slots.get_mut(&number) else {
+            return Ok(None);
+        };
+        let Some(party) = slot.0.take() else {
+            return Ok(None);
+        };
+        let (party, answer) = match deed(party) {
+            Ok(both) => both,
+            Err(fault) => return Err(fault),
+        };
+        slot.0 = Some(party);
+        Ok(Some(answer))
     }
 
     // A party starts in a boot. One that runs of its number is gone. Want of memory leaves all as it was.
@@ -157,16 +161,17 @@ impl<P: Party> Slots<P> {
         ensures within { (n : ℕ) → AreWithin P.steps n self.old → AreWithin P.steps (n + 1) self.new }
         ensures err { OnErr result (IsSet number None (boot_at self.old number) self.old self.new) }
     {
-        parties_join();
-        let Some(party) = self.take(number) else {
-            return Ok(None);
-        };
-        let (party, heard) = match party.hear(alloc, packet) {
-            Ok(both) => both,
-            Err(fault) => return Err(fault),
-        };
-        self.put(number, party);
-        Ok(Some(heard))
+        law::parties_join();
+        self.act(
+            number,
+            move |party: P|
+                requires formed { IsFormed packet }
+                requires no_end { packet.kind ≡ Kind.End → ⊥ }
+                requires steps { P.steps party < most_steps }
+                ensures hears { IfOk result (λ after. HearsAlike (P.stands party) (P.stands after.0) packet after.1) }
+                ensures steps { IfOk result (λ after. P.steps after.0 ≤ P.steps party + 1) }
+            { party.hear(alloc, packet) },
+        )
     }
 
     /// What the party of a number sends in one turn; `None` where none runs.
@@ -176,16 +181,16 @@ impl<P: Party> Slots<P> {
         ensures formed { IfOk result (λ packets. IfSome packets (AllByRecursion IsSent)) }
         ensures within { (n : ℕ) → AreWithin P.steps n self.old → AreWithin P.steps (n + 1) self.new }
     {
-        parties_join();
-        let Some(party) = self.take(number) else {
-            return Ok(None);
-        };
-        let (party, packets) = match party.turn(alloc) {
-            Ok(both) => both,
-            Err(fault) => return Err(fault),
-        };
-        self.put(number, party);
-        Ok(Some(packets))
+        law::parties_join();
+        self.act(
+            number,
+            move |party: P|
+                requires { P.steps party < most_steps }
+                ensures sends { IfOk result (λ after. SendsAlike (P.stands party) (P.stands after.0) after.1) }
+                ensures formed { IfOk result (λ after. AllByRecursion IsSent after.1) }
+                ensures steps { IfOk result (λ after. P.steps after.0 ≤ P.steps party + 1) }
+            { party.turn(alloc) },
+        )
     }
 
     /// The party of a number forgets what its peers have acknowledged. Answers whether one runs.
@@ -194,15 +199,23 @@ impl<P: Party> Slots<P> {
         ensures world { IfOk result (ResyncInWorld P.stands number self.old self.new) }
         ensures within { (n : ℕ) → AreWithin P.steps n self.old → AreWithin P.steps (n + 1) self.new }
     {
-        parties_join();
-        let Some(party) = self.take(number) else {
-            return Ok(false);
-        };
-        let party = match party.resync(alloc) {
-            Ok(party) => party,
-            Err(fault) => return Err(fault),
-        };
-        self.put(number, party);
-        Ok(true)
+        law::parties_join();
+        let ran = self.act(
+            number,
+            move |party: P|
+                requires { P.steps party < most_steps }
+                ensures resyncs { IfOk result (λ after. (r : Role) → P.stands party r → P.stands after.0 (resynced r)) }
+                ensures steps { IfOk result (λ after. P.steps after.0 ≤ P.steps party + 1) }
+            {
+                match party.resync(alloc) {
+                    Ok(party) => Ok((party, ())),
+                    Err(fault) => Err(fault),
+                }
+            },
+        );
+        match ran {
+            Ok(ran) => Ok(ran.is_some()),
+            Err(fault) => Err(fault),
+        }
     }
 }

@@ -7,8 +7,8 @@ use Rattle.std.proofs.Math.Nat.{mul-le-mul_right}
 use Rattle.std.proofs.lemmas.Bool.Decides.{nat_tests}
 use Rattle.fuxi_terms.specs.Cluster.{ClusterRecord, has_at, limit_at, rack_of, is_narrow, in_each}
 use Rattle.fuxi_terms.specs.Counts.{count, set_count}
-use Rattle.fuxi_terms.specs.Keys.{Spot, spot_cmp}
-use Rattle.fuxi_terms.specs.Tables.{spot, held_on, held_in, total_by, usage_by}
+use Rattle.fuxi_terms.specs.Keys.{Spot, spot_cmp, Pair}
+use Rattle.fuxi_terms.specs.Tables.{spot, held_on, held_in, total_by, usage_by, Table}
 use Rattle.fuxi_terms.specs.TallyKeys.{near_key, rack_key}
 use Rattle.fuxi_terms.proofs.Booleans.{both_true, and_true, number_is}
 use Rattle.fuxi_terms.proofs.CountsLemmas.{tied, count-set_count}
@@ -21,7 +21,7 @@ use Rattle.place_pass.specs.Bounds.{MarkRecord, IsBounded, lowered, lowered_mark
 use Rattle.place_pass.proofs.BoundsLemmas.{NoEarlier, accepts_less, bounded_later, bounded_apart, lowered_bounds, reset_bounds}
 
 -- ---- tests that hold of fewer
-room_less : (c : ClusterRecord) (sizes : ℕ → ℕ → ℕ → ℕ) (es es' : List (Spot × ℕ)) (a u m : ℕ) → ((i : ℕ) → total_by sizes m i es ≤ total_by sizes m i es') → has_room_in c sizes es' a u m ≡ true → has_room_in c sizes es a u m ≡ true
+room_less : (c : ClusterRecord) (sizes : ℕ → ℕ → ℕ → ℕ) (es es' : Table) (a u m : ℕ) → ((i : ℕ) → total_by sizes m i es ≤ total_by sizes m i es') → has_room_in c sizes es' a u m ≡ true → has_room_in c sizes es a u m ≡ true
 room_less c sizes es es' a u m le h =
     let then : ℕ → Bool = λ i. not (nat_lt (has_at c m i) (total_by sizes m i es' + sizes a u i)) in
     let before : ℕ → Bool = λ i. not (nat_lt (has_at c m i) (total_by sizes m i es + sizes a u i)) in
@@ -31,7 +31,7 @@ room_less c sizes es es' a u m le h =
     at_most : (limit x y z : ℕ) → x ≤ y → not (nat_lt limit (y + z)) ≡ true → not (nat_lt limit (x + z)) ≡ true
     at_most limit x y z le e = grind (arith, nat_tests, le, e)
 
-allowed_less : (c : ClusterRecord) (groups : ℕ → ℕ) (sizes : ℕ → ℕ → ℕ → ℕ) (es es' : List (Spot × ℕ)) (a u : ℕ) → ((i : ℕ) → usage_by groups sizes (groups a) i es ≤ usage_by groups sizes (groups a) i es') → is_allowed_in c groups sizes es' a u ≡ true → is_allowed_in c groups sizes es a u ≡ true
+allowed_less : (c : ClusterRecord) (groups : ℕ → ℕ) (sizes : ℕ → ℕ → ℕ → ℕ) (es es' : Table) (a u : ℕ) → ((i : ℕ) → usage_by groups sizes (groups a) i es ≤ usage_by groups sizes (groups a) i es') → is_allowed_in c groups sizes es' a u ≡ true → is_allowed_in c groups sizes es a u ≡ true
 allowed_less c groups sizes es es' a u le h =
     let then : ℕ → Bool = λ i. not (nat_lt (limit_at c (groups a) i) (usage_by groups sizes (groups a) i es' + sizes a u i)) in
     let before : ℕ → Bool = λ i. not (nat_lt (limit_at c (groups a) i) (usage_by groups sizes (groups a) i es + sizes a u i)) in
@@ -52,8 +52,8 @@ levels_le false false false false f g = omega arith
 fewer_wanted : (h h' n : ℕ) → h ≤ h' → nat_lt h' n ≡ true → nat_lt h n ≡ true
 fewer_wanted h h' n le e = grind (arith, nat_tests, le, e)
 
-module _ (es : List (Spot × ℕ)) (s : Spot) (n : ℕ) (sorted : T (is_sorted spot_cmp es)) where
-  abbrev then : List (Spot × ℕ)
+module _ (es : Table) (s : Spot) (n : ℕ) (sorted : T (is_sorted spot_cmp es)) where
+  abbrev then : Table
   then = set_count spot_cmp es s n
 
   nothing : (t : Bool) (k : ℕ) → cond t (0 * k) 0 ≡ 0
@@ -127,7 +127,7 @@ module _ (es : List (Spot × ℕ)) (s : Spot) (n : ℕ) (sorted : T (is_sorted s
       | false ↦ λ _. omega arith
     ] refl)
 
-    pub granted_later : (b : Board) (p : ℕ × ℕ) (m : ℕ) → NoEarlier b b es then p m
+    pub granted_later : (b : Board) (p : Pair) (m : ℕ) → NoEarlier b b es then p m
     granted_later b p m = record {
       priority = refl;
       group = refl;
@@ -153,13 +153,13 @@ module _ (es : List (Spot × ℕ)) (s : Spot) (n : ℕ) (sorted : T (is_sorted s
         let y = ap (λ b. cond b (n * sizes s.job s.unit i) 0) not_here in
         omega (arith, e, x, y)
 
-    room_away : (b : Board) (p : ℕ × ℕ) → has_room_in b.cluster b.sizes then p.0 p.1 m ≡ true → has_room_in b.cluster b.sizes es p.0 p.1 m ≡ true
+    room_away : (b : Board) (p : Pair) → has_room_in b.cluster b.sizes then p.0 p.1 m ≡ true → has_room_in b.cluster b.sizes es p.0 p.1 m ≡ true
     room_away b p = room_less b.cluster b.sizes es then p.0 p.1 m (λ i. total_same b.sizes i)
 
     held_away : (a u : ℕ) → held_on then a u m ≡ held_on es a u m
     held_away a u = at_other (spot a u m) (apart (spot a u m) (λ e. let x = ap (λ (q : Spot). q.machine) e in let f : false ≡ true = sym away ∙ grind (arith, nat_tests, x) in cc))
 
-    accepts_away : (b : Board) (p : ℕ × ℕ) → accepts_in b then p.0 p.1 m ≡ true → accepts_in b es p.0 p.1 m ≡ true
+    accepts_away : (b : Board) (p : Pair) → accepts_in b then p.0 p.1 m ≡ true → accepts_in b es p.0 p.1 m ≡ true
     accepts_away b p u = sym (ap (λ k. b.may_use p.0 p.1 m && nat_lt k (b.mosts p.0 p.1)) (held_away p.0 p.1)) ∙ u
 
     -- another unit has in its rack what it had, and one of another group may have what it might
@@ -194,20 +194,20 @@ module _ (es : List (Spot × ℕ)) (s : Spot) (n : ℕ) (sorted : T (is_sorted s
         let y = ap (λ b. cond b (n * sizes s.job s.unit i) 0) f in
         omega (arith, e, x, y)
 
-    level_same : (b : Board) (p : ℕ × ℕ) → held_in b.cluster then p.0 p.1 (rack_of b.cluster m) ≡ held_in b.cluster es p.0 p.1 (rack_of b.cluster m) → level_of b.cluster b.asks es p.0 p.1 m ≤ level_of b.cluster b.asks then p.0 p.1 m
+    level_same : (b : Board) (p : Pair) → held_in b.cluster then p.0 p.1 (rack_of b.cluster m) ≡ held_in b.cluster es p.0 p.1 (rack_of b.cluster m) → level_of b.cluster b.asks es p.0 p.1 m ≤ level_of b.cluster b.asks then p.0 p.1 m
     level_same b p e = levels_le (nat_lt (held_on es p.0 p.1 m) (b.asks p.0 (near_key p.1 m))) (nat_lt (held_in b.cluster es p.0 p.1 (rack_of b.cluster m)) (b.asks p.0 (rack_key p.1 (rack_of b.cluster m))))
         (nat_lt (held_on then p.0 p.1 m) (b.asks p.0 (near_key p.1 m))) (nat_lt (held_in b.cluster then p.0 p.1 (rack_of b.cluster m)) (b.asks p.0 (rack_key p.1 (rack_of b.cluster m))))
         (λ t. sym (ap (λ k. nat_lt k (b.asks p.0 (near_key p.1 m))) (held_away p.0 p.1)) ∙ t)
         (λ t. sym (ap (λ k. nat_lt k (b.asks p.0 (rack_key p.1 (rack_of b.cluster m)))) e) ∙ t)
 
     -- the unit itself, where it wants no more in the rack than it has now
-    level_far : (b : Board) (p : ℕ × ℕ) → nat_lt (held_in b.cluster then p.0 p.1 (rack_of b.cluster m)) (b.asks p.0 (rack_key p.1 (rack_of b.cluster m))) ≡ false → level_of b.cluster b.asks es p.0 p.1 m ≤ level_of b.cluster b.asks then p.0 p.1 m
+    level_far : (b : Board) (p : Pair) → nat_lt (held_in b.cluster then p.0 p.1 (rack_of b.cluster m)) (b.asks p.0 (rack_key p.1 (rack_of b.cluster m))) ≡ false → level_of b.cluster b.asks es p.0 p.1 m ≤ level_of b.cluster b.asks then p.0 p.1 m
     level_far b p f = levels_le (nat_lt (held_on es p.0 p.1 m) (b.asks p.0 (near_key p.1 m))) (nat_lt (held_in b.cluster es p.0 p.1 (rack_of b.cluster m)) (b.asks p.0 (rack_key p.1 (rack_of b.cluster m))))
         (nat_lt (held_on then p.0 p.1 m) (b.asks p.0 (near_key p.1 m))) (nat_lt (held_in b.cluster then p.0 p.1 (rack_of b.cluster m)) (b.asks p.0 (rack_key p.1 (rack_of b.cluster m))))
         (λ t. sym (ap (λ k. nat_lt k (b.asks p.0 (near_key p.1 m))) (held_away p.0 p.1)) ∙ t)
         (λ t. let no : false ≡ true = sym f ∙ t in cc)
 
-    other_later : (b : Board) (p : ℕ × ℕ) → nat_eq (b.groups s.job) (b.groups p.0) ≡ false → NoEarlier b b es then p m
+    other_later : (b : Board) (p : Pair) → nat_eq (b.groups s.job) (b.groups p.0) ≡ false → NoEarlier b b es then p m
     other_later b p f = record {
       priority = refl;
       group = refl;
@@ -224,7 +224,7 @@ module _ (es : List (Spot × ℕ)) (s : Spot) (n : ℕ) (sorted : T (is_sorted s
         itself k = grind (arith, nat_tests)
 
     -- a pair of the unit's group, on a machine that does not note the group
-    same_group : (b : Board) (p : ℕ × ℕ) (bound : Option (List ℕ)) (groups : List Bool) (turn : ℕ) → get_or groups (b.groups p.0) false ≡ false
+    same_group : (b : Board) (p : Pair) (bound : Option (List ℕ)) (groups : List Bool) (turn : ℕ) → get_or groups (b.groups p.0) false ≡ false
         → ((nat_eq s.job p.0 && nat_eq s.unit p.1) ≡ true → nat_eq (rack_of b.cluster m) (rack_of b.cluster s.machine) ≡ true → nat_lt (held_in b.cluster then p.0 p.1 (rack_of b.cluster m)) (b.asks p.0 (rack_key p.1 (rack_of b.cluster m))) ≡ false)
         → IsBounded b es bound groups turn p m → IsBounded b then bound groups turn p m
     same_group b p bound groups turn g far h = bounded_apart b b es then p m bound groups turn refl (accepts_away b p) (room_away b p) level g h
@@ -242,7 +242,7 @@ module _ (es : List (Spot × ℕ)) (s : Spot) (n : ℕ) (sorted : T (is_sorted s
   abbrev is_nearer : Board → Bool
   is_nearer b = is_nearer_in b then s
 
-  pub taken_bounds : (b : Board) (p : ℕ × ℕ) (m : ℕ) (k : MarkRecord) (turn : ℕ) → IsBounded b es k.bound k.groups turn p m
+  pub taken_bounds : (b : Board) (p : Pair) (m : ℕ) (k : MarkRecord) (turn : ℕ) → IsBounded b es k.bound k.groups turn p m
       → IsBounded b then (after_taking b.cluster (b.groups s.job) s.machine (is_nearer b) m k).bound (after_taking b.cluster (b.groups s.job) s.machine (is_nearer b) m k).groups turn p m
   taken_bounds b p m k turn h = elim (nat_eq m s.machine) as (λ x. nat_eq m s.machine ≡ x → Says x (get_or k.groups (b.groups s.job) false) (is_nearer b && nat_eq (rack_of b.cluster m) (rack_of b.cluster s.machine))) [
     | true ↦ λ _. reset_bounds b then (reset_mark k.until).groups turn p m

@@ -6,8 +6,9 @@ use Rattle.std.specs.declared.cmp.Ordering.TheVariants.{Less, Equal, Greater}
 use Rattle.std.specs.Cmp.Lexicographic.{slice_cmp}
 use Rattle.std.proofs.lemmas.Bool.{cases_lt}
 use Rattle.std.proofs.lemmas.Bool.Decides.{nat_tests}
-use Rattle.fuxi_terms.specs.Keys.{Spot}
+use Rattle.fuxi_terms.specs.Keys.{Pair}
 use Rattle.fuxi_terms.proofs.Booleans.{both_true, and_true}
+use Rattle.fuxi_terms.specs.Tables.{Table}
 use Rattle.written_roles.specs.Masters.{level_of}
 use Rattle.written_roles.specs.Placing.{Board, accepts_in, has_room_in, is_allowed_in}
 use Rattle.place_pass.specs.Bounds.{zero_rank, rank_at, comes_before, is_bound, IsBounded, lowered}
@@ -52,7 +53,7 @@ zero_bounds zero zero (suc z) = ap (λ o. not (is_lt (ordering_then o Equal))) (
 zero_bounds zero zero zero = refl
 
 -- ---- a mark whose bound is 0 says nothing
-pub reset_bounds : (b : Board) (es : List (Spot × ℕ)) (groups : List Bool) (turn : ℕ) (p : ℕ × ℕ) (m : ℕ) → IsBounded b es (Some zero_rank) groups turn p m
+pub reset_bounds : (b : Board) (es : Table) (groups : List Bool) (turn : ℕ) (p : Pair) (m : ℕ) → IsBounded b es (Some zero_rank) groups turn p m
 reset_bounds b es groups turn p m = record { bounded = λ u r. ap (λ t. t || (get_or groups (b.groups p.0) false && not (is_allowed_in b.cluster b.groups b.sizes es p.0 p.1))) (zero_bounds (9 - b.priorities p.0 p.1) (level_of b.cluster b.asks es p.0 p.1 m) turn) }
 
 -- ---- what leaves a pair as it was, or makes it come later
@@ -60,7 +61,7 @@ reset_bounds b es groups turn p m = record { bounded = λ u r. ap (λ t. t || (g
 pub accepts_less : (p n p' n' : Bool) → (p' ≡ true → p ≡ true) → (n' ≡ true → n ≡ true) → (p' && n') ≡ true → (p && n) ≡ true
 accepts_less p n p' n' h k e = let b = both_true p' n' e in and_true p n (h b.0) (k b.1)
 
-pub record NoEarlier (b b' : Board) (es es' : List (Spot × ℕ)) (p : ℕ × ℕ) (m : ℕ) : Type 0 where
+pub record NoEarlier (b b' : Board) (es es' : Table) (p : Pair) (m : ℕ) : Type 0 where
   pub priority : b'.priorities p.0 p.1 ≡ b.priorities p.0 p.1
   pub group : b'.groups p.0 ≡ b.groups p.0
   pub accepts : accepts_in b' es' p.0 p.1 m ≡ true → accepts_in b es p.0 p.1 m ≡ true
@@ -78,7 +79,7 @@ still false true false false false a' e f s h = cc
 still false true true x' g' a' e f s h = cc
 still false false a x' g' a' e f s h = cc
 
-pub bounded_later : (b b' : Board) (es es' : List (Spot × ℕ)) (p : ℕ × ℕ) (m : ℕ) → NoEarlier b b' es es' p m → (bound : Option (List ℕ)) (groups : List Bool) (turn : ℕ) → IsBounded b es bound groups turn p m → IsBounded b' es' bound groups turn p m
+pub bounded_later : (b b' : Board) (es es' : Table) (p : Pair) (m : ℕ) → NoEarlier b b' es es' p m → (bound : Option (List ℕ)) (groups : List Bool) (turn : ℕ) → IsBounded b es bound groups turn p m → IsBounded b' es' bound groups turn p m
 bounded_later b b' es es' p m n bound groups turn h = record {
   bounded = λ u r. still (is_bound bound (rank_at b es turn p m)) (get_or groups (b.groups p.0) false) (is_allowed_in b.cluster b.groups b.sizes es p.0 p.1)
       (is_bound bound (rank_at b' es' turn p m)) (get_or groups (b'.groups p.0) false) (is_allowed_in b'.cluster b'.groups b'.sizes es' p.0 p.1)
@@ -89,7 +90,7 @@ bounded_later b b' es es' p m n bound groups turn h = record {
 }
 
 -- without a bound nothing depends on the level, and with a lowered one nothing on anything
-pub lowered_bounds : (b b' : Board) (es es' : List (Spot × ℕ)) (p : ℕ × ℕ) (m : ℕ) (bound : Option (List ℕ)) (groups : List Bool) (turn : ℕ)
+pub lowered_bounds : (b b' : Board) (es es' : Table) (p : Pair) (m : ℕ) (bound : Option (List ℕ)) (groups : List Bool) (turn : ℕ)
     → (accepts_in b' es' p.0 p.1 m ≡ true → accepts_in b es p.0 p.1 m ≡ true) → (has_room_in b'.cluster b'.sizes es' p.0 p.1 m ≡ true → has_room_in b.cluster b.sizes es p.0 p.1 m ≡ true)
     → get_or groups (b.groups p.0) false ≡ false → IsBounded b es bound groups turn p m → IsBounded b' es' (lowered bound) groups turn p m
 lowered_bounds b b' es es' p m (Some x) groups turn u r g h = reset_bounds b' es' groups turn p m
@@ -98,7 +99,7 @@ lowered_bounds b b' es es' p m None groups turn u r g h = record {
       let t = (both_true (get_or groups (b.groups p.0) false) _ f).0 in let no : false ≡ true = sym g ∙ t in cc;
 }
 
-pub lowered_later : (b b' : Board) (es es' : List (Spot × ℕ)) (p : ℕ × ℕ) (m : ℕ) (bound : Option (List ℕ)) (groups : List Bool) (turn : ℕ)
+pub lowered_later : (b b' : Board) (es es' : Table) (p : Pair) (m : ℕ) (bound : Option (List ℕ)) (groups : List Bool) (turn : ℕ)
     → b'.groups p.0 ≡ b.groups p.0 → (accepts_in b' es' p.0 p.1 m ≡ true → accepts_in b es p.0 p.1 m ≡ true) → (has_room_in b'.cluster b'.sizes es' p.0 p.1 m ≡ true → has_room_in b.cluster b.sizes es p.0 p.1 m ≡ true)
     → (is_allowed_in b'.cluster b'.groups b'.sizes es' p.0 p.1 ≡ true → is_allowed_in b.cluster b.groups b.sizes es p.0 p.1 ≡ true) → IsBounded b es bound groups turn p m → IsBounded b' es' (lowered bound) groups turn p m
 lowered_later b b' es es' p m (Some x) groups turn same u r allowed h = reset_bounds b' es' groups turn p m
@@ -108,7 +109,7 @@ lowered_later b b' es es' p m None groups turn same u r allowed h = record {
 }
 
 -- a pair that is allowed is bounded, whatever is noted
-pub allowed_bounds : (b : Board) (es : List (Spot × ℕ)) (p : ℕ × ℕ) (m : ℕ) (bound : Option (List ℕ)) (groups groups' : List Bool) (turn : ℕ) → is_allowed_in b.cluster b.groups b.sizes es p.0 p.1 ≡ true → IsBounded b es bound groups turn p m → IsBounded b es bound groups' turn p m
+pub allowed_bounds : (b : Board) (es : Table) (p : Pair) (m : ℕ) (bound : Option (List ℕ)) (groups groups' : List Bool) (turn : ℕ) → is_allowed_in b.cluster b.groups b.sizes es p.0 p.1 ≡ true → IsBounded b es bound groups turn p m → IsBounded b es bound groups' turn p m
 allowed_bounds b es p m bound groups groups' turn allowed h = record {
   bounded = λ u r. ap (λ x. x || (get_or groups' (b.groups p.0) false && not (is_allowed_in b.cluster b.groups b.sizes es p.0 p.1)))
       (only (is_bound bound (rank_at b es turn p m)) (get_or groups (b.groups p.0) false) (is_allowed_in b.cluster b.groups b.sizes es p.0 p.1) allowed (h.bounded u r));
@@ -121,7 +122,7 @@ allowed_bounds b es p m bound groups groups' turn allowed h = record {
     only false false a f e = e
 
 -- a group that is not noted may be allowed more than before
-pub bounded_apart : (b b' : Board) (es es' : List (Spot × ℕ)) (p : ℕ × ℕ) (m : ℕ) (bound : Option (List ℕ)) (groups : List Bool) (turn : ℕ)
+pub bounded_apart : (b b' : Board) (es es' : Table) (p : Pair) (m : ℕ) (bound : Option (List ℕ)) (groups : List Bool) (turn : ℕ)
     → b'.priorities p.0 p.1 ≡ b.priorities p.0 p.1 → (accepts_in b' es' p.0 p.1 m ≡ true → accepts_in b es p.0 p.1 m ≡ true) → (has_room_in b'.cluster b'.sizes es' p.0 p.1 m ≡ true → has_room_in b.cluster b.sizes es p.0 p.1 m ≡ true)
     → level_of b.cluster b.asks es p.0 p.1 m ≤ level_of b'.cluster b'.asks es' p.0 p.1 m
     → get_or groups (b.groups p.0) false ≡ false → IsBounded b es bound groups turn p m → IsBounded b' es' bound groups turn p m

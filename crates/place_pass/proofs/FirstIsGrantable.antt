@@ -10,10 +10,10 @@ use Rattle.std.proofs.lemmas.Bool.Decides.{nat_tests}
 use Rattle.std.proofs.lemmas.List.{map-append}
 use Rattle.fuxi_terms.specs.Cluster.{ClusterRecord, UnitRecord, has_at, is_narrow, in_each}
 use Rattle.fuxi_terms.specs.Jobs.{size_at}
-use Rattle.fuxi_terms.specs.Keys.{Spot, spot_cmp}
+use Rattle.fuxi_terms.specs.Keys.{Spot, spot_cmp, Pair}
 use Rattle.fuxi_terms.specs.Counts.{set_count}
 use Rattle.fuxi_terms.specs.Lists.{below}
-use Rattle.fuxi_terms.specs.Tables.{spot, held, held_on, total_at}
+use Rattle.fuxi_terms.specs.Tables.{spot, held, held_on, total_at, Table}
 use Rattle.fuxi_terms.proofs.Alls.{all_append}
 use Rattle.fuxi_terms.proofs.Booleans.{both_true, either, nat_itself}
 use Rattle.fuxi_terms.proofs.Members.{each_place}
@@ -43,8 +43,8 @@ all_below P f q (suc n) h = subst (AllByRecursion P) (sym (ap (map f) (filter_ap
     last true e = (h n (omega arith) e, tt)
     last false e = tt
 
-pub all_candidates : (P : Ranked → Type 0) (b : Board) (es : List (Spot × ℕ)) (admitted : ℕ × ℕ → Type 0) (place : ℕ) (ps : List (ℕ × ℕ)) → AllByRecursion admitted ps
-    → ((p : ℕ × ℕ) (place m : ℕ) → admitted p → m < length b.cluster.machines → may_grow_in b es p.0 p.1 ≡ true → accepts_in b es p.0 p.1 m ≡ true → has_room_in b.cluster b.sizes es p.0 p.1 m ≡ true → P (ranked_in b es place p m)) → AllByRecursion P (candidates_in b es place ps)
+pub all_candidates : (P : Ranked → Type 0) (b : Board) (es : Table) (admitted : Pair → Type 0) (place : ℕ) (ps : List Pair) → AllByRecursion admitted ps
+    → ((p : Pair) (place m : ℕ) → admitted p → m < length b.cluster.machines → may_grow_in b es p.0 p.1 ≡ true → accepts_in b es p.0 p.1 m ≡ true → has_room_in b.cluster b.sizes es p.0 p.1 m ≡ true → P (ranked_in b es place p m)) → AllByRecursion P (candidates_in b es place ps)
 all_candidates P b es admitted place [] a h = tt
 all_candidates P b es admitted place (p ∷ ps) a h = all_append P (elim (may_grow_in b es p.0 p.1) as (λ _. List Ranked) [ true ↦ places_in b es place p | false ↦ [] ]) (candidates_in b es (place + 1) ps)
     (elim (may_grow_in b es p.0 p.1) as (λ t. may_grow_in b es p.0 p.1 ≡ t → AllByRecursion P (elim t as (λ _. List Ranked) [ true ↦ places_in b es place p | false ↦ [] ])) [
@@ -95,13 +95,13 @@ module _ (c : ClusterRecord) (cells : List (List Cell)) (o : List Bool) (t : Tab
         ];
       }
 
-  first_grantable : (line : List (ℕ × ℕ)) (x : Spot) → AreAdmitted cells line → first_in (board_over cells o t) t.entries line ≡ Some x → IsGrantable t x
-  first_grantable line x h e = by (candidates_in (board_over cells o t) t.entries 0 line) (all_candidates (IsGrantableRank t) (board_over cells o t) t.entries (λ (p : ℕ × ℕ). p.1 < length (get_or cells p.0 [])) 0 line h (λ p place m a lt g _ r. record { grantable = may p.0 p.1 m a lt g r })) e
+  first_grantable : (line : List Pair) (x : Spot) → AreAdmitted cells line → first_in (board_over cells o t) t.entries line ≡ Some x → IsGrantable t x
+  first_grantable line x h e = by (candidates_in (board_over cells o t) t.entries 0 line) (all_candidates (IsGrantableRank t) (board_over cells o t) t.entries (λ (p : Pair). p.1 < length (get_or cells p.0 [])) 0 line h (λ p place m a lt g _ r. record { grantable = may p.0 p.1 m a lt g r })) e
     where
       by : (rs : List Ranked) → AllByRecursion (IsGrantableRank t) rs → first_of rs ≡ Some x → IsGrantable t x
       by [] a e = cc
       by (r ∷ rs) a e = let same : (least r rs).spot ≡ x = cc in subst (IsGrantable t) same (least_has (IsGrantableRank t) r rs a.0 a.1).grantable
 
-  pub pick_grantable : (line : List (ℕ × ℕ)) (p : Option Pick) → AreAdmitted cells line → option_map spot_of p ≡ first_in (board_over cells o t) t.entries line → IfSome p (λ p. IsGrantable t (spot_of p))
+  pub pick_grantable : (line : List Pair) (p : Option Pick) → AreAdmitted cells line → option_map spot_of p ≡ first_in (board_over cells o t) t.entries line → IfSome p (λ p. IsGrantable t (spot_of p))
   pick_grantable line None h e = tt
   pick_grantable line (Some p) h e = first_grantable line (spot_of p) h (sym e)

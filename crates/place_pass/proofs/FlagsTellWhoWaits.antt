@@ -10,9 +10,10 @@ use Rattle.written_roles.specs.Placing.{has_pair}
 use Rattle.place_pass.specs.WaitingLines.{same_pair, IsLine}
 use Rattle.place_pass.proofs.WaitingLinesLemmas.{any_append, either_one, has_filter, neither, or_none, pair_is, pair_self, pair_turned}
 use Rattle.fuxi_terms.proofs.IndexedLists.{one_set}
+use Rattle.fuxi_terms.specs.Keys.{Pair}
 
 -- no pair waits of a unit that there may not be
-pub outside : (pairs : List (ℕ × ℕ)) (waits : List Bool) → IsLine pairs waits → (a u : ℕ) → ((a < most_jobs) × (u < most_units) → ⊥) → false ≡ has_pair (a, u) pairs
+pub outside : (pairs : List Pair) (waits : List Bool) → IsLine pairs waits → (a u : ℕ) → ((a < most_jobs) × (u < most_units) → ⊥) → false ≡ has_pair (a, u) pairs
 outside pairs waits h a u out = elim (has_pair (a, u) pairs) as (λ b. has_pair (a, u) pairs ≡ b → false ≡ b) [
   | true ↦ λ e. absurd (out (h.there a u e))
   | false ↦ λ _. refl
@@ -37,7 +38,7 @@ flag_set : (waits : List Bool) (a u b v : ℕ) (f : Bool) → u < 8 → v < 8 �
 flag_set waits a u b v f lu lv lt = one_set waits (a * 8 + u) (b * 8 + v) f false lt ∙ ap (λ t. cond t f (get_or waits (b * 8 + v) false)) (same_slot a u b v lu lv)
 
 -- what is read at the place of a unit that may be there
-pub flag_is : (pairs : List (ℕ × ℕ)) (waits : List Bool) → IsLine pairs waits → (a u : ℕ) → a < most_jobs → u < most_units → (i : ℕ) → i ≡ a * 8 + u → (flag : Bool) → flag ≡ get_or waits i flag → flag ≡ has_pair (a, u) pairs
+pub flag_is : (pairs : List Pair) (waits : List Bool) → IsLine pairs waits → (a u : ℕ) → a < most_jobs → u < most_units → (i : ℕ) → i ≡ a * 8 + u → (flag : Bool) → flag ≡ get_or waits i flag → flag ≡ has_pair (a, u) pairs
 flag_is pairs waits h a u la lu i e flag is =
     let places = h.places in
     is ∙ ap (λ k. get_or waits k flag) e ∙ get_or_default waits (a * 8 + u) flag false (omega (arith, places, la, lu)) ∙ h.waiting a u la lu
@@ -52,7 +53,7 @@ none_twice : IsDistinct same_pair []
 unfolding IsDistinct
 none_twice = tt
 
-pub line_empty : (pairs : List (ℕ × ℕ)) (waits : List Bool) → pairs ≡ [] → waits ≡ replicate (most_jobs * most_units) false → IsLine pairs waits
+pub line_empty : (pairs : List Pair) (waits : List Bool) → pairs ≡ [] → waits ≡ replicate (most_jobs * most_units) false → IsLine pairs waits
 line_empty pairs waits none e = record {
   distinct = subst (IsDistinct same_pair) (sym none) none_twice;
   places = ap length e ∙ length-replicate {A = Bool} (most_jobs * most_units) false;
@@ -61,20 +62,20 @@ line_empty pairs waits none e = record {
 }
 
 -- ---- one joins
-distinct_last : (xs : List (ℕ × ℕ)) (p : ℕ × ℕ) → IsDistinct same_pair xs → has_pair p xs ≡ false → IsDistinct same_pair (xs ++ p ∷ [])
+distinct_last : (xs : List Pair) (p : Pair) → IsDistinct same_pair xs → has_pair p xs ≡ false → IsDistinct same_pair (xs ++ p ∷ [])
 unfolding IsDistinct
 distinct_last [] p h e = (tt, tt)
 distinct_last (x ∷ xs) p h e =
     let n = neither (same_pair p x) (has_pair p xs) e in
     (all_append (λ y. same_pair x y ≡ false) xs (p ∷ []) h.0 (pair_turned x p ∙ n.0, tt), distinct_last xs p h.1 n.1)
 
-pub line_joined : (pairs : List (ℕ × ℕ)) (waits : List Bool) (a u : ℕ) → IsLine pairs waits → a < most_jobs → u < most_units → has_pair (a, u) pairs ≡ false → IsLine (pairs ++ (a, u) ∷ []) (set waits (a * 8 + u) true)
+pub line_joined : (pairs : List Pair) (waits : List Bool) (a u : ℕ) → IsLine pairs waits → a < most_jobs → u < most_units → has_pair (a, u) pairs ≡ false → IsLine (pairs ++ (a, u) ∷ []) (set waits (a * 8 + u) true)
 line_joined pairs waits a u h la lu new = record {
   distinct = distinct_last pairs (a, u) h.distinct new;
   places = length-set waits (a * 8 + u) true ∙ h.places;
   there = λ b v has. elim (either_one (has_pair (b, v) pairs) (same_pair (b, v) (a, u) || false) (sym (any_append (same_pair (b, v)) pairs ((a, u) ∷ [])) ∙ has)) [
     | inl old ↦ h.there b v old
-    | inr one ↦ let is = pair_is (b, v) (a, u) (or_false _ one) in (let x = ap (λ (p : ℕ × ℕ). p.0) is in omega (arith, x, la), let y = ap (λ (p : ℕ × ℕ). p.1) is in omega (arith, y, lu))
+    | inr one ↦ let is = pair_is (b, v) (a, u) (or_false _ one) in (let x = ap (λ (p : Pair). p.0) is in omega (arith, x, la), let y = ap (λ (p : Pair). p.1) is in omega (arith, y, lu))
   ];
   waiting = λ b v lb lv.
       flag_set waits a u b v true lu lv (let places = h.places in omega (arith, places, la, lu))
@@ -95,36 +96,36 @@ line_joined pairs waits a u h la lu new = record {
     raised false false = refl
 
 -- ---- one leaves
-none_left : (xs : List (ℕ × ℕ)) (p : ℕ × ℕ) → AllByRecursion (λ y. same_pair p y ≡ false) xs → has_pair p xs ≡ false
+none_left : (xs : List Pair) (p : Pair) → AllByRecursion (λ y. same_pair p y ≡ false) xs → has_pair p xs ≡ false
 none_left [] p h = refl
 none_left (x ∷ xs) p h = or_none (same_pair p x) (has_pair p xs) h.0 (none_left xs p h.1)
 
 -- where it is not there, all stay
-pub all_stay : (xs : List (ℕ × ℕ)) (p : ℕ × ℕ) → has_pair p xs ≡ false → filter (λ q. not (same_pair q p)) xs ≡ xs
+pub all_stay : (xs : List Pair) (p : Pair) → has_pair p xs ≡ false → filter (λ q. not (same_pair q p)) xs ≡ xs
 all_stay [] p e = refl
 all_stay (x ∷ xs) p e =
     let n = neither (same_pair p x) (has_pair p xs) e in
     ap (λ b. cond (not b) (x ∷ filter (λ q. not (same_pair q p)) xs) (filter (λ q. not (same_pair q p)) xs)) (pair_turned x p ∙ n.0) ∙ ap (λ ys. x ∷ ys) (all_stay xs p n.1)
 
 -- of distinct pairs, all but the one at a place
-pub others_at : (xs : List (ℕ × ℕ)) (i : ℕ) (p : ℕ × ℕ) → slice_get xs i ≡ Some p → IsDistinct same_pair xs → take i xs ++ drop (suc i) xs ≡ filter (λ q. not (same_pair q p)) xs
+pub others_at : (xs : List Pair) (i : ℕ) (p : Pair) → slice_get xs i ≡ Some p → IsDistinct same_pair xs → take i xs ++ drop (suc i) xs ≡ filter (λ q. not (same_pair q p)) xs
 unfolding IsDistinct
 others_at [] i p e h = cc
 others_at (x ∷ xs) zero p e h =
     let same : x ≡ p = cc in
     let itself : same_pair x p ≡ true = subst (λ y. same_pair x y ≡ true) same (pair_self x) in
-    let rest = subst (λ (y : ℕ × ℕ). AllByRecursion (λ z. same_pair y z ≡ false) xs) same h.0 in
+    let rest = subst (λ (y : Pair). AllByRecursion (λ z. same_pair y z ≡ false) xs) same h.0 in
     sym (ap (λ b. cond (not b) (x ∷ filter (λ q. not (same_pair q p)) xs) (filter (λ q. not (same_pair q p)) xs)) itself ∙ all_stay xs p (none_left xs p rest))
 others_at (x ∷ xs) (suc i) p e h =
     let other : same_pair x p ≡ false = one_at xs i h.0 e in
     ap (λ ys. x ∷ ys) (others_at xs i p e h.1) ∙ sym (ap (λ b. cond (not b) (x ∷ filter (λ q. not (same_pair q p)) xs) (filter (λ q. not (same_pair q p)) xs)) other)
   where
-    one_at : (ys : List (ℕ × ℕ)) (i : ℕ) → AllByRecursion (λ y. same_pair x y ≡ false) ys → slice_get ys i ≡ Some p → same_pair x p ≡ false
+    one_at : (ys : List Pair) (i : ℕ) → AllByRecursion (λ y. same_pair x y ≡ false) ys → slice_get ys i ≡ Some p → same_pair x p ≡ false
     one_at [] i h e = cc
-    one_at (y ∷ ys) zero h e = let same : y ≡ p = cc in subst (λ (z : ℕ × ℕ). same_pair x z ≡ false) same h.0
+    one_at (y ∷ ys) zero h e = let same : y ≡ p = cc in subst (λ (z : Pair). same_pair x z ≡ false) same h.0
     one_at (y ∷ ys) (suc i) h e = one_at ys i h.1 e
 
-distinct_filter : (q : ℕ × ℕ → Bool) (xs : List (ℕ × ℕ)) → IsDistinct same_pair xs → IsDistinct same_pair (filter q xs)
+distinct_filter : (q : Pair → Bool) (xs : List Pair) → IsDistinct same_pair xs → IsDistinct same_pair (filter q xs)
 unfolding IsDistinct
 distinct_filter q [] h = tt
 distinct_filter q (x ∷ xs) h = elim (q x) as (λ b. IsDistinct same_pair (cond b (x ∷ filter q xs) (filter q xs))) [
@@ -132,8 +133,8 @@ distinct_filter q (x ∷ xs) h = elim (q x) as (λ b. IsDistinct same_pair (cond
   | false ↦ distinct_filter q xs h.1
 ]
 
-pub line_left : (pairs left : List (ℕ × ℕ)) (waits : List Bool) (a u : ℕ) → IsLine pairs waits → a < most_jobs → u < most_units → left ≡ filter (λ q. not (same_pair q (a, u))) pairs → IsLine left (set waits (a * 8 + u) false)
-line_left pairs left waits a u h la lu is = subst (λ (l : List (ℕ × ℕ)). IsLine l (set waits (a * 8 + u) false)) (sym is) (record {
+pub line_left : (pairs left : List Pair) (waits : List Bool) (a u : ℕ) → IsLine pairs waits → a < most_jobs → u < most_units → left ≡ filter (λ q. not (same_pair q (a, u))) pairs → IsLine left (set waits (a * 8 + u) false)
+line_left pairs left waits a u h la lu is = subst (λ (l : List Pair). IsLine l (set waits (a * 8 + u) false)) (sym is) (record {
   distinct = distinct_filter (λ q. not (same_pair q (a, u))) pairs h.distinct;
   places = length-set waits (a * 8 + u) false ∙ h.places;
   there = λ b v has. h.there b v (both_true (has_pair (b, v) pairs) _ (sym (has_filter (λ q. not (same_pair q (a, u))) (b, v) pairs) ∙ has)).0;

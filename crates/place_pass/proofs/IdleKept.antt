@@ -1,6 +1,6 @@
 -- When nothing is placeable, what keeps it so, and when a demand asks for no more.
 use Rattle.std.proofs.Common.{◌≡◌, ◌≢◌, ℕ, zero, suc, ◌+◌, ◌-◌, ◌*◌, ◌<◌, ◌≤◌, Bool, true, false, cond, not, nat_eq, nat_lt, List, [], ◌∷◌, length, get_or, set, refl, sym, ◌∙◌, ap, subst, arith, inl, inr, add-one, Option, None, Some}
-use Rattle.std.specs.Prelude.{◌&&◌, ◌||◌, is_some, slice_get}
+use Rattle.std.specs.Prelude.{◌&&◌, ◌||◌, slice_get}
 use Rattle.std.specs.Option.{option_map, unwrap_or}
 use Rattle.std.specs.List.{AllByRecursion, list_any}
 use Rattle.std.proofs.lemmas.Bool.{cases_lt}
@@ -11,13 +11,14 @@ use Rattle.std.proofs.Math.ListN.{get_or-eq_default}
 use Rattle.fuxi_terms.specs.Cluster.{ClusterRecord, JobRecord, rack_of, has_at, limit_at, is_narrow, in_each}
 use Rattle.fuxi_terms.specs.Counts.{count}
 use Rattle.fuxi_terms.specs.Jobs.{KnownJob, job_of, is_known, unit_count, group_of, size_at, most_of, no_unit}
-use Rattle.fuxi_terms.specs.Keys.{Spot, key_cmp}
+use Rattle.fuxi_terms.specs.Keys.{Spot, key_cmp, Pair}
 use Rattle.fuxi_terms.specs.Lists.{below}
-use Rattle.fuxi_terms.specs.Tables.{held, held_on, held_in, total_by, usage_by}
+use Rattle.fuxi_terms.specs.Tables.{held, held_on, held_in, total_by, usage_by, Table}
 use Rattle.fuxi_terms.specs.TallyKeys.{want_key, near_key, rack_key, avoid_key}
 use Rattle.fuxi_terms.specs.Vectors.{at_place}
 use Rattle.fuxi_terms.specs.declared.Key.{Key}
 use Rattle.fuxi_terms.proofs.Booleans.{and_true, both_true, both_false, number_is, or_false}
+use Rattle.fuxi_terms.proofs.Lookups.{none_is}
 use Rattle.fuxi_terms.proofs.Members.{both_empty, mapped_empty, none_passes, in_below, each_place, each_from, sum_le}
 use Rattle.written_roles.specs.Masters.{out_of}
 use Rattle.written_roles.specs.Placing.{Board, Ranked, ranked_in, places_in, candidates_in, may_grow_in, accepts_in, has_room_in, is_allowed_in, placeable_in, first_of, first_in, has_pair}
@@ -52,7 +53,7 @@ any_one p (suc n) i e lt =
       | false ↦ λ f. let d : i ≢ n = grind (arith, nat_tests) in any_one p n i b.0 (omega (arith, lt, d))
     ] refl
 
-any_none : (p : ℕ → Bool) (n : ℕ) → ((i : ℕ) → i < n → p i ≡ false) → list_any p (below n) ≡ false
+pub any_none : (p : ℕ → Bool) (n : ℕ) → ((i : ℕ) → i < n → p i ≡ false) → list_any p (below n) ≡ false
 any_none p zero h = refl
 any_none p (suc n) h =
     list_any-append p (below n) (n ∷ []) ∙ ap (λ b. list_any p (below n) || b) (or_false (p n))
@@ -66,17 +67,17 @@ no_rank : (rs : List Ranked) → AllByRecursion Never rs → first_of rs ≡ Non
 no_rank [] h = refl
 no_rank (r ∷ rs) h = absurd h.0.never
 
-pub idle_first : (c : ClusterRecord) (cells : List (List Cell)) (o : List Bool) (t : TableRecord) → AreLevel c (job_at cells) t → (line : List (ℕ × ℕ)) → AreAdmitted cells line → IsIdle cells o t → first_in (board_over cells o t) t.entries line ≡ None
+pub idle_first : (c : ClusterRecord) (cells : List (List Cell)) (o : List Bool) (t : TableRecord) → AreLevel c (job_at cells) t → (line : List Pair) → AreAdmitted cells line → IsIdle cells o t → first_in (board_over cells o t) t.entries line ≡ None
 idle_first c cells o t l line admitted h =
     let b = board_over cells o t in
-    no_rank (candidates_in b t.entries 0 line) (all_candidates Never b t.entries (λ (p : ℕ × ℕ). p.1 < length (get_or cells p.0 [])) 0 line admitted (λ p place m lt there g u r.
+    no_rank (candidates_in b t.entries 0 line) (all_candidates Never b t.entries (λ (p : Pair). p.1 < length (get_or cells p.0 [])) 0 line admitted (λ p place m lt there g u r.
     let n = count_is c cells t l p.0 in
     let placed : placeable_in b t.entries p.0 p.1 m ≡ true = and_true (may_grow_in b t.entries p.0 p.1) _ g (and_true (accepts_in b t.entries p.0 p.1 m) (has_room_in b.cluster b.sizes t.entries p.0 p.1 m) u r) in
     let none = h.none p.0 p.1 m (omega (arith, lt, n)) there in
     record { never = (let f : ⊥ = cc in f) }))
 
 -- ---- where the search finds none nothing is placeable
-none_of_line : (b : Board) (es : List (Spot × ℕ)) (place : ℕ) (ps : List (ℕ × ℕ)) → candidates_in b es place ps ≡ [] → (a u m : ℕ) → has_pair (a, u) ps ≡ true → nat_lt m (length b.cluster.machines) ≡ true → placeable_in b es a u m ≡ false
+none_of_line : (b : Board) (es : Table) (place : ℕ) (ps : List Pair) → candidates_in b es place ps ≡ [] → (a u m : ℕ) → has_pair (a, u) ps ≡ true → nat_lt m (length b.cluster.machines) ≡ true → placeable_in b es a u m ≡ false
 none_of_line b es place [] e a u m has there = cc
 none_of_line b es place (p ∷ ps) e a u m has there =
     let parts = both_empty (elim (may_grow_in b es p.0 p.1) as (λ _. List Ranked) [ true ↦ places_in b es place p | false ↦ [] ]) (candidates_in b es (place + 1) ps) e in
@@ -87,7 +88,7 @@ none_of_line b es place (p ∷ ps) e a u m has there =
             | true ↦ λ none. none_passes (λ m. accepts_in b es p.0 p.1 m && has_room_in b.cluster b.sizes es p.0 p.1 m) m (below (length b.cluster.machines)) (mapped_empty (ranked_in b es place p) _ none) (in_below (length b.cluster.machines) m there)
             | false ↦ λ _. refl
           ] parts.0 in
-          subst (λ (q : ℕ × ℕ). placeable_in b es q.0 q.1 m ≡ false) (λ i. (sym (number_is a p.0 eqs.0) i, sym (number_is u p.1 eqs.1) i)) here
+          subst (λ (q : Pair). placeable_in b es q.0 q.1 m ≡ false) (λ i. (sym (number_is a p.0 eqs.0) i, sym (number_is u p.1 eqs.1) i)) here
       | false ↦ λ t has. none_of_line b es (place + 1) ps parts.1 a u m has there
     ] refl has
 
@@ -96,7 +97,7 @@ no_candidates [] e = refl
 no_candidates (r ∷ rs) e = cc
 
 -- a line that is up to date has all that may be placed
-pub idle_found : (cells : List (List Cell)) (o : List Bool) (t : TableRecord) (line : List (ℕ × ℕ)) → ((a u : ℕ) → has_pair (a, u) line ≡ (nat_lt u (unit_count (as_known t.jobs) a) && nat_lt 0 (out_of (asks_in cells) t.entries a u)))
+pub idle_found : (cells : List (List Cell)) (o : List Bool) (t : TableRecord) (line : List Pair) → ((a u : ℕ) → has_pair (a, u) line ≡ (nat_lt u (unit_count (as_known t.jobs) a) && nat_lt 0 (out_of (asks_in cells) t.entries a u)))
     → first_in (board_over cells o t) t.entries line ≡ None → IsIdle cells o t
 idle_found cells o t line up e = record {
   none = λ a u m lt there. elim (nat_lt 0 (out_of (asks_in cells) t.entries a u)) as (λ w. nat_lt 0 (out_of (asks_in cells) t.entries a u) ≡ w → placeable_in (board_over cells o t) t.entries a u m ≡ false) [
@@ -145,7 +146,7 @@ opens_none o n usable was lt is stays m e = by (nat_eq n m) refl (sym (one_set o
 pub idle_opened : (cells : List (List Cell)) (o : List Bool) (t : TableRecord) (n : ℕ) (usable was : Bool) → n < length o → was ≡ get_or o n false → (not usable || was) ≡ true → IsIdle cells o t → IsIdle cells (set o n usable) t
 idle_opened cells o t n usable was lt is stays h = opened_less cells o (set o n usable) t h (opens_none o n usable was lt is stays)
 
-pub quiet_opened : (cells : List (List Cell)) (o o' : List Bool) (line : List (ℕ × ℕ)) (turns : ℕ) (marks : List MarkRecord) (t : TableRecord) → ((m : ℕ) → get_or o' m false ≡ true → get_or o m false ≡ true) → IsQuiet cells o line turns marks t → IsQuiet cells o' line turns marks t
+pub quiet_opened : (cells : List (List Cell)) (o o' : List Bool) (line : List Pair) (turns : ℕ) (marks : List MarkRecord) (t : TableRecord) → ((m : ℕ) → get_or o' m false ≡ true → get_or o m false ≡ true) → IsQuiet cells o line turns marks t → IsQuiet cells o' line turns marks t
 quiet_opened cells o o' line turns marks t less h = record { settled = λ m e. h.settled m (less m e); waiting = h.waiting }
 
 none_still : (x y : ℕ) → (0 < x → 0 < y) → not (nat_lt 0 y) ≡ true → not (nat_lt 0 x) ≡ true
@@ -275,11 +276,7 @@ module _ (j : JobRecord) (cells cells' : List (List Cell)) (o : List Bool) (t : 
   same a f = found a ∙ ap (λ b. cond b (Some (record { job = j; ended = false })) (job_of old a)) f
 
   none_before : (a : ℕ) → nat_eq j.number a ≡ true → job_of old a ≡ None
-  none_before a e = subst (λ n. job_of old n ≡ None) (number_is j.number a e) (by (job_of old j.number) new)
-    where
-      by : (k : Option KnownJob) → is_some k ≡ false → k ≡ None
-      by None h = refl
-      by (Some k) h = cc
+  none_before a e = subst (λ n. job_of old n ≡ None) (number_is j.number a e) (none_is (job_of old j.number) new)
 
   -- one place of a unit's size, and its greatest number per machine, of a job that may be there
   abbrev size_of : Option KnownJob → ℕ → ℕ → ℕ
@@ -357,16 +354,16 @@ module _ (j : JobRecord) (cells cells' : List (List Cell)) (o : List Bool) (t : 
   }
 
   -- a pair of the line is of another job
-  apart_in : (line : List (ℕ × ℕ)) → AreAdmitted cells line → (a u : ℕ) → has_pair (a, u) line ≡ true → nat_eq j.number a ≡ false
+  apart_in : (line : List Pair) → AreAdmitted cells line → (a u : ℕ) → has_pair (a, u) line ≡ true → nat_eq j.number a ≡ false
   apart_in line admitted a u has = elim (nat_eq j.number a) as (λ b. nat_eq j.number a ≡ b → b ≡ false) [
-    | true ↦ λ b. let p = place_of (a, u) line has in let l = all_at (λ (p : ℕ × ℕ). p.1 < length (get_or cells p.0 [])) line p.place (a, u) admitted p.at in let z = ap length (subst (λ n. get_or cells n [] ≡ []) (number_is j.number a b) empty) in absurd (omega (arith, l, z))
+    | true ↦ λ b. let p = place_of (a, u) line has in let l = all_at (λ (p : Pair). p.1 < length (get_or cells p.0 [])) line p.place (a, u) admitted p.at in let z = ap length (subst (λ n. get_or cells n [] ≡ []) (number_is j.number a b) empty) in absurd (omega (arith, l, z))
     | false ↦ λ _. refl
   ] refl
 
-  pub clear_admitted : (line : List (ℕ × ℕ)) (marks : List MarkRecord) → AreAdmitted cells line → IsClear o line marks t → IsClear o line marks with_job
+  pub clear_admitted : (line : List Pair) (marks : List MarkRecord) → AreAdmitted cells line → IsClear o line marks t → IsClear o line marks with_job
   clear_admitted line marks admitted h = record { clear = λ allowed m g opened. h.clear (λ a u has. still_allowed a u (apart_in line admitted a u has) (allowed a u has)) m g opened }
 
-  pub kept_admitted : (line : List (ℕ × ℕ)) (turns : ℕ) (k : KeptRecord) → AreAdmitted cells line → IsKept cells o line turns k t → IsKept cells' o line turns k (record t { jobs = with_admitted j t.jobs })
+  pub kept_admitted : (line : List Pair) (turns : ℕ) (k : KeptRecord) → AreAdmitted cells line → IsKept cells o line turns k t → IsKept cells' o line turns k (record t { jobs = with_admitted j t.jobs })
   kept_admitted line turns k admitted h = record {
     bounds = λ m a u opened has lt. bounded_later (board_over cells o t) (board_over cells' o (record t { jobs = with_admitted j t.jobs })) t.entries t.entries (a, u) m
         (admitted_later a u m (apart_in line admitted a u has)) (mark_at k.marks m).bound (mark_at k.marks m).groups (turn_at k.turn_of a u) (h.bounds m a u opened has lt);
@@ -382,7 +379,7 @@ module _ (j : JobRecord) (cells cells' : List (List Cell)) (o : List Bool) (t : 
       let none : out_of (asks_in cells') t.entries a u ≤ 0 = omega (arith, z) in
       grind (arith, nat_tests, none)
 
-  pub quiet_admitted : (line : List (ℕ × ℕ)) (turns : ℕ) (marks : List MarkRecord) → IsQuiet cells o line turns marks t → IsQuiet cells' o line turns marks with_job
+  pub quiet_admitted : (line : List Pair) (turns : ℕ) (marks : List MarkRecord) → IsQuiet cells o line turns marks t → IsQuiet cells' o line turns marks with_job
   quiet_admitted line turns marks h = record {
     settled = h.settled;
     waiting = λ a u lt some. elim (nat_eq j.number a) as (λ b. nat_eq j.number a ≡ b → has_pair (a, u) line ≡ true) [
@@ -393,7 +390,7 @@ module _ (j : JobRecord) (cells cells' : List (List Cell)) (o : List Bool) (t : 
   }
 
   -- the others wait as they did
-  pub still_admitted : (calm calm' : List Bool) → ((b : ℕ) → get_or calm' b false ≡ (not (nat_eq j.number b) && get_or calm b false)) → (line : List (ℕ × ℕ)) → IsStill cells line calm t → IsStill cells' line calm' with_job
+  pub still_admitted : (calm calm' : List Bool) → ((b : ℕ) → get_or calm' b false ≡ (not (nat_eq j.number b) && get_or calm b false)) → (line : List Pair) → IsStill cells line calm t → IsStill cells' line calm' with_job
   still_admitted calm calm' less line h = still_asked calm calm' j.number less cells cells' line t with_job (λ b k _. asks b k) refl (λ b f. ap (λ k. length (unwrap_or (option_map (λ (k : KnownJob). k.job.units) k) [])) (same b f)) h
 
   -- nothing is out of the job, and of the others nothing that was not

@@ -8,10 +8,10 @@ use Rattle.std.proofs.lemmas.Bool.Decides.{nat_tests}
 use Rattle.std.proofs.Math.ListN.{get_or-eq_default}
 use Rattle.fuxi_terms.specs.Cluster.{ClusterRecord, rack_of}
 use Rattle.fuxi_terms.specs.Counts.{count, set_count}
-use Rattle.fuxi_terms.specs.Keys.{Spot, spot_cmp}
+use Rattle.fuxi_terms.specs.Keys.{spot_cmp, Pair}
 use Rattle.fuxi_terms.specs.declared.Key.{Key}
 use Rattle.fuxi_terms.specs.Jobs.{group_of, most_of}
-use Rattle.fuxi_terms.specs.Tables.{spot, held, held_on}
+use Rattle.fuxi_terms.specs.Tables.{spot, held, held_on, Table}
 use Rattle.fuxi_terms.proofs.Alls.{all_append, all_filter, all_more}
 use Rattle.fuxi_terms.proofs.Booleans.{both_true, and_true, number_is, nat_itself}
 use Rattle.fuxi_terms.proofs.Sums.{sum_set}
@@ -29,82 +29,82 @@ use Rattle.place_pass.proofs.BoundsAfterChange.{granted_later, taken_bounds}
 use Rattle.fuxi_terms.proofs.IndexedLists.{one_set}
 
 -- ---- turns along a line
-pub rises_filter : (f : ℕ × ℕ → ℕ) (q : ℕ × ℕ → Bool) (xs : List (ℕ × ℕ)) → Rises f xs → Rises f (filter q xs)
+pub rises_filter : (f : Pair → ℕ) (q : Pair → Bool) (xs : List Pair) → Rises f xs → Rises f (filter q xs)
 rises_filter f q [] h = tt
 rises_filter f q (x ∷ xs) h = elim (q x) as (λ b. Rises f (cond b (x ∷ filter q xs) (filter q xs))) [
-  | true ↦ (all_filter (λ (y : ℕ × ℕ). f x < f y) q xs h.0, rises_filter f q xs h.1)
+  | true ↦ (all_filter (λ (y : Pair). f x < f y) q xs h.0, rises_filter f q xs h.1)
   | false ↦ rises_filter f q xs h.1
 ]
 
-has_later : (p x : ℕ × ℕ) (xs : List (ℕ × ℕ)) → has_pair p xs ≡ true → has_pair p (x ∷ xs) ≡ true
+has_later : (p x : Pair) (xs : List Pair) → has_pair p xs ≡ true → has_pair p (x ∷ xs) ≡ true
 has_later p x xs h = or_later (same_pair p x) (has_pair p xs) h
   where
     or_later : (b c : Bool) → c ≡ true → (b || c) ≡ true
     or_later true c h = refl
     or_later false c h = h
 
-all_had : (P : ℕ × ℕ → Type 0) (xs : List (ℕ × ℕ)) → ((p : ℕ × ℕ) → has_pair p xs ≡ true → P p) → AllByRecursion P xs
+all_had : (P : Pair → Type 0) (xs : List Pair) → ((p : Pair) → has_pair p xs ≡ true → P p) → AllByRecursion P xs
 all_had P [] h = tt
 all_had P (x ∷ xs) h = (h x (ap (λ b. b || has_pair x xs) (pair_self x)), all_had P xs (λ p e. h p (has_later p x xs e)))
 
-one_had : (P : ℕ × ℕ → Type 0) (xs : List (ℕ × ℕ)) → AllByRecursion P xs → (p : ℕ × ℕ) → has_pair p xs ≡ true → P p
+one_had : (P : Pair → Type 0) (xs : List Pair) → AllByRecursion P xs → (p : Pair) → has_pair p xs ≡ true → P p
 one_had P [] h p e = cc
 one_had P (x ∷ xs) h p e = elim (same_pair p x) as (λ b. same_pair p x ≡ b → (b || has_pair p xs) ≡ true → P p) [
   | true ↦ λ t _. let b = both_true (nat_eq p.0 x.0) (nat_eq p.1 x.1) t in subst P (λ i. (sym (number_is p.0 x.0 b.0) i, sym (number_is p.1 x.1 b.1) i)) h.0
   | false ↦ λ _ e. one_had P xs h.1 p e
 ] refl e
 
-pub rises_same : (f g : ℕ × ℕ → ℕ) (xs : List (ℕ × ℕ)) → ((p : ℕ × ℕ) → has_pair p xs ≡ true → g p ≡ f p) → Rises f xs → Rises g xs
+pub rises_same : (f g : Pair → ℕ) (xs : List Pair) → ((p : Pair) → has_pair p xs ≡ true → g p ≡ f p) → Rises f xs → Rises g xs
 rises_same f g [] e h = tt
 rises_same f g (x ∷ xs) e h = (
-  all_had (λ (q : ℕ × ℕ). g x < g q) xs (λ p has. let a = e x (ap (λ b. b || has_pair x xs) (pair_self x)) in let b = e p (has_later p x xs has) in let l = one_had (λ (q : ℕ × ℕ). f x < f q) xs h.0 p has in omega (arith, a, b, l)),
+  all_had (λ (q : Pair). g x < g q) xs (λ p has. let a = e x (ap (λ b. b || has_pair x xs) (pair_self x)) in let b = e p (has_later p x xs has) in let l = one_had (λ (q : Pair). f x < f q) xs h.0 p has in omega (arith, a, b, l)),
   rises_same f g xs (λ p has. e p (has_later p x xs has)) h.1,
 )
 
-rises_append : (f : ℕ × ℕ → ℕ) (n : ℕ) (xs ys : List (ℕ × ℕ)) → Rises f xs → ((p : ℕ × ℕ) → has_pair p xs ≡ true → f p < n) → Rises f ys → AllByRecursion (λ (q : ℕ × ℕ). n ≤ f q) ys → Rises f (xs ++ ys)
+rises_append : (f : Pair → ℕ) (n : ℕ) (xs ys : List Pair) → Rises f xs → ((p : Pair) → has_pair p xs ≡ true → f p < n) → Rises f ys → AllByRecursion (λ (q : Pair). n ≤ f q) ys → Rises f (xs ++ ys)
 rises_append f n [] ys h lt k ge = k
 rises_append f n (x ∷ xs) ys h lt k ge =
     let l = lt x (ap (λ b. b || has_pair x xs) (pair_self x)) in (
-      all_append (λ (q : ℕ × ℕ). f x < f q) xs ys h.0 (all_more (λ (q : ℕ × ℕ). n ≤ f q) (λ (q : ℕ × ℕ). f x < f q) (λ q g. omega (arith, l, g)) ys ge),
+      all_append (λ (q : Pair). f x < f q) xs ys h.0 (all_more (λ (q : Pair). n ≤ f q) (λ (q : Pair). f x < f q) (λ q g. omega (arith, l, g)) ys ge),
       rises_append f n xs ys h.1 (λ p has. lt p (has_later p x xs has)) k ge,
     )
 
-numbered_least : (f : ℕ × ℕ → ℕ) (n k : ℕ) (xs : List (ℕ × ℕ)) → k ≤ n → Numbered f n xs → AllByRecursion (λ (q : ℕ × ℕ). k ≤ f q) xs
+numbered_least : (f : Pair → ℕ) (n k : ℕ) (xs : List Pair) → k ≤ n → Numbered f n xs → AllByRecursion (λ (q : Pair). k ≤ f q) xs
 numbered_least f n k [] le h = tt
 numbered_least f n k (x ∷ xs) le h = let e = h.0 in (omega (arith, le, e), numbered_least f (n + 1) k xs (omega (arith, le)) h.1)
 
-numbered_most : (f : ℕ × ℕ → ℕ) (n k : ℕ) (xs : List (ℕ × ℕ)) → n + length xs ≤ k → Numbered f n xs → AllByRecursion (λ (q : ℕ × ℕ). f q < k) xs
+numbered_most : (f : Pair → ℕ) (n k : ℕ) (xs : List Pair) → n + length xs ≤ k → Numbered f n xs → AllByRecursion (λ (q : Pair). f q < k) xs
 numbered_most f n k [] le h = tt
 numbered_most f n k (x ∷ xs) le h = let e = h.0 in (omega (arith, le, e), numbered_most f (n + 1) k xs (omega (arith, le)) h.1)
 
-numbered_rises : (f : ℕ × ℕ → ℕ) (n : ℕ) (xs : List (ℕ × ℕ)) → Numbered f n xs → Rises f xs
+numbered_rises : (f : Pair → ℕ) (n : ℕ) (xs : List Pair) → Numbered f n xs → Rises f xs
 numbered_rises f n [] h = tt
-numbered_rises f n (x ∷ xs) h = let e = h.0 in (all_more (λ (q : ℕ × ℕ). n + 1 ≤ f q) (λ (q : ℕ × ℕ). f x < f q) (λ q g. omega (arith, e, g)) xs (numbered_least f (n + 1) (n + 1) xs (omega arith) h.1), numbered_rises f (n + 1) xs h.1)
+numbered_rises f n (x ∷ xs) h = let e = h.0 in (all_more (λ (q : Pair). n + 1 ≤ f q) (λ (q : Pair). f x < f q) (λ q g. omega (arith, e, g)) xs (numbered_least f (n + 1) (n + 1) xs (omega arith) h.1), numbered_rises f (n + 1) xs h.1)
 
 -- ---- a line that loses pairs, and to which others are appended with new turns
-pub kept_lined : (cells : List (List Cell)) (o : List Bool) (line front joined : List (ℕ × ℕ)) (turns : ℕ) (k : KeptRecord) (t : TableRecord) (turn_of : List ℕ) (q : ℕ × ℕ → Bool)
-    → front ≡ filter q line → ((p : ℕ × ℕ) → has_pair p joined ≡ true → has_pair p line ≡ false) → Numbered (λ (p : ℕ × ℕ). turn_at turn_of p.0 p.1) turns joined
+pub kept_lined : (cells : List (List Cell)) (o : List Bool) (line front joined : List Pair) (turns : ℕ) (k : KeptRecord) (t : TableRecord) (turn_of : List ℕ) (q : Pair → Bool)
+    → front ≡ filter q line → ((p : Pair) → has_pair p joined ≡ true → has_pair p line ≡ false) → Numbered (λ (p : Pair). turn_at turn_of p.0 p.1) turns joined
     → ((a u : ℕ) → has_pair (a, u) line ≡ true → has_pair (a, u) joined ≡ false → turn_at turn_of a u ≡ turn_at k.turn_of a u)
     → IsKept cells o line turns k t → IsKept cells o (front ++ joined) (turns + length joined) (record k { turn_of = turn_of }) t
 kept_lined cells o line front joined turns k t turn_of q is new numbered same h = record {
   bounds = λ m a u opened has lt. elim (either_one (has_pair (a, u) front) (has_pair (a, u) joined) (sym (any_append (same_pair (a, u)) front joined) ∙ has)) [
     | inl old ↦ let e = stays a u old in subst (λ z. IsBounded (board_over cells o t) t.entries (mark_at k.marks m).bound (mark_at k.marks m).groups z (a, u) m) (sym e) (h.bounds m a u opened (was (a, u) old) (subst (λ z. z < (mark_at k.marks m).until) e lt))
-    | inr late ↦ let ge = one_had (λ (p : ℕ × ℕ). turns ≤ turn_at turn_of p.0 p.1) joined (numbered_least f turns turns joined (omega arith) numbered) (a, u) late in let le = h.until m opened in absurd (omega (arith, ge, le, lt))
+    | inr late ↦ let ge = one_had (λ (p : Pair). turns ≤ turn_at turn_of p.0 p.1) joined (numbered_least f turns turns joined (omega arith) numbered) (a, u) late in let le = h.until m opened in absurd (omega (arith, ge, le, lt))
   ];
   until = λ m opened. let le = h.until m opened in omega (arith, le);
-  rises = rising f (front ++ joined) (rises_append f turns front joined (rises_same (λ (p : ℕ × ℕ). turn_at k.turn_of p.0 p.1) f front (λ p has. stays p.0 p.1 has) (subst (Rises (λ (p : ℕ × ℕ). turn_at k.turn_of p.0 p.1)) (sym is) (rises_filter (λ (p : ℕ × ℕ). turn_at k.turn_of p.0 p.1) q line (rising_all (λ (p : ℕ × ℕ). turn_at k.turn_of p.0 p.1) line h.rises))))
+  rises = rising f (front ++ joined) (rises_append f turns front joined (rises_same (λ (p : Pair). turn_at k.turn_of p.0 p.1) f front (λ p has. stays p.0 p.1 has) (subst (Rises (λ (p : Pair). turn_at k.turn_of p.0 p.1)) (sym is) (rises_filter (λ (p : Pair). turn_at k.turn_of p.0 p.1) q line (rising_all (λ (p : Pair). turn_at k.turn_of p.0 p.1) line h.rises))))
       (λ p has. let e = stays p.0 p.1 has in let lt = h.below p.0 p.1 (was p has) in omega (arith, e, lt)) (numbered_rises f turns joined numbered) (numbered_least f turns turns joined (omega arith) numbered));
   below = λ a u has. elim (either_one (has_pair (a, u) front) (has_pair (a, u) joined) (sym (any_append (same_pair (a, u)) front joined) ∙ has)) [
     | inl old ↦ let e = stays a u old in let lt = h.below a u (was (a, u) old) in omega (arith, e, lt)
-    | inr late ↦ one_had (λ (p : ℕ × ℕ). turn_at turn_of p.0 p.1 < turns + length joined) joined (numbered_most f turns (turns + length joined) joined (omega arith) numbered) (a, u) late
+    | inr late ↦ one_had (λ (p : Pair). turn_at turn_of p.0 p.1 < turns + length joined) joined (numbered_most f turns (turns + length joined) joined (omega arith) numbered) (a, u) late
   ];
   held = h.held;
 }
   where
-    f : ℕ × ℕ → ℕ
+    f : Pair → ℕ
     f p = turn_at turn_of p.0 p.1
 
-    was : (p : ℕ × ℕ) → has_pair p front ≡ true → has_pair p line ≡ true
+    was : (p : Pair) → has_pair p front ≡ true → has_pair p line ≡ true
     was p has = (both_true (has_pair p line) (q p) (sym (has_filter q p line) ∙ ap (has_pair p) (sym is) ∙ has)).0
 
     apart : (a u : ℕ) → has_pair (a, u) line ≡ true → has_pair (a, u) joined ≡ false
@@ -114,8 +114,8 @@ kept_lined cells o line front joined turns k t turn_of q is new numbered same h 
     stays a u has = let w = was (a, u) has in same a u w (apart a u w)
 
 -- ---- a change of the table is told
-module _ (cells : List (List Cell)) (o : List Bool) (line line' : List (ℕ × ℕ)) (turns n : ℕ) (k : KeptRecord) (marks : List MarkRecord) (fewer : (p : ℕ × ℕ) → has_pair p line' ≡ true → has_pair p line ≡ true)
-    (rises : Rises (λ (p : ℕ × ℕ). turn_at k.turn_of p.0 p.1) line') (there : (j : ℕ) → get_or o j false ≡ true → j < n) where
+module _ (cells : List (List Cell)) (o : List Bool) (line line' : List Pair) (turns n : ℕ) (k : KeptRecord) (marks : List MarkRecord) (fewer : (p : Pair) → has_pair p line' ≡ true → has_pair p line ≡ true)
+    (rises : Rises (λ (p : Pair). turn_at k.turn_of p.0 p.1) line') (there : (j : ℕ) → get_or o j false ≡ true → j < n) where
   abbrev MarksTold : TableRecord → ℕ → ℕ → ℕ → Type 0
   MarksTold t a u m = (j : ℕ) → j < n → mark_at marks j ≡ cond (nat_lt (held t.entries a u) (get_or k.held (a * 8 + u) 0))
       (after_taking t.cluster (group_of (as_known t.jobs) a) m (is_nearer_in (board_over cells o t) t.entries (spot a u m)) j (mark_at k.marks j)) (mark_at k.marks j)
@@ -135,7 +135,7 @@ module _ (cells : List (List Cell)) (o : List Bool) (line line' : List (ℕ × �
     | false ↦ λ t f. let d : a ≢ b = grind (arith, nat_tests, t) in let ne : (a * 8 + u) ≢ (b * 8 + v) = omega (arith, d, lu, lv) in grind (arith, nat_tests, ne)
   ] refl e
 
-  record IsTold (t : TableRecord) (es : List (Spot × ℕ)) (a u m : ℕ) (x : Bool) : Type 0 where
+  record IsTold (t : TableRecord) (es : Table) (a u m : ℕ) (x : Bool) : Type 0 where
     until : (j : ℕ) → (cond x (after_taking t.cluster (group_of (as_known t.jobs) a) m (is_nearer_in (board_over cells o t) es (spot a u m)) j (mark_at k.marks j)) (mark_at k.marks j)).until ≡ (mark_at k.marks j).until
     bounds : (j b v : ℕ) → IsBounded (board_over cells o t) t.entries (mark_at k.marks j).bound (mark_at k.marks j).groups (turn_at k.turn_of b v) (b, v) j
         → IsBounded (board_over cells o t) es (cond x (after_taking t.cluster (group_of (as_known t.jobs) a) m (is_nearer_in (board_over cells o t) es (spot a u m)) j (mark_at k.marks j)) (mark_at k.marks j)).bound
@@ -153,7 +153,7 @@ module _ (cells : List (List Cell)) (o : List Bool) (line line' : List (ℕ × �
         let old = h.bounds j b v opened (fewer (b, v) has) (subst (λ x. turn_at k.turn_of b v < x) (ap (λ (x : MarkRecord). x.until) is ∙ e) lt) in
         subst (λ (x : MarkRecord). IsBounded (board_over cells o t) es x.bound x.groups (turn_at k.turn_of b v) (b, v) j) (sym is) (f.bounds j b v old);
     until = λ j opened. subst (λ x. x ≤ turns) (sym (ap (λ (x : MarkRecord). x.until) (told j (there j opened)) ∙ (fell (nat_lt (held es a u) (get_or k.held (a * 8 + u) 0)) refl).until j)) (h.until j opened);
-    rises = rising (λ (p : ℕ × ℕ). turn_at k.turn_of p.0 p.1) line' rises;
+    rises = rising (λ (p : Pair). turn_at k.turn_of p.0 p.1) line' rises;
     below = λ b v has. h.below b v (fewer (b, v) has);
     held = λ b v lb lv. one_set k.held (a * 8 + u) (b * 8 + v) (held es a u) 0 (omega (arith, la, lu, long)) ∙ elim (nat_eq a b && nat_eq u v) as (λ x. (nat_eq a b && nat_eq u v) ≡ x → cond (nat_eq (a * 8 + u) (b * 8 + v)) (held es a u) (get_or k.held (b * 8 + v) 0) ≡ held es b v) [
       | true ↦ λ x.
@@ -165,7 +165,7 @@ module _ (cells : List (List Cell)) (o : List Bool) (line line' : List (ℕ × �
     ] refl;
   }
     where
-      es : List (Spot × ℕ)
+      es : Table
       es = set_count spot_cmp t.entries (spot a u m) number
 
       none : (x : Bool) → ◌≡◌ {A = ℕ} (cond x 0 0) 0
@@ -213,7 +213,7 @@ module _ (cells : List (List Cell)) (o : List Bool) (line line' : List (ℕ × �
       (λ told. kept_set before a u m is.number is.sound.counts.sorted la lu long told h) told
 
 -- ---- what is asked, and what is open
-module _ (cells cells' : List (List Cell)) (o o' : List Bool) (line : List (ℕ × ℕ)) (turns : ℕ) (k : KeptRecord) (t : TableRecord) where
+module _ (cells cells' : List (List Cell)) (o o' : List Bool) (line : List Pair) (turns : ℕ) (k : KeptRecord) (t : TableRecord) where
   -- each mark is reset, or lowered where no machine is opened to a unit
   pub kept_demanded : (marks : List MarkRecord)
       → ((m : ℕ) → get_or o' m false ≡ true → (mark_at marks m ≡ reset_mark (mark_at k.marks m).until) ⊎ ((mark_at marks m ≡ lowered_mark (mark_at k.marks m)) × ((a u : ℕ) → is_open_to cells' o' a u m ≡ true → is_open_to cells o a u m ≡ true)))
@@ -236,7 +236,7 @@ module _ (cells cells' : List (List Cell)) (o o' : List Bool) (line : List (ℕ 
   }
 
 -- a mark that notes no group any more, where each pair of the line is allowed
-pub kept_forgotten : (cells : List (List Cell)) (o : List Bool) (line : List (ℕ × ℕ)) (turns : ℕ) (k : KeptRecord) (t : TableRecord) (marks : List MarkRecord)
+pub kept_forgotten : (cells : List (List Cell)) (o : List Bool) (line : List Pair) (turns : ℕ) (k : KeptRecord) (t : TableRecord) (marks : List MarkRecord)
     → ((m : ℕ) → get_or o m false ≡ true → (mark_at marks m ≡ mark_at k.marks m) ⊎ IsForgotten t line (mark_at k.marks m) (mark_at marks m)) → IsKept cells o line turns k t → IsKept cells o line turns (record k { marks = marks }) t
 kept_forgotten cells o line turns k t marks is h = record {
   bounds = λ m a u opened has lt. elim (is m opened) [
@@ -254,7 +254,7 @@ kept_forgotten cells o line turns k t marks is h = record {
   held = h.held;
 }
 
-pub forgotten_key : (turns : ℕ) (t : TableRecord) (line : List (ℕ × ℕ)) (k k' : MarkRecord) → (k' ≡ k) ⊎ IsForgotten t line k k' → key_of k' turns ≡ key_of k turns
+pub forgotten_key : (turns : ℕ) (t : TableRecord) (line : List Pair) (k k' : MarkRecord) → (k' ≡ k) ⊎ IsForgotten t line k k' → key_of k' turns ≡ key_of k turns
 forgotten_key turns t line k k' (inl same) = ap (λ x. key_of x turns) same
 forgotten_key turns t line k k' (inr new) = ap (λ x. key_of x turns) new.is
 
@@ -265,7 +265,7 @@ told_asked es xs m k k' P a f = elim a.lifted as (λ b. a.lifted ≡ b → (k' �
 ] refl
 
 -- a machine is opened or closed, and its mark is as at the start
-pub kept_opened : (cells : List (List Cell)) (o o' : List Bool) (line : List (ℕ × ℕ)) (turns : ℕ) (k : KeptRecord) (t : TableRecord) (marks : List MarkRecord)
+pub kept_opened : (cells : List (List Cell)) (o o' : List Bool) (line : List Pair) (turns : ℕ) (k : KeptRecord) (t : TableRecord) (marks : List MarkRecord)
     → ((m : ℕ) → get_or o' m false ≡ true → (mark_at marks m ≡ reset_mark 0) ⊎ ((get_or o m false ≡ true) × (mark_at marks m ≡ mark_at k.marks m))) → IsKept cells o line turns k t → IsKept cells o' line turns (record k { marks = marks }) t
 kept_opened cells o o' line turns k t marks is h = record {
   bounds = λ m a u opened has lt. elim (is m opened) [

@@ -25,6 +25,7 @@ mod StillLemmas
 mod AskedLemmas
 mod PathLemmas
 mod DemandWalksLemmas
+mod AskedTheSame
 mod NextOfKind
 mod PlainLemmas
 mod ScenesLemmas

@@ -4,10 +4,11 @@ use Rattle.std.specs.Prelude.{◌&&◌}
 use Rattle.std.proofs.lemmas.List.{length-append}
 use Rattle.std.proofs.Math.Seq.{take-append_seam}
 use Rattle.fuxi_terms.specs.Cluster.{ClusterRecord}
-use Rattle.fuxi_terms.specs.Keys.{Spot}
+use Rattle.fuxi_terms.specs.Keys.{Pair}
 use Rattle.fuxi_terms.proofs.Alls.{all_filter}
 use Rattle.fuxi_terms.proofs.Booleans.{both_true}
 use Rattle.fuxi_terms.proofs.Lists.{all_at}
+use Rattle.fuxi_terms.specs.Tables.{Table}
 use Rattle.written_roles.specs.Placing.{has_pair}
 use Rattle.grant_table.specs.GrantTables.{TableRecord}
 use Rattle.locality_tree.specs.Trees.{TreeRecord, unit_at, is_admitted}
@@ -26,22 +27,22 @@ use Rattle.place_pass.proofs.StandsAfterChange.{holds_turned}
 use Rattle.place_pass.proofs.StillLemmas.{joined_is, others_stay}
 
 -- a line loses those that do not pass a test, and who passes it and was not there goes last, with a turn of its own
-pub record IsLinedUp (line front all other : List (ℕ × ℕ)) (stayed : ℕ) (q : ℕ × ℕ → Bool) (k : KeptRecord) (turn_of : List ℕ) : Type 0 where
+pub record IsLinedUp (line front all other : List Pair) (stayed : ℕ) (q : Pair → Bool) (k : KeptRecord) (turn_of : List ℕ) : Type 0 where
   pub kept : front ≡ filter q line
-  pub waits : (p : ℕ × ℕ) → has_pair p all ≡ true → q p ≡ true
+  pub waits : (p : Pair) → has_pair p all ≡ true → q p ≡ true
   pub appended : other ≡ front ++ filter (λ p. not (has_pair p front)) all
   pub long : stayed ≡ length front
   pub small : (a u : ℕ) → has_pair (a, u) line ≡ true → u < 8
   pub others : (a u : ℕ) → u < 8 → ((i : ℕ) → stayed ≤ i → slice_get other i ≡ Some (a, u) → ⊥) → turn_at turn_of a u ≡ turn_at k.turn_of a u
 
-module _ {line front all other : List (ℕ × ℕ)} {stayed : ℕ} {q : ℕ × ℕ → Bool} {k : KeptRecord} {turn_of : List ℕ} (up : IsLinedUp line front all other stayed q k turn_of) where
-  abbrev joined : List (ℕ × ℕ)
+module _ {line front all other : List Pair} {stayed : ℕ} {q : Pair → Bool} {k : KeptRecord} {turn_of : List ℕ} (up : IsLinedUp line front all other stayed q k turn_of) where
+  abbrev joined : List Pair
   joined = filter (λ p. not (has_pair p line)) all
 
   pub lined_is : other ≡ front ++ filter (λ p. not (has_pair p line)) all
   lined_is = joined_is line front all other q up.kept up.waits up.appended
 
-  not_had : (p : ℕ × ℕ) → has_pair p joined ≡ true → has_pair p line ≡ false
+  not_had : (p : Pair) → has_pair p joined ≡ true → has_pair p line ≡ false
   not_had p has = new (has_pair p line) (has_pair p all) (sym (has_filter (λ p. not (has_pair p line)) p all) ∙ has)
     where
       new : (x y : Bool) → (y && not x) ≡ true → x ≡ false
@@ -54,13 +55,13 @@ module _ {line front all other : List (ℕ × ℕ)} {stayed : ℕ} {q : ℕ × �
       let j : has_pair (a, u) joined ≡ true = has_end stayed front joined other lined_is up.long i (a, u) ge e (λ q i g. has_at joined i q g) in
       let f : true ≡ false = sym has ∙ not_had (a, u) j in let g : ⊥ = cc in g)
 
-  pub lined_kept : (cells : List (List Cell)) (o : List Bool) (turns : ℕ) (t : TableRecord) → ((i : ℕ) (p : ℕ × ℕ) → stayed ≤ i → slice_get other i ≡ Some p → turn_at turn_of p.0 p.1 ≡ turns + (i - stayed)) → IsKept cells o line turns k t
+  pub lined_kept : (cells : List (List Cell)) (o : List Bool) (turns : ℕ) (t : TableRecord) → ((i : ℕ) (p : Pair) → stayed ≤ i → slice_get other i ≡ Some p → turn_at turn_of p.0 p.1 ≡ turns + (i - stayed)) → IsKept cells o line turns k t
       → IsKept cells o other (turns + length joined) (record k { turn_of = turn_of }) t
-  lined_kept cells o turns t numbered h = subst (λ (l : List (ℕ × ℕ)). IsKept cells o l (turns + length joined) (record k { turn_of = turn_of }) t) (sym lined_is)
-      (kept_lined cells o line front joined turns k t turn_of q up.kept not_had (numbered_end (λ (p : ℕ × ℕ). turn_at turn_of p.0 p.1) turns stayed front joined other lined_is up.long numbered) (λ a u has _. turns_stay a u has) h)
+  lined_kept cells o turns t numbered h = subst (λ (l : List Pair). IsKept cells o l (turns + length joined) (record k { turn_of = turn_of }) t) (sym lined_is)
+      (kept_lined cells o line front joined turns k t turn_of q up.kept not_had (numbered_end (λ (p : Pair). turn_at turn_of p.0 p.1) turns stayed front joined other lined_is up.long numbered) (λ a u has _. turns_stay a u has) h)
 
   -- those that stay are the first of the new line
-  front_taken : (p : ℕ × ℕ) → has_pair p (take stayed other) ≡ (has_pair p line && q p)
+  front_taken : (p : Pair) → has_pair p (take stayed other) ≡ (has_pair p line && q p)
   front_taken p = ap (λ n. has_pair p (take n other)) up.long ∙ ap (λ l. has_pair p (take (length front) l)) lined_is ∙ ap (has_pair p) (take-append_seam front joined) ∙ ap (has_pair p) up.kept ∙ has_filter q p line
 
   pub front_inside : stayed ≤ length other
@@ -70,27 +71,27 @@ module _ {line front all other : List (ℕ × ℕ)} {stayed : ℕ} {q : ℕ × �
   front_holds c cells t h = holds_same c cells (λ p. has_pair p line && q p) (λ p. has_pair p (take stayed other)) turn_of t (λ a u. front_taken (a, u))
       (holds_turned c cells (λ p. has_pair p line && q p) k.turn_of turn_of t (λ a u w. turns_stay a u (both_true (has_pair (a, u) line) (q (a, u)) w).0) h)
 
-  pub front_stands : (c : ClusterRecord) (cells : List (List Cell)) (es : List (Spot × ℕ)) (t t' : TreeRecord) → t'.racks ≡ t.racks → ((a u : ℕ) → u < 8 → q (a, u) ≡ true → unit_at t' a u ≡ unit_at t a u) → AllStand c cells es line t → AllStand c cells es (take stayed other) t'
+  pub front_stands : (c : ClusterRecord) (cells : List (List Cell)) (es : Table) (t t' : TreeRecord) → t'.racks ≡ t.racks → ((a u : ℕ) → u < 8 → q (a, u) ≡ true → unit_at t' a u ≡ unit_at t a u) → AllStand c cells es line t → AllStand c cells es (take stayed other) t'
   front_stands c cells es t t' racks same h a u has =
       let b = both_true (has_pair (a, u) line) (q (a, u)) (sym (front_taken (a, u)) ∙ has) in
       stands_on c cells es a u t t' racks (same a u (up.small a u b.0) b.1) (h a u b.0)
 
 -- ---- a line that one unit leaves unless it waits
-module _ (line : List (ℕ × ℕ)) (waits : Bool) (a u : ℕ) where
+module _ (line : List Pair) (waits : Bool) (a u : ℕ) where
   pub told_admitted : (cells : List (List Cell)) → AreAdmitted cells line → AreAdmitted cells (cond waits line (filter (λ p. not (nat_eq p.0 a && nat_eq p.1 u)) line))
   told_admitted cells h = elim waits as (λ b. AreAdmitted cells (cond b line (filter (λ p. not (nat_eq p.0 a && nat_eq p.1 u)) line))) [
     | true ↦ h
-    | false ↦ all_filter (λ (p : ℕ × ℕ). p.1 < length (get_or cells p.0 [])) (λ p. not (nat_eq p.0 a && nat_eq p.1 u)) line h
+    | false ↦ all_filter (λ (p : Pair). p.1 < length (get_or cells p.0 [])) (λ p. not (nat_eq p.0 a && nat_eq p.1 u)) line h
   ]
 
-  pub told_rises : (f : ℕ × ℕ → ℕ) → Rises f line → Rises f (cond waits line (filter (λ p. not (nat_eq p.0 a && nat_eq p.1 u)) line))
+  pub told_rises : (f : Pair → ℕ) → Rises f line → Rises f (cond waits line (filter (λ p. not (nat_eq p.0 a && nat_eq p.1 u)) line))
   told_rises f h = elim waits as (λ b. Rises f (cond b line (filter (λ p. not (nat_eq p.0 a && nat_eq p.1 u)) line))) [
     | true ↦ h
     | false ↦ rises_filter f (λ p. not (nat_eq p.0 a && nat_eq p.1 u)) line h
   ]
 
   -- who waits after it waited before, and so do those of other jobs
-  pub told_was : (p : ℕ × ℕ) → has_pair p (cond waits line (filter (λ p. not (nat_eq p.0 a && nat_eq p.1 u)) line)) ≡ true → has_pair p line ≡ true
+  pub told_was : (p : Pair) → has_pair p (cond waits line (filter (λ p. not (nat_eq p.0 a && nat_eq p.1 u)) line)) ≡ true → has_pair p line ≡ true
   told_was p = elim waits as (λ b. has_pair p (cond b line (filter (λ p. not (nat_eq p.0 a && nat_eq p.1 u)) line)) ≡ true → has_pair p line ≡ true) [
     | true ↦ λ has. has
     | false ↦ λ has. (both_true (has_pair p line) _ (sym (has_filter (λ p. not (nat_eq p.0 a && nat_eq p.1 u)) p line) ∙ has)).0
@@ -103,12 +104,12 @@ module _ (line : List (ℕ × ℕ)) (waits : Bool) (a u : ℕ) where
   ]
 
 -- ---- a pair at a place of a line of admitted units
-module _ {c : ClusterRecord} {cells : List (List Cell)} {o : List Bool} (wishes : AreWishes c cells o) (line : List (ℕ × ℕ)) (admitted : AreAdmitted cells line) (i : ℕ) {q : ℕ × ℕ} (at : slice_get line i ≡ Some q) where
+module _ {c : ClusterRecord} {cells : List (List Cell)} {o : List Bool} (wishes : AreWishes c cells o) (line : List Pair) (admitted : AreAdmitted cells line) (i : ℕ) {q : Pair} (at : slice_get line i ≡ Some q) where
   pub here_at : q.1 < length (get_or cells q.0 [])
-  here_at = all_at (λ (p : ℕ × ℕ). p.1 < length (get_or cells p.0 [])) line i q admitted at
+  here_at = all_at (λ (p : Pair). p.1 < length (get_or cells p.0 [])) line i q admitted at
 
   pub placed_at : (q.0 < 256) × (q.1 < 8)
   placed_at = placed c cells o wishes q.0 q.1 here_at
 
-  pub admitted_at : (waits : ℕ × ℕ → Bool) (turns : List ℕ) (t : TreeRecord) → Holds c cells waits turns t → is_admitted t q.0 q.1 ≡ true
+  pub admitted_at : (waits : Pair → Bool) (turns : List ℕ) (t : TreeRecord) → Holds c cells waits turns t → is_admitted t q.0 q.1 ≡ true
   admitted_at waits turns t h = admitted_in c cells waits turns t q.0 q.1 h placed_at.1 here_at

@@ -1,20 +1,17 @@
 -- Marks of which some are noted: what another mark changes, and what is passed.
-use Rattle.std.proofs.Common.{◌≡◌, ◌≢◌, ℕ, ◌+◌, ◌<◌, ◌≤◌, Bool, true, false, cond, nat_eq, nat_lt, List, length, map, set, Option, None, Some, refl, sym, ◌∙◌, ap, arith, inl, inr}
+use Rattle.std.proofs.Common.{◌≡◌, ◌≢◌, ℕ, ◌+◌, ◌<◌, ◌≤◌, Bool, true, false, cond, nat_eq, nat_lt, List, length, map, set, Option, None, Some, sym, ◌∙◌, ap, arith, inl, inr}
 use Rattle.std.specs.Prelude.{◌&&◌, is_some}
 use Rattle.std.proofs.lemmas.Bool.{cases_eq, cases_lt}
 use Rattle.std.proofs.lemmas.Bool.Decides.{nat_tests}
 use Rattle.std.proofs.lemmas.List.{length-map, length-set}
 use Rattle.fuxi_terms.proofs.Booleans.{and_false, nat_itself}
+use Rattle.fuxi_terms.proofs.Lookups.{none_is}
 use Rattle.locality_tree.specs.NumberSets.{in_set}
 use Rattle.locality_tree.specs.declared.number_set.NumberSet.{NumberSet}
 use Rattle.place_pass.specs.declared.marks.Mark.{Mark}
 use Rattle.place_pass.specs.Bounds.{MarkRecord, mark_of, mark_at, key_of, zero_rank, lowered, lowered_mark}
 use Rattle.place_pass.specs.NotedMarks.{AreNoted}
 use Rattle.place_pass.proofs.SightsLemmas.{marks_set}
-
-none_of : (o : Option (List ℕ)) → is_some o ≡ false → o ≡ None
-none_of None e = refl
-none_of (Some x) e = cc
 
 pub none_there : (other opened : Bool) (key : Option (List ℕ)) → key ≡ None → (other && (opened && is_some key)) ≡ false
 none_there other opened key e = ap (λ k. other && (opened && is_some k)) e ∙ ap (λ b. other && b) (and_false opened) ∙ and_false other
@@ -69,7 +66,7 @@ module _ (marks : List Mark) (machine : ℕ) (x : Mark) where
         settled = λ m l out. elim (cases_eq m machine) as (λ _. key_of (mark_at after m) until ≡ None) [
           | inl e ↦
               ap (λ (k : MarkRecord). key_of k until) (marks_set marks machine x m lt ∙ ap (λ t. cond t (mark_of x) (mark_at (map mark_of marks) m)) (ap (λ z. nat_eq machine z) e ∙ nat_itself machine))
-              ∙ none_of (key_of (mark_of x) until) (sym here ∙ ap (in_set news) (sym e) ∙ out)
+              ∙ none_is (key_of (mark_of x) until) (sym here ∙ ap (in_set news) (sym e) ∙ out)
           | inr d ↦
               let f : nat_eq machine m ≡ false = grind (arith, nat_tests, d) in
               ap (λ (k : MarkRecord). key_of k until) (marks_set marks machine x m lt ∙ ap (λ t. cond t (mark_of x) (mark_at (map mark_of marks) m)) f)

@@ -6,7 +6,7 @@ use Rattle.std.proofs.lemmas.Bool.Decides.{nat_tests}
 use Rattle.std.proofs.lemmas.List.{get_or-set_same, get_or-set_other, length-map, length-replicate}
 use Rattle.std.proofs.Math.ListN.{get_or-eq_default}
 use Rattle.fuxi_terms.specs.Cluster.{ClusterRecord, MachineRecord}
-use Rattle.fuxi_terms.specs.Keys.{Spot}
+use Rattle.fuxi_terms.specs.Keys.{Pair}
 use Rattle.fuxi_terms.proofs.Booleans.{number_is, or_false, or_right}
 use Rattle.fuxi_terms.proofs.Lists.{take_last}
 use Rattle.written_roles.specs.Placing.{has_pair}
@@ -19,6 +19,7 @@ use Rattle.place_pass.specs.PlacerTrees.{entry_for, Holds, StandsAs, WaitsIn, Re
 use Rattle.place_pass.proofs.WaitingLinesLemmas.{any_append, pair_is, pair_self}
 use Rattle.place_pass.proofs.SightsLemmas.{place_of, same_place}
 use Rattle.fuxi_terms.proofs.IndexedLists.{one_set}
+use Rattle.fuxi_terms.specs.Tables.{Table}
 
 none_some : (o : Option Entry) (e : Entry) → o ≡ None → o ≡ Some e → ⊥
 none_some o e h g = cc
@@ -34,7 +35,7 @@ numbers_apart a u b v lu lv f = by (nat_eq b a) refl f
     by true t f = let same = number_is b a t in let d : v ≢ u = grind (arith, nat_tests, f) in omega (arith, same, d)
     by false t f = let d : b ≢ a = grind (arith, nat_tests, t) in omega (arith, d, lu, lv)
 
-pub apart_when : (waits : ℕ × ℕ → Bool) (p q : ℕ × ℕ) → waits p ≡ true → waits q ≡ false → same_pair q p ≡ false
+pub apart_when : (waits : Pair → Bool) (p q : Pair) → waits p ≡ true → waits q ≡ false → same_pair q p ≡ false
 apart_when waits p q w n = elim (same_pair q p) as (λ t. same_pair q p ≡ t → t ≡ false) [
   | true ↦ λ t. let f : false ≡ true = sym n ∙ ap waits (pair_is q p t) ∙ w in cc
   | false ↦ λ _. refl
@@ -78,12 +79,12 @@ module _ (t t' : TreeRecord) (a u : ℕ) (s : UnitState) (is : t' ≡ record t {
 
   each_unit : (P : ℕ → ℕ → UnitState → Type 0) → u < 8 → P a u s → ((b v : ℕ) → same_pair (b, v) (a, u) ≡ false → v < 8 → P b v (unit_at t b v)) → (b v : ℕ) → v < 8 → P b v (unit_at t' b v)
   each_unit P lu one rest b v lv = elim (same_pair (b, v) (a, u)) as (λ x. same_pair (b, v) (a, u) ≡ x → P b v (unit_at t' b v)) [
-    | true ↦ λ x. subst (λ (q : ℕ × ℕ). P q.0 q.1 (unit_at t' q.0 q.1)) (sym (pair_is (b, v) (a, u) x)) (subst (P a u) (sym unit_here) one)
+    | true ↦ λ x. subst (λ (q : Pair). P q.0 q.1 (unit_at t' q.0 q.1)) (sym (pair_is (b, v) (a, u) x)) (subst (P a u) (sym unit_here) one)
     | false ↦ λ x. subst (P b v) (sym (unit_there (unit_number b v) (numbers_apart a u b v lu lv x))) (rest b v x lv)
   ] refl
 
   -- the tree holds what it held, but for this unit
-  pub holds_set : (c : ClusterRecord) (cells : List (List Cell)) (waits now : ℕ × ℕ → Bool) (turns : List ℕ) → Holds c cells waits turns t → u < 8 → length s.stands ≡ length (unit_at t a u).stands
+  pub holds_set : (c : ClusterRecord) (cells : List (List Cell)) (waits now : Pair → Bool) (turns : List ℕ) → Holds c cells waits turns t → u < 8 → length s.stands ≡ length (unit_at t a u).stands
       → ((b v : ℕ) → same_pair (b, v) (a, u) ≡ false → now (b, v) ≡ waits (b, v)) → (now (a, u) ≡ true → s.entry ≡ Some (entry_for cells turns a u))
       → (now (a, u) ≡ false → s.entry ≡ None) → (now (a, u) ≡ false → (place : ℕ) → get_or s.stands place false ≡ false) → Holds c cells now turns t'
   holds_set c cells waits now turns h lu long same waiting resting nowhere = record {
@@ -99,11 +100,11 @@ module _ (t t' : TreeRecord) (a u : ℕ) (s : UnitState) (is : t' ≡ record t {
     where
       few : (b v : ℕ) → now (b, v) ≡ true → v < 8
       few b v w = elim (same_pair (b, v) (a, u)) as (λ x. same_pair (b, v) (a, u) ≡ x → v < 8) [
-        | true ↦ λ x. subst (λ (q : ℕ × ℕ). q.1 < 8) (sym (pair_is (b, v) (a, u) x)) lu
+        | true ↦ λ x. subst (λ (q : Pair). q.1 < 8) (sym (pair_is (b, v) (a, u) x)) lu
         | false ↦ λ x. h.few b v (sym (same b v x) ∙ w)
       ] refl
 
-pub holds_same : (c : ClusterRecord) (cells : List (List Cell)) (waits now : ℕ × ℕ → Bool) (turns : List ℕ) (t : TreeRecord) → ((a u : ℕ) → now (a, u) ≡ waits (a, u)) → Holds c cells waits turns t → Holds c cells now turns t
+pub holds_same : (c : ClusterRecord) (cells : List (List Cell)) (waits now : Pair → Bool) (turns : List ℕ) (t : TreeRecord) → ((a u : ℕ) → now (a, u) ≡ waits (a, u)) → Holds c cells waits turns t → Holds c cells now turns t
 holds_same c cells waits now turns t e h = record {
   racks = h.racks;
   all = h.all;
@@ -158,7 +159,7 @@ pub racks_long : (c : ClusterRecord) (t : TreeRecord) → t.racks ≡ racks_of c
 racks_long c t e = ap length e ∙ length-map c.machines (λ (m : MachineRecord). m.rack)
 
 -- the tree holds what it held where a unit that waits stands otherwise
-pub holds_on : (c : ClusterRecord) (cells : List (List Cell)) (waits : ℕ × ℕ → Bool) (turns : List ℕ) (t t' : TreeRecord) (a u : ℕ) → Holds c cells waits turns t → waits (a, u) ≡ true → Restood (unit_number a u) t t' → Holds c cells waits turns t'
+pub holds_on : (c : ClusterRecord) (cells : List (List Cell)) (waits : Pair → Bool) (turns : List ℕ) (t t' : TreeRecord) (a u : ℕ) → Holds c cells waits turns t → waits (a, u) ≡ true → Restood (unit_number a u) t t' → Holds c cells waits turns t'
 holds_on c cells waits turns t t' a u h w r = record {
   racks = r.racks ∙ h.racks;
   all = r.count ∙ h.all;
@@ -169,32 +170,32 @@ holds_on c cells waits turns t t' a u h w r = record {
   nowhere = λ b v place lv x. ap (λ (s : UnitState). get_or s.stands place false) (r.others (unit_number b v) (numbers_apart a u b v (h.few a u w) lv (apart_when waits (a, u) (b, v) w x))) ∙ h.nowhere b v place lv x;
 }
 
-pub stands_on : (c : ClusterRecord) (cells : List (List Cell)) (es : List (Spot × ℕ)) (b v : ℕ) (t t' : TreeRecord) → t'.racks ≡ t.racks → unit_at t' b v ≡ unit_at t b v → StandsAs c cells es b v t → StandsAs c cells es b v t'
+pub stands_on : (c : ClusterRecord) (cells : List (List Cell)) (es : Table) (b v : ℕ) (t t' : TreeRecord) → t'.racks ≡ t.racks → unit_at t' b v ≡ unit_at t b v → StandsAs c cells es b v t → StandsAs c cells es b v t'
 stands_on c cells es b v t t' racks same h = record {
   near = λ m lt. ap (λ (s : UnitState). get_or s.stands m false) same ∙ h.near m lt;
   racks = λ r lt. (λ i. get_or (same i).stands (rack_place (racks i) r) false) ∙ h.racks r lt;
 }
 
 -- ---- who waits
-pub places_of : (c : ClusterRecord) (cells : List (List Cell)) (waits : ℕ × ℕ → Bool) (turns : List ℕ) (t : TreeRecord) (a u : ℕ) → Holds c cells waits turns t → u < 8 → u < length (get_or cells a []) → length (unit_at t a u).stands ≡ place_count t.racks
+pub places_of : (c : ClusterRecord) (cells : List (List Cell)) (waits : Pair → Bool) (turns : List ℕ) (t : TreeRecord) (a u : ℕ) → Holds c cells waits turns t → u < 8 → u < length (get_or cells a []) → length (unit_at t a u).stands ≡ place_count t.racks
 places_of c cells waits turns t a u h lu lt = h.places a u lu ∙ ap (λ b. cond b (place_count t.racks) 0) (let y : nat_lt u (length (get_or cells a [])) ≡ true = grind (arith, nat_tests, lt) in y)
 
-pub admitted_in : (c : ClusterRecord) (cells : List (List Cell)) (waits : ℕ × ℕ → Bool) (turns : List ℕ) (t : TreeRecord) (a u : ℕ) → Holds c cells waits turns t → u < 8 → u < length (get_or cells a []) → is_admitted t a u ≡ true
+pub admitted_in : (c : ClusterRecord) (cells : List (List Cell)) (waits : Pair → Bool) (turns : List ℕ) (t : TreeRecord) (a u : ℕ) → Holds c cells waits turns t → u < 8 → u < length (get_or cells a []) → is_admitted t a u ≡ true
 admitted_in c cells waits turns t a u h lu lt =
     let l = places_of c cells waits turns t a u h lu lt in
     let some : 0 < length (unit_at t a u).stands = omega (arith, l) in
     grind (arith, nat_tests, some)
 
-pub waits_in : (c : ClusterRecord) (cells : List (List Cell)) (waits : ℕ × ℕ → Bool) (turns : List ℕ) (t : TreeRecord) (a u : ℕ) → Holds c cells waits turns t → waits (a, u) ≡ true → u < length (get_or cells a []) → WaitsIn c (entry_for cells turns a u) t
+pub waits_in : (c : ClusterRecord) (cells : List (List Cell)) (waits : Pair → Bool) (turns : List ℕ) (t : TreeRecord) (a u : ℕ) → Holds c cells waits turns t → waits (a, u) ≡ true → u < length (get_or cells a []) → WaitsIn c (entry_for cells turns a u) t
 waits_in c cells waits turns t a u h w lt = record { racks = h.racks; entry = h.entry a u w; places = places_of c cells waits turns t a u h (h.few a u w) lt }
 
 -- who waits with an entry is one of those that wait, and the entry is its own
-pub record IsOfLine (cells : List (List Cell)) (waits : ℕ × ℕ → Bool) (turns : List ℕ) (n : ℕ) (e : Entry) : Type 0 where
+pub record IsOfLine (cells : List (List Cell)) (waits : Pair → Bool) (turns : List ℕ) (n : ℕ) (e : Entry) : Type 0 where
   pub waiting : waits (e.app.0, e.unit.0) ≡ true
   pub is : e ≡ entry_for cells turns e.app.0 e.unit.0
   pub number : n ≡ unit_number e.app.0 e.unit.0
 
-pub waiting_is : (c : ClusterRecord) (cells : List (List Cell)) (waits : ℕ × ℕ → Bool) (turns : List ℕ) (t : TreeRecord) → Holds c cells waits turns t → (n : ℕ) (e : Entry) → (get_or t.units n no_unit).entry ≡ Some e → IsOfLine cells waits turns n e
+pub waiting_is : (c : ClusterRecord) (cells : List (List Cell)) (waits : Pair → Bool) (turns : List ℕ) (t : TreeRecord) → Holds c cells waits turns t → (n : ℕ) (e : Entry) → (get_or t.units n no_unit).entry ≡ Some e → IsOfLine cells waits turns n e
 waiting_is c cells waits turns t h n e g =
     let back : 8 * (n / 8) + n % 8 ≡ n = omega arith in
     let low : n % 8 < 8 = omega arith in
@@ -205,7 +206,7 @@ waiting_is c cells waits turns t h n e g =
     ] refl
 
 -- a unit may wait, and wait no more, where no other that waits has its turn
-pub may_wait : (c : ClusterRecord) (cells : List (List Cell)) (waits : ℕ × ℕ → Bool) (turns : List ℕ) (t : TreeRecord) (a u : ℕ) → Holds c cells waits turns t → a < 256 → u < 8
+pub may_wait : (c : ClusterRecord) (cells : List (List Cell)) (waits : Pair → Bool) (turns : List ℕ) (t : TreeRecord) (a u : ℕ) → Holds c cells waits turns t → a < 256 → u < 8
     → ((b v : ℕ) → waits (b, v) ≡ true → turn_at turns b v ≡ turn_at turns a u → same_pair (b, v) (a, u) ≡ true) → MayWait t (entry_for cells turns a u)
 may_wait c cells waits turns t a u h la lu apart = record {
   app = la;
@@ -217,20 +218,20 @@ may_wait c cells waits turns t a u h la lu apart = record {
   alone = λ n f g q.
       let own = waiting_is c cells waits turns t h n f g in
       let turn : turn_at turns f.app.0 f.unit.0 ≡ turn_at turns a u = sym (ap (λ (x : Entry). x.turn) own.is) ∙ q in
-      own.number ∙ ap (λ (p : ℕ × ℕ). unit_number p.0 p.1) (pair_is (f.app.0, f.unit.0) (a, u) (apart f.app.0 f.unit.0 own.waiting turn));
+      own.number ∙ ap (λ (p : Pair). unit_number p.0 p.1) (pair_is (f.app.0, f.unit.0) (a, u) (apart f.app.0 f.unit.0 own.waiting turn));
 }
 
 -- ---- turns along a line
-pub has_more : (xs : List (ℕ × ℕ)) (k : ℕ) (p q : ℕ × ℕ) → slice_get xs k ≡ Some p → has_pair q (take (k + 1) xs) ≡ (has_pair q (take k xs) || same_pair q p)
+pub has_more : (xs : List Pair) (k : ℕ) (p q : Pair) → slice_get xs k ≡ Some p → has_pair q (take (k + 1) xs) ≡ (has_pair q (take k xs) || same_pair q p)
 has_more xs k p q e = ap (has_pair q) (take_last xs k p e) ∙ any_append (same_pair q) (take k xs) (p ∷ []) ∙ ap (λ b. has_pair q (take k xs) || b) (or_false (same_pair q p))
 
-pub has_other : (xs : List (ℕ × ℕ)) (k : ℕ) (p q : ℕ × ℕ) → slice_get xs k ≡ Some p → same_pair q p ≡ false → has_pair q (take (k + 1) xs) ≡ has_pair q (take k xs)
+pub has_other : (xs : List Pair) (k : ℕ) (p q : Pair) → slice_get xs k ≡ Some p → same_pair q p ≡ false → has_pair q (take (k + 1) xs) ≡ has_pair q (take k xs)
 has_other xs k p q e f = has_more xs k p q e ∙ ap (λ b. has_pair q (take k xs) || b) f ∙ or_false (has_pair q (take k xs))
 
-pub has_itself : (xs : List (ℕ × ℕ)) (k : ℕ) (p : ℕ × ℕ) → slice_get xs k ≡ Some p → has_pair p (take (k + 1) xs) ≡ true
+pub has_itself : (xs : List Pair) (k : ℕ) (p : Pair) → slice_get xs k ≡ Some p → has_pair p (take (k + 1) xs) ≡ true
 has_itself xs k p e = has_more xs k p p e ∙ or_right (has_pair p (take k xs)) (same_pair p p) (pair_self p)
 
-got_taken : (xs : List (ℕ × ℕ)) (k j : ℕ) (q : ℕ × ℕ) → slice_get (take k xs) j ≡ Some q → (slice_get xs j ≡ Some q) × (j < k)
+got_taken : (xs : List Pair) (k j : ℕ) (q : Pair) → slice_get (take k xs) j ≡ Some q → (slice_get xs j ≡ Some q) × (j < k)
 got_taken [] zero j q e = cc
 got_taken [] (suc k) j q e = cc
 got_taken (x ∷ xs) zero j q e = cc
@@ -238,11 +239,11 @@ got_taken (x ∷ xs) (suc k) zero q e = (e, omega arith)
 got_taken (x ∷ xs) (suc k) (suc j) q e = let r = got_taken xs k j q e in let lt = r.1 in (r.0, omega (arith, lt))
 
 -- the turns of those before a place are smaller than the one there
-pub turn_before : (f : ℕ × ℕ → ℕ) (xs : List (ℕ × ℕ)) (k : ℕ) (p q : ℕ × ℕ) → IsRising f xs → slice_get xs k ≡ Some p → has_pair q (take k xs) ≡ true → f q < f p
+pub turn_before : (f : Pair → ℕ) (xs : List Pair) (k : ℕ) (p q : Pair) → IsRising f xs → slice_get xs k ≡ Some p → has_pair q (take k xs) ≡ true → f q < f p
 turn_before f xs k p q rises at has = let i = place_of q (take k xs) has in let g = got_taken xs k i.place q i.at in rises.before i.place k q p g.0 at g.1
 
 -- pairs of one turn are one
-pub turn_apart : (f : ℕ × ℕ → ℕ) (xs : List (ℕ × ℕ)) (p q : ℕ × ℕ) → IsRising f xs → has_pair p xs ≡ true → has_pair q xs ≡ true → f q ≡ f p → same_pair q p ≡ true
+pub turn_apart : (f : Pair → ℕ) (xs : List Pair) (p q : Pair) → IsRising f xs → has_pair p xs ≡ true → has_pair q xs ≡ true → f q ≡ f p → same_pair q p ≡ true
 turn_apart f xs p q rises hp hq e =
     let i = place_of p xs hp in
     let j = place_of q xs hq in
@@ -250,7 +251,7 @@ turn_apart f xs p q rises hp hq e =
       | inl lt ↦ let l = rises.before i.place j.place p q i.at j.at lt in absurd (omega (arith, l, e))
       | inr ge ↦ elim (cases_lt j.place i.place) [
         | inl lt ↦ let l = rises.before j.place i.place q p j.at i.at lt in absurd (omega (arith, l, e))
-        | inr le ↦ let same : i.place ≡ j.place = omega (arith, ge, le) in subst (λ (x : ℕ × ℕ). same_pair x p ≡ true) (sym (same_place xs i.place j.place p q same i.at j.at)) (pair_self p)
+        | inr le ↦ let same : i.place ≡ j.place = omega (arith, ge, le) in subst (λ (x : Pair). same_pair x p ≡ true) (sym (same_place xs i.place j.place p q same i.at j.at)) (pair_self p)
       ]
     ]
 
@@ -261,7 +262,7 @@ nowhere_in zero k = refl
 nowhere_in (suc n) zero = refl
 nowhere_in (suc n) (suc k) = nowhere_in n k
 
-module _ (c : ClusterRecord) (cells : List (List Cell)) (waits now : ℕ × ℕ → Bool) (turns : List ℕ) (t t' : TreeRecord) (a u : ℕ) (h : Holds c cells waits turns t) (lu : u < 8) (admitted : u < length (get_or cells a []))
+module _ (c : ClusterRecord) (cells : List (List Cell)) (waits now : Pair → Bool) (turns : List ℕ) (t t' : TreeRecord) (a u : ℕ) (h : Holds c cells waits turns t) (lu : u < 8) (admitted : u < length (get_or cells a []))
     (same : (b v : ℕ) → same_pair (b, v) (a, u) ≡ false → now (b, v) ≡ waits (b, v)) where
   width : length (unit_at t a u).stands ≡ place_count t.racks
   width = places_of c cells waits turns t a u h lu admitted

@@ -10,7 +10,7 @@ use Rattle.std.proofs.lemmas.List.Sums.{sum_by-set, sum_by-le, sum_by-cons}
 use Rattle.std.proofs.Math.ListN.{get_or-eq_default}
 use Rattle.fuxi_terms.specs.Cluster.{ClusterRecord, JobRecord, UnitRecord, has_rack}
 use Rattle.fuxi_terms.specs.declared.Key.{Key}
-use Rattle.fuxi_terms.specs.Keys.{Spot, key_cmp, spot_cmp}
+use Rattle.fuxi_terms.specs.Keys.{Spot, key_cmp, spot_cmp, Pair}
 use Rattle.fuxi_terms.specs.Counts.{count, AreCounts}
 use Rattle.fuxi_terms.specs.TallyKeys.{greatest_demand, key, rack_key}
 use Rattle.fuxi_terms.specs.Jobs.{KnownJob, job_of, is_known, unit_count, no_unit}
@@ -53,8 +53,8 @@ no_units zero = refl
 no_units (suc n) = let r = no_units n in rw (sum_by-cons (λ (xs : List Cell). length xs) [] (replicate n [])) (omega (arith, r))
 
 -- ---- admitted pairs stay admitted
-pub admitted_more : (cells : List (List Cell)) (pairs : List (ℕ × ℕ)) (a : ℕ) (xs : List Cell) → a < length cells → length (get_or cells a []) ≤ length xs → AreAdmitted cells pairs → AreAdmitted (set cells a xs) pairs
-admitted_more cells pairs a xs lt le = all_more (λ (p : ℕ × ℕ). p.1 < length (get_or cells p.0 [])) (λ (p : ℕ × ℕ). p.1 < length (get_or (set cells a xs) p.0 [])) (λ p l. subst (λ ys. p.1 < length ys) (sym (one_set cells a p.0 xs [] lt)) (elim (nat_eq a p.0) as (λ t. nat_eq a p.0 ≡ t → p.1 < length (cond t xs (get_or cells p.0 []))) [
+pub admitted_more : (cells : List (List Cell)) (pairs : List Pair) (a : ℕ) (xs : List Cell) → a < length cells → length (get_or cells a []) ≤ length xs → AreAdmitted cells pairs → AreAdmitted (set cells a xs) pairs
+admitted_more cells pairs a xs lt le = all_more (λ (p : Pair). p.1 < length (get_or cells p.0 [])) (λ (p : Pair). p.1 < length (get_or (set cells a xs) p.0 [])) (λ p l. subst (λ ys. p.1 < length ys) (sym (one_set cells a p.0 xs [] lt)) (elim (nat_eq a p.0) as (λ t. nat_eq a p.0 ≡ t → p.1 < length (cond t xs (get_or cells p.0 []))) [
   | true ↦ λ t. let m : length (get_or cells p.0 []) ≤ length xs = subst (λ x. length (get_or cells x []) ≤ length xs) (number_is a p.0 t) le in omega (arith, m, l)
   | false ↦ λ _. l
 ] refl)) pairs
@@ -242,7 +242,7 @@ module _ (c : ClusterRecord) (cells : List (List Cell)) (t : TableRecord) (l : A
   abbrev waits : ℕ → ℕ → Bool
   waits a u = nat_lt 0 (out_of (asks_in cells) t.entries a u)
 
-  abbrev pairs : List (ℕ × ℕ)
+  abbrev pairs : List Pair
   pairs = waiting_in numbers (unit_count (as_known t.jobs)) (asks_in cells) t.entries
 
   -- a pair waits where it is admitted and has something out
@@ -256,13 +256,13 @@ module _ (c : ClusterRecord) (cells : List (List Cell)) (t : TableRecord) (l : A
       some : nat_lt u (unit_count (as_known t.jobs) a) ≡ true → 0 < unit_count (as_known t.jobs) a
       some b = grind (arith, nat_tests, b)
 
-  pub kept_is : (line : List (ℕ × ℕ)) → AreAdmitted cells line → filter (λ p. waits p.0 p.1) line ≡ filter (λ p. has_pair p pairs) line
-  kept_is line h = filter_same (λ p. waits p.0 p.1) (λ p. has_pair p pairs) line (all_more (λ (p : ℕ × ℕ). p.1 < length (get_or cells p.0 [])) (λ (p : ℕ × ℕ). waits p.0 p.1 ≡ has_pair p pairs) (λ p lt. sym (waits_is p.0 p.1 ∙ ap (λ b. b && waits p.0 p.1) (there p lt))) line h)
+  pub kept_is : (line : List Pair) → AreAdmitted cells line → filter (λ p. waits p.0 p.1) line ≡ filter (λ p. has_pair p pairs) line
+  kept_is line h = filter_same (λ p. waits p.0 p.1) (λ p. has_pair p pairs) line (all_more (λ (p : Pair). p.1 < length (get_or cells p.0 [])) (λ (p : Pair). waits p.0 p.1 ≡ has_pair p pairs) (λ p lt. sym (waits_is p.0 p.1 ∙ ap (λ b. b && waits p.0 p.1) (there p lt))) line h)
     where
-      there : (p : ℕ × ℕ) → p.1 < length (get_or cells p.0 []) → nat_lt p.1 (unit_count (as_known t.jobs) p.0) ≡ true
+      there : (p : Pair) → p.1 < length (get_or cells p.0 []) → nat_lt p.1 (unit_count (as_known t.jobs) p.0) ≡ true
       there p lt = let n = count_is c cells t l p.0 in grind (arith, nat_tests, lt, n)
 
-  pub lined_has : (line : List (ℕ × ℕ)) (a u : ℕ) → has_pair (a, u) (lined line pairs) ≡ (nat_lt u (unit_count (as_known t.jobs) a) && waits a u)
+  pub lined_has : (line : List Pair) (a u : ℕ) → has_pair (a, u) (lined line pairs) ≡ (nat_lt u (unit_count (as_known t.jobs) a) && waits a u)
   lined_has line a u =
       any_append (same_pair (a, u)) (filter (λ p. has_pair p pairs) line) (filter (λ p. not (has_pair p line)) pairs)
       ∙ (λ i. has_filter (λ p. has_pair p pairs) (a, u) line i || has_filter (λ p. not (has_pair p line)) (a, u) pairs i)
@@ -278,7 +278,7 @@ module _ (c : ClusterRecord) (cells : List (List Cell)) (t : TableRecord) (l : A
 pub level_set : (c : ClusterRecord) (job : ℕ → Option JobRecord) (before after : TableRecord) (s : Spot) → IsSetFrom before after s → AreLevel c job before → AreLevel c job after
 level_set c job before after s is l = subst (AreLevel c job) (sym is.is) (record { cluster_is = l.cluster_is; jobs_are = l.jobs_are })
 
-module _ (asks : ℕ → Key → ℕ) (before after : TableRecord) (a u m : ℕ) (is : IsSetFrom before after (spot a u m)) (more : count spot_cmp before.entries (spot a u m) ≤ is.number) (line : List (ℕ × ℕ))
+module _ (asks : ℕ → Key → ℕ) (before after : TableRecord) (a u m : ℕ) (is : IsSetFrom before after (spot a u m)) (more : count spot_cmp before.entries (spot a u m) ≤ is.number) (line : List Pair)
     (up : (b v : ℕ) → has_pair (b, v) line ≡ (nat_lt v (unit_count (as_known before.jobs) b) && nat_lt 0 (out_of asks before.entries b v))) where
   held_then : (b v : ℕ) → held after.entries b v + cond (nat_eq a b && nat_eq u v) (count spot_cmp before.entries (spot a u m)) 0 ≡ held before.entries b v + cond (nat_eq a b && nat_eq u v) is.number 0
   held_then b v = subst (λ (t : TableRecord). held t.entries b v + cond (nat_eq a b && nat_eq u v) (count spot_cmp before.entries (spot a u m)) 0 ≡ held before.entries b v + cond (nat_eq a b && nat_eq u v) is.number 0) (sym is.is)

@@ -2,12 +2,13 @@
 use Rattle.std.proofs.Common.{◌≡◌, ℕ, ◌-◌, ◌*◌, ◌+◌, ◌<◌, ◌≤◌, Bool, true, false, nat_eq, nat_lt, List, [], ◌∷◌, Option, None, Some, length, get_or, refl, sym, ◌∙◌, ap, subst, arith}
 use Rattle.std.proofs.lemmas.Bool.Decides.{nat_tests}
 use Rattle.fuxi_terms.proofs.Booleans.{number_is}
+use Rattle.fuxi_terms.specs.Keys.{Pair}
 use Rattle.grant_table.specs.GrantTables.{IsSound}
 use Rattle.written_roles.specs.Masters.{out_of}
 use Rattle.written_roles.specs.Placing.{has_pair}
 use Rattle.wait_queue.specs.declared.node.Entry.{Entry}
 use Rattle.locality_tree.specs.declared.path.Path.{Path}
-use Rattle.locality_tree.specs.Trees.{Pair, level_at}
+use Rattle.locality_tree.specs.Trees.{RankedEntry, level_at}
 use Rattle.locality_tree.specs.Paths.{Leads, Gives}
 use Rattle.place_pass.specs.Bounds.{MarkRecord, mark_at, key_of, rank_at, IsBounded}
 use Rattle.place_pass.specs.Cells.{asks_in}
@@ -24,24 +25,24 @@ abbrev pub WalkOn : Scene → ℕ → List Bool → Path → ℕ → Type 0
 WalkOn s m groups p left = Walk s.wishes.now.cluster s.wishes.now.cells s.line.now.pairs s.turn_of.now s.table.now.entries s.tree.now m (board_in s) groups p left
 
 -- what the path gives next
-abbrev pub GivesNext : Path → Path → Option Pair → Type 0
-GivesNext p p' given = (rest : List Pair) → Leads p rest → Gives rest given (Leads p')
+abbrev pub GivesNext : Path → Path → Option RankedEntry → Type 0
+GivesNext p p' given = (rest : List RankedEntry) → Leads p rest → Gives rest given (Leads p')
 
 -- a step of a walk gives this pair
-pub record IsStep (s : Scene) (m : ℕ) (groups : List Bool) (p p' : Path) (left : ℕ) (x : Pair) : Type 0 where
+pub record IsStep (s : Scene) (m : ℕ) (groups : List Bool) (p p' : Path) (left : ℕ) (x : RankedEntry) : Type 0 where
   pub walk : WalkOn s m groups p left
   pub head : IsHead walk.rest x (Leads p')
 
-pub step_of : (s : Scene) (m : ℕ) (groups : List Bool) (p p' : Path) (left : ℕ) (given : Option Pair) (x : Pair) → WalkOn s m groups p left → GivesNext p p' given → given ≡ Some x → IsStep s m groups p p' left x
+pub step_of : (s : Scene) (m : ℕ) (groups : List Bool) (p p' : Path) (left : ℕ) (given : Option RankedEntry) (x : RankedEntry) → WalkOn s m groups p left → GivesNext p p' given → given ≡ Some x → IsStep s m groups p p' left x
 step_of s m groups p p' left given x w gives is = record { walk = w; head = head_of w.rest given x (Leads p') (gives w.rest w.leads) is }
 
 -- at its end no pair of the line may be placed but where its group is noted
-pub walk_ends : (s : Scene) (m : ℕ) (groups : List Bool) (p p' : Path) (left : ℕ) (given : Option Pair) → WalkOn s m groups p left → GivesNext p p' given → given ≡ None
-    → (q : ℕ × ℕ) → has_pair q s.line.now.pairs ≡ true → IsBounded (board_in s) s.table.now.entries None groups (turn_in s.turn_of.now q) q m
+pub walk_ends : (s : Scene) (m : ℕ) (groups : List Bool) (p p' : Path) (left : ℕ) (given : Option RankedEntry) → WalkOn s m groups p left → GivesNext p p' given → given ≡ None
+    → (q : Pair) → has_pair q s.line.now.pairs ≡ true → IsBounded (board_in s) s.table.now.entries None groups (turn_in s.turn_of.now q) q m
 walk_ends s m groups p p' left given w gives is q has =
     walk_over s.wishes.now.cluster s.wishes.now.cells s.line.now.pairs s.turn_of.now s.table.now.entries s.tree.now m (board_in s) groups p left w (none_left w.rest given (Leads p') (gives w.rest w.leads) is) q has
 
-module _ (s : Scene) (r : CanSearch s) (sound : IsSound s.table.now) (m : ℕ) (inside : m < length s.table.now.cluster.machines) (groups : List Bool) (p p' : Path) (left : ℕ) (x : Pair) (step : IsStep s m groups p p' left x) where
+module _ (s : Scene) (r : CanSearch s) (sound : IsSound s.table.now) (m : ℕ) (inside : m < length s.table.now.cluster.machines) (groups : List Bool) (p p' : Path) (left : ℕ) (x : RankedEntry) (step : IsStep s m groups p p' left x) where
   pub of_line : IsOfLine s.wishes.now.cells (λ q. has_pair q s.line.now.pairs) s.turn_of.now (8 * x.0.app.0 + x.0.unit.0) x.0
   of_line = head_waits s.wishes.now.cluster s.wishes.now.cells s.line.now.pairs s.turn_of.now s.table.now.entries s.tree.now m r.tree (board_in s) groups p left step.walk x (Leads p') step.head
 
@@ -56,10 +57,10 @@ module _ (s : Scene) (r : CanSearch s) (sound : IsSound s.table.now) (m : ℕ) (
   pub step_out : nat_lt 0 (out_of (asks_in s.wishes.now.cells) s.table.now.entries x.0.app.0 x.0.unit.0) ≡ true
   step_out = let some = r.waits x.0.app.0 x.0.unit.0 of_line.waiting in grind (arith, nat_tests, some)
 
-  ranks : (q : ℕ × ℕ) → has_pair q s.line.now.pairs ≡ true → rank_in_path (entry_for s.wishes.now.cells s.turn_of.now q.0 q.1, level_at s.tree.now q.0 q.1 m) ≡ rank_at (board_in s) s.table.now.entries (turn_in s.turn_of.now q) q m
+  ranks : (q : Pair) → has_pair q s.line.now.pairs ≡ true → rank_in_path (entry_for s.wishes.now.cells s.turn_of.now q.0 q.1, level_at s.tree.now q.0 q.1 m) ≡ rank_at (board_in s) s.table.now.entries (turn_in s.turn_of.now q) q m
   ranks = path_ranks s.wishes.now.cluster s.wishes.now.cells s.wishes.now.opened s.line.now.pairs s.turn_of.now s.table.now s.tree.now m r.level sound r.tree r.admitted inside
 
-  lows : (q : ℕ × ℕ) → has_pair q s.line.now.pairs ≡ true → (entry_for s.wishes.now.cells s.turn_of.now q.0 q.1).priority ≤ 9
+  lows : (q : Pair) → has_pair q s.line.now.pairs ≡ true → (entry_for s.wishes.now.cells s.turn_of.now q.0 q.1).priority ≤ 9
   lows = path_lows s.wishes.now.cluster s.wishes.now.cells s.wishes.now.opened s.line.now.pairs s.turn_of.now s.table.now s.tree.now m r.level sound r.tree r.admitted inside
 
   -- its rank, by which no pair of the line comes before it that may be placed
@@ -67,7 +68,7 @@ module _ (s : Scene) (r : CanSearch s) (sound : IsSound s.table.now) (m : ℕ) (
     same : rank_in_path x ≡ (late ∷ x.1 ∷ turn ∷ [])
     same = let t : x.0.turn ≡ turn = ap (λ (e : Entry). e.turn) of_line.is ∙ sym turn_is in λ j. sym late_is j ∷ x.1 ∷ t j ∷ []
 
-    pub step_least : (q : ℕ × ℕ) → has_pair q s.line.now.pairs ≡ true → IsBounded (board_in s) s.table.now.entries (Some (late ∷ x.1 ∷ turn ∷ [])) groups (turn_in s.turn_of.now q) q m
+    pub step_least : (q : Pair) → has_pair q s.line.now.pairs ≡ true → IsBounded (board_in s) s.table.now.entries (Some (late ∷ x.1 ∷ turn ∷ [])) groups (turn_in s.turn_of.now q) q m
     step_least =
         let low = subst (λ n. n ≤ 9) (sym (ap (λ (e : Entry). e.priority) of_line.is)) (lows (x.0.app.0, x.0.unit.0) of_line.waiting) in
         head_least s.wishes.now.cluster s.wishes.now.cells s.line.now.pairs s.turn_of.now s.table.now.entries s.tree.now m (board_in s) groups p left step.walk x (Leads p') step.head (late ∷ x.1 ∷ turn ∷ []) same low ranks lows
@@ -80,7 +81,7 @@ module _ (s : Scene) (r : CanSearch s) (sound : IsSound s.table.now) (m : ℕ) (
 
 -- ---- marks: that of an open machine bounds all pairs of the line by its key
 pub key_seen : (s : Scene) → CanSearch s → (m : ℕ) (k : MarkRecord) → IsMarked s m k → get_or s.wishes.now.opened m false ≡ true → (bound : Option (List ℕ)) → key_of k s.turns ≡ bound
-    → (q : ℕ × ℕ) → has_pair q s.line.now.pairs ≡ true → IsBounded (board_in s) s.table.now.entries bound k.groups (turn_in s.turn_of.now q) q m
+    → (q : Pair) → has_pair q s.line.now.pairs ≡ true → IsBounded (board_in s) s.table.now.entries bound k.groups (turn_in s.turn_of.now q) q m
 key_seen s r m k marked opened bound is q has =
     subst (λ o. IsBounded (board_in s) s.table.now.entries o k.groups (turn_in s.turn_of.now q) q m) is (key_bounds (board_in s) s.table.now.entries (turn_in s.turn_of.now) s.line.now.pairs k m s.turns r.below (marked.bounded opened) q has)
 

@@ -10,10 +10,11 @@ use Rattle.std.proofs.lemmas.Bool.{cases_lt}
 use Rattle.std.proofs.lemmas.Bool.Decides.{nat_tests}
 use Rattle.std.proofs.lemmas.List.{set_past, map-set, length-map, get_or-map}
 use Rattle.fuxi_terms.specs.Jobs.{most_of}
-use Rattle.fuxi_terms.specs.Keys.{Spot}
-use Rattle.fuxi_terms.specs.Tables.{held_on}
+use Rattle.fuxi_terms.specs.Keys.{Pair}
+use Rattle.fuxi_terms.specs.Tables.{held_on, Table}
 use Rattle.fuxi_terms.specs.TallyKeys.{avoid_key}
 use Rattle.fuxi_terms.proofs.Booleans.{both_true, and_true, nat_itself}
+use Rattle.fuxi_terms.proofs.Lookups.{none_is}
 use Rattle.grant_table.specs.GrantTables.{TableRecord, as_known}
 use Rattle.written_roles.specs.Masters.{level_of}
 use Rattle.written_roles.specs.Placing.{Board, has_pair, accepts_in, has_room_in, is_allowed_in, may_grow_in, placeable_in}
@@ -68,6 +69,16 @@ is_same x =
     let e : (x == x) ≡ true = grind (arith, nat_tests) in
     ap (λ b. cond b Less (cond (x == x) Equal Greater)) t ∙ ap (λ b. cond b Equal Greater) e
 
+-- a number decides where it differs, and else what stands behind it
+pub first_decides : (x y : ℕ) (rest : Bool) (r s : List ℕ) → rest ≡ comes_before r s → (nat_lt x y || (nat_eq x y && rest)) ≡ comes_before (x ∷ r) (y ∷ s)
+first_decides x y rest r s e = elim (nat_lt x y) as (λ t. (t || (nat_eq x y && rest)) ≡ is_lt (ordering_then (cond t Less (cond (x == y) Equal Greater)) (slice_cmp nat_cmp r s))) [
+  | true ↦ refl
+  | false ↦ elim (nat_eq x y) as (λ t. (t && rest) ≡ is_lt (ordering_then (cond t Equal Greater) (slice_cmp nat_cmp r s))) [
+    | true ↦ e
+    | false ↦ refl
+  ]
+]
+
 -- the same number at the end changes nothing
 with_last : (m : ℕ) (r s : List ℕ) → length r ≡ length s → not (comes_before r s) ≡ true → not (comes_before (r ++ m ∷ []) (s ++ m ∷ [])) ≡ true
 with_last m [] [] l h = ap (λ o. not (is_lt (ordering_then o Equal))) (is_same m)
@@ -110,7 +121,7 @@ wider false true a false true f h e = e
 wider false true a false false f h e = let t = h refl in cc
 wider false false a false g' f h e = cc
 
-pub bounded_wider : (b : Board) (es : List (Spot × ℕ)) (bound bound' : Option (List ℕ)) (groups groups' : List Bool) (t : ℕ) (q : ℕ × ℕ) (m : ℕ)
+pub bounded_wider : (b : Board) (es : Table) (bound bound' : Option (List ℕ)) (groups groups' : List Bool) (t : ℕ) (q : Pair) (m : ℕ)
     → ((r : List ℕ) → is_bound bound r ≡ true → is_bound bound' r ≡ true) → (get_or groups (b.groups q.0) false ≡ true → get_or groups' (b.groups q.0) false ≡ true) → IsBounded b es bound groups t q m → IsBounded b es bound' groups' t q m
 bounded_wider b es bound bound' groups groups' t q m f g h = record {
   bounded = λ u r. wider (is_bound bound (rank_at b es t q m)) (get_or groups (b.groups q.0) false) (is_allowed_in b.cluster b.groups b.sizes es q.0 q.1)
@@ -127,10 +138,10 @@ pub now_noted : (groups : List Bool) (g : ℕ) → g < length groups → get_or 
 now_noted groups g lt = one_set groups g g true false lt ∙ ap (λ t. cond t true (get_or groups g false)) (nat_itself g)
 
 -- a pair that does not fit, one that is noted, and one that is bounded
-pub bounded_apart_from : (b : Board) (es : List (Spot × ℕ)) (bound : Option (List ℕ)) (groups : List Bool) (t : ℕ) (q : ℕ × ℕ) (m : ℕ) → (accepts_in b es q.0 q.1 m && has_room_in b.cluster b.sizes es q.0 q.1 m) ≡ false → IsBounded b es bound groups t q m
+pub bounded_apart_from : (b : Board) (es : Table) (bound : Option (List ℕ)) (groups : List Bool) (t : ℕ) (q : Pair) (m : ℕ) → (accepts_in b es q.0 q.1 m && has_room_in b.cluster b.sizes es q.0 q.1 m) ≡ false → IsBounded b es bound groups t q m
 bounded_apart_from b es bound groups t q m out = record { bounded = λ u r. let f : false ≡ true = sym out ∙ and_true (accepts_in b es q.0 q.1 m) _ u r in cc }
 
-pub bounded_noted : (b : Board) (es : List (Spot × ℕ)) (bound : Option (List ℕ)) (groups : List Bool) (t : ℕ) (q : ℕ × ℕ) (m : ℕ) → get_or groups (b.groups q.0) false ≡ true → is_allowed_in b.cluster b.groups b.sizes es q.0 q.1 ≡ false → IsBounded b es bound groups t q m
+pub bounded_noted : (b : Board) (es : Table) (bound : Option (List ℕ)) (groups : List Bool) (t : ℕ) (q : Pair) (m : ℕ) → get_or groups (b.groups q.0) false ≡ true → is_allowed_in b.cluster b.groups b.sizes es q.0 q.1 ≡ false → IsBounded b es bound groups t q m
 bounded_noted b es bound groups t q m g refused = record { bounded = λ u r. last (is_bound bound (rank_at b es t q m)) (get_or groups (b.groups q.0) false) (is_allowed_in b.cluster b.groups b.sizes es q.0 q.1) g refused }
   where
     last : (x g a : Bool) → g ≡ true → a ≡ false → (x || (g && not a)) ≡ true
@@ -139,11 +150,11 @@ bounded_noted b es bound groups t q m g refused = record { bounded = λ u r. las
     last false true false e f = refl
     last false false a e f = cc
 
-pub bounded_by : (b : Board) (es : List (Spot × ℕ)) (bound : Option (List ℕ)) (groups : List Bool) (t : ℕ) (q : ℕ × ℕ) (m : ℕ) → is_bound bound (rank_at b es t q m) ≡ true → IsBounded b es bound groups t q m
+pub bounded_by : (b : Board) (es : Table) (bound : Option (List ℕ)) (groups : List Bool) (t : ℕ) (q : Pair) (m : ℕ) → is_bound bound (rank_at b es t q m) ≡ true → IsBounded b es bound groups t q m
 bounded_by b es bound groups t q m e = record { bounded = λ u r. ap (λ x. x || (get_or groups (b.groups q.0) false && not (is_allowed_in b.cluster b.groups b.sizes es q.0 q.1))) e }
 
 -- the bound of a placeable pair
-pub placeable_bound : (b : Board) (es : List (Spot × ℕ)) (bound : Option (List ℕ)) (groups : List Bool) (t : ℕ) (q : ℕ × ℕ) (m : ℕ) → IsBounded b es bound groups t q m → placeable_in b es q.0 q.1 m ≡ true → is_bound bound (rank_at b es t q m) ≡ true
+pub placeable_bound : (b : Board) (es : Table) (bound : Option (List ℕ)) (groups : List Bool) (t : ℕ) (q : Pair) (m : ℕ) → IsBounded b es bound groups t q m → placeable_in b es q.0 q.1 m ≡ true → is_bound bound (rank_at b es t q m) ≡ true
 placeable_bound b es bound groups t q m h p =
     let x = both_true (may_grow_in b es q.0 q.1) _ p in
     let y = both_true (accepts_in b es q.0 q.1 m) (has_room_in b.cluster b.sizes es q.0 q.1 m) x.1 in
@@ -162,66 +173,62 @@ placeable_bound b es bound groups t q m h p =
 
 -- ---- a machine
 -- the bound of all pairs: of those that were not looked at it is 0
-pub key_bounds : (b : Board) (es : List (Spot × ℕ)) (f : ℕ × ℕ → ℕ) (line : List (ℕ × ℕ)) (k : MarkRecord) (m turns : ℕ) → ((q : ℕ × ℕ) → has_pair q line ≡ true → f q < turns) → AreBounded b es f line k m
-    → (q : ℕ × ℕ) → has_pair q line ≡ true → IsBounded b es (key_of k turns) k.groups (f q) q m
+pub key_bounds : (b : Board) (es : Table) (f : Pair → ℕ) (line : List Pair) (k : MarkRecord) (m turns : ℕ) → ((q : Pair) → has_pair q line ≡ true → f q < turns) → AreBounded b es f line k m
+    → (q : Pair) → has_pair q line ≡ true → IsBounded b es (key_of k turns) k.groups (f q) q m
 key_bounds b es f line k m turns below h q has = elim (nat_lt k.until turns) as (λ t. nat_lt k.until turns ≡ t → IsBounded b es (cond t (Some zero_rank) k.bound) k.groups (f q) q m) [
   | true ↦ λ _. bounded_by b es (Some zero_rank) k.groups (f q) q m (zero_bounds (9 - b.priorities q.0 q.1) (level_of b.cluster b.asks es q.0 q.1 m) (f q))
   | false ↦ λ t. let lt = below q has in let le : turns ≤ k.until = grind (arith, nat_tests, t) in h.bounded q has (omega (arith, lt, le))
 ] refl
 
-pub least_passed : (b : Board) (es : List (Spot × ℕ)) (f : ℕ × ℕ → ℕ) (line : List (ℕ × ℕ)) (m : ℕ) (best : Option Found) (key : List ℕ) (groups : List Bool) → length key ≡ 3 → is_first best key m ≡ false → ((q : ℕ × ℕ) → has_pair q line ≡ true → IsBounded b es (Some key) groups (f q) q m)
+pub least_passed : (b : Board) (es : Table) (f : Pair → ℕ) (line : List Pair) (m : ℕ) (best : Option Found) (key : List ℕ) (groups : List Bool) → length key ≡ 3 → is_first best key m ≡ false → ((q : Pair) → has_pair q line ≡ true → IsBounded b es (Some key) groups (f q) q m)
     → IsLeast b es f line (found_rank best) m
 least_passed b es f line m best key groups three passed h = record { least = λ q has p. passed_over best key (rank_at b es (f q) q m) m (sym three) passed (placeable_bound b es (Some key) groups (f q) q m (h q has) p) }
 
 -- where nothing is placeable on the machine, any rank will do
-pub least_none : (b : Board) (es : List (Spot × ℕ)) (f : ℕ × ℕ → ℕ) (line : List (ℕ × ℕ)) (m : ℕ) (best : Option (List ℕ)) (groups : List Bool) → ((q : ℕ × ℕ) → has_pair q line ≡ true → IsBounded b es None groups (f q) q m) → IsLeast b es f line best m
+pub least_none : (b : Board) (es : Table) (f : Pair → ℕ) (line : List Pair) (m : ℕ) (best : Option (List ℕ)) (groups : List Bool) → ((q : Pair) → has_pair q line ≡ true → IsBounded b es None groups (f q) q m) → IsLeast b es f line best m
 least_none b es f line m best groups h = record { least = λ q has p. let f : false ≡ true = placeable_bound b es None groups (f q) q m (h q has) p in cc }
 
-pub least_closed : (b : Board) (es : List (Spot × ℕ)) (f : ℕ × ℕ → ℕ) (line : List (ℕ × ℕ)) (m : ℕ) (best : Option (List ℕ)) → ((q : ℕ × ℕ) → accepts_in b es q.0 q.1 m ≡ false) → IsLeast b es f line best m
+pub least_closed : (b : Board) (es : Table) (f : Pair → ℕ) (line : List Pair) (m : ℕ) (best : Option (List ℕ)) → ((q : Pair) → accepts_in b es q.0 q.1 m ≡ false) → IsLeast b es f line best m
 least_closed b es f line m best h = record {
   least = λ q has p. let x = both_true (may_grow_in b es q.0 q.1) _ p in let f : false ≡ true = sym (h q) ∙ (both_true (accepts_in b es q.0 q.1 m) (has_room_in b.cluster b.sizes es q.0 q.1 m) x.1).0 in cc;
 }
 
 -- a machine that is closed, or on which by its mark nothing is placeable
-pub least_settled : (cells : List (List Cell)) (o : List Bool) (t : TableRecord) (f : ℕ × ℕ → ℕ) (line : List (ℕ × ℕ)) (k : MarkRecord) (m turns : ℕ) (best : Option (List ℕ)) → is_unsettled_by o k turns m ≡ false → ((q : ℕ × ℕ) → has_pair q line ≡ true → f q < turns)
+pub least_settled : (cells : List (List Cell)) (o : List Bool) (t : TableRecord) (f : Pair → ℕ) (line : List Pair) (k : MarkRecord) (m turns : ℕ) (best : Option (List ℕ)) → is_unsettled_by o k turns m ≡ false → ((q : Pair) → has_pair q line ≡ true → f q < turns)
     → (get_or o m false ≡ true → AreBounded (board_over cells o t) t.entries f line k m) → IsLeast (board_over cells o t) t.entries f line best m
 least_settled cells o t f line k m turns best settled below h = elim (get_or o m false) as (λ x. get_or o m false ≡ x → (x && is_some (key_of k turns)) ≡ false → IsLeast (board_over cells o t) t.entries f line best m) [
-  | true ↦ λ opened none. least_none (board_over cells o t) t.entries f line m best k.groups (λ q has. subst (λ b. IsBounded (board_over cells o t) t.entries b k.groups (f q) q m) (nothing (key_of k turns) none) (key_bounds (board_over cells o t) t.entries f line k m turns below (h opened) q has))
+  | true ↦ λ opened none. least_none (board_over cells o t) t.entries f line m best k.groups (λ q has. subst (λ b. IsBounded (board_over cells o t) t.entries b k.groups (f q) q m) (none_is (key_of k turns) none) (key_bounds (board_over cells o t) t.entries f line k m turns below (h opened) q has))
   | false ↦ λ closed _. least_closed (board_over cells o t) t.entries f line m best (λ q. ap (λ x. (x && not (nat_lt 0 (asks_in cells q.0 (avoid_key q.1 m)))) && nat_lt (held_on t.entries q.0 q.1 m) (most_of (as_known t.jobs) q.0 q.1)) closed)
 ] refl settled
-  where
-    nothing : (b : Option (List ℕ)) → is_some b ≡ false → b ≡ None
-    nothing None e = refl
-    nothing (Some r) e = cc
 
 pub settled_key : (opened : Bool) (b : Option (List ℕ)) → (opened && is_some b) ≡ false → opened ≡ true → b ≡ None
 settled_key true None e o = refl
 settled_key true (Some r) e o = cc
 settled_key false b e o = cc
 
-pub least_seen : (b : Board) (es : List (Spot × ℕ)) (f : ℕ × ℕ → ℕ) (line : List (ℕ × ℕ)) (m : ℕ) (best : Option (List ℕ)) (key : List ℕ) (groups : List Bool) → length key ≡ 3 → ((r : List ℕ) → is_bound (Some (key ++ m ∷ [])) r ≡ true → is_bound best r ≡ true)
-    → ((q : ℕ × ℕ) → has_pair q line ≡ true → IsBounded b es (Some key) groups (f q) q m) → IsLeast b es f line best m
+pub least_seen : (b : Board) (es : Table) (f : Pair → ℕ) (line : List Pair) (m : ℕ) (best : Option (List ℕ)) (key : List ℕ) (groups : List Bool) → length key ≡ 3 → ((r : List ℕ) → is_bound (Some (key ++ m ∷ [])) r ≡ true → is_bound best r ≡ true)
+    → ((q : Pair) → has_pair q line ≡ true → IsBounded b es (Some key) groups (f q) q m) → IsLeast b es f line best m
 least_seen b es f line m best key groups three more h = record {
   least = λ q has p. more (rank_on b es (f q) q m) (with_machine key (rank_at b es (f q) q m) m (sym three) (placeable_bound b es (Some key) groups (f q) q m (h q has) p));
 }
 
-pub record HasPlace (q : ℕ × ℕ) (line : List (ℕ × ℕ)) : Type 0 where
+pub record HasPlace (q : Pair) (line : List Pair) : Type 0 where
   pub place : ℕ
   pub at : slice_get line place ≡ Some q
 
-pub place_of : (q : ℕ × ℕ) (line : List (ℕ × ℕ)) → has_pair q line ≡ true → HasPlace q line
+pub place_of : (q : Pair) (line : List Pair) → has_pair q line ≡ true → HasPlace q line
 place_of q [] e = cc
 place_of q (x ∷ xs) e = elim (same_pair q x) as (λ t. same_pair q x ≡ t → (t || has_pair q xs) ≡ true → HasPlace q (x ∷ xs)) [
   | true ↦ λ t _. record { place = 0; at = ap Some (sym (pair_is q x t)) }
   | false ↦ λ _ e. let r = place_of q xs e in record { place = r.place + 1; at = ap (slice_get (x ∷ xs)) (let one : r.place + 1 ≡ suc r.place = omega arith in one) ∙ r.at }
 ] refl e
 
-pub index_within : (xs : List (ℕ × ℕ)) (i : ℕ) (p : ℕ × ℕ) → slice_get xs i ≡ Some p → i < length xs
+pub index_within : (xs : List Pair) (i : ℕ) (p : Pair) → slice_get xs i ≡ Some p → i < length xs
 index_within [] i p e = cc
 index_within (x ∷ xs) zero p e = omega arith
 index_within (x ∷ xs) (suc i) p e = let r = index_within xs i p e in omega (arith, r)
 
-pub same_place : (xs : List (ℕ × ℕ)) (i j : ℕ) (p q : ℕ × ℕ) → i ≡ j → slice_get xs i ≡ Some p → slice_get xs j ≡ Some q → q ≡ p
+pub same_place : (xs : List Pair) (i j : ℕ) (p q : Pair) → i ≡ j → slice_get xs i ≡ Some p → slice_get xs j ≡ Some q → q ≡ p
 same_place xs i j p q same e g = let o : Some q ≡ Some p = sym g ∙ ap (slice_get xs) (sym same) ∙ e in cc
 
 -- one mark is written

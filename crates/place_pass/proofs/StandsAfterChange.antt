@@ -7,8 +7,8 @@ use Rattle.std.proofs.lemmas.Bool.Decides.{nat_tests}
 use Rattle.std.proofs.lemmas.List.{get_or-set_same, get_or-set_other, length-replicate}
 use Rattle.fuxi_terms.specs.Cluster.{ClusterRecord, JobRecord, rack_of}
 use Rattle.fuxi_terms.specs.Counts.{count, set_count}
-use Rattle.fuxi_terms.specs.Keys.{Spot, spot_cmp}
-use Rattle.fuxi_terms.specs.Tables.{spot, held_on, held_in}
+use Rattle.fuxi_terms.specs.Keys.{Spot, spot_cmp, Pair}
+use Rattle.fuxi_terms.specs.Tables.{spot, held_on, held_in, Table}
 use Rattle.fuxi_terms.specs.TallyKeys.{near_key, rack_key}
 use Rattle.fuxi_terms.specs.declared.Key.{Key}
 use Rattle.fuxi_terms.proofs.Booleans.{and_true, both_true, nat_itself}
@@ -22,8 +22,8 @@ use Rattle.place_pass.proofs.WaitingLinesLemmas.{has_filter, pair_is, pair_turne
 use Rattle.place_pass.proofs.PlacerTreesLemmas.{nowhere_in, numbers_apart, racks_long, stands_on}
 
 -- ---- the number at one spot is set
-module _ (c : ClusterRecord) (cells : List (List Cell)) (es : List (Spot × ℕ)) (a u m n : ℕ) (sorted : T (is_sorted spot_cmp es)) where
-  abbrev told : List (Spot × ℕ)
+module _ (c : ClusterRecord) (cells : List (List Cell)) (es : Table) (a u m n : ℕ) (sorted : T (is_sorted spot_cmp es)) where
+  abbrev told : Table
   told = set_count spot_cmp es (spot a u m) n
 
   -- another unit stands as it has to
@@ -70,29 +70,29 @@ module _ (c : ClusterRecord) (cells : List (List Cell)) (es : List (Spot × ℕ)
       last false y z e = refl
 
   -- a line without the unit
-  pub all_left : (line line' : List (ℕ × ℕ)) (t t' : TreeRecord) → ((b v : ℕ) → has_pair (b, v) line' ≡ true → (has_pair (b, v) line ≡ true) × (same_pair (b, v) (a, u) ≡ false)) → t'.racks ≡ t.racks
+  pub all_left : (line line' : List Pair) (t t' : TreeRecord) → ((b v : ℕ) → has_pair (b, v) line' ≡ true → (has_pair (b, v) line ≡ true) × (same_pair (b, v) (a, u) ≡ false)) → t'.racks ≡ t.racks
       → ((b v : ℕ) → has_pair (b, v) line ≡ true → same_pair (b, v) (a, u) ≡ false → unit_at t' b v ≡ unit_at t b v) → AllStand c cells es line t → AllStand c cells told line' t'
   all_left line line' t t' less racks same h b v has =
       let x = less b v has in
       stands_on c cells told b v t t' racks (same b v x.0 x.1) (stands_other b v t x.1 (h b v x.0))
 
   -- and one in which it stays
-  pub all_told : (line : List (ℕ × ℕ)) (t t' : TreeRecord) → ((b v : ℕ) → has_pair (b, v) line ≡ true → v < 8) → has_pair (a, u) line ≡ true → m < length c.machines → rack_of c m < 64 → t.racks ≡ racks_of c → Restood (unit_number a u) t t'
+  pub all_told : (line : List Pair) (t t' : TreeRecord) → ((b v : ℕ) → has_pair (b, v) line ≡ true → v < 8) → has_pair (a, u) line ≡ true → m < length c.machines → rack_of c m < 64 → t.racks ≡ racks_of c → Restood (unit_number a u) t t'
       → RestoodAt c cells told a u m (rack_of c m) t t' → AllStand c cells es line t → AllStand c cells told line t'
   all_told line t t' small there lm lr racks r at h b v has = elim (same_pair (b, v) (a, u)) as (λ x. same_pair (b, v) (a, u) ≡ x → StandsAs c cells told b v t') [
-    | true ↦ λ x. subst (λ (q : ℕ × ℕ). StandsAs c cells told q.0 q.1 t') (sym (pair_is (b, v) (a, u) x)) (stands_told t t' lm lr racks r.racks at (h a u there))
+    | true ↦ λ x. subst (λ (q : Pair). StandsAs c cells told q.0 q.1 t') (sym (pair_is (b, v) (a, u) x)) (stands_told t t' lm lr racks r.racks at (h a u there))
     | false ↦ λ x. stands_on c cells told b v t t' r.racks (r.others (unit_number b v) (numbers_apart a u b v (small a u there) (small b v has) x)) (stands_other b v t x (h b v has))
   ] refl
 
 -- ---- what stays of a line when a unit that has nothing out leaves it
-abbrev pub others_in : ℕ → ℕ → List (ℕ × ℕ) → List (ℕ × ℕ)
+abbrev pub others_in : ℕ → ℕ → List Pair → List Pair
 others_in a u line = filter (λ p. not (nat_eq p.0 a && nat_eq p.1 u)) line
 
-pub has_others : (a u : ℕ) (line : List (ℕ × ℕ)) (p : ℕ × ℕ) → has_pair p (others_in a u line) ≡ (has_pair p line && not (same_pair p (a, u)))
+pub has_others : (a u : ℕ) (line : List Pair) (p : Pair) → has_pair p (others_in a u line) ≡ (has_pair p line && not (same_pair p (a, u)))
 has_others a u line p = has_filter (λ p. not (nat_eq p.0 a && nat_eq p.1 u)) p line
 
 -- a unit that is not there leaves it as it is
-pub none_leaves : (a u : ℕ) (line : List (ℕ × ℕ)) (w : Bool) (p : ℕ × ℕ) → has_pair (a, u) line ≡ false → has_pair p (cond w line (others_in a u line)) ≡ has_pair p line
+pub none_leaves : (a u : ℕ) (line : List Pair) (w : Bool) (p : Pair) → has_pair (a, u) line ≡ false → has_pair p (cond w line (others_in a u line)) ≡ has_pair p line
 none_leaves a u line true p out = refl
 none_leaves a u line false p out = has_others a u line p ∙ elim (same_pair p (a, u)) as (λ t. same_pair p (a, u) ≡ t → (has_pair p line && not t) ≡ has_pair p line) [
   | true ↦ λ t. let e : has_pair p line ≡ false = ap (λ q. has_pair q line) (pair_is p (a, u) t) ∙ out in ap (λ b. b && false) e ∙ sym e
@@ -103,7 +103,7 @@ none_leaves a u line false p out = has_others a u line p ∙ elim (same_pair p (
     all true = refl
     all false = refl
 
-pub apart_from : (a u : ℕ) (line : List (ℕ × ℕ)) (p : ℕ × ℕ) → has_pair p (others_in a u line) ≡ true → (has_pair p line ≡ true) × (same_pair p (a, u) ≡ false)
+pub apart_from : (a u : ℕ) (line : List Pair) (p : Pair) → has_pair p (others_in a u line) ≡ true → (has_pair p line ≡ true) × (same_pair p (a, u) ≡ false)
 apart_from a u line p has =
     let b = both_true (has_pair p line) (not (same_pair p (a, u))) (sym (has_others a u line p) ∙ has) in
     (b.0, turned (same_pair p (a, u)) b.1)
@@ -113,7 +113,7 @@ apart_from a u line p has =
     turned false e = refl
 
 -- ---- what is asked
-pub holds_cells : (c : ClusterRecord) (cells cells' : List (List Cell)) (waits : ℕ × ℕ → Bool) (turns : List ℕ) (t : TreeRecord) → ((a : ℕ) → length (get_or cells' a []) ≡ length (get_or cells a []))
+pub holds_cells : (c : ClusterRecord) (cells cells' : List (List Cell)) (waits : Pair → Bool) (turns : List ℕ) (t : TreeRecord) → ((a : ℕ) → length (get_or cells' a []) ≡ length (get_or cells a []))
     → ((a u : ℕ) → (cell_at cells' a u).unit.priority ≡ (cell_at cells a u).unit.priority) → Holds c cells waits turns t → Holds c cells' waits turns t
 holds_cells c cells cells' waits turns t long same h = record {
   racks = h.racks;
@@ -125,14 +125,14 @@ holds_cells c cells cells' waits turns t long same h = record {
   nowhere = h.nowhere;
 }
 
-pub stands_asked : (c : ClusterRecord) (cells cells' : List (List Cell)) (es : List (Spot × ℕ)) (b v : ℕ) (t : TreeRecord) → ((k : Key) → asks_in cells' b k ≡ asks_in cells b k) → StandsAs c cells es b v t → StandsAs c cells' es b v t
+pub stands_asked : (c : ClusterRecord) (cells cells' : List (List Cell)) (es : Table) (b v : ℕ) (t : TreeRecord) → ((k : Key) → asks_in cells' b k ≡ asks_in cells b k) → StandsAs c cells es b v t → StandsAs c cells' es b v t
 stands_asked c cells cells' es b v t e h = record {
   near = λ m lt. h.near m lt ∙ ap (nat_lt (held_on es b v m)) (sym (e (near_key v m)));
   racks = λ r lt. h.racks r lt ∙ ap (nat_lt (held_in c es b v r)) (sym (e (rack_key v r)));
 }
 
 -- ---- turns
-pub holds_turned : (c : ClusterRecord) (cells : List (List Cell)) (waits : ℕ × ℕ → Bool) (turns turns' : List ℕ) (t : TreeRecord) → ((a u : ℕ) → waits (a, u) ≡ true → (entry_for cells turns' a u).turn ≡ (entry_for cells turns a u).turn)
+pub holds_turned : (c : ClusterRecord) (cells : List (List Cell)) (waits : Pair → Bool) (turns turns' : List ℕ) (t : TreeRecord) → ((a u : ℕ) → waits (a, u) ≡ true → (entry_for cells turns' a u).turn ≡ (entry_for cells turns a u).turn)
     → Holds c cells waits turns t → Holds c cells waits turns' t
 holds_turned c cells waits turns turns' t same h = record {
   racks = h.racks;
@@ -164,7 +164,7 @@ pub all_are : all_units ≡ 2048
 unfolding all_units
 all_are = refl
 
-module _ (c : ClusterRecord) (cells : List (List Cell)) (xs : List Cell) (line : List (ℕ × ℕ)) (turns : List ℕ) (t : TreeRecord) (j : JobRecord) (h : HoldsLine c cells line turns t) (small : j.number < 256) (long : length cells ≡ 256) (few : length j.units ≤ 8)
+module _ (c : ClusterRecord) (cells : List (List Cell)) (xs : List Cell) (line : List Pair) (turns : List ℕ) (t : TreeRecord) (j : JobRecord) (h : HoldsLine c cells line turns t) (small : j.number < 256) (long : length cells ≡ 256) (few : length j.units ≤ 8)
     (count : length xs ≡ length j.units) (empty : get_or cells j.number [] ≡ []) (admitted : (a u : ℕ) → has_pair (a, u) line ≡ true → u < length (get_or cells a [])) where
   abbrev now : TreeRecord
   now = with_job t j
@@ -217,7 +217,7 @@ module _ (c : ClusterRecord) (cells : List (List Cell)) (xs : List Cell) (line :
   }
 
   -- nobody of the line stands otherwise
-  pub stands_admitted : (es : List (Spot × ℕ)) → ((a : ℕ) (k : Key) → asks_in cells' a k ≡ asks_in cells a k) → AllStand c cells es line t → AllStand c cells' es line now
+  pub stands_admitted : (es : Table) → ((a : ℕ) (k : Key) → asks_in cells' a k ≡ asks_in cells a k) → AllStand c cells es line t → AllStand c cells' es line now
   stands_admitted es asks all a u w =
       let same : unit_at now a u ≡ unit_at t a u = each_job (λ a u s. has_pair (a, u) line ≡ true → s ≡ unit_at t a u) (λ u lt w. absurd (of_others j.number u w refl)) (λ a u lu _ w. refl) a u (h.few a u w) w in
       stands_asked c cells cells' es a u now (asks a) (stands_on c cells es a u t now refl same (all a u w))

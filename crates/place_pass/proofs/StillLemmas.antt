@@ -4,12 +4,12 @@ use Rattle.std.specs.Prelude.{◌&&◌, ◌||◌}
 use Rattle.std.proofs.lemmas.Bool.Decides.{nat_tests}
 use Rattle.fuxi_terms.specs.Counts.{count}
 use Rattle.fuxi_terms.specs.Jobs.{unit_count}
-use Rattle.fuxi_terms.specs.Keys.{Spot, spot_cmp}
+use Rattle.fuxi_terms.specs.Keys.{spot_cmp, Pair}
 use Rattle.fuxi_terms.specs.declared.Key.{Key}
 use Rattle.fuxi_terms.specs.Lists.{below}
 use Rattle.fuxi_terms.specs.Numbers.{has_number}
 use Rattle.fuxi_terms.specs.TallyKeys.{want_key}
-use Rattle.fuxi_terms.specs.Tables.{spot, held}
+use Rattle.fuxi_terms.specs.Tables.{spot, held, Table}
 use Rattle.fuxi_terms.proofs.Booleans.{both_true, number_is, or_right}
 use Rattle.fuxi_terms.proofs.Sums.{sum_set}
 use Rattle.written_roles.specs.Masters.{out_of}
@@ -34,7 +34,7 @@ one_stirred true y = refl
 one_stirred false y = refl
 
 -- ---- who leaves
-pub filter_all : (q : ℕ × ℕ → Bool) (xs : List (ℕ × ℕ)) → ((p : ℕ × ℕ) → has_pair p xs ≡ true → q p ≡ true) → filter q xs ≡ xs
+pub filter_all : (q : Pair → Bool) (xs : List Pair) → ((p : Pair) → has_pair p xs ≡ true → q p ≡ true) → filter q xs ≡ xs
 filter_all q [] h = refl
 filter_all q (x ∷ xs) h =
     ap (λ b. cond b (x ∷ filter q xs) (filter q xs)) (h x (ap (λ b. b || has_pair x xs) (pair_self x)))
@@ -44,7 +44,7 @@ pub all_kept : (x w : Bool) → (x ≡ true → w ≡ true) → (x && w) ≡ x
 all_kept true w f = f refl
 all_kept false w f = refl
 
-pub still_left : (cells : List (List Cell)) (line : List (ℕ × ℕ)) (calm : List Bool) (t : TableRecord) → IsStill cells line calm t → IsStill cells (filter (λ p. nat_lt 0 (out_of (asks_in cells) t.entries p.0 p.1)) line) calm t
+pub still_left : (cells : List (List Cell)) (line : List Pair) (calm : List Bool) (t : TableRecord) → IsStill cells line calm t → IsStill cells (filter (λ p. nat_lt 0 (out_of (asks_in cells) t.entries p.0 p.1)) line) calm t
 still_left cells line calm t h = record {
   still = λ a u c.
       let w = nat_lt 0 (out_of (asks_in cells) t.entries a u) in
@@ -57,12 +57,12 @@ still_left cells line calm t h = record {
     twice false w = refl
 
 -- ---- who joins
-pub paired_same : (r s : ℕ × ℕ → Bool) (a : ℕ) (vs : List ℕ) → ((u : ℕ) → r (a, u) ≡ s (a, u)) → filter r (map (λ u. (a, u)) vs) ≡ filter s (map (λ u. (a, u)) vs)
+pub paired_same : (r s : Pair → Bool) (a : ℕ) (vs : List ℕ) → ((u : ℕ) → r (a, u) ≡ s (a, u)) → filter r (map (λ u. (a, u)) vs) ≡ filter s (map (λ u. (a, u)) vs)
 paired_same r s a [] e = refl
 paired_same r s a (v ∷ vs) e =
     ap (λ b. cond b ((a, v) ∷ filter r (map (λ u. (a, u)) vs)) (filter r (map (λ u. (a, u)) vs))) (e v) ∙ ap (λ zs. cond (s (a, v)) ((a, v) ∷ zs) zs) (paired_same r s a vs e)
 
-pub none_new : (line : List (ℕ × ℕ)) (a n : ℕ) (w : ℕ → Bool) → ((u : ℕ) → nat_lt u n ≡ true → w u ≡ true → has_pair (a, u) line ≡ true) → filter (λ p. not (has_pair p line)) (map (λ u. (a, u)) (filter w (below n))) ≡ []
+pub none_new : (line : List Pair) (a n : ℕ) (w : ℕ → Bool) → ((u : ℕ) → nat_lt u n ≡ true → w u ≡ true → has_pair (a, u) line ≡ true) → filter (λ p. not (has_pair p line)) (map (λ u. (a, u)) (filter w (below n))) ≡ []
 none_new line a n w h = none_had (filter (λ p. not (has_pair p line)) (map (λ u. (a, u)) (filter w (below n)))) (λ p has.
     let b = both_true (has_pair p (map (λ u. (a, u)) (filter w (below n)))) (not (has_pair p line)) (sym (has_filter (λ p. not (has_pair p line)) p (map (λ u. (a, u)) (filter w (below n)))) ∙ has) in
     let m = both_true (nat_eq p.0 a) (has_number p.1 (below n) && w p.1) (sym (has_mapped p.0 a p.1 w (below n)) ∙ b.0) in
@@ -72,12 +72,12 @@ none_new line a n w h = none_had (filter (λ p. not (has_pair p line)) (map (λ 
     let z : ⊥ = cc in z)
 
 -- of those that wait none has nothing out, so who was in the line is in what is left of it
-pub waiting_waits : (numbers : List ℕ) (units : ℕ → ℕ) (asks : ℕ → Key → ℕ) (table : List (Spot × ℕ)) (p : ℕ × ℕ) → has_pair p (waiting_in numbers units asks table) ≡ true → nat_lt 0 (out_of asks table p.0 p.1) ≡ true
+pub waiting_waits : (numbers : List ℕ) (units : ℕ → ℕ) (asks : ℕ → Key → ℕ) (table : Table) (p : Pair) → has_pair p (waiting_in numbers units asks table) ≡ true → nat_lt 0 (out_of asks table p.0 p.1) ≡ true
 waiting_waits numbers units asks table p has =
     let f = both_true (has_number p.0 numbers) (nat_lt p.1 (units p.0) && nat_lt 0 (out_of asks table p.0 p.1)) (sym (has_flat units (λ a u. nat_lt 0 (out_of asks table a u)) p.0 p.1 numbers) ∙ has) in
     (both_true (nat_lt p.1 (units p.0)) (nat_lt 0 (out_of asks table p.0 p.1)) f.1).1
 
-joined_same : (line front : List (ℕ × ℕ)) (q : ℕ × ℕ → Bool) (all : List (ℕ × ℕ)) → front ≡ filter q line → ((p : ℕ × ℕ) → has_pair p all ≡ true → q p ≡ true) → filter (λ p. not (has_pair p front)) all ≡ filter (λ p. not (has_pair p line)) all
+joined_same : (line front : List Pair) (q : Pair → Bool) (all : List Pair) → front ≡ filter q line → ((p : Pair) → has_pair p all ≡ true → q p ≡ true) → filter (λ p. not (has_pair p front)) all ≡ filter (λ p. not (has_pair p line)) all
 joined_same line front q [] is w = refl
 joined_same line front q (x ∷ xs) is w =
     let here : has_pair x front ≡ has_pair x line = ap (has_pair x) is ∙ has_filter q x line ∙ ap (λ b. has_pair x line && b) (w x (ap (λ b. b || has_pair x xs) (pair_self x))) ∙ on (has_pair x line) in
@@ -88,12 +88,12 @@ joined_same line front q (x ∷ xs) is w =
     on true = refl
     on false = refl
 
-pub joined_is : (line front all next : List (ℕ × ℕ)) (q : ℕ × ℕ → Bool) → front ≡ filter q line → ((p : ℕ × ℕ) → has_pair p all ≡ true → q p ≡ true) → next ≡ front ++ filter (λ p. not (has_pair p front)) all → next ≡ front ++ filter (λ p. not (has_pair p line)) all
+pub joined_is : (line front all next : List Pair) (q : Pair → Bool) → front ≡ filter q line → ((p : Pair) → has_pair p all ≡ true → q p ≡ true) → next ≡ front ++ filter (λ p. not (has_pair p front)) all → next ≡ front ++ filter (λ p. not (has_pair p line)) all
 joined_is line front all next q is w next_is = next_is ∙ ap (λ xs. front ++ xs) (joined_same line front q all is w)
 
 -- ---- what is told of one job leaves the others as they are
 module _ (calm calm' : List Bool) (a : ℕ) (less : (b : ℕ) → get_or calm' b false ≡ (not (nat_eq a b) && get_or calm b false)) where
-  pub still_told : (cells : List (List Cell)) (line line' : List (ℕ × ℕ)) (before after : TableRecord) (u m : ℕ) → IsSetFrom before after (spot a u m) → ((b v : ℕ) → nat_eq a b ≡ false → has_pair (b, v) line' ≡ has_pair (b, v) line)
+  pub still_told : (cells : List (List Cell)) (line line' : List Pair) (before after : TableRecord) (u m : ℕ) → IsSetFrom before after (spot a u m) → ((b v : ℕ) → nat_eq a b ≡ false → has_pair (b, v) line' ≡ has_pair (b, v) line)
       → IsStill cells line calm before → IsStill cells line' calm' after
   still_told cells line line' before after u m is same h = record {
     still = λ b v c.
@@ -117,7 +117,7 @@ module _ (calm calm' : List Bool) (a : ℕ) (less : (b : ℕ) → get_or calm' b
           let h : held after.entries b v + 0 ≡ held before.entries b v + 0 = subst (λ t. held after.entries b v + cond (t && nat_eq u v) (count spot_cmp before.entries (spot a u m)) 0 ≡ held before.entries b v + cond (t && nat_eq u v) is.number 0) f (held_then b v) in
           omega (arith, h)
 
-  pub still_asked : (cells cells' : List (List Cell)) (line : List (ℕ × ℕ)) (before after : TableRecord) → ((b : ℕ) (k : Key) → nat_eq a b ≡ false → asks_in cells' b k ≡ asks_in cells b k) → after.entries ≡ before.entries
+  pub still_asked : (cells cells' : List (List Cell)) (line : List Pair) (before after : TableRecord) → ((b : ℕ) (k : Key) → nat_eq a b ≡ false → asks_in cells' b k ≡ asks_in cells b k) → after.entries ≡ before.entries
       → ((b : ℕ) → nat_eq a b ≡ false → unit_count (as_known after.jobs) b ≡ unit_count (as_known before.jobs) b) → IsStill cells line calm before → IsStill cells' line calm' after
   still_asked cells cells' line before after asks entries units h = record {
     still = λ b v c.
@@ -126,7 +126,7 @@ module _ (calm calm' : List Bool) (a : ℕ) (less : (b : ℕ) → get_or calm' b
   }
 
 -- of the line loses only pairs of the job
-pub others_stay : (line : List (ℕ × ℕ)) (a u b v : ℕ) → nat_eq a b ≡ false → has_pair (b, v) (filter (λ p. not (nat_eq p.0 a && nat_eq p.1 u)) line) ≡ has_pair (b, v) line
+pub others_stay : (line : List Pair) (a u b v : ℕ) → nat_eq a b ≡ false → has_pair (b, v) (filter (λ p. not (nat_eq p.0 a && nat_eq p.1 u)) line) ≡ has_pair (b, v) line
 others_stay line a u b v f =
     let g : nat_eq b a ≡ false = grind (arith, nat_tests, f) in
     has_filter (λ p. not (nat_eq p.0 a && nat_eq p.1 u)) (b, v) line ∙ ap (λ t. has_pair (b, v) line && not (t && nat_eq v u)) g ∙ on (has_pair (b, v) line)

@@ -7,11 +7,12 @@ use Rattle.std.proofs.lemmas.List.Sums.{length-filter, count_by-le-length}
 use Rattle.fuxi_terms.specs.Cluster.{JobRecord}
 use Rattle.fuxi_terms.specs.declared.Key.{Key}
 use Rattle.fuxi_terms.specs.Jobs.{KnownJob, job_of, job_numbers, unit_count}
-use Rattle.fuxi_terms.specs.Keys.{Spot}
+use Rattle.fuxi_terms.specs.Keys.{Pair}
 use Rattle.fuxi_terms.specs.Lists.{below}
 use Rattle.fuxi_terms.proofs.Alls.{all_more}
 use Rattle.fuxi_terms.proofs.Lists.{length-below}
 use Rattle.fuxi_terms.proofs.ValidJobs.{job_small, units_few}
+use Rattle.fuxi_terms.specs.Tables.{Table}
 use Rattle.written_roles.specs.Masters.{out_of}
 use Rattle.written_roles.specs.Placing.{waiting_in}
 use Rattle.grant_table.specs.GrantTables.{as_known, AreJobs}
@@ -42,11 +43,11 @@ few_units (j ∷ js) h a = by (nat_eq j.number a) (units_few j h.0) (few_units j
     by true x y = x
     by false x y = y
 
-few_in : (numbers : List ℕ) (units : ℕ → ℕ) (asks : ℕ → Key → ℕ) (table : List (Spot × ℕ)) → ((a : ℕ) → units a ≤ 8) → length (waiting_in numbers units asks table) ≤ 8 * length numbers
+few_in : (numbers : List ℕ) (units : ℕ → ℕ) (asks : ℕ → Key → ℕ) (table : Table) → ((a : ℕ) → units a ≤ 8) → length (waiting_in numbers units asks table) ≤ 8 * length numbers
 few_in [] units asks table h = omega arith
 few_in (a ∷ as_) units asks table h =
     let w : ℕ → Bool = λ u. nat_lt 0 (out_of asks table a u) in
-    let f : ℕ → ℕ × ℕ = λ u. (a, u) in
+    let f : ℕ → Pair = λ u. (a, u) in
     let both = length-append (map f (filter w (below (units a)))) (waiting_in as_ units asks table) in
     let mapped = length-map (filter w (below (units a))) f in
     let some = fewer w (below (units a)) in
@@ -56,7 +57,7 @@ few_in (a ∷ as_) units asks table h =
     omega (arith, both, mapped, some, all, most, rest)
 
 -- those that begin to wait are some of those that wait
-pub few_begin : (js : List JobRecord) (asks : ℕ → Key → ℕ) (table : List (Spot × ℕ)) (q : ℕ × ℕ → Bool) → AreJobs js → job_numbers (as_known js) ≡ map (λ (j : JobRecord). j.number) js
+pub few_begin : (js : List JobRecord) (asks : ℕ → Key → ℕ) (table : Table) (q : Pair → Bool) → AreJobs js → job_numbers (as_known js) ≡ map (λ (j : JobRecord). j.number) js
     → length (filter q (waiting_in (job_numbers (as_known js)) (unit_count (as_known js)) asks table)) ≤ 2048
 few_begin js asks table q jobs is =
     let some = fewer q (waiting_in (job_numbers (as_known js)) (unit_count (as_known js)) asks table) in

@@ -15,23 +15,24 @@ use Rattle.grant_table.specs.GrantTables.{as_known, AreJobs}
 use Rattle.fuxi_terms.specs.Lists.{below}
 use Rattle.fuxi_terms.specs.Numbers.{has_number}
 use Rattle.fuxi_terms.proofs.Booleans.{both_true, number_is, nat_itself, or_right, and_false}
+use Rattle.fuxi_terms.specs.Keys.{Pair}
 use Rattle.written_roles.specs.Placing.{has_pair}
 use Rattle.place_pass.specs.Cells.{Cell}
 use Rattle.place_pass.specs.Best.{AreAdmitted}
 use Rattle.place_pass.specs.WaitingLines.{same_pair, units_in_all}
 
 -- ---- pairs
-pub pair_is : (p q : ℕ × ℕ) → same_pair p q ≡ true → p ≡ q
+pub pair_is : (p q : Pair) → same_pair p q ≡ true → p ≡ q
 pair_is p q e = let b = both_true (nat_eq p.0 q.0) (nat_eq p.1 q.1) e in let x = number_is p.0 q.0 b.0 in let y = number_is p.1 q.1 b.1 in λ i. (x i, y i)
 
-pub pair_self : (p : ℕ × ℕ) → same_pair p p ≡ true
+pub pair_self : (p : Pair) → same_pair p p ≡ true
 pair_self p = let x = nat_itself p.0 in let y = nat_itself p.1 in rw (x, y)
 
-pub pair_turned : (p q : ℕ × ℕ) → same_pair p q ≡ same_pair q p
+pub pair_turned : (p q : Pair) → same_pair p q ≡ same_pair q p
 pair_turned p q = elim (same_pair p q) as (λ b. same_pair p q ≡ b → b ≡ same_pair q p) [
-  | true ↦ λ t. let e = pair_is p q t in sym (subst (λ (x : ℕ × ℕ). same_pair q x ≡ true) (sym e) (pair_self q))
+  | true ↦ λ t. let e = pair_is p q t in sym (subst (λ (x : Pair). same_pair q x ≡ true) (sym e) (pair_self q))
   | false ↦ λ f. elim (same_pair q p) as (λ b. same_pair q p ≡ b → false ≡ b) [
-    | true ↦ λ t. let e = pair_is q p t in sym f ∙ subst (λ (x : ℕ × ℕ). same_pair p x ≡ true) (sym e) (pair_self p)
+    | true ↦ λ t. let e = pair_is q p t in sym f ∙ subst (λ (x : Pair). same_pair p x ≡ true) (sym e) (pair_self p)
     | false ↦ λ _. refl
   ] refl
 ] refl
@@ -60,7 +61,7 @@ none_filter f q (x ∷ xs) e = let n = neither (f x) (list_any f xs) e in elim (
 ]
 
 -- what passes a test of its own has the member where it passes
-pub has_filter : (q : ℕ × ℕ → Bool) (p : ℕ × ℕ) (xs : List (ℕ × ℕ)) → has_pair p (filter q xs) ≡ (has_pair p xs && q p)
+pub has_filter : (q : Pair → Bool) (p : Pair) (xs : List Pair) → has_pair p (filter q xs) ≡ (has_pair p xs && q p)
 has_filter q p [] = refl
 has_filter q p (x ∷ xs) = elim (same_pair p x) as (λ b. same_pair p x ≡ b → has_pair p (cond (q x) (x ∷ filter q xs) (filter q xs)) ≡ ((b || has_pair p xs) && q p)) [
   | true ↦ λ t.
@@ -87,7 +88,7 @@ filter_append q [] ys = refl
 filter_append q (x ∷ xs) ys = elim (q x) as (λ b. cond b (x ∷ filter q (xs ++ ys)) (filter q (xs ++ ys)) ≡ cond b (x ∷ filter q xs) (filter q xs) ++ filter q ys) [ true ↦ ap (λ zs. x ∷ zs) (filter_append q xs ys) | false ↦ filter_append q xs ys ]
 
 -- one more that passes, or not
-pub filter_more : (q : ℕ × ℕ → Bool) (xs : List (ℕ × ℕ)) (i : ℕ) (p : ℕ × ℕ) → slice_get xs i ≡ Some p → filter q (take (i + 1) xs) ≡ filter q (take i xs) ++ cond (q p) (p ∷ []) []
+pub filter_more : (q : Pair → Bool) (xs : List Pair) (i : ℕ) (p : Pair) → slice_get xs i ≡ Some p → filter q (take (i + 1) xs) ≡ filter q (take i xs) ++ cond (q p) (p ∷ []) []
 filter_more q xs i p e = ap (filter q) (take_last xs i p e) ∙ filter_last q (take i xs) p
 
 pub taken_whole : {A : Type 0} (xs : List A) (n : ℕ) → length xs ≤ n → take n xs ≡ xs
@@ -97,7 +98,7 @@ taken_whole (x ∷ xs) zero h = absurd (omega (arith, h))
 taken_whole (x ∷ xs) (suc n) h = ap (λ ys. x ∷ ys) (taken_whole xs n (omega (arith, h)))
 
 -- one of distinct pairs is none of those before it
-pub distinct_at : (xs : List (ℕ × ℕ)) (i : ℕ) (p : ℕ × ℕ) → slice_get xs i ≡ Some p → IsDistinct same_pair xs → has_pair p (take i xs) ≡ false
+pub distinct_at : (xs : List Pair) (i : ℕ) (p : Pair) → slice_get xs i ≡ Some p → IsDistinct same_pair xs → has_pair p (take i xs) ≡ false
 unfolding IsDistinct
 distinct_at [] i p e h = cc
 distinct_at (x ∷ xs) zero p e h = refl
@@ -105,9 +106,9 @@ distinct_at (x ∷ xs) (suc i) p e h =
     let first : same_pair p x ≡ false = pair_turned p x ∙ at xs i h.0 e in
     ap (λ b. b || has_pair p (take i xs)) first ∙ distinct_at xs i p e h.1
   where
-    at : (ys : List (ℕ × ℕ)) (i : ℕ) → AllByRecursion (λ y. same_pair x y ≡ false) ys → slice_get ys i ≡ Some p → same_pair x p ≡ false
+    at : (ys : List Pair) (i : ℕ) → AllByRecursion (λ y. same_pair x y ≡ false) ys → slice_get ys i ≡ Some p → same_pair x p ≡ false
     at [] i h e = cc
-    at (y ∷ ys) zero h e = let same : y ≡ p = cc in subst (λ (z : ℕ × ℕ). same_pair x z ≡ false) same h.0
+    at (y ∷ ys) zero h e = let same : y ≡ p = cc in subst (λ (z : Pair). same_pair x z ≡ false) same h.0
     at (y ∷ ys) (suc i) h e = at ys i h.1 e
 
 -- ---- members of what waits
@@ -172,7 +173,7 @@ flat_append f [] ys = refl
 flat_append f (x ∷ xs) ys = ap (λ zs. f x ++ zs) (flat_append f xs ys) ∙ sym (append_assoc (f x) (flat_map f xs) (flat_map f ys))
 
 -- ---- room
-pairs_from : ℕ → List (List Cell) → List (ℕ × ℕ)
+pairs_from : ℕ → List (List Cell) → List Pair
 pairs_from a [] = []
 pairs_from a (xs ∷ xss) = map (λ u. (a, u)) (below (length xs)) ++ pairs_from (a + 1) xss
 
@@ -181,7 +182,7 @@ unfolding pairs_from
 length_pairs a [] = refl
 length_pairs a (xs ∷ xss) =
     let l = length-append (map (λ u. (a, u)) (below (length xs))) (pairs_from (a + 1) xss) in
-    let f : ℕ → ℕ × ℕ = λ u. (a, u) in
+    let f : ℕ → Pair = λ u. (a, u) in
     let m = length-map (below (length xs)) f in
     let b = length-below (length xs) in
     let r = length_pairs (a + 1) xss in
@@ -207,24 +208,24 @@ has_universe (xs ∷ xss) a b u (suc k) e lt =
     ∙ or_right (has_pair (b, u) (map (λ v. (a, v)) (below (length xs)))) (has_pair (b, u) (pairs_from (a + 1) xss)) (has_universe xss (a + 1) b u k (omega (arith, e)) lt)
 
 -- a new admitted pair finds room
-pub room_left : (cells : List (List Cell)) (pairs : List (ℕ × ℕ)) (a u : ℕ) → AreAdmitted cells pairs → IsDistinct same_pair pairs → has_pair (a, u) pairs ≡ false → u < length (get_or cells a []) → length pairs + 1 ≤ units_in_all cells
+pub room_left : (cells : List (List Cell)) (pairs : List Pair) (a u : ℕ) → AreAdmitted cells pairs → IsDistinct same_pair pairs → has_pair (a, u) pairs ≡ false → u < length (get_or cells a []) → length pairs + 1 ≤ units_in_all cells
 unfolding IsDistinct
 room_left cells pairs a u h d new lt =
     let more = length-le_from_is_member laws ((a, u) ∷ pairs) (pairs_from 0 cells) (apart pairs new, d) (λ q e. elim (either_one (same_pair q (a, u)) (has_pair q pairs) e) [
-      | inl s ↦ subst (λ (x : ℕ × ℕ). has_pair x (pairs_from 0 cells) ≡ true) (sym (pair_is q (a, u) s)) (has_universe cells 0 a u a (omega arith) lt)
+      | inl s ↦ subst (λ (x : Pair). has_pair x (pairs_from 0 cells) ≡ true) (sym (pair_is q (a, u) s)) (has_universe cells 0 a u a (omega arith) lt)
       | inr t ↦ member q pairs t h
     ]) in
     let l = length_pairs 0 cells in
     omega (arith, more, l)
   where
-    apart : (ks : List (ℕ × ℕ)) → has_pair (a, u) ks ≡ false → AllByRecursion (λ y. same_pair (a, u) y ≡ false) ks
+    apart : (ks : List Pair) → has_pair (a, u) ks ≡ false → AllByRecursion (λ y. same_pair (a, u) y ≡ false) ks
     apart [] e = tt
     apart (k ∷ ks) e = let n = neither (same_pair (a, u) k) (has_pair (a, u) ks) e in (n.0, apart ks n.1)
 
-    member : (q : ℕ × ℕ) (ks : List (ℕ × ℕ)) → has_pair q ks ≡ true → AreAdmitted cells ks → has_pair q (pairs_from 0 cells) ≡ true
+    member : (q : Pair) (ks : List Pair) → has_pair q ks ≡ true → AreAdmitted cells ks → has_pair q (pairs_from 0 cells) ≡ true
     member q [] e h = cc
     member q (k ∷ ks) e h = elim (either_one (same_pair q k) (has_pair q ks) e) [
-      | inl s ↦ subst (λ (x : ℕ × ℕ). has_pair x (pairs_from 0 cells) ≡ true) (sym (pair_is q k s)) (has_universe cells 0 k.0 k.1 k.0 (omega arith) h.0)
+      | inl s ↦ subst (λ (x : Pair). has_pair x (pairs_from 0 cells) ≡ true) (sym (pair_is q k s)) (has_universe cells 0 k.0 k.1 k.0 (omega arith) h.0)
       | inr t ↦ member q ks t h.1
     ]
 
@@ -247,10 +248,10 @@ map_last f q (y ∷ ys) x = elim (q y) as (λ b. map f (cond b (y ∷ filter q (
   | false ↦ map_last f q ys x
 ]
 
-pub joined_more : (old : List (ℕ × ℕ)) (r : ℕ × ℕ → Bool) (w : ℕ → Bool) (a n : ℕ) (b : Bool) → (w n && r (a, n)) ≡ b
+pub joined_more : (old : List Pair) (r : Pair → Bool) (w : ℕ → Bool) (a n : ℕ) (b : Bool) → (w n && r (a, n)) ≡ b
     → (old ++ filter r (map (λ u. (a, u)) (filter w (below n)))) ++ cond b ((a, n) ∷ []) [] ≡ old ++ filter r (map (λ u. (a, u)) (filter w (below (n + 1))))
 joined_more old r w a n b e =
-    let f : ℕ → ℕ × ℕ = λ u. (a, u) in
+    let f : ℕ → Pair = λ u. (a, u) in
     append_assoc old (filter r (map f (filter w (below n)))) (cond b ((a, n) ∷ []) [])
     ∙ ap (λ xs. old ++ xs) (sym (ap (λ k. filter r (map f (filter w (below k)))) (add-one n) ∙ ap (filter r) (map_last f w (below n) n) ∙ filter_append r (map f (filter w (below n))) (cond (w n) ((a, n) ∷ []) []) ∙ ap (λ xs. filter r (map f (filter w (below n))) ++ xs) (one (w n) ∙ ap (λ t. cond t ((a, n) ∷ []) []) e)))
   where
@@ -289,6 +290,6 @@ known_number (k ∷ ks) a lt = elim (nat_eq k.number a) as (λ t. nat_eq k.numbe
 ] refl lt
 
 -- tests that agree keep the same
-pub filter_same : (q r : ℕ × ℕ → Bool) (xs : List (ℕ × ℕ)) → AllByRecursion (λ p. q p ≡ r p) xs → filter q xs ≡ filter r xs
+pub filter_same : (q r : Pair → Bool) (xs : List Pair) → AllByRecursion (λ p. q p ≡ r p) xs → filter q xs ≡ filter r xs
 filter_same q r [] h = refl
 filter_same q r (x ∷ xs) h = ap (λ b. cond b (x ∷ filter q xs) (filter q xs)) h.0 ∙ ap (λ zs. cond (r x) (x ∷ zs) zs) (filter_same q r xs h.1)

@@ -6,8 +6,8 @@ use Rattle.std.specs.Ordering.{nat_cmp, is_lt}
 use Rattle.std.specs.Cmp.Lexicographic.{slice_cmp}
 use Rattle.std.proofs.Common.{get_or}
 use Rattle.fuxi_terms.specs.Cluster.{ClusterRecord, rack_of}
-use Rattle.fuxi_terms.specs.Keys.{Spot}
-use Rattle.fuxi_terms.specs.Tables.{held_in}
+use Rattle.fuxi_terms.specs.Keys.{Spot, Pair}
+use Rattle.fuxi_terms.specs.Tables.{held_in, Table}
 use Rattle.fuxi_terms.specs.TallyKeys.{rack_key}
 use Rattle.written_roles.specs.Masters.{level_of}
 use Rattle.written_roles.specs.Placing.{Board, accepts_in, has_room_in, is_allowed_in}
@@ -63,7 +63,7 @@ abbrev pub after_taking : ClusterRecord → ℕ → ℕ → Bool → ℕ → Mar
 after_taking c g machine nearer m k = taken_mark (nat_eq m machine) g (nearer && nat_eq (rack_of c m) (rack_of c machine)) k
 
 -- a unit wants more in the rack of a machine than it has there
-abbrev pub is_nearer_in : Board → List (Spot × ℕ) → Spot → Bool
+abbrev pub is_nearer_in : Board → Table → Spot → Bool
 is_nearer_in b es s = nat_lt (held_in b.cluster es s.job s.unit (rack_of b.cluster s.machine)) (b.asks s.job (rack_key s.unit (rack_of b.cluster s.machine)))
 
 -- the bound of all pairs of the line, whose turns are below a number
@@ -71,11 +71,11 @@ abbrev pub key_of : MarkRecord → ℕ → Option (List ℕ)
 key_of k turns = cond (nat_lt k.until turns) (Some zero_rank) k.bound
 
 -- the rank of a pair on a machine, by its turn and without the machine
-abbrev pub rank_at : Board → List (Spot × ℕ) → ℕ → ℕ × ℕ → ℕ → List ℕ
+abbrev pub rank_at : Board → Table → ℕ → Pair → ℕ → List ℕ
 rank_at b es turn p m = (9 - b.priorities p.0 p.1) ∷ level_of b.cluster b.asks es p.0 p.1 m ∷ turn ∷ []
 
 -- and with the machine
-abbrev pub rank_on : Board → List (Spot × ℕ) → ℕ → ℕ × ℕ → ℕ → List ℕ
+abbrev pub rank_on : Board → Table → ℕ → Pair → ℕ → List ℕ
 rank_on b es turn p m = (9 - b.priorities p.0 p.1) ∷ level_of b.cluster b.asks es p.0 p.1 m ∷ turn ∷ m ∷ []
 
 abbrev pub comes_before : List ℕ → List ℕ → Bool
@@ -87,7 +87,7 @@ is_bound None r = false
 is_bound (Some b) r = not (comes_before r b)
 
 -- what a mark says of one pair: where the machine takes it and has room, its rank is bounded, or its group is noted and does not allow it
-pub record IsBounded (b : Board) (es : List (Spot × ℕ)) (bound : Option (List ℕ)) (groups : List Bool) (turn : ℕ) (p : ℕ × ℕ) (m : ℕ) : Type 0 where
+pub record IsBounded (b : Board) (es : Table) (bound : Option (List ℕ)) (groups : List Bool) (turn : ℕ) (p : Pair) (m : ℕ) : Type 0 where
   pub bounded : accepts_in b es p.0 p.1 m ≡ true → has_room_in b.cluster b.sizes es p.0 p.1 m ≡ true
       → (is_bound bound (rank_at b es turn p m) || (get_or groups (b.groups p.0) false && not (is_allowed_in b.cluster b.groups b.sizes es p.0 p.1))) ≡ true
 
@@ -96,15 +96,15 @@ abbrev pub turn_at : List ℕ → ℕ → ℕ → ℕ
 turn_at turns a u = get_or turns (a * 8 + u) 0
 
 -- turns rise along a line
-abbrev pub Rises : (ℕ × ℕ → ℕ) → List (ℕ × ℕ) → Type 0
+abbrev pub Rises : (Pair → ℕ) → List Pair → Type 0
 Rises f [] = ⊤
-Rises f (p ∷ ps) = AllByRecursion (λ (q : ℕ × ℕ). f p < f q) ps × Rises f ps
+Rises f (p ∷ ps) = AllByRecursion (λ (q : Pair). f p < f q) ps × Rises f ps
 
 -- the same by places
-pub record IsRising (f : ℕ × ℕ → ℕ) (line : List (ℕ × ℕ)) : Type 0 where
-  pub before : (i j : ℕ) (p q : ℕ × ℕ) → slice_get line i ≡ Some p → slice_get line j ≡ Some q → i < j → f p < f q
+pub record IsRising (f : Pair → ℕ) (line : List Pair) : Type 0 where
+  pub before : (i j : ℕ) (p q : Pair) → slice_get line i ≡ Some p → slice_get line j ≡ Some q → i < j → f p < f q
 
 -- the pairs have the turns from a number on, one after another
-abbrev pub Numbered : (ℕ × ℕ → ℕ) → ℕ → List (ℕ × ℕ) → Type 0
+abbrev pub Numbered : (Pair → ℕ) → ℕ → List Pair → Type 0
 Numbered f n [] = ⊤
 Numbered f n (p ∷ ps) = (f p ≡ n) × Numbered f (n + 1) ps

@@ -6,7 +6,7 @@ use Rattle.fuxi_terms.specs.Cluster.{ClusterRecord, JobRecord, has_rack, has_at}
 use Rattle.fuxi_terms.specs.Limits.{greatest_count, most_jobs}
 use Rattle.fuxi_terms.specs.Tables.{held, held_on, total_at}
 use Rattle.fuxi_terms.specs.declared.Key.{Key}
-use Rattle.fuxi_terms.specs.Keys.{Spot, key_cmp, spot_cmp}
+use Rattle.fuxi_terms.specs.Keys.{Spot, key_cmp, spot_cmp, Pair}
 use Rattle.fuxi_terms.specs.Counts.{count, set_count}
 use Rattle.fuxi_terms.specs.TallyKeys.{want_key, avoid_key}
 use Rattle.fuxi_terms.specs.Jobs.{KnownJob, job_of, job_numbers, unit_count, priority_of, size_at, most_of, group_of}
@@ -26,7 +26,7 @@ pub record SeenRecord : Type 0 where
   pub cluster : ClusterRecord
   pub cells : List (List Cell)
   pub opened : List Bool
-  pub line : List (ℕ × ℕ)
+  pub line : List Pair
   pub turns : ℕ
 
 -- what it keeps beside: a mark for each machine, and with 8 places for each job the turn of each pair of the line, and what each unit held when a change of it was told last
@@ -105,29 +105,29 @@ pub record IsIdle (cells : List (List Cell)) (machines : List Bool) (t : TableRe
   pub none : (a u m : ℕ) → u < unit_count (as_known t.jobs) a → m < length t.cluster.machines → placeable_in (board_over cells machines t) t.entries a u m ≡ false
 
 -- What the marks say of the pairs of the line, that turns rise along it, and that what was told of what units hold is so
-pub record IsKept (cells : List (List Cell)) (machines : List Bool) (line : List (ℕ × ℕ)) (turns : ℕ) (k : KeptRecord) (t : TableRecord) : Type 0 where
+pub record IsKept (cells : List (List Cell)) (machines : List Bool) (line : List Pair) (turns : ℕ) (k : KeptRecord) (t : TableRecord) : Type 0 where
   pub bounds : (m a u : ℕ) → get_or machines m false ≡ true → has_pair (a, u) line ≡ true → turn_at k.turn_of a u < (mark_at k.marks m).until
       → IsBounded (board_over cells machines t) t.entries (mark_at k.marks m).bound (mark_at k.marks m).groups (turn_at k.turn_of a u) (a, u) m
   pub until : (m : ℕ) → get_or machines m false ≡ true → (mark_at k.marks m).until ≤ turns
-  pub rises : IsRising (λ (p : ℕ × ℕ). turn_at k.turn_of p.0 p.1) line
+  pub rises : IsRising (λ (p : Pair). turn_at k.turn_of p.0 p.1) line
   pub below : (a u : ℕ) → has_pair (a, u) line ≡ true → turn_at k.turn_of a u < turns
   pub held : (a u : ℕ) → a < most_jobs → u < 8 → get_or k.held (a * 8 + u) 0 ≡ held t.entries a u
 
 -- no pair may be placeable on an open machine, and each unit with something out stands in the line
-pub record IsQuiet (cells : List (List Cell)) (machines : List Bool) (line : List (ℕ × ℕ)) (turns : ℕ) (marks : List MarkRecord) (t : TableRecord) : Type 0 where
+pub record IsQuiet (cells : List (List Cell)) (machines : List Bool) (line : List Pair) (turns : ℕ) (marks : List MarkRecord) (t : TableRecord) : Type 0 where
   pub settled : (m : ℕ) → get_or machines m false ≡ true → key_of (mark_at marks m) turns ≡ None
   pub waiting : (a u : ℕ) → u < unit_count (as_known t.jobs) a → 0 < out_of (asks_in cells) t.entries a u → has_pair (a, u) line ≡ true
 
 -- the limit of its group allows each pair of a line one grant more
-abbrev pub AreAllowed : TableRecord → List (ℕ × ℕ) → Type 0
+abbrev pub AreAllowed : TableRecord → List Pair → Type 0
 AreAllowed t line = (a u : ℕ) → has_pair (a, u) line ≡ true → is_allowed_in t.cluster (group_of (as_known t.jobs)) (size_at (as_known t.jobs)) t.entries a u ≡ true
 
 -- where they are, no mark of an open machine notes a group
-pub record IsClear (machines : List Bool) (line : List (ℕ × ℕ)) (marks : List MarkRecord) (t : TableRecord) : Type 0 where
+pub record IsClear (machines : List Bool) (line : List Pair) (marks : List MarkRecord) (t : TableRecord) : Type 0 where
   pub clear : AreAllowed t line → (m g : ℕ) → get_or machines m false ≡ true → get_or (mark_at marks m).groups g false ≡ false
 
 -- Of a job of which nothing was told since, exactly the units with something out stand in the line
-pub record IsStill (cells : List (List Cell)) (line : List (ℕ × ℕ)) (calm : List Bool) (t : TableRecord) : Type 0 where
+pub record IsStill (cells : List (List Cell)) (line : List Pair) (calm : List Bool) (t : TableRecord) : Type 0 where
   pub still : (a u : ℕ) → get_or calm a false ≡ true → has_pair (a, u) line ≡ (nat_lt u (unit_count (as_known t.jobs) a) && nat_lt 0 (out_of (asks_in cells) t.entries a u))
 
 -- A placer and a table are of one cluster and have the same jobs, and where the placer is idle nothing is placeable. What a placer keeps beside
@@ -145,7 +145,7 @@ unfoldable pub IsLevelWith : PlacerRecord → TableRecord → Type 0
 IsLevelWith p t = IsLevel p t
 
 -- the pairs with something out, in the order of job and unit
-abbrev pub waiting_with : SeenRecord → TableRecord → List (ℕ × ℕ)
+abbrev pub waiting_with : SeenRecord → TableRecord → List Pair
 waiting_with s t = waiting_in (job_numbers (as_known t.jobs)) (unit_count (as_known t.jobs)) (asks_seen s) t.entries
 
 -- the line has exactly the units with something out
@@ -170,7 +170,7 @@ pub record AsksNoMore (before after : ℕ → Key → ℕ) (a : ℕ) : Type 0 wh
   pub avoids : (u m : ℕ) → 0 < before a (avoid_key u m) → 0 < after a (avoid_key u m)
 
 -- what stays of the line when a unit with nothing out leaves it
-abbrev pub line_told : SeenRecord → TableRecord → ℕ → ℕ → List (ℕ × ℕ)
+abbrev pub line_told : SeenRecord → TableRecord → ℕ → ℕ → List Pair
 line_told s t a u = cond (nat_lt 0 (out_of (asks_seen s) t.entries a u)) s.line (filter (λ p. not (nat_eq p.0 a && nat_eq p.1 u)) s.line)
 
 -- a table after the number at one spot was set
@@ -184,7 +184,7 @@ abbrev pub placer_record : WishesRecord → LineRecord → ℕ → Bool → List
 placer_record w line turns idle marks turn_of held tree forgotten calm = record { seen = record { cluster = w.cluster; cells = w.cells; opened = w.opened; line = line.pairs; turns = turns }; idle = idle; kept = record { marks = marks; turn_of = turn_of; held = held }; tree = tree; forgotten = forgotten; calm = calm }
 
 pub record IsPlacer (w : WishesRecord) (line other : LineRecord) (units marks : ℕ) (turn_of : List ℕ) (held : ℕ) (tree : TreeRecord) (calm : ℕ) : Type 0 where
-  pub admitted : AllByRecursion (λ (p : ℕ × ℕ). p.1 < length (get_or w.cells p.0 [])) line.pairs
+  pub admitted : AllByRecursion (λ (p : Pair). p.1 < length (get_or w.cells p.0 [])) line.pairs
   pub places : length w.cells ≡ most_jobs
   pub counted : units ≡ units_in_all w.cells
   pub room : units_in_all w.cells ≤ line.room
@@ -193,7 +193,7 @@ pub record IsPlacer (w : WishesRecord) (line other : LineRecord) (units marks : 
   pub turn_places : length turn_of ≡ unit_places
   pub held_places : held ≡ unit_places
   pub calm_places : calm ≡ most_jobs
-  pub rises : IsRising (λ (p : ℕ × ℕ). turn_at turn_of p.0 p.1) line.pairs
+  pub rises : IsRising (λ (p : Pair). turn_at turn_of p.0 p.1) line.pairs
   pub holds : HoldsLine w.cluster w.cells line.pairs turn_of tree
 
 -- one more grant may be made at a spot: the unit is admitted, the machine is there, has room for it, and has fewer than the greatest count

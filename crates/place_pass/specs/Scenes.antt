@@ -1,6 +1,7 @@
 -- What a search reads, when it may run, and what it says of one machine.
 use Rattle.std.specs.Prelude.{◌≡◌, ◌≢◌, ℕ, ◌<◌, ◌≤◌, Bool, true, false, List, length, Option, None, IfSome}
 use Rattle.std.proofs.Common.{get_or}
+use Rattle.fuxi_terms.specs.Keys.{Pair}
 use Rattle.written_roles.specs.Masters.{out_of}
 use Rattle.written_roles.specs.Placing.{Board, has_pair}
 use Rattle.place_pass.specs.declared.search.Found.{Found}
@@ -24,12 +25,12 @@ pub record CanSearch (s : Scene) : Type 0 where
   pub places : length s.turn_of.now ≡ unit_places
   pub waits : (a u : ℕ) → has_pair (a, u) s.line.now.pairs ≡ true → out_of (asks_in s.wishes.now.cells) s.table.now.entries a u ≢ 0
   pub rises : Rises (turn_in s.turn_of.now) s.line.now.pairs
-  pub below : (q : ℕ × ℕ) → has_pair q s.line.now.pairs ≡ true → turn_in s.turn_of.now q < s.turns
+  pub below : (q : Pair) → has_pair q s.line.now.pairs ≡ true → turn_in s.turn_of.now q < s.turns
   pub tree : TreeOf s.wishes.now.cluster s.wishes.now.cells s.line.now.pairs s.turn_of.now s.table.now.entries s.tree.now
 
 -- what is seen on a machine: a placeable pair that no other of the line comes before there but those whose groups are noted, or none
 pub record IsBestOn (s : Scene) (m : ℕ) (groups : List Bool) (best : Option Sight) : Type 0 where
-  pub bounded : (q : ℕ × ℕ) → has_pair q s.line.now.pairs ≡ true → IsBounded (board_in s) s.table.now.entries (sight_rank best) groups (turn_in s.turn_of.now q) q m
+  pub bounded : (q : Pair) → has_pair q s.line.now.pairs ≡ true → IsBounded (board_in s) s.table.now.entries (sight_rank best) groups (turn_in s.turn_of.now q) q m
   pub sight : IfSome best (λ x. IsSight (board_in s) s.table.now.entries (turn_in s.turn_of.now) s.line.now.pairs m x)
 
 -- the mark of a machine is right where the machine is open, and it says that nothing is placeable there

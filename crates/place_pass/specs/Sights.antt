@@ -2,8 +2,8 @@
 use Rattle.std.specs.Prelude.{◌≡◌, ℕ, ◌-◌, ◌<◌, ◌≤◌, Bool, true, false, cond, List, [], ◌∷◌, ◌++◌, length, slice_get, Option, Some, None}
 use Rattle.std.specs.Option.{option_map}
 use Rattle.fuxi_terms.specs.Cluster.{has_at}
-use Rattle.fuxi_terms.specs.Keys.{Spot}
-use Rattle.fuxi_terms.specs.Tables.{total_at}
+use Rattle.fuxi_terms.specs.Keys.{Pair}
+use Rattle.fuxi_terms.specs.Tables.{total_at, Table}
 use Rattle.fuxi_terms.specs.Vectors.{at_place}
 use Rattle.written_roles.specs.Placing.{Board, has_pair, placeable_in}
 use Rattle.place_pass.specs.declared.search.Found.{Found}
@@ -25,7 +25,7 @@ abbrev pub found_rank : Option Found → Option (List ℕ)
 found_rank s = option_map rank_with s
 
 -- the turn of a pair
-abbrev pub turn_in : List ℕ → ℕ × ℕ → ℕ
+abbrev pub turn_in : List ℕ → Pair → ℕ
 turn_in turns p = turn_at turns p.0 p.1
 
 -- this is what the machine has and does not hold
@@ -34,13 +34,13 @@ pub record IsFree (t : TableRecord) (m : ℕ) (free : List ℕ) : Type 0 where
   pub within : (i : ℕ) → total_at (as_known t.jobs) m i t.entries ≤ has_at t.cluster m i
 
 -- a placeable pair of the line with its rank on a machine, and the same with the machine
-pub record IsSight (b : Board) (es : List (Spot × ℕ)) (f : ℕ × ℕ → ℕ) (line : List (ℕ × ℕ)) (m : ℕ) (x : Sight) : Type 0 where
+pub record IsSight (b : Board) (es : Table) (f : Pair → ℕ) (line : List Pair) (m : ℕ) (x : Sight) : Type 0 where
   pub place : ℕ
   pub at : slice_get line place ≡ Some (x.app.0, x.unit.0)
   pub placeable : placeable_in b es x.app.0 x.unit.0 m ≡ true
   pub rank : rank_of x.rank ≡ rank_at b es (f (x.app.0, x.unit.0)) (x.app.0, x.unit.0) m
 
-pub record IsFound (b : Board) (es : List (Spot × ℕ)) (f : ℕ × ℕ → ℕ) (line : List (ℕ × ℕ)) (x : Found) : Type 0 where
+pub record IsFound (b : Board) (es : Table) (f : Pair → ℕ) (line : List Pair) (x : Found) : Type 0 where
   pub place : ℕ
   pub at : slice_get line place ≡ Some (x.pick.app.0, x.pick.unit.0)
   pub there : x.pick.machine.0 < length b.cluster.machines
@@ -48,12 +48,12 @@ pub record IsFound (b : Board) (es : List (Spot × ℕ)) (f : ℕ × ℕ → ℕ
   pub rank : rank_of x.rank ≡ rank_at b es (f (x.pick.app.0, x.pick.unit.0)) (x.pick.app.0, x.pick.unit.0) x.pick.machine.0
 
 -- no pair of the line that may be placed on the machine comes before a rank, and with no rank none may be placed there
-pub record IsLeast (b : Board) (es : List (Spot × ℕ)) (f : ℕ × ℕ → ℕ) (line : List (ℕ × ℕ)) (best : Option (List ℕ)) (m : ℕ) : Type 0 where
-  pub least : (q : ℕ × ℕ) → has_pair q line ≡ true → placeable_in b es q.0 q.1 m ≡ true → is_bound best (rank_on b es (f q) q m) ≡ true
+pub record IsLeast (b : Board) (es : Table) (f : Pair → ℕ) (line : List Pair) (best : Option (List ℕ)) (m : ℕ) : Type 0 where
+  pub least : (q : Pair) → has_pair q line ≡ true → placeable_in b es q.0 q.1 m ≡ true → is_bound best (rank_on b es (f q) q m) ≡ true
 
 -- what a mark says of the pairs that were looked at
-pub record AreBounded (b : Board) (es : List (Spot × ℕ)) (f : ℕ × ℕ → ℕ) (line : List (ℕ × ℕ)) (k : MarkRecord) (m : ℕ) : Type 0 where
-  pub bounded : (q : ℕ × ℕ) → has_pair q line ≡ true → f q < k.until → IsBounded b es k.bound k.groups (f q) q m
+pub record AreBounded (b : Board) (es : Table) (f : Pair → ℕ) (line : List Pair) (k : MarkRecord) (m : ℕ) : Type 0 where
+  pub bounded : (q : Pair) → has_pair q line ≡ true → f q < k.until → IsBounded b es k.bound k.groups (f q) q m
 
 -- a mark after a demand was told: it is reset where a unit no longer avoids the machine, and else lowered
 pub record IsAsked (es : List (Key × ℕ)) (xs : List Cell) (m : ℕ) (before after : MarkRecord) : Type 0 where
@@ -63,7 +63,7 @@ pub record IsAsked (es : List (Key × ℕ)) (xs : List Cell) (m : ℕ) (before a
   pub none : lifted ≡ false → AvoidsStill es xs m
 
 -- a mark that notes no group any more, since each pair of the line is allowed
-pub record IsForgotten (t : TableRecord) (line : List (ℕ × ℕ)) (before after : MarkRecord) : Type 0 where
+pub record IsForgotten (t : TableRecord) (line : List Pair) (before after : MarkRecord) : Type 0 where
   pub allowed : AreAllowed t line
   pub is : after ≡ cleared_mark before
 

@@ -5,25 +5,26 @@ use Rattle.std.specs.List.{IsDistinct, sum_by}
 use Rattle.std.proofs.Common.{get_or}
 use Rattle.fuxi_terms.specs.Limits.{most_jobs, most_units}
 use Rattle.fuxi_terms.specs.declared.Key.{Key}
-use Rattle.fuxi_terms.specs.Keys.{Spot}
+use Rattle.fuxi_terms.specs.Keys.{Pair}
 use Rattle.fuxi_terms.specs.Lists.{below}
+use Rattle.fuxi_terms.specs.Tables.{Table}
 use Rattle.written_roles.specs.Masters.{out_of}
 use Rattle.written_roles.specs.Placing.{has_pair}
 use Rattle.place_pass.specs.Cells.{Cell, unit_places}
 
 -- the pairs in order, and for how many pairs there is room in all
 pub record LineRecord : Type 0 where
-  pub pairs : List (ℕ × ℕ)
+  pub pairs : List Pair
   pub room : ℕ
 
-abbrev pub line_record : Vec (ℕ × ℕ) → LineRecord
+abbrev pub line_record : Vec (Pair) → LineRecord
 line_record v = record { pairs = v.items; room = vec_capacity v }
 
-abbrev pub same_pair : ℕ × ℕ → ℕ × ℕ → Bool
+abbrev pub same_pair : Pair → Pair → Bool
 same_pair p q = nat_eq p.0 q.0 && nat_eq p.1 q.1
 
 -- each pair stands once in the line, and of each unit that there may be a flag says whether it waits
-pub record IsLine (pairs : List (ℕ × ℕ)) (waits : List Bool) : Type 0 where
+pub record IsLine (pairs : List Pair) (waits : List Bool) : Type 0 where
   pub distinct : IsDistinct same_pair pairs
   pub places : length waits ≡ unit_places
   pub there : (a u : ℕ) → has_pair (a, u) pairs ≡ true → (a < most_jobs) × (u < most_units)
@@ -34,5 +35,5 @@ abbrev pub units_in_all : List (List Cell) → ℕ
 units_in_all cells = sum_by (λ (xs : List Cell). length xs) cells
 
 -- of the first units of one job, those with something out
-abbrev pub waiting_of : (ℕ → Key → ℕ) → List (Spot × ℕ) → ℕ → ℕ → List (ℕ × ℕ)
+abbrev pub waiting_of : (ℕ → Key → ℕ) → Table → ℕ → ℕ → List Pair
 waiting_of asks table a n = map (λ u. (a, u)) (filter (λ u. nat_lt 0 (out_of asks table a u)) (below n))

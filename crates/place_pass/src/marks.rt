@@ -55,7 +55,7 @@ pub(crate) struct Mark {
 }
 
 impl Mark {
-    ghost use Rattle.std.specs.Prelude.{◌≡◌, ◌<◌, nat_lt, false, cond, map, is_some};
+    ghost use Rattle.std.specs.Prelude.{◌≡◌, ◌<◌, nat_lt, true, false, cond, map, is_some};
     ghost use Rattle.std.proofs.Common.{get_or};
     ghost use Rattle.std.specs.Option.{option_map};
     ghost use Rattle.std.specs.List.{list_any};
@@ -140,6 +140,16 @@ impl Mark {
         }
     }
 
+    // Whether a taking of a unit of this group, here or where the unit may be nearer, leaves the mark as it is.
+    fn stays(&self, here: bool, group: GroupNo, nearer: bool) -> bool
+        ensures { result ≡ true → taken_mark here group.0 nearer (mark_of self.now) ≡ mark_of self.now }
+    {
+        if here | nearer {
+            return false;
+        }
+        !self.notes(group)
+    }
+
     // Grants of a unit of this group were taken, on this machine or on another, where the unit may be nearer.
     fn take(&mut self, here: bool, group: GroupNo, nearer: bool)
         ensures { mark_of self.new ≡ taken_mark here group.0 nearer (mark_of self.old) }
@@ -188,7 +198,7 @@ impl Model for Marks {
 
 impl Marks {
     ghost use Rattle.std.specs.Prelude.{◌≡◌, ℕ, ◌<◌, ◌≤◌, nat_eq, cond, length, replicate, None, IfOk};
-    ghost use Rattle.place_pass.specs.Bounds.{mark_of, mark_at, key_of, reset_mark, taken_mark};
+    ghost use Rattle.place_pass.specs.Bounds.{mark_of, mark_at, key_of, reset_mark, lowered_mark, taken_mark};
 
     /// Of machines that were not looked at.
     pub(crate) fn new(alloc: Global, machines: usize) -> Result<Marks, OutOfMemory>
@@ -243,12 +253,27 @@ impl Marks {
             .set(machine as usize, mark.may_have(self.until));
     }
 
+    // What is placeable on a machine may come earlier.
+    fn lower(&mut self, machine: u32)
+        requires { machine < length self.old }
+        ensures long { length self.new ≡ length self.old }
+        ensures marks { (m : ℕ) → mark_at self.new m ≡ cond (nat_eq machine m) (lowered_mark (mark_at self.old machine)) (mark_at self.old m) }
+    {
+        let mark = &mut self.marks[machine as usize];
+        mark.lower();
+        self.unsettled
+            .set(machine as usize, mark.may_have(self.until));
+    }
+
     // Grants of a unit of this group were taken, on this machine or on another, where the unit may be nearer.
     fn take(&mut self, machine: u32, here: bool, group: GroupNo, nearer: bool)
         requires { machine < length self.old }
         ensures long { length self.new ≡ length self.old }
         ensures marks { (m : ℕ) → mark_at self.new m ≡ cond (nat_eq machine m) (taken_mark here group.0 nearer (mark_at self.old machine)) (mark_at self.old m) }
     {
+        if self.at(machine).stays(here, group, nearer) {
+            return;
+        }
         let mark = &mut self.marks[machine as usize];
         mark.take(here, group, nearer);
         self.unsettled
@@ -267,9 +292,7 @@ fn lower_all(marks: &mut Marks)
         if number >= marks.len() {
             return;
         }
-        let mut mark = *marks.at(number);
-        mark.lower();
-        marks.put(number, mark);
+        marks.lower(number);
         at = number + 1;
     }
 }
@@ -281,7 +304,7 @@ pub(crate) fn tell_demand(marks: &mut Marks, wishes: &Wishes, app: AppNo, demand
     ensures marks { (m : ℕ) → m < length marks.old → IsAsked demand.now.entries (get_or wishes.now.cells app.0 []) m (mark_at marks.old m) (mark_at marks.new m) }
     ensures long { length marks.new ≡ length marks.old }
 {
-    if !wishes.avoids_any(app) {
+    if !wishes.lifts_any(app, demand) {
         lower_all(marks);
         return;
     }

@@ -9,7 +9,7 @@ use crate::wishes::{UNIT_PLACES, Wishes, fresh_units};
 use cluster_desc::Cluster;
 use fuxi_terms::OutOfMemory;
 use fuxi_terms::limits::MOST_JOBS;
-use grant_table::{Asking, GrantTable, Pick, Steps, admitted_jobs, set_numbers};
+use grant_table::{Asking, GrantTable, Pick, Steps, law};
 use locality_tree::Tree;
 use party_ledgers::Demand;
 use schedule_unit::{AppNo, Job, MachineNo, UnitNo};
@@ -136,7 +136,7 @@ impl Placer {
         ensures idle { self.new.idle ≡ self.old.idle }
         ensures err_level { OnErr result ((t : TableRecord) → IsLevelWith self.old t → IsLevelWith self.new t) }
     {
-        admitted_jobs();
+        law::admitted_jobs();
         let _cluster = self.wishes.cluster();
         let units = self.units + job.units() as usize;
         self.line.reserve(units)?;
@@ -166,8 +166,9 @@ impl Placer {
     {
         let counts = demand.entries();
         let _wishes = self.wishes.cluster();
+        let differing = self.wishes.differing(app, demand);
         tell_demand(&mut self.marks, &self.wishes, app, demand);
-        let more = self.wishes.asked(app, demand);
+        let more = self.wishes.asked(app, demand, &differing);
         stir(&mut self.calm, app);
         self.idle &= !more;
         tell_asked(
@@ -177,6 +178,7 @@ impl Placer {
             &self.turn_of,
             table,
             app,
+            &differing,
         );
     }
 
@@ -254,7 +256,7 @@ impl Placer {
         ensures idle { self.new.idle ≡ self.old.idle }
         ensures tight { self.new.seen.turns ≡ self.old.seen.turns → IsTight self.old → StaysTight self.old self.new (λ _. ⊥) }
     {
-        admitted_jobs();
+        law::admitted_jobs();
         let _cluster = table.cluster();
         let _wishes = self.wishes.cluster();
         let before = self.line.len();
@@ -296,7 +298,7 @@ impl Placer {
         ensures outstanding { result ≡ out_of (asks_seen self.now.seen) table.now.entries app.0 unit.0 }
         ensures few { (m : ℕ) → 0 < result → held_on table.now.entries app.0 unit.0 m < 100000 }
     {
-        set_numbers();
+        law::set_numbers();
         let _sound = table.cluster();
         let _wish = self.wishes.wish(app, unit);
         self.wishes.outstanding(table, app, unit)

@@ -6,11 +6,10 @@
 ghost use Rattle.std.specs.Prelude.{◌≡◌, ℕ, ◌+◌, ◌*◌, ◌<◌, ◌≤◌, ◌&&◌, ◌⊎◌, ◌≢◌, Option, List, true, false, IsTrue, [], ◌∷◌, ◌++◌, length, map, None, Some, slice_get, not, nat_eq, cond, IfSome};
 ghost use Rattle.std.proofs.Common.{get_or};
 ghost use Rattle.std.specs.Option.{is_none, option_map};
-ghost use Rattle.std.specs.Ordering.{nat_cmp, is_lt};
-ghost use Rattle.std.specs.Cmp.Lexicographic.{slice_cmp};
 ghost use Rattle.fuxi_terms.specs.Vectors.{at_place};
 ghost use Rattle.fuxi_terms.specs.Cluster.{limit_at};
 ghost use Rattle.fuxi_terms.specs.Limits.{most_jobs};
+ghost use Rattle.fuxi_terms.specs.Keys.{Pair};
 ghost use Rattle.written_roles.specs.Masters.{out_of};
 ghost use Rattle.written_roles.specs.Placing.{first_in, accepts_in, has_room_in, is_allowed_in, has_pair};
 ghost use Rattle.place_pass.specs.Cells.{asks_in, job_at, unit_places};
@@ -193,11 +192,11 @@ fn group_or_none(cluster: &Cluster, number: GroupNo) -> Group
     }
 }
 
-// Whether a rank comes before another.
-fn is_before(a: &[u64], b: &[u64]) -> bool
-    ensures { result ≡ is_lt (slice_cmp nat_cmp a.now b.now) }
+// Whether a number comes before another, or is the same and what stands behind it does.
+fn comes_first(a: u64, b: u64, rest: bool) -> bool
+    ensures { (r s : List ℕ) → rest ≡ comes_before r s → result ≡ comes_before (a ∷ r) (b ∷ s) }
 {
-    a.cmp(b).is_lt()
+    (a < b) | ((a == b) & rest)
 }
 
 // Whether a pair on one machine comes before a pair on another.
@@ -205,30 +204,19 @@ fn is_earlier(rank: &Rank, machine: MachineNo, found: &Found) -> bool
     ensures { result ≡ comes_before (rank_of rank.now ++ machine.0 ∷ []) (rank_with found.now) }
 {
     let other = &found.rank;
-    is_before(
-        &[
-            rank.late as u64,
-            rank.level as u64,
-            rank.turn,
-            machine.0 as u64,
-        ],
-        &[
-            other.late as u64,
-            other.level as u64,
-            other.turn,
-            found.pick.machine.0 as u64,
-        ],
-    )
+    let by_machine = comes_first(machine.0 as u64, found.pick.machine.0 as u64, false);
+    let by_turn = comes_first(rank.turn, other.turn, by_machine);
+    let by_level = comes_first(rank.level as u64, other.level as u64, by_turn);
+    comes_first(rank.late as u64, other.late as u64, by_level)
 }
 
 // Whether a rank on one machine comes before another there.
 fn is_earlier_here(rank: &Rank, other: &Rank) -> bool
     ensures { result ≡ comes_before (rank_of rank.now) (rank_of other.now) }
 {
-    is_before(
-        &[rank.late as u64, rank.level as u64, rank.turn],
-        &[other.late as u64, other.level as u64, other.turn],
-    )
+    let by_turn = comes_first(rank.turn, other.turn, false);
+    let by_level = comes_first(rank.level as u64, other.level as u64, by_turn);
+    comes_first(rank.late as u64, other.late as u64, by_level)
 }
 
 // The better one.
@@ -300,7 +288,7 @@ pub(crate) fn turn_of_unit(wishes: &Wishes, turn_of: &[u64], app: AppNo, unit: U
 // The place from which on the turns are at least this one.
 fn place_from(scene: &Scene<'_>, turn: u64) -> usize
     requires ready { CanSearch scene.now }
-    ensures { (k : ℕ) (p : ℕ × ℕ) → k < result → slice_get scene.now.line.now.pairs k ≡ Some p → turn_in scene.now.turn_of.now p < turn }
+    ensures { (k : ℕ) (p : Pair) → k < result → slice_get scene.now.line.now.pairs k ≡ Some p → turn_in scene.now.turn_of.now p < turn }
 {
     let mut place = scene.line.len();
     while place > 0 {
@@ -361,8 +349,8 @@ fn weigh(
     requires machine { machine.0 < length scene.now.table.now.cluster.machines }
     requires free { IsFree scene.now.table.now machine.0 free.now.q }
     ensures here { IsBounded (board_in scene.now) scene.now.table.now.entries (sight_rank result) groups.new (turn_in scene.now.turn_of.now (app.0, unit.0)) (app.0, unit.0) machine.0 }
-    ensures kept { (q : ℕ × ℕ) (t : ℕ) → IsBounded (board_in scene.now) scene.now.table.now.entries (sight_rank before) groups.old t q machine.0 → IsBounded (board_in scene.now) scene.now.table.now.entries (sight_rank result) groups.new t q machine.0 }
-    ensures sight { (line : List (ℕ × ℕ)) (place : ℕ) → slice_get line place ≡ Some (app.0, unit.0) → out_of (asks_in scene.now.wishes.now.cells) scene.now.table.now.entries app.0 unit.0 ≢ 0 → IfSome before (λ x. IsSight (board_in scene.now) scene.now.table.now.entries (turn_in scene.now.turn_of.now) line machine.0 x) → IfSome result (λ x. IsSight (board_in scene.now) scene.now.table.now.entries (turn_in scene.now.turn_of.now) line machine.0 x) }
+    ensures kept { (q : Pair) (t : ℕ) → IsBounded (board_in scene.now) scene.now.table.now.entries (sight_rank before) groups.old t q machine.0 → IsBounded (board_in scene.now) scene.now.table.now.entries (sight_rank result) groups.new t q machine.0 }
+    ensures sight { (line : List Pair) (place : ℕ) → slice_get line place ≡ Some (app.0, unit.0) → out_of (asks_in scene.now.wishes.now.cells) scene.now.table.now.entries app.0 unit.0 ≢ 0 → IfSome before (λ x. IsSight (board_in scene.now) scene.now.table.now.entries (turn_in scene.now.turn_of.now) line machine.0 x) → IfSome result (λ x. IsSight (board_in scene.now) scene.now.table.now.entries (turn_in scene.now.turn_of.now) line machine.0 x) }
 {
     let wishes = scene.wishes;
     let late = 9_u8.saturating_sub(wishes.wish(app, unit).priority);
@@ -389,7 +377,7 @@ fn best_from(
     requires ready { CanSearch scene.now }
     requires machine { machine.0 < length scene.now.table.now.cluster.machines }
     requires free { IsFree scene.now.table.now machine.0 free.now.q }
-    requires before { (k : ℕ) (p : ℕ × ℕ) → k < from → slice_get scene.now.line.now.pairs k ≡ Some p → IsBounded (board_in scene.now) scene.now.table.now.entries None groups.old (turn_in scene.now.turn_of.now p) p machine.0 }
+    requires before { (k : ℕ) (p : Pair) → k < from → slice_get scene.now.line.now.pairs k ≡ Some p → IsBounded (board_in scene.now) scene.now.table.now.entries None groups.old (turn_in scene.now.turn_of.now p) p machine.0 }
     ensures { IsBestOn scene.now machine.0 groups.new result }
 {
     let mut best = None;
@@ -411,7 +399,7 @@ fn best_on(
     requires ready { CanSearch scene.now }
     requires machine { machine.0 < length scene.now.table.now.cluster.machines }
     requires free { IsFree scene.now.table.now machine.0 free.now.q }
-    ensures bounded { (q : ℕ × ℕ) → has_pair q scene.now.line.now.pairs ≡ true → IsBounded (board_in scene.now) scene.now.table.now.entries (sight_rank result) groups.new (turn_in scene.now.turn_of.now q) q machine.0 }
+    ensures bounded { (q : Pair) → has_pair q scene.now.line.now.pairs ≡ true → IsBounded (board_in scene.now) scene.now.table.now.entries (sight_rank result) groups.new (turn_in scene.now.turn_of.now q) q machine.0 }
     ensures sight { IfSome result (λ x. IsSight (board_in scene.now) scene.now.table.now.entries (turn_in scene.now.turn_of.now) scene.now.line.now.pairs machine.0 x) }
 {
     let _table = scene.table.cluster();
@@ -498,7 +486,25 @@ fn may_be_first(best: &Option<Found>, key: &Rank, machine: MachineNo) -> bool
     }
 }
 
-// The best of what was found before and of what is placeable on one machine, which is looked at only where it may be first.
+// Whether a machine is passed without a look: it is closed, nothing is placeable there, or by its bound no pair there comes before the
+// best so far.
+fn is_passed(scene: &Scene<'_>, machine: MachineNo, mark: &Mark, best: &Option<Found>) -> bool
+    requires ready { CanSearch scene.now }
+    requires old { IsMarked scene.now machine.0 (mark_of mark.now) }
+    ensures least { result ≡ true → IsLeastOn scene.now best.now machine.0 }
+    ensures settled { result ≡ true → best.now ≡ None → IsSettledBy scene.now machine.0 (mark_of mark.now) }
+    ensures unsettled { result ≡ false → is_unsettled_by scene.now.wishes.now.opened (mark_of mark.now) scene.now.turns machine.0 ≡ true }
+{
+    if !scene.wishes.is_open(machine) {
+        return true;
+    }
+    let Some(key) = mark.key(scene.turns) else {
+        return true;
+    };
+    !may_be_first(best, &key, machine)
+}
+
+// The best of what was found before and of what is placeable on one machine that is unsettled, which is looked at.
 fn consider<L: Ledger>(
     scene: &Scene<'_>,
     machine: MachineNo,
@@ -508,6 +514,7 @@ fn consider<L: Ledger>(
 ) -> Option<Found>
     requires ready { CanSearch scene.now }
     requires machine { machine.0 < length scene.now.table.now.cluster.machines }
+    requires unsettled { is_unsettled_by scene.now.wishes.now.opened (mark_of mark.old) scene.now.turns machine.0 ≡ true }
     requires old { IsMarked scene.now machine.0 (mark_of mark.old) }
     ensures mark { IsMarked scene.now machine.0 (mark_of mark.new) }
     ensures least { IsLeastOn scene.now result machine.0 }
@@ -517,15 +524,6 @@ fn consider<L: Ledger>(
     ensures settled { result ≡ None → IsSettledBy scene.now machine.0 (mark_of mark.new) }
     ensures empty { result ≡ None → before ≡ None }
 {
-    if !scene.wishes.is_open(machine) {
-        return before;
-    }
-    let Some(key) = mark.key(scene.turns) else {
-        return before;
-    };
-    if !may_be_first(&before, &key, machine) {
-        return before;
-    }
     match look(scene, machine, mark, steps) {
         Some(sight) => {
             let pick = Pick {
@@ -545,7 +543,7 @@ fn consider<L: Ledger>(
     }
 }
 
-// The same of a machine by its number.
+// The same of a machine by its number, which is looked at only where it may be first: else its mark isn't copied.
 fn consider_at<L: Ledger>(
     scene: &Scene<'_>,
     machine: MachineNo,
@@ -567,6 +565,9 @@ fn consider_at<L: Ledger>(
     ensures settled { result ≡ None → IsSettledBy scene.now machine.0 (mark_at marks.new machine.0) }
     ensures empty { result ≡ None → before ≡ None }
 {
+    if is_passed(scene, machine, marks.at(machine.0), &before) {
+        return before;
+    }
     let mut mark = *marks.at(machine.0);
     let best = consider(scene, machine, &mut mark, steps, before);
     marks.put(machine.0, mark);
@@ -679,7 +680,7 @@ pub(crate) fn first<L: Ledger>(
     requires waits { (a u : ℕ) → has_pair (a, u) line.now.pairs ≡ true → out_of (asks_in wishes.now.cells) table.now.entries a u ≢ 0 }
     requires rises { Rises (turn_in turn_of.now) line.now.pairs }
     requires tree { TreeOf wishes.now.cluster wishes.now.cells line.now.pairs turn_of.now table.now.entries tree.now }
-    requires below { (q : ℕ × ℕ) → has_pair q line.now.pairs ≡ true → turn_in turn_of.now q < turns }
+    requires below { (q : Pair) → has_pair q line.now.pairs ≡ true → turn_in turn_of.now q < turns }
     requires marked { length marks.old ≡ length table.now.cluster.machines }
     requires old { (m : ℕ) → get_or wishes.now.opened m false ≡ true → AreBounded (board_over wishes.now.cells wishes.now.opened table.now) table.now.entries (turn_in turn_of.now) line.now.pairs (mark_at marks.old m) m }
     requires until { (m : ℕ) → get_or wishes.now.opened m false ≡ true → (mark_at marks.old m).until ≤ turns }

@@ -5,6 +5,7 @@ ghost use Rattle.std.proofs.Common.{get_or};
 ghost use Rattle.fuxi_terms.specs.Cluster.{rack_of};
 ghost use Rattle.fuxi_terms.specs.Jobs.{unit_count};
 ghost use Rattle.fuxi_terms.specs.Tables.{spot};
+ghost use Rattle.fuxi_terms.specs.Keys.{Pair};
 ghost use Rattle.written_roles.specs.Masters.{out_of};
 ghost use Rattle.written_roles.specs.Placing.{has_pair};
 ghost use Rattle.grant_table.specs.GrantTables.{TableRecord, as_known};
@@ -207,7 +208,7 @@ pub(crate) fn tell_spot(
     requires there { unit.0 < unit_count (as_known table.now.jobs) app.0 }
     requires machine { machine.0 < length table.now.cluster.machines }
     requires places { length turn_of.now.items ≡ unit_places }
-    requires rises { IsRising (λ (p : ℕ × ℕ). turn_at turn_of.now.items p.0 p.1) line.now.pairs }
+    requires rises { IsRising (λ (p : Pair). turn_at turn_of.now.items p.0 p.1) line.now.pairs }
     requires holds { HoldsLine wishes.now.cluster wishes.now.cells line.now.pairs turn_of.now.items tree.old }
     ensures holds { HoldsLine wishes.now.cluster wishes.now.cells (cond (nat_lt 0 (out_of (asks_in wishes.now.cells) table.now.entries app.0 unit.0)) line.now.pairs (filter (λ p. not (nat_eq p.0 app.0 && nat_eq p.1 unit.0)) line.now.pairs)) turn_of.now.items tree.new }
     ensures stands { (before : TableRecord) → IsSetFrom before table.now (spot app.0 unit.0 machine.0) → AllStand wishes.now.cluster wishes.now.cells before.entries line.now.pairs tree.old
@@ -234,6 +235,7 @@ pub(crate) fn tell_asked(
     turn_of: &Vec<u64>,
     table: &GrantTable,
     app: AppNo,
+    differing: &[bool; 8],
 )
     requires cluster { wishes.now.cluster ≡ table.now.cluster }
     requires admitted { AreAdmitted wishes.now.cells line.now.pairs }
@@ -242,12 +244,16 @@ pub(crate) fn tell_asked(
     ensures holds { HoldsLine wishes.now.cluster wishes.now.cells line.now.pairs turn_of.now.items tree.new }
     ensures stands { length (get_or wishes.now.cells app.0 []) ≡ unit_count (as_known table.now.jobs) app.0
         → ((a u : ℕ) → has_pair (a, u) line.now.pairs ≡ true → nat_eq a app.0 ≡ false → StandsAs wishes.now.cluster wishes.now.cells table.now.entries a u tree.old)
+        → ((u : ℕ) → has_pair (app.0, u) line.now.pairs ≡ true → get_or differing.now u true ≡ false → StandsAs wishes.now.cluster wishes.now.cells table.now.entries app.0 u tree.old)
         → AllStand wishes.now.cluster wishes.now.cells table.now.entries line.now.pairs tree.new }
 {
     let _wishes = wishes.cluster();
     for number in 0..wishes.units(app) as u8 {
         if number as usize >= table.units(app) {
             return;
+        }
+        if !differing[number as usize] {
+            continue;
         }
         if !line.has(app.0, number) {
             continue;
@@ -268,7 +274,7 @@ pub(crate) fn leave_line(
     requires level { AreLevel wishes.now.cluster (job_at wishes.now.cells) table.now }
     requires admitted { AreAdmitted wishes.now.cells line.now.pairs }
     requires places { length turn_of.now.items ≡ unit_places }
-    requires rises { IsRising (λ (p : ℕ × ℕ). turn_at turn_of.now.items p.0 p.1) line.now.pairs }
+    requires rises { IsRising (λ (p : Pair). turn_at turn_of.now.items p.0 p.1) line.now.pairs }
     requires holds { HoldsLine wishes.now.cluster wishes.now.cells line.now.pairs turn_of.now.items tree.old }
     ensures holds { Holds wishes.now.cluster wishes.now.cells (λ p. has_pair p line.now.pairs && nat_lt 0 (out_of (asks_in wishes.now.cells) table.now.entries p.0 p.1)) turn_of.now.items tree.new }
     ensures others { (a u : ℕ) → u < 8 → nat_lt 0 (out_of (asks_in wishes.now.cells) table.now.entries a u) ≡ true → unit_at tree.new a u ≡ unit_at tree.old a u }
@@ -296,7 +302,7 @@ pub(crate) fn enter_line(
     requires level { AreLevel wishes.now.cluster (job_at wishes.now.cells) table.now }
     requires admitted { AreAdmitted wishes.now.cells line.now.pairs }
     requires places { length turn_of.now.items ≡ unit_places }
-    requires rises { IsRising (λ (p : ℕ × ℕ). turn_at turn_of.now.items p.0 p.1) line.now.pairs }
+    requires rises { IsRising (λ (p : Pair). turn_at turn_of.now.items p.0 p.1) line.now.pairs }
     requires inside { from ≤ length line.now.pairs }
     requires holds { HoldsLine wishes.now.cluster wishes.now.cells (take from line.now.pairs) turn_of.now.items tree.old }
     requires stands { AllStand wishes.now.cluster wishes.now.cells table.now.entries (take from line.now.pairs) tree.old }

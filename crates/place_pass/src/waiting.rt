@@ -8,6 +8,7 @@ ghost use Rattle.std.specs.List.{sum_by, flat_map};
 ghost use Rattle.fuxi_terms.specs.Cluster.{JobRecord};
 ghost use Rattle.fuxi_terms.specs.Jobs.{unit_count};
 ghost use Rattle.fuxi_terms.specs.Lists.{below};
+ghost use Rattle.fuxi_terms.specs.Keys.{Pair};
 ghost use Rattle.written_roles.specs.Masters.{out_of};
 ghost use Rattle.written_roles.specs.Placing.{has_pair, waiting_in};
 ghost use Rattle.grant_table.specs.GrantTables.{as_known, AreJobs};
@@ -157,7 +158,7 @@ pub(crate) fn leave(
     requires level { AreLevel wishes.now.cluster (job_at wishes.now.cells) table.now }
     requires admitted { AreAdmitted wishes.now.cells line.old.pairs }
     requires places { length turn_of.now.items ≡ unit_places }
-    requires rises { IsRising (λ (p : ℕ × ℕ). turn_at turn_of.now.items p.0 p.1) line.old.pairs }
+    requires rises { IsRising (λ (p : Pair). turn_at turn_of.now.items p.0 p.1) line.old.pairs }
     requires holds { HoldsLine wishes.now.cluster wishes.now.cells line.old.pairs turn_of.now.items tree.old }
     requires still { IsStill wishes.now.cells line.old.pairs calm.now.items table.now }
     requires room { units_in_all wishes.now.cells ≤ line.old.room }
@@ -232,7 +233,7 @@ pub(crate) fn number_from(
     requires places { length turn_of.old.items ≡ unit_places }
     requires small { turns < 2 ^ 63 }
     ensures places { length turn_of.new.items ≡ unit_places }
-    ensures numbered { (k : ℕ) (p : ℕ × ℕ) → from ≤ k → slice_get line.now.pairs k ≡ Some p → turn_at turn_of.new.items p.0 p.1 ≡ turns + (k - from) }
+    ensures numbered { (k : ℕ) (p : Pair) → from ≤ k → slice_get line.now.pairs k ≡ Some p → turn_at turn_of.new.items p.0 p.1 ≡ turns + (k - from) }
     ensures others { (a u : ℕ) → u < 8 → ((k : ℕ) → from ≤ k → slice_get line.now.pairs k ≡ Some (a, u) → ⊥) → turn_at turn_of.new.items a u ≡ turn_at turn_of.old.items a u }
 {
     line.distinct();

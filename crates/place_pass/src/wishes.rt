@@ -47,7 +47,7 @@ pub(crate) struct Wish {
 /// The admitted units with what is asked of them, and the open machines.
 #[derive(Drop)]
 pub(crate) struct Wishes {
-    cluster: Cluster,
+    pub(crate) cluster: Cluster,
     /// By job number, with no unit where no such job is admitted.
     slots: Vec<Vec<Wish>>,
     /// By machine.
@@ -72,7 +72,7 @@ impl Wishes {
     ghost use Rattle.fuxi_terms.specs.Limits.{most_jobs};
     ghost use Rattle.fuxi_terms.specs.TallyKeys.{avoid_key};
     ghost use Rattle.fuxi_terms.specs.Vectors.{fits};
-    ghost use Rattle.place_pass.specs.Cells.{WishesRecord, AreWishes, Lifts, AvoidsStill, asks_in, cell_of, cell_at, cells_in, fresh_cells, taken_all, any_more};
+    ghost use Rattle.place_pass.specs.Cells.{WishesRecord, AreWishes, Lifts, AvoidsStill, asks_in, cell_of, cell_at, cells_in, fresh_cells, taken, taken_all, any_more};
     ghost use Rattle.place_pass.specs.Placers.{is_open_to};
 
     /// No unit, and no open machine.
@@ -105,16 +105,17 @@ impl Wishes {
         self.slots[job.app().0 as usize] = units;
     }
 
-    /// The demand of a job is now this one. True where one of its units wants more, or no longer
-    /// avoids a machine.
-    pub(crate) fn asked(&mut self, app: AppNo, demand: &Demand) -> bool
-        requires { app.0 < most_jobs }
+    /// The demand of a job is now this one, which asks the same as before of all units but those that may differ. True where one
+    /// of its units wants more, or no longer avoids a machine.
+    pub(crate) fn asked(&mut self, app: AppNo, demand: &Demand, differing: &[bool; 8]) -> bool
+        requires job { app.0 < most_jobs }
+        requires same { (u : ℕ) → u < length (get_or self.old.cells app.0 []) → get_or differing.now u true ≡ false → taken self.old.cluster demand.now.entries u (cell_at self.old.cells app.0 u) ≡ cell_at self.old.cells app.0 u }
         ensures cells { self.new ≡ record self.old { cells = set self.old.cells app.0 (taken_all self.old.cluster demand.now.entries 0 (get_or self.old.cells app.0 [])) } }
         ensures more { result ≡ any_more self.old.cluster demand.now.entries (get_or self.old.cells app.0 []) (length (get_or self.old.cells app.0 [])) }
     {
         let counts = demand.entries();
         let units = &mut self.slots[app.0 as usize];
-        take_over(units, &self.cluster, demand)
+        take_over(units, &self.cluster, demand, differing)
     }
 
     /// The machine is open, or not.
@@ -179,8 +180,8 @@ impl Wishes {
         self.wish(app, unit).avoided[machine.0 as usize] == 0
     }
 
-    /// Whether a unit of the job avoids a machine.
-    pub(crate) fn avoids_any(&self, app: AppNo) -> bool
+    // Whether a unit of the job avoids a machine.
+    fn avoids_any(&self, app: AppNo) -> bool
         ensures { result ≡ false → (u m : ℕ) → u < length (get_or self.now.cells app.0 []) → get_or (cell_at self.now.cells app.0 u).avoided m 0 ≡ 0 }
     {
         for number in 0..self.units(app) as u8 {
@@ -191,7 +192,7 @@ impl Wishes {
         false
     }
 
-    /// Whether by this demand a unit of the job no longer avoids a machine that it avoided.
+    /// Whether by this demand a unit of the job no longer avoids this machine, which it avoided.
     pub(crate) fn lifts(&self, app: AppNo, demand: &Demand, machine: MachineNo) -> bool
         requires { machine.0 < length self.now.cluster.machines }
         ensures some { result ≡ true → Lifts demand.now.entries (get_or self.now.cells app.0 []) machine.0 }
@@ -203,6 +204,21 @@ impl Wishes {
                 continue;
             }
             if number_at(demand, AVOID, number, machine.0) == 0 {
+                return true;
+            }
+        }
+        false
+    }
+
+    /// Whether by this demand a unit of the job no longer avoids a machine that it avoided.
+    pub(crate) fn lifts_any(&self, app: AppNo, demand: &Demand) -> bool
+        ensures { result ≡ false → (m : ℕ) → m < length self.now.cluster.machines → AvoidsStill demand.now.entries (get_or self.now.cells app.0 []) m }
+    {
+        if !self.avoids_any(app) {
+            return false;
+        }
+        for number in 0..self.cluster().machines() {
+            if self.lifts(app, demand, MachineNo(number)) {
                 return true;
             }
         }
@@ -294,17 +310,26 @@ fn empty_slots(alloc: Global) -> Result<Vec<Vec<Wish>>, OutOfMemory>
     Ok(slots)
 }
 
-// Each unit of a job takes its part of the demand. True where one wants more, or no longer avoids a machine.
-fn take_over(units: &mut Vec<Wish>, cluster: &Cluster, demand: &Demand) -> bool
+// Each unit of a job that may differ takes its part of the demand. True where one wants more, or no longer avoids a machine.
+fn take_over(
+    units: &mut Vec<Wish>,
+    cluster: &Cluster,
+    demand: &Demand,
+    differing: &[bool; 8],
+) -> bool
     requires few { length units.old.items ≤ 8 }
     requires near { (u : ℕ) → u < length units.old.items → length (get_or (cells_in units.old) u no_cell).near ≡ length cluster.now.machines }
     requires racks { (u : ℕ) → u < length units.old.items → length (get_or (cells_in units.old) u no_cell).racks ≡ 64 }
     requires avoided { (u : ℕ) → u < length units.old.items → length (get_or (cells_in units.old) u no_cell).avoided ≡ length cluster.now.machines }
+    requires same { (u : ℕ) → u < length units.old.items → get_or differing.now u true ≡ false → taken cluster.now demand.now.entries u (get_or (cells_in units.old) u no_cell) ≡ get_or (cells_in units.old) u no_cell }
     ensures cells { cells_in units.new ≡ taken_all cluster.now demand.now.entries 0 (cells_in units.old) }
     ensures more { result ≡ any_more cluster.now demand.now.entries (cells_in units.old) (length units.old.items) }
 {
     let mut more = false;
     for number in 0..units.len() {
+        if !differing[number] {
+            continue;
+        }
         let wish = &mut units[number];
         let one = take_one(wish, number as u8, cluster, demand);
         more |= one;
@@ -331,7 +356,7 @@ fn take_one(wish: &mut Wish, unit: u8, cluster: &Cluster, demand: &Demand) -> bo
 }
 
 // What a demand has at a key that is not given back.
-fn number_at(demand: &Demand, what: u8, unit: u8, number: u32) -> u32
+pub(crate) fn number_at(demand: &Demand, what: u8, unit: u8, number: u32) -> u32
     requires { what < 5 }
     ensures { result ≡ count key_cmp demand.now.entries (key what unit number) }
 {
@@ -369,7 +394,7 @@ fn is_of(key: &Key, what: u8, unit: u8) -> bool
 
 // From a key's number on the first at which a demand has something of the key's kind and unit, and how much it has there. Where there
 // is none before the end it is the last one. The walk has passed some of the entries before.
-fn next_asked(demand: &Demand, passed: &mut usize, sought: &Key, end: u32) -> (u32, u32)
+pub(crate) fn next_asked(demand: &Demand, passed: &mut usize, sought: &Key, end: u32) -> (u32, u32)
     requires kind { sought.now.what < 5 }
     requires inside { sought.now.number < end }
     requires past { IsPast demand.now.entries passed.old sought.now }
@@ -454,7 +479,7 @@ fn read_numbers(numbers: &mut Vec<u32>, machines: u32, demand: &Demand, what: u8
 }
 
 // What is wanted in a rack: nothing where no machine stands there.
-fn rack_number(cluster: &Cluster, rack: u32, wanted: u32) -> u32
+pub(crate) fn rack_number(cluster: &Cluster, rack: u32, wanted: u32) -> u32
     ensures { result ≡ cond (has_rack cluster.now rack) wanted 0 }
 {
     if wanted == 0 {

@@ -8,7 +8,7 @@ use Rattle.std.proofs.lemmas.Grind.{flat_map-append}
 use Rattle.std.proofs.lemmas.List.{map-append, length-append, length-map}
 use Rattle.fuxi_terms.specs.Cluster.{JobRecord, UnitRecord, is_valid_job, is_valid_unit, is_between, is_vector_of, is_size, is_priority}
 use Rattle.fuxi_terms.specs.Jobs.{KnownJob, unit_count, unit_of, priority_of, group_of, job_of, no_unit}
-use Rattle.fuxi_terms.specs.Keys.{Spot}
+use Rattle.fuxi_terms.specs.Keys.{Spot, Pair}
 use Rattle.fuxi_terms.specs.Lists.{below}
 use Rattle.fuxi_terms.proofs.Alls.{all_append, all_more}
 use Rattle.fuxi_terms.proofs.Booleans.{both_true, number_is, nat_itself, or_left, or_right}
@@ -86,15 +86,15 @@ valid_at (k ∷ ks) h zero j e = let same : k ≡ j = cc in subst (λ x. IsTrue 
 valid_at (k ∷ ks) h (suc i) j e = valid_at ks h.1.1 i j e
 
 -- ---- the units, as pairs
-units_after : (j : JobRecord) (p : ℕ × ℕ) (n : ℕ) → p.0 < j.number → AllByRecursion (IsAfter p) (units_in j n)
+units_after : (j : JobRecord) (p : Pair) (n : ℕ) → p.0 < j.number → AllByRecursion (IsAfter p) (units_in j n)
 units_after j p zero lt = tt
 units_after j p (suc n) lt = subst (AllByRecursion (IsAfter p)) (sym (map-append (λ u. (j.number, u)) (below n) (n ∷ []))) (all_append (IsAfter p) (units_in j n) ((j.number, n) ∷ []) (units_after j p n lt) (inl lt, tt))
 
-all_after : (p : ℕ × ℕ) (js : List JobRecord) → AllByRecursion (λ (k : JobRecord). p.0 < k.number) js → AllByRecursion (IsAfter p) (all_units js)
+all_after : (p : Pair) (js : List JobRecord) → AllByRecursion (λ (k : JobRecord). p.0 < k.number) js → AllByRecursion (IsAfter p) (all_units js)
 all_after p [] h = tt
 all_after p (j ∷ js) h = all_append (IsAfter p) (units_in j (length j.units)) (all_units js) (units_after j p (length j.units) h.0) (all_after p js h.1)
 
-rising_push : (ps : List (ℕ × ℕ)) (q : ℕ × ℕ) → IsRising ps → AllByRecursion (λ p. IsAfter p q) ps → IsRising (ps ++ q ∷ [])
+rising_push : (ps : List Pair) (q : Pair) → IsRising ps → AllByRecursion (λ p. IsAfter p q) ps → IsRising (ps ++ q ∷ [])
 rising_push [] q r h = (tt, tt)
 rising_push (p ∷ ps) q r h = (all_append (IsAfter p) ps (q ∷ []) r.0 (h.0, tt), rising_push ps q r.1 h.1)
 
@@ -106,7 +106,7 @@ units_rising : (j : JobRecord) (n : ℕ) → IsRising (units_in j n)
 units_rising j zero = tt
 units_rising j (suc n) = subst IsRising (sym (map-append (λ u. (j.number, u)) (below n) (n ∷ []))) (rising_push (units_in j n) (j.number, n) (units_rising j n) (units_before j n n (omega arith)))
 
-rising_both : (ps qs : List (ℕ × ℕ)) → IsRising ps → IsRising qs → AllByRecursion (λ p. AllByRecursion (IsAfter p) qs) ps → IsRising (ps ++ qs)
+rising_both : (ps qs : List Pair) → IsRising ps → IsRising qs → AllByRecursion (λ p. AllByRecursion (IsAfter p) qs) ps → IsRising (ps ++ qs)
 rising_both [] qs r s h = s
 rising_both (p ∷ ps) qs r s h = (all_append (IsAfter p) ps qs r.0 h.0, rising_both ps qs r.1 s h.1)
 
@@ -119,7 +119,7 @@ all_rising (j ∷ js) h = rising_both (units_in j (length j.units)) (all_units j
     each (suc n) = subst (AllByRecursion (λ p. AllByRecursion (IsAfter p) (all_units js))) (sym (map-append (λ u. (j.number, u)) (below n) (n ∷ [])))
         (all_append (λ p. AllByRecursion (IsAfter p) (all_units js)) (units_in j n) ((j.number, n) ∷ []) (each n) (all_after (j.number, n) js h.1.0, tt))
 
-any_append : (f : ℕ × ℕ → Bool) (xs ys : List (ℕ × ℕ)) → list_any f (xs ++ ys) ≡ (list_any f xs || list_any f ys)
+any_append : (f : Pair → Bool) (xs ys : List Pair) → list_any f (xs ++ ys) ≡ (list_any f xs || list_any f ys)
 any_append f [] ys = refl
 any_append f (x ∷ xs) ys = elim (f x) as (λ b. (b || list_any f (xs ++ ys)) ≡ ((b || list_any f xs) || list_any f ys)) [ true ↦ refl | false ↦ any_append f xs ys ]
 
@@ -169,7 +169,7 @@ units_length (j ∷ js) h =
 pub few_units : (js : List JobRecord) → AreJobs js → length (all_units js) ≤ 2048
 few_units js h = let r = units_length js h in let n = jobs_from js 0 h (all_from_zero js) (omega arith) in omega (arith, r, n)
 
-backward_length : (test : ℕ × ℕ → Bool) (ps : List (ℕ × ℕ)) → length (backward test ps) ≤ length ps
+backward_length : (test : Pair → Bool) (ps : List Pair) → length (backward test ps) ≤ length ps
 backward_length test [] = omega arith
 backward_length test (p ∷ ps) =
     let r = backward_length test ps in
@@ -177,10 +177,10 @@ backward_length test (p ∷ ps) =
     let o : length {A = ℕ × ℕ} (cond (test p) (p ∷ []) []) ≤ 1 = elim (test p) as (λ b. length {A = ℕ × ℕ} (cond b (p ∷ []) []) ≤ 1) [ true ↦ omega arith | false ↦ omega arith ] in
     omega (arith, r, a, o)
 
-pub ordered_length : (priorities : ℕ → ℕ → ℕ) (ps : List (ℕ × ℕ)) (n : ℕ) → length (pairs_by_priority priorities ps n) ≤ n * length ps
+pub ordered_length : (priorities : ℕ → ℕ → ℕ) (ps : List Pair) (n : ℕ) → length (pairs_by_priority priorities ps n) ≤ n * length ps
 ordered_length priorities ps zero = omega arith
 ordered_length priorities ps (suc n) =
-    let f : ℕ → List (ℕ × ℕ) = λ k. backward (λ p. nat_eq (priorities p.0 p.1) k) ps in
+    let f : ℕ → List Pair = λ k. backward (λ p. nat_eq (priorities p.0 p.1) k) ps in
     let r = ordered_length priorities ps n in
     let e : length (pairs_by_priority priorities ps (suc n)) ≡ length (pairs_by_priority priorities ps n ++ (f n ++ [])) = ap length (flat_map-append f (below n) (n ∷ [])) in
     let a = length-append (pairs_by_priority priorities ps n) (f n ++ []) in

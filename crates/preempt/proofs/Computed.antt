@@ -5,7 +5,7 @@ use Rattle.std.proofs.lemmas.List.{append-nil}
 use Rattle.std.proofs.lemmas.Bool.Decides.{nat_tests}
 use Rattle.fuxi_terms.specs.Keys.{Spot}
 use Rattle.fuxi_terms.specs.Cluster.{has_at, limit_at, quota_at, is_narrow}
-use Rattle.fuxi_terms.specs.Tables.{total_by, usage_by}
+use Rattle.fuxi_terms.specs.Tables.{total_by, usage_by, Table}
 use Rattle.fuxi_terms.proofs.Members.{each_from}
 use Rattle.fuxi_terms.proofs.Booleans.{and_false, and_true}
 use Rattle.written_roles.specs.Placing.{Board}
@@ -16,7 +16,7 @@ use Rattle.preempt.proofs.RunsLeft.{IsKeep}
 use Rattle.preempt.proofs.Numbers.{at_least, too_small, each_false, reach_most, reached, not_reached, within, not_within, greatest_most, greatest_at, Reaches, greatest_some, least_most, least_at, least_some, times_le}
 use Rattle.preempt.proofs.Sums.{set_run, part_run, enough_by, narrow_enough, not_fit, not_allowed}
 
-module _ (B : Board) (table : List (Spot × ℕ)) (t : Spot) where
+module _ (B : Board) (table : Table) (t : Spot) where
   at_most : (set : List Spot) (s : Spot) (most i : ℕ) → enough_at B table t set s most i ≤ most
   at_most set s most i =
       let g = B.groups t.job in

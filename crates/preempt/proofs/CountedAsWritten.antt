@@ -8,7 +8,7 @@ use Rattle.std.proofs.lemmas.List.Sums.{sum_by-cons, sum_by-append}
 use Rattle.fuxi_terms.specs.Jobs.{group_of, size_at, unit_of}
 use Rattle.fuxi_terms.specs.Keys.{Spot}
 use Rattle.fuxi_terms.specs.Lists.{below_each}
-use Rattle.fuxi_terms.specs.Tables.{spot}
+use Rattle.fuxi_terms.specs.Tables.{spot, Table}
 use Rattle.fuxi_terms.proofs.ByPlace.{at_place-get_or}
 use Rattle.fuxi_terms.proofs.Lists.{all_push}
 use Rattle.written_roles.specs.Preemption.{so_many, set_by, part_by}
@@ -98,7 +98,7 @@ all_drop P (suc k) [] h = tt
 all_drop P (suc k) (x ∷ xs) h = all_drop P k xs h.1
 
 module _ (tab : TableRecord) (t : Spot) where
-  abbrev pub entries_of : List Entry → List (Spot × ℕ)
+  abbrev pub entries_of : List Entry → Table
   entries_of es = map (written t.machine) es
 
   -- before the entry at an index: what was taken, and the walk goes on from there

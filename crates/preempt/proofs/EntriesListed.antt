@@ -9,9 +9,9 @@ use Rattle.std.specs.declared.cmp.Ordering.TheVariants.{Less, Equal}
 use Rattle.std.specs.FinMap.Entries.{below_all, is_sorted, find, where_key, find-where_key}
 use Rattle.std.proofs.lemmas.Bool.Decides.{nat_tests}
 use Rattle.fuxi_terms.specs.Counts.{count, AreCounts}
-use Rattle.fuxi_terms.specs.Keys.{Spot, spot_cmp}
+use Rattle.fuxi_terms.specs.Keys.{Spot, spot_cmp, Pair}
 use Rattle.fuxi_terms.specs.Limits.{greatest_count}
-use Rattle.fuxi_terms.specs.Tables.{spot, held_on}
+use Rattle.fuxi_terms.specs.Tables.{spot, held_on, Table}
 use Rattle.fuxi_terms.proofs.Alls.{all_more}
 use Rattle.fuxi_terms.proofs.Booleans.{both_true, and_true, number_is, nat_itself}
 use Rattle.fuxi_terms.proofs.OneChangeMore.{both}
@@ -22,21 +22,21 @@ use Rattle.preempt.specs.Walks.{entry_on}
 use Rattle.preempt.proofs.Buckets.{IsAfter, IsRising}
 
 -- ---- spots of one machine in the order of their units
-spot_less : (m : ℕ) (p q : ℕ × ℕ) → IsAfter p q → spot_cmp (spot p.0 p.1 m) (spot q.0 q.1 m) ≡ Less
+spot_less : (m : ℕ) (p q : Pair) → IsAfter p q → spot_cmp (spot p.0 p.1 m) (spot q.0 q.1 m) ≡ Less
 spot_less m p q (inl lt) = ap (λ r. ordering_then r (ordering_then (nat_cmp p.1 q.1) (nat_cmp m m))) (sym (nat_cmp_is p.0 q.0 Less lt))
 spot_less m p q (inr s) =
     ap (λ r. ordering_then r (ordering_then (nat_cmp p.1 q.1) (nat_cmp m m))) (sym (nat_cmp_is p.0 q.0 Equal s.0))
     ∙ ap (λ r. ordering_then r (nat_cmp m m)) (sym (nat_cmp_is p.1 q.1 Less s.1))
 
-module _ (es : List (Spot × ℕ)) (m : ℕ) where
-  below_listed : (p : ℕ × ℕ) (qs : List (ℕ × ℕ)) → AllByRecursion (IsAfter p) qs → T (below_all spot_cmp (spot p.0 p.1 m) (flat_map (entry_on es m) qs))
+module _ (es : Table) (m : ℕ) where
+  below_listed : (p : Pair) (qs : List Pair) → AllByRecursion (IsAfter p) qs → T (below_all spot_cmp (spot p.0 p.1 m) (flat_map (entry_on es m) qs))
   below_listed p [] h = tt
   below_listed p (q ∷ qs) h = elim (nat_lt 0 (held_on es q.0 q.1 m)) as (λ b. T (below_all spot_cmp (spot p.0 p.1 m) (cond b ((spot q.0 q.1 m, held_on es q.0 q.1 m) ∷ []) [] ++ flat_map (entry_on es m) qs))) [
     | true ↦ both _ _ (subst (λ r. T (is_lt r)) (sym (spot_less m p q h.0)) tt) (below_listed p qs h.1)
     | false ↦ below_listed p qs h.1
   ]
 
-  listed_sorted : (ps : List (ℕ × ℕ)) → IsRising ps → T (is_sorted spot_cmp (flat_map (entry_on es m) ps))
+  listed_sorted : (ps : List Pair) → IsRising ps → T (is_sorted spot_cmp (flat_map (entry_on es m) ps))
   listed_sorted [] h = tt
   listed_sorted (p ∷ ps) h = elim (nat_lt 0 (held_on es p.0 p.1 m)) as (λ b. T (is_sorted spot_cmp (cond b ((spot p.0 p.1 m, held_on es p.0 p.1 m) ∷ []) [] ++ flat_map (entry_on es m) ps))) [
     | true ↦ both _ _ (below_listed p ps h.0) (listed_sorted ps h.1)
@@ -49,14 +49,14 @@ module _ (es : List (Spot × ℕ)) (m : ℕ) where
     pub is : x.1 ≡ count spot_cmp es x.0
     pub on : x.0.machine ≡ m
 
-  pub listed_held : (ps : List (ℕ × ℕ)) → AllByRecursion IsHeld (flat_map (entry_on es m) ps)
+  pub listed_held : (ps : List Pair) → AllByRecursion IsHeld (flat_map (entry_on es m) ps)
   listed_held [] = tt
   listed_held (p ∷ ps) = elim (nat_lt 0 (held_on es p.0 p.1 m)) as (λ b. nat_lt 0 (held_on es p.0 p.1 m) ≡ b → AllByRecursion IsHeld (cond b ((spot p.0 p.1 m, held_on es p.0 p.1 m) ∷ []) [] ++ flat_map (entry_on es m) ps)) [
     | true ↦ λ t. (record { some = grind (arith, nat_tests, t); is = refl; on = refl }, listed_held ps)
     | false ↦ λ _. listed_held ps
   ] refl
 
-  listed_counts : AreCounts spot_cmp (λ s. greatest_count) es → (ps : List (ℕ × ℕ)) → IsRising ps → AreCounts spot_cmp (λ s. greatest_count) (flat_map (entry_on es m) ps)
+  listed_counts : AreCounts spot_cmp (λ s. greatest_count) es → (ps : List Pair) → IsRising ps → AreCounts spot_cmp (λ s. greatest_count) (flat_map (entry_on es m) ps)
   listed_counts h ps r = record {
     sorted = listed_sorted ps r;
     positive = all_more IsHeld (λ x. 0 < x.1) (λ x k. k.some) (flat_map (entry_on es m) ps) (listed_held ps);
@@ -64,16 +64,16 @@ module _ (es : List (Spot × ℕ)) (m : ℕ) where
   }
 
   -- a spot of the machine, at one of these units
-  is_on : List (ℕ × ℕ) → Spot → Bool
+  is_on : List Pair → Spot → Bool
   is_on ps s = nat_eq s.machine m && has_pair (s.job, s.unit) ps
 
-  same_as : (s : Spot) (p : ℕ × ℕ) → nat_eq s.machine m ≡ true → (nat_eq s.job p.0 && nat_eq s.unit p.1) ≡ true → s ≡ spot p.0 p.1 m
+  same_as : (s : Spot) (p : Pair) → nat_eq s.machine m ≡ true → (nat_eq s.job p.0 && nat_eq s.unit p.1) ≡ true → s ≡ spot p.0 p.1 m
   same_as s p t u =
       let b = both_true (nat_eq s.job p.0) (nat_eq s.unit p.1) u in
       let x = number_is s.job p.0 b.0 in let y = number_is s.unit p.1 b.1 in let z = number_is s.machine m t in
       λ i. record { job = x i; unit = y i; machine = z i }
 
-  listed_at : (ps : List (ℕ × ℕ)) (s : Spot) → count spot_cmp (flat_map (entry_on es m) ps) s ≡ cond (is_on ps s) (count spot_cmp es s) 0
+  listed_at : (ps : List Pair) (s : Spot) → count spot_cmp (flat_map (entry_on es m) ps) s ≡ cond (is_on ps s) (count spot_cmp es s) 0
   unfolding is_on
   listed_at [] s = elim (nat_eq s.machine m) as (λ b. ◌≡◌ {A = ℕ} 0 (cond (b && false) (count spot_cmp es s) 0)) [ true ↦ refl | false ↦ refl ]
   listed_at (p ∷ ps) s = by (nat_eq s.machine m) refl (nat_eq s.job p.0 && nat_eq s.unit p.1) refl (nat_lt 0 (held_on es p.0 p.1 m)) refl (listed_at ps s)
@@ -84,10 +84,10 @@ module _ (es : List (Spot × ℕ)) (m : ℕ) where
       n : ℕ
       n = held_on es p.0 p.1 m
 
-      rest : List (Spot × ℕ)
+      rest : Table
       rest = flat_map (entry_on es m) ps
 
-      with_entry : Bool → List (Spot × ℕ)
+      with_entry : Bool → Table
       with_entry b = cond b ((here, n) ∷ []) [] ++ rest
 
       differs : (eq_by_cmp spot_cmp s here ≡ true → ⊥) → eq_by_cmp spot_cmp s here ≡ false
@@ -137,7 +137,7 @@ module _ (es : List (Spot × ℕ)) (m : ℕ) where
           either_none false z = refl
 
   -- those of a table on a machine
-  filter_where : (xs : List (Spot × ℕ)) → filter (λ e. nat_eq e.0.machine m) xs ≡ where_key spot_cmp (λ s. nat_eq s.machine m) xs
+  filter_where : (xs : Table) → filter (λ e. nat_eq e.0.machine m) xs ≡ where_key spot_cmp (λ s. nat_eq s.machine m) xs
   filter_where [] = refl
   filter_where (x ∷ xs) = elim (nat_eq x.0.machine m) as (λ b. cond b (x ∷ filter (λ e. nat_eq e.0.machine m) xs) (filter (λ e. nat_eq e.0.machine m) xs) ≡ cond b (x ∷ where_key spot_cmp (λ s. nat_eq s.machine m) xs) (where_key spot_cmp (λ s. nat_eq s.machine m) xs)) [
     | true ↦ ap (λ ys. x ∷ ys) (filter_where xs)
@@ -151,7 +151,7 @@ module _ (es : List (Spot × ℕ)) (m : ℕ) where
       turned true = refl
       turned false = refl
 
-  pub listed_all : AreCounts spot_cmp (λ s. greatest_count) es → (ps : List (ℕ × ℕ)) → IsRising ps → ((s : Spot) → 0 < count spot_cmp es s → has_pair (s.job, s.unit) ps ≡ true) → filter (λ e. nat_eq e.0.machine m) es ≡ flat_map (entry_on es m) ps
+  pub listed_all : AreCounts spot_cmp (λ s. greatest_count) es → (ps : List Pair) → IsRising ps → ((s : Spot) → 0 < count spot_cmp es s → has_pair (s.job, s.unit) ps ≡ true) → filter (λ e. nat_eq e.0.machine m) es ≡ flat_map (entry_on es m) ps
   unfolding is_on
   listed_all h ps r all = filter_where es ∙ same_counts spot_total same_spot (λ s. greatest_count) (where_key spot_cmp (λ s. nat_eq s.machine m) es) (flat_map (entry_on es m) ps) (counts-where_key spot_total (λ s. greatest_count) (λ s. nat_eq s.machine m) es h) (listed_counts h ps r)
       (λ s. where_at s ∙ there s (nat_lt 0 (count spot_cmp es s)) refl ∙ sym (listed_at ps s))

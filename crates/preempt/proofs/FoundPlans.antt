@@ -8,7 +8,7 @@ use Rattle.std.proofs.lemmas.Bool.Decides.{nat_tests}
 use Rattle.fuxi_terms.specs.Jobs.{group_of, size_at}
 use Rattle.fuxi_terms.specs.Keys.{Spot, spot_cmp}
 use Rattle.fuxi_terms.specs.Lists.{below_each}
-use Rattle.fuxi_terms.specs.Tables.{spot}
+use Rattle.fuxi_terms.specs.Tables.{spot, Table}
 use Rattle.fuxi_terms.proofs.Booleans.{and_false}
 use Rattle.written_roles.specs.Preemption.{so_many, is_enough_in, is_some_set, victims_in, part_by}
 use Rattle.grant_table.specs.GrantTables.{TableRecord, as_known}
@@ -58,14 +58,14 @@ module _ (tab : TableRecord) (t : Spot) where
       (λ j. x j && y j) ∙ ap (λ b. (b && below_each tab.cluster.resources (fit_test (board_of tab) tab.entries t s)) && below_each tab.cluster.resources (limit_test (board_of tab) tab.entries t s)) (sym need.narrow)
 
   -- the victims by the set that was taken
-  abbrev by_set : List (Spot × ℕ) → Option (List Spot)
-  by_set set = option_map singles (elim (is_enough_in (board_of tab) tab.entries t (singles set) && is_some_set (singles set)) as (λ _. Option (List (Spot × ℕ))) [ true ↦ Some (counted_kept set (board_of tab) tab.entries t []) | false ↦ None ])
+  abbrev by_set : Table → Option (List Spot)
+  by_set set = option_map singles (elim (is_enough_in (board_of tab) tab.entries t (singles set) && is_some_set (singles set)) as (λ _. Option Table) [ true ↦ Some (counted_kept set (board_of tab) tab.entries t []) | false ↦ None ])
 
   by_taken : (entries set : List Entry) (n : Need) (groups : List GroupUse) → AreGiven tab t entries n groups → T (is_sorted spot_cmp tab.entries) → IsTaken tab t entries set → victims_in (board_of tab) tab.entries t ≡ by_set (map (written t.machine) set)
   by_taken entries set n groups given k taken = victims_whole (board_of tab) tab.entries t given.need.narrow k ∙ ap by_set (sym (taken.counted ∙ ap (λ x. counted_taken x (board_of tab) tab.entries t []) given.walk))
 
-  at_test : (b : Bool) (set : List (Spot × ℕ)) → (is_enough_in (board_of tab) tab.entries t (singles set) && is_some_set (singles set)) ≡ b → by_set set ≡ option_map singles (elim b as (λ _. Option (List (Spot × ℕ))) [ true ↦ Some (counted_kept set (board_of tab) tab.entries t []) | false ↦ None ])
-  at_test b set e = ap (λ b. option_map singles (elim b as (λ _. Option (List (Spot × ℕ))) [ true ↦ Some (counted_kept set (board_of tab) tab.entries t []) | false ↦ None ])) e
+  at_test : (b : Bool) (set : Table) → (is_enough_in (board_of tab) tab.entries t (singles set) && is_some_set (singles set)) ≡ b → by_set set ≡ option_map singles (elim b as (λ _. Option Table) [ true ↦ Some (counted_kept set (board_of tab) tab.entries t []) | false ↦ None ])
+  at_test b set e = ap (λ b. option_map singles (elim b as (λ _. Option Table) [ true ↦ Some (counted_kept set (board_of tab) tab.entries t []) | false ↦ None ])) e
 
   module _ (entries set : List Entry) (n : Need) (groups : List GroupUse) (sums own : List ℕ) where
     -- what is known once all is taken

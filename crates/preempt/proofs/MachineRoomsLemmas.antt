@@ -7,7 +7,7 @@ use Rattle.fuxi_terms.specs.Cluster.{has_at, limit_at}
 use Rattle.fuxi_terms.specs.Jobs.{priority_of, group_of, size_at}
 use Rattle.fuxi_terms.specs.Keys.{Spot}
 use Rattle.fuxi_terms.specs.Lists.{below_each}
-use Rattle.fuxi_terms.specs.Tables.{spot, total_at, usage_at}
+use Rattle.fuxi_terms.specs.Tables.{spot, total_at, usage_at, Table}
 use Rattle.fuxi_terms.proofs.Booleans.{and_true, not_false}
 use Rattle.fuxi_terms.proofs.Lists.{all_at}
 use Rattle.written_roles.specs.Preemption.{set_by, part_by, is_enough_in, is_guaranteed_in, walk_in, victims_in}
@@ -55,7 +55,7 @@ beyond_none t groups m shelf n room a u i are is left small group priority guara
     size : ℕ
     size = size_at (as_known t.jobs) a u i
 
-    entries : List (Spot × ℕ)
+    entries : Table
     entries = map (written m) shelf.entries.items
 
     all : List Spot

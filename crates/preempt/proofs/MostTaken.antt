@@ -6,7 +6,7 @@ use Rattle.std.proofs.lemmas.List.{append-nil}
 use Rattle.std.proofs.lemmas.List.Sums.{sum_by-append, sum_by-cons}
 use Rattle.fuxi_terms.specs.Keys.{Spot}
 use Rattle.fuxi_terms.specs.Cluster.{quota_at}
-use Rattle.fuxi_terms.specs.Tables.{usage_by}
+use Rattle.fuxi_terms.specs.Tables.{usage_by, Table}
 use Rattle.fuxi_terms.proofs.Booleans.{either, either_case, number_is}
 use Rattle.written_roles.specs.Placing.{Board}
 use Rattle.written_roles.specs.Preemption.{so_many, set_by, part_by, is_enough_in, is_guaranteed_in, may_take_in, taken_in, needed_in, walk_in, is_some_set, victims_in}
@@ -18,19 +18,19 @@ use Rattle.preempt.proofs.Whole.{singles_more}
 use Rattle.preempt.proofs.SearchLemmas.{Begins}
 
 -- the walk that never stops
-abbrev pub most_in : List Spot → Board → List (Spot × ℕ) → Spot → List Spot → List Spot
+abbrev pub most_in : List Spot → Board → Table → Spot → List Spot → List Spot
 most_in [] B table t set = set
 most_in (s ∷ ss) B table t set = most_in ss B table t (cond (may_take_in B table t set s) (set ++ s ∷ []) set)
 
 -- and by counts
-abbrev pub counted_most : List (Spot × ℕ) → Board → List (Spot × ℕ) → Spot → List (Spot × ℕ) → List (Spot × ℕ)
+abbrev pub counted_most : Table → Board → Table → Spot → Table → Table
 counted_most [] B table t set = set
 counted_most (e ∷ es) B table t set = counted_most es B table t (set ++ (e.0, may_times B table t (singles set) e.0 e.1) ∷ [])
 
 begins_before : (set : List Spot) (s : Spot) (ys : List Spot) → Begins (set ++ s ∷ []) ys → Begins set ys
 begins_before set s ys b = record { rest = s ∷ b.rest; is = b.is ∙ append_assoc set (s ∷ []) b.rest }
 
-module _ (B : Board) (table : List (Spot × ℕ)) (t : Spot) where
+module _ (B : Board) (table : Table) (t : Spot) where
   most_begins : (ss set : List Spot) → Begins set (most_in ss B table t set)
   most_begins [] set = record { rest = []; is = sym (append-nil set) }
   most_begins (s ∷ ss) set = either (λ x. Begins set (most_in ss B table t x)) (may_take_in B table t set s) (set ++ s ∷ []) set
@@ -88,7 +88,7 @@ module _ (B : Board) (table : List (Spot × ℕ)) (t : Spot) where
       ap (λ b. most_in (so_many k s ++ ss) B table t (cond b (set ++ s ∷ []) set)) yes
       ∙ (run_most s n k ss (set ++ s ∷ []) rest ∙ ap (λ x. most_in ss B table t x) (append_assoc set (s ∷ []) (so_many n s)))
 
-  pub most_whole : (es set : List (Spot × ℕ)) → most_in (singles es) B table t (singles set) ≡ singles (counted_most es B table t set)
+  pub most_whole : (es set : Table) → most_in (singles es) B table t (singles set) ≡ singles (counted_most es B table t set)
   most_whole [] set = refl
   most_whole (e ∷ es) set =
       let n = may_times B table t (singles set) e.0 e.1 in
@@ -104,17 +104,17 @@ module _ (B : Board) (table : List (Spot × ℕ)) (t : Spot) where
   spared_weight i e = cond (is_guaranteed_in B table t && not (nat_eq (B.groups e.0.job) (B.groups t.job))) e.1 0 * B.sizes e.0.job e.0.unit i
 
   -- of the groups that are not served two sets take the same, where the served one has quota left
-  pub record SameParts (ss ms : List (Spot × ℕ)) : Type 0 where
+  pub record SameParts (ss ms : Table) : Type 0 where
     pub same : is_guaranteed_in B table t ≡ true → (g i : ℕ) → nat_eq g (B.groups t.job) ≡ false → part_by B.groups B.sizes g i (singles ms) ≡ part_by B.groups B.sizes g i (singles ss)
 
   -- so many are spared beside a set, and so many of those may be taken
-  abbrev spare : List (Spot × ℕ) → Spot × ℕ → ℕ
+  abbrev spare : Table → Spot × ℕ → ℕ
   spare ss e = least_of e.1 B.cluster.resources (spared_at B table (singles ss) e.0 e.1)
 
-  abbrev chosen : List (Spot × ℕ) → Spot × ℕ → ℕ
+  abbrev chosen : Table → Spot × ℕ → ℕ
   chosen ss e = cond (nat_eq (B.groups e.0.job) (B.groups t.job)) (cond (nat_lt (B.priorities e.0.job e.0.unit) (B.priorities t.job t.unit)) e.1 0) (cond (is_guaranteed_in B table t) (spare ss e) 0)
 
-  may_chosen : (ss ms : List (Spot × ℕ)) (e : Spot × ℕ) → SameParts ss ms → may_times B table t (singles ms) e.0 e.1 ≡ chosen ss e
+  may_chosen : (ss ms : Table) (e : Spot × ℕ) → SameParts ss ms → may_times B table t (singles ms) e.0 e.1 ≡ chosen ss e
   may_chosen ss ms e h = by (nat_eq (B.groups e.0.job) (B.groups t.job)) refl (is_guaranteed_in B table t) refl
     where
       lower : ℕ
@@ -129,7 +129,7 @@ module _ (B : Board) (table : List (Spot × ℕ)) (t : Spot) where
           λ j. times_within (quota_at B.cluster (B.groups e.0.job) i + p j) (usage_by B.groups B.sizes (B.groups e.0.job) i table) (B.sizes e.0.job e.0.unit i) e.1) in
           (λ j. cond (x j) lower (cond (y j) (same j) 0)) ∙ (λ j. cond (sym x j) lower (cond (sym y j) (spare ss e) 0))
 
-  set_grown : (i : ℕ) (xs : List (Spot × ℕ)) (s : Spot) (n : ℕ) → set_by B.sizes i (singles (xs ++ (s, n) ∷ [])) ≡ set_by B.sizes i (singles xs) + n * B.sizes s.job s.unit i
+  set_grown : (i : ℕ) (xs : Table) (s : Spot) (n : ℕ) → set_by B.sizes i (singles (xs ++ (s, n) ∷ [])) ≡ set_by B.sizes i (singles xs) + n * B.sizes s.job s.unit i
   set_grown i xs s n =
       let w : Spot → ℕ = λ s. B.sizes s.job s.unit i in
       let a = ap (λ ys. sum_by w ys) (singles_more xs s n) in
@@ -137,7 +137,7 @@ module _ (B : Board) (table : List (Spot × ℕ)) (t : Spot) where
       let m = sum_many w n s in
       omega (arith, a, b, m)
 
-  part_grown : (g i : ℕ) (xs : List (Spot × ℕ)) (s : Spot) (n : ℕ) → part_by B.groups B.sizes g i (singles (xs ++ (s, n) ∷ [])) ≡ part_by B.groups B.sizes g i (singles xs) + n * own_size B g s i
+  part_grown : (g i : ℕ) (xs : Table) (s : Spot) (n : ℕ) → part_by B.groups B.sizes g i (singles (xs ++ (s, n) ∷ [])) ≡ part_by B.groups B.sizes g i (singles xs) + n * own_size B g s i
   part_grown g i xs s n =
       let w : Spot → ℕ = λ s. own_size B g s i in
       let a = ap (λ ys. sum_by w ys) (singles_more xs s n) in
@@ -145,7 +145,7 @@ module _ (B : Board) (table : List (Spot × ℕ)) (t : Spot) where
       let m = sum_many w n s in
       omega (arith, a, b, m)
 
-  parts_grown : (ss ms : List (Spot × ℕ)) (e : Spot × ℕ) → SameParts ss ms → SameParts (ss ++ (e.0, spare ss e) ∷ []) (ms ++ (e.0, chosen ss e) ∷ [])
+  parts_grown : (ss ms : Table) (e : Spot × ℕ) → SameParts ss ms → SameParts (ss ++ (e.0, spare ss e) ∷ []) (ms ++ (e.0, chosen ss e) ∷ [])
   parts_grown ss ms e h = record {
     same = λ y g i other.
         let p = h.same y g i other in
@@ -182,11 +182,11 @@ module _ (B : Board) (table : List (Spot × ℕ)) (t : Spot) where
   own_split false b true k n z = omega arith
   own_split false b false k n z = omega arith
 
-  pub record AreMostSums (i : ℕ) (es ss ms : List (Spot × ℕ)) : Type 0 where
+  pub record AreMostSums (i : ℕ) (es ss ms : Table) : Type 0 where
     pub whole : set_by B.sizes i (singles (counted_most es B table t ms)) ≡ set_by B.sizes i (singles ms) + (sum_by (lower_weight i) es + sum_by (spared_weight i) (all_spared es B table ss))
     pub own : part_by B.groups B.sizes (B.groups t.job) i (singles (counted_most es B table t ms)) ≡ part_by B.groups B.sizes (B.groups t.job) i (singles ms) + sum_by (lower_weight i) es
 
-  pub most_sums : (i : ℕ) (es ss ms : List (Spot × ℕ)) → SameParts ss ms → AreMostSums i es ss ms
+  pub most_sums : (i : ℕ) (es ss ms : Table) → SameParts ss ms → AreMostSums i es ss ms
   most_sums i [] ss ms h = record {
     whole = let z : sum_by (lower_weight i) [] ≡ 0 = refl in let w : sum_by (spared_weight i) [] ≡ 0 = refl in omega (arith, z, w);
     own = let z : sum_by (lower_weight i) [] ≡ 0 = refl in omega (arith, z);
@@ -198,7 +198,7 @@ module _ (B : Board) (table : List (Spot × ℕ)) (t : Spot) where
       let b = nat_lt (B.priorities e.0.job e.0.unit) (B.priorities t.job t.unit) in
       let d = is_guaranteed_in B table t in
       let z = B.sizes e.0.job e.0.unit i in
-      let new : List (Spot × ℕ) = ss ++ (e.0, spare ss e) ∷ [] in
+      let new : Table = ss ++ (e.0, spare ss e) ∷ [] in
       let next = subst (λ n. SameParts new (ms ++ (e.0, n) ∷ [])) (sym is) (parts_grown ss ms e h) in
       let rest = most_sums i es new (ms ++ (e.0, q) ∷ []) next in
       let rest_whole = rest.whole in

@@ -6,13 +6,13 @@ use Rattle.std.proofs.lemmas.Bool.Decides.{nat_tests}
 use Rattle.fuxi_terms.specs.Keys.{Spot}
 use Rattle.fuxi_terms.proofs.Alls.{all_append, all_front, all_back}
 use Rattle.fuxi_terms.proofs.Booleans.{both_true, either, either_case}
-use Rattle.fuxi_terms.specs.Tables.{spot}
+use Rattle.fuxi_terms.specs.Tables.{spot, Table}
 use Rattle.written_roles.specs.Placing.{Board}
 use Rattle.written_roles.specs.Preemption.{so_many, victims_in, is_enough_in, is_spared_in, is_guaranteed_in, is_some_set, may_take_in, taken_in, needed_in, without_one, walk_in}
 use Rattle.preempt.specs.declared.plan.Victim.{Victim}
 use Rattle.preempt.specs.Plans.{losers_of, is_unit}
 
-module _ (B : Board) (table : List (Spot × ℕ)) (t : Spot) where
+module _ (B : Board) (table : Table) (t : Spot) where
   -- one of the group that is served has a lower priority
   pub record IsLower (s : Spot) : Type 0 where
     pub lower : B.groups s.job ≡ B.groups t.job → B.priorities s.job s.unit < B.priorities t.job t.unit
@@ -63,7 +63,7 @@ module _ (B : Board) (table : List (Spot × ℕ)) (t : Spot) where
       by false e k = cc
 
 -- so none of them is of the unit that is served
-pub other_units : (B : Board) (table : List (Spot × ℕ)) (a u m : ℕ) (vs : List Victim) → AllByRecursion (IsLower B table (spot a u m)) (losers_of m vs) → AllByRecursion (λ (v : Victim). 0 < v.count) vs → AllByRecursion (λ v. is_unit a u v ≡ false) vs
+pub other_units : (B : Board) (table : Table) (a u m : ℕ) (vs : List Victim) → AllByRecursion (IsLower B table (spot a u m)) (losers_of m vs) → AllByRecursion (λ (v : Victim). 0 < v.count) vs → AllByRecursion (λ v. is_unit a u v ≡ false) vs
 other_units B table a u m [] h k = tt
 other_units B table a u m (v ∷ vs) h k = (here v.count k.0 (all_front (IsLower B table (spot a u m)) (so_many v.count (spot v.app.0 v.unit.0 m)) (losers_of m vs) h), other_units B table a u m vs (all_back (IsLower B table (spot a u m)) (so_many v.count (spot v.app.0 v.unit.0 m)) (losers_of m vs) h) k.1)
   where

@@ -3,21 +3,22 @@ use Rattle.std.proofs.Common.{◌≡◌, ℕ, zero, suc, Bool, true, false, cond
 use Rattle.std.specs.Prelude.{◌&&◌}
 use Rattle.std.proofs.lemmas.List.{append-nil}
 use Rattle.fuxi_terms.specs.Keys.{Spot}
+use Rattle.fuxi_terms.specs.Tables.{Table}
 use Rattle.written_roles.specs.Placing.{Board}
 use Rattle.written_roles.specs.Preemption.{so_many, is_enough_in, may_take_in, taken_in}
 
 -- the walk of a set that is not enough takes the next grant
-abbrev pub is_open : Board → List (Spot × ℕ) → Spot → List Spot → Spot → Bool
+abbrev pub is_open : Board → Table → Spot → List Spot → Spot → Bool
 is_open B table t set s = not (is_enough_in B table t set) && may_take_in B table t set s
 
 -- of k equal grants n are taken
-pub record IsTake (B : Board) (table : List (Spot × ℕ)) (t : Spot) (set : List Spot) (s : Spot) (k n : ℕ) : Type 0 where
+pub record IsTake (B : Board) (table : Table) (t : Spot) (set : List Spot) (s : Spot) (k n : ℕ) : Type 0 where
   pub most : n ≤ k
   pub takes : (j : ℕ) → j < n → is_open B table t (set ++ so_many j s) s ≡ true
   pub stops : n < k → is_open B table t (set ++ so_many n s) s ≡ false
 
 -- Taking. What is enough stays, and what may not be taken is passed by
-module _ (B : Board) (table : List (Spot × ℕ)) (t : Spot) where
+module _ (B : Board) (table : Table) (t : Spot) where
   pub taken_enough : (ss set : List Spot) → is_enough_in B table t set ≡ true → taken_in ss B table t set ≡ set
   taken_enough [] set e = refl
   taken_enough (s ∷ ss) set e = ap (λ b. elim b as (λ _. List Spot) [ true ↦ set | false ↦ taken_in ss B table t (cond (may_take_in B table t set s) (set ++ s ∷ []) set) ]) e

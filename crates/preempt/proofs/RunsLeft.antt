@@ -4,6 +4,7 @@ use Rattle.std.specs.Prelude.{◌&&◌}
 use Rattle.std.specs.List.{AllByRecursion}
 use Rattle.std.proofs.lemmas.Bool.Decides.{nat_tests}
 use Rattle.fuxi_terms.specs.Keys.{Spot}
+use Rattle.fuxi_terms.specs.Tables.{Table}
 use Rattle.written_roles.specs.Placing.{Board}
 use Rattle.written_roles.specs.Preemption.{so_many, is_enough_in, without_one, needed_in}
 
@@ -17,7 +18,7 @@ same_itself s = λ i. yes s.job i && yes s.unit i
     yes n = grind (arith, nat_tests)
 
 -- of n equal grants that were taken l are kept: the rest is enough with l and more of them, and not with fewer
-pub record IsKeep (B : Board) (table : List (Spot × ℕ)) (t : Spot) (before after : List Spot) (s : Spot) (n l : ℕ) : Type 0 where
+pub record IsKeep (B : Board) (table : Table) (t : Spot) (before after : List Spot) (s : Spot) (n l : ℕ) : Type 0 where
   pub most : l ≤ n
   pub rest : (j : ℕ) → l ≤ j → j < n → is_enough_in B table t (before ++ (so_many j s ++ after)) ≡ true
   pub stops : (j : ℕ) → l ≡ suc j → is_enough_in B table t (before ++ (so_many j s ++ after)) ≡ false
@@ -33,7 +34,7 @@ without_run s (x ∷ xs) after j h =
     ap (λ b. cond b (xs ++ (so_many (suc j) s ++ after)) (x ∷ without_one s (xs ++ (so_many (suc j) s ++ after)))) h.0
     ∙ ap (λ ys. x ∷ ys) (without_run s xs after j h.1)
 
-module _ (B : Board) (table : List (Spot × ℕ)) (t : Spot) where
+module _ (B : Board) (table : Table) (t : Spot) where
   stuck : (s : Spot) (k : ℕ) (ss set : List Spot) → is_enough_in B table t (without_one s set) ≡ false → needed_in (so_many k s ++ ss) B table t set ≡ needed_in ss B table t set
   stuck s zero ss set h = refl
   stuck s (suc k) ss set h = ap (λ b. needed_in (so_many k s ++ ss) B table t (cond b (without_one s set) set)) h ∙ stuck s k ss set h

@@ -4,9 +4,9 @@ use Rattle.std.specs.Prelude.{◌&&◌, Option}
 use Rattle.std.specs.List.{AllByRecursion}
 use Rattle.std.proofs.lemmas.List.{append-nil}
 use Rattle.fuxi_terms.specs.Cluster.{is_narrow}
-use Rattle.fuxi_terms.specs.Keys.{Spot}
+use Rattle.fuxi_terms.specs.Keys.{Spot, Pair}
 use Rattle.fuxi_terms.specs.Lists.{below}
-use Rattle.fuxi_terms.specs.Tables.{spot}
+use Rattle.fuxi_terms.specs.Tables.{spot, Table}
 use Rattle.written_roles.specs.Placing.{Board}
 use Rattle.written_roles.specs.Preemption.{victims_in, is_enough_in, is_some_set, taken_in, needed_in, walk_in, first_plan_in}
 use Rattle.written_roles.specs.Preemption.{Plan as WrittenPlan}
@@ -19,7 +19,7 @@ abbrev or_else : {A : Type 0} → Option A → Option A → Option A
 or_else None p = p
 or_else (Some q) p = Some q
 
-module _ (B : Board) (table : List (Spot × ℕ)) where
+module _ (B : Board) (table : Table) where
   plan_by : Spot → List Spot → Option (List Spot) → Option WrittenPlan
   plan_by s ss o = elim o as (λ _. Option WrittenPlan) [ None ↦ first_plan_in ss B table | Some vs ↦ Some (record { served = s; losers = vs }) ]
 
@@ -91,7 +91,7 @@ filter_last q f (y ∷ ys) x = elim (q y) as (λ b. map f (cond b (y ∷ filter 
   | false ↦ filter_last q f ys x
 ]
 
-pub pairs_more : (accepts : ℕ → ℕ → ℕ → Bool) (n : ℕ) (p : ℕ × ℕ) → pairs_to accepts (n + 1) p ≡ pairs_to accepts n p ++ cond (accepts p.0 p.1 n) (spot p.0 p.1 n ∷ []) []
+pub pairs_more : (accepts : ℕ → ℕ → ℕ → Bool) (n : ℕ) (p : Pair) → pairs_to accepts (n + 1) p ≡ pairs_to accepts n p ++ cond (accepts p.0 p.1 n) (spot p.0 p.1 n ∷ []) []
 pairs_more accepts n p = ap (λ k. pairs_to accepts k p) (add-one n) ∙ filter_last (accepts p.0 p.1) (spot p.0 p.1) (below n) n
 
 -- a list is the beginning of another
@@ -100,7 +100,7 @@ pub record Begins (xs ys : List Spot) : Type 0 where
   pub is : ys ≡ xs ++ rest
 
 -- the pairs of the first machines are the beginning of those of all
-pub pairs_begin : (accepts : ℕ → ℕ → ℕ → Bool) (p : ℕ × ℕ) (k d : ℕ) → Begins (pairs_to accepts k p) (pairs_to accepts (k + d) p)
+pub pairs_begin : (accepts : ℕ → ℕ → ℕ → Bool) (p : Pair) (k d : ℕ) → Begins (pairs_to accepts k p) (pairs_to accepts (k + d) p)
 pairs_begin accepts p k zero = let e : k ≡ k + 0 = omega arith in subst (λ n. Begins (pairs_to accepts k p) (pairs_to accepts n p)) e (record { rest = []; is = sym (append-nil (pairs_to accepts k p)) })
 pairs_begin accepts p k (suc d) =
     let r = pairs_begin accepts p k d in

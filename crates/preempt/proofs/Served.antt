@@ -8,9 +8,9 @@ use Rattle.std.proofs.lemmas.Grind.{flat_map-append}
 use Rattle.std.proofs.lemmas.List.{append-nil, map-append}
 use Rattle.fuxi_terms.specs.Cluster.{is_narrow}
 use Rattle.fuxi_terms.specs.Jobs.{unit_count, priority_of, size_at}
-use Rattle.fuxi_terms.specs.Keys.{Spot}
+use Rattle.fuxi_terms.specs.Keys.{Spot, Pair}
 use Rattle.fuxi_terms.specs.Lists.{below}
-use Rattle.fuxi_terms.specs.Tables.{spot, held_on}
+use Rattle.fuxi_terms.specs.Tables.{spot, held_on, Table}
 use Rattle.fuxi_terms.proofs.Alls.{all_append, all_more, all_filter, all_flat}
 use Rattle.fuxi_terms.proofs.Lists.{take_last}
 use Rattle.written_roles.specs.Placing.{Board, accepts_in}
@@ -32,7 +32,7 @@ use Rattle.preempt.proofs.UnitSteps.{got}
 use Rattle.preempt.proofs.CountedAsWritten.{at_index}
 
 -- ---- the victims of a pair read neither what is asked nor where a unit may be granted
-module _ (B : Board) (asks : ℕ → Key → ℕ) (may_use : ℕ → ℕ → ℕ → Bool) (serving : Bool) (table : List (Spot × ℕ)) (t : Spot) where
+module _ (B : Board) (asks : ℕ → Key → ℕ) (may_use : ℕ → ℕ → ℕ → Bool) (serving : Bool) (table : Table) (t : Spot) where
   abbrev other : Board
   other = record { cluster = B.cluster; priorities = B.priorities; sizes = B.sizes; mosts = B.mosts; groups = B.groups; asks = asks; may_use = may_use; serving = serving }
 
@@ -55,7 +55,7 @@ module _ (B : Board) (asks : ℕ → Key → ℕ) (may_use : ℕ → ℕ → ℕ
 pub shelf_at : (xs : List Shelf) (n : ℕ) (x : Shelf) → n < length xs → x ≡ get_or xs n x → slice_get xs n ≡ Some x
 shelf_at xs n x lt is = got (λ _. true) xs n x lt ∙ ap (λ y. Some y) (sym is)
 
-pairs_all : (P : Spot → Type 0) (accepts : ℕ → ℕ → ℕ → Bool) (n : ℕ) (p : ℕ × ℕ) → ((m : ℕ) → m < n → P (spot p.0 p.1 m)) → AllByRecursion P (pairs_to accepts n p)
+pairs_all : (P : Spot → Type 0) (accepts : ℕ → ℕ → ℕ → Bool) (n : ℕ) (p : Pair) → ((m : ℕ) → m < n → P (spot p.0 p.1 m)) → AllByRecursion P (pairs_to accepts n p)
 pairs_all P accepts zero p h = tt
 pairs_all P accepts (suc n) p h =
     let e : suc n ≡ n + 1 = omega arith in
@@ -69,23 +69,23 @@ module _ (t : TableRecord) (usable : ℕ → ℕ → ℕ → Bool) where
   at_usable : (s : Spot) → victims_in (board_of t) t.entries s ≡ victims_in (board_at t usable) t.entries s
   at_usable s = victims_same (board_of t) (λ a k. 0) usable true t.entries s
 
-  unit_without : (p : ℕ × ℕ) → ((m : ℕ) → m < length t.cluster.machines → victims_in (board_of t) t.entries (spot p.0 p.1 m) ≡ None) → AllByRecursion (λ s. victims_in (board_at t usable) t.entries s ≡ None) (pairs_on t usable p)
+  unit_without : (p : Pair) → ((m : ℕ) → m < length t.cluster.machines → victims_in (board_of t) t.entries (spot p.0 p.1 m) ≡ None) → AllByRecursion (λ s. victims_in (board_at t usable) t.entries s ≡ None) (pairs_on t usable p)
   unit_without p h = pairs_all (λ s. victims_in (board_at t usable) t.entries s ≡ None) (accepts_at t usable) (length t.cluster.machines) p (λ m lt. sym (at_usable (spot p.0 p.1 m)) ∙ h m lt)
 
-  pub none_found : (p : ℕ × ℕ) → ((m : ℕ) → m < length t.cluster.machines → victims_in (board_of t) t.entries (spot p.0 p.1 m) ≡ None) → IsFound t usable (pairs_on t usable p) None
+  pub none_found : (p : Pair) → ((m : ℕ) → m < length t.cluster.machines → victims_in (board_of t) t.entries (spot p.0 p.1 m) ≡ None) → IsFound t usable (pairs_on t usable p) None
   none_found p h = record { is = sym (none_from (board_at t usable) t.entries (pairs_on t usable p) (unit_without p h)); made = tt }
 
-  pub wide_found : (p : ℕ × ℕ) → is_narrow t.cluster (size_at (as_known t.jobs) p.0 p.1) ≡ false → IsFound t usable (pairs_on t usable p) None
+  pub wide_found : (p : Pair) → is_narrow t.cluster (size_at (as_known t.jobs) p.0 p.1) ≡ false → IsFound t usable (pairs_on t usable p) None
   wide_found p f = none_found p (λ m _. wide_none (board_of t) t.entries (spot p.0 p.1 m) f)
 
-  pub passed_closed : (p : ℕ × ℕ) (n : ℕ) → accepts_at t usable p.0 p.1 n ≡ false → first (pairs_to (accepts_at t usable) n p) ≡ None → first (pairs_to (accepts_at t usable) (n + 1) p) ≡ None
+  pub passed_closed : (p : Pair) (n : ℕ) → accepts_at t usable p.0 p.1 n ≡ false → first (pairs_to (accepts_at t usable) n p) ≡ None → first (pairs_to (accepts_at t usable) (n + 1) p) ≡ None
   passed_closed p n f h = ap first (pairs_more (accepts_at t usable) n p) ∙ first_behind (board_at t usable) t.entries (pairs_to (accepts_at t usable) n p) (cond (accepts_at t usable p.0 p.1 n) (spot p.0 p.1 n ∷ []) []) h ∙ ap (λ b. first (cond b (spot p.0 p.1 n ∷ []) [])) f
 
-  pub passed_without : (p : ℕ × ℕ) (n : ℕ) → accepts_at t usable p.0 p.1 n ≡ true → victims_in (board_of t) t.entries (spot p.0 p.1 n) ≡ None → first (pairs_to (accepts_at t usable) n p) ≡ None → first (pairs_to (accepts_at t usable) (n + 1) p) ≡ None
+  pub passed_without : (p : Pair) (n : ℕ) → accepts_at t usable p.0 p.1 n ≡ true → victims_in (board_of t) t.entries (spot p.0 p.1 n) ≡ None → first (pairs_to (accepts_at t usable) n p) ≡ None → first (pairs_to (accepts_at t usable) (n + 1) p) ≡ None
   passed_without p n u v h = ap first (pairs_more (accepts_at t usable) n p) ∙ first_behind (board_at t usable) t.entries (pairs_to (accepts_at t usable) n p) (cond (accepts_at t usable p.0 p.1 n) (spot p.0 p.1 n ∷ []) []) h ∙ ap (λ b. first (cond b (spot p.0 p.1 n ∷ []) [])) u
       ∙ one_without (board_at t usable) t.entries (spot p.0 p.1 n) (sym (at_usable (spot p.0 p.1 n)) ∙ v)
 
-  pub passed_none : (p : ℕ × ℕ) (n : ℕ) → victims_in (board_of t) t.entries (spot p.0 p.1 n) ≡ None → first (pairs_to (accepts_at t usable) n p) ≡ None → first (pairs_to (accepts_at t usable) (n + 1) p) ≡ None
+  pub passed_none : (p : Pair) (n : ℕ) → victims_in (board_of t) t.entries (spot p.0 p.1 n) ≡ None → first (pairs_to (accepts_at t usable) n p) ≡ None → first (pairs_to (accepts_at t usable) (n + 1) p) ≡ None
   passed_none p n v h = by (accepts_at t usable p.0 p.1 n) refl
     where
       by : (b : Bool) → accepts_at t usable p.0 p.1 n ≡ b → first (pairs_to (accepts_at t usable) (n + 1) p) ≡ None
@@ -103,7 +103,7 @@ module _ (t : TableRecord) (usable : ℕ → ℕ → ℕ → Bool) where
       let w = plan.pick.unit.0 in
       let n = plan.pick.machine.0 in
       let s = spot a w n in
-      let p : ℕ × ℕ = (a, w) in
+      let p : Pair = (a, w) in
       let here : first (pairs_to (accepts_at t usable) (n + 1) p) ≡ Some (plan_as plan) = ap first (pairs_more (accepts_at t usable) n p) ∙ first_behind (board_at t usable) t.entries (pairs_to (accepts_at t usable) n p) (cond (accepts_at t usable a w n) (s ∷ []) []) h
       ∙ ap (λ b. first (cond b (s ∷ []) [])) u ∙ one_with (board_at t usable) t.entries s (losers_of n plan.victims) (sym (at_usable s) ∙ v) in
       let begins = pairs_begin (accepts_at t usable) p (n + 1) (length t.cluster.machines - (n + 1)) in
@@ -121,23 +121,23 @@ module _ (t : TableRecord) (usable : ℕ → ℕ → ℕ → Bool) where
       }
 
   -- ---- units
-  abbrev has_priority : ℕ → ℕ × ℕ → Bool
+  abbrev has_priority : ℕ → Pair → Bool
   has_priority n p = nat_eq (priority_of (as_known t.jobs) p.0 p.1) n
 
-  filter_both : (q : ℕ × ℕ → Bool) (xs ys : List (ℕ × ℕ)) → filter q (xs ++ ys) ≡ filter q xs ++ filter q ys
+  filter_both : (q : Pair → Bool) (xs ys : List Pair) → filter q (xs ++ ys) ≡ filter q xs ++ filter q ys
   filter_both q [] ys = refl
   filter_both q (x ∷ xs) ys = elim (q x) as (λ b. cond b (x ∷ filter q (xs ++ ys)) (filter q (xs ++ ys)) ≡ cond b (x ∷ filter q xs) (filter q xs) ++ filter q ys) [
     | true ↦ ap (λ zs. x ∷ zs) (filter_both q xs ys)
     | false ↦ filter_both q xs ys
   ]
 
-  at_both : (n : ℕ) (xs ys : List (ℕ × ℕ)) → pairs_at t usable n (xs ++ ys) ≡ pairs_at t usable n xs ++ pairs_at t usable n ys
+  at_both : (n : ℕ) (xs ys : List Pair) → pairs_at t usable n (xs ++ ys) ≡ pairs_at t usable n xs ++ pairs_at t usable n ys
   at_both n xs ys = ap (flat_map (pairs_on t usable)) (filter_both (has_priority n) xs ys) ∙ flat_map-append (pairs_on t usable) (filter (has_priority n) xs) (filter (has_priority n) ys)
 
-  at_one : (n : ℕ) (p : ℕ × ℕ) → has_priority n p ≡ true → pairs_at t usable n (p ∷ []) ≡ pairs_on t usable p
+  at_one : (n : ℕ) (p : Pair) → has_priority n p ≡ true → pairs_at t usable n (p ∷ []) ≡ pairs_on t usable p
   at_one n p h = ap (λ b. flat_map (pairs_on t usable) (cond b (p ∷ []) [])) h ∙ append-nil (pairs_on t usable p)
 
-  at_other : (n : ℕ) (p : ℕ × ℕ) → has_priority n p ≡ false → pairs_at t usable n (p ∷ []) ≡ []
+  at_other : (n : ℕ) (p : Pair) → has_priority n p ≡ false → pairs_at t usable n (p ∷ []) ≡ []
   at_other n p h = ap (λ b. flat_map (pairs_on t usable) (cond b (p ∷ []) [])) h
 
   -- the units before one, and with it
@@ -176,7 +176,7 @@ module _ (t : TableRecord) (usable : ℕ → ℕ → ℕ → Bool) where
       }
 
   -- ---- priorities
-  abbrev pub down_to : List (ℕ × ℕ) → List ℕ → List Spot
+  abbrev pub down_to : List Pair → List ℕ → List Spot
   down_to line ks = flat_map (λ n. pairs_at t usable n line) ks
 
   falling_at : (late : ℕ) → late < 10 → slice_get falling_priorities late ≡ Some (9 - late)
@@ -192,19 +192,19 @@ module _ (t : TableRecord) (usable : ℕ → ℕ → ℕ → Bool) where
   falling_at (suc (suc (suc (suc (suc (suc (suc (suc (suc zero))))))))) lt = refl
   falling_at (suc (suc (suc (suc (suc (suc (suc (suc (suc (suc n)))))))))) lt = absurd (omega (arith, lt))
 
-  one_lower : (line : List (ℕ × ℕ)) (late : ℕ) → late < 10 → down_to line (take (late + 1) falling_priorities) ≡ down_to line (take late falling_priorities) ++ pairs_at t usable (9 - late) line
+  one_lower : (line : List Pair) (late : ℕ) → late < 10 → down_to line (take (late + 1) falling_priorities) ≡ down_to line (take late falling_priorities) ++ pairs_at t usable (9 - late) line
   one_lower line late lt = ap (down_to line) (take_last falling_priorities late (9 - late) (falling_at late lt)) ∙ flat_map-append (λ n. pairs_at t usable n line) (take late falling_priorities) ((9 - late) ∷ [])
       ∙ ap (λ xs. down_to line (take late falling_priorities) ++ xs) (append-nil (pairs_at t usable (9 - late) line))
 
-  pub passed_priority : (line : List (ℕ × ℕ)) (late : ℕ) → late < 10 → IsFound t usable (pairs_at t usable (9 - late) line) None → first (down_to line (take late falling_priorities)) ≡ None → first (down_to line (take (late + 1) falling_priorities)) ≡ None
+  pub passed_priority : (line : List Pair) (late : ℕ) → late < 10 → IsFound t usable (pairs_at t usable (9 - late) line) None → first (down_to line (take late falling_priorities)) ≡ None → first (down_to line (take (late + 1) falling_priorities)) ≡ None
   passed_priority line late lt f h = ap first (one_lower line late lt) ∙ first_behind (board_at t usable) t.entries (down_to line (take late falling_priorities)) (pairs_at t usable (9 - late) line) h ∙ sym f.is
 
   -- where no unit of the line has victims
-  units_without : (ps : List (ℕ × ℕ)) → AllByRecursion (HasNoVictims t) ps → AllByRecursion (λ s. victims_in (board_at t usable) t.entries s ≡ None) (flat_map (pairs_on t usable) ps)
+  units_without : (ps : List Pair) → AllByRecursion (HasNoVictims t) ps → AllByRecursion (λ s. victims_in (board_at t usable) t.entries s ≡ None) (flat_map (pairs_on t usable) ps)
   units_without [] h = tt
   units_without (p ∷ ps) h = all_append (λ s. victims_in (board_at t usable) t.entries s ≡ None) (pairs_on t usable p) (flat_map (pairs_on t usable) ps) (unit_without p (λ m _. h.0.none m)) (units_without ps h.1)
 
-  pub line_without : (line : List (ℕ × ℕ)) → AllByRecursion (HasNoVictims t) line → first (down_to line falling_priorities) ≡ None
+  pub line_without : (line : List Pair) → AllByRecursion (HasNoVictims t) line → first (down_to line falling_priorities) ≡ None
   line_without line h = none_from (board_at t usable) t.entries (down_to line falling_priorities)
       (all_flat (λ s. victims_in (board_at t usable) t.entries s ≡ None) (λ n. pairs_at t usable n line) falling_priorities (λ n. units_without (filter (has_priority n) line) (all_filter (HasNoVictims t) (has_priority n) line h)))
 
@@ -216,7 +216,7 @@ module _ (t : TableRecord) (usable : ℕ → ℕ → ℕ → Bool) where
       numbers [] (suc k) = refl
       numbers (x ∷ xs) (suc k) = ap (λ ys. x ∷ ys) (numbers xs k)
 
-  pub found_priority : (line : List (ℕ × ℕ)) (late : ℕ) (plan : Plan) → late < 10 → IsFound t usable (pairs_at t usable (9 - late) line) (Some plan) → first (down_to line (take late falling_priorities)) ≡ None → Some (plan_as plan) ≡ first (down_to line falling_priorities)
+  pub found_priority : (line : List Pair) (late : ℕ) (plan : Plan) → late < 10 → IsFound t usable (pairs_at t usable (9 - late) line) (Some plan) → first (down_to line (take late falling_priorities)) ≡ None → Some (plan_as plan) ≡ first (down_to line falling_priorities)
   found_priority line late plan lt f h =
       let here : first (down_to line (take (late + 1) falling_priorities)) ≡ Some (plan_as plan) = ap first (one_lower line late lt) ∙ first_behind (board_at t usable) t.entries (down_to line (take late falling_priorities)) (pairs_at t usable (9 - late) line) h ∙ sym f.is in
       sym (ap (λ ks. first (down_to line ks)) (falling_split (late + 1)) ∙ ap first (flat_map-append (λ n. pairs_at t usable n line) (take (late + 1) falling_priorities) (drop (late + 1) falling_priorities))
@@ -250,25 +250,25 @@ module _ (B : Board) (t : TableRecord) (usable : ℕ → ℕ → ℕ → Bool) (
   same_first [] = refl
   same_first (s ∷ ss) = let v = same_victims s in let r = same_first ss in λ i. elim (v i) as (λ _. Option WrittenPlan) [ None ↦ r i | Some vs ↦ Some (record { served = s; losers = vs }) ]
 
-  same_pairs : (p : ℕ × ℕ) → p.1 < unit_count (as_known t.jobs) p.0 → map (spot p.0 p.1) (filter (accepts_in B t.entries p.0 p.1) (below (length B.cluster.machines))) ≡ pairs_on t usable p
+  same_pairs : (p : Pair) → p.1 < unit_count (as_known t.jobs) p.0 → map (spot p.0 p.1) (filter (accepts_in B t.entries p.0 p.1) (below (length B.cluster.machines))) ≡ pairs_on t usable p
   same_pairs p lt = ap (λ n. map (spot p.0 p.1) (filter (accepts_in B t.entries p.0 p.1) (below n))) (λ i. length (h.cluster i).machines) ∙ ap (map (spot p.0 p.1)) (filter_same (accepts_in B t.entries p.0 p.1) (accepts_at t usable p.0 p.1) (length t.cluster.machines) (λ m l. λ i. h.may_use p.0 p.1 m lt l i && nat_lt (held_on t.entries p.0 p.1 m) (h.mosts p.0 p.1 i)))
 
-  pub same_plan : (line : List (ℕ × ℕ)) → AllByRecursion (λ p. p.1 < unit_count (as_known t.jobs) p.0) line → plan_in B t.entries line ≡ first_plan_in (down_to t usable line falling_priorities) (board_at t usable) t.entries
+  pub same_plan : (line : List Pair) → AllByRecursion (λ p. p.1 < unit_count (as_known t.jobs) p.0) line → plan_in B t.entries line ≡ first_plan_in (down_to t usable line falling_priorities) (board_at t usable) t.entries
   same_plan line admitted =
       ap (λ ss. first_plan_in ss B t.entries) tried ∙ same_first (down_to t usable line falling_priorities)
     where
-      of : ℕ → List (ℕ × ℕ)
+      of : ℕ → List Pair
       of n = filter (λ p. nat_eq (priority_of (as_known t.jobs) p.0 p.1) n) line
 
       tried : tried_in B t.entries line ≡ down_to t usable line falling_priorities
       tried =
           (λ i. flat_map (λ p. map (spot p.0 p.1) (filter (accepts_in B t.entries p.0 p.1) (below (length B.cluster.machines)))) (by_priority_in (λ a u. h.priorities a u i) line))
-          ∙ flat_flat (λ (p : ℕ × ℕ). map (spot p.0 p.1) (filter (accepts_in B t.entries p.0 p.1) (below (length B.cluster.machines)))) of falling_priorities
+          ∙ flat_flat (λ (p : Pair). map (spot p.0 p.1) (filter (accepts_in B t.entries p.0 p.1) (below (length B.cluster.machines)))) of falling_priorities
           ∙ (λ i. flat_map (λ n. each n i) falling_priorities)
         where
-          each : (n : ℕ) → flat_map (λ (p : ℕ × ℕ). map (spot p.0 p.1) (filter (accepts_in B t.entries p.0 p.1) (below (length B.cluster.machines)))) (of n) ≡ pairs_at t usable n line
-          each n = flat_same (λ (p : ℕ × ℕ). p.1 < unit_count (as_known t.jobs) p.0) (λ (p : ℕ × ℕ). map (spot p.0 p.1) (filter (accepts_in B t.entries p.0 p.1) (below (length B.cluster.machines)))) (pairs_on t usable) same_pairs (of n)
-              (all_filter (λ (p : ℕ × ℕ). p.1 < unit_count (as_known t.jobs) p.0) (λ p. nat_eq (priority_of (as_known t.jobs) p.0 p.1) n) line admitted)
+          each : (n : ℕ) → flat_map (λ (p : Pair). map (spot p.0 p.1) (filter (accepts_in B t.entries p.0 p.1) (below (length B.cluster.machines)))) (of n) ≡ pairs_at t usable n line
+          each n = flat_same (λ (p : Pair). p.1 < unit_count (as_known t.jobs) p.0) (λ (p : Pair). map (spot p.0 p.1) (filter (accepts_in B t.entries p.0 p.1) (below (length B.cluster.machines)))) (pairs_on t usable) same_pairs (of n)
+              (all_filter (λ (p : Pair). p.1 < unit_count (as_known t.jobs) p.0) (λ p. nat_eq (priority_of (as_known t.jobs) p.0 p.1) n) line admitted)
 
 -- ---- a unit of the line that has the priority which is searched
 abbrev pub no_entry : Entry

@@ -7,7 +7,7 @@ use Rattle.std.proofs.lemmas.Bool.Decides.{nat_tests}
 use Rattle.fuxi_terms.specs.Cluster.{ClusterRecord, MachineRecord, is_valid_cluster, is_between, no_machine, quota_at}
 use Rattle.fuxi_terms.specs.Jobs.{priority_of, group_of, size_at}
 use Rattle.fuxi_terms.specs.Keys.{Spot}
-use Rattle.fuxi_terms.specs.Tables.{spot, held_on, usage_at}
+use Rattle.fuxi_terms.specs.Tables.{spot, held_on, usage_at, Table}
 use Rattle.fuxi_terms.specs.Vectors.{at_place}
 use Rattle.fuxi_terms.proofs.Alls.{all_append}
 use Rattle.fuxi_terms.proofs.Booleans.{both_true, not_false, number_is, both_false, and_false}
@@ -68,7 +68,7 @@ has_is ms m x e i = by (slice_get ms m) e
     by (Some r) e = let same : machine_of r ≡ x = cc in subst (λ (y : Machine). get_or y.has.q i 0 ≡ at_place r.has i) same (get_or-padded r.has i ∙ sym (at_place-get_or r.has i))
 
 -- ---- when nothing may be taken
-module _ (B : Board) (table : List (Spot × ℕ)) (t : Spot) where
+module _ (B : Board) (table : Table) (t : Spot) where
   abbrev IsClosed : Spot → Type 0
   IsClosed s = may_take_in B table t [] s ≡ false
 
@@ -90,7 +90,7 @@ closed_singles : (P : Spot → Type 0) (m : ℕ) (es : List Entry) → AllByRecu
 closed_singles P m [] h = tt
 closed_singles P m (e ∷ es) h = all_append P (so_many e.count (spot e.app.0 e.unit.0 m)) (singles (map (written m) es)) (closed_run P e.count (spot e.app.0 e.unit.0 m) h.0) (closed_singles P m es h.1)
 
-closed_listed : (P : Spot → Type 0) (es : List (Spot × ℕ)) (m : ℕ) (hs : List Entry) → AllByRecursion (λ (e : Entry). P (spot e.app.0 e.unit.0 m)) hs → AllByRecursion P (singles (flat_map (entry_on es m) (map pair_of hs)))
+closed_listed : (P : Spot → Type 0) (es : Table) (m : ℕ) (hs : List Entry) → AllByRecursion (λ (e : Entry). P (spot e.app.0 e.unit.0 m)) hs → AllByRecursion P (singles (flat_map (entry_on es m) (map pair_of hs)))
 closed_listed P es m [] h = tt
 closed_listed P es m (e ∷ hs) h =
     let s = spot e.app.0 e.unit.0 m in

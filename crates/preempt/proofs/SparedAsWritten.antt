@@ -5,8 +5,7 @@ use Rattle.std.specs.List.{AllByRecursion, sum_by}
 use Rattle.std.proofs.lemmas.List.{map-append, at_drop_more}
 use Rattle.std.proofs.lemmas.List.Sums.{sum_by-cons}
 use Rattle.fuxi_terms.specs.Jobs.{group_of, priority_of, size_at}
-use Rattle.fuxi_terms.specs.Keys.{Spot}
-use Rattle.fuxi_terms.specs.Tables.{spot}
+use Rattle.fuxi_terms.specs.Tables.{spot, Table}
 use Rattle.fuxi_terms.proofs.Lists.{all_push}
 use Rattle.written_roles.specs.Preemption.{part_by, is_guaranteed_in}
 use Rattle.grant_table.specs.GrantTables.{TableRecord, as_known}
@@ -20,7 +19,7 @@ use Rattle.preempt.proofs.CountedAsWritten.{least_same, size_is, part_is, at_ind
 use Rattle.preempt.proofs.MostTaken.{lower_weight, spared_weight}
 
 module _ (tab : TableRecord) (m : ℕ) where
-  abbrev entries_at : List Entry → List (Spot × ℕ)
+  abbrev entries_at : List Entry → Table
   entries_at es = map (written m) es
 
   -- before the entry at an index: what is spared so far, and of the rest

@@ -4,7 +4,7 @@ use Rattle.std.specs.List.{sum_by}
 use Rattle.std.proofs.lemmas.List.Sums.{sum_by-cons, sum_by-append}
 use Rattle.fuxi_terms.specs.Cluster.{has_at, limit_at, in_each, in_each_place, is_narrow}
 use Rattle.fuxi_terms.specs.Keys.{Spot}
-use Rattle.fuxi_terms.specs.Tables.{total_by, usage_by}
+use Rattle.fuxi_terms.specs.Tables.{total_by, usage_by, Table}
 use Rattle.fuxi_terms.proofs.Booleans.{both_true, and_true, false_and, false_right}
 use Rattle.fuxi_terms.proofs.Members.{each_place, each_from}
 use Rattle.written_roles.specs.Placing.{Board}
@@ -31,11 +31,11 @@ pub part_run : (B : Board) (g i j : ℕ) (s : Spot) (a b : List Spot) → part_b
 part_run B g i j s a b = sum_run (λ s. own_size B g s i) j s a b
 
 -- a set is enough where it frees what is wanted on the machine and in the group, of a size that needs nothing beyond the resources
-pub record IsEnoughBy (B : Board) (table : List (Spot × ℕ)) (t : Spot) (set : List Spot) : Type 0 where
+pub record IsEnoughBy (B : Board) (table : Table) (t : Spot) (set : List Spot) : Type 0 where
   pub fits : (i : ℕ) → i < B.cluster.resources → total_by B.sizes t.machine i table + B.sizes t.job t.unit i ≤ has_at B.cluster t.machine i + set_by B.sizes i set
   pub allowed : (i : ℕ) → i < B.cluster.resources → usage_by B.groups B.sizes (B.groups t.job) i table + B.sizes t.job t.unit i ≤ limit_at B.cluster (B.groups t.job) i + part_by B.groups B.sizes (B.groups t.job) i set
 
-module _ (B : Board) (table : List (Spot × ℕ)) (t : Spot) where
+module _ (B : Board) (table : Table) (t : Spot) where
   abbrev pub fit_test : List Spot → ℕ → Bool
   fit_test set i = not (nat_lt (has_at B.cluster t.machine i + set_by B.sizes i set) (total_by B.sizes t.machine i table + B.sizes t.job t.unit i))
 

@@ -6,7 +6,7 @@ use Rattle.std.proofs.lemmas.List.{append-nil}
 use Rattle.fuxi_terms.specs.Counts.{count}
 use Rattle.fuxi_terms.specs.Jobs.{priority_of}
 use Rattle.fuxi_terms.specs.Keys.{Spot, spot_cmp}
-use Rattle.fuxi_terms.specs.Tables.{spot}
+use Rattle.fuxi_terms.specs.Tables.{spot, Table}
 use Rattle.fuxi_terms.proofs.Alls.{all_more}
 use Rattle.written_roles.specs.Placing.{Board}
 use Rattle.grant_table.specs.GrantTables.{TableRecord, IsSound, as_known}
@@ -26,40 +26,40 @@ use Rattle.preempt.proofs.EntriesListed.{IsHeld, listed_held}
 use Rattle.preempt.proofs.Admitted.{walk_is}
 
 -- the same keys with counts that are no greater
-abbrev IsBelow : List (Spot × ℕ) → List (Spot × ℕ) → Type 0
+abbrev IsBelow : Table → Table → Type 0
 IsBelow [] [] = Unit
 IsBelow [] (y ∷ ys) = ⊥
 IsBelow (x ∷ xs) [] = ⊥
 IsBelow (x ∷ xs) (y ∷ ys) = (x.0 ≡ y.0) × (x.1 ≤ y.1) × IsBelow xs ys
 
-below_again : (xs ys zs : List (Spot × ℕ)) → IsBelow xs ys → IsBelow ys zs → IsBelow xs zs
+below_again : (xs ys zs : Table) → IsBelow xs ys → IsBelow ys zs → IsBelow xs zs
 below_again [] [] zs h k = k
 below_again [] (y ∷ ys) zs h k = absurd h
 below_again (x ∷ xs) [] zs h k = absurd h
 below_again (x ∷ xs) (y ∷ ys) [] h k = absurd k
 below_again (x ∷ xs) (y ∷ ys) (z ∷ zs) h k = (h.0 ∙ k.0, let a = h.1 in let b = k.1 in omega (arith, a, b), below_again xs ys zs h.2 k.2)
 
-below_all : (P : Spot → ℕ → Type 0) → ((s : Spot) (m n : ℕ) → m ≤ n → P s n → P s m) → (xs ys : List (Spot × ℕ)) → IsBelow xs ys → AllByRecursion (λ y. P y.0 y.1) ys → AllByRecursion (λ x. P x.0 x.1) xs
+below_all : (P : Spot → ℕ → Type 0) → ((s : Spot) (m n : ℕ) → m ≤ n → P s n → P s m) → (xs ys : Table) → IsBelow xs ys → AllByRecursion (λ y. P y.0 y.1) ys → AllByRecursion (λ x. P x.0 x.1) xs
 below_all P fall [] ys h k = tt
 below_all P fall (x ∷ xs) [] h k = absurd h
 below_all P fall (x ∷ xs) (y ∷ ys) h k = (subst (λ s. P s x.1) (sym h.0) (fall y.0 x.1 y.1 h.1 k.0), below_all P fall xs ys h.2 k.1)
 
-below_keys : (P : Spot → Type 0) (xs ys : List (Spot × ℕ)) → IsBelow xs ys → AllByRecursion (λ y. P y.0) ys → AllByRecursion (λ x. P x.0) xs
+below_keys : (P : Spot → Type 0) (xs ys : Table) → IsBelow xs ys → AllByRecursion (λ y. P y.0) ys → AllByRecursion (λ x. P x.0) xs
 below_keys P xs ys h k = below_all (λ s _. P s) (λ s m n le p. p) xs ys h k
 
-below_distinct : (xs ys : List (Spot × ℕ)) → IsBelow xs ys → AreDistinct ys → AreDistinct xs
+below_distinct : (xs ys : Table) → IsBelow xs ys → AreDistinct ys → AreDistinct xs
 below_distinct [] ys h d = tt
 below_distinct (x ∷ xs) [] h d = absurd h
 below_distinct (x ∷ xs) (y ∷ ys) h d = (subst (λ s. AllByRecursion (λ e. is_same_unit e.0 s ≡ false) xs) (sym h.0) (below_keys (λ s. is_same_unit s y.0 ≡ false) xs ys h.2 d.0), below_distinct xs ys h.2 d.1)
 
 -- a walk adds to a set for each entry at most its count
-record Adds (set es out : List (Spot × ℕ)) : Type 0 where
-  added : List (Spot × ℕ)
+record Adds (set es out : Table) : Type 0 where
+  added : Table
   is : out ≡ set ++ added
   below : IsBelow added es
 
-module _ (B : Board) (table : List (Spot × ℕ)) (t : Spot) where
-  taken_adds : (es set : List (Spot × ℕ)) → Adds set es (counted_taken es B table t set)
+module _ (B : Board) (table : Table) (t : Spot) where
+  taken_adds : (es set : Table) → Adds set es (counted_taken es B table t set)
   taken_adds [] set = record { added = []; is = sym (append-nil set); below = tt }
   taken_adds (e ∷ es) set =
       let n = taken_count B table t (singles set) e.0 e.1 in
@@ -68,7 +68,7 @@ module _ (B : Board) (table : List (Spot × ℕ)) (t : Spot) where
       let b = enough_most B table t (singles set) e.0 (may_times B table t (singles set) e.0 e.1) in
       record { added = (e.0, n) ∷ r.added; is = r.is ∙ append_assoc set ((e.0, n) ∷ []) r.added; below = (refl, omega (arith, a, b), r.below) }
 
-  kept_adds : (fs kept : List (Spot × ℕ)) → Adds kept fs (counted_kept fs B table t kept)
+  kept_adds : (fs kept : Table) → Adds kept fs (counted_kept fs B table t kept)
   kept_adds [] kept = record { added = []; is = sym (append-nil kept); below = tt }
   kept_adds (f ∷ fs) kept =
       let n = enough_times B table t (singles kept ++ singles fs) f.0 f.1 in

@@ -11,9 +11,9 @@ use Rattle.std.proofs.lemmas.Grind.{flat_map-append}
 use Rattle.std.proofs.lemmas.List.{append-nil, map-append, length-map}
 use Rattle.fuxi_terms.specs.Cluster.{JobRecord, UnitRecord}
 use Rattle.fuxi_terms.specs.Jobs.{KnownJob, unit_count, unit_of, priority_of, group_of, no_unit}
-use Rattle.fuxi_terms.specs.Keys.{Spot, spot_cmp}
+use Rattle.fuxi_terms.specs.Keys.{Spot, spot_cmp, Pair}
 use Rattle.fuxi_terms.specs.Lists.{below}
-use Rattle.fuxi_terms.specs.Tables.{spot, held, held_on}
+use Rattle.fuxi_terms.specs.Tables.{spot, held, held_on, Table}
 use Rattle.fuxi_terms.proofs.Alls.{all_append, all_filter}
 use Rattle.fuxi_terms.proofs.Booleans.{nat_itself}
 use Rattle.fuxi_terms.proofs.CountsLemmas.{tied}
@@ -75,13 +75,13 @@ module _ {A : Type 0} (test : A → Bool) where
       (elim (test x) as (λ b. AllByRecursion P (cond b (x ∷ []) [])) [ true ↦ (h.0, tt) | false ↦ tt ])
 
 -- entries by priority are their pairs by priority
-pairs_backward : (t : TableRecord) (n : ℕ) (es : List Entry) → AllByRecursion (IsEntry t) es → map pair_of (backward (of_priority n) es) ≡ backward (λ (p : ℕ × ℕ). nat_eq (priority_of (as_known t.jobs) p.0 p.1) n) (map pair_of es)
+pairs_backward : (t : TableRecord) (n : ℕ) (es : List Entry) → AllByRecursion (IsEntry t) es → map pair_of (backward (of_priority n) es) ≡ backward (λ (p : Pair). nat_eq (priority_of (as_known t.jobs) p.0 p.1) n) (map pair_of es)
 pairs_backward t n [] h = refl
 pairs_backward t n (e ∷ es) h =
     let r = pairs_backward t n es h.1 in
     let p = h.0.priority in
     map-append pair_of (backward (of_priority n) es) (cond (nat_eq e.priority n) (e ∷ []) []) ∙ (λ i. r i ++ one (nat_eq e.priority n) i)
-    ∙ ap (λ k. backward (λ (p : ℕ × ℕ). nat_eq (priority_of (as_known t.jobs) p.0 p.1) n) (map pair_of es) ++ cond (nat_eq k n) (pair_of e ∷ []) []) p
+    ∙ ap (λ k. backward (λ (p : Pair). nat_eq (priority_of (as_known t.jobs) p.0 p.1) n) (map pair_of es) ++ cond (nat_eq k n) (pair_of e ∷ []) []) p
   where
     one : (b : Bool) → map pair_of (cond b (e ∷ []) []) ≡ cond b (pair_of e ∷ []) []
     one true = refl
@@ -90,7 +90,7 @@ pairs_backward t n (e ∷ es) h =
 pub pairs_ordered : (t : TableRecord) (es : List Entry) → AllByRecursion (IsEntry t) es → (n : ℕ) → map pair_of (entries_by_priority es n) ≡ pairs_by_priority (priority_of (as_known t.jobs)) (map pair_of es) n
 pairs_ordered t es h n = over (below n)
   where
-    over : (ks : List ℕ) → map pair_of (flat_map (λ p. backward (of_priority p) es) ks) ≡ flat_map (λ k. backward (λ (p : ℕ × ℕ). nat_eq (priority_of (as_known t.jobs) p.0 p.1) k) (map pair_of es)) ks
+    over : (ks : List ℕ) → map pair_of (flat_map (λ p. backward (of_priority p) es) ks) ≡ flat_map (λ k. backward (λ (p : Pair). nat_eq (priority_of (as_known t.jobs) p.0 p.1) k) (map pair_of es)) ks
     over [] = refl
     over (k ∷ ks) = let a = pairs_backward t k es h in let r = over ks in map-append pair_of (backward (of_priority k) es) (flat_map (λ p. backward (of_priority p) es) ks) ∙ (λ i. a i ++ r i)
 
@@ -111,7 +111,7 @@ ordered_few t s es is =
 
 -- ---- those that have grants
 -- a unit has on a machine no more than in all
-held_least : (es : List (Spot × ℕ)) (a u m : ℕ) → held_on es a u m ≤ held es a u
+held_least : (es : Table) (a u m : ℕ) → held_on es a u m ≤ held es a u
 held_least [] a u m = omega arith
 held_least (x ∷ xs) a u m = by (eq_by_cmp spot_cmp s x.0) refl (held_least xs a u m)
   where
@@ -136,14 +136,14 @@ held_least (x ∷ xs) a u m = by (eq_by_cmp spot_cmp s x.0) refl (held_least xs 
         let found : unwrap_or (cond (eq_by_cmp spot_cmp s x.0) (Some x.1) (find spot_cmp s xs)) 0 ≡ held_on xs a u m = ap (λ b. unwrap_or (cond b (Some x.1) (find spot_cmp s xs)) 0) e in
         omega (arith, more, found, le)
 
-nothing_on : (es : List (Spot × ℕ)) (m : ℕ) (e : Entry) → holds_some es e ≡ false → entry_on es m (pair_of e) ≡ []
+nothing_on : (es : Table) (m : ℕ) (e : Entry) → holds_some es e ≡ false → entry_on es m (pair_of e) ≡ []
 nothing_on es m e f =
     let n = held_on es e.app.0 e.unit.0 m in
     let le = held_least es e.app.0 e.unit.0 m in
     let none : nat_lt 0 n ≡ false = grind (arith, nat_tests, f, le) in
     ap (λ b. cond b ((spot e.app.0 e.unit.0 m, n) ∷ []) []) none
 
-holders_listed : (es : List (Spot × ℕ)) (m : ℕ) (units : List Entry) → flat_map (entry_on es m) (map pair_of (filter (holds_some es) units)) ≡ flat_map (entry_on es m) (map pair_of units)
+holders_listed : (es : Table) (m : ℕ) (units : List Entry) → flat_map (entry_on es m) (map pair_of (filter (holds_some es) units)) ≡ flat_map (entry_on es m) (map pair_of units)
 holders_listed es m [] = refl
 holders_listed es m (e ∷ units) =
     let rest = holders_listed es m units in

@@ -13,7 +13,7 @@ use Rattle.fuxi_terms.specs.Counts.{count, set_count, AreCounts}
 use Rattle.fuxi_terms.specs.Jobs.{KnownJob, size_at, unit_of}
 use Rattle.fuxi_terms.specs.Keys.{Spot, spot_cmp}
 use Rattle.fuxi_terms.specs.Limits.{greatest_count}
-use Rattle.fuxi_terms.specs.Tables.{spot, held_on, total_at, without_grants}
+use Rattle.fuxi_terms.specs.Tables.{spot, held_on, total_at, without_grants, Table}
 use Rattle.fuxi_terms.proofs.Alls.{all_more}
 use Rattle.fuxi_terms.proofs.Booleans.{both_true, and_true, number_is, nat_itself, or_true}
 use Rattle.fuxi_terms.proofs.ByPlace.{at_place-get_or}
@@ -30,10 +30,10 @@ use Rattle.preempt.proofs.Sums.{sum_many, by_enough, narrow_enough}
 use Rattle.preempt.proofs.Admitted.{size_short}
 
 -- counts of a table, whatever its greatest number is
-abbrev AreNumbers : List (Spot × ℕ) → Type 0
+abbrev AreNumbers : Table → Type 0
 AreNumbers es = AreCounts spot_cmp (λ s. greatest_count) es
 
-fewer_counts : (es : List (Spot × ℕ)) (s : Spot) (k : ℕ) → AreNumbers es → AreNumbers (without_count es s k)
+fewer_counts : (es : Table) (s : Spot) (k : ℕ) → AreNumbers es → AreNumbers (without_count es s k)
 fewer_counts es s k h = let le = count_le spot_total same_spot (λ s. greatest_count) es s h.within in counts-set_count spot_total (λ s. greatest_count) same_spot es s (count spot_cmp es s - k) (omega (arith, le)) h
 
 -- another unit keeps its numbers
@@ -49,18 +49,18 @@ other_spot s x f = by (eq_by_cmp spot_cmp s x) refl
         let t : (nat_eq x.job s.job && nat_eq x.unit s.unit) ≡ true = and_true (nat_eq x.job s.job) (nat_eq x.unit s.unit) a b in
         absurd (let y : ⊥ = cc in y)
 
-kept_one : (es : List (Spot × ℕ)) (m n a u : ℕ) (v : Victim) → is_unit a u v ≡ false → held_on (without_count es (spot v.app.0 v.unit.0 m) v.count) a u n ≡ held_on es a u n
+kept_one : (es : Table) (m n a u : ℕ) (v : Victim) → is_unit a u v ≡ false → held_on (without_count es (spot v.app.0 v.unit.0 m) v.count) a u n ≡ held_on es a u n
 kept_one es m n a u v f =
     let x = spot v.app.0 v.unit.0 m in
     count-set_count spot_total es x (count spot_cmp es x - v.count) (spot a u n) ∙ ap (λ b. cond b (count spot_cmp es x - v.count) (count spot_cmp es (spot a u n))) (other_spot (spot a u n) x f)
 
-pub kept_others : (vs : List Victim) (es : List (Spot × ℕ)) (m n a u : ℕ) → AllByRecursion (λ v. is_unit a u v ≡ false) vs → held_on (without_victims es m vs) a u n ≡ held_on es a u n
+pub kept_others : (vs : List Victim) (es : Table) (m n a u : ℕ) → AllByRecursion (λ v. is_unit a u v ≡ false) vs → held_on (without_victims es m vs) a u n ≡ held_on es a u n
 kept_others [] es m n a u h = refl
 kept_others (v ∷ vs) es m n a u h = kept_others vs (without_count es (spot v.app.0 v.unit.0 m) v.count) m n a u h.1 ∙ kept_one es m n a u v h.0
 
 -- ---- one by one
 -- setting a number twice is setting it once
-set_again : (es : List (Spot × ℕ)) (s : Spot) (n k : ℕ) → AreNumbers es → n ≤ greatest_count → k ≤ greatest_count → set_count spot_cmp (set_count spot_cmp es s n) s k ≡ set_count spot_cmp es s k
+set_again : (es : Table) (s : Spot) (n k : ℕ) → AreNumbers es → n ≤ greatest_count → k ≤ greatest_count → set_count spot_cmp (set_count spot_cmp es s n) s k ≡ set_count spot_cmp es s k
 set_again es s n k h le le' =
     let one = counts-set_count spot_total (λ s. greatest_count) same_spot es s n le h in
     same_counts spot_total same_spot (λ s. greatest_count) (set_count spot_cmp (set_count spot_cmp es s n) s k) (set_count spot_cmp es s k)
@@ -71,7 +71,7 @@ set_again es s n k h le le' =
     twice true c = refl
     twice false c = refl
 
-set_same : (es : List (Spot × ℕ)) (s : Spot) → AreNumbers es → set_count spot_cmp es s (count spot_cmp es s) ≡ es
+set_same : (es : Table) (s : Spot) → AreNumbers es → set_count spot_cmp es s (count spot_cmp es s) ≡ es
 set_same es s h =
     let le = count_le spot_total same_spot (λ s. greatest_count) es s h.within in
     same_counts spot_total same_spot (λ s. greatest_count) (set_count spot_cmp es s (count spot_cmp es s)) es (counts-set_count spot_total (λ s. greatest_count) same_spot es s (count spot_cmp es s) le h) h
@@ -81,7 +81,7 @@ set_same es s h =
     by q true e = ap (count spot_cmp es) (sym (same_spot q s (tied _ e)))
     by q false e = refl
 
-run_without : (n : ℕ) (es : List (Spot × ℕ)) (s : Spot) (ss : List Spot) → AreNumbers es → without_grants es (so_many n s ++ ss) ≡ without_grants (without_count es s n) ss
+run_without : (n : ℕ) (es : Table) (s : Spot) (ss : List Spot) → AreNumbers es → without_grants es (so_many n s ++ ss) ≡ without_grants (without_count es s n) ss
 run_without zero es s ss h = ap (λ fs. without_grants fs ss) (sym (set_same es s h) ∙ ap (set_count spot_cmp es s) (let e : count spot_cmp es s ≡ count spot_cmp es s - 0 = omega arith in e))
 run_without (suc n) es s ss h =
     let one = set_count spot_cmp es s (count spot_cmp es s - 1) in
@@ -93,7 +93,7 @@ run_without (suc n) es s ss h =
     ∙ ap (λ k. without_grants (set_count spot_cmp one s k) ss) left
     ∙ ap (λ fs. without_grants fs ss) (set_again es s (count spot_cmp es s - 1) (count spot_cmp es s - suc n) h (omega (arith, le)) (omega (arith, le)))
 
-pub taken_singly : (vs : List Victim) (es : List (Spot × ℕ)) (m : ℕ) → AreNumbers es → without_victims es m vs ≡ without_grants es (losers_of m vs)
+pub taken_singly : (vs : List Victim) (es : Table) (m : ℕ) → AreNumbers es → without_victims es m vs ≡ without_grants es (losers_of m vs)
 taken_singly [] es m h = refl
 taken_singly (v ∷ vs) es m h =
     taken_singly vs (without_count es (spot v.app.0 v.unit.0 m) v.count) m (fewer_counts es (spot v.app.0 v.unit.0 m) v.count h)
@@ -104,7 +104,7 @@ module _ (jobs : List KnownJob) (m i : ℕ) where
   abbrev size_of : Spot → ℕ
   size_of s = size_at jobs s.job s.unit i
 
-  total_one : (es : List (Spot × ℕ)) (v : Victim) → AreNumbers es → v.count ≤ held_on es v.app.0 v.unit.0 m
+  total_one : (es : Table) (v : Victim) → AreNumbers es → v.count ≤ held_on es v.app.0 v.unit.0 m
       → total_at jobs m i (without_count es (spot v.app.0 v.unit.0 m) v.count) + v.count * size_at jobs v.app.0 v.unit.0 i ≡ total_at jobs m i es
   total_one es v h le =
       let s = spot v.app.0 v.unit.0 m in
@@ -125,7 +125,7 @@ module _ (jobs : List KnownJob) (m i : ℕ) where
       spread : (x y k : ℕ) → (x + y) * k ≡ x * k + y * k
       spread x y k = omega arith
 
-  total_without : (vs : List Victim) (es : List (Spot × ℕ)) → AreNumbers es → AllByRecursion (λ (v : Victim). v.count ≤ held_on es v.app.0 v.unit.0 m) vs → IsDistinct same_unit vs
+  total_without : (vs : List Victim) (es : Table) → AreNumbers es → AllByRecursion (λ (v : Victim). v.count ≤ held_on es v.app.0 v.unit.0 m) vs → IsDistinct same_unit vs
       → total_at jobs m i (without_victims es m vs) + set_by (size_at jobs) i (losers_of m vs) ≡ total_at jobs m i es
   unfolding IsDistinct
   total_without [] es h held once = let z : set_by (size_at jobs) i [] ≡ 0 = refl in omega (arith, z)

@@ -2,7 +2,7 @@
 use Rattle.std.specs.Prelude.{◌≡◌, ℕ, ◌+◌, ◌<◌, Bool, true, false, List, [], length, map, get_or, slice_index}
 use Rattle.std.specs.List.{AllByRecursion}
 use Rattle.fuxi_terms.specs.Cluster.{has_at, limit_at, quota_at, is_narrow}
-use Rattle.fuxi_terms.specs.Keys.{Spot}
+use Rattle.fuxi_terms.specs.Keys.{Spot, Pair}
 use Rattle.fuxi_terms.specs.Jobs.{priority_of, group_of, size_at, most_of, unit_of, unit_count}
 use Rattle.fuxi_terms.specs.Tables.{spot, total_at, usage_at}
 use Rattle.written_roles.specs.Placing.{Board}
@@ -37,7 +37,7 @@ no_group = record { quota = []; limit = []; used = [] }
 abbrev pub written : ℕ → Entry → Spot × ℕ
 written m e = (spot e.app.0 e.unit.0 m, e.count)
 
-abbrev pub pair_of : Entry → ℕ × ℕ
+abbrev pub pair_of : Entry → Pair
 pair_of e = (e.app.0, e.unit.0)
 
 -- an entry names an admitted unit, and has its group, priority and size

@@ -4,7 +4,7 @@ use Rattle.std.specs.List.{AllByRecursion, IsDistinct}
 use Rattle.fuxi_terms.specs.Cluster.{has_at}
 use Rattle.fuxi_terms.specs.Keys.{Spot}
 use Rattle.fuxi_terms.specs.Jobs.{unit_count, priority_of, size_at, most_of, group_of}
-use Rattle.fuxi_terms.specs.Tables.{spot, held_on, total_at}
+use Rattle.fuxi_terms.specs.Tables.{spot, held_on, total_at, Table}
 use Rattle.written_roles.specs.Placing.{Board}
 use Rattle.written_roles.specs.Preemption.{victims_in}
 use Rattle.written_roles.specs.Preemption.{Plan as WrittenPlan}
@@ -40,7 +40,7 @@ abbrev pub same_unit : Victim → Victim → Bool
 same_unit v w = is_unit v.app.0 v.unit.0 w
 
 -- a table's entries after the victims on a machine are taken, one unit after the other
-abbrev pub without_victims : List (Spot × ℕ) → ℕ → List Victim → List (Spot × ℕ)
+abbrev pub without_victims : Table → ℕ → List Victim → Table
 without_victims es m [] = es
 without_victims es m (v ∷ vs) = without_victims (without_count es (spot v.app.0 v.unit.0 m) v.count) m vs
 
@@ -65,7 +65,7 @@ pub record CanBeMade (t : TableRecord) (p : Plan) : Type 0 where
   pub room : (i : ℕ) → total_at (as_known t.jobs) p.pick.machine.0 i (without_victims t.entries p.pick.machine.0 p.victims) + size_at (as_known t.jobs) p.pick.app.0 p.pick.unit.0 i ≤ has_at t.cluster p.pick.machine.0 i
 
 -- the first of these pairs that has victims, with them
-pub record IsFirstPlan (B : Board) (table : List (Spot × ℕ)) (pairs : List Spot) (p : WrittenPlan) : Type 0 where
+pub record IsFirstPlan (B : Board) (table : Table) (pairs : List Spot) (p : WrittenPlan) : Type 0 where
   pub before : List Spot
   pub after : List Spot
   pub split : pairs ≡ before ++ p.served ∷ after

@@ -2,7 +2,7 @@
 use Rattle.std.specs.Prelude.{◌≡◌, ℕ, Bool, nat_eq, List, length, map, filter, Option, IfSome}
 use Rattle.std.specs.Option.{option_map}
 use Rattle.std.specs.List.{flat_map}
-use Rattle.fuxi_terms.specs.Keys.{Spot}
+use Rattle.fuxi_terms.specs.Keys.{Spot, Pair}
 use Rattle.fuxi_terms.specs.Jobs.{priority_of}
 use Rattle.fuxi_terms.specs.Lists.{below}
 use Rattle.fuxi_terms.specs.Tables.{spot}
@@ -18,14 +18,14 @@ abbrev pub accepts_at : TableRecord → (ℕ → ℕ → ℕ → Bool) → ℕ �
 accepts_at t usable a u m = accepts_in (board_at t usable) t.entries a u m
 
 -- the pairs of a unit with those of the first machines that accept it, and of all machines
-abbrev pub pairs_to : (ℕ → ℕ → ℕ → Bool) → ℕ → ℕ × ℕ → List Spot
+abbrev pub pairs_to : (ℕ → ℕ → ℕ → Bool) → ℕ → Pair → List Spot
 pairs_to accepts n p = map (spot p.0 p.1) (filter (accepts p.0 p.1) (below n))
 
-abbrev pub pairs_on : TableRecord → (ℕ → ℕ → ℕ → Bool) → ℕ × ℕ → List Spot
+abbrev pub pairs_on : TableRecord → (ℕ → ℕ → ℕ → Bool) → Pair → List Spot
 pairs_on t usable p = pairs_to (accepts_at t usable) (length t.cluster.machines) p
 
 -- and of those units that have a priority
-abbrev pub pairs_at : TableRecord → (ℕ → ℕ → ℕ → Bool) → ℕ → List (ℕ × ℕ) → List Spot
+abbrev pub pairs_at : TableRecord → (ℕ → ℕ → ℕ → Bool) → ℕ → List Pair → List Spot
 pairs_at t usable n ps = flat_map (pairs_on t usable) (filter (λ p. nat_eq (priority_of (as_known t.jobs) p.0 p.1) n) ps)
 
 -- the plan of the first of these pairs that has victims, and it can be carried out

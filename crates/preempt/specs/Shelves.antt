@@ -5,6 +5,7 @@ use Rattle.fuxi_terms.specs.Cluster.{has_at, limit_at, is_narrow}
 use Rattle.fuxi_terms.specs.Jobs.{priority_of, group_of, size_at}
 use Rattle.fuxi_terms.specs.Lists.{below_each}
 use Rattle.fuxi_terms.specs.Tables.{spot, total_at, usage_at}
+use Rattle.fuxi_terms.specs.Keys.{Pair}
 use Rattle.written_roles.specs.Preemption.{is_guaranteed_in, victims_in}
 use Rattle.grant_table.specs.GrantTables.{TableRecord, as_known}
 use Rattle.preempt.specs.Counted.{entries_on}
@@ -24,7 +25,7 @@ pub record AreHolders (t : TableRecord) (units : List Entry) : Type 0 where
   pub lists : (m : ℕ) → flat_map (entry_on t.entries m) (map pair_of units) ≡ entries_on (board_of t) t.entries m
 
 -- a unit without victims, wherever it is tried
-pub record HasNoVictims (t : TableRecord) (p : ℕ × ℕ) : Type 0 where
+pub record HasNoVictims (t : TableRecord) (p : Pair) : Type 0 where
   pub none : (m : ℕ) → victims_in (board_of t) t.entries (spot p.0 p.1 m) ≡ None
 
 -- whether a group spares one grant of a size, in each of so many resources

@@ -77,6 +77,9 @@ pub(crate) fn raised(sums: &[u128; 8], size: &[u64; 8], count: u32) -> [u128; 8]
     ensures is { (i : ℕ) → i < 8 → slice_index result i ≡ slice_index sums.now i + count * slice_index size.now i }
     ensures small { (i : ℕ) → i < 8 → slice_index result i ≤ slice_index sums.now i + 2 ^ 96 }
 {
+    if count == 0 {
+        return *sums;
+    }
     let mut q = [0; 8];
     for i in 0..8 {
         q[i] = sums[i] + product(count, size[i]);
@@ -89,6 +92,9 @@ pub(crate) fn lowered(sums: &[u128; 8], size: &[u64; 8], count: u32) -> [u128; 8
     requires { (i : ℕ) → i < 8 → count * slice_index size.now i ≤ slice_index sums.now i }
     ensures { (i : ℕ) → i < 8 → slice_index result i + count * slice_index size.now i ≡ slice_index sums.now i }
 {
+    if count == 0 {
+        return *sums;
+    }
     let mut q = [0; 8];
     for i in 0..8 {
         q[i] = sums[i] - product(count, size[i]);

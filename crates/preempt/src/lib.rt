@@ -4,7 +4,7 @@
 
 mod chance;
 mod entry;
-mod law;
+pub mod law;
 mod need;
 mod number;
 mod plan;
@@ -14,6 +14,5 @@ mod shelf;
 mod victims;
 mod walk;
 
-pub use law::{lines, planning, taking};
 pub use plan::{Plan, Victim, Victims};
 pub use search::find;

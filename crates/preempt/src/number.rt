@@ -62,6 +62,9 @@ pub(crate) fn needed_number(
     requires own_small { (i : ℕ) → i < 8 → slice_index own.now i < 2 ^ 127 }
     ensures { result ≡ needed_number need.now all.now own.now e.now most }
 {
+    if most == 0 {
+        return 0;
+    }
     let is_own = e.group == need.group;
     let mut best: u32 = 0;
     for i in 0..need.resources {

@@ -8,14 +8,10 @@ ghost use Rattle.fuxi_terms.specs.Cluster.{are_quantities};
 ghost use Rattle.fuxi_terms.specs.Vectors.{fits, is_zero, plus as sum_of, minus as difference_of, times as multiple_of};
 ghost use Rattle.fuxi_terms.specs.Padded.{padded};
 
-mod laws;
+pub mod law;
 
 pub use fuxi_terms::limits::GREATEST_QUANTITY;
 pub use fuxi_terms::{Res, Sum};
-pub use laws::{
-    fits_is_an_order, fits_of_sums, lengths, multiples, paddings, places, ranges,
-    sums_and_differences,
-};
 
 /// Nothing of any resource.
 pub fn zero() -> Res

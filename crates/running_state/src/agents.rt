@@ -12,10 +12,9 @@ ghost use Rattle.running_state.specs.Parts.{AreOnMachines, machine_lines, show_a
 
 use agent_core::Agent;
 use fuxi_terms::OutOfMemory;
-use party_slots::{Slots, parties_run};
+use party_slots::Slots;
 use party_text::write_agent;
 use schedule_unit::MachineNo;
-use written_join::states_are_alone;
 
 // The agent of a machine, where one runs.
 fn write_agent_of(
@@ -28,8 +27,8 @@ fn write_agent_of(
     ensures begins { Begins out.old.items out.new.items }
 {
     // What a world prints of an agent is what that one prints by itself.
-    states_are_alone();
-    parties_run();
+    written_join::law::states_are_alone();
+    party_slots::law::parties_run();
     match agents.get(machine.0 as u64) {
         Some(agent) => match write_agent(agent, machine, out) {
             Ok(()) => Ok(()),

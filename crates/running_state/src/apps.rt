@@ -13,10 +13,9 @@ ghost use Rattle.running_state.specs.Parts.{AreOfJobs, job_lines, show_apps};
 use app_master::AppMaster;
 use fuxi_terms::OutOfMemory;
 use fuxi_terms::limits::MOST_JOBS;
-use party_slots::{Slots, parties_run};
+use party_slots::Slots;
 use party_text::write_app;
 use schedule_unit::AppNo;
-use written_join::states_are_alone;
 
 // The application of a job, where one runs.
 fn write_app_of(apps: &Slots<AppMaster>, app: AppNo, out: &mut Vec<u8>) -> Result<(), OutOfMemory>
@@ -25,8 +24,8 @@ fn write_app_of(apps: &Slots<AppMaster>, app: AppNo, out: &mut Vec<u8>) -> Resul
     ensures begins { Begins out.old.items out.new.items }
 {
     // What a world prints of an application is what that one prints by itself.
-    states_are_alone();
-    parties_run();
+    written_join::law::states_are_alone();
+    party_slots::law::parties_run();
     match apps.get(app.0 as u64) {
         Some(master) => match write_app(master, app, out) {
             Ok(()) => Ok(()),

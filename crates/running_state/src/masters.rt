@@ -12,7 +12,7 @@ ghost use Rattle.running_state.specs.Parts.{show_masters};
 use fuxi_master::Master;
 use fuxi_terms::OutOfMemory;
 use master_text::write_master;
-use party_slots::{Slots, epochs_alike, parties_run};
+use party_slots::{Slots, law};
 
 // The masters, in the order of their epochs.
 #[tactic(auto, using(written_join::proofs::ShowsLemmas::begins_then))]
@@ -20,8 +20,8 @@ pub(crate) fn write_masters(masters: &Slots<Master>, out: &mut Vec<u8>) -> Resul
     ensures ok { OnOk result ((w : World) → AreMastersOf w masters.now → T (is_sorted nat_cmp w.masters) → Shows (show_masters w) out.old.items out.new.items) }
     ensures begins { Begins out.old.items out.new.items }
 {
-    epochs_alike();
-    parties_run();
+    law::epochs_alike();
+    law::parties_run();
     for epoch in masters.numbers() {
         let Some(master) = masters.get(*epoch) else {
             continue;

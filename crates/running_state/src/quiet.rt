@@ -22,7 +22,7 @@ use cluster_desc::Cluster;
 use fuxi_master::Master;
 use fuxi_terms::limits::MOST_JOBS;
 use hard_state::Hard;
-use party_slots::{Slots, parties_run};
+use party_slots::{Slots, law};
 use schedule_unit::{AppNo, MachineNo, Party, Role};
 
 /// Whether a master of the epoch runs, every agent runs, has joined it and is reported to it, every running application of its jobs has
@@ -38,7 +38,7 @@ pub fn is_quiet(
     requires known { IsKnown (record { cluster = cluster.now; hard = hard.now.value; masters = masters.now; agents = agents.now; apps = apps.now }) }
     ensures { (w : World) → IsRunningOf w (record { cluster = cluster.now; hard = hard.now.value; masters = masters.now; agents = agents.now; apps = apps.now }) → result ≡ is_quiet w epoch }
 {
-    parties_run();
+    law::parties_run();
     let Some(master) = masters.get(epoch) else {
         return false;
     };
@@ -67,7 +67,7 @@ fn is_agent_quiet(master: &Master, agents: &Slots<Agent>, machine: MachineNo) ->
     ensures { (w : World) (m : WrittenMaster) → StandsFor master.now.core (master_seen w m) → AreAgentsOf w agents.now
         → result ≡ is_agent_quiet w m machine.0 }
 {
-    parties_run();
+    law::parties_run();
     let Some(agent) = agents.get(machine.0 as u64) else {
         return false;
     };
@@ -100,7 +100,7 @@ fn is_app_quiet(master: &Master, apps: &Slots<AppMaster>, app: AppNo) -> bool
     ensures { (w : World) (m : WrittenMaster) → StandsFor master.now.core (master_seen w m) → AreAppsOf w apps.now
         → result ≡ with_found (find nat_cmp app.0 w.apps) true (is_app_quiet w m app.0) }
 {
-    parties_run();
+    law::parties_run();
     let Some(core) = apps.get(app.0 as u64) else {
         return true;
     };

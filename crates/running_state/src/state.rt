@@ -22,7 +22,7 @@ use fuxi_master::Master;
 use fuxi_terms::OutOfMemory;
 use hard_state::Hard;
 use master_text::write_hard;
-use party_slots::{Slots, parties_run};
+use party_slots::{Slots, law};
 use party_text::write_line;
 use schedule_text::Output;
 
@@ -56,7 +56,7 @@ fn write_parties(
 }
 
 /// Appends the lines of the state: how many events there were, the hard state, the masters, the agents and the applications that run,
-/// and how many packets were sent. A refusal may leave some of them behind what was there.
+/// and how many packets were sent. After a refusal nothing is said of what stands in `out`.
 #[tactic(auto, using(written_join::proofs::ShowsLemmas::begins_then))]
 pub fn write_state(
     cluster: &Cluster,
@@ -73,7 +73,7 @@ pub fn write_state(
         → events ≡ w.events → packets ≡ length w.net.packets → Shows (show w) out.old.items out.new.items) }
     ensures err { OnErr result (Begins out.old.items out.new.items) }
 {
-    parties_run();
+    law::parties_run();
     match write_line(&Output::State(events), out) {
         Ok(()) => {}
         Err(refusal) => return Err(refusal),

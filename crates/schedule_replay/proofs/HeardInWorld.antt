@@ -1,5 +1,5 @@
 -- What one party hears of a packet, and what runs then stands for.
-use Rattle.std.proofs.Common.{◌≡◌, ◌+◌, ℕ, true, [], ◌∷◌, Option, Some, None, refl, sym, ◌∙◌, ap, subst, arith}
+use Rattle.std.proofs.Common.{◌≡◌, ◌+◌, ℕ, true, [], ◌∷◌, Option, Some, None, sym, ◌∙◌, ap, subst, arith}
 use Rattle.std.proofs.lemmas.Bool.Decides.{nat_tests}
 use Rattle.fuxi_terms.specs.Cluster.{is_valid_cluster}
 use Rattle.fuxi_terms.proofs.Booleans.{both_true}
@@ -19,10 +19,10 @@ use Rattle.written_world.specs.Outputs.{Came}
 use Rattle.written_world.specs.Events.{addressed, heard_by, heard_line}
 use Rattle.written_join.specs.SeenWorlds.{parcel_of}
 use Rattle.written_join.specs.Leading.{AllLead}
-use Rattle.written_parties.specs.SeenParties.{Kind, Masters, Agents, Apps, IsFor, Role as SeenRole}
+use Rattle.written_parties.specs.SeenParties.{Kind, IsFor, Role as SeenRole}
 use Rattle.party_slots.specs.Slots.{SlotsRecord, AreWithin as PartiesWithin, HearInWorld, HearsOneIn}
 use Rattle.schedule_replay.specs.Worlds.{WorldRecord, StandsFor}
-use Rattle.schedule_replay.specs.Moves.{IsPart, IsHeardBy, IsHeardIn, heard_lines}
+use Rattle.schedule_replay.specs.Moves.{IsPart, IsHeardBy, IsHeardIn, heard_lines, kind_named}
 
 -- In a good world on a valid cluster all lead, as the law of changes states it
 abbrev pub Leads : Type 0
@@ -36,11 +36,6 @@ lost_as : (number : ℕ) (o : Option WrittenHeard) → o ≡ None → heard_line
 lost_as number o is = ap (λ t. heard_line number t ∷ []) (sym is)
 
 -- whom a packet is for is whom it names; a formed packet for a master has the number of one
-abbrev pub kind_named : Role → Kind
-kind_named Master = Masters
-kind_named Agent = Agents
-kind_named App = Apps
-
 abbrev pub number_named : Role → Party → ℕ
 number_named Master p = p.inc
 number_named Agent p = p.number

@@ -19,7 +19,7 @@ use Rattle.schedule_unit.specs.JobFaults.{IsFault, IsMade, job_fault}
 use Rattle.written_roles.specs.Refusals.{Refusal as WrittenRefusal, NoMachine, NotRunning, with_found}
 use Rattle.written_roles.specs.HardState.{HardState, HardEvent, Raise, Submission, Finishing, Banning, Unbanning, hard_step, with_job}
 use Rattle.written_roles.specs.Masters.{Master}
-use Rattle.written_roles.specs.MasterSteps.{master_party, peers, Changed, Commanded, MasterCommand, Submits, Finishes, BansMachine, UnbansMachine, StartsServing, MakesRoom, Admits, banned_in, command_of, ended_in, writes}
+use Rattle.written_roles.specs.MasterSteps.{Changed, Commanded, MasterCommand, Submits, Finishes, BansMachine, UnbansMachine, StartsServing, MakesRoom, Admits, banned_in, command_of, ended_in, writes}
 use Rattle.written_roles.specs.MasterRoles.{MasterTold, Told}
 use Rattle.written_world.specs.World.{World, Step, prints_nothing, refused}
 use Rattle.written_world.specs.Events.{commanded, start_master, stop_master, without_master}
@@ -31,7 +31,6 @@ use Rattle.fuxi_master.specs.declared.event.MasterEvent.TheVariants.{Admit, Fini
 use Rattle.fuxi_master.specs.declared.event.MasterRefusal.{MasterRefusal}
 use Rattle.fuxi_master.specs.declared.event.MasterRefusal.TheVariants as master
 use Rattle.fuxi_master.specs.Cores.{MasterRecord}
-use Rattle.written_parties.specs.SeenParties.{OfMaster}
 use Rattle.party_slots.specs.Slots.{SlotsRecord, AreWithin, slot_at}
 use Rattle.party_slots.specs.RunningMasters.{AreMastersOf, CommandsIn, CommandInWorld, Fits, IsWritten, MasterAt, MasterRunsAs, MasterStartInWorld, StopsIn, change_in, epochs_of, master_steps}
 use Rattle.master_text.specs.PrintedRefusals.{master_refusal}

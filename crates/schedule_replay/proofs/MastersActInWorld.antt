@@ -1,5 +1,5 @@
 -- From what is done or refused by one party to the step of the world that it is.
-use Rattle.std.proofs.Common.{◌≡◌, ℕ, List, [], ◌++◌, Option, Some, None, Ok, refl, sym, ◌∙◌, ap, subst}
+use Rattle.std.proofs.Common.{◌≡◌, ℕ, List, [], ◌++◌, Option, Some, None, Ok, sym, ◌∙◌, ap, subst}
 use Rattle.written_world.specs.World.{World, Step, refused}
 use Rattle.schedule_replay.specs.Held.{Held, IsOpen}
 use Rattle.fuxi_master.specs.Cores.{MasterRecord}

@@ -1,5 +1,5 @@
 -- What one party leaves of a world, and that the rest stands for the world after it.
-use Rattle.std.proofs.Common.{◌≡◌, ℕ, ◌+◌, ◌≤◌, false, List, [], ◌++◌, map, refl, sym, ◌∙◌, ap, subst, append-nil}
+use Rattle.std.proofs.Common.{◌≡◌, ℕ, false, List, [], ◌++◌, map, refl, sym, ◌∙◌, ap, subst, append-nil}
 use Rattle.std.proofs.lemmas.List.{map-append}
 use Rattle.fuxi_terms.proofs.Alls.{all_append}
 use Rattle.party_ledgers.specs.declared.packets.Packet.{Packet}

@@ -1,5 +1,5 @@
 -- Turns: the packets of a party that runs are kept and printed, or the limit that they would pass is named.
-use Rattle.std.proofs.Common.{◌≡◌, ℕ, ◌+◌, Bool, true, false, cond, List, [], ◌∷◌, ◌++◌, length, map, take, Option, Some, None, Result, Ok, Err, slice_get, refl, sym, ◌∙◌, ap, arith}
+use Rattle.std.proofs.Common.{◌≡◌, ℕ, ◌+◌, Bool, true, false, cond, List, [], ◌∷◌, ◌++◌, length, map, take, Option, Some, None, Result, Ok, Err, slice_get, refl, sym, ◌∙◌, ap, subst, arith}
 use Rattle.std.specs.Prelude.{OnOk, IfErr}
 use Rattle.std.specs.Option.{option_map}
 use Rattle.std.proofs.lemmas.Option.{slice_get-map, slice_get_within, same_Some}
@@ -9,6 +9,7 @@ use Rattle.core_side.specs.Parcels.{parcel_is}
 use Rattle.written_net.specs.Net.{Net, Packet}
 use Rattle.written_net.specs.Ledgers.{Ledger}
 use Rattle.written_join.specs.SeenWorlds.{parcel_of}
+use Rattle.written_world.specs.World.{World, Step}
 use Rattle.written_world.specs.Outputs.{sent_lines}
 use Rattle.packet_pool.specs.PacketPools.{Stored, limit_of as pool_limit}
 use Rattle.written_parties.specs.SeenParties.{Kind, Role, turn_of, resync_of}
@@ -18,9 +19,10 @@ use Rattle.schedule_replay.specs.declared.stop.WorldStop.{WorldStop}
 use Rattle.schedule_replay.specs.declared.stop.WorldStop.TheVariants.{TooManyPackets, PoolBytes, OutOfMemory}
 use Rattle.schedule_replay.specs.ReplayTexts.{lines_text}
 use Rattle.schedule_replay.specs.Worlds.{WorldRecord}
-use Rattle.schedule_replay.specs.Moves.{IsPart, KeepsMore, StopsFor, Acts, IsActed, WantsMemory, refusal_lines}
+use Rattle.schedule_replay.specs.Moves.{IsPart, KeepsMore, StopsFor, Acts, ActsAsPart, IsActed, WantsMemory, refusal_lines}
 use Rattle.schedule_replay.proofs.MovesLemmas.{once_up_to}
 use Rattle.schedule_replay.proofs.MastersActInWorld.{is_quiet, is_refused}
+use Rattle.schedule_replay.proofs.PeersActInWorld.{acts_by}
 use Rattle.schedule_replay.proofs.SentIsKept.{FrameLengths, turn_text, turn_stops}
 use Rattle.schedule_replay.proofs.ReplayTextsLemmas.{sent_more}
 
@@ -94,3 +96,33 @@ module _ {P : Type 0} {stands : P → Role → Type 0} {steps : P → ℕ} {k : 
     does = λ w is s. let r = resyncs w k is.good (part.stand w old s) in is_refused w (resync_of w k n) (put after old) why.NotRunning before text (part.stays w old after s r.stand) r.same says;
     moves = once_up_to old (put after old) (part.moves old after within);
   }
+
+module _ {P : Type 0} {steps : P → ℕ} where
+  as_within : (x y after : SlotsRecord P) → y ≡ x → ((n : ℕ) → PartiesWithin steps n x → PartiesWithin steps (n + 1) after) → (n : ℕ) → PartiesWithin steps n y → PartiesWithin steps (n + 1) after
+  as_within x y after same within n w = within n (subst (PartiesWithin steps n) same w)
+
+same_pool : (f : World → Step) (r after : WorldRecord) (pool : Stored) (before text : List ℕ) (result : Result (Unit {0}) WorldStop) → after.pool ≡ pool → Acts f r after before text result → Acts f r (record after { pool = pool }) before text result
+same_pool f r after pool before text result is acts = subst (λ p. Acts f r (record after { pool = p }) before text result) is acts
+
+-- and of whatever part its kind is
+module _ {P : Type 0} {stands : P → Role → Type 0} {steps : P → ℕ} where
+  pub turns_as : FrameLengths → (n : ℕ) (x after : SlotsRecord P) (sent : List PacketHere) (pool kept : Stored) (before text : List ℕ) (result : Result (Unit {0}) WorldStop)
+      → TurnInWorld stands n x after (Some sent) → ((n : ℕ) → PartiesWithin steps n x → PartiesWithin steps (n + 1) after) → OnOk result (KeepsMore pool kept sent)
+      → OnOk result ((net : Net Ledger) (xs : List Packet) → map parcel_is sent ≡ map (parcel_of net) xs → text ≡ before ++ lines_text (sent_lines net (length pool.frames + 1) xs))
+      → IfErr result (StopsFor pool sent) → ActsAsPart turn_of stands steps n x after pool kept before text result
+  turns_as law n x after sent pool kept before text result turns within keeps says stops k of put r part same held =
+      turns_by part law n r after sent kept before text result (subst (λ y. TurnInWorld stands n y after (Some sent)) (sym same) turns) (as_within x (of r) after same within) (subst (λ p. OnOk result (KeepsMore p kept sent)) (sym held) keeps)
+      (subst (λ (p : Stored). OnOk result ((net : Net Ledger) (xs : List Packet) → map parcel_is sent ≡ map (parcel_of net) xs → text ≡ before ++ lines_text (sent_lines net (length p.frames + 1) xs))) (sym held) says)
+      (subst (λ p. IfErr result (StopsFor p sent)) (sym held) stops)
+
+  pub none_as : (n : ℕ) (x after : SlotsRecord P) (pool : Stored) (before text : List ℕ) (result : Result (Unit {0}) WorldStop) → TurnInWorld stands n x after None → ((n : ℕ) → PartiesWithin steps n x → PartiesWithin steps (n + 1) after)
+      → OnOk result (text ≡ before ++ lines_text (refusal_lines (Some why.NotRunning))) → IfErr result WantsMemory → ActsAsPart turn_of stands steps n x after pool pool before text result
+  none_as n x after pool before text result turns within ok err k of put r part same held =
+      same_pool (λ w. turn_of w k n) r (put after r) pool before text result (part.frames r after ∙ held)
+      (acts_by (λ w. turn_of w k n) r (put after r) before text _ result ok err (none_turns part n r after before text (subst (λ y. TurnInWorld stands n y after None) (sym same) turns) (as_within x (of r) after same within)))
+
+  pub resyncs_as : (n : ℕ) (x after : SlotsRecord P) (ran : Bool) (pool : Stored) (before text : List ℕ) (result : Result (Unit {0}) WorldStop) → ResyncInWorld stands n x after ran → ((n : ℕ) → PartiesWithin steps n x → PartiesWithin steps (n + 1) after)
+      → OnOk result (text ≡ before ++ lines_text (refusal_lines (cond ran None (Some why.NotRunning)))) → IfErr result WantsMemory → ActsAsPart resync_of stands steps n x after pool pool before text result
+  resyncs_as n x after ran pool before text result resyncs within ok err k of put r part same held =
+      same_pool (λ w. resync_of w k n) r (put after r) pool before text result (part.frames r after ∙ held)
+      (acts_by (λ w. resync_of w k n) r (put after r) before text _ result ok err (resyncs_by part n r after ran before text (subst (λ y. ResyncInWorld stands n y after ran) (sym same) resyncs) (as_within x (of r) after same within)))

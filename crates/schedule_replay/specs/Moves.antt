@@ -1,5 +1,5 @@
 -- Between the calls: what a function makes of what runs, said of each world that it stands for.
-use Rattle.std.specs.Prelude.{◌≡◌, ℕ, ◌+◌, ◌<◌, ◌≤◌, ◌++◌, true, List, [], ◌∷◌, map, slice_get, Option, Some, None, Result, Ok, Err}
+use Rattle.std.specs.Prelude.{◌≡◌, ℕ, ◌+◌, ◌<◌, ◌≤◌, ◌++◌, List, [], ◌∷◌, map, slice_get, Option, Some, None, Result, Ok, Err}
 use Rattle.std.specs.List.{AllByRecursion}
 use Rattle.fuxi_terms.specs.Limits.{greatest_count, most_steps}
 use Rattle.app_master.specs.declared.fault.AppFault.{AppFault}
@@ -20,13 +20,17 @@ use Rattle.wire_frames.specs.Streams.{HasFrame}
 use Rattle.agent_core.specs.AgentCores.{AgentCore}
 use Rattle.app_master.specs.AppCores.{AppCore}
 use Rattle.fuxi_master.specs.Cores.{MasterRecord}
-use Rattle.written_parties.specs.SeenParties.{Kind, Masters, Agents, Apps, Role}
+use Rattle.written_parties.specs.SeenParties.{Kind, Masters, Agents, Apps, Role, turn_of, resync_of}
 use Rattle.party_slots.specs.Slots.{SlotsRecord, AreOf, AreWithin as PartiesWithin, ActIn, Stays}
 use Rattle.party_slots.specs.Peers.{AgentStands, AppStands, agent_steps, app_steps}
 use Rattle.party_slots.specs.RunningMasters.{MasterStands, master_steps}
+use Rattle.schedule_unit.specs.declared.party.Role.{Role as RoleNamed}
+use Rattle.schedule_unit.specs.declared.party.Role.TheVariants.{Master, Agent, App}
 use Rattle.schedule_text.specs.declared.refusal.Refusal.{Refusal}
 use Rattle.schedule_text.specs.declared.refusal.Refusal.TheVariants as why
 use Rattle.schedule_text.specs.Printing.{as_refusal}
+use Rattle.schedule_replay.specs.declared.turns.Told.{Told}
+use Rattle.schedule_replay.specs.declared.turns.Told.TheVariants.{Turn, Resync}
 use Rattle.schedule_replay.specs.declared.stop.WorldStop.{WorldStop}
 use Rattle.schedule_replay.specs.declared.stop.WorldStop.TheVariants.{TooManyPackets, PoolBytes, OutOfMemory}
 use Rattle.schedule_replay.specs.ReplayTexts.{lines_text}
@@ -117,6 +121,21 @@ pub record IsPart (P : Type 0) (stands : P → Role → Type 0) (steps : P → �
   pub frames : (old : WorldRecord) (x : SlotsRecord P) → (put x old).pool ≡ old.pool
   pub moves : (old : WorldRecord) (x : SlotsRecord P) → ((n : ℕ) → PartiesWithin steps n (of old) → PartiesWithin steps (n + 1) x) → MovesOnce old (put x old)
   pub once : (old : WorldRecord) (x : SlotsRecord P) (p : Stored) → ((n : ℕ) → PartiesWithin steps n (of old) → PartiesWithin steps (n + 1) x) → MovesOnce old (record (put x old) { pool = p })
+
+-- what one party of any kind does by itself, said of all that runs, whatever part its kind is
+abbrev pub ActsAsPart : {P : Type 0} → (World → Kind → ℕ → Step) → (P → Role → Type 0) → (P → ℕ) → ℕ → SlotsRecord P → SlotsRecord P → Stored → Stored → List ℕ → List ℕ → Result (Unit {0}) WorldStop → Type 0
+ActsAsPart {P} f stands steps n old new pool kept before after result = (k : Kind) (of : WorldRecord → SlotsRecord P) (put : SlotsRecord P → WorldRecord → WorldRecord) (r : WorldRecord)
+    → IsPart P stands steps k of put → of r ≡ old → r.pool ≡ pool → Acts (λ w. f w k n) r (record (put new r) { pool = kept }) before after result
+
+-- the kind of the parties of a role, and what one is told
+abbrev pub kind_named : RoleNamed → Kind
+kind_named Master = Masters
+kind_named Agent = Agents
+kind_named App = Apps
+
+abbrev pub told_of : Told → World → Kind → ℕ → Step
+told_of Turn w k n = turn_of w k n
+told_of Resync w k n = resync_of w k n
 
 abbrev pub with_masters : SlotsRecord MasterRecord → WorldRecord → WorldRecord
 with_masters x r = record r { masters = x }

@@ -1,10 +1,9 @@
 -- What is written to a checkpoint, and what is left of a writing that stops.
-use Rattle.std.specs.Prelude.{◌≡◌, ◌<◌, ℕ, ◌+◌, Bool, ◌&&◌, ◌||◌, cond, nat_eq, List, [], ◌∷◌, length, Result, Ok, Err}
+use Rattle.std.specs.Prelude.{◌≡◌, ◌<◌, ℕ, Bool, ◌&&◌, ◌||◌, cond, nat_eq, List, Result, Ok, Err}
 use Rattle.fuxi_io.specs.Disks.{Moment, IsImage}
 use Rattle.fuxi_terms.specs.Limits.{most_machines}
 use Rattle.written_roles.specs.HardState.{HardState, HardEvent, Raise as Raising, Submission, Finishing, Banning, Unbanning}
 use Rattle.written_roles.specs.Refusals.{Refusal}
-use Rattle.hard_state.specs.DiskCalls.{DiskCall, Write, Sync}
 use Rattle.hard_state.specs.HardFiles.{records_of}
 use Rattle.schedule_replay.specs.declared.writing.Writing.{Writing}
 use Rattle.schedule_replay.specs.declared.writing.Writing.TheVariants.{Raise, Submit, Finish, Ban, Unban}

@@ -12,13 +12,13 @@ use crate::commands::Order;
 use crate::deliveries::{deliver, deliver_range, dump};
 use crate::halts::Stop;
 use crate::masters::{give_order, halt, judge, start_master, stop_master};
-use crate::resyncs::{resync_agent, resync_app, resync_master};
 use crate::running::Running;
 use crate::showing::show;
 use crate::stop::WorldStop;
-use crate::turns::{turn_agent, turn_app, turn_master};
+use crate::turns::{Told, tell};
 use party_slots::AppAsk;
 use schedule_text::Event;
+use schedule_unit::Role;
 use std::alloc::Global;
 
 // An event.
@@ -70,12 +70,26 @@ pub(crate) fn act(
             };
             halt(running, alloc, line, stop, out)
         }
-        Event::TurnMaster(epoch) => turn_master(running, alloc, *epoch, out),
-        Event::TurnAgent(machine) => turn_agent(running, alloc, *machine, out),
-        Event::TurnApp(app) => turn_app(running, alloc, *app, out),
-        Event::ResyncMaster(epoch) => resync_master(running, alloc, *epoch, out),
-        Event::ResyncAgent(machine) => resync_agent(running, alloc, *machine, out),
-        Event::ResyncApp(app) => resync_app(running, alloc, *app, out),
+        Event::TurnMaster(epoch) => tell(running, alloc, Role::Master, *epoch, Told::Turn, out),
+        Event::TurnAgent(machine) => tell(
+            running,
+            alloc,
+            Role::Agent,
+            machine.0 as u64,
+            Told::Turn,
+            out,
+        ),
+        Event::TurnApp(app) => tell(running, alloc, Role::App, app.0 as u64, Told::Turn, out),
+        Event::ResyncMaster(epoch) => tell(running, alloc, Role::Master, *epoch, Told::Resync, out),
+        Event::ResyncAgent(machine) => tell(
+            running,
+            alloc,
+            Role::Agent,
+            machine.0 as u64,
+            Told::Resync,
+            out,
+        ),
+        Event::ResyncApp(app) => tell(running, alloc, Role::App, app.0 as u64, Told::Resync, out),
         Event::Deliver(number) => deliver(running, alloc, *number, out),
         Event::DeliverRange(first, last) => deliver_range(running, alloc, *first, *last, out),
         Event::Dump(number) => dump(running, alloc, *number, out),

@@ -4,7 +4,7 @@ ghost use Rattle.std.specs.Prelude.{◌≡◌, ◌<◌};
 ghost use Rattle.written_world.specs.Events.{start_agent};
 ghost use Rattle.schedule_replay.specs.Moves.{Acts, CanMove};
 
-use crate::laws::agents_act;
+use crate::law;
 use crate::running::Running;
 use crate::stop::WorldStop;
 use crate::text::write_refusal;
@@ -24,7 +24,7 @@ pub(crate) fn start_agent(
     requires can { CanMove running.old }
     ensures { Acts (λ w. start_agent w machine.0 boot) running.old running.new out.old.items out.new.items result }
 {
-    agents_act();
+    law::agents_act();
     if machine.0 >= running.cluster.machines() {
         return write_refusal(Some(Refusal::NoMachine), out);
     }

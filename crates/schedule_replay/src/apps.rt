@@ -6,7 +6,7 @@ ghost use Rattle.party_slots.specs.Peers.{command_of};
 ghost use Rattle.written_world.specs.Events.{start_app, asks};
 ghost use Rattle.schedule_replay.specs.Moves.{Acts, CanMove, IsRefusalOf};
 
-use crate::laws::{apps_act, cores_may_step};
+use crate::law;
 use crate::running::Running;
 use crate::stop::WorldStop;
 use crate::text::write_refusal;
@@ -30,7 +30,7 @@ pub(crate) fn start_app(
     requires can { CanMove running.old }
     ensures { Acts (λ w. start_app w app.0 boot) running.old running.new out.old.items out.new.items result }
 {
-    apps_act();
+    law::apps_act();
     let Some(job) = running.checkpoint.hard().job(app) else {
         return write_refusal(Some(Refusal::NoJob), out);
     };
@@ -74,8 +74,8 @@ pub(crate) fn ask_app(
     requires { CanMove running.old }
     ensures { Acts (λ w. asks w app.0 (command_of ask)) running.old running.new out.old.items out.new.items result }
 {
-    apps_act();
-    cores_may_step();
+    law::apps_act();
+    law::cores_may_step();
     let Some(answer) = party_slots::ask(&mut running.apps, alloc, app, ask) else {
         return write_refusal(Some(Refusal::NotRunning), out);
     };

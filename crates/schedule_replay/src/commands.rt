@@ -30,11 +30,10 @@ use fuxi_terms::OutOfMemory;
 use fuxi_terms::limits::{MOST_MASTERS, MOST_RECORDS};
 use hard_state::HardFault;
 use master_text::{hard_refusal, master_refusal};
-use party_slots::{Slots, epochs_alike, parties_run};
-use schedule_text::{Refusal, job_refusal, jobs_are_tested_alike};
+use party_slots::Slots;
+use schedule_text::{Refusal, job_refusal};
 use schedule_unit::{AppNo, Asks, GroupNo, Job, MachineNo};
 use std::alloc::Global;
-use written_roles::judges;
 
 /// The tests of a start before its writing.
 pub(crate) fn start_tests(
@@ -45,7 +44,7 @@ pub(crate) fn start_tests(
     ensures world { (w : World) → IsGoverning w (governing checkpoint.now masters.now) → StartsIn w epoch result }
     ensures above { OnOk result (checkpoint.now.hard.value.fence < epoch) }
 {
-    epochs_alike();
+    party_slots::law::epochs_alike();
     let fence = checkpoint.hard().fence();
     if epoch <= fence {
         return Err(Refusal::NotRising(fence));
@@ -108,7 +107,7 @@ pub(crate) fn named_job(
     ensures world { IfOk result (λ answer. (w : World) → cluster.now ≡ w.cluster → AreMastersOf w masters.now → SubmitsIn w epoch (job_named app.0 group.0 asks.now) answer) }
     ensures job { IfOk result (λ answer. IfOk answer (λ job. job ≡ eight_places (job_named app.0 group.0 asks.now))) }
 {
-    jobs_are_tested_alike();
+    schedule_text::law::jobs_are_tested_alike();
     if !runs(masters, epoch) {
         return Ok(Err(Refusal::NotRunning));
     }
@@ -141,7 +140,7 @@ fn submit(
     ensures world { IfOk result (GovernsOn cluster.now (λ w. commanded w epoch (Submits (job_named app.0 group.0 asks.now))) (governing checkpoint.old masters.old) (governing checkpoint.new masters.new)) }
     ensures steps { IfOk result (λ answer. TakesStep masters.old masters.new) }
 {
-    parties_run();
+    party_slots::law::parties_run();
     let job = match named_job(alloc, cluster, masters, epoch, app, group, asks) {
         Ok(Ok(job)) => job,
         Ok(Err(refusal)) => return Ok(Some(refusal)),
@@ -216,7 +215,7 @@ pub(crate) fn give_order(
     ensures world { IfOk result (GovernsOn cluster.now (λ w. commanded w epoch (command_as order.now)) (governing checkpoint.old masters.old) (governing checkpoint.new masters.new)) }
     ensures steps { IfOk result (λ answer. TakesStep masters.old masters.new) }
 {
-    parties_run();
+    party_slots::law::parties_run();
     match order {
         Order::Submit(app, group, asks) => {
             submit(
@@ -326,8 +325,8 @@ pub(crate) fn judged(
     requires { percent ≤ 100 }
     ensures { IfOk result (Decides epoch least percent (governing checkpoint.now masters.now)) }
 {
-    judges();
-    parties_run();
+    written_roles::law::judges();
+    party_slots::law::parties_run();
     let Some(master) = masters.get(epoch) else {
         return Ok(Err(Refusal::NotRunning));
     };
@@ -349,7 +348,7 @@ pub(crate) fn judged(
 fn runs(masters: &Slots<Master>, epoch: u64) -> bool
     ensures { (w : World) → AreMastersOf w masters.now → result ≡ is_some (find nat_cmp epoch w.masters) }
 {
-    parties_run();
+    party_slots::law::parties_run();
     masters.get(epoch).is_some()
 }
 

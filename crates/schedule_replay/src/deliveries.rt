@@ -5,19 +5,16 @@ ghost use Rattle.party_ledgers.specs.Packets.{IsFormed};
 ghost use Rattle.written_world.specs.Events.{deliver, deliver_one, deliver_range, dump};
 ghost use Rattle.schedule_replay.specs.Moves.{Acts, ActsOnce, CanMove, CanMoveLong, IsHeardBy};
 
-use crate::laws::{agents_act, apps_act, cores_may_step, masters_act};
+use crate::law;
 use crate::running::Running;
 use crate::stop::WorldStop;
 use crate::text::{write_heard, write_kept, write_refusal};
 use fuxi_terms::OutOfMemory;
-use packet_pool::stored_is_read;
 use party_ledgers::{Heard, Kind, Packet};
 use schedule_text::Refusal;
 use schedule_unit::Role;
 use std::alloc::Global;
 use wire_frames::read_packet;
-use written_join::every_change_is_taken;
-use written_world::{every_event_keeps_good, worlds_in_order};
 
 // A packet is heard by the party that it is for, if that runs: the master of the epoch that it names, the agent of its machine or the
 // application of its job.
@@ -27,20 +24,20 @@ fn hear(running: &mut Running, alloc: Global, packet: Packet) -> Result<Option<H
     requires can { CanMove running.old }
     ensures { IfOk result (IsHeardBy packet running.old running.new) }
 {
-    cores_may_step();
-    every_change_is_taken();
+    law::cores_may_step();
+    written_join::law::every_change_is_taken();
     let to = packet.to;
     match to.role {
         Role::Master => {
-            masters_act();
+            law::masters_act();
             running.masters.hear(alloc, to.inc, packet)
         }
         Role::Agent => {
-            agents_act();
+            law::agents_act();
             running.agents.hear(alloc, to.number as u64, packet)
         }
         Role::App => {
-            apps_act();
+            law::apps_act();
             running.apps.hear(alloc, to.number as u64, packet)
         }
     }
@@ -57,7 +54,7 @@ fn deliver_one(
     requires can { CanMove running.old }
     ensures { ActsOnce (deliver_one number) running.old running.new out.old.items out.new.items result }
 {
-    stored_is_read();
+    packet_pool::law::stored_is_read();
     let Some(bytes) = running.pool.frame(number) else {
         return Ok(());
     };
@@ -103,8 +100,8 @@ pub(crate) fn deliver_range(
     requires counted { 0 < running.old.events }
     ensures { Acts (λ w. deliver_range w first last) running.old running.new out.old.items out.new.items result }
 {
-    every_event_keeps_good();
-    worlds_in_order();
+    written_world::law::every_event_keeps_good();
+    written_world::law::worlds_in_order();
     let sent = running.pool.len();
     if first > sent {
         return write_refusal(Some(Refusal::NoPacket(sent)), out);

@@ -11,14 +11,12 @@ ghost use Rattle.schedule_replay.specs.Moves.{Acts, ActsOnce, CanMove, CanMoveLo
 
 use crate::commands::{self, Judgement, Order};
 use crate::halts::{self, Stop};
-use crate::laws::{cores_may_step, masters_act};
 use crate::running::Running;
 use crate::stop::WorldStop;
 use crate::text::{write_judged, write_line, write_refusal};
 use schedule_text::Event;
 use schedule_unit::MachineNo;
 use std::alloc::Global;
-use written_world::{every_event_keeps_good, worlds_in_order};
 
 // A master starts in an epoch.
 pub(crate) fn start_master(
@@ -30,7 +28,7 @@ pub(crate) fn start_master(
     requires can { CanMove running.old }
     ensures { Acts (λ w. start_master w epoch) running.old running.new out.old.items out.new.items result }
 {
-    masters_act();
+    crate::law::masters_act();
     let Running {
         cluster,
         checkpoint,
@@ -52,7 +50,7 @@ pub(crate) fn stop_master(
     requires can { CanMove running.old }
     ensures { Acts (λ w. stop_master w epoch) running.old running.new out.old.items out.new.items result }
 {
-    masters_act();
+    crate::law::masters_act();
     let refusal = commands::stop_master(&mut running.masters, epoch);
     write_refusal(refusal, out)
 }
@@ -69,8 +67,8 @@ pub(crate) fn give_order(
     requires can { CanMove running.old }
     ensures { Acts (λ w. commanded w epoch (command_as order.now)) running.old running.new out.old.items out.new.items result }
 {
-    masters_act();
-    cores_may_step();
+    crate::law::masters_act();
+    crate::law::cores_may_step();
     let Running {
         cluster,
         checkpoint,
@@ -95,8 +93,8 @@ fn ban_one(
     requires can { CanMove running.old }
     ensures { ActsOnce (ban_one epoch machine.0 votes) running.old running.new out.old.items out.new.items result }
 {
-    masters_act();
-    cores_may_step();
+    crate::law::masters_act();
+    crate::law::cores_may_step();
     let Running {
         cluster,
         checkpoint,
@@ -124,8 +122,8 @@ fn ban_each(
     requires counted { 0 < running.old.events }
     ensures { Acts (ban_each epoch judgement.now.votes (map number_of judgement.now.machines.items)) running.old running.new out.old.items out.new.items result }
 {
-    every_event_keeps_good();
-    worlds_in_order();
+    written_world::law::every_event_keeps_good();
+    written_world::law::worlds_in_order();
     for place in 0..judgement.machines.len() {
         let machine = judgement.machines[place];
         let votes = judgement.votes.votes(machine);
@@ -178,7 +176,7 @@ pub(crate) fn halt(
     requires can { CanMove running.old }
     ensures { Acts (λ w. act w (Halt stop.calls stop.all (event_as line.now))) running.old running.new out.old.items out.new.items result }
 {
-    masters_act();
+    crate::law::masters_act();
     let Running {
         masters,
         checkpoint,

@@ -1,19 +1,14 @@
 //! What is promised of the cores that run, and not only of the written world: each contract here is a law.
 
-ghost use Rattle.std.specs.Prelude.{◌≡◌, ◌<◌, ℕ, true, Some};
-ghost use Rattle.written_roles.specs.Apps.{AppRole, held_by};
+ghost use Rattle.std.specs.Prelude.{◌≡◌, true, Some};
 ghost use Rattle.written_world.specs.World.{World as WrittenWorld};
 ghost use Rattle.written_world.specs.Quiet.{is_quiet};
-ghost use Rattle.app_master.specs.AppCores.{AppCore, StandsFor};
 ghost use Rattle.fuxi_master.specs.Cores.{MasterRecord};
 ghost use Rattle.party_slots.specs.Slots.{slot_at};
 ghost use Rattle.schedule_replay.specs.Worlds.{IsWorld, StandsFor as WorldStandsFor};
-ghost use Rattle.schedule_replay.specs.CoreReads.{held_now};
 ghost use Rattle.schedule_replay.specs.Promises.{TablesFit, AllHeldOnce, AllFollow, AllAgree, AllSettled, AreOfGoodWorld, Agree};
 
 use crate::world::World;
-use party_slots::parties_run;
-use written_world::every_event_keeps_good;
 
 /// Of all that runs in a schedule, whatever happened to it, masters that failed over, packets that were lost, repeated or reordered: each
 /// agent's table fits its machine (`capacity`). What an application holds on a machine fits it, and each number is part of one entry of
@@ -30,8 +25,8 @@ pub fn cores_are_safe(world: &World)
     ensures good { AreOfGoodWorld world.now }
 {
     world.is_reached();
-    parties_run();
-    every_event_keeps_good();
+    party_slots::law::parties_run();
+    written_world::law::every_event_keeps_good();
 }
 
 /// The answer of `World::quiet` for the master of an epoch (`answer`). Where it is true, that master, the agents, and the applications of the
@@ -43,9 +38,3 @@ pub fn quiet_parties_agree(world: &World, epoch: u64) -> bool
     cores_are_safe(world);
     world.quiet(epoch)
 }
-
-/// What `AppMaster::held` answers is `held_now`, the number that is read of the core here: both are what each application for which the
-/// core stands holds.
-pub fn held_is_answered()
-    ensures { (a : AppCore) (r : AppRole) (u m : ℕ) → StandsFor a r → u < a.units → m < a.machines → held_now a u m ≡ held_by r u m }
-{}

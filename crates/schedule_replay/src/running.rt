@@ -11,7 +11,7 @@ ghost use Rattle.schedule_replay.specs.WorldSteps.{Takes, StopsAt};
 
 use crate::acts::act;
 use crate::checkpoint::Checkpoint;
-use crate::laws::{cores_may_step, events_are_inputs, written_frame_lengths};
+use crate::law;
 use crate::lines::Lines;
 use crate::stop::WorldStop;
 use agent_core::Agent;
@@ -25,7 +25,6 @@ use running_state::write_state;
 use schedule_text::Event;
 use std::alloc::Global;
 use std::marker::Model;
-use written_world::{every_event_keeps_good, good_at_start, worlds_in_order};
 
 /// All that runs at once, with the hard state of the masters and the frames of all packets that were ever sent. Who steps it by events lends
 /// it: what a `World` keeps as its invariant (`IsReached`) is a condition and a clause here, and after a stop nothing is said of it.
@@ -71,8 +70,8 @@ impl Running {
         ensures reached { IfOk result IsReached }
         ensures events { IfOk result (λ running. running.events ≡ 0) }
     {
-        good_at_start();
-        worlds_in_order();
+        written_world::law::good_at_start();
+        written_world::law::worlds_in_order();
         // A cluster is valid.
         let _machines = cluster.machines();
         let checkpoint = Checkpoint::open(alloc)?;
@@ -101,11 +100,11 @@ impl Running {
         ensures events { OnOk result (self.new.events ≡ self.old.events + 1) }
         ensures stops { IfErr result (StopsAt (event_as event.now) self.old) }
     {
-        every_event_keeps_good();
-        worlds_in_order();
-        events_are_inputs();
-        cores_may_step();
-        written_frame_lengths();
+        written_world::law::every_event_keeps_good();
+        written_world::law::worlds_in_order();
+        crate::law::events_are_inputs();
+        law::cores_may_step();
+        law::written_frame_lengths();
         self.events += 1;
         let mut out = Vec::new(alloc);
         match act(self, alloc, event, &mut out) {

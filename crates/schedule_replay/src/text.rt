@@ -14,7 +14,7 @@ ghost use Rattle.schedule_replay.specs.ReplayTexts.{lines_text};
 ghost use Rattle.wire_frames.specs.Frames.{frame};
 ghost use Rattle.party_ledgers.specs.declared.packets.Packet.{Packet as PacketSeen};
 
-use crate::laws::written_frame_lengths;
+use crate::law;
 use crate::stop::WorldStop;
 use party_ledgers::{Heard, Kind, Packet};
 use schedule_text::{Kind as PrintedKind, Output, Refusal, write_frame, write_output};
@@ -61,7 +61,7 @@ fn write_sent(packet: &Packet, number: u64, out: &mut Vec<u8>) -> Result<(), Wor
     ensures ok { OnOk result ((net : Net Ledger) (x : WrittenPacket) → parcel_is packet.now ≡ parcel_of net x → out.new.items ≡ out.old.items ++ lines_text (sent_lines net number (x ∷ []))) }
     ensures err { IfErr result WantsMemory }
 {
-    written_frame_lengths();
+    law::written_frame_lengths();
     let line = Output::Sent {
         number,
         from: packet.from,

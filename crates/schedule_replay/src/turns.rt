@@ -1,24 +1,28 @@
-//! Turns: what parties send.
+//! Turns and resyncs: what parties send, and what they forget.
 
-ghost use Rattle.std.specs.Prelude.{◌≡◌, ◌+◌, ◌++◌, List, Some, length, map, IfErr, OnOk};
+ghost use Rattle.std.specs.Prelude.{◌≡◌, ◌+◌, ◌++◌, List, Some, None, cond, length, map, IfErr, OnOk};
 ghost use Rattle.std.specs.List.{AllByRecursion};
 ghost use Rattle.core_side.specs.Parcels.{parcel_is, IsSent};
 ghost use Rattle.written_net.specs.Net.{Net, Packet as WrittenPacket};
 ghost use Rattle.written_net.specs.Ledgers.{Ledger};
 ghost use Rattle.written_join.specs.SeenWorlds.{parcel_of};
 ghost use Rattle.written_world.specs.Outputs.{sent_lines};
-ghost use Rattle.written_world.specs.Events.{turn_agent, turn_app, turn_master};
+ghost use Rattle.schedule_text.specs.declared.refusal.Refusal.{Refusal};
+ghost use Rattle.packet_pool.specs.PacketPools.{Stored};
+ghost use Rattle.written_parties.specs.SeenParties.{turn_of, resync_of};
+ghost use Rattle.party_slots.specs.Slots.{MayStep, slot_at};
 ghost use Rattle.schedule_replay.specs.ReplayTexts.{lines_text};
-ghost use Rattle.schedule_replay.specs.Moves.{Acts, CanMove, KeepsMore, StopsAs, StopsFor};
+ghost use Rattle.schedule_replay.specs.Moves.{Acts, ActsAsPart, CanMove, KeepsMore, StopsAs, StopsFor, WantsMemory, kind_named, refusal_lines, told_of};
 
-use crate::laws::{agents_act, apps_act, cores_may_step, masters_act, written_frame_lengths};
+use crate::law;
 use crate::running::Running;
 use crate::stop::WorldStop;
 use crate::text::{write_all_sent, write_refusal};
 use packet_pool::{PacketPool, PoolFault};
 use party_ledgers::Packet;
+use party_slots::{Party, Slots};
 use schedule_text::Refusal;
-use schedule_unit::{AppNo, MachineNo};
+use schedule_unit::Role;
 use std::alloc::Global;
 
 // Why packets are not kept, as the reason of the world.
@@ -54,68 +58,128 @@ fn send(
     write_all_sent(packets, first, out)
 }
 
-// One turn of the agent of a machine.
-pub(crate) fn turn_agent(
-    running: &mut Running,
-    alloc: Global,
-    machine: MachineNo,
-    out: &mut Vec<u8>,
-) -> Result<(), WorldStop>
-    requires { CanMove running.old }
-    ensures { Acts (λ w. turn_agent w machine.0) running.old running.new out.old.items out.new.items result }
+// The refusal, where none ran.
+fn write_whether(ran: bool, out: &mut Vec<u8>) -> Result<(), WorldStop>
+    ensures ok { OnOk result (out.new.items ≡ out.old.items ++ lines_text (refusal_lines (cond ran None (Some Refusal.NotRunning)))) }
+    ensures err { IfErr result WantsMemory }
 {
-    agents_act();
-    written_frame_lengths();
-    cores_may_step();
-    let Ok(answer) = running.agents.turn(alloc, machine.0 as u64) else {
-        return Err(WorldStop::OutOfMemory);
-    };
-    let Some(packets) = answer else {
-        return write_refusal(Some(Refusal::NotRunning), out);
-    };
-    send(&mut running.pool, alloc, packets.as_slice(), out)
+    if ran {
+        write_refusal(None, out)
+    } else {
+        write_refusal(Some(Refusal::NotRunning), out)
+    }
 }
 
-// One turn of the application of a job.
-pub(crate) fn turn_app(
-    running: &mut Running,
-    alloc: Global,
-    app: AppNo,
-    out: &mut Vec<u8>,
-) -> Result<(), WorldStop>
-    requires { CanMove running.old }
-    ensures { Acts (λ w. turn_app w app.0) running.old running.new out.old.items out.new.items result }
-{
-    apps_act();
-    written_frame_lengths();
-    cores_may_step();
-    let Ok(answer) = running.apps.turn(alloc, app.0 as u64) else {
-        return Err(WorldStop::OutOfMemory);
-    };
-    let Some(packets) = answer else {
-        return write_refusal(Some(Refusal::NotRunning), out);
-    };
-    send(&mut running.pool, alloc, packets.as_slice(), out)
+/// What a party is told that it does by itself.
+#[derive(Clone, Copy)]
+pub(crate) enum Told {
+    /// It sends what its peers lack.
+    Turn,
+    /// It forgets what its peers have acknowledged.
+    Resync,
 }
 
-// One turn of the master of an epoch.
-pub(crate) fn turn_master(
-    running: &mut Running,
+// One turn of the party of a number.
+fn turn<P: Party>(
+    parties: &mut Slots<P>,
+    pool: &mut PacketPool,
     alloc: Global,
-    epoch: u64,
+    number: u64,
     out: &mut Vec<u8>,
 ) -> Result<(), WorldStop>
-    requires { CanMove running.old }
-    ensures { Acts (λ w. turn_master w epoch) running.old running.new out.old.items out.new.items result }
+    requires { MayStep P.steps (slot_at parties.old number) }
+    ensures { ActsAsPart turn_of P.stands P.steps number parties.old parties.new pool.old pool.new out.old.items out.new.items result }
 {
-    masters_act();
-    written_frame_lengths();
-    cores_may_step();
-    let Ok(answer) = running.masters.turn(alloc, epoch) else {
+    law::written_frame_lengths();
+    let Ok(answer) = parties.turn(alloc, number) else {
         return Err(WorldStop::OutOfMemory);
     };
     let Some(packets) = answer else {
         return write_refusal(Some(Refusal::NotRunning), out);
     };
-    send(&mut running.pool, alloc, packets.as_slice(), out)
+    send(pool, alloc, packets.as_slice(), out)
+}
+
+// The party of a number forgets what its peers have acknowledged.
+fn resync<P: Party>(
+    parties: &mut Slots<P>,
+    alloc: Global,
+    number: u64,
+    out: &mut Vec<u8>,
+) -> Result<(), WorldStop>
+    requires { MayStep P.steps (slot_at parties.old number) }
+    ensures { (pool : Stored) → ActsAsPart resync_of P.stands P.steps number parties.old parties.new pool pool out.old.items out.new.items result }
+{
+    let Ok(ran) = parties.resync(alloc, number) else {
+        return Err(WorldStop::OutOfMemory);
+    };
+    write_whether(ran, out)
+}
+
+// The party of a number does what it is told.
+fn tell_one<P: Party>(
+    parties: &mut Slots<P>,
+    pool: &mut PacketPool,
+    alloc: Global,
+    number: u64,
+    told: Told,
+    out: &mut Vec<u8>,
+) -> Result<(), WorldStop>
+    requires { MayStep P.steps (slot_at parties.old number) }
+    ensures { ActsAsPart (told_of told) P.stands P.steps number parties.old parties.new pool.old pool.new out.old.items out.new.items result }
+{
+    match told {
+        Told::Turn => turn(parties, pool, alloc, number, out),
+        Told::Resync => resync(parties, alloc, number, out),
+    }
+}
+
+// The party of a role and number does what it is told.
+pub(crate) fn tell(
+    running: &mut Running,
+    alloc: Global,
+    role: Role,
+    number: u64,
+    told: Told,
+    out: &mut Vec<u8>,
+) -> Result<(), WorldStop>
+    requires { CanMove running.old }
+    ensures { Acts (λ w. told_of told w (kind_named role) number) running.old running.new out.old.items out.new.items result }
+{
+    law::cores_may_step();
+    match role {
+        Role::Master => {
+            law::masters_act();
+            tell_one(
+                &mut running.masters,
+                &mut running.pool,
+                alloc,
+                number,
+                told,
+                out,
+            )
+        }
+        Role::Agent => {
+            law::agents_act();
+            tell_one(
+                &mut running.agents,
+                &mut running.pool,
+                alloc,
+                number,
+                told,
+                out,
+            )
+        }
+        Role::App => {
+            law::apps_act();
+            tell_one(
+                &mut running.apps,
+                &mut running.pool,
+                alloc,
+                number,
+                told,
+                out,
+            )
+        }
+    }
 }

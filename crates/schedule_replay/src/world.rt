@@ -22,7 +22,7 @@ use app_master::AppMaster;
 use cluster_desc::Cluster;
 use fuxi_master::Master;
 use fuxi_terms::OutOfMemory;
-use party_slots::parties_run;
+use party_slots::law;
 use running_state::is_quiet;
 use schedule_text::Event;
 use schedule_unit::{AppNo, MachineNo};
@@ -125,7 +125,7 @@ impl World {
         ensures core { option_copied result ≡ slot_at self.now.masters epoch }
         ensures runs { (w : WrittenWorld) → StandsFor self.now w → is_some result ≡ is_some (find nat_cmp epoch w.masters) }
     {
-        parties_run();
+        law::parties_run();
         self.running.masters.get(epoch)
     }
 
@@ -134,7 +134,7 @@ impl World {
         ensures core { option_copied result ≡ slot_at self.now.agents machine.0 }
         ensures runs { (w : WrittenWorld) → StandsFor self.now w → is_some result ≡ is_some (find nat_cmp machine.0 w.agents) }
     {
-        parties_run();
+        law::parties_run();
         self.running.agents.get(machine.0 as u64)
     }
 
@@ -143,7 +143,7 @@ impl World {
         ensures core { option_copied result ≡ slot_at self.now.apps app.0 }
         ensures runs { (w : WrittenWorld) → StandsFor self.now w → is_some result ≡ is_some (find nat_cmp app.0 w.apps) }
     {
-        parties_run();
+        law::parties_run();
         self.running.apps.get(app.0 as u64)
     }
 

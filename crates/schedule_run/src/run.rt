@@ -15,10 +15,8 @@ use fuxi_io::{
     Got, LimitOf, LineReader, LineStop, Sink, Source, Status, WriteBuffer, WriteFault, write_all_of,
 };
 use fuxi_terms::OutOfMemory;
-use input_lines::{
-    content, event_status, is_skipped, lines_are_taken, read_cluster_line, stop_status,
-};
-use schedule_replay::{Running, WorldStop, events_stand_anywhere};
+use input_lines::{content, event_status, is_skipped, read_cluster_line, stop_status};
+use schedule_replay::{Running, WorldStop};
 use schedule_text::read_event;
 use std::alloc::Global;
 
@@ -49,7 +47,7 @@ fn take_line<O: Sink>(
     if is_skipped(line) {
         return Ok(());
     }
-    events_stand_anywhere();
+    schedule_replay::law::events_stand_anywhere();
     let event = match read_event(alloc, line) {
         Ok(event) => event,
         Err(fault) => match waiting.flush(out) {
@@ -161,7 +159,7 @@ fn run_lines<S: Source, O: Sink>(
     ensures damaged { (offset : ℕ) → result ≢ Status.DamagedCheckpoint offset }
     ensures records { lines.old.stop ≡ None → (kept : ℕ) → result ≢ Status.Limit LimitOf.Records kept }
 {
-    lines_are_taken();
+    input_lines::law::lines_are_taken();
     let Ok(mut running) = Running::start(alloc, cluster) else {
         return Status::OutOfMemory;
     };

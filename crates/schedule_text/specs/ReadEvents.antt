@@ -1,6 +1,6 @@
 -- What an event line says, or why it is none.
-use Rattle.std.specs.Prelude.{◌≡◌, ℕ, ◌+◌, ◌-◌, Bool, true, false, cond, nat_eq, nat_lt, ◌&&◌, List, [], ◌∷◌, length, take, drop, get_or, slice_index, Some, None, Result, Ok, Err, codes}
-use Rattle.std.specs.List.{find, list_any, list_all, zip, slice_split}
+use Rattle.std.specs.Prelude.{◌≡◌, ℕ, ◌+◌, ◌-◌, Bool, true, false, cond, nat_eq, nat_lt, ◌&&◌, List, [], ◌∷◌, length, take, drop, get_or, slice_index, Result, Ok, Err, codes}
+use Rattle.std.specs.List.{list_all, zip, slice_split}
 use Rattle.std.specs.Str.{bytes_eq}
 use Rattle.fuxi_terms.specs.Limits.{greatest_count}
 use Rattle.fuxi_terms.specs.Cluster.{is_between}

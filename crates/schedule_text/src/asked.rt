@@ -1,7 +1,7 @@
 //! What a line asks for a job, and the refusal that a fault of it is.
 
 ghost use Rattle.std.specs.Prelude.{◌≡◌};
-ghost use Rattle.schedule_text.specs.Asked.{AreTestedAlike, job_refusal};
+ghost use Rattle.schedule_text.specs.Asked.{job_refusal};
 
 use crate::refusal::Refusal;
 use schedule_unit::JobFault;
@@ -21,9 +21,3 @@ pub fn job_refusal(fault: JobFault) -> Option<Refusal>
         JobFault::OutOfMemory => None,
     }
 }
-
-/// What is asked for a job is tested alike by `Job::make` and by the definitions of events. It does nothing: its
-/// contract is the law.
-pub fn jobs_are_tested_alike()
-    ensures { AreTestedAlike }
-{}

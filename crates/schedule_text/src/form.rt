@@ -1,7 +1,7 @@
 //! The table of event lines.
 
-ghost use Rattle.std.specs.Prelude.{◌≡◌, ◌≤◌, length, map};
-ghost use Rattle.schedule_text.specs.LineForms.{shape_of, as_shape, halt_shape, line as shape_line};
+ghost use Rattle.std.specs.Prelude.{◌≡◌, ◌≤◌, ◌⊎◌, [], length, map, filter, nat_eq, slice_index, slice_index_or};
+ghost use Rattle.schedule_text.specs.LineForms.{heads, shape_of, as_shape, halt_shape, line as shape_line};
 
 use crate::number::NumberPlace;
 use fuxi_terms::limits::{MOST_GROUPS, MOST_JOBS, MOST_MACHINES, MOST_RACKS, MOST_UNITS};
@@ -103,6 +103,33 @@ pub const WRITING_HEADS: [Head; 5] = [
     Head::Ban,
     Head::Unban,
 ];
+
+// The lines whose first word begins with this letter; all of them where none does.
+pub fn heads_with(letter: u8) -> &'static [Head]
+    ensures { (result.now ≡ heads) ⊎ (result.now ≡ filter (λ head. nat_eq (slice_index (slice_index_or (shape_of head).words 0 []) 0) letter) heads) }
+{
+    match letter {
+        b'a' => &[Head::Agent, Head::App, Head::Avoid],
+        b'b' => &[Head::Ban, Head::Begin, Head::Back],
+        b'd' => &[Head::Deliver, Head::DeliverRange, Head::Dump],
+        b'f' => &[Head::Finish],
+        b'j' => &[Head::Judge],
+        b'm' => &[Head::Master],
+        b'n' => &[Head::Near],
+        b'p' => &[Head::Preempt],
+        b'r' => &[
+            Head::Rack,
+            Head::ResyncMaster,
+            Head::ResyncAgent,
+            Head::ResyncApp,
+        ],
+        b's' => &[Head::Stop, Head::Submit, Head::Show],
+        b't' => &[Head::TurnMaster, Head::TurnAgent, Head::TurnApp],
+        b'u' => &[Head::Unban],
+        b'w' => &[Head::Want],
+        _ => &HEADS,
+    }
+}
 
 fn line(words: &'static [&'static [u8]], places: &'static [Place]) -> Form
     ensures { as_shape result ≡ shape_line (map (λ w. w.now) words.now) places.now }

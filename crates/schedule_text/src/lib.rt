@@ -5,6 +5,7 @@ mod asked;
 mod event;
 mod form;
 mod head;
+pub mod law;
 mod make;
 mod number;
 mod output;
@@ -13,14 +14,14 @@ mod refusal;
 mod word;
 mod write;
 
-pub use asked::{job_refusal, jobs_are_tested_alike};
+pub use asked::job_refusal;
 pub use event::{Event, LineFault};
 pub use head::{LineHead, head_of};
 pub use number::{NumberPlace, begins_with, numbers_at};
 pub use output::{
     Kind, Output, push_heard, push_numbered, push_place, push_sent, write_frame, write_output,
 };
-pub use read::{events_of_lines, read_event};
+pub use read::read_event;
 pub use refusal::Refusal;
 pub use word::words_of;
 pub use write::{event_lines, push_blanked, push_numbers, write_event};

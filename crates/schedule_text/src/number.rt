@@ -51,7 +51,7 @@ pub fn number_at<P: NumberPlace>(
     }
 }
 
-/// The numbers of these places, which stand from a place of the line on. Behind them stand zeros.
+/// The numbers of these places, which stand from a place of the line on.
 pub fn numbers_at<P: NumberPlace>(
     places: &[P],
     first: usize,

@@ -1,17 +1,14 @@
 //! Event lines are read.
 
-ghost use Rattle.std.specs.Prelude.{◌≡◌, true, ℕ, ◌+◌, ◌^◌, ◌<◌, ◌≤◌, List, ◌∷◌, IfOk, IfErr, IfSome, Ok, Err, map, length, take, drop, slice_index, slice_get, get_or, Some};
-ghost use Rattle.std.specs.List.{find, list_all, list_any};
-ghost use Rattle.fuxi_terms.specs.Counts.{then_do};
-ghost use Rattle.schedule_text.specs.LineForms.{Shape, shape_of, as_shape, IsNarrow};
-ghost use Rattle.schedule_text.specs.ReadEvents.{begins, is_head, has_count, own_count, is_unit, units_of, head_of, number_at, numbers_at, counts_at, most_at, ask_at, asks_at, asks_of, event_at, event_behind, stop_of, halt_of, event_of_words, event_of, front, IsFault};
+ghost use Rattle.std.specs.Prelude.{◌≡◌, true, false, ◌+◌, ◌^◌, ◌<◌, ◌≤◌, ◌∷◌, [], nat_eq, slice_index, slice_index_or, IfOk, IfErr, Ok, Err, map, length};
+ghost use Rattle.std.specs.List.{list_all};
+ghost use Rattle.schedule_text.specs.LineForms.{heads, halt_shape, shape_of, as_shape};
+ghost use Rattle.schedule_text.specs.ReadEvents.{begins, has_count, own_count, is_unit, units_of, head_of, number_at, numbers_at, counts_at, most_at, ask_at, asks_at, event_behind, stop_of, halt_of, event_of_words, event_of, front, IsFault};
 ghost use Rattle.schedule_text.specs.Halting.{anywhere};
 ghost use Rattle.schedule_text.specs.Writing.{IsLineEvent};
-ghost use Rattle.schedule_text.specs.declared.event.Event.{Event as AnyEvent};
-ghost use Rattle.schedule_text.specs.declared.form.Place.TheVariants.{Incarnation as IncarnationPlace};
 
 use crate::event::{Event, LineFault};
-use crate::form::{Form, HEADS, Head, Place, WRITING_HEADS, form_of, halt_form};
+use crate::form::{Form, HEADS, Head, Place, WRITING_HEADS, form_of, halt_form, heads_with};
 use crate::head::{LineHead, head_of};
 use crate::make::make_event;
 use crate::number::{begins_with, number_at, numbers_at};
@@ -46,12 +43,43 @@ fn event_in(alloc: Global, words: &[&[u8]]) -> Result<Event, LineFault>
     if words.is_empty() {
         return Err(LineFault::UnknownWord);
     }
-    if begins(&halt_form(), words) {
+    if is_halt(words) {
         return halt_of(alloc, words);
     }
-    match head_of(&HEADS, words) {
+    match head_in(words) {
         Ok(head) => event_behind(alloc, head, 0, words),
         Err(fault) => Err(fault),
+    }
+}
+
+// Whether these words begin a stop within a writing.
+fn is_halt(words: &[&[u8]]) -> bool
+    ensures { result ≡ begins halt_shape (map (λ w. w.now) words.now) }
+{
+    if is_other(b'h', words) {
+        return false;
+    }
+    begins(&halt_form(), words)
+}
+
+// Whether the first word begins with another letter.
+fn is_other(letter: u8, words: &[&[u8]]) -> bool
+    ensures { result ≡ true → (1 ≤ length words.now) × (nat_eq letter (slice_index (slice_index_or (map (λ w. w.now) words.now) 0 []) 0) ≡ false) }
+{
+    match words {
+        [word, ..] if !word.is_empty() => word[0] != letter,
+        _ => false,
+    }
+}
+
+// Which line of the table it is. Only those are tried whose first word begins as that of the line.
+fn head_in(words: &[&[u8]]) -> Result<Head, LineFault>
+    ensures value { result ≡ head_of heads (map (λ w. w.now) words.now) }
+    ensures count { IfOk result (λ head. has_count (shape_of head) (map (λ w. w.now) words.now) ≡ true) }
+{
+    match words {
+        [word, ..] if !word.is_empty() => head_of(heads_with(word[0]), words),
+        _ => head_of(&HEADS, words),
     }
 }
 
@@ -289,8 +317,3 @@ fn asks_at(alloc: Global, first: usize, words: &[&[u8]]) -> Result<Asks, LineFau
     }
     Ok(asks)
 }
-
-/// What is read of a line is an event that a line can give.
-pub fn events_of_lines()
-    ensures { (line : List ℕ) (event : AnyEvent) → event_of line ≡ Ok event → IsLineEvent event }
-{}

@@ -12,7 +12,7 @@ use crate::event::Event;
 use crate::form::{Head, form_of};
 use fuxi_terms::OutOfMemory;
 use fuxi_terms::limits::GREATEST_COUNT;
-use schedule_unit::{Ask, numbers, write_number};
+use schedule_unit::{Ask, law, write_number};
 
 /// Appends the line of an event, without a newline. Leaves `out` as it was where memory was refused.
 ///
@@ -214,5 +214,5 @@ fn push_most(out: &mut Vec<u8>, most: u64) -> Result<(), OutOfMemory>
 pub fn event_lines()
     ensures { (event : AnyEvent) → IsLineEvent event → event_of (event_text event) ≡ Ok (anywhere event) }
 {
-    numbers();
+    law::numbers();
 }

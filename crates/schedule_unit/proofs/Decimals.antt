@@ -1,15 +1,17 @@
 -- The words of numbers, and the decimals that are written.
-use Rattle.std.proofs.Common.{◌≡◌, ℕ, ◌<◌, ◌≤◌, ◌^◌, true, false, not, nat_eq, nat_lt, ◌&&◌, ◌||◌, List, [], ◌∷◌, length, get_or, Some, None, Result, Ok, Err, inl, inr, refl, sym, ap, ◌∙◌, subst, arith}
+use Rattle.std.proofs.Common.{◌≡◌, ℕ, ◌+◌, ◌-◌, ◌*◌, ◌/◌, ◌%◌, ◌<◌, ◌≤◌, ◌^◌, true, false, not, nat_eq, nat_lt, ◌&&◌, ◌||◌, if◌then◌else◌, List, [], ◌∷◌, length, get_or, take, Option, Some, None, inl, inr, refl, sym, ap, ◌∙◌, arith}
 use Rattle.std.specs.Char.{is_ascii_digit}
 use Rattle.std.specs.List.{list_all}
 use Rattle.std.specs.Fmt.{decimal}
-use Rattle.std.specs.Str.{all_ascii_digits, IsUtf8}
-use Rattle.std.specs.Result.{MatchResult, OkIff, result_ok}
-use Rattle.std.specs.Str.Parse.{digits_value, ParsesUnsigned}
-use Rattle.std.proofs.lemmas.Str.{IsUtf8-from_ascii}
+use Rattle.std.specs.Int.{IsInRange}
+use Rattle.std.specs.Str.{all_ascii_digits}
+use Rattle.std.specs.Str.Parse.{digits_value}
+use Rattle.std.proofs.lemmas.Int.Digits.{digits_value_more}
+use Rattle.std.proofs.lemmas.List.Folds.{list_all_at, list_all_more}
+use Rattle.std.proofs.lemmas.Str.{digit_value_digit}
 use Rattle.std.proofs.lemmas.Bool.{and_parts, and_from, or_left, or_right, or_cases, not-true, not_from_false, eq-eqb, eqb-true, eqb-false, ne_eqb, lt-ltb, le-ltb, ltb-false, cases_eq, cases_lt, cond-true, cond-false, cases_Bool, and_left, and_right}
-use Rattle.std.proofs.lemmas.Str.Parse.{IsNumeralModel, numerals_by_value, parse_digits, tells_all_ascii_digits}
-use Rattle.std.proofs.lemmas.Fmt.{IsAscii-from_digits, digits_decimal, digits_value-decimal, decimal_nonempty, length-decimal-le, first_decimal, decimal_digit, decimal-digits_value}
+use Rattle.std.proofs.lemmas.Str.Parse.{IsNumeralModel, numerals_by_value, digits_value-take-le, tells_all_ascii_digits}
+use Rattle.std.proofs.lemmas.Fmt.{digits_decimal, digits_value-decimal, decimal_nonempty, length-decimal-le, first_decimal, decimal_digit, decimal_step, decimal-digits_value}
 use Rattle.fuxi_terms.specs.Cluster.{is_between}
 use Rattle.schedule_unit.specs.NumberWords.{is_numeral, number_of}
 
@@ -94,22 +96,37 @@ decimal-number_of word n e = elim (cases_Bool (is_numeral word)) [
   ]
 ]
 
--- digits are text
-pub not_text : {T E : Type 0} (word : List ℕ) (r : Result T E) (P : T → Type 0) (Q : E → Type 0) → is_numeral word ≡ true → MatchResult r P (λ e. ¬ IsUtf8 word × Q e) → result_ok r ≡ None → ⊥
-not_text word (Ok s) P Q n m e = cc
-not_text word (Err f) P Q n m e = m.0 (IsUtf8-from_ascii word (IsAscii-from_digits word (digits.to word (IsNumeral-from word n).all)))
+-- a short number, as it is written
+pub two_digits : (n : ℕ) → 10 ≤ n → n < 100 → decimal n ≡ (48 + n / 10) ∷ (48 + n % 10) ∷ []
+two_digits n lo hi = rw (decimal_step n lo (omega arith), decimal_digit (n / 10) (omega arith)) refl
 
-pub the_text : {T E : Type 0} (r : Result T E) (t : T) (P : T → Type 0) (Q : E → Type 0) → Some t ≡ result_ok r → MatchResult r P Q → P t
-the_text (Ok s) t P Q e m = let f : s ≡ t = cc in subst P f m
-the_text (Err f) t P Q e m = absurd (let g : ⊥ = cc in g)
+-- Digits, one after another. What a walk over them answers
+abbrev pub valued : List ℕ → Option ℕ
+valued word = if all_ascii_digits word && nat_lt (digits_value 10 word) (2 ^ 64) then Some (digits_value 10 word) else None
 
-parsed_of : {E : Type 0} (word : List ℕ) (r : Result ℕ E) → is_numeral word ≡ true → OkIff r ((0 < length word) × (digits_value 10 word < 2 ^ 64)) (digits_value 10 word) → result_ok r ≡ number_of word
-parsed_of word (Ok m) n o = ap Some o.1 ∙ sym (number_of-some word n o.0.1)
-parsed_of word (Err f) n o = elim (cases_lt (digits_value 10 word) (2 ^ 64)) [
-  | inl l ↦ absurd (o ((IsNumeral-from word n).least, l))
-  | inr g ↦ sym (number_of-great word g)
-]
+in_range : (c : ℕ) → is_ascii_digit c ≡ true → IsInRange 48 57 c
+in_range c h = (tells_all_ascii_digits.parts c [] (and_from (is_ascii_digit c) true h refl)).0
 
--- what is parsed of a numeral is its number
-pub parsed : {E : Type 0} (word text : List ℕ) (r : Result ℕ E) → text ≡ word → is_numeral word ≡ true → ParsesUnsigned 64 10 text r → result_ok r ≡ number_of word
-parsed {E} word text r e n p = parsed_of word r n (parse_digits digits 64 word r (subst (λ (t : List ℕ). ParsesUnsigned 64 10 t r) e p) (IsNumeral-from word n).all)
+-- one more
+pub more_digits : (word : List ℕ) (i : ℕ) → i < length word → all_ascii_digits (take i word) ≡ true → is_ascii_digit (get_or word i 0) ≡ true → all_ascii_digits (take (i + 1) word) ≡ true
+more_digits word i h a d = all_digits (take (i + 1) word) ∙ list_all_more is_ascii_digit word i 0 h ∙ and_from (list_all is_ascii_digit (take i word)) (is_ascii_digit (get_or word i 0)) (sym (all_digits (take i word)) ∙ a) d
+
+pub more_value : (word : List ℕ) (i : ℕ) → i < length word → is_ascii_digit (get_or word i 0) ≡ true → digits_value 10 (take (i + 1) word) ≡ digits_value 10 (take i word) * 10 + (get_or word i 0 - 48)
+more_value word i h d = omega (arith, digits_value_more 10 word i h, digit_value_digit (get_or word i 0) (in_range (get_or word i 0) d))
+
+-- a byte that is none
+pub other_byte : (word : List ℕ) (i : ℕ) → i < length word → is_ascii_digit (get_or word i 0) ≡ false → None ≡ valued word
+other_byte word i h n = sym (cond-false (all_ascii_digits word && nat_lt (digits_value 10 word) (2 ^ 64)) (Some (digits_value 10 word)) None
+    (and_left (all_ascii_digits word) (nat_lt (digits_value 10 word) (2 ^ 64)) (all_digits word ∙ list_all_at is_ascii_digit word i 0 h n)))
+
+-- a number that the next digit makes too great
+pub too_great : (word : List ℕ) (i : ℕ) → i < length word → is_ascii_digit (get_or word i 0) ≡ true → 2 ^ 64 ≤ digits_value 10 (take i word) * 10 + (get_or word i 0 - 48) → None ≡ valued word
+too_great word i h d g =
+    let whole = digits_value-take-le 10 word (i + 1) (omega arith) in
+    sym (cond-false (all_ascii_digits word && nat_lt (digits_value 10 word) (2 ^ 64)) (Some (digits_value 10 word)) None
+    (and_right (all_ascii_digits word) (nat_lt (digits_value 10 word) (2 ^ 64)) (le-ltb (digits_value 10 word) (2 ^ 64) (omega (arith, more_value word i h d, whole, g)))))
+
+-- and all of them
+pub all_valued : (word : List ℕ) (n : ℕ) → all_ascii_digits word ≡ true → n ≡ digits_value 10 word → n < 2 ^ 64 → Some n ≡ valued word
+all_valued word n a e l = ap Some e ∙ sym (cond-true (all_ascii_digits word && nat_lt (digits_value 10 word) (2 ^ 64)) (Some (digits_value 10 word)) None
+    (and_from (all_ascii_digits word) (nat_lt (digits_value 10 word) (2 ^ 64)) a (lt-ltb (digits_value 10 word) (2 ^ 64) (omega (arith, e, l)))))

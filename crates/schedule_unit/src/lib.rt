@@ -4,10 +4,11 @@
 
 mod asks;
 mod job;
+pub mod law;
 mod number;
 mod party;
 
 pub use asks::{Ask, Asks, Quantities};
 pub use job::{Job, JobFault, Unit};
-pub use number::{numbers, read_number, write_number};
+pub use number::{read_number, write_number};
 pub use party::{AppNo, GroupNo, MachineNo, Party, RackNo, Role, UnitNo};

@@ -3,8 +3,7 @@
 #![tactic(auto)]
 
 mod cell;
-mod law;
+pub mod law;
 mod pool;
 
-pub use law::moves_with_its_values;
 pub use pool::{Pool, Slot};

@@ -8,7 +8,7 @@ ghost use Rattle.storm_run.specs.StormRuns.{listed, events_in, IsLine, AreLines,
 
 use crate::generator::Generator;
 use crate::orders::{Order, order_event};
-use party_slots::parties_run;
+use party_slots::law;
 use schedule_replay::World;
 use schedule_text::Event;
 use schedule_unit::{MachineNo, UnitNo};
@@ -126,7 +126,7 @@ fn restarted(world: &World, machine: MachineNo) -> Option<Event>
     ensures events { (w : WrittenWorld) → IsWorld w → StandsFor world.now w → listed result ≡ restart w machine.0 }
     ensures line { IsLine result }
 {
-    parties_run();
+    law::parties_run();
     let Some(agent) = world.agent(machine) else {
         return None;
     };

@@ -15,7 +15,7 @@ ghost use Rattle.storm_run.specs.Summaries.{count_of, granted, held_in, rows_in,
 use app_master::AppMaster;
 use grant_table::GrantTable;
 use party_ledgers::RowLedger;
-use party_slots::parties_run;
+use party_slots::law;
 use schedule_replay::World;
 use schedule_unit::{AppNo, MachineNo, UnitNo};
 
@@ -43,7 +43,7 @@ fn count_grants(table: &GrantTable, app: AppNo) -> u64
 fn granted(world: &World, app: AppNo) -> u64
     ensures { (w : WrittenWorld) → IsWorld w → StandsFor world.now w → result ≡ granted w app.0 }
 {
-    parties_run();
+    law::parties_run();
     match world.master(world.fence()) {
         Some(master) => count_grants(master.table(), app),
         None => 0,
@@ -80,7 +80,7 @@ fn held(world: &World, app: AppNo) -> u64
 {
     // What runs is of a valid cluster, which has few machines.
     world.is_reached();
-    parties_run();
+    law::parties_run();
     match world.app(app) {
         Some(master) => count_held(master),
         None => 0,
@@ -101,7 +101,7 @@ fn count_rows(table: &RowLedger) -> u64
 fn rows(world: &World, machine: MachineNo) -> u64
     ensures { (w : WrittenWorld) → IsWorld w → StandsFor world.now w → result ≡ rows_in w machine.0 }
 {
-    parties_run();
+    law::parties_run();
     match world.agent(machine) {
         Some(agent) => count_rows(agent.table()),
         None => 0,

@@ -6,7 +6,7 @@ mod closing;
 mod cluster;
 mod counts;
 mod generator;
-mod laws;
+pub mod law;
 mod opening;
 mod orders;
 mod run;
@@ -14,5 +14,4 @@ mod steps;
 mod storm;
 mod summary;
 
-pub use laws::calm_storm;
 pub use storm::{MOST_STEPS, run_storm};

@@ -2,10 +2,9 @@
 //! no memory.
 #![tactic(auto)]
 
-mod law;
+pub mod law;
 mod node;
 mod queue;
 
-pub use law::{orders, places, standing_lists};
 pub use node::{Entry, Node};
 pub use queue::Queue;

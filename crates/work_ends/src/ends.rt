@@ -24,7 +24,7 @@ pub struct Parcel {
     pub note: Note<Plan>,
 }
 
-/// Appends the packets of one turn of an end, from the one party to the other. Want of memory may leave some of them appended.
+/// Appends the packets of one turn of an end, from the one party to the other. After want of memory nothing is said of what the list has.
 pub fn turn(
     ends: &Ends,
     alloc: Global,

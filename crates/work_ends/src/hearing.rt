@@ -9,7 +9,7 @@ ghost use Rattle.written_net.specs.Net.{Party as WrittenParty, Id, Link, word_of
 ghost use Rattle.work_ends.specs.Ends.{IsEnd, Brought, HearsAs, TakesAs, packet_of, names_packet, change_packet, NamesBrought, ChangeBrought, histories};
 
 use crate::ends::{Ends, Parcel};
-use channel_join::{links_are_one, words_are_one};
+use channel_join::law;
 use delta_channel::{Place, Stamp, Verdict};
 use full_sync::Note;
 use fuxi_terms::{OutOfMemory, What};
@@ -55,7 +55,7 @@ fn hear_known(ends: &mut Ends, alloc: Global, parcel: &Parcel) -> Result<What, O
 {
     match &parcel.note {
         Note::Ack(place) => {
-            links_are_one();
+            law::links_are_one();
             ends.on_ack(parcel.from.inc, *place);
             Ok(What::Ack)
         }
@@ -79,7 +79,7 @@ fn hear_names(
     ensures takes { IfOk result (λ what. (p : WrittenParty) (q : Id) (l : Link) (hs : histories) → IsEnd ends.old p q l hs → let x = names_packet from.now to.now seq in NamesBrought hs x names.now → x.from.id ≡ q → x.to.id ≡ p.id → TakesAs ends.new what p q l hs x) }
     ensures outgoing { ends.new.outgoing ≡ ends.old.outgoing }
 {
-    words_are_one();
+    law::words_are_one();
     let stamp = stamp_of(from, to, true, seq);
     let verdict = ends.verdict(&stamp);
     if verdict != Verdict::Take {
@@ -103,7 +103,7 @@ fn hear_change(
     ensures takes { IfOk result (λ what. (p : WrittenParty) (q : Id) (l : Link) (hs : histories) → IsEnd ends.old p q l hs → let x = change_packet from.now to.now seq in ChangeBrought hs x change.now → x.from.id ≡ q → x.to.id ≡ p.id → TakesAs ends.new what p q l hs x) }
     ensures outgoing { ends.new.outgoing ≡ ends.old.outgoing }
 {
-    words_are_one();
+    law::words_are_one();
     let stamp = stamp_of(from, to, false, seq);
     let verdict = ends.verdict(&stamp);
     if verdict != Verdict::Take {

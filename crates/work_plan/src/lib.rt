@@ -3,12 +3,11 @@
 #![tactic(auto)]
 
 mod crew;
-mod law;
+pub mod law;
 mod plan;
 mod squad;
 mod workers;
 
-pub use law::plans_name_once;
 pub use plan::{Plan, PlanShape, Running};
 pub use squad::Member;
 pub use workers::Workers;

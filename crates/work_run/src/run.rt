@@ -9,7 +9,7 @@ ghost use Rattle.work_run.specs.WorkProgress.{TakesLine, WritesState, world_stat
 
 use fuxi_io::{Got, LimitOf, LineReader, Sink, Source, Status, write_all_of};
 use fuxi_terms::OutOfMemory;
-use input_lines::{content, event_status, is_skipped, lines_are_taken, stop_status};
+use input_lines::{content, event_status, is_skipped, law, stop_status};
 use std::alloc::Global;
 use work_text::read_work;
 use work_world::{WorkStop, Working};
@@ -115,7 +115,7 @@ fn run_lines<S: Source, O: Sink>(
     ensures stale { (fence : ℕ) → result ≢ Status.StaleEpoch fence }
     ensures damaged { (offset : ℕ) → result ≢ Status.DamagedCheckpoint offset }
 {
-    lines_are_taken();
+    law::lines_are_taken();
     for turn in 0..1_000_001u64 {
         match lines.next(source) {
             Ok(Got::Line) => {}

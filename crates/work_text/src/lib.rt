@@ -2,10 +2,11 @@
 #![tactic(auto)]
 
 mod form;
+pub mod law;
 mod make;
 mod output;
 mod read;
 
 pub use output::{Output, Why, write_line};
-pub use read::{lines_give_events, read_work};
+pub use read::read_work;
 pub use schedule_text::Kind;

@@ -1,6 +1,6 @@
 //! Event lines are read.
 
-ghost use Rattle.std.specs.Prelude.{◌≡◌, true, ℕ, ◌^◌, ◌<◌, IfOk, IfErr, Ok, Err, List, map, length};
+ghost use Rattle.std.specs.Prelude.{◌≡◌, true, ◌^◌, ◌<◌, IfOk, IfErr, Ok, Err, map, length};
 ghost use Rattle.schedule_text.specs.ReadEvents.{IsFault};
 ghost use Rattle.work_text.specs.WorkLineForms.{shape_of};
 ghost use Rattle.work_text.specs.ReadWorkEvents.{has_count, event_behind, work_of_words, work_of};
@@ -26,11 +26,6 @@ pub fn read_work(alloc: Global, line: &[u8]) -> Result<WorkEvent, LineFault>
         Err(fault) => Err(fault),
     }
 }
-
-/// What is read of a line is an event that a line can give, as a law of the definition. It does nothing.
-pub fn lines_give_events()
-    ensures { (line : List ℕ) → IfOk (work_of line) IsGiven }
-{}
 
 // The event of the words of a line.
 fn event_in(words: &[&[u8]]) -> Result<WorkEvent, LineFault>

@@ -11,8 +11,7 @@ use ledger_law::Key;
 use schedule_unit::{AppNo, UnitNo};
 use std::alloc::Global;
 use work_ends::{Ends, set_names};
-use work_plan::{Plan, Workers, plans_name_once};
-use written_work::workers_run_as_planned;
+use work_plan::{Plan, Workers};
 
 // No end appends so many entries: each takes a call, and this many take longer than a machine lasts.
 const MOST_ENTRIES: u64 = 1 << 62;
@@ -85,8 +84,8 @@ pub fn settle_peer(
     requires units { last ≤ most_units }
     ensures { OnOk result (SettlesPeer app.0 first last peer.old peer.new workers.old workers.new) }
 {
-    plans_name_once();
-    workers_run_as_planned();
+    work_plan::law::plans_name_once();
+    written_work::law::workers_run_as_planned();
     let plan = force_of(&peer.ends, &peer.plan);
     let _names = plan.entries();
     let numbers = settle_units(alloc, workers, app, plan, &peer.counts, first, last)?;

@@ -74,7 +74,7 @@ impl Working {
         act(self, alloc, event, out)
     }
 
-    /// Appends the lines of the state. After want of memory some of them may stand behind what was there.
+    /// Appends the lines of the state. After want of memory nothing is said of what stands in `out`.
     pub fn write_state(&self, out: &mut Vec<u8>) -> Result<(), OutOfMemory>
         requires { IsReached self.now }
         ensures { OnOk result ((w : World) → Stands self.now w → out.new.items ≡ out.old.items ++ lines_text (show w)) }

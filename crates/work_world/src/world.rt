@@ -13,7 +13,7 @@ use crate::working::Working;
 use fuxi_terms::OutOfMemory;
 use std::alloc::Global;
 use std::marker::Model;
-use written_work::{WorkEvent, every_world_runs_as_planned};
+use written_work::{WorkEvent, law};
 
 /// An agent and its applications, with all packets that were sent.
 ///
@@ -69,7 +69,7 @@ impl WorkWorld {
         ensures events { IfOk result (λ after. after.events ≡ self.events + 1) }
         ensures stops { IfErr result (StopsAs (λ w. work_step w event.now) self) }
     {
-        every_world_runs_as_planned();
+        law::every_world_runs_as_planned();
         let WorkWorld { mut working } = self;
         match working.step(alloc, event, out) {
             Ok(()) => Ok(WorkWorld { working }),
@@ -77,7 +77,7 @@ impl WorkWorld {
         }
     }
 
-    /// Appends the lines of the state. After want of memory some of them may stand behind what was there.
+    /// Appends the lines of the state. After want of memory nothing is said of what stands in `out`.
     pub fn write_state(&self, out: &mut Vec<u8>) -> Result<(), OutOfMemory>
         ensures { OnOk result ((w : World) → Stands self.now w → out.new.items ≡ out.old.items ++ lines_text (show w)) }
     {

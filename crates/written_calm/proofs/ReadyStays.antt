@@ -6,7 +6,7 @@ use Rattle.std.specs.List.{AllByRecursion, flat_map, list_all}
 use Rattle.std.proofs.lemmas.Bool.Decides.{nat_tests}
 use Rattle.fuxi_terms.specs.Cluster.{ClusterRecord}
 use Rattle.fuxi_terms.specs.Jobs.{KnownJob, job_of, unit_count, job_numbers}
-use Rattle.fuxi_terms.specs.Keys.{Spot}
+use Rattle.fuxi_terms.specs.Keys.{Spot, Pair}
 use Rattle.fuxi_terms.specs.Lists.{below}
 use Rattle.fuxi_terms.specs.Numbers.{has_number, with_number}
 use Rattle.fuxi_terms.specs.TallyKeys.{want_key}
@@ -36,7 +36,7 @@ number_passes n test (m ∷ ms) t h = by (λ k. number_passes n test ms t k) (na
         again true = or_right (nat_eq n m) (has_number n (filter test ms)) (rest h)
         again false = rest h
 
-pair_append : (p : ℕ × ℕ) (xs ys : List (ℕ × ℕ)) → has_pair p (xs ++ ys) ≡ (has_pair p xs || has_pair p ys)
+pair_append : (p : Pair) (xs ys : List Pair) → has_pair p (xs ++ ys) ≡ (has_pair p xs || has_pair p ys)
 pair_append p [] ys = refl
 pair_append p (x ∷ xs) ys = elim (nat_eq p.0 x.0 && nat_eq p.1 x.1) as (λ b. (b || has_pair p (xs ++ ys)) ≡ ((b || has_pair p xs) || has_pair p ys)) [ true ↦ refl | false ↦ pair_append p xs ys ]
 
@@ -48,7 +48,7 @@ pair_made a u (v ∷ vs) h = by (λ k. pair_made a u vs k) (nat_eq u v) refl h
     by rest true e _ = or_left (nat_eq a a && nat_eq u v) (has_pair (a, u) (map (λ u. (a, u)) vs)) (ap (λ b. b && nat_eq u v) (nat_itself a) ∙ e)
     by rest false e h = or_right (nat_eq a a && nat_eq u v) (has_pair (a, u) (map (λ u. (a, u)) vs)) (rest h)
 
-pair_in : (a u : ℕ) (f : ℕ → List (ℕ × ℕ)) (ns : List ℕ) → has_number a ns ≡ true → has_pair (a, u) (f a) ≡ true → has_pair (a, u) (flat_map f ns) ≡ true
+pair_in : (a u : ℕ) (f : ℕ → List Pair) (ns : List ℕ) → has_number a ns ≡ true → has_pair (a, u) (f a) ≡ true → has_pair (a, u) (flat_map f ns) ≡ true
 pair_in a u f [] h k = cc
 pair_in a u f (n ∷ ns) h k = pair_append (a, u) (f n) (flat_map f ns) ∙ by (λ g. pair_in a u f ns g k) (nat_eq a n) refl h
   where
@@ -71,15 +71,15 @@ all_waiting M = all_flat (λ p. nat_lt 0 (out M p.0 p.1) ≡ true) (λ a. map (�
     (λ a. all_mapped (λ p. nat_lt 0 (out M p.0 p.1) ≡ true) (λ u. (a, u)) (filter (λ u. nat_lt 0 (out M a u)) (below (unit_count M.jobs a))) (all_passed (λ u. nat_lt 0 (out M a u) ≡ true) (λ u. nat_lt 0 (out M a u)) (below (unit_count M.jobs a)) (λ u e. e)))
 
 -- A line that is up to date stays as it is
-all_pass : (test : ℕ × ℕ → Bool) (ps : List (ℕ × ℕ)) → AllByRecursion (λ p. test p ≡ true) ps → filter test ps ≡ ps
+all_pass : (test : Pair → Bool) (ps : List Pair) → AllByRecursion (λ p. test p ≡ true) ps → filter test ps ≡ ps
 all_pass test [] h = refl
 all_pass test (p ∷ ps) h = ap (λ b. cond b (p ∷ filter test ps) (filter test ps)) h.0 ∙ ap (λ l. p ∷ l) (all_pass test ps h.1)
 
-none_pass : (test : ℕ × ℕ → Bool) (ps : List (ℕ × ℕ)) → AllByRecursion (λ p. test p ≡ false) ps → filter test ps ≡ []
+none_pass : (test : Pair → Bool) (ps : List Pair) → AllByRecursion (λ p. test p ≡ false) ps → filter test ps ≡ []
 none_pass test [] h = refl
 none_pass test (p ∷ ps) h = ap (λ b. cond b (p ∷ filter test ps) (filter test ps)) h.0 ∙ none_pass test ps h.1
 
-append_none : (ps : List (ℕ × ℕ)) → ps ++ [] ≡ ps
+append_none : (ps : List Pair) → ps ++ [] ≡ ps
 append_none [] = refl
 append_none (p ∷ ps) = ap (λ l. p ∷ l) (append_none ps)
 

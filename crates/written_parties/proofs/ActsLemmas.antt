@@ -1,10 +1,10 @@
 -- From what one kind of party does to what all parties see.
-use Rattle.std.proofs.Common.{◌≡◌, ℕ, Bool, true, false, nat_eq, List, [], ◌∷◌, ◌++◌, Option, Some, None, refl, ◌∙◌, ap, subst, arith}
+use Rattle.std.proofs.Common.{◌≡◌, ℕ, Bool, false, nat_eq, List, [], ◌∷◌, ◌++◌, Option, Some, None, refl, ◌∙◌, ap, subst}
 use Rattle.std.specs.Prelude.{◌&&◌}
 use Rattle.std.specs.Option.{option_map}
 use Rattle.std.specs.Ordering.{nat_cmp}
 use Rattle.std.specs.FinMap.Entries.{find}
-use Rattle.std.proofs.lemmas.Bool.Decides.{nat_tests}
+use Rattle.fuxi_terms.proofs.Booleans.{eq_turned}
 use Rattle.fuxi_terms.specs.Padded.{padded}
 use Rattle.fuxi_terms.specs.Cluster.{machine_of}
 use Rattle.written_net.specs.Net.{Party, Id, same_party}
@@ -20,7 +20,7 @@ use Rattle.written_world.specs.World.{World, Agent, App}
 use Rattle.written_world.specs.Good.{Good}
 use Rattle.written_join.specs.SeenWorlds.{agent_seen, app_seen, master_seen}
 use Rattle.written_join.specs.PartyJoins.{OneActs, AgentActs, AppActs, MasterActs, MasterStarts as MasterStartsThere}
-use Rattle.written_parties.specs.SeenParties.{Kind, Masters, Agents, Apps, is_same, boot_of, OfMaster, OfAgent, OfApp, seen, Acts, MasterStarts, master_after}
+use Rattle.written_parties.specs.SeenParties.{Kind, Masters, Agents, Apps, is_same, boot_of, Role, OfMaster, OfAgent, OfApp, seen, Acts, MasterStarts, master_after}
 
 -- who a party of a kind and number is
 abbrev pub IsOf : Kind → ℕ → Party → Type 0
@@ -75,16 +75,23 @@ boots_stay w w' is Masters e = refl
 boots_stay w w' is Agents m = ap (λ b. b (agent_id m)) is
 boots_stay w w' is Apps a = ap (λ b. b (app_id a)) is
 
+-- one acts, and who runs beside it runs as before
+pub acted : (w w' : World) (k : Kind) (n : ℕ) (p : Party) (r : Role) (sent : List Parcel) → Good w → OneActs w.net w'.net p sent → IsOf k n p → seen w' k n ≡ Some r → w'.cluster ≡ w.cluster → w'.events ≡ w.events
+    → ((j : Kind) (m : ℕ) → is_same k n j m ≡ false → boot_of w' j m ≡ boot_of w j m) → ((j : Kind) (m : ℕ) → is_same k n j m ≡ false → RunsAlike w w' j m) → Acts w w' k n r sent
+acted w w' k n p r sent good acts is now cluster events boots runs = record {
+  now = now;
+  others = others_see w w' k n p sent good acts is cluster runs;
+  boots = boots;
+  packets = acts.packets;
+  cluster = cluster;
+  events = events;
+}
+
 -- An agent acts, and the agents are the same
 pub agent_acts : (w w' : World) (m : ℕ) (g : Agent) (r : AgentRole) (sent : List Parcel) → Good w → find nat_cmp m w.agents ≡ Some g → AgentActs w w' m g r sent → Acts w w' Agents m (OfAgent r) sent
-agent_acts w w' m g r sent good there h = record {
-  now = ap (option_map (λ g. OfAgent (agent_seen w' m g))) (ap (λ (v : World). find nat_cmp m v.agents) h.rest ∙ there) ∙ ap (λ r. Some (OfAgent r)) h.role;
-  others = others_see w w' Agents m (party (agent_id m) g.boot) sent good h.acts refl (ap (λ (v : World). v.cluster) h.rest) runs;
-  boots = λ j k _. boots_stay w w' (ap (λ (v : World). v.boots) h.rest) j k;
-  packets = h.acts.packets;
-  cluster = ap (λ (v : World). v.cluster) h.rest;
-  events = ap (λ (v : World). v.events) h.rest;
-}
+agent_acts w w' m g r sent good there h =
+    let now = ap (option_map (λ g. OfAgent (agent_seen w' m g))) (ap (λ (v : World). find nat_cmp m v.agents) h.rest ∙ there) ∙ ap (λ r. Some (OfAgent r)) h.role in
+    acted w w' Agents m (party (agent_id m) g.boot) (OfAgent r) sent good h.acts refl now (ap (λ (v : World). v.cluster) h.rest) (ap (λ (v : World). v.events) h.rest) (λ j k _. boots_stay w w' (ap (λ (v : World). v.boots) h.rest) j k) runs
   where
     runs : (j : Kind) (k : ℕ) → is_same Agents m j k ≡ false → RunsAlike w w' j k
     runs Masters k apart = ap (λ (v : World). find nat_cmp k v.masters) h.rest
@@ -94,36 +101,23 @@ agent_acts w w' m g r sent good there h = record {
 -- an application acts: it runs then as this one, and the others run as they did
 pub app_acts : (w w' : World) (a : ℕ) (g now : App) (r : AppRole) (sent : List Parcel) → Good w → find nat_cmp a w'.apps ≡ Some now → ((b : ℕ) → nat_eq a b ≡ false → find nat_cmp b w'.apps ≡ find nat_cmp b w.apps)
     → AppActs w w' a g now r sent → Acts w w' Apps a (OfApp r) sent
-app_acts w w' a g now r sent good there others h = record {
-  now = ap (option_map (λ g. OfApp (app_seen w' a g))) there ∙ ap (λ r. Some (OfApp r)) h.role;
-  others = others_see w w' Apps a (party (app_id a) g.boot) sent good h.acts refl (ap (λ (v : World). v.cluster) h.rest) runs;
-  boots = λ j k _. boots_stay w w' (ap (λ (v : World). v.boots) h.rest) j k;
-  packets = h.acts.packets;
-  cluster = ap (λ (v : World). v.cluster) h.rest;
-  events = ap (λ (v : World). v.events) h.rest;
-}
+app_acts w w' a g now r sent good there others h =
+    let now = ap (option_map (λ g. OfApp (app_seen w' a g))) there ∙ ap (λ r. Some (OfApp r)) h.role in
+    acted w w' Apps a (party (app_id a) g.boot) (OfApp r) sent good h.acts refl now (ap (λ (v : World). v.cluster) h.rest) (ap (λ (v : World). v.events) h.rest) (λ j k _. boots_stay w w' (ap (λ (v : World). v.boots) h.rest) j k) runs
   where
     runs : (j : Kind) (k : ℕ) → is_same Apps a j k ≡ false → RunsAlike w w' j k
     runs Masters k apart = ap (λ (v : World). find nat_cmp k v.masters) h.rest
     runs Agents k apart = ap (λ (v : World). find nat_cmp k v.agents) h.rest
     runs Apps k apart = others k apart
 
-turned : (a b : ℕ) → nat_eq a b ≡ false → nat_eq b a ≡ false
-turned a b e = grind (arith, nat_tests, e)
-
 -- a master acts that is of this epoch, before and after
 master_acts_as : (w w' : World) (e : ℕ) (M R : Master) (r : MasterRole) (sent : List Parcel) → Good w → M.epoch ≡ e → find nat_cmp e w'.masters ≡ Some R → MasterActs w w' M R r sent → Acts w w' Masters e (OfMaster r) sent
-master_acts_as w w' e M R r sent good epoch there h = record {
-  now = ap (option_map (λ M. OfMaster (master_seen w' M))) there ∙ ap (λ r. Some (OfMaster r)) h.role;
-  others = others_see w w' Masters e (master_party M) sent good h.acts (ap (party master_id) epoch) (ap (λ (v : World). v.cluster) h.rest) runs;
-  boots = λ j k _. boots_stay w w' (ap (λ (v : World). v.boots) h.rest) j k;
-  packets = h.acts.packets;
-  cluster = ap (λ (v : World). v.cluster) h.rest;
-  events = ap (λ (v : World). v.events) h.rest;
-}
+master_acts_as w w' e M R r sent good epoch there h =
+    let now = ap (option_map (λ M. OfMaster (master_seen w' M))) there ∙ ap (λ r. Some (OfMaster r)) h.role in
+    acted w w' Masters e (master_party M) (OfMaster r) sent good h.acts (ap (party master_id) epoch) now (ap (λ (v : World). v.cluster) h.rest) (ap (λ (v : World). v.events) h.rest) (λ j k _. boots_stay w w' (ap (λ (v : World). v.boots) h.rest) j k) runs
   where
     runs : (j : Kind) (k : ℕ) → is_same Masters e j k ≡ false → RunsAlike w w' j k
-    runs Masters k apart = h.others k (ap (nat_eq k) (h.epoch ∙ epoch) ∙ turned e k apart)
+    runs Masters k apart = h.others k (ap (nat_eq k) (h.epoch ∙ epoch) ∙ eq_turned k e ∙ apart)
     runs Agents k apart = ap (λ (v : World). find nat_cmp k v.agents) h.rest
     runs Apps k apart = ap (λ (v : World). find nat_cmp k v.apps) h.rest
 

@@ -1,16 +1,13 @@
 -- What comes to a party, its turns, its resyncs, its commands and its starts.
-use Rattle.std.proofs.Common.{◌≡◌, ℕ, ◌+◌, Bool, true, false, cond, nat_eq, List, [], ◌∷◌, ◌++◌, length, drop, Option, Some, None, Result, Ok, Err, slice_get, refl, sym, ◌∙◌, ap, subst, arith}
+use Rattle.std.proofs.Common.{◌≡◌, ℕ, ◌+◌, Bool, true, false, cond, nat_eq, List, [], ◌∷◌, length, drop, Option, Some, None, Result, Ok, Err, slice_get, refl, sym, ◌∙◌, ap, subst}
 use Rattle.std.specs.Option.{option_map}
-use Rattle.std.specs.Ordering.{nat_cmp, is_eq, eq_by_cmp}
-use Rattle.std.specs.Cmp.{nat_cmp_total, tied_itself}
-use Rattle.std.specs.FinMap.Entries.{find, put, find-put}
+use Rattle.std.specs.Ordering.{nat_cmp}
+use Rattle.std.specs.FinMap.Entries.{find}
 use Rattle.std.specs.Prelude.{◌&&◌, ◌||◌}
-use Rattle.std.proofs.lemmas.Bool.Decides.{nat_tests}
 use Rattle.fuxi_terms.specs.Cluster.{has_machine}
 use Rattle.fuxi_terms.specs.Counts.{then_do}
 use Rattle.fuxi_terms.specs.Jobs.{is_known}
-use Rattle.fuxi_terms.proofs.Booleans.{number_is}
-use Rattle.written_net.specs.Ledgers.{Ledger}
+use Rattle.fuxi_terms.proofs.Booleans.{eq_turned, nat_itself, number_is}
 use Rattle.written_net.specs.Net.{Party, Id, Packet, Heard, heard_of, last}
 use Rattle.written_net.specs.Channels.{master_id, agent_id, app_id, party, is_master, is_agent, is_app, shape}
 use Rattle.written_net.specs.Sound.{Sound}
@@ -29,9 +26,11 @@ use Rattle.written_world.specs.Events.{addressed, heard_by, turned, resynced as 
 use Rattle.written_join.specs.SeenWorlds.{agent_seen, app_seen, master_seen, parcel_of}
 use Rattle.written_join.specs.PartyJoins.{AgentActs, AppActs, MasterActs, AgentHearsAlike, AppHearsAlike, MasterHearsAlike, AppCommanded, MasterCommanded, AgentStarts as AgentStartsThere, AppStarts as AppStartsThere, Leads}
 use Rattle.written_join.specs.Leading.{AllLead, report_excess}
-use Rattle.written_parties.specs.SeenParties.{Kind, Masters, Agents, Apps, IsFor, boot_of, is_same, OfMaster, OfAgent, OfApp, HeardAlone, hears, seen, IsRuled, Acts, Keeps, HearsIn, ComesTo, StepsIn, TakesTurn, turn_lines, Resyncs, AsksAs, Asks, GovernsAs, Governs, AgentStarts, AppStarts}
+use Rattle.written_parties.specs.SeenParties.{Kind, Masters, Agents, Apps, IsFor, boot_of, is_same, OfMaster, OfAgent, OfApp, HeardAlone, hears, seen, IsRuled, Acts, Keeps, HearsIn, ComesTo, TakesTurn, TurnsAs, turn_lines, Resyncs, ResyncsAs, Role, AsksAs, Asks, GovernsAs, Governs, AgentStarts, AppStarts}
+use Rattle.written_roles.proofs.MapLemmas.{put_beside}
+use Rattle.written_world.proofs.StartsLemmas.{put_here}
 use Rattle.written_parties.proofs.WordsAreRuled.{hear_ruled}
-use Rattle.written_parties.proofs.ActsLemmas.{agent_acts, app_acts, master_acts, others_see, RunsAlike}
+use Rattle.written_parties.proofs.ActsLemmas.{acted, agent_acts, app_acts, master_acts, RunsAlike}
 
 -- The laws of the join that are used
 pub record Joins : Type 0 where
@@ -45,22 +44,13 @@ pub record Joins : Type 0 where
   pub app_resyncs : (w : World) (a : ℕ) (g : App) → Sound shape w.net → AppActs w (resynced_in w (party (app_id a) g.boot) (master_id ∷ [])).world a g g (app_resynced (app_seen w a g)) []
   pub master_resyncs : (w : World) (M : Master) → Sound shape w.net → MasterActs w (resynced_in w (master_party M) (peers w.cluster M)).world M M (master_resynced (master_seen w M)) []
 
--- What is put into a list and what is found then
-found_put : {X : Type 0} (n : ℕ) (x : X) (xs : List (ℕ × X)) → find nat_cmp n (put nat_cmp n x xs) ≡ Some x
-found_put n x xs = find-put nat_cmp nat_cmp_total n n x xs ∙ ap (λ r. cond (is_eq r) (Some x) (find nat_cmp n xs)) (tied_itself nat_cmp_total n)
-
-same_number : (n m : ℕ) → nat_eq n m ≡ false → eq_by_cmp nat_cmp m n ≡ false
-same_number n m other = grind (arith, nat_tests, other)
-
-found_other : {X : Type 0} (n m : ℕ) (x : X) (xs : List (ℕ × X)) → nat_eq n m ≡ false → find nat_cmp m (put nat_cmp n x xs) ≡ find nat_cmp m xs
-found_other n m x xs other = find-put nat_cmp nat_cmp_total m n x xs ∙ ap (λ t. cond t (Some x) (find nat_cmp m xs)) (same_number n m other)
-
 -- Who does not run
 none_found : {A : Type 0} (w : World) (o : Option A) (f : A → Step) → o ≡ None → with_found o (refused w NotRunning) f ≡ refused w NotRunning
 none_found w o f is = ap (λ o. with_found o (refused w NotRunning) f) is
 
-one_found : {A : Type 0} (w : World) (o : Option A) (g : A) (f : A → Step) → o ≡ Some g → with_found o (refused w NotRunning) f ≡ f g
-one_found w o g f is = ap (λ o. with_found o (refused w NotRunning) f) is
+found_as : {A : Type 0} (w : World) (P : Step → Option Role → Type 0) (role : A → Role) (f : A → Step) (o : Option A) → P (refused w NotRunning) None → ((x : A) → o ≡ Some x → P (f x) (Some (role x))) → P (with_found o (refused w NotRunning) f) (option_map role o)
+found_as w P role f None none some = none
+found_as w P role f (Some x) none some = some x refl
 
 -- Hearing. Who is no master
 peer_hears : (w w' : World) (k : Kind) (n : ℕ) (p : Party) (x : Packet) (h : HeardAlone) → Acts w w' k n h.role [] → Keeps w w' → h.fresh ≡ (heard_of w.net p is_master x).fresh → h.what ≡ (heard_of w.net p is_master x).what
@@ -84,7 +74,7 @@ app_comes : (w : World) (a : ℕ) (g : App) (x : Packet) → Good w → AppHears
 app_comes w a g x good join =
     let is = ap (λ (v : World). v.apps) join.is in
     peer_hears w (app_hears w a g x) Apps a (party (app_id a) g.boot) x _
-    (app_acts w (app_hears w a g x) a g join.now _ [] good (ap (find nat_cmp a) is ∙ found_put a join.now w.apps) (λ b other. ap (find nat_cmp b) is ∙ found_other a b join.now w.apps other) join.acts)
+    (app_acts w (app_hears w a g x) a g join.now _ [] good (ap (find nat_cmp a) is ∙ put_here a join.now w.apps) (λ b other. ap (find nat_cmp b) is ∙ put_beside a b join.now w.apps (eq_turned b a ∙ other)) join.acts)
     (record { boots = refl; hard = refl }) join.fresh join.what
 
 master_comes : (w : World) (e : ℕ) (M : Master) (x : Packet) → Good w → find nat_cmp e w.masters ≡ Some M → MasterHearsAlike (kept_excess w.cluster M) w M x
@@ -117,41 +107,23 @@ answer w x d inc =
 hears_along : (w w' v : World) (a b : Option Heard) (k : Kind) (n : ℕ) (h : HeardAlone) → w' ≡ v → a ≡ b → HearsIn w v b k n h → HearsIn w w' a k n h
 hears_along w w' v a b k n h e f s = subst (λ u. HearsIn w u a k n h) (sym e) (subst (λ o. HearsIn w v o k n h) (sym f) s)
 
+found_comes : {A : Type 0} (w : World) (k : Kind) (n : ℕ) (x : Packet) (role : A → Role) (to : A → World) (heard : A → Heard) (o : Option A) → addressed w x ≡ with_found o w to → heard_by w x ≡ with_found o None (λ g. Some (heard g))
+    → ((g : A) → o ≡ Some g → HearsIn w (to g) (Some (heard g)) k n (hears (role g) (parcel_of w.net x))) → ComesTo w k n x (option_map role o)
+found_comes w k n x role to heard None same answers h = record { answers = answers; same = same }
+found_comes w k n x role to heard (Some g) same answers h = hears_along w (addressed w x) (to g) (heard_by w x) _ k n _ same answers (h g refl)
+
 pub comes_to : Joins → (w : World) (k : Kind) (n which : ℕ) (x : Packet) → Good w → AllLead w → slice_get w.net.packets which ≡ Some x → IsFor x k n → ComesTo w k n x (seen w k n)
 unfolding reach answer
-comes_to joins w Masters e which x good leads at to = by (find nat_cmp e w.masters) refl
-  where
-    by : (o : Option Master) → find nat_cmp e w.masters ≡ o → ComesTo w Masters e x (option_map (λ M. OfMaster (master_seen w M)) o)
-    by None is = record {
-      answers = ap (λ d. answer w x d x.to.inc) to.0 ∙ ap (answer w x master_id) to.1 ∙ ap (λ o. with_found o None (λ M. Some (heard_of w.net (master_party M) (talks w.cluster M) x))) is;
-      same = ap (λ d. reach w x d x.to.inc) to.0 ∙ ap (reach w x master_id) to.1 ∙ ap (λ o. with_found o w (λ M. master_hears w M x)) is;
-    }
-    by (Some M) is = hears_along w (addressed w x) (master_hears w M x) (heard_by w x) _ Masters e _
-        (ap (λ d. reach w x d x.to.inc) to.0 ∙ ap (reach w x master_id) to.1 ∙ ap (λ o. with_found o w (λ M. master_hears w M x)) is)
-        (ap (λ d. answer w x d x.to.inc) to.0 ∙ ap (answer w x master_id) to.1 ∙ ap (λ o. with_found o None (λ M. Some (heard_of w.net (master_party M) (talks w.cluster M) x))) is)
-        (master_comes w e M x good is (joins.master w M which x at good leads to.0))
-comes_to joins w Agents m which x good leads at to = by (find nat_cmp m w.agents) refl
-  where
-    by : (o : Option Agent) → find nat_cmp m w.agents ≡ o → ComesTo w Agents m x (option_map (λ g. OfAgent (agent_seen w m g)) o)
-    by None is = record {
-      answers = ap (λ d. answer w x d x.to.inc) to ∙ ap (λ o. with_found o None (λ g. Some (heard_of w.net (party (agent_id m) g.boot) is_master x))) is;
-      same = ap (λ d. reach w x d x.to.inc) to ∙ ap (λ o. with_found o w (λ g. agent_hears w m g x)) is;
-    }
-    by (Some g) is = hears_along w (addressed w x) (agent_hears w m g x) (heard_by w x) _ Agents m _
-        (ap (λ d. reach w x d x.to.inc) to ∙ ap (λ o. with_found o w (λ g. agent_hears w m g x)) is)
-        (ap (λ d. answer w x d x.to.inc) to ∙ ap (λ o. with_found o None (λ g. Some (heard_of w.net (party (agent_id m) g.boot) is_master x))) is)
-        (agent_comes w m g x good is (joins.agent w m g which x at good leads is to))
-comes_to joins w Apps a which x good leads at to = by (find nat_cmp a w.apps) refl
-  where
-    by : (o : Option App) → find nat_cmp a w.apps ≡ o → ComesTo w Apps a x (option_map (λ g. OfApp (app_seen w a g)) o)
-    by None is = record {
-      answers = ap (λ d. answer w x d x.to.inc) to ∙ ap (λ o. with_found o None (λ g. Some (heard_of w.net (party (app_id a) g.boot) is_master x))) is;
-      same = ap (λ d. reach w x d x.to.inc) to ∙ ap (λ o. with_found o w (λ g. app_hears w a g x)) is;
-    }
-    by (Some g) is = hears_along w (addressed w x) (app_hears w a g x) (heard_by w x) _ Apps a _
-        (ap (λ d. reach w x d x.to.inc) to ∙ ap (λ o. with_found o w (λ g. app_hears w a g x)) is)
-        (ap (λ d. answer w x d x.to.inc) to ∙ ap (λ o. with_found o None (λ g. Some (heard_of w.net (party (app_id a) g.boot) is_master x))) is)
-        (app_comes w a g x good (joins.app w a g which x at good leads is to))
+comes_to joins w Masters e which x good leads at to =
+    found_comes w Masters e x (λ M. OfMaster (master_seen w M)) (λ M. master_hears w M x) (λ M. heard_of w.net (master_party M) (talks w.cluster M) x) (find nat_cmp e w.masters)
+    (ap (λ d. reach w x d x.to.inc) to.0 ∙ ap (reach w x master_id) to.1) (ap (λ d. answer w x d x.to.inc) to.0 ∙ ap (answer w x master_id) to.1)
+    (λ M is. master_comes w e M x good is (joins.master w M which x at good leads to.0))
+comes_to joins w Agents m which x good leads at to =
+    found_comes w Agents m x (λ g. OfAgent (agent_seen w m g)) (λ g. agent_hears w m g x) (λ g. heard_of w.net (party (agent_id m) g.boot) is_master x) (find nat_cmp m w.agents)
+    (ap (λ d. reach w x d x.to.inc) to) (ap (λ d. answer w x d x.to.inc) to) (λ g is. agent_comes w m g x good is (joins.agent w m g which x at good leads is to))
+comes_to joins w Apps a which x good leads at to =
+    found_comes w Apps a x (λ g. OfApp (app_seen w a g)) (λ g. app_hears w a g x) (λ g. heard_of w.net (party (app_id a) g.boot) is_master x) (find nat_cmp a w.apps)
+    (ap (λ d. reach w x d x.to.inc) to) (ap (λ d. answer w x d x.to.inc) to) (λ g is. app_comes w a g x good (joins.app w a g which x at good leads is to))
 
 -- Turns. One that sends nothing prints nothing
 drop_all : {X : Type 0} (xs : List X) → drop (length xs) xs ≡ []
@@ -170,63 +142,23 @@ turns_so w p = by (nat_eq (w.net.links p master_id).known 0)
     by true = record { keeps = record { boots = refl; hard = refl }; apps = refl; lines = sym (ap (sent_lines w.net (length w.net.packets + 1)) (drop_all w.net.packets)) }
     by false = record { keeps = record { boots = refl; hard = refl }; apps = refl; lines = refl }
 
-abbrev MasterTurns : World → ℕ → Master → Step → Type 0
-MasterTurns w e M s = StepsIn w Masters e (OfMaster (master_seen w M)) (master_turn (master_seen w M)) s (turn_lines w s)
-
-abbrev AgentTurns : World → ℕ → Agent → Step → Type 0
-AgentTurns w m g s = StepsIn w Agents m (OfAgent (agent_seen w m g)) (agent_turn (agent_seen w m g)) s (turn_lines w s)
-
-abbrev AppTurns : World → ℕ → App → Step → Type 0
-AppTurns w a g s = StepsIn w Apps a (OfApp (app_seen w a g)) (app_turn (app_seen w a g)) s (turn_lines w s)
-
 pub takes_turn : Joins → (w : World) (k : Kind) (n : ℕ) → Good w → TakesTurn w k n (seen w k n)
-takes_turn joins w Masters e good = by (find nat_cmp e w.masters) refl
-  where
-    by : (o : Option Master) → find nat_cmp e w.masters ≡ o → TakesTurn w Masters e (option_map (λ M. OfMaster (master_seen w M)) o)
-    by None is = none_found w _ (λ M. turned w (master_party M) (peers w.cluster M)) is
-    by (Some M) is =
-        subst (MasterTurns w e M) (sym (one_found w _ M (λ M. turned w (master_party M) (peers w.cluster M)) is))
-        (record { acts = master_acts w _ e M M _ _ good is (joins.master_turns w M good.stands.sound); keeps = record { boots = refl; hard = refl }; lines = refl })
-takes_turn joins w Agents m good = by (find nat_cmp m w.agents) refl
-  where
-    by : (o : Option Agent) → find nat_cmp m w.agents ≡ o → TakesTurn w Agents m (option_map (λ g. OfAgent (agent_seen w m g)) o)
-    by None is = none_found w _ (λ g. turn_to_master w (party (agent_id m) g.boot)) is
-    by (Some g) is =
-        let so = turns_so w (party (agent_id m) g.boot) in
-        subst (AgentTurns w m g) (sym (one_found w _ g (λ g. turn_to_master w (party (agent_id m) g.boot)) is))
-        (record { acts = agent_acts w _ m g _ _ good is (joins.agent_turns w m g good.stands.sound); keeps = so.keeps; lines = so.lines })
-takes_turn joins w Apps a good = by (find nat_cmp a w.apps) refl
-  where
-    by : (o : Option App) → find nat_cmp a w.apps ≡ o → TakesTurn w Apps a (option_map (λ g. OfApp (app_seen w a g)) o)
-    by None is = none_found w _ (λ g. turn_to_master w (party (app_id a) g.boot)) is
-    by (Some g) is =
-        let so = turns_so w (party (app_id a) g.boot) in
-        subst (AppTurns w a g) (sym (one_found w _ g (λ g. turn_to_master w (party (app_id a) g.boot)) is))
-        (record { acts = app_acts w _ a g g _ _ good (ap (find nat_cmp a) so.apps ∙ is) (λ b _. ap (find nat_cmp b) so.apps) (joins.app_turns w a g good.stands.sound); keeps = so.keeps; lines = so.lines })
+takes_turn joins w Masters e good = found_as w (TurnsAs w Masters e) (λ M. OfMaster (master_seen w M)) (λ M. turned w (master_party M) (peers w.cluster M)) (find nat_cmp e w.masters) refl
+    (λ M is. record { acts = master_acts w _ e M M _ _ good is (joins.master_turns w M good.stands.sound); keeps = record { boots = refl; hard = refl }; lines = refl })
+takes_turn joins w Agents m good = found_as w (TurnsAs w Agents m) (λ g. OfAgent (agent_seen w m g)) (λ g. turn_to_master w (party (agent_id m) g.boot)) (find nat_cmp m w.agents) refl
+    (λ g is. let so = turns_so w (party (agent_id m) g.boot) in record { acts = agent_acts w _ m g _ _ good is (joins.agent_turns w m g good.stands.sound); keeps = so.keeps; lines = so.lines })
+takes_turn joins w Apps a good = found_as w (TurnsAs w Apps a) (λ g. OfApp (app_seen w a g)) (λ g. turn_to_master w (party (app_id a) g.boot)) (find nat_cmp a w.apps) refl
+    (λ g is. let so = turns_so w (party (app_id a) g.boot) in
+    record { acts = app_acts w _ a g g _ _ good (ap (find nat_cmp a) so.apps ∙ is) (λ b _. ap (find nat_cmp b) so.apps) (joins.app_turns w a g good.stands.sound); keeps = so.keeps; lines = so.lines })
 
 -- Resyncs
 pub resyncs : Joins → (w : World) (k : Kind) (n : ℕ) → Good w → Resyncs w k n (seen w k n)
-resyncs joins w Masters e good = by (find nat_cmp e w.masters) refl
-  where
-    by : (o : Option Master) → find nat_cmp e w.masters ≡ o → Resyncs w Masters e (option_map (λ M. OfMaster (master_seen w M)) o)
-    by None is = none_found w _ (λ M. resynced_in w (master_party M) (peers w.cluster M)) is
-    by (Some M) is =
-        subst (λ s. StepsIn w Masters e (OfMaster (master_resynced (master_seen w M))) [] s []) (sym (one_found w _ M (λ M. resynced_in w (master_party M) (peers w.cluster M)) is))
-        (record { acts = master_acts w _ e M M _ _ good is (joins.master_resyncs w M good.stands.sound); keeps = record { boots = refl; hard = refl }; lines = refl })
-resyncs joins w Agents m good = by (find nat_cmp m w.agents) refl
-  where
-    by : (o : Option Agent) → find nat_cmp m w.agents ≡ o → Resyncs w Agents m (option_map (λ g. OfAgent (agent_seen w m g)) o)
-    by None is = none_found w _ (λ g. resynced_in w (party (agent_id m) g.boot) (master_id ∷ [])) is
-    by (Some g) is =
-        subst (λ s. StepsIn w Agents m (OfAgent (agent_resynced (agent_seen w m g))) [] s []) (sym (one_found w _ g (λ g. resynced_in w (party (agent_id m) g.boot) (master_id ∷ [])) is))
-        (record { acts = agent_acts w _ m g _ _ good is (joins.agent_resyncs w m g good.stands.sound); keeps = record { boots = refl; hard = refl }; lines = refl })
-resyncs joins w Apps a good = by (find nat_cmp a w.apps) refl
-  where
-    by : (o : Option App) → find nat_cmp a w.apps ≡ o → Resyncs w Apps a (option_map (λ g. OfApp (app_seen w a g)) o)
-    by None is = none_found w _ (λ g. resynced_in w (party (app_id a) g.boot) (master_id ∷ [])) is
-    by (Some g) is =
-        subst (λ s. StepsIn w Apps a (OfApp (app_resynced (app_seen w a g))) [] s []) (sym (one_found w _ g (λ g. resynced_in w (party (app_id a) g.boot) (master_id ∷ [])) is))
-        (record { acts = app_acts w _ a g g _ _ good is (λ b _. refl) (joins.app_resyncs w a g good.stands.sound); keeps = record { boots = refl; hard = refl }; lines = refl })
+resyncs joins w Masters e good = found_as w (ResyncsAs w Masters e) (λ M. OfMaster (master_seen w M)) (λ M. resynced_in w (master_party M) (peers w.cluster M)) (find nat_cmp e w.masters) refl
+    (λ M is. record { acts = master_acts w _ e M M _ _ good is (joins.master_resyncs w M good.stands.sound); keeps = record { boots = refl; hard = refl }; lines = refl })
+resyncs joins w Agents m good = found_as w (ResyncsAs w Agents m) (λ g. OfAgent (agent_seen w m g)) (λ g. resynced_in w (party (agent_id m) g.boot) (master_id ∷ [])) (find nat_cmp m w.agents) refl
+    (λ g is. record { acts = agent_acts w _ m g _ _ good is (joins.agent_resyncs w m g good.stands.sound); keeps = record { boots = refl; hard = refl }; lines = refl })
+resyncs joins w Apps a good = found_as w (ResyncsAs w Apps a) (λ g. OfApp (app_seen w a g)) (λ g. resynced_in w (party (app_id a) g.boot) (master_id ∷ [])) (find nat_cmp a w.apps) refl
+    (λ g is. record { acts = app_acts w _ a g g _ _ good is (λ b _. refl) (joins.app_resyncs w a g good.stands.sound); keeps = record { boots = refl; hard = refl }; lines = refl })
 
 -- Commands
 tested : World → (World → Step) → Option Refusal → Step
@@ -316,27 +248,18 @@ governs_in join w e x good = by (find nat_cmp e w.masters) refl
     by (Some M) is = governed w e M x good is (join w e M x good.stands.sound is)
 
 -- Starts
-itself : (n : ℕ) → nat_eq n n ≡ true
-itself n = grind (arith, nat_tests)
-
 pub agent_starts : (w : World) (m b : ℕ) → Good w → AgentStartsThere w m b → AgentStarts w m b
 agent_starts w m b good h =
     let w' = agent_started w m b in
+    let now = ap (option_map (λ g. OfAgent (agent_seen w' m g))) (ap (find nat_cmp m) h.stands ∙ put_here m h.now w.agents) ∙ ap (λ r. Some (OfAgent r)) h.role in
     record {
-      acts = record {
-        now = ap (option_map (λ g. OfAgent (agent_seen w' m g))) (ap (find nat_cmp m) h.stands ∙ found_put m h.now w.agents) ∙ ap (λ r. Some (OfAgent r)) h.role;
-        others = others_see w w' Agents m (party (agent_id m) b) [] good h.acts refl refl alike;
-        boots = kept;
-        packets = h.acts.packets;
-        cluster = refl;
-        events = refl;
-      };
-      boot = ap (λ t. cond t b (w.boots (agent_id m))) (itself m);
+      acts = acted w w' Agents m (party (agent_id m) b) _ [] good h.acts refl now refl refl kept alike;
+      boot = ap (λ t. cond t b (w.boots (agent_id m))) (nat_itself m);
     }
   where
     alike : (j : Kind) (k : ℕ) → is_same Agents m j k ≡ false → RunsAlike w (agent_started w m b) j k
     alike Masters k other = refl
-    alike Agents k other = ap (find nat_cmp k) h.stands ∙ found_other m k h.now w.agents other
+    alike Agents k other = ap (find nat_cmp k) h.stands ∙ put_beside m k h.now w.agents (eq_turned k m ∙ other)
     alike Apps k other = refl
 
     kept : (j : Kind) (k : ℕ) → is_same Agents m j k ≡ false → boot_of (agent_started w m b) j k ≡ boot_of w j k
@@ -347,22 +270,16 @@ agent_starts w m b good h =
 pub app_starts : (w : World) (a b : ℕ) → Good w → AppStartsThere w a b → AppStarts w a b
 app_starts w a b good h =
     let w' = app_started w a b in
+    let now = ap (option_map (λ g. OfApp (app_seen w' a g))) (ap (find nat_cmp a) h.stands ∙ put_here a h.now w.apps) ∙ ap (λ r. Some (OfApp r)) h.role in
     record {
-      acts = record {
-        now = ap (option_map (λ g. OfApp (app_seen w' a g))) (ap (find nat_cmp a) h.stands ∙ found_put a h.now w.apps) ∙ ap (λ r. Some (OfApp r)) h.role;
-        others = others_see w w' Apps a (party (app_id a) b) [] good h.acts refl refl alike;
-        boots = kept;
-        packets = h.acts.packets;
-        cluster = refl;
-        events = refl;
-      };
-      boot = ap (λ t. cond t b (w.boots (app_id a))) (itself a);
+      acts = acted w w' Apps a (party (app_id a) b) _ [] good h.acts refl now refl refl kept alike;
+      boot = ap (λ t. cond t b (w.boots (app_id a))) (nat_itself a);
     }
   where
     alike : (j : Kind) (k : ℕ) → is_same Apps a j k ≡ false → RunsAlike w (app_started w a b) j k
     alike Masters k other = refl
     alike Agents k other = refl
-    alike Apps k other = ap (find nat_cmp k) h.stands ∙ found_other a k h.now w.apps other
+    alike Apps k other = ap (find nat_cmp k) h.stands ∙ put_beside a k h.now w.apps (eq_turned k a ∙ other)
 
     kept : (j : Kind) (k : ℕ) → is_same Apps a j k ≡ false → boot_of (app_started w a b) j k ≡ boot_of w j k
     kept Masters k other = refl

@@ -6,7 +6,7 @@ use Rattle.std.specs.FinMap.Entries.{find}
 use Rattle.fuxi_terms.specs.declared.answers.What.{What}
 use Rattle.fuxi_terms.specs.declared.answers.What.TheVariants.{Stranger, Stale, Ack, NotMine, Old, Gap, Taken, Ledger, Exceeds}
 use Rattle.fuxi_terms.specs.Jobs.{unit_count}
-use Rattle.written_net.specs.Net.{Id, Packet, Heard}
+use Rattle.written_net.specs.Net.{Packet, Heard}
 use Rattle.written_net.specs.Channels.{master_id, agent_id, app_id, party}
 use Rattle.written_net.specs.Sides.{Parcel}
 use Rattle.written_roles.specs.Refusals.{Refusal, NotRunning}
@@ -141,9 +141,12 @@ turn_of w Apps a = turn_app w a
 abbrev pub turn_lines : World → Step → List Line
 turn_lines w s = sent_lines s.world.net (length w.net.packets + 1) (drop (length w.net.packets) s.world.net.packets)
 
+abbrev pub TurnsAs : World → Kind → ℕ → Step → Option Role → Type 0
+TurnsAs w k n s None = s ≡ refused w NotRunning
+TurnsAs w k n s (Some r) = StepsIn w k n r (turn r) s (turn_lines w s)
+
 abbrev pub TakesTurn : World → Kind → ℕ → Option Role → Type 0
-TakesTurn w k n None = turn_of w k n ≡ refused w NotRunning
-TakesTurn w k n (Some r) = StepsIn w k n r (turn r) (turn_of w k n) (turn_lines w (turn_of w k n))
+TakesTurn w k n o = TurnsAs w k n (turn_of w k n) o
 
 -- A resync, which prints nothing
 abbrev pub resync_of : World → Kind → ℕ → Step
@@ -151,9 +154,12 @@ resync_of w Masters e = resync_master w e
 resync_of w Agents m = resync_agent w m
 resync_of w Apps a = resync_app w a
 
+abbrev pub ResyncsAs : World → Kind → ℕ → Step → Option Role → Type 0
+ResyncsAs w k n s None = s ≡ refused w NotRunning
+ResyncsAs w k n s (Some r) = StepsIn w k n (resynced r) [] s []
+
 abbrev pub Resyncs : World → Kind → ℕ → Option Role → Type 0
-Resyncs w k n None = resync_of w k n ≡ refused w NotRunning
-Resyncs w k n (Some r) = StepsIn w k n (resynced r) [] (resync_of w k n) []
+Resyncs w k n o = ResyncsAs w k n (resync_of w k n) o
 
 -- A command of an application, which is done and prints nothing, or is refused
 abbrev pub AsksAs : World → ℕ → Step → Result AppRole Refusal → Type 0

@@ -8,7 +8,7 @@ use Rattle.fuxi_terms.specs.Counts.{count}
 use Rattle.fuxi_terms.specs.Jobs.{is_live}
 use Rattle.fuxi_terms.specs.Keys.{Spot, spot_cmp}
 use Rattle.fuxi_terms.specs.Numbers.{has_number, with_number}
-use Rattle.fuxi_terms.specs.Tables.{spot, with_grant, without_grants}
+use Rattle.fuxi_terms.specs.Tables.{spot, with_grant, without_grants, Table}
 use Rattle.fuxi_terms.proofs.Booleans.{both_true, either, number_is}
 use Rattle.fuxi_terms.proofs.CountsLemmas.{tied}
 use Rattle.fuxi_terms.proofs.KeyOrders.{same_spot}
@@ -29,7 +29,7 @@ turned true e = cc
 turned false e = refl
 
 -- a grant on a machine that is not banned leaves the others bare
-grant_bare : (bans : List ℕ) (table : List (Spot × ℕ)) (s q : Spot) → has_number s.machine bans ≡ false → has_number q.machine bans ≡ true → count spot_cmp table q ≡ 0 → count spot_cmp (with_grant table s) q ≡ 0
+grant_bare : (bans : List ℕ) (table : Table) (s q : Spot) → has_number s.machine bans ≡ false → has_number q.machine bans ≡ true → count spot_cmp table q ≡ 0 → count spot_cmp (with_grant table s) q ≡ 0
 grant_bare bans table s q free banned none = count_granted table s q ∙ by (eq_by_cmp spot_cmp q s) refl
   where
     by : (b : Bool) → eq_by_cmp spot_cmp q s ≡ b → cond b (count spot_cmp table s + 1) (count spot_cmp table q) ≡ 0

@@ -14,7 +14,7 @@ use Rattle.fuxi_terms.specs.Jobs.{KnownJob, job_of, is_live, unit_count, group_o
 use Rattle.fuxi_terms.specs.Keys.{key_cmp, Spot, spot_cmp}
 use Rattle.fuxi_terms.specs.Numbers.{has_number}
 use Rattle.fuxi_terms.specs.TallyKeys.{want_key, avoid_key}
-use Rattle.fuxi_terms.specs.Tables.{spot, held, held_on, usage_by, usage_at, with_grant, without_grants}
+use Rattle.fuxi_terms.specs.Tables.{spot, held, held_on, usage_by, usage_at, with_grant, without_grants, Table}
 use Rattle.fuxi_terms.proofs.Booleans.{both_true, either, number_is, or_left, nat_itself}
 use Rattle.fuxi_terms.proofs.CountsLemmas.{tied, count-set_count}
 use Rattle.fuxi_terms.proofs.KeyOrders.{spot_total, same_spot, same_key}
@@ -43,14 +43,14 @@ module _ (g : Spot → ℕ → ℕ) (w : Spot → ℕ) (nothing : (s : Spot) →
   abbrev weighed : Spot × ℕ → ℕ
   weighed e = g e.0 e.1
 
-  sum_granted : (table : List (Spot × ℕ)) (s : Spot) → IsSorted table → sum_by weighed (with_grant table s) ≡ sum_by weighed table + w s
+  sum_granted : (table : Table) (s : Spot) → IsSorted table → sum_by weighed (with_grant table s) ≡ sum_by weighed table + w s
   sum_granted table s k =
       let n = count spot_cmp table s in
       let x = sum_set g nothing s (n + 1) table k in
       let y = one s n in
       omega (arith, x, y)
 
-  sum_without : (ss : List Spot) (table : List (Spot × ℕ)) → IsSorted table → ((q : Spot) → often q ss ≤ count spot_cmp table q) → sum_by weighed (without_grants table ss) + sum_by w ss ≡ sum_by weighed table
+  sum_without : (ss : List Spot) (table : Table) → IsSorted table → ((q : Spot) → often q ss ≤ count spot_cmp table q) → sum_by weighed (without_grants table ss) + sum_by w ss ≡ sum_by weighed table
   sum_without [] table k few = omega arith
   sum_without (s ∷ ss) table k few =
       let n = count spot_cmp table s in
@@ -96,10 +96,10 @@ one_held a u s n = by (unit_here a u s)
     by true = refl
     by false = refl
 
-held_granted : (table : List (Spot × ℕ)) (s : Spot) (a u : ℕ) → IsSorted table → held (with_grant table s) a u ≡ held table a u + cond (unit_here a u s) 1 0
+held_granted : (table : Table) (s : Spot) (a u : ℕ) → IsSorted table → held (with_grant table s) a u ≡ held table a u + cond (unit_here a u s) 1 0
 held_granted table s a u k = sum_granted (λ s n. cond (unit_here a u s) n 0) (λ s. cond (unit_here a u s) 1 0) (none_held a u) (one_held a u) table s k
 
-held_without : (ss : List Spot) (table : List (Spot × ℕ)) (a u : ℕ) → IsSorted table → ((q : Spot) → often q ss ≤ count spot_cmp table q) → held (without_grants table ss) a u ≤ held table a u
+held_without : (ss : List Spot) (table : Table) (a u : ℕ) → IsSorted table → ((q : Spot) → often q ss ≤ count spot_cmp table q) → held (without_grants table ss) a u ≤ held table a u
 held_without ss table a u k few = let x = sum_without (λ s n. cond (unit_here a u s) n 0) (λ s. cond (unit_here a u s) 1 0) (none_held a u) (one_held a u) ss table k few in omega (arith, x)
 
 -- what a group uses
@@ -110,10 +110,10 @@ module _ (groups : ℕ → ℕ) (sizes : ℕ → ℕ → ℕ → ℕ) (p i : ℕ
   one_used : (s : Spot) (n : ℕ) → cond (nat_eq (groups s.job) p) ((n + 1) * sizes s.job s.unit i) 0 ≡ cond (nat_eq (groups s.job) p) (n * sizes s.job s.unit i) 0 + cond (nat_eq (groups s.job) p) (sizes s.job s.unit i) 0
   one_used s n = elim (nat_eq (groups s.job) p) as (λ b. cond b ((n + 1) * sizes s.job s.unit i) 0 ≡ cond b (n * sizes s.job s.unit i) 0 + cond b (sizes s.job s.unit i) 0) [ true ↦ omega arith | false ↦ refl ]
 
-  usage_granted : (table : List (Spot × ℕ)) (s : Spot) → IsSorted table → usage_by groups sizes p i (with_grant table s) ≡ usage_by groups sizes p i table + cond (nat_eq (groups s.job) p) (sizes s.job s.unit i) 0
+  usage_granted : (table : Table) (s : Spot) → IsSorted table → usage_by groups sizes p i (with_grant table s) ≡ usage_by groups sizes p i table + cond (nat_eq (groups s.job) p) (sizes s.job s.unit i) 0
   usage_granted table s k = sum_granted (λ s n. cond (nat_eq (groups s.job) p) (n * sizes s.job s.unit i) 0) (λ s. cond (nat_eq (groups s.job) p) (sizes s.job s.unit i) 0) none_used one_used table s k
 
-  usage_without : (ss : List Spot) (table : List (Spot × ℕ)) → IsSorted table → ((q : Spot) → often q ss ≤ count spot_cmp table q) → usage_by groups sizes p i (without_grants table ss) + part_by groups sizes p i ss ≡ usage_by groups sizes p i table
+  usage_without : (ss : List Spot) (table : Table) → IsSorted table → ((q : Spot) → often q ss ≤ count spot_cmp table q) → usage_by groups sizes p i (without_grants table ss) + part_by groups sizes p i ss ≡ usage_by groups sizes p i table
   usage_without ss table k few = sum_without (λ s n. cond (nat_eq (groups s.job) p) (n * sizes s.job s.unit i) 0) (λ s. cond (nat_eq (groups s.job) p) (sizes s.job s.unit i) 0) none_used one_used ss table k few
 
 -- what is wanted is of a live job and of a unit that it has
@@ -152,14 +152,14 @@ placeable_offered c M s e =
     }
 
 -- a table W with one grant more of what was offered, of which a sum was so before
-unit_fits : (table : List (Spot × ℕ)) (s : Spot) (a u most : ℕ) → IsSorted table → (unit_here a u s ≡ true → held table a u + 1 ≤ most) → (unit_here a u s ≡ false → held table a u ≤ most) → held (with_grant table s) a u ≤ most
+unit_fits : (table : Table) (s : Spot) (a u most : ℕ) → IsSorted table → (unit_here a u s ≡ true → held table a u + 1 ≤ most) → (unit_here a u s ≡ false → held table a u ≤ most) → held (with_grant table s) a u ≤ most
 unit_fits table s a u most k here there = by (unit_here a u s) refl (held_granted table s a u k)
   where
     by : (b : Bool) → unit_here a u s ≡ b → held (with_grant table s) a u ≡ held table a u + cond b 1 0 → held (with_grant table s) a u ≤ most
     by true t e = let x = here t in omega (arith, x, e)
     by false t e = let x = there t in omega (arith, x, e)
 
-group_fits : (groups : ℕ → ℕ) (sizes : ℕ → ℕ → ℕ → ℕ) (p i : ℕ) (table : List (Spot × ℕ)) (s : Spot) (most : ℕ) → IsSorted table → (nat_eq (groups s.job) p ≡ true → usage_by groups sizes p i table + sizes s.job s.unit i ≤ most) → (nat_eq (groups s.job) p ≡ false → usage_by groups sizes p i table ≤ most)
+group_fits : (groups : ℕ → ℕ) (sizes : ℕ → ℕ → ℕ → ℕ) (p i : ℕ) (table : Table) (s : Spot) (most : ℕ) → IsSorted table → (nat_eq (groups s.job) p ≡ true → usage_by groups sizes p i table + sizes s.job s.unit i ≤ most) → (nat_eq (groups s.job) p ≡ false → usage_by groups sizes p i table ≤ most)
     → usage_by groups sizes p i (with_grant table s) ≤ most
 group_fits groups sizes p i table s most k here there = by (nat_eq (groups s.job) p) refl (usage_granted groups sizes p i table s k)
   where
@@ -287,7 +287,7 @@ put_wanted M N a d jobs demands new old b u some = by (nat_eq b a) refl
 no_wants : (jobs : List KnownJob) (a u : ℕ) → 0 < at_key nothing (want_key u) → (is_live jobs a ≡ true) × (u < unit_count jobs a)
 no_wants jobs a u h = absurd (omega (arith, h))
 
-left_fewer : (p : Spot → Bool) (table : List (Spot × ℕ)) (q : Spot) → cond (p q) (count spot_cmp table q) 0 ≤ count spot_cmp table q
+left_fewer : (p : Spot → Bool) (table : Table) (q : Spot) → cond (p q) (count spot_cmp table q) 0 ≤ count spot_cmp table q
 left_fewer p table q = elim (p q) as (λ b. cond b (count spot_cmp table q) 0 ≤ count spot_cmp table q) [ true ↦ omega arith | false ↦ omega arith ]
 
 -- each change
@@ -319,7 +319,7 @@ each_change c M h = record {
       adopted = λ a u m r lt. new a u m (eq_by_cmp spot_cmp (spot a u m) p.served) refl (subst (λ n. held_on M.table a u m < n) (count_granted W p.served (spot a u m)) lt);
     }
       where
-        W : List (Spot × ℕ)
+        W : Table
         W = without_grants M.table p.losers
 
         sorted : IsSorted W

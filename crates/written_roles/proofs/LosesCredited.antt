@@ -13,7 +13,7 @@ use Rattle.fuxi_terms.specs.Jobs.{is_known, is_live}
 use Rattle.fuxi_terms.specs.Keys.{key_cmp, Spot, spot_cmp}
 use Rattle.fuxi_terms.specs.Numbers.{has_number}
 use Rattle.fuxi_terms.specs.TallyKeys.{credited_key, back_key, is_back}
-use Rattle.fuxi_terms.specs.Tables.{spot, held_on}
+use Rattle.fuxi_terms.specs.Tables.{spot, held_on, Table}
 use Rattle.fuxi_terms.proofs.Booleans.{both_true, either, number_is}
 use Rattle.fuxi_terms.proofs.CountsLemmas.{both_true as both, tied, below_none, count-set_count}
 use Rattle.fuxi_terms.proofs.KeyOrders.{key_total, same_key, spot_total, same_spot}
@@ -28,7 +28,7 @@ use Rattle.written_roles.proofs.RaisedCredits.{raised}
 use Rattle.written_roles.proofs.TransitionsLemmas.{EachChange, changed_has, EachHeard, heard_has, reported_in, ready_besides, ready_rises, count_left, adopted_beside, credit_one, credit_beside}
 
 -- Crediting an entry that is not given back here takes nothing here
-one_beside : (a : ℕ) (cs : List (Key × ℕ)) (e : Key × ℕ) (table : List (Spot × ℕ)) (u m : ℕ) → eq_by_cmp key_cmp (back_key u m) e.0 ≡ false → count spot_cmp (credit_one a cs e table) (spot a u m) ≡ count spot_cmp table (spot a u m)
+one_beside : (a : ℕ) (cs : List (Key × ℕ)) (e : Key × ℕ) (table : Table) (u m : ℕ) → eq_by_cmp key_cmp (back_key u m) e.0 ≡ false → count spot_cmp (credit_one a cs e table) (spot a u m) ≡ count spot_cmp table (spot a u m)
 one_beside a cs e table u m other =
     let s = spot a e.0.unit e.0.number in
     let here = count spot_cmp table s in
@@ -48,7 +48,7 @@ one_beside a cs e table u m other =
         absurd (let f : ⊥ = cc in f)
 
 -- nor does a demand that gives nothing back here
-credit_unsaid : (a : ℕ) (cs es : List (Key × ℕ)) (table : List (Spot × ℕ)) (u m : ℕ) → find key_cmp (back_key u m) es ≡ None → count spot_cmp (credit a cs es table) (spot a u m) ≡ count spot_cmp table (spot a u m)
+credit_unsaid : (a : ℕ) (cs es : List (Key × ℕ)) (table : Table) (u m : ℕ) → find key_cmp (back_key u m) es ≡ None → count spot_cmp (credit a cs es table) (spot a u m) ≡ count spot_cmp table (spot a u m)
 credit_unsaid a cs [] table u m n = refl
 credit_unsaid a cs (e ∷ es) table u m n = by (eq_by_cmp key_cmp (back_key u m) e.0) refl n (credit_unsaid a cs es (credit_one a cs e table) u m)
   where
@@ -58,7 +58,7 @@ credit_unsaid a cs (e ∷ es) table u m n = by (eq_by_cmp key_cmp (back_key u m)
     by false t n rest = rest n ∙ one_beside a cs e table u m t
 
 -- here a demand takes at most what it gives back beyond what was credited
-credit_loses : (a : ℕ) (cs es : List (Key × ℕ)) (table : List (Spot × ℕ)) (u m : ℕ) → T (is_sorted key_cmp es)
+credit_loses : (a : ℕ) (cs es : List (Key × ℕ)) (table : Table) (u m : ℕ) → T (is_sorted key_cmp es)
     → count spot_cmp table (spot a u m) ≤ count spot_cmp (credit a cs es table) (spot a u m) + (count key_cmp es (back_key u m) - count key_cmp cs (credited_key u m))
 credit_loses a cs [] table u m k = omega arith
 credit_loses a cs (e ∷ es) table u m k = by (eq_by_cmp key_cmp (back_key u m) e.0) refl (credit_loses a cs es (credit_one a cs e table) u m (both (below_all key_cmp e.0 es) (is_sorted key_cmp es) k).1)

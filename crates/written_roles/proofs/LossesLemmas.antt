@@ -18,11 +18,11 @@ use Rattle.fuxi_terms.proofs.Alls.{all_append, all_passed}
 use Rattle.fuxi_terms.proofs.Booleans.{both_true, either, number_is}
 use Rattle.fuxi_terms.proofs.KeyOrders.{same_spot}
 use Rattle.written_roles.specs.Losses.{often, AreGrantsOn, IsLoss, one_if, LeavesRoom}
-use Rattle.fuxi_terms.specs.Tables.{total_at}
+use Rattle.fuxi_terms.specs.Tables.{total_at, Table}
 use Rattle.fuxi_terms.proofs.Members.{in_each_is}
 
 -- what entries say of a spot
-abbrev pub amount : Spot → List (Spot × ℕ) → ℕ
+abbrev pub amount : Spot → Table → ℕ
 amount s es = sum_by (λ e. cond (eq_by_cmp spot_cmp s e.0) e.1 0) es
 
 often_many : (s : Spot) (n : ℕ) (t : Spot) → often s (so_many n t) ≡ cond (eq_by_cmp spot_cmp s t) n 0
@@ -31,7 +31,7 @@ often_many s (suc n) t =
     let rest = often_many s n t in
     rw (sum_by-cons (one_if s) t (so_many n t)) (elim (eq_by_cmp spot_cmp s t) as (λ b. often s (so_many n t) ≡ cond b n 0 → cond b 1 0 + often s (so_many n t) ≡ cond b (suc n) 0) [ true ↦ λ r. omega (arith, r) | false ↦ λ r. omega (arith, r) ] rest)
 
-pub often_flat : (s : Spot) (es : List (Spot × ℕ)) → often s (flat_map (λ e. so_many e.1 e.0) es) ≡ amount s es
+pub often_flat : (s : Spot) (es : Table) → often s (flat_map (λ e. so_many e.1 e.0) es) ≡ amount s es
 often_flat s [] = refl
 often_flat s (e ∷ es) =
     let rest = often_flat s es in
@@ -39,7 +39,7 @@ often_flat s (e ∷ es) =
     let a = sum_by-append (one_if s) (so_many e.1 e.0) (flat_map (λ e. so_many e.1 e.0) es) in
     rw (sum_by-cons (λ (e : Spot × ℕ). cond (eq_by_cmp spot_cmp s e.0) e.1 0) e es) (omega (arith, rest, here, a))
 
-put_amount : (jobs : List KnownJob) (s : Spot) (e : Spot × ℕ) (es : List (Spot × ℕ)) → amount s (put_grant jobs e es) ≡ amount s (e ∷ es)
+put_amount : (jobs : List KnownJob) (s : Spot) (e : Spot × ℕ) (es : Table) → amount s (put_grant jobs e es) ≡ amount s (e ∷ es)
 put_amount jobs s e [] = refl
 put_amount jobs s e (f ∷ fs) =
     let g : Spot × ℕ → ℕ = λ e. cond (eq_by_cmp spot_cmp s e.0) e.1 0 in
@@ -54,7 +54,7 @@ put_amount jobs s e (f ∷ fs) =
           omega (arith, rest, a, b, c, d)
     ]
 
-pub walk_amount : (jobs : List KnownJob) (s : Spot) (es : List (Spot × ℕ)) → amount s (in_walk_order jobs es) ≡ amount s es
+pub walk_amount : (jobs : List KnownJob) (s : Spot) (es : Table) → amount s (in_walk_order jobs es) ≡ amount s es
 walk_amount jobs s [] = refl
 walk_amount jobs s (e ∷ es) =
     let g : Spot × ℕ → ℕ = λ e. cond (eq_by_cmp spot_cmp s e.0) e.1 0 in
@@ -64,7 +64,7 @@ walk_amount jobs s (e ∷ es) =
     let b = sum_by-cons g e es in
     omega (arith, rest, here, a, b)
 
-filter_amount : (s : Spot) (p : Spot × ℕ → Bool) (es : List (Spot × ℕ)) → amount s (filter p es) ≤ amount s es
+filter_amount : (s : Spot) (p : Spot × ℕ → Bool) (es : Table) → amount s (filter p es) ≤ amount s es
 filter_amount s p [] = omega arith
 filter_amount s p (e ∷ es) =
     let g : Spot × ℕ → ℕ = λ e. cond (eq_by_cmp spot_cmp s e.0) e.1 0 in
@@ -76,7 +76,7 @@ filter_amount s p (e ∷ es) =
     ]
 
 -- keys that rise stand once
-pub table_amount : (s : Spot) (es : List (Spot × ℕ)) → T (is_sorted spot_cmp es) → amount s es ≡ count spot_cmp es s
+pub table_amount : (s : Spot) (es : Table) → T (is_sorted spot_cmp es) → amount s es ≡ count spot_cmp es s
 table_amount s [] k = refl
 table_amount s (e ∷ es) k =
     let parts = both (below_all spot_cmp e.0 es) (is_sorted spot_cmp es) k in
@@ -87,14 +87,14 @@ table_amount s (e ∷ es) k =
       | false ↦ λ _. omega (arith, rest)
     ] refl)
 
-walk_on : (jobs : List KnownJob) (m : ℕ) (es : List (Spot × ℕ)) → AllByRecursion (λ e. e.0.machine ≡ m) es → AllByRecursion (λ s. s.machine ≡ m) (flat_map (λ e. so_many e.1 e.0) (in_walk_order jobs es))
+walk_on : (jobs : List KnownJob) (m : ℕ) (es : Table) → AllByRecursion (λ e. e.0.machine ≡ m) es → AllByRecursion (λ s. s.machine ≡ m) (flat_map (λ e. so_many e.1 e.0) (in_walk_order jobs es))
 walk_on jobs m es h = flat (in_walk_order jobs es) (ordered es h)
   where
-    put_on : (e : Spot × ℕ) (fs : List (Spot × ℕ)) → e.0.machine ≡ m → AllByRecursion (λ e. e.0.machine ≡ m) fs → AllByRecursion (λ e. e.0.machine ≡ m) (put_grant jobs e fs)
+    put_on : (e : Spot × ℕ) (fs : Table) → e.0.machine ≡ m → AllByRecursion (λ e. e.0.machine ≡ m) fs → AllByRecursion (λ e. e.0.machine ≡ m) (put_grant jobs e fs)
     put_on e [] x k = (x, tt)
     put_on e (f ∷ fs) x k = elim (goes_before jobs e.0 f.0) as (λ b. AllByRecursion (λ e. e.0.machine ≡ m) (cond b (e ∷ f ∷ fs) (f ∷ put_grant jobs e fs))) [ true ↦ (x, k) | false ↦ (k.0, put_on e fs x k.1) ]
 
-    ordered : (es : List (Spot × ℕ)) → AllByRecursion (λ e. e.0.machine ≡ m) es → AllByRecursion (λ e. e.0.machine ≡ m) (in_walk_order jobs es)
+    ordered : (es : Table) → AllByRecursion (λ e. e.0.machine ≡ m) es → AllByRecursion (λ e. e.0.machine ≡ m) (in_walk_order jobs es)
     ordered [] k = tt
     ordered (e ∷ es) k = put_on e (in_walk_order jobs es) k.0 (ordered es k.1)
 
@@ -102,7 +102,7 @@ walk_on jobs m es h = flat (in_walk_order jobs es) (ordered es h)
     many zero s x = tt
     many (suc n) s x = (x, many n s x)
 
-    flat : (es : List (Spot × ℕ)) → AllByRecursion (λ e. e.0.machine ≡ m) es → AllByRecursion (λ (s : Spot). s.machine ≡ m) (flat_map (λ e. so_many e.1 e.0) es)
+    flat : (es : Table) → AllByRecursion (λ e. e.0.machine ≡ m) es → AllByRecursion (λ (s : Spot). s.machine ≡ m) (flat_map (λ e. so_many e.1 e.0) es)
     flat [] k = tt
     flat (e ∷ es) k = all_append (λ (s : Spot). s.machine ≡ m) (so_many e.1 e.0) (flat_map (λ e. so_many e.1 e.0) es) (many e.1 e.0 k.0) (flat es k.1)
 

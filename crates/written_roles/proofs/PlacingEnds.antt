@@ -6,7 +6,7 @@ use Rattle.std.specs.Ordering.{is_lt, nat_cmp}
 use Rattle.std.specs.Cmp.Lexicographic.{slice_cmp}
 use Rattle.std.proofs.lemmas.Bool.Decides.{nat_tests}
 use Rattle.fuxi_terms.specs.Cluster.{ClusterRecord, has_machine}
-use Rattle.fuxi_terms.specs.Keys.{Spot}
+use Rattle.fuxi_terms.specs.Keys.{Spot, Pair}
 use Rattle.fuxi_terms.specs.Lists.{below}
 use Rattle.written_roles.specs.Masters.{Master, out}
 use Rattle.written_roles.specs.Placing.{Ranked, ranked, candidates, places_for, may_grow, accepts, has_room, least, first_of, first_placeable, granted, settle, settled, all_out, placeable, has_pair}
@@ -30,7 +30,7 @@ pub all_joined : (P : Ranked → Type 0) (xs ys : List Ranked) → AllByRecursio
 all_joined P [] ys h k = k
 all_joined P (x ∷ xs) ys h k = (h.0, all_joined P xs ys h.1 k)
 
-all_candidates : (P : Ranked → Type 0) (c : ClusterRecord) (M : Master) (place : ℕ) (ps : List (ℕ × ℕ)) → ((p : ℕ × ℕ) (place m : ℕ) → In p ps → placeable c M p.0 p.1 m ≡ true → P (ranked c M place p m)) → AllByRecursion P (candidates c M place ps)
+all_candidates : (P : Ranked → Type 0) (c : ClusterRecord) (M : Master) (place : ℕ) (ps : List Pair) → ((p : Pair) (place m : ℕ) → In p ps → placeable c M p.0 p.1 m ≡ true → P (ranked c M place p m)) → AllByRecursion P (candidates c M place ps)
 all_candidates P c M place [] h = tt
 all_candidates P c M place (p ∷ ps) h = all_joined P (elim (may_grow c M p.0 p.1) as (λ _. List Ranked) [ true ↦ places_for c M place p | false ↦ [] ]) (candidates c M (place + 1) ps)
     (elim (may_grow c M p.0 p.1) as (λ b. may_grow c M p.0 p.1 ≡ b → AllByRecursion P (elim b as (λ _. List Ranked) [ true ↦ places_for c M place p | false ↦ [] ])) [
@@ -57,10 +57,10 @@ first_good c M s e = first_found M (candidates c M 0 M.line) s
 
 falls : (M : Master) (s : Spot) → Good M s → all_out (granted M s) < all_out M
 falls M s g =
-    let after : ℕ × ℕ → ℕ = λ p. out (granted M s) p.0 p.1 in
-    let before : ℕ × ℕ → ℕ = λ p. out M p.0 p.1 in
+    let after : Pair → ℕ = λ p. out (granted M s) p.0 p.1 in
+    let before : Pair → ℕ = λ p. out M p.0 p.1 in
     let kept = sum_filter after (λ p. nat_lt 0 (after p)) M.line in
-    let less : (p : ℕ × ℕ) → after p ≤ before p = λ p. let h = held_more M.table s p.0 p.1 in omega (arith, h) in
+    let less : (p : Pair) → after p ≤ before p = λ p. let h = held_more M.table s p.0 p.1 in omega (arith, h) in
     let there : after (s.job, s.unit) < before (s.job, s.unit) = let h = held_one M.table s in let some : 0 < out M s.job s.unit = let o = g.out in grind (arith, nat_tests, o) in omega (arith, h, some) in
     let total = sum_lt after before (s.job, s.unit) M.line less g.pair there in
     omega (arith, kept, total)
@@ -108,7 +108,7 @@ no_candidates : (rs : List Ranked) → first_of rs ≡ None → rs ≡ []
 no_candidates [] e = refl
 no_candidates (r ∷ rs) e = cc
 
-none_of_line : (c : ClusterRecord) (M : Master) (place : ℕ) (ps : List (ℕ × ℕ)) → candidates c M place ps ≡ [] → (a u m : ℕ) → has_pair (a, u) ps ≡ true → has_machine c m ≡ true → placeable c M a u m ≡ false
+none_of_line : (c : ClusterRecord) (M : Master) (place : ℕ) (ps : List Pair) → candidates c M place ps ≡ [] → (a u m : ℕ) → has_pair (a, u) ps ≡ true → has_machine c m ≡ true → placeable c M a u m ≡ false
 none_of_line c M place [] e a u m has there = cc
 none_of_line c M place (p ∷ ps) e a u m has there =
     let parts = both_empty (elim (may_grow c M p.0 p.1) as (λ _. List Ranked) [ true ↦ places_for c M place p | false ↦ [] ]) (candidates c M (place + 1) ps) e in

@@ -7,7 +7,7 @@ use Rattle.std.specs.Cmp.Lexicographic.{slice_cmp, lists_total}
 use Rattle.std.specs.declared.cmp.Ordering.{Ordering}
 use Rattle.std.specs.declared.cmp.Ordering.TheVariants.{Less, Equal, Greater}
 use Rattle.fuxi_terms.specs.Cluster.{ClusterRecord, has_machine}
-use Rattle.fuxi_terms.specs.Keys.{Spot}
+use Rattle.fuxi_terms.specs.Keys.{Spot, Pair}
 use Rattle.fuxi_terms.specs.Lists.{below}
 use Rattle.written_roles.specs.Masters.{Master}
 use Rattle.written_roles.specs.Placing.{Ranked, least, first_of, first_placeable, ranked, candidates, places_for, may_grow, accepts, has_room, placeable}
@@ -69,7 +69,7 @@ in_mapped f q m (k ∷ ks) t (inl e) = elim (q k) as (λ b. q k ≡ b → In (f 
 in_mapped f q m (k ∷ ks) t (inr i) = elim (q k) as (λ b. In (f m) (map f (cond b (k ∷ filter q ks) (filter q ks)))) [ true ↦ inr (in_mapped f q m ks t i) | false ↦ in_mapped f q m ks t i ]
 
 -- each placeable pair is a candidate
-is_candidate : (c : ClusterRecord) (M : Master) (place n m : ℕ) (p : ℕ × ℕ) (ps : List (ℕ × ℕ)) → slice_get ps n ≡ Some p → has_machine c m ≡ true → placeable c M p.0 p.1 m ≡ true → In (ranked c M (place + n) p m) (candidates c M place ps)
+is_candidate : (c : ClusterRecord) (M : Master) (place n m : ℕ) (p : Pair) (ps : List Pair) → slice_get ps n ≡ Some p → has_machine c m ≡ true → placeable c M p.0 p.1 m ≡ true → In (ranked c M (place + n) p m) (candidates c M place ps)
 is_candidate c M place n m p [] e there t = cc
 is_candidate c M place zero m p (q ∷ ps) e there t =
     let same : q ≡ p = cc in
@@ -78,7 +78,7 @@ is_candidate c M place zero m p (q ∷ ps) e there t =
     let chosen : In (ranked c M place p m) (elim (may_grow c M p.0 p.1) as (λ _. List Ranked) [ true ↦ places_for c M place p | false ↦ [] ]) = subst (λ g. In (ranked c M place p m) (elim g as (λ _. List Ranked) [ true ↦ places_for c M place p | false ↦ [] ])) (sym b.0) here in
     let first : place + 0 ≡ place = omega arith in
     subst (λ k. In (ranked c M k p m) (candidates c M place (q ∷ ps))) (sym first)
-    (subst (λ (x : ℕ × ℕ). In (ranked c M place p m) (candidates c M place (x ∷ ps))) (sym same) (in_left (ranked c M place p m) _ (candidates c M (place + 1) ps) chosen))
+    (subst (λ (x : Pair). In (ranked c M place p m) (candidates c M place (x ∷ ps))) (sym same) (in_left (ranked c M place p m) _ (candidates c M (place + 1) ps) chosen))
 is_candidate c M place (suc n) m p (q ∷ ps) e there t =
     let next : place + 1 + n ≡ place + suc n = omega arith in
     in_right (ranked c M (place + suc n) p m) _ (candidates c M (place + 1) ps) (subst (λ k. In (ranked c M k p m) (candidates c M (place + 1) ps)) next (is_candidate c M (place + 1) n m p ps e there t))
@@ -90,7 +90,7 @@ record IsOne (c : ClusterRecord) (M : Master) (r : Ranked) : Type 0 where
   may : placeable c M r.spot.job r.spot.unit r.spot.machine ≡ true
   is : r.rank ≡ (ranked c M place (r.spot.job, r.spot.unit) r.spot.machine).rank
 
-all_ones : (c : ClusterRecord) (M : Master) (place : ℕ) (ps : List (ℕ × ℕ)) → ((n : ℕ) (p : ℕ × ℕ) → slice_get ps n ≡ Some p → slice_get M.line (place + n) ≡ Some p) → AllByRecursion (IsOne c M) (candidates c M place ps)
+all_ones : (c : ClusterRecord) (M : Master) (place : ℕ) (ps : List Pair) → ((n : ℕ) (p : Pair) → slice_get ps n ≡ Some p → slice_get M.line (place + n) ≡ Some p) → AllByRecursion (IsOne c M) (candidates c M place ps)
 all_ones c M place [] h = tt
 all_ones c M place (p ∷ ps) h = all_joined (IsOne c M) (elim (may_grow c M p.0 p.1) as (λ _. List Ranked) [ true ↦ places_for c M place p | false ↦ [] ]) (candidates c M (place + 1) ps)
     (elim (may_grow c M p.0 p.1) as (λ b. may_grow c M p.0 p.1 ≡ b → AllByRecursion (IsOne c M) (elim b as (λ _. List Ranked) [ true ↦ places_for c M place p | false ↦ [] ])) [
@@ -104,7 +104,7 @@ all_ones c M place (p ∷ ps) h = all_joined (IsOne c M) (elim (may_grow c M p.0
 pub placed_first : (c : ClusterRecord) (M : Master) (s : Spot) → first_placeable c M ≡ Some s → IsFirst c M s
 placed_first c M s e = by (candidates c M 0 M.line) (all_ones c M 0 M.line (λ n p f. ap (λ k. slice_get M.line k) (let z : 0 + n ≡ n = omega arith in z) ∙ f)) (λ n m p f there t. subst (λ k. In (ranked c M k p m) (candidates c M 0 M.line)) (let z : 0 + n ≡ n = omega arith in z) (is_candidate c M 0 n m p M.line f there t)) e
   where
-    by : (rs : List Ranked) → AllByRecursion (IsOne c M) rs → ((n m : ℕ) (p : ℕ × ℕ) → slice_get M.line n ≡ Some p → has_machine c m ≡ true → placeable c M p.0 p.1 m ≡ true → In (ranked c M n p m) rs) → first_of rs ≡ Some s → IsFirst c M s
+    by : (rs : List Ranked) → AllByRecursion (IsOne c M) rs → ((n m : ℕ) (p : Pair) → slice_get M.line n ≡ Some p → has_machine c m ≡ true → placeable c M p.0 p.1 m ≡ true → In (ranked c M n p m) rs) → first_of rs ≡ Some s → IsFirst c M s
     by [] all mem e = cc
     by (r ∷ rs) all mem e =
         let one = least_has (IsOne c M) r rs all.0 all.1 in

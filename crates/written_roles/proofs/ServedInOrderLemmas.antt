@@ -10,11 +10,11 @@ use Rattle.std.proofs.lemmas.List.Concat.{flat_map-append}
 use Rattle.std.proofs.lemmas.List.Sums.{sum_by-cons}
 use Rattle.fuxi_terms.specs.Cluster.{ClusterRecord}
 use Rattle.fuxi_terms.specs.Jobs.{KnownJob, priority_of, most_of}
-use Rattle.fuxi_terms.specs.Keys.{Spot, spot_cmp}
+use Rattle.fuxi_terms.specs.Keys.{Spot, spot_cmp, Pair}
 use Rattle.fuxi_terms.specs.Lists.{below}
 use Rattle.fuxi_terms.specs.Numbers.{has_number}
 use Rattle.fuxi_terms.specs.TallyKeys.{avoid_key}
-use Rattle.fuxi_terms.specs.Tables.{spot, held_on}
+use Rattle.fuxi_terms.specs.Tables.{spot, held_on, Table}
 use Rattle.fuxi_terms.proofs.Alls.{all_append, all_filter, all_passed, all_mapped, all_more}
 use Rattle.fuxi_terms.proofs.Booleans.{both_true, both_false, and_true, number_is, nat_itself}
 use Rattle.fuxi_terms.proofs.CountsLemmas.{tied}
@@ -128,14 +128,14 @@ ten = refl
 
 -- The line with its places: those of a priority, from a place on
 module _ (c : ClusterRecord) (M : Master) where
-  abbrev priority : ℕ × ℕ → ℕ
+  abbrev priority : Pair → ℕ
   priority p = priority_of M.jobs p.0 p.1
 
-  abbrev placed : ℕ → ℕ → List (ℕ × ℕ) → List (ℕ × (ℕ × ℕ))
+  abbrev placed : ℕ → ℕ → List Pair → List (ℕ × (Pair))
   placed n k [] = []
   placed n k (p ∷ ps) = cond (nat_eq (priority p) n) ((k, p) ∷ placed n (k + 1) ps) (placed n (k + 1) ps)
 
-  placed_pairs : (n k : ℕ) (ps : List (ℕ × ℕ)) → map (λ x. x.1) (placed n k ps) ≡ filter (λ p. nat_eq (priority_of M.jobs p.0 p.1) n) ps
+  placed_pairs : (n k : ℕ) (ps : List Pair) → map (λ x. x.1) (placed n k ps) ≡ filter (λ p. nat_eq (priority_of M.jobs p.0 p.1) n) ps
   placed_pairs n k [] = refl
   placed_pairs n k (p ∷ ps) = elim (nat_eq (priority p) n) as (λ b. map (λ x. x.1) (cond b ((k, p) ∷ placed n (k + 1) ps) (placed n (k + 1) ps)) ≡ cond b (p ∷ filter (λ p. nat_eq (priority_of M.jobs p.0 p.1) n) ps) (filter (λ p. nat_eq (priority_of M.jobs p.0 p.1) n) ps)) [
     | true ↦ ap (λ qs. p ∷ qs) (placed_pairs n (k + 1) ps)
@@ -143,15 +143,15 @@ module _ (c : ClusterRecord) (M : Master) where
   ]
 
   -- a pair with its place in the line, and its priority
-  record IsPlaced (n k : ℕ) (x : ℕ × (ℕ × ℕ)) : Type 0 where
+  record IsPlaced (n k : ℕ) (x : ℕ × (Pair)) : Type 0 where
     priority : priority x.1 ≡ n
     from : k ≤ x.0
     there : slice_get M.line x.0 ≡ Some x.1
 
-  later : (n k : ℕ) (x : ℕ × (ℕ × ℕ)) → IsPlaced n (k + 1) x → IsPlaced n k x
+  later : (n k : ℕ) (x : ℕ × (Pair)) → IsPlaced n (k + 1) x → IsPlaced n k x
   later n k x h = record { priority = h.priority; from = (let f = h.from in omega (arith, f)); there = h.there }
 
-  placed_are : (n k : ℕ) (ps : List (ℕ × ℕ)) → ((j : ℕ) (p : ℕ × ℕ) → slice_get ps j ≡ Some p → slice_get M.line (k + j) ≡ Some p) → AllByRecursion (IsPlaced n k) (placed n k ps)
+  placed_are : (n k : ℕ) (ps : List Pair) → ((j : ℕ) (p : Pair) → slice_get ps j ≡ Some p → slice_get M.line (k + j) ≡ Some p) → AllByRecursion (IsPlaced n k) (placed n k ps)
   placed_are n k [] h = tt
   placed_are n k (p ∷ ps) h =
       let rest = all_more (IsPlaced n (k + 1)) (IsPlaced n k) (later n k) (placed n (k + 1) ps) (placed_are n (k + 1) ps (λ j q e. let z : k + 1 + j ≡ k + suc j = omega arith in ap (λ i. slice_get M.line i) z ∙ h (suc j) q e)) in
@@ -160,17 +160,17 @@ module _ (c : ClusterRecord) (M : Master) where
         | false ↦ λ _. rest
       ] refl
 
-  placed_rise : (n k : ℕ) (ps : List (ℕ × ℕ)) → ((j : ℕ) (p : ℕ × ℕ) → slice_get ps j ≡ Some p → slice_get M.line (k + j) ≡ Some p) → AreOrdered (λ x y. x.0 < y.0) (placed n k ps)
+  placed_rise : (n k : ℕ) (ps : List Pair) → ((j : ℕ) (p : Pair) → slice_get ps j ≡ Some p → slice_get M.line (k + j) ≡ Some p) → AreOrdered (λ x y. x.0 < y.0) (placed n k ps)
   placed_rise n k [] h = tt
   placed_rise n k (p ∷ ps) h =
-      let on : (j : ℕ) (q : ℕ × ℕ) → slice_get ps j ≡ Some q → slice_get M.line (k + 1 + j) ≡ Some q = λ j q e. let z : k + 1 + j ≡ k + suc j = omega arith in ap (λ i. slice_get M.line i) z ∙ h (suc j) q e in
+      let on : (j : ℕ) (q : Pair) → slice_get ps j ≡ Some q → slice_get M.line (k + 1 + j) ≡ Some q = λ j q e. let z : k + 1 + j ≡ k + suc j = omega arith in ap (λ i. slice_get M.line i) z ∙ h (suc j) q e in
       let rest = placed_rise n (k + 1) ps on in
       elim (nat_eq (priority p) n) as (λ b. AreOrdered (λ x y. x.0 < y.0) (cond b ((k, p) ∷ placed n (k + 1) ps) (placed n (k + 1) ps))) [
         | true ↦ (all_more (IsPlaced n (k + 1)) (λ y. k < y.0) (λ y g. let f = g.from in omega (arith, f)) (placed n (k + 1) ps) (placed_are n (k + 1) ps on), rest)
         | false ↦ rest
       ]
 
-  in_placed : (n k j : ℕ) (p : ℕ × ℕ) (ps : List (ℕ × ℕ)) → slice_get ps j ≡ Some p → priority p ≡ n → In (k + j, p) (placed n k ps)
+  in_placed : (n k j : ℕ) (p : Pair) (ps : List Pair) → slice_get ps j ≡ Some p → priority p ≡ n → In (k + j, p) (placed n k ps)
   in_placed n k j p [] e t = cc
   in_placed n k zero p (q ∷ qs) e t =
       let same : q ≡ p = cc in
@@ -183,13 +183,13 @@ module _ (c : ClusterRecord) (M : Master) where
       elim (nat_eq (priority q) n) as (λ b. In (k + suc j, p) (cond b ((k, q) ∷ placed n (k + 1) qs) (placed n (k + 1) qs))) [ true ↦ inr i | false ↦ i ]
 
   -- with every machine that accepts one more
-  abbrev tests : ℕ × ℕ → ℕ → Bool
+  abbrev tests : Pair → ℕ → Bool
   tests p m = accepts c M p.0 p.1 m
 
-  abbrev on_machine : ℕ × (ℕ × ℕ) → ℕ → ℕ × Spot
+  abbrev on_machine : ℕ × (Pair) → ℕ → ℕ × Spot
   on_machine x m = (x.0, spot x.1.0 x.1.1 m)
 
-  abbrev spots : ℕ × (ℕ × ℕ) → List (ℕ × Spot)
+  abbrev spots : ℕ × (Pair) → List (ℕ × Spot)
   spots x = map (on_machine x) (filter (tests x.1) (below (length c.machines)))
 
   abbrev group : ℕ → List (ℕ × Spot)
@@ -218,14 +218,14 @@ module _ (c : ClusterRecord) (M : Master) where
   flat_map_map f g [] = refl
   flat_map_map f g (x ∷ xs) = ap (λ ys. f (g x) ++ ys) (flat_map_map f g xs)
 
-  abbrev pair_spots : ℕ × ℕ → List Spot
+  abbrev pair_spots : Pair → List Spot
   pair_spots p = map (spot p.0 p.1) (filter (accepts c M p.0 p.1) (below (length c.machines)))
 
   group_spots : (n : ℕ) → map (λ (x : ℕ × Spot). x.1) (group n) ≡ flat_map pair_spots (filter (λ p. nat_eq (priority_of M.jobs p.0 p.1) n) M.line)
   group_spots n =
       map_flat (λ (x : ℕ × Spot). x.1) spots (placed n 0 M.line)
       ∙ flat_same (λ x. map (λ (y : ℕ × Spot). y.1) (spots x)) (λ x. pair_spots x.1) (λ x. mapped (λ (y : ℕ × Spot). y.1) (on_machine x) (filter (tests x.1) (below (length c.machines)))) (placed n 0 M.line)
-      ∙ flat_map_map pair_spots (λ (x : ℕ × (ℕ × ℕ)). x.1) (placed n 0 M.line)
+      ∙ flat_map_map pair_spots (λ (x : ℕ × (Pair)). x.1) (placed n 0 M.line)
       ∙ ap (flat_map pair_spots) (placed_pairs n 0 M.line)
 
   pub candidates_spots : map (λ (x : ℕ × Spot). x.1) all_candidates ≡ tried c M
@@ -235,7 +235,7 @@ module _ (c : ClusterRecord) (M : Master) where
       ∙ sym (flat_flat pair_spots (λ n. filter (λ p. nat_eq (priority_of M.jobs p.0 p.1) n) M.line) falling_priorities)
 
   -- each of them is a candidate
-  at_start : (j : ℕ) (p : ℕ × ℕ) → slice_get M.line j ≡ Some p → slice_get M.line (0 + j) ≡ Some p
+  at_start : (j : ℕ) (p : Pair) → slice_get M.line j ≡ Some p → slice_get M.line (0 + j) ≡ Some p
   at_start j p e = let z : 0 + j ≡ j = omega arith in ap (λ i. slice_get M.line i) z ∙ e
 
   usable : (a u m : ℕ) → accepts c M a u m ≡ true → IsUsable M a u m
@@ -259,7 +259,7 @@ module _ (c : ClusterRecord) (M : Master) where
       (and_true (has_number m M.reported) (not (has_number m M.bans) && not (avoids M a u m)) h.reported (and_true (not (has_number m M.bans)) (not (avoids M a u m)) (ap not h.banned) (let z : nat_lt 0 (asked M a (avoid_key u m)) ≡ false = (let f = h.avoided in grind (arith, nat_tests, f)) in ap not z)))
       (let f = h.few in grind (arith, nat_tests, f))
 
-  spots_are : (n : ℕ) (x : ℕ × (ℕ × ℕ)) → IsPlaced n 0 x → AllByRecursion (IsCandidate c M) (spots x)
+  spots_are : (n : ℕ) (x : ℕ × (Pair)) → IsPlaced n 0 x → AllByRecursion (IsCandidate c M) (spots x)
   spots_are n x h = all_mapped (IsCandidate c M) (on_machine x) (filter (tests x.1) (below (length c.machines)))
       (all_more (λ m. (nat_lt m (length c.machines) ≡ true) × (tests x.1 m ≡ true)) (λ m. IsCandidate c M (on_machine x m)) (λ m t. record { there = h.there; machine = t.0; usable = usable x.1.0 x.1.1 m t.1 }) (filter (tests x.1) (below (length c.machines)))
       (all_both (λ m. nat_lt m (length c.machines) ≡ true) (λ m. tests x.1 m ≡ true) (filter (tests x.1) (below (length c.machines))) (all_filter (λ m. nat_lt m (length c.machines) ≡ true) (tests x.1) (below (length c.machines)) (below_less (length c.machines)))
@@ -273,7 +273,7 @@ module _ (c : ClusterRecord) (M : Master) where
   across R f g h [] ks = tt
   across R f g h (m ∷ ms) ks = (all_mapped (R (f m)) g ks (all_each (λ k. R (f m) (g k)) (h m) ks), across R f g h ms ks)
 
-  spots_ordered : (x : ℕ × (ℕ × ℕ)) → AreOrdered (IsTriedBefore M.jobs) (spots x)
+  spots_ordered : (x : ℕ × (Pair)) → AreOrdered (IsTriedBefore M.jobs) (spots x)
   spots_ordered x = ordered_map (IsTriedBefore M.jobs) (on_machine x) (filter (tests x.1) (below (length c.machines)))
       (ordered_more (λ m k. m < k) (λ m k. IsTriedBefore M.jobs (on_machine x m) (on_machine x k)) (λ m k lt. inr (refl, inr (refl, lt))) (filter (tests x.1) (below (length c.machines)))
       (ordered_filter (λ m k. m < k) (tests x.1) (below (length c.machines)) (below_rises (length c.machines))))
@@ -298,7 +298,7 @@ module _ (c : ClusterRecord) (M : Master) where
   -- and every candidate is among them
   candidates_all : AreValid M.jobs → (x : ℕ × Spot) → IsCandidate c M x → In x all_candidates
   candidates_all v x h =
-      let p : ℕ × ℕ = (x.1.job, x.1.unit) in
+      let p : Pair = (x.1.job, x.1.unit) in
       let n = priority p in
       let few = valid_priority M.jobs v x.1.job x.1.unit in
       let z : 0 + x.0 ≡ x.0 = omega arith in
@@ -378,18 +378,18 @@ is_behind jobs s t e = by (nat_eq p q) refl
 abbrev EntryNotAfter : List KnownJob → Spot × ℕ → Spot × ℕ → Type 0
 EntryNotAfter jobs e f = IsNotAfter jobs e.0 f.0
 
-put_all : (P : Spot × ℕ → Type 0) (jobs : List KnownJob) (e : Spot × ℕ) (es : List (Spot × ℕ)) → P e → AllByRecursion P es → AllByRecursion P (put_grant jobs e es)
+put_all : (P : Spot × ℕ → Type 0) (jobs : List KnownJob) (e : Spot × ℕ) (es : Table) → P e → AllByRecursion P es → AllByRecursion P (put_grant jobs e es)
 put_all P jobs e [] h k = (h, tt)
 put_all P jobs e (f ∷ fs) h k = elim (goes_before jobs e.0 f.0) as (λ b. AllByRecursion P (cond b (e ∷ f ∷ fs) (f ∷ put_grant jobs e fs))) [ true ↦ (h, k) | false ↦ (k.0, put_all P jobs e fs h k.1) ]
 
-put_ordered : (jobs : List KnownJob) (e : Spot × ℕ) (es : List (Spot × ℕ)) → AreOrdered (EntryNotAfter jobs) es → AreOrdered (EntryNotAfter jobs) (put_grant jobs e es)
+put_ordered : (jobs : List KnownJob) (e : Spot × ℕ) (es : Table) → AreOrdered (EntryNotAfter jobs) es → AreOrdered (EntryNotAfter jobs) (put_grant jobs e es)
 put_ordered jobs e [] h = (tt, tt)
 put_ordered jobs e (f ∷ fs) h = elim (goes_before jobs e.0 f.0) as (λ b. goes_before jobs e.0 f.0 ≡ b → AreOrdered (EntryNotAfter jobs) (cond b (e ∷ f ∷ fs) (f ∷ put_grant jobs e fs))) [
   | true ↦ λ t. let b = is_before jobs e.0 f.0 t in ((b, all_more (EntryNotAfter jobs f) (EntryNotAfter jobs e) (λ g k. through jobs e.0 f.0 g.0 b k) fs h.0), h)
   | false ↦ λ t. (put_all (EntryNotAfter jobs f) jobs e fs (is_behind jobs e.0 f.0 t) h.0, put_ordered jobs e fs h.1)
 ] refl
 
-order_ordered : (jobs : List KnownJob) (es : List (Spot × ℕ)) → AreOrdered (EntryNotAfter jobs) (in_walk_order jobs es)
+order_ordered : (jobs : List KnownJob) (es : Table) → AreOrdered (EntryNotAfter jobs) (in_walk_order jobs es)
 order_ordered jobs [] = tt
 order_ordered jobs (e ∷ es) = put_ordered jobs e (in_walk_order jobs es) (order_ordered jobs es)
 
@@ -408,7 +408,7 @@ walk_ordered M m =
     (λ e f _ _ k. many_all (λ b. AllByRecursion (IsNotAfter M.jobs b) (so_many f.1 f.0)) e.1 e.0 (many_all (IsNotAfter M.jobs e.0) f.1 f.0 k)) es (all_each (λ _. Unit {0}) (λ _. tt) es) (order_ordered M.jobs (filter (λ (e : Spot × ℕ). nat_eq e.0.machine m) M.table))
 
 -- the grants of a machine are all there
-same_amount : (s : Spot) (m : ℕ) (es : List (Spot × ℕ)) → s.machine ≡ m → amount s (filter (λ e. nat_eq e.0.machine m) es) ≡ amount s es
+same_amount : (s : Spot) (m : ℕ) (es : Table) → s.machine ≡ m → amount s (filter (λ e. nat_eq e.0.machine m) es) ≡ amount s es
 same_amount s m [] here = refl
 same_amount s m (e ∷ es) here =
     let g : Spot × ℕ → ℕ = λ e. cond (eq_by_cmp spot_cmp s e.0) e.1 0 in

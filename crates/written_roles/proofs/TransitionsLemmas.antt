@@ -13,7 +13,7 @@ use Rattle.fuxi_terms.specs.Jobs.{KnownJob}
 use Rattle.fuxi_terms.specs.Keys.{key_cmp, RowKey, Spot, spot_cmp}
 use Rattle.fuxi_terms.specs.Numbers.{has_number, with_number, without_number}
 use Rattle.fuxi_terms.specs.TallyKeys.{credited_key, is_back}
-use Rattle.fuxi_terms.specs.Tables.{spot, with_grant, without_grants}
+use Rattle.fuxi_terms.specs.Tables.{spot, with_grant, without_grants, Table}
 use Rattle.fuxi_terms.proofs.Alls.{all_mapped, all_more}
 use Rattle.fuxi_terms.proofs.Booleans.{either, not_false}
 use Rattle.fuxi_terms.proofs.CountsLemmas.{count_where, count-set_count, tied}
@@ -110,10 +110,10 @@ ready_besides c M = let N = line_up (phased c M) in
     ]
 
 -- Counts. One grant more
-pub count_granted : (table : List (Spot × ℕ)) (s q : Spot) → count spot_cmp (with_grant table s) q ≡ cond (eq_by_cmp spot_cmp q s) (count spot_cmp table s + 1) (count spot_cmp table q)
+pub count_granted : (table : Table) (s q : Spot) → count spot_cmp (with_grant table s) q ≡ cond (eq_by_cmp spot_cmp q s) (count spot_cmp table s + 1) (count spot_cmp table q)
 count_granted table s q = count-set_count spot_total table s (count spot_cmp table s + 1) q
 
-pub count_rises : (table : List (Spot × ℕ)) (s q : Spot) → count spot_cmp table q ≤ count spot_cmp (with_grant table s) q
+pub count_rises : (table : Table) (s q : Spot) → count spot_cmp table q ≤ count spot_cmp (with_grant table s) q
 count_rises table s q = subst (λ n. count spot_cmp table q ≤ n) (sym (count_granted table s q)) (by (eq_by_cmp spot_cmp q s) refl)
   where
     by : (b : Bool) → eq_by_cmp spot_cmp q s ≡ b → count spot_cmp table q ≤ cond b (count spot_cmp table s + 1) (count spot_cmp table q)
@@ -133,11 +133,11 @@ ready_rises c M q = let N = line_up (phased c M) in
     elim N.serving as (λ b. count spot_cmp M.table q ≤ count spot_cmp (elim b as (λ _. Master) [ true ↦ settled c N | false ↦ N ]).table q) [ true ↦ settle_rises c (all_out N) N q | false ↦ omega arith ]
 
 -- grants that are left out
-pub count_left : (p : Spot → Bool) (table : List (Spot × ℕ)) (q : Spot) → count spot_cmp (where_key spot_cmp p table) q ≡ cond (p q) (count spot_cmp table q) 0
+pub count_left : (p : Spot → Bool) (table : Table) (q : Spot) → count spot_cmp (where_key spot_cmp p table) q ≡ cond (p q) (count spot_cmp table q) 0
 count_left p table q = count_where spot_cmp same_spot p table q
 
 -- losers
-pub count_without : (ss : List Spot) (table : List (Spot × ℕ)) (q : Spot) → count spot_cmp (without_grants table ss) q ≤ count spot_cmp table q
+pub count_without : (ss : List Spot) (table : Table) (q : Spot) → count spot_cmp (without_grants table ss) q ≤ count spot_cmp table q
 count_without [] table q = omega arith
 count_without (s ∷ ss) table q =
     let n = count spot_cmp table s - 1 in
@@ -165,7 +165,7 @@ other_job q s n = by (eq_by_cmp spot_cmp q s) refl
     by false t = t
 
 -- a report changes its machine alone
-pub adopted_beside : (jobs : List KnownJob) (m : ℕ) (es : List (RowKey × ℕ)) (table : List (Spot × ℕ)) (q : Spot) → nat_eq q.machine m ≡ false → count spot_cmp (adopted jobs m es table) q ≡ count spot_cmp table q
+pub adopted_beside : (jobs : List KnownJob) (m : ℕ) (es : List (RowKey × ℕ)) (table : Table) (q : Spot) → nat_eq q.machine m ≡ false → count spot_cmp (adopted jobs m es table) q ≡ count spot_cmp table q
 adopted_beside jobs m [] table q n = refl
 adopted_beside jobs m (e ∷ es) table q n =
     adopted_beside jobs m es (cond (is_kept jobs e.0) (put spot_cmp (spot e.0.job e.0.unit m) e.1 table) table) q n
@@ -173,14 +173,14 @@ adopted_beside jobs m (e ∷ es) table q n =
     (λ _. ap (λ o. unwrap_or o 0) (find-put spot_cmp spot_total q (spot e.0.job e.0.unit m) e.1 table) ∙ ap (λ b. unwrap_or (cond b (Some e.1) (find spot_cmp q table)) 0) (other_machine q (spot e.0.job e.0.unit m) n)) (λ _. refl)
 
 -- crediting a job takes nothing of others, and gives nothing
-abbrev pub credit_one : ℕ → List (Key × ℕ) → Key × ℕ → List (Spot × ℕ) → List (Spot × ℕ)
+abbrev pub credit_one : ℕ → List (Key × ℕ) → Key × ℕ → Table → Table
 credit_one a credited e table =
     let s = spot a e.0.unit e.0.number in
     let here = count spot_cmp table s in
     let more = e.1 - count key_cmp credited (credited_key e.0.unit e.0.number) in
     cond (is_back e.0) (set_count spot_cmp table s (here - min more here)) table
 
-pub credit_falls : (a : ℕ) (credited es : List (Key × ℕ)) (table : List (Spot × ℕ)) (q : Spot) → count spot_cmp (credit a credited es table) q ≤ count spot_cmp table q
+pub credit_falls : (a : ℕ) (credited es : List (Key × ℕ)) (table : Table) (q : Spot) → count spot_cmp (credit a credited es table) q ≤ count spot_cmp table q
 credit_falls a credited [] table q = omega arith
 credit_falls a credited (e ∷ es) table q =
     let s = spot a e.0.unit e.0.number in
@@ -195,7 +195,7 @@ credit_falls a credited (e ∷ es) table q =
     by s n le true e = let same : count spot_cmp table q ≡ count spot_cmp table s = ap (count spot_cmp table) (same_spot q s (tied _ e)) in omega (arith, same, le)
     by s n le false e = omega arith
 
-pub credit_beside : (a : ℕ) (credited es : List (Key × ℕ)) (table : List (Spot × ℕ)) (q : Spot) → nat_eq q.job a ≡ false → count spot_cmp (credit a credited es table) q ≡ count spot_cmp table q
+pub credit_beside : (a : ℕ) (credited es : List (Key × ℕ)) (table : Table) (q : Spot) → nat_eq q.job a ≡ false → count spot_cmp (credit a credited es table) q ≡ count spot_cmp table q
 credit_beside a credited [] table q n = refl
 credit_beside a credited (e ∷ es) table q n =
     let s = spot a e.0.unit e.0.number in
@@ -206,23 +206,23 @@ credit_beside a credited (e ∷ es) table q n =
     (λ _. count-set_count spot_total table s k q ∙ ap (λ b. cond b k (count spot_cmp table q)) (other_job q s n)) (λ _. refl)
 
 -- Tables in order stay so
-abbrev pub IsSorted : List (Spot × ℕ) → Type 0
+abbrev pub IsSorted : Table → Type 0
 IsSorted table = T (is_sorted spot_cmp table)
 
 -- a number set keeps the order
-pub sorted_set : (table : List (Spot × ℕ)) (s : Spot) (n : ℕ) → IsSorted table → IsSorted (set_count spot_cmp table s n)
+pub sorted_set : (table : Table) (s : Spot) (n : ℕ) → IsSorted table → IsSorted (set_count spot_cmp table s n)
 sorted_set table s n h = either IsSorted (nat_eq n 0) (where_key spot_cmp (λ x. not (eq_by_cmp spot_cmp s x)) table) (put spot_cmp s n table) (λ _. is_sorted-where_key spot_cmp _ table h) (λ _. is_sorted-put spot_cmp spot_total s n table h)
 
 -- so do losers
-pub sorted_without : (ss : List Spot) (table : List (Spot × ℕ)) → IsSorted table → IsSorted (without_grants table ss)
+pub sorted_without : (ss : List Spot) (table : Table) → IsSorted table → IsSorted (without_grants table ss)
 sorted_without [] table k = k
 sorted_without (s ∷ ss) table k = sorted_without ss (set_count spot_cmp table s (count spot_cmp table s - 1)) (sorted_set table s _ k)
 
-pub sorted_adopted : (jobs : List KnownJob) (m : ℕ) (es : List (RowKey × ℕ)) (table : List (Spot × ℕ)) → IsSorted table → IsSorted (adopted jobs m es table)
+pub sorted_adopted : (jobs : List KnownJob) (m : ℕ) (es : List (RowKey × ℕ)) (table : Table) → IsSorted table → IsSorted (adopted jobs m es table)
 sorted_adopted jobs m [] table h = h
 sorted_adopted jobs m (e ∷ es) table h = sorted_adopted jobs m es _ (either IsSorted (is_kept jobs e.0) (put spot_cmp (spot e.0.job e.0.unit m) e.1 table) table (λ _. is_sorted-put spot_cmp spot_total (spot e.0.job e.0.unit m) e.1 table h) (λ _. h))
 
-pub sorted_credit : (a : ℕ) (credited es : List (Key × ℕ)) (table : List (Spot × ℕ)) → IsSorted table → IsSorted (credit a credited es table)
+pub sorted_credit : (a : ℕ) (credited es : List (Key × ℕ)) (table : Table) → IsSorted table → IsSorted (credit a credited es table)
 sorted_credit a credited [] table h = h
 sorted_credit a credited (e ∷ es) table h =
     let s = spot a e.0.unit e.0.number in

@@ -7,7 +7,7 @@ use Rattle.fuxi_terms.specs.Keys.{Spot, spot_cmp}
 use Rattle.fuxi_terms.specs.Counts.{count}
 use Rattle.written_roles.specs.Masters.{Master}
 use Rattle.written_roles.specs.Preemption.{is_enough, set_at_place, part_at, without_one}
-use Rattle.fuxi_terms.specs.Tables.{total_at, usage_at}
+use Rattle.fuxi_terms.specs.Tables.{total_at, usage_at, Table}
 use Rattle.fuxi_terms.specs.Jobs.{size_at, group_of}
 
 -- how often a spot stands in a set of single grants
@@ -18,7 +18,7 @@ abbrev pub often : Spot → List Spot → ℕ
 often s ss = sum_by (one_if s) ss
 
 -- single grants of a table, all on one machine
-pub record AreGrantsOn (table : List (Spot × ℕ)) (m : ℕ) (set : List Spot) : Type 0 where
+pub record AreGrantsOn (table : Table) (m : ℕ) (set : List Spot) : Type 0 where
   pub few : (s : Spot) → often s set ≤ count spot_cmp table s
   pub on : AllByRecursion (λ s. s.machine ≡ m) set
 

@@ -12,7 +12,7 @@ use Rattle.fuxi_terms.specs.Lists.{below}
 use Rattle.fuxi_terms.specs.Numbers.{has_number, with_number, without_number}
 use Rattle.fuxi_terms.specs.Jobs.{KnownJob, eight_places, is_known, is_live, unit_of, unit_count, job_numbers}
 use Rattle.fuxi_terms.specs.TallyKeys.{reported_key, count_key, credited_key, is_back}
-use Rattle.fuxi_terms.specs.Tables.{spot}
+use Rattle.fuxi_terms.specs.Tables.{spot, Table}
 use Rattle.written_net.specs.Net.{Id, Party}
 use Rattle.written_net.specs.Ledgers.{Ledger, nothing, row_ledger, tally_ledger}
 use Rattle.written_net.specs.Channels.{master_id, agent_id, app_id, is_agent, is_app, party, Offer}
@@ -33,7 +33,7 @@ abbrev pub row : Master → ℕ → Ledger
 row M m = row_ledger (map (λ e. (spot_row_key M.jobs e.0, e.1)) (filter (λ e. nat_eq e.0.machine m) M.table))
 
 -- what the application of a job should hold: its boot, the reported machines, its counts, and what is credited
-abbrev pub count_entries : ℕ → List (Spot × ℕ) → List (Key × ℕ)
+abbrev pub count_entries : ℕ → Table → List (Key × ℕ)
 count_entries a table = map (λ e. (count_key e.0.unit e.0.machine, e.1)) (filter (λ e. nat_eq e.0.job a) table)
 
 abbrev pub grants : Master → ℕ → ℕ → Ledger
@@ -78,7 +78,7 @@ same_size a b = fits a b && fits b a
 abbrev pub is_kept : List KnownJob → RowKey → Bool
 is_kept jobs k = is_live jobs k.job && (nat_lt k.unit (unit_count jobs k.job) && same_size (unit_of jobs k.job k.unit).size k.size)
 
-abbrev pub adopted : List KnownJob → ℕ → List (RowKey × ℕ) → List (Spot × ℕ) → List (Spot × ℕ)
+abbrev pub adopted : List KnownJob → ℕ → List (RowKey × ℕ) → Table → Table
 adopted jobs m [] table = table
 adopted jobs m (e ∷ es) table = adopted jobs m es (cond (is_kept jobs e.0) (put spot_cmp (spot e.0.job e.0.unit m) e.1 table) table)
 
@@ -99,7 +99,7 @@ abbrev pub counted : ClusterRecord → List KnownJob → ℕ → Ledger → Ledg
 counted c jobs a d = tally_ledger d.head (where_key key_cmp (is_there c (unit_count jobs a)) d.entries)
 
 -- of what is given back and not yet credited the table loses what it has
-abbrev pub credit : ℕ → List (Key × ℕ) → List (Key × ℕ) → List (Spot × ℕ) → List (Spot × ℕ)
+abbrev pub credit : ℕ → List (Key × ℕ) → List (Key × ℕ) → Table → Table
 credit a credited [] table = table
 credit a credited (e ∷ es) table =
     let s = spot a e.0.unit e.0.number in

@@ -4,7 +4,7 @@ use Rattle.std.specs.List.{AllByRecursion}
 use Rattle.fuxi_terms.specs.Cluster.{ClusterRecord, has_machine, is_valid_job}
 use Rattle.fuxi_terms.specs.Limits.{most_resources}
 use Rattle.fuxi_terms.specs.Jobs.{KnownJob, priority_of}
-use Rattle.fuxi_terms.specs.Keys.{Spot}
+use Rattle.fuxi_terms.specs.Keys.{Spot, Pair}
 use Rattle.written_roles.specs.Masters.{Master, level}
 use Rattle.written_roles.specs.Placing.{placeable}
 
@@ -19,7 +19,7 @@ pub record Precedence : Type 0 where
   pub place : ℕ
   pub machine : ℕ
 
-abbrev pub precedence : ClusterRecord → Master → ℕ → ℕ × ℕ → ℕ → Precedence
+abbrev pub precedence : ClusterRecord → Master → ℕ → Pair → ℕ → Precedence
 precedence c M place p m = record { priority = priority_of M.jobs p.0 p.1; level = level c M p.0 p.1 m; place = place; machine = m }
 
 -- one is not placed before another: it has a lower priority, or the same and a greater level, or the same and a later place, or the same and a
@@ -36,5 +36,5 @@ pub record IsPlacedInOrder (c : ClusterRecord) (M : Master) (s : Spot) : Type 0 
   pub place : ℕ
   pub there : slice_get M.line place ≡ Some (s.job, s.unit)
   pub may : placeable c M s.job s.unit s.machine ≡ true
-  pub first : (n m : ℕ) (p : ℕ × ℕ) → slice_get M.line n ≡ Some p → has_machine c m ≡ true → placeable c M p.0 p.1 m ≡ true
+  pub first : (n m : ℕ) (p : Pair) → slice_get M.line n ≡ Some p → has_machine c m ≡ true → placeable c M p.0 p.1 m ≡ true
       → IsNotBefore (precedence c M n p m) (precedence c M place (s.job, s.unit) s.machine)

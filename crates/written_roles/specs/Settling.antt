@@ -4,7 +4,7 @@ use Rattle.std.specs.Ordering.{nat_cmp, is_lt}
 use Rattle.std.specs.Cmp.Lexicographic.{slice_cmp}
 use Rattle.std.specs.FinMap.Entries.{is_sorted}
 use Rattle.fuxi_terms.specs.Cluster.{ClusterRecord, has_at, has_machine}
-use Rattle.fuxi_terms.specs.Keys.{Spot, spot_cmp}
+use Rattle.fuxi_terms.specs.Keys.{Spot, spot_cmp, Pair}
 use Rattle.written_roles.specs.Masters.{Master}
 use Rattle.fuxi_terms.specs.Tables.{total_at}
 use Rattle.written_roles.specs.Placing.{has_pair, placeable, ranked, first_placeable, granted}
@@ -28,5 +28,5 @@ pub record IsFirst (c : ClusterRecord) (M : Master) (s : Spot) : Type 0 where
   pub place : ℕ
   pub there : slice_get M.line place ≡ Some (s.job, s.unit)
   pub may : placeable c M s.job s.unit s.machine ≡ true
-  pub first : (n m : ℕ) (p : ℕ × ℕ) → slice_get M.line n ≡ Some p → has_machine c m ≡ true → placeable c M p.0 p.1 m ≡ true
+  pub first : (n m : ℕ) (p : Pair) → slice_get M.line n ≡ Some p → has_machine c m ≡ true → placeable c M p.0 p.1 m ≡ true
       → is_lt (slice_cmp nat_cmp (ranked c M n p m).rank (ranked c M place (s.job, s.unit) s.machine).rank) ≡ false

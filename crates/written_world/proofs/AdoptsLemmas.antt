@@ -12,7 +12,7 @@ use Rattle.fuxi_terms.specs.Counts.{count}
 use Rattle.fuxi_terms.specs.Jobs.{KnownJob, is_known, is_live, unit_count, unit_of, no_unit, job_of}
 use Rattle.fuxi_terms.specs.Keys.{RowKey, row_cmp, Spot, spot_cmp}
 use Rattle.fuxi_terms.specs.Numbers.{has_number}
-use Rattle.fuxi_terms.specs.Tables.{spot, held_on}
+use Rattle.fuxi_terms.specs.Tables.{spot, held_on, Table}
 use Rattle.fuxi_terms.specs.Vectors.{fits}
 use Rattle.fuxi_terms.proofs.Alls.{all_more}
 use Rattle.fuxi_terms.proofs.VectorLaws.{fits_places}
@@ -56,7 +56,7 @@ other_rows k (r ∷ rs) h = (by (eq_by_cmp row_cmp k r.0) refl, other_rows k rs 
     by false t = t
 
 -- a row of another key leaves what a row put
-put_other : (jobs : List KnownJob) (m : ℕ) (k : RowKey) (r : RowKey × ℕ) (table : List (Spot × ℕ)) → IsExact jobs r.0 → k.size ≡ (unit_of jobs k.job k.unit).size → eq_by_cmp row_cmp k r.0 ≡ false
+put_other : (jobs : List KnownJob) (m : ℕ) (k : RowKey) (r : RowKey × ℕ) (table : Table) → IsExact jobs r.0 → k.size ≡ (unit_of jobs k.job k.unit).size → eq_by_cmp row_cmp k r.0 ≡ false
     → count spot_cmp (cond (is_kept jobs r.0) (put spot_cmp (spot r.0.job r.0.unit m) r.1 table) table) (spot k.job k.unit m) ≡ count spot_cmp table (spot k.job k.unit m)
 put_other jobs m k r table exact size other = either (λ t. count spot_cmp t (spot k.job k.unit m) ≡ count spot_cmp table (spot k.job k.unit m)) (is_kept jobs r.0) (put spot_cmp (spot r.0.job r.0.unit m) r.1 table) table
     (λ kept. ap (λ o. unwrap_or o 0) (find-put spot_cmp spot_total (spot k.job k.unit m) (spot r.0.job r.0.unit m) r.1 table) ∙ ap (λ b. unwrap_or (cond b (Some r.1) (find spot_cmp (spot k.job k.unit m) table)) 0) (apart kept (eq_by_cmp spot_cmp (spot k.job k.unit m) (spot r.0.job r.0.unit m)) refl)) (λ _. refl)
@@ -73,7 +73,7 @@ put_other jobs m k r table exact size other = either (λ t. count spot_cmp t (sp
         let yes : eq_by_cmp row_cmp k r.0 ≡ true = ap (λ q. eq_by_cmp row_cmp k q) (sym key) ∙ ap is_eq (tied_itself row_key_total k) in
         absurd (let f : ⊥ = cc in f)
 
-adopted_other : (jobs : List KnownJob) (m : ℕ) (k : RowKey) (rows : List (RowKey × ℕ)) (table : List (Spot × ℕ)) → AllByRecursion (λ r. IsExact jobs r.0) rows → k.size ≡ (unit_of jobs k.job k.unit).size → AllByRecursion (λ r. eq_by_cmp row_cmp k r.0 ≡ false) rows
+adopted_other : (jobs : List KnownJob) (m : ℕ) (k : RowKey) (rows : List (RowKey × ℕ)) (table : Table) → AllByRecursion (λ r. IsExact jobs r.0) rows → k.size ≡ (unit_of jobs k.job k.unit).size → AllByRecursion (λ r. eq_by_cmp row_cmp k r.0 ≡ false) rows
     → count spot_cmp (adopted jobs m rows table) (spot k.job k.unit m) ≡ count spot_cmp table (spot k.job k.unit m)
 adopted_other jobs m k [] table exact size other = refl
 adopted_other jobs m k (r ∷ rs) table exact size other = adopted_other jobs m k rs (cond (is_kept jobs r.0) (put spot_cmp (spot r.0.job r.0.unit m) r.1 table) table) exact.1 size other.1 ∙ put_other jobs m k r table exact.0 size other.0
@@ -87,10 +87,10 @@ size_kept jobs k live unit size = and_true (is_live jobs k.job) (nat_lt k.unit (
     itself = (fits_places k.size k.size).1 (λ i. omega arith)
 
 -- each row that is kept is then in the table
-abbrev HeldFrom : List KnownJob → ℕ → List (Spot × ℕ) → RowKey × ℕ → Type 0
+abbrev HeldFrom : List KnownJob → ℕ → Table → RowKey × ℕ → Type 0
 HeldFrom jobs m table e = is_live jobs e.0.job ≡ true → e.0.unit < unit_count jobs e.0.job → e.0.size ≡ (unit_of jobs e.0.job e.0.unit).size → e.1 ≤ held_on table e.0.job e.0.unit m
 
-adopted_held : (jobs : List KnownJob) (m : ℕ) (rows : List (RowKey × ℕ)) (table : List (Spot × ℕ)) → T (is_sorted row_cmp rows) → AllByRecursion (λ r. IsExact jobs r.0) rows → AllByRecursion (HeldFrom jobs m (adopted jobs m rows table)) rows
+adopted_held : (jobs : List KnownJob) (m : ℕ) (rows : List (RowKey × ℕ)) (table : Table) → T (is_sorted row_cmp rows) → AllByRecursion (λ r. IsExact jobs r.0) rows → AllByRecursion (HeldFrom jobs m (adopted jobs m rows table)) rows
 adopted_held jobs m [] table k exact = tt
 adopted_held jobs m (e ∷ es) table k exact = (
   λ live unit size.

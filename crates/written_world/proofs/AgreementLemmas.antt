@@ -22,7 +22,7 @@ use Rattle.fuxi_terms.specs.Cluster.{has_machine}
 use Rattle.fuxi_terms.specs.Lists.{below}
 use Rattle.fuxi_terms.specs.Numbers.{has_number, with_number}
 use Rattle.written_roles.specs.Masters.{Master, credited_of}
-use Rattle.fuxi_terms.specs.Tables.{spot, held_on}
+use Rattle.fuxi_terms.specs.Tables.{spot, held_on, Table}
 use Rattle.written_world.specs.World.{World, Agent, App}
 use Rattle.written_roles.specs.MasterSteps.{master_party, spot_row_key, count_entries, grants}
 use Rattle.written_roles.specs.Refusals.{with_found}
@@ -42,14 +42,14 @@ module _ (jobs : List KnownJob) (a u m : ℕ) where
   abbrev counted : RowKey × ℕ → ℕ
   counted e = cond (nat_eq e.0.job a && nat_eq e.0.unit u) e.1 0
 
-  abbrev row_of : List (Spot × ℕ) → List (RowKey × ℕ)
+  abbrev row_of : Table → List (RowKey × ℕ)
   row_of table = map (λ e. (spot_row_key jobs e.0, e.1)) (filter (λ e. nat_eq e.0.machine m) table)
 
   zero_more : (n : ℕ) → 0 + n ≡ n
   zero_more n = omega arith
 
   -- an entry at another place counts nothing
-  other_entry : (e : Spot × ℕ) (es : List (Spot × ℕ)) → eq_by_cmp spot_cmp (spot a u m) e.0 ≡ false → sum_by counted (row_of (e ∷ es)) ≡ sum_by counted (row_of es)
+  other_entry : (e : Spot × ℕ) (es : Table) → eq_by_cmp spot_cmp (spot a u m) e.0 ≡ false → sum_by counted (row_of (e ∷ es)) ≡ sum_by counted (row_of es)
   other_entry e es apart = by_machine (nat_eq e.0.machine m) refl
     where
       by_pair : (b : Bool) → (nat_eq e.0.job a && nat_eq e.0.unit u) ≡ b → nat_eq e.0.machine m ≡ true → cond b e.1 0 ≡ 0
@@ -67,7 +67,7 @@ module _ (jobs : List KnownJob) (a u m : ℕ) where
       by_machine false k = refl
       by_machine true k = sum_by-cons counted (spot_row_key jobs e.0, e.1) (row_of es) ∙ ap (λ n. n + sum_by counted (row_of es)) (by_pair (nat_eq e.0.job a && nat_eq e.0.unit u) refl k) ∙ zero_more (sum_by counted (row_of es))
 
-  own_entry : (e : Spot × ℕ) (es : List (Spot × ℕ)) → spot a u m ≡ e.0 → sum_by counted (row_of (e ∷ es)) ≡ e.1 + sum_by counted (row_of es)
+  own_entry : (e : Spot × ℕ) (es : Table) → spot a u m ≡ e.0 → sum_by counted (row_of (e ∷ es)) ≡ e.1 + sum_by counted (row_of es)
   own_entry e es same =
       let here : nat_eq e.0.machine m ≡ true = let k : m ≡ e.0.machine = ap (λ (s : Spot). s.machine) same in grind (arith, nat_tests, k) in
       let pair : (nat_eq e.0.job a && nat_eq e.0.unit u) ≡ true =
@@ -77,7 +77,7 @@ module _ (jobs : List KnownJob) (a u m : ℕ) where
       ∙ sum_by-cons counted (spot_row_key jobs e.0, e.1) (row_of es)
       ∙ ap (λ b. cond b e.1 0 + sum_by counted (row_of es)) pair
 
-  row_counts : (table : List (Spot × ℕ)) → T (is_sorted spot_cmp table) → sum_by counted (row_of table) ≡ unwrap_or (find spot_cmp (spot a u m) table) 0
+  row_counts : (table : Table) → T (is_sorted spot_cmp table) → sum_by counted (row_of table) ≡ unwrap_or (find spot_cmp (spot a u m) table) 0
   row_counts [] s = refl
   row_counts (e ∷ es) s =
       let parts = both (below_all spot_cmp e.0 es) (is_sorted spot_cmp es) s in

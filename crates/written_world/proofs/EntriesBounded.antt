@@ -23,6 +23,7 @@ use Rattle.written_roles.specs.MasterSteps.{spot_row_key, row, count_entries, gr
 use Rattle.written_world.specs.Good.{greatest_in_credits, greatest_in_grants, greatest_in_table, NamesJobs, IsOfJob, FitsMachines, IsBounded, IsInOrder, KnowsMore, reported_entries}
 use Rattle.fuxi_terms.proofs.Booleans.{number_is, nat_itself, or_right, where_le}
 use Rattle.fuxi_terms.proofs.Alls.{all_more}
+use Rattle.fuxi_terms.specs.Tables.{Table}
 use Rattle.written_world.proofs.CountsLemmas.{and_both, below_append, counts_append, counts_mapped, counts_wider, all_kept}
 use Rattle.written_world.proofs.TablesBounded.{holds_more}
 
@@ -33,7 +34,7 @@ record IsGrant (c : ClusterRecord) (jobs : List KnownJob) (e : Spot × ℕ) : Ty
   machine : has_machine c e.0.machine ≡ true
   few : e.1 ≤ greatest_count
 
-all_grants : (c : ClusterRecord) (M : Master) (es : List (Spot × ℕ)) → ((m : ℕ) → has_number m M.reported ≡ true → has_machine c m ≡ true) → AllByRecursion (λ e. is_live M.jobs e.0.job ≡ true) es → AllByRecursion (λ e. has_number e.0.machine M.reported ≡ true) es
+all_grants : (c : ClusterRecord) (M : Master) (es : Table) → ((m : ℕ) → has_number m M.reported ≡ true → has_machine c m ≡ true) → AllByRecursion (λ e. is_live M.jobs e.0.job ≡ true) es → AllByRecursion (λ e. has_number e.0.machine M.reported ≡ true) es
     → AllByRecursion (λ e. 0 < e.1) es → AllByRecursion (λ e. e.1 ≤ greatest_in_table M.jobs e.0) es → AllByRecursion (IsGrant c M.jobs) es
 all_grants c M [] r l m p w = tt
 all_grants c M (e ∷ es) r l m p w = (record { live = l.0; unit = unit (nat_lt e.0.unit (unit_count M.jobs e.0.job)) refl w.0; machine = r e.0.machine m.0; few = (let le = where_le (nat_lt e.0.unit (unit_count M.jobs e.0.job)) greatest_count in let v = w.0 in omega (arith, le, v)) }, all_grants c M es r l.1 m.1 p.1 w.1)

@@ -16,7 +16,7 @@ use Rattle.fuxi_terms.specs.TallyKeys.{count_key}
 use Rattle.fuxi_terms.specs.Jobs.{KnownJob, job_of, is_known, is_live, no_unit, units_of, size_at}
 use Rattle.fuxi_terms.specs.Lists.{below}
 use Rattle.written_roles.specs.Masters.{Master}
-use Rattle.fuxi_terms.specs.Tables.{spot, held_on, total_at}
+use Rattle.fuxi_terms.specs.Tables.{spot, held_on, total_at, Table}
 use Rattle.written_roles.specs.MasterSteps.{grants}
 use Rattle.written_world.specs.Safe.{units_total_at}
 use Rattle.fuxi_terms.proofs.KeyOrders.{same_spot}
@@ -127,7 +127,7 @@ entry_share jobs a m i n e = by (nat_eq e.0.job a) refl (nat_eq e.0.machine m) r
         omega (arith, sum, c, here)
 
 -- what a table says of a job's units on a machine is at most what it takes there
-pub units_share : (jobs : List KnownJob) (a m i n : ℕ) (table : List (Spot × ℕ)) → units_total_at jobs a n (λ u. held_on table a u m) i ≤ total_at jobs m i table
+pub units_share : (jobs : List KnownJob) (a m i n : ℕ) (table : Table) → units_total_at jobs a n (λ u. held_on table a u m) i ≤ total_at jobs m i table
 units_share jobs a m i n [] =
     let z = one_unit (λ u. 0 * size_at jobs a u i) 0 n (λ u _. refl_zero (size_at jobs a u i)) in
     let c : cond (nat_lt 0 n) (0 * size_at jobs a 0 i) 0 ≡ 0 = elim (nat_lt 0 n) as (λ b. cond b (0 * size_at jobs a 0 i) 0 ≡ 0) [ true ↦ omega arith | false ↦ refl ] in

@@ -14,7 +14,7 @@ use Rattle.written_net.specs.Ledgers.{at_key}
 use Rattle.fuxi_terms.specs.TallyKeys.{reported_key, count_key, credited_key}
 use Rattle.fuxi_terms.specs.Jobs.{is_live}
 use Rattle.written_roles.specs.Masters.{Master, credited_of}
-use Rattle.fuxi_terms.specs.Tables.{spot, held_on}
+use Rattle.fuxi_terms.specs.Tables.{spot, held_on, Table}
 use Rattle.written_roles.specs.MasterSteps.{count_entries, grants}
 use Rattle.fuxi_terms.proofs.KeyOrders.{key_total, spot_total, same_key, same_spot}
 use Rattle.fuxi_terms.proofs.Booleans.{number_is, same_tests}
@@ -44,7 +44,7 @@ no_reported : (q : Key) → nat_eq q.what 1 ≡ false → (ms : List ℕ) → fi
 no_reported q e [] = refl
 no_reported q e (m ∷ ms) = ap (λ b. cond {A = Option ℕ} b (Some 1) (find key_cmp q (reported_entries ms))) (not_tied q (reported_key m) (kind_differs q (reported_key m) e)) ∙ no_reported q e ms
 
-no_counts : (q : Key) → nat_eq q.what 2 ≡ false → (a : ℕ) (es : List (Spot × ℕ)) → find key_cmp q (count_entries a es) ≡ None
+no_counts : (q : Key) → nat_eq q.what 2 ≡ false → (a : ℕ) (es : Table) → find key_cmp q (count_entries a es) ≡ None
 no_counts q e a [] = refl
 no_counts q e a (x ∷ es) = elim (nat_eq x.0.job a) as (λ b. find key_cmp q (map (λ e. (count_key e.0.unit e.0.machine, e.1)) (cond b (x ∷ filter (λ e. nat_eq e.0.job a) es) (filter (λ e. nat_eq e.0.job a) es))) ≡ None) [
   | true ↦ ap (λ b. cond b (Some x.1) (find key_cmp q (count_entries a es))) (not_tied q (count_key x.0.unit x.0.machine) (kind_differs q (count_key x.0.unit x.0.machine) e)) ∙ no_counts q e a es
@@ -52,7 +52,7 @@ no_counts q e a (x ∷ es) = elim (nat_eq x.0.job a) as (λ b. find key_cmp q (m
 ]
 
 -- a count of the grants is the count of the table
-one_count : (a u m : ℕ) (e : Spot × ℕ) (es : List (Spot × ℕ)) → find key_cmp (count_key u m) (count_entries a es) ≡ find spot_cmp (spot a u m) es
+one_count : (a u m : ℕ) (e : Spot × ℕ) (es : Table) → find key_cmp (count_key u m) (count_entries a es) ≡ find spot_cmp (spot a u m) es
     → find key_cmp (count_key u m) (count_entries a (e ∷ es)) ≡ cond (eq_by_cmp spot_cmp (spot a u m) e.0) (Some e.1) (find spot_cmp (spot a u m) es)
 one_count a u m e es rest = by (nat_eq e.0.job a) refl
   where
@@ -77,7 +77,7 @@ one_count a u m e es rest = by (nat_eq e.0.job a) refl
     by true t = ap (cond (eq_by_cmp key_cmp (count_key u m) (count_key e.0.unit e.0.machine)) (Some e.1)) rest ∙ ap (λ b. cond b (Some e.1) (find spot_cmp (spot a u m) es)) (tests t)
     by false t = rest ∙ sym (ap (λ b. cond b (Some e.1) (find spot_cmp (spot a u m) es)) (apart (eq_by_cmp spot_cmp (spot a u m) e.0) refl t))
 
-counts_found : (a u m : ℕ) (es : List (Spot × ℕ)) → find key_cmp (count_key u m) (count_entries a es) ≡ find spot_cmp (spot a u m) es
+counts_found : (a u m : ℕ) (es : Table) → find key_cmp (count_key u m) (count_entries a es) ≡ find spot_cmp (spot a u m) es
 counts_found a u m [] = refl
 counts_found a u m (e ∷ es) = one_count a u m e es (counts_found a u m es)
 

@@ -16,6 +16,7 @@ use Rattle.written_roles.specs.MasterSteps.{master_party, peers, spot_row_key, i
 use Rattle.written_world.specs.Parties.{projection, offers, told, adopted_now}
 use Rattle.written_world.specs.Good.{FitsMachines}
 use Rattle.fuxi_terms.proofs.Booleans.{both_false, either, number_is, same_tests, or_false, eq_turned, or_right}
+use Rattle.fuxi_terms.specs.Tables.{Table}
 use Rattle.written_net.proofs.NetLemmas.{id_is}
 use Rattle.written_net.proofs.PublishLemmas.{set_here, set_beside, publish_grows}
 use Rattle.written_world.proofs.SettledLemmas.{number_below, number_with}
@@ -67,7 +68,7 @@ is_peer m (k ∷ ks) ys h = elim (nat_eq m k) as (λ b. nat_eq m k ≡ b → (b 
   | false ↦ λ _ h. or_right (nat_eq k m) _ (is_peer m ks ys h)
 ] refl h
 
-no_row : (jobs : List KnownJob) (m : ℕ) (rs : List ℕ) (es : List (Spot × ℕ)) → has_number m rs ≡ false → AllByRecursion (λ e. has_number e.0.machine rs ≡ true) es → map {B = RowKey × ℕ} (λ (e : Spot × ℕ). (spot_row_key jobs e.0, e.1)) (filter (λ e. nat_eq e.0.machine m) es) ≡ []
+no_row : (jobs : List KnownJob) (m : ℕ) (rs : List ℕ) (es : Table) → has_number m rs ≡ false → AllByRecursion (λ e. has_number e.0.machine rs ≡ true) es → map {B = RowKey × ℕ} (λ (e : Spot × ℕ). (spot_row_key jobs e.0, e.1)) (filter (λ e. nat_eq e.0.machine m) es) ≡ []
 no_row jobs m rs [] none h = refl
 no_row jobs m rs (e ∷ es) none h = elim (nat_eq e.0.machine m) as (λ b. nat_eq e.0.machine m ≡ b → map {B = RowKey × ℕ} (λ (e : Spot × ℕ). (spot_row_key jobs e.0, e.1)) (cond b (e ∷ filter (λ e. nat_eq e.0.machine m) es) (filter (λ e. nat_eq e.0.machine m) es)) ≡ []) [
   | true ↦ λ t. let yes : has_number m rs ≡ true = subst (λ k. has_number k rs ≡ true) (number_is e.0.machine m t) h.0 in absurd (let f : ⊥ = cc in f)

@@ -7,7 +7,7 @@ use Rattle.std.specs.Ordering.{nat_cmp}
 use Rattle.std.specs.FinMap.Entries.{find}
 use Rattle.std.proofs.lemmas.Bool.Decides.{nat_tests}
 use Rattle.fuxi_terms.specs.Cluster.{ClusterRecord}
-use Rattle.fuxi_terms.specs.Keys.{Spot}
+use Rattle.fuxi_terms.specs.Keys.{Spot, Pair}
 use Rattle.written_net.specs.Ledgers.{nothing, at_key}
 use Rattle.fuxi_terms.specs.TallyKeys.{want_key}
 use Rattle.fuxi_terms.specs.Jobs.{KnownJob, job_of, unit_count, job_numbers}
@@ -75,14 +75,14 @@ job_listed (j ∷ js) a u h = elim (nat_eq j.job.number a) as (λ b. nat_eq j.jo
 ] refl h
 
 -- pairs in lists
-pair_append : (p : ℕ × ℕ) (xs ys : List (ℕ × ℕ)) → has_pair p (xs ++ ys) ≡ (has_pair p xs || has_pair p ys)
+pair_append : (p : Pair) (xs ys : List Pair) → has_pair p (xs ++ ys) ≡ (has_pair p xs || has_pair p ys)
 pair_append p [] ys = refl
 pair_append p (x ∷ xs) ys = elim (nat_eq p.0 x.0 && nat_eq p.1 x.1) as (λ b. (b || has_pair p (xs ++ ys)) ≡ ((b || has_pair p xs) || has_pair p ys)) [ true ↦ refl | false ↦ pair_append p xs ys ]
 
-same_pair : (p q : ℕ × ℕ) → (nat_eq p.0 q.0 && nat_eq p.1 q.1) ≡ true → p ≡ q
+same_pair : (p q : Pair) → (nat_eq p.0 q.0 && nat_eq p.1 q.1) ≡ true → p ≡ q
 same_pair p q e = let parts = both_true (nat_eq p.0 q.0) (nat_eq p.1 q.1) e in let a = number_is _ _ parts.0 in let b = number_is _ _ parts.1 in λ i. (a i, b i)
 
-pair_filter : (p : ℕ × ℕ) (test : ℕ × ℕ → Bool) (ps : List (ℕ × ℕ)) → test p ≡ true → has_pair p ps ≡ true → has_pair p (filter test ps) ≡ true
+pair_filter : (p : Pair) (test : Pair → Bool) (ps : List Pair) → test p ≡ true → has_pair p ps ≡ true → has_pair p (filter test ps) ≡ true
 pair_filter p test [] t h = cc
 pair_filter p test (q ∷ qs) t h = elim (nat_eq p.0 q.0 && nat_eq p.1 q.1) as (λ b. (nat_eq p.0 q.0 && nat_eq p.1 q.1) ≡ b → (b || has_pair p qs) ≡ true → has_pair p (cond (test q) (q ∷ filter test qs) (filter test qs)) ≡ true) [
   | true ↦ λ e _.
@@ -100,7 +100,7 @@ pair_mapped a u (v ∷ vs) h = elim (nat_eq u v) as (λ b. nat_eq u v ≡ b → 
   | false ↦ λ e h. or_right (nat_eq a a && nat_eq u v) _ (pair_mapped a u vs h)
 ] refl h
 
-pair_flat : (a u : ℕ) (f : ℕ → List (ℕ × ℕ)) (ns : List ℕ) → has_number a ns ≡ true → has_pair (a, u) (f a) ≡ true → has_pair (a, u) (flat_map f ns) ≡ true
+pair_flat : (a u : ℕ) (f : ℕ → List Pair) (ns : List ℕ) → has_number a ns ≡ true → has_pair (a, u) (f a) ≡ true → has_pair (a, u) (flat_map f ns) ≡ true
 pair_flat a u f [] h k = cc
 pair_flat a u f (n ∷ ns) h k = pair_append (a, u) (f n) (flat_map f ns) ∙ elim (nat_eq a n) as (λ b. nat_eq a n ≡ b → (b || has_number a ns) ≡ true → (has_pair (a, u) (f n) || has_pair (a, u) (flat_map f ns)) ≡ true) [
   | true ↦ λ e _. or_left (has_pair (a, u) (f n)) _ (subst (λ x. has_pair (a, u) (f x) ≡ true) (number_is a n e) k)
@@ -120,7 +120,7 @@ waits c M r a u h =
     pair_flat a u (λ a. map (λ u. (a, u)) (filter (λ u. nat_lt 0 (out M a u)) (below (unit_count M.jobs a)))) (job_numbers M.jobs) (job_listed M.jobs a u there)
     (pair_mapped a u (filter (λ u. nat_lt 0 (out M a u)) (below (unit_count M.jobs a))) (number_filter u (λ u. nat_lt 0 (out M a u)) (below (unit_count M.jobs a)) h (number_below (unit_count M.jobs a) u there)))
 
-lined_has : (p : ℕ × ℕ) (line pairs : List (ℕ × ℕ)) → has_pair p pairs ≡ true → has_pair p (lined line pairs) ≡ true
+lined_has : (p : Pair) (line pairs : List Pair) → has_pair p pairs ≡ true → has_pair p (lined line pairs) ≡ true
 lined_has p line pairs h = pair_append p (filter (λ q. has_pair q pairs) line) (filter (λ q. not (has_pair q line)) pairs) ∙ elim (has_pair p line) as (λ b. has_pair p line ≡ b → (has_pair p (filter (λ q. has_pair q pairs) line) || has_pair p (filter (λ q. not (has_pair q line)) pairs)) ≡ true) [
   | true ↦ λ e. or_left (has_pair p (filter (λ q. has_pair q pairs) line)) _ (pair_filter p (λ q. has_pair q pairs) line h e)
   | false ↦ λ e. or_right (has_pair p (filter (λ q. has_pair q pairs) line)) _ (pair_filter p (λ q. not (has_pair q line)) pairs (ap not e) h)

@@ -12,7 +12,7 @@ use Rattle.std.proofs.lemmas.List.Sums.{sum_by-cons}
 use Rattle.fuxi_terms.specs.declared.Key.{Key}
 use Rattle.fuxi_terms.specs.Cluster.{ClusterRecord, JobRecord, has_machine}
 use Rattle.fuxi_terms.specs.Limits.{greatest_count}
-use Rattle.fuxi_terms.specs.Keys.{key_cmp, RowKey, row_cmp, Spot, spot_cmp}
+use Rattle.fuxi_terms.specs.Keys.{key_cmp, RowKey, row_cmp, Spot, spot_cmp, Pair}
 use Rattle.fuxi_terms.specs.Counts.{count, set_count, AreCounts}
 use Rattle.written_net.specs.Net.{Id, Heard, is_taken}
 use Rattle.written_net.specs.Ledgers.{Ledger, nothing}
@@ -22,7 +22,7 @@ use Rattle.fuxi_terms.specs.Jobs.{KnownJob, is_live, unit_count, priority_of}
 use Rattle.fuxi_terms.specs.Lists.{below}
 use Rattle.fuxi_terms.specs.Numbers.{has_number, with_number}
 use Rattle.written_roles.specs.Masters.{Master, demand_of, asked, out, credited_of}
-use Rattle.fuxi_terms.specs.Tables.{spot, held, with_grant, without_grants}
+use Rattle.fuxi_terms.specs.Tables.{spot, held, with_grant, without_grants, Table}
 use Rattle.written_roles.specs.Placing.{first_placeable, granted, settle, settled, all_out, line_up, accepts}
 use Rattle.written_roles.specs.Preemption.{Plan, falling_priorities, by_priority, tried, plan_of, preempted}
 use Rattle.written_roles.specs.HardState.{with_job, with_ended}
@@ -43,7 +43,7 @@ use Rattle.written_roles.proofs.MapLemmas.{found_put, put_beside, with_back}
 use Rattle.written_roles.proofs.TransitionsLemmas.{planned}
 
 -- Placing
-count_held : (es : List (Spot × ℕ)) (s : Spot) → count spot_cmp es s ≤ held es s.job s.unit
+count_held : (es : Table) (s : Spot) → count spot_cmp es s ≤ held es s.job s.unit
 count_held [] s = omega arith
 count_held (e ∷ es) s =
     let sum = sum_by-cons (λ (e : Spot × ℕ). cond (nat_eq e.0.job s.job && nat_eq e.0.unit s.unit) e.1 0) e es in
@@ -81,7 +81,7 @@ out_bounded c M a u h e =
         absurd (omega (arith, some, none))
 
 -- a grant of what is out, in a table with no more of it
-grant_counts : (jobs : List KnownJob) (table : List (Spot × ℕ)) (s : Spot) → nat_lt s.unit (unit_count jobs s.job) ≡ true → count spot_cmp table s < greatest_count → AreCounts spot_cmp (greatest_in_table jobs) table → AreCounts spot_cmp (greatest_in_table jobs) (with_grant table s)
+grant_counts : (jobs : List KnownJob) (table : Table) (s : Spot) → nat_lt s.unit (unit_count jobs s.job) ≡ true → count spot_cmp table s < greatest_count → AreCounts spot_cmp (greatest_in_table jobs) table → AreCounts spot_cmp (greatest_in_table jobs) (with_grant table s)
 grant_counts jobs table s there lt k =
     let most : greatest_in_table jobs s ≡ greatest_count = ap (λ b. where_holds b greatest_count) there in
     counts-set_count spot_total (greatest_in_table jobs) same_spot table s (count spot_cmp table s + 1) (omega (arith, most, lt)) k
@@ -103,11 +103,11 @@ ready_bounded c M h = let N = line_up (phased c M) in let k : IsBounded c N = re
     elim N.serving as (λ b. IsBounded c (elim b as (λ _. Master) [ true ↦ settled c N | false ↦ N ])) [ true ↦ settle_bounded c (all_out N) N k | false ↦ k ]
 
 -- Preempting
-record Lessened (jobs : List KnownJob) (old new : List (Spot × ℕ)) : Type 0 where
+record Lessened (jobs : List KnownJob) (old new : Table) : Type 0 where
   counts : AreCounts spot_cmp (greatest_in_table jobs) new
   less : (s : Spot) → count spot_cmp new s ≤ count spot_cmp old s
 
-without_bounded : (jobs : List KnownJob) (table : List (Spot × ℕ)) (ss : List Spot) → AreCounts spot_cmp (greatest_in_table jobs) table → Lessened jobs table (without_grants table ss)
+without_bounded : (jobs : List KnownJob) (table : Table) (ss : List Spot) → AreCounts spot_cmp (greatest_in_table jobs) table → Lessened jobs table (without_grants table ss)
 without_bounded jobs table [] k = record { counts = k; less = λ s. omega arith }
 without_bounded jobs table (s ∷ ss) k =
     let n = count spot_cmp table s - 1 in
@@ -135,7 +135,7 @@ preempted_bounded c M p e w h =
     let fewer = l.less p.served in
     record { counts = grant_counts M.jobs (without_grants M.table p.losers) p.served o.unit (omega (arith, few, less, fewer)) l.counts; reported = h.reported; rising = h.rising; demands = h.demands; credits = h.credits }
   where
-    all_spots : (qs : List (ℕ × ℕ)) → AllWait M qs → AllByRecursion (λ (s : Spot). nat_lt 0 (out M s.job s.unit) ≡ true) (flat_map (λ q. map (spot q.0 q.1) (filter (accepts c M q.0 q.1) (below (length c.machines)))) qs)
+    all_spots : (qs : List Pair) → AllWait M qs → AllByRecursion (λ (s : Spot). nat_lt 0 (out M s.job s.unit) ≡ true) (flat_map (λ q. map (spot q.0 q.1) (filter (accepts c M q.0 q.1) (below (length c.machines)))) qs)
     all_spots [] k = tt
     all_spots (q ∷ qs) k = all_append (λ (s : Spot). nat_lt 0 (out M s.job s.unit) ≡ true) (map (spot q.0 q.1) (filter (accepts c M q.0 q.1) (below (length c.machines)))) _
         (each (filter (accepts c M q.0 q.1) (below (length c.machines))) k.0) (all_spots qs k.1)
@@ -161,7 +161,7 @@ new_bounded c M t r d k = record {
 -- a master with the same parts
 pub same_bounded : (c : ClusterRecord) (M N : Master) → N.table ≡ M.table → N.jobs ≡ M.jobs → N.reported ≡ M.reported → N.demands ≡ M.demands → N.credited ≡ M.credited → IsBounded c M → IsBounded c N
 same_bounded c M N t j r d k h = record {
-  counts = (subst (λ (x : List KnownJob × List (Spot × ℕ)). AreCounts spot_cmp (greatest_in_table x.0) x.1) (λ i. (sym j i, sym t i)) h.counts);
+  counts = (subst (λ (x : List KnownJob × Table). AreCounts spot_cmp (greatest_in_table x.0) x.1) (λ i. (sym j i, sym t i)) h.counts);
   reported = λ m e. h.reported m (subst (λ rs. has_number m rs ≡ true) r e);
   rising = subst (λ rs. T (is_sorted key_cmp (reported_entries rs))) (sym r) h.rising;
   demands = λ a. subst (λ (x : List KnownJob × List (ℕ × Ledger)). IsTidy (unwrap_or (find nat_cmp a x.1) nothing) × IsRanged c (unit_count x.0 a) (unwrap_or (find nat_cmp a x.1) nothing)) (λ i. (sym j i, sym d i)) (h.demands a);
@@ -180,7 +180,7 @@ holds_more m n u rest k v le h = by (nat_lt u m) refl h
 pub credits_wider : (c : ClusterRecord) (m n : ℕ) (cs : List (Key × ℕ)) → m ≤ n → AreCounts key_cmp (greatest_in_credits c m) cs → AreCounts key_cmp (greatest_in_credits c n) cs
 credits_wider c m n cs le h = counts_wider key_cmp (greatest_in_credits c m) (greatest_in_credits c n) (λ k v _ w. holds_more m n k.unit (has_machine c k.number) _ v le w) cs h
 
-table_wider : (jobs jobs' : List KnownJob) (es : List (Spot × ℕ)) → ((a : ℕ) → unit_count jobs a ≤ unit_count jobs' a) → AreCounts spot_cmp (greatest_in_table jobs) es → AreCounts spot_cmp (greatest_in_table jobs') es
+table_wider : (jobs jobs' : List KnownJob) (es : Table) → ((a : ℕ) → unit_count jobs a ≤ unit_count jobs' a) → AreCounts spot_cmp (greatest_in_table jobs) es → AreCounts spot_cmp (greatest_in_table jobs') es
 table_wider jobs jobs' es le h = counts_wider spot_cmp (greatest_in_table jobs) (greatest_in_table jobs') (λ s v _ w. more s v (nat_lt s.unit (unit_count jobs s.job)) refl w) es h
   where
     more : (s : Spot) (v : ℕ) (b : Bool) → nat_lt s.unit (unit_count jobs s.job) ≡ b → v ≤ where_holds b greatest_count → v ≤ greatest_in_table jobs' s
@@ -250,7 +250,7 @@ reported_put m (k ∷ ks) = by (reported_put m ks) (nat_lt m k) refl (nat_eq m k
     by rest false t true s = let same : nat_cmp m k ≡ Equal = grind (arith, nat_tests, s) in ap (λ r. by_order r ((reported_key m, 1) ∷ reported_entries (k ∷ ks)) ((reported_key k, 1) ∷ reported_entries ks) ((reported_key k, 1) ∷ put key_cmp (reported_key m) 1 (reported_entries ks))) (sym same)
     by rest false t false s = let more : nat_cmp m k ≡ Greater = grind (arith, nat_tests, t, s) in ap (λ es. (reported_key k, 1) ∷ es) rest ∙ ap (λ r. by_order r ((reported_key m, 1) ∷ reported_entries (k ∷ ks)) ((reported_key k, 1) ∷ reported_entries ks) ((reported_key k, 1) ∷ put key_cmp (reported_key m) 1 (reported_entries ks))) (sym more)
 
-adopted_counts : (jobs : List KnownJob) (m : ℕ) (rows : List (RowKey × ℕ)) (es : List (Spot × ℕ)) → AllByRecursion (λ e. 0 < e.1) rows → AllByRecursion (λ e. e.1 ≤ greatest_count) rows → AreCounts spot_cmp (greatest_in_table jobs) es → AreCounts spot_cmp (greatest_in_table jobs) (adopted jobs m rows es)
+adopted_counts : (jobs : List KnownJob) (m : ℕ) (rows : List (RowKey × ℕ)) (es : Table) → AllByRecursion (λ e. 0 < e.1) rows → AllByRecursion (λ e. e.1 ≤ greatest_count) rows → AreCounts spot_cmp (greatest_in_table jobs) es → AreCounts spot_cmp (greatest_in_table jobs) (adopted jobs m rows es)
 adopted_counts jobs m [] es p q h = h
 adopted_counts jobs m (r ∷ rows) es p q h =
     let s = spot r.0.job r.0.unit m in
@@ -278,7 +278,7 @@ report_bounded c M m l there rows h = either (IsBounded c) (adopts M m l) (recor
     (λ _. h)
 
 -- Demands
-credit_counts : (jobs : List KnownJob) (a : ℕ) (credited es : List (Key × ℕ)) (table : List (Spot × ℕ)) → AreCounts spot_cmp (greatest_in_table jobs) table → AreCounts spot_cmp (greatest_in_table jobs) (credit a credited es table)
+credit_counts : (jobs : List KnownJob) (a : ℕ) (credited es : List (Key × ℕ)) (table : Table) → AreCounts spot_cmp (greatest_in_table jobs) table → AreCounts spot_cmp (greatest_in_table jobs) (credit a credited es table)
 credit_counts jobs a credited [] table h = h
 credit_counts jobs a credited (e ∷ es) table h =
     let s = spot a e.0.unit e.0.number in

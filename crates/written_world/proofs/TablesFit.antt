@@ -9,7 +9,7 @@ use Rattle.std.proofs.lemmas.Bool.Decides.{nat_tests}
 use Rattle.std.proofs.lemmas.List.Sums.{sum_by-cons}
 use Rattle.fuxi_terms.specs.declared.Key.{Key}
 use Rattle.fuxi_terms.specs.Cluster.{ClusterRecord, JobRecord, has_at, in_each_place}
-use Rattle.fuxi_terms.specs.Keys.{key_cmp, RowKey, Spot, spot_cmp}
+use Rattle.fuxi_terms.specs.Keys.{key_cmp, RowKey, Spot, spot_cmp, Pair}
 use Rattle.fuxi_terms.specs.Counts.{count, set_count}
 use Rattle.fuxi_terms.proofs.CountsLemmas.{tied, count-set_count}
 use Rattle.written_net.specs.Net.{Id, Heard, is_taken}
@@ -20,7 +20,7 @@ use Rattle.fuxi_terms.specs.Jobs.{KnownJob, is_live, size_at}
 use Rattle.fuxi_terms.specs.Lists.{below}
 use Rattle.fuxi_terms.specs.Numbers.{has_number, with_number}
 use Rattle.written_roles.specs.Masters.{Master, credited_of}
-use Rattle.fuxi_terms.specs.Tables.{spot, total_at, with_grant, without_grants}
+use Rattle.fuxi_terms.specs.Tables.{spot, total_at, with_grant, without_grants, Table}
 use Rattle.written_roles.specs.Placing.{first_placeable, granted, settle, settled, all_out, line_up, is_usable, accepts, has_room, may_grow, placeable}
 use Rattle.written_roles.specs.Preemption.{Plan, set_at_place, tried, plan_of, by_priority, preempted}
 use Rattle.written_roles.specs.HardState.{with_job}
@@ -116,12 +116,12 @@ banned_fits_machines c M k h = record {
 }
 
 -- Reports
-adopted_reported : (jobs : List KnownJob) (m : ℕ) (rs : List ℕ) (rows : List (RowKey × ℕ)) (es : List (Spot × ℕ)) → has_number m rs ≡ true → Each (IsReported rs) es → Each (IsReported rs) (adopted jobs m rows es)
+adopted_reported : (jobs : List KnownJob) (m : ℕ) (rs : List ℕ) (rows : List (RowKey × ℕ)) (es : Table) → has_number m rs ≡ true → Each (IsReported rs) es → Each (IsReported rs) (adopted jobs m rows es)
 adopted_reported jobs m rs [] es here h = h
 adopted_reported jobs m rs (r ∷ rows) es here h = adopted_reported jobs m rs rows (cond (is_kept jobs r.0) (put spot_cmp (spot r.0.job r.0.unit m) r.1 es) es) here
     (either (Each (IsReported rs)) (is_kept jobs r.0) (put spot_cmp (spot r.0.job r.0.unit m) r.1 es) es (λ _. each_put (IsReported rs) (spot r.0.job r.0.unit m) r.1 es here h) (λ _. h))
 
-more_reported : (m : ℕ) (rs : List ℕ) (es : List (Spot × ℕ)) → Each (IsReported rs) es → Each (IsReported (with_number m rs)) es
+more_reported : (m : ℕ) (rs : List ℕ) (es : Table) → Each (IsReported rs) es → Each (IsReported (with_number m rs)) es
 more_reported m rs [] h = tt
 more_reported m rs (e ∷ es) h = (with_keeps e.0.machine m rs h.0, more_reported m rs es h.1)
 
@@ -152,7 +152,7 @@ report_fits_machines c M m l t rows h = either (FitsMachines c) (adopts M m l) (
         ] refl a
 
 -- Demands: crediting only lowers
-credit_loads : (jobs : List KnownJob) (a : ℕ) (credited es : List (Key × ℕ)) (table : List (Spot × ℕ)) (m i : ℕ) → T (is_sorted spot_cmp table) → total_at jobs m i (credit a credited es table) ≤ total_at jobs m i table
+credit_loads : (jobs : List KnownJob) (a : ℕ) (credited es : List (Key × ℕ)) (table : Table) (m i : ℕ) → T (is_sorted spot_cmp table) → total_at jobs m i (credit a credited es table) ≤ total_at jobs m i table
 credit_loads jobs a credited [] table m i k = omega arith
 credit_loads jobs a credited (e ∷ es) table m i k =
     let s = spot a e.0.unit e.0.number in
@@ -165,7 +165,7 @@ credit_loads jobs a credited (e ∷ es) table m i k =
     (λ _. let x = set_exact jobs m i s (here - min more here) table k in let l = load_more jobs m i s (here - min more here) here (omega arith) in omega (arith, x, l)) (λ _. omega arith) in
     omega (arith, rest, step)
 
-credit_reported : (a : ℕ) (rs : List ℕ) (credited es : List (Key × ℕ)) (table : List (Spot × ℕ)) → Each (IsReported rs) table → Each (IsReported rs) (credit a credited es table)
+credit_reported : (a : ℕ) (rs : List ℕ) (credited es : List (Key × ℕ)) (table : Table) → Each (IsReported rs) table → Each (IsReported rs) (credit a credited es table)
 credit_reported a rs credited [] table h = h
 credit_reported a rs credited (e ∷ es) table h =
     let s = spot a e.0.unit e.0.number in
@@ -196,7 +196,7 @@ told_fits_machines c M h from l rows t k =
     met false = k
 
 -- Preempting: what the losers took goes, and there is room for what is served
-loads_without : (jobs : List KnownJob) (m i : ℕ) (ss : List Spot) (table : List (Spot × ℕ)) → T (is_sorted spot_cmp table) → AreGrantsOn table m ss → total_at jobs m i (without_grants table ss) + set_at_place jobs i ss ≡ total_at jobs m i table
+loads_without : (jobs : List KnownJob) (m i : ℕ) (ss : List Spot) (table : Table) → T (is_sorted spot_cmp table) → AreGrantsOn table m ss → total_at jobs m i (without_grants table ss) + set_at_place jobs i ss ≡ total_at jobs m i table
 loads_without jobs m i [] table k d = omega arith
 loads_without jobs m i (s ∷ ss) table k d =
     let n = count spot_cmp table s in
@@ -229,7 +229,7 @@ loads_without jobs m i (s ∷ ss) table k d =
               omega (arith, all, few, is)
         ] e
 
-loads_fall : (jobs : List KnownJob) (m i : ℕ) (ss : List Spot) (table : List (Spot × ℕ)) → T (is_sorted spot_cmp table) → total_at jobs m i (without_grants table ss) ≤ total_at jobs m i table
+loads_fall : (jobs : List KnownJob) (m i : ℕ) (ss : List Spot) (table : Table) → T (is_sorted spot_cmp table) → total_at jobs m i (without_grants table ss) ≤ total_at jobs m i table
 loads_fall jobs m i [] table k = omega arith
 loads_fall jobs m i (s ∷ ss) table k =
     let n = count spot_cmp table s in
@@ -238,14 +238,14 @@ loads_fall jobs m i (s ∷ ss) table k =
     let rest = loads_fall jobs m i ss (set_count spot_cmp table s (n - 1)) (sorted_set table s (n - 1) k) in
     omega (arith, rest, x, l)
 
-reported_without : (rs : List ℕ) (ss : List Spot) (table : List (Spot × ℕ)) → Each (IsReported rs) table → Each (IsReported rs) (without_grants table ss)
+reported_without : (rs : List ℕ) (ss : List Spot) (table : Table) → Each (IsReported rs) table → Each (IsReported rs) (without_grants table ss)
 reported_without rs [] table h = h
 reported_without rs (s ∷ ss) table h =
     let n = count spot_cmp table s - 1 in
     reported_without rs ss (set_count spot_cmp table s n) (each_set (IsReported rs) s n table (λ some. each_found (IsReported rs) s table (let k : 0 < n = grind (arith, nat_tests, some) in omega (arith, k)) h) h)
 
 -- one grant more at a spot
-one_load : (jobs : List KnownJob) (m i : ℕ) (s : Spot) (table : List (Spot × ℕ)) → T (is_sorted spot_cmp table) → total_at jobs m i (with_grant table s) ≡ total_at jobs m i table + cond (nat_eq s.machine m) (size_at jobs s.job s.unit i) 0
+one_load : (jobs : List KnownJob) (m i : ℕ) (s : Spot) (table : Table) → T (is_sorted spot_cmp table) → total_at jobs m i (with_grant table s) ≡ total_at jobs m i table + cond (nat_eq s.machine m) (size_at jobs s.job s.unit i) 0
 one_load jobs m i s table k =
     let n = count spot_cmp table s in
     let x = set_exact jobs m i s (n + 1) table k in
@@ -270,7 +270,7 @@ preempted_fits_machines c M p e t h = record {
   reported = each_set (IsReported M.reported) p.served _ W (λ _. usable) (reported_without M.reported p.losers M.table h.reported);
 }
   where
-    W : List (Spot × ℕ)
+    W : Table
     W = without_grants M.table p.losers
 
     loss : IsLoss c M p.served p.losers
@@ -288,13 +288,13 @@ preempted_fits_machines c M p e t h = record {
     usable : has_number p.served.machine M.reported ≡ true
     usable = planned (λ s. has_number s.machine M.reported ≡ true) (tried c M) c M p (all_spots (by_priority M)) e
       where
-        each : (q : ℕ × ℕ) (ms : List ℕ) → AllByRecursion (λ (s : Spot). has_number s.machine M.reported ≡ true) (map (spot q.0 q.1) (filter (accepts c M q.0 q.1) ms))
+        each : (q : Pair) (ms : List ℕ) → AllByRecursion (λ (s : Spot). has_number s.machine M.reported ≡ true) (map (spot q.0 q.1) (filter (accepts c M q.0 q.1) ms))
         each q [] = tt
         each q (m ∷ ms) = elim (accepts c M q.0 q.1 m) as (λ b. accepts c M q.0 q.1 m ≡ b → AllByRecursion (λ (s : Spot). has_number s.machine M.reported ≡ true) (map (spot q.0 q.1) (cond b (m ∷ filter (accepts c M q.0 q.1) ms) (filter (accepts c M q.0 q.1) ms)))) [
           | true ↦ λ u. ((both_true (has_number m M.reported) _ (both_true (is_usable M q.0 q.1 m) _ u).0).0, each q ms)
           | false ↦ λ _. each q ms
         ] refl
 
-        all_spots : (qs : List (ℕ × ℕ)) → AllByRecursion (λ (s : Spot). has_number s.machine M.reported ≡ true) (flat_map (λ q. map (spot q.0 q.1) (filter (accepts c M q.0 q.1) (below (length c.machines)))) qs)
+        all_spots : (qs : List Pair) → AllByRecursion (λ (s : Spot). has_number s.machine M.reported ≡ true) (flat_map (λ q. map (spot q.0 q.1) (filter (accepts c M q.0 q.1) (below (length c.machines)))) qs)
         all_spots [] = tt
         all_spots (q ∷ qs) = all_append (λ (s : Spot). has_number s.machine M.reported ≡ true) (map (spot q.0 q.1) (filter (accepts c M q.0 q.1) (below (length c.machines)))) _ (each q (below (length c.machines))) (all_spots qs)

@@ -8,7 +8,7 @@ use Rattle.std.specs.FinMap.Entries.{find, put, where_key, is_sorted, is_sorted-
 use Rattle.std.proofs.lemmas.Bool.Decides.{nat_tests}
 use Rattle.fuxi_terms.specs.declared.Key.{Key}
 use Rattle.fuxi_terms.specs.Cluster.{ClusterRecord, JobRecord}
-use Rattle.fuxi_terms.specs.Keys.{key_cmp, RowKey, Spot, spot_cmp}
+use Rattle.fuxi_terms.specs.Keys.{key_cmp, RowKey, Spot, spot_cmp, Pair}
 use Rattle.fuxi_terms.specs.Counts.{count, set_count}
 use Rattle.written_net.specs.Net.{Id, Heard, is_taken}
 use Rattle.written_net.specs.Ledgers.{Ledger, nothing, at_key}
@@ -18,7 +18,7 @@ use Rattle.fuxi_terms.specs.Jobs.{KnownJob, job_of, is_live, unit_count, priorit
 use Rattle.fuxi_terms.specs.Lists.{below}
 use Rattle.fuxi_terms.specs.Numbers.{has_number}
 use Rattle.written_roles.specs.Masters.{Master, asked, out, credited_of}
-use Rattle.fuxi_terms.specs.Tables.{spot, without_grants}
+use Rattle.fuxi_terms.specs.Tables.{spot, without_grants, Table}
 use Rattle.written_roles.specs.Placing.{first_placeable, granted, settle, settled, all_out, waiting_pairs, has_pair, line_up, accepts, is_allowed, has_room, may_grow, placeable}
 use Rattle.written_roles.specs.Preemption.{Plan, falling_priorities, by_priority, tried, plan_of, preempted}
 use Rattle.written_roles.specs.HardState.{with_job, with_ended}
@@ -33,10 +33,10 @@ use Rattle.written_world.specs.Good.{AllWait, IsInOrder}
 use Rattle.written_roles.proofs.MapLemmas.{found_put, put_beside}
 use Rattle.written_roles.proofs.TransitionsLemmas.{planned, sorted_set}
 
-abbrev IsSorted : List (Spot × ℕ) → Type 0
+abbrev IsSorted : Table → Type 0
 IsSorted table = T (is_sorted spot_cmp table)
 
-abbrev IsLive : List KnownJob → List (Spot × ℕ) → Type 0
+abbrev IsLive : List KnownJob → Table → Type 0
 IsLive jobs table = AllByRecursion (λ e. is_live jobs e.0.job ≡ true) table
 
 clash : (b : Bool) → b ≡ true → b ≡ false → ⊥
@@ -48,7 +48,7 @@ abbrev IsOfLive : List KnownJob → Spot → Type 0
 IsOfLive jobs s = is_live jobs s.job ≡ true
 
 -- what is found is of a live job
-pub live_found : (jobs : List KnownJob) (s : Spot) (es : List (Spot × ℕ)) → 0 < count spot_cmp es s → IsLive jobs es → is_live jobs s.job ≡ true
+pub live_found : (jobs : List KnownJob) (s : Spot) (es : Table) → 0 < count spot_cmp es s → IsLive jobs es → is_live jobs s.job ≡ true
 live_found jobs s es some h = each_found (IsOfLive jobs) s es some h
 
 -- what is out is asked for, so its job has not ended
@@ -88,10 +88,10 @@ ready_in_order c M h = let N = line_up (phased c M) in let k : IsInOrder N = rec
 -- The line of a master that is ready
 waiting : (M : Master) → AllWait M (waiting_pairs M)
 waiting M = all_flat (λ p. nat_lt 0 (out M p.0 p.1) ≡ true) _ (job_numbers M.jobs)
-    (λ a. all_mapped (λ (p : ℕ × ℕ). nat_lt 0 (out M p.0 p.1) ≡ true) (λ u. (a, u)) _ (all_passed (λ u. nat_lt 0 (out M a u) ≡ true) (λ u. nat_lt 0 (out M a u)) (below (unit_count M.jobs a)) (λ u e. e)))
+    (λ a. all_mapped (λ (p : Pair). nat_lt 0 (out M p.0 p.1) ≡ true) (λ u. (a, u)) _ (all_passed (λ u. nat_lt 0 (out M a u) ≡ true) (λ u. nat_lt 0 (out M a u)) (below (unit_count M.jobs a)) (λ u e. e)))
 
 -- a pair that is one of those that wait waits
-pub waits_too : (M : Master) (p : ℕ × ℕ) (pairs : List (ℕ × ℕ)) → AllWait M pairs → has_pair p pairs ≡ true → nat_lt 0 (out M p.0 p.1) ≡ true
+pub waits_too : (M : Master) (p : Pair) (pairs : List Pair) → AllWait M pairs → has_pair p pairs ≡ true → nat_lt 0 (out M p.0 p.1) ≡ true
 waits_too M p [] h e = cc
 waits_too M p (q ∷ qs) h e = elim (nat_eq p.0 q.0 && nat_eq p.1 q.1) as (λ b. (nat_eq p.0 q.0 && nat_eq p.1 q.1) ≡ b → (b || has_pair p qs) ≡ true → nat_lt 0 (out M p.0 p.1) ≡ true) [
   | true ↦ λ t _. let b = both_true (nat_eq p.0 q.0) (nat_eq p.1 q.1) t in let x = number_is p.0 q.0 b.0 in let y = number_is p.1 q.1 b.1 in (λ i. nat_lt 0 (out M (x i) (y i))) ∙ h.0
@@ -121,7 +121,7 @@ ready_waits c M =
     (elim N.serving as (λ b. Waits (elim b as (λ _. Master) [ true ↦ settled c N | false ↦ N ])) [ true ↦ settle_waits c (all_out N) N k | false ↦ k ]).all
 
 -- Preempting
-without_in_order : (jobs : List KnownJob) (table : List (Spot × ℕ)) (ss : List Spot) → IsSorted table × IsLive jobs table → IsSorted (without_grants table ss) × IsLive jobs (without_grants table ss)
+without_in_order : (jobs : List KnownJob) (table : Table) (ss : List Spot) → IsSorted table × IsLive jobs table → IsSorted (without_grants table ss) × IsLive jobs (without_grants table ss)
 without_in_order jobs table [] h = h
 without_in_order jobs table (s ∷ ss) h =
     let n = count spot_cmp table s - 1 in
@@ -140,7 +140,7 @@ preempted_in_order c M p e w h =
       plain = h.plain;
     }
   where
-    all_spots : (qs : List (ℕ × ℕ)) → AllWait M qs → AllByRecursion (λ (s : Spot). is_live M.jobs s.job ≡ true) (flat_map (λ q. map (spot q.0 q.1) (filter (accepts c M q.0 q.1) (below (length c.machines)))) qs)
+    all_spots : (qs : List Pair) → AllWait M qs → AllByRecursion (λ (s : Spot). is_live M.jobs s.job ≡ true) (flat_map (λ q. map (spot q.0 q.1) (filter (accepts c M q.0 q.1) (below (length c.machines)))) qs)
     all_spots [] k = tt
     all_spots (q ∷ qs) k = all_append (λ (s : Spot). is_live M.jobs s.job ≡ true) (map (spot q.0 q.1) (filter (accepts c M q.0 q.1) (below (length c.machines)))) _
         (each (filter (accepts c M q.0 q.1) (below (length c.machines))) (out_live M q.0 q.1 h k.0)) (all_spots qs k.1)
@@ -171,7 +171,7 @@ new_in_order M t d c = record {
   plain = λ a u m. ap (λ cs. find key_cmp (count_key u m) (unwrap_or (find nat_cmp a cs) [])) c;
 }
 
-all_live : (jobs jobs' : List KnownJob) → ((a : ℕ) → is_live jobs a ≡ true → is_live jobs' a ≡ true) → (es : List (Spot × ℕ)) → IsLive jobs es → IsLive jobs' es
+all_live : (jobs jobs' : List KnownJob) → ((a : ℕ) → is_live jobs a ≡ true → is_live jobs' a ≡ true) → (es : Table) → IsLive jobs es → IsLive jobs' es
 all_live jobs jobs' f [] h = tt
 all_live jobs jobs' f (e ∷ es) h = (f e.0.job h.0, all_live jobs jobs' f es h.1)
 
@@ -223,7 +223,7 @@ ended_in_order M a h = record {
   plain = h.plain;
 }
   where
-    kept : (es : List (Spot × ℕ)) → IsLive M.jobs es → IsLive (with_ended a M.jobs) (where_key spot_cmp (λ s. not (nat_eq s.job a)) es)
+    kept : (es : Table) → IsLive M.jobs es → IsLive (with_ended a M.jobs) (where_key spot_cmp (λ s. not (nat_eq s.job a)) es)
     kept [] k = tt
     kept (e ∷ es) k = elim (nat_eq e.0.job a) as (λ b. nat_eq e.0.job a ≡ b → IsLive (with_ended a M.jobs) (cond (not b) (e ∷ where_key spot_cmp (λ s. not (nat_eq s.job a)) es) (where_key spot_cmp (λ s. not (nat_eq s.job a)) es))) [
       | true ↦ λ _. kept es k.1
@@ -234,12 +234,12 @@ ended_in_order M a h = record {
 kept_live : (jobs : List KnownJob) (k : RowKey) → is_kept jobs k ≡ true → is_live jobs k.job ≡ true
 kept_live jobs k e = (both_true (is_live jobs k.job) _ e).0
 
-adopted_in_order : (jobs : List KnownJob) (m : ℕ) (es : List (RowKey × ℕ)) (table : List (Spot × ℕ)) → IsSorted table × IsLive jobs table → IsSorted (adopted jobs m es table) × IsLive jobs (adopted jobs m es table)
+adopted_in_order : (jobs : List KnownJob) (m : ℕ) (es : List (RowKey × ℕ)) (table : Table) → IsSorted table × IsLive jobs table → IsSorted (adopted jobs m es table) × IsLive jobs (adopted jobs m es table)
 adopted_in_order jobs m [] table h = h
 adopted_in_order jobs m (e ∷ es) table h = adopted_in_order jobs m es _ (either (λ t. IsSorted t × IsLive jobs t) (is_kept jobs e.0) (put spot_cmp (spot e.0.job e.0.unit m) e.1 table) table
     (λ k. (is_sorted-put spot_cmp spot_total _ e.1 table h.0, each_put (IsOfLive jobs) (spot e.0.job e.0.unit m) e.1 table (kept_live jobs e.0 k) h.1)) (λ _. h))
 
-credit_in_order : (jobs : List KnownJob) (a : ℕ) (credited es : List (Key × ℕ)) (table : List (Spot × ℕ)) → is_live jobs a ≡ true → IsSorted table × IsLive jobs table → IsSorted (credit a credited es table) × IsLive jobs (credit a credited es table)
+credit_in_order : (jobs : List KnownJob) (a : ℕ) (credited es : List (Key × ℕ)) (table : Table) → is_live jobs a ≡ true → IsSorted table × IsLive jobs table → IsSorted (credit a credited es table) × IsLive jobs (credit a credited es table)
 credit_in_order jobs a credited [] table l h = h
 credit_in_order jobs a credited (e ∷ es) table l h =
     let s = spot a e.0.unit e.0.number in

@@ -15,7 +15,7 @@ use Rattle.fuxi_terms.proofs.CountsLemmas.{both_true as both, tied, below_none}
 use Rattle.fuxi_terms.proofs.VectorLaws.{fits_places}
 use Rattle.fuxi_terms.specs.Jobs.{KnownJob, job_of, is_known, is_live, no_unit, unit_of, unit_count, size_at}
 use Rattle.fuxi_terms.specs.Numbers.{has_number}
-use Rattle.fuxi_terms.specs.Tables.{spot, total_at}
+use Rattle.fuxi_terms.specs.Tables.{spot, total_at, Table}
 use Rattle.written_roles.specs.HardState.{with_job, with_ended}
 use Rattle.written_roles.specs.MasterSteps.{spot_row_key, is_kept, same_size, adopted}
 use Rattle.written_world.specs.Safe.{row_total_at}
@@ -41,7 +41,7 @@ module _ (jobs : List KnownJob) (m i : ℕ) where
   w e = load jobs m i e.0 e.1
 
   -- a spot taken out
-  without : (s : Spot) (es : List (Spot × ℕ)) → T (is_sorted spot_cmp es) → total_at jobs m i (where_key spot_cmp (λ x. not (eq_by_cmp spot_cmp s x)) es) + load jobs m i s (count spot_cmp es s) ≡ total_at jobs m i es
+  without : (s : Spot) (es : Table) → T (is_sorted spot_cmp es) → total_at jobs m i (where_key spot_cmp (λ x. not (eq_by_cmp spot_cmp s x)) es) + load jobs m i s (count spot_cmp es s) ≡ total_at jobs m i es
   without s [] k = let z = no_load jobs m i s in omega (arith, z)
   without s (e ∷ es) k =
       let parts = both (below_all spot_cmp e.0 es) (is_sorted spot_cmp es) k in
@@ -57,18 +57,18 @@ module _ (jobs : List KnownJob) (m i : ℕ) where
       ] refl
 
   -- a number that is set
-  pub set_exact : (s : Spot) (n : ℕ) (es : List (Spot × ℕ)) → T (is_sorted spot_cmp es) → total_at jobs m i (set_count spot_cmp es s n) + load jobs m i s (count spot_cmp es s) ≡ total_at jobs m i es + load jobs m i s n
+  pub set_exact : (s : Spot) (n : ℕ) (es : Table) → T (is_sorted spot_cmp es) → total_at jobs m i (set_count spot_cmp es s n) + load jobs m i s (count spot_cmp es s) ≡ total_at jobs m i es + load jobs m i s n
   set_exact s n es k = elim (nat_eq n 0) as (λ b. nat_eq n 0 ≡ b → total_at jobs m i (cond b (where_key spot_cmp (λ x. not (eq_by_cmp spot_cmp s x)) es) (put spot_cmp s n es)) + load jobs m i s (count spot_cmp es s) ≡ total_at jobs m i es + load jobs m i s n) [
     | true ↦ λ t. let z : load jobs m i s n ≡ 0 = ap (load jobs m i s) (number_is n 0 t) ∙ no_load jobs m i s in let e = without s es k in omega (arith, z, e)
     | false ↦ λ _. sum_put_exact spot_total same_spot (load jobs m i) (λ q. no_load jobs m i q) s n es k
   ] refl
 
   -- a number put in
-  pub put_exact : (s : Spot) (n : ℕ) (es : List (Spot × ℕ)) → T (is_sorted spot_cmp es) → total_at jobs m i (put spot_cmp s n es) + load jobs m i s (count spot_cmp es s) ≡ total_at jobs m i es + load jobs m i s n
+  pub put_exact : (s : Spot) (n : ℕ) (es : Table) → T (is_sorted spot_cmp es) → total_at jobs m i (put spot_cmp s n es) + load jobs m i s (count spot_cmp es s) ≡ total_at jobs m i es + load jobs m i s n
   put_exact s n es k = sum_put_exact spot_total same_spot (load jobs m i) (λ q. no_load jobs m i q) s n es k
 
   -- some left out
-  pub where_less : (p : Spot → Bool) (es : List (Spot × ℕ)) → total_at jobs m i (where_key spot_cmp p es) ≤ total_at jobs m i es
+  pub where_less : (p : Spot → Bool) (es : Table) → total_at jobs m i (where_key spot_cmp p es) ≤ total_at jobs m i es
   where_less p [] = omega arith
   where_less p (e ∷ es) = let rest = where_less p es in elim (p e.0) as (λ b. total_at jobs m i (cond b (e ∷ where_key spot_cmp p es) (where_key spot_cmp p es)) ≤ total_at jobs m i (e ∷ es)) [
     | true ↦ rw (sum_by-cons w e (where_key spot_cmp p es), sum_by-cons w e es) (omega (arith, rest))
@@ -76,7 +76,7 @@ module _ (jobs : List KnownJob) (m i : ℕ) where
   ]
 
   -- a machine that is not reported has no entry
-  pub nothing_there : (rs : List ℕ) (es : List (Spot × ℕ)) → AllByRecursion (λ e. has_number e.0.machine rs ≡ true) es → has_number m rs ≡ false → total_at jobs m i es ≡ 0
+  pub nothing_there : (rs : List ℕ) (es : Table) → AllByRecursion (λ e. has_number e.0.machine rs ≡ true) es → has_number m rs ≡ false → total_at jobs m i es ≡ 0
   nothing_there rs [] h absent = refl
   nothing_there rs (e ∷ es) h absent =
       let rest = nothing_there rs es h.1 absent in
@@ -89,7 +89,7 @@ module _ (jobs : List KnownJob) (m i : ℕ) where
 live_known : (jobs : List KnownJob) (a : ℕ) → is_live jobs a ≡ true → is_known jobs a ≡ true
 live_known jobs a e = elim (job_of jobs a) as (λ o. unwrap_or (option_map (λ (j : KnownJob). not j.ended) o) false ≡ true → is_some o ≡ true) [ None ↦ λ e. cc | Some j ↦ λ _. refl ] e
 
-same_loads : (jobs jobs' : List KnownJob) (m i : ℕ) → (es : List (Spot × ℕ)) → AllByRecursion (λ e. size_at jobs' e.0.job e.0.unit i ≡ size_at jobs e.0.job e.0.unit i) es → total_at jobs' m i es ≡ total_at jobs m i es
+same_loads : (jobs jobs' : List KnownJob) (m i : ℕ) → (es : Table) → AllByRecursion (λ e. size_at jobs' e.0.job e.0.unit i ≡ size_at jobs e.0.job e.0.unit i) es → total_at jobs' m i es ≡ total_at jobs m i es
 same_loads jobs jobs' m i [] h = refl
 same_loads jobs jobs' m i (e ∷ es) h =
     let rest = same_loads jobs jobs' m i es h.1 in
@@ -97,18 +97,18 @@ same_loads jobs jobs' m i (e ∷ es) h =
     rw (sum_by-cons (w jobs' m i) e es, sum_by-cons (w jobs m i) e es) (omega (arith, rest, here))
 
 -- a job more changes no load
-pub added_loads : (jobs : List KnownJob) (j : JobRecord) (m i : ℕ) (es : List (Spot × ℕ)) → AllByRecursion (λ e. is_live jobs e.0.job ≡ true) es → total_at (with_job j jobs) m i es ≡ total_at jobs m i es
+pub added_loads : (jobs : List KnownJob) (j : JobRecord) (m i : ℕ) (es : Table) → AllByRecursion (λ e. is_live jobs e.0.job ≡ true) es → total_at (with_job j jobs) m i es ≡ total_at jobs m i es
 added_loads jobs j m i es h = same_loads jobs (with_job j jobs) m i es (each es h)
   where
-    each : (es : List (Spot × ℕ)) → AllByRecursion (λ e. is_live jobs e.0.job ≡ true) es → AllByRecursion (λ e. size_at (with_job j jobs) e.0.job e.0.unit i ≡ size_at jobs e.0.job e.0.unit i) es
+    each : (es : Table) → AllByRecursion (λ e. is_live jobs e.0.job ≡ true) es → AllByRecursion (λ e. size_at (with_job j jobs) e.0.job e.0.unit i ≡ size_at jobs e.0.job e.0.unit i) es
     each [] k = tt
     each (e ∷ es) k = (ap (λ o. at_place (unwrap_or (slice_get (unwrap_or (option_map (λ (x : KnownJob). x.job.units) o) []) e.0.unit) no_unit).size i) (old_job jobs j e.0.job (live_known jobs e.0.job k.0)), each es k.1)
 
 -- nor does a job that ends
-pub ended_loads : (jobs : List KnownJob) (a m i : ℕ) (es : List (Spot × ℕ)) → total_at (with_ended a jobs) m i es ≡ total_at jobs m i es
+pub ended_loads : (jobs : List KnownJob) (a m i : ℕ) (es : Table) → total_at (with_ended a jobs) m i es ≡ total_at jobs m i es
 ended_loads jobs a m i es = same_loads jobs (with_ended a jobs) m i es (each es)
   where
-    each : (es : List (Spot × ℕ)) → AllByRecursion (λ e. size_at (with_ended a jobs) e.0.job e.0.unit i ≡ size_at jobs e.0.job e.0.unit i) es
+    each : (es : Table) → AllByRecursion (λ e. size_at (with_ended a jobs) e.0.job e.0.unit i ≡ size_at jobs e.0.job e.0.unit i) es
     each [] = tt
     each (e ∷ es) = (ap (λ us. at_place (unwrap_or (slice_get us e.0.unit) no_unit).size i) (ended_units_of a jobs e.0.job), each es)
 
@@ -122,7 +122,7 @@ kept_size jobs k i e =
     omega (arith, a, b)
 
 -- what a report adds
-pub adopted_loads : (jobs : List KnownJob) (m n i : ℕ) (rows : List (RowKey × ℕ)) (es : List (Spot × ℕ)) → T (is_sorted spot_cmp es) → total_at jobs n i (adopted jobs m rows es) ≤ total_at jobs n i es + cond (nat_eq m n) (row_total_at i rows) 0
+pub adopted_loads : (jobs : List KnownJob) (m n i : ℕ) (rows : List (RowKey × ℕ)) (es : Table) → T (is_sorted spot_cmp es) → total_at jobs n i (adopted jobs m rows es) ≤ total_at jobs n i es + cond (nat_eq m n) (row_total_at i rows) 0
 adopted_loads jobs m n i [] es s = omega arith
 adopted_loads jobs m n i (r ∷ rows) es s =
     let k = spot r.0.job r.0.unit m in
@@ -140,7 +140,7 @@ adopted_loads jobs m n i (r ∷ rows) es s =
     → total_at jobs n i (adopted jobs m rows next) ≤ total_at jobs n i es + cond b (r.1 * at_place r.0.size i + row_total_at i rows) 0) [ true ↦ λ x y. omega (arith, x, y) | false ↦ λ x y. omega (arith, x, y) ] rest step)
 
 -- The row of a machine takes what the table takes
-pub row_loads : (jobs : List KnownJob) (m i : ℕ) (es : List (Spot × ℕ)) → row_total_at i (map (λ e. (spot_row_key jobs e.0, e.1)) (filter (λ e. nat_eq e.0.machine m) es)) ≡ total_at jobs m i es
+pub row_loads : (jobs : List KnownJob) (m i : ℕ) (es : Table) → row_total_at i (map (λ e. (spot_row_key jobs e.0, e.1)) (filter (λ e. nat_eq e.0.machine m) es)) ≡ total_at jobs m i es
 row_loads jobs m i [] = refl
 row_loads jobs m i (e ∷ es) =
     let rest = row_loads jobs m i es in

@@ -7,7 +7,7 @@ use Rattle.fuxi_terms.specs.declared.Key.{Key}
 use Rattle.fuxi_terms.specs.Vectors.{at_place}
 use Rattle.fuxi_terms.specs.Cluster.{ClusterRecord, JobRecord, UnitRecord, is_valid_job, has_at, has_machine}
 use Rattle.fuxi_terms.specs.Limits.{most_resources, most_records, greatest_count, greatest_back}
-use Rattle.fuxi_terms.specs.Keys.{key_cmp, RowKey, row_cmp, Spot, spot_cmp}
+use Rattle.fuxi_terms.specs.Keys.{key_cmp, RowKey, row_cmp, Spot, spot_cmp, Pair}
 use Rattle.fuxi_terms.specs.Counts.{count, AreCounts}
 use Rattle.written_net.specs.Net.{Net, Party, Id, Packet, Kind, Ack, Delta, Full, same_party, last, at_index}
 use Rattle.written_net.specs.Ledgers.{Ledger, nothing, at_key}
@@ -168,7 +168,7 @@ pub record IsBounded (c : ClusterRecord) (M : Master) : Type 0 where
 
 -- each pair of the line has something out
 -- A step out of the rest: a preemption serves a pair of an ended job, out of `alive`
-abbrev pub AllWait : Master → List (ℕ × ℕ) → Type 0
+abbrev pub AllWait : Master → List Pair → Type 0
 AllWait M line = AllByRecursion (λ p. nat_lt 0 (out M p.0 p.1) ≡ true) line
 
 -- what was credited is what is given back at the master's place; with a job that it does not know a master has no place

@@ -11,7 +11,7 @@ use case_words::Stop;
 use cluster_desc::Cluster;
 use grant_table::{GrantTable, Pick, Steps};
 use party_ledgers::Demand;
-use place_pass::{Placer, levels};
+use place_pass::{Placer, law};
 use schedule_unit::{AppNo, Job, MachineNo};
 use std::alloc::Global;
 use std::marker::Model;
@@ -45,7 +45,7 @@ fn admit(alloc: Global, table: &mut GrantTable, placer: &mut Placer, job: &Job) 
     requires { IsLevelWith placer.old table.old }
     ensures { OnOk result (IsLevelWith placer.new table.new) }
 {
-    levels();
+    law::levels();
     if table.units(job.app()) > 0 {
         return Ok(());
     }
@@ -78,7 +78,7 @@ fn take(table: &mut GrantTable, placer: &mut Placer, pick: Pick, count: u32)
     requires held { count ≤ held_on table.old.entries pick.app.0 pick.unit.0 pick.machine.0 }
     ensures { IsLevelWith placer.new table.new }
 {
-    levels();
+    law::levels();
     let _sound = table.cluster();
     table.take(pick.app, pick.unit, pick.machine, count);
     placer.changed(table, pick.app, pick.unit, pick.machine);
@@ -93,7 +93,7 @@ fn place<L: Ledger>(
     requires { IsLevelWith placer.old table.old }
     ensures { IsLevelWith placer.new table.new }
 {
-    levels();
+    law::levels();
     if placer.turns() >= 1 << 62 {
         return None;
     }
@@ -116,7 +116,7 @@ fn walk<P: Print>(
     requires machine { machine.0 < length table.now.cluster.machines }
     ensures { IsLevelWith placer.new table.now }
 {
-    levels();
+    law::levels();
     if placer.turns() >= 1 << 62 {
         return Ok(());
     }
@@ -140,7 +140,7 @@ impl Bench {
 
     /// What a job asks for is now this.
     pub fn ask(&mut self, app: AppNo, demand: &Demand) {
-        levels();
+        law::levels();
         if self.table.units(app) > 0 {
             self.placer.asked(&self.table, app, demand);
         }
@@ -148,7 +148,7 @@ impl Bench {
 
     /// The machine is open from now on, or closed.
     pub fn open(&mut self, machine: MachineNo, usable: bool) {
-        levels();
+        law::levels();
         if machine.0 < self.table.cluster().machines() {
             self.placer.open(machine, usable);
         }

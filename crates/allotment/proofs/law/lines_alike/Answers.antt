@@ -3,17 +3,18 @@ use Rattle.std.specs.Prelude.{◌&&◌, ◌||◌}
 use Rattle.std.specs.List.{AllByRecursion}
 use Rattle.fuxi_terms.specs.declared.Key.{Key}
 use Rattle.fuxi_terms.specs.Jobs.{unit_count, job_numbers}
-use Rattle.fuxi_terms.specs.Keys.{Spot}
+use Rattle.fuxi_terms.specs.Keys.{Pair}
 use Rattle.fuxi_terms.specs.Lists.{below}
 use Rattle.fuxi_terms.proofs.Alls.{all_append}
 use Rattle.fuxi_terms.proofs.Booleans.{both_true, number_is}
+use Rattle.fuxi_terms.specs.Tables.{Table}
 use Rattle.written_roles.specs.Masters.{asked, out_of}
 use Rattle.written_roles.specs.Placing.{has_pair, waiting_in, waiting_pairs}
 use Rattle.allotment.proofs.AddsLemmas.{filter_twice}
 use Rattle.allotment.proofs.law.lines_alike.Goals as goal
 
 -- a pair that passes the test is found alike
-found_alike : (w : ℕ × ℕ → Bool) (p : ℕ × ℕ) (line : List (ℕ × ℕ)) → w p ≡ true → has_pair p (filter w line) ≡ has_pair p line
+found_alike : (w : Pair → Bool) (p : Pair) (line : List Pair) → w p ≡ true → has_pair p (filter w line) ≡ has_pair p line
 found_alike w p [] e = refl
 found_alike w p (x ∷ xs) e = by (found_alike w p xs e) (w x) refl (nat_eq p.0 x.0 && nat_eq p.1 x.1) refl
   where
@@ -27,13 +28,13 @@ found_alike w p (x ∷ xs) e = by (found_alike w p xs e) (w x) refl (nat_eq p.0 
         let no_way : true ≡ false = sym e ∙ same ∙ f in
         absurd (let z : ⊥ = cc in z)
 
-filter_same : (f g : ℕ × ℕ → Bool) (ps : List (ℕ × ℕ)) → AllByRecursion (λ p. f p ≡ g p) ps → filter f ps ≡ filter g ps
+filter_same : (f g : Pair → Bool) (ps : List Pair) → AllByRecursion (λ p. f p ≡ g p) ps → filter f ps ≡ filter g ps
 filter_same f g [] h = refl
 filter_same f g (p ∷ ps) h = let e = h.0 in let r = filter_same f g ps h.1 in λ i. cond (e i) (p ∷ r i) (r i)
 
 -- the pairs that wait pass the test
-module _ (asks : ℕ → Key → ℕ) (table : List (Spot × ℕ)) where
-  abbrev waits : ℕ × ℕ → Bool
+module _ (asks : ℕ → Key → ℕ) (table : Table) where
+  abbrev waits : Pair → Bool
   waits p = nat_lt 0 (out_of asks table p.0 p.1)
 
   units_wait : (a : ℕ) (us : List ℕ) → AllByRecursion (λ p. waits p ≡ true) (map (λ u. (a, u)) (filter (λ u. nat_lt 0 (out_of asks table a u)) us))
@@ -47,7 +48,7 @@ module _ (asks : ℕ → Key → ℕ) (table : List (Spot × ℕ)) where
   all_wait [] units = tt
   all_wait (a ∷ as_) units = all_append (λ p. waits p ≡ true) (map (λ u. (a, u)) (filter (λ u. nat_lt 0 (out_of asks table a u)) (below (units a)))) (waiting_in as_ units asks table) (units_wait a (below (units a))) (all_wait as_ units)
 
-found_passes : (w : ℕ × ℕ → Bool) (ps : List (ℕ × ℕ)) → AllByRecursion (λ p. w p ≡ true) ps → (p : ℕ × ℕ) → has_pair p ps ≡ true → w p ≡ true
+found_passes : (w : Pair → Bool) (ps : List Pair) → AllByRecursion (λ p. w p ≡ true) ps → (p : Pair) → has_pair p ps ≡ true → w p ≡ true
 found_passes w [] h p e = cc
 found_passes w (x ∷ xs) h p e = by (nat_eq p.0 x.0 && nat_eq p.1 x.1) refl (found_passes w xs h.1 p)
   where
@@ -58,13 +59,13 @@ found_passes w (x ∷ xs) h p e = by (nat_eq p.0 x.0 && nat_eq p.1 x.1) refl (fo
         (λ k. w (i k, j k)) ∙ h.0
     by false g r = r (sym (ap (λ b. b || has_pair p xs) g) ∙ e)
 
-alike_each : (w : ℕ × ℕ → Bool) (line ps : List (ℕ × ℕ)) → AllByRecursion (λ p. w p ≡ true) ps → AllByRecursion (λ p. not (has_pair p (filter w line)) ≡ not (has_pair p line)) ps
+alike_each : (w : Pair → Bool) (line ps : List Pair) → AllByRecursion (λ p. w p ≡ true) ps → AllByRecursion (λ p. not (has_pair p (filter w line)) ≡ not (has_pair p line)) ps
 alike_each w line [] h = tt
 alike_each w line (p ∷ ps) h = (ap not (found_alike w p line h.0), alike_each w line ps h.1)
 
 pub returns : goal.returns
 returns c = λ M.
-    let w : ℕ × ℕ → Bool = λ p. nat_lt 0 (out_of (asked M) M.table p.0 p.1) in
+    let w : Pair → Bool = λ p. nat_lt 0 (out_of (asked M) M.table p.0 p.1) in
     let pairs = waiting_pairs M in
     let all = all_wait (asked M) M.table (job_numbers M.jobs) (unit_count M.jobs) in
     let stay = filter_twice (λ p. has_pair p pairs) w M.line (found_passes w pairs all) in

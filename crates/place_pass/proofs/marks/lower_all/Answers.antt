@@ -1,5 +1,5 @@
-use Rattle.std.proofs.Common.{◌≡◌, ℕ, ◌≤◌, cond, nat_eq, ◌∙◌, ap, arith}
-use Rattle.place_pass.specs.Bounds.{MarkRecord, mark_at, lowered_mark}
+use Rattle.std.proofs.Common.{◌≡◌, ℕ, ◌≤◌, ◌∙◌, arith}
+use Rattle.place_pass.specs.Bounds.{mark_at, lowered_mark}
 use Rattle.place_pass.proofs.NotedMarksLemmas.{done_next, left_next, lowered_passed}
 use Rattle.place_pass.proofs.marks.lower_all.Goals as goal
 
@@ -10,13 +10,13 @@ loop-at-preserved c =
     let before = c.loop-at.marks in
     let n = c.next-number.result in
     let least = c.next-number.ensures.least in
-    let is = λ (m : ℕ). c.put.ensures.marks m ∙ ap (λ (k : MarkRecord). cond (nat_eq n m) k (mark_at before m)) (c.lower.ensures ∙ ap lowered_mark c.at.ensures) in
+    let is = c.lower.ensures.marks in
     let left : (m : ℕ) → n ≤ m → mark_at before m ≡ mark_at first m = λ m le. i.left m (omega (arith, least, le)) in
     record {
-      inside = let lt = c.if-number-len.false in let long = c.put.ensures.long in let number = c.len-in-loop-at.ensures.number in omega (arith, lt, long, number);
-      long = c.put.ensures.long ∙ i.long;
-      done = done_next (λ _. lowered_mark) first before c.put.new.self n is left (lowered_passed first before c.loop-at.at n i.done i.left c.next-number.ensures.passed);
-      left = left_next (λ _. lowered_mark) first before c.put.new.self n is left;
+      inside = let lt = c.if-number-len.false in let long = c.lower.ensures.long in let number = c.len-in-loop-at.ensures.number in omega (arith, lt, long, number);
+      long = c.lower.ensures.long ∙ i.long;
+      done = done_next (λ _. lowered_mark) first before c.lower.new.self n is left (lowered_passed first before c.loop-at.at n i.done i.left c.next-number.ensures.passed);
+      left = left_next (λ _. lowered_mark) first before c.lower.new.self n is left;
     }
 
 pub returns-then-number-len-clause-marks : goal.returns-then-number-len-clause-marks

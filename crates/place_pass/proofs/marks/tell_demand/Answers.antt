@@ -6,12 +6,12 @@ use Rattle.place_pass.specs.Bounds.{MarkRecord, mark_of, mark_at, reset_mark, lo
 use Rattle.place_pass.specs.Sights.{IsAsked}
 use Rattle.place_pass.proofs.marks.tell_demand.Goals as goal
 
-pub returns-then-not-avoids_any-clause-marks : goal.returns-then-not-avoids_any-clause-marks
-returns-then-not-avoids_any-clause-marks c m l = record {
+pub returns-then-not-lifts_any-clause-marks : goal.returns-then-not-lifts_any-clause-marks
+returns-then-not-lifts_any-clause-marks c m l = record {
   lifted = false;
   is = c.lower_all.ensures.marks m l;
   some = λ e. cc;
-  none = λ _ u lt was. let z = c.avoids_any.ensures c.if-not-avoids_any.true u m lt in absurd (omega (arith, z, was));
+  none = λ _. c.lifts_any.ensures c.if-not-lifts_any.true m (subst (λ n. m < n) c.requires l);
 }
 
 lesser : (n long first machines end there : ℕ) → n < end → end ≡ machines → first ≡ there → long ≡ first → machines ≡ there → n < long

@@ -1,5 +1,6 @@
 use Rattle.std.proofs.Common.{ℕ, subst, arith, inl, inr}
 use Rattle.std.proofs.lemmas.Bool.{cases_lt}
+use Rattle.fuxi_terms.specs.Keys.{Pair}
 use Rattle.place_pass.specs.Bounds.{IsBounded}
 use Rattle.place_pass.specs.Scenes.{board_in}
 use Rattle.place_pass.specs.Sights.{sight_rank, turn_in}
@@ -13,7 +14,7 @@ loop-place-preserved c =
     let line = s.line.now.pairs in
     let f = turn_in s.turn_of.now in
     let place = c.loop-place.place in
-    let q : ℕ × ℕ = (c.at.result.0.0, c.at.result.1.0) in
+    let q : Pair = (c.at.result.0.0, c.at.result.1.0) in
     record {
       bounded = λ k p lt e. elim (cases_lt k place) [
         | inl l ↦ c.weigh-best.ensures.kept p (f p) (c.loop-place.invariant.bounded k p l e)

@@ -1,6 +1,6 @@
 use Rattle.std.proofs.Common.{ℕ, List, [], ◌∷◌, Some, None, sym, subst}
 use Rattle.fuxi_terms.proofs.Booleans.{and_true}
-use Rattle.locality_tree.specs.Trees.{Pair}
+use Rattle.locality_tree.specs.Trees.{RankedEntry}
 use Rattle.place_pass.specs.Bounds.{IsBounded}
 use Rattle.place_pass.specs.Scenes.{board_in}
 use Rattle.place_pass.specs.Sights.{turn_in}
@@ -22,19 +22,19 @@ returns-in_default-clause-bounded c q has = walk_ends c.args.scene.now c.args.ma
 
 pub may_place-requires-clause-unit : goal.may_place-requires-clause-unit
 may_place-requires-clause-unit c =
-    let x : Pair = (c.in-Some.entry, c.in-Some.level) in
+    let x : RankedEntry = (c.in-Some.entry, c.in-Some.level) in
     let step = step_of c.args.scene.now c.args.machine.0 c.loop-left.groups c.loop-left.path c.next.new.self c.loop-left.left c.next.result x c.loop-left.invariant c.next.ensures.gives c.in-Some.is in
     step_admitted c.args.scene.now c.requires.ready c.cluster-table.ensures.sound c.args.machine.0 c.requires.machine c.loop-left.groups c.loop-left.path c.next.new.self c.loop-left.left x step
 
 pub turn_of_unit-turn-requires-clause-unit : goal.turn_of_unit-turn-requires-clause-unit
 turn_of_unit-turn-requires-clause-unit c =
-    let x : Pair = (c.in-Some.entry, c.in-Some.level) in
+    let x : RankedEntry = (c.in-Some.entry, c.in-Some.level) in
     let step = step_of c.args.scene.now c.args.machine.0 c.loop-left.groups c.loop-left.path c.next.new.self c.loop-left.left c.next.result x c.loop-left.invariant c.next.ensures.gives c.in-Some.is in
     step_admitted c.args.scene.now c.requires.ready c.cluster-table.ensures.sound c.args.machine.0 c.requires.machine c.loop-left.groups c.loop-left.path c.next.new.self c.loop-left.left x step
 
 pub loop-left-preserved : goal.loop-left-preserved
 loop-left-preserved c =
-    let x : Pair = (c.in-Some.entry, c.in-Some.level) in
+    let x : RankedEntry = (c.in-Some.entry, c.in-Some.level) in
     let step = step_of c.args.scene.now c.args.machine.0 c.loop-left.groups c.loop-left.path c.next.new.self c.loop-left.left c.next.result x c.loop-left.invariant c.next.ensures.gives c.in-Some.is in
     let passed = c.may_place.ensures.bounded c.if-not-may_place.true None (turn_in c.args.scene.now.turn_of.now (c.in-Some.entry.app.0, c.in-Some.entry.unit.0)) in
     step_on c.args.scene.now c.requires.ready c.cluster-table.ensures.sound c.args.machine.0 c.requires.machine c.loop-left.groups c.loop-left.path c.next.new.self c.loop-left.left x step c.may_place.new.groups c.loop-left-test.true c.may_place.ensures.kept passed
@@ -42,7 +42,7 @@ loop-left-preserved c =
 pub returns-in-loop-left-clause-bounded : goal.returns-in-loop-left-clause-bounded
 returns-in-loop-left-clause-bounded c p has =
     let s = c.args.scene.now in
-    let x : Pair = (c.in-Some.entry, c.in-Some.level) in
+    let x : RankedEntry = (c.in-Some.entry, c.in-Some.level) in
     let rank : List ℕ = c.saturating_sub-late.result ∷ c.in-Some.level ∷ c.turn_of_unit-turn.result ∷ [] in
     let step = step_of s c.args.machine.0 c.loop-left.groups c.loop-left.path c.next.new.self c.loop-left.left c.next.result x c.loop-left.invariant c.next.ensures.gives c.in-Some.is in
     let least = step_least s c.requires.ready c.cluster-table.ensures.sound c.args.machine.0 c.requires.machine c.loop-left.groups c.loop-left.path c.next.new.self c.loop-left.left x step c.saturating_sub-late.result c.turn_of_unit-turn.result c.saturating_sub-late.ensures c.turn_of_unit-turn.ensures in
@@ -51,7 +51,7 @@ returns-in-loop-left-clause-bounded c p has =
 pub returns-in-loop-left-clause-sight : goal.returns-in-loop-left-clause-sight
 returns-in-loop-left-clause-sight c =
     let s = c.args.scene.now in
-    let x : Pair = (c.in-Some.entry, c.in-Some.level) in
+    let x : RankedEntry = (c.in-Some.entry, c.in-Some.level) in
     let step = step_of s c.args.machine.0 c.loop-left.groups c.loop-left.path c.next.new.self c.loop-left.left c.next.result x c.loop-left.invariant c.next.ensures.gives c.in-Some.is in
     let of = of_line s c.requires.ready c.cluster-table.ensures.sound c.args.machine.0 c.requires.machine c.loop-left.groups c.loop-left.path c.next.new.self c.loop-left.left x step in
     let place = place_of (c.in-Some.entry.app.0, c.in-Some.entry.unit.0) s.line.now.pairs of.waiting in

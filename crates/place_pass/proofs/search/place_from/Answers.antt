@@ -1,5 +1,6 @@
 use Rattle.std.proofs.Common.{ℕ, ◌-◌, ◌<◌, subst, arith, inl, inr}
 use Rattle.std.proofs.lemmas.Bool.{cases_lt}
+use Rattle.fuxi_terms.specs.Keys.{Pair}
 use Rattle.place_pass.specs.Sights.{turn_in}
 use Rattle.place_pass.proofs.SightsLemmas.{same_place}
 use Rattle.place_pass.proofs.FirstByTurn.{rises_at}
@@ -10,7 +11,7 @@ returns-then-turn_of_unit-turn c k p lt e =
     let line = c.args.scene.now.line.now.pairs in
     let f = turn_in c.args.scene.now.turn_of.now in
     let place = c.loop-place.place in
-    let q : ℕ × ℕ = (c.at.result.0.0, c.at.result.1.0) in
+    let q : Pair = (c.at.result.0.0, c.at.result.1.0) in
     let t = c.turn_of_unit.ensures in
     let less = c.if-turn_of_unit-turn.true in
     elim (cases_lt k (place - 1)) [

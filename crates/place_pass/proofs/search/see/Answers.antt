@@ -2,6 +2,7 @@ use Rattle.std.proofs.Common.{◌≡◌, ℕ, ◌<◌, true, Option, None, Some,
 use Rattle.std.specs.Prelude.{◌&&◌}
 use Rattle.fuxi_terms.proofs.Booleans.{and_false}
 use Rattle.fuxi_terms.proofs.Lists.{all_at}
+use Rattle.fuxi_terms.specs.Keys.{Pair}
 use Rattle.written_roles.specs.Placing.{accepts_in}
 use Rattle.std.specs.Option.{is_none, option_map}
 use Rattle.place_pass.specs.Bounds.{rank_of, IsBounded}
@@ -33,7 +34,7 @@ returns-then-is_full c =
     record {
       bounded = λ q has.
           let place = place_of q s.line.now.pairs has in
-          let here = all_at (λ (p : ℕ × ℕ). p.1 < length (get_or s.wishes.now.cells p.0 [])) s.line.now.pairs place.place q c.requires.ready.admitted place.at in
+          let here = all_at (λ (p : Pair). p.1 < length (get_or s.wishes.now.cells p.0 [])) s.line.now.pairs place.place q c.requires.ready.admitted place.at in
           bounded_apart_from (board_in s) s.table.now.entries None _ (turn_in s.turn_of.now q) q m
           (ap (λ b. accepts_in (board_in s) s.table.now.entries q.0 q.1 m && b) (c.is_full.ensures c.if-is_full.true m q.0 q.1 c.requires.free here) ∙ and_false (accepts_in (board_in s) s.table.now.entries q.0 q.1 m));
       sight = tt;

@@ -3,6 +3,7 @@ use Rattle.std.proofs.lemmas.Bool.Decides.{nat_tests}
 use Rattle.fuxi_terms.specs.Cluster.{UnitRecord}
 use Rattle.fuxi_terms.specs.Jobs.{priority_of}
 use Rattle.fuxi_terms.proofs.Booleans.{and_true}
+use Rattle.fuxi_terms.specs.Keys.{Pair}
 use Rattle.grant_table.specs.GrantTables.{as_known}
 use Rattle.written_roles.specs.Masters.{out_of}
 use Rattle.place_pass.specs.Cells.{Cell, asks_in}
@@ -29,7 +30,7 @@ rank_is c =
 pub returns-then-not-may_be_nearer-clause-here : goal.returns-then-not-may_be_nearer-clause-here
 returns-then-not-may_be_nearer-clause-here c =
     let b = board_in c.args.scene.now in
-    let p : ℕ × ℕ = (c.args.app.0, c.args.unit.0) in
+    let p : Pair = (c.args.app.0, c.args.unit.0) in
     let late : c.saturating_sub-late.result ≡ 9 - priority_of (as_known c.args.scene.now.table.now.jobs) c.args.app.0 c.args.unit.0 = c.saturating_sub-late.ensures ∙ ap (λ k. 9 - k) (ap (λ (x : Cell). x.unit.priority) c.wish.ensures.cell ∙ ap (λ (x : UnitRecord). x.priority) (unit_is c.args.scene.now.wishes.now.cluster c.args.scene.now.wishes.now.cells c.args.scene.now.table.now c.requires.ready.level c.args.app.0 c.args.unit.0 c.requires.unit)) in
     bounded_by b c.args.scene.now.table.now.entries (sight_rank c.args.before) c.args.groups.now (turn_in c.args.scene.now.turn_of.now p) p c.args.machine.0
     (subst (λ r. is_bound (sight_rank c.args.before) r ≡ true) (λ i. late i ∷ c.level-level.ensures i ∷ c.turn_of_unit-turn.ensures i ∷ []) (c.may_be_nearer.ensures c.if-not-may_be_nearer.true))
@@ -37,7 +38,7 @@ returns-then-not-may_be_nearer-clause-here c =
 pub returns-clause-here : goal.returns-clause-here
 returns-clause-here c =
     let b = board_in c.args.scene.now in
-    let p : ℕ × ℕ = (c.args.app.0, c.args.unit.0) in
+    let p : Pair = (c.args.app.0, c.args.unit.0) in
     let r = rank_at b c.args.scene.now.table.now.entries (turn_in c.args.scene.now.turn_of.now p) p c.args.machine.0 in
     bounded_by b c.args.scene.now.table.now.entries (sight_rank c.nearer.result) c.may_place.new.groups (turn_in c.args.scene.now.turn_of.now p) p c.args.machine.0 (c.nearer.ensures.itself r (subst (λ x. is_bound (Some x) r ≡ true) (sym (rank_is c)) (self_bound r)))
 

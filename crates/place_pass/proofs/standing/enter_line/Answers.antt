@@ -1,5 +1,6 @@
 use Rattle.std.proofs.Common.{◌≡◌, ◌+◌, ◌<◌, ℕ, List, true, false, take, length, get_or, [], refl, sym, ◌∙◌, ap, subst, arith}
 use Rattle.fuxi_terms.specs.Jobs.{unit_count}
+use Rattle.fuxi_terms.specs.Keys.{Pair}
 use Rattle.grant_table.specs.GrantTables.{as_known}
 use Rattle.wait_queue.specs.declared.node.Entry.{Entry}
 use Rattle.locality_tree.specs.Trees.{TreeRecord, is_admitted, refreshed, unit_number, MayWait}
@@ -20,7 +21,7 @@ pub refresh-requires-clause-admitted : goal.refresh-requires-clause-admitted
 refresh-requires-clause-admitted c =
     let w = c.args.wishes.now in
     let line = c.args.line.now.pairs in
-    let q : ℕ × ℕ = (c.at.result.0.0, c.at.result.1.0) in
+    let q : Pair = (c.at.result.0.0, c.at.result.1.0) in
     subst (λ (e : Entry). is_admitted c.loop-place.tree e.app.0 e.unit.0 ≡ true) (sym c.entry_for-entry.ensures)
     (admitted_at c.cluster-wishes.ensures.sound c.args.line.now.pairs c.requires.admitted c.loop-place.place c.at.ensures (λ p. has_pair p (take c.loop-place.place line)) c.args.turn_of.now.items c.loop-place.tree c.loop-place.invariant.holds)
 
@@ -28,8 +29,8 @@ pub refresh-requires-clause-entry : goal.refresh-requires-clause-entry
 refresh-requires-clause-entry c =
     let w = c.args.wishes.now in
     let line = c.args.line.now.pairs in
-    let q : ℕ × ℕ = (c.at.result.0.0, c.at.result.1.0) in
-    let f : ℕ × ℕ → ℕ = λ p. turn_at c.args.turn_of.now.items p.0 p.1 in
+    let q : Pair = (c.at.result.0.0, c.at.result.1.0) in
+    let f : Pair → ℕ = λ p. turn_at c.args.turn_of.now.items p.0 p.1 in
     subst (MayWait c.loop-place.tree) (sym c.entry_for-entry.ensures)
     (may_wait w.cluster w.cells (λ p. has_pair p (take c.loop-place.place line)) c.args.turn_of.now.items c.loop-place.tree q.0 q.1 c.loop-place.invariant.holds (placed_at c.cluster-wishes.ensures.sound c.args.line.now.pairs c.requires.admitted c.loop-place.place c.at.ensures).0 (placed_at c.cluster-wishes.ensures.sound c.args.line.now.pairs c.requires.admitted c.loop-place.place c.at.ensures).1
     (λ b v x e. let lt = turn_before f line c.loop-place.place q (b, v) c.requires.rises c.at.ensures x in absurd (omega (arith, lt, e))))
@@ -41,7 +42,7 @@ mark_unit-requires-clause-here c = subst (λ (e : Entry). e.unit.0 < length (get
 pub mark_unit-requires-clause-there : goal.mark_unit-requires-clause-there
 mark_unit-requires-clause-there c =
     let w = c.args.wishes.now in
-    let q : ℕ × ℕ = (c.at.result.0.0, c.at.result.1.0) in
+    let q : Pair = (c.at.result.0.0, c.at.result.1.0) in
     let here = here_at c.cluster-wishes.ensures.sound c.args.line.now.pairs c.requires.admitted c.loop-place.place c.at.ensures in
     let n = count_is w.cluster w.cells c.args.table.now c.requires.level q.0 in
     let there : q.1 < unit_count (as_known c.args.table.now.jobs) q.0 = omega (arith, here, n) in
@@ -52,7 +53,7 @@ mark_unit-requires-clause-waits c =
     let w = c.args.wishes.now in
     let line = c.args.line.now.pairs in
     let place = c.loop-place.place in
-    let q : ℕ × ℕ = (c.at.result.0.0, c.at.result.1.0) in
+    let q : Pair = (c.at.result.0.0, c.at.result.1.0) in
     let held : HoldsLine w.cluster w.cells (take (place + 1) line) c.args.turn_of.now.items c.refresh.new.self = holds_begun w.cluster w.cells (λ p. has_pair p (take place line)) (λ p. has_pair p (take (place + 1) line)) c.args.turn_of.now.items c.loop-place.tree c.refresh.new.self q.0 q.1 c.loop-place.invariant.holds
     (placed_at c.cluster-wishes.ensures.sound c.args.line.now.pairs c.requires.admitted c.loop-place.place c.at.ensures).1
     (here_at c.cluster-wishes.ensures.sound c.args.line.now.pairs c.requires.admitted c.loop-place.place c.at.ensures)
@@ -67,8 +68,8 @@ loop-place-preserved c =
     let line = c.args.line.now.pairs in
     let es = c.args.table.now.entries in
     let place = c.loop-place.place in
-    let q : ℕ × ℕ = (c.at.result.0.0, c.at.result.1.0) in
-    let f : ℕ × ℕ → ℕ = λ p. turn_at c.args.turn_of.now.items p.0 p.1 in
+    let q : Pair = (c.at.result.0.0, c.at.result.1.0) in
+    let f : Pair → ℕ = λ p. turn_at c.args.turn_of.now.items p.0 p.1 in
     let t = c.loop-place.tree in
     let t1 = c.refresh.new.self in
     let t2 = c.mark_unit.new.tree in
@@ -88,7 +89,7 @@ loop-place-preserved c =
       from = omega (arith, from);
       holds = holds_on w.cluster w.cells (λ p. has_pair p (take (place + 1) line)) c.args.turn_of.now.items t1 t2 q.0 q.1 held (has_itself line place q c.at.ensures) r;
       stands = λ a u has. elim (same_pair (a, u) q) as (λ x. same_pair (a, u) q ≡ x → StandsAs w.cluster w.cells es a u t2) [
-        | true ↦ λ x. subst (λ (p : ℕ × ℕ). StandsAs w.cluster w.cells es p.0 p.1 t2) (sym (pair_is (a, u) q x)) stands
+        | true ↦ λ x. subst (λ (p : Pair). StandsAs w.cluster w.cells es p.0 p.1 t2) (sym (pair_is (a, u) q x)) stands
         | false ↦ λ x.
             let la = held.few a u has in
             let before : has_pair (a, u) (take place line) ≡ true = sym (has_other line place q (a, u) c.at.ensures x) ∙ has in
@@ -101,11 +102,11 @@ returns-clause-holds c =
     let line = c.args.line.now.pairs in
     let end = c.loop-place-test.false in
     let n = c.len-place-end.ensures.number in
-    subst (λ (l : List (ℕ × ℕ)). HoldsLine c.args.wishes.now.cluster c.args.wishes.now.cells l c.args.turn_of.now.items c.loop-place.tree) (taken_whole line c.loop-place.place (omega (arith, end, n))) c.loop-place.invariant.holds
+    subst (λ (l : List Pair). HoldsLine c.args.wishes.now.cluster c.args.wishes.now.cells l c.args.turn_of.now.items c.loop-place.tree) (taken_whole line c.loop-place.place (omega (arith, end, n))) c.loop-place.invariant.holds
 
 pub returns-clause-stands : goal.returns-clause-stands
 returns-clause-stands c =
     let line = c.args.line.now.pairs in
     let end = c.loop-place-test.false in
     let n = c.len-place-end.ensures.number in
-    subst (λ (l : List (ℕ × ℕ)). AllStand c.args.wishes.now.cluster c.args.wishes.now.cells c.args.table.now.entries l c.loop-place.tree) (taken_whole line c.loop-place.place (omega (arith, end, n))) c.loop-place.invariant.stands
+    subst (λ (l : List Pair). AllStand c.args.wishes.now.cluster c.args.wishes.now.cells c.args.table.now.entries l c.loop-place.tree) (taken_whole line c.loop-place.place (omega (arith, end, n))) c.loop-place.invariant.stands

@@ -1,6 +1,7 @@
 use Rattle.std.proofs.Common.{◌≡◌, ◌+◌, ℕ, Bool, List, true, false, not, nat_lt, ◌∷◌, take, [], refl, sym, ◌∙◌, ap, subst, arith}
 use Rattle.std.specs.Prelude.{◌&&◌, ◌||◌}
 use Rattle.std.proofs.lemmas.Bool.Decides.{nat_tests}
+use Rattle.fuxi_terms.specs.Keys.{Pair}
 use Rattle.wait_queue.specs.declared.node.Entry.{Entry}
 use Rattle.locality_tree.specs.Trees.{is_admitted, refreshed, MayWait}
 use Rattle.written_roles.specs.Masters.{out_of}
@@ -18,7 +19,7 @@ pub loop-place-init : goal.loop-place-init
 loop-place-init c =
     let w = c.args.wishes.now in
     let line = c.args.line.now.pairs in
-    let some : ℕ × ℕ → Bool = λ p. nat_lt 0 (out_of (asks_in w.cells) c.args.table.now.entries p.0 p.1) in
+    let some : Pair → Bool = λ p. nat_lt 0 (out_of (asks_in w.cells) c.args.table.now.entries p.0 p.1) in
     record {
       holds = holds_same w.cluster w.cells (λ p. has_pair p line) (λ p. has_pair p line && (some p || not (has_pair p (take 0 line)))) c.args.turn_of.now.items c.args.tree.now (λ a u. all (has_pair (a, u) line) (some (a, u)) (has_pair (a, u) (take 0 line)) (none line (a, u))) c.requires.holds;
       others = λ a u lu s. refl;
@@ -29,7 +30,7 @@ loop-place-init c =
     all true false z e = ap not e
     all false y z e = refl
 
-    none : (xs : List (ℕ × ℕ)) (p : ℕ × ℕ) → has_pair p (take 0 xs) ≡ false
+    none : (xs : List Pair) (p : Pair) → has_pair p (take 0 xs) ≡ false
     none [] p = refl
     none (x ∷ xs) p = refl
 
@@ -39,8 +40,8 @@ loop-place-preserved-then-outstanding-gt0 c =
     let w = c.args.wishes.now in
     let line = c.args.line.now.pairs in
     let place = c.loop-place.place in
-    let q : ℕ × ℕ = (c.at.result.0.0, c.at.result.1.0) in
-    let some : ℕ × ℕ → Bool = λ p. nat_lt 0 (out_of (asks_in w.cells) c.args.table.now.entries p.0 p.1) in
+    let q : Pair = (c.at.result.0.0, c.at.result.1.0) in
+    let some : Pair → Bool = λ p. nat_lt 0 (out_of (asks_in w.cells) c.args.table.now.entries p.0 p.1) in
     let test : some q ≡ true = let e = c.outstanding.ensures in let z = c.if-outstanding-gt0.true in grind (arith, nat_tests, e, z) in
     record {
       holds = holds_same w.cluster w.cells (λ p. has_pair p line && (some p || not (has_pair p (take place line)))) (λ p. has_pair p line && (some p || not (has_pair p (take (place + 1) line)))) c.args.turn_of.now.items c.loop-place.tree
@@ -63,8 +64,8 @@ pub refresh-requires-clause-admitted : goal.refresh-requires-clause-admitted
 refresh-requires-clause-admitted c =
     let w = c.args.wishes.now in
     let line = c.args.line.now.pairs in
-    let q : ℕ × ℕ = (c.at.result.0.0, c.at.result.1.0) in
-    let some : ℕ × ℕ → Bool = λ p. nat_lt 0 (out_of (asks_in w.cells) c.args.table.now.entries p.0 p.1) in
+    let q : Pair = (c.at.result.0.0, c.at.result.1.0) in
+    let some : Pair → Bool = λ p. nat_lt 0 (out_of (asks_in w.cells) c.args.table.now.entries p.0 p.1) in
     subst (λ (e : Entry). is_admitted c.loop-place.tree e.app.0 e.unit.0 ≡ true) (sym c.entry_for-entry.ensures)
     (admitted_at c.cluster-wishes.ensures.sound c.args.line.now.pairs c.requires.admitted c.loop-place.place c.at.ensures (λ p. has_pair p line && (some p || not (has_pair p (take c.loop-place.place line)))) c.args.turn_of.now.items c.loop-place.tree c.loop-place.invariant.holds)
 
@@ -72,11 +73,11 @@ pub refresh-requires-clause-entry : goal.refresh-requires-clause-entry
 refresh-requires-clause-entry c =
     let w = c.args.wishes.now in
     let line = c.args.line.now.pairs in
-    let q : ℕ × ℕ = (c.at.result.0.0, c.at.result.1.0) in
-    let some : ℕ × ℕ → Bool = λ p. nat_lt 0 (out_of (asks_in w.cells) c.args.table.now.entries p.0 p.1) in
+    let q : Pair = (c.at.result.0.0, c.at.result.1.0) in
+    let some : Pair → Bool = λ p. nat_lt 0 (out_of (asks_in w.cells) c.args.table.now.entries p.0 p.1) in
     subst (MayWait c.loop-place.tree) (sym c.entry_for-entry.ensures)
     (may_wait w.cluster w.cells (λ p. has_pair p line && (some p || not (has_pair p (take c.loop-place.place line)))) c.args.turn_of.now.items c.loop-place.tree q.0 q.1 c.loop-place.invariant.holds (placed_at c.cluster-wishes.ensures.sound c.args.line.now.pairs c.requires.admitted c.loop-place.place c.at.ensures).0 (placed_at c.cluster-wishes.ensures.sound c.args.line.now.pairs c.requires.admitted c.loop-place.place c.at.ensures).1
-    (λ b v x e. turn_apart (λ (p : ℕ × ℕ). turn_at c.args.turn_of.now.items p.0 p.1) line q (b, v) c.requires.rises (has_at line c.loop-place.place q c.at.ensures) (first (has_pair (b, v) line) _ x) e))
+    (λ b v x e. turn_apart (λ (p : Pair). turn_at c.args.turn_of.now.items p.0 p.1) line q (b, v) c.requires.rises (has_at line c.loop-place.place q c.at.ensures) (first (has_pair (b, v) line) _ x) e))
   where
     first : (x y : Bool) → (x && y) ≡ true → x ≡ true
     first true y e = refl
@@ -89,10 +90,10 @@ loop-place-preserved c =
     let place = c.loop-place.place in
     let t = c.loop-place.tree in
     let t' = c.refresh.new.self in
-    let q : ℕ × ℕ = (c.at.result.0.0, c.at.result.1.0) in
-    let some : ℕ × ℕ → Bool = λ p. nat_lt 0 (out_of (asks_in w.cells) c.args.table.now.entries p.0 p.1) in
-    let old : ℕ × ℕ → Bool = λ p. has_pair p line && (some p || not (has_pair p (take place line))) in
-    let new : ℕ × ℕ → Bool = λ p. has_pair p line && (some p || not (has_pair p (take (place + 1) line))) in
+    let q : Pair = (c.at.result.0.0, c.at.result.1.0) in
+    let some : Pair → Bool = λ p. nat_lt 0 (out_of (asks_in w.cells) c.args.table.now.entries p.0 p.1) in
+    let old : Pair → Bool = λ p. has_pair p line && (some p || not (has_pair p (take place line))) in
+    let new : Pair → Bool = λ p. has_pair p line && (some p || not (has_pair p (take (place + 1) line))) in
     let test : some q ≡ false = let e = c.outstanding.ensures in let z = c.if-outstanding-gt0.false in grind (arith, nat_tests, e, z) in
     let lu = (placed_at c.cluster-wishes.ensures.sound c.args.line.now.pairs c.requires.admitted c.loop-place.place c.at.ensures).1 in
     let here = here_at c.cluster-wishes.ensures.sound c.args.line.now.pairs c.requires.admitted c.loop-place.place c.at.ensures in
@@ -116,7 +117,7 @@ pub returns-clause-holds : goal.returns-clause-holds
 returns-clause-holds c =
     let w = c.args.wishes.now in
     let line = c.args.line.now.pairs in
-    let some : ℕ × ℕ → Bool = λ p. nat_lt 0 (out_of (asks_in w.cells) c.args.table.now.entries p.0 p.1) in
+    let some : Pair → Bool = λ p. nat_lt 0 (out_of (asks_in w.cells) c.args.table.now.entries p.0 p.1) in
     let end = c.loop-place-test.false in
     let n = c.len-place-end.ensures.number in
     let whole : take c.loop-place.place line ≡ line = taken_whole line c.loop-place.place (omega (arith, end, n)) in

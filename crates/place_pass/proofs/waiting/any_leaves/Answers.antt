@@ -2,6 +2,7 @@ use Rattle.std.proofs.Common.{◌≡◌, ℕ, ◌<◌, true, false, nat_lt, [], 
 use Rattle.std.proofs.lemmas.Bool.{cases_lt}
 use Rattle.fuxi_terms.proofs.Booleans.{both_true}
 use Rattle.fuxi_terms.proofs.Lists.{all_at}
+use Rattle.fuxi_terms.specs.Keys.{Pair}
 use Rattle.written_roles.specs.Masters.{out_of}
 use Rattle.written_roles.specs.Placing.{has_pair}
 use Rattle.place_pass.specs.Cells.{asks_in}
@@ -31,7 +32,7 @@ loop-number-preserved c =
         | inl l ↦ c.loop-number.invariant.stay a u l has
         | inr ge ↦ let same : n ≡ a = omega (arith, lt, ge) in
             let place = place_of (a, u) line has in
-            let here : u < length (get_or cells a []) = all_at (λ (p : ℕ × ℕ). p.1 < length (get_or cells p.0 [])) line place.place (a, u) c.requires.admitted place.at in
+            let here : u < length (get_or cells a []) = all_at (λ (p : Pair). p.1 < length (get_or cells p.0 [])) line place.place (a, u) c.requires.admitted place.at in
             subst (λ x. u < length (get_or cells x []) → has_pair (x, u) line ≡ true → nat_lt 0 (out_of (asks_in cells) c.args.table.now.entries x u) ≡ true) same (c.one_leaves.ensures c.if-one_leaves.false u) here has
       ];
     }

@@ -2,10 +2,11 @@ use Rattle.std.proofs.Common.{◌≡◌, ℕ, ◌+◌, Bool, true, false, not, n
 use Rattle.std.specs.Prelude.{◌&&◌, ◌||◌}
 use Rattle.fuxi_terms.specs.Cluster.{JobRecord}
 use Rattle.fuxi_terms.specs.Jobs.{unit_count}
-use Rattle.fuxi_terms.specs.Keys.{Spot}
+use Rattle.fuxi_terms.specs.Keys.{Pair}
 use Rattle.fuxi_terms.specs.Numbers.{has_number}
 use Rattle.fuxi_terms.specs.declared.Key.{Key}
 use Rattle.fuxi_terms.proofs.Booleans.{and_true, or_false}
+use Rattle.fuxi_terms.specs.Tables.{Table}
 use Rattle.written_roles.specs.Masters.{out_of}
 use Rattle.written_roles.specs.Placing.{has_pair, waiting_in}
 use Rattle.grant_table.specs.GrantTables.{as_known}
@@ -17,10 +18,10 @@ use Rattle.place_pass.proofs.StillLemmas.{none_new, paired_same}
 use Rattle.place_pass.proofs.waiting.join.Goals as goal
 
 -- the pairs of one job more
-one_more : (old js : List JobRecord) (r : ℕ × ℕ → Bool) (units : ℕ → ℕ) (asks : ℕ → Key → ℕ) (entries : List (Spot × ℕ)) (a : ℕ) → map (λ (j : JobRecord). j.number) js ≡ map (λ (j : JobRecord). j.number) old ++ a ∷ []
+one_more : (old js : List JobRecord) (r : Pair → Bool) (units : ℕ → ℕ) (asks : ℕ → Key → ℕ) (entries : Table) (a : ℕ) → map (λ (j : JobRecord). j.number) js ≡ map (λ (j : JobRecord). j.number) old ++ a ∷ []
     → filter r (waiting_in (map (λ (j : JobRecord). j.number) js) units asks entries) ≡ filter r (waiting_in (map (λ (j : JobRecord). j.number) old) units asks entries) ++ filter r (waiting_of asks entries a (units a))
 one_more old js r units asks entries a is =
-    let f : ℕ → List (ℕ × ℕ) = λ b. waiting_of asks entries b (units b) in
+    let f : ℕ → List Pair = λ b. waiting_of asks entries b (units b) in
     let numbers = map (λ (j : JobRecord). j.number) old in
     ap (filter r) (ap (λ ns. waiting_in ns units asks entries) is ∙ flat_append f numbers (a ∷ []) ∙ ap (λ xs. waiting_in numbers units asks entries ++ xs) (append_nil (f a)))
     ∙ filter_append r (waiting_in numbers units asks entries) (f a)
@@ -28,7 +29,7 @@ one_more old js r units asks entries a is =
 pub loop-index-preserved-then-is_calm : goal.loop-index-preserved-then-is_calm
 loop-index-preserved-then-is_calm c =
     let old = c.args.line.now.pairs in
-    let r : ℕ × ℕ → Bool = λ p. not (has_pair p old) in
+    let r : Pair → Bool = λ p. not (has_pair p old) in
     let t = c.args.table.now in
     let asks = asks_in c.args.wishes.now.cells in
     let i = c.loop-index.index in
@@ -47,7 +48,7 @@ loop-index-preserved-then-is_calm c =
 pub loop-index-preserved : goal.loop-index-preserved
 loop-index-preserved c =
     let old = c.args.line.now.pairs in
-    let r : ℕ × ℕ → Bool = λ p. not (has_pair p old) in
+    let r : Pair → Bool = λ p. not (has_pair p old) in
     let t = c.args.table.now in
     let asks = asks_in c.args.wishes.now.cells in
     let i = c.loop-index.index in

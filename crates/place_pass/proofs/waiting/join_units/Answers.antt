@@ -2,6 +2,7 @@ use Rattle.std.proofs.Common.{◌≡◌, ℕ, Bool, true, false, not, nat_lt, Li
 use Rattle.std.specs.Prelude.{◌&&◌, ◌||◌}
 use Rattle.std.proofs.lemmas.Bool.Decides.{nat_tests}
 use Rattle.fuxi_terms.proofs.Booleans.{and_false, or_false}
+use Rattle.fuxi_terms.specs.Keys.{Pair}
 use Rattle.written_roles.specs.Masters.{out_of}
 use Rattle.written_roles.specs.Placing.{has_pair}
 use Rattle.place_pass.specs.Cells.{asks_in}
@@ -10,14 +11,14 @@ use Rattle.place_pass.proofs.WaitingLinesLemmas.{any_append, none_filter, append
 use Rattle.place_pass.proofs.waiting.join_units.Goals as goal
 
 -- a unit whose turn comes is in the line only where it was
-was_there : (old line : List (ℕ × ℕ)) (r : ℕ × ℕ → Bool) (a n : ℕ) (joined : List (ℕ × ℕ)) → line ≡ old ++ filter r joined → has_pair (a, n) joined ≡ false → has_pair (a, n) line ≡ has_pair (a, n) old
+was_there : (old line : List Pair) (r : Pair → Bool) (a n : ℕ) (joined : List Pair) → line ≡ old ++ filter r joined → has_pair (a, n) joined ≡ false → has_pair (a, n) line ≡ has_pair (a, n) old
 was_there old line r a n joined is none =
     ap (has_pair (a, n)) is ∙ any_append (same_pair (a, n)) old (filter r joined) ∙ ap (λ b. has_pair (a, n) old || b) (none_filter (same_pair (a, n)) r joined none) ∙ or_false (has_pair (a, n) old)
 
 pub loop-number-preserved-then-outstanding-eq0 : goal.loop-number-preserved-then-outstanding-eq0
 loop-number-preserved-then-outstanding-eq0 c =
     let old = c.args.line.now.pairs in
-    let r : ℕ × ℕ → Bool = λ p. not (has_pair p old) in
+    let r : Pair → Bool = λ p. not (has_pair p old) in
     let a = c.args.app.0 in
     let n = c.loop-number.number in
     let w : ℕ → Bool = λ u. nat_lt 0 (out_of (asks_in c.args.wishes.now.cells) c.args.table.now.entries a u) in
@@ -31,7 +32,7 @@ loop-number-preserved-then-outstanding-eq0 c =
 pub loop-number-preserved-then-has : goal.loop-number-preserved-then-has
 loop-number-preserved-then-has c =
     let old = c.args.line.now.pairs in
-    let r : ℕ × ℕ → Bool = λ p. not (has_pair p old) in
+    let r : Pair → Bool = λ p. not (has_pair p old) in
     let a = c.args.app.0 in
     let n = c.loop-number.number in
     let w : ℕ → Bool = λ u. nat_lt 0 (out_of (asks_in c.args.wishes.now.cells) c.args.table.now.entries a u) in
@@ -49,7 +50,7 @@ add_unit-requires-clause-new c = sym c.has.ensures ∙ c.if-has.false
 pub loop-number-preserved : goal.loop-number-preserved
 loop-number-preserved c =
     let old = c.args.line.now.pairs in
-    let r : ℕ × ℕ → Bool = λ p. not (has_pair p old) in
+    let r : Pair → Bool = λ p. not (has_pair p old) in
     let a = c.args.app.0 in
     let n = c.loop-number.number in
     let w : ℕ → Bool = λ u. nat_lt 0 (out_of (asks_in c.args.wishes.now.cells) c.args.table.now.entries a u) in

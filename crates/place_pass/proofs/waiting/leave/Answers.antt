@@ -1,5 +1,6 @@
 use Rattle.std.proofs.Common.{ℕ, Bool, nat_lt, sym, ◌∙◌, ap, subst, arith}
 use Rattle.std.specs.Prelude.{◌&&◌}
+use Rattle.fuxi_terms.specs.Keys.{Pair}
 use Rattle.written_roles.specs.Masters.{out_of}
 use Rattle.written_roles.specs.Placing.{has_pair}
 use Rattle.place_pass.specs.Best.{AreAdmitted}
@@ -17,7 +18,7 @@ pub returns-then-not-any_leaves-clause-holds : goal.returns-then-not-any_leaves-
 returns-then-not-any_leaves-clause-holds c =
     let w = c.args.wishes.now in
     let line = c.args.line.now.pairs in
-    let waits : ℕ × ℕ → Bool = λ p. nat_lt 0 (out_of (asks_in w.cells) c.args.table.now.entries p.0 p.1) in
+    let waits : Pair → Bool = λ p. nat_lt 0 (out_of (asks_in w.cells) c.args.table.now.entries p.0 p.1) in
     holds_same w.cluster w.cells (λ p. has_pair p line) (λ p. has_pair p line && waits p) c.args.turn_of.now.items c.args.tree.now
     (λ a u. all_kept (has_pair (a, u) line) (waits (a, u)) (c.any_leaves.ensures c.if-not-any_leaves.true a u)) c.requires.holds
 

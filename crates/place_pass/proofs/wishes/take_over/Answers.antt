@@ -1,10 +1,12 @@
-use Rattle.std.proofs.Common.{◌≡◌, ◌≢◌, ℕ, ◌<◌, true, false, cond, nat_eq, List, length, get_or, set, map, refl, sym, ◌∙◌, ap, subst, arith, length-set}
+use Rattle.std.proofs.Common.{◌≡◌, ◌≢◌, ℕ, ◌<◌, true, false, cond, nat_eq, List, length, get_or, set, map, refl, sym, ◌∙◌, ap, subst, arith, inl, inr, length-set, rules}
 use Rattle.std.specs.Prelude.{◌||◌}
-use Rattle.std.proofs.lemmas.List.{ext_get_or, length-map, map-set, get_or-map}
+use Rattle.std.proofs.lemmas.List.{ext_get_or, get_or_read, length-map, map-set, get_or-map}
+use Rattle.std.proofs.lemmas.Bool.{cases_eq}
 use Rattle.std.proofs.lemmas.Bool.Decides.{nat_tests}
 use Rattle.place_pass.specs.declared.wishes.Wish.{Wish}
-use Rattle.place_pass.specs.Cells.{Cell, cell_of, cells_in, no_cell, taken, taken_all, asks_more}
-use Rattle.fuxi_terms.proofs.Booleans.{number_is}
+use Rattle.place_pass.specs.Cells.{Cell, cell_of, cells_in, no_cell, taken, taken_all, any_more, asks_more}
+use Rattle.fuxi_terms.proofs.Booleans.{number_is, or_false}
+use Rattle.place_pass.proofs.AskedTheSame.{same_no_more}
 use Rattle.place_pass.proofs.IdleKept.{any_last}
 use Rattle.place_pass.proofs.CellsLemmas.{length-taken_all, get_or-taken_all}
 use Rattle.place_pass.proofs.wishes.take_over.Goals as goal
@@ -32,6 +34,31 @@ take_one-one-requires-clause-racks c = ap (λ (x : Cell). length x.racks) (read_
 
 pub take_one-one-requires-clause-avoided : goal.take_one-one-requires-clause-avoided
 take_one-one-requires-clause-avoided c = ap (λ (x : Cell). length x.avoided) (read_is c) ∙ c.requires.avoided c.loop-number.number (there_is c)
+
+-- the demand asks the same of the unit
+pub loop-number-preserved-then-not-differing-number : goal.loop-number-preserved-then-not-differing-number
+loop-number-preserved-then-not-differing-number c =
+    let n = c.loop-number.number in
+    let i = c.loop-number.invariant in
+    let k = c.args.cluster.now in
+    let es = c.args.demand.now.entries in
+    let old = cells_in c.args.units.now in
+    let lt = c.loop-number-test.true in
+    let end = c.len-number-end.ensures in
+    let there : n < length c.args.units.now.items = omega (arith, lt, end) in
+    let few = c.requires.few in
+    let eight : length c.args.differing.now ≡ 8 = search rules in
+    let same = c.requires.same n there (sym (get_or_read c.args.differing.now n false (omega (arith, there, few, eight)) (sym c.if-not-differing-number.true) true)) in
+    let none : asks_more k es n (get_or old n no_cell) ≡ false = same_no_more k es n (get_or old n no_cell) same in
+    record {
+      long = i.long;
+      more = i.more ∙ sym (any_last (λ u. asks_more k es u (get_or old u no_cell)) n ∙ ap (λ b. any_more k es old n || b) none ∙ or_false (any_more k es old n));
+      done = λ j l. elim (cases_eq j n) as (λ _. get_or (cells_in c.loop-number.units) j no_cell ≡ taken k es j (get_or old j no_cell)) [
+        | inl q ↦ subst (λ m. get_or (cells_in c.loop-number.units) m no_cell ≡ taken k es m (get_or old m no_cell)) (sym q) (i.left n (omega arith) ∙ sym same)
+        | inr d ↦ i.done j (omega (arith, l, d))
+      ];
+      left = λ j l. i.left j (omega (arith, l));
+    }
 
 pub loop-number-preserved : goal.loop-number-preserved
 loop-number-preserved c =

@@ -40,22 +40,22 @@ pub returns-in-Judge : goal.returns-in-Judge
 returns-in-Judge c = subst (λ e. Acts (λ w. act w (event_as e)) c.args.running.now c.judge.new.running c.args.out.now.items c.judge.new.out.items c.judge.result) (sym c.in-Judge.is) c.judge.ensures
 
 pub returns-in-TurnMaster : goal.returns-in-TurnMaster
-returns-in-TurnMaster c = subst (λ e. Acts (λ w. act w (event_as e)) c.args.running.now c.turn_master.new.running c.args.out.now.items c.turn_master.new.out.items c.turn_master.result) (sym c.in-TurnMaster.is) c.turn_master.ensures
+returns-in-TurnMaster c = subst (λ e. Acts (λ w. act w (event_as e)) c.args.running.now c.tell.new.running c.args.out.now.items c.tell.new.out.items c.tell.result) (sym c.in-TurnMaster.is) c.tell.ensures
 
 pub returns-in-TurnAgent : goal.returns-in-TurnAgent
-returns-in-TurnAgent c = subst (λ e. Acts (λ w. act w (event_as e)) c.args.running.now c.turn_agent.new.running c.args.out.now.items c.turn_agent.new.out.items c.turn_agent.result) (sym c.in-TurnAgent.is) c.turn_agent.ensures
+returns-in-TurnAgent c = subst (λ e. Acts (λ w. act w (event_as e)) c.args.running.now c.tell-in-TurnAgent.new.running c.args.out.now.items c.tell-in-TurnAgent.new.out.items c.tell-in-TurnAgent.result) (sym c.in-TurnAgent.is) c.tell-in-TurnAgent.ensures
 
 pub returns-in-TurnApp : goal.returns-in-TurnApp
-returns-in-TurnApp c = subst (λ e. Acts (λ w. act w (event_as e)) c.args.running.now c.turn_app.new.running c.args.out.now.items c.turn_app.new.out.items c.turn_app.result) (sym c.in-TurnApp.is) c.turn_app.ensures
+returns-in-TurnApp c = subst (λ e. Acts (λ w. act w (event_as e)) c.args.running.now c.tell-in-TurnApp.new.running c.args.out.now.items c.tell-in-TurnApp.new.out.items c.tell-in-TurnApp.result) (sym c.in-TurnApp.is) c.tell-in-TurnApp.ensures
 
 pub returns-in-ResyncMaster : goal.returns-in-ResyncMaster
-returns-in-ResyncMaster c = subst (λ e. Acts (λ w. act w (event_as e)) c.args.running.now c.resync_master.new.running c.args.out.now.items c.resync_master.new.out.items c.resync_master.result) (sym c.in-ResyncMaster.is) c.resync_master.ensures
+returns-in-ResyncMaster c = subst (λ e. Acts (λ w. act w (event_as e)) c.args.running.now c.tell-in-ResyncMaster.new.running c.args.out.now.items c.tell-in-ResyncMaster.new.out.items c.tell-in-ResyncMaster.result) (sym c.in-ResyncMaster.is) c.tell-in-ResyncMaster.ensures
 
 pub returns-in-ResyncAgent : goal.returns-in-ResyncAgent
-returns-in-ResyncAgent c = subst (λ e. Acts (λ w. act w (event_as e)) c.args.running.now c.resync_agent.new.running c.args.out.now.items c.resync_agent.new.out.items c.resync_agent.result) (sym c.in-ResyncAgent.is) c.resync_agent.ensures
+returns-in-ResyncAgent c = subst (λ e. Acts (λ w. act w (event_as e)) c.args.running.now c.tell-in-ResyncAgent.new.running c.args.out.now.items c.tell-in-ResyncAgent.new.out.items c.tell-in-ResyncAgent.result) (sym c.in-ResyncAgent.is) c.tell-in-ResyncAgent.ensures
 
 pub returns-in-ResyncApp : goal.returns-in-ResyncApp
-returns-in-ResyncApp c = subst (λ e. Acts (λ w. act w (event_as e)) c.args.running.now c.resync_app.new.running c.args.out.now.items c.resync_app.new.out.items c.resync_app.result) (sym c.in-ResyncApp.is) c.resync_app.ensures
+returns-in-ResyncApp c = subst (λ e. Acts (λ w. act w (event_as e)) c.args.running.now c.tell-in-ResyncApp.new.running c.args.out.now.items c.tell-in-ResyncApp.new.out.items c.tell-in-ResyncApp.result) (sym c.in-ResyncApp.is) c.tell-in-ResyncApp.ensures
 
 pub returns-in-Deliver : goal.returns-in-Deliver
 returns-in-Deliver c = subst (λ e. Acts (λ w. act w (event_as e)) c.args.running.now c.deliver.new.running c.args.out.now.items c.deliver.new.out.items c.deliver.result) (sym c.in-Deliver.is) c.deliver.ensures

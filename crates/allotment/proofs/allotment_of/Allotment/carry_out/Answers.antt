@@ -1,10 +1,10 @@
-use Rattle.std.proofs.Common.{ℕ, ◌+◌, ◌≤◌, List, sym, subst, arith}
+use Rattle.std.proofs.Common.{ℕ, ◌+◌, ◌≤◌, sym, subst, arith}
 use Rattle.fuxi_terms.specs.Cluster.{has_at}
 use Rattle.fuxi_terms.specs.Counts.{AreCounts}
 use Rattle.fuxi_terms.specs.Jobs.{size_at}
-use Rattle.fuxi_terms.specs.Keys.{Spot, spot_cmp}
+use Rattle.fuxi_terms.specs.Keys.{spot_cmp}
 use Rattle.fuxi_terms.specs.Limits.{greatest_count}
-use Rattle.fuxi_terms.specs.Tables.{total_at, with_grant}
+use Rattle.fuxi_terms.specs.Tables.{total_at, with_grant, Table}
 use Rattle.written_roles.specs.Masters.{Master}
 use Rattle.written_roles.specs.Placing.{line_up}
 use Rattle.grant_table.specs.GrantTables.{TableRecord, as_known}
@@ -31,7 +31,7 @@ returns-clause-stands c k M allots =
     let made : Master = record M { table = with_grant (without_victims M.table m vs) (spot_of p) } in
     let x = c.line_up.new.self in
     let up = c.line_up.ensures.stands k _ (c.in_ok-add.ensures.stands k taken (c.in_ok-take_victims.ensures.stands k M allots)) in
-    subst (λ (es : List (Spot × ℕ)). Allots x k (line_up (record M { table = with_grant es (spot_of p) }))) (c.taking.ensures.singly M.table m vs counts) (subst (Allots x k) (c.lines_alike.ensures made) up)
+    subst (λ (es : Table). Allots x k (line_up (record M { table = with_grant es (spot_of p) }))) (c.taking.ensures.singly M.table m vs counts) (subst (Allots x k) (c.lines_alike.ensures made) up)
 
 pub returns-clause-spots : goal.returns-clause-spots
 returns-clause-spots c = touched_still c.args.self.now c.add.new.self c.line_up.new.self (touched_again c.args.self.now c.take_victims.new.self c.add.new.self c.in_ok-take_victims.ensures.touches c.in_ok-add.ensures.touches) c.line_up.ensures.table c.line_up.ensures.touched

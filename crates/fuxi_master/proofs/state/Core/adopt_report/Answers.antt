@@ -1,12 +1,13 @@
-use Rattle.std.proofs.Common.{◌≡◌, ℕ, ◌<◌, cond, not, nat_eq, List, length, sym, ◌∙◌, ap, subst, arith}
+use Rattle.std.proofs.Common.{◌≡◌, ℕ, ◌<◌, cond, not, nat_eq, length, sym, ◌∙◌, ap, subst, arith}
 use Rattle.std.specs.Prelude.{◌&&◌}
 use Rattle.std.specs.List.{AllByRecursion}
 use Rattle.fuxi_terms.specs.Counts.{count}
-use Rattle.fuxi_terms.specs.Keys.{Spot, spot_cmp}
+use Rattle.fuxi_terms.specs.Keys.{spot_cmp}
 use Rattle.fuxi_terms.specs.Numbers.{has_number}
 use Rattle.fuxi_terms.specs.Padded.{padded}
 use Rattle.fuxi_terms.specs.Cluster.{ClusterRecord, machine_of}
 use Rattle.fuxi_terms.specs.Rows.{row_total}
+use Rattle.fuxi_terms.specs.Tables.{Table}
 use Rattle.failover.specs.KeptReports.{kept_of}
 use Rattle.failover.specs.Reported.{Reported}
 use Rattle.grant_table.specs.GrantTables.{TableRecord, IsSound, as_known}
@@ -59,7 +60,7 @@ returns c =
         kept = λ s e. ap (has_spot s) o.touched ∙ a.spots.kept s e;
         others = λ s e. ap (λ (t : TableRecord). count spot_cmp t.entries s) o.table ∙ a.spots.others s (sym (ap (has_spot s) o.touched) ∙ e);
       };
-      table = o.table ∙ a.table ∙ ap {A = List (Spot × ℕ)} (λ es. record x.allotment.table { entries = es }) (sym (ap (λ (t : TableRecord). t.entries) (o.table ∙ a.table)));
+      table = o.table ∙ a.table ∙ ap {A = Table} (λ es. record x.allotment.table { entries = es }) (sym (ap (λ (t : TableRecord). t.entries) (o.table ∙ a.table)));
       turns = let t = a.turns in let s = o.turns in omega (arith, t, s);
     } in
     record {

@@ -1,25 +1,22 @@
-use Rattle.std.proofs.Common.{sym}
-use Rattle.party_slots.proofs.SlotsLemmas.{put_back, resynced_here, resynced_none, within_none, within_put, within_still}
-use Rattle.party_slots.specs.Slots.{boot_at}
+use Rattle.std.proofs.Common.{Ok, Err, is_some, sym, subst}
+use Rattle.party_slots.specs.Slots.{ResyncInWorld}
+use Rattle.party_slots.proofs.SlotsLemmas.{by_answer, may_do, resynced_here, resynced_none, within_acts}
 use Rattle.party_slots.proofs.slots.Slots.resync.Goals as goal
 
-pub returns-in_default-clause-world : goal.returns-in_default-clause-world
-returns-in_default-clause-world g c = resynced_none g.P.Party.stands c.parties_join.ensures.resyncs c.args.number c.args.self.now c.take.new.self (sym c.in_default.ensures.was) c.in_default.ensures.none
+pub act-ran-requires : goal.act-ran-requires
+act-ran-requires g c = λ p was. may_do g.P.Party.steps _ p c.requires was
 
-pub returns-clause-world : goal.returns-clause-world
-returns-clause-world g c =
+pub returns-in-Ok-clause-world : goal.returns-in-Ok-clause-world
+returns-in-Ok-clause-world g c =
     let n = c.args.number in
     let old = c.args.self.now in
-    let p = c.in-Some.party in
-    let q = c.in-Ok.party in
-    resynced_here g.P.Party.stands c.parties_join.ensures.resyncs n p q old c.put.new.self (sym c.in-Some.ensures.was)
-    (put_back n (boot_at old n) q old c.take.new.self c.put.new.self c.in-Some.ensures.some c.put.ensures) c.in-Ok.ensures.resyncs
+    let new = c.act-ran.new.self in
+    subst (ResyncInWorld g.P.Party.stands n old new) (sym c.is_some.ensures)
+    (by_answer _ n old new (λ ran. ResyncInWorld g.P.Party.stands n old new (is_some ran)) (Ok c.in-Ok.ran) c.in-Ok.ensures (λ a. resynced_none g.P.Party.stands c.parties_join.ensures.resyncs n old new a.was a.now)
+    (λ ran a. resynced_here g.P.Party.stands c.parties_join.ensures.resyncs n a.before a.after old new a.was a.now a.made.0))
 
-pub returns-in_default-clause-within : goal.returns-in_default-clause-within
-returns-in_default-clause-within g c = λ most. within_still g.P.Party.steps c.args.number most c.args.self.now c.take.new.self c.in_default.ensures.none
+pub returns-in-Ok-clause-within : goal.returns-in-Ok-clause-within
+returns-in-Ok-clause-within g c = λ most. within_acts g.P.Party.steps _ c.args.number most c.args.self.now c.act-ran.new.self (Ok c.in-Ok.ran) (λ p r does. does.1) c.in-Ok.ensures
 
 pub returns-in-Err-clause-within : goal.returns-in-Err-clause-within
-returns-in-Err-clause-within g c = let n = c.args.number in let old = c.args.self.now in λ most. within_none g.P.Party.steps n (boot_at old n) most old c.take.new.self c.in-Some.ensures.some
-
-pub returns-clause-within : goal.returns-clause-within
-returns-clause-within g c = λ most. within_put g.P.Party.steps c.args.number most c.in-Some.party c.in-Ok.party c.args.self.now c.take.new.self c.put.new.self (sym c.in-Some.ensures.was) c.in-Some.ensures.some c.put.ensures c.in-Ok.ensures.steps
+returns-in-Err-clause-within g c = λ most. within_acts g.P.Party.steps _ c.args.number most c.args.self.now c.act-ran.new.self (Err c.in-Err.fault) (λ p r does. does.1) c.in-Err.ensures

@@ -1,21 +1,23 @@
-use Rattle.std.proofs.Common.{sym}
-use Rattle.party_slots.proofs.SlotsLemmas.{put_back, turned_here, turned_none, within_none, within_put, within_still}
-use Rattle.party_slots.specs.Slots.{boot_at}
+use Rattle.std.specs.Prelude.{IfSome}
+use Rattle.std.specs.List.{AllByRecursion}
+use Rattle.core_side.specs.Parcels.{IsSent}
+use Rattle.party_slots.specs.Slots.{TurnInWorld}
+use Rattle.party_slots.proofs.SlotsLemmas.{by_answer, may_do, turned_here, turned_none, within_acts}
 use Rattle.party_slots.proofs.slots.Slots.turn.Goals as goal
 
-pub returns-in_default-clause-world : goal.returns-in_default-clause-world
-returns-in_default-clause-world g c = turned_none g.P.Party.stands c.parties_join.ensures.turns c.args.number c.args.self.now c.take.new.self (sym c.in_default.ensures.was) c.in_default.ensures.none
-
-pub returns-in_default-clause-within : goal.returns-in_default-clause-within
-returns-in_default-clause-within g c = λ most. within_still g.P.Party.steps c.args.number most c.args.self.now c.take.new.self c.in_default.ensures.none
-
-pub returns-in-Err-clause-within : goal.returns-in-Err-clause-within
-returns-in-Err-clause-within g c = let n = c.args.number in let old = c.args.self.now in λ most. within_none g.P.Party.steps n (boot_at old n) most old c.take.new.self c.in-Some.ensures.some
+pub act-requires : goal.act-requires
+act-requires g c = λ p was. may_do g.P.Party.steps _ p c.requires was
 
 pub returns-clause-world : goal.returns-clause-world
 returns-clause-world g c =
-    let out = put_back c.args.number (boot_at c.args.self.now c.args.number) c.in-Ok.both.0 c.args.self.now c.take.new.self c.put.new.self c.in-Some.ensures.some c.put.ensures in
-    turned_here g.P.Party.stands c.parties_join.ensures.turns c.args.number c.in-Ok.both.1 c.in-Some.party c.in-Ok.both.0 c.args.self.now c.put.new.self (sym c.in-Some.ensures.was) out c.in-Ok.ensures.sends
+    let n = c.args.number in
+    let old = c.args.self.now in
+    let new = c.act.new.self in
+    by_answer _ n old new (TurnInWorld g.P.Party.stands n old new) c.act.result c.act.ensures (λ a. turned_none g.P.Party.stands c.parties_join.ensures.turns n old new a.was a.now)
+    (λ packets a. turned_here g.P.Party.stands c.parties_join.ensures.turns n packets a.before a.after old new a.was a.now a.made.0)
+
+pub returns-clause-formed : goal.returns-clause-formed
+returns-clause-formed g c = by_answer _ c.args.number c.args.self.now c.act.new.self (λ packets. IfSome packets (AllByRecursion IsSent)) c.act.result c.act.ensures (λ a. tt) (λ packets a. a.made.1.0)
 
 pub returns-clause-within : goal.returns-clause-within
-returns-clause-within g c = λ most. within_put g.P.Party.steps c.args.number most c.in-Some.party c.in-Ok.both.0 c.args.self.now c.take.new.self c.put.new.self (sym c.in-Some.ensures.was) c.in-Some.ensures.some c.put.ensures c.in-Ok.ensures.steps
+returns-clause-within g c = λ most. within_acts g.P.Party.steps _ c.args.number most c.args.self.now c.act.new.self c.act.result (λ p r does. does.1.1) c.act.ensures

@@ -14,6 +14,7 @@ use Rattle.place_pass.proofs.StandsAfterChange.{holds_admitted, stands_admitted}
 use Rattle.std.proofs.lemmas.Bool.Decides.{nat_tests}
 use Rattle.place_pass.specs.Placers.{PlacerRecord, KeptRecord, IsClear, IsKept, IsQuiet, IsStill, AreLevel, IsIdle, IsLevelWith, IsPlacer, job_seen, asks_seen}
 use Rattle.fuxi_terms.proofs.ValidJobs.{job_small, units_few, units_some}
+use Rattle.fuxi_terms.specs.Keys.{Pair}
 use Rattle.place_pass.proofs.IdleKept.{clear_admitted, idle_admitted, kept_admitted, quiet_admitted, still_admitted}
 use Rattle.place_pass.proofs.PlacersLemmas.{units_small, units_more, admitted_more, empty_slot, job_admitted, asks_admitted, unknown_there, level_admitted}
 use Rattle.place_pass.proofs.placer.Placer.admit.Goals as goal
@@ -53,11 +54,11 @@ invariant_of-self-2 c =
       turn_places = c.self.invariant.turn_places;
       held_places = c.self.invariant.held_places;
       calm_places = c.stir.ensures.long ∙ c.self.invariant.calm_places;
-      rises = subst (λ (l : List (ℕ × ℕ)). IsRising (λ (p : ℕ × ℕ). turn_at c.self.inside.turn_of.items p.0 p.1) l) (sym c.in_ok-reserve.ensures.pairs) c.self.invariant.rises;
-      holds = subst (λ (l : List (ℕ × ℕ)). HoldsLine w.cluster (set w.cells j.number xs) l c.self.inside.turn_of.items c.admit.new.self) (sym c.in_ok-reserve.ensures.pairs)
+      rises = subst (λ (l : List Pair). IsRising (λ (p : Pair). turn_at c.self.inside.turn_of.items p.0 p.1) l) (sym c.in_ok-reserve.ensures.pairs) c.self.invariant.rises;
+      holds = subst (λ (l : List Pair). HoldsLine w.cluster (set w.cells j.number xs) l c.self.inside.turn_of.items c.admit.new.self) (sym c.in_ok-reserve.ensures.pairs)
           (subst (λ (t : TreeRecord). HoldsLine w.cluster (set w.cells j.number xs) c.self.inside.line.pairs c.self.inside.turn_of.items t) (sym c.in_ok-admit.ensures.ok)
           (holds_admitted w.cluster w.cells xs c.self.inside.line.pairs c.self.inside.turn_of.items c.self.inside.tree j c.self.invariant.holds small places (units_few j c.units.ensures.valid) long empty
-          (λ a u has. let place = place_of (a, u) c.self.inside.line.pairs has in all_at (λ (p : ℕ × ℕ). p.1 < length (get_or w.cells p.0 [])) c.self.inside.line.pairs place.place (a, u) c.self.invariant.admitted place.at)));
+          (λ a u has. let place = place_of (a, u) c.self.inside.line.pairs has in all_at (λ (p : Pair). p.1 < length (get_or w.cells p.0 [])) c.self.inside.line.pairs place.place (a, u) c.self.invariant.admitted place.at)));
     })
 
 pub stir-requires : goal.stir-requires
@@ -122,23 +123,23 @@ returns-clause-level c t l =
           (level_admitted w.cluster (job_at w.cells) (job_at (set w.cells j.number xs)) t j old.level (job_admitted w.cells j (length w.cluster.machines) lt (units_some j c.units.ensures.valid)) found);
       idle = λ e. subst (λ (x : WishesRecord). IsIdle x.cells x.opened (record t { jobs = with_admitted j t.jobs })) (sym c.add_job.ensures)
           (idle_admitted j w.cells (set w.cells j.number xs) w.opened t empty (asks_admitted w.cells j.number j.group (length w.cluster.machines) j.units lt empty) apart found (old.idle e));
-      kept = subst (λ (l : List (ℕ × ℕ)). IsKept c.add_job.new.self.cells c.add_job.new.self.opened l c.self.inside.turns kept (record t { jobs = with_admitted j t.jobs })) (sym c.in_ok-reserve.ensures.pairs)
+      kept = subst (λ (l : List Pair). IsKept c.add_job.new.self.cells c.add_job.new.self.opened l c.self.inside.turns kept (record t { jobs = with_admitted j t.jobs })) (sym c.in_ok-reserve.ensures.pairs)
           (subst (λ (x : WishesRecord). IsKept x.cells x.opened c.self.inside.line.pairs c.self.inside.turns kept (record t { jobs = with_admitted j t.jobs })) (sym c.add_job.ensures)
           (kept_admitted j w.cells (set w.cells j.number xs) w.opened t empty (asks_admitted w.cells j.number j.group (length w.cluster.machines) j.units lt empty) apart found c.self.inside.line.pairs c.self.inside.turns kept c.self.invariant.admitted old.kept));
-      clear = λ e f. subst (λ (l : List (ℕ × ℕ)). IsClear c.add_job.new.self.opened l kept.marks (record t { jobs = with_admitted j t.jobs })) (sym c.in_ok-reserve.ensures.pairs)
+      clear = λ e f. subst (λ (l : List Pair). IsClear c.add_job.new.self.opened l kept.marks (record t { jobs = with_admitted j t.jobs })) (sym c.in_ok-reserve.ensures.pairs)
           (subst (λ (x : WishesRecord). IsClear x.opened c.self.inside.line.pairs kept.marks (record t { jobs = with_admitted j t.jobs })) (sym c.add_job.ensures)
           (clear_admitted j w.cells (set w.cells j.number xs) w.opened t empty (asks_admitted w.cells j.number j.group (length w.cluster.machines) j.units lt empty) apart found c.self.inside.line.pairs kept.marks c.self.invariant.admitted (old.clear e f)));
-      quiet = λ e. subst (λ (l : List (ℕ × ℕ)). IsQuiet c.add_job.new.self.cells c.add_job.new.self.opened l c.self.inside.turns kept.marks (record t { jobs = with_admitted j t.jobs })) (sym c.in_ok-reserve.ensures.pairs)
+      quiet = λ e. subst (λ (l : List Pair). IsQuiet c.add_job.new.self.cells c.add_job.new.self.opened l c.self.inside.turns kept.marks (record t { jobs = with_admitted j t.jobs })) (sym c.in_ok-reserve.ensures.pairs)
           (subst (λ (x : WishesRecord). IsQuiet x.cells x.opened c.self.inside.line.pairs c.self.inside.turns kept.marks (record t { jobs = with_admitted j t.jobs })) (sym c.add_job.ensures)
           (quiet_admitted j w.cells (set w.cells j.number xs) w.opened t empty (asks_admitted w.cells j.number j.group (length w.cluster.machines) j.units lt empty) apart found c.self.inside.line.pairs c.self.inside.turns kept.marks (old.quiet e)));
-      still = subst (λ (l : List (ℕ × ℕ)). IsStill c.add_job.new.self.cells l c.stir.new.calm.items (record t { jobs = with_admitted j t.jobs })) (sym c.in_ok-reserve.ensures.pairs)
+      still = subst (λ (l : List Pair). IsStill c.add_job.new.self.cells l c.stir.new.calm.items (record t { jobs = with_admitted j t.jobs })) (sym c.in_ok-reserve.ensures.pairs)
           (subst (λ (x : WishesRecord). IsStill x.cells c.self.inside.line.pairs c.stir.new.calm.items (record t { jobs = with_admitted j t.jobs })) (sym c.add_job.ensures)
           (still_admitted j w.cells (set w.cells j.number xs) w.opened t empty (asks_admitted w.cells j.number j.group (length w.cluster.machines) j.units lt empty) apart found c.self.inside.calm.items c.stir.new.calm.items
           (λ b. c.stir.ensures.stirred b ∙ ap (λ n. not (nat_eq n b) && get_or c.self.inside.calm.items b false) c.app.ensures.number) c.self.inside.line.pairs old.still));
-      stands = subst (λ (l : List (ℕ × ℕ)). AllStand c.add_job.new.self.cluster c.add_job.new.self.cells t.entries l c.admit.new.self) (sym c.in_ok-reserve.ensures.pairs)
+      stands = subst (λ (l : List Pair). AllStand c.add_job.new.self.cluster c.add_job.new.self.cells t.entries l c.admit.new.self) (sym c.in_ok-reserve.ensures.pairs)
           (subst (λ (x : WishesRecord). AllStand x.cluster x.cells t.entries c.self.inside.line.pairs c.admit.new.self) (sym c.add_job.ensures)
           (subst (λ (y : TreeRecord). AllStand w.cluster (set w.cells j.number xs) t.entries c.self.inside.line.pairs y) (sym c.in_ok-admit.ensures.ok)
           (stands_admitted w.cluster w.cells xs c.self.inside.line.pairs c.self.inside.turn_of.items c.self.inside.tree j c.self.invariant.holds small places (units_few j c.units.ensures.valid) (length-map j.units (fresh_cell j.group (length w.cluster.machines))) empty
-          (λ a u has. let place = place_of (a, u) c.self.inside.line.pairs has in all_at (λ (p : ℕ × ℕ). p.1 < length (get_or w.cells p.0 [])) c.self.inside.line.pairs place.place (a, u) c.self.invariant.admitted place.at)
+          (λ a u has. let place = place_of (a, u) c.self.inside.line.pairs has in all_at (λ (p : Pair). p.1 < length (get_or w.cells p.0 [])) c.self.inside.line.pairs place.place (a, u) c.self.invariant.admitted place.at)
           t.entries (asks_admitted w.cells j.number j.group (length w.cluster.machines) j.units lt empty) old.stands)));
     }

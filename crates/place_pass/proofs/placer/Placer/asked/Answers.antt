@@ -15,6 +15,7 @@ use Rattle.grant_table.specs.GrantTables.{as_known}
 use Rattle.written_roles.specs.Placing.{has_pair}
 use Rattle.place_pass.proofs.CellsMatchTable.{count_is}
 use Rattle.place_pass.proofs.AskedLemmas.{asked_long, asked_priority, asked_others}
+use Rattle.place_pass.proofs.AskedTheSame.{cell_alike, stands_alike}
 use Rattle.place_pass.proofs.StandsAfterChange.{holds_cells, stands_asked}
 use Rattle.place_pass.proofs.StillLemmas.{still_asked}
 use Rattle.place_pass.specs.Sights.{IsAsked}
@@ -168,7 +169,10 @@ returns-clause-level c l =
       stands = c.tell_asked.ensures.stands
           (subst (λ (x : WishesRecord). length (get_or x.cells a []) ≡ unit_count (as_known t.jobs) a) (sym c.asked-more.ensures.cells) (asked_long w.cluster es w.cells a (slot_within w.cells a 0 here) a ∙ count_is w.cluster w.cells t old.level a))
           (λ b v has d. subst (λ (x : WishesRecord). StandsAs x.cluster x.cells t.entries b v c.self.inside.tree) (sym c.asked-more.ensures.cells)
-          (stands_asked w.cluster w.cells (set w.cells a (taken_all w.cluster es 0 (get_or w.cells a []))) t.entries b v c.self.inside.tree (λ k. asked_others w.cluster es w.cells a (slot_within w.cells a 0 here) b k d) (old.stands b v has)));
+          (stands_asked w.cluster w.cells (set w.cells a (taken_all w.cluster es 0 (get_or w.cells a []))) t.entries b v c.self.inside.tree (λ k. asked_others w.cluster es w.cells a (slot_within w.cells a 0 here) b k d) (old.stands b v has)))
+          (λ v has f. subst (λ (x : WishesRecord). StandsAs x.cluster x.cells t.entries a v c.self.inside.tree) (sym c.asked-more.ensures.cells)
+          (stands_alike w.cluster w.cells (set w.cells a (taken_all w.cluster es 0 (get_or w.cells a []))) t.entries a v c.self.inside.tree
+          (cell_alike w.cluster es w.cells c.self.inside.line.pairs a v (slot_within w.cells a 0 here) c.self.invariant.admitted has (λ lt. c.differing-differing.ensures v lt f)) (old.stands a v has)));
     }
 
 pub returns-clause-idle : goal.returns-clause-idle

@@ -1,6 +1,7 @@
 use Rattle.std.proofs.Common.{◌≡◌, ℕ, ◌+◌, ◌*◌, ◌<◌, List, [], cond, nat_lt, length, set, get_or, sym, ◌∙◌, ap, subst, arith}
 use Rattle.std.proofs.lemmas.List.{get_or_default, length-set}
 use Rattle.fuxi_terms.specs.Tables.{spot, held}
+use Rattle.fuxi_terms.specs.Keys.{Pair}
 use Rattle.written_roles.specs.Masters.{out_of}
 use Rattle.written_roles.specs.Placing.{has_pair}
 use Rattle.place_pass.specs.Best.{AreAdmitted}
@@ -45,9 +46,9 @@ invariant_of-self c =
       turn_places = c.self.invariant.turn_places;
       held_places = length-set c.self.inside.held.items c.slot-place.result c.held.result ∙ c.self.invariant.held_places;
       calm_places = c.stir.ensures.long ∙ c.self.invariant.calm_places;
-      rises = subst (λ (l : List (ℕ × ℕ)). IsRising (λ (p : ℕ × ℕ). turn_at turns p.0 p.1) l) (sym is)
-          (rising (λ (p : ℕ × ℕ). turn_at turns p.0 p.1) _ (told_rises line out c.args.app.0 c.args.unit.0 (λ (p : ℕ × ℕ). turn_at turns p.0 p.1) (rising_all (λ (p : ℕ × ℕ). turn_at turns p.0 p.1) line c.self.invariant.rises)));
-      holds = subst (λ (l : List (ℕ × ℕ)). HoldsLine w.cluster w.cells l turns c.tell_spot.new.tree) (sym is) c.tell_spot.ensures.holds;
+      rises = subst (λ (l : List Pair). IsRising (λ (p : Pair). turn_at turns p.0 p.1) l) (sym is)
+          (rising (λ (p : Pair). turn_at turns p.0 p.1) _ (told_rises line out c.args.app.0 c.args.unit.0 (λ (p : Pair). turn_at turns p.0 p.1) (rising_all (λ (p : Pair). turn_at turns p.0 p.1) line c.self.invariant.rises)));
+      holds = subst (λ (l : List Pair). HoldsLine w.cluster w.cells l turns c.tell_spot.new.tree) (sym is) c.tell_spot.ensures.holds;
     }
 
 -- a mark changes as after a taking, or not at all
@@ -85,11 +86,11 @@ returns-clause-level c before l is =
       quiet = λ e. cc;
       clear = λ e f. cc;
       still = still_told c.self.inside.calm.items c.stir.new.calm.items c.args.app.0 c.stir.ensures.stirred w.cells line c.leave_served.new.line.pairs before t c.args.unit.0 c.args.machine.0 is (λ b v f. ap (has_pair (b, v)) line_is ∙ told_others line out c.args.app.0 c.args.unit.0 b v f) old.still;
-      stands = subst (λ (l : List (ℕ × ℕ)). AllStand w.cluster w.cells t.entries l c.tell_spot.new.tree) (sym line_is) (c.tell_spot.ensures.stands before is old.stands);
+      stands = subst (λ (l : List Pair). AllStand w.cluster w.cells t.entries l c.tell_spot.new.tree) (sym line_is) (c.tell_spot.ensures.stands before is old.stands);
       kept = subst (λ (hs : List ℕ). IsKept w.cells w.opened c.leave_served.new.line.pairs c.self.inside.turns (record { marks = c.tell.new.marks; turn_of = c.self.inside.turn_of.items; held = hs }) t) (λ i. set c.self.inside.held.items (sym c.slot-place.ensures i) (sym c.held.ensures i))
           (kept_told w.cells w.opened line c.leave_served.new.line.pairs c.self.inside.turns (length w.cluster.machines) (record { marks = c.self.inside.marks; turn_of = c.self.inside.turn_of.items; held = c.self.inside.held.items }) c.tell.new.marks
           (λ p has. told_was line out c.args.app.0 c.args.unit.0 p (ap (has_pair p) (sym line_is) ∙ has))
-          (subst (Rises (λ (p : ℕ × ℕ). turn_at c.self.inside.turn_of.items p.0 p.1)) (sym line_is) (told_rises line out c.args.app.0 c.args.unit.0 (λ (p : ℕ × ℕ). turn_at c.self.inside.turn_of.items p.0 p.1) (rising_all (λ (p : ℕ × ℕ). turn_at c.self.inside.turn_of.items p.0 p.1) line old.kept.rises)))
+          (subst (Rises (λ (p : Pair). turn_at c.self.inside.turn_of.items p.0 p.1)) (sym line_is) (told_rises line out c.args.app.0 c.args.unit.0 (λ (p : Pair). turn_at c.self.inside.turn_of.items p.0 p.1) (rising_all (λ (p : Pair). turn_at c.self.inside.turn_of.items p.0 p.1) line old.kept.rises)))
           (open_there w.opened (length w.cluster.machines) c.cluster-wishes.ensures.sound.opened) before t c.args.app.0 c.args.unit.0 c.args.machine.0 is
           sa su long (λ j lt. c.tell.ensures.marks j (omega (arith, lt, marked))
           ∙ (λ i. cond (nat_lt (held t.entries c.args.app.0 c.args.unit.0) (was i)) (after_taking t.cluster (group i) c.args.machine.0 (is_nearer_in (board_over w.cells w.opened t) t.entries (spot c.args.app.0 c.args.unit.0 c.args.machine.0)) j (mark_at c.self.inside.marks j)) (mark_at c.self.inside.marks j))) old.kept);

@@ -10,6 +10,7 @@ use Rattle.place_pass.proofs.SightsLemmas.{place_of}
 use Rattle.place_pass.proofs.NumberedLemmas.{filter_whole, none_joined, unit_small}
 use Rattle.fuxi_terms.specs.Cluster.{JobRecord}
 use Rattle.fuxi_terms.specs.Jobs.{unit_count, job_numbers}
+use Rattle.fuxi_terms.specs.Keys.{Pair}
 use Rattle.written_roles.specs.Masters.{out_of}
 use Rattle.written_roles.specs.Placing.{has_pair, lined, waiting_in}
 use Rattle.grant_table.specs.GrantTables.{as_known}
@@ -40,7 +41,7 @@ join-requires-clause-still c =
     let w = c.self.inside.wishes in
     let t = c.args.table.now in
     let old = subst (λ (p : PlacerRecord). IsLevelWith p t) (sym c.self.view_is) c.requires.level in
-    subst (λ (l : List (ℕ × ℕ)). IsStill w.cells l c.self.inside.calm.items t) (sym c.leave.ensures.pairs) (still_left w.cells c.self.inside.line.pairs c.self.inside.calm.items t old.still)
+    subst (λ (l : List Pair). IsStill w.cells l c.self.inside.calm.items t) (sym c.leave.ensures.pairs) (still_left w.cells c.self.inside.line.pairs c.self.inside.calm.items t old.still)
 
 pub enter_line-requires-clause-level : goal.enter_line-requires-clause-level
 unfolding IsLevelWith
@@ -112,7 +113,7 @@ line_is c =
     let w = c.self.inside.wishes in
     let t = c.args.table.now in
     let line = c.self.inside.line.pairs in
-    let r : ℕ × ℕ → Bool = λ p. not (has_pair p line) in
+    let r : Pair → Bool = λ p. not (has_pair p line) in
     let l = (subst (λ (p : PlacerRecord). IsLevelWith p t) (sym c.self.view_is) c.requires.level).level in
     let is = c.admitted_jobs.ensures.numbers t.jobs c.cluster-cluster.ensures.sound.in_order in
     let kept = c.leave.ensures.pairs ∙ kept_is w.cluster w.cells t l (job_numbers (as_known t.jobs)) is line c.self.invariant.admitted in
@@ -124,7 +125,7 @@ returns-clause-seen c =
     let w = c.self.inside.wishes in
     let t = c.args.table.now in
     let line = c.self.inside.line.pairs in
-    let r : ℕ × ℕ → Bool = λ p. not (has_pair p line) in
+    let r : Pair → Bool = λ p. not (has_pair p line) in
     let is = c.admitted_jobs.ensures.numbers t.jobs c.cluster-cluster.ensures.sound.in_order in
     let all = waiting_in (map (λ (j : JobRecord). j.number) t.jobs) (unit_count (as_known t.jobs)) (asks_in w.cells) t.entries in
     let long = ap length (lined_is (lined_then c)) ∙ length-append c.leave.new.line.pairs (filter r all) in
@@ -160,8 +161,8 @@ returns-clause-level c =
     let w = c.self.inside.wishes in
     let t = c.args.table.now in
     let line = c.self.inside.line.pairs in
-    let r : ℕ × ℕ → Bool = λ p. not (has_pair p line) in
-    let waits : ℕ × ℕ → Bool = λ p. nat_lt 0 (out_of (asks_in w.cells) t.entries p.0 p.1) in
+    let r : Pair → Bool = λ p. not (has_pair p line) in
+    let waits : Pair → Bool = λ p. nat_lt 0 (out_of (asks_in w.cells) t.entries p.0 p.1) in
     let all = waiting_in (map (λ (j : JobRecord). j.number) t.jobs) (unit_count (as_known t.jobs)) (asks_in w.cells) t.entries in
     let joined = filter r all in
     let front = c.leave.new.line.pairs in

@@ -6,6 +6,7 @@ use Rattle.place_pass.proofs.CellsMatchTable.{few_machines}
 use Rattle.place_pass.proofs.Places.{zeros}
 use Rattle.std.specs.Prelude.{replicate}
 use Rattle.std.proofs.lemmas.List.{length-replicate}
+use Rattle.fuxi_terms.specs.Keys.{Pair}
 use Rattle.place_pass.specs.Best.{AreAdmitted}
 use Rattle.place_pass.specs.WaitingLines.{units_in_all}
 use Rattle.place_pass.proofs.PlacersLemmas.{no_units}
@@ -46,12 +47,12 @@ returns-clause-level c =
       quiet = λ e. cc;
       clear = λ e f. cc;
       still = record { still = λ a u e. let f : true ≡ false = sym e ∙ none_calm c.in_ok-calm.calm.items 256 (c.in_ok-calm.ensures.items_if_clones_equal (λ y e. search rules)) a in cc };
-      stands = λ a u has. let f : false ≡ true = sym (ap (λ (ps : List (ℕ × ℕ)). has_pair (a, u) ps) c.in_ok-line.ensures) ∙ has in cc;
+      stands = λ a u has. let f : false ≡ true = sym (ap (λ (ps : List Pair). has_pair (a, u) ps) c.in_ok-line.ensures) ∙ has in cc;
       kept = record {
-        bounds = λ m a u opened has lt. let f : false ≡ true = sym (ap (λ (ps : List (ℕ × ℕ)). has_pair (a, u) ps) c.in_ok-line.ensures) ∙ has in cc;
+        bounds = λ m a u opened has lt. let f : false ≡ true = sym (ap (λ (ps : List Pair). has_pair (a, u) ps) c.in_ok-line.ensures) ∙ has in cc;
         until = λ m opened. let f : true ≡ false = sym opened ∙ ap (λ (w : WishesRecord). get_or w.opened m false) c.in_ok-wishes.ensures ∙ none_open (length c.args.cluster.now.machines) m in cc;
-        rises = rising (λ (p : ℕ × ℕ). turn_at c.in_ok-turn_of.turn_of.items p.0 p.1) c.in_ok-line.line.pairs (subst (Rises (λ (p : ℕ × ℕ). turn_at c.in_ok-turn_of.turn_of.items p.0 p.1)) (sym c.in_ok-line.ensures) tt);
-        below = λ a u has. let f : false ≡ true = sym (ap (λ (ps : List (ℕ × ℕ)). has_pair (a, u) ps) c.in_ok-line.ensures) ∙ has in cc;
+        rises = rising (λ (p : Pair). turn_at c.in_ok-turn_of.turn_of.items p.0 p.1) c.in_ok-line.line.pairs (subst (Rises (λ (p : Pair). turn_at c.in_ok-turn_of.turn_of.items p.0 p.1)) (sym c.in_ok-line.ensures) tt);
+        below = λ a u has. let f : false ≡ true = sym (ap (λ (ps : List Pair). has_pair (a, u) ps) c.in_ok-line.ensures) ∙ has in cc;
         held = λ a u la lu. zero_at c.in_ok-held.held.items 2048 (c.in_ok-held.ensures.items_if_clones_equal (λ y e. search rules)) (a * 8 + u);
       };
     }
@@ -68,10 +69,10 @@ invariant_of-result c =
       marked = ap length c.in_ok-marks.ensures ∙ length-replicate {A = MarkRecord} c.machines.result (reset_mark 0) ∙ c.machines.ensures.number ∙ ap (λ (w : WishesRecord). length w.cluster.machines) (sym c.in_ok-wishes.ensures);
       turn_places = ap length (c.in_ok-turn_of.ensures.items_if_clones_equal (λ y e. search rules)) ∙ length-replicate {A = ℕ} 2048 0;
       held_places = ap length (c.in_ok-held.ensures.items_if_clones_equal (λ y e. search rules)) ∙ length-replicate {A = ℕ} 2048 0;
-      rises = rising (λ (p : ℕ × ℕ). turn_at c.in_ok-turn_of.turn_of.items p.0 p.1) c.in_ok-line.line.pairs (subst (Rises (λ (p : ℕ × ℕ). turn_at c.in_ok-turn_of.turn_of.items p.0 p.1)) (sym c.in_ok-line.ensures) tt);
+      rises = rising (λ (p : Pair). turn_at c.in_ok-turn_of.turn_of.items p.0 p.1) c.in_ok-line.line.pairs (subst (Rises (λ (p : Pair). turn_at c.in_ok-turn_of.turn_of.items p.0 p.1)) (sym c.in_ok-line.ensures) tt);
       calm_places = ap length (c.in_ok-calm.ensures.items_if_clones_equal (λ y e. search rules)) ∙ length-replicate {A = Bool} 256 false;
       holds = subst (λ (w : WishesRecord). HoldsLine w.cluster w.cells c.in_ok-line.line.pairs c.in_ok-turn_of.turn_of.items c.in_ok-tree.tree) (sym c.in_ok-wishes.ensures)
-          (subst (λ (l : List (ℕ × ℕ)). HoldsLine c.args.cluster.now (replicate 256 []) l c.in_ok-turn_of.turn_of.items c.in_ok-tree.tree) (sym c.in_ok-line.ensures)
+          (subst (λ (l : List Pair). HoldsLine c.args.cluster.now (replicate 256 []) l c.in_ok-turn_of.turn_of.items c.in_ok-tree.tree) (sym c.in_ok-line.ensures)
           (subst (λ (t : TreeRecord). HoldsLine c.args.cluster.now (replicate 256 []) [] c.in_ok-turn_of.turn_of.items t) (sym c.in_ok-tree.ensures) (holds_started c.args.cluster.now (replicate 256 []) c.in_ok-turn_of.turn_of.items (λ a. ap length (none_in 256 a)))));
     }
 

@@ -1,5 +1,0 @@
-use Rattle.epoch_lease.proofs.FilesLemmas.{rest_endures}
-use Rattle.epoch_lease.proofs.laws.leases_at_rest_endure.Goals as goal
-
-pub returns : goal.returns
-returns c = rest_endures

@@ -1,5 +1,0 @@
-use Rattle.schedule_replay.proofs.HeldOnce.{held_is}
-use Rattle.schedule_replay.proofs.promises.held_is_answered.Goals as goal
-
-pub returns : goal.returns
-returns c = held_is

@@ -1,0 +1,35 @@
+use Rattle.std.proofs.Common.{◌≡◌, ℕ, Bool, true, false, [], nat_eq, nat_lt, length, sym, refl, ◌∙◌, ap}
+use Rattle.fuxi_terms.specs.Tallies.{TallyRecord, empty_tally}
+use Rattle.written_net.specs.Net.{Link, at_index}
+use Rattle.work_plan.specs.Crews.{Distinct}
+use Rattle.work_plan.specs.PlanKeys.{named}
+use Rattle.work_plan.specs.RunAfter.{run_after}
+use Rattle.written_work.specs.AgentWithApps.{World, agent_id, app_id, agent_party, present}
+use Rattle.written_work.specs.WorkEvents.{Step, done, refused, app_starts, counted}
+use Rattle.written_work.specs.WorkLines.{NotRising}
+use Rattle.written_work.specs.WorkSettling.{settled_all, in_force}
+use Rattle.written_work.proofs.WorkStatesLemmas.{IsNames, IsState, reached_state}
+use Rattle.written_work.proofs.RunAfterLemmas.{runs_on}
+use Rattle.written_work.proofs.law.every_world_runs_as_planned.Goals as goal
+
+pub returns-clause-run : goal.returns-clause-run
+returns-clause-run c w r t =
+    let once : (t : TallyRecord) (u : ℕ) → IsNames t → Distinct (named u t.entries) = λ t u h. (c.plans_name_once.ensures t.entries u h.counts).distinct in
+    let s = (reached_state once w r).running t in
+    record {
+      runs = s.runs;
+      told = λ a caught.
+          let history = ap (λ k. w.net.histories (record { id = agent_id; inc = k }) (app_id a)) caught.0 in
+          (λ i. (at_index empty_tally (history i) (caught.1 i)).entries) ∙ s.told a;
+    }
+
+pub returns-clause-outlive : goal.returns-clause-outlive
+returns-clause-outlive c w r t a b d u =
+    let once : (t : TallyRecord) (u : ℕ) → IsNames t → Distinct (named u t.entries) = λ t u h. (c.plans_name_once.ensures t.entries u h.counts).distinct in
+    let s = (reached_state once w r).running t in
+    let k = s.runs d u in
+    let on = runs_on (w.work d u) (named u (w.plans d).entries) (w.counts d u) k.distinct (once (w.plans d) u (s.plans d)) k.wanted k.many in
+    elim (nat_lt (w.apps a.0) b) as (λ x. (elim x as (λ _. Step) [ true ↦ done (app_starts a.0 b (counted w)) [] | false ↦ refused (counted w) (NotRising (w.apps a.0)) ]).world.work d u ≡ w.work d u) [
+      | true ↦ ap (λ x. (elim x as (λ _. World) [ true ↦ app_starts a.0 b (counted w) | false ↦ settled_all (app_starts a.0 b (counted w)) ]).work d u) t ∙ ap (λ (plan : TallyRecord). run_after (w.work d u) (named u plan.entries) (w.counts d u)) (s.force d) ∙ on
+      | false ↦ refl
+    ]
