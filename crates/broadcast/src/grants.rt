@@ -75,27 +75,27 @@ pub fn show_all_grants(
     let _cluster = table.cluster();
     let counts = by_job(alloc, table, spots, apps.len())?;
     for app in 0..apps.len() {
-        show_slot(&mut apps[app], alloc, app, counts_of(&counts, app), news)?;
+        show_slot(&mut apps[app], alloc, app, &counts, news)?;
     }
     Ok(())
 }
 
-// Shows the application of a slot its grants, where there is one.
+// Shows the application of a slot its grants, where there is one. Most slots are empty, and of those no list is asked.
 fn show_slot(
     slot: &mut Option<Side<Grants, Demand>>,
     alloc: Global,
     app: usize,
-    counts: &[(Key, u64)],
+    lists: &[Vec<(Key, u64)>],
     news: &News,
 ) -> Result<(), OutOfMemory>
     requires last { (d : App) → slot.old ≡ Some d → d.outgoing.last < 2 ^ 62 }
-    requires counts { AreNumbersOf 2 counts.now }
+    requires counts { AreNumbersOf 2 (get_or (lists_of lists.now) app []) }
     requires news { IsNews news.now }
     ensures none { slot.old ≡ None → slot.new ≡ None }
-    ensures some { OnOk result ((d : App) → slot.old ≡ Some d → SlotIsShown news.now app counts.now d slot.new) }
+    ensures some { OnOk result ((d : App) → slot.old ≡ Some d → SlotIsShown news.now app (get_or (lists_of lists.now) app []) d slot.new) }
 {
     match slot {
-        Some(side) => show_one(side, alloc, app, counts, news),
+        Some(side) => show_one(side, alloc, app, counts_of(lists, app), news),
         None => Ok(()),
     }
 }

@@ -7,7 +7,7 @@ use Rattle.fuxi_terms.specs.Cluster.{ClusterRecord}
 use Rattle.fuxi_terms.specs.declared.Key.{Key}
 use Rattle.fuxi_terms.specs.Keys.{key_cmp}
 use Rattle.fuxi_terms.specs.Counts.{count}
-use Rattle.fuxi_terms.specs.TallyKeys.{key, want_key}
+use Rattle.fuxi_terms.specs.TallyKeys.{key, avoid_key, want_key}
 use Rattle.fuxi_terms.specs.Keys.{Pair}
 use Rattle.fuxi_terms.specs.TallyKeys.{near_key, rack_key}
 use Rattle.fuxi_terms.specs.Tables.{Table, held_on, held_in}
@@ -33,6 +33,12 @@ same_no_more c es u x same =
     let at : get_or x.avoided m 0 ≡ count key_cmp es (key 4 u m) = ap (λ (y : Cell). get_or y.avoided m 0) (sym same) ∙ counted_at (λ n. count key_cmp es (key 4 u n)) (length c.machines) m lt in
     ap (λ n. is_gone n (count key_cmp es (key 4 u m))) at ∙ stays (count key_cmp es (key 4 u m)) in
     ap (λ b. b || any_gone es 4 u x.avoided (length c.machines)) rises ∙ any_none (λ m. is_gone (get_or x.avoided m 0) (count key_cmp es (key 4 u m))) (length c.machines) each
+
+-- a machine that it avoids is avoided still
+pub still_same : (c : ClusterRecord) (es : List (Key × ℕ)) (u m : ℕ) (x : Cell) → m < length c.machines → taken c es u x ≡ x → 0 < get_or x.avoided m 0 → 0 < count key_cmp es (avoid_key u m)
+still_same c es u m x lt same was =
+    let at : get_or x.avoided m 0 ≡ count key_cmp es (avoid_key u m) = ap (λ (y : Cell). get_or y.avoided m 0) (sym same) ∙ counted_at (λ n. count key_cmp es (avoid_key u n)) (length c.machines) m lt in
+    omega (arith, at, was)
 
 pub stands_alike : (c : ClusterRecord) (cells cells' : List (List Cell)) (es : Table) (a u : ℕ) (t : TreeRecord) → cell_at cells' a u ≡ cell_at cells a u → StandsAs c cells es a u t → StandsAs c cells' es a u t
 stands_alike c cells cells' es a u t e h = record {

@@ -1,5 +1,5 @@
 -- A walk along entries in order finds at each key what stands there.
-use Rattle.std.proofs.Common.{◌≡◌, ℕ, zero, suc, ◌+◌, ◌<◌, Bool, true, false, cond, List, [], ◌∷◌, length, drop, get_or, Some, refl, sym, ◌∙◌, ap, subst, add-one, true≢false}
+use Rattle.std.proofs.Common.{◌≡◌, ℕ, zero, suc, ◌+◌, ◌<◌, Bool, true, false, cond, List, [], ◌∷◌, length, drop, get_or, Some, refl, sym, ◌∙◌, ap, subst, arith, add-one, true≢false}
 use Rattle.std.specs.Prelude.{T, ◌||◌}
 use Rattle.std.specs.List.{list_any}
 use Rattle.std.specs.Option.{unwrap_or}
@@ -54,6 +54,30 @@ not_tied q k e less h = by (key_cmp q e) refl
 pub passes : (es : List (Key × ℕ)) (at : ℕ) (k : Key) (e : Key × ℕ) (rest : List (Key × ℕ)) → drop at es ≡ e ∷ rest → drop (at + 1) es ≡ rest → key_cmp e.0 k ≡ Less → IsPast es at k → IsPast es (at + 1) k
 passes es at k e rest is next less past = λ q h.
     past q h ∙ ap (λ l. count key_cmp l q) is ∙ ap (λ b. unwrap_or (cond b (Some e.1) (find key_cmp q rest)) 0) (not_tied q k e.0 less h) ∙ sym (ap (λ l. count key_cmp l q) next)
+
+lesser : (o : Ordering) → T (is_lt o) → o ≡ Less
+lesser Less t = refl
+lesser Equal t = absurd t
+lesser Greater t = absurd t
+
+-- a key that is below all entries is below each
+below_each : (k : Key) (n : ℕ) (es : List (Key × ℕ)) (d : Key × ℕ) → T (below_all key_cmp k es) → n < length es → key_cmp k (get_or es n d).0 ≡ Less
+below_each k n [] d h lt = absurd (omega (arith, lt))
+below_each k zero (e ∷ es) d h lt = lesser (key_cmp k e.0) (both_true (is_lt (key_cmp k e.0)) _ h).0
+below_each k (suc n) (e ∷ es) d h lt = below_each k n es d (both_true (is_lt (key_cmp k e.0)) _ h).1 (omega (arith, lt))
+
+-- where an entry stands below the key, so do those before it
+passes_to : (n : ℕ) (es : List (Key × ℕ)) (k : Key) (d : Key × ℕ) → T (is_sorted key_cmp es) → n < length es → key_cmp (get_or es n d).0 k ≡ Less → IsPast es (suc n) k
+passes_to n [] k d sorted lt less = absurd (omega (arith, lt))
+passes_to zero (e ∷ es) k d sorted lt less = passes (e ∷ es) 0 k e es refl refl less (starts_past (e ∷ es) k)
+passes_to (suc n) (e ∷ es) k d sorted lt less =
+    let b = both_true (below_all key_cmp e.0 es) _ sorted in
+    let l : n < length es = omega (arith, lt) in
+    let first = key_total.trans e.0 (get_or es n d).0 k (below_each e.0 n es d b.0 l) less in
+    λ q h. passes (e ∷ es) 0 k e es refl refl first (starts_past (e ∷ es) k) q h ∙ passes_to n es k d b.1 l less q h
+
+pub passes_all : (n : ℕ) (es : List (Key × ℕ)) (k : Key) (d : Key × ℕ) → T (is_sorted key_cmp es) → n < length es → key_cmp (get_or es n d).0 k ≡ Less → IsPast es (n + 1) k
+passes_all n es k d sorted lt less = subst (λ at. IsPast es at k) (sym (add-one n)) (passes_to n es k d sorted lt less)
 
 -- a key of a greater number comes later
 less_key : (what unit n m : ℕ) → n < m → key_cmp (key what unit n) (key what unit m) ≡ Less

@@ -6,13 +6,16 @@ use Rattle.fuxi_terms.specs.Keys.{Pair}
 use Rattle.fuxi_terms.specs.Tables.{total_at, Table}
 use Rattle.fuxi_terms.specs.Vectors.{at_place}
 use Rattle.written_roles.specs.Placing.{Board, has_pair, placeable_in}
+use Rattle.place_pass.specs.declared.marks.Rank.{Rank}
 use Rattle.place_pass.specs.declared.search.Found.{Found}
+use Rattle.place_pass.specs.declared.search.Least.{Least}
 use Rattle.place_pass.specs.declared.search.Sight.{Sight}
 use Rattle.fuxi_terms.specs.declared.Key.{Key}
 use Rattle.grant_table.specs.GrantTables.{TableRecord, as_known}
 use Rattle.place_pass.specs.Cells.{Cell, Lifts, AvoidsStill}
 use Rattle.place_pass.specs.Placers.{AreAllowed}
-use Rattle.place_pass.specs.Bounds.{MarkRecord, reset_mark, lowered_mark, cleared_mark, rank_of, comes_before, IsBounded, is_bound, rank_at, rank_on, turn_at}
+use Rattle.place_pass.specs.SearchCounts.{is_unsettled_by}
+use Rattle.place_pass.specs.Bounds.{MarkRecord, mark_at, key_of, reset_mark, lowered_mark, cleared_mark, rank_of, comes_before, IsBounded, is_bound, rank_at, rank_on, turn_at}
 
 abbrev pub sight_rank : Option Sight → Option (List ℕ)
 sight_rank s = option_map (λ (x : Sight). rank_of x.rank) s
@@ -71,3 +74,15 @@ pub record IsForgotten (t : TableRecord) (line : List Pair) (before after : Mark
 abbrev pub is_first : Option Found → List ℕ → ℕ → Bool
 is_first None key m = true
 is_first (Some f) key m = comes_before (key ++ m ∷ []) (rank_with f)
+
+-- a machine whose bound does not come before the least one, which there is
+pub record IsBehind (k : MarkRecord) (turns m : ℕ) (least : Option Least) : Type 0 where
+  pub key : Rank
+  pub is : key_of k turns ≡ Some (rank_of key)
+  pub one : Least
+  pub some : least ≡ Some one
+  pub behind : comes_before (rank_of key ++ m ∷ []) (rank_of one.rank ++ one.machine.0 ∷ []) ≡ false
+
+-- so is each unsettled machine below a number
+abbrev pub AreBehind : List Bool → List MarkRecord → ℕ → ℕ → Option Least → Type 0
+AreBehind opened marks turns n least = (m : ℕ) → m < n → is_unsettled_by opened (mark_at marks m) turns m ≡ true → IsBehind (mark_at marks m) turns m least

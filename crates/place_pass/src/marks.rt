@@ -6,7 +6,7 @@ ghost use Rattle.fuxi_terms.specs.Cluster.{rack_of};
 ghost use Rattle.fuxi_terms.specs.Jobs.{unit_count};
 ghost use Rattle.fuxi_terms.specs.Tables.{spot, held};
 ghost use Rattle.grant_table.specs.GrantTables.{as_known};
-ghost use Rattle.place_pass.specs.Cells.{cell_at, job_at};
+ghost use Rattle.place_pass.specs.Cells.{cell_at, job_at, taken};
 ghost use Rattle.place_pass.specs.Placers.{AreAllowed, AreLevel, board_over};
 ghost use Rattle.place_pass.specs.Best.{AreAdmitted};
 ghost use Rattle.place_pass.specs.Bounds.{MarkRecord, rank_of, mark_of, mark_at, key_of, zero_rank, reset_mark, cleared_mark, lowered_mark, after_taking, is_nearer_in};
@@ -105,11 +105,15 @@ impl Mark {
         self.groups = [false; 32];
     }
 
-    // Whether a group is noted.
+    // Whether a group is noted. No branch in the loop: the places are taken several at once.
     fn notes_any(&self) -> bool
         ensures { result ≡ list_any (λ noted. noted) self.now.groups }
     {
-        self.groups.iter().any(|noted| *noted)
+        let mut noted = false;
+        for group in 0..32 {
+            noted |= self.groups[group];
+        }
+        noted
     }
 
     // What is placeable may come earlier.
@@ -238,6 +242,10 @@ impl Marks {
         if self.until < turns {
             return from;
         }
+        // (most often it is the next one)
+        if self.unsettled.contains(from as usize) {
+            return from;
+        }
         self.unsettled.first_from(from as usize, self.marks.len()) as u32
     }
 
@@ -298,18 +306,25 @@ fn lower_all(marks: &mut Marks)
 }
 
 /// Told of a demand before the wishes are: what is placeable may come earlier, and on a machine that a unit avoids no
-/// longer anything may be placeable.
-pub(crate) fn tell_demand(marks: &mut Marks, wishes: &Wishes, app: AppNo, demand: &Demand)
-    requires { length marks.old ≡ length wishes.now.cluster.machines }
+/// longer anything may be placeable. It asks the same as before of all units but those that may differ.
+pub(crate) fn tell_demand(
+    marks: &mut Marks,
+    wishes: &Wishes,
+    app: AppNo,
+    demand: &Demand,
+    differing: &[bool; 8],
+)
+    requires long { length marks.old ≡ length wishes.now.cluster.machines }
+    requires same { (u : ℕ) → u < length (get_or wishes.now.cells app.0 []) → get_or differing.now u true ≡ false → taken wishes.now.cluster demand.now.entries u (cell_at wishes.now.cells app.0 u) ≡ cell_at wishes.now.cells app.0 u }
     ensures marks { (m : ℕ) → m < length marks.old → IsAsked demand.now.entries (get_or wishes.now.cells app.0 []) m (mark_at marks.old m) (mark_at marks.new m) }
     ensures long { length marks.new ≡ length marks.old }
 {
-    if !wishes.lifts_any(app, demand) {
+    if !wishes.lifts_any(app, demand, differing) {
         lower_all(marks);
         return;
     }
     for number in 0..wishes.cluster().machines() {
-        let lifted = wishes.lifts(app, demand, MachineNo(number));
+        let lifted = wishes.lifts(app, demand, differing, MachineNo(number));
         let mut mark = *marks.at(number);
         mark.ask(lifted);
         marks.put(number, mark);

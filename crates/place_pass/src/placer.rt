@@ -167,7 +167,7 @@ impl Placer {
         let counts = demand.entries();
         let _wishes = self.wishes.cluster();
         let differing = self.wishes.differing(app, demand);
-        tell_demand(&mut self.marks, &self.wishes, app, demand);
+        tell_demand(&mut self.marks, &self.wishes, app, demand, &differing);
         let more = self.wishes.asked(app, demand, &differing);
         stir(&mut self.calm, app);
         self.idle &= !more;

@@ -3,7 +3,7 @@
 //! there, and else the pairs that were appended since are looked at. A unit that has its greatest number on a machine is passed there
 //! like one that does not fit.
 
-ghost use Rattle.std.specs.Prelude.{◌≡◌, ℕ, ◌+◌, ◌*◌, ◌<◌, ◌≤◌, ◌&&◌, ◌⊎◌, ◌≢◌, Option, List, true, false, IsTrue, [], ◌∷◌, ◌++◌, length, map, None, Some, slice_get, not, nat_eq, cond, IfSome};
+ghost use Rattle.std.specs.Prelude.{◌≡◌, ℕ, ◌+◌, ◌*◌, ◌<◌, ◌≤◌, ◌&&◌, ◌⊎◌, ◌≢◌, Option, List, true, false, IsTrue, [], ◌∷◌, ◌++◌, length, map, None, Some, slice_get, not, nat_eq, cond, IfSome, IsSomeAnd};
 ghost use Rattle.std.proofs.Common.{get_or};
 ghost use Rattle.std.specs.Option.{is_none, option_map};
 ghost use Rattle.fuxi_terms.specs.Vectors.{at_place};
@@ -15,10 +15,10 @@ ghost use Rattle.written_roles.specs.Placing.{first_in, accepts_in, has_room_in,
 ghost use Rattle.place_pass.specs.Cells.{asks_in, job_at, unit_places};
 ghost use Rattle.place_pass.specs.Placers.{AreLevel, board_over};
 ghost use Rattle.place_pass.specs.Best.{spot_of, AreAdmitted};
-ghost use Rattle.place_pass.specs.Bounds.{rank_of, mark_of, mark_at, key_of, Rises, IsBounded, is_bound, comes_before};
+ghost use Rattle.place_pass.specs.Bounds.{MarkRecord, rank_of, mark_of, mark_at, key_of, Rises, IsBounded, is_bound, comes_before};
 ghost use Rattle.place_pass.specs.SearchCounts.{is_unsettled_by, count_below};
 ghost use Rattle.place_pass.specs.PlacerTrees.{TreeOf};
-ghost use Rattle.place_pass.specs.Sights.{sight_rank, rank_with, found_rank, turn_in, IsFree, IsSight, AreBounded, is_first};
+ghost use Rattle.place_pass.specs.Sights.{IsBehind, AreBehind, sight_rank, rank_with, found_rank, turn_in, IsFree, IsSight, AreBounded, is_first};
 ghost use Rattle.place_pass.specs.Scenes.{board_in, CanSearch, IsBestOn, IsMarked, IsSettledBy, AreMarked, IsFoundIn, IsLeastOn};
 
 use crate::line::Line;
@@ -45,6 +45,13 @@ pub(crate) struct Sight {
     pub(crate) rank: Rank,
     pub(crate) app: AppNo,
     pub(crate) unit: UnitNo,
+}
+
+/// A machine with its bound.
+#[derive(Clone, Copy, Debug)]
+pub(crate) struct Least {
+    pub(crate) rank: Rank,
+    pub(crate) machine: MachineNo,
 }
 
 /// What a search reads: what is asked, the line with its tree and the turns of its pairs, the next turn, and the table.
@@ -602,34 +609,60 @@ fn next_other(wishes: &Wishes, marks: &Marks, start: MachineNo, from: u32, turns
     at
 }
 
-// Whether a rank comes before the least so far.
-fn is_less(least: &Option<Rank>, key: &Rank) -> bool {
+// The least bound so far, or that of one machine more, which comes behind all others.
+fn lesser_of(least: Option<Least>, rank: Rank, machine: MachineNo) -> Option<Least>
+    requires { IfSome least (λ x. x.machine.0 ≤ machine.0) }
+    ensures kept { (k : MarkRecord) (t m : ℕ) → IsBehind k t m least → IsBehind k t m result }
+    ensures itself { (k : MarkRecord) (t : ℕ) → key_of k t ≡ Some (rank_of rank) → IsBehind k t machine.0 result }
+    ensures there { IfSome result (λ x. x.machine.0 ≤ machine.0) }
+{
     match least {
-        Some(least) => is_earlier_here(key, least),
-        None => true,
+        Some(one) => {
+            if is_earlier_here(&rank, &one.rank) {
+                Some(Least { rank, machine })
+            } else {
+                Some(one)
+            }
+        }
+        None => Some(Least { rank, machine }),
     }
 }
 
-// The open machine of least bound, where there is one, else the first.
-fn least_machine(wishes: &Wishes, marks: &Marks, turns: u64) -> MachineNo
-    ensures { 0 < length marks.now → result.0 < length marks.now }
+// The same, where one machine more is asked for its bound: one that is closed or settled has none.
+fn lesser_at(
+    wishes: &Wishes,
+    marks: &Marks,
+    turns: u64,
+    machine: MachineNo,
+    least: Option<Least>,
+) -> Option<Least>
+    requires machine { machine.0 < length marks.now }
+    requires before { IfSome least (λ x. x.machine.0 ≤ machine.0) }
+    ensures kept { (k : MarkRecord) (t m : ℕ) → IsBehind k t m least → IsBehind k t m result }
+    ensures itself { is_unsettled_by wishes.now.opened (mark_at marks.now machine.0) turns machine.0 ≡ true → IsBehind (mark_at marks.now machine.0) turns machine.0 result }
+    ensures there { IfSome result (λ x. x.machine.0 ≤ machine.0) }
+{
+    if !wishes.is_open(machine) {
+        return least;
+    }
+    let Some(rank) = marks.at(machine.0).key(turns) else {
+        return least;
+    };
+    lesser_of(least, rank, machine)
+}
+
+// The machine of least bound among those that are unsettled.
+fn least_machine(wishes: &Wishes, marks: &Marks, turns: u64) -> Option<Least>
+    ensures there { IfSome result (λ x. x.machine.0 < length marks.now) }
+    ensures behind { AreBehind wishes.now.opened marks.now turns (length marks.now) result }
 {
     let mut least = None;
-    let mut best = MachineNo(0);
     let mut at = marks.next(0, turns);
     while at < marks.len() {
-        let machine = MachineNo(at);
-        if wishes.is_open(machine) {
-            if let Some(key) = marks.at(at).key(turns) {
-                if is_less(&least, &key) {
-                    least = Some(key);
-                    best = machine;
-                }
-            }
-        }
+        least = lesser_at(wishes, marks, turns, MachineNo(at), least);
         at = marks.next(at + 1, turns);
     }
-    best
+    least
 }
 
 // The best of what was found on the machine that was considered first and of what is placeable on the others, in the order
@@ -662,6 +695,52 @@ fn best_of_others<L: Ledger>(
     best
 }
 
+// Whether two ranks are the same.
+fn is_same_rank(a: &Rank, b: &Rank) -> bool
+    ensures { result ≡ true → rank_of a.now ≡ rank_of b.now }
+{
+    a.late == b.late && a.level == b.level && a.turn == b.turn
+}
+
+// Whether what was found on the machine of least bound has that bound for its rank, so that no other machine comes before it.
+fn is_decided(best: &Option<Found>, least: &Least) -> bool
+    ensures { result ≡ true → IsSomeAnd best.now (λ x. rank_with x ≡ rank_of least.now.rank ++ least.now.machine.0 ∷ []) }
+{
+    match best {
+        Some(found) => {
+            found.pick.machine.0 == least.machine.0 && is_same_rank(&found.rank, &least.rank)
+        }
+        None => false,
+    }
+}
+
+// The best placeable pair on all machines, where this one has the least bound: it is considered first, and where it has a pair with
+// that bound the others are not.
+fn best_from_least<L: Ledger>(
+    scene: &Scene<'_>,
+    least: Least,
+    marks: &mut Marks,
+    steps: &mut Steps<L>,
+) -> Option<Found>
+    requires ready { CanSearch scene.now }
+    requires marked { length marks.old ≡ length scene.now.table.now.cluster.machines }
+    requires old { AreMarked scene.now marks.old }
+    requires there { least.machine.0 < length scene.now.table.now.cluster.machines }
+    requires behind { AreBehind scene.now.wishes.now.opened marks.old scene.now.turns (length scene.now.table.now.cluster.machines) (Some least) }
+    ensures marked { length marks.new ≡ length marks.old }
+    ensures marks { AreMarked scene.now marks.new }
+    ensures least { (m : ℕ) → m < length scene.now.table.now.cluster.machines → IsLeastOn scene.now result m }
+    ensures found { IfSome result (λ x. IsFoundIn scene.now x) }
+    ensures count { steps.new ≤ steps.old + count_below (λ m. is_unsettled_by scene.now.wishes.now.opened (mark_at marks.old m) scene.now.turns m) (length scene.now.table.now.cluster.machines) }
+    ensures settled { result ≡ None → (m : ℕ) → m < length scene.now.table.now.cluster.machines → IsSettledBy scene.now m (mark_at marks.new m) }
+{
+    let best = consider_at(scene, least.machine, marks, steps, None);
+    if is_decided(&best, &least) {
+        return best;
+    }
+    best_of_others(scene, least.machine, marks, steps, best)
+}
+
 /// The placeable pair of first rank, and `None` exactly where none is placeable. Each machine by whose mark a pair may be
 /// placeable there is looked at at most once, and where there is none, all of them.
 pub(crate) fn first<L: Ledger>(
@@ -691,11 +770,9 @@ pub(crate) fn first<L: Ledger>(
     ensures count { steps.new ≤ steps.old + count_below (λ m. is_unsettled_by wishes.now.opened (mark_at marks.old m) turns m) (length table.now.cluster.machines) }
     ensures settled { result ≡ None → (m : ℕ) → m < length table.now.cluster.machines → get_or wishes.now.opened m false ≡ true → key_of (mark_at marks.new m) turns ≡ None }
 {
-    let machines = table.cluster().machines();
-    let start = least_machine(wishes, marks, turns);
-    if start.0 >= machines {
+    let Some(least) = least_machine(wishes, marks, turns) else {
         return None;
-    }
+    };
     let scene = Scene {
         wishes,
         line,
@@ -704,8 +781,7 @@ pub(crate) fn first<L: Ledger>(
         turns,
         table,
     };
-    let best = consider_at(&scene, start, marks, steps, None);
-    match best_of_others(&scene, start, marks, steps, best) {
+    match best_from_least(&scene, least, marks, steps) {
         Some(found) => Some(found.pick),
         None => None,
     }

@@ -1,6 +1,7 @@
 //! What the admitted units are and what is asked of them, by job number and unit, and the machines that are open.
 
-ghost use Rattle.std.specs.Prelude.{◌≡◌, ℕ, ◌+◌, ◌<◌, ◌≤◌, ◌&&◌, ◌||◌, Bool, true, false, nat_eq, nat_lt, min, cond, List, [], length, map, set, replicate, IfOk};
+ghost use Rattle.std.specs.Prelude.{◌≡◌, ℕ, ◌+◌, ◌<◌, ◌≤◌, ◌&&◌, ◌||◌, Bool, T, true, false, nat_eq, nat_lt, min, cond, List, [], length, map, set, replicate, IfOk};
+ghost use Rattle.std.specs.FinMap.Entries.{is_sorted};
 ghost use Rattle.std.proofs.Common.{get_or};
 ghost use Rattle.std.specs.List.{list_any};
 ghost use Rattle.fuxi_terms.specs.Keys.{key_cmp};
@@ -180,11 +181,14 @@ impl Wishes {
         self.wish(app, unit).avoided[machine.0 as usize] == 0
     }
 
-    // Whether a unit of the job avoids a machine.
-    fn avoids_any(&self, app: AppNo) -> bool
-        ensures { result ≡ false → (u m : ℕ) → u < length (get_or self.now.cells app.0 []) → get_or (cell_at self.now.cells app.0 u).avoided m 0 ≡ 0 }
+    // Whether a unit of the job that may differ avoids a machine.
+    fn avoids_any(&self, app: AppNo, differing: &[bool; 8]) -> bool
+        ensures { result ≡ false → (u m : ℕ) → u < length (get_or self.now.cells app.0 []) → get_or differing.now u true ≡ true → get_or (cell_at self.now.cells app.0 u).avoided m 0 ≡ 0 }
     {
         for number in 0..self.units(app) as u8 {
+            if !may_differ(differing, number) {
+                continue;
+            }
             if has_some(&self.wish(app, UnitNo(number)).avoided) {
                 return true;
             }
@@ -192,13 +196,24 @@ impl Wishes {
         false
     }
 
-    /// Whether by this demand a unit of the job no longer avoids this machine, which it avoided.
-    pub(crate) fn lifts(&self, app: AppNo, demand: &Demand, machine: MachineNo) -> bool
-        requires { machine.0 < length self.now.cluster.machines }
+    /// Whether by this demand a unit of the job no longer avoids this machine, which it avoided. It asks the same as before of
+    /// all units but those that may differ.
+    pub(crate) fn lifts(
+        &self,
+        app: AppNo,
+        demand: &Demand,
+        differing: &[bool; 8],
+        machine: MachineNo,
+    ) -> bool
+        requires machine { machine.0 < length self.now.cluster.machines }
+        requires same { (u : ℕ) → u < length (get_or self.now.cells app.0 []) → get_or differing.now u true ≡ false → taken self.now.cluster demand.now.entries u (cell_at self.now.cells app.0 u) ≡ cell_at self.now.cells app.0 u }
         ensures some { result ≡ true → Lifts demand.now.entries (get_or self.now.cells app.0 []) machine.0 }
         ensures none { result ≡ false → AvoidsStill demand.now.entries (get_or self.now.cells app.0 []) machine.0 }
     {
         for number in 0..self.units(app) as u8 {
+            if !may_differ(differing, number) {
+                continue;
+            }
             let wish = self.wish(app, UnitNo(number));
             if wish.avoided[machine.0 as usize] == 0 {
                 continue;
@@ -210,15 +225,17 @@ impl Wishes {
         false
     }
 
-    /// Whether by this demand a unit of the job no longer avoids a machine that it avoided.
-    pub(crate) fn lifts_any(&self, app: AppNo, demand: &Demand) -> bool
+    /// Whether by this demand a unit of the job no longer avoids a machine that it avoided. It asks the same as before of all
+    /// units but those that may differ.
+    pub(crate) fn lifts_any(&self, app: AppNo, demand: &Demand, differing: &[bool; 8]) -> bool
+        requires { (u : ℕ) → u < length (get_or self.now.cells app.0 []) → get_or differing.now u true ≡ false → taken self.now.cluster demand.now.entries u (cell_at self.now.cells app.0 u) ≡ cell_at self.now.cells app.0 u }
         ensures { result ≡ false → (m : ℕ) → m < length self.now.cluster.machines → AvoidsStill demand.now.entries (get_or self.now.cells app.0 []) m }
     {
-        if !self.avoids_any(app) {
+        if !self.avoids_any(app, differing) {
             return false;
         }
         for number in 0..self.cluster().machines() {
-            if self.lifts(app, demand, MachineNo(number)) {
+            if self.lifts(app, demand, differing, MachineNo(number)) {
                 return true;
             }
         }
@@ -233,6 +250,17 @@ impl Wishes {
     {
         wish_at(&self.slots, app.0 as usize, unit.0 as usize)
     }
+}
+
+// Whether a unit may be asked otherwise.
+fn may_differ(differing: &[bool; 8], unit: u8) -> bool
+    ensures { result ≡ get_or differing.now unit true }
+{
+    let number = unit as usize;
+    if number >= 8 {
+        return true;
+    }
+    differing[number]
 }
 
 // The lesser of each resource.
@@ -371,8 +399,27 @@ fn is_gone(before: u32, now: u32) -> bool
     before > 0 && now == 0
 }
 
+// The place behind the entries that stand before the key, found by halves.
+fn place_by_halves(entries: &[(Key, u64)], sought: &Key) -> usize
+    requires { T (is_sorted key_cmp entries.now) }
+    ensures past { IsPast entries.now result sought.now }
+    ensures there { result < length entries.now → is_lt (key_cmp (get_or entries.now result (key 0 0 0, 0)).0 sought.now) ≡ false }
+{
+    let mut low = 0;
+    let mut high = entries.len();
+    while low < high {
+        let middle = low + (high - low) / 2;
+        if entries[middle].0.order(sought).is_ge() {
+            high = middle;
+            continue;
+        }
+        low = middle + 1;
+    }
+    low
+}
+
 // The place behind the entries that stand before the key, of which some were passed.
-fn place_of(entries: &[(Key, u64)], from: usize, sought: &Key) -> usize
+fn place_behind(entries: &[(Key, u64)], from: usize, sought: &Key) -> usize
     requires past { IsPast entries.now from sought.now }
     ensures past { IsPast entries.now result sought.now }
     ensures there { result < length entries.now → is_lt (key_cmp (get_or entries.now result (key 0 0 0, 0)).0 sought.now) ≡ false }
@@ -383,6 +430,19 @@ fn place_of(entries: &[(Key, u64)], from: usize, sought: &Key) -> usize
         }
     }
     entries.len().max(from)
+}
+
+// The same: a walk that begins goes by halves, and one that has passed some goes on from there.
+fn place_of(entries: &[(Key, u64)], from: usize, sought: &Key) -> usize
+    requires past { IsPast entries.now from sought.now }
+    requires sorted { T (is_sorted key_cmp entries.now) }
+    ensures past { IsPast entries.now result sought.now }
+    ensures there { result < length entries.now → is_lt (key_cmp (get_or entries.now result (key 0 0 0, 0)).0 sought.now) ≡ false }
+{
+    if from == 0 {
+        return place_by_halves(entries, sought);
+    }
+    place_behind(entries, from, sought)
 }
 
 // Whether a key is of this kind and unit.

@@ -11,17 +11,17 @@ returns-then-not-lifts_any-clause-marks c m l = record {
   lifted = false;
   is = c.lower_all.ensures.marks m l;
   some = λ e. cc;
-  none = λ _. c.lifts_any.ensures c.if-not-lifts_any.true m (subst (λ n. m < n) c.requires l);
+  none = λ _. c.lifts_any.ensures c.if-not-lifts_any.true m (subst (λ n. m < n) c.requires.long l);
 }
 
 lesser : (n long first machines end there : ℕ) → n < end → end ≡ machines → first ≡ there → long ≡ first → machines ≡ there → n < long
 lesser n long first machines end there a b d e f = omega (arith, a, b, d, e, f)
 
 pub at-requires : goal.at-requires
-at-requires c = let long = c.loop-number.invariant.long in let test = c.loop-number-test.true in let end = c.machines-number-end.ensures.number in lesser c.loop-number.number (length c.loop-number.marks) _ _ _ _ test end c.requires long (ap (λ (k : _). length k.machines) c.cluster.ensures.cluster)
+at-requires c = let long = c.loop-number.invariant.long in let test = c.loop-number-test.true in let end = c.machines-number-end.ensures.number in lesser c.loop-number.number (length c.loop-number.marks) _ _ _ _ test end c.requires.long long (ap (λ (k : _). length k.machines) c.cluster.ensures.cluster)
 
 pub put-requires : goal.put-requires
-put-requires c = let long = c.loop-number.invariant.long in let test = c.loop-number-test.true in let end = c.machines-number-end.ensures.number in lesser c.loop-number.number (length c.loop-number.marks) _ _ _ _ test end c.requires long (ap (λ (k : _). length k.machines) c.cluster.ensures.cluster)
+put-requires c = let long = c.loop-number.invariant.long in let test = c.loop-number-test.true in let end = c.machines-number-end.ensures.number in lesser c.loop-number.number (length c.loop-number.marks) _ _ _ _ test end c.requires.long long (ap (λ (k : _). length k.machines) c.cluster.ensures.cluster)
 
 pub loop-number-preserved : goal.loop-number-preserved
 loop-number-preserved c =

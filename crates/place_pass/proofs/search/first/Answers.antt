@@ -1,73 +1,71 @@
-use Rattle.std.proofs.Common.{◌≡◌, ℕ, ◌<◌, ◌≤◌, Option, sym, ◌∙◌, ap, subst, arith, length}
+use Rattle.std.proofs.Common.{◌≡◌, ℕ, ◌<◌, Bool, false, List, Option, None, Some, get_or, sym, subst, length}
 use Rattle.std.specs.Prelude.{IfSome}
-use Rattle.fuxi_terms.specs.Cluster.{ClusterRecord}
+use Rattle.place_pass.specs.Bounds.{MarkRecord, mark_at, key_of}
 use Rattle.place_pass.specs.Placers.{board_over}
-use Rattle.place_pass.specs.Sights.{found_rank, turn_in, IsFound, IsLeast}
+use Rattle.place_pass.specs.SearchCounts.{is_unsettled_by}
+use Rattle.place_pass.specs.Sights.{AreBehind, found_rank, turn_in, IsFound, IsLeast}
 use Rattle.place_pass.specs.declared.search.Found.{Found}
-use Rattle.place_pass.proofs.SearchCountsLemmas.{both_looks}
+use Rattle.place_pass.specs.declared.search.Least.{Least}
 use Rattle.place_pass.proofs.FirstByTurn.{none_first, found_first}
+use Rattle.place_pass.proofs.PassedMachines.{none_unsettled}
+use Rattle.place_pass.proofs.SightsLemmas.{least_settled, settled_key}
 use Rattle.place_pass.proofs.search.first.Goals as goal
 
--- without machines nothing is placeable
-no_machine : (start machines marks there m : ℕ) → machines ≡ there → marks ≡ there → machines ≤ start → (0 < marks → start < marks) → m < there → ⊥
-no_machine start machines marks there m is long le h lt = let l = h (omega (arith, long, lt)) in absurd (omega (arith, l, le, is, long))
+-- with no machine of least bound each is settled
+settled : (o : List Bool) (marks : List MarkRecord) (turns n : ℕ) (least : Option Least) → length marks ≡ n → least ≡ None → AreBehind o marks turns (length marks) least → (m : ℕ) → m < n → is_unsettled_by o (mark_at marks m) turns m ≡ false
+settled o marks turns n least long none behind m lt = none_unsettled o marks turns (length marks) m (subst (AreBehind o marks turns (length marks)) none behind) (subst (λ z. m < z) (sym long) lt)
 
-pub returns-then-start-machines-clause-first : goal.returns-then-start-machines-clause-first
-returns-then-start-machines-clause-first g c =
-    let b = board_over c.args.wishes.now.cells c.args.wishes.now.opened c.args.table.now in
-    sym (none_first b c.args.table.now.entries (turn_in c.args.turn_of.now) c.args.line.now.pairs (λ m lt. absurd (no_machine c.least_machine-start.result.0 c.machines-machines.result (length c.args.marks.now) (length c.args.table.now.cluster.machines) m (c.machines-machines.ensures.number ∙ ap (λ (x : ClusterRecord). length x.machines) c.cluster.ensures.cluster) c.requires.marked c.if-start-machines.true c.least_machine-start.ensures lt)))
+pub returns-in_default-clause-first : goal.returns-in_default-clause-first
+returns-in_default-clause-first g c =
+    let w = c.args.wishes.now in
+    let t = c.args.table.now in
+    let f = turn_in c.args.turn_of.now in
+    let line = c.args.line.now.pairs in
+    sym (none_first (board_over w.cells w.opened t) t.entries f line (λ m lt. least_settled w.cells w.opened t f line (mark_at c.args.marks.now m) m c.args.turns None (settled c.args.wishes.now.opened c.args.marks.now c.args.turns (length c.args.table.now.cluster.machines) c.least_machine.result c.requires.marked c.in_default.is c.least_machine.ensures.behind m lt) c.requires.below (c.requires.old m)))
 
-pub returns-then-start-machines-clause-settled : goal.returns-then-start-machines-clause-settled
-returns-then-start-machines-clause-settled g c e m lt = absurd (no_machine c.least_machine-start.result.0 c.machines-machines.result (length c.args.marks.now) (length c.args.table.now.cluster.machines) m (c.machines-machines.ensures.number ∙ ap (λ (x : ClusterRecord). length x.machines) c.cluster.ensures.cluster) c.requires.marked c.if-start-machines.true c.least_machine-start.ensures lt)
+pub returns-in_default-clause-settled : goal.returns-in_default-clause-settled
+returns-in_default-clause-settled g c e m lt opened = settled_key (get_or c.args.wishes.now.opened m false) (key_of (mark_at c.args.marks.now m) c.args.turns) (settled c.args.wishes.now.opened c.args.marks.now c.args.turns (length c.args.table.now.cluster.machines) c.least_machine.result c.requires.marked c.in_default.is c.least_machine.ensures.behind m lt) opened
 
-pub returns-in-Some-clause-first : goal.returns-in-Some-clause-first
-returns-in-Some-clause-first g c =
+pub best_from_least-requires-clause-ready : goal.best_from_least-requires-clause-ready
+best_from_least-requires-clause-ready g c = record { level = c.requires.level; admitted = c.requires.admitted; places = c.requires.places; waits = c.requires.waits; rises = c.requires.rises; below = c.requires.below; tree = c.requires.tree }
+
+pub best_from_least-requires-clause-old : goal.best_from_least-requires-clause-old
+best_from_least-requires-clause-old g c m = record { bounded = c.requires.old m; until = c.requires.until m }
+
+pub best_from_least-requires-clause-there : goal.best_from_least-requires-clause-there
+best_from_least-requires-clause-there g c =
+    subst (λ n. c.in-Some.least.machine.0 < n) c.requires.marked (subst (λ (o : Option Least). IfSome o (λ x. x.machine.0 < length c.args.marks.now)) c.in-Some.is c.least_machine.ensures.there)
+
+pub best_from_least-requires-clause-behind : goal.best_from_least-requires-clause-behind
+best_from_least-requires-clause-behind g c =
+    subst (λ n. AreBehind c.args.wishes.now.opened c.args.marks.now c.args.turns n (Some c.in-Some.least)) c.requires.marked
+    (subst (AreBehind c.args.wishes.now.opened c.args.marks.now c.args.turns (length c.args.marks.now)) c.in-Some.is c.least_machine.ensures.behind)
+
+pub returns-in-Some-best_from_least-clause-first : goal.returns-in-Some-best_from_least-clause-first
+returns-in-Some-best_from_least-clause-first g c =
     let b = board_over c.args.wishes.now.cells c.args.wishes.now.opened c.args.table.now in
     let es = c.args.table.now.entries in
     let f = turn_in c.args.turn_of.now in
     let line = c.args.line.now.pairs in
-    sym (found_first b es f line c.in-Some.found c.requires.rises (subst (λ (o : Option Found). IfSome o (λ x. IsFound b es f line x)) c.in-Some.is (c.best_of_others.ensures.found (c.consider_at-best.ensures.found tt)))
-    (λ m lt. subst (λ (o : Option Found). IsLeast b es f line (found_rank o) m) c.in-Some.is (c.best_of_others.ensures.least m lt)))
+    sym (found_first b es f line c.in-Some-best_from_least.found c.requires.rises (subst (λ (o : Option Found). IfSome o (λ x. IsFound b es f line x)) c.in-Some-best_from_least.is c.best_from_least.ensures.found)
+    (λ m lt. subst (λ (o : Option Found). IsLeast b es f line (found_rank o) m) c.in-Some-best_from_least.is (c.best_from_least.ensures.least m lt)))
 
 pub returns-in-None-clause-first : goal.returns-in-None-clause-first
 returns-in-None-clause-first g c =
     let b = board_over c.args.wishes.now.cells c.args.wishes.now.opened c.args.table.now in
-    sym (none_first b c.args.table.now.entries (turn_in c.args.turn_of.now) c.args.line.now.pairs (λ m lt. subst (λ (o : Option Found). IsLeast b c.args.table.now.entries (turn_in c.args.turn_of.now) c.args.line.now.pairs (found_rank o) m) c.in-None.is (c.best_of_others.ensures.least m lt)))
+    sym (none_first b c.args.table.now.entries (turn_in c.args.turn_of.now) c.args.line.now.pairs (λ m lt. subst (λ (o : Option Found). IsLeast b c.args.table.now.entries (turn_in c.args.turn_of.now) c.args.line.now.pairs (found_rank o) m) c.in-None.is (c.best_from_least.ensures.least m lt)))
 
-pub consider_at-best-requires-clause-ready : goal.consider_at-best-requires-clause-ready
-consider_at-best-requires-clause-ready g c = record { level = c.requires.level; admitted = c.requires.admitted; places = c.requires.places; waits = c.requires.waits; rises = c.requires.rises; below = c.requires.below; tree = c.requires.tree }
+pub returns-in-Some-best_from_least-clause-bounded : goal.returns-in-Some-best_from_least-clause-bounded
+returns-in-Some-best_from_least-clause-bounded g c m opened = (c.best_from_least.ensures.marks m).bounded opened
 
-pub consider_at-best-requires-clause-old : goal.consider_at-best-requires-clause-old
-consider_at-best-requires-clause-old g c m = record { bounded = c.requires.old m; until = c.requires.until m }
-
-pub best_of_others-requires-clause-ready : goal.best_of_others-requires-clause-ready
-best_of_others-requires-clause-ready g c = record { level = c.requires.level; admitted = c.requires.admitted; places = c.requires.places; waits = c.requires.waits; rises = c.requires.rises; below = c.requires.below; tree = c.requires.tree }
-
-pub returns-in-Some-clause-bounded : goal.returns-in-Some-clause-bounded
-returns-in-Some-clause-bounded g c m opened = (c.best_of_others.ensures.marks m).bounded opened
-
-pub returns-in-Some-clause-until : goal.returns-in-Some-clause-until
-returns-in-Some-clause-until g c m opened = (c.best_of_others.ensures.marks m).until opened
+pub returns-in-Some-best_from_least-clause-until : goal.returns-in-Some-best_from_least-clause-until
+returns-in-Some-best_from_least-clause-until g c m opened = (c.best_from_least.ensures.marks m).until opened
 
 pub returns-in-None-clause-bounded : goal.returns-in-None-clause-bounded
-returns-in-None-clause-bounded g c m opened = (c.best_of_others.ensures.marks m).bounded opened
+returns-in-None-clause-bounded g c m opened = (c.best_from_least.ensures.marks m).bounded opened
 
 pub returns-in-None-clause-until : goal.returns-in-None-clause-until
-returns-in-None-clause-until g c m opened = (c.best_of_others.ensures.marks m).until opened
-
-pub returns-in-Some-clause-count : goal.returns-in-Some-clause-count
-returns-in-Some-clause-count g c =
-    let lt = c.if-start-machines.false in
-    let n : c.machines-machines.result ≡ length c.args.table.now.cluster.machines = c.machines-machines.ensures.number ∙ ap (λ (x : ClusterRecord). length x.machines) c.cluster.ensures.cluster in
-    both_looks c.args.wishes.now.opened c.args.marks.now c.consider_at-best.new.marks c.args.turns c.least_machine-start.result.0 (length c.args.table.now.cluster.machines)
-    c.args.steps.now c.consider_at-best.new.steps c.best_of_others.new.steps (omega (arith, lt, n)) c.consider_at-best.ensures.count c.best_of_others.ensures.count c.consider_at-best.ensures.others
-
-pub returns-in-None-clause-count : goal.returns-in-None-clause-count
-returns-in-None-clause-count g c =
-    let lt = c.if-start-machines.false in
-    let n : c.machines-machines.result ≡ length c.args.table.now.cluster.machines = c.machines-machines.ensures.number ∙ ap (λ (x : ClusterRecord). length x.machines) c.cluster.ensures.cluster in
-    both_looks c.args.wishes.now.opened c.args.marks.now c.consider_at-best.new.marks c.args.turns c.least_machine-start.result.0 (length c.args.table.now.cluster.machines)
-    c.args.steps.now c.consider_at-best.new.steps c.best_of_others.new.steps (omega (arith, lt, n)) c.consider_at-best.ensures.count c.best_of_others.ensures.count c.consider_at-best.ensures.others
+returns-in-None-clause-until g c m opened = (c.best_from_least.ensures.marks m).until opened
 
 pub returns-in-None-clause-settled : goal.returns-in-None-clause-settled
-returns-in-None-clause-settled g c e m lt opened = c.best_of_others.ensures.settled c.in-None.is m lt opened
+returns-in-None-clause-settled g c e m lt opened = c.best_from_least.ensures.settled c.in-None.is m lt opened

@@ -11,6 +11,9 @@ use Rattle.place_pass.proofs.wishes.next_asked.Goals as goal
 abbrev no_entry : Key × ℕ
 no_entry = (record { what = 0; unit = 0; number = 0 }, 0)
 
+pub place_of-place-requires-clause-sorted : goal.place_of-place-requires-clause-sorted
+place_of-place-requires-clause-sorted c = (subst (λ (x : List (Key × ℕ)). AreCounts key_cmp greatest_demand x) (sym c.entries-entries.ensures.entries) c.entries-entries.ensures.counts).sorted
+
 pub returns-then-place-entries : goal.returns-then-place-entries
 returns-then-place-entries c =
     let es = c.entries-entries.result.now in

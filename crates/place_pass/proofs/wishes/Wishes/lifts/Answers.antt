@@ -4,6 +4,7 @@ use Rattle.fuxi_terms.specs.Counts.{count}
 use Rattle.fuxi_terms.specs.Keys.{key_cmp}
 use Rattle.fuxi_terms.specs.TallyKeys.{avoid_key}
 use Rattle.place_pass.specs.Cells.{Cell, cell_at}
+use Rattle.place_pass.proofs.AskedTheSame.{still_same}
 use Rattle.place_pass.proofs.CellsMatchTable.{avoided_read}
 use Rattle.place_pass.proofs.wishes.Wishes.lifts.Goals as goal
 
@@ -12,15 +13,30 @@ index-requires c =
     let there : c.loop-number.number < length (get_or c.args.self.now.cells c.args.app.0 []) = let t = c.loop-number-test.true in let e = c.units-number-end.ensures.number in omega (arith, t, e) in
     let w = (c.wish-wish.ensures.sound.unit c.args.app.0 c.loop-number.number there).avoided in
     let n = ap (λ (x : Cell). length x.avoided) c.wish-wish.ensures.cell in
-    let l = c.requires in
+    let l = c.requires.machine in
     omega (arith, w, n, l)
+
+pub loop-number-preserved-then-not-may_differ : goal.loop-number-preserved-then-not-may_differ
+loop-number-preserved-then-not-may_differ c u lt some =
+    let there : c.loop-number.number < length (get_or c.args.self.now.cells c.args.app.0 []) = let t = c.loop-number-test.true in let e = c.units-number-end.ensures.number in omega (arith, t, e) in
+    elim (cases_lt u c.loop-number.number) [
+      | inl l ↦ c.loop-number.invariant u l some
+      | inr ge ↦
+          let same : c.loop-number.number ≡ u = omega (arith, lt, ge) in
+          let cells = c.args.self.now.cells in
+          let a = c.args.app.0 in
+          let alike = sym c.may_differ.ensures ∙ c.if-not-may_differ.true in
+          let was = subst (λ n. 0 < get_or (cell_at cells a n).avoided c.args.machine.0 0) (sym same) some in
+          subst (λ n. 0 < count key_cmp c.args.demand.now.entries (avoid_key n c.args.machine.0)) same
+          (still_same c.args.self.now.cluster c.args.demand.now.entries c.loop-number.number c.args.machine.0 (cell_at cells a c.loop-number.number) c.requires.machine (c.requires.same c.loop-number.number there alike) was)
+    ]
 
 pub loop-number-preserved-then-index-eq0 : goal.loop-number-preserved-then-index-eq0
 loop-number-preserved-then-index-eq0 c u lt some =
     let there : c.loop-number.number < length (get_or c.args.self.now.cells c.args.app.0 []) = let t = c.loop-number-test.true in let e = c.units-number-end.ensures.number in omega (arith, t, e) in
     let w = (c.wish-wish.ensures.sound.unit c.args.app.0 c.loop-number.number there).avoided in
     let n = ap (λ (x : Cell). length x.avoided) c.wish-wish.ensures.cell in
-    let l = c.requires in
+    let l = c.requires.machine in
     let read = avoided_read c.wish-wish.result.now (cell_at c.args.self.now.cells c.args.app.0 c.loop-number.number) c.wish-wish.ensures.cell c.args.machine.0 c.index.result.now (omega (arith, w, n, l)) c.index.ensures in
     elim (cases_lt u c.loop-number.number) [
       | inl l ↦ c.loop-number.invariant u l some
@@ -47,7 +63,7 @@ returns-then-number_at-eq0-clause-some c e =
     let there : c.loop-number.number < length (get_or c.args.self.now.cells c.args.app.0 []) = let t = c.loop-number-test.true in let e = c.units-number-end.ensures.number in omega (arith, t, e) in
     let w = (c.wish-wish.ensures.sound.unit c.args.app.0 c.loop-number.number there).avoided in
     let n = ap (λ (x : Cell). length x.avoided) c.wish-wish.ensures.cell in
-    let l = c.requires in
+    let l = c.requires.machine in
     let read = avoided_read c.wish-wish.result.now (cell_at c.args.self.now.cells c.args.app.0 c.loop-number.number) c.wish-wish.ensures.cell c.args.machine.0 c.index.result.now (omega (arith, w, n, l)) c.index.ensures in
     let z = c.if-index-eq0.false in
     record { unit = c.loop-number.number; there = there; was = omega (arith, read, z); gone = sym c.number_at.ensures ∙ c.if-number_at-eq0.true }
