@@ -5,7 +5,8 @@
 mod commands;
 mod nodes;
 
-use case_words::{Cases, Stop, answer_input};
+use case_words::Piece::Text;
+use case_words::{Cases, Stop, answer_input, say_line};
 use std::alloc::Global;
 use std::process::ExitCode;
 
@@ -23,7 +24,7 @@ impl Cases for Worked {
     fn answer_line(&mut self, rt: &HostRuntime, alloc: Global, line: &str) -> Result<(), Stop> {
         if line == "== nodes" {
             self.of_nodes = true;
-            return Ok(println!(rt; "{line}")?);
+            return say_line(rt, &[Text(line)]);
         }
         if self.of_nodes {
             return nodes::answer_line(rt, alloc, line);

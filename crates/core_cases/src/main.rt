@@ -7,7 +7,8 @@ mod channels;
 mod checkpoint;
 mod trees;
 
-use case_words::{Cases, Stop, answer_input};
+use case_words::Piece::Text;
+use case_words::{Cases, Stop, answer_input, say_line};
 use channels::Channels;
 use checkpoint::Place;
 use std::alloc::Global;
@@ -54,7 +55,7 @@ impl Cases for Core {
     fn answer_line(&mut self, rt: &HostRuntime, alloc: Global, line: &str) -> Result<(), Stop> {
         if let Some(name) = line.strip_prefix("== ") {
             self.part = part_of(name);
-            return Ok(println!(rt; "{line}")?);
+            return say_line(rt, &[Text(line)]);
         }
         match self.part {
             Part::Base => base::answer_line(rt, alloc, line),

@@ -1,5 +1,6 @@
 use crate::commands::edges::{Drops, Narrow};
-use case_words::{Stop, head_of, number_of, push_text, put_numbers, text_of};
+use case_words::Piece::{Number, Text};
+use case_words::{Stop, head_of, number_of, push_text, put_numbers, say, text_of};
 use fuxi_io::{MemDisk, MemSink, MemSource, Sink, Source, Status};
 use node_door::MemDoor;
 use std::alloc::Global;
@@ -67,8 +68,8 @@ fn shown(alloc: Global, status: &Status, out: &[u8], err: &[u8]) -> Result<Strin
 }
 
 // Runs a command over streams in memory, of which one write fails each, and prints what came of it.
-fn tell<P: Print>(
-    rt: &P,
+fn tell(
+    rt: &HostRuntime,
     alloc: Global,
     words: &[&str],
     input: &mut MemSource,
@@ -76,13 +77,15 @@ fn tell<P: Print>(
 ) -> Result<(), Stop> {
     let (mut out, mut err) = (sink(alloc, fails[0])?, sink(alloc, fails[1])?);
     let status = command(alloc, words, input, &mut out, &mut err)?;
-    print!(rt; "{}", shown(alloc, &status, out.bytes(), err.bytes())?)?;
-    Ok(())
+    say(
+        rt,
+        &[Text(&shown(alloc, &status, out.bytes(), err.bytes())?)],
+    )
 }
 
 // A command of one word over these lines, where a read, a write and a write of the error stream fail.
-fn over_lines<P: Print>(
-    rt: &P,
+fn over_lines(
+    rt: &HostRuntime,
     alloc: Global,
     name: &str,
     bytes: Vec<u8>,
@@ -94,12 +97,12 @@ fn over_lines<P: Print>(
 }
 
 /// A schedule, or lines of another command.
-pub fn run<P: Print>(rt: &P, alloc: Global, name: &str, text: &str) -> Result<(), Stop> {
+pub fn run(rt: &HostRuntime, alloc: Global, name: &str, text: &str) -> Result<(), Stop> {
     over_lines(rt, alloc, name, bytes_of(alloc, text)?, [0, 0, 0])
 }
 
 /// A schedule behind an application whose master has acknowledged its first demand, and so many wants of the numbers from 1 up.
-pub fn behind_wants<P: Print>(rt: &P, alloc: Global, rest: &str) -> Result<(), Stop> {
+pub fn behind_wants(rt: &HostRuntime, alloc: Global, rest: &str) -> Result<(), Stop> {
     let (count, text) = head_of(rest);
     let mut bytes = bytes_of(alloc, KNOWN)?;
     for number in 1..=number_of(count).min(MOST) {
@@ -110,7 +113,7 @@ pub fn behind_wants<P: Print>(rt: &P, alloc: Global, rest: &str) -> Result<(), S
 }
 
 /// Words that are no command, `,` between them, over streams whose every call fails but for the error stream's.
-pub fn words<P: Print>(rt: &P, alloc: Global, rest: &str) -> Result<(), Stop> {
+pub fn words(rt: &HostRuntime, alloc: Global, rest: &str) -> Result<(), Stop> {
     let words: Vec<&str> = rest.split(',').collect(alloc)?;
     tell(
         rt,
@@ -122,7 +125,7 @@ pub fn words<P: Print>(rt: &P, alloc: Global, rest: &str) -> Result<(), Stop> {
 }
 
 /// A storm of the seed and the steps behind the number of the write that fails, 0 for none. Its input fails.
-pub fn storm<P: Print>(rt: &P, alloc: Global, rest: &str) -> Result<(), Stop> {
+pub fn storm(rt: &HostRuntime, alloc: Global, rest: &str) -> Result<(), Stop> {
     let (fail, rest) = head_of(rest);
     let (seed, steps) = head_of(rest);
     let mut input = source(alloc, Vec::new(alloc), 1)?;
@@ -136,7 +139,7 @@ pub fn storm<P: Print>(rt: &P, alloc: Global, rest: &str) -> Result<(), Stop> {
 }
 
 /// Lines of a command where the read, the write and the write of the error stream with these numbers fail; 0 for none.
-pub fn failing<P: Print>(rt: &P, alloc: Global, name: &str, rest: &str) -> Result<(), Stop> {
+pub fn failing(rt: &HostRuntime, alloc: Global, name: &str, rest: &str) -> Result<(), Stop> {
     let (numbers, text) = rest.split_once(" = ").unwrap_or((rest, ""));
     let mut fails = [0; 3];
     put_numbers(&mut fails, numbers);
@@ -164,8 +167,8 @@ fn read_slowly(
 
 /// Lines of a command that are read byte by byte, where the first read fails, the second, and so on, or the first write:
 /// each answer that is another one than that before, with the number of the call.
-pub fn each_call<P: Print>(
-    rt: &P,
+pub fn each_call(
+    rt: &HostRuntime,
     alloc: Global,
     lines: (&str, &str),
     is_write: bool,
@@ -180,7 +183,16 @@ pub fn each_call<P: Print>(
         let fails = if is_write { [0, fail] } else { [fail, 0] };
         let (status, now) = read_slowly(alloc, lines, fails)?;
         if now != last {
-            print!(rt; "from {fail} {now} ")?;
+            say(
+                rt,
+                &[
+                    Text("from "),
+                    Number(fail),
+                    Text(" "),
+                    Text(&now),
+                    Text(" "),
+                ],
+            )?;
             last = now;
         }
         if status != fault {
@@ -207,8 +219,8 @@ fn run_narrow(
 }
 
 // Prints what a stream does that takes so many bytes, where what it took is not what is wanted, and at both ends.
-fn tell_part<P: Print>(
-    rt: &P,
+fn tell_part(
+    rt: &HostRuntime,
     alloc: Global,
     lines: (&str, &str),
     is_err: bool,
@@ -217,24 +229,28 @@ fn tell_part<P: Print>(
     let mut narrow = Narrow::of(alloc, limit);
     let (status, other) = run_narrow(alloc, lines, is_err, &mut narrow)?;
     if whole.get(..limit.min(whole.len())) != Some(narrow.took.as_slice()) {
-        print!(rt; " another text at {limit}")?;
+        say(rt, &[Text(" another text at "), Number(limit as u64)])?;
     } else if Some(limit) == whole.len().checked_sub(1) || limit == 0 {
-        print!(rt; " at {limit} {}", shown(alloc, &status, b"", &other)?)?;
+        let text = shown(alloc, &status, b"", &other)?;
+        say(
+            rt,
+            &[Text(" at "), Number(limit as u64), Text(" "), Text(&text)],
+        )?;
     }
     Ok(())
 }
 
 /// A command whose output takes so many bytes and no more, from more than enough down to none: what it took is
 /// the front of the whole text each time, or else it is told. Or the same of the error stream.
-pub fn each_write<P: Print>(
-    rt: &P,
+pub fn each_write(
+    rt: &HostRuntime,
     alloc: Global,
     lines: (&str, &str),
     is_err: bool,
 ) -> Result<(), Stop> {
     let mut wide = Narrow::of(alloc, MOST as usize);
     let (status, other) = run_narrow(alloc, lines, is_err, &mut wide)?;
-    print!(rt; "{}", shown(alloc, &status, &wide.took, &other)?)?;
+    say(rt, &[Text(&shown(alloc, &status, &wide.took, &other)?)])?;
     for limit in (0..MOST as usize).rev() {
         tell_part(rt, alloc, lines, is_err, (limit, &wide.took))?;
     }

@@ -4,10 +4,11 @@
 mod cases;
 mod edges;
 
-use case_words::{Stop, head_of};
+use case_words::Piece::Text;
+use case_words::{Stop, head_of, say, say_line};
 use std::alloc::Global;
 
-fn answer<P: Print>(rt: &P, alloc: Global, name: &str, kind: &str, rest: &str) -> Result<(), Stop> {
+fn answer(rt: &HostRuntime, alloc: Global, name: &str, kind: &str, rest: &str) -> Result<(), Stop> {
     match kind {
         "run" => cases::run(rt, alloc, name, rest),
         "wants" => cases::behind_wants(rt, alloc, rest),
@@ -18,14 +19,14 @@ fn answer<P: Print>(rt: &P, alloc: Global, name: &str, kind: &str, rest: &str) -
         "puts" => cases::each_call(rt, alloc, (name, rest), true),
         "writes" => cases::each_write(rt, alloc, (name, rest), false),
         "tells" => cases::each_write(rt, alloc, (name, rest), true),
-        _ => Ok(print!(rt; "no such case")?),
+        _ => say(rt, &[Text("no such case")]),
     }
 }
 
 /// Prints what came of a case.
-pub fn answer_line<P: Print>(rt: &P, alloc: Global, line: &str) -> Result<(), Stop> {
+pub fn answer_line(rt: &HostRuntime, alloc: Global, line: &str) -> Result<(), Stop> {
     if line.starts_with('#') {
-        return Ok(println!(rt; "{line}")?);
+        return say_line(rt, &[Text(line)]);
     }
     let (head, rest) = head_of(line);
     if head == "work" {
@@ -34,5 +35,5 @@ pub fn answer_line<P: Print>(rt: &P, alloc: Global, line: &str) -> Result<(), St
     } else {
         answer(rt, alloc, "replay", head, rest)?;
     }
-    Ok(println!(rt;)?)
+    say_line(rt, &[])
 }

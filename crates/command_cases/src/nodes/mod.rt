@@ -5,10 +5,11 @@ mod running;
 mod settings;
 mod watched;
 
-use case_words::Stop;
+use case_words::Piece::Text;
+use case_words::{Stop, say_line};
 use std::alloc::Global;
 
-fn answer<P: Print>(rt: &P, alloc: Global, head: &str, text: &str) -> Result<(), Stop> {
+fn answer(rt: &HostRuntime, alloc: Global, head: &str, text: &str) -> Result<(), Stop> {
     let words: Vec<&str> = head.split_whitespace().collect(alloc)?;
     match words.as_slice() {
         ["each", what, rest @ ..] => running::each(rt, alloc, what, rest, text),
@@ -18,9 +19,9 @@ fn answer<P: Print>(rt: &P, alloc: Global, head: &str, text: &str) -> Result<(),
 }
 
 /// Prints what came of a case.
-pub fn answer_line<P: Print>(rt: &P, alloc: Global, line: &str) -> Result<(), Stop> {
+pub fn answer_line(rt: &HostRuntime, alloc: Global, line: &str) -> Result<(), Stop> {
     if line.is_empty() || line.starts_with('#') {
-        return Ok(println!(rt; "{line}")?);
+        return say_line(rt, &[Text(line)]);
     }
     let (head, text) = line.split_once(" : ").unwrap_or((line, ""));
     answer(rt, alloc, head, text)

@@ -2,7 +2,8 @@
 
 use crate::nodes::settings::{Setting, connections_of, file_of, setting_of};
 use crate::nodes::watched::Watched;
-use case_words::{Stop, push_text, text_of};
+use case_words::Piece::{Number, Text};
+use case_words::{Stop, push_text, say, say_line, text_of};
 use fuxi_io::{MemDisk, MemSink, MemSource, Status};
 use std::alloc::Global;
 
@@ -63,26 +64,36 @@ fn words_of(alloc: Global, setting: &Setting) -> Result<Vec<String>, Stop> {
 }
 
 // Prints a number of bytes, and the bytes where they are few.
-fn tell_bytes<P: Print>(rt: &P, alloc: Global, bytes: &[u8]) -> Result<(), Stop> {
-    print!(rt; " {}", bytes.len())?;
+fn tell_bytes(rt: &HostRuntime, alloc: Global, bytes: &[u8]) -> Result<(), Stop> {
+    say(rt, &[Text(" "), Number(bytes.len() as u64)])?;
     if bytes.len() <= MOST_SHOWN {
-        print!(rt; ":{}", hex::encode(alloc, bytes)?)?;
+        say(rt, &[Text(":"), Text(&hex::encode(alloc, bytes)?)])?;
     }
     Ok(())
 }
 
 // Prints the line that tells of a status, behind a blank and without its newline; nothing where there is none.
-fn tell_report<P: Print>(rt: &P, alloc: Global, report: &[u8]) -> Result<(), Stop> {
+fn tell_report(rt: &HostRuntime, alloc: Global, report: &[u8]) -> Result<(), Stop> {
     match report {
         [] => Ok(()),
-        [line @ .., b'\n'] => Ok(print!(rt; " {}", text_of(alloc, line)?)?),
-        line => Ok(print!(rt; " {}", text_of(alloc, line)?)?),
+        [line @ .., b'\n'] => say(rt, &[Text(" "), Text(&text_of(alloc, line)?)]),
+        line => say(rt, &[Text(" "), Text(&text_of(alloc, line)?)]),
     }
 }
 
 // Prints how many calls of the door failed, its last address, and what its connections took.
-fn tell_door<P: Print>(rt: &P, alloc: Global, door: &Watched) -> Result<(), Stop> {
-    print!(rt; " {} <{}>", door.faults, text_of(alloc, &door.seen.addr)?)?;
+fn tell_door(rt: &HostRuntime, alloc: Global, door: &Watched) -> Result<(), Stop> {
+    let addr = text_of(alloc, &door.seen.addr)?;
+    say(
+        rt,
+        &[
+            Text(" "),
+            Number(door.faults),
+            Text(" <"),
+            Text(&addr),
+            Text(">"),
+        ],
+    )?;
     for took in &door.seen.took {
         tell_bytes(rt, alloc, took)?;
     }
@@ -90,8 +101,8 @@ fn tell_door<P: Print>(rt: &P, alloc: Global, door: &Watched) -> Result<(), Stop
 }
 
 // Runs a node over a door and a disk, and prints its status with the line that tells of it, and its text.
-fn run_over<P: Print>(
-    rt: &P,
+fn run_over(
+    rt: &HostRuntime,
     alloc: Global,
     setting: &Setting,
     text: &str,
@@ -109,15 +120,18 @@ fn run_over<P: Print>(
         disk,
         door,
     );
-    print!(rt; "{}", status.code())?;
+    say(rt, &[Number(status.code() as u64)])?;
     tell_report(rt, alloc, err.bytes())?;
-    print!(rt; " [{}]", text_of(alloc, out.bytes())?)?;
+    say(
+        rt,
+        &[Text(" ["), Text(&text_of(alloc, out.bytes())?), Text("]")],
+    )?;
     Ok(status)
 }
 
 // Runs a node over what its connections give and what its file has, and prints what came of it.
-fn run_with<P: Print>(
-    rt: &P,
+fn run_with(
+    rt: &HostRuntime,
     alloc: Global,
     setting: &Setting,
     text: &str,
@@ -128,10 +142,10 @@ fn run_with<P: Print>(
     let status = run_over(rt, alloc, setting, text, (&mut disk, &mut door))?;
     tell_door(rt, alloc, &door)?;
     if setting.has_file() {
-        print!(rt; " file")?;
+        say(rt, &[Text(" file")])?;
         tell_bytes(rt, alloc, disk.bytes())?;
     }
-    println!(rt;)?;
+    say_line(rt, &[])?;
     Ok(Ran {
         status,
         faults: door.faults,
@@ -139,8 +153,8 @@ fn run_with<P: Print>(
 }
 
 // Runs a case; None where its words stand for none.
-fn run<P: Print>(
-    rt: &P,
+fn run(
+    rt: &HostRuntime,
     alloc: Global,
     setting: &Setting,
     connections: &[&str],
@@ -152,20 +166,20 @@ fn run<P: Print>(
             Ok(Some(run_with(rt, alloc, setting, text, (gives, file))?))
         }
         _ => {
-            println!(rt; "no such case")?;
+            say_line(rt, &[Text("no such case")])?;
             Ok(None)
         }
     }
 }
 
 /// A case.
-pub fn once<P: Print>(rt: &P, alloc: Global, words: &[&str], text: &str) -> Result<(), Stop> {
+pub fn once(rt: &HostRuntime, alloc: Global, words: &[&str], text: &str) -> Result<(), Stop> {
     match setting_of(words) {
         Some((setting, connections)) => {
             run(rt, alloc, &setting, connections, text)?;
             Ok(())
         }
-        None => Ok(println!(rt; "no such case")?),
+        None => say_line(rt, &[Text("no such case")]),
     }
 }
 
@@ -181,18 +195,18 @@ fn has_failed(what: &str, ran: &Ran) -> bool {
 
 /// A case where the first call of the door, the sink, the disk or the source fails, the second, and so on, until none fails: each
 /// in a line, behind the number of the call.
-pub fn each<P: Print>(
-    rt: &P,
+pub fn each(
+    rt: &HostRuntime,
     alloc: Global,
     what: &str,
     words: &[&str],
     text: &str,
 ) -> Result<(), Stop> {
     let Some((setting, connections)) = setting_of(words) else {
-        return Ok(println!(rt; "no such case")?);
+        return say_line(rt, &[Text("no such case")]);
     };
     for call in 1..=MOST {
-        print!(rt; "{call} ")?;
+        say(rt, &[Number(call as u64), Text(" ")])?;
         let mut now = setting;
         now.fail(what, call);
         match run(rt, alloc, &now, connections, text)? {
@@ -205,8 +219,8 @@ pub fn each<P: Print>(
 
 // Runs a case over a disk that serves so many writes and syncs, and behind it what a crash leaves, with all that was written and with what was
 // synced alone: each is opened by a run without lines.
-fn run_stopped<P: Print>(
-    rt: &P,
+fn run_stopped(
+    rt: &HostRuntime,
     alloc: Global,
     setting: &Setting,
     text: &str,
@@ -220,23 +234,23 @@ fn run_stopped<P: Print>(
     let mut door = Watched::of(alloc, Vec::new(alloc), 0)?;
     let status = run_over(rt, alloc, setting, text, (&mut disk, &mut door))?;
     for (word, all) in [(" all ", true), (" synced ", false)] {
-        print!(rt; "{word}")?;
+        say(rt, &[Text(word)])?;
         let mut image = disk.image(alloc, all)?;
         image.room(100)?;
         run_over(rt, alloc, setting, "", (&mut image, &mut door))?;
     }
-    println!(rt;)?;
+    say_line(rt, &[])?;
     Ok(Some(status))
 }
 
 /// A case without connections where the disk serves no write and no sync, one, and so on, until it serves all: each in a line, behind the number of
 /// those that it serves, with what is found behind a crash.
-pub fn stops<P: Print>(rt: &P, alloc: Global, words: &[&str], text: &str) -> Result<(), Stop> {
+pub fn stops(rt: &HostRuntime, alloc: Global, words: &[&str], text: &str) -> Result<(), Stop> {
     let Some((setting, [])) = setting_of(words) else {
-        return Ok(println!(rt; "no such case")?);
+        return say_line(rt, &[Text("no such case")]);
     };
     for calls in 0..MOST {
-        print!(rt; "{calls} ")?;
+        say(rt, &[Number(calls as u64), Text(" ")])?;
         if run_stopped(rt, alloc, &setting, text, calls)? != Some(Status::DiskFault) {
             break;
         }

@@ -1,29 +1,30 @@
-use case_words::{Stop, push_text, text_of};
+use case_words::Piece::{Number, Text};
+use case_words::{Stop, push_text, say_line, text_of};
 use schedule_text::{Event, LineFault, read_event, write_event};
 use std::alloc::Global;
 
-fn tell_fault<P: Print>(rt: &P, fault: LineFault) -> Result<(), Stop> {
+fn tell_fault(rt: &HostRuntime, fault: LineFault) -> Result<(), Stop> {
     match fault {
-        LineFault::UnknownWord => println!(rt; "UnknownWord")?,
-        LineFault::WrongCount => println!(rt; "WrongCount")?,
-        LineFault::BadNumber(place) => println!(rt; "BadNumber {place}")?,
-        LineFault::Range(place) => println!(rt; "Range {place}")?,
+        LineFault::UnknownWord => say_line(rt, &[Text("UnknownWord")])?,
+        LineFault::WrongCount => say_line(rt, &[Text("WrongCount")])?,
+        LineFault::BadNumber(place) => say_line(rt, &[Text("BadNumber "), Number(place as u64)])?,
+        LineFault::Range(place) => say_line(rt, &[Text("Range "), Number(place as u64)])?,
         LineFault::OutOfMemory => return Err(Stop::OutOfMemory),
     }
     Ok(())
 }
 
 // Prints an event as it is written.
-fn tell<P: Print>(rt: &P, alloc: Global, event: &Event) -> Result<(), Stop> {
+fn tell(rt: &HostRuntime, alloc: Global, event: &Event) -> Result<(), Stop> {
     let mut bytes = Vec::new(alloc);
     match write_event(event, &mut bytes) {
-        Ok(()) => Ok(println!(rt; "{}", text_of(alloc, &bytes)?)?),
+        Ok(()) => say_line(rt, &[Text(&text_of(alloc, &bytes)?)]),
         Err(_) => Err(Stop::OutOfMemory),
     }
 }
 
 /// Prints the event of a line, or the line's fault.
-pub fn event<P: Print>(rt: &P, alloc: Global, line: &str) -> Result<(), Stop> {
+pub fn event(rt: &HostRuntime, alloc: Global, line: &str) -> Result<(), Stop> {
     let mut bytes = Vec::new(alloc);
     push_text(&mut bytes, line)?;
     match read_event(alloc, &bytes) {

@@ -1,31 +1,39 @@
 ghost use Rattle.std.specs.Prelude.{◌≤◌};
 
-use case_words::{Stop, asks_of, head_of, numbers_of, text_of};
+use case_words::Piece::{Number, Text};
+use case_words::{Stop, asks_of, head_of, numbers_of, say, say_line, text_of};
 use schedule_unit::{AppNo, GroupNo, Job, JobFault, UnitNo, read_number, write_number};
 use std::alloc::Global;
 
 /// Prints the number that a word is.
-pub fn number<P: Print>(rt: &P, word: &str) -> Result<(), Stop> {
+pub fn number(rt: &HostRuntime, word: &str) -> Result<(), Stop> {
     match read_number(word.as_bytes()) {
-        Some(number) => println!(rt; "{number}")?,
-        None => println!(rt; "none")?,
+        Some(number) => say_line(rt, &[Number(number)])?,
+        None => say_line(rt, &[Text("none")])?,
     }
     Ok(())
 }
 
 /// Prints numbers as they are written, one behind the other.
-pub fn decimal<P: Print>(rt: &P, alloc: Global, rest: &str) -> Result<(), Stop> {
+pub fn decimal(rt: &HostRuntime, alloc: Global, rest: &str) -> Result<(), Stop> {
     let mut out = Vec::new(alloc);
     for number in numbers_of(alloc, rest)? {
         write_number(number, &mut out)?;
         out.push(b' ')?;
     }
-    println!(rt; "{}", text_of(alloc, &out)?)?;
-    Ok(())
+    say_line(rt, &[Text(&text_of(alloc, &out)?)])
 }
 
-fn tell<P: Print>(rt: &P, job: &Job) -> Result<(), Stop> {
-    print!(rt; "job {} of group {}", job.app().0, job.group().0)?;
+fn tell(rt: &HostRuntime, job: &Job) -> Result<(), Stop> {
+    say(
+        rt,
+        &[
+            Text("job "),
+            Number(job.app().0 as u64),
+            Text(" of group "),
+            Number(job.group().0 as u64),
+        ],
+    )?;
     for number in 0..job.units() {
         let unit = job.unit(UnitNo(number));
         print!(rt;
@@ -33,12 +41,12 @@ fn tell<P: Print>(rt: &P, job: &Job) -> Result<(), Stop> {
             unit.priority, unit.size.q, unit.most
         )?;
     }
-    println!(rt;)?;
+    say_line(rt, &[])?;
     Ok(())
 }
 
 // Prints a copy.
-fn tell_copy<P: Print>(rt: &P, alloc: Global, job: &Job) -> Result<(), Stop> {
+fn tell_copy(rt: &HostRuntime, alloc: Global, job: &Job) -> Result<(), Stop> {
     let copy = job.copy(alloc)?;
     tell(rt, &copy)
 }
@@ -55,11 +63,11 @@ fn made(alloc: Global, resources: u8, units: &str) -> Result<Job, JobFault>
 }
 
 /// Prints a job in a cluster of so many resources, with the units that `/` parts.
-pub fn job<P: Print>(rt: &P, alloc: Global, rest: &str) -> Result<(), Stop> {
+pub fn job(rt: &HostRuntime, alloc: Global, rest: &str) -> Result<(), Stop> {
     let (resources, units) = head_of(rest);
     let resources = match resources.parse::<u8>() {
         Ok(resources) if 1 <= resources && resources <= 8 => resources,
-        _ => return Ok(println!(rt; "no number of resources")?),
+        _ => return say_line(rt, &[Text("no number of resources")]),
     };
     match made(alloc, resources, units) {
         Ok(job) => tell_copy(rt, alloc, &job),

@@ -8,10 +8,11 @@ mod reading;
 mod vectors;
 mod writing;
 
-use case_words::{Stop, head_of};
+use case_words::Piece::Text;
+use case_words::{Stop, head_of, say_line};
 use std::alloc::Global;
 
-fn answer<P: Print>(rt: &P, alloc: Global, call: &str, rest: &str) -> Result<(), Stop> {
+fn answer(rt: &HostRuntime, alloc: Global, call: &str, rest: &str) -> Result<(), Stop> {
     match call {
         "number" => jobs::number(rt, rest),
         "decimal" => jobs::decimal(rt, alloc, rest),
@@ -29,9 +30,9 @@ fn answer<P: Print>(rt: &P, alloc: Global, call: &str, rest: &str) -> Result<(),
 }
 
 /// Prints what a line answers.
-pub fn answer_line<P: Print>(rt: &P, alloc: Global, line: &str) -> Result<(), Stop> {
+pub fn answer_line(rt: &HostRuntime, alloc: Global, line: &str) -> Result<(), Stop> {
     if line.starts_with('#') {
-        return Ok(println!(rt; "{line}")?);
+        return say_line(rt, &[Text(line)]);
     }
     let (call, rest) = head_of(line);
     answer(rt, alloc, call, rest)

@@ -1,4 +1,5 @@
-use case_words::{Stop, head_of, number_of, numbers_of, push_text, text_of};
+use case_words::Piece::Text;
+use case_words::{Stop, head_of, number_of, numbers_of, push_text, say, say_line, text_of};
 use fuxi_io::{Failed, Got, LineReader, MemSource, Source};
 use std::alloc::Global;
 
@@ -27,17 +28,21 @@ impl Source for Drops {
 }
 
 // Prints a line, if it is one of the first ones and short.
-fn tell_line<P: Print>(rt: &P, alloc: Global, reader: &LineReader) -> Result<(), Stop> {
+fn tell_line(rt: &HostRuntime, alloc: Global, reader: &LineReader) -> Result<(), Stop> {
     if reader.number() < 10 && reader.line().len() < 100 {
         let mark = if reader.ended() { "" } else { " unended" };
-        print!(rt; "[{}]{mark} ", text_of(alloc, reader.line())?)?;
+        let line = text_of(alloc, reader.line())?;
+        say(
+            rt,
+            &[Text("["), Text(&line), Text("]"), Text(mark), Text(" ")],
+        )?;
     }
     Ok(())
 }
 
 // Prints what the reader gives, and then its answer twice.
-fn read_to_end<S: Source, P: Print>(
-    rt: &P,
+fn read_to_end<S: Source>(
+    rt: &HostRuntime,
     alloc: Global,
     source: &mut S,
     reader: &mut LineReader,
@@ -59,38 +64,38 @@ fn read_to_end<S: Source, P: Print>(
 }
 
 /// Prints the lines of a source, and then the reader's last answer twice; it ends no line.
-pub fn read_all<S: Source, P: Print>(rt: &P, alloc: Global, source: &mut S) -> Result<(), Stop> {
+pub fn read_all<S: Source>(rt: &HostRuntime, alloc: Global, source: &mut S) -> Result<(), Stop> {
     let mut reader = LineReader::new(alloc)?;
     read_to_end(rt, alloc, source, &mut reader)
 }
 
 /// Prints the lines of a text, where the call with this number fails; 0 for none.
-pub fn lines<P: Print>(rt: &P, alloc: Global, rest: &str) -> Result<(), Stop> {
+pub fn lines(rt: &HostRuntime, alloc: Global, rest: &str) -> Result<(), Stop> {
     let (fails, text) = head_of(rest);
     let mut bytes = Vec::new(alloc);
     push_text(&mut bytes, text)?;
     let mut source = MemSource::of(bytes, numbers_of(alloc, fails)?);
     read_all(rt, alloc, &mut source)?;
-    Ok(println!(rt;)?)
+    say_line(rt, &[])
 }
 
 /// The same where each read gives one byte.
-pub fn byte_by_byte<P: Print>(rt: &P, alloc: Global, text: &str) -> Result<(), Stop> {
+pub fn byte_by_byte(rt: &HostRuntime, alloc: Global, text: &str) -> Result<(), Stop> {
     let mut source = Drops {
         bytes: Vec::new(alloc),
         at: 0,
     };
     push_text(&mut source.bytes, text)?;
     read_all(rt, alloc, &mut source)?;
-    Ok(println!(rt;)?)
+    say_line(rt, &[])
 }
 
 /// Prints the lines of so many of this byte and a text behind them.
-pub fn repeated<P: Print>(rt: &P, alloc: Global, byte: u8, rest: &str) -> Result<(), Stop> {
+pub fn repeated(rt: &HostRuntime, alloc: Global, byte: u8, rest: &str) -> Result<(), Stop> {
     let (count, behind) = head_of(rest);
     let mut bytes = vec![in alloc; byte; number_of(count).min(2_000_000) as usize]?;
     push_text(&mut bytes, behind)?;
     let mut source = MemSource::of(bytes, Vec::new(alloc));
     read_all(rt, alloc, &mut source)?;
-    Ok(println!(rt;)?)
+    say_line(rt, &[])
 }

@@ -1,41 +1,46 @@
-use case_words::{Stop, numbers_of, put_numbers};
+use case_words::Piece::{Text, Truth};
+use case_words::{Stop, numbers_of, put_numbers, say, say_line};
 use res_vector::{Res, Sum, are_quantities, at_least, fits, is_zero, minus, sum_fits, times};
 use std::alloc::Global;
 
-fn tell<P: Print>(rt: &P, sum: &Sum) -> Result<(), Stop> {
-    print!(rt; "places")?;
+fn tell(rt: &HostRuntime, sum: &Sum) -> Result<(), Stop> {
+    say(rt, &[Text("places")])?;
     for place in sum.q {
         print!(rt; " {place}")?;
     }
-    println!(rt;)?;
+    say_line(rt, &[])?;
     Ok(())
 }
 
-fn tell_test<P: Print>(rt: &P, is_so: bool) -> Result<(), Stop> {
-    println!(rt; "{is_so}")?;
+fn tell_test(rt: &HostRuntime, is_so: bool) -> Result<(), Stop> {
+    say_line(rt, &[Truth(is_so)])?;
     Ok(())
 }
 
-fn tell_minus<P: Print>(rt: &P, a: &Res, b: &Res) -> Result<(), Stop> {
+fn tell_minus(rt: &HostRuntime, a: &Res, b: &Res) -> Result<(), Stop> {
     if fits(b, a) {
         tell(rt, &times(&minus(a, b), 1))
     } else {
-        Ok(println!(rt; "not within")?)
+        say_line(rt, &[Text("not within")])
     }
 }
 
-fn tell_quantities<P: Print>(rt: &P, alloc: Global, text: &str) -> Result<(), Stop> {
+fn tell_quantities(rt: &HostRuntime, alloc: Global, text: &str) -> Result<(), Stop> {
     let numbers = numbers_of(alloc, text)?;
-    println!(rt;
-        "are {} zero {}",
-        are_quantities(&numbers),
-        is_zero(&numbers)
+    say_line(
+        rt,
+        &[
+            Text("are "),
+            Truth(are_quantities(&numbers)),
+            Text(" zero "),
+            Truth(is_zero(&numbers)),
+        ],
     )?;
     Ok(())
 }
 
 /// Prints the answer of a call of two vectors, or of a vector and a number, which `/` parts.
-pub fn vectors<P: Print>(rt: &P, alloc: Global, call: &str, rest: &str) -> Result<(), Stop> {
+pub fn vectors(rt: &HostRuntime, alloc: Global, call: &str, rest: &str) -> Result<(), Stop> {
     let (first, second) = rest.split_once('/').unwrap_or((rest, ""));
     let (mut a, mut b) = (Res { q: [0; 8] }, Res { q: [0; 8] });
     put_numbers(&mut a.q, first);
@@ -47,6 +52,6 @@ pub fn vectors<P: Print>(rt: &P, alloc: Global, call: &str, rest: &str) -> Resul
         "times" => tell(rt, &times(&a, b.q[0].min(4_294_967_295) as u32)),
         "sum_fits" => tell_test(rt, sum_fits(&times(&a, 3), &b)),
         "quantities" => tell_quantities(rt, alloc, first),
-        _ => Ok(println!(rt; "no such call")?),
+        _ => say_line(rt, &[Text("no such call")]),
     }
 }

@@ -1,5 +1,6 @@
 use crate::base::reading::read_all;
-use case_words::{Stop, head_of, numbers_of, push_text, text_of};
+use case_words::Piece::Text;
+use case_words::{Stop, head_of, numbers_of, push_text, say, say_line, text_of};
 use fuxi_io::{MemSink, Sink, StdSink, StdSource, write_all_of};
 use std::alloc::Global;
 use std::io;
@@ -38,19 +39,19 @@ impl Write for Breaking {
 }
 
 // Writes words one after another, and prints each answer.
-fn write_words<O: Sink, P: Print>(rt: &P, out: &mut O, words: &str) -> Result<(), Stop> {
+fn write_words<O: Sink>(rt: &HostRuntime, out: &mut O, words: &str) -> Result<(), Stop> {
     for word in words.split(' ') {
         match write_all_of(out, word.as_bytes()) {
-            Ok(()) => print!(rt; "ok ")?,
-            Err(_) => print!(rt; "fault ")?,
+            Ok(()) => say(rt, &[Text("ok ")])?,
+            Err(_) => say(rt, &[Text("fault ")])?,
         }
     }
     Ok(())
 }
 
 // Writes words into a sink that is given so much room, and prints what it took.
-fn write_into<P: Print>(
-    rt: &P,
+fn write_into(
+    rt: &HostRuntime,
     alloc: Global,
     sink: &mut MemSink,
     room: &str,
@@ -64,7 +65,7 @@ fn write_into<P: Print>(
 }
 
 /// Prints the answers of writing words into a sink with so much room, of whose calls these fail: `ROOM / FAILS / WORDS`.
-pub fn write<P: Print>(rt: &P, alloc: Global, rest: &str) -> Result<(), Stop> {
+pub fn write(rt: &HostRuntime, alloc: Global, rest: &str) -> Result<(), Stop> {
     let (room, rest) = rest.split_once(" / ").unwrap_or((rest, ""));
     let (fails, words) = rest.split_once(" / ").unwrap_or((rest, ""));
     let mut sink = MemSink::of(alloc, numbers_of(alloc, fails)?);
@@ -72,28 +73,28 @@ pub fn write<P: Print>(rt: &P, alloc: Global, rest: &str) -> Result<(), Stop> {
 }
 
 // A source over a slice.
-fn over_memory<P: Print>(rt: &P, alloc: Global, text: &str) -> Result<(), Stop> {
+fn over_memory(rt: &HostRuntime, alloc: Global, text: &str) -> Result<(), Stop> {
     let mut bytes = Vec::new(alloc);
     push_text(&mut bytes, text)?;
     read_all(rt, alloc, &mut StdSource::of(bytes.as_slice()))
 }
 
 // A source and sinks that fail, or are full.
-fn over_breaking<P: Print>(rt: &P, alloc: Global, words: &str) -> Result<(), Stop> {
+fn over_breaking(rt: &HostRuntime, alloc: Global, words: &str) -> Result<(), Stop> {
     read_all(rt, alloc, &mut StdSource::of(Breaking { works: true }))?;
-    print!(rt; "; ")?;
+    say(rt, &[Text("; ")])?;
     write_words(rt, &mut StdSink::of(Breaking { works: true }), words)?;
-    print!(rt; "; ")?;
+    say(rt, &[Text("; ")])?;
     let mut full = [0; 3];
     write_words(rt, &mut StdSink::of(full.as_mut_slice()), words)
 }
 
 /// Prints the answers of adapters over a reader and writers of std: `memory` over a slice, `breaking` over ones that fail.
-pub fn adapters<P: Print>(rt: &P, alloc: Global, rest: &str) -> Result<(), Stop> {
+pub fn adapters(rt: &HostRuntime, alloc: Global, rest: &str) -> Result<(), Stop> {
     let (over, words) = head_of(rest);
     match over {
         "memory" => over_memory(rt, alloc, words)?,
         _ => over_breaking(rt, alloc, words)?,
     }
-    Ok(println!(rt;)?)
+    say_line(rt, &[])
 }

@@ -1,7 +1,8 @@
 //! Calls of frames.
 
 use crate::channels::telling::{Told, tell_change, tell_entries};
-use case_words::Stop;
+use case_words::Piece::{Number, Text};
+use case_words::{Stop, say, say_line};
 use party_ledgers::{Body, JoinLedger, Kind, Packet, RowLedger};
 use schedule_unit::{Party, Role};
 use std::alloc::Global;
@@ -16,31 +17,59 @@ fn kind_word(kind: Kind) -> &'static str {
     }
 }
 
-fn tell_party<P: Print>(rt: &P, party: &Party) -> Result<(), Stop> {
+fn tell_party(rt: &HostRuntime, party: &Party) -> Result<(), Stop> {
     match party.role {
-        Role::Master => print!(rt; "master/{} ", party.inc)?,
-        Role::Agent => print!(rt; "agent/{}/{} ", party.number, party.inc)?,
-        Role::App => print!(rt; "app/{}/{} ", party.number, party.inc)?,
+        Role::Master => say(rt, &[Text("master/"), Number(party.inc), Text(" ")])?,
+        Role::Agent => say(
+            rt,
+            &[
+                Text("agent/"),
+                Number(party.number as u64),
+                Text("/"),
+                Number(party.inc),
+                Text(" "),
+            ],
+        )?,
+        Role::App => say(
+            rt,
+            &[
+                Text("app/"),
+                Number(party.number as u64),
+                Text("/"),
+                Number(party.inc),
+                Text(" "),
+            ],
+        )?,
     }
     Ok(())
 }
 
-fn tell_row<P: Print>(rt: &P, row: &RowLedger) -> Result<(), Stop> {
+fn tell_row(rt: &HostRuntime, row: &RowLedger) -> Result<(), Stop> {
     tell_entries(rt, row)?;
-    println!(rt; "  {} entries", row.len())?;
+    say_line(
+        rt,
+        &[Text("  "), Number(row.len() as u64), Text(" entries")],
+    )?;
     Ok(())
 }
 
-fn tell_join<P: Print>(rt: &P, join: &JoinLedger) -> Result<(), Stop> {
-    println!(rt; "  epoch {}", join.epoch())?;
+fn tell_join(rt: &HostRuntime, join: &JoinLedger) -> Result<(), Stop> {
+    say_line(rt, &[Text("  epoch "), Number(join.epoch())])?;
     tell_row(rt, join.table())
 }
 
-fn tell_body<P: Print>(rt: &P, body: &Body) -> Result<(), Stop> {
+fn tell_body(rt: &HostRuntime, body: &Body) -> Result<(), Stop> {
     match body {
         Body::Nothing => Ok(()),
         Body::Row(row) => tell_row(rt, row),
-        Body::RowDelta(change) => Ok(println!(rt; "  {} changes of a row", change.len())?),
+        Body::RowDelta(change) => say_line(
+            rt,
+            &[
+                Text("  "),
+                Number(change.len() as u64),
+                Text(" changes of a row"),
+            ],
+        ),
         Body::Join(join) => tell_join(rt, join),
         Body::Grants(tally) => tally.tell(rt),
         Body::Demand(tally) => tally.tell(rt),
@@ -59,24 +88,29 @@ fn length_of(packet: &Packet) -> usize {
 
 /// Prints a packet: its sender, its receiver, its kind, its place and how many bytes its frame has, and then what
 /// it brings.
-pub fn tell<P: Print>(rt: &P, packet: &Packet) -> Result<(), Stop> {
+pub fn tell(rt: &HostRuntime, packet: &Packet) -> Result<(), Stop> {
     tell_party(rt, &packet.from)?;
     tell_party(rt, &packet.to)?;
-    println!(rt;
-        "{} {}.{} {}",
-        kind_word(packet.kind),
-        packet.place.inc,
-        packet.place.seq,
-        length_of(packet)
+    say_line(
+        rt,
+        &[
+            Text(kind_word(packet.kind)),
+            Text(" "),
+            Number(packet.place.inc),
+            Text("."),
+            Number(packet.place.seq),
+            Text(" "),
+            Number(length_of(packet) as u64),
+        ],
     )?;
     tell_body(rt, &packet.body)
 }
 
 /// Prints a fault: its name, and the number that was found.
-pub fn tell_fault<P: Print>(rt: &P, fault: FrameFault) -> Result<(), Stop> {
+pub fn tell_fault(rt: &HostRuntime, fault: FrameFault) -> Result<(), Stop> {
     match fault.found() {
-        Some(found) => println!(rt; "{} {found}", fault.name())?,
-        None => println!(rt; "{}", fault.name())?,
+        Some(found) => say_line(rt, &[Text(fault.name()), Text(" "), Number(found as u64)])?,
+        None => say_line(rt, &[Text(fault.name())])?,
     }
     Ok(())
 }
@@ -92,8 +126,8 @@ fn is_written_so(alloc: Global, packet: &Packet, bytes: &[u8]) -> Result<bool, S
 }
 
 // Prints a packet that was read of so many of the bytes, and how its own frame is.
-fn tell_read<P: Print>(
-    rt: &P,
+fn tell_read(
+    rt: &HostRuntime,
     alloc: Global,
     packet: &Packet,
     size: usize,
@@ -101,18 +135,25 @@ fn tell_read<P: Print>(
 ) -> Result<(), Stop> {
     tell(rt, packet)?;
     let Some(frame) = bytes.get(..size) else {
-        return Ok(println!(rt; "too long")?);
+        return say_line(rt, &[Text("too long")]);
     };
     if is_written_so(alloc, packet, frame)? {
-        println!(rt; "  written so, {} bytes behind", bytes.len() - frame.len())?;
+        say_line(
+            rt,
+            &[
+                Text("  written so, "),
+                Number((bytes.len() - frame.len()) as u64),
+                Text(" bytes behind"),
+            ],
+        )?;
     } else {
-        println!(rt; "  written otherwise")?;
+        say_line(rt, &[Text("  written otherwise")])?;
     }
     Ok(())
 }
 
 /// Prints the packet whose frame the bytes begin with, and how its own frame is, or the fault.
-pub fn read<P: Print>(rt: &P, alloc: Global, bytes: &[u8]) -> Result<(), Stop> {
+pub fn read(rt: &HostRuntime, alloc: Global, bytes: &[u8]) -> Result<(), Stop> {
     match read_packet(alloc, bytes) {
         Ok((packet, size)) => tell_read(rt, alloc, &packet, size, bytes),
         Err(fault) => tell_fault(rt, fault),
@@ -125,10 +166,18 @@ fn is_short(alloc: Global, bytes: &[u8]) -> bool {
 }
 
 /// Prints how many of the proper beginnings of the bytes are short.
-pub fn cut<P: Print>(rt: &P, alloc: Global, bytes: &[u8]) -> Result<(), Stop> {
+pub fn cut(rt: &HostRuntime, alloc: Global, bytes: &[u8]) -> Result<(), Stop> {
     let short = (0..bytes.len())
         .filter(|end| is_short(alloc, &bytes[..*end]))
         .count();
-    println!(rt; "{short} of {} beginnings are short", bytes.len())?;
+    say_line(
+        rt,
+        &[
+            Number(short as u64),
+            Text(" of "),
+            Number(bytes.len() as u64),
+            Text(" beginnings are short"),
+        ],
+    )?;
     Ok(())
 }

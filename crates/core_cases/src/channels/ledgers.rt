@@ -1,7 +1,8 @@
 //! Calls of the four ledgers.
 
 use crate::channels::telling::Told;
-use case_words::Stop;
+use case_words::Piece::{Number, Text, Truth};
+use case_words::{Stop, say_line};
 use ledger_law::{BodyFault, Ledger};
 use party_ledgers::{Demand, Grants, JoinLedger, RowLedger};
 use std::alloc::Global;
@@ -24,45 +25,54 @@ fn rewritten<L: Ledger>(alloc: Global, form: Form, body: &[u8]) -> Result<Vec<u8
 }
 
 // Prints whether the body is read, and the same is written of what was read.
-fn read<L: Ledger, P: Print>(rt: &P, alloc: Global, form: Form, body: &[u8]) -> Result<(), Stop> {
+fn read<L: Ledger>(rt: &HostRuntime, alloc: Global, form: Form, body: &[u8]) -> Result<(), Stop> {
     match rewritten::<L>(alloc, form, body) {
-        Ok(bytes) if bytes.as_slice() == body => println!(rt; "{} bytes read back", body.len())?,
-        Ok(_) => println!(rt; "another body is written")?,
-        Err(BodyFault::NotBody) => println!(rt; "no body")?,
+        Ok(bytes) if bytes.as_slice() == body => say_line(
+            rt,
+            &[Number(body.len() as u64), Text(" bytes read back")],
+        )?,
+        Ok(_) => say_line(rt, &[Text("another body is written")])?,
+        Err(BodyFault::NotBody) => say_line(rt, &[Text("no body")])?,
         Err(BodyFault::OutOfMemory) => return Err(Stop::OutOfMemory),
     }
     Ok(())
 }
 
 // Prints how many of the body's proper prefixes are read, and whether it is with one byte more.
-fn cut<L: Ledger, P: Print>(rt: &P, alloc: Global, form: Form, body: &[u8]) -> Result<(), Stop> {
+fn cut<L: Ledger>(rt: &HostRuntime, alloc: Global, form: Form, body: &[u8]) -> Result<(), Stop> {
     let some = (0..body.len())
         .filter(|end| rewritten::<L>(alloc, form, &body[..*end]).is_ok())
         .count();
     let mut more = Vec::from_slice(alloc, body)?;
     more.push(0)?;
     let longer = rewritten::<L>(alloc, form, &more).is_ok();
-    println!(rt;
-        "{some} of {} prefixes read, with one byte more {longer}",
-        body.len()
+    say_line(
+        rt,
+        &[
+            Number(some as u64),
+            Text(" of "),
+            Number(body.len() as u64),
+            Text(" prefixes read, with one byte more "),
+            Truth(longer),
+        ],
     )?;
     Ok(())
 }
 
 // Reads a ledger, and keeps it.
-fn set<L: Told, P: Print>(rt: &P, alloc: Global, kept: &mut L, body: &[u8]) -> Result<(), Stop> {
+fn set<L: Told>(rt: &HostRuntime, alloc: Global, kept: &mut L, body: &[u8]) -> Result<(), Stop> {
     match L::read_full(alloc, body) {
         Ok(ledger) => {
             *kept = ledger;
             kept.tell(rt)
         }
-        Err(BodyFault::NotBody) => Ok(println!(rt; "no body")?),
+        Err(BodyFault::NotBody) => say_line(rt, &[Text("no body")]),
         Err(BodyFault::OutOfMemory) => Err(Stop::OutOfMemory),
     }
 }
 
 // Reads a change, and makes it.
-fn apply<L: Told, P: Print>(rt: &P, alloc: Global, kept: &mut L, body: &[u8]) -> Result<(), Stop> {
+fn apply<L: Told>(rt: &HostRuntime, alloc: Global, kept: &mut L, body: &[u8]) -> Result<(), Stop> {
     match L::read_delta(alloc, body) {
         Ok(change) => {
             if let Err(fault) = kept.apply(alloc, &change) {
@@ -70,26 +80,26 @@ fn apply<L: Told, P: Print>(rt: &P, alloc: Global, kept: &mut L, body: &[u8]) ->
             }
             kept.tell(rt)
         }
-        Err(BodyFault::NotBody) => Ok(println!(rt; "no body")?),
+        Err(BodyFault::NotBody) => say_line(rt, &[Text("no body")]),
         Err(BodyFault::OutOfMemory) => Err(Stop::OutOfMemory),
     }
 }
 
-fn call<L: Told, P: Print>(
-    rt: &P,
+fn call<L: Told>(
+    rt: &HostRuntime,
     alloc: Global,
     kept: &mut L,
     call: &str,
     body: &[u8],
 ) -> Result<(), Stop> {
     match call {
-        "full" => read::<L, P>(rt, alloc, Form::Full, body),
-        "delta" => read::<L, P>(rt, alloc, Form::Delta, body),
-        "cut-full" => cut::<L, P>(rt, alloc, Form::Full, body),
-        "cut-delta" => cut::<L, P>(rt, alloc, Form::Delta, body),
+        "full" => read::<L>(rt, alloc, Form::Full, body),
+        "delta" => read::<L>(rt, alloc, Form::Delta, body),
+        "cut-full" => cut::<L>(rt, alloc, Form::Full, body),
+        "cut-delta" => cut::<L>(rt, alloc, Form::Delta, body),
         "set" => set(rt, alloc, kept, body),
         "apply" => apply(rt, alloc, kept, body),
-        _ => Ok(println!(rt; "?")?),
+        _ => say_line(rt, &[Text("?")]),
     }
 }
 
@@ -114,9 +124,9 @@ impl Ledgers {
     }
 
     /// Prints what a call of the ledger of a kind answers.
-    pub fn answer<P: Print>(
+    pub fn answer(
         &mut self,
-        rt: &P,
+        rt: &HostRuntime,
         alloc: Global,
         kind: &str,
         name: &str,
@@ -127,7 +137,7 @@ impl Ledgers {
             "report" => call(rt, alloc, &mut self.report, name, body),
             "grants" => call(rt, alloc, &mut self.grants, name, body),
             "demand" => call(rt, alloc, &mut self.demand, name, body),
-            _ => Ok(println!(rt; "?")?),
+            _ => say_line(rt, &[Text("?")]),
         }
     }
 }

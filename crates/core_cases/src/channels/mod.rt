@@ -7,15 +7,16 @@ mod parties;
 mod streams;
 mod telling;
 
-use case_words::{Cases, Stop, bytes_of};
+use case_words::Piece::Text;
+use case_words::{Cases, Stop, bytes_of, say_line};
 use ledgers::Ledgers;
 use parties::Parties;
 use std::alloc::Global;
 use wire_frames::Stream;
 
 // A call of frames, of the stream or of a ledger, with its bytes.
-fn answer_bytes<P: Print>(
-    rt: &P,
+fn answer_bytes(
+    rt: &HostRuntime,
     alloc: Global,
     ledgers: &mut Ledgers,
     stream: &mut Stream,
@@ -28,13 +29,13 @@ fn answer_bytes<P: Print>(
         ["single"] => streams::single(rt, alloc, bytes),
         ["feed"] => Ok(stream.feed(bytes)?),
         [kind, name] => ledgers.answer(rt, alloc, kind, name, bytes),
-        _ => Ok(println!(rt; "?")?),
+        _ => say_line(rt, &[Text("?")]),
     }
 }
 
 // What words name that say bytes behind a call of so many words.
-fn answer_words<P: Print>(
-    rt: &P,
+fn answer_words(
+    rt: &HostRuntime,
     alloc: Global,
     ledgers: &mut Ledgers,
     stream: &mut Stream,
@@ -42,13 +43,13 @@ fn answer_words<P: Print>(
 ) -> Result<(), Stop> {
     match bytes_of(alloc, words)? {
         Some(bytes) => answer_bytes(rt, alloc, ledgers, stream, call, &bytes),
-        None => Ok(println!(rt; "?")?),
+        None => say_line(rt, &[Text("?")]),
     }
 }
 
 // What words name.
-fn answer<P: Print>(
-    rt: &P,
+fn answer(
+    rt: &HostRuntime,
     alloc: Global,
     ledgers: &mut Ledgers,
     parties: &mut Parties,
@@ -71,7 +72,7 @@ fn answer<P: Print>(
             words.split_at(1),
         ),
         [_, _, ..] => answer_words(rt, alloc, ledgers, stream, words.split_at(2)),
-        _ => Ok(println!(rt; "?")?),
+        _ => say_line(rt, &[Text("?")]),
     }
 }
 
@@ -94,7 +95,7 @@ impl Cases for Channels {
 
     fn answer_line(&mut self, rt: &HostRuntime, alloc: Global, line: &str) -> Result<(), Stop> {
         if line.is_empty() || line.starts_with('#') {
-            return Ok(println!(rt; "{line}")?);
+            return say_line(rt, &[Text(line)]);
         }
         let words: Vec<&str> = line.split_whitespace().collect(alloc)?;
         answer(

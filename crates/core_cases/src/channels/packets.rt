@@ -1,6 +1,7 @@
 //! Which packets are formed.
 
-use case_words::{Stop, bytes_of};
+use case_words::Piece::{Text, Truth};
+use case_words::{Stop, bytes_of, say_line};
 use delta_channel::Place;
 use ledger_law::{BodyFault, Ledger};
 use party_ledgers::{Body, Demand, Grants, JoinLedger, Kind, Packet, RowLedger};
@@ -104,27 +105,27 @@ fn is_formed(heading: &Heading, body: Body) -> bool {
 }
 
 // Prints whether the packet of a heading and a body is formed.
-fn tell_formed<P: Print>(
-    rt: &P,
+fn tell_formed(
+    rt: &HostRuntime,
     alloc: Global,
     heading: &Heading,
     name: &str,
     body: &[u8],
 ) -> Result<(), Stop> {
     match read_body(alloc, name, body) {
-        Ok(body) => Ok(println!(rt; "formed {}", is_formed(heading, body))?),
-        Err(BodyFault::NotBody) => Ok(println!(rt; "no body")?),
+        Ok(body) => say_line(rt, &[Text("formed "), Truth(is_formed(heading, body))]),
+        Err(BodyFault::NotBody) => say_line(rt, &[Text("no body")]),
         Err(BodyFault::OutOfMemory) => Err(Stop::OutOfMemory),
     }
 }
 
 /// Prints whether a packet is formed: its sender, its receiver, its kind, its place and its body.
-pub fn answer<P: Print>(rt: &P, alloc: Global, words: &[&str]) -> Result<(), Stop> {
+pub fn answer(rt: &HostRuntime, alloc: Global, words: &[&str]) -> Result<(), Stop> {
     let Some((heading, [name, body @ ..])) = heading_of(words) else {
-        return Ok(println!(rt; "?")?);
+        return say_line(rt, &[Text("?")]);
     };
     match bytes_of(alloc, body)? {
         Some(body) => tell_formed(rt, alloc, &heading, name, &body),
-        None => Ok(println!(rt; "?")?),
+        None => say_line(rt, &[Text("?")]),
     }
 }

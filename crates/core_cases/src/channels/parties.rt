@@ -4,7 +4,8 @@ ghost use Rattle.std.specs.Prelude.{◌≡◌, IfSome};
 ghost use Rattle.delta_channel.specs.Hearing.{verdict_of};
 
 use crate::channels::telling::Told;
-use case_words::{Stop, bytes_of};
+use case_words::Piece::{Number, Text, Truth};
+use case_words::{Stop, bytes_of, say_line};
 use delta_channel::{Place, Stamp, Verdict};
 use full_sync::{Duplex, Note};
 use ledger_law::{BodyFault, Ledger, LedgerFault};
@@ -33,27 +34,48 @@ const LESS: [u8; 24] = [
     0, 0, 0, 0, 0, 0, 0, 1, 0, 0, 0, 1, 1, 0, 0, 0, 255, 255, 255, 255, 255, 255, 255, 255,
 ];
 
-fn tell_party<P: Print>(rt: &P, party: &Party) -> Result<(), Stop> {
+// Prints the fault of a ledger.
+fn tell_fault(rt: &HostRuntime, fault: LedgerFault) -> Result<(), Stop> {
+    Ok(println!(rt; "{fault:?}")?)
+}
+
+fn tell_party(rt: &HostRuntime, party: &Party) -> Result<(), Stop> {
     let place = party.place();
-    println!(rt;
-        "  own {} peer {} last {} acked {} place {}.{}",
-        party.own(),
-        party.peer(),
-        party.last(),
-        party.acked(),
-        place.inc,
-        place.seq
+    say_line(
+        rt,
+        &[
+            Text("  own "),
+            Number(party.own()),
+            Text(" peer "),
+            Number(party.peer()),
+            Text(" last "),
+            Number(party.last()),
+            Text(" acked "),
+            Number(party.acked()),
+            Text(" place "),
+            Number(place.inc),
+            Text("."),
+            Number(place.seq),
+        ],
     )?;
     Ok(())
 }
 
 // Prints what a turn sends but for its changes.
-fn tell_note<P: Print>(rt: &P, note: &Note<Demand>) -> Result<(), Stop> {
+fn tell_note(rt: &HostRuntime, note: &Note<Demand>) -> Result<(), Stop> {
     match note {
         Note::Delta(_, _) => Ok(()),
-        Note::Ack(place) => Ok(println!(rt; "  ack {}.{}", place.inc, place.seq)?),
+        Note::Ack(place) => say_line(
+            rt,
+            &[
+                Text("  ack "),
+                Number(place.inc),
+                Text("."),
+                Number(place.seq),
+            ],
+        ),
         Note::Full(index, ledger) => {
-            println!(rt; "  full {index}")?;
+            say_line(rt, &[Text("  full "), Number(*index)])?;
             ledger.tell(rt)
         }
     }
@@ -68,10 +90,18 @@ fn delta_of(note: &Note<Demand>) -> Option<u64> {
 }
 
 // Prints what a turn sends, its changes, which follow one another, in one line.
-fn tell_notes<P: Print>(rt: &P, notes: &[Note<Demand>]) -> Result<(), Stop> {
+fn tell_notes(rt: &HostRuntime, notes: &[Note<Demand>]) -> Result<(), Stop> {
     let mut changes = notes.iter().filter_map(|note| delta_of(note));
     if let Some(first) = changes.next() {
-        println!(rt; "  deltas {first} to {}", changes.last().unwrap_or(first))?;
+        say_line(
+            rt,
+            &[
+                Text("  deltas "),
+                Number(first),
+                Text(" to "),
+                Number(changes.last().unwrap_or(first)),
+            ],
+        )?;
     }
     for note in notes {
         tell_note(rt, note)?;
@@ -79,20 +109,20 @@ fn tell_notes<P: Print>(rt: &P, notes: &[Note<Demand>]) -> Result<(), Stop> {
     Ok(())
 }
 
-fn tell_turn<P: Print>(rt: &P, alloc: Global, party: &Party) -> Result<(), Stop> {
+fn tell_turn(rt: &HostRuntime, alloc: Global, party: &Party) -> Result<(), Stop> {
     let notes = party.turn(alloc)?;
     tell_notes(rt, notes.as_slice())
 }
 
 // Posts the change of a body.
-fn post<P: Print>(rt: &P, alloc: Global, party: &mut Party, body: &[u8]) -> Result<(), Stop> {
+fn post(rt: &HostRuntime, alloc: Global, party: &mut Party, body: &[u8]) -> Result<(), Stop> {
     match Demand::read_delta(alloc, body) {
         Ok(change) if party.last() < MOST_LAST => match party.post(alloc, change) {
-            Ok(index) => println!(rt; "posted {index}")?,
-            Err(fault) => println!(rt; "{fault:?}")?,
+            Ok(index) => say_line(rt, &[Text("posted "), Number(index)])?,
+            Err(fault) => tell_fault(rt, fault)?,
         },
-        Ok(_) => println!(rt; "?")?,
-        Err(BodyFault::NotBody) => println!(rt; "no body")?,
+        Ok(_) => say_line(rt, &[Text("?")])?,
+        Err(BodyFault::NotBody) => say_line(rt, &[Text("no body")])?,
         Err(BodyFault::OutOfMemory) => return Err(Stop::OutOfMemory),
     }
     Ok(())
@@ -107,11 +137,11 @@ fn is_posted(alloc: Global, party: &mut Party, body: &[u8]) -> bool {
 }
 
 // Posts a change and its reverse by turns, so often.
-fn post_often<P: Print>(rt: &P, alloc: Global, party: &mut Party, times: u64) -> Result<(), Stop> {
+fn post_often(rt: &HostRuntime, alloc: Global, party: &mut Party, times: u64) -> Result<(), Stop> {
     for turn in 0..times {
         let body = if turn % 2 == 0 { &MORE } else { &LESS };
         if !is_posted(alloc, party, body) {
-            println!(rt; "refused at {turn}")?;
+            say_line(rt, &[Text("refused at "), Number(turn)])?;
         }
     }
     Ok(())
@@ -195,14 +225,14 @@ fn hear_note(
     Ok(Some(hear(alloc, party, &stamp, note)?))
 }
 
-fn tell_received<P: Print>(rt: &P, party: &Party) -> Result<(), Stop> {
+fn tell_received(rt: &HostRuntime, party: &Party) -> Result<(), Stop> {
     tell_party(rt, party)?;
     party.got().tell(rt)
 }
 
 // Hands a party what another sends, and prints how many of these were taken, and what it has then.
-fn hear_all<P: Print>(
-    rt: &P,
+fn hear_all(
+    rt: &HostRuntime,
     alloc: Global,
     from: u64,
     party: &mut Party,
@@ -213,15 +243,23 @@ fn hear_all<P: Print>(
         match hear_note(alloc, from, party, note) {
             Ok(Some(Verdict::Take)) => taken = taken.saturating_add(1),
             Ok(_) => {}
-            Err(fault) => println!(rt; "{fault:?}")?,
+            Err(fault) => tell_fault(rt, fault)?,
         }
     }
-    println!(rt; "{taken} of {} taken", notes.len())?;
+    say_line(
+        rt,
+        &[
+            Number(taken),
+            Text(" of "),
+            Number(notes.len() as u64),
+            Text(" taken"),
+        ],
+    )?;
     tell_received(rt, party)
 }
 
 // Hands a party what the other sends in a turn.
-fn deliver<P: Print>(rt: &P, alloc: Global, from: &Party, to: &mut Party) -> Result<(), Stop> {
+fn deliver(rt: &HostRuntime, alloc: Global, from: &Party, to: &mut Party) -> Result<(), Stop> {
     let notes = from.turn(alloc)?;
     hear_all(rt, alloc, from.own(), to, notes.as_slice())
 }
@@ -250,8 +288,8 @@ fn note_of(alloc: Global, stamp: &Stamp, body: &[u8]) -> Result<Note<Demand>, Bo
 }
 
 // Hands a party a packet, and prints what it takes it for.
-fn packet<P: Print>(
-    rt: &P,
+fn packet(
+    rt: &HostRuntime,
     alloc: Global,
     party: &mut Party,
     stamp: &Stamp,
@@ -262,9 +300,9 @@ fn packet<P: Print>(
     match note_of(alloc, stamp, body) {
         Ok(note) => match hear(alloc, party, stamp, &note) {
             Ok(verdict) => println!(rt; "{verdict:?}")?,
-            Err(fault) => println!(rt; "{fault:?}")?,
+            Err(fault) => tell_fault(rt, fault)?,
         },
-        Err(BodyFault::NotBody) => println!(rt; "no body")?,
+        Err(BodyFault::NotBody) => say_line(rt, &[Text("no body")])?,
         Err(BodyFault::OutOfMemory) => return Err(Stop::OutOfMemory),
     }
     Ok(())
@@ -275,9 +313,9 @@ fn start(alloc: Global, party: &mut Party, own: u64) -> Result<(), Stop> {
     Ok(())
 }
 
-fn tell_hear<P: Print>(rt: &P, alloc: Global, party: &mut Party, from: u64) -> Result<(), Stop> {
+fn tell_hear(rt: &HostRuntime, alloc: Global, party: &mut Party, from: u64) -> Result<(), Stop> {
     let fresh = party.hear(alloc, from);
-    println!(rt; "new {fresh}")?;
+    say_line(rt, &[Text("new "), Truth(fresh)])?;
     Ok(())
 }
 
@@ -288,8 +326,8 @@ fn acknowledge_peer(party: &mut Party, inc: u64, seq: u64) {
 }
 
 // What a call with numbers answers, before the party is printed.
-fn call<P: Print>(
-    rt: &P,
+fn call(
+    rt: &HostRuntime,
     alloc: Global,
     party: &mut Party,
     name: &str,
@@ -303,7 +341,7 @@ fn call<P: Print>(
         ("resync", []) => party.resync(),
         ("turn", []) => tell_turn(rt, alloc, party)?,
         ("state", []) => {}
-        _ => println!(rt; "?")?,
+        _ => say_line(rt, &[Text("?")])?,
     }
     tell_party(rt, party)
 }
@@ -320,8 +358,8 @@ fn numbers_of(alloc: Global, words: &[&str]) -> Result<Option<Vec<u64>>, Stop> {
     Ok(Some(numbers))
 }
 
-fn answer_call<P: Print>(
-    rt: &P,
+fn answer_call(
+    rt: &HostRuntime,
     alloc: Global,
     party: &mut Party,
     name: &str,
@@ -329,49 +367,49 @@ fn answer_call<P: Print>(
 ) -> Result<(), Stop> {
     match numbers_of(alloc, words)? {
         Some(numbers) => call(rt, alloc, party, name, &numbers),
-        None => Ok(println!(rt; "?")?),
+        None => say_line(rt, &[Text("?")]),
     }
 }
 
-fn answer_post<P: Print>(
-    rt: &P,
+fn answer_post(
+    rt: &HostRuntime,
     alloc: Global,
     party: &mut Party,
     words: &[&str],
 ) -> Result<(), Stop> {
     let Some(body) = bytes_of(alloc, words)? else {
-        return Ok(println!(rt; "?")?);
+        return say_line(rt, &[Text("?")]);
     };
     post(rt, alloc, party, &body)?;
     party.sent().tell(rt)
 }
 
 // A packet as its sender, its receiver, its number and its body.
-fn answer_packet<P: Print>(
-    rt: &P,
+fn answer_packet(
+    rt: &HostRuntime,
     alloc: Global,
     party: &mut Party,
     full: bool,
     words: &[&str],
 ) -> Result<(), Stop> {
     let Some((stamp, rest)) = read_stamp(full, words) else {
-        return Ok(println!(rt; "?")?);
+        return say_line(rt, &[Text("?")]);
     };
     let Some(body) = bytes_of(alloc, rest)? else {
-        return Ok(println!(rt; "?")?);
+        return say_line(rt, &[Text("?")]);
     };
     packet(rt, alloc, party, &stamp, &body)?;
     tell_received(rt, party)
 }
 
 // What a party answers.
-fn answer<P: Print>(rt: &P, alloc: Global, party: &mut Party, words: &[&str]) -> Result<(), Stop> {
+fn answer(rt: &HostRuntime, alloc: Global, party: &mut Party, words: &[&str]) -> Result<(), Stop> {
     match words {
         ["post", rest @ ..] => answer_post(rt, alloc, party, rest),
         ["full", rest @ ..] => answer_packet(rt, alloc, party, true, rest),
         ["delta", rest @ ..] => answer_packet(rt, alloc, party, false, rest),
         [name, rest @ ..] => answer_call(rt, alloc, party, name, rest),
-        _ => Ok(println!(rt; "?")?),
+        _ => say_line(rt, &[Text("?")]),
     }
 }
 
@@ -383,13 +421,13 @@ impl Parties {
     }
 
     /// Prints what the named party answers, or what it hears of a turn of the other.
-    pub fn answer<P: Print>(&mut self, rt: &P, alloc: Global, words: &[&str]) -> Result<(), Stop> {
+    pub fn answer(&mut self, rt: &HostRuntime, alloc: Global, words: &[&str]) -> Result<(), Stop> {
         match words {
             ["near", "to", "far"] => deliver(rt, alloc, &self.near, &mut self.far),
             ["far", "to", "near"] => deliver(rt, alloc, &self.far, &mut self.near),
             ["near", rest @ ..] => answer(rt, alloc, &mut self.near, rest),
             ["far", rest @ ..] => answer(rt, alloc, &mut self.far, rest),
-            _ => Ok(println!(rt; "?")?),
+            _ => say_line(rt, &[Text("?")]),
         }
     }
 }

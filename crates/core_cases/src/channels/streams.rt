@@ -6,7 +6,7 @@ use std::alloc::Global;
 use wire_frames::{FrameFault, Stream};
 
 /// Prints what the next pull answers.
-pub fn pull<P: Print>(rt: &P, stream: &mut Stream) -> Result<(), Stop> {
+pub fn pull(rt: &HostRuntime, stream: &mut Stream) -> Result<(), Stop> {
     match stream.pull() {
         Ok(packet) => tell(rt, &packet),
         Err(fault) => tell_fault(rt, fault),
@@ -14,7 +14,7 @@ pub fn pull<P: Print>(rt: &P, stream: &mut Stream) -> Result<(), Stop> {
 }
 
 // Feeds one byte, and prints the packet that it ends, or a fault other than that the bytes are short.
-fn feed_one<P: Print>(rt: &P, stream: &mut Stream, byte: u8) -> Result<(), Stop> {
+fn feed_one(rt: &HostRuntime, stream: &mut Stream, byte: u8) -> Result<(), Stop> {
     stream.feed(&[byte])?;
     match stream.pull() {
         Ok(packet) => tell(rt, &packet),
@@ -23,7 +23,7 @@ fn feed_one<P: Print>(rt: &P, stream: &mut Stream, byte: u8) -> Result<(), Stop>
     }
 }
 
-fn feed_each<P: Print>(rt: &P, stream: &mut Stream, bytes: &[u8]) -> Result<(), Stop> {
+fn feed_each(rt: &HostRuntime, stream: &mut Stream, bytes: &[u8]) -> Result<(), Stop> {
     for byte in bytes {
         feed_one(rt, stream, *byte)?;
     }
@@ -31,7 +31,7 @@ fn feed_each<P: Print>(rt: &P, stream: &mut Stream, bytes: &[u8]) -> Result<(), 
 }
 
 /// Feeds a new stream byte by byte, and prints what comes of it.
-pub fn single<P: Print>(rt: &P, alloc: Global, bytes: &[u8]) -> Result<(), Stop> {
+pub fn single(rt: &HostRuntime, alloc: Global, bytes: &[u8]) -> Result<(), Stop> {
     let mut stream = Stream::new(alloc);
     feed_each(rt, &mut stream, bytes)
 }

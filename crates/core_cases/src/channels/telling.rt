@@ -1,27 +1,40 @@
 //! Ledgers and changes, printed.
 
-use case_words::Stop;
+use case_words::Piece::{Number, Signed, Text};
+use case_words::{Stop, say_line};
 use ledger_law::{Change, Ledger, Shape, Tally};
 use party_ledgers::{JoinLedger, RowLedger};
 
 /// A ledger that can be printed.
 pub trait Told: Ledger {
     /// Prints what it has.
-    fn tell<P: Print>(&self, rt: &P) -> Result<(), Stop>;
+    fn tell(&self, rt: &HostRuntime) -> Result<(), Stop>;
 }
 
 impl<S: Shape> Told for Tally<S> {
-    fn tell<P: Print>(&self, rt: &P) -> Result<(), Stop> {
-        println!(rt; "  head {}", self.head())?;
+    fn tell(&self, rt: &HostRuntime) -> Result<(), Stop> {
+        say_line(rt, &[Text("  head "), Number(self.head())])?;
         for (key, number) in self.entries() {
-            println!(rt; "  {} {} {}: {number}", key.what, key.unit, key.number)?;
+            say_line(
+                rt,
+                &[
+                    Text("  "),
+                    Number(key.what as u64),
+                    Text(" "),
+                    Number(key.unit as u64),
+                    Text(" "),
+                    Number(key.number as u64),
+                    Text(": "),
+                    Number(*number),
+                ],
+            )?;
         }
         Ok(())
     }
 }
 
 impl Told for RowLedger {
-    fn tell<P: Print>(&self, rt: &P) -> Result<(), Stop> {
+    fn tell(&self, rt: &HostRuntime) -> Result<(), Stop> {
         tell_entries(rt, self)?;
         println!(rt; "  {} entries, total {:?}", self.len(), self.total().q)?;
         Ok(())
@@ -29,14 +42,14 @@ impl Told for RowLedger {
 }
 
 impl Told for JoinLedger {
-    fn tell<P: Print>(&self, rt: &P) -> Result<(), Stop> {
-        println!(rt; "  epoch {}", self.epoch())?;
+    fn tell(&self, rt: &HostRuntime) -> Result<(), Stop> {
+        say_line(rt, &[Text("  epoch "), Number(self.epoch())])?;
         self.table().tell(rt)
     }
 }
 
 /// Prints the first entries of a row.
-pub fn tell_entries<P: Print>(rt: &P, row: &RowLedger) -> Result<(), Stop> {
+pub fn tell_entries(rt: &HostRuntime, row: &RowLedger) -> Result<(), Stop> {
     for index in 0..row.len().min(4) {
         let entry = row.at(index);
         println!(rt;
@@ -48,10 +61,22 @@ pub fn tell_entries<P: Print>(rt: &P, row: &RowLedger) -> Result<(), Stop> {
 }
 
 /// Prints a change of a tally.
-pub fn tell_change<P: Print>(rt: &P, change: &Change) -> Result<(), Stop> {
-    println!(rt; "  head {}", change.head())?;
+pub fn tell_change(rt: &HostRuntime, change: &Change) -> Result<(), Stop> {
+    say_line(rt, &[Text("  head "), Number(change.head())])?;
     for (key, number) in change.entries() {
-        println!(rt; "  {} {} {}: {number}", key.what, key.unit, key.number)?;
+        say_line(
+            rt,
+            &[
+                Text("  "),
+                Number(key.what as u64),
+                Text(" "),
+                Number(key.unit as u64),
+                Text(" "),
+                Number(key.number as u64),
+                Text(": "),
+                Signed(*number),
+            ],
+        )?;
     }
     Ok(())
 }

@@ -3,7 +3,8 @@
 use crate::checkpoint::call::{Call, call_of, job_of};
 use crate::checkpoint::place::{Place, ROOM};
 use crate::checkpoint::telling::{tell, tell_fault};
-use case_words::{Stop, put_numbers};
+use case_words::Piece::{Number, Text};
+use case_words::{Stop, put_numbers, say, say_line};
 use std::alloc::Global;
 
 /// What is done with a call.
@@ -16,7 +17,7 @@ pub enum Way {
 }
 
 /// Opens the disk of a place and prints what it stands for.
-pub fn opened<P: Print>(rt: &P, alloc: Global, place: &mut Place) -> Result<(), Stop> {
+pub fn opened(rt: &HostRuntime, alloc: Global, place: &mut Place) -> Result<(), Stop> {
     if let Err(fault) = place.open(alloc) {
         return tell_fault(rt, fault);
     }
@@ -26,23 +27,23 @@ pub fn opened<P: Print>(rt: &P, alloc: Global, place: &mut Place) -> Result<(), 
     }
 }
 
-fn called<P: Print>(rt: &P, place: &mut Place, call: &Call) -> Result<(), Stop> {
+fn called(rt: &HostRuntime, place: &mut Place, call: &Call) -> Result<(), Stop> {
     match place.call(call) {
-        Some(Ok(())) => Ok(println!(rt; "done")?),
+        Some(Ok(())) => say_line(rt, &[Text("done")]),
         Some(Err(fault)) => tell_fault(rt, fault),
-        None => Ok(println!(rt; "not open")?),
+        None => say_line(rt, &[Text("not open")]),
     }
 }
 
 // Opens what a crash leaves of a place.
-fn opened_image<P: Print>(rt: &P, alloc: Global, place: &Place, all: bool) -> Result<(), Stop> {
+fn opened_image(rt: &HostRuntime, alloc: Global, place: &Place, all: bool) -> Result<(), Stop> {
     let mut image = place.image(alloc, all, ROOM)?;
     opened(rt, alloc, &mut image)
 }
 
 // Makes the call on a place that serves so many writes and syncs, and opens what a crash then leaves.
-fn halted<P: Print>(
-    rt: &P,
+fn halted(
+    rt: &HostRuntime,
     alloc: Global,
     place: &mut Place,
     call: &Call,
@@ -50,17 +51,20 @@ fn halted<P: Print>(
 ) -> Result<(), Stop> {
     place.stop_after(calls);
     if place.call(call).is_some() {
-        print!(rt; "after {calls}, synced: ")?;
+        say(
+            rt,
+            &[Text("after "), Number(calls as u64), Text(", synced: ")],
+        )?;
         opened_image(rt, alloc, place, false)?;
-        print!(rt; "after {calls}, all: ")?;
+        say(rt, &[Text("after "), Number(calls as u64), Text(", all: ")])?;
         opened_image(rt, alloc, place, true)?;
     }
     Ok(())
 }
 
 // The same on a copy of the disk.
-fn halted_copy<P: Print>(
-    rt: &P,
+fn halted_copy(
+    rt: &HostRuntime,
     alloc: Global,
     place: &Place,
     call: &Call,
@@ -72,8 +76,8 @@ fn halted_copy<P: Print>(
     halted(rt, alloc, &mut copy, call, calls)
 }
 
-fn done<P: Print>(
-    rt: &P,
+fn done(
+    rt: &HostRuntime,
     alloc: Global,
     place: &mut Place,
     call: &Call,
@@ -91,8 +95,8 @@ fn done<P: Print>(
 }
 
 // A job with a fault is no call.
-fn submitted<P: Print>(
-    rt: &P,
+fn submitted(
+    rt: &HostRuntime,
     alloc: Global,
     place: &mut Place,
     ([epoch, app, group], units): ([u64; 3], &str),
@@ -105,8 +109,8 @@ fn submitted<P: Print>(
 }
 
 /// Does with the call that words name what is asked: the epoch, a number, and of a job its group and its units behind `:`.
-pub fn answer<P: Print>(
-    rt: &P,
+pub fn answer(
+    rt: &HostRuntime,
     alloc: Global,
     place: &mut Place,
     (word, rest): (&str, &str),
@@ -120,22 +124,22 @@ pub fn answer<P: Print>(
     }
     match call_of(word, numbers[0], numbers[1]) {
         Some(call) => done(rt, alloc, place, &call, way),
-        None => Ok(println!(rt; "?")?),
+        None => say_line(rt, &[Text("?")]),
     }
 }
 
 /// Raises the fence step by step up to this epoch, or to the first refusal.
-pub fn raised<P: Print>(rt: &P, place: &mut Place, last: u64) -> Result<(), Stop> {
+pub fn raised(rt: &HostRuntime, place: &mut Place, last: u64) -> Result<(), Stop> {
     for epoch in 1..last.saturating_add(1) {
         match place.call(&Call::Raise(epoch)) {
             Some(Ok(())) => {}
             Some(Err(fault)) => {
-                println!(rt; "at {epoch}")?;
+                say_line(rt, &[Text("at "), Number(epoch)])?;
                 return tell_fault(rt, fault);
             }
             None => return Ok(()),
         }
     }
-    println!(rt; "done")?;
+    say_line(rt, &[Text("done")])?;
     Ok(())
 }

@@ -6,7 +6,8 @@ mod place;
 mod telling;
 
 use calls::{Way, opened, raised};
-use case_words::{Cases, Stop, head_of, number_of, numbers_of};
+use case_words::Piece::Text;
+use case_words::{Cases, Stop, head_of, number_of, numbers_of, say_line};
 use fuxi_io::MemDisk;
 pub use place::Place;
 use place::ROOM;
@@ -42,14 +43,14 @@ fn changed(alloc: Global, bytes: &[u8], word: &str, rest: &str) -> Result<Vec<u8
 }
 
 // Opens a disk with the bytes that are left of a file, or that are changed in it.
-fn opened_bytes<P: Print>(rt: &P, alloc: Global, bytes: Vec<u8>) -> Result<(), Stop> {
+fn opened_bytes(rt: &HostRuntime, alloc: Global, bytes: Vec<u8>) -> Result<(), Stop> {
     let mut disk = MemDisk::of(alloc, bytes, Vec::new(alloc));
     disk.room(ROOM)?;
     opened(rt, alloc, &mut Place::shut(disk))
 }
 
-fn answer<P: Print>(
-    rt: &P,
+fn answer(
+    rt: &HostRuntime,
     alloc: Global,
     place: &mut Place,
     (word, rest): (&str, &str),
@@ -72,7 +73,7 @@ impl Cases for Place {
     }
 
     fn answer_line(&mut self, rt: &HostRuntime, alloc: Global, line: &str) -> Result<(), Stop> {
-        println!(rt; "{line}")?;
+        say_line(rt, &[Text(line)])?;
         if line.is_empty() || line.starts_with('#') {
             return Ok(());
         }

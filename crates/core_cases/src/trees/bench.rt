@@ -106,8 +106,8 @@ fn place<L: Ledger>(
 }
 
 // Brings the line up to date, and prints the path of a machine in the placer's tree.
-fn walk<P: Print>(
-    rt: &P,
+fn walk(
+    rt: &HostRuntime,
     table: &GrantTable,
     placer: &mut Placer,
     machine: MachineNo,
@@ -176,7 +176,7 @@ impl Bench {
     }
 
     /// Brings the line up to date, and prints the path of the machine.
-    pub fn walk<P: Print>(&mut self, rt: &P, machine: MachineNo) -> Result<(), Stop> {
+    pub fn walk(&mut self, rt: &HostRuntime, machine: MachineNo) -> Result<(), Stop> {
         let Bench { table, placer } = self;
         if machine.0 < table.cluster().machines() {
             walk(rt, table, placer, machine)?;

@@ -3,7 +3,8 @@
 ghost use Rattle.std.specs.Prelude.{◌≡◌, ◌<◌, ◌≤◌, length};
 ghost use Rattle.core_cases.specs.Cases.{entry_of};
 
-use case_words::Stop;
+use case_words::Piece::{Number, Text};
+use case_words::{Stop, say_line};
 use cluster_desc::read_cluster;
 use fuxi_terms::limits::{GREATEST_COUNT, MOST_JOBS};
 use locality_tree::Tree;
@@ -71,7 +72,7 @@ pub fn job_of(
 }
 
 /// Prints the path of a machine: each unit with its level.
-pub fn print_path<P: Print>(rt: &P, tree: &Tree, machine: MachineNo) -> Result<(), Stop>
+pub fn print_path(rt: &HostRuntime, tree: &Tree, machine: MachineNo) -> Result<(), Stop>
     requires { machine.0 < length tree.now.racks }
 {
     let mut path = tree.path(machine);
@@ -80,7 +81,15 @@ pub fn print_path<P: Print>(rt: &P, tree: &Tree, machine: MachineNo) -> Result<(
             None => break,
             Some((entry, level)) => {
                 let job = entry.app.0;
-                println!(rt; "job {job} at level {level}")?;
+                say_line(
+                    rt,
+                    &[
+                        Text("job "),
+                        Number(job as u64),
+                        Text(" at level "),
+                        Number(level as u64),
+                    ],
+                )?;
             }
         }
     }
@@ -145,7 +154,7 @@ impl Case {
     }
 
     /// Prints the path of the machine.
-    pub fn show<P: Print>(&self, rt: &P, machine: u32) -> Result<(), Stop> {
+    pub fn show(&self, rt: &HostRuntime, machine: u32) -> Result<(), Stop> {
         if machine >= self.machines {
             return Ok(());
         }

@@ -10,7 +10,8 @@ mod plain;
 mod tables;
 
 use case::Case;
-use case_words::{Cases, Stop, head_of, number_of};
+use case_words::Piece::Text;
+use case_words::{Cases, Stop, head_of, number_of, say_line};
 use placing::Placing;
 use std::alloc::Global;
 use std::marker::Brand;
@@ -27,8 +28,8 @@ fn numbers_in(rest: &str) -> (usize, u32) {
 }
 
 // A call of the tree, where there is one.
-fn call<P: Print>(
-    rt: &P,
+fn call(
+    rt: &HostRuntime,
     alloc: Global,
     case: &mut Option<Case>,
     word: &str,
@@ -58,8 +59,8 @@ fn number_in(rest: &str) -> (u32, &str) {
 }
 
 // A call of the table and its placer, where there is one.
-fn place<P: Print>(
-    rt: &P,
+fn place(
+    rt: &HostRuntime,
     alloc: Global,
     placing: &mut Option<Placing>,
     word: &str,
@@ -73,7 +74,7 @@ fn place<P: Print>(
         "ask" => placing.ask(alloc, first, rest)?,
         "take" => placing.take(first, number_in(rest).0),
         "walk" => placing.walk(rt, first)?,
-        _ => placing.place::<P, Brand>(rt, Blank::new(1))?,
+        _ => placing.place::<Brand>(rt, Blank::new(1))?,
     }
     Ok(())
 }
@@ -94,7 +95,7 @@ impl Cases for Made {
     }
 
     fn answer_line(&mut self, rt: &HostRuntime, alloc: Global, line: &str) -> Result<(), Stop> {
-        println!(rt; "{line}")?;
+        say_line(rt, &[Text(line)])?;
         if line.is_empty() || line.starts_with('#') {
             return Ok(());
         }
@@ -105,7 +106,7 @@ impl Cases for Made {
             "tables" => {
                 let (first, count) = head_of(rest);
                 let seeds = (number_of(first), number_of(count).min(1000));
-                compare_tables::<Brand, HostRuntime>(rt, alloc, seeds, Blank::new(1))?;
+                compare_tables::<Brand>(rt, alloc, seeds, Blank::new(1))?;
             }
             "ask" | "place" | "take" | "walk" => place(rt, alloc, &mut self.placing, word, rest)?,
             _ => call(rt, alloc, &mut self.case, word, rest)?,

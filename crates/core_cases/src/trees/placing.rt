@@ -91,7 +91,7 @@ impl Placing {
     }
 
     /// Makes the grant that the placer finds, and prints it.
-    pub fn place<P: Print, L: Ledger>(&mut self, rt: &P, blank: Blank) -> Result<(), Stop>
+    pub fn place<L: Ledger>(&mut self, rt: &HostRuntime, blank: Blank) -> Result<(), Stop>
         requires name { blank.name ≡ L.name }
         requires parts { blank.parts ≡ L.parts }
         requires some { 0 < blank.parts }
@@ -112,7 +112,7 @@ impl Placing {
     }
 
     /// Prints the path of a machine.
-    pub fn walk<P: Print>(&mut self, rt: &P, machine: u32) -> Result<(), Stop> {
+    pub fn walk(&mut self, rt: &HostRuntime, machine: u32) -> Result<(), Stop> {
         self.bench.walk(rt, MachineNo(machine))
     }
 }

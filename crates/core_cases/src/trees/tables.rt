@@ -7,7 +7,8 @@ use crate::trees::changes::{ask, change, open, plain_of};
 use crate::trees::draw::Draw;
 use crate::trees::drawn::{draw_cluster, draw_jobs};
 use crate::trees::plain::{Plain, first, line_up, told};
-use case_words::Stop;
+use case_words::Piece::{Number, Text};
+use case_words::{Stop, say_line};
 use grant_table::{Pick, Steps};
 use std::alloc::Global;
 use std::sync::ledger::{Blank, Ledger};
@@ -24,20 +25,31 @@ struct Tally {
 }
 
 /// Prints what was found.
-pub fn tell<P: Print>(rt: &P, who: &str, found: Option<Pick>) -> Result<(), Stop> {
+pub fn tell(rt: &HostRuntime, who: &str, found: Option<Pick>) -> Result<(), Stop> {
     match found {
         Some(pick) => {
             let (job, unit, machine) = (pick.app.0, pick.unit.0, pick.machine.0);
-            println!(rt; "{who}: job {job}, unit {unit}, machine {machine}")?;
+            say_line(
+                rt,
+                &[
+                    Text(who),
+                    Text(": job "),
+                    Number(job as u64),
+                    Text(", unit "),
+                    Number(unit as u64),
+                    Text(", machine "),
+                    Number(machine as u64),
+                ],
+            )?;
         }
-        None => println!(rt; "{who}: none")?,
+        None => say_line(rt, &[Text(who), Text(": none")])?,
     }
     Ok(())
 }
 
 // One grant, if any: what the placer finds is what the plain search finds. False where none is found, or not the same.
-fn compare<P: Print, L: Ledger>(
-    rt: &P,
+fn compare<L: Ledger>(
+    rt: &HostRuntime,
     alloc: Global,
     bench: &mut Bench,
     plain: &mut Plain,
@@ -52,7 +64,15 @@ fn compare<P: Print, L: Ledger>(
     if given != searched {
         tally.different = tally.different.saturating_add(1);
         let (seed, step) = (tally.seed, tally.step);
-        println!(rt; "seed {seed}, step {step}")?;
+        say_line(
+            rt,
+            &[
+                Text("seed "),
+                Number(seed as u64),
+                Text(", step "),
+                Number(step as u64),
+            ],
+        )?;
         tell(rt, "next", given)?;
         tell(rt, "search", searched)?;
         return Ok(false);
@@ -66,8 +86,8 @@ fn compare<P: Print, L: Ledger>(
 }
 
 // So many grants, or fewer where no more is found.
-fn settle<P: Print, L: Ledger>(
-    rt: &P,
+fn settle<L: Ledger>(
+    rt: &HostRuntime,
     alloc: Global,
     most: u32,
     bench: &mut Bench,
@@ -98,8 +118,8 @@ fn prepare(
 }
 
 // Changes and grants in turn, and at the end grants until none is found.
-fn run_rounds<P: Print, L: Ledger>(
-    rt: &P,
+fn run_rounds<L: Ledger>(
+    rt: &HostRuntime,
     alloc: Global,
     draw: &mut Draw,
     bench: &mut Bench,
@@ -123,8 +143,8 @@ fn run_rounds<P: Print, L: Ledger>(
 }
 
 // The table of a seed.
-fn run_table<P: Print, L: Ledger>(
-    rt: &P,
+fn run_table<L: Ledger>(
+    rt: &HostRuntime,
     alloc: Global,
     seed: u64,
     steps: &mut Steps<L>,
@@ -144,8 +164,8 @@ fn run_table<P: Print, L: Ledger>(
 }
 
 // The tables of so many seeds, and what was compared.
-fn run_seeds<P: Print, L: Ledger>(
-    rt: &P,
+fn run_seeds<L: Ledger>(
+    rt: &HostRuntime,
     alloc: Global,
     seeds: (u64, u64),
     steps: &mut Steps<L>,
@@ -158,8 +178,8 @@ fn run_seeds<P: Print, L: Ledger>(
 }
 
 /// Compares over the tables of so many seeds from one on, and prints how much was compared and whether all was the same.
-pub fn compare_tables<L: Ledger, P: Print>(
-    rt: &P,
+pub fn compare_tables<L: Ledger>(
+    rt: &HostRuntime,
     alloc: Global,
     seeds: (u64, u64),
     blank: Blank,
@@ -180,10 +200,30 @@ pub fn compare_tables<L: Ledger, P: Print>(
     let (grants, compared, different) = (tally.grants, tally.compared, tally.different);
     let count = seeds.1;
     if different == 0 {
-        println!(rt; "{count} tables, {grants} grants, {compared} compared, all the same")?;
+        say_line(
+            rt,
+            &[
+                Number(count as u64),
+                Text(" tables, "),
+                Number(grants as u64),
+                Text(" grants, "),
+                Number(compared as u64),
+                Text(" compared, all the same"),
+            ],
+        )?;
     } else {
-        println!(rt;
-            "{count} tables, {grants} grants, {compared} compared, {different} different"
+        say_line(
+            rt,
+            &[
+                Number(count as u64),
+                Text(" tables, "),
+                Number(grants as u64),
+                Text(" grants, "),
+                Number(compared as u64),
+                Text(" compared, "),
+                Number(different as u64),
+                Text(" different"),
+            ],
         )?;
     }
     Ok(())

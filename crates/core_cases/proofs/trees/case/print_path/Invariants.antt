@@ -2,4 +2,4 @@ use Rattle.locality_tree.specs.Paths.{IsWalkable}
 use Rattle.core_cases.proofs.trees.case.print_path.Given as goal
 
 abbrev pub invariant-loop : goal.invariant-loop
-invariant-loop g l = IsWalkable l.path
+invariant-loop l = IsWalkable l.path
