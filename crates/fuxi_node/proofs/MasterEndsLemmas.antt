@@ -14,7 +14,7 @@ use Rattle.hard_state.specs.declared.fault.HardFault.TheVariants.{Stale, Fenced,
 use Rattle.input_lines.specs.Wholes.{whole_lines}
 use Rattle.master_node.specs.MasterParties.{DiskHas, NodeRecord, RestsAt}
 use Rattle.master_node.specs.OpenedMasters.{IsRaised, IsStartFault, Starts, StartsFrom}
-use Rattle.master_node.specs.Writes.{LeavesEither, hard_in}
+use Rattle.master_node.specs.NodeCommands.{LeavesEither, hard_in}
 use Rattle.node_door.specs.Doors.{Told, WhereTold}
 use Rattle.node_rounds.specs.Roles.{Role, OfAgent, OfApp, OfMaster}
 use Rattle.node_party.specs.NodeHalts.{FitsEither}

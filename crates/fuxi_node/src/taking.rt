@@ -20,10 +20,9 @@ use fuxi_io::{Disk, InputFault, Sink, Status, write_all_of};
 use fuxi_terms::OutOfMemory;
 use input_lines::event_status;
 use node_door::Door;
-use node_party::{
-    Answer, Halt, Node, NodeLine, law, push_answer, push_state, read_line, write_round,
-};
+use node_party::{Answer, Node, NodeLine, law, push_answer, push_state, read_line, write_round};
 use node_rounds::{RoundLine, round, serve};
+use party_orders::Halt;
 use schedule_text::Event;
 use std::alloc::Global;
 

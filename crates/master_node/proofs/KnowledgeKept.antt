@@ -1,20 +1,23 @@
--- What a master knows of the hard state stays, whatever it hears.
-use Rattle.std.proofs.Common.{◌≡◌, ℕ, zero, suc, Bool, true, false, cond, not, nat_eq, [], ◌∷◌, Option, Some, None, Result, Ok, Err, refl, sym, ◌∙◌, subst, ◌<◌}
+-- What a master knows of the hard state stays, whatever it hears and is commanded.
+use Rattle.std.proofs.Common.{◌≡◌, ℕ, zero, suc, Bool, true, false, cond, not, nat_eq, List, [], ◌∷◌, Option, Some, None, Result, Ok, Err, refl, sym, ◌∙◌, ap, subst, ◌<◌}
 use Rattle.std.specs.Prelude.{◌&&◌}
 use Rattle.fuxi_terms.proofs.Booleans.{either}
 use Rattle.fuxi_terms.specs.Cluster.{ClusterRecord}
-use Rattle.fuxi_terms.specs.Jobs.{is_live}
+use Rattle.fuxi_terms.specs.Counts.{then_do}
+use Rattle.fuxi_terms.specs.Jobs.{eight_places, is_live}
+use Rattle.fuxi_terms.specs.Numbers.{with_number, without_number}
 use Rattle.written_net.specs.Net.{Id, is_taken}
 use Rattle.written_net.specs.Ledgers.{Ledger}
 use Rattle.written_net.specs.Channels.{is_agent}
 use Rattle.written_net.specs.Sides.{Parcel, HeardSide, hears_side}
-use Rattle.written_roles.specs.HardState.{HardState}
+use Rattle.written_roles.specs.HardState.{HardState, HardEvent, Submission, Finishing, Banning, Unbanning, hard_after, hard_tests, with_ended, with_job}
 use Rattle.written_roles.specs.Masters.{Master}
 use Rattle.written_roles.specs.Placing.{first_placeable, granted, settle, settled, all_out, line_up}
 use Rattle.written_roles.specs.Preemption.{Plan, plan_of, preempted}
-use Rattle.written_roles.specs.Refusals.{Refusal, AlreadyServing, NotServing, NothingToPreempt, first_refusal, with_found}
-use Rattle.written_roles.specs.MasterSteps.{phased, ready, adopts, take_report, take_demand, meet_app, told_of, said, talks, master_party, Begins, Preempts, Changed, change_of, changed_to}
-use Rattle.written_roles.specs.MasterRoles.{MasterRole, MasterHeard, master_told, master_hears_alone, report_excess}
+use Rattle.fuxi_terms.specs.Cluster.{has_group, has_machine}
+use Rattle.written_roles.specs.Refusals.{Refusal, AlreadyServing, NotServing, NothingToPreempt, NoGroup, NoMachine, first_refusal, job_tests, unless_fault, with_found}
+use Rattle.written_roles.specs.MasterSteps.{phased, ready, adopts, take_report, take_demand, meet_app, told_of, said, talks, master_party, MasterChange, Admits, Ends, Bans, Unbans, Begins, Preempts, Changed, change_of, changed_to, changes, writes, MasterCommand, Submits, Finishes, BansMachine, UnbansMachine, StartsServing, MakesRoom, Commanded, command_of}
+use Rattle.written_roles.specs.MasterRoles.{MasterRole, MasterHeard, master_changed, master_commanded, master_told, master_hears_alone, report_excess}
 use Rattle.hard_state.specs.HardFiles.{Kept}
 use Rattle.fuxi_master.specs.Cores.{MasterRecord, StandsFor}
 use Rattle.node_rounds.specs.Roles.{Role, OfAgent, OfApp, OfMaster}
@@ -94,6 +97,63 @@ found_alike M (Some p) = record { epoch = refl; jobs = refl; bans = refl }
 pub preempts_alike : (c : ClusterRecord) (M : Master) → IsAlike M (change_of c M Preempts)
 preempts_alike c M =
     unless_alike M (first_refusal ((not M.serving, NotServing) ∷ [])) (with_found (plan_of c M) (Err NothingToPreempt) (λ p. changed_to (preempted M p))) (found_alike M (plan_of c M))
+
+-- A command leaves a master that knows the hard state that is written
+pub record Knows (h : HardState) (M : Master) : Type 0 where
+  pub jobs : M.jobs ≡ h.jobs
+  pub bans : M.bans ≡ h.bans
+  pub epoch : M.epoch ≡ h.fence
+  pub begun : 0 < M.epoch
+
+abbrev IsKnown : Result Commanded Refusal → Type 0
+IsKnown (Ok k) = Knows k.hard k.change.state
+IsKnown (Err f) = Unit {0}
+
+tested_known : (tests : List (Bool × Refusal)) (r : Result Commanded Refusal) → IsKnown r → IsKnown (unless_fault tests r)
+tested_known tests r known = by (first_refusal tests)
+  where
+    by : (o : Option Refusal) → IsKnown (elim o as (λ _. Result Commanded Refusal) [ None ↦ r | Some f ↦ Err f ])
+    by None = known
+    by (Some f) = tt
+
+written_known : (c : ClusterRecord) (h : HardState) (M : Master) (v : HardEvent) (x : MasterChange) → IsKnown (changes c (hard_after h M.epoch v) M x) → IsKnown (writes c h M v x)
+written_known c h M v x known = by (first_refusal (hard_tests h M.epoch v))
+  where
+    by : (o : Option Refusal) → IsKnown (then_do (elim o as (λ _. Result HardState Refusal) [ None ↦ Ok (hard_after h M.epoch v) | Some f ↦ Err f ]) (λ k. changes c k M x))
+    by None = known
+    by (Some f) = tt
+
+alike_known : (h : HardState) (M : Master) (res : Result Changed Refusal) → Knows h M → IsAlike M res → IsKnown (then_do res (λ (d : Changed). Ok (record { hard = h; change = d })))
+alike_known h M (Ok d) k same = record { jobs = same.jobs ∙ k.jobs; bans = same.bans ∙ k.bans; epoch = same.epoch ∙ k.epoch; begun = subst (λ n. 0 < n) (sym same.epoch) k.begun }
+alike_known h M (Err f) k same = tt
+
+command_known : (c : ClusterRecord) (h : HardState) (M : Master) (x : MasterCommand) → Knows h M → IsKnown (command_of c h M x)
+command_known c h M (Submits j) k =
+    let v = Submission (eight_places j) in
+    let x = Admits (eight_places j) in
+    tested_known ((not (has_group c j.group), NoGroup) ∷ job_tests c.resources j) (writes c h M v x)
+    (written_known c h M v x (record { jobs = ap (with_job (eight_places j)) k.jobs; bans = k.bans; epoch = k.epoch; begun = k.begun }))
+command_known c h M (Finishes a) k = written_known c h M (Finishing a) (Ends a) (record { jobs = ap (with_ended a) k.jobs; bans = k.bans; epoch = k.epoch; begun = k.begun })
+command_known c h M (BansMachine m) k =
+    tested_known ((not (has_machine c m), NoMachine) ∷ []) (writes c h M (Banning m) (Bans m))
+    (written_known c h M (Banning m) (Bans m) (record { jobs = k.jobs; bans = ap (with_number m) k.bans; epoch = k.epoch; begun = k.begun }))
+command_known c h M (UnbansMachine m) k =
+    tested_known ((not (has_machine c m), NoMachine) ∷ []) (writes c h M (Unbanning m) (Unbans m))
+    (written_known c h M (Unbanning m) (Unbans m) (record { jobs = k.jobs; bans = ap (without_number m) k.bans; epoch = k.epoch; begun = k.begun }))
+command_known c h M StartsServing k = alike_known h M (change_of c M Begins) k (begins_alike c M)
+command_known c h M MakesRoom k = alike_known h M (change_of c M Preempts) k (preempts_alike c M)
+
+abbrev pub KnowsAfter : Result (MasterRole × HardState) Refusal → Type 0
+KnowsAfter (Ok p) = Knows p.1 p.0.state
+KnowsAfter (Err f) = Unit {0}
+
+pub commanded_knows : (h : HardState) (r : MasterRole) (x : MasterCommand) → Knows h r.state → KnowsAfter (master_commanded r h x)
+commanded_knows h r x k = by (command_of r.cluster h r.state x) (command_known r.cluster h r.state x k)
+  where
+    by : (res : Result Commanded Refusal) → IsKnown res → KnowsAfter (then_do res (λ (k : Commanded). Ok (master_changed r k.change, k.hard)))
+    by (Ok d) known = let s = ready_same r.cluster d.change.state in
+        record { jobs = s.jobs ∙ known.jobs; bans = s.bans ∙ known.bans; epoch = s.epoch ∙ known.epoch; begun = subst (λ n. 0 < n) (sym s.epoch) known.begun }
+    by (Err f) known = tt
 
 -- The node stands for the master that knows the same
 pub still_of : (h : HardState) (r s : MasterRole) (hard : Kept) (m n : MasterRecord) → IsMasterOf h r (record { hard = hard; master = m }) → StandsFor n.core s → SameKnowledge r.state s.state → IsMasterOf h s (record { hard = hard; master = n })

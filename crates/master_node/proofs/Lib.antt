@@ -1,7 +1,6 @@
 pub mod NodeCommandsLemmas
 pub mod KnowledgeKept
 pub mod Moments
-pub mod WrittenIsDone
 pub mod OpenedMastersLemmas
 pub mod RestKept
 pub mod SentToPeers

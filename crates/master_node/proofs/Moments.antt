@@ -3,11 +3,6 @@ use Rattle.std.proofs.Common.{◌≡◌, ℕ, List, [], ◌∷◌, ◌++◌, Opt
 use Rattle.std.specs.List.{AllByRecursion}
 use Rattle.fuxi_io.specs.Disks.{Moment, Told, Leaves, LeavesAlways, WhereTold}
 
-pub map_where : {R S : Told → Told → Type 0} (a b : Option Told) → ((old new : Told) → R old new → S old new) → WhereTold R a b → WhereTold S a b
-map_where None b f told = tt
-map_where (Some old) None f told = elim told [ ]
-map_where (Some old) (Some new) f told = f old new told
-
 pub both_where : (R S : Told → Told → Type 0) (a b : Option Told) → WhereTold R a b → WhereTold S a b → WhereTold (λ old new. R old new × S old new) a b
 both_where R S None b r s = tt
 both_where R S (Some old) None r s = elim r [ ]
@@ -19,10 +14,6 @@ then_where (Some old) None c f r s = elim r [ ]
 then_where (Some old) (Some mid) None f r s = elim s [ ]
 then_where (Some old) (Some mid) (Some new) f r s = f old mid new r s
 
-all_more : (P Q : List ℕ → Type 0) → ((file : List ℕ) → P file → Q file) → (moments : List Moment) → AllByRecursion (Leaves P) moments → AllByRecursion (Leaves Q) moments
-all_more P Q f [] all = tt
-all_more P Q f (m ∷ ms) all = (λ file image. f file (all.0 file image), all_more P Q f ms all.1)
-
 all_both : (P : List ℕ → Type 0) (ms ns : List Moment) → AllByRecursion (Leaves P) ms → AllByRecursion (Leaves P) ns → AllByRecursion (Leaves P) (ms ++ ns)
 all_both P [] ns a b = b
 all_both P (m ∷ ms) ns a b = (a.0, all_both P ms ns a.1 b)
@@ -30,9 +21,6 @@ all_both P (m ∷ ms) ns a b = (a.0, all_both P ms ns a.1 b)
 put_together : (ms ns rest : List Moment) → ms ++ (ns ++ rest) ≡ (ms ++ ns) ++ rest
 put_together [] ns rest = refl
 put_together (m ∷ ms) ns rest = ap (λ l. m ∷ l) (put_together ms ns rest)
-
-pub leaves_more : (P Q : List ℕ → Type 0) (old new : Told) → ((file : List ℕ) → P file → Q file) → LeavesAlways P old new → LeavesAlways Q old new
-leaves_more P Q old new f l = record { since = l.since; reached = l.reached; first = λ file image. f file (l.first file image); each = all_more P Q f l.since l.each }
 
 pub leaves_both : (P : List ℕ → Type 0) (old mid new : Told) → LeavesAlways P old mid → LeavesAlways P mid new → LeavesAlways P old new
 leaves_both P old mid new l m = record {

@@ -2,19 +2,19 @@
 use Rattle.std.proofs.Common.{◌≡◌, ◌⊎◌, inl, inr, ⊎_elim, ℕ, ◌<◌, List, Option, None, Some, Result, Ok, Err, refl, sym, ◌∙◌, ap, subst}
 use Rattle.fuxi_io.specs.Disks.{Told, LeavesAlways, WhereTold, after_sync, then_told}
 use Rattle.fuxi_terms.specs.Cluster.{ClusterRecord}
-use Rattle.written_roles.specs.HardState.{HardState, Raise, hard_step}
+use Rattle.written_roles.specs.HardState.{HardState, HardEvent, Raise, hard_after, hard_step, hard_tests}
 use Rattle.written_roles.specs.MasterSteps.{new_master}
-use Rattle.written_roles.specs.Refusals.{Refusal}
+use Rattle.written_roles.specs.Refusals.{Refusal, first_refusal}
 use Rattle.written_roles.specs.MasterRoles.{master_started}
 use Rattle.hard_state.specs.HardFiles.{Kept, IsBeforeOrAfter, IsDamagedAt, IsOpeningFault, KeepsDamaged, Opens, OpensAs, Refuses, WritesStep, records_of}
+use Rattle.hard_state.proofs.Runs.{leaves_more, map_where}
 use Rattle.hard_state.specs.declared.fault.HardFault.{HardFault}
 use Rattle.hard_state.specs.declared.fault.HardFault.TheVariants.{Stale, Fenced, Known, NoJob, Ended, AlreadyBanned, NotBanned, Full, NotCheckpoint, DiskFault, OutOfMemory}
 use Rattle.fuxi_master.specs.Cores.{MasterRecord, StandsFor}
 use Rattle.master_node.specs.MasterParties.{IsMasterOf}
 use Rattle.master_node.specs.OpenedMasters.{FailsStart, LeavesSoon, Starts}
 use Rattle.master_node.proofs.KnowledgeKept.{ready_same}
-use Rattle.master_node.proofs.Moments.{both_where, leaves_both, leaves_more, map_where, then_where}
-use Rattle.master_node.proofs.WrittenIsDone.{stepped}
+use Rattle.master_node.proofs.Moments.{both_where, leaves_both, then_where}
 
 -- the fault of an opening
 pub open_fails : (epoch : ℕ) (fault : HardFault) (a b : Option Told) → IsOpeningFault fault → ((offset : ℕ) → fault ≡ NotCheckpoint offset → WhereTold (IsDamagedAt offset) a b) → WhereTold Opens a b → WhereTold (FailsStart epoch fault) a b
@@ -40,7 +40,7 @@ open_starts epoch a b told = map_where {R = Opens} {S = Starts epoch} a b (λ ol
     ⊎_elim (λ same. inl same) (λ leaves. inr (record {
       from = then_told old (after_sync old.now);
       begins = inr refl;
-      leaves = leaves_more (λ file. records_of file ≡ Ok value) (IsBeforeOrAfter value (hard_step value epoch Raise)) (then_told old (after_sync old.now)) new (λ file is. inl is) leaves;
+      leaves = leaves_more (λ file. records_of file ≡ Ok value) (IsBeforeOrAfter value (hard_step value epoch Raise)) (λ file is. inl is) (then_told old (after_sync old.now)) new leaves;
     })) (opens value reads)) told
 
 abbrev stands_for : HardState → Result HardState ℕ
@@ -62,7 +62,7 @@ module _ (epoch : ℕ) (value : HardState) (old mid new : Told) (written : Leave
     from = then_told old (after_sync old.now);
     begins = inr refl;
     leaves = leaves_both (IsBeforeOrAfter value (hard_step value epoch Raise)) (then_told old (after_sync old.now)) mid new
-        (leaves_more (λ file. records_of file ≡ Ok value) (IsBeforeOrAfter value (hard_step value epoch Raise)) (then_told old (after_sync old.now)) mid (λ file is. inl is) opens) written;
+        (leaves_more (λ file. records_of file ≡ Ok value) (IsBeforeOrAfter value (hard_step value epoch Raise)) (λ file is. inl is) (then_told old (after_sync old.now)) mid opens) written;
   }
 
   soon : (mid ≡ old) ⊎ LeavesAlways (λ file. records_of file ≡ Ok value) (then_told old (after_sync old.now)) mid → LeavesSoon (IsBeforeOrAfter value (hard_step value epoch Raise)) old new
@@ -82,7 +82,14 @@ opened_keeps k None b c opened = tt
 opened_keeps k (Some t) None c opened = absurd opened
 opened_keeps k (Some t) (Some u) c opened = λ offset damaged. let other : ◌≡◌ {A = Result HardState ℕ} (Ok k.value) (Err offset) = sym opened.0 ∙ damaged in absurd (let no : ⊥ = cc in no)
 
--- the master that starts
+-- the master that starts, of the value that was written
+stepped : (h : HardState) (e : ℕ) (v : HardEvent) (k : HardState) → hard_step h e v ≡ Ok k → hard_after h e v ≡ k
+stepped h e v k done = by (first_refusal (hard_tests h e v)) done
+  where
+    by : (o : Option Refusal) → elim o as (λ _. Result HardState Refusal) [ None ↦ Ok (hard_after h e v) | Some r ↦ Err r ] ≡ Ok k → hard_after h e v ≡ k
+    by None done = cc
+    by (Some r) done = cc
+
 pub starts_master : (c : ClusterRecord) (before : HardState) (k : Kept) (m : MasterRecord) (epoch : ℕ) → 0 < epoch → hard_step before epoch Raise ≡ Ok k.value → StandsFor m.core (master_started c k.value epoch)
     → IsMasterOf k.value (master_started c k.value epoch) (record { hard = k; master = m })
 starts_master c before k m epoch above step stands =

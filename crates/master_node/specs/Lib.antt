@@ -1,5 +1,3 @@
 pub mod MasterParties
 pub mod OpenedMasters
 pub mod NodeCommands
-pub mod ToldMasters
-pub mod Writes

@@ -9,34 +9,32 @@ ghost use Rattle.written_net.specs.Net.{same_id};
 ghost use Rattle.written_net.specs.Channels.{master_id};
 ghost use Rattle.written_roles.specs.HardState.{HardState};
 ghost use Rattle.written_roles.specs.MasterSteps.{talks};
-ghost use Rattle.written_roles.specs.MasterRoles.{MasterRole, master_started};
+ghost use Rattle.written_roles.specs.MasterRoles.{MasterRole, master_commanded, master_resynced, master_started};
 ghost use Rattle.fuxi_master.specs.Cores.{StandsFor};
 ghost use Rattle.party_ledgers.specs.Packets.{IsFormed, are_parties};
 ghost use Rattle.wire_frames.specs.Frames.{frame};
 ghost use Rattle.fuxi_master.specs.Steps.{IsSentFormed};
 ghost use Rattle.schedule_text.specs.Writing.{IsLineEvent};
 ghost use Rattle.node_rounds.specs.Roles.{IsTurn, OfMaster, Role as RoleSeen, end_packet, heard, id_in, may_be, may_send, turn, Keeps};
-ghost use Rattle.node_party.specs.PartyEvents.{IsCommanded, commanded};
+ghost use Rattle.node_party.specs.PartyEvents.{IsCommanded, becomes, commanded, master_after};
 ghost use Rattle.node_party.specs.NodeHalts.{FitsEither};
 ghost use Rattle.node_party.specs.NodeTexts.{as_answer};
 ghost use Rattle.master_node.specs.MasterParties.{DiskHas, IsMasterOf, IsTied, Rests, RestsAt, StandsAs};
 ghost use Rattle.hard_state.specs.HardFiles.{KeepsDamaged, SyncsAll};
 ghost use Rattle.master_node.specs.OpenedMasters.{FailsStart, IsRaised, IsStartFault, Starts, StartsFrom};
-ghost use Rattle.master_node.specs.Writes.{IsCommand, LeavesEither, hard_in};
-ghost use Rattle.master_node.specs.NodeCommands.{Does, LeavesLine, LeavesMade, obeyed, packets_in, Sends};
+ghost use Rattle.party_orders.specs.OrderedParties.{IsNamed, master_command};
+ghost use Rattle.master_node.specs.NodeCommands.{Does, LeavesEither, LeavesLine, LeavesMade, answer_of, hard_in, packets_in, Sends};
 
-use crate::refusals::{answer_in, written_refusal};
-use crate::told::master_named;
-use crate::writing::write;
 use cluster_desc::Cluster;
 use fuxi_io::Disk;
 use fuxi_master::{Master, MasterEvent, Outcome};
 use fuxi_terms::OutOfMemory;
 use hard_state::{Hard, HardFault};
 use master_text::{write_hard, write_master};
-use node_party::{Answer, Halt, Node};
+use node_party::{Answer, Node};
 use node_rounds::{Core, Turn, write_turn};
 use party_ledgers::{Kind, Packet};
+use party_orders::{Halt, MasterCommand, Order, obey, order_of};
 use schedule_text::{Event, Refusal};
 use schedule_unit::{AppNo, Party, Role};
 use std::alloc::Global;
@@ -121,13 +119,6 @@ impl MasterNode {
         master
     }
 
-    // Its cluster.
-    pub(crate) fn cluster(&self) -> &Cluster
-        ensures { (h : HardState) (r : MasterRole) → IsMasterOf h r self.now → result.now ≡ r.cluster }
-    {
-        self.master.table().cluster()
-    }
-
     // Its epoch. There is a master that it is.
     fn epoch(&self) -> u64
         ensures epoch { (h : HardState) (r : MasterRole) → IsMasterOf h r self.now → result ≡ r.state.epoch }
@@ -136,49 +127,64 @@ impl MasterNode {
         self.master.epoch()
     }
 
-    // Does what it is told; that is written to the hard state first, where it is written.
-    pub(crate) fn obey<D: Disk>(
-        self,
-        alloc: Global,
-        event: MasterEvent,
-        disk: &mut D,
-    ) -> Result<(MasterNode, Answer), Halt>
-        requires command { IsCommand event }
+    // Its peers' acknowledgements are forgotten.
+    fn resync(self, alloc: Global) -> Result<(MasterNode, Answer), Halt>
         requires steps { self.master.steps < most_steps }
-        requires rests { Rests self (D.size disk.old) }
-        ensures does { IfOk result (Does (λ h r. obeyed h r event) self) }
-        ensures rests { IfOk result (λ after. Rests after.0 (D.size disk.new)) }
+        ensures does { IfOk result (Does (λ h r. becomes (OfMaster h (master_resynced r))) self) }
+        ensures kept { IfOk result (λ after. after.0.hard ≡ self.hard) }
         ensures steps { IfOk result (λ after. after.0.master.steps ≤ self.master.steps + 1) }
-        ensures later { D.faults disk.old ≤ D.faults disk.new }
-        ensures cause { result ≡ Err Halt.Disk → Rose (D.faults disk.old) (D.faults disk.new) }
-        ensures served { result ≢ Err Halt.Disk → D.faults disk.new ≡ D.faults disk.old }
-        ensures told { LeavesMade (λ h r. obeyed h r event) self result (D.told disk.old) (D.told disk.new) }
+        ensures memory { result ≢ Err Halt.Disk }
     {
         let MasterNode { master, hard } = self;
-        let mut hard = hard;
-        match write(&mut hard, disk, master.epoch(), &event) {
-            Ok(()) => {}
-            Err(fault) => {
-                drop(event);
-                match written_refusal(fault) {
-                    Ok(refusal) => {
-                        return Ok((MasterNode { master, hard }, Answer::Refused(refusal)));
-                    }
-                    Err(halt) => {
-                        drop(master);
-                        drop(hard);
-                        return Err(halt);
-                    }
-                }
+        match master.step(alloc, MasterEvent::Resync) {
+            Ok((master, outcome)) => {
+                drop(outcome);
+                Ok((MasterNode { master, hard }, Answer::Done))
             }
-        }
-        match master.step(alloc, event) {
-            Ok((master, outcome)) => Ok((MasterNode { master, hard }, answer_in(outcome))),
             Err(OutOfMemory) => {
                 drop(hard);
                 Err(Halt::Memory)
             }
         }
+    }
+
+    // It is commanded, over its own hard state.
+    fn obey<D: Disk>(
+        self,
+        alloc: Global,
+        command: &MasterCommand,
+        disk: &mut D,
+    ) -> Result<(MasterNode, Answer), Halt>
+        requires named { IsNamed command.now }
+        requires steps { self.master.steps < most_steps }
+        requires rests { Rests self (D.size disk.old) }
+        ensures does { IfOk result (Does (λ h r. master_after h r (master_commanded r h (master_command command.now))) self) }
+        ensures rests { IfOk result (λ after. Rests after.0 (D.size disk.new)) }
+        ensures steps { IfOk result (λ after. after.0.master.steps ≤ self.master.steps + 1) }
+        ensures later { D.faults disk.old ≤ D.faults disk.new }
+        ensures cause { result ≡ Err Halt.Disk → Rose (D.faults disk.old) (D.faults disk.new) }
+        ensures served { result ≢ Err Halt.Disk → D.faults disk.new ≡ D.faults disk.old }
+        ensures told { LeavesMade (λ h r. master_after h r (master_commanded r h (master_command command.now))) self result (D.told disk.old) (D.told disk.new) }
+    {
+        let MasterNode { master, hard } = self;
+        let mut hard = hard;
+        match obey(master, alloc, command, &mut hard, disk) {
+            Ok((master, refusal)) => Ok((MasterNode { master, hard }, answer_of(refusal))),
+            Err(halt) => {
+                drop(hard);
+                Err(halt)
+            }
+        }
+    }
+}
+
+// What a command is answered with.
+fn answer_of(refusal: Option<Refusal>) -> Answer
+    ensures { result ≡ answer_of refusal }
+{
+    match refusal {
+        Some(refusal) => Answer::Refused(refusal),
+        None => Answer::Done,
     }
 }
 
@@ -301,7 +307,7 @@ impl Core for MasterNode {
 
 impl Node for MasterNode {
     ghost use Rattle.master_node.specs.MasterParties.{DiskHas, disk_has};
-    ghost use Rattle.master_node.specs.Writes.{LeavesEither};
+    ghost use Rattle.master_node.specs.NodeCommands.{LeavesEither};
 
     ghost fits = { DiskHas };
 
@@ -332,13 +338,21 @@ impl Node for MasterNode {
         ensures served { result ≢ Err Halt.Disk → D.faults disk.new ≡ D.faults disk.old }
         ensures leaves { (r : RoleSeen) → StandsAs self r → WhereTold (LeavesLine self.hard (hard_in (commanded r event.now).role) result) (D.told disk.old) (D.told disk.new) }
     {
-        let Some((epoch, told)) = master_named(event) else {
-            return Ok((self, Answer::NotHere));
-        };
-        if epoch != self.epoch() {
-            return Ok((self, Answer::Refused(Refusal::NotRunning)));
+        match order_of(event) {
+            Some(Order::Resync(Role::Master, epoch)) => {
+                if epoch != self.epoch() {
+                    return Ok((self, Answer::Refused(Refusal::NotRunning)));
+                }
+                self.resync(alloc)
+            }
+            Some(Order::Govern(epoch, command)) => {
+                if epoch != self.epoch() {
+                    return Ok((self, Answer::Refused(Refusal::NotRunning)));
+                }
+                self.obey(alloc, &command, disk)
+            }
+            _ => Ok((self, Answer::NotHere)),
         }
-        self.tell(alloc, told, disk)
     }
 
     fn write_state(&self, out: &mut Vec<u8>) -> Result<(), OutOfMemory> {

@@ -9,5 +9,5 @@ mod text;
 
 pub use disk::NoDisk;
 pub use line::{NodeLine, read_line};
-pub use party::{Answer, Halt, Node};
+pub use party::{Answer, Node};
 pub use text::{push_answer, push_state, write_round};

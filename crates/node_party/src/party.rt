@@ -13,6 +13,7 @@ ghost use Rattle.node_party.specs.NodeTexts.{lines_text, party_lines, as_answer}
 use fuxi_io::Disk;
 use fuxi_terms::OutOfMemory;
 use node_rounds::Core;
+use party_orders::Halt;
 use schedule_text::{Event, Refusal};
 use std::alloc::Global;
 
@@ -25,15 +26,6 @@ pub enum Answer {
     Refused(Refusal),
     /// It is one of another kind of node, and nothing has changed.
     NotHere,
-}
-
-/// Why a command could not be taken. The party is gone.
-#[derive(Clone, Copy, Debug, Drop, PartialEq, Eq)]
-pub enum Halt {
-    /// The disk failed.
-    Disk,
-    /// Memory was refused.
-    Memory,
 }
 
 /// The party of a node, which takes the lines that are no rounds. What its calls do is said of every party of the definitions that it

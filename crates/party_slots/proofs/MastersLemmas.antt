@@ -1,5 +1,5 @@
 -- Masters in their slots.
-use Rattle.std.proofs.Common.{◌≡◌, ℕ, ◌<◌, Bool, true, false, cond, not, nat_eq, List, [], ◌∷◌, map, Option, Some, None, is_some, Result, Ok, Err, refl, sym, ◌∙◌, ap, subst}
+use Rattle.std.proofs.Common.{◌≡◌, ℕ, ◌<◌, Bool, true, false, cond, not, nat_eq, List, [], ◌∷◌, map, Option, Some, None, is_some, Result, Ok, Err, ◌≤◌, refl, sym, ◌∙◌, ap, subst}
 use Rattle.std.specs.Prelude.{OnOk, T, ◌||◌}
 use Rattle.std.specs.List.{AllByRecursion, list_any}
 use Rattle.std.specs.List.Sorted.{IsStrictlySortedBy}
@@ -11,10 +11,10 @@ use Rattle.std.specs.Ordering.{nat_cmp, is_eq, is_lt}
 use Rattle.std.specs.declared.cmp.Ordering.TheVariants.{Less}
 use Rattle.std.specs.Cmp.{nat_cmp_total}
 use Rattle.std.specs.FinMap.Entries.{find, where_key, is_sorted, below_all, is_some-find, find-where_key}
+use Rattle.fuxi_io.specs.Disks.{Told, WhereTold}
 use Rattle.fuxi_terms.specs.declared.OutOfMemory.{OutOfMemory}
 use Rattle.fuxi_terms.specs.declared.answers.What.{What}
 use Rattle.fuxi_terms.specs.Cluster.{ClusterRecord}
-use Rattle.fuxi_terms.specs.Counts.{then_do}
 use Rattle.fuxi_terms.proofs.Booleans.{eq_turned, nat_itself, number_is}
 use Rattle.fuxi_terms.proofs.CountsLemmas.{both_true, lesser}
 use Rattle.fuxi_terms.proofs.Lookups.{none_is}
@@ -24,24 +24,26 @@ use Rattle.core_side.specs.Parcels.{parcel_is}
 use Rattle.written_net.specs.Sides.{Parcel}
 use Rattle.written_roles.specs.HardState.{HardState}
 use Rattle.written_roles.specs.Masters.{Master}
-use Rattle.written_roles.specs.MasterRoles.{MasterRole, Sent as SentAs, HeardAs, changes_as, master_changed, master_started, master_steps_alone}
-use Rattle.written_roles.specs.MasterSteps.{Changed, change_of, MasterCommand, Submits, Finishes, BansMachine, UnbansMachine, StartsServing, MakesRoom, command_of}
-use Rattle.written_roles.specs.Refusals.{Refusal, NotRunning, with_found}
+use Rattle.written_roles.specs.MasterRoles.{MasterRole, Sent as SentAs, HeardAs, master_commanded, master_started}
+use Rattle.written_roles.specs.MasterSteps.{MasterCommand}
+use Rattle.written_roles.specs.Refusals.{Refusal as WrittenRefusal, NotRunning, with_found}
 use Rattle.written_world.specs.World.{World, Step, prints_nothing, refused}
 use Rattle.written_world.specs.Good.{Good}
 use Rattle.written_world.specs.Events.{commanded, without_master}
 use Rattle.written_join.specs.SeenWorlds.{master_seen}
-use Rattle.fuxi_master.specs.Cores.{CoreRecord, MasterRecord, StandsFor}
-use Rattle.fuxi_master.specs.Steps.{Answers, StepsAlike, answer_of, refusal_of}
-use Rattle.fuxi_master.specs.declared.event.MasterEvent.{MasterEvent}
+use Rattle.fuxi_master.specs.Cores.{MasterRecord, StandsFor}
+use Rattle.fuxi_master.specs.Steps.{StepsAlike, answer_of}
 use Rattle.fuxi_master.specs.declared.event.MasterEvent.TheVariants.{Packet as PacketComes, Turn, Resync}
-use Rattle.fuxi_master.specs.declared.event.MasterRefusal.{MasterRefusal}
+use Rattle.hard_state.specs.HardFiles.{Kept}
+use Rattle.party_orders.specs.OrderedParties.{KnowsWritten, LeavesOrder, ObeyedAs}
+use Rattle.party_orders.specs.declared.masters.Halt.{Halt}
+use Rattle.schedule_text.specs.declared.refusal.Refusal.{Refusal}
 use Rattle.fuxi_master.specs.declared.event.Outcome.{Outcome}
 use Rattle.fuxi_master.specs.declared.event.Outcome.TheVariants.{Done, Refused, Sent, Heard as HeardOne}
 use Rattle.written_parties.specs.SeenParties.{Role, OfMaster, OfAgent, OfApp, Masters, hears, resynced, seen, GovernsAs, Governs, MasterStarts, master_after}
 use Rattle.party_slots.specs.PartyAnswers.{Hears, Sends}
-use Rattle.party_slots.specs.Slots.{SlotsRecord, entry_at, slot_at, boot_at, IsSet, IsStill, IsGone, StandsAt, StartInWorld}
-use Rattle.party_slots.specs.RunningMasters.{MasterStands, AreMastersOf, MasterAt, MasterStartInWorld, StopInWorld, change_in, IsWritten, CommandsIn, CommandInWorld, done_in, epochs_of}
+use Rattle.party_slots.specs.Slots.{SlotsRecord, entry_at, slot_at, boot_at, IsSet, IsGone, IsNone, StandsAt, StartInWorld}
+use Rattle.party_slots.specs.RunningMasters.{MasterStands, AreMastersOf, AreMastersOver, MasterAt, MasterRunsAs, MasterStartInWorld, StopInWorld, ObeysOneIn, ObeyInWorld, RestsAgain, epochs_of}
 use Rattle.party_slots.proofs.SlotsLemmas.{stand_now, stand_set, stand_still, stand_same, at_slot, ties}
 
 -- What a master answers. A packet was heard so
@@ -161,65 +163,55 @@ stop_in e old new b gone is w s = record { stand = left w e old new (find nat_cm
 abbrev pub GovernsJoin : Type 0
 GovernsJoin = (w : World) (e : ℕ) (x : MasterCommand) → Good w → Governs w e x (seen w Masters e)
 
--- a command whose change is refused is refused so: nothing is written before it
-refused_as : (c : ClusterRecord) (h : HardState) (M : Master) (x : MasterCommand) (f : Refusal) → change_of c M (change_in x) ≡ Err f → command_of c h M x ≡ Err f
-refused_as c h M (Submits j) f e = cc
-refused_as c h M (Finishes a) f e = cc
-refused_as c h M (BansMachine m) f e = cc
-refused_as c h M (UnbansMachine m) f e = cc
-refused_as c h M StartsServing f e = ap (λ o. then_do o (λ d. Ok (record { hard = h; change = d }))) e
-refused_as c h M MakesRoom f e = ap (λ o. then_do o (λ d. Ok (record { hard = h; change = d }))) e
+-- the master knows what is written, as a good world says
+pub knows_written : (e : ℕ) (h : HardState) (m : MasterRecord) (x : SlotsRecord MasterRecord) → AreMastersOver h x → slot_at x e ≡ Some m → KnowsWritten h m.core
+knows_written e h m x over is =
+    let w = over.world in
+    let good = over.good in
+    let r : MasterRunsAs w e m.core = master_at w e (Some m) (at_slot MasterStands w Masters e (Some m) x over.stand is) in
+    let shown = good.stands.masters e r.master r.runs in
+    subst (λ k. KnowsWritten k m.core) (sym over.hard) (record {
+      role = master_seen w r.master;
+      stands = r.stands;
+      ran = subst (λ n. n ≤ w.hard.fence) (sym shown.epoch) shown.ran;
+      jobs = (good.knows e r.master r.runs).marks;
+    })
 
--- what holds of an outcome where the change is made and where it is refused, by what was answered
-by_answer : (P : Result (Unit {0}) MasterRefusal → Type 0) (r : MasterRole) (new : CoreRecord) (c : Result Changed Refusal) (o : Outcome) → ((d : Changed) → c ≡ Ok d → StandsFor new (master_changed r d) → P (Ok tt))
-    → ((f : MasterRefusal) → c ≡ Err (refusal_of f) → StandsFor new r → P (Err f)) → Answers new o (changes_as r c) → P (done_in o)
-by_answer P r new (Ok d) Done f g a = f d refl a.role
-by_answer P r new (Ok d) (Refused k) f g a = let says = a.says in absurd cc
-by_answer P r new (Ok d) (Sent packets) f g a = let says = a.says in absurd cc
-by_answer P r new (Ok d) (HeardOne heard) f g a = let says = a.says in absurd cc
-by_answer P r new (Err e) Done f g a = let says = a.says in absurd cc
-by_answer P r new (Err e) (Refused k) f g a = let says = a.says in g k (cc) a.role
-by_answer P r new (Err e) (Sent packets) f g a = let says = a.says in absurd cc
-by_answer P r new (Err e) (HeardOne heard) f g a = let says = a.says in absurd cc
-
-same_master : (M N : Master) (o : Option Master) → o ≡ Some M → o ≡ Some N → N ≡ M
-same_master M N o e f = let g = sym e ∙ f in cc
-
-abbrev CommandsAs : World → ℕ → MasterCommand → SlotsRecord MasterRecord → Result (Unit {0}) MasterRefusal → Type 0
-CommandsAs w e x new answer = CommandsIn w e x new (Some answer)
-
-pub commanded_here : GovernsJoin → (e : ℕ) (event : MasterEvent) (outcome : Outcome) (p q : MasterRecord) (old new : SlotsRecord MasterRecord) → slot_at old e ≡ Some p → IsSet e (Some q) (boot_at old e) old new → StepsAlike event p.core q.core outcome
-    → CommandInWorld e event old new (Some (done_in outcome))
-commanded_here join e event outcome p q old new was set core w x good s told = by (find nat_cmp e w.masters) refl (at_slot MasterStands w Masters e (Some p) old s was) (join w e x good)
+-- one that is done or refused by the master alone is so in the world
+pub obeyed_here : GovernsJoin → (e : ℕ) (x : MasterCommand) (h k : HardState) (p q : MasterRecord) (answer : Option Refusal) (old new : SlotsRecord MasterRecord) → slot_at old e ≡ Some p → IsSet e (Some q) (boot_at old e) old new
+    → ((r : MasterRole) → StandsFor p.core r → ObeyedAs r h k q.core answer (master_commanded r h x)) → ObeyInWorld e x h k old new (Some answer)
+obeyed_here join e x h k p q answer old new was set core w good s hard = by (seen w Masters e) refl (at_slot MasterStands w Masters e (Some p) old s was) (join w e x good)
   where
-    by : (o : Option Master) → find nat_cmp e w.masters ≡ o → StandsAt MasterStands (Some p) (seen_as w o) → Governs w e x (seen_as w o) → CommandsIn w e x new (Some (done_in outcome))
-    by None is st h = absurd st
-    by (Some M) is st h =
-        let r = master_seen w M in
-        let runs : seen w Masters e ≡ Some (OfMaster r) = ap (seen_as w) is in
-        by_answer (CommandsAs w e x new) r q.core (change_of w.cluster M (change_in x)) outcome
-        (λ d change now N k there written.
-        let is_written : command_of w.cluster w.hard M x ≡ Ok (record { hard = k; change = d }) = subst (λ N. IsWritten w N x k) (same_master M N _ is there) written d change in
-        let done = subst (GovernsAs w e (commanded w e x)) (ap (λ o. then_do o (λ y. Ok (master_changed r y.change, y.hard))) is_written) h in
-        record {
-          stand = stand_set MasterStands w _ Masters e (OfMaster (master_changed r d)) [] q (boot_at old e) old new s done.acts (s.last e) now set;
-          role = OfMaster (master_changed r d);
-          acts = done.acts;
-          hard = done.hard;
-          quiet = done.lines;
-        })
-        (λ f change now. record {
-          stand = stand_still MasterStands w Masters e (OfMaster r) q old new s runs now set;
-          same = subst (GovernsAs w e (commanded w e x)) (ap (λ o. then_do o (λ y. Ok (master_changed r y.change, y.hard))) (refused_as w.cluster w.hard M x (refusal_of f) change)) h;
-        })
-        (subst (λ t. Answers q.core outcome (master_steps_alone r t)) told (core r st))
+    obeyed : (r : MasterRole) (answer : Option Refusal) (step : Result (MasterRole × HardState) WrittenRefusal) → seen w Masters e ≡ Some (OfMaster r) → GovernsAs w e (commanded w e x) step → ObeyedAs r h k q.core answer step → ObeysOneIn w e x k new (Some answer)
+    obeyed r None (Ok d) runs g o = record { stand = stand_set MasterStands w _ Masters e (OfMaster d.0) [] q (boot_at old e) old new s g.acts (s.last e) o.0 set; role = OfMaster d.0; acts = g.acts; hard = o.1 ∙ sym g.hard; quiet = g.lines }
+    obeyed r None (Err f) runs g o = absurd o
+    obeyed r (Some why) (Ok d) runs g o = absurd o
+    obeyed r (Some why) (Err f) runs g o = record { same = g ∙ ap (refused w) o.2; stand = stand_still MasterStands w Masters e (OfMaster r) q old new s runs o.0 set; hard = o.1 ∙ hard }
 
-pub commanded_none : GovernsJoin → (e : ℕ) (event : MasterEvent) (old new : SlotsRecord MasterRecord) → slot_at old e ≡ None → IsStill e old new → CommandInWorld e event old new None
-commanded_none join e event old new was still w x good s told = by (find nat_cmp e w.masters) (at_slot MasterStands w Masters e None old s was) (join w e x good)
+    by : (o : Option Role) → seen w Masters e ≡ o → StandsAt MasterStands (Some p) o → Governs w e x o → ObeysOneIn w e x k new (Some answer)
+    by None runs st g = absurd st
+    by (Some (OfAgent r)) runs st g = absurd g
+    by (Some (OfApp r)) runs st g = absurd g
+    by (Some (OfMaster r)) runs st g = obeyed r answer (master_commanded r h x) runs (subst (λ y. GovernsAs w e (commanded w e x) (master_commanded r y x)) (sym hard) g) (core r st)
+
+pub obeyed_none : GovernsJoin → (e : ℕ) (x : MasterCommand) (h : HardState) (old new : SlotsRecord MasterRecord) → IsNone e old new → ObeyInWorld e x h h old new None
+obeyed_none join e x h old new none w good s hard = by (seen w Masters e) (at_slot MasterStands w Masters e None old s none.was) (join w e x good)
   where
-    by : (o : Option Master) → StandsAt MasterStands None (seen_as w o) → Governs w e x (seen_as w o) → CommandsIn w e x new None
-    by None st h = record { same = h; stand = stand_same MasterStands w Masters e old new s still }
-    by (Some M) st h = absurd st
+    by : (o : Option Role) → StandsAt MasterStands None o → Governs w e x o → ObeysOneIn w e x h new None
+    by None st g = record { same = g; stand = stand_same MasterStands w Masters e old new s none.now; hard = hard }
+    by (Some r) st g = absurd st
+
+-- At rest. Nothing was written
+pub rests_still : (k : Kept) (result : Result (Option (Option Refusal)) Halt) (told : Option Told) → WhereTold (RestsAgain k k result) told told
+rests_still k result None = tt
+rests_still k (Ok a) (Some t) = λ rest. rest
+rests_still k (Err f) (Some t) = λ rest. tt
+
+-- or what a command leaves
+pub rests_obeyed : (before after : Kept) (h : HardState) (first : Result (MasterRecord × Option Refusal) Halt) (result : Result (Option (Option Refusal)) Halt) → ((X : Type 0) → OnOk first X → OnOk result X) → (old new : Option Told) → WhereTold (LeavesOrder before after h first) old new → WhereTold (RestsAgain before after result) old new
+rests_obeyed before after h first result same None new told = tt
+rests_obeyed before after h first result same (Some t) None told = told
+rests_obeyed before after h first result same (Some t) (Some u) told = λ rest. same _ (told rest).1
 
 -- Epochs, of two lists in order with the same ones
 rises : (es : List (ℕ × Master)) → T (is_sorted nat_cmp es) → IsStrictlySortedBy nat_cmp (epochs_of es)

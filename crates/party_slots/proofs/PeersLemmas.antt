@@ -1,5 +1,5 @@
 -- Agents and applications in their slots.
-use Rattle.std.proofs.Common.{◌≡◌, ℕ, ◌+◌, ◌<◌, ◌≤◌, List, [], Option, Some, None, Result, Ok, Err, refl, sym, ap, subst, arith}
+use Rattle.std.proofs.Common.{◌≡◌, ℕ, ◌+◌, ◌<◌, ◌≤◌, List, [], Option, Some, None, Result, Ok, Err, refl, sym, ◌∙◌, ap, subst, arith}
 use Rattle.std.specs.Prelude.{OnOk, OnErr}
 use Rattle.std.specs.Option.{option_map}
 use Rattle.std.specs.Ordering.{nat_cmp}
@@ -10,19 +10,18 @@ use Rattle.fuxi_terms.specs.declared.OutOfMemory.{OutOfMemory as WantOfMemory}
 use Rattle.written_net.specs.Channels.{agent_id, app_id}
 use Rattle.written_roles.specs.Agents.{new_agent}
 use Rattle.written_roles.specs.Apps.{AppRole, AppCommand, commands_alone, new_app}
-use Rattle.written_roles.specs.Refusals.{Refusal}
-use Rattle.written_world.specs.World.{World, Agent, App, Step, refused}
+use Rattle.written_roles.specs.Refusals.{Refusal as WrittenRefusal}
+use Rattle.written_world.specs.World.{World, Agent, App, refused}
 use Rattle.written_world.specs.Good.{Good}
 use Rattle.written_world.specs.Events.{asks, agent_started, app_started}
 use Rattle.written_join.specs.SeenWorlds.{agent_seen, app_seen}
 use Rattle.agent_core.specs.AgentCores.{AgentCore, StandsFor as AgentStandsFor}
 use Rattle.app_master.specs.AppCores.{AppCore, StandsFor as AppStandsFor}
-use Rattle.app_master.specs.AppCommands.{Answers, Commands, Names}
-use Rattle.app_master.specs.declared.fault.AppFault.{AppFault}
-use Rattle.app_master.specs.declared.fault.AppFault.TheVariants.{NoUnit, NoMachine, NoRack, WantRange, NotUsable, BackRange, OutOfMemory}
+use Rattle.party_orders.specs.OrderedParties.{AskedAs}
+use Rattle.schedule_text.specs.declared.refusal.Refusal.{Refusal}
 use Rattle.written_parties.specs.SeenParties.{Role, OfMaster, OfAgent, OfApp, Agents, Apps, seen, AsksAs, Asks, AgentStarts, AppStarts, agent_starting, app_starting}
-use Rattle.party_slots.specs.Slots.{SlotsRecord, slot_at, boot_at, StandsAt, IsSet, IsStill, StartInWorld}
-use Rattle.party_slots.specs.Peers.{AgentStands, AppStands, AgentAt, AppAt, IsRefusedAs, AsksOneIn, AskInWorld, AgentStartInWorld, AppStartInWorld}
+use Rattle.party_slots.specs.Slots.{SlotsRecord, slot_at, boot_at, StandsAt, IsSet, IsNone, StartInWorld}
+use Rattle.party_slots.specs.Peers.{AgentStands, AppStands, AgentAt, AppAt, AsksOneIn, AskInWorld, AgentStartInWorld, AppStartInWorld}
 use Rattle.party_slots.proofs.SlotsLemmas.{stand_kept, stand_same, stand_still, at_slot}
 
 -- who runs
@@ -48,45 +47,32 @@ app_at w n o s = by (find nat_cmp n w.apps) refl o s
 abbrev pub AsksJoin : Type 0
 AsksJoin = (w : World) (a : ℕ) (x : AppCommand) → Good w → Asks w a x (seen w Apps a)
 
-named : (w : World) (s : Step) (f : AppFault) (answer : Result AppRole Refusal) → ((r : Refusal) → answer ≡ Err r → s ≡ refused w r) → Names f answer → IsRefusedAs w s f
-named w s NoUnit answer h n = h _ n
-named w s NoMachine answer h n = h _ n
-named w s NoRack answer h n = h _ n
-named w s WantRange answer h n = h _ n
-named w s (NotUsable usable) answer h n = h _ n
-named w s BackRange answer h n = h _ n
-named w s OutOfMemory answer h n = tt
-
-refused_as : (w : World) (a : ℕ) (s : Step) (answer : Result AppRole Refusal) → AsksAs w a s answer → (r : Refusal) → answer ≡ Err r → s ≡ refused w r
-refused_as w a s answer h r is = subst (AsksAs w a s) is h
-
-pub asked_here : AsksJoin → (a : ℕ) (x : AppCommand) (result : Result (Unit {0}) AppFault) (p p' : AppCore) (old new : SlotsRecord AppCore) → slot_at old a ≡ Some p → IsSet a (Some p') (boot_at old a) old new → Commands x p result p' → AskInWorld a x old new (Some result)
-asked_here join a x result p p' old new was set core w good s = by (seen w Apps a) refl (at_slot AppStands w Apps a (Some p) old s was) (join w a x good)
+pub asked_here : AsksJoin → (a : ℕ) (x : AppCommand) (answer : Option Refusal) (p q : AppCore) (old new : SlotsRecord AppCore) → slot_at old a ≡ Some p → IsSet a (Some q) (boot_at old a) old new
+    → ((r : AppRole) → AppStandsFor p r → AskedAs p q answer (commands_alone r x)) → AskInWorld a x old new (Some answer)
+asked_here join a x answer p q old new was set core w good s = by (seen w Apps a) refl (at_slot AppStands w Apps a (Some p) old s was) (join w a x good)
   where
-    done : (r : AppRole) (answer : Result AppRole Refusal) (result : Result (Unit {0}) AppFault) → seen w Apps a ≡ Some (OfApp r) → AppStands p (OfApp r) → AsksAs w a (asks w a x) answer → Answers p p' result answer → AsksOneIn w a x new (Some result)
-    done r (Ok role) (Ok d) is st h answers = record { world = record { stand = stand_kept AppStands w _ Apps a (OfApp role) [] p' old new s h.acts h.keeps answers set; role = OfApp role; acts = h.acts; hard = h.keeps.hard }; lines = h.lines }
-    done r (Err f) (Ok d) is st h answers = absurd answers
-    done r answer (Err fault) is st h answers = record {
-      says = named w (asks w a x) fault answer (refused_as w a (asks w a x) answer h) answers.1;
-      stand = stand_still AppStands w Apps a (OfApp r) p' old new s is (subst (λ q. AppStands q (OfApp r)) (sym answers.0) st) set;
-    }
+    asked : (r : AppRole) (answer : Option Refusal) (step : Result AppRole WrittenRefusal) → seen w Apps a ≡ Some (OfApp r) → AppStands p (OfApp r) → AsksAs w a (asks w a x) step → AskedAs p q answer step → AsksOneIn w a x new (Some answer)
+    asked r None (Ok role) runs st h d = record { world = record { stand = stand_kept AppStands w _ Apps a (OfApp role) [] q old new s h.acts h.keeps d set; role = OfApp role; acts = h.acts; hard = h.keeps.hard }; lines = h.lines }
+    asked r None (Err f) runs st h d = absurd d
+    asked r (Some why) (Ok role) runs st h d = absurd d
+    asked r (Some why) (Err f) runs st h d = record { same = h ∙ ap (refused w) d.1; stand = stand_still AppStands w Apps a (OfApp r) q old new s runs (subst (λ c. AppStands c (OfApp r)) (sym d.0) st) set }
 
-    by : (o : Option Role) → seen w Apps a ≡ o → StandsAt AppStands (Some p) o → Asks w a x o → AsksOneIn w a x new (Some result)
-    by None e none h = absurd none
-    by (Some (OfMaster r)) e st h = absurd h
-    by (Some (OfAgent r)) e st h = absurd h
-    by (Some (OfApp r)) e st h = done r (commands_alone r x) result e st h (core r st)
+    by : (o : Option Role) → seen w Apps a ≡ o → StandsAt AppStands (Some p) o → Asks w a x o → AsksOneIn w a x new (Some answer)
+    by None runs none h = absurd none
+    by (Some (OfMaster r)) runs st h = absurd h
+    by (Some (OfAgent r)) runs st h = absurd h
+    by (Some (OfApp r)) runs st h = asked r answer (commands_alone r x) runs st h (core r st)
 
-pub asked_none : AsksJoin → (a : ℕ) (x : AppCommand) (old new : SlotsRecord AppCore) → slot_at old a ≡ None → IsStill a old new → AskInWorld a x old new None
-asked_none join a x old new was still w good s = by (seen w Apps a) (at_slot AppStands w Apps a None old s was) (join w a x good)
+pub asked_none : AsksJoin → (a : ℕ) (x : AppCommand) (old new : SlotsRecord AppCore) → IsNone a old new → AskInWorld a x old new None
+asked_none join a x old new none w good s = by (seen w Apps a) (at_slot AppStands w Apps a None old s none.was) (join w a x good)
   where
     by : (o : Option Role) → StandsAt AppStands None o → Asks w a x o → AsksOneIn w a x new None
-    by None none h = record { same = h; stand = stand_same AppStands w Apps a old new s still }
+    by None st h = record { same = h; stand = stand_same AppStands w Apps a old new s none.now }
     by (Some r) st h = absurd st
 
--- one step more where it is done, and none where it is refused
-pub one_more : (old new : AppCore) (result : Result (Unit {0}) AppFault) → OnOk result (new.steps ≡ old.steps + 1) → OnErr result (new ≡ old) → new.steps ≤ old.steps + 1
-one_more old new (Ok done) more same = omega (arith, more)
+-- one step more at most where it is answered, and none where memory was refused
+pub one_more : {A E : Type 0} (old new : AppCore) (result : Result A E) → OnOk result (new.steps ≤ old.steps + 1) → OnErr result (new ≡ old) → new.steps ≤ old.steps + 1
+one_more old new (Ok done) more same = more
 one_more old new (Err fault) more same = let steps = ap (λ (a : AppCore). a.steps) same in omega (arith, steps)
 
 -- Starts

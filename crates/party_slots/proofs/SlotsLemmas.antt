@@ -18,7 +18,7 @@ use Rattle.written_join.specs.SeenWorlds.{parcel_of}
 use Rattle.written_join.specs.Leading.{AllLead}
 use Rattle.written_parties.specs.SeenParties.{Kind, Masters, Agents, Apps, kind_number, is_same, IsFor, boot_of, Role, hears, resynced, seen, Acts, Keeps, IsRuled, ComesTo, TakesTurn, Resyncs, turn_of}
 use Rattle.party_slots.specs.PartyAnswers.{Hears, HearsAlike, SendsAlike}
-use Rattle.party_slots.specs.Slots.{SlotsRecord, entry_at, party_in, boot_in, slot_at, boot_at, IsNow, IsSet, IsStill, IsGone, IsActed, IsFailed, IsNone, ActsInSlot, AreWithin, MayStep, StandsAt, AreOf, IsHeardIn, IsLostIn, HearInWorld, TurnsOneIn, TurnInWorld, ResyncsOneIn, ResyncInWorld, StartInWorld, Stays}
+use Rattle.party_slots.specs.Slots.{SlotsRecord, entry_at, party_in, boot_in, slot_at, boot_at, IsNow, IsSet, IsStill, IsGone, IsTakenOut, IsActed, IsFailed, IsNone, ActsInSlot, AreWithin, MayStep, StandsAt, AreOf, IsHeardIn, IsLostIn, HearInWorld, TurnsOneIn, TurnInWorld, ResyncsOneIn, ResyncInWorld, StartInWorld, Stays}
 
 -- The laws of the join, as they are called for
 abbrev pub HearsJoin : Type 0
@@ -63,6 +63,34 @@ module _ {P : Type 0} where
       subst (λ x. IsFailed {A = A} does n x new f) same
       (record { before = p; was = ap party_in (sym there) ∙ sym party; made = made; now = subst (λ o. IsSet n o (boot_at old n) old new) taken (set_at n o e old new there written) })
 
+  -- one whose core stays is as it was
+  pub still_at : (n : ℕ) (p q : P) (old new : SlotsRecord P) → slot_at old n ≡ Some p → q ≡ p → IsSet n (Some q) (boot_at old n) old new → IsStill n old new
+  still_at n p q old new was same set = record { here = set.here ∙ ap (λ c. Some (Some c, boot_at old n)) same ∙ by (entry_at old n) was; others = set.others }
+    where
+      by : (e : Option (Option P × ℕ)) → party_in e ≡ Some p → Some (Some p, boot_in e) ≡ e
+      by None is = cc
+      by (Some e) is = ap (λ o. Some (o, e.1)) (sym is)
+
+  -- What is taken out of its slot and put back
+  pub taken_at : (n : ℕ) (e : Option P × ℕ) (o r : Option P) (old now new : SlotsRecord P) → old ≡ now → Some e ≡ entry_at old n → r ≡ e.0 → o ≡ None → (IsSome (entry_at old n) → (m : ℕ) → entry_at new m ≡ cond (is_at (nat_cmp n) m) (Some (o, e.1)) (entry_at old m)) → IsTakenOut n now new r
+  taken_at n e o r old now new same there party taken written = by r party
+    where
+      set : IsSet n None (boot_at now n) now new
+      set = subst (λ x. IsSet n None (boot_at x n) x new) same (subst (λ o. IsSet n o (boot_at old n) old new) taken (set_at n o e old new there written))
+
+      was : slot_at now n ≡ e.0
+      was = ap (λ x. slot_at x n) (sym same) ∙ ap party_in (sym there)
+
+      entry : entry_at now n ≡ Some e
+      entry = ap (λ x. entry_at x n) (sym same) ∙ sym there
+
+      by : (r : Option P) → r ≡ e.0 → IsTakenOut n now new r
+      by None is = record { was = was ∙ sym is; now = record { here = set.here ∙ (λ i. Some (is i, boot_in (entry i))) ∙ sym entry; others = set.others } }
+      by (Some p) is = (was ∙ sym is, set)
+
+  pub put_back : (n : ℕ) (q : P) (old mid new : SlotsRecord P) → IsSet n None (boot_at old n) old mid → IsSet n (Some q) (boot_at mid n) mid new → IsSet n (Some q) (boot_at old n) old new
+  put_back n q old mid new taken put = record { here = put.here ∙ ap (λ e. Some (Some q, boot_in e)) taken.here; others = λ m apart. put.others m apart ∙ taken.others m apart }
+
   -- What holds of what a call answers, by whether a party is there
   pub by_answer : {A E : Type 0} (does : P → Result (P × A) E → Type 0) (n : ℕ) (old new : SlotsRecord P) (R : Option A → Type 0) (result : Result (Option A) E) → ActsInSlot does n old new result → (IsNone n old new → R None) → ((a : A) → IsActed does n old new a → R (Some a)) → IfOk result R
   by_answer does n old new R (Ok None) acts none some = none acts
@@ -84,6 +112,18 @@ module _ {P : Type 0} where
       by : (m : ℕ) (q : P) → slot_at new m ≡ Some q → (c : Bool) → nat_eq n m ≡ c → steps q ≤ l
       by m q is true t = subst (λ o. IfSome o (λ p. steps p ≤ l)) (sym (ap party_in set.here) ∙ subst (λ i. slot_at new i ≡ Some q) (sym (number_is n m t)) is) here
       by m q is false t = let le = within.within m q (sym (ap party_in (set.others m t)) ∙ is) in omega (arith, le, more)
+
+  -- it took one step more
+  pub within_step : (steps : P → ℕ) (n most : ℕ) (p q : P) (old new : SlotsRecord P) → slot_at old n ≡ Some p → steps q ≤ steps p + 1 → IsSet n (Some q) (boot_at old n) old new → AreWithin steps most old → AreWithin steps (most + 1) new
+  within_step steps n most p q old new was more set within = let few = within.within n p was in within_now steps n (Some (Some q, boot_at old n)) most (most + 1) old new set (omega arith) within (omega (arith, more, few))
+
+  -- or none is there then
+  pub within_none : (steps : P → ℕ) (n most b : ℕ) (old new : SlotsRecord P) → IsSet n None b old new → AreWithin steps most old → AreWithin steps (most + 1) new
+  within_none steps n most b old new set within = within_now steps n (Some (None, b)) most (most + 1) old new set (omega arith) within tt
+
+  pub within_still : (steps : P → ℕ) (n most : ℕ) (old new : SlotsRecord P) → IsNone n old new → AreWithin steps most old → AreWithin steps (most + 1) new
+  within_still steps n most old new none within =
+      within_now steps n (entry_at old n) most (most + 1) old new none.now (omega arith) within (subst (λ o. IfSome o (λ p. steps p ≤ most + 1)) (sym none.was) tt)
 
   -- one step more of the one that acts, of none where none is there, and one party less where it fails
   pub within_acts : {A E : Type 0} (steps : P → ℕ) (does : P → Result (P × A) E → Type 0) (n most : ℕ) (old new : SlotsRecord P) (result : Result (Option A) E) → ((p : P) (r : Result (P × A) E) → does p r → IfOk r (λ after. steps after.0 ≤ steps p + 1))

@@ -1,25 +1,21 @@
 -- The agents and the applications that run, in their slots, and what an application is asked.
-use Rattle.std.specs.Prelude.{◌≡◌, ◌<◌, ℕ, List, [], Option, Some, None, Result, Ok, Err, cond}
+use Rattle.std.specs.Prelude.{◌≡◌, ◌<◌, ℕ, List, [], Option, Some, None}
 use Rattle.std.specs.Ordering.{nat_cmp}
 use Rattle.std.specs.FinMap.Entries.{find}
 use Rattle.fuxi_terms.specs.Cluster.{ClusterRecord}
 use Rattle.fuxi_terms.specs.Jobs.{unit_count}
-use Rattle.fuxi_terms.specs.Limits.{greatest_count}
 use Rattle.written_net.specs.Channels.{agent_id, app_id}
-use Rattle.written_roles.specs.Apps.{AppCommand, Wants, WantsNear, WantsInRack, Avoids, GivesBack}
-use Rattle.written_roles.specs.Refusals.{NoUnit, NoMachine, NoRack, WantRange, NotUsable, BackRange}
-use Rattle.written_world.specs.World.{World, Agent, App, Step, refused}
+use Rattle.written_roles.specs.Apps.{AppCommand}
+use Rattle.written_world.specs.World.{World, Agent, App}
 use Rattle.written_world.specs.Good.{Good}
 use Rattle.written_world.specs.Events.{asks, agent_started, app_started}
 use Rattle.written_join.specs.SeenWorlds.{agent_seen, app_seen, has_of}
 use Rattle.agent_core.specs.AgentCores.{AgentCore, StandsFor as StandsForAgent}
 use Rattle.app_master.specs.AppCores.{AppCore, StandsFor as StandsForApp}
-use Rattle.app_master.specs.declared.fault.AppFault.{AppFault}
-use Rattle.app_master.specs.declared.fault.AppFault.TheVariants.{NoUnit as SaysNoUnit, NoMachine as SaysNoMachine, NoRack as SaysNoRack, WantRange as SaysWantRange, NotUsable as SaysNotUsable, BackRange as SaysBackRange, OutOfMemory as WantOfMemory}
+use Rattle.schedule_text.specs.Printing.{as_refusal}
+use Rattle.schedule_text.specs.declared.refusal.Refusal.{Refusal}
 use Rattle.written_parties.specs.SeenParties.{Role, OfMaster, OfAgent, OfApp, Agents, Apps, Acts, agent_starting, app_starting}
-use Rattle.party_slots.specs.Slots.{SlotsRecord, AreOf, StepIn, NoneIn}
-use Rattle.party_slots.specs.declared.asking.AppAsk.{AppAsk}
-use Rattle.party_slots.specs.declared.asking.AppAsk.TheVariants.{Want, Near, Rack, Avoid, GiveBack}
+use Rattle.party_slots.specs.Slots.{SlotsRecord, AreOf, StepIn, NoneIn, RefusedIn}
 
 abbrev pub AgentStands : AgentCore → Role → Type 0
 AgentStands a (OfMaster r) = ⊥
@@ -77,34 +73,11 @@ pub record AppStartsIn (w : World) (a b : ℕ) (new : SlotsRecord AppCore) : Typ
 abbrev pub AppStartInWorld : ℕ → ℕ → ClusterRecord → ℕ → SlotsRecord AppCore → SlotsRecord AppCore → Type 0
 AppStartInWorld a units c b old new = (w : World) → Good w → AreAppsOf w old → c ≡ w.cluster → units ≡ unit_count w.hard.jobs a → w.boots (app_id a) < b → AppStartsIn w a b new
 
--- Asking. What is told to an application as a command of the world
-abbrev pub command_of : AppAsk → AppCommand
-command_of (Want unit count) = Wants unit.0 count
-command_of (Near unit machine count) = WantsNear unit.0 machine.0 count
-command_of (Rack unit rack count) = WantsInRack unit.0 rack.0 count
-command_of (Avoid unit machine on) = Avoids unit.0 machine.0 (cond on 1 0)
-command_of (GiveBack unit machine count) = GivesBack unit.0 machine.0 count
-
--- the refusal that a fault names is the event's; want of memory names none
-abbrev pub IsRefusedAs : World → Step → AppFault → Type 0
-IsRefusedAs w s SaysNoUnit = s ≡ refused w NoUnit
-IsRefusedAs w s SaysNoMachine = s ≡ refused w NoMachine
-IsRefusedAs w s SaysNoRack = s ≡ refused w NoRack
-IsRefusedAs w s SaysWantRange = s ≡ refused w (WantRange greatest_count)
-IsRefusedAs w s (SaysNotUsable usable) = s ≡ refused w (NotUsable usable)
-IsRefusedAs w s SaysBackRange = s ≡ refused w BackRange
-IsRefusedAs w s WantOfMemory = Unit {0}
-
--- refused as the world refuses it, and all is as it was
-pub record IsRefusedIn (w : World) (a : ℕ) (x : AppCommand) (after : SlotsRecord AppCore) (fault : AppFault) : Type 0 where
-  pub says : IsRefusedAs w (asks w a x) fault
-  pub stand : AreAppsOf w after
-
--- done as the world does it, which prints nothing, or refused so
-abbrev pub AsksOneIn : World → ℕ → AppCommand → SlotsRecord AppCore → Option (Result (Unit {0}) AppFault) → Type 0
+-- Asking: done as the world does it, which prints nothing, or refused as the world refuses it
+abbrev pub AsksOneIn : World → ℕ → AppCommand → SlotsRecord AppCore → Option (Option Refusal) → Type 0
 AsksOneIn w a x after None = NoneIn AppStands Apps w after (asks w a x)
-AsksOneIn w a x after (Some (Ok done)) = StepIn AppStands Apps w a after [] (asks w a x) []
-AsksOneIn w a x after (Some (Err fault)) = IsRefusedIn w a x after fault
+AsksOneIn w a x after (Some None) = StepIn AppStands Apps w a after [] (asks w a x) []
+AsksOneIn w a x after (Some (Some why)) = RefusedIn AppStands Apps w after (asks w a x) (as_refusal why)
 
-abbrev pub AskInWorld : ℕ → AppCommand → SlotsRecord AppCore → SlotsRecord AppCore → Option (Result (Unit {0}) AppFault) → Type 0
+abbrev pub AskInWorld : ℕ → AppCommand → SlotsRecord AppCore → SlotsRecord AppCore → Option (Option Refusal) → Type 0
 AskInWorld a x old new answer = (w : World) → Good w → AreAppsOf w old → AsksOneIn w a x new answer

@@ -1,26 +1,24 @@
 -- The masters that run, in their slots: starts, stops and commands in each world that they stand in.
-use Rattle.std.specs.Prelude.{◌≡◌, ℕ, ◌<◌, Bool, List, [], map, Option, Some, None, is_some, Result, Ok, Err}
+use Rattle.std.specs.Prelude.{◌≡◌, ℕ, ◌<◌, Bool, List, [], map, Option, Some, None, is_some, Result, OnOk}
 use Rattle.std.specs.Ordering.{nat_cmp}
 use Rattle.std.specs.FinMap.Entries.{find}
+use Rattle.fuxi_io.specs.Disks.{Told}
 use Rattle.fuxi_terms.specs.Cluster.{ClusterRecord}
-use Rattle.fuxi_terms.specs.Jobs.{eight_places}
 use Rattle.written_roles.specs.HardState.{HardState}
 use Rattle.written_roles.specs.Masters.{Master}
-use Rattle.written_roles.specs.MasterRoles.{Told, master_started}
-use Rattle.written_roles.specs.MasterSteps.{MasterChange, Admits, Ends, Bans, Unbans, Begins, Preempts, Changed, change_of, MasterCommand, Submits, Finishes, BansMachine, UnbansMachine, StartsServing, MakesRoom, command_of}
+use Rattle.written_roles.specs.MasterRoles.{master_started}
+use Rattle.written_roles.specs.MasterSteps.{MasterCommand}
+use Rattle.written_roles.specs.Refusals.{Refusal as WrittenRefusal, NotRunning}
 use Rattle.written_world.specs.World.{World, refused}
 use Rattle.written_world.specs.Good.{Good}
 use Rattle.written_world.specs.Events.{commanded, stop_master, without_master}
 use Rattle.written_join.specs.SeenWorlds.{master_seen}
+use Rattle.hard_state.specs.HardFiles.{Kept, IsAtRest}
 use Rattle.fuxi_master.specs.Cores.{CoreRecord, MasterRecord, StandsFor}
-use Rattle.fuxi_master.specs.Steps.{IsFitting, refusal_of, told_by}
-use Rattle.fuxi_master.specs.declared.event.MasterEvent.{MasterEvent}
-use Rattle.fuxi_master.specs.declared.event.MasterEvent.TheVariants.{Packet, Admit, Finish, Ban, Unban, Begin, Preempt, Turn, TurnTo, Resync}
-use Rattle.fuxi_master.specs.declared.event.MasterRefusal.{MasterRefusal}
-use Rattle.fuxi_master.specs.declared.event.Outcome.{Outcome}
-use Rattle.fuxi_master.specs.declared.event.Outcome.TheVariants.{Done, Refused, Sent, Heard}
+use Rattle.schedule_text.specs.Printing.{as_refusal}
+use Rattle.schedule_text.specs.declared.refusal.Refusal.{Refusal}
 use Rattle.written_parties.specs.SeenParties.{Role, OfMaster, OfAgent, OfApp, Masters, Acts, master_after}
-use Rattle.party_slots.specs.Slots.{SlotsRecord, AreOf, NoneIn, slot_at}
+use Rattle.party_slots.specs.Slots.{SlotsRecord, AreOf}
 
 abbrev pub MasterStands : MasterRecord → Role → Type 0
 MasterStands m (OfMaster r) = StandsFor m.core r
@@ -64,60 +62,36 @@ pub record StopsIn (w : World) (e : ℕ) (new : SlotsRecord MasterRecord) (stopp
 abbrev pub StopInWorld : ℕ → SlotsRecord MasterRecord → SlotsRecord MasterRecord → Bool → Type 0
 StopInWorld e old new stopped = (w : World) → AreMastersOf w old → StopsIn w e new stopped
 
--- Commands. What one changes of a master, once the hard state is written
-abbrev pub change_in : MasterCommand → MasterChange
-change_in (Submits j) = Admits (eight_places j)
-change_in (Finishes a) = Ends a
-change_in (BansMachine m) = Bans m
-change_in (UnbansMachine m) = Unbans m
-change_in StartsServing = Begins
-change_in MakesRoom = Preempts
+-- Commands. There is a good world in which the masters stand, with this hard state
+pub record AreMastersOver (h : HardState) (x : SlotsRecord MasterRecord) : Type 0 where
+  pub world : World
+  pub good : Good world
+  pub stand : AreMastersOf world x
+  pub hard : h ≡ world.hard
 
--- its tests pass, and the hard state is this one then
-abbrev pub IsWritten : World → Master → MasterCommand → HardState → Type 0
-IsWritten w M x h = (d : Changed) → change_of w.cluster M (change_in x) ≡ Ok d → command_of w.cluster w.hard M x ≡ Ok (record { hard = h; change = d })
-
--- one that is done, with the hard state that was written
+-- One that is done: the masters stand in the world after it, whose hard state this is; nothing is printed, and all others see what they saw
 pub record CommandDoneIn (w : World) (e : ℕ) (x : MasterCommand) (h : HardState) (new : SlotsRecord MasterRecord) : Type 0 where
   pub stand : AreMastersOf (commanded w e x).world new
   pub role : Role
   pub acts : Acts w (commanded w e x).world Masters e role []
-  pub hard : (commanded w e x).world.hard ≡ h
+  pub hard : h ≡ (commanded w e x).world.hard
   pub quiet : (commanded w e x).lines ≡ []
 
--- one that is refused is refused so in the world
-pub record CommandRefusedIn (w : World) (e : ℕ) (x : MasterCommand) (new : SlotsRecord MasterRecord) (refusal : MasterRefusal) : Type 0 where
+-- one that is refused: the masters stand where they stood, and the hard state is as it was
+pub record CommandRefusedIn (w : World) (e : ℕ) (x : MasterCommand) (h : HardState) (new : SlotsRecord MasterRecord) (why : WrittenRefusal) : Type 0 where
+  pub same : commanded w e x ≡ refused w why
   pub stand : AreMastersOf w new
-  pub same : commanded w e x ≡ refused w (refusal_of refusal)
+  pub hard : h ≡ w.hard
 
-abbrev pub CommandsIn : World → ℕ → MasterCommand → SlotsRecord MasterRecord → Option (Result (Unit {0}) MasterRefusal) → Type 0
-CommandsIn w e x new None = NoneIn MasterStands Masters w new (commanded w e x)
-CommandsIn w e x new (Some (Err refusal)) = CommandRefusedIn w e x new refusal
-CommandsIn w e x new (Some (Ok done)) = (M : Master) (h : HardState) → find nat_cmp e w.masters ≡ Some M → IsWritten w M x h → CommandDoneIn w e x h new
+abbrev pub ObeysOneIn : World → ℕ → MasterCommand → HardState → SlotsRecord MasterRecord → Option (Option Refusal) → Type 0
+ObeysOneIn w e x h new None = CommandRefusedIn w e x h new NotRunning
+ObeysOneIn w e x h new (Some None) = CommandDoneIn w e x h new
+ObeysOneIn w e x h new (Some (Some why)) = CommandRefusedIn w e x h new (as_refusal why)
 
-abbrev pub CommandInWorld : ℕ → MasterEvent → SlotsRecord MasterRecord → SlotsRecord MasterRecord → Option (Result (Unit {0}) MasterRefusal) → Type 0
-CommandInWorld e event old new answer = (w : World) (x : MasterCommand) → Good w → AreMastersOf w old → told_by event ≡ Told (change_in x) → CommandsIn w e x new answer
+-- with the hard state before it and after it
+abbrev pub ObeyInWorld : ℕ → MasterCommand → HardState → HardState → SlotsRecord MasterRecord → SlotsRecord MasterRecord → Option (Option Refusal) → Type 0
+ObeyInWorld e x h k old new answer = (w : World) → Good w → AreMastersOf w old → h ≡ w.hard → ObeysOneIn w e x k new answer
 
--- which events are commands
-abbrev pub IsCommand : MasterEvent → Type 0
-IsCommand (Packet packet) = ⊥
-IsCommand (Admit job) = Unit {0}
-IsCommand (Finish app) = Unit {0}
-IsCommand (Ban machine) = Unit {0}
-IsCommand (Unban machine) = Unit {0}
-IsCommand Begin = Unit {0}
-IsCommand Preempt = Unit {0}
-IsCommand Turn = ⊥
-IsCommand (TurnTo peer) = ⊥
-IsCommand Resync = ⊥
-
--- when the master of an epoch, where one runs, may be told an event
-abbrev pub Fits : ℕ → MasterEvent → SlotsRecord MasterRecord → Type 0
-Fits e event x = (m : MasterRecord) → slot_at x e ≡ Some m → IsFitting m.core event
-
--- what is read off an outcome
-abbrev pub done_in : Outcome → Result (Unit {0}) MasterRefusal
-done_in Done = Ok tt
-done_in (Refused refusal) = Err refusal
-done_in (Sent packets) = Ok tt
-done_in (Heard heard) = Ok tt
+-- a checkpoint at rest is so again once the command is answered
+abbrev pub RestsAgain : {A E : Type 0} → Kept → Kept → Result A E → Told → Told → Type 0
+RestsAgain before after result old new = IsAtRest before old.now → OnOk result (IsAtRest after new.now)

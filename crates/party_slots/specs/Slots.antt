@@ -8,7 +8,7 @@ use Rattle.party_ledgers.specs.declared.packets.Heard.{Heard}
 use Rattle.party_ledgers.specs.declared.packets.Packet.{Packet}
 use Rattle.core_side.specs.Parcels.{parcel_is}
 use Rattle.written_net.specs.Net.{Packet as WrittenPacket, Heard as WrittenHeard}
-use Rattle.written_roles.specs.Refusals.{NotRunning}
+use Rattle.written_roles.specs.Refusals.{Refusal, NotRunning}
 use Rattle.written_world.specs.World.{World, Step, refused}
 use Rattle.written_world.specs.Good.{Good}
 use Rattle.written_world.specs.Events.{addressed, heard_by}
@@ -80,6 +80,11 @@ module _ {P : Type 0} where
   ActsInSlot does n old new (Ok (Some answer)) = IsActed does n old new answer
   ActsInSlot does n old new (Err fault) = IsFailed does n old new fault
 
+  -- It is taken out of its slot, or none is there
+  abbrev pub IsTakenOut : ℕ → SlotsRecord P → SlotsRecord P → Option P → Type 0
+  IsTakenOut n old new None = IsNone n old new
+  IsTakenOut n old new (Some p) = (slot_at old n ≡ Some p) × IsSet n None (boot_at old n) old new
+
   -- Steps. Each took at most so many, and one may take one more
   pub record AreWithin (steps : P → ℕ) (most : ℕ) (x : SlotsRecord P) : Type 0 where
     pub within : (n : ℕ) (p : P) → slot_at x n ≡ Some p → steps p ≤ most
@@ -112,10 +117,13 @@ module _ {P : Type 0} where
     pub world : ActIn stands k w s.world n x sent
     pub lines : s.lines ≡ printed
 
-  -- none of the number runs: the step is refused, and they stand where they stood
-  pub record NoneIn (stands : P → Role → Type 0) (k : Kind) (w : World) (x : SlotsRecord P) (s : Step) : Type 0 where
-    pub same : s ≡ refused w NotRunning
+  -- the step is refused, and they stand where they stood; so where none of the number runs
+  pub record RefusedIn (stands : P → Role → Type 0) (k : Kind) (w : World) (x : SlotsRecord P) (s : Step) (why : Refusal) : Type 0 where
+    pub same : s ≡ refused w why
     pub stand : AreOf stands k w x
+
+  abbrev pub NoneIn : (P → Role → Type 0) → Kind → World → SlotsRecord P → Step → Type 0
+  NoneIn stands k w x s = RefusedIn stands k w x s NotRunning
 
   -- Hearing: the party hears the packet as the world hears it
   pub record IsHeardIn (stands : P → Role → Type 0) (k : Kind) (w : World) (n : ℕ) (x : WrittenPacket) (after : SlotsRecord P) (heard : Heard) : Type 0 where

@@ -1,18 +1,19 @@
 //! Applications in slots.
 
 ghost use Rattle.std.specs.Prelude.{◌≡◌, ◌+◌, ◌<◌, ◌≤◌, ℕ, IfOk, OnOk, OnErr};
-ghost use Rattle.fuxi_terms.specs.Limits.{most_jobs, most_steps, most_units};
-ghost use Rattle.app_master.specs.AppCommands.{Commands};
-ghost use Rattle.party_slots.specs.Slots.{AreWithin, MayStep, slot_at};
-ghost use Rattle.party_slots.specs.Peers.{AppStartInWorld, AskInWorld, app_steps, command_of};
+ghost use Rattle.fuxi_terms.specs.Limits.{most_jobs, most_units};
+ghost use Rattle.party_orders.specs.OrderedParties.{app_command};
+ghost use Rattle.party_slots.specs.Slots.{AreWithin, IsStill, MayStep, slot_at};
+ghost use Rattle.party_slots.specs.Peers.{AppStartInWorld, AskInWorld, app_steps};
 
-use crate::asking::{AppAsk, ask_app};
 use crate::party::Party;
 use crate::slots::Slots;
-use app_master::{AppFault, AppMaster};
+use app_master::AppMaster;
 use cluster_desc::Cluster;
 use ledger_law::OutOfMemory;
 use party_ledgers::{Heard, Kind, Packet, Packets};
+use party_orders::AppCommand;
+use schedule_text::Refusal;
 use schedule_unit::AppNo;
 use std::alloc::Global;
 use written_parties::law;
@@ -62,33 +63,27 @@ pub fn start_app(
     apps.start(app.0 as u64, core, boot)
 }
 
-/// The application of a job is asked; `None` where none runs. After a fault it is as it was.
+/// The application of a job is asked: why it refuses, or `None` where it is done; `None` where none runs. Want of memory leaves it as it
+/// was.
 pub fn ask(
     apps: &mut Slots<AppMaster>,
     alloc: Global,
     app: AppNo,
-    ask: AppAsk,
-) -> Option<Result<(), AppFault>>
+    asked: AppCommand,
+) -> Result<Option<Option<Refusal>>, OutOfMemory>
     requires { MayStep app_steps (slot_at apps.old app.0) }
-    ensures world { AskInWorld app.0 (command_of ask) apps.old apps.new result }
+    ensures world { IfOk result (AskInWorld app.0 (app_command asked) apps.old apps.new) }
     ensures within { (n : ℕ) → AreWithin app_steps n apps.old → AreWithin app_steps (n + 1) apps.new }
+    ensures err { OnErr result (IsStill app.0 apps.old apps.new) }
 {
     law::parties_join();
-    let answer = apps.act(
-        app.0 as u64,
-        move |core: AppMaster|
-            requires { core.steps < most_steps }
-            ensures answers { IfOk result (λ after. Commands (command_of ask) core after.1 after.0) }
-            ensures steps { IfOk result (λ after. after.0.steps ≤ core.steps + 1) }
-            ensures done { OnErr result ⊥ }
-        {
-            let mut core = core;
-            let answer = ask_app(&mut core, alloc, ask);
-            Ok((core, answer))
-        },
-    );
+    let Some(mut core) = apps.take(app.0 as u64) else {
+        return Ok(None);
+    };
+    let answer = party_orders::ask(&mut core, alloc, asked);
+    apps.put(app.0 as u64, core);
     match answer {
-        Ok(answer) => answer,
-        Err(OutOfMemory) => None,
+        Ok(refusal) => Ok(Some(refusal)),
+        Err(OutOfMemory) => Err(OutOfMemory),
     }
 }

@@ -4,7 +4,6 @@
 
 mod agents;
 mod apps;
-mod asking;
 pub mod law;
 mod masters;
 mod party;
@@ -12,7 +11,6 @@ mod slots;
 
 pub use agents::start_agent;
 pub use apps::{ask, start_app};
-pub use asking::AppAsk;
-pub use masters::{command, start_master, stop_master};
+pub use masters::{obey, start_master, stop_master};
 pub use party::Party;
 pub use slots::Slots;

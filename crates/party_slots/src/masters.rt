@@ -1,22 +1,26 @@
 //! Masters in slots, each by its epoch.
 
-ghost use Rattle.std.specs.Prelude.{◌≡◌, ◌+◌, ◌<◌, ◌≤◌, ℕ, List, IfOk, OnOk, OnErr};
+ghost use Rattle.std.specs.Prelude.{◌≡◌, ◌≢◌, ◌+◌, ◌<◌, ◌≤◌, ℕ, List, false, Err, IfOk, OnOk, OnErr};
 ghost use Rattle.std.specs.List.{AllByRecursion};
-ghost use Rattle.std.specs.Option.{option_map};
+ghost use Rattle.fuxi_io.specs.Causes.{Rose};
+ghost use Rattle.fuxi_io.specs.Disks.{WhereTold};
 ghost use Rattle.core_side.specs.Parcels.{IsSent};
-ghost use Rattle.fuxi_terms.specs.Limits.{most_steps};
-ghost use Rattle.fuxi_master.specs.Steps.{IsFitting, IsSentFormed, StepsAlike};
+ghost use Rattle.fuxi_master.specs.Steps.{IsSentFormed};
+ghost use Rattle.party_orders.specs.OrderedParties.{IsNamed, master_command};
 ghost use Rattle.party_slots.specs.Slots.{AreWithin, MayStep, slot_at};
-ghost use Rattle.party_slots.specs.RunningMasters.{Fits, CommandInWorld, IsCommand, MasterStartInWorld, StopInWorld, done_in, master_steps};
+ghost use Rattle.party_slots.specs.RunningMasters.{AreMastersOver, MasterStartInWorld, ObeyInWorld, RestsAgain, StopInWorld, master_steps};
 
 use crate::party::Party;
 use crate::slots::Slots;
 use cluster_desc::Cluster;
-use fuxi_master::{Master, MasterEvent, MasterRefusal, Outcome};
+use fuxi_io::Disk;
+use fuxi_master::{Master, MasterEvent, Outcome};
 use fuxi_terms::What;
 use hard_state::Hard;
 use ledger_law::OutOfMemory;
 use party_ledgers::{Heard, Kind, Packet, Packets};
+use party_orders::{Halt, MasterCommand};
+use schedule_text::Refusal;
 use std::alloc::Global;
 use written_parties::law;
 
@@ -42,26 +46,6 @@ fn sent_of(alloc: Global, outcome: Outcome) -> Packets
     match outcome {
         Outcome::Sent(packets) => packets,
         _ => Packets::new(alloc),
-    }
-}
-
-// Whether a command is done or refused. No other outcome comes to one.
-fn done_of(outcome: Outcome) -> Result<(), MasterRefusal>
-    ensures { result ≡ done_in outcome }
-{
-    match outcome {
-        Outcome::Refused(refusal) => Err(refusal),
-        _ => Ok(()),
-    }
-}
-
-// The same where a master ran.
-fn done_if(outcome: Option<Outcome>) -> Option<Result<(), MasterRefusal>>
-    ensures { result ≡ option_map done_in outcome }
-{
-    match outcome {
-        Some(outcome) => Some(done_of(outcome)),
-        None => None,
     }
 }
 
@@ -121,31 +105,39 @@ pub fn stop_master(masters: &mut Slots<Master>, epoch: u64) -> bool
     masters.remove(epoch)
 }
 
-/// A command for the master of an epoch, for which the hard state is written. It is done or refused; `None` where none runs.
-pub fn command(
+/// The master of an epoch is commanded: why it refuses, or `None` where it is done, with the hard state that it writes; `None` where none
+/// runs. A refused command has changed nothing. Where it cannot be carried out the master is gone.
+pub fn obey<D: Disk>(
     masters: &mut Slots<Master>,
     alloc: Global,
     epoch: u64,
-    event: MasterEvent,
-) -> Result<Option<Result<(), MasterRefusal>>, OutOfMemory>
-    requires command { IsCommand event }
-    requires fitting { Fits epoch event masters.old }
+    command: &MasterCommand,
+    hard: &mut Hard,
+    disk: &mut D,
+) -> Result<Option<Option<Refusal>>, Halt>
+    requires named { IsNamed command.now }
+    requires over { AreMastersOver hard.old.value masters.old }
     requires steps { MayStep master_steps (slot_at masters.old epoch) }
-    ensures world { IfOk result (CommandInWorld epoch event masters.old masters.new) }
+    requires sound { hard.old.broken ≡ false }
+    requires long { hard.old.gate < D.size disk.old }
+    ensures world { IfOk result (ObeyInWorld epoch (master_command command.now) hard.old.value hard.new.value masters.old masters.new) }
     ensures within { (n : ℕ) → AreWithin master_steps n masters.old → AreWithin master_steps (n + 1) masters.new }
+    ensures sound { OnOk result (hard.new.broken ≡ false) }
+    ensures long { OnOk result (hard.new.gate < D.size disk.new) }
+    ensures later { D.faults disk.old ≤ D.faults disk.new }
+    ensures cause { result ≡ Err Halt.Disk → Rose (D.faults disk.old) (D.faults disk.new) }
+    ensures served { result ≢ Err Halt.Disk → D.faults disk.new ≡ D.faults disk.old }
+    ensures told { WhereTold (RestsAgain hard.old hard.new result) (D.told disk.old) (D.told disk.new) }
 {
     law::parties_join();
-    let answer = masters.act(
-        epoch,
-        move |master: Master|
-            requires fitting { IsFitting master.core event }
-            requires steps { master.steps < most_steps }
-            ensures answers { IfOk result (λ after. StepsAlike event master.core after.0.core after.1) }
-            ensures steps { IfOk result (λ after. after.0.steps ≤ master.steps + 1) }
-        { master.step(alloc, event) },
-    );
-    match answer {
-        Ok(outcome) => Ok(done_if(outcome)),
-        Err(fault) => Err(fault),
+    let Some(master) = masters.take(epoch) else {
+        return Ok(None);
+    };
+    match party_orders::obey(master, alloc, command, hard, disk) {
+        Ok((master, answer)) => {
+            masters.put(epoch, master);
+            Ok(Some(answer))
+        }
+        Err(halt) => Err(halt),
     }
 }

@@ -1,7 +1,7 @@
 //! The parties of one kind, by their numbers.
 
 ghost use Rattle.core_side.specs.Parcels.{IsSent};
-ghost use Rattle.std.specs.Prelude.{◌≡◌, ◌+◌, ◌<◌, ◌≤◌, ℕ, length, is_some, Some, None, IfOk, IfSome, OnOk, OnErr};
+ghost use Rattle.std.specs.Prelude.{◌≡◌, ◌+◌, ◌<◌, ◌≤◌, ℕ, length, is_some, Some, None, IfOk, IfSome, IsSome, OnOk, OnErr};
 ghost use Rattle.std.specs.List.{AllByRecursion};
 ghost use Rattle.std.specs.List.Sorted.{IsStrictlySortedBy};
 ghost use Rattle.std.specs.Map.{keys_of};
@@ -13,7 +13,7 @@ ghost use Rattle.written_world.specs.World.{empty_world};
 ghost use Rattle.fuxi_terms.specs.Limits.{most_steps};
 ghost use Rattle.written_parties.specs.SeenParties.{Kind as KindOf, Role, resynced};
 ghost use Rattle.party_slots.specs.PartyAnswers.{HearsAlike, SendsAlike};
-ghost use Rattle.party_slots.specs.Slots.{entry_at, slot_at, boot_at, ActsInSlot, IsSet, IsGone, AreOf, AreWithin, MayStep, HearInWorld, TurnInWorld, ResyncInWorld, StartInWorld};
+ghost use Rattle.party_slots.specs.Slots.{entry_at, slot_at, boot_at, ActsInSlot, IsSet, IsGone, IsTakenOut, AreOf, AreWithin, MayStep, HearInWorld, TurnInWorld, ResyncInWorld, StartInWorld};
 
 use crate::party::Party;
 use ledger_law::OutOfMemory;
@@ -116,6 +116,27 @@ impl<P: Party> Slots<P> {
         };
         slot.0 = Some(party);
         Ok(Some(answer))
+    }
+
+    // The party of a number, taken out of its slot until it is put back; `None` where none runs.
+    pub(crate) fn take(&mut self, number: u64) -> Option<P>
+        ensures { IsTakenOut number self.old self.new result }
+    {
+        let Some(slot) = self.slots.get_mut(&number) else {
+            return None;
+        };
+        slot.0.take()
+    }
+
+    // It is put back.
+    pub(crate) fn put(&mut self, number: u64, party: P)
+        requires { IsSome (entry_at self.old number) }
+        ensures { IsSet number (Some party) (boot_at self.old number) self.old self.new }
+    {
+        let Some(slot) = self.slots.get_mut(&number) else {
+            unreachable!();
+        };
+        slot.0 = Some(party);
     }
 
     // A party starts in a boot. One that runs of its number is gone. Want of memory leaves all as it was.

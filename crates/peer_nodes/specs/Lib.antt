@@ -1,3 +1,2 @@
 pub mod AgentParties
 pub mod AppParties
-pub mod ToldApps

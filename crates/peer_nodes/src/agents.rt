@@ -6,15 +6,15 @@ ghost use Rattle.written_net.specs.Net.{same_id};
 ghost use Rattle.written_net.specs.Channels.{agent_id, is_master};
 ghost use Rattle.written_roles.specs.Agents.{new_agent};
 ghost use Rattle.node_rounds.specs.Roles.{OfAgent, id_in};
-ghost use Rattle.node_party.specs.PartyEvents.{agent_named};
-ghost use Rattle.peer_nodes.specs.AgentParties.{StandsAs, number_of};
+ghost use Rattle.peer_nodes.specs.AgentParties.{StandsAs};
 
 use agent_core::Agent;
 use fuxi_io::Disk;
 use fuxi_terms::OutOfMemory;
-use node_party::{Answer, Halt, Node};
+use node_party::{Answer, Node};
 use node_rounds::{Core, Turn, write_turn};
 use party_ledgers::Packet;
+use party_orders::{Halt, Order, order_of};
 use party_text::write_agent;
 use res_vector::Res;
 use schedule_text::{Event, Refusal};
@@ -67,16 +67,6 @@ fn is_for(packet: &Packet, machine: MachineNo) -> bool
 {
     (matches!(packet.to.role, Role::Agent) && packet.to.number == machine.0)
         && (matches!(packet.from.role, Role::Master) && packet.from.number == 0)
-}
-
-// The machine that an event names, where it is one for an agent.
-fn agent_named(event: &Event) -> Option<MachineNo>
-    ensures { number_of result ≡ agent_named event.now }
-{
-    match event {
-        Event::ResyncAgent(machine) => Some(*machine),
-        _ => None,
-    }
 }
 
 impl Core for AgentNode {
@@ -142,10 +132,10 @@ impl Node for AgentNode {
         event: &Event,
         _disk: &mut D,
     ) -> Result<(AgentNode, Answer), Halt> {
-        let Some(machine) = agent_named(event) else {
+        let Some(Order::Resync(Role::Agent, machine)) = order_of(event) else {
             return Ok((self, Answer::NotHere));
         };
-        if machine.0 != self.machine.0 {
+        if machine != self.machine.0 as u64 {
             return Ok((self, Answer::Refused(Refusal::NotRunning)));
         }
         self.agent.resync();

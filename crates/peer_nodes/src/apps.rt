@@ -8,14 +8,14 @@ ghost use Rattle.written_roles.specs.Apps.{new_app};
 ghost use Rattle.node_rounds.specs.Roles.{OfApp, id_in};
 ghost use Rattle.peer_nodes.specs.AppParties.{StandsAs};
 
-use crate::told::{app_named, tell};
 use app_master::AppMaster;
 use cluster_desc::Cluster;
 use fuxi_io::Disk;
 use fuxi_terms::OutOfMemory;
-use node_party::{Answer, Halt, Node};
+use node_party::{Answer, Node};
 use node_rounds::{Core, Turn, write_turn};
 use party_ledgers::Packet;
+use party_orders::{Halt, Order, ask, order_of};
 use party_text::write_app;
 use schedule_text::{Event, Refusal};
 use schedule_unit::{AppNo, Party, Role};
@@ -137,15 +137,25 @@ impl Node for AppNode {
         event: &Event,
         _disk: &mut D,
     ) -> Result<(AppNode, Answer), Halt> {
-        let Some((job, told)) = app_named(event) else {
-            return Ok((self, Answer::NotHere));
-        };
-        if job.0 != self.job.0 {
-            return Ok((self, Answer::Refused(Refusal::NotRunning)));
-        }
-        match tell(&mut self.app, alloc, told) {
-            Ok(answer) => Ok((self, answer)),
-            Err(OutOfMemory) => Err(Halt::Memory),
+        match order_of(event) {
+            Some(Order::Resync(Role::App, job)) => {
+                if job != self.job.0 as u64 {
+                    return Ok((self, Answer::Refused(Refusal::NotRunning)));
+                }
+                self.app.resync();
+                Ok((self, Answer::Done))
+            }
+            Some(Order::Ask(job, command)) => {
+                if job.0 != self.job.0 {
+                    return Ok((self, Answer::Refused(Refusal::NotRunning)));
+                }
+                match ask(&mut self.app, alloc, command) {
+                    Ok(None) => Ok((self, Answer::Done)),
+                    Ok(Some(refusal)) => Ok((self, Answer::Refused(refusal))),
+                    Err(OutOfMemory) => Err(Halt::Memory),
+                }
+            }
+            _ => Ok((self, Answer::NotHere)),
         }
     }
 

@@ -3,7 +3,6 @@
 
 mod agents;
 mod apps;
-mod told;
 
 pub use agents::AgentNode;
 pub use apps::AppNode;

@@ -1,5 +1,5 @@
 -- What runs at the start stands for the empty world.
-use Rattle.std.proofs.Common.{◌≡◌, ℕ, ◌*◌, true, List, [], refl, sym, ◌∙◌, ap, subst}
+use Rattle.std.proofs.Common.{◌≡◌, ◌*◌, true, [], refl, sym, subst}
 use Rattle.fuxi_terms.specs.Cluster.{ClusterRecord, is_valid_cluster}
 use Rattle.written_roles.specs.HardState.{empty_hard}
 use Rattle.written_world.specs.World.{empty_world}

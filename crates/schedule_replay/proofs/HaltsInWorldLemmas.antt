@@ -1,40 +1,42 @@
 -- Stops within the writing of a line, in each world that the hard state and the masters are of.
-use Rattle.std.proofs.Common.{◌≡◌, ℕ, ◌<◌, ◌≤◌, Bool, cond, nat_eq, nat_lt, List, [], ◌∷◌, ◌++◌, None, Result, Ok, Err, refl, sym, ◌∙◌, ap, subst, arith, append-nil}
+use Rattle.std.proofs.Common.{◌≡◌, ℕ, ◌≤◌, Bool, cond, nat_eq, nat_lt, List, [], ◌∷◌, ◌++◌, Some, None, Result, Ok, Err, refl, sym, ◌∙◌, ap, subst, arith, append-nil}
 use Rattle.std.specs.Prelude.{◌&&◌, ◌||◌}
+use Rattle.std.specs.Ordering.{nat_cmp}
+use Rattle.std.specs.FinMap.Entries.{find}
 use Rattle.std.proofs.lemmas.Bool.Decides.{nat_tests}
 use Rattle.fuxi_terms.proofs.Booleans.{both_true, same_tests}
-use Rattle.fuxi_terms.specs.Cluster.{ClusterRecord}
-use Rattle.fuxi_terms.specs.Limits.{most_jobs}
-use Rattle.schedule_unit.specs.declared.asks.Ask.{Ask}
-use Rattle.schedule_unit.specs.declared.party.AppNo.{AppNo}
-use Rattle.schedule_unit.specs.declared.party.GroupNo.{GroupNo}
-use Rattle.written_roles.specs.HardState.{HardState, HardEvent, Raise, hard_step}
-use Rattle.written_roles.specs.MasterSteps.{MasterCommand}
+use Rattle.written_roles.specs.HardState.{HardState, HardEvent, Raise, Submission, Finishing, Banning, Unbanning, hard_step}
+use Rattle.written_roles.specs.Masters.{Master}
+use Rattle.written_roles.specs.MasterSteps.{Changed, MasterChange, MasterCommand, Admits, Ends, Bans, Unbans, change_of, command_of, writes}
 use Rattle.written_roles.specs.Refusals.{Refusal as WrittenRefusal}
 use Rattle.written_world.specs.Outputs.{Halted}
 use Rattle.written_world.specs.World.{World, Step, prints_nothing, refused}
 use Rattle.written_world.specs.Events.{Event, Halt, act, commanded, halted, is_written, start_master, without_master, writer_of}
+use Rattle.hard_state.specs.HardFiles.{Refuses}
+use Rattle.hard_state.specs.declared.fault.HardFault.{HardFault}
+use Rattle.hard_state.specs.declared.fault.HardFault.TheVariants.{OutOfMemory}
+use Rattle.party_orders.specs.OrderedParties.{done_by, written_for}
 use Rattle.schedule_replay.specs.Held.{Held, IsOpen}
 use Rattle.schedule_replay.specs.Writings.{IsLeft, counts_after}
 use Rattle.fuxi_master.specs.Cores.{MasterRecord}
+use Rattle.fuxi_master.specs.declared.event.MasterEvent.{MasterEvent}
+use Rattle.fuxi_master.specs.declared.event.MasterEvent.TheVariants as event
 use Rattle.party_slots.specs.Slots.{SlotsRecord}
-use Rattle.party_slots.specs.RunningMasters.{AreMastersOf, change_in}
+use Rattle.party_slots.specs.RunningMasters.{AreMastersOf}
 use Rattle.schedule_text.specs.declared.event.Event.{Event as LineEvent}
-use Rattle.schedule_text.specs.declared.event.Event.TheVariants as line
 use Rattle.schedule_text.specs.declared.refusal.Refusal.{Refusal}
 use Rattle.schedule_text.specs.declared.output.Output.{Output}
 use Rattle.schedule_text.specs.declared.output.Output.TheVariants as out
 use Rattle.schedule_text.specs.Printing.{as_line, as_refusal}
-use Rattle.schedule_text.specs.LineForms.{shape_of}
 use Rattle.schedule_text.specs.Halting.{halting}
-use Rattle.schedule_text.specs.Writing.{AreWithin, IsLineEvent, saying_of}
+use Rattle.schedule_text.specs.Writing.{IsLineEvent}
 use Rattle.schedule_replay.specs.declared.halts.Stop.{Stop}
 use Rattle.schedule_replay.specs.ReplayTexts.{lines_text}
 use Rattle.schedule_replay.specs.Worlds.{WorldRecord}
 use Rattle.schedule_replay.specs.Moves.{Acts, Leaves}
-use Rattle.schedule_replay.specs.MasterCommands.{Governing, IsGoverning, MayStart, MayWrite, StartsIn, TakesStep, WritesIn, governing}
-use Rattle.schedule_replay.specs.HaltsInWorld.{Halts, HaltsAfter, IsHalted, IsWithin, WritesAs}
-use Rattle.schedule_replay.proofs.LineEvents.{below, not_below}
+use Rattle.schedule_replay.specs.MasterCommands.{Governing, IsGoverning, MayStart, TakesStep, governing}
+use Rattle.schedule_replay.specs.HaltsInWorld.{Halts, IsHalted, IsWithin, WritesAs}
+use Rattle.schedule_replay.proofs.LineEvents.{not_below}
 use Rattle.schedule_replay.proofs.CommandSteps.{told_is, told_step, writes_done, writes_refused}
 use Rattle.schedule_replay.proofs.MasterCommandsLemmas.{raise_done, raise_refused, stop_leaves}
 use Rattle.schedule_replay.proofs.MastersActInWorld.{OrdersLeave, are_governing, governed_stands}
@@ -44,23 +46,31 @@ use Rattle.schedule_replay.proofs.MovesLemmas.{masters_once, once_up_to}
 pub within_of : (stop : Stop) (x : LineEvent) → IsLineEvent (halting stop.calls stop.all x) → IsWithin stop
 within_of stop x h = let b = both_true _ _ h.stop.0 in record { some = not_below 1 stop.calls b.0; few = not_below stop.calls 4 b.1 }
 
-pub job_below : (stop : Stop) (x : LineEvent) (e : ℕ) (app : AppNo) (group : GroupNo) (asks : List Ask) → IsLineEvent (halting stop.calls stop.all x) → x ≡ line.Submit e app group asks → app.0 < most_jobs
-job_below stop x e app group asks h is =
-    let n = subst (λ y. AreWithin 0 (shape_of (saying_of y).head).places (saying_of y).numbers) is h.numbers in
-    below app.0 most_jobs n.2.1
-
 -- A line whose tests before its writing have passed does what that writing does
-pub command_writes : (w : World) (e : ℕ) (x : MasterCommand) (v : HardEvent) (g : Governing) → IsGoverning w g → MayWrite w e x v → WritesAs w (commanded w e x) e v
-command_writes w e x v g s may =
-    let M = may.master in
-    let own : hard_step w.hard M.epoch v ≡ hard_step w.hard e v = ap (λ n. hard_step w.hard n v) (s.good.recorded.masters e M may.runs).0 in
-    let told = told_is w e x M may.runs in
-    record {
-      fails = λ r says. told ∙ ap (told_step w) (may.is ∙ writes_refused w.cluster w.hard M v (change_in x) r (own ∙ says));
-      done = λ k says.
-          let step = told ∙ ap (told_step w) (may.is ∙ writes_done w.cluster w.hard M v (change_in x) k may.changed (own ∙ says) may.changes) in
-          (ap (λ (t : Step). t.world.hard) step, ap (λ (t : Step). t.lines) step);
-    }
+some_is : (a b : HardEvent) → Some a ≡ Some b → a ≡ b
+some_is a b is = cc
+
+module _ (w : World) (e : ℕ) (x : MasterCommand) (M : Master) (runs : find nat_cmp e w.masters ≡ Some M) (own : M.epoch ≡ e) where
+  writes_so : (v : HardEvent) (change : MasterChange) (d : Changed) → change_of w.cluster M change ≡ Ok d → command_of w.cluster w.hard M x ≡ writes w.cluster w.hard M v change → WritesAs w (commanded w e x) e v
+  writes_so v change d changes is =
+      let at : hard_step w.hard M.epoch v ≡ hard_step w.hard e v = ap (λ n. hard_step w.hard n v) own in
+      let told = told_is w e x M runs in
+      record {
+        fails = λ r says. told ∙ ap (told_step w) (is ∙ writes_refused w.cluster w.hard M v change r (at ∙ says));
+        done = λ k says.
+            let step = told ∙ ap (told_step w) (is ∙ writes_done w.cluster w.hard M v change k d (at ∙ says) changes) in
+            (ap (λ (t : Step). t.world.hard) step, ap (λ (t : Step). t.lines) step);
+      }
+
+  pub event_writes : (event : MasterEvent) (v : HardEvent) → command_of w.cluster w.hard M x ≡ done_by w.cluster w.hard M event → written_for event ≡ Some v → WritesAs w (commanded w e x) e v
+  event_writes (event.Admit j) v is writes = subst (WritesAs w (commanded w e x) e) (some_is _ v writes) (writes_so (Submission j) (Admits j) _ refl is)
+  event_writes (event.Finish a) v is writes = subst (WritesAs w (commanded w e x) e) (some_is _ v writes) (writes_so (Finishing a.0) (Ends a.0) _ refl is)
+  event_writes (event.Ban m) v is writes = subst (WritesAs w (commanded w e x) e) (some_is _ v writes) (writes_so (Banning m.0) (Bans m.0) _ refl is)
+  event_writes (event.Unban m) v is writes = subst (WritesAs w (commanded w e x) e) (some_is _ v writes) (writes_so (Unbanning m.0) (Unbans m.0) _ refl is)
+  event_writes y v is writes = absurd cc
+
+  pub tests_refuse : (r : Refusal) → command_of w.cluster w.hard M x ≡ Err (as_refusal r) → commanded w e x ≡ refused w (as_refusal r)
+  tests_refuse r is = told_is w e x M runs ∙ ap (told_step w) is
 
 pub start_writes : (w : World) (e : ℕ) → MayStart w e → WritesAs w (start_master w e) e Raise
 start_writes w e may = record {
@@ -68,23 +78,9 @@ start_writes w e may = record {
   done = λ k says. let step = raise_done w e k may says in (ap (λ (t : Step). t.world.hard) step, ap (λ (t : Step). t.lines) step);
 }
 
--- what the tests of a line say of it
-abbrev pub TestsSay : World → Step → ℕ → HardEvent → Result (Unit {0}) Refusal → Type 0
-TestsSay w s e v (Ok passed) = WritesAs w s e v
-TestsSay w s e v (Err refusal) = s ≡ refused w (as_refusal refusal)
-
-pub command_says : (w : World) (e : ℕ) (x : MasterCommand) (v : HardEvent) (g : Governing) (tests : Result (Unit {0}) Refusal) → IsGoverning w g → WritesIn w e x v tests → TestsSay w (commanded w e x) e v tests
-command_says w e x v g (Ok passed) s may = command_writes w e x v g s may
-command_says w e x v g (Err refusal) s is = is
-
-pub start_says : (w : World) (e : ℕ) (tests : Result (Unit {0}) Refusal) → StartsIn w e tests → TestsSay w (start_master w e) e Raise tests
-start_says w e (Ok passed) may = start_writes w e may
-start_says w e (Err refusal) is = is
-
-pub halts_after : (c : ClusterRecord) (x : Event) (v : HardEvent) (stop : Stop) (old new : Governing) (tests : Result (Unit {0}) Refusal) (line : Output)
-    → ((w : World) → c ≡ w.cluster → IsGoverning w old → TestsSay w (act w x) (writer_of x) v tests) → HaltsAfter (writer_of x) tests v stop old new line → Halts c x stop old new line
-halts_after c x v stop old new (Ok passed) line say halts w same s = halts w x s refl (say w same s)
-halts_after c x v stop old new (Err refusal) line say halts w same s = halts w x s refl (say w same s)
+-- a refusal is no want of memory
+pub no_want : (h : HardState) (fault : HardFault) (r : Refusal) → ((step : Result HardState WrittenRefusal) → Refuses step fault → step ≡ Err (as_refusal r)) → fault ≡ OutOfMemory → ⊥
+no_want h fault r refused is = let no : Ok h ≡ Err (as_refusal r) = refused (Ok h) (subst (Refuses (Ok h)) (sym is) refl) in absurd cc
 
 -- The step of a stop, from that of its line
 halt_is : (w : World) (x : Event) (e calls : ℕ) (all : Bool) (s : Step) → writer_of x ≡ e → act w x ≡ s → act w (Halt calls all x) ≡ halted w e (is_written calls all) s.world s.lines

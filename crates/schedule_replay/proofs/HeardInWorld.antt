@@ -22,7 +22,8 @@ use Rattle.written_join.specs.Leading.{AllLead}
 use Rattle.written_parties.specs.SeenParties.{Kind, IsFor, Role as SeenRole}
 use Rattle.party_slots.specs.Slots.{SlotsRecord, AreWithin as PartiesWithin, HearInWorld, HearsOneIn}
 use Rattle.schedule_replay.specs.Worlds.{WorldRecord, StandsFor}
-use Rattle.schedule_replay.specs.Moves.{IsPart, IsHeardBy, IsHeardIn, heard_lines, kind_named}
+use Rattle.party_orders.specs.OrderedParties.{kind_named}
+use Rattle.schedule_replay.specs.Moves.{IsPart, IsHeardBy, IsHeardIn, heard_lines}
 
 -- In a good world on a valid cluster all lead, as the law of changes states it
 abbrev pub Leads : Type 0

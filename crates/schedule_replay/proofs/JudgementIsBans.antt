@@ -30,7 +30,7 @@ use Rattle.schedule_replay.specs.ReplayTexts.{lines_text}
 use Rattle.schedule_replay.specs.Worlds.{WorldRecord, IsWorld, StandsFor}
 use Rattle.schedule_replay.specs.Moves.{IsActedOnce, ban_one}
 use Rattle.schedule_replay.specs.declared.commands.Judgement.{Judgement}
-use Rattle.schedule_replay.specs.MasterCommands.{Governing, IsGoverning, IsDecided, Decides, DecidesIn, GovernsOn, TakesStep, governing}
+use Rattle.schedule_replay.specs.MasterCommands.{Governing, IsGoverning, IsDecided, Decides, DecidesIn, Governs, TakesStep, governing}
 use Rattle.schedule_replay.proofs.LineEvents.{not_below}
 use Rattle.schedule_replay.proofs.MovesLemmas.{masters_once}
 use Rattle.schedule_replay.proofs.MastersActInWorld.{OrdersLeave, are_governing, governed_stands}
@@ -117,10 +117,10 @@ is_there P ms i m all lt is = subst P (get_or-map number_of ms i m m.0 lt ∙ ap
 
 -- One ban
 pub bans_one : OrdersLeave → (e m votes : ℕ) (old : WorldRecord) (held : Held) (masters : SlotsRecord MasterRecord) (answer : Option Refusal) (before after : List ℕ)
-    → GovernsOn old.cluster (λ w. commanded w e (BansMachine m)) (governing old.checkpoint old.masters) (governing held masters) answer → TakesStep old.masters masters → after ≡ before ++ lines_text (Judged m votes ∷ [])
+    → Governs (λ w. commanded w e (BansMachine m)) (governing old.checkpoint old.masters) (governing held masters) answer → TakesStep old.masters masters → after ≡ before ++ lines_text (Judged m votes ∷ [])
     → IsActedOnce (ban_one e m votes) old (record old { checkpoint = held; masters = masters }) before after
 bans_one act e m votes old held masters answer before after governs steps text = record {
-  does = λ w is s. record { stands = governed_stands act w (commanded w e (BansMachine m)) old held masters answer s (governs w s.cluster (are_governing w old is s)); text = text };
+  does = λ w is s. record { stands = governed_stands act w (commanded w e (BansMachine m)) old held masters answer s (governs w (are_governing w old is s)); text = text };
   moves = masters_once old held masters old.pool steps;
   pool = refl;
 }

@@ -3,6 +3,7 @@ pub mod StopLeaves
 pub mod CommandSteps
 pub mod MasterCommandsLemmas
 pub mod LineEvents
+pub mod OrdersAreEvents
 pub mod RestStands
 pub mod MovesLemmas
 pub mod ActsByOneStep

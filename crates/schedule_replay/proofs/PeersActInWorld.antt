@@ -1,5 +1,5 @@
 -- From what an agent or an application does or is refused to the step of the world that it is.
-use Rattle.std.proofs.Common.{◌≡◌, ℕ, ◌<◌, ◌≤◌, Bool, true, false, not, nat_lt, List, [], ◌∷◌, ◌++◌, length, Option, Some, None, is_some, Result, Ok, Err, slice_get, refl, sym, ◌∙◌, ap, subst, arith, append-nil}
+use Rattle.std.proofs.Common.{◌≡◌, ℕ, ◌+◌, ◌<◌, ◌≤◌, Bool, true, false, not, nat_lt, List, [], ◌∷◌, ◌++◌, length, Option, Some, None, is_some, Result, Ok, Err, slice_get, refl, sym, ◌∙◌, ap, subst, arith, append-nil}
 use Rattle.std.specs.Prelude.{OnOk, IfErr}
 use Rattle.std.specs.Option.{option_map, unwrap_or}
 use Rattle.std.proofs.lemmas.Bool.Decides.{nat_tests}
@@ -9,24 +9,24 @@ use Rattle.fuxi_terms.specs.Padded.{padded}
 use Rattle.cluster_desc.specs.Records.{machine_of as machine_seen}
 use Rattle.cluster_desc.specs.declared.cluster.Machine.{Machine}
 use Rattle.written_net.specs.Channels.{agent_id, app_id}
-use Rattle.written_roles.specs.Refusals.{Refusal as Written, NoMachine, NoJob, Ended, NotRising, NotRunning}
+use Rattle.written_roles.specs.Refusals.{Refusal as Written, NoMachine, NoJob, Ended, NotRising}
 use Rattle.written_world.specs.World.{World, Step, refused, prints_nothing, unless_refused}
-use Rattle.written_world.specs.Events.{start_agent, agent_started, start_app, app_started}
+use Rattle.written_world.specs.Events.{asks, start_agent, agent_started, start_app, app_started}
 use Rattle.agent_core.specs.AgentCores.{AgentCore}
 use Rattle.app_master.specs.AppCores.{AppCore}
 use Rattle.written_parties.specs.SeenParties.{Kind, Role, agent_starting, app_starting}
-use Rattle.party_slots.specs.Slots.{SlotsRecord, StepIn}
-use Rattle.party_slots.specs.Peers.{AgentStartsIn, AppStartsIn, IsRefusedAs}
-use Rattle.app_master.specs.declared.fault.AppFault.{AppFault}
-use Rattle.app_master.specs.declared.fault.AppFault.TheVariants as fault
+use Rattle.party_slots.specs.Slots.{SlotsRecord, AreWithin as PartiesWithin, StepIn}
+use Rattle.party_slots.specs.Peers.{AgentStartsIn, AppStartsIn, AsksOneIn, AskInWorld, app_steps}
+use Rattle.written_roles.specs.Apps.{AppCommand}
 use Rattle.schedule_text.specs.declared.refusal.Refusal.{Refusal}
+use Rattle.schedule_text.specs.declared.refusal.Refusal.TheVariants as why
 use Rattle.schedule_text.specs.Printing.{as_refusal}
 use Rattle.schedule_replay.specs.declared.stop.WorldStop.{WorldStop}
 use Rattle.schedule_replay.specs.ReplayTexts.{lines_text}
 use Rattle.schedule_replay.specs.Worlds.{WorldRecord, IsWorld, StandsFor}
 use Rattle.schedule_replay.specs.WorldSteps.{IsDone, limit_of}
-use Rattle.schedule_replay.specs.Moves.{AgentsPart, AppsPart, IsPart, Acts, IsActed, WantsMemory, IsRefusalOf, refusal_lines}
-use Rattle.schedule_replay.proofs.MovesLemmas.{once_up_to, none_once}
+use Rattle.schedule_replay.specs.Moves.{AgentsPart, AppsPart, IsPart, Acts, IsActed, WantsMemory, refusal_lines}
+use Rattle.schedule_replay.proofs.MovesLemmas.{once_up_to, apps_once, none_once}
 use Rattle.schedule_replay.proofs.MastersActInWorld.{is_refused, is_quiet}
 
 -- what was written decides, unless memory was refused
@@ -63,11 +63,6 @@ first_passes w true r ts f is = absurd (no is)
 module _ {P : Type 0} {stands : P → Role → Type 0} {steps : P → ℕ} {k : Kind} {of : WorldRecord → SlotsRecord P} {put : SlotsRecord P → WorldRecord → WorldRecord} where
   pub party_done : IsPart P stands steps k of put → (w : World) (s : Step) (old : WorldRecord) (n : ℕ) (x : SlotsRecord P) (before : List ℕ) → StandsFor old w → StepIn stands k w n x [] s [] → IsDone s (put x old) before before
   party_done part w s old n x before stand a = is_quiet s (put x old) before before (part.quiet w s.world n old x stand a.world) a.lines (no_text before)
-
--- The refusal of the world, where there is one
-abbrev named : Option Refusal → Written
-named None = NotRunning
-named (Some r) = as_refusal r
 
 -- The steps of starts, by the tests that pass
 pub agent_beyond : (w : World) (m b : ℕ) → has_machine w.cluster m ≡ false → start_agent w m b ≡ refused w NoMachine
@@ -135,15 +130,18 @@ app_starts part w old a b apps before s known live later h =
     subst (λ t. IsDone t (record old { apps = apps }) before before) (sym (app_step w a b known live later))
     (party_done part w (prints_nothing (app_started w a b)) old a apps before s (record { world = record { stand = h.stand; role = app_starting w a b; acts = h.acts; hard = refl }; lines = refl }))
 
--- the refusal that a fault names is that of the world
-pub fault_is : (w : World) (s : Step) (fault : AppFault) (r : Refusal) → IsRefusalOf fault (Some r) → IsRefusedAs w s fault → s ≡ refused w (as_refusal r)
-fault_is w s fault.NoUnit r is h = h ∙ ap (λ (o : Option Refusal). refused w (named o)) (sym is)
-fault_is w s fault.NoMachine r is h = h ∙ ap (λ (o : Option Refusal). refused w (named o)) (sym is)
-fault_is w s fault.NoRack r is h = h ∙ ap (λ (o : Option Refusal). refused w (named o)) (sym is)
-fault_is w s fault.WantRange r is h = h ∙ ap (λ (o : Option Refusal). refused w (named o)) (sym is)
-fault_is w s (fault.NotUsable usable) r is h = h ∙ ap (λ (o : Option Refusal). refused w (named o)) (sym is)
-fault_is w s fault.BackRange r is h = h ∙ ap (λ (o : Option Refusal). refused w (named o)) (sym is)
-fault_is w s fault.OutOfMemory r is h = let no : ⊥ = cc in absurd no
+-- What an application is asked, done or refused
+pub asked : AppsPart → (a : ℕ) (x : AppCommand) (old : WorldRecord) (apps : SlotsRecord AppCore) (answer : Option (Option Refusal)) (before after : List ℕ) → AskInWorld a x old.apps apps answer → ((n : ℕ) → PartiesWithin app_steps n old.apps → PartiesWithin app_steps (n + 1) apps)
+    → after ≡ before ++ lines_text (refusal_lines (unwrap_or answer (Some why.NotRunning))) → IsActed (λ w. asks w a x) old (record old { apps = apps }) before after
+asked part a x old apps answer before after asks_in steps text = record {
+  does = λ w is s. by w s answer (asks_in w is.good s.apps) text;
+  moves = once_up_to old (record old { apps = apps }) (apps_once old apps old.pool steps);
+}
+  where
+    by : (w : World) → StandsFor old w → (answer : Option (Option Refusal)) → AsksOneIn w a x apps answer → after ≡ before ++ lines_text (refusal_lines (unwrap_or answer (Some why.NotRunning))) → IsDone (asks w a x) (record old { apps = apps }) before after
+    by w s None h text = is_refused w (asks w a x) (record old { apps = apps }) why.NotRunning before after (part.stays w old apps s h.stand) h.same text
+    by w s (Some None) h text = is_quiet (asks w a x) (record old { apps = apps }) before after (part.quiet w _ a old apps s h.world) h.lines text
+    by w s (Some (Some r)) h text = is_refused w (asks w a x) (record old { apps = apps }) r before after (part.stays w old apps s h.stand) h.same text
 
 -- what is found of a job is one that the world knows
 pub job_known : (jobs : List KnownJob) (a : ℕ) (d : JobRecord) → option_map (λ (k : KnownJob). k.job) (job_of jobs a) ≡ Some d → is_known jobs a ≡ true

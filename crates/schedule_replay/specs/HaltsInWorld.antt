@@ -1,13 +1,13 @@
 -- What a stop within the writing of a line does, in each world that the hard state and the masters are of.
-use Rattle.std.specs.Prelude.{◌≡◌, ◌≤◌, ℕ, [], ◌∷◌, Result, Ok, Err}
+use Rattle.std.specs.Prelude.{◌≡◌, ◌≤◌, ℕ, [], ◌∷◌, Ok, Err}
 use Rattle.fuxi_terms.specs.Cluster.{ClusterRecord}
 use Rattle.written_roles.specs.HardState.{HardState, HardEvent, hard_step}
+use Rattle.written_roles.specs.MasterSteps.{MasterCommand}
 use Rattle.written_roles.specs.Refusals.{Refusal}
 use Rattle.written_world.specs.World.{World, Step, prints_nothing, refused}
-use Rattle.written_world.specs.Events.{Event, Halt, act, writer_of}
+use Rattle.written_world.specs.Events.{Event, Halt, act, commanded, writer_of}
 use Rattle.schedule_text.specs.declared.output.Output.{Output}
-use Rattle.schedule_text.specs.declared.refusal.Refusal.{Refusal as PrintedRefusal}
-use Rattle.schedule_text.specs.Printing.{as_line, as_refusal}
+use Rattle.schedule_text.specs.Printing.{as_line}
 use Rattle.schedule_replay.specs.declared.halts.Stop.{Stop}
 use Rattle.schedule_replay.specs.MasterCommands.{Governing, IsGoverned, IsGoverning}
 
@@ -30,12 +30,10 @@ pub record IsHalted (w : World) (s : Step) (new : Governing) (line : Output) : T
 abbrev pub Halts : ClusterRecord → Event → Stop → Governing → Governing → Output → Type 0
 Halts c x stop old new line = (w : World) → c ≡ w.cluster → IsGoverning w old → IsHalted w (act w (Halt stop.calls stop.all x)) new line
 
+-- of whatever line commands the master of this epoch so
+abbrev pub HaltsCommand : ClusterRecord → ℕ → MasterCommand → Stop → Governing → Governing → Output → Type 0
+HaltsCommand c e command stop old new line = (w : World) (x : Event) → c ≡ w.cluster → IsGoverning w old → writer_of x ≡ e → act w x ≡ commanded w e command → IsHalted w (act w (Halt stop.calls stop.all x)) new line
+
 -- of whatever line names the master of this epoch and does what this writing does
 abbrev pub HaltsWithin : ℕ → HardEvent → Stop → Governing → Governing → Output → Type 0
 HaltsWithin e v stop old new line = (w : World) (x : Event) → IsGoverning w old → writer_of x ≡ e → WritesAs w (act w x) e v → IsHalted w (act w (Halt stop.calls stop.all x)) new line
-
--- and of one that its tests may refuse
-abbrev pub HaltsAfter : ℕ → Result (Unit {0}) PrintedRefusal → HardEvent → Stop → Governing → Governing → Output → Type 0
-HaltsAfter e (Ok passed) v stop old new line = HaltsWithin e v stop old new line
-HaltsAfter e (Err refusal) v stop old new line =
-    (w : World) (x : Event) → IsGoverning w old → writer_of x ≡ e → act w x ≡ refused w (as_refusal refusal) → IsHalted w (act w (Halt stop.calls stop.all x)) new line

@@ -1,34 +1,20 @@
 -- What the starts, stops and commands of masters do in each world that the hard state and the masters are of.
 use Rattle.std.specs.Prelude.{◌≡◌, ℕ, ◌+◌, ◌<◌, ◌≤◌, true, [], length, map, All, Option, Some, None, Result, Ok, Err}
-use Rattle.std.specs.Ordering.{nat_cmp}
-use Rattle.std.specs.FinMap.Entries.{find}
-use Rattle.fuxi_terms.specs.Cluster.{ClusterRecord, JobRecord, is_valid_cluster}
-use Rattle.fuxi_terms.specs.Limits.{most_jobs, most_machines, most_masters, most_records}
-use Rattle.written_roles.specs.HardState.{HardState, HardEvent, Submission}
-use Rattle.written_roles.specs.Masters.{Master}
-use Rattle.written_roles.specs.MasterSteps.{Changed, MasterCommand, Submits, Finishes, BansMachine, UnbansMachine, StartsServing, MakesRoom, change_of, command_of, writes}
-use Rattle.written_roles.specs.MasterRoles.{Told}
+use Rattle.fuxi_terms.specs.Cluster.{ClusterRecord, is_valid_cluster}
+use Rattle.fuxi_terms.specs.Limits.{most_machines, most_masters, most_records}
 use Rattle.written_world.specs.World.{World, Step, refused}
-use Rattle.written_world.specs.Events.{commanded, ban_each, judge, start_master}
+use Rattle.written_world.specs.Events.{ban_each, judge, start_master}
 use Rattle.written_world.specs.Good.{Good}
 use Rattle.written_world.specs.Orders.{IsInOrder}
 use Rattle.bad_nodes.specs.Ranks.{number_of}
 use Rattle.schedule_replay.specs.Held.{Held, IsOpen}
-use Rattle.fuxi_master.specs.Steps.{told_by}
-use Rattle.fuxi_master.specs.declared.event.MasterEvent.{MasterEvent}
-use Rattle.fuxi_master.specs.declared.event.MasterRefusal.{MasterRefusal}
 use Rattle.fuxi_master.specs.Cores.{MasterRecord}
 use Rattle.party_slots.specs.Slots.{SlotsRecord, AreWithin}
-use Rattle.party_slots.specs.RunningMasters.{AreMastersOf, CommandDoneIn, IsWritten, change_in, master_steps}
-use Rattle.master_text.specs.PrintedRefusals.{master_refusal}
+use Rattle.party_slots.specs.RunningMasters.{AreMastersOf, master_steps}
 use Rattle.schedule_text.specs.declared.refusal.Refusal.{Refusal}
-use Rattle.schedule_text.specs.declared.refusal.Refusal.TheVariants as why
 use Rattle.schedule_text.specs.Printing.{as_refusal}
-use Rattle.schedule_text.specs.Asked.{job_named}
 use Rattle.schedule_replay.specs.Moves.{Leaves}
 use Rattle.schedule_replay.specs.declared.commands.Judgement.{Judgement}
-use Rattle.schedule_replay.specs.declared.commands.Order.{Order}
-use Rattle.schedule_replay.specs.declared.commands.Order.TheVariants as order
 
 -- the parts that commands of masters change
 pub record Governing : Type 0 where
@@ -80,7 +66,7 @@ governing checkpoint masters = record { checkpoint = checkpoint; masters = maste
 abbrev pub GovernsMasters : (World → Step) → SlotsRecord MasterRecord → SlotsRecord MasterRecord → Option Refusal → Type 0
 GovernsMasters step old new answer = (checkpoint : Held) → Governs step (governing checkpoint old) (governing checkpoint new) answer
 
--- The tests before a writing. Of a start in an epoch
+-- The tests of a start in an epoch before its writing
 pub record MayStart (w : World) (e : ℕ) : Type 0 where
   pub above : w.hard.fence < e
   pub few : length w.masters < most_masters
@@ -88,23 +74,6 @@ pub record MayStart (w : World) (e : ℕ) : Type 0 where
 abbrev pub StartsIn : World → ℕ → Result (Unit {0}) Refusal → Type 0
 StartsIn w e (Ok passed) = MayStart w e
 StartsIn w e (Err refusal) = start_master w e ≡ refused w (as_refusal refusal)
-
--- of a command: its master runs, it is this writing and what it then changes of the master, and that is not refused
-pub record MayWrite (w : World) (e : ℕ) (x : MasterCommand) (v : HardEvent) : Type 0 where
-  pub master : Master
-  pub runs : find nat_cmp e w.masters ≡ Some master
-  pub is : command_of w.cluster w.hard master x ≡ writes w.cluster w.hard master v (change_in x)
-  pub changed : Changed
-  pub changes : change_of w.cluster master (change_in x) ≡ Ok changed
-
-abbrev pub WritesIn : World → ℕ → MasterCommand → HardEvent → Result (Unit {0}) Refusal → Type 0
-WritesIn w e x v (Ok passed) = MayWrite w e x v
-WritesIn w e x v (Err refusal) = commanded w e x ≡ refused w (as_refusal refusal)
-
--- of a submission: the job is the one that is written
-abbrev pub SubmitsIn : World → ℕ → JobRecord → Result JobRecord Refusal → Type 0
-SubmitsIn w e j (Ok job) = MayWrite w e (Submits j) (Submission job)
-SubmitsIn w e j (Err refusal) = commanded w e (Submits j) ≡ refused w (as_refusal refusal)
 
 -- the machines of a judgement are among those with votes, which are no more than a cluster may have, and no more than records may be written
 pub record MayBan (j : Judgement) : Type 0 where
@@ -128,43 +97,3 @@ Decides e least percent g answer = (w : World) → is_valid_cluster w.cluster �
 -- no master takes more than one step
 abbrev pub TakesStep : SlotsRecord MasterRecord → SlotsRecord MasterRecord → Type 0
 TakesStep old new = (n : ℕ) → AreWithin master_steps n old → AreWithin master_steps (n + 1) new
-
--- what a master's answer says
-abbrev pub refusal_in : Option (Result (Unit {0}) MasterRefusal) → Option Refusal
-refusal_in None = Some why.NotRunning
-refusal_in (Some (Ok done)) = None
-refusal_in (Some (Err refusal)) = Some (master_refusal refusal)
-
--- A command as a master is told it, once the hard state is written
-pub record RefusesIn (w : World) (e : ℕ) (x : MasterCommand) (new : SlotsRecord MasterRecord) (refusal : Refusal) : Type 0 where
-  pub stand : AreMastersOf w new
-  pub same : commanded w e x ≡ refused w (as_refusal refusal)
-
-abbrev pub TellsIn : World → ℕ → MasterCommand → SlotsRecord MasterRecord → Option Refusal → Type 0
-TellsIn w e x new None = (M : Master) (h : HardState) → find nat_cmp e w.masters ≡ Some M → IsWritten w M x h → CommandDoneIn w e x h new
-TellsIn w e x new (Some refusal) = RefusesIn w e x new refusal
-
-abbrev pub TellsInWorld : ℕ → MasterEvent → SlotsRecord MasterRecord → SlotsRecord MasterRecord → Option Refusal → Type 0
-TellsInWorld e event old new answer = (w : World) (x : MasterCommand) → Good w → AreMastersOf w old → told_by event ≡ Told (change_in x) → TellsIn w e x new answer
-
--- the command of the world that an order is
-abbrev pub command_as : Order → MasterCommand
-command_as (order.Submit app group asks) = Submits (job_named app.0 group.0 asks.now)
-command_as (order.Finish app) = Finishes app.0
-command_as (order.Ban machine) = BansMachine machine.0
-command_as (order.Unban machine) = UnbansMachine machine.0
-command_as order.Begin = StartsServing
-command_as order.Preempt = MakesRoom
-
--- a job that is submitted has the number of one
-abbrev pub IsNamed : Order → Type 0
-IsNamed (order.Submit app group asks) = app.0 < most_jobs
-IsNamed (order.Finish app) = Unit {0}
-IsNamed (order.Ban machine) = Unit {0}
-IsNamed (order.Unban machine) = Unit {0}
-IsNamed order.Begin = Unit {0}
-IsNamed order.Preempt = Unit {0}
-
--- An order behind its tests, which is written and told: whatever command it is of
-abbrev pub CarriesOut : ℕ → Result (Unit {0}) Refusal → HardEvent → MasterEvent → Governing → Governing → Option Refusal → Type 0
-CarriesOut e tests v event old new answer = (w : World) (x : MasterCommand) → IsGoverning w old → WritesIn w e x v tests → told_by event ≡ Told (change_in x) → GovernsIn w (commanded w e x) new answer

@@ -1,9 +1,7 @@
 -- Between the calls: what a function makes of what runs, said of each world that it stands for.
 use Rattle.std.specs.Prelude.{◌≡◌, ℕ, ◌+◌, ◌<◌, ◌≤◌, ◌++◌, List, [], ◌∷◌, map, slice_get, Option, Some, None, Result, Ok, Err}
 use Rattle.std.specs.List.{AllByRecursion}
-use Rattle.fuxi_terms.specs.Limits.{greatest_count, most_steps}
-use Rattle.app_master.specs.declared.fault.AppFault.{AppFault}
-use Rattle.app_master.specs.declared.fault.AppFault.TheVariants as fault
+use Rattle.fuxi_terms.specs.Limits.{most_steps}
 use Rattle.party_ledgers.specs.declared.packets.Packet.{Packet}
 use Rattle.party_ledgers.specs.declared.packets.Heard.{Heard}
 use Rattle.core_side.specs.Parcels.{parcel_is, IsSent}
@@ -24,10 +22,7 @@ use Rattle.written_parties.specs.SeenParties.{Kind, Masters, Agents, Apps, Role,
 use Rattle.party_slots.specs.Slots.{SlotsRecord, AreOf, AreWithin as PartiesWithin, ActIn, Stays}
 use Rattle.party_slots.specs.Peers.{AgentStands, AppStands, agent_steps, app_steps}
 use Rattle.party_slots.specs.RunningMasters.{MasterStands, master_steps}
-use Rattle.schedule_unit.specs.declared.party.Role.{Role as RoleNamed}
-use Rattle.schedule_unit.specs.declared.party.Role.TheVariants.{Master, Agent, App}
 use Rattle.schedule_text.specs.declared.refusal.Refusal.{Refusal}
-use Rattle.schedule_text.specs.declared.refusal.Refusal.TheVariants as why
 use Rattle.schedule_text.specs.Printing.{as_refusal}
 use Rattle.schedule_replay.specs.declared.turns.Told.{Told}
 use Rattle.schedule_replay.specs.declared.turns.Told.TheVariants.{Turn, Resync}
@@ -127,12 +122,7 @@ abbrev pub ActsAsPart : {P : Type 0} → (World → Kind → ℕ → Step) → (
 ActsAsPart {P} f stands steps n old new pool kept before after result = (k : Kind) (of : WorldRecord → SlotsRecord P) (put : SlotsRecord P → WorldRecord → WorldRecord) (r : WorldRecord)
     → IsPart P stands steps k of put → of r ≡ old → r.pool ≡ pool → Acts (λ w. f w k n) r (record (put new r) { pool = kept }) before after result
 
--- the kind of the parties of a role, and what one is told
-abbrev pub kind_named : RoleNamed → Kind
-kind_named Master = Masters
-kind_named Agent = Agents
-kind_named App = Apps
-
+-- what a party is told
 abbrev pub told_of : Told → World → Kind → ℕ → Step
 told_of Turn w k n = turn_of w k n
 told_of Resync w k n = resync_of w k n
@@ -213,13 +203,3 @@ pub record TookSteps (n : ℕ) (old now : WorldRecord) : Type 0 where
 -- one ban of a judgement, whatever the command answers, with the votes for it
 abbrev pub ban_one : ℕ → ℕ → ℕ → World → Step
 ban_one e m votes w = record { world = (commanded w e (BansMachine m)).world; lines = Judged m votes ∷ [] }
-
--- the refusal that a fault of an application names; want of memory names none
-abbrev pub IsRefusalOf : AppFault → Option Refusal → Type 0
-IsRefusalOf fault.NoUnit answer = answer ≡ Some why.NoUnit
-IsRefusalOf fault.NoMachine answer = answer ≡ Some why.NoMachine
-IsRefusalOf fault.NoRack answer = answer ≡ Some why.NoRack
-IsRefusalOf fault.WantRange answer = answer ≡ Some (why.WantRange greatest_count)
-IsRefusalOf (fault.NotUsable usable) answer = answer ≡ Some (why.NotUsable usable)
-IsRefusalOf fault.BackRange answer = answer ≡ Some why.BackRange
-IsRefusalOf fault.OutOfMemory answer = answer ≡ None

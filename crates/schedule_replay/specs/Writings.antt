@@ -1,28 +1,9 @@
--- What is written to a checkpoint, and what is left of a writing that stops.
-use Rattle.std.specs.Prelude.{◌≡◌, ◌<◌, ℕ, Bool, ◌&&◌, ◌||◌, cond, nat_eq, List, Result, Ok, Err}
+-- What is left of a writing to a checkpoint that stops.
+use Rattle.std.specs.Prelude.{◌≡◌, ℕ, Bool, ◌&&◌, ◌||◌, cond, nat_eq, List, Result, Ok, Err}
 use Rattle.fuxi_io.specs.Disks.{Moment, IsImage}
-use Rattle.fuxi_terms.specs.Limits.{most_machines}
-use Rattle.written_roles.specs.HardState.{HardState, HardEvent, Raise as Raising, Submission, Finishing, Banning, Unbanning}
+use Rattle.written_roles.specs.HardState.{HardState}
 use Rattle.written_roles.specs.Refusals.{Refusal}
 use Rattle.hard_state.specs.HardFiles.{records_of}
-use Rattle.schedule_replay.specs.declared.writing.Writing.{Writing}
-use Rattle.schedule_replay.specs.declared.writing.Writing.TheVariants.{Raise, Submit, Finish, Ban, Unban}
-
--- the step that it makes
-abbrev pub event_of : Writing → HardEvent
-event_of Raise = Raising
-event_of (Submit job) = Submission job.now
-event_of (Finish app) = Finishing app.0
-event_of (Ban machine) = Banning machine.0
-event_of (Unban machine) = Unbanning machine.0
-
--- a machine that is banned is one that a cluster may have
-abbrev pub IsWritable : Writing → Type 0
-IsWritable Raise = Unit {0}
-IsWritable (Submit job) = Unit {0}
-IsWritable (Finish app) = Unit {0}
-IsWritable (Ban machine) = machine.0 < most_machines
-IsWritable (Unban machine) = Unit {0}
 
 -- Of the four calls of the disk that a writing makes, the last one makes its record count, and the third where all that was written is left.
 abbrev pub counts_after : ℕ → Bool → Bool

@@ -1,18 +1,16 @@
 //! The events of applications.
 
-ghost use Rattle.std.specs.Prelude.{◌≡◌, ◌<◌};
+ghost use Rattle.std.specs.Prelude.{◌<◌};
 ghost use Rattle.fuxi_terms.specs.Limits.{most_jobs};
-ghost use Rattle.party_slots.specs.Peers.{command_of};
+ghost use Rattle.party_orders.specs.OrderedParties.{app_command};
 ghost use Rattle.written_world.specs.Events.{start_app, asks};
-ghost use Rattle.schedule_replay.specs.Moves.{Acts, CanMove, IsRefusalOf};
+ghost use Rattle.schedule_replay.specs.Moves.{Acts, CanMove};
 
 use crate::law;
 use crate::running::Running;
 use crate::stop::WorldStop;
 use crate::text::write_refusal;
-use app_master::AppFault;
-use fuxi_terms::limits::GREATEST_COUNT;
-use party_slots::AppAsk;
+use party_orders::AppCommand;
 use schedule_text::Refusal;
 use schedule_unit::AppNo;
 use std::alloc::Global;
@@ -48,42 +46,21 @@ pub(crate) fn start_app(
     }
 }
 
-// Why an application refuses what it is asked; none where memory was refused.
-fn refusal_of(fault: AppFault) -> Option<Refusal>
-    ensures { IsRefusalOf fault result }
-{
-    match fault {
-        AppFault::NoUnit => Some(Refusal::NoUnit),
-        AppFault::NoMachine => Some(Refusal::NoMachine),
-        AppFault::NoRack => Some(Refusal::NoRack),
-        AppFault::WantRange => Some(Refusal::WantRange(GREATEST_COUNT)),
-        AppFault::NotUsable { usable } => Some(Refusal::NotUsable(usable as u64)),
-        AppFault::BackRange => Some(Refusal::BackRange),
-        AppFault::OutOfMemory => None,
-    }
-}
-
 // The application of a job is asked.
 pub(crate) fn ask_app(
     running: &mut Running,
     alloc: Global,
     app: AppNo,
-    ask: AppAsk,
+    asked: AppCommand,
     out: &mut Vec<u8>,
 ) -> Result<(), WorldStop>
     requires { CanMove running.old }
-    ensures { Acts (λ w. asks w app.0 (command_of ask)) running.old running.new out.old.items out.new.items result }
+    ensures { Acts (λ w. asks w app.0 (app_command asked)) running.old running.new out.old.items out.new.items result }
 {
     law::apps_act();
     law::cores_may_step();
-    let Some(answer) = party_slots::ask(&mut running.apps, alloc, app, ask) else {
-        return write_refusal(Some(Refusal::NotRunning), out);
-    };
-    let Err(fault) = answer else {
-        return Ok(());
-    };
-    match refusal_of(fault) {
-        Some(refusal) => write_refusal(Some(refusal), out),
-        None => Err(WorldStop::OutOfMemory),
+    match party_slots::ask(&mut running.apps, alloc, app, asked) {
+        Ok(answer) => write_refusal(answer.unwrap_or(Some(Refusal::NotRunning)), out),
+        Err(_) => Err(WorldStop::OutOfMemory),
     }
 }

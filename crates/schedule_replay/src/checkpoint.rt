@@ -2,16 +2,23 @@
 
 ghost use Rattle.std.specs.Prelude.{◌≡◌, ◌≢◌, ◌≤◌, Result, Ok, Err, IfOk, IfErr, OnOk, IsOk};
 ghost use Rattle.fuxi_io.specs.Disks.{Leaves};
-ghost use Rattle.written_roles.specs.HardState.{HardState, empty_hard, hard_step};
+ghost use Rattle.written_roles.specs.HardState.{empty_hard, hard_step};
 ghost use Rattle.written_roles.specs.Refusals.{Refusal};
 ghost use Rattle.hard_state.specs.HardFiles.{IsBeforeOrAfter, Refuses, records_of};
 ghost use Rattle.schedule_replay.specs.Held.{IsOpen};
-ghost use Rattle.schedule_replay.specs.Writings.{IsLeft, IsWritable, MayLeave, counts_after, event_of};
+ghost use Rattle.party_orders.specs.OrderedParties.{IsNamed, IsWritable, event_of, master_command};
+ghost use Rattle.party_slots.specs.Slots.{MayStep, slot_at};
+ghost use Rattle.party_slots.specs.RunningMasters.{AreMastersOver, ObeyInWorld, master_steps};
+ghost use Rattle.schedule_replay.specs.MasterCommands.{TakesStep};
+ghost use Rattle.schedule_replay.specs.Writings.{IsLeft, MayLeave, counts_after};
 
 use crate::disk::GrowingDisk;
-use crate::writing::{Writing, write_on};
+use fuxi_master::Master;
 use fuxi_terms::OutOfMemory;
 use hard_state::{Hard, HardFault};
+use party_orders::{Halt, MasterCommand, Writing, write};
+use party_slots::Slots;
+use schedule_text::Refusal;
 use std::alloc::Global;
 use std::marker::Model;
 
@@ -89,7 +96,34 @@ impl Checkpoint {
         ensures refused { IfErr result (Refuses (hard_step self.old.hard.value epoch (event_of writing.now))) }
         ensures unchanged { IfErr result (λ fault. fault ≢ HardFault.DiskFault → self.new ≡ self.old) }
     {
-        write_on(&mut self.hard, &mut self.disk, epoch, writing)
+        write(&mut self.hard, &mut self.disk, epoch, writing)
+    }
+
+    /// The master of an epoch is commanded, and writes what that changes of the hard state, if one runs. Where it cannot be carried out the
+    /// checkpoint and the masters are not to be used.
+    pub(crate) fn obey(
+        &mut self,
+        masters: &mut Slots<Master>,
+        alloc: Global,
+        epoch: u64,
+        command: &MasterCommand,
+    ) -> Result<Option<Option<Refusal>>, Halt>
+        requires named { IsNamed command.now }
+        requires over { AreMastersOver self.old.hard.value masters.old }
+        requires steps { MayStep master_steps (slot_at masters.old epoch) }
+        requires open { IsOpen self.old }
+        ensures world { IfOk result (ObeyInWorld epoch (master_command command.now) self.old.hard.value self.new.hard.value masters.old masters.new) }
+        ensures open { OnOk result (IsOpen self.new) }
+        ensures steps { TakesStep masters.old masters.new }
+    {
+        party_slots::obey(
+            masters,
+            alloc,
+            epoch,
+            command,
+            &mut self.hard,
+            &mut self.disk,
+        )
     }
 
     /// Begins to write one change, stops after so many of the four calls of the disk that this makes, and opens what a crash then
@@ -144,7 +178,7 @@ impl Checkpoint {
         ensures unchanged { IfErr result (λ fault. fault ≢ HardFault.OutOfMemory → self.new ≡ self.old) }
     {
         self.disk.stop_after(calls as u64);
-        match write_on(&mut self.hard, &mut self.disk, epoch, writing) {
+        match write(&mut self.hard, &mut self.disk, epoch, writing) {
             Ok(()) => Ok(()),
             Err(HardFault::DiskFault) => Ok(()),
             Err(fault) => {

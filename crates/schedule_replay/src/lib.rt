@@ -12,6 +12,7 @@ mod halts;
 pub mod law;
 mod lines;
 mod masters;
+mod orders;
 mod promises;
 mod running;
 mod showing;
@@ -19,7 +20,6 @@ mod stop;
 mod text;
 mod turns;
 mod world;
-mod writing;
 
 pub use lines::Lines;
 pub use promises::{cores_are_safe, quiet_parties_agree};

@@ -1,20 +1,22 @@
 //! The events of masters.
 
-ghost use Rattle.std.specs.Prelude.{◌≡◌, ◌<◌, ◌≤◌, map};
+ghost use Rattle.std.specs.Prelude.{◌<◌, ◌≤◌, map};
 ghost use Rattle.bad_nodes.specs.Ranks.{number_of};
 ghost use Rattle.written_world.specs.Events.{Halt, act, ban_each, commanded, judge, start_master, stop_master};
 ghost use Rattle.schedule_text.specs.Halting.{halting};
 ghost use Rattle.schedule_text.specs.Writing.{IsLineEvent};
 ghost use Rattle.schedule_replay.specs.LineEvents.{event_as};
-ghost use Rattle.schedule_replay.specs.MasterCommands.{IsNamed, MayBan, command_as};
+ghost use Rattle.party_orders.specs.OrderedParties.{IsNamed, master_command};
+ghost use Rattle.schedule_replay.specs.MasterCommands.{MayBan};
 ghost use Rattle.schedule_replay.specs.Moves.{Acts, ActsOnce, CanMove, CanMoveLong, ban_one};
 
-use crate::commands::{self, Judgement, Order};
+use crate::commands::{self, Judgement};
 use crate::halts::{self, Stop};
 use crate::running::Running;
 use crate::stop::WorldStop;
 use crate::text::{write_judged, write_line, write_refusal};
-use schedule_text::Event;
+use party_orders::MasterCommand;
+use schedule_text::{Event, Refusal};
 use schedule_unit::MachineNo;
 use std::alloc::Global;
 
@@ -55,28 +57,27 @@ pub(crate) fn stop_master(
     write_refusal(refusal, out)
 }
 
-// The master of an epoch is given an order.
+// The master of an epoch is commanded.
 pub(crate) fn give_order(
     running: &mut Running,
     alloc: Global,
     epoch: u64,
-    order: &Order,
+    command: &MasterCommand,
     out: &mut Vec<u8>,
 ) -> Result<(), WorldStop>
-    requires named { IsNamed order.now }
+    requires named { IsNamed command.now }
     requires can { CanMove running.old }
-    ensures { Acts (λ w. commanded w epoch (command_as order.now)) running.old running.new out.old.items out.new.items result }
+    ensures { Acts (λ w. commanded w epoch (master_command command.now)) running.old running.new out.old.items out.new.items result }
 {
     crate::law::masters_act();
     crate::law::cores_may_step();
     let Running {
-        cluster,
         checkpoint,
         masters,
         ..
     } = running;
-    match commands::give_order(alloc, cluster, checkpoint, masters, epoch, order) {
-        Ok(refusal) => write_refusal(refusal, out),
+    match checkpoint.obey(masters, alloc, epoch, command) {
+        Ok(answer) => write_refusal(answer.unwrap_or(Some(Refusal::NotRunning)), out),
         Err(_) => Err(WorldStop::OutOfMemory),
     }
 }
@@ -96,13 +97,11 @@ fn ban_one(
     crate::law::masters_act();
     crate::law::cores_may_step();
     let Running {
-        cluster,
         checkpoint,
         masters,
         ..
     } = running;
-    let order = Order::Ban(machine);
-    match commands::give_order(alloc, cluster, checkpoint, masters, epoch, &order) {
+    match checkpoint.obey(masters, alloc, epoch, &MasterCommand::Ban(machine)) {
         Ok(_) => write_judged(machine, votes, out),
         Err(_) => Err(WorldStop::OutOfMemory),
     }

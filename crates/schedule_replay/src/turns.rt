@@ -12,7 +12,8 @@ ghost use Rattle.packet_pool.specs.PacketPools.{Stored};
 ghost use Rattle.written_parties.specs.SeenParties.{turn_of, resync_of};
 ghost use Rattle.party_slots.specs.Slots.{MayStep, slot_at};
 ghost use Rattle.schedule_replay.specs.ReplayTexts.{lines_text};
-ghost use Rattle.schedule_replay.specs.Moves.{Acts, ActsAsPart, CanMove, KeepsMore, StopsAs, StopsFor, WantsMemory, kind_named, refusal_lines, told_of};
+ghost use Rattle.party_orders.specs.OrderedParties.{kind_named};
+ghost use Rattle.schedule_replay.specs.Moves.{Acts, ActsAsPart, CanMove, KeepsMore, StopsAs, StopsFor, WantsMemory, refusal_lines, told_of};
 
 use crate::law;
 use crate::running::Running;

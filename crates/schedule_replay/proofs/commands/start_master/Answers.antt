@@ -5,13 +5,13 @@ use Rattle.party_slots.specs.RunningMasters.{MasterStartInWorld}
 use Rattle.schedule_replay.proofs.MasterCommandsLemmas.{may_step, starts_done, starts_refused}
 use Rattle.schedule_replay.proofs.commands.start_master.Goals as goal
 
-pub returns-in-Err-write-clause-world : goal.returns-in-Err-write-clause-world
-returns-in-Err-write-clause-world c w cluster s =
+pub returns-in-Ok-written_refusal-clause-world : goal.returns-in-Ok-written_refusal-clause-world
+returns-in-Ok-written_refusal-clause-world c w cluster s =
     let e = c.args.epoch in
     let old = c.args.checkpoint.now in
-    let refusal = c.in_ok-written_refusal-in-Err-write.ensures in
-    starts_refused w e old c.write.new.self c.args.masters.now c.in_ok-written_refusal-in-Err-write.field-0 s (c.in-Ok.ensures.world w s)
-    (refusal.refused (hard_step old.hard.value e Raise) c.in-Err-write.ensures.refused) (c.in-Err-write.ensures.unchanged refusal.disk)
+    let refusal = c.in-Ok-written_refusal.ensures in
+    starts_refused w e old c.write.new.self c.args.masters.now c.in-Ok-written_refusal.refusal s (c.in-Ok.ensures.world w s)
+    (refusal.refused (hard_step old.hard.value e Raise) c.in-Err-write.ensures.refused) (c.in-Err-write.ensures.unchanged refusal.served)
 
 pub returns-in-Ok-start_master-clause-world : goal.returns-in-Ok-start_master-clause-world
 returns-in-Ok-start_master-clause-world c w cluster s =

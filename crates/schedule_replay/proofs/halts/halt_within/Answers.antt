@@ -1,7 +1,7 @@
 use Rattle.written_roles.specs.HardState.{hard_step}
-use Rattle.schedule_replay.specs.Writings.{event_of}
+use Rattle.party_orders.specs.OrderedParties.{event_of}
 use Rattle.schedule_replay.proofs.MasterCommandsLemmas.{may_step}
-use Rattle.schedule_replay.proofs.HaltsInWorldLemmas.{halt_done, halt_unwritten}
+use Rattle.schedule_replay.proofs.HaltsInWorldLemmas.{halt_done, halt_unwritten, no_want}
 use Rattle.schedule_replay.proofs.halts.halt_within.Goals as goal
 
 pub returns-in-Ok-clause-world : goal.returns-in-Ok-clause-world
@@ -14,11 +14,11 @@ returns-in-Ok-clause-world c w x s named writes =
 pub returns-in-Ok-clause-steps : goal.returns-in-Ok-clause-steps
 returns-in-Ok-clause-steps c = may_step c.args.masters.now c.stop_master-ran.new.masters c.stop_master-ran.ensures.within
 
-pub returns-in_ok-refusal-in-Err-clause-world : goal.returns-in_ok-refusal-in-Err-clause-world
-returns-in_ok-refusal-in-Err-clause-world c w x s named writes =
+pub returns-in-Ok-written_refusal-clause-world : goal.returns-in-Ok-written_refusal-clause-world
+returns-in-Ok-written_refusal-clause-world c w x s named writes =
     let stop = c.args.stop in
     let v = event_of c.args.writing.now in
     let old = c.args.checkpoint.now in
-    let refusal = c.in_ok-refusal-in-Err.ensures in
-    halt_unwritten w x c.args.epoch stop.calls stop.all v old c.halt.new.self c.args.masters.now c.in_ok-refusal-in-Err.refusal s named writes
-    (refusal.refused (hard_step old.hard.value c.args.epoch v) c.in-Err.ensures.refused) (c.in-Err.ensures.unchanged refusal.memory)
+    let refusal = c.in-Ok-written_refusal.refusal in
+    let says = c.in-Ok-written_refusal.ensures.refused in
+    halt_unwritten w x c.args.epoch stop.calls stop.all v old c.halt.new.self c.args.masters.now refusal s named writes (says (hard_step old.hard.value c.args.epoch v) c.in-Err.ensures.refused) (c.in-Err.ensures.unchanged (no_want old.hard.value c.in-Err.fault refusal says))

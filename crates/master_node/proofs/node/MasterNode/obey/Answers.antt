@@ -1,72 +1,41 @@
-use Rattle.std.proofs.Common.{◌≡◌, Ok, Err, refl, sym, ◌∙◌, ap, subst}
-use Rattle.hard_state.specs.HardFiles.{Kept}
-use Rattle.hard_state.specs.declared.fault.HardFault.TheVariants.{DiskFault}
-use Rattle.schedule_text.specs.Printing.{as_refusal}
-use Rattle.node_party.specs.PartyEvents.{IsCommanded, RefusedAs}
-use Rattle.node_party.specs.NodeTexts.{as_answer}
-use Rattle.node_party.specs.declared.party.Halt.TheVariants.{Memory}
+use Rattle.std.proofs.Common.{Ok, Err, sym, subst}
+use Rattle.party_orders.specs.OrderedParties.{master_command}
 use Rattle.master_node.specs.MasterParties.{NodeRecord, IsMasterOf, StandsAs}
-use Rattle.master_node.specs.Writes.{written_by}
-use Rattle.master_node.specs.NodeCommands.{obeyed}
 use Rattle.master_node.proofs.KnowledgeKept.{tied_by}
-use Rattle.master_node.proofs.WrittenIsDone.{fits, leaves_obeyed, obeys, refuses}
+use Rattle.master_node.proofs.NodeCommandsLemmas.{knows_written, leaves_obeyed, obeyed}
+use Rattle.node_party.specs.PartyEvents.{IsCommanded, master_after}
+use Rattle.node_party.specs.NodeTexts.{as_answer}
+use Rattle.written_roles.specs.MasterRoles.{master_commanded}
 use Rattle.master_node.proofs.node.MasterNode.obey.Goals as goal
 
-pub returns-in-Ok-written_refusal-clause-does : goal.returns-in-Ok-written_refusal-clause-does
-returns-in-Ok-written_refusal-clause-does g c h r s =
-    let m = c.self.inside.master in
-    let k = c.self.inside.hard in
-    let event = c.args.event in
-    let refusal = c.in-Ok-written_refusal.refusal in
-    let of = subst (IsMasterOf h r) (sym c.self.view_is) s in
-    let unchanged = (c.in-Err.ensures.unchanged c.in-Ok-written_refusal.ensures.served).0 in
-    let written = c.in-Ok-written_refusal.ensures.refused (written_by k.value c.epoch.result event) c.in-Err.ensures.refused in
-    refuses (record { hard = k; master = m }) (record { hard = c.write.new.hard; master = m }) event (as_refusal refusal) (RefusedAs (as_refusal refusal)) h r of
-    (ap {B = NodeRecord} (λ (k : Kept). record { hard = k; master = m }) unchanged) refl (ap (λ e. written_by k.value e event) (sym (c.epoch.ensures.stands r of.stands)) ∙ written)
+pub obey-requires-clause-knows : goal.obey-requires-clause-knows
+obey-requires-clause-knows g c = knows_written c.self.inside.hard c.self.inside.master c.self.invariant
 
-pub returns-in-Err-written_refusal-clause-told : goal.returns-in-Err-written_refusal-clause-told
-returns-in-Err-written_refusal-clause-told g c h r s =
-    let of = subst (IsMasterOf h r) (sym c.self.view_is) s in
-    leaves_obeyed c.args.self c.self.inside.hard c.write.new.hard c.self.inside.master h r c.epoch.result c.args.event (Err c.in-Err.fault) (Err c.in-Err-written_refusal.halt) _ _
-    c.self.view_is of.value (c.epoch.ensures.stands r of.stands) c.requires.command (λ new rest. tt) c.in-Err.ensures.told
-
-pub invariant_of-result-in-Ok-step : goal.invariant_of-result-in-Ok-step
-invariant_of-result-in-Ok-step g c =
+pub invariant_of-result : goal.invariant_of-result
+invariant_of-result g c =
     let v = c.self.invariant in
-    let event = c.args.event in
-    let new : NodeRecord = record { hard = c.write.new.hard; master = c.in-Ok-step.master } in
-    let written = ap (λ e. written_by c.self.inside.hard.value e event) (sym (c.epoch.ensures.stands v.role v.stands.stands)) ∙ c.in-Ok.ensures.ok in
-    tied_by new (obeyed v.hard v.role event).role
-    (obeys (record { hard = c.self.inside.hard; master = c.self.inside.master }) new event c.in-Ok-step.outcome v.hard v.role c.requires.command v.stands written c.in-Ok-step.ensures.answers).stands
+    let command = master_command c.args.command.now in
+    let new : NodeRecord = record { hard = c.obey.new.hard; master = c.in-Ok.master } in
+    tied_by new (master_after v.hard v.role (master_commanded v.role v.hard command)).role
+    (obeyed (record { hard = c.self.inside.hard; master = c.self.inside.master }) new v.hard v.role command c.in-Ok.refusal v.stands (c.in-Ok.ensures.obeys v.role v.stands.stands)).stands
 
-pub returns-in-Ok-step-clause-does : goal.returns-in-Ok-step-clause-does
-returns-in-Ok-step-clause-does g c h r s =
-    let event = c.args.event in
-    let new : NodeRecord = record { hard = c.write.new.hard; master = c.in-Ok-step.master } in
+pub returns-in-Ok-clause-does : goal.returns-in-Ok-clause-does
+returns-in-Ok-clause-does g c h r s =
+    let command = master_command c.args.command.now in
+    let new : NodeRecord = record { hard = c.obey.new.hard; master = c.in-Ok.master } in
     let of = subst (IsMasterOf h r) (sym c.self.view_is) s in
-    let written = ap (λ e. written_by c.self.inside.hard.value e event) (sym (c.epoch.ensures.stands r of.stands)) ∙ c.in-Ok.ensures.ok in
-    subst (λ a. IsCommanded (StandsAs new) (as_answer a) (obeyed h r event)) (sym c.answer_in.ensures)
-    (obeys (record { hard = c.self.inside.hard; master = c.self.inside.master }) new event c.in-Ok-step.outcome h r c.requires.command of written c.in-Ok-step.ensures.answers)
+    subst (λ a. IsCommanded (StandsAs new) (as_answer a) (master_after h r (master_commanded r h command))) (sym c.answer_of.ensures)
+    (obeyed (record { hard = c.self.inside.hard; master = c.self.inside.master }) new h r command c.in-Ok.refusal of (c.in-Ok.ensures.obeys r of.stands))
 
-pub returns-in-Ok-step-clause-told : goal.returns-in-Ok-step-clause-told
-returns-in-Ok-step-clause-told g c h r s =
-    let new : NodeRecord = record { hard = c.write.new.hard; master = c.in-Ok-step.master } in
+pub returns-in-Ok-clause-told : goal.returns-in-Ok-clause-told
+returns-in-Ok-clause-told g c h r s =
+    let new : NodeRecord = record { hard = c.obey.new.hard; master = c.in-Ok.master } in
     let of = subst (IsMasterOf h r) (sym c.self.view_is) s in
-    leaves_obeyed c.args.self c.self.inside.hard c.write.new.hard c.self.inside.master h r c.epoch.result c.args.event (Ok c.in-Ok.field-0) (Ok (new, c.answer_in.result)) _ _
-    c.self.view_is of.value (c.epoch.ensures.stands r of.stands) c.requires.command (λ new rest. rest) c.in-Ok.ensures.told
+    leaves_obeyed c.args.self c.self.inside.hard c.obey.new.hard c.self.inside.master h r (master_command c.args.command.now) (Ok (c.in-Ok.master, c.in-Ok.refusal)) (Ok (new, c.answer_of.result)) _ _
+    c.self.view_is of.value (λ new rest. rest) (c.in-Ok.ensures.told r of.stands)
 
-pub returns-in-Err-step-clause-told : goal.returns-in-Err-step-clause-told
-returns-in-Err-step-clause-told g c h r s =
+pub returns-in-Err-clause-told : goal.returns-in-Err-clause-told
+returns-in-Err-clause-told g c h r s =
     let of = subst (IsMasterOf h r) (sym c.self.view_is) s in
-    leaves_obeyed c.args.self c.self.inside.hard c.write.new.hard c.self.inside.master h r c.epoch.result c.args.event (Ok c.in-Ok.field-0) (Err Memory) _ _
-    c.self.view_is of.value (c.epoch.ensures.stands r of.stands) c.requires.command (λ new rest. tt) c.in-Ok.ensures.told
-
-pub step-requires-clause-fitting : goal.step-requires-clause-fitting
-step-requires-clause-fitting g c =
-    let k = c.self.inside.hard in
-    fits (record { hard = k; master = c.self.inside.master }) c.args.event c.write.new.hard.value c.self.invariant c.requires.command
-    (λ r h s. ap (λ e. written_by k.value e c.args.event) (sym (c.epoch.ensures.stands r s.stands)) ∙ c.in-Ok.ensures.ok)
-
-pub returns-in-Err-written_refusal-clause-served : goal.returns-in-Err-written_refusal-clause-served
-returns-in-Err-written_refusal-clause-served g c other =
-    c.in-Err.ensures.served (λ is. c.in-Err-written_refusal.ensures.told (λ same. other (ap (λ h. Err h) same)) (let fault : c.in-Err.fault ≡ DiskFault = cc in fault))
+    leaves_obeyed c.args.self c.self.inside.hard c.obey.new.hard c.self.inside.master h r (master_command c.args.command.now) (Err c.in-Err.halt) (Err c.in-Err.halt) _ _
+    c.self.view_is of.value (λ new rest. tt) (c.in-Err.ensures.told r of.stands)

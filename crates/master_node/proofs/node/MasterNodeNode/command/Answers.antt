@@ -1,57 +1,59 @@
-use Rattle.std.proofs.Common.{◌≡◌, false, nat_eq, Some, sym, ◌∙◌, ap, arith}
+use Rattle.std.proofs.Common.{rules, ◌≡◌, true, nat_eq, Some, refl, arith}
 use Rattle.std.proofs.lemmas.Bool.Decides.{nat_tests}
-use Rattle.written_roles.specs.Refusals.{NotRunning}
-use Rattle.node_rounds.specs.Roles.{OfAgent, OfApp, OfMaster}
-use Rattle.node_party.specs.PartyEvents.{commanded, master_does, master_named}
-use Rattle.master_node.specs.ToldMasters.{named_of, told_of}
-use Rattle.master_node.specs.Writes.{hard_in}
-use Rattle.master_node.proofs.NodeCommandsLemmas.{all_done, all_left, named_does, named_other, stays_refused}
-use Rattle.master_node.proofs.RestKept.{line_rests, on_err, stays_rests, told_halts}
+use Rattle.written_roles.specs.MasterRoles.{master_commanded, master_resynced}
+use Rattle.written_parties.specs.SeenParties.{Masters}
+use Rattle.node_rounds.specs.Roles.{OfMaster}
+use Rattle.party_orders.specs.PartyOrders.{Governs, Resyncs, order_of}
+use Rattle.party_orders.specs.OrderedParties.{master_command}
+use Rattle.node_party.specs.PartyEvents.{becomes, commanded, master_after}
+use Rattle.master_node.specs.NodeCommands.{hard_in}
+use Rattle.master_node.proofs.NodeCommandsLemmas.{all_done, all_left, named_own}
+use Rattle.master_node.proofs.RestKept.{kept_halts, line_rests, on_err, told_halts}
 use Rattle.master_node.proofs.node.MasterNodeNode.command.Goals as goal
 
-pub returns-then-epoch-clause-does : goal.returns-then-epoch-clause-does
-returns-then-epoch-clause-does g c (OfAgent r) s = elim s [ ]
-returns-then-epoch-clause-does g c (OfApp r) s = elim s [ ]
-returns-then-epoch-clause-does g c (OfMaster h r) s =
-    let e = c.in-Some.epoch in
-    let told = told_of c.in-Some.told in
-    let named : master_named c.args.event.now ≡ Some (e, told) = sym c.master_named.ensures.named ∙ ap named_of c.in-Some.is in
+pub returns-else-epoch-clause-does : goal.returns-else-epoch-clause-does
+returns-else-epoch-clause-does g c =
+    let e = c.in-Some-Resync-Master-default.epoch in
+    let event = c.args.event.now in
+    let named : order_of event ≡ Some (Resyncs Masters e) = search rules in
+    all_done event (λ h r. becomes (OfMaster h (master_resynced r))) c.args.self c.resync.result (λ h r s.
     let own = c.epoch.ensures.epoch h r s in
-    let other : nat_eq e r.state.epoch ≡ false = let t = c.if-epoch.true in grind (arith, nat_tests, t, own) in
-    stays_refused c.args.self h r NotRunning (commanded (OfMaster h r) c.args.event.now) s (named_other h r e told c.args.event.now named other)
+    let here : nat_eq e r.state.epoch ≡ true = let t = c.if-epoch.false in grind (arith, nat_tests, t, own) in
+    named_own (OfMaster h r) (Resyncs Masters e) e r.state.epoch (becomes (OfMaster h (master_resynced r))) event named refl here) c.resync.ensures.does
 
-pub returns-clause-does : goal.returns-clause-does
-returns-clause-does g c =
-    let e = c.in-Some.epoch in
-    let told = told_of c.in-Some.told in
-    let named : master_named c.args.event.now ≡ Some (e, told) = sym c.master_named.ensures.named ∙ ap named_of c.in-Some.is in
-    all_done c.args.event.now (λ h r. master_does h r told) c.args.self c.tell.result
-    (λ h r s. named_does h r e told c.args.event.now named (let own = c.epoch.ensures.epoch h r s in let t = c.if-epoch.false in grind (arith, nat_tests, t, own))) c.tell.ensures.does
+pub returns-else-epoch-clause-halts : goal.returns-else-epoch-clause-halts
+returns-else-epoch-clause-halts g c =
+    on_err c.resync.result (λ r s. kept_halts c.args.self r (commanded r c.args.event.now).role (g.D.Disk.size c.args.disk.now) (g.D.Disk.told c.args.disk.now) s)
 
-pub returns-clause-leaves : goal.returns-clause-leaves
-returns-clause-leaves g c =
-    let e = c.in-Some.epoch in
-    let told = told_of c.in-Some.told in
-    let named : master_named c.args.event.now ≡ Some (e, told) = sym c.master_named.ensures.named ∙ ap named_of c.in-Some.is in
-    all_left c.args.event.now (λ h r. master_does h r told) c.args.self c.tell.result (g.D.Disk.told c.args.disk.now) (g.D.Disk.told c.tell.new.disk)
-    (λ h r s. named_does h r e told c.args.event.now named (let own = c.epoch.ensures.epoch h r s in let t = c.if-epoch.false in grind (arith, nat_tests, t, own))) c.tell.ensures.told
+pub returns-else-epoch-2-clause-does : goal.returns-else-epoch-2-clause-does
+returns-else-epoch-2-clause-does g c =
+    let e = c.in-Some-Govern.epoch in
+    let x = master_command c.in-Some-Govern.command in
+    let event = c.args.event.now in
+    let named : order_of event ≡ Some (Governs e x) = search rules in
+    all_done event (λ h r. master_after h r (master_commanded r h x)) c.args.self c.obey.result (λ h r s.
+    let own = c.epoch-in-Some-Govern.ensures.epoch h r s in
+    let here : nat_eq e r.state.epoch ≡ true = let t = c.if-epoch-2.false in grind (arith, nat_tests, t, own) in
+    named_own (OfMaster h r) (Governs e x) e r.state.epoch (master_after h r (master_commanded r h x)) event named refl here) c.obey.ensures.does
 
-pub returns-clause-told : goal.returns-clause-told
-returns-clause-told g c =
-    let tied = c.epoch.ensures.tied in
-    line_rests c.args.self (hard_in (master_does tied.hard tied.role (told_of c.in-Some.told)).role) c.tell.result _ _ (g.D.Disk.told c.args.disk.now) (g.D.Disk.told c.tell.new.disk)
-    (c.tell.ensures.told tied.hard tied.role tied.stands) c.tell.ensures.rests
+pub returns-else-epoch-2-clause-leaves : goal.returns-else-epoch-2-clause-leaves
+returns-else-epoch-2-clause-leaves g c =
+    let e = c.in-Some-Govern.epoch in
+    let x = master_command c.in-Some-Govern.command in
+    let event = c.args.event.now in
+    let named : order_of event ≡ Some (Governs e x) = search rules in
+    all_left event (λ h r. master_after h r (master_commanded r h x)) c.args.self c.obey.result (g.D.Disk.told c.args.disk.now) (g.D.Disk.told c.obey.new.disk) (λ h r s.
+    let own = c.epoch-in-Some-Govern.ensures.epoch h r s in
+    let here : nat_eq e r.state.epoch ≡ true = let t = c.if-epoch-2.false in grind (arith, nat_tests, t, own) in
+    named_own (OfMaster h r) (Governs e x) e r.state.epoch (master_after h r (master_commanded r h x)) event named refl here) c.obey.ensures.told
 
-pub returns-then-epoch-clause-told : goal.returns-then-epoch-clause-told
-returns-then-epoch-clause-told g c = stays_rests c.args.self (g.D.Disk.size c.args.disk.now) (g.D.Disk.told c.args.disk.now)
+pub returns-else-epoch-2-clause-told : goal.returns-else-epoch-2-clause-told
+returns-else-epoch-2-clause-told g c =
+    let x = master_command c.in-Some-Govern.command in
+    let tied = c.epoch-in-Some-Govern.ensures.tied in
+    line_rests c.args.self (hard_in (master_after tied.hard tied.role (master_commanded tied.role tied.hard x)).role) c.obey.result _ _ (g.D.Disk.told c.args.disk.now) (g.D.Disk.told c.obey.new.disk)
+    (c.obey.ensures.told tied.hard tied.role tied.stands) c.obey.ensures.rests
 
-pub returns-clause-halts : goal.returns-clause-halts
-returns-clause-halts g c = on_err c.tell.result (λ r s.
-    let e = c.in-Some.epoch in
-    let told = told_of c.in-Some.told in
-    let named : master_named c.args.event.now ≡ Some (e, told) = sym c.master_named.ensures.named ∙ ap named_of c.in-Some.is in
-    let old = g.D.Disk.told c.args.disk.now in
-    let new = g.D.Disk.told c.tell.new.disk in
-    told_halts c.args.self r (commanded r c.args.event.now).role c.tell.result (g.D.Disk.size c.args.disk.now) old new s
-    (all_left c.args.event.now (λ h r. master_does h r told) c.args.self c.tell.result old new
-    (λ h r s. named_does h r e told c.args.event.now named (let own = c.epoch.ensures.epoch h r s in let t = c.if-epoch.false in grind (arith, nat_tests, t, own))) c.tell.ensures.told r s))
+pub returns-else-epoch-2-clause-halts : goal.returns-else-epoch-2-clause-halts
+returns-else-epoch-2-clause-halts g c = on_err c.obey.result (λ r s.
+    told_halts c.args.self r (commanded r c.args.event.now).role c.obey.result (g.D.Disk.size c.args.disk.now) (g.D.Disk.told c.args.disk.now) (g.D.Disk.told c.obey.new.disk) s (returns-else-epoch-2-clause-leaves g c r s))

@@ -1,26 +1,44 @@
 use Rattle.std.proofs.Common.{rules, arith, ◌≡◌, true, nat_eq, sym, ◌∙◌, subst}
-use Rattle.std.specs.Prelude.{Some}
+use Rattle.std.specs.Prelude.{Some, None}
 use Rattle.std.proofs.lemmas.Bool.Decides.{nat_tests}
+use Rattle.written_roles.specs.Apps.{commands_alone}
 use Rattle.app_master.specs.AppCores.{StandsFor}
 use Rattle.node_rounds.specs.Roles.{OfAgent, OfApp, OfMaster}
-use Rattle.node_party.specs.PartyEvents.{app_named}
-use Rattle.node_party.specs.NodeTexts.{as_answer}
-use Rattle.peer_nodes.specs.AppParties.{StandsAs}
-use Rattle.peer_nodes.specs.ToldApps.{told_of}
-use Rattle.peer_nodes.proofs.AppPartiesLemmas.{told_on, named_does}
+use Rattle.party_orders.specs.PartyOrders.{Asks, order_of}
+use Rattle.party_orders.specs.OrderedParties.{AskedAs, app_command}
+use Rattle.peer_nodes.proofs.AppPartiesLemmas.{asked_does, refused_on}
 use Rattle.peer_nodes.proofs.apps.AppNodeNode.command.Goals as goal
 
-pub invariant_of-self : goal.invariant_of-self
-invariant_of-self g c =
-    let v = c.self.invariant in
-    told_on c.self.inside.job.0 v.role (told_of c.in-Some.told) c.tell.new.app (v.number ∙ v.stands.job) (c.in-Ok.ensures.does v.role v.stands).stands
+pub invariant_of-self-in-Ok-Some : goal.invariant_of-self-in-Ok-Some
+invariant_of-self-in-Ok-Some g c =
+    let app = c.self-in-Some-Ask.inside.app in
+    let v = c.self-in-Some-Ask.invariant in
+    let answer = commands_alone v.role (app_command c.in-Some-Ask.command) in
+    refused_on c.self-in-Some-Ask.inside.job.0 v.role app c.ask.new.app c.in-Ok-Some.refusal answer (v.number ∙ v.stands.job) v.stands
+    (subst (λ o. AskedAs app c.ask.new.app o answer) c.in-Ok-Some.field-0-is (c.in-Ok-Some.ensures.asks v.role v.stands))
 
-pub returns-in-Ok-clause-does : goal.returns-in-Ok-clause-does
-returns-in-Ok-clause-does g c (OfAgent r) s = elim s [ ]
-returns-in-Ok-clause-does g c (OfApp r) s =
-    let mine = subst (λ a. StandsFor a r) (sym c.self.view_is) s in
-    let job = c.self.invariant.number ∙ mine.job in
-    let named : app_named c.args.event.now ≡ Some (c.in-Some.job.0, told_of c.in-Some.told) = search rules in
-    let here : nat_eq c.in-Some.job.0 r.job ≡ true = let f = c.if-job-self.false in grind (arith, nat_tests, f, job) in
-    named_does (StandsAs c.tell.new.app) (as_answer c.in-Ok.answer) r c.in-Some.job.0 (told_of c.in-Some.told) c.args.event.now named here (c.in-Ok.ensures.does r mine)
-returns-in-Ok-clause-does g c (OfMaster h r) s = elim s [ ]
+pub returns-in-Ok-None-clause-does : goal.returns-in-Ok-None-clause-does
+returns-in-Ok-None-clause-does g c (OfAgent r) s = elim s [ ]
+returns-in-Ok-None-clause-does g c (OfApp r) s =
+    let app = c.self-in-Some-Ask.inside.app in
+    let job = c.in-Some-Ask.job.0 in
+    let x = app_command c.in-Some-Ask.command in
+    let mine = subst (λ a. StandsFor a r) (sym c.self-in-Some-Ask.view_is) s in
+    let own = c.self-in-Some-Ask.invariant.number ∙ mine.job in
+    let named : order_of c.args.event.now ≡ Some (Asks job x) = search rules in
+    let here : nat_eq job r.job ≡ true = let f = c.if-job-self-2.false in grind (arith, nat_tests, f, own) in
+    asked_does r job x app c.ask.new.app None c.args.event.now named here mine (subst (λ o. AskedAs app c.ask.new.app o (commands_alone r x)) c.in-Ok-None.field-0-is (c.in-Ok-None.ensures.asks r mine))
+returns-in-Ok-None-clause-does g c (OfMaster h r) s = elim s [ ]
+
+pub returns-in-Ok-Some-clause-does : goal.returns-in-Ok-Some-clause-does
+returns-in-Ok-Some-clause-does g c (OfAgent r) s = elim s [ ]
+returns-in-Ok-Some-clause-does g c (OfApp r) s =
+    let app = c.self-in-Some-Ask.inside.app in
+    let job = c.in-Some-Ask.job.0 in
+    let x = app_command c.in-Some-Ask.command in
+    let mine = subst (λ a. StandsFor a r) (sym c.self-in-Some-Ask.view_is) s in
+    let own = c.self-in-Some-Ask.invariant.number ∙ mine.job in
+    let named : order_of c.args.event.now ≡ Some (Asks job x) = search rules in
+    let here : nat_eq job r.job ≡ true = let f = c.if-job-self-2.false in grind (arith, nat_tests, f, own) in
+    asked_does r job x app c.ask.new.app (Some c.in-Ok-Some.refusal) c.args.event.now named here mine (subst (λ o. AskedAs app c.ask.new.app o (commands_alone r x)) c.in-Ok-Some.field-0-is (c.in-Ok-Some.ensures.asks r mine))
+returns-in-Ok-Some-clause-does g c (OfMaster h r) s = elim s [ ]

@@ -1,0 +1,2 @@
+pub mod OrderedPartiesLemmas
+pub mod CarriedOrdersLemmas

@@ -1,0 +1,34 @@
+use Rattle.std.proofs.Common.{Option, Result, sym, ◌∙◌, ap, subst}
+use Rattle.std.proofs.lemmas.Result.{IfOk-weaker}
+use Rattle.fuxi_io.specs.Disks.{WhereTold}
+use Rattle.written_roles.specs.HardState.{HardState}
+use Rattle.written_roles.specs.Refusals.{Refusal as WrittenRefusal}
+use Rattle.written_roles.specs.MasterRoles.{MasterRole, master_commanded}
+use Rattle.fuxi_master.specs.Cores.{MasterRecord, StandsFor}
+use Rattle.schedule_text.specs.declared.refusal.Refusal.{Refusal}
+use Rattle.party_orders.specs.OrderedParties.{LeavesOrder, ObeyedAs, TestsAs, hard_after, master_command}
+use Rattle.party_orders.specs.CarriedOrders.{CarriesOut}
+use Rattle.party_orders.proofs.OrderedPartiesLemmas.{commanded_as}
+use Rattle.party_orders.proofs.masters.obey.Goals as goal
+
+pub returns-in-Ok-Ok-clause-obeys : goal.returns-in-Ok-Ok-clause-obeys
+returns-in-Ok-Ok-clause-obeys g c =
+    let core = c.args.master.core in
+    let h = c.args.hard.now.value in
+    let k = c.carry_out.new.hard.value in
+    let x = master_command c.args.command.now in
+    let tests = subst (TestsAs c.cluster.result.now x) c.in-Ok-Ok.field-0-is c.in-Ok-Ok.ensures.tests in
+    IfOk-weaker c.carry_out.result (CarriesOut c.in-Ok-Ok.event h k core)
+    (λ (after : MasterRecord × Option Refusal). (r : MasterRole) → StandsFor core r → ObeyedAs r h k after.0.core after.1 (master_commanded r h x))
+    (λ after carries r s.
+    let cluster = c.cluster.ensures.cluster ∙ ap (λ t. t.cluster) c.table.ensures.table ∙ s.stands.cluster in
+    subst (ObeyedAs r h k after.0.core after.1) (sym (commanded_as c.cluster.result.now h r x c.in-Ok-Ok.event cluster tests)) (carries r s)) c.carry_out.ensures.obeys
+
+pub returns-in-Ok-Ok-clause-told : goal.returns-in-Ok-Ok-clause-told
+returns-in-Ok-Ok-clause-told g c r s =
+    let h = c.args.hard.now.value in
+    let x = master_command c.args.command.now in
+    let tests = subst (TestsAs c.cluster.result.now x) c.in-Ok-Ok.field-0-is c.in-Ok-Ok.ensures.tests in
+    let cluster = c.cluster.ensures.cluster ∙ ap (λ t. t.cluster) c.table.ensures.table ∙ s.stands.cluster in
+    subst (λ (y : Result (MasterRole × HardState) WrittenRefusal). WhereTold (LeavesOrder c.args.hard.now c.carry_out.new.hard (hard_after h y) c.carry_out.result) (g.D.Disk.told c.args.disk.now) (g.D.Disk.told c.carry_out.new.disk))
+    (sym (commanded_as c.cluster.result.now h r x c.in-Ok-Ok.event cluster tests)) (c.carry_out.ensures.told r s)

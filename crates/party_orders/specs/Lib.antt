@@ -1,0 +1,3 @@
+pub mod PartyOrders
+pub mod OrderedParties
+pub mod CarriedOrders
